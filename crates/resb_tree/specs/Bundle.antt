@@ -1,0 +1,12 @@
+-- What a bundle is: its name, its root's tree and its flag.
+use Rattle.std.specs.Prelude.{ℕ, List}
+use Rattle.std.specs.Cow.{cow_str_bytes}
+use Rattle.resb_tree.specs.Tree.{Tree}
+use Rattle.resb_tree.specs.View.{tree_of}
+use Rattle.resb_tree.specs.declared.bundle.ResourceBundle.{ResourceBundle}
+
+abbrev pub name_of : ResourceBundle → List ℕ
+name_of b = cow_str_bytes b.name
+
+abbrev pub root_of : ResourceBundle → Tree
+root_of b = tree_of b.root

@@ -1,0 +1,15 @@
+//! What a resource bundle is: a name, a flag and a tree of resources.
+//! No byte of a text or of a file is looked at here.
+#![tactic(auto)]
+
+mod bundle;
+mod int28;
+mod key;
+mod no_memory;
+mod resource;
+
+pub use bundle::ResourceBundle;
+pub use int28::Int28;
+pub use key::Key;
+pub use no_memory::NoMemory;
+pub use resource::{Resource, Table};

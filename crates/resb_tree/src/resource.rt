@@ -1,0 +1,110 @@
+//! Resources and tables, which stand for trees.
+//! How a text or a file spells them is not said here.
+ghost use Rattle.std.specs.Prelude.{◌≡◌};
+ghost use Rattle.resb_tree.specs.Tree as tree;
+ghost use Rattle.resb_tree.specs.View.{tree_of, items_view, entries_view};
+
+use crate::int28::Int28;
+use crate::key::Key;
+use std::borrow::{CowSlice, CowStr};
+use std::collections::BTreeMap;
+
+/// A resource. It stands for one tree, whether its parts are borrowed or owned.
+#[derive(Drop)]
+pub enum Resource<'a> {
+    /// A text.
+    String(CowStr<'a>),
+    /// Resources in order.
+    Array(Vec<Resource<'a>>),
+    /// Resources by key.
+    Table(Table<'a>),
+    /// Bytes.
+    Binary(CowSlice<'a, u8>),
+    /// A number of 28 bits.
+    Integer(Int28),
+    /// Numbers of 32 bits.
+    IntVector(Vec<u32>),
+}
+
+/// Resources by key, in the order of the keys' UTF-8 bytes.
+pub type Table<'a> = BTreeMap<Key<'a>, Resource<'a>>;
+
+impl<'a> Resource<'a> {
+    ghost use Rattle.std.specs.Prelude.{◌≡◌, IsTrue, ◌↔◌};
+    ghost use Rattle.resb_tree.specs.View.{tree_of};
+
+    /// Whether the two stand for one tree, also where they borrow for two lifetimes.
+    #[tactic(auto, using(crate::specs::Tree::tree_eq_decides))]
+    pub fn equals(&self, other: &Resource<'_>) -> bool
+        ensures { IsTrue result ↔ (tree_of self.now ≡ tree_of other.now) }
+    {
+        same(self, other)
+    }
+}
+
+/// Equality of trees. It takes no memory, so it calls itself once for each level.
+#[tactic(auto, using(crate::specs::Tree::tree_eq_decides))]
+impl<'a> PartialEq for Resource<'a> {
+    ghost use Rattle.resb_tree.specs.Tree.{tree_eq, tree_eq_per};
+    ghost use Rattle.resb_tree.specs.View.{tree_of};
+    ghost use Rattle.std.specs.Cmp.{on_per};
+    ghost use Rattle.std.specs.Prelude.{◌≡◌, IsTrue, ◌↔◌};
+
+    ghost eq = { λ x y. tree_eq (tree_of x) (tree_of y) };
+
+    ghost laws = { on_per tree_of tree_eq_per };
+
+    fn eq(&self, other: &Resource<'a>) -> bool
+        ensures value { result ≡ tree_eq (tree_of self.now) (tree_of other.now) }
+        ensures equal_trees { IsTrue result ↔ (tree_of self.now ≡ tree_of other.now) }
+    {
+        same(self, other)
+    }
+}
+
+#[cycle(same)]
+fn same(a: &Resource<'_>, b: &Resource<'_>) -> bool
+    ensures { result ≡ tree.tree_eq (tree_of a.now) (tree_of b.now) }
+{
+    match (a, b) {
+        (Resource::String(a), Resource::String(b)) => a == b,
+        (Resource::Array(a), Resource::Array(b)) => same_items(a, b),
+        (Resource::Table(a), Resource::Table(b)) => same_entries(a, b),
+        (Resource::Binary(a), Resource::Binary(b)) => a == b,
+        (Resource::Integer(a), Resource::Integer(b)) => a == b,
+        (Resource::IntVector(a), Resource::IntVector(b)) => a == b,
+        _ => false,
+    }
+}
+
+#[cycle(same)]
+fn same_items(a: &Vec<Resource<'_>>, b: &Vec<Resource<'_>>) -> bool
+    ensures { result ≡ tree.trees_eq (items_view a.now.items) (items_view b.now.items) }
+{
+    let mut others = b.iter();
+    for x in a {
+        let Some(y) = others.next() else {
+            return false;
+        };
+        if !same(x, y) {
+            return false;
+        }
+    }
+    others.next().is_none()
+}
+
+#[cycle(same)]
+fn same_entries(a: &Table<'_>, b: &Table<'_>) -> bool
+    ensures { result ≡ tree.entries_eq (entries_view a.now.entries) (entries_view b.now.entries) }
+{
+    let mut others = b.iter();
+    for (j, x) in a.iter() {
+        let Some((k, y)) = others.next() else {
+            return false;
+        };
+        if j != k || !same(x, y) {
+            return false;
+        }
+    }
+    others.next().is_none()
+}

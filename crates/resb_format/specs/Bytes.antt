@@ -1,0 +1,22 @@
+-- Bytes as little-endian numbers, and parts of lists that lie inside.
+--     units_of bytes          the 16-bit units that the bytes spell
+--     words_of bytes          the 32-bit words that they spell
+--     part xs i n             n members of xs from place i on, if they lie inside
+use Rattle.std.specs.Prelude.{ℕ, ◌+◌, ◌*◌, List, [], ◌∷◌, length, take, drop, Option, Some, None, nat_le, if◌then◌else◌}
+
+-- an odd byte at the end spells nothing
+unfoldable pub units_of : List ℕ → List ℕ
+units_of (a ∷ b ∷ bytes) = (a + 256 * b) ∷ units_of bytes
+units_of (a ∷ []) = []
+units_of [] = []
+
+-- up to three bytes at the end spell nothing
+unfoldable pub words_of : List ℕ → List ℕ
+words_of (a ∷ b ∷ c ∷ d ∷ bytes) = (a + 256 * b + 65536 * c + 16777216 * d) ∷ words_of bytes
+words_of (a ∷ b ∷ c ∷ []) = []
+words_of (a ∷ b ∷ []) = []
+words_of (a ∷ []) = []
+words_of [] = []
+
+abbrev pub part : List ℕ → ℕ → ℕ → Option (List ℕ)
+part xs i n = if nat_le (i + n) (length xs) then Some (take n (drop i xs)) else None

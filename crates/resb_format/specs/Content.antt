@@ -1,0 +1,98 @@
+-- What stands at a descriptor's word, as far as its own place shows. (ICU's `uresdata.h`: resource types.)
+--     content p w             a finished tree, or the members of a collection; none where the type isn't read or a field lies outside
+use Rattle.std.specs.Prelude.{ℕ, ◌+◌, ◌*◌, ◌/◌, ◌%◌, ◌^◌, List, [], ◌∷◌, map, Option, Some, None, option_map, option_and_then, ◌==◌, ◌||◌, slice_index, if◌then◌else◌}
+use Rattle.std.specs.List.{zip}
+use Rattle.resb_tree.specs.Tree.{Tree, string, binary, integer, int_vector}
+use Rattle.resb_format.specs.Bytes.{units_of, words_of, part}
+use Rattle.resb_format.specs.Strings.{text_at}
+use Rattle.resb_format.specs.Parts.{Parts}
+
+-- a member of a collection: a resource's word, or a string's unit
+pub data Member : Type 0 where
+  word : ℕ → Member
+  unit : ℕ → Member
+
+pub data Content : Type 0 where
+  leaf : Tree → Content
+  list : List Member → Content
+  -- the key's position, and the member
+  pairs : List (ℕ × Member) → Content
+
+abbrev pub words_at : Parts → ℕ → ℕ → Option (List Member)
+words_at p v n = option_map (map word) (part (words_of p.body) v n)
+
+abbrev pub offsets_at : Parts → ℕ → ℕ → Option (List Member)
+offsets_at p u n = option_map (map unit) (part p.block u n)
+
+-- the positions and the members, both of which lie inside
+abbrev pub paired : Option (List ℕ) → Option (List Member) → Option Content
+paired positions members = option_and_then (λ ks. option_map (λ ms. pairs (zip ks ms)) members) positions
+
+-- u32 n, n bytes
+abbrev pub binary_at : Parts → ℕ → Option Content
+binary_at p v = option_map (λ bytes. leaf (binary bytes)) (part p.body (4 * v + 4) (slice_index (words_of p.body) v))
+
+-- u32 n, n words
+abbrev pub int_vector_at : Parts → ℕ → Option Content
+int_vector_at p v = option_map (λ ns. leaf (int_vector ns)) (part (words_of p.body) (v + 1) (slice_index (words_of p.body) v))
+
+-- u32 n, n descriptors
+abbrev pub array_at : Parts → ℕ → Option Content
+array_at p v = option_map list (words_at p (v + 1) (slice_index (words_of p.body) v))
+
+-- unit n, n string offsets
+abbrev pub array16_at : Parts → ℕ → Option Content
+array16_at p u = option_map list (offsets_at p (u + 1) (slice_index p.block u))
+
+-- u16 n, n u16 key positions, a u16 of padding where n is even, n descriptors: these begin n / 2 + 1 words on
+abbrev pub table_at : Parts → ℕ → Option Content
+table_at p v =
+    let n = slice_index (units_of p.body) (2 * v) in
+    paired (part (units_of p.body) (2 * v + 1) n) (words_at p (v + n / 2 + 1) n)
+
+-- unit n, n key positions, n string offsets
+abbrev pub table16_at : Parts → ℕ → Option Content
+table16_at p u =
+    let n = slice_index p.block u in
+    paired (part p.block (u + 1) n) (offsets_at p (u + 1 + n) n)
+
+-- u32 n, n u32 key positions, n descriptors
+abbrev pub table32_at : Parts → ℕ → Option Content
+table32_at p v =
+    let n = slice_index (words_of p.body) v in
+    paired (part (words_of p.body) (v + 1) n) (words_at p (v + 1 + n) n)
+
+abbrev pub string_content : Parts → ℕ → Option Content
+string_content p u = option_map (λ s. leaf (string s)) (text_at p.block u)
+
+-- what a type with a value other than 0 leads to; the numbers of types are ICU's
+abbrev pub placed : Parts → ℕ → ℕ → Option Content
+placed p type v =
+    if type == 1 then binary_at p v
+    else if type == 2 then table_at p v
+    else if type == 4 then table32_at p v
+    else if type == 5 then table16_at p v
+    else if type == 6 then string_content p v
+    else if type == 8 then array_at p v
+    else if type == 9 then array16_at p v
+    else if type == 14 then int_vector_at p v
+    else None
+
+-- the empty resource of a type
+abbrev pub empty : ℕ → Option Content
+empty type =
+    if type == 1 then Some (leaf (binary []))
+    else if (type == 2 || type == 4) || type == 5 then Some (pairs [])
+    else if type == 6 then Some (leaf (string []))
+    else if type == 8 || type == 9 then Some (list [])
+    else if type == 14 then Some (leaf (int_vector []))
+    else None
+
+-- 4 bits of type, 28 bits of value
+unfoldable pub content : Parts → ℕ → Option Content
+content p w =
+    let type = w / 2 ^ 28 in
+    let value = w % 2 ^ 28 in
+    if type == 7 then Some (leaf (integer value))
+    else if value == 0 then empty type
+    else placed p type value

@@ -1,0 +1,16 @@
+-- The words of the contracts: bytes and their numbers, strings and keys in their blocks, the parts of a file, what a word and a file denote.
+pub use Rattle.resb_tree.specs.Tree
+pub use Rattle.resb_tree.specs.View
+pub use Rattle.resb_tree.specs.Bundle
+pub use Rattle.resb_tree.specs.Maps
+pub use Rattle.resb_tree.specs.Int28
+pub mod Bytes
+pub mod Units
+pub mod Strings
+pub mod Parts
+pub mod Content
+pub mod Denotes
+pub mod File
+pub mod KeyBlock
+pub mod PlainSize
+pub mod Unique

@@ -1,0 +1,68 @@
+-- The parts of a file, and the checks of its head. (ICU's `ucmndata.h`, `udata.h` and `uresdata.h`.)
+--     IsBundleFile bytes      the head names this format, and the blocks lie inside the file
+--     parts_of bytes          its parts
+use Rattle.std.specs.Prelude.{◌≡◌, ℕ, ◌+◌, ◌-◌, ◌*◌, ◌≤◌, min, List, [], ◌∷◌, length, take, drop, slice_index, slice_range, codes}
+use Rattle.resb_format.specs.Bytes.{units_of, words_of}
+
+-- The body is in bytes, as is the key block, its front. The 16-bit block is in units.
+pub record Parts : Type 0 where
+  pub body : List ℕ
+  pub keys : List ℕ
+  pub block : List ℕ
+  pub root : ℕ
+
+-- in bytes
+abbrev pub header_size : List ℕ → ℕ
+header_size bytes = slice_index (units_of bytes) 0
+
+abbrev pub body_of : List ℕ → List ℕ
+body_of bytes = drop (header_size bytes) bytes
+
+-- the words of the body: the root's descriptor, and then the index
+abbrev pub root_word : List ℕ → ℕ
+root_word bytes = slice_index (words_of (body_of bytes)) 0
+
+abbrev pub field_count : List ℕ → ℕ
+field_count bytes = slice_index (words_of (body_of bytes)) 1
+
+-- ends, in words from the body's start
+abbrev pub keys_end : List ℕ → ℕ
+keys_end bytes = slice_index (words_of (body_of bytes)) 2
+
+abbrev pub resources_end : List ℕ → ℕ
+resources_end bytes = slice_index (words_of (body_of bytes)) 3
+
+abbrev pub bundle_end : List ℕ → ℕ
+bundle_end bytes = slice_index (words_of (body_of bytes)) 4
+
+abbrev pub largest_table_field : List ℕ → ℕ
+largest_table_field bytes = slice_index (words_of (body_of bytes)) 5
+
+abbrev pub attributes : List ℕ → ℕ
+attributes bytes = slice_index (words_of (body_of bytes)) 6
+
+abbrev pub block_end : List ℕ → ℕ
+block_end bytes = slice_index (words_of (body_of bytes)) 7
+
+unfoldable pub parts_of : List ℕ → Parts
+parts_of bytes = record {
+  body = body_of bytes;
+  keys = take (4 * keys_end bytes) (body_of bytes);
+  block = units_of (take (4 * (block_end bytes - keys_end bytes)) (drop (4 * keys_end bytes) (body_of bytes)));
+  root = root_word bytes;
+}
+
+pub record IsBundleFile (bytes : List ℕ) : Type 0 where
+  pub magic : slice_range bytes 2 4 ≡ 0xda ∷ 0x27 ∷ []
+  pub little_endian : slice_index bytes 8 ≡ 0
+  pub ascii : slice_index bytes 9 ≡ 0
+  pub two_byte_chars : slice_index bytes 10 ≡ 2
+  pub format : slice_range bytes 12 16 ≡ codes "ResB"
+  pub version : slice_range bytes 16 20 ≡ 2 ∷ 0 ∷ 0 ∷ 0 ∷ []
+  pub header : 24 ≤ header_size bytes
+  pub header_inside : header_size bytes ≤ length bytes
+  pub fields : 7 ≤ field_count bytes
+  pub index_inside : 4 * (1 + min (field_count bytes) 8) ≤ length (body_of bytes)
+  pub keys_inside : 4 * keys_end bytes ≤ length (body_of bytes)
+  pub blocks_ordered : keys_end bytes ≤ block_end bytes
+  pub block_inside : 4 * block_end bytes ≤ length (body_of bytes)

@@ -1,0 +1,38 @@
+-- Strings and keys in finished blocks. (ICU's `uresdata.h`: strings of format version 2, key block.)
+--     string_at block u       the units of the string at unit u of the 16-bit block
+--     text_at block u         the text of that string, if it is well-formed UTF-16
+--     key_at keys k           the text of the key at byte k of the key block
+use Rattle.std.specs.Prelude.{ℕ, ◌+◌, ◌-◌, ◌*◌, List, length, take, drop, Option, Some, None, option_map, option_and_then, nat_le, ◌==◌, slice_index, position, if◌then◌else◌, encode_utf8_all}
+use Rattle.std.specs.Char.Utf16.{has_unpaired_surrogate, utf16_lossy_chars}
+use Rattle.std.specs.Str.{is_utf8}
+use Rattle.resb_format.specs.Bytes.{part}
+
+-- the members before the first 0, if there is one
+abbrev pub before_zero : List ℕ → Option (List ℕ)
+before_zero xs = option_map (λ n. take n xs) (position (λ x. x == 0) xs)
+
+-- the units after the marker at unit u, whose first unit is given, or else up to a 0 within 41 units
+abbrev pub string_from : List ℕ → ℕ → ℕ → Option (List ℕ)
+string_from block u first =
+    if nat_le first 0xdbff then before_zero (take 41 (drop u block))
+    else if nat_le first 0xdfee then part block (u + 1) (first - 0xdc00)
+    else if nat_le first 0xdffe then part block (u + 2) ((first - 0xdfef) * 0x1_0000 + slice_index block (u + 1))
+    else if first == 0xdfff then part block (u + 3) (slice_index block (u + 1) * 0x1_0000 + slice_index block (u + 2))
+    else before_zero (take 41 (drop u block))
+
+unfoldable pub string_at : List ℕ → ℕ → Option (List ℕ)
+string_at block u = string_from block u (slice_index block u)
+
+-- the UTF-8 bytes of what the units spell
+abbrev pub text_of_units : List ℕ → Option (List ℕ)
+text_of_units us = if has_unpaired_surrogate us then None else Some (encode_utf8_all (utf16_lossy_chars us))
+
+unfoldable pub text_at : List ℕ → ℕ → Option (List ℕ)
+text_at block u = option_and_then text_of_units (string_at block u)
+
+abbrev pub if_utf8 : List ℕ → Option (List ℕ)
+if_utf8 bytes = if is_utf8 bytes then Some bytes else None
+
+-- the bytes before the first zero byte from k on
+unfoldable pub key_at : List ℕ → ℕ → Option (List ℕ)
+key_at keys k = option_and_then if_utf8 (before_zero (drop k keys))

@@ -1,0 +1,7 @@
+pub mod Numbers
+pub mod Zeros
+pub mod Utf16
+pub mod Strings
+pub mod Keys
+pub mod Collecting
+pub mod KeyFaults

@@ -1,0 +1,4 @@
+//! The head around the parts.
+pub struct Serializer {
+    _private: (),
+}

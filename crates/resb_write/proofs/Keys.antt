@@ -72,7 +72,7 @@ pub record StandsAt (bytes k : List ℕ) (n : ℕ) : Type 0 where
 text_same : (k j : List ℕ) → same_text k j ≡ true → k ≡ j
 text_same k j e = (bytes_decides k j).0 e
 
-none_some : (n : ℕ) → None ≡ Some n → ⊥
+pub none_some : (n : ℕ) → None ≡ Some n → ⊥
 none_some n e = cc
 
 stands_first : (k j : List ℕ) (js : List (List ℕ)) (n : ℕ) (b : Bool) → same_text k j ≡ b → cond (same_text k j) (Some 0) None ≡ Some n → StandsAt (key_bytes (j ∷ js)) k n

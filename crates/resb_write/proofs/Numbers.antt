@@ -2,14 +2,8 @@
 use Rattle.std.proofs.Common.{◌≡◌, ℕ, suc, ◌+◌, ◌*◌, ◌/◌, ◌%◌, ◌^◌, ◌<◌, ◌≤◌, List, [], ◌∷◌, ◌++◌, length, get_or, refl, sym, ◌∙◌, ap, subst, append_assoc, length-append, arith}
 use Rattle.std.specs.Int.{to_le_bytes, w16, w32}
 use Rattle.std.specs.List.{flat_map}
+use Rattle.resb_write.specs.Layout.{unit_bytes, word_bytes}
 use Rattle.resb_format.specs.Bytes.{units_of, words_of}
-
--- the bytes of units, and of words
-abbrev pub unit_bytes : List ℕ → List ℕ
-unit_bytes us = flat_map (to_le_bytes w16) us
-
-abbrev pub word_bytes : List ℕ → List ℕ
-word_bytes ws = flat_map (to_le_bytes w32) ws
 
 -- each number is below a bound
 abbrev pub Below : ℕ → List ℕ → Type 0

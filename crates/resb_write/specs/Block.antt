@@ -33,3 +33,8 @@ even us = if length us % 2 == 1 then us ++ 0xaaaa ∷ [] else us
 
 abbrev pub block : List Pair → List ℕ → List ℕ
 block es ps = even (0 ∷ (records es ++ table_body es ps))
+
+-- the word of the table: an empty Table, or a Table16 behind the records
+abbrev pub table_word : List Pair → ℕ
+table_word [] = 0x2000_0000
+table_word (e ∷ es) = 0x5000_0000 + length (0 ∷ records (e ∷ es))

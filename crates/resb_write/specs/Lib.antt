@@ -21,3 +21,4 @@ pub mod Written
 pub mod Entries
 pub mod Places
 pub mod Block
+pub mod Layout

@@ -5,3 +5,7 @@ pub mod Strings
 pub mod Keys
 pub mod Collecting
 pub mod KeyFaults
+pub mod Heads
+pub mod Tables
+pub mod Sizes
+pub mod Files

@@ -1,16 +1,15 @@
 -- What the collected entries say of a table, entry by entry.
-use Rattle.std.proofs.Common.{◌≡◌, ℕ, suc, ◌+◌, ◌≤◌, List, [], ◌∷◌, ◌++◌, length, map, Bool, true, ◌&&◌, refl, sym, ◌∙◌, ap, subst, append_assoc, append-nil, length-append, BTreeMap, arith, rules}
-use Rattle.std.specs.List.{sum_by}
+use Rattle.std.proofs.Common.{◌≡◌, ℕ, suc, ◌+◌, List, [], ◌∷◌, ◌++◌, length, map, Bool, true, ◌&&◌, refl, sym, ◌∙◌, ap, subst, append_assoc, append-nil, BTreeMap, arith, rules}
 use Rattle.std.specs.List.Sorted.{IsStrictlySortedBy}
 use Rattle.std.specs.Map.{keys_of}
 use Rattle.std.proofs.lemmas.List.{map_push}
-use Rattle.std.proofs.lemmas.List.Sums.{sum_by-append, sum_by-cons}
-use Rattle.resb_tree.specs.Tree.{Tree, string, table, entries_of}
+use Rattle.std.proofs.lemmas.List.Sums.{sum_by-append}
+use Rattle.resb_tree.specs.Tree.{Tree, string, table}
 use Rattle.resb_tree.specs.View.{tree_of, pairs_view, entries_view}
 use Rattle.resb_tree.specs.Maps.{text_cmp}
 use Rattle.resb_tree.specs.declared.resource.Resource.{Resource, Table, the_lemmas}
 use Rattle.resb_format.specs.Units.{units, is_unmarked}
-use Rattle.resb_write.specs.Entries.{Pair, pairs, keys_in, string_pairs, texts_table, unit_count, IsText, AreTexts}
+use Rattle.resb_write.specs.Entries.{Pair, pairs, keys_in, string_pairs, unit_count, IsText, AreTexts}
 use Rattle.resb_write.specs.Flat.{is_unmarked_string, all_unmarked, string_size, sizes}
 use Rattle.resb_write.specs.declared.entries.Entry.{Entry}
 

@@ -1,5 +1,5 @@
 -- The parts of a file that is put together from its header, its words, its key block and its units.
-use Rattle.std.proofs.Common.{◌≡◌, ℕ, zero, suc, ◌+◌, ◌-◌, ◌*◌, ◌/◌, ◌^◌, ◌<◌, ◌≤◌, List, [], ◌∷◌, ◌++◌, length, get_or, take, drop, Bool, true, false, cond, refl, sym, ◌∙◌, ap, subst, append_assoc, append-nil, length-append, arith}
+use Rattle.std.proofs.Common.{◌≡◌, ℕ, ◌+◌, ◌-◌, ◌*◌, ◌^◌, List, [], ◌++◌, length, get_or, take, drop, refl, sym, ◌∙◌, ap, append_assoc, append-nil, length-append, arith}
 use Rattle.std.proofs.lemmas.List.{take_at, drop_at, take_all}
 use Rattle.resb_format.specs.Bytes.{units_of, words_of}
 use Rattle.resb_format.specs.Parts.{Parts, header_size, body_of, root_word, field_count, keys_end, resources_end, bundle_end, largest_table_field, attributes, block_end, parts_of, IsBundleFile}
@@ -20,7 +20,6 @@ body_behind rest = ap (λ n. drop n (written_header ++ rest)) (header_of rest) �
 
 module _ (root k b largest flag : ℕ) (keys us : List ℕ)
     (key_length : length keys ≡ 4 * k) (unit_length : length us ≡ 2 * b) (units_fit : Below (2 ^ 16) us) (words_fit : Below (2 ^ 32) (head_words root k b largest flag)) where
-
   abbrev pub head : List ℕ
   head = word_bytes (head_words root k b largest flag)
 

@@ -1,12 +1,10 @@
 -- What the positions of keys say of a tree and its list of keys.
-use Rattle.std.proofs.Common.{◌≡◌, ℕ, zero, suc, ◌+◌, ◌-◌, ◌^◌, ◌<◌, ◌≤◌, min, List, [], ◌∷◌, ◌++◌, length, map, filter, get_or, Option, Some, None, option_map, Bool, true, false, cond, ◌||◌, nat_lt, ◌⊎◌, inl, inr, refl, sym, ◌∙◌, ap, subst, arith}
+use Rattle.std.proofs.Common.{◌≡◌, ℕ, zero, suc, ◌+◌, ◌<◌, ◌≤◌, List, [], ◌∷◌, map, filter, Option, Some, None, option_map, Bool, true, false, cond, ◌||◌, nat_lt, inl, inr, refl, sym, ◌∙◌, ap, subst, arith}
 use Rattle.std.specs.List.{Contains, Any, list_any}
-use Rattle.std.proofs.lemmas.Bool.{or_cases, or_parts, ltb-true, ltb-false, false≢true, true≢false, cases_Bool, or_left, or_right}
+use Rattle.std.proofs.lemmas.Bool.{or_cases, or_parts, ltb-true, ltb-false, false≢true, or_left, or_right}
 use Rattle.std.specs.Cmp.Lexicographic.{bytes_decides}
-use Rattle.resb_tree.specs.Tree.{Tree}
 use Rattle.resb_format.specs.KeyBlock.{same_text, is_key, used, last_of, last_place}
 use Rattle.resb_write.specs.Entries.{Pair, pairs, keys_in, texts_table}
-use Rattle.resb_write.specs.Fault.{Fault, unexpected, limit}
 use Rattle.resb_write.specs.Flat.{IsCovered}
 use Rattle.resb_write.specs.Places.{position_of, last_position}
 use Rattle.resb_write.specs.Refused.{has_nul, AreListed, HaveNoNul, HasUnlistedKey, HasKeyWithNul, HasFarKey}

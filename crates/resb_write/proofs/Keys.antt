@@ -1,16 +1,14 @@
 -- Keys in a list and the places of their last occurrences.
-use Rattle.std.proofs.Common.{◌≡◌, ℕ, zero, suc, ◌+◌, ◌-◌, ◌^◌, ◌<◌, ◌≤◌, min, List, [], ◌∷◌, ◌++◌, length, map, filter, get_or, take, drop, Bor, Option, Some, None, option_map, Bool, true, false, not, cond, ◌||◌, nat_eq, nat_cmp, is_eq, ◌⊎◌, inl, inr, refl, sym, ◌∙◌, ap, subst, append_assoc, length-append, Decides, arith, rules}
+use Rattle.std.proofs.Common.{◌≡◌, ℕ, zero, suc, ◌+◌, ◌-◌, ◌^◌, ◌<◌, min, List, [], ◌∷◌, ◌++◌, length, map, filter, get_or, take, Bor, Option, Some, None, option_map, Bool, true, false, cond, ◌||◌, nat_cmp, is_eq, inl, inr, refl, sym, ◌∙◌, ap, append_assoc, length-append, arith}
 use Rattle.std.specs.List.{Contains}
-use Rattle.std.specs.Cmp.Lexicographic.{slice_cmp, pointwise, bytes_decides}
-use Rattle.std.proofs.lemmas.Str.{IsUtf8-nil}
-use Rattle.std.proofs.lemmas.Bool.{false≢true, true≢false, cases_Bool}
+use Rattle.std.specs.Cmp.Lexicographic.{slice_cmp, bytes_decides}
+use Rattle.std.proofs.lemmas.Bool.{cases_Bool}
 use Rattle.std.proofs.lemmas.Bool.Decides.{same_from_decides, Decides-at, Decides-like}
 use Rattle.std.proofs.lemmas.Slice.Eq.{bytes_eq-Decides}
 use Rattle.std.proofs.lemmas.Map.Text.{is_eq-slice_cmp}
 use Rattle.std.proofs.lemmas.List.Concat.{flat_map-append}
-use Rattle.resb_tree.specs.Tree.{Tree, Entries, string, entries_of}
-use Rattle.resb_format.specs.KeyBlock.{same_text, is_key, is_key_of, used, key_bytes, last_of, last_place}
-use Rattle.resb_write.specs.Entries.{Pair, pairs, string_pairs, texts_table, keys_in}
+use Rattle.resb_format.specs.KeyBlock.{same_text, key_bytes, last_of}
+use Rattle.resb_write.specs.Entries.{pairs, keys_in}
 use Rattle.resb_write.specs.Places.{nows, position_of, last_position}
 use Rattle.resb_write.specs.declared.entries.Entry.{Entry}
 use Rattle.std.proofs.lemmas.List.{map_push, map_more}

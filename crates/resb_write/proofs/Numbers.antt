@@ -1,7 +1,6 @@
 -- Numbers as their little-endian bytes, read back.
-use Rattle.std.proofs.Common.{◌≡◌, ℕ, suc, ◌+◌, ◌*◌, ◌/◌, ◌%◌, ◌^◌, ◌<◌, ◌≤◌, List, [], ◌∷◌, ◌++◌, length, get_or, refl, sym, ◌∙◌, ap, subst, append_assoc, length-append, arith}
+use Rattle.std.proofs.Common.{◌≡◌, ℕ, suc, ◌+◌, ◌*◌, ◌/◌, ◌%◌, ◌^◌, ◌<◌, List, [], ◌∷◌, ◌++◌, length, get_or, refl, length-append, arith}
 use Rattle.std.specs.Int.{to_le_bytes, w16, w32}
-use Rattle.std.specs.List.{flat_map}
 use Rattle.resb_write.specs.Layout.{unit_bytes, word_bytes}
 use Rattle.resb_format.specs.Bytes.{units_of, words_of}
 

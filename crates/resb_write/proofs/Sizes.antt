@@ -1,15 +1,15 @@
 -- How long the parts of a written file are.
-use Rattle.std.proofs.Common.{◌≡◌, ℕ, zero, suc, ◌+◌, ◌-◌, ◌*◌, ◌/◌, ◌%◌, ◌^◌, ◌<◌, ◌≤◌, max, List, [], ◌∷◌, ◌++◌, length, filter, replicate, get_or, Bool, true, false, cond, eqb, ◌==◌, refl, sym, ◌∙◌, ap, subst, length-append, arith}
+use Rattle.std.proofs.Common.{◌≡◌, ℕ, zero, suc, ◌+◌, ◌-◌, ◌*◌, ◌/◌, ◌%◌, ◌<◌, ◌≤◌, List, [], ◌∷◌, ◌++◌, length, filter, replicate, Bool, true, false, cond, ◌==◌, refl, ◌∙◌, ap, length-append, arith}
 use Rattle.std.specs.List.{sum_by}
 use Rattle.std.proofs.lemmas.List.{length-replicate}
 use Rattle.std.proofs.lemmas.List.Sums.{sum_by-cons}
 use Rattle.std.proofs.lemmas.Bool.{eqb-true, eqb-false}
-use Rattle.resb_tree.specs.Tree.{Tree, string, Entries, entries_of, entries_len, entries_largest, entries_count, tree_count, largest_table}
+use Rattle.resb_tree.specs.Tree.{Entries, entries_of, entries_len, entries_largest, entries_count, tree_count, largest_table}
 use Rattle.resb_format.specs.Units.{units}
 use Rattle.resb_format.specs.KeyBlock.{key_bytes, padded}
-use Rattle.resb_format.specs.PlainSize.{entries_size, tree_size, plain_size}
+use Rattle.resb_format.specs.PlainSize.{entries_size, tree_size}
 use Rattle.resb_write.specs.Entries.{Pair, string_pairs, texts_table, unit_count}
-use Rattle.resb_write.specs.Block.{records, offsets_from, table_body, even, block, table_word}
+use Rattle.resb_write.specs.Block.{records, offsets_from, table_body, even, block}
 use Rattle.resb_write.proofs.Numbers.{Below}
 use Rattle.resb_write.proofs.Tables.{length-offsets_from, even_is}
 

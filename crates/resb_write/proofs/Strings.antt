@@ -1,13 +1,11 @@
 -- A text that stands in the 16-bit block, and a key that stands in the key block, are read there.
-use Rattle.std.proofs.Common.{◌≡◌, ℕ, zero, suc, ◌+◌, ◌-◌, ◌*◌, ◌<◌, ◌≤◌, List, [], ◌∷◌, ◌++◌, length, get_or, take, drop, Option, Some, None, option_and_then, Bool, true, false, not, cond, ◌&&◌, nat_eq, nat_lt, nat_le, ◌==◌, ◌⊎◌, inl, inr, refl, sym, ◌∙◌, ap, subst, append_assoc, append-nil, length-append, arith, rules}
-use Rattle.std.specs.Str.{IsUtf8, is_utf8}
+use Rattle.std.proofs.Common.{◌≡◌, ℕ, zero, suc, ◌+◌, ◌-◌, ◌<◌, ◌≤◌, List, [], ◌∷◌, ◌++◌, length, get_or, take, drop, Some, None, option_and_then, true, false, not, cond, ◌&&◌, nat_eq, nat_le, ◌⊎◌, inl, inr, refl, sym, ◌∙◌, ap, arith}
+use Rattle.std.specs.Str.{IsUtf8}
 use Rattle.std.proofs.lemmas.Str.{is_utf8-from_IsUtf8, IsUtf8-nil, chars-nil}
 use Rattle.std.specs.List.{flat_map}
 use Rattle.std.specs.Char.Escape.{encode_utf16}
-use Rattle.std.proofs.lemmas.Bool.{and_parts, not-true, leb-true, le-leb, lt-leb, cases_lt, ne_eqb}
-use Rattle.std.proofs.lemmas.List.{take_at, drop_at, take-append-le, take_all, get_or_append_left, get_or-append-add, drop-append-le}
-use Rattle.std.proofs.Math.Seq.{take-append_seam}
-use Rattle.resb_format.specs.Bytes.{part}
+use Rattle.std.proofs.lemmas.Bool.{and_parts, not-true, leb-true, le-leb, lt-leb, ne_eqb}
+use Rattle.std.proofs.lemmas.List.{drop_at, get_or-append-add}
 use Rattle.resb_format.specs.Strings.{before_zero, string_from, string_at, text_of_units, text_at, if_utf8, key_at}
 use Rattle.resb_format.specs.Units.{units, is_unmarked}
 use Rattle.resb_write.proofs.Zeros.{has_zero, before_zero-found}

@@ -1,5 +1,5 @@
 -- What the word of a written table denotes in the file's parts.
-use Rattle.std.proofs.Common.{◌≡◌, ℕ, zero, suc, ◌+◌, ◌-◌, ◌*◌, ◌/◌, ◌%◌, ◌^◌, ◌<◌, ◌≤◌, max, List, [], ◌∷◌, ◌++◌, length, map, get_or, take, drop, Option, Some, None, option_map, Bool, true, false, cond, nat_le, nat_eq, ◌==◌, ◌||◌, refl, sym, ◌∙◌, ap, subst, append_assoc, append-nil, length-append, arith}
+use Rattle.std.proofs.Common.{◌≡◌, ℕ, suc, ◌+◌, ◌/◌, ◌%◌, ◌^◌, ◌<◌, ◌≤◌, List, [], ◌∷◌, ◌++◌, length, map, get_or, take, drop, Option, Some, None, option_map, Bool, true, false, cond, nat_le, ◌==◌, refl, sym, ◌∙◌, ap, subst, append_assoc, append-nil, length-append, arith}
 use Rattle.std.specs.Str.{IsUtf8}
 use Rattle.std.specs.List.{zip, list_any}
 use Rattle.std.specs.List.Sorted.{IsStrictlySortedBy}
@@ -7,20 +7,20 @@ use Rattle.std.specs.Map.{keys_of}
 use Rattle.std.proofs.lemmas.Bool.{le-leb, ne_eqb, or_parts}
 use Rattle.std.proofs.lemmas.List.Sums.{sum_by-cons}
 use Rattle.std.proofs.lemmas.List.{take_at, drop_at, get_or_at, length-map}
-use Rattle.resb_tree.specs.Tree.{Tree, string, integer, table, Entries, entries_of, map_of, entries_len, entries_largest, entries_count, tree_count, largest_table}
+use Rattle.resb_tree.specs.Tree.{integer, table, entries_of, map_of, entries_count, tree_count}
 use Rattle.resb_tree.specs.Maps.{text_cmp, map_of-sorted}
 use Rattle.resb_format.specs.Bytes.{part}
 use Rattle.resb_format.specs.Units.{units}
 use Rattle.resb_format.specs.Strings.{text_at, key_at}
 use Rattle.resb_format.specs.Parts.{Parts}
-use Rattle.resb_format.specs.Content.{Member, unit, Content, leaf, pairs, content, placed, empty, paired, offsets_at, table16_at}
-use Rattle.resb_format.specs.Denotes.{Den, den_pairs, DenMember, den_unit, DenPairs, pairs_none, pairs_more}
+use Rattle.resb_format.specs.Content.{unit, leaf, pairs, content, placed, empty, paired, offsets_at, table16_at}
+use Rattle.resb_format.specs.Denotes.{Den, den_pairs, den_unit, DenPairs, pairs_none, pairs_more}
 use Rattle.resb_format.specs.KeyBlock.{key_bytes, last_of}
 use Rattle.resb_write.specs.Entries.{Pair, keys_in, string_pairs, texts_table, unit_count, IsText, AreTexts}
 use Rattle.resb_write.specs.Refused.{has_nul}
 use Rattle.resb_write.specs.Block.{record_of, records, offset_at, offsets_from, table_body, even, block, table_word}
 use Rattle.resb_write.proofs.Strings.{text_at-found, text_at-zero, key_at-found}
-use Rattle.resb_write.proofs.Keys.{StandsAt, last_of-stands, none_some}
+use Rattle.resb_write.proofs.Keys.{last_of-stands, none_some}
 
 -- a part that stands between two others
 pub part_found : (front xs back : List ℕ) (at n : ℕ) → at ≡ length front → n ≡ length xs → part (front ++ (xs ++ back)) at n ≡ Some xs

@@ -1,5 +1,5 @@
 -- The units of a text, and the text that they spell.
-use Rattle.std.proofs.Common.{◌≡◌, ℕ, suc, ◌+◌, ◌-◌, ◌*◌, ◌/◌, ◌%◌, ◌<◌, ◌≤◌, List, [], ◌∷◌, ◌++◌, length, get_or, map, Option, Some, None, is_some, unwrap_or, Bool, true, false, not, cond, ◌&&◌, ◌||◌, nat_eq, nat_lt, nat_le, ◌⊎◌, inl, inr, refl, sym, ◌∙◌, ap, subst, append_assoc, length-append, arith, rules}
+use Rattle.std.proofs.Common.{◌≡◌, ℕ, ◌+◌, ◌-◌, ◌/◌, ◌%◌, ◌<◌, ◌≤◌, List, [], ◌∷◌, ◌++◌, length, get_or, map, Some, None, is_some, unwrap_or, true, false, not, cond, nat_eq, ◌⊎◌, inl, inr, refl, sym, ◌∙◌, ap, length-append, arith}
 use Rattle.std.specs.List.{flat_map, list_any}
 use Rattle.std.specs.Char.{len_utf8}
 use Rattle.std.specs.Char.Escape.{encode_utf16}
@@ -7,7 +7,7 @@ use Rattle.std.specs.Char.Utf16.{utf16_chars, lone_unit_char, surrogate_pair_cha
 use Rattle.std.specs.Str.{chars, IsUtf8, encode_utf8_all}
 use Rattle.std.proofs.Math.Utf8.{scalar, scalars, scalar_cases, encode, encodes}
 use Rattle.std.proofs.lemmas.Str.{utf16_chars-nil, utf16_chars_lone, utf16_chars_pair, encode_ascii, length-encode, len_utf8_bounds, scalars-chars, encodes-chars}
-use Rattle.std.proofs.lemmas.Bool.{and_parts, lt-ltb, le-ltb, lt-leb, le-leb, cases_lt, or_parts, or_from, ne_eqb, eqb-false}
+use Rattle.std.proofs.lemmas.Bool.{and_parts, cases_lt, or_parts, or_from, ne_eqb, eqb-false}
 use Rattle.std.proofs.lemmas.Bool.Decides.{nat_tests}
 use Rattle.resb_format.specs.Strings.{text_of_units}
 use Rattle.resb_format.specs.Units.{units}

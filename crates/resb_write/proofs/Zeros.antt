@@ -1,7 +1,7 @@
 -- What stands before the first 0 of a list.
-use Rattle.std.proofs.Common.{◌≡◌, ℕ, suc, ◌+◌, ◌<◌, ◌≤◌, List, [], ◌∷◌, ◌++◌, length, take, drop, Option, Some, None, option_map, Bool, true, false, not, ◌==◌, nat_eq, nat_lt, cond, ◌||◌, refl, sym, ◌∙◌, ap, subst, length-append, arith, rules}
-use Rattle.std.specs.List.{list_any, prefix_len, position, position_or_len}
-use Rattle.std.proofs.lemmas.Bool.{or_parts, or_from, lt-ltb}
+use Rattle.std.proofs.Common.{◌≡◌, ℕ, ◌+◌, List, [], ◌∷◌, ◌++◌, length, take, Some, None, option_map, Bool, true, false, not, ◌==◌, nat_eq, nat_lt, cond, ◌||◌, refl, ◌∙◌, ap, length-append, arith}
+use Rattle.std.specs.List.{list_any, position_or_len}
+use Rattle.std.proofs.lemmas.Bool.{or_parts, lt-ltb}
 use Rattle.std.proofs.lemmas.List.Folds.{list_any-append}
 use Rattle.std.proofs.lemmas.List.{take_at}
 use Rattle.resb_format.specs.Strings.{before_zero}

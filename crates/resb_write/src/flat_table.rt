@@ -54,7 +54,13 @@ fn entry<'a>(key: &'a Key<'_>, child: &'a Resource<'_>) -> Option<(Entry<'a>, us
     let unit_count = utf16_len(text);
     if is_unmarked(text, unit_count) {
         let _ = key.as_bytes();
-        Some((Entry { key: key.as_str(), text }, unit_count))
+        Some((
+            Entry {
+                key: key.as_str(),
+                text,
+            },
+            unit_count,
+        ))
     } else {
         None
     }

@@ -1,6 +1,6 @@
 //! The key block: which listed keys are used, where each stands, and their bytes.
 //! The faults of keys are found here, in the order in which they are answered.
-ghost use Rattle.std.specs.Prelude.{◌≡◌, ◌≢◌, ◌⊎◌, ◌↔◌, ◌++◌, ◌≤◌, ◌<◌, ◌+◌, ◌%◌, ℕ, option_map, List, Option, Some, None, map, filter, MatchBool, IsTrue, true, false, IfOk, IfErr, OnOk, Contains, Any, All, codes, length, nat_lt};
+ghost use Rattle.std.specs.Prelude.{◌≡◌, ◌≢◌, ◌⊎◌, ◌↔◌, ◌++◌, ◌≤◌, ◌<◌, ◌+◌, ◌%◌, ◌/◌, ◌^◌, ℕ, option_map, List, Option, Some, None, map, filter, MatchBool, IsTrue, true, false, IfOk, IfErr, OnOk, Contains, Any, All, codes, length, nat_lt};
 ghost use Rattle.std.specs.List.{list_any};
 ghost use Rattle.resb_format.specs.KeyBlock.{is_key, used as used_of, key_bytes, last_of, padded};
 ghost use Rattle.resb_write.specs.Entries.{pairs, keys_in, texts_table};
@@ -39,6 +39,14 @@ impl<'a> KeyPlan<'a> {
         Ok(KeyPlan { used, positions })
     }
 
+    /// How many words the key block takes.
+    pub(crate) fn word_count(&self) -> u32
+        requires { length (key_bytes (nows self.now.used.items)) < 2 ^ 28 }
+        ensures { result ≡ length (padded (key_bytes (nows self.now.used.items))) / 4 }
+    {
+        key_length(&self.used).div_ceil(4)
+    }
+
     /// Appends the key block to a file whose length is a multiple of 4: the used keys, each with a
     /// zero byte, padded with 0xaa to a word.
     pub(crate) fn append_to(&self, file: &mut Vec<u8>) -> Result<(), AllocError>
@@ -48,6 +56,18 @@ impl<'a> KeyPlan<'a> {
         append_keys(file, &self.used)?;
         append_padding(file)
     }
+}
+
+/// The length of keys, each with a zero byte.
+fn key_length(keys: &[&str]) -> u32
+    requires { length (key_bytes (nows keys.now)) < 2 ^ 28 }
+    ensures { result ≡ length (key_bytes (nows keys.now)) }
+{
+    let mut length = 0;
+    for key in keys {
+        length += key.len() as u32 + 1;
+    }
+    length
 }
 
 /// Appends keys, each with a zero byte.
@@ -130,9 +150,7 @@ fn positions_of<'a>(
     let mut positions = Vec::with_capacity(alloc, entries.len())?;
     for entry in entries {
         let Some(position) = places.get(&entry.key) else {
-            return Err(BinarySerializerError::unexpected(
-                "key not present in position map",
-            ));
+            return Err(BinarySerializerError::unexpected("key not present in position map"));
         };
         positions.push(*position)?;
     }
@@ -143,7 +161,9 @@ fn positions_of<'a>(
 fn has_nul_key(entries: &[Entry<'_>]) -> bool
     ensures { result ≡ list_any (λ e. has_nul e.key.now) entries.now }
 {
-    entries.iter().any(|entry| entry.key.as_bytes().contains(&0))
+    entries
+        .iter()
+        .any(|entry| entry.key.as_bytes().contains(&0))
 }
 
 /// Whether some position is over the greatest that a file may have.
@@ -171,18 +191,13 @@ fn checked_positions<'a>(
         return Err(BinarySerializerError::unexpected("key contains U+0000"));
     }
     if has_far_position(&positions) {
-        return Err(BinarySerializerError::limit(
-            "key position over 2147483647",
-        ));
+        return Err(BinarySerializerError::limit("key position over 2147483647"));
     }
     short_positions(alloc, &positions)
 }
 
 /// The positions as 16-bit units.
-fn short_positions(
-    alloc: Global,
-    positions: &[usize],
-) -> Result<Vec<u16>, BinarySerializerError>
+fn short_positions(alloc: Global, positions: &[usize]) -> Result<Vec<u16>, BinarySerializerError>
     ensures ok { IfOk result (λ v. v.items ≡ positions.now) }
     ensures err { IfErr result (λ e. (fault_of e ≡ out_of_memory) ⊎ ((fault_of e ≡ unexpected (codes "not written yet"))
         × Any (λ p. 65535 < p) positions.now)) }

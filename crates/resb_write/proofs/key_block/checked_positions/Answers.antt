@@ -1,12 +1,10 @@
 -- Each fault of a key has its reason, and the positions that are left are exact.
-use Rattle.std.proofs.Common.{◌≡◌, ◌⊎◌, ℕ, ◌<◌, List, ◌∷◌, map, Some, option_map, Bool, true, false, IfOk, IfErr, nat_lt, refl, sym, ◌∙◌, ap, subst, inl, inr, rules}
+use Rattle.std.proofs.Common.{◌≡◌, ◌<◌, map, Some, true, false, nat_lt, sym, ◌∙◌, ap, subst, inl, inr}
 use Rattle.std.specs.List.{Any, list_any}
 use Rattle.std.proofs.lemmas.Result.{err_from_is_err_and, IfOk-weaker, IfErr-weaker}
-use Rattle.resb_format.specs.KeyBlock.{used, last_of}
 use Rattle.resb_write.specs.Entries.{pairs, keys_in, texts_table}
-use Rattle.resb_write.specs.FaultOf.{fault_of}
-use Rattle.resb_write.specs.Places.{nows, place_in, last_position, position_of}
-use Rattle.resb_write.specs.Refused.{has_nul, Refused, no_memory, unlisted_key, key_with_nul, far_key, not_covered}
+use Rattle.resb_write.specs.Places.{nows, last_position, position_of}
+use Rattle.resb_write.specs.Refused.{Refused, no_memory, unlisted_key, key_with_nul, far_key, not_covered}
 use Rattle.resb_write.proofs.KeyFaults.{unlisted, listed, far_key as far_key_of, not_near, near_positions, nul_key, no_nul_keys, have_no_nul}
 use Rattle.resb_write.proofs.key_block.checked_positions.Goals as goal
 

@@ -1,5 +1,5 @@
 -- A turn moves a key from what is left into the set.
-use Rattle.std.proofs.Common.{◌≡◌, ℕ, ◌+◌, List, [], drop, get_or, sym, ◌∙◌, ap, Bool, ◌||◌, arith}
+use Rattle.std.proofs.Common.{ℕ, ◌+◌, [], drop, get_or, sym, ◌∙◌, ap, ◌||◌, arith}
 use Rattle.std.proofs.lemmas.List.{drop_more}
 use Rattle.resb_format.specs.KeyBlock.{is_key}
 use Rattle.resb_write.specs.Entries.{pairs, texts_table}
@@ -16,6 +16,6 @@ loop-entry-preserved c = λ q.
     let left = λ (n : ℕ). is_key q (texts_table (pairs (drop n es))) in
     let e = drop_more es i d (omega arith) in
     key_moves (get_or es i d).key.now q (holds c.loop-entry.keys q) (left (i + 1)) (holds c.insert.new.self q)
-        (c.in_ok-insert.ensures.updates.0 (record { ref_ptr = (0, 0); now = q }))
+    (c.in_ok-insert.ensures.updates.0 (record { ref_ptr = (0, 0); now = q }))
     ∙ ap (λ l. holds c.loop-entry.keys q || is_key q (texts_table (pairs l))) (sym e)
     ∙ c.loop-entry.invariant q

@@ -1,5 +1,5 @@
 -- A turn puts the next key at the position behind those before it.
-use Rattle.std.proofs.Common.{◌≡◌, ◌+◌, List, ℕ, [], ◌∷◌, ◌++◌, Bor, length, take, get_or, sym, ◌∙◌, ap, subst, arith}
+use Rattle.std.proofs.Common.{◌≡◌, ◌+◌, List, ℕ, [], ◌∷◌, ◌++◌, Bor, length, take, get_or, sym, ◌∙◌, ap, arith}
 use Rattle.resb_format.specs.KeyBlock.{key_bytes}
 use Rattle.resb_write.specs.Places.{nows, place_in, position_of, last_position}
 use Rattle.resb_write.proofs.Keys.{place_moves, position_moves, nows-take}

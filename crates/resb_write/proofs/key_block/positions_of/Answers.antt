@@ -1,5 +1,5 @@
 -- A turn adds what the map has at the next key.
-use Rattle.std.proofs.Common.{◌≡◌, ◌+◌, List, ℕ, [], ◌∷◌, ◌++◌, Bor, map, Some, option_copied, length, drop, get_or, inr, sym, ◌∙◌, ap, subst, arith}
+use Rattle.std.proofs.Common.{◌+◌, [], ◌++◌, map, Some, option_copied, drop, get_or, inr, sym, ◌∙◌, ap, arith}
 use Rattle.std.proofs.lemmas.List.{drop_more}
 use Rattle.resb_write.specs.Entries.{pairs, keys_in}
 use Rattle.resb_write.specs.Places.{place_in}
@@ -18,7 +18,7 @@ loop-entry-preserved c =
     let f = place_in c.args.places.now in
     let old = c.loop-entry.positions.items in
     found_more f old c.push.new.self.items c.in-Some.position.now (get_or es i none).key.now (keys_in (pairs (drop (i + 1) es))) c.in_ok-push.ensures.items
-        (sym c.get.ensures.value ∙ ap option_copied c.in-Some.is)
+    (sym c.get.ensures.value ∙ ap option_copied c.in-Some.is)
     ∙ ap (λ l. map Some old ++ map f (keys_in (pairs l))) (sym (drop_more es i none (omega arith)))
     ∙ c.loop-entry.invariant
 

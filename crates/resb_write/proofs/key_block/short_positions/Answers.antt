@@ -1,5 +1,5 @@
 -- The position that has no unit is among the positions.
-use Rattle.std.proofs.Common.{ℕ, get_or, inr, arith, refl}
+use Rattle.std.proofs.Common.{ℕ, get_or, inr, arith}
 use Rattle.std.proofs.lemmas.List.{get_or_default}
 use Rattle.resb_write.proofs.key_block.short_positions.Goals as goal
 

@@ -1,5 +1,5 @@
 -- A turn keeps the next key where the set has it.
-use Rattle.std.proofs.Common.{◌≡◌, ◌+◌, List, ℕ, ◌∷◌, ◌++◌, Bool, drop, filter, sym, ◌∙◌, ap, arith}
+use Rattle.std.proofs.Common.{◌≡◌, ◌+◌, List, ℕ, ◌∷◌, ◌++◌, drop, filter, sym, ◌∙◌, ap, arith}
 use Rattle.std.proofs.lemmas.List.{drop_more}
 use Rattle.resb_write.specs.Places.{nows, holds}
 use Rattle.resb_write.proofs.Keys.{filter_keeps, filter_leaves}

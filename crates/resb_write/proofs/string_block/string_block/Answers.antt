@@ -1,4 +1,4 @@
-use Rattle.std.proofs.Common.{◌≡◌, ◌≤◌, ◌+◌, ◌<◌, length, arith}
+use Rattle.std.proofs.Common.{◌≤◌, length, arith}
 use Rattle.resb_write.proofs.string_block.string_block.Goals as goal
 
 pub overflow_cast-root : goal.overflow_cast-root

@@ -1,9 +1,9 @@
 -- Want of memory on the way, or a fault of a key.
-use Rattle.std.proofs.Common.{◌≡◌, List, ℕ, filter, sym, ◌∙◌, ap, subst}
+use Rattle.std.proofs.Common.{◌≡◌, filter, sym, ◌∙◌, ap, subst}
 use Rattle.std.proofs.lemmas.Result.{err_from_is_err_and}
-use Rattle.resb_format.specs.KeyBlock.{used, is_key}
+use Rattle.resb_format.specs.KeyBlock.{used}
 use Rattle.resb_write.specs.Entries.{pairs, texts_table}
-use Rattle.resb_write.specs.Places.{nows, holds}
+use Rattle.resb_write.specs.Places.{nows}
 use Rattle.resb_write.specs.Refused.{Refused, no_memory}
 use Rattle.resb_write.proofs.key_block.KeyPlan.new.Goals as goal
 

@@ -1,9 +1,8 @@
 -- A word has at most one tree and count, and reaches no more resources than its tree has.
-use Rattle.std.proofs.Common.{ℕ, List, [], ◌∷◌, Option, Some, ◌≡◌, ◌≤◌, ◌+◌, refl, sym, ◌∙◌, ap, subst, arith}
+use Rattle.std.proofs.Common.{ℕ, List, ◌∷◌, Option, Some, ◌≡◌, ◌≤◌, ◌+◌, refl, ap, subst, arith}
 use Rattle.resb_tree.specs.Tree.{Tree, string, array, table, trees_of, map_of}
-use Rattle.resb_format.specs.Strings.{text_at, key_at}
 use Rattle.resb_format.specs.Parts.{Parts}
-use Rattle.resb_format.specs.Content.{Member, word, unit, Content, leaf, list, pairs, content}
+use Rattle.resb_format.specs.Content.{Member, Content, leaf, list, pairs}
 use Rattle.resb_format.specs.Denotes.{Den, den_leaf, den_list, den_pairs, DenMember, den_word, den_unit, DenEach, each_none, each_more, DenPairs, pairs_none, pairs_more, Reaches, reaches_one, reaches_list, reaches_pairs, ReachesMember, reaches_word, reaches_unit, ReachesEach, each_here, each_later, ReachesPairs, pairs_here, pairs_later}
 
 same_some : {A : Type 0} {o : Option A} {x y : A} → o ≡ Some x → o ≡ Some y → x ≡ y

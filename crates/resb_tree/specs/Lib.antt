@@ -5,3 +5,4 @@ pub mod Maps
 pub mod Bundle
 pub mod Int28
 pub mod IntLaws
+pub mod Dropping

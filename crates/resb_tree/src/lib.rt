@@ -3,6 +3,7 @@
 #![tactic(auto)]
 
 mod bundle;
+mod dropping;
 mod int28;
 mod key;
 mod no_memory;
@@ -13,3 +14,6 @@ pub use int28::Int28;
 pub use key::Key;
 pub use no_memory::NoMemory;
 pub use resource::{Resource, Table};
+
+#[cfg(test)]
+mod tests;

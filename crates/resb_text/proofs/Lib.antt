@@ -1,0 +1,2 @@
+mod BytesLemmas
+mod TokensLemmas

@@ -3,3 +3,7 @@ pub mod Bytes
 pub mod Turns
 pub mod Refusal
 pub mod Tokens
+pub mod Items
+pub mod Types
+pub mod Group
+pub mod BundleText

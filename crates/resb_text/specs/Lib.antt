@@ -7,3 +7,8 @@ pub mod Items
 pub mod Types
 pub mod Group
 pub mod BundleText
+pub mod Machine
+pub mod Stuck
+pub mod Stage
+pub mod Entry
+pub mod Answer

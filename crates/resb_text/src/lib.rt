@@ -3,8 +3,10 @@
 #![tactic(auto)]
 
 mod error;
+mod reader;
 mod tokens;
 mod turns;
 
 pub use error::{Expected, TextParserError};
+pub use reader::Reader;
 pub use turns::Turns;

@@ -169,6 +169,7 @@ pub fn text<'a>(turns: &mut Turns<'a>, from: usize) -> Option<(usize, &'a str)>
     ensures first { IfSome result (λ r. slice_index turns.old.text from ≢ 47) }
     ensures within { IfSome result (λ r. (from < r.0) × (r.0 ≤ length turns.old.text)) }
     ensures text { turns.new.text ≡ turns.old.text }
+    ensures slash { slice_index turns.old.text from ≡ 47 → turns.new.count ≤ turns.old.count + 2 }
     ensures cost { IfSome result (λ r. turns.new.count + 3 * from ≤ turns.old.count + 3 * r.0 + 2) }
     ensures most { turns.new.count + 3 * from ≤ turns.old.count + 3 * length turns.old.text + 2 }
 {

@@ -177,11 +177,10 @@ fn header<'a>(turns: &mut Turns<'a>) -> Result<(usize, &'a str), TextParserError
         return Err(TextParserError::new(start, Expected::Text));
     };
     let brace = skip(turns, end);
-    let b = byte(turns, brace);
-    if b != b'{' {
-        return Err(TextParserError::new(brace, brace_expected(b)));
+    match byte(turns, brace) {
+        b'{' => Ok((skip(turns, brace + 1), name)),
+        b => Err(TextParserError::new(brace, brace_expected(b))),
     }
-    Ok((skip(turns, brace + 1), name))
 }
 
 /// The place after the key that begins here and its `{`, and the key.
@@ -270,3 +269,6 @@ fn second_item_expected(turns: &mut Turns<'_>, at: usize, b: u8) -> Expected
         },
     }
 }
+
+#[cfg(test)]
+mod tests;

@@ -1,3 +1,5 @@
+//! Discardable text, strings and numbers, each from a place on.
+//! What may stand where is decided in `reader`. Places count bytes of the text from its start.
 ghost use Rattle.std.specs.Prelude.{◌≡◌, ◌≢◌, ℕ, ◌+◌, ◌-◌, ◌*◌, ◌^◌, ◌<◌, ◌≤◌, min, List, length, slice_index, IfSome, IfNone, MatchOption};
 ghost use Rattle.resb_text.specs.Bytes as spec;
 ghost use Rattle.resb_text.specs.Bytes.{Run, FirstQuote, is_digit};

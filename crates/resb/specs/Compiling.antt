@@ -2,7 +2,7 @@
 --     IsCompiled text bytes   the bytes are a file of the bundle that the text is
 --     IsRefused text e        the error has its reason in the text
 --     message_of e            the text that it prints as
-use Rattle.std.specs.Prelude.{ℕ, List, Bool}
+use Rattle.std.specs.Prelude.{◌≢◌, ℕ, List, Bool, codes}
 use Rattle.resb_tree.specs.Tree.{Tree}
 use Rattle.resb_text.specs.BundleText.{BundleText}
 use Rattle.resb_text.specs.Answer.{Fails}
@@ -27,10 +27,11 @@ pub record IsCompiled (text bytes : List ℕ) : Type 0 where
   pub bundle : IsBundle text
   pub file : Written bytes bundle.tree bundle.fallback bundle.keys
 
--- a bundle whose tree the writer refuses for this reason
+-- a bundle whose tree the writer refuses for this reason, which is no key that the reader did not discover
 pub record IsUnwritable (text : List ℕ) (e : BinarySerializerError) : Type 0 where
   pub bundle : IsBundle text
   pub refused : Refused bundle.tree bundle.keys (fault_of e)
+  pub listed : fault_of e ≢ fault.unexpected (codes "key not present in position map")
 
 abbrev pub IsRefused : List ℕ → CompileError → Type 0
 IsRefused text (Reading e) = Fails text e

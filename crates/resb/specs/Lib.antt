@@ -2,3 +2,4 @@
 pub use Rattle.resb_text.specs.BundleText
 pub use Rattle.resb_write.specs.Written
 pub mod Compiling
+pub mod Laws

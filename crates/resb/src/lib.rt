@@ -5,6 +5,8 @@
 pub mod binary;
 pub mod bundle;
 mod compiling;
+mod laws;
 pub mod text;
 
 pub use compiling::{CompileError, compile};
+pub use laws::keys_are_listed;

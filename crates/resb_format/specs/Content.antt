@@ -1,6 +1,6 @@
 -- What stands at a descriptor's word, as far as its own place shows. (ICU's `uresdata.h`: resource types.)
 --     content p w             a finished tree, or the members of a collection; none where the type isn't read or a field lies outside
-use Rattle.std.specs.Prelude.{ℕ, ◌+◌, ◌*◌, ◌/◌, ◌%◌, ◌^◌, List, [], ◌∷◌, map, Option, Some, None, option_map, option_and_then, ◌==◌, ◌||◌, slice_index, if◌then◌else◌}
+use Rattle.std.specs.Prelude.{ℕ, ◌+◌, ◌*◌, ◌/◌, ◌%◌, ◌^◌, List, [], map, Option, Some, None, option_map, option_and_then, ◌==◌, ◌||◌, slice_index, if◌then◌else◌}
 use Rattle.std.specs.List.{zip}
 use Rattle.resb_tree.specs.Tree.{Tree, string, binary, integer, int_vector}
 use Rattle.resb_format.specs.Bytes.{units_of, words_of, part}

@@ -2,7 +2,7 @@
 --     Denotes bytes t n       the file's root denotes the tree t, of n resources
 --     budget bytes            one resource for each 16-bit unit of the file
 --     IndexOf bytes t f       the header and index are those of a bundle of the tree t, with locale fallback or not
-use Rattle.std.specs.Prelude.{◌≡◌, ℕ, ◌*◌, ◌/◌, List, [], ◌∷◌, ◌++◌, length, take, Bool, codes, if◌then◌else◌}
+use Rattle.std.specs.Prelude.{◌≡◌, ℕ, ◌*◌, ◌/◌, List, [], ◌∷◌, length, take, Bool, if◌then◌else◌}
 use Rattle.resb_tree.specs.Tree.{Tree, largest_table}
 use Rattle.resb_format.specs.Parts.{IsBundleFile, parts_of, body_of, root_word, field_count, resources_end, bundle_end, largest_table_field, attributes}
 use Rattle.resb_format.specs.Denotes.{Den}

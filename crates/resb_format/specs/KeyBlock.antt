@@ -2,7 +2,7 @@
 --     is_key k t              k is a key of some table of the tree
 --     key_block t ks          the used keys of the list in its order, each with a zero byte, padded to a word
 --     last_place t k ks       the place in it of the last occurrence of k
-use Rattle.std.specs.Prelude.{ℕ, ◌+◌, ◌%◌, ◌-◌, List, [], ◌∷◌, ◌++◌, length, Bool, false, ◌||◌, nat_eq, Option, Some, None, option_map, filter, replicate, if◌then◌else◌}
+use Rattle.std.specs.Prelude.{ℕ, ◌+◌, ◌%◌, ◌-◌, List, [], ◌∷◌, ◌++◌, length, Bool, false, ◌||◌, nat_eq, Option, Some, None, filter, replicate, if◌then◌else◌}
 use Rattle.std.specs.List.{flat_map}
 use Rattle.std.specs.Cmp.Lexicographic.{pointwise}
 use Rattle.resb_tree.specs.Tree.{Tree, string, array, table, binary, integer, int_vector, Trees, no_trees, more_trees, Entries, no_entries, entry}

@@ -2,7 +2,7 @@
 --     string_at block u       the units of the string at unit u of the 16-bit block
 --     text_at block u         the text of that string, if it is well-formed UTF-16
 --     key_at keys k           the text of the key at byte k of the key block
-use Rattle.std.specs.Prelude.{ℕ, ◌+◌, ◌-◌, ◌*◌, List, length, take, drop, Option, Some, None, option_map, option_and_then, nat_le, ◌==◌, slice_index, position, if◌then◌else◌, encode_utf8_all}
+use Rattle.std.specs.Prelude.{ℕ, ◌+◌, ◌-◌, ◌*◌, List, take, drop, Option, Some, None, option_map, option_and_then, nat_le, ◌==◌, slice_index, position, if◌then◌else◌, encode_utf8_all}
 use Rattle.std.specs.Char.Utf16.{has_unpaired_surrogate, utf16_lossy_chars}
 use Rattle.std.specs.Str.{is_utf8}
 use Rattle.resb_format.specs.Bytes.{part}

@@ -4,4 +4,5 @@ pub mod View
 pub mod Maps
 pub mod Bundle
 pub mod Int28
-pub mod IntLaws
+pub mod Laws
+pub mod Dropping

@@ -40,7 +40,7 @@ impl<'a> Key<'a> {
         ensures value { result.now ≡ self.now }
         ensures utf8 { IsUtf8 self.now }
     {
-        self.text.as_str().as_bytes()
+        self.as_str().as_bytes()
     }
 
     /// The text as an owned string. For want of memory the key is handed back.

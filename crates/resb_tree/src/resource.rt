@@ -4,13 +4,14 @@ ghost use Rattle.std.specs.Prelude.{◌≡◌};
 ghost use Rattle.resb_tree.specs.Tree as tree;
 ghost use Rattle.resb_tree.specs.View.{tree_of, items_view, entries_view};
 
+use crate::dropping::{Inside, drop_inside};
 use crate::int28::Int28;
 use crate::key::Key;
 use std::borrow::{CowSlice, CowStr};
 use std::collections::BTreeMap;
 
 /// A resource. It stands for one tree, whether its parts are borrowed or owned.
-#[derive(Drop)]
+/// Its drop takes no stack for its depth, as `dropping` says.
 pub enum Resource<'a> {
     /// A text.
     String(CowStr<'a>),
@@ -42,6 +43,31 @@ impl<'a> Resource<'a> {
     }
 }
 
+impl Drop for Resource<'_> {
+    fn drop(self) {
+        drop_inside(self.into_inside());
+    }
+}
+
+impl<'a> Resource<'a> {
+    ghost use Rattle.resb_tree.specs.Dropping.{InsideOf};
+    ghost use Rattle.resb_tree.specs.View.{tree_of};
+
+    /// Drops what can't be deep, and gives the rest.
+    pub(crate) fn into_inside(self) -> Inside<'a>
+        ensures { InsideOf (tree_of self.entry) result }
+    {
+        match self {
+            Resource::Array(items) => Inside::List(items),
+            Resource::Table(table) => Inside::Entries(table),
+            Resource::String(_)
+            | Resource::Binary(_)
+            | Resource::Integer(_)
+            | Resource::IntVector(_) => Inside::Nothing,
+        }
+    }
+}
+
 /// Equality of trees. It takes no memory, so it calls itself once for each level.
 #[tactic(auto, using(crate::specs::Tree::tree_eq_decides))]
 impl<'a> PartialEq for Resource<'a> {
@@ -58,7 +84,7 @@ impl<'a> PartialEq for Resource<'a> {
         ensures value { result ≡ tree_eq (tree_of self.now) (tree_of other.now) }
         ensures equal_trees { IsTrue result ↔ (tree_of self.now ≡ tree_of other.now) }
     {
-        same(self, other)
+        self.equals(other)
     }
 }
 

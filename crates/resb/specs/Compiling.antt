@@ -1,0 +1,42 @@
+-- What a compiled text is, and why a text isn't compiled.
+--     IsCompiled text bytes   the bytes are a file of the bundle that the text is
+--     IsRefused text e        the error has its reason in the text
+--     message_of e            the text that it prints as
+use Rattle.std.specs.Prelude.{◌≢◌, ℕ, List, Bool, codes}
+use Rattle.resb_tree.specs.Tree.{Tree}
+use Rattle.resb_text.specs.BundleText.{BundleText}
+use Rattle.resb_text.specs.Answer.{Fails}
+use Rattle.resb_text.specs.Refusal as refusal
+use Rattle.resb_write.specs.Written.{Written}
+use Rattle.resb_write.specs.Refused.{Refused}
+use Rattle.resb_write.specs.Fault as fault
+use Rattle.resb_write.specs.FaultOf.{fault_of}
+use Rattle.resb_write.specs.declared.error.BinarySerializerError.{BinarySerializerError}
+use Rattle.resb.specs.declared.compiling.CompileError.{CompileError}
+use Rattle.resb.specs.declared.compiling.CompileError.TheVariants.{Reading, Writing}
+
+-- the bundle that a text is
+pub record IsBundle (text : List ℕ) : Type 0 where
+  pub name : List ℕ
+  pub fallback : Bool
+  pub tree : Tree
+  pub keys : List (List ℕ)
+  pub is : BundleText text name fallback tree keys
+
+pub record IsCompiled (text bytes : List ℕ) : Type 0 where
+  pub bundle : IsBundle text
+  pub file : Written bytes bundle.tree bundle.fallback bundle.keys
+
+-- a bundle whose tree the writer refuses for this reason, which is no key that the reader did not discover
+pub record IsUnwritable (text : List ℕ) (e : BinarySerializerError) : Type 0 where
+  pub bundle : IsBundle text
+  pub refused : Refused bundle.tree bundle.keys (fault_of e)
+  pub listed : fault_of e ≢ fault.unexpected (codes "key not present in position map")
+
+abbrev pub IsRefused : List ℕ → CompileError → Type 0
+IsRefused text (Reading e) = Fails text e
+IsRefused text (Writing e) = IsUnwritable text e
+
+abbrev pub message_of : CompileError → List ℕ
+message_of (Reading e) = refusal.message_of e
+message_of (Writing e) = fault.message_of (fault_of e)

@@ -1,0 +1,68 @@
+//! From a text to the bytes of its file: the reader, and then the writer with the discovered keys.
+ghost use Rattle.std.specs.Prelude.{Some, IfOk, IfErr};
+ghost use Rattle.resb.specs.Compiling.{IsCompiled, IsRefused, message_of};
+
+use resb_text::{Reader, TextParserError};
+use resb_write::{BinarySerializerError, Serializer};
+use std::alloc::Global;
+use std::error::Error;
+use std::fmt;
+
+/// Why a text has no file. It prints as the error inside.
+#[derive(Debug, Drop)]
+pub enum CompileError {
+    /// The text is no bundle, or memory was wanted while it was read.
+    Reading(TextParserError),
+    /// The tree has no file, or memory was wanted while it was written.
+    Writing(BinarySerializerError),
+}
+
+impl fmt::Display for CompileError {
+    ghost output = { λ e. Some (message_of e) };
+
+    fn fmt<W: fmt::Write>(&self, f: &mut fmt::Formatter<W>) -> fmt::Result {
+        match self {
+            CompileError::Reading(e) => write!(f, "{e}"),
+            CompileError::Writing(e) => write!(f, "{e}"),
+        }
+    }
+}
+
+impl Error for CompileError {}
+
+impl From<TextParserError> for CompileError {
+    ghost use Rattle.std.specs.Prelude.{◌≡◌};
+    ghost use Rattle.resb.specs.declared.compiling.CompileError.TheVariants.{Reading};
+
+    ghost from_gives = { λ e made. made ≡ Reading e };
+
+    fn from(e: TextParserError) -> CompileError {
+        CompileError::Reading(e)
+    }
+}
+
+impl From<BinarySerializerError> for CompileError {
+    ghost use Rattle.std.specs.Prelude.{◌≡◌};
+    ghost use Rattle.resb.specs.declared.compiling.CompileError.TheVariants.{Writing};
+
+    ghost from_gives = { λ e made. made ≡ Writing e };
+
+    fn from(e: BinarySerializerError) -> CompileError {
+        CompileError::Writing(e)
+    }
+}
+
+/// The bytes of the `.res` file of a bundle's text.
+pub fn compile(alloc: Global, text: &str) -> Result<Vec<u8>, CompileError>
+    // The text is a bundle text, and the file denotes its tree, with its flag in the index and its keys in the key block.
+    ensures ok { IfOk result (λ file. IsCompiled text.now file.items) }
+    // The reader refuses the text, or the writer refuses the tree of a bundle text, each for its named reason or for memory.
+    ensures err { IfErr result (IsRefused text.now) }
+{
+    let (bundle, keys) = Reader::read(alloc, text)?;
+    let file = Serializer::to_bytes(alloc, &bundle, keys.as_slice())?;
+    Ok(file)
+}
+
+#[cfg(test)]
+mod tests;

@@ -1,0 +1,12 @@
+//! ICU resource bundles: the tree, its text form and its binary form, under the paths of the Rust crate `resb`.
+//! What is proved of each call stands with it in the crates below; only `compile` is made here.
+#![tactic(auto)]
+
+pub mod binary;
+pub mod bundle;
+mod compiling;
+mod laws;
+pub mod text;
+
+pub use compiling::{CompileError, compile};
+pub use laws::keys_are_listed;

@@ -1,0 +1,298 @@
+-- The definitions at worked examples: what they accept, and what they refuse.
+use Rattle.std.proofs.Common.{◌≡◌, ℕ, zero, suc, ◌+◌, ◌<◌, ◌≤◌, List, [], ◌∷◌, ◌++◌, Some, None, true, refl, ◌∙◌, ap, subst, arith}
+use Rattle.std.specs.Str.{is_utf8, IsAscii}
+use Rattle.std.proofs.lemmas.Str.{is_utf8-from_IsUtf8, IsUtf8-from_ascii}
+use Rattle.std.specs.Char.Utf16.{utf16_chars}
+use Rattle.resb_tree.specs.Tree.{Tree, string, array, table, integer, binary, trees_of, no_trees, more_trees, no_entries, entry}
+use Rattle.resb_format.specs.Bytes.{units_of, words_of}
+use Rattle.resb_format.specs.Units.{length_marker}
+use Rattle.resb_format.specs.Strings.{string_at, text_at, key_at}
+use Rattle.resb_format.specs.Parts.{Parts, IsBundleFile, parts_of}
+use Rattle.resb_format.specs.Content.{Member, word, unit, leaf, list, pairs, content}
+use Rattle.resb_format.specs.Denotes.{Den, den_leaf, den_list, den_pairs, den_word, den_unit, DenEach, each_none, each_more, pairs_none, pairs_more}
+use Rattle.resb_format.specs.File.{Denotes, IndexOf, budget, written_header}
+use Rattle.resb_format.specs.KeyBlock.{key_block, last_place}
+use Rattle.resb_format.specs.PlainSize.{plain_size}
+use Rattle.resb_format.proofs.Denoting.{unique}
+
+-- Strings at a unit: markers of one, two and three units, also on short strings, and every string's end inside the block.
+
+marked_by_one : string_at (0xdc02 ∷ 97 ∷ 98 ∷ []) 0 ≡ Some (97 ∷ 98 ∷ [])
+unfolding string_at
+marked_by_one = refl
+
+marked_by_two : string_at (0xdfef ∷ 1 ∷ 97 ∷ []) 0 ≡ Some (97 ∷ [])
+unfolding string_at
+marked_by_two = refl
+
+marked_by_three : string_at (0xdfff ∷ 0 ∷ 1 ∷ 97 ∷ []) 0 ≡ Some (97 ∷ [])
+unfolding string_at
+marked_by_three = refl
+
+marked_empty : string_at (0xdc00 ∷ []) 0 ≡ Some []
+unfolding string_at
+marked_empty = refl
+
+marked_too_long : string_at (0xdc03 ∷ 97 ∷ 98 ∷ []) 0 ≡ None
+unfolding string_at
+marked_too_long = refl
+
+marker_cut : string_at (0xdfff ∷ 0 ∷ []) 0 ≡ None
+unfolding string_at
+marker_cut = refl
+
+unmarked : string_at (7 ∷ 97 ∷ 98 ∷ 0 ∷ []) 1 ≡ Some (97 ∷ 98 ∷ [])
+unfolding string_at
+unmarked = refl
+
+unmarked_empty : string_at (0 ∷ []) 0 ≡ Some []
+unfolding string_at
+unmarked_empty = refl
+
+unterminated : string_at (97 ∷ []) 0 ≡ None
+unfolding string_at
+unterminated = refl
+
+past_the_block : string_at (97 ∷ 0 ∷ []) 2 ≡ None
+unfolding string_at
+past_the_block = refl
+
+-- 40 units and 41
+forty : List ℕ
+forty =
+    97 ∷ 97 ∷ 97 ∷ 97 ∷ 97 ∷ 97 ∷ 97 ∷ 97 ∷ 97 ∷ 97 ∷ 97 ∷ 97 ∷ 97 ∷ 97 ∷ 97 ∷ 97 ∷ 97 ∷ 97 ∷ 97 ∷ 97
+    ∷ 97 ∷ 97 ∷ 97 ∷ 97 ∷ 97 ∷ 97 ∷ 97 ∷ 97 ∷ 97 ∷ 97 ∷ 97 ∷ 97 ∷ 97 ∷ 97 ∷ 97 ∷ 97 ∷ 97 ∷ 97 ∷ 97 ∷ 97 ∷ []
+
+forty_units : string_at (forty ++ 0 ∷ []) 0 ≡ Some forty
+unfolding string_at forty
+forty_units = refl
+
+forty_one_units : string_at (97 ∷ forty ++ 0 ∷ []) 0 ≡ None
+unfolding string_at forty
+forty_one_units = refl
+
+-- U+1F600, and half of it
+pair_of_surrogates : text_at (0xd83d ∷ 0xde00 ∷ 0 ∷ []) 0 ≡ Some (0xf0 ∷ 0x9f ∷ 0x98 ∷ 0x80 ∷ [])
+unfolding text_at string_at utf16_chars lib.Utf8.encode
+pair_of_surrogates = refl
+
+lone_surrogate : text_at (0xd83d ∷ 0 ∷ []) 0 ≡ None
+unfolding text_at string_at utf16_chars
+lone_surrogate = refl
+
+-- Markers that are written, and what needs none.
+
+marker_of_one : length_marker 1006 ≡ 0xdfee ∷ []
+marker_of_one = refl
+
+marker_of_two : length_marker 1007 ≡ 0xdfef ∷ 0x3ef ∷ []
+marker_of_two = refl
+
+greatest_of_two : length_marker 1048575 ≡ 0xdffe ∷ 0xffff ∷ []
+greatest_of_two = refl
+
+marker_of_three : length_marker 1048576 ≡ 0xdfff ∷ 0x10 ∷ 0 ∷ []
+marker_of_three = refl
+
+-- Keys.
+
+one_ascii : (b : ℕ) → b < 128 → IsAscii (b ∷ [])
+one_ascii b h zero = h
+one_ascii b h (suc i) = omega arith
+
+ascii_key : (b : ℕ) → b < 128 → is_utf8 (b ∷ []) ≡ true
+ascii_key b h = is_utf8-from_IsUtf8 (b ∷ []) (IsUtf8-from_ascii (b ∷ []) (one_ascii b h))
+
+key_found : key_at (97 ∷ 98 ∷ 0 ∷ 99 ∷ []) 1 ≡ Some (98 ∷ [])
+unfolding key_at
+key_found = rw (ascii_key 98 (omega arith)) refl
+
+key_unterminated : key_at (97 ∷ 98 ∷ 0 ∷ 99 ∷ []) 3 ≡ None
+unfolding key_at
+key_unterminated = refl
+
+key_past : key_at (97 ∷ 0 ∷ []) 9 ≡ None
+unfolding key_at
+key_past = refl
+
+-- Words in given parts. The body's words: a descriptor; at word 1 two members; at word 4 a table of one entry.
+
+small : Parts
+small = record {
+  body =
+      0 ∷ 0 ∷ 0 ∷ 0x80 ∷ 2 ∷ 0 ∷ 0 ∷ 0 ∷ 5 ∷ 0 ∷ 0 ∷ 0x70 ∷ 1 ∷ 0 ∷ 0 ∷ 0x60 ∷ 1 ∷ 0 ∷ 0 ∷ 0 ∷ 7 ∷ 0 ∷ 0 ∷ 0x70 ∷ [];
+  keys = 97 ∷ 0 ∷ [];
+  block = 0 ∷ 120 ∷ 0 ∷ 1 ∷ 0 ∷ 1 ∷ [];
+  root = 0x8000_0001;
+}
+
+an_integer : content small 0x7fff_ffff ≡ Some (leaf (integer 0xfff_ffff))
+unfolding content small
+an_integer = refl
+
+an_array : content small 0x8000_0001 ≡ Some (list (word 0x7000_0005 ∷ word 0x6000_0001 ∷ []))
+unfolding content small words_of units_of
+an_array = refl
+
+an_array_cut : content small 0x8000_0005 ≡ None
+unfolding content small words_of units_of
+an_array_cut = refl
+
+a_table : content small 0x2000_0004 ≡ Some (pairs ((0, word 0x7000_0007) ∷ []))
+unfolding content small words_of units_of
+a_table = refl
+
+a_short_table : content small 0x5000_0003 ≡ Some (pairs ((0, unit 1) ∷ []))
+unfolding content small words_of units_of
+a_short_table = refl
+
+an_old_string : content small 0x0000_0001 ≡ None
+unfolding content small words_of units_of
+an_old_string = refl
+
+an_unknown_type : content small 0xa000_0000 ≡ None
+unfolding content small words_of units_of
+an_unknown_type = refl
+
+-- The array holds the integer 5 and the string "x": three resources.
+array_denotes : Den small 0x8000_0001 (array (trees_of (integer 5 ∷ string (120 ∷ []) ∷ []))) 3
+unfolding content small words_of units_of text_at string_at utf16_chars lib.Utf8.encode
+array_denotes = den_list refl (each_more (den_word (den_leaf refl)) (each_more (den_word (den_leaf refl)) each_none))
+
+table_denotes : Den small 0x5000_0003 (table (entry (97 ∷ []) (string (120 ∷ [])) no_entries)) 2
+unfolding content small words_of units_of text_at string_at utf16_chars key_at lib.Utf8.encode
+table_denotes =
+    let key : key_at small.keys 0 ≡ Some (97 ∷ []) = rw (ascii_key 97 (omega arith)) refl in
+    den_pairs refl (pairs_more key (den_unit refl) pairs_none)
+
+-- An array that holds itself denotes nothing.
+looped : Parts
+looped = record {
+  body = 1 ∷ 0 ∷ 0 ∷ 0x80 ∷ 1 ∷ 0 ∷ 0 ∷ 0 ∷ 1 ∷ 0 ∷ 0 ∷ 0x80 ∷ [];
+  keys = [];
+  block = [];
+  root = 0x8000_0001;
+}
+
+loop_content : content looped 0x8000_0001 ≡ Some (list (word 0x8000_0001 ∷ []))
+unfolding content looped words_of units_of
+loop_content = refl
+
+-- its one member would have one resource less
+loop_member : {ms : List Member} {ts : List Tree} {k : ℕ} → DenEach looped ms ts k → ms ≡ word 0x8000_0001 ∷ [] → (t : Tree) × Den looped 0x8000_0001 t k
+loop_member each_none e = absurd (cc)
+loop_member (each_more (den_unit f) ds) e = absurd (cc)
+loop_member (each_more (den_word d) (each_more x ds)) e = absurd (cc)
+loop_member (each_more (den_word {w = w} {n = n} {t = t} d) each_none) e =
+    let same : w ≡ 0x8000_0001 = cc in
+    let count : n ≡ n + 0 = omega arith in
+    (t, subst (λ k. Den looped 0x8000_0001 t k) count (subst (λ v. Den looped v t n) same d))
+
+loop_step : {w n : ℕ} {t : Tree} → Den looped w t n → w ≡ 0x8000_0001 → (k : ℕ) × ((u : Tree) × Den looped 0x8000_0001 u k) × (n ≡ 1 + k)
+loop_step (den_leaf {w = w} f) e = let g : content looped w ≡ Some (list (word 0x8000_0001 ∷ [])) = ap (content looped) e ∙ loop_content in absurd (cc)
+loop_step (den_pairs {w = w} f ds) e = let g : content looped w ≡ Some (list (word 0x8000_0001 ∷ [])) = ap (content looped) e ∙ loop_content in absurd (cc)
+loop_step (den_list {w = w} {n = n} {ms = ms} f ds) e =
+    let g : content looped w ≡ Some (list (word 0x8000_0001 ∷ [])) = ap (content looped) e ∙ loop_content in
+    let one : ms ≡ word 0x8000_0001 ∷ [] = cc in
+    (n, loop_member ds one, refl)
+
+loop_denotes_nothing : (t : Tree) (n : ℕ) → Den looped 0x8000_0001 t n → ⊥
+loop_denotes_nothing t n d =
+    let h = loop_step d refl in
+    let less : n ≡ 1 + h.0 = h.2 in
+    let same : n ≡ h.0 = (unique looped d h.1.1).1 in
+    absurd (omega arith)
+
+-- The files of `b{}` and of `b{k{v}}`, whole.
+
+empty_bundle : List ℕ
+empty_bundle = written_header ++ (
+    0 ∷ 0 ∷ 0 ∷ 0x20 ∷ 7 ∷ 0 ∷ 0 ∷ 0 ∷ 8 ∷ 0 ∷ 0 ∷ 0 ∷ 9 ∷ 0 ∷ 0 ∷ 0 ∷ 9 ∷ 0 ∷ 0 ∷ 0 ∷ 0 ∷ 0 ∷ 0 ∷ 0 ∷ 0 ∷ 0 ∷ 0 ∷ 0 ∷ 9 ∷ 0 ∷ 0 ∷ 0
+    ∷ 0 ∷ 0 ∷ 0xaa ∷ 0xaa ∷ [])
+
+flat_bundle : List ℕ
+flat_bundle = written_header ++ (
+    3 ∷ 0 ∷ 0 ∷ 0x50 ∷ 7 ∷ 0 ∷ 0 ∷ 0 ∷ 9 ∷ 0 ∷ 0 ∷ 0 ∷ 12 ∷ 0 ∷ 0 ∷ 0 ∷ 12 ∷ 0 ∷ 0 ∷ 0 ∷ 1 ∷ 0 ∷ 0 ∷ 0 ∷ 0 ∷ 0 ∷ 0 ∷ 0 ∷ 12 ∷ 0 ∷ 0 ∷ 0
+    ∷ 107 ∷ 0 ∷ 0xaa ∷ 0xaa ∷ 0 ∷ 0 ∷ 118 ∷ 0 ∷ 0 ∷ 0 ∷ 1 ∷ 0 ∷ 32 ∷ 0 ∷ 1 ∷ 0 ∷ [])
+
+empty_head : IsBundleFile empty_bundle
+unfolding empty_bundle units_of words_of
+empty_head = record {
+  magic = refl;
+  little_endian = refl;
+  ascii = refl;
+  two_byte_chars = refl;
+  format = refl;
+  version = refl;
+  header = omega arith;
+  header_inside = omega arith;
+  fields = omega arith;
+  index_inside = omega arith;
+  keys_inside = omega arith;
+  blocks_ordered = omega arith;
+  block_inside = omega arith;
+}
+
+empty_denotes : Denotes empty_bundle (table no_entries) 1
+unfolding empty_bundle units_of words_of parts_of content
+empty_denotes = record { head = empty_head; root = den_pairs refl pairs_none }
+
+empty_index : IndexOf empty_bundle (table no_entries) true
+unfolding empty_bundle units_of words_of
+empty_index = record { header = refl; fields = refl; resources = refl; bundle = refl; largest = refl; no_fallback = refl }
+
+flat_head : IsBundleFile flat_bundle
+unfolding flat_bundle units_of words_of
+flat_head = record {
+  magic = refl;
+  little_endian = refl;
+  ascii = refl;
+  two_byte_chars = refl;
+  format = refl;
+  version = refl;
+  header = omega arith;
+  header_inside = omega arith;
+  fields = omega arith;
+  index_inside = omega arith;
+  keys_inside = omega arith;
+  blocks_ordered = omega arith;
+  block_inside = omega arith;
+}
+
+flat_tree : Tree
+flat_tree = table (entry (107 ∷ []) (string (118 ∷ [])) no_entries)
+
+flat_denotes : Denotes flat_bundle flat_tree 2
+unfolding flat_bundle flat_tree units_of words_of parts_of content string_at text_at key_at utf16_chars lib.Utf8.encode
+flat_denotes =
+    let key : key_at (parts_of flat_bundle).keys 32 ≡ Some (107 ∷ []) = rw (ascii_key 107 (omega arith)) refl in
+    record { head = flat_head; root = den_pairs refl (pairs_more key (den_unit refl) pairs_none) }
+
+flat_budget : 2 ≤ budget flat_bundle
+unfolding flat_bundle
+flat_budget = omega arith
+
+-- a file whose header names the other byte order
+foreign_order : IsBundleFile (0 ∷ 32 ∷ 0xda ∷ 0x27 ∷ 0 ∷ 20 ∷ 0 ∷ 0 ∷ 1 ∷ []) → ⊥
+foreign_order h = let e : 1 ≡ 0 = h.little_endian in absurd (omega (arith, e))
+
+-- The key block of the table with the keys a and c, for the list a, a, c: the last place of a counts.
+
+two_keys : Tree
+two_keys = table (entry (97 ∷ []) (string []) (entry (99 ∷ []) (string []) no_entries))
+
+keys_written_twice : key_block two_keys ((97 ∷ []) ∷ (97 ∷ []) ∷ (99 ∷ []) ∷ (100 ∷ []) ∷ []) ≡ 97 ∷ 0 ∷ 97 ∷ 0 ∷ 99 ∷ 0 ∷ 0xaa ∷ 0xaa ∷ []
+unfolding two_keys
+keys_written_twice = refl
+
+last_place_counts : last_place two_keys (97 ∷ []) ((97 ∷ []) ∷ (97 ∷ []) ∷ (99 ∷ []) ∷ []) ≡ Some 2
+unfolding two_keys
+last_place_counts = refl
+
+no_place : last_place two_keys (100 ∷ []) ((97 ∷ []) ∷ (100 ∷ []) ∷ []) ≡ None
+unfolding two_keys
+no_place = refl
+
+-- a key of two bytes, an array of two children, an integer and three bytes
+plain_size_of_three : plain_size (array (more_trees (integer 1) (more_trees (binary (1 ∷ 2 ∷ 3 ∷ [])) no_trees))) ((97 ∷ []) ∷ []) ≡ 60
+plain_size_of_three = refl

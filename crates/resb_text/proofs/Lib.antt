@@ -1,0 +1,5 @@
+mod BytesLemmas
+mod TokensLemmas
+mod Keys
+mod Moves
+mod Reading

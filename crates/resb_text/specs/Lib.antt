@@ -1,0 +1,14 @@
+-- The words of the contracts: bytes, the counter of turns, refusals, tokens.
+pub mod Bytes
+pub mod Turns
+pub mod Refusal
+pub mod Tokens
+pub mod Items
+pub mod Types
+pub mod Group
+pub mod BundleText
+pub mod Machine
+pub mod Stuck
+pub mod Stage
+pub mod Entry
+pub mod Answer

@@ -1,0 +1,44 @@
+-- What the program writes for what it reads, and why it fails.
+--     Writes input old new    the writer gained the hex line of a file of the text
+--     IsNoInput input e       these bytes have no file, for this reason
+--     HasReason input e       the same, or a stream or memory failed
+use Rattle.std.specs.Prelude.{◌≡◌, ℕ, List, [], ◌∷◌, ◌++◌, codes, IsUtf8, Option}
+use Rattle.std.specs.Io.KnownBytes.{Appends}
+use Rattle.hex.specs.Hex.{encode_lower}
+use Rattle.resb.specs.Compiling as compiling
+use Rattle.resb.specs.Compiling.{IsCompiled, IsRefused}
+use Rattle.resb_tool.specs.declared.fault.ToolError.{ToolError}
+use Rattle.resb_tool.specs.declared.fault.ToolError.TheVariants.{Input, Output, NotUtf8, Compiling, Memory}
+
+pub record Writes (input : List ℕ) (old new : Option (List ℕ)) : Type 0 where
+  pub file : List ℕ
+  pub compiled : IsCompiled input file
+  pub line : Appends old new (encode_lower file ++ 10 ∷ [])
+
+abbrev pub IsNoInput : List ℕ → ToolError → Type 0
+IsNoInput input NotUtf8 = IsUtf8 input → ⊥
+IsNoInput input (Compiling e) = IsUtf8 input × IsRefused input e
+IsNoInput input Input = ⊥
+IsNoInput input Output = ⊥
+IsNoInput input Memory = ⊥
+
+abbrev pub HasReason : List ℕ → ToolError → Type 0
+HasReason input NotUtf8 = IsUtf8 input → ⊥
+HasReason input (Compiling e) = IsUtf8 input × IsRefused input e
+HasReason input Input = Unit {0}
+HasReason input Output = Unit {0}
+HasReason input Memory = Unit {0}
+
+abbrev pub status_of : ToolError → ℕ
+status_of Input = 2
+status_of Output = 2
+status_of NotUtf8 = 1
+status_of (Compiling e) = 1
+status_of Memory = 1
+
+abbrev pub message_of : ToolError → List ℕ
+message_of Input = codes "cannot read standard input"
+message_of Output = codes "cannot write standard output"
+message_of NotUtf8 = codes "input is not UTF-8"
+message_of (Compiling e) = compiling.message_of e
+message_of Memory = codes "out of memory"

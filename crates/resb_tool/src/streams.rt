@@ -1,0 +1,100 @@
+//! What the program does, over any reader and writer.
+//! The process's own streams are named in `main` alone.
+ghost use Rattle.std.specs.Prelude.{◌≡◌, ◌≢◌, ◌⊎◌, ℕ, List, [], ◌∷◌, ◌++◌, length, ◌<◌, Ok, true, IfOk, OnOk, IfErr, IfSome, IsUtf8, IsOkUnless, string_bytes};
+ghost use Rattle.std.specs.Io.KnownBytes.{Consumes, IsAtEnd, Keeps};
+ghost use Rattle.hex.specs.Hex.{encode_lower};
+ghost use Rattle.resb.specs.Compiling.{IsCompiled};
+ghost use Rattle.resb_tool.specs.Program.{IsNoInput, Writes, HasReason};
+
+use crate::fault::ToolError;
+use std::alloc::Global;
+use std::io::{ErrorKind, Read, Write};
+
+/// The bytes of the `.res` file of a bundle's text, which is given as bytes.
+pub fn compile_text(alloc: Global, input: &[u8]) -> Result<Vec<u8>, ToolError>
+    ensures ok { IfOk result (λ file. IsUtf8 input.now × IsCompiled input.now file.items) }
+    ensures err { IfErr result (IsNoInput input.now) }
+{
+    let Ok(text) = str::from_utf8(input) else {
+        return Err(ToolError::NotUtf8);
+    };
+    match resb::compile(alloc, text) {
+        Ok(file) => Ok(file),
+        Err(e) => Err(ToolError::Compiling(e)),
+    }
+}
+
+/// One read. It answers whether the reader is at its end. A read that was interrupted adds nothing.
+fn read_some<R: Read>(
+    reader: &mut R,
+    buffer: &mut [u8],
+    bytes: &mut Vec<u8>,
+) -> Result<bool, ToolError>
+    requires { 0 < length buffer.old }
+    ensures taken { OnOk result ((new : List ℕ) × Consumes (R.remaining reader.old) (R.remaining reader.new) new × (bytes.new.items ≡ bytes.old.items ++ new)) }
+    ensures end { result ≡ Ok true → IsAtEnd (R.remaining reader.new) }
+    ensures err { IfErr result (λ e. (e ≡ ToolError.Input) ⊎ (e ≡ ToolError.Memory)) }
+{
+    match reader.read(buffer) {
+        Ok(0) => Ok(true),
+        Ok(n) => match bytes.extend_from_slice(&buffer[..n]) {
+            Ok(()) => Ok(false),
+            Err(_) => Err(ToolError::Memory),
+        },
+        Err(e) if e.kind() == ErrorKind::Interrupted => Ok(false),
+        Err(_) => Err(ToolError::Input),
+    }
+}
+
+/// All that the reader has left.
+fn read_all<R: Read>(alloc: Global, reader: &mut R) -> Result<Vec<u8>, ToolError>
+    ensures ok { IfOk result (λ bytes. IfSome (R.remaining reader.old) (λ input. bytes.items ≡ input)) }
+    ensures err { IfErr result (λ e. (e ≡ ToolError.Input) ⊎ (e ≡ ToolError.Memory)) }
+{
+    let mut buffer = [0u8; 8192];
+    let mut bytes = Vec::new(alloc);
+    for _ in 0..u64::MAX {
+        if read_some(reader, &mut buffer, &mut bytes)? {
+            return Ok(bytes);
+        }
+    }
+    Err(ToolError::Input)
+}
+
+/// The file in lower-case hex digits, and a line feed.
+fn hex_line(alloc: Global, file: &[u8]) -> Result<String, ToolError>
+    ensures ok { IfOk result (λ line. string_bytes line ≡ encode_lower file.now ++ 10 ∷ []) }
+    ensures err { IsOkUnless result ToolError.Memory }
+{
+    let Ok(mut line) = hex::encode(alloc, file) else {
+        return Err(ToolError::Memory);
+    };
+    match line.push('\n') {
+        Ok(()) => Ok(line),
+        Err(_) => Err(ToolError::Memory),
+    }
+}
+
+/// Reads a bundle's text to its end, and writes its file in lower-case hex digits and one line feed.
+///
+/// A read that was interrupted is asked again. After a write fault an unknown part was written, else nothing.
+pub fn run<R: Read, W: Write>(
+    alloc: Global,
+    reader: &mut R,
+    writer: &mut W,
+) -> Result<(), ToolError>
+    ensures ok { OnOk result (IfSome (R.remaining reader.old) (λ input. IsUtf8 input × Writes input (W.contents writer.old) (W.contents writer.new))) }
+    ensures err { IfErr result (λ e. IfSome (R.remaining reader.old) (λ input. HasReason input e)) }
+    ensures kept { IfErr result (λ e. e ≢ ToolError.Output → Keeps (W.contents writer.old) (W.contents writer.new)) }
+{
+    let input = read_all(alloc, reader)?;
+    let file = compile_text(alloc, input.as_slice())?;
+    let line = hex_line(alloc, file.as_slice())?;
+    match writer.write_all(line.as_bytes()) {
+        Ok(()) => Ok(()),
+        Err(_) => Err(ToolError::Output),
+    }
+}
+
+#[cfg(test)]
+mod tests;

@@ -1,0 +1,5 @@
+use Rattle.resb_tree.proofs.Integers.{kept, signed_back}
+use Rattle.resb_tree.proofs.laws.integers_survive.Goals as goal
+
+pub returns : goal.returns
+returns c = λ n h. (kept n h, signed_back n h)

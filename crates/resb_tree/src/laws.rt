@@ -1,0 +1,14 @@
+//! Laws of trees and integers, each the contract of a call that does nothing.
+ghost use Rattle.resb_tree.specs.Laws.{PutIsFound, PutKeepsOrder, MapsAreTheirAnswers, IntegersSurvive};
+
+/// A table is a finite map: what is put at a key is found there and nowhere else, and equal answers are equal tables.
+pub fn tables_are_finite_maps()
+    ensures found { PutIsFound }
+    ensures ordered { PutKeepsOrder }
+    ensures equal { MapsAreTheirAnswers }
+{}
+
+/// An integer of 28 bits is kept by its readings without and with a sign.
+pub fn integers_survive()
+    ensures { IntegersSurvive }
+{}

@@ -1,0 +1,63 @@
+#!/usr/bin/env bash
+# The built program: what it prints, on which stream, and its status, for texts that it takes and refuses.
+set -uo pipefail
+top=$(cd "$(dirname "$0")/.." && pwd)
+work=$(mktemp -d)
+trap 'rm -rf "$work"' EXIT
+passed=0
+failed=0
+
+# answers NAME STATUS STANDARD-OUTPUT STANDARD-ERROR, with standard input in the file `in`
+answers() {
+  local status=0
+  "$top/run" < "$work/in" > "$work/out" 2> "$work/err" || status=$?
+  printf '%b' "$3" > "$work/want_out"
+  printf '%b' "$4" > "$work/want_err"
+  if [ "$status" = "$2" ] && cmp -s "$work/out" "$work/want_out" && cmp -s "$work/err" "$work/want_err"; then
+    passed=$((passed + 1))
+  else
+    failed=$((failed + 1))
+    echo "failed: $1 (status $status)"
+    head -c 400 "$work/out" "$work/err"
+  fi
+}
+
+# the 32 bytes that each file begins with
+header=2000da2714000000000002005265734202000000010400000000000000000000
+
+printf 'b{a{"x"}c{"yz"}}' > "$work/in"
+answers 'a flat table' 0 "${header}0600005007000000090000000f0000000f00000002000000000000000f0000006100630000007800000079007a00000002002000220001000300aaaa\n" ''
+printf ' b { // no entries\r\n } ' > "$work/in"
+answers 'an empty table' 0 "${header}00000020070000000800000009000000090000000000000000000000090000000000aaaa\n" ''
+printf '\377' > "$work/in"
+answers 'a byte that is no text' 1 '' 'input is not UTF-8\n'
+printf '' > "$work/in"
+answers 'the empty text' 1 '' 'Parse error while reading text bundle:\nat byte 0: expected a string\n'
+printf 'b{}/*' > "$work/in"
+answers 'an open comment' 1 '' 'Parse error while reading text bundle:\nat byte 3: expected the end of the text\n'
+printf 'b{"x"}' > "$work/in"
+answers 'a key alone' 1 '' "Parse error while reading text bundle:\nat byte 5: expected '{'\n"
+printf 'b{k{aaaaaaaaaaaaaaaaaaaaaaaaaaaaaaaaaaaaaaaaa}}' > "$work/in"
+answers 'a string that is not written yet' 1 '' 'Unexpected error: not written yet\n'
+
+# a standard output that takes nothing
+status=0
+printf 'b{}' | "$top/run" > /dev/full 2> "$work/err" || status=$?
+if [ "$status" = 2 ] && [ "$(cat "$work/err")" = 'cannot write standard output' ]; then
+  passed=$((passed + 1))
+else
+  failed=$((failed + 1))
+  echo "failed: a full output (status $status)"
+fi
+# a standard input that can't be read
+status=0
+"$top/run" < "$work" > "$work/out" 2> "$work/err" || status=$?
+if [ "$status" = 2 ] && [ "$(cat "$work/err")" = 'cannot read standard input' ]; then
+  passed=$((passed + 1))
+else
+  failed=$((failed + 1))
+  echo "failed: an unreadable input (status $status)"
+fi
+
+echo "commands: $passed passed, $failed failed"
+[ "$failed" = 0 ]

@@ -12,3 +12,6 @@ mod string_block;
 
 pub use error::BinarySerializerError;
 pub use serializer::Serializer;
+
+#[cfg(test)]
+mod tests;

@@ -14,3 +14,5 @@ pub mod File
 pub mod KeyBlock
 pub mod PlainSize
 pub mod Unique
+pub mod Error
+pub mod Codes

@@ -16,3 +16,4 @@ pub mod PlainSize
 pub mod Unique
 pub mod Error
 pub mod Codes
+pub mod Descriptor

@@ -2,7 +2,9 @@
 //! No loop here goes over a whole file: reading and writing are in the crates above.
 #![tactic(auto)]
 
+mod bytes;
 mod charset;
+mod descriptor;
 mod endianness;
 mod error;
 mod laws;
@@ -10,6 +12,7 @@ mod repr_type;
 mod version;
 
 pub use charset::CharsetFamily;
+pub use descriptor::ResDescriptor;
 pub use endianness::Endianness;
 pub use error::{BinaryDeserializerError, ErrorKind};
 pub use laws::{one_tree, reached_is_counted};

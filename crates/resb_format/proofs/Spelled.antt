@@ -70,3 +70,7 @@ units_take (a ∷ []) (suc n) =
 units_take (a ∷ b ∷ bs) (suc n) =
     let e : 2 * suc n ≡ suc (suc (2 * n)) = omega arith in
     rw e (ap (λ us. (a + 256 * b) ∷ us) (units_take bs n))
+
+-- the units of the bytes of n units from the ith on
+pub units_part : (bs : List ℕ) (i n : ℕ) → units_of (take (2 * n) (drop (2 * i) bs)) ≡ take n (drop i (units_of bs))
+units_part bs i n = units_take (drop (2 * i) bs) n ∙ ap (take n) (units_drop bs i)

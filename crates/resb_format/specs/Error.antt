@@ -23,6 +23,10 @@ IsInvalid e message = IsRefusal e InvalidData message
 abbrev pub IsWantOfMemory : BinaryDeserializerError → Type 0
 IsWantOfMemory e = IsRefusal e OutOfMemory (codes "while reading")
 
+-- bytes that are no whole number of items
+abbrev pub IsWrongLength : BinaryDeserializerError → Type 0
+IsWrongLength e = IsRefusal e Unknown (codes "Wrong length")
+
 -- what a kind prints
 abbrev pub description_of : ErrorKind → List ℕ
 description_of InvalidData = codes "Invalid resource bundle data"

@@ -17,3 +17,5 @@ pub mod Unique
 pub mod Error
 pub mod Codes
 pub mod Descriptor
+pub mod Views
+pub mod StringFaults

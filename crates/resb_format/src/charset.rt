@@ -34,9 +34,7 @@ impl TryFrom<u8> for CharsetFamily {
         match value {
             0 => Ok(CharsetFamily::Ascii),
             1 => Ok(CharsetFamily::Ebcdic),
-            _ => Err(BinaryDeserializerError::invalid_data(
-                "unrecognized value for CharsetFamily",
-            )),
+            _ => Err(BinaryDeserializerError::invalid_data("unrecognized value for CharsetFamily")),
         }
     }
 }

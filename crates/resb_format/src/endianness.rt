@@ -34,9 +34,7 @@ impl TryFrom<u8> for Endianness {
         match value {
             0 => Ok(Endianness::Little),
             1 => Ok(Endianness::Big),
-            _ => Err(BinaryDeserializerError::invalid_data(
-                "unrecognized value for Endianness",
-            )),
+            _ => Err(BinaryDeserializerError::invalid_data("unrecognized value for Endianness")),
         }
     }
 }

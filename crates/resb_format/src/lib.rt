@@ -3,14 +3,21 @@
 #![tactic(auto)]
 
 mod bytes;
+mod casts;
 mod charset;
 mod descriptor;
 mod endianness;
 mod error;
 mod laws;
 mod repr_type;
+mod units;
 mod version;
+mod views;
 
+pub use casts::{
+    cast_bytes_to_u16_slice, cast_bytes_to_u32_slice, cast_u32_to_i32_pair_slice,
+    cast_u32_to_i32_slice,
+};
 pub use charset::CharsetFamily;
 pub use descriptor::ResDescriptor;
 pub use endianness::Endianness;
@@ -18,4 +25,6 @@ pub use error::{BinaryDeserializerError, ErrorKind};
 pub use laws::{one_tree, reached_is_counted};
 pub use repr_type::ResourceReprType;
 pub use resb_tree::{Int28, Key, NoMemory, Resource, ResourceBundle, Table};
+pub use units::{marker_units, string_at};
 pub use version::FormatVersion;
+pub use views::{I32Pair, I32View, PairView, Utf16View, WordView};

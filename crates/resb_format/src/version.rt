@@ -55,9 +55,7 @@ impl TryFrom<&[u8]> for FormatVersion {
             [1, 3, 0, 0] => Ok(FormatVersion::V1_3),
             [2, 0, 0, 0] => Ok(FormatVersion::V2_0),
             [3, 0, 0, 0] => Ok(FormatVersion::V3_0),
-            _ => Err(BinaryDeserializerError::invalid_data(
-                "unrecognized format version",
-            )),
+            _ => Err(BinaryDeserializerError::invalid_data("unrecognized format version")),
         }
     }
 }

@@ -25,6 +25,6 @@ pub use error::{BinaryDeserializerError, ErrorKind};
 pub use laws::{one_tree, reached_is_counted};
 pub use repr_type::ResourceReprType;
 pub use resb_tree::{Int28, Key, NoMemory, Resource, ResourceBundle, Table};
-pub use units::{marker_units, string_at};
+pub use units::{is_unmarked, marker_units, string_at};
 pub use version::FormatVersion;
 pub use views::{I32Pair, I32View, PairView, Utf16View, WordView};

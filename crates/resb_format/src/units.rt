@@ -1,6 +1,6 @@
 //! Strings in the 16-bit block: where one stands, and what marks its length.
 //! How strings share records of the block is the business of the writer.
-ghost use Rattle.std.specs.Prelude.{◌≡◌, ◌+◌, ◌-◌, ◌/◌, ◌<◌, ◌≤◌, ◌==◌, length, take, drop, slice_index, Some, None, MatchResult, codes};
+ghost use Rattle.std.specs.Prelude.{◌≡◌, ◌+◌, ◌-◌, ◌/◌, ◌<◌, ◌≤◌, ◌==◌, length, take, drop, slice_index, nat_le, Some, None, MatchResult, codes};
 ghost use Rattle.std.specs.List.{position_or_len};
 ghost use Rattle.resb_format.specs.Bytes.{units_of, part};
 ghost use Rattle.resb_format.specs.Error.{IsInvalid};
@@ -137,4 +137,26 @@ pub fn marker_units(n: usize) -> usize
         0x3ef..=0xf_ffff => 2,
         _ => 3,
     }
+}
+
+/// Whether a text stands without a marker: it has at most 40 units, and no U+0000.
+pub fn is_unmarked(text: &str) -> bool
+    ensures { result ≡ text_units.is_unmarked text.now }
+{
+    has_at_most(text, MAX_UNMARKED) && !text.as_bytes().contains(&0)
+}
+
+/// Whether a text has at most so many units. No more of it is looked at than tells.
+fn has_at_most(text: &str, most: usize) -> bool
+    ensures { result ≡ nat_le (length (text_units.units text.now)) most }
+{
+    let mut left = most;
+    for c in text.chars() {
+        let taken = c.len_utf16();
+        if taken > left {
+            return false;
+        }
+        left -= taken;
+    }
+    true
 }

@@ -1,3 +1,4 @@
 pub mod Spelled
 pub mod StringsIn
 pub mod TextUnits
+pub mod HeadSteps

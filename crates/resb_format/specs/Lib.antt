@@ -19,3 +19,5 @@ pub mod Codes
 pub mod Descriptor
 pub mod Views
 pub mod StringFaults
+pub mod HeadChecks
+pub mod Head

@@ -1,7 +1,8 @@
 //! Little-endian numbers among bytes. No other module indexes bytes.
 //! Where a number stands is the business of the module that asks for it.
-ghost use Rattle.std.specs.Prelude.{◌≡◌, ◌/◌, ◌<◌, length, slice_index};
+ghost use Rattle.std.specs.Prelude.{◌≡◌, ◌+◌, ◌/◌, ◌<◌, ◌≤◌, length, slice_index, slice_range};
 ghost use Rattle.resb_format.specs.Bytes.{units_of, words_of};
+ghost use Rattle.resb_format.specs.HeadChecks as checks;
 
 /// The 16-bit unit with this number.
 #[tactic(auto, using(crate::proofs::Spelled::units_at))]
@@ -25,4 +26,37 @@ pub(crate) fn word_at(bytes: &[u8], number: usize) -> u32
         bytes[place + 2],
         bytes[place + 3],
     ])
+}
+
+/// The byte at this place.
+pub(crate) fn byte_at(bytes: &[u8], place: usize) -> u8
+    requires { place < length bytes.now }
+    ensures { result ≡ slice_index bytes.now place }
+{
+    bytes[place]
+}
+
+/// The four bytes from this place on.
+pub(crate) fn four_at(bytes: &[u8], place: usize) -> [u8; 4]
+    requires { place + 4 ≤ length bytes.now }
+    ensures { result ≡ slice_range bytes.now place (place + 4) }
+{
+    [
+        bytes[place],
+        bytes[place + 1],
+        bytes[place + 2],
+        bytes[place + 3],
+    ]
+}
+
+/// The 16-bit unit with this number, in big-endian order where `is_big` says so.
+pub(crate) fn unit_in(bytes: &[u8], number: usize, is_big: bool) -> u16
+    requires { number < length bytes.now / 2 }
+    ensures { result ≡ checks.unit_in is_big bytes.now number }
+{
+    if is_big {
+        u16::from_be_bytes([bytes[2 * number], bytes[2 * number + 1]])
+    } else {
+        unit_at(bytes, number)
+    }
 }

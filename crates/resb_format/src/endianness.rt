@@ -1,6 +1,6 @@
 //! The order of bytes that a file names.
 //! The numbers of a file are read in `bytes`.
-ghost use Rattle.std.specs.Prelude.{◌≡◌, ◌<◌, MatchResult, codes};
+ghost use Rattle.std.specs.Prelude.{◌≡◌, ◌<◌, nat_eq, MatchResult, codes};
 ghost use Rattle.resb_format.specs.Codes.{endianness_number};
 ghost use Rattle.resb_format.specs.Error.{IsInvalid};
 
@@ -13,6 +13,18 @@ pub enum Endianness {
     Little = 0,
     /// The highest byte first.
     Big = 1,
+}
+
+impl Endianness {
+    /// Whether the highest byte comes first.
+    pub(crate) fn is_big(self) -> bool
+        ensures { result ≡ nat_eq (endianness_number self) 1 }
+    {
+        match self {
+            Endianness::Little => false,
+            Endianness::Big => true,
+        }
+    }
 }
 
 impl From<Endianness> for u8 {

@@ -48,7 +48,7 @@ no_version bs h = rw (
   same_false (version_bytes V1_2) bs (h V1_2),
   same_false (version_bytes V1_3) bs (h V1_3),
   same_false (version_bytes V2_0) bs (h V2_0),
-  same_false (version_bytes V3_0) bs (h V3_0)
+  same_false (version_bytes V3_0) bs (h V3_0),
 ) refl
 
 pub endianness_small : (x : Endianness) → endianness_number x ≤ 1

@@ -2,3 +2,4 @@ pub mod Spelled
 pub mod StringsIn
 pub mod TextUnits
 pub mod HeadSteps
+pub mod HeaderSteps

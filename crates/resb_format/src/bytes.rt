@@ -36,6 +36,14 @@ pub(crate) fn byte_at(bytes: &[u8], place: usize) -> u8
     bytes[place]
 }
 
+/// The two bytes from this place on.
+pub(crate) fn two_at(bytes: &[u8], place: usize) -> [u8; 2]
+    requires { place + 2 ≤ length bytes.now }
+    ensures { result ≡ slice_range bytes.now place (place + 2) }
+{
+    [bytes[place], bytes[place + 1]]
+}
+
 /// The four bytes from this place on.
 pub(crate) fn four_at(bytes: &[u8], place: usize) -> [u8; 4]
     requires { place + 4 ≤ length bytes.now }

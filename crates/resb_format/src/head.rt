@@ -4,11 +4,14 @@ ghost use Rattle.std.specs.Prelude.{◌≡◌, true, false, Some, None, MatchRes
 ghost use Rattle.resb_format.specs.Head.{HeaderAt, header_bytes};
 ghost use Rattle.resb_format.specs.HeadChecks.{header_fault, fault_of};
 
-use crate::bytes::{byte_at, unit_in};
+use crate::bytes::{two_at, unit_in};
 use crate::error::BinaryDeserializerError;
 use crate::repr_info::BinReprInfo;
 use resb_tree::NoMemory;
 use std::alloc::Global;
+
+/// What stands behind the size in each file that ICU reads.
+const MAGIC: [u8; 2] = [0xda, 0x27];
 
 /// The first 24 bytes of a file. (ICU's `ucmndata.h`: `DataHeader`.)
 #[derive(Clone, Copy, Debug)]
@@ -37,12 +40,10 @@ impl BinHeader {
                 "input is too short to contain file header",
             ));
         }
-        let (front, info) = bytes.split_at(4);
-        if front[2] != 0xda || front[3] != 0x27 {
-            return Err(BinaryDeserializerError::invalid_data(
-                "magic word does not match",
-            ));
+        if two_at(bytes, 2) != MAGIC {
+            return Err(BinaryDeserializerError::invalid_data("magic word does not match"));
         }
+        let (_, info) = bytes.split_at(4);
         let repr_info = BinReprInfo::read(info, any_order)?;
         let size = unit_in(bytes, 0, repr_info.endianness.is_big());
         if size < 24 {
@@ -59,7 +60,7 @@ impl BinHeader {
     {
         let mut bytes = Vec::with_capacity(alloc, 24)?;
         bytes.extend_from_slice(&self.size.to_le_bytes())?;
-        bytes.extend_from_slice(&[0xda, 0x27])?;
+        bytes.extend_from_slice(&MAGIC)?;
         self.repr_info.append_to(&mut bytes)?;
         Ok(bytes)
     }

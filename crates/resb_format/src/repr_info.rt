@@ -43,10 +43,8 @@ impl BinReprInfo {
         any_order: bool,
     ) -> Result<BinReprInfo, BinaryDeserializerError>
         requires { 20 ≤ length bytes.now }
-        ensures {
-            let fault = first_fault (info_checks any_order bytes.now) in
-            MatchResult result (λ i. (fault ≡ None) × InfoAt i bytes.now) (λ e. fault ≡ Some (fault_of e))
-        }
+        ensures { let fault = first_fault (info_checks any_order bytes.now) in
+            MatchResult result (λ i. (fault ≡ None) × InfoAt i bytes.now) (λ e. fault ≡ Some (fault_of e)) }
     {
         let endianness = Endianness::try_from(byte_at(bytes, 4))?;
         let is_big = endianness.is_big();
@@ -58,9 +56,7 @@ impl BinReprInfo {
         let charset_family = CharsetFamily::try_from(byte_at(bytes, 5))?;
         let data_format = four_at(bytes, 8);
         if data_format != *b"ResB" {
-            return Err(BinaryDeserializerError::invalid_data(
-                "unexpected data format value",
-            ));
+            return Err(BinaryDeserializerError::invalid_data("unexpected data format value"));
         }
         let format_version = FormatVersion::try_from(four_at(bytes, 12).as_slice())?;
         Ok(BinReprInfo {

@@ -74,15 +74,17 @@ returns c =
     let m : charset_number c.in_ok-charset_family.charset_family ≡ get_or bs 5 0 = c.in_ok-charset_family.ensures ∙ c.byte_at-2.ensures in
     let f : Families c.args.any_order bs = record { order = o; charset = le_true (get_or bs 5 0) 1 (subst (λ k. k ≤ 1) m (charset_small c.in_ok-charset_family.charset_family)) } in
     let g : Formats c.args.any_order bs = record { families = f; format = affirmed c.ne.result (bytes_eq (slice_range bs 8 12) (codes "ResB")) (c.ne.ensures ∙ ap (λ xs. not (bytes_eq xs (codes "ResB"))) c.four_at-data_format.ensures) c.if-ne.false } in
-    let v : version_bytes c.in_ok-format_version.format_version ≡ slice_range bs 12 16 = c.in_ok-format_version.ensures ∙ c.as_slice.ensures ∙ c.four_at.ensures in
-    (all_hold c.args.any_order bs c.in_ok-format_version.format_version g v, record {
-      size = c.unit_in.ensures ∙ ap (λ t. unit_in t bs 0) b;
-      reserved_word = c.unit_in-2.ensures ∙ ap (λ t. unit_in t bs 1) b;
-      endianness = n;
-      charset_family = m;
-      size_of_char = c.byte_at-3.ensures;
-      reserved_byte = c.byte_at-4.ensures;
-      data_format = c.four_at-data_format.ensures;
-      format_version = v;
-      data_version = c.four_at-2.ensures;
-    })
+    let v : version_bytes c.in_ok-format_version.format_version ≡ slice_range bs 12 16 = c.in_ok-format_version.ensures ∙ c.as_slice.ensures ∙ c.four_at.ensures in (
+      all_hold c.args.any_order bs c.in_ok-format_version.format_version g v,
+      record {
+        size = c.unit_in.ensures ∙ ap (λ t. unit_in t bs 0) b;
+        reserved_word = c.unit_in-2.ensures ∙ ap (λ t. unit_in t bs 1) b;
+        endianness = n;
+        charset_family = m;
+        size_of_char = c.byte_at-3.ensures;
+        reserved_byte = c.byte_at-4.ensures;
+        data_format = c.four_at-data_format.ensures;
+        format_version = v;
+        data_version = c.four_at-2.ensures;
+      },
+    )

@@ -3,3 +3,4 @@ pub mod StringsIn
 pub mod TextUnits
 pub mod HeadSteps
 pub mod HeaderSteps
+pub mod IndexSteps

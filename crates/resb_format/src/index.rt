@@ -3,7 +3,9 @@
 ghost use Rattle.std.specs.Prelude.{◌≡◌, ◌≤◌, nat_le};
 ghost use Rattle.std.specs.Option.{is_some};
 
+use crate::bytes::word_at;
 use crate::error::BinaryDeserializerError;
+use crate::index_fields::{append_field, append_word, field};
 use resb_tree::NoMemory;
 use std::alloc::Global;
 
@@ -32,4 +34,60 @@ pub struct BinIndex {
     pub ghost attributes_there: { is_some bundle_attributes ≡ nat_le 6 field_count },
     pub ghost end_there: { is_some data_16_bit_end ≡ nat_le 7 field_count },
     pub ghost checksum_there: { is_some pool_checksum ≡ nat_le 8 field_count },
+}
+
+impl BinIndex {
+    ghost use Rattle.std.specs.Prelude.{◌≡◌, IfOk};
+    ghost use Rattle.resb_format.specs.Head.{index_bytes};
+
+    /// The words of the index, up to 8, in little-endian order.
+    pub fn to_bytes(&self, alloc: Global) -> Result<Vec<u8>, NoMemory>
+        ensures { IfOk result (λ bytes. bytes.items ≡ index_bytes self.now) }
+    {
+        let mut bytes = Vec::with_capacity(alloc, 32)?;
+        append_word(&mut bytes, self.field_count)?;
+        append_word(&mut bytes, self.keys_end)?;
+        append_word(&mut bytes, self.resources_end)?;
+        append_word(&mut bytes, self.bundle_end)?;
+        append_word(&mut bytes, self.largest_table_entry_count)?;
+        append_field(&mut bytes, self.bundle_attributes)?;
+        append_field(&mut bytes, self.data_16_bit_end)?;
+        append_field(&mut bytes, self.pool_checksum)?;
+        Ok(bytes)
+    }
+}
+
+/// The words at the front of these bytes: those that the count asks for, up to 8.
+/// Bytes behind them are left alone.
+impl TryFrom<&[u8]> for BinIndex {
+    ghost use Rattle.std.specs.Prelude.{◌≡◌, Some, None, MatchResult};
+    ghost use Rattle.resb_format.specs.Head.{IndexAt};
+    ghost use Rattle.resb_format.specs.HeadChecks.{index_fault, fault_of};
+
+    type Error = BinaryDeserializerError;
+
+    ghost try_from_gives = { λ bytes r. MatchResult r (λ i. (index_fault bytes.now ≡ None) × IndexAt i bytes.now) (λ e. index_fault bytes.now ≡ Some (fault_of e)) };
+
+    fn try_from(bytes: &[u8]) -> Result<BinIndex, BinaryDeserializerError> {
+        if bytes.len() < 4 {
+            return Err(BinaryDeserializerError::invalid_data("unexpected end of input"));
+        }
+        let field_count = word_at(bytes, 0);
+        if field_count < 5 {
+            return Err(BinaryDeserializerError::invalid_data("invalid index field count"));
+        }
+        if bytes.len() < 4 * field_count.min(8) as usize {
+            return Err(BinaryDeserializerError::invalid_data("unexpected end of input"));
+        }
+        Ok(BinIndex {
+            field_count,
+            keys_end: word_at(bytes, 1),
+            resources_end: word_at(bytes, 2),
+            bundle_end: word_at(bytes, 3),
+            largest_table_entry_count: word_at(bytes, 4),
+            bundle_attributes: field(bytes, field_count, 5),
+            data_16_bit_end: field(bytes, field_count, 6),
+            pool_checksum: field(bytes, field_count, 7),
+        })
+    }
 }

@@ -10,6 +10,7 @@ mod endianness;
 mod error;
 mod head;
 mod index;
+mod index_fields;
 mod laws;
 mod repr_info;
 mod repr_type;

@@ -4,3 +4,6 @@ pub mod TextUnits
 pub mod HeadSteps
 pub mod HeaderSteps
 pub mod IndexSteps
+pub mod Apart
+pub mod Survival
+pub mod Passing

@@ -53,13 +53,16 @@ unfoldable pub info_fault : List ℕ → Option Fault
 info_fault bytes = first_fault ((nat_le 20 (length bytes), invalid (codes "input is too short to contain representation info")) ∷ info_checks false bytes)
 
 -- the size is the header's first unit; the byte of the order is its ninth
-unfoldable pub header_fault : Bool → List ℕ → Option Fault
-header_fault any bytes = first_fault (
+unfoldable pub header_checks : Bool → List ℕ → List (Bool × Fault)
+header_checks any bytes =
     (nat_le 24 (length bytes), invalid (codes "input is too short to contain file header"))
     ∷ (bytes_eq (slice_range bytes 2 4) (0xda ∷ 0x27 ∷ []), invalid (codes "magic word does not match"))
     ∷ info_checks any (drop 4 bytes)
     ++ (nat_le 24 (unit_in (nat_eq (slice_index bytes 8) 1) bytes 0), invalid (codes "header size specified in file is smaller than expected"))
-    ∷ [])
+    ∷ []
+
+unfoldable pub header_fault : Bool → List ℕ → Option Fault
+header_fault any bytes = first_fault (header_checks any bytes)
 
 unfoldable pub index_fault : List ℕ → Option Fault
 index_fault bytes =

@@ -21,3 +21,7 @@ pub mod Views
 pub mod StringFaults
 pub mod HeadChecks
 pub mod Head
+pub mod CodeReading
+pub mod DescriptorReading
+pub mod HeadReading
+pub mod CodecLaws

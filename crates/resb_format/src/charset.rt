@@ -1,8 +1,8 @@
 //! The family of character sets that a file names.
 //! Keys are read as UTF-8 by the reader, whatever the family.
-ghost use Rattle.std.specs.Prelude.{◌≡◌, ◌<◌, MatchResult, codes};
+ghost use Rattle.std.specs.Prelude.{◌≡◌};
 ghost use Rattle.resb_format.specs.Codes.{charset_number};
-ghost use Rattle.resb_format.specs.Error.{IsInvalid};
+ghost use Rattle.resb_format.specs.CodeReading.{ReadsCharset};
 
 use crate::error::BinaryDeserializerError;
 
@@ -27,8 +27,7 @@ impl From<CharsetFamily> for u8 {
 impl TryFrom<u8> for CharsetFamily {
     type Error = BinaryDeserializerError;
 
-    ghost try_from_gives = { λ n r. MatchResult r (λ f. charset_number f ≡ n)
-        (λ e. (1 < n) × IsInvalid e (codes "unrecognized value for CharsetFamily")) };
+    ghost try_from_gives = { ReadsCharset };
 
     fn try_from(value: u8) -> Result<CharsetFamily, BinaryDeserializerError> {
         match value {

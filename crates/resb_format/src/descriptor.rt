@@ -74,14 +74,11 @@ impl From<ResDescriptor> for u32 {
 
 /// Upper 4 bits that name no type are refused.
 impl TryFrom<u32> for ResDescriptor {
-    ghost use Rattle.std.specs.Prelude.{◌≡◌, ◌≢◌, ◌<◌, ◌/◌, ◌^◌, MatchResult, codes};
-    ghost use Rattle.resb_format.specs.Descriptor.{word_of};
-    ghost use Rattle.resb_format.specs.Error.{IsInvalid};
+    ghost use Rattle.resb_format.specs.DescriptorReading.{ReadsDescriptor};
 
     type Error = BinaryDeserializerError;
 
-    ghost try_from_gives = { λ w r. MatchResult r (λ d. word_of d ≡ w)
-        (λ e. (9 < w / 2 ^ 28) × (w / 2 ^ 28 ≢ 14) × IsInvalid e (codes "unrecognized value for ResourceReprType")) };
+    ghost try_from_gives = { ReadsDescriptor };
 
     fn try_from(word: u32) -> Result<ResDescriptor, BinaryDeserializerError> {
         let resource_type = ResourceReprType::try_from((word / 0x1000_0000) as u16)?;

@@ -1,8 +1,8 @@
 //! The order of bytes that a file names.
 //! The numbers of a file are read in `bytes`.
-ghost use Rattle.std.specs.Prelude.{◌≡◌, ◌<◌, nat_eq, MatchResult, codes};
+ghost use Rattle.std.specs.Prelude.{◌≡◌, nat_eq};
 ghost use Rattle.resb_format.specs.Codes.{endianness_number};
-ghost use Rattle.resb_format.specs.Error.{IsInvalid};
+ghost use Rattle.resb_format.specs.CodeReading.{ReadsEndianness};
 
 use crate::error::BinaryDeserializerError;
 
@@ -39,8 +39,7 @@ impl From<Endianness> for u8 {
 impl TryFrom<u8> for Endianness {
     type Error = BinaryDeserializerError;
 
-    ghost try_from_gives = { λ n r. MatchResult r (λ e. endianness_number e ≡ n)
-        (λ e. (1 < n) × IsInvalid e (codes "unrecognized value for Endianness")) };
+    ghost try_from_gives = { ReadsEndianness };
 
     fn try_from(value: u8) -> Result<Endianness, BinaryDeserializerError> {
         match value {

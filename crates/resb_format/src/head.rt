@@ -1,8 +1,8 @@
 //! The header of a file: its size, the magic word and the representation info.
 //! Where the header's size leads is not looked at here.
-ghost use Rattle.std.specs.Prelude.{◌≡◌, true, false, Some, None, MatchResult, IfOk};
-ghost use Rattle.resb_format.specs.Head.{HeaderAt, header_bytes};
-ghost use Rattle.resb_format.specs.HeadChecks.{header_fault, fault_of};
+ghost use Rattle.std.specs.Prelude.{◌≡◌, true, false, IfOk};
+ghost use Rattle.resb_format.specs.Head.{header_bytes};
+ghost use Rattle.resb_format.specs.HeadReading.{ReadsHeader};
 
 use crate::bytes::{two_at, unit_in};
 use crate::error::BinaryDeserializerError;
@@ -26,14 +26,14 @@ impl BinHeader {
     /// The header, with its numbers in the order of bytes that it names itself.
     /// Refused as by `try_from`, but for the order of bytes.
     pub fn read_any_order(bytes: &[u8]) -> Result<BinHeader, BinaryDeserializerError>
-        ensures { MatchResult result (λ h. (header_fault true bytes.now ≡ None) × HeaderAt h bytes.now) (λ e. header_fault true bytes.now ≡ Some (fault_of e)) }
+        ensures { ReadsHeader true bytes.now result }
     {
         BinHeader::read(bytes, true)
     }
 
     /// The header, which may name a foreign order of bytes only where `any_order` says so.
     fn read(bytes: &[u8], any_order: bool) -> Result<BinHeader, BinaryDeserializerError>
-        ensures { MatchResult result (λ h. (header_fault any_order bytes.now ≡ None) × HeaderAt h bytes.now) (λ e. header_fault any_order bytes.now ≡ Some (fault_of e)) }
+        ensures { ReadsHeader any_order bytes.now result }
     {
         if bytes.len() < 24 {
             return Err(BinaryDeserializerError::invalid_data(
@@ -70,7 +70,7 @@ impl BinHeader {
 impl TryFrom<&[u8]> for BinHeader {
     type Error = BinaryDeserializerError;
 
-    ghost try_from_gives = { λ bytes r. MatchResult r (λ h. (header_fault false bytes.now ≡ None) × HeaderAt h bytes.now) (λ e. header_fault false bytes.now ≡ Some (fault_of e)) };
+    ghost try_from_gives = { λ bytes r. ReadsHeader false bytes.now r };
 
     fn try_from(bytes: &[u8]) -> Result<BinHeader, BinaryDeserializerError> {
         BinHeader::read(bytes, false)

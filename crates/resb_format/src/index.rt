@@ -60,13 +60,11 @@ impl BinIndex {
 /// The words at the front of these bytes: those that the count asks for, up to 8.
 /// Bytes behind them are left alone.
 impl TryFrom<&[u8]> for BinIndex {
-    ghost use Rattle.std.specs.Prelude.{◌≡◌, Some, None, MatchResult};
-    ghost use Rattle.resb_format.specs.Head.{IndexAt};
-    ghost use Rattle.resb_format.specs.HeadChecks.{index_fault, fault_of};
+    ghost use Rattle.resb_format.specs.HeadReading.{ReadsIndex};
 
     type Error = BinaryDeserializerError;
 
-    ghost try_from_gives = { λ bytes r. MatchResult r (λ i. (index_fault bytes.now ≡ None) × IndexAt i bytes.now) (λ e. index_fault bytes.now ≡ Some (fault_of e)) };
+    ghost try_from_gives = { λ bytes r. ReadsIndex bytes.now r };
 
     fn try_from(bytes: &[u8]) -> Result<BinIndex, BinaryDeserializerError> {
         if bytes.len() < 4 {

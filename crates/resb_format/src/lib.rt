@@ -5,6 +5,7 @@
 mod bytes;
 mod casts;
 mod charset;
+mod codec_laws;
 mod descriptor;
 mod endianness;
 mod error;
@@ -23,6 +24,10 @@ pub use casts::{
     cast_u32_to_i32_slice,
 };
 pub use charset::CharsetFamily;
+pub use codec_laws::{
+    bundle_file_passes, charset_survives, descriptor_survives, endianness_survives, header_passes,
+    type_survives, version_survives,
+};
 pub use descriptor::ResDescriptor;
 pub use endianness::Endianness;
 pub use error::{BinaryDeserializerError, ErrorKind};

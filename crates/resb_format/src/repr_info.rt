@@ -2,7 +2,8 @@
 //! Which formats and versions are read beyond these checks is decided by the reader.
 ghost use Rattle.std.specs.Prelude.{◌≡◌, ◌≤◌, ◌++◌, length, false, Some, None, MatchResult, OnOk, IfOk};
 ghost use Rattle.resb_format.specs.Head.{InfoAt, info_bytes};
-ghost use Rattle.resb_format.specs.HeadChecks.{info_checks, first_fault, info_fault, fault_of};
+ghost use Rattle.resb_format.specs.HeadChecks.{info_checks, first_fault, fault_of};
+ghost use Rattle.resb_format.specs.HeadReading.{ReadsInfo};
 
 use crate::bytes::{byte_at, four_at, unit_in};
 use crate::charset::CharsetFamily;
@@ -105,7 +106,7 @@ impl BinReprInfo {
 impl TryFrom<&[u8]> for BinReprInfo {
     type Error = BinaryDeserializerError;
 
-    ghost try_from_gives = { λ bytes r. MatchResult r (λ i. (info_fault bytes.now ≡ None) × InfoAt i bytes.now) (λ e. info_fault bytes.now ≡ Some (fault_of e)) };
+    ghost try_from_gives = { λ bytes r. ReadsInfo bytes.now r };
 
     fn try_from(bytes: &[u8]) -> Result<BinReprInfo, BinaryDeserializerError> {
         if bytes.len() < 20 {

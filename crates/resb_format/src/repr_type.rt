@@ -1,8 +1,8 @@
 //! The types that a descriptor may name.
 //! What stands at a descriptor of each type is said in the specs, and read by the reader.
-ghost use Rattle.std.specs.Prelude.{◌≡◌, ◌≢◌, ◌<◌, MatchResult, codes};
+ghost use Rattle.std.specs.Prelude.{◌≡◌};
 ghost use Rattle.resb_format.specs.Codes.{type_number};
-ghost use Rattle.resb_format.specs.Error.{IsInvalid};
+ghost use Rattle.resb_format.specs.CodeReading.{ReadsType};
 
 use crate::error::BinaryDeserializerError;
 
@@ -45,8 +45,7 @@ impl From<ResourceReprType> for u16 {
 impl TryFrom<u16> for ResourceReprType {
     type Error = BinaryDeserializerError;
 
-    ghost try_from_gives = { λ n r. MatchResult r (λ t. type_number t ≡ n)
-        (λ e. (9 < n) × (n ≢ 14) × IsInvalid e (codes "unrecognized value for ResourceReprType")) };
+    ghost try_from_gives = { ReadsType };
 
     fn try_from(value: u16) -> Result<ResourceReprType, BinaryDeserializerError> {
         match value {

@@ -1,8 +1,8 @@
 //! The versions of the format that have been written.
 //! Which of them is read is decided by the reader.
-ghost use Rattle.std.specs.Prelude.{◌≡◌, ◌≢◌, MatchResult, codes};
+ghost use Rattle.std.specs.Prelude.{◌≡◌};
 ghost use Rattle.resb_format.specs.Codes.{version_bytes};
-ghost use Rattle.resb_format.specs.Error.{IsInvalid};
+ghost use Rattle.resb_format.specs.CodeReading.{ReadsVersion};
 
 use crate::error::BinaryDeserializerError;
 
@@ -44,8 +44,7 @@ impl From<FormatVersion> for [u8; 4] {
 impl TryFrom<&[u8]> for FormatVersion {
     type Error = BinaryDeserializerError;
 
-    ghost try_from_gives = { λ bytes r. MatchResult r (λ v. version_bytes v ≡ bytes.now)
-        (λ e. ((v : _) → version_bytes v ≢ bytes.now) × IsInvalid e (codes "unrecognized format version")) };
+    ghost try_from_gives = { λ bytes r. ReadsVersion bytes.now r };
 
     fn try_from(bytes: &[u8]) -> Result<FormatVersion, BinaryDeserializerError> {
         match bytes {

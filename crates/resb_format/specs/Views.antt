@@ -1,10 +1,10 @@
 -- What a view shows: its bytes, and the units or words that they spell.
 use Rattle.std.specs.Prelude.{ℕ, List}
 use Rattle.resb_format.specs.Bytes.{units_of, words_of}
-use Rattle.resb_format.specs.declared.views.Utf16View.{Utf16View}
-use Rattle.resb_format.specs.declared.views.WordView.{WordView}
-use Rattle.resb_format.specs.declared.views.I32View.{I32View}
-use Rattle.resb_format.specs.declared.views.PairView.{PairView}
+use Rattle.resb_format.specs.declared.views.utf16.Utf16View.{Utf16View}
+use Rattle.resb_format.specs.declared.views.words.WordView.{WordView}
+use Rattle.resb_format.specs.declared.views.numbers.I32View.{I32View}
+use Rattle.resb_format.specs.declared.views.pairs.PairView.{PairView}
 
 abbrev pub unit_bytes : Utf16View → List ℕ
 unit_bytes v = v.bytes.now

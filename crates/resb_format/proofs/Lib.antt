@@ -7,3 +7,6 @@ pub mod IndexSteps
 pub mod Apart
 pub mod Survival
 pub mod Passing
+pub mod WordsBack
+pub mod IndexSurvival
+pub mod HeaderSurvival

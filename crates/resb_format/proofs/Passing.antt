@@ -46,7 +46,7 @@ unfolding info_checks
 tested any bs t = rw (t.known, t.own, t.charset, t.format, t.version) refl
 
 -- parts of what stands behind the first four bytes
-behind : (bs : List ℕ) (i j : ℕ) → slice_range (drop 4 bs) i j ≡ take (j - i) (drop (4 + i) bs)
+pub behind : (bs : List ℕ) (i j : ℕ) → slice_range (drop 4 bs) i j ≡ take (j - i) (drop (4 + i) bs)
 behind bs i j = ap (take (j - i)) (drop-drop i 4 bs)
 
 passes : (any : Bool) (bs : List ℕ) → header_fault any bs ≡ None → IsHeader any bs

@@ -3,9 +3,7 @@
 --     HeaderSurvives              a header that was read is read back from the bytes that it is written as
 --     IndexSurvives               so is any index, and the words that were read are written unchanged
 --     BundleFilePasses            the head of a bundle file passes the checks of header and index
-use Rattle.std.specs.Prelude.{◌≡◌, ℕ, ◌*◌, ◌^◌, ◌<◌, ◌≤◌, min, List, [], ◌∷◌, length, take, drop, Bool, true, false, nat_lt, nat_eq, Ok, None, Result, slice_index, slice_range, codes}
-use Rattle.std.specs.List.{list_all}
-use Rattle.std.specs.Bool.{IsTrue}
+use Rattle.std.specs.Prelude.{◌≡◌, ℕ, ◌*◌, ◌^◌, ◌<◌, ◌≤◌, min, List, [], ◌∷◌, length, take, drop, Bool, true, false, nat_eq, Ok, None, Result, slice_index, slice_range, codes}
 use Rattle.resb_format.specs.Parts.{IsBundleFile, body_of}
 use Rattle.resb_format.specs.Head.{header_bytes, index_bytes, index_words}
 use Rattle.resb_format.specs.HeadChecks.{header_fault, index_fault, is_version, unit_in}
@@ -18,9 +16,10 @@ pub record Survives {A B : Type 0} (write : A → B) (reads : B → Result A Bin
   pub read_back : (x : A) (r : Result A BinaryDeserializerError) → reads (write x) r → r ≡ Ok x
   pub written_back : (b : B) (x : A) → reads b (Ok x) → write x ≡ b
 
--- every number is below 2 ^ n
+-- each number is below 2 ^ n
 abbrev pub EachFits : ℕ → List ℕ → Type 0
-EachFits n xs = IsTrue (list_all (λ x. nat_lt x (2 ^ n)) xs)
+EachFits n [] = Unit {0}
+EachFits n (x ∷ xs) = (x < 2 ^ n) × EachFits n xs
 
 abbrev pub HeaderSurvives : Type 0
 HeaderSurvives = (bytes : List ℕ) (h : BinHeader) (r : Result BinHeader BinaryDeserializerError) → EachFits 8 bytes → ReadsHeader false bytes (Ok h) → ReadsHeader false (header_bytes h) r → r ≡ Ok h

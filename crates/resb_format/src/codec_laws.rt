@@ -4,7 +4,7 @@ ghost use Rattle.resb_format.specs.Codes.{endianness_number, charset_number, typ
 ghost use Rattle.resb_format.specs.CodeReading.{ReadsEndianness, ReadsCharset, ReadsType, ReadsVersion};
 ghost use Rattle.resb_format.specs.Descriptor.{word_of};
 ghost use Rattle.resb_format.specs.DescriptorReading.{ReadsDescriptor};
-ghost use Rattle.resb_format.specs.CodecLaws.{Survives, HeaderPasses, BundleFilePasses};
+ghost use Rattle.resb_format.specs.CodecLaws.{Survives, HeaderSurvives, IndexSurvives, HeaderPasses, BundleFilePasses};
 
 /// An order of bytes is read back from its number, and a number that is read is written unchanged.
 pub fn endianness_survives()
@@ -29,6 +29,17 @@ pub fn version_survives()
 /// A descriptor is read back from its word, and the other way round.
 pub fn descriptor_survives()
     ensures { Survives word_of ReadsDescriptor }
+{}
+
+/// A header that was read is read back from the bytes that it is written as.
+pub fn header_survives()
+    ensures { HeaderSurvives }
+{}
+
+/// An index is read back from the bytes that it is written as, and the words of an index
+/// that was read are written unchanged.
+pub fn index_survives()
+    ensures { IndexSurvives }
 {}
 
 /// The checks of a header let through exactly the headers that pass each.

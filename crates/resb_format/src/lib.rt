@@ -30,7 +30,7 @@ pub use casts::{
 pub use charset::CharsetFamily;
 pub use codec_laws::{
     bundle_file_passes, charset_survives, descriptor_survives, endianness_survives, header_passes,
-    type_survives, version_survives,
+    header_survives, index_survives, type_survives, version_survives,
 };
 pub use descriptor::ResDescriptor;
 pub use endianness::Endianness;

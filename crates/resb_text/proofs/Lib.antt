@@ -3,3 +3,4 @@ mod TokensLemmas
 mod Keys
 mod Moves
 mod Reading
+mod Examples

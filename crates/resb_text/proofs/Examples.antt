@@ -232,7 +232,7 @@ comma_examples : (t : Title) (around : List Frame) →
     (next (inside (record { title = t; frame = record { body = array_body; items = [] }; around = around })) a_comma ≡ None)
     × (next (inside (record { title = t; frame = record { body = array_body; items = items.flagged (items.word []) ∷ [] }; around = around })) a_comma ≡ None)
     × (next (inside (record { title = t; frame = record { body = array_body; items = items.plain (items.word []) ∷ [] }; around = around })) a_comma
-      ≡ Some (inside (record { title = t; frame = record { body = array_body; items = items.flagged (items.word []) ∷ [] }; around = around })))
+    ≡ Some (inside (record { title = t; frame = record { body = array_body; items = items.flagged (items.word []) ∷ [] }; around = around })))
     × (next (inside (record { title = t; frame = record { body = table_body; items = items.plain (items.group (string []) []) ∷ [] }; around = around })) a_comma ≡ None)
 comma_examples t around = (refl, refl, refl, refl)
 

@@ -1,16 +1,15 @@
 -- What is in the grammar is read to its end.
-use Rattle.std.proofs.Common.{◌≡◌, ℕ, suc, ◌+◌, ◌%◌, ◌^◌, Bool, true, false, List, [], ◌∷◌, ◌++◌, length, refl, sym, ◌∙◌, ap, subst, arith, Option, Some}
+use Rattle.std.proofs.Common.{◌≡◌, ℕ, ◌+◌, ◌%◌, ◌^◌, Bool, true, false, List, [], ◌∷◌, length, refl, ap, arith, Some}
 use Rattle.std.specs.Prelude.{slice_index}
 use Rattle.std.specs.Option.{option_map}
-use Rattle.std.proofs.lemmas.Bool.{false≢true}
 use Rattle.std.proofs.lemmas.Bool.Decides.{nat_tests}
 use Rattle.resb_tree.specs.Tree.{Tree, string, binary, integer, int_vector}
 use Rattle.resb_text.specs.Bytes.{is_digit}
-use Rattle.resb_text.specs.Tokens.{Skip, Text, Digits, Number, plain, plus, minus}
+use Rattle.resb_text.specs.Tokens.{Skip, Number, plain, plus, minus}
 use Rattle.resb_text.specs.Items as items
 use Rattle.resb_text.specs.Items.{Item, Member, flagged, is_pairs, shape_of, a_table, an_array, tree_in, keys_in}
-use Rattle.resb_text.specs.Types.{Kind, string_kind, array_kind, table_kind, binary_kind, integer_kind, vector_kind, GroupType, Head}
-use Rattle.resb_text.specs.Group.{hex_bytes, Numbers, first_number, next_number, Vector, empty, lone_comma, numbers, numbers_comma, Content, string_content, binary_content, integer_content, vector_content, Items, nothing, string_item, group_item, comma, Group, untyped, typed_table, typed_array, typed_leaf}
+use Rattle.resb_text.specs.Types.{Kind, array_kind, table_kind, Head}
+use Rattle.resb_text.specs.Group.{Numbers, first_number, next_number, Vector, empty, lone_comma, numbers, numbers_comma, Content, string_content, binary_content, integer_content, vector_content, Items, nothing, string_item, group_item, comma, Group, untyped, typed_table, typed_array, typed_leaf}
 use Rattle.resb_text.specs.BundleText.{BundleText}
 use Rattle.resb_text.specs.Machine as machine
 use Rattle.resb_text.specs.Machine.{Token, a_word, a_number, opening, closing, a_comma, a_type, Body, table_body, array_body, untyped_body, Frame, Title, Open, at_start, after_lone_comma, after_number, after_comma, State, inside, typed, in_string, in_binary, in_integer, filled, in_vector, finished, neither, is_key_place, is_number_start, when, unless, with_member, within, begun_as, leave, closed, next, Class, word_class, number_class, open_class, close_class, comma_class, type_class, class_in, At}

@@ -1,17 +1,17 @@
 -- Accepted and refused texts, by the definitions alone.
-use Rattle.std.proofs.Common.{◌≡◌, ◌≢◌, ℕ, zero, suc, ◌+◌, ◌-◌, ◌<◌, ◌≤◌, Bool, true, false, List, [], ◌∷◌, length, refl, sym, subst, ap, ◌∙◌, arith, inl, inr, Some, None, lit≤}
+use Rattle.std.proofs.Common.{◌≡◌, ◌≢◌, ℕ, zero, suc, ◌+◌, ◌<◌, ◌≤◌, Bool, true, false, List, [], ◌∷◌, length, refl, sym, subst, ◌∙◌, arith, inl, inr, Some, None, lit≤}
 use Rattle.std.specs.Prelude.{◌&&◌, ◌==◌, not, slice_index, slice_range, codes}
 use Rattle.std.proofs.lemmas.Bool.{false≢true}
 use Rattle.std.proofs.lemmas.Bool.Decides.{nat_tests}
-use Rattle.resb_tree.specs.Tree.{Tree, string, array, table, binary, integer, int_vector, trees_of, map_of}
-use Rattle.resb_text.specs.Bytes.{is_white, is_word, is_digit, Run, FirstQuote}
-use Rattle.resb_text.specs.Tokens.{Comment, line, block, LineRest, FirstCloser, Blanks, none, white, comment, IsSolid, Skip, Text, quoted, word, Digits, Number, plain, plus, minus}
+use Rattle.resb_tree.specs.Tree.{Tree, string, array, table, binary, integer, trees_of, map_of}
+use Rattle.resb_text.specs.Bytes.{is_white, is_word, is_digit, Run}
+use Rattle.resb_text.specs.Tokens.{Comment, line, block, none, comment, Skip, Text, quoted, word, Number, plain, plus, minus}
 use Rattle.resb_text.specs.Items as items
-use Rattle.resb_text.specs.Types.{Kind, string_kind, array_kind, table_kind, binary_kind, integer_kind, vector_kind, TypeWord, GroupType, Head, RootType, no_fallback_type}
-use Rattle.resb_text.specs.Group.{hex_bytes, Numbers, first_number, Vector, lone_comma, numbers, numbers_comma, Content, Items, nothing, string_item, group_item, comma, Group, untyped, typed_leaf}
-use Rattle.resb_text.specs.BundleText.{first_places, Typing, without, with, Header, BundleText}
-use Rattle.resb_text.specs.Machine.{Token, a_word, a_number, opening, closing, a_comma, a_type, a_root_type, table_body, array_body, untyped_body, Frame, Title, Open, at_start, after_lone_comma, after_number, after_comma, State, start, named, titled, inside, typed, in_string, in_binary, in_integer, filled, in_vector, finished, with_member, at_root, within, next, Move, At}
-use Rattle.resb_text.specs.Stuck.{expected, NoToken, IsBlocked, Stuck, blocked}
+use Rattle.resb_text.specs.Types.{string_kind, integer_kind, vector_kind, GroupType, RootType, no_fallback_type}
+use Rattle.resb_text.specs.Group.{hex_bytes, first_number, Vector, numbers_comma, nothing, string_item, group_item, Group, untyped}
+use Rattle.resb_text.specs.BundleText.{first_places, without, BundleText}
+use Rattle.resb_text.specs.Machine.{Token, a_word, a_number, opening, closing, a_comma, table_body, array_body, untyped_body, Frame, Title, Open, at_start, after_lone_comma, after_number, after_comma, start, named, titled, inside, typed, in_string, in_binary, in_integer, filled, in_vector, finished, with_member, at_root, within, next, At}
+use Rattle.resb_text.specs.Stuck.{expected, NoToken, Stuck, blocked}
 use Rattle.resb_text.specs.Entry.{in_root}
 use Rattle.resb_text.specs.declared.error.Expected.TheVariants as expect
 use Rattle.resb_text.proofs.BytesLemmas.{Run-one}

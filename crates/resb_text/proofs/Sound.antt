@@ -1,14 +1,14 @@
 -- What is read to its end is in the grammar.
-use Rattle.std.proofs.Common.{◌≡◌, ℕ, zero, suc, ◌+◌, ◌%◌, ◌^◌, Bool, true, false, List, [], ◌∷◌, ◌++◌, length, refl, sym, ◌∙◌, ap, subst, arith, Option, Some, None}
+use Rattle.std.proofs.Common.{◌≡◌, ℕ, zero, suc, ◌+◌, Bool, true, false, List, [], ◌∷◌, ◌++◌, length, refl, sym, ◌∙◌, ap, subst, Option, Some, None}
 use Rattle.std.specs.Prelude.{slice_index, IfSome}
 use Rattle.std.specs.Option.{option_map}
-use Rattle.resb_tree.specs.Tree.{Tree, string, table, binary, integer, int_vector}
+use Rattle.resb_tree.specs.Tree.{Tree, binary, int_vector}
 use Rattle.resb_text.specs.Tokens.{Skip, Text, Number}
 use Rattle.resb_text.specs.Items as items
 use Rattle.resb_text.specs.Items.{Item, Member, flagged, is_pairs, a_table, tree_in, keys_in}
 use Rattle.resb_text.specs.Types.{Kind, string_kind, array_kind, table_kind, binary_kind, integer_kind, vector_kind, GroupType, Head, RootType}
 use Rattle.resb_text.specs.Group.{hex_bytes, Numbers, first_number, next_number, Vector, empty, lone_comma, numbers, numbers_comma, Content, string_content, binary_content, integer_content, vector_content, Items, nothing, string_item, group_item, comma, Group, untyped, typed_table, typed_array, typed_leaf}
-use Rattle.resb_text.specs.BundleText.{first_places, Typing, without, with, Header, BundleText}
+use Rattle.resb_text.specs.BundleText.{first_places, without, with, Header, BundleText}
 use Rattle.resb_text.specs.Machine as machine
 use Rattle.resb_text.specs.Machine.{Token, a_word, a_number, opening, closing, a_comma, a_type, a_root_type, Body, table_body, array_body, untyped_body, Frame, Title, Open, Place, at_start, after_lone_comma, after_number, after_comma, State, start, named, titled, inside, typed, in_string, in_binary, in_integer, filled, in_vector, finished, is_key_place, when, unless, leave, closed, with_member, within, begun_as, next_in_vector, in_body, next, Move, Step, Path, begun, went, At}
 use Rattle.resb_text.proofs.Half.{half, pairs-half, group-half}

@@ -1,0 +1,25 @@
+-- A turn keeps the next key where the set has it.
+use Rattle.std.proofs.Common.{◌≡◌, ◌+◌, List, ℕ, ◌∷◌, ◌++◌, drop, filter, sym, ◌∙◌, ap, arith}
+use Rattle.std.proofs.lemmas.List.{drop_more}
+use Rattle.resb_write.specs.Places.{nows, holds}
+use Rattle.resb_write.proofs.Keys.{filter_keeps, filter_leaves}
+use Rattle.resb_write.proofs.key_block.used_keys.Goals as goal
+use Rattle.resb_write.proofs.key_block.used_keys.Goals.{then-contains+in_ok-push, else-contains}
+
+pub loop-key-preserved : goal.loop-key-preserved
+loop-key-preserved c =
+    let xs = c.args.keys.now in
+    let i = c.loop-key.key-index in
+    let x = c.key-item.result in
+    let p = λ (k : List ℕ). holds c.args.set.now k in
+    let old = c.loop-key.used.items in
+    let text = c.as_str-text.result in
+    let rest = drop (i + 1) xs in
+    let e : drop i xs ≡ x ∷ rest = drop_more xs i x (omega arith) ∙ ap (λ y. y ∷ rest) (sym c.key-item.is) in
+    let end : nows old ++ filter p (x ∷ rest) ≡ filter p xs = ap (λ l. nows old ++ filter p l) (sym e) ∙ c.loop-key.invariant in
+    elim c.if-contains.branch [
+      | then-contains+in_ok-push w ↦
+          (filter_keeps p old c.if-contains.used.items text rest x (ap (λ v. v.items) w.used-is ∙ w.in_ok-push.ensures.items) c.as_str-text.ensures (sym c.contains.ensures ∙ w.if-contains.true) ∙ end)
+      | else-contains w ↦
+          (filter_leaves p old c.if-contains.used.items text rest x (ap (λ v. v.items) w.used-is) c.as_str-text.ensures (sym c.contains.ensures ∙ w.if-contains.false) ∙ end)
+    ]

@@ -1,0 +1,14 @@
+-- The fault that an error shows.
+use Rattle.resb_write.specs.Fault.{Fault, string_too_long, unexpected, limit, out_of_memory}
+use Rattle.resb_write.specs.declared.error.Kind.{Kind}
+use Rattle.resb_write.specs.declared.error.Kind.TheVariants.{StringTooLong, Unexpected, Limit, OutOfMemory}
+use Rattle.resb_write.specs.declared.error.BinarySerializerError.{BinarySerializerError}
+
+abbrev pub kind_fault : Kind → Fault
+kind_fault (StringTooLong n) = string_too_long n
+kind_fault (Unexpected message) = unexpected message.now
+kind_fault (Limit message) = limit message.now
+kind_fault OutOfMemory = out_of_memory
+
+abbrev pub fault_of : BinarySerializerError → Fault
+fault_of e = kind_fault e.kind

@@ -1,0 +1,24 @@
+-- The words of the contracts: why a file isn't written, which trees are laid out so far, and what a written file is.
+pub use Rattle.resb_format.specs.Tree
+pub use Rattle.resb_format.specs.View
+pub use Rattle.resb_format.specs.Bundle
+pub use Rattle.resb_format.specs.Maps
+pub use Rattle.resb_format.specs.Int28
+pub use Rattle.resb_format.specs.Bytes
+pub use Rattle.resb_format.specs.Units
+pub use Rattle.resb_format.specs.Strings
+pub use Rattle.resb_format.specs.Parts
+pub use Rattle.resb_format.specs.Content
+pub use Rattle.resb_format.specs.Denotes
+pub use Rattle.resb_format.specs.File
+pub use Rattle.resb_format.specs.KeyBlock
+pub use Rattle.resb_format.specs.PlainSize
+pub mod Fault
+pub mod FaultOf
+pub mod Flat
+pub mod Refused
+pub mod Written
+pub mod Entries
+pub mod Places
+pub mod Block
+pub mod Layout

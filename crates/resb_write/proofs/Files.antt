@@ -13,11 +13,11 @@ use Rattle.resb_write.specs.Entries.{Pair, keys_in, texts_table, IsTableOf}
 use Rattle.resb_write.specs.Places.{IsKeyPlan}
 use Rattle.resb_write.specs.Block.{records, table_body, block, table_word}
 use Rattle.resb_write.specs.Layout.{head_words, file_of}
-use Rattle.resb_write.specs.Refused.{AreListed, HaveNoNul, Refused, no_memory, unlisted_key, key_with_nul, far_key, too_large, not_covered, CanBeWritten}
+use Rattle.resb_write.specs.Refused.{AreListed, HaveNoNul, HasFarKey, Refused, no_memory, unlisted_key, key_with_nul, far_key, too_large, not_covered, CanBeWritten}
 use Rattle.resb_write.specs.Written.{Written}
 use Rattle.resb_write.proofs.Numbers.{Below, length-word_bytes}
 use Rattle.std.proofs.lemmas.Bool.{leb-true, leb-false}
-use Rattle.resb_write.proofs.KeyFaults.{listed, have_no_nul}
+use Rattle.resb_write.proofs.KeyFaults.{listed, have_no_nul, no_far_key}
 use Rattle.resb_write.proofs.Heads as heads
 use Rattle.std.proofs.lemmas.List.{length-map}
 use Rattle.resb_format.specs.Parts.{Parts}
@@ -30,7 +30,7 @@ only_memory t ks f no_memory w = refl
 only_memory t ks f (unlisted_key h) w = absurd (h.unlisted (w.listed h.key h.used))
 only_memory t ks f (key_with_nul l h) w = absurd (let no : ⊥ = cc (h.nul, w.no_nul h.key h.used) in no)
 only_memory t ks f (far_key l z h) w = absurd (w.near h)
-only_memory t ks f (too_large l z h) w = absurd (omega (arith, h, w.small))
+only_memory t ks f (too_large l z h) w = absurd (omega (arith, h.large, w.small))
 only_memory t ks f (not_covered h) w = absurd (h w.covered)
 
 pub plain_size_of : (t : Tree) (es : List Pair) (n : ℕ) (ks : List (List ℕ)) → IsTableOf t es n → plain_size t ks ≡ sum_by (λ k. length k + 1) ks + (16 + 20 * length es + n)
@@ -139,7 +139,8 @@ module _ (t : Tree) (es : List Pair) (n len : ℕ) (ks us : List (List ℕ)) (ps
       let h = leb-true (2 ^ 28) (sum_by (λ k. length k + 1) ks + (16 + 20 * len + n)) e in
       let l : AreListed t ks = subst (λ u. AreListed u ks) (sym of.is) (listed es ks us plan.used_only (λ m. 32 + m) ps plan.last) in
       let z : HaveNoNul t = subst HaveNoNul (sym of.is) (have_no_nul es plan.no_nul) in
-      too_large l z (omega (arith, h, counted, plain_size_of t es n ks of))
+      let f : HasFarKey t ks → ⊥ = subst (λ u. HasFarKey u ks → ⊥) (sym of.is) (no_far_key es ks us plan.used_only ps plan.last plan.near) in
+      too_large l z (record { near = f; large = omega (arith, h, counted, plain_size_of t es n ks of) })
 
   pub small_for : nat_le (2 ^ 28) (sum_by (λ k. length k + 1) ks + (16 + 20 * len + n)) ≡ false → sum_by (λ k. length k + 1) ks + (16 + 20 * length es + n) < 2 ^ 28
   small_for e =

@@ -124,6 +124,16 @@ module _ (es : List Pair) (ks us : List (List ℕ)) (all_used : us ≡ used (tex
         far = omega (arith, ltb-true 2147483647 m.0 m.2, n.2);
       }
 
+  pub no_far_key : (ps : List ℕ) → map Some ps ≡ map (λ k. option_map (λ n. 32 + n) (last_of k us)) (keys_in es) → list_any (λ p. nat_lt 2147483647 p) ps ≡ false
+      → HasFarKey (texts_table es) ks → ⊥
+  no_far_key ps e near h =
+      let a = answer_of (λ k. option_map (λ n. 32 + n) (last_of k us)) ps (keys_in es) h.key e (key_contained es h.key h.used) in
+      let n = mapped_some (λ m. 32 + m) (last_of h.key us) a.0 a.1 in
+      let found : Some n.0 ≡ Some h.place = sym n.1 ∙ ap (last_of h.key) all_used ∙ h.last in
+      let place : n.0 ≡ h.place = cc in
+      let low = ltb-false 2147483647 a.0 (none_member (λ p. nat_lt 2147483647 p) ps a.0 near a.2) in
+      omega (arith, low, n.2, place, h.far)
+
   pub not_near : (ps : List ℕ) → map Some ps ≡ map (λ k. last_position k us) (keys_in es) → Any (λ p. 65535 < p) ps → IsCovered (texts_table es) ks → ⊥
   not_near ps e (i, p, lt, is, over) c =
       let a = asked_of (λ k. last_position k us) ps (keys_in es) p e (i, lt, is) in

@@ -9,3 +9,4 @@ pub mod Heads
 pub mod Tables
 pub mod Sizes
 pub mod Files
+pub mod Least

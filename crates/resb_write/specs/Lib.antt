@@ -22,3 +22,4 @@ pub mod Entries
 pub mod Places
 pub mod Block
 pub mod Layout
+pub mod Records

@@ -2,7 +2,7 @@
 --     holds s q               whether a set has the text q
 --     place_in m q            what a map has at the text q
 --     position_of n           the position of the place n, or the greatest number
-use Rattle.std.specs.Prelude.{◌≡◌, ℕ, ◌+◌, ◌-◌, ◌^◌, min, List, map, Bool, false, Option, Some, option_map}
+use Rattle.std.specs.Prelude.{◌≡◌, ℕ, ◌+◌, ◌-◌, ◌^◌, min, List, map, Bool, false, nat_lt, Option, Some, option_map}
 use Rattle.std.specs.Borrow.{Bor}
 use Rattle.std.specs.BTreeMap.{BTreeMap, get_by}
 use Rattle.std.specs.BTreeSet.{BTreeSet, contains_by}
@@ -30,8 +30,13 @@ position_of n = min (32 + n) (2 ^ 64 - 1)
 abbrev pub last_position : List ℕ → List (List ℕ) → Option ℕ
 last_position q ks = option_map position_of (last_of q ks)
 
+-- the positions ps of the keys of the entries es, each the last among the keys us
+abbrev pub AreLastPositions : List Pair → List (List ℕ) → List ℕ → Type 0
+AreLastPositions es us ps = map Some ps ≡ map (λ k. option_map (λ n. 32 + n) (last_of k us)) (keys_in es)
+
 -- the used keys of a list, and the positions of the keys of the entries es
 pub record IsKeyPlan (es : List Pair) (ks used_keys : List (List ℕ)) (positions : List ℕ) : Type 0 where
   pub used_only : used_keys ≡ used (texts_table es) ks
-  pub last : map Some positions ≡ map (λ k. option_map (λ n. 32 + n) (last_of k used_keys)) (keys_in es)
+  pub last : AreLastPositions es used_keys positions
   pub no_nul : list_any has_nul (keys_in es) ≡ false
+  pub near : list_any (λ p. nat_lt 2147483647 p) positions ≡ false

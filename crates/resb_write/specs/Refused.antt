@@ -39,13 +39,18 @@ pub record HasFarKey (t : Tree) (ks : List (List ℕ)) : Type 0 where
   pub last : last_place t key ks ≡ Some place
   pub far : 2147483647 < 32 + place
 
--- each fault with its reason; the key faults come in this order
+-- the plain size is too large, and no key is too far
+pub record IsTooLarge (t : Tree) (ks : List (List ℕ)) : Type 0 where
+  pub near : HasFarKey t ks → ⊥
+  pub large : 2 ^ 28 ≤ plain_size t ks
+
+-- each fault with its reason; those of keys, and then the size, are answered in this order
 pub data Refused (t : Tree) (ks : List (List ℕ)) : Fault → Type 0 where
   no_memory : Refused t ks out_of_memory
   unlisted_key : HasUnlistedKey t ks → Refused t ks (unexpected (codes "key not present in position map"))
   key_with_nul : AreListed t ks → HasKeyWithNul t → Refused t ks (unexpected (codes "key contains U+0000"))
   far_key : AreListed t ks → HaveNoNul t → HasFarKey t ks → Refused t ks (limit (codes "key position over 2147483647"))
-  too_large : AreListed t ks → HaveNoNul t → 2 ^ 28 ≤ plain_size t ks → Refused t ks (limit (codes "file too large"))
+  too_large : AreListed t ks → HaveNoNul t → IsTooLarge t ks → Refused t ks (limit (codes "file too large"))
   not_covered : (IsCovered t ks → ⊥) → Refused t ks (unexpected (codes "not written yet"))
 
 pub record CanBeWritten (t : Tree) (ks : List (List ℕ)) : Type 0 where

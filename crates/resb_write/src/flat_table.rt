@@ -1,12 +1,12 @@
 //! Collects the entries of a root that is a table of unmarked strings; every other root is refused.
 //! Nothing is laid out here.
-ghost use Rattle.std.specs.Prelude.{◌≡◌, ◌⊎◌, ℕ, List, IfOk, IfErr, IfSome, IfNone, true, false, length, codes};
+ghost use Rattle.std.specs.Prelude.{◌≡◌, ℕ, List, IfOk, IfErr, IfSome, IfNone, false, length, codes};
 ghost use Rattle.resb_tree.specs.Tree.{string, table as table_of};
 ghost use Rattle.resb_tree.specs.View.{tree_of, entries_view};
 ghost use Rattle.resb_format.specs.Units.{units as units_of, is_unmarked as is_unmarked_text};
 ghost use Rattle.resb_write.specs.Entries.{pairs, IsText, IsTableOf};
-ghost use Rattle.resb_write.specs.Fault.{out_of_memory, unexpected};
-ghost use Rattle.resb_write.specs.FaultOf.{fault_of};
+ghost use Rattle.resb_write.specs.Fault.{unexpected};
+ghost use Rattle.resb_write.specs.FaultOf.{fault_of, IsMemoryOr};
 ghost use Rattle.resb_write.specs.Flat.{is_unmarked_string, IsCovered};
 
 use crate::entries::{Entry, FlatTable};
@@ -70,9 +70,10 @@ fn table_entries<'a>(
     alloc: Global,
     table: &'a Table<'_>,
 ) -> Result<FlatTable<'a>, BinarySerializerError>
-    ensures ok { IfOk result (λ f. IsTableOf (table_of (entries_view table.now.entries)) (pairs f.entries.items) f.unit_count) }
-    ensures err { IfErr result (λ e. (fault_of e ≡ out_of_memory) ⊎ ((fault_of e ≡ unexpected (codes "not written yet"))
-        × ((ks : List (List ℕ)) → IsCovered (table_of (entries_view table.now.entries)) ks → ⊥))) }
+    ensures ok { IfOk result (λ f. IsTableOf (table_of (entries_view table.now.entries))
+        (pairs f.entries.items) f.unit_count) }
+    ensures err { IfErr result (λ e. IsMemoryOr e (codes "not written yet")
+        ((ks : List (List ℕ)) → IsCovered (table_of (entries_view table.now.entries)) ks → ⊥)) }
 {
     let mut entries = Vec::new(alloc);
     let mut unit_count = 0;
@@ -92,14 +93,16 @@ fn table_entries<'a>(
     })
 }
 
-/// The entries of a root that is a table of unmarked strings, whose units with a 0 each are at most 65535.
+/// The entries of a root that is a table of unmarked strings, which have at most 65535 units with a
+/// 0 each.
 pub(crate) fn flat_table<'a>(
     alloc: Global,
     root: &'a Resource<'_>,
 ) -> Result<FlatTable<'a>, BinarySerializerError>
-    ensures ok { IfOk result (λ f. IsTableOf (tree_of root.now) (pairs f.entries.items) f.unit_count) }
-    ensures err { IfErr result (λ e. (fault_of e ≡ out_of_memory) ⊎ ((fault_of e ≡ unexpected (codes "not written yet"))
-        × ((ks : List (List ℕ)) → IsCovered (tree_of root.now) ks → ⊥))) }
+    ensures ok { IfOk result (λ f. IsTableOf (tree_of root.now)
+        (pairs f.entries.items) f.unit_count) }
+    ensures err { IfErr result (λ e. IsMemoryOr e (codes "not written yet")
+        ((ks : List (List ℕ)) → IsCovered (tree_of root.now) ks → ⊥)) }
 {
     match root {
         Resource::Table(table) => table_entries(alloc, table),

@@ -1,12 +1,13 @@
 //! The key block: which listed keys are used, where each stands, and their bytes.
 //! The faults of keys are found here, in the order in which they are answered.
-ghost use Rattle.std.specs.Prelude.{◌≡◌, ◌≢◌, ◌⊎◌, ◌↔◌, ◌++◌, ◌≤◌, ◌<◌, ◌+◌, ◌%◌, ◌/◌, ◌^◌, ℕ, option_map, List, Option, Some, None, map, filter, MatchBool, IsTrue, true, false, IfOk, IfErr, OnOk, Contains, Any, All, codes, length, nat_lt};
+ghost use Rattle.std.specs.Prelude.{◌≡◌, ◌++◌, ◌<◌, ◌+◌, ◌%◌, ◌/◌, ◌^◌, ℕ, List, map, filter};
+ghost use Rattle.std.specs.Prelude.{Some, None, false, IfOk, IfErr, OnOk, Any, codes, length, nat_lt};
 ghost use Rattle.std.specs.List.{list_any};
-ghost use Rattle.resb_format.specs.KeyBlock.{is_key, used as used_of, key_bytes, last_of, padded};
+ghost use Rattle.resb_format.specs.KeyBlock.{is_key, used as used_of, key_bytes, padded};
 ghost use Rattle.resb_write.specs.Entries.{pairs, keys_in, texts_table};
-ghost use Rattle.resb_write.specs.Fault.{out_of_memory, unexpected};
-ghost use Rattle.resb_write.specs.FaultOf.{fault_of};
-ghost use Rattle.resb_write.specs.Places.{nows, holds, place_in, last_position, IsKeyPlan};
+ghost use Rattle.resb_write.specs.FaultOf.{fault_of, IsMemoryOr};
+ghost use Rattle.resb_write.specs.Places.{nows, holds, place_in, last_position};
+ghost use Rattle.resb_write.specs.Places.{AreLastPositions, IsKeyPlan};
 ghost use Rattle.resb_write.specs.Refused.{has_nul, Refused};
 
 use crate::entries::Entry;
@@ -30,8 +31,10 @@ impl<'a> KeyPlan<'a> {
         entries: &[Entry<'a>],
         keys: &'a [Key<'_>],
     ) -> Result<KeyPlan<'a>, BinarySerializerError>
-        ensures ok { IfOk result (λ p. IsKeyPlan (pairs entries.now) keys.now (nows p.used.items) p.positions.items) }
-        ensures err { IfErr result (λ e. Refused (texts_table (pairs entries.now)) keys.now (fault_of e)) }
+        ensures ok { IfOk result (λ p. IsKeyPlan (pairs entries.now) keys.now
+            (nows p.used.items) p.positions.items) }
+        ensures err { IfErr result (λ e. Refused (texts_table (pairs entries.now)) keys.now
+            (fault_of e)) }
     {
         let set = key_set(alloc, entries)?;
         let used = used_keys(alloc, &set, keys)?;
@@ -51,7 +54,8 @@ impl<'a> KeyPlan<'a> {
     /// zero byte, padded with 0xaa to a word.
     pub(crate) fn append_to(&self, file: &mut Vec<u8>) -> Result<(), AllocError>
         requires { length file.old.items % 4 ≡ 0 }
-        ensures { OnOk result (file.new.items ≡ file.old.items ++ padded (key_bytes (nows self.now.used.items))) }
+        ensures { OnOk result (file.new.items
+            ≡ file.old.items ++ padded (key_bytes (nows self.now.used.items))) }
     {
         append_keys(file, &self.used)?;
         append_padding(file)
@@ -93,8 +97,10 @@ fn append_padding(file: &mut Vec<u8>) -> Result<(), AllocError>
     }
 }
 
+/// The keys of the entries.
 fn key_set<'a>(alloc: Global, entries: &[Entry<'a>]) -> Result<BTreeSet<&'a str>, AllocError>
-    ensures { IfOk result (λ s. (q : List ℕ) → holds s q ≡ is_key q (texts_table (pairs entries.now))) }
+    ensures { IfOk result (λ s. (q : List ℕ)
+        → holds s q ≡ is_key q (texts_table (pairs entries.now))) }
 {
     let mut keys = BTreeSet::new(alloc);
     for entry in entries {
@@ -143,9 +149,10 @@ fn positions_of<'a>(
     entries: &[Entry<'a>],
     places: &BTreeMap<&'a str, usize>,
 ) -> Result<Vec<usize>, BinarySerializerError>
-    ensures ok { IfOk result (λ v. map Some v.items ≡ map (place_in places.now) (keys_in (pairs entries.now))) }
-    ensures err { IfErr result (λ e. (fault_of e ≡ out_of_memory) ⊎ ((fault_of e ≡ unexpected (codes "key not present in position map"))
-        × Any (λ k. place_in places.now k ≡ None) (keys_in (pairs entries.now)))) }
+    ensures ok { IfOk result (λ v. map Some v.items
+        ≡ map (place_in places.now) (keys_in (pairs entries.now))) }
+    ensures err { IfErr result (λ e. IsMemoryOr e (codes "key not present in position map")
+        (Any (λ k. place_in places.now k ≡ None) (keys_in (pairs entries.now)))) }
 {
     let mut positions = Vec::with_capacity(alloc, entries.len())?;
     for entry in entries {
@@ -180,9 +187,11 @@ fn checked_positions<'a>(
     entries: &[Entry<'a>],
     used: &[&'a str],
 ) -> Result<Vec<u16>, BinarySerializerError>
-    ensures ok { IfOk result (λ v. map Some v.items ≡ map (λ k. option_map (λ n. 32 + n) (last_of k (nows used.now))) (keys_in (pairs entries.now))) }
+    ensures ok { IfOk result (λ v. AreLastPositions (pairs entries.now) (nows used.now) v.items) }
+    ensures near { IfOk result (λ v. list_any (λ p. nat_lt 2147483647 p) v.items ≡ false) }
     ensures no_nul { OnOk result (list_any has_nul (keys_in (pairs entries.now)) ≡ false) }
-    ensures err { IfErr result (λ e. (ks : List (List ℕ)) → nows used.now ≡ used_of (texts_table (pairs entries.now)) ks
+    ensures err { IfErr result (λ e. (ks : List (List ℕ))
+        → nows used.now ≡ used_of (texts_table (pairs entries.now)) ks
         → Refused (texts_table (pairs entries.now)) ks (fault_of e)) }
 {
     let places = last_positions(alloc, used)?;
@@ -199,8 +208,8 @@ fn checked_positions<'a>(
 /// The positions as 16-bit units.
 fn short_positions(alloc: Global, positions: &[usize]) -> Result<Vec<u16>, BinarySerializerError>
     ensures ok { IfOk result (λ v. v.items ≡ positions.now) }
-    ensures err { IfErr result (λ e. (fault_of e ≡ out_of_memory) ⊎ ((fault_of e ≡ unexpected (codes "not written yet"))
-        × Any (λ p. 65535 < p) positions.now)) }
+    ensures err { IfErr result (λ e. IsMemoryOr e (codes "not written yet")
+        (Any (λ p. 65535 < p) positions.now)) }
 {
     let mut units = Vec::with_capacity(alloc, positions.len())?;
     for position in positions {

@@ -14,7 +14,8 @@ const SIZE_LIMIT: usize = 0x1000_0000;
 pub(crate) fn is_too_large(string_count: usize, unit_count: usize, keys: &[Key<'_>]) -> bool
     requires strings { string_count ≤ 65535 }
     requires units { unit_count ≤ 65535 }
-    ensures { result ≡ nat_le (2 ^ 28) (sum_by (λ k. length k + 1) keys.now + (16 + 20 * string_count + unit_count)) }
+    ensures { result ≡ nat_le (2 ^ 28)
+        (sum_by (λ k. length k + 1) keys.now + (16 + 20 * string_count + unit_count)) }
 {
     let mut size = 16 + 20 * string_count + unit_count;
     for key in keys {

@@ -1,6 +1,6 @@
 //! Puts the file together: the header, the root's word and the index around the two blocks.
 //! What the blocks hold is said in `key_block` and `string_block`.
-ghost use Rattle.std.specs.Prelude.{◌≡◌, ◌+◌, ◌*◌, ◌++◌, ◌<◌, ◌≤◌, ◌^◌, ◌%◌, ◌/◌, length, IfOk, IfErr, OnOk};
+ghost use Rattle.std.specs.Prelude.{◌≡◌, ◌++◌, ◌<◌, ◌^◌, length, IfOk, IfErr, OnOk};
 ghost use Rattle.resb_format.specs.KeyBlock.{key_bytes, padded};
 ghost use Rattle.resb_write.specs.FaultOf.{fault_of};
 ghost use Rattle.resb_write.specs.Layout.{unit_bytes, word_bytes, file_of};
@@ -50,9 +50,12 @@ impl Serializer {
         bundle: &ResourceBundle<'_>,
         keys_in_discovery_order: &[Key<'_>],
     ) -> Result<Vec<u8>, BinarySerializerError>
-        ensures ok { IfOk result (λ v. Written v.items (root_of bundle.now) bundle.now.is_locale_fallback_enabled keys_in_discovery_order.now) }
-        ensures err { IfErr result (λ e. Refused (root_of bundle.now) keys_in_discovery_order.now (fault_of e)) }
-        ensures complete { IfErr result (λ e. CanBeWritten (root_of bundle.now) keys_in_discovery_order.now → fault_of e ≡ out_of_memory) }
+        ensures ok { IfOk result (λ v. Written v.items (root_of bundle.now)
+            bundle.now.is_locale_fallback_enabled keys_in_discovery_order.now) }
+        ensures err { IfErr result (λ e. Refused (root_of bundle.now)
+            keys_in_discovery_order.now (fault_of e)) }
+        ensures complete { IfErr result (λ e. CanBeWritten (root_of bundle.now)
+            keys_in_discovery_order.now → fault_of e ≡ out_of_memory) }
     {
         write(alloc, bundle, keys_in_discovery_order)
     }
@@ -65,7 +68,8 @@ fn write<'a>(
     bundle: &'a ResourceBundle<'_>,
     keys: &'a [Key<'_>],
 ) -> Result<Vec<u8>, BinarySerializerError>
-    ensures ok { IfOk result (λ v. Written v.items (root_of bundle.now) bundle.now.is_locale_fallback_enabled keys.now) }
+    ensures ok { IfOk result (λ v. Written v.items (root_of bundle.now)
+        bundle.now.is_locale_fallback_enabled keys.now) }
     ensures err { IfErr result (λ e. Refused (root_of bundle.now) keys.now (fault_of e)) }
 {
     let table = flat_table(alloc, bundle.root())?;
@@ -95,7 +99,8 @@ fn assemble(
 ) -> Result<Vec<u8>, AllocError>
     requires keys { length (key_bytes (nows plan.now.used.items)) < 2 ^ 28 }
     requires units { length block.now.units.items < 2 ^ 28 }
-    ensures { IfOk result (λ v. v.items ≡ file_of block.now.root largest_table is_locale_fallback_enabled
+    ensures { IfOk result (λ v. v.items
+        ≡ file_of block.now.root largest_table is_locale_fallback_enabled
         (padded (key_bytes (nows plan.now.used.items))) block.now.units.items) }
 {
     let keys_end = HEAD_WORDS + plan.word_count();

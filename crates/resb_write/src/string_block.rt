@@ -1,9 +1,11 @@
 //! The 16-bit block: the records of the strings, and the body of the table behind them.
 //! Texts aren't shared yet: each string has a record of its own.
-ghost use Rattle.std.specs.Prelude.{◌≡◌, ◌+◌, ◌++◌, ◌<◌, ◌≤◌, ◌^◌, ◌%◌, ◌∷◌, [], ℕ, length, slice_index, IfOk, OnOk};
+ghost use Rattle.std.specs.Prelude.{◌≡◌, ◌+◌, ◌++◌, ◌<◌, ◌≤◌, ◌^◌, ◌∷◌, ℕ, length};
+ghost use Rattle.std.specs.Prelude.{slice_index, IfOk, OnOk};
 ghost use Rattle.resb_format.specs.Units.{units as units_of};
 ghost use Rattle.resb_write.specs.Entries.{pairs, unit_count as units_in};
-ghost use Rattle.resb_write.specs.Block.{record_of, records, offset_at, offsets_from, table_body, even, block, table_word};
+ghost use Rattle.resb_write.specs.Block.{record_of, records, offset_at, offsets_from};
+ghost use Rattle.resb_write.specs.Block.{even, block, table_word};
 
 use crate::entries::Entry;
 use std::alloc::{AllocError, Global};
@@ -48,9 +50,12 @@ fn push_records(
     units: &mut Vec<u16>,
     entries: &[Entry<'_>],
 ) -> Result<Vec<u16>, AllocError>
-    requires { length units.old.items + (units_in (pairs entries.now) + length entries.now) ≤ 65536 }
-    ensures appends { OnOk result (units.new.items ≡ units.old.items ++ records (pairs entries.now)) }
-    ensures offsets { IfOk result (λ v. v.items ≡ offsets_from (length units.old.items) (pairs entries.now)) }
+    requires { length units.old.items + (units_in (pairs entries.now) + length entries.now)
+        ≤ 65536 }
+    ensures appends { OnOk result (units.new.items
+        ≡ units.old.items ++ records (pairs entries.now)) }
+    ensures offsets { IfOk result (λ v. v.items
+        ≡ offsets_from (length units.old.items) (pairs entries.now)) }
     ensures room { OnOk result (length units.new.items ≤ 65536) }
 {
     let mut offsets = Vec::with_capacity(alloc, entries.len())?;
@@ -64,7 +69,8 @@ fn push_records(
 /// Appends the body of a table: the count, the key positions and the offsets.
 fn push_table(units: &mut Vec<u16>, positions: &[u16], offsets: &[u16]) -> Result<(), AllocError>
     requires { length positions.now ≤ 65535 }
-    ensures { OnOk result (units.new.items ≡ units.old.items ++ length positions.now ∷ (positions.now ++ offsets.now)) }
+    ensures { OnOk result (units.new.items
+        ≡ units.old.items ++ length positions.now ∷ (positions.now ++ offsets.now)) }
 {
     units.push(positions.len() as u16)?;
     units.extend_from_slice(positions)?;

@@ -54,6 +54,12 @@ returns-clause-ok c =
     ap (list_any (λ p. nat_lt 2147483647 p)) (sym c.deref.ensures.value) ∙ sym c.has_far_position.ensures ∙ c.if-has_far_position.false in
     IfOk-weaker c.short_positions.result _ _ (λ v e. ap (map Some) (e ∙ c.deref-2.ensures.value) ∙ near_positions us (keys_in es) ps last near) c.short_positions.ensures.ok
 
+pub returns-clause-near : goal.returns-clause-near
+returns-clause-near c =
+    let near : list_any (λ p. nat_lt 2147483647 p) c.in_ok-positions.positions.items ≡ false =
+    ap (list_any (λ p. nat_lt 2147483647 p)) (sym c.deref.ensures.value) ∙ sym c.has_far_position.ensures ∙ c.if-has_far_position.false in
+    IfOk-weaker c.short_positions.result _ _ (λ v e. ap (list_any (λ p. nat_lt 2147483647 p)) (e ∙ c.deref-2.ensures.value) ∙ near) c.short_positions.ensures.ok
+
 pub returns-clause-no_nul : goal.returns-clause-no_nul
 returns-clause-no_nul c =
     IfOk-weaker c.short_positions.result _ _ (λ v e. no_nul_keys c.args.entries.now (sym c.has_nul_key.ensures ∙ c.if-has_nul_key.false)) c.short_positions.ensures.ok

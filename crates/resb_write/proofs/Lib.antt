@@ -10,3 +10,4 @@ pub mod Tables
 pub mod Sizes
 pub mod Files
 pub mod Least
+pub mod Examples

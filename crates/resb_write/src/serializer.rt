@@ -27,10 +27,8 @@ const HEADER: [u8; 32] = [
 /// How many words stand before the key block: the root's, and 7 of the index.
 const HEAD_WORDS: u32 = 8;
 
-/// Writes bundles. No value of this type can be made.
-pub struct Serializer {
-    _private: (),
-}
+/// Writes bundles as files. There are no values of this type.
+pub enum Serializer {}
 
 impl Serializer {
     ghost use Rattle.resb_tree.specs.Bundle.{root_of};

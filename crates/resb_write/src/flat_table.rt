@@ -33,6 +33,7 @@ fn is_unmarked(text: &str, unit_count: usize) -> bool
     unit_count <= 40 && !text.as_bytes().contains(&0)
 }
 
+/// The refusal of what is not laid out so far.
 fn not_written_yet() -> BinarySerializerError
     ensures { fault_of result ≡ unexpected (codes "not written yet") }
 {
@@ -53,6 +54,7 @@ fn entry<'a>(key: &'a Key<'_>, child: &'a Resource<'_>) -> Option<(Entry<'a>, us
     let text = text.as_str();
     let unit_count = utf16_len(text);
     if is_unmarked(text, unit_count) {
+        // The call shows that the key is UTF-8.
         let _ = key.as_bytes();
         Some((
             Entry {
@@ -66,6 +68,7 @@ fn entry<'a>(key: &'a Key<'_>, child: &'a Resource<'_>) -> Option<(Entry<'a>, us
     }
 }
 
+/// The entries of a table.
 fn table_entries<'a>(
     alloc: Global,
     table: &'a Table<'_>,
@@ -75,7 +78,7 @@ fn table_entries<'a>(
     ensures err { IfErr result (λ e. IsMemoryOr e (codes "not written yet")
         ((ks : List (List ℕ)) → IsCovered (table_of (entries_view table.now.entries)) ks → ⊥)) }
 {
-    let mut entries = Vec::new(alloc);
+    let mut entries = Vec::with_capacity(alloc, table.len().min(65535))?;
     let mut unit_count = 0;
     for (key, child) in table.iter() {
         let Some((entry, count)) = entry(key, child) else {

@@ -1,11 +1,13 @@
 //! Puts the file together: the header, the root's word and the index around the two blocks.
 //! What the blocks hold is said in `key_block` and `string_block`.
 ghost use Rattle.std.specs.Prelude.{◌≡◌, ◌++◌, ◌<◌, ◌^◌, length, IfOk, IfErr, OnOk};
+ghost use Rattle.resb_tree.specs.Bundle.{root_of};
 ghost use Rattle.resb_format.specs.KeyBlock.{key_bytes, padded};
+ghost use Rattle.resb_write.specs.Fault.{out_of_memory};
 ghost use Rattle.resb_write.specs.FaultOf.{fault_of};
 ghost use Rattle.resb_write.specs.Layout.{unit_bytes, word_bytes, file_of};
 ghost use Rattle.resb_write.specs.Places.{nows};
-ghost use Rattle.resb_write.specs.Refused.{Refused};
+ghost use Rattle.resb_write.specs.Refused.{Refused, CanBeWritten};
 ghost use Rattle.resb_write.specs.Written.{Written};
 
 use crate::error::BinarySerializerError;
@@ -31,10 +33,6 @@ const HEAD_WORDS: u32 = 8;
 pub enum Serializer {}
 
 impl Serializer {
-    ghost use Rattle.resb_tree.specs.Bundle.{root_of};
-    ghost use Rattle.resb_write.specs.Fault.{out_of_memory};
-    ghost use Rattle.resb_write.specs.Refused.{CanBeWritten};
-
     /// The `.res` file of a bundle: a header of 32 bytes, the root's word, an index of 7 fields,
     /// the key block, the 16-bit block. Its keys stand in the order of `keys_in_discovery_order`,
     /// those that no table uses left out.
@@ -59,8 +57,7 @@ impl Serializer {
     }
 }
 
-ghost use Rattle.resb_tree.specs.Bundle.{root_of};
-
+/// The refusals in their order, and then the file.
 fn write<'a>(
     alloc: Global,
     bundle: &'a ResourceBundle<'_>,

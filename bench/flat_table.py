@@ -1,8 +1,8 @@
 #!/usr/bin/env python3
 """Writes the text of a bundle whose root is a flat table, of about so many bytes: flat_table.py BYTES [DISTINCT].
 
-Keys are k0, k1, ..; strings have 24 letters. From DISTINCT keys on (2000 where none is given) the keys begin anew,
-so that later entries replace earlier ones: the files of this stage hold at most 65535 units of strings.
+Keys have 18 letters, strings 24. From DISTINCT keys on (2600 where none is given) the keys begin anew, so that later
+entries replace earlier ones: the files of this stage hold at most 65535 units of strings.
 """
 import sys
 
@@ -11,7 +11,7 @@ def entries(size, distinct):
     written = 0
     i = 0
     while written < size:
-        entry = "k%d{\"%s\"}\n" % (i % distinct, "abcdefghijklmnopqrst%04d" % (i % 10000))
+        entry = 'keyOfTheTable%05d{"%s"}\n' % (i % distinct, "abcdefghijklmnopqrst%04d" % (i % 10000))
         written += len(entry)
         yield entry
         i += 1
@@ -19,7 +19,7 @@ def entries(size, distinct):
 
 def main(words):
     size = int(words[0])
-    distinct = int(words[1]) if len(words) > 1 else 2000
+    distinct = int(words[1]) if len(words) > 1 else 2600
     sys.stdout.write("bench{\n" + "".join(entries(size, distinct)) + "}\n")
 
 

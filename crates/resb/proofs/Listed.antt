@@ -1,10 +1,10 @@
 -- Every key of a bundle text's tree is among its discovered keys.
-use Rattle.std.proofs.Common.{◌≡◌, ℕ, zero, suc, ◌+◌, ◌<◌, List, [], ◌∷◌, ◌++◌, length, Bool, true, false, ◌⊎◌, inl, inr, ⊎_elim, Ordering, Less, Equal, Greater, refl, sym, ap, ◌∙◌, subst, arith}
+use Rattle.std.proofs.Common.{◌≡◌, ℕ, zero, suc, List, [], ◌∷◌, ◌++◌, Bool, true, false, ◌⊎◌, inl, inr, ⊎_elim, Ordering, Less, Equal, Greater, refl, sym, ◌∙◌, subst, arith}
 use Rattle.std.specs.Prelude.{◌||◌, not, filter, Contains, nat_eq, cond}
 use Rattle.std.specs.Cmp.Lexicographic.{pointwise, slice_cmp, bytes_decides}
 use Rattle.std.specs.Ordering.{nat_cmp, match_ordering}
 use Rattle.std.proofs.lemmas.Bool.{false≢true}
-use Rattle.resb_tree.specs.Tree.{Tree, string, array, table, binary, integer, int_vector, Trees, no_trees, more_trees, Entries, no_entries, entry, trees_of, put, put_all, map_of}
+use Rattle.resb_tree.specs.Tree.{Tree, Entries, no_entries, entry, trees_of, put, put_all}
 use Rattle.resb_format.specs.KeyBlock.{is_key, is_key_in, is_key_of, same_text}
 use Rattle.resb_text.specs.Items.{Member, word, group, Item, member_tree, member_text, member_keys, inner_keys, is_entry, and_then, is_pairs, pairs_in, trees_in, table_keys, array_keys, Shape, a_string, a_table, an_array, shape_of_one, table_if, shape_of, tree_in, keys_in}
 use Rattle.resb_text.specs.Group.{Items, nothing, string_item, group_item, comma, Group, untyped, typed_table, typed_array, typed_leaf, Content, string_content, binary_content, integer_content, vector_content}
@@ -43,9 +43,9 @@ at_order k Greater a b c P f g h x = h x
 here_or : (k l : List ℕ) (t : Tree) (es : Entries) → ((same_text k l || is_key k t) || is_key_of k es) ≡ true → ((k ≡ l) ⊎ (is_key k t ≡ true)) ⊎ (is_key_of k es ≡ true)
 here_or k l t es h = ⊎_elim
     (λ (w : (same_text k l || is_key k t) ≡ true). inl (⊎_elim
-        (λ (v : same_text k l ≡ true). inl ((bytes_decides k l).0 v))
-        (λ (v : is_key k t ≡ true). inr v)
-        (either (same_text k l) (is_key k t) w)))
+    (λ (v : same_text k l ≡ true). inl ((bytes_decides k l).0 v))
+    (λ (v : is_key k t ≡ true). inr v)
+    (either (same_text k l) (is_key k t) w)))
     (λ (w : is_key_of k es ≡ true). inr w)
     (either (same_text k l || is_key k t) (is_key_of k es) h)
 
@@ -87,9 +87,9 @@ put_all_key k [] es h = inr h
 put_all_key k (p ∷ ps) es h = ⊎_elim
     (λ (w : KeyOf k ps). inl (inr w))
     (λ (w : is_key_of k (put p.0 p.1 es) ≡ true). ⊎_elim
-        (λ (v : (k ≡ p.0) ⊎ (is_key k p.1 ≡ true)). inl (inl v))
-        (λ (v : is_key_of k es ≡ true). inr v)
-        (put_key k p.0 p.1 es w))
+    (λ (v : (k ≡ p.0) ⊎ (is_key k p.1 ≡ true)). inl (inl v))
+    (λ (v : is_key_of k es ≡ true). inr v)
+    (put_key k p.0 p.1 es w))
     (put_all_key k ps (put p.0 p.1 es) h)
 
 KeyOf-append : (k : List ℕ) (ps qs : List (List ℕ × Tree)) → KeyOf k (ps ++ qs) → KeyOf k ps ⊎ KeyOf k qs
@@ -136,9 +136,9 @@ trees_listed k (x ∷ xs) l e = ⊎_elim
     last_tree k (u ∷ ts) t e = ⊎_elim
         (λ (w : is_key k u ≡ true). inl (or_first _ (is_key_in k (trees_of ts)) w))
         (λ (w : is_key_in k (trees_of (ts ++ t ∷ [])) ≡ true). ⊎_elim
-            (λ (v : is_key_in k (trees_of ts) ≡ true). inl (or_later (is_key k u) _ v))
-            (λ (v : is_key k t ≡ true). inr v)
-            (last_tree k ts t w))
+        (λ (v : is_key_in k (trees_of ts) ≡ true). inl (or_later (is_key k u) _ v))
+        (λ (v : is_key k t ≡ true). inr v)
+        (last_tree k ts t w))
         (either (is_key k u) (is_key_in k (trees_of (ts ++ t ∷ []))) e)
 
 -- a table's keys, from its pairs

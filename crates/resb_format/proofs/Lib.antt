@@ -1,2 +1,14 @@
-pub mod Examples
 pub mod Denoting
+pub mod Examples
+pub mod Spelled
+pub mod StringsIn
+pub mod TextUnits
+pub mod HeadSteps
+pub mod HeaderSteps
+pub mod IndexSteps
+pub mod Apart
+pub mod Survival
+pub mod Passing
+pub mod WordsBack
+pub mod IndexSurvival
+pub mod HeaderSurvival

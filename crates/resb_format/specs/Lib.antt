@@ -14,3 +14,14 @@ pub mod File
 pub mod KeyBlock
 pub mod PlainSize
 pub mod Unique
+pub mod Error
+pub mod Codes
+pub mod Descriptor
+pub mod Views
+pub mod StringFaults
+pub mod HeadChecks
+pub mod Head
+pub mod CodeReading
+pub mod DescriptorReading
+pub mod HeadReading
+pub mod CodecLaws

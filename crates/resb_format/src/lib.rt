@@ -2,7 +2,45 @@
 //! No loop here goes over a whole file: reading and writing are in the crates above.
 #![tactic(auto)]
 
+mod bytes;
+mod casts;
+mod charset;
+mod codec_laws;
+mod descriptor;
+mod endianness;
+mod error;
+mod head;
+#[cfg(test)]
+mod head_tests;
+mod index;
+mod index_fields;
 mod laws;
+mod repr_info;
+mod repr_type;
+#[cfg(test)]
+mod tests;
+mod units;
+mod version;
+mod views;
 
+pub use casts::{
+    cast_bytes_to_u16_slice, cast_bytes_to_u32_slice, cast_u32_to_i32_pair_slice,
+    cast_u32_to_i32_slice,
+};
+pub use charset::CharsetFamily;
+pub use codec_laws::{
+    bundle_file_passes, charset_survives, descriptor_survives, endianness_survives, header_passes,
+    header_survives, index_survives, type_survives, version_survives,
+};
+pub use descriptor::ResDescriptor;
+pub use endianness::Endianness;
+pub use error::{BinaryDeserializerError, ErrorKind};
+pub use head::BinHeader;
+pub use index::BinIndex;
 pub use laws::{one_tree, reached_is_counted};
+pub use repr_info::BinReprInfo;
+pub use repr_type::ResourceReprType;
 pub use resb_tree::{Int28, Key, NoMemory, Resource, ResourceBundle, Table};
+pub use units::{is_unmarked, marker_units, string_at};
+pub use version::FormatVersion;
+pub use views::{I32Pair, I32View, PairView, Utf16View, WordView};

@@ -1,5 +1,11 @@
 mod BytesLemmas
 mod TokensLemmas
 mod Keys
+mod Half
 mod Moves
+mod Unique
 mod Reading
+mod Complete
+mod Sound
+mod GrammarLaws
+mod Examples

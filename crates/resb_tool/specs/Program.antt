@@ -2,7 +2,7 @@
 --     Writes input old new    the writer gained the hex line of a file of the text
 --     IsNoInput input e       these bytes have no file, for this reason
 --     HasReason input e       the same, or a stream or memory failed
-use Rattle.std.specs.Prelude.{◌≡◌, ℕ, List, [], ◌∷◌, ◌++◌, codes, IsUtf8, Option}
+use Rattle.std.specs.Prelude.{ℕ, List, [], ◌∷◌, ◌++◌, codes, IsUtf8, Option}
 use Rattle.std.specs.Io.KnownBytes.{Appends}
 use Rattle.hex.specs.Hex.{encode_lower}
 use Rattle.resb.specs.Compiling as compiling

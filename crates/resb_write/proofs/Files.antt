@@ -14,14 +14,14 @@ use Rattle.resb_write.specs.Places.{IsKeyPlan}
 use Rattle.resb_write.specs.Block.{records, table_body, block, table_word}
 use Rattle.resb_write.specs.Layout.{head_words, file_of}
 use Rattle.resb_write.specs.Refused.{AreListed, HaveNoNul, HasFarKey, Refused, no_memory, unlisted_key, key_with_nul, far_key, too_large, not_covered, CanBeWritten}
-use Rattle.resb_write.specs.Written.{Written}
+use Rattle.resb_write.specs.Written.{AreLastPlaces, Written}
 use Rattle.resb_write.proofs.Numbers.{Below, length-word_bytes}
 use Rattle.std.proofs.lemmas.Bool.{leb-true, leb-false}
 use Rattle.resb_write.proofs.KeyFaults.{listed, have_no_nul, no_far_key}
 use Rattle.resb_write.proofs.Heads as heads
 use Rattle.std.proofs.lemmas.List.{length-map}
 use Rattle.resb_format.specs.Parts.{Parts}
-use Rattle.resb_write.proofs.Tables.{den_table, records_room, same_lengths}
+use Rattle.resb_write.proofs.Tables.{den_table, last_places, records_room, same_lengths}
 use Rattle.resb_write.proofs.Sizes.{count_of_table, largest_of_table, size_of_table, used_room, length-padded, padded_words, even_units, block_room, block_le, below_all}
 
 -- a tree that can be written is refused for want of memory alone
@@ -109,6 +109,12 @@ module _ (t : Tree) (es : List Pair) (n : ℕ) (ks us : List (List ℕ)) (ps : L
   den = den_table the_parts (heads.head root k b (length es) (cond fallback 0 1) keys blk key_length unit_length fits fit) (replicate ((4 - length (key_bytes us) % 4) % 4) 0xaa) us es ps
       (length-word_bytes (head_words root k b (length es) (cond fallback 0 1))) refl refl of.ascends of.texts plan.no_nul plan.last (omega (arith, place_room t es n ks us ps of plan small))
 
+  last : AreLastPlaces the_parts root (texts_table es) ks
+  unfolding root
+  last = last_places the_parts (heads.head root k b (length es) (cond fallback 0 1) keys blk key_length unit_length fits fit) (replicate ((4 - length (key_bytes us) % 4) % 4) 0xaa) us ks es ps
+      (length-word_bytes (head_words root k b (length es) (cond fallback 0 1))) refl refl plan.used_only of.texts plan.no_nul plan.last
+      (omega (arith, place_room t es n ks us ps of plan small))
+
   pub written : Written (file_of (table_word es) (length es) fallback keys blk) t fallback ks
   unfolding root k b
   written = record {
@@ -127,6 +133,9 @@ module _ (t : Tree) (es : List Pair) (n : ℕ) (ks us : List (List ℕ)) (ps : L
       largest = heads.largest_is root k b (length es) (cond fallback 0 1) keys blk key_length unit_length fits fit ∙ sym (ap largest_table of.is ∙ largest_of_table es);
       no_fallback = heads.flag_is root k b (length es) (cond fallback 0 1) keys blk key_length unit_length fits fit;
     };
+    positions = subst (λ p. AreLastPlaces p (root_word file) t ks) (sym (heads.parts_are root k b (length es) (cond fallback 0 1) keys blk key_length unit_length fits fit))
+        (subst (λ w. AreLastPlaces the_parts w t ks) (sym (heads.root_is root k b (length es) (cond fallback 0 1) keys blk key_length unit_length fits fit))
+        (subst (λ u. AreLastPlaces the_parts root u ks) (sym of.is) last));
     keys = ap (drop 32) (heads.keys_are root k b (length es) (cond fallback 0 1) keys blk key_length unit_length fits fit)
         ∙ heads.behind_head root k b (length es) (cond fallback 0 1) keys blk key_length unit_length fits fit
         ∙ ap (λ l. padded (key_bytes l)) plan.used_only ∙ ap (λ u. key_block u ks) (sym of.is);

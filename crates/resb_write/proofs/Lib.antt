@@ -10,4 +10,4 @@ pub mod Tables
 pub mod Sizes
 pub mod Files
 pub mod Least
-mod Examples
+pub mod Examples

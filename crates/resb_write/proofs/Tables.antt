@@ -1,21 +1,23 @@
 -- What the word of a written table denotes in the file's parts.
-use Rattle.std.proofs.Common.{◌≡◌, ℕ, suc, ◌+◌, ◌/◌, ◌%◌, ◌^◌, ◌<◌, ◌≤◌, List, [], ◌∷◌, ◌++◌, length, map, get_or, take, drop, Option, Some, None, option_map, Bool, true, false, cond, nat_le, ◌==◌, refl, sym, ◌∙◌, ap, subst, append_assoc, append-nil, length-append, arith}
+use Rattle.std.proofs.Common.{zero, ◌≡◌, ℕ, suc, ◌+◌, ◌/◌, ◌%◌, ◌^◌, ◌<◌, ◌≤◌, List, [], ◌∷◌, ◌++◌, length, map, get_or, take, drop, Option, Some, None, option_map, Bool, true, false, cond, nat_le, ◌==◌, refl, sym, ◌∙◌, ap, subst, append_assoc, append-nil, length-append, arith}
 use Rattle.std.specs.Str.{IsUtf8}
 use Rattle.std.specs.List.{zip, list_any}
 use Rattle.std.specs.List.Sorted.{IsStrictlySortedBy}
 use Rattle.std.specs.Map.{keys_of}
 use Rattle.std.proofs.lemmas.Bool.{le-leb, ne_eqb, or_parts}
 use Rattle.std.proofs.lemmas.List.Sums.{sum_by-cons}
-use Rattle.std.proofs.lemmas.List.{take_at, drop_at, get_or_at, length-map}
+use Rattle.std.proofs.lemmas.List.{take_at, drop_at, get_or_at, length-map, nil_from_length}
 use Rattle.resb_tree.specs.Tree.{integer, table, entries_of, map_of, entries_count, tree_count}
 use Rattle.resb_tree.specs.Maps.{text_cmp, map_of-sorted}
 use Rattle.resb_format.specs.Bytes.{part}
 use Rattle.resb_format.specs.Units.{units}
 use Rattle.resb_format.specs.Strings.{text_at, key_at}
 use Rattle.resb_format.specs.Parts.{Parts}
-use Rattle.resb_format.specs.Content.{unit, leaf, pairs, content, placed, empty, paired, offsets_at, table16_at}
+use Rattle.std.specs.Prelude.{Contains}
+use Rattle.resb_format.specs.Content.{unit, leaf, pairs, content, placed, empty, paired, offsets_at, table16_at, Member, word, list}
 use Rattle.resb_format.specs.Denotes.{Den, den_pairs, den_unit, DenPairs, pairs_none, pairs_more}
-use Rattle.resb_format.specs.KeyBlock.{key_bytes, last_of}
+use Rattle.resb_format.specs.KeyBlock.{key_bytes, last_of, used}
+use Rattle.resb_write.specs.Written.{Leads, leads_here, leads_to_member, leads_to_child, AreLastPlaces}
 use Rattle.resb_write.specs.Entries.{Pair, keys_in, string_pairs, texts_table, unit_count, IsText, AreTexts}
 use Rattle.resb_write.specs.Refused.{has_nul}
 use Rattle.resb_write.specs.Block.{record_of, records, offset_at, offsets_from, table_body, even, block, table_word}
@@ -123,6 +125,45 @@ module _ (p : Parts) (head pad : List ℕ) (us : List (List ℕ)) (front : lengt
       pairs_more (position_read e.0 (last_of e.0 us) at refl first t.0.key o.0) (den_unit (text_found p zeros e (records es ++ rest) c t.0))
       (subst (λ v. DenPairs p (zip ps (map unit (offsets_from v es))) (string_pairs es) (entries_count (entries_of (string_pairs es)))) u later)
 
+  -- in the table's entries each key stands at its last place
+  pub stands_last : (es : List Pair) (ps offsets : List ℕ) → map Some ps ≡ map (λ k. option_map (λ n. 32 + n) (last_of k us)) (keys_in es) → AreTexts es → list_any has_nul (keys_in es) ≡ false
+      → (at n : ℕ) (k : List ℕ) (m : Member) → Contains (zip ps (map unit offsets)) (at, m) → key_at p.keys at ≡ Some k → last_of k us ≡ Some n → at ≡ 32 + n
+  stands_last es [] offsets e t z at n k m h s l = absurd (omega (arith, h.1))
+  stands_last [] (q ∷ ps) offsets e t z at n k m h s l = absurd (let no : ⊥ = cc in no)
+  stands_last (x ∷ es) (q ∷ ps) [] e t z at n k m h s l = absurd (omega (arith, h.1))
+  stands_last (x ∷ es) (q ∷ ps) (u ∷ offsets) e t z at n k m (zero, lt, is) s l =
+      let o = or_parts (has_nul x.0) (list_any has_nul (keys_in es)) z in
+      let first : Some q ≡ option_map (λ i. 32 + i) (last_of x.0 us) = cc in
+      let here : q ≡ at = ap (λ (y : ℕ × Member). y.0) is in
+      let read : key_at p.keys q ≡ Some x.0 = position_read x.0 (last_of x.0 us) q refl first t.0.key o.0 in
+      let same : Some x.0 ≡ Some k = sym read ∙ ap (key_at p.keys) here ∙ s in
+      let key : x.0 ≡ k = cc in
+      let found : Some q ≡ Some (32 + n) = first ∙ ap (λ j. option_map (λ i. 32 + i) (last_of j us)) key ∙ ap (option_map (λ i. 32 + i)) l in
+      let place : q ≡ 32 + n = cc in
+      sym here ∙ place
+  stands_last (x ∷ es) (q ∷ ps) (u ∷ offsets) e t z at n k m (suc i, lt, is) s l =
+      let o = or_parts (has_nul x.0) (list_any has_nul (keys_in es)) z in
+      let others : map Some ps ≡ map (λ j. option_map (λ v. 32 + v) (last_of j us)) (keys_in es) = cc in
+      stands_last es ps offsets others t.1 o.1 at n k m (i, omega arith, is) s l
+
+-- no entry of a short table has a word
+no_word : (ps offsets : List ℕ) (at u : ℕ) → Contains (zip ps (map unit offsets)) (at, word u) → ⊥
+no_word [] offsets at u h = omega (arith, h.1)
+no_word (q ∷ ps) [] at u h = omega (arith, h.1)
+no_word (q ∷ ps) (v ∷ offsets) at u (zero, lt, is) = let m : unit v ≡ word u = ap (λ (y : ℕ × Member). y.1) is in absurd (let no : ⊥ = cc in no)
+no_word (q ∷ ps) (v ∷ offsets) at u (suc i, lt, is) = no_word ps offsets at u (i, omega arith, is)
+
+-- a short table leads nowhere else
+leads_nowhere : (p : Parts) (w v : ℕ) (ps offsets : List ℕ) → content p w ≡ Some (pairs (zip ps (map unit offsets))) → Leads p w v → v ≡ w
+leads_nowhere p w v ps offsets c leads_here = refl
+leads_nowhere p w v ps offsets c (leads_to_member {v = x} {ms = ms} l d h) =
+    let e : Some (pairs (zip ps (map unit offsets))) ≡ Some (list ms) = sym c ∙ ap (content p) (sym (leads_nowhere p w x ps offsets c l)) ∙ d in
+    absurd (let no : ⊥ = cc in no)
+leads_nowhere p w v ps offsets c (leads_to_child {v = x} {at = at} {es = es} l d h) =
+    let e : Some (pairs (zip ps (map unit offsets))) ≡ Some (pairs es) = sym c ∙ ap (content p) (sym (leads_nowhere p w x ps offsets c l)) ∙ d in
+    let f : zip ps (map unit offsets) ≡ es = cc in
+    absurd (no_word ps offsets at v (subst (λ y. Contains y (at, word v)) (sym f) h))
+
 keys_kept : (es : List Pair) → keys_of (string_pairs es) ≡ keys_in es
 keys_kept [] = refl
 keys_kept (e ∷ es) = ap (λ ks. e.0 ∷ ks) (keys_kept es)
@@ -157,3 +198,31 @@ den_table p head pad us (e ∷ es) ps front keys b h t z m small =
     subst (λ x. Den p (table_word all) x (tree_count (texts_table all))) (sorted_table all h)
     (subst (λ k. Den p (table_word all) (table (map_of (string_pairs all))) k) one
     (den_pairs f (den_entries p head pad us front keys all ps [] ((length all ∷ (ps ++ offsets)) ++ back.0) c m t z)))
+
+-- the content of the table's word: its keys' positions and its strings' offsets
+table_content : (p : Parts) (es : List Pair) (ps : List ℕ) → p.block ≡ block es ps → length ps ≡ length es → length (0 ∷ records es) < 2 ^ 28
+    → content p (table_word es) ≡ Some (pairs (zip ps (map unit (offsets_from 1 es))))
+table_content p [] ps b n small = empty_table p ∙ ap (λ l. Some (pairs (zip l []))) (sym (nil_from_length ps n))
+table_content p (e ∷ es) ps b n small =
+    let all : List Pair = e ∷ es in
+    let offsets : List ℕ = offsets_from 1 all in
+    let start : List ℕ = 0 ∷ records all in
+    let back = even_is (0 ∷ (records all ++ table_body all ps)) in
+    let c : p.block ≡ start ++ ((length all ∷ (ps ++ offsets)) ++ back.0) = b ∙ back.1 ∙ append_assoc start (table_body all ps) back.0 in
+    let d : p.block ≡ start ++ (length ps ∷ (ps ++ (offsets ++ back.0))) = c ∙ (λ i. start ++ (sym n i ∷ append_assoc ps offsets back.0 i)) in
+    short_table p (length start) (omega arith) small ∙ table16_found p start ps offsets back.0 d (length-offsets_from 1 all ∙ sym n)
+
+-- each key of the table stands at its last place
+pub last_places : (p : Parts) (head pad : List ℕ) (us ks : List (List ℕ)) (es : List Pair) (ps : List ℕ) → length head ≡ 32 → p.keys ≡ head ++ (key_bytes us ++ pad) → p.block ≡ block es ps
+    → us ≡ used (texts_table es) ks → AreTexts es → list_any has_nul (keys_in es) ≡ false
+    → map Some ps ≡ map (λ k. option_map (λ n. 32 + n) (last_of k us)) (keys_in es) → length (0 ∷ records es) < 2 ^ 28
+    → AreLastPlaces p (table_word es) (texts_table es) ks
+last_places p head pad us ks es ps front keys b used_only t z m small = λ at n k h l.
+    let len : length ps ≡ length es = same_lengths (λ j. option_map (λ i. 32 + i) (last_of j us)) ps (keys_in es) m ∙ length-map es (λ x. x.0) in
+    let offsets : List ℕ = offsets_from 1 es in
+    let c = table_content p es ps b len small in
+    let root : h.table ≡ table_word es = leads_nowhere p (table_word es) h.table ps offsets c h.leads in
+    let e : Some (pairs (zip ps (map unit offsets))) ≡ Some (pairs h.entries) = sym c ∙ ap (content p) (sym root) ∙ h.stands in
+    let f : zip ps (map unit offsets) ≡ h.entries = cc in
+    let place : last_of k us ≡ Some n = ap (last_of k) used_only ∙ l in
+    stands_last p head pad us front keys es ps offsets m t z at n k h.member (subst (λ y. Contains y (at, h.member)) (sym f) h.among) h.key place

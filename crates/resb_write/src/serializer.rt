@@ -29,10 +29,8 @@ const HEADER: [u8; 32] = [
 /// How many words stand before the key block: the root's, and 7 of the index.
 const HEAD_WORDS: u32 = 8;
 
-/// Writes bundles. No value of this type can be made.
-pub struct Serializer {
-    _private: (),
-}
+/// Writes bundles as files. There are no values of this type.
+pub enum Serializer {}
 
 impl Serializer {
     /// The `.res` file of a bundle: a header of 32 bytes, the root's word, an index of 7 fields,

@@ -1,0 +1,26 @@
+use Rattle.std.proofs.Common.{subst}
+use Rattle.resb_tree.specs.Bundle.{name_of, root_of}
+use Rattle.resb_write.specs.Written.{Written}
+use Rattle.resb_write.specs.Refused.{Refused}
+use Rattle.resb_write.specs.FaultOf.{fault_of}
+use Rattle.resb.proofs.Reasons.{writing_refused}
+use Rattle.resb.proofs.compiling.compile.Goals as goal
+
+pub returns-clause-ok : goal.returns-clause-ok
+returns-clause-ok c = record {
+  bundle = record {
+    name = name_of c.in_ok-bundle.bundle;
+    fallback = c.in_ok-bundle.bundle.is_locale_fallback_enabled;
+    tree = root_of c.in_ok-bundle.bundle;
+    keys = c.in_ok-bundle.keys.items;
+    is = c.in_ok-bundle.ensures.ok;
+  };
+  file = subst (λ ks. Written c.in_ok-file.file.items (root_of c.in_ok-bundle.bundle) c.in_ok-bundle.bundle.is_locale_fallback_enabled ks) c.as_slice.ensures.value c.in_ok-file.ensures.ok;
+}
+
+pub returns-in_err-file-clause-err : goal.returns-in_err-file-clause-err
+returns-in_err-file-clause-err c =
+    let b = c.in_ok-bundle.ensures.ok in
+    let t = root_of c.in_ok-bundle.bundle in
+    let h : Refused t c.in_ok-bundle.keys.items (fault_of c.in_err-file.field-0.0) = subst (λ ks. Refused t ks (fault_of c.in_err-file.field-0.0)) c.as_slice.ensures.value c.in_err-file.ensures.err in
+    writing_refused c.args.text.now (name_of c.in_ok-bundle.bundle) c.in_ok-bundle.bundle.is_locale_fallback_enabled t c.in_ok-bundle.keys.items c.in_err-file.field-0.0 b h c.from_residual-in_err-file.result c.from_residual-in_err-file.ensures.1

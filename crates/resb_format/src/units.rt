@@ -1,0 +1,162 @@
+//! Strings in the 16-bit block: where one stands, and what marks its length.
+//! How strings share records of the block is the business of the writer.
+ghost use Rattle.std.specs.Prelude.{◌≡◌, ◌+◌, ◌-◌, ◌/◌, ◌<◌, ◌≤◌, ◌==◌, length, take, drop, slice_index, nat_le, Some, None, MatchResult, codes};
+ghost use Rattle.std.specs.List.{position_or_len};
+ghost use Rattle.resb_format.specs.Bytes.{units_of, part};
+ghost use Rattle.resb_format.specs.Error.{IsInvalid};
+ghost use Rattle.resb_format.specs.StringFaults as said;
+ghost use Rattle.resb_format.specs.Strings as strings;
+ghost use Rattle.resb_format.specs.Units as text_units;
+ghost use Rattle.resb_format.specs.Views.{view_units};
+
+use crate::bytes::unit_at;
+use crate::error::BinaryDeserializerError;
+use crate::views::Utf16View;
+
+/// The most units of a string without a marker.
+const MAX_UNMARKED: usize = 40;
+
+/// The units of the string that stands at this unit of the 16-bit block.
+/// A first unit from 0xdc00 to 0xdfff begins a marker, which says how many units follow it.
+/// Without a marker the string goes up to the first 0, and has at most 40 units.
+/// (ICU's `uresdata.h`: strings of format version 2.)
+///
+/// A string that does not lie inside the block is refused as the end of the input,
+/// and one that has no marker and no 0 in time as unterminated.
+#[tactic(auto, using(crate::proofs::StringsIn::past_end, crate::proofs::StringsIn::past_end_fault))]
+pub fn string_at(block: &[u8], unit: usize) -> Result<Utf16View<'_>, BinaryDeserializerError>
+    ensures { let us = units_of block.now in
+        MatchResult result (λ v. strings.string_at us unit ≡ Some (view_units v))
+        (λ e. (strings.string_at us unit ≡ None) × IsInvalid e (said.string_fault us unit)) }
+{
+    let first = some_unit(block, unit)?;
+    match first {
+        0xdc00..=0xdfff => marked(block, unit, first),
+        _ => unmarked(block, unit),
+    }
+}
+
+/// The string after the marker that begins with this unit.
+#[tactic(auto, using(crate::proofs::StringsIn::no_second, crate::proofs::StringsIn::no_third))]
+fn marked(block: &[u8], unit: usize, first: u16) -> Result<Utf16View<'_>, BinaryDeserializerError>
+    requires inside { unit < length block.now / 2 }
+    requires marker { 0xdc00 ≤ first }
+    requires low { first ≤ 0xdfff }
+    ensures { let us = units_of block.now in
+        MatchResult result (λ v. strings.string_from us unit first ≡ Some (view_units v))
+        (λ e. (strings.string_from us unit first ≡ None) × IsInvalid e (codes "unexpected end of input")) }
+{
+    let first = usize::from(first);
+    if first <= 0xdfee {
+        return cut(block, unit + 1, first - 0xdc00);
+    }
+    let second = usize::from(some_unit(block, unit + 1)?);
+    if first <= 0xdffe {
+        return cut(block, unit + 2, (first - 0xdfef) * 0x1_0000 + second);
+    }
+    let third = usize::from(some_unit(block, unit + 2)?);
+    cut(block, unit + 3, second * 0x1_0000 + third)
+}
+
+/// The string up to the first 0, which stands among its first 41 units.
+#[tactic(auto, using(crate::proofs::StringsIn::ended, crate::proofs::StringsIn::not_ended))]
+fn unmarked(block: &[u8], unit: usize) -> Result<Utf16View<'_>, BinaryDeserializerError>
+    requires { unit < length block.now / 2 }
+    ensures { let us = take 41 (drop unit (units_of block.now)) in
+        MatchResult result (λ v. strings.before_zero us ≡ Some (view_units v))
+        (λ e. (strings.before_zero us ≡ None) × IsInvalid e (codes "unterminated string with implicit length")) }
+{
+    let left = block.len() / 2 - unit;
+    let window = units_in(block, unit, left.min(MAX_UNMARKED + 1));
+    let end = first_zero(window);
+    if end == window.len() {
+        return Err(BinaryDeserializerError::invalid_data(
+            "unterminated string with implicit length",
+        ));
+    }
+    Ok(units_in(window.as_bytes(), 0, end))
+}
+
+/// The number of the first unit 0, or of all units.
+#[tactic(auto, using(std::proofs::lemmas::List::Sums::position_or_len_is))]
+fn first_zero(units: Utf16View<'_>) -> usize
+    ensures value { result ≡ position_or_len (λ x. x == 0) (view_units units.entry) }
+    ensures small { result ≤ length (view_units units.entry) }
+{
+    for number in 0..units.len() {
+        if units.item(number) == 0 {
+            return number;
+        }
+    }
+    units.len()
+}
+
+/// The unit with this number, if it lies inside the block.
+fn some_unit(block: &[u8], number: usize) -> Result<u16, BinaryDeserializerError>
+    ensures { MatchResult result (λ x. (number < length block.now / 2) × (x ≡ slice_index (units_of block.now) number)) (λ e. (length block.now / 2 ≤ number) × IsInvalid e (codes "unexpected end of input")) }
+{
+    if number >= block.len() / 2 {
+        return Err(BinaryDeserializerError::invalid_data("unexpected end of input"));
+    }
+    Ok(unit_at(block, number))
+}
+
+/// So many units from this one on, if they lie inside the block.
+#[tactic(auto, using(crate::proofs::StringsIn::part_inside, crate::proofs::StringsIn::part_outside))]
+fn cut(block: &[u8], from: usize, count: usize) -> Result<Utf16View<'_>, BinaryDeserializerError>
+    ensures { MatchResult result (λ v. part (units_of block.now) from count ≡ Some (view_units v))
+        (λ e. (part (units_of block.now) from count ≡ None) × IsInvalid e (codes "unexpected end of input")) }
+{
+    let units = block.len() / 2;
+    if from > units || count > units - from {
+        return Err(BinaryDeserializerError::invalid_data("unexpected end of input"));
+    }
+    Ok(units_in(block, from, count))
+}
+
+/// So many units from this one on.
+#[tactic(auto, using(crate::proofs::Spelled::units_part))]
+fn units_in(block: &[u8], from: usize, count: usize) -> Utf16View<'_>
+    requires { from + count ≤ length block.now / 2 }
+    ensures { view_units result ≡ take count (drop from (units_of block.now)) }
+{
+    let (_, rest) = block.split_at(2 * from);
+    let (bytes, _) = rest.split_at(2 * count);
+    Utf16View::over(bytes)
+}
+
+/// How many units the marker of a string of `n` units takes, where its length alone asks for one.
+/// Up to 40 units need none, but a text with U+0000 has a marker at any length.
+pub fn marker_units(n: usize) -> usize
+    requires { n ≤ 4294967295 }
+    ensures { result ≡ said.marker_len n }
+{
+    match n {
+        0..=40 => 0,
+        41..=0x3ee => 1,
+        0x3ef..=0xf_ffff => 2,
+        _ => 3,
+    }
+}
+
+/// Whether a text stands without a marker: it has at most 40 units, and no U+0000.
+pub fn is_unmarked(text: &str) -> bool
+    ensures { result ≡ text_units.is_unmarked text.now }
+{
+    has_at_most(text, MAX_UNMARKED) && !text.as_bytes().contains(&0)
+}
+
+/// Whether a text has at most so many units. No more of it is looked at than tells.
+fn has_at_most(text: &str, most: usize) -> bool
+    ensures { result ≡ nat_le (length (text_units.units text.now)) most }
+{
+    let mut left = most;
+    for c in text.chars() {
+        let taken = c.len_utf16();
+        if taken > left {
+            return false;
+        }
+        left -= taken;
+    }
+    true
+}

@@ -1,15 +1,13 @@
 -- Which check of the representation info is the first that fails.
-use Rattle.std.proofs.Common.{ℕ, List, [], ◌∷◌, ◌++◌, ◌≡◌, ◌≢◌, ◌<◌, ◌≤◌, ◌⊎◌, inl, inr, length, Bool, true, false, not, ◌||◌, nat_le, nat_eq, Option, Some, None, refl, sym, ap, ◌∙◌, arith, get_or, codes, slice_range}
+use Rattle.std.proofs.Common.{ℕ, List, ◌≡◌, ◌≢◌, ◌<◌, ◌≤◌, ◌⊎◌, inl, inr, Bool, true, false, not, ◌||◌, nat_le, nat_eq, Some, None, refl, arith, get_or, codes, slice_range}
 use Rattle.std.specs.Str.{bytes_eq}
-use Rattle.std.specs.Bool.{Decides}
 use Rattle.std.proofs.lemmas.Bool.Decides.{nat_tests}
 use Rattle.std.proofs.lemmas.Slice.Eq.{bytes_eq-Decides}
 use Rattle.resb_format.specs.Codes.{version_bytes, endianness_number, charset_number}
-use Rattle.resb_format.specs.Error.{IsRefusal, IsInvalid, kind_of, message_of}
-use Rattle.resb_format.specs.HeadChecks.{Fault, first_fault, info_checks, info_fault, fault_of, is_version, invalid, unsupported}
+use Rattle.resb_format.specs.Error.{IsRefusal, IsInvalid}
+use Rattle.resb_format.specs.HeadChecks.{first_fault, info_checks, fault_of, is_version}
 use Rattle.resb_format.specs.declared.error.BinaryDeserializerError.{BinaryDeserializerError}
-use Rattle.resb_format.specs.declared.error.ErrorKind.{ErrorKind}
-use Rattle.resb_format.specs.declared.error.ErrorKind.TheVariants.{InvalidData, UnsupportedFormat}
+use Rattle.resb_format.specs.declared.error.ErrorKind.TheVariants.{UnsupportedFormat}
 use Rattle.resb_format.specs.declared.charset.CharsetFamily.{CharsetFamily}
 use Rattle.resb_format.specs.declared.charset.CharsetFamily.TheVariants.{Ascii, Ebcdic}
 use Rattle.resb_format.specs.declared.endianness.Endianness.{Endianness}

@@ -1,5 +1,5 @@
 -- Which check of a header is the first that fails.
-use Rattle.std.proofs.Common.{ℕ, List, [], ◌∷◌, ◌++◌, ◌≡◌, ◌<◌, ◌≤◌, length, drop, Bool, true, false, nat_le, nat_eq, Some, None, refl, sym, ap, ◌∙◌, get_or, codes, slice_range}
+use Rattle.std.proofs.Common.{ℕ, List, [], ◌∷◌, ◌++◌, ◌≡◌, ◌<◌, ◌≤◌, length, drop, Bool, true, false, nat_eq, Some, None, refl, ◌∙◌, get_or, codes, slice_range}
 use Rattle.std.specs.Str.{bytes_eq}
 use Rattle.resb_format.specs.Error.{IsInvalid}
 use Rattle.resb_format.specs.HeadChecks.{Fault, first_fault, info_checks, info_fault, header_checks, header_fault, fault_of, unit_in}

@@ -1,16 +1,15 @@
 -- A header is read back from the bytes that it is written as.
-use Rattle.std.proofs.Common.{ℕ, zero, suc, List, [], ◌∷◌, ◌++◌, ◌≡◌, ◌+◌, ◌-◌, ◌*◌, ◌/◌, ◌%◌, ◌^◌, ◌<◌, ◌≤◌, length, take, drop, min, Bool, true, false, nat_eq, Some, None, Result, Ok, Err, refl, sym, ap, subst, ◌∙◌, arith, get_or, codes, slice_range, length-drop, length-take}
+use Rattle.std.proofs.Common.{ℕ, zero, suc, List, [], ◌∷◌, ◌++◌, ◌≡◌, ◌+◌, ◌*◌, ◌/◌, ◌%◌, ◌^◌, ◌<◌, ◌≤◌, length, take, drop, false, nat_eq, Result, Ok, Err, refl, sym, ap, subst, ◌∙◌, arith, get_or, codes, length-drop, length-take}
 use Rattle.std.specs.Int.{to_le_bytes, w16}
 use Rattle.std.proofs.lemmas.List.{get_or-drop}
 use Rattle.resb_format.specs.Bytes.{units_of}
 use Rattle.resb_format.specs.Codes.{endianness_number, charset_number, version_bytes}
 use Rattle.resb_format.specs.CodecLaws.{EachFits, IsHeader, HeaderSurvives}
-use Rattle.resb_format.specs.Head.{HeaderAt, InfoAt, header_bytes, info_bytes}
-use Rattle.resb_format.specs.HeadChecks.{header_fault, is_version, unit_in}
+use Rattle.resb_format.specs.Head.{HeaderAt, header_bytes}
+use Rattle.resb_format.specs.HeadChecks.{unit_in}
 use Rattle.resb_format.specs.HeadReading.{ReadsHeader}
 use Rattle.resb_format.specs.declared.error.BinaryDeserializerError.{BinaryDeserializerError}
 use Rattle.resb_format.specs.declared.head.BinHeader.{BinHeader}
-use Rattle.resb_format.specs.declared.repr_info.BinReprInfo.{BinReprInfo}
 use Rattle.resb_format.specs.declared.version.FormatVersion.{FormatVersion}
 use Rattle.resb_format.specs.declared.version.FormatVersion.TheVariants.{V1_0, V1_1, V1_2, V1_3, V2_0, V3_0}
 use Rattle.resb_format.proofs.Apart.{endianness_apart, charset_apart, version_apart}

@@ -1,15 +1,15 @@
 -- The headers and indexes that pass each check.
-use Rattle.std.proofs.Common.{ℕ, List, [], ◌∷◌, ◌++◌, ◌≡◌, ◌+◌, ◌-◌, ◌*◌, ◌<◌, ◌≤◌, ◌⊎◌, inl, inr, length, take, drop, min, Bool, true, false, ◌||◌, nat_le, nat_eq, Some, None, refl, sym, ap, subst, ◌∙◌, arith, get_or, codes, slice_range, length-drop, zero, suc}
+use Rattle.std.proofs.Common.{ℕ, List, [], ◌∷◌, ◌≡◌, ◌+◌, ◌-◌, ◌*◌, ◌≤◌, length, take, drop, min, Bool, true, false, ◌||◌, nat_le, nat_eq, None, refl, sym, ap, subst, ◌∙◌, arith, get_or, codes, slice_range, length-drop}
 use Rattle.std.specs.Str.{bytes_eq}
 use Rattle.std.proofs.lemmas.Bool.Decides.{nat_tests}
 use Rattle.std.proofs.lemmas.List.{get_or-drop, drop-drop}
 use Rattle.std.proofs.lemmas.Slice.Eq.{bytes_eq-Decides}
-use Rattle.resb_format.specs.Bytes.{units_of, words_of}
+use Rattle.resb_format.specs.Bytes.{words_of}
 use Rattle.resb_format.specs.CodecLaws.{IsHeader, HeaderPasses, BundleFilePasses}
 use Rattle.resb_format.specs.HeadChecks.{Fault, first_fault, info_checks, header_checks, header_fault, index_fault, is_version, unit_in}
-use Rattle.resb_format.specs.Parts.{IsBundleFile, body_of, header_size, field_count}
-use Rattle.resb_format.proofs.HeadSteps.{Order, Families, Formats, le_true, same_true}
-use Rattle.resb_format.proofs.HeaderSteps.{Begun, none_before, header_holds}
+use Rattle.resb_format.specs.Parts.{IsBundleFile, body_of, header_size}
+use Rattle.resb_format.proofs.HeadSteps.{le_true, same_true}
+use Rattle.resb_format.proofs.HeaderSteps.{header_holds}
 use Rattle.resb_format.proofs.IndexSteps.{index_holds}
 
 -- each test is true

@@ -1,5 +1,5 @@
 -- The units and words that bytes spell, one by one and in parts.
-use Rattle.std.proofs.Common.{ℕ, zero, suc, List, [], ◌∷◌, ◌≡◌, ◌+◌, ◌*◌, ◌/◌, ◌<◌, ◌≤◌, length, get_or, take, drop, refl, ap, ◌∙◌, arith}
+use Rattle.std.proofs.Common.{ℕ, zero, suc, List, [], ◌∷◌, ◌≡◌, ◌+◌, ◌*◌, ◌/◌, ◌<◌, length, get_or, take, drop, refl, ap, ◌∙◌, arith}
 use Rattle.resb_format.specs.Bytes.{units_of, words_of}
 
 pub units_length : (bs : List ℕ) → length (units_of bs) ≡ length bs / 2

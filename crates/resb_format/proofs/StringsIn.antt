@@ -1,5 +1,5 @@
 -- Strings among the units that bytes spell: where they lie inside, and where they are cut.
-use Rattle.std.proofs.Common.{ℕ, zero, suc, List, [], ◌∷◌, ◌≡◌, ◌+◌, ◌-◌, ◌*◌, ◌/◌, ◌<◌, ◌≤◌, ◌⊎◌, inl, inr, length, take, drop, Some, None, refl, sym, ap, ◌∙◌, arith, nat_eq, min, get_or, codes, length-drop}
+use Rattle.std.proofs.Common.{ℕ, zero, suc, List, [], ◌∷◌, ◌≡◌, ◌+◌, ◌-◌, ◌/◌, ◌<◌, ◌≤◌, ◌⊎◌, inl, inr, length, take, drop, Some, None, refl, sym, ap, ◌∙◌, arith, nat_eq, min, get_or, codes, length-drop}
 use Rattle.std.specs.List.{position_or_len}
 use Rattle.std.proofs.lemmas.List.{get_or_past, drop_all}
 use Rattle.std.proofs.lemmas.Bool.Decides.{nat_tests}

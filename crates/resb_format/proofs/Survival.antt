@@ -1,5 +1,5 @@
 -- Numbers and spellings are read back as what they were written for.
-use Rattle.std.proofs.Common.{◌≡◌, ◌≢◌, ℕ, ◌/◌, ◌^◌, ◌<◌, ◌≤◌, ◌⊎◌, inl, inr, List, Result, Ok, Err, ap, subst, ◌∙◌, refl, arith}
+use Rattle.std.proofs.Common.{◌≡◌, ◌≢◌, ℕ, ◌/◌, ◌^◌, ◌<◌, ◌≤◌, ◌⊎◌, inl, inr, Result, Ok, Err, ap, subst, ◌∙◌, refl, arith}
 use Rattle.resb_format.specs.Codes.{endianness_number, charset_number, version_bytes, type_number}
 use Rattle.resb_format.specs.CodeReading.{ReadsEndianness, ReadsCharset, ReadsType, ReadsVersion}
 use Rattle.resb_format.specs.CodecLaws.{Survives}

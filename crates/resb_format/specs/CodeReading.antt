@@ -1,5 +1,5 @@
 -- What reading a number or a spelling answers: the value that is written so, or the refusal where none is.
-use Rattle.std.specs.Prelude.{◌≡◌, ◌≢◌, ℕ, ◌/◌, ◌^◌, ◌<◌, List, codes, Result, MatchResult}
+use Rattle.std.specs.Prelude.{◌≡◌, ◌≢◌, ℕ, ◌<◌, List, codes, Result, MatchResult}
 use Rattle.resb_format.specs.Codes.{endianness_number, charset_number, type_number, version_bytes}
 use Rattle.resb_format.specs.Error.{IsInvalid}
 use Rattle.resb_format.specs.declared.error.BinaryDeserializerError.{BinaryDeserializerError}

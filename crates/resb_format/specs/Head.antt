@@ -1,7 +1,7 @@
 -- Where the values of a head stand, and the bytes that they are written as. (ICU's `udata.h`, `ucmndata.h` and `uresdata.h`.)
 --     InfoAt i bytes, HeaderAt h bytes, IndexAt i bytes       these values stand at the front of the bytes
 --     info_bytes i, header_bytes h, index_bytes i             the bytes, in little-endian order
-use Rattle.std.specs.Prelude.{◌≡◌, ℕ, ◌+◌, ◌*◌, ◌≤◌, min, List, [], ◌∷◌, ◌++◌, length, take, drop, nat_le, nat_eq, Option, Some, None, slice_index, slice_range, codes, if◌then◌else◌}
+use Rattle.std.specs.Prelude.{◌≡◌, ℕ, ◌+◌, ◌*◌, ◌≤◌, min, List, [], ◌∷◌, ◌++◌, length, drop, nat_le, nat_eq, Option, Some, None, slice_index, slice_range, if◌then◌else◌}
 use Rattle.std.specs.List.{flat_map}
 use Rattle.std.specs.Option.{option_to_list}
 use Rattle.std.specs.Int.{to_le_bytes, w16, w32}

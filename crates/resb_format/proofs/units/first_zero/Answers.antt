@@ -1,5 +1,5 @@
 -- Where the loop ends, no unit is 0.
-use Rattle.std.proofs.Common.{◌≡◌, ◌<◌, length, nat_eq, sym, arith}
+use Rattle.std.proofs.Common.{◌≡◌, length, nat_eq, sym, arith}
 use Rattle.std.proofs.lemmas.List.Sums.{position_or_len_is}
 use Rattle.resb_format.specs.Views.{view_units}
 use Rattle.resb_format.proofs.units.first_zero.Goals as goal

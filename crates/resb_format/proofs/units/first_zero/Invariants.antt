@@ -1,4 +1,4 @@
-use Rattle.std.proofs.Common.{ℕ, ◌≡◌, ◌<◌, Bool, false, nat_eq, get_or}
+use Rattle.std.proofs.Common.{ℕ, ◌≡◌, ◌<◌, false, nat_eq, get_or}
 use Rattle.resb_format.specs.Views.{view_units}
 use Rattle.resb_format.proofs.units.first_zero.Given as goal
 

@@ -1,11 +1,10 @@
 -- Each turn takes the units of the next character from what is left.
-use Rattle.std.proofs.Common.{◌≡◌, ◌+◌, ◌≤◌, ◌<◌, ◌++◌, sym, ◌∙◌, ap, ℕ, List, length, length-append, nat_le, true, false, arith}
+use Rattle.std.proofs.Common.{◌≡◌, ◌++◌, sym, ◌∙◌, ap, length, length-append, arith}
 use Rattle.std.specs.Str.{chars}
 use Rattle.std.specs.Str.Iter.{chars_rest}
 use Rattle.std.specs.List.{flat_map}
 use Rattle.std.specs.Char.Escape.{encode_utf16}
 use Rattle.std.proofs.lemmas.Str.{encodes-chars, cons_from_encodes}
-use Rattle.std.proofs.lemmas.Bool.Decides.{nat_tests}
 use Rattle.resb_format.specs.Units.{units}
 use Rattle.resb_format.proofs.TextUnits.{no_chars, unit_count, fits, too_many}
 use Rattle.resb_format.proofs.units.has_at_most.Goals as goal

@@ -1,5 +1,5 @@
 -- The first unit says which of the two forms the string has.
-use Rattle.std.proofs.Common.{◌≡◌, ◌<◌, ◌⊎◌, ℕ, List, length, inl, inr, arith}
+use Rattle.std.proofs.Common.{◌<◌, ◌⊎◌, ℕ, List, length, inl, inr, arith}
 use Rattle.resb_format.specs.Bytes.{units_of}
 use Rattle.resb_format.proofs.Spelled.{units_length}
 use Rattle.resb_format.proofs.StringsIn.{at_marker, marker_fault, at_none, none_fault}

@@ -1,5 +1,5 @@
 -- The window is the first 41 units, and the string is what stands before its first 0.
-use Rattle.std.proofs.Common.{◌≡◌, ◌<◌, ◌≤◌, ℕ, List, length, take, drop, nat_eq, sym, ◌∙◌, ap, arith, None, Some}
+use Rattle.std.proofs.Common.{◌≡◌, ◌<◌, ◌≤◌, ℕ, List, length, take, drop, nat_eq, sym, ◌∙◌, ap, arith, Some}
 use Rattle.std.specs.List.{position_or_len}
 use Rattle.resb_format.specs.Bytes.{units_of}
 use Rattle.resb_format.specs.Strings.{before_zero}

@@ -1,5 +1,5 @@
 -- Each refusal is that of the first check that fails.
-use Rattle.std.proofs.Common.{◌≡◌, ◌*◌, ◌<◌, ◌≤◌, ℕ, List, length, min, ap, subst, arith}
+use Rattle.std.proofs.Common.{◌*◌, ◌<◌, ◌≤◌, length, min, arith}
 use Rattle.resb_format.proofs.IndexSteps.{no_count, small_count, no_word, index_holds}
 use Rattle.resb_format.proofs.index.BinIndexTryFromRefSliceU8.try_from.Goals as goal
 

@@ -1,5 +1,5 @@
 -- Each refusal is that of the first check that fails.
-use Rattle.std.proofs.Common.{◌≡◌, ◌⊎◌, inl, inr, ℕ, List, Bool, true, false, nat_eq, not, ◌≤◌, get_or, codes, slice_range, sym, ap, subst, ◌∙◌, rules}
+use Rattle.std.proofs.Common.{◌≡◌, inl, inr, ℕ, List, nat_eq, not, ◌≤◌, get_or, codes, slice_range, sym, ap, subst, ◌∙◌, rules}
 use Rattle.std.specs.Str.{bytes_eq}
 use Rattle.resb_format.specs.Codes.{endianness_number, charset_number, version_bytes}
 use Rattle.resb_format.specs.HeadChecks.{unit_in}

@@ -8,12 +8,15 @@ use crate::{
 use std::alloc::{AllocError, Global};
 use std::test::Fail;
 
-type Refusal = Option<(ErrorKind, &'static str)>;
-
-fn refusal<T: Drop>(answer: Result<T, BinaryDeserializerError>) -> Refusal {
+/// Whether the answer is a refusal of this kind and message.
+fn is_refused<T: Drop>(
+    answer: Result<T, BinaryDeserializerError>,
+    kind: ErrorKind,
+    message: &str,
+) -> bool {
     match answer {
-        Ok(_) => None,
-        Err(error) => Some((error.kind(), error.message())),
+        Ok(_) => false,
+        Err(error) => error.kind() == kind && error.message() == message,
     }
 }
 
@@ -74,30 +77,16 @@ fn numbers_go_both_ways(rt: HostRuntime) -> Result<(), Fail> {
 
 #[test]
 fn unknown_numbers_are_refused(rt: HostRuntime) {
-    let unrecognized = [
-        (
-            refusal(Endianness::try_from(2)),
-            "unrecognized value for Endianness",
-        ),
-        (
-            refusal(CharsetFamily::try_from(2)),
-            "unrecognized value for CharsetFamily",
-        ),
-        (
-            refusal(ResourceReprType::try_from(10)),
-            "unrecognized value for ResourceReprType",
-        ),
-        (
-            refusal(FormatVersion::try_from([2, 1, 0, 0].as_slice())),
-            "unrecognized format version",
-        ),
-        (
-            refusal(FormatVersion::try_from([2, 0, 0].as_slice())),
-            "unrecognized format version",
-        ),
-    ];
-    for (answer, message) in unrecognized {
-        assert_eq!(rt; answer, Some((ErrorKind::InvalidData, message)));
+    let invalid = ErrorKind::InvalidData;
+    let endianness = "unrecognized value for Endianness";
+    assert!(rt; is_refused(Endianness::try_from(2), invalid, endianness));
+    let family = "unrecognized value for CharsetFamily";
+    assert!(rt; is_refused(CharsetFamily::try_from(2), invalid, family));
+    let resource_type = "unrecognized value for ResourceReprType";
+    assert!(rt; is_refused(ResourceReprType::try_from(10), invalid, resource_type));
+    let version = "unrecognized format version";
+    for bytes in [[2, 1, 0, 0].as_slice(), [2, 0, 0].as_slice()] {
+        assert!(rt; is_refused(FormatVersion::try_from(bytes), invalid, version));
     }
 }
 
@@ -115,12 +104,13 @@ fn descriptors_hold_type_and_value(rt: HostRuntime) -> Result<(), Fail> {
     let empty = ResDescriptor::_new_empty(ResourceReprType::Table);
     assert!(rt; empty.is_empty());
     assert_eq!(rt; u32::from(empty), 0x2000_0000);
-    assert_eq!(rt;
-        refusal(ResDescriptor::try_from(0xa000_0000)),
-        Some((
+    let unknown = "unrecognized value for ResourceReprType";
+    assert!(rt;
+        is_refused(
+            ResDescriptor::try_from(0xa000_0000),
             ErrorKind::InvalidData,
-            "unrecognized value for ResourceReprType"
-        ))
+            unknown
+        )
     );
     Ok(())
 }
@@ -189,16 +179,11 @@ fn strings_are_cut_or_unterminated(rt: HostRuntime) -> Result<(), Fail> {
         (&[0, 0], 18_446_744_073_709_551_615, end),
     ];
     for (block, unit, message) in rows {
-        assert_eq!(rt;
-            refusal(string_at(block, unit)),
-            Some((ErrorKind::InvalidData, message))
-        );
+        assert!(rt; is_refused(string_at(block, unit), ErrorKind::InvalidData, message));
     }
     let forty_one = block_of(rt.alloc(), &[], 41)?;
-    assert_eq!(rt;
-        refusal(string_at(forty_one.as_slice(), 0)),
-        Some((ErrorKind::InvalidData, unterminated))
-    );
+    let cut = string_at(forty_one.as_slice(), 0);
+    assert!(rt; is_refused(cut, ErrorKind::InvalidData, unterminated));
     assert_eq!(rt; string_at(forty_one.as_slice(), 1)?.len(), 40);
     let marked = [0, 0, 0xff, 0xdf, 0, 0, 1, 0, 0x61, 0];
     assert_eq!(rt; string_at(&marked, 1)?.len(), 1);
@@ -252,10 +237,11 @@ fn wrong_lengths(rt: HostRuntime) -> Result<(), Fail> {
     let units = cast_bytes_to_u16_slice(&[0, 0xff])?;
     assert_eq!(rt; units.len(), 1);
     assert_eq!(rt; units.item(0), 0xff00);
-    let wrong = Some((ErrorKind::Unknown, "Wrong length"));
+    let unknown = ErrorKind::Unknown;
+    let wrong = "Wrong length";
     let three = cast_bytes_to_u32_slice(&[1, 0, 0, 0, 2, 0, 0, 0, 3, 0, 0, 0])?;
-    assert_eq!(rt; refusal(cast_u32_to_i32_pair_slice(three)), wrong);
-    assert_eq!(rt; refusal(cast_bytes_to_u32_slice(&[0, 0xff])), wrong);
-    assert_eq!(rt; refusal(cast_bytes_to_u16_slice(&[0])), wrong);
+    assert!(rt; is_refused(cast_u32_to_i32_pair_slice(three), unknown, wrong));
+    assert!(rt; is_refused(cast_bytes_to_u32_slice(&[0, 0xff]), unknown, wrong));
+    assert!(rt; is_refused(cast_bytes_to_u16_slice(&[0]), unknown, wrong));
     Ok(())
 }

@@ -7,5 +7,6 @@ mod Unique
 mod Reading
 mod Complete
 mod Sound
+mod Leaves
 mod GrammarLaws
 mod Examples

@@ -5,6 +5,7 @@ pub mod Refusal
 pub mod Tokens
 pub mod Items
 pub mod Types
+pub mod TypeNames
 pub mod Group
 pub mod BundleText
 pub mod Machine
@@ -12,3 +13,4 @@ pub mod Stuck
 pub mod Stage
 pub mod Entry
 pub mod Answer
+pub mod Leaf

@@ -4,9 +4,11 @@
 
 mod error;
 pub mod laws;
+mod leaf;
 mod reader;
 mod tokens;
 mod turns;
+mod types;
 
 pub use error::{Expected, TextParserError};
 pub use reader::Reader;

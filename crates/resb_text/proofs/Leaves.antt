@@ -1,12 +1,13 @@
 -- Groups that hold no items: where they are refused.
-use Rattle.std.proofs.Common.{◌≡◌, ◌≢◌, ℕ, ◌+◌, ◌%◌, ◌^◌, List, [], ◌∷◌, ◌++◌, refl, sym, subst, Some, None}
+use Rattle.std.proofs.Common.{◌≡◌, ◌≢◌, ℕ, ◌+◌, ◌%◌, ◌^◌, List, [], ◌∷◌, ◌++◌, refl, sym, ap, subst, Some, None}
 use Rattle.std.specs.Prelude.{slice_index}
-use Rattle.resb_tree.specs.Tree.{Tree, string, integer, int_vector}
+use Rattle.std.specs.Option.{option_map}
+use Rattle.resb_tree.specs.Tree.{Tree, string, binary, integer, int_vector}
 use Rattle.resb_text.specs.Tokens.{Skip, Text, Number}
-use Rattle.resb_text.specs.Types.{string_kind, integer_kind, vector_kind}
-use Rattle.resb_text.specs.Group.{Numbers, first_number, next_number, Vector, numbers_comma, string_content, integer_content, vector_content}
-use Rattle.resb_text.specs.Machine.{Token, a_word, a_number, opening, closing, a_comma, a_type, a_root_type, Open, State, in_string, in_integer, filled, in_vector, at_start, after_lone_comma, after_number, after_comma, neither, numbers as numbers_mode, word_class, number_class, comma_class, next, Move, At}
-use Rattle.resb_text.specs.Stuck.{expected, expected_number, NoToken, IsEnd, HasDigits, Stuck, blocked}
+use Rattle.resb_text.specs.Types.{string_kind, binary_kind, integer_kind, vector_kind}
+use Rattle.resb_text.specs.Group.{hex_bytes, binary_content, Numbers, first_number, next_number, Vector, numbers_comma, string_content, integer_content, vector_content}
+use Rattle.resb_text.specs.Machine.{Token, a_word, a_number, opening, closing, a_comma, a_type, a_root_type, Open, State, in_string, in_binary, in_integer, filled, in_vector, at_start, after_lone_comma, after_number, after_comma, neither, numbers as numbers_mode, word_class, number_class, comma_class, next, Move, At}
+use Rattle.resb_text.specs.Stuck.{expected, expected_number, NoToken, IsEnd, HasDigits, Stuck, blocked, no_pairs}
 use Rattle.resb_text.specs.Leaf.{Closes, IsUnclosed, Leaf, LeafFails}
 use Rattle.resb_text.specs.declared.error.Expected.{Expected}
 use Rattle.resb_text.specs.declared.error.Expected.TheVariants as expect
@@ -76,6 +77,30 @@ module _ (text : List ℕ) where
 
   pub vector_closed : (at brace to : ℕ) (ns : List ℕ) → Vector text at brace ns → slice_index text brace ≡ 125 → Skip text (brace + 1) to → Leaf text at to vector_kind (int_vector ns)
   vector_closed at brace to ns v b skip = record { ends = brace; content = vector_content ns v; closes = record { brace = b; after = skip } }
+
+  -- no string in `:bin{`
+  pub no_leaf_digits : (at : ℕ) → ((to : ℕ) (s : List ℕ) → Text text at to s → ⊥) → LeafFails text at binary_kind (record { position = at; expected = expect.Text })
+  no_leaf_digits at never o reached = stuck_at at (in_binary o) reached (λ to u x. go to u x.token (move_means text at to (in_binary o) u x) x.moves) (λ h. h) (λ (to, s, t). never to s t)
+    where
+      go : (to : ℕ) (u : State) (t : Token) → Means text at to t → next (in_binary o) t ≡ Some u → ⊥
+      go to u (a_word s) m e = never to s m
+      go to u (a_number v) m e = none_some u e
+      go to u opening m e = none_some u e
+      go to u closing m e = none_some u e
+      go to u a_comma m e = none_some u e
+      go to u (a_type kind) m e = none_some u e
+      go to u (a_root_type fallback) m e = none_some u e
+
+  -- a string that isn't pairs of hex digits
+  pub no_leaf_pairs : (at to : ℕ) (s : List ℕ) → Text text at to s → hex_bytes s ≡ None → LeafFails text at binary_kind (record { position = at; expected = expect.HexPairs })
+  no_leaf_pairs at to s t e o reached = no_pairs o to s reached t e
+
+  pub binary_unclosed : (at ends brace : ℕ) (s bytes : List ℕ) (e : TextParserError) → Text text at ends s → hex_bytes s ≡ Some bytes → Skip text ends brace → IsUnclosed text brace e → LeafFails text at binary_kind e
+  binary_unclosed at ends brace s bytes e t is skip u o reached =
+      stuck_as brace e u.is (no_leaf_brace brace (binary bytes) o u.none (further text at ends brace (in_binary o) (filled (binary bytes) o) (a_word s) word_class reached (class_word text at ends s t) (s, t, refl) (ap (option_map (λ bs. filled (binary bs) o)) is) skip))
+
+  pub binary_closed : (at ends brace to : ℕ) (s bytes : List ℕ) → Text text at ends s → hex_bytes s ≡ Some bytes → Skip text ends brace → Closes text brace to → Leaf text at to binary_kind (binary bytes)
+  binary_closed at ends brace to s bytes t is skip c = record { ends = brace; content = binary_content ends s bytes t is skip; closes = c }
 
   -- a number may stand here, after those
   pub data Ready (at : ℕ) : ℕ → List ℕ → Type 0 where

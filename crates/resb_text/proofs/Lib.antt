@@ -7,6 +7,8 @@ mod Unique
 mod Reading
 mod Complete
 mod Sound
+mod TypeLemmas
+mod HexPairs
 mod Leaves
 mod GrammarLaws
 mod Examples

@@ -1,9 +1,9 @@
 //! Groups that hold no items: one string, hex digits, one number, or numbers.
 //! Each is read from after its `{` on, up to what follows its `}`. Which type a group names is read in `types`.
-ghost use Rattle.std.specs.Prelude.{◌≡◌, ◌≢◌, ℕ, ◌⊎◌, ◌+◌, ◌*◌, ◌%◌, ◌^◌, ◌<◌, ◌≤◌, List, length, slice_index, IfOk, IfErr};
-ghost use Rattle.resb_tree.specs.Tree.{string, integer, int_vector};
+ghost use Rattle.std.specs.Prelude.{◌≡◌, ◌≢◌, ℕ, ◌⊎◌, ◌+◌, ◌*◌, ◌%◌, ◌^◌, ◌<◌, ◌≤◌, ◌↔◌, IsTrue, List, length, slice_index, IfOk, IfErr};
+ghost use Rattle.resb_tree.specs.Tree.{string, binary, integer, int_vector};
 ghost use Rattle.resb_text.specs.Group.{Vector};
-ghost use Rattle.resb_text.specs.Types.{string_kind, integer_kind, vector_kind};
+ghost use Rattle.resb_text.specs.Types.{string_kind, binary_kind, integer_kind, vector_kind};
 ghost use Rattle.resb_text.specs.Stuck as stuck;
 ghost use Rattle.resb_text.specs.Refusal.{want_of_memory};
 ghost use Rattle.resb_text.specs.Leaf.{Closes, IsUnclosed, Leaf, LeafFails};
@@ -11,6 +11,7 @@ ghost use Rattle.resb_text.specs.Leaf.{Closes, IsUnclosed, Leaf, LeafFails};
 use crate::error::{Expected, TextParserError};
 use crate::tokens::{byte, number, skip, text};
 use crate::turns::Turns;
+use hex::FromHexError;
 use std::alloc::Global;
 
 /// The place after the `}` that must stand here and what may be skipped.
@@ -54,6 +55,50 @@ pub(crate) fn string_leaf<'a>(
     let brace = skip(turns, end);
     let to = close(turns, brace)?;
     Ok((to, string))
+}
+
+/// The place after a `:bin` group, and its bytes. A turn for each of its digits was counted as the string was taken.
+pub(crate) fn binary_leaf(
+    alloc: Global,
+    turns: &mut Turns<'_>,
+    at: usize,
+) -> Result<(usize, Vec<u8>), TextParserError>
+    requires room { turns.old.count < 2 ^ 95 }
+    requires fits { length turns.old.text < 2 ^ 64 }
+    requires within { at ≤ length turns.old.text }
+    ensures ok { IfOk result (λ r. Leaf turns.old.text at r.0 binary_kind (binary r.1.items)) }
+    ensures err { IfErr result (λ e. (e ≡ want_of_memory) ⊎ LeafFails turns.old.text at binary_kind e) }
+    ensures within { IfOk result (λ r. (at < r.0) × (r.0 ≤ length turns.old.text)) }
+    ensures text { turns.new.text ≡ turns.old.text }
+    ensures cost { IfOk result (λ r. slice_index turns.old.text r.0 ≢ 47 → turns.new.count + 8 * at ≤ turns.old.count + 8 * r.0) }
+    ensures most { turns.new.count + 8 * at ≤ turns.old.count + 8 * length turns.old.text + 5 }
+{
+    let Some((end, digits)) = text(turns, at) else {
+        return Err(TextParserError::new(at, Expected::Text));
+    };
+    match hex::decode(alloc, digits) {
+        Ok(bytes) => {
+            let brace = skip(turns, end);
+            let to = close(turns, brace)?;
+            Ok((to, bytes))
+        }
+        Err(error) => {
+            if is_memory(error) {
+                return Err(TextParserError::new(0, Expected::Memory));
+            }
+            Err(TextParserError::new(at, Expected::HexPairs))
+        }
+    }
+}
+
+/// Whether memory was wanted, and not digits.
+fn is_memory(error: FromHexError) -> bool
+    ensures { IsTrue result ↔ (error ≡ FromHexError.OutOfMemory) }
+{
+    match error {
+        FromHexError::OutOfMemory => true,
+        _ => false,
+    }
 }
 
 /// The place after an `:int` group, and its number, which the bundle holds modulo 2^28.

@@ -2,10 +2,10 @@
 //! What a type asks of a group's content is not said here.
 ghost use Rattle.std.specs.Prelude.{◌≡◌, ℕ, ◌+◌, ◌*◌, ◌^◌, ◌<◌, ◌≤◌, ◌↔◌, Bool, IsTrue, length, slice_index, IfSome, IfNone};
 ghost use Rattle.resb_text.specs.Types as spec;
-ghost use Rattle.resb_text.specs.Types.{Names, GroupType, NoFallback, RootType};
+ghost use Rattle.resb_text.specs.Types.{Names, GroupType, Stands, RootType};
 ghost use Rattle.resb_text.specs.TypeNames.{kind_of};
 
-use crate::tokens::{byte, word_end};
+use crate::tokens::word_end;
 use crate::turns::Turns;
 
 /// The types that a group may name.
@@ -55,5 +55,52 @@ pub(crate) fn group_type(turns: &mut Turns<'_>, at: usize) -> Option<(usize, Kin
     match kind_named(turns.take(from, to)) {
         Some(kind) => Some((to, kind)),
         None => None,
+    }
+}
+
+/// Whether these bytes stand here.
+fn stands(turns: &mut Turns<'_>, at: usize, bytes: &[u8]) -> bool
+    requires room { turns.old.count < 2 ^ 98 }
+    requires few { length bytes.now < 2 ^ 32 }
+    requires within { at ≤ length turns.old.text }
+    ensures stands { IsTrue result ↔ Stands turns.old.text at bytes.now }
+    ensures inside { IsTrue result → at + length bytes.now ≤ length turns.old.text }
+    ensures text { turns.new.text ≡ turns.old.text }
+    ensures cost { IsTrue result → turns.new.count ≤ turns.old.count + length bytes.now }
+    ensures most { turns.new.count + at ≤ turns.old.count + length turns.old.text + 1 }
+{
+    let mut here = at;
+    for b in bytes {
+        if turns.look(here) != Some(*b) {
+            return false;
+        }
+        here += 1;
+    }
+    true
+}
+
+/// The root's type whose `:` stands here: the place after it, and whether fallback stays on.
+pub(crate) fn root_type(turns: &mut Turns<'_>, at: usize) -> Option<(usize, bool)>
+    requires room { turns.old.count < 2 ^ 96 }
+    requires fits { length turns.old.text < 2 ^ 64 }
+    requires colon { slice_index turns.old.text at ≡ 58 }
+    ensures found { IfSome result (λ r. RootType turns.old.text at r.0 r.1) }
+    ensures none { IfNone result ((to : ℕ) (fallback : Bool) → RootType turns.old.text at to fallback → ⊥) }
+    ensures within { IfSome result (λ r. (at < r.0) × (r.0 ≤ length turns.old.text)) }
+    ensures text { turns.new.text ≡ turns.old.text }
+    ensures most { turns.new.count + 2 * at ≤ turns.old.count + 3 * length turns.old.text + 1 }
+{
+    let Some((to, kind)) = group_type(turns, at) else {
+        return None;
+    };
+    match kind {
+        Kind::Table => {
+            if stands(turns, to, b"(nofallback)") {
+                Some((to + 12, false))
+            } else {
+                Some((to, true))
+            }
+        }
+        _ => None,
     }
 }

@@ -74,9 +74,9 @@ numbers-preserved c =
       low = omega (arith, c.numbers.invariant.low, within, c.skip-place.ensures.order, c.skip-here.ensures.order);
       fits = fits_here;
       ready = rw c.in_ok-push.ensures.items (ready_next _ _ _ (one_number _ _ _ _ _ _ _ c.numbers.invariant.ready (rw c.numbers.invariant.text at c.in-Some.ensures.found)
-        (rw (c.number.ensures.text, c.numbers.invariant.text) at c.skip-place.ensures.skip))
-        (sym byte_place ∙ c.in-44.is)
-        (rw (c.byte-in-numbers.ensures.text, e) at c.skip-here.ensures.skip));
+          (rw (c.number.ensures.text, c.numbers.invariant.text) at c.skip-place.ensures.skip))
+          (sym byte_place ∙ c.in-44.is)
+          (rw (c.byte-in-numbers.ensures.text, e) at c.skip-here.ensures.skip));
       brace = rw (← byte_here) c.if-byte-eq125-2.false;
       cost = λ h. omega (arith, now, within, c.in-Some.ensures.cost, byte_place, c.in-44.is, cost_place, c.byte-in-numbers.ensures.counted, cost_here h, c.byte-in-44.ensures.counted, c.skip-place.ensures.order, c.skip-here.ensures.order);
       most = omega (arith, now, within, c.in-Some.ensures.cost, byte_place, c.in-44.is, cost_place, c.byte-in-numbers.ensures.counted, most_here, c.byte-in-44.ensures.counted, c.skip-place.ensures.order, c.skip-here.ensures.order, fits_here);

@@ -9,6 +9,7 @@ mod Complete
 mod Sound
 mod TypeLemmas
 mod HexPairs
+mod ItemLemmas
 mod Leaves
 mod GrammarLaws
 mod Examples

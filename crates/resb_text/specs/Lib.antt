@@ -14,3 +14,4 @@ pub mod Stage
 pub mod Entry
 pub mod Answer
 pub mod Leaf
+pub mod Shown

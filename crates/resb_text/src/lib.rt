@@ -3,6 +3,7 @@
 #![tactic(auto)]
 
 mod error;
+mod items;
 pub mod laws;
 mod leaf;
 mod reader;

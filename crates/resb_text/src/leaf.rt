@@ -205,3 +205,6 @@ pub(crate) fn vector_leaf(
     let (brace, numbers) = vector(alloc, turns, at)?;
     Ok((skip(turns, brace + 1), numbers))
 }
+
+#[cfg(test)]
+mod tests;

@@ -1,4 +1,4 @@
--- The words of the contracts: bytes, the counter of turns, refusals, tokens.
+-- The words of the contracts: tokens, the grammar, the states of a reading, and what the reader takes so far.
 pub mod Bytes
 pub mod Turns
 pub mod Refusal

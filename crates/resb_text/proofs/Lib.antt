@@ -7,5 +7,9 @@ mod Unique
 mod Reading
 mod Complete
 mod Sound
+mod TypeLemmas
+mod HexPairs
+mod ItemLemmas
+mod Leaves
 mod GrammarLaws
 mod Examples

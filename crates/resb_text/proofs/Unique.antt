@@ -121,7 +121,7 @@ names_it w vector_kind h = ap named_kind h
 Names-one : (w : List ℕ) (k l : Kind) → Names w k → Names w l → k ≡ l
 Names-one w k l p q = let e : Some k ≡ Some l = sym (names_it w k p) ∙ names_it w l q in cc
 
-GroupType-one : (text : List ℕ) (from a b : ℕ) (k l : Kind) → GroupType text from a k → GroupType text from b l → (a ≡ b) × (k ≡ l)
+pub GroupType-one : (text : List ℕ) (from a b : ℕ) (k l : Kind) → GroupType text from a k → GroupType text from b l → (a ≡ b) × (k ≡ l)
 GroupType-one text from a b k l p q =
     let both = TypeWord-one text from a b p.word q.word p.stands q.stands in
     (both.0, Names-one p.word k l p.names (subst (λ (w : List ℕ). Names w l) (sym both.1) q.names))

@@ -1,10 +1,11 @@
--- The words of the contracts: bytes, the counter of turns, refusals, tokens.
+-- The words of the contracts: tokens, the grammar, the states of a reading, and what the reader takes so far.
 pub mod Bytes
 pub mod Turns
 pub mod Refusal
 pub mod Tokens
 pub mod Items
 pub mod Types
+pub mod TypeNames
 pub mod Group
 pub mod BundleText
 pub mod Machine
@@ -12,3 +13,5 @@ pub mod Stuck
 pub mod Stage
 pub mod Entry
 pub mod Answer
+pub mod Leaf
+pub mod Shown

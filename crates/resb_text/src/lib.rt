@@ -3,10 +3,13 @@
 #![tactic(auto)]
 
 mod error;
+mod items;
 pub mod laws;
+mod leaf;
 mod reader;
 mod tokens;
 mod turns;
+mod types;
 
 pub use error::{Expected, TextParserError};
 pub use reader::Reader;

@@ -127,7 +127,7 @@ pub fn skip(turns: &mut Turns<'_>, from: usize) -> usize
 }
 
 /// Where the run of word characters ends.
-fn word_end(turns: &mut Turns<'_>, from: usize) -> usize
+pub(crate) fn word_end(turns: &mut Turns<'_>, from: usize) -> usize
     requires room { turns.old.count < 2 ^ 100 }
     requires within { from ≤ length turns.old.text }
     ensures run { Run spec.is_word turns.old.text from result }
@@ -197,6 +197,7 @@ fn digits(turns: &mut Turns<'_>, from: usize) -> (usize, u64)
     ensures run { Run is_digit turns.old.text from result.0 }
     ensures value { result.1 ≡ min (decimal turns.old.text from (result.0 - from)) 4294967296 }
     ensures text { turns.new.text ≡ turns.old.text }
+    ensures slash { slice_index turns.old.text from ≡ 47 → turns.new.count ≤ turns.old.count + 1 }
     ensures cost { turns.new.count + from ≤ turns.old.count + result.0 + 1 }
 {
     let mut value = 0u64;
@@ -220,6 +221,7 @@ fn digits_up_to(turns: &mut Turns<'_>, from: usize, limit: u64) -> Option<(usize
     ensures limited { IfSome result (λ r. r.1 ≤ limit) }
     ensures none { IfNone result ((to value : ℕ) → Digits turns.old.text from to value → value ≤ limit → ⊥) }
     ensures text { turns.new.text ≡ turns.old.text }
+    ensures slash { slice_index turns.old.text from ≡ 47 → turns.new.count ≤ turns.old.count + 1 }
     ensures cost { IfSome result (λ r. turns.new.count + from ≤ turns.old.count + r.0 + 1) }
     ensures most { turns.new.count + from ≤ turns.old.count + length turns.old.text + 1 }
 {
@@ -240,6 +242,7 @@ pub fn number(turns: &mut Turns<'_>, from: usize) -> Option<(usize, u32)>
     ensures first { IfSome result (λ r. slice_index turns.old.text from ≢ 47) }
     ensures within { IfSome result (λ r. (from < r.0) × (r.0 ≤ length turns.old.text)) }
     ensures text { turns.new.text ≡ turns.old.text }
+    ensures slash { slice_index turns.old.text from ≡ 47 → turns.new.count ≤ turns.old.count + 2 }
     ensures cost { IfSome result (λ r. turns.new.count + from ≤ turns.old.count + r.0 + 2) }
     ensures most { turns.new.count + from ≤ turns.old.count + length turns.old.text + 3 }
 {

@@ -3,6 +3,7 @@ pub use Rattle.resb_tree.specs.Tree
 pub use Rattle.resb_tree.specs.View
 pub use Rattle.resb_tree.specs.Bundle
 pub use Rattle.resb_tree.specs.Maps
+pub use Rattle.resb_tree.specs.Keys
 pub use Rattle.resb_tree.specs.Int28
 pub mod Bytes
 pub mod Units
@@ -13,7 +14,6 @@ pub mod Denotes
 pub mod File
 pub mod KeyBlock
 pub mod PlainSize
-pub mod Unique
 pub mod Error
 pub mod Codes
 pub mod Descriptor
@@ -24,4 +24,5 @@ pub mod Head
 pub mod CodeReading
 pub mod DescriptorReading
 pub mod HeadReading
-pub mod CodecLaws
+pub mod PartsReading
+pub mod Laws

@@ -8,12 +8,14 @@ use Rattle.std.proofs.lemmas.Bool.{le-leb, ne_eqb, or_parts}
 use Rattle.std.proofs.lemmas.List.Sums.{sum_by-cons}
 use Rattle.std.proofs.lemmas.List.{take_at, drop_at, get_or_at, length-map, nil_from_length}
 use Rattle.resb_tree.specs.Tree.{integer, table, entries_of, map_of, entries_count, tree_count}
-use Rattle.resb_tree.specs.Maps.{text_cmp, map_of-sorted}
+use Rattle.resb_tree.specs.Maps.{text_cmp}
+use Rattle.resb_tree.proofs.MapLemmas.{map_of-sorted}
 use Rattle.resb_format.specs.Bytes.{part}
 use Rattle.resb_format.specs.Units.{units}
 use Rattle.resb_format.specs.Strings.{text_at, key_at}
 use Rattle.resb_format.specs.Parts.{Parts}
 use Rattle.std.specs.Prelude.{Contains}
+use Rattle.resb_format.proofs.ContentLemmas.{table16_at-is}
 use Rattle.resb_format.specs.Content.{unit, leaf, pairs, content, placed, empty, paired, offsets_at, table16_at, Member, word, list}
 use Rattle.resb_format.specs.Denotes.{Den, den_pairs, den_unit, DenPairs, pairs_none, pairs_more}
 use Rattle.resb_format.specs.KeyBlock.{key_bytes, last_of, used}
@@ -60,7 +62,8 @@ table16_found p front ps offsets back e l =
     let b : part p.block (u + 1 + n) n ≡ Some offsets =
     ap (λ b. part b (u + 1 + n) n) g
     ∙ part_found ((front ++ n ∷ []) ++ ps) offsets back (u + 1 + n) n (omega (arith, length-append front (n ∷ []), length-append (front ++ n ∷ []) ps)) (sym l) in
-    ap (λ m. paired (part p.block (u + 1) m) (offsets_at p (u + 1 + m) m)) count
+    table16_at-is p u
+    ∙ ap (λ m. paired (part p.block (u + 1) m) (offsets_at p (u + 1 + m) m)) count
     ∙ (λ i. paired (a i) (option_map (map unit) (b i)))
 
 pub length-offsets_from : (u : ℕ) (es : List Pair) → length (offsets_from u es) ≡ length es

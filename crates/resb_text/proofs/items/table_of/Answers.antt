@@ -4,7 +4,7 @@ use Rattle.std.specs.Option.{option_map}
 use Rattle.std.specs.Vec.Iter.{into_iter_items}
 use Rattle.resb_tree.specs.View.{entries_view}
 use Rattle.resb_tree.specs.Tree.{table, put_all, map_of}
-use Rattle.resb_tree.proofs.Views.{tree_of_table}
+use Rattle.resb_tree.proofs.ViewLemmas.{tree_of_table}
 use Rattle.resb_text.specs.Shown.{shown, pairs_after, shown_pairs}
 use Rattle.resb_text.proofs.ItemLemmas.{none_left}
 use Rattle.resb_text.proofs.items.table_of.Goals as goal

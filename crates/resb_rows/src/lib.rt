@@ -9,6 +9,8 @@ mod head_rows;
 #[cfg(test)]
 mod parts_rows;
 #[cfg(test)]
+mod pool_rows;
+#[cfg(test)]
 mod tree_rows;
 #[cfg(test)]
 mod way_rows;

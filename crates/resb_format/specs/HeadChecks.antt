@@ -8,7 +8,7 @@ use Rattle.std.specs.Str.{bytes_eq}
 use Rattle.resb_format.specs.Bytes.{units_of, words_of}
 use Rattle.resb_format.specs.Codes.{version_bytes}
 use Rattle.resb_format.specs.Error.{kind_of, message_of}
-use Rattle.resb_format.specs.declared.error.BinaryDeserializerError.{BinaryDeserializerError}
+use Rattle.resb_format.specs.declared.error.ReadingError.{ReadingError}
 use Rattle.resb_format.specs.declared.error.ErrorKind.{ErrorKind}
 use Rattle.resb_format.specs.declared.error.ErrorKind.TheVariants.{InvalidData, UnsupportedFormat}
 use Rattle.resb_format.specs.declared.version.FormatVersion.TheVariants.{V1_0, V1_1, V1_2, V1_3, V2_0, V3_0}
@@ -24,7 +24,7 @@ abbrev pub unsupported : List ℕ → Fault
 unsupported message = (UnsupportedFormat, message)
 
 -- the fault that an error tells
-abbrev pub fault_of : BinaryDeserializerError → Fault
+abbrev pub fault_of : ReadingError → Fault
 fault_of e = (kind_of e, message_of e)
 
 -- the fault of the first check that fails; a check is a test and the fault where it fails

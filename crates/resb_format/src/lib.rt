@@ -2,7 +2,7 @@
 //! No loop here goes over a whole file: reading and writing are in the crates above.
 #![tactic(auto)]
 
-mod bytes;
+pub mod bytes;
 mod casts;
 mod charset;
 mod codec_laws;
@@ -30,7 +30,7 @@ pub use codec_laws::{
 };
 pub use descriptor::ResDescriptor;
 pub use endianness::Endianness;
-pub use error::{BinaryDeserializerError, ErrorKind};
+pub use error::{BinaryDeserializerError, ErrorKind, ReadingError};
 pub use head::BinHeader;
 pub use index::BinIndex;
 pub use laws::{one_tree, reached_is_counted};

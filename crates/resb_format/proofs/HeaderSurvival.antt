@@ -4,7 +4,7 @@ use Rattle.std.specs.Int.{to_le_bytes, w16}
 use Rattle.std.proofs.lemmas.List.{get_or-drop}
 use Rattle.resb_format.specs.Bytes.{units_of}
 use Rattle.resb_format.specs.Codes.{endianness_number, charset_number, version_bytes}
-use Rattle.resb_format.specs.CodecLaws.{EachFits, IsHeader, HeaderSurvives}
+use Rattle.resb_format.specs.Laws.{EachFits, IsHeader, HeaderSurvives}
 use Rattle.resb_format.specs.Head.{HeaderAt, header_bytes}
 use Rattle.resb_format.specs.HeadChecks.{unit_in}
 use Rattle.resb_format.specs.HeadReading.{ReadsHeader}

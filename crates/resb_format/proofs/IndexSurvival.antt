@@ -8,7 +8,7 @@ use Rattle.std.proofs.lemmas.Bool.Decides.{nat_tests}
 use Rattle.std.proofs.Props.{props}
 use mathlib.Core.HLevel.{Σ_prop_path}
 use Rattle.resb_format.specs.Bytes.{words_of}
-use Rattle.resb_format.specs.CodecLaws.{EachFits, IndexSurvives}
+use Rattle.resb_format.specs.Laws.{EachFits, IndexSurvives}
 use Rattle.resb_format.specs.Head.{IndexAt, field, index_words, index_bytes}
 use Rattle.resb_format.specs.HeadChecks.{index_fault}
 use Rattle.resb_format.specs.HeadReading.{ReadsIndex}

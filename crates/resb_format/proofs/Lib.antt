@@ -1,4 +1,5 @@
 pub mod Denoting
+pub mod ContentLemmas
 pub mod Examples
 pub mod Spelled
 pub mod InsideLemmas
@@ -10,6 +11,8 @@ pub mod IndexSteps
 pub mod Apart
 pub mod Survival
 pub mod Passing
+pub mod FileSteps
+pub mod SupportSteps
 pub mod WordsBack
 pub mod IndexSurvival
 pub mod HeaderSurvival

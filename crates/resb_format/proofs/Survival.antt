@@ -2,7 +2,7 @@
 use Rattle.std.proofs.Common.{◌≡◌, ◌≢◌, ℕ, ◌/◌, ◌^◌, ◌<◌, ◌≤◌, ◌⊎◌, inl, inr, Result, Ok, Err, ap, subst, ◌∙◌, refl, arith}
 use Rattle.resb_format.specs.Codes.{endianness_number, charset_number, version_bytes, type_number}
 use Rattle.resb_format.specs.CodeReading.{ReadsEndianness, ReadsCharset, ReadsType, ReadsVersion}
-use Rattle.resb_format.specs.CodecLaws.{Survives}
+use Rattle.resb_format.specs.Laws.{Survives}
 use Rattle.resb_format.specs.Descriptor.{word_of}
 use Rattle.resb_format.specs.DescriptorReading.{ReadsDescriptor}
 use Rattle.resb_format.specs.declared.error.ReadingError.{ReadingError}

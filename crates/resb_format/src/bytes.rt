@@ -1,6 +1,6 @@
 //! Little-endian numbers among bytes. No other module indexes bytes.
 //! Where a number stands is the business of the module that asks for it.
-ghost use Rattle.std.specs.Prelude.{◌≡◌, ◌+◌, ◌*◌, ◌/◌, ◌<◌, ◌≤◌, [], ◌∷◌, length, slice_index, slice_range, take, drop, Some, None, MatchOption};
+ghost use Rattle.std.specs.Prelude.{◌≡◌, ◌+◌, ◌*◌, ◌/◌, ◌<◌, ◌≤◌, [], ◌∷◌, length, slice_get, slice_index, slice_range, take, drop, Some, None, MatchOption};
 ghost use Rattle.resb_format.specs.Bytes.{units_of, words_of, part};
 ghost use Rattle.resb_format.specs.HeadChecks as checks;
 
@@ -70,10 +70,9 @@ pub(crate) fn unit_in(bytes: &[u8], number: usize, is_big: bool) -> u16
 }
 
 /// The 16-bit unit with this number, if it lies inside.
-#[tactic(auto, using(crate::proofs::Spelled::units_length))]
+#[tactic(auto, using(crate::proofs::Spelled::units_length, crate::proofs::InsideLemmas::there, crate::proofs::InsideLemmas::not_there))]
 pub fn some_unit(bytes: &[u8], number: usize) -> Option<u16>
-    ensures { let units = units_of bytes.now in
-        MatchOption result (length units ≤ number) (λ x. (number < length units) × (x ≡ slice_index units number)) }
+    ensures { result ≡ slice_get (units_of bytes.now) number }
 {
     if number >= bytes.len() / 2 {
         return None;
@@ -82,10 +81,9 @@ pub fn some_unit(bytes: &[u8], number: usize) -> Option<u16>
 }
 
 /// The 32-bit word with this number, if it lies inside.
-#[tactic(auto, using(crate::proofs::Spelled::words_length))]
+#[tactic(auto, using(crate::proofs::Spelled::words_length, crate::proofs::InsideLemmas::there, crate::proofs::InsideLemmas::not_there))]
 pub fn some_word(bytes: &[u8], number: usize) -> Option<u32>
-    ensures { let words = words_of bytes.now in
-        MatchOption result (length words ≤ number) (λ x. (number < length words) × (x ≡ slice_index words number)) }
+    ensures { result ≡ slice_get (words_of bytes.now) number }
 {
     if number >= bytes.len() / 4 {
         return None;
@@ -120,7 +118,7 @@ pub fn first_word(bytes: &[u8]) -> Option<(u32, &[u8])>
 }
 
 /// So many bytes from this place on, if they lie inside.
-#[tactic(auto, using(crate::proofs::InsideLemmas::part_in, crate::proofs::InsideLemmas::part_past))]
+#[tactic(auto, using(crate::proofs::ContentLemmas::part_in, crate::proofs::ContentLemmas::part_past))]
 pub fn some_bytes(bytes: &[u8], from: usize, count: usize) -> Option<&[u8]>
     ensures { MatchOption result (part bytes.now from count ≡ None) (λ b. part bytes.now from count ≡ Some b.now) }
 {

@@ -9,20 +9,13 @@ use Rattle.std.proofs.lemmas.Str.{is_utf8-from_IsUtf8, IsUtf8-from_is_utf8}
 use Rattle.std.specs.Char.Utf16.{has_unpaired_surrogate}
 use Rattle.resb_format.specs.Bytes.{units_of, words_of, part}
 use Rattle.std.specs.Prelude.{nat_lt, ◌&&◌, slice_index, codes, if◌then◌else◌}
-use Rattle.resb_format.specs.StringFaults.{string_fault, is_no_marker}
+use Rattle.resb_format.specs.StringFaults.{string_fault}
+use Rattle.resb_format.specs.Strings.{is_no_marker}
 use Rattle.resb_format.specs.Error.{IsInvalid}
 use Rattle.resb_walk.specs.Refusals.{IsFault}
 use Rattle.resb_format.specs.declared.error.ReadingError.{ReadingError}
 use Rattle.resb_format.specs.Strings.{text_at, string_at, key_at}
-use Rattle.resb_format.proofs.Spelled.{words_length}
-use Rattle.resb_format.proofs.InsideLemmas as inside
 use Rattle.resb_walk.specs.Inner.Members.{text_of_bytes}
-
-pub part_past : (xs : List ℕ) (i n : ℕ) → length xs < i + n → part xs i n ≡ None
-part_past xs i n h = inside.part_past xs i n h
-
-pub binary_past : (bs : List ℕ) (v n : ℕ) → length (words_of bs) ≤ v → part bs (4 * v + 4) n ≡ None
-binary_past bs v n h = inside.part_past bs (4 * v + 4) n (omega (arith, words_length bs, h))
 
 not_true : (b : Bool) → true ≡ not b → b ≡ false
 not_true true h = cc

@@ -4,4 +4,4 @@ use Rattle.resb_format.specs.Parts.{Parts}
 use Rattle.resb_walk.specs.declared.file.File.{File}
 
 abbrev pub parts_in : File → Parts
-parts_in f = record { body = f.body.now; keys = f.keys.now; block = units_of f.block.now; root = 0 }
+parts_in f = record { body = f.body.now; keys = f.keys.now; block = units_of f.block.now }

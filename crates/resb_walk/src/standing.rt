@@ -156,7 +156,6 @@ impl<'a> File<'a> {
     }
 
     /// A count of bytes, and the bytes.
-    #[tactic(auto, using(crate::proofs::Placed::binary_past))]
     fn binary(self, value: usize) -> Result<Standing<'a>, BinaryDeserializerError>
         requires { value < 268435456 }
         ensures { let p = parts_in self.entry in
@@ -172,7 +171,6 @@ impl<'a> File<'a> {
     }
 
     /// A count of numbers, and the numbers.
-    #[tactic(auto, using(crate::proofs::Placed::part_past))]
     fn int_vector(self, value: usize) -> Result<Standing<'a>, BinaryDeserializerError>
         requires { value < 268435456 }
         ensures { let p = parts_in self.entry in
@@ -188,7 +186,6 @@ impl<'a> File<'a> {
     }
 
     /// A count of descriptors, and the descriptors.
-    #[tactic(auto, using(crate::proofs::Placed::part_past))]
     fn array(self, value: usize) -> Result<Standing<'a>, BinaryDeserializerError>
         requires { value < 268435456 }
         ensures { let p = parts_in self.entry in
@@ -204,7 +201,6 @@ impl<'a> File<'a> {
     }
 
     /// A count of offsets, and the offsets.
-    #[tactic(auto, using(crate::proofs::Placed::part_past))]
     fn array16(self, value: usize) -> Result<Standing<'a>, BinaryDeserializerError>
         requires { value < 268435456 }
         ensures { let p = parts_in self.entry in
@@ -220,7 +216,6 @@ impl<'a> File<'a> {
     }
 
     /// A 16-bit count of entries, 16-bit key positions, padding up to a word, and descriptors.
-    #[tactic(auto, using(crate::proofs::Placed::part_past))]
     fn table(self, value: usize) -> Result<Standing<'a>, BinaryDeserializerError>
         requires { value < 268435456 }
         ensures { let p = parts_in self.entry in
@@ -243,7 +238,6 @@ impl<'a> File<'a> {
     }
 
     /// A count of entries, key positions and offsets, all of 16 bits.
-    #[tactic(auto, using(crate::proofs::Placed::part_past))]
     fn table16(self, value: usize) -> Result<Standing<'a>, BinaryDeserializerError>
         requires { value < 268435456 }
         ensures { let p = parts_in self.entry in
@@ -266,7 +260,6 @@ impl<'a> File<'a> {
     }
 
     /// A count of entries, key positions and descriptors, all of 32 bits, without padding.
-    #[tactic(auto, using(crate::proofs::Placed::part_past))]
     fn table32(self, value: usize) -> Result<Standing<'a>, BinaryDeserializerError>
         requires { value < 268435456 }
         ensures { let p = parts_in self.entry in

@@ -1,16 +1,35 @@
--- What the laws of the codecs say.
+-- What the laws of this crate say.
+--     OneTree, ReachedIsCounted   a word has one tree and count, and reaches no more resources than that
 --     Survives write reads        what is written is read back, and what is read is written as it stood
---     HeaderSurvives              a header that was read is read back from the bytes that it is written as
+--     HeaderSurvives              a header that was read is read back from the bytes it is written as
 --     IndexSurvives               so is any index, and the words that were read are written unchanged
---     BundleFilePasses            the head of a bundle file passes the checks of header and index
-use Rattle.std.specs.Prelude.{◌≡◌, ℕ, ◌*◌, ◌^◌, ◌<◌, ◌≤◌, min, List, [], ◌∷◌, length, take, drop, Bool, true, false, nat_eq, Ok, None, Result, slice_index, slice_range, codes}
-use Rattle.resb_format.specs.Parts.{IsBundleFile, body_of}
+--     BundleFilePasses            the checks of a file's head let through exactly the bundle files
+use Rattle.std.specs.Prelude.{◌≡◌, ℕ, ◌*◌, ◌^◌, ◌<◌, ◌≤◌, min, List, [], ◌∷◌, length, take, Bool, true, false, nat_eq, Ok, None, Result, slice_index, slice_range, codes}
+use Rattle.resb_tree.specs.Tree.{Tree}
+use Rattle.resb_format.specs.Parts.{Parts, IsBundleFile}
+use Rattle.resb_format.specs.Denotes.{Den, Reaches}
 use Rattle.resb_format.specs.Head.{header_bytes, index_bytes, index_words}
-use Rattle.resb_format.specs.HeadChecks.{header_fault, index_fault, is_version, unit_in}
+use Rattle.resb_format.specs.HeadChecks.{header_fault, file_fault, is_version, unit_in}
 use Rattle.resb_format.specs.HeadReading.{ReadsHeader, ReadsIndex}
 use Rattle.resb_format.specs.declared.error.ReadingError.{ReadingError}
 use Rattle.resb_format.specs.declared.head.BinHeader.{BinHeader}
 use Rattle.resb_format.specs.declared.index.BinIndex.{BinIndex}
+
+-- in given parts a word denotes at most one tree, with one count
+abbrev pub OneTree : Type 0
+OneTree = (p : Parts) (w m n : ℕ) (t u : Tree) → Den p w t m → Den p w u n → (t ≡ u) × (m ≡ n)
+
+-- no more resources are reached than are denoted
+abbrev pub ReachedIsCounted : Type 0
+ReachedIsCounted = (p : Parts) (w m n : ℕ) (t : Tree) → Den p w t n → Reaches p w m → m ≤ n
+
+-- a denoted word reaches each number up to its count
+abbrev pub CountedIsReached : Type 0
+CountedIsReached = (p : Parts) (w m n : ℕ) (t : Tree) → Den p w t n → 1 ≤ m → m ≤ n → Reaches p w m
+
+-- what reaches a number reaches each smaller one
+abbrev pub ReachingGoesDown : Type 0
+ReachingGoesDown = (p : Parts) (w m n : ℕ) → Reaches p w n → 1 ≤ m → m ≤ n → Reaches p w m
 
 pub record Survives {A B : Type 0} (write : A → B) (reads : B → Result A ReadingError → Type 0) : Type 0 where
   pub read_back : (x : A) (r : Result A ReadingError) → reads (write x) r → r ≡ Ok x
@@ -43,5 +62,6 @@ pub record IsHeader (any : Bool) (bytes : List ℕ) : Type 0 where
 abbrev pub HeaderPasses : Type 0
 HeaderPasses = (any : Bool) (bytes : List ℕ) → (header_fault any bytes ≡ None → IsHeader any bytes) × (IsHeader any bytes → header_fault any bytes ≡ None)
 
+-- no check of a file's head fails exactly where it is a bundle file's
 abbrev pub BundleFilePasses : Type 0
-BundleFilePasses = (bytes : List ℕ) → IsBundleFile bytes → (header_fault false bytes ≡ None) × (index_fault (drop 4 (body_of bytes)) ≡ None)
+BundleFilePasses = (bytes : List ℕ) → (file_fault bytes ≡ None → IsBundleFile bytes) × (IsBundleFile bytes → file_fault bytes ≡ None)

@@ -1,11 +1,12 @@
 -- What stands at a place for the types that have no parts, with its count: 1 at a descriptor or a unit, 0 at a word or a key.
-use Rattle.std.specs.Prelude.{ℕ, ℤ, pos, negsuc, ◌≤ℤ◌, ◌≤◌, ◌<◌, ◌+◌, ◌*◌, ◌/◌, ◌%◌, ◌^◌, ◌==◌, List, [], Bool, true, false, Option, Some, None, option_map, slice_index, if◌then◌else◌}
+use Rattle.std.specs.Prelude.{ℕ, ℤ, pos, negsuc, ◌≤ℤ◌, ◌≤◌, ◌<◌, ◌+◌, ◌*◌, ◌/◌, ◌%◌, ◌^◌, ◌==◌, List, [], Bool, true, false, Option, Some, None, option_map, if◌then◌else◌}
 use Rattle.std.specs.List.{flat_map}
 use Rattle.std.specs.Int.{cast_signed, to_le_bytes, w16, w32}
 use Rattle.resb_tree.specs.Int28.{signed}
 use Rattle.resb_format.specs.Bytes.{words_of, part}
 use Rattle.resb_format.specs.Strings.{string_at, text_at, key_at}
 use Rattle.resb_format.specs.Parts.{Parts}
+use Rattle.resb_format.specs.Content.{counted}
 use Rattle.resb_read.specs.Places.{Place}
 use Rattle.resb_read.specs.Reading.{IsThere, CountsThere}
 use Rattle.resb_read.specs.ReadingLaws.{any}
@@ -113,7 +114,7 @@ units_as_bytes us = flat_map (to_le_bytes w16) us
 
 -- n items of so many bytes each, where word v is n and they follow it
 abbrev pub counted_bytes : Parts → ℕ → ℕ → Option (List ℕ)
-counted_bytes p each v = part p.body (4 * v + 4) (each * slice_index (words_of p.body) v)
+counted_bytes p each v = counted (words_of p.body) v (λ n. part p.body (4 * v + 4) (each * n))
 
 abbrev pub bytes_of_type : Parts → ℕ → ℕ → Option (List ℕ)
 bytes_of_type p type v =

@@ -4,6 +4,8 @@ pub use Rattle.resb_format.specs.Strings
 pub use Rattle.resb_format.specs.Parts
 pub use Rattle.resb_format.specs.Content
 pub use Rattle.resb_format.specs.Denotes
+pub use Rattle.resb_format.specs.File
+pub use Rattle.resb_format.specs.HeadChecks
 pub use Rattle.resb_format.specs.Error
 pub use Rattle.resb_tree.specs.Tree
 pub use Rattle.resb_tree.specs.View
@@ -15,3 +17,5 @@ pub mod ReadingLaws
 pub mod Leaves
 pub mod LeafLaws
 pub mod Resources
+pub mod ResourceLaws
+pub mod Roots

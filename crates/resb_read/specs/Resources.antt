@@ -19,3 +19,12 @@ DenPlace p t n = DenSpot p.parts p.at t n
 
 abbrev pub CountsTree : Place → ℕ → Type 0
 CountsTree p n = (t : Tree) × DenPlace p t n
+
+abbrev pub ReachesSpot : Parts → Spot → ℕ → Type 0
+ReachesSpot p (spot.Descriptor w) n = Reaches p w n
+ReachesSpot p (spot.Unit u) n = ReachesMember p (unit u) n
+ReachesSpot p (spot.Word w) n = ⊥
+ReachesSpot p (spot.Key k) n = ⊥
+
+abbrev pub ReachesPlace : Place → ℕ → Type 0
+ReachesPlace p n = ReachesSpot p.parts p.at n

@@ -4,10 +4,13 @@
 
 mod cursor;
 mod deserialize;
+mod entry;
 mod faults;
 mod given;
 mod numbers;
+mod resources;
 
 pub use cursor::{Cursor, Spot};
 pub use deserialize::Deserialize;
+pub use entry::{count_resources, from_bytes, from_bytes_counted, tree_from_bytes};
 pub use resb_walk::Walk;

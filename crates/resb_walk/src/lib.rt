@@ -15,5 +15,6 @@ mod walk;
 pub use count::Checked;
 pub use file::{File, Leaf, Member, Members, Pairs, Positions, Standing};
 pub use make::Make;
-pub use read::{read_checked, read_word};
+pub use read::{read_checked, read_string_at, read_word};
+pub use tree::text_of_units;
 pub use walk::Walk;

@@ -5,7 +5,8 @@
 //! member from the innermost, or closes it. Each member is paid for as it begins, so that twice what
 //! is left, plus the number of frames, falls in each turn.
 ghost use Rattle.std.specs.Prelude.{◌≡◌, ℕ, ◌+◌};
-ghost use Rattle.resb_format.specs.Denotes.{Den, Reaches};
+ghost use Rattle.resb_format.specs.Content as at;
+ghost use Rattle.resb_format.specs.Denotes.{Den, Reaches, DenMember, ReachesMember};
 ghost use Rattle.resb_walk.specs.Files.{parts_in};
 ghost use Rattle.resb_walk.specs.Inner.Members.{member_of};
 ghost use Rattle.resb_walk.specs.Refusals.{Answers};
@@ -42,6 +43,22 @@ fn begin<'a, 'm, M: Make<'a>>(
             ))),
             Standing::Table(rest) => Ok(Read::Begun(Open::Table(rest, M::begin_table(alloc)))),
         },
+    }
+}
+
+/// Reads the string at a unit of the 16-bit block.
+pub fn read_string_at<'a, 'm, M: Make<'a>>(
+    alloc: Global,
+    file: File<'a>,
+    unit: u16,
+    walk: &mut Walk,
+) -> Result<M, ReadingError<'m>>
+    ensures { let p = parts_in file.entry in
+        Answers M.is (DenMember p (at.unit unit)) (ReachesMember p (at.unit unit)) walk.old walk.new result }
+{
+    match begin::<M>(alloc, file, Member::Unit(unit), walk)? {
+        Read::Made(made) => Ok(made),
+        Read::Begun(_) => unreachable!(),
     }
 }
 

@@ -14,8 +14,8 @@ use std::alloc::Global;
 use std::borrow::{CowSlice, CowStr};
 use std::collections::BTreeMap;
 
-/// The text of some units.
-fn text(alloc: Global, bytes: &[u8]) -> Result<String, NoMemory>
+/// The text of some units, two bytes for each. A surrogate without a partner would be replaced.
+pub fn text_of_units(alloc: Global, bytes: &[u8]) -> Result<String, NoMemory>
     ensures { IfOk result (λ s. string_bytes s ≡ text_of_bytes bytes.now) }
 {
     let mut units = Vec::new(alloc);
@@ -57,7 +57,7 @@ impl<'de> Make<'de> for Resource<'de> {
 
     fn leaf(alloc: Global, leaf: Leaf<'de>) -> Result<Resource<'de>, NoMemory> {
         Ok(match leaf {
-            Leaf::Text(bytes) => Resource::String(CowStr::Owned(text(alloc, bytes)?)),
+            Leaf::Text(bytes) => Resource::String(CowStr::Owned(text_of_units(alloc, bytes)?)),
             Leaf::Empty => Resource::String(CowStr::Borrowed("")),
             Leaf::Binary(bytes) => Resource::Binary(CowSlice::Borrowed(bytes)),
             Leaf::Integer(number) => Resource::Integer(Int28::from(number)),

@@ -19,3 +19,7 @@ pub mod LeafLaws
 pub mod Resources
 pub mod ResourceLaws
 pub mod Roots
+pub mod Sequences
+pub mod SequenceLaws
+pub mod Access
+pub mod Inner

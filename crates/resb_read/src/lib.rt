@@ -7,10 +7,14 @@ mod deserialize;
 mod entry;
 mod faults;
 mod given;
+mod items;
+mod lists;
 mod numbers;
 mod resources;
+mod sequences;
 
 pub use cursor::{Cursor, Spot};
 pub use deserialize::Deserialize;
 pub use entry::{count_resources, from_bytes, from_bytes_counted, tree_from_bytes};
 pub use resb_walk::Walk;
+pub use sequences::SeqAccess;

@@ -1,9 +1,9 @@
 -- What lies inside a block, by numbers of bytes.
-use Rattle.std.proofs.Common.{ℕ, zero, suc, List, [], ◌∷◌, ◌≡◌, ◌+◌, ◌*◌, ◌/◌, ◌<◌, ◌≤◌, Bool, true, false, length, get_or, take, drop, Option, Some, None, refl, sym, ap, ◌∙◌, arith}
+use Rattle.std.proofs.Common.{map, ℕ, zero, suc, List, [], ◌∷◌, ◌≡◌, ◌+◌, ◌*◌, ◌/◌, ◌<◌, ◌≤◌, Bool, true, false, length, get_or, take, drop, Option, Some, None, refl, sym, ap, ◌∙◌, arith}
 use Rattle.std.specs.Prelude.{position, ◌==◌, not}
 use Rattle.std.proofs.lemmas.Bool.{false_from_ne_true}
 use Rattle.std.proofs.lemmas.Bool.Decides.{nat_tests}
-use Rattle.std.proofs.lemmas.List.{get_or_past}
+use Rattle.std.proofs.lemmas.List.{length-map}
 use Rattle.std.specs.Str.{IsUtf8, is_utf8}
 use Rattle.std.proofs.lemmas.Str.{is_utf8-from_IsUtf8, IsUtf8-from_is_utf8}
 use Rattle.std.specs.Char.Utf16.{has_unpaired_surrogate}
@@ -52,3 +52,6 @@ string_fails block u e h = either (nat_lt u (length block) && is_no_marker (slic
     either : (b : Bool) → IsInvalid e (if b then codes "unterminated string with implicit length" else codes "unexpected end of input") → IsFault e
     either true i = record { not_memory = λ m. (let k = i.kind_is in cc); not_spent = λ m. (let h : 117 ≡ 114 = ap (λ xs. get_or xs 0 0) (sym i.message_is ∙ m) in omega arith) }
     either false i = record { not_memory = λ m. (let k = i.kind_is in cc); not_spent = λ m. (let h : 117 ≡ 114 = ap (λ xs. get_or xs 0 0) (sym i.message_is ∙ m) in omega arith) }
+
+pub map_length : {A B : Type 0} (f : A → B) (xs : List A) → length (map f xs) ≡ length xs
+map_length f xs = length-map xs f

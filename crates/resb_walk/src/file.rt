@@ -1,6 +1,6 @@
 //! The parts of a file, what has no members, and the members that are still to come.
 //! Where they stand is found in `standing`.
-ghost use Rattle.std.specs.Prelude.{◌≡◌, [], ◌∷◌, MatchOption};
+ghost use Rattle.std.specs.Prelude.{◌≡◌, [], ◌∷◌, MatchOption, length};
 ghost use Rattle.resb_walk.specs.Inner.Members.{member_of, members_of, positions_of, pairs_of};
 
 use resb_format::bytes::{first_unit, first_word};
@@ -75,7 +75,10 @@ pub enum Standing<'a> {
 
 impl<'a> Members<'a> {
     /// How many members are still to come.
-    pub fn len(self) -> usize {
+    #[tactic(auto, using(crate::proofs::Placed::map_length, resb_format::proofs::Spelled::words_length, resb_format::proofs::Spelled::units_length))]
+    pub fn len(self) -> usize
+        ensures { result ≡ length (members_of self.entry) }
+    {
         match self {
             Members::Words(bytes) => bytes.len() / 4,
             Members::Units(bytes) => bytes.len() / 2,

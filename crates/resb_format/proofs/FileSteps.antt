@@ -9,7 +9,7 @@ use Rattle.resb_format.specs.Laws.{IsHeader, BundleFilePasses}
 use Rattle.resb_format.specs.Error.{IsInvalid}
 use Rattle.resb_format.specs.HeadChecks.{Refusal, first_fault, header_checks, header_fault, index_checks, index_fault, support_checks, block_checks, body_checks, file_checks, file_fault, refusal_of, unit_in}
 use Rattle.resb_format.specs.Parts.{IsBundleFile, body_of, header_size}
-use Rattle.resb_format.specs.declared.error.BinaryDeserializerError.{BinaryDeserializerError}
+use Rattle.resb_format.specs.declared.error.ReadingError.{ReadingError}
 use Rattle.resb_format.proofs.HeadSteps.{le_true, le_false, same_true}
 use Rattle.resb_format.proofs.IndexSteps.{index_holds}
 use Rattle.resb_format.proofs.SupportSteps.{support_holds}
@@ -46,12 +46,12 @@ pub field_behind : (body : List ℕ) (i : ℕ) → get_or (words_of (drop 4 body
 field_behind body i = ap (λ ws. get_or ws i 0) (words_behind body) ∙ get_or-drop 1 (words_of body) i 0
 
 -- the checks of the blocks
-pub keys_past : (body : List ℕ) (e : BinaryDeserializerError) → length body < 4 * get_or (words_of body) 2 0 → IsInvalid e (codes "unexpected end of input")
+pub keys_past : (body : List ℕ) (e : ReadingError) → length body < 4 * get_or (words_of body) 2 0 → IsInvalid e (codes "unexpected end of input")
     → first_fault (block_checks body) ≡ Some (refusal_of e)
 unfolding block_checks
 keys_past body e h r = rw (le_false (4 * get_or (words_of body) 2 0) (length body) h, r.kind_is, r.message_is) refl
 
-pub end_missing : (body : List ℕ) (e : BinaryDeserializerError) → 4 * get_or (words_of body) 2 0 ≤ length body → get_or (words_of body) 1 0 < 7
+pub end_missing : (body : List ℕ) (e : ReadingError) → 4 * get_or (words_of body) 2 0 ≤ length body → get_or (words_of body) 1 0 < 7
     → IsInvalid e (codes "offset to the end of 16-bit data not specified") → first_fault (block_checks body) ≡ Some (refusal_of e)
 unfolding block_checks
 end_missing body e h k r =
@@ -67,7 +67,7 @@ both_true a b c d h k = rw (le_true a b h, le_true c d k) refl
 both_are : (a b c d : ℕ) → (nat_le a b && nat_le c d) ≡ true → (a ≤ b) × (c ≤ d)
 both_are a b c d e = (grind (arith, nat_tests), grind (arith, nat_tests))
 
-pub block_past : (body : List ℕ) (e : BinaryDeserializerError) → 4 * get_or (words_of body) 2 0 ≤ length body → 7 ≤ get_or (words_of body) 1 0
+pub block_past : (body : List ℕ) (e : ReadingError) → 4 * get_or (words_of body) 2 0 ≤ length body → 7 ≤ get_or (words_of body) 1 0
     → (get_or (words_of body) 7 0 < get_or (words_of body) 2 0) ⊎ (length body < 4 * get_or (words_of body) 7 0)
     → IsInvalid e (codes "unexpected end of input") → first_fault (block_checks body) ≡ Some (refusal_of e)
 unfolding block_checks
@@ -98,7 +98,7 @@ pub some_field : (n v x : ℕ) → (if nat_le 7 n then Some v else None) ≡ Som
 some_field n v x e = (grind (arith, nat_tests), grind (arith, nat_tests))
 
 -- the checks of a body
-pub root_missing : (body : List ℕ) (e : BinaryDeserializerError) → length body < 4 → IsInvalid e (codes "unexpected end of input") → first_fault (body_checks body) ≡ Some (refusal_of e)
+pub root_missing : (body : List ℕ) (e : ReadingError) → length body < 4 → IsInvalid e (codes "unexpected end of input") → first_fault (body_checks body) ≡ Some (refusal_of e)
 unfolding body_checks
 root_missing body e h r = rw (le_false 4 (length body) h, r.kind_is, r.message_is) refl
 

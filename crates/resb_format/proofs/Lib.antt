@@ -2,6 +2,7 @@ pub mod Denoting
 pub mod ContentLemmas
 pub mod Examples
 pub mod Spelled
+pub mod InsideLemmas
 pub mod StringsIn
 pub mod TextUnits
 pub mod HeadSteps

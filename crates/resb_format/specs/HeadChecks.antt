@@ -10,7 +10,7 @@ use Rattle.resb_format.specs.Bytes.{units_of, words_of}
 use Rattle.resb_format.specs.Parts.{body_of}
 use Rattle.resb_format.specs.Codes.{version_bytes}
 use Rattle.resb_format.specs.Error.{kind_of, message_of}
-use Rattle.resb_format.specs.declared.error.BinaryDeserializerError.{BinaryDeserializerError}
+use Rattle.resb_format.specs.declared.error.ReadingError.{ReadingError}
 use Rattle.resb_format.specs.declared.error.ErrorKind.{ErrorKind}
 use Rattle.resb_format.specs.declared.error.ErrorKind.TheVariants.{InvalidData, UnsupportedFormat}
 use Rattle.resb_format.specs.declared.version.FormatVersion.TheVariants.{V1_0, V1_1, V1_2, V1_3, V2_0, V3_0}
@@ -30,7 +30,7 @@ abbrev pub end_of_input : Refusal
 end_of_input = invalid (codes "unexpected end of input")
 
 -- what an error tells
-abbrev pub refusal_of : BinaryDeserializerError → Refusal
+abbrev pub refusal_of : ReadingError → Refusal
 refusal_of e = (kind_of e, message_of e)
 
 -- the fault of the first check that fails; a check is a test and the fault where it fails

@@ -11,7 +11,7 @@ use Rattle.resb_format.specs.Denotes.{Den, Reaches}
 use Rattle.resb_format.specs.Head.{header_bytes, index_bytes, index_words}
 use Rattle.resb_format.specs.HeadChecks.{header_fault, file_fault, is_version, unit_in}
 use Rattle.resb_format.specs.HeadReading.{ReadsHeader, ReadsIndex}
-use Rattle.resb_format.specs.declared.error.BinaryDeserializerError.{BinaryDeserializerError}
+use Rattle.resb_format.specs.declared.error.ReadingError.{ReadingError}
 use Rattle.resb_format.specs.declared.head.BinHeader.{BinHeader}
 use Rattle.resb_format.specs.declared.index.BinIndex.{BinIndex}
 
@@ -31,8 +31,8 @@ CountedIsReached = (p : Parts) (w m n : ℕ) (t : Tree) → Den p w t n → 1 �
 abbrev pub ReachingGoesDown : Type 0
 ReachingGoesDown = (p : Parts) (w m n : ℕ) → Reaches p w n → 1 ≤ m → m ≤ n → Reaches p w m
 
-pub record Survives {A B : Type 0} (write : A → B) (reads : B → Result A BinaryDeserializerError → Type 0) : Type 0 where
-  pub read_back : (x : A) (r : Result A BinaryDeserializerError) → reads (write x) r → r ≡ Ok x
+pub record Survives {A B : Type 0} (write : A → B) (reads : B → Result A ReadingError → Type 0) : Type 0 where
+  pub read_back : (x : A) (r : Result A ReadingError) → reads (write x) r → r ≡ Ok x
   pub written_back : (b : B) (x : A) → reads b (Ok x) → write x ≡ b
 
 -- each number is below 2 ^ n
@@ -41,10 +41,10 @@ EachFits n [] = Unit {0}
 EachFits n (x ∷ xs) = (x < 2 ^ n) × EachFits n xs
 
 abbrev pub HeaderSurvives : Type 0
-HeaderSurvives = (bytes : List ℕ) (h : BinHeader) (r : Result BinHeader BinaryDeserializerError) → EachFits 8 bytes → ReadsHeader false bytes (Ok h) → ReadsHeader false (header_bytes h) r → r ≡ Ok h
+HeaderSurvives = (bytes : List ℕ) (h : BinHeader) (r : Result BinHeader ReadingError) → EachFits 8 bytes → ReadsHeader false bytes (Ok h) → ReadsHeader false (header_bytes h) r → r ≡ Ok h
 
 pub record IndexSurvives : Type 0 where
-  pub read_back : (i : BinIndex) (r : Result BinIndex BinaryDeserializerError) → EachFits 32 (index_words i) → ReadsIndex (index_bytes i) r → r ≡ Ok i
+  pub read_back : (i : BinIndex) (r : Result BinIndex ReadingError) → EachFits 32 (index_words i) → ReadsIndex (index_bytes i) r → r ≡ Ok i
   pub written_back : (bytes : List ℕ) (i : BinIndex) → EachFits 8 bytes → ReadsIndex bytes (Ok i) → index_bytes i ≡ take (4 * min i.field_count 8) bytes
 
 -- a header that passes each check

@@ -2,7 +2,7 @@
 //! No loop here goes over a whole file: reading and writing are in the crates above.
 #![tactic(auto)]
 
-mod bytes;
+pub mod bytes;
 mod casts;
 mod charset;
 mod descriptor;
@@ -26,7 +26,7 @@ pub use casts::{
 pub use charset::CharsetFamily;
 pub use descriptor::ResDescriptor;
 pub use endianness::Endianness;
-pub use error::{BinaryDeserializerError, ErrorKind};
+pub use error::{BinaryDeserializerError, ErrorKind, ReadingError};
 pub use file_parts::FileParts;
 pub use head::BinHeader;
 pub use index::BinIndex;

@@ -1,0 +1,4 @@
+pub mod Trees
+pub mod Rooted
+pub mod Each
+pub mod Singly

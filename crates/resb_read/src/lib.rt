@@ -1,0 +1,20 @@
+//! Reads trees and any other types from a file, within a budget of resources.
+//! What stands at a word is found in `resb_walk`.
+#![tactic(auto)]
+
+mod cursor;
+mod deserialize;
+mod entry;
+mod faults;
+mod given;
+mod items;
+mod lists;
+mod numbers;
+mod resources;
+mod sequences;
+
+pub use cursor::{Cursor, Spot};
+pub use deserialize::Deserialize;
+pub use entry::{count_resources, from_bytes, from_bytes_counted, tree_from_bytes};
+pub use resb_walk::Walk;
+pub use sequences::SeqAccess;

@@ -5,7 +5,7 @@ use Rattle.std.specs.Cmp.Lexicographic.{pointwise, slice_cmp, bytes_decides}
 use Rattle.std.specs.Ordering.{nat_cmp, match_ordering}
 use Rattle.std.proofs.lemmas.Bool.{false≢true}
 use Rattle.resb_tree.specs.Tree.{Tree, Entries, no_entries, entry, trees_of, put, put_all}
-use Rattle.resb_format.specs.KeyBlock.{is_key, is_key_in, is_key_of, same_text}
+use Rattle.resb_tree.specs.Keys.{is_key, is_key_in, is_key_of, same_text}
 use Rattle.resb_text.specs.Items.{Member, word, group, Item, member_tree, member_text, member_keys, inner_keys, is_entry, and_then, is_pairs, pairs_in, trees_in, table_keys, array_keys, Shape, a_string, a_table, an_array, shape_of_one, table_if, shape_of, tree_in, keys_in}
 use Rattle.resb_text.specs.Group.{Items, nothing, string_item, group_item, comma, Group, untyped, typed_table, typed_array, typed_leaf, Content, string_content, binary_content, integer_content, vector_content}
 use Rattle.resb_text.specs.Types.{Kind}

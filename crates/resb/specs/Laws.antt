@@ -2,7 +2,7 @@
 use Rattle.std.specs.Prelude.{◌≡◌, ℕ, Bool, true, List, Contains}
 use Rattle.resb_tree.specs.Tree.{Tree}
 use Rattle.resb_text.specs.BundleText.{BundleText}
-use Rattle.resb_format.specs.KeyBlock.{is_key}
+use Rattle.resb_tree.specs.Keys.{is_key}
 
 -- each key of a table of a bundle text's tree is among its discovered keys
 abbrev pub KeysAreListed : Type 0

@@ -63,6 +63,3 @@ pub fn compile(alloc: Global, text: &str) -> Result<Vec<u8>, CompileError>
     let file = Serializer::to_bytes(alloc, &bundle, keys.as_slice())?;
     Ok(file)
 }
-
-#[cfg(test)]
-mod tests;

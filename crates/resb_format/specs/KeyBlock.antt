@@ -1,31 +1,10 @@
 -- The key block that a written file has for a tree and a list of keys.
---     is_key k t              k is a key of some table of the tree
 --     key_block t ks          the used keys of the list in its order, each with a zero byte, padded to a word
 --     last_place t k ks       the place in it of the last occurrence of k
-use Rattle.std.specs.Prelude.{ℕ, ◌+◌, ◌%◌, ◌-◌, List, [], ◌∷◌, ◌++◌, length, Bool, false, ◌||◌, nat_eq, Option, Some, None, filter, replicate, if◌then◌else◌}
+use Rattle.std.specs.Prelude.{ℕ, ◌+◌, ◌%◌, ◌-◌, List, [], ◌∷◌, ◌++◌, length, Option, Some, None, filter, replicate, if◌then◌else◌}
 use Rattle.std.specs.List.{flat_map}
-use Rattle.std.specs.Cmp.Lexicographic.{pointwise}
-use Rattle.resb_tree.specs.Tree.{Tree, string, array, table, binary, integer, int_vector, Trees, no_trees, more_trees, Entries, no_entries, entry}
-
-abbrev pub same_text : List ℕ → List ℕ → Bool
-same_text = pointwise nat_eq
-
-abbrev mutual
-  pub is_key : List ℕ → Tree → Bool
-  is_key k (array ts) = is_key_in k ts
-  is_key k (table es) = is_key_of k es
-  is_key k (string s) = false
-  is_key k (binary s) = false
-  is_key k (integer n) = false
-  is_key k (int_vector s) = false
-
-  pub is_key_in : List ℕ → Trees → Bool
-  is_key_in k no_trees = false
-  is_key_in k (more_trees t ts) = is_key k t || is_key_in k ts
-
-  pub is_key_of : List ℕ → Entries → Bool
-  is_key_of k no_entries = false
-  is_key_of k (entry l t es) = (same_text k l || is_key k t) || is_key_of k es
+use Rattle.resb_tree.specs.Tree.{Tree}
+use Rattle.resb_tree.specs.Keys.{same_text, is_key}
 
 -- the used keys of the list
 abbrev pub used : Tree → List (List ℕ) → List (List ℕ)

@@ -3,6 +3,7 @@ pub use Rattle.resb_tree.specs.Tree
 pub use Rattle.resb_tree.specs.View
 pub use Rattle.resb_tree.specs.Bundle
 pub use Rattle.resb_tree.specs.Maps
+pub use Rattle.resb_tree.specs.Keys
 pub use Rattle.resb_tree.specs.Int28
 pub mod Bytes
 pub mod Units

@@ -10,15 +10,11 @@ mod descriptor;
 mod endianness;
 mod error;
 mod head;
-#[cfg(test)]
-mod head_tests;
 mod index;
 mod index_fields;
 mod laws;
 mod repr_info;
 mod repr_type;
-#[cfg(test)]
-mod tests;
 mod units;
 mod version;
 mod views;

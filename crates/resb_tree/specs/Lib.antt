@@ -1,8 +1,11 @@
--- The words of the contracts: trees, what a resource stands for, bundles, tables as finite maps, and 28-bit integers.
+-- The words of the contracts: trees, what a resource stands for, bundles, tables as finite maps, the
+-- keys of a tree, 28-bit integers and the laws of these. `Inner` has words of private functions.
 pub mod Tree
+pub mod Equality
 pub mod View
 pub mod Maps
+pub mod Keys
 pub mod Bundle
 pub mod Int28
 pub mod Laws
-pub mod Dropping
+pub mod Inner

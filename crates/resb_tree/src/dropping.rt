@@ -34,7 +34,7 @@ impl<'a> MadeWith<Global> for Resource<'a> {
     }
 }
 
-#[tactic(auto, using(crate::proofs::Dropped::inside_less, crate::proofs::Dropped::items_count_more))]
+#[tactic(auto, using(crate::proofs::DroppingLemmas::inside_less, crate::proofs::DroppingLemmas::items_count_more))]
 #[cycle(dropping)]
 pub(crate) fn drop_inside(inside: Inside<'_>) {
     match inside {
@@ -44,7 +44,7 @@ pub(crate) fn drop_inside(inside: Inside<'_>) {
     }
 }
 
-#[tactic(auto, using(crate::proofs::Dropped::inside_less, crate::proofs::Dropped::items_count_more))]
+#[tactic(auto, using(crate::proofs::DroppingLemmas::inside_less, crate::proofs::DroppingLemmas::items_count_more))]
 #[cycle(dropping)]
 fn drop_all(mut pending: Vec<Resource<'_>>) {
     'pending: while let Some(resource) = pending.pop() {
@@ -71,7 +71,7 @@ fn drop_all(mut pending: Vec<Resource<'_>>) {
     pending.destroy_empty();
 }
 
-#[tactic(auto, using(crate::proofs::Dropped::inside_less, crate::proofs::Dropped::items_count_more))]
+#[tactic(auto, using(crate::proofs::DroppingLemmas::inside_less, crate::proofs::DroppingLemmas::items_count_more))]
 #[cycle(dropping)]
 fn drop_table(mut table: Table<'_>) {
     let Some((key, first)) = table.pop_first() else {
@@ -95,7 +95,7 @@ fn drop_table(mut table: Table<'_>) {
     }
 }
 
-#[tactic(auto, using(crate::proofs::Dropped::insert_count))]
+#[tactic(auto, using(crate::proofs::DroppingLemmas::insert_count))]
 /// An empty list on the table's allocator, with the child put back at its key. Without memory the child is handed back.
 fn list_beside<'a>(
     table: &mut Table<'a>,

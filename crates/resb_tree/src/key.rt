@@ -30,7 +30,8 @@ impl<'a> Model for Key<'a> {
 impl<'a> Key<'a> {
     /// The text of the key.
     pub fn as_str(&self) -> &str
-        ensures { result.now ≡ self.now }
+        ensures value { result.now ≡ self.now }
+        ensures utf8 { IsUtf8 self.now }
     {
         self.text.as_str()
     }

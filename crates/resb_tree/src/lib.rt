@@ -16,6 +16,3 @@ pub use key::Key;
 pub use laws::{integers_survive, tables_are_finite_maps};
 pub use no_memory::NoMemory;
 pub use resource::{Resource, Table};
-
-#[cfg(test)]
-mod tests;

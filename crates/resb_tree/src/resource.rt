@@ -1,7 +1,7 @@
 //! Resources and tables, which stand for trees.
 //! How a text or a file spells them is not said here.
 ghost use Rattle.std.specs.Prelude.{◌≡◌};
-ghost use Rattle.resb_tree.specs.Tree as tree;
+ghost use Rattle.resb_tree.specs.Equality as test;
 ghost use Rattle.resb_tree.specs.View.{tree_of, items_view, entries_view};
 
 use crate::dropping::{Inside, drop_inside};
@@ -35,7 +35,7 @@ impl<'a> Resource<'a> {
     ghost use Rattle.resb_tree.specs.View.{tree_of};
 
     /// Whether the two stand for one tree, also where they borrow for two lifetimes.
-    #[tactic(auto, using(crate::specs::Tree::tree_eq_decides))]
+    #[tactic(auto, using(crate::specs::Inner::EqualityLemmas::tree_eq_decides))]
     pub fn equals(&self, other: &Resource<'_>) -> bool
         ensures { IsTrue result ↔ (tree_of self.now ≡ tree_of other.now) }
     {
@@ -50,7 +50,7 @@ impl Drop for Resource<'_> {
 }
 
 impl<'a> Resource<'a> {
-    ghost use Rattle.resb_tree.specs.Dropping.{InsideOf};
+    ghost use Rattle.resb_tree.specs.Inner.Dropping.{InsideOf};
     ghost use Rattle.resb_tree.specs.View.{tree_of};
 
     /// Drops what can't be deep, and gives the rest.
@@ -69,9 +69,10 @@ impl<'a> Resource<'a> {
 }
 
 /// Equality of trees. It takes no memory, so it calls itself once for each level.
-#[tactic(auto, using(crate::specs::Tree::tree_eq_decides))]
+#[tactic(auto, using(crate::specs::Inner::EqualityLemmas::tree_eq_decides))]
 impl<'a> PartialEq for Resource<'a> {
-    ghost use Rattle.resb_tree.specs.Tree.{tree_eq, tree_eq_per};
+    ghost use Rattle.resb_tree.specs.Equality.{tree_eq};
+    ghost use Rattle.resb_tree.specs.Inner.EqualityLemmas.{tree_eq_per};
     ghost use Rattle.resb_tree.specs.View.{tree_of};
     ghost use Rattle.std.specs.Cmp.{on_per};
     ghost use Rattle.std.specs.Prelude.{◌≡◌, IsTrue, ◌↔◌};
@@ -90,7 +91,7 @@ impl<'a> PartialEq for Resource<'a> {
 
 #[cycle(same)]
 fn same(a: &Resource<'_>, b: &Resource<'_>) -> bool
-    ensures { result ≡ tree.tree_eq (tree_of a.now) (tree_of b.now) }
+    ensures { result ≡ test.tree_eq (tree_of a.now) (tree_of b.now) }
 {
     match (a, b) {
         (Resource::String(a), Resource::String(b)) => a == b,
@@ -105,7 +106,7 @@ fn same(a: &Resource<'_>, b: &Resource<'_>) -> bool
 
 #[cycle(same)]
 fn same_items(a: &Vec<Resource<'_>>, b: &Vec<Resource<'_>>) -> bool
-    ensures { result ≡ tree.trees_eq (items_view a.now.items) (items_view b.now.items) }
+    ensures { result ≡ test.trees_eq (items_view a.now.items) (items_view b.now.items) }
 {
     let mut others = b.iter();
     for x in a {
@@ -121,7 +122,7 @@ fn same_items(a: &Vec<Resource<'_>>, b: &Vec<Resource<'_>>) -> bool
 
 #[cycle(same)]
 fn same_entries(a: &Table<'_>, b: &Table<'_>) -> bool
-    ensures { result ≡ tree.entries_eq (entries_view a.now.entries) (entries_view b.now.entries) }
+    ensures { result ≡ test.entries_eq (entries_view a.now.entries) (entries_view b.now.entries) }
 {
     let mut others = b.iter();
     for (j, x) in a.iter() {

@@ -6,7 +6,8 @@ use Rattle.resb_tree.specs.Tree.{Tree, tree_count, largest_table}
 use Rattle.resb_format.specs.Parts.{root_word}
 use Rattle.resb_format.specs.Denotes.{Den}
 use Rattle.resb_format.specs.File.{written_header}
-use Rattle.resb_format.specs.KeyBlock.{is_key, last_of, key_bytes, padded, key_block}
+use Rattle.resb_tree.specs.Keys.{is_key}
+use Rattle.resb_format.specs.KeyBlock.{last_of, key_bytes, padded, key_block}
 use Rattle.resb_format.specs.PlainSize.{plain_size}
 use Rattle.resb_write.specs.Fault.{Fault, limit, out_of_memory}
 use Rattle.resb_write.specs.Entries.{Pair, keys_in, texts_table, IsTableOf}

@@ -3,7 +3,8 @@ use Rattle.std.proofs.Common.{◌≡◌, ℕ, zero, suc, ◌+◌, ◌<◌, ◌�
 use Rattle.std.specs.List.{Contains, Any, list_any}
 use Rattle.std.proofs.lemmas.Bool.{or_cases, or_parts, ltb-true, ltb-false, false≢true, or_left, or_right}
 use Rattle.std.specs.Cmp.Lexicographic.{bytes_decides}
-use Rattle.resb_format.specs.KeyBlock.{same_text, is_key, used, last_of, last_place}
+use Rattle.resb_tree.specs.Keys.{same_text, is_key}
+use Rattle.resb_format.specs.KeyBlock.{used, last_of, last_place}
 use Rattle.resb_write.specs.Entries.{Pair, pairs, keys_in, texts_table}
 use Rattle.resb_write.specs.Flat.{IsCovered}
 use Rattle.resb_write.specs.Places.{position_of, last_position}

@@ -7,7 +7,8 @@ use Rattle.std.proofs.lemmas.Bool.Decides.{same_from_decides, Decides-at, Decide
 use Rattle.std.proofs.lemmas.Slice.Eq.{bytes_eq-Decides}
 use Rattle.std.proofs.lemmas.Map.Text.{is_eq-slice_cmp}
 use Rattle.std.proofs.lemmas.List.Concat.{flat_map-append}
-use Rattle.resb_format.specs.KeyBlock.{same_text, key_bytes, last_of}
+use Rattle.resb_tree.specs.Keys.{same_text}
+use Rattle.resb_format.specs.KeyBlock.{key_bytes, last_of}
 use Rattle.resb_write.specs.Entries.{pairs, keys_in}
 use Rattle.resb_write.specs.Places.{nows, position_of, last_position}
 use Rattle.resb_write.specs.declared.entries.Entry.{Entry}

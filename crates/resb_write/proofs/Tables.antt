@@ -8,7 +8,8 @@ use Rattle.std.proofs.lemmas.Bool.{le-leb, ne_eqb, or_parts}
 use Rattle.std.proofs.lemmas.List.Sums.{sum_by-cons}
 use Rattle.std.proofs.lemmas.List.{take_at, drop_at, get_or_at, length-map, nil_from_length}
 use Rattle.resb_tree.specs.Tree.{integer, table, entries_of, map_of, entries_count, tree_count}
-use Rattle.resb_tree.specs.Maps.{text_cmp, map_of-sorted}
+use Rattle.resb_tree.specs.Maps.{text_cmp}
+use Rattle.resb_tree.proofs.MapLemmas.{map_of-sorted}
 use Rattle.resb_format.specs.Bytes.{part}
 use Rattle.resb_format.specs.Units.{units}
 use Rattle.resb_format.specs.Strings.{text_at, key_at}

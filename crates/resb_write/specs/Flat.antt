@@ -5,7 +5,8 @@
 use Rattle.std.specs.Prelude.{◌≡◌, ℕ, ◌+◌, ◌≤◌, List, length, Bool, true, false, ◌&&◌, Some}
 use Rattle.resb_tree.specs.Tree.{Tree, string, table, Entries, no_entries, entry}
 use Rattle.resb_format.specs.Units.{units, is_unmarked}
-use Rattle.resb_format.specs.KeyBlock.{is_key, last_place}
+use Rattle.resb_tree.specs.Keys.{is_key}
+use Rattle.resb_format.specs.KeyBlock.{last_place}
 
 abbrev pub is_unmarked_string : Tree → Bool
 is_unmarked_string (string s) = is_unmarked s

@@ -4,7 +4,8 @@
 use Rattle.std.specs.Prelude.{◌≡◌, ℕ, ◌+◌, ◌^◌, ◌<◌, ◌≤◌, List, Bool, true, false, nat_eq, Some, Contains, codes}
 use Rattle.std.specs.List.{list_any}
 use Rattle.resb_tree.specs.Tree.{Tree}
-use Rattle.resb_format.specs.KeyBlock.{is_key, last_place}
+use Rattle.resb_tree.specs.Keys.{is_key}
+use Rattle.resb_format.specs.KeyBlock.{last_place}
 use Rattle.resb_format.specs.PlainSize.{plain_size}
 use Rattle.resb_write.specs.Fault.{Fault, unexpected, limit, out_of_memory}
 use Rattle.resb_write.specs.Flat.{IsCovered}

@@ -3,7 +3,8 @@
 ghost use Rattle.std.specs.Prelude.{◌≡◌, ◌++◌, ◌<◌, ◌+◌, ◌%◌, ◌/◌, ◌^◌, ℕ, List, map, filter};
 ghost use Rattle.std.specs.Prelude.{Some, None, false, IfOk, IfErr, OnOk, Any, codes, length, nat_lt};
 ghost use Rattle.std.specs.List.{list_any};
-ghost use Rattle.resb_format.specs.KeyBlock.{is_key, used as used_of, key_bytes, padded};
+ghost use Rattle.resb_tree.specs.Keys.{is_key};
+ghost use Rattle.resb_format.specs.KeyBlock.{used as used_of, key_bytes, padded};
 ghost use Rattle.resb_write.specs.Entries.{pairs, keys_in, texts_table};
 ghost use Rattle.resb_write.specs.FaultOf.{fault_of, IsMemoryOr};
 ghost use Rattle.resb_write.specs.Places.{nows, holds, place_in, last_position};

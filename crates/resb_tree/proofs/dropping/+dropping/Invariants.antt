@@ -2,7 +2,7 @@
 use Rattle.std.proofs.Common.{◌+◌, ◌*◌, ◌≤◌, vec_len, length}
 use Rattle.resb_tree.specs.Tree.{trees_count, entries_count}
 use Rattle.resb_tree.specs.View.{items_view, entries_view}
-use Rattle.resb_tree.specs.Dropping.{inside_count}
+use Rattle.resb_tree.specs.Inner.Dropping.{inside_count}
 use Rattle.resb_tree.proofs.dropping.+dropping.Given as goal
 
 abbrev pub decreases-drop_all : goal.decreases-drop_all

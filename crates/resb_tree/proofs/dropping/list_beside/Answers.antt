@@ -1,8 +1,8 @@
 use Rattle.std.proofs.Common.{◌≡◌, ◌∙◌, sym, ap, subst}
 use Rattle.resb_tree.specs.Tree.{no_trees, array}
 use Rattle.resb_tree.specs.View.{tree_of}
-use Rattle.resb_tree.specs.Dropping.{InsideOf}
-use Rattle.resb_tree.proofs.Dropped.{made_new, no_items, list_inside}
+use Rattle.resb_tree.specs.Inner.Dropping.{InsideOf}
+use Rattle.resb_tree.proofs.DroppingLemmas.{made_new, no_items, list_inside}
 use Rattle.resb_tree.proofs.dropping.list_beside.Goals as goal
 
 pub returns-in-List-clause-list : goal.returns-in-List-clause-list

@@ -1,4 +1,4 @@
-use Rattle.resb_tree.proofs.Integers.{kept, signed_back}
+use Rattle.resb_tree.proofs.Int28Lemmas.{kept, signed_back}
 use Rattle.resb_tree.proofs.laws.integers_survive.Goals as goal
 
 pub returns : goal.returns

@@ -1,6 +1,6 @@
 use Rattle.std.proofs.Common.{◌≡◌, drop}
 use Rattle.std.specs.Slice.Iter.{iter_rest}
-use Rattle.resb_tree.specs.Tree.{trees_eq, entries_eq}
+use Rattle.resb_tree.specs.Equality.{trees_eq, entries_eq}
 use Rattle.resb_tree.specs.View.{items_view, entries_view}
 use Rattle.resb_tree.proofs.resource.+same.Given as goal
 

@@ -1,7 +1,7 @@
 -- A turn moves a key from what is left into the set.
 use Rattle.std.proofs.Common.{ℕ, ◌+◌, [], drop, get_or, sym, ◌∙◌, ap, ◌||◌, arith}
 use Rattle.std.proofs.lemmas.List.{drop_more}
-use Rattle.resb_format.specs.KeyBlock.{is_key}
+use Rattle.resb_tree.specs.Keys.{is_key}
 use Rattle.resb_write.specs.Entries.{pairs, texts_table}
 use Rattle.resb_write.specs.Places.{holds}
 use Rattle.resb_write.specs.declared.entries.Entry.{Entry}

@@ -1,5 +1,5 @@
 use Rattle.std.proofs.Common.{◌≡◌, ℕ, List, ◌||◌, drop}
-use Rattle.resb_format.specs.KeyBlock.{is_key}
+use Rattle.resb_tree.specs.Keys.{is_key}
 use Rattle.resb_write.specs.Entries.{pairs, texts_table}
 use Rattle.resb_write.specs.Places.{holds}
 use Rattle.resb_write.proofs.key_block.key_set.Given as goal

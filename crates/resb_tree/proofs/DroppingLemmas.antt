@@ -6,11 +6,11 @@ use Rattle.std.specs.Ordering.{match_ordering}
 use Rattle.resb_tree.specs.Tree.{Tree, string, array, table, binary, integer, int_vector, no_trees, Entries, no_entries, entry, put, tree_count, trees_count, entries_count}
 use Rattle.resb_tree.specs.View.{tree_of, items_view, entries_view}
 use Rattle.resb_tree.specs.declared.resource.Resource.{Resource}
-use Rattle.resb_tree.specs.Dropping.{InsideOf, inside_count}
+use Rattle.resb_tree.specs.Inner.Dropping.{InsideOf, inside_count}
 use Rattle.resb_tree.specs.declared.dropping.Inside.{Inside}
 use Rattle.resb_tree.specs.declared.dropping.Inside.TheVariants as inner
 use Rattle.std.specs.Option.{UnwrapsOrElse}
-use Rattle.resb_tree.proofs.Views.{entries_view_insert}
+use Rattle.resb_tree.proofs.ViewLemmas.{entries_view_insert}
 
 at_most : (o : Ordering) (a b c : Entries) (n : ℕ) → entries_count a ≤ n → entries_count b ≤ n → entries_count c ≤ n → entries_count (match_ordering o a b c) ≤ n
 at_most Less a b c n h k l = h

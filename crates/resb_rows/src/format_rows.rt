@@ -1,6 +1,6 @@
 //! Values from outside: ICU's numbers, markers at their limits, printed texts.
 //! What each contract says for all values is not repeated here.
-use crate::{
+use resb_format::{
     BinaryDeserializerError, CharsetFamily, Endianness, ErrorKind, FormatVersion, I32Pair, Int28,
     NoMemory, ResDescriptor, ResourceReprType, cast_bytes_to_u16_slice, cast_bytes_to_u32_slice,
     cast_u32_to_i32_pair_slice, cast_u32_to_i32_slice, is_unmarked, marker_units, string_at,

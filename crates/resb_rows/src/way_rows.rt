@@ -1,7 +1,7 @@
 //! The whole way from a text to a file, against bytes that follow from the format's rules.
-use super::{CompileError, compile};
-use crate::binary::BinarySerializerError;
-use crate::text::Expected;
+use resb::binary::BinarySerializerError;
+use resb::text::Expected;
+use resb::{CompileError, compile};
 use std::test::Fail;
 
 const HEADER: [u8; 32] = [

@@ -5,7 +5,8 @@ use Rattle.std.specs.List.Sorted.{IsStrictlySortedBy}
 use Rattle.std.specs.Map.{keys_of, lookup}
 use Rattle.std.specs.Cmp.Lexicographic.{slice_cmp}
 use Rattle.std.specs.Ordering.{match_ordering}
-use Rattle.resb_tree.specs.Maps.{get, map_of-sorted}
+use Rattle.resb_tree.specs.Maps.{get}
+use Rattle.resb_tree.proofs.MapLemmas.{map_of-sorted}
 use Rattle.resb_tree.specs.Tree.{Tree, array, table, entries_len, put, map_of}
 use Rattle.resb_tree.specs.View.{tree_of, items_view, pairs_view, entries_view}
 use Rattle.resb_tree.specs.declared.resource.Resource.{Resource, Array, Table, the_lemmas}

@@ -1,5 +1,6 @@
-//! Each public call once with ample memory, and what no contract can say: how deep a tree may be.
-use crate::{Int28, Key, NoMemory, Resource, ResourceBundle, Table};
+//! Trees, keys, integers and bundles, and how deep a tree may be when it is dropped.
+//! What a text or a file makes of them stands in the other rows.
+use resb_tree::{Int28, Key, NoMemory, Resource, ResourceBundle, Table};
 use std::alloc::{AllocError, Global};
 use std::borrow::{CowSlice, CowStr};
 use std::collections::BTreeMap;

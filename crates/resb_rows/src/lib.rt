@@ -1,0 +1,12 @@
+//! The worked rows: inputs with the answers that the rules ask for, each through every public call
+//! that takes it. Only tests stand here, so that no other crate is proved twice.
+#![tactic(auto)]
+
+#[cfg(test)]
+mod format_rows;
+#[cfg(test)]
+mod head_rows;
+#[cfg(test)]
+mod tree_rows;
+#[cfg(test)]
+mod way_rows;

@@ -1,0 +1,31 @@
+-- The test whether two trees are equal.
+use Rattle.std.specs.Prelude.{Bool, true, false, ◌&&◌, nat_eq}
+use Rattle.std.specs.Cmp.Lexicographic.{pointwise}
+use Rattle.resb_tree.specs.Tree.{Tree, string, array, table, binary, integer, int_vector, Trees, no_trees, more_trees, Entries, no_entries, entry}
+
+abbrev mutual
+  pub tree_eq : Tree → Tree → Bool
+  tree_eq (string s) (string t) = pointwise nat_eq s t
+  tree_eq (string s) _ = false
+  tree_eq (array ts) (array us) = trees_eq ts us
+  tree_eq (array ts) _ = false
+  tree_eq (table es) (table fs) = entries_eq es fs
+  tree_eq (table es) _ = false
+  tree_eq (binary s) (binary t) = pointwise nat_eq s t
+  tree_eq (binary s) _ = false
+  tree_eq (integer n) (integer m) = nat_eq n m
+  tree_eq (integer n) _ = false
+  tree_eq (int_vector s) (int_vector t) = pointwise nat_eq s t
+  tree_eq (int_vector s) _ = false
+
+  pub trees_eq : Trees → Trees → Bool
+  trees_eq no_trees no_trees = true
+  trees_eq no_trees (more_trees u us) = false
+  trees_eq (more_trees t ts) no_trees = false
+  trees_eq (more_trees t ts) (more_trees u us) = tree_eq t u && trees_eq ts us
+
+  pub entries_eq : Entries → Entries → Bool
+  entries_eq no_entries no_entries = true
+  entries_eq no_entries (entry l u fs) = false
+  entries_eq (entry k t es) no_entries = false
+  entries_eq (entry k t es) (entry l u fs) = (pointwise nat_eq k l && tree_eq t u) && entries_eq es fs

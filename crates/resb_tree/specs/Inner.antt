@@ -1,0 +1,3 @@
+-- Words of private functions, and the lemmas that the laws of `==` cite.
+pub mod Dropping
+pub mod EqualityLemmas

@@ -1,25 +1,30 @@
 -- What stands before the root's items: where it leads to, and where it is refused.
-use Rattle.std.proofs.Common.{◌≡◌, ◌≢◌, ℕ, ◌+◌, Bool, true, false, List, refl, sym, ◌∙◌, ap, subst, arith, Some, inr}
-use Rattle.std.specs.Prelude.{◌==◌, slice_index}
+use Rattle.std.proofs.Common.{◌≡◌, ◌≢◌, ℕ, ◌+◌, Bool, true, false, List, refl, sym, ◌∙◌, ap, subst, arith, Some, inl, inr, ⊎_elim}
+use Rattle.std.specs.Prelude.{◌⊎◌, ◌==◌, slice_index}
 use Rattle.std.proofs.lemmas.Bool.Decides.{nat_tests}
-use Rattle.resb_text.specs.Tokens.{Skip, Text}
-use Rattle.resb_text.specs.Types.{RootType}
-use Rattle.resb_text.specs.BundleText.{Typing, without, with, Header}
-use Rattle.resb_text.specs.Machine.{Token, a_word, a_number, opening, closing, a_comma, a_type, a_root_type, State, start, named, inside, titled, at_root, neither, root_types, word_class, open_class, root_type_class, next, At}
-use Rattle.resb_text.specs.Stuck.{choose, expected, NoToken, Stuck, blocked}
-use Rattle.resb_text.specs.Answer.{Fails}
-use Rattle.resb_text.specs.Steps.{TypingFails}
-use Rattle.resb_text.specs.declared.error.Expected.{Expected}
-use Rattle.resb_text.specs.declared.error.Expected.TheVariants as expect
+use Rattle.resb_grammar.specs.Tokens.{Skip, Text}
+use Rattle.resb_grammar.specs.Types.{RootType}
+use Rattle.resb_grammar.specs.BundleText.{Typing, without, with, Header}
+use Rattle.resb_grammar.specs.Machine.{Token, a_word, a_number, opening, closing, a_comma, a_type, a_root_type, State, start, named, inside, titled, at_root, next, At}
+use Rattle.resb_grammar.specs.Inner.Lex.{neither, root_types, word_class, open_class, root_type_class}
+use Rattle.resb_grammar.specs.Stuck.{choose, expected, NoToken, Stuck, blocked}
+use Rattle.resb_text.specs.Refusal.{want_of_memory}
+use Rattle.resb_text.specs.Answer.{Fails, IsNoBundle}
+use Rattle.resb_grammar.proofs.GrammarLaws.{stuck_none}
+use Rattle.resb_text.specs.Inner.Steps.{TypingFails}
+use Rattle.resb_grammar.specs.declared.expected.Expected.{Expected}
+use Rattle.resb_grammar.specs.declared.expected.Expected.TheVariants as expect
 use Rattle.resb_text.specs.declared.error.TextParserError.{TextParserError}
-use Rattle.resb_text.proofs.Moves.{Means, move_means, begin, further, byte_class, class_word, none_some, root_colon}
+use Rattle.resb_grammar.proofs.HeaderPath.{name_read, typed_name}
+use Rattle.resb_grammar.specs.Token.{Means}
+use Rattle.resb_grammar.proofs.Moves.{move_means, begin, further, byte_class, class_word, none_some, root_colon}
 
 abbrev pub error_at : ℕ → Expected → TextParserError
 error_at at x = record { position = at; expected = x }
 
 module _ (text : List ℕ) where
   -- no token stands there, and this was expected
-  stuck_in : (at : ℕ) (s : State) (x : Expected) → At text at s → NoToken text at s → ((h : Rattle.resb_text.specs.Stuck.IsEnd text at s) → ⊥) → ((h : Rattle.resb_text.specs.Stuck.HasDigits text at s) → ⊥) → x ≡ expected s (slice_index text at) → Stuck text at x
+  stuck_in : (at : ℕ) (s : State) (x : Expected) → At text at s → NoToken text at s → ((h : Rattle.resb_grammar.specs.Stuck.IsEnd text at s) → ⊥) → ((h : Rattle.resb_grammar.specs.Stuck.HasDigits text at s) → ⊥) → x ≡ expected s (slice_index text at) → Stuck text at x
   stuck_in at s x reached none no_end no_digits is =
       subst (λ (y : Expected). Stuck text at y) (sym is) (blocked s (record { reached = reached; none = none; no_end = no_end; no_digits = no_digits }))
 
@@ -36,11 +41,8 @@ module _ (text : List ℕ) where
       go to u (a_type kind) m e = none_some u e
       go to u (a_root_type fallback) m e = none_some u e
 
-  pub name_read : (at ends to : ℕ) (name : List ℕ) → Skip text 0 at → Text text at ends name → Skip text ends to → At text to (named name)
-  name_read at ends to name skip t skip' = further text at ends to start (named name) (a_word name) word_class (begin text at skip) (class_word text at ends name t) (name, t, refl) refl skip'
-
   pub typing_refused : (at ends to : ℕ) (name : List ℕ) (e : TextParserError) → Skip text 0 at → Text text at ends name → Skip text ends to → TypingFails text to e → Fails text e
-  typing_refused at ends to name e skip t skip' fails = inr (fails name (name_read at ends to name skip t skip'))
+  typing_refused at ends to name e skip t skip' fails = inr (fails name (name_read text at ends to name skip t skip'))
 
   -- no type of a root after a `:`
   pub no_root_type : (at : ℕ) → slice_index text at ≡ 58 → ((to : ℕ) (fallback : Bool) → RootType text at to fallback → ⊥) → TypingFails text at (error_at at expect.TypeName)
@@ -56,10 +58,6 @@ module _ (text : List ℕ) where
       go to u closing m e = none_some u e
       go to u a_comma m e = none_some u e
       go to u (a_type kind) m e = none_some u e
-
-  -- after the name and its type, if it has one
-  typed_name : (name : List ℕ) (place i brace : ℕ) (f : Bool) → RootType text place i f → Skip text i brace → At text place (named name) → At text brace (titled (record { name = name; fallback = f }))
-  typed_name name place i brace f t skip at = further text place i brace _ _ (a_root_type f) root_type_class at (byte_class text root_types place 58 root_type_class (root_colon text place i f t) refl) (f, t, refl) refl skip
 
   brace_expected : (b : ℕ) → b ≢ 58 → expect.LeftBrace ≡ choose (b == 58) expect.TypeName expect.LeftBrace
   brace_expected b ne = let no : (b == 58) ≡ false = grind (arith, nat_tests) in sym (ap (λ k. choose k expect.TypeName expect.LeftBrace) no)
@@ -82,7 +80,7 @@ module _ (text : List ℕ) where
       go to u a_comma m h = none_some u h
       go to u (a_type kind) m h = none_some u h
   no_open name place brace f reached (with i _ t skip) plain never =
-      inr (stuck_in brace (titled (record { name = name; fallback = f })) expect.LeftBrace (typed_name name place i brace f t skip reached) (λ to u m. go to u m.token (move_means text brace to (titled (record { name = name; fallback = f })) u m) m.moves) (λ h. h) (λ h. h) refl)
+      inr (stuck_in brace (titled (record { name = name; fallback = f })) expect.LeftBrace (typed_name text name place i brace f t skip reached) (λ to u m. go to u m.token (move_means text brace to (titled (record { name = name; fallback = f })) u m) m.moves) (λ h. h) (λ h. h) refl)
     where
       go : (to : ℕ) (u : State) (t : Token) → Means text brace to t → next (titled (record { name = name; fallback = f })) t ≡ Some u → ⊥
       go to u opening m h = never m.0
@@ -112,13 +110,6 @@ module _ (text : List ℕ) where
     after = skip'';
   }
 
-  -- the path to the first entry
-  pub header_at : (name : List ℕ) (fallback : Bool) (to : ℕ) → Header text name fallback to → At text to (inside (at_root (record { name = name; fallback = fallback })))
-  header_at name fallback to h = go fallback h.place h.brace h.typed (name_read h.start h.ends h.place name h.before h.named h.between) h.opens h.after
-    where
-      go : (f : Bool) (place brace : ℕ) → Typing text place brace f → At text place (named name) → slice_index text brace ≡ 123 → Skip text (brace + 1) to → At text to (inside (at_root (record { name = name; fallback = f })))
-      go true place brace (without e) at b skip =
-          let here : At text brace (named name) = subst (λ n. At text n (named name)) e at in
-          further text brace (brace + 1) to _ _ opening open_class here (byte_class text root_types brace 123 open_class b refl) (refl, refl) refl skip
-      go f place brace (with i _ t skip') at b skip =
-          further text brace (brace + 1) to _ _ opening open_class (typed_name name place i brace f t skip' at) (byte_class text neither brace 123 open_class b refl) (refl, refl) refl skip
+  -- what fails for another reason than memory is no bundle
+  pub fails_no_bundle : (e : TextParserError) → Fails text e → (e ≡ want_of_memory) ⊎ IsNoBundle text
+  fails_no_bundle e h = ⊎_elim (λ (m : e ≡ want_of_memory). inl m) (λ (s : Stuck text e.position e.expected). inr (stuck_none text e.position e.expected s)) h

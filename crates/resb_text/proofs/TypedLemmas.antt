@@ -3,23 +3,25 @@ use Rattle.std.proofs.Common.{◌≡◌, ◌≢◌, ℕ, ◌+◌, Bool, true, fa
 use Rattle.std.specs.Prelude.{◌⊎◌, not, slice_index}
 use Rattle.std.proofs.lemmas.Bool.{false≢true}
 use Rattle.resb_tree.specs.Tree.{Tree}
-use Rattle.resb_text.specs.Tokens.{Skip}
-use Rattle.resb_text.specs.Types.{Kind, array_kind, table_kind, GroupType, Head}
-use Rattle.resb_text.specs.Items.{Item, group}
-use Rattle.resb_text.specs.Machine as machine
-use Rattle.resb_text.specs.Machine.{Body, table_body, array_body, untyped_body, Token, a_word, a_number, opening, closing, a_comma, a_type, a_root_type, State, inside, typed, neither, type_class, with_member, within, is_key_place, in_body, next, At}
-use Rattle.resb_text.specs.Stuck.{expected, expected_in, Stuck, blocked}
-use Rattle.resb_text.specs.Leaf.{Leaf, LeafFails}
-use Rattle.resb_text.specs.Frames.{body_of, Shows}
+use Rattle.resb_grammar.specs.Tokens.{Skip}
+use Rattle.resb_grammar.specs.Types.{Kind, array_kind, table_kind, GroupType, Head}
+use Rattle.resb_grammar.specs.Items.{Item, group}
+use Rattle.resb_grammar.specs.Machine as machine
+use Rattle.resb_grammar.specs.Machine.{Body, table_body, array_body, untyped_body, Token, a_word, a_number, opening, closing, a_comma, a_type, a_root_type, State, inside, typed, with_member, within, is_key_place, in_body, next, At}
+use Rattle.resb_grammar.specs.Inner.Lex.{neither, type_class}
+use Rattle.resb_grammar.specs.Stuck.{expected, expected_in, Stuck, blocked}
+use Rattle.resb_text.specs.Inner.Leaf.{Leaf, LeafFails}
+use Rattle.resb_text.specs.Inner.Frames.{body_of, Shows}
 use Rattle.resb_text.specs.Answer.{Fails}
 use Rattle.resb_text.specs.Refusal.{want_of_memory}
-use Rattle.resb_text.specs.Steps.{takes_group, Among, HeadFails}
+use Rattle.resb_text.specs.Inner.Steps.{takes_group, Among, HeadFails}
 use Rattle.resb_text.specs.declared.frames.Open.{Open}
-use Rattle.resb_text.specs.declared.error.Expected.{Expected}
-use Rattle.resb_text.specs.declared.error.Expected.TheVariants as expect
+use Rattle.resb_grammar.specs.declared.expected.Expected.{Expected}
+use Rattle.resb_grammar.specs.declared.expected.Expected.TheVariants as expect
 use Rattle.resb_text.specs.declared.error.TextParserError.{TextParserError}
-use Rattle.resb_text.proofs.Moves.{Means, move_means, further, byte_class, none_some, no_text_colon}
-use Rattle.resb_text.proofs.Complete.{MayOpen, type_next, run_head, run_content}
+use Rattle.resb_grammar.specs.Token.{Means}
+use Rattle.resb_grammar.proofs.Moves.{move_means, further, byte_class, none_some, no_text_colon}
+use Rattle.resb_grammar.proofs.Complete.{MayOpen, type_next, run_head, run_content}
 use Rattle.resb_text.proofs.StepLemmas.{error_at, body_same, stuck_here, no_number, no_root_type}
 
 may_open : (b : Body) (xs : List Item) → takes_group b (is_key_place xs) ≡ true → MayOpen b xs

@@ -1,7 +1,8 @@
 use Rattle.std.proofs.Common.{◌≡◌, arith, sym, ◌∙◌}
 use Rattle.std.specs.Prelude.{slice_index}
 use Rattle.std.proofs.lemmas.Result.{err_from_is_err_and}
-use Rattle.resb_text.proofs.HeaderLemmas.{typing_first, no_name, no_open, name_read, typing_refused}
+use Rattle.resb_text.proofs.HeaderLemmas.{typing_first, no_name, no_open, typing_refused}
+use Rattle.resb_grammar.proofs.HeaderPath.{name_read}
 use Rattle.resb_text.proofs.reader.read_header.Goals as goal
 
 pub returns-in_default-clause-err : goal.returns-in_default-clause-err

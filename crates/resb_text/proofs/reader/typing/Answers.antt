@@ -1,5 +1,5 @@
 use Rattle.std.proofs.Common.{refl, sym, ◌∙◌}
-use Rattle.resb_text.specs.BundleText.{without, with}
+use Rattle.resb_grammar.specs.BundleText.{without, with}
 use Rattle.resb_text.proofs.HeaderLemmas.{no_root_type}
 use Rattle.resb_text.proofs.reader.typing.Goals as goal
 

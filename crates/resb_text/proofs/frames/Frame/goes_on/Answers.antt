@@ -1,6 +1,6 @@
 use Rattle.std.proofs.Common.{◌∙◌, sym, ap, false}
-use Rattle.resb_text.specs.Shown.{shown_member}
-use Rattle.resb_text.specs.Frames.{Look}
+use Rattle.resb_text.specs.Inner.Shown.{shown_member}
+use Rattle.resb_text.specs.Inner.Frames.{Look}
 use Rattle.resb_text.specs.declared.items.Member.{Member}
 use Rattle.resb_text.proofs.FrameLemmas.{goes_word, goes_group, key_then}
 use Rattle.resb_text.proofs.frames.Frame.goes_on.Goals as goal

@@ -1,5 +1,5 @@
 use Rattle.std.proofs.Common.{ap}
-use Rattle.resb_text.specs.Frames.{Look}
+use Rattle.resb_text.specs.Inner.Frames.{Look}
 use Rattle.resb_text.proofs.FrameLemmas.{pairs_then}
 use Rattle.resb_text.proofs.frames.Frame.is_pairs.Goals as goal
 

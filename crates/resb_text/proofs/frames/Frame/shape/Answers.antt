@@ -1,8 +1,8 @@
 use Rattle.std.proofs.Common.{sym, ◌∙◌, ap}
 use Rattle.std.specs.Prelude.{map}
-use Rattle.resb_text.specs.Machine.{shape_in}
-use Rattle.resb_text.specs.Shown.{shown}
-use Rattle.resb_text.specs.Frames.{Look, body_of}
+use Rattle.resb_grammar.specs.Machine.{shape_in}
+use Rattle.resb_text.specs.Inner.Shown.{shown}
+use Rattle.resb_text.specs.Inner.Frames.{Look, body_of}
 use Rattle.resb_text.proofs.FrameLemmas.{shape_table, shape_array}
 use Rattle.resb_text.proofs.frames.Frame.shape.Goals as goal
 

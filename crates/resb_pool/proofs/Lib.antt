@@ -1,10 +1,12 @@
 pub mod Zeros
 pub mod Utf16
 pub mod TextLoops
+pub mod ReadBack
 pub mod PlacingLemmas
 pub mod SharingLemmas
 pub mod OrderingLemmas
 pub mod PlanLemmas
+pub mod IsRead
 pub mod Least
 pub mod SuffixOrder
 pub mod Reading

@@ -178,3 +178,7 @@ records-push (q ∷ qs) t = ap (λ l. record_units q ++ l) (records-push qs t) �
 
 pub ends_none : (Q : Texts) (q : List ℕ) → ClosesIn Q [] q None
 ends_none Q q = λ x. absurd (omega (arith, x.1))
+
+pub texts_flat : (xs ys : Texts) → flat_map record_units (xs ++ ys) ≡ flat_map record_units xs ++ flat_map record_units ys
+texts_flat [] ys = refl
+texts_flat (x ∷ xs) ys = ap (λ l. record_units x ++ l) (texts_flat xs ys) ∙ sym (append_assoc (record_units x) (flat_map record_units xs) (flat_map record_units ys))

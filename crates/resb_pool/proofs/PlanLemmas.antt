@@ -21,7 +21,7 @@ use Rattle.resb_pool.specs.declared.records.Record.{Record}
 use Rattle.resb_pool.proofs.Least.{into_least}
 use Rattle.resb_pool.proofs.TextLoops.{blank}
 use Rattle.resb_pool.proofs.SharingLemmas.{own_size, size_within}
-use Rattle.resb_pool.proofs.OrderingLemmas.{records_permutation, neighbours_differ, text_at_index, in_order, measured_by}
+use Rattle.resb_pool.proofs.OrderingLemmas.{length-records, records_permutation, neighbours_differ, text_at_index, in_order, measured_by}
 
 abbrev Texts : Type 0
 Texts = List (List ℕ)
@@ -152,8 +152,11 @@ module _ (S : Texts) (texts : All IsUtf8 S) (places : List ℕ → Option Place)
                 subst (Off S (record_texts v) s) (sym (ap (λ o. option_map_or closing o 0) e))
                 (off_within {s = s} {r = r} {k = unwrap_or (ends r) 0 + 1 - p.size} {c = unwrap_or (ends r) 0} lies k (omega (arith, h.1.size_is, w, k.place)))
 
-        pub planned : (us : List ℕ) (at : List ℕ → Option ℕ) → us ≡ 0 ∷ flat_map record_units (record_texts v) → AreOffsets places ends S at → IsPlan S us at
-        planned us at u f = record {
+        pub planned : sum_by size S < 2 ^ 28 → All (λ s. length (units s) ≤ 4294967295) S → (us : List ℕ) (at : List ℕ → Option ℕ) → us ≡ 0 ∷ flat_map record_units (record_texts v) → AreOffsets places ends S at → IsPlan S us at
+        planned small short us at u f = record {
+          texts = texts;
+          short = short;
+          room = omega (arith, ap length u, length-records (record_texts v), laid_within);
           records = record_texts v;
           pool = record {
             records = laid_records;

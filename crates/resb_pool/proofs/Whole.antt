@@ -76,7 +76,7 @@ module _ (ms ns : List Node) (S : List (List ℕ)) (e : texts_of ms ≡ S) where
   pub kept_list : IsKept ms ns → (u : List ℕ) → Contains (texts_of ns) u ↔ Contains S u
   kept_list a u = (λ h. old_in u (a.from u (to_text ns u h)), λ h. from_text ns u (a.to u (in_old u h)))
 
-ends_extends : (t s : List ℕ) → IsUtf8 t → IsUtf8 s → EndsWith t s → Extends (key t) (key s)
+pub ends_extends : (t s : List ℕ) → IsUtf8 t → IsUtf8 s → EndsWith t s → Extends (key t) (key s)
 ends_extends t s u v h = cut_extends t h.front s (record { is = h.is; front_utf8 = front_utf8 t h.front s h.is u v; tail_utf8 = v })
 
 extends_ends : (t s : List ℕ) → IsUtf8 t → IsUtf8 s → Extends (key t) (key s) → EndsWith t s

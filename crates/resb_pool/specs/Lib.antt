@@ -9,4 +9,5 @@ pub mod Order
 pub mod Container
 pub mod Pool
 pub mod Plan
+pub mod Laws
 pub mod Inner

@@ -3,9 +3,9 @@
 --     offset_of p s           where the text s stands, if it was given
 --     IsPlan S us offset      these are the units and offsets of the strings S
 --     NotPlanned S f          the fault f is the answer for the strings S
-use Rattle.std.specs.Prelude.{◌≡◌, ℕ, ◌+◌, ◌^◌, ◌≤◌, List, [], ◌∷◌, length, Option, Some, None, MatchOption, Contains, nat_le, sum_by, map, codes, if◌then◌else◌}
+use Rattle.std.specs.Prelude.{◌≡◌, ℕ, ◌+◌, ◌^◌, ◌≤◌, List, [], ◌∷◌, length, Option, Some, None, MatchOption, All, Contains, nat_le, sum_by, map, codes, if◌then◌else◌}
 use Rattle.std.specs.Borrow.{Bor}
-use Rattle.std.specs.Str.{bytes_eq}
+use Rattle.std.specs.Str.{bytes_eq, IsUtf8}
 use Rattle.indexmap.specs.IndexMap.{IndexMap, get_by}
 use Rattle.resb_format.specs.Units.{units}
 use Rattle.resb_pool.specs.Fault.{Fault, string_too_long, limit, out_of_memory}
@@ -26,6 +26,10 @@ abbrev pub offset_of : Plan → List ℕ → Option ℕ
 offset_of p s = at_text p.offsets s
 
 pub record IsPlan (S : List (List ℕ)) (us : List ℕ) (offset : List ℕ → Option ℕ) : Type 0 where
+  pub texts : All IsUtf8 S
+  -- none is too long
+  pub short : All (λ s. length (units s) ≤ 4294967295) S
+  pub room : length us ≤ 2 ^ 28
   pub records : List (List ℕ)
   pub pool : IsPool S records us
   -- a text has an offset exactly where it was given

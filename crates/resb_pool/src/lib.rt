@@ -4,7 +4,7 @@
 
 mod error;
 mod grow;
-mod laws;
+pub mod laws;
 mod measure;
 mod node;
 mod offsets;
@@ -16,5 +16,4 @@ mod text;
 mod walk;
 
 pub use error::BinarySerializerError;
-pub use laws::records_cost_least;
 pub use offsets::Plan;

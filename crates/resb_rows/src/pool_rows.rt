@@ -126,6 +126,7 @@ fn decimal_texts(rt: HostRuntime) -> Result<(), Fail> {
 #[test]
 fn nested_suffixes(rt: HostRuntime) -> Result<(), Fail> {
     let alloc = rt.alloc();
+    let marked = letters(alloc, 41)?;
     let mut texts = Vec::new(alloc);
     for count in 1..41 {
         texts.push(letters(alloc, count)?)?;
@@ -139,7 +140,6 @@ fn nested_suffixes(rt: HostRuntime) -> Result<(), Fail> {
     for (place, text) in strings.iter().enumerate() {
         assert_eq!(rt; plan.offset(text), Some(40 - place as u32));
     }
-    let marked = letters(alloc, 41)?;
     strings.push(marked.as_str())?;
     let plan = pool::plan(alloc, &strings)?;
     assert_eq!(rt; plan.units().len(), 44);

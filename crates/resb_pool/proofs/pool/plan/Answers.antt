@@ -7,6 +7,7 @@ use Rattle.resb_pool.specs.Plan.{nows, at_text, texts_size, NotPlanned, too_larg
 use Rattle.resb_pool.specs.Inner.Placing.{record_texts, record_cmp, AreMeasured}
 use Rattle.std.specs.List.Sorted.{IsPermutation, IsSorted}
 use Rattle.std.proofs.lemmas.Result.{err_from_is_err_and}
+use Rattle.resb_pool.proofs.TextLoops.{none_too_long}
 use Rattle.resb_pool.proofs.PlanLemmas.{texts_short, sizes_within, own_sizes, records_short, laid_within, counts, all_reach, planned}
 use Rattle.resb_pool.proofs.pool.plan.Goals as goal
 
@@ -84,10 +85,12 @@ returns-in_err-offsets-clause-err c = let p = err_from_is_err_and c.from_residua
 
 pub returns-clause-ok : goal.returns-clause-ok
 returns-clause-ok c =
-    planned (nows c.args.strings.now) c.in_ok-places.ensures.texts (at_text c.in_ok-places.places.by_text) c.in_ok-places.ensures.places
+    let S = nows c.args.strings.now in
+    let small : sum_by size S < 2 ^ 28 = omega (arith, sizes_within S, leb-false 268435456 (texts_size S) (sym c.are_too_large.ensures ∙ c.if-are_too_large.false)) in
+    planned S c.in_ok-places.ensures.texts (at_text c.in_ok-places.places.by_text) c.in_ok-places.ensures.places
     (at_text c.in_ok-sums.sums) c.in_ok-sums.ensures (nows c.deref.result.now) (subst (λ l. IsRecords (nows c.args.strings.now) (nows l)) (sym c.deref.ensures.value) c.in_ok-places.ensures.records)
     c.deref-2.result.now
     (subst (λ l. IsPermutation (nows c.deref.result.now) (record_texts l)) (sym c.deref-2.ensures.value) c.in_ok-records.ensures.texts)
     (subst (AreMeasured (at_text c.in_ok-sums.sums)) (sym c.deref-2.ensures.value) c.in_ok-records.ensures.measured)
     (subst (IsSorted record_cmp) (sym c.deref-2.ensures.value) c.in_ok-records.ensures.ascend)
-    (at_text c.in_ok-block.block.ends) c.in_ok-block.ensures.ends c.in_ok-block.block.units.items (at_text c.in_ok-offsets.offsets) c.in_ok-block.ensures.units c.in_ok-offsets.ensures
+    (at_text c.in_ok-block.block.ends) c.in_ok-block.ensures.ends small (none_too_long S c.in_ok-check_lengths.ensures.ok) c.in_ok-block.block.units.items (at_text c.in_ok-offsets.offsets) c.in_ok-block.ensures.units c.in_ok-offsets.ensures

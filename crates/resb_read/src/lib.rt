@@ -4,17 +4,21 @@
 
 mod cursor;
 mod deserialize;
+mod entries;
 mod entry;
 mod faults;
 mod given;
 mod items;
 mod lists;
+mod maps;
 mod numbers;
 mod resources;
 mod sequences;
+mod texts;
 
 pub use cursor::{Cursor, Spot};
 pub use deserialize::Deserialize;
+pub use entries::MapAccess;
 pub use entry::{count_resources, from_bytes, from_bytes_counted, tree_from_bytes};
 pub use resb_walk::Walk;
 pub use sequences::SeqAccess;

@@ -2,3 +2,5 @@ pub mod Trees
 pub mod Rooted
 pub mod Each
 pub mod Singly
+pub mod UnitsBack
+pub mod Entering

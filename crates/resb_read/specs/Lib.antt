@@ -22,4 +22,6 @@ pub mod Roots
 pub mod Sequences
 pub mod SequenceLaws
 pub mod Access
+pub mod Others
+pub mod ViewLaws
 pub mod Inner

@@ -38,7 +38,7 @@ module _ (counts : Place → ℕ → Type 0) (one : (p : Place) (m n : ℕ) → 
       let g : n ≡ 1 + k.total = k.count in omega arith
 
 module _ {K X : Type 0} (rk : Place → K → ℕ → Type 0) (rv : Place → X → ℕ → Type 0) (ck cv : Place → ℕ → Type 0) (hk : (p : Place) (v : K) (n : ℕ) → rk p v n → ck p n) (hv : (p : Place) (v : X) (n : ℕ) → rv p v n → cv p n) where
-  pairs_counted : (ps : List (Place × Place)) (es : List (K × X)) (n : ℕ) → ReadsPairs rk rv ps es n → CountsPairs ck cv ps n
+  pub pairs_counted : (ps : List (Place × Place)) (es : List (K × X)) (n : ℕ) → ReadsPairs rk rv ps es n → CountsPairs ck cv ps n
   pairs_counted [] [] n h = h
   pairs_counted [] (e ∷ es) n h = absurd h
   pairs_counted (p ∷ ps) [] n h = absurd h

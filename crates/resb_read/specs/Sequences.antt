@@ -128,3 +128,8 @@ pub record CountsMap (key : Place → ℕ → Type 0) (value : Place → ℕ →
   pub are : entries p ≡ Some places
   pub each : CountsPairs key value places total
   pub count : n ≡ 1 + total
+
+-- the entries that stand after all were put in
+abbrev pub ReadsAll : {K X : Type 0} → (K → K → Ordering) → (Place → K → ℕ → Type 0) → (Place → X → ℕ → Type 0) → List (Place × Place) → List (K × X) → ℕ → Type 0
+ReadsAll {K} {X} cmp key value places m n =
+    (es : List (K × X)) × ReadsPairs key value places es n × (m ≡ put_each cmp [] es)

@@ -1,5 +1,6 @@
 -- What lies inside a block, by numbers of bytes.
-use Rattle.std.proofs.Common.{map, ℕ, zero, suc, List, [], ◌∷◌, ◌≡◌, ◌+◌, ◌*◌, ◌/◌, ◌<◌, ◌≤◌, Bool, true, false, length, get_or, take, drop, Option, Some, None, refl, sym, ap, ◌∙◌, arith}
+use Rattle.std.specs.List.{zip}
+use Rattle.std.proofs.Common.{min, map, ℕ, zero, suc, List, [], ◌∷◌, ◌≡◌, ◌+◌, ◌*◌, ◌/◌, ◌<◌, ◌≤◌, Bool, true, false, length, get_or, take, drop, Option, Some, None, refl, sym, ap, ◌∙◌, arith}
 use Rattle.std.specs.Prelude.{position, ◌==◌, not}
 use Rattle.std.proofs.lemmas.Bool.{false_from_ne_true}
 use Rattle.std.proofs.lemmas.Bool.Decides.{nat_tests}
@@ -55,3 +56,9 @@ string_fails block u e h = either (nat_lt u (length block) && is_no_marker (slic
 
 pub map_length : {A B : Type 0} (f : A → B) (xs : List A) → length (map f xs) ≡ length xs
 map_length f xs = length-map xs f
+
+pub zip_length : {A B : Type 0} (xs : List A) (ys : List B) → length (zip xs ys) ≡ min (length xs) (length ys)
+zip_length [] [] = omega arith
+zip_length [] (y ∷ ys) = omega arith
+zip_length (x ∷ xs) [] = omega arith
+zip_length (x ∷ xs) (y ∷ ys) = let h = zip_length xs ys in omega (arith, h)

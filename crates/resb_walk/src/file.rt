@@ -103,6 +103,17 @@ impl<'a> Members<'a> {
 }
 
 impl<'a> Positions<'a> {
+    /// How many positions are still to come.
+    #[tactic(auto, using(resb_format::proofs::Spelled::words_length, resb_format::proofs::Spelled::units_length))]
+    pub fn len(self) -> usize
+        ensures { result ≡ length (positions_of self.entry) }
+    {
+        match self {
+            Positions::Halves(bytes) => bytes.len() / 2,
+            Positions::Wholes(bytes) => bytes.len() / 4,
+        }
+    }
+
     /// The first position, and those after it.
     pub fn split(self) -> Option<(usize, Positions<'a>)>
         ensures { MatchOption result (positions_of self.entry ≡ []) (λ r. positions_of self.entry ≡ r.0 ∷ positions_of r.1) }
@@ -121,6 +132,14 @@ impl<'a> Positions<'a> {
 }
 
 impl<'a> Pairs<'a> {
+    /// How many entries are still to come.
+    #[tactic(auto, using(crate::proofs::Placed::zip_length))]
+    pub fn len(self) -> usize
+        ensures { result ≡ length (pairs_of self.entry) }
+    {
+        self.keys.len().min(self.members.len())
+    }
+
     /// The first entry, and those after it.
     pub fn split(self) -> Option<(usize, Member, Pairs<'a>)>
         ensures { MatchOption result (pairs_of self.entry ≡ []) (λ r. pairs_of self.entry ≡ (r.0, member_of r.1) ∷ pairs_of r.2) }

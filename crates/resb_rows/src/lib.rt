@@ -11,6 +11,8 @@ mod parts_rows;
 #[cfg(test)]
 mod pool_rows;
 #[cfg(test)]
+mod text_rows;
+#[cfg(test)]
 mod tree_rows;
 #[cfg(test)]
 mod way_rows;

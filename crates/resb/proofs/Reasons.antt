@@ -3,7 +3,7 @@ use Rattle.std.proofs.Common.{◌≡◌, ℕ, List, length, Result, Ok, Err, sym
 use Rattle.std.specs.Result.{IsErrAnd, IfErr}
 use Rattle.std.specs.Prelude.{codes, Bool}
 use Rattle.resb_tree.specs.Tree.{Tree}
-use Rattle.resb_text.specs.BundleText.{BundleText}
+use Rattle.resb_grammar.specs.BundleText.{BundleText}
 use Rattle.resb_write.specs.Fault.{Fault, string_too_long, unexpected, limit, out_of_memory}
 use Rattle.resb_write.specs.Refused.{Refused, no_memory, unlisted_key, key_with_nul, far_key, too_large, not_covered}
 use Rattle.resb_write.specs.FaultOf.{fault_of}
@@ -11,7 +11,7 @@ use Rattle.resb_write.specs.declared.error.BinarySerializerError.{BinarySerializ
 use Rattle.resb.specs.Compiling.{IsRefused}
 use Rattle.resb.specs.declared.compiling.CompileError.{CompileError}
 use Rattle.resb.specs.declared.compiling.CompileError.TheVariants.{Writing}
-use Rattle.resb.proofs.Listed.{listed}
+use Rattle.resb_grammar.proofs.Listed.{listed}
 
 -- the length of what is said, where a tree and keys don't belong together
 said : Fault → ℕ

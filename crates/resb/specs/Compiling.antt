@@ -2,11 +2,12 @@
 --     IsCompiled text bytes   the bytes are a file of the bundle that the text is
 --     IsRefused text e        the error has its reason in the text
 --     message_of e            the text that it prints as
-use Rattle.std.specs.Prelude.{◌≢◌, ℕ, List, Bool, codes}
+use Rattle.std.specs.Prelude.{◌≡◌, ◌≢◌, ◌⊎◌, ℕ, List, Bool, codes}
 use Rattle.resb_tree.specs.Tree.{Tree}
-use Rattle.resb_text.specs.BundleText.{BundleText}
-use Rattle.resb_text.specs.Answer.{Fails}
+use Rattle.resb_grammar.specs.BundleText.{BundleText}
+use Rattle.resb_text.specs.Answer.{Fails, IsNoBundle}
 use Rattle.resb_text.specs.Refusal as refusal
+use Rattle.resb_text.specs.declared.error.TextParserError.{TextParserError}
 use Rattle.resb_write.specs.Written.{Written}
 use Rattle.resb_write.specs.Refused.{Refused}
 use Rattle.resb_write.specs.Fault as fault
@@ -33,8 +34,13 @@ pub record IsUnwritable (text : List ℕ) (e : BinarySerializerError) : Type 0 w
   pub refused : Refused bundle.tree bundle.keys (fault_of e)
   pub listed : fault_of e ≢ fault.unexpected (codes "key not present in position map")
 
+-- memory was wanted, or the text is no bundle, and a reading gets stuck at the error's place
+pub record IsUnreadable (text : List ℕ) (e : TextParserError) : Type 0 where
+  pub fails : Fails text e
+  pub no_bundle : (e ≡ refusal.want_of_memory) ⊎ IsNoBundle text
+
 abbrev pub IsRefused : List ℕ → CompileError → Type 0
-IsRefused text (Reading e) = Fails text e
+IsRefused text (Reading e) = IsUnreadable text e
 IsRefused text (Writing e) = IsUnwritable text e
 
 abbrev pub message_of : CompileError → List ℕ

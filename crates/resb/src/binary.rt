@@ -1,11 +1,18 @@
-//! The binary form, `.res`: the types of its head and descriptors, its writer, and the errors of both ways.
-//! Views of bytes and their casts are in `helpers`.
+//! The binary form, `.res`: the types of its head and descriptors, its reader, its writer, and the errors of
+//! both ways. Views of bytes, their casts and what reads them are in `helpers`.
 
 pub mod helpers;
 
 pub use resb_format::{
     BinHeader, BinIndex, BinReprInfo, BinaryDeserializerError, CharsetFamily, Endianness,
-    ErrorKind, FileParts, FormatVersion, ResDescriptor, ResourceReprType, is_unmarked,
+    ErrorKind, FileParts, FormatVersion, ReadingError, ResDescriptor, ResourceReprType, is_unmarked,
     marker_units, string_at,
+};
+pub use resb_pool::pool;
+pub use resb_pool::Plan;
+pub use resb_read::{
+    Cursor, Deserialize, IntVectorDeserializer, KeyDeserializer, MapAccess,
+    Resource16BitDeserializer, SeqAccess, Walk, count_resources, determine_endianness, from_bytes,
+    from_bytes_counted, from_words, lay_words,
 };
 pub use resb_write::{BinarySerializerError, Serializer};

@@ -8,4 +8,4 @@ pub mod HeaderPath
 pub mod Complete
 pub mod Sound
 pub mod GrammarLaws
-mod Listed
+pub mod Listed

@@ -29,19 +29,25 @@ trees_back (more_trees t ts) = ap (λ us. more_trees t us) (trees_back ts)
 
 each_below : (n : ℕ) (xs : List ℕ) → All (λ x. x < n) xs → EachBelow n xs
 each_below n [] h = tt
-each_below n (x ∷ xs) h = (h 0 0 (omega arith), each_below n xs (λ k d l. h (suc k) d (omega (arith, l))))
+each_below n (x ∷ xs) h = (
+  h 0 0 (omega arith),
+  each_below n xs (λ k d l. h (suc k) d (omega (arith, l))),
+)
 
-near_below : (n : ℕ) (ps : List ℕ) → 65535 < n → list_all (λ p. nat_le p 65535) ps ≡ true → EachBelow n ps
+near_below : (n : ℕ) (ps : List ℕ) → 65535 < n → list_all (λ p. nat_le p 65535) ps ≡ true
+    → EachBelow n ps
 near_below n [] h e = tt
 near_below n (p ∷ ps) h e =
     let both = and_parts _ _ e in
     (omega (arith, h, leb-true p 65535 both.0), near_below n ps h both.1)
 
-array_word : {g : Given} {s : State} {ws : List ℕ} {e : State} {w : ℕ} → ClosesArray g s ws e w → (w < 2 ^ 32) × (0x6000_ffff < w)
+array_word : {g : Given} {s : State} {ws : List ℕ} {e : State} {w : ℕ} → ClosesArray g s ws e w
+    → (w < 2 ^ 32) × (0x6000_ffff < w)
 array_word (short_array k l) = (omega arith, omega arith)
 array_word (long_array at k e l n) = (omega arith, omega arith)
 
-table_word : {g : Given} {s : State} {ps ws : List ℕ} {e : State} {w : ℕ} → ClosesTable g s ps ws e w → (w < 2 ^ 32) × (w < 0x6000_0000)
+table_word : {g : Given} {s : State} {ps ws : List ℕ} {e : State} {w : ℕ}
+    → ClosesTable g s ps ws e w → (w < 2 ^ 32) × (w < 0x6000_0000)
 table_word (short_table n k l) = (omega arith, omega arith)
 table_word (long_table at n k e l) = (omega arith, omega arith)
 table_word (wide_table at n e l q r) = (omega arith, omega arith)
@@ -59,12 +65,14 @@ word_small (lays_items h some c) = (array_word c).0
 word_small lays_no_entries = omega arith
 word_small (lays_entries ps p h some c) = (table_word c).0
 
-words_small : {g : Given} {s e : State} {ts : Trees} {ws : List ℕ} → LaysEach g s ts e ws → EachBelow (2 ^ 32) ws
+words_small : {g : Given} {s e : State} {ts : Trees} {ws : List ℕ} → LaysEach g s ts e ws
+    → EachBelow (2 ^ 32) ws
 words_small each_none = tt
 words_small (each_more h k) = (word_small h, words_small k)
 
 -- members and words are as many
-words_many : {g : Given} {s e : State} {ts : Trees} {ws : List ℕ} → LaysEach g s ts e ws → length ws ≡ length (list_of ts)
+words_many : {g : Given} {s e : State} {ts : Trees} {ws : List ℕ} → LaysEach g s ts e ws
+    → length ws ≡ length (list_of ts)
 words_many each_none = refl
 words_many (each_more h k) = ap suc (words_many k)
 
@@ -77,9 +85,11 @@ some_offset : (o : Option ℕ) (k : ℕ) → o ≡ Some k → o ≡ Some (0x6000
 some_offset o k e = let f : k ≡ 0x6000_0000 + k - 0x6000_0000 = omega arith in e ∙ ap Some f
 
 -- a word in this range is a string's
-string_word : {g : Given} {s e : State} {t : Tree} {w : ℕ} → Lays g s t e w → 0x6000_0000 ≤ w → w ≤ 0x6000_ffff → IsShortString g t w
+string_word : {g : Given} {s e : State} {t : Tree} {w : ℕ} → Lays g s t e w → 0x6000_0000 ≤ w
+    → w ≤ 0x6000_ffff → IsShortString g t w
 string_word (lays_integer h) a b = absurd (omega arith)
-string_word {g = g} (lays_string {text = text} {k = k} h l) a b = record { text = text; is = refl; offset = some_offset (g.offset text) k h }
+string_word {g = g} (lays_string {text = text} {k = k} h l) a b =
+    record { text = text; is = refl; offset = some_offset (g.offset text) k h }
 string_word lays_no_bytes a b = absurd (omega arith)
 string_word (lays_bytes at some n e l) a b = absurd (omega arith)
 string_word lays_no_numbers a b = absurd (omega arith)
@@ -87,25 +97,33 @@ string_word (lays_numbers at some n c e l) a b = absurd (omega arith)
 string_word lays_no_items a b = absurd (omega arith)
 string_word (lays_items h some c) a b = let far = (array_word c).1 in absurd (omega (arith, far))
 string_word lays_no_entries a b = absurd (omega arith)
-string_word (lays_entries ps p h some c) a b = let far = (table_word c).1 in absurd (omega (arith, far))
+string_word (lays_entries ps p h some c) a b = let far =
+    (table_word c).1 in absurd (omega (arith, far))
 
 module _ (p : Parts) (g : Given) (read : IsRead p g) where
-  short_member : {s e : State} {t : Tree} {w : ℕ} → Lays g s t e w → is_short_string w ≡ true → DenMember p (unit (w - 0x6000_0000)) t (tree_count t)
+  short_member : {s e : State} {t : Tree} {w : ℕ} → Lays g s t e w → is_short_string w ≡ true
+      → DenMember p (unit (w - 0x6000_0000)) t (tree_count t)
   short_member {w = w} h e =
       let both = and_parts _ _ e in
       let i = string_word h (leb-true 0x6000_0000 w both.0) (leb-true w 0x6000_ffff both.1) in
-      subst (λ t. DenMember p (unit (w - 0x6000_0000)) t (tree_count t)) (sym i.is) (den_unit (read.texts i.text (w - 0x6000_0000) i.offset))
+      subst (λ t. DenMember p (unit (w - 0x6000_0000)) t (tree_count t)) (sym i.is)
+      (den_unit (read.texts i.text (w - 0x6000_0000) i.offset))
 
   -- strings alone
-  short_each : {s e : State} {ts : Trees} {ws : List ℕ} → LaysEach g s ts e ws → list_all is_short_string ws ≡ true → DenEach p (map unit (offsets_in ws)) (list_of ts) (trees_count ts)
+  short_each : {s e : State} {ts : Trees} {ws : List ℕ} → LaysEach g s ts e ws
+      → list_all is_short_string ws ≡ true
+      → DenEach p (map unit (offsets_in ws)) (list_of ts) (trees_count ts)
   short_each each_none e = none_denoted
-  short_each (each_more h k) e = let both = and_parts _ _ e in more_denoted (short_member h both.0) (short_each k both.1)
+  short_each (each_more h k) e = let both = and_parts _ _ e in
+      more_denoted (short_member h both.0) (short_each k both.1)
 
   none_keyed : (ms : List Member) (n : ℕ) → DenEach p ms [] n → DenPairs p (zip [] ms) [] n
   none_keyed ms n none_denoted = pairs_none
 
   -- the texts of the keys at these positions
-  keyed : (es : Entries) (ps : List ℕ) (ms : List Member) (n : ℕ) → map g.position (keys_in es) ≡ map Some ps → DenEach p ms (list_of (members_in es)) n → DenPairs p (zip ps ms) (pairs_of es) n
+  keyed : (es : Entries) (ps : List ℕ) (ms : List Member) (n : ℕ)
+      → map g.position (keys_in es) ≡ map Some ps → DenEach p ms (list_of (members_in es)) n
+      → DenPairs p (zip ps ms) (pairs_of es) n
   keyed no_entries [] ms n e d = none_keyed ms n d
   keyed no_entries (q ∷ ps) ms n e d = absurd (let no : ⊥ = cc in no)
   keyed (entry k t es) [] ms n e d = absurd (let no : ⊥ = cc in no)
@@ -114,11 +132,15 @@ module _ (p : Parts) (g : Given) (read : IsRead p g) where
       let rest : map g.position (keys_in es) ≡ map Some ps = cc in
       behind (read.keys k q first) (λ ms j h. keyed es ps ms j rest h) ms n d
     where
-      behind : key_at p.keys q ≡ Some k → ((ms : List Member) (j : ℕ) → DenEach p ms (list_of (members_in es)) j → DenPairs p (zip ps ms) (pairs_of es) j)
-          → (ms : List Member) (n : ℕ) → DenEach p ms (t ∷ list_of (members_in es)) n → DenPairs p (zip (q ∷ ps) ms) ((k, t) ∷ pairs_of es) n
-      behind key later ms n (more_denoted {k = k'} {ms = ms'} a b) = pairs_more key a (later ms' k' b)
+      behind : key_at p.keys q ≡ Some k → ((ms : List Member) (j : ℕ)
+          → DenEach p ms (list_of (members_in es)) j → DenPairs p (zip ps ms) (pairs_of es) j)
+          → (ms : List Member) (n : ℕ) → DenEach p ms (t ∷ list_of (members_in es)) n
+          → DenPairs p (zip (q ∷ ps) ms) ((k, t) ∷ pairs_of es) n
+      behind key later ms n (more_denoted {k = k'} {ms = ms'} a b) =
+          pairs_more key a (later ms' k' b)
 
-positions_many : (g : Given) (ks : List (List ℕ)) (ps : List ℕ) → map g.position ks ≡ map Some ps → length ks ≡ length ps
+positions_many : (g : Given) (ks : List (List ℕ)) (ps : List ℕ) → map g.position ks ≡ map Some ps
+    → length ks ≡ length ps
 positions_many g ks ps e = sym (length-map ks g.position) ∙ ap length e ∙ length-map ps Some
 
 none_placed : (g : Given) → ArePlaced g [] []
@@ -139,7 +161,9 @@ same_keys no_entries = refl
 same_keys (entry k t es) = ap (λ ks. k ∷ ks) (same_keys es)
 
 own_map : (es : Entries) → IsStrictlySortedBy text_cmp (keys_in es) → map_of (pairs_of es) ≡ es
-own_map es h = map_of-sorted (pairs_of es) (subst (IsStrictlySortedBy text_cmp) (sym (same_keys es)) h) ∙ entries_of-pairs_of es
+own_map es h =
+    map_of-sorted (pairs_of es) (subst (IsStrictlySortedBy text_cmp) (sym (same_keys es)) h)
+    ∙ entries_of-pairs_of es
 
 module _ (p : Parts) (g : Given) (read : IsRead p g) where
   some_here : (s : State) (at : ℕ) → here g s ≡ 4 * at → 0 < at
@@ -151,18 +175,24 @@ module _ (p : Parts) (g : Given) (read : IsRead p g) where
   one_more : (n : ℕ) → 1 + n ≡ n + 1
   one_more n = omega arith
 
-  as_array : (w : ℕ) (ms : List Member) (ts : Trees) → content p w ≡ Some (list ms) → DenEach p ms (list_of ts) (trees_count ts) → Den p w (array ts) (trees_count ts + 1)
+  as_array : (w : ℕ) (ms : List Member) (ts : Trees) → content p w ≡ Some (list ms)
+      → DenEach p ms (list_of ts) (trees_count ts) → Den p w (array ts) (trees_count ts + 1)
   as_array w ms ts e d =
       subst (λ us. Den p w (array us) (trees_count ts + 1)) (trees_back ts)
-      (subst (λ n. Den p w (array (trees_of (list_of ts))) n) (one_more (trees_count ts)) (den_list e d))
+      (subst (λ n. Den p w (array (trees_of (list_of ts))) n) (one_more (trees_count ts))
+      (den_list e d))
 
-  as_table : (w : ℕ) (ps : List ℕ) (ms : List Member) (es : Entries) → ArePlaced g (keys_in es) ps → content p w ≡ Some (pairs (zip ps ms)) → DenEach p ms (list_of (members_in es)) (trees_count (members_in es))
+  as_table : (w : ℕ) (ps : List ℕ) (ms : List Member) (es : Entries) → ArePlaced g (keys_in es) ps
+      → content p w ≡ Some (pairs (zip ps ms))
+      → DenEach p ms (list_of (members_in es)) (trees_count (members_in es))
       → Den p w (table es) (entries_count es + 1)
   as_table w ps ms es placed e d =
       let ds : DenPairs p (zip ps ms) (pairs_of es) (entries_count es) =
-        subst (λ n. DenPairs p (zip ps ms) (pairs_of es) n) (members_count es) (keyed p g read es ps ms (trees_count (members_in es)) placed.positions d) in
+      subst (λ n. DenPairs p (zip ps ms) (pairs_of es) n) (members_count es)
+      (keyed p g read es ps ms (trees_count (members_in es)) placed.positions d) in
       subst (λ fs. Den p w (table fs) (entries_count es + 1)) (own_map es placed.ascend)
-      (subst (λ n. Den p w (table (map_of (pairs_of es))) n) (one_more (entries_count es)) (den_pairs e ds))
+      (subst (λ n. Den p w (table (map_of (pairs_of es))) n) (one_more (entries_count es))
+      (den_pairs e ds))
 
   abbrev to_data_of : State → ℕ
   to_data_of s = to_data (here g s)
@@ -175,7 +205,8 @@ module _ (p : Parts) (g : Given) (read : IsRead p g) where
   integer_word n h =
       let e : (0x7000_0000 + n) / 2 ^ 28 ≡ 7 = omega arith in
       let f : (0x7000_0000 + n) % 2 ^ 28 ≡ n = omega arith in
-      λ i. cond (e i == 7) (Some (leaf (integer (f i)))) (cond (f i == 0) (empty (e i)) (placed p (e i) (f i)))
+      λ i. cond (e i == 7) (Some (leaf (integer (f i))))
+      (cond (f i == 0) (empty (e i)) (placed p (e i) (f i)))
 
   no_bytes : content p 0x1000_0000 ≡ Some (leaf (binary []))
   unfolding content
@@ -194,55 +225,76 @@ module _ (p : Parts) (g : Given) (read : IsRead p g) where
   no_pairs = refl
 
   -- the empty text alone stands at unit 0
-  string_leaf : (text : List ℕ) (k : ℕ) → g.offset text ≡ Some k → k < 2 ^ 28 → content p (0x6000_0000 + k) ≡ Some (leaf (string text))
+  string_leaf : (text : List ℕ) (k : ℕ) → g.offset text ≡ Some k → k < 2 ^ 28
+      → content p (0x6000_0000 + k) ≡ Some (leaf (string text))
   unfolding content
-  string_leaf text zero h l = let same : Some text ≡ Some [] = sym (read.texts text 0 h) ∙ read.empty in let e : text ≡ [] = cc in ap (λ s. Some (leaf (string s))) (sym e)
+  string_leaf text zero h l = let same : Some text ≡ Some [] =
+      sym (read.texts text 0 h) ∙ read.empty in let e : text ≡ [] =
+      cc in ap (λ s. Some (leaf (string s))) (sym e)
   string_leaf text (suc k) h l =
       let e : (0x6000_0000 + suc k) / 2 ^ 28 ≡ 6 = omega arith in
       let f : (0x6000_0000 + suc k) % 2 ^ 28 ≡ suc k = omega arith in
       let z : (suc k == 0) ≡ false = ne_eqb (suc k) 0 (λ (q : suc k ≡ 0). omega (arith, q)) in
-      (λ i. cond (e i == 7) (Some (leaf (integer (f i)))) (cond (f i == 0) (empty (e i)) (placed p (e i) (f i))))
+      (λ i. cond (e i == 7) (Some (leaf (integer (f i))))
+      (cond (f i == 0) (empty (e i)) (placed p (e i) (f i))))
       ∙ ap (λ c. cond c (empty 6) (placed p 6 (suc k))) z
       ∙ ap (option_map (λ s. leaf (string s))) (read.texts text (suc k) h)
 
-  array_denoted : (s : State) (ts : Trees) (ws : List ℕ) (e : State) (w : ℕ) → 0 < length s.units → ClosesArray g s ws e w → StandsIn p g e → EachBelow (2 ^ 32) ws
+  array_denoted : (s : State) (ts : Trees) (ws : List ℕ) (e : State) (w : ℕ) → 0 < length s.units
+      → ClosesArray g s ws e w → StandsIn p g e → EachBelow (2 ^ 32) ws
       → (StandsIn p g s → DenEach p (map word ws) (list_of ts) (trees_count ts))
-      → (list_all is_short_string ws ≡ true → DenEach p (map unit (offsets_in ws)) (list_of ts) (trees_count ts))
+      → (list_all is_short_string ws ≡ true
+      → DenEach p (map unit (offsets_in ws)) (list_of ts) (trees_count ts))
       → Den p w (array ts) (trees_count ts + 1)
   array_denoted s ts ws e w u (short_array h l) i small long short =
       let both = and_parts _ _ h in
       let os : List ℕ = offsets_in ws in
       let n : length ws ≡ length os = sym (length-map ws (λ x. x - 0x6000_0000)) in
-      let j : StandsIn p g (more_units s (length os ∷ os)) = subst (λ k. StandsIn p g (more_units s (k ∷ os))) n i in
-      as_array (0x9000_0000 + length s.units) (map unit os) ts (word_of_array16 p (length s.units) u l ∙ array16_found p g s os j) (short both.1)
+      let j : StandsIn p g (more_units s (length os ∷ os)) =
+      subst (λ k. StandsIn p g (more_units s (k ∷ os))) n i in
+      as_array (0x9000_0000
+      + length s.units) (map unit os) ts (word_of_array16 p (length s.units) u l
+      ∙ array16_found p g s os j) (short both.1)
   array_denoted s ts ws e w u (long_array at h f l n) i small long short =
       as_array (0x8000_0000 + at) (map word ws) ts
       (word_of_array p at (some_here s at f) l ∙ array_found p g s ws at f small n i)
       (long (stood (by_bytes s (words_body ws)) i))
 
-  table_denoted : (s : State) (es : Entries) (ps ws : List ℕ) (e : State) (w : ℕ) → 0 < length s.units → ClosesTable g s ps ws e w → StandsIn p g e → ArePlaced g (keys_in es) ps → length ps ≡ length ws → EachBelow (2 ^ 32) ws
-      → (StandsIn p g s → DenEach p (map word ws) (list_of (members_in es)) (trees_count (members_in es)))
-      → (list_all is_short_string ws ≡ true → DenEach p (map unit (offsets_in ws)) (list_of (members_in es)) (trees_count (members_in es)))
+  table_denoted : (s : State) (es : Entries) (ps ws : List ℕ) (e : State) (w : ℕ)
+      → 0 < length s.units → ClosesTable g s ps ws e w → StandsIn p g e
+      → ArePlaced g (keys_in es) ps → length ps ≡ length ws → EachBelow (2 ^ 32) ws
+      → (StandsIn p g s
+      → DenEach p (map word ws) (list_of (members_in es)) (trees_count (members_in es)))
+      → (list_all is_short_string ws ≡ true
+      → DenEach p (map unit (offsets_in ws)) (list_of (members_in es))
+      (trees_count (members_in es)))
       → Den p w (table es) (entries_count es + 1)
   table_denoted s es ps ws e w u (short_table near h l) i q same small long short =
       let both = and_parts _ _ h in
       let os : List ℕ = offsets_in ws in
       let n : length ws ≡ length os = sym (length-map ws (λ x. x - 0x6000_0000)) in
-      let j : StandsIn p g (more_units s (length os ∷ (ps ++ os))) = subst (λ k. StandsIn p g (more_units s (k ∷ (ps ++ os)))) n i in
-      as_table (0x5000_0000 + length s.units) ps (map unit os) es q (word_of_table16 p (length s.units) u l ∙ table16_found p g s ps os (sym n ∙ sym same) j) (short both.1)
+      let j : StandsIn p g (more_units s (length os ∷ (ps ++ os))) =
+      subst (λ k. StandsIn p g (more_units s (k ∷ (ps ++ os)))) n i in
+      as_table (0x5000_0000
+      + length s.units) ps (map unit os) es q (word_of_table16 p (length s.units) u l
+      ∙ table16_found p g s ps os (sym n ∙ sym same) j) (short both.1)
   table_denoted s es ps ws e w u (long_table at near h f l) i q same small long short =
       let both = and_parts _ _ near in
       let few : length ps < 2 ^ 16 = omega (arith, leb-true (length ps) 65535 both.0) in
       as_table (0x2000_0000 + at) ps (map word ws) es q
-      (word_of_table p at (some_here s at f) l ∙ table_found p g s ps ws at f (near_below (2 ^ 16) ps (omega arith) both.1) small few same i)
+      (word_of_table p at (some_here s at f) l
+      ∙ table_found p g s ps ws at f (near_below (2 ^ 16) ps (omega arith) both.1) small few
+      same i)
       (long (stood (by_bytes s (table_body ps ws)) i))
   table_denoted s es ps ws e w u (wide_table at near f l n a) i q same small long short =
       as_table (0x4000_0000 + at) ps (map word ws) es q
-      (word_of_table32 p at (some_here s at f) l ∙ wide_found p g s ps ws at f (each_below (2 ^ 32) ps a) small n same i)
+      (word_of_table32 p at (some_here s at f) l
+      ∙ wide_found p g s ps ws at f (each_below (2 ^ 32) ps a) small n same i)
       (long (stood (by_bytes s (wide_table_body ps ws)) i))
 
   mutual
-    pub denoted : {s e : State} {t : Tree} {w : ℕ} → 0 < length s.units → Lays g s t e w → StandsIn p g e → Den p w t (tree_count t)
+    pub denoted : {s e : State} {t : Tree} {w : ℕ} → 0 < length s.units → Lays g s t e w
+        → StandsIn p g e → Den p w t (tree_count t)
     denoted u (lays_integer {n = n} h) i = den_leaf (integer_word n h)
     denoted u (lays_string {text = text} {k = k} h l) i = den_leaf (string_leaf text k h l)
     denoted u lays_no_bytes i = den_leaf no_bytes
@@ -251,18 +303,28 @@ module _ (p : Parts) (g : Given) (read : IsRead p g) where
         den_leaf (word_of_binary p at z l ∙ binary_found p g s' bytes' at e n i)
     denoted u lays_no_numbers i = den_leaf no_numbers
     denoted u (lays_numbers {s = s'} {ns = ns'} at some n a e l) i =
-        den_leaf (word_of_vector p at (some_here s' at e) l ∙ vector_found p g s' ns' at e (each_below (2 ^ 32) ns' a) n i)
+        den_leaf (word_of_vector p at (some_here s' at e) l
+        ∙ vector_found p g s' ns' at e (each_below (2 ^ 32) ns' a) n i)
     denoted u lays_no_items i = as_array 0x8000_0000 [] no_trees no_items none_denoted
     denoted {e = e'} u (lays_items {s = s'} {mid = m'} {ts = ts'} {ws = ws'} {w = w'} h some c) i =
-        array_denoted m' ts' ws' e' w' (units_stay (grows_each h) u) c i (words_small h) (λ k. denoted_each u h k) (λ k. short_each p g read h k)
-    denoted u lays_no_entries i = as_table 0x2000_0000 [] [] no_entries (none_placed g) no_pairs none_denoted
-    denoted {e = e'} u (lays_entries {s = s'} {mid = m'} {es = es'} {ws = ws'} {w = w'} ps q h some c) i =
-        let same : length ps ≡ length ws' = sym (positions_many g (keys_in es') ps q.positions) ∙ members_many es' ∙ sym (words_many h) in
-        table_denoted m' es' ps ws' e' w' (units_stay (grows_each h) u) c i q same (words_small h) (λ k. denoted_each u h k) (λ k. short_each p g read h k)
+        array_denoted m' ts' ws' e' w' (units_stay (grows_each h) u) c i (words_small h)
+        (λ k. denoted_each u h k) (λ k. short_each p g read h k)
+    denoted u lays_no_entries i =
+        as_table 0x2000_0000 [] [] no_entries (none_placed g) no_pairs none_denoted
+    denoted {e = e'} u (lays_entries {s = s'} {mid = m'} {es = es'} {ws = ws'} {w =
+        w'} ps q h some c) i =
+        let same : length ps ≡ length ws' = sym (positions_many g (keys_in es') ps q.positions)
+        ∙ members_many es' ∙ sym (words_many h) in
+        table_denoted m' es' ps ws' e' w' (units_stay (grows_each h) u) c i q same (words_small h)
+        (λ k. denoted_each u h k) (λ k. short_each p g read h k)
 
-    denoted_each : {s e : State} {ts : Trees} {ws : List ℕ} → 0 < length s.units → LaysEach g s ts e ws → StandsIn p g e → DenEach p (map word ws) (list_of ts) (trees_count ts)
+    denoted_each : {s e : State} {ts : Trees} {ws : List ℕ} → 0 < length s.units
+        → LaysEach g s ts e ws → StandsIn p g e
+        → DenEach p (map word ws) (list_of ts) (trees_count ts)
     denoted_each u each_none i = none_denoted
-    denoted_each u (each_more h k) i = more_denoted (den_word (denoted u h (stood (grows_each k) i))) (denoted_each (units_stay (grows h) u) k i)
+    denoted_each u (each_more h k) i =
+        more_denoted (den_word (denoted u h (stood (grows_each k) i)))
+        (denoted_each (units_stay (grows h) u) k i)
 
 pub laid_is_denoted : LaidIsDenoted
 laid_is_denoted p g before after t w read u h i = denoted p g read u h i

@@ -12,27 +12,46 @@ pub record Grows (a b : State) : Type 0 where
   pub bytes_are : b.tail ≡ a.tail ++ bytes
 
 pub stays : (s : State) → Grows s s
-stays s = record { units = []; bytes = []; units_are = sym (append-nil s.units); bytes_are = sym (append-nil s.tail) }
+stays s = record {
+  units = [];
+  bytes = [];
+  units_are = sym (append-nil s.units);
+  bytes_are = sym (append-nil s.tail);
+}
 
 pub onward : {a b c : State} → Grows a b → Grows b c → Grows a c
 onward {a} {b} {c} g h = record {
   units = g.units ++ h.units;
   bytes = g.bytes ++ h.bytes;
-  units_are = h.units_are ∙ ap (λ us. us ++ h.units) g.units_are ∙ append_assoc a.units g.units h.units;
-  bytes_are = h.bytes_are ∙ ap (λ bs. bs ++ h.bytes) g.bytes_are ∙ append_assoc a.tail g.bytes h.bytes;
+  units_are = h.units_are ∙ ap (λ us. us ++ h.units) g.units_are
+      ∙ append_assoc a.units g.units h.units;
+  bytes_are = h.bytes_are ∙ ap (λ bs. bs ++ h.bytes) g.bytes_are
+      ∙ append_assoc a.tail g.bytes h.bytes;
 }
 
 pub by_units : (s : State) (us : List ℕ) → Grows s (more_units s us)
-by_units s us = record { units = us; bytes = []; units_are = refl; bytes_are = sym (append-nil s.tail) }
+by_units s us = record {
+  units = us;
+  bytes = [];
+  units_are = refl;
+  bytes_are = sym (append-nil s.tail);
+}
 
 pub by_bytes : (s : State) (bs : List ℕ) → Grows s (more_bytes s bs)
-by_bytes s bs = record { units = []; bytes = bs; units_are = sym (append-nil s.units); bytes_are = refl }
+by_bytes s bs = record {
+  units = [];
+  bytes = bs;
+  units_are = sym (append-nil s.units);
+  bytes_are = refl;
+}
 
-pub array_grows : {g : Given} {s : State} {ws : List ℕ} {e : State} {w : ℕ} → ClosesArray g s ws e w → Grows s e
+pub array_grows : {g : Given} {s : State} {ws : List ℕ} {e : State} {w : ℕ}
+    → ClosesArray g s ws e w → Grows s e
 array_grows (short_array h l) = by_units _ _
 array_grows (long_array at h e l n) = by_bytes _ _
 
-pub table_grows : {g : Given} {s : State} {ps ws : List ℕ} {e : State} {w : ℕ} → ClosesTable g s ps ws e w → Grows s e
+pub table_grows : {g : Given} {s : State} {ps ws : List ℕ} {e : State} {w : ℕ}
+    → ClosesTable g s ps ws e w → Grows s e
 table_grows (short_table n h l) = by_units _ _
 table_grows (long_table at n h e l) = by_bytes _ _
 table_grows (wide_table at n e l q r) = by_bytes _ _
@@ -50,7 +69,8 @@ mutual
   grows lays_no_entries = stays _
   grows (lays_entries ps p h some c) = onward (grows_each h) (table_grows c)
 
-  pub grows_each : {g : Given} {s e : State} {ts : Trees} {ws : List ℕ} → LaysEach g s ts e ws → Grows s e
+  pub grows_each : {g : Given} {s e : State} {ts : Trees} {ws : List ℕ} → LaysEach g s ts e ws
+      → Grows s e
   grows_each each_none = stays _
   grows_each (each_more h k) = onward (grows h) (grows_each k)
 
@@ -61,9 +81,16 @@ stood {p} {g} {a} {b} h s = record {
   units_behind = h.units ++ s.units_behind;
   bytes_behind = h.bytes ++ s.bytes_behind;
   front_is = s.front_is;
-  block_is = s.block_is ∙ ap (λ us. us ++ s.units_behind) h.units_are ∙ append_assoc a.units h.units s.units_behind;
-  body_is = s.body_is ∙ ap (λ bs. s.front ++ bs) (ap (λ bs. bs ++ s.bytes_behind) h.bytes_are ∙ append_assoc a.tail h.bytes s.bytes_behind);
+  block_is = s.block_is ∙ ap (λ us. us ++ s.units_behind) h.units_are
+      ∙ append_assoc a.units h.units s.units_behind;
+  body_is = s.body_is ∙ ap (λ bs. s.front ++ bs) (ap (λ bs. bs ++ s.bytes_behind) h.bytes_are
+      ∙ append_assoc a.tail h.bytes s.bytes_behind);
 }
 
 pub units_stay : {a b : State} → Grows a b → 0 < length a.units → 0 < length b.units
-units_stay {a} {b} h some = omega (arith, some, ap length h.units_are, length-append a.units h.units)
+units_stay {a} {b} h some = omega (
+  arith,
+  some,
+  ap length h.units_are,
+  length-append a.units h.units,
+)

@@ -1,6 +1,8 @@
--- How a tree is laid out behind the pool of its strings. Short bodies stand in the 16-bit block, all
+-- How a tree is laid out behind the pool of its strings. Short bodies stand in the 16-bit block,
+-- all
 -- others in the tail behind it, a member's body before its collection's. (ICU's `uresdata.h`.)
---     Lays g before t after w         from where before stands, the tree t takes what after has more,
+--     Lays g before t after w         from where before stands, the tree t takes what after has
+-- more,
 --                                     and its word is w
 --     LaysEach g before ts after ws   the same of trees in a row
 use Rattle.std.specs.Prelude.{◌≡◌, ℕ, ◌+◌, ◌-◌, ◌*◌, ◌^◌, ◌<◌, ◌≤◌, ◌%◌, List, [], ◌∷◌, ◌++◌, length, map, replicate, All, Option, Some, Bool, true, false, ◌&&◌, nat_le, nat_eq, if◌then◌else◌}
@@ -10,7 +12,8 @@ use Rattle.std.specs.Int.{to_le_bytes, w16, w32}
 use Rattle.resb_tree.specs.Tree.{Tree, string, array, table, binary, integer, int_vector, Trees, no_trees, more_trees, Entries, no_entries, entry}
 use Rattle.resb_tree.specs.Maps.{text_cmp}
 
--- Positions of keys are in bytes of the body, offsets of strings in units of the 16-bit block. The tail
+-- Positions of keys are in bytes of the body, offsets of strings in units of the 16-bit block. The
+-- tail
 -- begins so many bytes into the body.
 pub record Given : Type 0 where
   pub position : List ℕ → Option ℕ
@@ -52,7 +55,8 @@ to_data n = (28 - n % 16) % 16
 -- u32 n, n bytes, so that these begin at a multiple of 16, up to a word
 abbrev pub binary_body : ℕ → List ℕ → List ℕ
 binary_body at bytes =
-    fill (to_data at) ++ (to_le_bytes w32 (length bytes) ++ (bytes ++ fill (to_word (length bytes))))
+    fill (to_data at) ++ (to_le_bytes w32 (length bytes)
+    ++ (bytes ++ fill (to_word (length bytes))))
 
 -- u32 n, n words: numbers, or descriptors
 abbrev pub words_body : List ℕ → List ℕ
@@ -89,14 +93,17 @@ offsets_in ws = map (λ w. w - 0x6000_0000) ws
 pub data ClosesArray (g : Given) (s : State) (ws : List ℕ) : State → ℕ → Type 0 where
   short_array : are_short ws ≡ true → length s.units < 2 ^ 28
       → ClosesArray g s ws (more_units s (length ws ∷ offsets_in ws)) (0x9000_0000 + length s.units)
-  long_array : (at : ℕ) → are_short ws ≡ false → here g s ≡ 4 * at → at < 2 ^ 28 → length ws < 2 ^ 32
+  long_array : (at : ℕ) → are_short ws ≡ false → here g s ≡ 4 * at → at < 2 ^ 28
+      → length ws < 2 ^ 32
       → ClosesArray g s ws (more_bytes s (words_body ws)) (0x8000_0000 + at)
 
 -- a table's, whose keys have the positions ps
 pub data ClosesTable (g : Given) (s : State) (ps ws : List ℕ) : State → ℕ → Type 0 where
   short_table : are_near ps ≡ true → are_short ws ≡ true → length s.units < 2 ^ 28
-      → ClosesTable g s ps ws (more_units s (length ws ∷ (ps ++ offsets_in ws))) (0x5000_0000 + length s.units)
-  long_table : (at : ℕ) → are_near ps ≡ true → are_short ws ≡ false → here g s ≡ 4 * at → at < 2 ^ 28
+      → ClosesTable g s ps ws (more_units s (length ws ∷ (ps ++ offsets_in ws))) (0x5000_0000
+      + length s.units)
+  long_table : (at : ℕ) → are_near ps ≡ true → are_short ws ≡ false → here g s ≡ 4 * at
+      → at < 2 ^ 28
       → ClosesTable g s ps ws (more_bytes s (table_body ps ws)) (0x2000_0000 + at)
   wide_table : (at : ℕ) → are_near ps ≡ false → here g s ≡ 4 * at → at < 2 ^ 28
       → length ps < 2 ^ 32 → All (λ p. p < 2 ^ 32) ps

@@ -10,7 +10,8 @@ use Rattle.resb_format.specs.Denotes.{Den}
 use Rattle.resb_layout.specs.Laid.{Given, State, Lays}
 
 abbrev pub OneLayout : Type 0
-OneLayout = (g : Given) (s a b : State) (t : Tree) (v w : ℕ) → Lays g s t a v → Lays g s t b w → (a ≡ b) × (v ≡ w)
+OneLayout = (g : Given) (s a b : State) (t : Tree) (v w : ℕ) → Lays g s t a v → Lays g s t b w
+    → (a ≡ b) × (v ≡ w)
 
 -- the blocks read back what is given: each key at its position, each string at its offset
 pub record IsRead (p : Parts) (g : Given) : Type 0 where

@@ -2,13 +2,18 @@
 --     Writes input old new    the writer gained the hex line of a file of the text
 --     IsNoInput input e       these bytes have no file, for this reason
 --     HasReason input e       the same, or a stream or memory failed
-use Rattle.std.specs.Prelude.{ℕ, List, [], ◌∷◌, ◌++◌, codes, IsUtf8, Option}
+--     CountsFile bytes r      what checking a file answers
+use Rattle.std.specs.Prelude.{ℕ, List, [], ◌∷◌, ◌++◌, codes, IsUtf8, Option, Result, Ok, Err}
 use Rattle.std.specs.Io.KnownBytes.{Appends}
 use Rattle.hex.specs.Hex.{encode_lower}
+use Rattle.resb_format.specs.Error as reading
+use Rattle.resb_format.specs.Error.{kind_of, description_of}
+use Rattle.resb_format.specs.declared.error.ReadingError.{ReadingError}
+use Rattle.resb_read.specs.Roots.{CountOf}
 use Rattle.resb.specs.Compiling as compiling
 use Rattle.resb.specs.Compiling.{IsCompiled, IsRefused}
 use Rattle.resb_tool.specs.declared.fault.ToolError.{ToolError}
-use Rattle.resb_tool.specs.declared.fault.ToolError.TheVariants.{Input, Output, NotUtf8, Compiling, Memory}
+use Rattle.resb_tool.specs.declared.fault.ToolError.TheVariants.{Input, Output, NotUtf8, Compiling, Checking, Memory}
 
 pub record Writes (input : List ℕ) (old new : Option (List ℕ)) : Type 0 where
   pub file : List ℕ
@@ -18,6 +23,7 @@ pub record Writes (input : List ℕ) (old new : Option (List ℕ)) : Type 0 wher
 abbrev pub IsNoInput : List ℕ → ToolError → Type 0
 IsNoInput input NotUtf8 = IsUtf8 input → ⊥
 IsNoInput input (Compiling e) = IsUtf8 input × IsRefused input e
+IsNoInput input (Checking e) = ⊥
 IsNoInput input Input = ⊥
 IsNoInput input Output = ⊥
 IsNoInput input Memory = ⊥
@@ -25,6 +31,7 @@ IsNoInput input Memory = ⊥
 abbrev pub HasReason : List ℕ → ToolError → Type 0
 HasReason input NotUtf8 = IsUtf8 input → ⊥
 HasReason input (Compiling e) = IsUtf8 input × IsRefused input e
+HasReason input (Checking e) = ⊥
 HasReason input Input = Unit {0}
 HasReason input Output = Unit {0}
 HasReason input Memory = Unit {0}
@@ -34,6 +41,7 @@ status_of Input = 2
 status_of Output = 2
 status_of NotUtf8 = 1
 status_of (Compiling e) = 1
+status_of (Checking e) = 1
 status_of Memory = 1
 
 abbrev pub message_of : ToolError → List ℕ
@@ -41,4 +49,15 @@ message_of Input = codes "cannot read standard input"
 message_of Output = codes "cannot write standard output"
 message_of NotUtf8 = codes "input is not UTF-8"
 message_of (Compiling e) = compiling.message_of e
+message_of (Checking e) = description_of (kind_of e) ++ (codes ": " ++ reading.message_of e)
 message_of Memory = codes "out of memory"
+
+-- the number of resources of the file's tree, or the reader's refusal
+abbrev pub CountsFile : List ℕ → Result ℕ ToolError → Type 0
+CountsFile bytes (Ok n) = CountOf bytes (Ok n)
+CountsFile bytes (Err (Checking e)) = CountOf bytes (Err e)
+CountsFile bytes (Err NotUtf8) = ⊥
+CountsFile bytes (Err (Compiling e)) = ⊥
+CountsFile bytes (Err Input) = ⊥
+CountsFile bytes (Err Output) = ⊥
+CountsFile bytes (Err Memory) = ⊥

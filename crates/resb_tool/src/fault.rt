@@ -3,6 +3,7 @@ ghost use Rattle.std.specs.Prelude.{◌≡◌, Some};
 ghost use Rattle.resb_tool.specs.Program.{message_of, status_of};
 
 use resb::CompileError;
+use resb::binary::BinaryDeserializerError;
 use std::error::Error;
 use std::fmt;
 
@@ -17,6 +18,8 @@ pub enum ToolError {
     NotUtf8,
     /// What was read has no file.
     Compiling(CompileError),
+    /// What was read is no file of a tree within its budget.
+    Checking(BinaryDeserializerError),
     /// The program's own request for memory was refused.
     Memory,
 }
@@ -28,7 +31,10 @@ impl ToolError {
     {
         match self {
             ToolError::Input | ToolError::Output => 2,
-            ToolError::NotUtf8 | ToolError::Compiling(_) | ToolError::Memory => 1,
+            ToolError::NotUtf8
+            | ToolError::Compiling(_)
+            | ToolError::Checking(_)
+            | ToolError::Memory => 1,
         }
     }
 }
@@ -42,6 +48,7 @@ impl fmt::Display for ToolError {
             ToolError::Output => write!(f, "cannot write standard output"),
             ToolError::NotUtf8 => write!(f, "input is not UTF-8"),
             ToolError::Compiling(e) => write!(f, "{e}"),
+            ToolError::Checking(e) => write!(f, "{e}"),
             ToolError::Memory => write!(f, "out of memory"),
         }
     }

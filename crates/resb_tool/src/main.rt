@@ -1,19 +1,15 @@
-//! The program: a bundle's text on standard input, its file in hex digits on standard output.
+//! The program: `compile IN OUT`, `check IN`, and with no words a text on standard input to the hex digits of
+//! its file on standard output.
 #![tactic(auto)]
 
+mod command;
 mod fault;
 mod streams;
 
 pub use fault::ToolError;
 use std::process::ExitCode;
-pub use streams::{compile_text, run};
+pub use streams::{check_file, compile_text, run};
 
 fn main(rt: HostRuntime) -> ExitCode {
-    match run(rt.alloc(), &mut rt.stdin(), &mut rt.stdout()) {
-        Ok(()) => ExitCode::SUCCESS,
-        Err(e) => {
-            let _ = eprintln!(rt; "{e}");
-            ExitCode::from(e.status())
-        }
-    }
+    ExitCode::from(command::perform(&rt))
 }

@@ -4,7 +4,7 @@ ghost use Rattle.std.specs.Prelude.{◌≡◌, ◌≢◌, ◌⊎◌, ℕ, List, 
 ghost use Rattle.std.specs.Io.KnownBytes.{Consumes, IsAtEnd, Keeps};
 ghost use Rattle.hex.specs.Hex.{encode_lower};
 ghost use Rattle.resb.specs.Compiling.{IsCompiled};
-ghost use Rattle.resb_tool.specs.Program.{IsNoInput, Writes, HasReason};
+ghost use Rattle.resb_tool.specs.Program.{IsNoInput, Writes, HasReason, CountsFile};
 
 use crate::fault::ToolError;
 use std::alloc::Global;
@@ -21,6 +21,16 @@ pub fn compile_text(alloc: Global, input: &[u8]) -> Result<Vec<u8>, ToolError>
     match resb::compile(alloc, text) {
         Ok(file) => Ok(file),
         Err(e) => Err(ToolError::Compiling(e)),
+    }
+}
+
+/// The number of resources of a file's tree, which is not made. (`resb::binary::count_resources`.)
+pub fn check_file(alloc: Global, file: &[u8]) -> Result<usize, ToolError>
+    ensures { CountsFile file.now result }
+{
+    match resb::binary::count_resources(alloc, file) {
+        Ok(count) => Ok(count),
+        Err(e) => Err(ToolError::Checking(e)),
     }
 }
 
@@ -51,7 +61,7 @@ fn read_all<R: Read>(alloc: Global, reader: &mut R) -> Result<Vec<u8>, ToolError
     ensures ok { IfOk result (λ bytes. IfSome (R.remaining reader.old) (λ input. bytes.items ≡ input)) }
     ensures err { IfErr result (λ e. (e ≡ ToolError.Input) ⊎ (e ≡ ToolError.Memory)) }
 {
-    let mut buffer = [0u8; 8192];
+    let mut buffer = [0u8; 65536];
     let mut bytes = Vec::new(alloc);
     for _ in 0..u64::MAX {
         if read_some(reader, &mut buffer, &mut bytes)? {

@@ -1,0 +1,114 @@
+//! The command line: what the words ask for, and what is done with the files that they name.
+//! What is done with their bytes is in `streams`.
+use crate::fault::ToolError;
+use crate::streams::{check_file, compile_text, run};
+use std::alloc::Global;
+use std::io::ErrorKind;
+use std::rt::{Env, Files};
+use std::{env, fs, io};
+
+/// What the program is asked to do.
+#[derive(Clone, Copy)]
+pub enum Command<'a> {
+    /// No words: a text on standard input, the hex line of its file on standard output.
+    Stream,
+    /// `compile IN OUT`: the text of file IN, its file written to OUT.
+    Compile { input: &'a str, output: &'a str },
+    /// `check IN`: the number of resources of file IN.
+    Check { input: &'a str },
+}
+
+/// What the words after the program's name ask for. Any others than those above are no command.
+pub fn command_of(words: &[String]) -> Option<Command<'_>> {
+    match words {
+        [] => Some(Command::Stream),
+        [word, input, output] if word.as_str() == "compile" => Some(Command::Compile {
+            input: input.as_str(),
+            output: output.as_str(),
+        }),
+        [word, input] if word.as_str() == "check" => Some(Command::Check {
+            input: input.as_str(),
+        }),
+        _ => None,
+    }
+}
+
+fn words_of<R: Env + AllocGlobal>(rt: &R) -> io::Result<Vec<String>> {
+    let mut words = env::args(rt)?;
+    let _program = words.next();
+    let words: Vec<String> = words.collect(rt.alloc())?;
+    Ok(words)
+}
+
+/// Does what the words of the command line ask, and answers the status to end with: 0, 1 where the
+/// input or memory is refused, 2 for the usage fault and for a file or stream that fails.
+pub fn perform(rt: &HostRuntime) -> u8 {
+    let words = match words_of(rt) {
+        Ok(words) => words,
+        Err(e) if e.kind() == ErrorKind::OutOfMemory => return refuse(rt, ToolError::Memory),
+        Err(_) => return usage(rt),
+    };
+    match command_of(words.as_slice()) {
+        None => usage(rt),
+        Some(Command::Stream) => match run(rt.alloc(), &mut rt.stdin(), &mut rt.stdout()) {
+            Ok(()) => 0,
+            Err(e) => refuse(rt, e),
+        },
+        Some(Command::Compile { input, output }) => compile_named(rt, input, output),
+        Some(Command::Check { input }) => check_named(rt, input),
+    }
+}
+
+fn usage<R: Eprint>(rt: &R) -> u8 {
+    let _ = eprintln!(rt; "usage: resb_tool [compile IN OUT | check IN]");
+    2
+}
+
+fn refuse<R: Eprint>(rt: &R, e: ToolError) -> u8 {
+    let _ = eprintln!(rt; "{e}");
+    e.status()
+}
+
+fn read_named<R: Files + AllocGlobal + Eprint>(rt: &R, name: &str) -> Result<Vec<u8>, u8> {
+    match fs::read(rt, name) {
+        Ok(bytes) => Ok(bytes),
+        Err(e) if e.kind() == ErrorKind::OutOfMemory => Err(refuse(rt, ToolError::Memory)),
+        Err(_) => {
+            let _ = eprintln!(rt; "cannot read {name}");
+            Err(2)
+        }
+    }
+}
+
+/// The file's bytes are made before OUT is opened; a write fault leaves an unknown part of them there.
+fn compile_named<R: Files + AllocGlobal + Eprint>(rt: &R, input: &str, output: &str) -> u8 {
+    let text = match read_named(rt, input) {
+        Ok(text) => text,
+        Err(status) => return status,
+    };
+    let file = match compile_text(rt.alloc(), text.as_slice()) {
+        Ok(file) => file,
+        Err(e) => return refuse(rt, e),
+    };
+    match fs::write(rt, output, file.as_slice()) {
+        Ok(()) => 0,
+        Err(_) => {
+            let _ = eprintln!(rt; "cannot write {output}");
+            2
+        }
+    }
+}
+
+fn check_named<R: Files + AllocGlobal + Eprint + Print>(rt: &R, input: &str) -> u8 {
+    let file = match read_named(rt, input) {
+        Ok(file) => file,
+        Err(status) => return status,
+    };
+    match check_file(rt.alloc(), file.as_slice()) {
+        Ok(count) => match println!(rt; "ok {count} resources") {
+            Ok(()) => 0,
+            Err(_) => refuse(rt, ToolError::Output),
+        },
+        Err(e) => refuse(rt, e),
+    }
+}

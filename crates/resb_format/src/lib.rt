@@ -12,7 +12,7 @@ mod file_parts;
 mod head;
 mod index;
 mod index_fields;
-mod laws;
+pub mod laws;
 mod repr_info;
 mod repr_type;
 mod units;
@@ -30,11 +30,6 @@ pub use error::{BinaryDeserializerError, ErrorKind, ReadingError};
 pub use file_parts::FileParts;
 pub use head::BinHeader;
 pub use index::BinIndex;
-pub use laws::{
-    bundle_file_passes, charset_survives, counted_is_reached, descriptor_survives,
-    endianness_survives, header_passes, header_survives, index_survives, one_tree,
-    reached_is_counted, reaching_goes_down, type_survives, version_survives,
-};
 pub use repr_info::BinReprInfo;
 pub use repr_type::ResourceReprType;
 pub use resb_tree::{Int28, Key, NoMemory, Resource, ResourceBundle, Table};

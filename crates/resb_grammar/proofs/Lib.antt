@@ -1,0 +1,11 @@
+pub mod BytesLemmas
+mod DistinctKeys
+pub mod Half
+pub mod Moves
+mod LexLemmas
+pub mod Unique
+pub mod HeaderPath
+pub mod Complete
+pub mod Sound
+pub mod GrammarLaws
+mod Listed

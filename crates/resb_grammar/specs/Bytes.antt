@@ -1,0 +1,36 @@
+-- Bytes of the text form, and runs of them.
+use Rattle.std.specs.Prelude.{◌≡◌, ℕ, ◌<◌, ◌≤◌, Bool, true, false, ◌||◌, ◌==◌, List, length, slice_index}
+use Rattle.std.specs.Char.{is_ascii_digit, is_ascii_alphanumeric}
+
+-- white characters: space, tab, CR, LF
+abbrev pub is_white : ℕ → Bool
+is_white b = (b == 32 || b == 9) || (b == 13 || b == 10)
+
+-- word characters: ASCII letters and digits, and the dash
+abbrev pub is_word : ℕ → Bool
+is_word b = is_ascii_alphanumeric b || b == 45
+
+-- decimal digits
+abbrev pub is_digit : ℕ → Bool
+is_digit b = is_ascii_digit b
+
+-- a sign or a digit
+abbrev pub is_number_start : ℕ → Bool
+is_number_start b = (b == 43 || b == 45) || is_digit b
+
+-- each byte from `from` on and before `to` passes
+abbrev pub Each : (ℕ → Bool) → List ℕ → ℕ → ℕ → Type 0
+Each p text from to = (k : ℕ) → from ≤ k → k < to → p (slice_index text k) ≡ true
+
+-- a longest run of bytes that pass
+pub record Run (p : ℕ → Bool) (text : List ℕ) (from to : ℕ) : Type 0 where
+  pub order : from ≤ to
+  pub fits : to ≤ length text
+  pub each : Each p text from to
+  pub longest : p (slice_index text to) ≡ false
+
+-- the first quote from here on
+pub record FirstQuote (text : List ℕ) (from to : ℕ) : Type 0 where
+  pub order : from ≤ to
+  pub closes : slice_index text to ≡ 34
+  pub inner : (k : ℕ) → from ≤ k → k < to → slice_index text k ≡ 34 → ⊥

@@ -1,0 +1,3 @@
+-- Words that only proofs use.
+pub mod Lex
+pub mod Half

@@ -1,0 +1,42 @@
+-- What the laws of the text form say.
+use Rattle.std.specs.Prelude.{◌≡◌, ℕ, Bool, true, nat_eq, List, length, Contains}
+use Rattle.std.specs.List.{IsDistinct}
+use Rattle.std.specs.Cmp.Lexicographic.{pointwise}
+use Rattle.resb_tree.specs.Tree.{Tree}
+use Rattle.resb_tree.specs.Keys.{is_key}
+use Rattle.resb_grammar.specs.Items.{Item, a_table, tree_in, keys_in}
+use Rattle.resb_grammar.specs.BundleText.{BundleText, first_places}
+use Rattle.resb_grammar.specs.Machine.{At, finished}
+use Rattle.resb_grammar.specs.Stuck.{Stuck}
+use Rattle.resb_grammar.specs.declared.expected.Expected.{Expected}
+
+-- a text has at most one name, flag, tree and list of keys
+abbrev pub OneBundleText : Type 0
+OneBundleText = (text name other : List ℕ) (fallback enabled : Bool) (tree root : Tree) (keys ks : List (List ℕ)) → BundleText text name fallback tree keys → BundleText text other enabled root ks
+    → (name ≡ other) × (fallback ≡ enabled) × (tree ≡ root) × (keys ≡ ks)
+
+-- a reading that gets stuck does so at one place, where one thing is expected
+abbrev pub OneRefusal : Type 0
+OneRefusal = (text : List ℕ) (at place : ℕ) (x y : Expected) → Stuck text at x → Stuck text place y → (at ≡ place) × (x ≡ y)
+
+-- a text whose reading gets stuck is no bundle
+abbrev pub StuckIsNoBundle : Type 0
+StuckIsNoBundle = (text : List ℕ) (at : ℕ) (x : Expected) (name : List ℕ) (fallback : Bool) (tree : Tree) (keys : List (List ℕ)) → Stuck text at x → BundleText text name fallback tree keys → ⊥
+
+-- a text whose reading goes on to its end is the bundle of the entries read
+abbrev pub ReadToTheEndIsABundle : Type 0
+ReadToTheEndIsABundle = (text name : List ℕ) (fallback : Bool) (items : List Item) → At text (length text) (finished (record { name = name; fallback = fallback }) items)
+    → BundleText text name fallback (tree_in a_table items) (first_places (keys_in a_table items))
+
+-- the reading of a bundle's text goes on to its end
+abbrev pub ABundleIsReadToTheEnd : Type 0
+ABundleIsReadToTheEnd = (text name : List ℕ) (fallback : Bool) (tree : Tree) (keys : List (List ℕ)) → BundleText text name fallback tree keys
+    → (items : List Item) × At text (length text) (finished (record { name = name; fallback = fallback }) items)
+
+-- no two discovered keys are equal
+abbrev pub KeysAreDistinct : Type 0
+KeysAreDistinct = (text name : List ℕ) (fallback : Bool) (tree : Tree) (keys : List (List ℕ)) → BundleText text name fallback tree keys → IsDistinct (pointwise nat_eq) keys
+
+-- each key of a table of a bundle text's tree is among its discovered keys
+abbrev pub KeysAreListed : Type 0
+KeysAreListed = (text name : List ℕ) (fallback : Bool) (t : Tree) (ks : List (List ℕ)) → BundleText text name fallback t ks → (k : List ℕ) → is_key k t ≡ true → Contains ks k

@@ -1,0 +1,17 @@
+-- The grammar of the text form, its readings, and what the laws say of both. `Inner` has words that
+-- only proofs use.
+pub mod Bytes
+pub mod Tokens
+pub mod Items
+pub mod Types
+pub mod Group
+pub mod BundleText
+pub mod Token
+pub mod State
+pub mod Next
+pub mod Paths
+pub mod Machine
+pub mod Stuck
+pub mod Expected
+pub mod Laws
+pub mod Inner

@@ -1,0 +1,80 @@
+-- Where a reading cannot go on, and what is expected there.
+use Rattle.std.specs.Prelude.{◌≡◌, ℕ, Bool, true, false, ◌==◌, List, length, None, slice_index}
+use Rattle.resb_grammar.specs.Tokens.{Text}
+use Rattle.resb_grammar.specs.Group.{hex_bytes}
+use Rattle.resb_grammar.specs.Machine.{Body, table_body, array_body, untyped_body, Open, Place, at_start, after_comma, State, start, named, titled, inside, typed, in_string, in_binary, in_integer, filled, in_vector, finished, is_key_place, Move, At}
+use Rattle.resb_grammar.specs.Bytes.{is_number_start}
+use Rattle.resb_grammar.specs.declared.expected.Expected.{Expected}
+use Rattle.resb_grammar.specs.declared.expected.Expected.TheVariants as expect
+
+abbrev pub choose : Bool → Expected → Expected → Expected
+choose true x y = x
+choose false x y = y
+
+-- where a type or `{` must stand
+abbrev pub expected_brace : ℕ → Expected
+expected_brace b = choose (b == 58) expect.TypeName expect.LeftBrace
+
+-- where a key or `}` must stand
+abbrev pub expected_key : ℕ → Expected
+expected_key b = choose (b == 34) expect.Text expect.RightBrace
+
+-- where an item may stand
+abbrev pub expected_item : ℕ → Expected
+expected_item b = choose (b == 34) expect.Text (choose (b == 58) expect.TypeName expect.Item)
+
+-- where a number or `}` may stand
+abbrev pub expected_number : ℕ → Expected
+expected_number b = choose (is_number_start b) expect.Number expect.RightBrace
+
+-- in a group that holds items
+abbrev pub expected_in : Body → Bool → ℕ → Expected
+expected_in table_body true b = expected_key b
+expected_in table_body false b = expected_brace b
+expected_in array_body key b = expected_item b
+expected_in untyped_body key b = expected_item b
+
+abbrev pub expected_in_vector : Place → ℕ → Expected
+expected_in_vector at_start b = expected_number b
+expected_in_vector after_comma b = expected_number b
+expected_in_vector _ b = expect.RightBrace
+
+-- what is expected where nothing that may stand in this state stands, by the byte there
+abbrev pub expected : State → ℕ → Expected
+expected start b = expect.Text
+expected (named name) b = expected_brace b
+expected (titled title) b = expect.LeftBrace
+expected (inside o) b = expected_in o.frame.body (is_key_place o.frame.items) b
+expected (typed kind o) b = expect.LeftBrace
+expected (in_string o) b = expect.Text
+expected (in_binary o) b = expect.Text
+expected (in_integer o) b = expect.Number
+expected (filled t o) b = expect.RightBrace
+expected (in_vector place ns o) b = expected_in_vector place b
+expected (finished title items) b = expect.EndOfText
+
+-- no token that may stand in this state stands there
+abbrev pub NoToken : List ℕ → ℕ → State → Type 0
+NoToken text at s = (to : ℕ) (u : State) → Move text at s to u → ⊥
+
+-- the text may end there
+abbrev pub IsEnd : List ℕ → ℕ → State → Type 0
+IsEnd text at (finished title items) = at ≡ length text
+IsEnd text at _ = ⊥
+
+-- the content of `:bin{..}` stands there, whatever its characters are
+abbrev pub HasDigits : List ℕ → ℕ → State → Type 0
+HasDigits text at (in_binary o) = (to : ℕ) × (s : List ℕ) × Text text at to s
+HasDigits text at _ = ⊥
+
+-- a reading comes to this place, and nothing that may stand there does
+pub record IsBlocked (text : List ℕ) (at : ℕ) (s : State) : Type 0 where
+  pub reached : At text at s
+  pub none : NoToken text at s
+  pub no_end : IsEnd text at s → ⊥
+  pub no_digits : HasDigits text at s → ⊥
+
+-- a reading gets stuck at this place, where this was expected
+pub data Stuck (text : List ℕ) (at : ℕ) : Expected → Type 0 where
+  blocked : (s : State) → IsBlocked text at s → Stuck text at (expected s (slice_index text at))
+  no_pairs : (o : Open) (to : ℕ) (s : List ℕ) → At text at (in_binary o) → Text text at to s → hex_bytes s ≡ None → Stuck text at expect.HexPairs

@@ -1,0 +1,57 @@
+-- Types of groups, as a text names them.
+use Rattle.std.specs.Prelude.{◌≡◌, ℕ, ◌+◌, ◌⊎◌, Bool, true, false, List, [], ◌∷◌, Some, slice_get, slice_index, slice_range, codes}
+use Rattle.resb_grammar.specs.Bytes.{is_word, Run}
+use Rattle.resb_grammar.specs.Tokens.{Skip}
+
+-- the types that a group may name
+pub data Kind : Type 0 where
+  string_kind : Kind
+  array_kind : Kind
+  table_kind : Kind
+  binary_kind : Kind
+  integer_kind : Kind
+  vector_kind : Kind
+
+-- the word names this type
+abbrev pub Names : List ℕ → Kind → Type 0
+Names w string_kind = w ≡ codes "string"
+Names w array_kind = w ≡ codes "array"
+Names w table_kind = w ≡ codes "table"
+Names w binary_kind = (w ≡ codes "binary") ⊎ (w ≡ codes "bin")
+Names w integer_kind = (w ≡ codes "integer") ⊎ (w ≡ codes "int")
+Names w vector_kind = w ≡ codes "intvector"
+
+-- `:` directly followed by a word, after which no word character stands
+pub record TypeWord (text : List ℕ) (from to : ℕ) (word : List ℕ) : Type 0 where
+  pub colon : slice_index text from ≡ 58
+  pub run : Run is_word text (from + 1) to
+  pub means : word ≡ slice_range text (from + 1) to
+
+-- a type
+pub record GroupType (text : List ℕ) (from to : ℕ) (kind : Kind) : Type 0 where
+  pub word : List ℕ
+  pub stands : TypeWord text from to word
+  pub names : Names word kind
+
+-- a type, its `{`, and the discardable text around that
+pub record Head (text : List ℕ) (from : ℕ) (kind : Kind) (to : ℕ) : Type 0 where
+  pub ends : ℕ
+  pub brace : ℕ
+  pub named : GroupType text from ends kind
+  pub between : Skip text ends brace
+  pub opens : slice_index text brace ≡ 123
+  pub after : Skip text (brace + 1) to
+
+-- these bytes stand here
+abbrev pub Stands : List ℕ → ℕ → List ℕ → Type 0
+Stands text at [] = Unit {0}
+Stands text at (b ∷ bs) = (slice_get text at ≡ Some b) × Stands text (at + 1) bs
+
+-- `(nofallback)` stands here
+abbrev pub NoFallback : List ℕ → ℕ → Type 0
+NoFallback text at = Stands text at (codes "(nofallback)")
+
+-- the root's type, as far as it goes, and whether fallback stays on
+pub data RootType (text : List ℕ) (from to : ℕ) : Bool → Type 0 where
+  table_type : TypeWord text from to (codes "table") → (NoFallback text to → ⊥) → RootType text from to true
+  no_fallback_type : (i : ℕ) → TypeWord text from i (codes "table") → NoFallback text i → to ≡ i + 12 → RootType text from to false

@@ -1,0 +1,38 @@
+//! Laws of the text form, each the contract of a function that does nothing.
+//! They speak of the definitions alone; what a reader answers is said where one stands.
+ghost use Rattle.resb_grammar.specs.Laws.{OneBundleText, OneRefusal, StuckIsNoBundle, ReadToTheEndIsABundle, ABundleIsReadToTheEnd, KeysAreDistinct, KeysAreListed};
+
+/// A text has at most one name, flag, tree and list of keys.
+pub fn one_bundle_text()
+    ensures { OneBundleText }
+{}
+
+/// A reading that gets stuck does so at one place, where one thing is expected.
+pub fn one_refusal()
+    ensures { OneRefusal }
+{}
+
+/// A text whose reading gets stuck is no bundle.
+pub fn stuck_is_no_bundle()
+    ensures { StuckIsNoBundle }
+{}
+
+/// A text whose reading goes on to its end is the bundle of the entries read.
+pub fn read_to_the_end_is_a_bundle()
+    ensures { ReadToTheEndIsABundle }
+{}
+
+/// The reading of a bundle's text goes on to its end.
+pub fn a_bundle_is_read_to_the_end()
+    ensures { ABundleIsReadToTheEnd }
+{}
+
+/// No two discovered keys are equal.
+pub fn keys_are_distinct()
+    ensures { KeysAreDistinct }
+{}
+
+/// The discovered keys of a bundle's text hold every key of its tree.
+pub fn keys_are_listed()
+    ensures { KeysAreListed }
+{}

@@ -1,0 +1,33 @@
+-- Where a piece of a text is cut out, characters begin and end.
+use Rattle.std.proofs.Common.{◌≡◌, ◌≢◌, ℕ, ◌+◌, ◌-◌, ◌<◌, ◌≤◌, Bool, true, false, refl, List, length, get_or, arith, subst, sym, ◌∙◌, ⊎_elim}
+use Rattle.std.specs.Prelude.{◌==◌}
+use Rattle.std.proofs.lemmas.List.{get_or_past}
+use Rattle.std.proofs.lemmas.Bool.{cases_lt, false≢true}
+use Rattle.std.proofs.lemmas.Bool.Decides.{nat_tests}
+use Rattle.std.proofs.lemmas.Str.{IsCharBoundary-before_ascii, IsCharBoundary-after_ascii}
+use Rattle.std.specs.Str.{IsUtf8, IsCharBoundary}
+use Rattle.resb_grammar.specs.Bytes.{is_word, Each, Run}
+use Rattle.resb_text.specs.Turns.{IsPiece, IsWordPiece, IsQuotedPiece}
+use Rattle.resb_grammar.proofs.BytesLemmas.{word_ascii, word_some, there}
+
+-- a place after an ASCII byte
+after_byte : (text : List ℕ) (from : ℕ) → IsUtf8 text → 0 < from → 0 < get_or text (from - 1) 0 → get_or text (from - 1) 0 < 128 → IsCharBoundary text from
+after_byte text from u p h l =
+    let e : from - 1 + 1 ≡ from = omega arith in
+    subst (λ i. IsCharBoundary text i) e (IsCharBoundary-after_ascii text (from - 1) u (there text (from - 1) h) l)
+
+pub start_boundary : (text : List ℕ) (from to : ℕ) → IsUtf8 text → IsPiece text from to → IsCharBoundary text from
+start_boundary text from to u = ⊎_elim
+    (λ (w : IsWordPiece text from to).
+    let h : is_word (get_or text from 0) ≡ true = w.each from (omega arith) w.order in
+    IsCharBoundary-before_ascii text from (omega arith) (word_ascii _ h))
+    (λ (q : IsQuotedPiece text from to).
+    after_byte text from u q.order (omega arith) (omega arith))
+
+pub end_boundary : (text : List ℕ) (from to : ℕ) → IsUtf8 text → IsPiece text from to → IsCharBoundary text to
+end_boundary text from to u = ⊎_elim
+    (λ (w : IsWordPiece text from to).
+    let h : is_word (get_or text (to - 1) 0) ≡ true = w.each (to - 1) (omega arith) (omega arith) in
+    after_byte text to u (omega arith) (word_some _ h) (word_ascii _ h))
+    (λ (q : IsQuotedPiece text from to).
+    IsCharBoundary-before_ascii text to (there text to (omega arith)) (omega arith))

@@ -1,0 +1,7 @@
+-- Words of private functions.
+pub mod TypeNames
+pub mod Leaf
+pub mod Shown
+pub mod Discovered
+pub mod Frames
+pub mod Steps

@@ -1,0 +1,132 @@
+-- What the code's open groups show of a machine's, and which candidates are theirs.
+use Rattle.std.specs.Prelude.{◌≡◌, ℕ, ◌+◌, ◌<◌, ◌≤◌, Bool, true, false, List, [], ◌∷◌, ◌++◌, map, length, Some}
+use Rattle.std.specs.List.{sum_by}
+use Rattle.resb_tree.specs.Tree.{Tree, string, array, table, trees_of, map_of}
+use Rattle.resb_grammar.specs.Items as spec
+use Rattle.resb_grammar.specs.Items.{is_pairs, table_keys, array_keys}
+use Rattle.resb_grammar.specs.Inner.Half.{half as is_half}
+use Rattle.resb_grammar.specs.Machine as machine
+use Rattle.resb_text.specs.Inner.Shown.{Shown, a_word, a_group, shown, shows, shown_tree, shown_pairs}
+use Rattle.resb_text.specs.Inner.Discovered.{Numbered, without, texts, left, groups, candidates, is_dropped_in}
+use Rattle.resb_text.specs.declared.discovered.Keys.{Keys}
+use Rattle.resb_text.specs.declared.frames.Body.{Body}
+use Rattle.resb_text.specs.declared.frames.Body.TheVariants as body
+use Rattle.resb_text.specs.declared.frames.Frame.{Frame}
+use Rattle.resb_text.specs.declared.frames.Open.{Open}
+use Rattle.resb_text.specs.declared.frames.Shape.{Shape}
+use Rattle.resb_text.specs.declared.frames.Shape.TheVariants as shape
+
+abbrev pub body_of : Body → machine.Body
+body_of body.Table = machine.table_body
+body_of body.Array = machine.array_body
+body_of body.Untyped = machine.untyped_body
+
+-- whether strings may be keys in such a body
+abbrev pub lists : machine.Body → Bool
+lists machine.table_body = true
+lists machine.array_body = false
+lists machine.untyped_body = true
+
+-- what a group of this shape is
+abbrev pub tree_shown_in : spec.Shape → List Shown → Tree
+tree_shown_in (spec.a_string s) xs = string s
+tree_shown_in spec.a_table xs = table (map_of (shown_pairs xs))
+tree_shown_in spec.an_array xs = array (trees_of (map shown_tree xs))
+
+-- the candidates that are left once a group of this shape is closed
+abbrev pub left_after : spec.Shape → ℕ → List Numbered → List Numbered
+left_after spec.a_table n cs = cs
+left_after spec.an_array n cs = without n cs
+left_after (spec.a_string s) n cs = without n cs
+
+-- an open group, and the number that its candidates have
+pub record Layer : Type 0 where
+  pub frame : machine.Frame
+  pub number : ℕ
+
+-- what the code shows of an open group
+pub record Look : Type 0 where
+  pub body : machine.Body
+  pub items : List Shown
+  pub in_turn : Bool
+  pub number : ℕ
+
+abbrev pub looks : Frame → Look
+looks f = record { body = body_of f.body; items = map shown f.items.items; in_turn = f.in_turn; number = f.number }
+
+abbrev pub look_of : Layer → Look
+look_of g = record { body = g.frame.body; items = shows g.frame.items; in_turn = is_half g.frame.items; number = g.number }
+
+-- groups from the innermost on, as the code lists them: the innermost last
+abbrev pub looks_of : List Layer → List Look
+looks_of [] = []
+looks_of (g ∷ gs) = looks_of gs ++ look_of g ∷ []
+
+-- the keys of an open group, if it turns out to be a table, and those of its groups otherwise
+abbrev pub frame_keys : machine.Body → List spec.Item → List (List ℕ)
+frame_keys machine.array_body items = array_keys items
+frame_keys machine.table_body items = table_keys items
+frame_keys machine.untyped_body items = table_keys items
+
+-- a group's candidates: its own strings have its number, and all others greater ones
+pub record IsFrom (g : Layer) (own : List Numbered) : Type 0 where
+  pub whole : texts own ≡ frame_keys g.frame.body g.frame.items
+  pub rest : texts (without g.number own) ≡ array_keys g.frame.items
+  pub later : (h : ℕ) → h < g.number → without h own ≡ own
+
+-- the candidates of the open groups, the innermost one's last
+pub data Holds : List Layer → List Numbered → Type 0 where
+  none : Holds [] []
+  one_more : (g : Layer) (gs : List Layer) (before own cs : List Numbered) → Holds gs before → ((h : ℕ) → g.number ≤ h → without h before ≡ before) → IsFrom g own → cs ≡ before ++ own → Holds (g ∷ gs) cs
+
+-- numbers fall from the innermost group on, and none was dropped
+abbrev pub AreOpen : Keys → ℕ → List Layer → Type 0
+AreOpen k limit [] = Unit {0}
+AreOpen k limit (g ∷ gs) = (g.number < limit) × (is_dropped_in k g.number ≡ false) × AreOpen k g.number gs
+
+abbrev pub frames_in : List Layer → List machine.Frame
+frames_in gs = map (λ g. g.frame) gs
+
+abbrev pub layer : ℕ → machine.Frame → Layer
+layer n f = record { frame = f; number = n }
+
+-- the code's open groups are the machine's
+pub record Shows (c : Open) (o : machine.Open) : Type 0 where
+  pub number : ℕ
+  pub around : List Layer
+  pub frame : looks c.frame ≡ look_of (layer number o.frame)
+  pub outer : map looks c.around.items ≡ looks_of around
+  pub frames : frames_in around ≡ o.around
+  pub holds : Holds (layer number o.frame ∷ around) (left c.keys)
+  pub within : (h : ℕ) → groups c.keys ≤ h → without h (left c.keys) ≡ left c.keys
+  pub are_open : AreOpen c.keys (groups c.keys) (layer number o.frame ∷ around)
+
+-- the code's open groups are some machine's
+abbrev pub IsOpen : Open → Type 0
+IsOpen c = (o : machine.Open) × Shows c o
+
+-- the turns that are still owed: one for each item of an open group, and one for each candidate
+abbrev pub owed : Open → ℕ
+owed c = length c.frame.items.items + sum_by (λ f. length f.items.items) c.around.items + candidates c.keys
+
+abbrev pub is_word_shown : Shown → Bool
+is_word_shown (a_word s f) = true
+is_word_shown (a_group t f) = false
+
+abbrev pub shape_seen : Shape → spec.Shape
+shape_seen (shape.String s) = spec.a_string s.now
+shape_seen shape.Table = spec.a_table
+shape_seen shape.Array = spec.an_array
+
+-- the items of a typed table's group are whole pairs
+abbrev pub IsTableWhole : machine.Frame → Type 0
+IsTableWhole f = f.body ≡ machine.table_body → is_pairs f.items ≡ true
+
+-- the innermost group is closed, among these groups around it
+abbrev pub ClosesTo : Open → machine.Open → List machine.Frame → Type 0
+ClosesTo c o [] = Unit {0}
+ClosesTo c o (outer ∷ around) = Shows c (record { title = o.title; frame = machine.with_item (machine.closed o.frame) outer; around = around })
+
+-- a comma follows the last item now
+abbrev pub TakesComma : Open → machine.Open → Type 0
+TakesComma c o = (u : machine.Open) × (machine.with_comma o o.frame.items ≡ Some (machine.inside u)) × Shows c u

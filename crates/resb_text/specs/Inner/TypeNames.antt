@@ -1,0 +1,13 @@
+-- The code's names of the types of groups.
+use Rattle.resb_grammar.specs.Types.{Kind, string_kind, array_kind, table_kind, binary_kind, integer_kind, vector_kind}
+use Rattle.resb_text.specs.declared.types.Kind as code
+use Rattle.resb_text.specs.declared.types.Kind.TheVariants as names
+
+-- the type that the code names so
+abbrev pub kind_of : code.Kind → Kind
+kind_of names.String = string_kind
+kind_of names.Array = array_kind
+kind_of names.Table = table_kind
+kind_of names.Binary = binary_kind
+kind_of names.Integer = integer_kind
+kind_of names.IntVector = vector_kind

@@ -13,10 +13,10 @@ mod pool_rows;
 #[cfg(test)]
 mod read_rows;
 #[cfg(test)]
+mod read_type_rows;
+#[cfg(test)]
 mod text_rows;
 #[cfg(test)]
 mod tree_rows;
 #[cfg(test)]
 mod way_rows;
-#[cfg(test)]
-mod read_type_rows;

@@ -85,7 +85,6 @@ impl BinaryDeserializerError {
             message: "while reading",
         }
     }
-
 }
 
 impl<'m> ReadingError<'m> {

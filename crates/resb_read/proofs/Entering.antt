@@ -65,16 +65,18 @@ module _ {K X : Type 0} (rk : Place → K → ℕ → Type 0) (ck : Place → �
     pub front_enters : (k : K) (x : X) → Enters rk ck rv cv old left new left' (Ok (Some (k, x))) → (new.failed ≡ None) × FrontPairs cmp rk rv all new.rest (insert_entry cmp m k x) before left'
     front_enters k x h =
         let (p, first, none', n, r, s) = enters_some old left new left' (k, x) ok h in
-        let paid : left + f.spent ≡ before = f.paid in
-        (none', record {
-          done = f.done ++ p ∷ [];
-          read = f.read ++ (k, x) ∷ [];
-          spent = f.spent + n;
-          are = f.are ∙ ap (λ r. f.done ++ r) first ∙ sym (append_assoc f.done (p ∷ []) new.rest);
-          each = pairs_more rk rv f.done f.read f.spent p (k, x) n f.each r;
-          map = ap (λ m. insert_entry cmp m k x) f.map ∙ sym (put_more cmp [] f.read (k, x));
-          paid = omega arith;
-        })
+        let paid : left + f.spent ≡ before = f.paid in (
+          none',
+          record {
+            done = f.done ++ p ∷ [];
+            read = f.read ++ (k, x) ∷ [];
+            spent = f.spent + n;
+            are = f.are ∙ ap (λ r. f.done ++ r) first ∙ sym (append_assoc f.done (p ∷ []) new.rest);
+            each = pairs_more rk rv f.done f.read f.spent p (k, x) n f.each r;
+            map = ap (λ m. insert_entry cmp m k x) f.map ∙ sym (put_more cmp [] f.read (k, x));
+            paid = omega arith;
+          },
+        )
 
     pub front_ends : Enters rk ck rv cv old left new left' (Ok None) → (n : ℕ) × ReadsAll cmp rk rv all m n × (left' + n ≡ before)
     front_ends h =

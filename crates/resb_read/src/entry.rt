@@ -42,10 +42,7 @@ pub fn from_bytes_counted<'a, 'm, T: Deserialize<'a>>(
 
 /// Reads the tree of a file. It is `Ok` exactly where the bytes denote a tree of at most as many
 /// resources as the budget, memory aside.
-pub fn tree_from_bytes(
-    alloc: Global,
-    bytes: &[u8],
-) -> Result<Resource<'_>, BinaryDeserializerError>
+pub fn tree_from_bytes(alloc: Global, bytes: &[u8]) -> Result<Resource<'_>, BinaryDeserializerError>
     ensures { TreeOf bytes.now result }
 {
     let (root, mut walk) = Cursor::root(bytes)?;

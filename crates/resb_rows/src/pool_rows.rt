@@ -30,18 +30,26 @@ fn small_pools(rt: HostRuntime) -> Result<(), Fail> {
     let empty = pool::plan(alloc, &[""])?;
     assert!(rt; is_planned(&empty, &[0], &[("", 0)]));
     let one_suffix = pool::plan(alloc, &["xyz", "yz"])?;
-    assert!(rt; is_planned(&one_suffix, &[0, 0x78, 0x79, 0x7a, 0], &[("xyz", 1), ("yz", 2)]));
+    assert!(rt;
+        is_planned(
+            &one_suffix,
+            &[0, 0x78, 0x79, 0x7a, 0],
+            &[("xyz", 1), ("yz", 2)]
+        )
+    );
     assert_eq!(rt; one_suffix.offset("z"), None);
     // A copy more saves more, so "y" comes first.
     let copies = pool::plan(alloc, &["x", "y", "y"])?;
     assert!(rt; is_planned(&copies, &[0, 0x79, 0, 0x78, 0], &[("y", 1), ("x", 3)]));
     // "a" lies in the greater of two records, which so saves more.
     let greatest = pool::plan(alloc, &["xa", "ya", "a"])?;
-    assert!(rt; is_planned(
-        &greatest,
-        &[0, 0x79, 0x61, 0, 0x78, 0x61, 0],
-        &[("xa", 4), ("ya", 1), ("a", 2)],
-    ));
+    assert!(rt;
+        is_planned(
+            &greatest,
+            &[0, 0x79, 0x61, 0, 0x78, 0x61, 0],
+            &[("xa", 4), ("ya", 1), ("a", 2)],
+        )
+    );
     Ok(())
 }
 
@@ -50,13 +58,21 @@ fn marked_pools(rt: HostRuntime) -> Result<(), Fail> {
     let alloc = rt.alloc();
     // A text with U+0000 has a marker, and is no suffix of another.
     let nul = pool::plan(alloc, &["\0ab", "ab"])?;
-    assert!(rt; is_planned(&nul, &[0, 0xdc03, 0, 0x61, 0x62, 0], &[("\0ab", 1), ("ab", 3)]));
+    assert!(rt;
+        is_planned(
+            &nul,
+            &[0, 0xdc03, 0, 0x61, 0x62, 0],
+            &[("\0ab", 1), ("ab", 3)]
+        )
+    );
     let two = pool::plan(alloc, &["a\0b", "\0b", "b"])?;
-    assert!(rt; is_planned(
-        &two,
-        &[0, 0xdc02, 0, 0x62, 0, 0xdc03, 0x61, 0, 0x62, 0],
-        &[("a\0b", 5), ("\0b", 1), ("b", 3)],
-    ));
+    assert!(rt;
+        is_planned(
+            &two,
+            &[0, 0xdc02, 0, 0x62, 0, 0xdc03, 0x61, 0, 0x62, 0],
+            &[("a\0b", 5), ("\0b", 1), ("b", 3)],
+        )
+    );
     let (a41, a42) = (letters(alloc, 41)?, letters(alloc, 42)?);
     let long = pool::plan(alloc, &[a41.as_str(), a42.as_str(), "a"])?;
     assert_eq!(rt; long.offset(a41.as_str()), Some(1));
@@ -156,11 +172,13 @@ fn characters_not_units_order_suffixes(rt: HostRuntime) -> Result<(), Fail> {
     let alloc = rt.alloc();
     // U+E000 comes before U+10000 by characters, and after it by units.
     let plan = pool::plan(alloc, &["\u{e000}a", "\u{10000}a", "a"])?;
-    assert!(rt; is_planned(
-        &plan,
-        &[0, 0xe000, 0x61, 0, 0xd800, 0xdc00, 0x61, 0],
-        &[("\u{e000}a", 1), ("\u{10000}a", 4), ("a", 6)],
-    ));
+    assert!(rt;
+        is_planned(
+            &plan,
+            &[0, 0xe000, 0x61, 0, 0xd800, 0xdc00, 0x61, 0],
+            &[("\u{e000}a", 1), ("\u{10000}a", 4), ("a", 6)],
+        )
+    );
     Ok(())
 }
 

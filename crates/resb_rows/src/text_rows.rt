@@ -40,7 +40,11 @@ const TREES: [(&str, &[usize], &str); 50] = [
     ("b{a{x{\"1\"}}a{\"2\"}}", &[0], "String 2"),
     ("b{i:int{-1}v:intvector{1,-1,}}", &[], "Table i v"),
     ("b{i:int{-1}v:intvector{1,-1,}}", &[0], "Integer 268435455"),
-    ("b{i:int{-1}v:intvector{1,-1,}}", &[1], "IntVector 1,4294967295,"),
+    (
+        "b{i:int{-1}v:intvector{1,-1,}}",
+        &[1],
+        "IntVector 1,4294967295,",
+    ),
     ("b{a{}}", &[0], "Table"),
     ("b{a{\"x\"{\"y\"}}}", &[0], "Table x"),
     ("b{a{\"x\"{\"y\"}}}", &[0, 0], "String y"),
@@ -56,7 +60,11 @@ const TREES: [(&str, &[usize], &str); 50] = [
     ("b{t:table{k{v}}}", &[0, 0], "String v"),
     ("b{c{1}a{2}c{\"\"}}", &[], "Table a c"),
     ("b{c{1}a{2}c{\"\"}}", &[1], "String "),
-    (" // first\r\n\"b c\" /* { */ {\tk\n{ v } /* } */ } // last", &[0], "String v"),
+    (
+        " // first\r\n\"b c\" /* { */ {\tk\n{ v } /* } */ } // last",
+        &[0],
+        "String v",
+    ),
     ("b{a{{}{x}}}", &[0], "Array 2"),
     ("b{a{{}{x}}}", &[0, 0], "Table"),
 ];
@@ -72,7 +80,12 @@ const BUNDLES: [(&str, &str, bool, &[&str]); 10] = [
     ("b{a{\"x\"}}", "b", true, &["a"]),
     ("b{c{1}a{2}c{\"\"}}", "b", true, &["c", "a"]),
     ("\"b c\"{}", "b c", true, &[]),
-    ("b{z{y{x{1}}w:array{v{u{2}}}}a{3}}", "b", true, &["z", "y", "x", "w", "u", "a"]),
+    (
+        "b{z{y{x{1}}w:array{v{u{2}}}}a{3}}",
+        "b",
+        true,
+        &["z", "y", "x", "w", "u", "a"],
+    ),
 ];
 
 /// Texts, and where and for want of what they are refused.
@@ -147,7 +160,10 @@ fn read<'a>(
     assert!(rt; turns.count() <= most, "turns of {input}");
     assert_eq!(rt; turns.len(), input.len());
     let (bundle, listed) = Reader::read(alloc, input)?;
-    assert!(rt; counted.root().equals(bundle.root()), "both roots of {input}");
+    assert!(rt;
+        counted.root().equals(bundle.root()),
+        "both roots of {input}"
+    );
     assert_eq!(rt; keys.len(), listed.len());
     if let Err(CompileError::Reading(_)) = compile(alloc, input) {
         return Err("compile reads another bundle")?;

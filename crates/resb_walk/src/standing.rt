@@ -15,9 +15,7 @@ use crate::faults::{
     unsupported_type,
 };
 use crate::file::{File, Leaf, Members, Pairs, Positions, Standing};
-use resb_format::bytes::{
-    first_unit, some_bytes, some_unit, some_units, some_word, some_words,
-};
+use resb_format::bytes::{first_unit, some_bytes, some_unit, some_units, some_word, some_words};
 use resb_format::{BinaryDeserializerError, string_at};
 
 /// Whether it is the first unit of a pair.

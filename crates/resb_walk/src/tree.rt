@@ -5,7 +5,6 @@ ghost use Rattle.resb_format.specs.Bytes.{words_of};
 ghost use Rattle.resb_walk.specs.Inner.Members.{text_of_bytes};
 ghost use Rattle.std.specs.String.{string_bytes};
 
-
 use crate::file::Leaf;
 use crate::make::Make;
 use resb_format::bytes::{first_unit, first_word};

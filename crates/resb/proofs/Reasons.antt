@@ -4,10 +4,10 @@ use Rattle.std.specs.Result.{IsErrAnd, IfErr}
 use Rattle.std.specs.Prelude.{codes, Bool}
 use Rattle.resb_tree.specs.Tree.{Tree}
 use Rattle.resb_grammar.specs.BundleText.{BundleText}
-use Rattle.resb_write.specs.Fault.{Fault, string_too_long, unexpected, limit, out_of_memory}
+use Rattle.resb_pool.specs.Fault.{Fault, string_too_long, unexpected, limit, out_of_memory}
 use Rattle.resb_write.specs.Refused.{Refused, no_memory, unlisted_key, key_with_nul, far_key, too_large, not_covered}
-use Rattle.resb_write.specs.FaultOf.{fault_of}
-use Rattle.resb_write.specs.declared.error.BinarySerializerError.{BinarySerializerError}
+use Rattle.resb_pool.specs.FaultOf.{fault_of}
+use Rattle.resb_pool.specs.declared.error.BinarySerializerError.{BinarySerializerError}
 use Rattle.resb.specs.Compiling.{IsRefused}
 use Rattle.resb.specs.declared.compiling.CompileError.{CompileError}
 use Rattle.resb.specs.declared.compiling.CompileError.TheVariants.{Writing}

@@ -10,9 +10,9 @@ use Rattle.resb_text.specs.Refusal as refusal
 use Rattle.resb_text.specs.declared.error.TextParserError.{TextParserError}
 use Rattle.resb_write.specs.Written.{Written}
 use Rattle.resb_write.specs.Refused.{Refused}
-use Rattle.resb_write.specs.Fault as fault
-use Rattle.resb_write.specs.FaultOf.{fault_of}
-use Rattle.resb_write.specs.declared.error.BinarySerializerError.{BinarySerializerError}
+use Rattle.resb_pool.specs.Fault as fault
+use Rattle.resb_pool.specs.FaultOf.{fault_of}
+use Rattle.resb_pool.specs.declared.error.BinarySerializerError.{BinarySerializerError}
 use Rattle.resb.specs.declared.compiling.CompileError.{CompileError}
 use Rattle.resb.specs.declared.compiling.CompileError.TheVariants.{Reading, Writing}
 

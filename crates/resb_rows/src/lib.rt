@@ -20,3 +20,5 @@ mod text_rows;
 mod tree_rows;
 #[cfg(test)]
 mod way_rows;
+#[cfg(test)]
+mod write_rows;

@@ -6,12 +6,12 @@ use Rattle.resb_tree.specs.Tree.{array, no_trees}
 use Rattle.resb_format.specs.Units.{size}
 use Rattle.resb_format.specs.File.{written_header}
 use Rattle.resb_format.specs.KeyBlock.{key_bytes, padded, last_place}
-use Rattle.resb_write.specs.Fault.{unexpected, limit, out_of_memory, message_of}
+use Rattle.resb_pool.specs.Fault.{unexpected, limit, out_of_memory, message_of}
 use Rattle.resb_write.specs.Refused.{Refused, not_covered, unlisted_key}
 use Rattle.resb_write.specs.Entries.{Pair, texts_table}
 use Rattle.resb_write.specs.Block.{block, table_word}
 use Rattle.resb_write.specs.Layout.{file_of}
-use Rattle.resb_write.specs.Records.{IsRecord, IsHeldBy}
+use Rattle.resb_pool.specs.Records.{IsRecord, IsHeldBy}
 
 -- The file of one entry, as ICU's rules ask for it: `b{k{v}}`.
 

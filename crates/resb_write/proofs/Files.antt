@@ -9,7 +9,7 @@ use Rattle.resb_format.specs.File.{written_header}
 use Rattle.resb_tree.specs.Keys.{is_key}
 use Rattle.resb_format.specs.KeyBlock.{last_of, key_bytes, padded, key_block}
 use Rattle.resb_format.specs.PlainSize.{plain_size}
-use Rattle.resb_write.specs.Fault.{Fault, limit, out_of_memory}
+use Rattle.resb_pool.specs.Fault.{Fault, limit, out_of_memory}
 use Rattle.resb_write.specs.Entries.{Pair, keys_in, texts_table, IsTableOf}
 use Rattle.resb_write.specs.Places.{IsKeyPlan}
 use Rattle.resb_write.specs.Block.{records, table_body, block, table_word}

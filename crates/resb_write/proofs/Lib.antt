@@ -1,6 +1,4 @@
 pub mod Numbers
-pub mod Zeros
-pub mod Utf16
 pub mod Strings
 pub mod Keys
 pub mod Collecting
@@ -9,5 +7,4 @@ pub mod Heads
 pub mod Tables
 pub mod Sizes
 pub mod Files
-pub mod Least
 pub mod Examples

@@ -9,8 +9,8 @@ use Rattle.std.proofs.lemmas.List.{drop_at, get_or-append-add}
 use Rattle.std.proofs.lemmas.Bool.Decides.{nat_tests}
 use Rattle.resb_format.specs.Strings.{is_no_marker, before_zero, string_from, string_at, text_of_units, text_at, if_utf8, key_at}
 use Rattle.resb_format.specs.Units.{units, is_unmarked}
-use Rattle.resb_write.proofs.Zeros.{has_zero, before_zero-found}
-use Rattle.resb_write.proofs.Utf16.{text_of_units-units, has_zero-units, units-first}
+use Rattle.resb_pool.proofs.Zeros.{has_zero, before_zero-found}
+use Rattle.resb_pool.proofs.Utf16.{text_of_units-units, has_zero-units, units-first}
 
 -- the first 41 of a short run and its 0 hold both
 cut : (us rest : List ℕ) (n : ℕ) → length us < n → take n (us ++ 0 ∷ rest) ≡ us ++ 0 ∷ take (n - (length us + 1)) rest

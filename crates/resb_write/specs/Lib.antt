@@ -13,8 +13,8 @@ pub use Rattle.resb_format.specs.Denotes
 pub use Rattle.resb_format.specs.File
 pub use Rattle.resb_format.specs.KeyBlock
 pub use Rattle.resb_format.specs.PlainSize
-pub mod Fault
-pub mod FaultOf
+pub use Rattle.resb_pool.specs.Fault
+pub use Rattle.resb_pool.specs.FaultOf
 pub mod Flat
 pub mod Refused
 pub mod Written
@@ -22,4 +22,4 @@ pub mod Entries
 pub mod Places
 pub mod Block
 pub mod Layout
-pub mod Records
+pub use Rattle.resb_pool.specs.Records

@@ -7,7 +7,7 @@ use Rattle.resb_tree.specs.Tree.{Tree}
 use Rattle.resb_tree.specs.Keys.{is_key}
 use Rattle.resb_format.specs.KeyBlock.{last_place}
 use Rattle.resb_format.specs.PlainSize.{plain_size}
-use Rattle.resb_write.specs.Fault.{Fault, unexpected, limit, out_of_memory}
+use Rattle.resb_pool.specs.Fault.{Fault, unexpected, limit, out_of_memory}
 use Rattle.resb_write.specs.Flat.{IsCovered}
 
 -- the text holds U+0000, which alone has a byte 0

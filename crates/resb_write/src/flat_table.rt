@@ -5,12 +5,12 @@ ghost use Rattle.resb_tree.specs.Tree.{string, table as table_of};
 ghost use Rattle.resb_tree.specs.View.{tree_of, entries_view};
 ghost use Rattle.resb_format.specs.Units.{units as units_of, is_unmarked as is_unmarked_text};
 ghost use Rattle.resb_write.specs.Entries.{pairs, IsText, IsTableOf};
-ghost use Rattle.resb_write.specs.Fault.{unexpected};
-ghost use Rattle.resb_write.specs.FaultOf.{fault_of, IsMemoryOr};
+ghost use Rattle.resb_pool.specs.Fault.{unexpected};
+ghost use Rattle.resb_pool.specs.FaultOf.{fault_of, IsMemoryOr};
 ghost use Rattle.resb_write.specs.Flat.{is_unmarked_string, IsCovered};
 
 use crate::entries::{Entry, FlatTable};
-use crate::error::BinarySerializerError;
+use resb_pool::BinarySerializerError;
 use resb_tree::{Key, Resource, Table};
 use std::alloc::Global;
 

@@ -6,13 +6,13 @@ ghost use Rattle.std.specs.List.{list_any};
 ghost use Rattle.resb_tree.specs.Keys.{is_key};
 ghost use Rattle.resb_format.specs.KeyBlock.{used as used_of, key_bytes, padded};
 ghost use Rattle.resb_write.specs.Entries.{pairs, keys_in, texts_table};
-ghost use Rattle.resb_write.specs.FaultOf.{fault_of, IsMemoryOr};
+ghost use Rattle.resb_pool.specs.FaultOf.{fault_of, IsMemoryOr};
 ghost use Rattle.resb_write.specs.Places.{nows, holds, place_in, last_position};
 ghost use Rattle.resb_write.specs.Places.{AreLastPositions, IsKeyPlan};
 ghost use Rattle.resb_write.specs.Refused.{has_nul, Refused};
 
 use crate::entries::Entry;
-use crate::error::BinarySerializerError;
+use resb_pool::BinarySerializerError;
 use resb_tree::Key;
 use std::alloc::{AllocError, Global};
 use std::collections::{BTreeMap, BTreeSet};

@@ -3,16 +3,11 @@
 #![tactic(auto)]
 
 mod entries;
-mod error;
 mod flat_table;
 mod key_block;
-pub mod laws;
 mod limits;
 mod serializer;
 mod string_block;
 
-pub use error::BinarySerializerError;
+pub use resb_pool::{BinarySerializerError, pool};
 pub use serializer::Serializer;
-
-#[cfg(test)]
-mod tests;

@@ -3,14 +3,14 @@
 ghost use Rattle.std.specs.Prelude.{◌≡◌, ◌++◌, ◌<◌, ◌^◌, length, IfOk, IfErr, OnOk};
 ghost use Rattle.resb_tree.specs.Bundle.{root_of};
 ghost use Rattle.resb_format.specs.KeyBlock.{key_bytes, padded};
-ghost use Rattle.resb_write.specs.Fault.{out_of_memory};
-ghost use Rattle.resb_write.specs.FaultOf.{fault_of};
+ghost use Rattle.resb_pool.specs.Fault.{out_of_memory};
+ghost use Rattle.resb_pool.specs.FaultOf.{fault_of};
 ghost use Rattle.resb_write.specs.Layout.{unit_bytes, word_bytes, file_of};
 ghost use Rattle.resb_write.specs.Places.{nows};
 ghost use Rattle.resb_write.specs.Refused.{Refused, CanBeWritten};
 ghost use Rattle.resb_write.specs.Written.{Written};
 
-use crate::error::BinarySerializerError;
+use resb_pool::BinarySerializerError;
 use crate::flat_table::flat_table;
 use crate::key_block::KeyPlan;
 use crate::limits::is_too_large;

@@ -2,10 +2,10 @@
 use Rattle.std.proofs.Common.{◌≡◌, ◌⊎◌, ℕ, List, IfErr, codes, ap, sym, ◌∙◌, subst}
 use Rattle.resb_tree.specs.Tree.{Tree, table}
 use Rattle.resb_tree.specs.View.{tree_of, entries_view}
-use Rattle.resb_write.specs.Fault.{out_of_memory, unexpected}
-use Rattle.resb_write.specs.FaultOf.{fault_of}
+use Rattle.resb_pool.specs.Fault.{out_of_memory, unexpected}
+use Rattle.resb_pool.specs.FaultOf.{fault_of}
 use Rattle.resb_write.specs.Flat.{IsCovered}
-use Rattle.resb_write.specs.declared.error.BinarySerializerError.{BinarySerializerError}
+use Rattle.resb_pool.specs.declared.error.BinarySerializerError.{BinarySerializerError}
 use Rattle.resb_write.proofs.Collecting.{tree_of_table}
 use Rattle.resb_write.proofs.flat_table.flat_table.Goals as goal
 

@@ -6,7 +6,7 @@ use Rattle.std.specs.List.{flat_map}
 use Rattle.std.specs.Char.Escape.{encode_utf16}
 use Rattle.std.proofs.lemmas.Str.{encodes-chars, cons_from_encodes}
 use Rattle.std.proofs.lemmas.Bool.Decides.{nat_tests}
-use Rattle.resb_write.proofs.Utf16.{units_le, no_chars}
+use Rattle.resb_pool.proofs.Utf16.{units_le, no_chars}
 use Rattle.resb_write.proofs.flat_table.utf16_len.Goals as goal
 
 pub loop-c-init : goal.loop-c-init

@@ -1,7 +1,7 @@
 -- What is refused only for a reason isn't refused where none holds.
 use Rattle.std.proofs.lemmas.Result.{IfErr-weaker}
 use Rattle.resb_tree.specs.Bundle.{root_of}
-use Rattle.resb_write.specs.FaultOf.{fault_of}
+use Rattle.resb_pool.specs.FaultOf.{fault_of}
 use Rattle.resb_write.proofs.Files.{only_memory}
 use Rattle.resb_write.proofs.serializer.Serializer.to_bytes.Goals as goal
 

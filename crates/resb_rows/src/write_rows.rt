@@ -1,5 +1,5 @@
 //! Written files against bytes worked out by hand from the format's rules, and the printed faults.
-use crate::{BinarySerializerError, Serializer};
+use resb_write::{BinarySerializerError, Serializer};
 use resb_tree::{Key, Resource, ResourceBundle, Table};
 use std::alloc::{AllocError, Global};
 use std::borrow::CowStr;

@@ -1,8 +1,0 @@
-//! Laws of the definitions, each the contract of a call that does nothing.
-ghost use Rattle.resb_write.specs.Records.{RecordsCostLeast};
-
-/// Whatever records could hold the strings of a tree, those that the format's rule gives take no
-/// more 16-bit units.
-pub fn records_cost_least()
-    ensures { RecordsCostLeast }
-{}

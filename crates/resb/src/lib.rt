@@ -5,8 +5,7 @@
 pub mod binary;
 pub mod bundle;
 mod compiling;
-mod laws;
+pub mod laws;
 pub mod text;
 
 pub use compiling::{CompileError, compile};
-pub use laws::keys_are_listed;

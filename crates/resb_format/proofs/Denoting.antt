@@ -1,6 +1,8 @@
 -- A word has at most one tree and count, and reaches no more resources than its tree has.
-use Rattle.std.proofs.Common.{ℕ, List, ◌∷◌, Option, Some, ◌≡◌, ◌≤◌, ◌+◌, refl, ap, subst, arith}
+use Rattle.std.proofs.Common.{ℕ, List, ◌∷◌, Option, Some, ◌≡◌, ◌≤◌, ◌<◌, ◌+◌, ◌-◌, ◌⊎◌, inl, inr, refl, ap, subst, arith}
+use Rattle.std.proofs.lemmas.Bool.{cases_lt}
 use Rattle.resb_tree.specs.Tree.{Tree, string, array, table, trees_of, map_of}
+use Rattle.resb_format.specs.Strings.{key_at}
 use Rattle.resb_format.specs.Parts.{Parts}
 use Rattle.resb_format.specs.Content.{Member, Content, leaf, list, pairs}
 use Rattle.resb_format.specs.Denotes.{Den, den_leaf, den_list, den_pairs, DenMember, den_word, den_unit, DenEach, each_none, each_more, DenPairs, pairs_none, pairs_more, Reaches, reaches_one, reaches_list, reaches_pairs, ReachesMember, reaches_word, reaches_unit, ReachesEach, each_here, each_later, ReachesPairs, pairs_here, pairs_later}
@@ -87,3 +89,69 @@ module _ (p : Parts) where
     counted_pairs pairs_none r = elim r [ ]
     counted_pairs (pairs_more j d ds) (pairs_here k r) = let h = counted_member d r in omega arith
     counted_pairs (pairs_more j d ds) (pairs_later k e r) = let h = unique_member d e in let rest = counted_pairs ds r in let q = h.1 in omega arith
+
+  some_more : {w m n : ℕ} → ((k : ℕ) → 1 ≤ k → k ≤ n → Reaches p w (1 + k)) → 1 ≤ m → m ≤ 1 + n → Reaches p w m
+  some_more {w} {m} {n} more h k = at (cases_lt 1 m)
+    where
+      at : (1 < m) ⊎ (m ≤ 1) → Reaches p w m
+      at (inl large) =
+          let e : 1 + (m - 1) ≡ m = omega arith in
+          subst (Reaches p w) e (more (m - 1) (omega arith) (omega arith))
+      at (inr small) = let e : 1 ≡ m = omega arith in subst (Reaches p w) e reaches_one
+
+  -- in the first member, or behind it
+  in_each : (x : Member) (j : ℕ) (ms : List Member) (m : ℕ) {t : Tree} → 1 ≤ m → DenMember p x t j
+      → (m ≤ j → ReachesMember p x m) → (j < m → ReachesEach p ms (m - j)) → ReachesEach p (x ∷ ms) m
+  in_each x j ms m h d here later = elim (cases_lt j m) as (λ c. ReachesEach p (x ∷ ms) m) [
+    | inl g ↦ (let e : j + (m - j) ≡ m = omega (arith, g) in subst (ReachesEach p (x ∷ ms)) e (each_later d (later g)))
+    | inr g ↦ each_here (here g)
+  ]
+
+  in_pairs : (x : Member) (at j : ℕ) (es : List (ℕ × Member)) (m : ℕ) {key : List ℕ} {t : Tree} → 1 ≤ m → key_at p.keys at ≡ Some key → DenMember p x t j
+      → (m ≤ j → ReachesMember p x m) → (j < m → ReachesPairs p es (m - j)) → ReachesPairs p ((at, x) ∷ es) m
+  in_pairs x at j es m h key d here later = elim (cases_lt j m) as (λ c. ReachesPairs p ((at, x) ∷ es) m) [
+    | inl g ↦ (let e : j + (m - j) ≡ m = omega (arith, g) in subst (ReachesPairs p ((at, x) ∷ es)) e (pairs_later key d (later g)))
+    | inr g ↦ pairs_here key (here g)
+  ]
+
+  -- a word that denotes a tree reaches each number up to its count
+  mutual
+    pub reached : {w n : ℕ} {t : Tree} → Den p w t n → (m : ℕ) → 1 ≤ m → m ≤ n → Reaches p w m
+    reached (den_leaf e) m h k = let one : 1 ≡ m = omega arith in subst (Reaches p _) one reaches_one
+    reached (den_list e d) m h k = some_more (λ j g f. reaches_list e (reached_each d j g f)) h k
+    reached (den_pairs e d) m h k = some_more (λ j g f. reaches_pairs e (reached_pairs d j g f)) h k
+
+    pub reached_member : {x : Member} {n : ℕ} {t : Tree} → DenMember p x t n → (m : ℕ) → 1 ≤ m → m ≤ n → ReachesMember p x m
+    reached_member (den_word d) m h k = reaches_word (reached d m h k)
+    reached_member (den_unit e) m h k = let one : 1 ≡ m = omega arith in subst (ReachesMember p _) one reaches_unit
+
+    reached_each : {ms : List Member} {n : ℕ} {ts : List Tree} → DenEach p ms ts n → (m : ℕ) → 1 ≤ m → m ≤ n → ReachesEach p ms m
+    reached_each each_none m h k = absurd (omega arith)
+    reached_each (each_more {m = x} {j = j'} {ms = ms'} d ds) m h k =
+        in_each x j' ms' m h d (λ g. reached_member d m h g) (λ g. reached_each ds (m - j') (omega arith) (omega arith))
+
+    reached_pairs : {es : List (ℕ × Member)} {n : ℕ} {ts : List (List ℕ × Tree)} → DenPairs p es ts n → (m : ℕ) → 1 ≤ m → m ≤ n → ReachesPairs p es m
+    reached_pairs pairs_none m h k = absurd (omega arith)
+    reached_pairs (pairs_more {m = x} {at = at'} {j = j'} {es = es'} key d ds) m h k =
+        in_pairs x at' j' es' m h key d (λ g. reached_member d m h g) (λ g. reached_pairs ds (m - j') (omega arith) (omega arith))
+
+  -- what is reached is reached with fewer resources too
+  mutual
+    pub lower : {w n : ℕ} → Reaches p w n → (m : ℕ) → 1 ≤ m → m ≤ n → Reaches p w m
+    lower reaches_one m h k = let one : 1 ≡ m = omega arith in subst (Reaches p _) one reaches_one
+    lower (reaches_list e r) m h k = some_more (λ j g f. reaches_list e (lower_each r j g f)) h k
+    lower (reaches_pairs e r) m h k = some_more (λ j g f. reaches_pairs e (lower_pairs r j g f)) h k
+
+    pub lower_member : {x : Member} {n : ℕ} → ReachesMember p x n → (m : ℕ) → 1 ≤ m → m ≤ n → ReachesMember p x m
+    lower_member (reaches_word r) m h k = reaches_word (lower r m h k)
+    lower_member reaches_unit m h k = let one : 1 ≡ m = omega arith in subst (ReachesMember p _) one reaches_unit
+
+    lower_each : {ms : List Member} {n : ℕ} → ReachesEach p ms n → (m : ℕ) → 1 ≤ m → m ≤ n → ReachesEach p ms m
+    lower_each (each_here r) m h k = each_here (lower_member r m h k)
+    lower_each (each_later {m = x} {j = j'} {ms = ms'} d r) m h k =
+        in_each x j' ms' m h d (λ g. reached_member d m h g) (λ g. lower_each r (m - j') (omega arith) (omega arith))
+
+    lower_pairs : {es : List (ℕ × Member)} {n : ℕ} → ReachesPairs p es n → (m : ℕ) → 1 ≤ m → m ≤ n → ReachesPairs p es m
+    lower_pairs (pairs_here key r) m h k = pairs_here key (lower_member r m h k)
+    lower_pairs (pairs_later {m = x} {at = at'} {j = j'} {es = es'} key d r) m h k =
+        in_pairs x at' j' es' m h key d (λ g. reached_member d m h g) (λ g. lower_pairs r (m - j') (omega arith) (omega arith))

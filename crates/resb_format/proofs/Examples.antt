@@ -123,7 +123,6 @@ small = record {
       0 ∷ 0 ∷ 0 ∷ 0x80 ∷ 2 ∷ 0 ∷ 0 ∷ 0 ∷ 5 ∷ 0 ∷ 0 ∷ 0x70 ∷ 1 ∷ 0 ∷ 0 ∷ 0x60 ∷ 1 ∷ 0 ∷ 0 ∷ 0 ∷ 7 ∷ 0 ∷ 0 ∷ 0x70 ∷ [];
   keys = 97 ∷ 0 ∷ [];
   block = 0 ∷ 120 ∷ 0 ∷ 1 ∷ 0 ∷ 1 ∷ [];
-  root = 0x8000_0001;
 }
 
 an_integer : content small 0x7fff_ffff ≡ Some (leaf (integer 0xfff_ffff))
@@ -171,7 +170,6 @@ looped = record {
   body = 1 ∷ 0 ∷ 0 ∷ 0x80 ∷ 1 ∷ 0 ∷ 0 ∷ 0 ∷ 1 ∷ 0 ∷ 0 ∷ 0x80 ∷ [];
   keys = [];
   block = [];
-  root = 0x8000_0001;
 }
 
 loop_content : content looped 0x8000_0001 ≡ Some (list (word 0x8000_0001 ∷ []))

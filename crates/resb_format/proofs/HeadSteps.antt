@@ -5,8 +5,8 @@ use Rattle.std.proofs.lemmas.Bool.Decides.{nat_tests}
 use Rattle.std.proofs.lemmas.Slice.Eq.{bytes_eq-Decides}
 use Rattle.resb_format.specs.Codes.{version_bytes, endianness_number, charset_number}
 use Rattle.resb_format.specs.Error.{IsRefusal, IsInvalid}
-use Rattle.resb_format.specs.HeadChecks.{first_fault, info_checks, fault_of, is_version}
-use Rattle.resb_format.specs.declared.error.BinaryDeserializerError.{BinaryDeserializerError}
+use Rattle.resb_format.specs.HeadChecks.{first_fault, info_checks, refusal_of, is_version}
+use Rattle.resb_format.specs.declared.error.ReadingError.{ReadingError}
 use Rattle.resb_format.specs.declared.error.ErrorKind.TheVariants.{UnsupportedFormat}
 use Rattle.resb_format.specs.declared.charset.CharsetFamily.{CharsetFamily}
 use Rattle.resb_format.specs.declared.charset.CharsetFamily.TheVariants.{Ascii, Ebcdic}
@@ -79,28 +79,28 @@ order_stands any bs x e (inr z) = record { known = le_true (get_or bs 4 0) 1 (om
     or_true true b h = refl
     or_true false b h = h
 
-pub endianness_fails : (any : Bool) (bs : List ℕ) (e : BinaryDeserializerError) → 1 < get_or bs 4 0 → IsInvalid e (codes "unrecognized value for Endianness")
-    → first_fault (info_checks any bs) ≡ Some (fault_of e)
+pub endianness_fails : (any : Bool) (bs : List ℕ) (e : ReadingError) → 1 < get_or bs 4 0 → IsInvalid e (codes "unrecognized value for Endianness")
+    → first_fault (info_checks any bs) ≡ Some (refusal_of e)
 unfolding info_checks
 endianness_fails any bs e h r = rw (le_false (get_or bs 4 0) 1 h, r.kind_is, r.message_is) refl
 
-pub order_fails : (any : Bool) (bs : List ℕ) (e : BinaryDeserializerError) → get_or bs 4 0 ≡ 1 → any ≡ false
-    → IsRefusal e UnsupportedFormat (codes "bundle endianness does not match platform endianness") → first_fault (info_checks any bs) ≡ Some (fault_of e)
+pub order_fails : (any : Bool) (bs : List ℕ) (e : ReadingError) → get_or bs 4 0 ≡ 1 → any ≡ false
+    → IsRefusal e UnsupportedFormat (codes "bundle endianness does not match platform endianness") → first_fault (info_checks any bs) ≡ Some (refusal_of e)
 unfolding info_checks
 order_fails any bs e h a r = rw (le_true (get_or bs 4 0) 1 (omega arith), a, h, r.kind_is, r.message_is) refl
 
-pub charset_fails : (any : Bool) (bs : List ℕ) (e : BinaryDeserializerError) → Order any bs → 1 < get_or bs 5 0 → IsInvalid e (codes "unrecognized value for CharsetFamily")
-    → first_fault (info_checks any bs) ≡ Some (fault_of e)
+pub charset_fails : (any : Bool) (bs : List ℕ) (e : ReadingError) → Order any bs → 1 < get_or bs 5 0 → IsInvalid e (codes "unrecognized value for CharsetFamily")
+    → first_fault (info_checks any bs) ≡ Some (refusal_of e)
 unfolding info_checks
 charset_fails any bs e o h r = rw (o.known, o.own, le_false (get_or bs 5 0) 1 h, r.kind_is, r.message_is) refl
 
-pub format_fails : (any : Bool) (bs : List ℕ) (e : BinaryDeserializerError) → Families any bs → bytes_eq (slice_range bs 8 12) (codes "ResB") ≡ false → IsInvalid e (codes "unexpected data format value")
-    → first_fault (info_checks any bs) ≡ Some (fault_of e)
+pub format_fails : (any : Bool) (bs : List ℕ) (e : ReadingError) → Families any bs → bytes_eq (slice_range bs 8 12) (codes "ResB") ≡ false → IsInvalid e (codes "unexpected data format value")
+    → first_fault (info_checks any bs) ≡ Some (refusal_of e)
 unfolding info_checks
 format_fails any bs e f h r = rw (f.order.known, f.order.own, f.charset, h, r.kind_is, r.message_is) refl
 
-pub version_fails : (any : Bool) (bs : List ℕ) (e : BinaryDeserializerError) → Formats any bs → ((v : FormatVersion) → version_bytes v ≢ slice_range bs 12 16) → IsInvalid e (codes "unrecognized format version")
-    → first_fault (info_checks any bs) ≡ Some (fault_of e)
+pub version_fails : (any : Bool) (bs : List ℕ) (e : ReadingError) → Formats any bs → ((v : FormatVersion) → version_bytes v ≢ slice_range bs 12 16) → IsInvalid e (codes "unrecognized format version")
+    → first_fault (info_checks any bs) ≡ Some (refusal_of e)
 unfolding info_checks
 version_fails any bs e f h r = rw (f.families.order.known, f.families.order.own, f.families.charset, f.format, no_version (slice_range bs 12 16) h, r.kind_is, r.message_is) refl
 

@@ -4,11 +4,11 @@ use Rattle.std.specs.Int.{to_le_bytes, w16}
 use Rattle.std.proofs.lemmas.List.{get_or-drop}
 use Rattle.resb_format.specs.Bytes.{units_of}
 use Rattle.resb_format.specs.Codes.{endianness_number, charset_number, version_bytes}
-use Rattle.resb_format.specs.CodecLaws.{EachFits, IsHeader, HeaderSurvives}
+use Rattle.resb_format.specs.Laws.{EachFits, IsHeader, HeaderSurvives}
 use Rattle.resb_format.specs.Head.{HeaderAt, header_bytes}
 use Rattle.resb_format.specs.HeadChecks.{unit_in}
 use Rattle.resb_format.specs.HeadReading.{ReadsHeader}
-use Rattle.resb_format.specs.declared.error.BinaryDeserializerError.{BinaryDeserializerError}
+use Rattle.resb_format.specs.declared.error.ReadingError.{ReadingError}
 use Rattle.resb_format.specs.declared.head.BinHeader.{BinHeader}
 use Rattle.resb_format.specs.declared.version.FormatVersion.{FormatVersion}
 use Rattle.resb_format.specs.declared.version.FormatVersion.TheVariants.{V1_0, V1_1, V1_2, V1_3, V2_0, V3_0}
@@ -139,7 +139,7 @@ same_header h j k a =
       };
     }
 
-reads_same : (h : BinHeader) (r : Result BinHeader BinaryDeserializerError) → Known h → ReadsHeader false (laid h) r → r ≡ Ok h
+reads_same : (h : BinHeader) (r : Result BinHeader ReadingError) → Known h → ReadsHeader false (laid h) r → r ≡ Ok h
 reads_same h (Ok j) k read = ap Ok (same_header h j k read.1)
 reads_same h (Err e) k read = absurd (none_some (sym ((header_passes false (laid h)).1 (laid_passes h k)) ∙ read))
 

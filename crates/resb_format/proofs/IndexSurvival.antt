@@ -8,11 +8,11 @@ use Rattle.std.proofs.lemmas.Bool.Decides.{nat_tests}
 use Rattle.std.proofs.Props.{props}
 use mathlib.Core.HLevel.{Σ_prop_path}
 use Rattle.resb_format.specs.Bytes.{words_of}
-use Rattle.resb_format.specs.CodecLaws.{EachFits, IndexSurvives}
+use Rattle.resb_format.specs.Laws.{EachFits, IndexSurvives}
 use Rattle.resb_format.specs.Head.{IndexAt, field, index_words, index_bytes}
 use Rattle.resb_format.specs.HeadChecks.{index_fault}
 use Rattle.resb_format.specs.HeadReading.{ReadsIndex}
-use Rattle.resb_format.specs.declared.error.BinaryDeserializerError.{BinaryDeserializerError}
+use Rattle.resb_format.specs.declared.error.ReadingError.{ReadingError}
 use Rattle.resb_format.specs.declared.index.BinIndex.{BinIndex}
 use Rattle.resb_format.proofs.HeadSteps.{le_true, le_false}
 use Rattle.resb_format.proofs.IndexSteps.{index_holds}
@@ -135,7 +135,7 @@ index_apart i j e =
       checksum_there = (pairs t).1.3;
     }
 
-read_back : (i : BinIndex) (r : Result BinIndex BinaryDeserializerError) → EachFits 32 (index_words i) → ReadsIndex (index_bytes i) r → r ≡ Ok i
+read_back : (i : BinIndex) (r : Result BinIndex ReadingError) → EachFits 32 (index_words i) → ReadsIndex (index_bytes i) r → r ≡ Ok i
 read_back i (Err e) fits h =
     let w : i.field_count ≡ get_or (words_of (index_bytes i)) 0 0 = ap (λ ws. get_or ws 0 0) (sym (words_back (index_words i) fits)) in
     let l : length (index_bytes i) ≡ 4 * min i.field_count 8 = written_length (index_words i) ∙ ap (λ n. 4 * n) (words_count i) in

@@ -1,6 +1,8 @@
 pub mod Denoting
+pub mod ContentLemmas
 pub mod Examples
 pub mod Spelled
+pub mod InsideLemmas
 pub mod StringsIn
 pub mod TextUnits
 pub mod HeadSteps
@@ -9,6 +11,8 @@ pub mod IndexSteps
 pub mod Apart
 pub mod Survival
 pub mod Passing
+pub mod FileSteps
+pub mod SupportSteps
 pub mod WordsBack
 pub mod IndexSurvival
 pub mod HeaderSurvival

@@ -4,20 +4,17 @@ use Rattle.std.specs.Str.{bytes_eq}
 use Rattle.std.proofs.lemmas.Bool.Decides.{nat_tests}
 use Rattle.std.proofs.lemmas.List.{get_or-drop, drop-drop}
 use Rattle.std.proofs.lemmas.Slice.Eq.{bytes_eq-Decides}
-use Rattle.resb_format.specs.Bytes.{words_of}
-use Rattle.resb_format.specs.CodecLaws.{IsHeader, HeaderPasses, BundleFilePasses}
-use Rattle.resb_format.specs.HeadChecks.{Fault, first_fault, info_checks, header_checks, header_fault, index_fault, is_version, unit_in}
-use Rattle.resb_format.specs.Parts.{IsBundleFile, body_of, header_size}
+use Rattle.resb_format.specs.Laws.{IsHeader, HeaderPasses}
+use Rattle.resb_format.specs.HeadChecks.{Refusal, first_fault, info_checks, header_checks, header_fault, is_version, unit_in}
 use Rattle.resb_format.proofs.HeadSteps.{le_true, same_true}
 use Rattle.resb_format.proofs.HeaderSteps.{header_holds}
-use Rattle.resb_format.proofs.IndexSteps.{index_holds}
 
 -- each test is true
-abbrev EachHolds : List (Bool × Fault) → Type 0
+abbrev pub EachHolds : List (Bool × Refusal) → Type 0
 EachHolds [] = Unit {0}
 EachHolds ((t, f) ∷ checks) = (t ≡ true) × EachHolds checks
 
-passed : (checks : List (Bool × Fault)) → first_fault checks ≡ None → EachHolds checks
+pub passed : (checks : List (Bool × Refusal)) → first_fault checks ≡ None → EachHolds checks
 passed [] e = tt
 passed ((true, f) ∷ checks) e = (refl, passed checks e)
 passed ((false, f) ∷ checks) e = cc
@@ -81,37 +78,3 @@ passing any bs h =
 
 pub header_passes : HeaderPasses
 header_passes any bs = (passes any bs, passing any bs)
-
--- the words of a body without its first
-words_behind : (bs : List ℕ) → words_of (drop 4 bs) ≡ drop 1 (words_of bs)
-unfolding words_of
-words_behind [] = refl
-words_behind (a ∷ []) = refl
-words_behind (a ∷ b ∷ []) = refl
-words_behind (a ∷ b ∷ c ∷ []) = refl
-words_behind (a ∷ b ∷ c ∷ d ∷ bs) = refl
-
-header_fits : (bs : List ℕ) → IsBundleFile bs → header_fault false bs ≡ None
-header_fits bs f =
-    let z : get_or bs 8 0 ≡ 0 = f.little_endian in
-    let s : unit_in (nat_eq (get_or bs 8 0) 1) bs 0 ≡ header_size bs = rw z refl in
-    let h : IsHeader false bs = record {
-      long = omega (arith, f.header, f.header_inside);
-      magic = f.magic;
-      known_endianness = omega arith;
-      own_endianness = λ _. z;
-      known_charset = omega (arith, f.ascii);
-      format = f.format;
-      version = rw f.version refl;
-      size = omega (arith, s, f.header);
-    } in
-    (header_passes false bs).1 h
-
-index_fits : (body : List ℕ) → 7 ≤ get_or (words_of body) 1 0 → 4 * (1 + min (get_or (words_of body) 1 0) 8) ≤ length body → index_fault (drop 4 body) ≡ None
-index_fits body n h =
-    let w : get_or (words_of body) 1 0 ≡ get_or (words_of (drop 4 body)) 0 0 = sym (ap (λ ws. get_or ws 0 0) (words_behind body) ∙ get_or-drop 1 (words_of body) 0 0) in
-    let l : length (drop 4 body) ≡ length body - 4 = length-drop 4 body in
-    index_holds (drop 4 body) (get_or (words_of body) 1 0) w (omega arith) (omega arith) (omega arith)
-
-pub bundle_file_passes : BundleFilePasses
-bundle_file_passes bs f = (header_fits bs f, index_fits (body_of bs) f.fields f.index_inside)

@@ -1,5 +1,5 @@
 -- The units and words that bytes spell, one by one and in parts.
-use Rattle.std.proofs.Common.{ℕ, zero, suc, List, [], ◌∷◌, ◌≡◌, ◌+◌, ◌*◌, ◌/◌, ◌<◌, length, get_or, take, drop, refl, ap, ◌∙◌, arith}
+use Rattle.std.proofs.Common.{ℕ, zero, suc, List, [], ◌∷◌, ◌≡◌, ◌+◌, ◌*◌, ◌/◌, ◌<◌, ◌≤◌, length, get_or, take, drop, refl, ap, ◌∙◌, arith}
 use Rattle.resb_format.specs.Bytes.{units_of, words_of}
 
 pub units_length : (bs : List ℕ) → length (units_of bs) ≡ length bs / 2
@@ -74,3 +74,75 @@ units_take (a ∷ b ∷ bs) (suc n) =
 -- the units of the bytes of n units from the ith on
 pub units_part : (bs : List ℕ) (i n : ℕ) → units_of (take (2 * n) (drop (2 * i) bs)) ≡ take n (drop i (units_of bs))
 units_part bs i n = units_take (drop (2 * i) bs) n ∙ ap (take n) (units_drop bs i)
+
+-- the words of the bytes from the ith word on
+pub words_drop : (bs : List ℕ) (i : ℕ) → words_of (drop (4 * i) bs) ≡ drop i (words_of bs)
+unfolding words_of
+words_drop bs zero = refl
+words_drop [] (suc i) = let e : 4 * suc i ≡ suc (suc (suc (suc (4 * i)))) = omega arith in rw e refl
+words_drop (a ∷ []) (suc i) =
+    let e : 4 * suc i ≡ suc (suc (suc (suc (4 * i)))) = omega arith in
+    rw e refl
+words_drop (a ∷ b ∷ []) (suc i) =
+    let e : 4 * suc i ≡ suc (suc (suc (suc (4 * i)))) = omega arith in
+    rw e refl
+words_drop (a ∷ b ∷ c ∷ []) (suc i) =
+    let e : 4 * suc i ≡ suc (suc (suc (suc (4 * i)))) = omega arith in
+    rw e refl
+words_drop (a ∷ b ∷ c ∷ d ∷ bs) (suc i) =
+    let e : 4 * suc i ≡ suc (suc (suc (suc (4 * i)))) = omega arith in
+    rw e (words_drop bs i)
+
+-- the words of the first bytes
+pub words_take : (bs : List ℕ) (n : ℕ) → words_of (take (4 * n) bs) ≡ take n (words_of bs)
+unfolding words_of
+words_take bs zero = refl
+words_take [] (suc n) = let e : 4 * suc n ≡ suc (suc (suc (suc (4 * n)))) = omega arith in rw e refl
+words_take (a ∷ []) (suc n) =
+    let e : 4 * suc n ≡ suc (suc (suc (suc (4 * n)))) = omega arith in
+    rw e refl
+words_take (a ∷ b ∷ []) (suc n) =
+    let e : 4 * suc n ≡ suc (suc (suc (suc (4 * n)))) = omega arith in
+    rw e refl
+words_take (a ∷ b ∷ c ∷ []) (suc n) =
+    let e : 4 * suc n ≡ suc (suc (suc (suc (4 * n)))) = omega arith in
+    rw e refl
+words_take (a ∷ b ∷ c ∷ d ∷ bs) (suc n) =
+    let e : 4 * suc n ≡ suc (suc (suc (suc (4 * n)))) = omega arith in
+    rw e (ap (λ ws. (a + 256 * b + 65536 * c + 16777216 * d) ∷ ws) (words_take bs n))
+
+-- the words of the bytes of n words from the ith on
+pub words_part : (bs : List ℕ) (i n : ℕ)
+    → words_of (take (4 * n) (drop (4 * i) bs)) ≡ take n (drop i (words_of bs))
+words_part bs i n = words_take (drop (4 * i) bs) n ∙ ap (take n) (words_drop bs i)
+
+-- the first word and the first unit
+pub no_word : (bs : List ℕ) → length bs < 4 → words_of bs ≡ []
+unfolding words_of
+no_word [] h = refl
+no_word (a ∷ []) h = refl
+no_word (a ∷ b ∷ []) h = refl
+no_word (a ∷ b ∷ c ∷ []) h = refl
+no_word (a ∷ b ∷ c ∷ d ∷ bs) h = absurd (omega arith)
+
+pub word_first : (bs : List ℕ) → 4 ≤ length bs
+    → words_of bs ≡ (get_or bs 0 0 + 256 * get_or bs 1 0 + 65536 * get_or bs 2 0 + 16777216 * get_or bs 3 0) ∷ words_of (drop 4 bs)
+unfolding words_of
+word_first [] h = absurd (omega arith)
+word_first (a ∷ []) h = absurd (omega arith)
+word_first (a ∷ b ∷ []) h = absurd (omega arith)
+word_first (a ∷ b ∷ c ∷ []) h = absurd (omega arith)
+word_first (a ∷ b ∷ c ∷ d ∷ bs) h = refl
+
+pub no_unit : (bs : List ℕ) → length bs < 2 → units_of bs ≡ []
+unfolding units_of
+no_unit [] h = refl
+no_unit (a ∷ []) h = refl
+no_unit (a ∷ b ∷ bs) h = absurd (omega arith)
+
+pub unit_first : (bs : List ℕ) → 2 ≤ length bs
+    → units_of bs ≡ (get_or bs 0 0 + 256 * get_or bs 1 0) ∷ units_of (drop 2 bs)
+unfolding units_of
+unit_first [] h = absurd (omega arith)
+unit_first (a ∷ []) h = absurd (omega arith)
+unit_first (a ∷ b ∷ bs) h = refl

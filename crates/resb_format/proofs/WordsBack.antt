@@ -4,7 +4,7 @@ use Rattle.std.specs.Int.{to_le_bytes, from_le_bytes, w32}
 use Rattle.std.specs.List.{flat_map}
 use Rattle.std.proofs.lemmas.Nat.{from_le_bytes-to_le_bytes_4, le_bytes_4}
 use Rattle.resb_format.specs.Bytes.{words_of}
-use Rattle.resb_format.specs.CodecLaws.{EachFits}
+use Rattle.resb_format.specs.Laws.{EachFits}
 
 -- the words that written words spell
 pub words_back : (ws : List ℕ) → EachFits 32 ws → words_of (flat_map (to_le_bytes w32) ws) ≡ ws

@@ -2,24 +2,24 @@
 use Rattle.std.specs.Prelude.{◌≡◌, ◌≢◌, ℕ, ◌<◌, List, codes, Result, MatchResult}
 use Rattle.resb_format.specs.Codes.{endianness_number, charset_number, type_number, version_bytes}
 use Rattle.resb_format.specs.Error.{IsInvalid}
-use Rattle.resb_format.specs.declared.error.BinaryDeserializerError.{BinaryDeserializerError}
+use Rattle.resb_format.specs.declared.error.ReadingError.{ReadingError}
 use Rattle.resb_format.specs.declared.endianness.Endianness.{Endianness}
 use Rattle.resb_format.specs.declared.charset.CharsetFamily.{CharsetFamily}
 use Rattle.resb_format.specs.declared.version.FormatVersion.{FormatVersion}
 use Rattle.resb_format.specs.declared.repr_type.ResourceReprType.{ResourceReprType}
 
 -- a number over 1 names no order
-abbrev pub ReadsEndianness : ℕ → Result Endianness BinaryDeserializerError → Type 0
+abbrev pub ReadsEndianness : ℕ → Result Endianness ReadingError → Type 0
 ReadsEndianness n r = MatchResult r (λ x. endianness_number x ≡ n) (λ e. (1 < n) × IsInvalid e (codes "unrecognized value for Endianness"))
 
 -- a number over 1 names no family
-abbrev pub ReadsCharset : ℕ → Result CharsetFamily BinaryDeserializerError → Type 0
+abbrev pub ReadsCharset : ℕ → Result CharsetFamily ReadingError → Type 0
 ReadsCharset n r = MatchResult r (λ x. charset_number x ≡ n) (λ e. (1 < n) × IsInvalid e (codes "unrecognized value for CharsetFamily"))
 
 -- a number over 9 other than 14 names no type
-abbrev pub ReadsType : ℕ → Result ResourceReprType BinaryDeserializerError → Type 0
+abbrev pub ReadsType : ℕ → Result ResourceReprType ReadingError → Type 0
 ReadsType n r = MatchResult r (λ t. type_number t ≡ n) (λ e. (9 < n) × (n ≢ 14) × IsInvalid e (codes "unrecognized value for ResourceReprType"))
 
 -- other bytes than the six spellings spell no version
-abbrev pub ReadsVersion : List ℕ → Result FormatVersion BinaryDeserializerError → Type 0
+abbrev pub ReadsVersion : List ℕ → Result FormatVersion ReadingError → Type 0
 ReadsVersion bytes r = MatchResult r (λ v. version_bytes v ≡ bytes) (λ e. ((v : FormatVersion) → version_bytes v ≢ bytes) × IsInvalid e (codes "unrecognized format version"))

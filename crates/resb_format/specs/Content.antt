@@ -1,6 +1,8 @@
--- What stands at a descriptor's word, as far as its own place shows. (ICU's `uresdata.h`: resource types.)
---     content p w             a finished tree, or the members of a collection; none where the type isn't read or a field lies outside
-use Rattle.std.specs.Prelude.{ℕ, ◌+◌, ◌*◌, ◌/◌, ◌%◌, ◌^◌, List, [], map, Option, Some, None, option_map, option_and_then, ◌==◌, ◌||◌, slice_index, if◌then◌else◌}
+-- What stands at a descriptor's word, as far as its own place shows. (ICU's `uresdata.h`: resource
+-- types.)
+--     content p w             a finished tree, or the members of a collection; none where the type
+--                             isn't read or a field lies outside
+use Rattle.std.specs.Prelude.{ℕ, ◌+◌, ◌*◌, ◌/◌, ◌%◌, ◌^◌, List, [], map, Option, Some, None, option_map, option_and_then, ◌==◌, ◌||◌, slice_get, if◌then◌else◌}
 use Rattle.std.specs.List.{zip}
 use Rattle.resb_tree.specs.Tree.{Tree, string, binary, integer, int_vector}
 use Rattle.resb_format.specs.Bytes.{units_of, words_of, part}
@@ -18,6 +20,10 @@ pub data Content : Type 0 where
   -- the key's position, and the member
   pairs : List (ℕ × Member) → Content
 
+-- what stands behind the count that is the number at place i, if there is one
+abbrev pub counted : {A : Type 0} → List ℕ → ℕ → (ℕ → Option A) → Option A
+counted numbers i behind = option_and_then behind (slice_get numbers i)
+
 abbrev pub words_at : Parts → ℕ → ℕ → Option (List Member)
 words_at p v n = option_map (map word) (part (words_of p.body) v n)
 
@@ -26,41 +32,45 @@ offsets_at p u n = option_map (map unit) (part p.block u n)
 
 -- the positions and the members, both of which lie inside
 abbrev pub paired : Option (List ℕ) → Option (List Member) → Option Content
-paired positions members = option_and_then (λ ks. option_map (λ ms. pairs (zip ks ms)) members) positions
+paired positions members =
+    option_and_then (λ ks. option_map (λ ms. pairs (zip ks ms)) members) positions
 
 -- u32 n, n bytes
 abbrev pub binary_at : Parts → ℕ → Option Content
-binary_at p v = option_map (λ bytes. leaf (binary bytes)) (part p.body (4 * v + 4) (slice_index (words_of p.body) v))
+binary_at p v =
+    counted (words_of p.body) v (λ n. option_map (λ bytes. leaf (binary bytes)) (part p.body (4 * v + 4) n))
 
 -- u32 n, n words
 abbrev pub int_vector_at : Parts → ℕ → Option Content
-int_vector_at p v = option_map (λ ns. leaf (int_vector ns)) (part (words_of p.body) (v + 1) (slice_index (words_of p.body) v))
+int_vector_at p v =
+    counted (words_of p.body) v
+    (λ n. option_map (λ ns. leaf (int_vector ns)) (part (words_of p.body) (v + 1) n))
 
 -- u32 n, n descriptors
 abbrev pub array_at : Parts → ℕ → Option Content
-array_at p v = option_map list (words_at p (v + 1) (slice_index (words_of p.body) v))
+array_at p v = counted (words_of p.body) v (λ n. option_map list (words_at p (v + 1) n))
 
 -- unit n, n string offsets
 abbrev pub array16_at : Parts → ℕ → Option Content
-array16_at p u = option_map list (offsets_at p (u + 1) (slice_index p.block u))
+array16_at p u = counted p.block u (λ n. option_map list (offsets_at p (u + 1) n))
 
--- u16 n, n u16 key positions, a u16 of padding where n is even, n descriptors: these begin n / 2 + 1 words on
+-- u16 n, n u16 key positions, a u16 of padding where n is even, n descriptors, which begin n / 2 + 1
+-- words on
 abbrev pub table_at : Parts → ℕ → Option Content
 table_at p v =
-    let n = slice_index (units_of p.body) (2 * v) in
-    paired (part (units_of p.body) (2 * v + 1) n) (words_at p (v + n / 2 + 1) n)
+    counted (units_of p.body) (2 * v)
+    (λ n. paired (part (units_of p.body) (2 * v + 1) n) (words_at p (v + n / 2 + 1) n))
 
 -- unit n, n key positions, n string offsets
 abbrev pub table16_at : Parts → ℕ → Option Content
 table16_at p u =
-    let n = slice_index p.block u in
-    paired (part p.block (u + 1) n) (offsets_at p (u + 1 + n) n)
+    counted p.block u (λ n. paired (part p.block (u + 1) n) (offsets_at p (u + 1 + n) n))
 
 -- u32 n, n u32 key positions, n descriptors
 abbrev pub table32_at : Parts → ℕ → Option Content
 table32_at p v =
-    let n = slice_index (words_of p.body) v in
-    paired (part (words_of p.body) (v + 1) n) (words_at p (v + 1 + n) n)
+    counted (words_of p.body) v
+    (λ n. paired (part (words_of p.body) (v + 1) n) (words_at p (v + 1 + n) n))
 
 abbrev pub string_content : Parts → ℕ → Option Content
 string_content p u = option_map (λ s. leaf (string s)) (text_at p.block u)

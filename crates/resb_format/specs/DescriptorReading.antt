@@ -2,8 +2,8 @@
 use Rattle.std.specs.Prelude.{◌≡◌, ◌≢◌, ℕ, ◌/◌, ◌^◌, ◌<◌, codes, Result, MatchResult}
 use Rattle.resb_format.specs.Descriptor.{word_of}
 use Rattle.resb_format.specs.Error.{IsInvalid}
-use Rattle.resb_format.specs.declared.error.BinaryDeserializerError.{BinaryDeserializerError}
+use Rattle.resb_format.specs.declared.error.ReadingError.{ReadingError}
 use Rattle.resb_format.specs.declared.descriptor.ResDescriptor.{ResDescriptor}
 
-abbrev pub ReadsDescriptor : ℕ → Result ResDescriptor BinaryDeserializerError → Type 0
+abbrev pub ReadsDescriptor : ℕ → Result ResDescriptor ReadingError → Type 0
 ReadsDescriptor w r = MatchResult r (λ d. word_of d ≡ w) (λ e. (9 < w / 2 ^ 28) × (w / 2 ^ 28 ≢ 14) × IsInvalid e (codes "unrecognized value for ResourceReprType"))

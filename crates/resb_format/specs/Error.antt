@@ -3,28 +3,28 @@
 use Rattle.std.specs.Prelude.{◌≡◌, ℕ, List, codes}
 use Rattle.resb_format.specs.declared.error.ErrorKind.{ErrorKind}
 use Rattle.resb_format.specs.declared.error.ErrorKind.TheVariants.{InvalidData, ResourceTypeMismatch, UnsupportedFormat, Unknown, OutOfMemory}
-use Rattle.resb_format.specs.declared.error.BinaryDeserializerError.{BinaryDeserializerError}
+use Rattle.resb_format.specs.declared.error.ReadingError.{ReadingError}
 
-abbrev pub kind_of : BinaryDeserializerError → ErrorKind
+abbrev pub kind_of : ReadingError → ErrorKind
 kind_of e = e.kind
 
-abbrev pub message_of : BinaryDeserializerError → List ℕ
+abbrev pub message_of : ReadingError → List ℕ
 message_of e = e.message.now
 
-pub record IsRefusal (e : BinaryDeserializerError) (kind : ErrorKind) (message : List ℕ) : Type 0 where
+pub record IsRefusal (e : ReadingError) (kind : ErrorKind) (message : List ℕ) : Type 0 where
   pub kind_is : kind_of e ≡ kind
   pub message_is : message_of e ≡ message
 
 -- data that breaks the rules of the format
-abbrev pub IsInvalid : BinaryDeserializerError → List ℕ → Type 0
+abbrev pub IsInvalid : ReadingError → List ℕ → Type 0
 IsInvalid e message = IsRefusal e InvalidData message
 
 -- a request for memory was refused while reading
-abbrev pub IsWantOfMemory : BinaryDeserializerError → Type 0
+abbrev pub IsWantOfMemory : ReadingError → Type 0
 IsWantOfMemory e = IsRefusal e OutOfMemory (codes "while reading")
 
 -- bytes that are no whole number of items
-abbrev pub IsWrongLength : BinaryDeserializerError → Type 0
+abbrev pub IsWrongLength : ReadingError → Type 0
 IsWrongLength e = IsRefusal e Unknown (codes "Wrong length")
 
 -- what a kind prints

@@ -14,7 +14,6 @@ pub mod Denotes
 pub mod File
 pub mod KeyBlock
 pub mod PlainSize
-pub mod Unique
 pub mod Error
 pub mod Codes
 pub mod Descriptor
@@ -25,4 +24,5 @@ pub mod Head
 pub mod CodeReading
 pub mod DescriptorReading
 pub mod HeadReading
-pub mod CodecLaws
+pub mod PartsReading
+pub mod Laws

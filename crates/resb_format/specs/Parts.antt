@@ -9,7 +9,6 @@ pub record Parts : Type 0 where
   pub body : List ℕ
   pub keys : List ℕ
   pub block : List ℕ
-  pub root : ℕ
 
 -- in bytes
 abbrev pub header_size : List ℕ → ℕ
@@ -44,13 +43,19 @@ attributes bytes = slice_index (words_of (body_of bytes)) 6
 abbrev pub block_end : List ℕ → ℕ
 block_end bytes = slice_index (words_of (body_of bytes)) 7
 
+-- the parts of a body; ends in its index are in words
+abbrev pub parts_in_body : List ℕ → Parts
+parts_in_body body =
+    let keys_end = slice_index (words_of body) 2 in
+    let block_end = slice_index (words_of body) 7 in
+    record {
+      body = body;
+      keys = take (4 * keys_end) body;
+      block = units_of (take (4 * (block_end - keys_end)) (drop (4 * keys_end) body));
+    }
+
 unfoldable pub parts_of : List ℕ → Parts
-parts_of bytes = record {
-  body = body_of bytes;
-  keys = take (4 * keys_end bytes) (body_of bytes);
-  block = units_of (take (4 * (block_end bytes - keys_end bytes)) (drop (4 * keys_end bytes) (body_of bytes)));
-  root = root_word bytes;
-}
+parts_of bytes = parts_in_body (body_of bytes)
 
 pub record IsBundleFile (bytes : List ℕ) : Type 0 where
   pub magic : slice_range bytes 2 4 ≡ 0xda ∷ 0x27 ∷ []

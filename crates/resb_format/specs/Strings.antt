@@ -2,7 +2,7 @@
 --     string_at block u       the units of the string at unit u of the 16-bit block
 --     text_at block u         the text of that string, if it is well-formed UTF-16
 --     key_at keys k           the text of the key at byte k of the key block
-use Rattle.std.specs.Prelude.{ℕ, ◌+◌, ◌-◌, ◌*◌, List, take, drop, Option, Some, None, option_map, option_and_then, nat_le, ◌==◌, slice_index, position, if◌then◌else◌, encode_utf8_all}
+use Rattle.std.specs.Prelude.{ℕ, ◌+◌, ◌-◌, ◌*◌, List, take, drop, Bool, ◌||◌, Option, Some, None, option_map, option_and_then, nat_le, nat_lt, ◌==◌, slice_index, position, if◌then◌else◌, encode_utf8_all}
 use Rattle.std.specs.Char.Utf16.{has_unpaired_surrogate, utf16_lossy_chars}
 use Rattle.std.specs.Str.{is_utf8}
 use Rattle.resb_format.specs.Bytes.{part}
@@ -11,14 +11,19 @@ use Rattle.resb_format.specs.Bytes.{part}
 abbrev pub before_zero : List ℕ → Option (List ℕ)
 before_zero xs = option_map (λ n. take n xs) (position (λ x. x == 0) xs)
 
--- the units after the marker at unit u, whose first unit is given, or else up to a 0 within 41 units
+-- a unit that begins no marker
+abbrev pub is_no_marker : ℕ → Bool
+is_no_marker unit = nat_lt unit 0xdc00 || nat_lt 0xdfff unit
+
+-- the string at unit u, whose first unit is given: up to a 0 within 41 units, or after a marker of one
+-- to three units as many as it says
 abbrev pub string_from : List ℕ → ℕ → ℕ → Option (List ℕ)
 string_from block u first =
-    if nat_le first 0xdbff then before_zero (take 41 (drop u block))
+    if is_no_marker first then before_zero (take 41 (drop u block))
     else if nat_le first 0xdfee then part block (u + 1) (first - 0xdc00)
-    else if nat_le first 0xdffe then part block (u + 2) ((first - 0xdfef) * 0x1_0000 + slice_index block (u + 1))
-    else if first == 0xdfff then part block (u + 3) (slice_index block (u + 1) * 0x1_0000 + slice_index block (u + 2))
-    else before_zero (take 41 (drop u block))
+    else if nat_le first 0xdffe then
+    part block (u + 2) ((first - 0xdfef) * 0x1_0000 + slice_index block (u + 1))
+    else part block (u + 3) (slice_index block (u + 1) * 0x1_0000 + slice_index block (u + 2))
 
 unfoldable pub string_at : List ℕ → ℕ → Option (List ℕ)
 string_at block u = string_from block u (slice_index block u)

@@ -21,6 +21,11 @@ length_marker n =
     else if nat_le n 0xf_ffff then (0xdfef + n / 0x1_0000) ∷ (n % 0x1_0000) ∷ []
     else 0xdfff ∷ (n / 0x1_0000) ∷ (n % 0x1_0000) ∷ []
 
+-- how many units the marker of n units takes where their number alone asks for one
+abbrev pub marker_len : ℕ → ℕ
+marker_len n =
+    if nat_le n 40 then 0 else if nat_le n 0x3ee then 1 else if nat_le n 0xf_ffff then 2 else 3
+
 abbrev pub marker : List ℕ → List ℕ
 marker t = if is_unmarked t then [] else length_marker (length (units t))
 

@@ -19,7 +19,7 @@ abbrev pub view_words : WordView → List ℕ
 view_words v = words_of (word_bytes v)
 
 abbrev pub number_bytes : I32View → List ℕ
-number_bytes v = word_bytes v.words
+number_bytes v = v.bytes.now
 
 -- the words whose bits are the signed numbers
 abbrev pub number_words : I32View → List ℕ

@@ -31,7 +31,7 @@ pub fn cast_bytes_to_u16_slice(bytes: &[u8]) -> Result<Utf16View<'_>, BinaryDese
 pub fn cast_u32_to_i32_slice(words: WordView<'_>) -> I32View<'_>
     ensures { number_bytes result ≡ word_bytes words.entry }
 {
-    I32View::over(words)
+    I32View::over(words.as_bytes())
 }
 
 /// The words as pairs of signed numbers, if their number is even.

@@ -4,6 +4,7 @@ ghost use Rattle.std.specs.Prelude.{◌<◌, ◌^◌};
 
 use crate::error::BinaryDeserializerError;
 use crate::repr_type::ResourceReprType;
+use resb_tree::NoMemory;
 
 /// A resource's word in a file: 4 bits of type, 28 bits of value. (ICU's `uresdata.h`: `Resource`.)
 #[derive(Clone, Copy, Debug, PartialEq, Eq)]
@@ -57,6 +58,20 @@ impl ResDescriptor {
         ensures small { result < 2 ^ 28 }
     {
         self.value
+    }
+}
+
+impl ResDescriptor {
+    ghost use Rattle.std.specs.Prelude.{◌≡◌, ◌++◌, OnOk};
+    ghost use Rattle.std.specs.Int.{to_le_bytes, w32};
+    ghost use Rattle.resb_format.specs.Descriptor.{word_of};
+
+    /// Appends the 4 bytes of the word. For want of memory a part of them may be there.
+    pub fn append_to(self, bytes: &mut Vec<u8>) -> Result<(), NoMemory>
+        ensures { OnOk result (bytes.new.items ≡ bytes.old.items ++ to_le_bytes w32 (word_of self)) }
+    {
+        bytes.extend_from_slice(&u32::from(self).to_le_bytes())?;
+        Ok(())
     }
 }
 

@@ -24,11 +24,16 @@ pub enum ErrorKind {
 }
 
 /// A refusal of reading. It prints as the description of its kind, `: ` and its message.
+/// Its lifetime is that of the message. It stands in the signatures of generic readers, since the
+/// checker covers no function whose signature names both a lifetime of a bound and `'static`.
 #[derive(Clone, Copy, Debug)]
-pub struct BinaryDeserializerError {
+pub struct ReadingError<'m> {
     kind: ErrorKind,
-    message: &'static str,
+    message: &'m str,
 }
+
+/// A refusal of reading, with a message that lives as long as the program.
+pub type BinaryDeserializerError = ReadingError<'static>;
 
 impl BinaryDeserializerError {
     /// The data is invalid.
@@ -81,6 +86,9 @@ impl BinaryDeserializerError {
         }
     }
 
+}
+
+impl<'m> ReadingError<'m> {
     /// What is wrong, in general.
     pub fn kind(&self) -> ErrorKind
         ensures { result ≡ kind_of self.now }
@@ -89,7 +97,7 @@ impl BinaryDeserializerError {
     }
 
     /// What is wrong, in particular.
-    pub fn message(&self) -> &'static str
+    pub fn message(&self) -> &'m str
         ensures { result.now ≡ message_of self.now }
     {
         self.message
@@ -103,7 +111,7 @@ impl BinaryDeserializerError {
     }
 }
 
-impl fmt::Display for BinaryDeserializerError {
+impl fmt::Display for ReadingError<'_> {
     ghost output = { λ e. Some (description_of (kind_of e) ++ codes ": " ++ message_of e) };
 
     fn fmt<W: fmt::Write>(&self, f: &mut fmt::Formatter<W>) -> fmt::Result {
@@ -119,28 +127,28 @@ impl fmt::Display for BinaryDeserializerError {
     }
 }
 
-impl Error for BinaryDeserializerError {}
+impl Error for ReadingError<'_> {}
 
-impl From<NoMemory> for BinaryDeserializerError {
+impl From<NoMemory> for ReadingError<'_> {
     ghost from_gives = { λ _ e. IsWantOfMemory e };
 
-    fn from(_: NoMemory) -> BinaryDeserializerError {
+    fn from(_: NoMemory) -> Self {
         BinaryDeserializerError::out_of_memory()
     }
 }
 
-impl From<AllocError> for BinaryDeserializerError {
+impl From<AllocError> for ReadingError<'_> {
     ghost from_gives = { λ _ e. IsWantOfMemory e };
 
-    fn from(_: AllocError) -> BinaryDeserializerError {
+    fn from(_: AllocError) -> Self {
         BinaryDeserializerError::out_of_memory()
     }
 }
 
-impl<T: Drop> From<AllocFailed<T>> for BinaryDeserializerError {
+impl<T: Drop> From<AllocFailed<T>> for ReadingError<'_> {
     ghost from_gives = { λ _ e. IsWantOfMemory e };
 
-    fn from(_: AllocFailed<T>) -> BinaryDeserializerError {
+    fn from(_: AllocFailed<T>) -> Self {
         BinaryDeserializerError::out_of_memory()
     }
 }

@@ -1,6 +1,6 @@
 //! The header of a file: its size, the magic word and the representation info.
 //! Where the header's size leads is not looked at here.
-ghost use Rattle.std.specs.Prelude.{◌≡◌, true, false, IfOk};
+ghost use Rattle.std.specs.Prelude.{◌≡◌, ◌++◌, true, false, IfOk, OnOk};
 ghost use Rattle.resb_format.specs.Head.{header_bytes};
 ghost use Rattle.resb_format.specs.HeadReading.{ReadsHeader};
 
@@ -59,10 +59,17 @@ impl BinHeader {
         ensures { IfOk result (λ bytes. bytes.items ≡ header_bytes self.now) }
     {
         let mut bytes = Vec::with_capacity(alloc, 24)?;
+        self.append_to(&mut bytes)?;
+        Ok(bytes)
+    }
+
+    /// Appends the 24 bytes of the header. For want of memory a part of them may be there.
+    pub fn append_to(&self, bytes: &mut Vec<u8>) -> Result<(), NoMemory>
+        ensures { OnOk result (bytes.new.items ≡ bytes.old.items ++ header_bytes self.now) }
+    {
         bytes.extend_from_slice(&self.size.to_le_bytes())?;
         bytes.extend_from_slice(&MAGIC)?;
-        self.repr_info.append_to(&mut bytes)?;
-        Ok(bytes)
+        self.repr_info.append_to(bytes)
     }
 }
 

@@ -37,7 +37,7 @@ pub struct BinIndex {
 }
 
 impl BinIndex {
-    ghost use Rattle.std.specs.Prelude.{◌≡◌, IfOk};
+    ghost use Rattle.std.specs.Prelude.{◌≡◌, ◌++◌, IfOk, OnOk};
     ghost use Rattle.resb_format.specs.Head.{index_bytes};
 
     /// The words of the index, up to 8, in little-endian order.
@@ -45,15 +45,23 @@ impl BinIndex {
         ensures { IfOk result (λ bytes. bytes.items ≡ index_bytes self.now) }
     {
         let mut bytes = Vec::with_capacity(alloc, 32)?;
-        append_word(&mut bytes, self.field_count)?;
-        append_word(&mut bytes, self.keys_end)?;
-        append_word(&mut bytes, self.resources_end)?;
-        append_word(&mut bytes, self.bundle_end)?;
-        append_word(&mut bytes, self.largest_table_entry_count)?;
-        append_field(&mut bytes, self.bundle_attributes)?;
-        append_field(&mut bytes, self.data_16_bit_end)?;
-        append_field(&mut bytes, self.pool_checksum)?;
+        self.append_to(&mut bytes)?;
         Ok(bytes)
+    }
+
+    /// Appends the words of the index, up to 8. For want of memory a part of them may be there.
+    pub fn append_to(&self, bytes: &mut Vec<u8>) -> Result<(), NoMemory>
+        ensures { OnOk result (bytes.new.items ≡ bytes.old.items ++ index_bytes self.now) }
+    {
+        append_word(bytes, self.field_count)?;
+        append_word(bytes, self.keys_end)?;
+        append_word(bytes, self.resources_end)?;
+        append_word(bytes, self.bundle_end)?;
+        append_word(bytes, self.largest_table_entry_count)?;
+        append_field(bytes, self.bundle_attributes)?;
+        append_field(bytes, self.data_16_bit_end)?;
+        append_field(bytes, self.pool_checksum)?;
+        Ok(())
     }
 }
 

@@ -2,17 +2,17 @@
 //! No loop here goes over a whole file: reading and writing are in the crates above.
 #![tactic(auto)]
 
-mod bytes;
+pub mod bytes;
 mod casts;
 mod charset;
-mod codec_laws;
 mod descriptor;
 mod endianness;
 mod error;
+mod file_parts;
 mod head;
 mod index;
 mod index_fields;
-mod laws;
+pub mod laws;
 mod repr_info;
 mod repr_type;
 mod units;
@@ -24,16 +24,12 @@ pub use casts::{
     cast_u32_to_i32_slice,
 };
 pub use charset::CharsetFamily;
-pub use codec_laws::{
-    bundle_file_passes, charset_survives, descriptor_survives, endianness_survives, header_passes,
-    header_survives, index_survives, type_survives, version_survives,
-};
 pub use descriptor::ResDescriptor;
 pub use endianness::Endianness;
-pub use error::{BinaryDeserializerError, ErrorKind};
+pub use error::{BinaryDeserializerError, ErrorKind, ReadingError};
+pub use file_parts::FileParts;
 pub use head::BinHeader;
 pub use index::BinIndex;
-pub use laws::{one_tree, reached_is_counted};
 pub use repr_info::BinReprInfo;
 pub use repr_type::ResourceReprType;
 pub use resb_tree::{Int28, Key, NoMemory, Resource, ResourceBundle, Table};

@@ -2,7 +2,7 @@
 //! Which formats and versions are read beyond these checks is decided by the reader.
 ghost use Rattle.std.specs.Prelude.{◌≡◌, ◌≤◌, ◌++◌, length, false, Some, None, MatchResult, OnOk, IfOk};
 ghost use Rattle.resb_format.specs.Head.{InfoAt, info_bytes};
-ghost use Rattle.resb_format.specs.HeadChecks.{info_checks, first_fault, fault_of};
+ghost use Rattle.resb_format.specs.HeadChecks.{info_checks, first_fault, refusal_of};
 ghost use Rattle.resb_format.specs.HeadReading.{ReadsInfo};
 
 use crate::bytes::{byte_at, four_at, unit_in};
@@ -37,6 +37,8 @@ pub struct BinReprInfo {
 }
 
 impl BinReprInfo {
+    ghost use Rattle.resb_format.specs.PartsReading.{ReadsSupport};
+
     /// The info in these bytes, in the order that it names. Only where `any_order` says so,
     /// that order may be another than the one of this crate, little-endian.
     pub(crate) fn read(
@@ -45,7 +47,7 @@ impl BinReprInfo {
     ) -> Result<BinReprInfo, BinaryDeserializerError>
         requires { 20 ≤ length bytes.now }
         ensures { let fault = first_fault (info_checks any_order bytes.now) in
-            MatchResult result (λ i. (fault ≡ None) × InfoAt i bytes.now) (λ e. fault ≡ Some (fault_of e)) }
+            MatchResult result (λ i. (fault ≡ None) × InfoAt i bytes.now) (λ e. fault ≡ Some (refusal_of e)) }
     {
         let endianness = Endianness::try_from(byte_at(bytes, 4))?;
         let is_big = endianness.is_big();
@@ -73,6 +75,29 @@ impl BinReprInfo {
         })
     }
 
+    /// Refuses what is not read: another family of character sets than ASCII, characters of
+    /// another size than 2 bytes, another version than 2.0.
+    pub(crate) fn check_support(&self) -> Result<(), BinaryDeserializerError>
+        ensures { ReadsSupport self.now result }
+    {
+        let CharsetFamily::Ascii = self.charset_family else {
+            return Err(BinaryDeserializerError::unsupported_format(
+                "bundle and system character set families do not match",
+            ));
+        };
+        if self.size_of_char != 2 {
+            return Err(BinaryDeserializerError::unsupported_format(
+                "characters of size other than 2 are not supported",
+            ));
+        }
+        let FormatVersion::V2_0 = self.format_version else {
+            return Err(BinaryDeserializerError::unsupported_format(
+                "format versions other than 2.0 are not supported at this time",
+            ));
+        };
+        Ok(())
+    }
+
     /// The 20 bytes of the info, in little-endian order whatever it names.
     pub fn to_bytes(&self, alloc: Global) -> Result<Vec<u8>, NoMemory>
         ensures { IfOk result (λ bytes. bytes.items ≡ info_bytes self.now) }
@@ -82,8 +107,8 @@ impl BinReprInfo {
         Ok(bytes)
     }
 
-    /// Appends the 20 bytes of the info.
-    pub(crate) fn append_to(&self, bytes: &mut Vec<u8>) -> Result<(), NoMemory>
+    /// Appends the 20 bytes of the info. For want of memory a part of them may be there.
+    pub fn append_to(&self, bytes: &mut Vec<u8>) -> Result<(), NoMemory>
         ensures { OnOk result (bytes.new.items ≡ bytes.old.items ++ info_bytes self.now) }
     {
         let version: [u8; 4] = self.format_version.into();

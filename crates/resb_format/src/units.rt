@@ -129,7 +129,7 @@ fn units_in(block: &[u8], from: usize, count: usize) -> Utf16View<'_>
 /// Up to 40 units need none, but a text with U+0000 has a marker at any length.
 pub fn marker_units(n: usize) -> usize
     requires { n ≤ 4294967295 }
-    ensures { result ≡ said.marker_len n }
+    ensures { result ≡ text_units.marker_len n }
 {
     match n {
         0..=40 => 0,

@@ -7,6 +7,10 @@ mod format_rows;
 #[cfg(test)]
 mod head_rows;
 #[cfg(test)]
+mod parts_rows;
+#[cfg(test)]
+mod pool_rows;
+#[cfg(test)]
 mod text_rows;
 #[cfg(test)]
 mod tree_rows;

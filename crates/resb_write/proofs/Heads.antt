@@ -95,11 +95,11 @@ module _ (root k b largest flag : ℕ) (keys us : List ℕ)
 
   -- the parts of the file
   abbrev pub parts : Parts
-  parts = record { body = body; keys = head ++ keys; block = us; root = root }
+  parts = record { body = body; keys = head ++ keys; block = us }
 
   pub parts_are : parts_of file ≡ parts
   unfolding parts_of
-  parts_are = λ i. record { body = body_is i; keys = keys_are i; block = block_is i; root = root_is i }
+  parts_are = λ i. record { body = body_is i; keys = keys_are i; block = block_is i }
 
   pub is_bundle_file : IsBundleFile file
   is_bundle_file = record {

@@ -6,7 +6,8 @@ use Rattle.std.specs.List.{flat_map}
 use Rattle.std.specs.Char.Escape.{encode_utf16}
 use Rattle.std.proofs.lemmas.Bool.{and_parts, not-true, leb-true, le-leb, lt-leb, ne_eqb}
 use Rattle.std.proofs.lemmas.List.{drop_at, get_or-append-add}
-use Rattle.resb_format.specs.Strings.{before_zero, string_from, string_at, text_of_units, text_at, if_utf8, key_at}
+use Rattle.std.proofs.lemmas.Bool.Decides.{nat_tests}
+use Rattle.resb_format.specs.Strings.{is_no_marker, before_zero, string_from, string_at, text_of_units, text_at, if_utf8, key_at}
 use Rattle.resb_format.specs.Units.{units, is_unmarked}
 use Rattle.resb_write.proofs.Zeros.{has_zero, before_zero-found}
 use Rattle.resb_write.proofs.Utf16.{text_of_units-units, has_zero-units, units-first}
@@ -22,13 +23,13 @@ cut (u ∷ us) rest (suc m) h =
 
 -- a first unit that is no marker
 unmarked_from : (block : List ℕ) (u first : ℕ) → (first ≤ 0xdbff) ⊎ (0xdfff < first) → string_from block u first ≡ before_zero (take 41 (drop u block))
-unmarked_from block u first (inl h) = let t : nat_le first 0xdbff ≡ true = le-leb first 0xdbff h in rw t
-unmarked_from block u first (inr h) =
-    let a : nat_le first 0xdbff ≡ false = lt-leb first 0xdbff (omega arith) in
-    let b : nat_le first 0xdfee ≡ false = lt-leb first 0xdfee (omega arith) in
-    let c : nat_le first 0xdffe ≡ false = lt-leb first 0xdffe (omega arith) in
-    let d : nat_eq first 0xdfff ≡ false = ne_eqb first 0xdfff (λ (e : first ≡ 0xdfff). omega arith) in
-    rw (a, b, c, d)
+unmarked_from block u first h =
+    let t : is_no_marker first ≡ true = no_marker first h in
+    rw t refl
+  where
+    no_marker : (n : ℕ) → (n ≤ 0xdbff) ⊎ (0xdfff < n) → is_no_marker n ≡ true
+    no_marker n (inl g) = grind (arith, nat_tests)
+    no_marker n (inr g) = grind (arith, nat_tests)
 
 pub string_at-found : (front us rest : List ℕ) → has_zero us ≡ false → length us ≤ 40 → (get_or (us ++ 0 ∷ rest) 0 0 ≤ 0xdbff) ⊎ (0xdfff < get_or (us ++ 0 ∷ rest) 0 0)
     → string_at (front ++ (us ++ 0 ∷ rest)) (length front) ≡ Some us

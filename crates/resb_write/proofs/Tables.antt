@@ -15,6 +15,7 @@ use Rattle.resb_format.specs.Units.{units}
 use Rattle.resb_format.specs.Strings.{text_at, key_at}
 use Rattle.resb_format.specs.Parts.{Parts}
 use Rattle.std.specs.Prelude.{Contains}
+use Rattle.resb_format.proofs.ContentLemmas.{table16_at-is}
 use Rattle.resb_format.specs.Content.{unit, leaf, pairs, content, placed, empty, paired, offsets_at, table16_at, Member, word, list}
 use Rattle.resb_format.specs.Denotes.{Den, den_pairs, den_unit, DenPairs, pairs_none, pairs_more}
 use Rattle.resb_format.specs.KeyBlock.{key_bytes, last_of, used}
@@ -61,7 +62,8 @@ table16_found p front ps offsets back e l =
     let b : part p.block (u + 1 + n) n ≡ Some offsets =
     ap (λ b. part b (u + 1 + n) n) g
     ∙ part_found ((front ++ n ∷ []) ++ ps) offsets back (u + 1 + n) n (omega (arith, length-append front (n ∷ []), length-append (front ++ n ∷ []) ps)) (sym l) in
-    ap (λ m. paired (part p.block (u + 1) m) (offsets_at p (u + 1 + m) m)) count
+    table16_at-is p u
+    ∙ ap (λ m. paired (part p.block (u + 1) m) (offsets_at p (u + 1 + m) m)) count
     ∙ (λ i. paired (a i) (option_map (map unit) (b i)))
 
 pub length-offsets_from : (u : ℕ) (es : List Pair) → length (offsets_from u es) ≡ length es

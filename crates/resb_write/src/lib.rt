@@ -6,13 +6,12 @@ mod entries;
 mod error;
 mod flat_table;
 mod key_block;
-mod laws;
+pub mod laws;
 mod limits;
 mod serializer;
 mod string_block;
 
 pub use error::BinarySerializerError;
-pub use laws::records_cost_least;
 pub use serializer::Serializer;
 
 #[cfg(test)]

@@ -19,7 +19,7 @@ loop-key-preserved c =
     let end : nows old ++ filter p (x ∷ rest) ≡ filter p xs = ap (λ l. nows old ++ filter p l) (sym e) ∙ c.loop-key.invariant in
     elim c.if-contains.branch [
       | then-contains+in_ok-push w ↦
-          (filter_keeps p old c.if-contains.used.items text rest x (ap (λ v. v.items) w.used-is ∙ w.in_ok-push.ensures.items) c.as_str-text.ensures (sym c.contains.ensures ∙ w.if-contains.true) ∙ end)
+          (filter_keeps p old c.if-contains.used.items text rest x (ap (λ v. v.items) w.used-is ∙ w.in_ok-push.ensures.items) c.as_str-text.ensures.value (sym c.contains.ensures ∙ w.if-contains.true) ∙ end)
       | else-contains w ↦
-          (filter_leaves p old c.if-contains.used.items text rest x (ap (λ v. v.items) w.used-is) c.as_str-text.ensures (sym c.contains.ensures ∙ w.if-contains.false) ∙ end)
+          (filter_leaves p old c.if-contains.used.items text rest x (ap (λ v. v.items) w.used-is) c.as_str-text.ensures.value (sym c.contains.ensures ∙ w.if-contains.false) ∙ end)
     ]

@@ -4,7 +4,7 @@ use Rattle.std.specs.Str.{bytes_eq}
 use Rattle.std.proofs.lemmas.List.{get_or-drop}
 use Rattle.std.proofs.lemmas.Slice.Eq.{bytes_eq-Decides}
 use Rattle.resb_format.specs.Codes.{endianness_number}
-use Rattle.resb_format.specs.HeadChecks.{unit_in, first_fault, info_checks, fault_of}
+use Rattle.resb_format.specs.HeadChecks.{unit_in, first_fault, info_checks, refusal_of}
 use Rattle.resb_format.specs.Head.{InfoAt}
 use Rattle.resb_format.proofs.HeadSteps.{negated, affirmed}
 use Rattle.resb_format.proofs.HeaderSteps.{Begun, short_header, magic_fails, info_fails, size_fails, header_holds}
@@ -27,8 +27,8 @@ returns-in_err-repr_info c =
       long = c.if-bytes-lt24.false;
       magic = affirmed c.ne.result (bytes_eq (slice_range bs 2 4) (0xda ∷ 0x27 ∷ [])) (c.ne.ensures ∙ ap (λ xs. not (bytes_eq xs (0xda ∷ 0x27 ∷ []))) c.two_at.ensures) c.if-ne.false;
     } in
-    let e : first_fault (info_checks c.args.any_order (drop 4 bs)) ≡ Some (fault_of c.in_err-repr_info.field-0.0) = ap (λ xs. first_fault (info_checks c.args.any_order xs)) (sym c.split_at.ensures.back) ∙ c.in_err-repr_info.ensures in
-    let h = info_fails c.args.any_order bs (fault_of c.in_err-repr_info.field-0.0) b e in
+    let e : first_fault (info_checks c.args.any_order (drop 4 bs)) ≡ Some (refusal_of c.in_err-repr_info.field-0.0) = ap (λ xs. first_fault (info_checks c.args.any_order xs)) (sym c.split_at.ensures.back) ∙ c.in_err-repr_info.ensures in
+    let h = info_fails c.args.any_order bs (refusal_of c.in_err-repr_info.field-0.0) b e in
     search (rules, h)
 
 pub returns-then-size-lt24 : goal.returns-then-size-lt24

@@ -1,0 +1,30 @@
+-- Parts of bytes, of units and of words, that lie inside or don't.
+use Rattle.std.proofs.Common.{ℕ, List, ◌≡◌, ◌+◌, ◌*◌, ◌/◌, ◌<◌, ◌≤◌, length, take, drop, Some, None, sym, ap, ◌∙◌, arith}
+use Rattle.std.specs.Prelude.{slice_get, slice_index}
+use Rattle.std.proofs.lemmas.Option.{slice_get-get_or, slice_get_past}
+use Rattle.resb_format.proofs.ContentLemmas.{part_in, part_past}
+use Rattle.resb_format.specs.Bytes.{units_of, words_of, part}
+use Rattle.resb_format.proofs.Spelled.{units_length, units_part, words_length, words_part}
+
+-- a number that lies inside, and one that doesn't
+pub there : (xs : List ℕ) (i : ℕ) → i < length xs → slice_get xs i ≡ Some (slice_index xs i)
+there xs i h = slice_get-get_or xs i 0 h
+
+pub not_there : (xs : List ℕ) (i : ℕ) → length xs ≤ i → slice_get xs i ≡ None
+not_there xs i h = slice_get_past xs i h
+
+pub words_inside : (bs : List ℕ) (i n : ℕ) → i + n ≤ length bs / 4
+    → part (words_of bs) i n ≡ Some (words_of (take (4 * n) (drop (4 * i) bs)))
+words_inside bs i n h =
+    part_in (words_of bs) i n (omega (arith, words_length bs)) ∙ ap Some (sym (words_part bs i n))
+
+pub words_outside : (bs : List ℕ) (i n : ℕ) → length bs / 4 < i + n → part (words_of bs) i n ≡ None
+words_outside bs i n h = part_past (words_of bs) i n (omega (arith, words_length bs))
+
+pub units_inside : (bs : List ℕ) (i n : ℕ) → i + n ≤ length bs / 2
+    → part (units_of bs) i n ≡ Some (units_of (take (2 * n) (drop (2 * i) bs)))
+units_inside bs i n h =
+    part_in (units_of bs) i n (omega (arith, units_length bs)) ∙ ap Some (sym (units_part bs i n))
+
+pub units_outside : (bs : List ℕ) (i n : ℕ) → length bs / 2 < i + n → part (units_of bs) i n ≡ None
+units_outside bs i n h = part_past (units_of bs) i n (omega (arith, units_length bs))

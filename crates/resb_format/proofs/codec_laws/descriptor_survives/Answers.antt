@@ -1,5 +1,0 @@
-use Rattle.resb_format.proofs.Survival.{descriptor_survives}
-use Rattle.resb_format.proofs.codec_laws.descriptor_survives.Goals as goal
-
-pub returns : goal.returns
-returns c = descriptor_survives

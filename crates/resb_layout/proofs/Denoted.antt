@@ -1,0 +1,268 @@
+-- What is laid out is denoted: member by member, and then by the content of its own word.
+use Rattle.std.proofs.Common.{zero, suc, ◌≡◌, ℕ, ◌+◌, ◌-◌, ◌*◌, ◌/◌, ◌%◌, ◌^◌, ◌<◌, ◌≤◌, List, [], ◌∷◌, ◌++◌, length, map, Option, Some, None, Bool, true, false, cond, ◌==◌, option_map, ◌&&◌, nat_le, refl, sym, ◌∙◌, ap, subst, arith}
+use Rattle.std.specs.Prelude.{All}
+use Rattle.std.specs.List.{zip, list_all}
+use Rattle.std.specs.List.Sorted.{IsStrictlySortedBy}
+use Rattle.std.specs.Map.{keys_of}
+use Rattle.std.proofs.lemmas.Bool.{and_parts, leb-true, ne_eqb}
+use Rattle.std.proofs.lemmas.List.{length-map}
+use Rattle.resb_tree.specs.Tree.{Tree, string, array, table, binary, integer, int_vector, Trees, no_trees, more_trees, Entries, no_entries, entry, trees_of, entries_of, map_of, tree_count, trees_count, entries_count}
+use Rattle.resb_tree.specs.Maps.{text_cmp, pairs_of}
+use Rattle.resb_tree.proofs.MapLemmas.{map_of-sorted, entries_of-pairs_of}
+use Rattle.resb_format.specs.Strings.{text_at, key_at}
+use Rattle.resb_format.specs.Parts.{Parts}
+use Rattle.resb_format.specs.Content.{Member, word, unit, Content, leaf, list, pairs, content, placed, empty}
+use Rattle.resb_format.specs.Denotes.{Den, den_leaf, den_list, den_pairs, DenMember, den_word, den_unit, DenEach, each_none as none_denoted, each_more as more_denoted, DenPairs, pairs_none, pairs_more}
+use Rattle.resb_layout.specs.Laid.{Given, State, here, more_units, to_data, words_body, table_body, wide_table_body, is_short_string, are_short, are_near, offsets_in, ClosesArray, short_array, long_array, ClosesTable, short_table, long_table, wide_table, keys_in, members_in, ArePlaced, Lays, lays_integer, lays_string, lays_no_bytes, lays_bytes, lays_no_numbers, lays_numbers, lays_no_items, lays_items, lays_no_entries, lays_entries, LaysEach, each_none, each_more}
+use Rattle.resb_layout.specs.Laws.{IsRead, StandsIn, LaidIsDenoted}
+use Rattle.resb_layout.proofs.Numbers.{EachBelow}
+use Rattle.resb_layout.proofs.Grows.{grows, grows_each, by_bytes, stood, units_stay}
+use Rattle.resb_layout.proofs.Contents.{array_found, vector_found, wide_found, table_found, binary_found, array16_found, table16_found, word_of_array, word_of_array16, word_of_table, word_of_table16, word_of_table32, word_of_binary, word_of_vector}
+
+abbrev list_of : Trees → List Tree
+list_of no_trees = []
+list_of (more_trees t ts) = t ∷ list_of ts
+
+trees_back : (ts : Trees) → trees_of (list_of ts) ≡ ts
+trees_back no_trees = refl
+trees_back (more_trees t ts) = ap (λ us. more_trees t us) (trees_back ts)
+
+each_below : (n : ℕ) (xs : List ℕ) → All (λ x. x < n) xs → EachBelow n xs
+each_below n [] h = tt
+each_below n (x ∷ xs) h = (h 0 0 (omega arith), each_below n xs (λ k d l. h (suc k) d (omega (arith, l))))
+
+near_below : (n : ℕ) (ps : List ℕ) → 65535 < n → list_all (λ p. nat_le p 65535) ps ≡ true → EachBelow n ps
+near_below n [] h e = tt
+near_below n (p ∷ ps) h e =
+    let both = and_parts _ _ e in
+    (omega (arith, h, leb-true p 65535 both.0), near_below n ps h both.1)
+
+array_word : {g : Given} {s : State} {ws : List ℕ} {e : State} {w : ℕ} → ClosesArray g s ws e w → (w < 2 ^ 32) × (0x6000_ffff < w)
+array_word (short_array k l) = (omega arith, omega arith)
+array_word (long_array at k e l n) = (omega arith, omega arith)
+
+table_word : {g : Given} {s : State} {ps ws : List ℕ} {e : State} {w : ℕ} → ClosesTable g s ps ws e w → (w < 2 ^ 32) × (w < 0x6000_0000)
+table_word (short_table n k l) = (omega arith, omega arith)
+table_word (long_table at n k e l) = (omega arith, omega arith)
+table_word (wide_table at n e l q r) = (omega arith, omega arith)
+
+-- a word has 32 bits
+word_small : {g : Given} {s e : State} {t : Tree} {w : ℕ} → Lays g s t e w → w < 2 ^ 32
+word_small (lays_integer h) = omega arith
+word_small (lays_string h l) = omega arith
+word_small lays_no_bytes = omega arith
+word_small (lays_bytes at some n e l) = omega arith
+word_small lays_no_numbers = omega arith
+word_small (lays_numbers at some n a e l) = omega arith
+word_small lays_no_items = omega arith
+word_small (lays_items h some c) = (array_word c).0
+word_small lays_no_entries = omega arith
+word_small (lays_entries ps p h some c) = (table_word c).0
+
+words_small : {g : Given} {s e : State} {ts : Trees} {ws : List ℕ} → LaysEach g s ts e ws → EachBelow (2 ^ 32) ws
+words_small each_none = tt
+words_small (each_more h k) = (word_small h, words_small k)
+
+-- members and words are as many
+words_many : {g : Given} {s e : State} {ts : Trees} {ws : List ℕ} → LaysEach g s ts e ws → length ws ≡ length (list_of ts)
+words_many each_none = refl
+words_many (each_more h k) = ap suc (words_many k)
+
+record IsShortString (g : Given) (t : Tree) (w : ℕ) : Type 0 where
+  text : List ℕ
+  is : t ≡ string text
+  offset : g.offset text ≡ Some (w - 0x6000_0000)
+
+some_offset : (o : Option ℕ) (k : ℕ) → o ≡ Some k → o ≡ Some (0x6000_0000 + k - 0x6000_0000)
+some_offset o k e = let f : k ≡ 0x6000_0000 + k - 0x6000_0000 = omega arith in e ∙ ap Some f
+
+-- a word in this range is a string's
+string_word : {g : Given} {s e : State} {t : Tree} {w : ℕ} → Lays g s t e w → 0x6000_0000 ≤ w → w ≤ 0x6000_ffff → IsShortString g t w
+string_word (lays_integer h) a b = absurd (omega arith)
+string_word {g = g} (lays_string {text = text} {k = k} h l) a b = record { text = text; is = refl; offset = some_offset (g.offset text) k h }
+string_word lays_no_bytes a b = absurd (omega arith)
+string_word (lays_bytes at some n e l) a b = absurd (omega arith)
+string_word lays_no_numbers a b = absurd (omega arith)
+string_word (lays_numbers at some n c e l) a b = absurd (omega arith)
+string_word lays_no_items a b = absurd (omega arith)
+string_word (lays_items h some c) a b = let far = (array_word c).1 in absurd (omega (arith, far))
+string_word lays_no_entries a b = absurd (omega arith)
+string_word (lays_entries ps p h some c) a b = let far = (table_word c).1 in absurd (omega (arith, far))
+
+module _ (p : Parts) (g : Given) (read : IsRead p g) where
+  short_member : {s e : State} {t : Tree} {w : ℕ} → Lays g s t e w → is_short_string w ≡ true → DenMember p (unit (w - 0x6000_0000)) t (tree_count t)
+  short_member {w = w} h e =
+      let both = and_parts _ _ e in
+      let i = string_word h (leb-true 0x6000_0000 w both.0) (leb-true w 0x6000_ffff both.1) in
+      subst (λ t. DenMember p (unit (w - 0x6000_0000)) t (tree_count t)) (sym i.is) (den_unit (read.texts i.text (w - 0x6000_0000) i.offset))
+
+  -- strings alone
+  short_each : {s e : State} {ts : Trees} {ws : List ℕ} → LaysEach g s ts e ws → list_all is_short_string ws ≡ true → DenEach p (map unit (offsets_in ws)) (list_of ts) (trees_count ts)
+  short_each each_none e = none_denoted
+  short_each (each_more h k) e = let both = and_parts _ _ e in more_denoted (short_member h both.0) (short_each k both.1)
+
+  none_keyed : (ms : List Member) (n : ℕ) → DenEach p ms [] n → DenPairs p (zip [] ms) [] n
+  none_keyed ms n none_denoted = pairs_none
+
+  -- the texts of the keys at these positions
+  keyed : (es : Entries) (ps : List ℕ) (ms : List Member) (n : ℕ) → map g.position (keys_in es) ≡ map Some ps → DenEach p ms (list_of (members_in es)) n → DenPairs p (zip ps ms) (pairs_of es) n
+  keyed no_entries [] ms n e d = none_keyed ms n d
+  keyed no_entries (q ∷ ps) ms n e d = absurd (let no : ⊥ = cc in no)
+  keyed (entry k t es) [] ms n e d = absurd (let no : ⊥ = cc in no)
+  keyed (entry k t es) (q ∷ ps) ms n e d =
+      let first : g.position k ≡ Some q = cc in
+      let rest : map g.position (keys_in es) ≡ map Some ps = cc in
+      behind (read.keys k q first) (λ ms j h. keyed es ps ms j rest h) ms n d
+    where
+      behind : key_at p.keys q ≡ Some k → ((ms : List Member) (j : ℕ) → DenEach p ms (list_of (members_in es)) j → DenPairs p (zip ps ms) (pairs_of es) j)
+          → (ms : List Member) (n : ℕ) → DenEach p ms (t ∷ list_of (members_in es)) n → DenPairs p (zip (q ∷ ps) ms) ((k, t) ∷ pairs_of es) n
+      behind key later ms n (more_denoted {k = k'} {ms = ms'} a b) = pairs_more key a (later ms' k' b)
+
+positions_many : (g : Given) (ks : List (List ℕ)) (ps : List ℕ) → map g.position ks ≡ map Some ps → length ks ≡ length ps
+positions_many g ks ps e = sym (length-map ks g.position) ∙ ap length e ∙ length-map ps Some
+
+none_placed : (g : Given) → ArePlaced g [] []
+unfolding IsStrictlySortedBy
+none_placed g = record { ascend = tt; positions = refl }
+
+members_many : (es : Entries) → length (keys_in es) ≡ length (list_of (members_in es))
+members_many no_entries = refl
+members_many (entry k t es) = ap suc (members_many es)
+
+pub members_count : (es : Entries) → trees_count (members_in es) ≡ entries_count es
+members_count no_entries = refl
+members_count (entry k t es) = ap (λ n. tree_count t + n) (members_count es)
+
+-- entries that ascend are their own map
+same_keys : (es : Entries) → keys_of (pairs_of es) ≡ keys_in es
+same_keys no_entries = refl
+same_keys (entry k t es) = ap (λ ks. k ∷ ks) (same_keys es)
+
+own_map : (es : Entries) → IsStrictlySortedBy text_cmp (keys_in es) → map_of (pairs_of es) ≡ es
+own_map es h = map_of-sorted (pairs_of es) (subst (IsStrictlySortedBy text_cmp) (sym (same_keys es)) h) ∙ entries_of-pairs_of es
+
+module _ (p : Parts) (g : Given) (read : IsRead p g) where
+  some_here : (s : State) (at : ℕ) → here g s ≡ 4 * at → 0 < at
+  some_here s at e = omega (arith, e, read.base)
+
+  some_filled : (n m at : ℕ) → 0 < n → n + m ≡ 4 * at → 0 < at
+  some_filled n m at h e = omega (arith, e, h)
+
+  one_more : (n : ℕ) → 1 + n ≡ n + 1
+  one_more n = omega arith
+
+  as_array : (w : ℕ) (ms : List Member) (ts : Trees) → content p w ≡ Some (list ms) → DenEach p ms (list_of ts) (trees_count ts) → Den p w (array ts) (trees_count ts + 1)
+  as_array w ms ts e d =
+      subst (λ us. Den p w (array us) (trees_count ts + 1)) (trees_back ts)
+      (subst (λ n. Den p w (array (trees_of (list_of ts))) n) (one_more (trees_count ts)) (den_list e d))
+
+  as_table : (w : ℕ) (ps : List ℕ) (ms : List Member) (es : Entries) → ArePlaced g (keys_in es) ps → content p w ≡ Some (pairs (zip ps ms)) → DenEach p ms (list_of (members_in es)) (trees_count (members_in es))
+      → Den p w (table es) (entries_count es + 1)
+  as_table w ps ms es placed e d =
+      let ds : DenPairs p (zip ps ms) (pairs_of es) (entries_count es) =
+        subst (λ n. DenPairs p (zip ps ms) (pairs_of es) n) (members_count es) (keyed p g read es ps ms (trees_count (members_in es)) placed.positions d) in
+      subst (λ fs. Den p w (table fs) (entries_count es + 1)) (own_map es placed.ascend)
+      (subst (λ n. Den p w (table (map_of (pairs_of es))) n) (one_more (entries_count es)) (den_pairs e ds))
+
+  abbrev to_data_of : State → ℕ
+  to_data_of s = to_data (here g s)
+
+  some_base : (s : State) → 0 < here g s
+  some_base s = omega (arith, read.base)
+
+  integer_word : (n : ℕ) → n < 2 ^ 28 → content p (0x7000_0000 + n) ≡ Some (leaf (integer n))
+  unfolding content
+  integer_word n h =
+      let e : (0x7000_0000 + n) / 2 ^ 28 ≡ 7 = omega arith in
+      let f : (0x7000_0000 + n) % 2 ^ 28 ≡ n = omega arith in
+      λ i. cond (e i == 7) (Some (leaf (integer (f i)))) (cond (f i == 0) (empty (e i)) (placed p (e i) (f i)))
+
+  no_bytes : content p 0x1000_0000 ≡ Some (leaf (binary []))
+  unfolding content
+  no_bytes = refl
+
+  no_numbers : content p 0xe000_0000 ≡ Some (leaf (int_vector []))
+  unfolding content
+  no_numbers = refl
+
+  no_items : content p 0x8000_0000 ≡ Some (list [])
+  unfolding content
+  no_items = refl
+
+  no_pairs : content p 0x2000_0000 ≡ Some (pairs [])
+  unfolding content
+  no_pairs = refl
+
+  -- the empty text alone stands at unit 0
+  string_leaf : (text : List ℕ) (k : ℕ) → g.offset text ≡ Some k → k < 2 ^ 28 → content p (0x6000_0000 + k) ≡ Some (leaf (string text))
+  unfolding content
+  string_leaf text zero h l = let same : Some text ≡ Some [] = sym (read.texts text 0 h) ∙ read.empty in let e : text ≡ [] = cc in ap (λ s. Some (leaf (string s))) (sym e)
+  string_leaf text (suc k) h l =
+      let e : (0x6000_0000 + suc k) / 2 ^ 28 ≡ 6 = omega arith in
+      let f : (0x6000_0000 + suc k) % 2 ^ 28 ≡ suc k = omega arith in
+      let z : (suc k == 0) ≡ false = ne_eqb (suc k) 0 (λ (q : suc k ≡ 0). omega (arith, q)) in
+      (λ i. cond (e i == 7) (Some (leaf (integer (f i)))) (cond (f i == 0) (empty (e i)) (placed p (e i) (f i))))
+      ∙ ap (λ c. cond c (empty 6) (placed p 6 (suc k))) z
+      ∙ ap (option_map (λ s. leaf (string s))) (read.texts text (suc k) h)
+
+  array_denoted : (s : State) (ts : Trees) (ws : List ℕ) (e : State) (w : ℕ) → 0 < length s.units → ClosesArray g s ws e w → StandsIn p g e → EachBelow (2 ^ 32) ws
+      → (StandsIn p g s → DenEach p (map word ws) (list_of ts) (trees_count ts))
+      → (list_all is_short_string ws ≡ true → DenEach p (map unit (offsets_in ws)) (list_of ts) (trees_count ts))
+      → Den p w (array ts) (trees_count ts + 1)
+  array_denoted s ts ws e w u (short_array h l) i small long short =
+      let both = and_parts _ _ h in
+      let os : List ℕ = offsets_in ws in
+      let n : length ws ≡ length os = sym (length-map ws (λ x. x - 0x6000_0000)) in
+      let j : StandsIn p g (more_units s (length os ∷ os)) = subst (λ k. StandsIn p g (more_units s (k ∷ os))) n i in
+      as_array (0x9000_0000 + length s.units) (map unit os) ts (word_of_array16 p (length s.units) u l ∙ array16_found p g s os j) (short both.1)
+  array_denoted s ts ws e w u (long_array at h f l n) i small long short =
+      as_array (0x8000_0000 + at) (map word ws) ts
+      (word_of_array p at (some_here s at f) l ∙ array_found p g s ws at f small n i)
+      (long (stood (by_bytes s (words_body ws)) i))
+
+  table_denoted : (s : State) (es : Entries) (ps ws : List ℕ) (e : State) (w : ℕ) → 0 < length s.units → ClosesTable g s ps ws e w → StandsIn p g e → ArePlaced g (keys_in es) ps → length ps ≡ length ws → EachBelow (2 ^ 32) ws
+      → (StandsIn p g s → DenEach p (map word ws) (list_of (members_in es)) (trees_count (members_in es)))
+      → (list_all is_short_string ws ≡ true → DenEach p (map unit (offsets_in ws)) (list_of (members_in es)) (trees_count (members_in es)))
+      → Den p w (table es) (entries_count es + 1)
+  table_denoted s es ps ws e w u (short_table near h l) i q same small long short =
+      let both = and_parts _ _ h in
+      let os : List ℕ = offsets_in ws in
+      let n : length ws ≡ length os = sym (length-map ws (λ x. x - 0x6000_0000)) in
+      let j : StandsIn p g (more_units s (length os ∷ (ps ++ os))) = subst (λ k. StandsIn p g (more_units s (k ∷ (ps ++ os)))) n i in
+      as_table (0x5000_0000 + length s.units) ps (map unit os) es q (word_of_table16 p (length s.units) u l ∙ table16_found p g s ps os (sym n ∙ sym same) j) (short both.1)
+  table_denoted s es ps ws e w u (long_table at near h f l) i q same small long short =
+      let both = and_parts _ _ near in
+      let few : length ps < 2 ^ 16 = omega (arith, leb-true (length ps) 65535 both.0) in
+      as_table (0x2000_0000 + at) ps (map word ws) es q
+      (word_of_table p at (some_here s at f) l ∙ table_found p g s ps ws at f (near_below (2 ^ 16) ps (omega arith) both.1) small few same i)
+      (long (stood (by_bytes s (table_body ps ws)) i))
+  table_denoted s es ps ws e w u (wide_table at near f l n a) i q same small long short =
+      as_table (0x4000_0000 + at) ps (map word ws) es q
+      (word_of_table32 p at (some_here s at f) l ∙ wide_found p g s ps ws at f (each_below (2 ^ 32) ps a) small n same i)
+      (long (stood (by_bytes s (wide_table_body ps ws)) i))
+
+  mutual
+    pub denoted : {s e : State} {t : Tree} {w : ℕ} → 0 < length s.units → Lays g s t e w → StandsIn p g e → Den p w t (tree_count t)
+    denoted u (lays_integer {n = n} h) i = den_leaf (integer_word n h)
+    denoted u (lays_string {text = text} {k = k} h l) i = den_leaf (string_leaf text k h l)
+    denoted u lays_no_bytes i = den_leaf no_bytes
+    denoted u (lays_bytes {s = s'} {bytes = bytes'} at some n e l) i =
+        let z : 0 < at = some_filled (here g s') (to_data_of s') at (some_base s') e in
+        den_leaf (word_of_binary p at z l ∙ binary_found p g s' bytes' at e n i)
+    denoted u lays_no_numbers i = den_leaf no_numbers
+    denoted u (lays_numbers {s = s'} {ns = ns'} at some n a e l) i =
+        den_leaf (word_of_vector p at (some_here s' at e) l ∙ vector_found p g s' ns' at e (each_below (2 ^ 32) ns' a) n i)
+    denoted u lays_no_items i = as_array 0x8000_0000 [] no_trees no_items none_denoted
+    denoted {e = e'} u (lays_items {s = s'} {mid = m'} {ts = ts'} {ws = ws'} {w = w'} h some c) i =
+        array_denoted m' ts' ws' e' w' (units_stay (grows_each h) u) c i (words_small h) (λ k. denoted_each u h k) (λ k. short_each p g read h k)
+    denoted u lays_no_entries i = as_table 0x2000_0000 [] [] no_entries (none_placed g) no_pairs none_denoted
+    denoted {e = e'} u (lays_entries {s = s'} {mid = m'} {es = es'} {ws = ws'} {w = w'} ps q h some c) i =
+        let same : length ps ≡ length ws' = sym (positions_many g (keys_in es') ps q.positions) ∙ members_many es' ∙ sym (words_many h) in
+        table_denoted m' es' ps ws' e' w' (units_stay (grows_each h) u) c i q same (words_small h) (λ k. denoted_each u h k) (λ k. short_each p g read h k)
+
+    denoted_each : {s e : State} {ts : Trees} {ws : List ℕ} → 0 < length s.units → LaysEach g s ts e ws → StandsIn p g e → DenEach p (map word ws) (list_of ts) (trees_count ts)
+    denoted_each u each_none i = none_denoted
+    denoted_each u (each_more h k) i = more_denoted (den_word (denoted u h (stood (grows_each k) i))) (denoted_each (units_stay (grows h) u) k i)
+
+pub laid_is_denoted : LaidIsDenoted
+laid_is_denoted p g before after t w read u h i = denoted p g read u h i

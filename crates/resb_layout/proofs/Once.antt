@@ -1,0 +1,80 @@
+-- A tree is laid out in one way.
+use Rattle.std.proofs.Common.{ℕ, List, [], ◌∷◌, ◌++◌, map, Some, Option, Bool, true, false, length, ◌≡◌, ◌<◌, ◌+◌, ◌*◌, refl, sym, ◌∙◌, ap, subst, arith}
+use Rattle.resb_tree.specs.Tree.{Tree, Trees, Entries, no_trees, more_trees, no_entries, entry}
+use Rattle.resb_layout.specs.Laid.{Given, State, here, more_units, more_bytes, offsets_in, words_body, table_body, wide_table_body, binary_body, to_data, ClosesArray, short_array, long_array, ClosesTable, short_table, long_table, wide_table, ArePlaced, members_in, Lays, lays_integer, lays_string, lays_no_bytes, lays_bytes, lays_no_numbers, lays_numbers, lays_no_items, lays_items, lays_no_entries, lays_entries, LaysEach, each_none, each_more}
+use Rattle.resb_layout.specs.Laws.{OneLayout}
+
+pub same_somes : (ps qs : List ℕ) → map Some ps ≡ map Some qs → ps ≡ qs
+same_somes [] [] e = refl
+same_somes [] (q ∷ qs) e = cc
+same_somes (p ∷ ps) [] e = cc
+same_somes (p ∷ ps) (q ∷ qs) e =
+    let h : p ≡ q = cc in
+    let t : map Some ps ≡ map Some qs = cc in
+    let r = same_somes ps qs t in
+    cc
+
+some_none : {g : Given} {s mid : State} {ws : List ℕ} → LaysEach g s no_trees mid ws → 0 < length ws → ⊥
+some_none each_none h = omega (arith, h)
+
+nothing : {n : ℕ} → 0 < n → n ≡ 0 → ⊥
+nothing h e = omega (arith, h, e)
+
+same_at : (n at at' : ℕ) → n ≡ 4 * at → n ≡ 4 * at' → at ≡ at'
+same_at n at at' a b = omega (arith, a, b)
+
+not_both : {A : Type 0} (b : Bool) → b ≡ true → b ≡ false → A
+not_both b t f = cc
+
+once_array : {g : Given} {s : State} {ws : List ℕ} {a b : State} {v w : ℕ} → ClosesArray g s ws a v → ClosesArray g s ws b w → (a ≡ b) × (v ≡ w)
+once_array (short_array h l) (short_array k m) = (refl, refl)
+once_array {ws = ws} (short_array h l) (long_array at k e m n) = not_both _ h k
+once_array (long_array at k e m n) (short_array h l) = not_both _ h k
+once_array {g = g} {s = s} (long_array at h e l n) (long_array at2 k f m o) = (refl, ap (λ i. 0x8000_0000 + i) (same_at (here g s) at at2 e f))
+
+once_table : {g : Given} {s : State} {ps ws : List ℕ} {a b : State} {v w : ℕ} → ClosesTable g s ps ws a v → ClosesTable g s ps ws b w → (a ≡ b) × (v ≡ w)
+once_table (short_table n h l) (short_table m k o) = (refl, refl)
+once_table (short_table n h l) (long_table at m k e o) = not_both _ h k
+once_table (short_table n h l) (wide_table at m e o q r) = not_both _ n m
+once_table (long_table at m k e o) (short_table n h l) = not_both _ h k
+once_table {g = g} {s = s} (long_table at n h e l) (long_table at2 m k f o) = (refl, ap (λ i. 0x2000_0000 + i) (same_at (here g s) at at2 e f))
+once_table (long_table at n h e l) (wide_table at2 m f o q r) = not_both _ n m
+once_table (wide_table at m e o q r) (short_table n h l) = not_both _ n m
+once_table (wide_table at2 m f o q r) (long_table at n h e l) = not_both _ n m
+once_table {g = g} {s = s} (wide_table at n e l q r) (wide_table at2 m f o t u) = (refl, ap (λ i. 0x4000_0000 + i) (same_at (here g s) at at2 e f))
+
+mutual
+  pub once : {g : Given} {s a b : State} {t : Tree} {v w : ℕ} → Lays g s t a v → Lays g s t b w → (a ≡ b) × (v ≡ w)
+  once (lays_integer h) (lays_integer k) = (refl, refl)
+  once (lays_string {k = m} h l) (lays_string {k = n} k o) = let e : m ≡ n = cc in (refl, ap (λ i. 0x6000_0000 + i) e)
+  once lays_no_bytes lays_no_bytes = (refl, refl)
+  once lays_no_bytes (lays_bytes at some n e l) = absurd (nothing some refl)
+  once (lays_bytes at some n e l) lays_no_bytes = absurd (nothing some refl)
+  once {g = g} {s = s} (lays_bytes at some n e l) (lays_bytes at2 some2 n2 f l2) = (refl, ap (λ i. 0x1000_0000 + i) (same_at (here g s + to_data (here g s)) at at2 e f))
+  once lays_no_numbers lays_no_numbers = (refl, refl)
+  once lays_no_numbers (lays_numbers at some n a e l) = absurd (nothing some refl)
+  once (lays_numbers at some n a e l) lays_no_numbers = absurd (nothing some refl)
+  once {g = g} {s = s} (lays_numbers at some n a e l) (lays_numbers at2 some2 n2 a2 f l2) = (refl, ap (λ i. 0xe000_0000 + i) (same_at (here g s) at at2 e f))
+  once lays_no_items lays_no_items = (refl, refl)
+  once lays_no_items (lays_items k some c) = absurd (some_none k some)
+  once (lays_items k some c) lays_no_items = absurd (some_none k some)
+  once {g = g} {b = b'} {w = w'} (lays_items {mid = m1} {ws = w1} h some c) (lays_items {mid = m2} {ws = w2} k some2 d) =
+      let r = once_each h k in
+      once_array c (subst (λ m. ClosesArray g m w1 b' w') (sym r.0) (subst (λ ws. ClosesArray g m2 ws b' w') (sym r.1) d))
+  once lays_no_entries lays_no_entries = (refl, refl)
+  once lays_no_entries (lays_entries ps p k some c) = absurd (some_none k some)
+  once (lays_entries ps p k some c) lays_no_entries = absurd (some_none k some)
+  once {g = g} {b = b'} {w = w'} (lays_entries {mid = m1} {ws = w1} ps p h some c) (lays_entries {mid = m2} {ws = w2} qs q k some2 d) =
+      let r = once_each h k in
+      let e : qs ≡ ps = same_somes qs ps (sym q.positions ∙ p.positions) in
+      once_table c (subst (λ rs. ClosesTable g m1 rs w1 b' w') e (subst (λ m. ClosesTable g m qs w1 b' w') (sym r.0) (subst (λ ws. ClosesTable g m2 qs ws b' w') (sym r.1) d)))
+
+  pub once_each : {g : Given} {s a b : State} {vs ws : List ℕ} {ts : Trees} → LaysEach g s ts a vs → LaysEach g s ts b ws → (a ≡ b) × (vs ≡ ws)
+  once_each each_none each_none = (refl, refl)
+  once_each {g = g} {b = b'} (each_more {w = v'} {ts = ts'} h k) (each_more {ws = ws'} {w = w'} h2 k2) =
+      let r = once h h2 in
+      let rest = once_each k (subst (λ m. LaysEach g m ts' b' ws') (sym r.0) k2) in
+      (rest.0, λ i. r.1 i ∷ rest.1 i)
+
+pub one_layout : OneLayout
+one_layout g s a b t v w h k = once h k

@@ -1,0 +1,48 @@
+-- Each resource of a laid tree but the root takes a unit or a word of its collection's body.
+use Rattle.std.proofs.Common.{zero, suc, ◌≡◌, ℕ, ◌+◌, ◌-◌, ◌*◌, ◌≤◌, List, [], ◌∷◌, ◌++◌, length, map, refl, sym, ◌∙◌, ap, subst, length-append, arith}
+use Rattle.std.specs.Int.{to_le_bytes, w16, w32}
+use Rattle.std.proofs.lemmas.List.{length-map}
+use Rattle.resb_tree.specs.Tree.{Tree, Trees, Entries, tree_count, trees_count, entries_count}
+use Rattle.resb_layout.specs.Laid.{Given, State, more_units, more_bytes, here, words, halves, pad, offsets_in, words_body, table_body, wide_table_body, binary_body, members_in, ClosesArray, short_array, long_array, ClosesTable, short_table, long_table, wide_table, Lays, lays_integer, lays_string, lays_no_bytes, lays_bytes, lays_no_numbers, lays_numbers, lays_no_items, lays_items, lays_no_entries, lays_entries, LaysEach, each_none, each_more}
+use Rattle.resb_layout.specs.Laws.{taken, LaidIsPaid}
+use Rattle.resb_layout.proofs.Numbers.{words_len, halves_len}
+use Rattle.resb_layout.proofs.Denoted.{members_count}
+
+bytes_taken : (s : State) (bs : List ℕ) → taken (more_bytes s bs) ≡ taken s + length bs
+bytes_taken s bs = omega (arith, length-append s.tail bs)
+
+units_taken : (s : State) (us : List ℕ) → taken (more_units s us) ≡ taken s + 2 * length us
+units_taken s us = omega (arith, length-append s.units us)
+
+-- a body has room for each member
+array_room : {g : Given} {s : State} {ws : List ℕ} {e : State} {w : ℕ} → ClosesArray g s ws e w → taken s + 2 * length ws ≤ taken e
+array_room {s = s} {ws = ws} (short_array h l) = omega (arith, units_taken s (length ws ∷ offsets_in ws), length-map ws (λ x. x - 0x6000_0000))
+array_room {s = s} {ws = ws} (long_array at h e l n) = omega (arith, bytes_taken s (words_body ws), words_len ws, length-append (to_le_bytes w32 (length ws)) (words ws))
+
+table_room : {g : Given} {s : State} {ps ws : List ℕ} {e : State} {w : ℕ} → ClosesTable g s ps ws e w → taken s + 2 * length ws ≤ taken e
+table_room {s = s} {ps = ps} {ws = ws} (short_table n h l) = omega (arith, units_taken s (length ws ∷ (ps ++ offsets_in ws)), length-append ps (offsets_in ws), length-map ws (λ x. x - 0x6000_0000))
+table_room {s = s} {ps = ps} {ws = ws} (long_table at n h e l) =
+    omega (arith, bytes_taken s (table_body ps ws), words_len ws, length-append (to_le_bytes w16 (length ps)) (halves ps ++ (pad (length ps) ++ words ws)),
+      length-append (halves ps) (pad (length ps) ++ words ws), length-append (pad (length ps)) (words ws))
+table_room {s = s} {ps = ps} {ws = ws} (wide_table at n e l q r) =
+    omega (arith, bytes_taken s (wide_table_body ps ws), words_len ws, length-append (to_le_bytes w32 (length ps)) (words ps ++ words ws), length-append (words ps) (words ws))
+
+mutual
+  pub paid : {g : Given} {s e : State} {t : Tree} {w : ℕ} → Lays g s t e w → taken s + 2 * tree_count t ≤ taken e + 2
+  paid (lays_integer h) = omega arith
+  paid (lays_string h l) = omega arith
+  paid lays_no_bytes = omega arith
+  paid {g = g} (lays_bytes {s = s'} {bytes = b'} at some n e l) = omega (arith, bytes_taken s' (binary_body (here g s') b'))
+  paid lays_no_numbers = omega arith
+  paid (lays_numbers {s = s'} {ns = n'} at some n a e l) = omega (arith, bytes_taken s' (words_body n'))
+  paid lays_no_items = omega arith
+  paid (lays_items h some c) = let each = paid_each h in let room = array_room c in omega (arith, each, room)
+  paid lays_no_entries = omega arith
+  paid (lays_entries {es = es'} ps p h some c) = let each = paid_each h in let room = table_room c in omega (arith, each, room, members_count es')
+
+  paid_each : {g : Given} {s e : State} {ts : Trees} {ws : List ℕ} → LaysEach g s ts e ws → taken s + 2 * trees_count ts ≤ taken e + 2 * length ws
+  paid_each each_none = omega arith
+  paid_each (each_more h k) = let first = paid h in let rest = paid_each k in omega (arith, first, rest)
+
+pub laid_is_paid : LaidIsPaid
+laid_is_paid g before after t w h = paid h

@@ -1,0 +1,143 @@
+-- How a tree is laid out behind the pool of its strings. Short bodies stand in the 16-bit block, all
+-- others in the tail behind it, a member's body before its collection's. (ICU's `uresdata.h`.)
+--     Lays g before t after w         from where before stands, the tree t takes what after has more,
+--                                     and its word is w
+--     LaysEach g before ts after ws   the same of trees in a row
+use Rattle.std.specs.Prelude.{◌≡◌, ℕ, ◌+◌, ◌-◌, ◌*◌, ◌^◌, ◌<◌, ◌≤◌, ◌%◌, List, [], ◌∷◌, ◌++◌, length, map, replicate, All, Option, Some, Bool, true, false, ◌&&◌, nat_le, nat_eq, if◌then◌else◌}
+use Rattle.std.specs.List.{flat_map, list_all}
+use Rattle.std.specs.List.Sorted.{IsStrictlySortedBy}
+use Rattle.std.specs.Int.{to_le_bytes, w16, w32}
+use Rattle.resb_tree.specs.Tree.{Tree, string, array, table, binary, integer, int_vector, Trees, no_trees, more_trees, Entries, no_entries, entry}
+use Rattle.resb_tree.specs.Maps.{text_cmp}
+
+-- Positions of keys are in bytes of the body, offsets of strings in units of the 16-bit block. The tail
+-- begins so many bytes into the body.
+pub record Given : Type 0 where
+  pub position : List ℕ → Option ℕ
+  pub offset : List ℕ → Option ℕ
+  pub base : ℕ
+
+-- what stands so far: the units of the 16-bit block, and the bytes of the tail
+pub record State : Type 0 where
+  pub units : List ℕ
+  pub tail : List ℕ
+
+-- the next byte of the body behind the tail
+abbrev pub here : Given → State → ℕ
+here g s = g.base + length s.tail
+
+abbrev pub more_units : State → List ℕ → State
+more_units s us = record { units = s.units ++ us; tail = s.tail }
+
+abbrev pub more_bytes : State → List ℕ → State
+more_bytes s bs = record { units = s.units; tail = s.tail ++ bs }
+
+abbrev pub words : List ℕ → List ℕ
+words ws = flat_map (to_le_bytes w32) ws
+
+abbrev pub halves : List ℕ → List ℕ
+halves us = flat_map (to_le_bytes w16) us
+
+abbrev pub fill : ℕ → List ℕ
+fill n = replicate n 0xaa
+
+-- from n bytes to the next word
+abbrev pub to_word : ℕ → ℕ
+to_word n = (4 - n % 4) % 4
+
+-- from byte n to the next one behind which four bytes end at a multiple of 16
+abbrev pub to_data : ℕ → ℕ
+to_data n = (28 - n % 16) % 16
+
+-- u32 n, n bytes, so that these begin at a multiple of 16, up to a word
+abbrev pub binary_body : ℕ → List ℕ → List ℕ
+binary_body at bytes =
+    fill (to_data at) ++ (to_le_bytes w32 (length bytes) ++ (bytes ++ fill (to_word (length bytes))))
+
+-- u32 n, n words: numbers, or descriptors
+abbrev pub words_body : List ℕ → List ℕ
+words_body ws = to_le_bytes w32 (length ws) ++ words ws
+
+-- a unit 0xaaaa behind an even number of positions, so that words follow
+abbrev pub pad : ℕ → List ℕ
+pad n = if nat_eq (n % 2) 0 then 0xaa ∷ 0xaa ∷ [] else []
+
+-- u16 n, n positions, padding, n descriptors
+abbrev pub table_body : List ℕ → List ℕ → List ℕ
+table_body ps ws = to_le_bytes w16 (length ps) ++ (halves ps ++ (pad (length ps) ++ words ws))
+
+-- u32 n, n positions, n descriptors
+abbrev pub wide_table_body : List ℕ → List ℕ → List ℕ
+wide_table_body ps ws = to_le_bytes w32 (length ps) ++ (words ps ++ words ws)
+
+-- the word of a string at an offset that a unit can hold
+abbrev pub is_short_string : ℕ → Bool
+is_short_string w = nat_le 0x6000_0000 w && nat_le w 0x6000_ffff
+
+-- strings alone, as many as a unit can count
+abbrev pub are_short : List ℕ → Bool
+are_short ws = nat_le (length ws) 65535 && list_all is_short_string ws
+
+-- positions that a unit can hold, as many as a unit can count
+abbrev pub are_near : List ℕ → Bool
+are_near ps = nat_le (length ps) 65535 && list_all (λ p. nat_le p 65535) ps
+
+abbrev pub offsets_in : List ℕ → List ℕ
+offsets_in ws = map (λ w. w - 0x6000_0000) ws
+
+-- behind its members, whose words are ws: an array's further units or bytes, and its word
+pub data ClosesArray (g : Given) (s : State) (ws : List ℕ) : State → ℕ → Type 0 where
+  short_array : are_short ws ≡ true → length s.units < 2 ^ 28
+      → ClosesArray g s ws (more_units s (length ws ∷ offsets_in ws)) (0x9000_0000 + length s.units)
+  long_array : (at : ℕ) → are_short ws ≡ false → here g s ≡ 4 * at → at < 2 ^ 28 → length ws < 2 ^ 32
+      → ClosesArray g s ws (more_bytes s (words_body ws)) (0x8000_0000 + at)
+
+-- a table's, whose keys have the positions ps
+pub data ClosesTable (g : Given) (s : State) (ps ws : List ℕ) : State → ℕ → Type 0 where
+  short_table : are_near ps ≡ true → are_short ws ≡ true → length s.units < 2 ^ 28
+      → ClosesTable g s ps ws (more_units s (length ws ∷ (ps ++ offsets_in ws))) (0x5000_0000 + length s.units)
+  long_table : (at : ℕ) → are_near ps ≡ true → are_short ws ≡ false → here g s ≡ 4 * at → at < 2 ^ 28
+      → ClosesTable g s ps ws (more_bytes s (table_body ps ws)) (0x2000_0000 + at)
+  wide_table : (at : ℕ) → are_near ps ≡ false → here g s ≡ 4 * at → at < 2 ^ 28
+      → length ps < 2 ^ 32 → All (λ p. p < 2 ^ 32) ps
+      → ClosesTable g s ps ws (more_bytes s (wide_table_body ps ws)) (0x4000_0000 + at)
+
+abbrev pub keys_in : Entries → List (List ℕ)
+keys_in no_entries = []
+keys_in (entry k t es) = k ∷ keys_in es
+
+abbrev pub members_in : Entries → Trees
+members_in no_entries = no_trees
+members_in (entry k t es) = more_trees t (members_in es)
+
+-- the keys strictly ascend by their bytes, and have these positions
+pub record ArePlaced (g : Given) (ks : List (List ℕ)) (ps : List ℕ) : Type 0 where
+  pub ascend : IsStrictlySortedBy text_cmp ks
+  pub positions : map g.position ks ≡ map Some ps
+
+mutual
+  -- an empty collection, binary or vector is its type with value 0
+  pub data Lays (g : Given) : State → Tree → State → ℕ → Type 0 where
+    lays_integer : {s : State} {n : ℕ} → n < 2 ^ 28 → Lays g s (integer n) s (0x7000_0000 + n)
+    lays_string : {s : State} {text : List ℕ} {k : ℕ} → g.offset text ≡ Some k → k < 2 ^ 28
+        → Lays g s (string text) s (0x6000_0000 + k)
+    lays_no_bytes : {s : State} → Lays g s (binary []) s 0x1000_0000
+    lays_bytes : {s : State} {bytes : List ℕ} (at : ℕ) → 0 < length bytes → length bytes < 2 ^ 32
+        → here g s + to_data (here g s) ≡ 4 * at → at < 2 ^ 28
+        → Lays g s (binary bytes) (more_bytes s (binary_body (here g s) bytes)) (0x1000_0000 + at)
+    lays_no_numbers : {s : State} → Lays g s (int_vector []) s 0xe000_0000
+    lays_numbers : {s : State} {ns : List ℕ} (at : ℕ) → 0 < length ns → length ns < 2 ^ 32
+        → All (λ n. n < 2 ^ 32) ns → here g s ≡ 4 * at → at < 2 ^ 28
+        → Lays g s (int_vector ns) (more_bytes s (words_body ns)) (0xe000_0000 + at)
+    lays_no_items : {s : State} → Lays g s (array no_trees) s 0x8000_0000
+    lays_items : {s mid end : State} {ts : Trees} {ws : List ℕ} {w : ℕ} → LaysEach g s ts mid ws
+        → 0 < length ws → ClosesArray g mid ws end w → Lays g s (array ts) end w
+    lays_no_entries : {s : State} → Lays g s (table no_entries) s 0x2000_0000
+    lays_entries : {s mid end : State} {es : Entries} {ws : List ℕ} {w : ℕ} (ps : List ℕ)
+        → ArePlaced g (keys_in es) ps → LaysEach g s (members_in es) mid ws → 0 < length ws
+        → ClosesTable g mid ps ws end w → Lays g s (table es) end w
+
+  pub data LaysEach (g : Given) : State → Trees → State → List ℕ → Type 0 where
+    each_none : {s : State} → LaysEach g s no_trees s []
+    each_more : {s mid end : State} {ws : List ℕ} {w : ℕ} {t : Tree} {ts : Trees}
+        → Lays g s t mid w → LaysEach g mid ts end ws → LaysEach g s (more_trees t ts) end (w ∷ ws)

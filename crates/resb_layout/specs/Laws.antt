@@ -1,0 +1,46 @@
+-- What the laws of layouts say.
+--     OneLayout               from a state a tree has one end and one word
+--     LaidIsDenoted           in a file whose blocks hold what was laid, its word denotes the tree
+--     LaidIsPaid              what was laid has two bytes for each resource but the root
+use Rattle.std.specs.Prelude.{◌≡◌, ℕ, ◌+◌, ◌*◌, ◌%◌, ◌<◌, ◌≤◌, List, [], ◌++◌, length, Some}
+use Rattle.resb_tree.specs.Tree.{Tree, tree_count}
+use Rattle.resb_format.specs.Strings.{text_at, key_at}
+use Rattle.resb_format.specs.Parts.{Parts}
+use Rattle.resb_format.specs.Denotes.{Den}
+use Rattle.resb_layout.specs.Laid.{Given, State, Lays}
+
+abbrev pub OneLayout : Type 0
+OneLayout = (g : Given) (s a b : State) (t : Tree) (v w : ℕ) → Lays g s t a v → Lays g s t b w → (a ≡ b) × (v ≡ w)
+
+-- the blocks read back what is given: each key at its position, each string at its offset
+pub record IsRead (p : Parts) (g : Given) : Type 0 where
+  pub keys : (k : List ℕ) (at : ℕ) → g.position k ≡ Some at → key_at p.keys at ≡ Some k
+  pub texts : (s : List ℕ) (k : ℕ) → g.offset s ≡ Some k → text_at p.block k ≡ Some s
+  pub empty : text_at p.block 0 ≡ Some []
+  pub base : 0 < g.base
+  pub aligned : g.base % 4 ≡ 0
+
+-- the state stands in the parts, whatever follows it
+pub record StandsIn (p : Parts) (g : Given) (s : State) : Type 0 where
+  pub front : List ℕ
+  pub units_behind : List ℕ
+  pub bytes_behind : List ℕ
+  pub front_is : length front ≡ g.base
+  pub block_is : p.block ≡ s.units ++ units_behind
+  pub body_is : p.body ≡ front ++ (s.tail ++ bytes_behind)
+
+abbrev pub LaidIsDenoted : Type 0
+LaidIsDenoted =
+    (p : Parts) (g : Given) (before after : State) (t : Tree) (w : ℕ) → IsRead p g
+    → 0 < length before.units → Lays g before t after w → StandsIn p g after
+    → Den p w t (tree_count t)
+
+-- the bytes of what stands
+abbrev pub taken : State → ℕ
+taken s = 2 * length s.units + length s.tail
+
+-- two bytes for each resource but the root
+abbrev pub LaidIsPaid : Type 0
+LaidIsPaid =
+    (g : Given) (before after : State) (t : Tree) (w : ℕ) → Lays g before t after w
+    → taken before + 2 * tree_count t ≤ taken after + 2

@@ -1,0 +1,10 @@
+use Rattle.std.proofs.Common.{◌-◌, ◌^◌, length}
+use Rattle.resb_pool.specs.Inner.Nodes.{suffix}
+use Rattle.resb_pool.proofs.Best.{IsBest}
+use Rattle.resb_pool.proofs.walk.greatest_below.Given as goal
+
+abbrev pub invariant-loop-from : goal.invariant-loop-from
+invariant-loop-from l = IsBest l.nodes.items l.from l.at
+
+abbrev pub decreases-loop-from : goal.decreases-loop-from
+decreases-loop-from l = 2 ^ 64 - length (suffix l.nodes.items l.at)

@@ -1,0 +1,17 @@
+-- Why a file isn't written.
+--     message_of f            the text that it prints as
+use Rattle.std.specs.Prelude.{ℕ, List, ◌++◌, codes}
+use Rattle.std.specs.Fmt.{decimal}
+
+pub data Fault : Type 0 where
+  -- a string of so many 16-bit units
+  string_too_long : ℕ → Fault
+  unexpected : List ℕ → Fault
+  limit : List ℕ → Fault
+  out_of_memory : Fault
+
+abbrev pub message_of : Fault → List ℕ
+message_of (string_too_long n) = codes "Cannot serialize string of length " ++ (decimal n ++ codes ", maximum is 4,294,967,295 characters")
+message_of (unexpected message) = codes "Unexpected error: " ++ message
+message_of (limit message) = codes "Limit exceeded: " ++ message
+message_of out_of_memory = codes "Out of memory: while writing"

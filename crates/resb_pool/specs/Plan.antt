@@ -1,0 +1,50 @@
+-- What a plan is, and why strings aren't planned.
+--     plan_units p            its units: unit 0 and the records
+--     offset_of p s           where the text s stands, if it was given
+--     IsPlan S us offset      these are the units and offsets of the strings S
+--     NotPlanned S f          the fault f is the answer for the strings S
+use Rattle.std.specs.Prelude.{◌≡◌, ℕ, ◌+◌, ◌^◌, ◌≤◌, List, [], ◌∷◌, length, Option, Some, None, MatchOption, All, Contains, nat_le, sum_by, map, codes, if◌then◌else◌}
+use Rattle.std.specs.Borrow.{Bor}
+use Rattle.std.specs.Str.{bytes_eq, IsUtf8}
+use Rattle.indexmap.specs.IndexMap.{IndexMap, get_by}
+use Rattle.resb_format.specs.Units.{units}
+use Rattle.resb_pool.specs.Fault.{Fault, string_too_long, limit, out_of_memory}
+use Rattle.resb_pool.specs.Pool.{IsPool, Off}
+use Rattle.resb_pool.specs.declared.offsets.Plan.{Plan}
+
+abbrev pub nows : List (Bor (List ℕ)) → List (List ℕ)
+nows xs = map (λ x. x.now) xs
+
+-- what a map has at the text q
+abbrev pub at_text : {V H : Type 0} → IndexMap (Bor (List ℕ)) V H → List ℕ → Option V
+at_text m q = get_by (λ k. bytes_eq q k.now) m
+
+abbrev pub plan_units : Plan → List ℕ
+plan_units p = p.units.items
+
+abbrev pub offset_of : Plan → List ℕ → Option ℕ
+offset_of p s = at_text p.offsets s
+
+pub record IsPlan (S : List (List ℕ)) (us : List ℕ) (offset : List ℕ → Option ℕ) : Type 0 where
+  pub texts : All IsUtf8 S
+  -- none is too long
+  pub short : All (λ s. length (units s) ≤ 4294967295) S
+  pub room : length us ≤ 2 ^ 28
+  pub records : List (List ℕ)
+  pub pool : IsPool S records us
+  -- a text has an offset exactly where it was given
+  pub offsets : (s : List ℕ) → MatchOption (offset s) (Contains S s → ⊥) (λ k. Contains S s × Off S records s k)
+
+-- the number of units of the first text of more than 4294967295
+abbrev pub first_too_long : List (List ℕ) → Option ℕ
+first_too_long [] = None
+first_too_long (s ∷ ss) = if nat_le (length (units s)) 4294967295 then first_too_long ss else Some (length (units s))
+
+-- 16 for each text and its units, as often as it is given
+abbrev pub texts_size : List (List ℕ) → ℕ
+texts_size ss = sum_by (λ s. 16 + length (units s)) ss
+
+pub data NotPlanned (S : List (List ℕ)) : Fault → Type 0 where
+  no_memory : NotPlanned S out_of_memory
+  too_long : {n : ℕ} → first_too_long S ≡ Some n → NotPlanned S (string_too_long n)
+  too_large : first_too_long S ≡ None → 2 ^ 28 ≤ texts_size S → NotPlanned S (limit (codes "file too large"))

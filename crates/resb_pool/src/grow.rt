@@ -1,0 +1,97 @@
+//! How a text is put into the trie: down its path, and a new leaf or a node between at its end.
+//! A step that is refused for want of memory leaves the set of texts as it was.
+ghost use Rattle.std.specs.Prelude.{◌≡◌, ℕ, ◌+◌, ◌<◌, List, [], ◌∷◌, ◌++◌, length, drop, Option, Some, None, OnOk, OnErr, IfOk};
+ghost use Rattle.resb_pool.specs.Inner.Extends.{Extends};
+ghost use Rattle.resb_pool.specs.Inner.Nodes.{path, child, ends, suffix, IsTrie};
+ghost use Rattle.resb_pool.specs.Inner.Changes.{IsKept, IsAdded};
+ghost use Rattle.resb_pool.specs.Inner.Cuts.{key, IsCut};
+
+use crate::node::{Node, child_of, pop_node, push_node, set_child, set_end, suffix_of};
+use crate::text::{back_of, front_of, split_last, strip_shared};
+use std::alloc::{AllocError, Global};
+
+/// Adds a text below node `at`, which has no child by the text's next character, `first`.
+fn add_leaf<'a>(
+    alloc: Global,
+    nodes: &mut Vec<Node<'a>>,
+    at: usize,
+    first: char,
+    text: &'a str,
+) -> Result<(), AllocError>
+    requires trie { IsTrie nodes.old.items }
+    requires at { at < length nodes.old.items }
+    requires free { child nodes.old.items at first ≡ None }
+    requires below { Extends (key text.now) (path nodes.old.items at ++ first ∷ []) }
+    ensures ok { OnOk result (IsTrie nodes.new.items × IsAdded nodes.old.items nodes.new.items text.now) }
+    ensures err { OnErr result (IsTrie nodes.new.items × IsKept nodes.old.items nodes.new.items) }
+{
+    let leaf = nodes.len();
+    push_node(alloc, nodes, text, true)?;
+    if let Err(error) = set_child(nodes, at, first, leaf) {
+        pop_node(nodes);
+        return Err(error);
+    }
+    Ok(())
+}
+
+/// Adds a node without a text between node `at` and its child `below` by `first`. What `below` has before it is `front`,
+/// whose last character is `next`.
+fn split<'a>(
+    alloc: Global,
+    nodes: &mut Vec<Node<'a>>,
+    at: usize,
+    first: char,
+    below: usize,
+    front: &str,
+    next: char,
+) -> Result<usize, AllocError>
+    requires trie { IsTrie nodes.old.items }
+    requires at { at < length nodes.old.items }
+    requires child { child nodes.old.items at first ≡ Some below }
+    requires cut { IsCut (suffix nodes.old.items below) front.now (drop (length front.now) (suffix nodes.old.items below)) }
+    requires on { Extends (key (drop (length front.now) (suffix nodes.old.items below))) (path nodes.old.items at ++ first ∷ []) }
+    requires next { Extends (path nodes.old.items below) (key (drop (length front.now) (suffix nodes.old.items below)) ++ next ∷ []) }
+    ensures ok { OnOk result (IsTrie nodes.new.items × IsKept nodes.old.items nodes.new.items) }
+    ensures place { IfOk result (λ m. (m < length nodes.new.items) × (suffix nodes.new.items m ≡ drop (length front.now) (suffix nodes.old.items below))) }
+    ensures err { OnErr result (IsTrie nodes.new.items × IsKept nodes.old.items nodes.new.items) }
+{
+    let shared = back_of(suffix_of(nodes, below), front.len());
+    let middle = nodes.len();
+    push_node(alloc, nodes, shared, false)?;
+    if let Err(error) = set_child(nodes, middle, next, below) {
+        pop_node(nodes);
+        return Err(error);
+    }
+    set_child(nodes, at, first, middle)?;
+    Ok(middle)
+}
+
+/// Adds a text.
+pub(crate) fn put_in<'a>(
+    alloc: Global,
+    nodes: &mut Vec<Node<'a>>,
+    text: &'a str,
+) -> Result<(), AllocError>
+    requires { IsTrie nodes.old.items }
+    ensures ok { OnOk result (IsTrie nodes.new.items × IsAdded nodes.old.items nodes.new.items text.now) }
+    ensures err { OnErr result (IsTrie nodes.new.items × IsKept nodes.old.items nodes.new.items) }
+{
+    let mut at = 0;
+    let mut rest = text;
+    while let Some((before, first)) = split_last(rest) {
+        let Some(below) = child_of(nodes, at, first) else {
+            return add_leaf(alloc, nodes, at, first, text);
+        };
+        let suffix = suffix_of(nodes, below);
+        let shared = text.len() - before.len();
+        let label = front_of(suffix, suffix.len() - shared);
+        let (rest_left, label_left) = strip_shared(before, label);
+        at = match split_last(label_left) {
+            None => below,
+            Some((_, next)) => split(alloc, nodes, at, first, below, label_left, next)?,
+        };
+        rest = rest_left;
+    }
+    set_end(nodes, at);
+    Ok(())
+}

@@ -1,0 +1,14 @@
+//! Laws of the definitions, each the contract of a call that does nothing.
+ghost use Rattle.resb_pool.specs.Laws.{PoolIsRead};
+ghost use Rattle.resb_pool.specs.Records.{RecordsCostLeast};
+
+/// Whatever records could hold the strings of a tree, those that the format's rule gives take no
+/// more 16-bit units.
+pub fn records_cost_least()
+    ensures { RecordsCostLeast }
+{}
+
+/// Each text that was planned is read back where it stands, whatever follows the pool's units.
+pub fn pool_is_read()
+    ensures { PoolIsRead }
+{}

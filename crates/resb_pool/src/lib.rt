@@ -1,0 +1,19 @@
+//! Plans the strings of a bundle: which get a record in the 16-bit block, and where each text lies.
+//! Nothing here knows of trees, keys or files.
+#![tactic(auto)]
+
+mod error;
+mod grow;
+pub mod laws;
+mod measure;
+mod node;
+mod offsets;
+mod places;
+pub mod pool;
+mod records;
+mod suffix_trie;
+mod text;
+mod walk;
+
+pub use error::BinarySerializerError;
+pub use offsets::Plan;

@@ -1,0 +1,86 @@
+//! How long texts are, in 16-bit units, and whether strings are too long or too many to plan.
+//! Which texts get a record is not said here.
+ghost use Rattle.std.specs.Prelude.{◌≡◌, ◌+◌, ◌<◌, ◌≤◌, ◌^◌, None, MatchOption, length, nat_le, OnOk, IfErr};
+ghost use Rattle.resb_format.specs.Units.{units, size};
+ghost use Rattle.resb_pool.specs.FaultOf.{fault_of};
+ghost use Rattle.resb_pool.specs.Plan.{nows, first_too_long, texts_size, NotPlanned};
+
+use crate::error::BinarySerializerError;
+use resb_format::marker_units;
+
+/// The most units of a string, which its marker can say.
+const LONGEST: usize = 4_294_967_295;
+
+/// The most units of a string without a marker.
+const MAX_UNMARKED: usize = 40;
+
+/// From this size of the strings on they are not planned.
+const SIZE_LIMIT: usize = 0x1000_0000;
+
+/// The number of 16-bit units of a text.
+pub(crate) fn utf16_len(text: &str) -> usize
+    ensures count { result ≡ length (units text.now) }
+    ensures small { result ≤ length text.now }
+{
+    let mut count = 0;
+    for c in text.chars() {
+        count += c.len_utf16();
+    }
+    count
+}
+
+/// How many units a record of the text takes: its marker, its units and the 0 at the end.
+pub(crate) fn record_size(text: &str) -> u32
+    requires { length (units text.now) < 2 ^ 28 }
+    ensures { result ≡ size text.now }
+{
+    let count = utf16_len(text);
+    let is_marked = count > MAX_UNMARKED || text.as_bytes().contains(&0);
+    let marker = if is_marked {
+        marker_units(count).max(1)
+    } else {
+        0
+    };
+    (marker + count + 1) as u32
+}
+
+/// The number of units of a text that has more than 4294967295. They are counted only where its
+/// bytes are as many.
+fn excessive_len(text: &str) -> Option<usize>
+    ensures { MatchOption result (length (units text.now) ≤ 4294967295)
+        (λ n. (n ≡ length (units text.now)) × (4294967295 < n)) }
+{
+    if text.len() <= LONGEST {
+        return None;
+    }
+    let count = utf16_len(text);
+    if count > LONGEST { Some(count) } else { None }
+}
+
+/// Refuses the first text of more than 4294967295 units.
+pub(crate) fn check_lengths(strings: &[&str]) -> Result<(), BinarySerializerError>
+    ensures ok { OnOk result (first_too_long (nows strings.now) ≡ None) }
+    ensures err { IfErr result (λ e. NotPlanned (nows strings.now) (fault_of e)) }
+{
+    for text in strings {
+        if let Some(count) = excessive_len(text) {
+            return Err(BinarySerializerError::string_too_long(count));
+        }
+    }
+    Ok(())
+}
+
+/// Whether 16 for each text and its units come to 2^28 or more.
+pub(crate) fn are_too_large(strings: &[&str]) -> bool
+    requires { first_too_long (nows strings.now) ≡ None }
+    ensures { result ≡ nat_le (2 ^ 28) (texts_size (nows strings.now)) }
+{
+    let mut size = 0;
+    for text in strings {
+        size += 16 + utf16_len(text);
+        if size >= SIZE_LIMIT {
+            return true;
+        }
+    }
+    false
+}

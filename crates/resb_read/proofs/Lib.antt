@@ -1,0 +1,6 @@
+pub mod Trees
+pub mod Rooted
+pub mod Each
+pub mod Singly
+pub mod UnitsBack
+pub mod Entering

@@ -1,0 +1,9 @@
+use Rattle.std.proofs.Common.{rules}
+use Rattle.std.proofs.lemmas.Result.{err_from_is_err_and}
+use Rattle.resb_read.proofs.cursor.Cursor.words.Goals as goal
+
+pub returns-in_err-bytes : goal.returns-in_err-bytes
+returns-in_err-bytes c =
+    let e = err_from_is_err_and c.from_residual.result c.from_residual.ensures.1 in
+    let h = c.in_err-bytes.ensures in
+    rw e.1 (h.0, λ n (x, (fits, there)) paid. h.1 n (x, (tt, there)) paid)

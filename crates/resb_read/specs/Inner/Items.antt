@@ -1,0 +1,23 @@
+-- The places of the members and entries that are still to come.
+use Rattle.std.specs.Prelude.{ℕ, List, map}
+use Rattle.resb_format.specs.Bytes.{words_of}
+use Rattle.resb_walk.specs.Files.{parts_in}
+use Rattle.resb_walk.specs.Inner.Members.{members_of, pairs_of}
+use Rattle.resb_walk.specs.declared.file.File.{File}
+use Rattle.resb_walk.specs.declared.file.Pairs.{Pairs}
+use Rattle.resb_read.specs.Places.{Place, spot_of}
+use Rattle.resb_read.specs.Sequences.{at_spot, at_entry}
+use Rattle.resb_read.specs.declared.cursor.Spot.{Spot}
+use Rattle.resb_read.specs.declared.cursor.Spot.TheVariants as spot
+use Rattle.resb_read.specs.declared.items.Items.{Items}
+use Rattle.resb_read.specs.declared.items.Items.TheVariants.{Members, Numbers}
+
+abbrev pub spots_of : Items → List Spot
+spots_of (Members ms) = map spot_of (members_of ms)
+spots_of (Numbers b) = map spot.Word (words_of b.now)
+
+abbrev pub places_of : File → Items → List Place
+places_of f i = map (at_spot (parts_in f)) (spots_of i)
+
+abbrev pub entry_places : File → Pairs → List (Place × Place)
+entry_places f ps = map (at_entry (parts_in f)) (pairs_of ps)

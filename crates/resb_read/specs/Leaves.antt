@@ -1,0 +1,136 @@
+-- What stands at a place for the types that have no parts, with its count: 1 at a descriptor or a unit, 0 at a word or a key.
+use Rattle.std.specs.Prelude.{ℕ, ℤ, pos, negsuc, ◌≤ℤ◌, ◌≤◌, ◌<◌, ◌+◌, ◌*◌, ◌/◌, ◌%◌, ◌^◌, ◌==◌, List, [], Bool, true, false, Option, Some, None, option_map, if◌then◌else◌}
+use Rattle.std.specs.List.{flat_map}
+use Rattle.std.specs.Int.{cast_signed, to_le_bytes, w16, w32}
+use Rattle.resb_tree.specs.Int28.{signed}
+use Rattle.resb_format.specs.Bytes.{words_of, part}
+use Rattle.resb_format.specs.Strings.{string_at, text_at, key_at}
+use Rattle.resb_format.specs.Parts.{Parts}
+use Rattle.resb_format.specs.Content.{counted}
+use Rattle.resb_read.specs.Places.{Place}
+use Rattle.resb_read.specs.Reading.{IsThere, CountsThere}
+use Rattle.resb_read.specs.ReadingLaws.{any}
+use Rattle.resb_read.specs.declared.cursor.Spot.{Spot}
+use Rattle.resb_read.specs.declared.cursor.Spot.TheVariants as spot
+
+-- the type and the value of a descriptor
+abbrev pub type_in : ℕ → ℕ
+type_in w = w / 2 ^ 28
+
+abbrev pub value_in : ℕ → ℕ
+value_in w = w % 2 ^ 28
+
+-- a number: the 28 bits of an Int with bit 27 as the sign, or a vector's word
+abbrev pub signed_at : Spot → Option (ℤ × ℕ)
+signed_at (spot.Descriptor w) = if type_in w == 7 then Some (signed (value_in w), 1) else None
+signed_at (spot.Word w) = Some (cast_signed w32 w, 0)
+signed_at (spot.Unit u) = None
+signed_at (spot.Key k) = None
+
+-- the same, from 0
+abbrev pub unsigned_at : Spot → Option (ℕ × ℕ)
+unsigned_at (spot.Descriptor w) = if type_in w == 7 then Some (value_in w, 1) else None
+unsigned_at (spot.Word w) = Some (w, 0)
+unsigned_at (spot.Unit u) = None
+unsigned_at (spot.Key k) = None
+
+abbrev pub bool_of : ℕ → Option (Bool × ℕ)
+bool_of n = if n == 0 then Some (false, 1) else if n == 1 then Some (true, 1) else None
+
+abbrev pub bool_at : Spot → Option (Bool × ℕ)
+bool_at (spot.Descriptor w) = if type_in w == 7 then bool_of (value_in w) else None
+bool_at (spot.Word w) = None
+bool_at (spot.Unit u) = None
+bool_at (spot.Key k) = None
+
+-- between two numbers
+abbrev pub IsWithin : ℤ → ℤ → ℤ → Type 0
+IsWithin low high x = (low ≤ℤ x) × (x ≤ℤ high)
+
+abbrev pub ReadsSigned : ℤ → ℤ → Place → ℤ → ℕ → Type 0
+ReadsSigned low high p x n = IsThere (IsWithin low high) (signed_at p.at) x n
+
+abbrev pub CountsSigned : ℤ → ℤ → Place → ℕ → Type 0
+CountsSigned low high p n = CountsThere (IsWithin low high) (signed_at p.at) n
+
+abbrev pub ReadsUnsigned : ℕ → Place → ℕ → ℕ → Type 0
+ReadsUnsigned high p x n = IsThere (λ x. x ≤ high) (unsigned_at p.at) x n
+
+abbrev pub CountsUnsigned : ℕ → Place → ℕ → Type 0
+CountsUnsigned high p n = CountsThere (λ x. x ≤ high) (unsigned_at p.at) n
+
+abbrev pub ReadsBool : Place → Bool → ℕ → Type 0
+ReadsBool p x n = IsThere any (bool_at p.at) x n
+
+abbrev pub CountsBool : Place → ℕ → Type 0
+CountsBool p n = CountsThere any (bool_at p.at) n
+
+-- an Int's 28 bits
+abbrev pub bits_at : Spot → Option (ℕ × ℕ)
+bits_at (spot.Descriptor w) = if type_in w == 7 then Some (value_in w, 1) else None
+bits_at (spot.Word w) = None
+bits_at (spot.Unit u) = None
+bits_at (spot.Key k) = None
+
+abbrev pub ReadsBits : Place → ℕ → ℕ → Type 0
+ReadsBits p x n = IsThere any (bits_at p.at) x n
+
+abbrev pub CountsBits : Place → ℕ → Type 0
+CountsBits p n = CountsThere any (bits_at p.at) n
+
+-- a text: the string of a descriptor or a unit, or a key
+abbrev pub text_in : Parts → ℕ → Option (List ℕ)
+text_in p w =
+    if type_in w == 6 then (if value_in w == 0 then Some [] else text_at p.block (value_in w)) else None
+
+abbrev pub text_from : Parts → Spot → Option (List ℕ × ℕ)
+text_from p (spot.Descriptor w) = option_map (λ s. (s, 1)) (text_in p w)
+text_from p (spot.Unit u) = option_map (λ s. (s, 1)) (text_at p.block u)
+text_from p (spot.Word w) = None
+text_from p (spot.Key k) = option_map (λ s. (s, 0)) (key_at p.keys k)
+
+abbrev pub ReadsText : Place → List ℕ → ℕ → Type 0
+ReadsText p x n = IsThere any (text_from p.parts p.at) x n
+
+abbrev pub CountsText : Place → ℕ → Type 0
+CountsText p n = CountsThere any (text_from p.parts p.at) n
+
+-- a key
+abbrev pub key_from : Parts → Spot → Option (List ℕ × ℕ)
+key_from p (spot.Descriptor w) = None
+key_from p (spot.Unit u) = None
+key_from p (spot.Word w) = None
+key_from p (spot.Key k) = option_map (λ s. (s, 0)) (key_at p.keys k)
+
+abbrev pub ReadsKey : Place → List ℕ → ℕ → Type 0
+ReadsKey p x n = IsThere any (key_from p.parts p.at) x n
+
+abbrev pub CountsKey : Place → ℕ → Type 0
+CountsKey p n = CountsThere any (key_from p.parts p.at) n
+
+-- bytes: of a Binary, of a vector's words, of a string's units, which need be no text, or of a key
+abbrev pub units_as_bytes : List ℕ → List ℕ
+units_as_bytes us = flat_map (to_le_bytes w16) us
+
+-- n items of so many bytes each, where word v is n and they follow it
+abbrev pub counted_bytes : Parts → ℕ → ℕ → Option (List ℕ)
+counted_bytes p each v = counted (words_of p.body) v (λ n. part p.body (4 * v + 4) (each * n))
+
+abbrev pub bytes_of_type : Parts → ℕ → ℕ → Option (List ℕ)
+bytes_of_type p type v =
+    if type == 1 then (if v == 0 then Some [] else counted_bytes p 1 v)
+    else if type == 6 then (if v == 0 then Some [] else option_map units_as_bytes (string_at p.block v))
+    else if type == 14 then (if v == 0 then Some [] else counted_bytes p 4 v)
+    else None
+
+abbrev pub bytes_from : Parts → Spot → Option (List ℕ × ℕ)
+bytes_from p (spot.Descriptor w) = option_map (λ s. (s, 1)) (bytes_of_type p (type_in w) (value_in w))
+bytes_from p (spot.Unit u) = option_map (λ us. (units_as_bytes us, 1)) (string_at p.block u)
+bytes_from p (spot.Word w) = None
+bytes_from p (spot.Key k) = option_map (λ s. (s, 0)) (key_at p.keys k)
+
+abbrev pub ReadsBytes : Place → List ℕ → ℕ → Type 0
+ReadsBytes p x n = IsThere any (bytes_from p.parts p.at) x n
+
+abbrev pub CountsBytes : Place → ℕ → Type 0
+CountsBytes p n = CountsThere any (bytes_from p.parts p.at) n

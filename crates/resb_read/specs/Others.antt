@@ -1,0 +1,49 @@
+-- What else a cursor answers: the cost of skipping, the type of what stands at a place, and views of bytes.
+use Rattle.std.specs.Prelude.{◌≡◌, ◌+◌, ◌<◌, ◌%◌, ◌==◌, ◌&&◌, ◌||◌, not, nat_le, ℕ, List, length, Bool, Option, Some, None, Result, MatchResult, if◌then◌else◌}
+use Rattle.resb_format.specs.declared.error.ReadingError.{ReadingError}
+use Rattle.resb_walk.specs.Refusals.{IsSpent}
+use Rattle.resb_read.specs.Places.{Place}
+use Rattle.resb_read.specs.Reading.{IsThere, CountsThere}
+use Rattle.resb_read.specs.Leaves.{type_in, bytes_from}
+use Rattle.resb_read.specs.declared.cursor.Spot.{Spot}
+use Rattle.resb_read.specs.declared.cursor.Spot.TheVariants as spot
+
+-- a resource, which costs one; a word or a key costs nothing
+abbrev pub cost_at : Spot → ℕ
+cost_at (spot.Descriptor w) = 1
+cost_at (spot.Unit u) = 1
+cost_at (spot.Word w) = 0
+cost_at (spot.Key k) = 0
+
+abbrev pub Skips : {A : Type 0} → Spot → ℕ → ℕ → Result A ReadingError → Type 0
+Skips s left left' r =
+    MatchResult r (λ _. left' + cost_at s ≡ left) (λ e. IsSpent e × (left < cost_at s) × (left' ≡ left))
+
+-- the types that are read: all but strings of the older formats and aliases
+abbrev pub is_read_type : ℕ → Bool
+is_read_type n = ((nat_le 1 n && nat_le n 9) && not (n == 3)) || n == 14
+
+abbrev pub type_at : Spot → Option ℕ
+type_at (spot.Descriptor w) = if is_read_type (type_in w) then Some (type_in w) else None
+type_at (spot.Unit u) = Some 6
+type_at (spot.Word w) = None
+type_at (spot.Key k) = None
+
+abbrev pub IsUnit : Spot → Type 0
+IsUnit (spot.Unit u) = Unit {0}
+IsUnit s = ⊥
+
+abbrev pub IsWord : Spot → Type 0
+IsWord (spot.Word w) = Unit {0}
+IsWord s = ⊥
+
+abbrev pub IsKey : Spot → Type 0
+IsKey (spot.Key k) = Unit {0}
+IsKey s = ⊥
+
+-- bytes that are whole items of so many bytes each
+abbrev pub ReadsView : ℕ → Place → List ℕ → ℕ → Type 0
+ReadsView each p b n = IsThere (λ b. length b % each ≡ 0) (bytes_from p.parts p.at) b n
+
+abbrev pub CountsView : ℕ → Place → ℕ → Type 0
+CountsView each p n = CountsThere (λ b. length b % each ≡ 0) (bytes_from p.parts p.at) n

@@ -1,0 +1,30 @@
+-- Which tree is read at a place, as a resource.
+use Rattle.std.specs.Prelude.{ℕ}
+use Rattle.resb_tree.specs.Tree.{Tree}
+use Rattle.resb_format.specs.Content.{unit}
+use Rattle.resb_format.specs.Parts.{Parts}
+use Rattle.resb_format.specs.Denotes.{Den, DenMember, Reaches, ReachesMember}
+use Rattle.resb_read.specs.Places.{Place}
+use Rattle.resb_read.specs.declared.cursor.Spot.{Spot}
+use Rattle.resb_read.specs.declared.cursor.Spot.TheVariants as spot
+
+abbrev pub DenSpot : Parts → Spot → Tree → ℕ → Type 0
+DenSpot p (spot.Descriptor w) t n = Den p w t n
+DenSpot p (spot.Unit u) t n = DenMember p (unit u) t n
+DenSpot p (spot.Word w) t n = ⊥
+DenSpot p (spot.Key k) t n = ⊥
+
+abbrev pub DenPlace : Place → Tree → ℕ → Type 0
+DenPlace p t n = DenSpot p.parts p.at t n
+
+abbrev pub CountsTree : Place → ℕ → Type 0
+CountsTree p n = (t : Tree) × DenPlace p t n
+
+abbrev pub ReachesSpot : Parts → Spot → ℕ → Type 0
+ReachesSpot p (spot.Descriptor w) n = Reaches p w n
+ReachesSpot p (spot.Unit u) n = ReachesMember p (unit u) n
+ReachesSpot p (spot.Word w) n = ⊥
+ReachesSpot p (spot.Key k) n = ⊥
+
+abbrev pub ReachesPlace : Place → ℕ → Type 0
+ReachesPlace p n = ReachesSpot p.parts p.at n

@@ -1,0 +1,37 @@
+-- What is read at a file's root, with the whole budget.
+--     root_place bytes            the place of the root
+--     AtRoot P bytes              the file is a bundle, and P holds of the place of its root
+--     TreeOf, CountOf             what reading and counting the file's tree answer
+use Rattle.std.specs.Prelude.{◌≡◌, ◌≤◌, ◌⊎◌, ℕ, List, Some, Result, Ok, Err}
+use Rattle.resb_tree.specs.Tree.{Tree}
+use Rattle.resb_tree.specs.View.{tree_of}
+use Rattle.resb_tree.specs.declared.resource.Resource.{Resource}
+use Rattle.resb_format.specs.Parts.{IsBundleFile, parts_of, root_word}
+use Rattle.resb_format.specs.Denotes.{Den, Reaches}
+use Rattle.resb_format.specs.File.{Denotes, budget}
+use Rattle.resb_format.specs.HeadChecks.{file_fault, refusal_of}
+use Rattle.resb_format.specs.declared.error.ReadingError.{ReadingError}
+use Rattle.resb_walk.specs.Refusals.{Refuses}
+use Rattle.resb_read.specs.Places.{Place}
+use Rattle.resb_read.specs.declared.cursor.Spot.TheVariants as spot
+
+abbrev pub root_place : List ℕ → Place
+root_place bytes = record { parts = parts_of bytes; at = spot.Descriptor (root_word bytes) }
+
+pub record AtRoot (P : Place → Type 0) (bytes : List ℕ) : Type 0 where
+  pub head : IsBundleFile bytes
+  pub root : P (root_place bytes)
+
+-- the first check of the head that fails, or what is refused at the root
+abbrev pub RefusesFile : List ℕ → ReadingError → Type 0
+RefusesFile bytes e =
+    (file_fault bytes ≡ Some (refusal_of e))
+    ⊎ (IsBundleFile bytes × Refuses (Den (parts_of bytes) (root_word bytes)) (Reaches (parts_of bytes) (root_word bytes)) (budget bytes) e)
+
+abbrev pub TreeOf : List ℕ → Result Resource ReadingError → Type 0
+TreeOf bytes (Ok r) = (n : ℕ) × Denotes bytes (tree_of r) n × (n ≤ budget bytes)
+TreeOf bytes (Err e) = RefusesFile bytes e
+
+abbrev pub CountOf : List ℕ → Result ℕ ReadingError → Type 0
+CountOf bytes (Ok n) = (t : Tree) × Denotes bytes t n × (n ≤ budget bytes)
+CountOf bytes (Err e) = RefusesFile bytes e

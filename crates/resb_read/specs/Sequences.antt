@@ -1,0 +1,135 @@
+-- The members of sequences, the entries of maps, and what reading each of them gives.
+--     items p                 the places of the members of an array or a vector
+--     entries p               the places of the keys and values of a table
+use Rattle.std.specs.Prelude.{◌≡◌, ◌+◌, ◌==◌, ◌||◌, ℕ, List, [], ◌∷◌, map, Option, Some, None, option_map, if◌then◌else◌}
+use Rattle.std.specs.BTreeMap.{insert_entry}
+use Rattle.std.specs.declared.cmp.Ordering.{Ordering}
+use Rattle.resb_tree.specs.Tree.{Tree, string, array, table, binary, integer, int_vector}
+use Rattle.resb_format.specs.Parts.{Parts}
+use Rattle.resb_format.specs.Content.{Content, Member, leaf, list, pairs, content}
+use Rattle.resb_read.specs.Places.{Place, spot_of}
+use Rattle.resb_read.specs.Leaves.{type_in}
+use Rattle.resb_read.specs.declared.cursor.Spot.{Spot}
+use Rattle.resb_read.specs.declared.cursor.Spot.TheVariants as spot
+
+abbrev pub at_spot : Parts → Spot → Place
+at_spot p s = record { parts = p; at = s }
+
+-- the numbers of a vector
+abbrev pub numbers_in : Tree → Option (List Spot)
+numbers_in (int_vector ns) = Some (map spot.Word ns)
+numbers_in (string s) = None
+numbers_in (array ts) = None
+numbers_in (table es) = None
+numbers_in (binary s) = None
+numbers_in (integer n) = None
+
+abbrev pub members_in : Option Content → Option (List Spot)
+members_in (Some (list ms)) = Some (map spot_of ms)
+members_in (Some (leaf t)) = numbers_in t
+members_in (Some (pairs es)) = None
+members_in None = None
+
+-- of an Array, an Array16 or an IntVector
+abbrev pub items_in : Parts → ℕ → Option (List Spot)
+items_in p w =
+    if (type_in w == 8 || type_in w == 9) || type_in w == 14 then members_in (content p w) else None
+
+abbrev pub items_from : Parts → Spot → Option (List Place)
+items_from p (spot.Descriptor w) = option_map (map (at_spot p)) (items_in p w)
+items_from p (spot.Unit u) = None
+items_from p (spot.Word w) = None
+items_from p (spot.Key k) = None
+
+abbrev pub items : Place → Option (List Place)
+items p = items_from p.parts p.at
+
+abbrev pub pairs_in : Option Content → Option (List (ℕ × Member))
+pairs_in (Some (pairs es)) = Some es
+pairs_in (Some (list ms)) = None
+pairs_in (Some (leaf t)) = None
+pairs_in None = None
+
+-- of a Table, a Table16 or a table of 32-bit positions
+abbrev pub entries_in : Parts → ℕ → Option (List (ℕ × Member))
+entries_in p w =
+    if (type_in w == 2 || type_in w == 4) || type_in w == 5 then pairs_in (content p w) else None
+
+-- the places of a key and its value
+abbrev pub at_entry : Parts → ℕ × Member → Place × Place
+at_entry p e = (at_spot p (spot.Key e.0), at_spot p (spot_of e.1))
+
+abbrev pub entries_from : Parts → Spot → Option (List (Place × Place))
+entries_from p (spot.Descriptor w) = option_map (map (at_entry p)) (entries_in p w)
+entries_from p (spot.Unit u) = None
+entries_from p (spot.Word w) = None
+entries_from p (spot.Key k) = None
+
+abbrev pub entries : Place → Option (List (Place × Place))
+entries p = entries_from p.parts p.at
+
+-- each place is read to the value beside it, and n is the sum of the counts
+abbrev pub ReadsEach : {X : Type 0} → (Place → X → ℕ → Type 0) → List Place → List X → ℕ → Type 0
+ReadsEach reads [] [] n = n ≡ 0
+ReadsEach reads [] (x ∷ xs) n = ⊥
+ReadsEach reads (p ∷ ps) [] n = ⊥
+ReadsEach reads (p ∷ ps) (x ∷ xs) n = (a : ℕ) × (b : ℕ) × reads p x a × ReadsEach reads ps xs b × (n ≡ a + b)
+
+-- n is the sum of a count at each place
+abbrev pub CountsEach : (Place → ℕ → Type 0) → List Place → ℕ → Type 0
+CountsEach counts [] n = n ≡ 0
+CountsEach counts (p ∷ ps) n = (a : ℕ) × (b : ℕ) × counts p a × CountsEach counts ps b × (n ≡ a + b)
+
+-- a sequence, whose members are read to xs
+pub record ReadsSeq {X : Type 0} (reads : Place → X → ℕ → Type 0) (p : Place) (xs : List X) (n : ℕ) : Type 0 where
+  pub places : List Place
+  pub total : ℕ
+  pub are : items p ≡ Some places
+  pub each : ReadsEach reads places xs total
+  pub count : n ≡ 1 + total
+
+pub record CountsSeq (counts : Place → ℕ → Type 0) (p : Place) (n : ℕ) : Type 0 where
+  pub places : List Place
+  pub total : ℕ
+  pub are : items p ≡ Some places
+  pub each : CountsEach counts places total
+  pub count : n ≡ 1 + total
+
+-- each entry's key and value are read, and n is the sum of the counts
+abbrev pub ReadsPairs : {K X : Type 0} → (Place → K → ℕ → Type 0) → (Place → X → ℕ → Type 0) → List (Place × Place) → List (K × X) → ℕ → Type 0
+ReadsPairs key value [] [] n = n ≡ 0
+ReadsPairs key value [] (e ∷ es) n = ⊥
+ReadsPairs key value (p ∷ ps) [] n = ⊥
+ReadsPairs key value (p ∷ ps) (e ∷ es) n =
+    (a : ℕ) × (b : ℕ) × (c : ℕ) × key p.0 e.0 a × value p.1 e.1 b × ReadsPairs key value ps es c × (n ≡ a + b + c)
+
+abbrev pub CountsPairs : (Place → ℕ → Type 0) → (Place → ℕ → Type 0) → List (Place × Place) → ℕ → Type 0
+CountsPairs key value [] n = n ≡ 0
+CountsPairs key value (p ∷ ps) n =
+    (a : ℕ) × (b : ℕ) × (c : ℕ) × key p.0 a × value p.1 b × CountsPairs key value ps c × (n ≡ a + b + c)
+
+-- the entries put in one after another: the last value of an equal key stands
+abbrev pub put_each : {K X : Type 0} → (K → K → Ordering) → List (K × X) → List (K × X) → List (K × X)
+put_each cmp m [] = m
+put_each cmp m (e ∷ es) = put_each cmp (insert_entry cmp m e.0 e.1) es
+
+pub record ReadsMap {K X : Type 0} (cmp : K → K → Ordering) (key : Place → K → ℕ → Type 0) (value : Place → X → ℕ → Type 0) (p : Place) (m : List (K × X)) (n : ℕ) : Type 0 where
+  pub places : List (Place × Place)
+  pub read : List (K × X)
+  pub total : ℕ
+  pub are : entries p ≡ Some places
+  pub each : ReadsPairs key value places read total
+  pub map : m ≡ put_each cmp [] read
+  pub count : n ≡ 1 + total
+
+pub record CountsMap (key : Place → ℕ → Type 0) (value : Place → ℕ → Type 0) (p : Place) (n : ℕ) : Type 0 where
+  pub places : List (Place × Place)
+  pub total : ℕ
+  pub are : entries p ≡ Some places
+  pub each : CountsPairs key value places total
+  pub count : n ≡ 1 + total
+
+-- the entries that stand after all were put in
+abbrev pub ReadsAll : {K X : Type 0} → (K → K → Ordering) → (Place → K → ℕ → Type 0) → (Place → X → ℕ → Type 0) → List (Place × Place) → List (K × X) → ℕ → Type 0
+ReadsAll {K} {X} cmp key value places m n =
+    (es : List (K × X)) × ReadsPairs key value places es n × (m ≡ put_each cmp [] es)

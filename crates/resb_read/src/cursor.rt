@@ -1,0 +1,49 @@
+//! A place in a file: where a cursor stands, and where it begins.
+//! What is read there is said in the modules of the types.
+ghost use Rattle.std.specs.Prelude.{◌≡◌, Some, None, MatchResult};
+ghost use Rattle.resb_format.specs.File.{budget};
+ghost use Rattle.resb_format.specs.HeadChecks.{file_fault, refusal_of};
+ghost use Rattle.resb_read.specs.Places.{place_of};
+ghost use Rattle.resb_read.specs.Roots.{root_place};
+
+use resb_format::{BinaryDeserializerError, FileParts};
+use resb_walk::{File, Walk};
+
+/// Where a cursor stands.
+#[derive(Clone, Copy)]
+pub enum Spot {
+    /// At a resource's descriptor, by its word.
+    Descriptor(u32),
+    /// At a string, by its unit of the 16-bit block.
+    Unit(u16),
+    /// At a vector's word.
+    Word(u32),
+    /// At a key, by its position in bytes from the body's start.
+    Key(usize),
+}
+
+/// A view of a file and a place in it.
+#[derive(Clone, Copy)]
+pub struct Cursor<'de> {
+    pub(crate) file: File<'de>,
+    pub(crate) at: Spot,
+}
+
+impl<'de> Cursor<'de> {
+    /// The root of a file, with the whole budget: one resource for each two bytes.
+    /// The first check of the file's head that fails is answered.
+    pub fn root(bytes: &'de [u8]) -> Result<(Cursor<'de>, Walk), BinaryDeserializerError>
+        ensures { MatchResult result
+            (λ r. (file_fault bytes.now ≡ None) × (place_of r.0 ≡ root_place bytes.now) × (r.1 ≡ budget bytes.now))
+            (λ e. file_fault bytes.now ≡ Some (refusal_of e)) }
+    {
+        let parts = FileParts::read(bytes)?;
+        let file = File {
+            body: parts.body,
+            keys: parts.keys,
+            block: parts.block,
+        };
+        let at = Spot::Descriptor(parts.root);
+        Ok((Cursor { file, at }, Walk::new(bytes.len() / 2)))
+    }
+}

@@ -1,0 +1,158 @@
+//! The entries of a table, one after another.
+//! Whole maps are read in `maps`.
+ghost use Rattle.std.specs.Prelude.{◌≡◌, ◌≤◌, ◌<◌, ◌+◌, ◌⊎◌, ℕ, Some, None, [], ◌∷◌, drop, length, MatchOption, IfOk, IfErr};
+ghost use Rattle.resb_read.specs.Places.{place_of};
+ghost use Rattle.resb_read.specs.Sequences as sequences;
+ghost use Rattle.resb_read.specs.Access.{EntersTo, Enters, ReadsPair, CountsPair};
+ghost use Rattle.resb_read.specs.Reading.{LacksOrMemory};
+
+use crate::cursor::{Cursor, Spot};
+use crate::deserialize::Deserialize;
+use crate::faults::{elsewhere, mismatch};
+use crate::items::spot_of;
+use resb_format::ReadingError;
+use resb_walk::{File, Pairs, Standing, Walk};
+use std::alloc::Global;
+use std::marker::Model;
+
+/// The entries of a table that are still to come.
+/// After an `Err` it stands where it stood, and answers that error from then on.
+#[derive(Drop)]
+pub struct MapAccess<'de, 'm> {
+    file: File<'de>,
+    rest: Pairs<'de>,
+    failed: Option<ReadingError<'m>>,
+}
+
+impl<'de, 'm> Model for MapAccess<'de, 'm> {
+    ghost use Rattle.resb_read.specs.Access.{Entries};
+    ghost use Rattle.resb_read.specs.Inner.Items.{entry_places};
+
+    ghost Value = { Entries };
+
+    ghost view = { λ s. record { rest = entry_places s.file s.rest; failed = s.failed } };
+}
+
+impl<'de, 'm> MapAccess<'de, 'm> {
+    /// How many entries are still to come.
+    #[tactic(auto, using(crate::proofs::Singly::map_length))]
+    pub fn size_hint(&self) -> usize
+        ensures { result ≡ length self.now.rest }
+    {
+        self.rest.len()
+    }
+
+    /// The places of the first entry's key and value.
+    #[tactic(auto, using(crate::proofs::Singly::map_first, crate::proofs::Singly::map_none, crate::proofs::Singly::some_first))]
+    fn first(&self) -> Option<(Cursor<'de>, Cursor<'de>)>
+        ensures { MatchOption result (self.now.rest ≡ []) (λ c. self.now.rest ≡ (place_of c.0, place_of c.1) ∷ drop 1 self.now.rest) }
+    {
+        let (position, member, _) = self.rest.split()?;
+        let key = Cursor {
+            file: self.file,
+            at: Spot::Key(position),
+        };
+        let value = Cursor {
+            file: self.file,
+            at: spot_of(member),
+        };
+        Some((key, value))
+    }
+
+    /// Goes past the first of the entries.
+    #[tactic(auto, using(crate::proofs::Singly::map_first, crate::proofs::Singly::map_none, crate::proofs::Singly::drop_first, crate::proofs::Singly::none_left))]
+    fn advance(&mut self)
+        requires { 0 < length self.old.rest }
+        ensures { self.new ≡ record { rest = drop 1 self.old.rest; failed = self.old.failed } }
+    {
+        if let Some((_, _, rest)) = self.rest.split() {
+            self.rest = rest;
+        }
+    }
+
+    /// The places of the next entry's key and value.
+    pub fn next_entry_cursor(
+        &mut self,
+    ) -> Result<Option<(Cursor<'de>, Cursor<'de>)>, ReadingError<'m>>
+        ensures { EntersTo self.old self.new result }
+    {
+        if let Some(error) = self.failed {
+            return Err(error);
+        }
+        let Some(entry) = self.first() else {
+            return Ok(None);
+        };
+        self.advance();
+        Ok(Some(entry))
+    }
+
+    /// Reads the next entry, its key before its value.
+    pub fn next_entry<K: Deserialize<'de>, T: Deserialize<'de>>(
+        &mut self,
+        alloc: Global,
+        walk: &mut Walk,
+    ) -> Result<Option<(K, T)>, ReadingError<'m>>
+        ensures { Enters K.reads K.counts T.reads T.counts self.old walk.old self.new walk.new result }
+    {
+        if let Some(error) = self.failed {
+            return Err(error);
+        }
+        let Some((key_at, value_at)) = self.first() else {
+            return Ok(None);
+        };
+        match read_pair::<K, T>(alloc, key_at, value_at, walk) {
+            Ok(entry) => {
+                self.advance();
+                Ok(Some(entry))
+            }
+            Err(error) => {
+                self.failed = Some(error);
+                Err(error)
+            }
+        }
+    }
+}
+
+/// Reads a key, and then its value.
+fn read_pair<'de, 'm, K: Deserialize<'de>, T: Deserialize<'de>>(
+    alloc: Global,
+    key_at: Cursor<'de>,
+    value_at: Cursor<'de>,
+    walk: &mut Walk,
+) -> Result<(K, T), ReadingError<'m>>
+    ensures read { IfOk result (λ e. (n : ℕ) × ReadsPair K.reads T.reads (place_of key_at.entry, place_of value_at.entry) e n × (walk.new + n ≡ walk.old)) }
+    ensures refused { IfErr result (λ e. (walk.new ≤ walk.old)
+        × LacksOrMemory (CountsPair K.counts T.counts (place_of key_at.entry, place_of value_at.entry)) walk.old e) }
+{
+    let key = K::deserialize(alloc, key_at, walk)?;
+    let value = T::deserialize(alloc, value_at, walk)?;
+    Ok((key, value))
+}
+
+impl<'de> Cursor<'de> {
+    /// The entries of the table that stands here. The fields of all lie in the file, but where they
+    /// lead isn't looked at yet.
+    pub fn read_map<'m>(self, walk: &mut Walk) -> Result<MapAccess<'de, 'm>, ReadingError<'m>>
+        ensures read { IfOk result (λ s. (sequences.entries (place_of self.entry) ≡ Some s.rest) × (s.failed ≡ None) × (walk.new + 1 ≡ walk.old)) }
+        ensures refused { IfErr result (λ _. (walk.new ≤ walk.old) × (sequences.entries (place_of self.entry) ≡ None ⊎ walk.old ≡ 0)) }
+    {
+        let Spot::Descriptor(word) = self.at else {
+            return Err(elsewhere());
+        };
+        walk.pay()?;
+        let kind = word >> 28;
+        if kind != 2 && kind != 4 && kind != 5 {
+            return Err(mismatch(word, "expected table resource"));
+        }
+        match self.file.standing(word)? {
+            Standing::Table(rest) => Ok(MapAccess {
+                file: self.file,
+                rest,
+                failed: None,
+            }),
+            Standing::List(_) | Standing::Leaf(_) => {
+                Err(mismatch(word, "expected table resource"))
+            }
+        }
+    }
+}

@@ -1,0 +1,64 @@
+//! Whole files: any type at the root, its count, and the file's tree.
+//! Places below the root are reached by a cursor.
+ghost use Rattle.std.specs.Prelude.{◌≡◌, ◌≤◌, ℕ, Some, IfOk, IfErr};
+ghost use Rattle.resb_format.specs.File.{budget};
+ghost use Rattle.resb_format.specs.HeadChecks as checks;
+ghost use Rattle.resb_format.specs.HeadChecks.{file_fault, refusal_of};
+ghost use Rattle.resb_read.specs.Reading.{LacksOrMemory};
+ghost use Rattle.resb_read.specs.Roots.{AtRoot, TreeOf, CountOf};
+
+use crate::cursor::Cursor;
+use crate::deserialize::Deserialize;
+use resb_format::{BinaryDeserializerError, ReadingError, Resource};
+use std::alloc::Global;
+
+/// Reads a value from a file, with the whole budget of the file.
+pub fn from_bytes<'a, 'm, T: Deserialize<'a>>(
+    alloc: Global,
+    bytes: &'a [u8],
+) -> Result<T, ReadingError<'m>>
+    ensures read { IfOk result (λ x. (n : ℕ) × AtRoot (λ p. T.reads p x n) bytes.entry.now × (n ≤ budget bytes.entry.now)) }
+    ensures refused { IfErr result (λ e. LacksOrMemory (λ n. AtRoot (λ p. T.counts p n) bytes.entry.now) (budget bytes.entry.now) e) }
+    ensures head { IfErr result (λ e. (f : checks.Refusal) → file_fault bytes.entry.now ≡ Some f → refusal_of e ≡ f) }
+{
+    let (value, _) = from_bytes_counted::<T>(alloc, bytes)?;
+    Ok(value)
+}
+
+/// Reads a value from a file as `from_bytes` does, with the number of resources that it took.
+pub fn from_bytes_counted<'a, 'm, T: Deserialize<'a>>(
+    alloc: Global,
+    bytes: &'a [u8],
+) -> Result<(T, usize), ReadingError<'m>>
+    ensures read { IfOk result (λ r. AtRoot (λ p. T.reads p r.0 r.1) bytes.entry.now × (r.1 ≤ budget bytes.entry.now)) }
+    ensures refused { IfErr result (λ e. LacksOrMemory (λ n. AtRoot (λ p. T.counts p n) bytes.entry.now) (budget bytes.entry.now) e) }
+    ensures head { IfErr result (λ e. (f : checks.Refusal) → file_fault bytes.entry.now ≡ Some f → refusal_of e ≡ f) }
+{
+    let (root, mut walk) = Cursor::root(bytes)?;
+    let before = walk.left();
+    let value = T::deserialize(alloc, root, &mut walk)?;
+    Ok((value, before - walk.left()))
+}
+
+/// Reads the tree of a file. It is `Ok` exactly where the bytes denote a tree of at most as many
+/// resources as the budget, memory aside.
+pub fn tree_from_bytes(
+    alloc: Global,
+    bytes: &[u8],
+) -> Result<Resource<'_>, BinaryDeserializerError>
+    ensures { TreeOf bytes.now result }
+{
+    let (root, mut walk) = Cursor::root(bytes)?;
+    root.read_resource(alloc, &mut walk)
+}
+
+/// Counts the resources of a file's tree, and makes no tree: the number that `from_bytes_counted`
+/// gives with the tree, or its refusal.
+pub fn count_resources(alloc: Global, bytes: &[u8]) -> Result<usize, BinaryDeserializerError>
+    ensures { CountOf bytes.now result }
+{
+    let (root, mut walk) = Cursor::root(bytes)?;
+    let before = walk.left();
+    root.count_resource(alloc, &mut walk)?;
+    Ok(before - walk.left())
+}

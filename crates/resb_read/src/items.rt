@@ -1,0 +1,58 @@
+//! The members of a sequence that are still to come, by their bytes.
+//! An access that goes from one to the next is in `sequences`.
+ghost use Rattle.std.specs.Prelude.{◌≡◌, [], ◌∷◌, length, MatchOption};
+ghost use Rattle.resb_walk.specs.Inner.Members.{member_of};
+ghost use Rattle.resb_read.specs.Inner.Items.{spots_of};
+ghost use Rattle.resb_read.specs.Places as places;
+
+use crate::cursor::Spot;
+use resb_format::bytes::first_word;
+use resb_walk::{Member, Members};
+
+/// Members that are still to come.
+#[derive(Clone, Copy)]
+pub(crate) enum Items<'de> {
+    /// Descriptors, or offsets of strings.
+    Members(Members<'de>),
+    /// Four bytes for each number.
+    Numbers(&'de [u8]),
+}
+
+impl<'de> Items<'de> {
+    /// How many members are still to come.
+    #[tactic(auto, using(crate::proofs::Singly::map_length, resb_format::proofs::Spelled::words_length))]
+    pub(crate) fn len(self) -> usize
+        ensures { result ≡ length (spots_of self.entry) }
+    {
+        match self {
+            Items::Members(members) => members.len(),
+            Items::Numbers(bytes) => bytes.len() / 4,
+        }
+    }
+
+    /// The first member, and those after it.
+    pub(crate) fn split(self) -> Option<(Spot, Items<'de>)>
+        ensures { MatchOption result (spots_of self.entry ≡ []) (λ r. spots_of self.entry ≡ r.0 ∷ spots_of r.1) }
+    {
+        match self {
+            Items::Members(members) => {
+                let (member, rest) = members.split()?;
+                Some((spot_of(member), Items::Members(rest)))
+            }
+            Items::Numbers(bytes) => {
+                let (number, rest) = first_word(bytes)?;
+                Some((Spot::Word(number), Items::Numbers(rest)))
+            }
+        }
+    }
+}
+
+/// Where a member stands.
+pub(crate) fn spot_of(member: Member) -> Spot
+    ensures { result ≡ places.spot_of (member_of member) }
+{
+    match member {
+        Member::Word(word) => Spot::Descriptor(word),
+        Member::Unit(unit) => Spot::Unit(unit),
+    }
+}

@@ -1,0 +1,31 @@
+//! Reads trees and any other types from a file, within a budget of resources.
+//! What stands at a word is found in `resb_walk`.
+#![tactic(auto)]
+
+mod cursor;
+mod deserialize;
+mod entries;
+mod entry;
+mod faults;
+mod given;
+pub mod helpers;
+mod items;
+mod lists;
+mod maps;
+mod named;
+mod numbers;
+mod resources;
+mod sequences;
+mod skipping;
+mod texts;
+mod views;
+mod words;
+
+pub use cursor::{Cursor, Spot};
+pub use deserialize::Deserialize;
+pub use entries::MapAccess;
+pub use entry::{count_resources, from_bytes, from_bytes_counted, tree_from_bytes};
+pub use named::{IntVectorDeserializer, KeyDeserializer, Resource16BitDeserializer};
+pub use resb_walk::Walk;
+pub use sequences::SeqAccess;
+pub use words::{determine_endianness, from_words, lay_words};

@@ -1,0 +1,169 @@
+//! Numbers, at an Int's descriptor and at a vector's word.
+//! Numbers as views of a whole vector are in `helpers`.
+ghost use Rattle.std.specs.Prelude.{◌≡◌, ◌≤◌, ◌+◌, ◌-◌, ◌^◌, ◌==◌, ℕ, ℤ, pos, negsuc, Some, None};
+ghost use Rattle.resb_read.specs.Places.{place_of};
+ghost use Rattle.resb_read.specs.Reading.{Reads};
+ghost use Rattle.resb_read.specs.Leaves.{signed_at, unsigned_at, ReadsSigned, CountsSigned, ReadsUnsigned, CountsUnsigned, ReadsBool, CountsBool, ReadsBits, CountsBits};
+
+use crate::cursor::{Cursor, Spot};
+use crate::faults::{elsewhere, mismatch, out_of_range};
+use resb_format::{BinaryDeserializerError, Int28};
+use resb_walk::Walk;
+
+impl<'de> Cursor<'de> {
+    /// The number here, as a signed one.
+    fn signed(self, walk: &mut Walk) -> Result<i32, BinaryDeserializerError>
+        ensures { let there = signed_at self.entry.at in
+            Reads (λ x n. there ≡ Some (x, n)) (λ n. (x : ℤ) × (there ≡ Some (x, n))) walk.old walk.new result }
+    {
+        match self.at {
+            Spot::Descriptor(word) => {
+                walk.pay()?;
+                if word >> 28 != 7 {
+                    return Err(mismatch(word, "expected integer resource"));
+                }
+                Ok(i32::from(Int28::from(word)))
+            }
+            Spot::Word(word) => Ok(word.cast_signed()),
+            Spot::Unit(_) | Spot::Key(_) => Err(elsewhere()),
+        }
+    }
+
+    /// The number here, from 0.
+    fn unsigned(self, walk: &mut Walk) -> Result<u32, BinaryDeserializerError>
+        ensures { let there = unsigned_at self.entry.at in
+            Reads (λ x n. there ≡ Some (x, n)) (λ n. (x : ℕ) × (there ≡ Some (x, n))) walk.old walk.new result }
+    {
+        match self.at {
+            Spot::Descriptor(word) => {
+                walk.pay()?;
+                if word >> 28 != 7 {
+                    return Err(mismatch(word, "expected integer resource"));
+                }
+                Ok(word % 0x1000_0000)
+            }
+            Spot::Word(word) => Ok(word),
+            Spot::Unit(_) | Spot::Key(_) => Err(elsewhere()),
+        }
+    }
+
+    /// Reads whether an Int is 1; it must be 0 or 1.
+    pub fn read_bool(self, walk: &mut Walk) -> Result<bool, BinaryDeserializerError>
+        ensures { let p = place_of self.entry in
+            Reads (ReadsBool p) (CountsBool p) walk.old walk.new result }
+    {
+        let Spot::Descriptor(word) = self.at else {
+            return Err(elsewhere());
+        };
+        walk.pay()?;
+        if word >> 28 != 7 {
+            return Err(mismatch(word, "expected integer resource"));
+        }
+        match word % 0x1000_0000 {
+            0 => Ok(false),
+            1 => Ok(true),
+            _ => Err(BinaryDeserializerError::resource_type_mismatch(
+                "expected integer resource representable as boolean",
+            )),
+        }
+    }
+
+    /// Reads the 28 bits of an Int.
+    pub(crate) fn read_bits(self, walk: &mut Walk) -> Result<Int28, BinaryDeserializerError>
+        ensures { let p = place_of self.entry in
+            Reads (ReadsBits p) (CountsBits p) walk.old walk.new result }
+    {
+        let Spot::Descriptor(word) = self.at else {
+            return Err(elsewhere());
+        };
+        walk.pay()?;
+        if word >> 28 != 7 {
+            return Err(mismatch(word, "expected integer resource"));
+        }
+        Ok(Int28::from(word))
+    }
+
+    /// Reads a number from -2^7 to 2^7 - 1. Refused where it is out of range.
+    pub fn read_i8(self, walk: &mut Walk) -> Result<i8, BinaryDeserializerError>
+        ensures { let low = negsuc (2 ^ 7 - 1) in let high = pos (2 ^ 7 - 1) in let p = place_of self.entry in
+            Reads (ReadsSigned low high p) (CountsSigned low high p) walk.old walk.new result }
+    {
+        let value = self.signed(walk)?;
+        if value < -0x80 || value > 0x7f {
+            return Err(out_of_range());
+        }
+        Ok(value as i8)
+    }
+
+    /// Reads a number from -2^15 to 2^15 - 1. Refused where it is out of range.
+    pub fn read_i16(self, walk: &mut Walk) -> Result<i16, BinaryDeserializerError>
+        ensures { let low = negsuc (2 ^ 15 - 1) in let high = pos (2 ^ 15 - 1) in let p = place_of self.entry in
+            Reads (ReadsSigned low high p) (CountsSigned low high p) walk.old walk.new result }
+    {
+        let value = self.signed(walk)?;
+        if value < -0x8000 || value > 0x7fff {
+            return Err(out_of_range());
+        }
+        Ok(value as i16)
+    }
+
+    /// Reads a number from -2^31 to 2^31 - 1. Refused where it is out of range.
+    pub fn read_i32(self, walk: &mut Walk) -> Result<i32, BinaryDeserializerError>
+        ensures { let low = negsuc (2 ^ 31 - 1) in let high = pos (2 ^ 31 - 1) in let p = place_of self.entry in
+            Reads (ReadsSigned low high p) (CountsSigned low high p) walk.old walk.new result }
+    {
+        let value = self.signed(walk)?;
+        Ok(value)
+    }
+
+    /// Reads a number from -2^63 to 2^63 - 1. Refused where it is out of range.
+    pub fn read_i64(self, walk: &mut Walk) -> Result<i64, BinaryDeserializerError>
+        ensures { let low = negsuc (2 ^ 63 - 1) in let high = pos (2 ^ 63 - 1) in let p = place_of self.entry in
+            Reads (ReadsSigned low high p) (CountsSigned low high p) walk.old walk.new result }
+    {
+        let value = self.signed(walk)?;
+        Ok(i64::from(value))
+    }
+
+    /// Reads a number from 0 to 2^8 - 1. Refused where it is out of range.
+    pub fn read_u8(self, walk: &mut Walk) -> Result<u8, BinaryDeserializerError>
+        ensures { let high = 2 ^ 8 - 1 in let p = place_of self.entry in
+            Reads (ReadsUnsigned high p) (CountsUnsigned high p) walk.old walk.new result }
+    {
+        let value = self.unsigned(walk)?;
+        if value > 0xff {
+            return Err(out_of_range());
+        }
+        Ok(value as u8)
+    }
+
+    /// Reads a number from 0 to 2^16 - 1. Refused where it is out of range.
+    pub fn read_u16(self, walk: &mut Walk) -> Result<u16, BinaryDeserializerError>
+        ensures { let high = 2 ^ 16 - 1 in let p = place_of self.entry in
+            Reads (ReadsUnsigned high p) (CountsUnsigned high p) walk.old walk.new result }
+    {
+        let value = self.unsigned(walk)?;
+        if value > 0xffff {
+            return Err(out_of_range());
+        }
+        Ok(value as u16)
+    }
+
+    /// Reads a number from 0 to 2^32 - 1. Refused where it is out of range.
+    pub fn read_u32(self, walk: &mut Walk) -> Result<u32, BinaryDeserializerError>
+        ensures { let high = 2 ^ 32 - 1 in let p = place_of self.entry in
+            Reads (ReadsUnsigned high p) (CountsUnsigned high p) walk.old walk.new result }
+    {
+        let value = self.unsigned(walk)?;
+        Ok(value)
+    }
+
+    /// Reads a number from 0 to 2^64 - 1. Refused where it is out of range.
+    pub fn read_u64(self, walk: &mut Walk) -> Result<u64, BinaryDeserializerError>
+        ensures { let high = 2 ^ 64 - 1 in let p = place_of self.entry in
+            Reads (ReadsUnsigned high p) (CountsUnsigned high p) walk.old walk.new result }
+    {
+        let value = self.unsigned(walk)?;
+        Ok(u64::from(value))
+    }
+}

@@ -1,0 +1,79 @@
+//! Resources, at a descriptor and at a string's unit.
+//! The walk through what stands at a word is in `resb_walk`.
+ghost use Rattle.std.specs.Prelude.{◌≡◌, ◌≤◌, ◌+◌, ℕ, IfOk, IfErr};
+ghost use Rattle.resb_tree.specs.Tree.{Tree};
+ghost use Rattle.resb_tree.specs.View.{tree_of};
+ghost use Rattle.resb_walk.specs.Refusals.{Refuses};
+ghost use Rattle.resb_read.specs.Places.{place_of};
+ghost use Rattle.resb_read.specs.Resources.{DenPlace, ReachesPlace, CountsTree};
+ghost use Rattle.resb_read.specs.ResourceLaws.{tree_counted, tree_one};
+
+use crate::cursor::{Cursor, Spot};
+use crate::deserialize::Deserialize;
+use crate::faults::elsewhere;
+use resb_format::{BinaryDeserializerError, ReadingError, Resource};
+use resb_walk::{Checked, Walk, read_checked, read_string_at, read_word};
+use std::alloc::Global;
+
+impl<'de> Cursor<'de> {
+    /// Reads the tree that stands here.
+    ///
+    /// Memory aside, the budget is spent exactly where one resource more than it stands here before
+    /// the first fault, and any other refusal is given only where nothing is denoted.
+    /// No count of a file that is refused asks for room.
+    pub fn read_resource(
+        self,
+        alloc: Global,
+        walk: &mut Walk,
+    ) -> Result<Resource<'de>, BinaryDeserializerError>
+        ensures read { IfOk result (λ r. (n : ℕ) × DenPlace (place_of self.entry) (tree_of r) n × (walk.new + n ≡ walk.old)) }
+        ensures refused { IfErr result (λ e. (walk.new ≤ walk.old)
+            × Refuses (DenPlace (place_of self.entry)) (ReachesPlace (place_of self.entry)) walk.old e) }
+    {
+        match self.at {
+            Spot::Descriptor(word) => read_checked::<Resource<'de>>(alloc, self.file, word, walk),
+            Spot::Unit(unit) => read_string_at::<Resource<'de>>(alloc, self.file, unit, walk),
+            Spot::Word(_) | Spot::Key(_) => Err(elsewhere()),
+        }
+    }
+
+    /// Reads the tree that stands here and makes nothing of it: the walk tells how many resources.
+    pub(crate) fn count_resource(
+        self,
+        alloc: Global,
+        walk: &mut Walk,
+    ) -> Result<(), BinaryDeserializerError>
+        ensures read { IfOk result (λ _. (t : Tree) × (n : ℕ) × DenPlace (place_of self.entry) t n × (walk.new + n ≡ walk.old)) }
+        ensures refused { IfErr result (λ e. (walk.new ≤ walk.old)
+            × Refuses (DenPlace (place_of self.entry)) (ReachesPlace (place_of self.entry)) walk.old e) }
+    {
+        match self.at {
+            Spot::Descriptor(word) => {
+                read_word::<Checked>(alloc, self.file, word, walk)?;
+            }
+            Spot::Unit(unit) => {
+                read_string_at::<Checked>(alloc, self.file, unit, walk)?;
+            }
+            Spot::Word(_) | Spot::Key(_) => return Err(elsewhere()),
+        }
+        Ok(())
+    }
+}
+
+impl<'de> Deserialize<'de> for Resource<'de> {
+    ghost reads = { λ p r n. DenPlace p (tree_of r) n };
+
+    ghost counts = { CountsTree };
+
+    ghost counted = { λ p r n. tree_counted p (tree_of r) n };
+
+    ghost one_count = { tree_one };
+
+    fn deserialize<'m>(
+        alloc: Global,
+        at: Cursor<'de>,
+        walk: &mut Walk,
+    ) -> Result<Resource<'de>, ReadingError<'m>> {
+        at.read_resource(alloc, walk)
+    }
+}

@@ -1,0 +1,137 @@
+//! The members of an array or a vector, one after another.
+//! Whole lists are read in `lists`.
+ghost use Rattle.std.specs.Prelude.{◌≡◌, ◌≤◌, ◌<◌, ◌+◌, ◌⊎◌, Some, None, [], ◌∷◌, drop, length, MatchOption, IfOk, IfErr};
+ghost use Rattle.resb_read.specs.Places.{place_of};
+ghost use Rattle.resb_read.specs.Sequences.{items};
+ghost use Rattle.resb_read.specs.Access.{StepsTo, Steps};
+
+use crate::cursor::{Cursor, Spot};
+use crate::deserialize::Deserialize;
+use crate::faults::{elsewhere, mismatch};
+use crate::items::Items;
+use resb_format::ReadingError;
+use resb_walk::{File, Leaf, Standing, Walk};
+use std::alloc::Global;
+use std::marker::Model;
+
+/// The members of an array or a vector that are still to come.
+/// After an `Err` it stands where it stood, and answers that error from then on.
+#[derive(Drop)]
+pub struct SeqAccess<'de, 'm> {
+    file: File<'de>,
+    rest: Items<'de>,
+    failed: Option<ReadingError<'m>>,
+}
+
+impl<'de, 'm> Model for SeqAccess<'de, 'm> {
+    ghost use Rattle.resb_read.specs.Access.{Access};
+    ghost use Rattle.resb_read.specs.Inner.Items.{places_of};
+
+    ghost Value = { Access };
+
+    ghost view = { λ s. record { rest = places_of s.file s.rest; failed = s.failed } };
+}
+
+impl<'de, 'm> SeqAccess<'de, 'm> {
+    /// How many members are still to come.
+    #[tactic(auto, using(crate::proofs::Singly::map_length))]
+    pub fn size_hint(&self) -> usize
+        ensures { result ≡ length self.now.rest }
+    {
+        self.rest.len()
+    }
+
+    /// The first of the members.
+    #[tactic(auto, using(crate::proofs::Singly::map_first, crate::proofs::Singly::map_none, crate::proofs::Singly::some_first))]
+    fn first(&self) -> Option<Cursor<'de>>
+        ensures { MatchOption result (self.now.rest ≡ []) (λ c. self.now.rest ≡ place_of c ∷ drop 1 self.now.rest) }
+    {
+        let (at, _) = self.rest.split()?;
+        Some(Cursor {
+            file: self.file,
+            at,
+        })
+    }
+
+    /// Goes past the first of the members.
+    #[tactic(auto, using(crate::proofs::Singly::map_first, crate::proofs::Singly::map_none, crate::proofs::Singly::drop_first, crate::proofs::Singly::none_left))]
+    fn advance(&mut self)
+        requires { 0 < length self.old.rest }
+        ensures { self.new ≡ record { rest = drop 1 self.old.rest; failed = self.old.failed } }
+    {
+        if let Some((_, rest)) = self.rest.split() {
+            self.rest = rest;
+        }
+    }
+
+    /// The place of the next member.
+    pub fn next_cursor(&mut self) -> Result<Option<Cursor<'de>>, ReadingError<'m>>
+        ensures { StepsTo self.old self.new result }
+    {
+        if let Some(error) = self.failed {
+            return Err(error);
+        }
+        let Some(at) = self.first() else {
+            return Ok(None);
+        };
+        self.advance();
+        Ok(Some(at))
+    }
+
+    /// Reads the next member.
+    pub fn next_element<T: Deserialize<'de>>(
+        &mut self,
+        alloc: Global,
+        walk: &mut Walk,
+    ) -> Result<Option<T>, ReadingError<'m>>
+        ensures { Steps T.reads T.counts self.old walk.old self.new walk.new result }
+    {
+        if let Some(error) = self.failed {
+            return Err(error);
+        }
+        let Some(at) = self.first() else {
+            return Ok(None);
+        };
+        match T::deserialize(alloc, at, walk) {
+            Ok(value) => {
+                self.advance();
+                Ok(Some(value))
+            }
+            Err(error) => {
+                self.failed = Some(error);
+                Err(error)
+            }
+        }
+    }
+}
+
+impl<'de> Cursor<'de> {
+    /// The members of the array or vector that stands here. The fields of all lie in the file, but
+    /// where they lead isn't looked at yet.
+    pub fn read_seq<'m>(self, walk: &mut Walk) -> Result<SeqAccess<'de, 'm>, ReadingError<'m>>
+        ensures read { IfOk result (λ s. (items (place_of self.entry) ≡ Some s.rest) × (s.failed ≡ None) × (walk.new + 1 ≡ walk.old)) }
+        ensures refused { IfErr result (λ _. (walk.new ≤ walk.old) × (items (place_of self.entry) ≡ None ⊎ walk.old ≡ 0)) }
+    {
+        let Spot::Descriptor(word) = self.at else {
+            return Err(elsewhere());
+        };
+        walk.pay()?;
+        let kind = word >> 28;
+        if kind != 8 && kind != 9 && kind != 14 {
+            return Err(mismatch(word, "expected array resource"));
+        }
+        let rest = match self.file.standing(word)? {
+            Standing::List(members) => Items::Members(members),
+            Standing::Leaf(Leaf::Numbers(numbers)) => Items::Numbers(numbers),
+            Standing::Table(_) => return Err(mismatch(word, "expected array resource")),
+            Standing::Leaf(Leaf::Text(_) | Leaf::Empty | Leaf::Binary(_) | Leaf::Integer(_)) => {
+                return Err(mismatch(word, "expected array resource"));
+            }
+        };
+        Ok(SeqAccess {
+            file: self.file,
+            rest,
+            failed: None,
+        })
+    }
+}

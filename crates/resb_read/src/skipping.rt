@@ -1,0 +1,40 @@
+//! What a cursor tells without reading: a resource's type, and how to go past it.
+//! The places below a descriptor have deserializers of their own in `named`.
+ghost use Rattle.std.specs.Prelude.{◌≡◌, Some, None, MatchResult};
+ghost use Rattle.resb_format.specs.Codes.{type_number};
+ghost use Rattle.resb_read.specs.Others.{Skips, type_at};
+
+use crate::cursor::{Cursor, Spot};
+use crate::faults::elsewhere;
+use resb_format::{BinaryDeserializerError, ResourceReprType};
+use resb_walk::Walk;
+use resb_walk::faults::unsupported_type;
+
+impl<'de> Cursor<'de> {
+    /// Goes past a resource, and looks at nothing of it.
+    pub fn skip(self, walk: &mut Walk) -> Result<(), BinaryDeserializerError>
+        ensures { Skips self.entry.at walk.old walk.new result }
+    {
+        match self.at {
+            Spot::Descriptor(_) | Spot::Unit(_) => walk.pay(),
+            Spot::Word(_) | Spot::Key(_) => Ok(()),
+        }
+    }
+
+    /// The type of the resource here. Types that aren't read are refused.
+    pub fn resource_type(self) -> Result<ResourceReprType, BinaryDeserializerError>
+        ensures { MatchResult result (λ t. type_at self.entry.at ≡ Some (type_number t)) (λ e. type_at self.entry.at ≡ None) }
+    {
+        match self.at {
+            Spot::Descriptor(word) => {
+                let kind = word >> 28;
+                if kind == 0 || kind == 3 {
+                    return Err(unsupported_type());
+                }
+                ResourceReprType::try_from(kind as u16)
+            }
+            Spot::Unit(_) => Ok(ResourceReprType::StringV2),
+            Spot::Word(_) | Spot::Key(_) => Err(elsewhere()),
+        }
+    }
+}

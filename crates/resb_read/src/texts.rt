@@ -1,0 +1,220 @@
+//! Texts, keys and bytes, at a descriptor, at a string's unit and at a key.
+//! Bytes, keys and borrowed texts live as long as the file.
+ghost use Rattle.std.specs.Prelude.{◌≡◌, ◌≤◌, ◌<◌, ◌+◌, ◌*◌, ◌^◌, ℕ, Some, None, length, option_map, IfOk, IfErr, MatchResult};
+ghost use Rattle.std.specs.String.{string_bytes};
+ghost use Rattle.resb_format.specs.Bytes.{units_of};
+ghost use Rattle.resb_format.specs.Strings as strings;
+ghost use Rattle.resb_walk.specs.Files.{parts_in};
+ghost use Rattle.resb_read.specs.Places.{place_of};
+ghost use Rattle.resb_read.specs.Reading.{Reads, LacksOrMemory};
+ghost use Rattle.resb_read.specs.Leaves.{type_in, value_in, units_as_bytes, counted_bytes, bytes_of_type, ReadsText, CountsText, ReadsKey, CountsKey, ReadsBytes, CountsBytes};
+ghost use Rattle.resb_read.specs.LeafLaws.{text_counted, text_one, key_counted, key_one, bytes_counted, bytes_one};
+
+use crate::cursor::{Cursor, Spot};
+use crate::deserialize::Deserialize;
+use crate::faults::{elsewhere, mismatch};
+use resb_format::bytes::{some_bytes, some_word};
+use resb_format::{BinaryDeserializerError, Key, ReadingError, string_at};
+use resb_walk::faults::past_end;
+use resb_walk::{File, Walk, text_of_units};
+use std::alloc::Global;
+
+/// Bytes in pairs, which are those that their units are written as.
+fn whole_units(bytes: &[u8]) -> &[u8]
+    requires { length bytes.now ≡ 2 * length (units_of bytes.now) }
+    ensures same { result.now ≡ bytes.now }
+    ensures written { units_as_bytes (units_of bytes.now) ≡ bytes.now }
+{
+    bytes
+}
+
+/// The bytes of the units of the string at a unit, which need be no text.
+fn units_at(block: &[u8], unit: usize) -> Result<&[u8], BinaryDeserializerError>
+    ensures { let there = option_map units_as_bytes (strings.string_at (units_of block.now) unit) in
+        MatchResult result (λ b. there ≡ Some b.now) (λ e. there ≡ None) }
+{
+    match string_at(block, unit) {
+        Ok(view) => Ok(whole_units(view.as_bytes())),
+        Err(error) => Err(error),
+    }
+}
+
+/// The bytes of items of so many bytes each, behind their count.
+fn counted_at(file: File<'_>, each: usize, value: usize) -> Result<&[u8], BinaryDeserializerError>
+    requires small { value < 2 ^ 28 }
+    requires few { each ≤ 4 }
+    ensures { let there = counted_bytes (parts_in file.entry) each value in
+        MatchResult result (λ b. there ≡ Some b.now) (λ e. there ≡ None) }
+{
+    let Some(count) = some_word(file.body, value) else {
+        return Err(past_end());
+    };
+    let Some(bytes) = some_bytes(file.body, 4 * value + 4, each * count as usize) else {
+        return Err(past_end());
+    };
+    Ok(bytes)
+}
+
+/// The bytes of what stands at a descriptor.
+fn described(file: File<'_>, word: u32) -> Result<&[u8], BinaryDeserializerError>
+    ensures { let there = bytes_of_type (parts_in file.entry) (type_in word) (value_in word) in
+        MatchResult result (λ b. there ≡ Some b.now) (λ e. there ≡ None) }
+{
+    let value = (word % 0x1000_0000) as usize;
+    match word >> 28 {
+        1 | 6 | 14 if value == 0 => Ok(&[]),
+        1 => counted_at(file, 1, value),
+        6 => units_at(file.block, value),
+        14 => counted_at(file, 4, value),
+        _ => Err(mismatch(word, "expected binary data resource")),
+    }
+}
+
+impl<'de> Cursor<'de> {
+    /// Reads a text: a string, or a key.
+    pub fn read_string(
+        self,
+        alloc: Global,
+        walk: &mut Walk,
+    ) -> Result<String, BinaryDeserializerError>
+        ensures read { IfOk result (λ s. (n : ℕ) × ReadsText (place_of self.entry) (string_bytes s) n × (walk.new + n ≡ walk.old)) }
+        ensures refused { IfErr result (λ e. (walk.new ≤ walk.old) × LacksOrMemory (CountsText (place_of self.entry)) walk.old e) }
+    {
+        match self.at {
+            Spot::Descriptor(word) => {
+                walk.pay()?;
+                if word >> 28 != 6 {
+                    return Err(mismatch(word, "expected string resource"));
+                }
+                let unit = (word % 0x1000_0000) as usize;
+                if unit == 0 {
+                    return Ok(String::new(alloc));
+                }
+                let units = self.file.text(unit)?;
+                Ok(text_of_units(alloc, units)?)
+            }
+            Spot::Unit(unit) => {
+                walk.pay()?;
+                let units = self.file.text(usize::from(unit))?;
+                Ok(text_of_units(alloc, units)?)
+            }
+            Spot::Key(position) => {
+                let key = self.file.key(position)?;
+                Ok(String::from_str(alloc, key)?)
+            }
+            Spot::Word(_) => Err(elsewhere()),
+        }
+    }
+
+    /// Reads a key, which lives as long as the file.
+    pub fn read_str(self, _walk: &mut Walk) -> Result<&'de str, BinaryDeserializerError>
+        ensures { let p = place_of self.entry in
+            Reads (λ s n. ReadsKey p s.now n) (CountsKey p) _walk.old _walk.new result }
+    {
+        match self.at {
+            Spot::Key(position) => {
+                let key = self.file.key(position)?;
+                Ok(key)
+            }
+            Spot::Descriptor(_) | Spot::Unit(_) | Spot::Word(_) => Err(elsewhere()),
+        }
+    }
+
+    /// Reads bytes, which live as long as the file: those of a Binary, of a vector's words, of a
+    /// string's units, which need be no text, or of a key.
+    pub fn read_bytes(self, walk: &mut Walk) -> Result<&'de [u8], BinaryDeserializerError>
+        ensures { let p = place_of self.entry in
+            Reads (λ b n. ReadsBytes p b.now n) (CountsBytes p) walk.old walk.new result }
+    {
+        match self.at {
+            Spot::Descriptor(word) => {
+                walk.pay()?;
+                let bytes = described(self.file, word)?;
+                Ok(bytes)
+            }
+            Spot::Unit(unit) => {
+                walk.pay()?;
+                let bytes = units_at(self.file.block, usize::from(unit))?;
+                Ok(bytes)
+            }
+            Spot::Key(position) => {
+                let key = self.file.key(position)?;
+                Ok(key.as_bytes())
+            }
+            Spot::Word(_) => Err(elsewhere()),
+        }
+    }
+}
+
+impl<'de> Deserialize<'de> for String {
+    ghost reads = { λ p s n. ReadsText p (string_bytes s) n };
+
+    ghost counts = { CountsText };
+
+    ghost counted = { λ p s n. text_counted p (string_bytes s) n };
+
+    ghost one_count = { text_one };
+
+    fn deserialize<'m>(
+        alloc: Global,
+        at: Cursor<'de>,
+        walk: &mut Walk,
+    ) -> Result<String, ReadingError<'m>> {
+        at.read_string(alloc, walk)
+    }
+}
+
+impl<'de> Deserialize<'de> for &'de str {
+    ghost reads = { λ p s n. ReadsKey p s.now n };
+
+    ghost counts = { CountsKey };
+
+    ghost counted = { λ p s n. key_counted p s.now n };
+
+    ghost one_count = { key_one };
+
+    fn deserialize<'m>(
+        _alloc: Global,
+        at: Cursor<'de>,
+        walk: &mut Walk,
+    ) -> Result<&'de str, ReadingError<'m>> {
+        at.read_str(walk)
+    }
+}
+
+impl<'de> Deserialize<'de> for Key<'de> {
+    ghost reads = { ReadsKey };
+
+    ghost counts = { CountsKey };
+
+    ghost counted = { key_counted };
+
+    ghost one_count = { key_one };
+
+    fn deserialize<'m>(
+        _alloc: Global,
+        at: Cursor<'de>,
+        walk: &mut Walk,
+    ) -> Result<Key<'de>, ReadingError<'m>> {
+        let text = at.read_str(walk)?;
+        Ok(Key::from(text))
+    }
+}
+
+impl<'de> Deserialize<'de> for &'de [u8] {
+    ghost reads = { λ p b n. ReadsBytes p b.now n };
+
+    ghost counts = { CountsBytes };
+
+    ghost counted = { λ p b n. bytes_counted p b.now n };
+
+    ghost one_count = { bytes_one };
+
+    fn deserialize<'m>(
+        _alloc: Global,
+        at: Cursor<'de>,
+        walk: &mut Walk,
+    ) -> Result<&'de [u8], ReadingError<'m>> {
+        at.read_bytes(walk)
+    }
+}

@@ -1,0 +1,72 @@
+//! Files that are handed in as words, and the order of bytes that a file names.
+//! Files of bytes are read in `entry`.
+ghost use Rattle.std.specs.Prelude.{◌≡◌, ◌≤◌, ◌⊎◌, true, ℕ, [], None, Some, slice_index, MatchResult, IfOk, IfErr};
+ghost use Rattle.std.specs.Int.{to_le_bytes, w32};
+ghost use Rattle.std.specs.List.{flat_map};
+ghost use Rattle.resb_format.specs.Codes.{endianness_number};
+ghost use Rattle.resb_format.specs.Error.{IsWantOfMemory};
+ghost use Rattle.resb_format.specs.File.{budget};
+ghost use Rattle.resb_format.specs.HeadChecks as checks;
+ghost use Rattle.resb_format.specs.HeadChecks.{file_fault, header_fault, refusal_of};
+ghost use Rattle.resb_read.specs.Reading.{LacksOrMemory};
+ghost use Rattle.resb_read.specs.Roots.{AtRoot};
+
+use crate::deserialize::Deserialize;
+use crate::entry::from_bytes;
+use resb_format::{BinHeader, BinaryDeserializerError, Endianness, ReadingError};
+use std::alloc::Global;
+
+/// Lays the bytes of words in a buffer, each with its lowest byte first. What the buffer held goes.
+/// Room for all bytes is asked for once; where it is refused the buffer is empty.
+pub fn lay_words(
+    _alloc: Global,
+    words: &[u32],
+    buffer: &mut Vec<u8>,
+) -> Result<(), BinaryDeserializerError>
+    ensures { MatchResult result
+        (λ _. buffer.new.items ≡ flat_map (to_le_bytes w32) words.now)
+        (λ e. IsWantOfMemory e × (buffer.new.items ≡ [])) }
+{
+    buffer.clear();
+    let Some(size) = words.len().checked_mul(4) else {
+        return Err(BinaryDeserializerError::out_of_memory());
+    };
+    if buffer.reserve(size).is_err() {
+        return Err(BinaryDeserializerError::out_of_memory());
+    }
+    for word in words {
+        if buffer.extend_from_slice(&word.to_le_bytes()).is_err() {
+            buffer.clear();
+            return Err(BinaryDeserializerError::out_of_memory());
+        }
+    }
+    Ok(())
+}
+
+/// Reads a value from a file of words, whose bytes are laid in the buffer and stay there.
+pub fn from_words<'a, 'm, T: Deserialize<'a>>(
+    alloc: Global,
+    words: &[u32],
+    buffer: &'a mut Vec<u8>,
+) -> Result<T, ReadingError<'m>>
+    ensures read { let bytes = flat_map (to_le_bytes w32) words.now in
+        IfOk result (λ x. (n : ℕ) × AtRoot (λ p. T.reads p x n) bytes × (n ≤ budget bytes)) }
+    ensures refused { let bytes = flat_map (to_le_bytes w32) words.now in
+        IfErr result (λ e. LacksOrMemory (λ n. AtRoot (λ p. T.counts p n) bytes) (budget bytes) e) }
+    ensures head { let bytes = flat_map (to_le_bytes w32) words.now in
+        IfErr result (λ e. IsWantOfMemory e ⊎ ((f : checks.Refusal) → file_fault bytes ≡ Some f → refusal_of e ≡ f)) }
+{
+    lay_words(alloc, words, buffer)?;
+    let bytes: &'a [u8] = buffer.as_slice();
+    from_bytes::<T>(alloc, bytes)
+}
+
+/// The order of bytes that a file's header names. The header's numbers are read in that order.
+pub fn determine_endianness(bytes: &[u8]) -> Result<Endianness, BinaryDeserializerError>
+    ensures { MatchResult result
+        (λ x. (header_fault true bytes.now ≡ None) × (endianness_number x ≡ slice_index bytes.now 8))
+        (λ e. header_fault true bytes.now ≡ Some (refusal_of e)) }
+{
+    let header = BinHeader::read_any_order(bytes)?;
+    Ok(header.repr_info.endianness)
+}

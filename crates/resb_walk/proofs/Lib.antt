@@ -1,0 +1,9 @@
+pub mod Lists
+pub mod Entries
+pub mod Lift
+pub mod Waits
+pub mod Chain
+pub mod Turns
+pub mod Placed
+pub mod Made
+pub mod Surrogates

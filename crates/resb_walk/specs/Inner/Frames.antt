@@ -1,0 +1,56 @@
+-- Open collections: what of them has been read.
+--     Opened f w n            the collection f stands at the word w, its members so far denote n resources, and it has made what they denote
+--     Waits f w x n           the same, where the member x is being read
+use Rattle.std.specs.Prelude.{ℕ, List, [], ◌∷◌, ◌++◌, Some, ◌≡◌}
+use Rattle.resb_tree.specs.Tree.{Tree}
+use Rattle.resb_format.specs.Strings.{key_at}
+use Rattle.resb_format.specs.Parts.{Parts}
+use Rattle.resb_format.specs.Content.{Member, list, pairs, content}
+use Rattle.resb_format.specs.Denotes.{DenEach, DenPairs}
+use Rattle.resb_walk.specs.Inner.Members.{members_of, pairs_of}
+use Rattle.resb_walk.specs.declared.file.Members.{Members}
+use Rattle.resb_walk.specs.declared.file.Pairs.{Pairs}
+use Rattle.resb_walk.specs.declared.frame.Open.{Open}
+use Rattle.resb_walk.specs.declared.frame.Open.TheVariants as open_
+use Rattle.resb_walk.specs.declared.frame.Waiting.{Waiting}
+use Rattle.resb_walk.specs.declared.frame.Waiting.TheVariants as waiting
+use Rattle.std.specs.Borrow.{Bor}
+
+module _ {L T : Type 0} (lists : L → List Tree → Type 0) (tables : T → List (List ℕ × Tree) → Type 0) (p : Parts) where
+  pub record OpenedList (rest : Members) (made : L) (w n : ℕ) : Type 0 where
+    pub done : List Member
+    pub trees : List Tree
+    pub stands : content p w ≡ Some (list (done ++ members_of rest))
+    pub each : DenEach p done trees n
+    pub is_made : lists made trees
+
+  pub record OpenedTable (rest : Pairs) (made : T) (w n : ℕ) : Type 0 where
+    pub done : List (ℕ × Member)
+    pub entries : List (List ℕ × Tree)
+    pub stands : content p w ≡ Some (pairs (done ++ pairs_of rest))
+    pub each : DenPairs p done entries n
+    pub is_made : tables made entries
+
+  pub record ListWaits (rest : Members) (made : L) (w : ℕ) (x : Member) (n : ℕ) : Type 0 where
+    pub done : List Member
+    pub trees : List Tree
+    pub stands : content p w ≡ Some (list (done ++ x ∷ members_of rest))
+    pub each : DenEach p done trees n
+    pub is_made : lists made trees
+
+  pub record TableWaits (rest : Pairs) (made : T) (key : List ℕ) (w : ℕ) (x : Member) (n : ℕ) : Type 0 where
+    pub done : List (ℕ × Member)
+    pub entries : List (List ℕ × Tree)
+    pub place : ℕ
+    pub stands : content p w ≡ Some (pairs (done ++ (place, x) ∷ pairs_of rest))
+    pub keyed : key_at p.keys place ≡ Some key
+    pub each : DenPairs p done entries n
+    pub is_made : tables made entries
+
+  abbrev pub Opened : Open L T → ℕ → ℕ → Type 0
+  Opened (open_.List rest made) w n = OpenedList rest made w n
+  Opened (open_.Table rest made) w n = OpenedTable rest made w n
+
+  abbrev pub Waits : Waiting L T → ℕ → Member → ℕ → Type 0
+  Waits (waiting.List rest made) w x n = ListWaits rest made w x n
+  Waits (waiting.Table rest made key) w x n = TableWaits rest made key.now w x n

@@ -1,0 +1,48 @@
+-- The members and entries that are still to come, and the tree of a leaf.
+use Rattle.std.specs.Prelude.{ℕ, ◌%◌, ◌^◌, List, [], map, encode_utf8_all}
+use Rattle.std.specs.List.{zip}
+use Rattle.std.specs.Char.Utf16.{utf16_lossy_chars}
+use Rattle.resb_tree.specs.Tree.{Tree, string, binary, integer, int_vector}
+use Rattle.resb_format.specs.Bytes.{units_of, words_of}
+use Rattle.resb_format.specs.Content as at
+use Rattle.resb_walk.specs.declared.file.Leaf.{Leaf}
+use Rattle.resb_walk.specs.declared.file.Leaf.TheVariants.{Text, Empty, Binary, Integer, Numbers}
+use Rattle.resb_walk.specs.declared.file.Member.{Member}
+use Rattle.resb_walk.specs.declared.file.Member.TheVariants as one
+use Rattle.resb_walk.specs.declared.file.Members.{Members}
+use Rattle.resb_walk.specs.declared.file.Members.TheVariants as some
+use Rattle.resb_walk.specs.declared.file.Positions.{Positions}
+use Rattle.resb_walk.specs.declared.file.Positions.TheVariants.{Halves, Wholes}
+use Rattle.resb_walk.specs.declared.file.Pairs.{Pairs}
+use Rattle.resb_walk.specs.declared.file.Standing.{Standing}
+use Rattle.resb_walk.specs.declared.file.Standing.TheVariants as kind
+
+abbrev pub text_of_bytes : List ℕ → List ℕ
+text_of_bytes bs = encode_utf8_all (utf16_lossy_chars (units_of bs))
+
+abbrev pub leaf_tree : Leaf → Tree
+leaf_tree (Text b) = string (text_of_bytes b.now)
+leaf_tree (Binary b) = binary b.now
+leaf_tree (Integer w) = integer (w % 2 ^ 28)
+leaf_tree (Numbers b) = int_vector (words_of b.now)
+leaf_tree Empty = string []
+
+abbrev pub member_of : Member → at.Member
+member_of (one.Word w) = at.word w
+member_of (one.Unit u) = at.unit u
+
+abbrev pub members_of : Members → List at.Member
+members_of (some.Words b) = map at.word (words_of b.now)
+members_of (some.Units b) = map at.unit (units_of b.now)
+
+abbrev pub positions_of : Positions → List ℕ
+positions_of (Halves b) = units_of b.now
+positions_of (Wholes b) = words_of b.now
+
+abbrev pub pairs_of : Pairs → List (ℕ × at.Member)
+pairs_of s = zip (positions_of s.keys) (members_of s.members)
+
+abbrev pub content_of : Standing → at.Content
+content_of (kind.Leaf l) = at.leaf (leaf_tree l)
+content_of (kind.List ms) = at.list (members_of ms)
+content_of (kind.Table ps) = at.pairs (pairs_of ps)

@@ -1,0 +1,29 @@
+-- What a reading answers within a budget.
+--     IsSpent e               the error says that the budget is spent
+--     IsFault e               it says neither that, nor want of memory
+--     Refuses den reaches left e      why a reading with so much left is refused
+use Rattle.std.specs.Prelude.{◌≡◌, ◌≢◌, ◌≤◌, ◌+◌, ◌⊎◌, ℕ, Result, Ok, Err, codes}
+use Rattle.resb_format.specs.Error.{kind_of, message_of, IsInvalid, IsWantOfMemory}
+use Rattle.resb_format.specs.declared.error.ErrorKind.TheVariants.{OutOfMemory}
+use Rattle.resb_format.specs.declared.error.ReadingError.{ReadingError}
+
+abbrev pub IsSpent : ReadingError → Type 0
+IsSpent e = IsInvalid e (codes "resource budget spent")
+
+pub record IsFault (e : ReadingError) : Type 0 where
+  pub not_memory : kind_of e ≢ OutOfMemory
+  pub not_spent : message_of e ≢ codes "resource budget spent"
+
+-- nothing is denoted, and no more resources than these are reached
+abbrev pub Stuck : {T : Type 0} → (T → ℕ → Type 0) → (ℕ → Type 0) → ℕ → Type 0
+Stuck {T} den reaches left = ((t : T) (n : ℕ) → den t n → ⊥) × (reaches (left + 1) → ⊥)
+
+-- memory; or one resource more than the budget is reached; or a fault, where nothing is denoted
+abbrev pub Refuses : {T : Type 0} → (T → ℕ → Type 0) → (ℕ → Type 0) → ℕ → ReadingError → Type 0
+Refuses den reaches left e =
+    IsWantOfMemory e ⊎ ((IsSpent e × reaches (left + 1)) ⊎ (IsFault e × Stuck den reaches left))
+
+-- a value that stands for what is denoted, and is paid for, or a refusal
+abbrev pub Answers : {X T : Type 0} → (X → T → Type 0) → (T → ℕ → Type 0) → (ℕ → Type 0) → ℕ → ℕ → Result X ReadingError → Type 0
+Answers {X} {T} is den reaches left left' (Ok x) = (t : T) × (n : ℕ) × den t n × is x t × (left' + n ≡ left)
+Answers is den reaches left left' (Err e) = (left' ≤ left) × Refuses den reaches left e

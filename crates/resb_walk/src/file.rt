@@ -1,0 +1,151 @@
+//! The parts of a file, what has no members, and the members that are still to come.
+//! Where they stand is found in `standing`.
+ghost use Rattle.std.specs.Prelude.{◌≡◌, [], ◌∷◌, MatchOption, length};
+ghost use Rattle.resb_walk.specs.Inner.Members.{member_of, members_of, positions_of, pairs_of};
+
+use resb_format::bytes::{first_unit, first_word};
+
+/// The parts of a file, each in bytes: the body, the key block at its front, and the 16-bit block.
+#[derive(Clone, Copy)]
+pub struct File<'a> {
+    pub body: &'a [u8],
+    pub keys: &'a [u8],
+    pub block: &'a [u8],
+}
+
+/// A resource that has no members.
+#[derive(Clone, Copy)]
+pub enum Leaf<'a> {
+    /// Well-formed UTF-16, two bytes for each unit.
+    Text(&'a [u8]),
+    /// The empty text.
+    Empty,
+    /// Bytes.
+    Binary(&'a [u8]),
+    /// A word whose lower 28 bits are the number.
+    Integer(u32),
+    /// Four bytes for each number.
+    Numbers(&'a [u8]),
+}
+
+/// A member of a collection: a resource's word, or a string's unit.
+#[derive(Clone, Copy)]
+pub enum Member {
+    /// A descriptor's word.
+    Word(u32),
+    /// A unit of the 16-bit block.
+    Unit(u16),
+}
+
+/// Members that are still to come.
+#[derive(Clone, Copy)]
+pub enum Members<'a> {
+    /// Four bytes for each descriptor.
+    Words(&'a [u8]),
+    /// Two bytes for each string's offset.
+    Units(&'a [u8]),
+}
+
+/// Positions of keys that are still to come.
+#[derive(Clone, Copy)]
+pub enum Positions<'a> {
+    /// Two bytes for each.
+    Halves(&'a [u8]),
+    /// Four bytes for each.
+    Wholes(&'a [u8]),
+}
+
+/// Entries that are still to come.
+#[derive(Clone, Copy)]
+pub struct Pairs<'a> {
+    pub keys: Positions<'a>,
+    pub members: Members<'a>,
+}
+
+/// What stands at a word.
+#[derive(Clone, Copy)]
+pub enum Standing<'a> {
+    /// A resource without members.
+    Leaf(Leaf<'a>),
+    /// An array.
+    List(Members<'a>),
+    /// A table.
+    Table(Pairs<'a>),
+}
+
+impl<'a> Members<'a> {
+    /// How many members are still to come.
+    #[tactic(auto, using(crate::proofs::Placed::map_length, resb_format::proofs::Spelled::words_length, resb_format::proofs::Spelled::units_length))]
+    pub fn len(self) -> usize
+        ensures { result ≡ length (members_of self.entry) }
+    {
+        match self {
+            Members::Words(bytes) => bytes.len() / 4,
+            Members::Units(bytes) => bytes.len() / 2,
+        }
+    }
+
+    /// The first member, and those after it.
+    pub fn split(self) -> Option<(Member, Members<'a>)>
+        ensures { MatchOption result (members_of self.entry ≡ []) (λ r. members_of self.entry ≡ member_of r.0 ∷ members_of r.1) }
+    {
+        match self {
+            Members::Words(bytes) => {
+                let (word, rest) = first_word(bytes)?;
+                Some((Member::Word(word), Members::Words(rest)))
+            }
+            Members::Units(bytes) => {
+                let (unit, rest) = first_unit(bytes)?;
+                Some((Member::Unit(unit), Members::Units(rest)))
+            }
+        }
+    }
+}
+
+impl<'a> Positions<'a> {
+    /// How many positions are still to come.
+    #[tactic(auto, using(resb_format::proofs::Spelled::words_length, resb_format::proofs::Spelled::units_length))]
+    pub fn len(self) -> usize
+        ensures { result ≡ length (positions_of self.entry) }
+    {
+        match self {
+            Positions::Halves(bytes) => bytes.len() / 2,
+            Positions::Wholes(bytes) => bytes.len() / 4,
+        }
+    }
+
+    /// The first position, and those after it.
+    pub fn split(self) -> Option<(usize, Positions<'a>)>
+        ensures { MatchOption result (positions_of self.entry ≡ []) (λ r. positions_of self.entry ≡ r.0 ∷ positions_of r.1) }
+    {
+        match self {
+            Positions::Halves(bytes) => {
+                let (unit, rest) = first_unit(bytes)?;
+                Some((usize::from(unit), Positions::Halves(rest)))
+            }
+            Positions::Wholes(bytes) => {
+                let (word, rest) = first_word(bytes)?;
+                Some((word as usize, Positions::Wholes(rest)))
+            }
+        }
+    }
+}
+
+impl<'a> Pairs<'a> {
+    /// How many entries are still to come.
+    #[tactic(auto, using(crate::proofs::Placed::zip_length))]
+    pub fn len(self) -> usize
+        ensures { result ≡ length (pairs_of self.entry) }
+    {
+        self.keys.len().min(self.members.len())
+    }
+
+    /// The first entry, and those after it.
+    pub fn split(self) -> Option<(usize, Member, Pairs<'a>)>
+        ensures { MatchOption result (pairs_of self.entry ≡ []) (λ r. pairs_of self.entry ≡ (r.0, member_of r.1) ∷ pairs_of r.2) }
+    {
+        let (position, keys) = self.keys.split()?;
+        let (member, members) = self.members.split()?;
+        Some((position, member, Pairs { keys, members }))
+    }
+}

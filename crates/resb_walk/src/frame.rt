@@ -1,0 +1,79 @@
+//! Open collections, step by step: members are taken from one, and put in when they are made.
+//! In which order they are open is the business of `reading`.
+ghost use Rattle.std.specs.Prelude.{◌≡◌, ℕ, ◌+◌};
+ghost use Rattle.resb_tree.specs.Tree.{Tree};
+ghost use Rattle.resb_format.specs.Parts.{Parts};
+ghost use Rattle.resb_format.specs.Content as at;
+ghost use Rattle.resb_format.specs.Denotes.{DenMember};
+ghost use Rattle.resb_walk.specs.Files.{parts_in};
+ghost use Rattle.resb_walk.specs.Inner.Frames.{Opened, Waits};
+ghost use Rattle.resb_walk.specs.Inner.Turns.{Steps, Puts};
+
+use crate::file::{File, Member, Members, Pairs};
+use crate::make::Make;
+use resb_format::ReadingError;
+
+/// A collection whose members are read one by one: those still to come, and what is made of the others.
+#[derive(Drop)]
+pub enum Open<'a, L, T> {
+    List(Members<'a>, L),
+    Table(Pairs<'a>, T),
+}
+
+/// An open collection of which a member is being read: for a table also its key.
+#[derive(Drop)]
+pub enum Waiting<'a, L, T> {
+    List(Members<'a>, L),
+    Table(Pairs<'a>, T, &'a str),
+}
+
+/// A step of an open collection.
+#[derive(Drop)]
+pub enum Step<'a, X, L, T> {
+    /// A member is wanted.
+    Wants(Member, Waiting<'a, L, T>),
+    /// All members were read.
+    Done(X),
+}
+
+/// A member, read up to its own members.
+#[derive(Drop)]
+pub enum Read<'a, X, L, T> {
+    Made(X),
+    Begun(Open<'a, L, T>),
+}
+
+/// A step of an open collection.
+pub fn advance<'a, 'm, M: Make<'a>>(
+    file: File<'a>,
+    frame: Open<'a, M::List, M::Table>,
+) -> Result<Step<'a, M, M::List, M::Table>, ReadingError<'m>>
+    ensures { (w n : ℕ) → Opened M.lists M.tables (parts_in file.entry) frame.entry w n → Steps M.is M.lists M.tables (parts_in file.entry) w n result }
+{
+    match frame {
+        Open::List(rest, made) => match rest.split() {
+            Some((member, rest)) => Ok(Step::Wants(member, Waiting::List(rest, made))),
+            None => Ok(Step::Done(M::end_list(made))),
+        },
+        Open::Table(rest, made) => match rest.split() {
+            Some((position, member, rest)) => match file.key(position) {
+                Ok(key) => Ok(Step::Wants(member, Waiting::Table(rest, made, key))),
+                Err(error) => Err(error),
+            },
+            None => Ok(Step::Done(M::end_table(made))),
+        },
+    }
+}
+
+/// The collection with the member that it waited for.
+pub fn put<'a, 'm, M: Make<'a>>(
+    waiting: Waiting<'a, M::List, M::Table>,
+    item: M,
+) -> Result<Open<'a, M::List, M::Table>, ReadingError<'m>>
+    ensures { (p : Parts) (w n k : ℕ) (x : at.Member) (t : Tree) → Waits M.lists M.tables p waiting.entry w x n → DenMember p x t k → M.is item t → Puts M.lists M.tables p w (n + k) result }
+{
+    match waiting {
+        Waiting::List(rest, made) => Ok(Open::List(rest, M::add(made, item)?)),
+        Waiting::Table(rest, made, key) => Ok(Open::Table(rest, M::put(made, key, item)?)),
+    }
+}

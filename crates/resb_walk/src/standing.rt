@@ -1,0 +1,301 @@
+//! What stands at a word, at a unit of the 16-bit block, and at a key's position.
+//! Bytes are looked at in `resb_format::bytes` alone.
+ghost use Rattle.std.specs.Prelude.{◌≡◌, ◌<◌, not, position, ◌==◌, Some, None, MatchOption, MatchResult};
+ghost use Rattle.std.specs.Char.Utf16.{is_high_surrogate, is_low_surrogate, has_unpaired_surrogate};
+ghost use Rattle.resb_format.specs.Bytes.{units_of};
+ghost use Rattle.resb_format.specs.Strings.{text_at, key_at};
+ghost use Rattle.resb_format.specs.Content as at;
+ghost use Rattle.resb_format.specs.Content.{content};
+ghost use Rattle.resb_walk.specs.Files.{parts_in};
+ghost use Rattle.resb_walk.specs.Inner.Members.{content_of, text_of_bytes};
+ghost use Rattle.resb_walk.specs.Refusals.{IsFault};
+
+use crate::faults::{
+    key_not_utf8, key_past_end, key_unterminated, not_utf16, past_end, unknown_type,
+    unsupported_type,
+};
+use crate::file::{File, Leaf, Members, Pairs, Positions, Standing};
+use resb_format::bytes::{
+    first_unit, some_bytes, some_unit, some_units, some_word, some_words,
+};
+use resb_format::{BinaryDeserializerError, string_at};
+
+/// Whether it is the first unit of a pair.
+fn is_high(unit: u16) -> bool
+    ensures { result ≡ is_high_surrogate unit }
+{
+    0xd800 <= unit && unit < 0xdc00
+}
+
+/// Whether it is the second unit of a pair.
+fn is_low(unit: u16) -> bool
+    ensures { result ≡ is_low_surrogate unit }
+{
+    0xdc00 <= unit && unit < 0xe000
+}
+
+/// Whether each surrogate has its partner.
+#[tactic(auto, using(crate::proofs::Surrogates::no_surrogate, crate::proofs::Surrogates::low_alone, crate::proofs::Surrogates::high_last, crate::proofs::Surrogates::high_alone, crate::proofs::Surrogates::a_pair, crate::proofs::Surrogates::nothing))]
+fn is_well_formed(bytes: &[u8]) -> bool
+    ensures { result ≡ not (has_unpaired_surrogate (units_of bytes.now)) }
+{
+    let mut rest = bytes;
+    'units: while let Some((first, later)) = first_unit(rest) {
+        if is_high(first) {
+            let Some((second, after)) = first_unit(later) else {
+                return false;
+            };
+            if !is_low(second) {
+                return false;
+            }
+            rest = after;
+        } else {
+            if is_low(first) {
+                return false;
+            }
+            rest = later;
+        }
+    }
+    true
+}
+
+/// The number of the first zero byte.
+fn first_zero(bytes: &[u8]) -> Option<usize>
+    ensures { result ≡ position (λ b. b == 0) bytes.now }
+{
+    bytes.iter().position(|b| *b == 0)
+}
+
+/// What is said of a type that isn't read.
+fn unread_type(kind: u32) -> BinaryDeserializerError
+    ensures { IsFault result }
+{
+    match kind {
+        0 | 3 => unsupported_type(),
+        _ => unknown_type(),
+    }
+}
+
+impl<'a> File<'a> {
+    /// The key at a position, in bytes from the body's start: what stands before the next zero byte.
+    #[tactic(auto, using(crate::proofs::Placed::key_some, crate::proofs::Placed::key_invalid), unfolding(resb_format::specs::Strings::key_at))]
+    pub fn key(self, at: usize) -> Result<&'a str, BinaryDeserializerError>
+        ensures { let keys = self.entry.keys.now in
+            MatchResult result (λ s. key_at keys at ≡ Some s.now) (λ e. (key_at keys at ≡ None) × IsFault e) }
+    {
+        if self.keys.len() < at {
+            return Err(key_past_end());
+        }
+        let (_, tail) = self.keys.split_at(at);
+        let Some(end) = first_zero(tail) else {
+            return Err(key_unterminated());
+        };
+        if end > tail.len() {
+            return Err(key_unterminated());
+        }
+        let (front, _) = tail.split_at(end);
+        match str::from_utf8(front) {
+            Ok(text) => Ok(text),
+            Err(_) => Err(key_not_utf8()),
+        }
+    }
+
+    /// The units of the string at a unit of the 16-bit block, two bytes for each, which are a text.
+    #[tactic(auto, using(crate::proofs::Placed::text_some, crate::proofs::Placed::text_unpaired))]
+    pub fn text(self, unit: usize) -> Result<&'a [u8], BinaryDeserializerError>
+        ensures { let block = units_of self.entry.block.now in
+            MatchResult result (λ v. text_at block unit ≡ Some (text_of_bytes v.now)) (λ e. (text_at block unit ≡ None) × IsFault e) }
+    {
+        match string_at(self.block, unit) {
+            Ok(view) => {
+                let bytes = view.as_bytes();
+                if is_well_formed(bytes) {
+                    Ok(bytes)
+                } else {
+                    Err(not_utf16())
+                }
+            }
+            Err(error) => Err(error),
+        }
+    }
+
+    /// What stands at a word.
+    #[tactic(auto, unfolding(resb_format::specs::Content::content))]
+    pub fn standing(self, word: u32) -> Result<Standing<'a>, BinaryDeserializerError>
+        ensures { let p = parts_in self.entry in
+            MatchResult result (λ s. content p word ≡ Some (content_of s)) (λ e. (content p word ≡ None) × IsFault e) }
+    {
+        let kind = word >> 28;
+        let value = (word % 0x1000_0000) as usize;
+        if kind == 7 {
+            return Ok(Standing::Leaf(Leaf::Integer(word)));
+        }
+        if value == 0 {
+            return empty(kind);
+        }
+        self.placed(kind, value)
+    }
+
+    /// What a type with a value other than 0 leads to.
+    fn placed(self, kind: u32, value: usize) -> Result<Standing<'a>, BinaryDeserializerError>
+        requires { value < 268435456 }
+        ensures { let p = parts_in self.entry in
+            MatchResult result (λ s. at.placed p kind value ≡ Some (content_of s)) (λ e. (at.placed p kind value ≡ None) × IsFault e) }
+    {
+        match kind {
+            1 => self.binary(value),
+            2 => self.table(value),
+            4 => self.table32(value),
+            5 => self.table16(value),
+            6 => Ok(Standing::Leaf(Leaf::Text(self.text(value)?))),
+            8 => self.array(value),
+            9 => self.array16(value),
+            14 => self.int_vector(value),
+            _ => Err(unread_type(kind)),
+        }
+    }
+
+    /// A count of bytes, and the bytes.
+    fn binary(self, value: usize) -> Result<Standing<'a>, BinaryDeserializerError>
+        requires { value < 268435456 }
+        ensures { let p = parts_in self.entry in
+            MatchResult result (λ s. at.binary_at p value ≡ Some (content_of s)) (λ e. (at.binary_at p value ≡ None) × IsFault e) }
+    {
+        let Some(count) = some_word(self.body, value) else {
+            return Err(past_end());
+        };
+        let Some(bytes) = some_bytes(self.body, 4 * value + 4, count as usize) else {
+            return Err(past_end());
+        };
+        Ok(Standing::Leaf(Leaf::Binary(bytes)))
+    }
+
+    /// A count of numbers, and the numbers.
+    fn int_vector(self, value: usize) -> Result<Standing<'a>, BinaryDeserializerError>
+        requires { value < 268435456 }
+        ensures { let p = parts_in self.entry in
+            MatchResult result (λ s. at.int_vector_at p value ≡ Some (content_of s)) (λ e. (at.int_vector_at p value ≡ None) × IsFault e) }
+    {
+        let Some(count) = some_word(self.body, value) else {
+            return Err(past_end());
+        };
+        let Some(numbers) = some_words(self.body, value + 1, count as usize) else {
+            return Err(past_end());
+        };
+        Ok(Standing::Leaf(Leaf::Numbers(numbers)))
+    }
+
+    /// A count of descriptors, and the descriptors.
+    fn array(self, value: usize) -> Result<Standing<'a>, BinaryDeserializerError>
+        requires { value < 268435456 }
+        ensures { let p = parts_in self.entry in
+            MatchResult result (λ s. at.array_at p value ≡ Some (content_of s)) (λ e. (at.array_at p value ≡ None) × IsFault e) }
+    {
+        let Some(count) = some_word(self.body, value) else {
+            return Err(past_end());
+        };
+        let Some(members) = some_words(self.body, value + 1, count as usize) else {
+            return Err(past_end());
+        };
+        Ok(Standing::List(Members::Words(members)))
+    }
+
+    /// A count of offsets, and the offsets.
+    fn array16(self, value: usize) -> Result<Standing<'a>, BinaryDeserializerError>
+        requires { value < 268435456 }
+        ensures { let p = parts_in self.entry in
+            MatchResult result (λ s. at.array16_at p value ≡ Some (content_of s)) (λ e. (at.array16_at p value ≡ None) × IsFault e) }
+    {
+        let Some(count) = some_unit(self.block, value) else {
+            return Err(past_end());
+        };
+        let Some(members) = some_units(self.block, value + 1, usize::from(count)) else {
+            return Err(past_end());
+        };
+        Ok(Standing::List(Members::Units(members)))
+    }
+
+    /// A 16-bit count of entries, 16-bit key positions, padding up to a word, and descriptors.
+    fn table(self, value: usize) -> Result<Standing<'a>, BinaryDeserializerError>
+        requires { value < 268435456 }
+        ensures { let p = parts_in self.entry in
+            MatchResult result (λ s. at.table_at p value ≡ Some (content_of s)) (λ e. (at.table_at p value ≡ None) × IsFault e) }
+    {
+        let Some(count) = some_unit(self.body, 2 * value) else {
+            return Err(past_end());
+        };
+        let count = usize::from(count);
+        let Some(keys) = some_units(self.body, 2 * value + 1, count) else {
+            return Err(past_end());
+        };
+        let Some(members) = some_words(self.body, value + count / 2 + 1, count) else {
+            return Err(past_end());
+        };
+        Ok(Standing::Table(Pairs {
+            keys: Positions::Halves(keys),
+            members: Members::Words(members),
+        }))
+    }
+
+    /// A count of entries, key positions and offsets, all of 16 bits.
+    fn table16(self, value: usize) -> Result<Standing<'a>, BinaryDeserializerError>
+        requires { value < 268435456 }
+        ensures { let p = parts_in self.entry in
+            MatchResult result (λ s. at.table16_at p value ≡ Some (content_of s)) (λ e. (at.table16_at p value ≡ None) × IsFault e) }
+    {
+        let Some(count) = some_unit(self.block, value) else {
+            return Err(past_end());
+        };
+        let count = usize::from(count);
+        let Some(keys) = some_units(self.block, value + 1, count) else {
+            return Err(past_end());
+        };
+        let Some(members) = some_units(self.block, value + 1 + count, count) else {
+            return Err(past_end());
+        };
+        Ok(Standing::Table(Pairs {
+            keys: Positions::Halves(keys),
+            members: Members::Units(members),
+        }))
+    }
+
+    /// A count of entries, key positions and descriptors, all of 32 bits, without padding.
+    fn table32(self, value: usize) -> Result<Standing<'a>, BinaryDeserializerError>
+        requires { value < 268435456 }
+        ensures { let p = parts_in self.entry in
+            MatchResult result (λ s. at.table32_at p value ≡ Some (content_of s)) (λ e. (at.table32_at p value ≡ None) × IsFault e) }
+    {
+        let Some(count) = some_word(self.body, value) else {
+            return Err(past_end());
+        };
+        let count = count as usize;
+        let Some(keys) = some_words(self.body, value + 1, count) else {
+            return Err(past_end());
+        };
+        let Some(members) = some_words(self.body, value + 1 + count, count) else {
+            return Err(past_end());
+        };
+        Ok(Standing::Table(Pairs {
+            keys: Positions::Wholes(keys),
+            members: Members::Words(members),
+        }))
+    }
+}
+
+/// The empty resource of a type.
+#[tactic(auto, unfolding(resb_format::specs::Bytes::words_of, resb_format::specs::Bytes::units_of))]
+fn empty<'a>(kind: u32) -> Result<Standing<'a>, BinaryDeserializerError>
+    ensures { MatchResult result (λ s. at.empty kind ≡ Some (content_of s)) (λ e. (at.empty kind ≡ None) × IsFault e) }
+{
+    match kind {
+        1 => Ok(Standing::Leaf(Leaf::Binary(&[]))),
+        2 | 4 | 5 => Ok(Standing::Table(Pairs {
+            keys: Positions::Halves(&[]),
+            members: Members::Words(&[]),
+        })),
+        6 => Ok(Standing::Leaf(Leaf::Empty)),
+        8 | 9 => Ok(Standing::List(Members::Words(&[]))),
+        14 => Ok(Standing::Leaf(Leaf::Numbers(&[]))),
+        _ => Err(unread_type(kind)),
+    }
+}

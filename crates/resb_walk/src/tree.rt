@@ -1,0 +1,102 @@
+//! Resources, made by the reader. Texts and numbers are copied, bytes and keys are borrowed.
+//! Which bytes they are made of is found in `standing`.
+ghost use Rattle.std.specs.Prelude.{◌≡◌, List, IfOk};
+ghost use Rattle.resb_format.specs.Bytes.{words_of};
+ghost use Rattle.resb_walk.specs.Inner.Members.{text_of_bytes};
+ghost use Rattle.std.specs.String.{string_bytes};
+
+
+use crate::file::Leaf;
+use crate::make::Make;
+use resb_format::bytes::{first_unit, first_word};
+use resb_tree::{Int28, Key, NoMemory, Resource, Table};
+use std::alloc::Global;
+use std::borrow::{CowSlice, CowStr};
+use std::collections::BTreeMap;
+
+/// The text of some units, two bytes for each. A surrogate without a partner would be replaced.
+pub fn text_of_units(alloc: Global, bytes: &[u8]) -> Result<String, NoMemory>
+    ensures { IfOk result (λ s. string_bytes s ≡ text_of_bytes bytes.now) }
+{
+    let mut units = Vec::new(alloc);
+    let mut rest = bytes;
+    'units: while let Some((unit, later)) = first_unit(rest) {
+        units.push(unit)?;
+        rest = later;
+    }
+    Ok(String::from_utf16_lossy(alloc, &units)?)
+}
+
+/// The numbers of some bytes.
+fn numbers(alloc: Global, bytes: &[u8]) -> Result<Vec<u32>, NoMemory>
+    ensures { IfOk result (λ v. v.items ≡ words_of bytes.now) }
+{
+    let mut numbers = Vec::new(alloc);
+    let mut rest = bytes;
+    'numbers: while let Some((number, later)) = first_word(rest) {
+        numbers.push(number)?;
+        rest = later;
+    }
+    Ok(numbers)
+}
+
+impl<'de> Make<'de> for Resource<'de> {
+    ghost use Rattle.std.specs.Prelude.{◌≡◌, map};
+    ghost use Rattle.resb_tree.specs.Tree.{map_of};
+    ghost use Rattle.resb_tree.specs.View.{tree_of, entries_view};
+
+    type List = Vec<Resource<'de>>;
+
+    type Table = Table<'de>;
+
+    ghost is = { λ r t. tree_of r ≡ t };
+
+    ghost lists = { λ v ts. map tree_of v.items ≡ ts };
+
+    ghost tables = { λ m es. entries_view m.entries ≡ map_of es };
+
+    fn leaf(alloc: Global, leaf: Leaf<'de>) -> Result<Resource<'de>, NoMemory> {
+        Ok(match leaf {
+            Leaf::Text(bytes) => Resource::String(CowStr::Owned(text_of_units(alloc, bytes)?)),
+            Leaf::Empty => Resource::String(CowStr::Borrowed("")),
+            Leaf::Binary(bytes) => Resource::Binary(CowSlice::Borrowed(bytes)),
+            Leaf::Integer(number) => Resource::Integer(Int28::from(number)),
+            Leaf::Numbers(bytes) => Resource::IntVector(numbers(alloc, bytes)?),
+        })
+    }
+
+    fn begin_list(alloc: Global, room: usize) -> Result<Vec<Resource<'de>>, NoMemory> {
+        Ok(Vec::with_capacity(alloc, room)?)
+    }
+
+    #[tactic(auto, using(crate::proofs::Made::map_snoc))]
+    fn add(
+        mut list: Vec<Resource<'de>>,
+        item: Resource<'de>,
+    ) -> Result<Vec<Resource<'de>>, NoMemory> {
+        list.push(item)?;
+        Ok(list)
+    }
+
+    fn end_list(list: Vec<Resource<'de>>) -> Resource<'de> {
+        Resource::Array(list)
+    }
+
+    fn begin_table(alloc: Global) -> Table<'de> {
+        BTreeMap::new(alloc)
+    }
+
+    #[tactic(auto, using(crate::proofs::Made::put_snoc))]
+    fn put(
+        mut table: Table<'de>,
+        key: &'de str,
+        item: Resource<'de>,
+    ) -> Result<Table<'de>, NoMemory> {
+        table.insert(Key::from(key), item)?;
+        Ok(table)
+    }
+
+    fn end_table(table: Table<'de>) -> Resource<'de> {
+        Resource::Table(table)
+    }
+}

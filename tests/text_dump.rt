@@ -1,5 +1,7 @@
 //! Prints what the reader answers for each text of standard input, a line for a line: the texts as hex
 //! digits, the answers as `text_compare.py` says. Only that script runs it; it is no part of the gate.
+//! To run it, let it be `src/main.rt` of a crate `text_dump: resb_text resb_tree hex` for the time being,
+//! with the line `#![tactic(auto)]` below these, and give `rt try` in that crate as the command.
 use resb_text::{Expected, Reader, Turns};
 use resb_tree::Resource;
 use std::alloc::{AllocError, Global};

@@ -1,21 +1,17 @@
 -- What is in the grammar is read to its end.
-use Rattle.std.proofs.Common.{◌≡◌, ℕ, ◌+◌, ◌%◌, ◌^◌, Bool, true, false, List, [], ◌∷◌, length, refl, ap, arith, Some}
+use Rattle.std.proofs.Common.{◌≡◌, ℕ, ◌+◌, ◌%◌, ◌^◌, Bool, true, false, List, [], ◌∷◌, length, refl, ap, Some}
 use Rattle.std.specs.Prelude.{slice_index}
 use Rattle.std.specs.Option.{option_map}
-use Rattle.std.proofs.lemmas.Bool.Decides.{nat_tests}
 use Rattle.resb_tree.specs.Tree.{Tree, string, binary, integer, int_vector}
-use Rattle.resb_grammar.specs.Bytes.{is_digit}
-use Rattle.resb_grammar.specs.Tokens.{Skip, Number, plain, plus, minus}
+use Rattle.resb_grammar.specs.Tokens.{Skip}
 use Rattle.resb_grammar.specs.Items as items
 use Rattle.resb_grammar.specs.Items.{Item, Member, flagged, is_pairs, shape_of, a_table, an_array, tree_in, keys_in}
 use Rattle.resb_grammar.specs.Types.{Kind, array_kind, table_kind, Head}
 use Rattle.resb_grammar.specs.Group.{Numbers, first_number, next_number, Vector, empty, lone_comma, numbers, numbers_comma, Content, string_content, binary_content, integer_content, vector_content, Items, nothing, string_item, group_item, comma, Group, untyped, typed_table, typed_array, typed_leaf}
 use Rattle.resb_grammar.specs.BundleText.{BundleText}
-use Rattle.resb_grammar.specs.Machine as machine
 use Rattle.resb_grammar.specs.Inner.Lex as lex
-use Rattle.resb_grammar.specs.Machine.{Token, a_word, a_number, opening, closing, a_comma, a_type, Body, table_body, array_body, untyped_body, Frame, Title, Open, at_start, after_lone_comma, after_number, after_comma, State, inside, typed, in_string, in_binary, in_integer, filled, in_vector, finished, is_key_place, when, unless, with_member, within, begun_as, leave, closed, next, At}
+use Rattle.resb_grammar.specs.Machine.{a_word, a_number, opening, closing, a_comma, a_type, Body, table_body, array_body, untyped_body, Frame, Title, Open, at_start, after_lone_comma, after_number, after_comma, inside, typed, in_binary, filled, in_vector, finished, is_key_place, when, unless, with_member, within, begun_as, leave, next, At}
 use Rattle.resb_grammar.specs.Inner.Lex.{neither, Class, word_class, number_class, open_class, close_class, comma_class, type_class, class_in}
-use Rattle.resb_grammar.specs.Bytes.{is_number_start}
 use Rattle.resb_grammar.specs.Inner.Half.{half}
 use Rattle.resb_grammar.proofs.Half.{half-pairs, key_place-pairs, half-group, no_flag}
 use Rattle.resb_grammar.proofs.Moves.{further, byte_class, class_word, class_number}

@@ -1,6 +1,6 @@
 -- The laws of the grammar.
-use Rattle.std.proofs.Common.{◌≡◌, ℕ, Bool, List, length, refl, sym, ◌∙◌, ap, subst, None, Some, inl, inr, ⊎_elim}
-use Rattle.std.specs.Prelude.{◌⊎◌, slice_index}
+use Rattle.std.proofs.Common.{◌≡◌, ℕ, Bool, List, length, refl, sym, ◌∙◌, ap, subst, None, Some}
+use Rattle.std.specs.Prelude.{slice_index}
 use Rattle.std.specs.Option.{option_map}
 use Rattle.resb_tree.specs.Tree.{Tree, binary}
 use Rattle.resb_grammar.specs.Tokens.{Text}

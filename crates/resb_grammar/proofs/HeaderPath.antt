@@ -4,7 +4,7 @@ use Rattle.std.specs.Prelude.{slice_index}
 use Rattle.resb_grammar.specs.Tokens.{Skip, Text}
 use Rattle.resb_grammar.specs.Types.{RootType}
 use Rattle.resb_grammar.specs.BundleText.{Typing, without, with, Header}
-use Rattle.resb_grammar.specs.Machine.{a_word, opening, a_root_type, State, start, named, inside, titled, at_root, At}
+use Rattle.resb_grammar.specs.Machine.{a_word, opening, a_root_type, start, named, inside, titled, at_root, At}
 use Rattle.resb_grammar.specs.Inner.Lex.{neither, root_types, word_class, open_class, root_type_class}
 use Rattle.resb_grammar.proofs.Moves.{begin, further, byte_class, class_word, root_colon}
 

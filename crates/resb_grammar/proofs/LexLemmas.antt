@@ -2,7 +2,7 @@
 use Rattle.std.proofs.Common.{◌≡◌, ℕ, Bool, List, refl, sym, ◌∙◌, ap, subst, Some}
 use Rattle.std.specs.Prelude.{slice_index}
 use Rattle.resb_grammar.specs.Types.{Kind}
-use Rattle.resb_grammar.specs.Machine.{Token, Means, a_word, a_number, opening, closing, a_comma, a_type, a_root_type, Body, table_body, array_body, untyped_body, Open, Place, at_start, after_lone_comma, after_number, after_comma, State, start, named, titled, inside, typed, in_string, in_binary, in_integer, filled, in_vector, finished, in_body, next}
+use Rattle.resb_grammar.specs.Machine.{Token, Means, a_word, a_number, opening, closing, a_comma, a_type, a_root_type, Body, table_body, array_body, untyped_body, Open, at_start, after_lone_comma, after_number, after_comma, State, start, named, titled, inside, typed, in_string, in_binary, in_integer, filled, in_vector, finished, in_body, next}
 use Rattle.resb_grammar.specs.Inner.Lex.{Mode, neither, numbers, root_types, mode, Class, word_class, number_class, open_class, close_class, comma_class, type_class, root_type_class, class_in, Lex}
 use Rattle.resb_grammar.proofs.Moves.{byte_class, class_word, class_number, none_some, root_colon}
 

@@ -1,12 +1,12 @@
 -- What a token says of the text, and how a token leads on.
-use Rattle.std.proofs.Common.{◌≡◌, ◌≢◌, ℕ, suc, ◌+◌, Bool, true, false, List, refl, sym, ◌∙◌, ap, subst, arith, Some, None}
+use Rattle.std.proofs.Common.{◌≡◌, ◌≢◌, ℕ, suc, Bool, true, false, List, refl, sym, ◌∙◌, ap, subst, arith, Some, None}
 use Rattle.std.specs.Prelude.{◌||◌, ◌==◌, cond, slice_index}
 use Rattle.std.proofs.lemmas.Bool.{false≢true}
 use Rattle.std.proofs.lemmas.Bool.Decides.{nat_tests}
 use Rattle.resb_grammar.specs.Bytes.{is_word, is_digit, is_number_start}
 use Rattle.resb_grammar.specs.Tokens.{Skip, Text, quoted, word, Number, plain, plus, minus}
-use Rattle.resb_grammar.specs.Types.{GroupType, RootType, table_type, no_fallback_type}
-use Rattle.resb_grammar.specs.Machine.{Token, Means, a_word, a_number, opening, closing, a_comma, a_type, a_root_type, State, start, next, Move, begun, went, At}
+use Rattle.resb_grammar.specs.Types.{RootType, table_type, no_fallback_type}
+use Rattle.resb_grammar.specs.Machine.{Token, Means, State, start, next, Move, begun, went, At}
 use Rattle.resb_grammar.specs.Inner.Lex.{Mode, neither, numbers, root_types, mode, Class, word_class, number_class, open_class, close_class, comma_class, type_class, root_type_class, no_class, class_of, class_in, Lex}
 
 class_open : (m : Mode) (b : ℕ) → class_in m b ≡ open_class → b ≡ 123

@@ -5,8 +5,7 @@ use Rattle.std.proofs.lemmas.Bool.Decides.{nat_tests}
 use Rattle.resb_grammar.specs.Tokens.{Skip, Text}
 use Rattle.resb_grammar.specs.Types.{RootType}
 use Rattle.resb_grammar.specs.BundleText.{Typing, without, with, Header}
-use Rattle.resb_grammar.specs.Machine.{Token, a_word, a_number, opening, closing, a_comma, a_type, a_root_type, State, start, named, inside, titled, at_root, next, At}
-use Rattle.resb_grammar.specs.Inner.Lex.{neither, root_types, word_class, open_class, root_type_class}
+use Rattle.resb_grammar.specs.Machine.{Token, a_word, a_number, opening, closing, a_comma, a_type, a_root_type, State, start, named, titled, next, At}
 use Rattle.resb_grammar.specs.Stuck.{choose, expected, NoToken, Stuck, blocked}
 use Rattle.resb_text.specs.Refusal.{want_of_memory}
 use Rattle.resb_text.specs.Answer.{Fails, IsNoBundle}
@@ -17,7 +16,7 @@ use Rattle.resb_grammar.specs.declared.expected.Expected.TheVariants as expect
 use Rattle.resb_text.specs.declared.error.TextParserError.{TextParserError}
 use Rattle.resb_grammar.proofs.HeaderPath.{name_read, typed_name}
 use Rattle.resb_grammar.specs.Token.{Means}
-use Rattle.resb_grammar.proofs.Moves.{move_means, begin, further, byte_class, class_word, none_some, root_colon}
+use Rattle.resb_grammar.proofs.Moves.{move_means, begin, none_some, root_colon}
 
 abbrev pub error_at : ℕ → Expected → TextParserError
 error_at at x = record { position = at; expected = x }

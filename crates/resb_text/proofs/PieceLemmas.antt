@@ -1,12 +1,8 @@
 -- Where a piece of a text is cut out, characters begin and end.
-use Rattle.std.proofs.Common.{◌≡◌, ◌≢◌, ℕ, ◌+◌, ◌-◌, ◌<◌, ◌≤◌, Bool, true, false, refl, List, length, get_or, arith, subst, sym, ◌∙◌, ⊎_elim}
-use Rattle.std.specs.Prelude.{◌==◌}
-use Rattle.std.proofs.lemmas.List.{get_or_past}
-use Rattle.std.proofs.lemmas.Bool.{cases_lt, false≢true}
-use Rattle.std.proofs.lemmas.Bool.Decides.{nat_tests}
+use Rattle.std.proofs.Common.{◌≡◌, ℕ, ◌+◌, ◌-◌, ◌<◌, true, List, get_or, arith, subst, ⊎_elim}
 use Rattle.std.proofs.lemmas.Str.{IsCharBoundary-before_ascii, IsCharBoundary-after_ascii}
 use Rattle.std.specs.Str.{IsUtf8, IsCharBoundary}
-use Rattle.resb_grammar.specs.Bytes.{is_word, Each, Run}
+use Rattle.resb_grammar.specs.Bytes.{is_word}
 use Rattle.resb_text.specs.Turns.{IsPiece, IsWordPiece, IsQuotedPiece}
 use Rattle.resb_grammar.proofs.BytesLemmas.{word_ascii, word_some, there}
 

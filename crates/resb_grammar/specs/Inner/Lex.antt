@@ -1,5 +1,5 @@
 -- What a byte may begin in a state, as the proofs that a reading is unique go by it.
-use Rattle.std.specs.Prelude.{◌≡◌, ℕ, ◌+◌, Bool, ◌||◌, ◌==◌, List, slice_index, if◌then◌else◌}
+use Rattle.std.specs.Prelude.{◌≡◌, ℕ, ◌+◌, Bool, ◌||◌, ◌==◌, List, if◌then◌else◌}
 use Rattle.resb_grammar.specs.Bytes.{is_word, is_number_start}
 use Rattle.resb_grammar.specs.Tokens.{Text, Number}
 use Rattle.resb_grammar.specs.Types.{Kind, GroupType, RootType}

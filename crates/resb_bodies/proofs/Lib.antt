@@ -1,2 +1,3 @@
 pub mod Walks
 pub mod Stacks
+pub mod Closings

@@ -1,9 +1,9 @@
 -- Steps in walk order lay a tree.
-use Rattle.std.proofs.Common.{◌≡◌, ℕ, ◌+◌, List, [], ◌∷◌, ◌++◌, length, refl, sym, ◌∙◌, ap, subst, append_assoc, append-nil, length-append, arith}
+use Rattle.std.proofs.Common.{◌≡◌, ℕ, zero, suc, ◌+◌, ◌-◌, ◌<◌, ◌≤◌, take, drop, length-drop, List, [], ◌∷◌, ◌++◌, length, refl, sym, ◌∙◌, ap, subst, append_assoc, append-nil, length-append, arith}
 use Rattle.resb_tree.specs.Tree.{Tree, string, array, table, binary, integer, int_vector, Trees, no_trees, more_trees, Entries, no_entries, entry, trees_of}
-use Rattle.resb_layout.specs.Laid.{Given, State, Lays, LaysEach, each_none, each_more}
+use Rattle.resb_layout.specs.Laid.{Given, State, Lays, LaysEach, each_none, each_more, lays_items, lays_no_items, ClosesArray}
 use Rattle.resb_bodies.specs.WalkOrder.{members, values_of, children, walk, walk_each, walk_values}
-use Rattle.resb_bodies.specs.Steps.{Closes, Step, Steps, steps_none, steps_more}
+use Rattle.resb_bodies.specs.Steps.{Step, Steps, steps_none, steps_more}
 use Rattle.resb_bodies.proofs.Walks.{nil_from_len}
 
 -- of two lists in two parts, the parts are the same where the last ones have one length
@@ -105,3 +105,43 @@ steps_lay_trees g s e t xs h =
     let k = steps_tree g t s e [] xs [] (subst (λ l. Steps g s [] l e xs) (sym (append-nil (walk t))) h) in
     let z = ended g k.mid e (k.word ∷ []) xs k.goes in
     (k.word, sym z.1, subst (λ m. Lays g s t m k.word) z.0 k.lays)
+
+take_drop : (n : ℕ) (xs : List ℕ) → take n xs ++ drop n xs ≡ xs
+take_drop zero [] = refl
+take_drop zero (x ∷ xs) = refl
+take_drop (suc n) [] = refl
+take_drop (suc n) (x ∷ xs) = ap (λ l. x ∷ l) (take_drop n xs)
+
+-- the last words of a stack, and those below them
+pub split_stack : (ws : List ℕ) (n : ℕ) → n ≤ length ws → (ws ≡ take (length ws - n) ws ++ drop (length ws - n) ws) × (length (drop (length ws - n) ws) ≡ n)
+split_stack ws n h = (sym (take_drop (length ws - n) ws), omega (arith, length-drop (length ws - n) ws))
+
+pub array_step : (g : Given) (s e : State) (ws xs vs : List ℕ) (ts : Trees) (w n : ℕ) → n ≡ length (members ts) → n ≤ length ws → vs ≡ drop (length ws - n) ws → 0 < n
+    → ClosesArray g s vs e w → xs ≡ take (length ws - n) ws ++ w ∷ [] → Step g s ws (array ts) e xs
+array_step g s e ws xs vs ts w n c h v some k p =
+    let q = split_stack ws n h in
+    record {
+      below = take (length ws - n) ws;
+      members = vs;
+      word = w;
+      taken = q.0 ∙ ap (λ l. take (length ws - n) ws ++ l) (sym v);
+      many = ap length v ∙ q.1 ∙ c;
+      put = p;
+      closes = λ before l. lays_items (subst (λ us. LaysEach g before us s vs) (members_back ts) l) (omega (arith, ap length v, q.1)) k;
+    }
+
+pub empty_array_step : (g : Given) (s : State) (ws xs : List ℕ) (w : ℕ) → w ≡ 0x8000_0000 → xs ≡ take (length ws - 0) ws ++ w ∷ [] → Step g s ws (array no_trees) s xs
+empty_array_step g s ws xs w e p =
+    let q = split_stack ws 0 (omega arith) in
+    record {
+      below = take (length ws - 0) ws;
+      members = [];
+      word = w;
+      taken = q.0 ∙ ap (λ l. take (length ws - 0) ws ++ l) (nil_from_len (drop (length ws - 0) ws) q.1);
+      many = refl;
+      put = p;
+      closes = λ before l. subst (λ b. Lays g b (array no_trees) s w) (sym (none_back l)) (subst (Lays g s (array no_trees) s) (sym e) lays_no_items);
+    }
+  where
+    none_back : {before : State} → LaysEach g before no_trees s [] → before ≡ s
+    none_back each_none = refl

@@ -1,10 +1,10 @@
 -- A resource in walk order: what is inside it, and then itself.
-use Rattle.std.proofs.Common.{◌≡◌, ℕ, ◌+◌, ◌<◌, ◌≤◌, List, [], ◌∷◌, ◌++◌, Bor, map, length, reverse, refl, sym, ◌∙◌, ap, append_assoc, append-nil, arith}
+use Rattle.std.proofs.Common.{◌≡◌, ℕ, ◌+◌, ◌<◌, List, [], ◌∷◌, ◌++◌, Bor, map, length, reverse, refl, sym, ◌∙◌, ap, append_assoc, append-nil, arith}
 use Rattle.std.specs.List.{flat_map, sum_by}
 use Rattle.std.proofs.lemmas.List.{reverse-append, map_push}
 use Rattle.std.proofs.lemmas.List.Sums.{sum_by-cons, sum_by-append}
 use Rattle.resb_tree.specs.Tree.{Tree, string, array, table, binary, integer, int_vector, Trees, no_trees, more_trees, Entries, no_entries, entry, trees_of, entries_of, tree_count, trees_count, entries_count}
-use Rattle.resb_tree.specs.View.{tree_of, entries_view}
+use Rattle.resb_tree.specs.View.{tree_of, items_view, entries_view}
 use Rattle.resb_tree.specs.declared.resource.Resource.{Resource}
 use Rattle.resb_bodies.specs.WalkOrder.{members, values_of, children, walk, walk_each, walk_values}
 use Rattle.resb_bodies.specs.Inner.Seen.{trees_in}
@@ -91,3 +91,7 @@ trees-reverse (r ∷ rs) =
 pub nil_from_len : {A : Type 0} (xs : List A) → length xs ≡ 0 → xs ≡ []
 nil_from_len [] h = refl
 nil_from_len (x ∷ xs) h = absurd (omega arith)
+
+pub items_long : (rs : List Resource) → length rs ≡ length (members (items_view rs))
+items_long [] = refl
+items_long (r ∷ rs) = omega (arith, items_long rs)

@@ -2,8 +2,11 @@
 //! the others in the tail behind it. The head and the key block of a file are not made here.
 #![tactic(auto)]
 
+mod bytes;
 mod given;
 pub mod laws;
+mod lay;
+mod resource;
 mod walk_order;
 
 pub use given::{Bodies, Places};

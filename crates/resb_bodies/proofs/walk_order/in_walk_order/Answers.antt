@@ -1,6 +1,5 @@
-use Rattle.std.proofs.Common.{◌≡◌, ◌∙◌, ◌++◌, [], ◌∷◌, ℕ, length, vec_len, reverse, ap, sym, append-nil, arith}
+use Rattle.std.proofs.Common.{◌≡◌, ◌∙◌, ◌++◌, [], ◌∷◌, reverse, ap, sym, append-nil, arith}
 use Rattle.std.specs.List.{flat_map}
-use Rattle.std.proofs.lemmas.Grind.{common_steps}
 use Rattle.resb_tree.specs.View.{tree_of}
 use Rattle.resb_bodies.specs.WalkOrder.{walk}
 use Rattle.resb_bodies.specs.Inner.Seen.{trees_in}

@@ -1,0 +1,45 @@
+//! Lays one resource over a stack of words, which holds those of its members.
+//! What is laid for a body is said in `resource`.
+ghost use Rattle.std.specs.Prelude.{◌≡◌, ◌++◌, ◌∷◌, ◌-◌, ◌≤◌, [], length, take, OnOk};
+ghost use Rattle.resb_tree.specs.Tree.{array};
+ghost use Rattle.resb_tree.specs.View.{items_view};
+ghost use Rattle.resb_bodies.specs.Steps.{Step};
+ghost use Rattle.resb_bodies.specs.Inner.Seen.{given_by, state_of, HasRoom, Takes};
+
+use crate::given::{Bodies, Places};
+use crate::resource::{close_array, word};
+use resb_format::ResourceReprType;
+use resb_tree::Resource;
+use std::alloc::AllocError;
+
+/// Puts a word in the place of the last words of a stack.
+fn replace(words: &mut Vec<u32>, count: usize, word: u32) -> Result<(), AllocError>
+    requires { count ≤ length words.old.items }
+    ensures { OnOk result (words.new.items
+        ≡ take (length words.old.items - count) words.old.items ++ word ∷ []) }
+{
+    words.truncate(words.len() - count);
+    words.push(word)?;
+    Ok(())
+}
+
+/// Lays an array behind its members, whose words it takes off the stack.
+pub(crate) fn step_array(
+    places: &Places<'_>,
+    bodies: &mut Bodies,
+    words: &mut Vec<u32>,
+    items: &[Resource<'_>],
+) -> Result<(), AllocError>
+    requires room { HasRoom places.now bodies.old (length items.now) }
+    requires enough { length items.now ≤ length words.old.items }
+    ensures step { OnOk result (Step (given_by places.now) (state_of bodies.old) words.old.items
+        (array (items_view items.now)) (state_of bodies.new) words.new.items) }
+    ensures takes { OnOk result (Takes places.now bodies.old bodies.new (length items.now)) }
+{
+    if items.is_empty() {
+        return replace(words, 0, word(ResourceReprType::Array, 0));
+    }
+    let (_, members) = words.split_at(words.len() - items.len());
+    let word = close_array(places, bodies, members)?;
+    replace(words, items.len(), word)
+}

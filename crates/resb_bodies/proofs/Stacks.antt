@@ -145,3 +145,19 @@ empty_array_step g s ws xs w e p =
   where
     none_back : {before : State} → LaysEach g before no_trees s [] → before ≡ s
     none_back each_none = refl
+
+-- a resource with nothing inside takes no word, and puts its own
+pub leaf_step : (g : Given) (s e : State) (ws xs : List ℕ) (t : Tree) (w : ℕ) → children t ≡ [] → Lays g s t e w → xs ≡ ws ++ w ∷ [] → Step g s ws t e xs
+leaf_step g s e ws xs t w none l p =
+    record {
+      below = ws;
+      members = [];
+      word = w;
+      taken = sym (append-nil ws);
+      many = sym (ap length none);
+      put = p;
+      closes = λ before h. subst (λ b. Lays g b t e w) (sym (same (trees_of (children t)) (ap trees_of none) h)) l;
+    }
+  where
+    same : {before : State} (ts : Trees) → ts ≡ no_trees → LaysEach g before ts s [] → before ≡ s
+    same ts f each_none = refl

@@ -1,13 +1,14 @@
 //! Lays one resource over a stack of words, which holds those of its members.
 //! What is laid for a body is said in `resource`.
-ghost use Rattle.std.specs.Prelude.{◌≡◌, ◌++◌, ◌∷◌, ◌-◌, ◌≤◌, [], length, take, OnOk};
-ghost use Rattle.resb_tree.specs.Tree.{array};
+ghost use Rattle.std.specs.Prelude.{◌≡◌, ◌++◌, ◌∷◌, ◌-◌, ◌^◌, ◌<◌, ◌≤◌, [], length, take, OnOk};
+ghost use Rattle.resb_tree.specs.Tree.{array, binary, int_vector, integer};
+ghost use Rattle.resb_layout.specs.Laid.{Given, State};
 ghost use Rattle.resb_tree.specs.View.{items_view};
 ghost use Rattle.resb_bodies.specs.Steps.{Step};
 ghost use Rattle.resb_bodies.specs.Inner.Seen.{given_by, state_of, HasRoom, Takes};
 
 use crate::given::{Bodies, Places};
-use crate::resource::{close_array, word};
+use crate::resource::{close_array, lay_bytes, lay_numbers, word};
 use resb_format::ResourceReprType;
 use resb_tree::Resource;
 use std::alloc::AllocError;
@@ -42,4 +43,48 @@ pub(crate) fn step_array(
     let (_, members) = words.split_at(words.len() - items.len());
     let word = close_array(places, bodies, members)?;
     replace(words, items.len(), word)
+}
+
+/// Puts the word of a number of 28 bits, which has no body.
+pub(crate) fn step_integer(words: &mut Vec<u32>, number: u32) -> Result<(), AllocError>
+    requires { number < 2 ^ 28 }
+    ensures { OnOk result ((g : Given) (s : State)
+        → Step g s words.old.items (integer number) s words.new.items) }
+{
+    words.push(word(ResourceReprType::Int, number))?;
+    Ok(())
+}
+
+/// Lays bytes, and puts their word.
+pub(crate) fn step_bytes(
+    places: &Places<'_>,
+    bodies: &mut Bodies,
+    words: &mut Vec<u32>,
+    bytes: &[u8],
+) -> Result<(), AllocError>
+    requires { HasRoom places.now bodies.old (length bytes.now) }
+    ensures step { OnOk result (Step (given_by places.now) (state_of bodies.old) words.old.items
+        (binary bytes.now) (state_of bodies.new) words.new.items) }
+    ensures takes { OnOk result (Takes places.now bodies.old bodies.new (length bytes.now)) }
+{
+    let word = lay_bytes(places, bodies, bytes)?;
+    words.push(word)?;
+    Ok(())
+}
+
+/// Lays numbers, and puts their word.
+pub(crate) fn step_numbers(
+    places: &Places<'_>,
+    bodies: &mut Bodies,
+    words: &mut Vec<u32>,
+    numbers: &[u32],
+) -> Result<(), AllocError>
+    requires { HasRoom places.now bodies.old (length numbers.now) }
+    ensures step { OnOk result (Step (given_by places.now) (state_of bodies.old) words.old.items
+        (int_vector numbers.now) (state_of bodies.new) words.new.items) }
+    ensures takes { OnOk result (Takes places.now bodies.old bodies.new (length numbers.now)) }
+{
+    let word = lay_numbers(places, bodies, numbers)?;
+    words.push(word)?;
+    Ok(())
 }

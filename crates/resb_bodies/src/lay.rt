@@ -1,7 +1,8 @@
 //! Lays one resource over a stack of words, which holds those of its members.
 //! What is laid for a body is said in `resource`.
-ghost use Rattle.std.specs.Prelude.{◌≡◌, ◌++◌, ◌∷◌, ◌-◌, ◌^◌, ◌<◌, ◌≤◌, [], length, take, OnOk};
-ghost use Rattle.resb_tree.specs.Tree.{array, binary, int_vector, integer};
+ghost use Rattle.std.specs.Prelude.{ℕ, Some, ◌≡◌, ◌++◌, ◌∷◌, ◌-◌, ◌^◌, ◌<◌, ◌≤◌, [], length, take, OnOk};
+ghost use Rattle.resb_tree.specs.Tree.{array, binary, int_vector, integer, string};
+ghost use Rattle.resb_pool.specs.Plan.{offset_of};
 ghost use Rattle.resb_layout.specs.Laid.{Given, State};
 ghost use Rattle.resb_tree.specs.View.{items_view};
 ghost use Rattle.resb_bodies.specs.Steps.{Step};
@@ -86,5 +87,22 @@ pub(crate) fn step_numbers(
 {
     let word = lay_numbers(places, bodies, numbers)?;
     words.push(word)?;
+    Ok(())
+}
+
+/// Puts the word of a string, whose text has an offset.
+pub(crate) fn step_string(
+    places: &Places<'_>,
+    words: &mut Vec<u32>,
+    text: &str,
+) -> Result<(), AllocError>
+    requires { (k : ℕ) × (offset_of places.now.plan text.now ≡ Some k) × (k < 2 ^ 28) }
+    ensures { OnOk result ((s : State)
+        → Step (given_by places.now) s words.old.items (string text.now) s words.new.items) }
+{
+    let Some(offset) = places.plan.offset(text) else {
+        unreachable!()
+    };
+    words.push(word(ResourceReprType::StringV2, offset))?;
     Ok(())
 }

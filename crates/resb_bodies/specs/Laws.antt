@@ -1,0 +1,12 @@
+-- What the laws say.
+--     StepsLayTrees           from an empty stack, the steps of a tree's resources in walk order lay the tree
+use Rattle.std.specs.Prelude.{◌≡◌, ℕ, List, [], ◌∷◌}
+use Rattle.resb_tree.specs.Tree.{Tree}
+use Rattle.resb_layout.specs.Laid.{Given, State, Lays}
+use Rattle.resb_bodies.specs.WalkOrder.{walk}
+use Rattle.resb_bodies.specs.Steps.{Steps}
+
+abbrev pub StepsLayTrees : Type 0
+StepsLayTrees =
+    (g : Given) (s e : State) (t : Tree) (xs : List ℕ) → Steps g s [] (walk t) e xs
+    → (w : ℕ) × (xs ≡ w ∷ []) × Lays g s t e w

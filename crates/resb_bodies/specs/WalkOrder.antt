@@ -1,0 +1,47 @@
+-- The order in which a tree's resources are laid: members in order, a table's by their keys, each before its collection.
+--     children t              the resources right inside t
+--     walk t                  all resources of t
+--     texts_of t              the texts of its strings, as often as each stands there
+use Rattle.std.specs.Prelude.{ℕ, List, [], ◌∷◌, ◌++◌}
+use Rattle.std.specs.List.{flat_map}
+use Rattle.resb_tree.specs.Tree.{Tree, string, array, table, binary, integer, int_vector, Trees, no_trees, more_trees, Entries, no_entries, entry}
+
+abbrev pub members : Trees → List Tree
+members no_trees = []
+members (more_trees t ts) = t ∷ members ts
+
+abbrev pub values_of : Entries → List Tree
+values_of no_entries = []
+values_of (entry k t es) = t ∷ values_of es
+
+abbrev pub children : Tree → List Tree
+children (string s) = []
+children (array ts) = members ts
+children (table es) = values_of es
+children (binary s) = []
+children (integer n) = []
+children (int_vector s) = []
+
+abbrev mutual
+  pub walk : Tree → List Tree
+  walk (string s) = string s ∷ []
+  walk (array ts) = walk_each ts ++ array ts ∷ []
+  walk (table es) = walk_values es ++ table es ∷ []
+  walk (binary s) = binary s ∷ []
+  walk (integer n) = integer n ∷ []
+  walk (int_vector s) = int_vector s ∷ []
+
+  pub walk_each : Trees → List Tree
+  walk_each no_trees = []
+  walk_each (more_trees t ts) = walk t ++ walk_each ts
+
+  pub walk_values : Entries → List Tree
+  walk_values no_entries = []
+  walk_values (entry k t es) = walk t ++ walk_values es
+
+abbrev pub text_in : Tree → List (List ℕ)
+text_in (string s) = s ∷ []
+text_in _ = []
+
+abbrev pub texts_of : Tree → List (List ℕ)
+texts_of t = flat_map text_in (walk t)

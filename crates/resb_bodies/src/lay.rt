@@ -1,0 +1,108 @@
+//! Lays one resource over a stack of words, which holds those of its members.
+//! What is laid for a body is said in `resource`.
+ghost use Rattle.std.specs.Prelude.{ℕ, Some, ◌≡◌, ◌++◌, ◌∷◌, ◌-◌, ◌^◌, ◌<◌, ◌≤◌, [], length, take, OnOk};
+ghost use Rattle.resb_tree.specs.Tree.{array, binary, int_vector, integer, string};
+ghost use Rattle.resb_pool.specs.Plan.{offset_of};
+ghost use Rattle.resb_layout.specs.Laid.{Given, State};
+ghost use Rattle.resb_tree.specs.View.{items_view};
+ghost use Rattle.resb_bodies.specs.Steps.{Step};
+ghost use Rattle.resb_bodies.specs.Inner.Seen.{given_by, state_of, HasRoom, Takes};
+
+use crate::given::{Bodies, Places};
+use crate::resource::{close_array, lay_bytes, lay_numbers, word};
+use resb_format::ResourceReprType;
+use resb_tree::Resource;
+use std::alloc::AllocError;
+
+/// Puts a word in the place of the last words of a stack.
+fn replace(words: &mut Vec<u32>, count: usize, word: u32) -> Result<(), AllocError>
+    requires { count ≤ length words.old.items }
+    ensures { OnOk result (words.new.items
+        ≡ take (length words.old.items - count) words.old.items ++ word ∷ []) }
+{
+    words.truncate(words.len() - count);
+    words.push(word)?;
+    Ok(())
+}
+
+/// Lays an array behind its members, whose words it takes off the stack.
+pub(crate) fn step_array(
+    places: &Places<'_>,
+    bodies: &mut Bodies,
+    words: &mut Vec<u32>,
+    items: &[Resource<'_>],
+) -> Result<(), AllocError>
+    requires room { HasRoom places.now bodies.old (length items.now) }
+    requires enough { length items.now ≤ length words.old.items }
+    ensures step { OnOk result (Step (given_by places.now) (state_of bodies.old) words.old.items
+        (array (items_view items.now)) (state_of bodies.new) words.new.items) }
+    ensures takes { OnOk result (Takes places.now bodies.old bodies.new (length items.now)) }
+{
+    if items.is_empty() {
+        return replace(words, 0, word(ResourceReprType::Array, 0));
+    }
+    let (_, members) = words.split_at(words.len() - items.len());
+    let word = close_array(places, bodies, members)?;
+    replace(words, items.len(), word)
+}
+
+/// Puts the word of a number of 28 bits, which has no body.
+pub(crate) fn step_integer(words: &mut Vec<u32>, number: u32) -> Result<(), AllocError>
+    requires { number < 2 ^ 28 }
+    ensures { OnOk result ((g : Given) (s : State)
+        → Step g s words.old.items (integer number) s words.new.items) }
+{
+    words.push(word(ResourceReprType::Int, number))?;
+    Ok(())
+}
+
+/// Lays bytes, and puts their word.
+pub(crate) fn step_bytes(
+    places: &Places<'_>,
+    bodies: &mut Bodies,
+    words: &mut Vec<u32>,
+    bytes: &[u8],
+) -> Result<(), AllocError>
+    requires { HasRoom places.now bodies.old (length bytes.now) }
+    ensures step { OnOk result (Step (given_by places.now) (state_of bodies.old) words.old.items
+        (binary bytes.now) (state_of bodies.new) words.new.items) }
+    ensures takes { OnOk result (Takes places.now bodies.old bodies.new (length bytes.now)) }
+{
+    let word = lay_bytes(places, bodies, bytes)?;
+    words.push(word)?;
+    Ok(())
+}
+
+/// Lays numbers, and puts their word.
+pub(crate) fn step_numbers(
+    places: &Places<'_>,
+    bodies: &mut Bodies,
+    words: &mut Vec<u32>,
+    numbers: &[u32],
+) -> Result<(), AllocError>
+    requires { HasRoom places.now bodies.old (length numbers.now) }
+    ensures step { OnOk result (Step (given_by places.now) (state_of bodies.old) words.old.items
+        (int_vector numbers.now) (state_of bodies.new) words.new.items) }
+    ensures takes { OnOk result (Takes places.now bodies.old bodies.new (length numbers.now)) }
+{
+    let word = lay_numbers(places, bodies, numbers)?;
+    words.push(word)?;
+    Ok(())
+}
+
+/// Puts the word of a string, whose text has an offset.
+pub(crate) fn step_string(
+    places: &Places<'_>,
+    words: &mut Vec<u32>,
+    text: &str,
+) -> Result<(), AllocError>
+    requires { (k : ℕ) × (offset_of places.now.plan text.now ≡ Some k) × (k < 2 ^ 28) }
+    ensures { OnOk result ((s : State)
+        → Step (given_by places.now) s words.old.items (string text.now) s words.new.items) }
+{
+    let Some(offset) = places.plan.offset(text) else {
+        unreachable!()
+    };
+    words.push(word(ResourceReprType::StringV2, offset))?;
+    Ok(())
+}

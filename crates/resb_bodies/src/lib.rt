@@ -1,0 +1,13 @@
+//! Lays the bodies of a tree's resources: which come first, the short ones in the 16-bit block, and
+//! the others in the tail behind it. The head and the key block of a file are not made here.
+#![tactic(auto)]
+
+mod bytes;
+mod given;
+pub mod laws;
+mod lay;
+mod resource;
+mod walk_order;
+
+pub use given::{Bodies, Places};
+pub use walk_order::in_walk_order;

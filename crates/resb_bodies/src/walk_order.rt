@@ -1,0 +1,71 @@
+//! The resources of a tree in the order in which they are laid: members before their collection.
+//! What is laid for each is not said here. No function calls itself, so that any depth is walked.
+ghost use Rattle.std.specs.Prelude.{◌≡◌, ◌++◌, map, IfOk, OnOk};
+ghost use Rattle.resb_tree.specs.View.{tree_of};
+ghost use Rattle.resb_bodies.specs.WalkOrder.{walk, children};
+ghost use Rattle.resb_bodies.specs.Inner.Seen.{trees_in};
+
+use resb_tree::{Resource, Table};
+use std::alloc::{AllocError, Global};
+
+/// The resources of a tree in walk order.
+pub fn in_walk_order<'t, 'a>(
+    alloc: Global,
+    root: &'t Resource<'a>,
+) -> Result<Vec<&'t Resource<'a>>, AllocError>
+    ensures { IfOk result (λ v. trees_in v.items ≡ walk (tree_of root.now)) }
+{
+    let mut pending = Vec::new(alloc);
+    let mut order = Vec::new(alloc);
+    pending.push(root)?;
+    while let Some(resource) = pending.pop() {
+        order.push(resource)?;
+        push_children(&mut pending, resource)?;
+    }
+    order.reverse();
+    Ok(order)
+}
+
+/// Appends the resources right inside a resource.
+fn push_children<'t, 'a>(
+    pending: &mut Vec<&'t Resource<'a>>,
+    resource: &'t Resource<'a>,
+) -> Result<(), AllocError>
+    ensures { OnOk result (trees_in pending.new.items
+        ≡ trees_in pending.old.items ++ children (tree_of resource.now)) }
+{
+    match resource {
+        Resource::Array(items) => push_items(pending, items),
+        Resource::Table(table) => push_values(pending, table),
+        Resource::String(_) | Resource::Binary(_) | Resource::Integer(_) | Resource::IntVector(_) =>
+            Ok(()),
+    }
+}
+
+/// Appends resources.
+fn push_items<'t, 'a>(
+    pending: &mut Vec<&'t Resource<'a>>,
+    items: &'t [Resource<'a>],
+) -> Result<(), AllocError>
+    ensures { OnOk result (trees_in pending.new.items
+        ≡ trees_in pending.old.items ++ map tree_of items.now) }
+{
+    for item in items {
+        pending.push(item)?;
+    }
+    Ok(())
+}
+
+/// Appends the values of a table.
+fn push_values<'t, 'a>(
+    pending: &mut Vec<&'t Resource<'a>>,
+    table: &'t Table<'a>,
+) -> Result<(), AllocError>
+    ensures { OnOk result (trees_in pending.new.items
+        ≡ trees_in pending.old.items ++ map (λ e. tree_of e.1) table.now.entries) }
+{
+    for (_key, value) in table.iter() {
+        pending.push(value)?;
+    }
+    Ok(())
+}

@@ -5,11 +5,10 @@ pub mod helpers;
 
 pub use resb_format::{
     BinHeader, BinIndex, BinReprInfo, BinaryDeserializerError, CharsetFamily, Endianness,
-    ErrorKind, FileParts, FormatVersion, ReadingError, ResDescriptor, ResourceReprType, is_unmarked,
-    marker_units, string_at,
+    ErrorKind, FileParts, FormatVersion, ReadingError, ResDescriptor, ResourceReprType,
+    is_unmarked, marker_units, string_at,
 };
-pub use resb_pool::pool;
-pub use resb_pool::Plan;
+pub use resb_pool::{Plan, pool};
 pub use resb_read::{
     Cursor, Deserialize, IntVectorDeserializer, KeyDeserializer, MapAccess,
     Resource16BitDeserializer, SeqAccess, Walk, count_resources, determine_endianness, from_bytes,

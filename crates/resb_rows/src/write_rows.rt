@@ -1,6 +1,6 @@
 //! Written files against bytes worked out by hand from the format's rules, and the printed faults.
-use resb_write::{BinarySerializerError, Serializer};
 use resb_tree::{Key, Resource, ResourceBundle, Table};
+use resb_write::{BinarySerializerError, Serializer};
 use std::alloc::{AllocError, Global};
 use std::borrow::CowStr;
 use std::collections::BTreeMap;

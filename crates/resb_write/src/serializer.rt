@@ -10,11 +10,11 @@ ghost use Rattle.resb_write.specs.Places.{nows};
 ghost use Rattle.resb_write.specs.Refused.{Refused, CanBeWritten};
 ghost use Rattle.resb_write.specs.Written.{Written};
 
-use resb_pool::BinarySerializerError;
 use crate::flat_table::flat_table;
 use crate::key_block::KeyPlan;
 use crate::limits::is_too_large;
 use crate::string_block::{StringBlock, string_block};
+use resb_pool::BinarySerializerError;
 use resb_tree::{Key, ResourceBundle};
 use std::alloc::{AllocError, Global};
 

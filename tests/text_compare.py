@@ -8,7 +8,7 @@ the empty text), and answers each by a line: `ok NAME FLAG TREE KEYS` or `err PL
 was expected, NAME and KEYS are in hex digits, FLAG is 1 where fallback is on, and TREE is
 `s HEX ;`, `a[` trees `]`, `t{` HEX `:` tree .. `}`, `b HEX ;`, `i N ,` or `v` N `,` .. `;` without blanks.
 OURS may add a word, the turns that it counted: they must be at most 8 n + 8 for n bytes.
-`tests/text_dump.rt` is such a program over `resb_text`.
+`tests/text_dump.rattle` is such a program over `resb_text`.
 """
 import random
 import shlex

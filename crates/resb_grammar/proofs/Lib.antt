@@ -9,3 +9,4 @@ pub mod Complete
 pub mod Sound
 pub mod GrammarLaws
 pub mod Listed
+mod Examples

@@ -7,17 +7,18 @@ trap 'rm -rf "$work"' EXIT
 passed=0
 failed=0
 
-# answers NAME STATUS STANDARD-OUTPUT STANDARD-ERROR, with standard input in the file `in`
+# answers NAME STATUS STANDARD-OUTPUT STANDARD-ERROR WORD.., with standard input in the file `in`
 answers() {
-  local status=0
-  "$top/run" < "$work/in" > "$work/out" 2> "$work/err" || status=$?
+  local name=$1 want=$2 status=0
   printf '%b' "$3" > "$work/want_out"
   printf '%b' "$4" > "$work/want_err"
-  if [ "$status" = "$2" ] && cmp -s "$work/out" "$work/want_out" && cmp -s "$work/err" "$work/want_err"; then
+  shift 4
+  "$top/run" "$@" < "$work/in" > "$work/out" 2> "$work/err" || status=$?
+  if [ "$status" = "$want" ] && cmp -s "$work/out" "$work/want_out" && cmp -s "$work/err" "$work/want_err"; then
     passed=$((passed + 1))
   else
     failed=$((failed + 1))
-    echo "failed: $1 (status $status)"
+    echo "failed: $name (status $status)"
     head -c 400 "$work/out" "$work/err"
   fi
 }
@@ -59,36 +60,19 @@ else
   echo "failed: an unreadable input (status $status)"
 fi
 
-# says NAME STATUS STANDARD-OUTPUT STANDARD-ERROR WORD.., with no standard input
-says() {
-  local name=$1 status=0
-  printf '%b' "$3" > "$work/want_out"
-  printf '%b' "$4" > "$work/want_err"
-  local want=$2
-  shift 4
-  "$top/run" "$@" < /dev/null > "$work/out" 2> "$work/err" || status=$?
-  if [ "$status" = "$want" ] && cmp -s "$work/out" "$work/want_out" && cmp -s "$work/err" "$work/want_err"; then
-    passed=$((passed + 1))
-  else
-    failed=$((failed + 1))
-    echo "failed: $name (status $status)"
-    head -c 400 "$work/out" "$work/err"
-  fi
-}
-
 printf 'b{a{"x"}c{"yz"}}' > "$work/text"
-says 'a text compiled to a file' 0 '' '' compile "$work/text" "$work/file.res"
-says 'that file checked' 0 'ok 3 resources\n' '' check "$work/file.res"
+answers 'a text compiled to a file' 0 '' '' compile "$work/text" "$work/file.res"
+answers 'that file checked' 0 'ok 3 resources\n' '' check "$work/file.res"
 head -c 60 "$work/file.res" > "$work/cut.res"
-says 'a file cut short' 1 '' 'Invalid resource bundle data: unexpected end of input\n' check "$work/cut.res"
-says 'a text that is no file' 1 '' 'Invalid resource bundle data: input is too short to contain file header\n' check "$work/text"
+answers 'a file cut short' 1 '' 'Invalid resource bundle data: unexpected end of input\n' check "$work/cut.res"
+answers 'a text that is no file' 1 '' 'Invalid resource bundle data: input is too short to contain file header\n' check "$work/text"
 printf 'b{' > "$work/open"
-says 'a refused text in a file' 1 '' "Parse error while reading text bundle:\nat byte 2: expected '}'\n" compile "$work/open" "$work/none.res"
-says 'no file is made of it' 2 '' "cannot read $work/none.res\n" check "$work/none.res"
-says 'a folder as input' 2 '' "cannot read $work\n" compile "$work" "$work/none.res"
-says 'a folder as output' 2 '' "cannot write $work\n" compile "$work/text" "$work"
-says 'an unknown word' 2 '' 'usage: resb_tool [compile IN OUT | check IN]\n' dump
-says 'a word too many' 2 '' 'usage: resb_tool [compile IN OUT | check IN]\n' check a b
+answers 'a refused text in a file' 1 '' "Parse error while reading text bundle:\nat byte 2: expected '}'\n" compile "$work/open" "$work/none.res"
+answers 'no file is made of it' 2 '' "cannot read $work/none.res\n" check "$work/none.res"
+answers 'a folder as input' 2 '' "cannot read $work\n" compile "$work" "$work/none.res"
+answers 'a folder as output' 2 '' "cannot write $work\n" compile "$work/text" "$work"
+answers 'an unknown word' 2 '' 'usage: resb_tool [compile IN OUT | check IN]\n' dump
+answers 'a word too many' 2 '' 'usage: resb_tool [compile IN OUT | check IN]\n' check a b
 
 echo "commands: $passed passed, $failed failed"
 [ "$failed" = 0 ]

@@ -8,7 +8,7 @@ ghost use Rattle.resb_read.specs.Reading.{LacksOrMemory};
 
 use crate::cursor::{Cursor, Spot};
 use crate::deserialize::Deserialize;
-use crate::faults::{elsewhere, mismatch};
+use crate::faults::{mismatch, refused_here};
 use crate::items::spot_of;
 use resb_format::ReadingError;
 use resb_walk::{File, Pairs, Standing, Walk};
@@ -137,7 +137,7 @@ impl<'de> Cursor<'de> {
         ensures refused { IfErr result (λ _. (walk.new ≤ walk.old) × (sequences.entries (place_of self.entry) ≡ None ⊎ walk.old ≡ 0)) }
     {
         let Spot::Descriptor(word) = self.at else {
-            return Err(elsewhere());
+            return Err(refused_here(self.at, walk));
         };
         walk.pay()?;
         let kind = word >> 28;

@@ -6,7 +6,7 @@ ghost use Rattle.resb_read.specs.Reading.{Reads};
 ghost use Rattle.resb_read.specs.Leaves.{signed_at, unsigned_at, ReadsSigned, CountsSigned, ReadsUnsigned, CountsUnsigned, ReadsBool, CountsBool, ReadsBits, CountsBits};
 
 use crate::cursor::{Cursor, Spot};
-use crate::faults::{elsewhere, mismatch, out_of_range};
+use crate::faults::{mismatch, out_of_range, refused_here};
 use resb_format::{BinaryDeserializerError, Int28};
 use resb_walk::Walk;
 
@@ -25,7 +25,7 @@ impl<'de> Cursor<'de> {
                 Ok(i32::from(Int28::from(word)))
             }
             Spot::Word(word) => Ok(word.cast_signed()),
-            Spot::Unit(_) | Spot::Key(_) => Err(elsewhere()),
+            Spot::Unit(_) | Spot::Key(_) => Err(refused_here(self.at, walk)),
         }
     }
 
@@ -43,7 +43,7 @@ impl<'de> Cursor<'de> {
                 Ok(word % 0x1000_0000)
             }
             Spot::Word(word) => Ok(word),
-            Spot::Unit(_) | Spot::Key(_) => Err(elsewhere()),
+            Spot::Unit(_) | Spot::Key(_) => Err(refused_here(self.at, walk)),
         }
     }
 
@@ -53,7 +53,7 @@ impl<'de> Cursor<'de> {
             Reads (ReadsBool p) (CountsBool p) walk.old walk.new result }
     {
         let Spot::Descriptor(word) = self.at else {
-            return Err(elsewhere());
+            return Err(refused_here(self.at, walk));
         };
         walk.pay()?;
         if word >> 28 != 7 {
@@ -74,7 +74,7 @@ impl<'de> Cursor<'de> {
             Reads (ReadsBits p) (CountsBits p) walk.old walk.new result }
     {
         let Spot::Descriptor(word) = self.at else {
-            return Err(elsewhere());
+            return Err(refused_here(self.at, walk));
         };
         walk.pay()?;
         if word >> 28 != 7 {

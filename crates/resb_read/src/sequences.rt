@@ -7,7 +7,7 @@ ghost use Rattle.resb_read.specs.Access.{StepsTo, Steps};
 
 use crate::cursor::{Cursor, Spot};
 use crate::deserialize::Deserialize;
-use crate::faults::{elsewhere, mismatch};
+use crate::faults::{mismatch, refused_here};
 use crate::items::Items;
 use resb_format::ReadingError;
 use resb_walk::{File, Leaf, Standing, Walk};
@@ -113,7 +113,7 @@ impl<'de> Cursor<'de> {
         ensures refused { IfErr result (λ _. (walk.new ≤ walk.old) × (items (place_of self.entry) ≡ None ⊎ walk.old ≡ 0)) }
     {
         let Spot::Descriptor(word) = self.at else {
-            return Err(elsewhere());
+            return Err(refused_here(self.at, walk));
         };
         walk.pay()?;
         let kind = word >> 28;

@@ -12,7 +12,7 @@ ghost use Rattle.resb_read.specs.LeafLaws.{text_counted, text_one, key_counted, 
 
 use crate::cursor::{Cursor, Spot};
 use crate::deserialize::Deserialize;
-use crate::faults::{elsewhere, mismatch};
+use crate::faults::{elsewhere, mismatch, refused_here};
 use resb_format::bytes::{some_bytes, some_word};
 use resb_format::{BinaryDeserializerError, Key, ReadingError, string_at};
 use resb_walk::faults::past_end;
@@ -107,16 +107,18 @@ impl<'de> Cursor<'de> {
     }
 
     /// Reads a key, which lives as long as the file.
-    pub fn read_str(self, _walk: &mut Walk) -> Result<&'de str, BinaryDeserializerError>
+    pub fn read_str(self, walk: &mut Walk) -> Result<&'de str, BinaryDeserializerError>
         ensures { let p = place_of self.entry in
-            Reads (λ s n. ReadsKey p s.now n) (CountsKey p) _walk.old _walk.new result }
+            Reads (λ s n. ReadsKey p s.now n) (CountsKey p) walk.old walk.new result }
     {
         match self.at {
             Spot::Key(position) => {
                 let key = self.file.key(position)?;
                 Ok(key)
             }
-            Spot::Descriptor(_) | Spot::Unit(_) | Spot::Word(_) => Err(elsewhere()),
+            Spot::Descriptor(_) | Spot::Unit(_) | Spot::Word(_) => {
+                Err(refused_here(self.at, walk))
+            }
         }
     }
 

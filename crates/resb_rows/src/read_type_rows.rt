@@ -444,3 +444,47 @@ fn the_order_of_bytes_is_told(rt: HostRuntime) -> Result<(), Fail> {
     assert_eq!(rt; determine_endianness(&foreign)?, Endianness::Big);
     Ok(())
 }
+
+/// Words of a root, and why no key is read there.
+const NO_KEYS: [(u32, ErrorKind, &str); 3] = [
+    (
+        0xa000_0000,
+        ErrorKind::InvalidData,
+        "unrecognized value for ResourceReprType",
+    ),
+    (
+        0x0000_0001,
+        ErrorKind::UnsupportedFormat,
+        "resource type is not supported",
+    ),
+    (0x7000_0001, ErrorKind::Unknown, "value cannot be read here"),
+];
+
+#[test]
+fn a_place_without_a_key_is_paid_for_and_looked_at(rt: HostRuntime) -> Result<(), Fail> {
+    for (word, kind, message) in NO_KEYS {
+        let bytes = root_word(rt.alloc(), word)?;
+        let (root, mut walk) = Cursor::root(&bytes)?;
+        let before = walk.left();
+        assert!(rt; is_refused(root.read_str(&mut walk), kind, message));
+        assert_eq!(rt; walk.left().checked_add(1), Some(before));
+        let spent = root.read_str(&mut Walk::new(0));
+        assert!(rt; is_refused(spent, ErrorKind::InvalidData, "resource budget spent"));
+    }
+    Ok(())
+}
+
+#[test]
+fn a_string_without_a_number_is_paid_for(rt: HostRuntime) -> Result<(), Fail> {
+    let bytes = file_of(rt.alloc(), &TEXTS)?;
+    let (array, mut walk) = last_value(&bytes)?;
+    let mut members = array.read_seq(&mut walk)?;
+    let Some(string) = members.next_cursor()? else {
+        return Err("no member")?;
+    };
+    let elsewhere = string.read_i32(&mut walk);
+    assert!(rt; is_refused(elsewhere, ErrorKind::Unknown, "value cannot be read here"));
+    let spent = string.read_i32(&mut Walk::new(0));
+    assert!(rt; is_refused(spent, ErrorKind::InvalidData, "resource budget spent"));
+    Ok(())
+}

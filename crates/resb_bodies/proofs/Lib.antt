@@ -1,3 +1,4 @@
 pub mod Walks
 pub mod Stacks
 pub mod Closings
+pub mod Keys

@@ -1,5 +1,8 @@
 //! What is given to those who lay bodies, and what they have laid so far.
 //! Where keys and strings stand is found out elsewhere.
+ghost use Rattle.std.specs.Prelude.{◌≡◌};
+ghost use Rattle.resb_pool.specs.Plan.{at_text};
+
 use indexmap::IndexMap;
 use resb_pool::Plan;
 
@@ -10,6 +13,15 @@ pub struct Places<'p> {
     pub positions: IndexMap<&'p str, u32>,
     pub plan: Plan<'p>,
     pub base: usize,
+}
+
+impl<'p> Places<'p> {
+    /// The position of a key, if it is used.
+    pub(crate) fn position(&self, key: &str) -> Option<u32>
+        ensures { result ≡ at_text self.now.positions key.now }
+    {
+        self.positions.get(key).copied()
+    }
 }
 
 /// The units of the 16-bit block and the bytes of the tail.

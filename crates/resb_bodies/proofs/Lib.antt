@@ -2,3 +2,4 @@ pub mod Walks
 pub mod Stacks
 pub mod Closings
 pub mod Keys
+pub mod Rows

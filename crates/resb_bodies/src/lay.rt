@@ -1,6 +1,7 @@
 //! Lays one resource over a stack of words, which holds those of its members.
 //! What is laid for a body is said in `resource`.
-ghost use Rattle.std.specs.Prelude.{ℕ, Some, ◌≡◌, ◌++◌, ◌∷◌, ◌-◌, ◌^◌, ◌<◌, ◌≤◌, [], length, take, IfOk, OnOk};
+ghost use Rattle.std.specs.Prelude.{◌≡◌, ◌++◌, ◌∷◌, ◌+◌, ◌-◌, ◌/◌, ◌^◌, ◌<◌, ◌≤◌};
+ghost use Rattle.std.specs.Prelude.{ℕ, Some, [], length, take, IfOk, OnOk};
 ghost use Rattle.resb_tree.specs.Tree.{array, binary, int_vector, integer, string, table as table_with};
 ghost use Rattle.resb_pool.specs.Plan.{offset_of};
 ghost use Rattle.resb_layout.specs.Laid.{Given, State, ArePlaced, keys_in};
@@ -108,10 +109,11 @@ pub(crate) fn step_bytes(
     words: &mut Vec<u32>,
     bytes: &[u8],
 ) -> Result<(), AllocError>
-    requires { HasRoom places.now bodies.old (length bytes.now) }
+    requires { HasRoom places.now bodies.old ((length bytes.now + 7) / 8) }
     ensures step { OnOk result (Step (given_by places.now) (state_of bodies.old) words.old.items
         (binary bytes.now) (state_of bodies.new) words.new.items) }
-    ensures takes { OnOk result (Takes places.now bodies.old bodies.new (length bytes.now)) }
+    ensures takes { OnOk result (Takes places.now bodies.old bodies.new
+        ((length bytes.now + 7) / 8)) }
 {
     let word = lay_bytes(places, bodies, bytes)?;
     words.push(word)?;

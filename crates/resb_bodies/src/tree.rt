@@ -1,0 +1,82 @@
+//! Lays a whole tree, its resources in walk order over a stack of words.
+//! What is laid for one resource is said in `lay`. No function calls itself.
+ghost use Rattle.std.specs.Prelude.{◌≤◌, [], All, length, IfOk, OnOk};
+ghost use Rattle.resb_tree.specs.View.{tree_of};
+ghost use Rattle.resb_layout.specs.Laid.{Lays};
+ghost use Rattle.resb_bodies.specs.WalkOrder.{walk, children};
+ghost use Rattle.resb_bodies.specs.Steps.{Step, Steps};
+ghost use Rattle.resb_bodies.specs.Inner.Seen.{given_by, state_of, trees_in, own_size, HasRoom};
+ghost use Rattle.resb_bodies.specs.Inner.Seen.{HasRoomFor, Takes, IsKnown, CanLay};
+
+use crate::given::{Bodies, Places};
+use crate::lay::{step_array, step_bytes, step_integer, step_numbers, step_string, step_table};
+use crate::walk_order::in_walk_order;
+use resb_tree::Resource;
+use std::alloc::{AllocError, Global};
+
+/// Lays a resource behind its members, whose words it takes off the stack, and puts its own.
+fn step(
+    alloc: Global,
+    places: &Places<'_>,
+    bodies: &mut Bodies,
+    words: &mut Vec<u32>,
+    resource: &Resource<'_>,
+) -> Result<(), AllocError>
+    requires room { HasRoom places.now bodies.old (own_size (tree_of resource.now)) }
+    requires enough { length (children (tree_of resource.now)) ≤ length words.old.items }
+    requires known { IsKnown (given_by places.now) (tree_of resource.now) }
+    ensures step { OnOk result (Step (given_by places.now) (state_of bodies.old) words.old.items
+        (tree_of resource.now) (state_of bodies.new) words.new.items) }
+    ensures takes { OnOk result (Takes places.now bodies.old bodies.new
+        (own_size (tree_of resource.now))) }
+{
+    match resource {
+        Resource::String(text) => step_string(places, words, text.as_str()),
+        Resource::Array(items) => step_array(places, bodies, words, items),
+        Resource::Table(table) => step_table(alloc, places, bodies, words, table),
+        Resource::Binary(bytes) => step_bytes(places, bodies, words, bytes.as_slice()),
+        Resource::Integer(number) => step_integer(words, u32::from(*number)),
+        Resource::IntVector(numbers) => step_numbers(places, bodies, words, numbers),
+    }
+}
+
+/// Lays resources in a row.
+fn steps(
+    alloc: Global,
+    places: &Places<'_>,
+    bodies: &mut Bodies,
+    words: &mut Vec<u32>,
+    order: Vec<&Resource<'_>>,
+) -> Result<(), AllocError>
+    requires { CanLay places.now bodies.old (length words.old.items) (trees_in order.items) }
+    ensures { OnOk result (Steps (given_by places.now) (state_of bodies.old) words.old.items
+        (trees_in order.entry.items) (state_of bodies.new) words.new.items) }
+{
+    for resource in order {
+        step(alloc, places, bodies, words, resource)?;
+    }
+    Ok(())
+}
+
+/// Lays a tree behind what stands, and gives its word. All of its keys and texts are known, and
+/// there is room for the bodies of its resources. `Err` is for want of memory alone; what stands
+/// then is of no use.
+pub fn lay_tree(
+    alloc: Global,
+    places: &Places<'_>,
+    bodies: &mut Bodies,
+    root: &Resource<'_>,
+) -> Result<u32, AllocError>
+    requires room { HasRoomFor places.now bodies.old (walk (tree_of root.now)) }
+    requires known { All (IsKnown (given_by places.now)) (walk (tree_of root.now)) }
+    ensures { IfOk result (λ word. Lays (given_by places.now) (state_of bodies.old)
+        (tree_of root.now) (state_of bodies.new) word) }
+{
+    let order = in_walk_order(alloc, root)?;
+    let mut words = Vec::new(alloc);
+    steps(alloc, places, bodies, &mut words, order)?;
+    let Some(word) = words.pop() else {
+        unreachable!()
+    };
+    Ok(word)
+}

@@ -3,3 +3,4 @@ pub mod Stacks
 pub mod Closings
 pub mod Keys
 pub mod Rows
+pub mod OneBlock

@@ -7,7 +7,8 @@ use Rattle.resb_tree.specs.Tree.{Tree, string, array, table, binary, integer, in
 use Rattle.resb_layout.specs.Laid.{Given, State}
 use Rattle.resb_bodies.specs.WalkOrder.{members, values_of, children, walk, walk_each, walk_values}
 use Rattle.resb_bodies.specs.Steps.{Step, Steps, steps_none, steps_more}
-use Rattle.resb_bodies.specs.Inner.Seen.{given_by, own_size, most_units, most_bytes, HasRoom, HasRoomFor, Takes, IsKnown, Suffices, CanLay}
+use Rattle.resb_bodies.specs.Room.{given_by, own_size, most_units, most_bytes, HasRoomFor, IsKnown}
+use Rattle.resb_bodies.specs.Inner.Seen.{HasRoom, Takes, Suffices, CanLay}
 use Rattle.resb_bodies.specs.declared.given.Places.{Places}
 use Rattle.resb_bodies.specs.declared.given.Bodies.{Bodies}
 

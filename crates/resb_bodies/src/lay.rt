@@ -7,7 +7,8 @@ ghost use Rattle.resb_pool.specs.Plan.{offset_of};
 ghost use Rattle.resb_layout.specs.Laid.{Given, State, ArePlaced, keys_in};
 ghost use Rattle.resb_tree.specs.View.{items_view, entries_view};
 ghost use Rattle.resb_bodies.specs.Steps.{Step};
-ghost use Rattle.resb_bodies.specs.Inner.Seen.{given_by, state_of, HasRoom, Takes, IsKnown};
+ghost use Rattle.resb_bodies.specs.Room.{given_by, state_of, IsKnown};
+ghost use Rattle.resb_bodies.specs.Inner.Seen.{HasRoom, Takes};
 
 use crate::given::{Bodies, Places};
 use crate::resource::{close_array, close_table, lay_bytes, lay_numbers, word};

@@ -4,7 +4,8 @@ ghost use Rattle.std.specs.Prelude.{◌≡◌, ◌++◌, ◌+◌, ◌*◌, ◌/�
 ghost use Rattle.resb_tree.specs.Tree.{binary, int_vector};
 ghost use Rattle.resb_format.specs.Codes.{type_number};
 ghost use Rattle.resb_layout.specs.Laid.{Lays, ClosesArray, ClosesTable, are_short, are_near, offsets_in};
-ghost use Rattle.resb_bodies.specs.Inner.Seen.{given_by, state_of, HasRoom, Takes};
+ghost use Rattle.resb_bodies.specs.Room.{given_by, state_of};
+ghost use Rattle.resb_bodies.specs.Inner.Seen.{HasRoom, Takes};
 
 use crate::bytes::{put_counted, put_fill, put_short_table, put_word, put_words};
 use crate::given::{Bodies, Places};

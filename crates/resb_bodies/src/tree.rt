@@ -1,12 +1,13 @@
 //! Lays a whole tree, its resources in walk order over a stack of words.
 //! What is laid for one resource is said in `lay`. No function calls itself.
-ghost use Rattle.std.specs.Prelude.{◌≤◌, [], All, length, IfOk, OnOk};
+ghost use Rattle.std.specs.Prelude.{ℕ, ◌≡◌, ◌≤◌, [], All, length, IfOk, OnOk};
 ghost use Rattle.resb_tree.specs.View.{tree_of};
-ghost use Rattle.resb_layout.specs.Laid.{Lays};
+ghost use Rattle.resb_layout.specs.Laid.{State, Lays};
 ghost use Rattle.resb_bodies.specs.WalkOrder.{walk, children};
 ghost use Rattle.resb_bodies.specs.Steps.{Step, Steps};
-ghost use Rattle.resb_bodies.specs.Inner.Seen.{given_by, state_of, trees_in, own_size, HasRoom};
-ghost use Rattle.resb_bodies.specs.Inner.Seen.{HasRoomFor, Takes, IsKnown, CanLay};
+ghost use Rattle.resb_bodies.specs.Room.{based, pool_state, given_by, state_of, trees_in, own_size};
+ghost use Rattle.resb_bodies.specs.Room.{HasRoomFor, IsKnown};
+ghost use Rattle.resb_bodies.specs.Inner.Seen.{HasRoom, Takes, CanLay};
 
 use crate::given::{Bodies, Places};
 use crate::lay::{step_array, step_bytes, step_integer, step_numbers, step_string, step_table};
@@ -67,7 +68,8 @@ pub fn lay_tree(
     bodies: &mut Bodies,
     root: &Resource<'_>,
 ) -> Result<u32, AllocError>
-    requires room { HasRoomFor places.now bodies.old (walk (tree_of root.now)) }
+    requires room { HasRoomFor (given_by places.now) (state_of bodies.old)
+        (walk (tree_of root.now)) }
     requires known { All (IsKnown (given_by places.now)) (walk (tree_of root.now)) }
     ensures { IfOk result (λ word. Lays (given_by places.now) (state_of bodies.old)
         (tree_of root.now) (state_of bodies.new) word) }
@@ -79,4 +81,23 @@ pub fn lay_tree(
         unreachable!()
     };
     Ok(word)
+}
+
+/// The number of units of the 16-bit block: the pool of the strings, and what a tree adds. It is the
+/// same wherever the tail begins, so the places may say anything there that leaves room.
+pub fn count_units(
+    alloc: Global,
+    places: &Places<'_>,
+    root: &Resource<'_>,
+) -> Result<usize, AllocError>
+    requires room { HasRoomFor (given_by places.now) (pool_state places.now)
+        (walk (tree_of root.now)) }
+    requires known { All (IsKnown (given_by places.now)) (walk (tree_of root.now)) }
+    ensures { IfOk result (λ count. (base : ℕ) (end : State) (word : ℕ)
+        → Lays (based places.now base) (pool_state places.now) (tree_of root.now) end word
+        → length end.units ≡ count) }
+{
+    let mut bodies = Bodies::new(alloc, places.plan.units())?;
+    lay_tree(alloc, places, &mut bodies, root)?;
+    Ok(bodies.units.len())
 }

@@ -5,7 +5,7 @@ use Rattle.resb_tree.specs.Tree.{table}
 use Rattle.resb_tree.specs.View.{entries_view}
 use Rattle.resb_layout.specs.Laid.{ArePlaced, ClosesTable, keys_in}
 use Rattle.resb_bodies.specs.Steps.{Step}
-use Rattle.resb_bodies.specs.Inner.Seen.{given_by, state_of}
+use Rattle.resb_bodies.specs.Room.{given_by, state_of}
 use Rattle.resb_bodies.proofs.Walks.{nil_from_len}
 use Rattle.resb_bodies.proofs.Keys.{keys_long, values_long, placed_long, not_none}
 use Rattle.resb_bodies.proofs.Stacks.{split_stack, table_step, empty_table_step}

@@ -4,7 +4,8 @@ use Rattle.resb_tree.specs.View.{tree_of}
 use Rattle.resb_layout.specs.Laid.{Lays}
 use Rattle.resb_bodies.specs.WalkOrder.{walk}
 use Rattle.resb_bodies.specs.Steps.{Steps}
-use Rattle.resb_bodies.specs.Inner.Seen.{given_by, state_of, trees_in, HasRoomFor, IsKnown, Suffices}
+use Rattle.resb_bodies.specs.Room.{given_by, state_of, trees_in, HasRoomFor, IsKnown}
+use Rattle.resb_bodies.specs.Inner.Seen.{Suffices}
 use Rattle.resb_bodies.proofs.Rows.{suffices}
 use Rattle.resb_bodies.proofs.Stacks.{steps_lay_trees}
 use Rattle.resb_bodies.proofs.tree.lay_tree.Goals as goal
@@ -14,7 +15,7 @@ steps-requires c =
     let t = tree_of c.args.root.now in
     let order = sym c.in_ok-order.ensures in
     record {
-      room = subst (HasRoomFor c.args.places.now c.args.bodies.now) order c.requires.room;
+      room = subst (HasRoomFor (given_by c.args.places.now) (state_of c.args.bodies.now)) order c.requires.room;
       enough = subst (λ ws. Suffices (length ws) (trees_in c.in_ok-order.order.items)) (sym c.new-words.ensures.items) (subst (Suffices 0) order (suffices t));
       known = subst (All (IsKnown (given_by c.args.places.now))) order c.requires.known;
     }

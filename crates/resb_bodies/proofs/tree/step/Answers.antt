@@ -4,7 +4,8 @@ use Rattle.resb_tree.specs.Tree.{Tree, array, table}
 use Rattle.resb_tree.specs.View.{tree_of, items_view, entries_view}
 use Rattle.resb_tree.specs.declared.resource.Resource.{the_lemmas}
 use Rattle.resb_bodies.specs.WalkOrder.{children}
-use Rattle.resb_bodies.specs.Inner.Seen.{own_size, HasRoom, Takes}
+use Rattle.resb_bodies.specs.Room.{own_size}
+use Rattle.resb_bodies.specs.Inner.Seen.{HasRoom, Takes}
 use Rattle.resb_bodies.proofs.Walks.{items_long}
 use Rattle.resb_bodies.proofs.Keys.{values_long}
 use Rattle.resb_bodies.proofs.tree.step.Goals as goal

@@ -2,7 +2,8 @@ use Rattle.std.proofs.Common.{rules, ◌≡◌, ◌++◌, ◌∷◌, ◌+◌, []
 use Rattle.std.specs.Vec.Iter.{into_iter_items, into_iter_len}
 use Rattle.resb_tree.specs.View.{tree_of}
 use Rattle.resb_bodies.specs.Steps.{Steps, steps_none}
-use Rattle.resb_bodies.specs.Inner.Seen.{given_by, state_of, trees_in, CanLay}
+use Rattle.resb_bodies.specs.Room.{given_by, state_of, trees_in}
+use Rattle.resb_bodies.specs.Inner.Seen.{CanLay}
 use Rattle.resb_bodies.proofs.Walks.{trees-push}
 use Rattle.resb_bodies.proofs.Rows.{steps_push, step_long, can_go_on}
 use Rattle.resb_bodies.proofs.tree.steps.Goals as goal

@@ -1,7 +1,8 @@
 use Rattle.std.proofs.Common.{◌≡◌, ◌++◌, length}
 use Rattle.std.specs.Vec.Iter.{into_iter_items, into_iter_len}
 use Rattle.resb_bodies.specs.Steps.{Steps}
-use Rattle.resb_bodies.specs.Inner.Seen.{given_by, state_of, trees_in, CanLay}
+use Rattle.resb_bodies.specs.Room.{given_by, state_of, trees_in}
+use Rattle.resb_bodies.specs.Inner.Seen.{CanLay}
 use Rattle.resb_bodies.proofs.tree.steps.Given as goal
 
 abbrev pub invariant-loop-resource : goal.invariant-loop-resource

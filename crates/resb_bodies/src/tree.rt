@@ -1,12 +1,14 @@
 //! Lays a whole tree, its resources in walk order over a stack of words.
 //! What is laid for one resource is said in `lay`. No function calls itself.
-ghost use Rattle.std.specs.Prelude.{ℕ, ◌≡◌, ◌≤◌, [], All, length, IfOk, OnOk};
+ghost use Rattle.std.specs.Prelude.{ℕ, ◌≡◌, ◌+◌, ◌≤◌, [], All, length, IfOk, OnOk};
+ghost use Rattle.std.specs.List.{sum_by};
 ghost use Rattle.resb_tree.specs.View.{tree_of};
+ghost use Rattle.resb_pool.specs.Plan.{plan_units};
 ghost use Rattle.resb_layout.specs.Laid.{State, Lays};
 ghost use Rattle.resb_bodies.specs.WalkOrder.{walk, children};
 ghost use Rattle.resb_bodies.specs.Steps.{Step, Steps};
 ghost use Rattle.resb_bodies.specs.Room.{based, pool_state, given_by, state_of, trees_in, own_size};
-ghost use Rattle.resb_bodies.specs.Room.{HasRoomFor, IsKnown};
+ghost use Rattle.resb_bodies.specs.Room.{HasRoomFor, IsKnown, most_units};
 ghost use Rattle.resb_bodies.specs.Inner.Seen.{HasRoom, Takes, CanLay};
 
 use crate::given::{Bodies, Places};
@@ -50,8 +52,10 @@ fn steps(
     order: Vec<&Resource<'_>>,
 ) -> Result<(), AllocError>
     requires { CanLay places.now bodies.old (length words.old.items) (trees_in order.items) }
-    ensures { OnOk result (Steps (given_by places.now) (state_of bodies.old) words.old.items
+    ensures lays { OnOk result (Steps (given_by places.now) (state_of bodies.old) words.old.items
         (trees_in order.entry.items) (state_of bodies.new) words.new.items) }
+    ensures takes { OnOk result (length bodies.new.units.items
+        ≤ length bodies.old.units.items + sum_by most_units (trees_in order.entry.items)) }
 {
     for resource in order {
         step(alloc, places, bodies, words, resource)?;
@@ -71,8 +75,10 @@ pub fn lay_tree(
     requires room { HasRoomFor (given_by places.now) (state_of bodies.old)
         (walk (tree_of root.now)) }
     requires known { All (IsKnown (given_by places.now)) (walk (tree_of root.now)) }
-    ensures { IfOk result (λ word. Lays (given_by places.now) (state_of bodies.old)
+    ensures lays { IfOk result (λ word. Lays (given_by places.now) (state_of bodies.old)
         (tree_of root.now) (state_of bodies.new) word) }
+    ensures takes { OnOk result (length bodies.new.units.items
+        ≤ length bodies.old.units.items + sum_by most_units (walk (tree_of root.now))) }
 {
     let order = in_walk_order(alloc, root)?;
     let mut words = Vec::new(alloc);
@@ -93,9 +99,11 @@ pub fn count_units(
     requires room { HasRoomFor (given_by places.now) (pool_state places.now)
         (walk (tree_of root.now)) }
     requires known { All (IsKnown (given_by places.now)) (walk (tree_of root.now)) }
-    ensures { IfOk result (λ count. (base : ℕ) (end : State) (word : ℕ)
+    ensures counts { IfOk result (λ count. (base : ℕ) (end : State) (word : ℕ)
         → Lays (based places.now base) (pool_state places.now) (tree_of root.now) end word
         → length end.units ≡ count) }
+    ensures few { IfOk result (λ count. count
+        ≤ length (plan_units places.now.plan) + sum_by most_units (walk (tree_of root.now))) }
 {
     let mut bodies = Bodies::new(alloc, places.plan.units())?;
     lay_tree(alloc, places, &mut bodies, root)?;

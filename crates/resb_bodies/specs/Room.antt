@@ -4,7 +4,9 @@
 --     based p n               what is given, where the tail begins n bytes into the body
 --     pool_state p            the pool of the strings, and nothing else
 --     IsKnown g t             the keys and the text of t are known
---     HasRoomFor p s ts       there is room for the bodies of ts behind s
+--     HasRoomFor g s ts       there is room for the bodies of ts behind s
+--     block_end n b           where the 16-bit block ends, if it begins at byte n
+--     HasRoomBehind p n ts    there is room for the pool and the bodies of ts from byte n
 use Rattle.std.specs.Prelude.{◌≡◌, ℕ, ◌+◌, ◌*◌, ◌/◌, ◌%◌, ◌^◌, ◌<◌, List, [], length, map, Some}
 use Rattle.std.specs.List.{sum_by}
 use Rattle.std.specs.Borrow.{Bor}
@@ -62,3 +64,12 @@ pub record HasRoomFor (g : Given) (s : State) (ts : List Tree) : Type 0 where
   pub aligned : here g s % 4 ≡ 0
   pub units : length s.units + sum_by most_units ts < 2 ^ 28
   pub bytes : here g s + sum_by most_bytes ts < 2 ^ 30
+
+-- where a 16-bit block that begins at byte n of the body ends, with a unit that fills the last word
+abbrev pub block_end : ℕ → Bodies → ℕ
+block_end n b = n + 2 * (length b.units.items + length b.units.items % 2)
+
+-- from byte n of the body there is room for the pool, and behind it for the bodies of these resources
+pub record HasRoomBehind (p : Places) (n : ℕ) (ts : List Tree) : Type 0 where
+  pub units : length (plan_units p.plan) + sum_by most_units ts < 2 ^ 28
+  pub bytes : n + 2 * (length (plan_units p.plan) + sum_by most_units ts + 1) + sum_by most_bytes ts < 2 ^ 30

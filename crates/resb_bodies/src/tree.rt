@@ -1,6 +1,6 @@
 //! Lays a whole tree, its resources in walk order over a stack of words.
 //! What is laid for one resource is said in `lay`. No function calls itself.
-ghost use Rattle.std.specs.Prelude.{ℕ, ◌≡◌, ◌+◌, ◌≤◌, [], All, length, IfOk, OnOk};
+ghost use Rattle.std.specs.Prelude.{ℕ, ◌≡◌, ◌+◌, ◌%◌, ◌≤◌, [], All, length, IfOk, OnOk};
 ghost use Rattle.std.specs.List.{sum_by};
 ghost use Rattle.resb_tree.specs.View.{tree_of};
 ghost use Rattle.resb_pool.specs.Plan.{plan_units};
@@ -8,7 +8,7 @@ ghost use Rattle.resb_layout.specs.Laid.{State, Lays};
 ghost use Rattle.resb_bodies.specs.WalkOrder.{walk, children};
 ghost use Rattle.resb_bodies.specs.Steps.{Step, Steps};
 ghost use Rattle.resb_bodies.specs.Room.{based, pool_state, given_by, state_of, trees_in, own_size};
-ghost use Rattle.resb_bodies.specs.Room.{HasRoomFor, IsKnown, most_units};
+ghost use Rattle.resb_bodies.specs.Room.{HasRoomFor, HasRoomBehind, IsKnown, block_end, most_units};
 ghost use Rattle.resb_bodies.specs.Inner.Seen.{HasRoom, Takes, CanLay};
 
 use crate::given::{Bodies, Places};
@@ -108,4 +108,26 @@ pub fn count_units(
     let mut bodies = Bodies::new(alloc, places.plan.units())?;
     lay_tree(alloc, places, &mut bodies, root)?;
     Ok(bodies.units.len())
+}
+
+/// Lays a tree behind the pool of its strings, where the key block ends at a byte of the body. Gives
+/// what is laid, and the tree's word. The tail begins behind the 16-bit block, at a multiple of 4.
+pub fn lay_bodies(
+    alloc: Global,
+    places: &mut Places<'_>,
+    keys_end: usize,
+    root: &Resource<'_>,
+) -> Result<(Bodies, u32), AllocError>
+    requires aligned { keys_end % 4 ≡ 0 }
+    requires room { HasRoomBehind places.old keys_end (walk (tree_of root.now)) }
+    requires known { (base : ℕ) → All (IsKnown (based places.old base)) (walk (tree_of root.now)) }
+    ensures { IfOk result (λ laid. Lays (based places.old (block_end keys_end laid.0))
+        (pool_state places.old) (tree_of root.now) (state_of laid.0) laid.1) }
+{
+    places.base = 0;
+    let count = count_units(alloc, places, root)?;
+    places.base = keys_end + 2 * (count + count % 2);
+    let mut bodies = Bodies::new(alloc, places.plan.units())?;
+    let word = lay_tree(alloc, places, &mut bodies, root)?;
+    Ok((bodies, word))
 }

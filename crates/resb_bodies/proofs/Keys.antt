@@ -1,7 +1,7 @@
 -- The keys of a table, and what a map has at each.
 use Rattle.std.proofs.Common.{◌≡◌, ℕ, List, [], ◌∷◌, ◌++◌, map, length, Option, Some, Bool, true, false, IsTrue, ◌<◌, zero, suc, refl, sym, ◌∙◌, ap, arith}
 use Rattle.std.specs.Map.{keys_of}
-use Rattle.resb_tree.specs.View.{tree_of, entries_view}
+use Rattle.resb_tree.specs.View.{entries_view}
 use Rattle.resb_tree.specs.declared.resource.Resource.{Resource}
 use Rattle.resb_layout.specs.Laid.{Given, ArePlaced, keys_in}
 use Rattle.resb_bodies.specs.WalkOrder.{values_of}

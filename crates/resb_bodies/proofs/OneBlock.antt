@@ -1,9 +1,9 @@
 -- The units that a tree takes don't depend on where the tail begins.
-use Rattle.std.proofs.Common.{ℕ, suc, List, [], ◌∷◌, ◌++◌, map, Some, Option, Bool, true, false, ◌&&◌, length, ◌≡◌, ◌<◌, ◌+◌, ◌*◌, ◌^◌, refl, sym, ◌∙◌, ap, subst, arith, nat_le}
+use Rattle.std.proofs.Common.{ℕ, suc, List, [], ◌∷◌, ◌++◌, map, Some, Bool, true, false, ◌&&◌, length, ◌≡◌, ◌<◌, ◌+◌, refl, sym, ◌∙◌, ap, subst, arith, nat_le}
 use Rattle.std.specs.List.{list_all}
 use Rattle.std.proofs.lemmas.Bool.{lt-leb, and_left, and_right, and_parts}
-use Rattle.resb_tree.specs.Tree.{Tree, Trees, Entries, no_trees, more_trees, no_entries, entry}
-use Rattle.resb_layout.specs.Laid.{Given, State, here, is_short_string, are_short, are_near, more_units, more_bytes, offsets_in, ClosesArray, short_array, long_array, ClosesTable, short_table, long_table, wide_table, ArePlaced, keys_in, members_in, Lays, lays_integer, lays_string, lays_no_bytes, lays_bytes, lays_no_numbers, lays_numbers, lays_no_items, lays_items, lays_no_entries, lays_entries, LaysEach, each_none, each_more}
+use Rattle.resb_tree.specs.Tree.{Tree, Trees, no_trees}
+use Rattle.resb_layout.specs.Laid.{Given, State, is_short_string, are_short, are_near, offsets_in, ClosesArray, short_array, long_array, ClosesTable, short_table, long_table, wide_table, ArePlaced, keys_in, Lays, lays_integer, lays_string, lays_no_bytes, lays_bytes, lays_no_numbers, lays_numbers, lays_no_items, lays_items, lays_no_entries, lays_entries, LaysEach, each_none, each_more}
 use Rattle.resb_layout.proofs.Once.{same_somes}
 use Rattle.resb_bodies.specs.Laws.{OneBlock}
 

@@ -1,13 +1,12 @@
 -- Steps in a row: what is left after one, and that a stack has the words of what comes next.
-use Rattle.std.proofs.Common.{◌≡◌, ℕ, ◌+◌, ◌-◌, ◌<◌, ◌≤◌, List, [], ◌∷◌, ◌++◌, length, refl, sym, ◌∙◌, ap, subst, append_assoc, append-nil, length-append, arith}
-use Rattle.std.specs.List.{sum_by}
+use Rattle.std.proofs.Common.{◌≡◌, ℕ, ◌+◌, ◌-◌, List, [], ◌∷◌, ◌++◌, length, refl, sym, ap, subst, append_assoc, append-nil, length-append, arith}
 use Rattle.std.proofs.lemmas.List.Sums.{sum_by-cons}
 use Rattle.std.proofs.lemmas.List.Elements.{All-head, All-tail}
 use Rattle.resb_tree.specs.Tree.{Tree, string, array, table, binary, integer, int_vector, Trees, no_trees, more_trees, Entries, no_entries, entry}
 use Rattle.resb_layout.specs.Laid.{Given, State}
 use Rattle.resb_bodies.specs.WalkOrder.{members, values_of, children, walk, walk_each, walk_values}
 use Rattle.resb_bodies.specs.Steps.{Step, Steps, steps_none, steps_more}
-use Rattle.resb_bodies.specs.Room.{given_by, own_size, most_units, most_bytes, HasRoomFor, IsKnown}
+use Rattle.resb_bodies.specs.Room.{given_by, own_size, most_units, most_bytes, IsKnown}
 use Rattle.resb_bodies.specs.Inner.Seen.{HasRoom, Takes, Suffices, CanLay}
 use Rattle.resb_bodies.specs.declared.given.Places.{Places}
 use Rattle.resb_bodies.specs.declared.given.Bodies.{Bodies}

@@ -1,5 +1,6 @@
 -- What the laws say.
---     StepsLayTrees           from an empty stack, the steps of a tree's resources in walk order lay the tree
+--     StepsLayTrees           from an empty stack, the steps of a tree's resources in walk order
+--                             lay the tree
 --     OneBlock                the units that a tree takes don't depend on where the tail begins
 use Rattle.std.specs.Prelude.{◌≡◌, ℕ, List, [], ◌∷◌}
 use Rattle.resb_tree.specs.Tree.{Tree}
@@ -14,5 +15,5 @@ StepsLayTrees =
 
 abbrev pub OneBlock : Type 0
 OneBlock =
-    (g h : Given) (s u a b : State) (t : Tree) (v w : ℕ) → g.position ≡ h.position → g.offset ≡ h.offset
-    → s.units ≡ u.units → Lays g s t a v → Lays h u t b w → a.units ≡ b.units
+    (g h : Given) (s u a b : State) (t : Tree) (v w : ℕ) → g.position ≡ h.position
+    → g.offset ≡ h.offset → s.units ≡ u.units → Lays g s t a v → Lays h u t b w → a.units ≡ b.units

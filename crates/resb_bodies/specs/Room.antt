@@ -69,7 +69,9 @@ pub record HasRoomFor (g : Given) (s : State) (ts : List Tree) : Type 0 where
 abbrev pub block_end : ℕ → Bodies → ℕ
 block_end n b = n + 2 * (length b.units.items + length b.units.items % 2)
 
--- from byte n of the body there is room for the pool, and behind it for the bodies of these resources
+-- from byte n of the body there is room for the pool, and behind it for the bodies of these
+-- resources
 pub record HasRoomBehind (p : Places) (n : ℕ) (ts : List Tree) : Type 0 where
   pub units : length (plan_units p.plan) + sum_by most_units ts < 2 ^ 28
-  pub bytes : n + 2 * (length (plan_units p.plan) + sum_by most_units ts + 1) + sum_by most_bytes ts < 2 ^ 30
+  pub bytes : n + 2 * (length (plan_units p.plan) + sum_by most_units ts + 1)
+      + sum_by most_bytes ts < 2 ^ 30

@@ -111,7 +111,9 @@ pub fn count_units(
 }
 
 /// Lays a tree behind the pool of its strings, where the key block ends at a byte of the body. Gives
-/// what is laid, and the tree's word. The tail begins behind the 16-bit block, at a multiple of 4.
+/// what is laid, and the tree's word. The tail begins behind the 16-bit block, at a multiple of 4,
+/// which the places then say. `Err` is for want of memory alone; the base of the places is then of
+/// no account.
 pub fn lay_bodies(
     alloc: Global,
     places: &mut Places<'_>,
@@ -121,8 +123,10 @@ pub fn lay_bodies(
     requires aligned { keys_end % 4 ≡ 0 }
     requires room { HasRoomBehind places.old keys_end (walk (tree_of root.now)) }
     requires known { (base : ℕ) → All (IsKnown (based places.old base)) (walk (tree_of root.now)) }
-    ensures { IfOk result (λ laid. Lays (based places.old (block_end keys_end laid.0))
+    ensures lays { IfOk result (λ laid. Lays (based places.old (block_end keys_end laid.0))
         (pool_state places.old) (tree_of root.now) (state_of laid.0) laid.1) }
+    ensures behind { IfOk result (λ laid. places.new.base ≡ block_end keys_end laid.0) }
+    ensures keeps { places.new ≡ record places.old { base = places.new.base } }
 {
     places.base = 0;
     let count = count_units(alloc, places, root)?;

@@ -1,9 +1,8 @@
-use Rattle.std.proofs.Common.{◌≡◌, ◌-◌, [], ℕ, ◌++◌, ◌∷◌, length, take, drop, sym, ◌∙◌, ap, subst, arith}
-use Rattle.std.proofs.lemmas.Bool.{eqb-true, eqb-false}
+use Rattle.std.proofs.Common.{◌≡◌, ◌-◌, [], ℕ, ◌++◌, ◌∷◌, length, take, drop, sym, ◌∙◌, ap, subst}
 use Rattle.std.proofs.lemmas.Result.{on_ok_weaker}
 use Rattle.resb_tree.specs.Tree.{table}
 use Rattle.resb_tree.specs.View.{entries_view}
-use Rattle.resb_layout.specs.Laid.{ArePlaced, ClosesTable, keys_in}
+use Rattle.resb_layout.specs.Laid.{ClosesTable, keys_in}
 use Rattle.resb_bodies.specs.Steps.{Step}
 use Rattle.resb_bodies.specs.Room.{given_by, state_of}
 use Rattle.resb_bodies.proofs.Walks.{nil_from_len}

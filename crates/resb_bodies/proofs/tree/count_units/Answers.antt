@@ -1,4 +1,4 @@
-use Rattle.std.proofs.Common.{◌≡◌, ◌∙◌, length, refl, sym, ap}
+use Rattle.std.proofs.Common.{◌∙◌, length, refl, sym, ap}
 use Rattle.resb_tree.specs.View.{tree_of}
 use Rattle.resb_bodies.specs.Room.{based, pool_state, given_by, state_of}
 use Rattle.resb_bodies.proofs.OneBlock.{one_block}

@@ -1,4 +1,4 @@
-use Rattle.std.proofs.Common.{rules, ◌≡◌, ◌++◌, ◌∷◌, ◌+◌, [], List, ℕ, length, refl, sym, ◌∙◌, ap, subst, append_assoc, arith, Bor}
+use Rattle.std.proofs.Common.{rules, ◌≡◌, ◌++◌, ◌∷◌, ◌+◌, [], length, refl, sym, ◌∙◌, ap, subst, append_assoc, arith}
 use Rattle.std.specs.List.{sum_by}
 use Rattle.std.proofs.lemmas.List.Sums.{sum_by-cons}
 use Rattle.std.specs.Vec.Iter.{into_iter_items, into_iter_len}
@@ -29,14 +29,15 @@ loop-resource-preserved c =
     let before = state_of c.loop-resource.bodies in
     let after = state_of c.step.new.bodies in
     let t = tree_of resource.now in
-    let can = subst (λ rs. CanLay c.args.places.now c.loop-resource.bodies (length old) (trees_in rs)) next c.loop-resource.invariant.3 in
-    (append_assoc done (resource ∷ []) rest ∙ ap (λ l. done ++ l) (sym next) ∙ c.loop-resource.invariant.0,
-     omega (arith, c.loop-resource.invariant.1, many, ap length next),
-     subst (λ ts. Steps g (state_of c.args.bodies.now) c.args.words.now.items ts after new) (sym (trees-push done (done ++ resource ∷ []) resource refl))
-       (steps_push g (state_of c.args.bodies.now) before after c.args.words.now.items old new (trees_in done) t c.loop-resource.invariant.2 c.in_ok-step.ensures.step),
-     can_go_on c.args.places.now c.loop-resource.bodies (length old) t (trees_in rest) can c.step.new.bodies (length new) c.in_ok-step.ensures.takes
-       (step_long g before after old new t c.in_ok-step.ensures.step),
-     omega (arith, c.loop-resource.invariant.4, c.in_ok-step.ensures.takes.units, sum_by-cons most_units t (trees_in rest), ap (λ rs. sum_by most_units (trees_in rs)) next))
+    let can = subst (λ rs. CanLay c.args.places.now c.loop-resource.bodies (length old) (trees_in rs)) next c.loop-resource.invariant.3 in (
+      append_assoc done (resource ∷ []) rest ∙ ap (λ l. done ++ l) (sym next) ∙ c.loop-resource.invariant.0,
+      omega (arith, c.loop-resource.invariant.1, many, ap length next),
+      subst (λ ts. Steps g (state_of c.args.bodies.now) c.args.words.now.items ts after new) (sym (trees-push done (done ++ resource ∷ []) resource refl))
+          (steps_push g (state_of c.args.bodies.now) before after c.args.words.now.items old new (trees_in done) t c.loop-resource.invariant.2 c.in_ok-step.ensures.step),
+      can_go_on c.args.places.now c.loop-resource.bodies (length old) t (trees_in rest) can c.step.new.bodies (length new) c.in_ok-step.ensures.takes
+          (step_long g before after old new t c.in_ok-step.ensures.step),
+      omega (arith, c.loop-resource.invariant.4, c.in_ok-step.ensures.takes.units, sum_by-cons most_units t (trees_in rest), ap (λ rs. sum_by most_units (trees_in rs)) next),
+    )
 
 pub returns-clause-takes : goal.returns-clause-takes
 returns-clause-takes c =

@@ -34,7 +34,7 @@ pub struct Bodies {
 
 impl Bodies {
     /// The pool of the strings, and nothing else.
-    pub fn new(alloc: Global, pool: &[u16]) -> Result<Bodies, AllocError>
+    pub(crate) fn new(alloc: Global, pool: &[u16]) -> Result<Bodies, AllocError>
         ensures units { IfOk result (λ b. b.units.items ≡ pool.now) }
         ensures tail { IfOk result (λ b. b.tail.items ≡ []) }
     {

@@ -11,5 +11,5 @@ mod tree;
 mod walk_order;
 
 pub use given::{Bodies, Places};
-pub use tree::{count_units, lay_bodies, lay_tree};
+pub use tree::lay_bodies;
 pub use walk_order::in_walk_order;

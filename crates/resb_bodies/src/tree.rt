@@ -66,7 +66,7 @@ fn steps(
 /// Lays a tree behind what stands, and gives its word. All of its keys and texts are known, and
 /// there is room for the bodies of its resources. `Err` is for want of memory alone; what stands
 /// then is of no use.
-pub fn lay_tree(
+pub(crate) fn lay_tree(
     alloc: Global,
     places: &Places<'_>,
     bodies: &mut Bodies,
@@ -91,7 +91,7 @@ pub fn lay_tree(
 
 /// The number of units of the 16-bit block: the pool of the strings, and what a tree adds. It is the
 /// same wherever the tail begins, so the places may say anything there that leaves room.
-pub fn count_units(
+pub(crate) fn count_units(
     alloc: Global,
     places: &Places<'_>,
     root: &Resource<'_>,

@@ -7,6 +7,16 @@ mod format_rows;
 #[cfg(test)]
 mod head_rows;
 #[cfg(test)]
+mod parts_rows;
+#[cfg(test)]
+mod pool_rows;
+#[cfg(test)]
+mod read_rows;
+#[cfg(test)]
+mod read_type_rows;
+#[cfg(test)]
+mod text_rows;
+#[cfg(test)]
 mod tree_rows;
 #[cfg(test)]
 mod way_rows;

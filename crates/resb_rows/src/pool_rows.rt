@@ -140,34 +140,6 @@ fn decimal_texts(rt: HostRuntime) -> Result<(), Fail> {
 }
 
 #[test]
-fn nested_suffixes(rt: HostRuntime) -> Result<(), Fail> {
-    let alloc = rt.alloc();
-    let marked = letters(alloc, 41)?;
-    let mut texts = Vec::new(alloc);
-    for count in 1..41 {
-        texts.push(letters(alloc, count)?)?;
-    }
-    let mut strings = Vec::new(alloc);
-    for text in &texts {
-        strings.push(text.as_str())?;
-    }
-    let plan = pool::plan(alloc, &strings)?;
-    assert_eq!(rt; plan.units().len(), 42);
-    for (place, text) in strings.iter().enumerate() {
-        assert_eq!(rt; plan.offset(text), Some(40 - place as u32));
-    }
-    strings.push(marked.as_str())?;
-    let plan = pool::plan(alloc, &strings)?;
-    assert_eq!(rt; plan.units().len(), 44);
-    assert_eq!(rt; plan.units().get(1).copied(), Some(0xdc29));
-    assert_eq!(rt; plan.offset(marked.as_str()), Some(1));
-    for (place, text) in strings.iter().enumerate().take(40) {
-        assert_eq!(rt; plan.offset(text), Some(42 - place as u32));
-    }
-    Ok(())
-}
-
-#[test]
 fn characters_not_units_order_suffixes(rt: HostRuntime) -> Result<(), Fail> {
     let alloc = rt.alloc();
     // U+E000 comes before U+10000 by characters, and after it by units.

@@ -1,7 +1,7 @@
 -- Steps in walk order lay a tree.
 use Rattle.std.proofs.Common.{◌≡◌, ℕ, zero, suc, ◌+◌, ◌-◌, ◌<◌, ◌≤◌, take, drop, length-drop, List, [], ◌∷◌, ◌++◌, length, refl, sym, ◌∙◌, ap, subst, append_assoc, append-nil, length-append, arith}
 use Rattle.resb_tree.specs.Tree.{Tree, string, array, table, binary, integer, int_vector, Trees, no_trees, more_trees, Entries, no_entries, entry, trees_of}
-use Rattle.resb_layout.specs.Laid.{Given, State, Lays, LaysEach, each_none, each_more, lays_items, lays_no_items, ClosesArray}
+use Rattle.resb_layout.specs.Laid.{Given, State, Lays, LaysEach, each_none, each_more, lays_items, lays_no_items, lays_entries, lays_no_entries, ClosesArray, ClosesTable, ArePlaced, keys_in, members_in}
 use Rattle.resb_bodies.specs.WalkOrder.{members, values_of, children, walk, walk_each, walk_values}
 use Rattle.resb_bodies.specs.Steps.{Step, Steps, steps_none, steps_more}
 use Rattle.resb_bodies.proofs.Walks.{nil_from_len}
@@ -146,6 +146,24 @@ empty_array_step g s ws xs w e p =
     none_back : {before : State} → LaysEach g before no_trees s [] → before ≡ s
     none_back each_none = refl
 
+values_back : (es : Entries) → trees_of (values_of es) ≡ members_in es
+values_back no_entries = refl
+values_back (entry k t es) = ap (more_trees t) (values_back es)
+
+pub table_step : (g : Given) (s e : State) (ws xs vs ps : List ℕ) (es : Entries) (w n : ℕ) → n ≡ length (values_of es) → n ≤ length ws → vs ≡ drop (length ws - n) ws → 0 < n
+    → ArePlaced g (keys_in es) ps → ClosesTable g s ps vs e w → xs ≡ take (length ws - n) ws ++ w ∷ [] → Step g s ws (table es) e xs
+table_step g s e ws xs vs ps es w n c h v some a k p =
+    let q = split_stack ws n h in
+    record {
+      below = take (length ws - n) ws;
+      members = vs;
+      word = w;
+      taken = q.0 ∙ ap (λ l. take (length ws - n) ws ++ l) (sym v);
+      many = ap length v ∙ q.1 ∙ c;
+      put = p;
+      closes = λ before l. lays_entries ps a (subst (λ us. LaysEach g before us s vs) (values_back es) l) (omega (arith, ap length v, q.1)) k;
+    }
+
 -- a resource with nothing inside takes no word, and puts its own
 pub leaf_step : (g : Given) (s e : State) (ws xs : List ℕ) (t : Tree) (w : ℕ) → children t ≡ [] → Lays g s t e w → xs ≡ ws ++ w ∷ [] → Step g s ws t e xs
 leaf_step g s e ws xs t w none l p =
@@ -161,3 +179,9 @@ leaf_step g s e ws xs t w none l p =
   where
     same : {before : State} (ts : Trees) → ts ≡ no_trees → LaysEach g before ts s [] → before ≡ s
     same ts f each_none = refl
+
+pub empty_table_step : (g : Given) (s : State) (ws xs : List ℕ) (w : ℕ) → w ≡ 0x2000_0000 → xs ≡ take (length ws - 0) ws ++ w ∷ [] → Step g s ws (table no_entries) s xs
+empty_table_step g s ws xs w e p =
+    let q = split_stack ws 0 (omega arith) in
+    leaf_step g s s ws xs (table no_entries) w refl (subst (Lays g s (table no_entries) s) (sym e) lays_no_entries)
+    (p ∙ ap (λ l. l ++ w ∷ []) (sym (q.0 ∙ ap (λ l. take (length ws - 0) ws ++ l) (nil_from_len (drop (length ws - 0) ws) q.1) ∙ append-nil (take (length ws - 0) ws))))

@@ -7,7 +7,7 @@ use Rattle.resb_tree.specs.Tree.{Tree, string, array, table, binary, integer, in
 use Rattle.resb_tree.specs.View.{tree_of, items_view, entries_view}
 use Rattle.resb_tree.specs.declared.resource.Resource.{Resource}
 use Rattle.resb_bodies.specs.WalkOrder.{members, values_of, children, walk, walk_each, walk_values}
-use Rattle.resb_bodies.specs.Inner.Seen.{trees_in}
+use Rattle.resb_bodies.specs.Room.{trees_in}
 
 each_is : (ts : Trees) → walk_each ts ≡ flat_map walk (members ts)
 each_is no_trees = refl

@@ -1,5 +1,7 @@
 -- What the laws say.
---     StepsLayTrees           from an empty stack, the steps of a tree's resources in walk order lay the tree
+--     StepsLayTrees           from an empty stack, the steps of a tree's resources in walk order
+--                             lay the tree
+--     OneBlock                the units that a tree takes don't depend on where the tail begins
 use Rattle.std.specs.Prelude.{◌≡◌, ℕ, List, [], ◌∷◌}
 use Rattle.resb_tree.specs.Tree.{Tree}
 use Rattle.resb_layout.specs.Laid.{Given, State, Lays}
@@ -10,3 +12,8 @@ abbrev pub StepsLayTrees : Type 0
 StepsLayTrees =
     (g : Given) (s e : State) (t : Tree) (xs : List ℕ) → Steps g s [] (walk t) e xs
     → (w : ℕ) × (xs ≡ w ∷ []) × Lays g s t e w
+
+abbrev pub OneBlock : Type 0
+OneBlock =
+    (g h : Given) (s u a b : State) (t : Tree) (v w : ℕ) → g.position ≡ h.position
+    → g.offset ≡ h.offset → s.units ≡ u.units → Lays g s t a v → Lays h u t b w → a.units ≡ b.units

@@ -1,6 +1,8 @@
--- The words of the contracts: the order of a tree's resources, what is given, and laying them one by one.
+-- The words of the contracts: the order of a tree's resources, what is given, the room that they
+-- need, and laying them one by one.
 pub use Rattle.resb_layout.specs.Laid
 pub mod WalkOrder
+pub mod Room
 pub mod Steps
 pub mod Laws
 pub mod Inner

@@ -1,7 +1,12 @@
 //! Laws of the definitions, each the contract of a call that does nothing.
-ghost use Rattle.resb_bodies.specs.Laws.{StepsLayTrees};
+ghost use Rattle.resb_bodies.specs.Laws.{StepsLayTrees, OneBlock};
 
 /// What lays a tree's resources one by one, in walk order and over a stack of words, lays the tree.
 pub fn steps_lay_trees()
     ensures { StepsLayTrees }
+{}
+
+/// The units that a tree takes in the 16-bit block don't depend on where the tail begins.
+pub fn one_block()
+    ensures { OneBlock }
 {}

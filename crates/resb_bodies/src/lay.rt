@@ -1,18 +1,20 @@
 //! Lays one resource over a stack of words, which holds those of its members.
 //! What is laid for a body is said in `resource`.
-ghost use Rattle.std.specs.Prelude.{ℕ, Some, ◌≡◌, ◌++◌, ◌∷◌, ◌-◌, ◌^◌, ◌<◌, ◌≤◌, [], length, take, OnOk};
-ghost use Rattle.resb_tree.specs.Tree.{array, binary, int_vector, integer, string};
+ghost use Rattle.std.specs.Prelude.{◌≡◌, ◌++◌, ◌∷◌, ◌+◌, ◌-◌, ◌/◌, ◌^◌, ◌<◌, ◌≤◌};
+ghost use Rattle.std.specs.Prelude.{ℕ, Some, [], length, take, IfOk, OnOk};
+ghost use Rattle.resb_tree.specs.Tree.{array, binary, int_vector, integer, string, table as table_with};
 ghost use Rattle.resb_pool.specs.Plan.{offset_of};
-ghost use Rattle.resb_layout.specs.Laid.{Given, State};
-ghost use Rattle.resb_tree.specs.View.{items_view};
+ghost use Rattle.resb_layout.specs.Laid.{Given, State, ArePlaced, keys_in};
+ghost use Rattle.resb_tree.specs.View.{items_view, entries_view};
 ghost use Rattle.resb_bodies.specs.Steps.{Step};
-ghost use Rattle.resb_bodies.specs.Inner.Seen.{given_by, state_of, HasRoom, Takes};
+ghost use Rattle.resb_bodies.specs.Room.{given_by, state_of, IsKnown};
+ghost use Rattle.resb_bodies.specs.Inner.Seen.{HasRoom, Takes};
 
 use crate::given::{Bodies, Places};
-use crate::resource::{close_array, lay_bytes, lay_numbers, word};
+use crate::resource::{close_array, close_table, lay_bytes, lay_numbers, word};
 use resb_format::ResourceReprType;
-use resb_tree::Resource;
-use std::alloc::AllocError;
+use resb_tree::{Resource, Table};
+use std::alloc::{AllocError, Global};
 
 /// Puts a word in the place of the last words of a stack.
 fn replace(words: &mut Vec<u32>, count: usize, word: u32) -> Result<(), AllocError>
@@ -46,6 +48,51 @@ pub(crate) fn step_array(
     replace(words, items.len(), word)
 }
 
+/// The positions of a table's keys, which are all used.
+fn positions_of(
+    alloc: Global,
+    places: &Places<'_>,
+    table: &Table<'_>,
+) -> Result<Vec<u32>, AllocError>
+    requires { IsKnown (given_by places.now) (table_with (entries_view table.now.entries)) }
+    ensures { IfOk result (λ v. ArePlaced (given_by places.now)
+        (keys_in (entries_view table.now.entries)) v.items) }
+{
+    let mut positions = Vec::new(alloc);
+    for key in table.keys() {
+        let Some(position) = places.position(key.as_str()) else {
+            unreachable!()
+        };
+        positions.push(position)?;
+    }
+    Ok(positions)
+}
+
+/// Lays a table, whose keys are all used, behind its values, whose words it takes off the stack.
+pub(crate) fn step_table(
+    alloc: Global,
+    places: &Places<'_>,
+    bodies: &mut Bodies,
+    words: &mut Vec<u32>,
+    table: &Table<'_>,
+) -> Result<(), AllocError>
+    requires room { HasRoom places.now bodies.old (length table.now.entries) }
+    requires enough { length table.now.entries ≤ length words.old.items }
+    requires known { IsKnown (given_by places.now) (table_with (entries_view table.now.entries)) }
+    ensures step { OnOk result (Step (given_by places.now) (state_of bodies.old) words.old.items
+        (table_with (entries_view table.now.entries)) (state_of bodies.new) words.new.items) }
+    ensures takes { OnOk result (Takes places.now bodies.old bodies.new
+        (length table.now.entries)) }
+{
+    if table.is_empty() {
+        return replace(words, 0, word(ResourceReprType::Table, 0));
+    }
+    let positions = positions_of(alloc, places, table)?;
+    let (_, members) = words.split_at(words.len() - table.len());
+    let word = close_table(places, bodies, &positions, members)?;
+    replace(words, table.len(), word)
+}
+
 /// Puts the word of a number of 28 bits, which has no body.
 pub(crate) fn step_integer(words: &mut Vec<u32>, number: u32) -> Result<(), AllocError>
     requires { number < 2 ^ 28 }
@@ -63,10 +110,11 @@ pub(crate) fn step_bytes(
     words: &mut Vec<u32>,
     bytes: &[u8],
 ) -> Result<(), AllocError>
-    requires { HasRoom places.now bodies.old (length bytes.now) }
+    requires { HasRoom places.now bodies.old ((length bytes.now + 7) / 8) }
     ensures step { OnOk result (Step (given_by places.now) (state_of bodies.old) words.old.items
         (binary bytes.now) (state_of bodies.new) words.new.items) }
-    ensures takes { OnOk result (Takes places.now bodies.old bodies.new (length bytes.now)) }
+    ensures takes { OnOk result (Takes places.now bodies.old bodies.new
+        ((length bytes.now + 7) / 8)) }
 {
     let word = lay_bytes(places, bodies, bytes)?;
     words.push(word)?;
@@ -80,10 +128,11 @@ pub(crate) fn step_numbers(
     words: &mut Vec<u32>,
     numbers: &[u32],
 ) -> Result<(), AllocError>
-    requires { HasRoom places.now bodies.old (length numbers.now) }
+    requires { HasRoom places.now bodies.old ((length numbers.now + 1) / 2) }
     ensures step { OnOk result (Step (given_by places.now) (state_of bodies.old) words.old.items
         (int_vector numbers.now) (state_of bodies.new) words.new.items) }
-    ensures takes { OnOk result (Takes places.now bodies.old bodies.new (length numbers.now)) }
+    ensures takes { OnOk result (Takes places.now bodies.old bodies.new
+        ((length numbers.now + 1) / 2)) }
 {
     let word = lay_numbers(places, bodies, numbers)?;
     words.push(word)?;

@@ -7,7 +7,9 @@ mod given;
 pub mod laws;
 mod lay;
 mod resource;
+mod tree;
 mod walk_order;
 
 pub use given::{Bodies, Places};
+pub use tree::lay_bodies;
 pub use walk_order::in_walk_order;

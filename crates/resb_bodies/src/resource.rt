@@ -1,10 +1,11 @@
 //! The body of one resource, whose members' bodies stand already.
 //! In which order resources come is said in `walk_order`.
-ghost use Rattle.std.specs.Prelude.{◌≡◌, ◌++◌, ◌+◌, ◌*◌, ◌%◌, ◌<◌, ◌^◌, length, IfOk, OnOk, true};
+ghost use Rattle.std.specs.Prelude.{◌≡◌, ◌++◌, ◌+◌, ◌*◌, ◌/◌, ◌%◌, ◌<◌, ◌^◌, length, IfOk, OnOk, true};
 ghost use Rattle.resb_tree.specs.Tree.{binary, int_vector};
 ghost use Rattle.resb_format.specs.Codes.{type_number};
 ghost use Rattle.resb_layout.specs.Laid.{Lays, ClosesArray, ClosesTable, are_short, are_near, offsets_in};
-ghost use Rattle.resb_bodies.specs.Inner.Seen.{given_by, state_of, HasRoom, Takes};
+ghost use Rattle.resb_bodies.specs.Room.{given_by, state_of};
+ghost use Rattle.resb_bodies.specs.Inner.Seen.{HasRoom, Takes};
 
 use crate::bytes::{put_counted, put_fill, put_short_table, put_word, put_words};
 use crate::given::{Bodies, Places};
@@ -146,10 +147,11 @@ pub(crate) fn lay_bytes(
     bodies: &mut Bodies,
     bytes: &[u8],
 ) -> Result<u32, AllocError>
-    requires { HasRoom places.now bodies.old (length bytes.now) }
+    requires { HasRoom places.now bodies.old ((length bytes.now + 7) / 8) }
     ensures lays { IfOk result (λ w. Lays (given_by places.now) (state_of bodies.old)
         (binary bytes.now) (state_of bodies.new) w) }
-    ensures takes { OnOk result (Takes places.now bodies.old bodies.new (length bytes.now)) }
+    ensures takes { OnOk result (Takes places.now bodies.old bodies.new
+        ((length bytes.now + 7) / 8)) }
 {
     if bytes.is_empty() {
         return Ok(word(ResourceReprType::Binary, 0));
@@ -169,10 +171,11 @@ pub(crate) fn lay_numbers(
     bodies: &mut Bodies,
     numbers: &[u32],
 ) -> Result<u32, AllocError>
-    requires { HasRoom places.now bodies.old (length numbers.now) }
+    requires { HasRoom places.now bodies.old ((length numbers.now + 1) / 2) }
     ensures lays { IfOk result (λ w. Lays (given_by places.now) (state_of bodies.old)
         (int_vector numbers.now) (state_of bodies.new) w) }
-    ensures takes { OnOk result (Takes places.now bodies.old bodies.new (length numbers.now)) }
+    ensures takes { OnOk result (Takes places.now bodies.old bodies.new
+        ((length numbers.now + 1) / 2)) }
 {
     if numbers.is_empty() {
         return Ok(word(ResourceReprType::IntVector, 0));

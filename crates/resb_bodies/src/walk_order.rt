@@ -3,7 +3,7 @@
 ghost use Rattle.std.specs.Prelude.{◌≡◌, ◌++◌, map, IfOk, OnOk};
 ghost use Rattle.resb_tree.specs.View.{tree_of};
 ghost use Rattle.resb_bodies.specs.WalkOrder.{walk, children};
-ghost use Rattle.resb_bodies.specs.Inner.Seen.{trees_in};
+ghost use Rattle.resb_bodies.specs.Room.{trees_in};
 
 use resb_tree::{Resource, Table};
 use std::alloc::{AllocError, Global};

@@ -1,25 +1,18 @@
--- The words of the contracts: why a file isn't written, which trees are laid out so far, and what a written file is.
-pub use Rattle.resb_format.specs.Tree
-pub use Rattle.resb_format.specs.View
-pub use Rattle.resb_format.specs.Bundle
-pub use Rattle.resb_format.specs.Maps
-pub use Rattle.resb_format.specs.Int28
-pub use Rattle.resb_format.specs.Bytes
-pub use Rattle.resb_format.specs.Units
-pub use Rattle.resb_format.specs.Strings
+-- The words of the contracts: why a file isn't written, and what a written file is.
+pub use Rattle.resb_tree.specs.Tree
+pub use Rattle.resb_tree.specs.View
+pub use Rattle.resb_tree.specs.Bundle
 pub use Rattle.resb_format.specs.Parts
-pub use Rattle.resb_format.specs.Content
 pub use Rattle.resb_format.specs.Denotes
 pub use Rattle.resb_format.specs.File
-pub use Rattle.resb_format.specs.KeyBlock
-pub use Rattle.resb_format.specs.PlainSize
 pub use Rattle.resb_pool.specs.Fault
 pub use Rattle.resb_pool.specs.FaultOf
-pub mod Flat
-pub mod Refused
+pub use Rattle.resb_pool.specs.Plan
+pub use Rattle.resb_layout.specs.Laid
+pub use Rattle.resb_bodies.specs.WalkOrder
+pub mod Keys
+pub mod PlainSize
+pub mod Faults
+pub mod WrittenHead
 pub mod Written
-pub mod Entries
-pub mod Places
-pub mod Block
-pub mod Layout
-pub use Rattle.resb_pool.specs.Records
+pub mod Inner

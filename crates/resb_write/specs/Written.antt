@@ -1,39 +1,50 @@
 -- What a written file is.
---     Leads p w v             the word w leads to the word v, through members and entries
---     AreLastPlaces p w t ks  each table that w leads to gives its keys the places of their last occurrences
---     Written bytes t f ks    the file of a bundle of the tree t, with locale fallback or not, with the keys of a list
-use Rattle.std.specs.Prelude.{◌≡◌, ℕ, ◌+◌, ◌*◌, ◌≤◌, List, take, drop, Bool, Some, Contains}
+--     Blocks t ks             what a file of the tree t and the keys ks is made of
+--     Written bytes t f ks    the file of a bundle of t, with locale fallback or not
+use Rattle.std.specs.Prelude.{◌≡◌, ℕ, ◌+◌, ◌*◌, ◌%◌, ◌≤◌, ◌==◌, List, [], ◌∷◌, ◌++◌, length, drop}
+use Rattle.std.specs.Prelude.{Bool, Option, None, if◌then◌else◌}
 use Rattle.resb_tree.specs.Tree.{Tree, tree_count}
-use Rattle.resb_format.specs.Parts.{Parts, parts_of, root_word, body_of, keys_end}
-use Rattle.resb_format.specs.Content.{Member, word, list, pairs, content}
-use Rattle.resb_format.specs.File.{Denotes, IndexOf, budget}
-use Rattle.resb_format.specs.KeyBlock.{key_block, last_place}
-use Rattle.resb_format.specs.Strings.{key_at}
+use Rattle.resb_format.specs.Parts.{body_of, root_word, keys_end, block_end}
+use Rattle.resb_format.specs.File.{Denotes, budget}
+use Rattle.resb_pool.specs.Plan.{IsPlan}
+use Rattle.resb_layout.specs.Laid.{Given, State, Lays, halves}
+use Rattle.resb_bodies.specs.WalkOrder.{texts_of}
+use Rattle.resb_write.specs.Keys.{key_block, key_position, keys_start}
+use Rattle.resb_write.specs.Faults.{fault}
+use Rattle.resb_write.specs.WrittenHead.{IndexOf}
 
-pub data Leads (p : Parts) (w : ℕ) : ℕ → Type 0 where
-  leads_here : Leads p w w
-  leads_to_member : {v u : ℕ} {ms : List Member} → Leads p w v → content p v ≡ Some (list ms) → Contains ms (word u) → Leads p w u
-  leads_to_child : {v u at : ℕ} {es : List (ℕ × Member)} → Leads p w v → content p v ≡ Some (pairs es) → Contains es (at, word u) → Leads p w u
+-- a unit that fills the last word of the 16-bit block
+abbrev pub even : List ℕ → List ℕ
+even us = if length us % 2 == 1 then us ++ 0xaaaa ∷ [] else us
 
--- at is a key position of a table that w leads to, and k is the key there
-pub record IsKeyPosition (p : Parts) (w at : ℕ) (k : List ℕ) : Type 0 where
-  pub table : ℕ
-  pub entries : List (ℕ × Member)
-  pub member : Member
-  pub leads : Leads p w table
-  pub stands : content p table ≡ Some (pairs entries)
-  pub among : Contains entries (at, member)
-  pub key : key_at p.keys at ≡ Some k
+-- where the tail begins, behind the key block and the 16-bit block
+abbrev pub tail_start : List ℕ → State → ℕ
+tail_start keys laid = keys_start + length keys + 2 * length (even laid.units)
 
--- positions count from the body's start, and the first key stands at 32
-abbrev pub AreLastPlaces : Parts → ℕ → Tree → List (List ℕ) → Type 0
-AreLastPlaces p w t ks = (at n : ℕ) (k : List ℕ) → IsKeyPosition p w at k → last_place t k ks ≡ Some n → at ≡ 32 + n
+pub record Blocks (t : Tree) (ks : List (List ℕ)) : Type 0 where
+  -- the pool of the tree's strings, and where each string stands in it
+  pub pool : List ℕ
+  pub offset : List ℕ → Option ℕ
+  -- the units of the 16-bit block and the bytes of the tail, with the bodies of all resources
+  pub laid : State
+  pub root : ℕ
+  pub is_pool : IsPlan (texts_of t) pool offset
+  pub lays : Lays
+      (record { position = key_position t ks; offset = offset; base = tail_start (key_block t ks) laid })
+      (record { units = pool; tail = [] }) t laid root
+
+-- the bytes behind the index
+abbrev pub bytes_of : {t : Tree} {ks : List (List ℕ)} → Blocks t ks → List ℕ
+bytes_of {t} {ks} b = key_block t ks ++ (halves (even b.laid.units) ++ b.laid.tail)
 
 pub record Written (bytes : List ℕ) (t : Tree) (fallback : Bool) (ks : List (List ℕ)) : Type 0 where
+  pub faultless : fault t ks ≡ None
   -- it denotes the tree, and holds each of its resources once
   pub tree : Denotes bytes t (tree_count t)
   pub within_budget : tree_count t ≤ budget bytes
   pub index : IndexOf bytes t fallback
-  -- the key block stands behind the root's word and the index
-  pub keys : drop 32 (take (4 * keys_end bytes) (body_of bytes)) ≡ key_block t ks
-  pub positions : AreLastPlaces (parts_of bytes) (root_word bytes) t ks
+  pub blocks : Blocks t ks
+  pub root : root_word bytes ≡ blocks.root
+  pub keys_end : 4 * keys_end bytes ≡ keys_start + length (key_block t ks)
+  pub block_end : 4 * block_end bytes ≡ tail_start (key_block t ks) blocks.laid
+  pub body : drop keys_start (body_of bytes) ≡ bytes_of blocks

@@ -4,7 +4,8 @@ use Rattle.std.proofs.lemmas.Result.{on_ok_weaker}
 use Rattle.resb_tree.specs.Tree.{array}
 use Rattle.resb_tree.specs.View.{items_view}
 use Rattle.resb_bodies.specs.Steps.{Step}
-use Rattle.resb_bodies.specs.Inner.Seen.{given_by, state_of, Takes}
+use Rattle.resb_bodies.specs.Room.{given_by, state_of}
+use Rattle.resb_bodies.specs.Inner.Seen.{Takes}
 use Rattle.resb_bodies.proofs.Walks.{nil_from_len, items_long}
 use Rattle.resb_bodies.proofs.Stacks.{split_stack, array_step, empty_array_step}
 use Rattle.resb_bodies.proofs.lay.step_array.Goals as goal

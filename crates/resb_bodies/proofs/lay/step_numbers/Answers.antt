@@ -1,6 +1,6 @@
 use Rattle.std.proofs.Common.{refl}
 use Rattle.resb_tree.specs.Tree.{int_vector}
-use Rattle.resb_bodies.specs.Inner.Seen.{given_by, state_of}
+use Rattle.resb_bodies.specs.Room.{given_by, state_of}
 use Rattle.resb_bodies.proofs.Stacks.{leaf_step}
 use Rattle.resb_bodies.proofs.lay.step_numbers.Goals as goal
 

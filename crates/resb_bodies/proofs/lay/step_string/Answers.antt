@@ -1,7 +1,7 @@
 use Rattle.std.proofs.Common.{◌≡◌, ◌+◌, Some, refl, sym, ◌∙◌, ap, subst, arith}
 use Rattle.resb_tree.specs.Tree.{string}
 use Rattle.resb_layout.specs.Laid.{Lays, lays_string}
-use Rattle.resb_bodies.specs.Inner.Seen.{given_by}
+use Rattle.resb_bodies.specs.Room.{given_by}
 use Rattle.resb_bodies.proofs.Stacks.{leaf_step}
 use Rattle.resb_bodies.proofs.lay.step_string.Goals as goal
 

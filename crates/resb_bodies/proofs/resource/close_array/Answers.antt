@@ -1,6 +1,6 @@
 use Rattle.std.proofs.Common.{◌++◌, length, sym, ◌∙◌, ap, arith}
 use Rattle.resb_layout.specs.Laid.{offsets_in}
-use Rattle.resb_bodies.specs.Inner.Seen.{given_by, state_of}
+use Rattle.resb_bodies.specs.Room.{given_by, state_of}
 use Rattle.resb_bodies.proofs.Closings.{array_in_units, array_in_tail, units_taken, tail_taken}
 use Rattle.resb_bodies.proofs.resource.close_array.Goals as goal
 

@@ -1,7 +1,7 @@
 use Rattle.std.proofs.Common.{◌++◌, ◌<◌, ◌^◌, length, sym, ◌∙◌, ap, arith}
 use Rattle.std.proofs.lemmas.List.Elements.{All-from_get_or}
 use Rattle.resb_layout.specs.Laid.{offsets_in, words}
-use Rattle.resb_bodies.specs.Inner.Seen.{given_by, state_of}
+use Rattle.resb_bodies.specs.Room.{given_by, state_of}
 use Rattle.resb_bodies.proofs.Closings.{table_in_units, table_in_tail, table_is_wide, wide_taken, table_taken}
 use Rattle.resb_bodies.proofs.resource.close_table.Goals as goal
 

@@ -3,7 +3,7 @@ use Rattle.std.specs.Int.{to_le_bytes, w32}
 use Rattle.std.proofs.lemmas.Bool.{eqb-true, eqb-false}
 use Rattle.resb_tree.specs.Tree.{binary}
 use Rattle.resb_layout.specs.Laid.{Lays, lays_no_bytes, fill, to_data, to_word}
-use Rattle.resb_bodies.specs.Inner.Seen.{given_by, state_of}
+use Rattle.resb_bodies.specs.Room.{given_by, state_of}
 use Rattle.resb_bodies.proofs.Walks.{nil_from_len}
 use Rattle.resb_bodies.proofs.Closings.{bytes_laid}
 use Rattle.resb_bodies.proofs.resource.lay_bytes.Goals as goal

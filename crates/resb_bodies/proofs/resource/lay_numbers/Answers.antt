@@ -3,7 +3,7 @@ use Rattle.std.proofs.lemmas.Bool.{eqb-true, eqb-false}
 use Rattle.std.proofs.lemmas.List.Elements.{All-from_get_or}
 use Rattle.resb_tree.specs.Tree.{int_vector}
 use Rattle.resb_layout.specs.Laid.{Lays, lays_no_numbers}
-use Rattle.resb_bodies.specs.Inner.Seen.{given_by, state_of}
+use Rattle.resb_bodies.specs.Room.{given_by, state_of}
 use Rattle.resb_bodies.proofs.Walks.{nil_from_len}
 use Rattle.resb_bodies.proofs.Closings.{numbers_laid, tail_taken}
 use Rattle.resb_bodies.proofs.resource.lay_numbers.Goals as goal

@@ -2,7 +2,7 @@ use Rattle.std.proofs.Common.{◌≡◌, ◌∙◌, ◌++◌, [], ◌∷◌, rev
 use Rattle.std.specs.List.{flat_map}
 use Rattle.resb_tree.specs.View.{tree_of}
 use Rattle.resb_bodies.specs.WalkOrder.{walk}
-use Rattle.resb_bodies.specs.Inner.Seen.{trees_in}
+use Rattle.resb_bodies.specs.Room.{trees_in}
 use Rattle.resb_bodies.proofs.Walks.{nil_from_len, trees-push, trees-reverse, turn, turn_counts}
 use Rattle.resb_bodies.proofs.walk_order.in_walk_order.Goals as goal
 

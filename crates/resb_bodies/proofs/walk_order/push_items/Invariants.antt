@@ -1,6 +1,6 @@
 use Rattle.std.proofs.Common.{◌≡◌, ◌++◌, map, take}
 use Rattle.resb_tree.specs.View.{tree_of}
-use Rattle.resb_bodies.specs.Inner.Seen.{trees_in}
+use Rattle.resb_bodies.specs.Room.{trees_in}
 use Rattle.resb_bodies.proofs.walk_order.push_items.Given as goal
 
 abbrev pub invariant-loop-item : goal.invariant-loop-item

@@ -1,6 +1,6 @@
 use Rattle.std.proofs.Common.{◌≡◌, ◌++◌, map}
 use Rattle.resb_tree.specs.View.{tree_of}
-use Rattle.resb_bodies.specs.Inner.Seen.{trees_in}
+use Rattle.resb_bodies.specs.Room.{trees_in}
 use Rattle.resb_bodies.proofs.walk_order.push_values.Given as goal
 
 abbrev pub invariant-loop-key : goal.invariant-loop-key

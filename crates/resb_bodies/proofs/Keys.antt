@@ -1,0 +1,45 @@
+-- The keys of a table, and what a map has at each.
+use Rattle.std.proofs.Common.{◌≡◌, ℕ, List, [], ◌∷◌, ◌++◌, map, length, Option, Some, Bool, true, false, IsTrue, ◌<◌, zero, suc, refl, sym, ◌∙◌, ap, arith}
+use Rattle.std.specs.Map.{keys_of}
+use Rattle.resb_tree.specs.View.{entries_view}
+use Rattle.resb_tree.specs.declared.resource.Resource.{Resource}
+use Rattle.resb_layout.specs.Laid.{Given, ArePlaced, keys_in}
+use Rattle.resb_bodies.specs.WalkOrder.{values_of}
+
+pub keys_view : (es : List (List ℕ × Resource)) → keys_in (entries_view es) ≡ keys_of es
+keys_view [] = refl
+keys_view (e ∷ es) = ap (λ l. e.0 ∷ l) (keys_view es)
+
+pub keys_long : (es : List (List ℕ × Resource)) → length (keys_in (entries_view es)) ≡ length es
+keys_long [] = refl
+keys_long (e ∷ es) = omega (arith, keys_long es)
+
+pub values_long : (es : List (List ℕ × Resource)) → length es ≡ length (values_of (entries_view es))
+values_long [] = refl
+values_long (e ∷ es) = omega (arith, values_long es)
+
+map_long : {A B : Type 0} (f : A → B) (xs : List A) → length (map f xs) ≡ length xs
+map_long f [] = refl
+map_long f (x ∷ xs) = omega (arith, map_long f xs)
+
+pub placed_long : (g : Given) (ks : List (List ℕ)) (ps : List ℕ) → ArePlaced g ks ps → length ps ≡ length ks
+placed_long g ks ps a = sym (map_long Some ps) ∙ ap length (sym a.positions) ∙ map_long g.position ks
+
+-- behind known ones, the next one is known
+pub next_known : (known : List ℕ) (o : Option ℕ) (rest : List (Option ℕ)) (ps : List ℕ) → map Some known ++ o ∷ rest ≡ map Some ps → (p : ℕ) × (o ≡ Some p)
+next_known [] o rest [] e = absurd (omega (arith, ap length e))
+next_known [] o rest (p ∷ ps) e =
+    let f : o ≡ Some p = cc in
+    (p, f)
+next_known (a ∷ known) o rest [] e = absurd (omega (arith, ap length e))
+next_known (a ∷ known) o rest (p ∷ ps) e =
+    let f : map Some known ++ o ∷ rest ≡ map Some ps = cc in
+    next_known known o rest ps f
+
+pub not_none : (n : ℕ) (b : Bool) → (n ≡ 0 → IsTrue b) → b ≡ false → 0 < n
+not_none zero b h e =
+    let t : b ≡ true = h refl in
+    let r : true ≡ false = sym t ∙ e in
+    let bad : 0 < 0 = cc in
+    bad
+not_none (suc n) b h e = omega arith

@@ -1,0 +1,137 @@
+//! Lays a whole tree, its resources in walk order over a stack of words.
+//! What is laid for one resource is said in `lay`. No function calls itself.
+ghost use Rattle.std.specs.Prelude.{ℕ, ◌≡◌, ◌+◌, ◌%◌, ◌≤◌, [], All, length, IfOk, OnOk};
+ghost use Rattle.std.specs.List.{sum_by};
+ghost use Rattle.resb_tree.specs.View.{tree_of};
+ghost use Rattle.resb_pool.specs.Plan.{plan_units};
+ghost use Rattle.resb_layout.specs.Laid.{State, Lays};
+ghost use Rattle.resb_bodies.specs.WalkOrder.{walk, children};
+ghost use Rattle.resb_bodies.specs.Steps.{Step, Steps};
+ghost use Rattle.resb_bodies.specs.Room.{based, pool_state, given_by, state_of, trees_in, own_size};
+ghost use Rattle.resb_bodies.specs.Room.{HasRoomFor, HasRoomBehind, IsKnown, block_end, most_units};
+ghost use Rattle.resb_bodies.specs.Inner.Seen.{HasRoom, Takes, CanLay};
+
+use crate::given::{Bodies, Places};
+use crate::lay::{step_array, step_bytes, step_integer, step_numbers, step_string, step_table};
+use crate::walk_order::in_walk_order;
+use resb_tree::Resource;
+use std::alloc::{AllocError, Global};
+
+/// Lays a resource behind its members, whose words it takes off the stack, and puts its own.
+fn step(
+    alloc: Global,
+    places: &Places<'_>,
+    bodies: &mut Bodies,
+    words: &mut Vec<u32>,
+    resource: &Resource<'_>,
+) -> Result<(), AllocError>
+    requires room { HasRoom places.now bodies.old (own_size (tree_of resource.now)) }
+    requires enough { length (children (tree_of resource.now)) ≤ length words.old.items }
+    requires known { IsKnown (given_by places.now) (tree_of resource.now) }
+    ensures step { OnOk result (Step (given_by places.now) (state_of bodies.old) words.old.items
+        (tree_of resource.now) (state_of bodies.new) words.new.items) }
+    ensures takes { OnOk result (Takes places.now bodies.old bodies.new
+        (own_size (tree_of resource.now))) }
+{
+    match resource {
+        Resource::String(text) => step_string(places, words, text.as_str()),
+        Resource::Array(items) => step_array(places, bodies, words, items),
+        Resource::Table(table) => step_table(alloc, places, bodies, words, table),
+        Resource::Binary(bytes) => step_bytes(places, bodies, words, bytes.as_slice()),
+        Resource::Integer(number) => step_integer(words, u32::from(*number)),
+        Resource::IntVector(numbers) => step_numbers(places, bodies, words, numbers),
+    }
+}
+
+/// Lays resources in a row.
+fn steps(
+    alloc: Global,
+    places: &Places<'_>,
+    bodies: &mut Bodies,
+    words: &mut Vec<u32>,
+    order: Vec<&Resource<'_>>,
+) -> Result<(), AllocError>
+    requires { CanLay places.now bodies.old (length words.old.items) (trees_in order.items) }
+    ensures lays { OnOk result (Steps (given_by places.now) (state_of bodies.old) words.old.items
+        (trees_in order.entry.items) (state_of bodies.new) words.new.items) }
+    ensures takes { OnOk result (length bodies.new.units.items
+        ≤ length bodies.old.units.items + sum_by most_units (trees_in order.entry.items)) }
+{
+    for resource in order {
+        step(alloc, places, bodies, words, resource)?;
+    }
+    Ok(())
+}
+
+/// Lays a tree behind what stands, and gives its word. All of its keys and texts are known, and
+/// there is room for the bodies of its resources. `Err` is for want of memory alone; what stands
+/// then is of no use.
+pub(crate) fn lay_tree(
+    alloc: Global,
+    places: &Places<'_>,
+    bodies: &mut Bodies,
+    root: &Resource<'_>,
+) -> Result<u32, AllocError>
+    requires room { HasRoomFor (given_by places.now) (state_of bodies.old)
+        (walk (tree_of root.now)) }
+    requires known { All (IsKnown (given_by places.now)) (walk (tree_of root.now)) }
+    ensures lays { IfOk result (λ word. Lays (given_by places.now) (state_of bodies.old)
+        (tree_of root.now) (state_of bodies.new) word) }
+    ensures takes { OnOk result (length bodies.new.units.items
+        ≤ length bodies.old.units.items + sum_by most_units (walk (tree_of root.now))) }
+{
+    let order = in_walk_order(alloc, root)?;
+    let mut words = Vec::new(alloc);
+    steps(alloc, places, bodies, &mut words, order)?;
+    let Some(word) = words.pop() else {
+        unreachable!()
+    };
+    Ok(word)
+}
+
+/// The number of units of the 16-bit block: the pool of the strings, and what a tree adds. It is the
+/// same wherever the tail begins, so the places may say anything there that leaves room.
+pub(crate) fn count_units(
+    alloc: Global,
+    places: &Places<'_>,
+    root: &Resource<'_>,
+) -> Result<usize, AllocError>
+    requires room { HasRoomFor (given_by places.now) (pool_state places.now)
+        (walk (tree_of root.now)) }
+    requires known { All (IsKnown (given_by places.now)) (walk (tree_of root.now)) }
+    ensures counts { IfOk result (λ count. (base : ℕ) (end : State) (word : ℕ)
+        → Lays (based places.now base) (pool_state places.now) (tree_of root.now) end word
+        → length end.units ≡ count) }
+    ensures few { IfOk result (λ count. count
+        ≤ length (plan_units places.now.plan) + sum_by most_units (walk (tree_of root.now))) }
+{
+    let mut bodies = Bodies::new(alloc, places.plan.units())?;
+    lay_tree(alloc, places, &mut bodies, root)?;
+    Ok(bodies.units.len())
+}
+
+/// Lays a tree behind the pool of its strings, where the key block ends at a byte of the body. Gives
+/// what is laid, and the tree's word. The tail begins behind the 16-bit block, at a multiple of 4,
+/// which the places then say. `Err` is for want of memory alone; the base of the places is then of
+/// no account.
+pub fn lay_bodies(
+    alloc: Global,
+    places: &mut Places<'_>,
+    keys_end: usize,
+    root: &Resource<'_>,
+) -> Result<(Bodies, u32), AllocError>
+    requires aligned { keys_end % 4 ≡ 0 }
+    requires room { HasRoomBehind places.old keys_end (walk (tree_of root.now)) }
+    requires known { (base : ℕ) → All (IsKnown (based places.old base)) (walk (tree_of root.now)) }
+    ensures lays { IfOk result (λ laid. Lays (based places.old (block_end keys_end laid.0))
+        (pool_state places.old) (tree_of root.now) (state_of laid.0) laid.1) }
+    ensures behind { IfOk result (λ laid. places.new.base ≡ block_end keys_end laid.0) }
+    ensures keeps { places.new ≡ record places.old { base = places.new.base } }
+{
+    places.base = 0;
+    let count = count_units(alloc, places, root)?;
+    places.base = keys_end + 2 * (count + count % 2);
+    let mut bodies = Bodies::new(alloc, places.plan.units())?;
+    let word = lay_tree(alloc, places, &mut bodies, root)?;
+    Ok((bodies, word))
+}

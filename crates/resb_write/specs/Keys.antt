@@ -1,0 +1,56 @@
+-- The key block of a written file, and where each key stands in it. (ICU's `uresdata.h`: key block.)
+--     keys_of t               the keys of the tables of t, as often as each stands there
+--     key_block t ks          the block that a file of t has for the keys ks of a list
+--     key_position t ks k     the position of the key k, in bytes of the body
+use Rattle.std.specs.Prelude.{ℕ, ◌+◌, ◌%◌, ◌-◌, List, [], ◌∷◌, ◌++◌, length, replicate, filter}
+use Rattle.std.specs.Prelude.{Option, Some, None, option_map, Bool, if◌then◌else◌}
+use Rattle.std.specs.List.{flat_map, list_any}
+use Rattle.resb_tree.specs.Tree.{Tree, table}
+use Rattle.resb_tree.specs.Keys.{same_text}
+use Rattle.resb_layout.specs.Laid.{keys_in, fill}
+use Rattle.resb_bodies.specs.WalkOrder.{walk}
+
+abbrev pub own_keys : Tree → List (List ℕ)
+own_keys (table es) = keys_in es
+own_keys _ = []
+
+abbrev pub keys_of : Tree → List (List ℕ)
+keys_of t = flat_map own_keys (walk t)
+
+abbrev pub is_among : List (List ℕ) → List ℕ → Bool
+is_among us k = list_any (same_text k) us
+
+-- the keys of a list that are among the used ones, in the list's order
+abbrev pub used : List (List ℕ) → List (List ℕ) → List (List ℕ)
+used us ks = filter (is_among us) ks
+
+-- each key with its zero byte
+abbrev pub key_bytes : List (List ℕ) → List ℕ
+key_bytes ks = flat_map (λ k. k ++ 0 ∷ []) ks
+
+-- bytes 0xaa up to a word's boundary
+abbrev pub padded : List ℕ → List ℕ
+padded bytes = bytes ++ fill ((4 - length bytes % 4) % 4)
+
+abbrev pub key_block : Tree → List (List ℕ) → List ℕ
+key_block t ks = padded (key_bytes (used (keys_of t) ks))
+
+-- the place, in bytes, of the last occurrence of k among keys that stand one behind the other
+abbrev pub last_of : List ℕ → List (List ℕ) → Option ℕ
+last_of k [] = None
+last_of k (j ∷ js) = or_here (last_of k js)
+  where
+    or_here : Option ℕ → Option ℕ
+    or_here (Some n) = Some (length j + 1 + n)
+    or_here None = if same_text k j then Some 0 else None
+
+-- the root's word and 7 words of the index stand before the keys
+abbrev pub keys_start : ℕ
+keys_start = 32
+
+-- the position of the last occurrence of k among keys that begin there
+abbrev pub position_in : List (List ℕ) → List ℕ → Option ℕ
+position_in js k = option_map (λ n. keys_start + n) (last_of k js)
+
+abbrev pub key_position : Tree → List (List ℕ) → List ℕ → Option ℕ
+key_position t ks k = position_in (used (keys_of t) ks) k

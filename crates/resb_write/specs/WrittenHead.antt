@@ -1,0 +1,22 @@
+-- The header and the index of a written file. (ICU's `ucmndata.h`, `udata.h` and `uresdata.h`.)
+--     written_header          the 32 bytes that it begins with
+--     IndexOf bytes t f       the index is that of a bundle of the tree t, with locale fallback or not
+use Rattle.std.specs.Prelude.{◌≡◌, ℕ, ◌*◌, List, [], ◌∷◌, length, take, Bool, if◌then◌else◌}
+use Rattle.resb_tree.specs.Tree.{Tree, largest_table}
+use Rattle.resb_format.specs.Parts.{body_of, field_count, resources_end, bundle_end}
+use Rattle.resb_format.specs.Parts.{largest_table_field, attributes}
+
+-- 32 bytes of header, of which 20 are the info: little-endian, ASCII, two bytes a unit, `ResB`,
+-- format version 2.0, data version 1.4
+abbrev pub written_header : List ℕ
+written_header =
+    32 ∷ 0 ∷ 0xda ∷ 0x27 ∷ 20 ∷ 0 ∷ 0 ∷ 0 ∷ 0 ∷ 0 ∷ 2 ∷ 0 ∷ 0x52 ∷ 0x65 ∷ 0x73 ∷ 0x42
+    ∷ 2 ∷ 0 ∷ 0 ∷ 0 ∷ 1 ∷ 4 ∷ 0 ∷ 0 ∷ 0 ∷ 0 ∷ 0 ∷ 0 ∷ 0 ∷ 0 ∷ 0 ∷ 0 ∷ []
+
+pub record IndexOf (bytes : List ℕ) (t : Tree) (fallback : Bool) : Type 0 where
+  pub header : take 32 bytes ≡ written_header
+  pub fields : field_count bytes ≡ 7
+  pub resources : 4 * resources_end bytes ≡ length (body_of bytes)
+  pub bundle : 4 * bundle_end bytes ≡ length (body_of bytes)
+  pub largest : largest_table_field bytes ≡ largest_table t
+  pub no_fallback : attributes bytes ≡ (if fallback then 0 else 1)

@@ -1,82 +1,80 @@
 //! The key block: which listed keys are used, where each stands, and their bytes.
 //! The faults of keys are found here, in the order in which they are answered.
-ghost use Rattle.std.specs.Prelude.{◌≡◌, ◌++◌, ◌<◌, ◌+◌, ◌%◌, ◌/◌, ◌^◌, ℕ, List, map, filter};
-ghost use Rattle.std.specs.Prelude.{Some, None, false, IfOk, IfErr, OnOk, Any, codes, length, nat_lt};
+ghost use Rattle.std.specs.Prelude.{◌≡◌, ◌++◌, ◌<◌, ◌+◌, ◌%◌, ◌/◌, ◌^◌, ◌⊎◌, ℕ, List, Some, None};
+ghost use Rattle.std.specs.Prelude.{IfOk, IfErr, OnOk, length, filter};
 ghost use Rattle.std.specs.List.{list_any};
-ghost use Rattle.resb_tree.specs.Keys.{is_key};
-ghost use Rattle.resb_format.specs.KeyBlock.{used as used_of, key_bytes, padded};
-ghost use Rattle.resb_write.specs.Entries.{pairs, keys_in, texts_table};
-ghost use Rattle.resb_pool.specs.FaultOf.{fault_of, IsMemoryOr};
-ghost use Rattle.resb_write.specs.Places.{nows, holds, place_in, last_position};
-ghost use Rattle.resb_write.specs.Places.{AreLastPositions, IsKeyPlan};
-ghost use Rattle.resb_write.specs.Refused.{has_nul, Refused};
+ghost use Rattle.std.specs.Option.{is_some};
+ghost use Rattle.resb_pool.specs.Plan.{nows, at_text};
+ghost use Rattle.resb_pool.specs.Fault.{out_of_memory};
+ghost use Rattle.resb_pool.specs.FaultOf.{fault_of};
+ghost use Rattle.resb_write.specs.Keys.{is_among, used as used_of, key_bytes, padded};
+ghost use Rattle.resb_write.specs.Faults.{has_nul, key_fault};
+ghost use Rattle.resb_write.specs.Inner.Places.{near_position, near_position_in, IsKeyBlock};
 
-use crate::entries::Entry;
+use indexmap::IndexMap;
 use resb_pool::BinarySerializerError;
 use resb_tree::Key;
 use std::alloc::{AllocError, Global};
-use std::collections::{BTreeMap, BTreeSet};
 
-/// The used keys of a list in its order, and for each entry of the table the position of the last
-/// one that is its key, in bytes from the body's start.
+/// Where the first key stands, in bytes of the body.
+const KEYS_START: usize = 32;
+
+/// The greatest position that a key may have.
+const GREATEST_POSITION: u32 = 2_147_483_647;
+
+/// The used keys of a list in its order, and the position of the last occurrence of each, in bytes
+/// of the body.
 #[derive(Drop)]
-pub(crate) struct KeyPlan<'a> {
-    pub(crate) used: Vec<&'a str>,
-    pub(crate) positions: Vec<u16>,
+pub(crate) struct KeyBlock<'k> {
+    pub(crate) keys: Vec<&'k str>,
+    pub(crate) positions: IndexMap<&'k str, u32>,
 }
 
-impl<'a> KeyPlan<'a> {
-    /// Plans the key block of a table with these entries for a list of keys.
+impl<'k> KeyBlock<'k> {
+    /// The block of a list of keys for a tree whose tables have these keys. Refuses the first
+    /// fault of a key.
     pub(crate) fn new(
         alloc: Global,
-        entries: &[Entry<'a>],
-        keys: &'a [Key<'_>],
-    ) -> Result<KeyPlan<'a>, BinarySerializerError>
-        ensures ok { IfOk result (λ p. IsKeyPlan (pairs entries.now) keys.now
-            (nows p.used.items) p.positions.items) }
-        ensures err { IfErr result (λ e. Refused (texts_table (pairs entries.now)) keys.now
-            (fault_of e)) }
+        tree_keys: &[&'k str],
+        list: &'k [Key<'_>],
+    ) -> Result<KeyBlock<'k>, BinarySerializerError>
+        ensures ok { IfOk result (λ b. IsKeyBlock (nows tree_keys.now) list.now
+            (nows b.keys.items) (at_text b.positions)) }
+        ensures err { IfErr result (λ e. (fault_of e ≡ out_of_memory)
+            ⊎ (key_fault (nows tree_keys.now) (used_of (nows tree_keys.now) list.now)
+            ≡ Some (fault_of e))) }
     {
-        let set = key_set(alloc, entries)?;
-        let used = used_keys(alloc, &set, keys)?;
-        let positions = checked_positions(alloc, entries, &used)?;
-        Ok(KeyPlan { used, positions })
-    }
-
-    /// How many words the key block takes.
-    pub(crate) fn word_count(&self) -> u32
-        requires { length (key_bytes (nows self.now.used.items)) < 2 ^ 28 }
-        ensures { result ≡ length (padded (key_bytes (nows self.now.used.items))) / 4 }
-    {
-        key_length(&self.used).div_ceil(4)
-    }
-
-    /// Appends the key block to a file whose length is a multiple of 4: the used keys, each with a
-    /// zero byte, padded with 0xaa to a word.
-    pub(crate) fn append_to(&self, file: &mut Vec<u8>) -> Result<(), AllocError>
-        requires { length file.old.items % 4 ≡ 0 }
-        ensures { OnOk result (file.new.items
-            ≡ file.old.items ++ padded (key_bytes (nows self.now.used.items))) }
-    {
-        append_keys(file, &self.used)?;
-        append_padding(file)
+        let wanted = key_set(alloc, tree_keys)?;
+        let keys = used_keys(alloc, &wanted, list)?;
+        let positions = last_positions(alloc, &keys)?;
+        check_keys(tree_keys, &positions)?;
+        Ok(KeyBlock { keys, positions })
     }
 }
 
 /// The length of keys, each with a zero byte.
-fn key_length(keys: &[&str]) -> u32
+fn key_length(keys: &[&str]) -> usize
     requires { length (key_bytes (nows keys.now)) < 2 ^ 28 }
     ensures { result ≡ length (key_bytes (nows keys.now)) }
 {
     let mut length = 0;
     for key in keys {
-        length += key.len() as u32 + 1;
+        length += key.len() + 1;
     }
     length
 }
 
+/// How many bytes the block of these keys takes, a multiple of 4.
+pub(crate) fn block_length(keys: &[&str]) -> usize
+    requires { length (key_bytes (nows keys.now)) < 2 ^ 28 }
+    ensures { result ≡ length (padded (key_bytes (nows keys.now))) }
+{
+    let length = key_length(keys);
+    length + (4 - length % 4) % 4
+}
+
 /// Appends keys, each with a zero byte.
-fn append_keys(file: &mut Vec<u8>, keys: &[&str]) -> Result<(), AllocError>
+pub(crate) fn append_keys(file: &mut Vec<u8>, keys: &[&str]) -> Result<(), AllocError>
     ensures { OnOk result (file.new.items ≡ file.old.items ++ key_bytes (nows keys.now)) }
 {
     for key in keys {
@@ -87,7 +85,7 @@ fn append_keys(file: &mut Vec<u8>, keys: &[&str]) -> Result<(), AllocError>
 }
 
 /// Appends bytes 0xaa up to the next multiple of 4.
-fn append_padding(file: &mut Vec<u8>) -> Result<(), AllocError>
+pub(crate) fn append_padding(file: &mut Vec<u8>) -> Result<(), AllocError>
     ensures { OnOk result (file.new.items ≡ padded file.old.items) }
 {
     match file.len() % 4 {
@@ -98,126 +96,111 @@ fn append_padding(file: &mut Vec<u8>) -> Result<(), AllocError>
     }
 }
 
-/// The keys of the entries.
-fn key_set<'a>(alloc: Global, entries: &[Entry<'a>]) -> Result<BTreeSet<&'a str>, AllocError>
-    ensures { IfOk result (λ s. (q : List ℕ)
-        → holds s q ≡ is_key q (texts_table (pairs entries.now))) }
+/// The keys as a set.
+fn key_set<'k>(alloc: Global, keys: &[&'k str]) -> Result<IndexMap<&'k str, ()>, AllocError>
+    ensures { IfOk result (λ s. (q : List ℕ) → is_some (at_text s q) ≡ is_among (nows keys.now) q) }
 {
-    let mut keys = BTreeSet::new(alloc);
-    for entry in entries {
-        keys.insert(entry.key)?;
+    let mut set = IndexMap::new(alloc);
+    for key in keys {
+        set.insert(*key, ())?;
     }
-    Ok(keys)
+    Ok(set)
 }
 
 /// The keys of a list that are in a set, in the list's order.
-fn used_keys<'a>(
+fn used_keys<'k>(
     alloc: Global,
-    set: &BTreeSet<&'a str>,
-    keys: &'a [Key<'_>],
-) -> Result<Vec<&'a str>, AllocError>
-    ensures { IfOk result (λ v. nows v.items ≡ filter (λ k. holds set.now k) keys.now) }
+    set: &IndexMap<&'k str, ()>,
+    list: &'k [Key<'_>],
+) -> Result<Vec<&'k str>, AllocError>
+    ensures { IfOk result (λ v. nows v.items
+        ≡ filter (λ k. is_some (at_text set.now k)) list.now) }
 {
     let mut used = Vec::new(alloc);
-    for key in keys {
+    for key in list {
         let text = key.as_str();
-        if set.contains(&text) {
+        if set.contains_key(text) {
             used.push(text)?;
         }
     }
     Ok(used)
 }
 
-/// The position of the last occurrence of each key.
-fn last_positions<'a>(
+/// The position of the last occurrence of each key, or the greatest number of 32 bits.
+fn last_positions<'k>(
     alloc: Global,
-    used: &[&'a str],
-) -> Result<BTreeMap<&'a str, usize>, AllocError>
-    ensures { IfOk result (λ m. (q : List ℕ) → place_in m q ≡ last_position q (nows used.now)) }
+    keys: &[&'k str],
+) -> Result<IndexMap<&'k str, u32>, AllocError>
+    ensures { IfOk result (λ m. (q : List ℕ) → at_text m q ≡ near_position_in (nows keys.now) q) }
 {
-    let mut places = BTreeMap::new(alloc);
-    let mut position: usize = 32;
-    for key in used {
-        places.insert(*key, position)?;
+    let mut positions = IndexMap::new(alloc);
+    let mut position: usize = KEYS_START;
+    for key in keys {
+        positions.insert(*key, position.min(0xffff_ffff) as u32)?;
         position = position.saturating_add(key.len() + 1);
-    }
-    Ok(places)
-}
-
-/// What a map has at each entry's key.
-fn positions_of<'a>(
-    alloc: Global,
-    entries: &[Entry<'a>],
-    places: &BTreeMap<&'a str, usize>,
-) -> Result<Vec<usize>, BinarySerializerError>
-    ensures ok { IfOk result (λ v. map Some v.items
-        ≡ map (place_in places.now) (keys_in (pairs entries.now))) }
-    ensures err { IfErr result (λ e. IsMemoryOr e (codes "key not present in position map")
-        (Any (λ k. place_in places.now k ≡ None) (keys_in (pairs entries.now)))) }
-{
-    let mut positions = Vec::with_capacity(alloc, entries.len())?;
-    for entry in entries {
-        let Some(position) = places.get(&entry.key) else {
-            return Err(BinarySerializerError::unexpected("key not present in position map"));
-        };
-        positions.push(*position)?;
     }
     Ok(positions)
 }
 
+/// Whether some key isn't in the map.
+fn has_unlisted_key(keys: &[&str], positions: &IndexMap<&str, u32>) -> bool
+    ensures { result ≡ list_any (λ k. is_none (at_text positions.now k)) (nows keys.now) }
+{
+    for key in keys {
+        if !positions.contains_key(*key) {
+            return true;
+        }
+    }
+    false
+}
+
 /// Whether some key holds U+0000.
-fn has_nul_key(entries: &[Entry<'_>]) -> bool
-    ensures { result ≡ list_any (λ e. has_nul e.key.now) entries.now }
+fn has_nul_key(keys: &[&str]) -> bool
+    ensures { result ≡ list_any has_nul (nows keys.now) }
 {
-    entries
-        .iter()
-        .any(|entry| entry.key.as_bytes().contains(&0))
+    for key in keys {
+        if key.as_bytes().contains(&0) {
+            return true;
+        }
+    }
+    false
 }
 
-/// Whether some position is over the greatest that a file may have.
-fn has_far_position(positions: &[usize]) -> bool
-    ensures { result ≡ list_any (λ p. nat_lt 2147483647 p) positions.now }
+/// Whether the position of some key is over the greatest that it may have.
+fn has_far_key(keys: &[&str], positions: &IndexMap<&str, u32>) -> bool
+    ensures { result
+        ≡ list_any (λ k. option_map_or (λ p. nat_lt 2147483647 p) (at_text positions.now k) false)
+        (nows keys.now) }
 {
-    positions.iter().any(|position| *position > 2_147_483_647)
+    for key in keys {
+        if is_far(positions.get(*key)) {
+            return true;
+        }
+    }
+    false
 }
 
-/// The position of each entry's key, or the first fault of a key in the order: a used key that is
-/// not in the list, one with U+0000, one past the greatest position.
-fn checked_positions<'a>(
-    alloc: Global,
-    entries: &[Entry<'a>],
-    used: &[&'a str],
-) -> Result<Vec<u16>, BinarySerializerError>
-    ensures ok { IfOk result (λ v. AreLastPositions (pairs entries.now) (nows used.now) v.items) }
-    ensures near { IfOk result (λ v. list_any (λ p. nat_lt 2147483647 p) v.items ≡ false) }
-    ensures no_nul { OnOk result (list_any has_nul (keys_in (pairs entries.now)) ≡ false) }
-    ensures err { IfErr result (λ e. (ks : List (List ℕ))
-        → nows used.now ≡ used_of (texts_table (pairs entries.now)) ks
-        → Refused (texts_table (pairs entries.now)) ks (fault_of e)) }
+/// Refuses the first fault of used keys, whose last positions are given: a key that isn't in the
+/// list, one with U+0000, one past the greatest position.
+fn check_keys(
+    keys: &[&str],
+    positions: &IndexMap<&str, u32>,
+) -> Result<(), BinarySerializerError>
+    ensures ok { OnOk result ((js : List (List ℕ))
+        → ((q : List ℕ) → at_text positions.now q ≡ near_position_in js q)
+        → key_fault (nows keys.now) js ≡ None) }
+    ensures err { IfErr result (λ e. (js : List (List ℕ))
+        → ((q : List ℕ) → at_text positions.now q ≡ near_position_in js q)
+        → key_fault (nows keys.now) js ≡ Some (fault_of e)) }
 {
-    let places = last_positions(alloc, used)?;
-    let positions = positions_of(alloc, entries, &places)?;
-    if has_nul_key(entries) {
+    if has_unlisted_key(keys, positions) {
+        return Err(BinarySerializerError::unexpected("key not present in position map"));
+    }
+    if has_nul_key(keys) {
         return Err(BinarySerializerError::unexpected("key contains U+0000"));
     }
-    if has_far_position(&positions) {
+    if has_far_key(keys, positions) {
         return Err(BinarySerializerError::limit("key position over 2147483647"));
     }
-    short_positions(alloc, &positions)
-}
-
-/// The positions as 16-bit units.
-fn short_positions(alloc: Global, positions: &[usize]) -> Result<Vec<u16>, BinarySerializerError>
-    ensures ok { IfOk result (λ v. v.items ≡ positions.now) }
-    ensures err { IfErr result (λ e. IsMemoryOr e (codes "not written yet")
-        (Any (λ p. 65535 < p) positions.now)) }
-{
-    let mut units = Vec::with_capacity(alloc, positions.len())?;
-    for position in positions {
-        let Ok(unit) = u16::try_from(*position) else {
-            return Err(BinarySerializerError::unexpected("not written yet"));
-        };
-        units.push(unit)?;
-    }
-    Ok(units)
+    Ok(())
 }

@@ -3,6 +3,7 @@
 ghost use Rattle.std.specs.Prelude.{◌≡◌, ◌↔◌, IsTrue};
 ghost use Rattle.resb_pool.specs.Fault as fault;
 
+use resb_tree::NoMemory;
 use std::alloc::{AllocError, AllocFailed};
 use std::error::Error;
 use std::fmt;
@@ -98,6 +99,18 @@ impl From<AllocError> for BinarySerializerError {
     ghost from_gives = { λ _ e. fault_of e ≡ out_of_memory };
 
     fn from(_: AllocError) -> BinarySerializerError {
+        BinarySerializerError::out_of_memory()
+    }
+}
+
+impl From<NoMemory> for BinarySerializerError {
+    ghost use Rattle.std.specs.Prelude.{◌≡◌};
+    ghost use Rattle.resb_pool.specs.Fault.{out_of_memory};
+    ghost use Rattle.resb_pool.specs.FaultOf.{fault_of};
+
+    ghost from_gives = { λ _ e. fault_of e ≡ out_of_memory };
+
+    fn from(_: NoMemory) -> BinarySerializerError {
         BinarySerializerError::out_of_memory()
     }
 }

@@ -16,4 +16,5 @@ mod text;
 mod walk;
 
 pub use error::BinarySerializerError;
+pub use measure::utf16_len;
 pub use offsets::Plan;

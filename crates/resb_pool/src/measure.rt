@@ -17,8 +17,8 @@ const MAX_UNMARKED: usize = 40;
 /// From this size of the strings on they are not planned.
 const SIZE_LIMIT: usize = 0x1000_0000;
 
-/// The number of 16-bit units of a text.
-pub(crate) fn utf16_len(text: &str) -> usize
+/// The number of 16-bit units of a text in UTF-16.
+pub fn utf16_len(text: &str) -> usize
     ensures count { result ≡ length (units text.now) }
     ensures small { result ≤ length text.now }
 {

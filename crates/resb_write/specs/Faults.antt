@@ -2,9 +2,9 @@
 --     fault t ks              the first fault, in the order in which they are answered
 --     Refused t ks f          f may be the answer
 use Rattle.std.specs.Prelude.{◌≡◌, ℕ, ◌+◌, ◌^◌, ◌≤◌, List, length, Bool, false, nat_eq, nat_lt, codes}
-use Rattle.std.specs.Prelude.{Option, Some, None, option_map, if◌then◌else◌}
+use Rattle.std.specs.Prelude.{Option, Some, None, option_map, unwrap_or, if◌then◌else◌}
 use Rattle.std.specs.List.{list_any}
-use Rattle.std.specs.Option.{is_none, option_map_or}
+use Rattle.std.specs.Option.{is_none}
 use Rattle.resb_tree.specs.Tree.{Tree, array, binary, int_vector}
 use Rattle.resb_pool.specs.Fault.{Fault, string_too_long, unexpected, limit, out_of_memory}
 use Rattle.resb_pool.specs.Plan.{first_too_long}
@@ -21,7 +21,7 @@ abbrev pub is_unlisted : List (List ℕ) → List ℕ → Bool
 is_unlisted js k = is_none (position_in js k)
 
 abbrev pub is_far : List (List ℕ) → List ℕ → Bool
-is_far js k = option_map_or (λ at. nat_lt 2147483647 at) (position_in js k) false
+is_far js k = nat_lt 2147483647 (unwrap_or (position_in js k) 0)
 
 -- of used keys us, and of those that are listed
 abbrev pub key_fault : List (List ℕ) → List (List ℕ) → Option Fault

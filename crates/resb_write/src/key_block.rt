@@ -1,15 +1,15 @@
 //! The key block: which listed keys are used, where each stands, and their bytes.
 //! The faults of keys are found here, in the order in which they are answered.
 ghost use Rattle.std.specs.Prelude.{◌≡◌, ◌++◌, ◌<◌, ◌+◌, ◌%◌, ◌/◌, ◌^◌, ◌⊎◌, ℕ, List, Some, None};
-ghost use Rattle.std.specs.Prelude.{IfOk, IfErr, OnOk, length, filter};
+ghost use Rattle.std.specs.Prelude.{IfOk, IfErr, OnOk, length, filter, nat_lt, unwrap_or};
 ghost use Rattle.std.specs.List.{list_any};
-ghost use Rattle.std.specs.Option.{is_some};
+ghost use Rattle.std.specs.Option.{is_some, is_none};
 ghost use Rattle.resb_pool.specs.Plan.{nows, at_text};
 ghost use Rattle.resb_pool.specs.Fault.{out_of_memory};
 ghost use Rattle.resb_pool.specs.FaultOf.{fault_of};
 ghost use Rattle.resb_write.specs.Keys.{is_among, used as used_of, key_bytes, padded};
 ghost use Rattle.resb_write.specs.Faults.{has_nul, key_fault};
-ghost use Rattle.resb_write.specs.Inner.Places.{near_position, near_position_in, IsKeyBlock};
+ghost use Rattle.resb_write.specs.Inner.Places.{near_position_in, IsKeyBlock};
 
 use indexmap::IndexMap;
 use resb_pool::BinarySerializerError;
@@ -17,7 +17,7 @@ use resb_tree::Key;
 use std::alloc::{AllocError, Global};
 
 /// Where the first key stands, in bytes of the body.
-const KEYS_START: usize = 32;
+pub(crate) const KEYS_START: usize = 32;
 
 /// The greatest position that a key may have.
 const GREATEST_POSITION: u32 = 2_147_483_647;
@@ -74,7 +74,7 @@ pub(crate) fn block_length(keys: &[&str]) -> usize
 }
 
 /// Appends keys, each with a zero byte.
-pub(crate) fn append_keys(file: &mut Vec<u8>, keys: &[&str]) -> Result<(), AllocError>
+fn append_keys(file: &mut Vec<u8>, keys: &[&str]) -> Result<(), AllocError>
     ensures { OnOk result (file.new.items ≡ file.old.items ++ key_bytes (nows keys.now)) }
 {
     for key in keys {
@@ -85,7 +85,7 @@ pub(crate) fn append_keys(file: &mut Vec<u8>, keys: &[&str]) -> Result<(), Alloc
 }
 
 /// Appends bytes 0xaa up to the next multiple of 4.
-pub(crate) fn append_padding(file: &mut Vec<u8>) -> Result<(), AllocError>
+fn append_padding(file: &mut Vec<u8>) -> Result<(), AllocError>
     ensures { OnOk result (file.new.items ≡ padded file.old.items) }
 {
     match file.len() % 4 {
@@ -94,6 +94,17 @@ pub(crate) fn append_padding(file: &mut Vec<u8>) -> Result<(), AllocError>
         3 => file.extend_from_slice(&[0xaa]),
         _ => Ok(()),
     }
+}
+
+/// Appends the block of these keys to a file whose length is a multiple of 4: each with a zero byte,
+/// padded with 0xaa to a word.
+pub(crate) fn append_block(file: &mut Vec<u8>, keys: &[&str]) -> Result<(), AllocError>
+    requires { length file.old.items % 4 ≡ 0 }
+    ensures { OnOk result (file.new.items
+        ≡ file.old.items ++ padded (key_bytes (nows keys.now))) }
+{
+    append_keys(file, keys)?;
+    append_padding(file)
 }
 
 /// The keys as a set.
@@ -127,10 +138,7 @@ fn used_keys<'k>(
 }
 
 /// The position of the last occurrence of each key, or the greatest number of 32 bits.
-fn last_positions<'k>(
-    alloc: Global,
-    keys: &[&'k str],
-) -> Result<IndexMap<&'k str, u32>, AllocError>
+fn last_positions<'k>(alloc: Global, keys: &[&'k str]) -> Result<IndexMap<&'k str, u32>, AllocError>
     ensures { IfOk result (λ m. (q : List ℕ) → at_text m q ≡ near_position_in (nows keys.now) q) }
 {
     let mut positions = IndexMap::new(alloc);
@@ -144,48 +152,29 @@ fn last_positions<'k>(
 
 /// Whether some key isn't in the map.
 fn has_unlisted_key(keys: &[&str], positions: &IndexMap<&str, u32>) -> bool
-    ensures { result ≡ list_any (λ k. is_none (at_text positions.now k)) (nows keys.now) }
+    ensures { result ≡ list_any (λ k. is_none (at_text positions.now k.now)) keys.now }
 {
-    for key in keys {
-        if !positions.contains_key(*key) {
-            return true;
-        }
-    }
-    false
+    keys.iter().any(|key| !positions.contains_key(*key))
 }
 
 /// Whether some key holds U+0000.
 fn has_nul_key(keys: &[&str]) -> bool
-    ensures { result ≡ list_any has_nul (nows keys.now) }
+    ensures { result ≡ list_any (λ k. has_nul k.now) keys.now }
 {
-    for key in keys {
-        if key.as_bytes().contains(&0) {
-            return true;
-        }
-    }
-    false
+    keys.iter().any(|key| key.as_bytes().contains(&0))
 }
 
 /// Whether the position of some key is over the greatest that it may have.
 fn has_far_key(keys: &[&str], positions: &IndexMap<&str, u32>) -> bool
     ensures { result
-        ≡ list_any (λ k. option_map_or (λ p. nat_lt 2147483647 p) (at_text positions.now k) false)
-        (nows keys.now) }
+        ≡ list_any (λ k. nat_lt 2147483647 (unwrap_or (at_text positions.now k.now) 0)) keys.now }
 {
-    for key in keys {
-        if is_far(positions.get(*key)) {
-            return true;
-        }
-    }
-    false
+    keys.iter().any(|key| positions.get(*key).copied().unwrap_or(0) > GREATEST_POSITION)
 }
 
 /// Refuses the first fault of used keys, whose last positions are given: a key that isn't in the
 /// list, one with U+0000, one past the greatest position.
-fn check_keys(
-    keys: &[&str],
-    positions: &IndexMap<&str, u32>,
-) -> Result<(), BinarySerializerError>
+fn check_keys(keys: &[&str], positions: &IndexMap<&str, u32>) -> Result<(), BinarySerializerError>
     ensures ok { OnOk result ((js : List (List ℕ))
         → ((q : List ℕ) → at_text positions.now q ≡ near_position_in js q)
         → key_fault (nows keys.now) js ≡ None) }

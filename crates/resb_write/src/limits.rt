@@ -1,25 +1,50 @@
-//! The bound on a file's size that is tested before anything is laid out.
-//! The faults of keys are found in `key_block`.
-ghost use Rattle.std.specs.Prelude.{◌≡◌, ◌+◌, ◌*◌, ◌-◌, ◌^◌, ◌≤◌, min, length, nat_le, sum_by};
+//! The bound on a file's size that is tested before anything is laid out, and the counts that a
+//! file can't hold. The faults of keys are found in `key_block`.
+ghost use Rattle.std.specs.Prelude.{◌≡◌, ◌+◌, ◌-◌, ◌^◌, ◌<◌, List, min, length, OnOk, IfErr};
+ghost use Rattle.resb_tree.specs.Tree.{Tree};
+ghost use Rattle.resb_pool.specs.FaultOf.{fault_of};
+ghost use Rattle.resb_write.specs.PlainSize.{list_size, resources_size};
+ghost use Rattle.resb_write.specs.Inner.Gathered.{Gathered};
+ghost use Rattle.resb_write.specs.Inner.Sizes.{IsTooMuch};
 
+use crate::contents::Contents;
+use resb_pool::BinarySerializerError;
 use resb_tree::Key;
 
 /// From this plain size on a file is refused, so that the place of every part of a file that is
 /// written fits the 28 bits of a descriptor.
 const SIZE_LIMIT: usize = 0x1000_0000;
 
-/// Whether the plain size of a table of so many strings, which have so many units, is over what is
-/// written: the bytes of each listed key and one more, 16 for each resource, 4 for each child and
-/// one for each unit.
-pub(crate) fn is_too_large(string_count: usize, unit_count: usize, keys: &[Key<'_>]) -> bool
-    requires strings { string_count ≤ 65535 }
-    requires units { unit_count ≤ 65535 }
-    ensures { result ≡ nat_le (2 ^ 28)
-        (sum_by (λ k. length k + 1) keys.now + (16 + 20 * string_count + unit_count)) }
+/// The bytes of listed keys and one more for each, or the greatest number, if that is less.
+fn listed_size(list: &[Key<'_>]) -> usize
+    ensures { result ≡ min (list_size list.now) (2 ^ 64 - 1) }
 {
-    let mut size = 16 + 20 * string_count + unit_count;
-    for key in keys {
+    let mut size: usize = 0;
+    for key in list {
         size = size.saturating_add(key.as_bytes().len() + 1);
     }
-    size >= SIZE_LIMIT
+    size
+}
+
+/// Refuses a string that is too long, a count over 32 bits, and what is too large to be written.
+/// Where the plain size is small, none of them holds.
+pub(crate) fn check_sizes(
+    contents: &Contents<'_>,
+    list: &[Key<'_>],
+) -> Result<(), BinarySerializerError>
+    ensures ok { OnOk result ((ts : List Tree) → Gathered ts contents.now
+        → list_size list.now + resources_size ts < 2 ^ 28) }
+    ensures err { IfErr result (λ e. (ts : List Tree) → Gathered ts contents.now
+        → IsTooMuch ts list.now (fault_of e)) }
+{
+    if listed_size(list).saturating_add(contents.size) < SIZE_LIMIT {
+        return Ok(());
+    }
+    if let Some(count) = contents.too_long {
+        return Err(BinarySerializerError::string_too_long(count));
+    }
+    if contents.has_count_over_32_bits {
+        return Err(BinarySerializerError::limit("count over 32 bits"));
+    }
+    Err(BinarySerializerError::limit("file too large"))
 }

@@ -1,0 +1,148 @@
+//! What the resources of a tree hold, gathered in one walk: the keys of tables, the texts of
+//! strings, and what is tested before anything is laid. Where things come to stand is not said here.
+ghost use Rattle.std.specs.Prelude.{◌≡◌, ◌++◌, ◌∷◌, ◌+◌, ◌-◌, ◌*◌, ◌/◌, ◌^◌, ◌||◌, [], List, length};
+ghost use Rattle.std.specs.Prelude.{min, max, nat_lt, IfOk, OnOk};
+ghost use Rattle.std.specs.Option.{option_or};
+ghost use Rattle.resb_tree.specs.Tree.{Tree};
+ghost use Rattle.resb_tree.specs.View.{tree_of, entries_view};
+ghost use Rattle.resb_format.specs.Units.{units};
+ghost use Rattle.resb_pool.specs.Plan.{nows, first_too_long};
+ghost use Rattle.resb_layout.specs.Laid.{keys_in};
+ghost use Rattle.resb_bodies.specs.WalkOrder.{walk};
+ghost use Rattle.resb_write.specs.Inner.Gathered.{Gathered};
+
+use resb_bodies::in_walk_order;
+use resb_pool::utf16_len;
+use resb_tree::{Resource, Table};
+use std::alloc::{AllocError, Global};
+
+/// The greatest number of 32 bits: the most units of a string, and members of an array, binary or
+/// vector.
+const GREATEST: usize = 0xffff_ffff;
+
+/// What resources hold.
+#[derive(Drop)]
+pub(crate) struct Contents<'t> {
+    /// The keys of tables and the texts of strings, as often as each stands there.
+    pub(crate) keys: Vec<&'t str>,
+    pub(crate) texts: Vec<&'t str>,
+    /// Their part of the plain size, or the greatest number, if that is less.
+    pub(crate) size: usize,
+    /// The number of entries of the largest table.
+    pub(crate) largest_table: usize,
+    /// The number of units of the first string of more than 4294967295.
+    pub(crate) too_long: Option<usize>,
+    /// Whether the count of some array, binary or vector doesn't fit 32 bits.
+    pub(crate) has_count_over_32_bits: bool,
+}
+
+impl<'t> Contents<'t> {
+    /// What the resources of a tree hold.
+    pub(crate) fn gather(alloc: Global, root: &'t Resource<'_>) -> Result<Contents<'t>, AllocError>
+        ensures { IfOk result (λ c. Gathered (walk (tree_of root.now)) c) }
+    {
+        let mut contents = Contents {
+            keys: Vec::new(alloc),
+            texts: Vec::new(alloc),
+            size: 0,
+            largest_table: 0,
+            too_long: None,
+            has_count_over_32_bits: false,
+        };
+        for resource in in_walk_order(alloc, root)? {
+            contents.add(resource)?;
+        }
+        Ok(contents)
+    }
+
+    /// Adds what a resource holds.
+    fn add(&mut self, resource: &'t Resource<'_>) -> Result<(), AllocError>
+        ensures { OnOk result ((ts : List Tree) → Gathered ts self.old
+            → Gathered (ts ++ tree_of resource.now ∷ []) self.new) }
+    {
+        match resource {
+            Resource::String(text) => self.add_text(text.as_str())?,
+            Resource::Array(items) => self.add_counted(items.len(), 4),
+            Resource::Table(table) => self.add_table(table)?,
+            Resource::Binary(bytes) => self.add_bytes(bytes.as_slice().len()),
+            Resource::Integer(_) => self.add_size(0),
+            Resource::IntVector(numbers) => self.add_counted(numbers.len(), 2),
+        }
+        Ok(())
+    }
+
+    /// Adds 16 and a resource's own size to the plain size.
+    fn add_size(&mut self, size: usize)
+        ensures { self.new ≡ record self.old {
+          size = min (self.old.size + (16 + size)) (2 ^ 64 - 1);
+        } }
+    {
+        self.size = self.size.saturating_add(size.saturating_add(16));
+    }
+
+    /// Adds a collection or vector of so many members or numbers, each of some size.
+    fn add_counted(&mut self, count: usize, each: usize)
+        ensures { self.new ≡ record self.old {
+          size = min (self.old.size + (16 + count * each)) (2 ^ 64 - 1);
+          has_count_over_32_bits = self.old.has_count_over_32_bits || nat_lt 4294967295 count;
+        } }
+    {
+        self.has_count_over_32_bits = self.has_count_over_32_bits || count > GREATEST;
+        self.add_size(count.saturating_mul(each));
+    }
+
+    /// Adds so many bytes.
+    fn add_bytes(&mut self, count: usize)
+        ensures { self.new ≡ record self.old {
+          size = min (self.old.size + (16 + (count + 1) / 2)) (2 ^ 64 - 1);
+          has_count_over_32_bits = self.old.has_count_over_32_bits || nat_lt 4294967295 count;
+        } }
+    {
+        self.has_count_over_32_bits = self.has_count_over_32_bits || count > GREATEST;
+        self.add_size(count.div_ceil(2));
+    }
+
+    /// Adds a string.
+    fn add_text(&mut self, text: &'t str) -> Result<(), AllocError>
+        ensures { OnOk result ((nows self.new.texts.items ≡ nows self.old.texts.items ++ text.now ∷ [])
+            × (self.new ≡ record self.old {
+              texts = self.new.texts;
+              size = min (self.old.size + (16 + length (units text.now))) (2 ^ 64 - 1);
+              too_long = option_or self.old.too_long (first_too_long (text.now ∷ []));
+            })) }
+    {
+        let count = utf16_len(text);
+        if count > GREATEST && self.too_long.is_none() {
+            self.too_long = Some(count);
+        }
+        self.add_size(count);
+        self.texts.push(text)?;
+        Ok(())
+    }
+
+    /// Adds a table.
+    fn add_table(&mut self, table: &'t Table<'_>) -> Result<(), AllocError>
+        ensures { OnOk result ((nows self.new.keys.items
+            ≡ nows self.old.keys.items ++ keys_in (entries_view table.now.entries))
+            × (self.new ≡ record self.old {
+              keys = self.new.keys;
+              size = min (self.old.size + (16 + 4 * length table.now.entries)) (2 ^ 64 - 1);
+              largest_table = max self.old.largest_table (length table.now.entries);
+            })) }
+    {
+        self.largest_table = self.largest_table.max(table.len());
+        self.add_size(table.len().saturating_mul(4));
+        push_keys(&mut self.keys, table)
+    }
+}
+
+/// Appends a table's keys.
+fn push_keys<'t>(keys: &mut Vec<&'t str>, table: &'t Table<'_>) -> Result<(), AllocError>
+    ensures { OnOk result (nows keys.new.items
+        ≡ nows keys.old.items ++ keys_in (entries_view table.now.entries)) }
+{
+    for key in table.keys() {
+        keys.push(key.as_str())?;
+    }
+    Ok(())
+}

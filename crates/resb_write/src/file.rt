@@ -1,0 +1,107 @@
+//! Puts the file together: the header, the root's word and the index around the blocks.
+//! What the blocks hold is said in `key_block` and by those who plan and lay.
+ghost use Rattle.std.specs.Prelude.{◌≡◌, ◌++◌, IfOk, OnOk};
+ghost use Rattle.resb_format.specs.Head.{index_words};
+ghost use Rattle.resb_layout.specs.Laid.{halves};
+ghost use Rattle.resb_write.specs.WrittenHead.{written_header};
+ghost use Rattle.resb_write.specs.Written.{even};
+ghost use Rattle.resb_write.specs.Inner.Files.{index_words_of, file_with, FitsFile};
+
+use crate::key_block::{append_block, block_length};
+use resb_bodies::Bodies;
+use resb_format::{BinHeader, BinIndex, BinReprInfo, CharsetFamily, Endianness, FormatVersion};
+use resb_tree::NoMemory;
+use std::alloc::{AllocError, Global};
+
+/// The header and its padding, in bytes.
+const HEADER_SIZE: usize = 32;
+
+/// The root's word and 7 words of the index stand before the keys.
+const HEAD_WORDS: usize = 8;
+
+/// What a file is put together from.
+#[derive(Clone, Copy)]
+pub(crate) struct Pieces<'c> {
+    pub(crate) root: u32,
+    pub(crate) largest_table: u32,
+    pub(crate) is_locale_fallback_enabled: bool,
+    pub(crate) keys: &'c [&'c str],
+    pub(crate) bodies: &'c Bodies,
+}
+
+/// Appends the header that each written file has, padded to 32 bytes.
+fn append_header(file: &mut Vec<u8>) -> Result<(), NoMemory>
+    ensures { OnOk result (file.new.items ≡ file.old.items ++ written_header) }
+{
+    let header = BinHeader {
+        size: HEADER_SIZE as u16,
+        repr_info: BinReprInfo {
+            size: 20,
+            reserved_word: 0,
+            endianness: Endianness::Little,
+            charset_family: CharsetFamily::Ascii,
+            size_of_char: 2,
+            reserved_byte: 0,
+            data_format: [b'R', b'e', b's', b'B'],
+            format_version: FormatVersion::V2_0,
+            data_version: [1, 4, 0, 0],
+        },
+    };
+    header.append_to(file)?;
+    file.extend_from_slice(&[0; 8])?;
+    Ok(())
+}
+
+/// Appends the 16-bit block, with a unit that fills its last word.
+fn append_units(file: &mut Vec<u8>, units: &[u16]) -> Result<(), AllocError>
+    ensures { OnOk result (file.new.items ≡ file.old.items ++ halves (even units.now)) }
+{
+    for unit in units {
+        file.extend_from_slice(&unit.to_le_bytes())?;
+    }
+    if units.len() % 2 == 1 {
+        file.extend_from_slice(&[0xaa, 0xaa])?;
+    }
+    Ok(())
+}
+
+/// The index of a file: its parts in words.
+fn index_of(pieces: &Pieces<'_>) -> BinIndex
+    requires fits { FitsFile pieces.now }
+    ensures { index_words result ≡ index_words_of pieces.now }
+{
+    let keys_end = HEAD_WORDS + block_length(pieces.keys) / 4;
+    let block_end = keys_end + pieces.bodies.units.len().div_ceil(2);
+    let end = (block_end + pieces.bodies.tail.len() / 4) as u32;
+    let attributes = if pieces.is_locale_fallback_enabled {
+        0
+    } else {
+        1
+    };
+    BinIndex {
+        field_count: 7,
+        keys_end: keys_end as u32,
+        resources_end: end,
+        bundle_end: end,
+        largest_table_entry_count: pieces.largest_table,
+        bundle_attributes: Some(attributes),
+        data_16_bit_end: Some(block_end as u32),
+        pool_checksum: None,
+    }
+}
+
+/// The file of these pieces.
+pub(crate) fn assemble(alloc: Global, pieces: &Pieces<'_>) -> Result<Vec<u8>, NoMemory>
+    requires fits { FitsFile pieces.now }
+    ensures { IfOk result (λ file. file.items ≡ file_with pieces.now) }
+{
+    let index = index_of(pieces);
+    let mut file = Vec::with_capacity(alloc, HEADER_SIZE + 4 * index.resources_end as usize)?;
+    append_header(&mut file)?;
+    file.extend_from_slice(&pieces.root.to_le_bytes())?;
+    index.append_to(&mut file)?;
+    append_block(&mut file, pieces.keys)?;
+    append_units(&mut file, &pieces.bodies.units)?;
+    file.extend_from_slice(&pieces.bodies.tail)?;
+    Ok(file)
+}

@@ -56,6 +56,7 @@ fn steps(
         (trees_in order.entry.items) (state_of bodies.new) words.new.items) }
     ensures takes { OnOk result (length bodies.new.units.items
         ≤ length bodies.old.units.items + sum_by most_units (trees_in order.entry.items)) }
+    ensures fits { OnOk result (HasRoomFor (given_by places.now) (state_of bodies.new) []) }
 {
     for resource in order {
         step(alloc, places, bodies, words, resource)?;
@@ -79,6 +80,7 @@ pub(crate) fn lay_tree(
         (tree_of root.now) (state_of bodies.new) word) }
     ensures takes { OnOk result (length bodies.new.units.items
         ≤ length bodies.old.units.items + sum_by most_units (walk (tree_of root.now))) }
+    ensures fits { OnOk result (HasRoomFor (given_by places.now) (state_of bodies.new) []) }
 {
     let order = in_walk_order(alloc, root)?;
     let mut words = Vec::new(alloc);
@@ -125,6 +127,8 @@ pub fn lay_bodies(
     requires known { (base : ℕ) → All (IsKnown (based places.old base)) (walk (tree_of root.now)) }
     ensures lays { IfOk result (λ laid. Lays (based places.old (block_end keys_end laid.0))
         (pool_state places.old) (tree_of root.now) (state_of laid.0) laid.1) }
+    ensures fits { IfOk result (λ laid. HasRoomFor (based places.old (block_end keys_end laid.0))
+        (state_of laid.0) []) }
     ensures behind { IfOk result (λ laid. places.new.base ≡ block_end keys_end laid.0) }
     ensures keeps { places.new ≡ record places.old { base = places.new.base } }
 {

@@ -38,7 +38,7 @@ marked_le n = by (nat_le n 0x3ee) (nat_le n 0xf_ffff)
     by false true = omega arith
     by false false = omega arith
 
-marker_le : (s : List ℕ) → length (marker s) ≤ 3
+pub marker_le : (s : List ℕ) → length (marker s) ≤ 3
 marker_le s = by (is_unmarked s)
   where
     by : (b : Bool) → length (cond b [] (length_marker (length (units s)))) ≤ 3

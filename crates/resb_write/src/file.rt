@@ -1,6 +1,6 @@
 //! Puts the file together: the header, the root's word and the index around the blocks.
 //! What the blocks hold is said in `key_block` and by those who plan and lay.
-ghost use Rattle.std.specs.Prelude.{◌≡◌, ◌++◌, IfOk, OnOk};
+ghost use Rattle.std.specs.Prelude.{◌≡◌, ◌++◌, ◌^◌, ◌<◌, ℕ, slice_index, IfOk, OnOk};
 ghost use Rattle.resb_format.specs.Head.{index_words};
 ghost use Rattle.resb_layout.specs.Laid.{halves};
 ghost use Rattle.resb_write.specs.WrittenHead.{written_header};
@@ -54,7 +54,8 @@ fn append_header(file: &mut Vec<u8>) -> Result<(), NoMemory>
 
 /// Appends the 16-bit block, with a unit that fills its last word.
 fn append_units(file: &mut Vec<u8>, units: &[u16]) -> Result<(), AllocError>
-    ensures { OnOk result (file.new.items ≡ file.old.items ++ halves (even units.now)) }
+    ensures appends { OnOk result (file.new.items ≡ file.old.items ++ halves (even units.now)) }
+    ensures fits { (k : ℕ) → slice_index units.now k < 2 ^ 16 }
 {
     for unit in units {
         file.extend_from_slice(&unit.to_le_bytes())?;
@@ -93,7 +94,10 @@ fn index_of(pieces: &Pieces<'_>) -> BinIndex
 /// The file of these pieces.
 pub(crate) fn assemble(alloc: Global, pieces: &Pieces<'_>) -> Result<Vec<u8>, NoMemory>
     requires fits { FitsFile pieces.now }
-    ensures { IfOk result (λ file. file.items ≡ file_with pieces.now) }
+    ensures file { IfOk result (λ file. file.items ≡ file_with pieces.now) }
+    ensures fits { OnOk result ((k : ℕ)
+        → slice_index pieces.now.bodies.now.units.items k < 2 ^ 16) }
+    ensures words { OnOk result (pieces.now.root < 2 ^ 32) }
 {
     let index = index_of(pieces);
     let mut file = Vec::with_capacity(alloc, HEADER_SIZE + 4 * index.resources_end as usize)?;

@@ -1,7 +1,8 @@
 //! The key block: which listed keys are used, where each stands, and their bytes.
 //! The faults of keys are found here, in the order in which they are answered.
 ghost use Rattle.std.specs.Prelude.{◌≡◌, ◌++◌, ◌<◌, ◌+◌, ◌%◌, ◌/◌, ◌^◌, ◌⊎◌, ℕ, List, Some, None};
-ghost use Rattle.std.specs.Prelude.{IfOk, IfErr, OnOk, length, filter, nat_lt, unwrap_or};
+ghost use Rattle.std.specs.Prelude.{IfOk, IfErr, OnOk, All, length, filter, nat_lt, unwrap_or};
+ghost use Rattle.std.specs.Str.{IsUtf8};
 ghost use Rattle.std.specs.List.{list_any};
 ghost use Rattle.std.specs.Option.{is_some, is_none};
 ghost use Rattle.resb_pool.specs.Plan.{nows, at_text};
@@ -124,8 +125,9 @@ fn used_keys<'k>(
     set: &IndexMap<&'k str, ()>,
     list: &'k [Key<'_>],
 ) -> Result<Vec<&'k str>, AllocError>
-    ensures { IfOk result (λ v. nows v.items
+    ensures keys { IfOk result (λ v. nows v.items
         ≡ filter (λ k. is_some (at_text set.now k)) list.now) }
+    ensures utf8 { IfOk result (λ v. All IsUtf8 (nows v.items)) }
 {
     let mut used = Vec::new(alloc);
     for key in list {

@@ -2,7 +2,8 @@
 --     near_position n         the position of the place n, or the greatest number of 32 bits
 --     IsKeyBlock us ks js at  of used keys us and a list ks: those of the list that are used, and
 --                             their positions
-use Rattle.std.specs.Prelude.{◌≡◌, ℕ, ◌+◌, ◌-◌, ◌^◌, min, List, Option, None, option_map}
+use Rattle.std.specs.Prelude.{◌≡◌, ℕ, ◌+◌, ◌-◌, ◌^◌, min, List, Option, None, option_map, All}
+use Rattle.std.specs.Str.{IsUtf8}
 use Rattle.resb_write.specs.Keys.{used, last_of, position_in, keys_start}
 use Rattle.resb_write.specs.Faults.{key_fault}
 
@@ -15,4 +16,5 @@ near_position_in js k = option_map near_position (last_of k js)
 pub record IsKeyBlock (us ks js : List (List ℕ)) (at : List ℕ → Option ℕ) : Type 0 where
   pub keys : js ≡ used us ks
   pub positions : (k : List ℕ) → at k ≡ near_position_in js k
+  pub utf8 : All IsUtf8 js
   pub faultless : key_fault us js ≡ None

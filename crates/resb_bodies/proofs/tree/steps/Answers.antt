@@ -4,7 +4,7 @@ use Rattle.std.proofs.lemmas.List.Sums.{sum_by-cons}
 use Rattle.std.specs.Vec.Iter.{into_iter_items, into_iter_len}
 use Rattle.resb_tree.specs.View.{tree_of}
 use Rattle.resb_bodies.specs.Steps.{Steps, steps_none}
-use Rattle.resb_bodies.specs.Room.{given_by, state_of, trees_in, most_units}
+use Rattle.resb_bodies.specs.Room.{given_by, state_of, trees_in, most_units, HasRoomFor}
 use Rattle.resb_bodies.specs.Inner.Seen.{CanLay}
 use Rattle.resb_bodies.proofs.Walks.{trees-push, nil_from_len}
 use Rattle.resb_bodies.proofs.Rows.{steps_push, step_long, can_go_on}
@@ -38,6 +38,12 @@ loop-resource-preserved c =
           (step_long g before after old new t c.in_ok-step.ensures.step),
       omega (arith, c.loop-resource.invariant.4, c.in_ok-step.ensures.takes.units, sum_by-cons most_units t (trees_in rest), ap (λ rs. sum_by most_units (trees_in rs)) next),
     )
+
+pub returns-clause-fits : goal.returns-clause-fits
+returns-clause-fits c =
+    let end : into_iter_len c.loop-resource.resource-iterator ≡ 0 = search rules in
+    let none = nil_from_len (into_iter_items c.loop-resource.resource-iterator) (sym c.loop-resource.invariant.1 ∙ end) in
+    subst (λ rs. HasRoomFor (given_by c.args.places.now) (state_of c.loop-resource.bodies) (trees_in rs)) none c.loop-resource.invariant.3.room
 
 pub returns-clause-takes : goal.returns-clause-takes
 returns-clause-takes c =

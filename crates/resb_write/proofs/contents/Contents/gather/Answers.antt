@@ -10,15 +10,18 @@ use Rattle.resb_write.proofs.contents.Contents.gather.Goals as goal
 
 pub loop-resource-init : goal.loop-resource-init
 loop-resource-init c =
-    let many : into_iter_len c.into_iter-resource-iterator.result ≡ length (into_iter_items c.into_iter-resource-iterator.result) = search rules in
-    (refl, many, record {
-      keys_are = ap nows c.new.ensures.items;
-      texts_are = ap nows c.new-2.ensures.items;
-      size_is = omega arith;
-      largest_is = refl;
-      too_long_is = refl;
-      over_is = refl;
-    })
+    let many : into_iter_len c.into_iter-resource-iterator.result ≡ length (into_iter_items c.into_iter-resource-iterator.result) = search rules in (
+      refl,
+      many,
+      record {
+        keys_are = ap nows c.new.ensures.items;
+        texts_are = ap nows c.new-2.ensures.items;
+        size_is = omega arith;
+        largest_is = refl;
+        too_long_is = refl;
+        over_is = refl;
+      },
+    )
 
 pub loop-resource-preserved : goal.loop-resource-preserved
 loop-resource-preserved c =
@@ -26,8 +29,7 @@ loop-resource-preserved c =
     let resource = c.in-Some.resource in
     let rest = into_iter_items c.next.new.self in
     let next : into_iter_items c.loop-resource.resource-iterator ≡ resource ∷ rest = search rules in
-    let many : into_iter_len c.next.new.self + 1 ≡ into_iter_len c.loop-resource.resource-iterator = search rules in
-    (
+    let many : into_iter_len c.next.new.self + 1 ≡ into_iter_len c.loop-resource.resource-iterator = search rules in (
       append_assoc done (resource ∷ []) rest ∙ ap (λ l. done ++ l) (sym next) ∙ c.loop-resource.invariant.0,
       omega (arith, c.loop-resource.invariant.1, many, ap length next),
       subst (λ ts. Gathered ts c.add.new.self) (sym (trees-push done (done ++ resource ∷ []) resource refl))

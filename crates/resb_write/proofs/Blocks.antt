@@ -1,17 +1,17 @@
 -- Strings and keys are read back in the blocks of a file, and what trees say of their walk.
-use Rattle.std.proofs.Common.{◌≡◌, ℕ, zero, suc, ◌+◌, ◌*◌, ◌%◌, ◌^◌, ◌<◌, ◌≤◌, max, List, [], ◌∷◌, ◌++◌, length, get_or, drop, Some, None, Option, option_map, option_and_then, Bool, true, false, cond, ◌==◌, refl, sym, ◌∙◌, ap, subst, append_assoc, append-nil, length-append, arith}
+use Rattle.std.proofs.Common.{◌≡◌, ℕ, zero, suc, ◌+◌, ◌%◌, ◌^◌, ◌<◌, max, List, [], ◌∷◌, ◌++◌, length, get_or, Some, None, option_and_then, Bool, true, false, cond, ◌==◌, refl, sym, ◌∙◌, ap, append_assoc, append-nil, length-append, arith}
 use Rattle.std.specs.Str.{IsUtf8}
 use Rattle.std.proofs.lemmas.Str.{is_utf8-from_IsUtf8}
 use Rattle.std.proofs.lemmas.List.{drop_at}
-use Rattle.resb_tree.specs.Tree.{Tree, string, array, table, binary, integer, int_vector, Trees, no_trees, more_trees, Entries, no_entries, entry, entries_len, largest_table, trees_largest, entries_largest}
-use Rattle.resb_format.specs.Strings.{text_at, key_at, before_zero, if_utf8}
+use Rattle.resb_tree.specs.Tree.{Tree, string, array, table, binary, integer, int_vector, Trees, no_trees, more_trees, Entries, no_entries, entry, largest_table, trees_largest, entries_largest}
+use Rattle.resb_format.specs.Strings.{key_at, before_zero, if_utf8}
 use Rattle.resb_pool.proofs.Zeros.{has_zero, before_zero-found}
 use Rattle.resb_layout.proofs.Numbers.{EachBelow}
 use Rattle.resb_bodies.specs.WalkOrder.{walk, walk_each, walk_values}
 use Rattle.resb_write.specs.Keys.{key_bytes, last_of}
 use Rattle.resb_write.specs.Faults.{has_nul}
 use Rattle.resb_write.specs.Written.{even}
-use Rattle.resb_write.specs.Inner.Gathered.{entry_count_of, largest_of}
+use Rattle.resb_write.specs.Inner.Gathered.{largest_of}
 use Rattle.resb_write.proofs.Keys.{last_of-stands}
 
 pub key_at-found : (front k rest : List ℕ) → IsUtf8 k → has_zero k ≡ false → key_at (front ++ (k ++ 0 ∷ rest)) (length front) ≡ Some k

@@ -1,17 +1,13 @@
 -- Which fault is the first.
-use Rattle.std.proofs.Common.{◌≡◌, ℕ, ◌+◌, ◌-◌, ◌*◌, ◌/◌, ◌^◌, ◌<◌, ◌≤◌, min, List, [], ◌∷◌, ◌++◌, length, map, Bor, Option, Some, None, option_map, Bool, true, false, cond, ◌||◌, nat_le, nat_lt, unwrap_or, codes, refl, sym, ◌∙◌, ap, subst, arith}
-use Rattle.std.specs.List.{list_any, sum_by, flat_map}
+use Rattle.std.proofs.Common.{◌≡◌, ℕ, ◌+◌, ◌^◌, List, [], ◌∷◌, Bor, Option, Some, None, option_map, Bool, true, false, cond, ◌||◌, nat_le, nat_lt, unwrap_or, codes, refl, sym, ◌∙◌, ap, arith}
+use Rattle.std.specs.List.{list_any, flat_map}
 use Rattle.std.specs.Option.{is_none}
-use Rattle.std.proofs.lemmas.Bool.{leb-true, leb-false}
 use Rattle.std.proofs.lemmas.Bool.Decides.{nat_tests}
-use Rattle.std.proofs.lemmas.List.Sums.{sum_by-cons}
-use Rattle.resb_tree.specs.Tree.{Tree, string, array, table, binary, integer, int_vector}
-use Rattle.resb_format.specs.Units.{units}
-use Rattle.resb_pool.specs.Fault.{Fault, string_too_long, unexpected, limit}
+use Rattle.resb_tree.specs.Tree.{Tree}
+use Rattle.resb_pool.specs.Fault.{string_too_long, unexpected, limit}
 use Rattle.resb_pool.specs.Plan.{nows, first_too_long}
-use Rattle.resb_bodies.specs.WalkOrder.{text_in, members}
-use Rattle.resb_write.specs.Keys.{last_of, position_in, keys_start}
-use Rattle.resb_write.specs.PlainSize.{held_size, resources_size}
+use Rattle.resb_bodies.specs.WalkOrder.{text_in}
+use Rattle.resb_write.specs.Keys.{last_of, keys_start}
 use Rattle.resb_write.specs.Faults.{has_nul, is_unlisted, is_far, key_fault, is_over_32_bits, count_fault, first_of}
 use Rattle.resb_write.specs.Inner.Places.{near_position, near_position_in}
 use Rattle.resb_write.specs.Inner.Sizes.{size_fault}

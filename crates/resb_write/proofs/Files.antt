@@ -1,38 +1,37 @@
 -- What is put together is the file of its tree.
-use Rattle.std.proofs.Common.{◌≡◌, ℕ, ◌+◌, ◌-◌, ◌*◌, ◌/◌, ◌%◌, ◌^◌, ◌<◌, ◌≤◌, max, List, [], ◌∷◌, ◌++◌, length, get_or, drop, Option, Some, None, option_map, Bool, true, false, cond, refl, sym, ◌∙◌, ap, subst, append_assoc, append-nil, length-append, arith}
-use Rattle.std.specs.List.{All, flat_map, sum_by, Contains}
+use Rattle.std.proofs.Common.{◌≡◌, ℕ, ◌+◌, ◌-◌, ◌*◌, ◌%◌, ◌^◌, ◌<◌, ◌≤◌, List, [], ◌∷◌, ◌++◌, length, get_or, Option, Some, None, option_map, Bool, true, false, cond, refl, sym, ◌∙◌, ap, subst, append_assoc, append-nil, length-append, arith}
+use Rattle.std.specs.List.{All}
 use Rattle.std.specs.Str.{IsUtf8}
 use Rattle.std.proofs.lemmas.List.{take_at}
 use Rattle.std.proofs.lemmas.List.Elements.{All-contains}
 use Rattle.std.proofs.lemmas.List.Sums.{sum_by-cons}
-use Rattle.resb_tree.specs.Tree.{Tree, string, array, table, binary, integer, int_vector, Entries, no_entries, entry, entries_len, tree_count, largest_table}
-use Rattle.resb_format.specs.Units.{size}
+use Rattle.resb_tree.specs.Tree.{Tree, string, array, table, binary, integer, int_vector, Entries, no_entries, entry, entries_len, tree_count}
 use Rattle.resb_format.specs.Strings.{text_at, key_at}
-use Rattle.resb_format.specs.Parts.{Parts, root_word, parts_of}
+use Rattle.resb_format.specs.Parts.{Parts, root_word}
 use Rattle.resb_format.specs.Denotes.{Den}
 use Rattle.resb_pool.specs.Plan.{IsPlan}
 use Rattle.resb_pool.proofs.IsRead.{pool_is_read}
 use Rattle.resb_pool.proofs.ReadBack.{text_at-zero}
-use Rattle.resb_layout.specs.Laid.{Given, State, Lays, halves, fill, here}
+use Rattle.resb_layout.specs.Laid.{Given, State, Lays, halves, fill}
 use Rattle.resb_layout.specs.Laws.{IsRead, StandsIn}
 use Rattle.resb_layout.proofs.Numbers.{EachBelow, halves_len}
 use Rattle.resb_layout.proofs.Grows.{grows}
 use Rattle.resb_layout.proofs.Denoted.{laid_is_denoted}
 use Rattle.resb_layout.proofs.Paid.{laid_is_paid}
-use Rattle.resb_bodies.specs.WalkOrder.{walk, text_in, texts_of, values_of}
-use Rattle.resb_bodies.specs.Room.{HasRoomFor, most_units}
-use Rattle.resb_write.specs.Keys.{own_keys, keys_of, used, key_bytes, padded, key_block, last_of, position_in, key_position, keys_start}
+use Rattle.resb_bodies.specs.WalkOrder.{walk, texts_of, values_of}
+use Rattle.resb_bodies.specs.Room.{HasRoomFor}
+use Rattle.resb_write.specs.Keys.{keys_of, used, key_bytes, padded, key_block, last_of, position_in, key_position, keys_start}
 use Rattle.resb_write.specs.PlainSize.{held_size, resources_size, list_size}
-use Rattle.resb_write.specs.Faults.{key_fault, fault, first_of, has_nul}
+use Rattle.resb_write.specs.Faults.{key_fault, fault, first_of}
 use Rattle.resb_write.specs.WrittenHead.{written_header}
-use Rattle.resb_write.specs.Written.{even, tail_start, Blocks, bytes_of, Written}
+use Rattle.resb_write.specs.Written.{even, tail_start, Blocks, Written}
 use Rattle.resb_write.specs.Inner.Gathered.{entry_count_of, largest_of}
 use Rattle.resb_write.specs.Inner.Files.{file_of, fields_of}
 use Rattle.resb_write.specs.Inner.Sizes.{size_fault}
 use Rattle.resb_write.proofs.Keys.{place_contained}
-use Rattle.resb_write.proofs.Room.{small_sizes, used_room, length-padded, pool_room, units_room}
+use Rattle.resb_write.proofs.Room.{small_sizes, used_room, length-padded}
 use Rattle.resb_write.proofs.Known.{is_used, no_nul}
-use Rattle.resb_write.proofs.Blocks.{key_read, even_is, even_long, each_below, below_even, largest_walked, walk_long}
+use Rattle.resb_write.proofs.Blocks.{key_read, even_is, even_long, each_below, below_even, largest_walked}
 use Rattle.resb_write.proofs.Heads as heads
 use Rattle.resb_write.proofs.Heads.{Whole}
 
@@ -106,9 +105,22 @@ module _ (t : Tree) (ks js : List (List ℕ)) (m : Made t ks js) (largest : ℕ)
   words_fit : EachBelow (2 ^ 32) (m.root ∷ fields_of largest fallback block us m.laid.tail)
   words_fit =
       let k = length-padded (key_bytes js) in
-      let b = even_long m.laid.units in
-      (m.root_fits, (omega arith, (omega (arith, keys_small, k), (omega (arith, keys_small, k, b, m.room.units, m.room.bytes), (omega (arith, keys_small, k, b, m.room.units, m.room.bytes),
-      (omega (arith, largest_is, largest_room (walk t), m.small), (flag_room fallback, (omega (arith, keys_small, k, b, m.room.units), tt))))))))
+      let b = even_long m.laid.units in (
+        m.root_fits,
+        (
+          omega arith,
+          (
+            omega (arith, keys_small, k),
+            (
+              omega (arith, keys_small, k, b, m.room.units, m.room.bytes),
+              (
+                omega (arith, keys_small, k, b, m.room.units, m.room.bytes),
+                (omega (arith, largest_is, largest_room (walk t), m.small), (flag_room fallback, (omega (arith, keys_small, k, b, m.room.units), tt))),
+              ),
+            ),
+          ),
+        ),
+      )
 
   abbrev whole : Whole
   whole = record {

@@ -1,8 +1,7 @@
 -- Keys in a list, and the places of their last occurrences.
-use Rattle.std.proofs.Common.{◌≡◌, ℕ, zero, suc, ◌+◌, ◌-◌, ◌^◌, ◌<◌, min, List, [], ◌∷◌, ◌++◌, length, map, filter, get_or, take, Bor, Option, Some, None, option_map, Bool, true, false, cond, ◌||◌, inl, inr, refl, sym, ◌∙◌, ap, append_assoc, length-append, arith}
-use Rattle.std.specs.List.{Contains, list_any}
+use Rattle.std.proofs.Common.{◌≡◌, ℕ, zero, suc, ◌+◌, ◌-◌, ◌^◌, ◌<◌, min, List, [], ◌∷◌, ◌++◌, length, filter, get_or, take, Bor, Option, Some, None, option_map, Bool, true, false, cond, ◌||◌, inl, inr, refl, sym, ◌∙◌, ap, append_assoc, length-append, arith}
+use Rattle.std.specs.List.{Contains}
 use Rattle.std.specs.Option.{is_some}
-use Rattle.std.specs.Map.{update}
 use Rattle.std.specs.Str.{bytes_eq}
 use Rattle.std.specs.Cmp.Lexicographic.{bytes_decides}
 use Rattle.std.proofs.lemmas.Bool.{cases_Bool}

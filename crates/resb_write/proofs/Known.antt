@@ -1,8 +1,7 @@
 -- The keys and texts of a tree's resources are known where no key has a fault and the texts are planned.
-use Rattle.std.proofs.Common.{◌≡◌, ℕ, zero, suc, ◌+◌, ◌-◌, ◌^◌, ◌<◌, ◌≤◌, min, List, [], ◌∷◌, ◌++◌, length, map, filter, get_or, Option, Some, None, option_map, MatchOption, All, Bool, true, false, cond, ◌||◌, not, nat_lt, unwrap_or, inl, inr, refl, sym, ◌∙◌, ap, subst, arith}
+use Rattle.std.proofs.Common.{◌≡◌, ℕ, zero, suc, ◌+◌, ◌^◌, ◌<◌, List, [], ◌∷◌, ◌++◌, map, filter, Option, Some, None, option_map, MatchOption, All, Bool, true, false, cond, nat_lt, unwrap_or, inl, inr, refl, sym, ◌∙◌, ap, subst, arith}
 use Rattle.std.specs.List.{list_any, flat_map, Contains}
-use Rattle.std.specs.Option.{is_some, is_none}
-use Rattle.std.specs.Str.{IsUtf8}
+use Rattle.std.specs.Option.{is_none}
 use Rattle.std.specs.Cmp.Lexicographic.{bytes_decides}
 use Rattle.std.proofs.lemmas.Bool.{or_parts, or_cases, ltb-false, false≢true}
 use Rattle.std.proofs.lemmas.List.Elements.{All-nil, All-cons}
@@ -18,7 +17,7 @@ use Rattle.resb_bodies.specs.Room.{IsKnown}
 use Rattle.resb_write.specs.Keys.{own_keys, used, is_among, last_of, position_in, keys_start}
 use Rattle.resb_write.specs.Faults.{has_nul, is_unlisted, is_far, key_fault}
 use Rattle.resb_write.specs.Inner.Places.{near_position, near_position_in}
-use Rattle.resb_write.proofs.Keys.{place_contained, none_some}
+use Rattle.resb_write.proofs.Keys.{place_contained}
 
 module _ {X : Type 0} where
   pub none_member : (p : X → Bool) (xs : List X) (x : X) → list_any p xs ≡ false → Contains xs x → p x ≡ false

@@ -6,3 +6,4 @@ pub mod Known
 pub mod Heads
 pub mod Blocks
 pub mod Files
+pub mod Refusals

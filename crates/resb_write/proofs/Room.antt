@@ -1,17 +1,16 @@
 -- What a small plain size says: no fault of sizes, and room for the pool and the bodies.
-use Rattle.std.proofs.Common.{◌≡◌, ℕ, zero, suc, ◌+◌, ◌-◌, ◌*◌, ◌/◌, ◌%◌, ◌^◌, ◌<◌, ◌≤◌, List, [], ◌∷◌, ◌++◌, length, Option, Some, None, Bool, true, false, cond, ◌||◌, nat_le, nat_lt, replicate, refl, sym, ◌∙◌, ap, length-append, arith}
-use Rattle.std.specs.List.{list_any, flat_map, sum_by, Contains}
+use Rattle.std.proofs.Common.{◌≡◌, ℕ, ◌+◌, ◌-◌, ◌*◌, ◌%◌, ◌^◌, ◌<◌, ◌≤◌, List, [], ◌∷◌, ◌++◌, length, Option, Some, None, Bool, true, false, cond, ◌||◌, nat_le, nat_lt, replicate, refl, sym, ◌∙◌, ap, length-append, arith}
+use Rattle.std.specs.List.{list_any, flat_map, sum_by}
 use Rattle.std.proofs.lemmas.Bool.Decides.{nat_tests}
 use Rattle.std.proofs.lemmas.List.{length-replicate}
 use Rattle.std.proofs.lemmas.List.Sums.{sum_by-append, sum_by-cons}
 use Rattle.resb_tree.specs.Tree.{Tree, string, array, table, binary, integer, int_vector}
-use Rattle.resb_format.specs.Units.{units, size, marker}
+use Rattle.resb_format.specs.Units.{units, size}
 use Rattle.resb_pool.specs.Plan.{first_too_long, texts_size, IsPlan}
-use Rattle.resb_pool.specs.Pool.{record_units}
 use Rattle.resb_pool.proofs.Least.{into_least}
 use Rattle.resb_pool.proofs.OrderingLemmas.{length-records}
 use Rattle.resb_pool.proofs.PlanLemmas.{marker_le}
-use Rattle.resb_bodies.specs.WalkOrder.{text_in, members, values_of}
+use Rattle.resb_bodies.specs.WalkOrder.{text_in, members}
 use Rattle.resb_bodies.specs.Room.{most_units, most_bytes}
 use Rattle.resb_write.specs.Keys.{key_bytes, padded, used, is_among}
 use Rattle.resb_write.specs.PlainSize.{held_size, resources_size, list_size}

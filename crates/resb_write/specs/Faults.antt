@@ -1,7 +1,7 @@
 -- Why a tree isn't written with the keys of a list.
 --     fault t ks              the first fault, in the order in which they are answered
 --     Refused t ks f          f may be the answer
-use Rattle.std.specs.Prelude.{◌≡◌, ℕ, ◌+◌, ◌^◌, ◌≤◌, List, length, Bool, false, nat_eq, nat_lt, codes}
+use Rattle.std.specs.Prelude.{◌≡◌, ℕ, ◌^◌, ◌≤◌, List, length, Bool, false, nat_eq, nat_lt, codes}
 use Rattle.std.specs.Prelude.{Option, Some, None, option_map, unwrap_or, if◌then◌else◌}
 use Rattle.std.specs.List.{list_any}
 use Rattle.std.specs.Option.{is_none}

@@ -2,7 +2,7 @@
 --     keys_of t               the keys of the tables of t, as often as each stands there
 --     key_block t ks          the block that a file of t has for the keys ks of a list
 --     key_position t ks k     the position of the key k, in bytes of the body
-use Rattle.std.specs.Prelude.{ℕ, ◌+◌, ◌%◌, ◌-◌, List, [], ◌∷◌, ◌++◌, length, replicate, filter}
+use Rattle.std.specs.Prelude.{ℕ, ◌+◌, ◌%◌, ◌-◌, List, [], ◌∷◌, ◌++◌, length, filter}
 use Rattle.std.specs.Prelude.{Option, Some, None, option_map, Bool, if◌then◌else◌}
 use Rattle.std.specs.List.{flat_map, list_any}
 use Rattle.resb_tree.specs.Tree.{Tree, table}

@@ -1,6 +1,5 @@
 -- A turn moves a key from what is left to what is there.
 use Rattle.std.proofs.Common.{rules, ◌≡◌, [], ◌∷◌, ◌++◌, sym, ◌∙◌, ap, append_assoc, append-nil}
-use Rattle.std.proofs.lemmas.List.{map_push}
 use Rattle.resb_pool.specs.Plan.{nows}
 use Rattle.resb_pool.proofs.TextLoops.{nows-push}
 use Rattle.resb_bodies.proofs.Keys.{keys_view}

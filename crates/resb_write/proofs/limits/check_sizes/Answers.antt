@@ -1,5 +1,5 @@
 -- The first fault of the sizes, or that there is none.
-use Rattle.std.proofs.Common.{◌≡◌, ◌+◌, ◌^◌, ◌≤◌, sym, ◌∙◌, subst, arith}
+use Rattle.std.proofs.Common.{◌+◌, ◌^◌, ◌≤◌, sym, ◌∙◌, subst, arith}
 use Rattle.resb_write.specs.PlainSize.{list_size, resources_size}
 use Rattle.resb_write.specs.Inner.Sizes.{IsTooMuch, at_fault, too_large}
 use Rattle.resb_write.proofs.Faults.{long_fault, over_fault, no_size_fault}

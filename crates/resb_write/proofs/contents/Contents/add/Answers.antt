@@ -1,12 +1,12 @@
 -- What each kind of resource adds.
-use Rattle.std.proofs.Common.{rules, ◌≡◌, ◌+◌, ◌-◌, ◌*◌, ◌/◌, ◌^◌, [], ◌∷◌, ◌++◌, min, max, length, nat_lt, refl, sym, ◌∙◌, ap, subst, append-nil, arith}
+use Rattle.std.proofs.Common.{rules, ◌≡◌, ◌+◌, ◌*◌, ◌/◌, [], ◌∷◌, ◌++◌, length, nat_lt, refl, sym, ◌∙◌, ap, subst, append-nil, arith}
 use Rattle.std.specs.Cow.{cow_str_bytes, cow_slice_items}
 use Rattle.resb_tree.specs.Tree.{string, array, table, binary, integer, int_vector}
 use Rattle.resb_tree.specs.View.{tree_of, items_view, entries_view}
 use Rattle.resb_tree.specs.declared.resource.Resource.{the_lemmas}
 use Rattle.resb_pool.specs.Plan.{nows}
 use Rattle.resb_write.specs.Inner.Gathered.{Gathered}
-use Rattle.resb_write.proofs.Gathering.{Adds, added, adds_plain, plain_integer, items_long, entries_long, entries_len_is, or_false, or_none}
+use Rattle.resb_write.proofs.Gathering.{added, adds_plain, plain_integer, items_long, entries_long, entries_len_is, or_false, or_none}
 use Rattle.resb_write.proofs.contents.Contents.add.Goals as goal
 
 pub returns-in-Array : goal.returns-in-Array

@@ -1,7 +1,6 @@
 -- A turn adds the next resource.
 use Rattle.std.proofs.Common.{rules, ◌≡◌, ◌++◌, ◌∷◌, ◌+◌, [], length, refl, sym, ◌∙◌, ap, subst, append_assoc, append-nil, arith}
 use Rattle.std.specs.Vec.Iter.{into_iter_items, into_iter_len}
-use Rattle.resb_tree.specs.View.{tree_of}
 use Rattle.resb_pool.specs.Plan.{nows}
 use Rattle.resb_bodies.specs.Room.{trees_in}
 use Rattle.resb_bodies.proofs.Walks.{trees-push, nil_from_len}

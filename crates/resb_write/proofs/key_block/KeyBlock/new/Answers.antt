@@ -1,9 +1,8 @@
 -- The listed keys that are used, and what their positions say.
-use Rattle.std.proofs.Common.{◌≡◌, ℕ, List, filter, inr, sym, ◌∙◌, ap, subst}
+use Rattle.std.proofs.Common.{ℕ, List, filter, inr, ◌∙◌, ap}
 use Rattle.std.proofs.lemmas.Result.{err_from_is_err_and}
-use Rattle.resb_pool.specs.Plan.{nows, at_text}
+use Rattle.resb_pool.specs.Plan.{nows}
 use Rattle.resb_write.specs.Keys.{used}
-use Rattle.resb_write.specs.Faults.{key_fault}
 use Rattle.resb_write.specs.Inner.Places.{near_position_in}
 use Rattle.resb_write.proofs.key_block.KeyBlock.new.Goals as goal
 

@@ -10,9 +10,7 @@ use Rattle.resb_format.specs.Strings.{string_at, text_at, key_at}
 use Rattle.resb_format.specs.Parts.{Parts, IsBundleFile, parts_of}
 use Rattle.resb_format.specs.Content.{Member, word, unit, leaf, list, pairs, content}
 use Rattle.resb_format.specs.Denotes.{Den, den_leaf, den_list, den_pairs, den_word, den_unit, DenEach, each_none, each_more, pairs_none, pairs_more}
-use Rattle.resb_format.specs.File.{Denotes, IndexOf, budget, written_header}
-use Rattle.resb_format.specs.KeyBlock.{key_block, last_place}
-use Rattle.resb_format.specs.PlainSize.{plain_size}
+use Rattle.resb_format.specs.File.{Denotes, budget}
 use Rattle.resb_format.proofs.Denoting.{unique}
 
 -- Strings at a unit: markers of one, two and three units, also on short strings, and every string's end inside the block.
@@ -203,6 +201,11 @@ loop_denotes_nothing t n d =
 
 -- The files of `b{}` and of `b{k{v}}`, whole.
 
+abbrev written_header : List ℕ
+written_header =
+    32 ∷ 0 ∷ 0xda ∷ 0x27 ∷ 20 ∷ 0 ∷ 0 ∷ 0 ∷ 0 ∷ 0 ∷ 2 ∷ 0 ∷ 0x52 ∷ 0x65 ∷ 0x73 ∷ 0x42
+    ∷ 2 ∷ 0 ∷ 0 ∷ 0 ∷ 1 ∷ 4 ∷ 0 ∷ 0 ∷ 0 ∷ 0 ∷ 0 ∷ 0 ∷ 0 ∷ 0 ∷ 0 ∷ 0 ∷ []
+
 empty_bundle : List ℕ
 empty_bundle = written_header ++ (
     0 ∷ 0 ∷ 0 ∷ 0x20 ∷ 7 ∷ 0 ∷ 0 ∷ 0 ∷ 8 ∷ 0 ∷ 0 ∷ 0 ∷ 9 ∷ 0 ∷ 0 ∷ 0 ∷ 9 ∷ 0 ∷ 0 ∷ 0 ∷ 0 ∷ 0 ∷ 0 ∷ 0 ∷ 0 ∷ 0 ∷ 0 ∷ 0 ∷ 9 ∷ 0 ∷ 0 ∷ 0
@@ -234,10 +237,6 @@ empty_head = record {
 empty_denotes : Denotes empty_bundle (table no_entries) 1
 unfolding empty_bundle units_of words_of parts_of content
 empty_denotes = record { head = empty_head; root = den_pairs refl pairs_none }
-
-empty_index : IndexOf empty_bundle (table no_entries) true
-unfolding empty_bundle units_of words_of
-empty_index = record { header = refl; fields = refl; resources = refl; bundle = refl; largest = refl; no_fallback = refl }
 
 flat_head : IsBundleFile flat_bundle
 unfolding flat_bundle units_of words_of
@@ -273,24 +272,3 @@ flat_budget = omega arith
 -- a file whose header names the other byte order
 foreign_order : IsBundleFile (0 ∷ 32 ∷ 0xda ∷ 0x27 ∷ 0 ∷ 20 ∷ 0 ∷ 0 ∷ 1 ∷ []) → ⊥
 foreign_order h = let e : 1 ≡ 0 = h.little_endian in absurd (omega (arith, e))
-
--- The key block of the table with the keys a and c, for the list a, a, c: the last place of a counts.
-
-two_keys : Tree
-two_keys = table (entry (97 ∷ []) (string []) (entry (99 ∷ []) (string []) no_entries))
-
-keys_written_twice : key_block two_keys ((97 ∷ []) ∷ (97 ∷ []) ∷ (99 ∷ []) ∷ (100 ∷ []) ∷ []) ≡ 97 ∷ 0 ∷ 97 ∷ 0 ∷ 99 ∷ 0 ∷ 0xaa ∷ 0xaa ∷ []
-unfolding two_keys
-keys_written_twice = refl
-
-last_place_counts : last_place two_keys (97 ∷ []) ((97 ∷ []) ∷ (97 ∷ []) ∷ (99 ∷ []) ∷ []) ≡ Some 2
-unfolding two_keys
-last_place_counts = refl
-
-no_place : last_place two_keys (100 ∷ []) ((97 ∷ []) ∷ (100 ∷ []) ∷ []) ≡ None
-unfolding two_keys
-no_place = refl
-
--- a key of two bytes, an array of two children, an integer and three bytes
-plain_size_of_three : plain_size (array (more_trees (integer 1) (more_trees (binary (1 ∷ 2 ∷ 3 ∷ [])) no_trees))) ((97 ∷ []) ∷ []) ≡ 60
-plain_size_of_three = refl

@@ -12,8 +12,6 @@ pub mod Parts
 pub mod Content
 pub mod Denotes
 pub mod File
-pub mod KeyBlock
-pub mod PlainSize
 pub mod Error
 pub mod Codes
 pub mod Descriptor

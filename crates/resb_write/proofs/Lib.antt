@@ -7,3 +7,5 @@ pub mod Heads
 pub mod Blocks
 pub mod Files
 pub mod Refusals
+pub mod Listed
+pub mod Examples

@@ -7,6 +7,7 @@ pub mod SharingLemmas
 pub mod OrderingLemmas
 pub mod PlanLemmas
 pub mod IsRead
+pub mod OnePool
 pub mod Least
 pub mod SuffixOrder
 pub mod Reading

@@ -1,5 +1,5 @@
 //! Laws of the definitions, each the contract of a call that does nothing.
-ghost use Rattle.resb_pool.specs.Laws.{PoolIsRead};
+ghost use Rattle.resb_pool.specs.Laws.{PoolIsRead, OnePool};
 ghost use Rattle.resb_pool.specs.Records.{RecordsCostLeast};
 
 /// Whatever records could hold the strings of a tree, those that the format's rule gives take no
@@ -11,4 +11,9 @@ pub fn records_cost_least()
 /// Each text that was planned is read back where it stands, whatever follows the pool's units.
 pub fn pool_is_read()
     ensures { PoolIsRead }
+{}
+
+/// Strings have one pool: its units, and where each text stands.
+pub fn one_pool()
+    ensures { OnePool }
 {}

@@ -1,53 +1,79 @@
-//! The whole way from a text to a file, against bytes that follow from the format's rules.
-use resb::binary::BinarySerializerError;
-use resb::text::Expected;
+//! The whole way from a text to a file and back, against files that follow from the format's rules.
+//! Each line is a text and the hex digits of its file behind the header: a line more costs no proof.
+use resb::binary::{BinarySerializerError, from_bytes};
+use resb::bundle::Resource;
+use resb::text::{Expected, Reader};
 use resb::{CompileError, compile};
+use std::alloc::Global;
+use std::process::Abort;
 use std::test::Fail;
 
-const HEADER: [u8; 32] = [
+/// The 32 bytes that each file begins with.
+pub(crate) const HEADER: [u8; 32] = [
     0x20, 0, 0xda, 0x27, 0x14, 0, 0, 0, 0, 0, 2, 0, 0x52, 0x65, 0x73, 0x42, 2, 0, 0, 0, 1, 4, 0, 0,
     0, 0, 0, 0, 0, 0, 0, 0,
 ];
 
-/// The words of a file behind its header.
-fn words(rt: &HostRuntime, text: &str) -> Result<Vec<u32>, Fail> {
-    let file = compile(rt.alloc(), text)?;
-    let (header, body) = file.as_slice().split_at_checked(32).ok_or("short")?;
+/// Texts and their files behind the header.
+const FILES: &str = r#"b:table(nofallback){} => 00000020070000000800000009000000090000000000000001000000090000000000aaaa
+b{} => 00000020070000000800000009000000090000000000000000000000090000000000aaaa
+b{k{v}} => 0300005007000000090000000c0000000c00000001000000000000000c0000006b00aaaa000076000000010020000100
+b{a{"xyz"}c{"yz"}} => 0500005007000000090000000e0000000e00000002000000000000000e000000610063000000780079007a00000002002000220001000200
+b{a:array{"" "x"}} => 0c00002007000000090000000e0000000e00000001000000000000000c0000006100aaaa0000780000000200000001000100200003000090
+b{a{"x" {"y"} "z"}} => 0f0000200700000009000000110000001100000001000000000000000f0000006100aaaa000078000000790000007a0000000300010003000500aaaa0100200007000090
+b{a{"x",}} => 0c00002007000000090000000e0000000e00000001000000000000000c0000006100aaaa00007800000001000100aaaa0100200003000090
+b{i:int{4294967295}} => 0a00002007000000090000000c0000000c00000001000000000000000a0000006900aaaa0000aaaa01002000ffffff7f
+b{d:bin{"00fF"}} => 0d00002007000000090000000f0000000f00000001000000000000000a0000006400aaaa0000aaaaaaaaaaaa0200000000ffaaaa010020000b000010
+b{d:bin{""}} => 0a00002007000000090000000c0000000c00000001000000000000000a0000006400aaaa0000aaaa0100200000000010
+b{a{x{"1"}}a{"2"}} => 0300005007000000090000000c0000000c00000001000000000000000c0000006100aaaa000032000000010020000100
+b{a{"x"}c{"yz"}} => 0600005007000000090000000f0000000f00000002000000000000000f0000006100630000007800000079007a00000002002000220001000300aaaa
+b{i:int{-1}v:intvector{1,-1,}} => 0d0000200700000009000000110000001100000002000000000000000a000000690076000000aaaa0200000001000000ffffffff020020002200aaaaffffff7f0a0000e0
+b{v:intvector{,}} => 0a00002007000000090000000c0000000c00000001000000000000000a0000007600aaaa0000aaaa01002000000000e0
+b{d:bin{"00"}e:bin{"00"}} => 110000200700000009000000150000001500000002000000000000000a000000640065000000aaaaaaaaaaaa0100000000aaaaaaaaaaaaaaaaaaaaaa0100000000aaaaaa020020002200aaaa0b0000100f000010
+b{a:table{k{v}}b:table{k{v}l:int{1}}} => 11000020070000000a000000150000001500000002000000000000000d00000061006b0062006c00000076000000010022000100020022002600aaaa0100006001000070020020002400aaaa030000500d000020
+b{a:array{{{}}}} => 0e0000200700000009000000100000001000000001000000000000000a0000006100aaaa0000aaaa0100000000000020010000000a000080010020000c000080
+b{a:array{:int{1} :int{2} {x}}} => 0f0000200700000009000000110000001100000001000000000000000b0000006100aaaa000078000000aaaa03000000010000700200007001000060010020000b000080
+b{k{""}} => 0100005007000000090000000b0000000b00000001000000000000000b0000006b00aaaa0000010020000000
+b{a{"é"}b{"aé"}c{"😀"}d{"é😀"}} => 08000050070000000a0000001300000013000000040000000000000013000000610062006300640000006100e9000000e9003dd800de0000040020002200240026000200010005000400aaaa
+b{t:table{b:int{2}a:int{1}}} => 0f000020070000000a000000110000001100000002000000000000000b000000740062006100aaaa0000aaaa020024002200aaaa0100007002000070010020000b000020
+b{l:int{1}k:int{2}m:int{3}} => 0b000020070000000a000000100000001000000003000000000000000b0000006c006b006d00aaaa0000aaaa0300220020002400020000700100007003000070
+"é"{"é"{"é"}} => 0300005007000000090000000c0000000c00000001000000000000000c000000c3a900aa0000e9000000010020000100
+b:table(nofallback){a:array{}b:table{}c:bin{""}d:string{""}} => 0b000020070000000a000000120000001200000004000000010000000b00000061006200630064000000aaaa04002000220024002600aaaa00000080000000200000001000000060
+b{a{x}b{y}c{y}} => 05000050070000000a0000001000000010000000030000000000000010000000610062006300aaaa000079000000780000000300200022002400030001000100
+b{a{ab}b{b}c{ab}d{cab}} => 05000050070000000a0000001100000011000000040000000000000011000000610062006300640000006300610062000000040020002200240026000200030002000100
+"#;
+
+/// The hex digits of a file behind its header.
+pub(crate) fn digits(alloc: Global, file: &[u8]) -> Result<String, Fail> {
+    let (header, body) = file.split_at_checked(32).ok_or("short")?;
     if header != HEADER.as_slice() {
         return Err("another header")?;
     }
-    let mut words = Vec::new(rt.alloc());
-    for word in body.chunks_exact(4) {
-        let word: [u8; 4] = word.try_into()?;
-        words.push(u32::from_le_bytes(word))?;
-    }
-    Ok(words)
+    Ok(hex::encode(alloc, body)?)
 }
 
-#[test]
-fn the_empty_bundle(rt: HostRuntime) -> Result<(), Fail> {
-    let expected = [0x2000_0000, 7, 8, 9, 9, 0, 0, 9, 0xaaaa_0000];
-    assert_eq!(rt; words(&rt, "b{}")?.as_slice(), expected.as_slice());
+/// The text has this file, which is read back as the text's tree.
+fn assert_file(rt: &impl Abort, alloc: Global, text: &str, wanted: &str) -> Result<(), Fail> {
+    let file = compile(alloc, text)?;
+    assert_eq!(rt; digits(alloc, &file)?.as_str(), wanted, "the file of {text}");
+    let (bundle, _keys) = Reader::read(alloc, text)?;
+    let tree: Resource = from_bytes(alloc, &file)?;
+    assert!(rt; tree == *bundle.root(), "the tree of {text}");
     Ok(())
 }
 
 #[test]
-fn one_entry(rt: HostRuntime) -> Result<(), Fail> {
-    let expected = [
-        0x5000_0003,
-        7,
-        9,
-        12,
-        12,
-        1,
-        0,
-        12,
-        0xaaaa_006b,
-        0x0076_0000,
-        0x0001_0000,
-        0x0001_0020,
-    ];
-    assert_eq!(rt; words(&rt, "b{k{v}}")?.as_slice(), expected.as_slice());
+fn texts_have_their_files(rt: HostRuntime) -> Result<(), Fail> {
+    let mut rest = FILES;
+    for _ in 0..FILES.len() {
+        let Some((row, more)) = rest.split_once('\n') else {
+            break;
+        };
+        let (text, wanted) = row.split_once(" => ").ok_or("a row without an answer")?;
+        assert_file(&rt, rt.alloc(), text, wanted)?;
+        rest = more;
+    }
+    assert!(rt; rest.is_empty());
     Ok(())
 }
 
@@ -66,17 +92,6 @@ fn a_refused_text_keeps_its_place(rt: HostRuntime) -> Result<(), Fail> {
     let text = format!(in rt.alloc(); "{e}")?;
     let expected = "Parse error while reading text bundle:\nat byte 0: expected a string";
     assert_eq!(rt; text.as_str(), expected);
-    Ok(())
-}
-
-#[test]
-fn a_refused_tree_keeps_its_reason(rt: HostRuntime) -> Result<(), Fail> {
-    let long = "b{k{aaaaaaaaaaaaaaaaaaaaaaaaaaaaaaaaaaaaaaaaa}}";
-    let Err(e) = compile(rt.alloc(), long) else {
-        return Err("a string of 41 letters is not written so far")?;
-    };
-    let text = format!(in rt.alloc(); "{e}")?;
-    assert_eq!(rt; text.as_str(), "Unexpected error: not written yet");
     let limit = CompileError::from(BinarySerializerError::limit("file too large"));
     let text = format!(in rt.alloc(); "{limit}")?;
     assert_eq!(rt; text.as_str(), "Limit exceeded: file too large");

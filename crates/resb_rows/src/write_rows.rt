@@ -1,184 +1,190 @@
-//! Written files against bytes worked out by hand from the format's rules, and the printed faults.
+//! Trees with lists of keys, and their files or refusals, as the format's rules ask for them. Each
+//! line is an input and its answer: a line more costs no proof.
+use crate::way_rows::digits;
+use resb_read::from_bytes;
+use resb_text::Reader;
 use resb_tree::{Key, Resource, ResourceBundle, Table};
 use resb_write::{BinarySerializerError, Serializer};
-use std::alloc::{AllocError, Global};
+use std::alloc::Global;
 use std::borrow::CowStr;
 use std::collections::BTreeMap;
+use std::process::Abort;
 use std::test::Fail;
 
-/// The header of each file: `2000da27 14000000 00000200 52657342 02000000 01040000` and 8 zeros.
-const HEADER: [u8; 32] = [
-    0x20, 0x00, 0xda, 0x27, 0x14, 0x00, 0x00, 0x00, 0x00, 0x00, 0x02, 0x00, 0x52, 0x65, 0x73, 0x42,
-    0x02, 0x00, 0x00, 0x00, 0x01, 0x04, 0x00, 0x00, 0x00, 0x00, 0x00, 0x00, 0x00, 0x00, 0x00, 0x00,
-];
+/// Strings of a root array, where `~` stands for U+0000 and `''` for the empty string, and the hex
+/// digits of its file behind the header.
+const STRINGS: &str = r#"~ab ab => 0600009007000000080000000d0000000d00000000000000000000000d000000000003dc0000610062000000020001000300aaaa
+x y y => 0500009007000000080000000d0000000d00000000000000000000000d000000000079000000780000000300030001000100aaaa
+'' x '' => 0300009007000000080000000c0000000c00000000000000000000000c0000000000780000000300000001000000aaaa
+xyz yz z => 0500009007000000080000000d0000000d00000000000000000000000d0000000000780079007a0000000300010002000300aaaa
+'' => 0100009007000000080000000a0000000a00000000000000000000000a000000000001000000aaaa
+a~b b => 0600009007000000080000000d0000000d00000000000000000000000d000000000003dc6100000062000000020001000400aaaa
+~ => 0400009007000000080000000b0000000b00000000000000000000000b000000000001dc0000000001000100
+b a => 0500009007000000080000000c0000000c00000000000000000000000c00000000006100000062000000020003000100
+aa b b => 0600009007000000080000000d0000000d00000000000000000000000d0000000000620000006100610000000300030001000100
+bb aa aa => 0700009007000000080000000e0000000e00000000000000000000000e00000000006100610000006200620000000300040001000100aaaa
+a 𐀀a a => 0800009007000000080000000e0000000e00000000000000000000000e000000000000e06100000000d800dc610000000300010004000600
+😀😀 😀 => 0600009007000000080000000d0000000d00000000000000000000000d00000000003dd800de3dd800de0000020001000300aaaa
+"#;
 
-/// A table of these keys and strings.
-fn table<'a>(alloc: Global, entries: &[(&'a str, &'a str)]) -> Result<Resource<'a>, AllocError> {
-    let mut table: Table = BTreeMap::new(alloc);
-    for (key, text) in entries {
-        table.insert(Key::from(*key), Resource::String(CowStr::Borrowed(*text)))?;
+/// Texts, keys in the order of a list, and the file of the text's tree with these keys.
+const LISTS: &str = r#"b{a{"xyz"}c{"yz"}} | a a c => 05000050070000000a0000000f0000000f00000002000000000000000f000000610061006300aaaa0000780079007a00000002002200240001000200
+b{a{"xyz"}c{"yz"}} | c x a => 0500005007000000090000000e0000000e00000002000000000000000e000000630061000000780079007a00000002002200200001000200
+b{a{"xyz"}c{"yz"}} | a => refused: Unexpected error: key not present in position map
+b{ab{"x"}b{"y"}} | ab => refused: Unexpected error: key not present in position map
+b{a{x{"1"}}} | x b a x => 0d000020070000000a0000000f0000000f00000001000000000000000d000000780061007800aaaa0000310000000100240001000100220003000050
+b{} | k => 00000020070000000800000009000000090000000000000000000000090000000000aaaa
+b{a{"x"}} |  => refused: Unexpected error: key not present in position map
+"#;
+
+/// The digits of the file, or the refusal.
+fn told(
+    alloc: Global,
+    answer: Result<Vec<u8>, BinarySerializerError>,
+) -> Result<String, Fail> {
+    match answer {
+        Ok(file) => digits(alloc, &file),
+        Err(error) => Ok(format!(in alloc; "refused: {error}")?),
     }
-    Ok(Resource::Table(table))
 }
 
-/// The file of a bundle of this root.
+/// The file of a root with these keys.
 fn written(
     alloc: Global,
     root: Resource<'_>,
-    is_locale_fallback_enabled: bool,
-    texts: &[&str],
+    keys: &[Key<'_>],
 ) -> Result<Vec<u8>, BinarySerializerError> {
+    let bundle = ResourceBundle::new(CowStr::Borrowed("b"), root, true);
+    Serializer::to_bytes(alloc, &bundle, keys)
+}
+
+/// The string that a word of a row stands for.
+fn string<'a>(alloc: Global, word: &str) -> Result<Resource<'a>, Fail> {
+    let mut text = String::new(alloc);
+    for c in word.chars() {
+        match c {
+            '~' => text.push('\0')?,
+            '\'' => {}
+            other => text.push(other)?,
+        }
+    }
+    Ok(Resource::String(CowStr::Owned(text)))
+}
+
+/// The array of these strings has this file.
+fn assert_strings(rt: &impl Abort, alloc: Global, row: &str, wanted: &str) -> Result<(), Fail> {
+    let mut items = Vec::new(alloc);
+    for word in row.split(' ') {
+        items.push(string(alloc, word)?)?;
+    }
+    let answer = written(alloc, Resource::Array(items), &[]);
+    assert_eq!(rt; told(alloc, answer)?.as_str(), wanted, "the file of {row}");
+    Ok(())
+}
+
+/// The text's tree with these keys has this file.
+fn assert_list(rt: &impl Abort, alloc: Global, row: &str, wanted: &str) -> Result<(), Fail> {
+    let (text, words) = row.split_once(" | ").ok_or("a row without keys")?;
     let mut keys = Vec::new(alloc);
-    for text in texts {
-        keys.push(Key::from(*text))?;
+    for word in words.split(' ') {
+        keys.push(Key::from(word))?;
     }
-    let bundle = ResourceBundle::new(CowStr::Borrowed("b"), root, is_locale_fallback_enabled);
-    Serializer::to_bytes(alloc, &bundle, &keys)
+    let (bundle, _keys) = Reader::read(alloc, text)?;
+    let answer = Serializer::to_bytes(alloc, &bundle, &keys);
+    assert_eq!(rt; told(alloc, answer)?.as_str(), wanted, "the file of {row}");
+    Ok(())
 }
 
-/// The header and these words.
-fn file(alloc: Global, words: &[u32]) -> Result<Vec<u8>, AllocError> {
-    let mut bytes = Vec::from_slice(alloc, &HEADER)?;
-    for word in words {
-        bytes.extend_from_slice(&word.to_le_bytes())?;
+#[test]
+fn arrays_of_strings_have_their_files(rt: HostRuntime) -> Result<(), Fail> {
+    let mut rest = STRINGS;
+    for _ in 0..STRINGS.len() {
+        let Some((row, more)) = rest.split_once('\n') else {
+            break;
+        };
+        let (strings, wanted) = row.split_once(" => ").ok_or("a row without an answer")?;
+        assert_strings(&rt, rt.alloc(), strings, wanted)?;
+        rest = more;
     }
-    Ok(bytes)
-}
-
-#[test]
-fn an_empty_table(rt: HostRuntime) -> Result<(), Fail> {
-    let alloc = rt.alloc();
-    let bytes = written(alloc, table(alloc, &[])?, true, &[])?;
-    let words = [0x2000_0000, 7, 8, 9, 9, 0, 0, 9, 0xaaaa_0000];
-    assert_eq!(rt; bytes.as_slice(), file(alloc, &words)?.as_slice());
-    let bytes = written(alloc, table(alloc, &[])?, false, &["unused"])?;
-    let words = [0x2000_0000, 7, 8, 9, 9, 0, 1, 9, 0xaaaa_0000];
-    assert_eq!(rt; bytes.as_slice(), file(alloc, &words)?.as_slice());
+    assert!(rt; rest.is_empty());
     Ok(())
 }
 
 #[test]
-fn tables_of_strings(rt: HostRuntime) -> Result<(), Fail> {
-    let alloc = rt.alloc();
-    let bytes = written(alloc, table(alloc, &[("k", "v")])?, true, &["k"])?;
-    let words = [
-        0x5000_0003,
-        7,
-        9,
-        12,
-        12,
-        1,
-        0,
-        12,
-        0xaaaa_006b,
-        0x0076_0000,
-        0x0001_0000,
-        0x0001_0020,
-    ];
-    assert_eq!(rt; bytes.as_slice(), file(alloc, &words)?.as_slice());
-    let bytes = written(
-        alloc,
-        table(alloc, &[("c", "yz"), ("a", "x")])?,
-        true,
-        &["a", "c"],
-    )?;
-    let words = [
-        0x5000_0006,
-        7,
-        9,
-        15,
-        15,
-        2,
-        0,
-        15,
-        0x0063_0061,
-        0x0078_0000,
-        0x0079_0000,
-        0x0000_007a,
-        0x0020_0002,
-        0x0001_0022,
-        0xaaaa_0003,
-    ];
-    assert_eq!(rt; bytes.as_slice(), file(alloc, &words)?.as_slice());
-    Ok(())
-}
-
-#[test]
-fn an_empty_string_stands_at_unit_0(rt: HostRuntime) -> Result<(), Fail> {
-    let alloc = rt.alloc();
-    let bytes = written(alloc, table(alloc, &[("a", "")])?, true, &["a"])?;
-    let words = [
-        0x5000_0001,
-        7,
-        9,
-        11,
-        11,
-        1,
-        0,
-        11,
-        0xaaaa_0061,
-        0x0001_0000,
-        0x0000_0020,
-    ];
-    assert_eq!(rt; bytes.as_slice(), file(alloc, &words)?.as_slice());
-    Ok(())
-}
-
-/// The root's word and the index, the key block, and the 16-bit block from the table's body on.
-#[test]
-fn the_last_place_of_a_doubled_key_counts(rt: HostRuntime) -> Result<(), Fail> {
-    let alloc = rt.alloc();
-    let root = table(alloc, &[("a", "xyz"), ("c", "yz")])?;
-    let bytes = written(alloc, root, true, &["a", "a", "c"])?;
-    let key_block = [0x61, 0, 0x61, 0, 0x63, 0, 0xaa, 0xaa];
-    assert_eq!(rt; bytes.get(40..44), Some([10u8, 0, 0, 0].as_slice()));
-    assert_eq!(rt; bytes.get(64..72), Some(key_block.as_slice()));
-    let body = u32::from(*bytes.get(32).ok_or("short")?) as usize;
-    let positions = 72 + 2 * body;
-    let expected = [2u8, 0, 34, 0, 36, 0];
-    assert_eq!(rt;
-        bytes.get(positions..positions + 6),
-        Some(expected.as_slice())
-    );
-    Ok(())
-}
-
-/// How an error prints.
-fn printed(alloc: Global, answer: Result<Vec<u8>, BinarySerializerError>) -> Result<String, Fail> {
-    match answer {
-        Ok(_) => Ok(String::from_str(alloc, "a file")?),
-        Err(e) => Ok(e.to_string(alloc)?),
+fn lists_of_keys_have_their_files(rt: HostRuntime) -> Result<(), Fail> {
+    let mut rest = LISTS;
+    for _ in 0..LISTS.len() {
+        let Some((row, more)) = rest.split_once('\n') else {
+            break;
+        };
+        let (list, wanted) = row.split_once(" => ").ok_or("a row without an answer")?;
+        assert_list(&rt, rt.alloc(), list, wanted)?;
+        rest = more;
     }
+    assert!(rt; rest.is_empty());
+    Ok(())
 }
 
+/// A table of one entry, whose key holds U+0000.
 #[test]
-fn refusals_print_their_reason(rt: HostRuntime) -> Result<(), Fail> {
+fn a_key_with_nul_is_refused(rt: HostRuntime) -> Result<(), Fail> {
     let alloc = rt.alloc();
-    let pair = [("a", "xyz"), ("c", "yz")];
-    let missing = written(alloc, table(alloc, &pair)?, true, &["a"]);
-    let expected = "Unexpected error: key not present in position map";
-    assert_eq!(rt; printed(alloc, missing)?.as_str(), expected);
-    let nul = written(alloc, table(alloc, &[("a\0", "x")])?, true, &["a\0"]);
-    let expected = "Unexpected error: key contains U+0000";
-    assert_eq!(rt; printed(alloc, nul)?.as_str(), expected);
-    let both = written(
-        alloc,
-        table(alloc, &[("a\0", "x"), ("b", "y")])?,
-        true,
-        &["a\0"],
-    );
-    let expected = "Unexpected error: key not present in position map";
-    assert_eq!(rt; printed(alloc, both)?.as_str(), expected);
-    let both = written(
-        alloc,
-        table(alloc, &[("a", "x"), ("b\0", "y")])?,
-        true,
-        &["b\0"],
-    );
-    assert_eq!(rt; printed(alloc, both)?.as_str(), expected);
-    let array = written(alloc, Resource::Array(Vec::new(alloc)), true, &[]);
-    let expected = "Unexpected error: not written yet";
-    assert_eq!(rt; printed(alloc, array)?.as_str(), expected);
+    let mut table: Table = BTreeMap::new(alloc);
+    table.insert(Key::from("a\0"), Resource::Array(Vec::new(alloc)))?;
+    let answer = written(alloc, Resource::Table(table), &[Key::from("a\0")]);
+    let expected = "refused: Unexpected error: key contains U+0000";
+    assert_eq!(rt; told(alloc, answer)?.as_str(), expected);
+    Ok(())
+}
+
+/// The word with this number behind the header.
+fn word(file: &[u8], number: usize) -> Result<u32, Fail> {
+    let (_, rest) = file.split_at_checked(32 + 4 * number).ok_or("short")?;
+    let (bytes, _) = rest.split_at_checked(4).ok_or("short")?;
+    let bytes: [u8; 4] = bytes.try_into()?;
+    Ok(u32::from_le_bytes(bytes))
+}
+
+/// 65536 keys `00000` to `65535`: a table with 32-bit positions, which is read back.
+#[test]
+fn a_table_of_65536_entries(rt: HostRuntime) -> Result<(), Fail> {
+    let alloc = rt.alloc();
+    let mut table: Table = BTreeMap::new(alloc);
+    let mut keys = Vec::new(alloc);
+    for number in 0..65536u32 {
+        let key = format!(in alloc; "{number:05}")?;
+        keys.push(Key::from(key.try_clone(alloc)?))?;
+        table.insert(Key::from(key), Resource::Integer(0u32.into()))?;
+    }
+    let file = written(alloc, Resource::Table(table), &keys)?;
+    let root = word(&file, 0)?;
+    assert_eq!(rt; root >> 28, 4);
+    let body = (root & 0x0fff_ffff) as usize;
+    assert_eq!(rt; word(&file, body)?, 65536);
+    assert_eq!(rt; word(&file, body + 65536)?, 393_242);
+    let Resource::Table(read) = from_bytes(alloc, &file)? else {
+        return Err("no table")?;
+    };
+    assert_eq!(rt; read.len(), 65536);
+    Ok(())
+}
+
+/// A million arrays in one another, and as many tables.
+#[test]
+fn deep_trees_are_written(rt: HostRuntime) -> Result<(), Fail> {
+    let alloc = rt.alloc();
+    let mut arrays = Resource::Array(Vec::new(alloc));
+    let mut tables = Resource::Table(BTreeMap::new(alloc));
+    for _ in 0..1_000_000u32 {
+        arrays = Resource::Array(vec![in alloc; arrays]?);
+        let mut table: Table = BTreeMap::new(alloc);
+        table.insert(Key::from("k"), tables)?;
+        tables = Resource::Table(table);
+    }
+    let file = written(alloc, arrays, &[])?;
+    assert_eq!(rt; file.len(), 68 + 8_000_000);
+    let file = written(alloc, tables, &[Key::from("k")])?;
+    assert_eq!(rt; file.len(), 72 + 8_000_000);
     Ok(())
 }
 
@@ -188,19 +194,12 @@ fn faults_print(rt: HostRuntime) -> Result<(), Fail> {
     let long = BinarySerializerError::string_too_long(5);
     let expected = "Cannot serialize string of length 5, maximum is 4,294,967,295 characters";
     assert_eq!(rt; long.to_string(alloc)?.as_str(), expected);
-    let large = BinarySerializerError::limit("file too large");
-    assert_eq!(rt;
-        large.to_string(alloc)?.as_str(),
-        "Limit exceeded: file too large"
-    );
     let memory = BinarySerializerError::out_of_memory();
     assert_eq!(rt;
         memory.to_string(alloc)?.as_str(),
         "Out of memory: while writing"
     );
     assert!(rt; memory.is_out_of_memory());
-    assert!(rt; !large.is_out_of_memory());
-    let other = BinarySerializerError::unexpected("other");
-    assert_eq!(rt; other.to_string(alloc)?.as_str(), "Unexpected error: other");
+    assert!(rt; !long.is_out_of_memory());
     Ok(())
 }

@@ -16,7 +16,7 @@ header_of : (rest : List ℕ) → header_size (written_header ++ rest) ≡ 32
 unfolding units_of
 header_of rest = refl
 
-body_behind : (rest : List ℕ) → body_of (written_header ++ rest) ≡ rest
+pub body_behind : (rest : List ℕ) → body_of (written_header ++ rest) ≡ rest
 body_behind rest = ap (λ n. drop n (written_header ++ rest)) (header_of rest) ∙ drop_at written_header rest 32 refl
 
 pub record Whole : Type 0 where

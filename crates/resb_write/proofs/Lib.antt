@@ -9,3 +9,4 @@ pub mod Files
 pub mod Refusals
 pub mod Listed
 pub mod Examples
+pub mod OneFile

@@ -15,4 +15,5 @@ pub mod PlainSize
 pub mod Faults
 pub mod WrittenHead
 pub mod Written
+pub mod Laws
 pub mod Inner

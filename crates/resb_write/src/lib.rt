@@ -5,6 +5,7 @@
 mod contents;
 mod file;
 mod key_block;
+pub mod laws;
 mod limits;
 mod serializer;
 

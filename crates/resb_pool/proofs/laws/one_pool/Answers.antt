@@ -1,0 +1,5 @@
+use Rattle.resb_pool.proofs.OnePool.{one_pool}
+use Rattle.resb_pool.proofs.laws.one_pool.Goals as goal
+
+pub returns : goal.returns
+returns c = one_pool

@@ -1,4 +1,5 @@
-//! The drop of a resource by a list of what is still to be dropped, so that no depth of a tree ends the process.
+//! The drop of a resource by a list of what is still to be dropped, so that no depth of a tree ends
+//! the process.
 //! It calls itself only where that list can't grow.
 ghost use Rattle.std.specs.Prelude.{◌≡◌, ◌+◌, ◌*◌, ◌≤◌, [], MatchResult};
 ghost use Rattle.resb_tree.specs.Tree.{no_trees, array, tree_count, entries_count};
@@ -96,7 +97,8 @@ fn drop_table(mut table: Table<'_>) {
 }
 
 #[tactic(auto, using(crate::proofs::DroppingLemmas::insert_count))]
-/// An empty list on the table's allocator, with the child put back at its key. Without memory the child is handed back.
+/// An empty list on the table's allocator, with the child put back at its key. Without memory the
+/// child is handed back.
 fn list_beside<'a>(
     table: &mut Table<'a>,
     key: Key<'a>,
@@ -105,8 +107,10 @@ fn list_beside<'a>(
     requires { get (slice_cmp nat_cmp) table.old key ≡ None }
     ensures list { MatchResult result (λ v. v.items ≡ []) (λ back. tree_of back ≡ tree_of child.entry) }
     ensures table { MatchResult result
-        (λ _. entries_count (entries_view table.new.entries) ≤ entries_count (entries_view table.old.entries) + tree_count (tree_of child.entry))
-        (λ _. entries_count (entries_view table.new.entries) ≤ entries_count (entries_view table.old.entries)) }
+        (λ _. entries_count (entries_view table.new.entries)
+        ≤ entries_count (entries_view table.old.entries) + tree_count (tree_of child.entry))
+        (λ _. entries_count (entries_view table.new.entries)
+        ≤ entries_count (entries_view table.old.entries)) }
 {
     match table.entry(key) {
         Ok(entry) => {

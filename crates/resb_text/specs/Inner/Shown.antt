@@ -5,29 +5,29 @@ use Rattle.resb_tree.specs.View.{tree_of}
 use Rattle.resb_grammar.specs.Items as spec
 use Rattle.resb_text.specs.declared.items.Item.{Item}
 use Rattle.resb_text.specs.declared.items.Member.{Member}
-use Rattle.resb_text.specs.declared.items.Member.TheVariants.{Word, Group}
+use Rattle.resb_text.specs.declared.items.Member.TheVariants as variant
 
 -- a string, or a tree of a group
 pub data Shown : Type 0 where
-  a_word : List ℕ → Bool → Shown
-  a_group : Tree → Bool → Shown
+  string_shown : List ℕ → Bool → Shown
+  group_shown : Tree → Bool → Shown
 
 -- what a member of the code is as a resource
 abbrev pub member_tree : Member → Tree
-member_tree (Word s) = string s.now
-member_tree (Group r) = tree_of r
+member_tree (variant.String s) = string s.now
+member_tree (variant.Group r) = tree_of r
 
 abbrev pub shown_member : Member → Bool → Shown
-shown_member (Word s) f = a_word s.now f
-shown_member (Group r) f = a_group (tree_of r) f
+shown_member (variant.String s) f = string_shown s.now f
+shown_member (variant.Group r) f = group_shown (tree_of r) f
 
 -- what an item of the code shows
 abbrev pub shown : Item → Shown
 shown x = shown_member x.member x.comma
 
 abbrev pub member_shown : spec.Member → Bool → Shown
-member_shown (spec.word s) f = a_word s f
-member_shown (spec.group t ks) f = a_group t f
+member_shown (spec.string_member s) f = string_shown s f
+member_shown (spec.group_member t ks) f = group_shown t f
 
 -- what the grammar's items show, in order of place
 abbrev pub shows : List spec.Item → List Shown
@@ -35,15 +35,15 @@ shows [] = []
 shows (x ∷ xs) = shows xs ++ member_shown x.member x.flag ∷ []
 
 abbrev pub shown_tree : Shown → Tree
-shown_tree (a_word s f) = string s
-shown_tree (a_group t f) = t
+shown_tree (string_shown s f) = string s
+shown_tree (group_shown t f) = t
 
 -- the pairs of a key and the group that follows it; a key may wait at the front
 abbrev pub pairs_after : Option (List ℕ) → List Shown → List (List ℕ × Tree)
 pairs_after waiting [] = []
-pairs_after waiting (a_word s f ∷ xs) = pairs_after (Some s) xs
-pairs_after (Some k) (a_group t f ∷ xs) = (k, t) ∷ pairs_after None xs
-pairs_after None (a_group t f ∷ xs) = pairs_after None xs
+pairs_after waiting (string_shown s f ∷ xs) = pairs_after (Some s) xs
+pairs_after (Some k) (group_shown t f ∷ xs) = (k, t) ∷ pairs_after None xs
+pairs_after None (group_shown t f ∷ xs) = pairs_after None xs
 
 abbrev pub shown_pairs : List Shown → List (List ℕ × Tree)
 shown_pairs xs = pairs_after None xs

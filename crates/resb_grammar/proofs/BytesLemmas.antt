@@ -10,8 +10,8 @@ use Rattle.resb_grammar.specs.Bytes.{is_word, Each, Run}
 pub word_ascii : (b : ℕ) → is_word b ≡ true → b < 128
 word_ascii b h = grind (arith, nat_tests)
 
-pub string_some : (b : ℕ) → is_word b ≡ true → 0 < b
-string_some b h = grind (arith, nat_tests)
+pub word_some : (b : ℕ) → is_word b ≡ true → 0 < b
+word_some b h = grind (arith, nat_tests)
 
 -- a byte other than 0 stands inside the text
 pub there : (text : List ℕ) (i : ℕ) → 0 < get_or text i 0 → i < length text

@@ -4,7 +4,7 @@ use Rattle.std.proofs.lemmas.Str.{IsCharBoundary-before_ascii, IsCharBoundary-af
 use Rattle.std.specs.Str.{IsUtf8, IsCharBoundary}
 use Rattle.resb_grammar.specs.Bytes.{is_word}
 use Rattle.resb_text.specs.Turns.{IsPiece, IsWordPiece, IsQuotedPiece}
-use Rattle.resb_grammar.proofs.BytesLemmas.{word_ascii, string_some, there}
+use Rattle.resb_grammar.proofs.BytesLemmas.{word_ascii, word_some, there}
 
 -- a place after an ASCII byte
 after_byte : (text : List ℕ) (from : ℕ) → IsUtf8 text → 0 < from → 0 < get_or text (from - 1) 0
@@ -28,6 +28,6 @@ pub end_boundary : (text : List ℕ) (from to : ℕ) → IsUtf8 text → IsPiece
 end_boundary text from to u = ⊎_elim
     (λ (w : IsWordPiece text from to).
     let h : is_word (get_or text (to - 1) 0) ≡ true = w.each (to - 1) (omega arith) (omega arith) in
-    after_byte text to u (omega arith) (string_some _ h) (word_ascii _ h))
+    after_byte text to u (omega arith) (word_some _ h) (word_ascii _ h))
     (λ (q : IsQuotedPiece text from to).
     IsCharBoundary-before_ascii text to (there text to (omega arith)) (omega arith))

@@ -72,3 +72,13 @@ inside_less t (inner.List v) h =
 inside_less t (inner.Entries m) h =
     let e : tree_count t ≡ entries_count (entries_view m.entries) + 1 = ap tree_count h in
     omega arith
+
+-- the last entry is one tree more
+pub entries_count_more : (es : List (List ℕ × Resource)) (p : List ℕ × Resource)
+    → entries_count (entries_view (es ++ p ∷ []))
+    ≡ entries_count (entries_view es) + tree_count (tree_of p.1)
+entries_count_more [] p = omega arith
+entries_count_more (e ∷ es) p = omega (arith, entries_count_more es p)
+
+-- what the steps of dropping go by
+pub ruleset drop_steps = (inside_less, items_count_more, entries_count_more)

@@ -35,7 +35,7 @@ impl<'a> MadeWith<Global> for Resource<'a> {
     }
 }
 
-#[tactic(auto, using(crate::proofs::DroppingLemmas::inside_less, crate::proofs::DroppingLemmas::items_count_more))]
+#[tactic(auto, using(crate::proofs::DroppingLemmas::drop_steps))]
 #[cycle(dropping)]
 pub(crate) fn drop_inside(inside: Inside<'_>) {
     match inside {
@@ -45,7 +45,7 @@ pub(crate) fn drop_inside(inside: Inside<'_>) {
     }
 }
 
-#[tactic(auto, using(crate::proofs::DroppingLemmas::inside_less, crate::proofs::DroppingLemmas::items_count_more))]
+#[tactic(auto, using(crate::proofs::DroppingLemmas::drop_steps))]
 #[cycle(dropping)]
 fn drop_all(mut pending: Vec<Resource<'_>>) {
     'pending: while let Some(resource) = pending.pop() {
@@ -60,7 +60,7 @@ fn drop_all(mut pending: Vec<Resource<'_>>) {
                 items.destroy_empty();
             }
             Inside::Entries(mut table) => {
-                'entries: while let Some((_, item)) = table.pop_first() {
+                'entries: while let Some((_, item)) = table.pop_last() {
                     if let Err(refused) = pending.push(item) {
                         drop_inside(refused.value.into_inside());
                     }
@@ -72,16 +72,16 @@ fn drop_all(mut pending: Vec<Resource<'_>>) {
     pending.destroy_empty();
 }
 
-#[tactic(auto, using(crate::proofs::DroppingLemmas::inside_less, crate::proofs::DroppingLemmas::items_count_more))]
+#[tactic(auto, using(crate::proofs::DroppingLemmas::drop_steps))]
 #[cycle(dropping)]
 fn drop_table(mut table: Table<'_>) {
-    let Some((key, first)) = table.pop_first() else {
+    let Some((key, first)) = table.pop_last() else {
         table.destroy_empty();
         return;
     };
     match list_beside(&mut table, key, first) {
         Ok(mut pending) => {
-            'moving: while let Some((_, item)) = table.pop_first() {
+            'moving: while let Some((_, item)) = table.pop_last() {
                 if let Err(refused) = pending.push(item) {
                     drop_inside(refused.value.into_inside());
                 }

@@ -131,7 +131,7 @@ owed c =
 
 abbrev pub is_string_shown : Shown → Bool
 is_string_shown (string_shown s f) = true
-is_string_shown (group_shown t f) = false
+is_string_shown (group_shown t b f) = false
 
 abbrev pub shape_seen : Shape → spec.Shape
 shape_seen (shape.String s) = spec.a_string s.now

@@ -3,6 +3,7 @@ use Rattle.resb_text.specs.Inner.Discovered.{left, without}
 use Rattle.resb_text.specs.Inner.Frames.{Look, left_after}
 use Rattle.resb_text.proofs.FrameLemmas.{closed_ok, closed_string}
 use Rattle.resb_text.proofs.LeafTrees.{tree_of_string}
+use Rattle.resb_text.proofs.BorrowedLemmas.{closed_table, closed_array}
 use Rattle.resb_text.proofs.frames.closed.Goals as goal
 
 pub returns-in-Table-clause-ok : goal.returns-in-Table-clause-ok
@@ -29,3 +30,9 @@ returns-clause-left c = λ n f e.
     c.drop_group-in-String.ensures.left
     ∙ ap (λ k. without k (left c.args.keys.now)) (ap (λ (l : Look). l.number) e)
     ∙ ap (λ sh. left_after sh n (left c.args.keys.now)) (c.in-String.ensures n f e)
+
+pub returns-in-Table-clause-borrowed : goal.returns-in-Table-clause-borrowed
+returns-in-Table-clause-borrowed c = closed_table _ c.args.frame c.table_of.ensures.borrowed
+
+pub returns-in-Array-clause-borrowed : goal.returns-in-Array-clause-borrowed
+returns-in-Array-clause-borrowed c = closed_array _ c.args.frame c.array_of.ensures.borrowed

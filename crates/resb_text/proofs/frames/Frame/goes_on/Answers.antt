@@ -12,6 +12,6 @@ returns-in-String c =
 
 pub returns-then-self : goal.returns-then-self
 returns-then-self c = λ n f m x is.
-    goes_group _ m f.items _ (sym (ap (λ (w : Member). shown_member w false) c.in-Group.is)
+    goes_group _ _ m f.items _ (sym (ap (λ (w : Member). shown_member w false) c.in-Group.is)
     ∙ is) (key_then f.items _ _ (ap (λ (l : Look). l.alternates) x) c.if-self.true
     (c.is_key_place.ensures n f x))

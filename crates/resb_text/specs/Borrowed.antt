@@ -1,5 +1,5 @@
 -- Which strings are slices of the text, so that none of them was copied.
-use Rattle.std.specs.Prelude.{◌≡◌, ℕ, Bool, true, false, ◌&&◌, List, [], ◌∷◌, map}
+use Rattle.std.specs.Prelude.{◌≡◌, Bool, true, false, ◌&&◌, List, [], ◌∷◌, map}
 use Rattle.std.specs.declared.borrow.CowStr.{CowStr}
 use Rattle.std.specs.declared.borrow.CowStr.TheVariants as text
 use Rattle.resb_tree.specs.declared.resource.Resource.{Resource, fold-Resource}

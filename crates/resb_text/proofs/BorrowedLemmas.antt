@@ -17,7 +17,8 @@ use Rattle.resb_text.specs.Inner.Frames.{Look, looks, look_of, layer}
 use Rattle.resb_text.specs.declared.error.TextParserError.{TextParserError}
 use Rattle.resb_text.specs.declared.frames.Frame.{Frame}
 use Rattle.resb_text.specs.Borrowed.{is_slice, all_true, is_borrowed}
-use Rattle.resb_text.specs.Inner.Shown.{Shown, shown, shows, shown_borrowed, entries_borrowed, member_shown}
+use Rattle.resb_text.specs.Inner.Shown.{Shown, shown, shows, shown_borrowed, entries_borrowed}
+use Rattle.resb_text.specs.Inner.Shown.{member_shown}
 
 pub borrowed_string : (s : CowStr Global) → is_borrowed (String s) ≡ is_slice s
 borrowed_string s = search (rules, the_lemmas)

@@ -105,7 +105,7 @@ fn list_beside<'a>(
     child: Resource<'a>,
 ) -> Result<Vec<Resource<'a>>, Resource<'a>>
     requires { get (slice_cmp nat_cmp) table.old key ≡ None }
-    ensures list { MatchResult result (λ v. v.items ≡ []) (λ back. tree_of back ≡ tree_of child.entry) }
+    ensures list { MatchResult result (λ v. v.items ≡ []) (λ r. tree_of r ≡ tree_of child.entry) }
     ensures table { MatchResult result
         (λ _. entries_count (entries_view table.new.entries)
         ≤ entries_count (entries_view table.old.entries) + tree_count (tree_of child.entry))

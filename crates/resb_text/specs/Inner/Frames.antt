@@ -1,5 +1,6 @@
 -- What the code's open groups show of a machine's, and which candidates are theirs.
-use Rattle.std.specs.Prelude.{◌≡◌, ℕ, ◌+◌, ◌<◌, ◌≤◌, Bool, true, false, List, [], ◌∷◌, ◌++◌, map}
+use Rattle.std.specs.Prelude.{◌≡◌, ◌≢◌, ℕ, ◌+◌, ◌<◌, ◌≤◌, Bool, true, false, List, [], ◌∷◌, ◌++◌}
+use Rattle.std.specs.Prelude.{map}
 use Rattle.std.specs.Prelude.{length, Some}
 use Rattle.std.specs.List.{sum_by}
 use Rattle.resb_tree.specs.Tree.{Tree, string, array, table, trees_of, map_of}
@@ -153,3 +154,7 @@ ClosesTo c o (outer ∷ around) =
 abbrev pub TakesComma : Open → machine.Open → Type 0
 TakesComma c o =
     (u : machine.Open) × (machine.with_comma o o.frame.items ≡ Some (machine.inside u)) × Shows c u
+
+-- no other group than this one is dropped now
+abbrev pub OthersStay : ℕ → Keys → Keys → Type 0
+OthersStay n k l = (g : ℕ) → g ≢ n → is_dropped_in l g ≡ is_dropped_in k g

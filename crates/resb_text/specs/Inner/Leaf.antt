@@ -1,5 +1,5 @@
 -- Groups that hold no items, from after their `{` on.
-use Rattle.std.specs.Prelude.{◌≡◌, ◌≢◌, ℕ, ◌+◌, List, slice_index}
+use Rattle.std.specs.Prelude.{◌≡◌, ◌≢◌, ◌⊎◌, ℕ, ◌+◌, List, slice_index}
 use Rattle.resb_grammar.specs.Ascii as ascii
 use Rattle.resb_tree.specs.Tree.{Tree}
 use Rattle.resb_grammar.specs.Tokens.{Skip}
@@ -8,6 +8,7 @@ use Rattle.resb_grammar.specs.Group.{LeafContent}
 use Rattle.resb_grammar.specs.Machine.{Open, begun_as, At}
 use Rattle.resb_grammar.specs.Stuck.{Stuck}
 use Rattle.resb_grammar.specs.declared.expected.Expected.TheVariants as expect
+use Rattle.resb_text.specs.Refusal.{want_of_memory}
 use Rattle.resb_text.specs.declared.error.TextParserError.{TextParserError}
 
 -- `}` stands here, with the discardable text after it
@@ -30,3 +31,7 @@ pub record Leaf (text : List ℕ) (at to : ℕ) (kind : Kind) (tree : Tree) : Ty
 abbrev pub LeafFails : List ℕ → ℕ → Kind → TextParserError → Type 0
 LeafFails text at kind e =
     (o : Open) → At text at (begun_as kind o) → Stuck text e.position e.expected
+
+-- memory was wanted, or a reading gets stuck so
+abbrev pub LeafRefuses : List ℕ → ℕ → Kind → TextParserError → Type 0
+LeafRefuses text at kind e = (e ≡ want_of_memory) ⊎ LeafFails text at kind e

@@ -8,7 +8,7 @@ returns-in-Some-clause-found c =
     quote_found c.args.self.now.text _ c.args.from c.in-Some.n
     (rest_of c.args.self.now.text c.as_bytes.result.now c.args.from
     (c.as_bytes.ensures.value ∙ ap (λ (t : Counted). t.text) c.self.view_is))
-    c.in-Some.ensures.found.1 c.in-Some.ensures.first
+    c.in-Some.ensures.found c.in-Some.ensures.first
 
 pub returns-in-None-clause-none : goal.returns-in-None-clause-none
 returns-in-None-clause-none c =

@@ -1,9 +1,9 @@
 #!/usr/bin/env python3
 """Times the reader of the text form alone, by texts that are refused at their last byte.
 
-    text_kinds.py [BYTES ..]          (10000 100000 1000000 10000000 where none is given)
+    text_kinds.py [--program PATH] [BYTES ..]      (10000 100000 1000000 10000000 where none is given)
 
-Each kind of text is given to the built program on standard input, from a file; the least of five times is
+Each kind of text is given to the built program, or to that of PATH, on standard input, from a file; the least of five times is
 printed in milliseconds, with the growth over the size before and the program's most memory in bytes for each
 byte of the text. Where ICU's genrb is installed it is timed on the same text without the last byte.
 """
@@ -71,7 +71,9 @@ def least(command, given):
 
 def main():
     resource.setrlimit(resource.RLIMIT_CORE, (0, 0))
-    sizes = [int(a) for a in sys.argv[1:]] or [10000, 100000, 1000000, 10000000]
+    words = sys.argv[1:]
+    program = words.pop(words.index('--program') + 1) if '--program' in words else str(PROGRAM)
+    sizes = [int(a) for a in words if a != '--program'] or [10000, 100000, 1000000, 10000000]
     with tempfile.TemporaryDirectory() as work:
         given = os.path.join(work, 'given.txt')
         for kind, make in KINDS.items():
@@ -80,7 +82,7 @@ def main():
                 text = make(size)
                 with open(given, 'w') as file:
                     file.write(text + 'x')
-                took, memory = least([str(PROGRAM)], given)
+                took, memory = least([program], given)
                 growth = '' if before is None else ', growth %.1f' % (took / before)
                 before = took
                 other = ''

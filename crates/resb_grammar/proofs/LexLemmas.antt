@@ -2,27 +2,35 @@
 use Rattle.std.proofs.Common.{◌≡◌, ℕ, Bool, List, refl, sym, ◌∙◌, ap, subst, Some}
 use Rattle.std.specs.Prelude.{slice_index}
 use Rattle.resb_grammar.specs.Types.{Kind}
-use Rattle.resb_grammar.specs.Machine.{Token, Means, a_word, a_number, opening, closing, a_comma, a_type, a_root_type, Body, table_body, array_body, untyped_body, Open, at_start, after_lone_comma, after_number, after_comma, State, start, named, titled, inside, typed, in_string, in_binary, in_integer, filled, in_vector, finished, in_body, next}
-use Rattle.resb_grammar.specs.Inner.Lex.{Mode, neither, numbers, root_types, mode, Class, word_class, number_class, open_class, close_class, comma_class, type_class, root_type_class, class_in, Lex}
-use Rattle.resb_grammar.proofs.Moves.{byte_class, class_word, class_number, none_some, root_colon}
+use Rattle.resb_grammar.specs.Machine.{Token, Means, a_text, a_number, opening, closing, a_comma}
+use Rattle.resb_grammar.specs.Machine.{a_type, a_root_type, Body, table_body, array_body}
+use Rattle.resb_grammar.specs.Machine.{untyped_body, Open, at_start, after_lone_comma, after_number}
+use Rattle.resb_grammar.specs.Machine.{after_comma, State, start, named, titled, inside, typed}
+use Rattle.resb_grammar.specs.Machine.{in_string, in_binary, in_integer, filled, in_vector}
+use Rattle.resb_grammar.specs.Machine.{finished, in_body, next}
+use Rattle.resb_grammar.specs.Inner.Lex.{Mode, neither, numbers, root_types, mode, Class}
+use Rattle.resb_grammar.specs.Inner.Lex.{text_class, number_class, open_class, close_class}
+use Rattle.resb_grammar.specs.Inner.Lex.{comma_class, type_class, root_type_class, class_in, Lex}
+use Rattle.resb_grammar.proofs.Moves.{byte_class, class_text, class_number, none_some, root_colon}
 
-word_mode : (s u : State) (w : List ℕ) → next s (a_word w) ≡ Some u → mode s ≡ neither
-word_mode start u w e = refl
-word_mode (named name) u w e = none_some u e
-word_mode (titled title) u w e = refl
-word_mode (inside o) u w e = refl
-word_mode (typed kind o) u w e = refl
-word_mode (in_string o) u w e = refl
-word_mode (in_binary o) u w e = refl
-word_mode (in_integer o) u w e = none_some u e
-word_mode (filled t o) u w e = refl
-word_mode (in_vector at_start ns o) u w e = none_some u e
-word_mode (in_vector after_lone_comma ns o) u w e = refl
-word_mode (in_vector after_number ns o) u w e = refl
-word_mode (in_vector after_comma ns o) u w e = none_some u e
-word_mode (finished title items) u w e = refl
+text_mode : (s u : State) (w : List ℕ) → next s (a_text w) ≡ Some u → mode s ≡ neither
+text_mode start u w e = refl
+text_mode (named name) u w e = none_some u e
+text_mode (titled title) u w e = refl
+text_mode (inside o) u w e = refl
+text_mode (typed kind o) u w e = refl
+text_mode (in_string o) u w e = refl
+text_mode (in_binary o) u w e = refl
+text_mode (in_integer o) u w e = none_some u e
+text_mode (filled t o) u w e = refl
+text_mode (in_vector at_start ns o) u w e = none_some u e
+text_mode (in_vector after_lone_comma ns o) u w e = refl
+text_mode (in_vector after_number ns o) u w e = refl
+text_mode (in_vector after_comma ns o) u w e = none_some u e
+text_mode (finished title items) u w e = refl
 
-no_number : {A : Type 0} (b : Body) (o : Open) (v : ℕ) (u : State) → in_body b o (a_number v) ≡ Some u → A
+no_number : {A : Type 0} (b : Body) (o : Open) (v : ℕ) (u : State)
+    → in_body b o (a_number v) ≡ Some u → A
 no_number table_body o v u e = none_some u e
 no_number array_body o v u e = none_some u e
 no_number untyped_body o v u e = none_some u e
@@ -59,7 +67,8 @@ type_mode (in_vector after_number ns o) u k e = refl
 type_mode (in_vector after_comma ns o) u k e = none_some u e
 type_mode (finished title items) u k e = refl
 
-no_root_type : {A : Type 0} (b : Body) (o : Open) (f : Bool) (u : State) → in_body b o (a_root_type f) ≡ Some u → A
+no_root_type : {A : Type 0} (b : Body) (o : Open) (f : Bool) (u : State)
+    → in_body b o (a_root_type f) ≡ Some u → A
 no_root_type table_body o f u e = none_some u e
 no_root_type array_body o f u e = none_some u e
 no_root_type untyped_body o f u e = none_some u e
@@ -96,18 +105,51 @@ comma_in numbers = refl
 comma_in root_types = refl
 
 module _ (text : List ℕ) where
-  as_lex : (from to : ℕ) (t : Token) (c k : Class) → c ≡ k → Lex k text from to t → Lex c text from to t
+  as_lex : (from to : ℕ) (t : Token) (c k : Class) → c ≡ k → Lex k text from to t
+      → Lex c text from to t
   as_lex from to t c k e h = subst (λ (x : Class). Lex x text from to t) (sym e) h
 
-  in_mode : (from : ℕ) (m k : Mode) (c : Class) → m ≡ k → class_in k (slice_index text from) ≡ c → class_in m (slice_index text from) ≡ c
+  in_mode : (from : ℕ) (m k : Mode) (c : Class) → m ≡ k → class_in k (slice_index text from) ≡ c
+      → class_in m (slice_index text from) ≡ c
   in_mode from m k c e h = ap (λ (x : Mode). class_in x (slice_index text from)) e ∙ h
 
   -- a token that may stand in this state is of the class that the byte there has
-  pub lex_of : (from to : ℕ) (s u : State) (t : Token) → Means text from to t → next s t ≡ Some u → Lex (class_in (mode s) (slice_index text from)) text from to t
-  lex_of from to s u (a_word w) m e = as_lex from to (a_word w) _ word_class (in_mode from (mode s) neither word_class (word_mode s u w e) (class_word text from to w m)) (w, m, refl)
-  lex_of from to s u (a_number v) m e = as_lex from to (a_number v) _ number_class (in_mode from (mode s) numbers number_class (number_mode s u v e) (class_number text from to v m)) (v, m, refl)
-  lex_of from to s u opening m e = as_lex from to opening _ open_class (byte_class text (mode s) from 123 open_class m.0 (open_in (mode s))) (m.1, refl)
-  lex_of from to s u closing m e = as_lex from to closing _ close_class (byte_class text (mode s) from 125 close_class m.0 (close_in (mode s))) (m.1, refl)
-  lex_of from to s u a_comma m e = as_lex from to a_comma _ comma_class (byte_class text (mode s) from 44 comma_class m.0 (comma_in (mode s))) (m.1, refl)
-  lex_of from to s u (a_type kind) m e = as_lex from to (a_type kind) _ type_class (in_mode from (mode s) neither type_class (type_mode s u kind e) (byte_class text neither from 58 type_class m.stands.colon refl)) (kind, m, refl)
-  lex_of from to s u (a_root_type f) m e = as_lex from to (a_root_type f) _ root_type_class (in_mode from (mode s) root_types root_type_class (root_type_mode s u f e) (byte_class text root_types from 58 root_type_class (root_colon text from to f m) refl)) (f, m, refl)
+  pub lex_of : (from to : ℕ) (s u : State) (t : Token) → Means text from to t → next s t ≡ Some u
+      → Lex (class_in (mode s) (slice_index text from)) text from to t
+  lex_of from to s u (a_text w) m e =
+      as_lex from to (a_text w) _ text_class
+      (in_mode from (mode s) neither text_class (text_mode s u w e) (class_text text from to w m))
+      (w, m, refl)
+  lex_of from to s u (a_number v) m e =
+      as_lex from to (a_number v) _ number_class (in_mode from (mode s) numbers number_class
+      (number_mode s u v e) (class_number text from to v m)) (
+        v,
+        m,
+        refl,
+      )
+  lex_of from to s u opening m e =
+      as_lex from to opening _ open_class
+      (byte_class text (mode s) from 123 open_class m.0 (open_in (mode s))) (m.1, refl)
+  lex_of from to s u closing m e =
+      as_lex from to closing _ close_class
+      (byte_class text (mode s) from 125 close_class m.0 (close_in (mode s))) (m.1, refl)
+  lex_of from to s u a_comma m e =
+      as_lex from to a_comma _ comma_class
+      (byte_class text (mode s) from 44 comma_class m.0 (comma_in (mode s))) (m.1, refl)
+  lex_of from to s u (a_type kind) m e =
+      as_lex from to (a_type kind) _ type_class (in_mode from (mode s) neither type_class
+      (type_mode s u kind e)
+      (byte_class text neither from 58 type_class m.stands.colon refl)) (
+        kind,
+        m,
+        refl,
+      )
+  lex_of from to s u (a_root_type f) m e =
+      as_lex from to (a_root_type f) _ root_type_class
+      (in_mode from (mode s) root_types root_type_class (root_type_mode s u f e)
+      (byte_class text root_types from 58 root_type_class
+      (root_colon text from to f m) refl)) (
+        f,
+        m,
+        refl,
+      )

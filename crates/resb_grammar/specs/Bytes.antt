@@ -1,14 +1,17 @@
 -- Bytes of the text form, and runs of them.
-use Rattle.std.specs.Prelude.{◌≡◌, ℕ, ◌<◌, ◌≤◌, Bool, true, false, ◌||◌, ◌==◌, List, length, slice_index}
+use Rattle.std.specs.Prelude.{◌≡◌, ℕ, ◌<◌, ◌≤◌, Bool, true, false, ◌||◌, ◌==◌, List, length}
+use Rattle.std.specs.Prelude.{slice_index}
 use Rattle.std.specs.Char.{is_ascii_digit, is_ascii_alphanumeric}
+use Rattle.resb_grammar.specs.Ascii as ascii
 
 -- white characters: space, tab, CR, LF
 abbrev pub is_white : ℕ → Bool
-is_white b = (b == 32 || b == 9) || (b == 13 || b == 10)
+is_white b =
+    (b == ascii.space || b == ascii.tab) || (b == ascii.carriage_return || b == ascii.line_feed)
 
 -- word characters: ASCII letters and digits, and the dash
 abbrev pub is_word : ℕ → Bool
-is_word b = is_ascii_alphanumeric b || b == 45
+is_word b = is_ascii_alphanumeric b || b == ascii.dash
 
 -- decimal digits
 abbrev pub is_digit : ℕ → Bool
@@ -16,7 +19,7 @@ is_digit b = is_ascii_digit b
 
 -- a sign or a digit
 abbrev pub is_number_start : ℕ → Bool
-is_number_start b = (b == 43 || b == 45) || is_digit b
+is_number_start b = (b == ascii.plus || b == ascii.dash) || is_digit b
 
 -- each byte from `from` on and before `to` passes
 abbrev pub Each : (ℕ → Bool) → List ℕ → ℕ → ℕ → Type 0
@@ -32,5 +35,5 @@ pub record Run (p : ℕ → Bool) (text : List ℕ) (from to : ℕ) : Type 0 whe
 -- the first quote from here on
 pub record FirstQuote (text : List ℕ) (from to : ℕ) : Type 0 where
   pub order : from ≤ to
-  pub closes : slice_index text to ≡ 34
-  pub inner : (k : ℕ) → from ≤ k → k < to → slice_index text k ≡ 34 → ⊥
+  pub closes : slice_index text to ≡ ascii.quote
+  pub inner : (k : ℕ) → from ≤ k → k < to → slice_index text k ≡ ascii.quote → ⊥

@@ -12,31 +12,48 @@ use Rattle.resb_grammar.specs.declared.expected.Expected.{Expected}
 
 -- a text has at most one name, flag, tree and list of keys
 abbrev pub OneBundleText : Type 0
-OneBundleText = (text name other : List ℕ) (fallback enabled : Bool) (tree root : Tree) (keys ks : List (List ℕ)) → BundleText text name fallback tree keys → BundleText text other enabled root ks
+OneBundleText =
+    (text name other : List ℕ) (fallback enabled : Bool) (tree root : Tree)
+    (keys ks : List (List ℕ))
+    → BundleText text name fallback tree keys → BundleText text other enabled root ks
     → (name ≡ other) × (fallback ≡ enabled) × (tree ≡ root) × (keys ≡ ks)
 
 -- a reading that gets stuck does so at one place, where one thing is expected
 abbrev pub OneRefusal : Type 0
-OneRefusal = (text : List ℕ) (at place : ℕ) (x y : Expected) → Stuck text at x → Stuck text place y → (at ≡ place) × (x ≡ y)
+OneRefusal =
+    (text : List ℕ) (at place : ℕ) (x y : Expected) → Stuck text at x → Stuck text place y
+    → (at ≡ place) × (x ≡ y)
 
 -- a text whose reading gets stuck is no bundle
 abbrev pub StuckIsNoBundle : Type 0
-StuckIsNoBundle = (text : List ℕ) (at : ℕ) (x : Expected) (name : List ℕ) (fallback : Bool) (tree : Tree) (keys : List (List ℕ)) → Stuck text at x → BundleText text name fallback tree keys → ⊥
+StuckIsNoBundle =
+    (text : List ℕ) (at : ℕ) (x : Expected) (name : List ℕ) (fallback : Bool) (tree : Tree)
+    (keys : List (List ℕ))
+    → Stuck text at x → BundleText text name fallback tree keys → ⊥
 
 -- a text whose reading goes on to its end is the bundle of the entries read
 abbrev pub ReadToTheEndIsABundle : Type 0
-ReadToTheEndIsABundle = (text name : List ℕ) (fallback : Bool) (items : List Item) → At text (length text) (finished (record { name = name; fallback = fallback }) items)
+ReadToTheEndIsABundle =
+    (text name : List ℕ) (fallback : Bool) (items : List Item)
+    → At text (length text) (finished (record { name = name; fallback = fallback }) items)
     → BundleText text name fallback (tree_in a_table items) (first_places (keys_in a_table items))
 
 -- the reading of a bundle's text goes on to its end
 abbrev pub ABundleIsReadToTheEnd : Type 0
-ABundleIsReadToTheEnd = (text name : List ℕ) (fallback : Bool) (tree : Tree) (keys : List (List ℕ)) → BundleText text name fallback tree keys
-    → (items : List Item) × At text (length text) (finished (record { name = name; fallback = fallback }) items)
+ABundleIsReadToTheEnd =
+    (text name : List ℕ) (fallback : Bool) (tree : Tree) (keys : List (List ℕ))
+    → BundleText text name fallback tree keys
+    → (items : List Item)
+    × At text (length text) (finished (record { name = name; fallback = fallback }) items)
 
 -- no two discovered keys are equal
 abbrev pub KeysAreDistinct : Type 0
-KeysAreDistinct = (text name : List ℕ) (fallback : Bool) (tree : Tree) (keys : List (List ℕ)) → BundleText text name fallback tree keys → IsDistinct (pointwise nat_eq) keys
+KeysAreDistinct =
+    (text name : List ℕ) (fallback : Bool) (tree : Tree) (keys : List (List ℕ))
+    → BundleText text name fallback tree keys → IsDistinct (pointwise nat_eq) keys
 
 -- each key of a table of a bundle text's tree is among its discovered keys
 abbrev pub KeysAreListed : Type 0
-KeysAreListed = (text name : List ℕ) (fallback : Bool) (t : Tree) (ks : List (List ℕ)) → BundleText text name fallback t ks → (k : List ℕ) → is_key k t ≡ true → Contains ks k
+KeysAreListed =
+    (text name : List ℕ) (fallback : Bool) (t : Tree) (ks : List (List ℕ))
+    → BundleText text name fallback t ks → (k : List ℕ) → is_key k t ≡ true → Contains ks k

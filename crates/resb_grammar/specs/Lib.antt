@@ -1,5 +1,6 @@
 -- The grammar of the text form, its readings, and what the laws say of both. `Inner` has words that
 -- only proofs use.
+pub mod Ascii
 pub mod Bytes
 pub mod Tokens
 pub mod Items

@@ -1,12 +1,19 @@
 -- The state that a token leads to, if it may stand.
-use Rattle.std.specs.Prelude.{ℕ, ◌%◌, ◌^◌, Bool, true, false, List, [], ◌∷◌, ◌++◌, Option, Some, None}
+use Rattle.std.specs.Prelude.{ℕ, ◌%◌, ◌^◌, Bool, true, false, List, [], ◌∷◌, ◌++◌, Option, Some}
+use Rattle.std.specs.Prelude.{None}
 use Rattle.std.specs.Option.{option_map}
 use Rattle.resb_tree.specs.Tree.{Tree, string, binary, integer, int_vector}
-use Rattle.resb_grammar.specs.Items.{Member, word, group, Item, plain, flagged, Shape, a_table, an_array, shape_of, tree_in, keys_in}
-use Rattle.resb_grammar.specs.Types.{Kind, string_kind, array_kind, table_kind, binary_kind, integer_kind, vector_kind}
+use Rattle.resb_grammar.specs.Items.{Member, string_member, group_member, Item, plain, flagged}
+use Rattle.resb_grammar.specs.Items.{Shape, a_table, an_array, shape_of, tree_in, keys_in}
+use Rattle.resb_grammar.specs.Types.{Kind, string_kind, array_kind, table_kind, binary_kind}
+use Rattle.resb_grammar.specs.Types.{integer_kind, vector_kind}
 use Rattle.resb_grammar.specs.Group.{hex_bytes}
-use Rattle.resb_grammar.specs.Token.{Token, a_word, a_number, opening, closing, a_comma, a_type, a_root_type}
-use Rattle.resb_grammar.specs.State.{Body, table_body, array_body, untyped_body, Frame, Title, Open, Place, at_start, after_lone_comma, after_number, after_comma, State, start, named, titled, inside, typed, in_string, in_binary, in_integer, filled, in_vector, finished}
+use Rattle.resb_grammar.specs.Token.{Token, a_text, a_number, opening, closing, a_comma, a_type}
+use Rattle.resb_grammar.specs.Token.{a_root_type}
+use Rattle.resb_grammar.specs.State.{Body, table_body, array_body, untyped_body, Frame, Title, Open}
+use Rattle.resb_grammar.specs.State.{VectorStage, at_start, after_lone_comma, after_number}
+use Rattle.resb_grammar.specs.State.{after_comma, State, start, named, titled, inside, typed}
+use Rattle.resb_grammar.specs.State.{in_string, in_binary, in_integer, filled, in_vector, finished}
 
 -- the shape of a group with this body and these items
 abbrev pub shape_in : Body → List Item → Shape
@@ -16,7 +23,9 @@ shape_in untyped_body items = shape_of items
 
 -- a closed group as a member of the group around it
 abbrev pub closed : Frame → Member
-closed f = group (tree_in (shape_in f.body f.items) f.items) (keys_in (shape_in f.body f.items) f.items)
+closed f =
+    group_member (tree_in (shape_in f.body f.items) f.items)
+    (keys_in (shape_in f.body f.items) f.items)
 
 -- one item more, without a comma
 abbrev pub with_item : Member → Frame → Frame
@@ -41,11 +50,12 @@ within body o = record { title = o.title; frame = new_frame body; around = o.fra
 -- the innermost group is closed
 abbrev pub leave : Title → Frame → List Frame → State
 leave title frame [] = finished title frame.items
-leave title frame (outer ∷ around) = inside (record { title = title; frame = with_item (closed frame) outer; around = around })
+leave title frame (outer ∷ around) =
+    inside (record { title = title; frame = with_item (closed frame) outer; around = around })
 
 abbrev pub is_group : Member → Bool
-is_group (word s) = false
-is_group (group t ks) = true
+is_group (string_member s) = false
+is_group (group_member t ks) = true
 
 -- whether a key may stand after these items of a table body
 abbrev pub is_key_place : List Item → Bool
@@ -63,11 +73,16 @@ unless false s = Some s
 -- a comma after the last item, if there is one without
 abbrev pub with_comma : Open → List Item → Option State
 with_comma o [] = None
-with_comma o (x ∷ xs) = unless x.flag (inside (record { title = o.title; frame = record { body = o.frame.body; items = flagged x.member ∷ xs }; around = o.around }))
+with_comma o (x ∷ xs) =
+    unless x.flag (inside (record {
+      title = o.title;
+      frame = record { body = o.frame.body; items = flagged x.member ∷ xs };
+      around = o.around;
+    }))
 
 -- in a table body: a key or `}`, and after a key a type or `{`
 abbrev pub in_table : Open → Token → Option State
-in_table o (a_word s) = when (is_key_place o.frame.items) (inside (with_member (word s) o))
+in_table o (a_text s) = when (is_key_place o.frame.items) (inside (with_member (string_member s) o))
 in_table o closing = when (is_key_place o.frame.items) (leave o.title o.frame o.around)
 in_table o opening = unless (is_key_place o.frame.items) (inside (within untyped_body o))
 in_table o (a_type kind) = unless (is_key_place o.frame.items) (typed kind o)
@@ -77,7 +92,7 @@ in_table o (a_root_type fallback) = None
 
 -- in an array's body or an untyped group: any item, `}`, and one comma after an item
 abbrev pub in_list : Open → Token → Option State
-in_list o (a_word s) = Some (inside (with_member (word s) o))
+in_list o (a_text s) = Some (inside (with_member (string_member s) o))
 in_list o closing = Some (leave o.title o.frame o.around)
 in_list o opening = Some (inside (within untyped_body o))
 in_list o (a_type kind) = Some (typed kind o)
@@ -101,10 +116,10 @@ begun_as vector_kind o = in_vector at_start [] o
 
 -- a group without keys is closed
 abbrev pub with_leaf : Tree → Open → State
-with_leaf t o = inside (with_member (group t []) o)
+with_leaf t o = inside (with_member (group_member t []) o)
 
 -- in `:intvector{..}`, with the numbers so far
-abbrev pub next_in_vector : Place → List ℕ → Open → Token → Option State
+abbrev pub next_in_vector : VectorStage → List ℕ → Open → Token → Option State
 next_in_vector at_start ns o (a_number v) = Some (in_vector after_number (ns ++ v ∷ []) o)
 next_in_vector at_start ns o a_comma = Some (in_vector after_lone_comma ns o)
 next_in_vector at_start ns o closing = Some (with_leaf (int_vector ns) o)
@@ -117,19 +132,20 @@ next_in_vector _ ns o _ = None
 
 -- the state after a token, if it may stand there
 abbrev pub next : State → Token → Option State
-next start (a_word s) = Some (named s)
+next start (a_text s) = Some (named s)
 next start _ = None
 next (named name) opening = Some (inside (at_root (record { name = name; fallback = true })))
-next (named name) (a_root_type fallback) = Some (titled (record { name = name; fallback = fallback }))
+next (named name) (a_root_type fallback) =
+    Some (titled (record { name = name; fallback = fallback }))
 next (named name) _ = None
 next (titled title) opening = Some (inside (at_root title))
 next (titled title) _ = None
 next (inside o) t = in_body o.frame.body o t
 next (typed kind o) opening = Some (begun_as kind o)
 next (typed kind o) _ = None
-next (in_string o) (a_word s) = Some (filled (string s) o)
+next (in_string o) (a_text s) = Some (filled (string s) o)
 next (in_string o) _ = None
-next (in_binary o) (a_word s) = option_map (λ bytes. filled (binary bytes) o) (hex_bytes s)
+next (in_binary o) (a_text s) = option_map (λ bytes. filled (binary bytes) o) (hex_bytes s)
 next (in_binary o) _ = None
 next (in_integer o) (a_number v) = Some (filled (integer (v % 2 ^ 28)) o)
 next (in_integer o) _ = None

@@ -20,7 +20,8 @@ pub record Step (text : List ℕ) (from : ℕ) (s : State) (to : ℕ) (u : State
 -- n tokens lead to this place and state
 pub data Path (text : List ℕ) : ℕ → ℕ → State → Type 0 where
   begun : (at : ℕ) → Skip text 0 at → Path text 0 at start
-  went : (n from to : ℕ) (s u : State) → Path text n from s → Step text from s to u → Path text (suc n) to u
+  went : (n from to : ℕ) (s u : State) → Path text n from s → Step text from s to u
+      → Path text (suc n) to u
 
 -- a reading comes to this place in this state
 pub record At (text : List ℕ) (at : ℕ) (s : State) : Type 0 where

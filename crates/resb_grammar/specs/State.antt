@@ -27,11 +27,11 @@ pub record Open : Type 0 where
   pub around : List Frame
 
 -- where a reading of `:intvector{..}` stands
-pub data Place : Type 0 where
-  at_start : Place
-  after_lone_comma : Place
-  after_number : Place
-  after_comma : Place
+pub data VectorStage : Type 0 where
+  at_start : VectorStage
+  after_lone_comma : VectorStage
+  after_number : VectorStage
+  after_comma : VectorStage
 
 pub data State : Type 0 where
   start : State
@@ -49,6 +49,6 @@ pub data State : Type 0 where
   in_integer : Open → State
   -- after the content of one of these three
   filled : Tree → Open → State
-  in_vector : Place → List ℕ → Open → State
+  in_vector : VectorStage → List ℕ → Open → State
   -- after the root's `}`
   finished : Title → List Item → State

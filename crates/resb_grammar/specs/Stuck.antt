@@ -1,8 +1,12 @@
 -- Where a reading cannot go on, and what is expected there.
 use Rattle.std.specs.Prelude.{◌≡◌, ℕ, Bool, true, false, ◌==◌, List, length, None, slice_index}
+use Rattle.resb_grammar.specs.Ascii as ascii
 use Rattle.resb_grammar.specs.Tokens.{Text}
 use Rattle.resb_grammar.specs.Group.{hex_bytes}
-use Rattle.resb_grammar.specs.Machine.{Body, table_body, array_body, untyped_body, Open, Place, at_start, after_comma, State, start, named, titled, inside, typed, in_string, in_binary, in_integer, filled, in_vector, finished, is_key_place, Move, At}
+use Rattle.resb_grammar.specs.Machine.{Body, table_body, array_body, untyped_body, Open}
+use Rattle.resb_grammar.specs.Machine.{VectorStage, at_start, after_comma, State, start, named}
+use Rattle.resb_grammar.specs.Machine.{titled, inside, typed, in_string, in_binary, in_integer}
+use Rattle.resb_grammar.specs.Machine.{filled, in_vector, finished, is_key_place, Move, At}
 use Rattle.resb_grammar.specs.Bytes.{is_number_start}
 use Rattle.resb_grammar.specs.declared.expected.Expected.{Expected}
 use Rattle.resb_grammar.specs.declared.expected.Expected.TheVariants as expect
@@ -13,15 +17,16 @@ choose false x y = y
 
 -- where a type or `{` must stand
 abbrev pub expected_brace : ℕ → Expected
-expected_brace b = choose (b == 58) expect.TypeName expect.LeftBrace
+expected_brace b = choose (b == ascii.colon) expect.TypeName expect.LeftBrace
 
 -- where a key or `}` must stand
 abbrev pub expected_key : ℕ → Expected
-expected_key b = choose (b == 34) expect.Text expect.RightBrace
+expected_key b = choose (b == ascii.quote) expect.Text expect.RightBrace
 
 -- where an item may stand
 abbrev pub expected_item : ℕ → Expected
-expected_item b = choose (b == 34) expect.Text (choose (b == 58) expect.TypeName expect.Item)
+expected_item b =
+    choose (b == ascii.quote) expect.Text (choose (b == ascii.colon) expect.TypeName expect.Item)
 
 -- where a number or `}` may stand
 abbrev pub expected_number : ℕ → Expected
@@ -34,7 +39,7 @@ expected_in table_body false b = expected_brace b
 expected_in array_body key b = expected_item b
 expected_in untyped_body key b = expected_item b
 
-abbrev pub expected_in_vector : Place → ℕ → Expected
+abbrev pub expected_in_vector : VectorStage → ℕ → Expected
 expected_in_vector at_start b = expected_number b
 expected_in_vector after_comma b = expected_number b
 expected_in_vector _ b = expect.RightBrace
@@ -77,4 +82,5 @@ pub record IsBlocked (text : List ℕ) (at : ℕ) (s : State) : Type 0 where
 -- a reading gets stuck at this place, where this was expected
 pub data Stuck (text : List ℕ) (at : ℕ) : Expected → Type 0 where
   blocked : (s : State) → IsBlocked text at s → Stuck text at (expected s (slice_index text at))
-  no_pairs : (o : Open) (to : ℕ) (s : List ℕ) → At text at (in_binary o) → Text text at to s → hex_bytes s ≡ None → Stuck text at expect.HexPairs
+  no_pairs : (o : Open) (to : ℕ) (s : List ℕ) → At text at (in_binary o) → Text text at to s
+      → hex_bytes s ≡ None → Stuck text at expect.HexPairs

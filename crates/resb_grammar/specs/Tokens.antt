@@ -1,22 +1,30 @@
 -- What stands between tokens, and the tokens. All are relations on a text and two places.
-use Rattle.std.specs.Prelude.{◌≡◌, ℕ, zero, suc, ◌+◌, ◌-◌, ◌*◌, ◌<◌, ◌≤◌, ◌⊎◌, true, false, ◌||◌, ◌==◌, List, length, slice_index, slice_range}
+use Rattle.std.specs.Prelude.{◌≡◌, ℕ, zero, suc, ◌+◌, ◌-◌, ◌*◌, ◌<◌, ◌≤◌, ◌⊎◌, true, false, ◌||◌}
+use Rattle.std.specs.Prelude.{◌==◌, List, length, slice_index, slice_range}
+use Rattle.resb_grammar.specs.Ascii as ascii
 use Rattle.resb_grammar.specs.Bytes.{is_white, is_word, is_digit, Run, FirstQuote}
 
 -- a line ends here: at the text's end, at LF, or at CR LF
 abbrev pub EndsLine : List ℕ → ℕ → Type 0
-EndsLine text to = (to ≡ length text) ⊎ ((slice_index text to ≡ 10) ⊎ ((slice_index text to ≡ 13) × (slice_index text (to + 1) ≡ 10)))
+EndsLine text to =
+    (to ≡ length text)
+    ⊎ ((slice_index text to ≡ ascii.line_feed)
+    ⊎ ((slice_index text to ≡ ascii.carriage_return)
+    × (slice_index text (to + 1) ≡ ascii.line_feed)))
 
 -- what follows `//` up to the line's end
 pub record LineRest (text : List ℕ) (from to : ℕ) : Type 0 where
   pub order : from ≤ to
   pub fits : to ≤ length text
-  pub body : (k : ℕ) → from ≤ k → k < to → (slice_index text k == 10 || slice_index text k == 13) ≡ false
+  pub body : (k : ℕ) → from ≤ k → k < to
+      → (slice_index text k == ascii.line_feed || slice_index text k == ascii.carriage_return) ≡
+      false
   pub ends : EndsLine text to
 
 -- `*/` stands here
 pub record Closer (text : List ℕ) (at : ℕ) : Type 0 where
-  pub star : slice_index text at ≡ 42
-  pub slash : slice_index text (at + 1) ≡ 47
+  pub star : slice_index text at ≡ ascii.star
+  pub slash : slice_index text (at + 1) ≡ ascii.slash
 
 -- the first `*/` from here on
 pub record FirstCloser (text : List ℕ) (from at : ℕ) : Type 0 where
@@ -26,13 +34,16 @@ pub record FirstCloser (text : List ℕ) (from at : ℕ) : Type 0 where
 
 -- a comment
 pub data Comment (text : List ℕ) (from to : ℕ) : Type 0 where
-  line : slice_index text from ≡ 47 → slice_index text (from + 1) ≡ 47 → LineRest text (from + 2) to → Comment text from to
-  block : (at : ℕ) → slice_index text from ≡ 47 → slice_index text (from + 1) ≡ 42 → FirstCloser text (from + 2) at → to ≡ at + 2 → Comment text from to
+  line : slice_index text from ≡ ascii.slash → slice_index text (from + 1) ≡ ascii.slash
+      → LineRest text (from + 2) to → Comment text from to
+  block : (at : ℕ) → slice_index text from ≡ ascii.slash → slice_index text (from + 1) ≡ ascii.star
+      → FirstCloser text (from + 2) at → to ≡ at + 2 → Comment text from to
 
 -- white characters and comments
 pub data Blanks (text : List ℕ) : ℕ → ℕ → Type 0 where
   none : (i : ℕ) → Blanks text i i
-  white : (i to : ℕ) → is_white (slice_index text i) ≡ true → Blanks text (i + 1) to → Blanks text i to
+  white : (i to : ℕ) → is_white (slice_index text i) ≡ true → Blanks text (i + 1) to
+      → Blanks text i to
   comment : (i k to : ℕ) → Comment text i k → Blanks text k to → Blanks text i to
 
 -- neither a white character nor a comment begins here
@@ -47,19 +58,22 @@ pub record Skip (text : List ℕ) (from to : ℕ) : Type 0 where
 
 -- a string, with its bytes
 pub data Text (text : List ℕ) (from to : ℕ) (bytes : List ℕ) : Type 0 where
-  quoted : (last : ℕ) → slice_index text from ≡ 34 → FirstQuote text (from + 1) last → to ≡ last + 1 → bytes ≡ slice_range text (from + 1) last → Text text from to bytes
-  word : Run is_word text from to → from < to → bytes ≡ slice_range text from to → Text text from to bytes
+  quoted : (last : ℕ) → slice_index text from ≡ ascii.quote → FirstQuote text (from + 1) last
+      → to ≡ last + 1 → bytes ≡ slice_range text (from + 1) last → Text text from to bytes
+  unquoted : Run is_word text from to → from < to → bytes ≡ slice_range text from to
+      → Text text from to bytes
 
 -- the number that the first n digits from a place say
-abbrev pub decimal : List ℕ → ℕ → ℕ → ℕ
-decimal text from zero = 0
-decimal text from (suc n) = decimal text from n * 10 + (slice_index text (from + n) - 48)
+abbrev pub digits_value : List ℕ → ℕ → ℕ → ℕ
+digits_value text from zero = 0
+digits_value text from (suc n) =
+    digits_value text from n * 10 + (slice_index text (from + n) - ascii.digit_0)
 
 -- a longest run of at least one digit, with its value
 pub record Digits (text : List ℕ) (from to value : ℕ) : Type 0 where
   pub run : Run is_digit text from to
   pub some : from < to
-  pub means : value ≡ decimal text from (to - from)
+  pub means : value ≡ digits_value text from (to - from)
 
 -- what is minus n, modulo 2 ^ 32
 abbrev pub negated : ℕ → ℕ
@@ -68,6 +82,8 @@ negated (suc n) = 4294967295 - n
 
 -- a number, with its value
 pub data Number (text : List ℕ) (from to value : ℕ) : Type 0 where
-  plain : Digits text from to value → value ≤ 4294967295 → Number text from to value
-  plus : slice_index text from ≡ 43 → Digits text (from + 1) to value → value ≤ 2147483647 → Number text from to value
-  minus : (n : ℕ) → slice_index text from ≡ 45 → Digits text (from + 1) to n → n ≤ 2147483648 → value ≡ negated n → Number text from to value
+  unsigned : Digits text from to value → value ≤ 4294967295 → Number text from to value
+  plus : slice_index text from ≡ ascii.plus → Digits text (from + 1) to value → value ≤ 2147483647
+      → Number text from to value
+  minus : (n : ℕ) → slice_index text from ≡ ascii.dash → Digits text (from + 1) to n
+      → n ≤ 2147483648 → value ≡ negated n → Number text from to value

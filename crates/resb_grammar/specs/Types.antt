@@ -1,5 +1,7 @@
 -- Types of groups, as a text names them.
-use Rattle.std.specs.Prelude.{◌≡◌, ℕ, ◌+◌, ◌⊎◌, Bool, true, false, List, [], ◌∷◌, Some, slice_get, slice_index, slice_range, codes}
+use Rattle.std.specs.Prelude.{◌≡◌, ℕ, ◌+◌, ◌⊎◌, Bool, true, false, List, [], ◌∷◌, Some, slice_get}
+use Rattle.std.specs.Prelude.{slice_index, slice_range, codes}
+use Rattle.resb_grammar.specs.Ascii as ascii
 use Rattle.resb_grammar.specs.Bytes.{is_word, Run}
 use Rattle.resb_grammar.specs.Tokens.{Skip}
 
@@ -12,7 +14,7 @@ pub data Kind : Type 0 where
   integer_kind : Kind
   vector_kind : Kind
 
--- the word names this type
+-- this is a name of the type
 abbrev pub Names : List ℕ → Kind → Type 0
 Names w string_kind = w ≡ codes "string"
 Names w array_kind = w ≡ codes "array"
@@ -21,17 +23,17 @@ Names w binary_kind = (w ≡ codes "binary") ⊎ (w ≡ codes "bin")
 Names w integer_kind = (w ≡ codes "integer") ⊎ (w ≡ codes "int")
 Names w vector_kind = w ≡ codes "intvector"
 
--- `:` directly followed by a word, after which no word character stands
-pub record TypeWord (text : List ℕ) (from to : ℕ) (word : List ℕ) : Type 0 where
-  pub colon : slice_index text from ≡ 58
+-- `:` directly followed by a name, after which no word character stands
+pub record TypeName (text : List ℕ) (from to : ℕ) (name : List ℕ) : Type 0 where
+  pub colon : slice_index text from ≡ ascii.colon
   pub run : Run is_word text (from + 1) to
-  pub means : word ≡ slice_range text (from + 1) to
+  pub means : name ≡ slice_range text (from + 1) to
 
 -- a type
 pub record GroupType (text : List ℕ) (from to : ℕ) (kind : Kind) : Type 0 where
-  pub word : List ℕ
-  pub stands : TypeWord text from to word
-  pub names : Names word kind
+  pub name : List ℕ
+  pub stands : TypeName text from to name
+  pub names : Names name kind
 
 -- a type, its `{`, and the discardable text around that
 pub record Head (text : List ℕ) (from : ℕ) (kind : Kind) (to : ℕ) : Type 0 where
@@ -39,7 +41,7 @@ pub record Head (text : List ℕ) (from : ℕ) (kind : Kind) (to : ℕ) : Type 0
   pub brace : ℕ
   pub named : GroupType text from ends kind
   pub between : Skip text ends brace
-  pub opens : slice_index text brace ≡ 123
+  pub opens : slice_index text brace ≡ ascii.left_brace
   pub after : Skip text (brace + 1) to
 
 -- these bytes stand here
@@ -53,5 +55,7 @@ NoFallback text at = Stands text at (codes "(nofallback)")
 
 -- the root's type, as far as it goes, and whether fallback stays on
 pub data RootType (text : List ℕ) (from to : ℕ) : Bool → Type 0 where
-  table_type : TypeWord text from to (codes "table") → (NoFallback text to → ⊥) → RootType text from to true
-  no_fallback_type : (i : ℕ) → TypeWord text from i (codes "table") → NoFallback text i → to ≡ i + 12 → RootType text from to false
+  table_type : TypeName text from to (codes "table") → (NoFallback text to → ⊥)
+      → RootType text from to true
+  no_fallback_type : (i : ℕ) → TypeName text from i (codes "table") → NoFallback text i
+      → to ≡ i + 12 → RootType text from to false

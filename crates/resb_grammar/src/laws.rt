@@ -1,6 +1,8 @@
 //! Laws of the text form, each the contract of a function that does nothing.
 //! They speak of the definitions alone; what a reader answers is said where one stands.
-ghost use Rattle.resb_grammar.specs.Laws.{OneBundleText, OneRefusal, StuckIsNoBundle, ReadToTheEndIsABundle, ABundleIsReadToTheEnd, KeysAreDistinct, KeysAreListed};
+ghost use Rattle.resb_grammar.specs.Laws.{OneBundleText, OneRefusal, StuckIsNoBundle};
+ghost use Rattle.resb_grammar.specs.Laws.{ReadToTheEndIsABundle, ABundleIsReadToTheEnd};
+ghost use Rattle.resb_grammar.specs.Laws.{KeysAreDistinct, KeysAreListed};
 
 /// A text has at most one name, flag, tree and list of keys.
 pub fn one_bundle_text()

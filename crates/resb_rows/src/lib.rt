@@ -15,10 +15,6 @@ mod read_rows;
 #[cfg(test)]
 mod read_type_rows;
 #[cfg(test)]
-mod text_rows;
-#[cfg(test)]
-mod tree_rows;
-#[cfg(test)]
 mod way_rows;
 #[cfg(test)]
 mod write_rows;

@@ -1,11 +1,14 @@
 -- What stands before the root's items: where it leads to, and where it is refused.
-use Rattle.std.proofs.Common.{◌≡◌, ◌≢◌, ℕ, ◌+◌, Bool, true, false, List, refl, sym, ◌∙◌, ap, subst, arith, Some, inl, inr, ⊎_elim}
+use Rattle.std.proofs.Common.{◌≡◌, ◌≢◌, ℕ, ◌+◌, Bool, true, false, List, refl, sym, ◌∙◌, ap, subst}
+use Rattle.std.proofs.Common.{arith, Some, inl, inr, ⊎_elim}
 use Rattle.std.specs.Prelude.{◌⊎◌, ◌==◌, slice_index}
 use Rattle.std.proofs.lemmas.Bool.Decides.{nat_tests}
+use Rattle.resb_grammar.specs.Ascii as ascii
 use Rattle.resb_grammar.specs.Tokens.{Skip, Text}
 use Rattle.resb_grammar.specs.Types.{RootType}
 use Rattle.resb_grammar.specs.BundleText.{Typing, without, with, Header}
-use Rattle.resb_grammar.specs.Machine.{Token, a_word, a_number, opening, closing, a_comma, a_type, a_root_type, State, start, named, titled, next, At}
+use Rattle.resb_grammar.specs.Machine.{Token, a_text, a_number, opening, closing, a_comma, a_type}
+use Rattle.resb_grammar.specs.Machine.{a_root_type, State, start, named, titled, next, At}
 use Rattle.resb_grammar.specs.Stuck.{choose, expected, NoToken, Stuck, blocked}
 use Rattle.resb_text.specs.Refusal.{want_of_memory}
 use Rattle.resb_text.specs.Answer.{Fails, IsNoBundle}
@@ -23,16 +26,23 @@ error_at at x = record { position = at; expected = x }
 
 module _ (text : List ℕ) where
   -- no token stands there, and this was expected
-  stuck_in : (at : ℕ) (s : State) (x : Expected) → At text at s → NoToken text at s → ((h : Rattle.resb_grammar.specs.Stuck.IsEnd text at s) → ⊥) → ((h : Rattle.resb_grammar.specs.Stuck.HasDigits text at s) → ⊥) → x ≡ expected s (slice_index text at) → Stuck text at x
+  stuck_in : (at : ℕ) (s : State) (x : Expected) → At text at s → NoToken text at s
+      → ((h : Rattle.resb_grammar.specs.Stuck.IsEnd text at s) → ⊥)
+      → ((h : Rattle.resb_grammar.specs.Stuck.HasDigits text at s) → ⊥)
+      → x ≡ expected s (slice_index text at) → Stuck text at x
   stuck_in at s x reached none no_end no_digits is =
-      subst (λ (y : Expected). Stuck text at y) (sym is) (blocked s (record { reached = reached; none = none; no_end = no_end; no_digits = no_digits }))
+      subst (λ (y : Expected). Stuck text at y) (sym is) (blocked s
+      (record { reached = reached; none = none; no_end = no_end; no_digits = no_digits }))
 
   -- the text begins with no name
-  pub no_name : (at : ℕ) → Skip text 0 at → ((to : ℕ) (s : List ℕ) → Text text at to s → ⊥) → Fails text (error_at at expect.Text)
-  no_name at skip never = inr (stuck_in at start expect.Text (begin text at skip) (λ to u x. go to u x.token (move_means text at to start u x) x.moves) (λ h. h) (λ h. h) refl)
+  pub no_name : (at : ℕ) → Skip text 0 at → ((to : ℕ) (s : List ℕ) → Text text at to s → ⊥)
+      → Fails text (error_at at expect.Text)
+  no_name at skip never =
+      inr (stuck_in at start expect.Text (begin text at skip)
+      (λ to u x. go to u x.token (move_means text at to start u x) x.moves) (λ h. h) (λ h. h) refl)
     where
       go : (to : ℕ) (u : State) (t : Token) → Means text at to t → next start t ≡ Some u → ⊥
-      go to u (a_word s) m e = never to s m
+      go to u (a_text s) m e = never to s m
       go to u (a_number v) m e = none_some u e
       go to u opening m e = none_some u e
       go to u closing m e = none_some u e
@@ -40,62 +50,93 @@ module _ (text : List ℕ) where
       go to u (a_type kind) m e = none_some u e
       go to u (a_root_type fallback) m e = none_some u e
 
-  pub typing_refused : (at ends to : ℕ) (name : List ℕ) (e : TextParserError) → Skip text 0 at → Text text at ends name → Skip text ends to → TypingFails text to e → Fails text e
-  typing_refused at ends to name e skip t skip' fails = inr (fails name (name_read text at ends to name skip t skip'))
+  pub typing_refused : (at ends to : ℕ) (name : List ℕ) (e : TextParserError) → Skip text 0 at
+      → Text text at ends name → Skip text ends to → TypingFails text to e → Fails text e
+  typing_refused at ends to name e skip t skip' fails =
+      inr (fails name (name_read text at ends to name skip t skip'))
 
   -- no type of a root after a `:`
-  pub no_root_type : (at : ℕ) → slice_index text at ≡ 58 → ((to : ℕ) (fallback : Bool) → RootType text at to fallback → ⊥) → TypingFails text at (error_at at expect.TypeName)
+  pub no_root_type : (at : ℕ) → slice_index text at ≡ ascii.colon
+      → ((to : ℕ) (fallback : Bool) → RootType text at to fallback → ⊥)
+      → TypingFails text at (error_at at expect.TypeName)
   no_root_type at colon never name reached =
-      stuck_in at (named name) expect.TypeName reached (λ to u m. go to u m.token (move_means text at to (named name) u m) m.moves) (λ h. h) (λ h. h)
+      stuck_in at (named name) expect.TypeName reached
+      (λ to u m. go to u m.token (move_means text at to (named name) u m) m.moves) (λ h. h)
+      (λ h. h)
       (sym (ap (λ b. expected (named name) b) colon))
     where
       go : (to : ℕ) (u : State) (t : Token) → Means text at to t → next (named name) t ≡ Some u → ⊥
       go to u opening m e = let n = m.0 in absurd (omega (arith, n, colon))
       go to u (a_root_type fallback) m e = never to fallback m
-      go to u (a_word s) m e = none_some u e
+      go to u (a_text s) m e = none_some u e
       go to u (a_number v) m e = none_some u e
       go to u closing m e = none_some u e
       go to u a_comma m e = none_some u e
       go to u (a_type kind) m e = none_some u e
 
-  brace_expected : (b : ℕ) → b ≢ 58 → expect.LeftBrace ≡ choose (b == 58) expect.TypeName expect.LeftBrace
-  brace_expected b ne = let no : (b == 58) ≡ false = grind (arith, nat_tests) in sym (ap (λ k. choose k expect.TypeName expect.LeftBrace) no)
+  brace_expected : (b : ℕ) → b ≢ ascii.colon
+      → expect.LeftBrace ≡ choose (b == ascii.colon) expect.TypeName expect.LeftBrace
+  brace_expected b ne =
+      let no : (b == ascii.colon) ≡ false = grind (arith, nat_tests) in
+      sym (ap (λ k. choose k expect.TypeName expect.LeftBrace) no)
 
   -- no `{` where one must stand
-  pub no_open : (name : List ℕ) (place brace : ℕ) (f : Bool) → At text place (named name) → Typing text place brace f → (brace ≡ place → slice_index text place ≢ 58) → slice_index text brace ≢ 123 → Fails text (error_at brace expect.LeftBrace)
+  pub no_open : (name : List ℕ) (place brace : ℕ) (f : Bool) → At text place (named name)
+      → Typing text place brace f → (brace ≡ place → slice_index text place ≢ ascii.colon)
+      → slice_index text brace ≢ ascii.left_brace → Fails text (error_at brace expect.LeftBrace)
   no_open name place brace true reached (without e) plain never =
-      inr (stuck_in brace (named name) expect.LeftBrace (subst (λ n. At text n (named name)) e reached) (λ to u m. go to u m.token (move_means text brace to (named name) u m) m.moves) (λ h. h) (λ h. h)
-      (brace_expected (slice_index text brace) (subst (λ n. slice_index text n ≢ 58) e (plain (sym e)))))
+      inr (stuck_in brace (named name) expect.LeftBrace
+      (subst (λ n. At text n (named name)) e reached)
+      (λ to u m. go to u m.token (move_means text brace to (named name) u m) m.moves) (λ h. h)
+      (λ h. h)
+      (brace_expected (slice_index text brace)
+      (subst (λ n. slice_index text n ≢ ascii.colon) e (plain (sym e)))))
     where
-      colon_free : slice_index text brace ≢ 58
-      colon_free = subst (λ n. slice_index text n ≢ 58) e (plain (sym e))
+      colon_free : slice_index text brace ≢ ascii.colon
+      colon_free = subst (λ n. slice_index text n ≢ ascii.colon) e (plain (sym e))
 
-      go : (to : ℕ) (u : State) (t : Token) → Means text brace to t → next (named name) t ≡ Some u → ⊥
+      go : (to : ℕ) (u : State) (t : Token) → Means text brace to t → next (named name) t ≡ Some u
+          → ⊥
       go to u opening m h = never m.0
       go to u (a_root_type fallback) m h = colon_free (root_colon text brace to fallback m)
-      go to u (a_word s) m h = none_some u h
+      go to u (a_text s) m h = none_some u h
       go to u (a_number v) m h = none_some u h
       go to u closing m h = none_some u h
       go to u a_comma m h = none_some u h
       go to u (a_type kind) m h = none_some u h
   no_open name place brace f reached (with i _ t skip) plain never =
-      inr (stuck_in brace (titled (record { name = name; fallback = f })) expect.LeftBrace (typed_name text name place i brace f t skip reached) (λ to u m. go to u m.token (move_means text brace to (titled (record { name = name; fallback = f })) u m) m.moves) (λ h. h) (λ h. h) refl)
+      inr (stuck_in brace (titled (record {
+        name = name;
+        fallback = f;
+      })) expect.LeftBrace (typed_name text name place i brace f t skip reached)
+      (λ to u m. go to u m.token
+      (move_means text brace to (titled (record {
+        name = name;
+        fallback = f;
+      })) u m) m.moves) (λ h. h) (λ h. h) refl)
     where
-      go : (to : ℕ) (u : State) (t : Token) → Means text brace to t → next (titled (record { name = name; fallback = f })) t ≡ Some u → ⊥
+      go : (to : ℕ) (u : State) (t : Token) → Means text brace to t
+          → next (titled (record { name = name; fallback = f })) t ≡ Some u → ⊥
       go to u opening m h = never m.0
       go to u (a_root_type fallback) m h = none_some u h
-      go to u (a_word s) m h = none_some u h
+      go to u (a_text s) m h = none_some u h
       go to u (a_number v) m h = none_some u h
       go to u closing m h = none_some u h
       go to u a_comma m h = none_some u h
       go to u (a_type kind) m h = none_some u h
 
   -- no `/` stands where a type of the root, or `{`, does
-  pub typing_first : (place brace : ℕ) (f : Bool) → Typing text place brace f → slice_index text brace ≡ 123 → slice_index text place ≢ 47
-  typing_first place brace true (without e) b h = let n : slice_index text place ≡ 123 = ap (slice_index text) e ∙ b in omega (arith, n, h)
-  typing_first place brace f (with i _ t skip) b h = let n = root_colon text place i f t in omega (arith, n, h)
+  pub typing_first : (place brace : ℕ) (f : Bool) → Typing text place brace f
+      → slice_index text brace ≡ ascii.left_brace → slice_index text place ≢ ascii.slash
+  typing_first place brace true (without e) b h =
+      let n : slice_index text place ≡ ascii.left_brace = ap (slice_index text) e ∙ b in
+      omega (arith, n, h)
+  typing_first place brace f (with i _ t skip) b h =
+      let n = root_colon text place i f t in omega (arith, n, h)
 
-  pub header_ok : (at ends place brace to : ℕ) (name : List ℕ) (f : Bool) → Skip text 0 at → Text text at ends name → Skip text ends place → Typing text place brace f → slice_index text brace ≡ 123 → Skip text (brace + 1) to → Header text name f to
+  pub header_ok : (at ends place brace to : ℕ) (name : List ℕ) (f : Bool) → Skip text 0 at
+      → Text text at ends name → Skip text ends place → Typing text place brace f
+      → slice_index text brace ≡ ascii.left_brace → Skip text (brace + 1) to → Header text name f to
   header_ok at ends place brace to name f skip t skip' typed b skip'' = record {
     start = at;
     ends = ends;
@@ -110,5 +151,8 @@ module _ (text : List ℕ) where
   }
 
   -- what fails for another reason than memory is no bundle
-  pub fails_no_bundle : (e : TextParserError) → Fails text e → (e ≡ want_of_memory) ⊎ IsNoBundle text
-  fails_no_bundle e h = ⊎_elim (λ (m : e ≡ want_of_memory). inl m) (λ (s : Stuck text e.position e.expected). inr (stuck_none text e.position e.expected s)) h
+  pub fails_no_bundle : (e : TextParserError) → Fails text e
+      → (e ≡ want_of_memory) ⊎ IsNoBundle text
+  fails_no_bundle e h =
+      ⊎_elim (λ (m : e ≡ want_of_memory). inl m)
+      (λ (s : Stuck text e.position e.expected). inr (stuck_none text e.position e.expected s)) h

@@ -5,7 +5,8 @@ use Rattle.std.specs.declared.borrow.CowStr.{CowStr}
 use Rattle.std.specs.declared.borrow.CowSlice.{CowSlice}
 use Rattle.resb_tree.specs.Tree.{string, binary, integer, int_vector}
 use Rattle.resb_tree.specs.View.{tree_of}
-use Rattle.resb_tree.specs.declared.resource.Resource.{String, Binary, Integer, IntVector, the_lemmas}
+use Rattle.resb_tree.specs.declared.resource.Resource.{String, Binary, Integer, IntVector}
+use Rattle.resb_tree.specs.declared.resource.Resource.{the_lemmas}
 
 pub tree_of_string : (s : CowStr Global) → tree_of (String s) ≡ string (cow_str_bytes s)
 tree_of_string s = search (rules, the_lemmas)

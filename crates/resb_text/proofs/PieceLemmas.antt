@@ -7,12 +7,15 @@ use Rattle.resb_text.specs.Turns.{IsPiece, IsWordPiece, IsQuotedPiece}
 use Rattle.resb_grammar.proofs.BytesLemmas.{word_ascii, word_some, there}
 
 -- a place after an ASCII byte
-after_byte : (text : List ℕ) (from : ℕ) → IsUtf8 text → 0 < from → 0 < get_or text (from - 1) 0 → get_or text (from - 1) 0 < 128 → IsCharBoundary text from
+after_byte : (text : List ℕ) (from : ℕ) → IsUtf8 text → 0 < from → 0 < get_or text (from - 1) 0
+    → get_or text (from - 1) 0 < 128 → IsCharBoundary text from
 after_byte text from u p h l =
     let e : from - 1 + 1 ≡ from = omega arith in
-    subst (λ i. IsCharBoundary text i) e (IsCharBoundary-after_ascii text (from - 1) u (there text (from - 1) h) l)
+    subst (λ i. IsCharBoundary text i) e
+    (IsCharBoundary-after_ascii text (from - 1) u (there text (from - 1) h) l)
 
-pub start_boundary : (text : List ℕ) (from to : ℕ) → IsUtf8 text → IsPiece text from to → IsCharBoundary text from
+pub start_boundary : (text : List ℕ) (from to : ℕ) → IsUtf8 text → IsPiece text from to
+    → IsCharBoundary text from
 start_boundary text from to u = ⊎_elim
     (λ (w : IsWordPiece text from to).
     let h : is_word (get_or text from 0) ≡ true = w.each from (omega arith) w.order in
@@ -20,7 +23,8 @@ start_boundary text from to u = ⊎_elim
     (λ (q : IsQuotedPiece text from to).
     after_byte text from u q.order (omega arith) (omega arith))
 
-pub end_boundary : (text : List ℕ) (from to : ℕ) → IsUtf8 text → IsPiece text from to → IsCharBoundary text to
+pub end_boundary : (text : List ℕ) (from to : ℕ) → IsUtf8 text → IsPiece text from to
+    → IsCharBoundary text to
 end_boundary text from to u = ⊎_elim
     (λ (w : IsWordPiece text from to).
     let h : is_word (get_or text (to - 1) 0) ≡ true = w.each (to - 1) (omega arith) (omega arith) in

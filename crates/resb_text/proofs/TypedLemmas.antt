@@ -1,13 +1,18 @@
 -- Typed groups among the items of an open group.
-use Rattle.std.proofs.Common.{◌≡◌, ◌≢◌, ℕ, ◌+◌, Bool, true, false, List, [], refl, sym, ◌∙◌, ap, subst, arith, Some, inl, inr, ⊎_elim}
+use Rattle.std.proofs.Common.{◌≡◌, ◌≢◌, ℕ, ◌+◌, Bool, true, false, List, [], refl, sym, ◌∙◌, ap}
+use Rattle.std.proofs.Common.{subst, arith, Some, inl, inr, ⊎_elim}
 use Rattle.std.specs.Prelude.{◌⊎◌, not, slice_index}
 use Rattle.std.proofs.lemmas.Bool.{false≢true}
+use Rattle.resb_grammar.specs.Ascii as ascii
 use Rattle.resb_tree.specs.Tree.{Tree}
 use Rattle.resb_grammar.specs.Tokens.{Skip}
 use Rattle.resb_grammar.specs.Types.{Kind, array_kind, table_kind, GroupType, Head}
-use Rattle.resb_grammar.specs.Items.{Item, group}
+use Rattle.resb_grammar.specs.Items.{Item, group_member}
 use Rattle.resb_grammar.specs.Machine as machine
-use Rattle.resb_grammar.specs.Machine.{Body, table_body, array_body, untyped_body, Token, a_word, a_number, opening, closing, a_comma, a_type, a_root_type, State, inside, typed, with_member, within, is_key_place, in_body, next, At}
+use Rattle.resb_grammar.specs.Machine.{Body, table_body, array_body, untyped_body, Token, a_text}
+use Rattle.resb_grammar.specs.Machine.{a_number, opening, closing, a_comma, a_type, a_root_type}
+use Rattle.resb_grammar.specs.Machine.{State, inside, typed, with_member, within, is_key_place}
+use Rattle.resb_grammar.specs.Machine.{in_body, next, At}
 use Rattle.resb_grammar.specs.Inner.Lex.{neither, type_class}
 use Rattle.resb_grammar.specs.Stuck.{expected, expected_in, Stuck, blocked}
 use Rattle.resb_text.specs.Inner.Leaf.{Leaf, LeafFails}
@@ -33,13 +38,15 @@ may_open table_body xs h = go (is_key_place xs) h
 may_open array_body xs h = tt
 may_open untyped_body xs h = tt
 
-colon_expected : (b : Body) (k : Bool) → takes_group b k ≡ true → expect.TypeName ≡ expected_in b k 58
+colon_expected : (b : Body) (k : Bool) → takes_group b k ≡ true
+    → expect.TypeName ≡ expected_in b k 58
 colon_expected table_body true h = absurd (false≢true h)
 colon_expected table_body false h = refl
 colon_expected array_body k h = refl
 colon_expected untyped_body k h = refl
 
-no_type_token : {A : Type 0} (b : Body) (o : machine.Open) (kind : Kind) (u : State) → takes_group b (is_key_place o.frame.items) ≡ false → in_body b o (a_type kind) ≡ Some u → A
+no_type_token : {A : Type 0} (b : Body) (o : machine.Open) (kind : Kind) (u : State)
+    → takes_group b (is_key_place o.frame.items) ≡ false → in_body b o (a_type kind) ≡ Some u → A
 no_type_token table_body o kind u h e = go (is_key_place o.frame.items) h e
   where
     go : {A : Type 0} (k : Bool) → not k ≡ false → machine.unless k (typed kind o) ≡ Some u → A
@@ -50,9 +57,12 @@ no_type_token untyped_body o kind u h e = absurd (false≢true (sym h))
 
 module _ (text : List ℕ) where
   -- what a colon begins, if anything
-  only_types : (o : machine.Open) (at to : ℕ) (u : State) (t : Token) → slice_index text at ≡ 58 → ((kind : Kind) → GroupType text at to kind → in_body o.frame.body o (a_type kind) ≡ Some u → ⊥)
+  only_types : (o : machine.Open) (at to : ℕ) (u : State) (t : Token)
+      → slice_index text at ≡ ascii.colon
+      → ((kind : Kind) → GroupType text at to kind → in_body o.frame.body o (a_type kind) ≡ Some u
+      → ⊥)
       → Means text at to t → in_body o.frame.body o t ≡ Some u → ⊥
-  only_types o at to u (a_word s) colon never m e = no_text_colon text at to s m colon
+  only_types o at to u (a_text s) colon never m e = no_text_colon text at to s m colon
   only_types o at to u (a_number n) colon never m e = no_number o.frame.body o n u e
   only_types o at to u opening colon never m e = let n = m.0 in absurd (omega (arith, n, colon))
   only_types o at to u closing colon never m e = let n = m.0 in absurd (omega (arith, n, colon))
@@ -61,58 +71,103 @@ module _ (text : List ℕ) where
   only_types o at to u (a_root_type f) colon never m e = no_root_type o.frame.body o f u e
 
   -- no type stands here
-  pub no_type : (at : ℕ) → slice_index text at ≡ 58 → ((to : ℕ) (kind : Kind) → GroupType text at to kind → ⊥) → HeadFails text at (error_at at expect.TypeName)
+  pub no_type : (at : ℕ) → slice_index text at ≡ ascii.colon
+      → ((to : ℕ) (kind : Kind) → GroupType text at to kind → ⊥)
+      → HeadFails text at (error_at at expect.TypeName)
   no_type at colon never o may reached =
       subst (λ (y : Expected). Stuck text at y) (sym same)
-      (blocked (inside o) (record { reached = reached; none = λ to u m. only_types o at to u m.token colon (λ kind g h. never to kind g) (move_means text at to (inside o) u m) m.moves; no_end = λ h. h; no_digits = λ h. h }))
+      (blocked (inside o) (record {
+        reached = reached;
+        none = λ to u m. only_types o at to u m.token colon (λ kind g h. never to kind g)
+            (move_means text at to (inside o) u m) m.moves;
+        no_end = λ h. h;
+        no_digits = λ h. h;
+      }))
     where
       same : expect.TypeName ≡ expected (inside o) (slice_index text at)
-      same = colon_expected o.frame.body (is_key_place o.frame.items) may ∙ sym (ap (expected_in o.frame.body (is_key_place o.frame.items)) colon)
+      same =
+          colon_expected o.frame.body (is_key_place o.frame.items) may
+          ∙ sym (ap (expected_in o.frame.body (is_key_place o.frame.items)) colon)
 
   -- no `{` after a type
-  pub no_type_brace : (at ends brace : ℕ) (kind : Kind) → GroupType text at ends kind → Skip text ends brace → slice_index text brace ≢ 123 → HeadFails text at (error_at brace expect.LeftBrace)
+  pub no_type_brace : (at ends brace : ℕ) (kind : Kind) → GroupType text at ends kind
+      → Skip text ends brace → slice_index text brace ≢ ascii.left_brace
+      → HeadFails text at (error_at brace expect.LeftBrace)
   no_type_brace at ends brace kind g skip never o may reached =
-      blocked (typed kind o) (record { reached = there; none = λ to u m. go to u m.token (move_means text brace to (typed kind o) u m) m.moves; no_end = λ h. h; no_digits = λ h. h })
+      blocked (typed kind o) (record {
+        reached = there;
+        none = λ to u m. go to u m.token (move_means text brace to (typed kind o) u m) m.moves;
+        no_end = λ h. h;
+        no_digits = λ h. h;
+      })
     where
       there : At text brace (typed kind o)
-      there = further text at ends brace (inside o) (typed kind o) (a_type kind) type_class reached (byte_class text neither at 58 type_class g.stands.colon refl) (kind, g, refl)
-          (type_next o.title o.frame.body o.frame.items o.around kind (may_open o.frame.body o.frame.items may)) skip
+      there =
+          further text at ends brace (inside o) (typed kind o) (a_type kind) type_class reached
+          (byte_class text neither at 58 type_class g.stands.colon refl) (kind, g, refl)
+          (type_next o.title o.frame.body o.frame.items o.around kind
+          (may_open o.frame.body o.frame.items may)) skip
 
-      go : (to : ℕ) (u : State) (t : Token) → Means text brace to t → next (typed kind o) t ≡ Some u → ⊥
+      go : (to : ℕ) (u : State) (t : Token) → Means text brace to t → next (typed kind o) t ≡ Some u
+          → ⊥
       go to u opening m e = never m.0
-      go to u (a_word s) m e = none_some u e
+      go to u (a_text s) m e = none_some u e
       go to u (a_number v) m e = none_some u e
       go to u closing m e = none_some u e
       go to u a_comma m e = none_some u e
       go to u (a_type k) m e = none_some u e
       go to u (a_root_type fallback) m e = none_some u e
 
-  pub head_read : (at ends brace to : ℕ) (kind : Kind) → GroupType text at ends kind → Skip text ends brace → slice_index text brace ≡ 123 → Skip text (brace + 1) to → Head text at kind to
-  head_read at ends brace to kind g skip b skip' = record { ends = ends; brace = brace; named = g; between = skip; opens = b; after = skip' }
+  pub head_read : (at ends brace to : ℕ) (kind : Kind) → GroupType text at ends kind
+      → Skip text ends brace → slice_index text brace ≡ ascii.left_brace → Skip text (brace + 1) to
+      → Head text at kind to
+  head_read at ends brace to kind g skip b skip' =
+      record { ends = ends; brace = brace; named = g; between = skip; opens = b; after = skip' }
 
   -- a typed group may stand here
-  pub may_stand : (c : Open) (at : ℕ) (key b : Bool) → (x : Among text at c) → ((o : machine.Open) → Shows c o → key ≡ is_key_place o.frame.items) → b ≡ takes_group (body_of c.frame.body) key → b ≡ true
+  pub may_stand : (c : Open) (at : ℕ) (key b : Bool) → (x : Among text at c)
+      → ((o : machine.Open) → Shows c o → key ≡ is_key_place o.frame.items)
+      → b ≡ takes_group (body_of c.frame.body) key → b ≡ true
       → takes_group x.open_groups.frame.body (is_key_place x.open_groups.frame.items) ≡ true
   may_stand c at key b x place takes is =
-      sym (ap (λ k. takes_group k (is_key_place x.open_groups.frame.items)) (body_same c x.open_groups x.shows)) ∙ sym (ap (takes_group (body_of c.frame.body)) (place x.open_groups x.shows)) ∙ sym takes ∙ is
+      sym (ap (λ k. takes_group k (is_key_place x.open_groups.frame.items))
+      (body_same c x.open_groups x.shows))
+      ∙ sym (ap (takes_group (body_of c.frame.body)) (place x.open_groups x.shows)) ∙ sym takes
+      ∙ is
 
   -- no type may stand here
-  pub type_refused : (c : Open) (at b : ℕ) (key may : Bool) (e : Expected) → (x : Among text at c) → ((o : machine.Open) → Shows c o → key ≡ is_key_place o.frame.items) → b ≡ slice_index text at → b ≡ 58 → e ≡ expected_in (body_of c.frame.body) key b
+  pub type_refused : (c : Open) (at b : ℕ) (key may : Bool) (e : Expected) → (x : Among text at c)
+      → ((o : machine.Open) → Shows c o → key ≡ is_key_place o.frame.items)
+      → b ≡ slice_index text at → b ≡ ascii.colon → e ≡ expected_in (body_of c.frame.body) key b
       → may ≡ takes_group (body_of c.frame.body) key → may ≡ false → Fails text (error_at at e)
   type_refused c at b key may e x place byte colon is takes refused =
       stuck_here text c at b key e x place byte is
-      (λ to u m. only_types x.open_groups at to u m.token (sym byte ∙ colon) (λ kind g h. no_type_token x.open_groups.frame.body x.open_groups kind u out h) (move_means text at to (inside x.open_groups) u m) m.moves)
+      (λ to u m. only_types x.open_groups at to u m.token (sym byte ∙ colon)
+      (λ kind g h. no_type_token x.open_groups.frame.body x.open_groups kind u out h)
+      (move_means text at to (inside x.open_groups) u m) m.moves)
     where
       out : takes_group x.open_groups.frame.body (is_key_place x.open_groups.frame.items) ≡ false
-      out = sym (ap (λ k. takes_group k (is_key_place x.open_groups.frame.items)) (body_same c x.open_groups x.shows)) ∙ sym (ap (takes_group (body_of c.frame.body)) (place x.open_groups x.shows)) ∙ sym takes ∙ refused
+      out =
+          sym (ap (λ k. takes_group k (is_key_place x.open_groups.frame.items))
+          (body_same c x.open_groups x.shows))
+          ∙ sym (ap (takes_group (body_of c.frame.body)) (place x.open_groups x.shows)) ∙ sym takes
+          ∙ refused
 
-  begun : (o : machine.Open) (at first : ℕ) (kind : Kind) → takes_group o.frame.body (is_key_place o.frame.items) ≡ true → At text at (inside o) → Head text at kind first → At text first (machine.begun_as kind o)
-  begun o at first kind may reached head = run_head text at first kind o.title o.frame.body o.frame.items o.around head (may_open o.frame.body o.frame.items may) reached
+  begun : (o : machine.Open) (at first : ℕ) (kind : Kind)
+      → takes_group o.frame.body (is_key_place o.frame.items) ≡ true → At text at (inside o)
+      → Head text at kind first → At text first (machine.begun_as kind o)
+  begun o at first kind may reached head =
+      run_head text at first kind o.title o.frame.body o.frame.items o.around head
+      (may_open o.frame.body o.frame.items may) reached
 
-  pub head_refused : (c : Open) (at : ℕ) (e : TextParserError) → (x : Among text at c) → takes_group x.open_groups.frame.body (is_key_place x.open_groups.frame.items) ≡ true → HeadFails text at e → Fails text e
+  pub head_refused : (c : Open) (at : ℕ) (e : TextParserError) → (x : Among text at c)
+      → takes_group x.open_groups.frame.body (is_key_place x.open_groups.frame.items) ≡ true
+      → HeadFails text at e → Fails text e
   head_refused c at e x may fails = inr (fails x.open_groups may x.reached)
 
-  pub array_opened : (c d : Open) (at first : ℕ) → (x : Among text at c) → takes_group x.open_groups.frame.body (is_key_place x.open_groups.frame.items) ≡ true → Head text at array_kind first
+  pub array_opened : (c d : Open) (at first : ℕ) → (x : Among text at c)
+      → takes_group x.open_groups.frame.body (is_key_place x.open_groups.frame.items) ≡ true
+      → Head text at array_kind first
       → ((o : machine.Open) → Shows c o → Shows d (within array_body o)) → Among text first d
   array_opened c d at first x may head then = record {
     open_groups = within array_body x.open_groups;
@@ -120,7 +175,9 @@ module _ (text : List ℕ) where
     reached = begun x.open_groups at first array_kind may x.reached head;
   }
 
-  pub table_opened : (c d : Open) (at first : ℕ) → (x : Among text at c) → takes_group x.open_groups.frame.body (is_key_place x.open_groups.frame.items) ≡ true → Head text at table_kind first
+  pub table_opened : (c d : Open) (at first : ℕ) → (x : Among text at c)
+      → takes_group x.open_groups.frame.body (is_key_place x.open_groups.frame.items) ≡ true
+      → Head text at table_kind first
       → ((o : machine.Open) → Shows c o → Shows d (within table_body o)) → Among text first d
   table_opened c d at first x may head then = record {
     open_groups = within table_body x.open_groups;
@@ -128,15 +185,24 @@ module _ (text : List ℕ) where
     reached = begun x.open_groups at first table_kind may x.reached head;
   }
 
-  pub leaf_refused : (c : Open) (at first : ℕ) (kind : Kind) (e : TextParserError) → (x : Among text at c) → takes_group x.open_groups.frame.body (is_key_place x.open_groups.frame.items) ≡ true → Head text at kind first
+  pub leaf_refused : (c : Open) (at first : ℕ) (kind : Kind) (e : TextParserError)
+      → (x : Among text at c)
+      → takes_group x.open_groups.frame.body (is_key_place x.open_groups.frame.items) ≡ true
+      → Head text at kind first
       → (e ≡ want_of_memory) ⊎ LeafFails text first kind e → Fails text e
   leaf_refused c at first kind e x may head fails =
-      ⊎_elim (λ (h : e ≡ want_of_memory). inl h) (λ (h : LeafFails text first kind e). inr (h x.open_groups (begun x.open_groups at first kind may x.reached head))) fails
+      ⊎_elim (λ (h : e ≡ want_of_memory). inl h) (λ (h : LeafFails text first kind e). inr
+      (h x.open_groups (begun x.open_groups at first kind may x.reached head))) fails
 
-  pub leaf_added : (c d : Open) (at first next : ℕ) (kind : Kind) (t : Tree) → (x : Among text at c) → takes_group x.open_groups.frame.body (is_key_place x.open_groups.frame.items) ≡ true → Head text at kind first → Leaf text first next kind t
-      → ((o : machine.Open) → Shows c o → Shows d (with_member (group t []) o)) → Among text next d
+  pub leaf_added : (c d : Open) (at first next : ℕ) (kind : Kind) (t : Tree) → (x : Among text at c)
+      → takes_group x.open_groups.frame.body (is_key_place x.open_groups.frame.items) ≡ true
+      → Head text at kind first → Leaf text first next kind t
+      → ((o : machine.Open) → Shows c o → Shows d (with_member (group_member t []) o))
+      → Among text next d
   leaf_added c d at first next kind t x may head leaf then = record {
-    open_groups = with_member (group t []) x.open_groups;
+    open_groups = with_member (group_member t []) x.open_groups;
     shows = then x.open_groups x.shows;
-    reached = run_content text first leaf.ends next kind t x.open_groups leaf.content (begun x.open_groups at first kind may x.reached head) leaf.closes.brace leaf.closes.after;
+    reached =
+        run_content text first leaf.ends next kind t x.open_groups leaf.content
+        (begun x.open_groups at first kind may x.reached head) leaf.closes.brace leaf.closes.after;
   }

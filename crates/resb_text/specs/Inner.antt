@@ -1,4 +1,5 @@
 -- Words of private functions.
+pub mod Runs
 pub mod TypeNames
 pub mod Leaf
 pub mod Shown

@@ -1,7 +1,8 @@
 -- The test whether two trees are equal.
 use Rattle.std.specs.Prelude.{Bool, true, false, ◌&&◌, nat_eq}
 use Rattle.std.specs.Cmp.Lexicographic.{pointwise}
-use Rattle.resb_tree.specs.Tree.{Tree, string, array, table, binary, integer, int_vector, Trees, no_trees, more_trees, Entries, no_entries, entry}
+use Rattle.resb_tree.specs.Tree.{Tree, string, array, table, binary, integer, int_vector, Trees}
+use Rattle.resb_tree.specs.Tree.{no_trees, more_trees, Entries, no_entries, entry}
 
 abbrev mutual
   pub tree_eq : Tree → Tree → Bool
@@ -28,4 +29,5 @@ abbrev mutual
   entries_eq no_entries no_entries = true
   entries_eq no_entries (entry l u fs) = false
   entries_eq (entry k t es) no_entries = false
-  entries_eq (entry k t es) (entry l u fs) = (pointwise nat_eq k l && tree_eq t u) && entries_eq es fs
+  entries_eq (entry k t es) (entry l u fs) =
+      (pointwise nat_eq k l && tree_eq t u) && entries_eq es fs

@@ -1,5 +1,6 @@
--- The words of the contracts: trees, what a resource stands for, bundles, tables as finite maps, the
--- keys of a tree, 28-bit integers and the laws of these. `Inner` has words of private functions.
+-- The words of the contracts: trees, what a resource stands for, bundles, tables as finite maps,
+-- the keys of a tree, 28-bit integers and the laws of these. `Inner` has words of private
+-- functions.
 pub mod Tree
 pub mod Equality
 pub mod View

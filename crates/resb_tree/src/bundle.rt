@@ -16,7 +16,7 @@ pub struct ResourceBundle<'a> {
 }
 
 impl<'a> ResourceBundle<'a> {
-    ghost use Rattle.resb_tree.specs.Bundle.{name_of, root_of};
+    ghost use Rattle.resb_tree.specs.Bundle.{name_of, root_of, name_part, root_part};
     ghost use Rattle.resb_tree.specs.View.{tree_of};
 
     /// A bundle of this name, root and flag.
@@ -27,6 +27,8 @@ impl<'a> ResourceBundle<'a> {
     ) -> ResourceBundle<'a>
         ensures name { name_of result ≡ cow_str_bytes name.entry }
         ensures root { root_of result ≡ tree_of root.entry }
+        ensures name_part { name_part result ≡ name.entry }
+        ensures root_part { root_part result ≡ root.entry }
         ensures fallback { result.is_locale_fallback_enabled ≡ is_locale_fallback_enabled }
     {
         ResourceBundle {

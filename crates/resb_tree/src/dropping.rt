@@ -1,4 +1,5 @@
-//! The drop of a resource by a list of what is still to be dropped, so that no depth of a tree ends the process.
+//! The drop of a resource by a list of what is still to be dropped, so that no depth of a tree ends
+//! the process.
 //! It calls itself only where that list can't grow.
 ghost use Rattle.std.specs.Prelude.{◌≡◌, ◌+◌, ◌*◌, ◌≤◌, [], MatchResult};
 ghost use Rattle.resb_tree.specs.Tree.{no_trees, array, tree_count, entries_count};
@@ -34,7 +35,7 @@ impl<'a> MadeWith<Global> for Resource<'a> {
     }
 }
 
-#[tactic(auto, using(crate::proofs::DroppingLemmas::inside_less, crate::proofs::DroppingLemmas::items_count_more))]
+#[tactic(auto, using(crate::proofs::DroppingLemmas::drop_steps))]
 #[cycle(dropping)]
 pub(crate) fn drop_inside(inside: Inside<'_>) {
     match inside {
@@ -44,7 +45,7 @@ pub(crate) fn drop_inside(inside: Inside<'_>) {
     }
 }
 
-#[tactic(auto, using(crate::proofs::DroppingLemmas::inside_less, crate::proofs::DroppingLemmas::items_count_more))]
+#[tactic(auto, using(crate::proofs::DroppingLemmas::drop_steps))]
 #[cycle(dropping)]
 fn drop_all(mut pending: Vec<Resource<'_>>) {
     'pending: while let Some(resource) = pending.pop() {
@@ -59,7 +60,7 @@ fn drop_all(mut pending: Vec<Resource<'_>>) {
                 items.destroy_empty();
             }
             Inside::Entries(mut table) => {
-                'entries: while let Some((_, item)) = table.pop_first() {
+                'entries: while let Some((_, item)) = table.pop_last() {
                     if let Err(refused) = pending.push(item) {
                         drop_inside(refused.value.into_inside());
                     }
@@ -71,16 +72,16 @@ fn drop_all(mut pending: Vec<Resource<'_>>) {
     pending.destroy_empty();
 }
 
-#[tactic(auto, using(crate::proofs::DroppingLemmas::inside_less, crate::proofs::DroppingLemmas::items_count_more))]
+#[tactic(auto, using(crate::proofs::DroppingLemmas::drop_steps))]
 #[cycle(dropping)]
 fn drop_table(mut table: Table<'_>) {
-    let Some((key, first)) = table.pop_first() else {
+    let Some((key, first)) = table.pop_last() else {
         table.destroy_empty();
         return;
     };
     match list_beside(&mut table, key, first) {
         Ok(mut pending) => {
-            'moving: while let Some((_, item)) = table.pop_first() {
+            'moving: while let Some((_, item)) = table.pop_last() {
                 if let Err(refused) = pending.push(item) {
                     drop_inside(refused.value.into_inside());
                 }
@@ -96,17 +97,20 @@ fn drop_table(mut table: Table<'_>) {
 }
 
 #[tactic(auto, using(crate::proofs::DroppingLemmas::insert_count))]
-/// An empty list on the table's allocator, with the child put back at its key. Without memory the child is handed back.
+/// An empty list on the table's allocator, with the child put back at its key. Without memory the
+/// child is handed back.
 fn list_beside<'a>(
     table: &mut Table<'a>,
     key: Key<'a>,
     child: Resource<'a>,
 ) -> Result<Vec<Resource<'a>>, Resource<'a>>
     requires { get (slice_cmp nat_cmp) table.old key ≡ None }
-    ensures list { MatchResult result (λ v. v.items ≡ []) (λ back. tree_of back ≡ tree_of child.entry) }
+    ensures list { MatchResult result (λ v. v.items ≡ []) (λ r. tree_of r ≡ tree_of child.entry) }
     ensures table { MatchResult result
-        (λ _. entries_count (entries_view table.new.entries) ≤ entries_count (entries_view table.old.entries) + tree_count (tree_of child.entry))
-        (λ _. entries_count (entries_view table.new.entries) ≤ entries_count (entries_view table.old.entries)) }
+        (λ _. entries_count (entries_view table.new.entries)
+        ≤ entries_count (entries_view table.old.entries) + tree_count (tree_of child.entry))
+        (λ _. entries_count (entries_view table.new.entries)
+        ≤ entries_count (entries_view table.old.entries)) }
 {
     match table.entry(key) {
         Ok(entry) => {

@@ -1,7 +1,9 @@
 //! Laws of trees and integers, each the contract of a call that does nothing.
-ghost use Rattle.resb_tree.specs.Laws.{PutIsFound, PutKeepsOrder, MapsAreTheirAnswers, IntegersSurvive};
+ghost use Rattle.resb_tree.specs.Laws.{PutIsFound, PutKeepsOrder, MapsAreTheirAnswers};
+ghost use Rattle.resb_tree.specs.Laws.{IntegersSurvive};
 
-/// A table is a finite map: what is put at a key is found there and nowhere else, and equal answers are equal tables.
+/// A table is a finite map: what is put at a key is found there and nowhere else, and equal answers
+/// are equal tables.
 pub fn tables_are_finite_maps()
     ensures found { PutIsFound }
     ensures ordered { PutKeepsOrder }

@@ -1,10 +1,10 @@
 -- Items that may go on to be a table's.
 use Rattle.std.specs.Prelude.{Bool, true, false, List, [], ◌∷◌}
-use Rattle.resb_grammar.specs.Items.{Member, word, group, Item, is_pairs}
+use Rattle.resb_grammar.specs.Items.{Member, string_member, group_member, Item, is_pairs}
 
 -- a key without its group
 abbrev pub is_key : Member → Bool → List Item → Bool
-is_key (word s) false xs = is_pairs xs
+is_key (string_member s) false xs = is_pairs xs
 is_key _ _ xs = false
 
 abbrev pub key_first : List Item → Bool
@@ -12,8 +12,8 @@ key_first [] = false
 key_first (y ∷ ys) = is_key y.member y.flag ys
 
 abbrev pub is_half : Member → Bool → List Item → Bool
-is_half (word s) false xs = is_pairs xs
-is_half (group t ks) false xs = key_first xs
+is_half (string_member s) false xs = is_pairs xs
+is_half (group_member t ks) false xs = key_first xs
 is_half _ _ xs = false
 
 -- entries, and perhaps a key without its group

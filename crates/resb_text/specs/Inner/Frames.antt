@@ -1,13 +1,17 @@
 -- What the code's open groups show of a machine's, and which candidates are theirs.
-use Rattle.std.specs.Prelude.{◌≡◌, ℕ, ◌+◌, ◌<◌, ◌≤◌, Bool, true, false, List, [], ◌∷◌, ◌++◌, map, length, Some}
+use Rattle.std.specs.Prelude.{◌≡◌, ◌≢◌, ℕ, ◌+◌, ◌<◌, ◌≤◌, Bool, true, false, List, [], ◌∷◌, ◌++◌}
+use Rattle.std.specs.Prelude.{map}
+use Rattle.std.specs.Prelude.{length, Some}
 use Rattle.std.specs.List.{sum_by}
 use Rattle.resb_tree.specs.Tree.{Tree, string, array, table, trees_of, map_of}
 use Rattle.resb_grammar.specs.Items as spec
 use Rattle.resb_grammar.specs.Items.{is_pairs, table_keys, array_keys}
 use Rattle.resb_grammar.specs.Inner.Half.{half as is_half}
 use Rattle.resb_grammar.specs.Machine as machine
-use Rattle.resb_text.specs.Inner.Shown.{Shown, a_word, a_group, shown, shows, shown_tree, shown_pairs}
-use Rattle.resb_text.specs.Inner.Discovered.{Numbered, without, texts, left, groups, candidates, is_dropped_in}
+use Rattle.resb_text.specs.Inner.Shown.{Shown, string_shown, group_shown, shown, shows, shown_tree}
+use Rattle.resb_text.specs.Inner.Shown.{shown_pairs}
+use Rattle.resb_text.specs.Inner.Discovered.{Numbered, without, texts, left, groups, candidates}
+use Rattle.resb_text.specs.Inner.Discovered.{is_dropped_in}
 use Rattle.resb_text.specs.declared.discovered.Keys.{Keys}
 use Rattle.resb_text.specs.declared.frames.Body.{Body}
 use Rattle.resb_text.specs.declared.frames.Body.TheVariants as body
@@ -48,14 +52,26 @@ pub record Layer : Type 0 where
 pub record Look : Type 0 where
   pub body : machine.Body
   pub items : List Shown
-  pub in_turn : Bool
+  pub alternates : Bool
   pub number : ℕ
 
 abbrev pub looks : Frame → Look
-looks f = record { body = body_of f.body; items = map shown f.items.items; in_turn = f.in_turn; number = f.number }
+looks f =
+    record {
+      body = body_of f.body;
+      items = map shown f.items.items;
+      alternates = f.alternates;
+      number = f.number;
+    }
 
 abbrev pub look_of : Layer → Look
-look_of g = record { body = g.frame.body; items = shows g.frame.items; in_turn = is_half g.frame.items; number = g.number }
+look_of g =
+    record {
+      body = g.frame.body;
+      items = shows g.frame.items;
+      alternates = is_half g.frame.items;
+      number = g.number;
+    }
 
 -- groups from the innermost on, as the code lists them: the innermost last
 abbrev pub looks_of : List Layer → List Look
@@ -77,12 +93,15 @@ pub record IsFrom (g : Layer) (own : List Numbered) : Type 0 where
 -- the candidates of the open groups, the innermost one's last
 pub data Holds : List Layer → List Numbered → Type 0 where
   none : Holds [] []
-  one_more : (g : Layer) (gs : List Layer) (before own cs : List Numbered) → Holds gs before → ((h : ℕ) → g.number ≤ h → without h before ≡ before) → IsFrom g own → cs ≡ before ++ own → Holds (g ∷ gs) cs
+  one_more : (g : Layer) (gs : List Layer) (before own cs : List Numbered) → Holds gs before
+      → ((h : ℕ) → g.number ≤ h → without h before ≡ before) → IsFrom g own → cs ≡ before ++ own
+      → Holds (g ∷ gs) cs
 
 -- numbers fall from the innermost group on, and none was dropped
 abbrev pub AreOpen : Keys → ℕ → List Layer → Type 0
 AreOpen k limit [] = Unit {0}
-AreOpen k limit (g ∷ gs) = (g.number < limit) × (is_dropped_in k g.number ≡ false) × AreOpen k g.number gs
+AreOpen k limit (g ∷ gs) =
+    (g.number < limit) × (is_dropped_in k g.number ≡ false) × AreOpen k g.number gs
 
 abbrev pub frames_in : List Layer → List machine.Frame
 frames_in gs = map (λ g. g.frame) gs
@@ -107,11 +126,13 @@ IsOpen c = (o : machine.Open) × Shows c o
 
 -- the turns that are still owed: one for each item of an open group, and one for each candidate
 abbrev pub owed : Open → ℕ
-owed c = length c.frame.items.items + sum_by (λ f. length f.items.items) c.around.items + candidates c.keys
+owed c =
+    length c.frame.items.items + sum_by
+    (λ f. length f.items.items) c.around.items + candidates c.keys
 
-abbrev pub is_word_shown : Shown → Bool
-is_word_shown (a_word s f) = true
-is_word_shown (a_group t f) = false
+abbrev pub is_string_shown : Shown → Bool
+is_string_shown (string_shown s f) = true
+is_string_shown (group_shown t b f) = false
 
 abbrev pub shape_seen : Shape → spec.Shape
 shape_seen (shape.String s) = spec.a_string s.now
@@ -125,8 +146,15 @@ IsTableWhole f = f.body ≡ machine.table_body → is_pairs f.items ≡ true
 -- the innermost group is closed, among these groups around it
 abbrev pub ClosesTo : Open → machine.Open → List machine.Frame → Type 0
 ClosesTo c o [] = Unit {0}
-ClosesTo c o (outer ∷ around) = Shows c (record { title = o.title; frame = machine.with_item (machine.closed o.frame) outer; around = around })
+ClosesTo c o (outer ∷ around) =
+    Shows c (record
+    { title = o.title; frame = machine.with_item (machine.closed o.frame) outer; around = around })
 
 -- a comma follows the last item now
 abbrev pub TakesComma : Open → machine.Open → Type 0
-TakesComma c o = (u : machine.Open) × (machine.with_comma o o.frame.items ≡ Some (machine.inside u)) × Shows c u
+TakesComma c o =
+    (u : machine.Open) × (machine.with_comma o o.frame.items ≡ Some (machine.inside u)) × Shows c u
+
+-- no other group than this one is dropped now
+abbrev pub OthersStay : ℕ → Keys → Keys → Type 0
+OthersStay n k l = (g : ℕ) → g ≢ n → is_dropped_in l g ≡ is_dropped_in k g

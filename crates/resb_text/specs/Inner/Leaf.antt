@@ -1,30 +1,37 @@
 -- Groups that hold no items, from after their `{` on.
-use Rattle.std.specs.Prelude.{◌≡◌, ◌≢◌, ℕ, ◌+◌, List, slice_index}
+use Rattle.std.specs.Prelude.{◌≡◌, ◌≢◌, ◌⊎◌, ℕ, ◌+◌, List, slice_index}
+use Rattle.resb_grammar.specs.Ascii as ascii
 use Rattle.resb_tree.specs.Tree.{Tree}
 use Rattle.resb_grammar.specs.Tokens.{Skip}
 use Rattle.resb_grammar.specs.Types.{Kind}
-use Rattle.resb_grammar.specs.Group.{Content}
+use Rattle.resb_grammar.specs.Group.{LeafContent}
 use Rattle.resb_grammar.specs.Machine.{Open, begun_as, At}
 use Rattle.resb_grammar.specs.Stuck.{Stuck}
 use Rattle.resb_grammar.specs.declared.expected.Expected.TheVariants as expect
+use Rattle.resb_text.specs.Refusal.{want_of_memory}
 use Rattle.resb_text.specs.declared.error.TextParserError.{TextParserError}
 
 -- `}` stands here, with the discardable text after it
 pub record Closes (text : List ℕ) (at to : ℕ) : Type 0 where
-  pub brace : slice_index text at ≡ 125
+  pub brace : slice_index text at ≡ ascii.right_brace
   pub after : Skip text (at + 1) to
 
 -- no `}` stands here, and the error says so
 pub record IsUnclosed (text : List ℕ) (at : ℕ) (e : TextParserError) : Type 0 where
-  pub none : slice_index text at ≢ 125
+  pub none : slice_index text at ≢ ascii.right_brace
   pub is : e ≡ record { position = at; expected = expect.RightBrace }
 
 -- the content of a group of this type, and its `}`
 pub record Leaf (text : List ℕ) (at to : ℕ) (kind : Kind) (tree : Tree) : Type 0 where
   pub ends : ℕ
-  pub content : Content text at ends kind tree
+  pub content : LeafContent text at ends kind tree
   pub closes : Closes text ends to
 
 -- wherever a group of this type has begun there, a reading gets stuck so
 abbrev pub LeafFails : List ℕ → ℕ → Kind → TextParserError → Type 0
-LeafFails text at kind e = (o : Open) → At text at (begun_as kind o) → Stuck text e.position e.expected
+LeafFails text at kind e =
+    (o : Open) → At text at (begun_as kind o) → Stuck text e.position e.expected
+
+-- memory was wanted, or a reading gets stuck so
+abbrev pub LeafRefuses : List ℕ → ℕ → Kind → TextParserError → Type 0
+LeafRefuses text at kind e = (e ≡ want_of_memory) ⊎ LeafFails text at kind e

@@ -1,49 +1,67 @@
 -- What the code's items show of the grammar's: strings, trees and commas, without keys.
-use Rattle.std.specs.Prelude.{ℕ, Bool, List, [], ◌∷◌, ◌++◌, Option, Some, None}
+use Rattle.std.specs.Prelude.{ℕ, Bool, true, List, [], ◌∷◌, ◌++◌, map, Option, Some, None}
 use Rattle.resb_tree.specs.Tree.{Tree, string}
 use Rattle.resb_tree.specs.View.{tree_of}
+use Rattle.resb_tree.specs.declared.resource.Resource.{Resource}
+use Rattle.resb_text.specs.Borrowed.{all_true, is_borrowed}
 use Rattle.resb_grammar.specs.Items as spec
 use Rattle.resb_text.specs.declared.items.Item.{Item}
 use Rattle.resb_text.specs.declared.items.Member.{Member}
-use Rattle.resb_text.specs.declared.items.Member.TheVariants.{Word, Group}
+use Rattle.resb_text.specs.declared.items.Member.TheVariants as variant
 
--- a string, or a tree of a group
+-- a string; or a tree of a group, and whether its strings are borrowed
 pub data Shown : Type 0 where
-  a_word : List ℕ → Bool → Shown
-  a_group : Tree → Bool → Shown
+  string_shown : List ℕ → Bool → Shown
+  group_shown : Tree → Bool → Bool → Shown
 
 -- what a member of the code is as a resource
 abbrev pub member_tree : Member → Tree
-member_tree (Word s) = string s.now
-member_tree (Group r) = tree_of r
+member_tree (variant.String s) = string s.now
+member_tree (variant.Group r) = tree_of r
 
 abbrev pub shown_member : Member → Bool → Shown
-shown_member (Word s) f = a_word s.now f
-shown_member (Group r) f = a_group (tree_of r) f
+shown_member (variant.String s) f = string_shown s.now f
+shown_member (variant.Group r) f = group_shown (tree_of r) (is_borrowed r) f
 
 -- what an item of the code shows
 abbrev pub shown : Item → Shown
 shown x = shown_member x.member x.comma
 
 abbrev pub member_shown : spec.Member → Bool → Shown
-member_shown (spec.word s) f = a_word s f
-member_shown (spec.group t ks) f = a_group t f
+member_shown (spec.string_member s) f = string_shown s f
+member_shown (spec.group_member t ks) f = group_shown t true f
 
 -- what the grammar's items show, in order of place
 abbrev pub shows : List spec.Item → List Shown
 shows [] = []
 shows (x ∷ xs) = shows xs ++ member_shown x.member x.flag ∷ []
 
+abbrev pub shown_borrowed : Shown → Bool
+shown_borrowed (string_shown s f) = true
+shown_borrowed (group_shown t b f) = b
+
+-- whether the strings of a member of the code are borrowed
+abbrev pub member_borrowed : Member → Bool
+member_borrowed (variant.String s) = true
+member_borrowed (variant.Group r) = is_borrowed r
+
+abbrev pub each_borrowed : List (List ℕ × Resource) → List (List ℕ × Bool)
+each_borrowed es = map (λ e. (e.0, is_borrowed e.1)) es
+
+-- whether the strings of a table's entries are borrowed
+abbrev pub entries_borrowed : List (List ℕ × Resource) → Bool
+entries_borrowed es = all_true (map (λ e. e.1) (each_borrowed es))
+
 abbrev pub shown_tree : Shown → Tree
-shown_tree (a_word s f) = string s
-shown_tree (a_group t f) = t
+shown_tree (string_shown s f) = string s
+shown_tree (group_shown t b f) = t
 
 -- the pairs of a key and the group that follows it; a key may wait at the front
 abbrev pub pairs_after : Option (List ℕ) → List Shown → List (List ℕ × Tree)
 pairs_after waiting [] = []
-pairs_after waiting (a_word s f ∷ xs) = pairs_after (Some s) xs
-pairs_after (Some k) (a_group t f ∷ xs) = (k, t) ∷ pairs_after None xs
-pairs_after None (a_group t f ∷ xs) = pairs_after None xs
+pairs_after waiting (string_shown s f ∷ xs) = pairs_after (Some s) xs
+pairs_after (Some k) (group_shown t b f ∷ xs) = (k, t) ∷ pairs_after None xs
+pairs_after None (group_shown t b f ∷ xs) = pairs_after None xs
 
 abbrev pub shown_pairs : List Shown → List (List ℕ × Tree)
 shown_pairs xs = pairs_after None xs

@@ -1,17 +1,19 @@
 -- What one token does to the open groups.
 use Rattle.std.specs.Prelude.{◌≡◌, ℕ, Bool, true, false, not, List, [], slice_index}
+use Rattle.resb_grammar.specs.Ascii as ascii
 use Rattle.resb_grammar.specs.Machine as machine
-use Rattle.resb_grammar.specs.Machine.{Body, table_body, array_body, untyped_body, named, inside, At}
+use Rattle.resb_grammar.specs.Machine.{Body, table_body, array_body, untyped_body, named, inside}
+use Rattle.resb_grammar.specs.Machine.{At}
 use Rattle.resb_grammar.specs.Stuck.{Stuck}
 use Rattle.resb_text.specs.Inner.Frames.{Shows}
 use Rattle.resb_text.specs.declared.frames.Open.{Open}
 use Rattle.resb_text.specs.declared.error.TextParserError.{TextParserError}
 
 -- a string, or `}`, may stand in such a body; for a table: where a key may stand
-abbrev pub takes_word : Body → Bool → Bool
-takes_word table_body key = key
-takes_word array_body key = true
-takes_word untyped_body key = true
+abbrev pub takes_string : Body → Bool → Bool
+takes_string table_body key = key
+takes_string array_body key = true
+takes_string untyped_body key = true
 
 -- `{` or a type may stand in such a body
 abbrev pub takes_group : Body → Bool → Bool
@@ -27,7 +29,9 @@ pub record Among (text : List ℕ) (at : ℕ) (c : Open) : Type 0 where
 
 -- wherever a typed group may stand there, a reading gets stuck so
 abbrev pub HeadFails : List ℕ → ℕ → TextParserError → Type 0
-HeadFails text at e = (o : machine.Open) → takes_group o.frame.body (machine.is_key_place o.frame.items) ≡ true → At text at (inside o) → Stuck text e.position e.expected
+HeadFails text at e =
+    (o : machine.Open) → takes_group o.frame.body (machine.is_key_place o.frame.items) ≡ true
+    → At text at (inside o) → Stuck text e.position e.expected
 
 -- wherever the root's type may stand there, a reading gets stuck so
 abbrev pub TypingFails : List ℕ → ℕ → TextParserError → Type 0
@@ -40,7 +44,7 @@ pub record IsLast (text : List ℕ) (at : ℕ) (c : Open) : Type 0 where
   pub reached : At text at (inside open_groups)
   pub root : open_groups.around ≡ []
   pub key_place : machine.is_key_place open_groups.frame.items ≡ true
-  pub closes : slice_index text at ≡ 125
+  pub closes : slice_index text at ≡ ascii.right_brace
 
 -- a list of items, where commas may stand
 abbrev pub lists_items : Body → Bool

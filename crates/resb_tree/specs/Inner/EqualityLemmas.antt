@@ -1,10 +1,11 @@
 -- The test of equality decides whether two trees are equal.
-use Rattle.std.specs.Prelude.{Bool, true, false, ◌&&◌, nat_eq}
+use Rattle.std.specs.Prelude.{Bool, true, false, ◌&&◌}
 use Rattle.std.specs.Bool.{Decides}
 use Rattle.std.specs.Cmp.{IsPartialEquivalence, both_ways, first_so, second_so, nat_eq_equiv}
 use Rattle.std.specs.Cmp.Lexicographic.{bytes_decides, nat_list_eq_equiv}
 use Rattle.std.proofs.Common.{◌≡◌, refl, sym, ap, ◌∙◌, true≢false, eqb-true}
-use Rattle.resb_tree.specs.Tree.{Tree, string, array, table, binary, integer, int_vector, Trees, no_trees, more_trees, Entries, no_entries, entry}
+use Rattle.resb_tree.specs.Tree.{Tree, string, array, table, binary, integer, int_vector, Trees}
+use Rattle.resb_tree.specs.Tree.{no_trees, more_trees, Entries, no_entries, entry}
 use Rattle.resb_tree.specs.Equality.{tree_eq, trees_eq, entries_eq}
 
 no : {A : Type 0} → false ≡ true → A
@@ -30,14 +31,18 @@ mutual
   trees_eq_true no_trees no_trees e = refl
   trees_eq_true no_trees (more_trees u us) e = no e
   trees_eq_true (more_trees t ts) no_trees e = no e
-  trees_eq_true (more_trees t ts) (more_trees u us) e = λ i. more_trees (tree_eq_true t u (first_so _ _ e) i) (trees_eq_true ts us (second_so _ _ e) i)
+  trees_eq_true (more_trees t ts) (more_trees u us) e =
+      λ i. more_trees (tree_eq_true t u (first_so _ _ e) i)
+      (trees_eq_true ts us (second_so _ _ e) i)
 
   entries_eq_true : (es fs : Entries) → entries_eq es fs ≡ true → es ≡ fs
   entries_eq_true no_entries no_entries e = refl
   entries_eq_true no_entries (entry l u fs) e = no e
   entries_eq_true (entry k t es) no_entries e = no e
   entries_eq_true (entry k t es) (entry l u fs) e =
-      λ i. entry ((bytes_decides k l).0 (first_so _ _ (first_so _ _ e)) i) (tree_eq_true t u (second_so _ _ (first_so _ _ e)) i) (entries_eq_true es fs (second_so _ _ e) i)
+      λ i. entry ((bytes_decides k l).0 (first_so _ _ (first_so _ _ e)) i)
+      (tree_eq_true t u (second_so _ _ (first_so _ _ e)) i)
+      (entries_eq_true es fs (second_so _ _ e) i)
 
 both_true : (a b : Bool) → a ≡ true → b ≡ true → (a && b) ≡ true
 both_true a b e f = λ i. e i && f i
@@ -57,13 +62,17 @@ mutual
 
   entries_eq_refl : (es : Entries) → entries_eq es es ≡ true
   entries_eq_refl no_entries = refl
-  entries_eq_refl (entry k t es) = both_true _ _ (both_true _ _ (nat_list_eq_equiv.refl k) (tree_eq_refl t)) (entries_eq_refl es)
+  entries_eq_refl (entry k t es) =
+      both_true _ _ (both_true _ _ (nat_list_eq_equiv.refl k) (tree_eq_refl t)) (entries_eq_refl es)
 
 pub tree_eq_decides : (a b : Tree) → Decides (tree_eq a b) (a ≡ b)
 tree_eq_decides a b = (tree_eq_true a b, λ e. ap (λ c. tree_eq a c) (sym e) ∙ tree_eq_refl a)
 
 pub tree_eq_per : IsPartialEquivalence tree_eq
 tree_eq_per = record {
-  symm = λ a b. both_ways _ _ (λ e. (tree_eq_decides b a).1 (sym ((tree_eq_decides a b).0 e))) (λ e. (tree_eq_decides a b).1 (sym ((tree_eq_decides b a).0 e)));
-  trans = λ a b c e f. (tree_eq_decides a c).1 ((tree_eq_decides a b).0 e ∙ (tree_eq_decides b c).0 f);
+  symm =
+      λ a b. both_ways _ _ (λ e. (tree_eq_decides b a).1 (sym ((tree_eq_decides a b).0 e)))
+      (λ e. (tree_eq_decides a b).1 (sym ((tree_eq_decides b a).0 e)));
+  trans =
+      λ a b c e f. (tree_eq_decides a c).1 ((tree_eq_decides a b).0 e ∙ (tree_eq_decides b c).0 f);
 }

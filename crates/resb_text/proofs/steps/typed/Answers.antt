@@ -1,18 +1,29 @@
 use Rattle.std.proofs.Common.{refl, sym}
 use Rattle.std.proofs.lemmas.Result.{err_from_is_err_and}
-use Rattle.resb_text.proofs.TypedLemmas.{may_stand, type_refused, head_refused, array_opened, table_opened, leaf_refused, leaf_added}
+use Rattle.resb_text.proofs.TypedLemmas.{may_stand, type_refused, head_refused, array_opened}
+use Rattle.resb_text.proofs.TypedLemmas.{table_opened, leaf_refused, leaf_added}
 use Rattle.resb_text.proofs.steps.typed.Goals as goal
 
 pub returns-then-not-takes_group-clause-err : goal.returns-then-not-takes_group-clause-err
 returns-then-not-takes_group-clause-err c =
-    rw c.new.ensures (type_refused c.args.turns.now.text c.args.groups.now c.args.at 58 c.is_key_place-key_place.result c.takes_group.result _ c.requires.among c.is_key_place-key_place.ensures (sym c.requires.byte) refl c.expected_in.ensures
+    rw c.new.ensures
+    (type_refused c.args.turns.now.text c.args.groups.now c.args.at 58
+    c.is_key_place-key_place.result c.takes_group.result _ c.requires.among
+    c.is_key_place-key_place.ensures (sym c.requires.byte) refl c.expected_in.ensures
     c.takes_group.ensures c.if-not-takes_group.true)
 
 pub returns-in_err-first-clause-err : goal.returns-in_err-first-clause-err
 returns-in_err-first-clause-err c =
     let p = err_from_is_err_and c.from_residual.result c.from_residual.ensures.1 in
-    let may = may_stand c.args.turns.now.text c.args.groups.now c.args.at c.is_key_place-key_place.result c.takes_group.result c.requires.among c.is_key_place-key_place.ensures c.takes_group.ensures c.if-not-takes_group.false in
-    rw (p.1, p.2) (head_refused c.args.turns.now.text c.args.groups.now c.args.at _ c.requires.among may c.in_err-first.ensures.err)
+    let may = may_stand c.args.turns.now.text c.args.groups.now c.args.at
+    c.is_key_place-key_place.result c.takes_group.result c.requires.among
+    c.is_key_place-key_place.ensures c.takes_group.ensures c.if-not-takes_group.false in
+    rw (
+      p.1,
+      p.2,
+    )
+    (head_refused c.args.turns.now.text c.args.groups.now c.args.at _ c.requires.among may
+    c.in_err-first.ensures.err)
 
 pub leaf-requires-clause-no_array : goal.leaf-requires-clause-no_array
 leaf-requires-clause-no_array c = c.in_default.not-Array
@@ -22,21 +33,43 @@ leaf-requires-clause-no_table c = c.in_default.not-Table
 
 pub returns-in_err-next-in_default-clause-err : goal.returns-in_err-next-in_default-clause-err
 returns-in_err-next-in_default-clause-err c =
-    let p = err_from_is_err_and c.from_residual-in_err-next-in_default.result c.from_residual-in_err-next-in_default.ensures.1 in
-    let may = may_stand c.args.turns.now.text c.args.groups.now c.args.at c.is_key_place-key_place.result c.takes_group.result c.requires.among c.is_key_place-key_place.ensures c.takes_group.ensures c.if-not-takes_group.false in
-    rw (p.1, p.2) (leaf_refused c.args.turns.now.text c.args.groups.now c.args.at _ _ _ c.requires.among may c.in_ok-first.ensures.ok (rw c.head.ensures.text at c.in_err-next-in_default.ensures.err))
+    let p = err_from_is_err_and c.from_residual-in_err-next-in_default.result
+    c.from_residual-in_err-next-in_default.ensures.1 in
+    let may = may_stand c.args.turns.now.text c.args.groups.now c.args.at
+    c.is_key_place-key_place.result c.takes_group.result c.requires.among
+    c.is_key_place-key_place.ensures c.takes_group.ensures c.if-not-takes_group.false in
+    rw (
+      p.1,
+      p.2,
+    )
+    (leaf_refused c.args.turns.now.text c.args.groups.now c.args.at _ _ _ c.requires.among
+    may c.in_ok-first.ensures.ok
+    (rw c.head.ensures.text at c.in_err-next-in_default.ensures.err))
 
 pub returns-in_ok-open-in-Array-clause-ok : goal.returns-in_ok-open-in-Array-clause-ok
 returns-in_ok-open-in-Array-clause-ok c =
-    let may = may_stand c.args.turns.now.text c.args.groups.now c.args.at c.is_key_place-key_place.result c.takes_group.result c.requires.among c.is_key_place-key_place.ensures c.takes_group.ensures c.if-not-takes_group.false in
-    array_opened c.args.turns.now.text c.args.groups.now _ c.args.at c.in_ok-first.first c.requires.among may (rw c.in-Array.is at c.in_ok-first.ensures.ok) c.in_ok-open-in-Array.ensures.shows
+    let may = may_stand c.args.turns.now.text c.args.groups.now c.args.at
+    c.is_key_place-key_place.result c.takes_group.result c.requires.among
+    c.is_key_place-key_place.ensures c.takes_group.ensures c.if-not-takes_group.false in
+    array_opened c.args.turns.now.text c.args.groups.now _ c.args.at c.in_ok-first.first
+    c.requires.among may (rw c.in-Array.is at c.in_ok-first.ensures.ok)
+    c.in_ok-open-in-Array.ensures.shows
 
 pub returns-in_ok-open-in-Table-clause-ok : goal.returns-in_ok-open-in-Table-clause-ok
 returns-in_ok-open-in-Table-clause-ok c =
-    let may = may_stand c.args.turns.now.text c.args.groups.now c.args.at c.is_key_place-key_place.result c.takes_group.result c.requires.among c.is_key_place-key_place.ensures c.takes_group.ensures c.if-not-takes_group.false in
-    table_opened c.args.turns.now.text c.args.groups.now _ c.args.at c.in_ok-first.first c.requires.among may (rw c.in-Table.is at c.in_ok-first.ensures.ok) c.in_ok-open-in-Table.ensures.shows
+    let may = may_stand c.args.turns.now.text c.args.groups.now c.args.at
+    c.is_key_place-key_place.result c.takes_group.result c.requires.among
+    c.is_key_place-key_place.ensures c.takes_group.ensures c.if-not-takes_group.false in
+    table_opened c.args.turns.now.text c.args.groups.now _ c.args.at c.in_ok-first.first
+    c.requires.among may (rw c.in-Table.is at c.in_ok-first.ensures.ok)
+    c.in_ok-open-in-Table.ensures.shows
 
 pub returns-in_ok-add_leaf-in_default-clause-ok : goal.returns-in_ok-add_leaf-in_default-clause-ok
 returns-in_ok-add_leaf-in_default-clause-ok c =
-    let may = may_stand c.args.turns.now.text c.args.groups.now c.args.at c.is_key_place-key_place.result c.takes_group.result c.requires.among c.is_key_place-key_place.ensures c.takes_group.ensures c.if-not-takes_group.false in
-    leaf_added c.args.turns.now.text c.args.groups.now _ c.args.at c.in_ok-first.first _ _ _ c.requires.among may c.in_ok-first.ensures.ok (rw c.head.ensures.text at c.in_ok-next-in_default.ensures.ok) c.in_ok-add_leaf-in_default.ensures.shows
+    let may = may_stand c.args.turns.now.text c.args.groups.now c.args.at
+    c.is_key_place-key_place.result c.takes_group.result c.requires.among
+    c.is_key_place-key_place.ensures c.takes_group.ensures c.if-not-takes_group.false in
+    leaf_added c.args.turns.now.text c.args.groups.now _ c.args.at c.in_ok-first.first _ _ _
+    c.requires.among may c.in_ok-first.ensures.ok
+    (rw c.head.ensures.text at c.in_ok-next-in_default.ensures.ok)
+    c.in_ok-add_leaf-in_default.ensures.shows

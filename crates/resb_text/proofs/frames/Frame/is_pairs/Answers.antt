@@ -4,4 +4,6 @@ use Rattle.resb_text.proofs.FrameLemmas.{pairs_then}
 use Rattle.resb_text.proofs.frames.Frame.is_pairs.Goals as goal
 
 pub returns-then-self : goal.returns-then-self
-returns-then-self c = λ n f x. pairs_then f.items _ _ (ap (λ (l : Look). l.in_turn) x) c.if-self.true (c.is_key_place.ensures n f x)
+returns-then-self c =
+    λ n f x. pairs_then f.items _ _ (ap (λ (l : Look). l.alternates) x) c.if-self.true
+    (c.is_key_place.ensures n f x)

@@ -5,5 +5,11 @@ use Rattle.resb_text.proofs.frames.Frame.push.Goals as goal
 
 pub returns-clause-looks : goal.returns-clause-looks
 returns-clause-looks c = λ n f m e is.
-    let after : Frame = record { body = c.args.self.now.body; items = c.push.new.self; in_turn = c.goes_on-in_turn.result; number = c.args.self.now.number } in
-    look_more c.args.self.now after n f m _ is e refl refl c.in_ok-push.ensures.items (c.goes_on-in_turn.ensures n f m e is)
+    let after : Frame = record {
+      body = c.args.self.now.body;
+      items = c.push.new.self;
+      alternates = c.goes_on-alternates.result;
+      number = c.args.self.now.number;
+    } in
+    look_more c.args.self.now after n f m _ is e refl refl c.in_ok-push.ensures.items
+    (c.goes_on-alternates.ensures n f m e is)

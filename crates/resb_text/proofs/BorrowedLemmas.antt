@@ -1,0 +1,115 @@
+-- Borrowed strings, level by level.
+use Rattle.std.proofs.Common.{◌≡◌, ℕ, Bool, true, false, ◌&&◌, List, [], ◌∷◌, ◌++◌, Vec, BTreeMap}
+use Rattle.std.proofs.Common.{Global, Ordering, Less, Equal, Greater, nat_cmp, refl, ap, ◌∙◌}
+use Rattle.std.proofs.Common.{rules}
+use Rattle.std.specs.Prelude.{map, Result, Ok, Err, IfOk}
+use Rattle.std.proofs.lemmas.Bool.{false≢true}
+use Rattle.std.specs.BTreeMap.{insert_entry}
+use Rattle.std.specs.Cmp.Lexicographic.{slice_cmp}
+use Rattle.std.specs.Ordering.{match_ordering}
+use Rattle.std.specs.declared.borrow.CowStr.{CowStr}
+use Rattle.std.specs.declared.borrow.CowSlice.{CowSlice}
+use Rattle.resb_tree.specs.declared.resource.Resource.{Resource, String, Array, Table, Binary}
+use Rattle.resb_tree.specs.declared.resource.Resource.{Integer, IntVector, the_lemmas}
+use Rattle.resb_grammar.specs.Items as spec
+use Rattle.resb_grammar.specs.Machine as machine
+use Rattle.resb_text.specs.Inner.Frames.{Look, looks, look_of, layer}
+use Rattle.resb_text.specs.declared.error.TextParserError.{TextParserError}
+use Rattle.resb_text.specs.declared.frames.Frame.{Frame}
+use Rattle.resb_text.specs.Borrowed.{is_slice, all_true, is_borrowed}
+use Rattle.resb_text.specs.Inner.Shown.{Shown, shown, shows, shown_borrowed, entries_borrowed}
+use Rattle.resb_text.specs.Inner.Shown.{member_shown}
+
+pub borrowed_string : (s : CowStr Global) → is_borrowed (String s) ≡ is_slice s
+borrowed_string s = search (rules, the_lemmas)
+
+pub borrowed_array : (v : Vec Resource Global)
+    → is_borrowed (Array v) ≡ all_true (map is_borrowed v.items)
+borrowed_array v = search (rules, the_lemmas)
+
+pub borrowed_table : (m : BTreeMap (List ℕ) Resource)
+    → is_borrowed (Table m) ≡ entries_borrowed m.entries
+borrowed_table m = search (rules, the_lemmas)
+
+pub borrowed_binary : (b : CowSlice ℕ Global) → is_borrowed (Binary b) ≡ true
+borrowed_binary b = search (rules, the_lemmas)
+
+pub borrowed_integer : (n : ℕ) → is_borrowed (Integer n) ≡ true
+borrowed_integer n = search (rules, the_lemmas)
+
+pub borrowed_vector : (v : Vec ℕ Global) → is_borrowed (IntVector v) ≡ true
+borrowed_vector v = search (rules, the_lemmas)
+
+both : (a b : Bool) → a ≡ true → b ≡ true → (a && b) ≡ true
+both true b h k = k
+both false b h k = h
+
+first : (a b : Bool) → (a && b) ≡ true → a ≡ true
+first true b h = refl
+first false b h = h
+
+second : (a b : Bool) → (a && b) ≡ true → b ≡ true
+second true b h = h
+second false b h = absurd (false≢true h)
+
+-- all of one more
+pub all_snoc : (bs : List Bool) (b : Bool) → all_true bs ≡ true → b ≡ true
+    → all_true (bs ++ b ∷ []) ≡ true
+all_snoc [] b h k = both b true k refl
+all_snoc (c ∷ bs) b h k = both c _ (first c _ h) (all_snoc bs b (second c _ h) k)
+
+at_ordering : (o : Ordering) (a b c : List (List ℕ × Resource)) → entries_borrowed a ≡ true
+    → entries_borrowed b ≡ true → entries_borrowed c ≡ true
+    → entries_borrowed (match_ordering o a b c) ≡ true
+at_ordering Less a b c h k l = h
+at_ordering Equal a b c h k l = k
+at_ordering Greater a b c h k l = l
+
+-- an entry more in a table
+pub insert_borrowed : (es : List (List ℕ × Resource)) (k : List ℕ) (v : Resource)
+    → is_borrowed v ≡ true → entries_borrowed es ≡ true
+    → entries_borrowed (insert_entry (slice_cmp nat_cmp) es k v) ≡ true
+insert_borrowed [] k v h all = both (is_borrowed v) true h refl
+insert_borrowed (e ∷ es) k v h all =
+    at_ordering (slice_cmp nat_cmp k e.0) _ _ _ (both _ _ h all)
+    (both _ _ h (second _ _ all))
+    (both _ _ (first _ _ all) (insert_borrowed es k v h (second _ _ all)))
+
+member_borrowed : (m : spec.Member) (f : Bool) → shown_borrowed (member_shown m f) ≡ true
+member_borrowed (spec.string_member s) f = refl
+member_borrowed (spec.group_member t ks) f = refl
+
+map_snoc : (xs : List Shown) (x : Shown)
+    → map shown_borrowed (xs ++ x ∷ []) ≡ map shown_borrowed xs ++ shown_borrowed x ∷ []
+map_snoc [] x = refl
+map_snoc (y ∷ xs) x = ap (λ bs. shown_borrowed y ∷ bs) (map_snoc xs x)
+
+-- what the machine's items show is borrowed
+pub shows_borrowed : (xs : List spec.Item) → all_true (map shown_borrowed (shows xs)) ≡ true
+shows_borrowed [] = refl
+shows_borrowed (x ∷ xs) =
+    ap all_true (map_snoc (shows xs) (member_shown x.member x.flag))
+    ∙ all_snoc (map shown_borrowed (shows xs)) (shown_borrowed (member_shown x.member x.flag))
+    (shows_borrowed xs) (member_borrowed x.member x.flag)
+
+-- what an open group of the code holds is borrowed
+pub items_borrowed : (f : Frame) (n : ℕ) (g : machine.Frame) → looks f ≡ look_of (layer n g)
+    → all_true (map shown_borrowed (map shown f.items.items)) ≡ true
+items_borrowed f n g e =
+    ap (λ (l : Look). all_true (map shown_borrowed l.items)) e ∙ shows_borrowed g.items
+
+-- a table or an array of what an open group holds
+pub closed_table : (r : Result Resource TextParserError) (f : Frame)
+    → IfOk r (λ t. all_true (map shown_borrowed (map shown f.items.items)) ≡ true
+    → is_borrowed t ≡ true)
+    → IfOk r (λ t. (n : ℕ) (g : machine.Frame) → looks f ≡ look_of (layer n g)
+    → is_borrowed t ≡ true)
+closed_table (Ok t) f h = λ n g e. h (items_borrowed f n g e)
+closed_table (Err e) f h = tt
+
+pub closed_array : (r : Result Resource TextParserError) (f : Frame)
+    → IfOk r (λ t. is_borrowed t ≡ all_true (map shown_borrowed (map shown f.items.items)))
+    → IfOk r (λ t. (n : ℕ) (g : machine.Frame) → looks f ≡ look_of (layer n g)
+    → is_borrowed t ≡ true)
+closed_array (Ok t) f h = λ n g e. h ∙ items_borrowed f n g e
+closed_array (Err e) f h = tt

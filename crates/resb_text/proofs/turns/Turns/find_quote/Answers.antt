@@ -1,0 +1,18 @@
+use Rattle.std.proofs.Common.{◌∙◌, ap}
+use Rattle.resb_text.specs.Turns.{Counted}
+use Rattle.resb_text.proofs.TokensLemmas.{rest_of, quote_found, quote_missing}
+use Rattle.resb_text.proofs.turns.Turns.find_quote.Goals as goal
+
+pub returns-in-Some-clause-found : goal.returns-in-Some-clause-found
+returns-in-Some-clause-found c =
+    quote_found c.args.self.now.text _ c.args.from c.in-Some.n
+    (rest_of c.args.self.now.text c.as_bytes.result.now c.args.from
+    (c.as_bytes.ensures.value ∙ ap (λ (t : Counted). t.text) c.self.view_is))
+    c.in-Some.ensures.found c.in-Some.ensures.first
+
+pub returns-in-None-clause-none : goal.returns-in-None-clause-none
+returns-in-None-clause-none c =
+    quote_missing c.args.self.now.text _ c.args.from
+    (rest_of c.args.self.now.text c.as_bytes.result.now c.args.from
+    (c.as_bytes.ensures.value ∙ ap (λ (t : Counted). t.text) c.self.view_is))
+    c.in-None.ensures.none

@@ -1,0 +1,35 @@
+-- Which strings are slices of the text, so that none of them was copied.
+use Rattle.std.specs.Prelude.{◌≡◌, Bool, true, false, ◌&&◌, List, [], ◌∷◌, map}
+use Rattle.std.specs.declared.borrow.CowStr.{CowStr}
+use Rattle.std.specs.declared.borrow.CowStr.TheVariants as text
+use Rattle.resb_tree.specs.declared.resource.Resource.{Resource, fold-Resource}
+use Rattle.resb_tree.specs.declared.resource.Resource.TheOpen.{Resource-F}
+use Rattle.resb_tree.specs.declared.bundle.ResourceBundle.{ResourceBundle}
+use Rattle.resb_tree.specs.Bundle.{name_part, root_part}
+
+-- the text is borrowed
+abbrev pub is_slice : {Z : Type 0} → CowStr Z → Bool
+is_slice (text.Borrowed r) = true
+is_slice (text.Owned s) = false
+
+abbrev pub all_true : List Bool → Bool
+all_true [] = true
+all_true (b ∷ bs) = b && all_true bs
+
+-- one level, where it is known of each resource inside
+abbrev pub borrowed_step : Resource-F Bool → Bool
+borrowed_step (Resource-F.String s) = is_slice s
+borrowed_step (Resource-F.Array v) = all_true v.items
+borrowed_step (Resource-F.Table m) = all_true (map (λ p. p.1) m.entries)
+borrowed_step (Resource-F.Binary b) = true
+borrowed_step (Resource-F.Integer n) = true
+borrowed_step (Resource-F.IntVector v) = true
+
+-- each String in the resource is borrowed
+abbrev pub is_borrowed : Resource → Bool
+is_borrowed = fold-Resource Bool borrowed_step
+
+-- a bundle's name and each String of its tree are borrowed
+pub record IsBorrowed (b : ResourceBundle) : Type 0 where
+  pub name : is_slice (name_part b) ≡ true
+  pub strings : is_borrowed (root_part b) ≡ true

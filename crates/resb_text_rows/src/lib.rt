@@ -1,0 +1,8 @@
+//! The worked rows of texts and trees: inputs with the answers that the rules ask for. Only tests
+//! stand here, so that no crate with code is proved twice.
+#![tactic(auto)]
+
+#[cfg(test)]
+mod text_rows;
+#[cfg(test)]
+mod tree_rows;

@@ -11,10 +11,6 @@ mod parts_rows;
 #[cfg(test)]
 mod pool_rows;
 #[cfg(test)]
-mod read_rows;
-#[cfg(test)]
-mod read_type_rows;
-#[cfg(test)]
 mod text_rows;
 #[cfg(test)]
 mod tree_rows;

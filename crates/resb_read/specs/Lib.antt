@@ -15,6 +15,7 @@ pub mod Places
 pub mod Reading
 pub mod ReadingLaws
 pub mod Leaves
+pub mod Refused
 pub mod LeafLaws
 pub mod Resources
 pub mod ResourceLaws

@@ -5,6 +5,7 @@ ghost use Rattle.resb_read.specs.Places.{place_of};
 ghost use Rattle.resb_read.specs.Sequences as sequences;
 ghost use Rattle.resb_read.specs.Access.{EntersTo, Enters, ReadsPair, CountsPair};
 ghost use Rattle.resb_read.specs.Reading.{LacksOrMemory};
+ghost use Rattle.resb_read.specs.Refused.{Blames};
 
 use crate::cursor::{Cursor, Spot};
 use crate::deserialize::Deserialize;
@@ -134,25 +135,28 @@ impl<'de> Cursor<'de> {
     /// lead isn't looked at yet.
     pub fn read_map<'m>(self, walk: &mut Walk) -> Result<MapAccess<'de, 'm>, ReadingError<'m>>
         ensures read { IfOk result (λ s. (sequences.entries (place_of self.entry) ≡ Some s.rest) × (s.failed ≡ None) × (walk.new + 1 ≡ walk.old)) }
-        ensures refused { IfErr result (λ _. (walk.new ≤ walk.old) × (sequences.entries (place_of self.entry) ≡ None ⊎ walk.old ≡ 0)) }
+        ensures refused { IfErr result (λ e. (walk.new ≤ walk.old) × (sequences.entries (place_of self.entry) ≡ None ⊎ walk.old ≡ 0) × Blames walk.old e) }
     {
         let Spot::Descriptor(word) = self.at else {
             return Err(refused_here(self.at, walk));
         };
-        walk.pay()?;
+        if let Err(spent) = walk.pay() {
+            return Err(spent);
+        }
         let kind = word >> 28;
         if kind != 2 && kind != 4 && kind != 5 {
             return Err(mismatch(word, "expected table resource"));
         }
-        match self.file.standing(word)? {
-            Standing::Table(rest) => Ok(MapAccess {
+        match self.file.standing(word) {
+            Ok(Standing::Table(rest)) => Ok(MapAccess {
                 file: self.file,
                 rest,
                 failed: None,
             }),
-            Standing::List(_) | Standing::Leaf(_) => {
+            Ok(Standing::List(_) | Standing::Leaf(_)) => {
                 Err(mismatch(word, "expected table resource"))
             }
+            Err(error) => Err(error),
         }
     }
 }

@@ -4,6 +4,7 @@ ghost use Rattle.std.specs.Prelude.{◌≡◌, ◌≤◌, ◌<◌, ◌+◌, ◌�
 ghost use Rattle.resb_read.specs.Places.{place_of};
 ghost use Rattle.resb_read.specs.Sequences.{items};
 ghost use Rattle.resb_read.specs.Access.{StepsTo, Steps};
+ghost use Rattle.resb_read.specs.Refused.{Blames};
 
 use crate::cursor::{Cursor, Spot};
 use crate::deserialize::Deserialize;
@@ -110,23 +111,25 @@ impl<'de> Cursor<'de> {
     /// where they lead isn't looked at yet.
     pub fn read_seq<'m>(self, walk: &mut Walk) -> Result<SeqAccess<'de, 'm>, ReadingError<'m>>
         ensures read { IfOk result (λ s. (items (place_of self.entry) ≡ Some s.rest) × (s.failed ≡ None) × (walk.new + 1 ≡ walk.old)) }
-        ensures refused { IfErr result (λ _. (walk.new ≤ walk.old) × (items (place_of self.entry) ≡ None ⊎ walk.old ≡ 0)) }
+        ensures refused { IfErr result (λ e. (walk.new ≤ walk.old) × (items (place_of self.entry) ≡ None ⊎ walk.old ≡ 0) × Blames walk.old e) }
     {
         let Spot::Descriptor(word) = self.at else {
             return Err(refused_here(self.at, walk));
         };
-        walk.pay()?;
+        if let Err(spent) = walk.pay() {
+            return Err(spent);
+        }
         let kind = word >> 28;
         if kind != 8 && kind != 9 && kind != 14 {
             return Err(mismatch(word, "expected array resource"));
         }
-        let rest = match self.file.standing(word)? {
-            Standing::List(members) => Items::Members(members),
-            Standing::Leaf(Leaf::Numbers(numbers)) => Items::Numbers(numbers),
-            Standing::Table(_) => return Err(mismatch(word, "expected array resource")),
-            Standing::Leaf(Leaf::Text(_) | Leaf::Empty | Leaf::Binary(_) | Leaf::Integer(_)) => {
+        let rest = match self.file.standing(word) {
+            Ok(Standing::List(members)) => Items::Members(members),
+            Ok(Standing::Leaf(Leaf::Numbers(numbers))) => Items::Numbers(numbers),
+            Ok(Standing::Table(_) | Standing::Leaf(_)) => {
                 return Err(mismatch(word, "expected array resource"));
             }
+            Err(error) => return Err(error),
         };
         Ok(SeqAccess {
             file: self.file,

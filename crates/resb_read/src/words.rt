@@ -31,7 +31,7 @@ pub fn lay_words(
     let Some(size) = words.len().checked_mul(4) else {
         return Err(BinaryDeserializerError::out_of_memory());
     };
-    if buffer.reserve(size).is_err() {
+    if buffer.reserve_exact(size).is_err() {
         return Err(BinaryDeserializerError::out_of_memory());
     }
     for word in words {

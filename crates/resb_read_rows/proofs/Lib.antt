@@ -1,1 +1,1 @@
--- No lemmas.
+pub mod Walking

@@ -1,1 +1,2 @@
--- No words of its own: only tests stand here.
+-- What is read as the type that a user would write.
+pub mod Fields

@@ -6,6 +6,9 @@
 mod answers;
 #[cfg(test)]
 mod asks;
+mod both;
+#[cfg(test)]
+mod both_rows;
 #[cfg(test)]
 mod cursor_rows;
 #[cfg(test)]
@@ -20,3 +23,5 @@ mod hostile_rows;
 mod places;
 #[cfg(test)]
 mod type_rows;
+
+pub use both::Both;

@@ -9,4 +9,5 @@ pub use Rattle.resb_tree.specs.Tree
 pub use Rattle.resb_tree.specs.View
 pub mod Files
 pub mod Refusals
+pub mod Borrows
 pub mod Inner

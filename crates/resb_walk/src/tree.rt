@@ -40,19 +40,20 @@ fn numbers(alloc: Global, bytes: &[u8]) -> Result<Vec<u32>, NoMemory>
 }
 
 impl<'de> Make<'de> for Resource<'de> {
-    ghost use Rattle.std.specs.Prelude.{◌≡◌, map};
+    ghost use Rattle.std.specs.Prelude.{◌≡◌, map, true};
     ghost use Rattle.resb_tree.specs.Tree.{map_of};
     ghost use Rattle.resb_tree.specs.View.{tree_of, entries_view};
+    ghost use Rattle.resb_walk.specs.Borrows.{Borrows, all_borrow, entries_borrow};
 
     type List = Vec<Resource<'de>>;
 
     type Table = Table<'de>;
 
-    ghost is = { λ r t. tree_of r ≡ t };
+    ghost is = { λ r t. (tree_of r ≡ t) × Borrows r };
 
-    ghost lists = { λ v ts. map tree_of v.items ≡ ts };
+    ghost lists = { λ v ts. (map tree_of v.items ≡ ts) × (all_borrow v.items ≡ true) };
 
-    ghost tables = { λ m es. entries_view m.entries ≡ map_of es };
+    ghost tables = { λ m es. (entries_view m.entries ≡ map_of es) × (entries_borrow m.entries ≡ true) };
 
     fn leaf(alloc: Global, leaf: Leaf<'de>) -> Result<Resource<'de>, NoMemory> {
         Ok(match leaf {
@@ -68,7 +69,7 @@ impl<'de> Make<'de> for Resource<'de> {
         Ok(Vec::with_capacity(alloc, room)?)
     }
 
-    #[tactic(auto, using(crate::proofs::Made::map_snoc))]
+    #[tactic(auto, using(crate::proofs::Made::map_snoc, crate::proofs::Made::borrow_snoc))]
     fn add(
         mut list: Vec<Resource<'de>>,
         item: Resource<'de>,
@@ -85,7 +86,7 @@ impl<'de> Make<'de> for Resource<'de> {
         BTreeMap::new(alloc)
     }
 
-    #[tactic(auto, using(crate::proofs::Made::put_snoc))]
+    #[tactic(auto, using(crate::proofs::Made::put_made))]
     fn put(
         mut table: Table<'de>,
         key: &'de str,

@@ -1,7 +1,7 @@
 -- What a reading within a budget answers.
 --     Lacks counts left           no count that can be paid for stands there
 --     Reads faults reads counts left left' r
---                             Ok with a value that is read and paid for; or else such a count lacks, and
+-- Ok with a value that is read and paid for; or else such a count lacks, and
 --                             the error is one of these
 use Rattle.std.specs.Prelude.{◌≡◌, ◌≤◌, ◌+◌, ◌⊎◌, ℕ, Option, Some, Result, Ok, Err}
 use Rattle.resb_format.specs.Error.{IsWantOfMemory}
@@ -10,7 +10,8 @@ use Rattle.resb_format.specs.declared.error.ReadingError.{ReadingError}
 abbrev pub Lacks : (ℕ → Type 0) → ℕ → Type 0
 Lacks counts left = (n : ℕ) → counts n → n ≤ left → ⊥
 
-abbrev pub Reads : {X : Type 0} → (ReadingError → Type 0) → (X → ℕ → Type 0) → (ℕ → Type 0) → ℕ → ℕ → Result X ReadingError → Type 0
+abbrev pub Reads : {X : Type 0} → (ReadingError → Type 0) → (X → ℕ → Type 0) → (ℕ → Type 0) → ℕ → ℕ
+    → Result X ReadingError → Type 0
 Reads faults reads counts left left' (Ok x) = (n : ℕ) × reads x n × (left' + n ≡ left)
 Reads faults reads counts left left' (Err e) = (left' ≤ left) × Lacks counts left × faults e
 

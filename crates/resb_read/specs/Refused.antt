@@ -1,10 +1,11 @@
 -- Why readings that ask for no memory are refused.
 --     Says f e                the error has this kind and message
---     Blames left e           it says that the budget is spent, and nothing of it is left; or anything
+-- Blames left e           it says that the budget is spent, and nothing of it is left; or anything
 --                             but that and want of memory
 --     number_refusal s left, bool_refusal s left
 --                             what is answered where no number or bool is read
-use Rattle.std.specs.Prelude.{◌≡◌, ◌⊎◌, ◌==◌, ◌||◌, ◌&&◌, not, nat_lt, ℕ, List, codes, if◌then◌else◌}
+use Rattle.std.specs.Prelude.{◌≡◌, ◌⊎◌, ◌==◌, ◌||◌, ◌&&◌, not, nat_lt, ℕ, List, codes}
+use Rattle.std.specs.Prelude.{if◌then◌else◌}
 use Rattle.resb_format.specs.HeadChecks.{Refusal, invalid, unsupported, refusal_of}
 use Rattle.resb_format.specs.declared.error.ReadingError.{ReadingError}
 use Rattle.resb_format.specs.declared.error.ErrorKind.TheVariants.{ResourceTypeMismatch, Unknown}
@@ -34,7 +35,8 @@ mismatch expected = (ResourceTypeMismatch, expected)
 abbrev pub type_refusal : ℕ → Refusal → Refusal
 type_refusal type other =
     if type == 0 || type == 3 then unsupported (codes "resource type is not supported")
-    else if nat_lt 9 type && not (type == 14) then invalid (codes "unrecognized value for ResourceReprType")
+    else if nat_lt 9 type && not (type == 14) then invalid
+    (codes "unrecognized value for ResourceReprType")
     else other
 
 -- one is paid before anything else is looked at
@@ -54,7 +56,8 @@ number_refusal (spot.Key k) left = elsewhere
 
 abbrev pub bool_refusal : Spot → ℕ → Refusal
 bool_refusal (spot.Descriptor w) left =
-    paid left (integer_refusal (type_in w) (mismatch (codes "expected integer resource representable as boolean")))
+    paid left (integer_refusal (type_in w)
+    (mismatch (codes "expected integer resource representable as boolean")))
 bool_refusal (spot.Unit u) left = paid left elsewhere
 bool_refusal (spot.Word w) left = elsewhere
 bool_refusal (spot.Key k) left = elsewhere

@@ -27,7 +27,9 @@ pub record AtRoot (P : Place → Type 0) (bytes : List ℕ) : Type 0 where
 abbrev pub RefusesFile : List ℕ → ReadingError → Type 0
 RefusesFile bytes e =
     (file_fault bytes ≡ Some (refusal_of e))
-    ⊎ (IsBundleFile bytes × Refuses (Den (parts_of bytes) (root_word bytes)) (Reaches (parts_of bytes) (root_word bytes)) (budget bytes) e)
+    ⊎ (IsBundleFile bytes
+    × Refuses (Den (parts_of bytes) (root_word bytes))
+    (Reaches (parts_of bytes) (root_word bytes)) (budget bytes) e)
 
 abbrev pub TreeOf : List ℕ → Result Resource ReadingError → Type 0
 TreeOf bytes (Ok r) = (n : ℕ) × Denotes bytes (tree_of r) n × (n ≤ budget bytes) × Borrows r

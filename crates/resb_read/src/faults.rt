@@ -28,7 +28,8 @@ pub(crate) fn elsewhere() -> BinaryDeserializerError
     BinaryDeserializerError::unknown("value cannot be read here")
 }
 
-/// The refusal at a place that a type does not read. A descriptor and a string's unit cost one of the
+/// The refusal at a place that a type does not read. A descriptor and a string's unit cost one of
+/// the
 /// budget before they are looked at, and a descriptor's type has to be one that is read at all.
 pub(crate) fn refused_here(at: Spot, walk: &mut Walk) -> BinaryDeserializerError
     ensures falls { walk.new ≤ walk.old }
@@ -66,7 +67,8 @@ fn unread(kind: u32, other: BinaryDeserializerError) -> BinaryDeserializerError
 /// A descriptor of another type than was asked for: one that isn't read at all, or a mismatch.
 pub(crate) fn mismatch(word: u32, expected: &'static str) -> BinaryDeserializerError
     requires { expected.now ≢ codes "resource budget spent" }
-    ensures says { Says (refused.type_refusal (type_in word) (refused.mismatch expected.entry.now)) result }
+    ensures says { Says (refused.type_refusal (type_in word) (refused.mismatch expected.entry.now))
+        result }
     ensures fault { IsFault result }
 {
     unread(

@@ -22,7 +22,8 @@ pub fn option_utf_16<'de>(
     walk: &mut Walk,
 ) -> Result<Option<Utf16View<'de>>, BinaryDeserializerError>
     ensures { let p = place_of at.entry in
-        Reads (Blames walk.old) (λ o n. IsSomeAnd o (λ v. ReadsView 2 p (unit_bytes v) n)) (CountsView 2 p) walk.old walk.new result }
+        Reads (Blames walk.old) (λ o n. IsSomeAnd o (λ v. ReadsView 2 p (unit_bytes v) n))
+        (CountsView 2 p) walk.old walk.new result }
 {
     match at.units(walk) {
         Ok(view) => Ok(Some(view)),
@@ -36,7 +37,8 @@ pub fn option_u32<'de>(
     walk: &mut Walk,
 ) -> Result<Option<WordView<'de>>, BinaryDeserializerError>
     ensures { let p = place_of at.entry in
-        Reads (Blames walk.old) (λ o n. IsSomeAnd o (λ v. ReadsView 4 p (word_bytes v) n)) (CountsView 4 p) walk.old walk.new result }
+        Reads (Blames walk.old) (λ o n. IsSomeAnd o (λ v. ReadsView 4 p (word_bytes v) n))
+        (CountsView 4 p) walk.old walk.new result }
 {
     match at.words(walk) {
         Ok(view) => Ok(Some(view)),
@@ -50,7 +52,8 @@ pub fn option_i32<'de>(
     walk: &mut Walk,
 ) -> Result<Option<I32View<'de>>, BinaryDeserializerError>
     ensures { let p = place_of at.entry in
-        Reads (Blames walk.old) (λ o n. IsSomeAnd o (λ v. ReadsView 4 p (number_bytes v) n)) (CountsView 4 p) walk.old walk.new result }
+        Reads (Blames walk.old) (λ o n. IsSomeAnd o (λ v. ReadsView 4 p (number_bytes v) n))
+        (CountsView 4 p) walk.old walk.new result }
 {
     match at.words(walk) {
         Ok(words) => Ok(Some(cast_u32_to_i32_slice(words))),
@@ -64,7 +67,8 @@ pub fn i32_tuple<'de>(
     walk: &mut Walk,
 ) -> Result<PairView<'de>, BinaryDeserializerError>
     ensures { let p = place_of at.entry in
-        Reads (Blames walk.old) (λ v n. ReadsView 8 p (pair_bytes v) n) (CountsView 8 p) walk.old walk.new result }
+        Reads (Blames walk.old) (λ v n. ReadsView 8 p (pair_bytes v) n) (CountsView 8 p) walk.old
+        walk.new result }
 {
     at.pairs(walk)
 }
@@ -75,7 +79,8 @@ pub fn option_i32_tuple<'de>(
     walk: &mut Walk,
 ) -> Result<Option<PairView<'de>>, BinaryDeserializerError>
     ensures { let p = place_of at.entry in
-        Reads (Blames walk.old) (λ o n. IsSomeAnd o (λ v. ReadsView 8 p (pair_bytes v) n)) (CountsView 8 p) walk.old walk.new result }
+        Reads (Blames walk.old) (λ o n. IsSomeAnd o (λ v. ReadsView 8 p (pair_bytes v) n))
+        (CountsView 8 p) walk.old walk.new result }
 {
     match at.pairs(walk) {
         Ok(view) => Ok(Some(view)),
@@ -89,8 +94,11 @@ pub fn vec_utf_16<'de>(
     at: Cursor<'de>,
     walk: &mut Walk,
 ) -> Result<Vec<Utf16View<'de>>, BinaryDeserializerError>
-    ensures read { IfOk result (λ v. (n : ℕ) × ReadsSeq (λ p x n. ReadsView 2 p (unit_bytes x) n) (place_of at.entry) v.items n × (walk.new + n ≡ walk.old)) }
-    ensures refused { IfErr result (λ e. (walk.new ≤ walk.old) × LacksOrMemory (CountsSeq (CountsView 2) (place_of at.entry)) walk.old e) }
+    ensures read { IfOk result (λ v. (n : ℕ)
+        × ReadsSeq (λ p x n. ReadsView 2 p (unit_bytes x) n) (place_of at.entry) v.items n
+        × (walk.new + n ≡ walk.old)) }
+    ensures refused { IfErr result (λ e. (walk.new ≤ walk.old)
+        × LacksOrMemory (CountsSeq (CountsView 2) (place_of at.entry)) walk.old e) }
 {
     Vec::deserialize(alloc, at, walk)
 }

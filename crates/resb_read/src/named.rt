@@ -1,12 +1,15 @@
 //! Cursors at places that are no descriptor: a string's unit, a vector's word, a key.
 //! What they read is said in the modules of the types.
-ghost use Rattle.std.specs.Prelude.{◌≡◌, ◌≤◌, ◌+◌, ◌-◌, ◌^◌, ℕ, pos, negsuc, IfOk, IfErr, MatchOption};
+ghost use Rattle.std.specs.Prelude.{◌≡◌, ◌≤◌, ◌+◌, ◌-◌, ◌^◌, ℕ, pos, negsuc, IfOk, IfErr};
+ghost use Rattle.std.specs.Prelude.{MatchOption};
 ghost use Rattle.std.specs.String.{string_bytes};
 ghost use Rattle.resb_read.specs.Places.{place_of};
 ghost use Rattle.resb_walk.specs.Refusals.{IsFault};
 ghost use Rattle.resb_read.specs.Reading.{Reads, LacksOrMemory};
 ghost use Rattle.resb_read.specs.Refused.{Says, Blames, out_of_range};
-ghost use Rattle.resb_read.specs.Leaves.{ReadsText, CountsText, ReadsKey, CountsKey, ReadsBytes, CountsBytes, ReadsSigned, CountsSigned, ReadsUnsigned, CountsUnsigned};
+ghost use Rattle.resb_read.specs.Leaves.{ReadsText, CountsText, ReadsKey, CountsKey, ReadsBytes};
+ghost use Rattle.resb_read.specs.Leaves.{CountsBytes, ReadsSigned, CountsSigned, ReadsUnsigned};
+ghost use Rattle.resb_read.specs.Leaves.{CountsUnsigned};
 ghost use Rattle.resb_read.specs.Others.{IsUnit, IsWord, IsKey};
 ghost use Rattle.resb_read.specs.Inner.Named as named;
 
@@ -39,7 +42,8 @@ pub struct KeyDeserializer<'de> {
 impl<'de> Cursor<'de> {
     /// The string's deserializer, at a unit of the 16-bit block.
     pub fn as_16_bit(self) -> Option<Resource16BitDeserializer<'de>>
-        ensures { MatchOption result (IsUnit self.entry.at → ⊥) (λ d. IsUnit self.entry.at × (named.unit_place d ≡ place_of self.entry)) }
+        ensures { MatchOption result (IsUnit self.entry.at → ⊥)
+            (λ d. IsUnit self.entry.at × (named.unit_place d ≡ place_of self.entry)) }
     {
         match self.at {
             Spot::Unit(unit) => Some(Resource16BitDeserializer {
@@ -52,7 +56,8 @@ impl<'de> Cursor<'de> {
 
     /// The number's deserializer, at a vector's word.
     pub fn as_int_vector(self) -> Option<IntVectorDeserializer<'de>>
-        ensures { MatchOption result (IsWord self.entry.at → ⊥) (λ d. IsWord self.entry.at × (named.word_place d ≡ place_of self.entry)) }
+        ensures { MatchOption result (IsWord self.entry.at → ⊥)
+            (λ d. IsWord self.entry.at × (named.word_place d ≡ place_of self.entry)) }
     {
         match self.at {
             Spot::Word(word) => Some(IntVectorDeserializer {
@@ -65,7 +70,8 @@ impl<'de> Cursor<'de> {
 
     /// The key's deserializer, at a key.
     pub fn as_key(self) -> Option<KeyDeserializer<'de>>
-        ensures { MatchOption result (IsKey self.entry.at → ⊥) (λ d. IsKey self.entry.at × (named.key_place d ≡ place_of self.entry)) }
+        ensures { MatchOption result (IsKey self.entry.at → ⊥)
+            (λ d. IsKey self.entry.at × (named.key_place d ≡ place_of self.entry)) }
     {
         match self.at {
             Spot::Key(position) => Some(KeyDeserializer {
@@ -84,8 +90,11 @@ impl<'de> Resource16BitDeserializer<'de> {
         alloc: Global,
         walk: &mut Walk,
     ) -> Result<String, BinaryDeserializerError>
-        ensures read { IfOk result (λ s. (n : ℕ) × ReadsText (named.unit_place self.entry) (string_bytes s) n × (walk.new + n ≡ walk.old)) }
-        ensures refused { IfErr result (λ e. (walk.new ≤ walk.old) × LacksOrMemory (CountsText (named.unit_place self.entry)) walk.old e) }
+        ensures read { IfOk result (λ s. (n : ℕ)
+            × ReadsText (named.unit_place self.entry) (string_bytes s) n
+            × (walk.new + n ≡ walk.old)) }
+        ensures refused { IfErr result (λ e. (walk.new ≤ walk.old)
+            × LacksOrMemory (CountsText (named.unit_place self.entry)) walk.old e) }
     {
         let at = Cursor {
             file: self.file,
@@ -97,7 +106,8 @@ impl<'de> Resource16BitDeserializer<'de> {
     /// Reads the bytes of the string's units, which need be no text.
     pub fn read_bytes(self, walk: &mut Walk) -> Result<&'de [u8], BinaryDeserializerError>
         ensures { let p = named.unit_place self.entry in
-            Reads (Blames walk.old) (λ b n. ReadsBytes p b.now n) (CountsBytes p) walk.old walk.new result }
+            Reads (Blames walk.old) (λ b n. ReadsBytes p b.now n) (CountsBytes p) walk.old walk.new
+            result }
     {
         let at = Cursor {
             file: self.file,
@@ -133,8 +143,10 @@ impl<'de> IntVectorDeserializer<'de> {
 
     /// Reads the number, as one from -2^7 to 2^7 - 1.
     pub fn read_i8(self) -> Result<i8, BinaryDeserializerError>
-        ensures { let low = negsuc (2 ^ 7 - 1) in let high = pos (2 ^ 7 - 1) in let p = named.word_place self.entry in
-            Reads (Says out_of_range) (ReadsSigned low high p) (CountsSigned low high p) 0 0 result }
+        ensures { let low = negsuc (2 ^ 7 - 1) in let high = pos (2 ^ 7 - 1) in
+            let p = named.word_place self.entry in
+            Reads (Says out_of_range) (ReadsSigned low high p) (CountsSigned low high p) 0 0
+            result }
     {
         let mut walk = Walk::new(0);
         match self.at().read_i8(&mut walk) {
@@ -145,8 +157,10 @@ impl<'de> IntVectorDeserializer<'de> {
 
     /// Reads the number, as one from -2^15 to 2^15 - 1.
     pub fn read_i16(self) -> Result<i16, BinaryDeserializerError>
-        ensures { let low = negsuc (2 ^ 15 - 1) in let high = pos (2 ^ 15 - 1) in let p = named.word_place self.entry in
-            Reads (Says out_of_range) (ReadsSigned low high p) (CountsSigned low high p) 0 0 result }
+        ensures { let low = negsuc (2 ^ 15 - 1) in let high = pos (2 ^ 15 - 1) in
+            let p = named.word_place self.entry in
+            Reads (Says out_of_range) (ReadsSigned low high p) (CountsSigned low high p) 0 0
+            result }
     {
         let mut walk = Walk::new(0);
         match self.at().read_i16(&mut walk) {
@@ -157,8 +171,10 @@ impl<'de> IntVectorDeserializer<'de> {
 
     /// Reads the number, as one from -2^31 to 2^31 - 1.
     pub fn read_i32(self) -> Result<i32, BinaryDeserializerError>
-        ensures { let low = negsuc (2 ^ 31 - 1) in let high = pos (2 ^ 31 - 1) in let p = named.word_place self.entry in
-            Reads (Says out_of_range) (ReadsSigned low high p) (CountsSigned low high p) 0 0 result }
+        ensures { let low = negsuc (2 ^ 31 - 1) in let high = pos (2 ^ 31 - 1) in
+            let p = named.word_place self.entry in
+            Reads (Says out_of_range) (ReadsSigned low high p) (CountsSigned low high p) 0 0
+            result }
     {
         let mut walk = Walk::new(0);
         match self.at().read_i32(&mut walk) {
@@ -169,8 +185,10 @@ impl<'de> IntVectorDeserializer<'de> {
 
     /// Reads the number, as one from -2^63 to 2^63 - 1.
     pub fn read_i64(self) -> Result<i64, BinaryDeserializerError>
-        ensures { let low = negsuc (2 ^ 63 - 1) in let high = pos (2 ^ 63 - 1) in let p = named.word_place self.entry in
-            Reads (Says out_of_range) (ReadsSigned low high p) (CountsSigned low high p) 0 0 result }
+        ensures { let low = negsuc (2 ^ 63 - 1) in let high = pos (2 ^ 63 - 1) in
+            let p = named.word_place self.entry in
+            Reads (Says out_of_range) (ReadsSigned low high p) (CountsSigned low high p) 0 0
+            result }
     {
         let mut walk = Walk::new(0);
         match self.at().read_i64(&mut walk) {

@@ -26,9 +26,11 @@ impl<'de> Cursor<'de> {
         alloc: Global,
         walk: &mut Walk,
     ) -> Result<Resource<'de>, BinaryDeserializerError>
-        ensures read { IfOk result (λ r. (n : ℕ) × ReadsTree (place_of self.entry) r n × (walk.new + n ≡ walk.old)) }
+        ensures read { IfOk result
+            (λ r. (n : ℕ) × ReadsTree (place_of self.entry) r n × (walk.new + n ≡ walk.old)) }
         ensures refused { IfErr result (λ e. (walk.new ≤ walk.old)
-            × Refuses (DenPlace (place_of self.entry)) (ReachesPlace (place_of self.entry)) walk.old e) }
+            × Refuses (DenPlace (place_of self.entry)) (ReachesPlace (place_of self.entry)) walk.old
+            e) }
     {
         match self.at {
             Spot::Descriptor(word) => read_checked::<Resource<'de>>(alloc, self.file, word, walk),
@@ -43,9 +45,11 @@ impl<'de> Cursor<'de> {
         alloc: Global,
         walk: &mut Walk,
     ) -> Result<(), BinaryDeserializerError>
-        ensures read { IfOk result (λ _. (t : Tree) × (n : ℕ) × DenPlace (place_of self.entry) t n × (walk.new + n ≡ walk.old)) }
+        ensures read { IfOk result (λ _. (t : Tree) × (n : ℕ) × DenPlace (place_of self.entry) t n
+            × (walk.new + n ≡ walk.old)) }
         ensures refused { IfErr result (λ e. (walk.new ≤ walk.old)
-            × Refuses (DenPlace (place_of self.entry)) (ReachesPlace (place_of self.entry)) walk.old e) }
+            × Refuses (DenPlace (place_of self.entry)) (ReachesPlace (place_of self.entry)) walk.old
+            e) }
     {
         match self.at {
             Spot::Descriptor(word) => {

@@ -1,6 +1,7 @@
 //! The members of an array or a vector, one after another.
 //! Whole lists are read in `lists`.
-ghost use Rattle.std.specs.Prelude.{◌≡◌, ◌≤◌, ◌<◌, ◌+◌, ◌⊎◌, Some, None, [], ◌∷◌, drop, length, MatchOption, IfOk, IfErr};
+ghost use Rattle.std.specs.Prelude.{◌≡◌, ◌≤◌, ◌<◌, ◌+◌, ◌⊎◌, Some, None, [], ◌∷◌, drop, length};
+ghost use Rattle.std.specs.Prelude.{MatchOption, IfOk, IfErr};
 ghost use Rattle.resb_read.specs.Places.{place_of};
 ghost use Rattle.resb_read.specs.Sequences.{items};
 ghost use Rattle.resb_read.specs.Access.{StepsTo, Steps};
@@ -43,9 +44,10 @@ impl<'de, 'm> SeqAccess<'de, 'm> {
     }
 
     /// The first of the members.
-    #[tactic(auto, using(crate::proofs::Singly::map_first, crate::proofs::Singly::map_none, crate::proofs::Singly::some_first))]
+    #[tactic(auto, using(crate::proofs::Singly::firsts))]
     fn first(&self) -> Option<Cursor<'de>>
-        ensures { MatchOption result (self.now.rest ≡ []) (λ c. self.now.rest ≡ place_of c ∷ drop 1 self.now.rest) }
+        ensures { MatchOption result (self.now.rest ≡ [])
+            (λ c. self.now.rest ≡ place_of c ∷ drop 1 self.now.rest) }
     {
         let (at, _) = self.rest.split()?;
         Some(Cursor {
@@ -55,7 +57,7 @@ impl<'de, 'm> SeqAccess<'de, 'm> {
     }
 
     /// Goes past the first of the members.
-    #[tactic(auto, using(crate::proofs::Singly::map_first, crate::proofs::Singly::map_none, crate::proofs::Singly::drop_first, crate::proofs::Singly::none_left))]
+    #[tactic(auto, using(crate::proofs::Singly::rests))]
     fn advance(&mut self)
         requires { 0 < length self.old.rest }
         ensures { self.new ≡ record { rest = drop 1 self.old.rest; failed = self.old.failed } }
@@ -110,8 +112,10 @@ impl<'de> Cursor<'de> {
     /// The members of the array or vector that stands here. The fields of all lie in the file, but
     /// where they lead isn't looked at yet.
     pub fn read_seq<'m>(self, walk: &mut Walk) -> Result<SeqAccess<'de, 'm>, ReadingError<'m>>
-        ensures read { IfOk result (λ s. (items (place_of self.entry) ≡ Some s.rest) × (s.failed ≡ None) × (walk.new + 1 ≡ walk.old)) }
-        ensures refused { IfErr result (λ e. (walk.new ≤ walk.old) × (items (place_of self.entry) ≡ None ⊎ walk.old ≡ 0) × Blames walk.old e) }
+        ensures read { IfOk result (λ s. (items (place_of self.entry) ≡ Some s.rest)
+            × (s.failed ≡ None) × (walk.new + 1 ≡ walk.old)) }
+        ensures refused { IfErr result (λ e. (walk.new ≤ walk.old)
+            × (items (place_of self.entry) ≡ None ⊎ walk.old ≡ 0) × Blames walk.old e) }
     {
         let Spot::Descriptor(word) = self.at else {
             return Err(refused_here(self.at, walk));

@@ -24,7 +24,8 @@ impl<'de> Cursor<'de> {
 
     /// The type of the resource here. Types that aren't read are refused.
     pub fn resource_type(self) -> Result<ResourceReprType, BinaryDeserializerError>
-        ensures { MatchResult result (λ t. type_at self.entry.at ≡ Some (type_number t)) (λ e. (type_at self.entry.at ≡ None) × Says (untold self.entry.at) e) }
+        ensures { MatchResult result (λ t. type_at self.entry.at ≡ Some (type_number t))
+            (λ e. (type_at self.entry.at ≡ None) × Says (untold self.entry.at) e) }
     {
         match self.at {
             Spot::Descriptor(word) => {

@@ -1,6 +1,7 @@
 //! Texts, keys and bytes, at a descriptor, at a string's unit and at a key.
 //! Bytes, keys and borrowed texts live as long as the file.
-ghost use Rattle.std.specs.Prelude.{◌≡◌, ◌≤◌, ◌<◌, ◌+◌, ◌*◌, ◌^◌, ℕ, Some, None, length, option_map, IfOk, IfErr, MatchResult};
+ghost use Rattle.std.specs.Prelude.{◌≡◌, ◌≤◌, ◌<◌, ◌+◌, ◌*◌, ◌^◌, ℕ, Some, None, length};
+ghost use Rattle.std.specs.Prelude.{option_map, IfOk, IfErr, MatchResult};
 ghost use Rattle.std.specs.String.{string_bytes};
 ghost use Rattle.resb_format.specs.Bytes.{units_of};
 ghost use Rattle.resb_format.specs.Strings as strings;
@@ -9,8 +10,11 @@ ghost use Rattle.resb_walk.specs.Refusals.{IsFault};
 ghost use Rattle.resb_read.specs.Places.{place_of};
 ghost use Rattle.resb_read.specs.Reading.{Reads, LacksOrMemory};
 ghost use Rattle.resb_read.specs.Refused.{Blames};
-ghost use Rattle.resb_read.specs.Leaves.{type_in, value_in, units_as_bytes, counted_bytes, bytes_of_type, ReadsText, CountsText, ReadsKey, CountsKey, ReadsBytes, CountsBytes};
-ghost use Rattle.resb_read.specs.LeafLaws.{text_counted, text_one, key_counted, key_one, bytes_counted, bytes_one};
+ghost use Rattle.resb_read.specs.Leaves.{type_in, value_in, units_as_bytes, counted_bytes};
+ghost use Rattle.resb_read.specs.Leaves.{bytes_of_type, ReadsText, CountsText, ReadsKey, CountsKey};
+ghost use Rattle.resb_read.specs.Leaves.{ReadsBytes, CountsBytes};
+ghost use Rattle.resb_read.specs.LeafLaws.{text_counted, text_one, key_counted, key_one};
+ghost use Rattle.resb_read.specs.LeafLaws.{bytes_counted, bytes_one};
 
 use crate::cursor::{Cursor, Spot};
 use crate::deserialize::Deserialize;
@@ -79,8 +83,10 @@ impl<'de> Cursor<'de> {
         alloc: Global,
         walk: &mut Walk,
     ) -> Result<String, BinaryDeserializerError>
-        ensures read { IfOk result (λ s. (n : ℕ) × ReadsText (place_of self.entry) (string_bytes s) n × (walk.new + n ≡ walk.old)) }
-        ensures refused { IfErr result (λ e. (walk.new ≤ walk.old) × LacksOrMemory (CountsText (place_of self.entry)) walk.old e) }
+        ensures read { IfOk result (λ s. (n : ℕ)
+            × ReadsText (place_of self.entry) (string_bytes s) n × (walk.new + n ≡ walk.old)) }
+        ensures refused { IfErr result (λ e. (walk.new ≤ walk.old)
+            × LacksOrMemory (CountsText (place_of self.entry)) walk.old e) }
     {
         match self.at {
             Spot::Descriptor(word) => {
@@ -111,7 +117,8 @@ impl<'de> Cursor<'de> {
     /// Reads a key, which lives as long as the file.
     pub fn read_str(self, walk: &mut Walk) -> Result<&'de str, BinaryDeserializerError>
         ensures { let p = place_of self.entry in
-            Reads (Blames walk.old) (λ s n. ReadsKey p s.now n) (CountsKey p) walk.old walk.new result }
+            Reads (Blames walk.old) (λ s n. ReadsKey p s.now n) (CountsKey p) walk.old walk.new
+            result }
     {
         match self.at {
             Spot::Key(position) => match self.file.key(position) {
@@ -128,7 +135,8 @@ impl<'de> Cursor<'de> {
     /// string's units, which need be no text, or of a key.
     pub fn read_bytes(self, walk: &mut Walk) -> Result<&'de [u8], BinaryDeserializerError>
         ensures { let p = place_of self.entry in
-            Reads (Blames walk.old) (λ b n. ReadsBytes p b.now n) (CountsBytes p) walk.old walk.new result }
+            Reads (Blames walk.old) (λ b n. ReadsBytes p b.now n) (CountsBytes p) walk.old walk.new
+            result }
     {
         match self.at {
             Spot::Descriptor(word) => {

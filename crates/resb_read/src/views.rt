@@ -22,7 +22,8 @@ impl<'de> Cursor<'de> {
     /// Reads bytes as 16-bit units.
     pub(crate) fn units(self, walk: &mut Walk) -> Result<Utf16View<'de>, BinaryDeserializerError>
         ensures { let p = place_of self.entry in
-            Reads (Blames walk.old) (λ v n. ReadsView 2 p (unit_bytes v) n) (CountsView 2 p) walk.old walk.new result }
+            Reads (Blames walk.old) (λ v n. ReadsView 2 p (unit_bytes v) n) (CountsView 2 p)
+            walk.old walk.new result }
     {
         let bytes = self.read_bytes(walk)?;
         let view = cast_bytes_to_u16_slice(bytes)?;
@@ -32,7 +33,8 @@ impl<'de> Cursor<'de> {
     /// Reads bytes as words.
     pub(crate) fn words(self, walk: &mut Walk) -> Result<WordView<'de>, BinaryDeserializerError>
         ensures { let p = place_of self.entry in
-            Reads (Blames walk.old) (λ v n. ReadsView 4 p (word_bytes v) n) (CountsView 4 p) walk.old walk.new result }
+            Reads (Blames walk.old) (λ v n. ReadsView 4 p (word_bytes v) n) (CountsView 4 p)
+            walk.old walk.new result }
     {
         let bytes = self.read_bytes(walk)?;
         let view = cast_bytes_to_u32_slice(bytes)?;
@@ -43,7 +45,8 @@ impl<'de> Cursor<'de> {
     #[tactic(auto, using(resb_format::proofs::Spelled::words_length))]
     pub(crate) fn pairs(self, walk: &mut Walk) -> Result<PairView<'de>, BinaryDeserializerError>
         ensures { let p = place_of self.entry in
-            Reads (Blames walk.old) (λ v n. ReadsView 8 p (pair_bytes v) n) (CountsView 8 p) walk.old walk.new result }
+            Reads (Blames walk.old) (λ v n. ReadsView 8 p (pair_bytes v) n) (CountsView 8 p)
+            walk.old walk.new result }
     {
         let words = self.words(walk)?;
         let view = cast_u32_to_i32_pair_slice(words)?;

@@ -1,5 +1,6 @@
 -- Members read one by one.
-use Rattle.std.proofs.Common.{ℕ, List, [], ◌∷◌, ◌++◌, ◌≡◌, ◌+◌, ◌≤◌, refl, sym, ◌∙◌, ap, subst, arith, ◌⊎◌, inl, inr, append_assoc, append-nil, Ok, Err, Some, None}
+use Rattle.std.proofs.Common.{ℕ, List, [], ◌∷◌, ◌++◌, ◌≡◌, ◌+◌, ◌≤◌, refl, sym, ◌∙◌, ap, subst}
+use Rattle.std.proofs.Common.{arith, ◌⊎◌, inl, inr, append_assoc, append-nil, Ok, Err, Some, None}
 use Rattle.resb_read.specs.Places.{Place}
 use Rattle.resb_read.specs.Sequences.{ReadsEach, CountsEach}
 use Rattle.resb_read.specs.Reading.{LacksOrMemory}
@@ -10,15 +11,21 @@ use Rattle.resb_read.specs.Access.{Access, StepsOver, StepsAfter, Steps}
 
 module _ {X : Type 0} (reads : Place → X → ℕ → Type 0) where
   -- one more place and its value, at the end
-  pub each_more : (ps : List Place) (xs : List X) (k : ℕ) (p : Place) (x : X) (n : ℕ) → ReadsEach reads ps xs k → reads p x n → ReadsEach reads (ps ++ p ∷ []) (xs ++ x ∷ []) (k + n)
+  pub each_more : (ps : List Place) (xs : List X) (k : ℕ) (p : Place) (x : X) (n : ℕ)
+      → ReadsEach reads ps xs k → reads p x n
+      → ReadsEach reads (ps ++ p ∷ []) (xs ++ x ∷ []) (k + n)
   each_more [] [] k p x n h r = (n, 0, r, refl, omega arith)
   each_more [] (y ∷ xs) k p x n h r = absurd h
   each_more (q ∷ ps) [] k p x n h r = absurd h
-  each_more (q ∷ ps) (y ∷ xs) k p x n (a, b, first, rest, e) r = (a, b + n, first, each_more ps xs b p x n rest r, omega arith)
+  each_more (q ∷ ps) (y ∷ xs) k p x n (a, b, first, rest, e) r =
+      (a, b + n, first, each_more ps xs b p x n rest r, omega arith)
 
-module _ (counts : Place → ℕ → Type 0) (one : (p : Place) (m n : ℕ) → counts p m → counts p n → m ≡ n) where
+module _ (counts : Place → ℕ → Type 0)
+    (one : (p : Place) (m n : ℕ) → counts p m → counts p n → m ≡ n) where
   -- the counts of a list whose front is known
-  pub each_split : (ps : List Place) (p : Place) (rest : List Place) (k n : ℕ) → CountsEach counts ps k → CountsEach counts (ps ++ p ∷ rest) n → (a : ℕ) × counts p a × (k + a ≤ n)
+  pub each_split : (ps : List Place) (p : Place) (rest : List Place) (k n : ℕ)
+      → CountsEach counts ps k → CountsEach counts (ps ++ p ∷ rest) n
+      → (a : ℕ) × counts p a × (k + a ≤ n)
   each_split [] p rest k n h (a, b, c, _, e) = (a, c, omega arith)
   each_split (q ∷ ps) p rest k n (a, b, c, d, e) (a', b', c', d', e') =
       let same : a ≡ a' = one q a a' c c' in
@@ -27,48 +34,98 @@ module _ (counts : Place → ℕ → Type 0) (one : (p : Place) (m n : ℕ) → 
       (later.0, later.1, omega arith)
 
   -- what is refused at one member is refused of all
-  pub each_refused : (ps : List Place) (p : Place) (rest : List Place) (k left now : ℕ) (e : ReadingError) → now + k ≡ left → CountsEach counts ps k → LacksOrMemory (counts p) now e → LacksOrMemory (CountsEach counts (ps ++ p ∷ rest)) left e
+  pub each_refused : (ps : List Place) (p : Place) (rest : List Place) (k left now : ℕ)
+      (e : ReadingError)
+      → now + k ≡ left → CountsEach counts ps k → LacksOrMemory (counts p) now e
+      → LacksOrMemory (CountsEach counts (ps ++ p ∷ rest)) left e
   each_refused ps p rest k left now e sum h (inl m) = inl m
   each_refused ps p rest k left now e sum h (inr none) =
-      inr (λ n all fits. let at = each_split ps p rest k n h all in let le : k + at.0 ≤ n = at.2 in none at.0 at.1 (omega arith))
+      inr (λ n all fits. let at = each_split ps p rest k n h all in let le : k + at.0 ≤ n = at.2 in
+      none at.0 at.1 (omega arith))
 
 module _ {X : Type 0} (reads : Place → X → ℕ → Type 0) (counts : Place → ℕ → Type 0) where
-  pub over_some : (rest : List Place) (left : ℕ) (new : Access) (left' : ℕ) (x : X) → StepsOver reads counts rest left new left' (Ok (Some x)) → (p : Place) × (rest ≡ p ∷ new.rest) × (new.failed ≡ None) × (n : ℕ) × reads p x n × (left' + n ≡ left)
+  pub over_some : (rest : List Place) (left : ℕ) (new : Access) (left' : ℕ) (x : X)
+      → StepsOver reads counts rest left new left' (Ok (Some x))
+      → (p : Place) × (rest ≡ p ∷ new.rest) × (new.failed ≡ None) × (n : ℕ) × reads p x n
+      × (left' + n ≡ left)
   over_some [] left new left' x h = absurd h
-  over_some (p ∷ ps) left new left' x (e, n, r, s) = (p, ap (λ a. p ∷ a.rest) (sym e), ap (λ a. a.failed) e, n, r, s)
+  over_some (p ∷ ps) left new left' x (e, n, r, s) =
+      (p, ap (λ a. p ∷ a.rest) (sym e), ap (λ a. a.failed) e, n, r, s)
 
-  pub over_err : (rest : List Place) (left : ℕ) (new : Access) (left' : ℕ) (d : ReadingError) → StepsOver reads counts rest left new left' (Err d) → (p : Place) × (ps : List Place) × (rest ≡ p ∷ ps) × (left' ≤ left) × LacksOrMemory (counts p) left d
+  pub over_err : (rest : List Place) (left : ℕ) (new : Access) (left' : ℕ) (d : ReadingError)
+      → StepsOver reads counts rest left new left' (Err d)
+      → (p : Place) × (ps : List Place) × (rest ≡ p ∷ ps) × (left' ≤ left)
+      × LacksOrMemory (counts p) left d
   over_err [] left new left' d h = absurd h
   over_err (p ∷ ps) left new left' d (e, s, r) = (p, ps, refl, s, r)
 
-  pub steps_some : (old : Access) (left : ℕ) (new : Access) (left' : ℕ) (x : X) → old.failed ≡ None → Steps reads counts old left new left' (Ok (Some x)) → (p : Place) × (old.rest ≡ p ∷ new.rest) × (new.failed ≡ None) × (n : ℕ) × reads p x n × (left' + n ≡ left)
-  steps_some old left new left' x none h = over_some old.rest left new left' x (subst (λ f. StepsAfter reads counts f old left new left' (Ok (Some x))) none h)
+  pub steps_some : (old : Access) (left : ℕ) (new : Access) (left' : ℕ) (x : X) → old.failed ≡ None
+      → Steps reads counts old left new left' (Ok (Some x))
+      → (p : Place) × (old.rest ≡ p ∷ new.rest) × (new.failed ≡ None) × (n : ℕ) × reads p x n
+      × (left' + n ≡ left)
+  steps_some old left new left' x none h =
+      over_some old.rest left new left' x
+      (subst (λ f. StepsAfter reads counts f old left new left' (Ok (Some x))) none h)
 
-  pub steps_err : (old : Access) (left : ℕ) (new : Access) (left' : ℕ) (d : ReadingError) → old.failed ≡ None → Steps reads counts old left new left' (Err d) → (p : Place) × (ps : List Place) × (old.rest ≡ p ∷ ps) × (left' ≤ left) × LacksOrMemory (counts p) left d
-  steps_err old left new left' d none h = over_err old.rest left new left' d (subst (λ f. StepsAfter reads counts f old left new left' (Err d)) none h)
+  pub steps_err : (old : Access) (left : ℕ) (new : Access) (left' : ℕ) (d : ReadingError)
+      → old.failed ≡ None → Steps reads counts old left new left' (Err d)
+      → (p : Place) × (ps : List Place) × (old.rest ≡ p ∷ ps) × (left' ≤ left)
+      × LacksOrMemory (counts p) left d
+  steps_err old left new left' d none h =
+      over_err old.rest left new left' d
+      (subst (λ f. StepsAfter reads counts f old left new left' (Err d)) none h)
 
-  pub over_none : (rest : List Place) (left : ℕ) (new : Access) (left' : ℕ) → StepsOver reads counts rest left new left' (Ok None) → (rest ≡ []) × (left' ≡ left)
+  pub over_none : (rest : List Place) (left : ℕ) (new : Access) (left' : ℕ)
+      → StepsOver reads counts rest left new left' (Ok None) → (rest ≡ []) × (left' ≡ left)
   over_none [] left new left' h = (refl, h.1)
   over_none (p ∷ ps) left new left' h = absurd h
 
 module _ {X : Type 0} (reads : Place → X → ℕ → Type 0) (counts : Place → ℕ → Type 0) where
-  pub front_more : (all : List Place) (old : Access) (values : List X) (before left : ℕ) (new : Access) (left' : ℕ) (x : X) → old.failed ≡ None → Front reads all old.rest values before left → Steps reads counts old left new left' (Ok (Some x)) → (new.failed ≡ None) × Front reads all new.rest (values ++ x ∷ []) before left'
+  pub front_more : (all : List Place) (old : Access) (values : List X) (before left : ℕ)
+      (new : Access) (left' : ℕ) (x : X)
+      → old.failed ≡ None → Front reads all old.rest values before left
+      → Steps reads counts old left new left' (Ok (Some x))
+      → (new.failed ≡ None) × Front reads all new.rest (values ++ x ∷ []) before left'
   front_more all old values before left new left' x none f h =
       let (p, first, none', n, r, s) = steps_some reads counts old left new left' x none h in
-      let paid : left + f.spent ≡ before = f.paid in
-      (none', record { done = f.done ++ p ∷ []; spent = f.spent + n; are = f.are ∙ ap (λ r. f.done ++ r) first ∙ sym (append_assoc f.done (p ∷ []) new.rest); each = each_more reads f.done values f.spent p x n f.each r; paid = omega arith })
+      let paid : left + f.spent ≡ before = f.paid in (
+        none',
+        record {
+          done = f.done ++ p ∷ [];
+          spent = f.spent + n;
+          are = f.are ∙ ap (λ r. f.done ++ r) first
+              ∙ sym (append_assoc f.done (p ∷ []) new.rest);
+          each = each_more reads f.done values f.spent p x n f.each r;
+          paid = omega arith;
+        },
+      )
 
-  pub front_all : (all : List Place) (old : Access) (values : List X) (before left : ℕ) (new : Access) (left' : ℕ) → old.failed ≡ None → Front reads all old.rest values before left → Steps reads counts old left new left' (Ok None) → (n : ℕ) × ReadsEach reads all values n × (left' + n ≡ before)
+  pub front_all : (all : List Place) (old : Access) (values : List X) (before left : ℕ)
+      (new : Access) (left' : ℕ)
+      → old.failed ≡ None → Front reads all old.rest values before left
+      → Steps reads counts old left new left' (Ok None)
+      → (n : ℕ) × ReadsEach reads all values n × (left' + n ≡ before)
   front_all all old values before left new left' none f h =
-      let (e, s) = over_none reads counts old.rest left new left' (subst (λ f. StepsAfter reads counts f old left new left' (Ok None)) none h) in
+      let (e, s) = over_none reads counts old.rest left new left'
+      (subst (λ f. StepsAfter reads counts f old left new left' (Ok None)) none h) in
       let paid : left + f.spent ≡ before = f.paid in
       let same : all ≡ f.done = f.are ∙ ap (λ r. f.done ++ r) e ∙ append-nil f.done in
       (f.spent, subst (λ ps. ReadsEach reads ps values f.spent) (sym same) f.each, omega arith)
 
-module _ {X : Type 0} (reads : Place → X → ℕ → Type 0) (counts : Place → ℕ → Type 0) (counted : (p : Place) (v : X) (n : ℕ) → reads p v n → counts p n) (one : (p : Place) (m n : ℕ) → counts p m → counts p n → m ≡ n) where
-  pub front_refused : (all : List Place) (old : Access) (values : List X) (before left : ℕ) (new : Access) (left' : ℕ) (d : ReadingError) → old.failed ≡ None → Front reads all old.rest values before left → Steps reads counts old left new left' (Err d) → (left' ≤ before) × LacksOrMemory (CountsEach counts all) before d
+module _ {X : Type 0} (reads : Place → X → ℕ → Type 0) (counts : Place → ℕ → Type 0)
+    (counted : (p : Place) (v : X) (n : ℕ) → reads p v n → counts p n)
+    (one : (p : Place) (m n : ℕ) → counts p m → counts p n → m ≡ n) where
+  pub front_refused : (all : List Place) (old : Access) (values : List X) (before left : ℕ)
+      (new : Access) (left' : ℕ) (d : ReadingError)
+      → old.failed ≡ None → Front reads all old.rest values before left
+      → Steps reads counts old left new left' (Err d)
+      → (left' ≤ before) × LacksOrMemory (CountsEach counts all) before d
   front_refused all old values before left new left' d none f h =
       let (p, ps, first, s, refuses) = steps_err reads counts old left new left' d none h in
       let paid : left + f.spent ≡ before = f.paid in
-      let same : all ≡ f.done ++ p ∷ ps = f.are ∙ ap (λ r. f.done ++ r) first in
-      (omega arith, subst (λ qs. LacksOrMemory (CountsEach counts qs) before d) (sym same) (each_refused counts one f.done p ps f.spent before left d paid (each_counted reads counts counted f.done values f.spent f.each) refuses))
+      let same : all ≡ f.done ++ p ∷ ps = f.are ∙ ap (λ r. f.done ++ r) first in (
+        omega arith,
+        subst (λ qs. LacksOrMemory (CountsEach counts qs) before d) (sym same)
+            (each_refused counts one f.done p ps f.spent before left d paid
+            (each_counted reads counts counted f.done values f.spent f.each) refuses),
+      )

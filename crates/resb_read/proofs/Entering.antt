@@ -1,5 +1,6 @@
 -- Entries read one by one.
-use Rattle.std.proofs.Common.{ℕ, List, [], ◌∷◌, ◌++◌, ◌≡◌, ◌+◌, ◌≤◌, refl, sym, ◌∙◌, ap, subst, arith, ◌⊎◌, inl, inr, append_assoc, append-nil, Ok, Err, Some, None}
+use Rattle.std.proofs.Common.{ℕ, List, [], ◌∷◌, ◌++◌, ◌≡◌, ◌+◌, ◌≤◌, refl, sym, ◌∙◌, ap, subst}
+use Rattle.std.proofs.Common.{arith, ◌⊎◌, inl, inr, append_assoc, append-nil, Ok, Err, Some, None}
 use Rattle.std.specs.BTreeMap.{insert_entry}
 use Rattle.std.specs.declared.cmp.Ordering.{Ordering}
 use Rattle.resb_read.specs.Places.{Place}
@@ -12,19 +13,28 @@ use Rattle.resb_format.specs.declared.error.ReadingError.{ReadingError}
 
 module _ {K X : Type 0} (rk : Place → K → ℕ → Type 0) (rv : Place → X → ℕ → Type 0) where
   -- one more entry, at the end
-  pub pairs_more : (ps : List (Place × Place)) (es : List (K × X)) (k : ℕ) (p : Place × Place) (e : K × X) (n : ℕ) → ReadsPairs rk rv ps es k → ReadsPair rk rv p e n → ReadsPairs rk rv (ps ++ p ∷ []) (es ++ e ∷ []) (k + n)
+  pub pairs_more : (ps : List (Place × Place)) (es : List (K × X)) (k : ℕ) (p : Place × Place)
+      (e : K × X) (n : ℕ)
+      → ReadsPairs rk rv ps es k → ReadsPair rk rv p e n
+      → ReadsPairs rk rv (ps ++ p ∷ []) (es ++ e ∷ []) (k + n)
   pairs_more [] [] k p e n h (a, b, r, s, t) = (a, b, 0, r, s, refl, omega arith)
   pairs_more [] (y ∷ es) k p e n h r = absurd h
   pairs_more (q ∷ ps) [] k p e n h r = absurd h
-  pairs_more (q ∷ ps) (y ∷ es) k p e n (a, b, j, r, s, rest, t) h = (a, b, j + n, r, s, pairs_more ps es j p e n rest h, omega arith)
+  pairs_more (q ∷ ps) (y ∷ es) k p e n (a, b, j, r, s, rest, t) h =
+      (a, b, j + n, r, s, pairs_more ps es j p e n rest h, omega arith)
 
-pub put_more : {K X : Type 0} (cmp : K → K → Ordering) (m es : List (K × X)) (e : K × X) → put_each cmp m (es ++ e ∷ []) ≡ insert_entry cmp (put_each cmp m es) e.0 e.1
+pub put_more : {K X : Type 0} (cmp : K → K → Ordering) (m es : List (K × X)) (e : K × X)
+    → put_each cmp m (es ++ e ∷ []) ≡ insert_entry cmp (put_each cmp m es) e.0 e.1
 put_more cmp m [] e = refl
 put_more cmp m (x ∷ es) e = put_more cmp (insert_entry cmp m x.0 x.1) es e
 
-module _ (ck cv : Place → ℕ → Type 0) (ok : (p : Place) (m n : ℕ) → ck p m → ck p n → m ≡ n) (ov : (p : Place) (m n : ℕ) → cv p m → cv p n → m ≡ n) where
+module _ (ck cv : Place → ℕ → Type 0) (ok : (p : Place) (m n : ℕ) → ck p m → ck p n → m ≡ n)
+    (ov : (p : Place) (m n : ℕ) → cv p m → cv p n → m ≡ n) where
   -- the counts of a list whose front is known
-  pub pairs_split : (ps : List (Place × Place)) (p : Place × Place) (rest : List (Place × Place)) (k n : ℕ) → CountsPairs ck cv ps k → CountsPairs ck cv (ps ++ p ∷ rest) n → (a : ℕ) × CountsPair ck cv p a × (k + a ≤ n)
+  pub pairs_split : (ps : List (Place × Place)) (p : Place × Place) (rest : List (Place × Place))
+      (k n : ℕ)
+      → CountsPairs ck cv ps k → CountsPairs ck cv (ps ++ p ∷ rest) n
+      → (a : ℕ) × CountsPair ck cv p a × (k + a ≤ n)
   pairs_split [] p rest k n h (a, b, j, r, s, _, e) = (a + b, (a, b, r, s, refl), omega arith)
   pairs_split (q ∷ ps) p rest k n (a, b, j, r, s, d, e) (a', b', j', r', s', d', e') =
       let same : a ≡ a' = ok q.0 a a' r r' in
@@ -34,35 +44,67 @@ module _ (ck cv : Place → ℕ → Type 0) (ok : (p : Place) (m n : ℕ) → ck
       (later.0, later.1, omega arith)
 
   -- what is refused at one entry is refused of all
-  pub pairs_refused : (ps : List (Place × Place)) (p : Place × Place) (rest : List (Place × Place)) (k left now : ℕ) (e : ReadingError) → now + k ≡ left → CountsPairs ck cv ps k → LacksOrMemory (CountsPair ck cv p) now e → LacksOrMemory (CountsPairs ck cv (ps ++ p ∷ rest)) left e
+  pub pairs_refused : (ps : List (Place × Place)) (p : Place × Place) (rest : List (Place × Place))
+      (k left now : ℕ) (e : ReadingError)
+      → now + k ≡ left → CountsPairs ck cv ps k → LacksOrMemory (CountsPair ck cv p) now e
+      → LacksOrMemory (CountsPairs ck cv (ps ++ p ∷ rest)) left e
   pairs_refused ps p rest k left now e sum h (inl m) = inl m
   pairs_refused ps p rest k left now e sum h (inr none) =
-      inr (λ n all fits. let at = pairs_split ps p rest k n h all in let le : k + at.0 ≤ n = at.2 in none at.0 at.1 (omega arith))
+      inr (λ n all fits. let at = pairs_split ps p rest k n h all in let le : k + at.0 ≤ n = at.2 in
+      none at.0 at.1 (omega arith))
 
-module _ {K X : Type 0} (rk : Place → K → ℕ → Type 0) (ck : Place → ℕ → Type 0) (rv : Place → X → ℕ → Type 0) (cv : Place → ℕ → Type 0) where
-  enters_over_some : (rest : List (Place × Place)) (left : ℕ) (new : Entries) (left' : ℕ) (x : K × X) → EntersOver rk ck rv cv rest left new left' (Ok (Some x)) → (p : Place × Place) × (rest ≡ p ∷ new.rest) × (new.failed ≡ None) × (n : ℕ) × ReadsPair rk rv p x n × (left' + n ≡ left)
+module _ {K X : Type 0} (rk : Place → K → ℕ → Type 0) (ck : Place → ℕ → Type 0)
+    (rv : Place → X → ℕ → Type 0) (cv : Place → ℕ → Type 0) where
+  enters_over_some : (rest : List (Place × Place)) (left : ℕ) (new : Entries) (left' : ℕ)
+      (x : K × X)
+      → EntersOver rk ck rv cv rest left new left' (Ok (Some x))
+      → (p : Place × Place) × (rest ≡ p ∷ new.rest) × (new.failed ≡ None) × (n : ℕ)
+      × ReadsPair rk rv p x n × (left' + n ≡ left)
   enters_over_some [] left new left' x h = absurd h
-  enters_over_some (p ∷ ps) left new left' x (e, n, r, s) = (p, ap (λ a. p ∷ a.rest) (sym e), ap (λ a. a.failed) e, n, r, s)
+  enters_over_some (p ∷ ps) left new left' x (e, n, r, s) =
+      (p, ap (λ a. p ∷ a.rest) (sym e), ap (λ a. a.failed) e, n, r, s)
 
-  enters_over_err : (rest : List (Place × Place)) (left : ℕ) (new : Entries) (left' : ℕ) (d : ReadingError) → EntersOver rk ck rv cv rest left new left' (Err d) → (p : Place × Place) × (ps : List (Place × Place)) × (rest ≡ p ∷ ps) × (left' ≤ left) × LacksOrMemory (CountsPair ck cv p) left d
+  enters_over_err : (rest : List (Place × Place)) (left : ℕ) (new : Entries) (left' : ℕ)
+      (d : ReadingError)
+      → EntersOver rk ck rv cv rest left new left' (Err d)
+      → (p : Place × Place) × (ps : List (Place × Place)) × (rest ≡ p ∷ ps) × (left' ≤ left)
+      × LacksOrMemory (CountsPair ck cv p) left d
   enters_over_err [] left new left' d h = absurd h
   enters_over_err (p ∷ ps) left new left' d (e, s, r) = (p, ps, refl, s, r)
 
-  enters_over_none : (rest : List (Place × Place)) (left : ℕ) (new : Entries) (left' : ℕ) → EntersOver rk ck rv cv rest left new left' (Ok None) → (rest ≡ []) × (left' ≡ left)
+  enters_over_none : (rest : List (Place × Place)) (left : ℕ) (new : Entries) (left' : ℕ)
+      → EntersOver rk ck rv cv rest left new left' (Ok None) → (rest ≡ []) × (left' ≡ left)
   enters_over_none [] left new left' h = (refl, h.1)
   enters_over_none (p ∷ ps) left new left' h = absurd h
 
-  pub enters_some : (old : Entries) (left : ℕ) (new : Entries) (left' : ℕ) (x : K × X) → old.failed ≡ None → Enters rk ck rv cv old left new left' (Ok (Some x)) → (p : Place × Place) × (old.rest ≡ p ∷ new.rest) × (new.failed ≡ None) × (n : ℕ) × ReadsPair rk rv p x n × (left' + n ≡ left)
-  enters_some old left new left' x none h = enters_over_some old.rest left new left' x (subst (λ f. EntersAfter rk ck rv cv f old left new left' (Ok (Some x))) none h)
+  pub enters_some : (old : Entries) (left : ℕ) (new : Entries) (left' : ℕ) (x : K × X)
+      → old.failed ≡ None → Enters rk ck rv cv old left new left' (Ok (Some x))
+      → (p : Place × Place) × (old.rest ≡ p ∷ new.rest) × (new.failed ≡ None) × (n : ℕ)
+      × ReadsPair rk rv p x n × (left' + n ≡ left)
+  enters_some old left new left' x none h =
+      enters_over_some old.rest left new left' x
+      (subst (λ f. EntersAfter rk ck rv cv f old left new left' (Ok (Some x))) none h)
 
-  pub enters_err : (old : Entries) (left : ℕ) (new : Entries) (left' : ℕ) (d : ReadingError) → old.failed ≡ None → Enters rk ck rv cv old left new left' (Err d) → (p : Place × Place) × (ps : List (Place × Place)) × (old.rest ≡ p ∷ ps) × (left' ≤ left) × LacksOrMemory (CountsPair ck cv p) left d
-  enters_err old left new left' d none h = enters_over_err old.rest left new left' d (subst (λ f. EntersAfter rk ck rv cv f old left new left' (Err d)) none h)
+  pub enters_err : (old : Entries) (left : ℕ) (new : Entries) (left' : ℕ) (d : ReadingError)
+      → old.failed ≡ None → Enters rk ck rv cv old left new left' (Err d)
+      → (p : Place × Place) × (ps : List (Place × Place)) × (old.rest ≡ p ∷ ps) × (left' ≤ left)
+      × LacksOrMemory (CountsPair ck cv p) left d
+  enters_err old left new left' d none h =
+      enters_over_err old.rest left new left' d
+      (subst (λ f. EntersAfter rk ck rv cv f old left new left' (Err d)) none h)
 
-  pub enters_none : (old : Entries) (left : ℕ) (new : Entries) (left' : ℕ) → old.failed ≡ None → Enters rk ck rv cv old left new left' (Ok None) → (old.rest ≡ []) × (left' ≡ left)
-  enters_none old left new left' none h = enters_over_none old.rest left new left' (subst (λ f. EntersAfter rk ck rv cv f old left new left' (Ok None)) none h)
+  pub enters_none : (old : Entries) (left : ℕ) (new : Entries) (left' : ℕ) → old.failed ≡ None
+      → Enters rk ck rv cv old left new left' (Ok None) → (old.rest ≡ []) × (left' ≡ left)
+  enters_none old left new left' none h =
+      enters_over_none old.rest left new left'
+      (subst (λ f. EntersAfter rk ck rv cv f old left new left' (Ok None)) none h)
 
-  module _ (cmp : K → K → Ordering) (all : List (Place × Place)) (old : Entries) (m : List (K × X)) (before left : ℕ) (new : Entries) (left' : ℕ) (ok : old.failed ≡ None) (f : FrontPairs cmp rk rv all old.rest m before left) where
-    pub front_enters : (k : K) (x : X) → Enters rk ck rv cv old left new left' (Ok (Some (k, x))) → (new.failed ≡ None) × FrontPairs cmp rk rv all new.rest (insert_entry cmp m k x) before left'
+  module _ (cmp : K → K → Ordering) (all : List (Place × Place)) (old : Entries) (m : List (K × X))
+      (before left : ℕ) (new : Entries) (left' : ℕ) (ok : old.failed ≡ None)
+      (f : FrontPairs cmp rk rv all old.rest m before left) where
+    pub front_enters : (k : K) (x : X) → Enters rk ck rv cv old left new left' (Ok (Some (k, x)))
+        → (new.failed ≡ None)
+        × FrontPairs cmp rk rv all new.rest (insert_entry cmp m k x) before left'
     front_enters k x h =
         let (p, first, none', n, r, s) = enters_some old left new left' (k, x) ok h in
         let paid : left + f.spent ≡ before = f.paid in (
@@ -78,16 +120,29 @@ module _ {K X : Type 0} (rk : Place → K → ℕ → Type 0) (ck : Place → �
           },
         )
 
-    pub front_ends : Enters rk ck rv cv old left new left' (Ok None) → (n : ℕ) × ReadsAll cmp rk rv all m n × (left' + n ≡ before)
+    pub front_ends : Enters rk ck rv cv old left new left' (Ok None)
+        → (n : ℕ) × ReadsAll cmp rk rv all m n × (left' + n ≡ before)
     front_ends h =
         let (e, s) = enters_none old left new left' ok h in
         let paid : left + f.spent ≡ before = f.paid in
-        let same : all ≡ f.done = f.are ∙ ap (λ r. f.done ++ r) e ∙ append-nil f.done in
-        (f.spent, (f.read, subst (λ ps. ReadsPairs rk rv ps f.read f.spent) (sym same) f.each, f.map), omega arith)
+        let same : all ≡ f.done = f.are ∙ ap (λ r. f.done ++ r) e ∙ append-nil f.done in (
+          f.spent,
+          (f.read, subst (λ ps. ReadsPairs rk rv ps f.read f.spent) (sym same) f.each, f.map),
+          omega arith,
+        )
 
-    pub front_fails : (hk : (p : Place) (v : K) (n : ℕ) → rk p v n → ck p n) (hv : (p : Place) (v : X) (n : ℕ) → rv p v n → cv p n) (one_k : (p : Place) (m n : ℕ) → ck p m → ck p n → m ≡ n) (one_v : (p : Place) (m n : ℕ) → cv p m → cv p n → m ≡ n) (d : ReadingError) → Enters rk ck rv cv old left new left' (Err d) → (left' ≤ before) × LacksOrMemory (CountsPairs ck cv all) before d
+    pub front_fails : (hk : (p : Place) (v : K) (n : ℕ) → rk p v n → ck p n)
+        (hv : (p : Place) (v : X) (n : ℕ) → rv p v n → cv p n)
+        (one_k : (p : Place) (m n : ℕ) → ck p m → ck p n → m ≡ n)
+        (one_v : (p : Place) (m n : ℕ) → cv p m → cv p n → m ≡ n) (d : ReadingError)
+        → Enters rk ck rv cv old left new left' (Err d)
+        → (left' ≤ before) × LacksOrMemory (CountsPairs ck cv all) before d
     front_fails hk hv one_k one_v d h =
         let (p, ps, first, s, refuses) = enters_err old left new left' d ok h in
         let paid : left + f.spent ≡ before = f.paid in
-        let same : all ≡ f.done ++ p ∷ ps = f.are ∙ ap (λ r. f.done ++ r) first in
-        (omega arith, subst (λ qs. LacksOrMemory (CountsPairs ck cv qs) before d) (sym same) (pairs_refused ck cv one_k one_v f.done p ps f.spent before left d paid (pairs_counted rk rv ck cv hk hv f.done f.read f.spent f.each) refuses))
+        let same : all ≡ f.done ++ p ∷ ps = f.are ∙ ap (λ r. f.done ++ r) first in (
+          omega arith,
+          subst (λ qs. LacksOrMemory (CountsPairs ck cv qs) before d) (sym same)
+              (pairs_refused ck cv one_k one_v f.done p ps f.spent before left d paid
+              (pairs_counted rk rv ck cv hk hv f.done f.read f.spent f.each) refuses),
+        )

@@ -1,5 +1,6 @@
 -- What is read at the root, as what the file is.
-use Rattle.std.proofs.Common.{ℕ, List, ◌≡◌, ◌≤◌, ◌+◌, ◌⊎◌, inl, inr, Result, Ok, Err, Some, None, refl, sym, subst, arith}
+use Rattle.std.proofs.Common.{ℕ, List, ◌≡◌, ◌≤◌, ◌+◌, ◌⊎◌, inl, inr, Result, Ok, Err, Some, None}
+use Rattle.std.proofs.Common.{refl, sym, subst, arith}
 use Rattle.std.specs.Prelude.{◌-◌}
 use Rattle.std.specs.Result.{IfOk, IfErr}
 use Rattle.resb_tree.specs.Tree.{Tree}
@@ -12,7 +13,7 @@ use Rattle.resb_format.proofs.FileSteps.{bundle_file_passes}
 use Rattle.resb_format.specs.declared.error.ReadingError.{ReadingError}
 use Rattle.resb_walk.specs.Refusals.{Refuses}
 use Rattle.resb_read.specs.Places.{Place}
-use Rattle.resb_read.specs.Resources.{DenPlace, ReachesPlace}
+use Rattle.resb_read.specs.Resources.{DenPlace, ReachesPlace, ReadsTree}
 use Rattle.resb_read.specs.Roots.{root_place, AtRoot, RefusesFile, TreeOf, CountOf}
 
 pub passes : (bytes : List ℕ) → file_fault bytes ≡ None → IsBundleFile bytes
@@ -20,26 +21,51 @@ passes bytes e = (bundle_file_passes bytes).0 e
 
 -- a file with a fault is no bundle
 pub no_bundle : (bytes : List ℕ) (f : Refusal) → file_fault bytes ≡ Some f → IsBundleFile bytes → ⊥
-no_bundle bytes f e h = let k : file_fault bytes ≡ None = (bundle_file_passes bytes).1 h in apart e k
+no_bundle bytes f e h =
+    let k : file_fault bytes ≡ None = (bundle_file_passes bytes).1 h in apart e k
   where
     apart : file_fault bytes ≡ Some f → file_fault bytes ≡ None → ⊥
     apart a b = cc
 
-pub at_root : (P : Place → Type 0) (bytes : List ℕ) (p : Place) → file_fault bytes ≡ None → p ≡ root_place bytes → P p → AtRoot P bytes
+pub at_root : (P : Place → Type 0) (bytes : List ℕ) (p : Place) → file_fault bytes ≡ None
+    → p ≡ root_place bytes → P p → AtRoot P bytes
 at_root P bytes p e same h = record { head = passes bytes e; root = subst P same h }
 
-pub refused_root : (bytes : List ℕ) (p : Place) (left : ℕ) (e : ReadingError) → file_fault bytes ≡ None → p ≡ root_place bytes → left ≡ budget bytes → Refuses (DenPlace p) (ReachesPlace p) left e → RefusesFile bytes e
+pub refused_root : (bytes : List ℕ) (p : Place) (left : ℕ) (e : ReadingError)
+    → file_fault bytes ≡ None → p ≡ root_place bytes → left ≡ budget bytes
+    → Refuses (DenPlace p) (ReachesPlace p) left e → RefusesFile bytes e
 refused_root bytes p left e none same all h =
-    inr (passes bytes none, subst (λ n. Refuses (DenPlace (root_place bytes)) (ReachesPlace (root_place bytes)) n e) all (subst (λ q. Refuses (DenPlace q) (ReachesPlace q) left e) same h))
+    inr (
+      passes bytes none,
+      subst (λ n. Refuses (DenPlace (root_place bytes)) (ReachesPlace (root_place bytes)) n e) all
+          (subst (λ q. Refuses (DenPlace q) (ReachesPlace q) left e) same h),
+    )
 
-pub tree_root : (bytes : List ℕ) (p : Place) (left left' : ℕ) (r : Result Resource ReadingError) → file_fault bytes ≡ None → p ≡ root_place bytes → left ≡ budget bytes
-    → IfOk r (λ x. (n : ℕ) × DenPlace p (tree_of x) n × (left' + n ≡ left)) → IfErr r (λ e. (left' ≤ left) × Refuses (DenPlace p) (ReachesPlace p) left e) → TreeOf bytes r
-tree_root bytes p left left' (Ok x) none same all (n, d, paid) h =
-    (n, record { head = passes bytes none; root = subst (λ q. DenPlace q (tree_of x) n) same d }, omega arith)
-tree_root bytes p left left' (Err e) none same all h (falls, r) = refused_root bytes p left e none same all r
+pub tree_root : (bytes : List ℕ) (p : Place) (left left' : ℕ) (r : Result Resource ReadingError)
+    → file_fault bytes ≡ None → p ≡ root_place bytes → left ≡ budget bytes
+    → IfOk r (λ x. (n : ℕ) × ReadsTree p x n × (left' + n ≡ left))
+    → IfErr r (λ e. (left' ≤ left) × Refuses (DenPlace p) (ReachesPlace p) left e)
+    → TreeOf bytes r
+tree_root bytes p left left' (Ok x) none same all (n, (d, b), paid) h = (
+  n,
+  record { head = passes bytes none; root = subst (λ q. DenPlace q (tree_of x) n) same d },
+  omega arith,
+  b,
+)
+tree_root bytes p left left' (Err e) none same all h (falls, r) =
+    refused_root bytes p left e none same all r
 
-pub count_root : (bytes : List ℕ) (p : Place) (left left' : ℕ) (t : Tree) (n : ℕ) → file_fault bytes ≡ None → p ≡ root_place bytes → left ≡ budget bytes
-    → DenPlace p t n → left' + n ≡ left → (u : Tree) × Denotes bytes u (left - left') × (left - left' ≤ budget bytes)
+pub count_root : (bytes : List ℕ) (p : Place) (left left' : ℕ) (t : Tree) (n : ℕ)
+    → file_fault bytes ≡ None → p ≡ root_place bytes → left ≡ budget bytes
+    → DenPlace p t n → left' + n ≡ left
+    → (u : Tree) × Denotes bytes u (left - left') × (left - left' ≤ budget bytes)
 count_root bytes p left left' t n none same all d paid =
-    let e : n ≡ left - left' = omega arith in
-    (t, record { head = passes bytes none; root = subst (λ k. DenPlace (root_place bytes) t k) e (subst (λ q. DenPlace q t n) same d) }, omega arith)
+    let e : n ≡ left - left' = omega arith in (
+      t,
+      record {
+        head = passes bytes none;
+        root = subst (λ k. DenPlace (root_place bytes) t k) e
+            (subst (λ q. DenPlace q t n) same d);
+      },
+      omega arith,
+    )

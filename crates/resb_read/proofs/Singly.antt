@@ -1,8 +1,11 @@
 -- Members one by one, and their number.
-use Rattle.std.proofs.Common.{ℕ, List, [], ◌∷◌, ◌≡◌, ◌+◌, ◌-◌, ◌<◌, length, map, drop, refl, ap, ◌∙◌, sym, subst, arith}
+use Rattle.resb_format.proofs.Spelled.{words_length}
+use Rattle.std.proofs.Common.{ℕ, List, [], ◌∷◌, ◌≡◌, ◌+◌, ◌-◌, ◌<◌, length, map, drop, refl, ap}
+use Rattle.std.proofs.Common.{◌∙◌, sym, subst, arith}
 use Rattle.std.proofs.lemmas.List.{length-map}
 
-pub map_first : {A B : Type 0} (f : A → B) (xs : List A) (x : A) (rest : List A) → xs ≡ x ∷ rest → map f xs ≡ f x ∷ map f rest
+pub map_first : {A B : Type 0} (f : A → B) (xs : List A) (x : A) (rest : List A) → xs ≡ x ∷ rest
+    → map f xs ≡ f x ∷ map f rest
 map_first f xs x rest e = ap (map f) e
 
 pub map_none : {A B : Type 0} (f : A → B) (xs : List A) → xs ≡ [] → map f xs ≡ []
@@ -11,11 +14,19 @@ map_none f xs e = ap (map f) e
 pub map_length : {A B : Type 0} (f : A → B) (xs : List A) → length (map f xs) ≡ length xs
 map_length f xs = length-map xs f
 
-pub drop_first : {A : Type 0} (xs : List A) (x : A) (rest : List A) → xs ≡ x ∷ rest → drop 1 xs ≡ rest
+pub drop_first : {A : Type 0} (xs : List A) (x : A) (rest : List A) → xs ≡ x ∷ rest
+    → drop 1 xs ≡ rest
 drop_first xs x rest e = ap (drop 1) e
 
-pub some_first : {A : Type 0} (xs : List A) (x : A) (rest : List A) → xs ≡ x ∷ rest → xs ≡ x ∷ drop 1 xs
+pub some_first : {A : Type 0} (xs : List A) (x : A) (rest : List A) → xs ≡ x ∷ rest
+    → xs ≡ x ∷ drop 1 xs
 some_first xs x rest e = e ∙ ap (λ ys. x ∷ ys) (sym (drop_first xs x rest e))
 
 pub none_left : {A : Type 0} (xs : List A) → xs ≡ [] → 0 < length xs → ⊥
 none_left xs e h = let k : length xs ≡ 0 = ap length e in omega arith
+
+pub ruleset firsts = (map_first, map_none, some_first)
+
+pub ruleset rests = (map_first, map_none, drop_first, none_left)
+
+pub ruleset lengths = (map_length, words_length)

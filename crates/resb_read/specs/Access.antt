@@ -13,14 +13,19 @@ pub record Access : Type 0 where
 -- one step over the places: what is read at the first of them, or that error again
 module _ {X : Type 0} (reads : Place → X → ℕ → Type 0) (counts : Place → ℕ → Type 0) where
   abbrev pub StepsOver : List Place → ℕ → Access → ℕ → Result (Option X) ReadingError → Type 0
-  StepsOver [] left new left' (Ok None) = (new ≡ record { rest = []; failed = None }) × (left' ≡ left)
+  StepsOver [] left new left' (Ok None) =
+      (new ≡ record { rest = []; failed = None }) × (left' ≡ left)
   StepsOver [] left new left' (Ok (Some x)) = ⊥
   StepsOver [] left new left' (Err e) = ⊥
   StepsOver (p ∷ ps) left new left' (Ok None) = ⊥
-  StepsOver (p ∷ ps) left new left' (Ok (Some x)) = (new ≡ record { rest = ps; failed = None }) × (n : ℕ) × reads p x n × (left' + n ≡ left)
-  StepsOver (p ∷ ps) left new left' (Err e) = (new ≡ record { rest = p ∷ ps; failed = Some e }) × (left' ≤ left) × LacksOrMemory (counts p) left e
+  StepsOver (p ∷ ps) left new left' (Ok (Some x)) =
+      (new ≡ record { rest = ps; failed = None }) × (n : ℕ) × reads p x n × (left' + n ≡ left)
+  StepsOver (p ∷ ps) left new left' (Err e) =
+      (new ≡ record { rest = p ∷ ps; failed = Some e }) × (left' ≤ left)
+      × LacksOrMemory (counts p) left e
 
-  abbrev pub StepsAfter : Option ReadingError → Access → ℕ → Access → ℕ → Result (Option X) ReadingError → Type 0
+  abbrev pub StepsAfter : Option ReadingError → Access → ℕ → Access → ℕ
+      → Result (Option X) ReadingError → Type 0
   StepsAfter (Some e) old left new left' result = (result ≡ Err e) × (new ≡ old) × (left' ≡ left)
   StepsAfter None old left new left' result = StepsOver old.rest left new left' result
 
@@ -33,10 +38,12 @@ StepsToFirst [] new (Ok None) = new ≡ record { rest = []; failed = None }
 StepsToFirst [] new (Ok (Some c)) = ⊥
 StepsToFirst [] new (Err e) = ⊥
 StepsToFirst (p ∷ ps) new (Ok None) = ⊥
-StepsToFirst (p ∷ ps) new (Ok (Some c)) = (new ≡ record { rest = ps; failed = None }) × (place_of c ≡ p)
+StepsToFirst (p ∷ ps) new (Ok (Some c)) =
+    (new ≡ record { rest = ps; failed = None }) × (place_of c ≡ p)
 StepsToFirst (p ∷ ps) new (Err e) = ⊥
 
-abbrev pub StepsToAfter : Option ReadingError → Access → Access → Result (Option Cursor) ReadingError → Type 0
+abbrev pub StepsToAfter : Option ReadingError → Access → Access
+    → Result (Option Cursor) ReadingError → Type 0
 StepsToAfter (Some e) old new result = (result ≡ Err e) × (new ≡ old)
 StepsToAfter None old new result = StepsToFirst old.rest new result
 
@@ -52,20 +59,29 @@ pub record Entries : Type 0 where
 abbrev pub CountsPair : (Place → ℕ → Type 0) → (Place → ℕ → Type 0) → Place × Place → ℕ → Type 0
 CountsPair key value p n = (a : ℕ) × (b : ℕ) × key p.0 a × value p.1 b × (n ≡ a + b)
 
-abbrev pub ReadsPair : {K X : Type 0} → (Place → K → ℕ → Type 0) → (Place → X → ℕ → Type 0) → Place × Place → K × X → ℕ → Type 0
+abbrev pub ReadsPair : {K X : Type 0} → (Place → K → ℕ → Type 0) → (Place → X → ℕ → Type 0)
+    → Place × Place → K × X → ℕ → Type 0
 ReadsPair key value p e n = (a : ℕ) × (b : ℕ) × key p.0 e.0 a × value p.1 e.1 b × (n ≡ a + b)
 
 -- one step over the entries: the key and then the value at the first of them, or the error again
-module _ {K X : Type 0} (rk : Place → K → ℕ → Type 0) (ck : Place → ℕ → Type 0) (rv : Place → X → ℕ → Type 0) (cv : Place → ℕ → Type 0) where
-  abbrev pub EntersOver : List (Place × Place) → ℕ → Entries → ℕ → Result (Option (K × X)) ReadingError → Type 0
-  EntersOver [] left new left' (Ok None) = (new ≡ record { rest = []; failed = None }) × (left' ≡ left)
+module _ {K X : Type 0} (rk : Place → K → ℕ → Type 0) (ck : Place → ℕ → Type 0)
+    (rv : Place → X → ℕ → Type 0) (cv : Place → ℕ → Type 0) where
+  abbrev pub EntersOver : List (Place × Place) → ℕ → Entries → ℕ
+      → Result (Option (K × X)) ReadingError → Type 0
+  EntersOver [] left new left' (Ok None) =
+      (new ≡ record { rest = []; failed = None }) × (left' ≡ left)
   EntersOver [] left new left' (Ok (Some x)) = ⊥
   EntersOver [] left new left' (Err e) = ⊥
   EntersOver (p ∷ ps) left new left' (Ok None) = ⊥
-  EntersOver (p ∷ ps) left new left' (Ok (Some x)) = (new ≡ record { rest = ps; failed = None }) × (n : ℕ) × ReadsPair rk rv p x n × (left' + n ≡ left)
-  EntersOver (p ∷ ps) left new left' (Err e) = (new ≡ record { rest = p ∷ ps; failed = Some e }) × (left' ≤ left) × LacksOrMemory (CountsPair ck cv p) left e
+  EntersOver (p ∷ ps) left new left' (Ok (Some x)) =
+      (new ≡ record { rest = ps; failed = None }) × (n : ℕ) × ReadsPair rk rv p x n
+      × (left' + n ≡ left)
+  EntersOver (p ∷ ps) left new left' (Err e) =
+      (new ≡ record { rest = p ∷ ps; failed = Some e }) × (left' ≤ left)
+      × LacksOrMemory (CountsPair ck cv p) left e
 
-  abbrev pub EntersAfter : Option ReadingError → Entries → ℕ → Entries → ℕ → Result (Option (K × X)) ReadingError → Type 0
+  abbrev pub EntersAfter : Option ReadingError → Entries → ℕ → Entries → ℕ
+      → Result (Option (K × X)) ReadingError → Type 0
   EntersAfter (Some e) old left new left' result = (result ≡ Err e) × (new ≡ old) × (left' ≡ left)
   EntersAfter None old left new left' result = EntersOver old.rest left new left' result
 
@@ -73,15 +89,18 @@ module _ {K X : Type 0} (rk : Place → K → ℕ → Type 0) (ck : Place → �
   Enters old left new left' result = EntersAfter old.failed old left new left' result
 
 -- one step to the first of the entries
-abbrev pub EntersToFirst : List (Place × Place) → Entries → Result (Option (Cursor × Cursor)) ReadingError → Type 0
+abbrev pub EntersToFirst : List (Place × Place) → Entries
+    → Result (Option (Cursor × Cursor)) ReadingError → Type 0
 EntersToFirst [] new (Ok None) = new ≡ record { rest = []; failed = None }
 EntersToFirst [] new (Ok (Some c)) = ⊥
 EntersToFirst [] new (Err e) = ⊥
 EntersToFirst (p ∷ ps) new (Ok None) = ⊥
-EntersToFirst (p ∷ ps) new (Ok (Some c)) = (new ≡ record { rest = ps; failed = None }) × (place_of c.0 ≡ p.0) × (place_of c.1 ≡ p.1)
+EntersToFirst (p ∷ ps) new (Ok (Some c)) =
+    (new ≡ record { rest = ps; failed = None }) × (place_of c.0 ≡ p.0) × (place_of c.1 ≡ p.1)
 EntersToFirst (p ∷ ps) new (Err e) = ⊥
 
-abbrev pub EntersToAfter : Option ReadingError → Entries → Entries → Result (Option (Cursor × Cursor)) ReadingError → Type 0
+abbrev pub EntersToAfter : Option ReadingError → Entries → Entries
+    → Result (Option (Cursor × Cursor)) ReadingError → Type 0
 EntersToAfter (Some e) old new result = (result ≡ Err e) × (new ≡ old)
 EntersToAfter None old new result = EntersToFirst old.rest new result
 

@@ -2,18 +2,26 @@
 use Rattle.std.specs.Prelude.{◌≡◌, ℕ, ℤ, ◌≤◌, List, Bool}
 use Rattle.resb_read.specs.Places.{Place}
 use Rattle.resb_read.specs.ReadingLaws.{any, there_counted, there_one}
-use Rattle.resb_read.specs.Leaves.{IsWithin, signed_at, unsigned_at, bool_at, bits_at, text_from, key_from, bytes_from, ReadsSigned, CountsSigned, ReadsUnsigned, CountsUnsigned, ReadsBool, CountsBool, ReadsBits, CountsBits, ReadsText, CountsText, ReadsKey, CountsKey, ReadsBytes, CountsBytes}
+use Rattle.resb_read.specs.Leaves.{IsWithin, signed_at, unsigned_at, bool_at, bits_at, text_from}
+use Rattle.resb_read.specs.Leaves.{key_from, bytes_from, ReadsSigned, CountsSigned, ReadsUnsigned}
+use Rattle.resb_read.specs.Leaves.{CountsUnsigned, ReadsBool, CountsBool, ReadsBits, CountsBits}
+use Rattle.resb_read.specs.Leaves.{ReadsText, CountsText, ReadsKey, CountsKey, ReadsBytes}
+use Rattle.resb_read.specs.Leaves.{CountsBytes}
 
-pub signed_counted : (low high : ℤ) (p : Place) (x : ℤ) (n : ℕ) → ReadsSigned low high p x n → CountsSigned low high p n
+pub signed_counted : (low high : ℤ) (p : Place) (x : ℤ) (n : ℕ) → ReadsSigned low high p x n
+    → CountsSigned low high p n
 signed_counted low high p = there_counted (IsWithin low high) (signed_at p.at)
 
-pub signed_one : (low high : ℤ) (p : Place) (m n : ℕ) → CountsSigned low high p m → CountsSigned low high p n → m ≡ n
+pub signed_one : (low high : ℤ) (p : Place) (m n : ℕ) → CountsSigned low high p m
+    → CountsSigned low high p n → m ≡ n
 signed_one low high p = there_one (IsWithin low high) (signed_at p.at)
 
-pub unsigned_counted : (high : ℕ) (p : Place) (x : ℕ) (n : ℕ) → ReadsUnsigned high p x n → CountsUnsigned high p n
+pub unsigned_counted : (high : ℕ) (p : Place) (x : ℕ) (n : ℕ) → ReadsUnsigned high p x n
+    → CountsUnsigned high p n
 unsigned_counted high p = there_counted (λ x. x ≤ high) (unsigned_at p.at)
 
-pub unsigned_one : (high : ℕ) (p : Place) (m n : ℕ) → CountsUnsigned high p m → CountsUnsigned high p n → m ≡ n
+pub unsigned_one : (high : ℕ) (p : Place) (m n : ℕ) → CountsUnsigned high p m
+    → CountsUnsigned high p n → m ≡ n
 unsigned_one high p = there_one (λ x. x ≤ high) (unsigned_at p.at)
 
 pub bool_counted : (p : Place) (x : Bool) (n : ℕ) → ReadsBool p x n → CountsBool p n

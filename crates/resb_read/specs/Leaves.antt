@@ -1,5 +1,8 @@
--- What stands at a place for the types that have no parts, with its count: 1 at a descriptor or a unit, 0 at a word or a key.
-use Rattle.std.specs.Prelude.{ℕ, ℤ, pos, negsuc, ◌≤ℤ◌, ◌≤◌, ◌<◌, ◌+◌, ◌*◌, ◌/◌, ◌%◌, ◌^◌, ◌==◌, List, [], Bool, true, false, Option, Some, None, option_map, if◌then◌else◌}
+-- What stands at a place for the types that have no parts, with its count: 1 at a descriptor or a
+-- unit, 0 at a word or a key.
+use Rattle.std.specs.Prelude.{ℕ, ℤ, pos, negsuc, ◌≤ℤ◌, ◌≤◌, ◌<◌, ◌+◌, ◌*◌, ◌/◌, ◌%◌, ◌^◌, ◌==◌}
+use Rattle.std.specs.Prelude.{List, [], Bool, true, false, Option, Some, None, option_map}
+use Rattle.std.specs.Prelude.{if◌then◌else◌}
 use Rattle.std.specs.List.{flat_map}
 use Rattle.std.specs.Int.{cast_signed, to_le_bytes, w16, w32}
 use Rattle.resb_tree.specs.Int28.{signed}
@@ -81,7 +84,8 @@ CountsBits p n = CountsThere any (bits_at p.at) n
 -- a text: the string of a descriptor or a unit, or a key
 abbrev pub text_in : Parts → ℕ → Option (List ℕ)
 text_in p w =
-    if type_in w == 6 then (if value_in w == 0 then Some [] else text_at p.block (value_in w)) else None
+    if type_in w == 6 then
+    (if value_in w == 0 then Some [] else text_at p.block (value_in w)) else None
 
 abbrev pub text_from : Parts → Spot → Option (List ℕ × ℕ)
 text_from p (spot.Descriptor w) = option_map (λ s. (s, 1)) (text_in p w)
@@ -119,12 +123,14 @@ counted_bytes p each v = counted (words_of p.body) v (λ n. part p.body (4 * v +
 abbrev pub bytes_of_type : Parts → ℕ → ℕ → Option (List ℕ)
 bytes_of_type p type v =
     if type == 1 then (if v == 0 then Some [] else counted_bytes p 1 v)
-    else if type == 6 then (if v == 0 then Some [] else option_map units_as_bytes (string_at p.block v))
+    else if type == 6 then
+    (if v == 0 then Some [] else option_map units_as_bytes (string_at p.block v))
     else if type == 14 then (if v == 0 then Some [] else counted_bytes p 4 v)
     else None
 
 abbrev pub bytes_from : Parts → Spot → Option (List ℕ × ℕ)
-bytes_from p (spot.Descriptor w) = option_map (λ s. (s, 1)) (bytes_of_type p (type_in w) (value_in w))
+bytes_from p (spot.Descriptor w) =
+    option_map (λ s. (s, 1)) (bytes_of_type p (type_in w) (value_in w))
 bytes_from p (spot.Unit u) = option_map (λ us. (units_as_bytes us, 1)) (string_at p.block u)
 bytes_from p (spot.Word w) = None
 bytes_from p (spot.Key k) = option_map (λ s. (s, 0)) (key_at p.keys k)

@@ -11,10 +11,12 @@ pub use Rattle.resb_tree.specs.Tree
 pub use Rattle.resb_tree.specs.View
 pub use Rattle.resb_walk.specs.Files
 pub use Rattle.resb_walk.specs.Refusals
+pub use Rattle.resb_walk.specs.Borrows
 pub mod Places
 pub mod Reading
 pub mod ReadingLaws
 pub mod Leaves
+pub mod Refused
 pub mod LeafLaws
 pub mod Resources
 pub mod ResourceLaws

@@ -1,5 +1,7 @@
--- What else a cursor answers: the cost of skipping, the type of what stands at a place, and views of bytes.
-use Rattle.std.specs.Prelude.{◌≡◌, ◌+◌, ◌<◌, ◌%◌, ◌==◌, ◌&&◌, ◌||◌, not, nat_le, ℕ, List, length, Bool, Option, Some, None, Result, MatchResult, if◌then◌else◌}
+-- What else a cursor answers: the cost of skipping, the type of what stands at a place, and views
+-- of bytes.
+use Rattle.std.specs.Prelude.{◌≡◌, ◌+◌, ◌<◌, ◌%◌, ◌==◌, ◌&&◌, ◌||◌, not, nat_le, ℕ, List, length}
+use Rattle.std.specs.Prelude.{Bool, Option, Some, None, Result, MatchResult, if◌then◌else◌}
 use Rattle.resb_format.specs.declared.error.ReadingError.{ReadingError}
 use Rattle.resb_walk.specs.Refusals.{IsSpent}
 use Rattle.resb_read.specs.Places.{Place}
@@ -17,7 +19,8 @@ cost_at (spot.Key k) = 0
 
 abbrev pub Skips : {A : Type 0} → Spot → ℕ → ℕ → Result A ReadingError → Type 0
 Skips s left left' r =
-    MatchResult r (λ _. left' + cost_at s ≡ left) (λ e. IsSpent e × (left < cost_at s) × (left' ≡ left))
+    MatchResult r (λ _. left' + cost_at s ≡ left)
+    (λ e. IsSpent e × (left < cost_at s) × (left' ≡ left))
 
 -- the types that are read: all but strings of the older formats and aliases
 abbrev pub is_read_type : ℕ → Bool

@@ -1,7 +1,8 @@
 -- What a reading within a budget answers.
 --     Lacks counts left           no count that can be paid for stands there
---     Reads reads counts left left' r     Ok with a value that is read and paid for, or else such a count lacks
---     ReadsInMemory ..            the same, where want of memory is an answer too
+--     Reads faults reads counts left left' r
+-- Ok with a value that is read and paid for; or else such a count lacks, and
+--                             the error is one of these
 use Rattle.std.specs.Prelude.{◌≡◌, ◌≤◌, ◌+◌, ◌⊎◌, ℕ, Option, Some, Result, Ok, Err}
 use Rattle.resb_format.specs.Error.{IsWantOfMemory}
 use Rattle.resb_format.specs.declared.error.ReadingError.{ReadingError}
@@ -9,9 +10,10 @@ use Rattle.resb_format.specs.declared.error.ReadingError.{ReadingError}
 abbrev pub Lacks : (ℕ → Type 0) → ℕ → Type 0
 Lacks counts left = (n : ℕ) → counts n → n ≤ left → ⊥
 
-abbrev pub Reads : {X : Type 0} → (X → ℕ → Type 0) → (ℕ → Type 0) → ℕ → ℕ → Result X ReadingError → Type 0
-Reads reads counts left left' (Ok x) = (n : ℕ) × reads x n × (left' + n ≡ left)
-Reads reads counts left left' (Err e) = (left' ≤ left) × Lacks counts left
+abbrev pub Reads : {X : Type 0} → (ReadingError → Type 0) → (X → ℕ → Type 0) → (ℕ → Type 0) → ℕ → ℕ
+    → Result X ReadingError → Type 0
+Reads faults reads counts left left' (Ok x) = (n : ℕ) × reads x n × (left' + n ≡ left)
+Reads faults reads counts left left' (Err e) = (left' ≤ left) × Lacks counts left × faults e
 
 -- why a reading that asks for memory is refused
 abbrev pub LacksOrMemory : (ℕ → Type 0) → ℕ → ReadingError → Type 0

@@ -8,7 +8,8 @@ use Rattle.resb_read.specs.Resources.{DenSpot, DenPlace, CountsTree}
 use Rattle.resb_read.specs.declared.cursor.Spot.{Spot}
 use Rattle.resb_read.specs.declared.cursor.Spot.TheVariants as spot
 
-pub one_tree_at : (p : Parts) (s : Spot) (t u : Tree) (m n : ℕ) → DenSpot p s t m → DenSpot p s u n → m ≡ n
+pub one_tree_at : (p : Parts) (s : Spot) (t u : Tree) (m n : ℕ) → DenSpot p s t m → DenSpot p s u n
+    → m ≡ n
 one_tree_at p (spot.Descriptor w) t u m n h k = (unique p h k).1
 one_tree_at p (spot.Unit v) t u m n h k = (unique_member p h k).1
 one_tree_at p (spot.Word w) t u m n h k = absurd h

@@ -1,6 +1,9 @@
 -- Which tree is read at a place, as a resource.
 use Rattle.std.specs.Prelude.{ℕ}
 use Rattle.resb_tree.specs.Tree.{Tree}
+use Rattle.resb_tree.specs.View.{tree_of}
+use Rattle.resb_tree.specs.declared.resource.Resource.{Resource}
+use Rattle.resb_walk.specs.Borrows.{Borrows}
 use Rattle.resb_format.specs.Content.{unit}
 use Rattle.resb_format.specs.Parts.{Parts}
 use Rattle.resb_format.specs.Denotes.{Den, DenMember, Reaches, ReachesMember}
@@ -16,6 +19,10 @@ DenSpot p (spot.Key k) t n = ⊥
 
 abbrev pub DenPlace : Place → Tree → ℕ → Type 0
 DenPlace p t n = DenSpot p.parts p.at t n
+
+-- a resource that stands for the tree, and copies no bytes
+abbrev pub ReadsTree : Place → Resource → ℕ → Type 0
+ReadsTree p r n = DenPlace p (tree_of r) n × Borrows r
 
 abbrev pub CountsTree : Place → ℕ → Type 0
 CountsTree p n = (t : Tree) × DenPlace p t n

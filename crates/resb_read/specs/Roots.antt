@@ -12,6 +12,7 @@ use Rattle.resb_format.specs.File.{Denotes, budget}
 use Rattle.resb_format.specs.HeadChecks.{file_fault, refusal_of}
 use Rattle.resb_format.specs.declared.error.ReadingError.{ReadingError}
 use Rattle.resb_walk.specs.Refusals.{Refuses}
+use Rattle.resb_walk.specs.Borrows.{Borrows}
 use Rattle.resb_read.specs.Places.{Place}
 use Rattle.resb_read.specs.declared.cursor.Spot.TheVariants as spot
 
@@ -26,10 +27,12 @@ pub record AtRoot (P : Place → Type 0) (bytes : List ℕ) : Type 0 where
 abbrev pub RefusesFile : List ℕ → ReadingError → Type 0
 RefusesFile bytes e =
     (file_fault bytes ≡ Some (refusal_of e))
-    ⊎ (IsBundleFile bytes × Refuses (Den (parts_of bytes) (root_word bytes)) (Reaches (parts_of bytes) (root_word bytes)) (budget bytes) e)
+    ⊎ (IsBundleFile bytes
+    × Refuses (Den (parts_of bytes) (root_word bytes))
+    (Reaches (parts_of bytes) (root_word bytes)) (budget bytes) e)
 
 abbrev pub TreeOf : List ℕ → Result Resource ReadingError → Type 0
-TreeOf bytes (Ok r) = (n : ℕ) × Denotes bytes (tree_of r) n × (n ≤ budget bytes)
+TreeOf bytes (Ok r) = (n : ℕ) × Denotes bytes (tree_of r) n × (n ≤ budget bytes) × Borrows r
 TreeOf bytes (Err e) = RefusesFile bytes e
 
 abbrev pub CountOf : List ℕ → Result ℕ ReadingError → Type 0

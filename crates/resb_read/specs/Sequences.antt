@@ -1,7 +1,8 @@
 -- The members of sequences, the entries of maps, and what reading each of them gives.
 --     items p                 the places of the members of an array or a vector
 --     entries p               the places of the keys and values of a table
-use Rattle.std.specs.Prelude.{◌≡◌, ◌+◌, ◌==◌, ◌||◌, ℕ, List, [], ◌∷◌, map, Option, Some, None, option_map, if◌then◌else◌}
+use Rattle.std.specs.Prelude.{◌≡◌, ◌+◌, ◌==◌, ◌||◌, ℕ, List, [], ◌∷◌, map, Option, Some, None}
+use Rattle.std.specs.Prelude.{option_map, if◌then◌else◌}
 use Rattle.std.specs.BTreeMap.{insert_entry}
 use Rattle.std.specs.declared.cmp.Ordering.{Ordering}
 use Rattle.resb_tree.specs.Tree.{Tree, string, array, table, binary, integer, int_vector}
@@ -73,7 +74,8 @@ abbrev pub ReadsEach : {X : Type 0} → (Place → X → ℕ → Type 0) → Lis
 ReadsEach reads [] [] n = n ≡ 0
 ReadsEach reads [] (x ∷ xs) n = ⊥
 ReadsEach reads (p ∷ ps) [] n = ⊥
-ReadsEach reads (p ∷ ps) (x ∷ xs) n = (a : ℕ) × (b : ℕ) × reads p x a × ReadsEach reads ps xs b × (n ≡ a + b)
+ReadsEach reads (p ∷ ps) (x ∷ xs) n =
+    (a : ℕ) × (b : ℕ) × reads p x a × ReadsEach reads ps xs b × (n ≡ a + b)
 
 -- n is the sum of a count at each place
 abbrev pub CountsEach : (Place → ℕ → Type 0) → List Place → ℕ → Type 0
@@ -81,7 +83,8 @@ CountsEach counts [] n = n ≡ 0
 CountsEach counts (p ∷ ps) n = (a : ℕ) × (b : ℕ) × counts p a × CountsEach counts ps b × (n ≡ a + b)
 
 -- a sequence, whose members are read to xs
-pub record ReadsSeq {X : Type 0} (reads : Place → X → ℕ → Type 0) (p : Place) (xs : List X) (n : ℕ) : Type 0 where
+pub record ReadsSeq {X : Type 0} (reads : Place → X → ℕ → Type 0) (p : Place) (xs : List X)
+    (n : ℕ) : Type 0 where
   pub places : List Place
   pub total : ℕ
   pub are : items p ≡ Some places
@@ -96,24 +99,30 @@ pub record CountsSeq (counts : Place → ℕ → Type 0) (p : Place) (n : ℕ) :
   pub count : n ≡ 1 + total
 
 -- each entry's key and value are read, and n is the sum of the counts
-abbrev pub ReadsPairs : {K X : Type 0} → (Place → K → ℕ → Type 0) → (Place → X → ℕ → Type 0) → List (Place × Place) → List (K × X) → ℕ → Type 0
+abbrev pub ReadsPairs : {K X : Type 0} → (Place → K → ℕ → Type 0) → (Place → X → ℕ → Type 0)
+    → List (Place × Place) → List (K × X) → ℕ → Type 0
 ReadsPairs key value [] [] n = n ≡ 0
 ReadsPairs key value [] (e ∷ es) n = ⊥
 ReadsPairs key value (p ∷ ps) [] n = ⊥
 ReadsPairs key value (p ∷ ps) (e ∷ es) n =
-    (a : ℕ) × (b : ℕ) × (c : ℕ) × key p.0 e.0 a × value p.1 e.1 b × ReadsPairs key value ps es c × (n ≡ a + b + c)
+    (a : ℕ) × (b : ℕ) × (c : ℕ) × key p.0 e.0 a × value p.1 e.1 b × ReadsPairs key value ps es c
+    × (n ≡ a + b + c)
 
-abbrev pub CountsPairs : (Place → ℕ → Type 0) → (Place → ℕ → Type 0) → List (Place × Place) → ℕ → Type 0
+abbrev pub CountsPairs : (Place → ℕ → Type 0) → (Place → ℕ → Type 0) → List (Place × Place) → ℕ
+    → Type 0
 CountsPairs key value [] n = n ≡ 0
 CountsPairs key value (p ∷ ps) n =
-    (a : ℕ) × (b : ℕ) × (c : ℕ) × key p.0 a × value p.1 b × CountsPairs key value ps c × (n ≡ a + b + c)
+    (a : ℕ) × (b : ℕ) × (c : ℕ) × key p.0 a × value p.1 b × CountsPairs key value ps c
+    × (n ≡ a + b + c)
 
 -- the entries put in one after another: the last value of an equal key stands
-abbrev pub put_each : {K X : Type 0} → (K → K → Ordering) → List (K × X) → List (K × X) → List (K × X)
+abbrev pub put_each : {K X : Type 0} → (K → K → Ordering) → List (K × X) → List (K × X)
+    → List (K × X)
 put_each cmp m [] = m
 put_each cmp m (e ∷ es) = put_each cmp (insert_entry cmp m e.0 e.1) es
 
-pub record ReadsMap {K X : Type 0} (cmp : K → K → Ordering) (key : Place → K → ℕ → Type 0) (value : Place → X → ℕ → Type 0) (p : Place) (m : List (K × X)) (n : ℕ) : Type 0 where
+pub record ReadsMap {K X : Type 0} (cmp : K → K → Ordering) (key : Place → K → ℕ → Type 0)
+    (value : Place → X → ℕ → Type 0) (p : Place) (m : List (K × X)) (n : ℕ) : Type 0 where
   pub places : List (Place × Place)
   pub read : List (K × X)
   pub total : ℕ
@@ -122,7 +131,8 @@ pub record ReadsMap {K X : Type 0} (cmp : K → K → Ordering) (key : Place →
   pub map : m ≡ put_each cmp [] read
   pub count : n ≡ 1 + total
 
-pub record CountsMap (key : Place → ℕ → Type 0) (value : Place → ℕ → Type 0) (p : Place) (n : ℕ) : Type 0 where
+pub record CountsMap (key : Place → ℕ → Type 0) (value : Place → ℕ → Type 0) (p : Place)
+    (n : ℕ) : Type 0 where
   pub places : List (Place × Place)
   pub total : ℕ
   pub are : entries p ≡ Some places
@@ -130,6 +140,7 @@ pub record CountsMap (key : Place → ℕ → Type 0) (value : Place → ℕ →
   pub count : n ≡ 1 + total
 
 -- the entries that stand after all were put in
-abbrev pub ReadsAll : {K X : Type 0} → (K → K → Ordering) → (Place → K → ℕ → Type 0) → (Place → X → ℕ → Type 0) → List (Place × Place) → List (K × X) → ℕ → Type 0
+abbrev pub ReadsAll : {K X : Type 0} → (K → K → Ordering) → (Place → K → ℕ → Type 0)
+    → (Place → X → ℕ → Type 0) → List (Place × Place) → List (K × X) → ℕ → Type 0
 ReadsAll {K} {X} cmp key value places m n =
     (es : List (K × X)) × ReadsPairs key value places es n × (m ≡ put_each cmp [] es)

@@ -34,7 +34,8 @@ impl<'de> Cursor<'de> {
     /// The first check of the file's head that fails is answered.
     pub fn root(bytes: &'de [u8]) -> Result<(Cursor<'de>, Walk), BinaryDeserializerError>
         ensures { MatchResult result
-            (λ r. (file_fault bytes.now ≡ None) × (place_of r.0 ≡ root_place bytes.now) × (r.1 ≡ budget bytes.now))
+            (λ r. (file_fault bytes.now ≡ None) × (place_of r.0 ≡ root_place bytes.now) ×
+            (r.1 ≡ budget bytes.now))
             (λ e. file_fault bytes.now ≡ Some (refusal_of e)) }
     {
         let parts = FileParts::read(bytes)?;

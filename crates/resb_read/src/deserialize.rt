@@ -27,8 +27,10 @@ pub trait Deserialize<'de>: Sized + Drop {
         at: Cursor<'de>,
         walk: &mut Walk,
     ) -> Result<Self, ReadingError<'m>>
-        ensures read { IfOk result (λ x. (n : ℕ) × reads (place_of at.entry) x n × (walk.new + n ≡ walk.old)) }
-        ensures refused { IfErr result (λ e. (walk.new ≤ walk.old) × LacksOrMemory (counts (place_of at.entry)) walk.old e) };
+        ensures read { IfOk result
+            (λ x. (n : ℕ) × reads (place_of at.entry) x n × (walk.new + n ≡ walk.old)) }
+        ensures refused { IfErr result
+            (λ e. (walk.new ≤ walk.old) × LacksOrMemory (counts (place_of at.entry)) walk.old e) };
 
     /// The count of every reading is a count of the place.
     ghost counted: { (p : Place) (x : Self) (n : ℕ) → reads p x n → counts p n };

@@ -1,10 +1,12 @@
 //! The entries of a table, one after another.
 //! Whole maps are read in `maps`.
-ghost use Rattle.std.specs.Prelude.{◌≡◌, ◌≤◌, ◌<◌, ◌+◌, ◌⊎◌, ℕ, Some, None, [], ◌∷◌, drop, length, MatchOption, IfOk, IfErr};
+ghost use Rattle.std.specs.Prelude.{◌≡◌, ◌≤◌, ◌<◌, ◌+◌, ◌⊎◌, ℕ, Some, None, [], ◌∷◌, drop, length};
+ghost use Rattle.std.specs.Prelude.{MatchOption, IfOk, IfErr};
 ghost use Rattle.resb_read.specs.Places.{place_of};
 ghost use Rattle.resb_read.specs.Sequences as sequences;
 ghost use Rattle.resb_read.specs.Access.{EntersTo, Enters, ReadsPair, CountsPair};
 ghost use Rattle.resb_read.specs.Reading.{LacksOrMemory};
+ghost use Rattle.resb_read.specs.Refused.{Blames};
 
 use crate::cursor::{Cursor, Spot};
 use crate::deserialize::Deserialize;
@@ -43,9 +45,10 @@ impl<'de, 'm> MapAccess<'de, 'm> {
     }
 
     /// The places of the first entry's key and value.
-    #[tactic(auto, using(crate::proofs::Singly::map_first, crate::proofs::Singly::map_none, crate::proofs::Singly::some_first))]
+    #[tactic(auto, using(crate::proofs::Singly::firsts))]
     fn first(&self) -> Option<(Cursor<'de>, Cursor<'de>)>
-        ensures { MatchOption result (self.now.rest ≡ []) (λ c. self.now.rest ≡ (place_of c.0, place_of c.1) ∷ drop 1 self.now.rest) }
+        ensures { MatchOption result (self.now.rest ≡ [])
+            (λ c. self.now.rest ≡ (place_of c.0, place_of c.1) ∷ drop 1 self.now.rest) }
     {
         let (position, member, _) = self.rest.split()?;
         let key = Cursor {
@@ -60,7 +63,7 @@ impl<'de, 'm> MapAccess<'de, 'm> {
     }
 
     /// Goes past the first of the entries.
-    #[tactic(auto, using(crate::proofs::Singly::map_first, crate::proofs::Singly::map_none, crate::proofs::Singly::drop_first, crate::proofs::Singly::none_left))]
+    #[tactic(auto, using(crate::proofs::Singly::rests))]
     fn advance(&mut self)
         requires { 0 < length self.old.rest }
         ensures { self.new ≡ record { rest = drop 1 self.old.rest; failed = self.old.failed } }
@@ -92,7 +95,8 @@ impl<'de, 'm> MapAccess<'de, 'm> {
         alloc: Global,
         walk: &mut Walk,
     ) -> Result<Option<(K, T)>, ReadingError<'m>>
-        ensures { Enters K.reads K.counts T.reads T.counts self.old walk.old self.new walk.new result }
+        ensures { Enters K.reads K.counts T.reads T.counts self.old walk.old self.new walk.new
+            result }
     {
         if let Some(error) = self.failed {
             return Err(error);
@@ -120,9 +124,12 @@ fn read_pair<'de, 'm, K: Deserialize<'de>, T: Deserialize<'de>>(
     value_at: Cursor<'de>,
     walk: &mut Walk,
 ) -> Result<(K, T), ReadingError<'m>>
-    ensures read { IfOk result (λ e. (n : ℕ) × ReadsPair K.reads T.reads (place_of key_at.entry, place_of value_at.entry) e n × (walk.new + n ≡ walk.old)) }
+    ensures read { IfOk result (λ e. (n : ℕ)
+        × ReadsPair K.reads T.reads (place_of key_at.entry, place_of value_at.entry) e n
+        × (walk.new + n ≡ walk.old)) }
     ensures refused { IfErr result (λ e. (walk.new ≤ walk.old)
-        × LacksOrMemory (CountsPair K.counts T.counts (place_of key_at.entry, place_of value_at.entry)) walk.old e) }
+        × LacksOrMemory (CountsPair K.counts T.counts
+        (place_of key_at.entry, place_of value_at.entry)) walk.old e) }
 {
     let key = K::deserialize(alloc, key_at, walk)?;
     let value = T::deserialize(alloc, value_at, walk)?;
@@ -133,26 +140,31 @@ impl<'de> Cursor<'de> {
     /// The entries of the table that stands here. The fields of all lie in the file, but where they
     /// lead isn't looked at yet.
     pub fn read_map<'m>(self, walk: &mut Walk) -> Result<MapAccess<'de, 'm>, ReadingError<'m>>
-        ensures read { IfOk result (λ s. (sequences.entries (place_of self.entry) ≡ Some s.rest) × (s.failed ≡ None) × (walk.new + 1 ≡ walk.old)) }
-        ensures refused { IfErr result (λ _. (walk.new ≤ walk.old) × (sequences.entries (place_of self.entry) ≡ None ⊎ walk.old ≡ 0)) }
+        ensures read { IfOk result (λ s. (sequences.entries (place_of self.entry) ≡ Some s.rest)
+            × (s.failed ≡ None) × (walk.new + 1 ≡ walk.old)) }
+        ensures refused { IfErr result (λ e. (walk.new ≤ walk.old)
+            × (sequences.entries (place_of self.entry) ≡ None ⊎ walk.old ≡ 0) × Blames walk.old e) }
     {
         let Spot::Descriptor(word) = self.at else {
             return Err(refused_here(self.at, walk));
         };
-        walk.pay()?;
+        if let Err(spent) = walk.pay() {
+            return Err(spent);
+        }
         let kind = word >> 28;
         if kind != 2 && kind != 4 && kind != 5 {
             return Err(mismatch(word, "expected table resource"));
         }
-        match self.file.standing(word)? {
-            Standing::Table(rest) => Ok(MapAccess {
+        match self.file.standing(word) {
+            Ok(Standing::Table(rest)) => Ok(MapAccess {
                 file: self.file,
                 rest,
                 failed: None,
             }),
-            Standing::List(_) | Standing::Leaf(_) => {
+            Ok(Standing::List(_) | Standing::Leaf(_)) => {
                 Err(mismatch(word, "expected table resource"))
             }
+            Err(error) => Err(error),
         }
     }
 }

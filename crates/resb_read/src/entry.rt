@@ -17,9 +17,12 @@ pub fn from_bytes<'a, 'm, T: Deserialize<'a>>(
     alloc: Global,
     bytes: &'a [u8],
 ) -> Result<T, ReadingError<'m>>
-    ensures read { IfOk result (λ x. (n : ℕ) × AtRoot (λ p. T.reads p x n) bytes.entry.now × (n ≤ budget bytes.entry.now)) }
-    ensures refused { IfErr result (λ e. LacksOrMemory (λ n. AtRoot (λ p. T.counts p n) bytes.entry.now) (budget bytes.entry.now) e) }
-    ensures head { IfErr result (λ e. (f : checks.Refusal) → file_fault bytes.entry.now ≡ Some f → refusal_of e ≡ f) }
+    ensures read { IfOk result (λ x. (n : ℕ) × AtRoot (λ p. T.reads p x n) bytes.entry.now
+        × (n ≤ budget bytes.entry.now)) }
+    ensures refused { IfErr result (λ e. LacksOrMemory
+        (λ n. AtRoot (λ p. T.counts p n) bytes.entry.now) (budget bytes.entry.now) e) }
+    ensures head { IfErr result
+        (λ e. (f : checks.Refusal) → file_fault bytes.entry.now ≡ Some f → refusal_of e ≡ f) }
 {
     let (value, _) = from_bytes_counted::<T>(alloc, bytes)?;
     Ok(value)
@@ -30,9 +33,12 @@ pub fn from_bytes_counted<'a, 'm, T: Deserialize<'a>>(
     alloc: Global,
     bytes: &'a [u8],
 ) -> Result<(T, usize), ReadingError<'m>>
-    ensures read { IfOk result (λ r. AtRoot (λ p. T.reads p r.0 r.1) bytes.entry.now × (r.1 ≤ budget bytes.entry.now)) }
-    ensures refused { IfErr result (λ e. LacksOrMemory (λ n. AtRoot (λ p. T.counts p n) bytes.entry.now) (budget bytes.entry.now) e) }
-    ensures head { IfErr result (λ e. (f : checks.Refusal) → file_fault bytes.entry.now ≡ Some f → refusal_of e ≡ f) }
+    ensures read { IfOk result
+        (λ r. AtRoot (λ p. T.reads p r.0 r.1) bytes.entry.now × (r.1 ≤ budget bytes.entry.now)) }
+    ensures refused { IfErr result (λ e. LacksOrMemory
+        (λ n. AtRoot (λ p. T.counts p n) bytes.entry.now) (budget bytes.entry.now) e) }
+    ensures head { IfErr result
+        (λ e. (f : checks.Refusal) → file_fault bytes.entry.now ≡ Some f → refusal_of e ≡ f) }
 {
     let (root, mut walk) = Cursor::root(bytes)?;
     let before = walk.left();

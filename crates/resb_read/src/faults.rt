@@ -1,9 +1,11 @@
 //! What is said where a type isn't read at a place.
 //! Faults of the file itself are in `resb_walk::faults`.
-ghost use Rattle.std.specs.Prelude.{◌≤◌, codes};
-ghost use Rattle.resb_format.specs.Error.{IsRefusal};
-ghost use Rattle.resb_format.specs.declared.error.ErrorKind.TheVariants.{Unknown};
+ghost use Rattle.std.specs.Prelude.{◌≤◌, ◌≢◌, codes};
+ghost use Rattle.resb_format.specs.HeadChecks.{refusal_of};
 ghost use Rattle.resb_walk.specs.Refusals.{IsFault};
+ghost use Rattle.resb_read.specs.Leaves.{type_in};
+ghost use Rattle.resb_read.specs.Refused as refused;
+ghost use Rattle.resb_read.specs.Refused.{Says, Blames};
 
 use crate::cursor::Spot;
 use resb_format::BinaryDeserializerError;
@@ -12,7 +14,7 @@ use resb_walk::faults::{unknown_type, unsupported_type};
 
 /// A number doesn't fit the type.
 pub(crate) fn out_of_range() -> BinaryDeserializerError
-    ensures says { IsRefusal result Unknown (codes "number out of range") }
+    ensures says { Says refused.out_of_range result }
     ensures fault { IsFault result }
 {
     BinaryDeserializerError::unknown("number out of range")
@@ -20,20 +22,23 @@ pub(crate) fn out_of_range() -> BinaryDeserializerError
 
 /// A place where no value of the type stands.
 pub(crate) fn elsewhere() -> BinaryDeserializerError
-    ensures says { IsRefusal result Unknown (codes "value cannot be read here") }
+    ensures says { Says refused.elsewhere result }
     ensures fault { IsFault result }
 {
     BinaryDeserializerError::unknown("value cannot be read here")
 }
 
-/// The refusal at a place that a type does not read. A descriptor and a string's unit cost one of the
+/// The refusal at a place that a type does not read. A descriptor and a string's unit cost one of
+/// the
 /// budget before they are looked at, and a descriptor's type has to be one that is read at all.
 pub(crate) fn refused_here(at: Spot, walk: &mut Walk) -> BinaryDeserializerError
-    ensures { walk.new ≤ walk.old }
+    ensures falls { walk.new ≤ walk.old }
+    ensures blames { Blames walk.old result }
+    ensures says { Says (refused.no_value at walk.old) result }
 {
     match at {
         Spot::Descriptor(word) => match walk.pay() {
-            Ok(()) => unread(word),
+            Ok(()) => unread(word >> 28, elsewhere()),
             Err(spent) => spent,
         },
         Spot::Unit(_) => match walk.pay() {
@@ -44,20 +49,30 @@ pub(crate) fn refused_here(at: Spot, walk: &mut Walk) -> BinaryDeserializerError
     }
 }
 
-/// A descriptor at which a type that is no resource's is asked for.
-fn unread(word: u32) -> BinaryDeserializerError {
-    match word >> 28 {
-        0 | 3 => unsupported_type(),
-        1 | 2 | 4..=9 | 14 => elsewhere(),
-        _ => unknown_type(),
+/// The refusal of a type that isn't read; else the other one.
+fn unread(kind: u32, other: BinaryDeserializerError) -> BinaryDeserializerError
+    requires { IsFault other }
+    ensures says { Says (refused.type_refusal kind (refusal_of other.entry)) result }
+    ensures fault { IsFault result }
+{
+    if kind == 0 || kind == 3 {
+        return unsupported_type();
     }
+    if kind > 9 && kind != 14 {
+        return unknown_type();
+    }
+    other
 }
 
 /// A descriptor of another type than was asked for: one that isn't read at all, or a mismatch.
-pub(crate) fn mismatch(word: u32, expected: &'static str) -> BinaryDeserializerError {
-    match word >> 28 {
-        0 | 3 => unsupported_type(),
-        1 | 2 | 4..=9 | 14 => BinaryDeserializerError::resource_type_mismatch(expected),
-        _ => unknown_type(),
-    }
+pub(crate) fn mismatch(word: u32, expected: &'static str) -> BinaryDeserializerError
+    requires { expected.now ≢ codes "resource budget spent" }
+    ensures says { Says (refused.type_refusal (type_in word) (refused.mismatch expected.entry.now))
+        result }
+    ensures fault { IsFault result }
+{
+    unread(
+        word >> 28,
+        BinaryDeserializerError::resource_type_mismatch(expected),
+    )
 }

@@ -4,6 +4,7 @@ ghost use Rattle.std.specs.Prelude.{◌≡◌, ◌≤◌, ◌+◌, ℕ, IfOk, If
 ghost use Rattle.resb_format.specs.Views.{unit_bytes, word_bytes, number_bytes, pair_bytes};
 ghost use Rattle.resb_read.specs.Places.{place_of};
 ghost use Rattle.resb_read.specs.Reading.{Reads, LacksOrMemory};
+ghost use Rattle.resb_read.specs.Refused.{Blames};
 ghost use Rattle.resb_read.specs.Sequences.{ReadsSeq, CountsSeq};
 ghost use Rattle.resb_read.specs.Others.{ReadsView, CountsView};
 
@@ -21,10 +22,13 @@ pub fn option_utf_16<'de>(
     walk: &mut Walk,
 ) -> Result<Option<Utf16View<'de>>, BinaryDeserializerError>
     ensures { let p = place_of at.entry in
-        Reads (λ o n. IsSomeAnd o (λ v. ReadsView 2 p (unit_bytes v) n)) (CountsView 2 p) walk.old walk.new result }
+        Reads (Blames walk.old) (λ o n. IsSomeAnd o (λ v. ReadsView 2 p (unit_bytes v) n))
+        (CountsView 2 p) walk.old walk.new result }
 {
-    let view = at.units(walk)?;
-    Ok(Some(view))
+    match at.units(walk) {
+        Ok(view) => Ok(Some(view)),
+        Err(error) => Err(error),
+    }
 }
 
 /// The bytes here as words. Refused where their number is no multiple of 4.
@@ -33,10 +37,13 @@ pub fn option_u32<'de>(
     walk: &mut Walk,
 ) -> Result<Option<WordView<'de>>, BinaryDeserializerError>
     ensures { let p = place_of at.entry in
-        Reads (λ o n. IsSomeAnd o (λ v. ReadsView 4 p (word_bytes v) n)) (CountsView 4 p) walk.old walk.new result }
+        Reads (Blames walk.old) (λ o n. IsSomeAnd o (λ v. ReadsView 4 p (word_bytes v) n))
+        (CountsView 4 p) walk.old walk.new result }
 {
-    let view = at.words(walk)?;
-    Ok(Some(view))
+    match at.words(walk) {
+        Ok(view) => Ok(Some(view)),
+        Err(error) => Err(error),
+    }
 }
 
 /// The bytes here as signed numbers. Refused where their number is no multiple of 4.
@@ -45,10 +52,13 @@ pub fn option_i32<'de>(
     walk: &mut Walk,
 ) -> Result<Option<I32View<'de>>, BinaryDeserializerError>
     ensures { let p = place_of at.entry in
-        Reads (λ o n. IsSomeAnd o (λ v. ReadsView 4 p (number_bytes v) n)) (CountsView 4 p) walk.old walk.new result }
+        Reads (Blames walk.old) (λ o n. IsSomeAnd o (λ v. ReadsView 4 p (number_bytes v) n))
+        (CountsView 4 p) walk.old walk.new result }
 {
-    let words = at.words(walk)?;
-    Ok(Some(cast_u32_to_i32_slice(words)))
+    match at.words(walk) {
+        Ok(words) => Ok(Some(cast_u32_to_i32_slice(words))),
+        Err(error) => Err(error),
+    }
 }
 
 /// The bytes here as pairs of signed numbers. Refused where their number is no multiple of 8.
@@ -57,7 +67,8 @@ pub fn i32_tuple<'de>(
     walk: &mut Walk,
 ) -> Result<PairView<'de>, BinaryDeserializerError>
     ensures { let p = place_of at.entry in
-        Reads (λ v n. ReadsView 8 p (pair_bytes v) n) (CountsView 8 p) walk.old walk.new result }
+        Reads (Blames walk.old) (λ v n. ReadsView 8 p (pair_bytes v) n) (CountsView 8 p) walk.old
+        walk.new result }
 {
     at.pairs(walk)
 }
@@ -68,10 +79,13 @@ pub fn option_i32_tuple<'de>(
     walk: &mut Walk,
 ) -> Result<Option<PairView<'de>>, BinaryDeserializerError>
     ensures { let p = place_of at.entry in
-        Reads (λ o n. IsSomeAnd o (λ v. ReadsView 8 p (pair_bytes v) n)) (CountsView 8 p) walk.old walk.new result }
+        Reads (Blames walk.old) (λ o n. IsSomeAnd o (λ v. ReadsView 8 p (pair_bytes v) n))
+        (CountsView 8 p) walk.old walk.new result }
 {
-    let view = at.pairs(walk)?;
-    Ok(Some(view))
+    match at.pairs(walk) {
+        Ok(view) => Ok(Some(view)),
+        Err(error) => Err(error),
+    }
 }
 
 /// The members of the sequence here, each as 16-bit units.
@@ -80,8 +94,11 @@ pub fn vec_utf_16<'de>(
     at: Cursor<'de>,
     walk: &mut Walk,
 ) -> Result<Vec<Utf16View<'de>>, BinaryDeserializerError>
-    ensures read { IfOk result (λ v. (n : ℕ) × ReadsSeq (λ p x n. ReadsView 2 p (unit_bytes x) n) (place_of at.entry) v.items n × (walk.new + n ≡ walk.old)) }
-    ensures refused { IfErr result (λ e. (walk.new ≤ walk.old) × LacksOrMemory (CountsSeq (CountsView 2) (place_of at.entry)) walk.old e) }
+    ensures read { IfOk result (λ v. (n : ℕ)
+        × ReadsSeq (λ p x n. ReadsView 2 p (unit_bytes x) n) (place_of at.entry) v.items n
+        × (walk.new + n ≡ walk.old)) }
+    ensures refused { IfErr result (λ e. (walk.new ≤ walk.old)
+        × LacksOrMemory (CountsSeq (CountsView 2) (place_of at.entry)) walk.old e) }
 {
     Vec::deserialize(alloc, at, walk)
 }

@@ -20,7 +20,7 @@ pub(crate) enum Items<'de> {
 
 impl<'de> Items<'de> {
     /// How many members are still to come.
-    #[tactic(auto, using(crate::proofs::Singly::map_length, resb_format::proofs::Spelled::words_length))]
+    #[tactic(auto, using(crate::proofs::Singly::lengths))]
     pub(crate) fn len(self) -> usize
         ensures { result ≡ length (spots_of self.entry) }
     {
@@ -32,7 +32,8 @@ impl<'de> Items<'de> {
 
     /// The first member, and those after it.
     pub(crate) fn split(self) -> Option<(Spot, Items<'de>)>
-        ensures { MatchOption result (spots_of self.entry ≡ []) (λ r. spots_of self.entry ≡ r.0 ∷ spots_of r.1) }
+        ensures { MatchOption result (spots_of self.entry ≡ [])
+            (λ r. spots_of self.entry ≡ r.0 ∷ spots_of r.1) }
     {
         match self {
             Items::Members(members) => {

@@ -37,8 +37,10 @@ fn read_members<'de, 'm, T: Deserialize<'de>>(
     walk: &mut Walk,
 ) -> Result<Vec<T>, ReadingError<'m>>
     requires { seq.failed ≡ None }
-    ensures read { IfOk result (λ v. (n : ℕ) × ReadsEach T.reads seq.entry.rest v.items n × (walk.new + n ≡ walk.old)) }
-    ensures refused { IfErr result (λ e. (walk.new ≤ walk.old) × LacksOrMemory (CountsEach T.counts seq.entry.rest) walk.old e) }
+    ensures read { IfOk result
+        (λ v. (n : ℕ) × ReadsEach T.reads seq.entry.rest v.items n × (walk.new + n ≡ walk.old)) }
+    ensures refused { IfErr result (λ e. (walk.new ≤ walk.old)
+        × LacksOrMemory (CountsEach T.counts seq.entry.rest) walk.old e) }
 {
     let mut values = Vec::new(alloc);
     'members: while let Some(value) = seq.next_element::<T>(alloc, walk)? {

@@ -20,8 +20,11 @@ fn read_entries<'de, 'm, K: Deserialize<'de> + Ord, T: Deserialize<'de>>(
     walk: &mut Walk,
 ) -> Result<BTreeMap<K, T>, ReadingError<'m>>
     requires { access.failed ≡ None }
-    ensures read { IfOk result (λ m. (n : ℕ) × ReadsAll K.cmp K.reads T.reads access.entry.rest m.entries n × (walk.new + n ≡ walk.old)) }
-    ensures refused { IfErr result (λ e. (walk.new ≤ walk.old) × LacksOrMemory (CountsPairs K.counts T.counts access.entry.rest) walk.old e) }
+    ensures read { IfOk result (λ m. (n : ℕ)
+        × ReadsAll K.cmp K.reads T.reads access.entry.rest m.entries n
+        × (walk.new + n ≡ walk.old)) }
+    ensures refused { IfErr result (λ e. (walk.new ≤ walk.old)
+        × LacksOrMemory (CountsPairs K.counts T.counts access.entry.rest) walk.old e) }
 {
     let mut map = BTreeMap::new(alloc);
     'entries: while let Some((key, value)) = access.next_entry::<K, T>(alloc, walk)? {
@@ -35,7 +38,9 @@ impl<'de, K: Deserialize<'de> + Ord, T: Deserialize<'de>> Deserialize<'de> for B
 
     ghost counts = { CountsMap K.counts T.counts };
 
-    ghost counted = { λ p m n. map_counted K.reads T.reads K.counts T.counts K.counted T.counted K.cmp p m.entries n };
+    ghost counted = { λ p m n. map_counted K.reads T.reads K.counts T.counts K.counted T.counted
+        K.cmp p
+        m.entries n };
 
     ghost one_count = { map_one K.counts T.counts K.one_count T.one_count };
 

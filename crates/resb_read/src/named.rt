@@ -1,63 +1,83 @@
 //! Cursors at places that are no descriptor: a string's unit, a vector's word, a key.
 //! What they read is said in the modules of the types.
-ghost use Rattle.std.specs.Prelude.{◌≡◌, ◌≤◌, ◌+◌, ◌-◌, ◌^◌, ℕ, pos, negsuc, IfOk, IfErr, MatchOption};
+ghost use Rattle.std.specs.Prelude.{◌≡◌, ◌≤◌, ◌+◌, ◌-◌, ◌^◌, ℕ, pos, negsuc, IfOk, IfErr};
+ghost use Rattle.std.specs.Prelude.{MatchOption};
 ghost use Rattle.std.specs.String.{string_bytes};
 ghost use Rattle.resb_read.specs.Places.{place_of};
+ghost use Rattle.resb_walk.specs.Refusals.{IsFault};
 ghost use Rattle.resb_read.specs.Reading.{Reads, LacksOrMemory};
-ghost use Rattle.resb_read.specs.Leaves.{ReadsText, CountsText, ReadsKey, CountsKey, ReadsBytes, CountsBytes, ReadsSigned, CountsSigned, ReadsUnsigned, CountsUnsigned};
+ghost use Rattle.resb_read.specs.Refused.{Says, Blames, out_of_range};
+ghost use Rattle.resb_read.specs.Leaves.{ReadsText, CountsText, ReadsKey, CountsKey, ReadsBytes};
+ghost use Rattle.resb_read.specs.Leaves.{CountsBytes, ReadsSigned, CountsSigned, ReadsUnsigned};
+ghost use Rattle.resb_read.specs.Leaves.{CountsUnsigned};
 ghost use Rattle.resb_read.specs.Others.{IsUnit, IsWord, IsKey};
 ghost use Rattle.resb_read.specs.Inner.Named as named;
 
 use crate::cursor::{Cursor, Spot};
 use resb_format::BinaryDeserializerError;
-use resb_walk::Walk;
+use resb_walk::{File, Walk};
 use std::alloc::Global;
 
 /// A string of the 16-bit block.
 #[derive(Clone, Copy)]
 pub struct Resource16BitDeserializer<'de> {
-    at: Cursor<'de>,
+    file: File<'de>,
+    unit: u16,
 }
 
 /// A number of a vector.
 #[derive(Clone, Copy)]
 pub struct IntVectorDeserializer<'de> {
-    at: Cursor<'de>,
+    file: File<'de>,
+    word: u32,
 }
 
 /// A key.
 #[derive(Clone, Copy)]
 pub struct KeyDeserializer<'de> {
-    at: Cursor<'de>,
+    file: File<'de>,
+    position: usize,
 }
 
 impl<'de> Cursor<'de> {
     /// The string's deserializer, at a unit of the 16-bit block.
     pub fn as_16_bit(self) -> Option<Resource16BitDeserializer<'de>>
-        ensures { MatchOption result (IsUnit self.entry.at → ⊥) (λ d. IsUnit self.entry.at × (named.unit_place d ≡ place_of self.entry)) }
+        ensures { MatchOption result (IsUnit self.entry.at → ⊥)
+            (λ d. IsUnit self.entry.at × (named.unit_place d ≡ place_of self.entry)) }
     {
         match self.at {
-            Spot::Unit(_) => Some(Resource16BitDeserializer { at: self }),
+            Spot::Unit(unit) => Some(Resource16BitDeserializer {
+                file: self.file,
+                unit,
+            }),
             Spot::Descriptor(_) | Spot::Word(_) | Spot::Key(_) => None,
         }
     }
 
     /// The number's deserializer, at a vector's word.
     pub fn as_int_vector(self) -> Option<IntVectorDeserializer<'de>>
-        ensures { MatchOption result (IsWord self.entry.at → ⊥) (λ d. IsWord self.entry.at × (named.word_place d ≡ place_of self.entry)) }
+        ensures { MatchOption result (IsWord self.entry.at → ⊥)
+            (λ d. IsWord self.entry.at × (named.word_place d ≡ place_of self.entry)) }
     {
         match self.at {
-            Spot::Word(_) => Some(IntVectorDeserializer { at: self }),
+            Spot::Word(word) => Some(IntVectorDeserializer {
+                file: self.file,
+                word,
+            }),
             Spot::Descriptor(_) | Spot::Unit(_) | Spot::Key(_) => None,
         }
     }
 
     /// The key's deserializer, at a key.
     pub fn as_key(self) -> Option<KeyDeserializer<'de>>
-        ensures { MatchOption result (IsKey self.entry.at → ⊥) (λ d. IsKey self.entry.at × (named.key_place d ≡ place_of self.entry)) }
+        ensures { MatchOption result (IsKey self.entry.at → ⊥)
+            (λ d. IsKey self.entry.at × (named.key_place d ≡ place_of self.entry)) }
     {
         match self.at {
-            Spot::Key(_) => Some(KeyDeserializer { at: self }),
+            Spot::Key(position) => Some(KeyDeserializer {
+                file: self.file,
+                position,
+            }),
             Spot::Descriptor(_) | Spot::Unit(_) | Spot::Word(_) => None,
         }
     }
@@ -70,18 +90,30 @@ impl<'de> Resource16BitDeserializer<'de> {
         alloc: Global,
         walk: &mut Walk,
     ) -> Result<String, BinaryDeserializerError>
-        ensures read { IfOk result (λ s. (n : ℕ) × ReadsText (named.unit_place self.entry) (string_bytes s) n × (walk.new + n ≡ walk.old)) }
-        ensures refused { IfErr result (λ e. (walk.new ≤ walk.old) × LacksOrMemory (CountsText (named.unit_place self.entry)) walk.old e) }
+        ensures read { IfOk result (λ s. (n : ℕ)
+            × ReadsText (named.unit_place self.entry) (string_bytes s) n
+            × (walk.new + n ≡ walk.old)) }
+        ensures refused { IfErr result (λ e. (walk.new ≤ walk.old)
+            × LacksOrMemory (CountsText (named.unit_place self.entry)) walk.old e) }
     {
-        self.at.read_string(alloc, walk)
+        let at = Cursor {
+            file: self.file,
+            at: Spot::Unit(self.unit),
+        };
+        at.read_string(alloc, walk)
     }
 
     /// Reads the bytes of the string's units, which need be no text.
     pub fn read_bytes(self, walk: &mut Walk) -> Result<&'de [u8], BinaryDeserializerError>
         ensures { let p = named.unit_place self.entry in
-            Reads (λ b n. ReadsBytes p b.now n) (CountsBytes p) walk.old walk.new result }
+            Reads (Blames walk.old) (λ b n. ReadsBytes p b.now n) (CountsBytes p) walk.old walk.new
+            result }
     {
-        self.at.read_bytes(walk)
+        let at = Cursor {
+            file: self.file,
+            at: Spot::Unit(self.unit),
+        };
+        at.read_bytes(walk)
     }
 }
 
@@ -89,92 +121,127 @@ impl<'de> KeyDeserializer<'de> {
     /// Reads the key, which lives as long as the file.
     pub fn read_str(self) -> Result<&'de str, BinaryDeserializerError>
         ensures { let p = named.key_place self.entry in
-            Reads (λ s n. ReadsKey p s.now n) (CountsKey p) 0 0 result }
+            Reads IsFault (λ s n. ReadsKey p s.now n) (CountsKey p) 0 0 result }
     {
-        let mut walk = Walk::new(0);
-        let text = self.at.read_str(&mut walk)?;
-        Ok(text)
+        match self.file.key(self.position) {
+            Ok(text) => Ok(text),
+            Err(error) => Err(error),
+        }
     }
 }
 
 impl<'de> IntVectorDeserializer<'de> {
+    /// The number's place.
+    fn at(self) -> Cursor<'de>
+        ensures { place_of result ≡ named.word_place self.entry }
+    {
+        Cursor {
+            file: self.file,
+            at: Spot::Word(self.word),
+        }
+    }
+
     /// Reads the number, as one from -2^7 to 2^7 - 1.
     pub fn read_i8(self) -> Result<i8, BinaryDeserializerError>
-        ensures { let low = negsuc (2 ^ 7 - 1) in let high = pos (2 ^ 7 - 1) in let p = named.word_place self.entry in
-            Reads (ReadsSigned low high p) (CountsSigned low high p) 0 0 result }
+        ensures { let low = negsuc (2 ^ 7 - 1) in let high = pos (2 ^ 7 - 1) in
+            let p = named.word_place self.entry in
+            Reads (Says out_of_range) (ReadsSigned low high p) (CountsSigned low high p) 0 0
+            result }
     {
         let mut walk = Walk::new(0);
-        let number = self.at.read_i8(&mut walk)?;
-        Ok(number)
+        match self.at().read_i8(&mut walk) {
+            Ok(number) => Ok(number),
+            Err(error) => Err(error),
+        }
     }
 
     /// Reads the number, as one from -2^15 to 2^15 - 1.
     pub fn read_i16(self) -> Result<i16, BinaryDeserializerError>
-        ensures { let low = negsuc (2 ^ 15 - 1) in let high = pos (2 ^ 15 - 1) in let p = named.word_place self.entry in
-            Reads (ReadsSigned low high p) (CountsSigned low high p) 0 0 result }
+        ensures { let low = negsuc (2 ^ 15 - 1) in let high = pos (2 ^ 15 - 1) in
+            let p = named.word_place self.entry in
+            Reads (Says out_of_range) (ReadsSigned low high p) (CountsSigned low high p) 0 0
+            result }
     {
         let mut walk = Walk::new(0);
-        let number = self.at.read_i16(&mut walk)?;
-        Ok(number)
+        match self.at().read_i16(&mut walk) {
+            Ok(number) => Ok(number),
+            Err(error) => Err(error),
+        }
     }
 
     /// Reads the number, as one from -2^31 to 2^31 - 1.
     pub fn read_i32(self) -> Result<i32, BinaryDeserializerError>
-        ensures { let low = negsuc (2 ^ 31 - 1) in let high = pos (2 ^ 31 - 1) in let p = named.word_place self.entry in
-            Reads (ReadsSigned low high p) (CountsSigned low high p) 0 0 result }
+        ensures { let low = negsuc (2 ^ 31 - 1) in let high = pos (2 ^ 31 - 1) in
+            let p = named.word_place self.entry in
+            Reads (Says out_of_range) (ReadsSigned low high p) (CountsSigned low high p) 0 0
+            result }
     {
         let mut walk = Walk::new(0);
-        let number = self.at.read_i32(&mut walk)?;
-        Ok(number)
+        match self.at().read_i32(&mut walk) {
+            Ok(number) => Ok(number),
+            Err(error) => Err(error),
+        }
     }
 
     /// Reads the number, as one from -2^63 to 2^63 - 1.
     pub fn read_i64(self) -> Result<i64, BinaryDeserializerError>
-        ensures { let low = negsuc (2 ^ 63 - 1) in let high = pos (2 ^ 63 - 1) in let p = named.word_place self.entry in
-            Reads (ReadsSigned low high p) (CountsSigned low high p) 0 0 result }
+        ensures { let low = negsuc (2 ^ 63 - 1) in let high = pos (2 ^ 63 - 1) in
+            let p = named.word_place self.entry in
+            Reads (Says out_of_range) (ReadsSigned low high p) (CountsSigned low high p) 0 0
+            result }
     {
         let mut walk = Walk::new(0);
-        let number = self.at.read_i64(&mut walk)?;
-        Ok(number)
+        match self.at().read_i64(&mut walk) {
+            Ok(number) => Ok(number),
+            Err(error) => Err(error),
+        }
     }
 
     /// Reads the number, as one from 0 to 2^8 - 1.
     pub fn read_u8(self) -> Result<u8, BinaryDeserializerError>
         ensures { let high = 2 ^ 8 - 1 in let p = named.word_place self.entry in
-            Reads (ReadsUnsigned high p) (CountsUnsigned high p) 0 0 result }
+            Reads (Says out_of_range) (ReadsUnsigned high p) (CountsUnsigned high p) 0 0 result }
     {
         let mut walk = Walk::new(0);
-        let number = self.at.read_u8(&mut walk)?;
-        Ok(number)
+        match self.at().read_u8(&mut walk) {
+            Ok(number) => Ok(number),
+            Err(error) => Err(error),
+        }
     }
 
     /// Reads the number, as one from 0 to 2^16 - 1.
     pub fn read_u16(self) -> Result<u16, BinaryDeserializerError>
         ensures { let high = 2 ^ 16 - 1 in let p = named.word_place self.entry in
-            Reads (ReadsUnsigned high p) (CountsUnsigned high p) 0 0 result }
+            Reads (Says out_of_range) (ReadsUnsigned high p) (CountsUnsigned high p) 0 0 result }
     {
         let mut walk = Walk::new(0);
-        let number = self.at.read_u16(&mut walk)?;
-        Ok(number)
+        match self.at().read_u16(&mut walk) {
+            Ok(number) => Ok(number),
+            Err(error) => Err(error),
+        }
     }
 
     /// Reads the number, as one from 0 to 2^32 - 1.
     pub fn read_u32(self) -> Result<u32, BinaryDeserializerError>
         ensures { let high = 2 ^ 32 - 1 in let p = named.word_place self.entry in
-            Reads (ReadsUnsigned high p) (CountsUnsigned high p) 0 0 result }
+            Reads (Says out_of_range) (ReadsUnsigned high p) (CountsUnsigned high p) 0 0 result }
     {
         let mut walk = Walk::new(0);
-        let number = self.at.read_u32(&mut walk)?;
-        Ok(number)
+        match self.at().read_u32(&mut walk) {
+            Ok(number) => Ok(number),
+            Err(error) => Err(error),
+        }
     }
 
     /// Reads the number, as one from 0 to 2^64 - 1.
     pub fn read_u64(self) -> Result<u64, BinaryDeserializerError>
         ensures { let high = 2 ^ 64 - 1 in let p = named.word_place self.entry in
-            Reads (ReadsUnsigned high p) (CountsUnsigned high p) 0 0 result }
+            Reads (Says out_of_range) (ReadsUnsigned high p) (CountsUnsigned high p) 0 0 result }
     {
         let mut walk = Walk::new(0);
-        let number = self.at.read_u64(&mut walk)?;
-        Ok(number)
+        match self.at().read_u64(&mut walk) {
+            Ok(number) => Ok(number),
+            Err(error) => Err(error),
+        }
     }
 }

@@ -3,7 +3,10 @@
 ghost use Rattle.std.specs.Prelude.{◌≡◌, ◌≤◌, ◌+◌, ◌-◌, ◌^◌, ◌==◌, ℕ, ℤ, pos, negsuc, Some, None};
 ghost use Rattle.resb_read.specs.Places.{place_of};
 ghost use Rattle.resb_read.specs.Reading.{Reads};
-ghost use Rattle.resb_read.specs.Leaves.{signed_at, unsigned_at, ReadsSigned, CountsSigned, ReadsUnsigned, CountsUnsigned, ReadsBool, CountsBool, ReadsBits, CountsBits};
+ghost use Rattle.resb_read.specs.Refused.{Says, Blames, number_refusal, bool_refusal};
+ghost use Rattle.resb_read.specs.Leaves.{signed_at, unsigned_at, ReadsSigned, CountsSigned};
+ghost use Rattle.resb_read.specs.Leaves.{ReadsUnsigned, CountsUnsigned, ReadsBool, CountsBool};
+ghost use Rattle.resb_read.specs.Leaves.{ReadsBits, CountsBits};
 
 use crate::cursor::{Cursor, Spot};
 use crate::faults::{mismatch, out_of_range, refused_here};
@@ -14,11 +17,14 @@ impl<'de> Cursor<'de> {
     /// The number here, as a signed one.
     fn signed(self, walk: &mut Walk) -> Result<i32, BinaryDeserializerError>
         ensures { let there = signed_at self.entry.at in
-            Reads (λ x n. there ≡ Some (x, n)) (λ n. (x : ℤ) × (there ≡ Some (x, n))) walk.old walk.new result }
+            Reads (Says (number_refusal self.entry.at walk.old)) (λ x n. there ≡ Some (x, n))
+            (λ n. (x : ℤ) × (there ≡ Some (x, n))) walk.old walk.new result }
     {
         match self.at {
             Spot::Descriptor(word) => {
-                walk.pay()?;
+                if let Err(spent) = walk.pay() {
+                    return Err(spent);
+                }
                 if word >> 28 != 7 {
                     return Err(mismatch(word, "expected integer resource"));
                 }
@@ -32,11 +38,14 @@ impl<'de> Cursor<'de> {
     /// The number here, from 0.
     fn unsigned(self, walk: &mut Walk) -> Result<u32, BinaryDeserializerError>
         ensures { let there = unsigned_at self.entry.at in
-            Reads (λ x n. there ≡ Some (x, n)) (λ n. (x : ℕ) × (there ≡ Some (x, n))) walk.old walk.new result }
+            Reads (Says (number_refusal self.entry.at walk.old)) (λ x n. there ≡ Some (x, n))
+            (λ n. (x : ℕ) × (there ≡ Some (x, n))) walk.old walk.new result }
     {
         match self.at {
             Spot::Descriptor(word) => {
-                walk.pay()?;
+                if let Err(spent) = walk.pay() {
+                    return Err(spent);
+                }
                 if word >> 28 != 7 {
                     return Err(mismatch(word, "expected integer resource"));
                 }
@@ -50,12 +59,15 @@ impl<'de> Cursor<'de> {
     /// Reads whether an Int is 1; it must be 0 or 1.
     pub fn read_bool(self, walk: &mut Walk) -> Result<bool, BinaryDeserializerError>
         ensures { let p = place_of self.entry in
-            Reads (ReadsBool p) (CountsBool p) walk.old walk.new result }
+            Reads (Says (bool_refusal self.entry.at walk.old)) (ReadsBool p) (CountsBool p) walk.old
+            walk.new result }
     {
         let Spot::Descriptor(word) = self.at else {
             return Err(refused_here(self.at, walk));
         };
-        walk.pay()?;
+        if let Err(spent) = walk.pay() {
+            return Err(spent);
+        }
         if word >> 28 != 7 {
             return Err(mismatch(word, "expected integer resource"));
         }
@@ -71,12 +83,14 @@ impl<'de> Cursor<'de> {
     /// Reads the 28 bits of an Int.
     pub(crate) fn read_bits(self, walk: &mut Walk) -> Result<Int28, BinaryDeserializerError>
         ensures { let p = place_of self.entry in
-            Reads (ReadsBits p) (CountsBits p) walk.old walk.new result }
+            Reads (Blames walk.old) (ReadsBits p) (CountsBits p) walk.old walk.new result }
     {
         let Spot::Descriptor(word) = self.at else {
             return Err(refused_here(self.at, walk));
         };
-        walk.pay()?;
+        if let Err(spent) = walk.pay() {
+            return Err(spent);
+        }
         if word >> 28 != 7 {
             return Err(mismatch(word, "expected integer resource"));
         }
@@ -85,8 +99,10 @@ impl<'de> Cursor<'de> {
 
     /// Reads a number from -2^7 to 2^7 - 1. Refused where it is out of range.
     pub fn read_i8(self, walk: &mut Walk) -> Result<i8, BinaryDeserializerError>
-        ensures { let low = negsuc (2 ^ 7 - 1) in let high = pos (2 ^ 7 - 1) in let p = place_of self.entry in
-            Reads (ReadsSigned low high p) (CountsSigned low high p) walk.old walk.new result }
+        ensures { let low = negsuc (2 ^ 7 - 1) in let high = pos (2 ^ 7 - 1) in
+            let p = place_of self.entry in
+            Reads (Says (number_refusal self.entry.at walk.old)) (ReadsSigned low high p)
+            (CountsSigned low high p) walk.old walk.new result }
     {
         let value = self.signed(walk)?;
         if value < -0x80 || value > 0x7f {
@@ -97,8 +113,10 @@ impl<'de> Cursor<'de> {
 
     /// Reads a number from -2^15 to 2^15 - 1. Refused where it is out of range.
     pub fn read_i16(self, walk: &mut Walk) -> Result<i16, BinaryDeserializerError>
-        ensures { let low = negsuc (2 ^ 15 - 1) in let high = pos (2 ^ 15 - 1) in let p = place_of self.entry in
-            Reads (ReadsSigned low high p) (CountsSigned low high p) walk.old walk.new result }
+        ensures { let low = negsuc (2 ^ 15 - 1) in let high = pos (2 ^ 15 - 1) in
+            let p = place_of self.entry in
+            Reads (Says (number_refusal self.entry.at walk.old)) (ReadsSigned low high p)
+            (CountsSigned low high p) walk.old walk.new result }
     {
         let value = self.signed(walk)?;
         if value < -0x8000 || value > 0x7fff {
@@ -109,8 +127,10 @@ impl<'de> Cursor<'de> {
 
     /// Reads a number from -2^31 to 2^31 - 1. Refused where it is out of range.
     pub fn read_i32(self, walk: &mut Walk) -> Result<i32, BinaryDeserializerError>
-        ensures { let low = negsuc (2 ^ 31 - 1) in let high = pos (2 ^ 31 - 1) in let p = place_of self.entry in
-            Reads (ReadsSigned low high p) (CountsSigned low high p) walk.old walk.new result }
+        ensures { let low = negsuc (2 ^ 31 - 1) in let high = pos (2 ^ 31 - 1) in
+            let p = place_of self.entry in
+            Reads (Says (number_refusal self.entry.at walk.old)) (ReadsSigned low high p)
+            (CountsSigned low high p) walk.old walk.new result }
     {
         let value = self.signed(walk)?;
         Ok(value)
@@ -118,8 +138,10 @@ impl<'de> Cursor<'de> {
 
     /// Reads a number from -2^63 to 2^63 - 1. Refused where it is out of range.
     pub fn read_i64(self, walk: &mut Walk) -> Result<i64, BinaryDeserializerError>
-        ensures { let low = negsuc (2 ^ 63 - 1) in let high = pos (2 ^ 63 - 1) in let p = place_of self.entry in
-            Reads (ReadsSigned low high p) (CountsSigned low high p) walk.old walk.new result }
+        ensures { let low = negsuc (2 ^ 63 - 1) in let high = pos (2 ^ 63 - 1) in
+            let p = place_of self.entry in
+            Reads (Says (number_refusal self.entry.at walk.old)) (ReadsSigned low high p)
+            (CountsSigned low high p) walk.old walk.new result }
     {
         let value = self.signed(walk)?;
         Ok(i64::from(value))
@@ -128,7 +150,8 @@ impl<'de> Cursor<'de> {
     /// Reads a number from 0 to 2^8 - 1. Refused where it is out of range.
     pub fn read_u8(self, walk: &mut Walk) -> Result<u8, BinaryDeserializerError>
         ensures { let high = 2 ^ 8 - 1 in let p = place_of self.entry in
-            Reads (ReadsUnsigned high p) (CountsUnsigned high p) walk.old walk.new result }
+            Reads (Says (number_refusal self.entry.at walk.old)) (ReadsUnsigned high p)
+            (CountsUnsigned high p) walk.old walk.new result }
     {
         let value = self.unsigned(walk)?;
         if value > 0xff {
@@ -140,7 +163,8 @@ impl<'de> Cursor<'de> {
     /// Reads a number from 0 to 2^16 - 1. Refused where it is out of range.
     pub fn read_u16(self, walk: &mut Walk) -> Result<u16, BinaryDeserializerError>
         ensures { let high = 2 ^ 16 - 1 in let p = place_of self.entry in
-            Reads (ReadsUnsigned high p) (CountsUnsigned high p) walk.old walk.new result }
+            Reads (Says (number_refusal self.entry.at walk.old)) (ReadsUnsigned high p)
+            (CountsUnsigned high p) walk.old walk.new result }
     {
         let value = self.unsigned(walk)?;
         if value > 0xffff {
@@ -152,7 +176,8 @@ impl<'de> Cursor<'de> {
     /// Reads a number from 0 to 2^32 - 1. Refused where it is out of range.
     pub fn read_u32(self, walk: &mut Walk) -> Result<u32, BinaryDeserializerError>
         ensures { let high = 2 ^ 32 - 1 in let p = place_of self.entry in
-            Reads (ReadsUnsigned high p) (CountsUnsigned high p) walk.old walk.new result }
+            Reads (Says (number_refusal self.entry.at walk.old)) (ReadsUnsigned high p)
+            (CountsUnsigned high p) walk.old walk.new result }
     {
         let value = self.unsigned(walk)?;
         Ok(value)
@@ -161,7 +186,8 @@ impl<'de> Cursor<'de> {
     /// Reads a number from 0 to 2^64 - 1. Refused where it is out of range.
     pub fn read_u64(self, walk: &mut Walk) -> Result<u64, BinaryDeserializerError>
         ensures { let high = 2 ^ 64 - 1 in let p = place_of self.entry in
-            Reads (ReadsUnsigned high p) (CountsUnsigned high p) walk.old walk.new result }
+            Reads (Says (number_refusal self.entry.at walk.old)) (ReadsUnsigned high p)
+            (CountsUnsigned high p) walk.old walk.new result }
     {
         let value = self.unsigned(walk)?;
         Ok(u64::from(value))

@@ -5,7 +5,7 @@ ghost use Rattle.resb_tree.specs.Tree.{Tree};
 ghost use Rattle.resb_tree.specs.View.{tree_of};
 ghost use Rattle.resb_walk.specs.Refusals.{Refuses};
 ghost use Rattle.resb_read.specs.Places.{place_of};
-ghost use Rattle.resb_read.specs.Resources.{DenPlace, ReachesPlace, CountsTree};
+ghost use Rattle.resb_read.specs.Resources.{DenPlace, ReachesPlace, ReadsTree, CountsTree};
 ghost use Rattle.resb_read.specs.ResourceLaws.{tree_counted, tree_one};
 
 use crate::cursor::{Cursor, Spot};
@@ -16,7 +16,7 @@ use resb_walk::{Checked, Walk, read_checked, read_string_at, read_word};
 use std::alloc::Global;
 
 impl<'de> Cursor<'de> {
-    /// Reads the tree that stands here.
+    /// Reads the tree that stands here. Its binaries are slices of the file.
     ///
     /// Memory aside, the budget is spent exactly where one resource more than it stands here before
     /// the first fault, and any other refusal is given only where nothing is denoted.
@@ -26,9 +26,11 @@ impl<'de> Cursor<'de> {
         alloc: Global,
         walk: &mut Walk,
     ) -> Result<Resource<'de>, BinaryDeserializerError>
-        ensures read { IfOk result (λ r. (n : ℕ) × DenPlace (place_of self.entry) (tree_of r) n × (walk.new + n ≡ walk.old)) }
+        ensures read { IfOk result
+            (λ r. (n : ℕ) × ReadsTree (place_of self.entry) r n × (walk.new + n ≡ walk.old)) }
         ensures refused { IfErr result (λ e. (walk.new ≤ walk.old)
-            × Refuses (DenPlace (place_of self.entry)) (ReachesPlace (place_of self.entry)) walk.old e) }
+            × Refuses (DenPlace (place_of self.entry)) (ReachesPlace (place_of self.entry)) walk.old
+            e) }
     {
         match self.at {
             Spot::Descriptor(word) => read_checked::<Resource<'de>>(alloc, self.file, word, walk),
@@ -43,9 +45,11 @@ impl<'de> Cursor<'de> {
         alloc: Global,
         walk: &mut Walk,
     ) -> Result<(), BinaryDeserializerError>
-        ensures read { IfOk result (λ _. (t : Tree) × (n : ℕ) × DenPlace (place_of self.entry) t n × (walk.new + n ≡ walk.old)) }
+        ensures read { IfOk result (λ _. (t : Tree) × (n : ℕ) × DenPlace (place_of self.entry) t n
+            × (walk.new + n ≡ walk.old)) }
         ensures refused { IfErr result (λ e. (walk.new ≤ walk.old)
-            × Refuses (DenPlace (place_of self.entry)) (ReachesPlace (place_of self.entry)) walk.old e) }
+            × Refuses (DenPlace (place_of self.entry)) (ReachesPlace (place_of self.entry)) walk.old
+            e) }
     {
         match self.at {
             Spot::Descriptor(word) => {
@@ -61,11 +65,11 @@ impl<'de> Cursor<'de> {
 }
 
 impl<'de> Deserialize<'de> for Resource<'de> {
-    ghost reads = { λ p r n. DenPlace p (tree_of r) n };
+    ghost reads = { ReadsTree };
 
     ghost counts = { CountsTree };
 
-    ghost counted = { λ p r n. tree_counted p (tree_of r) n };
+    ghost counted = { λ p r n h. tree_counted p (tree_of r) n h.0 };
 
     ghost one_count = { tree_one };
 

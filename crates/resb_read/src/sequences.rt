@@ -1,9 +1,11 @@
 //! The members of an array or a vector, one after another.
 //! Whole lists are read in `lists`.
-ghost use Rattle.std.specs.Prelude.{◌≡◌, ◌≤◌, ◌<◌, ◌+◌, ◌⊎◌, Some, None, [], ◌∷◌, drop, length, MatchOption, IfOk, IfErr};
+ghost use Rattle.std.specs.Prelude.{◌≡◌, ◌≤◌, ◌<◌, ◌+◌, ◌⊎◌, Some, None, [], ◌∷◌, drop, length};
+ghost use Rattle.std.specs.Prelude.{MatchOption, IfOk, IfErr};
 ghost use Rattle.resb_read.specs.Places.{place_of};
 ghost use Rattle.resb_read.specs.Sequences.{items};
 ghost use Rattle.resb_read.specs.Access.{StepsTo, Steps};
+ghost use Rattle.resb_read.specs.Refused.{Blames};
 
 use crate::cursor::{Cursor, Spot};
 use crate::deserialize::Deserialize;
@@ -42,9 +44,10 @@ impl<'de, 'm> SeqAccess<'de, 'm> {
     }
 
     /// The first of the members.
-    #[tactic(auto, using(crate::proofs::Singly::map_first, crate::proofs::Singly::map_none, crate::proofs::Singly::some_first))]
+    #[tactic(auto, using(crate::proofs::Singly::firsts))]
     fn first(&self) -> Option<Cursor<'de>>
-        ensures { MatchOption result (self.now.rest ≡ []) (λ c. self.now.rest ≡ place_of c ∷ drop 1 self.now.rest) }
+        ensures { MatchOption result (self.now.rest ≡ [])
+            (λ c. self.now.rest ≡ place_of c ∷ drop 1 self.now.rest) }
     {
         let (at, _) = self.rest.split()?;
         Some(Cursor {
@@ -54,7 +57,7 @@ impl<'de, 'm> SeqAccess<'de, 'm> {
     }
 
     /// Goes past the first of the members.
-    #[tactic(auto, using(crate::proofs::Singly::map_first, crate::proofs::Singly::map_none, crate::proofs::Singly::drop_first, crate::proofs::Singly::none_left))]
+    #[tactic(auto, using(crate::proofs::Singly::rests))]
     fn advance(&mut self)
         requires { 0 < length self.old.rest }
         ensures { self.new ≡ record { rest = drop 1 self.old.rest; failed = self.old.failed } }
@@ -109,24 +112,28 @@ impl<'de> Cursor<'de> {
     /// The members of the array or vector that stands here. The fields of all lie in the file, but
     /// where they lead isn't looked at yet.
     pub fn read_seq<'m>(self, walk: &mut Walk) -> Result<SeqAccess<'de, 'm>, ReadingError<'m>>
-        ensures read { IfOk result (λ s. (items (place_of self.entry) ≡ Some s.rest) × (s.failed ≡ None) × (walk.new + 1 ≡ walk.old)) }
-        ensures refused { IfErr result (λ _. (walk.new ≤ walk.old) × (items (place_of self.entry) ≡ None ⊎ walk.old ≡ 0)) }
+        ensures read { IfOk result (λ s. (items (place_of self.entry) ≡ Some s.rest)
+            × (s.failed ≡ None) × (walk.new + 1 ≡ walk.old)) }
+        ensures refused { IfErr result (λ e. (walk.new ≤ walk.old)
+            × (items (place_of self.entry) ≡ None ⊎ walk.old ≡ 0) × Blames walk.old e) }
     {
         let Spot::Descriptor(word) = self.at else {
             return Err(refused_here(self.at, walk));
         };
-        walk.pay()?;
+        if let Err(spent) = walk.pay() {
+            return Err(spent);
+        }
         let kind = word >> 28;
         if kind != 8 && kind != 9 && kind != 14 {
             return Err(mismatch(word, "expected array resource"));
         }
-        let rest = match self.file.standing(word)? {
-            Standing::List(members) => Items::Members(members),
-            Standing::Leaf(Leaf::Numbers(numbers)) => Items::Numbers(numbers),
-            Standing::Table(_) => return Err(mismatch(word, "expected array resource")),
-            Standing::Leaf(Leaf::Text(_) | Leaf::Empty | Leaf::Binary(_) | Leaf::Integer(_)) => {
+        let rest = match self.file.standing(word) {
+            Ok(Standing::List(members)) => Items::Members(members),
+            Ok(Standing::Leaf(Leaf::Numbers(numbers))) => Items::Numbers(numbers),
+            Ok(Standing::Table(_) | Standing::Leaf(_)) => {
                 return Err(mismatch(word, "expected array resource"));
             }
+            Err(error) => return Err(error),
         };
         Ok(SeqAccess {
             file: self.file,

@@ -3,6 +3,7 @@
 ghost use Rattle.std.specs.Prelude.{◌≡◌, Some, None, MatchResult};
 ghost use Rattle.resb_format.specs.Codes.{type_number};
 ghost use Rattle.resb_read.specs.Others.{Skips, type_at};
+ghost use Rattle.resb_read.specs.Refused.{Says, untold};
 
 use crate::cursor::{Cursor, Spot};
 use crate::faults::elsewhere;
@@ -23,7 +24,8 @@ impl<'de> Cursor<'de> {
 
     /// The type of the resource here. Types that aren't read are refused.
     pub fn resource_type(self) -> Result<ResourceReprType, BinaryDeserializerError>
-        ensures { MatchResult result (λ t. type_at self.entry.at ≡ Some (type_number t)) (λ e. type_at self.entry.at ≡ None) }
+        ensures { MatchResult result (λ t. type_at self.entry.at ≡ Some (type_number t))
+            (λ e. (type_at self.entry.at ≡ None) × Says (untold self.entry.at) e) }
     {
         match self.at {
             Spot::Descriptor(word) => {

@@ -1,14 +1,20 @@
 //! Texts, keys and bytes, at a descriptor, at a string's unit and at a key.
 //! Bytes, keys and borrowed texts live as long as the file.
-ghost use Rattle.std.specs.Prelude.{◌≡◌, ◌≤◌, ◌<◌, ◌+◌, ◌*◌, ◌^◌, ℕ, Some, None, length, option_map, IfOk, IfErr, MatchResult};
+ghost use Rattle.std.specs.Prelude.{◌≡◌, ◌≤◌, ◌<◌, ◌+◌, ◌*◌, ◌^◌, ℕ, Some, None, length};
+ghost use Rattle.std.specs.Prelude.{option_map, IfOk, IfErr, MatchResult};
 ghost use Rattle.std.specs.String.{string_bytes};
 ghost use Rattle.resb_format.specs.Bytes.{units_of};
 ghost use Rattle.resb_format.specs.Strings as strings;
 ghost use Rattle.resb_walk.specs.Files.{parts_in};
+ghost use Rattle.resb_walk.specs.Refusals.{IsFault};
 ghost use Rattle.resb_read.specs.Places.{place_of};
 ghost use Rattle.resb_read.specs.Reading.{Reads, LacksOrMemory};
-ghost use Rattle.resb_read.specs.Leaves.{type_in, value_in, units_as_bytes, counted_bytes, bytes_of_type, ReadsText, CountsText, ReadsKey, CountsKey, ReadsBytes, CountsBytes};
-ghost use Rattle.resb_read.specs.LeafLaws.{text_counted, text_one, key_counted, key_one, bytes_counted, bytes_one};
+ghost use Rattle.resb_read.specs.Refused.{Blames};
+ghost use Rattle.resb_read.specs.Leaves.{type_in, value_in, units_as_bytes, counted_bytes};
+ghost use Rattle.resb_read.specs.Leaves.{bytes_of_type, ReadsText, CountsText, ReadsKey, CountsKey};
+ghost use Rattle.resb_read.specs.Leaves.{ReadsBytes, CountsBytes};
+ghost use Rattle.resb_read.specs.LeafLaws.{text_counted, text_one, key_counted, key_one};
+ghost use Rattle.resb_read.specs.LeafLaws.{bytes_counted, bytes_one};
 
 use crate::cursor::{Cursor, Spot};
 use crate::deserialize::Deserialize;
@@ -31,7 +37,7 @@ fn whole_units(bytes: &[u8]) -> &[u8]
 /// The bytes of the units of the string at a unit, which need be no text.
 fn units_at(block: &[u8], unit: usize) -> Result<&[u8], BinaryDeserializerError>
     ensures { let there = option_map units_as_bytes (strings.string_at (units_of block.now) unit) in
-        MatchResult result (λ b. there ≡ Some b.now) (λ e. there ≡ None) }
+        MatchResult result (λ b. there ≡ Some b.now) (λ e. (there ≡ None) × IsFault e) }
 {
     match string_at(block, unit) {
         Ok(view) => Ok(whole_units(view.as_bytes())),
@@ -44,7 +50,7 @@ fn counted_at(file: File<'_>, each: usize, value: usize) -> Result<&[u8], Binary
     requires small { value < 2 ^ 28 }
     requires few { each ≤ 4 }
     ensures { let there = counted_bytes (parts_in file.entry) each value in
-        MatchResult result (λ b. there ≡ Some b.now) (λ e. there ≡ None) }
+        MatchResult result (λ b. there ≡ Some b.now) (λ e. (there ≡ None) × IsFault e) }
 {
     let Some(count) = some_word(file.body, value) else {
         return Err(past_end());
@@ -58,7 +64,7 @@ fn counted_at(file: File<'_>, each: usize, value: usize) -> Result<&[u8], Binary
 /// The bytes of what stands at a descriptor.
 fn described(file: File<'_>, word: u32) -> Result<&[u8], BinaryDeserializerError>
     ensures { let there = bytes_of_type (parts_in file.entry) (type_in word) (value_in word) in
-        MatchResult result (λ b. there ≡ Some b.now) (λ e. there ≡ None) }
+        MatchResult result (λ b. there ≡ Some b.now) (λ e. (there ≡ None) × IsFault e) }
 {
     let value = (word % 0x1000_0000) as usize;
     match word >> 28 {
@@ -77,8 +83,10 @@ impl<'de> Cursor<'de> {
         alloc: Global,
         walk: &mut Walk,
     ) -> Result<String, BinaryDeserializerError>
-        ensures read { IfOk result (λ s. (n : ℕ) × ReadsText (place_of self.entry) (string_bytes s) n × (walk.new + n ≡ walk.old)) }
-        ensures refused { IfErr result (λ e. (walk.new ≤ walk.old) × LacksOrMemory (CountsText (place_of self.entry)) walk.old e) }
+        ensures read { IfOk result (λ s. (n : ℕ)
+            × ReadsText (place_of self.entry) (string_bytes s) n × (walk.new + n ≡ walk.old)) }
+        ensures refused { IfErr result (λ e. (walk.new ≤ walk.old)
+            × LacksOrMemory (CountsText (place_of self.entry)) walk.old e) }
     {
         match self.at {
             Spot::Descriptor(word) => {
@@ -109,13 +117,14 @@ impl<'de> Cursor<'de> {
     /// Reads a key, which lives as long as the file.
     pub fn read_str(self, walk: &mut Walk) -> Result<&'de str, BinaryDeserializerError>
         ensures { let p = place_of self.entry in
-            Reads (λ s n. ReadsKey p s.now n) (CountsKey p) walk.old walk.new result }
+            Reads (Blames walk.old) (λ s n. ReadsKey p s.now n) (CountsKey p) walk.old walk.new
+            result }
     {
         match self.at {
-            Spot::Key(position) => {
-                let key = self.file.key(position)?;
-                Ok(key)
-            }
+            Spot::Key(position) => match self.file.key(position) {
+                Ok(key) => Ok(key),
+                Err(error) => Err(error),
+            },
             Spot::Descriptor(_) | Spot::Unit(_) | Spot::Word(_) => {
                 Err(refused_here(self.at, walk))
             }
@@ -126,23 +135,32 @@ impl<'de> Cursor<'de> {
     /// string's units, which need be no text, or of a key.
     pub fn read_bytes(self, walk: &mut Walk) -> Result<&'de [u8], BinaryDeserializerError>
         ensures { let p = place_of self.entry in
-            Reads (λ b n. ReadsBytes p b.now n) (CountsBytes p) walk.old walk.new result }
+            Reads (Blames walk.old) (λ b n. ReadsBytes p b.now n) (CountsBytes p) walk.old walk.new
+            result }
     {
         match self.at {
             Spot::Descriptor(word) => {
-                walk.pay()?;
-                let bytes = described(self.file, word)?;
-                Ok(bytes)
+                if let Err(spent) = walk.pay() {
+                    return Err(spent);
+                }
+                match described(self.file, word) {
+                    Ok(bytes) => Ok(bytes),
+                    Err(error) => Err(error),
+                }
             }
             Spot::Unit(unit) => {
-                walk.pay()?;
-                let bytes = units_at(self.file.block, usize::from(unit))?;
-                Ok(bytes)
+                if let Err(spent) = walk.pay() {
+                    return Err(spent);
+                }
+                match units_at(self.file.block, usize::from(unit)) {
+                    Ok(bytes) => Ok(bytes),
+                    Err(error) => Err(error),
+                }
             }
-            Spot::Key(position) => {
-                let key = self.file.key(position)?;
-                Ok(key.as_bytes())
-            }
+            Spot::Key(position) => match self.file.key(position) {
+                Ok(key) => Ok(key.as_bytes()),
+                Err(error) => Err(error),
+            },
             Spot::Word(_) => Err(elsewhere()),
         }
     }

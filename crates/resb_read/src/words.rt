@@ -1,6 +1,7 @@
 //! Files that are handed in as words, and the order of bytes that a file names.
 //! Files of bytes are read in `entry`.
-ghost use Rattle.std.specs.Prelude.{◌≡◌, ◌≤◌, ◌⊎◌, true, ℕ, [], None, Some, slice_index, MatchResult, IfOk, IfErr};
+ghost use Rattle.std.specs.Prelude.{◌≡◌, ◌≤◌, ◌⊎◌, true, ℕ, [], None, Some, slice_index};
+ghost use Rattle.std.specs.Prelude.{MatchResult, IfOk, IfErr};
 ghost use Rattle.std.specs.Int.{to_le_bytes, w32};
 ghost use Rattle.std.specs.List.{flat_map};
 ghost use Rattle.resb_format.specs.Codes.{endianness_number};
@@ -31,7 +32,7 @@ pub fn lay_words(
     let Some(size) = words.len().checked_mul(4) else {
         return Err(BinaryDeserializerError::out_of_memory());
     };
-    if buffer.reserve(size).is_err() {
+    if buffer.reserve_exact(size).is_err() {
         return Err(BinaryDeserializerError::out_of_memory());
     }
     for word in words {
@@ -54,7 +55,8 @@ pub fn from_words<'a, 'm, T: Deserialize<'a>>(
     ensures refused { let bytes = flat_map (to_le_bytes w32) words.now in
         IfErr result (λ e. LacksOrMemory (λ n. AtRoot (λ p. T.counts p n) bytes) (budget bytes) e) }
     ensures head { let bytes = flat_map (to_le_bytes w32) words.now in
-        IfErr result (λ e. IsWantOfMemory e ⊎ ((f : checks.Refusal) → file_fault bytes ≡ Some f → refusal_of e ≡ f)) }
+        IfErr result (λ e. IsWantOfMemory e ⊎
+        ((f : checks.Refusal) → file_fault bytes ≡ Some f → refusal_of e ≡ f)) }
 {
     lay_words(alloc, words, buffer)?;
     let bytes: &'a [u8] = buffer.as_slice();
@@ -64,7 +66,8 @@ pub fn from_words<'a, 'm, T: Deserialize<'a>>(
 /// The order of bytes that a file's header names. The header's numbers are read in that order.
 pub fn determine_endianness(bytes: &[u8]) -> Result<Endianness, BinaryDeserializerError>
     ensures { MatchResult result
-        (λ x. (header_fault true bytes.now ≡ None) × (endianness_number x ≡ slice_index bytes.now 8))
+        (λ x. (header_fault true bytes.now ≡ None) ×
+        (endianness_number x ≡ slice_index bytes.now 8))
         (λ e. header_fault true bytes.now ≡ Some (refusal_of e)) }
 {
     let header = BinHeader::read_any_order(bytes)?;

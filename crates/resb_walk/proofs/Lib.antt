@@ -7,3 +7,4 @@ pub mod Turns
 pub mod Placed
 pub mod Made
 pub mod Surrogates
+pub mod Keys

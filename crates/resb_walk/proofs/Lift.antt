@@ -1,29 +1,37 @@
 -- From the members of a word to the word.
-use Rattle.std.proofs.Common.{◌⊎◌, inl, inr, ℕ, List, ◌≡◌, ◌≤◌, ◌+◌, Option, Some, None, refl, sym, ◌∙◌, ap, subst, arith}
+use Rattle.std.proofs.Common.{inl, inr, ℕ, List, ◌≡◌, ◌≤◌, ◌+◌, Option, Some, None, refl}
+use Rattle.std.proofs.Common.{subst, arith}
 use Rattle.resb_tree.specs.Tree.{Tree}
 use Rattle.resb_format.specs.Parts.{Parts}
 use Rattle.resb_format.specs.Content.{Member, Content, leaf, list, pairs, content, word, unit}
-use Rattle.resb_format.specs.Denotes.{Den, den_leaf, den_list, den_pairs, DenMember, den_word, DenEach, DenPairs, Reaches, reaches_one, reaches_list, reaches_pairs, ReachesMember, reaches_word, reaches_unit, ReachesEach, ReachesPairs}
-use Rattle.resb_walk.specs.Refusals.{Stuck, Refuses, IsFault, IsSpent}
-use Rattle.resb_format.specs.Error.{IsWantOfMemory}
+use Rattle.resb_format.specs.Denotes.{Den, den_leaf, den_list, den_pairs, DenMember, den_word}
+use Rattle.resb_format.specs.Denotes.{DenEach, DenPairs, Reaches, reaches_one, reaches_list}
+use Rattle.resb_format.specs.Denotes.{reaches_pairs, ReachesMember, reaches_word, reaches_unit}
+use Rattle.resb_format.specs.Denotes.{ReachesEach, ReachesPairs}
+use Rattle.resb_walk.specs.Refusals.{Stuck, Refuses}
 use Rattle.resb_format.specs.declared.error.ReadingError.{ReadingError}
 
 pub some_none : {A : Type 0} {o : Option A} {x : A} → o ≡ None → o ≡ Some x → ⊥
 some_none e f = cc
 
-pub same_list : {o : Option Content} {ms ns : List Member} → o ≡ Some (list ms) → o ≡ Some (list ns) → ms ≡ ns
+pub same_list : {o : Option Content} {ms ns : List Member} → o ≡ Some (list ms) → o ≡ Some (list ns)
+    → ms ≡ ns
 same_list e f = cc
 
-pub same_pairs : {o : Option Content} {es fs : List (ℕ × Member)} → o ≡ Some (pairs es) → o ≡ Some (pairs fs) → es ≡ fs
+pub same_pairs : {o : Option Content} {es fs : List (ℕ × Member)} → o ≡ Some (pairs es)
+    → o ≡ Some (pairs fs) → es ≡ fs
 same_pairs e f = cc
 
-pub leaf_list : {o : Option Content} {t : Tree} {ms : List Member} → o ≡ Some (leaf t) → o ≡ Some (list ms) → ⊥
+pub leaf_list : {o : Option Content} {t : Tree} {ms : List Member} → o ≡ Some (leaf t)
+    → o ≡ Some (list ms) → ⊥
 leaf_list e f = cc
 
-pub leaf_pairs : {o : Option Content} {t : Tree} {es : List (ℕ × Member)} → o ≡ Some (leaf t) → o ≡ Some (pairs es) → ⊥
+pub leaf_pairs : {o : Option Content} {t : Tree} {es : List (ℕ × Member)} → o ≡ Some (leaf t)
+    → o ≡ Some (pairs es) → ⊥
 leaf_pairs e f = cc
 
-pub list_pairs : {o : Option Content} {ms : List Member} {es : List (ℕ × Member)} → o ≡ Some (list ms) → o ≡ Some (pairs es) → ⊥
+pub list_pairs : {o : Option Content} {ms : List Member} {es : List (ℕ × Member)}
+    → o ≡ Some (list ms) → o ≡ Some (pairs es) → ⊥
 list_pairs e f = cc
 
 module _ (p : Parts) where
@@ -39,38 +47,60 @@ module _ (p : Parts) where
 
   -- no content
   pub stuck_none : (w left : ℕ) → content p w ≡ None → 1 ≤ left → Stuck (Den p w) (Reaches p w) left
-  stuck_none w left e h = ((λ t n d. none_of_none e d), (λ r. let k : left + 1 ≡ 1 = one_of_none e r in omega arith))
+  stuck_none w left e h =
+      ((λ t n d. none_of_none e d), (λ r. let k : left + 1 ≡ 1 = one_of_none e r in omega arith))
 
-  none_of_list : {w n : ℕ} {t : Tree} {ms : List Member} → content p w ≡ Some (list ms) → ((ts : List Tree) (k : ℕ) → DenEach p ms ts k → ⊥) → Den p w t n → ⊥
+  none_of_list : {w n : ℕ} {t : Tree} {ms : List Member} → content p w ≡ Some (list ms)
+      → ((ts : List Tree) (k : ℕ) → DenEach p ms ts k → ⊥) → Den p w t n → ⊥
   none_of_list e none (den_leaf f) = leaf_list f e
-  none_of_list e none (den_list {n = n'} {ts = ts'} f d) = none _ _ (subst (λ vs. DenEach p vs ts' n') (same_list f e) d)
+  none_of_list e none (den_list {n = n'} {ts = ts'} f d) = none _ _
+      (subst (λ vs. DenEach p vs ts' n') (same_list f e) d)
   none_of_list e none (den_pairs f d) = list_pairs e f
 
-  few_of_list : {w k : ℕ} (left : ℕ) {ms : List Member} → content p w ≡ Some (list ms) → (ReachesEach p ms (left + 1) → ⊥) → k ≡ left + 1 + 1 → Reaches p w k → ⊥
+  few_of_list : {w k : ℕ} (left : ℕ) {ms : List Member} → content p w ≡ Some (list ms)
+      → (ReachesEach p ms (left + 1) → ⊥) → k ≡ left + 1 + 1 → Reaches p w k → ⊥
   few_of_list left e none h reaches_one = omega arith
   few_of_list left {ms = ms} e none h (reaches_list {n = n'} f r) =
-      let g : n' ≡ left + 1 = omega arith in none (subst (λ j. ReachesEach p ms j) g (subst (λ vs. ReachesEach p vs n') (same_list f e) r))
+      let g : n' ≡ left + 1 = omega arith in
+      none (subst (λ j. ReachesEach p ms j) g
+      (subst (λ vs. ReachesEach p vs n') (same_list f e) r))
   few_of_list left e none h (reaches_pairs f r) = list_pairs e f
 
-  pub stuck_list : (w left before : ℕ) (ms : List Member) → content p w ≡ Some (list ms) → left + 1 ≡ before → Stuck (DenEach p ms) (ReachesEach p ms) left → Stuck (Den p w) (Reaches p w) before
-  stuck_list w left before ms e h f = ((λ t n d. none_of_list e f.0 d), (λ r. let g : before + 1 ≡ left + 1 + 1 = omega arith in few_of_list left e f.1 g r))
+  pub stuck_list : (w left before : ℕ) (ms : List Member) → content p w ≡ Some (list ms)
+      → left + 1 ≡ before → Stuck (DenEach p ms) (ReachesEach p ms) left
+      → Stuck (Den p w) (Reaches p w) before
+  stuck_list w left before ms e h f = (
+    (λ t n d. none_of_list e f.0 d),
+    (λ r. let g : before + 1 ≡ left + 1 + 1 = omega arith in few_of_list left e f.1 g r),
+  )
 
-  none_of_pairs : {w n : ℕ} {t : Tree} {es : List (ℕ × Member)} → content p w ≡ Some (pairs es) → ((ts : List (List ℕ × Tree)) (k : ℕ) → DenPairs p es ts k → ⊥) → Den p w t n → ⊥
+  none_of_pairs : {w n : ℕ} {t : Tree} {es : List (ℕ × Member)} → content p w ≡ Some (pairs es)
+      → ((ts : List (List ℕ × Tree)) (k : ℕ) → DenPairs p es ts k → ⊥) → Den p w t n → ⊥
   none_of_pairs e none (den_leaf f) = leaf_pairs f e
   none_of_pairs e none (den_list f d) = list_pairs f e
-  none_of_pairs e none (den_pairs {n = n'} {ts = ts'} f d) = none _ _ (subst (λ vs. DenPairs p vs ts' n') (same_pairs f e) d)
+  none_of_pairs e none (den_pairs {n = n'} {ts = ts'} f d) = none _ _
+      (subst (λ vs. DenPairs p vs ts' n') (same_pairs f e) d)
 
-  few_of_pairs : {w k : ℕ} (left : ℕ) {es : List (ℕ × Member)} → content p w ≡ Some (pairs es) → (ReachesPairs p es (left + 1) → ⊥) → k ≡ left + 1 + 1 → Reaches p w k → ⊥
+  few_of_pairs : {w k : ℕ} (left : ℕ) {es : List (ℕ × Member)} → content p w ≡ Some (pairs es)
+      → (ReachesPairs p es (left + 1) → ⊥) → k ≡ left + 1 + 1 → Reaches p w k → ⊥
   few_of_pairs left e none h reaches_one = omega arith
   few_of_pairs left e none h (reaches_list f r) = list_pairs f e
   few_of_pairs left {es = es} e none h (reaches_pairs {n = n'} f r) =
-      let g : n' ≡ left + 1 = omega arith in none (subst (λ j. ReachesPairs p es j) g (subst (λ vs. ReachesPairs p vs n') (same_pairs f e) r))
+      let g : n' ≡ left + 1 = omega arith in
+      none (subst (λ j. ReachesPairs p es j) g
+      (subst (λ vs. ReachesPairs p vs n') (same_pairs f e) r))
 
-  pub stuck_pairs_of : (w left before : ℕ) (es : List (ℕ × Member)) → content p w ≡ Some (pairs es) → left + 1 ≡ before → Stuck (DenPairs p es) (ReachesPairs p es) left → Stuck (Den p w) (Reaches p w) before
-  stuck_pairs_of w left before es e h f = ((λ t n d. none_of_pairs e f.0 d), (λ r. let g : before + 1 ≡ left + 1 + 1 = omega arith in few_of_pairs left e f.1 g r))
+  pub stuck_pairs_of : (w left before : ℕ) (es : List (ℕ × Member)) → content p w ≡ Some (pairs es)
+      → left + 1 ≡ before → Stuck (DenPairs p es) (ReachesPairs p es) left
+      → Stuck (Den p w) (Reaches p w) before
+  stuck_pairs_of w left before es e h f = (
+    (λ t n d. none_of_pairs e f.0 d),
+    (λ r. let g : before + 1 ≡ left + 1 + 1 = omega arith in few_of_pairs left e f.1 g r),
+  )
 
   -- a word as a member
-  pub stuck_word : (w left : ℕ) → Stuck (Den p w) (Reaches p w) left → Stuck (DenMember p (word w)) (ReachesMember p (word w)) left
+  pub stuck_word : (w left : ℕ) → Stuck (Den p w) (Reaches p w) left
+      → Stuck (DenMember p (word w)) (ReachesMember p (word w)) left
   stuck_word w left s = ((λ t n d. s.0 t n (den_of d)), (λ r. s.1 (reaches_of r)))
     where
       den_of : {w n : ℕ} {t : Tree} → DenMember p (word w) t n → Den p w t n
@@ -79,7 +109,8 @@ module _ (p : Parts) where
       reaches_of : {w n : ℕ} → ReachesMember p (word w) n → Reaches p w n
       reaches_of (reaches_word r) = r
 
-  pub refused_word : (w left : ℕ) (e : ReadingError) → Refuses (Den p w) (Reaches p w) left e → Refuses (DenMember p (word w)) (ReachesMember p (word w)) left e
+  pub refused_word : (w left : ℕ) (e : ReadingError) → Refuses (Den p w) (Reaches p w) left e
+      → Refuses (DenMember p (word w)) (ReachesMember p (word w)) left e
   refused_word w left e (inl m) = inl m
   refused_word w left e (inr (inl (s, r))) = inr (inl (s, reaches_word r))
   refused_word w left e (inr (inr (f, r))) = inr (inr (f, stuck_word w left r))
@@ -87,13 +118,16 @@ module _ (p : Parts) where
   pub word_den : {w n : ℕ} {t : Tree} → DenMember p (word w) t n → Den p w t n
   word_den (den_word d) = d
 
-  pub word_stuck : (w left : ℕ) → Stuck (DenMember p (word w)) (ReachesMember p (word w)) left → Stuck (Den p w) (Reaches p w) left
+  pub word_stuck : (w left : ℕ) → Stuck (DenMember p (word w)) (ReachesMember p (word w)) left
+      → Stuck (Den p w) (Reaches p w) left
   word_stuck w left s = ((λ t n d. s.0 t n (den_word d)), (λ r. s.1 (reaches_word r)))
 
   word_reaches : {w n : ℕ} → ReachesMember p (word w) n → Reaches p w n
   word_reaches (reaches_word r) = r
 
-  pub word_refused : (w left : ℕ) (e : ReadingError) → Refuses (DenMember p (word w)) (ReachesMember p (word w)) left e → Refuses (Den p w) (Reaches p w) left e
+  pub word_refused : (w left : ℕ) (e : ReadingError)
+      → Refuses (DenMember p (word w)) (ReachesMember p (word w)) left e
+      → Refuses (Den p w) (Reaches p w) left e
   word_refused w left e (inl m) = inl m
   word_refused w left e (inr (inl (s, r))) = inr (inl (s, word_reaches r))
   word_refused w left e (inr (inr (f, r))) = inr (inr (f, word_stuck w left r))

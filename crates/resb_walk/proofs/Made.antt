@@ -1,22 +1,79 @@
 -- What a reader makes of resources, one more at the end.
-use Rattle.std.proofs.Common.{ℕ, List, [], ◌∷◌, ◌++◌, ◌≡◌, map, refl, ap, ◌∙◌, nat_cmp}
+use Rattle.std.proofs.Common.{ℕ, List, [], ◌∷◌, ◌++◌, ◌≡◌, ◌&&◌, Bool, true, false, map, refl, ap}
+use Rattle.std.proofs.Common.{◌∙◌, nat_cmp}
+use Rattle.std.specs.declared.cmp.Ordering.{Ordering}
+use Rattle.std.specs.declared.cmp.Ordering.TheVariants.{Less, Equal, Greater}
+use Rattle.std.specs.Ordering.{match_ordering}
 use Rattle.std.specs.BTreeMap.{insert_entry}
 use Rattle.std.specs.Cmp.Lexicographic.{slice_cmp}
 use Rattle.resb_tree.specs.Tree.{Tree, Entries, put, put_all, map_of, no_entries}
 use Rattle.resb_tree.specs.View.{tree_of, entries_view}
 use Rattle.resb_tree.specs.declared.resource.Resource.{Resource}
 use Rattle.resb_tree.proofs.ViewLemmas.{entries_view_insert}
+use Rattle.resb_walk.specs.Borrows.{borrows, all_borrow, entries_borrow}
 
-pub map_snoc : (rs : List Resource) (r : Resource) → map tree_of (rs ++ r ∷ []) ≡ map tree_of rs ++ tree_of r ∷ []
+pub map_snoc : (rs : List Resource) (r : Resource)
+    → map tree_of (rs ++ r ∷ []) ≡ map tree_of rs ++ tree_of r ∷ []
 map_snoc [] r = refl
 map_snoc (s ∷ rs) r = ap (λ ts. tree_of s ∷ ts) (map_snoc rs r)
 
-put_all_snoc : (ps : List (List ℕ × Tree)) (es : Entries) (k : List ℕ) (t : Tree) → put_all es (ps ++ (k, t) ∷ []) ≡ put k t (put_all es ps)
+put_all_snoc : (ps : List (List ℕ × Tree)) (es : Entries) (k : List ℕ) (t : Tree)
+    → put_all es (ps ++ (k, t) ∷ []) ≡ put k t (put_all es ps)
 put_all_snoc [] es k t = refl
 put_all_snoc (p ∷ ps) es k t = put_all_snoc ps (put p.0 p.1 es) k t
 
-pub put_snoc : (es : List (List ℕ × Resource)) (ps : List (List ℕ × Tree)) (k : List ℕ) (r : Resource) → entries_view es ≡ map_of ps → entries_view (insert_entry (slice_cmp nat_cmp) es k r) ≡ map_of (ps ++ (k, tree_of r) ∷ [])
-put_snoc es ps k r e = entries_view_insert es k r ∙ ap (put k (tree_of r)) e ∙ sym_of (put_all_snoc ps no_entries k (tree_of r))
+pub put_snoc : (es : List (List ℕ × Resource)) (ps : List (List ℕ × Tree)) (k : List ℕ)
+    (r : Resource)
+    → entries_view es ≡ map_of ps
+    → entries_view (insert_entry (slice_cmp nat_cmp) es k r) ≡ map_of (ps ++ (k, tree_of r) ∷ [])
+put_snoc es ps k r e =
+    entries_view_insert es k r ∙ ap (put k (tree_of r)) e
+    ∙ sym_of (put_all_snoc ps no_entries k (tree_of r))
   where
     sym_of : {a b : Entries} → a ≡ b → b ≡ a
     sym_of e = cc
+
+and_both : {a b : Bool} → (a && b) ≡ true → (a ≡ true) × (b ≡ true)
+and_both {a} {b} h = by_cases a b h
+  where
+    by_cases : (a b : Bool) → (a && b) ≡ true → (a ≡ true) × (b ≡ true)
+    by_cases true true h = (refl, refl)
+    by_cases true false h = absurd (cc)
+    by_cases false b h = absurd (cc)
+
+both_and : {a b : Bool} → a ≡ true → b ≡ true → (a && b) ≡ true
+both_and h k = rw (h, k) refl
+
+-- one more resource that copies nothing
+pub borrow_snoc : (rs : List Resource) (r : Resource) → all_borrow rs ≡ true → borrows r ≡ true
+    → all_borrow (rs ++ r ∷ []) ≡ true
+borrow_snoc [] r h k = both_and k refl
+borrow_snoc (s ∷ rs) r h k =
+    let (first, later) = and_both h in both_and first (borrow_snoc rs r later k)
+
+-- one more entry whose value copies nothing
+pub borrow_put : (es : List (List ℕ × Resource)) (k : List ℕ) (r : Resource)
+    → entries_borrow es ≡ true → borrows r ≡ true
+    → entries_borrow (insert_entry (slice_cmp nat_cmp) es k r) ≡ true
+borrow_put [] k r h b = both_and b refl
+borrow_put (e ∷ es) k r h b =
+    let (first, later) = and_both h in
+    placed (slice_cmp nat_cmp k e.0) (borrow_put es k r later b) first later
+  where
+    placed : (o : Ordering) → entries_borrow (insert_entry (slice_cmp nat_cmp) es k r) ≡ true
+        → borrows e.1 ≡ true → entries_borrow es ≡ true
+        → entries_borrow (match_ordering o ((k, r) ∷ e ∷ es) ((e.0, r) ∷ es)
+        (e ∷ insert_entry (slice_cmp nat_cmp) es k r)) ≡ true
+    placed Less rest first later = both_and b (both_and first later)
+    placed Equal rest first later = both_and b later
+    placed Greater rest first later = both_and first rest
+
+-- one more entry of a table
+pub put_made : (es : List (List ℕ × Resource)) (ps : List (List ℕ × Tree)) (k : List ℕ)
+    (r : Resource) (t : Tree)
+    → (entries_view es ≡ map_of ps) × (entries_borrow es ≡ true)
+    → (tree_of r ≡ t) × (borrows r ≡ true)
+    → (entries_view (insert_entry (slice_cmp nat_cmp) es k r) ≡ map_of (ps ++ (k, t) ∷ []))
+    × (entries_borrow (insert_entry (slice_cmp nat_cmp) es k r) ≡ true)
+put_made es ps k r t (v, b) (e, c) =
+    (put_snoc es ps k r v ∙ ap (λ t. map_of (ps ++ (k, t) ∷ [])) e, borrow_put es k r b c)

@@ -1,21 +1,20 @@
 -- What lies inside a block, by numbers of bytes.
+use Rattle.resb_format.proofs.Spelled.{words_length, units_length}
 use Rattle.std.specs.List.{zip}
-use Rattle.std.proofs.Common.{min, map, ℕ, zero, suc, List, [], ◌∷◌, ◌≡◌, ◌+◌, ◌*◌, ◌/◌, ◌<◌, ◌≤◌, Bool, true, false, length, get_or, take, drop, Option, Some, None, refl, sym, ap, ◌∙◌, arith}
-use Rattle.std.specs.Prelude.{position, ◌==◌, not}
-use Rattle.std.proofs.lemmas.Bool.{false_from_ne_true}
-use Rattle.std.proofs.lemmas.Bool.Decides.{nat_tests}
+use Rattle.std.proofs.Common.{min, map, ℕ, List, [], ◌∷◌, ◌≡◌}
+use Rattle.std.proofs.Common.{Bool, true, false, length, get_or, Some, None}
+use Rattle.std.proofs.Common.{refl, sym, ap, ◌∙◌, arith}
+use Rattle.std.specs.Prelude.{not}
 use Rattle.std.proofs.lemmas.List.{length-map}
-use Rattle.std.specs.Str.{IsUtf8, is_utf8}
-use Rattle.std.proofs.lemmas.Str.{is_utf8-from_IsUtf8, IsUtf8-from_is_utf8}
 use Rattle.std.specs.Char.Utf16.{has_unpaired_surrogate}
-use Rattle.resb_format.specs.Bytes.{units_of, words_of, part}
+use Rattle.resb_format.specs.Bytes.{units_of}
 use Rattle.std.specs.Prelude.{nat_lt, ◌&&◌, slice_index, codes, if◌then◌else◌}
 use Rattle.resb_format.specs.StringFaults.{string_fault}
 use Rattle.resb_format.specs.Strings.{is_no_marker}
 use Rattle.resb_format.specs.Error.{IsInvalid}
 use Rattle.resb_walk.specs.Refusals.{IsFault}
 use Rattle.resb_format.specs.declared.error.ReadingError.{ReadingError}
-use Rattle.resb_format.specs.Strings.{text_at, string_at, key_at}
+use Rattle.resb_format.specs.Strings.{text_at, string_at}
 use Rattle.resb_walk.specs.Inner.Members.{text_of_bytes}
 
 not_true : (b : Bool) → true ≡ not b → b ≡ false
@@ -26,39 +25,52 @@ not_false : (b : Bool) → false ≡ not b → b ≡ true
 not_false true h = refl
 not_false false h = cc
 
-pub key_some : (keys : List ℕ) (k n : ℕ) → position (λ b. b == 0) (drop k keys) ≡ Some n → IsUtf8 (take n (drop k keys)) → key_at keys k ≡ Some (take n (drop k keys))
-unfolding key_at
-key_some keys k n e h = let u : is_utf8 (take n (drop k keys)) ≡ true = is_utf8-from_IsUtf8 (take n (drop k keys)) h in rw (e, u) refl
-
-pub key_invalid : (keys : List ℕ) (k n : ℕ) → position (λ b. b == 0) (drop k keys) ≡ Some n → (IsUtf8 (take n (drop k keys)) → ⊥) → key_at keys k ≡ None
-unfolding key_at
-key_invalid keys k n e h = let u : is_utf8 (take n (drop k keys)) ≡ false = false_from_ne_true (is_utf8 (take n (drop k keys))) (λ t. h (IsUtf8-from_is_utf8 _ t)) in rw (e, u) refl
-
-pub text_some : (block : List ℕ) (u : ℕ) (bs : List ℕ) → string_at block u ≡ Some (units_of bs) → true ≡ not (has_unpaired_surrogate (units_of bs)) → text_at block u ≡ Some (text_of_bytes bs)
+pub text_some : (block : List ℕ) (u : ℕ) (bs : List ℕ) → string_at block u ≡ Some (units_of bs)
+    → true ≡ not (has_unpaired_surrogate (units_of bs)) → text_at block u ≡ Some (text_of_bytes bs)
 unfolding text_at
-text_some block u bs e h = let g : has_unpaired_surrogate (units_of bs) ≡ false = not_true _ h in rw (e, g) refl
+text_some block u bs e h =
+    let g : has_unpaired_surrogate (units_of bs) ≡ false = not_true _ h in rw (e, g) refl
 
-pub text_unpaired : (block : List ℕ) (u : ℕ) (bs : List ℕ) → string_at block u ≡ Some (units_of bs) → false ≡ not (has_unpaired_surrogate (units_of bs)) → text_at block u ≡ None
+pub text_unpaired : (block : List ℕ) (u : ℕ) (bs : List ℕ) → string_at block u ≡ Some (units_of bs)
+    → false ≡ not (has_unpaired_surrogate (units_of bs)) → text_at block u ≡ None
 unfolding text_at
-text_unpaired block u bs e h = let g : has_unpaired_surrogate (units_of bs) ≡ true = not_false _ h in rw (e, g) refl
+text_unpaired block u bs e h =
+    let g : has_unpaired_surrogate (units_of bs) ≡ true = not_false _ h in rw (e, g) refl
 
 pub text_none : (block : List ℕ) (u : ℕ) → string_at block u ≡ None → text_at block u ≡ None
 unfolding text_at
 text_none block u e = rw e refl
 
 -- what is said where no string stands
-pub string_fails : (block : List ℕ) (u : ℕ) (e : ReadingError) → IsInvalid e (string_fault block u) → IsFault e
+pub string_fails : (block : List ℕ) (u : ℕ) (e : ReadingError) → IsInvalid e (string_fault block u)
+    → IsFault e
 string_fails block u e h = either (nat_lt u (length block) && is_no_marker (slice_index block u)) h
   where
-    either : (b : Bool) → IsInvalid e (if b then codes "unterminated string with implicit length" else codes "unexpected end of input") → IsFault e
-    either true i = record { not_memory = λ m. (let k = i.kind_is in cc); not_spent = λ m. (let h : 117 ≡ 114 = ap (λ xs. get_or xs 0 0) (sym i.message_is ∙ m) in omega arith) }
-    either false i = record { not_memory = λ m. (let k = i.kind_is in cc); not_spent = λ m. (let h : 117 ≡ 114 = ap (λ xs. get_or xs 0 0) (sym i.message_is ∙ m) in omega arith) }
+    either : (b : Bool)
+        → IsInvalid e (if b then codes "unterminated string with implicit length" else codes
+        "unexpected end of input")
+        → IsFault e
+    either true i =
+        record {
+          not_memory = λ m. (let k = i.kind_is in cc);
+          not_spent = λ m.
+              (let h : 117 ≡ 114 = ap (λ xs. get_or xs 0 0) (sym i.message_is ∙ m) in omega arith);
+        }
+    either false i =
+        record {
+          not_memory = λ m. (let k = i.kind_is in cc);
+          not_spent = λ m.
+              (let h : 117 ≡ 114 = ap (λ xs. get_or xs 0 0) (sym i.message_is ∙ m) in omega arith);
+        }
 
 pub map_length : {A B : Type 0} (f : A → B) (xs : List A) → length (map f xs) ≡ length xs
 map_length f xs = length-map xs f
 
-pub zip_length : {A B : Type 0} (xs : List A) (ys : List B) → length (zip xs ys) ≡ min (length xs) (length ys)
+pub zip_length : {A B : Type 0} (xs : List A) (ys : List B)
+    → length (zip xs ys) ≡ min (length xs) (length ys)
 zip_length [] [] = omega arith
 zip_length [] (y ∷ ys) = omega arith
 zip_length (x ∷ xs) [] = omega arith
 zip_length (x ∷ xs) (y ∷ ys) = let h = zip_length xs ys in omega (arith, h)
+
+pub ruleset lengths = (map_length, words_length, units_length)

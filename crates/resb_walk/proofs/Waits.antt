@@ -1,76 +1,133 @@
 -- Open collections: steps forward, and refusals carried from a member to the collection's word.
-use Rattle.std.proofs.Common.{◌⊎◌, inl, inr, ℕ, List, [], ◌∷◌, ◌++◌, ◌≡◌, ◌≤◌, ◌+◌, Option, Some, None, refl, sym, ◌∙◌, ap, subst, arith, append_assoc, append-nil}
+use Rattle.std.proofs.Common.{inl, inr, ℕ, List, [], ◌∷◌, ◌++◌, ◌≡◌, ◌+◌, Some}
+use Rattle.std.proofs.Common.{None, refl, sym, ◌∙◌, ap, subst, arith, append_assoc, append-nil}
 use Rattle.resb_tree.specs.Tree.{Tree, array, table, trees_of, map_of}
 use Rattle.resb_format.specs.Parts.{Parts}
 use Rattle.resb_format.specs.Strings.{key_at}
 use Rattle.resb_format.specs.Content.{Member, list, pairs, content}
-use Rattle.resb_format.specs.Denotes.{Den, den_list, den_pairs, DenMember, DenEach, each_none, DenPairs, pairs_none, Reaches, reaches_list, reaches_pairs, ReachesMember, ReachesEach, each_here, ReachesPairs, pairs_here}
+use Rattle.resb_format.specs.Denotes.{Den, den_list, den_pairs, DenMember, each_none}
+use Rattle.resb_format.specs.Denotes.{pairs_none, Reaches, reaches_list, reaches_pairs}
+use Rattle.resb_format.specs.Denotes.{ReachesMember, each_here}
+use Rattle.resb_format.specs.Denotes.{pairs_here}
 use Rattle.resb_walk.specs.Inner.Members.{members_of, pairs_of}
-use Rattle.resb_walk.specs.Inner.Frames.{OpenedList, OpenedTable, ListWaits, TableWaits, Opened, Waits}
-use Rattle.resb_walk.specs.Refusals.{Stuck, Refuses, IsFault, IsSpent}
+use Rattle.resb_walk.specs.Inner.Frames.{OpenedList, OpenedTable, ListWaits, TableWaits}
+use Rattle.resb_walk.specs.Inner.Frames.{Waits}
+use Rattle.resb_walk.specs.Refusals.{Stuck, Refuses}
 use Rattle.resb_walk.specs.declared.file.Members.{Members}
 use Rattle.resb_walk.specs.declared.file.Pairs.{Pairs}
 use Rattle.resb_walk.specs.declared.frame.Waiting.{Waiting}
 use Rattle.resb_walk.specs.declared.frame.Waiting.TheVariants as waiting
-use Rattle.resb_format.specs.Error.{IsWantOfMemory}
 use Rattle.resb_format.specs.declared.error.ReadingError.{ReadingError}
 use Rattle.resb_walk.proofs.Lists.{each_snoc, reach_after, none_each, stuck_each}
 use Rattle.resb_walk.proofs.Entries.{pairs_snoc, reach_after_pairs, none_pairs, stuck_pairs}
 use Rattle.resb_walk.proofs.Lift.{some_none, stuck_list, stuck_pairs_of}
 
-module _ {L T : Type 0} (lists : L → List Tree → Type 0) (tables : T → List (List ℕ × Tree) → Type 0) (p : Parts) where
+module _ {L T : Type 0} (lists : L → List Tree → Type 0)
+    (tables : T → List (List ℕ × Tree) → Type 0) (p : Parts) where
   -- begun
-  pub list_begins : (rest : Members) (made : L) (w : ℕ) → content p w ≡ Some (list (members_of rest)) → lists made [] → OpenedList lists tables p rest made w 0
-  list_begins rest made w e h = record { done = []; trees = []; stands = e; each = each_none; is_made = h }
+  pub list_begins : (rest : Members) (made : L) (w : ℕ)
+      → content p w ≡ Some (list (members_of rest)) → lists made []
+      → OpenedList lists tables p rest made w 0
+  list_begins rest made w e h =
+      record { done = []; trees = []; stands = e; each = each_none; is_made = h }
 
-  pub table_begins : (rest : Pairs) (made : T) (w : ℕ) → content p w ≡ Some (pairs (pairs_of rest)) → tables made [] → OpenedTable lists tables p rest made w 0
-  table_begins rest made w e h = record { done = []; entries = []; stands = e; each = pairs_none; is_made = h }
+  pub table_begins : (rest : Pairs) (made : T) (w : ℕ) → content p w ≡ Some (pairs (pairs_of rest))
+      → tables made [] → OpenedTable lists tables p rest made w 0
+  table_begins rest made w e h =
+      record { done = []; entries = []; stands = e; each = pairs_none; is_made = h }
 
   -- a member is wanted
-  pub list_wants : (rest later : Members) (x : Member) (made : L) (w n : ℕ) → OpenedList lists tables p rest made w n → members_of rest ≡ x ∷ members_of later → ListWaits lists tables p later made w x n
-  list_wants rest later x made w n h e = record { done = h.done; trees = h.trees; stands = h.stands ∙ ap (λ ms. Some (list (h.done ++ ms))) e; each = h.each; is_made = h.is_made }
+  pub list_wants : (rest later : Members) (x : Member) (made : L) (w n : ℕ)
+      → OpenedList lists tables p rest made w n → members_of rest ≡ x ∷ members_of later
+      → ListWaits lists tables p later made w x n
+  list_wants rest later x made w n h e =
+      record {
+        done = h.done;
+        trees = h.trees;
+        stands = h.stands ∙ ap (λ ms. Some (list (h.done ++ ms))) e;
+        each = h.each;
+        is_made = h.is_made;
+      }
 
-  pub table_wants : (rest later : Pairs) (place : ℕ) (x : Member) (made : T) (key : List ℕ) (w n : ℕ) → OpenedTable lists tables p rest made w n → pairs_of rest ≡ (place, x) ∷ pairs_of later → key_at p.keys place ≡ Some key → TableWaits lists tables p later made key w x n
-  table_wants rest later place x made key w n h e k = record { done = h.done; entries = h.entries; place = place; stands = h.stands ∙ ap (λ es. Some (pairs (h.done ++ es))) e; keyed = k; each = h.each; is_made = h.is_made }
+  pub table_wants : (rest later : Pairs) (place : ℕ) (x : Member) (made : T) (key : List ℕ)
+      (w n : ℕ)
+      → OpenedTable lists tables p rest made w n → pairs_of rest ≡ (place, x) ∷ pairs_of later
+      → key_at p.keys place ≡ Some key → TableWaits lists tables p later made key w x n
+  table_wants rest later place x made key w n h e k =
+      record {
+        done = h.done;
+        entries = h.entries;
+        place = place;
+        stands = h.stands ∙ ap (λ es. Some (pairs (h.done ++ es))) e;
+        keyed = k;
+        each = h.each;
+        is_made = h.is_made;
+      }
 
   -- a member is put in
-  pub list_puts : (rest : Members) (made made' : L) (w n k : ℕ) (x : Member) (t : Tree) → (h : ListWaits lists tables p rest made w x n) → DenMember p x t k → ((ts : List Tree) → lists made ts → lists made' (ts ++ t ∷ [])) → OpenedList lists tables p rest made' w (n + k)
+  pub list_puts : (rest : Members) (made made' : L) (w n k : ℕ) (x : Member) (t : Tree)
+      → (h : ListWaits lists tables p rest made w x n) → DenMember p x t k
+      → ((ts : List Tree) → lists made ts → lists made' (ts ++ t ∷ []))
+      → OpenedList lists tables p rest made' w (n + k)
   list_puts rest made made' w n k x t h d f = record {
     done = h.done ++ x ∷ [];
     trees = h.trees ++ t ∷ [];
-    stands = h.stands ∙ ap (λ ms. Some (list ms)) (sym (append_assoc h.done (x ∷ []) (members_of rest)));
+    stands =
+        h.stands ∙ ap (λ ms. Some (list ms)) (sym (append_assoc h.done (x ∷ []) (members_of rest)));
     each = each_snoc p x t k h.each d;
     is_made = f h.trees h.is_made;
   }
 
-  pub table_puts : (rest : Pairs) (made made' : T) (key : List ℕ) (w n k : ℕ) (x : Member) (t : Tree) → (h : TableWaits lists tables p rest made key w x n) → DenMember p x t k → ((es : List (List ℕ × Tree)) → tables made es → tables made' (es ++ (key, t) ∷ [])) → OpenedTable lists tables p rest made' w (n + k)
+  pub table_puts : (rest : Pairs) (made made' : T) (key : List ℕ) (w n k : ℕ) (x : Member)
+      (t : Tree)
+      → (h : TableWaits lists tables p rest made key w x n) → DenMember p x t k
+      → ((es : List (List ℕ × Tree)) → tables made es → tables made' (es ++ (key, t) ∷ []))
+      → OpenedTable lists tables p rest made' w (n + k)
   table_puts rest made made' key w n k x t h d f = record {
     done = h.done ++ (h.place, x) ∷ [];
     entries = h.entries ++ (key, t) ∷ [];
-    stands = h.stands ∙ ap (λ es. Some (pairs es)) (sym (append_assoc h.done ((h.place, x) ∷ []) (pairs_of rest)));
+    stands =
+        h.stands
+        ∙ ap (λ es. Some (pairs es))
+        (sym (append_assoc h.done ((h.place, x) ∷ []) (pairs_of rest)));
     each = pairs_snoc p h.place x key t k h.each h.keyed d;
     is_made = f h.entries h.is_made;
   }
 
   -- all members are read
-  pub list_ends : (rest : Members) (made : L) (w n : ℕ) (h : OpenedList lists tables p rest made w n) → members_of rest ≡ [] → Den p w (array (trees_of h.trees)) (1 + n)
-  list_ends rest made w n h e = den_list (h.stands ∙ ap (λ ms. Some (list (h.done ++ ms))) e ∙ ap (λ ms. Some (list ms)) (append-nil h.done)) h.each
+  pub list_ends : (rest : Members) (made : L) (w n : ℕ)
+      (h : OpenedList lists tables p rest made w n)
+      → members_of rest ≡ [] → Den p w (array (trees_of h.trees)) (1 + n)
+  list_ends rest made w n h e =
+      den_list (h.stands ∙ ap (λ ms. Some (list (h.done ++ ms))) e
+      ∙ ap (λ ms. Some (list ms)) (append-nil h.done)) h.each
 
-  pub table_ends : (rest : Pairs) (made : T) (w n : ℕ) (h : OpenedTable lists tables p rest made w n) → pairs_of rest ≡ [] → Den p w (table (map_of h.entries)) (1 + n)
-  table_ends rest made w n h e = den_pairs (h.stands ∙ ap (λ es. Some (pairs (h.done ++ es))) e ∙ ap (λ es. Some (pairs es)) (append-nil h.done)) h.each
+  pub table_ends : (rest : Pairs) (made : T) (w n : ℕ)
+      (h : OpenedTable lists tables p rest made w n)
+      → pairs_of rest ≡ [] → Den p w (table (map_of h.entries)) (1 + n)
+  table_ends rest made w n h e =
+      den_pairs (h.stands ∙ ap (λ es. Some (pairs (h.done ++ es))) e
+      ∙ ap (λ es. Some (pairs es)) (append-nil h.done)) h.each
 
   -- an entry has no key
-  pub table_no_key : (rest later : Pairs) (place : ℕ) (x : Member) (made : T) (w n : ℕ) → OpenedTable lists tables p rest made w n → pairs_of rest ≡ (place, x) ∷ pairs_of later → key_at p.keys place ≡ None → (left : ℕ) → Stuck (Den p w) (Reaches p w) (left + (1 + n))
+  pub table_no_key : (rest later : Pairs) (place : ℕ) (x : Member) (made : T) (w n : ℕ)
+      → OpenedTable lists tables p rest made w n → pairs_of rest ≡ (place, x) ∷ pairs_of later
+      → key_at p.keys place ≡ None → (left : ℕ) → Stuck (Den p w) (Reaches p w) (left + (1 + n))
   table_no_key rest later place x made w n h e k left =
       let stands = h.stands ∙ ap (λ es. Some (pairs (h.done ++ es))) e in
       let sum : n + left + 1 ≡ left + (1 + n) = omega arith in
-      stuck_pairs_of p w (n + left) (left + (1 + n)) (h.done ++ (place, x) ∷ pairs_of later) stands sum (
-        (λ ts i d. none_pairs p h.done place x (pairs_of later) (λ key t j g m. some_none k g) ts i d),
-        (λ r. stuck_pairs p place x (pairs_of later) left (n + left + 1) (λ key t j g m. some_none k g) (λ key g m. some_none k g) h.each refl r),
+      stuck_pairs_of p w (n + left) (left + (1 + n))
+      (h.done ++ (place, x) ∷ pairs_of later) stands sum (
+        (λ ts i d. none_pairs p h.done place x (pairs_of later)
+            (λ key t j g m. some_none k g) ts i d),
+        (λ r. stuck_pairs p place x (pairs_of later) left (n + left + 1)
+            (λ key t j g m. some_none k g) (λ key g m. some_none k g) h.each refl r),
       )
 
   -- a member is refused
-  list_stuck : (rest : Members) (made : L) (w n left before : ℕ) (x : Member) → ListWaits lists tables p rest made w x n → left + (1 + n) ≡ before → Stuck (DenMember p x) (ReachesMember p x) left → Stuck (Den p w) (Reaches p w) before
+  list_stuck : (rest : Members) (made : L) (w n left before : ℕ) (x : Member)
+      → ListWaits lists tables p rest made w x n → left + (1 + n) ≡ before
+      → Stuck (DenMember p x) (ReachesMember p x) left → Stuck (Den p w) (Reaches p w) before
   list_stuck rest made w n left before x h e s =
       let sum : n + left + 1 ≡ before = omega arith in
       stuck_list p w (n + left) before (h.done ++ x ∷ members_of rest) h.stands sum (
@@ -78,27 +135,43 @@ module _ {L T : Type 0} (lists : L → List Tree → Type 0) (tables : T → Lis
         (λ r. stuck_each p x (members_of rest) left (n + left + 1) s.0 s.1 h.each refl r),
       )
 
-  list_reaches : (rest : Members) (made : L) (w n left before : ℕ) (x : Member) → ListWaits lists tables p rest made w x n → left + (1 + n) ≡ before → ReachesMember p x (left + 1) → Reaches p w (before + 1)
+  list_reaches : (rest : Members) (made : L) (w n left before : ℕ) (x : Member)
+      → ListWaits lists tables p rest made w x n → left + (1 + n) ≡ before
+      → ReachesMember p x (left + 1) → Reaches p w (before + 1)
   list_reaches rest made w n left before x h e r =
       let sum : 1 + (n + (left + 1)) ≡ before + 1 = omega arith in
-      subst (λ i. Reaches p w i) sum (reaches_list h.stands (reach_after p (x ∷ members_of rest) (left + 1) h.each (each_here r)))
+      subst (λ i. Reaches p w i) sum (reaches_list h.stands
+      (reach_after p (x ∷ members_of rest) (left + 1) h.each (each_here r)))
 
-  table_stuck : (rest : Pairs) (made : T) (key : List ℕ) (w n left before : ℕ) (x : Member) → TableWaits lists tables p rest made key w x n → left + (1 + n) ≡ before → Stuck (DenMember p x) (ReachesMember p x) left → Stuck (Den p w) (Reaches p w) before
+  table_stuck : (rest : Pairs) (made : T) (key : List ℕ) (w n left before : ℕ) (x : Member)
+      → TableWaits lists tables p rest made key w x n → left + (1 + n) ≡ before
+      → Stuck (DenMember p x) (ReachesMember p x) left → Stuck (Den p w) (Reaches p w) before
   table_stuck rest made key w n left before x h e s =
       let sum : n + left + 1 ≡ before = omega arith in
       stuck_pairs_of p w (n + left) before (h.done ++ (h.place, x) ∷ pairs_of rest) h.stands sum (
         (λ ts i d. none_pairs p h.done h.place x (pairs_of rest) (λ k t j g m. s.0 t j m) ts i d),
-        (λ r. stuck_pairs p h.place x (pairs_of rest) left (n + left + 1) (λ k t j g m. s.0 t j m) (λ k g m. s.1 m) h.each refl r),
+        (λ r. stuck_pairs p h.place x (pairs_of rest) left (n + left + 1) (λ k t j g m. s.0 t j m)
+            (λ k g m. s.1 m) h.each refl r),
       )
 
-  table_reaches : (rest : Pairs) (made : T) (key : List ℕ) (w n left before : ℕ) (x : Member) → TableWaits lists tables p rest made key w x n → left + (1 + n) ≡ before → ReachesMember p x (left + 1) → Reaches p w (before + 1)
+  table_reaches : (rest : Pairs) (made : T) (key : List ℕ) (w n left before : ℕ) (x : Member)
+      → TableWaits lists tables p rest made key w x n → left + (1 + n) ≡ before
+      → ReachesMember p x (left + 1) → Reaches p w (before + 1)
   table_reaches rest made key w n left before x h e r =
       let sum : 1 + (n + (left + 1)) ≡ before + 1 = omega arith in
-      subst (λ i. Reaches p w i) sum (reaches_pairs h.stands (reach_after_pairs p ((h.place, x) ∷ pairs_of rest) (left + 1) h.each (pairs_here h.keyed r)))
+      subst (λ i. Reaches p w i) sum (reaches_pairs h.stands (reach_after_pairs p
+      ((h.place, x) ∷ pairs_of rest) (left + 1) h.each (pairs_here h.keyed r)))
 
-  pub waits_refused : (f : Waiting L T) (w n left before : ℕ) (x : Member) (d : ReadingError) → Waits lists tables p f w x n → left + (1 + n) ≡ before → Refuses (DenMember p x) (ReachesMember p x) left d → Refuses (Den p w) (Reaches p w) before d
+  pub waits_refused : (f : Waiting L T) (w n left before : ℕ) (x : Member) (d : ReadingError)
+      → Waits lists tables p f w x n → left + (1 + n) ≡ before
+      → Refuses (DenMember p x) (ReachesMember p x) left d
+      → Refuses (Den p w) (Reaches p w) before d
   waits_refused f w n left before x d h e (inl m) = inl m
-  waits_refused (waiting.List rest made) w n left before x d h e (inr (inl (s, r))) = inr (inl (s, list_reaches rest made w n left before x h e r))
-  waits_refused (waiting.Table rest made key) w n left before x d h e (inr (inl (s, r))) = inr (inl (s, table_reaches rest made key.now w n left before x h e r))
-  waits_refused (waiting.List rest made) w n left before x d h e (inr (inr (f, r))) = inr (inr (f, list_stuck rest made w n left before x h e r))
-  waits_refused (waiting.Table rest made key) w n left before x d h e (inr (inr (f, r))) = inr (inr (f, table_stuck rest made key.now w n left before x h e r))
+  waits_refused (waiting.List rest made) w n left before x d h e (inr (inl (s, r))) =
+      inr (inl (s, list_reaches rest made w n left before x h e r))
+  waits_refused (waiting.Table rest made key) w n left before x d h e (inr (inl (s, r))) =
+      inr (inl (s, table_reaches rest made key.now w n left before x h e r))
+  waits_refused (waiting.List rest made) w n left before x d h e (inr (inr (f, r))) =
+      inr (inr (f, list_stuck rest made w n left before x h e r))
+  waits_refused (waiting.Table rest made key) w n left before x d h e (inr (inr (f, r))) =
+      inr (inr (f, table_stuck rest made key.now w n left before x h e r))

@@ -1,4 +1,5 @@
--- The words of the contracts: a file's parts as the reader holds them, and what a reading within a budget answers.
+-- The words of the contracts: a file's parts as the reader holds them, and what a reading within a
+-- budget answers.
 pub use Rattle.resb_format.specs.Bytes
 pub use Rattle.resb_format.specs.Strings
 pub use Rattle.resb_format.specs.Parts
@@ -9,4 +10,5 @@ pub use Rattle.resb_tree.specs.Tree
 pub use Rattle.resb_tree.specs.View
 pub mod Files
 pub mod Refusals
+pub mod Borrows
 pub mod Inner

@@ -24,6 +24,8 @@ Refuses den reaches left e =
     IsWantOfMemory e ⊎ ((IsSpent e × reaches (left + 1)) ⊎ (IsFault e × Stuck den reaches left))
 
 -- a value that stands for what is denoted, and is paid for, or a refusal
-abbrev pub Answers : {X T : Type 0} → (X → T → Type 0) → (T → ℕ → Type 0) → (ℕ → Type 0) → ℕ → ℕ → Result X ReadingError → Type 0
-Answers {X} {T} is den reaches left left' (Ok x) = (t : T) × (n : ℕ) × den t n × is x t × (left' + n ≡ left)
+abbrev pub Answers : {X T : Type 0} → (X → T → Type 0) → (T → ℕ → Type 0) → (ℕ → Type 0) → ℕ → ℕ
+    → Result X ReadingError → Type 0
+Answers {X} {T} is den reaches left left' (Ok x) =
+    (t : T) × (n : ℕ) × den t n × is x t × (left' + n ≡ left)
 Answers is den reaches left left' (Err e) = (left' ≤ left) × Refuses den reaches left e

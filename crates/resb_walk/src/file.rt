@@ -75,7 +75,7 @@ pub enum Standing<'a> {
 
 impl<'a> Members<'a> {
     /// How many members are still to come.
-    #[tactic(auto, using(crate::proofs::Placed::map_length, resb_format::proofs::Spelled::words_length, resb_format::proofs::Spelled::units_length))]
+    #[tactic(auto, using(crate::proofs::Placed::lengths))]
     pub fn len(self) -> usize
         ensures { result ≡ length (members_of self.entry) }
     {
@@ -87,7 +87,8 @@ impl<'a> Members<'a> {
 
     /// The first member, and those after it.
     pub fn split(self) -> Option<(Member, Members<'a>)>
-        ensures { MatchOption result (members_of self.entry ≡ []) (λ r. members_of self.entry ≡ member_of r.0 ∷ members_of r.1) }
+        ensures { MatchOption result (members_of self.entry ≡ [])
+            (λ r. members_of self.entry ≡ member_of r.0 ∷ members_of r.1) }
     {
         match self {
             Members::Words(bytes) => {
@@ -104,7 +105,7 @@ impl<'a> Members<'a> {
 
 impl<'a> Positions<'a> {
     /// How many positions are still to come.
-    #[tactic(auto, using(resb_format::proofs::Spelled::words_length, resb_format::proofs::Spelled::units_length))]
+    #[tactic(auto, using(crate::proofs::Placed::lengths))]
     pub fn len(self) -> usize
         ensures { result ≡ length (positions_of self.entry) }
     {
@@ -116,7 +117,8 @@ impl<'a> Positions<'a> {
 
     /// The first position, and those after it.
     pub fn split(self) -> Option<(usize, Positions<'a>)>
-        ensures { MatchOption result (positions_of self.entry ≡ []) (λ r. positions_of self.entry ≡ r.0 ∷ positions_of r.1) }
+        ensures { MatchOption result (positions_of self.entry ≡ [])
+            (λ r. positions_of self.entry ≡ r.0 ∷ positions_of r.1) }
     {
         match self {
             Positions::Halves(bytes) => {
@@ -142,7 +144,8 @@ impl<'a> Pairs<'a> {
 
     /// The first entry, and those after it.
     pub fn split(self) -> Option<(usize, Member, Pairs<'a>)>
-        ensures { MatchOption result (pairs_of self.entry ≡ []) (λ r. pairs_of self.entry ≡ (r.0, member_of r.1) ∷ pairs_of r.2) }
+        ensures { MatchOption result (pairs_of self.entry ≡ [])
+            (λ r. pairs_of self.entry ≡ (r.0, member_of r.1) ∷ pairs_of r.2) }
     {
         let (position, keys) = self.keys.split()?;
         let (member, members) = self.members.split()?;

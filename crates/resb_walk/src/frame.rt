@@ -13,7 +13,8 @@ use crate::file::{File, Member, Members, Pairs};
 use crate::make::Make;
 use resb_format::ReadingError;
 
-/// A collection whose members are read one by one: those still to come, and what is made of the others.
+/// A collection whose members are read one by one: those still to come, and what is made of the
+/// others.
 #[derive(Drop)]
 pub enum Open<'a, L, T> {
     List(Members<'a>, L),
@@ -48,7 +49,8 @@ pub fn advance<'a, 'm, M: Make<'a>>(
     file: File<'a>,
     frame: Open<'a, M::List, M::Table>,
 ) -> Result<Step<'a, M, M::List, M::Table>, ReadingError<'m>>
-    ensures { (w n : ℕ) → Opened M.lists M.tables (parts_in file.entry) frame.entry w n → Steps M.is M.lists M.tables (parts_in file.entry) w n result }
+    ensures { (w n : ℕ) → Opened M.lists M.tables (parts_in file.entry) frame.entry w n
+        → Steps M.is M.lists M.tables (parts_in file.entry) w n result }
 {
     match frame {
         Open::List(rest, made) => match rest.split() {
@@ -70,7 +72,9 @@ pub fn put<'a, 'm, M: Make<'a>>(
     waiting: Waiting<'a, M::List, M::Table>,
     item: M,
 ) -> Result<Open<'a, M::List, M::Table>, ReadingError<'m>>
-    ensures { (p : Parts) (w n k : ℕ) (x : at.Member) (t : Tree) → Waits M.lists M.tables p waiting.entry w x n → DenMember p x t k → M.is item t → Puts M.lists M.tables p w (n + k) result }
+    ensures { (p : Parts) (w n k : ℕ) (x : at.Member) (t : Tree)
+        → Waits M.lists M.tables p waiting.entry w x n → DenMember p x t k → M.is item t
+        → Puts M.lists M.tables p w (n + k) result }
 {
     match waiting {
         Waiting::List(rest, made) => Ok(Open::List(rest, M::add(made, item)?)),

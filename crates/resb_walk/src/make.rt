@@ -32,7 +32,8 @@ pub trait Make<'de>: Sized + Drop {
         ensures { IfOk result (λ l. lists l []) };
 
     fn add(list: Self::List, item: Self) -> Result<Self::List, NoMemory>
-        ensures { (ts : List Tree) (t : Tree) → lists list ts → is item t → IfOk result (λ l. lists l (ts ++ t ∷ [])) };
+        ensures { (ts : List Tree) (t : Tree) → lists list ts → is item t
+            → IfOk result (λ l. lists l (ts ++ t ∷ [])) };
 
     fn end_list(list: Self::List) -> Self
         ensures { (ts : List Tree) → lists list ts → is result (tree.array (tree.trees_of ts)) };
@@ -41,8 +42,10 @@ pub trait Make<'de>: Sized + Drop {
         ensures { tables result [] };
 
     fn put(table: Self::Table, key: &'de str, item: Self) -> Result<Self::Table, NoMemory>
-        ensures { (es : List (List ℕ × Tree)) (t : Tree) → tables table es → is item t → IfOk result (λ m. tables m (es ++ (key.now, t) ∷ [])) };
+        ensures { (es : List (List ℕ × Tree)) (t : Tree) → tables table es → is item t
+            → IfOk result (λ m. tables m (es ++ (key.now, t) ∷ [])) };
 
     fn end_table(table: Self::Table) -> Self
-        ensures { (es : List (List ℕ × Tree)) → tables table es → is result (tree.table (tree.map_of es)) };
+        ensures { (es : List (List ℕ × Tree)) → tables table es
+            → is result (tree.table (tree.map_of es)) };
 }

@@ -2,7 +2,8 @@
 //! What stands at a word is found in `standing`, and what is made of it in `tree` and `count`.
 //!
 //! The frames of the collections around are in `frames`, the outermost first. A turn takes the next
-//! member from the innermost, or closes it. Each member is paid for as it begins, so that twice what
+//! member from the innermost, or closes it. Each member is paid for as it begins, so that twice
+//! what
 //! is left, plus the number of frames, falls in each turn.
 ghost use Rattle.std.specs.Prelude.{◌≡◌, ℕ, ◌+◌};
 ghost use Rattle.resb_format.specs.Content as at;
@@ -27,7 +28,8 @@ fn begin<'a, 'm, M: Make<'a>>(
     member: Member,
     walk: &mut Walk,
 ) -> Result<Read<'a, M, M::List, M::Table>, ReadingError<'m>>
-    ensures { Reads M.is M.lists M.tables (parts_in file.entry) (member_of member) walk.old walk.new result }
+    ensures { Reads M.is M.lists M.tables (parts_in file.entry)
+        (member_of member) walk.old walk.new result }
 {
     walk.pay()?;
     match member {
@@ -54,7 +56,8 @@ pub fn read_string_at<'a, 'm, M: Make<'a>>(
     walk: &mut Walk,
 ) -> Result<M, ReadingError<'m>>
     ensures { let p = parts_in file.entry in
-        Answers M.is (DenMember p (at.unit unit)) (ReachesMember p (at.unit unit)) walk.old walk.new result }
+        Answers M.is (DenMember p (at.unit unit)) (ReachesMember p (at.unit unit)) walk.old walk.new
+        result }
 {
     match begin::<M>(alloc, file, Member::Unit(unit), walk)? {
         Read::Made(made) => Ok(made),
@@ -69,7 +72,8 @@ pub fn read_word<'a, 'm, M: Make<'a>>(
     word: u32,
     walk: &mut Walk,
 ) -> Result<M, ReadingError<'m>>
-    ensures { Answers M.is (Den (parts_in file.entry) word) (Reaches (parts_in file.entry) word) walk.old walk.new result }
+    ensures { Answers M.is (Den (parts_in file.entry) word)
+        (Reaches (parts_in file.entry) word) walk.old walk.new result }
 {
     let mut frames = Vec::new(alloc);
     let mut frame = match begin::<M>(alloc, file, Member::Word(word), walk)? {
@@ -97,14 +101,16 @@ pub fn read_word<'a, 'm, M: Make<'a>>(
     }
 }
 
-/// Reads the tree at a word, once it is known to stand there: so no count in a file that is refused asks for room.
+/// Reads the tree at a word, once it is known to stand there: so no count in a file that is refused
+/// asks for room.
 pub fn read_checked<'a, 'm, M: Make<'a>>(
     alloc: Global,
     file: File<'a>,
     word: u32,
     walk: &mut Walk,
 ) -> Result<M, ReadingError<'m>>
-    ensures { Answers M.is (Den (parts_in file.entry) word) (Reaches (parts_in file.entry) word) walk.old walk.new result }
+    ensures { Answers M.is (Den (parts_in file.entry) word)
+        (Reaches (parts_in file.entry) word) walk.old walk.new result }
 {
     let mut budget = Walk::new(walk.left());
     match read_word::<Checked>(alloc, file, word, &mut budget) {

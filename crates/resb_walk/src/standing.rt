@@ -1,6 +1,7 @@
 //! What stands at a word, at a unit of the 16-bit block, and at a key's position.
 //! Bytes are looked at in `resb_format::bytes` alone.
-ghost use Rattle.std.specs.Prelude.{◌≡◌, ◌<◌, not, position, ◌==◌, Some, None, MatchOption, MatchResult};
+ghost use Rattle.std.specs.Prelude.{◌≡◌, ◌<◌, not, position, ◌==◌, Some, None, MatchOption};
+ghost use Rattle.std.specs.Prelude.{MatchResult};
 ghost use Rattle.std.specs.Char.Utf16.{is_high_surrogate, is_low_surrogate, has_unpaired_surrogate};
 ghost use Rattle.resb_format.specs.Bytes.{units_of};
 ghost use Rattle.resb_format.specs.Strings.{text_at, key_at};
@@ -33,7 +34,7 @@ fn is_low(unit: u16) -> bool
 }
 
 /// Whether each surrogate has its partner.
-#[tactic(auto, using(crate::proofs::Surrogates::no_surrogate, crate::proofs::Surrogates::low_alone, crate::proofs::Surrogates::high_last, crate::proofs::Surrogates::high_alone, crate::proofs::Surrogates::a_pair, crate::proofs::Surrogates::nothing))]
+#[tactic(auto, using(crate::proofs::Surrogates::surrogates))]
 fn is_well_formed(bytes: &[u8]) -> bool
     ensures { result ≡ not (has_unpaired_surrogate (units_of bytes.now)) }
 {
@@ -75,11 +76,13 @@ fn unread_type(kind: u32) -> BinaryDeserializerError
 }
 
 impl<'a> File<'a> {
-    /// The key at a position, in bytes from the body's start: what stands before the next zero byte.
-    #[tactic(auto, using(crate::proofs::Placed::key_some, crate::proofs::Placed::key_invalid), unfolding(resb_format::specs::Strings::key_at))]
+    /// The key at a position, in bytes from the body's start: what stands before the next zero
+    /// byte.
+    #[tactic(auto, using(crate::proofs::Keys::at), unfolding(resb_format::specs::Strings::key_at))]
     pub fn key(self, at: usize) -> Result<&'a str, BinaryDeserializerError>
         ensures { let keys = self.entry.keys.now in
-            MatchResult result (λ s. key_at keys at ≡ Some s.now) (λ e. (key_at keys at ≡ None) × IsFault e) }
+            MatchResult result (λ s. key_at keys at ≡ Some s.now)
+            (λ e. (key_at keys at ≡ None) × IsFault e) }
     {
         if self.keys.len() < at {
             return Err(key_past_end());
@@ -102,7 +105,8 @@ impl<'a> File<'a> {
     #[tactic(auto, using(crate::proofs::Placed::text_some, crate::proofs::Placed::text_unpaired))]
     pub fn text(self, unit: usize) -> Result<&'a [u8], BinaryDeserializerError>
         ensures { let block = units_of self.entry.block.now in
-            MatchResult result (λ v. text_at block unit ≡ Some (text_of_bytes v.now)) (λ e. (text_at block unit ≡ None) × IsFault e) }
+            MatchResult result (λ v. text_at block unit ≡ Some (text_of_bytes v.now))
+            (λ e. (text_at block unit ≡ None) × IsFault e) }
     {
         match string_at(self.block, unit) {
             Ok(view) => {
@@ -121,7 +125,8 @@ impl<'a> File<'a> {
     #[tactic(auto, unfolding(resb_format::specs::Content::content))]
     pub fn standing(self, word: u32) -> Result<Standing<'a>, BinaryDeserializerError>
         ensures { let p = parts_in self.entry in
-            MatchResult result (λ s. content p word ≡ Some (content_of s)) (λ e. (content p word ≡ None) × IsFault e) }
+            MatchResult result (λ s. content p word ≡ Some (content_of s))
+            (λ e. (content p word ≡ None) × IsFault e) }
     {
         let kind = word >> 28;
         let value = (word % 0x1000_0000) as usize;
@@ -138,7 +143,8 @@ impl<'a> File<'a> {
     fn placed(self, kind: u32, value: usize) -> Result<Standing<'a>, BinaryDeserializerError>
         requires { value < 268435456 }
         ensures { let p = parts_in self.entry in
-            MatchResult result (λ s. at.placed p kind value ≡ Some (content_of s)) (λ e. (at.placed p kind value ≡ None) × IsFault e) }
+            MatchResult result (λ s. at.placed p kind value ≡ Some (content_of s))
+            (λ e. (at.placed p kind value ≡ None) × IsFault e) }
     {
         match kind {
             1 => self.binary(value),
@@ -157,7 +163,8 @@ impl<'a> File<'a> {
     fn binary(self, value: usize) -> Result<Standing<'a>, BinaryDeserializerError>
         requires { value < 268435456 }
         ensures { let p = parts_in self.entry in
-            MatchResult result (λ s. at.binary_at p value ≡ Some (content_of s)) (λ e. (at.binary_at p value ≡ None) × IsFault e) }
+            MatchResult result (λ s. at.binary_at p value ≡ Some (content_of s))
+            (λ e. (at.binary_at p value ≡ None) × IsFault e) }
     {
         let Some(count) = some_word(self.body, value) else {
             return Err(past_end());
@@ -172,7 +179,8 @@ impl<'a> File<'a> {
     fn int_vector(self, value: usize) -> Result<Standing<'a>, BinaryDeserializerError>
         requires { value < 268435456 }
         ensures { let p = parts_in self.entry in
-            MatchResult result (λ s. at.int_vector_at p value ≡ Some (content_of s)) (λ e. (at.int_vector_at p value ≡ None) × IsFault e) }
+            MatchResult result (λ s. at.int_vector_at p value ≡ Some (content_of s))
+            (λ e. (at.int_vector_at p value ≡ None) × IsFault e) }
     {
         let Some(count) = some_word(self.body, value) else {
             return Err(past_end());
@@ -187,7 +195,8 @@ impl<'a> File<'a> {
     fn array(self, value: usize) -> Result<Standing<'a>, BinaryDeserializerError>
         requires { value < 268435456 }
         ensures { let p = parts_in self.entry in
-            MatchResult result (λ s. at.array_at p value ≡ Some (content_of s)) (λ e. (at.array_at p value ≡ None) × IsFault e) }
+            MatchResult result (λ s. at.array_at p value ≡ Some (content_of s))
+            (λ e. (at.array_at p value ≡ None) × IsFault e) }
     {
         let Some(count) = some_word(self.body, value) else {
             return Err(past_end());
@@ -202,7 +211,8 @@ impl<'a> File<'a> {
     fn array16(self, value: usize) -> Result<Standing<'a>, BinaryDeserializerError>
         requires { value < 268435456 }
         ensures { let p = parts_in self.entry in
-            MatchResult result (λ s. at.array16_at p value ≡ Some (content_of s)) (λ e. (at.array16_at p value ≡ None) × IsFault e) }
+            MatchResult result (λ s. at.array16_at p value ≡ Some (content_of s))
+            (λ e. (at.array16_at p value ≡ None) × IsFault e) }
     {
         let Some(count) = some_unit(self.block, value) else {
             return Err(past_end());
@@ -217,7 +227,8 @@ impl<'a> File<'a> {
     fn table(self, value: usize) -> Result<Standing<'a>, BinaryDeserializerError>
         requires { value < 268435456 }
         ensures { let p = parts_in self.entry in
-            MatchResult result (λ s. at.table_at p value ≡ Some (content_of s)) (λ e. (at.table_at p value ≡ None) × IsFault e) }
+            MatchResult result (λ s. at.table_at p value ≡ Some (content_of s))
+            (λ e. (at.table_at p value ≡ None) × IsFault e) }
     {
         let Some(count) = some_unit(self.body, 2 * value) else {
             return Err(past_end());
@@ -239,7 +250,8 @@ impl<'a> File<'a> {
     fn table16(self, value: usize) -> Result<Standing<'a>, BinaryDeserializerError>
         requires { value < 268435456 }
         ensures { let p = parts_in self.entry in
-            MatchResult result (λ s. at.table16_at p value ≡ Some (content_of s)) (λ e. (at.table16_at p value ≡ None) × IsFault e) }
+            MatchResult result (λ s. at.table16_at p value ≡ Some (content_of s))
+            (λ e. (at.table16_at p value ≡ None) × IsFault e) }
     {
         let Some(count) = some_unit(self.block, value) else {
             return Err(past_end());
@@ -261,7 +273,8 @@ impl<'a> File<'a> {
     fn table32(self, value: usize) -> Result<Standing<'a>, BinaryDeserializerError>
         requires { value < 268435456 }
         ensures { let p = parts_in self.entry in
-            MatchResult result (λ s. at.table32_at p value ≡ Some (content_of s)) (λ e. (at.table32_at p value ≡ None) × IsFault e) }
+            MatchResult result (λ s. at.table32_at p value ≡ Some (content_of s))
+            (λ e. (at.table32_at p value ≡ None) × IsFault e) }
     {
         let Some(count) = some_word(self.body, value) else {
             return Err(past_end());
@@ -283,7 +296,8 @@ impl<'a> File<'a> {
 /// The empty resource of a type.
 #[tactic(auto, unfolding(resb_format::specs::Bytes::words_of, resb_format::specs::Bytes::units_of))]
 fn empty<'a>(kind: u32) -> Result<Standing<'a>, BinaryDeserializerError>
-    ensures { MatchResult result (λ s. at.empty kind ≡ Some (content_of s)) (λ e. (at.empty kind ≡ None) × IsFault e) }
+    ensures { MatchResult result (λ s. at.empty kind ≡ Some (content_of s))
+        (λ e. (at.empty kind ≡ None) × IsFault e) }
 {
     match kind {
         1 => Ok(Standing::Leaf(Leaf::Binary(&[]))),

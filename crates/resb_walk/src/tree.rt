@@ -4,6 +4,9 @@ ghost use Rattle.std.specs.Prelude.{◌≡◌, List, IfOk};
 ghost use Rattle.resb_format.specs.Bytes.{words_of};
 ghost use Rattle.resb_walk.specs.Inner.Members.{text_of_bytes};
 ghost use Rattle.std.specs.String.{string_bytes};
+ghost use Rattle.std.specs.BTreeMap.{insert_entry};
+ghost use Rattle.std.specs.Cmp.Lexicographic.{slice_cmp};
+ghost use Rattle.std.specs.Ordering.{nat_cmp};
 
 use crate::file::Leaf;
 use crate::make::Make;
@@ -39,20 +42,36 @@ fn numbers(alloc: Global, bytes: &[u8]) -> Result<Vec<u32>, NoMemory>
     Ok(numbers)
 }
 
+/// The table with one entry more; the last value of a key stands.
+fn with_entry<'de>(
+    mut table: Table<'de>,
+    key: &'de str,
+    item: Resource<'de>,
+) -> Result<Table<'de>, NoMemory>
+    ensures { let old = table.entry.entries in
+        IfOk result (λ m. m.entries
+        ≡ insert_entry (slice_cmp nat_cmp) old key.entry.now item.entry) }
+{
+    table.insert(Key::from(key), item)?;
+    Ok(table)
+}
+
 impl<'de> Make<'de> for Resource<'de> {
-    ghost use Rattle.std.specs.Prelude.{◌≡◌, map};
+    ghost use Rattle.std.specs.Prelude.{◌≡◌, map, true};
     ghost use Rattle.resb_tree.specs.Tree.{map_of};
     ghost use Rattle.resb_tree.specs.View.{tree_of, entries_view};
+    ghost use Rattle.resb_walk.specs.Borrows.{Borrows, all_borrow, entries_borrow};
 
     type List = Vec<Resource<'de>>;
 
     type Table = Table<'de>;
 
-    ghost is = { λ r t. tree_of r ≡ t };
+    ghost is = { λ r t. (tree_of r ≡ t) × Borrows r };
 
-    ghost lists = { λ v ts. map tree_of v.items ≡ ts };
+    ghost lists = { λ v ts. (map tree_of v.items ≡ ts) × (all_borrow v.items ≡ true) };
 
-    ghost tables = { λ m es. entries_view m.entries ≡ map_of es };
+    ghost tables = { λ m es. (entries_view m.entries ≡ map_of es) ×
+        (entries_borrow m.entries ≡ true) };
 
     fn leaf(alloc: Global, leaf: Leaf<'de>) -> Result<Resource<'de>, NoMemory> {
         Ok(match leaf {
@@ -68,7 +87,7 @@ impl<'de> Make<'de> for Resource<'de> {
         Ok(Vec::with_capacity(alloc, room)?)
     }
 
-    #[tactic(auto, using(crate::proofs::Made::map_snoc))]
+    #[tactic(auto, using(crate::proofs::Made::map_snoc, crate::proofs::Made::borrow_snoc))]
     fn add(
         mut list: Vec<Resource<'de>>,
         item: Resource<'de>,
@@ -85,14 +104,9 @@ impl<'de> Make<'de> for Resource<'de> {
         BTreeMap::new(alloc)
     }
 
-    #[tactic(auto, using(crate::proofs::Made::put_snoc))]
-    fn put(
-        mut table: Table<'de>,
-        key: &'de str,
-        item: Resource<'de>,
-    ) -> Result<Table<'de>, NoMemory> {
-        table.insert(Key::from(key), item)?;
-        Ok(table)
+    #[tactic(auto, using(crate::proofs::Made::put_made))]
+    fn put(table: Table<'de>, key: &'de str, item: Resource<'de>) -> Result<Table<'de>, NoMemory> {
+        with_entry(table, key, item)
     }
 
     fn end_table(table: Table<'de>) -> Resource<'de> {

@@ -36,7 +36,8 @@ impl Walk {
 
     /// Pays for one resource.
     pub fn pay(&mut self) -> Result<(), BinaryDeserializerError>
-        ensures { MatchResult result (λ _. self.new + 1 ≡ self.old) (λ e. IsSpent e × (self.old ≡ 0) × (self.new ≡ 0)) }
+        ensures { MatchResult result (λ _. self.new + 1 ≡ self.old)
+            (λ e. IsSpent e × (self.old ≡ 0) × (self.new ≡ 0)) }
     {
         if self.left == 0 {
             return Err(budget_spent());

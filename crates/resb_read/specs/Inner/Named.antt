@@ -1,14 +1,16 @@
 -- The places of the named deserializers.
-use Rattle.resb_read.specs.Places.{Place, place_of}
+use Rattle.resb_walk.specs.Files.{parts_in}
+use Rattle.resb_read.specs.Places.{Place}
+use Rattle.resb_read.specs.declared.cursor.Spot.TheVariants as spot
 use Rattle.resb_read.specs.declared.named.Resource16BitDeserializer.{Resource16BitDeserializer}
 use Rattle.resb_read.specs.declared.named.IntVectorDeserializer.{IntVectorDeserializer}
 use Rattle.resb_read.specs.declared.named.KeyDeserializer.{KeyDeserializer}
 
 abbrev pub unit_place : Resource16BitDeserializer → Place
-unit_place d = place_of d.at
+unit_place d = record { parts = parts_in d.file; at = spot.Unit d.unit }
 
 abbrev pub word_place : IntVectorDeserializer → Place
-word_place d = place_of d.at
+word_place d = record { parts = parts_in d.file; at = spot.Word d.word }
 
 abbrev pub key_place : KeyDeserializer → Place
-key_place d = place_of d.at
+key_place d = record { parts = parts_in d.file; at = spot.Key d.position }

@@ -1,7 +1,8 @@
 -- Open collections: what of them has been read.
---     Opened f w n            the collection f stands at the word w, its members so far denote n resources, and it has made what they denote
+-- Opened f w n            the collection f stands at the word w, its members so far denote n
+-- resources, and it has made what they denote
 --     Waits f w x n           the same, where the member x is being read
-use Rattle.std.specs.Prelude.{ℕ, List, [], ◌∷◌, ◌++◌, Some, ◌≡◌}
+use Rattle.std.specs.Prelude.{ℕ, List, ◌∷◌, ◌++◌, Some, ◌≡◌}
 use Rattle.resb_tree.specs.Tree.{Tree}
 use Rattle.resb_format.specs.Strings.{key_at}
 use Rattle.resb_format.specs.Parts.{Parts}
@@ -14,9 +15,9 @@ use Rattle.resb_walk.specs.declared.frame.Open.{Open}
 use Rattle.resb_walk.specs.declared.frame.Open.TheVariants as open_
 use Rattle.resb_walk.specs.declared.frame.Waiting.{Waiting}
 use Rattle.resb_walk.specs.declared.frame.Waiting.TheVariants as waiting
-use Rattle.std.specs.Borrow.{Bor}
 
-module _ {L T : Type 0} (lists : L → List Tree → Type 0) (tables : T → List (List ℕ × Tree) → Type 0) (p : Parts) where
+module _ {L T : Type 0} (lists : L → List Tree → Type 0)
+    (tables : T → List (List ℕ × Tree) → Type 0) (p : Parts) where
   pub record OpenedList (rest : Members) (made : L) (w n : ℕ) : Type 0 where
     pub done : List Member
     pub trees : List Tree
@@ -38,7 +39,8 @@ module _ {L T : Type 0} (lists : L → List Tree → Type 0) (tables : T → Lis
     pub each : DenEach p done trees n
     pub is_made : lists made trees
 
-  pub record TableWaits (rest : Pairs) (made : T) (key : List ℕ) (w : ℕ) (x : Member) (n : ℕ) : Type 0 where
+  pub record TableWaits (rest : Pairs) (made : T) (key : List ℕ) (w : ℕ) (x : Member)
+      (n : ℕ) : Type 0 where
     pub done : List (ℕ × Member)
     pub entries : List (List ℕ × Tree)
     pub place : ℕ

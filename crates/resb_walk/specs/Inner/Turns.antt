@@ -10,13 +10,13 @@ use Rattle.resb_walk.specs.Refusals.{IsFault, Stuck, Refuses}
 use Rattle.resb_format.specs.Error.{IsWantOfMemory}
 use Rattle.resb_format.specs.declared.error.ReadingError.{ReadingError}
 use Rattle.resb_walk.specs.declared.frame.Open.{Open}
-use Rattle.resb_walk.specs.declared.frame.Waiting.{Waiting}
 use Rattle.resb_walk.specs.declared.frame.Step.{Step}
 use Rattle.resb_walk.specs.declared.frame.Step.TheVariants.{Wants, Done}
 use Rattle.resb_walk.specs.declared.frame.Read.{Read}
 use Rattle.resb_walk.specs.declared.frame.Read.TheVariants.{Made, Begun}
 
-module _ {X L T : Type 0} (is : X → Tree → Type 0) (lists : L → List Tree → Type 0) (tables : T → List (List ℕ × Tree) → Type 0) (p : Parts) where
+module _ {X L T : Type 0} (is : X → Tree → Type 0) (lists : L → List Tree → Type 0)
+    (tables : T → List (List ℕ × Tree) → Type 0) (p : Parts) where
   -- a step of a collection that stands at w and whose members so far denote n resources
   abbrev pub Steps : ℕ → ℕ → Result (Step X L T) ReadingError → Type 0
   Steps w n (Ok (Wants m f)) = Waits lists tables p f w (member_of m) n
@@ -26,10 +26,12 @@ module _ {X L T : Type 0} (is : X → Tree → Type 0) (lists : L → List Tree 
   -- a member is read, up to its own members, and paid for
   abbrev pub Reads : at.Member → ℕ → ℕ → Result (Read X L T) ReadingError → Type 0
   Reads m left left' (Ok (Made x)) = (t : Tree) × DenMember p m t 1 × is x t × (left' + 1 ≡ left)
-  Reads m left left' (Ok (Begun f)) = (w : ℕ) × (m ≡ at.word w) × Opened lists tables p f w 0 × (left' + 1 ≡ left)
+  Reads m left left' (Ok (Begun f)) =
+      (w : ℕ) × (m ≡ at.word w) × Opened lists tables p f w 0 × (left' + 1 ≡ left)
   Reads m left left' (Err e) = (left' ≤ left) × Refuses (DenMember p m) (ReachesMember p m) left e
 
-module _ {L T : Type 0} (lists : L → List Tree → Type 0) (tables : T → List (List ℕ × Tree) → Type 0) (p : Parts) where
+module _ {L T : Type 0} (lists : L → List Tree → Type 0)
+    (tables : T → List (List ℕ × Tree) → Type 0) (p : Parts) where
   -- the member that was waited for, of k resources, is put in
   abbrev pub Puts : ℕ → ℕ → Result (Open L T) ReadingError → Type 0
   Puts w n (Ok f) = Opened lists tables p f w n

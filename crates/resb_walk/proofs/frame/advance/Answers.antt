@@ -1,21 +1,31 @@
-use Rattle.std.proofs.Common.{rules, ◌≡◌, ℕ, ◌+◌, refl}
-use Rattle.resb_tree.specs.Tree.{Tree, array, table, trees_of, map_of}
+use Rattle.resb_tree.specs.Tree.{array, table, trees_of, map_of}
 use Rattle.resb_walk.specs.Files.{parts_in}
-use Rattle.resb_walk.specs.Inner.Frames.{Opened, OpenedList, OpenedTable}
 use Rattle.resb_walk.proofs.Waits.{list_ends, table_ends, table_no_key}
 use Rattle.resb_walk.proofs.frame.advance.Goals as goal
 
 pub returns-in-None : goal.returns-in-None
 returns-in-None g c = λ w n h.
-    let o = rw c.in-List.is at h in
-    (array (trees_of o.trees), list_ends g.M.Make.lists g.M.Make.tables (parts_in c.args.file) c.in-List.rest c.in-List.made w n o c.in-None.ensures, c.end_list.ensures o.trees o.is_made)
+    let o = rw c.in-List.is at h in (
+      array (trees_of o.trees),
+      list_ends g.M.Make.lists g.M.Make.tables
+          (parts_in c.args.file) c.in-List.rest c.in-List.made w n o c.in-None.ensures,
+      c.end_list.ensures o.trees o.is_made,
+    )
 
 pub returns-in-Err : goal.returns-in-Err
 returns-in-Err g c = λ w n h.
-    let o = rw c.in-Table.is at h in
-    (c.in-Err.ensures.1, table_no_key g.M.Make.lists g.M.Make.tables (parts_in c.args.file) c.in-Table.rest c.in-Some-split.rest c.in-Some-split.position _ c.in-Table.made w n o c.in-Some-split.ensures c.in-Err.ensures.0)
+    let o = rw c.in-Table.is at h in (
+      c.in-Err.ensures.1,
+      table_no_key g.M.Make.lists g.M.Make.tables (parts_in c.args.file) c.in-Table.rest
+          c.in-Some-split.rest c.in-Some-split.position _ c.in-Table.made w n o
+          c.in-Some-split.ensures c.in-Err.ensures.0,
+    )
 
 pub returns-in-None-split : goal.returns-in-None-split
 returns-in-None-split g c = λ w n h.
-    let o = rw c.in-Table.is at h in
-    (table (map_of o.entries), table_ends g.M.Make.lists g.M.Make.tables (parts_in c.args.file) c.in-Table.rest c.in-Table.made w n o c.in-None-split.ensures, c.end_table.ensures o.entries o.is_made)
+    let o = rw c.in-Table.is at h in (
+      table (map_of o.entries),
+      table_ends g.M.Make.lists g.M.Make.tables
+          (parts_in c.args.file) c.in-Table.rest c.in-Table.made w n o c.in-None-split.ensures,
+      c.end_table.ensures o.entries o.is_made,
+    )

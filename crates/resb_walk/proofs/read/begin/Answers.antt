@@ -1,4 +1,4 @@
-use Rattle.std.proofs.Common.{◌⊎◌, inl, inr, rules, ◌≡◌, ℕ, ◌+◌, refl, subst, arith}
+use Rattle.std.proofs.Common.{inl, inr, ◌≡◌, ◌+◌, refl, subst, arith}
 use Rattle.std.proofs.lemmas.Result.{err_from_is_err_and}
 use Rattle.resb_tree.specs.Tree.{string}
 use Rattle.resb_format.specs.Denotes.{den_leaf, den_word, den_unit, ReachesMember}
@@ -15,24 +15,44 @@ returns-in_err-pay g c =
     let old : c.args.walk.now ≡ 0 = c.in_err-pay.ensures.1 in
     let new : c.pay.new.self ≡ 0 = c.in_err-pay.ensures.2 in
     let one : 1 ≡ c.args.walk.now + 1 = omega arith in
-    let reach = subst (λ k. ReachesMember (parts_in c.args.file) (member_of c.args.member) k) one (reaches_any (parts_in c.args.file) (member_of c.args.member)) in
+    let reach = subst (λ k. ReachesMember (parts_in c.args.file) (member_of c.args.member) k) one
+    (reaches_any (parts_in c.args.file) (member_of c.args.member)) in
     rw (p.1, p.2) (omega arith, inr (inl (spent, reach)))
 
 pub returns-in_ok-leaf-in-Unit : goal.returns-in_ok-leaf-in-Unit
-returns-in_ok-leaf-in-Unit g c =
-    (string (text_of_bytes c.in_ok-text-in-Unit.text.now), rw c.in-Unit.is (den_unit c.in_ok-text-in-Unit.ensures), c.in_ok-leaf-in-Unit.ensures, c.in_ok-pay.ensures)
+returns-in_ok-leaf-in-Unit g c = (
+  string (text_of_bytes c.in_ok-text-in-Unit.text.now),
+  rw c.in-Unit.is (den_unit c.in_ok-text-in-Unit.ensures),
+  c.in_ok-leaf-in-Unit.ensures,
+  c.in_ok-pay.ensures,
+)
 
 pub returns-in_ok-leaf-in-Leaf : goal.returns-in_ok-leaf-in-Leaf
 returns-in_ok-leaf-in-Leaf g c =
-    let stands = rw c.in-Leaf.is at c.in_ok-leaf-in-Word.ensures in
-    (leaf_tree c.in-Leaf.leaf, rw c.in-Word.is (den_word (den_leaf stands)), c.in_ok-leaf-in-Leaf.ensures, c.in_ok-pay.ensures)
+    let stands = rw c.in-Leaf.is at c.in_ok-leaf-in-Word.ensures in (
+      leaf_tree c.in-Leaf.leaf,
+      rw c.in-Word.is (den_word (den_leaf stands)),
+      c.in_ok-leaf-in-Leaf.ensures,
+      c.in_ok-pay.ensures,
+    )
 
 pub returns-in_ok-begin_list-in-List : goal.returns-in_ok-begin_list-in-List
 returns-in_ok-begin_list-in-List g c =
-    let stands = rw c.in-List.is at c.in_ok-leaf-in-Word.ensures in
-    (c.in-Word.word, rw c.in-Word.is refl, list_begins g.M.Make.lists g.M.Make.tables (parts_in c.args.file) c.in-List.rest c.in_ok-begin_list-in-List.field-0 c.in-Word.word stands c.in_ok-begin_list-in-List.ensures, c.in_ok-pay.ensures)
+    let stands = rw c.in-List.is at c.in_ok-leaf-in-Word.ensures in (
+      c.in-Word.word,
+      rw c.in-Word.is refl,
+      list_begins g.M.Make.lists g.M.Make.tables (parts_in c.args.file) c.in-List.rest
+          c.in_ok-begin_list-in-List.field-0 c.in-Word.word stands
+          c.in_ok-begin_list-in-List.ensures,
+      c.in_ok-pay.ensures,
+    )
 
 pub returns-in-Table : goal.returns-in-Table
 returns-in-Table g c =
-    let stands = rw c.in-Table.is at c.in_ok-leaf-in-Word.ensures in
-    (c.in-Word.word, rw c.in-Word.is refl, table_begins g.M.Make.lists g.M.Make.tables (parts_in c.args.file) c.in-Table.rest c.begin_table.result c.in-Word.word stands c.begin_table.ensures, c.in_ok-pay.ensures)
+    let stands = rw c.in-Table.is at c.in_ok-leaf-in-Word.ensures in (
+      c.in-Word.word,
+      rw c.in-Word.is refl,
+      table_begins g.M.Make.lists g.M.Make.tables (parts_in c.args.file) c.in-Table.rest
+          c.begin_table.result c.in-Word.word stands c.begin_table.ensures,
+      c.in_ok-pay.ensures,
+    )

@@ -6,5 +6,15 @@ pub returns-clause-read : goal.returns-clause-read
 returns-clause-read g c =
     let first : c.read_seq.new.walk + 1 ≡ c.args.walk.now = c.in_ok-seq.ensures.read.2 in
     IfOk-weaker c.read_members.result _ _
-    (λ v (n, each, paid). (1 + n, record { places = c.in_ok-seq.seq.rest; total = n; are = c.in_ok-seq.ensures.read.0; each = each; count = refl }, omega (arith, paid, first)))
+    (λ v (n, each, paid). (
+      1 + n,
+      record {
+        places = c.in_ok-seq.seq.rest;
+        total = n;
+        are = c.in_ok-seq.ensures.read.0;
+        each = each;
+        count = refl;
+      },
+      omega (arith, paid, first),
+    ))
     c.read_members.ensures.read

@@ -6,5 +6,17 @@ pub returns-clause-read : goal.returns-clause-read
 returns-clause-read g c =
     let first : c.read_map.new.walk + 1 ≡ c.args.walk.now = c.in_ok-access.ensures.read.2 in
     IfOk-weaker c.read_entries.result _ _
-    (λ m (n, all, paid). (1 + n, record { places = c.in_ok-access.access.rest; read = all.0; total = n; are = c.in_ok-access.ensures.read.0; each = all.1; map = all.2; count = refl }, omega (arith, paid, first)))
+    (λ m (n, all, paid). (
+      1 + n,
+      record {
+        places = c.in_ok-access.access.rest;
+        read = all.0;
+        total = n;
+        are = c.in_ok-access.ensures.read.0;
+        each = all.1;
+        map = all.2;
+        count = refl;
+      },
+      omega (arith, paid, first),
+    ))
     c.read_entries.ensures.read

@@ -1,9 +1,10 @@
-use Rattle.std.proofs.Common.{rules}
 use Rattle.resb_format.specs.Bytes.{units_of}
 use Rattle.resb_walk.proofs.Placed.{text_none, string_fails}
 use Rattle.resb_walk.proofs.file.File.text.Goals as goal
 
 pub returns-in-Err : goal.returns-in-Err
 returns-in-Err c =
-    let block = units_of c.args.self.block.now in
-    (text_none block c.args.unit c.in-Err.ensures.0, string_fails block c.args.unit c.in-Err.error c.in-Err.ensures.1)
+    let block = units_of c.args.self.block.now in (
+      text_none block c.args.unit c.in-Err.ensures.0,
+      string_fails block c.args.unit c.in-Err.error c.in-Err.ensures.1,
+    )

@@ -1,0 +1,2 @@
+-- What is read as the type that a user would write.
+pub mod Fields

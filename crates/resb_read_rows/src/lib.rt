@@ -1,0 +1,27 @@
+//! The worked rows of the reader: files with the answers that the rules ask for, through each call that
+//! reads them. Only tests stand here, and a type as a user of the reader would write it.
+#![tactic(auto)]
+
+#[cfg(test)]
+mod answers;
+#[cfg(test)]
+mod asks;
+mod both;
+#[cfg(test)]
+mod both_rows;
+#[cfg(test)]
+mod cursor_rows;
+#[cfg(test)]
+mod file_rows;
+#[cfg(test)]
+mod files;
+#[cfg(test)]
+mod head_rows;
+#[cfg(test)]
+mod hostile_rows;
+#[cfg(test)]
+mod places;
+#[cfg(test)]
+mod type_rows;
+
+pub use both::Both;

@@ -11,16 +11,6 @@ mod parts_rows;
 #[cfg(test)]
 mod pool_rows;
 #[cfg(test)]
-<<<<<<< HEAD
-mod read_rows;
-#[cfg(test)]
-mod read_type_rows;
-=======
-mod text_rows;
-#[cfg(test)]
-mod tree_rows;
->>>>>>> reader
-#[cfg(test)]
 mod way_rows;
 #[cfg(test)]
 mod write_rows;

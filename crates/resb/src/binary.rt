@@ -11,7 +11,7 @@ pub use resb_format::{
 pub use resb_pool::{Plan, pool};
 pub use resb_read::{
     Cursor, Deserialize, IntVectorDeserializer, KeyDeserializer, MapAccess,
-    Resource16BitDeserializer, SeqAccess, Walk, count_resources, determine_endianness, from_bytes,
+    Resource16BitDeserializer, SeqAccess, Spot, Walk, count_resources, determine_endianness, from_bytes,
     from_bytes_counted, from_words, lay_words,
 };
 pub use resb_write::{BinarySerializerError, Serializer};

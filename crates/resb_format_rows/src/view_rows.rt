@@ -1,8 +1,9 @@
 //! Strings in a block, markers at their limits, and views of bytes as numbers.
 use crate::refusals::is_refused;
 use resb_format::{
-    ErrorKind, I32Pair, cast_bytes_to_u16_slice, cast_bytes_to_u32_slice,
-    cast_u32_to_i32_pair_slice, cast_u32_to_i32_slice, is_unmarked, marker_units, string_at,
+    ErrorKind, I32Pair, PairView, Utf16View, WordView, cast_bytes_to_u16_slice,
+    cast_bytes_to_u32_slice, cast_u32_to_i32_pair_slice, cast_u32_to_i32_slice, is_unmarked,
+    marker_units, string_at,
 };
 use std::alloc::{AllocError, Global};
 use std::test::Fail;
@@ -77,13 +78,22 @@ fn holds(block: &[u8], unit: usize, wanted: Result<usize, &str>) -> bool {
 }
 
 #[test]
-fn strings_are_cut_or_unterminated(rt: HostRuntime) -> Result<(), Fail> {
+fn strings_are_cut_or_unterminated(rt: HostRuntime) {
     for (number, (block, unit, wanted)) in STRINGS.iter().enumerate() {
         assert!(rt; holds(block, *unit, *wanted), "row {number}");
     }
-    let letters = block_of(rt.alloc(), &[], 41)?;
-    assert!(rt; holds(letters.as_slice(), 0, Err(UNTERMINATED)));
-    assert!(rt; holds(letters.as_slice(), 1, Ok(40)));
+}
+
+fn ends_after_forty(alloc: Global) -> Result<bool, AllocError> {
+    let letters = block_of(alloc, &[], 41)?;
+    let block = letters.as_slice();
+    Ok(holds(block, 0, Err(UNTERMINATED)) && holds(block, 1, Ok(40)))
+}
+
+#[test]
+fn forty_units_need_no_marker(rt: HostRuntime) -> Result<(), Fail> {
+    let ends = ends_after_forty(rt.alloc())?;
+    assert!(rt; ends);
     Ok(())
 }
 
@@ -148,14 +158,46 @@ const SPELLED: [Spelled; 5] = [
 
 const WRONG: &str = "Wrong length";
 
+fn are_units(view: Utf16View<'_>, units: &[u16]) -> bool {
+    if view.len() != units.len() || view.is_empty() != units.is_empty() {
+        return false;
+    }
+    for (number, unit) in units.iter().enumerate() {
+        if view.item(number) != *unit {
+            return false;
+        }
+    }
+    true
+}
+
+fn are_words(view: WordView<'_>, words: &[u32]) -> bool {
+    let numbers = cast_u32_to_i32_slice(view);
+    if view.len() != words.len() || numbers.len() != words.len() {
+        return false;
+    }
+    for (number, word) in words.iter().enumerate() {
+        if view.item(number) != *word || numbers.item(number) != word.cast_signed() {
+            return false;
+        }
+    }
+    view.is_empty() == words.is_empty() && numbers.is_empty() == words.is_empty()
+}
+
+fn are_pairs(view: PairView<'_>, pairs: &[I32Pair]) -> bool {
+    if view.len() != pairs.len() || view.is_empty() != pairs.is_empty() {
+        return false;
+    }
+    for (number, pair) in pairs.iter().enumerate() {
+        if view.item(number) != *pair {
+            return false;
+        }
+    }
+    true
+}
+
 fn spells_units(bytes: &[u8], units: Option<&[u16]>) -> bool {
     match (cast_bytes_to_u16_slice(bytes), units) {
-        (Ok(view), Some(units)) => {
-            view.len() == units.len()
-                && view.is_empty() == units.is_empty()
-                && view.as_bytes() == bytes
-                && (0..view.len()).all(|k| view.item(k) == units[k])
-        }
+        (Ok(view), Some(units)) => view.as_bytes() == bytes && are_units(view, units),
         (refused, None) => is_refused(refused, ErrorKind::Unknown, WRONG),
         (Err(_), Some(_)) => false,
     }
@@ -163,17 +205,7 @@ fn spells_units(bytes: &[u8], units: Option<&[u16]>) -> bool {
 
 fn spells_words(bytes: &[u8], words: Option<&[u32]>) -> bool {
     match (cast_bytes_to_u32_slice(bytes), words) {
-        (Ok(view), Some(words)) => {
-            let numbers = cast_u32_to_i32_slice(view);
-            view.len() == words.len()
-                && numbers.len() == words.len()
-                && view.is_empty() == words.is_empty()
-                && numbers.is_empty() == words.is_empty()
-                && view.as_bytes() == bytes
-                && numbers.as_bytes() == bytes
-                && (0..view.len()).all(|k| view.item(k) == words[k])
-                && (0..numbers.len()).all(|k| numbers.item(k) == words[k].cast_signed())
-        }
+        (Ok(view), Some(words)) => view.as_bytes() == bytes && are_words(view, words),
         (refused, None) => is_refused(refused, ErrorKind::Unknown, WRONG),
         (Err(_), Some(_)) => false,
     }
@@ -184,23 +216,27 @@ fn spells_pairs(bytes: &[u8], pairs: Option<&[I32Pair]>) -> bool {
         return pairs.is_none();
     };
     match (cast_u32_to_i32_pair_slice(words), pairs) {
-        (Ok(view), Some(pairs)) => {
-            view.len() == pairs.len()
-                && view.is_empty() == pairs.is_empty()
-                && view.as_bytes() == bytes
-                && (0..view.len()).all(|k| view.item(k) == pairs[k])
-        }
+        (Ok(view), Some(pairs)) => view.as_bytes() == bytes && are_pairs(view, pairs),
         (refused, None) => is_refused(refused, ErrorKind::Unknown, WRONG),
         (Err(_), Some(_)) => false,
     }
 }
 
+fn spells(row: &Spelled) -> bool {
+    spells_units(row.bytes, row.units)
+        && spells_words(row.bytes, row.words)
+        && spells_pairs(row.bytes, row.pairs)
+}
+
 #[test]
 fn bytes_are_numbers(rt: HostRuntime) {
     for (number, row) in SPELLED.iter().enumerate() {
-        assert!(rt; spells_units(row.bytes, row.units), "units of row {number}");
-        assert!(rt; spells_words(row.bytes, row.words), "words of row {number}");
-        assert!(rt; spells_pairs(row.bytes, row.pairs), "pairs of row {number}");
+        assert!(rt; spells(row), "row {number}");
     }
-    assert!(rt; I32Pair(-1, 5) < I32Pair(1, -1) && I32Pair(1, -2) < I32Pair(1, -1));
+}
+
+#[test]
+fn pairs_are_ordered(rt: HostRuntime) {
+    assert!(rt; I32Pair(-1, 5) < I32Pair(1, -1));
+    assert!(rt; I32Pair(1, -2) < I32Pair(1, -1));
 }

@@ -127,13 +127,6 @@ view_costs each p n c (x, h) = bytes_at_spot p.parts p.at (x, n) c h.1
 pub one_name : (p : Place) (x y : List ℕ) (m n : ℕ) → ReadsKey p x m → ReadsKey p y n → x ≡ y
 one_name p x y m n h k = let P : List ℕ × ℕ → List ℕ = λ r. r.0 in ap P (some_is (sym h.1 ∙ k.1))
 
--- where a key can't be read its entry can't, whatever is left
-pub unnamed : (e : Place × Place) (left : ℕ) → Lacks (CountsKey e.0) left → IsReadable e → left ≡ 0
-unnamed e left lacks h =
-    let (n, named) = h.named in
-    let free : n ≡ 0 = key_is_free e.0 n (h.name, named) in
-    absurd (lacks n (h.name, named) (omega arith))
-
 -- where the value that a name asks for can't be read and paid for, the entry can't be read or
 -- nothing is left
 lacks_one : (counts : ℕ → Type 0) (left n : ℕ) → counts n → n ≡ 1 → Lacks counts left → left ≡ 0

@@ -1,19 +1,5 @@
 -- Steps of an access to the entries of a table.
-use Rattle.std.proofs.Common.{
-  List,
-  [],
-  ◌∷◌,
-  ◌≡◌,
-  Some,
-  None,
-  Ok,
-  Err,
-  Result,
-  Option,
-  refl,
-  ap,
-  subst,
-}
+use Rattle.std.proofs.Common.{List, [], ◌∷◌, ◌≡◌, Some, None, Ok, Result, Option, ap, subst}
 use Rattle.resb.specs.Places.{Place, place_of}
 use Rattle.resb.specs.Access.{Entries, EntersTo, EntersToFirst, EntersToAfter}
 use Rattle.resb.specs.declared.binary.Cursor.{Cursor}
@@ -27,16 +13,6 @@ some_first ((a, b) ∷ ps) new c (e, k, v) =
     let r : new.rest ≡ ps = ap (λ n. n.rest) e in
     (cc, ap (λ n. n.failed) e)
 
-none_first : (rest : List (Place × Place)) (new : Entries) → EntersToFirst rest new (Ok None)
-    → rest ≡ []
-none_first [] new h = refl
-none_first (p ∷ ps) new h = absurd h
-
-err_first : (rest : List (Place × Place)) (new : Entries) (e : ReadingError)
-    → EntersToFirst rest new (Err e) → ⊥
-err_first [] new e h = h
-err_first (p ∷ ps) new e h = h
-
 module _ (old new : Entries) (fresh : old.failed ≡ None) where
   at_first : (r : Result (Option (Cursor × Cursor)) ReadingError) → EntersTo old new r
       → EntersToFirst old.rest new r
@@ -45,9 +21,3 @@ module _ (old new : Entries) (fresh : old.failed ≡ None) where
   pub steps_some : (c : Cursor × Cursor) → EntersTo old new (Ok (Some c))
       → (old.rest ≡ (place_of c.0, place_of c.1) ∷ new.rest) × (new.failed ≡ None)
   steps_some c h = some_first old.rest new c (at_first (Ok (Some c)) h)
-
-  pub steps_none : EntersTo old new (Ok None) → old.rest ≡ []
-  steps_none h = none_first old.rest new (at_first (Ok None) h)
-
-  pub never_fails : (e : ReadingError) → EntersTo old new (Err e) → ⊥
-  never_fails e h = err_first old.rest new e (at_first (Err e) h)

@@ -1,36 +1,9 @@
 -- A zone of what its entries say, and why there is none.
-use Rattle.std.proofs.Common.{
-  ℕ,
-  List,
-  ◌≡◌,
-  ◌≤◌,
-  ◌<◌,
-  ◌+◌,
-  ◌⊎◌,
-  inl,
-  inr,
-  Some,
-  None,
-  length,
-  refl,
-  sym,
-  ap,
-  subst,
-  ◌∙◌,
-  arith,
-}
+use Rattle.std.proofs.Common.{ℕ, List, ◌≡◌, ◌+◌, ◌⊎◌, inl, inr, Some, None, length, refl, sym, subst, ◌∙◌}
 use Rattle.std.specs.List.{All}
 use Rattle.resb.specs.Places.{Place}
 use Rattle.resb.specs.Sequences.{entries}
-use Rattle.resb_zones.specs.Zones.{
-  base_name,
-  pairs_name,
-  ReadsNumber,
-  IsNamed,
-  IsReadable,
-  ReadsZone,
-  CountsZone,
-}
+use Rattle.resb_zones.specs.Zones.{base_name, pairs_name, ReadsNumber, IsNamed, ReadsZone, CountsZone}
 use Rattle.resb_zones.specs.Inner.Fields.{ReadsPairs, LastSoFar, HasSeen}
 use Rattle.resb_zones.specs.declared.fields.Fields.{Fields}
 use Rattle.resb_zones.specs.declared.zone.Zone.{Zone}
@@ -71,14 +44,3 @@ module _ (p : Place) (places : List (Place
       let lacks = subst (LastSoFar pairs_name ReadsPairs places) none seen.pairs in
       none_is_last pairs_name h.places h.pairs (subst (All (λ e. IsNamed pairs_name e
       → ⊥)) same lacks) h.pairs_last
-
--- where the entries can't all be read and paid for there is no zone that can
-pub no_entries : (p : Place) (places : List (Place × Place)) → entries p ≡ Some places
-    → (before left : ℕ) → left + 1 ≡ before
-    → (All IsReadable places → left < length places) → (n : ℕ) → CountsZone p n → n ≤ before → ⊥
-no_entries p places are before left paid few n h fits =
-    let same : h.places ≡ places = some_is (sym h.are ∙ are) in
-    let lt : left < length places = few (subst (All IsReadable) same h.each) in
-    let long : length h.places ≡ length places = ap length same in
-    let count : n ≡ 1 + length h.places = h.count in
-    omega arith

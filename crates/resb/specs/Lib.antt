@@ -1,4 +1,5 @@
--- The words of the contracts: compiled texts, and what the crates below say of trees, texts and files.
+-- The words of the contracts: compiled texts, and what the crates below say of trees, texts and
+-- files.
 pub use Rattle.resb_tree.specs.Tree
 pub use Rattle.resb_tree.specs.View
 pub use Rattle.resb_tree.specs.Bundle

@@ -1,4 +1,5 @@
--- The words of the contracts: compiled texts, and what the crates below say of trees, texts and files.
+-- The words of the contracts: compiled texts, and what the crates below say of trees, texts and
+-- files.
 pub use Rattle.resb_tree.specs.Tree
 pub use Rattle.resb_tree.specs.View
 pub use Rattle.resb_tree.specs.Bundle
@@ -13,3 +14,17 @@ pub use Rattle.resb_format.specs.Denotes
 pub use Rattle.resb_format.specs.File
 pub use Rattle.resb_write.specs.Written
 pub mod Compiling
+pub use Rattle.resb_format.specs.Strings
+pub use Rattle.resb_format.specs.Content
+pub use Rattle.resb_format.specs.Error
+pub use Rattle.resb_format.specs.Views
+pub use Rattle.resb_walk.specs.Refusals
+pub use Rattle.resb_read.specs.Places
+pub use Rattle.resb_read.specs.Reading
+pub use Rattle.resb_read.specs.Leaves
+pub use Rattle.resb_read.specs.LeafLaws
+pub use Rattle.resb_read.specs.Others
+pub use Rattle.resb_read.specs.ViewLaws
+pub use Rattle.resb_read.specs.Sequences
+pub use Rattle.resb_read.specs.SequenceLaws
+pub use Rattle.resb_read.specs.Access

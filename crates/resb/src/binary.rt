@@ -1,5 +1,5 @@
-//! The binary form, `.res`: the types of its head and descriptors, its reader, its writer, and the errors of
-//! both ways. Views of bytes, their casts and what reads them are in `helpers`.
+//! The binary form, `.res`: the types of its head and descriptors, its reader, its writer, and the
+//! errors of both ways. Views of bytes, their casts and what reads them are in `helpers`.
 
 pub mod helpers;
 
@@ -11,7 +11,7 @@ pub use resb_format::{
 pub use resb_pool::{Plan, pool};
 pub use resb_read::{
     Cursor, Deserialize, IntVectorDeserializer, KeyDeserializer, MapAccess,
-    Resource16BitDeserializer, SeqAccess, Walk, count_resources, determine_endianness, from_bytes,
-    from_bytes_counted, from_words, lay_words,
+    Resource16BitDeserializer, SeqAccess, Spot, Walk, count_resources, determine_endianness,
+    from_bytes, from_bytes_counted, from_words, lay_words,
 };
 pub use resb_write::{BinarySerializerError, Serializer};

@@ -54,9 +54,11 @@ impl From<BinarySerializerError> for CompileError {
 
 /// The bytes of the `.res` file of a bundle's text.
 pub fn compile(alloc: Global, text: &str) -> Result<Vec<u8>, CompileError>
-    // The text is a bundle text, and the file denotes its tree, with its flag in the index and its keys in the key block.
+    // The text is a bundle text, and the file denotes its tree, with its flag in the index and its
+    // keys in the key block.
     ensures ok { IfOk result (λ file. IsCompiled text.now file.items) }
-    // The reader refuses the text, or the writer refuses the tree of a bundle text, each for its named reason or for memory.
+    // The reader refuses the text, or the writer refuses the tree of a bundle text, each for its
+    // named reason or for memory.
     ensures err { IfErr result (IsRefused text.now) }
 {
     let (bundle, keys) = Reader::read(alloc, text)?;

@@ -1,5 +1,5 @@
-//! The page of theorems: each law of the crates below, as a call that does nothing and whose contract
-//! is the law. What a single call promises stands with that call.
+//! The page of theorems: each law of the crates below, as a call that does nothing and whose
+//! contract is the law. What a single call promises stands with that call.
 
 pub use resb_format::laws::{
     bundle_file_passes, charset_survives, counted_is_reached, descriptor_survives,

@@ -1,5 +1,6 @@
-//! ICU resource bundles: the tree, its text form and its binary form, under the paths of the Rust crate `resb`.
-//! What is proved of each call stands with it in the crates below; only `compile` is made here.
+//! ICU resource bundles: the tree, its text form and its binary form, under the paths of the Rust
+//! crate `resb`. What is proved of each call stands with it in the crates below; only `compile` is
+//! made here.
 #![tactic(auto)]
 
 pub mod binary;

@@ -3,12 +3,6 @@
 #![tactic(auto)]
 
 #[cfg(test)]
-mod format_rows;
-#[cfg(test)]
-mod head_rows;
-#[cfg(test)]
-mod parts_rows;
-#[cfg(test)]
 mod pool_rows;
 #[cfg(test)]
 mod way_rows;

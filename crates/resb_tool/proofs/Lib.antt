@@ -1,0 +1,3 @@
+mod HexText
+mod Words
+mod Agreeing

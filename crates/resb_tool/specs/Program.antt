@@ -3,17 +3,48 @@
 --     IsNoInput input e       these bytes have no file, for this reason
 --     HasReason input e       the same, or a stream or memory failed
 --     CountsFile bytes r      what checking a file answers
-use Rattle.std.specs.Prelude.{ℕ, List, [], ◌∷◌, ◌++◌, codes, IsUtf8, Option, Result, Ok, Err}
+--     ReadsCounted bytes r    what `from_bytes_counted::<Resource>` promises of its answer
+--     Agrees bytes r s        the answer of a check beside the answer of such a reading
+use Rattle.std.specs.Prelude.{
+  ◌≡◌,
+  ◌≤◌,
+  ℕ,
+  List,
+  [],
+  ◌∷◌,
+  ◌++◌,
+  codes,
+  IsUtf8,
+  Option,
+  Some,
+  Result,
+  Ok,
+  Err,
+}
 use Rattle.std.specs.Io.KnownBytes.{Appends}
 use Rattle.hex.specs.Hex.{encode_lower}
 use Rattle.resb_format.specs.Error as reading
-use Rattle.resb_format.specs.Error.{kind_of, description_of}
+use Rattle.resb_format.specs.Error.{kind_of, description_of, IsWantOfMemory}
+use Rattle.resb_format.specs.File.{budget}
+use Rattle.resb_format.specs.HeadChecks as checks
+use Rattle.resb_format.specs.HeadChecks.{file_fault, refusal_of}
 use Rattle.resb_format.specs.declared.error.ReadingError.{ReadingError}
-use Rattle.resb_read.specs.Roots.{CountOf}
+use Rattle.resb_read.specs.Reading.{LacksOrMemory}
+use Rattle.resb_read.specs.Resources.{DenPlace, CountsTree}
+use Rattle.resb_read.specs.Roots.{AtRoot, CountOf}
+use Rattle.resb.specs.View.{tree_of}
+use Rattle.resb.specs.declared.bundle.Resource.{Resource}
 use Rattle.resb.specs.Compiling as compiling
 use Rattle.resb.specs.Compiling.{IsCompiled, IsRefused}
 use Rattle.resb_tool.specs.declared.fault.ToolError.{ToolError}
-use Rattle.resb_tool.specs.declared.fault.ToolError.TheVariants.{Input, Output, NotUtf8, Compiling, Checking, Memory}
+use Rattle.resb_tool.specs.declared.fault.ToolError.TheVariants.{
+  Input,
+  Output,
+  NotUtf8,
+  Compiling,
+  Checking,
+  Memory,
+}
 
 pub record Writes (input : List ℕ) (old new : Option (List ℕ)) : Type 0 where
   pub file : List ℕ
@@ -61,3 +92,25 @@ CountsFile bytes (Err (Compiling e)) = ⊥
 CountsFile bytes (Err Input) = ⊥
 CountsFile bytes (Err Output) = ⊥
 CountsFile bytes (Err Memory) = ⊥
+
+abbrev pub ReadsCounted : List ℕ → Result (Resource × ℕ) ReadingError → Type 0
+ReadsCounted bytes (Ok r) =
+    AtRoot (λ p. DenPlace p (tree_of r.0) r.1) bytes × (r.1 ≤ budget bytes)
+ReadsCounted bytes (Err e) =
+    LacksOrMemory (λ n. AtRoot (λ p. CountsTree p n) bytes) (budget bytes) e
+    × ((f : checks.Refusal) → file_fault bytes ≡ Some f → refusal_of e ≡ f)
+
+-- the same count; where one is refused and the other isn't, for want of memory; and where a check
+-- of
+-- the head fails, the same refusal
+abbrev pub Agrees : List ℕ → Result ℕ ToolError → Result (Resource × ℕ) ReadingError → Type 0
+Agrees bytes (Ok n) (Ok r) = n ≡ r.1
+Agrees bytes (Ok n) (Err e) = IsWantOfMemory e
+Agrees bytes (Err (Checking e)) (Ok r) = IsWantOfMemory e
+Agrees bytes (Err (Checking e)) (Err d) =
+    (f : checks.Refusal) → file_fault bytes ≡ Some f → refusal_of e ≡ refusal_of d
+Agrees bytes (Err NotUtf8) r = ⊥
+Agrees bytes (Err (Compiling e)) r = ⊥
+Agrees bytes (Err Input) r = ⊥
+Agrees bytes (Err Output) r = ⊥
+Agrees bytes (Err Memory) r = ⊥

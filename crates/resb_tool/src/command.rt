@@ -1,5 +1,9 @@
 //! The command line: what the words ask for, and what is done with the files that they name.
 //! What is done with their bytes is in `streams`.
+ghost use Rattle.std.specs.Prelude.{◌≡◌, ◌≤◌, map, string_bytes, IfErr};
+ghost use Rattle.resb_tool.specs.Commands.{Asks};
+ghost use Rattle.resb_tool.specs.Program.{status_of};
+
 use crate::fault::ToolError;
 use crate::streams::{check_file, compile_text, run};
 use std::alloc::Global;
@@ -19,7 +23,9 @@ pub enum Command<'a> {
 }
 
 /// What the words after the program's name ask for. Any others than those above are no command.
-pub fn command_of(words: &[String]) -> Option<Command<'_>> {
+pub fn command_of(words: &[String]) -> Option<Command<'_>>
+    ensures { Asks (map string_bytes words.entry.now) result }
+{
     match words {
         [] => Some(Command::Stream),
         [word, input, output] if word.as_str() == "compile" => Some(Command::Compile {
@@ -42,7 +48,9 @@ fn words_of<R: Env + AllocGlobal>(rt: &R) -> io::Result<Vec<String>> {
 
 /// Does what the words of the command line ask, and answers the status to end with: 0, 1 where the
 /// input or memory is refused, 2 for the usage fault and for a file or stream that fails.
-pub fn perform(rt: &HostRuntime) -> u8 {
+pub fn perform(rt: &HostRuntime) -> u8
+    ensures { result ≤ 2 }
+{
     let words = match words_of(rt) {
         Ok(words) => words,
         Err(e) if e.kind() == ErrorKind::OutOfMemory => return refuse(rt, ToolError::Memory),
@@ -59,17 +67,23 @@ pub fn perform(rt: &HostRuntime) -> u8 {
     }
 }
 
-fn usage<R: Eprint>(rt: &R) -> u8 {
+fn usage<R: Eprint>(rt: &R) -> u8
+    ensures { result ≡ 2 }
+{
     let _ = eprintln!(rt; "usage: resb_tool [compile IN OUT | check IN]");
     2
 }
 
-fn refuse<R: Eprint>(rt: &R, e: ToolError) -> u8 {
+fn refuse<R: Eprint>(rt: &R, e: ToolError) -> u8
+    ensures { result ≡ status_of e }
+{
     let _ = eprintln!(rt; "{e}");
     e.status()
 }
 
-fn read_named<R: Files + AllocGlobal + Eprint>(rt: &R, name: &str) -> Result<Vec<u8>, u8> {
+fn read_named<R: Files + AllocGlobal + Eprint>(rt: &R, name: &str) -> Result<Vec<u8>, u8>
+    ensures { IfErr result (λ status. status ≤ 2) }
+{
     match fs::read(rt, name) {
         Ok(bytes) => Ok(bytes),
         Err(e) if e.kind() == ErrorKind::OutOfMemory => Err(refuse(rt, ToolError::Memory)),
@@ -80,8 +94,11 @@ fn read_named<R: Files + AllocGlobal + Eprint>(rt: &R, name: &str) -> Result<Vec
     }
 }
 
-/// The file's bytes are made before OUT is opened; a write fault leaves an unknown part of them there.
-fn compile_named<R: Files + AllocGlobal + Eprint>(rt: &R, input: &str, output: &str) -> u8 {
+/// The file's bytes are made before OUT is opened; a write fault leaves an unknown part of them
+/// there.
+fn compile_named<R: Files + AllocGlobal + Eprint>(rt: &R, input: &str, output: &str) -> u8
+    ensures { result ≤ 2 }
+{
     let text = match read_named(rt, input) {
         Ok(text) => text,
         Err(status) => return status,
@@ -92,6 +109,7 @@ fn compile_named<R: Files + AllocGlobal + Eprint>(rt: &R, input: &str, output: &
     };
     match fs::write(rt, output, file.as_slice()) {
         Ok(()) => 0,
+        Err(e) if e.kind() == ErrorKind::OutOfMemory => refuse(rt, ToolError::Memory),
         Err(_) => {
             let _ = eprintln!(rt; "cannot write {output}");
             2
@@ -99,7 +117,9 @@ fn compile_named<R: Files + AllocGlobal + Eprint>(rt: &R, input: &str, output: &
     }
 }
 
-fn check_named<R: Files + AllocGlobal + Eprint + Print>(rt: &R, input: &str) -> u8 {
+fn check_named<R: Files + AllocGlobal + Eprint + Print>(rt: &R, input: &str) -> u8
+    ensures { result ≤ 2 }
+{
     let file = match read_named(rt, input) {
         Ok(file) => file,
         Err(status) => return status,

@@ -1,5 +1,5 @@
-//! The program: `compile IN OUT`, `check IN`, and with no words a text on standard input to the hex digits of
-//! its file on standard output.
+//! The program: `compile IN OUT`, `check IN`, and with no words a text on standard input to the hex
+//! digits of its file on standard output.
 #![tactic(auto)]
 
 mod command;

@@ -1,10 +1,12 @@
 //! What the program does, over any reader and writer.
 //! The process's own streams are named in `main` alone.
-ghost use Rattle.std.specs.Prelude.{◌≡◌, ◌≢◌, ◌⊎◌, ℕ, List, [], ◌∷◌, ◌++◌, length, ◌<◌, Ok, true, IfOk, OnOk, IfErr, IfSome, IsUtf8, IsOkUnless, string_bytes};
-ghost use Rattle.std.specs.Io.KnownBytes.{Consumes, IsAtEnd, Keeps};
+ghost use Rattle.std.specs.Prelude.{◌≡◌, ◌≢◌, ◌⊎◌, ℕ, List, [], ◌∷◌, ◌++◌, length, ◌<◌, ◌≤◌};
+ghost use Rattle.std.specs.Prelude.{Ok, true, IfOk, OnOk, IfErr, IfSome, IsUtf8, IsOkUnless};
+ghost use Rattle.std.specs.Io.KnownBytes.{Appends, Consumes, IsAtEnd, Keeps};
 ghost use Rattle.hex.specs.Hex.{encode_lower};
 ghost use Rattle.resb.specs.Compiling.{IsCompiled};
-ghost use Rattle.resb_tool.specs.Program.{IsNoInput, Writes, HasReason, CountsFile};
+ghost use Rattle.resb_tool.specs.Program.{IsNoInput, Writes, HasReason};
+ghost use Rattle.resb_tool.specs.Program.{CountsFile, ReadsCounted, Agrees};
 
 use crate::fault::ToolError;
 use std::alloc::Global;
@@ -26,7 +28,9 @@ pub fn compile_text(alloc: Global, input: &[u8]) -> Result<Vec<u8>, ToolError>
 
 /// The number of resources of a file's tree, which is not made. (`resb::binary::count_resources`.)
 pub fn check_file(alloc: Global, file: &[u8]) -> Result<usize, ToolError>
-    ensures { CountsFile file.now result }
+    ensures counts { CountsFile file.now result }
+    // The answer is that of `from_bytes_counted::<Resource>`, want of memory aside.
+    ensures as_read { (r : _) → ReadsCounted file.now r → Agrees file.now result r }
 {
     match resb::binary::count_resources(alloc, file) {
         Ok(count) => Ok(count),
@@ -41,7 +45,9 @@ fn read_some<R: Read>(
     bytes: &mut Vec<u8>,
 ) -> Result<bool, ToolError>
     requires { 0 < length buffer.old }
-    ensures taken { OnOk result ((new : List ℕ) × Consumes (R.remaining reader.old) (R.remaining reader.new) new × (bytes.new.items ≡ bytes.old.items ++ new)) }
+    ensures taken { OnOk result ((new : List ℕ)
+        × Consumes (R.remaining reader.old) (R.remaining reader.new) new
+        × (bytes.new.items ≡ bytes.old.items ++ new)) }
     ensures end { result ≡ Ok true → IsAtEnd (R.remaining reader.new) }
     ensures err { IfErr result (λ e. (e ≡ ToolError.Input) ⊎ (e ≡ ToolError.Memory)) }
 {
@@ -58,7 +64,8 @@ fn read_some<R: Read>(
 
 /// All that the reader has left.
 fn read_all<R: Read>(alloc: Global, reader: &mut R) -> Result<Vec<u8>, ToolError>
-    ensures ok { IfOk result (λ bytes. IfSome (R.remaining reader.old) (λ input. bytes.items ≡ input)) }
+    ensures ok { IfOk result (λ bytes.
+        IfSome (R.remaining reader.old) (λ input. bytes.items ≡ input)) }
     ensures err { IfErr result (λ e. (e ≡ ToolError.Input) ⊎ (e ≡ ToolError.Memory)) }
 {
     let mut buffer = [0u8; 65536];
@@ -71,39 +78,61 @@ fn read_all<R: Read>(alloc: Global, reader: &mut R) -> Result<Vec<u8>, ToolError
     Err(ToolError::Input)
 }
 
-/// The file in lower-case hex digits, and a line feed.
-fn hex_line(alloc: Global, file: &[u8]) -> Result<String, ToolError>
-    ensures ok { IfOk result (λ line. string_bytes line ≡ encode_lower file.now ++ 10 ∷ []) }
-    ensures err { IsOkUnless result ToolError.Memory }
+/// Writes these bytes, of which there are at most as many as a block has, in lower-case hex digits.
+fn write_block<W: Write>(writer: &mut W, bytes: &[u8]) -> Result<(), ToolError>
+    requires { length bytes.now ≤ 16384 }
+    ensures ok { OnOk result
+        (Appends (W.contents writer.old) (W.contents writer.new) (encode_lower bytes.now)) }
+    ensures err { IsOkUnless result ToolError.Output }
 {
-    let Ok(mut line) = hex::encode(alloc, file) else {
-        return Err(ToolError::Memory);
-    };
-    match line.push('\n') {
-        Ok(()) => Ok(line),
-        Err(_) => Err(ToolError::Memory),
+    let mut block = [0u8; 32768];
+    let digits = &mut block[..2 * bytes.len()];
+    if hex::encode_to_slice(bytes, digits).is_err() {
+        return Err(ToolError::Output);
+    }
+    match writer.write_all(digits) {
+        Ok(()) => Ok(()),
+        Err(_) => Err(ToolError::Output),
     }
 }
 
-/// Reads a bundle's text to its end, and writes its file in lower-case hex digits and one line feed.
+/// Writes a file in lower-case hex digits, block after block, and a line feed.
+fn write_line<W: Write>(writer: &mut W, file: &[u8]) -> Result<(), ToolError>
+    ensures ok { let line = encode_lower file.now ++ 10 ∷ [] in
+        OnOk result (Appends (W.contents writer.old) (W.contents writer.new) line) }
+    ensures err { IsOkUnless result ToolError.Output }
+{
+    let mut rest = file;
+    'pieces: while !rest.is_empty() {
+        let (block, others) = rest.split_at(rest.len().min(16384));
+        write_block(writer, block)?;
+        rest = others;
+    }
+    match writer.write_all(b"\n") {
+        Ok(()) => Ok(()),
+        Err(_) => Err(ToolError::Output),
+    }
+}
+
+/// Reads a bundle's text to its end, and writes its file in lower-case hex digits and one line
+/// feed.
 ///
-/// A read that was interrupted is asked again. After a write fault an unknown part was written, else nothing.
+/// A read that was interrupted is asked again. After a write fault an unknown part was written,
+/// else nothing.
 pub fn run<R: Read, W: Write>(
     alloc: Global,
     reader: &mut R,
     writer: &mut W,
 ) -> Result<(), ToolError>
-    ensures ok { OnOk result (IfSome (R.remaining reader.old) (λ input. IsUtf8 input × Writes input (W.contents writer.old) (W.contents writer.new))) }
+    ensures ok { OnOk result (IfSome (R.remaining reader.old)
+        (λ input. IsUtf8 input × Writes input (W.contents writer.old) (W.contents writer.new))) }
     ensures err { IfErr result (λ e. IfSome (R.remaining reader.old) (λ input. HasReason input e)) }
-    ensures kept { IfErr result (λ e. e ≢ ToolError.Output → Keeps (W.contents writer.old) (W.contents writer.new)) }
+    ensures kept { IfErr result (λ e.
+        e ≢ ToolError.Output → Keeps (W.contents writer.old) (W.contents writer.new)) }
 {
     let input = read_all(alloc, reader)?;
     let file = compile_text(alloc, input.as_slice())?;
-    let line = hex_line(alloc, file.as_slice())?;
-    match writer.write_all(line.as_bytes()) {
-        Ok(()) => Ok(()),
-        Err(_) => Err(ToolError::Output),
-    }
+    write_line(writer, file.as_slice())
 }
 
 #[cfg(test)]

@@ -1,5 +1,5 @@
-//! Views of bytes as numbers, the casts between them, and the calls that read one at a place of a file.
-//! They borrow, and need no alignment.
+//! Views of bytes as numbers, the casts between them, and the calls that read one at a place of a
+//! file. They borrow, and need no alignment.
 
 pub use resb_format::{
     I32Pair, I32View, PairView, Utf16View, WordView, cast_bytes_to_u16_slice,

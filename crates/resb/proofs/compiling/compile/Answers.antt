@@ -15,12 +15,22 @@ returns-clause-ok c = record {
     keys = c.in_ok-bundle.keys.items;
     is = c.in_ok-bundle.ensures.ok;
   };
-  file = subst (λ ks. Written c.in_ok-file.file.items (root_of c.in_ok-bundle.bundle) c.in_ok-bundle.bundle.is_locale_fallback_enabled ks) c.as_slice.ensures.value c.in_ok-file.ensures.ok;
+  file =
+      let b = c.in_ok-bundle.bundle in
+      let file = c.in_ok-file.file.items in
+      subst (λ ks. Written file (root_of b) b.is_locale_fallback_enabled ks)
+      c.as_slice.ensures.value c.in_ok-file.ensures.ok;
 }
 
 pub returns-in_err-file-clause-err : goal.returns-in_err-file-clause-err
 returns-in_err-file-clause-err c =
     let b = c.in_ok-bundle.ensures.ok in
     let t = root_of c.in_ok-bundle.bundle in
-    let h : Refused t c.in_ok-bundle.keys.items (fault_of c.in_err-file.field-0.0) = subst (λ ks. Refused t ks (fault_of c.in_err-file.field-0.0)) c.as_slice.ensures.value c.in_err-file.ensures.err in
-    writing_refused c.args.text.now (name_of c.in_ok-bundle.bundle) c.in_ok-bundle.bundle.is_locale_fallback_enabled t c.in_ok-bundle.keys.items c.in_err-file.field-0.0 b h c.from_residual-in_err-file.result c.from_residual-in_err-file.ensures.1
+    let bundle = c.in_ok-bundle.bundle in
+    let keys = c.in_ok-bundle.keys.items in
+    let e = c.in_err-file.field-0.0 in
+    let h : Refused t keys (fault_of e) =
+    subst (λ ks. Refused t ks (fault_of e)) c.as_slice.ensures.value c.in_err-file.ensures.err in
+    let r = c.from_residual-in_err-file in
+    writing_refused c.args.text.now (name_of bundle) bundle.is_locale_fallback_enabled t keys e b h
+    r.result r.ensures.1

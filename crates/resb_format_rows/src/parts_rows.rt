@@ -1,6 +1,8 @@
 //! The parts of a file, and each check of its head in its order: one damage for each.
 //! What the root's word denotes is read in other rows.
-use resb_format::{BinaryDeserializerError, ErrorKind, FileParts};
+use crate::head_rows::damaged;
+use crate::refusals::is_refused;
+use resb_format::{ErrorKind, FileParts};
 use std::test::Fail;
 
 /// The file of the string "a", with locale fallback and no keys.
@@ -80,38 +82,30 @@ const DAMAGES: [(usize, u8, ErrorKind, &str); 16] = [
     (60, 11, ErrorKind::InvalidData, END),
 ];
 
-/// Whether the answer is a refusal of this kind and message.
-fn is_refused(
-    answer: Result<FileParts<'_>, BinaryDeserializerError>,
-    kind: ErrorKind,
-    message: &str,
-) -> bool {
-    match answer {
-        Ok(_) => false,
-        Err(error) => error.kind() == kind && error.message() == message,
+/// Whether the file's parts are those of the string "a".
+fn has_its_parts() -> bool {
+    match FileParts::read(FILE.as_slice()) {
+        Ok(parts) => {
+            parts.root == 0x6000_0001
+                && parts.body == &FILE[32..]
+                && parts.keys == &FILE[32..64]
+                && parts.block == &FILE[64..]
+        }
+        Err(_) => false,
     }
 }
 
 #[test]
-fn a_file_has_its_parts(rt: HostRuntime) -> Result<(), Fail> {
-    let parts = FileParts::read(FILE.as_slice())?;
-    assert_eq!(rt; parts.root, 0x6000_0001);
-    assert_eq!(rt; parts.body.len(), 40);
-    assert_eq!(rt; parts.keys.len(), 32);
-    assert_eq!(rt; parts.block, [0, 0, 0x61, 0, 0, 0, 0xaa, 0xaa].as_slice());
-    Ok(())
+fn a_file_has_its_parts(rt: HostRuntime) {
+    assert!(rt; has_its_parts());
 }
 
 #[test]
 fn each_damage_to_the_head_is_named(rt: HostRuntime) -> Result<(), Fail> {
     for (place, byte, kind, message) in DAMAGES {
-        let mut bytes = Vec::from_slice(rt.alloc(), FILE.as_slice())?;
-        let Some(damaged) = bytes.get_mut(place) else {
-            return Err("a place past the file")?;
-        };
-        *damaged = byte;
-        let answer = FileParts::read(bytes.as_slice());
-        assert!(rt; is_refused(answer, kind, message), "byte {byte} at {place}");
+        let bytes = damaged(rt.alloc(), FILE.as_slice(), place, byte)?;
+        let refused = is_refused(FileParts::read(bytes.as_slice()), kind, message);
+        assert!(rt; refused, "byte {byte} at {place}");
     }
     Ok(())
 }

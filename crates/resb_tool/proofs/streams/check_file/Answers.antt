@@ -1,0 +1,8 @@
+use Rattle.resb_tool.proofs.Agreeing.{agree_ok, agree_err}
+use Rattle.resb_tool.proofs.streams.check_file.Goals as goal
+
+pub returns-in-Ok-clause-as_read : goal.returns-in-Ok-clause-as_read
+returns-in-Ok-clause-as_read c = agree_ok c.args.file.now c.in-Ok.count c.in-Ok.ensures
+
+pub returns-in-Err-clause-as_read : goal.returns-in-Err-clause-as_read
+returns-in-Err-clause-as_read c = agree_err c.args.file.now c.in-Err.e c.in-Err.ensures

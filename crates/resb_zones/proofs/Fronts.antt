@@ -1,0 +1,143 @@
+-- Entries taken one by one: the front of all of them, and what follows where one is refused or none
+-- is left.
+use Rattle.std.proofs.Common.{
+  ℕ,
+  List,
+  [],
+  ◌∷◌,
+  ◌++◌,
+  ◌≡◌,
+  ◌+◌,
+  ◌≤◌,
+  ◌<◌,
+  inl,
+  inr,
+  Option,
+  Some,
+  None,
+  length,
+  length-append,
+  refl,
+  sym,
+  ap,
+  subst,
+  ◌∙◌,
+  append_assoc,
+  append-nil,
+  arith,
+}
+use Rattle.std.specs.List.{All}
+use Rattle.std.proofs.lemmas.List.{get_or-append-add}
+use Rattle.std.proofs.lemmas.List.Elements.{All-append, All-cons, All-nil}
+use Rattle.resb.specs.Places.{Place}
+use Rattle.resb_zones.specs.Zones.{IsNamed, IsReadable, IsLast}
+use Rattle.resb_zones.specs.Inner.Fields.{Takes, LastSoFar, HasTaken, HasSeen, Front}
+use Rattle.resb_zones.specs.declared.fields.Fields.{Fields}
+
+one : {A : Type 0} (P : A → Type 0) (x : A) → P x → All P (x ∷ [])
+one P x h = All-cons P x [] h (All-nil P)
+
+-- what holds of each element holds of one behind a front
+pub at_front : {A : Type 0} (P : A → Type 0) (done : List A) (e : A) (rest : List A)
+    → All P (done ++ e ∷ rest) → P e
+at_front P done e rest h =
+    let long : length (done ++ e ∷ rest) ≡ length done + length (e ∷ rest) =
+    length-append done (e ∷ rest) in
+    subst P (get_or-append-add done (e ∷ rest) 0 e) (h (length done + 0) e (omega arith))
+
+module _ (name : List ℕ) where
+  -- where no entry has the name there is no last one
+  pub none_is_last : (places : List (Place × Place)) (q : Place)
+      → All (λ e. IsNamed name e → ⊥) places → IsLast name places q → ⊥
+  none_is_last places q none l =
+      at_front (λ e. IsNamed name e
+      → ⊥) l.before (
+        l.key,
+        q,
+      ) l.after (subst (All (λ e. IsNamed name e → ⊥)) l.are none) l.named
+
+  module _ {X : Type 0} (reads : Place → X → ℕ
+      → Type 0) (ps : List (Place × Place)) (e : Place × Place) where
+    not_named : (old : Option X) → LastSoFar name reads ps old → (IsNamed name e → ⊥)
+        → LastSoFar name reads (ps ++ e ∷ []) old
+    not_named None none other =
+        All-append (λ e. IsNamed name e
+        → ⊥) ps (e ∷ []) none (one (λ e. IsNamed name e → ⊥) e other)
+    not_named (Some x) (q, l, k, r) other = (
+      q,
+      record {
+        before = l.before;
+        key = l.key;
+        after = l.after ++ e ∷ [];
+        are = ap (λ s. s ++ e ∷ []) l.are ∙ append_assoc l.before ((l.key, q) ∷ l.after) (e ∷ []);
+        named = l.named;
+        last =
+            All-append (λ e. IsNamed name e
+            → ⊥) l.after (e ∷ []) l.last (one (λ e. IsNamed name e → ⊥) e other);
+      },
+      k,
+      r,
+    )
+
+    last_one : IsNamed name e → IsLast name (ps ++ e ∷ []) e.1
+    last_one named =
+        record {
+          before = ps;
+          key = e.0;
+          after = [];
+          are = refl;
+          named = named;
+          last = All-nil (λ e. IsNamed name e → ⊥);
+        }
+
+    -- the last one so far, with one entry more
+    pub last_more : (old new : Option X) → LastSoFar name reads ps old → Takes name reads e old new
+        → LastSoFar name reads (ps ++ e ∷ []) new
+    last_more old new h (inl (named, x, k, r, same)) =
+        subst (LastSoFar name reads (ps ++ e ∷ [])) (sym same)
+        (e.1, last_one named, k, r)
+    last_more old new h (inr (other, same)) =
+        subst (LastSoFar name reads (ps ++ e ∷ [])) (sym same) (not_named old h other)
+
+module _ (all : List (Place × Place)) (e : Place × Place) (rest : List (Place × Place)) (f : Fields)
+    (before left : ℕ) (front : Front all (e ∷ rest) f before left) where
+  pub here : (P : Place × Place → Type 0) → All P all → P e
+  here P h = at_front P front.done e rest (subst (All P) front.are h)
+
+  pub front_takes : (g : Fields) (left' : ℕ) → HasTaken e f g → left' + 1 ≡ left
+      → Front all rest g before left'
+  front_takes g left' t sum =
+      let paid : left + length front.done ≡ before = front.paid in
+      let here_too : All IsReadable (e ∷ []) = one IsReadable e t.readable in
+      let long : length (front.done ++ e ∷ []) ≡ length front.done + 1 =
+      length-append front.done (e ∷ []) in
+      record {
+        done = front.done ++ e ∷ [];
+        are = front.are ∙ sym (append_assoc front.done (e ∷ []) rest);
+        seen = record {
+          each = All-append IsReadable front.done (e ∷ []) front.seen.each here_too;
+          base = last_more _ _ front.done e f.base g.base front.seen.base t.base;
+          pairs = last_more _ _ front.done e f.pairs g.pairs front.seen.pairs t.pairs;
+        };
+        paid = omega arith;
+      }
+
+  pub front_fails : (left' : ℕ) → left' ≤ left → (IsReadable e → left ≡ 0)
+      → (left' ≤ before) × (All IsReadable all → before < length all)
+  front_fails left' falls spent =
+      let paid : left + length front.done ≡ before = front.paid in (
+        omega arith,
+        λ each.
+            let none : left ≡ 0 = spent (here IsReadable each) in
+            let long : length all ≡ length front.done + length (e ∷ rest) = ap length front.are
+            ∙ length-append front.done (e ∷ rest) in
+            omega arith,
+      )
+
+pub front_ends : (all : List (Place × Place)) (f : Fields) (before left : ℕ)
+    → Front all [] f before left → HasSeen all f × (left + length all ≡ before)
+front_ends all f before left front =
+    let same : all ≡ front.done = front.are ∙ append-nil front.done in
+    let paid : left + length front.done ≡ before = front.paid in
+    let long : length all ≡ length front.done = ap length same in
+    (subst (λ ps. HasSeen ps f) (sym same) front.seen, omega arith)

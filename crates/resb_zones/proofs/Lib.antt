@@ -1,0 +1,5 @@
+mod Costs
+mod Steps
+mod Fronts
+mod Takings
+mod Zones

@@ -1,0 +1,46 @@
+-- A zone of what its entries say, and why there is none.
+use Rattle.std.proofs.Common.{ℕ, List, ◌≡◌, ◌+◌, ◌⊎◌, inl, inr, Some, None, length, refl, sym, subst, ◌∙◌}
+use Rattle.std.specs.List.{All}
+use Rattle.resb.specs.Places.{Place}
+use Rattle.resb.specs.Sequences.{entries}
+use Rattle.resb_zones.specs.Zones.{base_name, pairs_name, ReadsNumber, IsNamed, ReadsZone, CountsZone}
+use Rattle.resb_zones.specs.Inner.Fields.{ReadsPairs, LastSoFar, HasSeen}
+use Rattle.resb_zones.specs.declared.fields.Fields.{Fields}
+use Rattle.resb_zones.specs.declared.zone.Zone.{Zone}
+use Rattle.resb_zones.proofs.Fronts.{none_is_last}
+
+some_is : {A : Type 0} {x y : A} → Some x ≡ Some y → x ≡ y
+some_is e = cc
+
+module _ (p : Place) (places : List (Place
+    × Place)) (are : entries p ≡ Some places) (f : Fields) (seen : HasSeen places f) where
+  pub zone_is : (z : Zone) → f.base ≡ Some z.base → f.pairs ≡ Some z.pairs
+      → ReadsZone p z (1 + length places)
+  zone_is z base pairs =
+      let (q, last, k, value) = subst (LastSoFar base_name ReadsNumber places) base seen.base in
+      let (r, last', k', value') =
+      subst (LastSoFar pairs_name ReadsPairs places) pairs seen.pairs in
+      record {
+        places = places;
+        are = are;
+        each = seen.each;
+        base = q;
+        base_last = last;
+        base_read = (k, value);
+        pairs = r;
+        pairs_last = last';
+        pairs_read = (k', value');
+        count = refl;
+      }
+
+  pub no_zone : (f.base ≡ None) ⊎ (f.pairs ≡ None) → (n : ℕ) → CountsZone p n → ⊥
+  no_zone (inl none) n h =
+      let same : places ≡ h.places = some_is (sym are ∙ h.are) in
+      let lacks = subst (LastSoFar base_name ReadsNumber places) none seen.base in
+      none_is_last base_name h.places h.base (subst (All (λ e. IsNamed base_name e
+      → ⊥)) same lacks) h.base_last
+  no_zone (inr none) n h =
+      let same : places ≡ h.places = some_is (sym are ∙ h.are) in
+      let lacks = subst (LastSoFar pairs_name ReadsPairs places) none seen.pairs in
+      none_is_last pairs_name h.places h.pairs (subst (All (λ e. IsNamed pairs_name e
+      → ⊥)) same lacks) h.pairs_last

@@ -1,0 +1,43 @@
+-- The laws of zones and of tables of zones: a reading has its count, and a place has at most one.
+use Rattle.std.specs.Prelude.{◌≡◌, ◌+◌, ℕ, Some, length}
+use Rattle.std.specs.Ordering.{nat_cmp}
+use Rattle.std.specs.Cmp.Lexicographic.{slice_cmp}
+use Rattle.std.proofs.Common.{sym, ap, ◌∙◌, arith}
+use Rattle.resb.specs.Places.{Place}
+use Rattle.resb.specs.Leaves.{ReadsKey, CountsKey}
+use Rattle.resb.specs.LeafLaws.{key_counted, key_one}
+use Rattle.resb.specs.SequenceLaws.{map_counted, map_one}
+use Rattle.resb_zones.specs.Zones.{ReadsZone, CountsZone, ReadsTable, CountsTable}
+use Rattle.resb_zones.specs.declared.zone.Zone.{Zone}
+use Rattle.resb_zones.specs.declared.table.ZoneTable.{ZoneTable}
+
+pub zone_counted : (p : Place) (z : Zone) (n : ℕ) → ReadsZone p z n → CountsZone p n
+zone_counted p z n h =
+    record {
+      places = h.places;
+      are = h.are;
+      each = h.each;
+      base = h.base;
+      base_last = h.base_last;
+      pairs = h.pairs;
+      pairs_last = h.pairs_last;
+      count = h.count;
+    }
+
+some_injective : {A : Type 0} {x y : A} → Some x ≡ Some y → x ≡ y
+some_injective e = cc
+
+pub zone_one : (p : Place) (m n : ℕ) → CountsZone p m → CountsZone p n → m ≡ n
+zone_one p m n h k =
+    let same : length h.places ≡ length k.places = ap length (some_injective (sym h.are ∙ k.are)) in
+    let f : m ≡ 1 + length h.places = h.count in
+    let g : n ≡ 1 + length k.places = k.count in omega arith
+
+pub table_counted : (p : Place) (t : ZoneTable) (n : ℕ) → ReadsTable p t n → CountsTable p n
+table_counted p t n =
+    map_counted (λ q s m. ReadsKey q s.now m) ReadsZone CountsKey CountsZone
+    (λ q s m. key_counted q s.now m) zone_counted (λ x y. slice_cmp nat_cmp x.now y.now)
+    p t.zones.entries n
+
+pub table_one : (p : Place) (m n : ℕ) → CountsTable p m → CountsTable p n → m ≡ n
+table_one = map_one CountsKey CountsZone key_one zone_one

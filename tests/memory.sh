@@ -1,0 +1,167 @@
+#!/usr/bin/env bash
+# Refuses the first, the second, .. request for memory of the built program, one in each run, until a run
+# asks for no more. Each run has to answer want of memory or what it answers with ample memory; it writes
+# to standard output or to OUT nothing or all, and never ends by a signal.
+#
+# tests/memory.sh [MOST]    at most MOST requests for each command and input; without it all of them
+set -uo pipefail
+top=$(cd "$(dirname "$0")/.." && pwd)
+most=${1:-1000000}
+program=$top/crates/resb_tool/out/resb_tool
+work=$(mktemp -d)
+trap 'rm -rf "$work"' EXIT
+passed=0
+failed=0
+
+# A preloaded `malloc` and its kin. It refuses the request that REFUSED_REQUEST counts, from 1 on, and then
+# writes one byte to descriptor 9.
+cat > "$work/refuse.c" <<'C'
+#define _GNU_SOURCE
+#include <errno.h>
+#include <stdlib.h>
+#include <unistd.h>
+
+void *__libc_malloc(size_t);
+void *__libc_calloc(size_t, size_t);
+void *__libc_realloc(void *, size_t);
+void *__libc_memalign(size_t, size_t);
+
+static long refused = -1;
+static long requests = 0;
+
+static int refuses(void) {
+  if (refused < 0) {
+    const char *number = getenv("REFUSED_REQUEST");
+    refused = number ? atol(number) : 0;
+  }
+  requests++;
+  if (requests != refused) return 0;
+  if (write(9, "x", 1) < 0) _exit(99);
+  errno = ENOMEM;
+  return 1;
+}
+
+void *malloc(size_t n) { return refuses() ? NULL : __libc_malloc(n); }
+void *calloc(size_t k, size_t n) { return refuses() ? NULL : __libc_calloc(k, n); }
+void *realloc(void *p, size_t n) { return refuses() ? NULL : __libc_realloc(p, n); }
+void *memalign(size_t a, size_t n) { return refuses() ? NULL : __libc_memalign(a, n); }
+void *aligned_alloc(size_t a, size_t n) { return memalign(a, n); }
+int posix_memalign(void **p, size_t a, size_t n) {
+  *p = memalign(a, n);
+  return *p ? 0 : ENOMEM;
+}
+C
+gcc -O2 -shared -fPIC -o "$work/refuse.so" "$work/refuse.c" || exit 3
+
+# answer NUMBER WORD..: runs the program on the file `in`; the request with this number is refused.
+# What it wrote is in out, err and res, its status in `status`, and `refused` says whether one was.
+answer() {
+  local number=$1
+  shift
+  rm -f "$work/out.res"
+  : > "$work/mark"
+  status=0
+  REFUSED_REQUEST=$number LD_PRELOAD=$work/refuse.so "$program" "$@" \
+    < "$work/in" > "$work/out" 2> "$work/err" 9> "$work/mark" || status=$?
+  refused=no
+  [ -s "$work/mark" ] && refused=yes
+}
+
+# whether what is on standard error says that memory was wanted
+says_memory() {
+  case $(cat "$work/err") in
+    'out of memory' | 'Out of memory: while writing' | 'Out of memory: while reading') ;;
+    $'Parse error while reading text bundle:\nat byte 0: expected memory') ;;
+    *) return 1 ;;
+  esac
+}
+
+# whether OUT is as the run with ample memory left it
+same_file() {
+  if [ -e "$work/want.res" ]; then cmp -s "$work/out.res" "$work/want.res"; else [ ! -e "$work/out.res" ]; fi
+}
+
+# holds NAME NUMBER WORD..: one run with one request refused
+holds() {
+  local name=$1 number=$2
+  shift 2
+  answer "$number" "$@"
+  if [ "$status" = "$want" ] && cmp -s "$work/out" "$work/want_out" \
+    && cmp -s "$work/err" "$work/want_err" && same_file; then
+    passed=$((passed + 1))
+  elif [ "$refused" = yes ] && [ "$status" = 1 ] && [ ! -s "$work/out" ] && says_memory \
+    && [ ! -e "$work/out.res" ]; then
+    passed=$((passed + 1))
+  else
+    failed=$((failed + 1))
+    echo "failed: $name, request $number (status $status)"
+    head -c 300 "$work/out" "$work/err"
+  fi
+}
+
+# refuses_each NAME WORD..: the answer with ample memory, and then each request refused in turn
+refuses_each() {
+  local name=$1 number
+  shift
+  rm -f "$work/want.res"
+  answer 0 "$@"
+  want=$status
+  cp "$work/out" "$work/want_out"
+  cp "$work/err" "$work/want_err"
+  if [ -e "$work/out.res" ]; then cp "$work/out.res" "$work/want.res"; fi
+  for ((number = 1; number <= most; number++)); do
+    holds "$name" "$number" "$@"
+    [ "$refused" = yes ] || break
+  done
+  echo "  $name: $((number - 1)) requests refused in turn, status $want with ample memory"
+}
+
+# commands NAME: the three commands on the text in `text` and the file in `file`
+commands() {
+  cp "$work/text" "$work/in"
+  refuses_each "$1 on standard input"
+  : > "$work/in"
+  refuses_each "$1 compiled" compile "$work/text" "$work/out.res"
+  refuses_each "$1 checked" check "$work/file"
+}
+
+# bytes HEX: these bytes
+bytes() { printf "$(printf '%s' "$1" | tr -d ' \n' | sed 's/../\\x&/g')"; }
+
+printf 'b{}' > "$work/in"
+"$top/run" < "$work/in" > /dev/null || exit 3
+
+# a flat table, and its file
+{
+  printf 'flat{'
+  for ((entry = 0; entry < 40; entry++)); do printf 'key%02d{"value %d"}' $((entry * 7 % 40)) "$entry"; done
+  printf '}'
+} > "$work/text"
+"$program" compile "$work/text" "$work/file" || exit 3
+commands 'a flat table'
+
+# a text of each type, nested; and the file of an array of two arrays of two empty strings
+cat > "$work/text" <<'T'
+types {
+  table { inner { a { "1" } b { "2" } } empty {} }
+  array:array { "x", "y" { "z" } :int { -1 } }
+  bytes:bin { "00fF10" }
+  numbers:intvector { 1, -1, +7, }
+  number:int { 42 } // the answer
+  string:string { "text" /* and a comment */ }
+}
+T
+bytes '2000da27 14000000 00000200 52657342 02000000 01040000 0000000000000000
+  0a000080 07000000 08000000 0d000000 0d000000 00000000 00000000 0a000000
+  00000200 00000000 02000000 01000090 01000090' > "$work/file"
+commands 'each type'
+
+# a text and a file that are refused
+printf 'b { a { "x" } c { "y" { "z" } , } d' > "$work/text"
+bytes '2000da27 14000000 00000200 52657342 02000000 01040000 0000000000000000
+  09000080 07000000 08000000 0b000000 0b000000 00000000 00000000 09000000
+  0000aaaa 01000000 09000080' > "$work/file"
+commands 'what is refused'
+
+echo "memory: $passed passed, $failed failed"
+[ "$failed" = 0 ]

@@ -3,7 +3,7 @@
 use crate::way_rows::digits;
 use resb_read::from_bytes;
 use resb_text::Reader;
-use resb_tree::{Key, Resource, ResourceBundle, Table};
+use resb_tree::{Int28, Key, Resource, ResourceBundle, Table};
 use resb_write::{BinarySerializerError, Serializer};
 use std::alloc::Global;
 use std::borrow::CowStr;
@@ -152,9 +152,9 @@ fn a_table_of_65536_entries(rt: HostRuntime) -> Result<(), Fail> {
     let mut table: Table = BTreeMap::new(alloc);
     let mut keys = Vec::new(alloc);
     for number in 0..65536u32 {
-        let key = format!(in alloc; "{number:05}")?;
-        keys.push(Key::from(key.try_clone(alloc)?))?;
-        table.insert(Key::from(key), Resource::Integer(0u32.into()))?;
+        let key = Key::from(format!(in alloc; "{number:05}")?);
+        keys.push(key.try_clone(alloc)?)?;
+        table.insert(key, Resource::Integer(Int28::from(0u32)))?;
     }
     let file = written(alloc, Resource::Table(table), &keys)?;
     let root = word(&file, 0)?;
@@ -162,10 +162,11 @@ fn a_table_of_65536_entries(rt: HostRuntime) -> Result<(), Fail> {
     let body = (root & 0x0fff_ffff) as usize;
     assert_eq!(rt; word(&file, body)?, 65536);
     assert_eq!(rt; word(&file, body + 65536)?, 393_242);
-    let Resource::Table(read) = from_bytes(alloc, &file)? else {
-        return Err("no table")?;
-    };
-    assert_eq!(rt; read.len(), 65536);
+    let tree: Resource = from_bytes(alloc, &file)?;
+    match &tree {
+        Resource::Table(read) => assert_eq!(rt; read.len(), 65536),
+        _ => return Err("no table")?,
+    }
     Ok(())
 }
 

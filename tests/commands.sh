@@ -38,8 +38,10 @@ printf 'b{}/*' > "$work/in"
 answers 'an open comment' 1 '' 'Parse error while reading text bundle:\nat byte 3: expected the end of the text\n'
 printf 'b{"x"}' > "$work/in"
 answers 'a key alone' 1 '' "Parse error while reading text bundle:\nat byte 5: expected '{'\n"
-printf 'b{k{aaaaaaaaaaaaaaaaaaaaaaaaaaaaaaaaaaaaaaaaa}}' > "$work/in"
-answers 'a string that is not written yet' 1 '' 'Unexpected error: not written yet\n'
+printf 'b{d:bin{"00"}e:bin{"00"}}' > "$work/in"
+answers 'two binaries' 0 "${header}110000200700000009000000150000001500000002000000000000000a000000640065000000aaaaaaaaaaaa0100000000aaaaaaaaaaaaaaaaaaaaaa0100000000aaaaaa020020002200aaaa0b0000100f000010\n" ''
+printf 'b{a:array{"" "x"}}' > "$work/in"
+answers 'an array of strings' 0 "${header}0c00002007000000090000000e0000000e00000001000000000000000c0000006100aaaa0000780000000200000001000100200003000090\n" ''
 
 # a standard output that takes nothing
 status=0

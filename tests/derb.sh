@@ -1,6 +1,6 @@
 #!/usr/bin/env bash
 # ICU opens compiled files: what its derb prints of a file is a text again, and that text has the same file.
-# Run by hand, where derb is installed; a text that the writer doesn't lay out yet is passed over.
+# Run by hand, where derb is installed.
 # derb prints neither `:table(nofallback)` nor quotes around a key, and keys in their order, so no text
 # here needs the first two, and each has its keys in order.
 set -uo pipefail
@@ -10,7 +10,6 @@ work=$(mktemp -d)
 trap 'rm -rf "$work"' EXIT
 passed=0
 failed=0
-waiting=0
 command -v derb > /dev/null || { echo 'derb.sh: derb is not on PATH' >&2; exit 3; }
 printf 'b{}' | "$top/run" > /dev/null || exit 3
 
@@ -19,10 +18,6 @@ opened() {
   local derbed=0
   printf '%s' "$1" > "$work/text"
   if ! "$program" compile "$work/text" "$work/b.res" 2> "$work/err"; then
-    if [ "$(cat "$work/err")" = 'Unexpected error: not written yet' ]; then
-      waiting=$((waiting + 1))
-      return
-    fi
     derbed=1
   fi
   derb -c -s "$work" b > "$work/printed" 2> "$work/err" || derbed=1
@@ -47,5 +42,5 @@ opened 'b{a:bin{"00ff10"}}'
 opened 'b{a:array{"x","y"}t{u{v{"w"}}}}'
 opened 'b{k{"aaaaaaaaaaaaaaaaaaaaaaaaaaaaaaaaaaaaaaaaa"}}'
 
-echo "derb: $passed passed, $failed failed, $waiting not written yet"
+echo "derb: $passed passed, $failed failed"
 [ "$failed" = 0 ]

@@ -14,6 +14,7 @@ pub use Rattle.resb_format.specs.Denotes
 pub use Rattle.resb_format.specs.File
 pub use Rattle.resb_write.specs.Written
 pub mod Compiling
+pub mod Laws
 pub use Rattle.resb_format.specs.Strings
 pub use Rattle.resb_format.specs.Content
 pub use Rattle.resb_format.specs.Error

@@ -1,0 +1,97 @@
+#!/usr/bin/env python3
+"""Compares writers on the texts of random trees, byte for byte.
+
+    write_compare.py OURS OTHER [COUNT [SEED]]
+
+OURS is a program that takes the words `compile IN OUT`. OTHER is a command that is given texts on
+standard input, a line of hex digits each, and answers each by a line: the hex digits of its file.
+Two texts in seven are one array of strings that share suffixes, so that the pool is all there is.
+The first difference is printed and ends the run with status 1.
+"""
+import random
+import shlex
+import subprocess
+import sys
+import tempfile
+
+LETTERS = ['a', 'b', 'ab', 'x', 'é', '\U0001f600', '\ue000', '\0']
+
+
+def string(rng, known):
+    """A new text, a known one again, the end of a known one, or one with a known end."""
+    kind = rng.randrange(6)
+    if known and kind == 0:
+        text = rng.choice(known)
+    elif known and kind == 1:
+        end = rng.choice(known)
+        text = end[rng.randrange(len(end) + 1):]
+    elif known and kind == 2:
+        text = rng.choice(LETTERS) + rng.choice(known)
+    else:
+        length = rng.choice([0, 1, 1, 2, 3, 5, 8, 39, 40, 41, 42, 100])
+        text = ''.join(rng.choice(LETTERS) for _ in range(length))
+        if rng.random() < 0.01:
+            text = rng.choice('ab') * rng.choice([1006, 1007, 3000])
+    known.append(text)
+    return '"%s"' % text
+
+
+def strings(rng, known):
+    return '{%s}' % ' '.join(string(rng, known) for _ in range(rng.randrange(1, 12)))
+
+
+def entries(rng, known, depth):
+    keys = ['k', 'l', 'key', 'ey', 'a', 'zz', '"é"', 'K', '0']
+    count = rng.choice([0, 1, 1, 2, 3, 5])
+    return ''.join('%s%s' % (rng.choice(keys), value(rng, known, depth)) for _ in range(count))
+
+
+def value(rng, known, depth):
+    kind = rng.randrange(9 if depth else 5)
+    if kind <= 1:
+        return ':string{%s}' % string(rng, known)
+    if kind == 2:
+        return ':int{%d}' % rng.choice([0, 1, -1, 7, 268435455, 4294967295])
+    if kind == 3:
+        data = bytes(rng.randrange(256) for _ in range(rng.choice([0, 1, 2, 3, 4, 15, 16, 17, 33])))
+        return ':bin{"%s"}' % data.hex()
+    if kind == 4:
+        return ':intvector{%s}' % ','.join(str(rng.randrange(-5, 70000)) for _ in range(rng.choice([0, 1, 2, 5])))
+    if kind == 5:
+        return ':array' + strings(rng, known)
+    if kind == 6:
+        return ':array{%s}' % ' '.join(value(rng, known, depth - 1) for _ in range(rng.choice([0, 1, 2, 4])))
+    return ':table{%s}' % entries(rng, known, depth - 1)
+
+
+def text(rng):
+    known = []
+    if rng.randrange(7) < 2:
+        return 'b{a:array%s}' % strings(rng, known)
+    flag = rng.choice(['', '', ':table(nofallback)'])
+    return 'b%s{%s}' % (flag, entries(rng, known, 4))
+
+
+def main():
+    ours = shlex.split(sys.argv[1])
+    other = shlex.split(sys.argv[2])
+    count = int(sys.argv[3]) if len(sys.argv) > 3 else 1000
+    rng = random.Random(int(sys.argv[4]) if len(sys.argv) > 4 else 1)
+    texts = [text(rng).encode() for _ in range(count)]
+    lines = ''.join('%s\n' % one.hex() for one in texts)
+    answers = subprocess.run(other, input=lines.encode(), stdout=subprocess.PIPE, check=True).stdout.decode().split('\n')
+    folder = tempfile.mkdtemp()
+    for one, wanted in zip(texts, answers):
+        with open(folder + '/in', 'wb') as f:
+            f.write(one)
+        run = subprocess.run(ours + ['compile', folder + '/in', folder + '/out'], stderr=subprocess.PIPE)
+        found = open(folder + '/out', 'rb').read().hex() if run.returncode == 0 else run.stderr.decode()
+        if found != wanted:
+            print('%r\nfound  %s\nwanted %s' % (one, found, wanted))
+            return 1
+    print('%d texts, no difference' % len(texts))
+    return 0
+
+
+if __name__ == '__main__':
+    sys.exit(main())

@@ -13,45 +13,8 @@ trap 'rm -rf "$work"' EXIT
 passed=0
 failed=0
 
-# A preloaded `malloc` and its kin. It refuses the request that REFUSED_REQUEST counts, from 1 on, and then
-# writes one byte to descriptor 9.
-cat > "$work/refuse.c" <<'C'
-#define _GNU_SOURCE
-#include <errno.h>
-#include <stdlib.h>
-#include <unistd.h>
-
-void *__libc_malloc(size_t);
-void *__libc_calloc(size_t, size_t);
-void *__libc_realloc(void *, size_t);
-void *__libc_memalign(size_t, size_t);
-
-static long refused = -1;
-static long requests = 0;
-
-static int refuses(void) {
-  if (refused < 0) {
-    const char *number = getenv("REFUSED_REQUEST");
-    refused = number ? atol(number) : 0;
-  }
-  requests++;
-  if (requests != refused) return 0;
-  if (write(9, "x", 1) < 0) _exit(99);
-  errno = ENOMEM;
-  return 1;
-}
-
-void *malloc(size_t n) { return refuses() ? NULL : __libc_malloc(n); }
-void *calloc(size_t k, size_t n) { return refuses() ? NULL : __libc_calloc(k, n); }
-void *realloc(void *p, size_t n) { return refuses() ? NULL : __libc_realloc(p, n); }
-void *memalign(size_t a, size_t n) { return refuses() ? NULL : __libc_memalign(a, n); }
-void *aligned_alloc(size_t a, size_t n) { return memalign(a, n); }
-int posix_memalign(void **p, size_t a, size_t n) {
-  *p = memalign(a, n);
-  return *p ? 0 : ENOMEM;
-}
-C
-gcc -O2 -shared -fPIC -o "$work/refuse.so" "$work/refuse.c" || exit 3
+. "$top/tests/refusing.sh"
+make_refusing "$work/refuse.so" || exit 3
 
 # answer NUMBER WORD..: runs the program on the file `in`; the request with this number is refused.
 # What it wrote is in out, err and res, its status in `status`, and `refused` says whether one was.

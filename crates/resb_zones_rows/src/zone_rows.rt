@@ -227,6 +227,7 @@ fn is_refused(alloc: Global, row: &Refused) -> Result<bool, Fail> {
     let file = file_of(alloc, row.words)?;
     match from_bytes::<ZoneTable>(alloc, file.as_slice()) {
         Ok(_) => Ok(false),
+        Err(error) if error.is_out_of_memory() => Err(error)?,
         Err(error) => Ok(error.kind() == row.kind && error.message() == row.message),
     }
 }

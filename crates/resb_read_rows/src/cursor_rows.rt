@@ -1,4 +1,5 @@
-//! Cursors, accesses and named deserializers, step by step: what each step takes from the budget, and
+//! Cursors, accesses and named deserializers, step by step: what each step takes from the budget,
+//! and
 //! what an access answers behind its last step and behind an error.
 use crate::answers::line_of_refusal;
 use crate::asks::line;

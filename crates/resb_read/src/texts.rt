@@ -117,8 +117,8 @@ impl<'de> Cursor<'de> {
     /// Reads a key, which lives as long as the file.
     pub fn read_str(self, walk: &mut Walk) -> Result<&'de str, BinaryDeserializerError>
         ensures { let p = place_of self.entry in
-            Reads (key_fault self.entry.at walk.old) (λ s n. ReadsKey p s.now n) (CountsKey p) walk.old walk.new
-            result }
+            Reads (key_fault self.entry.at walk.old) (λ s n. ReadsKey p s.now n) (CountsKey p)
+            walk.old walk.new result }
     {
         match self.at {
             Spot::Key(position) => match self.file.key(position) {

@@ -1,6 +1,6 @@
 -- Members read one by one.
 use Rattle.std.proofs.Common.{ℕ, List, [], ◌∷◌, ◌++◌, ◌≡◌, ◌+◌, ◌≤◌, refl, sym, ◌∙◌, ap, subst}
-use Rattle.std.proofs.Common.{arith, ◌⊎◌, inl, inr, append_assoc, append-nil, Ok, Err, Some, None}
+use Rattle.std.proofs.Common.{arith, inl, inr, append_assoc, append-nil, Ok, Err, Some, None}
 use Rattle.resb_read.specs.Places.{Place}
 use Rattle.resb_read.specs.Sequences.{ReadsEach, CountsEach}
 use Rattle.resb_read.specs.Reading.{LacksOrMemory}

@@ -1,6 +1,6 @@
 -- What is read at the root, as what the file is.
-use Rattle.std.proofs.Common.{ℕ, List, ◌≡◌, ◌≤◌, ◌+◌, ◌⊎◌, inl, inr, Result, Ok, Err, Some, None}
-use Rattle.std.proofs.Common.{refl, sym, subst, arith}
+use Rattle.std.proofs.Common.{ℕ, List, ◌≡◌, ◌≤◌, ◌+◌, inr, Result, Ok, Err, Some, None}
+use Rattle.std.proofs.Common.{subst, arith}
 use Rattle.std.specs.Prelude.{◌-◌}
 use Rattle.std.specs.Result.{IfOk, IfErr}
 use Rattle.resb_tree.specs.Tree.{Tree}
@@ -14,7 +14,7 @@ use Rattle.resb_format.specs.declared.error.ReadingError.{ReadingError}
 use Rattle.resb_walk.specs.Refusals.{Refuses}
 use Rattle.resb_read.specs.Places.{Place}
 use Rattle.resb_read.specs.Resources.{DenPlace, ReachesPlace, ReadsTree}
-use Rattle.resb_read.specs.Roots.{root_place, AtRoot, RefusesFile, TreeOf, CountOf}
+use Rattle.resb_read.specs.Roots.{root_place, AtRoot, RefusesFile, TreeOf}
 
 pub passes : (bytes : List ℕ) → file_fault bytes ≡ None → IsBundleFile bytes
 passes bytes e = (bundle_file_passes bytes).0 e

@@ -1,7 +1,7 @@
 -- Members one by one, and their number.
 use Rattle.resb_format.proofs.Spelled.{words_length}
-use Rattle.std.proofs.Common.{ℕ, List, [], ◌∷◌, ◌≡◌, ◌+◌, ◌-◌, ◌<◌, length, map, drop, refl, ap}
-use Rattle.std.proofs.Common.{◌∙◌, sym, subst, arith}
+use Rattle.std.proofs.Common.{List, [], ◌∷◌, ◌≡◌, ◌<◌, length, map, drop, ap}
+use Rattle.std.proofs.Common.{◌∙◌, sym, arith}
 use Rattle.std.proofs.lemmas.List.{length-map}
 
 pub map_first : {A B : Type 0} (f : A → B) (xs : List A) (x : A) (rest : List A) → xs ≡ x ∷ rest

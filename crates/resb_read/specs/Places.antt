@@ -1,5 +1,4 @@
 -- Places in a file, as contracts see them.
-use Rattle.std.specs.Prelude.{ℕ}
 use Rattle.resb_format.specs.Parts.{Parts}
 use Rattle.resb_format.specs.Content.{Member, word, unit}
 use Rattle.resb_walk.specs.Files.{parts_in}

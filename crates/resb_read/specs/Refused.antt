@@ -4,6 +4,7 @@
 --                             but that and want of memory
 --     number_refusal s left, bool_refusal s left
 --                             what is answered where no number or bool is read
+--     key_fault s left e      the same for a key, whose own faults are not told apart
 use Rattle.std.specs.Prelude.{◌≡◌, ◌⊎◌, ◌==◌, ◌||◌, ◌&&◌, not, nat_lt, ℕ, List, codes}
 use Rattle.std.specs.Prelude.{if◌then◌else◌}
 use Rattle.resb_format.specs.HeadChecks.{Refusal, invalid, unsupported, refusal_of}
@@ -68,6 +69,13 @@ no_value (spot.Descriptor w) left = paid left (type_refusal (type_in w) elsewher
 no_value (spot.Unit u) left = paid left elsewhere
 no_value (spot.Word w) left = elsewhere
 no_value (spot.Key k) left = elsewhere
+
+-- no key is read: another place, or a fault of the key itself
+abbrev pub key_fault : Spot → ℕ → ReadingError → Type 0
+key_fault (spot.Key k) left e = IsFault e
+key_fault (spot.Descriptor w) left e = Says (no_value (spot.Descriptor w) left) e
+key_fault (spot.Unit u) left e = Says (no_value (spot.Unit u) left) e
+key_fault (spot.Word w) left e = Says (no_value (spot.Word w) left) e
 
 -- the type of what stands at a place isn't told
 abbrev pub untold : Spot → Refusal

@@ -29,8 +29,7 @@ pub(crate) fn elsewhere() -> BinaryDeserializerError
 }
 
 /// The refusal at a place that a type does not read. A descriptor and a string's unit cost one of
-/// the
-/// budget before they are looked at, and a descriptor's type has to be one that is read at all.
+/// the budget before they are looked at, and a descriptor's type has to be one that is read at all.
 pub(crate) fn refused_here(at: Spot, walk: &mut Walk) -> BinaryDeserializerError
     ensures falls { walk.new ≤ walk.old }
     ensures blames { Blames walk.old result }

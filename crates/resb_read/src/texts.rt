@@ -9,7 +9,7 @@ ghost use Rattle.resb_walk.specs.Files.{parts_in};
 ghost use Rattle.resb_walk.specs.Refusals.{IsFault};
 ghost use Rattle.resb_read.specs.Places.{place_of};
 ghost use Rattle.resb_read.specs.Reading.{Reads, LacksOrMemory};
-ghost use Rattle.resb_read.specs.Refused.{Blames};
+ghost use Rattle.resb_read.specs.Refused.{Blames, key_fault};
 ghost use Rattle.resb_read.specs.Leaves.{type_in, value_in, units_as_bytes, counted_bytes};
 ghost use Rattle.resb_read.specs.Leaves.{bytes_of_type, ReadsText, CountsText, ReadsKey, CountsKey};
 ghost use Rattle.resb_read.specs.Leaves.{ReadsBytes, CountsBytes};
@@ -117,8 +117,8 @@ impl<'de> Cursor<'de> {
     /// Reads a key, which lives as long as the file.
     pub fn read_str(self, walk: &mut Walk) -> Result<&'de str, BinaryDeserializerError>
         ensures { let p = place_of self.entry in
-            Reads (Blames walk.old) (λ s n. ReadsKey p s.now n) (CountsKey p) walk.old walk.new
-            result }
+            Reads (key_fault self.entry.at walk.old) (λ s n. ReadsKey p s.now n) (CountsKey p)
+            walk.old walk.new result }
     {
         match self.at {
             Spot::Key(position) => match self.file.key(position) {

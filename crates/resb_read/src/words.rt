@@ -1,7 +1,9 @@
 //! Files that are handed in as words, and the order of bytes that a file names.
 //! Files of bytes are read in `entry`.
+ghost use Rattle.std.specs.Prelude.{◌*◌, length, IsOk};
 ghost use Rattle.std.specs.Prelude.{◌≡◌, ◌≤◌, ◌⊎◌, true, ℕ, [], None, Some, slice_index};
 ghost use Rattle.std.specs.Prelude.{MatchResult, IfOk, IfErr};
+ghost use Rattle.std.specs.Vec.{vec_capacity};
 ghost use Rattle.std.specs.Int.{to_le_bytes, w32};
 ghost use Rattle.std.specs.List.{flat_map};
 ghost use Rattle.resb_format.specs.Codes.{endianness_number};
@@ -18,15 +20,17 @@ use resb_format::{BinHeader, BinaryDeserializerError, Endianness, ReadingError};
 use std::alloc::Global;
 
 /// Lays the bytes of words in a buffer, each with its lowest byte first. What the buffer held goes.
-/// Room for all bytes is asked for once; where it is refused the buffer is empty.
+/// Room for all bytes is asked for once, and only where the buffer has too little; where it is
+/// refused the buffer is empty.
 pub fn lay_words(
     _alloc: Global,
     words: &[u32],
     buffer: &mut Vec<u8>,
 ) -> Result<(), BinaryDeserializerError>
-    ensures { MatchResult result
+    ensures lays { MatchResult result
         (λ _. buffer.new.items ≡ flat_map (to_le_bytes w32) words.now)
         (λ e. IsWantOfMemory e × (buffer.new.items ≡ [])) }
+    ensures room { 4 * length words.now ≤ vec_capacity buffer.old → IsOk result }
 {
     buffer.clear();
     let Some(size) = words.len().checked_mul(4) else {

@@ -1,5 +1,6 @@
 -- From one entry of a table to the next.
-use Rattle.std.proofs.Common.{ℕ, List, [], ◌∷◌, ◌≡◌, ◌+◌, ◌≤◌, Some, None, Ok, refl, sym, ◌∙◌, ap, subst, inl, inr, arith, length}
+use Rattle.std.proofs.Common.{ℕ, List, [], ◌∷◌, ◌≡◌, ◌+◌, ◌≤◌, Some, None, Ok, refl, sym, ◌∙◌, ap}
+use Rattle.std.proofs.Common.{subst, inl, inr, arith, length}
 use Rattle.std.specs.Prelude.{codes}
 use Rattle.resb_format.specs.declared.error.ReadingError.{ReadingError}
 use Rattle.resb_read.specs.Places.{Place, place_of}
@@ -7,35 +8,48 @@ use Rattle.resb_read.specs.Reading.{LacksOrMemory}
 use Rattle.resb_read.specs.Access.{Entries, EntersToFirst, EntersToAfter, EntersTo}
 use Rattle.resb_read.specs.Sequences.{entries}
 use Rattle.resb_read.specs.declared.cursor.Cursor.{Cursor}
-use Rattle.resb_read_rows.specs.Fields.{Entry, ReadsField, CountsField, CountsFirst, CountsBoth, field_one}
+use Rattle.resb_read_rows.specs.Fields.{Entry, ReadsField, CountsField, CountsFirst, CountsBoth}
+use Rattle.resb_read_rows.specs.Fields.{field_one}
 
 same_pair : {A B : Type 0} (p : A × B) (x : A) (y : B) → x ≡ p.0 → y ≡ p.1 → p ≡ (x, y)
 same_pair p x y a b = rw (a, b) refl
 
 -- the first of the entries is stepped over
-pub entered : (rest : List Entry) (new : Entries) (k v : Cursor) → EntersToFirst rest new (Ok (Some (k, v))) → (rest ≡ (place_of k, place_of v) ∷ new.rest) × (new.failed ≡ None)
+pub entered : (rest : List Entry) (new : Entries) (k v : Cursor)
+    → EntersToFirst rest new (Ok (Some (k, v)))
+    → (rest ≡ (place_of k, place_of v) ∷ new.rest) × (new.failed ≡ None)
 entered [] new k v h = absurd h
 entered (p ∷ ps) new k v (e, a, b) =
     let later : ps ≡ new.rest = ap (λ s. s.rest) (sym e) in
     let same = same_pair p (place_of k) (place_of v) a b in
     (ap (λ q. q ∷ ps) same ∙ ap (λ r. (place_of k, place_of v) ∷ r) later, ap (λ s. s.failed) e)
 
-pub entered_after : (old new : Entries) (k v : Cursor) → old.failed ≡ None → EntersTo old new (Ok (Some (k, v))) → (old.rest ≡ (place_of k, place_of v) ∷ new.rest) × (new.failed ≡ None)
+pub entered_after : (old new : Entries) (k v : Cursor) → old.failed ≡ None
+    → EntersTo old new (Ok (Some (k, v)))
+    → (old.rest ≡ (place_of k, place_of v) ∷ new.rest) × (new.failed ≡ None)
 entered_after old new k v none h =
     entered old.rest new k v (subst (λ f. EntersToAfter f old new (Ok (Some (k, v)))) none h)
 
-module _ (ci cv : Place → ℕ → Type 0) (p : Place) (left left1 : ℕ) (paid : left1 + 1 ≡ left) (e : ReadingError) where
+module _ (ci cv : Place → ℕ → Type 0) (p : Place) (left left1 : ℕ) (paid : left1 + 1 ≡ left)
+    (e : ReadingError) where
   -- what is refused at the first field is refused of both
-  pub refused_i : (rest : List Entry) → entries p ≡ Some rest → LacksOrMemory (CountsFirst (codes "i") ci rest) left1 e → LacksOrMemory (CountsBoth ci cv p) left e
+  pub refused_i : (rest : List Entry) → entries p ≡ Some rest
+      → LacksOrMemory (CountsFirst (codes "i") ci rest) left1 e
+      → LacksOrMemory (CountsBoth ci cv p) left e
   refused_i rest are (inl m) = inl m
   refused_i rest are (inr lacks) =
       inr (λ n h fits. (
       let g = sym h.are ∙ are in
       let same : h.at_i ∷ h.at_v ∷ [] ≡ rest = cc in
-      lacks h.of_i (subst (λ r. CountsFirst (codes "i") ci r h.of_i) same h.read_i) (omega (arith, h.count))))
+      lacks h.of_i (subst (λ r. CountsFirst (codes "i") ci r h.of_i) same h.read_i)
+      (omega (arith, h.count))))
 
   -- what is refused at the second field is refused of both
-  pub refused_v : (one : (p : Place) (m n : ℕ) → ci p m → ci p n → m ≡ n) (f : Entry) (rest : List Entry) (a left2 : ℕ) → entries p ≡ Some (f ∷ rest) → CountsField (codes "i") ci f a → left2 + a ≡ left1 → LacksOrMemory (CountsFirst (codes "v") cv rest) left2 e → LacksOrMemory (CountsBoth ci cv p) left e
+  pub refused_v : (one : (p : Place) (m n : ℕ) → ci p m → ci p n → m ≡ n) (f : Entry)
+      (rest : List Entry) (a left2 : ℕ)
+      → entries p ≡ Some (f ∷ rest) → CountsField (codes "i") ci f a → left2 + a ≡ left1
+      → LacksOrMemory (CountsFirst (codes "v") cv rest) left2 e
+      → LacksOrMemory (CountsBoth ci cv p) left e
   refused_v one f rest a left2 are first paid2 (inl m) = inl m
   refused_v one f rest a left2 are first paid2 (inr lacks) =
       inr (λ n h fits. (
@@ -43,7 +57,8 @@ module _ (ci cv : Place → ℕ → Type 0) (p : Place) (left left1 : ℕ) (paid
       let same : h.at_i ≡ f = cc in
       let later : h.at_v ∷ [] ≡ rest = cc in
       let count : h.of_i ≡ a = field_one ci one (codes "i") h.at_i f h.of_i a same h.read_i first in
-      lacks h.of_v (subst (λ r. CountsFirst (codes "v") cv r h.of_v) later h.read_v) (omega (arith, h.count))))
+      lacks h.of_v (subst (λ r. CountsFirst (codes "v") cv r h.of_v) later h.read_v)
+      (omega (arith, h.count))))
 
 -- no entries are left
 pub none_left : (rest : List Entry) → length rest ≤ 0 → rest ≡ []

@@ -5,7 +5,8 @@ use resb_read::{count_resources, from_bytes, from_bytes_counted, tree_from_bytes
 use std::alloc::Global;
 use std::test::Fail;
 
-/// Adds a tree of few levels: `"text"`, `[item, ..]`, `{key=item, ..}`, `<bytes>`, `number`, `(numbers)`.
+/// Adds a tree of few levels: `"text"`, `[item, ..]`, `{key=item, ..}`, `<bytes>`, `number`,
+/// `(numbers)`.
 fn push_tree(
     alloc: Global,
     line: &mut String,

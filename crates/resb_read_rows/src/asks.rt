@@ -242,7 +242,8 @@ fn unit_lists(
     Ok(format!(in alloc; "{lengths:?}")?)
 }
 
-/// The line of what is asked for at a place with so much of a budget, and what of it is left after it.
+/// The line of what is asked for at a place with so much of a budget, and what of it is left after
+/// it.
 /// A call of the cursor and the type that it reads answer the same.
 pub(crate) fn asked(alloc: Global, ask: Ask, at: Cursor<'_>, left: usize) -> Result<String, Fail> {
     let mut walk = Walk::new(left);

@@ -1,9 +1,12 @@
-//! A type as a user of the reader would write it: what is read as it, its two laws, and its reading.
+//! A type as a user of the reader would write it: what is read as it, its two laws, and its
+//! reading.
 //! The words of its contracts are in `specs/Fields`, and the page that walks through it is
 //! `docs/READING.md`.
 ghost use Rattle.std.specs.Prelude.{◌≡◌, ◌+◌, ◌≤◌, ℕ, ◌∷◌, None, IfOk, IfErr};
 ghost use Rattle.resb_read.specs.Reading.{LacksOrMemory};
-ghost use Rattle.resb_read_rows.specs.Fields.{Entry, ReadsField, CountsFirst, ReadsBoth, CountsBoth, both_counted, both_one, i16_counted, i16_one, list_counted, list_one};
+ghost use Rattle.resb_read_rows.specs.Fields.{Entry, ReadsField, CountsFirst, ReadsBoth};
+ghost use Rattle.resb_read_rows.specs.Fields.{CountsBoth, both_counted, both_one, i16_counted};
+ghost use Rattle.resb_read_rows.specs.Fields.{i16_one, list_counted, list_one};
 
 use resb_format::{BinaryDeserializerError, ReadingError};
 use resb_read::{Cursor, Deserialize, MapAccess, Walk};
@@ -19,13 +22,20 @@ pub struct Both {
 }
 
 impl<'de> Deserialize<'de> for Both {
-    ghost reads = { λ p x n. ReadsBoth ⟦<i16 as Deserialize<'de>>⟧.reads ⟦<Vec<i32> as Deserialize<'de>>⟧.reads p x.i x.v n };
+    ghost reads = { λ p x n. ReadsBoth ⟦<i16 as Deserialize<'de>>⟧.reads
+        ⟦<Vec<i32> as Deserialize<'de>>⟧.reads p x.i x.v n };
 
-    ghost counts = { CountsBoth ⟦<i16 as Deserialize<'de>>⟧.counts ⟦<Vec<i32> as Deserialize<'de>>⟧.counts };
+    ghost counts = { CountsBoth ⟦<i16 as Deserialize<'de>>⟧.counts
+        ⟦<Vec<i32> as Deserialize<'de>>⟧.counts };
 
-    ghost counted = { λ p x n. both_counted ⟦<i16 as Deserialize<'de>>⟧.reads ⟦<Vec<i32> as Deserialize<'de>>⟧.reads ⟦<i16 as Deserialize<'de>>⟧.counts ⟦<Vec<i32> as Deserialize<'de>>⟧.counts i16_counted (λ q v. list_counted q v.items) p x.i x.v n };
+    ghost counted = { λ p x n. both_counted ⟦<i16 as Deserialize<'de>>⟧.reads
+        ⟦<Vec<i32> as Deserialize<'de>>⟧.reads ⟦<i16 as Deserialize<'de>>⟧.counts
+        ⟦<Vec<i32> as Deserialize<'de>>⟧.counts i16_counted (λ q v. list_counted q v.items) p x.i
+        x.v n };
 
-    ghost one_count = { both_one ⟦<i16 as Deserialize<'de>>⟧.counts ⟦<Vec<i32> as Deserialize<'de>>⟧.counts i16_one list_one };
+    ghost one_count = { both_one ⟦<i16 as Deserialize<'de>>⟧.counts
+        ⟦<Vec<i32> as Deserialize<'de>>⟧.counts
+        i16_one list_one };
 
     fn deserialize<'m>(
         alloc: Global,
@@ -50,9 +60,11 @@ fn field<'de, 'm, T: Deserialize<'de>>(
     walk: &mut Walk,
 ) -> Result<T, ReadingError<'m>>
     requires { entries.old.failed ≡ None }
-    ensures read { IfOk result (λ x. (e : Entry) × (n : ℕ) × (entries.old.rest ≡ e ∷ entries.new.rest) × (entries.new.failed ≡ None)
+    ensures read { IfOk result (λ x. (e : Entry) × (n : ℕ)
+        × (entries.old.rest ≡ e ∷ entries.new.rest) × (entries.new.failed ≡ None)
         × ReadsField name.now T.reads e x n × (walk.new + n ≡ walk.old)) }
-    ensures refused { IfErr result (λ e. (walk.new ≤ walk.old) × LacksOrMemory (CountsFirst name.now T.counts entries.old.rest) walk.old e) }
+    ensures refused { IfErr result (λ e. (walk.new ≤ walk.old)
+        × LacksOrMemory (CountsFirst name.now T.counts entries.old.rest) walk.old e) }
 {
     let Some((key, value)) = entries.next_entry_cursor()? else {
         return Err(BinaryDeserializerError::unknown("a field is missing"));

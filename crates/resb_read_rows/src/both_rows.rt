@@ -40,7 +40,8 @@ const ROWS: [(&[u32], &str); 6] = [
     ),
 ];
 
-/// The root is a table of p = a table of i = -1 and v = (1, -1), and q = a table of i = 2 and v = ().
+/// The root is a table of p = a table of i = -1 and v = (1, -1), and q = a table of i = 2 and v =
+/// ().
 const MAP: &[u32] = &[
     0x20000016, 7, 10, 26, 26, 2, 0, 11, 0x00690070, 0x00710076, 0xaaaa0000, 2, 1, 0xffffffff,
     0x00220002, 0xaaaa0024, 0x7fffffff, 0xe000000b, 0x00220002, 0xaaaa0024, 0x70000002, 0xe0000000,

@@ -1,5 +1,5 @@
-//! Cursors, accesses and named deserializers, step by step: what each step takes from the budget, and
-//! what an access answers behind its last step and behind an error.
+//! Cursors, accesses and named deserializers, step by step: what each step takes from the budget,
+//! and what an access answers behind its last step and behind an error.
 use crate::answers::line_of_refusal;
 use crate::asks::line;
 use crate::files::{NUMBERS, TEXT_A, TEXTS, TWO_ENTRIES, file_of};

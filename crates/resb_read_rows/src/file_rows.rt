@@ -1,6 +1,6 @@
-//! Files, and the count and the tree that each denotes, or why it is refused.
-//! The last number of a row is the digest of the lines of its file cut at each length, and then with
-//! each byte changed to 0, 1, 0x7f and 0xff.
+//! Files, and the count and the tree that each denotes, or why it is refused. The last number of a
+//! row is the digest of the lines of its file cut at each length, and then with each byte changed
+//! to 0, 1, 0x7f and 0xff.
 use crate::answers::{BASIS, digest, line_of};
 use crate::files::{
     BYTES, INTEGER, NUMBERS, ONE_ENTRY, TEXT_A, TEXTS, THREE_NUMBERS, TWO_ENTRIES, WIDE_TABLE, cut,

@@ -1,4 +1,5 @@
-//! Files that are made to take room, time or depth: shared bodies, cycles, many levels and many entries.
+//! Files that are made to take room, time or depth: shared bodies, cycles, many levels and many
+//! entries.
 //! Small files that are damaged are in `file_rows`.
 use crate::answers::{line_of, line_of_refusal};
 use crate::files::{WIDE_TABLE, file_of};
@@ -16,7 +17,8 @@ fn with_body(alloc: Global, root: u32, body: &[u32]) -> Result<Vec<u8>, Fail> {
     file_of(alloc, &words)
 }
 
-/// How many arrays of two empty strings an array has, its last word, and the first bytes of its line.
+/// How many arrays of two empty strings an array has, its last word, and the first bytes of its
+/// line.
 const SHARED: [(u32, u32, &str); 4] = [
     (37, 0x9000_0001, "112 [[\"\",\"\",],[\"\",\"\",],"),
     (38, 0x9000_0001, SPENT),

@@ -1,5 +1,5 @@
-//! The worked rows of the reader: files with the answers that the rules ask for, through each call that
-//! reads them. Only tests stand here, and a type as a user of the reader would write it.
+//! The worked rows of the reader: files with the answers that the rules ask for, through each call
+//! that reads them. Only tests stand here, and a type as a user of the reader would write it.
 #![tactic(auto)]
 
 #[cfg(test)]

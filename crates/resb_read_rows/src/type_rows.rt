@@ -1,5 +1,5 @@
-//! Types that are read at places of files with so much of a budget: the value, or why it is refused, and
-//! what is left. Whole trees are in `file_rows`.
+//! Types that are read at places of files with so much of a budget: the value, or why it is
+//! refused, and what is left. Whole trees are in `file_rows`.
 use crate::answers::{BASIS, digest};
 use crate::asks::{ALL, Ask, asked};
 use crate::files::{

@@ -3,8 +3,7 @@
 //!
 //! The frames of the collections around are in `frames`, the outermost first. A turn takes the next
 //! member from the innermost, or closes it. Each member is paid for as it begins, so that twice
-//! what
-//! is left, plus the number of frames, falls in each turn.
+//! what is left, plus the number of frames, falls in each turn.
 ghost use Rattle.std.specs.Prelude.{◌≡◌, ℕ, ◌+◌};
 ghost use Rattle.resb_format.specs.Content as at;
 ghost use Rattle.resb_format.specs.Denotes.{Den, Reaches, DenMember, ReachesMember};

@@ -1,5 +1,5 @@
 -- The places of the members and entries that are still to come.
-use Rattle.std.specs.Prelude.{ℕ, List, map}
+use Rattle.std.specs.Prelude.{List, map}
 use Rattle.resb_format.specs.Bytes.{words_of}
 use Rattle.resb_walk.specs.Files.{parts_in}
 use Rattle.resb_walk.specs.Inner.Members.{members_of, pairs_of}

@@ -1,4 +1,4 @@
-use Rattle.std.proofs.Common.{ℕ, ◌≡◌, ◌+◌, refl, arith}
+use Rattle.std.proofs.Common.{◌+◌, refl, arith}
 use Rattle.resb_read.proofs.entries.read_pair.Goals as goal
 
 pub returns-clause-read : goal.returns-clause-read

@@ -1,6 +1,5 @@
-use Rattle.std.proofs.Common.{◌≡◌, ◌-◌}
+use Rattle.std.proofs.Common.{◌≡◌}
 use Rattle.std.proofs.lemmas.Result.{err_from_is_err_and}
-use Rattle.resb_format.specs.File.{Denotes, budget}
 use Rattle.resb_read.specs.Places.{place_of}
 use Rattle.resb_read.proofs.Rooted.{refused_root, count_root}
 use Rattle.resb_read.proofs.entry.count_resources.Goals as goal

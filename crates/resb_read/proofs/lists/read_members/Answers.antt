@@ -1,6 +1,6 @@
-use Rattle.std.proofs.Common.{rules, ℕ, ◌+◌, ◌≡◌, ◌++◌, [], refl, arith}
+use Rattle.std.proofs.Common.{rules, [], refl, arith}
 use Rattle.std.proofs.lemmas.Result.{err_from_is_err_and}
-use Rattle.resb_read.proofs.Each.{front_more, front_all, front_refused}
+use Rattle.resb_read.proofs.Each.{front_more, front_refused}
 use Rattle.resb_read.proofs.lists.read_members.Goals as goal
 
 pub members-init : goal.members-init

@@ -1,6 +1,5 @@
-use Rattle.std.proofs.Common.{rules, ℕ, ◌+◌, ◌≡◌, ◌++◌, [], refl, subst, sym, arith}
+use Rattle.std.proofs.Common.{rules, [], refl, arith}
 use Rattle.std.proofs.lemmas.Result.{err_from_is_err_and}
-use Rattle.resb_read.specs.Inner.Front.{FrontPairs}
 use Rattle.resb_read.proofs.Entering.{front_enters, front_fails}
 use Rattle.resb_read.proofs.maps.read_entries.Goals as goal
 

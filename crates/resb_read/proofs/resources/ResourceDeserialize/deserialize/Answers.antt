@@ -1,4 +1,3 @@
-use Rattle.std.proofs.Common.{◌≤◌}
 use Rattle.std.proofs.lemmas.Result.{IfErr-weaker}
 use Rattle.resb_read.specs.Places.{place_of}
 use Rattle.resb_read.proofs.Trees.{refuses_lacks}

@@ -9,6 +9,7 @@ pub use Rattle.resb_tree.specs.Int28
 pub use Rattle.resb_grammar.specs.BundleText
 pub use Rattle.resb_grammar.specs.Stuck
 pub use Rattle.resb_text.specs.Answer
+pub use Rattle.resb_text.specs.Borrowed
 pub use Rattle.resb_format.specs.Parts
 pub use Rattle.resb_format.specs.Denotes
 pub use Rattle.resb_format.specs.File

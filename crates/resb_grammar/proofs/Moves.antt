@@ -1,5 +1,5 @@
 -- What a token says of the text, and how a token leads on.
-use Rattle.std.proofs.Common.{◌≡◌, ◌≢◌, ℕ, suc, Bool, true, false, List, refl, sym, ◌∙◌, ap, subst}
+use Rattle.std.proofs.Common.{◌≡◌, ℕ, suc, Bool, true, false, List, refl, sym, ◌∙◌, ap, subst}
 use Rattle.std.proofs.Common.{arith, Some, None}
 use Rattle.std.specs.Prelude.{◌||◌, ◌==◌, cond, slice_index}
 use Rattle.std.proofs.lemmas.Bool.{false≢true}
@@ -77,12 +77,6 @@ pub no_text_colon : (text : List ℕ) (from to : ℕ) (s : List ℕ) → Text te
     → slice_index text from ≡ ascii.colon → ⊥
 no_text_colon text from to s t e =
     colon_class (slice_index text from) (class_text text from to s t) e
-
-pub no_colon : (text : List ℕ) (from to : ℕ) (s : List ℕ) → Text text from to s
-    → (slice_index text from == ascii.colon) ≡ false
-no_colon text from to s t =
-    let h : slice_index text from ≢ ascii.colon = no_text_colon text from to s t in
-    grind (arith, nat_tests)
 
 pub none_some : {A : Type 0} (s : State) → None ≡ Some s → A
 none_some s e = absurd cc

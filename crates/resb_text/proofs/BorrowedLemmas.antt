@@ -1,44 +1,26 @@
 -- Borrowed strings, level by level.
-use Rattle.std.proofs.Common.{◌≡◌, ℕ, Bool, true, false, ◌&&◌, List, [], ◌∷◌, ◌++◌, Vec, BTreeMap}
-use Rattle.std.proofs.Common.{Global, Ordering, Less, Equal, Greater, nat_cmp, refl, ap, ◌∙◌}
+use Rattle.std.proofs.Common.{◌≡◌, ℕ, Bool, true, false, ◌&&◌, List, [], ◌∷◌, ◌++◌, BTreeMap}
+use Rattle.std.proofs.Common.{Ordering, Less, Equal, Greater, nat_cmp, refl, ap, ◌∙◌}
 use Rattle.std.proofs.Common.{rules}
 use Rattle.std.specs.Prelude.{map, Result, Ok, Err, IfOk}
 use Rattle.std.proofs.lemmas.Bool.{false≢true}
 use Rattle.std.specs.BTreeMap.{insert_entry}
 use Rattle.std.specs.Cmp.Lexicographic.{slice_cmp}
 use Rattle.std.specs.Ordering.{match_ordering}
-use Rattle.std.specs.declared.borrow.CowStr.{CowStr}
-use Rattle.std.specs.declared.borrow.CowSlice.{CowSlice}
-use Rattle.resb_tree.specs.declared.resource.Resource.{Resource, String, Array, Table, Binary}
-use Rattle.resb_tree.specs.declared.resource.Resource.{Integer, IntVector, the_lemmas}
+use Rattle.resb_tree.specs.declared.resource.Resource.{Resource, Table}
+use Rattle.resb_tree.specs.declared.resource.Resource.{the_lemmas}
 use Rattle.resb_grammar.specs.Items as spec
 use Rattle.resb_grammar.specs.Machine as machine
 use Rattle.resb_text.specs.Inner.Frames.{Look, looks, look_of, layer}
 use Rattle.resb_text.specs.declared.error.TextParserError.{TextParserError}
 use Rattle.resb_text.specs.declared.frames.Frame.{Frame}
-use Rattle.resb_text.specs.Borrowed.{is_slice, all_true, is_borrowed}
+use Rattle.resb_text.specs.Borrowed.{all_true, is_borrowed}
 use Rattle.resb_text.specs.Inner.Shown.{Shown, shown, shows, shown_borrowed, entries_borrowed}
 use Rattle.resb_text.specs.Inner.Shown.{member_shown}
-
-pub borrowed_string : (s : CowStr Global) → is_borrowed (String s) ≡ is_slice s
-borrowed_string s = search (rules, the_lemmas)
-
-pub borrowed_array : (v : Vec Resource Global)
-    → is_borrowed (Array v) ≡ all_true (map is_borrowed v.items)
-borrowed_array v = search (rules, the_lemmas)
 
 pub borrowed_table : (m : BTreeMap (List ℕ) Resource)
     → is_borrowed (Table m) ≡ entries_borrowed m.entries
 borrowed_table m = search (rules, the_lemmas)
-
-pub borrowed_binary : (b : CowSlice ℕ Global) → is_borrowed (Binary b) ≡ true
-borrowed_binary b = search (rules, the_lemmas)
-
-pub borrowed_integer : (n : ℕ) → is_borrowed (Integer n) ≡ true
-borrowed_integer n = search (rules, the_lemmas)
-
-pub borrowed_vector : (v : Vec ℕ Global) → is_borrowed (IntVector v) ≡ true
-borrowed_vector v = search (rules, the_lemmas)
 
 both : (a b : Bool) → a ≡ true → b ≡ true → (a && b) ≡ true
 both true b h k = k

@@ -1,12 +1,12 @@
 -- What stands before the root's items: where it leads to, and where it is refused.
-use Rattle.std.proofs.Common.{◌≡◌, ◌≢◌, ℕ, ◌+◌, Bool, true, false, List, refl, sym, ◌∙◌, ap, subst}
+use Rattle.std.proofs.Common.{◌≡◌, ◌≢◌, ℕ, Bool, true, false, List, refl, sym, ◌∙◌, ap, subst}
 use Rattle.std.proofs.Common.{arith, Some, inl, inr, ⊎_elim}
 use Rattle.std.specs.Prelude.{◌⊎◌, ◌==◌, slice_index}
 use Rattle.std.proofs.lemmas.Bool.Decides.{nat_tests}
 use Rattle.resb_grammar.specs.Ascii as ascii
 use Rattle.resb_grammar.specs.Tokens.{Skip, Text}
 use Rattle.resb_grammar.specs.Types.{RootType}
-use Rattle.resb_grammar.specs.BundleText.{Typing, without, with, Header}
+use Rattle.resb_grammar.specs.BundleText.{Typing, without, with}
 use Rattle.resb_grammar.specs.Machine.{Token, a_text, a_number, opening, closing, a_comma, a_type}
 use Rattle.resb_grammar.specs.Machine.{a_root_type, State, start, named, titled, next, At}
 use Rattle.resb_grammar.specs.Stuck.{choose, expected, NoToken, Stuck, blocked}
@@ -133,22 +133,6 @@ module _ (text : List ℕ) where
       omega (arith, n, h)
   typing_first place brace f (with i _ t skip) b h =
       let n = root_colon text place i f t in omega (arith, n, h)
-
-  pub header_ok : (at ends place brace to : ℕ) (name : List ℕ) (f : Bool) → Skip text 0 at
-      → Text text at ends name → Skip text ends place → Typing text place brace f
-      → slice_index text brace ≡ ascii.left_brace → Skip text (brace + 1) to → Header text name f to
-  header_ok at ends place brace to name f skip t skip' typed b skip'' = record {
-    start = at;
-    ends = ends;
-    place = place;
-    brace = brace;
-    before = skip;
-    named = t;
-    between = skip';
-    typed = typed;
-    opens = b;
-    after = skip'';
-  }
 
   -- what fails for another reason than memory is no bundle
   pub fails_no_bundle : (e : TextParserError) → Fails text e

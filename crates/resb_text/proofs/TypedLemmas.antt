@@ -1,5 +1,5 @@
 -- Typed groups among the items of an open group.
-use Rattle.std.proofs.Common.{◌≡◌, ◌≢◌, ℕ, ◌+◌, Bool, true, false, List, [], refl, sym, ◌∙◌, ap}
+use Rattle.std.proofs.Common.{◌≡◌, ◌≢◌, ℕ, Bool, true, false, List, [], refl, sym, ◌∙◌, ap}
 use Rattle.std.proofs.Common.{subst, arith, Some, inl, inr, ⊎_elim}
 use Rattle.std.specs.Prelude.{◌⊎◌, not, slice_index}
 use Rattle.std.proofs.lemmas.Bool.{false≢true}
@@ -117,12 +117,6 @@ module _ (text : List ℕ) where
       go to u a_comma m e = none_some u e
       go to u (a_type k) m e = none_some u e
       go to u (a_root_type fallback) m e = none_some u e
-
-  pub head_read : (at ends brace to : ℕ) (kind : Kind) → GroupType text at ends kind
-      → Skip text ends brace → slice_index text brace ≡ ascii.left_brace → Skip text (brace + 1) to
-      → Head text at kind to
-  head_read at ends brace to kind g skip b skip' =
-      record { ends = ends; brace = brace; named = g; between = skip; opens = b; after = skip' }
 
   -- a typed group may stand here
   pub may_stand : (c : Open) (at : ℕ) (key b : Bool) → (x : Among text at c)

@@ -1,6 +1,5 @@
 -- The fault that an error shows.
 --     fault_of e              the fault
---     IsMemoryOr e m P        it is want of memory, or the unexpected m, for which P is the reason
 use Rattle.std.specs.Prelude.{◌≡◌, ℕ, List, ◌⊎◌}
 use Rattle.resb_pool.specs.Fault.{Fault, string_too_long, unexpected, limit, out_of_memory}
 use Rattle.resb_pool.specs.declared.error.Kind.{Kind}
@@ -15,6 +14,3 @@ kind_fault OutOfMemory = out_of_memory
 
 abbrev pub fault_of : BinarySerializerError → Fault
 fault_of e = kind_fault e.kind
-
-abbrev pub IsMemoryOr : BinarySerializerError → List ℕ → Type 0 → Type 0
-IsMemoryOr e message P = (fault_of e ≡ out_of_memory) ⊎ ((fault_of e ≡ unexpected message) × P)

@@ -15,7 +15,8 @@ pub(crate) const HEADER: [u8; 32] = [
 ];
 
 /// Texts and their files behind the header.
-const FILES: &str = r#"b:table(nofallback){} => 00000020070000000800000009000000090000000000000001000000090000000000aaaa
+const FILES: &str =
+    r#"b:table(nofallback){} => 00000020070000000800000009000000090000000000000001000000090000000000aaaa
 b{} => 00000020070000000800000009000000090000000000000000000000090000000000aaaa
 b{k{v}} => 0300005007000000090000000c0000000c00000001000000000000000c0000006b00aaaa000076000000010020000100
 b{a{"xyz"}c{"yz"}} => 0500005007000000090000000e0000000e00000002000000000000000e000000610063000000780079007a00000002002000220001000200
@@ -55,7 +56,11 @@ pub(crate) fn digits(alloc: Global, file: &[u8]) -> Result<String, Fail> {
 /// The text has this file, which is read back as the text's tree.
 fn assert_file(rt: &impl Abort, alloc: Global, text: &str, wanted: &str) -> Result<(), Fail> {
     let file = compile(alloc, text)?;
-    assert_eq!(rt; digits(alloc, &file)?.as_str(), wanted, "the file of {text}");
+    assert_eq!(rt;
+        digits(alloc, &file)?.as_str(),
+        wanted,
+        "the file of {text}"
+    );
     let (bundle, _keys) = Reader::read(alloc, text)?;
     let tree: Resource = from_bytes(alloc, &file)?;
     assert!(rt; tree == *bundle.root(), "the tree of {text}");

@@ -13,7 +13,8 @@ use std::test::Fail;
 
 /// Strings of a root array, where `~` stands for U+0000 and `''` for the empty string, and the hex
 /// digits of its file behind the header.
-const STRINGS: &str = r#"~ab ab => 0600009007000000080000000d0000000d00000000000000000000000d000000000003dc0000610062000000020001000300aaaa
+const STRINGS: &str =
+    r#"~ab ab => 0600009007000000080000000d0000000d00000000000000000000000d000000000003dc0000610062000000020001000300aaaa
 x y y => 0500009007000000080000000d0000000d00000000000000000000000d000000000079000000780000000300030001000100aaaa
 '' x '' => 0300009007000000080000000c0000000c00000000000000000000000c0000000000780000000300000001000000aaaa
 xyz yz z => 0500009007000000080000000d0000000d00000000000000000000000d0000000000780079007a0000000300010002000300aaaa
@@ -25,10 +26,13 @@ aa b b => 0600009007000000080000000d0000000d00000000000000000000000d000000000062
 bb aa aa => 0700009007000000080000000e0000000e00000000000000000000000e00000000006100610000006200620000000300040001000100aaaa
 a 𐀀a a => 0800009007000000080000000e0000000e00000000000000000000000e000000000000e06100000000d800dc610000000300010004000600
 😀😀 😀 => 0600009007000000080000000d0000000d00000000000000000000000d00000000003dd800de3dd800de0000020001000300aaaa
+xa ya a => 0700009007000000080000000e0000000e00000000000000000000000e00000000007900610000007800610000000300040001000200aaaa
+a~b ~b b => 0a00009007000000080000000f0000000f00000000000000000000000f000000000002dc00006200000003dc61000000620000000300050001000300
 "#;
 
 /// Texts, keys in the order of a list, and the file of the text's tree with these keys.
-const LISTS: &str = r#"b{a{"xyz"}c{"yz"}} | a a c => 05000050070000000a0000000f0000000f00000002000000000000000f000000610061006300aaaa0000780079007a00000002002200240001000200
+const LISTS: &str =
+    r#"b{a{"xyz"}c{"yz"}} | a a c => 05000050070000000a0000000f0000000f00000002000000000000000f000000610061006300aaaa0000780079007a00000002002200240001000200
 b{a{"xyz"}c{"yz"}} | c x a => 0500005007000000090000000e0000000e00000002000000000000000e000000630061000000780079007a00000002002200200001000200
 b{a{"xyz"}c{"yz"}} | a => refused: Unexpected error: key not present in position map
 b{ab{"x"}b{"y"}} | ab => refused: Unexpected error: key not present in position map
@@ -38,10 +42,7 @@ b{a{"x"}} |  => refused: Unexpected error: key not present in position map
 "#;
 
 /// The digits of the file, or the refusal.
-fn told(
-    alloc: Global,
-    answer: Result<Vec<u8>, BinarySerializerError>,
-) -> Result<String, Fail> {
+fn told(alloc: Global, answer: Result<Vec<u8>, BinarySerializerError>) -> Result<String, Fail> {
     match answer {
         Ok(file) => digits(alloc, &file),
         Err(error) => Ok(format!(in alloc; "refused: {error}")?),
@@ -122,6 +123,57 @@ fn lists_of_keys_have_their_files(rt: HostRuntime) -> Result<(), Fail> {
         rest = more;
     }
     assert!(rt; rest.is_empty());
+    Ok(())
+}
+
+/// Roots that are no collection.
+#[test]
+fn roots_of_each_kind(rt: HostRuntime) -> Result<(), Fail> {
+    let alloc = rt.alloc();
+    let text = written(alloc, string(alloc, "a")?, &[]);
+    let expected =
+        "0100006007000000080000000a0000000a00000000000000000000000a000000000061000000aaaa";
+    assert_eq!(rt; told(alloc, text)?.as_str(), expected);
+    let number = written(alloc, Resource::Integer(Int28::from(7u32)), &[]);
+    let expected = "07000070070000000800000009000000090000000000000000000000090000000000aaaa";
+    assert_eq!(rt; told(alloc, number)?.as_str(), expected);
+    let numbers = written(alloc, Resource::IntVector(vec![in alloc; 1u32, 2]?), &[]);
+    let expected =
+        "090000e007000000080000000c0000000c0000000000000000000000090000000000aaaa020000000100000002000000";
+    assert_eq!(rt; told(alloc, numbers)?.as_str(), expected);
+    let none = written(alloc, Resource::Array(Vec::new(alloc)), &[]);
+    let expected = "00000080070000000800000009000000090000000000000000000000090000000000aaaa";
+    assert_eq!(rt; told(alloc, none)?.as_str(), expected);
+    Ok(())
+}
+
+/// A table of a key of so many letters K, and a key z behind it in the list.
+fn far_table(alloc: Global, letters: usize) -> Result<Vec<u8>, Fail> {
+    let mut key = String::new(alloc);
+    for _ in 0..letters {
+        key.push('K')?;
+    }
+    let long = Key::from(key);
+    let keys = vec![in alloc; long.try_clone(alloc)?, Key::from("z")]?;
+    let mut table: Table = BTreeMap::new(alloc);
+    table.insert(long, string(alloc, "x")?)?;
+    table.insert(Key::from("z"), string(alloc, "y")?)?;
+    Ok(written(alloc, Resource::Table(table), &keys)?)
+}
+
+/// A position of 65535 fits a unit; one of 65536 asks for a table with 32-bit positions.
+#[test]
+fn positions_at_the_limit(rt: HostRuntime) -> Result<(), Fail> {
+    let near = far_table(rt.alloc(), 65502)?;
+    assert_eq!(rt; near.len(), 65592);
+    assert_eq!(rt; word(&near, 0)?, 0x5000_0005);
+    assert_eq!(rt; word(&near, 16_388)?, 0xffff_0020);
+    let far = far_table(rt.alloc(), 65503)?;
+    assert_eq!(rt; far.len(), 65604);
+    assert_eq!(rt; word(&far, 0)?, 0x4000_4004);
+    assert_eq!(rt; word(&far, 16_388)?, 2);
+    assert_eq!(rt; word(&far, 16_390)?, 65536);
+    assert_eq!(rt; word(&far, 16_392)?, 0x6000_0003);
     Ok(())
 }
 

@@ -63,7 +63,7 @@ fn assert_file(rt: &impl Abort, alloc: Global, text: &str, wanted: &str) -> Resu
     );
     let (bundle, _keys) = Reader::read(alloc, text)?;
     let tree: Resource = from_bytes(alloc, &file)?;
-    assert!(rt; tree == *bundle.root(), "the tree of {text}");
+    assert!(rt; tree.equals(bundle.root()), "the tree of {text}");
     Ok(())
 }
 

@@ -191,7 +191,8 @@ fn a_key_with_nul_is_refused(rt: HostRuntime) -> Result<(), Fail> {
 
 /// The word with this number behind the header.
 fn word(file: &[u8], number: usize) -> Result<u32, Fail> {
-    let (_, rest) = file.split_at_checked(32 + 4 * number).ok_or("short")?;
+    let start = number.saturating_mul(4).saturating_add(32);
+    let (_, rest) = file.split_at_checked(start).ok_or("short")?;
     let (bytes, _) = rest.split_at_checked(4).ok_or("short")?;
     let bytes: [u8; 4] = bytes.try_into()?;
     Ok(u32::from_le_bytes(bytes))

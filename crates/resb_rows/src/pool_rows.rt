@@ -182,3 +182,26 @@ fn errors_print(rt: HostRuntime) -> Result<(), Fail> {
     }
     Ok(())
 }
+
+/// The texts of 1 to 40 letters a lie in the longest; beside 41 letters, in those.
+#[test]
+fn letters_lie_in_the_longest(rt: HostRuntime) -> Result<(), Fail> {
+    let alloc = rt.alloc();
+    let longest = letters(alloc, 41)?;
+    let all = longest.as_str();
+    let mut texts = Vec::new(alloc);
+    for count in 1..41usize {
+        texts.push(all.get(..count).ok_or("short")?)?;
+    }
+    let plan = pool::plan(alloc, &texts)?;
+    assert_eq!(rt; plan.units().len(), 42);
+    for text in &texts {
+        assert_eq!(rt; plan.offset(text), Some(41 - text.len() as u32));
+    }
+    texts.push(all)?;
+    let plan = pool::plan(alloc, &texts)?;
+    assert_eq!(rt; plan.units().get(1).copied(), Some(0xdc29));
+    assert_eq!(rt; plan.offset(all), Some(1));
+    assert_eq!(rt; plan.offset("a"), Some(42));
+    Ok(())
+}

@@ -134,8 +134,8 @@ fn roots_of_each_kind(rt: HostRuntime) -> Result<(), Fail> {
     let expected =
         "0100006007000000080000000a0000000a00000000000000000000000a000000000061000000aaaa";
     assert_eq!(rt; told(alloc, text)?.as_str(), expected);
-    let number = written(alloc, Resource::Integer(Int28::from(7u32)), &[]);
-    let expected = "07000070070000000800000009000000090000000000000000000000090000000000aaaa";
+    let number = written(alloc, Resource::Integer(Int28::from(-1i32)), &[]);
+    let expected = "ffffff7f070000000800000009000000090000000000000000000000090000000000aaaa";
     assert_eq!(rt; told(alloc, number)?.as_str(), expected);
     let numbers = written(alloc, Resource::IntVector(vec![in alloc; 1u32, 2]?), &[]);
     let expected =
@@ -147,33 +147,98 @@ fn roots_of_each_kind(rt: HostRuntime) -> Result<(), Fail> {
     Ok(())
 }
 
-/// A table of a key of so many letters K, and a key z behind it in the list.
-fn far_table(alloc: Global, letters: usize) -> Result<Vec<u8>, Fail> {
+/// A table of a key of so many letters K and a key z, for a list of `L`, the long key, and `z`.
+fn far_table(alloc: Global, letters: usize, list: &str) -> Result<Vec<u8>, Fail> {
     let mut key = String::new(alloc);
     for _ in 0..letters {
         key.push('K')?;
     }
     let long = Key::from(key);
-    let keys = vec![in alloc; long.try_clone(alloc)?, Key::from("z")]?;
+    let mut keys = Vec::new(alloc);
+    for letter in list.chars() {
+        let key = if letter == 'L' {
+            long.try_clone(alloc)?
+        } else {
+            Key::from("z")
+        };
+        keys.push(key)?;
+    }
     let mut table: Table = BTreeMap::new(alloc);
     table.insert(long, string(alloc, "x")?)?;
     table.insert(Key::from("z"), string(alloc, "y")?)?;
     Ok(written(alloc, Resource::Table(table), &keys)?)
 }
 
-/// A position of 65535 fits a unit; one of 65536 asks for a table with 32-bit positions.
+/// A position of 65535 fits a unit; one of 65536 asks for a table with 32-bit positions. The last
+/// place of a doubled key counts.
 #[test]
 fn positions_at_the_limit(rt: HostRuntime) -> Result<(), Fail> {
-    let near = far_table(rt.alloc(), 65502)?;
+    let near = far_table(rt.alloc(), 65502, "Lz")?;
     assert_eq!(rt; near.len(), 65592);
     assert_eq!(rt; word(&near, 0)?, 0x5000_0005);
     assert_eq!(rt; word(&near, 16_388)?, 0xffff_0020);
-    let far = far_table(rt.alloc(), 65503)?;
+    let far = far_table(rt.alloc(), 65503, "Lz")?;
     assert_eq!(rt; far.len(), 65604);
     assert_eq!(rt; word(&far, 0)?, 0x4000_4004);
     assert_eq!(rt; word(&far, 16_388)?, 2);
     assert_eq!(rt; word(&far, 16_390)?, 65536);
     assert_eq!(rt; word(&far, 16_392)?, 0x6000_0003);
+    let last = far_table(rt.alloc(), 65502, "zLz")?;
+    let body = (word(&last, 0)? & 0x0fff_ffff) as usize;
+    assert_eq!(rt; word(&last, 0)? >> 28, 4);
+    assert_eq!(rt; word(&last, body + 1)?, 34);
+    assert_eq!(rt; word(&last, body + 2)?, 65537);
+    let first = far_table(rt.alloc(), 65503, "zL")?;
+    assert_eq!(rt; word(&first, 0)?, 0x5000_0005);
+    assert_eq!(rt; word(&first, 16_388)?, 0x0020_0022);
+    Ok(())
+}
+
+/// Marked strings: forty characters of two units each, and 41 and 42 letters of which one ends the
+/// other.
+#[test]
+fn marked_strings_stand_in_files(rt: HostRuntime) -> Result<(), Fail> {
+    let alloc = rt.alloc();
+    let mut faces = String::new(alloc);
+    let mut letters = String::new(alloc);
+    for _ in 0..40 {
+        faces.push('\u{1f600}')?;
+        letters.push('a')?;
+    }
+    let text = written(alloc, Resource::String(CowStr::Owned(faces)), &[])?;
+    assert_eq!(rt; word(&text, 0)?, 0x6000_0001);
+    assert_eq!(rt; word(&text, 7)?, 50);
+    assert_eq!(rt; word(&text, 8)?, 0xdc50_0000);
+    assert_eq!(rt; word(&text, 9)?, 0xde00_d83d);
+    let mut items = Vec::new(alloc);
+    letters.push('a')?;
+    items.push(string(alloc, letters.as_str())?)?;
+    letters.push('a')?;
+    items.push(string(alloc, letters.as_str())?)?;
+    items.push(string(alloc, "a")?)?;
+    let array = written(alloc, Resource::Array(items), &[])?;
+    assert_eq!(rt; word(&array, 0)?, 0x9000_0058);
+    assert_eq!(rt; word(&array, 7)?, 54);
+    assert_eq!(rt; word(&array, 8)?, 0xdc29_0000);
+    assert_eq!(rt; word(&array, 52)?, 0x0001_0003);
+    assert_eq!(rt; word(&array, 53)?, 0x002a_002c);
+    Ok(())
+}
+
+/// A table of integers at the keys a and b with U+0000, and lists of these.
+#[test]
+fn faults_of_keys_have_an_order(rt: HostRuntime) -> Result<(), Fail> {
+    let alloc = rt.alloc();
+    let mut table: Table = BTreeMap::new(alloc);
+    table.insert(Key::from("a"), Resource::Integer(Int28::from(0u32)))?;
+    table.insert(Key::from("b\0"), Resource::Integer(Int28::from(0u32)))?;
+    let bundle = ResourceBundle::new(CowStr::Borrowed("b"), Resource::Table(table), true);
+    let one = Serializer::to_bytes(alloc, &bundle, &[Key::from("b\0")]);
+    let expected = "refused: Unexpected error: key not present in position map";
+    assert_eq!(rt; told(alloc, one)?.as_str(), expected);
+    let both = Serializer::to_bytes(alloc, &bundle, &[Key::from("a"), Key::from("b\0")]);
+    let expected = "refused: Unexpected error: key contains U+0000";
+    assert_eq!(rt; told(alloc, both)?.as_str(), expected);
     Ok(())
 }
 
@@ -209,17 +274,18 @@ fn a_table_of_65536_entries(rt: HostRuntime) -> Result<(), Fail> {
         keys.push(key.try_clone(alloc)?)?;
         table.insert(key, Resource::Integer(Int28::from(0u32)))?;
     }
-    let file = written(alloc, Resource::Table(table), &keys)?;
+    let bundle = ResourceBundle::new(CowStr::Borrowed("b"), Resource::Table(table), true);
+    let none = Serializer::to_bytes(alloc, &bundle, &[]);
+    let expected = "refused: Unexpected error: key not present in position map";
+    assert_eq!(rt; told(alloc, none)?.as_str(), expected);
+    let file = Serializer::to_bytes(alloc, &bundle, &keys)?;
     let root = word(&file, 0)?;
     assert_eq!(rt; root >> 28, 4);
     let body = (root & 0x0fff_ffff) as usize;
     assert_eq!(rt; word(&file, body)?, 65536);
     assert_eq!(rt; word(&file, body + 65536)?, 393_242);
     let tree: Resource = from_bytes(alloc, &file)?;
-    match &tree {
-        Resource::Table(read) => assert_eq!(rt; read.len(), 65536),
-        _ => return Err("no table")?,
-    }
+    assert!(rt; tree.equals(bundle.root()));
     Ok(())
 }
 

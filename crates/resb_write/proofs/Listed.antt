@@ -102,8 +102,8 @@ module _ (t : Tree) (ks : List (List ℕ)) (listed : (k : List ℕ) → is_key k
   -- what the fault says, if it is none of that a key isn't listed
   later_faults : (a b c d : Bool) (long : Option ℕ) (f : Fault) → a ≡ false
       → first_of (cond a (Some (unexpected (codes "key not present in position map")))
-        (cond b (Some (unexpected (codes "key contains U+0000"))) (cond c (Some (limit (codes "key position over 2147483647"))) None)))
-        (first_of (option_map string_too_long long) (cond d (Some (limit (codes "count over 32 bits"))) None)) ≡ Some f
+      (cond b (Some (unexpected (codes "key contains U+0000"))) (cond c (Some (limit (codes "key position over 2147483647"))) None)))
+      (first_of (option_map string_too_long long) (cond d (Some (limit (codes "count over 32 bits"))) None)) ≡ Some f
       → f ≡ unexpected (codes "key not present in position map") → ⊥
   unfolding said
   later_faults true b c d long f e h q = true≢false e

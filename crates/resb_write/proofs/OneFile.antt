@@ -128,14 +128,14 @@ module _ (a b : List ℕ) (t : Tree) (fallback : Bool) (ks : List (List ℕ)) (f
   head_same =
       head_of a fa x
       ∙ ap (flat_map (to_le_bytes w32)) (same_front 8 (words_of (body_of a)) (words_of (body_of b))
-        (omega (arith, words_long (body_of a), long a t fallback ks x)) (omega (arith, words_long (body_of b), long b t fallback ks y)) word_same)
+      (omega (arith, words_long (body_of a), long a t fallback ks x)) (omega (arith, words_long (body_of b), long b t fallback ks y)) word_same)
       ∙ sym (head_of b fb y)
 
   pub same_file : a ≡ b
   same_file =
       whole a t fallback ks x
       ∙ ap (λ l. written_header ++ l) (sym (body_is a t fallback ks x) ∙ split a t fallback ks x
-        ∙ (λ i. head_same i ++ bytes_are i) ∙ sym (split b t fallback ks y) ∙ body_is b t fallback ks y)
+      ∙ (λ i. head_same i ++ bytes_are i) ∙ sym (split b t fallback ks y) ∙ body_is b t fallback ks y)
       ∙ sym (whole b t fallback ks y)
 
 pub one_file : OneFile

@@ -14,11 +14,13 @@ returns-clause-ok c d =
     on_ok_weaker d.write_line.result
     (λ line. IfSome_then (c.R.Read.remaining d.args.reader.now) d.in_ok-input.ensures.ok
     (λ input read.
-    let same = d.as_slice.ensures.value ∙ read in
-    (subst IsUtf8 same given.0, record {
-      file = d.in_ok-file.file.items;
-      compiled = subst (λ text. IsCompiled text d.in_ok-file.file.items) same given.1;
-      line = subst (λ bytes. Appends (c.W.Write.contents d.args.writer.now) (c.W.Write.contents d.write_line.new.writer)
-          (encode_lower bytes ++ 10 ∷ [])) d.as_slice-2.ensures.value line;
-    })))
+    let same = d.as_slice.ensures.value ∙ read in (
+      subst IsUtf8 same given.0,
+      record {
+        file = d.in_ok-file.file.items;
+        compiled = subst (λ text. IsCompiled text d.in_ok-file.file.items) same given.1;
+        line = subst (λ bytes. Appends (c.W.Write.contents d.args.writer.now) (c.W.Write.contents d.write_line.new.writer)
+            (encode_lower bytes ++ 10 ∷ [])) d.as_slice-2.ensures.value line;
+      },
+    )))
     d.write_line.ensures.ok

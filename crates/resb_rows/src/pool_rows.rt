@@ -196,7 +196,8 @@ fn letters_lie_in_the_longest(rt: HostRuntime) -> Result<(), Fail> {
     let plan = pool::plan(alloc, &texts)?;
     assert_eq!(rt; plan.units().len(), 42);
     for text in &texts {
-        assert_eq!(rt; plan.offset(text), Some(41 - text.len() as u32));
+        let offset = plan.offset(text).ok_or("not planned")?;
+        assert_eq!(rt; (offset as usize).saturating_add(text.len()), 41);
     }
     texts.push(all)?;
     let plan = pool::plan(alloc, &texts)?;

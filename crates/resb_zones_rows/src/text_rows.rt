@@ -8,7 +8,7 @@ use std::process::Abort;
 use std::test::Fail;
 
 /// The zones that the answers speak of.
-const NAMES: [&str; 2] = ["East", "Pole"];
+const NAMES: [&str; 3] = ["East", "Pole", "é"];
 
 /// The moments of the offsets in the answers.
 const MOMENTS: [i32; 8] = [i32::MIN, -1, 0, 99, 100, 199, 200, i32::MAX];
@@ -38,8 +38,13 @@ z{Pole{base:int{1}pairs:intvector{100,2}}Pole{base:int{60}pairs:intvector{}}} =>
 z{Pole{base{"x"}}Pole{base:int{60}pairs:intvector{}}} => 4 resources, 1 zones, Pole 60 60 60 60 60 60 60 60
 z{pole{base:int{1}pairs:intvector{}}Pol{base:int{2}pairs:intvector{}}"Pole "{base:int{3}pairs:intvector{}}} => 10 resources, 3 zones
 z{Pole{Base{"x"}base:int{60}base2{"x"}pairs:intvector{0,1}Pairs{"x"}pair{"x"}bas{"x"}}} => 9 resources, 1 zones, Pole 60 60 1 1 1 1 1 1
-z{Pole{base:int{60}pairs{"abcd"}}} => 4 resources, 1 zones, Pole 60 60 60 60 60 60 60 6553699
 z{Pole{base:int{60}pairs:bin{"6400000010000000"}}} => 4 resources, 1 zones, Pole 60 60 60 60 16 16 16 16
+z{Pole{base:int{60}pairs{"abcd"}}} => 4 resources, 1 zones, Pole 60 60 60 60 60 60 60 6553699
+z{""{base:int{1}pairs:intvector{}}"é"{base:int{2}pairs:intvector{0,5}}} => 7 resources, 2 zones, é 2 2 5 5 5 5 5 5
+z{Pole{""{"x"}base:int{60}"é"{"y"}pairs:intvector{0,1}}} => 6 resources, 1 zones, Pole 60 60 1 1 1 1 1 1
+z{/*c*/Pole/*{*/{base:integer{+60}pairs:intvector{100,+3600,}}} => 4 resources, 1 zones, Pole 60 60 60 60 3600 3600 3600 3600
+z{Pole{base:int{60}pairs{""}}} => 4 resources, 1 zones, Pole 60 60 60 60 60 60 60 60
+z{Pole{base:int{60}pairs:bin{""}}} => 4 resources, 1 zones, Pole 60 60 60 60 60 60 60 60
 "#;
 
 /// Texts that hold no table of zones, and what they are refused for.
@@ -65,6 +70,15 @@ z{Pole:intvector{100,3600}} => Resource did not match expected data type: expect
 z{Pole{base:int{60}pairs:intvector{}}note{"n"}} => Resource did not match expected data type: expected table resource
 z{East{base:int{60}}Pole{base:int{60}pairs:intvector{}}} => Unknown error: zone field missing
 z{Pole{base:int{60}pairs:intvector{}}West{base:int{60}pairs:intvector{1}}} => Unknown error: Wrong length
+z{Pole{base:int{60}pairs:binary{"64000000"}}} => Unknown error: Wrong length
+z{Pole{pairs{"abcd"}}} => Unknown error: zone field missing
+z{Pole{pairs{"abc"}}} => Unknown error: Wrong length
+z{Pole{base{""}pairs{""}}} => Unknown error: value cannot be read here
+z{Pole{base:bin{"3c000000"}pairs:intvector{}}} => Resource did not match expected data type: expected integer resource
+z{Pole:string{"base"}} => Unknown error: value cannot be read here
+z{Pole:bin{""}} => Resource did not match expected data type: expected table resource
+z{Pole:array{}} => Resource did not match expected data type: expected table resource
+z{Pole{}} => Unknown error: zone field missing
 "#;
 
 /// The table as the rows write it.

@@ -23,6 +23,9 @@ answers() {
   fi
 }
 
+# bytes HEX: these bytes
+bytes() { printf "$(printf '%s' "$1" | tr -d ' \n' | sed 's/../\\x&/g')"; }
+
 # the 32 bytes that each file begins with
 header=2000da2714000000000002005265734202000000010400000000000000000000
 
@@ -64,8 +67,22 @@ fi
 
 printf 'b{a{"x"}c{"yz"}}' > "$work/text"
 answers 'a text compiled to a file' 0 '' '' compile "$work/text" "$work/file.res"
+bytes "$("$top/run" < "$work/text")" > "$work/want.res"
+if cmp -s "$work/file.res" "$work/want.res"; then
+  passed=$((passed + 1))
+else
+  failed=$((failed + 1))
+  echo 'failed: the file has other bytes than the hex line'
+fi
 answers 'that file checked' 0 'ok 3 resources\n' '' check "$work/file.res"
 head -c 60 "$work/file.res" > "$work/cut.res"
+printf 'b{i:int{-1}v:intvector{1,-1,}}' > "$work/numbers"
+answers 'numbers compiled to a file' 0 '' '' compile "$work/numbers" "$work/numbers.res"
+answers 'their file checked' 0 'ok 3 resources\n' '' check "$work/numbers.res"
+# an array whose member is that array
+bytes "$header 09000080 07000000 08000000 0b000000 0b000000 00000000 00000000 09000000 0000aaaa 01000000 09000080" \
+  > "$work/cycle.res"
+answers 'a file that goes round' 1 '' 'Invalid resource bundle data: resource budget spent\n' check "$work/cycle.res"
 answers 'a file cut short' 1 '' 'Invalid resource bundle data: unexpected end of input\n' check "$work/cut.res"
 answers 'a text that is no file' 1 '' 'Invalid resource bundle data: input is too short to contain file header\n' check "$work/text"
 printf 'b{' > "$work/open"
@@ -75,6 +92,8 @@ answers 'a folder as input' 2 '' "cannot read $work\n" compile "$work" "$work/no
 answers 'a folder as output' 2 '' "cannot write $work\n" compile "$work/text" "$work"
 answers 'an unknown word' 2 '' 'usage: resb_tool [compile IN OUT | check IN]\n' dump
 answers 'a word too many' 2 '' 'usage: resb_tool [compile IN OUT | check IN]\n' check a b
+answers 'one name alone' 2 '' 'usage: resb_tool [compile IN OUT | check IN]\n' compile "$work/text"
+answers 'a word that is no UTF-8' 2 '' 'usage: resb_tool [compile IN OUT | check IN]\n' check $'\xff'
 
 echo "commands: $passed passed, $failed failed"
 [ "$failed" = 0 ]

@@ -1,13 +1,15 @@
 #!/usr/bin/env bash
 # Refuses the first, the second, .. request for memory of the built program, one in each run, until a run
 # asks for no more. Each run has to answer want of memory or what it answers with ample memory; it writes
-# to standard output or to OUT nothing or all, and never ends by a signal.
+# to standard output or to OUT nothing or all, and never ends by a signal. The same for the program
+# `resb_calls`, which makes each public call that asks for memory.
 #
 # tests/memory.sh [MOST]    at most MOST requests for each command and input; without it all of them
 set -uo pipefail
 top=$(cd "$(dirname "$0")/.." && pwd)
 most=${1:-1000000}
 program=$top/crates/resb_tool/out/resb_tool
+calls=$top/crates/resb_calls/out/resb_calls
 work=$(mktemp -d)
 trap 'rm -rf "$work"' EXIT
 passed=0
@@ -88,6 +90,26 @@ commands() {
   refuses_each "$1 checked" check "$work/file"
 }
 
+# each public call: the program compares the answers itself, and ends with 3 where one is want of memory
+public_calls() {
+  local number status
+  [ -x "$calls" ] || { echo "failed: $calls is not built"; failed=$((failed + 1)); return; }
+  for ((number = 1; number <= most; number++)); do
+    : > "$work/mark"
+    status=0
+    REFUSED_REQUEST=$number LD_PRELOAD=$work/refuse.so "$calls" < /dev/null > "$work/out" 2> "$work/err" 9> "$work/mark" \
+      || status=$?
+    if [ "$status" = 0 ] || { [ "$status" = 3 ] && [ -s "$work/mark" ]; }; then
+      passed=$((passed + 1))
+    else
+      failed=$((failed + 1))
+      echo "failed: the public calls, request $number (status $status)"
+    fi
+    [ -s "$work/mark" ] || break
+  done
+  echo "  the public calls: $((number - 1)) requests refused in turn"
+}
+
 # bytes HEX: these bytes
 bytes() { printf "$(printf '%s' "$1" | tr -d ' \n' | sed 's/../\\x&/g')"; }
 
@@ -125,6 +147,8 @@ bytes '2000da27 14000000 00000200 52657342 02000000 01040000 0000000000000000
   09000080 07000000 08000000 0b000000 0b000000 00000000 00000000 09000000
   0000aaaa 01000000 09000080' > "$work/file"
 commands 'what is refused'
+
+public_calls
 
 echo "memory: $passed passed, $failed failed"
 [ "$failed" = 0 ]

@@ -68,8 +68,9 @@ for text in text long; do
 done
 { status=0; sleep 0.2; "$program" check "$work/file" 2> "$work/err" || status=$?; echo "$status" > "$work/status"; } | true
 ends 'a closed pipe behind the count' 2 "$(cat "$work/status")" 'cannot write standard output'
+# the line is longer than a pipe holds, so it can't be written whole before `head` goes
 { status=0; "$program" < "$work/long" 2> "$work/err" || status=$?; echo "$status" > "$work/status"; } | head -c 5 > "$work/front"
-holds 'a pipe that is closed in the middle' [ "$(cat "$work/status")" -le 2 ]
+ends 'a pipe that is closed in the middle' 2 "$(cat "$work/status")" 'cannot write standard output'
 
 # standard input
 runs < "$work" > "$work/out"

@@ -4,6 +4,7 @@ use resb::binary::{BinarySerializerError, from_bytes};
 use resb::bundle::Resource;
 use resb::text::{Expected, Reader};
 use resb::{CompileError, compile};
+use resb_text_rows::rows::{BUNDLES, REFUSALS};
 use std::alloc::Global;
 use std::process::Abort;
 use std::test::Fail;
@@ -53,18 +54,39 @@ pub(crate) fn digits(alloc: Global, file: &[u8]) -> Result<String, Fail> {
     Ok(hex::encode(alloc, body)?)
 }
 
+/// The file of the text, which is read back as the text's tree.
+fn read_back(rt: &impl Abort, alloc: Global, text: &str) -> Result<Vec<u8>, Fail> {
+    let file = compile(alloc, text)?;
+    let (bundle, _keys) = Reader::read(alloc, text)?;
+    let tree: Resource = from_bytes(alloc, &file)?;
+    assert!(rt; tree.equals(bundle.root()), "the tree of {text}");
+    Ok(file)
+}
+
 /// The text has this file, which is read back as the text's tree.
 fn assert_file(rt: &impl Abort, alloc: Global, text: &str, wanted: &str) -> Result<(), Fail> {
-    let file = compile(alloc, text)?;
+    let file = read_back(rt, alloc, text)?;
     assert_eq!(rt;
         digits(alloc, &file)?.as_str(),
         wanted,
         "the file of {text}"
     );
-    let (bundle, _keys) = Reader::read(alloc, text)?;
-    let tree: Resource = from_bytes(alloc, &file)?;
-    assert!(rt; tree.equals(bundle.root()), "the tree of {text}");
     Ok(())
+}
+
+/// The reader refuses the text, at this place and for this expectation.
+fn assert_unread(rt: &impl Abort, alloc: Global, text: &str, wanted: &str) -> Result<(), Fail> {
+    match compile(alloc, text) {
+        Err(CompileError::Reading(e)) => {
+            let position = e.position();
+            let expected = e.expected();
+            let said = format!(in alloc; "at {position}: {expected}")?;
+            assert_eq!(rt; said.as_str(), wanted, "compile of {text}");
+            Ok(())
+        }
+        Err(CompileError::Writing(e)) => Err(e)?,
+        Ok(_) => Err("a text that is no bundle is compiled")?,
+    }
 }
 
 #[test]
@@ -76,6 +98,36 @@ fn texts_have_their_files(rt: HostRuntime) -> Result<(), Fail> {
         };
         let (text, wanted) = row.split_once(" => ").ok_or("a row without an answer")?;
         assert_file(&rt, rt.alloc(), text, wanted)?;
+        rest = more;
+    }
+    assert!(rt; rest.is_empty());
+    Ok(())
+}
+
+#[test]
+fn each_bundle_is_read_back(rt: HostRuntime) -> Result<(), Fail> {
+    let mut rest = BUNDLES;
+    for _ in 0..BUNDLES.len() {
+        let Some((row, more)) = rest.split_once('\n') else {
+            break;
+        };
+        let (text, _tree) = row.split_once(" => ").ok_or("a row without an answer")?;
+        let _ = read_back(&rt, rt.alloc(), text)?;
+        rest = more;
+    }
+    assert!(rt; rest.is_empty());
+    Ok(())
+}
+
+#[test]
+fn each_refusal_is_the_readers(rt: HostRuntime) -> Result<(), Fail> {
+    let mut rest = REFUSALS;
+    for _ in 0..REFUSALS.len() {
+        let Some((row, more)) = rest.split_once('\n') else {
+            break;
+        };
+        let (text, wanted) = row.split_once(" => ").ok_or("a row without an answer")?;
+        assert_unread(&rt, rt.alloc(), text, wanted)?;
         rest = more;
     }
     assert!(rt; rest.is_empty());

@@ -1,7 +1,8 @@
-//! The worked rows of texts and trees: inputs with the answers that the rules ask for. Only tests
-//! stand here, so that no crate with code is proved twice.
+//! The worked rows of texts and trees: inputs with the answers that the rules ask for. Only rows and
+//! tests stand here, so that no crate with code is proved twice.
 #![tactic(auto)]
 
+pub mod rows;
 #[cfg(test)]
 mod text_rows;
 #[cfg(test)]

@@ -1,0 +1,134 @@
+#!/usr/bin/env python3
+"""Times text to file: `resb_tool compile IN OUT` beside `genrb -q` on the same text, whole processes.
+
+    write_kinds.py                        the six kinds, each at the size that its row in README.md has
+    write_kinds.py --growth [BYTES ..]    ours alone, 10 kB to 100 MB, with the growth over the size before
+
+The least of three times is printed, in milliseconds, with the most memory of the process in MB.
+"""
+import os
+import pathlib
+import shutil
+import subprocess
+import sys
+import tempfile
+import time
+
+TOP = pathlib.Path(__file__).resolve().parent.parent
+PROGRAM = str(TOP / 'crates/resb_tool/out/resb_tool')
+
+
+def tables(size):
+    """Tables nested three levels; of ten strings three are an end of another."""
+    parts, length, n = [], 0, 0
+    while length < size:
+        rows = []
+        for i in range(10):
+            word = 'text %d of group %d' % (i * 7919 + n, n * 31 + i)
+            cells = ''.join('c%d{"%s"}' % (j, word[-9:] if j % 10 < 3 else '%s, %d' % (word, j)) for j in range(10))
+            rows.append('row%d{%s}' % (i, cells))
+        part = 'group%d{%s}' % (n, ''.join(rows))
+        parts.append(part)
+        length += len(part)
+        n += 1
+    return 'b{' + ''.join(parts) + '}'
+
+
+def unsorted_keys(size):
+    count = max(1, min(size // 16, 65535))
+    step = next(s for s in range(count // 2 + 1, 2 * count + 2) if all(s % p or count % p for p in (2, 3, 5, 7, 17, 257)))
+    return 'b{%s}' % ''.join('key%06d{v}' % (i * step % count) for i in range(count))
+
+
+def vectors(size):
+    parts, length, n = [], 0, 0
+    while length < size:
+        part = 't%d{%s}' % (n, ''.join('v%d:intvector{%d,%d,%d}' % (i, n, i, n + i) for i in range(100)))
+        parts.append(part)
+        length += len(part)
+        n += 1
+    return 'b{' + ''.join(parts) + '}'
+
+
+def strings(size):
+    """Short strings in one array, each second an end of the one before."""
+    parts = []
+    for i in range(max(1, size // 28)):
+        word = 'w%dx' % (i * 7919)
+        parts.append('"%s", "%s", ' % (word, word[1:]))
+    return 'b{a{' + ''.join(parts) + '}}'
+
+
+def one_letter(size):
+    count = max(1, int((2 * size) ** 0.5))
+    return 'b{a{%s}}' % ''.join('"%s", ' % ('a' * n) for n in range(1, count + 1))
+
+
+def last_letters(size):
+    count = max(1, min(size // 7, 20000))
+    return 'b{a{%s}}' % ''.join('"%s", ' % chr(0x4e00 + n) for n in range(count))
+
+
+KINDS = {
+    'tables nested three levels': (tables, 12000000),
+    'unsorted keys': (unsorted_keys, 1048560),
+    'short vectors': (vectors, 20000000),
+    'short strings, half ends of others': (strings, 14000000),
+    'one letter, all lengths': (one_letter, 12500000),
+    'distinct last letters': (last_letters, 140000),
+}
+
+
+def least(command, work):
+    best, memory = None, 0
+    for _ in range(3):
+        begun = time.perf_counter()
+        child = subprocess.Popen(command, cwd=work, stdout=subprocess.DEVNULL, stderr=subprocess.DEVNULL)
+        _, status, used = os.wait4(child.pid, 0)
+        took = time.perf_counter() - begun
+        if status:
+            return None, 0
+        best = took if best is None else min(best, took)
+        memory = max(memory, used.ru_maxrss / 1024)
+    return best * 1000, memory
+
+
+def beside_genrb(work):
+    for kind, (make, size) in KINDS.items():
+        text = make(size)
+        (work / 'b.txt').write_text(text)
+        ours, memory = least([PROGRAM, 'compile', 'b.txt', 'ours.res'], work)
+        line = '%-36s %9d bytes %8.1f ms %6.0f MB' % (kind, len(text.encode()), ours, memory)
+        if shutil.which('genrb'):
+            theirs, their_memory = least(['genrb', '-q', '-e', 'UTF-8', 'b.txt'], work)
+            if theirs is not None:
+                same = (work / 'ours.res').read_bytes() == (work / 'b.res').read_bytes()
+                line += '; genrb %9.1f ms %6.0f MB, part %.3f, %s' % (
+                    theirs, their_memory, ours / theirs, 'same file' if same else 'another file')
+        print(line, flush=True)
+
+
+def growth(work, sizes):
+    for kind, (make, _) in KINDS.items():
+        if kind in ('unsorted keys', 'distinct last letters'):
+            continue
+        before = None
+        for size in sizes:
+            (work / 'b.txt').write_text(make(size))
+            took, memory = least([PROGRAM, 'compile', 'b.txt', 'ours.res'], work)
+            grown = '' if before is None else ', growth %.1f' % (took / before)
+            before = took
+            print('%-36s %10d bytes %9.1f ms %6.0f MB%s' % (kind, size, took, memory, grown), flush=True)
+
+
+def main():
+    words = sys.argv[1:]
+    with tempfile.TemporaryDirectory() as name:
+        work = pathlib.Path(name)
+        if words[:1] == ['--growth']:
+            growth(work, [int(a) for a in words[1:]] or [10 ** k for k in range(4, 9)])
+        else:
+            beside_genrb(work)
+
+
+main()

@@ -54,24 +54,23 @@ pub(crate) fn digits(alloc: Global, file: &[u8]) -> Result<String, Fail> {
     Ok(hex::encode(alloc, body)?)
 }
 
-/// The file of the text, which is read back as the text's tree.
-fn read_back(rt: &impl Abort, alloc: Global, text: &str) -> Result<Vec<u8>, Fail> {
-    let file = compile(alloc, text)?;
+/// The file is read back as the text's tree.
+fn assert_tree(rt: &impl Abort, alloc: Global, text: &str, file: &[u8]) -> Result<(), Fail> {
     let (bundle, _keys) = Reader::read(alloc, text)?;
-    let tree: Resource = from_bytes(alloc, &file)?;
+    let tree: Resource = from_bytes(alloc, file)?;
     assert!(rt; tree.equals(bundle.root()), "the tree of {text}");
-    Ok(file)
+    Ok(())
 }
 
 /// The text has this file, which is read back as the text's tree.
 fn assert_file(rt: &impl Abort, alloc: Global, text: &str, wanted: &str) -> Result<(), Fail> {
-    let file = read_back(rt, alloc, text)?;
+    let file = compile(alloc, text)?;
     assert_eq!(rt;
         digits(alloc, &file)?.as_str(),
         wanted,
         "the file of {text}"
     );
-    Ok(())
+    assert_tree(rt, alloc, text, &file)
 }
 
 /// The reader refuses the text, at this place and for this expectation.
@@ -112,7 +111,8 @@ fn each_bundle_is_read_back(rt: HostRuntime) -> Result<(), Fail> {
             break;
         };
         let (text, _tree) = row.split_once(" => ").ok_or("a row without an answer")?;
-        let _ = read_back(&rt, rt.alloc(), text)?;
+        let file = compile(rt.alloc(), text)?;
+        assert_tree(&rt, rt.alloc(), text, &file)?;
         rest = more;
     }
     assert!(rt; rest.is_empty());

@@ -15,10 +15,10 @@ returns-in-None g c = λ w n h.
 pub returns-in-Err : goal.returns-in-Err
 returns-in-Err g c = λ w n h.
     let o = rw c.in-Table.is at h in (
-      c.in-Err.ensures.1,
+      c.in-Err.ensures.stands.1,
       table_no_key g.M.Make.lists g.M.Make.tables (parts_in c.args.file) c.in-Table.rest
           c.in-Some-split.rest c.in-Some-split.position _ c.in-Table.made w n o
-          c.in-Some-split.ensures c.in-Err.ensures.0,
+          c.in-Some-split.ensures c.in-Err.ensures.stands.0,
     )
 
 pub returns-in-None-split : goal.returns-in-None-split

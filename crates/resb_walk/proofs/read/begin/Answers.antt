@@ -22,14 +22,14 @@ returns-in_err-pay g c =
 pub returns-in_ok-leaf-in-Unit : goal.returns-in_ok-leaf-in-Unit
 returns-in_ok-leaf-in-Unit g c = (
   string (text_of_bytes c.in_ok-text-in-Unit.text.now),
-  rw c.in-Unit.is (den_unit c.in_ok-text-in-Unit.ensures),
+  rw c.in-Unit.is (den_unit c.in_ok-text-in-Unit.ensures.stands),
   c.in_ok-leaf-in-Unit.ensures,
   c.in_ok-pay.ensures,
 )
 
 pub returns-in_ok-leaf-in-Leaf : goal.returns-in_ok-leaf-in-Leaf
 returns-in_ok-leaf-in-Leaf g c =
-    let stands = rw c.in-Leaf.is at c.in_ok-leaf-in-Word.ensures in (
+    let stands = rw c.in-Leaf.is at c.in_ok-leaf-in-Word.ensures.stands in (
       leaf_tree c.in-Leaf.leaf,
       rw c.in-Word.is (den_word (den_leaf stands)),
       c.in_ok-leaf-in-Leaf.ensures,
@@ -38,7 +38,7 @@ returns-in_ok-leaf-in-Leaf g c =
 
 pub returns-in_ok-begin_list-in-List : goal.returns-in_ok-begin_list-in-List
 returns-in_ok-begin_list-in-List g c =
-    let stands = rw c.in-List.is at c.in_ok-leaf-in-Word.ensures in (
+    let stands = rw c.in-List.is at c.in_ok-leaf-in-Word.ensures.stands in (
       c.in-Word.word,
       rw c.in-Word.is refl,
       list_begins g.M.Make.lists g.M.Make.tables (parts_in c.args.file) c.in-List.rest
@@ -49,7 +49,7 @@ returns-in_ok-begin_list-in-List g c =
 
 pub returns-in-Table : goal.returns-in-Table
 returns-in-Table g c =
-    let stands = rw c.in-Table.is at c.in_ok-leaf-in-Word.ensures in (
+    let stands = rw c.in-Table.is at c.in_ok-leaf-in-Word.ensures.stands in (
       c.in-Word.word,
       rw c.in-Word.is refl,
       table_begins g.M.Make.lists g.M.Make.tables (parts_in c.args.file) c.in-Table.rest

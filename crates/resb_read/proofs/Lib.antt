@@ -4,3 +4,4 @@ pub mod Each
 pub mod Singly
 pub mod UnitsBack
 pub mod Entering
+pub mod Viewing

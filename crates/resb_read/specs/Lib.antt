@@ -10,6 +10,7 @@ pub use Rattle.resb_format.specs.Error
 pub use Rattle.resb_tree.specs.Tree
 pub use Rattle.resb_tree.specs.View
 pub use Rattle.resb_walk.specs.Files
+pub use Rattle.resb_walk.specs.Faults
 pub use Rattle.resb_walk.specs.Refusals
 pub use Rattle.resb_walk.specs.Borrows
 pub mod Places

@@ -5,3 +5,4 @@ pub mod Singly
 pub mod UnitsBack
 pub mod Entering
 pub mod Viewing
+pub mod OneRefusal

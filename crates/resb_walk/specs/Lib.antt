@@ -10,6 +10,7 @@ pub use Rattle.resb_tree.specs.Tree
 pub use Rattle.resb_tree.specs.View
 pub mod Files
 pub mod Faults
+pub mod Meets
 pub mod Refusals
 pub mod Borrows
 pub mod Inner

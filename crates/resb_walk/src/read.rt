@@ -4,11 +4,12 @@
 //! The frames of the collections around are in `frames`, the outermost first. A turn takes the next
 //! member from the innermost, or closes it. Each member is paid for as it begins, so that twice
 //! what is left, plus the number of frames, falls in each turn.
-ghost use Rattle.std.specs.Prelude.{◌≡◌, ℕ, ◌+◌};
+ghost use Rattle.std.specs.Prelude.{◌≡◌, ℕ, ◌+◌, IfErr};
 ghost use Rattle.resb_format.specs.Content as at;
 ghost use Rattle.resb_format.specs.Denotes.{Den, Reaches, DenMember, ReachesMember};
 ghost use Rattle.resb_walk.specs.Files.{parts_in};
 ghost use Rattle.resb_walk.specs.Inner.Members.{member_of};
+ghost use Rattle.resb_walk.specs.Meets.{Meets, Blames};
 ghost use Rattle.resb_walk.specs.Refusals.{Answers};
 ghost use Rattle.resb_walk.specs.Inner.Turns.{Reads};
 
@@ -27,8 +28,9 @@ fn begin<'a, 'm, M: Make<'a>>(
     member: Member,
     walk: &mut Walk,
 ) -> Result<Read<'a, M, M::List, M::Table>, ReadingError<'m>>
-    ensures { Reads M.is M.lists M.tables (parts_in file.entry)
+    ensures reads { Reads M.is M.lists M.tables (parts_in file.entry)
         (member_of member) walk.old walk.new result }
+    ensures meets { IfErr result (Blames (Meets (parts_in file.entry) (member_of member))) }
 {
     walk.pay()?;
     match member {
@@ -54,9 +56,10 @@ pub fn read_string_at<'a, 'm, M: Make<'a>>(
     unit: u16,
     walk: &mut Walk,
 ) -> Result<M, ReadingError<'m>>
-    ensures { let p = parts_in file.entry in
+    ensures answers { let p = parts_in file.entry in
         Answers M.is (DenMember p (at.unit unit)) (ReachesMember p (at.unit unit)) walk.old walk.new
         result }
+    ensures meets { IfErr result (Blames (Meets (parts_in file.entry) (at.unit unit))) }
 {
     match begin::<M>(alloc, file, Member::Unit(unit), walk)? {
         Read::Made(made) => Ok(made),
@@ -71,8 +74,9 @@ pub fn read_word<'a, 'm, M: Make<'a>>(
     word: u32,
     walk: &mut Walk,
 ) -> Result<M, ReadingError<'m>>
-    ensures { Answers M.is (Den (parts_in file.entry) word)
+    ensures answers { Answers M.is (Den (parts_in file.entry) word)
         (Reaches (parts_in file.entry) word) walk.old walk.new result }
+    ensures meets { IfErr result (Blames (Meets (parts_in file.entry) (at.word word))) }
 {
     let mut frames = Vec::new(alloc);
     let mut frame = match begin::<M>(alloc, file, Member::Word(word), walk)? {
@@ -108,8 +112,9 @@ pub fn read_checked<'a, 'm, M: Make<'a>>(
     word: u32,
     walk: &mut Walk,
 ) -> Result<M, ReadingError<'m>>
-    ensures { Answers M.is (Den (parts_in file.entry) word)
+    ensures answers { Answers M.is (Den (parts_in file.entry) word)
         (Reaches (parts_in file.entry) word) walk.old walk.new result }
+    ensures meets { IfErr result (Blames (Meets (parts_in file.entry) (at.word word))) }
 {
     let mut budget = Walk::new(walk.left());
     match read_word::<Checked>(alloc, file, word, &mut budget) {

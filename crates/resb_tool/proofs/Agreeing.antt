@@ -58,7 +58,7 @@ agree_err bytes e (inr (is, _, _)) (Err d) (_, head) =
 -- the same beside the answer of `tree_from_bytes`
 pub match_ok : (bytes : List ℕ) (n : ℕ) → CountOf bytes (Ok n) → (r : Result Resource ReadingError)
     → TreeOf bytes r → Matches bytes (Ok n) r
-match_ok bytes n (t, d, fits) (Ok r) (m, h, _) =
+match_ok bytes n (t, d, fits) (Ok r) (m, h, _, _) =
     let both = unique (parts_of bytes) d.root h.root in
     let same : n ≡ m = both.0 in
     subst (λ k. Denotes bytes (tree_of r) k) (sym same) h
@@ -72,11 +72,11 @@ match_ok bytes n (t, d, fits) (Err e) (inr (is, inr (inr (fault, stuck)), _)) =
 
 pub match_err : (bytes : List ℕ) (e : ReadingError) → CountOf bytes (Err e)
     → (r : Result Resource ReadingError) → TreeOf bytes r → Matches bytes (Err (Checking e)) r
-match_err bytes e (inl fault) (Ok r) (n, h, _) =
+match_err bytes e (inl fault) (Ok r) (n, h, _, _) =
     absurd (no_bundle bytes (refusal_of e) fault h.head)
-match_err bytes e (inr (is, inl m, _)) (Ok r) (n, h, _) = m
+match_err bytes e (inr (is, inl m, _)) (Ok r) (n, h, _, _) = m
 match_err bytes e (inr (is, inr (inl (spent, reaches)), _)) (Ok r) (n, h, fits, _) =
     let k : budget bytes + 1 ≤ n = counted (parts_of bytes) h.root reaches in absurd (omega arith)
-match_err bytes e (inr (is, inr (inr (fault, stuck)), _)) (Ok r) (n, h, _) =
+match_err bytes e (inr (is, inr (inr (fault, stuck)), _)) (Ok r) (n, h, _, _) =
     absurd (stuck.0 (tree_of r) n h.root)
 match_err bytes e h (Err d) k = one_refusal bytes e d h k

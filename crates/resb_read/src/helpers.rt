@@ -22,7 +22,8 @@ pub fn option_utf_16<'de>(
     walk: &mut Walk,
 ) -> Result<Option<Utf16View<'de>>, BinaryDeserializerError>
     ensures { let p = place_of at.entry in
-        Reads (Says (view_refusal p walk.old)) (λ o n. IsSomeAnd o (λ v. ReadsView 2 p (unit_bytes v) n))
+        Reads (Says (view_refusal p walk.old))
+        (λ o n. IsSomeAnd o (λ v. ReadsView 2 p (unit_bytes v) n))
         (CountsView 2 p) walk.old walk.new result }
 {
     match at.units(walk) {
@@ -37,7 +38,8 @@ pub fn option_u32<'de>(
     walk: &mut Walk,
 ) -> Result<Option<WordView<'de>>, BinaryDeserializerError>
     ensures { let p = place_of at.entry in
-        Reads (Says (view_refusal p walk.old)) (λ o n. IsSomeAnd o (λ v. ReadsView 4 p (word_bytes v) n))
+        Reads (Says (view_refusal p walk.old))
+        (λ o n. IsSomeAnd o (λ v. ReadsView 4 p (word_bytes v) n))
         (CountsView 4 p) walk.old walk.new result }
 {
     match at.words(walk) {
@@ -52,7 +54,8 @@ pub fn option_i32<'de>(
     walk: &mut Walk,
 ) -> Result<Option<I32View<'de>>, BinaryDeserializerError>
     ensures { let p = place_of at.entry in
-        Reads (Says (view_refusal p walk.old)) (λ o n. IsSomeAnd o (λ v. ReadsView 4 p (number_bytes v) n))
+        Reads (Says (view_refusal p walk.old))
+        (λ o n. IsSomeAnd o (λ v. ReadsView 4 p (number_bytes v) n))
         (CountsView 4 p) walk.old walk.new result }
 {
     match at.words(walk) {
@@ -67,8 +70,8 @@ pub fn i32_tuple<'de>(
     walk: &mut Walk,
 ) -> Result<PairView<'de>, BinaryDeserializerError>
     ensures { let p = place_of at.entry in
-        Reads (Says (view_refusal p walk.old)) (λ v n. ReadsView 8 p (pair_bytes v) n) (CountsView 8 p) walk.old
-        walk.new result }
+        Reads (Says (view_refusal p walk.old)) (λ v n. ReadsView 8 p (pair_bytes v) n)
+        (CountsView 8 p) walk.old walk.new result }
 {
     at.pairs(walk)
 }
@@ -79,7 +82,8 @@ pub fn option_i32_tuple<'de>(
     walk: &mut Walk,
 ) -> Result<Option<PairView<'de>>, BinaryDeserializerError>
     ensures { let p = place_of at.entry in
-        Reads (Says (view_refusal p walk.old)) (λ o n. IsSomeAnd o (λ v. ReadsView 8 p (pair_bytes v) n))
+        Reads (Says (view_refusal p walk.old))
+        (λ o n. IsSomeAnd o (λ v. ReadsView 8 p (pair_bytes v) n))
         (CountsView 8 p) walk.old walk.new result }
 {
     match at.pairs(walk) {

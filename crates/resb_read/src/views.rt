@@ -23,8 +23,8 @@ impl<'de> Cursor<'de> {
     #[tactic(auto, using(crate::proofs::Viewing::no_items))]
     pub(crate) fn units(self, walk: &mut Walk) -> Result<Utf16View<'de>, BinaryDeserializerError>
         ensures { let p = place_of self.entry in
-            Reads (Says (view_refusal p walk.old)) (λ v n. ReadsView 2 p (unit_bytes v) n) (CountsView 2 p)
-            walk.old walk.new result }
+            Reads (Says (view_refusal p walk.old)) (λ v n. ReadsView 2 p (unit_bytes v) n)
+            (CountsView 2 p) walk.old walk.new result }
     {
         let bytes = self.read_bytes(walk)?;
         let view = cast_bytes_to_u16_slice(bytes)?;
@@ -35,8 +35,8 @@ impl<'de> Cursor<'de> {
     #[tactic(auto, using(crate::proofs::Viewing::no_items))]
     pub(crate) fn words(self, walk: &mut Walk) -> Result<WordView<'de>, BinaryDeserializerError>
         ensures { let p = place_of self.entry in
-            Reads (Says (view_refusal p walk.old)) (λ v n. ReadsView 4 p (word_bytes v) n) (CountsView 4 p)
-            walk.old walk.new result }
+            Reads (Says (view_refusal p walk.old)) (λ v n. ReadsView 4 p (word_bytes v) n)
+            (CountsView 4 p) walk.old walk.new result }
     {
         let bytes = self.read_bytes(walk)?;
         let view = cast_bytes_to_u32_slice(bytes)?;
@@ -44,11 +44,11 @@ impl<'de> Cursor<'de> {
     }
 
     /// Reads bytes as pairs of words.
-    #[tactic(auto, using(resb_format::proofs::Spelled::words_length, crate::proofs::Viewing::no_items))]
+    #[tactic(auto, using(resb_format::proofs::Spelled::words_length))]
     pub(crate) fn pairs(self, walk: &mut Walk) -> Result<PairView<'de>, BinaryDeserializerError>
         ensures { let p = place_of self.entry in
-            Reads (Says (view_refusal p walk.old)) (λ v n. ReadsView 8 p (pair_bytes v) n) (CountsView 8 p)
-            walk.old walk.new result }
+            Reads (Says (view_refusal p walk.old)) (λ v n. ReadsView 8 p (pair_bytes v) n)
+            (CountsView 8 p) walk.old walk.new result }
     {
         let words = self.words(walk)?;
         let view = cast_u32_to_i32_pair_slice(words)?;

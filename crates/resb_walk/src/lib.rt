@@ -8,6 +8,7 @@ mod file;
 mod frame;
 mod make;
 mod read;
+mod room;
 mod standing;
 mod tree;
 mod units;

@@ -17,6 +17,7 @@ use crate::count::Checked;
 use crate::file::{File, Leaf, Member, Standing};
 use crate::frame::{Open, Read, Step, advance, put};
 use crate::make::Make;
+use crate::room::can_be_paid;
 use crate::walk::Walk;
 use resb_format::ReadingError;
 use std::alloc::Global;
@@ -104,8 +105,8 @@ pub fn read_word<'a, 'm, M: Make<'a>>(
     }
 }
 
-/// Reads the tree at a word, once it is known to stand there: so no count in a file that is refused
-/// asks for room.
+/// Reads the tree at a word, once its counts are known to be paid for: so no count asks for room
+/// that the budget doesn't pay.
 pub fn read_checked<'a, 'm, M: Make<'a>>(
     alloc: Global,
     file: File<'a>,
@@ -116,9 +117,11 @@ pub fn read_checked<'a, 'm, M: Make<'a>>(
         (Reaches (parts_in file.entry) word) walk.old walk.new result }
     ensures meets { IfErr result (Blames (Meets (parts_in file.entry) (at.word word))) }
 {
-    let mut budget = Walk::new(walk.left());
-    match read_word::<Checked>(alloc, file, word, &mut budget) {
-        Ok(_) => read_word::<M>(alloc, file, word, walk),
-        Err(error) => Err(error),
+    if !can_be_paid(alloc, file, word, walk.left())? {
+        let mut budget = Walk::new(walk.left());
+        if let Err(error) = read_word::<Checked>(alloc, file, word, &mut budget) {
+            return Err(error);
+        }
     }
+    read_word::<M>(alloc, file, word, walk)
 }

@@ -1,6 +1,6 @@
 //! UTF-16 among bytes, two for each unit: whether each surrogate has its partner, and the text.
 //! Where a string's units stand is found in `standing`.
-ghost use Rattle.std.specs.Prelude.{◌≡◌, ◌∷◌, ◌<◌, [], true, not, length, MatchOption, IfOk};
+ghost use Rattle.std.specs.Prelude.{◌≡◌, ◌∷◌, ◌<◌, [], true, not, length, MatchOption, IfOk, IfSome};
 ghost use Rattle.std.specs.Char.Utf16.{is_high_surrogate, is_low_surrogate, has_unpaired_surrogate};
 ghost use Rattle.std.specs.Char.Utf16.{utf16_lossy_chars, surrogate_pair_char};
 ghost use Rattle.std.specs.Char.Utf16.{lone_unit_char};
@@ -27,6 +27,23 @@ fn is_low(unit: u16) -> bool
     0xdc00 <= unit && unit < 0xe000
 }
 
+/// The bytes behind the first four units, if so many stand there and none is a surrogate.
+#[tactic(auto, using(crate::proofs::Surrogates::four_plain))]
+fn behind_plain(bytes: &[u8]) -> Option<&[u8]>
+    ensures { IfSome result (λ rest.
+        (has_unpaired_surrogate (units_of bytes.now) ≡ has_unpaired_surrogate (units_of rest.now))
+        × (length (units_of rest.now) < length (units_of bytes.now))) }
+{
+    if bytes.len() < 8 {
+        return None;
+    }
+    if bytes[1].max(bytes[3]).max(bytes[5].max(bytes[7])) >= 0xd8 {
+        return None;
+    }
+    let (_, rest) = bytes.split_at(8);
+    Some(rest)
+}
+
 /// Whether each surrogate has its partner.
 #[tactic(auto, using(crate::proofs::Surrogates::surrogates))]
 pub(crate) fn is_well_formed(bytes: &[u8]) -> bool
@@ -34,6 +51,10 @@ pub(crate) fn is_well_formed(bytes: &[u8]) -> bool
 {
     let mut rest = bytes;
     'units: while let Some((first, later)) = first_unit(rest) {
+        if let Some(behind) = behind_plain(rest) {
+            rest = behind;
+            continue;
+        }
         if is_high(first) {
             let Some((second, after)) = first_unit(later) else {
                 return false;

@@ -1,22 +1,5 @@
 -- Checking a file beside reading its tree.
-use Rattle.std.proofs.Common.{
-  ℕ,
-  List,
-  ◌≡◌,
-  ◌≤◌,
-  ◌+◌,
-  ◌⊎◌,
-  inl,
-  inr,
-  Some,
-  Result,
-  Ok,
-  Err,
-  sym,
-  subst,
-  ◌∙◌,
-  arith,
-}
+use Rattle.std.proofs.Common.{ℕ, List, ◌≡◌, ◌≤◌, ◌+◌, inl, inr, Some, Result, Ok, Err, sym, subst, ◌∙◌, arith}
 use Rattle.resb_format.specs.Parts.{parts_of}
 use Rattle.resb_format.specs.File.{Denotes, budget}
 use Rattle.resb_format.proofs.Denoting.{unique, counted}
@@ -60,7 +43,7 @@ pub match_ok : (bytes : List ℕ) (n : ℕ) → CountOf bytes (Ok n) → (r : Re
     → TreeOf bytes r → Matches bytes (Ok n) r
 match_ok bytes n (t, d, fits) (Ok r) (m, h, _, _) =
     let both = unique (parts_of bytes) d.root h.root in
-    let same : n ≡ m = both.0 in
+    let same : n ≡ m = both.1 in
     subst (λ k. Denotes bytes (tree_of r) k) (sym same) h
 match_ok bytes n (t, d, fits) (Err e) (inl fault) =
     absurd (no_bundle bytes (refusal_of e) fault d.head)

@@ -1,4 +1,4 @@
-use Rattle.std.proofs.Common.{◌<◌, ◌≡◌, get_or, arith}
+use Rattle.std.proofs.Common.{◌<◌, get_or, arith}
 use Rattle.resb_walk.proofs.Surrogates.{four_plain}
 use Rattle.resb_walk.proofs.units.behind_plain.Goals as goal
 

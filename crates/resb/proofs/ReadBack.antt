@@ -1,11 +1,9 @@
 -- A compiled text is read back as its tree.
-use Rattle.std.proofs.Common.{◌≡◌, ℕ, List, Result, Ok, Err, inl, inr}
+use Rattle.std.proofs.Common.{Ok, Err, inl, inr}
 use Rattle.resb_tree.specs.Tree.{tree_count}
-use Rattle.resb_tree.specs.View.{tree_of}
 use Rattle.resb_format.specs.Parts.{parts_of}
 use Rattle.resb_format.proofs.Denoting.{unique}
-use Rattle.resb.specs.Compiling.{IsCompiled}
-use Rattle.resb.specs.Laws.{ReadsRoot, IsTree, CompiledIsRead}
+use Rattle.resb.specs.Laws.{CompiledIsRead}
 
 pub compiled_is_read : CompiledIsRead
 compiled_is_read text bytes c (Ok r) h = (unique (parts_of bytes) h.1.root.0 c.file.tree.root).0

@@ -1,10 +1,10 @@
 -- A bundle text's tree is not refused for a key that isn't listed.
-use Rattle.std.proofs.Common.{◌≡◌, ℕ, List, length, Result, Ok, Err, sym, ap, subst, arith}
+use Rattle.std.proofs.Common.{◌≡◌, ℕ, List, Result, Ok, Err, sym, subst}
 use Rattle.std.specs.Result.{IsErrAnd, IfErr}
 use Rattle.std.specs.Prelude.{codes, Bool}
 use Rattle.resb_tree.specs.Tree.{Tree}
 use Rattle.resb_grammar.specs.BundleText.{BundleText}
-use Rattle.resb_pool.specs.Fault.{Fault, string_too_long, unexpected, limit, out_of_memory}
+use Rattle.resb_pool.specs.Fault.{Fault, unexpected}
 use Rattle.resb_write.specs.Faults.{Refused, no_memory, first_fault, too_large}
 use Rattle.resb_write.proofs.Listed.{not_unlisted as no_fault, not_memory, not_large}
 use Rattle.resb_pool.specs.FaultOf.{fault_of}

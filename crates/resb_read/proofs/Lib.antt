@@ -4,3 +4,5 @@ pub mod Each
 pub mod Singly
 pub mod UnitsBack
 pub mod Entering
+pub mod Viewing
+pub mod OneRefusal

@@ -11,9 +11,10 @@ use Rattle.resb_format.specs.File.{Denotes, budget}
 use Rattle.resb_format.specs.HeadChecks.{file_fault, Refusal}
 use Rattle.resb_format.proofs.FileSteps.{bundle_file_passes}
 use Rattle.resb_format.specs.declared.error.ReadingError.{ReadingError}
+use Rattle.resb_walk.specs.Meets.{Blames}
 use Rattle.resb_walk.specs.Refusals.{Refuses}
 use Rattle.resb_read.specs.Places.{Place}
-use Rattle.resb_read.specs.Resources.{DenPlace, ReachesPlace, ReadsTree}
+use Rattle.resb_read.specs.Resources.{DenPlace, ReachesPlace, ReadsTree, MeetsPlace}
 use Rattle.resb_read.specs.Roots.{root_place, AtRoot, RefusesFile, TreeOf}
 
 pub passes : (bytes : List ℕ) → file_fault bytes ≡ None → IsBundleFile bytes
@@ -33,27 +34,28 @@ at_root P bytes p e same h = record { head = passes bytes e; root = subst P same
 
 pub refused_root : (bytes : List ℕ) (p : Place) (left : ℕ) (e : ReadingError)
     → file_fault bytes ≡ None → p ≡ root_place bytes → left ≡ budget bytes
-    → Refuses (DenPlace p) (ReachesPlace p) left e → RefusesFile bytes e
-refused_root bytes p left e none same all h =
+    → Refuses (DenPlace p) (ReachesPlace p) left e → Blames (MeetsPlace p) e → RefusesFile bytes e
+refused_root bytes p left e none same all h met =
     inr (
       passes bytes none,
       subst (λ n. Refuses (DenPlace (root_place bytes)) (ReachesPlace (root_place bytes)) n e) all
           (subst (λ q. Refuses (DenPlace q) (ReachesPlace q) left e) same h),
+      subst (λ q. Blames (MeetsPlace q) e) same met,
     )
 
 pub tree_root : (bytes : List ℕ) (p : Place) (left left' : ℕ) (r : Result Resource ReadingError)
     → file_fault bytes ≡ None → p ≡ root_place bytes → left ≡ budget bytes
     → IfOk r (λ x. (n : ℕ) × ReadsTree p x n × (left' + n ≡ left))
     → IfErr r (λ e. (left' ≤ left) × Refuses (DenPlace p) (ReachesPlace p) left e)
-    → TreeOf bytes r
-tree_root bytes p left left' (Ok x) none same all (n, (d, b), paid) h = (
+    → IfErr r (Blames (MeetsPlace p)) → TreeOf bytes r
+tree_root bytes p left left' (Ok x) none same all (n, (d, b), paid) h met = (
   n,
   record { head = passes bytes none; root = subst (λ q. DenPlace q (tree_of x) n) same d },
   omega arith,
   b,
 )
-tree_root bytes p left left' (Err e) none same all h (falls, r) =
-    refused_root bytes p left e none same all r
+tree_root bytes p left left' (Err e) none same all h (falls, r) met =
+    refused_root bytes p left e none same all r met
 
 pub count_root : (bytes : List ℕ) (p : Place) (left left' : ℕ) (t : Tree) (n : ℕ)
     → file_fault bytes ≡ None → p ≡ root_place bytes → left ≡ budget bytes

@@ -10,6 +10,8 @@ pub use Rattle.resb_format.specs.Error
 pub use Rattle.resb_tree.specs.Tree
 pub use Rattle.resb_tree.specs.View
 pub use Rattle.resb_walk.specs.Files
+pub use Rattle.resb_walk.specs.Faults
+pub use Rattle.resb_walk.specs.Meets
 pub use Rattle.resb_walk.specs.Refusals
 pub use Rattle.resb_walk.specs.Borrows
 pub mod Places
@@ -21,6 +23,7 @@ pub mod LeafLaws
 pub mod Resources
 pub mod ResourceLaws
 pub mod Roots
+pub mod Laws
 pub mod Sequences
 pub mod SequenceLaws
 pub mod Access

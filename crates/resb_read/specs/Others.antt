@@ -1,12 +1,16 @@
 -- What else a cursor answers: the cost of skipping, the type of what stands at a place, and views
 -- of bytes.
 use Rattle.std.specs.Prelude.{◌≡◌, ◌+◌, ◌<◌, ◌%◌, ◌==◌, ◌&&◌, ◌||◌, not, nat_le, ℕ, List, length}
-use Rattle.std.specs.Prelude.{Bool, Option, Some, None, Result, MatchResult, if◌then◌else◌}
+use Rattle.std.specs.Prelude.{Bool, false, Option, Some, None, Result, MatchResult, codes}
+use Rattle.std.specs.Prelude.{if◌then◌else◌}
 use Rattle.resb_format.specs.declared.error.ReadingError.{ReadingError}
+use Rattle.resb_format.specs.HeadChecks.{Refusal}
+use Rattle.resb_format.specs.declared.error.ErrorKind.TheVariants.{Unknown}
 use Rattle.resb_walk.specs.Refusals.{IsSpent}
 use Rattle.resb_read.specs.Places.{Place}
 use Rattle.resb_read.specs.Reading.{IsThere, CountsThere}
 use Rattle.resb_read.specs.Leaves.{type_in, bytes_from}
+use Rattle.resb_read.specs.Refused.{bytes_refusal}
 use Rattle.resb_read.specs.declared.cursor.Spot.{Spot}
 use Rattle.resb_read.specs.declared.cursor.Spot.TheVariants as spot
 
@@ -50,3 +54,13 @@ ReadsView each p b n = IsThere (λ b. length b % each ≡ 0) (bytes_from p.parts
 
 abbrev pub CountsView : ℕ → Place → ℕ → Type 0
 CountsView each p n = CountsThere (λ b. length b % each ≡ 0) (bytes_from p.parts p.at) n
+
+abbrev pub are_paid : Option (List ℕ × ℕ) → ℕ → Bool
+are_paid (Some r) left = nat_le r.1 left
+are_paid None left = false
+
+-- bytes that are no whole items, or why there are none
+abbrev pub view_refusal : Place → ℕ → Refusal
+view_refusal p left =
+    if are_paid (bytes_from p.parts p.at) left then (Unknown, codes "Wrong length")
+    else bytes_refusal p left

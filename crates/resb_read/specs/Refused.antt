@@ -1,25 +1,20 @@
--- Why readings that ask for no memory are refused.
---     Says f e                the error has this kind and message
--- Blames left e           it says that the budget is spent, and nothing of it is left; or anything
---                             but that and want of memory
---     number_refusal s left, bool_refusal s left
---                             what is answered where no number or bool is read
---     key_fault s left e      the same for a key, whose own faults are not told apart
-use Rattle.std.specs.Prelude.{◌≡◌, ◌⊎◌, ◌==◌, ◌||◌, ◌&&◌, not, nat_lt, ℕ, List, codes}
-use Rattle.std.specs.Prelude.{if◌then◌else◌}
-use Rattle.resb_format.specs.HeadChecks.{Refusal, invalid, unsupported, refusal_of}
-use Rattle.resb_format.specs.declared.error.ReadingError.{ReadingError}
+-- Why readings that ask for no memory are refused: a kind and a message.
+--     number_refusal s left, bool_refusal s left, bits_refusal s left
+--                             what is answered where no number, bool or Int is read
+--     key_refusal p left, bytes_refusal p left
+--                             the same for a key and for bytes
+--     members_refusal s left, entries_refusal s left
+--                             the same for the members of a sequence, and the entries of a map
+use Rattle.std.specs.Prelude.{◌==◌, ◌||◌, ◌&&◌, not, nat_lt, ℕ, List, codes, if◌then◌else◌}
+use Rattle.resb_format.specs.HeadChecks.{Refusal, invalid, unsupported, end_of_input}
+use Rattle.resb_format.specs.Parts.{Parts}
+use Rattle.resb_format.specs.StringFaults.{string_fault}
 use Rattle.resb_format.specs.declared.error.ErrorKind.TheVariants.{ResourceTypeMismatch, Unknown}
-use Rattle.resb_walk.specs.Refusals.{IsFault, IsSpent}
-use Rattle.resb_read.specs.Leaves.{type_in}
+use Rattle.resb_walk.specs.Faults.{key_fault}
+use Rattle.resb_read.specs.Places.{Place}
+use Rattle.resb_read.specs.Leaves.{type_in, value_in}
 use Rattle.resb_read.specs.declared.cursor.Spot.{Spot}
 use Rattle.resb_read.specs.declared.cursor.Spot.TheVariants as spot
-
-abbrev pub Says : Refusal → ReadingError → Type 0
-Says f e = refusal_of e ≡ f
-
-abbrev pub Blames : ℕ → ReadingError → Type 0
-Blames left e = IsFault e ⊎ (IsSpent e × (left ≡ 0))
 
 abbrev pub out_of_range : Refusal
 out_of_range = (Unknown, codes "number out of range")
@@ -70,12 +65,56 @@ no_value (spot.Unit u) left = paid left elsewhere
 no_value (spot.Word w) left = elsewhere
 no_value (spot.Key k) left = elsewhere
 
--- no key is read: another place, or a fault of the key itself
-abbrev pub key_fault : Spot → ℕ → ReadingError → Type 0
-key_fault (spot.Key k) left e = IsFault e
-key_fault (spot.Descriptor w) left e = Says (no_value (spot.Descriptor w) left) e
-key_fault (spot.Unit u) left e = Says (no_value (spot.Unit u) left) e
-key_fault (spot.Word w) left e = Says (no_value (spot.Word w) left) e
+-- each Int fits
+abbrev pub bits_refusal : Spot → ℕ → Refusal
+bits_refusal (spot.Descriptor w) left =
+    paid left (type_refusal (type_in w) (mismatch (codes "expected integer resource")))
+bits_refusal (spot.Unit u) left = paid left elsewhere
+bits_refusal (spot.Word w) left = elsewhere
+bits_refusal (spot.Key k) left = elsewhere
+
+-- another place, or a fault of the key itself
+abbrev pub key_refusal_from : Parts → Spot → ℕ → Refusal
+key_refusal_from p (spot.Key k) left = key_fault p.keys k
+key_refusal_from p (spot.Descriptor w) left = no_value (spot.Descriptor w) left
+key_refusal_from p (spot.Unit u) left = no_value (spot.Unit u) left
+key_refusal_from p (spot.Word w) left = no_value (spot.Word w) left
+
+abbrev pub key_refusal : Place → ℕ → Refusal
+key_refusal p left = key_refusal_from p.parts p.at left
+
+-- the string's own fault, a count or what is counted outside the body, or another type
+abbrev pub bytes_fault : Parts → ℕ → Refusal
+bytes_fault p w =
+    if type_in w == 6 then invalid (string_fault p.block (value_in w))
+    else if type_in w == 1 || type_in w == 14 then end_of_input
+    else type_refusal (type_in w) (mismatch (codes "expected binary data resource"))
+
+abbrev pub bytes_refusal_from : Parts → Spot → ℕ → Refusal
+bytes_refusal_from p (spot.Descriptor w) left = paid left (bytes_fault p w)
+bytes_refusal_from p (spot.Unit u) left = paid left (invalid (string_fault p.block u))
+bytes_refusal_from p (spot.Word w) left = elsewhere
+bytes_refusal_from p (spot.Key k) left = key_fault p.keys k
+
+abbrev pub bytes_refusal : Place → ℕ → Refusal
+bytes_refusal p left = bytes_refusal_from p.parts p.at left
+
+-- a count or the fields behind it outside their block, or another type
+abbrev pub members_refusal : Spot → ℕ → Refusal
+members_refusal (spot.Descriptor w) left =
+    paid left (if (type_in w == 8 || type_in w == 9) || type_in w == 14 then end_of_input
+    else type_refusal (type_in w) (mismatch (codes "expected array resource")))
+members_refusal (spot.Unit u) left = no_value (spot.Unit u) left
+members_refusal (spot.Word w) left = no_value (spot.Word w) left
+members_refusal (spot.Key k) left = no_value (spot.Key k) left
+
+abbrev pub entries_refusal : Spot → ℕ → Refusal
+entries_refusal (spot.Descriptor w) left =
+    paid left (if (type_in w == 2 || type_in w == 4) || type_in w == 5 then end_of_input
+    else type_refusal (type_in w) (mismatch (codes "expected table resource")))
+entries_refusal (spot.Unit u) left = no_value (spot.Unit u) left
+entries_refusal (spot.Word w) left = no_value (spot.Word w) left
+entries_refusal (spot.Key k) left = no_value (spot.Key k) left
 
 -- the type of what stands at a place isn't told
 abbrev pub untold : Spot → Refusal

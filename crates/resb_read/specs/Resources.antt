@@ -1,13 +1,16 @@
 -- Which tree is read at a place, as a resource.
-use Rattle.std.specs.Prelude.{ℕ}
+use Rattle.std.specs.Prelude.{◌≡◌, ℕ}
 use Rattle.resb_tree.specs.Tree.{Tree}
 use Rattle.resb_tree.specs.View.{tree_of}
 use Rattle.resb_tree.specs.declared.resource.Resource.{Resource}
 use Rattle.resb_walk.specs.Borrows.{Borrows}
-use Rattle.resb_format.specs.Content.{unit}
+use Rattle.resb_walk.specs.Meets.{Meets}
+use Rattle.resb_format.specs.Content.{word, unit}
 use Rattle.resb_format.specs.Parts.{Parts}
 use Rattle.resb_format.specs.Denotes.{Den, DenMember, Reaches, ReachesMember}
+use Rattle.resb_format.specs.HeadChecks.{Refusal}
 use Rattle.resb_read.specs.Places.{Place}
+use Rattle.resb_read.specs.Refused.{elsewhere}
 use Rattle.resb_read.specs.declared.cursor.Spot.{Spot}
 use Rattle.resb_read.specs.declared.cursor.Spot.TheVariants as spot
 
@@ -35,3 +38,13 @@ ReachesSpot p (spot.Key k) n = ⊥
 
 abbrev pub ReachesPlace : Place → ℕ → Type 0
 ReachesPlace p n = ReachesSpot p.parts p.at n
+
+-- the first fault that a reading of the tree meets
+abbrev pub MeetsSpot : Parts → Spot → Refusal → Type 0
+MeetsSpot p (spot.Descriptor w) f = Meets p (word w) f
+MeetsSpot p (spot.Unit u) f = Meets p (unit u) f
+MeetsSpot p (spot.Word w) f = f ≡ elsewhere
+MeetsSpot p (spot.Key k) f = f ≡ elsewhere
+
+abbrev pub MeetsPlace : Place → Refusal → Type 0
+MeetsPlace p f = MeetsSpot p.parts p.at f

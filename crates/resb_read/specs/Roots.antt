@@ -6,11 +6,13 @@ use Rattle.std.specs.Prelude.{◌≡◌, ◌≤◌, ◌⊎◌, ℕ, List, Some, 
 use Rattle.resb_tree.specs.Tree.{Tree}
 use Rattle.resb_tree.specs.View.{tree_of}
 use Rattle.resb_tree.specs.declared.resource.Resource.{Resource}
+use Rattle.resb_format.specs.Content.{word}
 use Rattle.resb_format.specs.Parts.{IsBundleFile, parts_of, root_word}
 use Rattle.resb_format.specs.Denotes.{Den, Reaches}
 use Rattle.resb_format.specs.File.{Denotes, budget}
 use Rattle.resb_format.specs.HeadChecks.{file_fault, refusal_of}
 use Rattle.resb_format.specs.declared.error.ReadingError.{ReadingError}
+use Rattle.resb_walk.specs.Meets.{Meets, Blames}
 use Rattle.resb_walk.specs.Refusals.{Refuses}
 use Rattle.resb_walk.specs.Borrows.{Borrows}
 use Rattle.resb_read.specs.Places.{Place}
@@ -23,13 +25,14 @@ pub record AtRoot (P : Place → Type 0) (bytes : List ℕ) : Type 0 where
   pub head : IsBundleFile bytes
   pub root : P (root_place bytes)
 
--- the first check of the head that fails, or what is refused at the root
+-- the first check of the head that fails, or what is refused at the root, by the first fault there
 abbrev pub RefusesFile : List ℕ → ReadingError → Type 0
 RefusesFile bytes e =
     (file_fault bytes ≡ Some (refusal_of e))
     ⊎ (IsBundleFile bytes
     × Refuses (Den (parts_of bytes) (root_word bytes))
-    (Reaches (parts_of bytes) (root_word bytes)) (budget bytes) e)
+    (Reaches (parts_of bytes) (root_word bytes)) (budget bytes) e
+    × Blames (Meets (parts_of bytes) (word (root_word bytes))) e)
 
 abbrev pub TreeOf : List ℕ → Result Resource ReadingError → Type 0
 TreeOf bytes (Ok r) = (n : ℕ) × Denotes bytes (tree_of r) n × (n ≤ budget bytes) × Borrows r

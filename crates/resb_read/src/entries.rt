@@ -6,13 +6,15 @@ ghost use Rattle.resb_read.specs.Places.{place_of};
 ghost use Rattle.resb_read.specs.Sequences as sequences;
 ghost use Rattle.resb_read.specs.Access.{EntersTo, Enters, ReadsPair, CountsPair};
 ghost use Rattle.resb_read.specs.Reading.{LacksOrMemory};
-ghost use Rattle.resb_read.specs.Refused.{Blames};
+ghost use Rattle.resb_walk.specs.Faults.{Says};
+ghost use Rattle.resb_read.specs.Refused.{entries_refusal};
 
 use crate::cursor::{Cursor, Spot};
 use crate::deserialize::Deserialize;
 use crate::faults::{mismatch, refused_here};
 use crate::items::spot_of;
 use resb_format::ReadingError;
+use resb_walk::faults::past_end;
 use resb_walk::{File, Pairs, Standing, Walk};
 use std::alloc::Global;
 use std::marker::Model;
@@ -143,7 +145,8 @@ impl<'de> Cursor<'de> {
         ensures read { IfOk result (λ s. (sequences.entries (place_of self.entry) ≡ Some s.rest)
             × (s.failed ≡ None) × (walk.new + 1 ≡ walk.old)) }
         ensures refused { IfErr result (λ e. (walk.new ≤ walk.old)
-            × (sequences.entries (place_of self.entry) ≡ None ⊎ walk.old ≡ 0) × Blames walk.old e) }
+            × (sequences.entries (place_of self.entry) ≡ None ⊎ walk.old ≡ 0)
+            × Says (entries_refusal self.entry.at walk.old) e) }
     {
         let Spot::Descriptor(word) = self.at else {
             return Err(refused_here(self.at, walk));
@@ -161,9 +164,8 @@ impl<'de> Cursor<'de> {
                 rest,
                 failed: None,
             }),
-            Ok(Standing::List(_) | Standing::Leaf(_)) => {
-                Err(mismatch(word, "expected table resource"))
-            }
+            // Nothing else stands at a word of these types.
+            Ok(Standing::List(_) | Standing::Leaf(_)) => Err(past_end()),
             Err(error) => Err(error),
         }
     }

@@ -1,11 +1,11 @@
 //! What is said where a type isn't read at a place.
 //! Faults of the file itself are in `resb_walk::faults`.
-ghost use Rattle.std.specs.Prelude.{◌≤◌, ◌≢◌, codes};
+ghost use Rattle.std.specs.Prelude.{◌≤◌};
 ghost use Rattle.resb_format.specs.HeadChecks.{refusal_of};
+ghost use Rattle.resb_walk.specs.Faults.{Says};
 ghost use Rattle.resb_walk.specs.Refusals.{IsFault};
 ghost use Rattle.resb_read.specs.Leaves.{type_in};
 ghost use Rattle.resb_read.specs.Refused as refused;
-ghost use Rattle.resb_read.specs.Refused.{Says, Blames};
 
 use crate::cursor::Spot;
 use resb_format::BinaryDeserializerError;
@@ -14,8 +14,7 @@ use resb_walk::faults::{unknown_type, unsupported_type};
 
 /// A number doesn't fit the type.
 pub(crate) fn out_of_range() -> BinaryDeserializerError
-    ensures says { Says refused.out_of_range result }
-    ensures fault { IsFault result }
+    ensures { Says refused.out_of_range result }
 {
     BinaryDeserializerError::unknown("number out of range")
 }
@@ -32,7 +31,6 @@ pub(crate) fn elsewhere() -> BinaryDeserializerError
 /// the budget before they are looked at, and a descriptor's type has to be one that is read at all.
 pub(crate) fn refused_here(at: Spot, walk: &mut Walk) -> BinaryDeserializerError
     ensures falls { walk.new ≤ walk.old }
-    ensures blames { Blames walk.old result }
     ensures says { Says (refused.no_value at walk.old) result }
 {
     match at {
@@ -50,9 +48,7 @@ pub(crate) fn refused_here(at: Spot, walk: &mut Walk) -> BinaryDeserializerError
 
 /// The refusal of a type that isn't read; else the other one.
 fn unread(kind: u32, other: BinaryDeserializerError) -> BinaryDeserializerError
-    requires { IsFault other }
-    ensures says { Says (refused.type_refusal kind (refusal_of other.entry)) result }
-    ensures fault { IsFault result }
+    ensures { Says (refused.type_refusal kind (refusal_of other.entry)) result }
 {
     if kind == 0 || kind == 3 {
         return unsupported_type();
@@ -65,10 +61,8 @@ fn unread(kind: u32, other: BinaryDeserializerError) -> BinaryDeserializerError
 
 /// A descriptor of another type than was asked for: one that isn't read at all, or a mismatch.
 pub(crate) fn mismatch(word: u32, expected: &'static str) -> BinaryDeserializerError
-    requires { expected.now ≢ codes "resource budget spent" }
-    ensures says { Says (refused.type_refusal (type_in word) (refused.mismatch expected.entry.now))
+    ensures { Says (refused.type_refusal (type_in word) (refused.mismatch expected.entry.now))
         result }
-    ensures fault { IsFault result }
 {
     unread(
         word >> 28,

@@ -2,11 +2,11 @@
 //! An `Option` here is always `Some`: it has the shape of a field that may be left out.
 ghost use Rattle.std.specs.Prelude.{◌≡◌, ◌≤◌, ◌+◌, ℕ, IfOk, IfErr, IsSomeAnd};
 ghost use Rattle.resb_format.specs.Views.{unit_bytes, word_bytes, number_bytes, pair_bytes};
+ghost use Rattle.resb_walk.specs.Faults.{Says};
 ghost use Rattle.resb_read.specs.Places.{place_of};
 ghost use Rattle.resb_read.specs.Reading.{Reads, LacksOrMemory};
-ghost use Rattle.resb_read.specs.Refused.{Blames};
 ghost use Rattle.resb_read.specs.Sequences.{ReadsSeq, CountsSeq};
-ghost use Rattle.resb_read.specs.Others.{ReadsView, CountsView};
+ghost use Rattle.resb_read.specs.Others.{ReadsView, CountsView, view_refusal};
 
 use crate::cursor::Cursor;
 use crate::deserialize::Deserialize;
@@ -22,7 +22,8 @@ pub fn option_utf_16<'de>(
     walk: &mut Walk,
 ) -> Result<Option<Utf16View<'de>>, BinaryDeserializerError>
     ensures { let p = place_of at.entry in
-        Reads (Blames walk.old) (λ o n. IsSomeAnd o (λ v. ReadsView 2 p (unit_bytes v) n))
+        Reads (Says (view_refusal p walk.old))
+        (λ o n. IsSomeAnd o (λ v. ReadsView 2 p (unit_bytes v) n))
         (CountsView 2 p) walk.old walk.new result }
 {
     match at.units(walk) {
@@ -37,7 +38,8 @@ pub fn option_u32<'de>(
     walk: &mut Walk,
 ) -> Result<Option<WordView<'de>>, BinaryDeserializerError>
     ensures { let p = place_of at.entry in
-        Reads (Blames walk.old) (λ o n. IsSomeAnd o (λ v. ReadsView 4 p (word_bytes v) n))
+        Reads (Says (view_refusal p walk.old))
+        (λ o n. IsSomeAnd o (λ v. ReadsView 4 p (word_bytes v) n))
         (CountsView 4 p) walk.old walk.new result }
 {
     match at.words(walk) {
@@ -52,7 +54,8 @@ pub fn option_i32<'de>(
     walk: &mut Walk,
 ) -> Result<Option<I32View<'de>>, BinaryDeserializerError>
     ensures { let p = place_of at.entry in
-        Reads (Blames walk.old) (λ o n. IsSomeAnd o (λ v. ReadsView 4 p (number_bytes v) n))
+        Reads (Says (view_refusal p walk.old))
+        (λ o n. IsSomeAnd o (λ v. ReadsView 4 p (number_bytes v) n))
         (CountsView 4 p) walk.old walk.new result }
 {
     match at.words(walk) {
@@ -67,8 +70,8 @@ pub fn i32_tuple<'de>(
     walk: &mut Walk,
 ) -> Result<PairView<'de>, BinaryDeserializerError>
     ensures { let p = place_of at.entry in
-        Reads (Blames walk.old) (λ v n. ReadsView 8 p (pair_bytes v) n) (CountsView 8 p) walk.old
-        walk.new result }
+        Reads (Says (view_refusal p walk.old)) (λ v n. ReadsView 8 p (pair_bytes v) n)
+        (CountsView 8 p) walk.old walk.new result }
 {
     at.pairs(walk)
 }
@@ -79,7 +82,8 @@ pub fn option_i32_tuple<'de>(
     walk: &mut Walk,
 ) -> Result<Option<PairView<'de>>, BinaryDeserializerError>
     ensures { let p = place_of at.entry in
-        Reads (Blames walk.old) (λ o n. IsSomeAnd o (λ v. ReadsView 8 p (pair_bytes v) n))
+        Reads (Says (view_refusal p walk.old))
+        (λ o n. IsSomeAnd o (λ v. ReadsView 8 p (pair_bytes v) n))
         (CountsView 8 p) walk.old walk.new result }
 {
     match at.pairs(walk) {

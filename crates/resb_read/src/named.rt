@@ -4,9 +4,9 @@ ghost use Rattle.std.specs.Prelude.{◌≡◌, ◌≤◌, ◌+◌, ◌-◌, ◌^
 ghost use Rattle.std.specs.Prelude.{MatchOption};
 ghost use Rattle.std.specs.String.{string_bytes};
 ghost use Rattle.resb_read.specs.Places.{place_of};
-ghost use Rattle.resb_walk.specs.Refusals.{IsFault};
 ghost use Rattle.resb_read.specs.Reading.{Reads, LacksOrMemory};
-ghost use Rattle.resb_read.specs.Refused.{Says, Blames, out_of_range};
+ghost use Rattle.resb_walk.specs.Faults.{Says, key_fault};
+ghost use Rattle.resb_read.specs.Refused.{bytes_refusal, out_of_range};
 ghost use Rattle.resb_read.specs.Leaves.{ReadsText, CountsText, ReadsKey, CountsKey, ReadsBytes};
 ghost use Rattle.resb_read.specs.Leaves.{CountsBytes, ReadsSigned, CountsSigned, ReadsUnsigned};
 ghost use Rattle.resb_read.specs.Leaves.{CountsUnsigned};
@@ -106,8 +106,8 @@ impl<'de> Resource16BitDeserializer<'de> {
     /// Reads the bytes of the string's units, which need be no text.
     pub fn read_bytes(self, walk: &mut Walk) -> Result<&'de [u8], BinaryDeserializerError>
         ensures { let p = named.unit_place self.entry in
-            Reads (Blames walk.old) (λ b n. ReadsBytes p b.now n) (CountsBytes p) walk.old walk.new
-            result }
+            Reads (Says (bytes_refusal p walk.old)) (λ b n. ReadsBytes p b.now n) (CountsBytes p)
+            walk.old walk.new result }
     {
         let at = Cursor {
             file: self.file,
@@ -121,7 +121,8 @@ impl<'de> KeyDeserializer<'de> {
     /// Reads the key, which lives as long as the file.
     pub fn read_str(self) -> Result<&'de str, BinaryDeserializerError>
         ensures { let p = named.key_place self.entry in
-            Reads IsFault (λ s n. ReadsKey p s.now n) (CountsKey p) 0 0 result }
+            Reads (Says (key_fault p.parts.keys self.entry.position)) (λ s n. ReadsKey p s.now n)
+            (CountsKey p) 0 0 result }
     {
         match self.file.key(self.position) {
             Ok(text) => Ok(text),

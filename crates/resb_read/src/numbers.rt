@@ -3,7 +3,8 @@
 ghost use Rattle.std.specs.Prelude.{◌≡◌, ◌≤◌, ◌+◌, ◌-◌, ◌^◌, ◌==◌, ℕ, ℤ, pos, negsuc, Some, None};
 ghost use Rattle.resb_read.specs.Places.{place_of};
 ghost use Rattle.resb_read.specs.Reading.{Reads};
-ghost use Rattle.resb_read.specs.Refused.{Says, Blames, number_refusal, bool_refusal};
+ghost use Rattle.resb_walk.specs.Faults.{Says};
+ghost use Rattle.resb_read.specs.Refused.{number_refusal, bool_refusal, bits_refusal};
 ghost use Rattle.resb_read.specs.Leaves.{signed_at, unsigned_at, ReadsSigned, CountsSigned};
 ghost use Rattle.resb_read.specs.Leaves.{ReadsUnsigned, CountsUnsigned, ReadsBool, CountsBool};
 ghost use Rattle.resb_read.specs.Leaves.{ReadsBits, CountsBits};
@@ -83,7 +84,8 @@ impl<'de> Cursor<'de> {
     /// Reads the 28 bits of an Int.
     pub(crate) fn read_bits(self, walk: &mut Walk) -> Result<Int28, BinaryDeserializerError>
         ensures { let p = place_of self.entry in
-            Reads (Blames walk.old) (ReadsBits p) (CountsBits p) walk.old walk.new result }
+            Reads (Says (bits_refusal self.entry.at walk.old)) (ReadsBits p) (CountsBits p) walk.old
+            walk.new result }
     {
         let Spot::Descriptor(word) = self.at else {
             return Err(refused_here(self.at, walk));

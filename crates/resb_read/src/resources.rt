@@ -3,9 +3,11 @@
 ghost use Rattle.std.specs.Prelude.{◌≡◌, ◌≤◌, ◌+◌, ℕ, IfOk, IfErr};
 ghost use Rattle.resb_tree.specs.Tree.{Tree};
 ghost use Rattle.resb_tree.specs.View.{tree_of};
+ghost use Rattle.resb_walk.specs.Meets.{Blames};
 ghost use Rattle.resb_walk.specs.Refusals.{Refuses};
 ghost use Rattle.resb_read.specs.Places.{place_of};
-ghost use Rattle.resb_read.specs.Resources.{DenPlace, ReachesPlace, ReadsTree, CountsTree};
+ghost use Rattle.resb_read.specs.Resources.{DenPlace, ReachesPlace, MeetsPlace};
+ghost use Rattle.resb_read.specs.Resources.{ReadsTree, CountsTree};
 ghost use Rattle.resb_read.specs.ResourceLaws.{tree_counted, tree_one};
 
 use crate::cursor::{Cursor, Spot};
@@ -19,7 +21,8 @@ impl<'de> Cursor<'de> {
     /// Reads the tree that stands here. Its binaries are slices of the file.
     ///
     /// Memory aside, the budget is spent exactly where one resource more than it stands here before
-    /// the first fault, and any other refusal is given only where nothing is denoted.
+    /// the first fault, and any other refusal is given only where nothing is denoted: it is what is
+    /// said of the first fault, with the members of a collection in their order.
     /// No count of a file that is refused asks for room.
     pub fn read_resource(
         self,
@@ -31,6 +34,7 @@ impl<'de> Cursor<'de> {
         ensures refused { IfErr result (λ e. (walk.new ≤ walk.old)
             × Refuses (DenPlace (place_of self.entry)) (ReachesPlace (place_of self.entry)) walk.old
             e) }
+        ensures meets { IfErr result (Blames (MeetsPlace (place_of self.entry))) }
     {
         match self.at {
             Spot::Descriptor(word) => read_checked::<Resource<'de>>(alloc, self.file, word, walk),
@@ -50,6 +54,7 @@ impl<'de> Cursor<'de> {
         ensures refused { IfErr result (λ e. (walk.new ≤ walk.old)
             × Refuses (DenPlace (place_of self.entry)) (ReachesPlace (place_of self.entry)) walk.old
             e) }
+        ensures meets { IfErr result (Blames (MeetsPlace (place_of self.entry))) }
     {
         match self.at {
             Spot::Descriptor(word) => {

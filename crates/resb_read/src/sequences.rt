@@ -5,13 +5,15 @@ ghost use Rattle.std.specs.Prelude.{MatchOption, IfOk, IfErr};
 ghost use Rattle.resb_read.specs.Places.{place_of};
 ghost use Rattle.resb_read.specs.Sequences.{items};
 ghost use Rattle.resb_read.specs.Access.{StepsTo, Steps};
-ghost use Rattle.resb_read.specs.Refused.{Blames};
+ghost use Rattle.resb_walk.specs.Faults.{Says};
+ghost use Rattle.resb_read.specs.Refused.{members_refusal};
 
 use crate::cursor::{Cursor, Spot};
 use crate::deserialize::Deserialize;
 use crate::faults::{mismatch, refused_here};
 use crate::items::Items;
 use resb_format::ReadingError;
+use resb_walk::faults::past_end;
 use resb_walk::{File, Leaf, Standing, Walk};
 use std::alloc::Global;
 use std::marker::Model;
@@ -115,7 +117,8 @@ impl<'de> Cursor<'de> {
         ensures read { IfOk result (λ s. (items (place_of self.entry) ≡ Some s.rest)
             × (s.failed ≡ None) × (walk.new + 1 ≡ walk.old)) }
         ensures refused { IfErr result (λ e. (walk.new ≤ walk.old)
-            × (items (place_of self.entry) ≡ None ⊎ walk.old ≡ 0) × Blames walk.old e) }
+            × (items (place_of self.entry) ≡ None ⊎ walk.old ≡ 0)
+            × Says (members_refusal self.entry.at walk.old) e) }
     {
         let Spot::Descriptor(word) = self.at else {
             return Err(refused_here(self.at, walk));
@@ -130,9 +133,8 @@ impl<'de> Cursor<'de> {
         let rest = match self.file.standing(word) {
             Ok(Standing::List(members)) => Items::Members(members),
             Ok(Standing::Leaf(Leaf::Numbers(numbers))) => Items::Numbers(numbers),
-            Ok(Standing::Table(_) | Standing::Leaf(_)) => {
-                return Err(mismatch(word, "expected array resource"));
-            }
+            // Nothing else stands at a word of these types.
+            Ok(Standing::Table(_) | Standing::Leaf(_)) => return Err(past_end()),
             Err(error) => return Err(error),
         };
         Ok(SeqAccess {

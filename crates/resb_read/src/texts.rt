@@ -5,11 +5,13 @@ ghost use Rattle.std.specs.Prelude.{option_map, IfOk, IfErr, MatchResult};
 ghost use Rattle.std.specs.String.{string_bytes};
 ghost use Rattle.resb_format.specs.Bytes.{units_of};
 ghost use Rattle.resb_format.specs.Strings as strings;
+ghost use Rattle.resb_format.specs.HeadChecks.{end_of_input, invalid};
+ghost use Rattle.resb_format.specs.StringFaults.{string_fault};
+ghost use Rattle.resb_walk.specs.Faults.{Says};
 ghost use Rattle.resb_walk.specs.Files.{parts_in};
-ghost use Rattle.resb_walk.specs.Refusals.{IsFault};
 ghost use Rattle.resb_read.specs.Places.{place_of};
 ghost use Rattle.resb_read.specs.Reading.{Reads, LacksOrMemory};
-ghost use Rattle.resb_read.specs.Refused.{Blames, key_fault};
+ghost use Rattle.resb_read.specs.Refused.{key_refusal, bytes_fault, bytes_refusal};
 ghost use Rattle.resb_read.specs.Leaves.{type_in, value_in, units_as_bytes, counted_bytes};
 ghost use Rattle.resb_read.specs.Leaves.{bytes_of_type, ReadsText, CountsText, ReadsKey, CountsKey};
 ghost use Rattle.resb_read.specs.Leaves.{ReadsBytes, CountsBytes};
@@ -36,8 +38,10 @@ fn whole_units(bytes: &[u8]) -> &[u8]
 
 /// The bytes of the units of the string at a unit, which need be no text.
 fn units_at(block: &[u8], unit: usize) -> Result<&[u8], BinaryDeserializerError>
-    ensures { let there = option_map units_as_bytes (strings.string_at (units_of block.now) unit) in
-        MatchResult result (λ b. there ≡ Some b.now) (λ e. (there ≡ None) × IsFault e) }
+    ensures stands { let there = option_map units_as_bytes
+        (strings.string_at (units_of block.now) unit) in
+        MatchResult result (λ b. there ≡ Some b.now) (λ _. there ≡ None) }
+    ensures says { IfErr result (Says (invalid (string_fault (units_of block.now) unit))) }
 {
     match string_at(block, unit) {
         Ok(view) => Ok(whole_units(view.as_bytes())),
@@ -49,8 +53,9 @@ fn units_at(block: &[u8], unit: usize) -> Result<&[u8], BinaryDeserializerError>
 fn counted_at(file: File<'_>, each: usize, value: usize) -> Result<&[u8], BinaryDeserializerError>
     requires small { value < 2 ^ 28 }
     requires few { each ≤ 4 }
-    ensures { let there = counted_bytes (parts_in file.entry) each value in
-        MatchResult result (λ b. there ≡ Some b.now) (λ e. (there ≡ None) × IsFault e) }
+    ensures stands { let there = counted_bytes (parts_in file.entry) each value in
+        MatchResult result (λ b. there ≡ Some b.now) (λ _. there ≡ None) }
+    ensures says { IfErr result (Says end_of_input) }
 {
     let Some(count) = some_word(file.body, value) else {
         return Err(past_end());
@@ -63,8 +68,10 @@ fn counted_at(file: File<'_>, each: usize, value: usize) -> Result<&[u8], Binary
 
 /// The bytes of what stands at a descriptor.
 fn described(file: File<'_>, word: u32) -> Result<&[u8], BinaryDeserializerError>
-    ensures { let there = bytes_of_type (parts_in file.entry) (type_in word) (value_in word) in
-        MatchResult result (λ b. there ≡ Some b.now) (λ e. (there ≡ None) × IsFault e) }
+    ensures stands { let p = parts_in file.entry in
+        let there = bytes_of_type p (type_in word) (value_in word) in
+        MatchResult result (λ b. there ≡ Some b.now) (λ _. there ≡ None) }
+    ensures says { IfErr result (Says (bytes_fault (parts_in file.entry) word)) }
 {
     let value = (word % 0x1000_0000) as usize;
     match word >> 28 {
@@ -117,7 +124,7 @@ impl<'de> Cursor<'de> {
     /// Reads a key, which lives as long as the file.
     pub fn read_str(self, walk: &mut Walk) -> Result<&'de str, BinaryDeserializerError>
         ensures { let p = place_of self.entry in
-            Reads (key_fault self.entry.at walk.old) (λ s n. ReadsKey p s.now n) (CountsKey p)
+            Reads (Says (key_refusal p walk.old)) (λ s n. ReadsKey p s.now n) (CountsKey p)
             walk.old walk.new result }
     {
         match self.at {
@@ -135,8 +142,8 @@ impl<'de> Cursor<'de> {
     /// string's units, which need be no text, or of a key.
     pub fn read_bytes(self, walk: &mut Walk) -> Result<&'de [u8], BinaryDeserializerError>
         ensures { let p = place_of self.entry in
-            Reads (Blames walk.old) (λ b n. ReadsBytes p b.now n) (CountsBytes p) walk.old walk.new
-            result }
+            Reads (Says (bytes_refusal p walk.old)) (λ b n. ReadsBytes p b.now n) (CountsBytes p)
+            walk.old walk.new result }
     {
         match self.at {
             Spot::Descriptor(word) => {

@@ -2,10 +2,10 @@
 //! The helpers of the Rust crate's names are in `helpers`.
 ghost use Rattle.std.specs.Prelude.{◌≡◌, ◌+◌, ◌≤◌, ◌%◌, ℕ, length};
 ghost use Rattle.resb_format.specs.Views.{unit_bytes, word_bytes, number_bytes, pair_bytes};
+ghost use Rattle.resb_walk.specs.Faults.{Says};
 ghost use Rattle.resb_read.specs.Places.{place_of};
 ghost use Rattle.resb_read.specs.Reading.{Reads};
-ghost use Rattle.resb_read.specs.Refused.{Blames};
-ghost use Rattle.resb_read.specs.Others.{ReadsView, CountsView};
+ghost use Rattle.resb_read.specs.Others.{ReadsView, CountsView, view_refusal};
 ghost use Rattle.resb_read.specs.ViewLaws.{view_counted, view_one};
 
 use crate::cursor::Cursor;
@@ -20,10 +20,11 @@ use std::alloc::Global;
 
 impl<'de> Cursor<'de> {
     /// Reads bytes as 16-bit units.
+    #[tactic(auto, using(crate::proofs::Viewing::no_items))]
     pub(crate) fn units(self, walk: &mut Walk) -> Result<Utf16View<'de>, BinaryDeserializerError>
         ensures { let p = place_of self.entry in
-            Reads (Blames walk.old) (λ v n. ReadsView 2 p (unit_bytes v) n) (CountsView 2 p)
-            walk.old walk.new result }
+            Reads (Says (view_refusal p walk.old)) (λ v n. ReadsView 2 p (unit_bytes v) n)
+            (CountsView 2 p) walk.old walk.new result }
     {
         let bytes = self.read_bytes(walk)?;
         let view = cast_bytes_to_u16_slice(bytes)?;
@@ -31,10 +32,11 @@ impl<'de> Cursor<'de> {
     }
 
     /// Reads bytes as words.
+    #[tactic(auto, using(crate::proofs::Viewing::no_items))]
     pub(crate) fn words(self, walk: &mut Walk) -> Result<WordView<'de>, BinaryDeserializerError>
         ensures { let p = place_of self.entry in
-            Reads (Blames walk.old) (λ v n. ReadsView 4 p (word_bytes v) n) (CountsView 4 p)
-            walk.old walk.new result }
+            Reads (Says (view_refusal p walk.old)) (λ v n. ReadsView 4 p (word_bytes v) n)
+            (CountsView 4 p) walk.old walk.new result }
     {
         let bytes = self.read_bytes(walk)?;
         let view = cast_bytes_to_u32_slice(bytes)?;
@@ -45,8 +47,8 @@ impl<'de> Cursor<'de> {
     #[tactic(auto, using(resb_format::proofs::Spelled::words_length))]
     pub(crate) fn pairs(self, walk: &mut Walk) -> Result<PairView<'de>, BinaryDeserializerError>
         ensures { let p = place_of self.entry in
-            Reads (Blames walk.old) (λ v n. ReadsView 8 p (pair_bytes v) n) (CountsView 8 p)
-            walk.old walk.new result }
+            Reads (Says (view_refusal p walk.old)) (λ v n. ReadsView 8 p (pair_bytes v) n)
+            (CountsView 8 p) walk.old walk.new result }
     {
         let words = self.words(walk)?;
         let view = cast_u32_to_i32_pair_slice(words)?;

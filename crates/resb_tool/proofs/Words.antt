@@ -1,19 +1,5 @@
 -- Lists of two and of three words.
-use Rattle.std.proofs.Common.{
-  ℕ,
-  List,
-  [],
-  ◌∷◌,
-  ◌≡◌,
-  ◌≤◌,
-  ◌<◌,
-  Bool,
-  true,
-  length,
-  get_or,
-  sym,
-  arith,
-}
+use Rattle.std.proofs.Common.{ℕ, List, [], ◌∷◌, ◌≡◌, ◌≤◌, ◌<◌, true, length, get_or, sym, arith}
 use Rattle.std.specs.Str.{bytes_eq}
 use Rattle.std.proofs.lemmas.Slice.Eq.{bytes_eq-Decides}
 

@@ -5,9 +5,11 @@
 --     CountsFile bytes r      what checking a file answers
 --     ReadsCounted bytes r    what `from_bytes_counted::<Resource>` promises of its answer
 --     Agrees bytes r s        the answer of a check beside the answer of such a reading
+--     Matches bytes r s       the same beside the answer of `tree_from_bytes`
 use Rattle.std.specs.Prelude.{
   ◌≡◌,
   ◌≤◌,
+  ◌⊎◌,
   ℕ,
   List,
   [],
@@ -25,7 +27,7 @@ use Rattle.std.specs.Io.KnownBytes.{Appends}
 use Rattle.hex.specs.Hex.{encode_lower}
 use Rattle.resb_format.specs.Error as reading
 use Rattle.resb_format.specs.Error.{kind_of, description_of, IsWantOfMemory}
-use Rattle.resb_format.specs.File.{budget}
+use Rattle.resb_format.specs.File.{Denotes, budget}
 use Rattle.resb_format.specs.HeadChecks as checks
 use Rattle.resb_format.specs.HeadChecks.{file_fault, refusal_of}
 use Rattle.resb_format.specs.declared.error.ReadingError.{ReadingError}
@@ -101,8 +103,7 @@ ReadsCounted bytes (Err e) =
     × ((f : checks.Refusal) → file_fault bytes ≡ Some f → refusal_of e ≡ f)
 
 -- the same count; where one is refused and the other isn't, for want of memory; and where a check
--- of
--- the head fails, the same refusal
+-- of the head fails, the same refusal
 abbrev pub Agrees : List ℕ → Result ℕ ToolError → Result (Resource × ℕ) ReadingError → Type 0
 Agrees bytes (Ok n) (Ok r) = n ≡ r.1
 Agrees bytes (Ok n) (Err e) = IsWantOfMemory e
@@ -114,3 +115,17 @@ Agrees bytes (Err (Compiling e)) r = ⊥
 Agrees bytes (Err Input) r = ⊥
 Agrees bytes (Err Output) r = ⊥
 Agrees bytes (Err Memory) r = ⊥
+
+-- the count of the tree that is read; where one is refused and the other isn't, for want of memory;
+-- and where both are, for want of memory or by the same refusal
+abbrev pub Matches : List ℕ → Result ℕ ToolError → Result Resource ReadingError → Type 0
+Matches bytes (Ok n) (Ok r) = Denotes bytes (tree_of r) n
+Matches bytes (Ok n) (Err e) = IsWantOfMemory e
+Matches bytes (Err (Checking e)) (Ok r) = IsWantOfMemory e
+Matches bytes (Err (Checking e)) (Err d) =
+    (IsWantOfMemory e ⊎ IsWantOfMemory d) ⊎ (refusal_of e ≡ refusal_of d)
+Matches bytes (Err NotUtf8) r = ⊥
+Matches bytes (Err (Compiling e)) r = ⊥
+Matches bytes (Err Input) r = ⊥
+Matches bytes (Err Output) r = ⊥
+Matches bytes (Err Memory) r = ⊥

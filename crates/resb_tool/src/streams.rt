@@ -6,7 +6,8 @@ ghost use Rattle.std.specs.Io.KnownBytes.{Appends, Consumes, IsAtEnd, Keeps};
 ghost use Rattle.hex.specs.Hex.{encode_lower};
 ghost use Rattle.resb.specs.Compiling.{IsCompiled};
 ghost use Rattle.resb_tool.specs.Program.{IsNoInput, Writes, HasReason};
-ghost use Rattle.resb_tool.specs.Program.{CountsFile, ReadsCounted, Agrees};
+ghost use Rattle.resb_read.specs.Roots.{TreeOf};
+ghost use Rattle.resb_tool.specs.Program.{CountsFile, ReadsCounted, Agrees, Matches};
 
 use crate::fault::ToolError;
 use std::alloc::Global;
@@ -31,6 +32,8 @@ pub fn check_file(alloc: Global, file: &[u8]) -> Result<usize, ToolError>
     ensures counts { CountsFile file.now result }
     // The answer is that of `from_bytes_counted::<Resource>`, want of memory aside.
     ensures as_read { (r : _) → ReadsCounted file.now r → Agrees file.now result r }
+    // It is that of `tree_from_bytes`, by kind and message, want of memory aside.
+    ensures as_tree { (r : _) → TreeOf file.now r → Matches file.now result r }
 {
     match resb::binary::count_resources(alloc, file) {
         Ok(count) => Ok(count),

@@ -1,6 +1,7 @@
 pub mod Lists
 pub mod Entries
 pub mod Lift
+pub mod Meeting
 pub mod Waits
 pub mod Chain
 pub mod Turns

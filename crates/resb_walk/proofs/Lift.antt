@@ -35,7 +35,7 @@ pub list_pairs : {o : Option Content} {ms : List Member} {es : List (ℕ × Memb
 list_pairs e f = cc
 
 module _ (p : Parts) where
-  none_of_none : {w n : ℕ} {t : Tree} → content p w ≡ None → Den p w t n → ⊥
+  pub none_of_none : {w n : ℕ} {t : Tree} → content p w ≡ None → Den p w t n → ⊥
   none_of_none e (den_leaf f) = some_none e f
   none_of_none e (den_list f d) = some_none e f
   none_of_none e (den_pairs f d) = some_none e f
@@ -50,7 +50,7 @@ module _ (p : Parts) where
   stuck_none w left e h =
       ((λ t n d. none_of_none e d), (λ r. let k : left + 1 ≡ 1 = one_of_none e r in omega arith))
 
-  none_of_list : {w n : ℕ} {t : Tree} {ms : List Member} → content p w ≡ Some (list ms)
+  pub none_of_list : {w n : ℕ} {t : Tree} {ms : List Member} → content p w ≡ Some (list ms)
       → ((ts : List Tree) (k : ℕ) → DenEach p ms ts k → ⊥) → Den p w t n → ⊥
   none_of_list e none (den_leaf f) = leaf_list f e
   none_of_list e none (den_list {n = n'} {ts = ts'} f d) = none _ _
@@ -74,7 +74,7 @@ module _ (p : Parts) where
     (λ r. let g : before + 1 ≡ left + 1 + 1 = omega arith in few_of_list left e f.1 g r),
   )
 
-  none_of_pairs : {w n : ℕ} {t : Tree} {es : List (ℕ × Member)} → content p w ≡ Some (pairs es)
+  pub none_of_pairs : {w n : ℕ} {t : Tree} {es : List (ℕ × Member)} → content p w ≡ Some (pairs es)
       → ((ts : List (List ℕ × Tree)) (k : ℕ) → DenPairs p es ts k → ⊥) → Den p w t n → ⊥
   none_of_pairs e none (den_leaf f) = leaf_pairs f e
   none_of_pairs e none (den_list f d) = list_pairs f e

@@ -9,6 +9,8 @@ pub use Rattle.resb_format.specs.Error
 pub use Rattle.resb_tree.specs.Tree
 pub use Rattle.resb_tree.specs.View
 pub mod Files
+pub mod Faults
+pub mod Meets
 pub mod Refusals
 pub mod Borrows
 pub mod Inner

@@ -1,12 +1,14 @@
 //! Open collections, step by step: members are taken from one, and put in when they are made.
 //! In which order they are open is the business of `reading`.
-ghost use Rattle.std.specs.Prelude.{◌≡◌, ℕ, ◌+◌};
+ghost use Rattle.std.specs.Prelude.{◌≡◌, ℕ, ◌+◌, IfErr};
 ghost use Rattle.resb_tree.specs.Tree.{Tree};
 ghost use Rattle.resb_format.specs.Parts.{Parts};
 ghost use Rattle.resb_format.specs.Content as at;
 ghost use Rattle.resb_format.specs.Denotes.{DenMember};
+ghost use Rattle.resb_format.specs.HeadChecks.{refusal_of};
 ghost use Rattle.resb_walk.specs.Files.{parts_in};
 ghost use Rattle.resb_walk.specs.Inner.Frames.{Opened, Waits};
+ghost use Rattle.resb_walk.specs.Meets.{Meets};
 ghost use Rattle.resb_walk.specs.Inner.Turns.{Steps, Puts};
 
 use crate::file::{File, Member, Members, Pairs};
@@ -49,8 +51,10 @@ pub fn advance<'a, 'm, M: Make<'a>>(
     file: File<'a>,
     frame: Open<'a, M::List, M::Table>,
 ) -> Result<Step<'a, M, M::List, M::Table>, ReadingError<'m>>
-    ensures { (w n : ℕ) → Opened M.lists M.tables (parts_in file.entry) frame.entry w n
+    ensures steps { (w n : ℕ) → Opened M.lists M.tables (parts_in file.entry) frame.entry w n
         → Steps M.is M.lists M.tables (parts_in file.entry) w n result }
+    ensures meets { (w n : ℕ) → Opened M.lists M.tables (parts_in file.entry) frame.entry w n
+        → IfErr result (λ e. Meets (parts_in file.entry) (at.word w) (refusal_of e)) }
 {
     match frame {
         Open::List(rest, made) => match rest.split() {

@@ -8,13 +8,15 @@ mod file;
 mod frame;
 mod make;
 mod read;
+mod room;
 mod standing;
 mod tree;
+mod units;
 mod walk;
 
 pub use count::Checked;
 pub use file::{File, Leaf, Member, Members, Pairs, Positions, Standing};
 pub use make::Make;
 pub use read::{read_checked, read_string_at, read_word};
-pub use tree::text_of_units;
+pub use units::text_of_units;
 pub use walk::Walk;

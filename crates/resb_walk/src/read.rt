@@ -4,11 +4,12 @@
 //! The frames of the collections around are in `frames`, the outermost first. A turn takes the next
 //! member from the innermost, or closes it. Each member is paid for as it begins, so that twice
 //! what is left, plus the number of frames, falls in each turn.
-ghost use Rattle.std.specs.Prelude.{◌≡◌, ℕ, ◌+◌};
+ghost use Rattle.std.specs.Prelude.{◌≡◌, ℕ, ◌+◌, IfErr};
 ghost use Rattle.resb_format.specs.Content as at;
 ghost use Rattle.resb_format.specs.Denotes.{Den, Reaches, DenMember, ReachesMember};
 ghost use Rattle.resb_walk.specs.Files.{parts_in};
 ghost use Rattle.resb_walk.specs.Inner.Members.{member_of};
+ghost use Rattle.resb_walk.specs.Meets.{Meets, Blames};
 ghost use Rattle.resb_walk.specs.Refusals.{Answers};
 ghost use Rattle.resb_walk.specs.Inner.Turns.{Reads};
 
@@ -16,6 +17,7 @@ use crate::count::Checked;
 use crate::file::{File, Leaf, Member, Standing};
 use crate::frame::{Open, Read, Step, advance, put};
 use crate::make::Make;
+use crate::room::can_be_paid;
 use crate::walk::Walk;
 use resb_format::ReadingError;
 use std::alloc::Global;
@@ -27,8 +29,9 @@ fn begin<'a, 'm, M: Make<'a>>(
     member: Member,
     walk: &mut Walk,
 ) -> Result<Read<'a, M, M::List, M::Table>, ReadingError<'m>>
-    ensures { Reads M.is M.lists M.tables (parts_in file.entry)
+    ensures reads { Reads M.is M.lists M.tables (parts_in file.entry)
         (member_of member) walk.old walk.new result }
+    ensures meets { IfErr result (Blames (Meets (parts_in file.entry) (member_of member))) }
 {
     walk.pay()?;
     match member {
@@ -54,9 +57,10 @@ pub fn read_string_at<'a, 'm, M: Make<'a>>(
     unit: u16,
     walk: &mut Walk,
 ) -> Result<M, ReadingError<'m>>
-    ensures { let p = parts_in file.entry in
+    ensures answers { let p = parts_in file.entry in
         Answers M.is (DenMember p (at.unit unit)) (ReachesMember p (at.unit unit)) walk.old walk.new
         result }
+    ensures meets { IfErr result (Blames (Meets (parts_in file.entry) (at.unit unit))) }
 {
     match begin::<M>(alloc, file, Member::Unit(unit), walk)? {
         Read::Made(made) => Ok(made),
@@ -71,8 +75,9 @@ pub fn read_word<'a, 'm, M: Make<'a>>(
     word: u32,
     walk: &mut Walk,
 ) -> Result<M, ReadingError<'m>>
-    ensures { Answers M.is (Den (parts_in file.entry) word)
+    ensures answers { Answers M.is (Den (parts_in file.entry) word)
         (Reaches (parts_in file.entry) word) walk.old walk.new result }
+    ensures meets { IfErr result (Blames (Meets (parts_in file.entry) (at.word word))) }
 {
     let mut frames = Vec::new(alloc);
     let mut frame = match begin::<M>(alloc, file, Member::Word(word), walk)? {
@@ -100,20 +105,23 @@ pub fn read_word<'a, 'm, M: Make<'a>>(
     }
 }
 
-/// Reads the tree at a word, once it is known to stand there: so no count in a file that is refused
-/// asks for room.
+/// Reads the tree at a word, once its counts are known to be paid for: so no count asks for room
+/// that the budget doesn't pay.
 pub fn read_checked<'a, 'm, M: Make<'a>>(
     alloc: Global,
     file: File<'a>,
     word: u32,
     walk: &mut Walk,
 ) -> Result<M, ReadingError<'m>>
-    ensures { Answers M.is (Den (parts_in file.entry) word)
+    ensures answers { Answers M.is (Den (parts_in file.entry) word)
         (Reaches (parts_in file.entry) word) walk.old walk.new result }
+    ensures meets { IfErr result (Blames (Meets (parts_in file.entry) (at.word word))) }
 {
-    let mut budget = Walk::new(walk.left());
-    match read_word::<Checked>(alloc, file, word, &mut budget) {
-        Ok(_) => read_word::<M>(alloc, file, word, walk),
-        Err(error) => Err(error),
+    if !can_be_paid(alloc, file, word, walk.left())? {
+        let mut budget = Walk::new(walk.left());
+        if let Err(error) = read_word::<Checked>(alloc, file, word, &mut budget) {
+            return Err(error);
+        }
     }
+    read_word::<M>(alloc, file, word, walk)
 }

@@ -1,12 +1,15 @@
 //! What stands at a word, at a unit of the 16-bit block, and at a key's position.
 //! Bytes are looked at in `resb_format::bytes` alone.
-ghost use Rattle.std.specs.Prelude.{◌≡◌, ◌<◌, not, position, ◌==◌, Some, None, MatchOption};
-ghost use Rattle.std.specs.Prelude.{MatchResult};
-ghost use Rattle.std.specs.Char.Utf16.{is_high_surrogate, is_low_surrogate, has_unpaired_surrogate};
+ghost use Rattle.std.specs.Prelude.{◌≡◌, ◌<◌, position, ◌==◌, Some, None};
+ghost use Rattle.std.specs.Prelude.{MatchResult, IfErr};
 ghost use Rattle.resb_format.specs.Bytes.{units_of};
 ghost use Rattle.resb_format.specs.Strings.{text_at, key_at};
 ghost use Rattle.resb_format.specs.Content as at;
 ghost use Rattle.resb_format.specs.Content.{content};
+ghost use Rattle.resb_format.specs.HeadChecks as checks;
+ghost use Rattle.resb_format.specs.Parts.{Parts};
+ghost use Rattle.resb_walk.specs.Faults as faults;
+ghost use Rattle.resb_walk.specs.Faults.{Says, text_fault, key_fault, content_fault};
 ghost use Rattle.resb_walk.specs.Files.{parts_in};
 ghost use Rattle.resb_walk.specs.Inner.Members.{content_of, text_of_bytes};
 ghost use Rattle.resb_walk.specs.Refusals.{IsFault};
@@ -16,47 +19,9 @@ use crate::faults::{
     unsupported_type,
 };
 use crate::file::{File, Leaf, Members, Pairs, Positions, Standing};
-use resb_format::bytes::{first_unit, some_bytes, some_unit, some_units, some_word, some_words};
+use crate::units::is_well_formed;
+use resb_format::bytes::{some_bytes, some_unit, some_units, some_word, some_words};
 use resb_format::{BinaryDeserializerError, string_at};
-
-/// Whether it is the first unit of a pair.
-fn is_high(unit: u16) -> bool
-    ensures { result ≡ is_high_surrogate unit }
-{
-    0xd800 <= unit && unit < 0xdc00
-}
-
-/// Whether it is the second unit of a pair.
-fn is_low(unit: u16) -> bool
-    ensures { result ≡ is_low_surrogate unit }
-{
-    0xdc00 <= unit && unit < 0xe000
-}
-
-/// Whether each surrogate has its partner.
-#[tactic(auto, using(crate::proofs::Surrogates::surrogates))]
-fn is_well_formed(bytes: &[u8]) -> bool
-    ensures { result ≡ not (has_unpaired_surrogate (units_of bytes.now)) }
-{
-    let mut rest = bytes;
-    'units: while let Some((first, later)) = first_unit(rest) {
-        if is_high(first) {
-            let Some((second, after)) = first_unit(later) else {
-                return false;
-            };
-            if !is_low(second) {
-                return false;
-            }
-            rest = after;
-        } else {
-            if is_low(first) {
-                return false;
-            }
-            rest = later;
-        }
-    }
-    true
-}
 
 /// The number of the first zero byte.
 fn first_zero(bytes: &[u8]) -> Option<usize>
@@ -67,7 +32,8 @@ fn first_zero(bytes: &[u8]) -> Option<usize>
 
 /// What is said of a type that isn't read.
 fn unread_type(kind: u32) -> BinaryDeserializerError
-    ensures { IsFault result }
+    ensures says { Says (faults.unread_fault kind) result }
+    ensures fault { IsFault result }
 {
     match kind {
         0 | 3 => unsupported_type(),
@@ -80,9 +46,10 @@ impl<'a> File<'a> {
     /// byte.
     #[tactic(auto, using(crate::proofs::Keys::at), unfolding(resb_format::specs::Strings::key_at))]
     pub fn key(self, at: usize) -> Result<&'a str, BinaryDeserializerError>
-        ensures { let keys = self.entry.keys.now in
+        ensures stands { let keys = self.entry.keys.now in
             MatchResult result (λ s. key_at keys at ≡ Some s.now)
             (λ e. (key_at keys at ≡ None) × IsFault e) }
+        ensures says { IfErr result (Says (key_fault self.entry.keys.now at)) }
     {
         if self.keys.len() < at {
             return Err(key_past_end());
@@ -104,9 +71,10 @@ impl<'a> File<'a> {
     /// The units of the string at a unit of the 16-bit block, two bytes for each, which are a text.
     #[tactic(auto, using(crate::proofs::Placed::text_some, crate::proofs::Placed::text_unpaired))]
     pub fn text(self, unit: usize) -> Result<&'a [u8], BinaryDeserializerError>
-        ensures { let block = units_of self.entry.block.now in
+        ensures stands { let block = units_of self.entry.block.now in
             MatchResult result (λ v. text_at block unit ≡ Some (text_of_bytes v.now))
             (λ e. (text_at block unit ≡ None) × IsFault e) }
+        ensures says { IfErr result (Says (text_fault (units_of self.entry.block.now) unit)) }
     {
         match string_at(self.block, unit) {
             Ok(view) => {
@@ -124,9 +92,10 @@ impl<'a> File<'a> {
     /// What stands at a word.
     #[tactic(auto, unfolding(resb_format::specs::Content::content))]
     pub fn standing(self, word: u32) -> Result<Standing<'a>, BinaryDeserializerError>
-        ensures { let p = parts_in self.entry in
+        ensures stands { let p = parts_in self.entry in
             MatchResult result (λ s. content p word ≡ Some (content_of s))
             (λ e. (content p word ≡ None) × IsFault e) }
+        ensures says { IfErr result (Says (content_fault (parts_in self.entry) word)) }
     {
         let kind = word >> 28;
         let value = (word % 0x1000_0000) as usize;
@@ -142,9 +111,10 @@ impl<'a> File<'a> {
     /// What a type with a value other than 0 leads to.
     fn placed(self, kind: u32, value: usize) -> Result<Standing<'a>, BinaryDeserializerError>
         requires { value < 268435456 }
-        ensures { let p = parts_in self.entry in
+        ensures stands { let p = parts_in self.entry in
             MatchResult result (λ s. at.placed p kind value ≡ Some (content_of s))
             (λ e. (at.placed p kind value ≡ None) × IsFault e) }
+        ensures says { IfErr result (Says (faults.placed_fault (parts_in self.entry) kind value)) }
     {
         match kind {
             1 => self.binary(value),
@@ -162,9 +132,10 @@ impl<'a> File<'a> {
     /// A count of bytes, and the bytes.
     fn binary(self, value: usize) -> Result<Standing<'a>, BinaryDeserializerError>
         requires { value < 268435456 }
-        ensures { let p = parts_in self.entry in
+        ensures stands { let p = parts_in self.entry in
             MatchResult result (λ s. at.binary_at p value ≡ Some (content_of s))
             (λ e. (at.binary_at p value ≡ None) × IsFault e) }
+        ensures says { IfErr result (Says checks.end_of_input) }
     {
         let Some(count) = some_word(self.body, value) else {
             return Err(past_end());
@@ -178,9 +149,10 @@ impl<'a> File<'a> {
     /// A count of numbers, and the numbers.
     fn int_vector(self, value: usize) -> Result<Standing<'a>, BinaryDeserializerError>
         requires { value < 268435456 }
-        ensures { let p = parts_in self.entry in
+        ensures stands { let p = parts_in self.entry in
             MatchResult result (λ s. at.int_vector_at p value ≡ Some (content_of s))
             (λ e. (at.int_vector_at p value ≡ None) × IsFault e) }
+        ensures says { IfErr result (Says checks.end_of_input) }
     {
         let Some(count) = some_word(self.body, value) else {
             return Err(past_end());
@@ -194,9 +166,10 @@ impl<'a> File<'a> {
     /// A count of descriptors, and the descriptors.
     fn array(self, value: usize) -> Result<Standing<'a>, BinaryDeserializerError>
         requires { value < 268435456 }
-        ensures { let p = parts_in self.entry in
+        ensures stands { let p = parts_in self.entry in
             MatchResult result (λ s. at.array_at p value ≡ Some (content_of s))
             (λ e. (at.array_at p value ≡ None) × IsFault e) }
+        ensures says { IfErr result (Says checks.end_of_input) }
     {
         let Some(count) = some_word(self.body, value) else {
             return Err(past_end());
@@ -210,9 +183,10 @@ impl<'a> File<'a> {
     /// A count of offsets, and the offsets.
     fn array16(self, value: usize) -> Result<Standing<'a>, BinaryDeserializerError>
         requires { value < 268435456 }
-        ensures { let p = parts_in self.entry in
+        ensures stands { let p = parts_in self.entry in
             MatchResult result (λ s. at.array16_at p value ≡ Some (content_of s))
             (λ e. (at.array16_at p value ≡ None) × IsFault e) }
+        ensures says { IfErr result (Says checks.end_of_input) }
     {
         let Some(count) = some_unit(self.block, value) else {
             return Err(past_end());
@@ -226,9 +200,10 @@ impl<'a> File<'a> {
     /// A 16-bit count of entries, 16-bit key positions, padding up to a word, and descriptors.
     fn table(self, value: usize) -> Result<Standing<'a>, BinaryDeserializerError>
         requires { value < 268435456 }
-        ensures { let p = parts_in self.entry in
+        ensures stands { let p = parts_in self.entry in
             MatchResult result (λ s. at.table_at p value ≡ Some (content_of s))
             (λ e. (at.table_at p value ≡ None) × IsFault e) }
+        ensures says { IfErr result (Says checks.end_of_input) }
     {
         let Some(count) = some_unit(self.body, 2 * value) else {
             return Err(past_end());
@@ -249,9 +224,10 @@ impl<'a> File<'a> {
     /// A count of entries, key positions and offsets, all of 16 bits.
     fn table16(self, value: usize) -> Result<Standing<'a>, BinaryDeserializerError>
         requires { value < 268435456 }
-        ensures { let p = parts_in self.entry in
+        ensures stands { let p = parts_in self.entry in
             MatchResult result (λ s. at.table16_at p value ≡ Some (content_of s))
             (λ e. (at.table16_at p value ≡ None) × IsFault e) }
+        ensures says { IfErr result (Says checks.end_of_input) }
     {
         let Some(count) = some_unit(self.block, value) else {
             return Err(past_end());
@@ -272,9 +248,10 @@ impl<'a> File<'a> {
     /// A count of entries, key positions and descriptors, all of 32 bits, without padding.
     fn table32(self, value: usize) -> Result<Standing<'a>, BinaryDeserializerError>
         requires { value < 268435456 }
-        ensures { let p = parts_in self.entry in
+        ensures stands { let p = parts_in self.entry in
             MatchResult result (λ s. at.table32_at p value ≡ Some (content_of s))
             (λ e. (at.table32_at p value ≡ None) × IsFault e) }
+        ensures says { IfErr result (Says checks.end_of_input) }
     {
         let Some(count) = some_word(self.body, value) else {
             return Err(past_end());
@@ -296,8 +273,9 @@ impl<'a> File<'a> {
 /// The empty resource of a type.
 #[tactic(auto, unfolding(resb_format::specs::Bytes::words_of, resb_format::specs::Bytes::units_of))]
 fn empty<'a>(kind: u32) -> Result<Standing<'a>, BinaryDeserializerError>
-    ensures { MatchResult result (λ s. at.empty kind ≡ Some (content_of s))
+    ensures stands { MatchResult result (λ s. at.empty kind ≡ Some (content_of s))
         (λ e. (at.empty kind ≡ None) × IsFault e) }
+    ensures says { (p : Parts) → IfErr result (Says (faults.placed_fault p kind 0)) }
 {
     match kind {
         1 => Ok(Standing::Leaf(Leaf::Binary(&[]))),

@@ -2,38 +2,24 @@
 //! Which bytes they are made of is found in `standing`.
 ghost use Rattle.std.specs.Prelude.{◌≡◌, List, IfOk};
 ghost use Rattle.resb_format.specs.Bytes.{words_of};
-ghost use Rattle.resb_walk.specs.Inner.Members.{text_of_bytes};
-ghost use Rattle.std.specs.String.{string_bytes};
 ghost use Rattle.std.specs.BTreeMap.{insert_entry};
 ghost use Rattle.std.specs.Cmp.Lexicographic.{slice_cmp};
 ghost use Rattle.std.specs.Ordering.{nat_cmp};
 
 use crate::file::Leaf;
 use crate::make::Make;
-use resb_format::bytes::{first_unit, first_word};
+use crate::units::text_of_units;
+use resb_format::bytes::first_word;
 use resb_tree::{Int28, Key, NoMemory, Resource, Table};
 use std::alloc::Global;
 use std::borrow::{CowSlice, CowStr};
 use std::collections::BTreeMap;
 
-/// The text of some units, two bytes for each. A surrogate without a partner would be replaced.
-pub fn text_of_units(alloc: Global, bytes: &[u8]) -> Result<String, NoMemory>
-    ensures { IfOk result (λ s. string_bytes s ≡ text_of_bytes bytes.now) }
-{
-    let mut units = Vec::new(alloc);
-    let mut rest = bytes;
-    'units: while let Some((unit, later)) = first_unit(rest) {
-        units.push(unit)?;
-        rest = later;
-    }
-    Ok(String::from_utf16_lossy(alloc, &units)?)
-}
-
 /// The numbers of some bytes.
 fn numbers(alloc: Global, bytes: &[u8]) -> Result<Vec<u32>, NoMemory>
     ensures { IfOk result (λ v. v.items ≡ words_of bytes.now) }
 {
-    let mut numbers = Vec::new(alloc);
+    let mut numbers = Vec::with_capacity(alloc, bytes.len() / 4)?;
     let mut rest = bytes;
     'numbers: while let Some((number, later)) = first_word(rest) {
         numbers.push(number)?;

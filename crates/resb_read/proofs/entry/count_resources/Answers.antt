@@ -15,7 +15,7 @@ returns-in_err-count_resource c =
     )
     (refused_root c.args.bytes.now (place_of c.in_ok-root.root) c.in_ok-root.walk
     c.in_err-count_resource.field-0.0 h.0 h.1 h.2
-    c.in_err-count_resource.ensures.refused.1)
+    c.in_err-count_resource.ensures.refused.1 c.in_err-count_resource.ensures.meets)
 
 pub returns : goal.returns
 returns c =

@@ -7,4 +7,4 @@ returns c =
     let h = c.in_ok-root.ensures in
     tree_root c.args.bytes.now (place_of c.in_ok-root.root) c.in_ok-root.walk
     c.read_resource.new.walk c.read_resource.result h.0 h.1 h.2 c.read_resource.ensures.read
-    c.read_resource.ensures.refused
+    c.read_resource.ensures.refused c.read_resource.ensures.meets

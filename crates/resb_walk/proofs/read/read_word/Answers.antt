@@ -6,37 +6,38 @@ use Rattle.resb_format.specs.Denotes.{den_word}
 use Rattle.resb_walk.specs.Files.{parts_in}
 use Rattle.resb_walk.specs.Inner.Members.{member_of}
 use Rattle.resb_walk.proofs.Lift.{word_den, word_refused}
+use Rattle.resb_walk.proofs.Meeting.{waits_meets, turn_meets}
 use Rattle.resb_walk.proofs.Turns.{turn_first, turn_falls, turn_stuck, turn_refused, turn_puts}
 use Rattle.resb_walk.proofs.Turns.{turn_begins, turn_last, turn_outer, turn_closes}
 use Rattle.resb_walk.proofs.read.read_word.Goals as goal
 
-pub returns-in_err-made : goal.returns-in_err-made
-returns-in_err-made g c =
+pub returns-in_err-made-clause-answers : goal.returns-in_err-made-clause-answers
+returns-in_err-made-clause-answers g c =
     let e = err_from_is_err_and c.from_residual.result c.from_residual.ensures.1 in
-    let h = c.in_err-made.ensures in
+    let h = c.in_err-made.ensures.reads in
     rw (e.1, e.2) (
       h.0,
       word_refused (parts_in c.args.file) c.args.word c.args.walk.now c.in_err-made.field-0.0 h.1,
     )
 
-pub returns-in-Made : goal.returns-in-Made
-returns-in-Made g c =
-    let h = rw c.in-Made.is at c.in_ok-made.ensures in
+pub returns-in-Made-clause-answers : goal.returns-in-Made-clause-answers
+returns-in-Made-clause-answers g c =
+    let h = rw c.in-Made.is at c.in_ok-made.ensures.reads in
     (h.0, 1, word_den (parts_in c.args.file) h.1, h.2, h.3)
 
 pub turns-init : goal.turns-init
 turns-init g c =
-    let h = rw c.in-Begun.is at c.in_ok-made.ensures in
+    let h = rw c.in-Begun.is at c.in_ok-made.ensures.reads in
     turn_first g.M.Make.lists g.M.Make.tables (parts_in c.args.file) c.args.word c.args.walk.now
     c.begin.new.walk h.0 c.new-frames.result.items c.in-Begun.frame c.new-frames.ensures.items
     h.1 h.2 h.3
 
-pub returns-in_err-member : goal.returns-in_err-member
-returns-in_err-member g c =
+pub returns-in_err-member-clause-answers : goal.returns-in_err-member-clause-answers
+returns-in_err-member-clause-answers g c =
     let e = err_from_is_err_and c.from_residual-in_err-member.result
     c.from_residual-in_err-member.ensures.1 in
     let i = c.turns.invariant in
-    let h = c.in_err-member.ensures i.place i.inner i.opened in
+    let h = c.in_err-member.ensures.steps i.place i.inner i.opened in
     rw (e.1, e.2) (
       turn_falls g.M.Make.lists g.M.Make.tables (parts_in c.args.file) c.args.word c.args.walk.now
           c.turns.frames.items c.turns.frame c.turns.walk i,
@@ -44,13 +45,13 @@ returns-in_err-member g c =
           c.turns.frames.items c.turns.frame c.turns.walk i c.in_err-member.field-0.0 h.0 h.1,
     )
 
-pub returns-in_err-item-in-Wants : goal.returns-in_err-item-in-Wants
-returns-in_err-item-in-Wants g c =
+pub returns-in_err-item-in-Wants-clause-answers : goal.returns-in_err-item-in-Wants-clause-answers
+returns-in_err-item-in-Wants-clause-answers g c =
     let e = err_from_is_err_and c.from_residual-in_err-item-in-Wants.result
     c.from_residual-in_err-item-in-Wants.ensures.1 in
     let i = c.turns.invariant in
-    let waits = rw c.in-Wants.is at c.in_ok-member.ensures i.place i.inner i.opened in
-    let h = c.in_err-item-in-Wants.ensures in
+    let waits = rw c.in-Wants.is at c.in_ok-member.ensures.steps i.place i.inner i.opened in
+    let h = c.in_err-item-in-Wants.ensures.reads in
     let le : c.begin-in-Wants.new.walk ≤ c.turns.walk = h.0 in
     let falls : c.turns.walk ≤ c.args.walk.now = turn_falls g.M.Make.lists g.M.Make.tables
     (parts_in c.args.file) c.args.word c.args.walk.now c.turns.frames.items c.turns.frame
@@ -62,13 +63,13 @@ returns-in_err-item-in-Wants g c =
           (member_of c.in-Wants.member) c.in_err-item-in-Wants.field-0.0 waits h.1,
     )
 
-pub returns-in_err-frame-in-Made-2 : goal.returns-in_err-frame-in-Made-2
-returns-in_err-frame-in-Made-2 g c =
+pub returns-in_err-frame-in-Made-2-clause-answers : goal.returns-in_err-frame-in-Made-2-clause-answers
+returns-in_err-frame-in-Made-2-clause-answers g c =
     let e = err_from_is_err_and c.from_residual-in_err-frame-in-Made-2.result
     c.from_residual-in_err-frame-in-Made-2.ensures.1 in
     let i = c.turns.invariant in
-    let waits = rw c.in-Wants.is at c.in_ok-member.ensures i.place i.inner i.opened in
-    let h = rw c.in-Made-2.is at c.in_ok-item-in-Wants.ensures in
+    let waits = rw c.in-Wants.is at c.in_ok-member.ensures.steps i.place i.inner i.opened in
+    let h = rw c.in-Made-2.is at c.in_ok-item-in-Wants.ensures.reads in
     let memory = c.in_err-frame-in-Made-2.ensures (parts_in c.args.file) i.place i.inner 1
     (member_of c.in-Wants.member) h.0 waits h.1 h.2 in
     let paid : c.begin-in-Wants.new.walk + 1 ≡ c.turns.walk = h.3 in
@@ -80,8 +81,8 @@ returns-in_err-frame-in-Made-2 g c =
 pub turns-preserved-in-Made-2 : goal.turns-preserved-in-Made-2
 turns-preserved-in-Made-2 g c =
     let i = c.turns.invariant in
-    let waits = rw c.in-Wants.is at c.in_ok-member.ensures i.place i.inner i.opened in
-    let h = rw c.in-Made-2.is at c.in_ok-item-in-Wants.ensures in
+    let waits = rw c.in-Wants.is at c.in_ok-member.ensures.steps i.place i.inner i.opened in
+    let h = rw c.in-Made-2.is at c.in_ok-item-in-Wants.ensures.reads in
     let next = c.in_ok-frame-in-Made-2.ensures (parts_in c.args.file) i.place i.inner 1
     (member_of c.in-Wants.member) h.0 waits h.1 h.2 in
     turn_puts g.M.Make.lists g.M.Make.tables (parts_in c.args.file) c.args.word c.args.walk.now
@@ -91,28 +92,28 @@ turns-preserved-in-Made-2 g c =
 pub turns-preserved-in-Begun-2 : goal.turns-preserved-in-Begun-2
 turns-preserved-in-Begun-2 g c =
     let i = c.turns.invariant in
-    let waits = rw c.in-Wants.is at c.in_ok-member.ensures i.place i.inner i.opened in
-    let h = rw c.in-Begun-2.is at c.in_ok-item-in-Wants.ensures in
+    let waits = rw c.in-Wants.is at c.in_ok-member.ensures.steps i.place i.inner i.opened in
+    let h = rw c.in-Begun-2.is at c.in_ok-item-in-Wants.ensures.reads in
     turn_begins g.M.Make.lists g.M.Make.tables (parts_in c.args.file) c.args.word c.args.walk.now
     c.turns.frames.items c.turns.frame c.turns.walk i c.in-Wants.waiting c.in-Begun-2.inner h.0
     c.begin-in-Wants.new.walk c.push.new.self.items c.in_ok-push-in-Begun-2.ensures.items
     (rw h.1 at waits) h.2 h.3
 
-pub returns-in_default : goal.returns-in_default
-returns-in_default g c =
+pub returns-in_default-clause-answers : goal.returns-in_default-clause-answers
+returns-in_default-clause-answers g c =
     let i = c.turns.invariant in
-    let h = rw c.in-Done.is at c.in_ok-member.ensures i.place i.inner i.opened in
+    let h = rw c.in-Done.is at c.in_ok-member.ensures.steps i.place i.inner i.opened in
     let empty : c.turns.frames.items ≡ [] = grind (arith, c.in_default.ensures.cases) in
     let r = turn_last g.M.Make.lists g.M.Make.tables (parts_in c.args.file) c.args.word
     c.args.walk.now c.turns.frames.items c.turns.frame c.turns.walk i h.0 empty h.1 in
     (h.0, r.0, r.1, h.2, r.2)
 
-pub returns-in_err-frame-in-Done : goal.returns-in_err-frame-in-Done
-returns-in_err-frame-in-Done g c =
+pub returns-in_err-frame-in-Done-clause-answers : goal.returns-in_err-frame-in-Done-clause-answers
+returns-in_err-frame-in-Done-clause-answers g c =
     let e = err_from_is_err_and c.from_residual-in_err-frame-in-Done.result
     c.from_residual-in_err-frame-in-Done.ensures.1 in
     let i = c.turns.invariant in
-    let h = rw c.in-Done.is at c.in_ok-member.ensures i.place i.inner i.opened in
+    let h = rw c.in-Done.is at c.in_ok-member.ensures.steps i.place i.inner i.opened in
     let outer = turn_outer g.M.Make.lists g.M.Make.tables (parts_in c.args.file) c.args.word
     c.args.walk.now c.turns.frames.items c.turns.frame c.turns.walk i c.in-Some.waiting
     c.pop.new.self.items c.in-Some.ensures.items in
@@ -130,7 +131,7 @@ returns-in_err-frame-in-Done g c =
 pub turns-preserved : goal.turns-preserved
 turns-preserved g c =
     let i = c.turns.invariant in
-    let h = rw c.in-Done.is at c.in_ok-member.ensures i.place i.inner i.opened in
+    let h = rw c.in-Done.is at c.in_ok-member.ensures.steps i.place i.inner i.opened in
     let outer = turn_outer g.M.Make.lists g.M.Make.tables (parts_in c.args.file) c.args.word
     c.args.walk.now c.turns.frames.items c.turns.frame c.turns.walk i c.in-Some.waiting
     c.pop.new.self.items c.in-Some.ensures.items in
@@ -139,3 +140,52 @@ turns-preserved g c =
     turn_closes g.M.Make.lists g.M.Make.tables (parts_in c.args.file) c.args.word c.args.walk.now
     c.turns.frames.items c.turns.frame c.turns.walk i c.in-Some.waiting c.pop.new.self.items
     c.in_ok-frame-in-Done.frame outer next
+
+pub returns-in_err-made-clause-meets : goal.returns-in_err-made-clause-meets
+returns-in_err-made-clause-meets g c =
+    let e = err_from_is_err_and c.from_residual.result c.from_residual.ensures.1 in
+    rw (e.1, e.2) c.in_err-made.ensures.meets
+
+pub returns-in_err-member-clause-meets : goal.returns-in_err-member-clause-meets
+returns-in_err-member-clause-meets g c =
+    let e = err_from_is_err_and c.from_residual-in_err-member.result
+    c.from_residual-in_err-member.ensures.1 in
+    let i = c.turns.invariant in
+    let met = c.in_err-member.ensures.meets i.place i.inner i.opened in
+    rw (e.1, e.2) (λ _. turn_meets (parts_in c.args.file) g.M.Make.lists g.M.Make.tables c.args.word
+    c.args.walk.now c.turns.frames.items c.turns.frame c.turns.walk i _ met)
+
+pub returns-in_err-item-in-Wants-clause-meets : goal.returns-in_err-item-in-Wants-clause-meets
+returns-in_err-item-in-Wants-clause-meets g c =
+    let e = err_from_is_err_and c.from_residual-in_err-item-in-Wants.result
+    c.from_residual-in_err-item-in-Wants.ensures.1 in
+    let i = c.turns.invariant in
+    let waits = rw c.in-Wants.is at c.in_ok-member.ensures.steps i.place i.inner i.opened in
+    rw (e.1, e.2) (λ h. turn_meets (parts_in c.args.file) g.M.Make.lists g.M.Make.tables c.args.word
+    c.args.walk.now c.turns.frames.items c.turns.frame c.turns.walk i _
+    (waits_meets (parts_in c.args.file) g.M.Make.lists g.M.Make.tables c.in-Wants.waiting i.place
+    i.inner (member_of c.in-Wants.member) _ waits (c.in_err-item-in-Wants.ensures.meets h)))
+
+pub returns-in_err-frame-in-Made-2-clause-meets : goal.returns-in_err-frame-in-Made-2-clause-meets
+returns-in_err-frame-in-Made-2-clause-meets g c =
+    let e = err_from_is_err_and c.from_residual-in_err-frame-in-Made-2.result
+    c.from_residual-in_err-frame-in-Made-2.ensures.1 in
+    let i = c.turns.invariant in
+    let waits = rw c.in-Wants.is at c.in_ok-member.ensures.steps i.place i.inner i.opened in
+    let h = rw c.in-Made-2.is at c.in_ok-item-in-Wants.ensures.reads in
+    let memory = c.in_err-frame-in-Made-2.ensures (parts_in c.args.file) i.place i.inner 1
+    (member_of c.in-Wants.member) h.0 waits h.1 h.2 in
+    rw (e.1, e.2) (λ f. absurd (f.not_memory memory.kind_is))
+
+pub returns-in_err-frame-in-Done-clause-meets : goal.returns-in_err-frame-in-Done-clause-meets
+returns-in_err-frame-in-Done-clause-meets g c =
+    let e = err_from_is_err_and c.from_residual-in_err-frame-in-Done.result
+    c.from_residual-in_err-frame-in-Done.ensures.1 in
+    let i = c.turns.invariant in
+    let h = rw c.in-Done.is at c.in_ok-member.ensures.steps i.place i.inner i.opened in
+    let outer = turn_outer g.M.Make.lists g.M.Make.tables (parts_in c.args.file) c.args.word
+    c.args.walk.now c.turns.frames.items c.turns.frame c.turns.walk i c.in-Some.waiting
+    c.pop.new.self.items c.in-Some.ensures.items in
+    let memory = c.in_err-frame-in-Done.ensures (parts_in c.args.file) outer.place outer.inner
+    (1 + i.inner) (word i.place) h.0 outer.waits (den_word h.1) h.2 in
+    rw (e.1, e.2) (λ f. absurd (f.not_memory memory.kind_is))

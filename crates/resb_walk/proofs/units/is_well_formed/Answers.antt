@@ -3,7 +3,7 @@ use Rattle.std.specs.Prelude.{not}
 use Rattle.std.specs.Char.Utf16.{is_high_surrogate, is_low_surrogate}
 use Rattle.resb_format.specs.Bytes.{units_of}
 use Rattle.resb_walk.proofs.Surrogates.{high_alone, a_pair, low_alone}
-use Rattle.resb_walk.proofs.standing.is_well_formed.Goals as goal
+use Rattle.resb_walk.proofs.units.is_well_formed.Goals as goal
 
 pub returns-then-not-is_low : goal.returns-then-not-is_low
 returns-then-not-is_low c =

@@ -1,0 +1,121 @@
+//! UTF-16 among bytes, two for each unit: whether each surrogate has its partner, and the text.
+//! Where a string's units stand is found in `standing`.
+ghost use Rattle.std.specs.Prelude.{◌≡◌, ◌∷◌, ◌<◌, [], true, not, length, MatchOption, IfOk, IfSome};
+ghost use Rattle.std.specs.Char.Utf16.{is_high_surrogate, is_low_surrogate, has_unpaired_surrogate};
+ghost use Rattle.std.specs.Char.Utf16.{utf16_lossy_chars, surrogate_pair_char};
+ghost use Rattle.std.specs.Char.Utf16.{lone_unit_char};
+ghost use Rattle.std.specs.Option.{unwrap_or};
+ghost use Rattle.std.specs.String.{string_bytes};
+ghost use Rattle.resb_format.specs.Bytes.{units_of};
+ghost use Rattle.resb_walk.specs.Inner.Members.{text_of_bytes};
+
+use resb_format::bytes::first_unit;
+use resb_tree::NoMemory;
+use std::alloc::Global;
+
+/// Whether it is the first unit of a pair.
+fn is_high(unit: u16) -> bool
+    ensures { result ≡ is_high_surrogate unit }
+{
+    0xd800 <= unit && unit < 0xdc00
+}
+
+/// Whether it is the second unit of a pair.
+fn is_low(unit: u16) -> bool
+    ensures { result ≡ is_low_surrogate unit }
+{
+    0xdc00 <= unit && unit < 0xe000
+}
+
+/// The bytes behind the first four units, if so many stand there and none is a surrogate.
+#[tactic(auto, using(crate::proofs::Surrogates::four_plain))]
+fn behind_plain(bytes: &[u8]) -> Option<&[u8]>
+    ensures { IfSome result (λ rest.
+        (has_unpaired_surrogate (units_of bytes.now) ≡ has_unpaired_surrogate (units_of rest.now))
+        × (length (units_of rest.now) < length (units_of bytes.now))) }
+{
+    if bytes.len() < 8 {
+        return None;
+    }
+    if bytes[1].max(bytes[3]).max(bytes[5].max(bytes[7])) >= 0xd8 {
+        return None;
+    }
+    let (_, rest) = bytes.split_at(8);
+    Some(rest)
+}
+
+/// Whether each surrogate has its partner.
+#[tactic(auto, using(crate::proofs::Surrogates::surrogates))]
+pub(crate) fn is_well_formed(bytes: &[u8]) -> bool
+    ensures { result ≡ not (has_unpaired_surrogate (units_of bytes.now)) }
+{
+    let mut rest = bytes;
+    'units: while let Some((first, later)) = first_unit(rest) {
+        if let Some(behind) = behind_plain(rest) {
+            rest = behind;
+            continue;
+        }
+        if is_high(first) {
+            let Some((second, after)) = first_unit(later) else {
+                return false;
+            };
+            if !is_low(second) {
+                return false;
+            }
+            rest = after;
+        } else {
+            if is_low(first) {
+                return false;
+            }
+            rest = later;
+        }
+    }
+    true
+}
+
+/// The character of a pair.
+fn pair_char(high: u16, low: u16) -> char
+    requires high { is_high_surrogate high ≡ true }
+    requires low { is_low_surrogate low ≡ true }
+    ensures { result ≡ surrogate_pair_char high low }
+{
+    let code = 0x1_0000 + (u32::from(high) - 0xd800) * 0x400 + (u32::from(low) - 0xdc00);
+    char::from_u32(code).unwrap_or(char::REPLACEMENT_CHARACTER)
+}
+
+/// The character of a unit that is in no pair; U+FFFD for a surrogate.
+fn lone_char(unit: u16) -> char
+    ensures { result ≡ unwrap_or (lone_unit_char unit) 0xFFFD }
+{
+    char::from_u32(u32::from(unit)).unwrap_or(char::REPLACEMENT_CHARACTER)
+}
+
+/// The first character, and the bytes behind it: U+FFFD for a surrogate without a partner.
+#[tactic(auto, using(crate::proofs::Surrogates::first_chars))]
+fn first_char(bytes: &[u8]) -> Option<(char, &[u8])>
+    ensures { MatchOption result (units_of bytes.now ≡ [])
+        (λ r. (utf16_lossy_chars (units_of bytes.now) ≡ r.0 ∷ utf16_lossy_chars (units_of r.1.now))
+        × (length (units_of r.1.now) < length (units_of bytes.now))) }
+{
+    let (first, later) = first_unit(bytes)?;
+    if is_high(first) {
+        return match first_unit(later) {
+            Some((second, after)) if is_low(second) => Some((pair_char(first, second), after)),
+            _ => Some((char::REPLACEMENT_CHARACTER, later)),
+        };
+    }
+    Some((lone_char(first), later))
+}
+
+/// The text of some units. U+FFFD stands for a surrogate without a partner.
+pub fn text_of_units(alloc: Global, bytes: &[u8]) -> Result<String, NoMemory>
+    ensures { IfOk result (λ s. string_bytes s ≡ text_of_bytes bytes.now) }
+{
+    let mut text = String::with_capacity(alloc, bytes.len() / 2)?;
+    let mut rest = bytes;
+    'chars: while let Some((first, later)) = first_char(rest) {
+        text.push(first)?;
+        rest = later;
+    }
+    Ok(text)
+}

@@ -1,5 +1,6 @@
 -- Numbers and spellings tell apart what is written by them.
-use Rattle.std.specs.Prelude.{◌≡◌, ℕ, ◌+◌, ◌*◌, ◌/◌, ◌^◌, ◌<◌, ◌≤◌, List, nat_eq, if◌then◌else◌, slice_index}
+use Rattle.std.specs.Prelude.{◌≡◌, ℕ, ◌+◌, ◌*◌, ◌/◌, ◌^◌, ◌<◌, ◌≤◌, List, nat_eq, if◌then◌else◌}
+use Rattle.std.specs.Prelude.{slice_index}
 use Rattle.std.proofs.Common.{refl, sym, ap, ◌∙◌, ◌⊎◌, inl, inr, arith}
 use mathlib.Core.HLevel.{Σ_prop_path}
 use Rattle.std.specs.Coded.{le_prop}
@@ -10,7 +11,8 @@ use Rattle.resb_format.specs.declared.endianness.Endianness.TheVariants.{Little,
 use Rattle.resb_format.specs.declared.charset.CharsetFamily.{CharsetFamily}
 use Rattle.resb_format.specs.declared.charset.CharsetFamily.TheVariants.{Ascii, Ebcdic}
 use Rattle.resb_format.specs.declared.version.FormatVersion.{FormatVersion}
-use Rattle.resb_format.specs.declared.version.FormatVersion.TheVariants.{V1_0, V1_1, V1_2, V1_3, V2_0, V3_0}
+use Rattle.resb_format.specs.declared.version.FormatVersion.TheVariants.{V1_0, V1_1, V1_2, V1_3}
+use Rattle.resb_format.specs.declared.version.FormatVersion.TheVariants.{V2_0, V3_0}
 use Rattle.resb_format.specs.declared.repr_type.ResourceReprType.{ResourceReprType}
 use Rattle.resb_format.specs.declared.repr_type.ResourceReprType.TheVariants as kind
 use Rattle.resb_format.specs.declared.descriptor.ResDescriptor.{ResDescriptor}
@@ -24,7 +26,8 @@ endianness_back-number Little = refl
 endianness_back-number Big = refl
 
 pub endianness_apart : (x y : Endianness) → endianness_number x ≡ endianness_number y → x ≡ y
-endianness_apart x y e = sym (endianness_back-number x) ∙ ap endianness_back e ∙ endianness_back-number y
+endianness_apart x y e =
+    sym (endianness_back-number x) ∙ ap endianness_back e ∙ endianness_back-number y
 
 charset_back : ℕ → CharsetFamily
 charset_back n = if nat_eq n 0 then Ascii else Ebcdic
@@ -57,10 +60,11 @@ version_apart v w e = sym (version_back-bytes v) ∙ ap version_back e ∙ versi
 
 type_back : ℕ → ResourceReprType
 type_back n =
-    if nat_eq n 0 then kind._String else if nat_eq n 1 then kind.Binary else if nat_eq n 2 then kind.Table else
-    if nat_eq n 3 then kind._Alias else if nat_eq n 4 then kind._Table32 else if nat_eq n 5 then kind.Table16 else
-    if nat_eq n 6 then kind.StringV2 else if nat_eq n 7 then kind.Int else if nat_eq n 8 then kind.Array else
-    if nat_eq n 9 then kind.Array16 else kind.IntVector
+    if nat_eq n 0 then kind._String else if nat_eq n 1 then kind.Binary else
+    if nat_eq n 2 then kind.Table else if nat_eq n 3 then kind._Alias else
+    if nat_eq n 4 then kind._Table32 else if nat_eq n 5 then kind.Table16 else
+    if nat_eq n 6 then kind.StringV2 else if nat_eq n 7 then kind.Int else
+    if nat_eq n 8 then kind.Array else if nat_eq n 9 then kind.Array16 else kind.IntVector
 
 type_back-number : (t : ResourceReprType) → type_back (type_number t) ≡ t
 unfolding type_back
@@ -93,15 +97,18 @@ type_small kind.Array = inl (omega arith)
 type_small kind.Array16 = inl (omega arith)
 type_small kind.IntVector = inr refl
 
-parts_apart : (a b c d : ℕ) → b < 2 ^ 28 → d < 2 ^ 28 → a * 2 ^ 28 + b ≡ c * 2 ^ 28 + d → (a ≡ c) × (b ≡ d)
+parts_apart : (a b c d : ℕ) → b < 2 ^ 28 → d < 2 ^ 28 → a * 2 ^ 28 + b ≡ c * 2 ^ 28 + d
+    → (a ≡ c) × (b ≡ d)
 parts_apart a b c d h g e = (omega arith, omega arith)
 
 -- a descriptor is told by its word
 pub word_apart : (d e : ResDescriptor) → word_of d ≡ word_of e → d ≡ e
 word_apart d e h =
-    let both = parts_apart (type_number d.resource_type) d.value (type_number e.resource_type) e.value d.small e.small h in
+    let both = parts_apart (type_number d.resource_type) d.value (type_number e.resource_type)
+    e.value d.small e.small h in
     let kinds = type_apart d.resource_type e.resource_type both.0 in
-    let pairs : ◌≡◌ {A = (n : ℕ) × (n < 2 ^ 28)} (d.value, d.small) (e.value, e.small) = Σ_prop_path (λ n. le_prop) both.1 in
+    let pairs : ◌≡◌ {A = (n : ℕ) × (n < 2 ^ 28)} (d.value, d.small) (e.value, e.small) =
+    Σ_prop_path (λ n. le_prop) both.1 in
     λ i. record { resource_type = kinds i; value = (pairs i).0; small = (pairs i).1 }
 
 pub upper_bits : (a b : ℕ) → b < 2 ^ 28 → (a * 2 ^ 28 + b) / 2 ^ 28 ≡ a

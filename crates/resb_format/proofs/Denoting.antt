@@ -1,11 +1,16 @@
 -- A word has at most one tree and count, and reaches no more resources than its tree has.
-use Rattle.std.proofs.Common.{ℕ, List, ◌∷◌, Option, Some, ◌≡◌, ◌≤◌, ◌<◌, ◌+◌, ◌-◌, ◌⊎◌, inl, inr, refl, ap, subst, arith}
+use Rattle.std.proofs.Common.{ℕ, List, ◌∷◌, Option, Some, ◌≡◌, ◌≤◌, ◌<◌, ◌+◌, ◌-◌, ◌⊎◌, inl, inr}
+use Rattle.std.proofs.Common.{refl, ap, subst, arith}
 use Rattle.std.proofs.lemmas.Bool.{cases_lt}
 use Rattle.resb_tree.specs.Tree.{Tree, string, array, table, trees_of, map_of}
 use Rattle.resb_format.specs.Strings.{key_at}
 use Rattle.resb_format.specs.Parts.{Parts}
 use Rattle.resb_format.specs.Content.{Member, Content, leaf, list, pairs}
-use Rattle.resb_format.specs.Denotes.{Den, den_leaf, den_list, den_pairs, DenMember, den_word, den_unit, DenEach, each_none, each_more, DenPairs, pairs_none, pairs_more, Reaches, reaches_one, reaches_list, reaches_pairs, ReachesMember, reaches_word, reaches_unit, ReachesEach, each_here, each_later, ReachesPairs, pairs_here, pairs_later}
+use Rattle.resb_format.specs.Denotes.{Den, den_leaf, den_list, den_pairs, DenMember, den_word}
+use Rattle.resb_format.specs.Denotes.{den_unit, DenEach, each_none, each_more, DenPairs, pairs_none}
+use Rattle.resb_format.specs.Denotes.{pairs_more, Reaches, reaches_one, reaches_list, reaches_pairs}
+use Rattle.resb_format.specs.Denotes.{ReachesMember, reaches_word, reaches_unit, ReachesEach}
+use Rattle.resb_format.specs.Denotes.{each_here, each_later, ReachesPairs, pairs_here, pairs_later}
 
 same_some : {A : Type 0} {o : Option A} {x y : A} → o ≡ Some x → o ≡ Some y → x ≡ y
 same_some e f = cc
@@ -13,19 +18,24 @@ same_some e f = cc
 same_leaf : {o : Option Content} {t u : Tree} → o ≡ Some (leaf t) → o ≡ Some (leaf u) → t ≡ u
 same_leaf e f = cc
 
-same_list : {o : Option Content} {ms ns : List Member} → o ≡ Some (list ms) → o ≡ Some (list ns) → ms ≡ ns
+same_list : {o : Option Content} {ms ns : List Member} → o ≡ Some (list ms) → o ≡ Some (list ns)
+    → ms ≡ ns
 same_list e f = cc
 
-same_pairs : {o : Option Content} {es fs : List (ℕ × Member)} → o ≡ Some (pairs es) → o ≡ Some (pairs fs) → es ≡ fs
+same_pairs : {o : Option Content} {es fs : List (ℕ × Member)} → o ≡ Some (pairs es)
+    → o ≡ Some (pairs fs) → es ≡ fs
 same_pairs e f = cc
 
-leaf_list : {o : Option Content} {t : Tree} {ms : List Member} → o ≡ Some (leaf t) → o ≡ Some (list ms) → ⊥
+leaf_list : {o : Option Content} {t : Tree} {ms : List Member} → o ≡ Some (leaf t)
+    → o ≡ Some (list ms) → ⊥
 leaf_list e f = cc
 
-leaf_pairs : {o : Option Content} {t : Tree} {es : List (ℕ × Member)} → o ≡ Some (leaf t) → o ≡ Some (pairs es) → ⊥
+leaf_pairs : {o : Option Content} {t : Tree} {es : List (ℕ × Member)} → o ≡ Some (leaf t)
+    → o ≡ Some (pairs es) → ⊥
 leaf_pairs e f = cc
 
-list_pairs : {o : Option Content} {ms : List Member} {es : List (ℕ × Member)} → o ≡ Some (list ms) → o ≡ Some (pairs es) → ⊥
+list_pairs : {o : Option Content} {ms : List Member} {es : List (ℕ × Member)} → o ≡ Some (list ms)
+    → o ≡ Some (pairs es) → ⊥
 list_pairs e f = cc
 
 module _ (p : Parts) where
@@ -36,25 +46,30 @@ module _ (p : Parts) where
     unique (den_leaf e) (den_pairs f g) = absurd (leaf_pairs e f)
     unique (den_list e d) (den_leaf f) = absurd (leaf_list f e)
     unique (den_list e d) (den_list {n = n'} {ts = ts'} f g) =
-        let h = unique_each d (subst (λ ms. DenEach p ms ts' n') (same_list f e) g) in (ap (λ ts. array (trees_of ts)) h.0, ap (λ k. 1 + k) h.1)
+        let h = unique_each d (subst (λ ms. DenEach p ms ts' n') (same_list f e) g) in
+        (ap (λ ts. array (trees_of ts)) h.0, ap (λ k. 1 + k) h.1)
     unique (den_list e d) (den_pairs f g) = absurd (list_pairs e f)
     unique (den_pairs e d) (den_leaf f) = absurd (leaf_pairs f e)
     unique (den_pairs e d) (den_list f g) = absurd (list_pairs f e)
     unique (den_pairs e d) (den_pairs {n = n'} {ts = ts'} f g) =
-        let h = unique_pairs d (subst (λ es. DenPairs p es ts' n') (same_pairs f e) g) in (ap (λ ts. table (map_of ts)) h.0, ap (λ k. 1 + k) h.1)
+        let h = unique_pairs d (subst (λ es. DenPairs p es ts' n') (same_pairs f e) g) in
+        (ap (λ ts. table (map_of ts)) h.0, ap (λ k. 1 + k) h.1)
 
-    pub unique_member : {x : Member} {m n : ℕ} {t s : Tree} → DenMember p x t m → DenMember p x s n → (t ≡ s) × (m ≡ n)
+    pub unique_member : {x : Member} {m n : ℕ} {t s : Tree} → DenMember p x t m → DenMember p x s n
+        → (t ≡ s) × (m ≡ n)
     unique_member (den_word d) (den_word e) = unique d e
     unique_member (den_unit e) (den_unit f) = (ap string (same_some e f), refl)
 
-    unique_each : {ms : List Member} {m n : ℕ} {ts ss : List Tree} → DenEach p ms ts m → DenEach p ms ss n → (ts ≡ ss) × (m ≡ n)
+    unique_each : {ms : List Member} {m n : ℕ} {ts ss : List Tree} → DenEach p ms ts m
+        → DenEach p ms ss n → (ts ≡ ss) × (m ≡ n)
     unique_each each_none each_none = (refl, refl)
     unique_each (each_more d ds) (each_more e es) =
         let h = unique_member d e in
         let k = unique_each ds es in
         (λ i. h.0 i ∷ k.0 i, λ i. h.1 i + k.1 i)
 
-    unique_pairs : {es : List (ℕ × Member)} {m n : ℕ} {ts ss : List (List ℕ × Tree)} → DenPairs p es ts m → DenPairs p es ss n → (ts ≡ ss) × (m ≡ n)
+    unique_pairs : {es : List (ℕ × Member)} {m n : ℕ} {ts ss : List (List ℕ × Tree)}
+        → DenPairs p es ts m → DenPairs p es ss n → (ts ≡ ss) × (m ≡ n)
     unique_pairs pairs_none pairs_none = (refl, refl)
     unique_pairs (pairs_more j d ds) (pairs_more k e es) =
         let h = unique_member d e in
@@ -74,23 +89,30 @@ module _ (p : Parts) where
     counted (den_pairs e d) reaches_one = omega arith
     counted (den_pairs e d) (reaches_list f r) = absurd (list_pairs f e)
     counted (den_pairs e d) (reaches_pairs {n = n'} f r) =
-        let h = counted_pairs d (subst (λ es. ReachesPairs p es n') (same_pairs f e) r) in omega arith
+        let h = counted_pairs d (subst (λ es. ReachesPairs p es n') (same_pairs f e) r) in
+        omega arith
 
-    counted_member : {x : Member} {m n : ℕ} {t : Tree} → DenMember p x t n → ReachesMember p x m → m ≤ n
+    counted_member : {x : Member} {m n : ℕ} {t : Tree} → DenMember p x t n → ReachesMember p x m
+        → m ≤ n
     counted_member (den_word d) (reaches_word r) = counted d r
     counted_member (den_unit e) reaches_unit = omega arith
 
-    counted_each : {ms : List Member} {m n : ℕ} {ts : List Tree} → DenEach p ms ts n → ReachesEach p ms m → m ≤ n
+    counted_each : {ms : List Member} {m n : ℕ} {ts : List Tree} → DenEach p ms ts n
+        → ReachesEach p ms m → m ≤ n
     counted_each each_none r = elim r [ ]
     counted_each (each_more d ds) (each_here r) = let h = counted_member d r in omega arith
-    counted_each (each_more d ds) (each_later e r) = let h = unique_member d e in let k = counted_each ds r in let q = h.1 in omega arith
+    counted_each (each_more d ds) (each_later e r) =
+        let h = unique_member d e in let k = counted_each ds r in let q = h.1 in omega arith
 
-    counted_pairs : {es : List (ℕ × Member)} {m n : ℕ} {ts : List (List ℕ × Tree)} → DenPairs p es ts n → ReachesPairs p es m → m ≤ n
+    counted_pairs : {es : List (ℕ × Member)} {m n : ℕ} {ts : List (List ℕ × Tree)}
+        → DenPairs p es ts n → ReachesPairs p es m → m ≤ n
     counted_pairs pairs_none r = elim r [ ]
     counted_pairs (pairs_more j d ds) (pairs_here k r) = let h = counted_member d r in omega arith
-    counted_pairs (pairs_more j d ds) (pairs_later k e r) = let h = unique_member d e in let rest = counted_pairs ds r in let q = h.1 in omega arith
+    counted_pairs (pairs_more j d ds) (pairs_later k e r) =
+        let h = unique_member d e in let rest = counted_pairs ds r in let q = h.1 in omega arith
 
-  some_more : {w m n : ℕ} → ((k : ℕ) → 1 ≤ k → k ≤ n → Reaches p w (1 + k)) → 1 ≤ m → m ≤ 1 + n → Reaches p w m
+  some_more : {w m n : ℕ} → ((k : ℕ) → 1 ≤ k → k ≤ n → Reaches p w (1 + k)) → 1 ≤ m → m ≤ 1 + n
+      → Reaches p w m
   some_more {w} {m} {n} more h k = at (cases_lt 1 m)
     where
       at : (1 < m) ⊎ (m ≤ 1) → Reaches p w m
@@ -101,39 +123,54 @@ module _ (p : Parts) where
 
   -- in the first member, or behind it
   in_each : (x : Member) (j : ℕ) (ms : List Member) (m : ℕ) {t : Tree} → 1 ≤ m → DenMember p x t j
-      → (m ≤ j → ReachesMember p x m) → (j < m → ReachesEach p ms (m - j)) → ReachesEach p (x ∷ ms) m
+      → (m ≤ j → ReachesMember p x m) → (j < m → ReachesEach p ms (m - j))
+      → ReachesEach p (x ∷ ms) m
   in_each x j ms m h d here later = elim (cases_lt j m) as (λ c. ReachesEach p (x ∷ ms) m) [
-    | inl g ↦ (let e : j + (m - j) ≡ m = omega (arith, g) in subst (ReachesEach p (x ∷ ms)) e (each_later d (later g)))
+    | inl g ↦
+        (let e : j + (m - j) ≡ m = omega (arith, g) in
+        subst (ReachesEach p (x ∷ ms)) e (each_later d (later g)))
     | inr g ↦ each_here (here g)
   ]
 
-  in_pairs : (x : Member) (at j : ℕ) (es : List (ℕ × Member)) (m : ℕ) {key : List ℕ} {t : Tree} → 1 ≤ m → key_at p.keys at ≡ Some key → DenMember p x t j
-      → (m ≤ j → ReachesMember p x m) → (j < m → ReachesPairs p es (m - j)) → ReachesPairs p ((at, x) ∷ es) m
-  in_pairs x at j es m h key d here later = elim (cases_lt j m) as (λ c. ReachesPairs p ((at, x) ∷ es) m) [
-    | inl g ↦ (let e : j + (m - j) ≡ m = omega (arith, g) in subst (ReachesPairs p ((at, x) ∷ es)) e (pairs_later key d (later g)))
-    | inr g ↦ pairs_here key (here g)
-  ]
+  in_pairs : (x : Member) (at j : ℕ) (es : List (ℕ × Member)) (m : ℕ) {key : List ℕ} {t : Tree}
+      → 1 ≤ m → key_at p.keys at ≡ Some key → DenMember p x t j
+      → (m ≤ j → ReachesMember p x m) → (j < m → ReachesPairs p es (m - j))
+      → ReachesPairs p ((at, x) ∷ es) m
+  in_pairs x at j es m h key d here later =
+      elim (cases_lt j m) as (λ c. ReachesPairs p ((at, x) ∷ es) m) [
+        | inl g ↦
+            (let e : j + (m - j) ≡ m = omega (arith, g) in
+            subst (ReachesPairs p ((at, x) ∷ es)) e (pairs_later key d (later g)))
+        | inr g ↦ pairs_here key (here g)
+      ]
 
   -- a word that denotes a tree reaches each number up to its count
   mutual
     pub reached : {w n : ℕ} {t : Tree} → Den p w t n → (m : ℕ) → 1 ≤ m → m ≤ n → Reaches p w m
-    reached (den_leaf e) m h k = let one : 1 ≡ m = omega arith in subst (Reaches p _) one reaches_one
+    reached (den_leaf e) m h k =
+        let one : 1 ≡ m = omega arith in subst (Reaches p _) one reaches_one
     reached (den_list e d) m h k = some_more (λ j g f. reaches_list e (reached_each d j g f)) h k
     reached (den_pairs e d) m h k = some_more (λ j g f. reaches_pairs e (reached_pairs d j g f)) h k
 
-    pub reached_member : {x : Member} {n : ℕ} {t : Tree} → DenMember p x t n → (m : ℕ) → 1 ≤ m → m ≤ n → ReachesMember p x m
+    pub reached_member : {x : Member} {n : ℕ} {t : Tree} → DenMember p x t n → (m : ℕ) → 1 ≤ m
+        → m ≤ n → ReachesMember p x m
     reached_member (den_word d) m h k = reaches_word (reached d m h k)
-    reached_member (den_unit e) m h k = let one : 1 ≡ m = omega arith in subst (ReachesMember p _) one reaches_unit
+    reached_member (den_unit e) m h k =
+        let one : 1 ≡ m = omega arith in subst (ReachesMember p _) one reaches_unit
 
-    reached_each : {ms : List Member} {n : ℕ} {ts : List Tree} → DenEach p ms ts n → (m : ℕ) → 1 ≤ m → m ≤ n → ReachesEach p ms m
+    reached_each : {ms : List Member} {n : ℕ} {ts : List Tree} → DenEach p ms ts n → (m : ℕ) → 1 ≤ m
+        → m ≤ n → ReachesEach p ms m
     reached_each each_none m h k = absurd (omega arith)
     reached_each (each_more {m = x} {j = j'} {ms = ms'} d ds) m h k =
-        in_each x j' ms' m h d (λ g. reached_member d m h g) (λ g. reached_each ds (m - j') (omega arith) (omega arith))
+        in_each x j' ms' m h d (λ g. reached_member d m h g)
+        (λ g. reached_each ds (m - j') (omega arith) (omega arith))
 
-    reached_pairs : {es : List (ℕ × Member)} {n : ℕ} {ts : List (List ℕ × Tree)} → DenPairs p es ts n → (m : ℕ) → 1 ≤ m → m ≤ n → ReachesPairs p es m
+    reached_pairs : {es : List (ℕ × Member)} {n : ℕ} {ts : List (List ℕ × Tree)}
+        → DenPairs p es ts n → (m : ℕ) → 1 ≤ m → m ≤ n → ReachesPairs p es m
     reached_pairs pairs_none m h k = absurd (omega arith)
     reached_pairs (pairs_more {m = x} {at = at'} {j = j'} {es = es'} key d ds) m h k =
-        in_pairs x at' j' es' m h key d (λ g. reached_member d m h g) (λ g. reached_pairs ds (m - j') (omega arith) (omega arith))
+        in_pairs x at' j' es' m h key d (λ g. reached_member d m h g)
+        (λ g. reached_pairs ds (m - j') (omega arith) (omega arith))
 
   -- what is reached is reached with fewer resources too
   mutual
@@ -142,16 +179,22 @@ module _ (p : Parts) where
     lower (reaches_list e r) m h k = some_more (λ j g f. reaches_list e (lower_each r j g f)) h k
     lower (reaches_pairs e r) m h k = some_more (λ j g f. reaches_pairs e (lower_pairs r j g f)) h k
 
-    pub lower_member : {x : Member} {n : ℕ} → ReachesMember p x n → (m : ℕ) → 1 ≤ m → m ≤ n → ReachesMember p x m
+    pub lower_member : {x : Member} {n : ℕ} → ReachesMember p x n → (m : ℕ) → 1 ≤ m → m ≤ n
+        → ReachesMember p x m
     lower_member (reaches_word r) m h k = reaches_word (lower r m h k)
-    lower_member reaches_unit m h k = let one : 1 ≡ m = omega arith in subst (ReachesMember p _) one reaches_unit
+    lower_member reaches_unit m h k =
+        let one : 1 ≡ m = omega arith in subst (ReachesMember p _) one reaches_unit
 
-    lower_each : {ms : List Member} {n : ℕ} → ReachesEach p ms n → (m : ℕ) → 1 ≤ m → m ≤ n → ReachesEach p ms m
+    lower_each : {ms : List Member} {n : ℕ} → ReachesEach p ms n → (m : ℕ) → 1 ≤ m → m ≤ n
+        → ReachesEach p ms m
     lower_each (each_here r) m h k = each_here (lower_member r m h k)
     lower_each (each_later {m = x} {j = j'} {ms = ms'} d r) m h k =
-        in_each x j' ms' m h d (λ g. reached_member d m h g) (λ g. lower_each r (m - j') (omega arith) (omega arith))
+        in_each x j' ms' m h d (λ g. reached_member d m h g)
+        (λ g. lower_each r (m - j') (omega arith) (omega arith))
 
-    lower_pairs : {es : List (ℕ × Member)} {n : ℕ} → ReachesPairs p es n → (m : ℕ) → 1 ≤ m → m ≤ n → ReachesPairs p es m
+    lower_pairs : {es : List (ℕ × Member)} {n : ℕ} → ReachesPairs p es n → (m : ℕ) → 1 ≤ m → m ≤ n
+        → ReachesPairs p es m
     lower_pairs (pairs_here key r) m h k = pairs_here key (lower_member r m h k)
     lower_pairs (pairs_later {m = x} {at = at'} {j = j'} {es = es'} key d r) m h k =
-        in_pairs x at' j' es' m h key d (λ g. reached_member d m h g) (λ g. lower_pairs r (m - j') (omega arith) (omega arith))
+        in_pairs x at' j' es' m h key d (λ g. reached_member d m h g)
+        (λ g. lower_pairs r (m - j') (omega arith) (omega arith))

@@ -1,19 +1,23 @@
 -- The definitions at worked examples: what they accept, and what they refuse.
-use Rattle.std.proofs.Common.{◌≡◌, ℕ, zero, suc, ◌+◌, ◌<◌, ◌≤◌, List, [], ◌∷◌, ◌++◌, Some, None, true, refl, ◌∙◌, ap, subst, arith}
+use Rattle.std.proofs.Common.{◌≡◌, ℕ, zero, suc, ◌+◌, ◌<◌, ◌≤◌, List, [], ◌∷◌, ◌++◌, Some, None}
+use Rattle.std.proofs.Common.{true, refl, ◌∙◌, ap, subst, arith}
 use Rattle.std.specs.Str.{is_utf8, IsAscii}
 use Rattle.std.proofs.lemmas.Str.{is_utf8-from_IsUtf8, IsUtf8-from_ascii}
 use Rattle.std.specs.Char.Utf16.{utf16_chars}
-use Rattle.resb_tree.specs.Tree.{Tree, string, array, table, integer, binary, trees_of, no_trees, more_trees, no_entries, entry}
+use Rattle.resb_tree.specs.Tree.{Tree, string, array, table, integer, trees_of}
+use Rattle.resb_tree.specs.Tree.{no_entries, entry}
 use Rattle.resb_format.specs.Bytes.{units_of, words_of}
 use Rattle.resb_format.specs.Units.{length_marker}
 use Rattle.resb_format.specs.Strings.{string_at, text_at, key_at}
 use Rattle.resb_format.specs.Parts.{Parts, IsBundleFile, parts_of}
 use Rattle.resb_format.specs.Content.{Member, word, unit, leaf, list, pairs, content}
-use Rattle.resb_format.specs.Denotes.{Den, den_leaf, den_list, den_pairs, den_word, den_unit, DenEach, each_none, each_more, pairs_none, pairs_more}
+use Rattle.resb_format.specs.Denotes.{Den, den_leaf, den_list, den_pairs, den_word, den_unit}
+use Rattle.resb_format.specs.Denotes.{DenEach, each_none, each_more, pairs_none, pairs_more}
 use Rattle.resb_format.specs.File.{Denotes, budget}
 use Rattle.resb_format.proofs.Denoting.{unique}
 
--- Strings at a unit: markers of one, two and three units, also on short strings, and every string's end inside the block.
+-- Strings at a unit: markers of one, two and three units, also on short strings, and every string's
+-- end inside the block.
 
 marked_by_one : string_at (0xdc02 ∷ 97 ∷ 98 ∷ []) 0 ≡ Some (97 ∷ 98 ∷ [])
 unfolding string_at
@@ -58,8 +62,10 @@ past_the_block = refl
 -- 40 units and 41
 forty : List ℕ
 forty =
-    97 ∷ 97 ∷ 97 ∷ 97 ∷ 97 ∷ 97 ∷ 97 ∷ 97 ∷ 97 ∷ 97 ∷ 97 ∷ 97 ∷ 97 ∷ 97 ∷ 97 ∷ 97 ∷ 97 ∷ 97 ∷ 97 ∷ 97
-    ∷ 97 ∷ 97 ∷ 97 ∷ 97 ∷ 97 ∷ 97 ∷ 97 ∷ 97 ∷ 97 ∷ 97 ∷ 97 ∷ 97 ∷ 97 ∷ 97 ∷ 97 ∷ 97 ∷ 97 ∷ 97 ∷ 97 ∷ 97 ∷ []
+    97 ∷ 97 ∷ 97 ∷ 97 ∷ 97 ∷ 97 ∷ 97 ∷ 97 ∷ 97 ∷ 97 ∷
+    97 ∷ 97 ∷ 97 ∷ 97 ∷ 97 ∷ 97 ∷ 97 ∷ 97 ∷ 97 ∷ 97 ∷
+    97 ∷ 97 ∷ 97 ∷ 97 ∷ 97 ∷ 97 ∷ 97 ∷ 97 ∷ 97 ∷ 97 ∷
+    97 ∷ 97 ∷ 97 ∷ 97 ∷ 97 ∷ 97 ∷ 97 ∷ 97 ∷ 97 ∷ 97 ∷ []
 
 forty_units : string_at (forty ++ 0 ∷ []) 0 ≡ Some forty
 unfolding string_at forty
@@ -113,12 +119,14 @@ key_past : key_at (97 ∷ 0 ∷ []) 9 ≡ None
 unfolding key_at
 key_past = refl
 
--- Words in given parts. The body's words: a descriptor; at word 1 two members; at word 4 a table of one entry.
+-- Words in given parts. The body's words: a descriptor; at word 1 two members; at word 4 a table of
+-- one entry.
 
 small : Parts
 small = record {
   body =
-      0 ∷ 0 ∷ 0 ∷ 0x80 ∷ 2 ∷ 0 ∷ 0 ∷ 0 ∷ 5 ∷ 0 ∷ 0 ∷ 0x70 ∷ 1 ∷ 0 ∷ 0 ∷ 0x60 ∷ 1 ∷ 0 ∷ 0 ∷ 0 ∷ 7 ∷ 0 ∷ 0 ∷ 0x70 ∷ [];
+      0 ∷ 0 ∷ 0 ∷ 0x80 ∷ 2 ∷ 0 ∷ 0 ∷ 0 ∷ 5 ∷ 0 ∷ 0 ∷ 0x70 ∷ 1 ∷ 0 ∷ 0 ∷ 0x60 ∷
+      1 ∷ 0 ∷ 0 ∷ 0 ∷ 7 ∷ 0 ∷ 0 ∷ 0x70 ∷ [];
   keys = 97 ∷ 0 ∷ [];
   block = 0 ∷ 120 ∷ 0 ∷ 1 ∷ 0 ∷ 1 ∷ [];
 }
@@ -154,7 +162,9 @@ an_unknown_type = refl
 -- The array holds the integer 5 and the string "x": three resources.
 array_denotes : Den small 0x8000_0001 (array (trees_of (integer 5 ∷ string (120 ∷ []) ∷ []))) 3
 unfolding content small words_of units_of text_at string_at utf16_chars lib.Utf8.encode
-array_denotes = den_list refl (each_more (den_word (den_leaf refl)) (each_more (den_word (den_leaf refl)) each_none))
+array_denotes =
+    den_list refl
+    (each_more (den_word (den_leaf refl)) (each_more (den_word (den_leaf refl)) each_none))
 
 table_denotes : Den small 0x5000_0003 (table (entry (97 ∷ []) (string (120 ∷ [])) no_entries)) 2
 unfolding content small words_of units_of text_at string_at utf16_chars key_at lib.Utf8.encode
@@ -175,7 +185,8 @@ unfolding content looped words_of units_of
 loop_content = refl
 
 -- its one member would have one resource less
-loop_member : {ms : List Member} {ts : List Tree} {k : ℕ} → DenEach looped ms ts k → ms ≡ word 0x8000_0001 ∷ [] → (t : Tree) × Den looped 0x8000_0001 t k
+loop_member : {ms : List Member} {ts : List Tree} {k : ℕ} → DenEach looped ms ts k
+    → ms ≡ word 0x8000_0001 ∷ [] → (t : Tree) × Den looped 0x8000_0001 t k
 loop_member each_none e = absurd (cc)
 loop_member (each_more (den_unit f) ds) e = absurd (cc)
 loop_member (each_more (den_word d) (each_more x ds)) e = absurd (cc)
@@ -184,11 +195,17 @@ loop_member (each_more (den_word {w = w} {n = n} {t = t} d) each_none) e =
     let count : n ≡ n + 0 = omega arith in
     (t, subst (λ k. Den looped 0x8000_0001 t k) count (subst (λ v. Den looped v t n) same d))
 
-loop_step : {w n : ℕ} {t : Tree} → Den looped w t n → w ≡ 0x8000_0001 → (k : ℕ) × ((u : Tree) × Den looped 0x8000_0001 u k) × (n ≡ 1 + k)
-loop_step (den_leaf {w = w} f) e = let g : content looped w ≡ Some (list (word 0x8000_0001 ∷ [])) = ap (content looped) e ∙ loop_content in absurd (cc)
-loop_step (den_pairs {w = w} f ds) e = let g : content looped w ≡ Some (list (word 0x8000_0001 ∷ [])) = ap (content looped) e ∙ loop_content in absurd (cc)
+loop_step : {w n : ℕ} {t : Tree} → Den looped w t n → w ≡ 0x8000_0001
+    → (k : ℕ) × ((u : Tree) × Den looped 0x8000_0001 u k) × (n ≡ 1 + k)
+loop_step (den_leaf {w = w} f) e =
+    let g : content looped w ≡ Some (list (word 0x8000_0001 ∷ [])) =
+    ap (content looped) e ∙ loop_content in absurd (cc)
+loop_step (den_pairs {w = w} f ds) e =
+    let g : content looped w ≡ Some (list (word 0x8000_0001 ∷ [])) =
+    ap (content looped) e ∙ loop_content in absurd (cc)
 loop_step (den_list {w = w} {n = n} {ms = ms} f ds) e =
-    let g : content looped w ≡ Some (list (word 0x8000_0001 ∷ [])) = ap (content looped) e ∙ loop_content in
+    let g : content looped w ≡ Some (list (word 0x8000_0001 ∷ [])) =
+    ap (content looped) e ∙ loop_content in
     let one : ms ≡ word 0x8000_0001 ∷ [] = cc in
     (n, loop_member ds one, refl)
 
@@ -208,12 +225,14 @@ written_header =
 
 empty_bundle : List ℕ
 empty_bundle = written_header ++ (
-    0 ∷ 0 ∷ 0 ∷ 0x20 ∷ 7 ∷ 0 ∷ 0 ∷ 0 ∷ 8 ∷ 0 ∷ 0 ∷ 0 ∷ 9 ∷ 0 ∷ 0 ∷ 0 ∷ 9 ∷ 0 ∷ 0 ∷ 0 ∷ 0 ∷ 0 ∷ 0 ∷ 0 ∷ 0 ∷ 0 ∷ 0 ∷ 0 ∷ 9 ∷ 0 ∷ 0 ∷ 0
+    0 ∷ 0 ∷ 0 ∷ 0x20 ∷ 7 ∷ 0 ∷ 0 ∷ 0 ∷ 8 ∷ 0 ∷ 0 ∷ 0 ∷ 9 ∷ 0 ∷ 0 ∷ 0 ∷
+    9 ∷ 0 ∷ 0 ∷ 0 ∷ 0 ∷ 0 ∷ 0 ∷ 0 ∷ 0 ∷ 0 ∷ 0 ∷ 0 ∷ 9 ∷ 0 ∷ 0 ∷ 0
     ∷ 0 ∷ 0 ∷ 0xaa ∷ 0xaa ∷ [])
 
 flat_bundle : List ℕ
 flat_bundle = written_header ++ (
-    3 ∷ 0 ∷ 0 ∷ 0x50 ∷ 7 ∷ 0 ∷ 0 ∷ 0 ∷ 9 ∷ 0 ∷ 0 ∷ 0 ∷ 12 ∷ 0 ∷ 0 ∷ 0 ∷ 12 ∷ 0 ∷ 0 ∷ 0 ∷ 1 ∷ 0 ∷ 0 ∷ 0 ∷ 0 ∷ 0 ∷ 0 ∷ 0 ∷ 12 ∷ 0 ∷ 0 ∷ 0
+    3 ∷ 0 ∷ 0 ∷ 0x50 ∷ 7 ∷ 0 ∷ 0 ∷ 0 ∷ 9 ∷ 0 ∷ 0 ∷ 0 ∷ 12 ∷ 0 ∷ 0 ∷ 0 ∷
+    12 ∷ 0 ∷ 0 ∷ 0 ∷ 1 ∷ 0 ∷ 0 ∷ 0 ∷ 0 ∷ 0 ∷ 0 ∷ 0 ∷ 12 ∷ 0 ∷ 0 ∷ 0
     ∷ 107 ∷ 0 ∷ 0xaa ∷ 0xaa ∷ 0 ∷ 0 ∷ 118 ∷ 0 ∷ 0 ∷ 0 ∷ 1 ∷ 0 ∷ 32 ∷ 0 ∷ 1 ∷ 0 ∷ [])
 
 empty_head : IsBundleFile empty_bundle
@@ -260,9 +279,11 @@ flat_tree : Tree
 flat_tree = table (entry (107 ∷ []) (string (118 ∷ [])) no_entries)
 
 flat_denotes : Denotes flat_bundle flat_tree 2
-unfolding flat_bundle flat_tree units_of words_of parts_of content string_at text_at key_at utf16_chars lib.Utf8.encode
+unfolding flat_bundle flat_tree units_of words_of parts_of content string_at text_at key_at
+    utf16_chars lib.Utf8.encode
 flat_denotes =
-    let key : key_at (parts_of flat_bundle).keys 32 ≡ Some (107 ∷ []) = rw (ascii_key 107 (omega arith)) refl in
+    let key : key_at (parts_of flat_bundle).keys 32 ≡ Some (107 ∷ []) =
+    rw (ascii_key 107 (omega arith)) refl in
     record { head = flat_head; root = den_pairs refl (pairs_more key (den_unit refl) pairs_none) }
 
 flat_budget : 2 ≤ budget flat_bundle

@@ -1,5 +1,7 @@
 -- Which check of the representation info is the first that fails.
-use Rattle.std.proofs.Common.{ℕ, List, ◌≡◌, ◌≢◌, ◌<◌, ◌≤◌, ◌⊎◌, inl, inr, Bool, true, false, not, ◌||◌, nat_le, nat_eq, Some, None, refl, arith, get_or, codes, slice_range}
+use Rattle.std.proofs.Common.{ℕ, List, ◌≡◌, ◌≢◌, ◌<◌, ◌≤◌, ◌⊎◌, inl, inr, Bool, true, false, not}
+use Rattle.std.proofs.Common.{◌||◌, nat_le, nat_eq, Some, None, refl, arith, get_or, codes}
+use Rattle.std.proofs.Common.{slice_range}
 use Rattle.std.specs.Str.{bytes_eq}
 use Rattle.std.proofs.lemmas.Bool.Decides.{nat_tests}
 use Rattle.std.proofs.lemmas.Slice.Eq.{bytes_eq-Decides}
@@ -13,7 +15,8 @@ use Rattle.resb_format.specs.declared.charset.CharsetFamily.TheVariants.{Ascii, 
 use Rattle.resb_format.specs.declared.endianness.Endianness.{Endianness}
 use Rattle.resb_format.specs.declared.endianness.Endianness.TheVariants.{Little, Big}
 use Rattle.resb_format.specs.declared.version.FormatVersion.{FormatVersion}
-use Rattle.resb_format.specs.declared.version.FormatVersion.TheVariants.{V1_0, V1_1, V1_2, V1_3, V2_0, V3_0}
+use Rattle.resb_format.specs.declared.version.FormatVersion.TheVariants.{V1_0, V1_1, V1_2, V1_3}
+use Rattle.resb_format.specs.declared.version.FormatVersion.TheVariants.{V2_0, V3_0}
 
 -- tests of numbers and bytes
 pub le_true : (a b : ℕ) → a ≤ b → nat_le a b ≡ true
@@ -26,7 +29,9 @@ pub same_true : (a b : List ℕ) → a ≡ b → bytes_eq a b ≡ true
 same_true a b e = (bytes_eq-Decides a b).1 e
 
 pub same_false : (a b : List ℕ) → a ≢ b → bytes_eq a b ≡ false
-same_false a b h = elim (bytes_eq a b) as (λ t. bytes_eq a b ≡ t → t ≡ false) [ true ↦ (λ e. absurd (h ((bytes_eq-Decides a b).0 e))) | false ↦ (λ e. refl) ] refl
+same_false a b h =
+    elim (bytes_eq a b) as (λ t. bytes_eq a b ≡ t → t ≡ false)
+    [ true ↦ (λ e. absurd (h ((bytes_eq-Decides a b).0 e))) | false ↦ (λ e. refl) ] refl
 
 pub a_version : (v : FormatVersion) (bs : List ℕ) → version_bytes v ≡ bs → is_version bs ≡ true
 a_version v bs e = rw (← e) (each v)
@@ -39,7 +44,8 @@ a_version v bs e = rw (← e) (each v)
     each V2_0 = refl
     each V3_0 = refl
 
-pub no_version : (bs : List ℕ) → ((v : FormatVersion) → version_bytes v ≢ bs) → is_version bs ≡ false
+pub no_version : (bs : List ℕ) → ((v : FormatVersion) → version_bytes v ≢ bs)
+    → is_version bs ≡ false
 no_version bs h = rw (
   same_false (version_bytes V1_0) bs (h V1_0),
   same_false (version_bytes V1_1) bs (h V1_1),
@@ -71,42 +77,78 @@ pub record Formats (any : Bool) (bs : List ℕ) : Type 0 where
   pub format : bytes_eq (slice_range bs 8 12) (codes "ResB") ≡ true
 
 -- an order of bytes that may stand
-pub order_stands : (any : Bool) (bs : List ℕ) (x : Endianness) → endianness_number x ≡ get_or bs 4 0 → (any ≡ true) ⊎ (get_or bs 4 0 ≡ 0) → Order any bs
-order_stands any bs x e (inl a) = record { known = le_true (get_or bs 4 0) 1 (omega (arith, endianness_small x)); own = rw a refl }
-order_stands any bs x e (inr z) = record { known = le_true (get_or bs 4 0) 1 (omega arith); own = or_true any (nat_eq (get_or bs 4 0) 0) (rw z refl) }
+pub order_stands : (any : Bool) (bs : List ℕ) (x : Endianness) → endianness_number x ≡ get_or bs 4 0
+    → (any ≡ true) ⊎ (get_or bs 4 0 ≡ 0) → Order any bs
+order_stands any bs x e (inl a) =
+    record {
+      known = le_true (get_or bs 4 0) 1 (omega (arith, endianness_small x));
+      own = rw a refl;
+    }
+order_stands any bs x e (inr z) =
+    record {
+      known = le_true (get_or bs 4 0) 1 (omega arith);
+      own = or_true any (nat_eq (get_or bs 4 0) 0) (rw z refl);
+    }
   where
     or_true : (a b : Bool) → b ≡ true → (a || b) ≡ true
     or_true true b h = refl
     or_true false b h = h
 
-pub endianness_fails : (any : Bool) (bs : List ℕ) (e : ReadingError) → 1 < get_or bs 4 0 → IsInvalid e (codes "unrecognized value for Endianness")
+pub endianness_fails : (any : Bool) (bs : List ℕ) (e : ReadingError) → 1 < get_or bs 4 0
+    → IsInvalid e (codes "unrecognized value for Endianness")
     → first_fault (info_checks any bs) ≡ Some (refusal_of e)
 unfolding info_checks
 endianness_fails any bs e h r = rw (le_false (get_or bs 4 0) 1 h, r.kind_is, r.message_is) refl
 
 pub order_fails : (any : Bool) (bs : List ℕ) (e : ReadingError) → get_or bs 4 0 ≡ 1 → any ≡ false
-    → IsRefusal e UnsupportedFormat (codes "bundle endianness does not match platform endianness") → first_fault (info_checks any bs) ≡ Some (refusal_of e)
-unfolding info_checks
-order_fails any bs e h a r = rw (le_true (get_or bs 4 0) 1 (omega arith), a, h, r.kind_is, r.message_is) refl
-
-pub charset_fails : (any : Bool) (bs : List ℕ) (e : ReadingError) → Order any bs → 1 < get_or bs 5 0 → IsInvalid e (codes "unrecognized value for CharsetFamily")
+    → IsRefusal e UnsupportedFormat (codes "bundle endianness does not match platform endianness")
     → first_fault (info_checks any bs) ≡ Some (refusal_of e)
 unfolding info_checks
-charset_fails any bs e o h r = rw (o.known, o.own, le_false (get_or bs 5 0) 1 h, r.kind_is, r.message_is) refl
+order_fails any bs e h a r =
+    rw (le_true (get_or bs 4 0) 1 (omega arith), a, h, r.kind_is, r.message_is) refl
 
-pub format_fails : (any : Bool) (bs : List ℕ) (e : ReadingError) → Families any bs → bytes_eq (slice_range bs 8 12) (codes "ResB") ≡ false → IsInvalid e (codes "unexpected data format value")
+pub charset_fails : (any : Bool) (bs : List ℕ) (e : ReadingError) → Order any bs → 1 < get_or bs 5 0
+    → IsInvalid e (codes "unrecognized value for CharsetFamily")
     → first_fault (info_checks any bs) ≡ Some (refusal_of e)
 unfolding info_checks
-format_fails any bs e f h r = rw (f.order.known, f.order.own, f.charset, h, r.kind_is, r.message_is) refl
+charset_fails any bs e o h r =
+    rw (o.known, o.own, le_false (get_or bs 5 0) 1 h, r.kind_is, r.message_is) refl
 
-pub version_fails : (any : Bool) (bs : List ℕ) (e : ReadingError) → Formats any bs → ((v : FormatVersion) → version_bytes v ≢ slice_range bs 12 16) → IsInvalid e (codes "unrecognized format version")
+pub format_fails : (any : Bool) (bs : List ℕ) (e : ReadingError) → Families any bs
+    → bytes_eq (slice_range bs 8 12) (codes "ResB") ≡ false
+    → IsInvalid e (codes "unexpected data format value")
     → first_fault (info_checks any bs) ≡ Some (refusal_of e)
 unfolding info_checks
-version_fails any bs e f h r = rw (f.families.order.known, f.families.order.own, f.families.charset, f.format, no_version (slice_range bs 12 16) h, r.kind_is, r.message_is) refl
+format_fails any bs e f h r =
+    rw (f.order.known, f.order.own, f.charset, h, r.kind_is, r.message_is) refl
 
-pub all_hold : (any : Bool) (bs : List ℕ) (v : FormatVersion) → Formats any bs → version_bytes v ≡ slice_range bs 12 16 → first_fault (info_checks any bs) ≡ None
+pub version_fails : (any : Bool) (bs : List ℕ) (e : ReadingError) → Formats any bs
+    → ((v : FormatVersion) → version_bytes v ≢ slice_range bs 12 16)
+    → IsInvalid e (codes "unrecognized format version")
+    → first_fault (info_checks any bs) ≡ Some (refusal_of e)
 unfolding info_checks
-all_hold any bs v f h = rw (f.families.order.known, f.families.order.own, f.families.charset, f.format, a_version v (slice_range bs 12 16) h) refl
+version_fails any bs e f h r =
+    rw (
+      f.families.order.known,
+      f.families.order.own,
+      f.families.charset,
+      f.format,
+      no_version (slice_range bs 12 16) h,
+      r.kind_is,
+      r.message_is,
+    ) refl
+
+pub all_hold : (any : Bool) (bs : List ℕ) (v : FormatVersion) → Formats any bs
+    → version_bytes v ≡ slice_range bs 12 16 → first_fault (info_checks any bs) ≡ None
+unfolding info_checks
+all_hold any bs v f h =
+    rw (
+      f.families.order.known,
+      f.families.order.own,
+      f.families.charset,
+      f.format,
+      a_version v (slice_range bs 12 16) h,
+    ) refl
 
 -- the number of an order of bytes, from whether it is big
 pub not_big : (n : ℕ) (b : Bool) → n ≤ 1 → b ≡ nat_eq n 1 → b ≡ false → n ≡ 0

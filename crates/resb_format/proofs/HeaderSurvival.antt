@@ -1,5 +1,7 @@
 -- A header is read back from the bytes that it is written as.
-use Rattle.std.proofs.Common.{ℕ, zero, suc, List, [], ◌∷◌, ◌++◌, ◌≡◌, ◌+◌, ◌*◌, ◌/◌, ◌%◌, ◌^◌, ◌<◌, ◌≤◌, length, take, drop, false, nat_eq, Result, Ok, Err, refl, sym, ap, subst, ◌∙◌, arith, get_or, codes, length-drop, length-take}
+use Rattle.std.proofs.Common.{ℕ, zero, suc, List, [], ◌∷◌, ◌++◌, ◌≡◌, ◌+◌, ◌*◌, ◌/◌, ◌%◌, ◌^◌, ◌<◌}
+use Rattle.std.proofs.Common.{◌≤◌, length, take, drop, false, nat_eq, Result, Ok, Err, refl, sym}
+use Rattle.std.proofs.Common.{ap, subst, ◌∙◌, arith, get_or, codes, length-drop, length-take}
 use Rattle.std.specs.Int.{to_le_bytes, w16}
 use Rattle.std.proofs.lemmas.List.{get_or-drop}
 use Rattle.resb_format.specs.Bytes.{units_of}
@@ -11,7 +13,8 @@ use Rattle.resb_format.specs.HeadReading.{ReadsHeader}
 use Rattle.resb_format.specs.declared.error.ReadingError.{ReadingError}
 use Rattle.resb_format.specs.declared.head.BinHeader.{BinHeader}
 use Rattle.resb_format.specs.declared.version.FormatVersion.{FormatVersion}
-use Rattle.resb_format.specs.declared.version.FormatVersion.TheVariants.{V1_0, V1_1, V1_2, V1_3, V2_0, V3_0}
+use Rattle.resb_format.specs.declared.version.FormatVersion.TheVariants.{V1_0, V1_1, V1_2, V1_3}
+use Rattle.resb_format.specs.declared.version.FormatVersion.TheVariants.{V2_0, V3_0}
 use Rattle.resb_format.proofs.Apart.{endianness_apart, charset_apart, version_apart}
 use Rattle.resb_format.proofs.HeadSteps.{a_version, charset_small}
 use Rattle.resb_format.proofs.IndexSurvival.{none_some}
@@ -31,7 +34,8 @@ fits_drop [] (suc i) h = h
 fits_drop (b ∷ bs) (suc i) h = fits_drop bs i h.1
 
 -- four bytes, one by one
-four : (xs : List ℕ) → length xs ≡ 4 → xs ≡ get_or xs 0 0 ∷ get_or xs 1 0 ∷ get_or xs 2 0 ∷ get_or xs 3 0 ∷ []
+four : (xs : List ℕ) → length xs ≡ 4
+    → xs ≡ get_or xs 0 0 ∷ get_or xs 1 0 ∷ get_or xs 2 0 ∷ get_or xs 3 0 ∷ []
 four [] h = absurd (omega arith)
 four (a ∷ []) h = absurd (omega arith)
 four (a ∷ b ∷ []) h = absurd (omega arith)
@@ -65,9 +69,12 @@ known bs h fits p a =
     let z : get_or bs 8 0 ≡ 0 = p.own_endianness refl in
     let y : get_or (drop 4 bs) 4 0 ≡ 0 = get_or-drop 4 bs 4 0 ∙ z in
     let s : h.size ≡ get_or (units_of bs) 0 0 = a.size ∙ ap (λ n. unit_in (nat_eq n 1) bs 0) z in
-    let i : h.repr_info.size ≡ get_or (units_of (drop 4 bs)) 0 0 = a.info.size ∙ ap (λ n. unit_in (nat_eq n 1) (drop 4 bs) 0) y in
-    let w : h.repr_info.reserved_word ≡ get_or (units_of (drop 4 bs)) 1 0 = a.info.reserved_word ∙ ap (λ n. unit_in (nat_eq n 1) (drop 4 bs) 1) y in
-    let l : length (take 4 (drop 20 bs)) ≡ 4 = length-take 4 (drop 20 bs) ∙ omega (arith, length-drop 20 bs, p.long) in
+    let i : h.repr_info.size ≡ get_or (units_of (drop 4 bs)) 0 0 =
+    a.info.size ∙ ap (λ n. unit_in (nat_eq n 1) (drop 4 bs) 0) y in
+    let w : h.repr_info.reserved_word ≡ get_or (units_of (drop 4 bs)) 1 0 =
+    a.info.reserved_word ∙ ap (λ n. unit_in (nat_eq n 1) (drop 4 bs) 1) y in
+    let l : length (take 4 (drop 20 bs)) ≡ 4 =
+    length-take 4 (drop 20 bs) ∙ omega (arith, length-drop 20 bs, p.long) in
     record {
       size_fits = subst (λ n. n < 2 ^ 16) (sym s) (unit_fits bs 0 fits);
       size_enough = subst (λ n. 24 ≤ n) (sym a.size) p.size;
@@ -85,16 +92,24 @@ out xs = get_or xs 0 0 ∷ get_or xs 1 0 ∷ get_or xs 2 0 ∷ get_or xs 3 0 ∷
 -- the bytes of a header one by one
 abbrev laid : BinHeader → List ℕ
 laid h =
-    to_le_bytes w16 h.size ++ 0xda ∷ 0x27 ∷ [] ++ (to_le_bytes w16 h.repr_info.size ++ to_le_bytes w16 h.repr_info.reserved_word
-    ++ endianness_number h.repr_info.endianness ∷ charset_number h.repr_info.charset_family ∷ h.repr_info.size_of_char ∷ h.repr_info.reserved_byte ∷ []
-    ++ codes "ResB" ++ out (version_bytes h.repr_info.format_version) ++ out h.repr_info.data_version)
+    to_le_bytes w16 h.size ++ 0xda ∷ 0x27 ∷ []
+    ++ (to_le_bytes w16 h.repr_info.size ++ to_le_bytes w16 h.repr_info.reserved_word
+    ++ endianness_number h.repr_info.endianness ∷ charset_number h.repr_info.charset_family
+    ∷ h.repr_info.size_of_char ∷ h.repr_info.reserved_byte ∷ []
+    ++ codes "ResB" ++ out (version_bytes h.repr_info.format_version)
+    ++ out h.repr_info.data_version)
 
 header_laid : (h : BinHeader) → Known h → header_bytes h ≡ laid h
 header_laid h k =
-    let f = four (version_bytes h.repr_info.format_version) (version_length h.repr_info.format_version) in
+    let f = four (version_bytes h.repr_info.format_version)
+    (version_length h.repr_info.format_version) in
     let g = four h.repr_info.data_version k.dates in
-    let start : List ℕ → List ℕ → List ℕ → List ℕ = λ x y z. to_le_bytes w16 h.size ++ 0xda ∷ 0x27 ∷ [] ++ (to_le_bytes w16 h.repr_info.size ++ to_le_bytes w16 h.repr_info.reserved_word
-    ++ endianness_number h.repr_info.endianness ∷ charset_number h.repr_info.charset_family ∷ h.repr_info.size_of_char ∷ h.repr_info.reserved_byte ∷ [] ++ x ++ y ++ z) in
+    let start : List ℕ → List ℕ → List ℕ
+    → List ℕ =
+    λ x y z. to_le_bytes w16 h.size ++ 0xda ∷ 0x27 ∷ []
+    ++ (to_le_bytes w16 h.repr_info.size ++ to_le_bytes w16 h.repr_info.reserved_word
+    ++ endianness_number h.repr_info.endianness ∷ charset_number h.repr_info.charset_family
+    ∷ h.repr_info.size_of_char ∷ h.repr_info.reserved_byte ∷ [] ++ x ++ y ++ z) in
     ap (λ x. start x (version_bytes h.repr_info.format_version) h.repr_info.data_version) k.format
     ∙ ap (λ y. start (codes "ResB") y h.repr_info.data_version) f
     ∙ ap (λ z. start (codes "ResB") (out (version_bytes h.repr_info.format_version)) z) g
@@ -108,7 +123,9 @@ laid_passes h k = record {
   own_endianness = λ _. k.little;
   known_charset = charset_small h.repr_info.charset_family;
   format = refl;
-  version = a_version h.repr_info.format_version _ (four (version_bytes h.repr_info.format_version) (version_length h.repr_info.format_version));
+  version =
+      a_version h.repr_info.format_version _
+      (four (version_bytes h.repr_info.format_version) (version_length h.repr_info.format_version));
   size = rw k.little (subst (λ n. 24 ≤ n) (sym (halves h.size k.size_fits)) k.size_enough);
 }
 
@@ -116,14 +133,26 @@ laid_passes h k = record {
 same_header : (h j : BinHeader) → Known h → HeaderAt j (laid h) → j ≡ h
 unfolding units_of
 same_header h j k a =
-    let s : j.size ≡ h.size = a.size ∙ ap (λ n. unit_in (nat_eq n 1) (laid h) 0) k.little ∙ halves h.size k.size_fits in
-    let i : j.repr_info.size ≡ h.repr_info.size = a.info.size ∙ ap (λ n. unit_in (nat_eq n 1) (drop 4 (laid h)) 0) k.little ∙ halves h.repr_info.size k.info_fits in
-    let w : j.repr_info.reserved_word ≡ h.repr_info.reserved_word = a.info.reserved_word ∙ ap (λ n. unit_in (nat_eq n 1) (drop 4 (laid h)) 1) k.little ∙ halves h.repr_info.reserved_word k.word_fits in
-    let e : j.repr_info.endianness ≡ h.repr_info.endianness = endianness_apart _ _ a.info.endianness in
-    let c : j.repr_info.charset_family ≡ h.repr_info.charset_family = charset_apart _ _ a.info.charset_family in
+    let s : j.size ≡ h.size = a.size ∙ ap (λ n. unit_in (nat_eq n 1) (laid h) 0) k.little
+    ∙ halves h.size k.size_fits in
+    let i : j.repr_info.size ≡ h.repr_info.size =
+    a.info.size ∙ ap (λ n. unit_in (nat_eq n 1) (drop 4 (laid h)) 0) k.little
+    ∙ halves h.repr_info.size k.info_fits in
+    let w : j.repr_info.reserved_word ≡ h.repr_info.reserved_word =
+    a.info.reserved_word ∙ ap (λ n. unit_in (nat_eq n 1) (drop 4 (laid h)) 1) k.little
+    ∙ halves h.repr_info.reserved_word k.word_fits in
+    let e : j.repr_info.endianness ≡ h.repr_info.endianness =
+    endianness_apart _ _ a.info.endianness in
+    let c : j.repr_info.charset_family ≡ h.repr_info.charset_family =
+    charset_apart _ _ a.info.charset_family in
     let f : j.repr_info.data_format ≡ h.repr_info.data_format = a.info.data_format ∙ sym k.format in
-    let v : j.repr_info.format_version ≡ h.repr_info.format_version = version_apart _ _ (a.info.format_version ∙ sym (four (version_bytes h.repr_info.format_version) (version_length h.repr_info.format_version))) in
-    let d : j.repr_info.data_version ≡ h.repr_info.data_version = a.info.data_version ∙ sym (four h.repr_info.data_version k.dates) in
+    let v : j.repr_info.format_version ≡ h.repr_info.format_version =
+    version_apart _ _
+    (a.info.format_version
+    ∙ sym (four (version_bytes h.repr_info.format_version)
+    (version_length h.repr_info.format_version))) in
+    let d : j.repr_info.data_version ≡ h.repr_info.data_version =
+    a.info.data_version ∙ sym (four h.repr_info.data_version k.dates) in
     λ t. record {
       size = s t;
       repr_info = record {
@@ -139,9 +168,11 @@ same_header h j k a =
       };
     }
 
-reads_same : (h : BinHeader) (r : Result BinHeader ReadingError) → Known h → ReadsHeader false (laid h) r → r ≡ Ok h
+reads_same : (h : BinHeader) (r : Result BinHeader ReadingError) → Known h
+    → ReadsHeader false (laid h) r → r ≡ Ok h
 reads_same h (Ok j) k read = ap Ok (same_header h j k read.1)
-reads_same h (Err e) k read = absurd (none_some (sym ((header_passes false (laid h)).1 (laid_passes h k)) ∙ read))
+reads_same h (Err e) k read =
+    absurd (none_some (sym ((header_passes false (laid h)).1 (laid_passes h k)) ∙ read))
 
 pub header_survives : HeaderSurvives
 header_survives bs h r fits read back =

@@ -1,5 +1,6 @@
 -- Parts of bytes, of units and of words, that lie inside or don't.
-use Rattle.std.proofs.Common.{ℕ, List, ◌≡◌, ◌+◌, ◌*◌, ◌/◌, ◌<◌, ◌≤◌, length, take, drop, Some, None, sym, ap, ◌∙◌, arith}
+use Rattle.std.proofs.Common.{ℕ, List, ◌≡◌, ◌+◌, ◌*◌, ◌/◌, ◌<◌, ◌≤◌, length, take, drop, Some, None}
+use Rattle.std.proofs.Common.{sym, ap, ◌∙◌, arith}
 use Rattle.std.specs.Prelude.{slice_get, slice_index}
 use Rattle.std.proofs.lemmas.Option.{slice_get-get_or, slice_get_past}
 use Rattle.resb_format.proofs.ContentLemmas.{part_in, part_past}
@@ -28,3 +29,13 @@ units_inside bs i n h =
 
 pub units_outside : (bs : List ℕ) (i n : ℕ) → length bs / 2 < i + n → part (units_of bs) i n ≡ None
 units_outside bs i n h = part_past (units_of bs) i n (omega (arith, units_length bs))
+
+-- what one number asked for by its place is
+pub ruleset one_unit = (units_length, there, not_there)
+
+pub ruleset one_word = (words_length, there, not_there)
+
+-- what a part is
+pub ruleset units_cut = (units_inside, units_outside, units_length)
+
+pub ruleset words_cut = (words_inside, words_outside, words_length)

@@ -1,11 +1,14 @@
 -- The headers and indexes that pass each check.
-use Rattle.std.proofs.Common.{ℕ, List, [], ◌∷◌, ◌≡◌, ◌+◌, ◌-◌, ◌*◌, ◌≤◌, length, take, drop, min, Bool, true, false, ◌||◌, nat_le, nat_eq, None, refl, sym, ap, subst, ◌∙◌, arith, get_or, codes, slice_range, length-drop}
+use Rattle.std.proofs.Common.{ℕ, List, [], ◌∷◌, ◌≡◌, ◌+◌, ◌-◌, ◌≤◌, length, take, drop}
+use Rattle.std.proofs.Common.{Bool, true, false, ◌||◌, nat_le, nat_eq, None, refl, sym, ap, subst}
+use Rattle.std.proofs.Common.{◌∙◌, arith, get_or, codes, slice_range}
 use Rattle.std.specs.Str.{bytes_eq}
 use Rattle.std.proofs.lemmas.Bool.Decides.{nat_tests}
 use Rattle.std.proofs.lemmas.List.{get_or-drop, drop-drop}
 use Rattle.std.proofs.lemmas.Slice.Eq.{bytes_eq-Decides}
 use Rattle.resb_format.specs.Laws.{IsHeader, HeaderPasses}
-use Rattle.resb_format.specs.HeadChecks.{Refusal, first_fault, info_checks, header_checks, header_fault, is_version, unit_in}
+use Rattle.resb_format.specs.HeadChecks.{Refusal, first_fault, info_checks, header_checks}
+use Rattle.resb_format.specs.HeadChecks.{header_fault, is_version, unit_in}
 use Rattle.resb_format.proofs.HeadSteps.{le_true, same_true}
 use Rattle.resb_format.proofs.HeaderSteps.{header_holds}
 
@@ -58,7 +61,9 @@ passes any bs e =
       known_endianness = subst (λ k. k ≤ 1) f4 (le_is (get_or (drop 4 bs) 4 0) 1 p.1.1.0);
       own_endianness = λ h. sym f4 ∙ zero_is any (get_or (drop 4 bs) 4 0) p.1.1.1.0 h;
       known_charset = subst (λ k. k ≤ 1) f5 (le_is (get_or (drop 4 bs) 5 0) 1 p.1.1.1.1.0);
-      format = sym (behind bs 8 12) ∙ (bytes_eq-Decides (slice_range (drop 4 bs) 8 12) (codes "ResB")).0 p.1.1.1.1.1.0;
+      format =
+          sym (behind bs 8 12) ∙ (bytes_eq-Decides (slice_range (drop 4 bs) 8 12) (codes "ResB")).0
+          p.1.1.1.1.1.0;
       version = ap is_version (sym (behind bs 12 16)) ∙ p.1.1.1.1.1.1.0;
       size = le_is 24 (unit_in (nat_eq (get_or bs 8 0) 1) bs 0) p.1.1.1.1.1.1.1.0;
     }
@@ -74,7 +79,8 @@ passing any bs h =
       format = same_true _ _ (behind bs 8 12 ∙ h.format);
       version = ap is_version (behind bs 12 16) ∙ h.version;
     } in
-    header_holds any bs (record { long = h.long; magic = same_true _ _ h.magic }) (tested any (drop 4 bs) t) h.size
+    header_holds any bs (record { long = h.long; magic = same_true _ _ h.magic })
+    (tested any (drop 4 bs) t) h.size
 
 pub header_passes : HeaderPasses
 header_passes any bs = (passes any bs, passing any bs)

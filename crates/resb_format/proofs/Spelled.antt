@@ -1,5 +1,6 @@
 -- The units and words that bytes spell, one by one and in parts.
-use Rattle.std.proofs.Common.{ℕ, zero, suc, List, [], ◌∷◌, ◌≡◌, ◌+◌, ◌*◌, ◌/◌, ◌<◌, ◌≤◌, length, get_or, take, drop, refl, ap, ◌∙◌, arith}
+use Rattle.std.proofs.Common.{ℕ, zero, suc, List, [], ◌∷◌, ◌≡◌, ◌+◌, ◌*◌, ◌/◌, ◌<◌, ◌≤◌, length}
+use Rattle.std.proofs.Common.{get_or, take, drop, refl, ap, ◌∙◌, arith}
 use Rattle.resb_format.specs.Bytes.{units_of, words_of}
 
 pub units_length : (bs : List ℕ) → length (units_of bs) ≡ length bs / 2
@@ -8,7 +9,8 @@ units_length [] = omega arith
 units_length (a ∷ []) = omega arith
 units_length (a ∷ b ∷ bs) = let h = units_length bs in omega (arith, h)
 
-pub units_at : (bs : List ℕ) (i : ℕ) → i < length bs / 2 → get_or (units_of bs) i 0 ≡ get_or bs (2 * i) 0 + 256 * get_or bs (2 * i + 1) 0
+pub units_at : (bs : List ℕ) (i : ℕ) → i < length bs / 2
+    → get_or (units_of bs) i 0 ≡ get_or bs (2 * i) 0 + 256 * get_or bs (2 * i + 1) 0
 unfolding units_of
 units_at [] i h = absurd (omega arith)
 units_at (a ∷ []) i h = absurd (omega arith)
@@ -28,7 +30,8 @@ words_length (a ∷ b ∷ c ∷ []) = omega arith
 words_length (a ∷ b ∷ c ∷ d ∷ bs) = let h = words_length bs in omega (arith, h)
 
 pub words_at : (bs : List ℕ) (i : ℕ) → i < length bs / 4
-    → get_or (words_of bs) i 0 ≡ get_or bs (4 * i) 0 + 256 * get_or bs (4 * i + 1) 0 + 65536 * get_or bs (4 * i + 2) 0 + 16777216 * get_or bs (4 * i + 3) 0
+    → get_or (words_of bs) i 0 ≡ get_or bs (4 * i) 0 + 256 * get_or bs (4 * i + 1) 0
+    + 65536 * get_or bs (4 * i + 2) 0 + 16777216 * get_or bs (4 * i + 3) 0
 unfolding words_of
 words_at [] i h = absurd (omega arith)
 words_at (a ∷ []) i h = absurd (omega arith)
@@ -72,7 +75,8 @@ units_take (a ∷ b ∷ bs) (suc n) =
     rw e (ap (λ us. (a + 256 * b) ∷ us) (units_take bs n))
 
 -- the units of the bytes of n units from the ith on
-pub units_part : (bs : List ℕ) (i n : ℕ) → units_of (take (2 * n) (drop (2 * i) bs)) ≡ take n (drop i (units_of bs))
+pub units_part : (bs : List ℕ) (i n : ℕ)
+    → units_of (take (2 * n) (drop (2 * i) bs)) ≡ take n (drop i (units_of bs))
 units_part bs i n = units_take (drop (2 * i) bs) n ∙ ap (take n) (units_drop bs i)
 
 -- the words of the bytes from the ith word on
@@ -126,7 +130,9 @@ no_word (a ∷ b ∷ c ∷ []) h = refl
 no_word (a ∷ b ∷ c ∷ d ∷ bs) h = absurd (omega arith)
 
 pub word_first : (bs : List ℕ) → 4 ≤ length bs
-    → words_of bs ≡ (get_or bs 0 0 + 256 * get_or bs 1 0 + 65536 * get_or bs 2 0 + 16777216 * get_or bs 3 0) ∷ words_of (drop 4 bs)
+    → words_of bs
+    ≡ (get_or bs 0 0 + 256 * get_or bs 1 0 + 65536 * get_or bs 2 0 + 16777216 * get_or bs 3 0)
+    ∷ words_of (drop 4 bs)
 unfolding words_of
 word_first [] h = absurd (omega arith)
 word_first (a ∷ []) h = absurd (omega arith)

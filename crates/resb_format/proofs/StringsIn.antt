@@ -1,5 +1,7 @@
 -- Strings among the units that bytes spell: where they lie inside, and where they are cut.
-use Rattle.std.proofs.Common.{ℕ, zero, suc, List, [], ◌∷◌, ◌≡◌, ◌+◌, ◌-◌, ◌/◌, ◌<◌, ◌≤◌, ◌⊎◌, inl, inr, length, take, drop, Some, None, refl, sym, ap, ◌∙◌, arith, nat_eq, min, get_or, codes, length-drop}
+use Rattle.std.proofs.Common.{ℕ, zero, suc, List, [], ◌∷◌, ◌≡◌, ◌+◌, ◌-◌, ◌/◌, ◌<◌, ◌≤◌, ◌⊎◌, inl}
+use Rattle.std.proofs.Common.{inr, length, take, drop, Some, None, refl, sym, ap, ◌∙◌, arith}
+use Rattle.std.proofs.Common.{nat_eq, min, get_or, codes, length-drop}
 use Rattle.std.specs.List.{position_or_len}
 use Rattle.std.proofs.lemmas.List.{get_or_past, drop_all}
 use Rattle.std.proofs.lemmas.Bool.Decides.{nat_tests}
@@ -9,26 +11,33 @@ use Rattle.resb_format.specs.Strings.{before_zero, string_from, string_at}
 use Rattle.resb_format.specs.StringFaults.{string_fault}
 use Rattle.resb_format.proofs.Spelled.{units_length}
 
-pub part_inside : (bs : List ℕ) (i n : ℕ) → i + n ≤ length bs / 2 → part (units_of bs) i n ≡ Some (take n (drop i (units_of bs)))
+pub part_inside : (bs : List ℕ) (i n : ℕ) → i + n ≤ length bs / 2
+    → part (units_of bs) i n ≡ Some (take n (drop i (units_of bs)))
 part_inside bs i n h = grind (arith, nat_tests, units_length bs)
 
 pub part_outside : (bs : List ℕ) (i n : ℕ) → length bs / 2 < i + n → part (units_of bs) i n ≡ None
 part_outside bs i n h = grind (arith, nat_tests, units_length bs)
 
+pub ruleset units_cut = (part_inside, part_outside)
+
 -- the second unit of a marker is missing
-pub no_second : (bs : List ℕ) (u first : ℕ) → 0xdfee < first → first ≤ 0xdfff → length bs / 2 ≤ u + 1 → string_from (units_of bs) u first ≡ None
+pub no_second : (bs : List ℕ) (u first : ℕ) → 0xdfee < first → first ≤ 0xdfff
+    → length bs / 2 ≤ u + 1 → string_from (units_of bs) u first ≡ None
 no_second bs u first g h k = grind (arith, nat_tests, units_length bs)
 
 -- the third unit of a marker is missing
-pub no_third : (bs : List ℕ) (u first : ℕ) → 0xdffe < first → first ≤ 0xdfff → length bs / 2 ≤ u + 2 → string_from (units_of bs) u first ≡ None
+pub no_third : (bs : List ℕ) (u first : ℕ) → 0xdffe < first → first ≤ 0xdfff → length bs / 2 ≤ u + 2
+    → string_from (units_of bs) u first ≡ None
 no_third bs u first g h k = grind (arith, nat_tests, units_length bs)
 
 -- a string that a 0 ends
-pub ended : (us : List ℕ) → position_or_len (λ x. nat_eq x 0) us < length us → before_zero us ≡ Some (take (position_or_len (λ x. nat_eq x 0) us) us)
+pub ended : (us : List ℕ) → position_or_len (λ x. nat_eq x 0) us < length us
+    → before_zero us ≡ Some (take (position_or_len (λ x. nat_eq x 0) us) us)
 ended us h = grind (arith, nat_tests)
 
 -- a string that no 0 ends
-pub not_ended : (us : List ℕ) → length us ≤ position_or_len (λ x. nat_eq x 0) us → before_zero us ≡ None
+pub not_ended : (us : List ℕ) → length us ≤ position_or_len (λ x. nat_eq x 0) us
+    → before_zero us ≡ None
 not_ended us h = grind (arith, nat_tests)
 
 -- no more units than there are
@@ -42,9 +51,12 @@ take_within (u ∷ us) (suc n) =
     rw e (ap (λ vs. u ∷ vs) (take_within us n))
 
 -- the first 41 units from the uth on, of which so many are left
-pub window_is : (bs : List ℕ) (u : ℕ) (us : List ℕ) → us ≡ take (min (length bs / 2 - u) 41) (drop u (units_of bs)) → us ≡ take 41 (drop u (units_of bs))
+pub window_is : (bs : List ℕ) (u : ℕ) (us : List ℕ)
+    → us ≡ take (min (length bs / 2 - u) 41) (drop u (units_of bs))
+    → us ≡ take 41 (drop u (units_of bs))
 window_is bs u us h =
-    let e : length bs / 2 - u ≡ length (drop u (units_of bs)) = ap (λ n. n - u) (sym (units_length bs)) ∙ sym (length-drop u (units_of bs)) in
+    let e : length bs / 2 - u ≡ length (drop u (units_of bs)) =
+    ap (λ n. n - u) (sym (units_length bs)) ∙ sym (length-drop u (units_of bs)) in
     h ∙ ap (λ n. take (min n 41) (drop u (units_of bs))) e ∙ take_within (drop u (units_of bs)) 41
 
 -- past the end of the block
@@ -55,25 +67,32 @@ nothing_past us u h = rw (get_or_past us u 0 h, drop_all u us h) refl
 pub past_end : (bs : List ℕ) (u : ℕ) → length bs / 2 ≤ u → string_at (units_of bs) u ≡ None
 past_end bs u h = nothing_past (units_of bs) u (omega (arith, units_length bs))
 
-pub past_end_fault : (bs : List ℕ) (u : ℕ) → length bs / 2 ≤ u → string_fault (units_of bs) u ≡ codes "unexpected end of input"
+pub past_end_fault : (bs : List ℕ) (u : ℕ) → length bs / 2 ≤ u
+    → string_fault (units_of bs) u ≡ codes "unexpected end of input"
 past_end_fault bs u h = grind (arith, nat_tests, units_length bs)
 
 -- with a marker
-pub at_marker : (us : List ℕ) (u first : ℕ) → first ≡ get_or us u 0 → string_at us u ≡ string_from us u first
+pub at_marker : (us : List ℕ) (u first : ℕ) → first ≡ get_or us u 0
+    → string_at us u ≡ string_from us u first
 unfolding string_at
 at_marker us u first e = rw e refl
 
-pub marker_fault : (us : List ℕ) (u first : ℕ) → first ≡ get_or us u 0 → 0xdc00 ≤ first → first ≤ 0xdfff → string_fault us u ≡ codes "unexpected end of input"
+pub marker_fault : (us : List ℕ) (u first : ℕ) → first ≡ get_or us u 0 → 0xdc00 ≤ first
+    → first ≤ 0xdfff → string_fault us u ≡ codes "unexpected end of input"
 marker_fault us u first e g h = grind (arith, nat_tests)
 
 -- without one
-pub at_none : (us : List ℕ) (u first : ℕ) → first ≡ get_or us u 0 → (first < 0xdc00) ⊎ (0xdfff < first) → string_at us u ≡ before_zero (take 41 (drop u us))
+pub at_none : (us : List ℕ) (u first : ℕ) → first ≡ get_or us u 0
+    → (first < 0xdc00) ⊎ (0xdfff < first) → string_at us u ≡ before_zero (take 41 (drop u us))
 at_none us u first e h = at_marker us u first e ∙ no_marker us u first h
   where
-    no_marker : (us : List ℕ) (u first : ℕ) → (first < 0xdc00) ⊎ (0xdfff < first) → string_from us u first ≡ before_zero (take 41 (drop u us))
+    no_marker : (us : List ℕ) (u first : ℕ) → (first < 0xdc00) ⊎ (0xdfff < first)
+        → string_from us u first ≡ before_zero (take 41 (drop u us))
     no_marker us u first (inl g) = grind (arith, nat_tests)
     no_marker us u first (inr g) = grind (arith, nat_tests)
 
-pub none_fault : (us : List ℕ) (u first : ℕ) → first ≡ get_or us u 0 → (first < 0xdc00) ⊎ (0xdfff < first) → u < length us → string_fault us u ≡ codes "unterminated string with implicit length"
+pub none_fault : (us : List ℕ) (u first : ℕ) → first ≡ get_or us u 0
+    → (first < 0xdc00) ⊎ (0xdfff < first) → u < length us
+    → string_fault us u ≡ codes "unterminated string with implicit length"
 none_fault us u first e (inl g) h = grind (arith, nat_tests)
 none_fault us u first e (inr g) h = grind (arith, nat_tests)

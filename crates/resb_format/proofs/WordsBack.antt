@@ -1,5 +1,6 @@
 -- Words as bytes, and back.
-use Rattle.std.proofs.Common.{ℕ, zero, suc, List, [], ◌∷◌, ◌++◌, ◌≡◌, ◌+◌, ◌*◌, ◌<◌, ◌≤◌, length, take, refl, ap, ◌∙◌, arith, get_or}
+use Rattle.std.proofs.Common.{ℕ, zero, suc, List, [], ◌∷◌, ◌++◌, ◌≡◌, ◌+◌, ◌*◌, ◌<◌, ◌≤◌, length}
+use Rattle.std.proofs.Common.{take, refl, ap, ◌∙◌, arith, get_or}
 use Rattle.std.specs.Int.{to_le_bytes, from_le_bytes, w32}
 use Rattle.std.specs.List.{flat_map}
 use Rattle.std.proofs.lemmas.Nat.{from_le_bytes-to_le_bytes_4, le_bytes_4}
@@ -12,13 +13,15 @@ unfolding words_of
 words_back [] h = refl
 words_back (w ∷ ws) h =
     let e : from_le_bytes w32 (to_le_bytes w32 w) ≡ w = from_le_bytes-to_le_bytes_4 w h.0 in
-    ap (λ n. n ∷ words_of (flat_map (to_le_bytes w32) ws)) (omega (arith, e)) ∙ ap (λ vs. w ∷ vs) (words_back ws h.1)
+    ap (λ n. n ∷ words_of (flat_map (to_le_bytes w32) ws)) (omega (arith, e))
+    ∙ ap (λ vs. w ∷ vs) (words_back ws h.1)
 
 pub written_length : (ws : List ℕ) → length (flat_map (to_le_bytes w32) ws) ≡ 4 * length ws
 written_length [] = omega arith
 written_length (w ∷ ws) = let h = written_length ws in omega (arith, h)
 
-four_back : (a b c d : ℕ) → a < 256 → b < 256 → c < 256 → d < 256 → to_le_bytes w32 (a + 256 * b + 65536 * c + 16777216 * d) ≡ a ∷ b ∷ c ∷ d ∷ []
+four_back : (a b c d : ℕ) → a < 256 → b < 256 → c < 256 → d < 256
+    → to_le_bytes w32 (a + 256 * b + 65536 * c + 16777216 * d) ≡ a ∷ b ∷ c ∷ d ∷ []
 four_back a b c d h i j k =
     le_bytes_4 (a ∷ b ∷ c ∷ d ∷ []) (a + 256 * b + 65536 * c + 16777216 * d) refl each (omega arith)
   where
@@ -30,7 +33,8 @@ four_back a b c d h i j k =
     each (suc (suc (suc (suc n)))) = omega arith
 
 -- the bytes that spelled words are written as
-pub bytes_back : (bs : List ℕ) (n : ℕ) → EachFits 8 bs → 4 * n ≤ length bs → flat_map (to_le_bytes w32) (take n (words_of bs)) ≡ take (4 * n) bs
+pub bytes_back : (bs : List ℕ) (n : ℕ) → EachFits 8 bs → 4 * n ≤ length bs
+    → flat_map (to_le_bytes w32) (take n (words_of bs)) ≡ take (4 * n) bs
 unfolding words_of
 bytes_back bs zero h l = refl
 bytes_back [] (suc n) h l = absurd (omega arith)
@@ -39,6 +43,9 @@ bytes_back (a ∷ b ∷ []) (suc n) h l = absurd (omega arith)
 bytes_back (a ∷ b ∷ c ∷ []) (suc n) h l = absurd (omega arith)
 bytes_back (a ∷ b ∷ c ∷ d ∷ bs) (suc n) h l =
     let e : 4 * suc n ≡ suc (suc (suc (suc (4 * n)))) = omega arith in
-    let f : to_le_bytes w32 (a + 256 * b + 65536 * c + 16777216 * d) ≡ a ∷ b ∷ c ∷ d ∷ [] = four_back a b c d h.0 h.1.0 h.1.1.0 h.1.1.1.0 in
-    let g : flat_map (to_le_bytes w32) (take n (words_of bs)) ≡ take (4 * n) bs = bytes_back bs n h.1.1.1.1 (omega arith) in
-    rw e (ap (λ xs. xs ++ flat_map (to_le_bytes w32) (take n (words_of bs))) f ∙ ap (λ xs. a ∷ b ∷ c ∷ d ∷ xs) g)
+    let f : to_le_bytes w32 (a + 256 * b + 65536 * c + 16777216 * d) ≡ a ∷ b ∷ c ∷ d ∷ [] =
+    four_back a b c d h.0 h.1.0 h.1.1.0 h.1.1.1.0 in
+    let g : flat_map (to_le_bytes w32) (take n (words_of bs)) ≡ take (4 * n) bs =
+    bytes_back bs n h.1.1.1.1 (omega arith) in
+    rw e (ap (λ xs. xs ++ flat_map (to_le_bytes w32) (take n (words_of bs))) f
+    ∙ ap (λ xs. a ∷ b ∷ c ∷ d ∷ xs) g)

@@ -2,7 +2,8 @@
 --     units_of bytes          the 16-bit units that the bytes spell
 --     words_of bytes          the 32-bit words that they spell
 --     part xs i n             n members of xs from place i on, if they lie inside
-use Rattle.std.specs.Prelude.{ℕ, ◌+◌, ◌*◌, List, [], ◌∷◌, length, take, drop, Option, Some, None, nat_le, if◌then◌else◌}
+use Rattle.std.specs.Prelude.{ℕ, ◌+◌, ◌*◌, List, [], ◌∷◌, length, take, drop, Option, Some, None}
+use Rattle.std.specs.Prelude.{nat_le, if◌then◌else◌}
 
 -- an odd byte at the end spells nothing
 unfoldable pub units_of : List ℕ → List ℕ

@@ -1,4 +1,5 @@
--- What reading a number or a spelling answers: the value that is written so, or the refusal where none is.
+-- What reading a number or a spelling answers: the value that is written so, or the refusal where
+-- none is.
 use Rattle.std.specs.Prelude.{◌≡◌, ◌≢◌, ℕ, ◌<◌, List, codes, Result, MatchResult}
 use Rattle.resb_format.specs.Codes.{endianness_number, charset_number, type_number, version_bytes}
 use Rattle.resb_format.specs.Error.{IsInvalid}
@@ -10,16 +11,25 @@ use Rattle.resb_format.specs.declared.repr_type.ResourceReprType.{ResourceReprTy
 
 -- a number over 1 names no order
 abbrev pub ReadsEndianness : ℕ → Result Endianness ReadingError → Type 0
-ReadsEndianness n r = MatchResult r (λ x. endianness_number x ≡ n) (λ e. (1 < n) × IsInvalid e (codes "unrecognized value for Endianness"))
+ReadsEndianness n r =
+    MatchResult r (λ x. endianness_number x ≡ n)
+    (λ e. (1 < n) × IsInvalid e (codes "unrecognized value for Endianness"))
 
 -- a number over 1 names no family
 abbrev pub ReadsCharset : ℕ → Result CharsetFamily ReadingError → Type 0
-ReadsCharset n r = MatchResult r (λ x. charset_number x ≡ n) (λ e. (1 < n) × IsInvalid e (codes "unrecognized value for CharsetFamily"))
+ReadsCharset n r =
+    MatchResult r (λ x. charset_number x ≡ n)
+    (λ e. (1 < n) × IsInvalid e (codes "unrecognized value for CharsetFamily"))
 
 -- a number over 9 other than 14 names no type
 abbrev pub ReadsType : ℕ → Result ResourceReprType ReadingError → Type 0
-ReadsType n r = MatchResult r (λ t. type_number t ≡ n) (λ e. (9 < n) × (n ≢ 14) × IsInvalid e (codes "unrecognized value for ResourceReprType"))
+ReadsType n r =
+    MatchResult r (λ t. type_number t ≡ n)
+    (λ e. (9 < n) × (n ≢ 14) × IsInvalid e (codes "unrecognized value for ResourceReprType"))
 
 -- other bytes than the six spellings spell no version
 abbrev pub ReadsVersion : List ℕ → Result FormatVersion ReadingError → Type 0
-ReadsVersion bytes r = MatchResult r (λ v. version_bytes v ≡ bytes) (λ e. ((v : FormatVersion) → version_bytes v ≢ bytes) × IsInvalid e (codes "unrecognized format version"))
+ReadsVersion bytes r =
+    MatchResult r (λ v. version_bytes v ≡ bytes)
+    (λ e. ((v : FormatVersion) → version_bytes v ≢ bytes)
+    × IsInvalid e (codes "unrecognized format version"))

@@ -5,7 +5,8 @@ use Rattle.resb_format.specs.declared.endianness.Endianness.TheVariants.{Little,
 use Rattle.resb_format.specs.declared.charset.CharsetFamily.{CharsetFamily}
 use Rattle.resb_format.specs.declared.charset.CharsetFamily.TheVariants.{Ascii, Ebcdic}
 use Rattle.resb_format.specs.declared.version.FormatVersion.{FormatVersion}
-use Rattle.resb_format.specs.declared.version.FormatVersion.TheVariants.{V1_0, V1_1, V1_2, V1_3, V2_0, V3_0}
+use Rattle.resb_format.specs.declared.version.FormatVersion.TheVariants.{V1_0, V1_1, V1_2, V1_3}
+use Rattle.resb_format.specs.declared.version.FormatVersion.TheVariants.{V2_0, V3_0}
 use Rattle.resb_format.specs.declared.repr_type.ResourceReprType.{ResourceReprType}
 use Rattle.resb_format.specs.declared.repr_type.ResourceReprType.TheVariants as kind
 

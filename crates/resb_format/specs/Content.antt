@@ -2,7 +2,8 @@
 -- types.)
 --     content p w             a finished tree, or the members of a collection; none where the type
 --                             isn't read or a field lies outside
-use Rattle.std.specs.Prelude.{ℕ, ◌+◌, ◌*◌, ◌/◌, ◌%◌, ◌^◌, List, [], map, Option, Some, None, option_map, option_and_then, ◌==◌, ◌||◌, slice_get, if◌then◌else◌}
+use Rattle.std.specs.Prelude.{ℕ, ◌+◌, ◌*◌, ◌/◌, ◌%◌, ◌^◌, List, [], map, Option, Some, None}
+use Rattle.std.specs.Prelude.{option_map, option_and_then, ◌==◌, ◌||◌, slice_get, if◌then◌else◌}
 use Rattle.std.specs.List.{zip}
 use Rattle.resb_tree.specs.Tree.{Tree, string, binary, integer, int_vector}
 use Rattle.resb_format.specs.Bytes.{units_of, words_of, part}
@@ -38,7 +39,8 @@ paired positions members =
 -- u32 n, n bytes
 abbrev pub binary_at : Parts → ℕ → Option Content
 binary_at p v =
-    counted (words_of p.body) v (λ n. option_map (λ bytes. leaf (binary bytes)) (part p.body (4 * v + 4) n))
+    counted (words_of p.body) v
+    (λ n. option_map (λ bytes. leaf (binary bytes)) (part p.body (4 * v + 4) n))
 
 -- u32 n, n words
 abbrev pub int_vector_at : Parts → ℕ → Option Content
@@ -54,8 +56,8 @@ array_at p v = counted (words_of p.body) v (λ n. option_map list (words_at p (v
 abbrev pub array16_at : Parts → ℕ → Option Content
 array16_at p u = counted p.block u (λ n. option_map list (offsets_at p (u + 1) n))
 
--- u16 n, n u16 key positions, a u16 of padding where n is even, n descriptors, which begin n / 2 + 1
--- words on
+-- u16 n, n u16 key positions, a u16 of padding where n is even, n descriptors, which begin n / 2 +
+-- 1 words on
 abbrev pub table_at : Parts → ℕ → Option Content
 table_at p v =
     counted (units_of p.body) (2 * v)

@@ -1,5 +1,6 @@
 -- Which tree a word denotes, with how many resources, and how many stand up to the first fault.
---     Den p w t n             the word w denotes the tree t, of n resources, those of overwritten entries included
+--     Den p w t n             the word w denotes the tree t, of n resources, those of overwritten
+--                             entries included
 --     Reaches p w n           at least n resources stand there up to the first fault
 use Rattle.std.specs.Prelude.{◌≡◌, ℕ, ◌+◌, List, [], ◌∷◌, Some}
 use Rattle.resb_tree.specs.Tree.{Tree, string, array, table, trees_of, map_of}
@@ -12,8 +13,10 @@ module _ (p : Parts) where
     -- The least relation, so that a cycle denotes nothing.
     pub data Den : ℕ → Tree → ℕ → Type 0 where
       den_leaf : {w : ℕ} {t : Tree} → content p w ≡ Some (leaf t) → Den w t 1
-      den_list : {w n : ℕ} {ms : List Member} {ts : List Tree} → content p w ≡ Some (list ms) → DenEach ms ts n → Den w (array (trees_of ts)) (1 + n)
-      den_pairs : {w n : ℕ} {es : List (ℕ × Member)} {ts : List (List ℕ × Tree)} → content p w ≡ Some (pairs es) → DenPairs es ts n → Den w (table (map_of ts)) (1 + n)
+      den_list : {w n : ℕ} {ms : List Member} {ts : List Tree} → content p w ≡ Some (list ms)
+          → DenEach ms ts n → Den w (array (trees_of ts)) (1 + n)
+      den_pairs : {w n : ℕ} {es : List (ℕ × Member)} {ts : List (List ℕ × Tree)}
+          → content p w ≡ Some (pairs es) → DenPairs es ts n → Den w (table (map_of ts)) (1 + n)
 
     -- a member, which is a resource too
     pub data DenMember : Member → Tree → ℕ → Type 0 where
@@ -23,18 +26,23 @@ module _ (p : Parts) where
     -- each member has its tree; the count is the sum of theirs
     pub data DenEach : List Member → List Tree → ℕ → Type 0 where
       each_none : DenEach [] [] 0
-      each_more : {m : Member} {j k : ℕ} {ms : List Member} {t : Tree} {ts : List Tree} → DenMember m t j → DenEach ms ts k → DenEach (m ∷ ms) (t ∷ ts) (j + k)
+      each_more : {m : Member} {j k : ℕ} {ms : List Member} {t : Tree} {ts : List Tree}
+          → DenMember m t j → DenEach ms ts k → DenEach (m ∷ ms) (t ∷ ts) (j + k)
 
     -- each entry has its key and tree
     pub data DenPairs : List (ℕ × Member) → List (List ℕ × Tree) → ℕ → Type 0 where
       pairs_none : DenPairs [] [] 0
-      pairs_more : {m : Member} {at j k : ℕ} {es : List (ℕ × Member)} {key : List ℕ} {t : Tree} {ts : List (List ℕ × Tree)} → key_at p.keys at ≡ Some key → DenMember m t j → DenPairs es ts k → DenPairs ((at, m) ∷ es) ((key, t) ∷ ts) (j + k)
+      pairs_more : {m : Member} {at j k : ℕ} {es : List (ℕ × Member)} {key : List ℕ} {t : Tree}
+          {ts : List (List ℕ × Tree)} → key_at p.keys at ≡ Some key → DenMember m t j
+          → DenPairs es ts k → DenPairs ((at, m) ∷ es) ((key, t) ∷ ts) (j + k)
 
   mutual
     pub data Reaches : ℕ → ℕ → Type 0 where
       reaches_one : {w : ℕ} → Reaches w 1
-      reaches_list : {w n : ℕ} {ms : List Member} → content p w ≡ Some (list ms) → ReachesEach ms n → Reaches w (1 + n)
-      reaches_pairs : {w n : ℕ} {es : List (ℕ × Member)} → content p w ≡ Some (pairs es) → ReachesPairs es n → Reaches w (1 + n)
+      reaches_list : {w n : ℕ} {ms : List Member} → content p w ≡ Some (list ms) → ReachesEach ms n
+          → Reaches w (1 + n)
+      reaches_pairs : {w n : ℕ} {es : List (ℕ × Member)} → content p w ≡ Some (pairs es)
+          → ReachesPairs es n → Reaches w (1 + n)
 
     pub data ReachesMember : Member → ℕ → Type 0 where
       reaches_word : {w n : ℕ} → Reaches w n → ReachesMember (word w) n
@@ -42,10 +50,15 @@ module _ (p : Parts) where
 
     -- in one member, after members that denote
     pub data ReachesEach : List Member → ℕ → Type 0 where
-      each_here : {m : Member} {n : ℕ} {ms : List Member} → ReachesMember m n → ReachesEach (m ∷ ms) n
-      each_later : {m : Member} {j n : ℕ} {t : Tree} {ms : List Member} → DenMember m t j → ReachesEach ms n → ReachesEach (m ∷ ms) (j + n)
+      each_here : {m : Member} {n : ℕ} {ms : List Member} → ReachesMember m n
+          → ReachesEach (m ∷ ms) n
+      each_later : {m : Member} {j n : ℕ} {t : Tree} {ms : List Member} → DenMember m t j
+          → ReachesEach ms n → ReachesEach (m ∷ ms) (j + n)
 
     -- in one entry whose key stands, after entries that denote
     pub data ReachesPairs : List (ℕ × Member) → ℕ → Type 0 where
-      pairs_here : {m : Member} {at n : ℕ} {es : List (ℕ × Member)} {key : List ℕ} → key_at p.keys at ≡ Some key → ReachesMember m n → ReachesPairs ((at, m) ∷ es) n
-      pairs_later : {m : Member} {at j n : ℕ} {es : List (ℕ × Member)} {key : List ℕ} {t : Tree} → key_at p.keys at ≡ Some key → DenMember m t j → ReachesPairs es n → ReachesPairs ((at, m) ∷ es) (j + n)
+      pairs_here : {m : Member} {at n : ℕ} {es : List (ℕ × Member)} {key : List ℕ}
+          → key_at p.keys at ≡ Some key → ReachesMember m n → ReachesPairs ((at, m) ∷ es) n
+      pairs_later : {m : Member} {at j n : ℕ} {es : List (ℕ × Member)} {key : List ℕ} {t : Tree}
+          → key_at p.keys at ≡ Some key → DenMember m t j → ReachesPairs es n
+          → ReachesPairs ((at, m) ∷ es) (j + n)

@@ -6,4 +6,7 @@ use Rattle.resb_format.specs.declared.error.ReadingError.{ReadingError}
 use Rattle.resb_format.specs.declared.descriptor.ResDescriptor.{ResDescriptor}
 
 abbrev pub ReadsDescriptor : ℕ → Result ResDescriptor ReadingError → Type 0
-ReadsDescriptor w r = MatchResult r (λ d. word_of d ≡ w) (λ e. (9 < w / 2 ^ 28) × (w / 2 ^ 28 ≢ 14) × IsInvalid e (codes "unrecognized value for ResourceReprType"))
+ReadsDescriptor w r =
+    MatchResult r (λ d. word_of d ≡ w)
+    (λ e. (9 < w / 2 ^ 28) × (w / 2 ^ 28 ≢ 14)
+    × IsInvalid e (codes "unrecognized value for ResourceReprType"))

@@ -2,7 +2,10 @@
 --     IsRefusal e kind m      the refusal e is of this kind and has the message m
 use Rattle.std.specs.Prelude.{◌≡◌, ℕ, List, codes}
 use Rattle.resb_format.specs.declared.error.ErrorKind.{ErrorKind}
-use Rattle.resb_format.specs.declared.error.ErrorKind.TheVariants.{InvalidData, ResourceTypeMismatch, UnsupportedFormat, Unknown, OutOfMemory}
+use Rattle.resb_format.specs.declared.error.ErrorKind.TheVariants.{InvalidData}
+use Rattle.resb_format.specs.declared.error.ErrorKind.TheVariants.{ResourceTypeMismatch}
+use Rattle.resb_format.specs.declared.error.ErrorKind.TheVariants.{UnsupportedFormat, Unknown}
+use Rattle.resb_format.specs.declared.error.ErrorKind.TheVariants.{OutOfMemory}
 use Rattle.resb_format.specs.declared.error.ReadingError.{ReadingError}
 
 abbrev pub kind_of : ReadingError → ErrorKind

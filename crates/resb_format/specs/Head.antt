@@ -1,7 +1,10 @@
--- Where the values of a head stand, and the bytes that they are written as. (ICU's `udata.h`, `ucmndata.h` and `uresdata.h`.)
---     InfoAt i bytes, HeaderAt h bytes, IndexAt i bytes       these values stand at the front of the bytes
+-- Where the values of a head stand, and the bytes that they are written as. (ICU's `udata.h`,
+-- `ucmndata.h` and `uresdata.h`.)
+--     InfoAt i bytes, HeaderAt h bytes, IndexAt i bytes       these values stand at the front of
+--                                                             the bytes
 --     info_bytes i, header_bytes h, index_bytes i             the bytes, in little-endian order
-use Rattle.std.specs.Prelude.{◌≡◌, ℕ, ◌+◌, ◌*◌, ◌≤◌, min, List, [], ◌∷◌, ◌++◌, length, drop, nat_le, nat_eq, Option, Some, None, slice_index, slice_range, if◌then◌else◌}
+use Rattle.std.specs.Prelude.{◌≡◌, ℕ, ◌+◌, ◌*◌, ◌≤◌, min, List, [], ◌∷◌, ◌++◌, length, drop, nat_le}
+use Rattle.std.specs.Prelude.{nat_eq, Option, Some, None, slice_index, slice_range, if◌then◌else◌}
 use Rattle.std.specs.List.{flat_map}
 use Rattle.std.specs.Option.{option_to_list}
 use Rattle.std.specs.Int.{to_le_bytes, w16, w32}
@@ -48,7 +51,8 @@ pub record IndexAt (index : BinIndex) (bytes : List ℕ) : Type 0 where
 abbrev pub info_bytes : BinReprInfo → List ℕ
 info_bytes i =
     to_le_bytes w16 i.size ++ to_le_bytes w16 i.reserved_word
-    ++ endianness_number i.endianness ∷ charset_number i.charset_family ∷ i.size_of_char ∷ i.reserved_byte ∷ []
+    ++ endianness_number i.endianness ∷ charset_number i.charset_family ∷ i.size_of_char
+    ∷ i.reserved_byte ∷ []
     ++ i.data_format ++ version_bytes i.format_version ++ i.data_version
 
 abbrev pub header_bytes : BinHeader → List ℕ
@@ -58,7 +62,8 @@ header_bytes h = to_le_bytes w16 h.size ++ 0xda ∷ 0x27 ∷ [] ++ info_bytes h.
 abbrev pub index_words : BinIndex → List ℕ
 index_words i =
     i.field_count ∷ i.keys_end ∷ i.resources_end ∷ i.bundle_end ∷ i.largest_table_entry_count ∷ []
-    ++ option_to_list i.bundle_attributes ++ option_to_list i.data_16_bit_end ++ option_to_list i.pool_checksum
+    ++ option_to_list i.bundle_attributes ++ option_to_list i.data_16_bit_end
+    ++ option_to_list i.pool_checksum
 
 abbrev pub index_bytes : BinIndex → List ℕ
 index_bytes i = flat_map (to_le_bytes w32) (index_words i)

@@ -1,10 +1,16 @@
 -- What the laws of this crate say.
---     OneTree, ReachedIsCounted   a word has one tree and count, and reaches no more resources than that
---     Survives write reads        what is written is read back, and what is read is written as it stood
---     HeaderSurvives              a header that was read is read back from the bytes it is written as
---     IndexSurvives               so is any index, and the words that were read are written unchanged
+--     OneTree, ReachedIsCounted   a word has one tree and count, and reaches no more resources than
+--                                 that
+--     Survives write reads        what is written is read back, and what is read is written as it
+--                                 stood
+--     HeaderSurvives              a header that was read is read back from the bytes it is written
+--                                 as
+--     IndexSurvives               so is any index, and the words that were read are written
+--                                 unchanged
 --     BundleFilePasses            the checks of a file's head let through exactly the bundle files
-use Rattle.std.specs.Prelude.{◌≡◌, ℕ, ◌*◌, ◌^◌, ◌<◌, ◌≤◌, min, List, [], ◌∷◌, length, take, Bool, true, false, nat_eq, Ok, None, Result, slice_index, slice_range, codes}
+use Rattle.std.specs.Prelude.{◌≡◌, ℕ, ◌*◌, ◌^◌, ◌<◌, ◌≤◌, min, List, [], ◌∷◌, length, take, Bool}
+use Rattle.std.specs.Prelude.{true, false, nat_eq, Ok, None, Result, slice_index, slice_range}
+use Rattle.std.specs.Prelude.{codes}
 use Rattle.resb_tree.specs.Tree.{Tree}
 use Rattle.resb_format.specs.Parts.{Parts, IsBundleFile}
 use Rattle.resb_format.specs.Denotes.{Den, Reaches}
@@ -31,7 +37,8 @@ CountedIsReached = (p : Parts) (w m n : ℕ) (t : Tree) → Den p w t n → 1 �
 abbrev pub ReachingGoesDown : Type 0
 ReachingGoesDown = (p : Parts) (w m n : ℕ) → Reaches p w n → 1 ≤ m → m ≤ n → Reaches p w m
 
-pub record Survives {A B : Type 0} (write : A → B) (reads : B → Result A ReadingError → Type 0) : Type 0 where
+pub record Survives {A B : Type 0} (write : A → B)
+    (reads : B → Result A ReadingError → Type 0) : Type 0 where
   pub read_back : (x : A) (r : Result A ReadingError) → reads (write x) r → r ≡ Ok x
   pub written_back : (b : B) (x : A) → reads b (Ok x) → write x ≡ b
 
@@ -41,11 +48,15 @@ EachFits n [] = Unit {0}
 EachFits n (x ∷ xs) = (x < 2 ^ n) × EachFits n xs
 
 abbrev pub HeaderSurvives : Type 0
-HeaderSurvives = (bytes : List ℕ) (h : BinHeader) (r : Result BinHeader ReadingError) → EachFits 8 bytes → ReadsHeader false bytes (Ok h) → ReadsHeader false (header_bytes h) r → r ≡ Ok h
+HeaderSurvives =
+    (bytes : List ℕ) (h : BinHeader) (r : Result BinHeader ReadingError) → EachFits 8 bytes
+    → ReadsHeader false bytes (Ok h) → ReadsHeader false (header_bytes h) r → r ≡ Ok h
 
 pub record IndexSurvives : Type 0 where
-  pub read_back : (i : BinIndex) (r : Result BinIndex ReadingError) → EachFits 32 (index_words i) → ReadsIndex (index_bytes i) r → r ≡ Ok i
-  pub written_back : (bytes : List ℕ) (i : BinIndex) → EachFits 8 bytes → ReadsIndex bytes (Ok i) → index_bytes i ≡ take (4 * min i.field_count 8) bytes
+  pub read_back : (i : BinIndex) (r : Result BinIndex ReadingError) → EachFits 32 (index_words i)
+      → ReadsIndex (index_bytes i) r → r ≡ Ok i
+  pub written_back : (bytes : List ℕ) (i : BinIndex) → EachFits 8 bytes → ReadsIndex bytes (Ok i)
+      → index_bytes i ≡ take (4 * min i.field_count 8) bytes
 
 -- a header that passes each check
 pub record IsHeader (any : Bool) (bytes : List ℕ) : Type 0 where
@@ -60,8 +71,14 @@ pub record IsHeader (any : Bool) (bytes : List ℕ) : Type 0 where
 
 -- no check fails exactly where each passes
 abbrev pub HeaderPasses : Type 0
-HeaderPasses = (any : Bool) (bytes : List ℕ) → (header_fault any bytes ≡ None → IsHeader any bytes) × (IsHeader any bytes → header_fault any bytes ≡ None)
+HeaderPasses =
+    (any : Bool) (bytes : List ℕ)
+    → (header_fault any bytes ≡ None → IsHeader any bytes)
+    × (IsHeader any bytes → header_fault any bytes ≡ None)
 
 -- no check of a file's head fails exactly where it is a bundle file's
 abbrev pub BundleFilePasses : Type 0
-BundleFilePasses = (bytes : List ℕ) → (file_fault bytes ≡ None → IsBundleFile bytes) × (IsBundleFile bytes → file_fault bytes ≡ None)
+BundleFilePasses =
+    (bytes : List ℕ)
+    → (file_fault bytes ≡ None → IsBundleFile bytes)
+    × (IsBundleFile bytes → file_fault bytes ≡ None)

@@ -1,4 +1,5 @@
--- The words of the contracts: bytes and their numbers, strings and keys in their blocks, the parts of a file, what a word and a file denote.
+-- The words of the contracts: bytes and their numbers, strings and keys in their blocks, the parts
+-- of a file, what a word and a file denote.
 pub use Rattle.resb_tree.specs.Tree
 pub use Rattle.resb_tree.specs.View
 pub use Rattle.resb_tree.specs.Bundle

@@ -1,7 +1,9 @@
--- The parts of a file, and the checks of its head. (ICU's `ucmndata.h`, `udata.h` and `uresdata.h`.)
+-- The parts of a file, and the checks of its head. (ICU's `ucmndata.h`, `udata.h` and
+-- `uresdata.h`.)
 --     IsBundleFile bytes      the head names this format, and the blocks lie inside the file
 --     parts_of bytes          its parts
-use Rattle.std.specs.Prelude.{◌≡◌, ℕ, ◌+◌, ◌-◌, ◌*◌, ◌≤◌, min, List, [], ◌∷◌, length, take, drop, slice_index, slice_range, codes}
+use Rattle.std.specs.Prelude.{◌≡◌, ℕ, ◌+◌, ◌-◌, ◌*◌, ◌≤◌, min, List, [], ◌∷◌, length, take, drop}
+use Rattle.std.specs.Prelude.{slice_index, slice_range, codes}
 use Rattle.resb_format.specs.Bytes.{units_of, words_of}
 
 -- The body is in bytes, as is the key block, its front. The 16-bit block is in units.

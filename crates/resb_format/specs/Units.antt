@@ -1,8 +1,10 @@
--- What a text takes in the 16-bit block. A text is its UTF-8 bytes. (Markers: ICU's `uresdata.h`, strings of format version 2.)
+-- What a text takes in the 16-bit block. A text is its UTF-8 bytes. (Markers: ICU's `uresdata.h`,
+-- strings of format version 2.)
 --     units t                 its UTF-16 form
 --     is_unmarked t           whether it stands without a marker
 --     marker t, size t        its marker, and how many units a record of it takes
-use Rattle.std.specs.Prelude.{ℕ, ◌+◌, ◌/◌, ◌%◌, List, [], ◌∷◌, length, Bool, nat_le, nat_eq, not, ◌&&◌, if◌then◌else◌}
+use Rattle.std.specs.Prelude.{ℕ, ◌+◌, ◌/◌, ◌%◌, List, [], ◌∷◌, length, Bool, nat_le, nat_eq, not}
+use Rattle.std.specs.Prelude.{◌&&◌, if◌then◌else◌}
 use Rattle.std.specs.List.{flat_map, list_any}
 use Rattle.std.specs.Char.Escape.{encode_utf16}
 use Rattle.std.specs.Str.{chars}

@@ -1,6 +1,7 @@
 //! Little-endian numbers among bytes. No other module indexes bytes.
 //! Where a number stands is the business of the module that asks for it.
-ghost use Rattle.std.specs.Prelude.{◌≡◌, ◌+◌, ◌*◌, ◌/◌, ◌<◌, ◌≤◌, [], ◌∷◌, length, slice_get, slice_index, slice_range, take, drop, Some, None, MatchOption};
+ghost use Rattle.std.specs.Prelude.{◌≡◌, ◌+◌, ◌*◌, ◌/◌, ◌<◌, ◌≤◌, [], ◌∷◌, length, slice_get};
+ghost use Rattle.std.specs.Prelude.{slice_index, slice_range, take, drop, Some, None, MatchOption};
 ghost use Rattle.resb_format.specs.Bytes.{units_of, words_of, part};
 ghost use Rattle.resb_format.specs.HeadChecks as checks;
 
@@ -70,7 +71,7 @@ pub(crate) fn unit_in(bytes: &[u8], number: usize, is_big: bool) -> u16
 }
 
 /// The 16-bit unit with this number, if it lies inside.
-#[tactic(auto, using(crate::proofs::Spelled::units_length, crate::proofs::InsideLemmas::there, crate::proofs::InsideLemmas::not_there))]
+#[tactic(auto, using(crate::proofs::InsideLemmas::one_unit))]
 pub fn some_unit(bytes: &[u8], number: usize) -> Option<u16>
     ensures { result ≡ slice_get (units_of bytes.now) number }
 {
@@ -81,7 +82,7 @@ pub fn some_unit(bytes: &[u8], number: usize) -> Option<u16>
 }
 
 /// The 32-bit word with this number, if it lies inside.
-#[tactic(auto, using(crate::proofs::Spelled::words_length, crate::proofs::InsideLemmas::there, crate::proofs::InsideLemmas::not_there))]
+#[tactic(auto, using(crate::proofs::InsideLemmas::one_word))]
 pub fn some_word(bytes: &[u8], number: usize) -> Option<u32>
     ensures { result ≡ slice_get (words_of bytes.now) number }
 {
@@ -94,7 +95,8 @@ pub fn some_word(bytes: &[u8], number: usize) -> Option<u32>
 /// The first unit, and the bytes behind it.
 #[tactic(auto, using(crate::proofs::Spelled::unit_first, crate::proofs::Spelled::no_unit))]
 pub fn first_unit(bytes: &[u8]) -> Option<(u16, &[u8])>
-    ensures { MatchOption result (units_of bytes.now ≡ []) (λ r. units_of bytes.now ≡ r.0 ∷ units_of r.1.now) }
+    ensures { let units = units_of bytes.now in
+        MatchOption result (units ≡ []) (λ r. units ≡ r.0 ∷ units_of r.1.now) }
 {
     if bytes.len() < 2 {
         return None;
@@ -107,7 +109,8 @@ pub fn first_unit(bytes: &[u8]) -> Option<(u16, &[u8])>
 /// The first word, and the bytes behind it.
 #[tactic(auto, using(crate::proofs::Spelled::word_first, crate::proofs::Spelled::no_word))]
 pub fn first_word(bytes: &[u8]) -> Option<(u32, &[u8])>
-    ensures { MatchOption result (words_of bytes.now ≡ []) (λ r. words_of bytes.now ≡ r.0 ∷ words_of r.1.now) }
+    ensures { let words = words_of bytes.now in
+        MatchOption result (words ≡ []) (λ r. words ≡ r.0 ∷ words_of r.1.now) }
 {
     if bytes.len() < 4 {
         return None;
@@ -118,9 +121,10 @@ pub fn first_word(bytes: &[u8]) -> Option<(u32, &[u8])>
 }
 
 /// So many bytes from this place on, if they lie inside.
-#[tactic(auto, using(crate::proofs::ContentLemmas::part_in, crate::proofs::ContentLemmas::part_past))]
+#[tactic(auto, using(crate::proofs::ContentLemmas::part_cut))]
 pub fn some_bytes(bytes: &[u8], from: usize, count: usize) -> Option<&[u8]>
-    ensures { MatchOption result (part bytes.now from count ≡ None) (λ b. part bytes.now from count ≡ Some b.now) }
+    ensures { let cut = part bytes.now from count in
+        MatchOption result (cut ≡ None) (λ b. cut ≡ Some b.now) }
 {
     if from > bytes.len() || count > bytes.len() - from {
         return None;
@@ -131,11 +135,13 @@ pub fn some_bytes(bytes: &[u8], from: usize, count: usize) -> Option<&[u8]>
 }
 
 /// The bytes of so many units from this unit on, if they lie inside.
-#[tactic(auto, using(crate::proofs::InsideLemmas::units_inside, crate::proofs::InsideLemmas::units_outside, crate::proofs::Spelled::units_length))]
+#[tactic(auto, using(crate::proofs::InsideLemmas::units_cut))]
 pub fn some_units(bytes: &[u8], from: usize, count: usize) -> Option<&[u8]>
-    ensures value { let units = units_of bytes.now in
-        MatchOption result (part units from count ≡ None) (λ b. part units from count ≡ Some (units_of b.now)) }
-    ensures whole { MatchOption result (length (units_of bytes.now) < from + count) (λ b. length b.now ≡ 2 * count) }
+    ensures value { let cut = part (units_of bytes.now) from count in
+        MatchOption result (cut ≡ None) (λ b. cut ≡ Some (units_of b.now)) }
+    ensures whole { MatchOption result
+        (length (units_of bytes.now) < from + count)
+        (λ b. length b.now ≡ 2 * count) }
 {
     let all = bytes.len() / 2;
     if from > all || count > all - from {
@@ -147,11 +153,13 @@ pub fn some_units(bytes: &[u8], from: usize, count: usize) -> Option<&[u8]>
 }
 
 /// The bytes of so many words from this word on, if they lie inside.
-#[tactic(auto, using(crate::proofs::InsideLemmas::words_inside, crate::proofs::InsideLemmas::words_outside, crate::proofs::Spelled::words_length))]
+#[tactic(auto, using(crate::proofs::InsideLemmas::words_cut))]
 pub fn some_words(bytes: &[u8], from: usize, count: usize) -> Option<&[u8]>
-    ensures value { let words = words_of bytes.now in
-        MatchOption result (part words from count ≡ None) (λ b. part words from count ≡ Some (words_of b.now)) }
-    ensures whole { MatchOption result (length (words_of bytes.now) < from + count) (λ b. b.now ≡ take (4 * count) (drop (4 * from) bytes.now)) }
+    ensures value { let cut = part (words_of bytes.now) from count in
+        MatchOption result (cut ≡ None) (λ b. cut ≡ Some (words_of b.now)) }
+    ensures whole { MatchOption result
+        (length (words_of bytes.now) < from + count)
+        (λ b. b.now ≡ take (4 * count) (drop (4 * from) bytes.now)) }
 {
     let all = bytes.len() / 4;
     if from > all || count > all - from {

@@ -68,7 +68,8 @@ impl ResDescriptor {
 
     /// Appends the 4 bytes of the word. For want of memory a part of them may be there.
     pub fn append_to(self, bytes: &mut Vec<u8>) -> Result<(), NoMemory>
-        ensures { OnOk result (bytes.new.items ≡ bytes.old.items ++ to_le_bytes w32 (word_of self)) }
+        ensures { let written = to_le_bytes w32 (word_of self) in
+            OnOk result (bytes.new.items ≡ bytes.old.items ++ written) }
     {
         bytes.extend_from_slice(&u32::from(self).to_le_bytes())?;
         Ok(())

@@ -1,7 +1,8 @@
 //! Why reading is refused: a kind and a message, and the text that both print.
 //! Which fault gives which refusal is said where it is found.
 ghost use Rattle.std.specs.Prelude.{◌≡◌, ◌++◌, ◌↔◌, Some, IsTrue, codes};
-ghost use Rattle.resb_format.specs.Error.{IsRefusal, IsWantOfMemory, kind_of, message_of, description_of};
+ghost use Rattle.resb_format.specs.Error.{IsRefusal, IsWantOfMemory, kind_of, message_of};
+ghost use Rattle.resb_format.specs.Error.{description_of};
 
 use resb_tree::NoMemory;
 use std::alloc::{AllocError, AllocFailed};

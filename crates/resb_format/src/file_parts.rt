@@ -1,5 +1,5 @@
-//! The parts of a file: body, keys, 16-bit block and the root's word, once every check of its head holds.
-//! What the root's word leads to is read in the crates above.
+//! The parts of a file: body, keys, 16-bit block and the root's word, once every check of its head
+//! holds. What the root's word leads to is read in the crates above.
 ghost use Rattle.std.specs.Prelude.{drop, ◌≤◌, length};
 ghost use Rattle.resb_format.specs.Head.{IndexAt};
 ghost use Rattle.resb_format.specs.PartsReading.{ReadsFile, ReadsBody, ReadsBlocks};

@@ -16,7 +16,8 @@ const MAGIC: [u8; 2] = [0xda, 0x27];
 /// The first 24 bytes of a file. (ICU's `ucmndata.h`: `DataHeader`.)
 #[derive(Clone, Copy, Debug)]
 pub struct BinHeader {
-    /// The size of the header in bytes, from 24 up: where the body begins. It is 32 in a written file.
+    /// The size of the header in bytes, from 24 up: where the body begins. It is 32 in a written
+    /// file.
     pub size: u16,
     /// How the data is represented.
     pub repr_info: BinReprInfo,

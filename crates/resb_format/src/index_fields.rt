@@ -32,7 +32,8 @@ pub(crate) fn append_word(bytes: &mut Vec<u8>, word: u32) -> Result<(), NoMemory
 
 /// Appends a field that may be absent.
 pub(crate) fn append_field(bytes: &mut Vec<u8>, field: Option<u32>) -> Result<(), NoMemory>
-    ensures { OnOk result (bytes.new.items ≡ bytes.old.items ++ flat_map (to_le_bytes w32) (option_to_list field)) }
+    ensures { let written = flat_map (to_le_bytes w32) (option_to_list field) in
+        OnOk result (bytes.new.items ≡ bytes.old.items ++ written) }
 {
     match field {
         Some(word) => append_word(bytes, word),

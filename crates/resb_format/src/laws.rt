@@ -1,11 +1,15 @@
-//! The laws of the file's definitions and of the codecs, each the contract of a call that does nothing.
-//! Their statements stand in `specs/Laws`; the laws of trees stand in `resb_tree`.
-ghost use Rattle.resb_format.specs.Codes.{endianness_number, charset_number, type_number, version_bytes};
-ghost use Rattle.resb_format.specs.CodeReading.{ReadsEndianness, ReadsCharset, ReadsType, ReadsVersion};
+//! The laws of the file's definitions and of the codecs, each the contract of a call that does
+//! nothing. Their statements stand in `specs/Laws`; the laws of trees stand in `resb_tree`.
+ghost use Rattle.resb_format.specs.Codes.{endianness_number, charset_number, type_number};
+ghost use Rattle.resb_format.specs.Codes.{version_bytes};
+ghost use Rattle.resb_format.specs.CodeReading.{ReadsEndianness, ReadsCharset, ReadsType};
+ghost use Rattle.resb_format.specs.CodeReading.{ReadsVersion};
 ghost use Rattle.resb_format.specs.Descriptor.{word_of};
 ghost use Rattle.resb_format.specs.DescriptorReading.{ReadsDescriptor};
-ghost use Rattle.resb_format.specs.Laws.{OneTree, ReachedIsCounted, CountedIsReached, ReachingGoesDown};
-ghost use Rattle.resb_format.specs.Laws.{Survives, HeaderSurvives, IndexSurvives, HeaderPasses, BundleFilePasses};
+ghost use Rattle.resb_format.specs.Laws.{OneTree, ReachedIsCounted, CountedIsReached};
+ghost use Rattle.resb_format.specs.Laws.{ReachingGoesDown};
+ghost use Rattle.resb_format.specs.Laws.{Survives, HeaderSurvives, IndexSurvives, HeaderPasses};
+ghost use Rattle.resb_format.specs.Laws.{BundleFilePasses};
 
 /// In given parts a word denotes at most one tree, with one count.
 pub fn one_tree()

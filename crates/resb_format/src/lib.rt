@@ -1,5 +1,5 @@
-//! What a `.res` file is: its numbers, its head, its strings and keys, and the tree that it denotes.
-//! No loop here goes over a whole file: reading and writing are in the crates above.
+//! What a `.res` file is: its numbers, its head, its strings and keys, and the tree that it
+//! denotes. No loop here goes over a whole file: reading and writing are in the crates above.
 #![tactic(auto)]
 
 pub mod bytes;

@@ -1,6 +1,7 @@
 //! The representation info, behind the magic word of a header: order of bytes, format, versions.
 //! Which formats and versions are read beyond these checks is decided by the reader.
-ghost use Rattle.std.specs.Prelude.{◌≡◌, ◌≤◌, ◌++◌, length, false, Some, None, MatchResult, OnOk, IfOk};
+ghost use Rattle.std.specs.Prelude.{◌≡◌, ◌≤◌, ◌++◌, length, false, Some, None, MatchResult, OnOk};
+ghost use Rattle.std.specs.Prelude.{IfOk};
 ghost use Rattle.resb_format.specs.Head.{InfoAt, info_bytes};
 ghost use Rattle.resb_format.specs.HeadChecks.{info_checks, first_fault, refusal_of};
 ghost use Rattle.resb_format.specs.HeadReading.{ReadsInfo};
@@ -47,7 +48,9 @@ impl BinReprInfo {
     ) -> Result<BinReprInfo, BinaryDeserializerError>
         requires { 20 ≤ length bytes.now }
         ensures { let fault = first_fault (info_checks any_order bytes.now) in
-            MatchResult result (λ i. (fault ≡ None) × InfoAt i bytes.now) (λ e. fault ≡ Some (refusal_of e)) }
+            MatchResult result
+            (λ i. (fault ≡ None) × InfoAt i bytes.now)
+            (λ e. fault ≡ Some (refusal_of e)) }
     {
         let endianness = Endianness::try_from(byte_at(bytes, 4))?;
         let is_big = endianness.is_big();

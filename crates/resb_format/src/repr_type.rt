@@ -6,7 +6,8 @@ ghost use Rattle.resb_format.specs.CodeReading.{ReadsType};
 
 use crate::error::BinaryDeserializerError;
 
-/// The type of a resource in a file, by ICU's number. (ICU's `uresdata.h`: `URES_STRING` and those below.)
+/// The type of a resource in a file, by ICU's number. (ICU's `uresdata.h`: `URES_STRING` and those
+/// below.)
 #[derive(Clone, Copy, Debug, PartialEq, Eq)]
 pub enum ResourceReprType {
     /// A string of the older formats, which is not read.

@@ -1,6 +1,7 @@
 //! Strings in the 16-bit block: where one stands, and what marks its length.
 //! How strings share records of the block is the business of the writer.
-ghost use Rattle.std.specs.Prelude.{◌≡◌, ◌+◌, ◌-◌, ◌/◌, ◌<◌, ◌≤◌, ◌==◌, length, take, drop, slice_index, nat_le, Some, None, MatchResult, codes};
+ghost use Rattle.std.specs.Prelude.{◌≡◌, ◌+◌, ◌-◌, ◌/◌, ◌<◌, ◌≤◌, ◌==◌, length, take, drop};
+ghost use Rattle.std.specs.Prelude.{slice_index, nat_le, Some, None, MatchResult, codes};
 ghost use Rattle.std.specs.List.{position_or_len};
 ghost use Rattle.resb_format.specs.Bytes.{units_of, part};
 ghost use Rattle.resb_format.specs.Error.{IsInvalid};
@@ -44,7 +45,8 @@ fn marked(block: &[u8], unit: usize, first: u16) -> Result<Utf16View<'_>, Binary
     requires low { first ≤ 0xdfff }
     ensures { let us = units_of block.now in
         MatchResult result (λ v. strings.string_from us unit first ≡ Some (view_units v))
-        (λ e. (strings.string_from us unit first ≡ None) × IsInvalid e (codes "unexpected end of input")) }
+        (λ e. (strings.string_from us unit first ≡ None)
+        × IsInvalid e (codes "unexpected end of input")) }
 {
     let first = usize::from(first);
     if first <= 0xdfee {
@@ -64,7 +66,8 @@ fn unmarked(block: &[u8], unit: usize) -> Result<Utf16View<'_>, BinaryDeserializ
     requires { unit < length block.now / 2 }
     ensures { let us = take 41 (drop unit (units_of block.now)) in
         MatchResult result (λ v. strings.before_zero us ≡ Some (view_units v))
-        (λ e. (strings.before_zero us ≡ None) × IsInvalid e (codes "unterminated string with implicit length")) }
+        (λ e. (strings.before_zero us ≡ None)
+        × IsInvalid e (codes "unterminated string with implicit length")) }
 {
     let left = block.len() / 2 - unit;
     let window = units_in(block, unit, left.min(MAX_UNMARKED + 1));
@@ -93,7 +96,9 @@ fn first_zero(units: Utf16View<'_>) -> usize
 
 /// The unit with this number, if it lies inside the block.
 fn some_unit(block: &[u8], number: usize) -> Result<u16, BinaryDeserializerError>
-    ensures { MatchResult result (λ x. (number < length block.now / 2) × (x ≡ slice_index (units_of block.now) number)) (λ e. (length block.now / 2 ≤ number) × IsInvalid e (codes "unexpected end of input")) }
+    ensures { MatchResult result
+        (λ x. (number < length block.now / 2) × (x ≡ slice_index (units_of block.now) number))
+        (λ e. (length block.now / 2 ≤ number) × IsInvalid e (codes "unexpected end of input")) }
 {
     if number >= block.len() / 2 {
         return Err(BinaryDeserializerError::invalid_data("unexpected end of input"));
@@ -102,10 +107,11 @@ fn some_unit(block: &[u8], number: usize) -> Result<u16, BinaryDeserializerError
 }
 
 /// So many units from this one on, if they lie inside the block.
-#[tactic(auto, using(crate::proofs::StringsIn::part_inside, crate::proofs::StringsIn::part_outside))]
+#[tactic(auto, using(crate::proofs::StringsIn::units_cut))]
 fn cut(block: &[u8], from: usize, count: usize) -> Result<Utf16View<'_>, BinaryDeserializerError>
-    ensures { MatchResult result (λ v. part (units_of block.now) from count ≡ Some (view_units v))
-        (λ e. (part (units_of block.now) from count ≡ None) × IsInvalid e (codes "unexpected end of input")) }
+    ensures { let cut = part (units_of block.now) from count in
+        MatchResult result (λ v. cut ≡ Some (view_units v))
+        (λ e. (cut ≡ None) × IsInvalid e (codes "unexpected end of input")) }
 {
     let units = block.len() / 2;
     if from > units || count > units - from {

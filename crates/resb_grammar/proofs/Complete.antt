@@ -103,7 +103,8 @@ module _ (text : List ℕ) where
   run_numbers from to ns o (next_number i j k _ v ms rest h skip n skip') at =
       let here : At text i (in_vector after_number ms o) = run_numbers from i ms o rest at in
       let comma : At text j (in_vector after_comma ms o) = further text i
-      (i + 1) j _ _ a_comma comma_class here (byte_class text neither i 44 comma_class h refl)
+      (i + 1) j _ _ a_comma comma_class here
+      (byte_class text neither i ascii.comma comma_class h refl)
       (refl, refl) refl skip in
       further text j k to _ _ (a_number v) number_class comma (class_number text j k v n)
       (v, n, refl) refl skip'
@@ -115,29 +116,29 @@ module _ (text : List ℕ) where
       → At text last (inside (with_member (items.group_member (int_vector ns) []) o))
   run_vector from to last ns o empty at h skip =
       further text from (from + 1) last _ _ closing close_class at
-      (byte_class text lex.numbers from 125 close_class h refl) (refl, refl) refl skip
+      (byte_class text lex.numbers from ascii.right_brace close_class h refl) (refl, refl) refl skip
   run_vector from to last ns o (lone_comma _ c skip') at h skip =
       let here : At text to (in_vector after_lone_comma [] o) = further text from
       (from + 1) to _ _ a_comma comma_class at
-      (byte_class text lex.numbers from 44 comma_class c refl) (refl, refl) refl skip' in
+      (byte_class text lex.numbers from ascii.comma comma_class c refl) (refl, refl) refl skip' in
       further text to (to + 1) last _ _ closing close_class here
-      (byte_class text neither to 125 close_class h refl) (refl, refl) refl skip
+      (byte_class text neither to ascii.right_brace close_class h refl) (refl, refl) refl skip
   run_vector from to last ns o (numbers _ _ n) at h skip =
       further text to (to + 1) last _ _ closing close_class (run_numbers from to ns o n at)
-      (byte_class text neither to 125 close_class h refl) (refl, refl) refl skip
+      (byte_class text neither to ascii.right_brace close_class h refl) (refl, refl) refl skip
   run_vector from to last ns o (numbers_comma i _ _ n c skip') at h skip =
       let here : At text to (in_vector after_comma ns o) = further text i
       (i + 1) to _ _ a_comma comma_class (run_numbers from i ns o n at)
-      (byte_class text neither i 44 comma_class c refl) (refl, refl) refl skip' in
+      (byte_class text neither i ascii.comma comma_class c refl) (refl, refl) refl skip' in
       further text to (to + 1) last _ _ closing close_class here
-      (byte_class text lex.numbers to 125 close_class h refl) (refl, refl) refl skip
+      (byte_class text lex.numbers to ascii.right_brace close_class h refl) (refl, refl) refl skip
 
   close_filled : (to last : ℕ) (t : Tree) (o : Open) → At text to (filled t o)
       → slice_index text to ≡ ascii.right_brace → Skip text (to + 1) last
       → At text last (inside (with_member (items.group_member t []) o))
   close_filled to last t o at h skip =
       further text to (to + 1) last _ _ closing close_class at
-      (byte_class text neither to 125 close_class h refl) (refl, refl) refl skip
+      (byte_class text neither to ascii.right_brace close_class h refl) (refl, refl) refl skip
 
   -- the content of a typed group and its `}`
   pub run_content : (from to last : ℕ) (kind : Kind) (t : Tree) (o : Open)
@@ -168,10 +169,10 @@ module _ (text : List ℕ) where
       let type : At text head.brace
       (typed kind (open_at title body xs around)) = further text from head.ends head.brace _ _
       (a_type kind) type_class at
-      (byte_class text neither from 58 type_class head.named.stands.colon refl)
+      (byte_class text neither from ascii.colon type_class head.named.stands.colon refl)
       (kind, head.named, refl) (type_next title body xs around kind may) head.between in
       further text head.brace (head.brace + 1) to _ _ opening open_class type
-      (byte_class text neither head.brace 123 open_class head.opens refl)
+      (byte_class text neither head.brace ascii.left_brace open_class head.opens refl)
       (refl, refl) refl head.after
 
   mutual
@@ -190,7 +191,7 @@ module _ (text : List ℕ) where
     run_list from to xs (comma _ i _ ys m rest h skip) body list title around at =
         further text i (i + 1) to _ _ a_comma comma_class
         (run_list from i (items.plain m ∷ ys) rest body list title around at)
-        (byte_class text neither i 44 comma_class h refl) (refl, refl)
+        (byte_class text neither i ascii.comma comma_class h refl) (refl, refl)
         (comma_next title body ys around m list) skip
 
     run_table : (from to : ℕ) (xs : List Item) → Items text from to xs → half xs ≡ true
@@ -223,7 +224,7 @@ module _ (text : List ℕ) where
         let opened : At text i
         (inside (within untyped_body (open_at title body ys around))) = further text from
         (from + 1) i _ _ opening open_class at
-        (byte_class text neither from 123 open_class h refl) (refl, refl)
+        (byte_class text neither from ascii.left_brace open_class h refl) (refl, refl)
         (opens_next title body ys around may) skip in
         let full : At text k (inside (open_at title untyped_body xs (record {
           body = body;
@@ -234,7 +235,7 @@ module _ (text : List ℕ) where
           items = ys;
         } ∷ around) opened in
         further text k (k + 1) last _ _ closing close_class full
-        (byte_class text neither k 125 close_class h' refl) (refl, refl) refl after
+        (byte_class text neither k ascii.right_brace close_class h' refl) (refl, refl) refl after
     run_group from to t ks
         (typed_table _ i k xs head inner pairs h') title body ys around may at last after =
         let opened : At text i (inside (within table_body (open_at title body ys around))) =
@@ -248,7 +249,7 @@ module _ (text : List ℕ) where
           items = ys;
         } ∷ around) opened in
         further text k (k + 1) last _ _ closing close_class full
-        (byte_class text neither k 125 close_class h' refl) (
+        (byte_class text neither k ascii.right_brace close_class h' refl) (
           refl,
           refl,
         ) (ap (λ b. when b (leave title (record { body = table_body; items = xs })
@@ -266,7 +267,7 @@ module _ (text : List ℕ) where
           items = ys;
         } ∷ around) opened in
         further text k (k + 1) last _ _ closing close_class full
-        (byte_class text neither k 125 close_class h' refl) (refl, refl) refl after
+        (byte_class text neither k ascii.right_brace close_class h' refl) (refl, refl) refl after
     run_group from to t ks
         (typed_leaf _ i k kind _ head content h') title body ys around may at last after =
         run_content i k last kind t (open_at title body ys around) content
@@ -288,7 +289,7 @@ module _ (text : List ℕ) where
         fallback = fallback;
       }) [] opened in
       further text b.last (b.last + 1) (length text) _ _ closing close_class full
-      (byte_class text neither b.last 125 close_class b.closes refl) (
+      (byte_class text neither b.last ascii.right_brace close_class b.closes refl) (
         refl,
         refl,
       ) (ap (λ x. when x (finished (record { name = name; fallback = fallback }) b.items))

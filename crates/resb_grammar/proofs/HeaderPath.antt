@@ -24,7 +24,8 @@ module _ (text : List ℕ) where
       → At text brace (titled (record { name = name; fallback = f }))
   typed_name name place i brace f t skip at =
       further text place i brace _ _ (a_root_type f) root_type_class at
-      (byte_class text root_types place 58 root_type_class (root_colon text place i f t) refl)
+      (byte_class text root_types place ascii.colon root_type_class (root_colon text place i f t)
+      refl)
       (f, t, refl) refl skip
 
   -- the path to the first entry
@@ -40,8 +41,9 @@ module _ (text : List ℕ) where
       go true place brace (without e) at b skip =
           let here : At text brace (named name) = subst (λ n. At text n (named name)) e at in
           further text brace (brace + 1) to _ _ opening open_class here
-          (byte_class text root_types brace 123 open_class b refl) (refl, refl) refl skip
+          (byte_class text root_types brace ascii.left_brace open_class b refl) (refl, refl) refl
+          skip
       go f place brace (with i _ t skip') at b skip =
           further text brace (brace + 1) to _ _ opening open_class
           (typed_name name place i brace f t skip' at)
-          (byte_class text neither brace 123 open_class b refl) (refl, refl) refl skip
+          (byte_class text neither brace ascii.left_brace open_class b refl) (refl, refl) refl skip

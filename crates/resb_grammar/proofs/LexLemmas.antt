@@ -1,6 +1,7 @@
 -- Where a token may stand in a state, its first byte tells which token it is.
 use Rattle.std.proofs.Common.{◌≡◌, ℕ, Bool, List, refl, sym, ◌∙◌, ap, subst, Some}
 use Rattle.std.specs.Prelude.{slice_index}
+use Rattle.resb_grammar.specs.Ascii as ascii
 use Rattle.resb_grammar.specs.Types.{Kind}
 use Rattle.resb_grammar.specs.Machine.{Token, Means, a_text, a_number, opening, closing, a_comma}
 use Rattle.resb_grammar.specs.Machine.{a_type, a_root_type, Body, table_body, array_body}
@@ -89,17 +90,17 @@ root_type_mode (in_vector after_number ns o) u f e = none_some u e
 root_type_mode (in_vector after_comma ns o) u f e = none_some u e
 root_type_mode (finished title items) u f e = none_some u e
 
-open_in : (m : Mode) → class_in m 123 ≡ open_class
+open_in : (m : Mode) → class_in m ascii.left_brace ≡ open_class
 open_in neither = refl
 open_in numbers = refl
 open_in root_types = refl
 
-close_in : (m : Mode) → class_in m 125 ≡ close_class
+close_in : (m : Mode) → class_in m ascii.right_brace ≡ close_class
 close_in neither = refl
 close_in numbers = refl
 close_in root_types = refl
 
-comma_in : (m : Mode) → class_in m 44 ≡ comma_class
+comma_in : (m : Mode) → class_in m ascii.comma ≡ comma_class
 comma_in neither = refl
 comma_in numbers = refl
 comma_in root_types = refl
@@ -129,17 +130,18 @@ module _ (text : List ℕ) where
       )
   lex_of from to s u opening m e =
       as_lex from to opening _ open_class
-      (byte_class text (mode s) from 123 open_class m.0 (open_in (mode s))) (m.1, refl)
+      (byte_class text (mode s) from ascii.left_brace open_class m.0 (open_in (mode s))) (m.1, refl)
   lex_of from to s u closing m e =
       as_lex from to closing _ close_class
-      (byte_class text (mode s) from 125 close_class m.0 (close_in (mode s))) (m.1, refl)
+      (byte_class text (mode s) from ascii.right_brace close_class m.0 (close_in (mode s)))
+      (m.1, refl)
   lex_of from to s u a_comma m e =
       as_lex from to a_comma _ comma_class
-      (byte_class text (mode s) from 44 comma_class m.0 (comma_in (mode s))) (m.1, refl)
+      (byte_class text (mode s) from ascii.comma comma_class m.0 (comma_in (mode s))) (m.1, refl)
   lex_of from to s u (a_type kind) m e =
       as_lex from to (a_type kind) _ type_class (in_mode from (mode s) neither type_class
       (type_mode s u kind e)
-      (byte_class text neither from 58 type_class m.stands.colon refl)) (
+      (byte_class text neither from ascii.colon type_class m.stands.colon refl)) (
         kind,
         m,
         refl,
@@ -147,7 +149,7 @@ module _ (text : List ℕ) where
   lex_of from to s u (a_root_type f) m e =
       as_lex from to (a_root_type f) _ root_type_class
       (in_mode from (mode s) root_types root_type_class (root_type_mode s u f e)
-      (byte_class text root_types from 58 root_type_class
+      (byte_class text root_types from ascii.colon root_type_class
       (root_colon text from to f m) refl)) (
         f,
         m,

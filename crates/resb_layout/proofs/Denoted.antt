@@ -1,23 +1,40 @@
 -- What is laid out is denoted: member by member, and then by the content of its own word.
-use Rattle.std.proofs.Common.{zero, suc, ◌≡◌, ℕ, ◌+◌, ◌-◌, ◌*◌, ◌/◌, ◌%◌, ◌^◌, ◌<◌, ◌≤◌, List, [], ◌∷◌, ◌++◌, length, map, Option, Some, None, Bool, true, false, cond, ◌==◌, option_map, ◌&&◌, nat_le, refl, sym, ◌∙◌, ap, subst, arith}
+use Rattle.std.proofs.Common.{zero, suc, ◌≡◌, ℕ, ◌+◌, ◌-◌, ◌*◌, ◌/◌, ◌%◌, ◌^◌, ◌<◌, ◌≤◌, List, []}
+use Rattle.std.proofs.Common.{◌∷◌, ◌++◌, length, map, Option, Some, None, Bool, true, false, cond}
+use Rattle.std.proofs.Common.{◌==◌, option_map, ◌&&◌, nat_le, refl, sym, ◌∙◌, ap, subst, arith}
 use Rattle.std.specs.Prelude.{All}
 use Rattle.std.specs.List.{zip, list_all}
 use Rattle.std.specs.List.Sorted.{IsStrictlySortedBy}
 use Rattle.std.specs.Map.{keys_of}
 use Rattle.std.proofs.lemmas.Bool.{and_parts, leb-true, ne_eqb}
 use Rattle.std.proofs.lemmas.List.{length-map}
-use Rattle.resb_tree.specs.Tree.{Tree, string, array, table, binary, integer, int_vector, Trees, no_trees, more_trees, Entries, no_entries, entry, trees_of, entries_of, map_of, tree_count, trees_count, entries_count}
+use Rattle.resb_tree.specs.Tree.{Tree, string, array, table, binary, integer, int_vector, Trees}
+use Rattle.resb_tree.specs.Tree.{no_trees, more_trees, Entries, no_entries, entry, trees_of}
+use Rattle.resb_tree.specs.Tree.{entries_of, map_of, tree_count, trees_count, entries_count}
 use Rattle.resb_tree.specs.Maps.{text_cmp, pairs_of}
 use Rattle.resb_tree.proofs.MapLemmas.{map_of-sorted, entries_of-pairs_of}
 use Rattle.resb_format.specs.Strings.{text_at, key_at}
 use Rattle.resb_format.specs.Parts.{Parts}
-use Rattle.resb_format.specs.Content.{Member, word, unit, Content, leaf, list, pairs, content, placed, empty}
-use Rattle.resb_format.specs.Denotes.{Den, den_leaf, den_list, den_pairs, DenMember, den_word, den_unit, DenEach, each_none as none_denoted, each_more as more_denoted, DenPairs, pairs_none, pairs_more}
-use Rattle.resb_layout.specs.Laid.{Given, State, here, more_units, to_data, words_body, table_body, wide_table_body, is_short_string, are_short, are_near, offsets_in, ClosesArray, short_array, long_array, ClosesTable, short_table, long_table, wide_table, keys_in, members_in, ArePlaced, Lays, lays_integer, lays_string, lays_no_bytes, lays_bytes, lays_no_numbers, lays_numbers, lays_no_items, lays_items, lays_no_entries, lays_entries, LaysEach, each_none, each_more}
+use Rattle.resb_format.specs.Content.{Member, word, unit, Content, leaf, list, pairs, content}
+use Rattle.resb_format.specs.Content.{placed, empty}
+use Rattle.resb_format.specs.Denotes.{Den, den_leaf, den_list, den_pairs, DenMember, den_word}
+use Rattle.resb_format.specs.Denotes.{den_unit, DenEach, each_none as none_denoted}
+use Rattle.resb_format.specs.Denotes.{each_more as more_denoted, DenPairs, pairs_none, pairs_more}
+use Rattle.resb_layout.specs.Laid.{Given, State, here, more_units, to_data, words_body, table_body}
+use Rattle.resb_layout.specs.Laid.{wide_table_body, is_short_string, are_short, are_near}
+use Rattle.resb_layout.specs.Laid.{offsets_in, ClosesArray, short_array, long_array, ClosesTable}
+use Rattle.resb_layout.specs.Laid.{short_table, long_table, wide_table, keys_in, members_in}
+use Rattle.resb_layout.specs.Laid.{ArePlaced, Lays, lays_integer, lays_string, lays_no_bytes}
+use Rattle.resb_layout.specs.Laid.{lays_bytes, lays_no_numbers, lays_numbers, lays_no_items}
+use Rattle.resb_layout.specs.Laid.{lays_items, lays_no_entries, lays_entries, LaysEach, each_none}
+use Rattle.resb_layout.specs.Laid.{each_more}
 use Rattle.resb_layout.specs.Laws.{IsRead, StandsIn, LaidIsDenoted}
 use Rattle.resb_layout.proofs.Numbers.{EachBelow}
 use Rattle.resb_layout.proofs.Grows.{grows, grows_each, by_bytes, stood, units_stay}
-use Rattle.resb_layout.proofs.Contents.{array_found, vector_found, wide_found, table_found, binary_found, array16_found, table16_found, word_of_array, word_of_array16, word_of_table, word_of_table16, word_of_table32, word_of_binary, word_of_vector}
+use Rattle.resb_layout.proofs.Contents.{array_found, vector_found, wide_found, table_found}
+use Rattle.resb_layout.proofs.Contents.{binary_found, array16_found, table16_found, word_of_array}
+use Rattle.resb_layout.proofs.Contents.{word_of_array16, word_of_table, word_of_table16}
+use Rattle.resb_layout.proofs.Contents.{word_of_table32, word_of_binary, word_of_vector}
 
 abbrev list_of : Trees → List Tree
 list_of no_trees = []

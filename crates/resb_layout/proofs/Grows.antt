@@ -1,8 +1,13 @@
 -- What is laid out is appended, so what stands after it holds what stood before.
-use Rattle.std.proofs.Common.{ℕ, List, [], ◌∷◌, ◌++◌, ◌≡◌, ◌<◌, ◌≤◌, ◌+◌, length, refl, sym, ◌∙◌, ap, append_assoc, append-nil, length-append, arith}
+use Rattle.std.proofs.Common.{ℕ, List, [], ◌∷◌, ◌++◌, ◌≡◌, ◌<◌, ◌≤◌, ◌+◌, length, refl, sym, ◌∙◌}
+use Rattle.std.proofs.Common.{ap, append_assoc, append-nil, length-append, arith}
 use Rattle.resb_tree.specs.Tree.{Tree, Trees}
 use Rattle.resb_format.specs.Parts.{Parts}
-use Rattle.resb_layout.specs.Laid.{Given, State, more_units, more_bytes, ClosesArray, short_array, long_array, ClosesTable, short_table, long_table, wide_table, Lays, lays_integer, lays_string, lays_no_bytes, lays_bytes, lays_no_numbers, lays_numbers, lays_no_items, lays_items, lays_no_entries, lays_entries, LaysEach, each_none, each_more}
+use Rattle.resb_layout.specs.Laid.{Given, State, more_units, more_bytes, ClosesArray, short_array}
+use Rattle.resb_layout.specs.Laid.{long_array, ClosesTable, short_table, long_table, wide_table}
+use Rattle.resb_layout.specs.Laid.{Lays, lays_integer, lays_string, lays_no_bytes, lays_bytes}
+use Rattle.resb_layout.specs.Laid.{lays_no_numbers, lays_numbers, lays_no_items, lays_items}
+use Rattle.resb_layout.specs.Laid.{lays_no_entries, lays_entries, LaysEach, each_none, each_more}
 use Rattle.resb_layout.specs.Laws.{StandsIn}
 
 pub record Grows (a b : State) : Type 0 where

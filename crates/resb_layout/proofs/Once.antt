@@ -1,7 +1,14 @@
 -- A tree is laid out in one way.
-use Rattle.std.proofs.Common.{ℕ, List, [], ◌∷◌, ◌++◌, map, Some, Option, Bool, true, false, length, ◌≡◌, ◌<◌, ◌+◌, ◌*◌, refl, sym, ◌∙◌, ap, subst, arith}
+use Rattle.std.proofs.Common.{ℕ, List, [], ◌∷◌, ◌++◌, map, Some, Option, Bool, true, false, length}
+use Rattle.std.proofs.Common.{◌≡◌, ◌<◌, ◌+◌, ◌*◌, refl, sym, ◌∙◌, ap, subst, arith}
 use Rattle.resb_tree.specs.Tree.{Tree, Trees, Entries, no_trees, more_trees, no_entries, entry}
-use Rattle.resb_layout.specs.Laid.{Given, State, here, more_units, more_bytes, offsets_in, words_body, table_body, wide_table_body, binary_body, to_data, ClosesArray, short_array, long_array, ClosesTable, short_table, long_table, wide_table, ArePlaced, members_in, Lays, lays_integer, lays_string, lays_no_bytes, lays_bytes, lays_no_numbers, lays_numbers, lays_no_items, lays_items, lays_no_entries, lays_entries, LaysEach, each_none, each_more}
+use Rattle.resb_layout.specs.Laid.{Given, State, here, more_units, more_bytes, offsets_in}
+use Rattle.resb_layout.specs.Laid.{words_body, table_body, wide_table_body, binary_body, to_data}
+use Rattle.resb_layout.specs.Laid.{ClosesArray, short_array, long_array, ClosesTable, short_table}
+use Rattle.resb_layout.specs.Laid.{long_table, wide_table, ArePlaced, members_in, Lays}
+use Rattle.resb_layout.specs.Laid.{lays_integer, lays_string, lays_no_bytes, lays_bytes}
+use Rattle.resb_layout.specs.Laid.{lays_no_numbers, lays_numbers, lays_no_items, lays_items}
+use Rattle.resb_layout.specs.Laid.{lays_no_entries, lays_entries, LaysEach, each_none, each_more}
 use Rattle.resb_layout.specs.Laws.{OneLayout}
 
 pub same_somes : (ps qs : List ℕ) → map Some ps ≡ map Some qs → ps ≡ qs

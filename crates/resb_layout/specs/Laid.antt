@@ -1,20 +1,21 @@
 -- How a tree is laid out behind the pool of its strings. Short bodies stand in the 16-bit block,
--- all
--- others in the tail behind it, a member's body before its collection's. (ICU's `uresdata.h`.)
+-- all others in the tail behind it, a member's body before its collection's. (ICU's
+-- `uresdata.h`.)
 --     Lays g before t after w         from where before stands, the tree t takes what after has
--- more,
---                                     and its word is w
+--                                     more, and its word is w
 --     LaysEach g before ts after ws   the same of trees in a row
-use Rattle.std.specs.Prelude.{◌≡◌, ℕ, ◌+◌, ◌-◌, ◌*◌, ◌^◌, ◌<◌, ◌≤◌, ◌%◌, List, [], ◌∷◌, ◌++◌, length, map, replicate, All, Option, Some, Bool, true, false, ◌&&◌, nat_le, nat_eq, if◌then◌else◌}
+use Rattle.std.specs.Prelude.{◌≡◌, ℕ, ◌+◌, ◌-◌, ◌*◌, ◌^◌, ◌<◌, ◌≤◌, ◌%◌, List, [], ◌∷◌, ◌++◌}
+use Rattle.std.specs.Prelude.{length, map, replicate, All, Option, Some, Bool, true, false, ◌&&◌}
+use Rattle.std.specs.Prelude.{nat_le, nat_eq, if◌then◌else◌}
 use Rattle.std.specs.List.{flat_map, list_all}
 use Rattle.std.specs.List.Sorted.{IsStrictlySortedBy}
 use Rattle.std.specs.Int.{to_le_bytes, w16, w32}
-use Rattle.resb_tree.specs.Tree.{Tree, string, array, table, binary, integer, int_vector, Trees, no_trees, more_trees, Entries, no_entries, entry}
+use Rattle.resb_tree.specs.Tree.{Tree, string, array, table, binary, integer, int_vector, Trees}
+use Rattle.resb_tree.specs.Tree.{no_trees, more_trees, Entries, no_entries, entry}
 use Rattle.resb_tree.specs.Maps.{text_cmp}
 
 -- Positions of keys are in bytes of the body, offsets of strings in units of the 16-bit block. The
--- tail
--- begins so many bytes into the body.
+-- tail begins so many bytes into the body.
 pub record Given : Type 0 where
   pub position : List ℕ → Option ℕ
   pub offset : List ℕ → Option ℕ

@@ -39,7 +39,7 @@ may_open array_body xs h = tt
 may_open untyped_body xs h = tt
 
 colon_expected : (b : Body) (k : Bool) → takes_group b k ≡ true
-    → expect.TypeName ≡ expected_in b k 58
+    → expect.TypeName ≡ expected_in b k ascii.colon
 colon_expected table_body true h = absurd (false≢true h)
 colon_expected table_body false h = refl
 colon_expected array_body k h = refl
@@ -104,7 +104,7 @@ module _ (text : List ℕ) where
       there : At text brace (typed kind o)
       there =
           further text at ends brace (inside o) (typed kind o) (a_type kind) type_class reached
-          (byte_class text neither at 58 type_class g.stands.colon refl) (kind, g, refl)
+          (byte_class text neither at ascii.colon type_class g.stands.colon refl) (kind, g, refl)
           (type_next o.title o.frame.body o.frame.items o.around kind
           (may_open o.frame.body o.frame.items may)) skip
 

@@ -8,7 +8,7 @@ use Rattle.resb_format.specs.Denotes.{Den, den_leaf, den_list, den_pairs, DenMem
 use Rattle.resb_format.specs.Denotes.{DenEach, DenPairs, Reaches, reaches_one, reaches_list}
 use Rattle.resb_format.specs.Denotes.{reaches_pairs, ReachesMember, reaches_word, reaches_unit}
 use Rattle.resb_format.specs.Denotes.{ReachesEach, ReachesPairs}
-use Rattle.resb_walk.specs.Refusals.{Stuck, Refuses}
+use Rattle.resb_walk.specs.Refusals.{DenotesNothing, Refuses}
 use Rattle.resb_format.specs.declared.error.ReadingError.{ReadingError}
 
 pub some_none : {A : Type 0} {o : Option A} {x : A} → o ≡ None → o ≡ Some x → ⊥
@@ -46,7 +46,8 @@ module _ (p : Parts) where
   one_of_none e (reaches_pairs f r) = absurd (some_none e f)
 
   -- no content
-  pub stuck_none : (w left : ℕ) → content p w ≡ None → 1 ≤ left → Stuck (Den p w) (Reaches p w) left
+  pub stuck_none : (w left : ℕ) → content p w ≡ None → 1 ≤ left
+      → DenotesNothing (Den p w) (Reaches p w) left
   stuck_none w left e h =
       ((λ t n d. none_of_none e d), (λ r. let k : left + 1 ≡ 1 = one_of_none e r in omega arith))
 
@@ -67,8 +68,8 @@ module _ (p : Parts) where
   few_of_list left e none h (reaches_pairs f r) = list_pairs e f
 
   pub stuck_list : (w left before : ℕ) (ms : List Member) → content p w ≡ Some (list ms)
-      → left + 1 ≡ before → Stuck (DenEach p ms) (ReachesEach p ms) left
-      → Stuck (Den p w) (Reaches p w) before
+      → left + 1 ≡ before → DenotesNothing (DenEach p ms) (ReachesEach p ms) left
+      → DenotesNothing (Den p w) (Reaches p w) before
   stuck_list w left before ms e h f = (
     (λ t n d. none_of_list e f.0 d),
     (λ r. let g : before + 1 ≡ left + 1 + 1 = omega arith in few_of_list left e f.1 g r),
@@ -91,16 +92,16 @@ module _ (p : Parts) where
       (subst (λ vs. ReachesPairs p vs n') (same_pairs f e) r))
 
   pub stuck_pairs_of : (w left before : ℕ) (es : List (ℕ × Member)) → content p w ≡ Some (pairs es)
-      → left + 1 ≡ before → Stuck (DenPairs p es) (ReachesPairs p es) left
-      → Stuck (Den p w) (Reaches p w) before
+      → left + 1 ≡ before → DenotesNothing (DenPairs p es) (ReachesPairs p es) left
+      → DenotesNothing (Den p w) (Reaches p w) before
   stuck_pairs_of w left before es e h f = (
     (λ t n d. none_of_pairs e f.0 d),
     (λ r. let g : before + 1 ≡ left + 1 + 1 = omega arith in few_of_pairs left e f.1 g r),
   )
 
   -- a word as a member
-  pub stuck_word : (w left : ℕ) → Stuck (Den p w) (Reaches p w) left
-      → Stuck (DenMember p (word w)) (ReachesMember p (word w)) left
+  pub stuck_word : (w left : ℕ) → DenotesNothing (Den p w) (Reaches p w) left
+      → DenotesNothing (DenMember p (word w)) (ReachesMember p (word w)) left
   stuck_word w left s = ((λ t n d. s.0 t n (den_of d)), (λ r. s.1 (reaches_of r)))
     where
       den_of : {w n : ℕ} {t : Tree} → DenMember p (word w) t n → Den p w t n
@@ -118,8 +119,9 @@ module _ (p : Parts) where
   pub word_den : {w n : ℕ} {t : Tree} → DenMember p (word w) t n → Den p w t n
   word_den (den_word d) = d
 
-  pub word_stuck : (w left : ℕ) → Stuck (DenMember p (word w)) (ReachesMember p (word w)) left
-      → Stuck (Den p w) (Reaches p w) left
+  pub word_stuck : (w left : ℕ)
+      → DenotesNothing (DenMember p (word w)) (ReachesMember p (word w)) left
+      → DenotesNothing (Den p w) (Reaches p w) left
   word_stuck w left s = ((λ t n d. s.0 t n (den_word d)), (λ r. s.1 (reaches_word r)))
 
   word_reaches : {w n : ℕ} → ReachesMember p (word w) n → Reaches p w n

@@ -6,7 +6,7 @@ use Rattle.resb_format.specs.Parts.{Parts}
 use Rattle.resb_format.specs.Content.{Member, word}
 use Rattle.resb_format.specs.Denotes.{Den, DenMember, Reaches, ReachesMember}
 use Rattle.resb_walk.specs.Inner.Frames.{Opened, Waits}
-use Rattle.resb_walk.specs.Refusals.{Stuck, Refuses, IsFault}
+use Rattle.resb_walk.specs.Refusals.{DenotesNothing, Refuses, IsFault}
 use Rattle.resb_walk.specs.declared.frame.Open.{Open}
 use Rattle.resb_walk.specs.declared.frame.Waiting.{Waiting}
 use Rattle.resb_format.specs.declared.error.ReadingError.{ReadingError}
@@ -41,7 +41,8 @@ module _ {L T : Type 0} (lists : L → List Tree → Type 0)
 
     -- the innermost collection has a fault of its own
     pub turn_stuck : (d : ReadingError) → IsFault d
-        → ((k : ℕ) → Stuck (Den p turn.place) (Reaches p turn.place) (k + (1 + turn.inner)))
+        → ((k : ℕ)
+        → DenotesNothing (Den p turn.place) (Reaches p turn.place) (k + (1 + turn.inner)))
         → Refuses (Den p root) (Reaches p root) before d
     turn_stuck d is_fault s =
         let paid : left + (turn.outer + (1 + turn.inner)) ≡ before = turn.paid in

@@ -12,7 +12,7 @@ use Rattle.resb_format.specs.Denotes.{pairs_here}
 use Rattle.resb_walk.specs.Inner.Members.{members_of, pairs_of}
 use Rattle.resb_walk.specs.Inner.Frames.{OpenedList, OpenedTable, ListWaits, TableWaits}
 use Rattle.resb_walk.specs.Inner.Frames.{Waits}
-use Rattle.resb_walk.specs.Refusals.{Stuck, Refuses}
+use Rattle.resb_walk.specs.Refusals.{DenotesNothing, Refuses}
 use Rattle.resb_walk.specs.declared.file.Members.{Members}
 use Rattle.resb_walk.specs.declared.file.Pairs.{Pairs}
 use Rattle.resb_walk.specs.declared.frame.Waiting.{Waiting}
@@ -112,7 +112,8 @@ module _ {L T : Type 0} (lists : L → List Tree → Type 0)
   -- an entry has no key
   pub table_no_key : (rest later : Pairs) (place : ℕ) (x : Member) (made : T) (w n : ℕ)
       → OpenedTable lists tables p rest made w n → pairs_of rest ≡ (place, x) ∷ pairs_of later
-      → key_at p.keys place ≡ None → (left : ℕ) → Stuck (Den p w) (Reaches p w) (left + (1 + n))
+      → key_at p.keys place ≡ None → (left : ℕ)
+      → DenotesNothing (Den p w) (Reaches p w) (left + (1 + n))
   table_no_key rest later place x made w n h e k left =
       let stands = h.stands ∙ ap (λ es. Some (pairs (h.done ++ es))) e in
       let sum : n + left + 1 ≡ left + (1 + n) = omega arith in
@@ -127,7 +128,8 @@ module _ {L T : Type 0} (lists : L → List Tree → Type 0)
   -- a member is refused
   list_stuck : (rest : Members) (made : L) (w n left before : ℕ) (x : Member)
       → ListWaits lists tables p rest made w x n → left + (1 + n) ≡ before
-      → Stuck (DenMember p x) (ReachesMember p x) left → Stuck (Den p w) (Reaches p w) before
+      → DenotesNothing (DenMember p x) (ReachesMember p x) left
+      → DenotesNothing (Den p w) (Reaches p w) before
   list_stuck rest made w n left before x h e s =
       let sum : n + left + 1 ≡ before = omega arith in
       stuck_list p w (n + left) before (h.done ++ x ∷ members_of rest) h.stands sum (
@@ -145,7 +147,8 @@ module _ {L T : Type 0} (lists : L → List Tree → Type 0)
 
   table_stuck : (rest : Pairs) (made : T) (key : List ℕ) (w n left before : ℕ) (x : Member)
       → TableWaits lists tables p rest made key w x n → left + (1 + n) ≡ before
-      → Stuck (DenMember p x) (ReachesMember p x) left → Stuck (Den p w) (Reaches p w) before
+      → DenotesNothing (DenMember p x) (ReachesMember p x) left
+      → DenotesNothing (Den p w) (Reaches p w) before
   table_stuck rest made key w n left before x h e s =
       let sum : n + left + 1 ≡ before = omega arith in
       stuck_pairs_of p w (n + left) before (h.done ++ (h.place, x) ∷ pairs_of rest) h.stands sum (

@@ -15,13 +15,14 @@ pub record IsFault (e : ReadingError) : Type 0 where
   pub not_spent : message_of e ≢ codes "resource budget spent"
 
 -- nothing is denoted, and no more resources than these are reached
-abbrev pub Stuck : {T : Type 0} → (T → ℕ → Type 0) → (ℕ → Type 0) → ℕ → Type 0
-Stuck {T} den reaches left = ((t : T) (n : ℕ) → den t n → ⊥) × (reaches (left + 1) → ⊥)
+abbrev pub DenotesNothing : {T : Type 0} → (T → ℕ → Type 0) → (ℕ → Type 0) → ℕ → Type 0
+DenotesNothing {T} den reaches left = ((t : T) (n : ℕ) → den t n → ⊥) × (reaches (left + 1) → ⊥)
 
 -- memory; or one resource more than the budget is reached; or a fault, where nothing is denoted
 abbrev pub Refuses : {T : Type 0} → (T → ℕ → Type 0) → (ℕ → Type 0) → ℕ → ReadingError → Type 0
 Refuses den reaches left e =
-    IsWantOfMemory e ⊎ ((IsSpent e × reaches (left + 1)) ⊎ (IsFault e × Stuck den reaches left))
+    IsWantOfMemory e
+    ⊎ ((IsSpent e × reaches (left + 1)) ⊎ (IsFault e × DenotesNothing den reaches left))
 
 -- a value that stands for what is denoted, and is paid for, or a refusal
 abbrev pub Answers : {X T : Type 0} → (X → T → Type 0) → (T → ℕ → Type 0) → (ℕ → Type 0) → ℕ → ℕ

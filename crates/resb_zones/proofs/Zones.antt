@@ -1,9 +1,11 @@
 -- A zone of what its entries say, and why there is none.
-use Rattle.std.proofs.Common.{ℕ, List, ◌≡◌, ◌+◌, ◌⊎◌, inl, inr, Some, None, length, refl, sym, subst, ◌∙◌}
+use Rattle.std.proofs.Common.{ℕ, List, ◌≡◌, ◌+◌, ◌⊎◌, inl, inr, Some, None, length, refl, sym}
+use Rattle.std.proofs.Common.{subst, ◌∙◌}
 use Rattle.std.specs.List.{All}
 use Rattle.resb.specs.Places.{Place}
 use Rattle.resb.specs.Sequences.{entries}
-use Rattle.resb_zones.specs.Zones.{base_name, pairs_name, ReadsNumber, IsNamed, ReadsZone, CountsZone}
+use Rattle.resb_zones.specs.Zones.{base_name, pairs_name, ReadsNumber, IsNamed, ReadsZone}
+use Rattle.resb_zones.specs.Zones.{CountsZone}
 use Rattle.resb_zones.specs.Inner.Fields.{ReadsPairs, LastSoFar, HasSeen}
 use Rattle.resb_zones.specs.declared.fields.Fields.{Fields}
 use Rattle.resb_zones.specs.declared.zone.Zone.{Zone}

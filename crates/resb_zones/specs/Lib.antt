@@ -4,3 +4,10 @@ pub mod Zones
 pub mod Offsets
 pub mod ZoneLaws
 pub mod Inner
+pub use Rattle.resb.specs.Error
+pub use Rattle.resb.specs.Leaves
+pub use Rattle.resb.specs.Others
+pub use Rattle.resb.specs.Places
+pub use Rattle.resb.specs.Reading
+pub use Rattle.resb.specs.Sequences
+pub use Rattle.resb.specs.Views

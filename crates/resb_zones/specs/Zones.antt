@@ -1,11 +1,11 @@
 -- What a zone and a table of zones are read from, and how many resources they take.
 --     IsNamed name e           the key of the entry e is this text
---     IsReadable e             the entry's key is a text, and its value is of the type that the key
--- asks for
+--     IsReadable e             the entry's key is a text, and its value is of the type that the
+--                              key asks for
 --     IsLast name es q         of the entries of this name the last one's value stands at q
 --     ReadsZone, CountsZone    a table of readable entries, with a last `base` and a last `pairs`
 --     ReadsTable, CountsTable  a map of zones by borrowed names: the last zone of an equal name
--- stands
+--                              stands
 use Rattle.std.specs.Prelude.{
   ◌≡◌,
   ◌≤◌,

@@ -58,8 +58,10 @@ impl<'de> PairView<'de> {
     #[tactic(auto, using(crate::proofs::Spelled::words_length))]
     pub fn item(&self, number: usize) -> I32Pair
         requires { number < length (pair_words self.now) / 2 }
-        ensures first { result.0 ≡ cast_signed w32 (slice_index (pair_words self.now) (2 * number)) }
-        ensures second { result.1 ≡ cast_signed w32 (slice_index (pair_words self.now) (2 * number + 1)) }
+        ensures first { let words = pair_words self.now in
+            result.0 ≡ cast_signed w32 (slice_index words (2 * number)) }
+        ensures second { let words = pair_words self.now in
+            result.1 ≡ cast_signed w32 (slice_index words (2 * number + 1)) }
     {
         let first = word_at(self.bytes, 2 * number);
         let second = word_at(self.bytes, 2 * number + 1);

@@ -6,7 +6,7 @@ use Rattle.resb_format.specs.Content as at
 use Rattle.resb_format.specs.Denotes.{Den, DenMember, Reaches, ReachesMember}
 use Rattle.resb_walk.specs.Inner.Members.{member_of}
 use Rattle.resb_walk.specs.Inner.Frames.{Opened, Waits}
-use Rattle.resb_walk.specs.Refusals.{IsFault, Stuck, Refuses}
+use Rattle.resb_walk.specs.Refusals.{IsFault, DenotesNothing, Refuses}
 use Rattle.resb_format.specs.Error.{IsWantOfMemory}
 use Rattle.resb_format.specs.declared.error.ReadingError.{ReadingError}
 use Rattle.resb_walk.specs.declared.frame.Open.{Open}
@@ -21,7 +21,7 @@ module _ {X L T : Type 0} (is : X → Tree → Type 0) (lists : L → List Tree 
   abbrev pub Steps : ℕ → ℕ → Result (Step X L T) ReadingError → Type 0
   Steps w n (Ok (Wants m f)) = Waits lists tables p f w (member_of m) n
   Steps w n (Ok (Done x)) = (t : Tree) × Den p w t (1 + n) × is x t
-  Steps w n (Err e) = IsFault e × ((k : ℕ) → Stuck (Den p w) (Reaches p w) (k + (1 + n)))
+  Steps w n (Err e) = IsFault e × ((k : ℕ) → DenotesNothing (Den p w) (Reaches p w) (k + (1 + n)))
 
   -- a member is read, up to its own members, and paid for
   abbrev pub Reads : at.Member → ℕ → ℕ → Result (Read X L T) ReadingError → Type 0

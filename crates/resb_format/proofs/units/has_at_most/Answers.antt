@@ -12,7 +12,8 @@ use Rattle.resb_format.proofs.units.has_at_most.Goals as goal
 pub loop-c-init : goal.loop-c-init
 loop-c-init c = (
   chars c.args.text.now,
-  encodes-chars c.args.text.now c.utf8.text ∙ sym c.chars-c-items.ensures.rest ∙ ap chars_rest (sym c.into_iter-c-iterator.ensures.into_iter_gives),
+  encodes-chars c.args.text.now c.utf8.text ∙ sym c.chars-c-items.ensures.rest
+      ∙ ap chars_rest (sym c.into_iter-c-iterator.ensures.into_iter_gives),
   omega arith,
 )
 
@@ -20,17 +21,43 @@ pub loop-c-preserved : goal.loop-c-preserved
 loop-c-preserved c =
     let i = c.loop-c.invariant in
     let s = cons_from_encodes i.0 _ c.in-Some.c (i.1 ∙ c.in-Some.ensures.steps.0) in
-    let e : length (flat_map encode_utf16 i.0) ≡ length (encode_utf16 c.in-Some.c ++ flat_map encode_utf16 s.0) = ap (λ l. length (flat_map encode_utf16 l)) s.1 in
-    let n : length (encode_utf16 c.in-Some.c) ≡ c.len_utf16-taken.result = unit_count c.in-Some.c c.len_utf16-taken.result c.len_utf16-taken.ensures.bmp c.len_utf16-taken.ensures.surrogate_pair in
-    (s.0, s.2, omega (arith, i.2, e, n, c.if-taken-left.false, length-append (encode_utf16 c.in-Some.c) (flat_map encode_utf16 s.0)))
+    let e : length (flat_map encode_utf16 i.0)
+    ≡ length (encode_utf16 c.in-Some.c ++ flat_map encode_utf16 s.0) =
+    ap (λ l. length (flat_map encode_utf16 l)) s.1 in
+    let n : length (encode_utf16 c.in-Some.c) ≡ c.len_utf16-taken.result =
+    unit_count c.in-Some.c c.len_utf16-taken.result c.len_utf16-taken.ensures.bmp
+    c.len_utf16-taken.ensures.surrogate_pair in (
+      s.0,
+      s.2,
+      omega (
+        arith,
+        i.2,
+        e,
+        n,
+        c.if-taken-left.false,
+        length-append (encode_utf16 c.in-Some.c) (flat_map encode_utf16 s.0),
+      ),
+    )
 
 pub returns-then-taken-left : goal.returns-then-taken-left
 returns-then-taken-left c =
     let i = c.loop-c.invariant in
     let s = cons_from_encodes i.0 _ c.in-Some.c (i.1 ∙ c.in-Some.ensures.steps.0) in
-    let e : length (flat_map encode_utf16 i.0) ≡ length (encode_utf16 c.in-Some.c ++ flat_map encode_utf16 s.0) = ap (λ l. length (flat_map encode_utf16 l)) s.1 in
-    let n : length (encode_utf16 c.in-Some.c) ≡ c.len_utf16-taken.result = unit_count c.in-Some.c c.len_utf16-taken.result c.len_utf16-taken.ensures.bmp c.len_utf16-taken.ensures.surrogate_pair in
-    too_many (length (units c.args.text.now)) c.args.most (omega (arith, i.2, e, n, c.if-taken-left.true, length-append (encode_utf16 c.in-Some.c) (flat_map encode_utf16 s.0)))
+    let e : length (flat_map encode_utf16 i.0)
+    ≡ length (encode_utf16 c.in-Some.c ++ flat_map encode_utf16 s.0) =
+    ap (λ l. length (flat_map encode_utf16 l)) s.1 in
+    let n : length (encode_utf16 c.in-Some.c) ≡ c.len_utf16-taken.result =
+    unit_count c.in-Some.c c.len_utf16-taken.result c.len_utf16-taken.ensures.bmp
+    c.len_utf16-taken.ensures.surrogate_pair in
+    too_many (length (units c.args.text.now)) c.args.most
+    (omega (
+      arith,
+      i.2,
+      e,
+      n,
+      c.if-taken-left.true,
+      length-append (encode_utf16 c.in-Some.c) (flat_map encode_utf16 s.0),
+    ))
 
 pub returns : goal.returns
 returns c =

@@ -22,11 +22,11 @@ returns-in-Array-clause-left c = λ n f e.
     ∙ ap (λ k. without k (left c.args.keys.now)) (ap (λ (l : Look). l.number) e)
     ∙ ap (λ sh. left_after sh n (left c.args.keys.now)) (c.in-Array.ensures n f e)
 
-pub returns-clause-ok : goal.returns-clause-ok
-returns-clause-ok c = λ n f e. tree_of_string _ ∙ closed_string _ _ _ (c.in-String.ensures n f e)
+pub returns-in-String-clause-ok : goal.returns-in-String-clause-ok
+returns-in-String-clause-ok c = λ n f e. tree_of_string _ ∙ closed_string _ _ _ (c.in-String.ensures n f e)
 
-pub returns-clause-left : goal.returns-clause-left
-returns-clause-left c = λ n f e.
+pub returns-in-String-clause-left : goal.returns-in-String-clause-left
+returns-in-String-clause-left c = λ n f e.
     c.drop_group-in-String.ensures.left
     ∙ ap (λ k. without k (left c.args.keys.now)) (ap (λ (l : Look). l.number) e)
     ∙ ap (λ sh. left_after sh n (left c.args.keys.now)) (c.in-String.ensures n f e)

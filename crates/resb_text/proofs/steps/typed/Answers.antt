@@ -1,5 +1,6 @@
 use Rattle.std.proofs.Common.{refl, sym}
 use Rattle.std.proofs.lemmas.Result.{err_from_is_err_and}
+use Rattle.resb_grammar.specs.Ascii as ascii
 use Rattle.resb_text.proofs.TypedLemmas.{may_stand, type_refused, head_refused, array_opened}
 use Rattle.resb_text.proofs.TypedLemmas.{table_opened, leaf_refused, leaf_added}
 use Rattle.resb_text.proofs.steps.typed.Goals as goal
@@ -7,7 +8,7 @@ use Rattle.resb_text.proofs.steps.typed.Goals as goal
 pub returns-then-not-takes_group-clause-err : goal.returns-then-not-takes_group-clause-err
 returns-then-not-takes_group-clause-err c =
     rw c.new.ensures
-    (type_refused c.args.turns.now.text c.args.groups.now c.args.at 58
+    (type_refused c.args.turns.now.text c.args.groups.now c.args.at ascii.colon
     c.is_key_place-key_place.result c.takes_group.result _ c.requires.among
     c.is_key_place-key_place.ensures (sym c.requires.byte) refl c.expected_in.ensures
     c.takes_group.ensures c.if-not-takes_group.true)

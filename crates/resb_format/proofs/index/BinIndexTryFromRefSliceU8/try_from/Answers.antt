@@ -4,21 +4,29 @@ use Rattle.resb_format.proofs.IndexSteps.{no_count, small_count, no_word, index_
 use Rattle.resb_format.proofs.index.BinIndexTryFromRefSliceU8.try_from.Goals as goal
 
 pub returns-then-bytes-lt4 : goal.returns-then-bytes-lt4
-returns-then-bytes-lt4 c = no_count c.args.bytes.now c.invalid_data.result c.if-bytes-lt4.true c.invalid_data.ensures
+returns-then-bytes-lt4 c =
+    no_count c.args.bytes.now c.invalid_data.result c.if-bytes-lt4.true c.invalid_data.ensures
 
 pub returns-then-field_count-lt5 : goal.returns-then-field_count-lt5
 returns-then-field_count-lt5 c =
-    small_count c.args.bytes.now c.word_at-field_count.result c.invalid_data-then-field_count-lt5.result c.word_at-field_count.ensures c.if-bytes-lt4.false c.if-field_count-lt5.true c.invalid_data-then-field_count-lt5.ensures
+    small_count c.args.bytes.now c.word_at-field_count.result
+    c.invalid_data-then-field_count-lt5.result c.word_at-field_count.ensures
+    c.if-bytes-lt4.false c.if-field_count-lt5.true c.invalid_data-then-field_count-lt5.ensures
 
 pub returns-then-bytes-min : goal.returns-then-bytes-min
 returns-then-bytes-min c =
-    let l : length c.args.bytes.now < 4 * min c.word_at-field_count.result 8 = omega (arith, c.min.ensures, c.if-bytes-min.true) in
-    no_word c.args.bytes.now c.word_at-field_count.result c.invalid_data-then-bytes-min.result c.word_at-field_count.ensures c.if-bytes-lt4.false c.if-field_count-lt5.false l c.invalid_data-then-bytes-min.ensures
+    let l : length c.args.bytes.now < 4 * min c.word_at-field_count.result 8 =
+    omega (arith, c.min.ensures, c.if-bytes-min.true) in
+    no_word c.args.bytes.now c.word_at-field_count.result c.invalid_data-then-bytes-min.result
+    c.word_at-field_count.ensures c.if-bytes-lt4.false c.if-field_count-lt5.false l
+    c.invalid_data-then-bytes-min.ensures
 
 pub returns : goal.returns
 returns c =
-    let l : 4 * min c.word_at-field_count.result 8 ≤ length c.args.bytes.now = omega (arith, c.min.ensures, c.if-bytes-min.false) in (
-      index_holds c.args.bytes.now c.word_at-field_count.result c.word_at-field_count.ensures c.if-bytes-lt4.false c.if-field_count-lt5.false l,
+    let l : 4 * min c.word_at-field_count.result 8 ≤ length c.args.bytes.now =
+    omega (arith, c.min.ensures, c.if-bytes-min.false) in (
+      index_holds c.args.bytes.now c.word_at-field_count.result c.word_at-field_count.ensures
+          c.if-bytes-lt4.false c.if-field_count-lt5.false l,
       record {
         field_count = c.word_at-field_count.ensures;
         keys_end = c.word_at.ensures;

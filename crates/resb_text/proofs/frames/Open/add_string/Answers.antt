@@ -2,7 +2,7 @@ use Rattle.std.proofs.Common.{ℕ, List, [], ◌∷◌, ◌++◌, sym, ◌∙◌
 use Rattle.resb_text.specs.Inner.Discovered.{Numbered, left, is_dropped_in}
 use Rattle.resb_text.specs.Inner.Frames.{Look, lists, body_of}
 use Rattle.resb_text.specs.declared.items.Member.TheVariants as members
-use Rattle.resb_text.proofs.FrameLemmas.{shows_string, shows_item}
+use Rattle.resb_text.proofs.OpenLemmas.{shows_string, shows_item}
 use Rattle.resb_text.proofs.frames.Open.add_string.Goals as goal
 
 abbrev one : List ℕ → ℕ → Numbered

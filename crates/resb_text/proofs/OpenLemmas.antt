@@ -1,0 +1,364 @@
+-- What each step does to all open groups beside their code.
+use Rattle.std.proofs.Common.{◌≡◌, ◌≢◌, ℕ, ◌+◌, ◌<◌, ◌≤◌, true, false, List, [], ◌∷◌, ◌++◌}
+use Rattle.std.proofs.Common.{length, refl, sym, ◌∙◌, ap, subst, arith}
+use Rattle.std.specs.Prelude.{map, slice_index_or}
+use Rattle.std.proofs.lemmas.Bool.{false≢true}
+use Rattle.std.proofs.lemmas.List.{map-append}
+use Rattle.std.proofs.Common.{get_or, ◌-◌, length-append}
+use Rattle.resb_text.specs.declared.frames.Body as bodies
+use Rattle.resb_text.specs.declared.items.Member.{Member as CodeMember}
+use Rattle.std.specs.Prelude.{slice_set, Some}
+use Rattle.resb_text.specs.Inner.Shown.{shown_member}
+use Rattle.resb_text.specs.Inner.Frames.{TakesComma}
+use Rattle.resb_tree.specs.Tree.{Tree, table, map_of}
+use Rattle.resb_grammar.specs.Items.{Member, string_member, group_member, Item, flagged}
+use Rattle.resb_grammar.specs.Items.{a_table, tree_in, keys_in}
+use Rattle.resb_grammar.specs.Items.{table_keys, is_pairs}
+use Rattle.resb_grammar.specs.Machine.{Body, table_body, array_body, untyped_body, Frame, with_item}
+use Rattle.resb_grammar.specs.Machine.{new_frame, shape_in, closed}
+use Rattle.resb_text.specs.Inner.Shown.{shown_pairs, shown, string_shown, group_shown, shows}
+use Rattle.resb_text.specs.Inner.Shown.{member_shown}
+use Rattle.resb_grammar.specs.Machine as machine
+use Rattle.resb_grammar.specs.Machine.{with_member}
+use Rattle.resb_text.specs.Inner.Discovered.{Numbered, without, texts, left, groups, is_dropped_in}
+use Rattle.resb_text.specs.declared.discovered.Keys.{Keys}
+use Rattle.resb_text.specs.declared.items.Item as code
+use Rattle.resb_text.specs.declared.frames.Frame as frames
+use Rattle.resb_text.specs.declared.frames.Open as opens
+use Rattle.resb_grammar.specs.Inner.Half.{half}
+use Rattle.resb_text.specs.Inner.Frames.{IsTableWhole, ClosesTo, body_of, lists}
+use Rattle.resb_text.specs.Inner.Frames.{looks, look_of, looks_of, frames_in, Look, Shows, AreOpen}
+use Rattle.resb_text.specs.Inner.Frames.{tree_shown_in, left_after, Layer, layer}
+use Rattle.resb_text.specs.Inner.Frames.{Holds, none}
+use Rattle.resb_text.proofs.KeyLemmas.{without-append, without-other}
+use Rattle.resb_text.proofs.ItemLemmas.{pairs_shown}
+use Rattle.resb_text.proofs.HoldsLemmas.{cand, holds_string, holds_item, holds_leaf, holds_new}
+use Rattle.resb_text.proofs.HoldsLemmas.{after_keeps, holds_closed, holds_root, flagged_frame}
+use Rattle.resb_text.proofs.HoldsLemmas.{holds_flag}
+use Rattle.resb_text.proofs.FrameLemmas.{same_look, Pushes, whole, tree_same, last_shown, flag_of}
+use Rattle.resb_text.proofs.FrameLemmas.{flag_code, flag_item, with_flag, with_code}
+use Rattle.resb_text.proofs.FrameLemmas.{with_member_flag, map_set_shown, set_last, shown_len}
+
+pub open_same : (k l : Keys) (limit : ℕ) (gs : List Layer)
+    → ((g : ℕ) → is_dropped_in l g ≡ is_dropped_in k g) → AreOpen k limit gs → AreOpen l limit gs
+open_same k l limit [] e x = tt
+open_same k l limit (g ∷ gs) e x = (x.0, e g.number ∙ x.1, open_same k l g.number gs e x.2)
+
+-- one item more
+pub shows_member : (c d : opens.Open) (o : machine.Open) (m : Member) (member : CodeMember)
+    → (x : Shows c o) → shown_member member false ≡ member_shown m false
+    → Pushes c.frame d.frame member → d.around.items ≡ c.around.items
+    → Holds (layer x.number (with_item m o.frame) ∷ x.around) (left d.keys)
+    → ((h : ℕ) → groups d.keys ≤ h → without h (left d.keys) ≡ left d.keys)
+    → groups d.keys ≡ groups c.keys → ((g : ℕ) → is_dropped_in d.keys g ≡ is_dropped_in c.keys g)
+    → Shows d (with_member m o)
+shows_member c d o m member x is push a holds within gs ds = record {
+  number = x.number;
+  around = x.around;
+  frame = push x.number o.frame m x.frame is;
+  outer = ap (map looks) a ∙ x.outer;
+  frames = x.frames;
+  holds = holds;
+  within = within;
+  are_open =
+      subst (λ k. AreOpen d.keys k (layer x.number (with_item m o.frame) ∷ x.around)) (sym gs)
+      (let y = open_same c.keys d.keys (groups c.keys)
+      (layer x.number o.frame ∷ x.around) ds x.are_open in
+      (y.0, y.1, y.2));
+}
+
+dropped_same : (k l : Keys) → l.is_dropped ≡ k.is_dropped → (g : ℕ)
+    → is_dropped_in l g ≡ is_dropped_in k g
+dropped_same k l e g = ap (λ ds. slice_index_or ds.items g false) e
+
+pub shows_string : (c d : opens.Open) (o : machine.Open) (member : CodeMember) (s : List ℕ)
+    → (x : Shows c o) → shown_member member false ≡ string_shown s false
+    → Pushes c.frame d.frame member → d.around.items ≡ c.around.items
+    → lists (body_of c.frame.body) ≡ true → left d.keys ≡ left c.keys ++ cand s c.frame.number ∷ []
+    → d.keys.is_dropped ≡ c.keys.is_dropped → Shows d (with_member (string_member s) o)
+shows_string c d o member s x is push a ls e ds =
+    let number : c.frame.number ≡ x.number = ap (λ (l : Look). l.number) x.frame in
+    let lists_keys : lists o.frame.body ≡ true = ap lists (sym (ap (λ (l : Look). l.body) x.frame))
+    ∙ ls in
+    let now : left d.keys ≡ left c.keys ++ cand s x.number ∷ [] = e
+    ∙ ap (λ k. left c.keys ++ cand s k ∷ []) number in
+    let same : groups d.keys ≡ groups c.keys = ap (λ v. length v.items) ds in
+    shows_member c d o (string_member s) member x is push a
+    (subst
+    (λ (cs : List Numbered). Holds
+    (layer x.number (with_item (string_member s) o.frame) ∷ x.around) cs)
+    (sym now) (holds_string x.number o.frame x.around s (left c.keys) lists_keys x.holds))
+    (λ h le. ap (without h) now ∙ without-append h (left c.keys) (cand s x.number ∷ [])
+    ∙ ap (λ cs. cs ++ without h (cand s x.number ∷ []))
+    (x.within h (subst (λ k. k ≤ h) same le))
+    ∙ ap (λ cs. left c.keys ++ cs)
+    (without-other h x.number s (let lt = x.are_open.0 in omega arith))
+    ∙ sym now)
+    same (dropped_same c.keys d.keys ds)
+
+pub shows_item : (c d : opens.Open) (o : machine.Open) (member : CodeMember) (s : List ℕ)
+    → (x : Shows c o) → shown_member member false ≡ string_shown s false
+    → Pushes c.frame d.frame member → d.around.items ≡ c.around.items
+    → lists (body_of c.frame.body) ≡ false → d.keys ≡ c.keys
+    → Shows d (with_member (string_member s) o)
+shows_item c d o member s x is push a ls e =
+    shows_member c d o (string_member s) member x is push a
+    (subst (λ (k : Keys). Holds (layer x.number (with_item (string_member s) o.frame) ∷ x.around)
+    (left k)) (sym e)
+    (holds_item x.number o.frame x.around s (left c.keys) (array_alone o.frame.body
+    (ap lists (sym (ap (λ (l : Look). l.body) x.frame)) ∙ ls)) x.holds))
+    (subst (λ (k : Keys). (h : ℕ) → groups k ≤ h → without h (left k) ≡ left k) (sym e) x.within)
+    (ap groups e) (λ g. ap (λ k. is_dropped_in k g) e)
+  where
+    array_alone : (k : Body) → lists k ≡ false → k ≡ array_body
+    array_alone array_body h = refl
+    array_alone table_body h = absurd (false≢true (sym h))
+    array_alone untyped_body h = absurd (false≢true (sym h))
+
+-- a group without keys
+pub shows_leaf : (c d : opens.Open) (o : machine.Open) (member : CodeMember) (t : Tree)
+    → (x : Shows c o) → shown_member member false ≡ group_shown t true false
+    → Pushes c.frame d.frame member → d.around.items ≡ c.around.items → d.keys ≡ c.keys
+    → Shows d (with_member (group_member t []) o)
+shows_leaf c d o member t x is push a e =
+    shows_member c d o (group_member t []) member x is push a
+    (subst (λ (k : Keys). Holds (layer x.number (with_item (group_member t []) o.frame) ∷ x.around)
+    (left k)) (sym e) (holds_leaf x.number o.frame x.around t (left c.keys) x.holds))
+    (subst (λ (k : Keys). (h : ℕ) → groups k ≤ h → without h (left k) ≡ left k) (sym e) x.within)
+    (ap groups e) (λ g. ap (λ k. is_dropped_in k g) e)
+
+-- the root, without items yet
+pub shows_root : (c : opens.Open) (title : machine.Title)
+    → looks c.frame ≡ look_of (layer c.frame.number (new_frame table_body))
+    → c.frame.number < groups c.keys → is_dropped_in c.keys c.frame.number ≡ false
+    → c.around.items ≡ [] → left c.keys ≡ [] → Shows c (machine.at_root title)
+shows_root c title e n d a l = record {
+  number = c.frame.number;
+  around = [];
+  frame = e;
+  outer = ap (map looks) a;
+  frames = refl;
+  holds =
+      subst (λ (cs : List Numbered). Holds (layer c.frame.number (new_frame table_body) ∷ []) cs)
+      (sym l) (holds_new c.frame.number table_body [] [] none (λ h lt. refl));
+  within = λ h lt. ap (without h) l ∙ sym l;
+  are_open = (n, d, tt);
+}
+
+-- an open group within
+pub shows_open : (c d : opens.Open) (o : machine.Open) (b : bodies.Body) → (x : Shows c o)
+    → looks d.frame ≡ look_of (layer (groups c.keys) (new_frame (body_of b)))
+    → d.around.items ≡ c.around.items ++ c.frame ∷ []
+    → left d.keys ≡ left c.keys → groups d.keys ≡ groups c.keys + 1
+    → ((g : ℕ) → is_dropped_in d.keys g ≡ is_dropped_in c.keys g)
+    → is_dropped_in c.keys (groups c.keys) ≡ false → Shows d (machine.within (body_of b) o)
+shows_open c d o b x e a l g ds fresh = record {
+  number = groups c.keys;
+  around = layer x.number o.frame ∷ x.around;
+  frame = e;
+  outer =
+      ap (map looks) a ∙ map-append looks c.around.items (c.frame ∷ [])
+      ∙ ap (λ ls. ls ++ looks c.frame ∷ []) x.outer ∙ ap (λ e. looks_of x.around ++ e ∷ []) x.frame;
+  frames = ap (λ fs. o.frame ∷ fs) x.frames;
+  holds =
+      subst
+      (λ (cs : List Numbered). Holds
+      (layer (groups c.keys) (new_frame (body_of b)) ∷ layer x.number o.frame ∷ x.around) cs)
+      (sym l)
+      (holds_new (groups c.keys) (body_of b) (layer x.number o.frame ∷ x.around)
+      (left c.keys) x.holds x.within);
+  within = λ h le. ap (without h) l ∙ x.within h (omega (arith, g)) ∙ sym l;
+  are_open = (
+    omega (arith, g),
+    ds (groups c.keys) ∙ fresh,
+    open_same c.keys d.keys (groups c.keys) (layer x.number o.frame ∷ x.around) ds x.are_open,
+  );
+}
+
+snoc_same : (xs ys : List Look) (x y : Look) → xs ++ x ∷ [] ≡ ys ++ y ∷ [] → (xs ≡ ys) × (x ≡ y)
+snoc_same [] [] x y e = (refl, cc)
+snoc_same [] (b ∷ []) x y e = cc
+snoc_same [] (b ∷ c ∷ ys) x y e = cc
+snoc_same (a ∷ []) [] x y e = cc
+snoc_same (a ∷ c ∷ xs) [] x y e = cc
+snoc_same (a ∷ xs) (b ∷ ys) x y e =
+    let p : a ≡ b = cc in
+    let q : xs ++ x ∷ [] ≡ ys ++ y ∷ [] = cc in
+    let r = snoc_same xs ys x y q in
+    (ap (λ z. z ∷ xs) p ∙ ap (λ zs. b ∷ zs) r.0, r.1)
+
+-- the innermost group is closed
+pub shows_close : (c d : opens.Open) (o : machine.Open) (outer : frames.Frame) (member : CodeMember)
+    (t : Tree)
+    → (x : Shows c o) → IsTableWhole o.frame
+    → c.around.items ≡ d.around.items ++ outer ∷ [] → Pushes outer d.frame member
+    → shown_member member false ≡ group_shown t true false
+    → ((n : ℕ) (f : Frame) → looks c.frame ≡ look_of (layer n f)
+    → t ≡ tree_shown_in (shape_in f.body f.items) (map shown c.frame.items.items))
+    → ((n : ℕ) (f : Frame) → looks c.frame ≡ look_of (layer n f)
+    → left d.keys ≡ left_after (shape_in f.body f.items) n (left c.keys))
+    → groups d.keys ≡ groups c.keys
+    → ((g : ℕ) → g ≢ c.frame.number → is_dropped_in d.keys g ≡ is_dropped_in c.keys g)
+    → ClosesTo d o o.around
+shows_close c d o outer member t x whole a push is tree l g ds =
+    subst (λ (fs : List Frame). ClosesTo d o fs) x.frames (go x.around x.outer x.holds x.are_open)
+  where
+    number_same : c.frame.number ≡ x.number
+    number_same = ap (λ (k : Look). k.number) x.frame
+
+    tree_is : t ≡ tree_in (shape_in o.frame.body o.frame.items) o.frame.items
+    tree_is =
+        tree x.number o.frame x.frame
+        ∙ ap (tree_shown_in (shape_in o.frame.body o.frame.items))
+        (ap (λ (k : Look). k.items) x.frame)
+        ∙ tree_same o.frame.body o.frame.items (shape_in o.frame.body o.frame.items) refl whole
+
+    left_is : left d.keys ≡ left_after (shape_in o.frame.body o.frame.items) x.number (left c.keys)
+    left_is = l x.number o.frame x.frame
+
+    open_outer : (limit : ℕ) (gs : List Layer) → limit ≤ x.number → AreOpen c.keys limit gs
+        → AreOpen d.keys limit gs
+    open_outer limit [] lt k = tt
+    open_outer limit (h ∷ gs) lt k = (
+      k.0,
+      ds h.number (let m = k.0 in omega (arith, m, number_same)) ∙ k.1,
+      open_outer h.number gs (let m = k.0 in omega (arith, m)) k.2,
+    )
+
+    go : (gs : List Layer) → map looks c.around.items ≡ looks_of gs
+        → Holds (layer x.number o.frame ∷ gs) (left c.keys)
+        → AreOpen c.keys (groups c.keys) (layer x.number o.frame ∷ gs) → ClosesTo d o (frames_in gs)
+    go [] e holds open_now = tt
+    go (h ∷ gs) e holds open_now =
+        let parts = snoc_same (map looks d.around.items) (looks_of gs) (looks outer) (look_of h)
+        (sym (ap (map looks) a ∙ map-append looks d.around.items (outer ∷ [])) ∙ e) in
+        let inner = open_now.2 in
+        let m = inner.0 in
+        let top = open_now.0 in
+        let rest = open_outer x.number (h ∷ gs) (omega arith) inner in
+        record {
+          number = h.number;
+          around = gs;
+          frame =
+              push h.number h.frame (machine.closed o.frame) parts.1
+              (is ∙ ap (λ u. group_shown u true false) tree_is);
+          outer = parts.0;
+          frames = refl;
+          holds =
+              subst
+              (λ (cs : List Numbered). Holds
+              (layer h.number (with_item (closed o.frame) h.frame) ∷ gs) cs)
+              (sym left_is)
+              (holds_closed x.number h.number o.frame h.frame gs (left c.keys) m holds);
+          within =
+              λ k le. ap (without k) left_is
+              ∙ after_keeps (shape_in o.frame.body o.frame.items) x.number k (left c.keys)
+              (x.within k (omega (arith, g)))
+              ∙ sym left_is;
+          are_open = (omega (arith, m, top, g), rest.1, rest.2);
+        }
+
+-- the root is closed
+pub root_tree : (c : opens.Open) (o : machine.Open) → Shows c o → is_pairs o.frame.items ≡ true
+    → table (map_of (shown_pairs (map shown c.frame.items.items))) ≡ tree_in a_table o.frame.items
+root_tree c o x h =
+    ap (λ ys. table (map_of (shown_pairs ys))) (ap (λ (k : Look). k.items) x.frame)
+    ∙ ap (λ ps. table (map_of ps)) (pairs_shown o.frame.items h)
+
+pub root_keys : (c : opens.Open) (o : machine.Open) → Shows c o → o.around ≡ []
+    → o.frame.body ≡ table_body → texts (left c.keys) ≡ keys_in a_table o.frame.items
+root_keys c o x e b = go x.around (x.frames ∙ e) x.holds
+  where
+    go : (gs : List Layer) → frames_in gs ≡ [] → Holds (layer x.number o.frame ∷ gs) (left c.keys)
+        → texts (left c.keys) ≡ table_keys o.frame.items
+    go [] h holds = holds_root x.number o.frame (left c.keys) b holds
+    go (g ∷ gs) h holds = cc
+
+not_alternating : (m : Member) (xs : List Item) → half (flagged m ∷ xs) ≡ false
+not_alternating (string_member s) xs = refl
+not_alternating (group_member t ks) xs = refl
+
+pub shows_comma : (c d : opens.Open) (o : machine.Open) (x y : code.Item) (k : ℕ) → (s : Shows c o)
+    → 0 < length c.frame.items.items → k ≡ length c.frame.items.items - 1
+    → x ≡ get_or c.frame.items.items k x → x.comma ≡ false → y ≡ get_or c.frame.items.items k y
+    → d.frame.body ≡ c.frame.body → d.frame.number ≡ c.frame.number
+    → d.frame.items.items ≡ slice_set c.frame.items.items k
+    (record { member = y.member; comma = true })
+    → d.frame.alternates ≡ false → d.around.items ≡ c.around.items → d.keys ≡ c.keys
+    → TakesComma d o
+shows_comma c d o x y k s lt last xs no_comma ys b n i t a e = go o.frame.items refl
+  where
+    items_same : map shown c.frame.items.items ≡ shows o.frame.items
+    items_same = ap (λ (l : Look). l.items) s.frame
+
+    go : (ws : List Item) → o.frame.items ≡ ws
+        → (u : machine.Open) × (machine.with_comma o ws ≡ Some (machine.inside u)) × Shows d u
+    go [] w = absurd (empty c.frame.items.items lt (items_same ∙ ap shows w))
+      where
+        empty : (zs : List code.Item) → 0 < length zs → map shown zs ≡ [] → ⊥
+        empty [] p q = omega arith
+        empty (z ∷ zs) p q = cc
+    go (v ∷ vs) w =
+        let seen : map shown c.frame.items.items ≡ shows
+        (record { member = v.member; flag = v.flag } ∷ vs) = items_same
+        ∙ ap shows w in
+        let is_x : shown x ≡ member_shown v.member v.flag = last_shown c.frame.items.items vs
+        v.member v.flag x seen (xs
+        ∙ ap (λ j. get_or c.frame.items.items j x) last) in
+        let is_y : shown y ≡ member_shown v.member v.flag = last_shown c.frame.items.items vs
+        v.member v.flag y seen (ys
+        ∙ ap (λ j. get_or c.frame.items.items j y) last) in
+        let unflagged : v.flag ≡ false = sym (flag_item v.member v.flag) ∙ ap flag_of (sym is_x)
+        ∙ flag_code x.member x.comma ∙ no_comma in
+        let made : shown
+        (record { member = y.member; comma = true }) ≡ member_shown v.member true = sym
+        (with_code y.member y.comma)
+        ∙ ap with_flag is_y ∙ with_member_flag v.member v.flag in
+        let long : length (shows vs ++ member_shown v.member v.flag ∷ []) ≡ length
+        (shows vs) + 1 = length-append (shows vs) (member_shown v.member v.flag ∷ []) in
+        let size : length c.frame.items.items ≡ length
+        (shows vs ++ member_shown v.member v.flag ∷ []) = sym
+        (shown_len c.frame.items.items)
+        ∙ ap length seen in
+        let at : k ≡ length (shows vs) = omega (arith, last, long, size) in (
+          record { title = o.title; frame = flagged_frame o.frame v.member vs; around = o.around },
+          ap (λ f. machine.unless f (machine.inside (record {
+            title = o.title;
+            frame = flagged_frame o.frame v.member vs;
+            around = o.around;
+          }))) unflagged,
+          record {
+            number = s.number;
+            around = s.around;
+            frame =
+                same_look (looks d.frame)
+                (look_of (layer s.number (flagged_frame o.frame v.member vs)))
+                (ap body_of b ∙ ap (λ (l : Look). l.body) s.frame)
+                (ap (map shown) i
+                ∙ map_set_shown c.frame.items.items k
+                (record { member = y.member; comma = true })
+                ∙ ap (λ zs. slice_set zs k
+                (shown (record { member = y.member; comma = true }))) seen
+                ∙ ap (λ j. slice_set (shows vs ++ member_shown v.member v.flag ∷ []) j
+                (shown (record { member = y.member; comma = true }))) at
+                ∙ set_last (shows vs) (member_shown v.member v.flag)
+                (shown (record { member = y.member; comma = true }))
+                ∙ ap (λ z. shows vs ++ z ∷ []) made)
+                (t ∙ sym (not_alternating v.member vs))
+                (n ∙ ap (λ (l : Look). l.number) s.frame);
+            outer = ap (map looks) a ∙ s.outer;
+            frames = s.frames;
+            holds =
+                subst (λ (q : Keys). Holds
+                (layer s.number (flagged_frame o.frame v.member vs) ∷ s.around)
+                (left q)) (sym e) (holds_flag s.number o.frame s.around
+                (left c.keys) v.member v.flag vs w s.holds);
+            within =
+                subst (λ (q : Keys). (h : ℕ) → groups q ≤ h → without h (left q) ≡ left q)
+                (sym e) s.within;
+            are_open =
+                subst (λ (q : Keys). AreOpen q (groups q) (layer s.number
+                (flagged_frame o.frame v.member vs) ∷ s.around)) (sym e) (let z = s.are_open in
+                (z.0, z.1, z.2));
+          },
+        )

@@ -7,8 +7,7 @@ use Rattle.resb_pool.specs.Inner.Extends.{Extends}
 use Rattle.resb_pool.specs.declared.node.Node.{Node}
 use Rattle.resb_pool.specs.Inner.Cuts.{key, IsCut, IsShared}
 use Rattle.resb_pool.specs.Inner.Nodes.{suffix, path, child, IsTrie}
-use Rattle.resb_pool.specs.Inner.Changes.{HasText}
-use Rattle.resb_pool.proofs.Cut.{cut_more, cut_on, cut_from, cut_back, cut_at, cut_taken, cut_deeper, cut_extends, cut_whole_on}
+use Rattle.resb_pool.proofs.Cut.{cut_more, cut_on, cut_from, cut_at, cut_taken, cut_deeper, cut_extends, cut_whole_on}
 
 -- The text t and node `below` both end with `tail`, which is the suffix of the node above and the character before it.
 pub record IsDown (ms : List Node) (t before : List ℕ) (at first below : ℕ) : Type 0 where
@@ -82,64 +81,3 @@ module _ (ms : List Node) (t before : List ℕ) (at first below : ℕ) (d : IsDo
 
     pub rest_smaller : (rest : List ℕ) → IsCut rest before (encode_utf8 first) → length x < length rest
     rest_smaller rest k = omega (arith, ap length k.is, length-append before (encode_utf8 first), ap length h.left.is, length-append x h.tail, length-encode first, len_utf8_bounds first)
-
--- a text that was put in
-pub record IsFound (ms : List Node) (t rest : List ℕ) (at first : ℕ) : Type 0 where
-  pub below : ℕ
-  pub is : child ms at first ≡ Some below
-  pub within : below < length ms
-  pub rest' : List ℕ
-  pub cut : IsCut t rest' (suffix ms below)
-  pub smaller : length rest' < length rest
-
-pub found : (ms : List Node) (t rest before : List ℕ) (at first : ℕ) → IsTrie ms → HasText ms t → at < length ms → IsCut t rest (suffix ms at) → IsCut rest before (encode_utf8 first)
-    → IsScalar first → IsFound ms t rest at first
-found ms t rest before at first m h l k b s =
-    let on : Extends (path ms h.place) (path ms at ++ first ∷ []) = subst (λ z. Extends (key z) (path ms at ++ first ∷ [])) (sym h.is) (cut_on t rest before (suffix ms at) first k b s) in
-    let r = m.shape.reach at h.place first l h.within on in
-    let j = m.shape.step at first r.0 l r.1 in
-    let u : IsUtf8 t = subst IsUtf8 h.is (m.texts h.place h.within) in
-    let w = cut_back t (suffix ms r.0) u (m.texts r.0 j.0) (subst (λ z. Extends (key z) (path ms r.0)) h.is r.2) in
-    let v = cut_from (suffix ms r.0) (suffix ms at) first (m.texts r.0 j.0) (m.texts at l) s j.1 in
-    record {
-      below = r.0;
-      is = r.1;
-      within = j.0;
-      rest' = w.0;
-      cut = w.1;
-      smaller = omega (
-        arith,
-        ap length w.1.is,
-        ap length k.is,
-        ap length v.1.is,
-        length-append w.0 (suffix ms r.0),
-        length-append rest (suffix ms at),
-        length-append v.0 (encode_utf8 first ++ suffix ms at),
-        length-append (encode_utf8 first) (suffix ms at),
-        length-encode first,
-        len_utf8_bounds first,
-      );
-    }
-
--- the same, at the child that was read
-pub record IsChildFound (ms : List Node) (t rest : List ℕ) (below : ℕ) : Type 0 where
-  pub within : below < length ms
-  pub fits : length (suffix ms below) ≤ length t
-  pub taken : (let n = length t - length (suffix ms below) in IsCut t (take n t) (drop n t) × (n ≤ length t))
-  pub cut : IsCut t (take (length t - length (suffix ms below)) t) (suffix ms below)
-  pub smaller : length (take (length t - length (suffix ms below)) t) < length rest
-
-pub found_child : (ms : List Node) (t rest : List ℕ) (at first below : ℕ) → IsFound ms t rest at first → child ms at first ≡ Some below → IsChildFound ms t rest below
-found_child ms t rest at first below f e =
-    let same : Some f.below ≡ Some below = sym f.is ∙ e in
-    let q : f.below ≡ below = cc in
-    let k : IsCut t f.rest' (suffix ms below) = subst (λ z. IsCut t f.rest' (suffix ms z)) q f.cut in
-    let n : length t - length (suffix ms below) ≡ length f.rest' = omega (arith, ap length k.is, length-append f.rest' (suffix ms below)) in
-    let w = cut_at t f.rest' (suffix ms below) (length t - length (suffix ms below)) k n in
-    record {
-      within = subst (λ z. z < length ms) q f.within;
-      fits = omega (arith, ap length k.is, length-append f.rest' (suffix ms below));
-      taken = cut_taken t f.rest' (suffix ms below) (length t - length (suffix ms below)) k n;
-      cut = subst (λ z. IsCut t z (suffix ms below)) (sym w.0) k;
-      smaller = omega (arith, f.smaller, ap length w.0);
-    }

@@ -1,14 +1,14 @@
 -- Each text of a plan is read back where it stands.
-use Rattle.std.proofs.Common.{◌≡◌, ℕ, ◌+◌, ◌<◌, ◌≤◌, List, [], ◌∷◌, ◌++◌, length, Bool, true, false, cond, Option, Some, None, MatchOption, refl, sym, ◌∙◌, ap, subst, arith, append_assoc, append-nil, length-append, inl, inr}
+use Rattle.std.proofs.Common.{◌≡◌, ℕ, ◌+◌, ◌<◌, ◌≤◌, List, [], ◌∷◌, ◌++◌, length, Bool, true, false, cond, Option, Some, MatchOption, refl, sym, ◌∙◌, ap, subst, arith, append_assoc, length-append, inl}
 use Rattle.std.specs.List.{All, Contains, sum_by, flat_map}
 use Rattle.std.specs.Str.{IsUtf8}
 use Rattle.std.proofs.lemmas.List.Elements.{All-contains}
 use Rattle.std.proofs.lemmas.List.Sums.{sum_by-cons, sum_by-append}
 use Rattle.resb_format.specs.Strings.{text_at}
 use Rattle.resb_format.specs.Units.{units, marker, size, is_unmarked, length_marker}
-use Rattle.resb_pool.specs.Records.{IsRecord, EndsWith}
+use Rattle.resb_pool.specs.Records.{IsRecord}
 use Rattle.resb_pool.specs.Container.{IsContainer}
-use Rattle.resb_pool.specs.Pool.{LiesIn, IsPool, record_units, ClosesAt, Off, off_empty, off_within}
+use Rattle.resb_pool.specs.Pool.{record_units, ClosesAt, Off, off_empty, off_within}
 use Rattle.resb_pool.specs.Plan.{IsPlan}
 use Rattle.resb_pool.proofs.Best.{extends_not_after}
 use Rattle.resb_pool.proofs.Whole.{ends_extends}

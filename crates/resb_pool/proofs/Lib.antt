@@ -1,6 +1,10 @@
 pub mod Zeros
 pub mod Utf16
 pub mod TextLoops
+pub mod Distinct
+pub mod Sizes
+pub mod Interning
+pub mod Sums
 pub mod ReadBack
 pub mod PlacingLemmas
 pub mod SharingLemmas

@@ -1,14 +1,14 @@
 -- Strings have one pool, and each text one place in it.
-use Rattle.std.proofs.Common.{◌≡◌, ℕ, zero, suc, ◌+◌, ◌<◌, ◌≤◌, List, [], ◌∷◌, ◌++◌, length, slice_index_or, Option, Some, None, MatchOption, ◌⊎◌, inl, inr, nat_cmp, refl, sym, ◌∙◌, ap, subst, arith}
+use Rattle.std.proofs.Common.{◌≡◌, ℕ, zero, suc, ◌+◌, ◌<◌, List, [], ◌∷◌, ◌++◌, length, slice_index_or, Option, Some, None, MatchOption, ◌⊎◌, inl, inr, nat_cmp, refl, sym, ◌∙◌, ap, subst, arith}
 use Rattle.std.specs.List.{All, Contains, sum_by, flat_map}
 use Rattle.std.specs.Str.{IsUtf8}
 use Rattle.std.specs.Ordering.{ordering_reverse}
 use Rattle.std.specs.Cmp.Lexicographic.{slice_cmp}
-use Rattle.std.specs.declared.cmp.Ordering.TheVariants.{Less, Equal, Greater}
+use Rattle.std.specs.declared.cmp.Ordering.TheVariants.{Less}
 use Rattle.std.proofs.lemmas.Cmp.{nat_list_cmp_total}
-use Rattle.resb_format.specs.Units.{units, marker, size}
-use Rattle.resb_pool.specs.Records.{IsRecord, IsRecords, IsDistinct}
-use Rattle.resb_pool.specs.Pool.{LiesIn, SizeIn, size_none, size_here, size_elsewhere, Saved, Precedes, fewer_units, saves_more, smaller_bytes, record_units, IsPool, ClosesAt, Off, off_empty, off_within}
+use Rattle.resb_format.specs.Units.{size}
+use Rattle.resb_pool.specs.Records.{IsDistinct}
+use Rattle.resb_pool.specs.Pool.{SizeIn, size_none, size_here, size_elsewhere, Saved, Precedes, fewer_units, saves_more, smaller_bytes, record_units, ClosesAt, Off, off_empty, off_within}
 use Rattle.resb_pool.specs.Plan.{IsPlan}
 use Rattle.resb_pool.proofs.SharingLemmas.{one_container}
 

@@ -1,8 +1,11 @@
 -- Records in order: distinct texts stay distinct, and each record precedes the next. Where records close.
-use Rattle.std.proofs.Common.{◌≡◌, ℕ, zero, suc, ◌+◌, ◌<◌, ◌≤◌, List, [], ◌∷◌, ◌++◌, length, get_or, take, drop, Bool, true, false, cond, Option, Some, None, unwrap_or, refl, sym, ◌∙◌, ap, subst, arith, length-append, true≢false, inl, inr, ◌⊎◌, append_assoc, append-nil}
+use Rattle.std.proofs.Common.{◌≡◌, ℕ, zero, suc, ◌+◌, ◌<◌, ◌≤◌, List, [], ◌∷◌, ◌++◌, length, get_or, take, drop, Bool, true, false, cond, refl, sym, ◌∙◌, ap, subst, arith, length-append, true≢false, inl, inr, ◌⊎◌, append_assoc, append-nil, get_or-set_other, get_or-set_same}
 use Rattle.std.specs.List.{Contains, sum_by, flat_map}
 use Rattle.std.specs.List.Sorted.{IsPermutation}
-use Rattle.std.specs.Map.{update}
+use Rattle.std.specs.Prelude.{slice_set, replicate}
+use Rattle.std.proofs.Math.Nat.{eq-or-lt_of_le}
+use Rattle.std.proofs.lemmas.Bool.{cases_eq}
+use Rattle.std.proofs.lemmas.List.{get_or_default, get_or-take, length-take-le, map_more}
 use Rattle.std.specs.Str.{bytes_eq}
 use Rattle.std.specs.Cmp.Lexicographic.{slice_cmp, bytes_decides, nat_list_cmp_total}
 use Rattle.std.specs.Ordering.{nat_cmp, ordering_then, ordering_reverse, is_lt}
@@ -10,21 +13,16 @@ use Rattle.std.specs.declared.cmp.Ordering.{Ordering}
 use Rattle.std.specs.declared.cmp.Ordering.TheVariants.{Less, Equal, Greater}
 use Rattle.std.specs.FinMap.{slice_cmp-IsAntisymmetric, nat_cmp-IsAntisymmetric}
 use Rattle.std.proofs.lemmas.Cmp.{ranked, by_ranked}
-use Rattle.std.proofs.lemmas.List.{map_more}
-use Rattle.std.proofs.lemmas.List.Elements.{Contains-push_cases}
 use Rattle.std.proofs.lemmas.List.Sums.{sum_by-cons, sum_by-append}
 use Rattle.std.proofs.lemmas.List.Sorted.{sum_by-IsPermutation, Contains-permutation, IsPermutation-sym}
 use Rattle.resb_format.specs.Units.{units, marker, size}
 use Rattle.resb_pool.specs.Records.{IsDistinct, IsRecords}
-use Rattle.resb_pool.specs.Pool.{SizeIn, Saved, Precedes, fewer_units, saves_more, smaller_bytes, record_units, ClosesAt}
-use Rattle.resb_pool.specs.Inner.Placing.{IsMeasuredBy, record_texts, record_cmp, ClosesIn}
+use Rattle.resb_pool.specs.Pool.{Saved, Precedes, fewer_units, saves_more, smaller_bytes, record_units, ClosesAt}
+use Rattle.resb_pool.specs.Inner.Placing.{AreIndexed, AreEnds, record_texts, record_cmp}
 use Rattle.resb_pool.specs.declared.records.Record.{Record}
 
 abbrev Texts : Type 0
 Texts = List (List ℕ)
-
-abbrev pub measured_by : (List ℕ → Option ℕ) → Record → Type 0
-measured_by at r = IsMeasuredBy (unwrap_or (at r.text.now) 0) r
 
 -- how often x stands among the texts
 abbrev one : List ℕ → List ℕ → ℕ
@@ -97,40 +95,38 @@ text_at_index (r ∷ rs) (suc k) d h = text_at_index rs k d (omega arith)
 cmp_cases : (x y : ℕ) → ((nat_cmp x y ≡ Less) × (x < y)) ⊎ (((nat_cmp x y ≡ Equal) × (x ≡ y)) ⊎ ((nat_cmp x y ≡ Greater) × (y < x)))
 cmp_cases x y = by_ranked (x < y) (x ≡ y) (y < x) (nat_cmp x y) (ranked x y (nat_cmp x y) refl) (λ e h. inl (e, h)) (λ e h. inr (inl (e, h))) (λ e h. inr (inr (e, h)))
 
--- a text that is not after another one is before it, or the same
-text_order : (s t : List ℕ) → is_lt (slice_cmp nat_cmp t s) ≡ false → (s ≡ t → ⊥) → slice_cmp nat_cmp s t ≡ Less
-text_order s t h ne = by (slice_cmp nat_cmp t s) refl
+-- a text that is not after another one, by an order that begins with that of texts, is before it, or the same
+text_order : (s t : List ℕ) (z : Ordering) → is_lt (ordering_then (slice_cmp nat_cmp t s) z) ≡ false → (s ≡ t → ⊥) → slice_cmp nat_cmp s t ≡ Less
+text_order s t z h ne = by (slice_cmp nat_cmp t s) refl
   where
     by : (o : Ordering) → slice_cmp nat_cmp t s ≡ o → slice_cmp nat_cmp s t ≡ Less
-    by Less e = absurd (true≢false (sym (ap is_lt e) ∙ h))
+    by Less e = absurd (true≢false (sym (ap (λ o. is_lt (ordering_then o z)) e) ∙ h))
     by Equal e = absurd (ne (sym (slice_cmp-IsAntisymmetric nat_cmp-IsAntisymmetric t s e)))
     by Greater e = nat_list_cmp_total.antisymm s t ∙ ap ordering_reverse e
 
 -- of two records in order, the first precedes
-module _ (S : Texts) (at : List ℕ → Option ℕ) (sized : (q : List ℕ) → SizeIn S q S (unwrap_or (at q) 0)) (x y : Record) (mx : measured_by at x) (my : measured_by at y) where
-  saves : (r : Record) → measured_by at r → Saved S r.text.now r.saved.0
-  saves r m = subst (SizeIn S r.text.now S) (sym m.saved_is) (sized r.text.now)
-
+module _ (S : Texts) (x y : Record) (ux : x.unit_count ≡ length (units x.text.now)) (uy : y.unit_count ≡ length (units y.text.now))
+    (sx : Saved S x.text.now x.saved.0) (sy : Saved S y.text.now y.saved.0) where
   pub in_order : is_lt (record_cmp y x) ≡ false → (x.text.now ≡ y.text.now → ⊥) → Precedes S x.text.now y.text.now
   in_order h ne = elim (cmp_cases y.unit_count x.unit_count) [
     | inl l ↦ absurd (true≢false (sym (ap (λ o. is_lt (ordering_then o later)) l.0) ∙ h))
-    | inr (inr g) ↦ fewer_units (omega (arith, mx.units_is, my.units_is, g.1))
+    | inr (inr g) ↦ fewer_units (omega (arith, ux, uy, g.1))
     | inr (inl e) ↦
-        (let units_same : length (units x.text.now) ≡ length (units y.text.now) = omega (arith, mx.units_is, my.units_is, e.1) in
+        (let units_same : length (units x.text.now) ≡ length (units y.text.now) = omega (arith, ux, uy, e.1) in
         let h2 : is_lt later ≡ false = sym (ap (λ o. is_lt (ordering_then o later)) e.0) ∙ h in
         elim (cmp_cases x.saved.0 y.saved.0) [
           | inl l ↦ absurd (true≢false (sym (ap (λ o. is_lt (ordering_then o last)) l.0) ∙ h2))
-          | inr (inr g) ↦ saves_more x.saved.0 y.saved.0 units_same (saves x mx) (saves y my) g.1
-          | inr (inl f) ↦ smaller_bytes x.saved.0 units_same (saves x mx) (subst (Saved S y.text.now) (sym f.1) (saves y my))
-              (text_order x.text.now y.text.now (sym (ap (λ o. is_lt (ordering_then o last)) f.0) ∙ h2) ne)
+          | inr (inr g) ↦ saves_more x.saved.0 y.saved.0 units_same sx sy g.1
+          | inr (inl f) ↦ smaller_bytes x.saved.0 units_same sx (subst (Saved S y.text.now) (sym f.1) sy)
+              (text_order x.text.now y.text.now (nat_cmp y.index x.index) (sym (ap (λ o. is_lt (ordering_then o last)) f.0) ∙ h2) ne)
         ])
   ]
     where
       last : Ordering
-      last = slice_cmp nat_cmp y.text.now x.text.now
+      last = ordering_then (slice_cmp nat_cmp y.text.now x.text.now) (nat_cmp y.index x.index)
 
       later : Ordering
-      later = ordering_then (nat_cmp x.saved.0 y.saved.0) (slice_cmp nat_cmp y.text.now x.text.now)
+      later = ordering_then (nat_cmp x.saved.0 y.saved.0) last
 
 -- places of closing zeros
 one_long : length {A = ℕ} (0 ∷ []) ≡ 1
@@ -148,20 +144,64 @@ texts-split [] i d h = absurd (omega arith)
 texts-split (r ∷ rs) zero d h = refl
 texts-split (r ∷ rs) (suc i) d h = ap (λ l. r.text.now ∷ l) (texts-split rs i d (omega arith))
 
-pub ends_put : (Q D E : Texts) (t : List ℕ) (at with : List ℕ → Option ℕ) (k : ℕ) → E ≡ D ++ t ∷ [] → ((q : List ℕ) → ClosesIn Q D q (at q)) → ((q : List ℕ) → with q ≡ update bytes_eq at t (Some k) q) → ClosesAt Q t k → (q : List ℕ) → ClosesIn Q E q (with q)
-ends_put Q D E t at with k e h u c q = subst (ClosesIn Q E q) (sym (u q)) (by (bytes_eq t q) refl)
-  where
-    old : (o : Option ℕ) → ClosesIn Q D q o → (t ≡ q → ⊥) → ClosesIn Q E q o
-    old None f ne = λ x. elim (Contains-push_cases D t q (subst (λ (l : Texts). Contains l q) e x)) [ inl y ↦ f y | inr z ↦ ne z ]
-    old (Some n) f ne = f
-
-    by : (b : Bool) → bytes_eq t q ≡ b → ClosesIn Q E q (cond b (Some k) (at q))
-    by true f = subst (λ z. ClosesAt Q z k) ((bytes_decides t q).0 f) c
-    by false f = old (at q) (h q) (λ z. true≢false (sym ((bytes_decides t q).1 z) ∙ f))
-
 -- a record closes behind those before it
 pub closes_at : (rs : List Record) (i : ℕ) (d : Record) (k : ℕ) → i < length rs → k ≡ sum_by size (record_texts (take i rs)) + size (get_or rs i d).text.now → ClosesAt (record_texts rs) (get_or rs i d).text.now k
 closes_at rs i d k h e = record { before = record_texts (take i rs); after = record_texts (drop (suc i) rs); is = texts-split rs i d h; place = e }
+
+-- the place of a closing zero more
+pub ends_put : (rs : List Record) (i count : ℕ) (d : Record) (es : List ℕ) (k : ℕ) → i < length rs → AreIndexed rs count → length es ≡ count → AreEnds rs (take i rs) es
+    → ClosesAt (record_texts rs) (get_or rs i d).text.now k → AreEnds rs (take (i + 1) rs) (slice_set es (get_or rs i d).index k)
+ends_put rs i count d es k l x e h c = record {
+  closes = λ j f m. elim (eq-or-lt_of_le (j_le j f m)) [
+    | inl q ↦ last j f (suc_is j q)
+    | inr b ↦ elim (cases_eq (get_or (take (i + 1) rs) j f).index (get_or rs i d).index) [
+      | inl same ↦
+          let t : (get_or (take (i + 1) rs) j f).text.now ≡ (get_or rs i d).text.now = one_text j f (omega (arith, b)) same in
+          at_index (get_or (take (i + 1) rs) j f) same t
+      | inr ne ↦
+          let a : get_or (take (i + 1) rs) j f ≡ get_or (take i rs) j f = get_or-take (i + 1) rs j f (omega (arith, b)) ∙ sym (get_or-take i rs j f (omega (arith, b))) in
+          let old = h.closes j f (omega (arith, b, length-take-le i rs (omega (arith, l)))) in
+          let r = get_or (take (i + 1) rs) j f in
+          subst (λ n. ClosesAt (record_texts rs) r.text.now n) (sym (get_or-set_other es (get_or rs i d).index r.index k 0 ne))
+          (subst (λ (z : Record). ClosesAt (record_texts rs) z.text.now (get_or es z.index 0)) (sym a) old)
+    ]
+  ];
+  others = λ j f.
+      let ne : (get_or rs i d).index ≡ j → ⊥ = λ q. f i d (omega (arith, l, length-take-le (i + 1) rs (omega (arith, l))))
+      (ap (λ (z : Record). z.index) (get_or-take (i + 1) rs i d (omega arith)) ∙ q) in
+      get_or-set_other es (get_or rs i d).index j k 0 (λ q. ne (sym q))
+      ∙ h.others j (λ m g b. λ q. f m g (omega (arith, b, length-take-le i rs (omega (arith, l)), length-take-le (i + 1) rs (omega (arith, l))))
+      (ap (λ (z : Record). z.index) (get_or-take (i + 1) rs m g (omega (arith, b, length-take-le i rs (omega (arith, l)))) ∙ sym (get_or-take i rs m g (omega (arith, b, length-take-le i rs (omega (arith, l)))))) ∙ q));
+}
+  where
+    j_le : (j : ℕ) (f : Record) → j < length (take (i + 1) rs) → suc j ≤ i + 1
+    j_le j f m = omega (arith, m, length-take-le (i + 1) rs (omega (arith, l)))
+
+    suc_is : (j : ℕ) → suc j ≡ i + 1 → j ≡ i
+    suc_is j q = omega (arith, q)
+
+    at_index : (r : Record) → r.index ≡ (get_or rs i d).index → r.text.now ≡ (get_or rs i d).text.now → ClosesAt (record_texts rs) r.text.now (get_or (slice_set es (get_or rs i d).index k) r.index 0)
+    at_index r same t =
+        let v : get_or (slice_set es (get_or rs i d).index k) r.index 0 ≡ k = ap (λ z. get_or (slice_set es (get_or rs i d).index k) z 0) same ∙ get_or-set_same es (get_or rs i d).index k 0 (omega (arith, e, x.within i d l)) in
+        subst (λ n. ClosesAt (record_texts rs) r.text.now n) (sym v) (subst (λ z. ClosesAt (record_texts rs) z k) (sym t) c)
+
+    one_text : (j : ℕ) (f : Record) → j < i + 1 → (get_or (take (i + 1) rs) j f).index ≡ (get_or rs i d).index → (get_or (take (i + 1) rs) j f).text.now ≡ (get_or rs i d).text.now
+    one_text j f b same =
+        let a : get_or (take (i + 1) rs) j f ≡ get_or rs j d = get_or-take (i + 1) rs j f b ∙ get_or_default rs j f d (omega (arith, b, l)) in
+        ap (λ (z : Record). z.text.now) a ∙ x.one j i d (omega (arith, b, l)) l (sym (ap (λ (z : Record). z.index) a) ∙ same)
+
+    last : (j : ℕ) (f : Record) → j ≡ i → ClosesAt (record_texts rs) (get_or (take (i + 1) rs) j f).text.now (get_or (slice_set es (get_or rs i d).index k) (get_or (take (i + 1) rs) j f).index 0)
+    last j f q =
+        let a : get_or (take (i + 1) rs) j f ≡ get_or rs i d = get_or-take (i + 1) rs j f (omega (arith, q)) ∙ ap (λ z. get_or rs z f) q ∙ get_or_default rs i f d l in
+        at_index (get_or (take (i + 1) rs) j f) (ap (λ (z : Record). z.index) a) (ap (λ (z : Record). z.text.now) a)
+
+pub ends_none : (rs : List Record) (count : ℕ) → AreEnds rs [] (replicate count 0)
+ends_none rs count = record { closes = λ j f l. absurd (omega (arith, l)); others = λ j f. zeros count j }
+  where
+    zeros : (n j : ℕ) → get_or {A = ℕ} (replicate n 0) j 0 ≡ 0
+    zeros zero j = refl
+    zeros (suc n) zero = refl
+    zeros (suc n) (suc j) = zeros n j
 
 -- so many units as the records before a record and itself take
 pub so_far : (rs : List Record) (i : ℕ) (d : Record) → i < length rs → sum_by size (record_texts (take i rs)) + size (get_or rs i d).text.now ≤ sum_by size (record_texts rs)
@@ -175,9 +215,6 @@ so_far rs i d h =
 pub records-push : (qs : Texts) (t : List ℕ) → flat_map record_units (qs ++ t ∷ []) ≡ flat_map record_units qs ++ record_units t
 records-push [] t = append-nil (record_units t)
 records-push (q ∷ qs) t = ap (λ l. record_units q ++ l) (records-push qs t) ∙ sym (append_assoc (record_units q) (flat_map record_units qs) (record_units t))
-
-pub ends_none : (Q : Texts) (q : List ℕ) → ClosesIn Q [] q None
-ends_none Q q = λ x. absurd (omega (arith, x.1))
 
 pub texts_flat : (xs ys : Texts) → flat_map record_units (xs ++ ys) ≡ flat_map record_units xs ++ flat_map record_units ys
 texts_flat [] ys = refl

@@ -4,12 +4,11 @@ use Rattle.std.specs.Prelude.{slice_set}
 use Rattle.std.proofs.lemmas.List.{map-set, length-set, get_or-map, length-map}
 use Rattle.std.proofs.lemmas.Bool.{cases_eq}
 use Rattle.std.specs.Ordering.{nat_cmp, is_eq}
-use Rattle.std.specs.BTreeMap.{get, Updates, IsUnchanged}
+use Rattle.std.specs.BTreeMap.{get, Updates}
 use Rattle.std.specs.Cmp.{Equal-is}
 use Rattle.std.proofs.lemmas.Map.Lookups.{exact_unsigned}
 use Rattle.resb_pool.specs.declared.node.Node.{Node}
-use Rattle.resb_pool.specs.Inner.Nodes.{child}
-use Rattle.resb_pool.specs.Inner.Changes.{IsSame, HasChild, HasEnd}
+use Rattle.resb_pool.specs.Inner.Changes.{HasChild, HasEnd}
 
 slot_same : {X : Type 0} (f : Node → X) (d : X) (ns : List Node) (i : ℕ) (n : Node) → i < length ns → get_or (map f (slice_set ns i n)) i d ≡ f n
 slot_same f d ns i n l =
@@ -34,11 +33,11 @@ not_at x y ne = decide (is_eq (nat_cmp x y)) refl
     decide true e = absurd (ne (sym (exact_unsigned x y ((Equal-is (nat_cmp x y)).0 e))))
 
 module _ (ns : List Node) (i : ℕ) (o n : Node) (l : i < length ns) (is : o ≡ get_or ns i o) where
-  pub has_child : (c j : ℕ) → n.suffix ≡ o.suffix → n.ends ≡ o.ends → Updates nat_cmp o.children n.children c (Some j) → HasChild ns (slice_set ns i n) i c j
+  pub has_child : (c j : ℕ) → n.suffix ≡ o.suffix → n.text ≡ o.text → Updates nat_cmp o.children n.children c (Some j) → HasChild ns (slice_set ns i n) i c j
   has_child c j s e u = record {
     len = length-set ns i n;
     suffix_is = λ k. slot_kept (λ (z : Node). z.suffix.now) [] ns i k o n l is (ap (λ z. z.now) s);
-    ends_is = λ k. slot_kept (λ (z : Node). z.ends) false ns i k o n l is e;
+    text_is = λ k. slot_kept (λ (z : Node). z.text) None ns i k o n l is e;
     new = slot_same (λ (z : Node). get nat_cmp z.children c) None ns i n l ∙ u.1;
     old = λ k x ne. elim (cases_eq k i) [
       | inl q ↦ slot_kept (λ (z : Node). get nat_cmp z.children x) None ns i k o n l is (u.2 x (not_at c x (λ f. ne (q, f))))
@@ -46,24 +45,11 @@ module _ (ns : List Node) (i : ℕ) (o n : Node) (l : i < length ns) (is : o ≡
     ];
   }
 
-  pub has_same : n.suffix ≡ o.suffix → n.ends ≡ o.ends → IsUnchanged o.children n.children → IsSame ns (slice_set ns i n)
-  has_same s e u = record {
-    len = length-set ns i n;
-    all = λ k. record {
-      suffix_is = slot_kept (λ (z : Node). z.suffix.now) [] ns i k o n l is (ap (λ z. z.now) s);
-      ends_is = slot_kept (λ (z : Node). z.ends) false ns i k o n l is e;
-      child_is = λ c. slot_kept (λ (z : Node). get nat_cmp z.children c) None ns i k o n l is (cc);
-    };
-  }
-
-  pub has_end : n.suffix ≡ o.suffix → n.ends ≡ true → n.children ≡ o.children → HasEnd ns (slice_set ns i n) i
-  has_end s e u = record {
+  pub has_end : (x : ℕ) → n.suffix ≡ o.suffix → n.text ≡ Some x → n.children ≡ o.children → HasEnd ns (slice_set ns i n) i x
+  has_end x s e u = record {
     len = length-set ns i n;
     suffix_is = λ k. slot_kept (λ (z : Node). z.suffix.now) [] ns i k o n l is (ap (λ z. z.now) s);
     child_is = λ k c. slot_kept (λ (z : Node). get nat_cmp z.children c) None ns i k o n l is (ap (λ m. get nat_cmp m c) u);
-    new = slot_same (λ (z : Node). z.ends) false ns i n l ∙ e;
-    old = λ k ne. slot_other (λ (z : Node). z.ends) false ns i k n ne;
+    new = slot_same (λ (z : Node). z.text) None ns i n l ∙ e;
+    old = λ k ne. slot_other (λ (z : Node). z.text) None ns i k n ne;
   }
-
-  pub child_at : (c : ℕ) → child ns i c ≡ get nat_cmp o.children c
-  child_at c = get_or-map (λ (z : Node). get nat_cmp z.children c) ns i o None l ∙ ap (λ (z : Node). get nat_cmp z.children c) (sym is)

@@ -1,5 +1,5 @@
 -- What the steps on a vector of nodes keep.
-use Rattle.std.proofs.Common.{reverse, ◌≡◌, ℕ, ◌+◌, ◌<◌, List, [], ◌∷◌, ◌++◌, length, Bool, true, false, Option, Some, None, ◌⊎◌, inl, inr, sym, ◌∙◌, ap, subst, arith}
+use Rattle.std.proofs.Common.{reverse, ◌≡◌, ℕ, ◌+◌, ◌<◌, List, [], ◌∷◌, ◌++◌, length, Bool, true, Option, Some, None, is_some, ◌⊎◌, inl, inr, refl, sym, ◌∙◌, ap, subst, arith, true≢false}
 use Rattle.std.proofs.lemmas.Bool.{cases_lt, cases_eq}
 use Rattle.std.specs.Str.{IsUtf8}
 use Rattle.std.proofs.lemmas.Str.{IsUtf8-nil, chars-nil}
@@ -7,23 +7,42 @@ use Rattle.resb_pool.specs.Inner.Extends.{Extends}
 use Rattle.resb_pool.specs.declared.node.Node.{Node}
 use Rattle.resb_pool.specs.Inner.Cuts.{key}
 use Rattle.resb_pool.specs.Inner.Shape.{IsShape}
-use Rattle.resb_pool.specs.Inner.Nodes.{suffix, path, ends, child, IsTrie}
-use Rattle.resb_pool.specs.Inner.Changes.{IsSameAt, IsSame, HasChild, HasEnd, HasNode, HasText, IsKept, IsAdded}
+use Rattle.resb_pool.specs.Inner.Nodes.{suffix, path, ends, child, text_at, IsTrie}
+use Rattle.resb_pool.specs.Inner.Changes.{HasChild, HasEnd, HasNode, HasText, IsKept, IsAdded}
 use Rattle.resb_pool.proofs.Extend.{ext_refl, ext_on, ext_trans, ext_longer, ext_char}
 use Rattle.resb_pool.proofs.NewNode.{IsGrown, grown, old_or_new}
 
 pub kept_kept : (ms ns os : List Node) → IsKept ms ns → IsKept ns os → IsKept ms os
-kept_kept ms ns os h k = record { to = λ u t. k.to u (h.to u t); from = λ u t. h.from u (k.from u t) }
+kept_kept ms ns os h k = record {
+  more = omega (arith, h.more, k.more);
+  suffix_is = λ j l. k.suffix_is j (omega (arith, h.more)) ∙ h.suffix_is j l;
+  to = λ j x l e. k.to j x (omega (arith, h.more)) (h.to j x l e);
+  from = λ j x l e. (let g = k.from j x l e in h.from j x g.0 g.1);
+}
 
-pub kept_added : (ms ns os : List Node) (t : List ℕ) → IsKept ms ns → IsAdded ns os t → IsAdded ms os t
-kept_added ms ns os t h k = record {
-  to = λ u x. k.to u (h.to u x);
-  new = k.new;
-  from = λ u x. elim (k.from u x) [ inl y ↦ inl (h.from u y) | inr e ↦ inr e ];
+pub kept_added : (ms ns os : List Node) (t : List ℕ) (y i : ℕ) → IsKept ms ns → IsAdded ns os t y i → IsAdded ms os t y i
+kept_added ms ns os t y i h k = record {
+  more = omega (arith, h.more, k.more);
+  suffix_is = λ j l. k.suffix_is j (omega (arith, h.more)) ∙ h.suffix_is j l;
+  within = k.within;
+  is = k.is;
+  here = k.here;
+  to = λ j x l e. k.to j x (omega (arith, h.more)) (h.to j x l e);
+  from = λ j x l e. elim (k.from j x l e) [ inl g ↦ inl (h.from j x g.0 g.1) | inr q ↦ inr q ];
 }
 
 pub kept_itself : (ms : List Node) → IsKept ms ms
-kept_itself ms = record { to = λ u t. t; from = λ u t. t }
+kept_itself ms = record { more = omega arith; suffix_is = λ k l. refl; to = λ k x l e. e; from = λ k x l e. (l, e) }
+
+-- what is nowhere before is nowhere behind
+pub kept_new : (ms ns : List Node) (t : List ℕ) → IsKept ms ns → (HasText ms t → ⊥) → HasText ns t → ⊥
+kept_new ms ns t h fresh x = by (text_at ns x.place) refl x.ends_here
+  where
+    by : (o : Option ℕ) → text_at ns x.place ≡ o → is_some o ≡ true → ⊥
+    by None e f = true≢false (sym f)
+    by (Some y) e f =
+        let g = h.from x.place y x.within e in
+        fresh (record { place = x.place; within = g.0; ends_here = ap is_some g.1; is = sym (h.suffix_is x.place g.0) ∙ x.is })
 
 shape_moved : (n : ℕ) (path path' : ℕ → List ℕ) (child child' : ℕ → ℕ → Option ℕ) (ends ends' : ℕ → Bool) → IsShape n path child ends
     → ((k : ℕ) → k < n → path' k ≡ path k) → ((k c : ℕ) → k < n → child' k c ≡ child k c) → ((k : ℕ) → k < n → ends k ≡ true → ends' k ≡ true) → IsShape n path' child' ends'
@@ -52,67 +71,50 @@ module _ (ms ns : List Node) (len : length ns ≡ length ms) where
     texts = λ k l. (let m : k < length ms = omega arith in subst IsUtf8 (sym (p k m)) (t.texts k m));
   }
 
-  -- the same nodes
-  pub alike : IsTrie ms → ((k : ℕ) → k < length ms → IsSameAt ms ns k) → IsTrie ns × IsKept ms ns
-  alike t s = (
-    trie_moved t (λ k l. (s k l).suffix_is) (λ k c l. (s k l).child_is c) (λ k l e. (s k l).ends_is ∙ e),
-    record {
-      to = λ u h. record { place = h.place; within = omega (arith, h.within); ends_here = (s h.place h.within).ends_is ∙ h.ends_here; is = (s h.place h.within).suffix_is ∙ h.is };
-      from = λ u h.
-          let l : h.place < length ms = omega (arith, h.within) in
-          record { place = h.place; within = l; ends_here = sym (s h.place l).ends_is ∙ h.ends_here; is = sym (s h.place l).suffix_is ∙ h.is };
-    },
-  )
+some_kept : (o : Option ℕ) (P : Type 0) → is_some o ≡ true → ((x : ℕ) → o ≡ Some x → P) → P
+some_kept None P e f = absurd (true≢false (sym e))
+some_kept (Some x) P e f = f x refl
 
-pub same_trie : (ms ns : List Node) → IsTrie ms → IsSame ms ns → IsTrie ns × IsKept ms ns
-same_trie ms ns t s = alike ms ns s.len t (λ k l. s.all k)
-
--- a node was added and taken away again
-pub back_trie : (ms ns os ps : List Node) (t : List ℕ) (e : Bool) → IsTrie ms → HasNode ms ns t e → IsSame ns os
-    → length os ≡ length ps + 1 → ((k : ℕ) → k < length ps → IsSameAt os ps k) → IsTrie ps × IsKept ms ps
-back_trie ms ns os ps t e m h s len p =
-    let l : length ps ≡ length ms = omega (arith, h.len, s.len) in
-    alike ms ps l m (λ k b.
-    let g = p k (omega arith) in
-    let d = h.old k b in
-    record {
-      suffix_is = g.suffix_is ∙ (s.all k).suffix_is ∙ d.suffix_is;
-      ends_is = g.ends_is ∙ (s.all k).ends_is ∙ d.ends_is;
-      child_is = λ c. g.child_is c ∙ (s.all k).child_is c ∙ d.child_is c;
-    })
-
--- a text ends at a node
-pub end_trie : (ms ns : List Node) (i : ℕ) (t : List ℕ) → IsTrie ms → i < length ms → suffix ms i ≡ t → HasEnd ms ns i → IsTrie ns × IsAdded ms ns t
-end_trie ms ns i t m l e h =
-    let stays : (k : ℕ) → k < length ms → ends ms k ≡ true → ends ns k ≡ true = λ k b f.
-    elim (cases_eq k i) [ inl q ↦ ap (ends ns) q ∙ h.new | inr ne ↦ h.old k ne ∙ f ] in (
-      trie_moved ms ns h.len m (λ k b. h.suffix_is k) (λ k c b. h.child_is k c) stays,
+-- a text ends at a node where none did
+pub end_trie : (ms ns : List Node) (i y : ℕ) (t : List ℕ) → IsTrie ms → i < length ms → suffix ms i ≡ t → (HasText ms t → ⊥) → HasEnd ms ns i y → IsTrie ns × IsAdded ms ns t y i
+end_trie ms ns i y t m l e fresh h =
+    let none : text_at ms i ≡ None = no_text (text_at ms i) (λ f. fresh (record { place = i; within = l; ends_here = f; is = e })) in
+    let stays : (k x : ℕ) → k < length ms → text_at ms k ≡ Some x → text_at ns k ≡ Some x = λ k x b f.
+    elim (cases_eq k i) [ inl q ↦ (let z : None ≡ Some x = sym none ∙ ap (text_at ms) (sym q) ∙ f in cc) | inr ne ↦ h.old k ne ∙ f ] in (
+      trie_moved ms ns h.len m (λ k b. h.suffix_is k) (λ k c b. h.child_is k c)
+          (λ k b f. some_kept (text_at ms k) (ends ns k ≡ true) f (λ x g. ap is_some (stays k x b g))),
       record {
-        to = λ u x. record { place = x.place; within = omega (arith, x.within, h.len); ends_here = stays x.place x.within x.ends_here; is = h.suffix_is x.place ∙ x.is };
-        new = record { place = i; within = omega (arith, h.len); ends_here = h.new; is = h.suffix_is i ∙ e };
-        from = λ u x. elim (cases_eq x.place i) [
-          | inl q ↦ inr (sym x.is ∙ ap (suffix ns) q ∙ h.suffix_is i ∙ e)
-          | inr ne ↦ inl (record { place = x.place; within = omega (arith, x.within, h.len); ends_here = sym (h.old x.place ne) ∙ x.ends_here; is = sym (h.suffix_is x.place) ∙ x.is })
+        more = omega (arith, h.len);
+        suffix_is = λ k b. h.suffix_is k;
+        within = omega (arith, h.len);
+        is = h.suffix_is i ∙ e;
+        here = h.new;
+        to = stays;
+        from = λ k x b f. elim (cases_eq k i) [
+          | inl q ↦ (let z : Some x ≡ Some y = sym f ∙ ap (text_at ns) q ∙ h.new in
+              let w : x ≡ y = cc in inr (q, w))
+          | inr ne ↦ inl (omega (arith, h.len), sym (h.old k ne) ∙ f)
         ];
       },
     )
+  where
+    no_text : (o : Option ℕ) → (is_some o ≡ true → ⊥) → o ≡ None
+    no_text None f = refl
+    no_text (Some x) f = absurd (f refl)
 
 -- ns is ms with one node more, which spells t
-record IsOver (ms ns : List Node) (t : List ℕ) (e : Bool) : Type 0 where
+record IsOver (ms ns : List Node) (t : List ℕ) (o : Option ℕ) : Type 0 where
   len : length ns ≡ length ms + 1
   suffix_old : (k : ℕ) → k < length ms → suffix ns k ≡ suffix ms k
-  ends_old : (k : ℕ) → k < length ms → ends ns k ≡ ends ms k
+  text_old : (k : ℕ) → k < length ms → text_at ns k ≡ text_at ms k
   suffix_new : suffix ns (length ms) ≡ t
-  ends_new : ends ns (length ms) ≡ e
+  text_new : text_at ns (length ms) ≡ o
 
-module _ (ms ns : List Node) (t : List ℕ) (e : Bool) (o : IsOver ms ns t e) where
-  over_to : (u : List ℕ) → HasText ms u → HasText ns u
-  over_to u h = record { place = h.place; within = omega (arith, h.within, o.len); ends_here = o.ends_old h.place h.within ∙ h.ends_here; is = o.suffix_old h.place h.within ∙ h.is }
-
-  over_from : (u : List ℕ) → HasText ns u → HasText ms u ⊎ ((e ≡ true) × (u ≡ t))
-  over_from u h = elim (old_or_new (length ms) h.place (omega (arith, h.within, o.len))) [
-    | inl l ↦ inl (record { place = h.place; within = l; ends_here = sym (o.ends_old h.place l) ∙ h.ends_here; is = sym (o.suffix_old h.place l) ∙ h.is })
-    | inr q ↦ inr (sym o.ends_new ∙ ap (ends ns) (sym q) ∙ h.ends_here, sym h.is ∙ ap (suffix ns) q ∙ o.suffix_new)
+module _ (ms ns : List Node) (t : List ℕ) (e : Option ℕ) (o : IsOver ms ns t e) where
+  over_from : (k x : ℕ) → k < length ns → text_at ns k ≡ Some x → ((k < length ms) × (text_at ms k ≡ Some x)) ⊎ ((k ≡ length ms) × (e ≡ Some x))
+  over_from k x l h = elim (old_or_new (length ms) k (omega (arith, l, o.len))) [
+    | inl b ↦ inl (b, sym (o.text_old k b) ∙ h)
+    | inr q ↦ inr (q, sym o.text_new ∙ ap (text_at ns) (sym q) ∙ h)
   ]
 
   over_trie : IsTrie ms → IsUtf8 t → IsShape (length ms + 1) (path ns) (child ns) (ends ns) → IsTrie ns
@@ -125,15 +127,15 @@ module _ (ms ns : List Node) (t : List ℕ) (e : Bool) (o : IsOver ms ns t e) wh
   }
 
 -- a text below node i, which had no child by c
-pub leaf_trie : (ms ns os : List Node) (t : List ℕ) (i c n : ℕ) → IsTrie ms → IsUtf8 t → i < length ms → child ms i c ≡ None → Extends (key t) (path ms i ++ c ∷ [])
-    → HasNode ms ns t true → n ≡ length ms → HasChild ns os i c n → IsTrie os × IsAdded ms os t
-leaf_trie ms ns os t i c n m u l none h a q b =
-    let over : IsOver ms os t true = record {
+pub leaf_trie : (ms ns os : List Node) (t : List ℕ) (y i c n : ℕ) → IsTrie ms → IsUtf8 t → i < length ms → child ms i c ≡ None → Extends (key t) (path ms i ++ c ∷ [])
+    → HasNode ms ns t (Some y) → n ≡ length ms → HasChild ns os i c n → IsTrie os × IsAdded ms os t y n
+leaf_trie ms ns os t y i c n m u l none h a q b =
+    let over : IsOver ms os t (Some y) = record {
       len = b.len ∙ a.len;
       suffix_old = λ k r. b.suffix_is k ∙ (a.old k r).suffix_is;
-      ends_old = λ k r. b.ends_is k ∙ (a.old k r).ends_is;
+      text_old = λ k r. b.text_is k ∙ (a.old k r).text_is;
       suffix_new = b.suffix_is (length ms) ∙ a.suffix_new;
-      ends_new = b.ends_is (length ms) ∙ a.ends_new;
+      text_new = b.text_is (length ms) ∙ a.text_new;
     } in
     let bare : (x : ℕ) → child os (length ms) x ≡ None = λ x. b.old (length ms) x (λ z. omega (arith, z.0)) ∙ a.child_new x in
     let lone : (k : ℕ) → k < length ms → Extends (path ms k) (path ms i ++ c ∷ []) → ⊥ = λ k r x. (let y = m.shape.reach i k c l r x in
@@ -143,33 +145,37 @@ leaf_trie ms ns os t i c n m u l none h a q b =
       below = h;
       path_old = λ k r. ap key (over.suffix_old k r);
       path_new = ap key over.suffix_new;
-      ends_old = over.ends_old;
+      ends_old = λ k r. ap is_some (over.text_old k r);
       child_new = b.new ∙ ap Some q;
       child_old = λ k x r ne. b.old k x ne ∙ (a.old k r).child_is x;
       kid_step = λ x j y. (let z : None ≡ Some j = sym (bare x) ∙ y in cc);
       kid_reach = λ k x r y. absurd (lone k r (ext_trans (path ms k) (key t) (path ms i ++ c ∷ []) (ext_on (path ms k) (key t) x y) h));
       pushed = λ k r y. absurd (lone k r y);
-      has_text = (length ms, omega arith, over.ends_new, subst (Extends (path os (length ms))) (ap key over.suffix_new) (ext_refl (path os (length ms))));
+      has_text = (length ms, omega arith, ap is_some over.text_new, subst (Extends (path os (length ms))) (ap key over.suffix_new) (ext_refl (path os (length ms))));
     } in (
-      over_trie ms os t true over m u (grown (length ms) (path ms) (child ms) (ends ms) (path os) (child os) (ends os) i c (key t) m.shape g),
+      over_trie ms os t (Some y) over m u (grown (length ms) (path ms) (child ms) (ends ms) (path os) (child os) (ends os) i c (key t) m.shape g),
       record {
-        to = over_to ms os t true over;
-        new = record { place = length ms; within = omega (arith, over.len); ends_here = over.ends_new; is = over.suffix_new };
-        from = λ v x. elim (over_from ms os t true over v x) [ inl y ↦ inl y | inr z ↦ inr z.1 ];
+        more = omega (arith, over.len);
+        suffix_is = over.suffix_old;
+        within = omega (arith, over.len, q);
+        is = ap (suffix os) q ∙ over.suffix_new;
+        here = ap (text_at os) q ∙ over.text_new;
+        to = λ k x r f. over.text_old k r ∙ f;
+        from = λ k x r f. elim (over_from ms os t (Some y) over k x r f) [ inl z ↦ inl z | inr z ↦ inr (z.0 ∙ sym q, (let w : y ≡ x = cc in sym w)) ];
       },
     )
 
 -- a node between node i and its child j
 pub middle_trie : (ms ns os ps : List Node) (t : List ℕ) (i c j d n : ℕ) → IsTrie ms → IsUtf8 t → i < length ms → child ms i c ≡ Some j
     → Extends (key t) (path ms i ++ c ∷ []) → Extends (path ms j) (key t ++ d ∷ [])
-    → HasNode ms ns t false → n ≡ length ms → HasChild ns os n d j → HasChild os ps i c n → IsTrie ps × IsKept ms ps
+    → HasNode ms ns t None → n ≡ length ms → HasChild ns os n d j → HasChild os ps i c n → IsTrie ps × IsKept ms ps
 middle_trie ms ns os ps t i c j d n m u l has h on a q b f =
-    let over : IsOver ms ps t false = record {
+    let over : IsOver ms ps t None = record {
       len = f.len ∙ b.len ∙ a.len;
       suffix_old = λ k r. f.suffix_is k ∙ b.suffix_is k ∙ (a.old k r).suffix_is;
-      ends_old = λ k r. f.ends_is k ∙ b.ends_is k ∙ (a.old k r).ends_is;
+      text_old = λ k r. f.text_is k ∙ b.text_is k ∙ (a.old k r).text_is;
       suffix_new = f.suffix_is (length ms) ∙ b.suffix_is (length ms) ∙ a.suffix_new;
-      ends_new = f.ends_is (length ms) ∙ b.ends_is (length ms) ∙ a.ends_new;
+      text_new = f.text_is (length ms) ∙ b.text_is (length ms) ∙ a.text_new;
     } in
     let jl : j < length ms = (m.shape.step i c j l has).0 in
     let only : child ps (length ms) d ≡ Some j = f.old (length ms) d (λ z. omega (arith, z.0)) ∙ ap (λ k. child os k d) (sym q) ∙ b.new in
@@ -186,7 +192,7 @@ middle_trie ms ns os ps t i c j d n m u l has h on a q b f =
       below = h;
       path_old = λ k r. ap key (over.suffix_old k r);
       path_new = ap key over.suffix_new;
-      ends_old = over.ends_old;
+      ends_old = λ k r. ap is_some (over.text_old k r);
       child_new = f.new ∙ ap Some q;
       child_old = λ k x r ne. f.old k x ne ∙ b.old k x (λ y. omega (arith, y.0)) ∙ (a.old k r).child_is x;
       kid_step = λ x k y. elim (cases_eq x d) [
@@ -207,14 +213,16 @@ middle_trie ms ns os ps t i c j d n m u l has h on a q b f =
       has_text = (
         z.0,
         omega (arith, z.1),
-        over.ends_old z.0 z.1 ∙ z.2,
+        ap is_some (over.text_old z.0 z.1) ∙ z.2,
         subst (λ v. Extends v (key t)) (sym (ap key (over.suffix_old z.0 z.1))) (ext_trans (path ms z.0) (path ms j) (key t) z.3 (ext_on (path ms j) (key t) d on)),
       );
     } in (
-      over_trie ms ps t false over m u (grown (length ms) (path ms) (child ms) (ends ms) (path ps) (child ps) (ends ps) i c (key t) m.shape g),
+      over_trie ms ps t None over m u (grown (length ms) (path ms) (child ms) (ends ms) (path ps) (child ps) (ends ps) i c (key t) m.shape g),
       record {
-        to = over_to ms ps t false over;
-        from = λ v x. elim (over_from ms ps t false over v x) [ inl y ↦ y | inr y ↦ (let w = y.0 in cc) ];
+        more = omega (arith, over.len);
+        suffix_is = over.suffix_old;
+        to = λ k x r y. over.text_old k r ∙ y;
+        from = λ k x r y. elim (over_from ms ps t None over k x r y) [ inl v ↦ v | inr v ↦ (let w = v.1 in cc) ];
       },
     )
   where
@@ -226,7 +234,7 @@ middle_trie ms ns os ps t i c j d n m u l has h on a q b f =
     ]
 
 -- the root alone
-pub root_trie : (ns : List Node) → HasNode [] ns [] false → IsTrie ns
+pub root_trie : (ns : List Node) → HasNode [] ns [] None → IsTrie ns
 root_trie ns h =
     let zero_only : (k : ℕ) → k < length ns → k ≡ 0 = λ k l. omega (arith, h.len) in
     let nil : path ns 0 ≡ [] = ap key h.suffix_new ∙ ap reverse chars-nil in

@@ -1,6 +1,7 @@
--- The nodes as a list of texts.
-use Rattle.std.proofs.Common.{◌≡◌, ℕ, zero, suc, get_or, ◌<◌, List, [], ◌∷◌, length, map, filter, cond, Bool, true, false, ◌⊎◌, inl, inr, ◌↔◌, refl, sym, ◌∙◌, ap, subst, length-append, reverse, arith}
+-- The trie of texts: which node is a record's, and in which text each lies.
+use Rattle.std.proofs.Common.{◌≡◌, ℕ, get_or, ◌<◌, List, [], ◌∷◌, ◌++◌, length, true, Option, Some, None, is_some, inl, inr, refl, sym, ◌∙◌, ap, subst, length-append, reverse, arith, true≢false}
 use Rattle.std.proofs.lemmas.Bool.{cases_lt}
+use Rattle.std.proofs.lemmas.List.{get_or_default, get_or_append_left, get_or_push, nil_from_length}
 use Rattle.std.specs.List.{Contains}
 use Rattle.std.specs.Str.{IsUtf8}
 use Rattle.std.proofs.lemmas.Str.{IsUtf8-nil, chars-nil}
@@ -9,72 +10,22 @@ use Rattle.std.specs.declared.cmp.Ordering.{Ordering}
 use Rattle.std.specs.declared.cmp.Ordering.TheVariants.{Less, Equal, Greater}
 use Rattle.resb_format.specs.Units.{is_unmarked}
 use Rattle.resb_pool.specs.Order.{suffix_cmp, end_last_cmp}
-use Rattle.resb_pool.specs.Records.{EndsWith}
+use Rattle.resb_pool.specs.Records.{EndsWith, IsRecord}
 use Rattle.resb_pool.proofs.SuffixOrder.{end_last_total, tied_same}
 use Rattle.resb_pool.proofs.Best.{extends_not_after}
 use Rattle.resb_pool.proofs.Extend.{ext_refl}
 use Rattle.resb_pool.specs.Inner.Extends.{Extends, NotAfter}
-use Rattle.resb_pool.specs.Records.{IsRecord}
 use Rattle.resb_pool.proofs.Reading.{front_utf8}
 use Rattle.resb_pool.specs.declared.node.Node.{Node}
 use Rattle.resb_pool.specs.Inner.Cuts.{key}
-use Rattle.resb_pool.specs.Inner.Nodes.{suffix, path, ends, IsTrie, texts_of}
-use Rattle.resb_pool.specs.Inner.Changes.{HasText, HasNode, IsKept, IsAdded}
+use Rattle.resb_pool.specs.Inner.Nodes.{suffix, path, ends, text_at, IsTrie, IsEnd, IsTrieOf}
+use Rattle.resb_pool.specs.Inner.Changes.{HasText, HasNode, IsAdded}
 use Rattle.resb_pool.specs.Inner.Greatest.{IsRecordAt, IsGreatestBelow}
+use Rattle.resb_pool.specs.Inner.Placing.{text, LiesAt}
 use Rattle.resb_pool.specs.Container.{IsContainer}
 use Rattle.resb_pool.proofs.Cut.{cut_extends, cut_back, key_same}
-
-in_rest : (x : List ℕ) (xs : List (List ℕ)) (t : List ℕ) → Contains xs t → Contains (x ∷ xs) t
-in_rest x xs t h = (suc h.0, omega (arith, h.1), h.2)
-
-first_or_rest : (x : List ℕ) (xs : List (List ℕ)) (t : List ℕ) (k : ℕ) → k < length (x ∷ xs) → get_or (x ∷ xs) k t ≡ t → (x ≡ t) ⊎ Contains xs t
-first_or_rest x xs t zero l e = inl e
-first_or_rest x xs t (suc k) l e = inr (k, omega arith, e)
-
-next_text : (n : Node) (ns : List Node) (t : List ℕ) → HasText ns t → HasText (n ∷ ns) t
-next_text n ns t h = record { place = suc h.place; within = omega (arith, h.within); ends_here = h.ends_here; is = h.is }
-
-by_end : (n : Node) (ns : List Node) (t : List ℕ) → (Contains (texts_of ns) t → HasText ns t) → (b : Bool) → n.ends ≡ b
-    → Contains (map (λ (z : Node). z.suffix.now) (cond b (n ∷ filter (λ (z : Node). z.ends) ns) (filter (λ (z : Node). z.ends) ns))) t → HasText (n ∷ ns) t
-by_end n ns t below false e h = next_text n ns t (below h)
-by_end n ns t below true e h = elim (first_or_rest n.suffix.now (texts_of ns) t h.0 h.1 h.2) [
-  | inl s ↦ record { place = 0; within = omega arith; ends_here = e; is = s }
-  | inr g ↦ next_text n ns t (below g)
-]
-
-pub to_text : (ns : List Node) (t : List ℕ) → Contains (texts_of ns) t → HasText ns t
-to_text [] t h = absurd (omega (arith, h.1))
-to_text (n ∷ ns) t h = by_end n ns t (to_text ns t) n.ends refl h
-
-put_on : (n : Node) (ns : List Node) (t : List ℕ) (b : Bool) → Contains (texts_of ns) t → Contains (map (λ (z : Node). z.suffix.now) (cond b (n ∷ filter (λ (z : Node). z.ends) ns) (filter (λ (z : Node). z.ends) ns))) t
-put_on n ns t false h = h
-put_on n ns t true h = in_rest n.suffix.now (texts_of ns) t h
-
-from_place : (ns : List Node) (t : List ℕ) (k : ℕ) → k < length ns → ends ns k ≡ true → suffix ns k ≡ t → Contains (texts_of ns) t
-from_place [] t k l e s = absurd (omega arith)
-from_place (n ∷ ns) t zero l e s =
-    subst (λ (b : Bool). Contains (map (λ (z : Node). z.suffix.now) (cond b (n ∷ filter (λ (z : Node). z.ends) ns) (filter (λ (z : Node). z.ends) ns))) t) (sym e)
-    (0, omega arith, s)
-from_place (n ∷ ns) t (suc k) l e s = put_on n ns t n.ends (from_place ns t k (omega arith) e s)
-
-pub from_text : (ns : List Node) (t : List ℕ) → HasText ns t → Contains (texts_of ns) t
-from_text ns t h = from_place ns t h.place h.within h.ends_here h.is
-
-module _ (ms ns : List Node) (S : List (List ℕ)) (e : texts_of ms ≡ S) where
-  in_old : (u : List ℕ) → Contains S u → HasText ms u
-  in_old u h = to_text ms u (subst (λ (z : List (List ℕ)). Contains z u) (sym e) h)
-
-  old_in : (u : List ℕ) → HasText ms u → Contains S u
-  old_in u h = subst (λ (z : List (List ℕ)). Contains z u) e (from_text ms u h)
-
-  pub added_list : (t : List ℕ) → IsAdded ms ns t → (u : List ℕ) → Contains (texts_of ns) u ↔ (Contains S u ⊎ (u ≡ t))
-  added_list t a u = (
-    λ h. elim (a.from u (to_text ns u h)) [ inl g ↦ inl (old_in u g) | inr q ↦ inr q ],
-    λ h. elim h [ inl g ↦ from_text ns u (a.to u (in_old u g)) | inr q ↦ from_text ns u (subst (HasText ns) (sym q) a.new) ],
-  )
-
-  pub kept_list : IsKept ms ns → (u : List ℕ) → Contains (texts_of ns) u ↔ Contains S u
-  kept_list a u = (λ h. old_in u (a.from u (to_text ns u h)), λ h. from_text ns u (a.to u (in_old u h)))
+use Rattle.resb_pool.proofs.NewNode.{old_or_new}
+use Rattle.resb_pool.proofs.Steps.{root_trie}
 
 pub ends_extends : (t s : List ℕ) → IsUtf8 t → IsUtf8 s → EndsWith t s → Extends (key t) (key s)
 ends_extends t s u v h = cut_extends t h.front s (record { is = h.is; front_utf8 = front_utf8 t h.front s h.is u v; tail_utf8 = v })
@@ -82,24 +33,40 @@ ends_extends t s u v h = cut_extends t h.front s (record { is = h.is; front_utf8
 extends_ends : (t s : List ℕ) → IsUtf8 t → IsUtf8 s → Extends (key t) (key s) → EndsWith t s
 extends_ends t s u v h = (let w = cut_back t s u v h in record { front = w.0; is = w.1.is })
 
-module _ (ns : List Node) (S : List (List ℕ)) (e : texts_of ns ≡ S) (t : IsTrie ns) where
-  pub has_of : (u : List ℕ) → Contains S u → HasText ns u
-  has_of u h = to_text ns u (subst (λ (z : List (List ℕ)). Contains z u) (sym e) h)
+-- the trie of the texts T
+module _ (T : List (List ℕ)) (ns : List Node) (es : List ℕ) (m : IsTrieOf T ns es) where
+  abbrev t : IsTrie ns
+  t = m.trie
 
-  listed_at : (k : ℕ) → k < length ns → ends ns k ≡ true → Contains S (suffix ns k)
-  listed_at k l f = subst (λ (z : List (List ℕ)). Contains z (suffix ns k)) e (from_text ns (suffix ns k) (record { place = k; within = l; ends_here = f; is = refl }))
+  has_at : (x : ℕ) → x < length T → HasText ns (text T x)
+  has_at x l = (let e = m.ends x l in record { place = get_or es x 0; within = e.within; ends_here = ap is_some e.here; is = e.is })
+
+  has_of : (u : List ℕ) → Contains T u → HasText ns u
+  has_of u h = subst (HasText ns) (get_or_default T h.0 [] u h.1 ∙ h.2) (has_at h.0 h.1)
+
+  listed_at : (k : ℕ) → k < length ns → ends ns k ≡ true → Contains T (suffix ns k)
+  listed_at k l f = by (text_at ns k) refl f
+    where
+      by : (o : Option ℕ) → text_at ns k ≡ o → is_some o ≡ true → Contains T (suffix ns k)
+      by None e g = absurd (true≢false (sym g))
+      by (Some x) e g =
+          let o = m.only k x l e in
+          (x, o.0, get_or_default T x (suffix ns k) [] o.0 ∙ sym (m.ends x o.0).is ∙ ap (suffix ns) o.1)
+
+  root_nil : suffix ns 0 ≡ []
+  root_nil = key_same (suffix ns 0) [] (t.texts 0 t.shape.some) IsUtf8-nil (t.shape.root ∙ sym (ap reverse chars-nil))
 
   pub not_root : (i : ℕ) (s : List ℕ) → suffix ns i ≡ s → 0 < length s → 0 < i
   not_root i s h l = elim (cases_lt 0 i) [
     | inl p ↦ p
-    | inr z ↦
-        let w : i ≡ 0 = omega arith in
-        let r : suffix ns 0 ≡ [] = key_same (suffix ns 0) [] (t.texts 0 t.shape.some) IsUtf8-nil (t.shape.root ∙ sym (ap reverse chars-nil)) in
-        absurd (omega (arith, ap length (sym h ∙ ap (suffix ns) w ∙ r)))
+    | inr z ↦ (let w : i ≡ 0 = omega arith in absurd (omega (arith, ap length (sym h ∙ ap (suffix ns) w ∙ root_nil))))
   ]
 
+  pub at_root : (i : ℕ) (s : List ℕ) → i < length ns → suffix ns i ≡ s → length s ≡ 0 → i ≡ 0
+  at_root i s l h z = t.shape.once i 0 l t.shape.some (ap key (h ∙ nil_from_length s z ∙ sym root_nil))
+
   -- a record among the texts is a record at its node
-  record_at : (q : List ℕ) → IsRecord S q → (k : ℕ) × (suffix ns k ≡ q) × IsRecordAt ns k
+  record_at : (q : List ℕ) → IsRecord T q → (k : ℕ) × (suffix ns k ≡ q) × IsRecordAt ns k
   record_at q h =
       let p = has_of q h.given in (
         p.place,
@@ -117,7 +84,7 @@ module _ (ns : List Node) (S : List (List ℕ)) (e : texts_of ns ≡ S) (t : IsT
         },
       )
 
-  at_record : (k : ℕ) → IsRecordAt ns k → 0 < length (suffix ns k) → IsRecord S (suffix ns k)
+  at_record : (k : ℕ) → IsRecordAt ns k → 0 < length (suffix ns k) → IsRecord T (suffix ns k)
   at_record k h l = record {
     given = listed_at k h.within h.ends_here;
     nonempty = l;
@@ -130,7 +97,7 @@ module _ (ns : List Node) (S : List (List ℕ)) (e : texts_of ns ≡ S) (t : IsT
     ];
   }
 
-  pub container_of : (s : List ℕ) (i r : ℕ) → i < length ns → suffix ns i ≡ s → 0 < length s → IsGreatestBelow ns i r → IsContainer S s (suffix ns r)
+  pub container_of : (s : List ℕ) (i r : ℕ) → i < length ns → suffix ns i ≡ s → 0 < length s → IsGreatestBelow ns i r → IsContainer T s (suffix ns r)
   container_of s i r l h pos g =
       let ends_with : EndsWith (suffix ns r) s = subst (EndsWith (suffix ns r)) h (extends_ends (suffix ns r) (suffix ns i) (t.texts r g.own.within) (t.texts i l) g.below) in
       record {
@@ -143,20 +110,10 @@ module _ (ns : List Node) (S : List (List ℕ)) (e : texts_of ns ≡ S) (t : IsT
             g.greatest k.0 k.2 d (ap (λ (z : List ℕ). suffix_cmp z (suffix ns r)) k.1 ∙ c);
       }
 
--- the root alone has no text
-pub no_texts : (ns : List Node) → HasNode [] ns [] false → texts_of ns ≡ []
-no_texts ns h = none ns h.len h.ends_new
-  where
-    none : (ns : List Node) → length ns ≡ 1 → ends ns 0 ≡ false → texts_of ns ≡ []
-    none [] l e = refl
-    none (n ∷ []) l e = ap (λ (b : Bool). map (λ (z : Node). z.suffix.now) (cond b (n ∷ []) [])) e
-    none (n ∷ m ∷ ns) l e = absurd (omega arith)
-
-module _ (ns : List Node) (S : List (List ℕ)) (e : texts_of ns ≡ S) (t : IsTrie ns) where
   -- a record lies in itself
-  pub itself_of : (s : List ℕ) (i r : ℕ) → i < length ns → suffix ns i ≡ s → IsGreatestBelow ns i r → IsRecord S s → suffix ns r ≡ s
+  pub itself_of : (s : List ℕ) (i r : ℕ) → i < length ns → suffix ns i ≡ s → IsGreatestBelow ns i r → IsRecord T s → suffix ns r ≡ s
   itself_of s i r l h g x =
-      let k = record_at ns S e t s x in
+      let k = record_at s x in
       let q : k.0 ≡ i = t.shape.once k.0 i k.2.within l (ap key (k.1 ∙ sym h)) in
       let a = g.greatest i (subst (IsRecordAt ns) q k.2) (ext_refl (path ns i)) in
       let d : path ns r ≡ path ns i = tied (path ns r) (path ns i) (extends_not_after (path ns r) (path ns i) g.below) a in
@@ -169,3 +126,74 @@ module _ (ns : List Node) (S : List (List ℕ)) (e : texts_of ns ≡ S) (t : IsT
           by_order Less e = absurd (b (end_last_total.antisymm v u ∙ ap ordering_reverse e))
           by_order Equal e = tied_same u v e
           by_order Greater e = absurd (a e)
+
+  -- a text lies where the walk from its node ends
+  pub lies_below : (x r y : ℕ) → x < length T → 0 < get_or es x 0 → IsGreatestBelow ns (get_or es x 0) r → text_at ns r ≡ Some y → LiesAt T x y
+  lies_below x r y l pos g here =
+      let e = m.ends x l in
+      let o = m.only r y g.own.within here in
+      let same : suffix ns r ≡ text T y = sym (ap (suffix ns) o.1) ∙ (m.ends y o.0).is in
+      record {
+        within = o.0;
+        container = λ p. subst (IsContainer T (text T x)) same (container_of (text T x) (get_or es x 0) r e.within e.is p g);
+        itself = λ h.
+            let q : suffix ns r ≡ text T x = itself_of (text T x) (get_or es x 0) r e.within e.is g h in
+            let k : r ≡ get_or es x 0 = t.shape.once r (get_or es x 0) g.own.within e.within (ap key (q ∙ sym e.is)) in
+            let z : Some y ≡ Some x = sym here ∙ ap (text_at ns) k ∙ e.here in
+            cc;
+        empty = λ z. absurd (omega (arith, pos, at_root (get_or es x 0) (text T x) e.within e.is z));
+      }
+
+  -- the empty text alone ends at the root
+  pub lies_at_root : (x : ℕ) → x < length T → get_or es x 0 ≡ 0 → LiesAt T x x
+  lies_at_root x l z =
+      let e = m.ends x l in
+      let n : length (text T x) ≡ 0 = ap length (sym e.is ∙ ap (suffix ns) z ∙ root_nil) in
+      record { within = l; container = λ p. absurd (omega (arith, n, p)); itself = λ h. refl; empty = λ y. refl }
+
+  -- the text at whose node the walk ends
+  pub ends_at_text : (i r : ℕ) → IsGreatestBelow ns i r → is_some (text_at ns r) ≡ true
+  ends_at_text i r g = g.own.ends_here
+
+-- a text more
+module _ (D : List (List ℕ)) (ns os : List Node) (es : List ℕ) (m : IsTrieOf D ns es) (s : List ℕ) where
+  pub trie_fresh : (Contains D s → ⊥) → HasText ns s → ⊥
+  trie_fresh f h = f (subst (λ (u : List ℕ). Contains D u) h.is (listed_at D ns es m h.place h.within h.ends_here))
+
+  pub trie_push : (y k : ℕ) → y ≡ length D → IsTrie os → IsAdded ns os s y k → IsTrieOf (D ++ s ∷ []) os (es ++ k ∷ [])
+  trie_push y k q t a = record {
+    trie = t;
+    len = omega (arith, m.len, length-append D (s ∷ []), length-append es (k ∷ []));
+    ends = λ x l. elim (old_or_new (length D) x (omega (arith, l, length-append D (s ∷ [])))) [
+      | inl b ↦
+          let e = m.ends x b in
+          let f : IsEnd os (text D x) x (get_or es x 0) = record {
+            within = omega (arith, e.within, a.more);
+            is = a.suffix_is (get_or es x 0) e.within ∙ e.is;
+            here = a.to (get_or es x 0) x e.within e.here;
+          } in
+          subst (λ z. IsEnd os z x (get_or (es ++ k ∷ []) x 0)) (sym (get_or_append_left D (s ∷ []) [] x b))
+          (subst (IsEnd os (text D x) x) (sym (get_or_append_left es (k ∷ []) 0 x (omega (arith, b, m.len)))) f)
+      | inr e ↦
+          let f : IsEnd os s x k = record { within = a.within; is = a.is; here = a.here ∙ ap Some (q ∙ sym e) } in
+          subst (λ z. IsEnd os z x (get_or (es ++ k ∷ []) x 0)) (sym (get_or_push D s [] x (sym e)))
+          (subst (IsEnd os s x) (sym (get_or_push es k 0 x (m.len ∙ sym e))) f)
+    ];
+    only = λ j x l h. elim (a.from j x l h) [
+      | inl g ↦
+          let o = m.only j x g.0 g.1 in
+          (omega (arith, o.0, length-append D (s ∷ [])), get_or_append_left es (k ∷ []) 0 x (omega (arith, o.0, m.len)) ∙ o.1)
+      | inr e ↦ (omega (arith, e.1, q, length-append D (s ∷ [])), get_or_push es k 0 x (m.len ∙ sym q ∙ sym e.1) ∙ sym e.0)
+    ];
+  }
+
+pub trie_none : (ns : List Node) → HasNode [] ns [] None → IsTrieOf [] ns []
+trie_none ns h = record {
+  trie = root_trie ns h;
+  len = refl;
+  ends = λ x l. absurd (omega (arith, l));
+  only = λ k x l e.
+      let z : k ≡ 0 = omega (arith, l, h.len) in
+      let w : None ≡ Some x = sym h.text_new ∙ ap (text_at ns) (sym z) ∙ e in
+      cc;
+}

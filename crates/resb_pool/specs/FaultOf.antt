@@ -1,6 +1,5 @@
 -- The fault that an error shows.
 --     fault_of e              the fault
-use Rattle.std.specs.Prelude.{◌≡◌, ℕ, List, ◌⊎◌}
 use Rattle.resb_pool.specs.Fault.{Fault, string_too_long, unexpected, limit, out_of_memory}
 use Rattle.resb_pool.specs.declared.error.Kind.{Kind}
 use Rattle.resb_pool.specs.declared.error.Kind.TheVariants.{StringTooLong, Unexpected, Limit, OutOfMemory}

@@ -3,10 +3,12 @@
 --     offset_of p s           where the text s stands, if it was given
 --     IsPlan S us offset      these are the units and offsets of the strings S
 --     NotPlanned S f          the fault f is the answer for the strings S
-use Rattle.std.specs.Prelude.{◌≡◌, ℕ, ◌+◌, ◌^◌, ◌≤◌, List, [], ◌∷◌, length, Option, Some, None, MatchOption, All, Contains, nat_le, sum_by, map, codes, if◌then◌else◌}
+use Rattle.std.specs.Prelude.{◌≡◌, ℕ, ◌+◌, ◌^◌, ◌≤◌, List, [], ◌∷◌, length, Option, Some, None, MatchOption, All, Contains, nat_le, sum_by, map, codes, slice_get, if◌then◌else◌}
 use Rattle.std.specs.Borrow.{Bor}
 use Rattle.std.specs.Str.{bytes_eq, IsUtf8}
+use Rattle.std.specs.Option.{option_and_then}
 use Rattle.indexmap.specs.IndexMap.{IndexMap, get_by}
+use Rattle.indexmap.specs.IndexSet.{index_of_by}
 use Rattle.resb_format.specs.Units.{units}
 use Rattle.resb_pool.specs.Fault.{Fault, string_too_long, limit, out_of_memory}
 use Rattle.resb_pool.specs.Pool.{IsPool, Off}
@@ -23,7 +25,7 @@ abbrev pub plan_units : Plan → List ℕ
 plan_units p = p.units.items
 
 abbrev pub offset_of : Plan → List ℕ → Option ℕ
-offset_of p s = at_text p.offsets s
+offset_of p s = option_and_then (slice_get p.offsets.items) (index_of_by (λ k. bytes_eq s k.now) p.texts)
 
 pub record IsPlan (S : List (List ℕ)) (us : List ℕ) (offset : List ℕ → Option ℕ) : Type 0 where
   pub texts : All IsUtf8 S

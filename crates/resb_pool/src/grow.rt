@@ -1,41 +1,42 @@
 //! How a text is put into the trie: down its path, and a new leaf or a node between at its end.
-//! A step that is refused for want of memory leaves the set of texts as it was.
-ghost use Rattle.std.specs.Prelude.{◌≡◌, ℕ, ◌+◌, ◌<◌, List, [], ◌∷◌, ◌++◌, length, drop, Option, Some, None, OnOk, OnErr, IfOk};
+//! Where memory is wanting the trie is given up, so nothing is said of it then.
+ghost use Rattle.std.specs.Prelude.{◌≡◌, ℕ, ◌+◌, ◌<◌, List, [], ◌∷◌, ◌++◌, length, drop, Option, Some};
+ghost use Rattle.std.specs.Prelude.{None, IfOk};
 ghost use Rattle.resb_pool.specs.Inner.Extends.{Extends};
 ghost use Rattle.resb_pool.specs.Inner.Nodes.{path, child, ends, suffix, IsTrie};
-ghost use Rattle.resb_pool.specs.Inner.Changes.{IsKept, IsAdded};
+ghost use Rattle.resb_pool.specs.Inner.Changes.{HasText, IsKept, IsAdded};
 ghost use Rattle.resb_pool.specs.Inner.Cuts.{key, IsCut};
 
-use crate::node::{Node, child_of, pop_node, push_node, set_child, set_end, suffix_of};
+use crate::node::{Node, child_of, push_node, set_child, set_end, suffix_of};
 use crate::text::{back_of, front_of, split_last, strip_shared};
 use std::alloc::{AllocError, Global};
 
-/// Adds a text below node `at`, which has no child by the text's next character, `first`.
+/// Adds the text of an index below node `at`, which has no child by the text's next character,
+/// `first`. Gives its node.
 fn add_leaf<'a>(
     alloc: Global,
     nodes: &mut Vec<Node<'a>>,
     at: usize,
     first: char,
     text: &'a str,
-) -> Result<(), AllocError>
+    index: usize,
+) -> Result<usize, AllocError>
     requires trie { IsTrie nodes.old.items }
     requires at { at < length nodes.old.items }
     requires free { child nodes.old.items at first ≡ None }
     requires below { Extends (key text.now) (path nodes.old.items at ++ first ∷ []) }
-    ensures ok { OnOk result (IsTrie nodes.new.items × IsAdded nodes.old.items nodes.new.items text.now) }
-    ensures err { OnErr result (IsTrie nodes.new.items × IsKept nodes.old.items nodes.new.items) }
+    ensures trie { IfOk result (λ k. IsTrie nodes.new.items) }
+    ensures added { IfOk result (λ k.
+        IsAdded nodes.old.items nodes.new.items text.now index k) }
 {
     let leaf = nodes.len();
-    push_node(alloc, nodes, text, true)?;
-    if let Err(error) = set_child(nodes, at, first, leaf) {
-        pop_node(nodes);
-        return Err(error);
-    }
-    Ok(())
+    push_node(alloc, nodes, text, Some(index))?;
+    set_child(nodes, at, first, leaf)?;
+    Ok(leaf)
 }
 
-/// Adds a node without a text between node `at` and its child `below` by `first`. What `below` has before it is `front`,
-/// whose last character is `next`.
+/// Adds a node without a text between node `at` and its child `below` by `first`. What `below` has
+/// before it is `front`, whose last character is `next`.
 fn split<'a>(
     alloc: Global,
     nodes: &mut Vec<Node<'a>>,
@@ -48,39 +49,44 @@ fn split<'a>(
     requires trie { IsTrie nodes.old.items }
     requires at { at < length nodes.old.items }
     requires child { child nodes.old.items at first ≡ Some below }
-    requires cut { IsCut (suffix nodes.old.items below) front.now (drop (length front.now) (suffix nodes.old.items below)) }
-    requires on { Extends (key (drop (length front.now) (suffix nodes.old.items below))) (path nodes.old.items at ++ first ∷ []) }
-    requires next { Extends (path nodes.old.items below) (key (drop (length front.now) (suffix nodes.old.items below)) ++ next ∷ []) }
-    ensures ok { OnOk result (IsTrie nodes.new.items × IsKept nodes.old.items nodes.new.items) }
-    ensures place { IfOk result (λ m. (m < length nodes.new.items) × (suffix nodes.new.items m ≡ drop (length front.now) (suffix nodes.old.items below))) }
-    ensures err { OnErr result (IsTrie nodes.new.items × IsKept nodes.old.items nodes.new.items) }
+    requires cut { IsCut (suffix nodes.old.items below) front.now
+        (drop (length front.now) (suffix nodes.old.items below)) }
+    requires on { Extends (key (drop (length front.now) (suffix nodes.old.items below)))
+        (path nodes.old.items at ++ first ∷ []) }
+    requires next { Extends (path nodes.old.items below)
+        (key (drop (length front.now) (suffix nodes.old.items below)) ++ next ∷ []) }
+    ensures trie { IfOk result (λ m. IsTrie nodes.new.items) }
+    ensures kept { IfOk result (λ m. IsKept nodes.old.items nodes.new.items) }
+    ensures place { IfOk result (λ m. (m < length nodes.new.items)
+        × (suffix nodes.new.items m
+        ≡ drop (length front.now) (suffix nodes.old.items below))) }
 {
     let shared = back_of(suffix_of(nodes, below), front.len());
     let middle = nodes.len();
-    push_node(alloc, nodes, shared, false)?;
-    if let Err(error) = set_child(nodes, middle, next, below) {
-        pop_node(nodes);
-        return Err(error);
-    }
+    push_node(alloc, nodes, shared, None)?;
+    set_child(nodes, middle, next, below)?;
     set_child(nodes, at, first, middle)?;
     Ok(middle)
 }
 
-/// Adds a text.
-pub(crate) fn put_in<'a>(
+/// Adds the text of an index, which is not there yet. Gives the node at which it ends.
+pub(crate) fn put<'a>(
     alloc: Global,
     nodes: &mut Vec<Node<'a>>,
     text: &'a str,
-) -> Result<(), AllocError>
-    requires { IsTrie nodes.old.items }
-    ensures ok { OnOk result (IsTrie nodes.new.items × IsAdded nodes.old.items nodes.new.items text.now) }
-    ensures err { OnErr result (IsTrie nodes.new.items × IsKept nodes.old.items nodes.new.items) }
+    index: usize,
+) -> Result<usize, AllocError>
+    requires trie { IsTrie nodes.old.items }
+    requires new { HasText nodes.old.items text.now → ⊥ }
+    ensures trie { IfOk result (λ k. IsTrie nodes.new.items) }
+    ensures added { IfOk result (λ k.
+        IsAdded nodes.old.items nodes.new.items text.now index k) }
 {
     let mut at = 0;
     let mut rest = text;
     while let Some((before, first)) = split_last(rest) {
         let Some(below) = child_of(nodes, at, first) else {
-            return add_leaf(alloc, nodes, at, first, text);
+            return add_leaf(alloc, nodes, at, first, text, index);
         };
         let suffix = suffix_of(nodes, below);
         let shared = text.len() - before.len();
@@ -92,6 +98,6 @@ pub(crate) fn put_in<'a>(
         };
         rest = rest_left;
     }
-    set_end(nodes, at);
-    Ok(())
+    set_end(nodes, at, index);
+    Ok(at)
 }

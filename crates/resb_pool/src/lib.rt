@@ -13,6 +13,7 @@ pub mod pool;
 mod records;
 mod suffix_trie;
 mod text;
+mod texts;
 mod walk;
 
 pub use error::BinarySerializerError;

@@ -1,9 +1,9 @@
-//! How long texts are, in 16-bit units, and whether strings are too long or too many to plan.
+//! How long texts are, in 16-bit units, and whether a string is too long to plan.
 //! Which texts get a record is not said here.
 ghost use Rattle.std.specs.Prelude.{◌≡◌, ◌+◌, ◌<◌, ◌≤◌, ◌^◌, None, MatchOption, length, nat_le, OnOk, IfErr};
 ghost use Rattle.resb_format.specs.Units.{units, size};
 ghost use Rattle.resb_pool.specs.FaultOf.{fault_of};
-ghost use Rattle.resb_pool.specs.Plan.{nows, first_too_long, texts_size, NotPlanned};
+ghost use Rattle.resb_pool.specs.Plan.{nows, first_too_long, NotPlanned};
 
 use crate::error::BinarySerializerError;
 use resb_format::marker_units;
@@ -15,7 +15,7 @@ const LONGEST: usize = 4_294_967_295;
 const MAX_UNMARKED: usize = 40;
 
 /// From this size of the strings on they are not planned.
-const SIZE_LIMIT: usize = 0x1000_0000;
+pub(crate) const SIZE_LIMIT: usize = 0x1000_0000;
 
 /// The number of 16-bit units of a text in UTF-16.
 pub fn utf16_len(text: &str) -> usize
@@ -29,19 +29,38 @@ pub fn utf16_len(text: &str) -> usize
     count
 }
 
-/// How many units a record of the text takes: its marker, its units and the 0 at the end.
-pub(crate) fn record_size(text: &str) -> u32
-    requires { length (units text.now) < 2 ^ 28 }
-    ensures { result ≡ size text.now }
-{
-    let count = utf16_len(text);
-    let is_marked = count > MAX_UNMARKED || text.as_bytes().contains(&0);
-    let marker = if is_marked {
-        marker_units(count).max(1)
-    } else {
-        0
-    };
-    (marker + count + 1) as u32
+/// How many units a text takes.
+#[derive(Clone, Copy)]
+pub(crate) struct Measure {
+    /// The text itself.
+    pub(crate) unit_count: u32,
+    /// A record of it: its marker, its units and the 0 at the end.
+    pub(crate) size: u32,
+    /// Its copies so far, as records of their own.
+    pub(crate) total: u32,
+}
+
+impl Measure {
+    /// The measure of a text of which there is no copy yet.
+    pub(crate) fn of(text: &str) -> Measure
+        requires { length (units text.now) < 2 ^ 28 }
+        ensures count { result.unit_count ≡ length (units text.now) }
+        ensures size { result.size ≡ size text.now }
+        ensures total { result.total ≡ 0 }
+    {
+        let count = utf16_len(text);
+        let is_marked = count > MAX_UNMARKED || text.as_bytes().contains(&0);
+        let marker = if is_marked {
+            marker_units(count).max(1)
+        } else {
+            0
+        };
+        Measure {
+            unit_count: count as u32,
+            size: (marker + count + 1) as u32,
+            total: 0,
+        }
+    }
 }
 
 /// The number of units of a text that has more than 4294967295. They are counted only where its
@@ -70,17 +89,9 @@ pub(crate) fn check_lengths(strings: &[&str]) -> Result<(), BinarySerializerErro
     Ok(())
 }
 
-/// Whether 16 for each text and its units come to 2^28 or more.
-pub(crate) fn are_too_large(strings: &[&str]) -> bool
-    requires { first_too_long (nows strings.now) ≡ None }
-    ensures { result ≡ nat_le (2 ^ 28) (texts_size (nows strings.now)) }
+/// Whether a text has 2^28 units or more. They are counted only where its bytes are as many.
+pub(crate) fn is_vast(text: &str) -> bool
+    ensures { result ≡ nat_le (2 ^ 28) (length (units text.now)) }
 {
-    let mut size = 0;
-    for text in strings {
-        size += 16 + utf16_len(text);
-        if size >= SIZE_LIMIT {
-            return true;
-        }
-    }
-    false
+    text.len() >= SIZE_LIMIT && utf16_len(text) >= SIZE_LIMIT
 }

@@ -1,9 +1,9 @@
 //! The nodes of the trie, and the single steps that read and change them.
 //! Each helper takes the whole vector, so that its contract says what stays.
-ghost use Rattle.std.specs.Prelude.{◌≡◌, ℕ, ◌+◌, ◌<◌, List, [], ◌∷◌, ◌++◌, length, Option, Some, None, cond, nat_eq, ◌&&◌, ◌⊎◌, OnOk, OnErr, IfOk, Bool, true, false, MatchOption};
-ghost use Rattle.resb_pool.specs.Inner.Nodes.{path, child, ends, suffix, IsTrie};
-ghost use Rattle.resb_pool.specs.Inner.Changes.{IsSame, HasChild, HasEnd, HasNode, IsSameAt, IsLastChild, HasText, IsKept, IsAdded};
-ghost use Rattle.resb_pool.specs.Inner.Cuts.{key};
+ghost use Rattle.std.specs.Prelude.{◌≡◌, ℕ, ◌+◌, ◌<◌, List, [], ◌∷◌, ◌++◌, length, Option, Some, None};
+ghost use Rattle.std.specs.Prelude.{OnOk, IsTrue, true, MatchOption};
+ghost use Rattle.resb_pool.specs.Inner.Nodes.{child, ends, suffix, text_at};
+ghost use Rattle.resb_pool.specs.Inner.Changes.{HasChild, HasEnd, HasNode, IsLastChild};
 
 use std::alloc::{AllocError, Global};
 use std::collections::BTreeMap;
@@ -13,8 +13,8 @@ use std::collections::BTreeMap;
 pub(crate) struct Node<'a> {
     /// What all texts below this node end with.
     pub(crate) suffix: &'a str,
-    /// Whether the suffix is itself one of the texts.
-    pub(crate) ends: bool,
+    /// The index of the text that is the suffix, if it is one of the texts.
+    pub(crate) text: Option<usize>,
     /// The children's places, by the character that each has before this node's suffix.
     pub(crate) children: BTreeMap<char, usize>,
 }
@@ -27,21 +27,20 @@ pub(crate) fn set_child(
     to: usize,
 ) -> Result<(), AllocError>
     requires { at < length nodes.old.items }
-    ensures ok { OnOk result (HasChild nodes.old.items nodes.new.items at first to) }
-    ensures err { OnErr result (IsSame nodes.old.items nodes.new.items × (child nodes.old.items at first ≡ None)) }
+    ensures { OnOk result (HasChild nodes.old.items nodes.new.items at first to) }
 {
     let node = &mut nodes[at];
     node.children.insert(first, to)?;
     Ok(())
 }
 
-/// Says that a text ends at node `at`.
-pub(crate) fn set_end(nodes: &mut Vec<Node>, at: usize)
+/// Says that the text of an index ends at node `at`.
+pub(crate) fn set_end(nodes: &mut Vec<Node>, at: usize, index: usize)
     requires { at < length nodes.old.items }
-    ensures { HasEnd nodes.old.items nodes.new.items at }
+    ensures { HasEnd nodes.old.items nodes.new.items at index }
 {
     let node = &mut nodes[at];
-    node.ends = true;
+    node.text = Some(index);
 }
 
 /// Adds a node without children.
@@ -49,26 +48,16 @@ pub(crate) fn push_node<'a>(
     alloc: Global,
     nodes: &mut Vec<Node<'a>>,
     suffix: &'a str,
-    ends: bool,
+    text: Option<usize>,
 ) -> Result<(), AllocError>
-    ensures ok { OnOk result (HasNode nodes.old.items nodes.new.items suffix.now ends) }
-    ensures err { OnErr result (IsSame nodes.old.items nodes.new.items) }
+    ensures { OnOk result (HasNode nodes.old.items nodes.new.items suffix.now text) }
 {
     nodes.push(Node {
         suffix,
-        ends,
+        text,
         children: BTreeMap::new(alloc),
     })?;
     Ok(())
-}
-
-/// Takes the last node away.
-pub(crate) fn pop_node(nodes: &mut Vec<Node>)
-    requires { 0 < length nodes.old.items }
-    ensures len { length nodes.old.items ≡ length nodes.new.items + 1 }
-    ensures same { (k : ℕ) → k < length nodes.new.items → IsSameAt nodes.old.items nodes.new.items k }
-{
-    let _ = nodes.pop();
 }
 
 /// The child of node `at` by `first`.
@@ -83,7 +72,8 @@ pub(crate) fn child_of(nodes: &Vec<Node>, at: usize, first: char) -> Option<usiz
 /// The greatest child of node `at`, with its character.
 pub(crate) fn last_child(nodes: &Vec<Node>, at: usize) -> Option<(char, usize)>
     requires { at < length nodes.now.items }
-    ensures { MatchOption result ((c : ℕ) → child nodes.now.items at c ≡ None) (λ p. IsLastChild nodes.now.items at p.0 p.1) }
+    ensures { MatchOption result ((c : ℕ) → child nodes.now.items at c ≡ None)
+        (λ p. IsLastChild nodes.now.items at p.0 p.1) }
 {
     let node = &nodes[at];
     let (first, below) = node.children.last_key_value()?;
@@ -98,10 +88,10 @@ pub(crate) fn suffix_of<'a>(nodes: &Vec<Node<'a>>, at: usize) -> &'a str
     nodes[at].suffix
 }
 
-/// Whether a text ends at node `at`.
-pub(crate) fn ends_at(nodes: &Vec<Node>, at: usize) -> bool
+/// The index of the text that ends at node `at`, if one does.
+pub(crate) fn text_of(nodes: &Vec<Node>, at: usize) -> Option<usize>
     requires { at < length nodes.now.items }
-    ensures { result ≡ ends nodes.now.items at }
+    ensures { result ≡ text_at nodes.now.items at }
 {
-    nodes[at].ends
+    nodes[at].text
 }

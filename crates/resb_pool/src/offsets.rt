@@ -1,18 +1,20 @@
 //! Where each string stands once its record is laid.
 //! The records and their closing zeros come from `records`.
-ghost use Rattle.std.specs.Prelude.{◌≡◌, ℕ, List, Contains, IfOk};
-ghost use Rattle.resb_pool.specs.Plan.{nows, at_text, plan_units, offset_of};
-ghost use Rattle.resb_pool.specs.Inner.Placing.{offset_by, Reaches, AreOffsets};
+ghost use Rattle.std.specs.Prelude.{◌≡◌, ◌+◌, ◌-◌, ◌<◌, ◌≤◌, ◌^◌, All, IfOk, length, map, slice_index};
+ghost use Rattle.resb_pool.specs.Plan.{plan_units, offset_of};
+ghost use Rattle.resb_pool.specs.Inner.Placing.{offset_by, ClosesWithin};
 
 use crate::places::Place;
-use indexmap::IndexMap;
+use indexmap::IndexSet;
 use std::alloc::{AllocError, Global};
 
 /// Where strings stand at the front of the 16-bit block.
 #[derive(Drop)]
 pub struct Plan<'a> {
     pub(crate) units: Vec<u16>,
-    pub(crate) offsets: IndexMap<&'a str, u32>,
+    pub(crate) texts: IndexSet<&'a str>,
+    /// The offset of each text.
+    pub(crate) offsets: Vec<u32>,
 }
 
 impl<'a> Plan<'a> {
@@ -27,45 +29,23 @@ impl<'a> Plan<'a> {
     pub fn offset(&self, text: &str) -> Option<u32>
         ensures { result ≡ offset_of self.now text.now }
     {
-        self.offsets.get(text).copied()
+        let index = self.texts.get_index_of(text)?;
+        self.offsets.get(index).copied()
     }
 }
 
-/// The unit at which a text stands.
-fn offset_in<'a>(
-    places: &IndexMap<&'a str, Place<'a>>,
-    ends: &IndexMap<&'a str, u32>,
-    text: &str,
-) -> u32
-    requires { Reaches (at_text places.now) (at_text ends.now) text.now }
-    ensures { result ≡ offset_by (at_text places.now) (at_text ends.now) text.now }
-{
-    let Some(place) = places.get(text) else {
-        return 0;
-    };
-    let end = ends.get(place.record).copied().unwrap_or(0);
-    end + 1 - place.size
-}
-
-/// The units at which texts stand.
-pub(crate) fn find_offsets<'a>(
+/// The units at which texts stand, by where their records close.
+pub(crate) fn find_offsets(
     alloc: Global,
-    strings: &[&'a str],
-    places: &IndexMap<&'a str, Place<'a>>,
-    ends: &IndexMap<&'a str, u32>,
-) -> Result<IndexMap<&'a str, u32>, AllocError>
-    requires { (s : List ℕ) → Contains (nows strings.now) s
-        → Reaches (at_text places.now) (at_text ends.now) s }
-    ensures { IfOk result (λ m. AreOffsets (at_text places.now) (at_text ends.now)
-        (nows strings.now) (at_text m)) }
+    places: &[Place],
+    ends: &[u32],
+) -> Result<Vec<u32>, AllocError>
+    requires { All (ClosesWithin ends.now) places.now }
+    ensures { IfOk result (λ v. v.items ≡ map (offset_by ends.now) places.now) }
 {
-    let mut offsets = IndexMap::new(alloc);
-    for text in strings {
-        if offsets.contains_key(*text) {
-            continue;
-        }
-        let offset = offset_in(places, ends, text);
-        offsets.insert(*text, offset)?;
+    let mut offsets = Vec::with_capacity(alloc, places.len())?;
+    for place in places {
+        offsets.push(ends[place.record] + 1 - place.measure.size)?;
     }
     Ok(offsets)
 }

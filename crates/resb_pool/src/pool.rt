@@ -1,14 +1,15 @@
 //! The plan of a pool: strings in, the units of their records and their offsets out.
-//! Each step has a file of its own: `measure`, `places`, `records`, `offsets`.
+//! Each step has a file of its own: `texts`, `places`, `records`, `offsets`.
 ghost use Rattle.std.specs.Prelude.{IfOk, IfErr};
 ghost use Rattle.resb_pool.specs.FaultOf.{fault_of};
 ghost use Rattle.resb_pool.specs.Plan.{nows, plan_units, offset_of, IsPlan, NotPlanned};
 
 use crate::error::BinarySerializerError;
-use crate::measure::{are_too_large, check_lengths};
+use crate::measure::check_lengths;
 use crate::offsets::{Plan, find_offsets};
-use crate::places::find_places;
-use crate::records::{lay, ordered, sums};
+use crate::places::{find_places, find_sums};
+use crate::records::{lay, ordered};
+use crate::texts::gather;
 use std::alloc::Global;
 
 /// Plans strings, given in walk order and as often as each stands in the tree. Each non-empty one
@@ -23,16 +24,16 @@ pub fn plan<'a>(alloc: Global, strings: &[&'a str]) -> Result<Plan<'a>, BinarySe
     ensures err { IfErr result (λ e. NotPlanned (nows strings.now) (fault_of e)) }
 {
     check_lengths(strings)?;
-    if are_too_large(strings) {
-        return Err(BinarySerializerError::limit("file too large"));
-    }
-    let places = find_places(alloc, strings)?;
-    let sums = sums(alloc, strings, &places.by_text)?;
-    let records = ordered(alloc, &places.records, &sums)?;
-    let block = lay(alloc, &records)?;
-    let offsets = find_offsets(alloc, strings, &places.by_text, &block.ends)?;
+    let texts = gather(alloc, strings)?;
+    let distinct = texts.distinct.as_slice();
+    let places = find_places(alloc, distinct, &texts.measures)?;
+    let sums = find_sums(alloc, &places)?;
+    let records = ordered(alloc, distinct, &places, &sums)?;
+    let block = lay(alloc, &records, places.len())?;
+    let offsets = find_offsets(alloc, &places, &block.ends)?;
     Ok(Plan {
         units: block.units,
+        texts: texts.distinct,
         offsets,
     })
 }

@@ -1,18 +1,15 @@
 //! The records in their order, and their units.
 //! Which texts are records is said in `places`.
-ghost use Rattle.std.specs.Prelude.{◌≡◌, ◌++◌, ◌∷◌, ℕ, ◌+◌, ◌<◌, ◌≤◌, ◌^◌, List, [], length, map, All, Contains, IfOk, OnOk, sum_by, unwrap_or, slice_index_or};
+ghost use Rattle.std.specs.Prelude.{◌≡◌, ◌++◌, ◌∷◌, ℕ, ◌+◌, ◌<◌, ◌≤◌, ◌^◌, List, [], length, map, All, IfOk, OnOk, sum_by, slice_index};
 ghost use Rattle.std.specs.List.{flat_map};
 ghost use Rattle.std.specs.List.Sorted.{IsPermutation, IsSorted};
-ghost use Rattle.std.specs.Str.{IsUtf8};
 ghost use Rattle.resb_format.specs.Units.{units as units_of, marker, size};
-ghost use Rattle.resb_pool.specs.Records.{IsRecord, IsRecords};
-ghost use Rattle.resb_pool.specs.Pool.{SizeIn, Precedes, IsPool, record_units};
-ghost use Rattle.resb_pool.specs.Plan.{nows, at_text};
-ghost use Rattle.resb_pool.specs.Inner.Placing.{ArePlaces, IsMeasuredBy, AreMeasured, ClosesIn, record_texts, record_cmp};
+ghost use Rattle.resb_pool.specs.Pool.{record_units};
+ghost use Rattle.resb_pool.specs.Plan.{nows};
+ghost use Rattle.resb_pool.specs.Records.{IsDistinct, IsRecords};
+ghost use Rattle.resb_pool.specs.Inner.Placing.{ArePlaces, AreSums, AreIndexed, AreEnds, IsRecordOf, record_texts, record_cmp};
 
-use crate::measure::{record_size, utf16_len};
 use crate::places::Place;
-use indexmap::IndexMap;
 use resb_format::is_unmarked;
 use std::alloc::{AllocError, Global};
 use std::cmp::Reverse;
@@ -24,84 +21,60 @@ pub(crate) struct Record<'a> {
     pub(crate) unit_count: u32,
     pub(crate) saved: Reverse<u32>,
     pub(crate) text: &'a str,
+    /// The text's index.
+    pub(crate) index: usize,
 }
 
-/// The units of the records, and where each one's closing 0 stands.
+/// The units of the records, and where each text's closing 0 stands, if it is a record.
 #[derive(Drop)]
-pub(crate) struct Block<'a> {
+pub(crate) struct Block {
     pub(crate) units: Vec<u16>,
-    pub(crate) ends: IndexMap<&'a str, u32>,
+    pub(crate) ends: Vec<u32>,
 }
 
-/// The units that all copies that lie in a record would take as records of their own.
-pub(crate) fn sums<'a>(
-    alloc: Global,
-    strings: &[&'a str],
-    places: &IndexMap<&'a str, Place<'a>>,
-) -> Result<IndexMap<&'a str, u32>, AllocError>
-    requires places { ArePlaces (nows strings.now) (nows strings.now) (at_text places.now) }
-    requires texts { All IsUtf8 (nows strings.now) }
-    requires small { sum_by size (nows strings.now) < 2 ^ 32 }
-    ensures { IfOk result (λ m. (q : List ℕ)
-        → SizeIn (nows strings.now) q (nows strings.now) (unwrap_or (at_text m q) 0)) }
-{
-    let mut sums = IndexMap::new(alloc);
-    for text in strings {
-        let Some(place) = places.get(*text) else {
-            continue;
-        };
-        let sum = sums.get(place.record).copied().unwrap_or(0);
-        sums.insert(place.record, sum + place.size)?;
-    }
-    Ok(sums)
-}
-
-/// A record with what it saves.
-fn measured<'a>(text: &'a str, sum: u32) -> Record<'a>
-    requires short { length (units_of text.now) < 2 ^ 28 }
-    requires own { size text.now ≤ sum }
-    ensures text { result.text.now ≡ text.now }
-    ensures measured { IsMeasuredBy sum result }
-{
-    Record {
-        unit_count: utf16_len(text) as u32,
-        saved: Reverse(sum - record_size(text)),
-        text,
-    }
-}
-
-/// Records with what each saves.
-fn all_measured<'a>(
+/// The records among texts: those that aren't empty and lie in themselves.
+fn find_records<'a>(
     alloc: Global,
     texts: &[&'a str],
-    sums: &IndexMap<&'a str, u32>,
+    places: &[Place],
+    sums: &[u32],
 ) -> Result<Vec<Record<'a>>, AllocError>
-    requires short { All (λ s. length (units_of s) < 2 ^ 28) (nows texts.now) }
-    requires own { All (λ s. size s ≤ unwrap_or (at_text sums.now s) 0) (nows texts.now) }
-    ensures texts { IfOk result (λ v. record_texts v.items ≡ nows texts.now) }
-    ensures measured { IfOk result (λ v. AreMeasured (at_text sums.now) v.items) }
+    requires distinct { IsDistinct (nows texts.now) }
+    requires places { ArePlaces (nows texts.now) places.now }
+    requires sums { AreSums (nows texts.now) places.now sums.now }
+    ensures records { IfOk result (λ v. IsRecords (nows texts.now) (record_texts v.items)) }
+    ensures each { IfOk result (λ v. All (IsRecordOf (nows texts.now) sums.now) v.items) }
 {
-    let mut records = Vec::with_capacity(alloc, texts.len())?;
-    for text in texts {
-        let sum = sums.get(*text).copied().unwrap_or(0);
-        records.push(measured(text, sum))?;
+    let mut records = Vec::new(alloc);
+    for (index, place) in places.iter().enumerate() {
+        if place.record != index || texts[index].is_empty() {
+            continue;
+        }
+        records.push(Record {
+            unit_count: place.measure.unit_count,
+            saved: Reverse(sums[index] - place.measure.size),
+            text: texts[index],
+            index,
+        })?;
     }
     Ok(records)
 }
 
-/// The records in their order.
+/// The records among texts, in their order.
 pub(crate) fn ordered<'a>(
     alloc: Global,
     texts: &[&'a str],
-    sums: &IndexMap<&'a str, u32>,
+    places: &[Place],
+    sums: &[u32],
 ) -> Result<Vec<Record<'a>>, AllocError>
-    requires short { All (λ s. length (units_of s) < 2 ^ 28) (nows texts.now) }
-    requires own { All (λ s. size s ≤ unwrap_or (at_text sums.now s) 0) (nows texts.now) }
-    ensures texts { IfOk result (λ v. IsPermutation (nows texts.now) (record_texts v.items)) }
-    ensures measured { IfOk result (λ v. AreMeasured (at_text sums.now) v.items) }
+    requires distinct { IsDistinct (nows texts.now) }
+    requires places { ArePlaces (nows texts.now) places.now }
+    requires sums { AreSums (nows texts.now) places.now sums.now }
+    ensures records { IfOk result (λ v. IsRecords (nows texts.now) (record_texts v.items)) }
+    ensures each { IfOk result (λ v. All (IsRecordOf (nows texts.now) sums.now) v.items) }
     ensures ascend { IfOk result (λ v. IsSorted record_cmp v.items) }
 {
-    let mut records = all_measured(alloc, texts, sums)?;
+    let mut records = find_records(alloc, texts, places, sums)?;
     records.sort()?;
     Ok(records)
 }
@@ -154,21 +127,21 @@ fn push_record(units: &mut Vec<u16>, item: &Record<'_>) -> Result<u32, AllocErro
     Ok(end)
 }
 
-/// Unit 0 and the records, with the places of their closing zeros.
-pub(crate) fn lay<'a>(alloc: Global, records: &[Record<'a>]) -> Result<Block<'a>, AllocError>
+/// Unit 0 and the records of so many texts, with the places of their closing zeros.
+pub(crate) fn lay(alloc: Global, records: &[Record<'_>], count: usize) -> Result<Block, AllocError>
     requires counts { All (λ r. r.unit_count ≡ length (units_of r.text.now)) records.now }
+    requires indexed { AreIndexed records.now count }
     requires short { sum_by size (record_texts records.now) < 2 ^ 28 }
     ensures units { IfOk result (λ b. b.units.items
         ≡ 0 ∷ flat_map record_units (record_texts records.now)) }
-    ensures ends { IfOk result (λ b. (q : List ℕ) → ClosesIn (record_texts records.now)
-        (record_texts records.now) q (at_text b.ends q)) }
+    ensures len { IfOk result (λ b. length b.ends.items ≡ count) }
+    ensures ends { IfOk result (λ b. AreEnds records.now records.now b.ends.items) }
 {
     let mut units = Vec::new(alloc);
-    let mut ends = IndexMap::new(alloc);
+    let mut ends = vec![in alloc; 0; count]?;
     units.push(0)?;
     for record in records {
-        let end = push_record(&mut units, record)?;
-        ends.insert(record.text, end)?;
+        ends[record.index] = push_record(&mut units, record)?;
     }
     Ok(Block { units, ends })
 }

@@ -1,62 +1,56 @@
-//! A set of texts as a radix tree over their characters, last first.
+//! Distinct texts as a radix tree over their characters, last first.
 //! It finds the record in which a text lies; where records stand is not said here.
+ghost use Rattle.std.specs.Prelude.{◌≡◌, ℕ, ◌<◌, List, length, IfOk};
+ghost use Rattle.resb_pool.specs.Records.{IsDistinct};
+ghost use Rattle.resb_pool.specs.Plan.{nows};
+ghost use Rattle.resb_pool.specs.Inner.Nodes.{IsTrieOf};
+ghost use Rattle.resb_pool.specs.Inner.Placing.{LiesAt};
 
-use crate::grow::put_in;
-use crate::node::{Node, push_node, suffix_of};
-use crate::walk::{find, greatest_below};
+use crate::grow::put;
+use crate::node::{Node, push_node, text_of};
+use crate::walk::greatest_below;
 use std::alloc::{AllocError, Global};
-use std::marker::Model;
 
-/// A set of texts. It finds, for each of them, the record in which it lies.
+/// The trie of texts, which go by their indexes.
 #[derive(Drop)]
 pub(crate) struct SuffixTrie<'a> {
-    alloc: Global,
-    nodes: Vec<Node<'a>>,
-}
-
-impl<'a> Model for SuffixTrie<'a> {
-    ghost use Rattle.std.specs.Prelude.{List, ℕ};
-    ghost use Rattle.resb_pool.specs.Inner.Nodes.{IsTrie, texts_of};
-
-    ghost Value = { List (List ℕ) };
-
-    ghost view = { λ a. texts_of a.nodes.items };
-
-    ghost invariant = { λ a. IsTrie a.nodes.items };
+    pub(crate) nodes: Vec<Node<'a>>,
+    /// The node at which each text ends.
+    pub(crate) ends: Vec<usize>,
 }
 
 impl<'a> SuffixTrie<'a> {
-    ghost use Rattle.std.specs.Prelude.{◌≡◌, ℕ, List, [], ◌<◌, ◌⊎◌, ◌↔◌, length, IfOk, OnOk, OnErr, Contains};
-    ghost use Rattle.resb_pool.specs.Records.{IsRecord};
-    ghost use Rattle.std.specs.Str.{IsUtf8};
-    ghost use Rattle.resb_pool.specs.Container.{IsContainer};
-
-    /// No texts.
-    pub(crate) fn new(alloc: Global) -> Result<SuffixTrie<'a>, AllocError>
-        ensures { IfOk result (λ trie. trie ≡ []) }
+    /// The trie of distinct texts.
+    pub(crate) fn of(alloc: Global, texts: &[&'a str]) -> Result<SuffixTrie<'a>, AllocError>
+        requires { IsDistinct (nows texts.now) }
+        ensures { IfOk result (λ t. IsTrieOf (nows texts.now) t.nodes.items t.ends.items) }
     {
         let mut nodes = Vec::new(alloc);
-        push_node(alloc, &mut nodes, "", false)?;
-        Ok(SuffixTrie { alloc, nodes })
+        push_node(alloc, &mut nodes, "", None)?;
+        let mut ends = Vec::with_capacity(alloc, texts.len())?;
+        for (index, text) in texts.iter().enumerate() {
+            let end = put(alloc, &mut nodes, text, index)?;
+            ends.push(end)?;
+        }
+        Ok(SuffixTrie { nodes, ends })
     }
 
-    /// Adds a text, if it is not there already.
-    pub(crate) fn put(&mut self, text: &'a str) -> Result<(), AllocError>
-        ensures added { OnOk result ((t : List ℕ) → Contains self.new t ↔ (Contains self.old t ⊎ (t ≡ text.now))) }
-        ensures kept { OnErr result ((t : List ℕ) → Contains self.new t ↔ Contains self.old t) }
-        ensures utf8 { IsUtf8 text.now }
+    /// The text in which a text lies: the greatest, in suffix order, of the records that end with
+    /// it. The empty text lies in itself.
+    pub(crate) fn record_of(&self, index: usize) -> usize
+        requires built { (texts : List (List ℕ))
+            × IsTrieOf texts self.now.nodes.items self.now.ends.items }
+        requires within { index < length self.now.ends.items }
+        ensures { (texts : List (List ℕ)) → IsTrieOf texts self.now.nodes.items self.now.ends.items
+            → LiesAt texts index result }
     {
-        put_in(self.alloc, &mut self.nodes, text)
-    }
-
-    /// The record in which a text lies: the greatest, in suffix order, of the records that end with it.
-    pub(crate) fn container(&self, text: &str) -> &'a str
-        requires has { Contains self.now text.now }
-        requires nonempty { 0 < length text.now }
-        ensures container { IsContainer self.now text.now result.now }
-        ensures itself { IsRecord self.now text.now → result.now ≡ text.now }
-    {
-        let at = find(&self.nodes, text);
-        suffix_of(&self.nodes, greatest_below(&self.nodes, at))
+        let end = self.ends[index];
+        if end == 0 {
+            return index;
+        }
+        let Some(record) = text_of(&self.nodes, greatest_below(&self.nodes, end)) else {
+            unreachable!()
+        };
+        record
     }
 }

@@ -9,7 +9,7 @@ use Rattle.resb_format.specs.Units.{units, size}
 use Rattle.resb_pool.specs.Plan.{first_too_long, texts_size, IsPlan}
 use Rattle.resb_pool.proofs.Least.{into_least}
 use Rattle.resb_pool.proofs.OrderingLemmas.{length-records}
-use Rattle.resb_pool.proofs.PlanLemmas.{marker_le}
+use Rattle.resb_pool.proofs.Sizes.{marker_le}
 use Rattle.resb_bodies.specs.WalkOrder.{text_in, members}
 use Rattle.resb_bodies.specs.Room.{most_units, most_bytes}
 use Rattle.resb_write.specs.Keys.{key_bytes, padded, used, is_among}

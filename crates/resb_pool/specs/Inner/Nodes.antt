@@ -1,5 +1,6 @@
 -- A vector of nodes as the shape of a trie.
-use Rattle.std.specs.Prelude.{ℕ, ◌<◌, List, [], map, filter, length, Bool, false, Option, None, slice_index_or}
+--     IsTrieOf T ns es        the nodes are a trie of the texts T, which end at the nodes es
+use Rattle.std.specs.Prelude.{◌≡◌, ℕ, ◌<◌, List, [], map, length, Bool, Option, Some, None, is_some, slice_index, slice_index_or}
 use Rattle.std.specs.Ordering.{nat_cmp}
 use Rattle.std.specs.BTreeMap.{get}
 use Rattle.std.specs.Str.{IsUtf8}
@@ -14,8 +15,12 @@ suffix ns k = slice_index_or (map (λ n. n.suffix.now) ns) k []
 abbrev pub path : List Node → ℕ → List ℕ
 path ns k = key (suffix ns k)
 
+-- the index of the text that ends at node k
+abbrev pub text_at : List Node → ℕ → Option ℕ
+text_at ns k = slice_index_or (map (λ n. n.text) ns) k None
+
 abbrev pub ends : List Node → ℕ → Bool
-ends ns k = slice_index_or (map (λ n. n.ends) ns) k false
+ends ns k = is_some (text_at ns k)
 
 abbrev pub child : List Node → ℕ → ℕ → Option ℕ
 child ns k c = slice_index_or (map (λ n. get nat_cmp n.children c) ns) k None
@@ -24,6 +29,15 @@ pub record IsTrie (ns : List Node) : Type 0 where
   pub shape : IsShape (length ns) (path ns) (child ns) (ends ns)
   pub texts : (k : ℕ) → k < length ns → IsUtf8 (suffix ns k)
 
--- the texts that end at nodes
-abbrev pub texts_of : List Node → List (List ℕ)
-texts_of ns = map (λ n. n.suffix.now) (filter (λ n. n.ends) ns)
+-- the text s, of index x, ends at node k
+pub record IsEnd (ns : List Node) (s : List ℕ) (x k : ℕ) : Type 0 where
+  pub within : k < length ns
+  pub is : suffix ns k ≡ s
+  pub here : text_at ns k ≡ Some x
+
+pub record IsTrieOf (T : List (List ℕ)) (ns : List Node) (es : List ℕ) : Type 0 where
+  pub trie : IsTrie ns
+  pub len : length es ≡ length T
+  pub ends : (x : ℕ) → x < length T → IsEnd ns (slice_index_or T x []) x (slice_index es x)
+  -- no other text ends at a node
+  pub only : (k x : ℕ) → k < length ns → text_at ns k ≡ Some x → (x < length T) × (slice_index es x ≡ k)

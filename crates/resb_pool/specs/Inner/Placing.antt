@@ -1,27 +1,57 @@
--- What is known of texts while they are placed.
---     IsPlace S s p           p says where s lies, and its size
---     ArePlaces S done at     each of the texts done that isn't empty has its place
---     ClosesIn Q done q k     k is where the record q closes, if it is one of those done
-use Rattle.std.specs.Prelude.{◌≡◌, ℕ, ◌+◌, ◌-◌, ◌^◌, ◌<◌, ◌≤◌, List, length, map, Option, MatchOption, unwrap_or, All, Contains}
-use Rattle.std.specs.Option.{option_map_or}
+-- What is known of texts while they are placed. T are distinct texts; each goes by its index there.
+--     AreTexts S T ms         T are the texts of S, and ms their measures
+--     LiesAt T i r            the text i lies in the text r
+--     lying_in ps q           what all copies that lie in the text q would take
+--     AreEnds rs done es      es says where each record done closes
+use Rattle.std.specs.Prelude.{◌≡◌, ℕ, ◌+◌, ◌-◌, ◌^◌, ◌<◌, ◌≤◌, List, [], length, map, All, Contains, ◌↔◌, sum_by, nat_eq, slice_index, slice_index_or, if◌then◌else◌}
 use Rattle.std.specs.Cmp.Lexicographic.{slice_cmp}
 use Rattle.std.specs.Ordering.{nat_cmp, ordering_then}
+use Rattle.std.specs.Str.{bytes_eq, IsUtf8}
 use Rattle.std.specs.declared.cmp.Ordering.{Ordering}
 use Rattle.resb_format.specs.Units.{units, size}
 use Rattle.resb_pool.specs.Records.{IsRecord, IsDistinct}
 use Rattle.resb_pool.specs.Container.{IsContainer}
 use Rattle.resb_pool.specs.Pool.{ClosesAt}
+use Rattle.resb_pool.specs.declared.measure.Measure.{Measure}
 use Rattle.resb_pool.specs.declared.places.Place.{Place}
 use Rattle.resb_pool.specs.declared.records.Record.{Record}
 
-pub record IsPlace (S : List (List ℕ)) (s : List ℕ) (p : Place) : Type 0 where
-  pub nonempty : 0 < length s
-  pub container : IsContainer S s p.record.now
-  pub itself : IsRecord S s → p.record.now ≡ s
-  pub size_is : p.size ≡ size s
+-- the text of index i
+abbrev pub text : List (List ℕ) → ℕ → List ℕ
+text T i = slice_index_or T i []
 
-abbrev pub ArePlaces : List (List ℕ) → List (List ℕ) → (List ℕ → Option Place) → Type 0
-ArePlaces S done at = (s : List ℕ) → MatchOption (at s) (Contains done s → length s ≡ 0) (λ p. Contains done s × IsPlace S s p)
+-- what the copies of t in S would take as records of their own
+abbrev pub copies : List (List ℕ) → List ℕ → ℕ
+copies S t = sum_by (λ s. if bytes_eq t s then size s else 0) S
+
+pub record IsMeasure (S : List (List ℕ)) (t : List ℕ) (m : Measure) : Type 0 where
+  pub units_is : m.unit_count ≡ length (units t)
+  pub size_is : m.size ≡ size t
+  pub total_is : m.total ≡ copies S t
+
+abbrev pub AreMeasures : List (List ℕ) → List (List ℕ) → List Measure → Type 0
+AreMeasures S T ms = (i : ℕ) (d : Measure) → i < length T → IsMeasure S (text T i) (slice_index_or ms i d)
+
+pub record AreTexts (S T : List (List ℕ)) (ms : List Measure) : Type 0 where
+  pub utf8 : All IsUtf8 S
+  pub once : IsDistinct T
+  pub same : (s : List ℕ) → Contains T s ↔ Contains S s
+  pub len : length ms ≡ length T
+  pub measured : AreMeasures S T ms
+
+-- in its container; the empty text lies in itself
+pub record LiesAt (T : List (List ℕ)) (i r : ℕ) : Type 0 where
+  pub within : r < length T
+  pub container : 0 < length (text T i) → IsContainer T (text T i) (text T r)
+  pub itself : IsRecord T (text T i) → r ≡ i
+  pub empty : length (text T i) ≡ 0 → r ≡ i
+
+pub record ArePlaces (T : List (List ℕ)) (ps : List Place) : Type 0 where
+  pub len : length ps ≡ length T
+  pub lies : (i : ℕ) (d : Place) → i < length T → LiesAt T i (slice_index_or ps i d).record
+
+abbrev pub lying_in : List Place → ℕ → ℕ
+lying_in ps q = sum_by (λ p. if nat_eq p.record q then p.measure.total else 0) ps
 
 -- rs are the records among the texts done, each once
 pub record AreRecordsAmong (S done rs : List (List ℕ)) : Type 0 where
@@ -32,29 +62,41 @@ pub record AreRecordsAmong (S done rs : List (List ℕ)) : Type 0 where
 abbrev pub record_texts : List Record → List (List ℕ)
 record_texts rs = map (λ r. r.text.now) rs
 
--- the record's units, and what it saves where its copies and suffixes take so many units
-pub record IsMeasuredBy (sum : ℕ) (r : Record) : Type 0 where
-  pub units_is : r.unit_count ≡ length (units r.text.now)
-  pub saved_is : r.saved.0 + size r.text.now ≡ sum
+-- each text's sizes, and that its own record is among what lies in it
+pub record AreSums (T : List (List ℕ)) (ps : List Place) (sums : List ℕ) : Type 0 where
+  pub len : length sums ≡ length T
+  pub units_is : (i : ℕ) (d : Place) → i < length T → (slice_index_or ps i d).measure.unit_count ≡ length (units (text T i))
+  pub size_is : (i : ℕ) (d : Place) → i < length T → (slice_index_or ps i d).measure.size ≡ size (text T i)
+  pub own : (i : ℕ) → i < length T → IsRecord T (text T i) → size (text T i) ≤ slice_index sums i
 
-abbrev pub AreMeasured : (List ℕ → Option ℕ) → List Record → Type 0
-AreMeasured at rs = All (λ r. IsMeasuredBy (unwrap_or (at r.text.now) 0) r) rs
+-- the record of a text with its units, and with what it saves
+pub record IsRecordOf (T : List (List ℕ)) (sums : List ℕ) (r : Record) : Type 0 where
+  pub within : r.index < length T
+  pub text_is : r.text.now ≡ text T r.index
+  pub units_is : r.unit_count ≡ length (units r.text.now)
+  pub saved_is : r.saved.0 + size r.text.now ≡ slice_index sums r.index
 
 -- the order of records
 abbrev pub record_cmp : Record → Record → Ordering
-record_cmp x y = ordering_then (nat_cmp x.unit_count y.unit_count) (ordering_then (nat_cmp y.saved.0 x.saved.0) (slice_cmp nat_cmp x.text.now y.text.now))
+record_cmp x y = ordering_then (nat_cmp x.unit_count y.unit_count) (ordering_then (nat_cmp y.saved.0 x.saved.0) (ordering_then (slice_cmp nat_cmp x.text.now y.text.now) (nat_cmp x.index y.index)))
 
-abbrev pub ClosesIn : List (List ℕ) → List (List ℕ) → List ℕ → Option ℕ → Type 0
-ClosesIn Q done q k = MatchOption k (Contains done q → ⊥) (ClosesAt Q q)
+-- records of one index are of one text
+pub record AreIndexed (rs : List Record) (count : ℕ) : Type 0 where
+  pub within : All (λ r. r.index < count) rs
+  pub one : (j k : ℕ) (d : Record) → j < length rs → k < length rs → (slice_index_or rs j d).index ≡ (slice_index_or rs k d).index
+      → (slice_index_or rs j d).text.now ≡ (slice_index_or rs k d).text.now
 
--- where s stands, by its place and by where its record closes; the empty text has no place
-abbrev pub offset_by : (List ℕ → Option Place) → (List ℕ → Option ℕ) → List ℕ → ℕ
-offset_by at ends s = option_map_or (λ p. unwrap_or (ends p.record.now) 0 + 1 - p.size) (at s) 0
+-- where each record done closes; 0 for what is no record
+pub record AreEnds (rs done : List Record) (es : List ℕ) : Type 0 where
+  pub closes : All (λ r. ClosesAt (record_texts rs) r.text.now (slice_index es r.index)) done
+  pub others : (i : ℕ) → All (λ r. r.index ≡ i → ⊥) done → slice_index es i ≡ 0
+
+-- where a text stands, by where its record closes
+abbrev pub offset_by : List ℕ → Place → ℕ
+offset_by es p = slice_index es p.record + 1 - p.measure.size
 
 -- the record closes far enough
-abbrev pub Reaches : (List ℕ → Option Place) → (List ℕ → Option ℕ) → List ℕ → Type 0
-Reaches at ends s = MatchOption (at s) (Unit {0}) (λ p. (p.size ≤ unwrap_or (ends p.record.now) 0 + 1) × (unwrap_or (ends p.record.now) 0 < 2 ^ 28))
-
--- each of the texts done has its offset, and no other text has one
-abbrev pub AreOffsets : (List ℕ → Option Place) → (List ℕ → Option ℕ) → List (List ℕ) → (List ℕ → Option ℕ) → Type 0
-AreOffsets at ends done offsets = (s : List ℕ) → MatchOption (offsets s) (Contains done s → ⊥) (λ k. Contains done s × (k ≡ offset_by at ends s))
+pub record ClosesWithin (es : List ℕ) (p : Place) : Type 0 where
+  pub within : p.record < length es
+  pub reaches : p.measure.size ≤ slice_index es p.record + 1
+  pub small : slice_index es p.record < 2 ^ 28

@@ -1,10 +1,10 @@
 use Rattle.std.proofs.Common.{rules, ◌≡◌, ◌∙◌, length, ap, sym, subst, arith}
 use Rattle.std.proofs.lemmas.Result.{on_ok_weaker}
-use Rattle.resb_tree.specs.Tree.{array, table}
+use Rattle.resb_tree.specs.Tree.{array, string, table}
 use Rattle.resb_tree.specs.View.{tree_of, items_view, entries_view}
 use Rattle.resb_tree.specs.declared.resource.Resource.{the_lemmas}
 use Rattle.resb_bodies.specs.WalkOrder.{children}
-use Rattle.resb_bodies.specs.Room.{own_size}
+use Rattle.resb_bodies.specs.Room.{given_by, own_size, IsKnown}
 use Rattle.resb_bodies.specs.Inner.Seen.{HasRoom, Takes}
 use Rattle.resb_bodies.proofs.Walks.{items_long}
 use Rattle.resb_bodies.proofs.Keys.{values_long}
@@ -41,3 +41,8 @@ pub returns-in-Table-clause-takes : goal.returns-in-Table-clause-takes
 returns-in-Table-clause-takes c =
     let e : tree_of c.args.resource.now ≡ table (entries_view c.in-Table.table.entries) = search (rules, the_lemmas) in
     on_ok_weaker c.step_table.result (λ h. subst (Takes c.args.places.now c.args.bodies.now c.step_table.new.bodies) (sym (ap own_size e ∙ sym (values_long c.in-Table.table.entries))) h) c.step_table.ensures.takes
+
+pub step_string-requires : goal.step_string-requires
+step_string-requires c =
+    let e : tree_of c.args.resource.now ≡ string c.as_str.result.now = search (rules, the_lemmas) in
+    subst (IsKnown (given_by c.args.places.now)) e c.requires.known

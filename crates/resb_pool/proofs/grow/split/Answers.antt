@@ -1,23 +1,14 @@
-use Rattle.std.proofs.Common.{rules, ◌≡◌, ◌++◌, ◌∷◌, [], List, ℕ, false, drop, length, ap, ◌∙◌, subst, sym}
-use Rattle.std.proofs.lemmas.Result.{err_from_is_err_and}
+use Rattle.std.proofs.Common.{rules, ◌≡◌, ◌++◌, ◌∷◌, [], List, ℕ, drop, length, ap, ◌∙◌, subst, sym}
+use Rattle.resb_pool.specs.Inner.Changes.{IsKept}
 use Rattle.resb_pool.specs.Inner.Extends.{Extends}
 use Rattle.resb_pool.specs.Inner.Cuts.{key}
-use Rattle.resb_pool.specs.Inner.Nodes.{path, suffix}
-use Rattle.resb_pool.proofs.Steps.{same_trie, back_trie, middle_trie}
+use Rattle.resb_pool.specs.Inner.Nodes.{path, suffix, IsTrie}
+use Rattle.resb_pool.proofs.Steps.{middle_trie}
 use Rattle.resb_pool.proofs.grow.split.Goals as goal
+use Rattle.resb_pool.proofs.grow.split.Goals.{In_ok-set_child-2}
 
-pub returns-in_err-push_node-clause-err : goal.returns-in_err-push_node-clause-err
-returns-in_err-push_node-clause-err c =
-    let p = err_from_is_err_and c.from_residual.result c.from_residual.ensures.1 in
-    rw p.1 (same_trie c.args.nodes.now.items c.push_node.new.nodes.items c.requires.trie c.in_err-push_node.ensures.err)
-
-pub returns-in-Err-clause-err : goal.returns-in-Err-clause-err
-returns-in-Err-clause-err c =
-    back_trie c.args.nodes.now.items c.push_node.new.nodes.items c.set_child.new.nodes.items c.pop_node.new.nodes.items c.back_of-shared.result.now false
-    c.requires.trie c.in_ok-push_node.ensures.ok c.in-Err.ensures.err.0 c.pop_node.ensures.len c.pop_node.ensures.same
-
-pub returns-clause-ok : goal.returns-clause-ok
-returns-clause-ok c =
+grown : (c : In_ok-set_child-2) → IsTrie c.set_child-2.new.nodes.items × IsKept c.args.nodes.now.items c.set_child-2.new.nodes.items
+grown c =
     let ms = c.args.nodes.now.items in
     let t = c.back_of-shared.result.now in
     let e : drop (length c.args.front.now) (suffix ms c.args.below) ≡ t = sym (c.back_of-shared.ensures ∙ ap (λ (l : List ℕ). drop (length c.args.front.now) l) c.suffix_of.ensures) in
@@ -26,4 +17,10 @@ returns-clause-ok c =
     c.requires.trie c.back_of-shared.utf8 c.requires.at c.requires.child
     (subst (λ (l : List ℕ). Extends (key l) (path ms c.args.at ++ c.args.first ∷ [])) e c.requires.on)
     (subst (λ (l : List ℕ). Extends (path ms c.args.below) (key l ++ c.args.next ∷ [])) e c.requires.next)
-    c.in_ok-push_node.ensures.ok q c.in_default.ensures.ok c.in_ok-set_child.ensures.ok
+    c.in_ok-push_node.ensures q c.in_ok-set_child.ensures c.in_ok-set_child-2.ensures
+
+pub returns-clause-trie : goal.returns-clause-trie
+returns-clause-trie c = (grown (goal.at.returns-clause-trie c).In_ok-set_child-2).0
+
+pub returns-clause-kept : goal.returns-clause-kept
+returns-clause-kept c = (grown (goal.at.returns-clause-kept c).In_ok-set_child-2).1

@@ -1,17 +1,30 @@
-use Rattle.std.proofs.lemmas.Result.{IfOk-weaker}
-use Rattle.resb_pool.specs.Records.{IsRecords}
-use Rattle.resb_pool.specs.Inner.Placing.{ArePlaces, AreRecordsAmong}
-use Rattle.resb_pool.specs.Plan.{nows, at_text}
-use Rattle.resb_pool.proofs.PlacingLemmas.{places_from, records_from}
+use Rattle.std.proofs.Common.{◌++◌, ◌∷◌, [], List, length, map, get_or, inl, inr, sym, ◌∙◌, ap, subst, arith}
+use Rattle.std.proofs.lemmas.List.{get_or_append_left, get_or_push, length_push, map_push, take_more}
+use Rattle.resb_pool.specs.Plan.{nows}
+use Rattle.resb_pool.specs.Inner.Placing.{LiesAt}
+use Rattle.resb_pool.specs.declared.places.Place.{Place}
+use Rattle.resb_pool.specs.declared.measure.Measure.{Measure}
+use Rattle.resb_pool.proofs.NewNode.{old_or_new}
 use Rattle.resb_pool.proofs.places.find_places.Goals as goal
 
-pub place_all-requires-clause-given : goal.place_all-requires-clause-given
-place_all-requires-clause-given c = λ s. (c.in_ok-trie.ensures.same s).1
+abbrev no_measure : Measure
+no_measure = record { unit_count = 0; size = 0; total = 0 }
 
-pub returns-clause-places : goal.returns-clause-places
-returns-clause-places c = IfOk-weaker c.place_all.result (λ p. ArePlaces c.in_ok-trie.trie (nows c.args.strings.now) (at_text p.by_text)) (λ p. ArePlaces (nows c.args.strings.now) (nows c.args.strings.now) (at_text p.by_text))
-    (λ p h. places_from c.in_ok-trie.trie (nows c.args.strings.now) c.in_ok-trie.ensures.same (nows c.args.strings.now) (at_text p.by_text) h) c.place_all.ensures.places
-
-pub returns-clause-records : goal.returns-clause-records
-returns-clause-records c = IfOk-weaker c.place_all.result (λ p. AreRecordsAmong c.in_ok-trie.trie (nows c.args.strings.now) (nows p.records.items)) (λ p. IsRecords (nows c.args.strings.now) (nows p.records.items))
-    (λ p h. records_from c.in_ok-trie.trie (nows c.args.strings.now) c.in_ok-trie.ensures.same (nows p.records.items) h) c.place_all.ensures.records
+pub loop-index-preserved : goal.loop-index-preserved
+loop-index-preserved c =
+    let i = c.loop-index.index in
+    let v = c.loop-index.invariant in
+    let e = c.in_ok-push.ensures.items in
+    let ps = c.loop-index.places.items in
+    let p : Place = record { «record» = c.record_of.result; measure = get_or c.args.measures.now i no_measure } in
+    record {
+      len = omega (arith, ap length e, length_push ps p, v.len);
+      lies = λ j d l.
+          subst (λ (z : List Place). LiesAt (nows c.args.texts.now) j (get_or z j d).record) (sym e)
+          (elim (old_or_new i j l) [
+            | inl b ↦ subst (λ (z : Place). LiesAt (nows c.args.texts.now) j z.record) (sym (get_or_append_left ps (p ∷ []) d j (omega (arith, b, v.len)))) (v.lies j d b)
+            | inr q ↦ subst (λ (z : Place). LiesAt (nows c.args.texts.now) j z.record) (sym (get_or_push ps p d j (v.len ∙ sym q)))
+                (subst (λ k. LiesAt (nows c.args.texts.now) k c.record_of.result) (sym q) (c.record_of.ensures (nows c.args.texts.now) c.in_ok-trie.ensures))
+          ]);
+      measures = ap (map (λ (z : Place). z.measure)) e ∙ map_push (λ (z : Place). z.measure) ps p ∙ ap (λ (z : List Measure). z ++ p.measure ∷ []) v.measures ∙ sym (take_more c.args.measures.now i no_measure c.loop-index-test.true);
+    }

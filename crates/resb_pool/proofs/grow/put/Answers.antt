@@ -1,20 +1,21 @@
 use Rattle.std.proofs.Common.{rules, ◌≡◌, ◌-◌, ◌≤◌, List, ℕ, length, take, drop, ap, ◌∙◌, sym, subst}
 use Rattle.std.specs.Char.{IsScalar}
-use Rattle.std.proofs.lemmas.Result.{err_from_is_err_and, on_ok_weaker}
+use Rattle.std.proofs.lemmas.Result.{IfOk-weaker}
+use Rattle.resb_pool.specs.Inner.Changes.{IsAdded}
 use Rattle.resb_pool.specs.Inner.Cuts.{IsCut}
-use Rattle.resb_pool.specs.Inner.Nodes.{suffix}
+use Rattle.resb_pool.specs.Inner.Nodes.{suffix, IsTrie}
 use Rattle.resb_pool.proofs.Cut.{cut_on, root_cut, text_is}
 use Rattle.resb_pool.proofs.Down.{IsDown, down, shared_fits, label_cut, label_is, at_child, at_middle, middle_cut, middle_on, middle_next, rest_smaller}
-use Rattle.resb_pool.proofs.Steps.{kept_kept, kept_added, kept_itself, end_trie}
-use Rattle.resb_pool.proofs.grow.put_in.Goals as goal
-use Rattle.resb_pool.proofs.grow.put_in.Goals.{In-Some-child_of, After-strip_shared}
+use Rattle.resb_pool.proofs.Steps.{kept_kept, kept_added, kept_itself, kept_new, end_trie}
+use Rattle.resb_pool.proofs.grow.put.Goals as goal
+use Rattle.resb_pool.proofs.grow.put.Goals.{In-Some-child_of, After-strip_shared, After-set_end}
 
 pub loop-before-init : goal.loop-before-init
 loop-before-init c = record {
-  trie = c.requires;
+  trie = c.requires.trie;
   kept = kept_itself c.args.nodes.now.items;
-  within = c.requires.shape.some;
-  cut = root_cut c.args.text.now (suffix c.args.nodes.now.items 0) c.utf8.text (c.requires.texts 0 c.requires.shape.some) c.requires.shape.root;
+  within = c.requires.trie.shape.some;
+  cut = root_cut c.args.text.now (suffix c.args.nodes.now.items 0) c.utf8.text (c.requires.trie.texts 0 c.requires.trie.shape.some) c.requires.trie.shape.root;
 }
 
 pub add_leaf-requires-clause-below : goal.add_leaf-requires-clause-below
@@ -22,9 +23,10 @@ add_leaf-requires-clause-below c =
     let s : IsScalar c.in-Some.first = search rules in
     cut_on c.args.text.now c.loop-before.rest.now c.in-Some.before.now (suffix c.loop-before.nodes.items c.loop-before.at) c.in-Some.first c.loop-before.invariant.cut c.in-Some.ensures s
 
-pub returns-in_default-child_of-clause-ok : goal.returns-in_default-child_of-clause-ok
-returns-in_default-child_of-clause-ok c =
-    on_ok_weaker c.add_leaf.result (λ h. (h.0, kept_added c.args.nodes.now.items c.loop-before.nodes.items c.add_leaf.new.nodes.items c.args.text.now c.loop-before.invariant.kept h.1)) c.add_leaf.ensures.ok
+pub returns-in_default-child_of-clause-added : goal.returns-in_default-child_of-clause-added
+returns-in_default-child_of-clause-added c =
+    IfOk-weaker c.add_leaf.result (λ k. IsAdded c.loop-before.nodes.items c.add_leaf.new.nodes.items c.args.text.now c.args.index k) (λ k. IsAdded c.args.nodes.now.items c.add_leaf.new.nodes.items c.args.text.now c.args.index k)
+    (λ k h. kept_added c.args.nodes.now.items c.loop-before.nodes.items c.add_leaf.new.nodes.items c.args.text.now c.args.index k c.loop-before.invariant.kept h) c.add_leaf.ensures.added
 
 -- the child that the walk goes down to
 to_child : (c : In-Some-child_of) → IsDown c.loop-before.nodes.items c.args.text.now c.in-Some.before.now c.loop-before.at c.in-Some.first c.in-Some-child_of.below
@@ -81,12 +83,6 @@ split-requires-clause-next c =
     c.front_of-label.result.now c.strip_shared.result.0.now c.strip_shared.result.1.now (label_of g.After-strip_shared d) c.strip_shared.ensures
     c.in-Some-split_last.field-0-0.now c.in-Some-split_last.next c.in-Some-split_last.ensures s
 
-pub returns-in_err-at-in-Some-split_last-clause-err : goal.returns-in_err-at-in-Some-split_last-clause-err
-returns-in_err-at-in-Some-split_last-clause-err c =
-    let p = err_from_is_err_and c.from_residual.result c.from_residual.ensures.1 in
-    let h = c.in_err-at-in-Some-split_last.ensures.err in
-    rw p.1 (h.0, kept_kept c.args.nodes.now.items c.loop-before.nodes.items c.split.new.nodes.items c.loop-before.invariant.kept h.1)
-
 pub loop-before-smaller-in-None : goal.loop-before-smaller-in-None
 loop-before-smaller-in-None c =
     let g = goal.at.loop-before-smaller-in-None c in
@@ -123,17 +119,26 @@ loop-before-preserved c =
     let i = c.loop-before.invariant in
     let h = c.in_ok-at-in-Some-split_last.ensures in
     record {
-      trie = h.ok.0;
-      kept = kept_kept c.args.nodes.now.items c.loop-before.nodes.items c.split.new.nodes.items i.kept h.ok.1;
+      trie = h.trie;
+      kept = kept_kept c.args.nodes.now.items c.loop-before.nodes.items c.split.new.nodes.items i.kept h.kept;
       within = h.place.0;
       cut = subst (IsCut c.args.text.now c.strip_shared.result.0.now) (sym h.place.1)
           (at_middle c.loop-before.nodes.items c.args.text.now c.in-Some.before.now c.loop-before.at c.in-Some.first c.in-Some-child_of.below d
           c.front_of-label.result.now c.strip_shared.result.0.now c.strip_shared.result.1.now (label_of g.After-strip_shared d) c.strip_shared.ensures);
     }
 
-pub returns-clause-ok : goal.returns-clause-ok
-returns-clause-ok c =
+ended : (c : After-set_end) → IsTrie c.set_end.new.nodes.items × IsAdded c.loop-before.nodes.items c.set_end.new.nodes.items c.args.text.now c.args.index c.loop-before.at
+ended c =
     let i = c.loop-before.invariant in
-    let e : suffix c.loop-before.nodes.items c.loop-before.at ≡ c.args.text.now = text_is c.args.text.now c.loop-before.rest.now (suffix c.loop-before.nodes.items c.loop-before.at) i.cut c.in_default.ensures in
-    let h = end_trie c.loop-before.nodes.items c.set_end.new.nodes.items c.loop-before.at c.args.text.now i.trie i.within e c.set_end.ensures in
-    (h.0, kept_added c.args.nodes.now.items c.loop-before.nodes.items c.set_end.new.nodes.items c.args.text.now i.kept h.1)
+    let ms = c.loop-before.nodes.items in
+    let e : suffix ms c.loop-before.at ≡ c.args.text.now = text_is c.args.text.now c.loop-before.rest.now (suffix ms c.loop-before.at) i.cut c.in_default.ensures in
+    end_trie ms c.set_end.new.nodes.items c.loop-before.at c.args.index c.args.text.now i.trie i.within e
+    (kept_new c.args.nodes.now.items ms c.args.text.now i.kept c.requires.new) c.set_end.ensures
+
+pub returns-clause-trie : goal.returns-clause-trie
+returns-clause-trie c = (ended (goal.at.returns-clause-trie c).After-set_end).0
+
+pub returns-clause-added : goal.returns-clause-added
+returns-clause-added c =
+    kept_added c.args.nodes.now.items c.loop-before.nodes.items c.set_end.new.nodes.items c.args.text.now c.args.index c.loop-before.at c.loop-before.invariant.kept
+    (ended (goal.at.returns-clause-added c).After-set_end).1

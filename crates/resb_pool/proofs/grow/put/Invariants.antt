@@ -2,7 +2,7 @@ use Rattle.std.proofs.Common.{◌<◌, length}
 use Rattle.resb_pool.specs.Inner.Nodes.{suffix, IsTrie}
 use Rattle.resb_pool.specs.Inner.Changes.{IsKept}
 use Rattle.resb_pool.specs.Inner.Cuts.{IsCut}
-use Rattle.resb_pool.proofs.grow.put_in.Given as goal
+use Rattle.resb_pool.proofs.grow.put.Given as goal
 
 abbrev pub invariant-loop-before : goal.invariant-loop-before
 invariant-loop-before l = record {

@@ -1,0 +1,68 @@
+//! The distinct texts of strings, each with its sizes. From here on a text goes by its index.
+//! Where texts lie is said in `places`.
+ghost use Rattle.std.specs.Prelude.{◌≡◌, ◌++◌, ◌∷◌, ◌<◌, ◌^◌, [], List, ℕ, IfOk, IfErr, OnOk, None, length};
+ghost use Rattle.resb_format.specs.Units.{units};
+ghost use Rattle.resb_pool.specs.FaultOf.{fault_of};
+ghost use Rattle.resb_pool.specs.Plan.{nows, first_too_long, texts_size, NotPlanned};
+ghost use Rattle.resb_pool.specs.Inner.Placing.{AreTexts};
+
+use crate::error::BinarySerializerError;
+use crate::measure::{Measure, SIZE_LIMIT, is_vast};
+use indexmap::IndexSet;
+use std::alloc::{AllocError, Global};
+
+/// Texts, each once and in the order of their first copies, and their sizes.
+#[derive(Drop)]
+pub(crate) struct Texts<'a> {
+    pub(crate) distinct: IndexSet<&'a str>,
+    pub(crate) measures: Vec<Measure>,
+}
+
+/// Adds a copy of a text, and gives the number of its units.
+fn add<'a>(texts: &mut Texts<'a>, text: &'a str) -> Result<usize, AllocError>
+    requires given { (done : List (List ℕ)) × (texts_size done < 2 ^ 28)
+        × AreTexts done (nows texts.old.distinct.keys) texts.old.measures.items }
+    requires short { length (units text.now) < 2 ^ 28 }
+    ensures count { IfOk result (λ n. n ≡ length (units text.now)) }
+    ensures texts { OnOk result ((done : List (List ℕ))
+        → AreTexts done (nows texts.old.distinct.keys) texts.old.measures.items
+        → AreTexts (done ++ text.now ∷ []) (nows texts.new.distinct.keys)
+        texts.new.measures.items) }
+{
+    let (index, is_new) = texts.distinct.insert_full(text)?;
+    if is_new {
+        texts.measures.push(Measure::of(text))?;
+    }
+    let measure = &mut texts.measures[index];
+    measure.total += measure.size;
+    Ok(measure.unit_count as usize)
+}
+
+/// The distinct texts of strings. Refused are strings whose units and 16 for each come to 2^28 or
+/// more.
+pub(crate) fn gather<'a>(
+    alloc: Global,
+    strings: &[&'a str],
+) -> Result<Texts<'a>, BinarySerializerError>
+    requires { first_too_long (nows strings.now) ≡ None }
+    ensures texts { IfOk result (λ t.
+        AreTexts (nows strings.now) (nows t.distinct.keys) t.measures.items) }
+    ensures small { OnOk result (texts_size (nows strings.now) < 2 ^ 28) }
+    ensures err { IfErr result (λ e. NotPlanned (nows strings.now) (fault_of e)) }
+{
+    let mut texts = Texts {
+        distinct: IndexSet::new(alloc),
+        measures: Vec::new(alloc),
+    };
+    let mut size = 0;
+    for text in strings {
+        if is_vast(text) {
+            return Err(BinarySerializerError::limit("file too large"));
+        }
+        size += 16 + add(&mut texts, text)?;
+        if size >= SIZE_LIMIT {
+            return Err(BinarySerializerError::limit("file too large"));
+        }
+    }
+    Ok(texts)
+}

@@ -28,8 +28,7 @@ pub record IsCompiled (text bytes : List ℕ) : Type 0 where
   pub bundle : IsBundle text
   pub file : Written bytes bundle.tree bundle.fallback bundle.keys
 
--- a bundle whose tree the writer refuses for this reason, which is no key that the reader did not
--- discover
+-- a bundle whose tree the writer refuses for this reason, which is no undiscovered key
 pub record IsUnwritable (text : List ℕ) (e : BinarySerializerError) : Type 0 where
   pub bundle : IsBundle text
   pub refused : Refused bundle.tree bundle.keys (fault_of e)

@@ -1,5 +1,4 @@
--- The words of the contracts: compiled texts, and what the crates below say of trees, texts and
--- files.
+-- The words of the contracts: compiled texts, and what the crates below say of trees and files.
 pub use Rattle.resb_tree.specs.Tree
 pub use Rattle.resb_tree.specs.View
 pub use Rattle.resb_tree.specs.Bundle

@@ -1,8 +1,8 @@
 -- What a reading within a budget answers.
 --     Lacks counts left           no count that can be paid for stands there
 --     Reads faults reads counts left left' r
--- Ok with a value that is read and paid for; or else such a count lacks, and
---                             the error is one of these
+--                             Ok with a value that is read and paid for; or else such a count
+--                             lacks, and the error is one of these
 use Rattle.std.specs.Prelude.{◌≡◌, ◌≤◌, ◌+◌, ◌⊎◌, ℕ, Option, Some, Result, Ok, Err}
 use Rattle.resb_format.specs.Error.{IsWantOfMemory}
 use Rattle.resb_format.specs.declared.error.ReadingError.{ReadingError}

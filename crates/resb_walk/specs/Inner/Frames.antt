@@ -1,6 +1,6 @@
 -- Open collections: what of them has been read.
--- Opened f w n            the collection f stands at the word w, its members so far denote n
--- resources, and it has made what they denote
+--     Opened f w n            the collection f stands at the word w, its members so far denote n
+--                             resources, and it has made what they denote
 --     Waits f w x n           the same, where the member x is being read
 use Rattle.std.specs.Prelude.{ℕ, List, ◌∷◌, ◌++◌, Some, ◌≡◌}
 use Rattle.resb_tree.specs.Tree.{Tree}

@@ -3,8 +3,11 @@
 
     write_kinds.py                        the six kinds, each at the size that its row in README.md has
     write_kinds.py --growth [BYTES ..]    ours alone, 10 kB to 100 MB, with the growth over the size before
+    write_kinds.py --make KIND BYTES      the text of a kind, on standard output
 
-The least of three times is printed, in milliseconds, with the most memory of the process in MB.
+`--program PATH` in front of these times another program. The least of three times is printed, in
+milliseconds, with the most memory of the process in MB. Texts are made by processes of their own, since
+a process that was forked counts the memory of the one that forked it.
 """
 import os
 import pathlib
@@ -93,12 +96,17 @@ def least(command, work):
     return best * 1000, memory
 
 
-def beside_genrb(work):
-    for kind, (make, size) in KINDS.items():
-        text = make(size)
-        (work / 'b.txt').write_text(text)
-        ours, memory = least([PROGRAM, 'compile', 'b.txt', 'ours.res'], work)
-        line = '%-36s %9d bytes %8.1f ms %6.0f MB' % (kind, len(text.encode()), ours, memory)
+def make_text(work, kind, size):
+    with open(work / 'b.txt', 'wb') as file:
+        subprocess.run([sys.executable, __file__, '--make', kind, str(size)], stdout=file, check=True)
+    return (work / 'b.txt').stat().st_size
+
+
+def beside_genrb(program, work):
+    for kind, (_, size) in KINDS.items():
+        length = make_text(work, kind, size)
+        ours, memory = least([program, 'compile', 'b.txt', 'ours.res'], work)
+        line = '%-36s %9d bytes %8.1f ms %6.0f MB' % (kind, length, ours, memory)
         if shutil.which('genrb'):
             theirs, their_memory = least(['genrb', '-q', '-e', 'UTF-8', 'b.txt'], work)
             if theirs is not None:
@@ -108,14 +116,14 @@ def beside_genrb(work):
         print(line, flush=True)
 
 
-def growth(work, sizes):
-    for kind, (make, _) in KINDS.items():
+def growth(program, work, sizes):
+    for kind in KINDS:
         if kind in ('unsorted keys', 'distinct last letters'):
             continue
         before = None
         for size in sizes:
-            (work / 'b.txt').write_text(make(size))
-            took, memory = least([PROGRAM, 'compile', 'b.txt', 'ours.res'], work)
+            make_text(work, kind, size)
+            took, memory = least([program, 'compile', 'b.txt', 'ours.res'], work)
             grown = '' if before is None else ', growth %.1f' % (took / before)
             before = took
             print('%-36s %10d bytes %9.1f ms %6.0f MB%s' % (kind, size, took, memory, grown), flush=True)
@@ -123,12 +131,18 @@ def growth(work, sizes):
 
 def main():
     words = sys.argv[1:]
+    if words[:1] == ['--make']:
+        sys.stdout.buffer.write(KINDS[words[1]][0](int(words[2])).encode())
+        return
+    program = PROGRAM
+    if words[:1] == ['--program']:
+        program, words = words[1], words[2:]
     with tempfile.TemporaryDirectory() as name:
         work = pathlib.Path(name)
         if words[:1] == ['--growth']:
-            growth(work, [int(a) for a in words[1:]] or [10 ** k for k in range(4, 9)])
+            growth(program, work, [int(a) for a in words[1:]] or [10 ** k for k in range(4, 9)])
         else:
-            beside_genrb(work)
+            beside_genrb(program, work)
 
 
 main()

@@ -2,7 +2,8 @@
 //! What is laid for a body is said in `resource`.
 ghost use Rattle.std.specs.Prelude.{◌≡◌, ◌++◌, ◌∷◌, ◌+◌, ◌-◌, ◌/◌, ◌^◌, ◌<◌, ◌≤◌};
 ghost use Rattle.std.specs.Prelude.{ℕ, Some, [], length, take, IfOk, OnOk};
-ghost use Rattle.resb_tree.specs.Tree.{array, binary, int_vector, integer, string, table as table_with};
+ghost use Rattle.resb_tree.specs.Tree.{array, binary, int_vector, integer, string};
+ghost use Rattle.resb_tree.specs.Tree.{table as table_with};
 ghost use Rattle.resb_pool.specs.Plan.{offset_of};
 ghost use Rattle.resb_layout.specs.Laid.{Given, State, ArePlaced, keys_in};
 ghost use Rattle.resb_tree.specs.View.{items_view, entries_view};

@@ -1,9 +1,11 @@
 //! The body of one resource, whose members' bodies stand already.
 //! In which order resources come is said in `walk_order`.
-ghost use Rattle.std.specs.Prelude.{◌≡◌, ◌++◌, ◌+◌, ◌*◌, ◌/◌, ◌%◌, ◌<◌, ◌^◌, length, IfOk, OnOk, true};
+ghost use Rattle.std.specs.Prelude.{◌≡◌, ◌++◌, ◌+◌, ◌*◌, ◌/◌, ◌%◌, ◌<◌, ◌^◌, length, IfOk, OnOk};
+ghost use Rattle.std.specs.Prelude.{true};
 ghost use Rattle.resb_tree.specs.Tree.{binary, int_vector};
 ghost use Rattle.resb_format.specs.Codes.{type_number};
-ghost use Rattle.resb_layout.specs.Laid.{Lays, ClosesArray, ClosesTable, are_short, are_near, offsets_in};
+ghost use Rattle.resb_layout.specs.Laid.{Lays, ClosesArray, ClosesTable, are_short, are_near};
+ghost use Rattle.resb_layout.specs.Laid.{offsets_in};
 ghost use Rattle.resb_bodies.specs.Room.{given_by, state_of};
 ghost use Rattle.resb_bodies.specs.Inner.Seen.{HasRoom, Takes};
 

@@ -91,7 +91,8 @@ pub(crate) fn lay_tree(
     Ok(word)
 }
 
-/// The number of units of the 16-bit block: the pool of the strings, and what a tree adds. It is the
+/// The number of units of the 16-bit block: the pool of the strings, and what a tree adds. It is
+/// the
 /// same wherever the tail begins, so the places may say anything there that leaves room.
 pub(crate) fn count_units(
     alloc: Global,
@@ -112,7 +113,8 @@ pub(crate) fn count_units(
     Ok(bodies.units.len())
 }
 
-/// Lays a tree behind the pool of its strings, where the key block ends at a byte of the body. Gives
+/// Lays a tree behind the pool of its strings, where the key block ends at a byte of the body.
+/// Gives
 /// what is laid, and the tree's word. The tail begins behind the 16-bit block, at a multiple of 4,
 /// which the places then say. `Err` is for want of memory alone; the base of the places is then of
 /// no account.

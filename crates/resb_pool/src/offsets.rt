@@ -1,6 +1,7 @@
 //! Where each string stands once its record is laid.
 //! The records and their closing zeros come from `records`.
-ghost use Rattle.std.specs.Prelude.{◌≡◌, ◌+◌, ◌-◌, ◌<◌, ◌≤◌, ◌^◌, All, IfOk, length, map, slice_index};
+ghost use Rattle.std.specs.Prelude.{◌≡◌, ◌+◌, ◌-◌, ◌<◌, ◌≤◌, ◌^◌, All, IfOk, length, map};
+ghost use Rattle.std.specs.Prelude.{slice_index};
 ghost use Rattle.resb_pool.specs.Plan.{plan_units, offset_of};
 ghost use Rattle.resb_pool.specs.Inner.Placing.{offset_by, ClosesWithin};
 

@@ -48,7 +48,7 @@ impl<'k> KeyBlock<'k> {
         let wanted = key_set(alloc, tree_keys)?;
         let keys = used_keys(alloc, &wanted, list)?;
         let positions = last_positions(alloc, &keys)?;
-        check_keys(tree_keys, &positions)?;
+        check_keys(wanted.keys().as_slice(), &positions)?;
         Ok(KeyBlock { keys, positions })
     }
 }
@@ -97,7 +97,8 @@ fn append_padding(file: &mut Vec<u8>) -> Result<(), AllocError>
     }
 }
 
-/// Appends the block of these keys to a file whose length is a multiple of 4: each with a zero byte,
+/// Appends the block of these keys to a file whose length is a multiple of 4: each with a zero
+/// byte,
 /// padded with 0xaa to a word.
 pub(crate) fn append_block(file: &mut Vec<u8>, keys: &[&str]) -> Result<(), AllocError>
     requires { length file.old.items % 4 ≡ 0 }

@@ -34,9 +34,12 @@ module _ (g : Given) (s : State) (ws : List ℕ) where
       → ClosesArray g s ws (record { units = us; tail = s.tail }) w
   array_in_units us w at short room e a v =
       subst (λ x. ClosesArray g s ws (record { units = x; tail = s.tail }) w)
-          (sym (append_assoc s.units (length ws ∷ []) (offsets_in ws)) ∙ sym e)
-      (subst (ClosesArray g s ws (record { units = s.units ++ length ws ∷ offsets_in ws; tail =
-          s.tail })) (sym (v ∙ ap (λ k. 0x9000_0000 + k) a)) (short_array short room))
+      (sym (append_assoc s.units (length ws ∷ []) (offsets_in ws)) ∙ sym e)
+      (subst (ClosesArray g s ws (record {
+        units = s.units ++ length ws ∷ offsets_in ws;
+        tail =
+            s.tail;
+      })) (sym (v ∙ ap (λ k. 0x9000_0000 + k) a)) (short_array short room))
 
   pub array_in_tail : (bs : List ℕ) (w at : ℕ) → are_short ws ≡ false → here g s ≡ 4 * at
       → at < 2 ^ 28 → length ws < 2 ^ 32 → bs ≡ s.tail ++ words_body ws → w ≡ 0x8000_0000 + at
@@ -44,12 +47,19 @@ module _ (g : Given) (s : State) (ws : List ℕ) where
   array_in_tail bs w at long a room n e v =
       subst (λ x. ClosesArray g s ws (record { units = s.units; tail = x }) w) (sym e)
       (subst (ClosesArray g s ws (record { units = s.units; tail = s.tail ++ words_body ws }))
-          (sym v) (long_array at long a room n))
+      (sym v) (long_array at long a room n))
 
 pub units_taken : (us vs ws : List ℕ) → vs ≡ (us ++ length ws ∷ []) ++ offsets_in ws
     → length vs ≡ length us + (length ws + 1)
-units_taken us vs ws e = omega (arith, ap length e, length-append (us ++ length ws ∷ [])
-    (offsets_in ws), length-append us (length ws ∷ []), one (length ws), offsets_long ws)
+units_taken us vs ws e = omega (
+  arith,
+  ap length e,
+  length-append (us ++ length ws ∷ [])
+      (offsets_in ws),
+  length-append us (length ws ∷ []),
+  one (length ws),
+  offsets_long ws,
+)
   where
     one : (n : ℕ) → length {A = ℕ} (n ∷ []) ≡ 1
     one n = refl
@@ -62,15 +72,17 @@ module _ (g : Given) (s : State) (ps ws : List ℕ) where
   pub table_in_units : (us : List ℕ) (w at : ℕ) → are_near ps ≡ true → are_short ws ≡ true
       → length s.units < 2 ^ 28
       → us ≡ ((s.units ++ length ws ∷ []) ++ ps) ++ offsets_in ws → at ≡ length s.units
-          → w ≡ 0x5000_0000 + at
+      → w ≡ 0x5000_0000 + at
       → ClosesTable g s ps ws (record { units = us; tail = s.tail }) w
   table_in_units us w at near short room e a v =
       let f : s.units ++ length ws ∷ (ps ++ offsets_in ws) ≡ us =
       sym (e ∙ append_assoc (s.units ++ length ws ∷ []) ps (offsets_in ws)
-          ∙ append_assoc s.units (length ws ∷ []) (ps ++ offsets_in ws)) in
+      ∙ append_assoc s.units (length ws ∷ []) (ps ++ offsets_in ws)) in
       subst (λ x. ClosesTable g s ps ws (record { units = x; tail = s.tail }) w) f
-      (subst (ClosesTable g s ps ws (record { units = s.units ++ length ws ∷ (ps ++ offsets_in ws);
-          tail = s.tail })) (sym (v ∙ ap (λ k. 0x5000_0000 + k) a)) (short_table near short room))
+      (subst (ClosesTable g s ps ws (record {
+        units = s.units ++ length ws ∷ (ps ++ offsets_in ws);
+        tail = s.tail;
+      })) (sym (v ∙ ap (λ k. 0x5000_0000 + k) a)) (short_table near short room))
 
   pub table_in_tail : (bs : List ℕ) (w at : ℕ) → are_near ps ≡ true → are_short ws ≡ false
       → here g s ≡ 4 * at → at < 2 ^ 28 → bs ≡ s.tail ++ table_body ps ws → w ≡ 0x2000_0000 + at
@@ -78,44 +90,65 @@ module _ (g : Given) (s : State) (ps ws : List ℕ) where
   table_in_tail bs w at near long a room e v =
       subst (λ x. ClosesTable g s ps ws (record { units = s.units; tail = x }) w) (sym e)
       (subst (ClosesTable g s ps ws (record { units = s.units; tail = s.tail ++ table_body ps ws }))
-          (sym v) (long_table at near long a room))
+      (sym v) (long_table at near long a room))
 
   pub table_is_wide : (bs : List ℕ) (w at : ℕ) → are_near ps ≡ false → here g s ≡ 4 * at
       → at < 2 ^ 28 → length ps < 2 ^ 32 → All (λ p. p < 2 ^ 32) ps
       → bs ≡ (s.tail ++ words_body ps) ++ words ws → w ≡ 0x4000_0000 + at
-          → ClosesTable g s ps ws (record { units = s.units; tail = bs }) w
+      → ClosesTable g s ps ws (record { units = s.units; tail = bs }) w
   table_is_wide bs w at far a room n small e v =
       let f : s.tail ++ wide_table_body ps ws ≡ bs =
       sym (e ∙ append_assoc s.tail (words_body ps) (words ws)
-          ∙ ap (λ l. s.tail ++ l) (append_assoc (to_le_bytes w32 (length ps)) (words ps)
-          (words ws))) in
+      ∙ ap (λ l. s.tail ++ l) (append_assoc (to_le_bytes w32 (length ps)) (words ps)
+      (words ws))) in
       subst (λ x. ClosesTable g s ps ws (record { units = s.units; tail = x }) w) f
-      (subst (ClosesTable g s ps ws (record { units = s.units; tail =
-          s.tail ++ wide_table_body ps ws })) (sym v) (wide_table at far a room n small))
+      (subst (ClosesTable g s ps ws (record {
+        units = s.units;
+        tail =
+            s.tail ++ wide_table_body ps ws;
+      })) (sym v) (wide_table at far a room n small))
 
 pub table_units_taken : (us vs ps ws : List ℕ) → length ps ≡ length ws
     → vs ≡ ((us ++ length ws ∷ []) ++ ps) ++ offsets_in ws
     → length vs ≡ length us + (2 * length ws + 1)
 table_units_taken us vs ps ws n e =
-    omega (arith, n, ap length e, length-append ((us ++ length ws ∷ []) ++ ps) (offsets_in ws),
-        length-append (us ++ length ws ∷ []) ps, length-append us (length ws ∷ []), one (length ws),
-        offsets_long ws)
+    omega (
+      arith,
+      n,
+      ap length e,
+      length-append ((us ++ length ws ∷ []) ++ ps) (offsets_in ws),
+      length-append (us ++ length ws ∷ []) ps,
+      length-append us (length ws ∷ []),
+      one (length ws),
+      offsets_long ws,
+    )
   where
     one : (n : ℕ) → length {A = ℕ} (n ∷ []) ≡ 1
     one n = refl
 
 pub wide_taken : (bs cs ps ws : List ℕ) → length ps ≡ length ws
     → cs ≡ (bs ++ words_body ps) ++ words ws → length cs ≡ length bs + (4 + 8 * length ws)
-wide_taken bs cs ps ws n e = omega (arith, n, ap length e, length-append (bs ++ words_body ps)
-    (words ws), length-append bs (words_body ps), body_long ps, words_long ws)
+wide_taken bs cs ps ws n e = omega (
+  arith,
+  n,
+  ap length e,
+  length-append (bs ++ words_body ps)
+      (words ws),
+  length-append bs (words_body ps),
+  body_long ps,
+  words_long ws,
+)
 
 pad_long : (n : ℕ) → ((n % 2 ≡ 0) × (length (pad n) ≡ 2)) ⊎ ((n % 2 ≡ 1) × (length (pad n) ≡ 0))
 pad_long n = by (nat_eq (n % 2) 0) refl
   where
     by : (b : Bool) → nat_eq (n % 2) 0 ≡ b → ((n % 2 ≡ 0) × (length (pad n) ≡ 2))
         ⊎ ((n % 2 ≡ 1) × (length (pad n) ≡ 0))
-    by true e = inl (eqb-true (n % 2) 0 e, ap (λ b. length {A = ℕ} (cond b (0xaa ∷ 0xaa ∷ []) []))
-        e)
+    by true e = inl (
+      eqb-true (n % 2) 0 e,
+      ap (λ b. length {A = ℕ} (cond b (0xaa ∷ 0xaa ∷ []) []))
+          e,
+    )
     by false e = (let ne = eqb-false (n % 2) 0 e in
         inr (omega (arith, ne), ap (λ b. length {A = ℕ} (cond b (0xaa ∷ 0xaa ∷ []) [])) e))
 
@@ -125,15 +158,19 @@ pub table_taken : (bs cs ps ws : List ℕ) → length ps ≡ length ws → cs �
 table_taken bs cs ps ws n e =
     let a = length-append bs (table_body ps ws) in
     let b = length-append (to_le_bytes w16 (length ps))
-        (halves ps ++ (pad (length ps) ++ words ws)) in
+    (halves ps ++ (pad (length ps) ++ words ws)) in
     let d = length-append (halves ps) (pad (length ps) ++ words ws) in
     let f = length-append (pad (length ps)) (words ws) in
     let two : length (to_le_bytes w16 (length ps)) ≡ 2 = refl in
     elim (pad_long (length ps)) [
-      | inl p ↦ (omega (arith, ap length e, a, b, d, f, two, halves_long ps, words_long ws, p.1, n),
-          omega (arith, ap length e, a, b, d, f, two, halves_long ps, words_long ws, p.0, p.1, n))
-      | inr p ↦ (omega (arith, ap length e, a, b, d, f, two, halves_long ps, words_long ws, p.1, n),
-          omega (arith, ap length e, a, b, d, f, two, halves_long ps, words_long ws, p.0, p.1, n))
+      | inl p ↦ (
+        omega (arith, ap length e, a, b, d, f, two, halves_long ps, words_long ws, p.1, n),
+        omega (arith, ap length e, a, b, d, f, two, halves_long ps, words_long ws, p.0, p.1, n),
+      )
+      | inr p ↦ (
+        omega (arith, ap length e, a, b, d, f, two, halves_long ps, words_long ws, p.1, n),
+        omega (arith, ap length e, a, b, d, f, two, halves_long ps, words_long ws, p.0, p.1, n),
+      )
     ]
 
 -- one byte more
@@ -156,12 +193,12 @@ module _ (g : Given) (s : State) where
   numbers_laid ns bs w at some many small a room e v =
       subst (λ x. Lays g s (int_vector ns) (record { units = s.units; tail = x }) w) (sym e)
       (subst (Lays g s (int_vector ns) (record { units = s.units; tail = s.tail ++ words_body ns }))
-          (sym v) (lays_numbers at some many small a room))
+      (sym v) (lays_numbers at some many small a room))
 
   pub bytes_laid : (xs bs : List ℕ) (w at : ℕ) → 0 < length xs → length xs < 2 ^ 32
       → here g s + to_data (here g s) ≡ 4 * at → at < 2 ^ 28
       → bs ≡ (((s.tail ++ fill (to_data (here g s))) ++ to_le_bytes w32 (length xs)) ++ xs) ++ fill
-          (to_word (length xs)) → w ≡ 0x1000_0000 + at
+      (to_word (length xs)) → w ≡ 0x1000_0000 + at
       → Lays g s (binary xs) (record { units = s.units; tail = bs }) w
   bytes_laid xs bs w at some many a room e v =
       let d : List ℕ = fill (to_data (here g s)) in
@@ -169,10 +206,13 @@ module _ (g : Given) (s : State) where
       let p : List ℕ = fill (to_word (length xs)) in
       let f : s.tail ++ binary_body (here g s) xs ≡ bs =
       sym (e ∙ append_assoc ((s.tail ++ d) ++ n) xs p ∙ append_assoc (s.tail ++ d) n (xs ++ p)
-          ∙ append_assoc s.tail d (n ++ (xs ++ p))) in
+      ∙ append_assoc s.tail d (n ++ (xs ++ p))) in
       subst (λ x. Lays g s (binary xs) (record { units = s.units; tail = x }) w) f
-      (subst (Lays g s (binary xs) (record { units = s.units; tail =
-          s.tail ++ binary_body (here g s) xs })) (sym v) (lays_bytes at some many a room))
+      (subst (Lays g s (binary xs) (record {
+        units = s.units;
+        tail =
+            s.tail ++ binary_body (here g s) xs;
+      })) (sym v) (lays_bytes at some many a room))
 
 pub bytes_taken : (bs cs xs : List ℕ) (h : ℕ)
     → cs ≡ (((bs ++ fill (to_data h)) ++ to_le_bytes w32 (length xs)) ++ xs) ++ fill

@@ -86,25 +86,30 @@ table_block : {g h : Given} {ps vs ws : List ℕ} {s u a b : State} {v w : ℕ} 
     → AlikeEach vs ws → ClosesTable g s ps vs a v → ClosesTable h u ps ws b w → (a.units ≡ b.units)
     × Alike v w
 table_block {ps = ps} {vs = vs} {ws = ws} e k (short_table r m l) (short_table t n o) =
-    let f = short_same vs ws k m in
-    ((λ i. e i ++ length (f i) ∷ (ps ++ offsets_in (f i))),
-        same (ap (λ us. 0x5000_0000 + length us) e))
+    let f = short_same vs ws k m in (
+      (λ i. e i ++ length (f i) ∷ (ps ++ offsets_in (f i))),
+      same (ap (λ us. 0x5000_0000 + length us) e),
+    )
 table_block {vs = vs} {ws = ws} e k (short_table r m l) (long_table at t n f p) =
     not_both (are_short vs) m (as_short vs ws k ∙ n)
 table_block {ps = ps} e k (short_table r m l) (wide_table at t f p q z) = not_both (are_near ps) r t
 table_block {vs = vs} {ws = ws} e k (long_table at r n f p) (short_table t m l) =
     not_both (are_short vs) (as_short vs ws k ∙ m) n
-table_block e k (long_table at r n f p) (long_table at2 t n2 f2 p2) =
-    (e, apart (low (0x2000_0000 + at) (omega (arith, p)))
-        (low (0x2000_0000 + at2) (omega (arith, p2))))
+table_block e k (long_table at r n f p) (long_table at2 t n2 f2 p2) = (
+  e,
+  apart (low (0x2000_0000 + at) (omega (arith, p)))
+      (low (0x2000_0000 + at2) (omega (arith, p2))),
+)
 table_block {ps = ps} e k (long_table at r n f p) (wide_table at2 t f2 p2 q z) =
     not_both (are_near ps) r t
 table_block {ps = ps} e k (wide_table at t f p q z) (short_table r m l) = not_both (are_near ps) r t
 table_block {ps = ps} e k (wide_table at t f p q z) (long_table at2 r n f2 p2) =
     not_both (are_near ps) r t
-table_block e k (wide_table at t f p q z) (wide_table at2 t2 f2 p2 q2 z2) =
-    (e, apart (low (0x4000_0000 + at) (omega (arith, p)))
-        (low (0x4000_0000 + at2) (omega (arith, p2))))
+table_block e k (wide_table at t f p q z) (wide_table at2 t2 f2 p2 q2 z2) = (
+  e,
+  apart (low (0x4000_0000 + at) (omega (arith, p)))
+      (low (0x4000_0000 + at2) (omega (arith, p2))),
+)
 
 module _ (g h : Given) (positions : g.position ≡ h.position) (offsets : g.offset ≡ h.offset) where
   same_positions : (ks : List (List ℕ)) (ps qs : List ℕ) → ArePlaced g ks ps → ArePlaced h ks qs
@@ -127,9 +132,11 @@ module _ (g h : Given) (positions : g.position ≡ h.position) (offsets : g.offs
     block e lays_no_bytes lays_no_bytes = (e, same refl)
     block e lays_no_bytes (lays_bytes at some n f l) = absurd (nothing some refl)
     block e (lays_bytes at some n f l) lays_no_bytes = absurd (nothing some refl)
-    block e (lays_bytes at some n f l) (lays_bytes at2 some2 n2 f2 l2) =
-        (e, apart (low (0x1000_0000 + at) (omega (arith, l)))
-            (low (0x1000_0000 + at2) (omega (arith, l2))))
+    block e (lays_bytes at some n f l) (lays_bytes at2 some2 n2 f2 l2) = (
+      e,
+      apart (low (0x1000_0000 + at) (omega (arith, l)))
+          (low (0x1000_0000 + at2) (omega (arith, l2))),
+    )
     block e lays_no_numbers lays_no_numbers = (e, same refl)
     block e lays_no_numbers (lays_numbers at some n a f l) = absurd (nothing some refl)
     block e (lays_numbers at some n a f l) lays_no_numbers = absurd (nothing some refl)
@@ -148,7 +155,7 @@ module _ (g h : Given) (positions : g.position ≡ h.position) (offsets : g.offs
         w2} qs q l some2 d) =
         let r = block_each e k l in
         table_block r.0 r.1 c (subst (λ rs. ClosesTable h m2 rs w2 b' w')
-            (same_positions (keys_in es) ps qs p q) d)
+        (same_positions (keys_in es) ps qs p q) d)
 
     block_each : {s u a b : State} {ts : Trees} {vs ws : List ℕ} → s.units ≡ u.units
         → LaysEach g s ts a vs → LaysEach h u ts b ws → (a.units ≡ b.units) × AlikeEach vs ws

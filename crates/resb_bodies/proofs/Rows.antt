@@ -22,8 +22,15 @@ steps_push g s n e ws xs ys (u ∷ ts) t (steps_more {m} {xs = zs} h more) k =
 pub step_long : (g : Given) (s e : State) (ws xs : List ℕ) (t : Tree) → Step g s ws t e xs
     → length xs ≡ length ws - length (children t) + 1
 step_long g s e ws xs t k =
-    omega (arith, ap length k.put, ap length k.taken, k.many, length-append k.below (k.word ∷ []),
-        length-append k.below k.members, one k.word)
+    omega (
+      arith,
+      ap length k.put,
+      ap length k.taken,
+      k.many,
+      length-append k.below (k.word ∷ []),
+      length-append k.below k.members,
+      one k.word,
+    )
   where
     one : (w : ℕ) → length (w ∷ []) ≡ 1
     one w = refl
@@ -51,7 +58,7 @@ mutual
   suffices_each (more_trees t ts) n rest h =
       subst (Suffices n) (sym (append_assoc (walk t) (walk_each ts) rest))
       (suffices_tree t n (walk_each ts ++ rest)
-          (suffices_each ts (n + 1) rest (to rest (omega arith) h)))
+      (suffices_each ts (n + 1) rest (to rest (omega arith) h)))
 
   suffices_values : (es : Entries) (n : ℕ) (rest : List Tree)
       → Suffices (n + length (values_of es)) rest → Suffices n (walk_values es ++ rest)
@@ -59,34 +66,34 @@ mutual
   suffices_values (entry k t es) n rest h =
       subst (Suffices n) (sym (append_assoc (walk t) (walk_values es) rest))
       (suffices_tree t n (walk_values es ++ rest)
-          (suffices_values es (n + 1) rest (to rest (omega arith) h)))
+      (suffices_values es (n + 1) rest (to rest (omega arith) h)))
 
 -- an empty stack suffices for a tree
 pub suffices : (t : Tree) → Suffices 0 (walk t)
 suffices t = subst (Suffices 0) (append-nil (walk t)) (suffices_tree t 0 [] tt)
 
 module _ (p : Places) (b : Bodies) (n : ℕ) (t : Tree) (ts : List Tree) (h : CanLay p b n (t ∷ ts))
-    where
-  pub room_now : HasRoom p b (own_size t)
-  room_now =
-      record {
-        aligned = h.room.aligned;
-        units = omega (arith, h.room.units, sum_by-cons most_units t ts);
-        bytes = omega (arith, h.room.bytes, sum_by-cons most_bytes t ts);
-      }
+  where
+    pub room_now : HasRoom p b (own_size t)
+    room_now =
+        record {
+          aligned = h.room.aligned;
+          units = omega (arith, h.room.units, sum_by-cons most_units t ts);
+          bytes = omega (arith, h.room.bytes, sum_by-cons most_bytes t ts);
+        }
 
-  pub known_now : IsKnown (given_by p) t
-  known_now = All-head (IsKnown (given_by p)) t ts h.known
+    pub known_now : IsKnown (given_by p) t
+    known_now = All-head (IsKnown (given_by p)) t ts h.known
 
-  pub can_go_on : (c : Bodies) (m : ℕ) → Takes p b c (own_size t) → m ≡ n - length (children t) + 1
-      → CanLay p c m ts
-  can_go_on c m k e =
-      record {
-        room = record {
-          aligned = k.aligned;
-          units = omega (arith, h.room.units, sum_by-cons most_units t ts, k.units);
-          bytes = omega (arith, h.room.bytes, sum_by-cons most_bytes t ts, k.bytes);
-        };
-        enough = to ts (sym e) h.enough.1;
-        known = All-tail (IsKnown (given_by p)) t ts h.known;
-      }
+    pub can_go_on : (c : Bodies) (m : ℕ) → Takes p b c (own_size t) → m ≡ n - length (children t) + 1
+        → CanLay p c m ts
+    can_go_on c m k e =
+        record {
+          room = record {
+            aligned = k.aligned;
+            units = omega (arith, h.room.units, sum_by-cons most_units t ts, k.units);
+            bytes = omega (arith, h.room.bytes, sum_by-cons most_bytes t ts, k.bytes);
+          };
+          enough = to ts (sym e) h.enough.1;
+          known = All-tail (IsKnown (given_by p)) t ts h.known;
+        }

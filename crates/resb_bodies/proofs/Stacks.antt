@@ -68,8 +68,8 @@ module _ (g : Given) where
       → Steps g s ws (t ∷ rest) e ys → Split s ws t rest e ys
   leaf s e ws ys t rest n h =
       last_step s s e ws [] ys t rest (subst (λ ts. LaysEach g s (trees_of ts) s []) (sym n)
-          each_none) (sym (ap length n)) (subst (λ l. Steps g s l (t ∷ rest) e ys)
-          (sym (append-nil ws)) h)
+      each_none) (sym (ap length n)) (subst (λ l. Steps g s l (t ∷ rest) e ys)
+      (sym (append-nil ws)) h)
 
   mutual
     steps_tree : (t : Tree) (s e : State) (ws ys : List ℕ) (rest : List Tree)
@@ -80,22 +80,28 @@ module _ (g : Given) where
     steps_tree (int_vector x) s e ws ys rest h = leaf s e ws ys (int_vector x) rest refl h
     steps_tree (array ts) s e ws ys rest h =
         let k = steps_each ts s e ws ys (array ts ∷ rest)
-            (subst (λ l. Steps g s ws l e ys) (append_assoc (walk_each ts) (array ts ∷ []) rest)
-            h) in
+        (subst (λ l. Steps g s ws l e ys) (append_assoc (walk_each ts) (array ts ∷ []) rest)
+        h) in
         last_step s k.mid e ws k.words ys (array ts) rest k.lays k.many k.goes
     steps_tree (table es) s e ws ys rest h =
         let k = steps_values es s e ws ys (table es ∷ rest)
-            (subst (λ l. Steps g s ws l e ys) (append_assoc (walk_values es) (table es ∷ []) rest)
-            h) in
+        (subst (λ l. Steps g s ws l e ys) (append_assoc (walk_values es) (table es ∷ []) rest)
+        h) in
         last_step s k.mid e ws k.words ys (table es) rest k.lays k.many k.goes
 
     steps_each : (ts : Trees) (s e : State) (ws ys : List ℕ) (rest : List Tree)
         → Steps g s ws (walk_each ts ++ rest) e ys → SplitEach s ws (members ts) rest e ys
-    steps_each no_trees s e ws ys rest h = record { mid = s; words = []; lays = each_none; many =
-        refl; goes = subst (λ l. Steps g s l rest e ys) (sym (append-nil ws)) h }
+    steps_each no_trees s e ws ys rest h = record {
+      mid = s;
+      words = [];
+      lays = each_none;
+      many =
+          refl;
+      goes = subst (λ l. Steps g s l rest e ys) (sym (append-nil ws)) h;
+    }
     steps_each (more_trees t ts) s e ws ys rest h =
         let a = steps_tree t s e ws ys (walk_each ts ++ rest)
-            (subst (λ l. Steps g s ws l e ys) (append_assoc (walk t) (walk_each ts) rest) h) in
+        (subst (λ l. Steps g s ws l e ys) (append_assoc (walk t) (walk_each ts) rest) h) in
         let b = steps_each ts a.mid e (ws ++ a.word ∷ []) ys rest a.goes in
         record {
           mid = b.mid;
@@ -108,11 +114,17 @@ module _ (g : Given) where
 
     steps_values : (es : Entries) (s e : State) (ws ys : List ℕ) (rest : List Tree)
         → Steps g s ws (walk_values es ++ rest) e ys → SplitEach s ws (values_of es) rest e ys
-    steps_values no_entries s e ws ys rest h = record { mid = s; words = []; lays =
-        each_none; many = refl; goes = subst (λ l. Steps g s l rest e ys) (sym (append-nil ws)) h }
+    steps_values no_entries s e ws ys rest h = record {
+      mid = s;
+      words = [];
+      lays =
+          each_none;
+      many = refl;
+      goes = subst (λ l. Steps g s l rest e ys) (sym (append-nil ws)) h;
+    }
     steps_values (entry k t es) s e ws ys rest h =
         let a = steps_tree t s e ws ys (walk_values es ++ rest)
-            (subst (λ l. Steps g s ws l e ys) (append_assoc (walk t) (walk_values es) rest) h) in
+        (subst (λ l. Steps g s ws l e ys) (append_assoc (walk t) (walk_values es) rest) h) in
         let b = steps_values es a.mid e (ws ++ a.word ∷ []) ys rest a.goes in
         record {
           mid = b.mid;
@@ -131,7 +143,7 @@ pub steps_lay_trees : (g : Given) (s e : State) (t : Tree) (xs : List ℕ)
     → Steps g s [] (walk t) e xs → (w : ℕ) × (xs ≡ w ∷ []) × Lays g s t e w
 steps_lay_trees g s e t xs h =
     let k = steps_tree g t s e [] xs []
-        (subst (λ l. Steps g s [] l e xs) (sym (append-nil (walk t))) h) in
+    (subst (λ l. Steps g s [] l e xs) (sym (append-nil (walk t))) h) in
     let z = ended g k.mid e (k.word ∷ []) xs k.goes in
     (k.word, sym z.1, subst (λ m. Lays g s t m k.word) z.0 k.lays)
 
@@ -145,8 +157,10 @@ take_drop (suc n) (x ∷ xs) = ap (λ l. x ∷ l) (take_drop n xs)
 pub split_stack : (ws : List ℕ) (n : ℕ) → n ≤ length ws
     → (ws ≡ take (length ws - n) ws ++ drop (length ws - n) ws)
     × (length (drop (length ws - n) ws) ≡ n)
-split_stack ws n h = (sym (take_drop (length ws - n) ws),
-    omega (arith, length-drop (length ws - n) ws))
+split_stack ws n h = (
+  sym (take_drop (length ws - n) ws),
+  omega (arith, length-drop (length ws - n) ws),
+)
 
 pub array_step : (g : Given) (s e : State) (ws xs vs : List ℕ) (ts : Trees) (w n : ℕ)
     → n ≡ length (members ts) → n ≤ length ws → vs ≡ drop (length ws - n) ws → 0 < n
@@ -190,7 +204,7 @@ values_back (entry k t es) = ap (more_trees t) (values_back es)
 pub table_step : (g : Given) (s e : State) (ws xs vs ps : List ℕ) (es : Entries) (w n : ℕ)
     → n ≡ length (values_of es) → n ≤ length ws → vs ≡ drop (length ws - n) ws → 0 < n
     → ArePlaced g (keys_in es) ps → ClosesTable g s ps vs e w
-        → xs ≡ take (length ws - n) ws ++ w ∷ [] → Step g s ws (table es) e xs
+    → xs ≡ take (length ws - n) ws ++ w ∷ [] → Step g s ws (table es) e xs
 table_step g s e ws xs vs ps es w n c h v some a k p =
     let q = split_stack ws n h in
     record {
@@ -227,7 +241,7 @@ pub empty_table_step : (g : Given) (s : State) (ws xs : List ℕ) (w : ℕ) → 
 empty_table_step g s ws xs w e p =
     let q = split_stack ws 0 (omega arith) in
     leaf_step g s s ws xs (table no_entries) w refl (subst (Lays g s (table no_entries) s) (sym e)
-        lays_no_entries)
+    lays_no_entries)
     (p ∙ ap (λ l. l ++ w ∷ []) (sym (q.0
-        ∙ ap (λ l. take (length ws - 0) ws ++ l) (nil_from_len (drop (length ws - 0) ws) q.1)
-        ∙ append-nil (take (length ws - 0) ws))))
+    ∙ ap (λ l. take (length ws - 0) ws ++ l) (nil_from_len (drop (length ws - 0) ws) q.1)
+    ∙ append-nil (take (length ws - 0) ws))))

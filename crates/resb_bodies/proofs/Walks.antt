@@ -35,8 +35,11 @@ members_count (more_trees t ts) =
 
 values_count : (es : Entries) → entries_count es ≡ sum_by tree_count (values_of es)
 values_count no_entries = refl
-values_count (entry k t es) = omega (arith, values_count es,
-    sum_by-cons tree_count t (values_of es))
+values_count (entry k t es) = omega (
+  arith,
+  values_count es,
+  sum_by-cons tree_count t (values_of es),
+)
 
 none_counted : sum_by tree_count [] ≡ 0
 none_counted = refl
@@ -75,7 +78,7 @@ turn front old new seen seen' t all e f g h =
     ∙ (λ i. flat-append front (children t) i ++ reverse-append seen (t ∷ []) i)
     ∙ append_assoc (flat_map walk front) (flat_map walk (children t)) (t ∷ reverse seen)
     ∙ ap (λ l. flat_map walk front ++ l)
-        (sym (append_assoc (flat_map walk (children t)) (t ∷ []) (reverse seen)))
+    (sym (append_assoc (flat_map walk (children t)) (t ∷ []) (reverse seen)))
     ∙ ap (λ l. flat_map walk front ++ (l ++ reverse seen)) (sym (walk_is t))
     ∙ sym (append_assoc (flat_map walk front) (walk t) (reverse seen))
     ∙ ap (λ l. (flat_map walk front ++ l) ++ reverse seen) (sym (append-nil (walk t)))
@@ -86,9 +89,16 @@ turn front old new seen seen' t all e f g h =
 pub turn_counts : (front old new : List Tree) (t : Tree) → old ≡ front ++ t ∷ []
     → new ≡ front ++ children t → sum_by tree_count new < sum_by tree_count old
 turn_counts front old new t e f =
-    omega (arith, ap (sum_by tree_count) e, ap (sum_by tree_count) f,
-        sum_by-append tree_count front (t ∷ []), sum_by-append tree_count front (children t),
-        sum_by-cons tree_count t [], none_counted, count_is t)
+    omega (
+      arith,
+      ap (sum_by tree_count) e,
+      ap (sum_by tree_count) f,
+      sum_by-append tree_count front (t ∷ []),
+      sum_by-append tree_count front (children t),
+      sum_by-cons tree_count t [],
+      none_counted,
+      count_is t,
+    )
 
 pub values_view : (es : List (List ℕ × Resource))
     → values_of (entries_view es) ≡ map (λ e. tree_of e.1) es
@@ -99,9 +109,9 @@ pub trees-reverse : (rs : List (Bor Resource)) → trees_in (reverse rs) ≡ rev
 trees-reverse [] = refl
 trees-reverse (r ∷ rs) =
     ap trees_in (reverse-append (r ∷ []) rs)
-        ∙ map_push (λ (x : Bor Resource). tree_of x.now) (reverse rs) r
+    ∙ map_push (λ (x : Bor Resource). tree_of x.now) (reverse rs) r
     ∙ ap (λ l. l ++ tree_of r.now ∷ []) (trees-reverse rs)
-        ∙ sym (reverse-append (tree_of r.now ∷ []) (trees_in rs))
+    ∙ sym (reverse-append (tree_of r.now ∷ []) (trees_in rs))
 
 pub nil_from_len : {A : Type 0} (xs : List A) → length xs ≡ 0 → xs ≡ []
 nil_from_len [] h = refl

@@ -13,14 +13,14 @@ Closes g s t vs e w = (before : State) → LaysEach g before (trees_of (children
     → Lays g before t e w
 
 pub record Step (g : Given) (s : State) (ws : List ℕ) (t : Tree) (e : State) (xs : List ℕ) : Type 0
-    where
-  pub below : List ℕ
-  pub members : List ℕ
-  pub word : ℕ
-  pub taken : ws ≡ below ++ members
-  pub many : length members ≡ length (children t)
-  pub put : xs ≡ below ++ word ∷ []
-  pub closes : Closes g s t members e word
+  where
+    pub below : List ℕ
+    pub members : List ℕ
+    pub word : ℕ
+    pub taken : ws ≡ below ++ members
+    pub many : length members ≡ length (children t)
+    pub put : xs ≡ below ++ word ∷ []
+    pub closes : Closes g s t members e word
 
 pub data Steps (g : Given) : State → List ℕ → List Tree → State → List ℕ → Type 0 where
   steps_none : {s : State} {ws : List ℕ} → Steps g s ws [] s ws

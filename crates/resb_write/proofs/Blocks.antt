@@ -24,7 +24,7 @@ pub key_at-found : (front k rest : List ℕ) → IsUtf8 k → has_zero k ≡ fal
 unfolding key_at
 key_at-found front k rest u z =
     ap (λ l. option_and_then if_utf8 (before_zero l)) (drop_at front (k ++ 0 ∷ rest) (length front)
-        refl)
+    refl)
     ∙ ap (option_and_then if_utf8) (before_zero-found k rest z)
     ∙ ap (λ b. cond b (Some k) None) (is_utf8-from_IsUtf8 k u)
 
@@ -37,10 +37,10 @@ key_read head pad js front k n e u z =
     let f : head ++ (key_bytes js ++ pad) ≡ (head ++ s.front) ++ (k ++ 0 ∷ (s.back ++ pad)) =
     ap (λ l. head ++ (l ++ pad)) s.is
     ∙ ap (λ l. head ++ l) (append_assoc s.front (k ++ 0 ∷ s.back) pad
-        ∙ ap (λ l. s.front ++ l) (append_assoc k (0 ∷ s.back) pad))
+    ∙ ap (λ l. s.front ++ l) (append_assoc k (0 ∷ s.back) pad))
     ∙ sym (append_assoc head s.front (k ++ 0 ∷ (s.back ++ pad))) in
     let at : 32 + n ≡ length (head ++ s.front) =
-        omega (arith, front, s.place, length-append head s.front) in
+    omega (arith, front, s.place, length-append head s.front) in
     (λ i. key_at (f i) (at i)) ∙ key_at-found (head ++ s.front) k (s.back ++ pad) u z
 
 -- the even block
@@ -82,23 +82,37 @@ mutual
   -- the largest table of a tree is the largest of its walk
   pub largest_walked : (t : Tree) → largest_of (walk t) ≡ largest_table t
   largest_walked (string s) = refl
-  largest_walked (array ts) = omega (arith, largest-append (walk_each ts) (array ts ∷ []),
-      largest_each ts)
-  largest_walked (table es) = omega (arith, largest-append (walk_values es) (table es ∷ []),
-      largest_values es)
+  largest_walked (array ts) = omega (
+    arith,
+    largest-append (walk_each ts) (array ts ∷ []),
+    largest_each ts,
+  )
+  largest_walked (table es) = omega (
+    arith,
+    largest-append (walk_values es) (table es ∷ []),
+    largest_values es,
+  )
   largest_walked (binary s) = refl
   largest_walked (integer n) = refl
   largest_walked (int_vector s) = refl
 
   largest_each : (ts : Trees) → largest_of (walk_each ts) ≡ trees_largest ts
   largest_each no_trees = refl
-  largest_each (more_trees t ts) = omega (arith, largest-append (walk t) (walk_each ts),
-      largest_walked t, largest_each ts)
+  largest_each (more_trees t ts) = omega (
+    arith,
+    largest-append (walk t) (walk_each ts),
+    largest_walked t,
+    largest_each ts,
+  )
 
   largest_values : (es : Entries) → largest_of (walk_values es) ≡ entries_largest es
   largest_values no_entries = refl
-  largest_values (entry k t es) = omega (arith, largest-append (walk t) (walk_values es),
-      largest_walked t, largest_values es)
+  largest_values (entry k t es) = omega (
+    arith,
+    largest-append (walk t) (walk_values es),
+    largest_walked t,
+    largest_values es,
+  )
 
 pub walk_long : (t : Tree) → 0 < length (walk t)
 walk_long (string s) = omega arith

@@ -60,10 +60,10 @@ pub fault_same : (us ws : Texts) → ((q : List ℕ) → Contains us q ↔ Conta
     → key_fault us js ≡ key_fault ws js
 fault_same us ws h js i =
     cond (any_same (is_unlisted js) us ws h i)
-        (Some (unexpected (codes "key not present in position map")))
+    (Some (unexpected (codes "key not present in position map")))
     (cond (any_same has_nul us ws h i) (Some (unexpected (codes "key contains U+0000")))
     (cond (any_same (is_far js) us ws h i) (Some (limit (codes "key position over 2147483647")))
-        None))
+    None))
 
 among_contains : (us : Texts) (q : List ℕ) → is_among us q ≡ true → Contains us q
 among_contains us q e =

@@ -72,20 +72,27 @@ array_laid = lays_items (each_more (lays_integer (omega arith)) each_none) (omeg
 one_file : file_of 0x5000_0003 1 true (padded (key_bytes ((107 ∷ []) ∷ [])))
     (0 ∷ 118 ∷ 0 ∷ 1 ∷ 32 ∷ 1 ∷ []) []
     ≡ written_header ++ (3 ∷ 0 ∷ 0 ∷ 80 ∷ 7 ∷ 0 ∷ 0 ∷ 0 ∷ 9 ∷ 0 ∷ 0 ∷ 0 ∷ 12 ∷ 0 ∷ 0 ∷ 0 ∷ 12 ∷ 0 ∷
-        0 ∷ 0 ∷ 1 ∷ 0 ∷ 0 ∷ 0 ∷ 0 ∷ 0 ∷ 0 ∷ 0 ∷ 12 ∷ 0 ∷ 0 ∷ 0
+    0 ∷ 0 ∷ 1 ∷ 0 ∷ 0 ∷ 0 ∷ 0 ∷ 0 ∷ 0 ∷ 0 ∷ 12 ∷ 0 ∷ 0 ∷ 0
     ∷ 107 ∷ 0 ∷ 0xaa ∷ 0xaa ∷ 0 ∷ 0 ∷ 118 ∷ 0 ∷ 0 ∷ 0 ∷ 1 ∷ 0 ∷ 32 ∷ 0 ∷ 1 ∷ 0 ∷ [])
 one_file = refl
 
 empty_bundle : List ℕ
 empty_bundle = written_header ++ (
     0 ∷ 0 ∷ 0 ∷ 0x20 ∷ 7 ∷ 0 ∷ 0 ∷ 0 ∷ 8 ∷ 0 ∷ 0 ∷ 0 ∷ 9 ∷ 0 ∷ 0 ∷ 0 ∷ 9 ∷ 0 ∷ 0 ∷ 0 ∷ 0 ∷ 0 ∷ 0 ∷ 0
-        ∷ 0 ∷ 0 ∷ 0 ∷ 0 ∷ 9 ∷ 0 ∷ 0 ∷ 0
+    ∷ 0 ∷ 0 ∷ 0 ∷ 0 ∷ 9 ∷ 0 ∷ 0 ∷ 0
     ∷ 0 ∷ 0 ∷ 0xaa ∷ 0xaa ∷ [])
 
 empty_index : IndexOf empty_bundle (table no_entries) true
 unfolding empty_bundle units_of words_of
-empty_index = record { header = refl; fields = refl; resources = refl; bundle = refl; largest =
-    refl; no_fallback = refl }
+empty_index = record {
+  header = refl;
+  fields = refl;
+  resources = refl;
+  bundle = refl;
+  largest =
+      refl;
+  no_fallback = refl;
+}
 
 -- What a fault prints.
 prints_limit : message_of (limit (codes "file too large")) ≡ codes "Limit exceeded: file too large"
@@ -107,8 +114,12 @@ size_of_yz = refl
 
 held : IsHeldBy yz xyz
 unfolding xyz yz chars
-held = record { unmarked = refl; ends = record { front = 120 ∷ []; is = refl }; proper =
-    λ (e : 120 ∷ 121 ∷ 122 ∷ [] ≡ 121 ∷ 122 ∷ []). (cc) }
+held = record {
+  unmarked = refl;
+  ends = record { front = 120 ∷ []; is = refl };
+  proper =
+      λ (e : 120 ∷ 121 ∷ 122 ∷ [] ≡ 121 ∷ 122 ∷ []). (cc);
+}
 
 no_record : IsRecord (xyz ∷ yz ∷ []) yz → ⊥
 no_record r = elim r.alone [

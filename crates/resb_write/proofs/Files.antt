@@ -48,8 +48,12 @@ entries_values (entry k t es) = omega (arith, entries_values es)
 -- the largest table is bounded by the plain size
 pub largest_room : (ts : List Tree) → largest_of ts ≤ resources_size ts
 largest_room [] = omega arith
-largest_room (t ∷ ts) = omega (arith, by t, largest_room ts,
-    sum_by-cons (λ (u : Tree). 16 + held_size u) t ts)
+largest_room (t ∷ ts) = omega (
+  arith,
+  by t,
+  largest_room ts,
+  sum_by-cons (λ (u : Tree). 16 + held_size u) t ts,
+)
   where
     by : (u : Tree) → entry_count_of u ≤ held_size u
     by (string s) = omega arith
@@ -92,8 +96,12 @@ module _ (t : Tree) (ks js : List (List ℕ)) (m : Made t ks js) (largest : ℕ)
   block = padded (key_bytes js)
 
   keys_small : length (key_bytes js) < 2 ^ 28
-  keys_small = omega (arith, ap (λ l. length (key_bytes l)) m.js_are, used_room (keys_of t) ks,
-      m.small)
+  keys_small = omega (
+    arith,
+    ap (λ l. length (key_bytes l)) m.js_are,
+    used_room (keys_of t) ks,
+    m.small,
+  )
 
   abbrev us : List ℕ
   us = even m.laid.units
@@ -127,8 +135,10 @@ module _ (t : Tree) (ks js : List (List ℕ)) (m : Made t ks js) (largest : ℕ)
               omega (arith, keys_small, k, b, m.room.units, m.room.bytes),
               (
                 omega (arith, keys_small, k, b, m.room.units, m.room.bytes),
-                (omega (arith, largest_is, largest_room (walk t), m.small),
-                    (flag_room fallback, (omega (arith, keys_small, k, b, m.room.units), tt))),
+                (
+                  omega (arith, largest_is, largest_room (walk t), m.small),
+                  (flag_room fallback, (omega (arith, keys_small, k, b, m.room.units), tt)),
+                ),
               ),
             ),
           ),
@@ -179,10 +189,10 @@ module _ (t : Tree) (ks js : List (List ℕ)) (m : Made t ks js) (largest : ℕ)
           let q : 32 + n ≡ at = (let f' : Some (32 + n) ≡ Some at = f in cc) in
           ap (key_at parts.keys) (sym q)
           ∙ key_read (heads.head whole) (fill ((4 - length (key_bytes js) % 4) % 4)) js
-              (heads.head_length whole) k n h
+          (heads.head_length whole) k n h
           (All-contains IsUtf8 js k m.utf8 (place_contained k js n h))
           (no_nul (keys_of t) js m.faultless k (is_used (keys_of t) js m.faultless ks m.js_are k n
-              h))
+          h))
 
   is_read : IsRead parts g
   is_read = record {
@@ -206,9 +216,15 @@ module _ (t : Tree) (ks js : List (List ℕ)) (m : Made t ks js) (largest : ℕ)
     front = front;
     units_behind = more.0;
     bytes_behind = [];
-    front_is = omega (arith, length-append (heads.head whole ++ block) (halves us),
-        length-append (heads.head whole) block, heads.head_length whole, halves_len us,
-        even_long m.laid.units, m.base_is);
+    front_is = omega (
+      arith,
+      length-append (heads.head whole ++ block) (halves us),
+      length-append (heads.head whole) block,
+      heads.head_length whole,
+      halves_len us,
+      even_long m.laid.units,
+      m.base_is,
+    );
     block_is = more.1;
     body_is = sym (append_assoc (heads.head whole) block (halves us ++ m.laid.tail))
         ∙ sym (append_assoc (heads.head whole ++ block) (halves us) m.laid.tail)
@@ -223,8 +239,11 @@ module _ (t : Tree) (ks js : List (List ℕ)) (m : Made t ks js) (largest : ℕ)
       pool_long m.lays stands
 
   few : 2 * tree_count t ≤ 2 * length m.laid.units + length m.laid.tail
-  few = omega (arith, laid_is_paid g (record { units = m.pool; tail = [] }) m.laid t m.root m.lays,
-      pool_long)
+  few = omega (
+    arith,
+    laid_is_paid g (record { units = m.pool; tail = [] }) m.laid t m.root m.lays,
+    pool_long,
+  )
 
   same_block : padded (key_bytes js) ≡ key_block t ks
   same_block = ap (λ l. padded (key_bytes l)) m.js_are
@@ -232,10 +251,18 @@ module _ (t : Tree) (ks js : List (List ℕ)) (m : Made t ks js) (largest : ℕ)
   start : tail_start (key_block t ks) m.laid ≡ m.base
   start = omega (arith, ap length same_block, even_long m.laid.units, m.base_is)
 
-  given_is : ◌≡◌ {A = Given} g (record { position = key_position t ks; offset = m.offset; base =
-      tail_start (key_block t ks) m.laid })
-  given_is = λ i. record { position = position_in (m.js_are i); offset = m.offset; base =
-      sym start i }
+  given_is : ◌≡◌ {A = Given} g (record {
+    position = key_position t ks;
+    offset = m.offset;
+    base =
+        tail_start (key_block t ks) m.laid;
+  })
+  given_is = λ i. record {
+    position = position_in (m.js_are i);
+    offset = m.offset;
+    base =
+        sym start i;
+  }
 
   blocks : Blocks t ks
   blocks = record {
@@ -251,7 +278,7 @@ module _ (t : Tree) (ks js : List (List ℕ)) (m : Made t ks js) (largest : ℕ)
   no_fault : fault t ks ≡ None
   no_fault =
       ap (λ o. first_of o (size_fault (walk t))) (ap (key_fault (keys_of t)) (sym m.js_are)
-          ∙ m.faultless)
+      ∙ m.faultless)
       ∙ small_sizes (walk t) (omega (arith, m.small))
 
   pub written : Written file t fallback ks
@@ -263,8 +290,14 @@ module _ (t : Tree) (ks js : List (List ℕ)) (m : Made t ks js) (largest : ℕ)
       root = subst (λ p. Den p (root_word file) t (tree_count t)) (sym (heads.parts_are whole))
           (subst (λ w. Den parts w t (tree_count t)) (sym (heads.root_is whole)) den);
     };
-    within_budget = omega (arith, heads.file_length whole, few, even_long m.laid.units, tail_whole,
-        units_whole);
+    within_budget = omega (
+      arith,
+      heads.file_length whole,
+      few,
+      even_long m.laid.units,
+      tail_whole,
+      units_whole,
+    );
     index = record {
       header = take_at written_header (heads.body whole) 32 refl;
       fields = heads.fields_are whole;
@@ -276,7 +309,12 @@ module _ (t : Tree) (ks js : List (List ℕ)) (m : Made t ks js) (largest : ℕ)
     blocks = blocks;
     root = heads.root_is whole;
     keys_end = omega (arith, heads.keys_end_is whole, block_whole, ap length same_block);
-    block_end = omega (arith, heads.block_end_is whole, block_whole, units_whole,
-        ap length same_block);
+    block_end = omega (
+      arith,
+      heads.block_end_is whole,
+      block_whole,
+      units_whole,
+      ap length same_block,
+    );
     body = heads.behind_head whole ∙ ap (λ l. l ++ (halves us ++ m.laid.tail)) same_block;
   }

@@ -73,28 +73,30 @@ pub record Adds (old new : Contents) (t : Tree) : Type 0 where
   pub over : new.has_count_over_32_bits ≡ (old.has_count_over_32_bits || is_over_32_bits t)
 
 module _ (old new : Contents) (t : Tree) (a : Adds old new t) (ts : List Tree) (g : Gathered ts old)
-    where
-  pub added : Gathered (ts ++ t ∷ []) new
-  added = record {
-    keys_are = a.keys ∙ ap (λ l. l ++ own_keys t) g.keys_are ∙ sym (flat-push own_keys ts t);
-    texts_are = a.texts ∙ ap (λ l. l ++ text_in t) g.texts_are ∙ sym (flat-push text_in ts t);
-    size_is = omega (arith, a.size, g.size_is, size-push ts t);
-    largest_is = a.largest ∙ ap (λ n. max n (entry_count_of t)) g.largest_is
-        ∙ sym (largest-push ts t);
-    too_long_is = a.too_long ∙ ap (λ o. option_or o (first_too_long (text_in t))) g.too_long_is
-        ∙ sym (first-append (flat_map text_in ts) (text_in t))
-            ∙ ap first_too_long (sym (flat-push text_in ts t));
-    over_is = a.over ∙ ap (λ b. b || is_over_32_bits t) g.over_is
-        ∙ ap (λ b. list_any is_over_32_bits ts || b) (sym (or_false (is_over_32_bits t)))
-        ∙ sym (list_any-append is_over_32_bits ts (t ∷ []));
-  }
+  where
+    pub added : Gathered (ts ++ t ∷ []) new
+    added = record {
+      keys_are = a.keys ∙ ap (λ l. l ++ own_keys t) g.keys_are ∙ sym (flat-push own_keys ts t);
+      texts_are = a.texts ∙ ap (λ l. l ++ text_in t) g.texts_are ∙ sym (flat-push text_in ts t);
+      size_is = omega (arith, a.size, g.size_is, size-push ts t);
+      largest_is = a.largest ∙ ap (λ n. max n (entry_count_of t)) g.largest_is
+          ∙ sym (largest-push ts t);
+      too_long_is = a.too_long ∙ ap (λ o. option_or o (first_too_long (text_in t))) g.too_long_is
+          ∙ sym (first-append (flat_map text_in ts) (text_in t))
+          ∙ ap first_too_long (sym (flat-push text_in ts t));
+      over_is = a.over ∙ ap (λ b. b || is_over_32_bits t) g.over_is
+          ∙ ap (λ b. list_any is_over_32_bits ts || b) (sym (or_false (is_over_32_bits t)))
+          ∙ sym (list_any-append is_over_32_bits ts (t ∷ []));
+    }
 
 -- a resource with no key and no text
 module _ (old new : Contents) (t : Tree) (n : ℕ) (b : Bool) (no_keys : own_keys t ≡ [])
     (no_text : text_in t ≡ []) (no_entries : entry_count_of t ≡ 0) (held : held_size t ≡ n)
     (over : is_over_32_bits t ≡ b) where
-  pub adds_plain : new ≡ record old { size = min (old.size + (16 + n)) (2 ^ 64 - 1);
-      has_count_over_32_bits = old.has_count_over_32_bits || b } → Adds old new t
+  pub adds_plain : new ≡ record old {
+    size = min (old.size + (16 + n)) (2 ^ 64 - 1);
+    has_count_over_32_bits = old.has_count_over_32_bits || b;
+  } → Adds old new t
   adds_plain e = record {
     keys = ap (λ c. nows c.keys.items) e ∙ sym (append-nil (nows old.keys.items))
         ∙ ap (λ l. nows old.keys.items ++ l) (sym no_keys);
@@ -110,10 +112,15 @@ module _ (old new : Contents) (t : Tree) (n : ℕ) (b : Bool) (no_keys : own_key
 
 pub plain_integer : (old new : Contents)
     → new ≡ record old { size = min (old.size + (16 + 0)) (2 ^ 64 - 1) }
-    → new ≡ record old { size = min (old.size + (16 + 0)) (2 ^ 64 - 1); has_count_over_32_bits =
-        old.has_count_over_32_bits || false }
-plain_integer old new e = e ∙ (λ i. record old { size = min (old.size + (16 + 0)) (2 ^ 64 - 1);
-    has_count_over_32_bits = sym (or_false old.has_count_over_32_bits) i })
+    → new ≡ record old {
+      size = min (old.size + (16 + 0)) (2 ^ 64 - 1);
+      has_count_over_32_bits =
+          old.has_count_over_32_bits || false;
+    }
+plain_integer old new e = e ∙ (λ i. record old {
+  size = min (old.size + (16 + 0)) (2 ^ 64 - 1);
+  has_count_over_32_bits = sym (or_false old.has_count_over_32_bits) i;
+})
 
 pub items_long : (rs : List Resource) → length (members (items_view rs)) ≡ length rs
 items_long [] = refl

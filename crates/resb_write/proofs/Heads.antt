@@ -109,10 +109,17 @@ module _ (x : Whole) where
   pub body_length : length (body_of file) ≡ 4 * (8 + k + b + d)
   body_length =
       ap length body_is
-      ∙ omega (arith, key_length, unit_length, tail_length,
-          length-append head (x.keys ++ (halves x.us ++ x.tail)),
-          length-append x.keys (halves x.us ++ x.tail), length-append (halves x.us) x.tail,
-          head_length, halves_len x.us)
+      ∙ omega (
+        arith,
+        key_length,
+        unit_length,
+        tail_length,
+        length-append head (x.keys ++ (halves x.us ++ x.tail)),
+        length-append x.keys (halves x.us ++ x.tail),
+        length-append (halves x.us) x.tail,
+        head_length,
+        halves_len x.us,
+      )
 
   pub file_length : length file ≡ 32 + 4 * (8 + k + b + d)
   file_length = omega (arith, length-append written_header body, ap length body_is, body_length)

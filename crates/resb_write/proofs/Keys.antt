@@ -27,7 +27,7 @@ pub key_moves : (a q : List ℕ) (old new : Option Unit) (js : List (List ℕ))
     → is_some old ≡ is_among js q → is_some new ≡ is_among (js ++ a ∷ []) q
 key_moves a q old new js e h =
     ap is_some (e ∙ ap (λ b. cond b (Some tt) old) (same_either_way a q))
-        ∙ moved (same_text q a) old
+    ∙ moved (same_text q a) old
     ∙ ap (λ b. b || (same_text q a || false)) h ∙ sym (list_any-append (same_text q) js (a ∷ []))
   where
     moved : (b : Bool) (o : Option Unit)
@@ -115,8 +115,13 @@ stands_in k j js n (Some m) o later e =
     record {
       front = (j ++ 0 ∷ []) ++ s.front;
       back = s.back;
-      place = omega (arith, g, s.place, length-append (j ++ 0 ∷ []) s.front,
-          length-append j (0 ∷ []));
+      place = omega (
+        arith,
+        g,
+        s.place,
+        length-append (j ++ 0 ∷ []) s.front,
+        length-append j (0 ∷ []),
+      );
       is = ap (λ l. (j ++ 0 ∷ []) ++ l) s.is
           ∙ sym (append_assoc (j ++ 0 ∷ []) s.front (k ++ 0 ∷ s.back));
     }
@@ -143,17 +148,17 @@ filter_no p done rest x e = ap (λ b. done ++ cond b (x ∷ filter p rest) (filt
 pub filter_keeps : (p : List ℕ → Bool) (old new : List (Bor (List ℕ))) (text : Bor (List ℕ))
     (rest : List (List ℕ)) (x : List ℕ)
     → new ≡ old ++ text ∷ [] → text.now ≡ x → p text.now ≡ true
-        → nows new ++ filter p rest ≡ nows old ++ filter p (x ∷ rest)
+    → nows new ++ filter p rest ≡ nows old ++ filter p (x ∷ rest)
 filter_keeps p old new text rest x e t h =
     ap (λ l. nows l ++ filter p rest) e
-        ∙ ap (λ l. l ++ filter p rest) (map_push (λ (y : Bor (List ℕ)). y.now) old text)
-        ∙ filter_yes p (nows old) rest text.now h
+    ∙ ap (λ l. l ++ filter p rest) (map_push (λ (y : Bor (List ℕ)). y.now) old text)
+    ∙ filter_yes p (nows old) rest text.now h
     ∙ ap (λ y. nows old ++ filter p (y ∷ rest)) t
 
 pub filter_leaves : (p : List ℕ → Bool) (old new : List (Bor (List ℕ))) (text : Bor (List ℕ))
     (rest : List (List ℕ)) (x : List ℕ)
     → new ≡ old → text.now ≡ x → p text.now ≡ false
-        → nows new ++ filter p rest ≡ nows old ++ filter p (x ∷ rest)
+    → nows new ++ filter p rest ≡ nows old ++ filter p (x ∷ rest)
 filter_leaves p old new text rest x e t h = ap (λ l. nows l ++ filter p rest) e
     ∙ filter_no p (nows old) rest text.now h ∙ ap (λ y. nows old ++ filter p (y ∷ rest)) t
 
@@ -166,7 +171,7 @@ map_cond false n o = refl
 pub place_moves : (a q : List ℕ) (js : List (List ℕ)) (at : ℕ) (old new : Option ℕ)
     → new ≡ cond (bytes_eq a q) (Some at) old
     → at ≡ near_position (length (key_bytes js)) → old ≡ near_position_in js q
-        → new ≡ near_position_in (js ++ a ∷ []) q
+    → new ≡ near_position_in (js ++ a ∷ []) q
 place_moves a q js at old new e p o =
     e ∙ ap (λ s. cond s (Some at) old) (same_either_way a q)
     ∙ (λ i. cond (same_text q a) (Some (p i)) (o i))
@@ -176,7 +181,7 @@ place_moves a q js at old new e p o =
 pub position_moves : (a : List ℕ) (js : List (List ℕ)) (at next : ℕ)
     → next ≡ min (at + (length a + 1)) (2 ^ 64 - 1)
     → at ≡ min (32 + length (key_bytes js)) (2 ^ 64 - 1)
-        → next ≡ min (32 + length (key_bytes (js ++ a ∷ []))) (2 ^ 64 - 1)
+    → next ≡ min (32 + length (key_bytes (js ++ a ∷ []))) (2 ^ 64 - 1)
 position_moves a js at next e p =
     let f = ap length (key_bytes-push a js) in
     let g = length-append (key_bytes js) ((a ++ 0 ∷ []) ++ []) in
@@ -223,7 +228,10 @@ no_place k [] e h = absurd (omega (arith, h.1))
 no_place k (j ∷ js) e (zero, lt, is) =
     let o = some_placed k j js (last_of k js) refl e in
     let f : Some 0 ≡ None = sym (same_none k j js o
-        ∙ ap (λ t. cond t (Some 0) None) (same_itself k j (sym is))) ∙ e in
+    ∙ ap (λ t. cond t (Some 0) None) (same_itself k j (sym is))) ∙ e in
     none_some 0 (sym f)
-no_place k (j ∷ js) e (suc i, lt, is) = no_place k js (some_placed k j js (last_of k js) refl e) (i,
-    omega arith, is)
+no_place k (j ∷ js) e (suc i, lt, is) = no_place k js (some_placed k j js (last_of k js) refl e) (
+  i,
+  omega arith,
+  is,
+)

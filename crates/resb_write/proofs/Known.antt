@@ -44,7 +44,7 @@ module _ {X : Type 0} where
   kept_by : (p : X → Bool) (y : X) (ys : List X) (x : X) → (Contains (filter p ys) x → (p x ≡ true)
       × Contains ys x)
       → (b : Bool) → p y ≡ b → Contains (cond b (y ∷ filter p ys) (filter p ys)) x → (p x ≡ true)
-          × Contains (y ∷ ys) x
+      × Contains (y ∷ ys) x
   kept_by p y ys x f true e (zero, lt, is) = (ap p (sym is) ∙ e, (0, omega arith, is))
   kept_by p y ys x f true e (suc i, lt, is) =
       (let k = f (i, omega arith, is) in (k.0, later ys y x k.1))
@@ -117,7 +117,7 @@ module _ (us js : List (List ℕ)) (faultless : key_fault us js ≡ None) where
     pub is_used : (k : List ℕ) (n : ℕ) → last_of k js ≡ Some n → Contains us k
     is_used k n e =
         let c = kept (is_among us) ks k
-            (subst (λ l. Contains l k) js_are (place_contained k js n e)) in
+        (subst (λ l. Contains l k) js_are (place_contained k js n e)) in
         let m = any_member (same_text k) us c.0 in
         subst (Contains us) (sym ((bytes_decides k m.0).0 m.2)) m.1
 
@@ -128,8 +128,8 @@ module _ (us js : List (List ℕ)) (faultless : key_fault us js ≡ None) where
     near_is k (Some n) e =
         let f = none_member (is_far js) us k tests.2 (is_used k n e) in
         let l : nat_lt 2147483647 (32 + n) ≡ false =
-            sym (ap (λ o. nat_lt 2147483647 (unwrap_or (option_map (λ m. keys_start + m) o) 0)) e)
-            ∙ f in
+        sym (ap (λ o. nat_lt 2147483647 (unwrap_or (option_map (λ m. keys_start + m) o) 0)) e)
+        ∙ f in
         ap Some (omega (arith, ltb-false 2147483647 (32 + n) l))
 
     pub exact : (k : List ℕ) → near_position_in js k ≡ position_in js k
@@ -137,25 +137,25 @@ module _ (us js : List (List ℕ)) (faultless : key_fault us js ≡ None) where
 
 -- where the texts S are planned
 module _ (S : List (List ℕ)) (us : List ℕ) (offset : List ℕ → Option ℕ) (plan : IsPlan S us offset)
-    where
-  pub offset_of_text : (s : List ℕ) → Contains S s → (k : ℕ) × (offset s ≡ Some k) × (k < 2 ^ 28)
-  offset_of_text s c = by (offset s) refl (plan.offsets s)
-    where
-      by : (o : Option ℕ) → offset s ≡ o → MatchOption o (Contains S s → ⊥) (λ k. Contains S s
-          × Off S plan.records s k) → (k : ℕ) × (offset s ≡ Some k) × (k < 2 ^ 28)
-      by None e h = absurd (h c)
-      by (Some k) e h = (k, e, omega (arith, (pool_is_read S us offset plan s k e).0, plan.room))
+  where
+    pub offset_of_text : (s : List ℕ) → Contains S s → (k : ℕ) × (offset s ≡ Some k) × (k < 2 ^ 28)
+    offset_of_text s c = by (offset s) refl (plan.offsets s)
+      where
+        by : (o : Option ℕ) → offset s ≡ o → MatchOption o (Contains S s → ⊥) (λ k. Contains S s
+            × Off S plan.records s k) → (k : ℕ) × (offset s ≡ Some k) × (k < 2 ^ 28)
+        by None e h = absurd (h c)
+        by (Some k) e h = (k, e, omega (arith, (pool_is_read S us offset plan s k e).0, plan.room))
 
 module _ (ts : List Tree) (g : Given) (js : List (List ℕ)) (us : List ℕ)
     (plan : IsPlan (flat_map text_in ts) us g.offset)
     (faultless : key_fault (flat_map own_keys ts) js ≡ None) (positions : (k : List ℕ)
-        → g.position k ≡ position_in js k) where
+    → g.position k ≡ position_in js k) where
   known : (t : Tree) → Contains ts t → IsKnown g t
   known (string s) c = offset_of_text (flat_map text_in ts) us g.offset plan s
       (in_flat text_in ts (string s) s c (0, omega arith, refl))
   known (table es) c =
       let r = placed_each (flat_map own_keys ts) js faultless (keys_in es)
-          (λ k h. in_flat own_keys ts (table es) k c h) in
+      (λ k h. in_flat own_keys ts (table es) k c h) in
       (r.0, (λ i. map (λ k. positions k i) (keys_in es)) ∙ r.1)
   known (array us) c = tt
   known (binary s) c = tt

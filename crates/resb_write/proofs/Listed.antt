@@ -38,8 +38,11 @@ pub contained-filter : {X : Type 0} (p : X → Bool) (xs : List X) (x : X) → p
     → Contains xs x → Contains (filter p xs) x
 contained-filter p [] x e h = absurd (omega (arith, h.1))
 contained-filter p (y ∷ ys) x e (zero, lt, is) =
-    subst (λ b. Contains (cond b (y ∷ filter p ys) (filter p ys)) x) (sym (ap p is ∙ e)) (0,
-    omega arith, is)
+    subst (λ b. Contains (cond b (y ∷ filter p ys) (filter p ys)) x) (sym (ap p is ∙ e)) (
+      0,
+      omega arith,
+      is,
+    )
 contained-filter p (y ∷ ys) x e (suc i, lt, is) =
     by (p y) (contained-filter p ys x e (i, omega arith, is))
   where
@@ -59,15 +62,15 @@ mutual
   contained_is_key k (string s) h = absurd (omega (arith, h.1))
   contained_is_key k (array ts) h =
       first_or_later (flat_map own_keys (walk_each ts)) [] k
-          (subst (λ l. Contains l k) (flat-append own_keys (walk_each ts) (array ts ∷ [])) h)
-          (is_key k (array ts) ≡ true)
+      (subst (λ l. Contains l k) (flat-append own_keys (walk_each ts) (array ts ∷ [])) h)
+      (is_key k (array ts) ≡ true)
       (λ g. contained_each k ts g) (λ g. absurd (omega (arith, g.1)))
   contained_is_key k (table es) h =
       first_or_later (flat_map own_keys (walk_values es)) (keys_in es ++ []) k
-          (subst (λ l. Contains l k) (flat-append own_keys (walk_values es) (table es ∷ [])) h)
-          (is_key k (table es) ≡ true)
+      (subst (λ l. Contains l k) (flat-append own_keys (walk_values es) (table es ∷ [])) h)
+      (is_key k (table es) ≡ true)
       (λ g. contained_values k es g) (λ g. contained_own k es
-          (subst (λ l. Contains l k) (append-nil (keys_in es)) g))
+      (subst (λ l. Contains l k) (append-nil (keys_in es)) g))
   contained_is_key k (binary s) h = absurd (omega (arith, h.1))
   contained_is_key k (integer n) h = absurd (omega (arith, h.1))
   contained_is_key k (int_vector s) h = absurd (omega (arith, h.1))
@@ -77,8 +80,8 @@ mutual
   contained_each k no_trees h = absurd (omega (arith, h.1))
   contained_each k (more_trees t ts) h =
       first_or_later (keys_of t) (flat_map own_keys (walk_each ts)) k
-          (subst (λ l. Contains l k) (flat-append own_keys (walk t) (walk_each ts)) h)
-          (is_key_in k (more_trees t ts) ≡ true)
+      (subst (λ l. Contains l k) (flat-append own_keys (walk t) (walk_each ts)) h)
+      (is_key_in k (more_trees t ts) ≡ true)
       (λ g. or_left _ _ (contained_is_key k t g)) (λ g. or_right _ _ (contained_each k ts g))
 
   contained_values : (k : List ℕ) (es : Entries) → Contains (flat_map own_keys (walk_values es)) k
@@ -86,10 +89,10 @@ mutual
   contained_values k no_entries h = absurd (omega (arith, h.1))
   contained_values k (entry j t es) h =
       first_or_later (keys_of t) (flat_map own_keys (walk_values es)) k
-          (subst (λ l. Contains l k) (flat-append own_keys (walk t) (walk_values es)) h)
-          (is_key_of k (entry j t es) ≡ true)
+      (subst (λ l. Contains l k) (flat-append own_keys (walk t) (walk_values es)) h)
+      (is_key_of k (entry j t es) ≡ true)
       (λ g. or_left _ _ (or_right (same_text k j) _ (contained_is_key k t g)))
-          (λ g. or_right _ _ (contained_values k es g))
+      (λ g. or_right _ _ (contained_values k es g))
 
 -- the length of what is said, where a tree and keys don't belong together
 said : Fault → ℕ
@@ -132,9 +135,9 @@ module _ (t : Tree) (ks : List (List ℕ)) (listed : (k : List ℕ) → is_key k
   later_faults : (a b c d : Bool) (long : Option ℕ) (f : Fault) → a ≡ false
       → first_of (cond a (Some (unexpected (codes "key not present in position map")))
       (cond b (Some (unexpected (codes "key contains U+0000")))
-          (cond c (Some (limit (codes "key position over 2147483647"))) None)))
+      (cond c (Some (limit (codes "key position over 2147483647"))) None)))
       (first_of (option_map string_too_long long)
-          (cond d (Some (limit (codes "count over 32 bits"))) None)) ≡ Some f
+      (cond d (Some (limit (codes "count over 32 bits"))) None)) ≡ Some f
       → f ≡ unexpected (codes "key not present in position map") → ⊥
   unfolding said
   later_faults true b c d long f e h q = true≢false e
@@ -155,7 +158,7 @@ module _ (t : Tree) (ks : List (List ℕ)) (listed : (k : List ℕ) → is_key k
   unfolding us js
   not_unlisted f h q =
       later_faults (list_any (is_unlisted js) us) (list_any has_nul us) (list_any (is_far js) us)
-          (list_any is_over_32_bits (walk t)) (first_too_long (texts_of t)) f all_listed h q
+      (list_any is_over_32_bits (walk t)) (first_too_long (texts_of t)) f all_listed h q
 
   pub not_memory : out_of_memory ≡ unexpected (codes "key not present in position map") → ⊥
   unfolding said

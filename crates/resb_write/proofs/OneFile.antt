@@ -32,7 +32,7 @@ same_front (suc n) (x ∷ xs) [] h k e = absurd (omega (arith, k))
 same_front (suc n) (x ∷ xs) (y ∷ ys) h k e =
     let first : x ≡ y = e 0 (omega arith) in
     let rest = same_front n xs ys (omega (arith, h)) (omega (arith, k))
-        (λ i l. e (suc i) (omega (arith, l))) in
+    (λ i l. e (suc i) (omega (arith, l))) in
     λ i. first i ∷ rest i
 
 fits_drop : (n : ℕ) (bs : List ℕ) → EachFits 8 bs → EachFits 8 (drop n bs)
@@ -48,8 +48,12 @@ module _ (t : Tree) (ks : List (List ℕ)) (x y : Blocks t ks) where
   offset_is = (one_pool (texts_of t) x.pool y.pool x.offset y.offset x.is_pool y.is_pool).1
 
   abbrev given : Blocks t ks → Given
-  given b = record { position = key_position t ks; offset = b.offset; base =
-      tail_start (key_block t ks) b.laid }
+  given b = record {
+    position = key_position t ks;
+    offset = b.offset;
+    base =
+        tail_start (key_block t ks) b.laid;
+  }
 
   abbrev start : Blocks t ks → State
   start b = record { units = b.pool; tail = [] }
@@ -100,8 +104,14 @@ module _ (a : List ℕ) (t : Tree) (fallback : Bool) (ks : List (List ℕ))
   body_long : length (body_of a) ≡ 32 + length (bytes_of w.blocks)
   body_long =
       let e = ap length (take-append-drop 32 (body_of a)) in
-      omega (arith, e, length-append (take 32 (body_of a)) (drop 32 (body_of a)), ap length w.body,
-          long, take_long 32 (body_of a) long)
+      omega (
+        arith,
+        e,
+        length-append (take 32 (body_of a)) (drop 32 (body_of a)),
+        ap length w.body,
+        long,
+        take_long 32 (body_of a) long,
+      )
     where
       take_long : (n : ℕ) (xs : List ℕ) → n ≤ length xs → length (take n xs) ≡ n
       take_long zero xs h = refl
@@ -117,16 +127,24 @@ module _ (a b : List ℕ) (t : Tree) (fallback : Bool) (ks : List (List ℕ)) (f
   bytes_are = bytes_same t ks x.blocks y.blocks
 
   long_same : length (body_of a) ≡ length (body_of b)
-  long_same = omega (arith, body_long a t fallback ks x, body_long b t fallback ks y,
-      ap length bytes_are)
+  long_same = omega (
+    arith,
+    body_long a t fallback ks x,
+    body_long b t fallback ks y,
+    ap length bytes_are,
+  )
 
   word_same : (i : ℕ) → i < 8 → get_or (words_of (body_of a)) i 0 ≡ get_or (words_of (body_of b)) i
       0
   word_same zero h = x.root ∙ root_same t ks x.blocks y.blocks ∙ sym y.root
   word_same (suc zero) h = x.index.fields ∙ sym y.index.fields
   word_same (suc (suc zero)) h = omega (arith, x.keys_end, y.keys_end)
-  word_same (suc (suc (suc zero))) h = omega (arith, x.index.resources, y.index.resources,
-      long_same)
+  word_same (suc (suc (suc zero))) h = omega (
+    arith,
+    x.index.resources,
+    y.index.resources,
+    long_same,
+  )
   word_same (suc (suc (suc (suc zero)))) h =
       omega (arith, x.index.bundle, y.index.bundle, long_same)
   word_same (suc (suc (suc (suc (suc zero))))) h = x.index.largest ∙ sym y.index.largest
@@ -149,7 +167,7 @@ module _ (a b : List ℕ) (t : Tree) (fallback : Bool) (ks : List (List ℕ)) (f
       head_of a fa x
       ∙ ap (flat_map (to_le_bytes w32)) (same_front 8 (words_of (body_of a)) (words_of (body_of b))
       (omega (arith, words_long (body_of a), long a t fallback ks x))
-          (omega (arith, words_long (body_of b), long b t fallback ks y)) word_same)
+      (omega (arith, words_long (body_of b), long b t fallback ks y)) word_same)
       ∙ sym (head_of b fb y)
 
   pub same_file : a ≡ b
@@ -157,7 +175,7 @@ module _ (a b : List ℕ) (t : Tree) (fallback : Bool) (ks : List (List ℕ)) (f
       whole a t fallback ks x
       ∙ ap (λ l. written_header ++ l) (sym (body_is a t fallback ks x) ∙ split a t fallback ks x
       ∙ (λ i. head_same i ++ bytes_are i) ∙ sym (split b t fallback ks y)
-          ∙ body_is b t fallback ks y)
+      ∙ body_is b t fallback ks y)
       ∙ sym (whole b t fallback ks y)
 
 pub one_file : OneFile

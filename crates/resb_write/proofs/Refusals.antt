@@ -21,7 +21,7 @@ module _ (t : Tree) (ks : List (List ℕ)) where
   key_refused us f e (inl m) = subst (Refused t ks) (sym m) no_memory
   key_refused us f e (inr h) =
       let k : key_fault (keys_of t) (used (keys_of t) ks) ≡ Some f =
-          (λ i. key_fault (sym e i) (used (sym e i) ks)) ∙ h in
+      (λ i. key_fault (sym e i) (used (sym e i) ks)) ∙ h in
       first_fault (ap (λ o. first_of o (size_fault (walk t))) k)
 
   module _ (us js : List (List ℕ)) (us_are : us ≡ keys_of t) (js_are : js ≡ used us ks)
@@ -42,8 +42,11 @@ module _ (t : Tree) (ks : List (List ℕ)) where
       → list_size ks + resources_size (walk t) < 2 ^ 28 → NotPlanned S f → Refused t ks f
   plan_refused S f e small no_memory_to_plan = no_memory
   plan_refused S f e small (too_long {n} h) =
-      let none = none_too_long (flat_map text_in (walk t)) (omega (arith, texts_within (walk t),
-          small)) in
+      let none = none_too_long (flat_map text_in (walk t)) (omega (
+        arith,
+        texts_within (walk t),
+        small,
+      )) in
       let no : Some n ≡ None = sym h ∙ ap first_too_long e ∙ none in
       cc
   plan_refused S f e small (too_large_to_plan h l) =

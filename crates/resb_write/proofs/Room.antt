@@ -46,9 +46,9 @@ none_too_long [] h = refl
 none_too_long (s ∷ ss) h =
     let e = texts_cons s ss in
     let f : nat_le (length (units s)) 4294967295 ≡ true =
-        fits (length (units s)) (omega (arith, e, h)) in
+    fits (length (units s)) (omega (arith, e, h)) in
     ap (λ b. cond b (first_too_long ss) (Some (length (units s)))) f
-        ∙ none_too_long ss (omega (arith, e, h))
+    ∙ none_too_long ss (omega (arith, e, h))
   where
     fits : (n : ℕ) → n < 2 ^ 28 → nat_le n 4294967295 ≡ true
     fits n l = grind (arith, nat_tests)
@@ -81,7 +81,7 @@ pub pool_room : (S : List (List ℕ)) (us : List ℕ) (offset : List ℕ → Opt
 pool_room S us offset p =
     let e = ap length p.pool.units in
     let q : sum_by size p.records ≤ sum_by size S = into_least size (λ a b. a ≡ b) (λ a b r f g. f
-        ∙ sym g) p.records S p.pool.records.once
+    ∙ sym g) p.records S p.pool.records.once
     (λ s c. (s, ((p.pool.records.just s).0 c).given, refl, omega arith)) in
     omega (arith, e, length-records p.records, q)
 
@@ -99,8 +99,14 @@ one_size s = omega (arith, sum_by-cons size s [], marker_le s)
 pub units_room : (ts : List Tree) → sum_by size (flat_map text_in ts) + sum_by most_units ts + 11 *
     length ts ≤ resources_size ts
 units_room [] = omega arith
-units_room (t ∷ ts) = omega (arith, by t, sizes_cons t ts, size_cons t ts,
-    sum_by-cons most_units t ts, units_room ts)
+units_room (t ∷ ts) = omega (
+  arith,
+  by t,
+  sizes_cons t ts,
+  size_cons t ts,
+  sum_by-cons most_units t ts,
+  units_room ts,
+)
   where
     by : (u : Tree) → sum_by size (text_in u) + most_units u + 11 ≤ 16 + held_size u
     by (string s) = omega (arith, one_size s)
@@ -115,8 +121,15 @@ pub bytes_room : (ts : List Tree)
     → 2 * (2 * (sum_by size (flat_map text_in ts) + sum_by most_units ts) + sum_by most_bytes ts) ≤
     7 * resources_size ts
 bytes_room [] = omega arith
-bytes_room (t ∷ ts) = omega (arith, by t, sizes_cons t ts, size_cons t ts,
-    sum_by-cons most_units t ts, sum_by-cons most_bytes t ts, bytes_room ts)
+bytes_room (t ∷ ts) = omega (
+  arith,
+  by t,
+  sizes_cons t ts,
+  size_cons t ts,
+  sum_by-cons most_units t ts,
+  sum_by-cons most_bytes t ts,
+  bytes_room ts,
+)
   where
     by : (u : Tree) → 2 * (2 * (sum_by size (text_in u) + most_units u) + most_bytes u) ≤ 7 *
         (16 + held_size u)
@@ -130,17 +143,24 @@ bytes_room (t ∷ ts) = omega (arith, by t, sizes_cons t ts, size_cons t ts,
 -- the used keys take no more room than those that are listed
 pub used_room : (us ks : List (List ℕ)) → length (key_bytes (used us ks)) ≤ list_size ks
 used_room us [] = omega arith
-used_room us (k ∷ ks) = omega (arith, by_test (is_among us k), used_room us ks,
-    sum_by-cons (λ (x : List ℕ). length x + 1) k ks)
+used_room us (k ∷ ks) = omega (
+  arith,
+  by_test (is_among us k),
+  used_room us ks,
+  sum_by-cons (λ (x : List ℕ). length x + 1) k ks,
+)
   where
     by_test : (b : Bool) → length (key_bytes (cond b (k ∷ used us ks) (used us ks))) ≤ length k + 1
         + length (key_bytes (used us ks))
-    by_test true = omega (arith, length-append (k ++ 0 ∷ []) (key_bytes (used us ks)),
-        length-append k (0 ∷ []))
+    by_test true = omega (
+      arith,
+      length-append (k ++ 0 ∷ []) (key_bytes (used us ks)),
+      length-append k (0 ∷ []),
+    )
     by_test false = omega arith
 
 pub length-padded : (bytes : List ℕ) → length (padded bytes) ≡ length bytes + (4 - length bytes % 4)
     % 4
 length-padded bytes =
     length-append bytes (replicate ((4 - length bytes % 4) % 4) 0xaa)
-        ∙ ap (λ n. length bytes + n) (length-replicate ((4 - length bytes % 4) % 4) 0xaa)
+    ∙ ap (λ n. length bytes + n) (length-replicate ((4 - length bytes % 4) % 4) 0xaa)

@@ -25,5 +25,5 @@ returns c =
           c.keys-key-items.ensures.ordered;
       positions = ap (map at) (keys_view c.args.table.now.entries) ∙ sym c.loop-key.invariant
           ∙ ap (λ l. map Some c.loop-key.positions.items ++ map at l) none
-              ∙ append-nil (map Some c.loop-key.positions.items);
+          ∙ append-nil (map Some c.loop-key.positions.items);
     }

@@ -8,4 +8,4 @@ pub returns : goal.returns
 returns c = λ g s. leaf_step g s s c.args.words.now.items c.push.new.self.items
     (integer c.args.number) c.word.result refl
     (subst (Lays g s (integer c.args.number) s) (sym c.word.ensures) (lays_integer c.requires))
-        c.in_ok-push.ensures.items
+    c.in_ok-push.ensures.items

@@ -30,8 +30,8 @@ unreachable-requires c =
     let e = state_of c.steps.new.bodies in
     let ws = c.steps.new.words.items in
     let h = subst (λ l. Steps g s l (walk t) e ws) c.new-words.ensures.items
-        (subst (λ ts. Steps g s c.new-words.result.items ts e ws) c.in_ok-order.ensures
-        c.in_ok-steps.ensures.lays) in
+    (subst (λ ts. Steps g s c.new-words.result.items ts e ws) c.in_ok-order.ensures
+    c.in_ok-steps.ensures.lays) in
     let r = steps_lay_trees g s e t ws h in
     omega (arith, c.in_default.ensures.cases.0, c.steps.new.words.ok.0, ap length r.1)
 
@@ -43,9 +43,9 @@ returns-clause-lays c =
     let e = state_of c.steps.new.bodies in
     let ws = c.steps.new.words.items in
     let h = subst (λ l. Steps g s l (walk t) e ws) c.new-words.ensures.items
-        (subst (λ ts. Steps g s c.new-words.result.items ts e ws) c.in_ok-order.ensures
-        c.in_ok-steps.ensures.lays) in
+    (subst (λ ts. Steps g s c.new-words.result.items ts e ws) c.in_ok-order.ensures
+    c.in_ok-steps.ensures.lays) in
     let r = steps_lay_trees g s e t ws h in
     let same = same_from_push c.pop.new.self.items [] c.in-Some.word r.0
-        (sym c.in-Some.ensures.items ∙ r.1) in
+    (sym c.in-Some.ensures.items ∙ r.1) in
     subst (Lays g s t e) (sym same.1) r.2

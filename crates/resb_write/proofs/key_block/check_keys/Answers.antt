@@ -20,7 +20,7 @@ returns-then-has_unlisted_key-clause-err c = λ js h.
     let us = nows c.args.keys.now in
     let at = at_text c.args.positions.now in
     let e = sym c.if-has_unlisted_key.true ∙ c.has_unlisted_key.ensures
-        ∙ any_now (λ k. is_none (at k)) c.args.keys.now in
+    ∙ any_now (λ k. is_none (at k)) c.args.keys.now in
     unlisted_fault us js (tested is_none us js at h true e) ∙ ap Some (sym c.unexpected.ensures)
 
 pub returns-then-has_nul_key-clause-err : goal.returns-then-has_nul_key-clause-err
@@ -28,35 +28,35 @@ returns-then-has_nul_key-clause-err c = λ js h.
     let us = nows c.args.keys.now in
     let at = at_text c.args.positions.now in
     let e = sym c.if-has_unlisted_key.false ∙ c.has_unlisted_key.ensures
-        ∙ any_now (λ k. is_none (at k)) c.args.keys.now in
+    ∙ any_now (λ k. is_none (at k)) c.args.keys.now in
     let n = sym (any_now has_nul c.args.keys.now) ∙ sym c.has_nul_key.ensures
-        ∙ c.if-has_nul_key.true in
+    ∙ c.if-has_nul_key.true in
     nul_fault us js (tested is_none us js at h false e) n
-        ∙ ap Some (sym c.unexpected-then-has_nul_key.ensures)
+    ∙ ap Some (sym c.unexpected-then-has_nul_key.ensures)
 
 pub returns-then-has_far_key-clause-err : goal.returns-then-has_far_key-clause-err
 returns-then-has_far_key-clause-err c = λ js h.
     let us = nows c.args.keys.now in
     let at = at_text c.args.positions.now in
     let e = sym c.if-has_unlisted_key.false ∙ c.has_unlisted_key.ensures
-        ∙ any_now (λ k. is_none (at k)) c.args.keys.now in
+    ∙ any_now (λ k. is_none (at k)) c.args.keys.now in
     let n = sym (any_now has_nul c.args.keys.now) ∙ sym c.has_nul_key.ensures
-        ∙ c.if-has_nul_key.false in
+    ∙ c.if-has_nul_key.false in
     let f = sym c.if-has_far_key.true ∙ c.has_far_key.ensures
-        ∙ any_now (λ k. nat_lt 2147483647 (unwrap_or (at k) 0)) c.args.keys.now in
+    ∙ any_now (λ k. nat_lt 2147483647 (unwrap_or (at k) 0)) c.args.keys.now in
     far_fault us js (tested is_none us js at h false e) n
-        (tested (λ o. nat_lt 2147483647 (unwrap_or o 0)) us js at h true f)
-        ∙ ap Some (sym c.limit.ensures)
+    (tested (λ o. nat_lt 2147483647 (unwrap_or o 0)) us js at h true f)
+    ∙ ap Some (sym c.limit.ensures)
 
 pub returns-clause-ok : goal.returns-clause-ok
 returns-clause-ok c = λ js h.
     let us = nows c.args.keys.now in
     let at = at_text c.args.positions.now in
     let e = sym c.if-has_unlisted_key.false ∙ c.has_unlisted_key.ensures
-        ∙ any_now (λ k. is_none (at k)) c.args.keys.now in
+    ∙ any_now (λ k. is_none (at k)) c.args.keys.now in
     let n = sym (any_now has_nul c.args.keys.now) ∙ sym c.has_nul_key.ensures
-        ∙ c.if-has_nul_key.false in
+    ∙ c.if-has_nul_key.false in
     let f = sym c.if-has_far_key.false ∙ c.has_far_key.ensures
-        ∙ any_now (λ k. nat_lt 2147483647 (unwrap_or (at k) 0)) c.args.keys.now in
+    ∙ any_now (λ k. nat_lt 2147483647 (unwrap_or (at k) 0)) c.args.keys.now in
     no_key_fault us js (tested is_none us js at h false e) n
-        (tested (λ o. nat_lt 2147483647 (unwrap_or o 0)) us js at h false f)
+    (tested (λ o. nat_lt 2147483647 (unwrap_or o 0)) us js at h false f)

@@ -10,8 +10,11 @@ use Rattle.resb_write.proofs.Keys.{place_moves, position_moves, nows-take}
 use Rattle.resb_write.proofs.key_block.last_positions.Goals as goal
 
 pub loop-key-init : goal.loop-key-init
-loop-key-init c = record { position = omega arith; positions =
-    λ q. at_empty c.new-positions.result q c.new-positions.ensures.empty }
+loop-key-init c = record {
+  position = omega arith;
+  positions =
+      λ q. at_empty c.new-positions.result q c.new-positions.ensures.empty;
+}
 
 pub loop-key-preserved : goal.loop-key-preserved
 loop-key-preserved c =
@@ -29,6 +32,6 @@ loop-key-preserved c =
       positions = λ q. place_moves a q js _ (at_text c.loop-key.positions q)
           (at_text c.insert.new.self q)
           (hash_map_updates_str a c.loop-key.positions c.insert.new.self _
-              c.in_ok-insert.ensures.updates q) (omega (arith, v.position)) (v.positions q)
+          c.in_ok-insert.ensures.updates q) (omega (arith, v.position)) (v.positions q)
           ∙ ap (λ l. near_position_in l q) (sym e);
     }

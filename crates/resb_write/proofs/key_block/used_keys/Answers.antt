@@ -22,9 +22,9 @@ loop-key-preserved c =
     let text = c.as_str-text.result in
     let rest = drop (i + 1) xs in
     let e : drop i xs ≡ x ∷ rest = drop_more xs i x (omega arith)
-        ∙ ap (λ y. y ∷ rest) (sym c.key-item.is) in
+    ∙ ap (λ y. y ∷ rest) (sym c.key-item.is) in
     let end : nows old ++ filter p (x ∷ rest) ≡ filter p xs =
-        ap (λ l. nows old ++ filter p l) (sym e) ∙ c.loop-key.invariant.keys in
+    ap (λ l. nows old ++ filter p l) (sym e) ∙ c.loop-key.invariant.keys in
     elim c.if-contains_key.branch [
       | then-contains_key+in_ok-push w ↦
           record {

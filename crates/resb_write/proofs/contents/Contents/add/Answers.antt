@@ -15,58 +15,58 @@ pub returns-in-Array : goal.returns-in-Array
 returns-in-Array c = λ ts g.
     let t = array (items_view c.in-Array.items.items) in
     let e : tree_of c.args.resource.now ≡ array (items_view c.in-Array.items.items) =
-        search (rules, the_lemmas) in
+    search (rules, the_lemmas) in
     let n = items_long c.in-Array.items.items in
     let m = c.len.ensures ∙ c.in-Array.items.ok.0 in
     subst (λ u. Gathered (ts ++ u ∷ []) c.add_counted.new.self) (sym e)
     (added c.args.self.now c.add_counted.new.self t
     (adds_plain c.args.self.now c.add_counted.new.self t (c.len.result * 4)
-        (nat_lt 4294967295 c.len.result) refl refl refl (omega (arith, n, m))
-        (ap (nat_lt 4294967295) (n ∙ sym m)) c.add_counted.ensures)
+    (nat_lt 4294967295 c.len.result) refl refl refl (omega (arith, n, m))
+    (ap (nat_lt 4294967295) (n ∙ sym m)) c.add_counted.ensures)
     ts g)
 
 pub returns-in-Binary : goal.returns-in-Binary
 returns-in-Binary c = λ ts g.
     let t = binary (cow_slice_items c.in-Binary.bytes) in
     let e : tree_of c.args.resource.now ≡ binary (cow_slice_items c.in-Binary.bytes) =
-        search (rules, the_lemmas) in
+    search (rules, the_lemmas) in
     let m = ap length c.as_slice.ensures.value in
     subst (λ u. Gathered (ts ++ u ∷ []) c.add_bytes.new.self) (sym e)
     (added c.args.self.now c.add_bytes.new.self t
     (adds_plain c.args.self.now c.add_bytes.new.self t ((length c.as_slice.result.now + 1) / 2)
-        (nat_lt 4294967295 (length c.as_slice.result.now)) refl refl refl (omega (arith, m))
-        (ap (nat_lt 4294967295) (sym m)) c.add_bytes.ensures)
+    (nat_lt 4294967295 (length c.as_slice.result.now)) refl refl refl (omega (arith, m))
+    (ap (nat_lt 4294967295) (sym m)) c.add_bytes.ensures)
     ts g)
 
 pub returns-in-Integer : goal.returns-in-Integer
 returns-in-Integer c = λ ts g.
     let t = integer c.in-Integer.field-0 in
     let e : tree_of c.args.resource.now ≡ integer c.in-Integer.field-0 =
-        search (rules, the_lemmas) in
+    search (rules, the_lemmas) in
     subst (λ u. Gathered (ts ++ u ∷ []) c.add_size.new.self) (sym e)
     (added c.args.self.now c.add_size.new.self t
     (adds_plain c.args.self.now c.add_size.new.self t 0 _ refl refl refl refl refl
-        (plain_integer c.args.self.now c.add_size.new.self c.add_size.ensures))
+    (plain_integer c.args.self.now c.add_size.new.self c.add_size.ensures))
     ts g)
 
 pub returns-in-IntVector : goal.returns-in-IntVector
 returns-in-IntVector c = λ ts g.
     let t = int_vector c.in-IntVector.numbers.items in
     let e : tree_of c.args.resource.now ≡ int_vector c.in-IntVector.numbers.items =
-        search (rules, the_lemmas) in
+    search (rules, the_lemmas) in
     let m = c.len-in-IntVector.ensures ∙ c.in-IntVector.numbers.ok.0 in
     subst (λ u. Gathered (ts ++ u ∷ []) c.add_counted-in-IntVector.new.self) (sym e)
     (added c.args.self.now c.add_counted-in-IntVector.new.self t
     (adds_plain c.args.self.now c.add_counted-in-IntVector.new.self t
-        (c.len-in-IntVector.result * 2) (nat_lt 4294967295 c.len-in-IntVector.result) refl refl refl
-        (omega (arith, m)) (ap (nat_lt 4294967295) (sym m)) c.add_counted-in-IntVector.ensures)
+    (c.len-in-IntVector.result * 2) (nat_lt 4294967295 c.len-in-IntVector.result) refl refl refl
+    (omega (arith, m)) (ap (nat_lt 4294967295) (sym m)) c.add_counted-in-IntVector.ensures)
     ts g)
 
 pub returns-in_ok-add_text-in-String : goal.returns-in_ok-add_text-in-String
 returns-in_ok-add_text-in-String c = λ ts g.
     let t = string (cow_str_bytes c.in-String.text) in
     let e : tree_of c.args.resource.now ≡ string (cow_str_bytes c.in-String.text) =
-        search (rules, the_lemmas) in
+    search (rules, the_lemmas) in
     let s : c.as_str.result.now ≡ cow_str_bytes c.in-String.text = c.as_str.ensures.value in
     let h = c.in_ok-add_text-in-String.ensures in
     let new = h.1 in
@@ -88,7 +88,7 @@ returns-in_ok-add_table-in-Table c = λ ts g.
     let es = c.in-Table.table.entries in
     let t = table (entries_view c.in-Table.table.entries) in
     let e : tree_of c.args.resource.now ≡ table (entries_view c.in-Table.table.entries) =
-        search (rules, the_lemmas) in
+    search (rules, the_lemmas) in
     let h = c.in_ok-add_table-in-Table.ensures in
     let new = h.1 in
     subst (λ u. Gathered (ts ++ u ∷ []) c.add_table.new.self) (sym e)

@@ -11,7 +11,7 @@ use Rattle.resb_write.proofs.contents.Contents.gather.Goals as goal
 pub loop-resource-init : goal.loop-resource-init
 loop-resource-init c =
     let many : into_iter_len c.into_iter-resource-iterator.result ≡ length
-        (into_iter_items c.into_iter-resource-iterator.result) = search rules in (
+    (into_iter_items c.into_iter-resource-iterator.result) = search rules in (
       refl,
       many,
       record {
@@ -31,7 +31,7 @@ loop-resource-preserved c =
     let rest = into_iter_items c.next.new.self in
     let next : into_iter_items c.loop-resource.resource-iterator ≡ resource ∷ rest = search rules in
     let many : into_iter_len c.next.new.self + 1 ≡ into_iter_len c.loop-resource.resource-iterator =
-        search rules in (
+    search rules in (
       append_assoc done (resource ∷ []) rest ∙ ap (λ l. done ++ l) (sym next)
           ∙ c.loop-resource.invariant.0,
       omega (arith, c.loop-resource.invariant.1, many, ap length next),
@@ -43,11 +43,11 @@ loop-resource-preserved c =
 pub returns : goal.returns
 returns c =
     let all : into_iter_items c.into_iter-resource-iterator.result ≡
-        c.in_ok-resource-items.resource-items.items = search rules in
+    c.in_ok-resource-items.resource-items.items = search rules in
     let end : into_iter_len c.loop-resource.resource-iterator ≡ 0 = search rules in
     let none = nil_from_len (into_iter_items c.loop-resource.resource-iterator)
-        (sym c.loop-resource.invariant.1 ∙ end) in
+    (sym c.loop-resource.invariant.1 ∙ end) in
     let done = sym (append-nil c.loop-resource.yielded)
-        ∙ ap (λ l. c.loop-resource.yielded ++ l) (sym none) ∙ c.loop-resource.invariant.0 ∙ all in
+    ∙ ap (λ l. c.loop-resource.yielded ++ l) (sym none) ∙ c.loop-resource.invariant.0 ∙ all in
     subst (λ ts. Gathered ts c.loop-resource.contents) (ap trees_in done
-        ∙ c.in_ok-resource-items.ensures) c.loop-resource.invariant.2
+    ∙ c.in_ok-resource-items.ensures) c.loop-resource.invariant.2

@@ -13,32 +13,32 @@ pub returns-in_err-check_keys-clause-err : goal.returns-in_err-check_keys-clause
 returns-in_err-check_keys-clause-err c =
     let us = nows c.args.tree_keys.now in
     let js = c.in_ok-keys.ensures.keys ∙ (λ i. filter (λ k. c.in_ok-wanted.ensures k i)
-        c.args.list.now) in
+    c.args.list.now) in
     let at = λ (q : List ℕ). c.in_ok-positions.ensures q ∙ ap (λ l. near_position_in (nows l) q)
-        c.deref.ensures.value ∙ ap (λ l. near_position_in l q) js in
+    c.deref.ensures.value ∙ ap (λ l. near_position_in l q) js in
     let p = err_from_is_err_and c.from_residual-in_err-check_keys.result
-        c.from_residual-in_err-check_keys.ensures.1 in
+    c.from_residual-in_err-check_keys.ensures.1 in
     let ws = nows c.as_slice.result.now in
     let ds : ws ≡ nows (keys c.in_ok-wanted.wanted) = ap nows (c.as_slice.ensures
-        ∙ c.keys.ensures.rest) in
+    ∙ c.keys.ensures.rest) in
     let same = fault_same (nows (keys c.in_ok-wanted.wanted)) us
-        (same_keys c.in_ok-wanted.wanted.entries us c.in_ok-wanted.ensures)
-        (used us c.args.list.now) in
+    (same_keys c.in_ok-wanted.wanted.entries us c.in_ok-wanted.ensures)
+    (used us c.args.list.now) in
     rw (p.1, p.2) (inr (sym (ap (λ (l : List (List ℕ)). key_fault l (used us c.args.list.now)) ds
-        ∙ same) ∙ c.in_err-check_keys.ensures.err (used us c.args.list.now) at))
+    ∙ same) ∙ c.in_err-check_keys.ensures.err (used us c.args.list.now) at))
 
 pub returns-clause-ok : goal.returns-clause-ok
 returns-clause-ok c =
     let us = nows c.args.tree_keys.now in
     let ks = nows c.in_ok-keys.keys.items in
     let js = c.in_ok-keys.ensures.keys ∙ (λ i. filter (λ k. c.in_ok-wanted.ensures k i)
-        c.args.list.now) in
+    c.args.list.now) in
     let at = λ (q : List ℕ). c.in_ok-positions.ensures q ∙ ap (λ l. near_position_in (nows l) q)
-        c.deref.ensures.value in
+    c.deref.ensures.value in
     let ds : nows c.as_slice.result.now ≡ nows (keys c.in_ok-wanted.wanted) =
-        ap nows (c.as_slice.ensures ∙ c.keys.ensures.rest) in
+    ap nows (c.as_slice.ensures ∙ c.keys.ensures.rest) in
     let same = fault_same (nows (keys c.in_ok-wanted.wanted)) us
-        (same_keys c.in_ok-wanted.wanted.entries us c.in_ok-wanted.ensures) ks in
+    (same_keys c.in_ok-wanted.wanted.entries us c.in_ok-wanted.ensures) ks in
     record {
       keys = js;
       positions = at;

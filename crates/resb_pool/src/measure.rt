@@ -52,16 +52,16 @@ impl Measure {
         ensures size { result.size ≡ size text.now }
         ensures total { result.total ≡ 0 }
     {
-        let count = utf16_len(text);
-        let is_marked = count > MAX_UNMARKED || text.as_bytes().contains(&0);
+        let unit_count = utf16_len(text);
+        let is_marked = unit_count > MAX_UNMARKED || text.as_bytes().contains(&0);
         let marker = if is_marked {
-            marker_units(count).max(1)
+            marker_units(unit_count).max(1)
         } else {
             0
         };
         Measure {
-            unit_count: count as u32,
-            size: (marker + count + 1) as u32,
+            unit_count: unit_count as u32,
+            size: (marker + unit_count + 1) as u32,
             total: 0,
         }
     }

@@ -2,6 +2,7 @@
 //! Which texts are records is said in `places`.
 ghost use Rattle.std.specs.Prelude.{◌≡◌, ◌++◌, ◌∷◌, ℕ, ◌+◌, ◌<◌, ◌≤◌, ◌^◌, List, [], length, map};
 ghost use Rattle.std.specs.Prelude.{All, IfOk, OnOk, sum_by, slice_index};
+ghost use Rattle.std.specs.Prelude.{nat_eq, not, ◌&&◌};
 ghost use Rattle.std.specs.List.{flat_map};
 ghost use Rattle.std.specs.List.Sorted.{IsPermutation, IsSorted};
 ghost use Rattle.resb_format.specs.Units.{units as units_of, marker, size};
@@ -34,6 +35,13 @@ pub(crate) struct Block {
     pub(crate) ends: Vec<u32>,
 }
 
+/// Whether a text with this place is a record: it isn't empty and lies in itself.
+fn is_record(place: &Place, index: usize, text: &str) -> bool
+    ensures { result ≡ (nat_eq place.now.record index && not (nat_eq (length text.now) 0)) }
+{
+    place.record == index && !text.is_empty()
+}
+
 /// The records among texts: those that aren't empty and lie in themselves.
 fn find_records<'a>(
     alloc: Global,
@@ -49,7 +57,7 @@ fn find_records<'a>(
 {
     let mut records = Vec::new(alloc);
     for (index, place) in places.iter().enumerate() {
-        if place.record != index || texts[index].is_empty() {
+        if !is_record(place, index, texts[index]) {
             continue;
         }
         records.push(Record {

@@ -35,12 +35,13 @@ pub(crate) fn greatest_below(nodes: &Vec<Node>, from: usize) -> usize
 {
     let mut at = from;
     loop {
+        let below = match last_child(nodes, at) {
+            None => return at,
+            Some((_, below)) => below,
+        };
         if ends_marked(nodes, at) {
             return at;
         }
-        match last_child(nodes, at) {
-            None => return at,
-            Some((_, below)) => at = below,
-        }
+        at = below;
     }
 }

@@ -127,7 +127,7 @@ find_offsets-requires c =
     (subst (λ (z : List ℕ). All (IsRecordOf T z) c.in_ok-records.records.items)
     c.deref-4.ensures.value c.in_ok-records.ensures.each) in
     let es = c.in_ok-block.block.ends.items in
-    let count : length es ≡ length ps = c.in_ok-block.ensures.len ∙ c.len.ensures
+    let count : length es ≡ length ps = c.in_ok-block.ensures.len ∙ c.len-count.ensures
     ∙ sym c.deref-2.ensures.len ∙ ap length c.deref-2.ensures.value in
     subst (λ (z : List Place). All (ClosesWithin c.deref-7.result.now) z)
     (sym c.deref-6.ensures.value)
@@ -159,7 +159,7 @@ returns-clause-ok c =
     (subst (λ (z : List ℕ). All (IsRecordOf T z) c.in_ok-records.records.items)
     c.deref-4.ensures.value c.in_ok-records.ensures.each) in
     let es = c.in_ok-block.block.ends.items in
-    let count : length es ≡ length ps = c.in_ok-block.ensures.len ∙ c.len.ensures
+    let count : length es ≡ length ps = c.in_ok-block.ensures.len ∙ c.len-count.ensures
     ∙ sym c.deref-2.ensures.len ∙ ap length c.deref-2.ensures.value in
     let keys = c.in_ok-texts.texts.distinct.keys in
     let os : c.in_ok-offsets.offsets.items ≡ map (offset_by es) ps =

@@ -140,17 +140,19 @@ pub(crate) fn step_numbers(
     Ok(())
 }
 
-/// Puts the word of a string, whose text has an offset.
+/// Puts the word of a string, whose text has an offset. Its number among the strings of the tree
+/// is where its text is looked for first.
 pub(crate) fn step_string(
     places: &Places<'_>,
     words: &mut Vec<u32>,
+    number: usize,
     text: &str,
 ) -> Result<(), AllocError>
     requires { (k : ℕ) × (offset_of places.now.plan text.now ≡ Some k) × (k < 2 ^ 28) }
     ensures { OnOk result ((s : State)
         → Step (given_by places.now) s words.old.items (string text.now) s words.new.items) }
 {
-    let Some(offset) = places.plan.offset(text) else {
+    let Some(offset) = places.plan.offset_in_turn(number, text) else {
         unreachable!()
     };
     words.push(word(ResourceReprType::StringV2, offset))?;

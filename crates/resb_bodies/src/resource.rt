@@ -17,15 +17,19 @@ use std::alloc::AllocError;
 /// The greatest number that a 16-bit unit holds.
 const UNIT_MAX: usize = 65535;
 
-/// The word of a string at unit 0.
-const STRING_WORD: u32 = 0x6000_0000;
-
 /// The word of a type and a value.
 pub(crate) fn word(resource_type: ResourceReprType, value: u32) -> u32
     requires { value < 2 ^ 28 }
     ensures { result ≡ type_number resource_type * 2 ^ 28 + value }
 {
     u32::from(ResDescriptor::new(resource_type, value))
+}
+
+/// The word of a string at unit 0.
+fn first_string_word() -> u32
+    ensures { result ≡ 0x6000_0000 }
+{
+    word(ResourceReprType::StringV2, 0)
 }
 
 /// The word of the body at which the next byte of the tail stands.
@@ -45,8 +49,9 @@ fn are_short_strings(words: &[u32]) -> bool
     if words.len() > UNIT_MAX {
         return false;
     }
+    let first = first_string_word();
     for word in words {
-        if *word < STRING_WORD || *word > STRING_WORD + 0xffff {
+        if *word < first || *word > first + 0xffff {
             return false;
         }
     }
@@ -73,8 +78,9 @@ fn put_offsets(units: &mut Vec<u16>, words: &[u32]) -> Result<(), AllocError>
     requires { are_short words.now ≡ true }
     ensures { OnOk result (units.new.items ≡ units.old.items ++ offsets_in words.now) }
 {
+    let first = first_string_word();
     for word in words {
-        units.push((*word - STRING_WORD) as u16)?;
+        units.push((*word - first) as u16)?;
     }
     Ok(())
 }

@@ -17,12 +17,14 @@ use crate::walk_order::in_walk_order;
 use resb_tree::Resource;
 use std::alloc::{AllocError, Global};
 
-/// Lays a resource behind its members, whose words it takes off the stack, and puts its own.
+/// Lays a resource behind its members, whose words it takes off the stack, and puts its own. So
+/// many strings came before it.
 fn step(
     alloc: Global,
     places: &Places<'_>,
     bodies: &mut Bodies,
     words: &mut Vec<u32>,
+    number: usize,
     resource: &Resource<'_>,
 ) -> Result<(), AllocError>
     requires room { HasRoom places.now bodies.old (own_size (tree_of resource.now)) }
@@ -34,12 +36,21 @@ fn step(
         (own_size (tree_of resource.now))) }
 {
     match resource {
-        Resource::String(text) => step_string(places, words, text.as_str()),
+        Resource::String(text) => step_string(places, words, number, text.as_str()),
         Resource::Array(items) => step_array(places, bodies, words, items),
         Resource::Table(table) => step_table(alloc, places, bodies, words, table),
         Resource::Binary(bytes) => step_bytes(places, bodies, words, bytes.as_slice()),
         Resource::Integer(number) => step_integer(words, u32::from(*number)),
         Resource::IntVector(numbers) => step_numbers(places, bodies, words, numbers),
+    }
+}
+
+/// How many strings there are, a resource included that so many came before. The number only says
+/// where a string's text is looked for first.
+fn number_behind(number: usize, resource: &Resource<'_>) -> usize {
+    match resource {
+        Resource::String(_) => number.saturating_add(1),
+        _ => number,
     }
 }
 
@@ -58,8 +69,10 @@ fn steps(
         ≤ length bodies.old.units.items + sum_by most_units (trees_in order.entry.items)) }
     ensures fits { OnOk result (HasRoomFor (given_by places.now) (state_of bodies.new) []) }
 {
+    let mut number = 0;
     for resource in order {
-        step(alloc, places, bodies, words, resource)?;
+        step(alloc, places, bodies, words, number, resource)?;
+        number = number_behind(number, resource);
     }
     Ok(())
 }

@@ -36,5 +36,6 @@ pub fn plan<'a>(alloc: Global, strings: &[&'a str]) -> Result<Plan<'a>, BinarySe
         units: block.units,
         texts: texts.distinct,
         offsets,
+        order: texts.order,
     })
 }

@@ -17,7 +17,8 @@ use resb_pool::BinarySerializerError;
 use resb_tree::Key;
 use std::alloc::{AllocError, Global};
 
-/// Where the first key stands, in bytes of the body.
+/// Where the first key stands, in bytes of the body: behind the root's word and 7 words of the
+/// index.
 pub(crate) const KEYS_START: usize = 32;
 
 /// The greatest position that a key may have.

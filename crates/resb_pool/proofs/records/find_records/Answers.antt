@@ -1,5 +1,6 @@
 use Rattle.std.proofs.Common.{◌≡◌, ◌+◌, ◌-◌, ◌<◌, ℕ, List, Bor, length, take, get_or, ap, subst}
-use Rattle.std.proofs.Common.{sym, ◌∙◌, arith, Bool, true, false, not, nat_eq, ◌&&◌, true≢false, refl, inl, inr}
+use Rattle.std.proofs.Common.{sym, ◌∙◌, arith, Bool, true, false, not, nat_eq, ◌&&◌, true≢false}
+use Rattle.std.proofs.Common.{refl, inl, inr}
 use Rattle.std.specs.List.{All, Contains}
 use Rattle.std.proofs.lemmas.Bool.{eqb-true, eq-eqb, and_parts, and_cases}
 use Rattle.std.proofs.lemmas.List.{map_push, take-map}
@@ -23,13 +24,15 @@ no_place = record { «record» = 0; measure = record { unit_count = 0; size = 0;
 -- what the test of a record says
 own_record : (xs : List (Bor (List ℕ))) (ps : List Place) (i : ℕ) → ArePlaces (nows xs) ps
     → i < length ps → (nat_eq (get_or ps i no_place).record i
-    && not (nat_eq (length (get_or xs i blank).now) 0)) ≡ true → IsRecord (nows xs) (text (nows xs) i)
+    && not (nat_eq (length (get_or xs i blank).now) 0)) ≡ true
+    → IsRecord (nows xs) (text (nows xs) i)
 own_record xs ps i places l h =
     let k : i < length xs = omega (arith, l, places.len, length-nows xs) in
     let both = and_parts (nat_eq (get_or ps i no_place).record i)
     (not (nat_eq (length (get_or xs i blank).now) 0)) h in
     lies_in_itself (nows xs) i (get_or ps i no_place).record
-    (places.lies i no_place (omega (arith, l, places.len))) (eqb-true (get_or ps i no_place).record i both.0)
+    (places.lies i no_place (omega (arith, l, places.len))) (eqb-true (get_or ps i no_place).record
+    i both.0)
     (λ z. not_zero (length (get_or xs i blank).now) both.1 (ap length (text_nows xs i k) ∙ z))
   where
     not_zero : (n : ℕ) → not (nat_eq n 0) ≡ true → n ≡ 0 → ⊥
@@ -37,13 +40,16 @@ own_record xs ps i places l h =
 
 no_record : (xs : List (Bor (List ℕ))) (ps : List Place) (i : ℕ) → ArePlaces (nows xs) ps
     → i < length ps → (nat_eq (get_or ps i no_place).record i
-    && not (nat_eq (length (get_or xs i blank).now) 0)) ≡ false → IsRecord (nows xs) (text (nows xs) i) → ⊥
+    && not (nat_eq (length (get_or xs i blank).now) 0)) ≡ false
+    → IsRecord (nows xs) (text (nows xs) i) → ⊥
 no_record xs ps i places l h r =
     let k : i < length xs = omega (arith, l, places.len, length-nows xs) in
     let at = places.lies i no_place (omega (arith, l, places.len)) in
-    elim (and_cases (nat_eq (get_or ps i no_place).record i) (not (nat_eq (length (get_or xs i blank).now) 0)) h) [
+    elim (and_cases (nat_eq (get_or ps i no_place).record i)
+    (not (nat_eq (length (get_or xs i blank).now) 0)) h) [
       | inl e ↦ true≢false (sym (eq-eqb (get_or ps i no_place).record i (at.itself r)) ∙ e)
-      | inr e ↦ (let n : length (get_or xs i blank).now ≡ 0 = zero_is (length (get_or xs i blank).now) e in
+      | inr e ↦ (let n : length (get_or xs i blank).now ≡ 0 =
+          zero_is (length (get_or xs i blank).now) e in
           omega (arith, n, ap length (text_nows xs i k), r.nonempty))
     ]
   where

@@ -1,10 +1,16 @@
 -- What was appended closes an array or a table, and takes no more than there is room for.
-use Rattle.std.proofs.Common.{◌≡◌, ℕ, zero, suc, ◌+◌, ◌*◌, ◌%◌, ◌^◌, ◌<◌, ◌≤◌, List, [], ◌∷◌, ◌++◌, length, Bool, true, false, cond, nat_eq, ◌⊎◌, inl, inr, refl, sym, ◌∙◌, ap, subst, append_assoc, length-append, arith}
+use Rattle.std.proofs.Common.{◌≡◌, ℕ, zero, suc, ◌+◌, ◌*◌, ◌%◌, ◌^◌, ◌<◌, ◌≤◌, List, [], ◌∷◌, ◌++◌}
+use Rattle.std.proofs.Common.{length, Bool, true, false, cond, nat_eq, ◌⊎◌, inl, inr, refl, sym}
+use Rattle.std.proofs.Common.{◌∙◌, ap, subst, append_assoc, length-append, arith}
 use Rattle.std.specs.Int.{to_le_bytes, w16, w32}
 use Rattle.std.proofs.lemmas.Bool.{eqb-true, eqb-false}
 use Rattle.std.specs.List.{All}
 use Rattle.resb_tree.specs.Tree.{binary, int_vector}
-use Rattle.resb_layout.specs.Laid.{Lays, lays_bytes, lays_numbers, fill, to_word, to_data, binary_body, Given, State, ClosesArray, short_array, long_array, ClosesTable, short_table, long_table, wide_table, here, words, halves, words_body, table_body, wide_table_body, pad, are_short, are_near, offsets_in}
+use Rattle.resb_layout.specs.Laid.{Lays, lays_bytes, lays_numbers, fill, to_word, to_data}
+use Rattle.resb_layout.specs.Laid.{binary_body, Given, State, ClosesArray, short_array, long_array}
+use Rattle.resb_layout.specs.Laid.{ClosesTable, short_table, long_table, wide_table, here, words}
+use Rattle.resb_layout.specs.Laid.{halves, words_body, table_body, wide_table_body, pad, are_short}
+use Rattle.resb_layout.specs.Laid.{are_near, offsets_in}
 
 pub words_long : (ws : List ℕ) → length (words ws) ≡ 4 * length ws
 words_long [] = refl
@@ -22,79 +28,149 @@ offsets_long [] = refl
 offsets_long (w ∷ ws) = omega (arith, offsets_long ws)
 
 module _ (g : Given) (s : State) (ws : List ℕ) where
-  pub array_in_units : (us : List ℕ) (w at : ℕ) → are_short ws ≡ true → length s.units < 2 ^ 28 → us ≡ (s.units ++ length ws ∷ []) ++ offsets_in ws → at ≡ length s.units → w ≡ 0x9000_0000 + at
+  pub array_in_units : (us : List ℕ) (w at : ℕ) → are_short ws ≡ true → length s.units < 2 ^ 28
+      → us ≡ (s.units ++ length ws ∷ []) ++ offsets_in ws → at ≡ length s.units
+      → w ≡ 0x9000_0000 + at
       → ClosesArray g s ws (record { units = us; tail = s.tail }) w
   array_in_units us w at short room e a v =
-      subst (λ x. ClosesArray g s ws (record { units = x; tail = s.tail }) w) (sym (append_assoc s.units (length ws ∷ []) (offsets_in ws)) ∙ sym e)
-      (subst (ClosesArray g s ws (record { units = s.units ++ length ws ∷ offsets_in ws; tail = s.tail })) (sym (v ∙ ap (λ k. 0x9000_0000 + k) a)) (short_array short room))
+      subst (λ x. ClosesArray g s ws (record { units = x; tail = s.tail }) w)
+      (sym (append_assoc s.units (length ws ∷ []) (offsets_in ws)) ∙ sym e)
+      (subst (ClosesArray g s ws (record {
+        units = s.units ++ length ws ∷ offsets_in ws;
+        tail =
+            s.tail;
+      })) (sym (v ∙ ap (λ k. 0x9000_0000 + k) a)) (short_array short room))
 
-  pub array_in_tail : (bs : List ℕ) (w at : ℕ) → are_short ws ≡ false → here g s ≡ 4 * at → at < 2 ^ 28 → length ws < 2 ^ 32 → bs ≡ s.tail ++ words_body ws → w ≡ 0x8000_0000 + at
+  pub array_in_tail : (bs : List ℕ) (w at : ℕ) → are_short ws ≡ false → here g s ≡ 4 * at
+      → at < 2 ^ 28 → length ws < 2 ^ 32 → bs ≡ s.tail ++ words_body ws → w ≡ 0x8000_0000 + at
       → ClosesArray g s ws (record { units = s.units; tail = bs }) w
   array_in_tail bs w at long a room n e v =
       subst (λ x. ClosesArray g s ws (record { units = s.units; tail = x }) w) (sym e)
-      (subst (ClosesArray g s ws (record { units = s.units; tail = s.tail ++ words_body ws })) (sym v) (long_array at long a room n))
+      (subst (ClosesArray g s ws (record { units = s.units; tail = s.tail ++ words_body ws }))
+      (sym v) (long_array at long a room n))
 
-pub units_taken : (us vs ws : List ℕ) → vs ≡ (us ++ length ws ∷ []) ++ offsets_in ws → length vs ≡ length us + (length ws + 1)
-units_taken us vs ws e = omega (arith, ap length e, length-append (us ++ length ws ∷ []) (offsets_in ws), length-append us (length ws ∷ []), one (length ws), offsets_long ws)
+pub units_taken : (us vs ws : List ℕ) → vs ≡ (us ++ length ws ∷ []) ++ offsets_in ws
+    → length vs ≡ length us + (length ws + 1)
+units_taken us vs ws e = omega (
+  arith,
+  ap length e,
+  length-append (us ++ length ws ∷ [])
+      (offsets_in ws),
+  length-append us (length ws ∷ []),
+  one (length ws),
+  offsets_long ws,
+)
   where
     one : (n : ℕ) → length {A = ℕ} (n ∷ []) ≡ 1
     one n = refl
 
-pub tail_taken : (bs cs ws : List ℕ) → cs ≡ bs ++ words_body ws → length cs ≡ length bs + (4 + 4 * length ws)
+pub tail_taken : (bs cs ws : List ℕ) → cs ≡ bs ++ words_body ws
+    → length cs ≡ length bs + (4 + 4 * length ws)
 tail_taken bs cs ws e = omega (arith, ap length e, length-append bs (words_body ws), body_long ws)
 
 module _ (g : Given) (s : State) (ps ws : List ℕ) where
-  pub table_in_units : (us : List ℕ) (w at : ℕ) → are_near ps ≡ true → are_short ws ≡ true → length s.units < 2 ^ 28
-      → us ≡ ((s.units ++ length ws ∷ []) ++ ps) ++ offsets_in ws → at ≡ length s.units → w ≡ 0x5000_0000 + at
+  pub table_in_units : (us : List ℕ) (w at : ℕ) → are_near ps ≡ true → are_short ws ≡ true
+      → length s.units < 2 ^ 28
+      → us ≡ ((s.units ++ length ws ∷ []) ++ ps) ++ offsets_in ws → at ≡ length s.units
+      → w ≡ 0x5000_0000 + at
       → ClosesTable g s ps ws (record { units = us; tail = s.tail }) w
   table_in_units us w at near short room e a v =
       let f : s.units ++ length ws ∷ (ps ++ offsets_in ws) ≡ us =
-      sym (e ∙ append_assoc (s.units ++ length ws ∷ []) ps (offsets_in ws) ∙ append_assoc s.units (length ws ∷ []) (ps ++ offsets_in ws)) in
+      sym (e ∙ append_assoc (s.units ++ length ws ∷ []) ps (offsets_in ws)
+      ∙ append_assoc s.units (length ws ∷ []) (ps ++ offsets_in ws)) in
       subst (λ x. ClosesTable g s ps ws (record { units = x; tail = s.tail }) w) f
-      (subst (ClosesTable g s ps ws (record { units = s.units ++ length ws ∷ (ps ++ offsets_in ws); tail = s.tail })) (sym (v ∙ ap (λ k. 0x5000_0000 + k) a)) (short_table near short room))
+      (subst (ClosesTable g s ps ws (record {
+        units = s.units ++ length ws ∷ (ps ++ offsets_in ws);
+        tail = s.tail;
+      })) (sym (v ∙ ap (λ k. 0x5000_0000 + k) a)) (short_table near short room))
 
-  pub table_in_tail : (bs : List ℕ) (w at : ℕ) → are_near ps ≡ true → are_short ws ≡ false → here g s ≡ 4 * at → at < 2 ^ 28 → bs ≡ s.tail ++ table_body ps ws → w ≡ 0x2000_0000 + at
+  pub table_in_tail : (bs : List ℕ) (w at : ℕ) → are_near ps ≡ true → are_short ws ≡ false
+      → here g s ≡ 4 * at → at < 2 ^ 28 → bs ≡ s.tail ++ table_body ps ws → w ≡ 0x2000_0000 + at
       → ClosesTable g s ps ws (record { units = s.units; tail = bs }) w
   table_in_tail bs w at near long a room e v =
       subst (λ x. ClosesTable g s ps ws (record { units = s.units; tail = x }) w) (sym e)
-      (subst (ClosesTable g s ps ws (record { units = s.units; tail = s.tail ++ table_body ps ws })) (sym v) (long_table at near long a room))
+      (subst (ClosesTable g s ps ws (record { units = s.units; tail = s.tail ++ table_body ps ws }))
+      (sym v) (long_table at near long a room))
 
-  pub table_is_wide : (bs : List ℕ) (w at : ℕ) → are_near ps ≡ false → here g s ≡ 4 * at → at < 2 ^ 28 → length ps < 2 ^ 32 → All (λ p. p < 2 ^ 32) ps
-      → bs ≡ (s.tail ++ words_body ps) ++ words ws → w ≡ 0x4000_0000 + at → ClosesTable g s ps ws (record { units = s.units; tail = bs }) w
+  pub table_is_wide : (bs : List ℕ) (w at : ℕ) → are_near ps ≡ false → here g s ≡ 4 * at
+      → at < 2 ^ 28 → length ps < 2 ^ 32 → All (λ p. p < 2 ^ 32) ps
+      → bs ≡ (s.tail ++ words_body ps) ++ words ws → w ≡ 0x4000_0000 + at
+      → ClosesTable g s ps ws (record { units = s.units; tail = bs }) w
   table_is_wide bs w at far a room n small e v =
       let f : s.tail ++ wide_table_body ps ws ≡ bs =
-      sym (e ∙ append_assoc s.tail (words_body ps) (words ws) ∙ ap (λ l. s.tail ++ l) (append_assoc (to_le_bytes w32 (length ps)) (words ps) (words ws))) in
+      sym (e ∙ append_assoc s.tail (words_body ps) (words ws)
+      ∙ ap (λ l. s.tail ++ l) (append_assoc (to_le_bytes w32 (length ps)) (words ps)
+      (words ws))) in
       subst (λ x. ClosesTable g s ps ws (record { units = s.units; tail = x }) w) f
-      (subst (ClosesTable g s ps ws (record { units = s.units; tail = s.tail ++ wide_table_body ps ws })) (sym v) (wide_table at far a room n small))
+      (subst (ClosesTable g s ps ws (record {
+        units = s.units;
+        tail =
+            s.tail ++ wide_table_body ps ws;
+      })) (sym v) (wide_table at far a room n small))
 
-pub table_units_taken : (us vs ps ws : List ℕ) → length ps ≡ length ws → vs ≡ ((us ++ length ws ∷ []) ++ ps) ++ offsets_in ws → length vs ≡ length us + (2 * length ws + 1)
+pub table_units_taken : (us vs ps ws : List ℕ) → length ps ≡ length ws
+    → vs ≡ ((us ++ length ws ∷ []) ++ ps) ++ offsets_in ws
+    → length vs ≡ length us + (2 * length ws + 1)
 table_units_taken us vs ps ws n e =
-    omega (arith, n, ap length e, length-append ((us ++ length ws ∷ []) ++ ps) (offsets_in ws), length-append (us ++ length ws ∷ []) ps, length-append us (length ws ∷ []), one (length ws), offsets_long ws)
+    omega (
+      arith,
+      n,
+      ap length e,
+      length-append ((us ++ length ws ∷ []) ++ ps) (offsets_in ws),
+      length-append (us ++ length ws ∷ []) ps,
+      length-append us (length ws ∷ []),
+      one (length ws),
+      offsets_long ws,
+    )
   where
     one : (n : ℕ) → length {A = ℕ} (n ∷ []) ≡ 1
     one n = refl
 
-pub wide_taken : (bs cs ps ws : List ℕ) → length ps ≡ length ws → cs ≡ (bs ++ words_body ps) ++ words ws → length cs ≡ length bs + (4 + 8 * length ws)
-wide_taken bs cs ps ws n e = omega (arith, n, ap length e, length-append (bs ++ words_body ps) (words ws), length-append bs (words_body ps), body_long ps, words_long ws)
+pub wide_taken : (bs cs ps ws : List ℕ) → length ps ≡ length ws
+    → cs ≡ (bs ++ words_body ps) ++ words ws → length cs ≡ length bs + (4 + 8 * length ws)
+wide_taken bs cs ps ws n e = omega (
+  arith,
+  n,
+  ap length e,
+  length-append (bs ++ words_body ps)
+      (words ws),
+  length-append bs (words_body ps),
+  body_long ps,
+  words_long ws,
+)
 
 pad_long : (n : ℕ) → ((n % 2 ≡ 0) × (length (pad n) ≡ 2)) ⊎ ((n % 2 ≡ 1) × (length (pad n) ≡ 0))
 pad_long n = by (nat_eq (n % 2) 0) refl
   where
-    by : (b : Bool) → nat_eq (n % 2) 0 ≡ b → ((n % 2 ≡ 0) × (length (pad n) ≡ 2)) ⊎ ((n % 2 ≡ 1) × (length (pad n) ≡ 0))
-    by true e = inl (eqb-true (n % 2) 0 e, ap (λ b. length {A = ℕ} (cond b (0xaa ∷ 0xaa ∷ []) [])) e)
-    by false e = (let ne = eqb-false (n % 2) 0 e in inr (omega (arith, ne), ap (λ b. length {A = ℕ} (cond b (0xaa ∷ 0xaa ∷ []) [])) e))
+    by : (b : Bool) → nat_eq (n % 2) 0 ≡ b → ((n % 2 ≡ 0) × (length (pad n) ≡ 2))
+        ⊎ ((n % 2 ≡ 1) × (length (pad n) ≡ 0))
+    by true e = inl (
+      eqb-true (n % 2) 0 e,
+      ap (λ b. length {A = ℕ} (cond b (0xaa ∷ 0xaa ∷ []) []))
+          e,
+    )
+    by false e = (let ne = eqb-false (n % 2) 0 e in
+        inr (omega (arith, ne), ap (λ b. length {A = ℕ} (cond b (0xaa ∷ 0xaa ∷ []) [])) e))
 
 -- an even number of positions is padded, so that whole words are taken
-pub table_taken : (bs cs ps ws : List ℕ) → length ps ≡ length ws → cs ≡ bs ++ table_body ps ws → (length cs ≤ length bs + (8 * length ws + 32)) × (length cs % 4 ≡ length bs % 4)
+pub table_taken : (bs cs ps ws : List ℕ) → length ps ≡ length ws → cs ≡ bs ++ table_body ps ws
+    → (length cs ≤ length bs + (8 * length ws + 32)) × (length cs % 4 ≡ length bs % 4)
 table_taken bs cs ps ws n e =
     let a = length-append bs (table_body ps ws) in
-    let b = length-append (to_le_bytes w16 (length ps)) (halves ps ++ (pad (length ps) ++ words ws)) in
+    let b = length-append (to_le_bytes w16 (length ps))
+    (halves ps ++ (pad (length ps) ++ words ws)) in
     let d = length-append (halves ps) (pad (length ps) ++ words ws) in
     let f = length-append (pad (length ps)) (words ws) in
     let two : length (to_le_bytes w16 (length ps)) ≡ 2 = refl in
     elim (pad_long (length ps)) [
-      | inl p ↦ (omega (arith, ap length e, a, b, d, f, two, halves_long ps, words_long ws, p.1, n), omega (arith, ap length e, a, b, d, f, two, halves_long ps, words_long ws, p.0, p.1, n))
-      | inr p ↦ (omega (arith, ap length e, a, b, d, f, two, halves_long ps, words_long ws, p.1, n), omega (arith, ap length e, a, b, d, f, two, halves_long ps, words_long ws, p.0, p.1, n))
+      | inl p ↦ (
+        omega (arith, ap length e, a, b, d, f, two, halves_long ps, words_long ws, p.1, n),
+        omega (arith, ap length e, a, b, d, f, two, halves_long ps, words_long ws, p.0, p.1, n),
+      )
+      | inr p ↦ (
+        omega (arith, ap length e, a, b, d, f, two, halves_long ps, words_long ws, p.1, n),
+        omega (arith, ap length e, a, b, d, f, two, halves_long ps, words_long ws, p.0, p.1, n),
+      )
     ]
 
 -- one byte more
@@ -110,31 +186,44 @@ fill_long zero = refl
 fill_long (suc n) = omega (arith, fill_long n)
 
 module _ (g : Given) (s : State) where
-  pub numbers_laid : (ns bs : List ℕ) (w at : ℕ) → 0 < length ns → length ns < 2 ^ 32 → All (λ n. n < 2 ^ 32) ns → here g s ≡ 4 * at → at < 2 ^ 28 → bs ≡ s.tail ++ words_body ns → w ≡ 0xe000_0000 + at
+  pub numbers_laid : (ns bs : List ℕ) (w at : ℕ) → 0 < length ns → length ns < 2 ^ 32
+      → All (λ n. n < 2 ^ 32) ns → here g s ≡ 4 * at → at < 2 ^ 28 → bs ≡ s.tail ++ words_body ns
+      → w ≡ 0xe000_0000 + at
       → Lays g s (int_vector ns) (record { units = s.units; tail = bs }) w
   numbers_laid ns bs w at some many small a room e v =
       subst (λ x. Lays g s (int_vector ns) (record { units = s.units; tail = x }) w) (sym e)
-      (subst (Lays g s (int_vector ns) (record { units = s.units; tail = s.tail ++ words_body ns })) (sym v) (lays_numbers at some many small a room))
+      (subst (Lays g s (int_vector ns) (record { units = s.units; tail = s.tail ++ words_body ns }))
+      (sym v) (lays_numbers at some many small a room))
 
-  pub bytes_laid : (xs bs : List ℕ) (w at : ℕ) → 0 < length xs → length xs < 2 ^ 32 → here g s + to_data (here g s) ≡ 4 * at → at < 2 ^ 28
-      → bs ≡ (((s.tail ++ fill (to_data (here g s))) ++ to_le_bytes w32 (length xs)) ++ xs) ++ fill (to_word (length xs)) → w ≡ 0x1000_0000 + at
+  pub bytes_laid : (xs bs : List ℕ) (w at : ℕ) → 0 < length xs → length xs < 2 ^ 32
+      → here g s + to_data (here g s) ≡ 4 * at → at < 2 ^ 28
+      → bs ≡ (((s.tail ++ fill (to_data (here g s))) ++ to_le_bytes w32 (length xs)) ++ xs) ++ fill
+      (to_word (length xs)) → w ≡ 0x1000_0000 + at
       → Lays g s (binary xs) (record { units = s.units; tail = bs }) w
   bytes_laid xs bs w at some many a room e v =
       let d : List ℕ = fill (to_data (here g s)) in
       let n : List ℕ = to_le_bytes w32 (length xs) in
       let p : List ℕ = fill (to_word (length xs)) in
       let f : s.tail ++ binary_body (here g s) xs ≡ bs =
-      sym (e ∙ append_assoc ((s.tail ++ d) ++ n) xs p ∙ append_assoc (s.tail ++ d) n (xs ++ p) ∙ append_assoc s.tail d (n ++ (xs ++ p))) in
+      sym (e ∙ append_assoc ((s.tail ++ d) ++ n) xs p ∙ append_assoc (s.tail ++ d) n (xs ++ p)
+      ∙ append_assoc s.tail d (n ++ (xs ++ p))) in
       subst (λ x. Lays g s (binary xs) (record { units = s.units; tail = x }) w) f
-      (subst (Lays g s (binary xs) (record { units = s.units; tail = s.tail ++ binary_body (here g s) xs })) (sym v) (lays_bytes at some many a room))
+      (subst (Lays g s (binary xs) (record {
+        units = s.units;
+        tail =
+            s.tail ++ binary_body (here g s) xs;
+      })) (sym v) (lays_bytes at some many a room))
 
-pub bytes_taken : (bs cs xs : List ℕ) (h : ℕ) → cs ≡ (((bs ++ fill (to_data h)) ++ to_le_bytes w32 (length xs)) ++ xs) ++ fill (to_word (length xs)) → length cs ≡ length bs + to_data h + 4 + length xs + to_word (length xs)
+pub bytes_taken : (bs cs xs : List ℕ) (h : ℕ)
+    → cs ≡ (((bs ++ fill (to_data h)) ++ to_le_bytes w32 (length xs)) ++ xs) ++ fill
+    (to_word (length xs)) → length cs ≡ length bs + to_data h + 4 + length xs + to_word (length xs)
 bytes_taken bs cs xs h e =
     let four : length (to_le_bytes w32 (length xs)) ≡ 4 = refl in
     omega (
       arith,
       ap length e,
-      length-append (((bs ++ fill (to_data h)) ++ to_le_bytes w32 (length xs)) ++ xs) (fill (to_word (length xs))),
+      length-append (((bs ++ fill (to_data h)) ++ to_le_bytes w32 (length xs)) ++ xs)
+          (fill (to_word (length xs))),
       length-append ((bs ++ fill (to_data h)) ++ to_le_bytes w32 (length xs)) xs,
       length-append (bs ++ fill (to_data h)) (to_le_bytes w32 (length xs)),
       length-append bs (fill (to_data h)),

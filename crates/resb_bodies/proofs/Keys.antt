@@ -1,5 +1,6 @@
 -- The keys of a table, and what a map has at each.
-use Rattle.std.proofs.Common.{◌≡◌, ℕ, List, [], ◌∷◌, ◌++◌, map, length, Option, Some, Bool, true, false, IsTrue, ◌<◌, zero, suc, refl, sym, ◌∙◌, ap, arith}
+use Rattle.std.proofs.Common.{◌≡◌, ℕ, List, [], ◌∷◌, ◌++◌, map, length, Option, Some, Bool, true}
+use Rattle.std.proofs.Common.{false, IsTrue, ◌<◌, zero, suc, refl, sym, ◌∙◌, ap, arith}
 use Rattle.std.specs.Map.{keys_of}
 use Rattle.resb_tree.specs.View.{entries_view}
 use Rattle.resb_tree.specs.declared.resource.Resource.{Resource}
@@ -22,11 +23,14 @@ map_long : {A B : Type 0} (f : A → B) (xs : List A) → length (map f xs) ≡ 
 map_long f [] = refl
 map_long f (x ∷ xs) = omega (arith, map_long f xs)
 
-pub placed_long : (g : Given) (ks : List (List ℕ)) (ps : List ℕ) → ArePlaced g ks ps → length ps ≡ length ks
-placed_long g ks ps a = sym (map_long Some ps) ∙ ap length (sym a.positions) ∙ map_long g.position ks
+pub placed_long : (g : Given) (ks : List (List ℕ)) (ps : List ℕ) → ArePlaced g ks ps
+    → length ps ≡ length ks
+placed_long g ks ps a = sym (map_long Some ps) ∙ ap length (sym a.positions)
+    ∙ map_long g.position ks
 
 -- behind known ones, the next one is known
-pub next_known : (known : List ℕ) (o : Option ℕ) (rest : List (Option ℕ)) (ps : List ℕ) → map Some known ++ o ∷ rest ≡ map Some ps → (p : ℕ) × (o ≡ Some p)
+pub next_known : (known : List ℕ) (o : Option ℕ) (rest : List (Option ℕ)) (ps : List ℕ)
+    → map Some known ++ o ∷ rest ≡ map Some ps → (p : ℕ) × (o ≡ Some p)
 next_known [] o rest [] e = absurd (omega (arith, ap length e))
 next_known [] o rest (p ∷ ps) e =
     let f : o ≡ Some p = cc in

@@ -1,8 +1,10 @@
 -- Steps in a row: what is left after one, and that a stack has the words of what comes next.
-use Rattle.std.proofs.Common.{◌≡◌, ℕ, ◌+◌, ◌-◌, List, [], ◌∷◌, ◌++◌, length, refl, sym, ap, subst, append_assoc, append-nil, length-append, arith}
+use Rattle.std.proofs.Common.{◌≡◌, ℕ, ◌+◌, ◌-◌, List, [], ◌∷◌, ◌++◌, length, refl, sym, ap, subst}
+use Rattle.std.proofs.Common.{append_assoc, append-nil, length-append, arith}
 use Rattle.std.proofs.lemmas.List.Sums.{sum_by-cons}
 use Rattle.std.proofs.lemmas.List.Elements.{All-head, All-tail}
-use Rattle.resb_tree.specs.Tree.{Tree, string, array, table, binary, integer, int_vector, Trees, no_trees, more_trees, Entries, no_entries, entry}
+use Rattle.resb_tree.specs.Tree.{Tree, string, array, table, binary, integer, int_vector, Trees}
+use Rattle.resb_tree.specs.Tree.{no_trees, more_trees, Entries, no_entries, entry}
 use Rattle.resb_layout.specs.Laid.{Given, State}
 use Rattle.resb_bodies.specs.WalkOrder.{members, values_of, children, walk, walk_each, walk_values}
 use Rattle.resb_bodies.specs.Steps.{Step, Steps, steps_none, steps_more}
@@ -11,13 +13,24 @@ use Rattle.resb_bodies.specs.Inner.Seen.{HasRoom, Takes, Suffices, CanLay}
 use Rattle.resb_bodies.specs.declared.given.Places.{Places}
 use Rattle.resb_bodies.specs.declared.given.Bodies.{Bodies}
 
-pub steps_push : (g : Given) (s m e : State) (ws xs ys : List ℕ) (ts : List Tree) (t : Tree) → Steps g s ws ts m xs → Step g m xs t e ys → Steps g s ws (ts ++ t ∷ []) e ys
+pub steps_push : (g : Given) (s m e : State) (ws xs ys : List ℕ) (ts : List Tree) (t : Tree)
+    → Steps g s ws ts m xs → Step g m xs t e ys → Steps g s ws (ts ++ t ∷ []) e ys
 steps_push g s m e ws xs ys [] t steps_none k = steps_more k steps_none
-steps_push g s n e ws xs ys (u ∷ ts) t (steps_more {m} {xs = zs} h more) k = steps_more h (steps_push g m n e zs xs ys ts t more k)
+steps_push g s n e ws xs ys (u ∷ ts) t (steps_more {m} {xs = zs} h more) k =
+    steps_more h (steps_push g m n e zs xs ys ts t more k)
 
-pub step_long : (g : Given) (s e : State) (ws xs : List ℕ) (t : Tree) → Step g s ws t e xs → length xs ≡ length ws - length (children t) + 1
+pub step_long : (g : Given) (s e : State) (ws xs : List ℕ) (t : Tree) → Step g s ws t e xs
+    → length xs ≡ length ws - length (children t) + 1
 step_long g s e ws xs t k =
-    omega (arith, ap length k.put, ap length k.taken, k.many, length-append k.below (k.word ∷ []), length-append k.below k.members, one k.word)
+    omega (
+      arith,
+      ap length k.put,
+      ap length k.taken,
+      k.many,
+      length-append k.below (k.word ∷ []),
+      length-append k.below k.members,
+      one k.word,
+    )
   where
     one : (w : ℕ) → length (w ∷ []) ≡ 1
     one w = refl
@@ -26,7 +39,8 @@ to : {m n : ℕ} (ts : List Tree) → m ≡ n → Suffices m ts → Suffices n t
 to ts e h = subst (λ k. Suffices k ts) e h
 
 mutual
-  suffices_tree : (t : Tree) (n : ℕ) (rest : List Tree) → Suffices (n + 1) rest → Suffices n (walk t ++ rest)
+  suffices_tree : (t : Tree) (n : ℕ) (rest : List Tree) → Suffices (n + 1) rest
+      → Suffices n (walk t ++ rest)
   suffices_tree (string x) n rest h = (omega arith, to rest (omega arith) h)
   suffices_tree (binary x) n rest h = (omega arith, to rest (omega arith) h)
   suffices_tree (integer x) n rest h = (omega arith, to rest (omega arith) h)
@@ -38,42 +52,48 @@ mutual
       subst (Suffices n) (sym (append_assoc (walk_values es) (table es ∷ []) rest))
       (suffices_values es n (table es ∷ rest) (omega arith, to rest (omega arith) h))
 
-  suffices_each : (ts : Trees) (n : ℕ) (rest : List Tree) → Suffices (n + length (members ts)) rest → Suffices n (walk_each ts ++ rest)
+  suffices_each : (ts : Trees) (n : ℕ) (rest : List Tree) → Suffices (n + length (members ts)) rest
+      → Suffices n (walk_each ts ++ rest)
   suffices_each no_trees n rest h = to rest (omega arith) h
   suffices_each (more_trees t ts) n rest h =
       subst (Suffices n) (sym (append_assoc (walk t) (walk_each ts) rest))
-      (suffices_tree t n (walk_each ts ++ rest) (suffices_each ts (n + 1) rest (to rest (omega arith) h)))
+      (suffices_tree t n (walk_each ts ++ rest)
+      (suffices_each ts (n + 1) rest (to rest (omega arith) h)))
 
-  suffices_values : (es : Entries) (n : ℕ) (rest : List Tree) → Suffices (n + length (values_of es)) rest → Suffices n (walk_values es ++ rest)
+  suffices_values : (es : Entries) (n : ℕ) (rest : List Tree)
+      → Suffices (n + length (values_of es)) rest → Suffices n (walk_values es ++ rest)
   suffices_values no_entries n rest h = to rest (omega arith) h
   suffices_values (entry k t es) n rest h =
       subst (Suffices n) (sym (append_assoc (walk t) (walk_values es) rest))
-      (suffices_tree t n (walk_values es ++ rest) (suffices_values es (n + 1) rest (to rest (omega arith) h)))
+      (suffices_tree t n (walk_values es ++ rest)
+      (suffices_values es (n + 1) rest (to rest (omega arith) h)))
 
 -- an empty stack suffices for a tree
 pub suffices : (t : Tree) → Suffices 0 (walk t)
 suffices t = subst (Suffices 0) (append-nil (walk t)) (suffices_tree t 0 [] tt)
 
-module _ (p : Places) (b : Bodies) (n : ℕ) (t : Tree) (ts : List Tree) (h : CanLay p b n (t ∷ ts)) where
-  pub room_now : HasRoom p b (own_size t)
-  room_now =
-      record {
-        aligned = h.room.aligned;
-        units = omega (arith, h.room.units, sum_by-cons most_units t ts);
-        bytes = omega (arith, h.room.bytes, sum_by-cons most_bytes t ts);
-      }
+module _ (p : Places) (b : Bodies) (n : ℕ) (t : Tree) (ts : List Tree) (h : CanLay p b n (t ∷ ts))
+  where
+    pub room_now : HasRoom p b (own_size t)
+    room_now =
+        record {
+          aligned = h.room.aligned;
+          units = omega (arith, h.room.units, sum_by-cons most_units t ts);
+          bytes = omega (arith, h.room.bytes, sum_by-cons most_bytes t ts);
+        }
 
-  pub known_now : IsKnown (given_by p) t
-  known_now = All-head (IsKnown (given_by p)) t ts h.known
+    pub known_now : IsKnown (given_by p) t
+    known_now = All-head (IsKnown (given_by p)) t ts h.known
 
-  pub can_go_on : (c : Bodies) (m : ℕ) → Takes p b c (own_size t) → m ≡ n - length (children t) + 1 → CanLay p c m ts
-  can_go_on c m k e =
-      record {
-        room = record {
-          aligned = k.aligned;
-          units = omega (arith, h.room.units, sum_by-cons most_units t ts, k.units);
-          bytes = omega (arith, h.room.bytes, sum_by-cons most_bytes t ts, k.bytes);
-        };
-        enough = to ts (sym e) h.enough.1;
-        known = All-tail (IsKnown (given_by p)) t ts h.known;
-      }
+    pub can_go_on : (c : Bodies) (m : ℕ) → Takes p b c (own_size t) → m ≡ n - length (children t) + 1
+        → CanLay p c m ts
+    can_go_on c m k e =
+        record {
+          room = record {
+            aligned = k.aligned;
+            units = omega (arith, h.room.units, sum_by-cons most_units t ts, k.units);
+            bytes = omega (arith, h.room.bytes, sum_by-cons most_bytes t ts, k.bytes);
+          };
+          enough = to ts (sym e) h.enough.1;
+          known = All-tail (IsKnown (given_by p)) t ts h.known;
+        }

@@ -1,9 +1,12 @@
 -- A resource in walk order: what is inside it, and then itself.
-use Rattle.std.proofs.Common.{◌≡◌, ℕ, ◌+◌, ◌<◌, List, [], ◌∷◌, ◌++◌, Bor, map, length, reverse, refl, sym, ◌∙◌, ap, append_assoc, append-nil, arith}
+use Rattle.std.proofs.Common.{◌≡◌, ℕ, ◌+◌, ◌<◌, List, [], ◌∷◌, ◌++◌, Bor, map, length, reverse}
+use Rattle.std.proofs.Common.{refl, sym, ◌∙◌, ap, append_assoc, append-nil, arith}
 use Rattle.std.specs.List.{flat_map, sum_by}
 use Rattle.std.proofs.lemmas.List.{reverse-append, map_push}
 use Rattle.std.proofs.lemmas.List.Sums.{sum_by-cons, sum_by-append}
-use Rattle.resb_tree.specs.Tree.{Tree, string, array, table, binary, integer, int_vector, Trees, no_trees, more_trees, Entries, no_entries, entry, trees_of, entries_of, tree_count, trees_count, entries_count}
+use Rattle.resb_tree.specs.Tree.{Tree, string, array, table, binary, integer, int_vector, Trees}
+use Rattle.resb_tree.specs.Tree.{no_trees, more_trees, Entries, no_entries, entry, trees_of}
+use Rattle.resb_tree.specs.Tree.{entries_of, tree_count, trees_count, entries_count}
 use Rattle.resb_tree.specs.View.{tree_of, items_view, entries_view}
 use Rattle.resb_tree.specs.declared.resource.Resource.{Resource}
 use Rattle.resb_bodies.specs.WalkOrder.{members, values_of, children, walk, walk_each, walk_values}
@@ -27,11 +30,16 @@ walk_is (int_vector s) = refl
 
 members_count : (ts : Trees) → trees_count ts ≡ sum_by tree_count (members ts)
 members_count no_trees = refl
-members_count (more_trees t ts) = omega (arith, members_count ts, sum_by-cons tree_count t (members ts))
+members_count (more_trees t ts) =
+    omega (arith, members_count ts, sum_by-cons tree_count t (members ts))
 
 values_count : (es : Entries) → entries_count es ≡ sum_by tree_count (values_of es)
 values_count no_entries = refl
-values_count (entry k t es) = omega (arith, values_count es, sum_by-cons tree_count t (values_of es))
+values_count (entry k t es) = omega (
+  arith,
+  values_count es,
+  sum_by-cons tree_count t (values_of es),
+)
 
 none_counted : sum_by tree_count [] ≡ 0
 none_counted = refl
@@ -52,21 +60,25 @@ pub values-entries_of : (ps : List (List ℕ × Tree)) → values_of (entries_of
 values-entries_of [] = refl
 values-entries_of (p ∷ ps) = ap (λ l. p.1 ∷ l) (values-entries_of ps)
 
-pub trees-push : (old new : List (Bor Resource)) (r : Bor Resource) → new ≡ old ++ r ∷ [] → trees_in new ≡ trees_in old ++ tree_of r.now ∷ []
+pub trees-push : (old new : List (Bor Resource)) (r : Bor Resource) → new ≡ old ++ r ∷ []
+    → trees_in new ≡ trees_in old ++ tree_of r.now ∷ []
 trees-push old new r e = ap trees_in e ∙ map_push (λ (x : Bor Resource). tree_of x.now) old r
 
 flat-append : (xs ys : List Tree) → flat_map walk (xs ++ ys) ≡ flat_map walk xs ++ flat_map walk ys
 flat-append [] ys = refl
-flat-append (x ∷ xs) ys = ap (λ l. walk x ++ l) (flat-append xs ys) ∙ sym (append_assoc (walk x) (flat_map walk xs) (flat_map walk ys))
+flat-append (x ∷ xs) ys = ap (λ l. walk x ++ l) (flat-append xs ys)
+    ∙ sym (append_assoc (walk x) (flat_map walk xs) (flat_map walk ys))
 
 -- a resource is taken off, and what is inside it put on
-pub turn : (front old new seen seen' : List Tree) (t : Tree) (all : List Tree) → old ≡ front ++ t ∷ [] → new ≡ front ++ children t → seen' ≡ seen ++ t ∷ []
+pub turn : (front old new seen seen' : List Tree) (t : Tree) (all : List Tree)
+    → old ≡ front ++ t ∷ [] → new ≡ front ++ children t → seen' ≡ seen ++ t ∷ []
     → flat_map walk old ++ reverse seen ≡ all → flat_map walk new ++ reverse seen' ≡ all
 turn front old new seen seen' t all e f g h =
     (λ i. flat_map walk (f i) ++ reverse (g i))
     ∙ (λ i. flat-append front (children t) i ++ reverse-append seen (t ∷ []) i)
     ∙ append_assoc (flat_map walk front) (flat_map walk (children t)) (t ∷ reverse seen)
-    ∙ ap (λ l. flat_map walk front ++ l) (sym (append_assoc (flat_map walk (children t)) (t ∷ []) (reverse seen)))
+    ∙ ap (λ l. flat_map walk front ++ l)
+    (sym (append_assoc (flat_map walk (children t)) (t ∷ []) (reverse seen)))
     ∙ ap (λ l. flat_map walk front ++ (l ++ reverse seen)) (sym (walk_is t))
     ∙ sym (append_assoc (flat_map walk front) (walk t) (reverse seen))
     ∙ ap (λ l. (flat_map walk front ++ l) ++ reverse seen) (sym (append-nil (walk t)))
@@ -74,19 +86,32 @@ turn front old new seen seen' t all e f g h =
     ∙ ap (λ l. flat_map walk l ++ reverse seen) (sym e)
     ∙ h
 
-pub turn_counts : (front old new : List Tree) (t : Tree) → old ≡ front ++ t ∷ [] → new ≡ front ++ children t → sum_by tree_count new < sum_by tree_count old
+pub turn_counts : (front old new : List Tree) (t : Tree) → old ≡ front ++ t ∷ []
+    → new ≡ front ++ children t → sum_by tree_count new < sum_by tree_count old
 turn_counts front old new t e f =
-    omega (arith, ap (sum_by tree_count) e, ap (sum_by tree_count) f, sum_by-append tree_count front (t ∷ []), sum_by-append tree_count front (children t), sum_by-cons tree_count t [], none_counted, count_is t)
+    omega (
+      arith,
+      ap (sum_by tree_count) e,
+      ap (sum_by tree_count) f,
+      sum_by-append tree_count front (t ∷ []),
+      sum_by-append tree_count front (children t),
+      sum_by-cons tree_count t [],
+      none_counted,
+      count_is t,
+    )
 
-pub values_view : (es : List (List ℕ × Resource)) → values_of (entries_view es) ≡ map (λ e. tree_of e.1) es
+pub values_view : (es : List (List ℕ × Resource))
+    → values_of (entries_view es) ≡ map (λ e. tree_of e.1) es
 values_view [] = refl
 values_view (e ∷ es) = ap (λ l. tree_of e.1 ∷ l) (values_view es)
 
 pub trees-reverse : (rs : List (Bor Resource)) → trees_in (reverse rs) ≡ reverse (trees_in rs)
 trees-reverse [] = refl
 trees-reverse (r ∷ rs) =
-    ap trees_in (reverse-append (r ∷ []) rs) ∙ map_push (λ (x : Bor Resource). tree_of x.now) (reverse rs) r
-    ∙ ap (λ l. l ++ tree_of r.now ∷ []) (trees-reverse rs) ∙ sym (reverse-append (tree_of r.now ∷ []) (trees_in rs))
+    ap trees_in (reverse-append (r ∷ []) rs)
+    ∙ map_push (λ (x : Bor Resource). tree_of x.now) (reverse rs) r
+    ∙ ap (λ l. l ++ tree_of r.now ∷ []) (trees-reverse rs)
+    ∙ sym (reverse-append (tree_of r.now ∷ []) (trees_in rs))
 
 pub nil_from_len : {A : Type 0} (xs : List A) → length xs ≡ 0 → xs ≡ []
 nil_from_len [] h = refl

@@ -1,4 +1,5 @@
--- Laying a tree's resources one by one, over a stack of words: each takes its members' words and puts its own.
+-- Laying a tree's resources one by one, over a stack of words: each takes its members' words and
+-- puts its own.
 --     Step g s ws t e xs      the body of t is laid, behind its members' bodies
 --     Steps g s ws ts e xs    those of resources in a row
 use Rattle.std.specs.Prelude.{◌≡◌, ℕ, List, [], ◌∷◌, ◌++◌, length}
@@ -8,17 +9,20 @@ use Rattle.resb_bodies.specs.WalkOrder.{children}
 
 -- where t's members are laid, with the words vs, its body makes it laid, with the word w
 abbrev pub Closes : Given → State → Tree → List ℕ → State → ℕ → Type 0
-Closes g s t vs e w = (before : State) → LaysEach g before (trees_of (children t)) s vs → Lays g before t e w
+Closes g s t vs e w = (before : State) → LaysEach g before (trees_of (children t)) s vs
+    → Lays g before t e w
 
-pub record Step (g : Given) (s : State) (ws : List ℕ) (t : Tree) (e : State) (xs : List ℕ) : Type 0 where
-  pub below : List ℕ
-  pub members : List ℕ
-  pub word : ℕ
-  pub taken : ws ≡ below ++ members
-  pub many : length members ≡ length (children t)
-  pub put : xs ≡ below ++ word ∷ []
-  pub closes : Closes g s t members e word
+pub record Step (g : Given) (s : State) (ws : List ℕ) (t : Tree) (e : State) (xs : List ℕ) : Type 0
+  where
+    pub below : List ℕ
+    pub members : List ℕ
+    pub word : ℕ
+    pub taken : ws ≡ below ++ members
+    pub many : length members ≡ length (children t)
+    pub put : xs ≡ below ++ word ∷ []
+    pub closes : Closes g s t members e word
 
 pub data Steps (g : Given) : State → List ℕ → List Tree → State → List ℕ → Type 0 where
   steps_none : {s : State} {ws : List ℕ} → Steps g s ws [] s ws
-  steps_more : {s m e : State} {ws xs ys : List ℕ} {t : Tree} {ts : List Tree} → Step g s ws t m xs → Steps g m xs ts e ys → Steps g s ws (t ∷ ts) e ys
+  steps_more : {s m e : State} {ws xs ys : List ℕ} {t : Tree} {ts : List Tree} → Step g s ws t m xs
+      → Steps g m xs ts e ys → Steps g s ws (t ∷ ts) e ys

@@ -1,10 +1,12 @@
--- The order in which a tree's resources are laid: members in order, a table's by their keys, each before its collection.
+-- The order in which a tree's resources are laid: members in order, a table's by their keys, each
+-- before its collection.
 --     children t              the resources right inside t
 --     walk t                  all resources of t
 --     texts_of t              the texts of its strings, as often as each stands there
 use Rattle.std.specs.Prelude.{ℕ, List, [], ◌∷◌, ◌++◌}
 use Rattle.std.specs.List.{flat_map}
-use Rattle.resb_tree.specs.Tree.{Tree, string, array, table, binary, integer, int_vector, Trees, no_trees, more_trees, Entries, no_entries, entry}
+use Rattle.resb_tree.specs.Tree.{Tree, string, array, table, binary, integer, int_vector, Trees}
+use Rattle.resb_tree.specs.Tree.{no_trees, more_trees, Entries, no_entries, entry}
 
 abbrev pub members : Trees → List Tree
 members no_trees = []

@@ -2,7 +2,8 @@
 //! Which numbers make a body is said in `resource`.
 ghost use Rattle.std.specs.Prelude.{◌≡◌, ◌++◌, ◌<◌, ◌^◌, length, true, OnOk};
 ghost use Rattle.std.specs.Int.{to_le_bytes, w32, w16};
-ghost use Rattle.resb_layout.specs.Laid.{words as words_bytes, fill, halves, words_body, table_body, are_near};
+ghost use Rattle.resb_layout.specs.Laid.{words as words_bytes, fill, halves, words_body};
+ghost use Rattle.resb_layout.specs.Laid.{table_body, are_near};
 
 use std::alloc::AllocError;
 

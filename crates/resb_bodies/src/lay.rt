@@ -2,7 +2,8 @@
 //! What is laid for a body is said in `resource`.
 ghost use Rattle.std.specs.Prelude.{◌≡◌, ◌++◌, ◌∷◌, ◌+◌, ◌-◌, ◌/◌, ◌^◌, ◌<◌, ◌≤◌};
 ghost use Rattle.std.specs.Prelude.{ℕ, Some, [], length, take, IfOk, OnOk};
-ghost use Rattle.resb_tree.specs.Tree.{array, binary, int_vector, integer, string, table as table_with};
+ghost use Rattle.resb_tree.specs.Tree.{array, binary, int_vector, integer, string};
+ghost use Rattle.resb_tree.specs.Tree.{table as table_with};
 ghost use Rattle.resb_pool.specs.Plan.{offset_of};
 ghost use Rattle.resb_layout.specs.Laid.{Given, State, ArePlaced, keys_in};
 ghost use Rattle.resb_tree.specs.View.{items_view, entries_view};
@@ -139,17 +140,19 @@ pub(crate) fn step_numbers(
     Ok(())
 }
 
-/// Puts the word of a string, whose text has an offset.
+/// Puts the word of a string, whose text has an offset. Its number among the strings of the tree
+/// is where its text is looked for first.
 pub(crate) fn step_string(
     places: &Places<'_>,
     words: &mut Vec<u32>,
+    number: usize,
     text: &str,
 ) -> Result<(), AllocError>
     requires { (k : ℕ) × (offset_of places.now.plan text.now ≡ Some k) × (k < 2 ^ 28) }
     ensures { OnOk result ((s : State)
         → Step (given_by places.now) s words.old.items (string text.now) s words.new.items) }
 {
-    let Some(offset) = places.plan.offset(text) else {
+    let Some(offset) = places.plan.offset_in_turn(number, text) else {
         unreachable!()
     };
     words.push(word(ResourceReprType::StringV2, offset))?;

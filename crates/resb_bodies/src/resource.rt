@@ -1,9 +1,11 @@
 //! The body of one resource, whose members' bodies stand already.
 //! In which order resources come is said in `walk_order`.
-ghost use Rattle.std.specs.Prelude.{◌≡◌, ◌++◌, ◌+◌, ◌*◌, ◌/◌, ◌%◌, ◌<◌, ◌^◌, length, IfOk, OnOk, true};
+ghost use Rattle.std.specs.Prelude.{◌≡◌, ◌++◌, ◌+◌, ◌*◌, ◌/◌, ◌%◌, ◌<◌, ◌^◌, length, IfOk, OnOk};
+ghost use Rattle.std.specs.Prelude.{true};
 ghost use Rattle.resb_tree.specs.Tree.{binary, int_vector};
 ghost use Rattle.resb_format.specs.Codes.{type_number};
-ghost use Rattle.resb_layout.specs.Laid.{Lays, ClosesArray, ClosesTable, are_short, are_near, offsets_in};
+ghost use Rattle.resb_layout.specs.Laid.{Lays, ClosesArray, ClosesTable, are_short, are_near};
+ghost use Rattle.resb_layout.specs.Laid.{offsets_in};
 ghost use Rattle.resb_bodies.specs.Room.{given_by, state_of};
 ghost use Rattle.resb_bodies.specs.Inner.Seen.{HasRoom, Takes};
 
@@ -15,15 +17,19 @@ use std::alloc::AllocError;
 /// The greatest number that a 16-bit unit holds.
 const UNIT_MAX: usize = 65535;
 
-/// The word of a string at unit 0.
-const STRING_WORD: u32 = 0x6000_0000;
-
 /// The word of a type and a value.
 pub(crate) fn word(resource_type: ResourceReprType, value: u32) -> u32
     requires { value < 2 ^ 28 }
     ensures { result ≡ type_number resource_type * 2 ^ 28 + value }
 {
     u32::from(ResDescriptor::new(resource_type, value))
+}
+
+/// The word of a string at unit 0.
+fn first_string_word() -> u32
+    ensures { result ≡ 0x6000_0000 }
+{
+    word(ResourceReprType::StringV2, 0)
 }
 
 /// The word of the body at which the next byte of the tail stands.
@@ -43,8 +49,9 @@ fn are_short_strings(words: &[u32]) -> bool
     if words.len() > UNIT_MAX {
         return false;
     }
+    let first = first_string_word();
     for word in words {
-        if *word < STRING_WORD || *word > STRING_WORD + 0xffff {
+        if *word < first || *word > first + 0xffff {
             return false;
         }
     }
@@ -71,8 +78,9 @@ fn put_offsets(units: &mut Vec<u16>, words: &[u32]) -> Result<(), AllocError>
     requires { are_short words.now ≡ true }
     ensures { OnOk result (units.new.items ≡ units.old.items ++ offsets_in words.now) }
 {
+    let first = first_string_word();
     for word in words {
-        units.push((*word - STRING_WORD) as u16)?;
+        units.push((*word - first) as u16)?;
     }
     Ok(())
 }

@@ -17,12 +17,14 @@ use crate::walk_order::in_walk_order;
 use resb_tree::Resource;
 use std::alloc::{AllocError, Global};
 
-/// Lays a resource behind its members, whose words it takes off the stack, and puts its own.
+/// Lays a resource behind its members, whose words it takes off the stack, and puts its own. So
+/// many strings came before it.
 fn step(
     alloc: Global,
     places: &Places<'_>,
     bodies: &mut Bodies,
     words: &mut Vec<u32>,
+    number: usize,
     resource: &Resource<'_>,
 ) -> Result<(), AllocError>
     requires room { HasRoom places.now bodies.old (own_size (tree_of resource.now)) }
@@ -34,12 +36,21 @@ fn step(
         (own_size (tree_of resource.now))) }
 {
     match resource {
-        Resource::String(text) => step_string(places, words, text.as_str()),
+        Resource::String(text) => step_string(places, words, number, text.as_str()),
         Resource::Array(items) => step_array(places, bodies, words, items),
         Resource::Table(table) => step_table(alloc, places, bodies, words, table),
         Resource::Binary(bytes) => step_bytes(places, bodies, words, bytes.as_slice()),
         Resource::Integer(number) => step_integer(words, u32::from(*number)),
         Resource::IntVector(numbers) => step_numbers(places, bodies, words, numbers),
+    }
+}
+
+/// How many strings there are, a resource included that so many came before. The number only says
+/// where a string's text is looked for first.
+fn number_behind(number: usize, resource: &Resource<'_>) -> usize {
+    match resource {
+        Resource::String(_) => number.saturating_add(1),
+        _ => number,
     }
 }
 
@@ -58,8 +69,10 @@ fn steps(
         ≤ length bodies.old.units.items + sum_by most_units (trees_in order.entry.items)) }
     ensures fits { OnOk result (HasRoomFor (given_by places.now) (state_of bodies.new) []) }
 {
+    let mut number = 0;
     for resource in order {
-        step(alloc, places, bodies, words, resource)?;
+        step(alloc, places, bodies, words, number, resource)?;
+        number = number_behind(number, resource);
     }
     Ok(())
 }
@@ -91,7 +104,8 @@ pub(crate) fn lay_tree(
     Ok(word)
 }
 
-/// The number of units of the 16-bit block: the pool of the strings, and what a tree adds. It is the
+/// The number of units of the 16-bit block: the pool of the strings, and what a tree adds. It is
+/// the
 /// same wherever the tail begins, so the places may say anything there that leaves room.
 pub(crate) fn count_units(
     alloc: Global,
@@ -112,7 +126,8 @@ pub(crate) fn count_units(
     Ok(bodies.units.len())
 }
 
-/// Lays a tree behind the pool of its strings, where the key block ends at a byte of the body. Gives
+/// Lays a tree behind the pool of its strings, where the key block ends at a byte of the body.
+/// Gives
 /// what is laid, and the tree's word. The tail begins behind the 16-bit block, at a multiple of 4,
 /// which the places then say. `Err` is for want of memory alone; the base of the places is then of
 /// no account.

@@ -1,5 +1,6 @@
 -- Texts that stand once in a list go by their indexes.
-use Rattle.std.proofs.Common.{◌≡◌, ℕ, zero, suc, ◌<◌, List, [], ◌∷◌, ◌++◌, length, take, inl, inr, refl, sym, ◌∙◌, ap, subst, arith}
+use Rattle.std.proofs.Common.{◌≡◌, ℕ, zero, suc, ◌<◌, List, [], ◌∷◌, ◌++◌, length, take, inl, inr}
+use Rattle.std.proofs.Common.{refl, sym, ◌∙◌, ap, subst, arith}
 use Rattle.std.specs.List.{Contains}
 use Rattle.std.proofs.lemmas.List.{get_or_default}
 use Rattle.std.proofs.lemmas.List.Elements.{Contains-push_cases}
@@ -15,23 +16,35 @@ has_text T i l = (i, l, get_or_default T i (text T i) [] l)
 pub index_of : (T : Texts) (s : List ℕ) → Contains T s → (i : ℕ) × (i < length T) × (text T i ≡ s)
 index_of T s h = (h.0, h.1, get_or_default T h.0 [] s h.1 ∙ h.2)
 
-pub distinct_push : (qs : Texts) (t : List ℕ) → IsDistinct qs → (Contains qs t → ⊥) → IsDistinct (qs ++ t ∷ [])
+pub distinct_push : (qs : Texts) (t : List ℕ) → IsDistinct qs → (Contains qs t → ⊥)
+    → IsDistinct (qs ++ t ∷ [])
 distinct_push [] t d f = (λ x. absurd (omega (arith, x.1)), tt)
 distinct_push (q ∷ qs) t d f = (
-  λ x. elim (Contains-push_cases qs t q x) [ inl y ↦ d.0 y | inr z ↦ f (subst (λ (w : List ℕ). Contains (q ∷ qs) w) (sym z) (0, omega arith, refl)) ],
+  λ x. elim (Contains-push_cases qs t q x) [
+    | inl y ↦ d.0 y
+    | inr z ↦
+        f (subst (λ (w : List ℕ). Contains (q ∷ qs) w) (sym z) (0, omega arith, refl))
+  ],
   distinct_push qs t d.1 (λ x. f (suc x.0, omega (arith, x.1), x.2)),
 )
 
-pub one_index : (T : Texts) (i j : ℕ) → IsDistinct T → i < length T → j < length T → text T i ≡ text T j → i ≡ j
+pub one_index : (T : Texts) (i j : ℕ) → IsDistinct T → i < length T → j < length T
+    → text T i ≡ text T j → i ≡ j
 one_index [] i j d l m e = absurd (omega (arith, l))
 one_index (x ∷ T) zero zero d l m e = refl
-one_index (x ∷ T) zero (suc j) d l m e = absurd (d.0 (subst (Contains T) (sym e) (has_text T j (omega (arith, m)))))
-one_index (x ∷ T) (suc i) zero d l m e = absurd (d.0 (subst (Contains T) e (has_text T i (omega (arith, l)))))
-one_index (x ∷ T) (suc i) (suc j) d l m e = ap suc (one_index T i j d.1 (omega (arith, l)) (omega (arith, m)) e)
+one_index (x ∷ T) zero (suc j) d l m e =
+    absurd (d.0 (subst (Contains T) (sym e) (has_text T j (omega (arith, m)))))
+one_index (x ∷ T) (suc i) zero d l m e =
+    absurd (d.0 (subst (Contains T) e (has_text T i (omega (arith, l)))))
+one_index (x ∷ T) (suc i) (suc j) d l m e =
+    ap suc (one_index T i j d.1 (omega (arith, l)) (omega (arith, m)) e)
 
 -- a text doesn't stand before its index
-pub not_before : (T : Texts) (i : ℕ) → IsDistinct T → i < length T → Contains (take i T) (text T i) → ⊥
+pub not_before : (T : Texts) (i : ℕ) → IsDistinct T → i < length T → Contains (take i T) (text T i)
+    → ⊥
 not_before [] i d l h = omega (arith, l)
 not_before (x ∷ T) zero d l h = omega (arith, h.1)
-not_before (x ∷ T) (suc i) d l (zero, lt, is) = d.0 (subst (Contains T) (sym is) (has_text T i (omega (arith, l))))
-not_before (x ∷ T) (suc i) d l (suc k, lt, is) = not_before T i d.1 (omega (arith, l)) (k, omega (arith, lt), is)
+not_before (x ∷ T) (suc i) d l (zero, lt, is) =
+    d.0 (subst (Contains T) (sym is) (has_text T i (omega (arith, l))))
+not_before (x ∷ T) (suc i) d l (suc k, lt, is) =
+    not_before T i d.1 (omega (arith, l)) (k, omega (arith, lt), is)

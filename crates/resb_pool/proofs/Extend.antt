@@ -1,12 +1,17 @@
 -- Lists that begin with others.
-use Rattle.std.proofs.Common.{◌≡◌, ℕ, ◌<◌, ◌≤◌, List, [], ◌∷◌, ◌++◌, length, refl, sym, ◌∙◌, ap, append_assoc, append-nil, length-append, arith}
+use Rattle.std.proofs.Common.{◌≡◌, ℕ, ◌<◌, ◌≤◌, List, [], ◌∷◌, ◌++◌, length, refl, sym, ◌∙◌, ap}
+use Rattle.std.proofs.Common.{append_assoc, append-nil, length-append, arith}
 use Rattle.resb_pool.specs.Inner.Extends.{Extends}
 
 pub ext_refl : (t : List ℕ) → Extends t t
 ext_refl t = record { rest = []; is = sym (append-nil t) }
 
 pub ext_trans : (t s r : List ℕ) → Extends t s → Extends s r → Extends t r
-ext_trans t s r h k = record { rest = k.rest ++ h.rest; is = h.is ∙ ap (λ l. l ++ h.rest) k.is ∙ append_assoc r k.rest h.rest }
+ext_trans t s r h k = record {
+  rest = k.rest ++ h.rest;
+  is = h.is ∙ ap (λ l. l ++ h.rest) k.is
+      ∙ append_assoc r k.rest h.rest;
+}
 
 pub ext_len : (t s : List ℕ) → Extends t s → length s ≤ length t
 ext_len t s h = omega (arith, ap length h.is, length-append s h.rest)
@@ -42,10 +47,12 @@ ext_equal t s h l = by_rest t s h.rest h.is l
     by_rest t s (x ∷ r) e l = absurd (omega (arith, ap length e, length-append s (x ∷ r)))
 
 -- what is longer goes on by some character
-pub ext_next : (t s : List ℕ) → Extends t s → length s < length t → (c : ℕ) × Extends t (s ++ c ∷ [])
+pub ext_next : (t s : List ℕ) → Extends t s → length s < length t → (c : ℕ)
+    × Extends t (s ++ c ∷ [])
 ext_next t s h l = by_rest t s h.rest h.is l
   where
-    by_rest : (t s r : List ℕ) → t ≡ s ++ r → length s < length t → (c : ℕ) × Extends t (s ++ c ∷ [])
+    by_rest : (t s r : List ℕ) → t ≡ s ++ r → length s < length t → (c : ℕ)
+        × Extends t (s ++ c ∷ [])
     by_rest t s [] e l = absurd (omega (arith, ap length e, length-append s []))
     by_rest t s (x ∷ r) e l = (x, record { rest = r; is = e ∙ sym (append_assoc s (x ∷ []) r) })
 
@@ -56,4 +63,5 @@ same_head (z ∷ s) r u x y e = (let f : s ++ x ∷ r ≡ s ++ y ∷ u = cc in s
 -- by one character alone
 pub ext_char : (t s : List ℕ) (x y : ℕ) → Extends t (s ++ x ∷ []) → Extends t (s ++ y ∷ []) → x ≡ y
 ext_char t s x y h k =
-    same_head s h.rest k.rest x y (sym (append_assoc s (x ∷ []) h.rest) ∙ sym h.is ∙ k.is ∙ append_assoc s (y ∷ []) k.rest)
+    same_head s h.rest k.rest x y (sym (append_assoc s (x ∷ []) h.rest) ∙ sym h.is ∙ k.is
+    ∙ append_assoc s (y ∷ []) k.rest)

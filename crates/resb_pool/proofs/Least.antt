@@ -1,5 +1,7 @@
 -- No layout costs less than the records.
-use Rattle.std.proofs.Common.{◌≡◌, ℕ, zero, suc, ◌+◌, ◌≤◌, List, [], ◌∷◌, ◌++◌, length, Bool, true, false, cond, ◌⊎◌, inl, inr, refl, sym, ◌∙◌, ap, subst, append_assoc, length-append, take, arith}
+use Rattle.std.proofs.Common.{◌≡◌, ℕ, zero, suc, ◌+◌, ◌≤◌, List, [], ◌∷◌, ◌++◌, length, Bool, true}
+use Rattle.std.proofs.Common.{false, cond, ◌⊎◌, inl, inr, refl, sym, ◌∙◌, ap, subst, append_assoc}
+use Rattle.std.proofs.Common.{length-append, take, arith}
 use Rattle.std.specs.List.{All, Contains, sum_by, remove, flat_map}
 use Rattle.std.specs.List.Sorted.{IsPermutation}
 use Rattle.std.specs.Str.{chars, IsUtf8}
@@ -13,17 +15,20 @@ use Rattle.resb_format.specs.Units.{units, is_unmarked, marker, size, length_mar
 use Rattle.resb_pool.specs.Records.{EndsWith, IsDistinct, IsRecord, IsRecords, IsHeldBy, IsLayout}
 
 -- one of a list with x in front
-cons_cases : (x : List ℕ) (xs : List (List ℕ)) (y : List ℕ) → Contains (x ∷ xs) y → (x ≡ y) ⊎ Contains xs y
+cons_cases : (x : List ℕ) (xs : List (List ℕ)) (y : List ℕ) → Contains (x ∷ xs) y → (x ≡ y)
+    ⊎ Contains xs y
 cons_cases x xs y (zero, lt, is) = inl is
 cons_cases x xs y (suc k, lt, is) = inr (k, omega arith, is)
 
 Contains-first : (x : List ℕ) (xs : List (List ℕ)) → Contains (x ∷ xs) x
 Contains-first x xs = (0, omega arith, refl)
 
-Contains-later : (x : List ℕ) (xs : List (List ℕ)) (y : List ℕ) → Contains xs y → Contains (x ∷ xs) y
+Contains-later : (x : List ℕ) (xs : List (List ℕ)) (y : List ℕ) → Contains xs y
+    → Contains (x ∷ xs) y
 Contains-later x xs y (k, lt, is) = (suc k, omega arith, is)
 
-module _ (f : List ℕ → ℕ) (M : List ℕ → List ℕ → Type 0) (alone : (p q r : List ℕ) → M p r → M q r → p ≡ q) where
+module _ (f : List ℕ → ℕ) (M : List ℕ → List ℕ → Type 0) (alone : (p q r : List ℕ) → M p r → M q r
+    → p ≡ q) where
   -- each of Q goes to its own member of R, which is at least as large
   pub into_least : (Q R : List (List ℕ)) → IsDistinct Q
       → ((q : List ℕ) → Contains Q q → (r : List ℕ) × Contains R r × M q r × (f q ≤ f r))
@@ -35,8 +40,10 @@ module _ (f : List ℕ → ℕ) (M : List ℕ → List ℕ → Type 0) (alone : 
       let p : IsPermutation R (g.0 ∷ remove R k) = IsPermutation-remove R k g.0 g.1.1 (sym g.1.2) in
       let rest : sum_by f Q ≤ sum_by f (remove R k) = into_least Q (remove R k) d (λ q' in'.
       let g' = goes q' (Contains-later q Q q' in') in
-      elim (cons_cases g.0 (remove R k) g'.0 (Contains-permutation R (g.0 ∷ remove R k) g'.0 p g'.1)) [
-        | inl e ↦ absurd (fresh (subst (λ x. Contains Q x) (alone q' q g.0 (subst (λ x. M q' x) (sym e) g'.2) g.2) in'))
+      elim (cons_cases g.0 (remove R k) g'.0 (Contains-permutation R (g.0 ∷ remove R k) g'.0 p
+      g'.1)) [
+        | inl e ↦ absurd (fresh (subst (λ x. Contains Q x)
+            (alone q' q g.0 (subst (λ x. M q' x) (sym e) g'.2) g.2) in'))
         | inr c ↦ (g'.0, c, g'.2, g'.3)
       ]) in
       omega (arith, sum_by-cons f q Q, sum_by_popped f g.0 R (remove R k) p, g.3)
@@ -52,7 +59,8 @@ abbrev Fits : List (List ℕ) → List ℕ → List ℕ → Type 0
 Fits S s r = IsRecord S s × ((s ≡ r) ⊎ IsHeldBy s r)
 
 -- an unmarked record is an end of no other text
-last_of : (S : List (List ℕ)) (p q : List ℕ) → IsRecord S q → is_unmarked q ≡ true → Contains S p → EndsWith p q → p ≡ q
+last_of : (S : List (List ℕ)) (p q : List ℕ) → IsRecord S q → is_unmarked q ≡ true → Contains S p
+    → EndsWith p q → p ≡ q
 last_of S p q hq u hp e = elim hq.alone [ inl m ↦ cc (m, u) | inr only ↦ only p hp e ]
 
 ends_along : (r s t : List ℕ) → r ≡ s → EndsWith r t → EndsWith s t
@@ -60,27 +68,36 @@ ends_along r s t e h = record { front = h.front; is = sym e ∙ h.is }
 
 fits_alone : (S : List (List ℕ)) (p q r : List ℕ) → Fits S p r → Fits S q r → p ≡ q
 fits_alone S p q r (hp, inl e) (hq, inl f) = e ∙ sym f
-fits_alone S p q r (hp, inl e) (hq, inr h) = last_of S p q hq h.unmarked hp.given (ends_along r p q (sym e) h.ends)
-fits_alone S p q r (hp, inr g) (hq, inl f) = sym (last_of S q p hp g.unmarked hq.given (ends_along r q p (sym f) g.ends))
-fits_alone S p q r (hp, inr g) (hq, inr h) = elim (two_ends g.ends.front h.ends.front p q (sym g.ends.is ∙ h.ends.is)) [
-  | inl e ↦ last_of S p q hq h.unmarked hp.given e
-  | inr e ↦ sym (last_of S q p hp g.unmarked hq.given e)
-]
+fits_alone S p q r (hp, inl e) (hq, inr h) =
+    last_of S p q hq h.unmarked hp.given (ends_along r p q (sym e) h.ends)
+fits_alone S p q r (hp, inr g) (hq, inl f) =
+    sym (last_of S q p hp g.unmarked hq.given (ends_along r q p (sym f) g.ends))
+fits_alone S p q r (hp, inr g) (hq, inr h) =
+    elim (two_ends g.ends.front h.ends.front p q (sym g.ends.is ∙ h.ends.is)) [
+      | inl e ↦ last_of S p q hq h.unmarked hp.given e
+      | inr e ↦ sym (last_of S q p hp g.unmarked hq.given e)
+    ]
 
-flat_append : (xs ys : List ℕ) → flat_map encode_utf16 (xs ++ ys) ≡ flat_map encode_utf16 xs ++ flat_map encode_utf16 ys
+flat_append : (xs ys : List ℕ) → flat_map encode_utf16 (xs ++ ys) ≡ flat_map encode_utf16 xs ++
+    flat_map encode_utf16 ys
 flat_append [] ys = refl
-flat_append (x ∷ xs) ys = ap (λ l. encode_utf16 x ++ l) (flat_append xs ys) ∙ sym (append_assoc (encode_utf16 x) (flat_map encode_utf16 xs) (flat_map encode_utf16 ys))
+flat_append (x ∷ xs) ys = ap (λ l. encode_utf16 x ++ l) (flat_append xs ys)
+    ∙ sym (append_assoc (encode_utf16 x) (flat_map encode_utf16 xs) (flat_map encode_utf16 ys))
 
 front_utf8 : (t xs ys : List ℕ) → t ≡ xs ++ ys → IsUtf8 t → IsUtf8 ys → IsUtf8 xs
 front_utf8 t xs ys e u v =
-    let w : IsUtf8 (take (length xs) t) = IsUtf8-take t (length xs) u (IsCharBoundary-at_seam t xs ys e v) in
+    let w : IsUtf8 (take (length xs) t) =
+    IsUtf8-take t (length xs) u (IsCharBoundary-at_seam t xs ys e v) in
     let f : take (length xs) t ≡ xs = rw e (take-append_seam xs ys) in
     subst IsUtf8 f w
 
 -- the units of an end stand at the end
-pub units_end : (t s : List ℕ) → IsUtf8 t → IsUtf8 s → (h : EndsWith t s) → units t ≡ units h.front ++ units s
+pub units_end : (t s : List ℕ) → IsUtf8 t → IsUtf8 s → (h : EndsWith t s)
+    → units t ≡ units h.front ++ units s
 units_end t s u v h =
-    ap units h.is ∙ ap (flat_map encode_utf16) (chars-append h.front s (front_utf8 t h.front s h.is u v)) ∙ flat_append (chars h.front) (chars s)
+    ap units h.is ∙ ap (flat_map encode_utf16)
+    (chars-append h.front s (front_utf8 t h.front s h.is u v))
+    ∙ flat_append (chars h.front) (chars s)
 
 no_marker : (b : Bool) (m : List ℕ) → b ≡ true → length (cond b [] m) ≡ 0
 no_marker true m e = refl
@@ -88,18 +105,28 @@ no_marker false m e = cc
 
 held_costs : (s r : List ℕ) → IsUtf8 r → IsUtf8 s → IsHeldBy s r → size s ≤ size r
 held_costs s r u v h =
-    let e : length (units r) ≡ length (units h.ends.front ++ units s) = ap length (units_end r s u v h.ends) in
+    let e : length (units r) ≡ length (units h.ends.front ++ units s) =
+    ap length (units_end r s u v h.ends) in
     let f = length-append (units h.ends.front) (units s) in
-    let z : length (marker s) ≡ 0 = no_marker (is_unmarked s) (length_marker (length (units s))) h.unmarked in
-    size_le (length (marker s)) (length (marker r)) (length (units s)) (length (units r)) z (omega (arith, e, f))
+    let z : length (marker s) ≡ 0 = no_marker (is_unmarked s) (length_marker (length (units s)))
+    h.unmarked in
+    size_le (length (marker s)) (length (marker r)) (length (units s)) (length (units r)) z
+    (omega (arith, e, f))
   where
     size_le : (m n a b : ℕ) → m ≡ 0 → a ≤ b → m + a + 1 ≤ n + b + 1
     size_le m n a b e h = omega arith
 
-pub least : (S Q R : List (List ℕ)) → All IsUtf8 S → IsRecords S Q → IsLayout S R → sum_by size Q ≤ sum_by size R
+pub least : (S Q R : List (List ℕ)) → All IsUtf8 S → IsRecords S Q → IsLayout S R
+    → sum_by size Q ≤ sum_by size R
 least S Q R u q r = into_least size (Fits S) (fits_alone S) Q R q.once (λ s in'.
     let rec = (q.just s).0 in' in
     elim (r.holds s rec.given rec.nonempty) [
       | inl c ↦ (s, c, (rec, inl refl), omega arith)
-      | inr (x, c, h) ↦ (x, c, (rec, inr h), held_costs s x (All-contains IsUtf8 R x r.texts c) (All-contains IsUtf8 S s u rec.given) h)
+      | inr (x, c, h) ↦ (
+        x,
+        c,
+        (rec, inr h),
+        held_costs s x (All-contains IsUtf8 R x r.texts c)
+            (All-contains IsUtf8 S s u rec.given) h,
+      )
     ])

@@ -5,6 +5,7 @@ pub mod Distinct
 pub mod Sizes
 pub mod Interning
 pub mod Sums
+pub mod Turns
 pub mod ReadBack
 pub mod PlacingLemmas
 pub mod SharingLemmas

@@ -1,5 +1,7 @@
 -- Strings have one pool, and each text one place in it.
-use Rattle.std.proofs.Common.{◌≡◌, ℕ, zero, suc, ◌+◌, ◌<◌, List, [], ◌∷◌, ◌++◌, length, slice_index_or, Option, Some, None, MatchOption, ◌⊎◌, inl, inr, nat_cmp, refl, sym, ◌∙◌, ap, subst, arith}
+use Rattle.std.proofs.Common.{◌≡◌, ℕ, zero, suc, ◌+◌, ◌<◌, List, [], ◌∷◌, ◌++◌, length}
+use Rattle.std.proofs.Common.{slice_index_or, Option, Some, None, MatchOption, ◌⊎◌, inl, inr}
+use Rattle.std.proofs.Common.{nat_cmp, refl, sym, ◌∙◌, ap, subst, arith}
 use Rattle.std.specs.List.{All, Contains, sum_by, flat_map}
 use Rattle.std.specs.Str.{IsUtf8}
 use Rattle.std.specs.Ordering.{ordering_reverse}
@@ -8,7 +10,9 @@ use Rattle.std.specs.declared.cmp.Ordering.TheVariants.{Less}
 use Rattle.std.proofs.lemmas.Cmp.{nat_list_cmp_total}
 use Rattle.resb_format.specs.Units.{size}
 use Rattle.resb_pool.specs.Records.{IsDistinct}
-use Rattle.resb_pool.specs.Pool.{SizeIn, size_none, size_here, size_elsewhere, Saved, Precedes, fewer_units, saves_more, smaller_bytes, record_units, ClosesAt, Off, off_empty, off_within}
+use Rattle.resb_pool.specs.Pool.{SizeIn, size_none, size_here, size_elsewhere, Saved, Precedes}
+use Rattle.resb_pool.specs.Pool.{fewer_units, saves_more, smaller_bytes, record_units, ClosesAt}
+use Rattle.resb_pool.specs.Pool.{Off, off_empty, off_within}
 use Rattle.resb_pool.specs.Plan.{IsPlan}
 use Rattle.resb_pool.proofs.SharingLemmas.{one_container}
 
@@ -27,16 +31,19 @@ later x xs y (k, lt, is) = (suc k, omega arith, is)
 
 bytes_asym : (r q : List ℕ) → slice_cmp nat_cmp r q ≡ Less → slice_cmp nat_cmp q r ≡ Less → ⊥
 bytes_asym r q e f =
-    let g : Less ≡ ordering_reverse Less = sym e ∙ nat_list_cmp_total.antisymm r q ∙ ap ordering_reverse f in
+    let g : Less ≡ ordering_reverse Less = sym e ∙ nat_list_cmp_total.antisymm r q
+    ∙ ap ordering_reverse f in
     cc
 
 module _ (S : Texts) where
   size_once : (r : List ℕ) (ss : Texts) (m n : ℕ) → SizeIn S r ss m → SizeIn S r ss n → m ≡ n
   size_once r _ _ _ size_none size_none = refl
-  size_once r _ _ _ (size_here {s} {ss} {n = m} h p) (size_here {n} k q) = ap (λ j. size s + j) (size_once r ss m n p q)
+  size_once r _ _ _ (size_here {s} {ss} {n = m} h p) (size_here {n} k q) =
+      ap (λ j. size s + j) (size_once r ss m n p q)
   size_once r _ _ _ (size_here {s} {ss} {n = m} h p) (size_elsewhere {n} k q) = absurd (k h)
   size_once r _ _ _ (size_elsewhere {s} {ss} {n = m} h p) (size_here {n} k q) = absurd (h k)
-  size_once r _ _ _ (size_elsewhere {s} {ss} {n = m} h p) (size_elsewhere {n} k q) = size_once r ss m n p q
+  size_once r _ _ _ (size_elsewhere {s} {ss} {n = m} h p) (size_elsewhere {n} k q) =
+      size_once r ss m n p q
 
   saved_once : (r : List ℕ) (m n : ℕ) → Saved S r m → Saved S r n → m ≡ n
   saved_once r m n p q = let e = size_once r S (m + size r) (n + size r) p q in omega (arith, e)
@@ -46,10 +53,13 @@ module _ (S : Texts) where
   asym r q (fewer_units h) (saves_more m n e a b l) = absurd (omega (arith, h, e))
   asym r q (fewer_units h) (smaller_bytes n e a b l) = absurd (omega (arith, h, e))
   asym r q (saves_more m n e a b l) (fewer_units k) = absurd (omega (arith, k, e))
-  asym r q (saves_more m n e a b l) (saves_more m' n' e' a' b' l') = absurd (omega (arith, saved_once r m n' a b', saved_once q n m' b a', l, l'))
-  asym r q (saves_more m n e a b l) (smaller_bytes n' e' a' b' l') = absurd (omega (arith, saved_once r m n' a b', saved_once q n n' b a', l))
+  asym r q (saves_more m n e a b l) (saves_more m' n' e' a' b' l') =
+      absurd (omega (arith, saved_once r m n' a b', saved_once q n m' b a', l, l'))
+  asym r q (saves_more m n e a b l) (smaller_bytes n' e' a' b' l') =
+      absurd (omega (arith, saved_once r m n' a b', saved_once q n n' b a', l))
   asym r q (smaller_bytes n e a b l) (fewer_units k) = absurd (omega (arith, k, e))
-  asym r q (smaller_bytes n e a b l) (saves_more m' n' e' a' b' l') = absurd (omega (arith, saved_once q n m' b a', saved_once r n n' a b', l'))
+  asym r q (smaller_bytes n e a b l) (saves_more m' n' e' a' b' l') =
+      absurd (omega (arith, saved_once q n m' b a', saved_once r n n' a b', l'))
   asym r q (smaller_bytes n e a b l) (smaller_bytes n' e' a' b' l') = bytes_asym r q l l'
 
   onward : (r q p : List ℕ) → Precedes S r q → Precedes S q p → Precedes S r p
@@ -57,29 +67,37 @@ module _ (S : Texts) where
   onward r q p (fewer_units h) (saves_more m n e a b l) = fewer_units (omega (arith, h, e))
   onward r q p (fewer_units h) (smaller_bytes n e a b l) = fewer_units (omega (arith, h, e))
   onward r q p (saves_more m n e a b l) (fewer_units k) = fewer_units (omega (arith, k, e))
-  onward r q p (saves_more m n e a b l) (saves_more m' n' e' a' b' l') = saves_more m n' (e ∙ e') a b' (omega (arith, l, l', saved_once q n m' b a'))
-  onward r q p (saves_more m n e a b l) (smaller_bytes n' e' a' b' l') = saves_more m n' (e ∙ e') a b' (omega (arith, l, saved_once q n n' b a'))
+  onward r q p (saves_more m n e a b l) (saves_more m' n' e' a' b' l') =
+      saves_more m n' (e ∙ e') a b' (omega (arith, l, l', saved_once q n m' b a'))
+  onward r q p (saves_more m n e a b l) (smaller_bytes n' e' a' b' l') =
+      saves_more m n' (e ∙ e') a b' (omega (arith, l, saved_once q n n' b a'))
   onward r q p (smaller_bytes n e a b l) (fewer_units k) = fewer_units (omega (arith, k, e))
-  onward r q p (smaller_bytes n e a b l) (saves_more m' n' e' a' b' l') = saves_more n n' (e ∙ e') a b' (omega (arith, l', saved_once q n m' b a'))
+  onward r q p (smaller_bytes n e a b l) (saves_more m' n' e' a' b' l') =
+      saves_more n n' (e ∙ e') a b' (omega (arith, l', saved_once q n m' b a'))
   onward r q p (smaller_bytes n e a b l) (smaller_bytes n' e' a' b' l') =
-      smaller_bytes n (e ∙ e') a (subst (Saved S p) (sym (saved_once q n n' b a')) b') (nat_list_cmp_total.trans r q p l l')
+      smaller_bytes n (e ∙ e') a (subst (Saved S p) (sym (saved_once q n n' b a')) b')
+      (nat_list_cmp_total.trans r q p l l')
 
   abbrev IsOrdered : Texts → Type 0
-  IsOrdered Q = (k : ℕ) → k + 1 < length Q → Precedes S (slice_index_or Q k []) (slice_index_or Q (k + 1) [])
+  IsOrdered Q = (k : ℕ) → k + 1 < length Q
+      → Precedes S (slice_index_or Q k []) (slice_index_or Q (k + 1) [])
 
   ordered_tail : (q : List ℕ) (Q : Texts) → IsOrdered (q ∷ Q) → IsOrdered Q
   ordered_tail q Q h k lt =
       let e : suc k + 1 ≡ suc (k + 1) = omega arith in
-      subst (λ j. Precedes S (slice_index_or Q k []) (slice_index_or (q ∷ Q) j [])) e (h (suc k) (omega (arith, lt)))
+      subst (λ j. Precedes S (slice_index_or Q k []) (slice_index_or (q ∷ Q) j [])) e
+      (h (suc k) (omega (arith, lt)))
 
-  heads : (q : List ℕ) (Q : Texts) → IsOrdered (q ∷ Q) → (x : List ℕ) → Contains Q x → Precedes S q x
+  heads : (q : List ℕ) (Q : Texts) → IsOrdered (q ∷ Q) → (x : List ℕ) → Contains Q x
+      → Precedes S q x
   heads q [] h x c = absurd (omega (arith, c.1))
   heads q (p ∷ Q) h x c = elim (cons_cases p Q x c) [
     | inl e ↦ subst (Precedes S q) e (h 0 (omega arith))
     | inr d ↦ onward q p x (h 0 (omega arith)) (heads p Q (ordered_tail q (p ∷ Q) h) x d)
   ]
 
-  same_first : (q r : List ℕ) (Q R : Texts) → Contains (r ∷ R) q → Contains (q ∷ Q) r → IsOrdered (q ∷ Q) → IsOrdered (r ∷ R) → q ≡ r
+  same_first : (q r : List ℕ) (Q R : Texts) → Contains (r ∷ R) q → Contains (q ∷ Q) r
+      → IsOrdered (q ∷ Q) → IsOrdered (r ∷ R) → q ≡ r
   same_first q r Q R c d h k = elim (cons_cases r R q c) [
     | inl e ↦ sym e
     | inr c' ↦ elim (cons_cases q Q r d) [
@@ -88,22 +106,28 @@ module _ (S : Texts) where
     ]
   ]
 
-  same_rest : (q r : List ℕ) (Q R : Texts) → q ≡ r → IsDistinct (q ∷ Q) → ((s : List ℕ) → Contains (q ∷ Q) s → Contains (r ∷ R) s) → (s : List ℕ) → Contains Q s → Contains R s
+  same_rest : (q r : List ℕ) (Q R : Texts) → q ≡ r → IsDistinct (q ∷ Q)
+      → ((s : List ℕ) → Contains (q ∷ Q) s → Contains (r ∷ R) s) → (s : List ℕ) → Contains Q s
+      → Contains R s
   same_rest q r Q R e d f s c = elim (cons_cases r R s (f s (later q Q s c))) [
     | inl g ↦ absurd (d.0 (subst (Contains Q) (sym (e ∙ g)) c))
     | inr g ↦ g
   ]
 
-  one_order : (Q R : Texts) → IsDistinct Q → IsDistinct R → ((s : List ℕ) → Contains Q s → Contains R s) → ((s : List ℕ) → Contains R s → Contains Q s) → IsOrdered Q → IsOrdered R → Q ≡ R
+  one_order : (Q R : Texts) → IsDistinct Q → IsDistinct R
+      → ((s : List ℕ) → Contains Q s → Contains R s) → ((s : List ℕ) → Contains R s → Contains Q s)
+      → IsOrdered Q → IsOrdered R → Q ≡ R
   one_order [] [] d e f g h k = refl
   one_order [] (r ∷ R) d e f g h k = absurd (let c = g r (first r R) in omega (arith, c.1))
   one_order (q ∷ Q) [] d e f g h k = absurd (let c = f q (first q Q) in omega (arith, c.1))
   one_order (q ∷ Q) (r ∷ R) d e f g h k =
       let same = same_first q r Q R (f q (first q Q)) (g r (first r R)) h k in
-      let rest = one_order Q R d.1 e.1 (same_rest q r Q R same d f) (same_rest r q R Q (sym same) e g) (ordered_tail q Q h) (ordered_tail r R k) in
+      let rest = one_order Q R d.1 e.1 (same_rest q r Q R same d f)
+      (same_rest r q R Q (sym same) e g) (ordered_tail q Q h) (ordered_tail r R k) in
       λ i. same i ∷ rest i
 
-  one_front : (Q a b x y : Texts) (r : List ℕ) → IsDistinct Q → Q ≡ a ++ r ∷ x → Q ≡ b ++ r ∷ y → a ≡ b
+  one_front : (Q a b x y : Texts) (r : List ℕ) → IsDistinct Q → Q ≡ a ++ r ∷ x → Q ≡ b ++ r ∷ y
+      → a ≡ b
   one_front [] [] b x y r d e f = (let n : [] ≡ r ∷ x = e in cc)
   one_front [] (u ∷ a) b x y r d e f = (let n : [] ≡ u ∷ (a ++ r ∷ x) = e in cc)
   one_front (q ∷ Q) [] [] x y r d e f = refl
@@ -129,31 +153,47 @@ module _ (S : Texts) where
       let k : u ≡ v = cc in
       λ i. k i ∷ one_front Q a b x y r d.1 g h i
 
-  closes_once : (Q : Texts) (r : List ℕ) (c d : ℕ) → IsDistinct Q → ClosesAt Q r c → ClosesAt Q r d → c ≡ d
-  closes_once Q r c d u h k = h.place ∙ ap (λ l. sum_by size l + size r) (one_front Q h.before k.before h.after k.after r u h.is k.is) ∙ sym k.place
+  closes_once : (Q : Texts) (r : List ℕ) (c d : ℕ) → IsDistinct Q → ClosesAt Q r c → ClosesAt Q r d
+      → c ≡ d
+  closes_once Q r c d u h k = h.place
+      ∙ ap (λ l. sum_by size l + size r) (one_front Q h.before k.before h.after k.after r u h.is
+      k.is) ∙ sym k.place
 
-  off_once : (texts : All IsUtf8 S) (Q : Texts) (u : IsDistinct Q) (s : List ℕ) (j k : ℕ) → Off S Q s j → Off S Q s k → j ≡ k
+  off_once : (texts : All IsUtf8 S) (Q : Texts) (u : IsDistinct Q) (s : List ℕ) (j k : ℕ)
+      → Off S Q s j → Off S Q s k → j ≡ k
   off_once texts Q u _ _ _ off_empty off_empty = refl
   off_once texts Q u _ _ _ off_empty (off_within l h f) = absurd (omega (arith, l.nonempty))
   off_once texts Q u _ _ _ (off_within l h f) off_empty = absurd (omega (arith, l.nonempty))
-  off_once texts Q u _ _ _ (off_within {s} {r} {k = j} {c} l h f) (off_within {r = q} {k} {c = d} m g e) =
+  off_once texts Q u _ _ _ (off_within {s} {r} {k = j} {c} l h f) (off_within {r = q} {k} {c =
+      d} m g e) =
       let same : r ≡ q = one_container S texts s r q l.container m.container in
       let close : c ≡ d = closes_once Q r c d u h (subst (λ z. ClosesAt Q z d) (sym same) g) in
       omega (arith, f, e, close)
 
 -- the units, and where each text stands
-pub one_pool : (S : Texts) (us vs : List ℕ) (offset place : List ℕ → Option ℕ) → IsPlan S us offset → IsPlan S vs place → (us ≡ vs) × (offset ≡ place)
-one_pool S us vs offset place p q = (p.pool.units ∙ ap (λ Q. 0 ∷ flat_map record_units Q) records ∙ sym q.pool.units, λ i s. at s i)
+pub one_pool : (S : Texts) (us vs : List ℕ) (offset place : List ℕ → Option ℕ) → IsPlan S us offset
+    → IsPlan S vs place → (us ≡ vs) × (offset ≡ place)
+one_pool S us vs offset place p q = (
+  p.pool.units ∙ ap (λ Q. 0 ∷ flat_map record_units Q) records
+      ∙ sym q.pool.units,
+  λ i s. at s i,
+)
   where
     records : p.records ≡ q.records
     records =
-        one_order S p.records q.records p.pool.records.once q.pool.records.once (λ s c. (q.pool.records.just s).1 ((p.pool.records.just s).0 c)) (λ s c. (p.pool.records.just s).1 ((q.pool.records.just s).0 c)) p.pool.ordered q.pool.ordered
+        one_order S p.records q.records p.pool.records.once q.pool.records.once
+        (λ s c. (q.pool.records.just s).1 ((p.pool.records.just s).0 c))
+        (λ s c. (p.pool.records.just s).1 ((q.pool.records.just s).0 c)) p.pool.ordered
+        q.pool.ordered
 
-    by : (s : List ℕ) (a b : Option ℕ) → MatchOption a (Contains S s → ⊥) (λ k. Contains S s × Off S p.records s k) → MatchOption b (Contains S s → ⊥) (λ k. Contains S s × Off S q.records s k) → a ≡ b
+    by : (s : List ℕ) (a b : Option ℕ) → MatchOption a (Contains S s → ⊥) (λ k. Contains S s
+        × Off S p.records s k) → MatchOption b (Contains S s → ⊥) (λ k. Contains S s
+        × Off S q.records s k) → a ≡ b
     by s None None h k = refl
     by s None (Some n) h k = absurd (h k.0)
     by s (Some n) None h k = absurd (k h.0)
-    by s (Some n) (Some m) h k = ap Some (off_once S p.texts p.records p.pool.records.once s n m h.1 (subst (λ Q. Off S Q s m) (sym records) k.1))
+    by s (Some n) (Some m) h k = ap Some (off_once S p.texts p.records p.pool.records.once s n m h.1
+        (subst (λ Q. Off S Q s m) (sym records) k.1))
 
     at : (s : List ℕ) → offset s ≡ place s
     at s = by s (offset s) (place s) (p.offsets s) (q.offsets s)

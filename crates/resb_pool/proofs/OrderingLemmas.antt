@@ -1,5 +1,9 @@
--- Records in order: distinct texts stay distinct, and each record precedes the next. Where records close.
-use Rattle.std.proofs.Common.{◌≡◌, ℕ, zero, suc, ◌+◌, ◌<◌, ◌≤◌, List, [], ◌∷◌, ◌++◌, length, get_or, take, drop, Bool, true, false, cond, refl, sym, ◌∙◌, ap, subst, arith, length-append, true≢false, inl, inr, ◌⊎◌, append_assoc, append-nil, get_or-set_other, get_or-set_same}
+-- Records in order: distinct texts stay distinct, and each record precedes the next. Where records
+-- close.
+use Rattle.std.proofs.Common.{◌≡◌, ℕ, zero, suc, ◌+◌, ◌<◌, ◌≤◌, List, [], ◌∷◌, ◌++◌, length, get_or}
+use Rattle.std.proofs.Common.{take, drop, Bool, true, false, cond, refl, sym, ◌∙◌, ap, subst, arith}
+use Rattle.std.proofs.Common.{length-append, true≢false, inl, inr, ◌⊎◌, append_assoc, append-nil}
+use Rattle.std.proofs.Common.{get_or-set_other, get_or-set_same}
 use Rattle.std.specs.List.{Contains, sum_by, flat_map}
 use Rattle.std.specs.List.Sorted.{IsPermutation}
 use Rattle.std.specs.Prelude.{slice_set, replicate}
@@ -14,10 +18,12 @@ use Rattle.std.specs.declared.cmp.Ordering.TheVariants.{Less, Equal, Greater}
 use Rattle.std.specs.FinMap.{slice_cmp-IsAntisymmetric, nat_cmp-IsAntisymmetric}
 use Rattle.std.proofs.lemmas.Cmp.{ranked, by_ranked}
 use Rattle.std.proofs.lemmas.List.Sums.{sum_by-cons, sum_by-append}
-use Rattle.std.proofs.lemmas.List.Sorted.{sum_by-IsPermutation, Contains-permutation, IsPermutation-sym}
+use Rattle.std.proofs.lemmas.List.Sorted.{sum_by-IsPermutation, Contains-permutation}
+use Rattle.std.proofs.lemmas.List.Sorted.{IsPermutation-sym}
 use Rattle.resb_format.specs.Units.{units, marker, size}
 use Rattle.resb_pool.specs.Records.{IsDistinct, IsRecords}
-use Rattle.resb_pool.specs.Pool.{Saved, Precedes, fewer_units, saves_more, smaller_bytes, record_units, ClosesAt}
+use Rattle.resb_pool.specs.Pool.{Saved, Precedes, fewer_units, saves_more, smaller_bytes}
+use Rattle.resb_pool.specs.Pool.{record_units, ClosesAt}
 use Rattle.resb_pool.specs.Inner.Placing.{AreIndexed, AreEnds, record_texts, record_cmp}
 use Rattle.resb_pool.specs.declared.records.Record.{Record}
 
@@ -55,14 +61,16 @@ often_once x [] d = omega arith
 often_once x (y ∷ ys) d =
     let m = often_once x ys d.1 in
     elim (one_cases x y) [
-      | inl e ↦ (let n = often_none x ys (λ c. d.0 (subst (Contains ys) e.1 c)) in omega (arith, sum_by-cons (one x) y ys, n, e.0))
+      | inl e ↦ (let n = often_none x ys (λ c. d.0 (subst (Contains ys) e.1 c)) in
+          omega (arith, sum_by-cons (one x) y ys, n, e.0))
       | inr e ↦ omega (arith, sum_by-cons (one x) y ys, m, e)
     ]
 
 often_some : (x : List ℕ) (xs : Texts) → Contains xs x → 1 ≤ often x xs
 often_some x [] c = absurd (omega (arith, c.1))
 often_some x (y ∷ ys) (zero, lt, is) = omega (arith, sum_by-cons (one x) y ys, is_one x y (sym is))
-often_some x (y ∷ ys) (suc k, lt, is) = omega (arith, sum_by-cons (one x) y ys, often_some x ys (k, omega arith, is))
+often_some x (y ∷ ys) (suc k, lt, is) =
+    omega (arith, sum_by-cons (one x) y ys, often_some x ys (k, omega arith, is))
 
 once_distinct : (xs : Texts) → ((x : List ℕ) → often x xs ≤ 1) → IsDistinct xs
 once_distinct [] h = tt
@@ -72,31 +80,41 @@ once_distinct (y ∷ ys) h = (
 )
 
 pub distinct_permutation : (xs ys : Texts) → IsPermutation xs ys → IsDistinct xs → IsDistinct ys
-distinct_permutation xs ys p d = once_distinct ys (λ x. omega (arith, often_once x xs d, sum_by-IsPermutation (one x) xs ys p))
+distinct_permutation xs ys p d =
+    once_distinct ys (λ x. omega (arith, often_once x xs d, sum_by-IsPermutation (one x) xs ys p))
 
 pub records_permutation : (S xs ys : Texts) → IsPermutation xs ys → IsRecords S xs → IsRecords S ys
 records_permutation S xs ys p h = record {
   once = distinct_permutation xs ys p h.once;
-  just = λ s. (λ c. (h.just s).0 (Contains-permutation ys xs s (IsPermutation-sym xs ys p) c), λ r. Contains-permutation xs ys s p ((h.just s).1 r));
+  just = λ s. (
+    λ c. (h.just s).0 (Contains-permutation ys xs s (IsPermutation-sym xs ys p) c),
+    λ r. Contains-permutation xs ys s p ((h.just s).1 r),
+  );
 }
 
 -- two neighbours of distinct texts differ
-pub neighbours_differ : (xs : Texts) (k : ℕ) → IsDistinct xs → suc k < length xs → get_or xs k [] ≡ get_or xs (suc k) [] → ⊥
+pub neighbours_differ : (xs : Texts) (k : ℕ) → IsDistinct xs → suc k < length xs
+    → get_or xs k [] ≡ get_or xs (suc k) [] → ⊥
 neighbours_differ [] k d h e = omega arith
 neighbours_differ (x ∷ []) zero d h e = omega arith
 neighbours_differ (x ∷ y ∷ xs) zero d h e = d.0 (0, omega arith, sym e)
 neighbours_differ (x ∷ xs) (suc k) d h e = neighbours_differ xs k d.1 (omega arith) e
 
-pub text_at_index : (rs : List Record) (k : ℕ) (d : Record) → k < length rs → get_or (record_texts rs) k [] ≡ (get_or rs k d).text.now
+pub text_at_index : (rs : List Record) (k : ℕ) (d : Record) → k < length rs
+    → get_or (record_texts rs) k [] ≡ (get_or rs k d).text.now
 text_at_index [] k d h = absurd (omega arith)
 text_at_index (r ∷ rs) zero d h = refl
 text_at_index (r ∷ rs) (suc k) d h = text_at_index rs k d (omega arith)
 
-cmp_cases : (x y : ℕ) → ((nat_cmp x y ≡ Less) × (x < y)) ⊎ (((nat_cmp x y ≡ Equal) × (x ≡ y)) ⊎ ((nat_cmp x y ≡ Greater) × (y < x)))
-cmp_cases x y = by_ranked (x < y) (x ≡ y) (y < x) (nat_cmp x y) (ranked x y (nat_cmp x y) refl) (λ e h. inl (e, h)) (λ e h. inr (inl (e, h))) (λ e h. inr (inr (e, h)))
+cmp_cases : (x y : ℕ) → ((nat_cmp x y ≡ Less) × (x < y)) ⊎ (((nat_cmp x y ≡ Equal) × (x ≡ y))
+    ⊎ ((nat_cmp x y ≡ Greater) × (y < x)))
+cmp_cases x y = by_ranked (x < y) (x ≡ y) (y < x) (nat_cmp x y) (ranked x y (nat_cmp x y) refl)
+    (λ e h. inl (e, h)) (λ e h. inr (inl (e, h))) (λ e h. inr (inr (e, h)))
 
--- a text that is not after another one, by an order that begins with that of texts, is before it, or the same
-text_order : (s t : List ℕ) (z : Ordering) → is_lt (ordering_then (slice_cmp nat_cmp t s) z) ≡ false → (s ≡ t → ⊥) → slice_cmp nat_cmp s t ≡ Less
+-- a text that is not after another one, by an order that begins with that of texts, is before it,
+-- or the same
+text_order : (s t : List ℕ) (z : Ordering) → is_lt (ordering_then (slice_cmp nat_cmp t s) z) ≡ false
+    → (s ≡ t → ⊥) → slice_cmp nat_cmp s t ≡ Less
 text_order s t z h ne = by (slice_cmp nat_cmp t s) refl
   where
     by : (o : Ordering) → slice_cmp nat_cmp t s ≡ o → slice_cmp nat_cmp s t ≡ Less
@@ -105,20 +123,25 @@ text_order s t z h ne = by (slice_cmp nat_cmp t s) refl
     by Greater e = nat_list_cmp_total.antisymm s t ∙ ap ordering_reverse e
 
 -- of two records in order, the first precedes
-module _ (S : Texts) (x y : Record) (ux : x.unit_count ≡ length (units x.text.now)) (uy : y.unit_count ≡ length (units y.text.now))
+module _ (S : Texts) (x y : Record) (ux : x.unit_count ≡ length (units x.text.now))
+    (uy : y.unit_count ≡ length (units y.text.now))
     (sx : Saved S x.text.now x.saved.0) (sy : Saved S y.text.now y.saved.0) where
-  pub in_order : is_lt (record_cmp y x) ≡ false → (x.text.now ≡ y.text.now → ⊥) → Precedes S x.text.now y.text.now
+  pub in_order : is_lt (record_cmp y x) ≡ false → (x.text.now ≡ y.text.now → ⊥)
+      → Precedes S x.text.now y.text.now
   in_order h ne = elim (cmp_cases y.unit_count x.unit_count) [
     | inl l ↦ absurd (true≢false (sym (ap (λ o. is_lt (ordering_then o later)) l.0) ∙ h))
     | inr (inr g) ↦ fewer_units (omega (arith, ux, uy, g.1))
     | inr (inl e) ↦
-        (let units_same : length (units x.text.now) ≡ length (units y.text.now) = omega (arith, ux, uy, e.1) in
+        (let units_same : length (units x.text.now) ≡ length (units y.text.now) =
+        omega (arith, ux, uy, e.1) in
         let h2 : is_lt later ≡ false = sym (ap (λ o. is_lt (ordering_then o later)) e.0) ∙ h in
         elim (cmp_cases x.saved.0 y.saved.0) [
           | inl l ↦ absurd (true≢false (sym (ap (λ o. is_lt (ordering_then o last)) l.0) ∙ h2))
           | inr (inr g) ↦ saves_more x.saved.0 y.saved.0 units_same sx sy g.1
-          | inr (inl f) ↦ smaller_bytes x.saved.0 units_same sx (subst (Saved S y.text.now) (sym f.1) sy)
-              (text_order x.text.now y.text.now (nat_cmp y.index x.index) (sym (ap (λ o. is_lt (ordering_then o last)) f.0) ∙ h2) ne)
+          | inr (inl f) ↦ smaller_bytes x.saved.0 units_same sx
+              (subst (Saved S y.text.now) (sym f.1) sy)
+              (text_order x.text.now y.text.now (nat_cmp y.index x.index)
+              (sym (ap (λ o. is_lt (ordering_then o last)) f.0) ∙ h2) ne)
         ])
   ]
     where
@@ -134,44 +157,79 @@ one_long = refl
 
 pub length-records : (qs : Texts) → length (flat_map record_units qs) ≡ sum_by size qs
 length-records [] = refl
-length-records (q ∷ qs) = omega (arith, length-append (record_units q) (flat_map record_units qs), length-append (marker q) (units q ++ 0 ∷ []), length-append (units q) (0 ∷ []), one_long, sum_by-cons size q qs, length-records qs)
+length-records (q ∷ qs) = omega (
+  arith,
+  length-append (record_units q) (flat_map record_units qs),
+  length-append (marker q) (units q ++ 0 ∷ []),
+  length-append (units q) (0 ∷ []),
+  one_long,
+  sum_by-cons size q qs,
+  length-records qs,
+)
 
-pub texts-take : (rs : List Record) (i : ℕ) (d : Record) → i < length rs → record_texts (take (i + 1) rs) ≡ record_texts (take i rs) ++ (get_or rs i d).text.now ∷ []
+pub texts-take : (rs : List Record) (i : ℕ) (d : Record) → i < length rs
+    → record_texts (take (i + 1) rs) ≡ record_texts (take i rs) ++ (get_or rs i d).text.now ∷ []
 texts-take rs i d h = map_more (λ (r : Record). r.text.now) rs i d h
 
-pub texts-split : (rs : List Record) (i : ℕ) (d : Record) → i < length rs → record_texts rs ≡ record_texts (take i rs) ++ (get_or rs i d).text.now ∷ record_texts (drop (suc i) rs)
+pub texts-split : (rs : List Record) (i : ℕ) (d : Record) → i < length rs
+    → record_texts rs ≡ record_texts (take i rs) ++ (get_or rs i d).text.now ∷ record_texts
+    (drop (suc i) rs)
 texts-split [] i d h = absurd (omega arith)
 texts-split (r ∷ rs) zero d h = refl
 texts-split (r ∷ rs) (suc i) d h = ap (λ l. r.text.now ∷ l) (texts-split rs i d (omega arith))
 
 -- a record closes behind those before it
-pub closes_at : (rs : List Record) (i : ℕ) (d : Record) (k : ℕ) → i < length rs → k ≡ sum_by size (record_texts (take i rs)) + size (get_or rs i d).text.now → ClosesAt (record_texts rs) (get_or rs i d).text.now k
-closes_at rs i d k h e = record { before = record_texts (take i rs); after = record_texts (drop (suc i) rs); is = texts-split rs i d h; place = e }
+pub closes_at : (rs : List Record) (i : ℕ) (d : Record) (k : ℕ) → i < length rs
+    → k ≡ sum_by size (record_texts (take i rs)) + size (get_or rs i d).text.now
+    → ClosesAt (record_texts rs) (get_or rs i d).text.now k
+closes_at rs i d k h e = record {
+  before = record_texts (take i rs);
+  after =
+      record_texts (drop (suc i) rs);
+  is = texts-split rs i d h;
+  place = e;
+}
 
 -- the place of a closing zero more
-pub ends_put : (rs : List Record) (i count : ℕ) (d : Record) (es : List ℕ) (k : ℕ) → i < length rs → AreIndexed rs count → length es ≡ count → AreEnds rs (take i rs) es
-    → ClosesAt (record_texts rs) (get_or rs i d).text.now k → AreEnds rs (take (i + 1) rs) (slice_set es (get_or rs i d).index k)
+pub ends_put : (rs : List Record) (i count : ℕ) (d : Record) (es : List ℕ) (k : ℕ) → i < length rs
+    → AreIndexed rs count → length es ≡ count → AreEnds rs (take i rs) es
+    → ClosesAt (record_texts rs) (get_or rs i d).text.now k
+    → AreEnds rs (take (i + 1) rs) (slice_set es (get_or rs i d).index k)
 ends_put rs i count d es k l x e h c = record {
   closes = λ j f m. elim (eq-or-lt_of_le (j_le j f m)) [
     | inl q ↦ last j f (suc_is j q)
     | inr b ↦ elim (cases_eq (get_or (take (i + 1) rs) j f).index (get_or rs i d).index) [
       | inl same ↦
-          let t : (get_or (take (i + 1) rs) j f).text.now ≡ (get_or rs i d).text.now = one_text j f (omega (arith, b)) same in
+          let t : (get_or (take (i + 1) rs) j f).text.now ≡ (get_or rs i d).text.now =
+          one_text j f (omega (arith, b)) same in
           at_index (get_or (take (i + 1) rs) j f) same t
       | inr ne ↦
-          let a : get_or (take (i + 1) rs) j f ≡ get_or (take i rs) j f = get_or-take (i + 1) rs j f (omega (arith, b)) ∙ sym (get_or-take i rs j f (omega (arith, b))) in
+          let a : get_or (take (i + 1) rs) j f ≡ get_or (take i rs) j f =
+          get_or-take (i + 1) rs j f (omega (arith, b))
+          ∙ sym (get_or-take i rs j f (omega (arith, b))) in
           let old = h.closes j f (omega (arith, b, length-take-le i rs (omega (arith, l)))) in
           let r = get_or (take (i + 1) rs) j f in
-          subst (λ n. ClosesAt (record_texts rs) r.text.now n) (sym (get_or-set_other es (get_or rs i d).index r.index k 0 ne))
-          (subst (λ (z : Record). ClosesAt (record_texts rs) z.text.now (get_or es z.index 0)) (sym a) old)
+          subst (λ n. ClosesAt (record_texts rs) r.text.now n)
+          (sym (get_or-set_other es (get_or rs i d).index r.index k 0 ne))
+          (subst (λ (z : Record). ClosesAt (record_texts rs) z.text.now (get_or es z.index 0))
+          (sym a) old)
     ]
   ];
   others = λ j f.
-      let ne : (get_or rs i d).index ≡ j → ⊥ = λ q. f i d (omega (arith, l, length-take-le (i + 1) rs (omega (arith, l))))
+      let ne : (get_or rs i d).index ≡ j
+      → ⊥ = λ q. f i d (omega (arith, l, length-take-le (i + 1) rs (omega (arith, l))))
       (ap (λ (z : Record). z.index) (get_or-take (i + 1) rs i d (omega arith)) ∙ q) in
       get_or-set_other es (get_or rs i d).index j k 0 (λ q. ne (sym q))
-      ∙ h.others j (λ m g b. λ q. f m g (omega (arith, b, length-take-le i rs (omega (arith, l)), length-take-le (i + 1) rs (omega (arith, l))))
-      (ap (λ (z : Record). z.index) (get_or-take (i + 1) rs m g (omega (arith, b, length-take-le i rs (omega (arith, l)))) ∙ sym (get_or-take i rs m g (omega (arith, b, length-take-le i rs (omega (arith, l)))))) ∙ q));
+      ∙ h.others j (λ m g b. λ q. f m g (omega (
+        arith,
+        b,
+        length-take-le i rs (omega (arith, l)),
+        length-take-le (i + 1) rs (omega (arith, l)),
+      ))
+      (ap (λ (z : Record). z.index) (get_or-take (i + 1) rs m g
+      (omega (arith, b, length-take-le i rs (omega (arith, l))))
+      ∙ sym (get_or-take i rs m g (omega (arith, b, length-take-le i rs (omega (arith, l))))))
+      ∙ q));
 }
   where
     j_le : (j : ℕ) (f : Record) → j < length (take (i + 1) rs) → suc j ≤ i + 1
@@ -180,23 +238,42 @@ ends_put rs i count d es k l x e h c = record {
     suc_is : (j : ℕ) → suc j ≡ i + 1 → j ≡ i
     suc_is j q = omega (arith, q)
 
-    at_index : (r : Record) → r.index ≡ (get_or rs i d).index → r.text.now ≡ (get_or rs i d).text.now → ClosesAt (record_texts rs) r.text.now (get_or (slice_set es (get_or rs i d).index k) r.index 0)
+    at_index : (r : Record) → r.index ≡ (get_or rs i d).index
+        → r.text.now ≡ (get_or rs i d).text.now
+        → ClosesAt (record_texts rs) r.text.now (get_or (slice_set es (get_or rs i d).index k)
+        r.index 0)
     at_index r same t =
-        let v : get_or (slice_set es (get_or rs i d).index k) r.index 0 ≡ k = ap (λ z. get_or (slice_set es (get_or rs i d).index k) z 0) same ∙ get_or-set_same es (get_or rs i d).index k 0 (omega (arith, e, x.within i d l)) in
-        subst (λ n. ClosesAt (record_texts rs) r.text.now n) (sym v) (subst (λ z. ClosesAt (record_texts rs) z k) (sym t) c)
+        let v : get_or (slice_set es (get_or rs i d).index k) r.index 0 ≡ k =
+        ap (λ z. get_or (slice_set es (get_or rs i d).index k) z 0) same
+        ∙ get_or-set_same es (get_or rs i d).index k 0 (omega (arith, e, x.within i d l)) in
+        subst (λ n. ClosesAt (record_texts rs) r.text.now n) (sym v)
+        (subst (λ z. ClosesAt (record_texts rs) z k) (sym t) c)
 
-    one_text : (j : ℕ) (f : Record) → j < i + 1 → (get_or (take (i + 1) rs) j f).index ≡ (get_or rs i d).index → (get_or (take (i + 1) rs) j f).text.now ≡ (get_or rs i d).text.now
+    one_text : (j : ℕ) (f : Record) → j < i + 1
+        → (get_or (take (i + 1) rs) j f).index ≡ (get_or rs i d).index
+        → (get_or (take (i + 1) rs) j f).text.now ≡ (get_or rs i d).text.now
     one_text j f b same =
-        let a : get_or (take (i + 1) rs) j f ≡ get_or rs j d = get_or-take (i + 1) rs j f b ∙ get_or_default rs j f d (omega (arith, b, l)) in
-        ap (λ (z : Record). z.text.now) a ∙ x.one j i d (omega (arith, b, l)) l (sym (ap (λ (z : Record). z.index) a) ∙ same)
+        let a : get_or (take (i + 1) rs) j f ≡ get_or rs j d = get_or-take (i + 1) rs j f b
+        ∙ get_or_default rs j f d (omega (arith, b, l)) in
+        ap (λ (z : Record). z.text.now) a
+        ∙ x.one j i d (omega (arith, b, l)) l (sym (ap (λ (z : Record). z.index) a) ∙ same)
 
-    last : (j : ℕ) (f : Record) → j ≡ i → ClosesAt (record_texts rs) (get_or (take (i + 1) rs) j f).text.now (get_or (slice_set es (get_or rs i d).index k) (get_or (take (i + 1) rs) j f).index 0)
+    last : (j : ℕ) (f : Record) → j ≡ i
+        → ClosesAt (record_texts rs) (get_or (take (i + 1) rs) j f).text.now
+        (get_or (slice_set es (get_or rs i d).index k) (get_or (take (i + 1) rs) j f).index 0)
     last j f q =
-        let a : get_or (take (i + 1) rs) j f ≡ get_or rs i d = get_or-take (i + 1) rs j f (omega (arith, q)) ∙ ap (λ z. get_or rs z f) q ∙ get_or_default rs i f d l in
-        at_index (get_or (take (i + 1) rs) j f) (ap (λ (z : Record). z.index) a) (ap (λ (z : Record). z.text.now) a)
+        let a : get_or (take (i + 1) rs) j f ≡ get_or rs i d =
+        get_or-take (i + 1) rs j f (omega (arith, q)) ∙ ap (λ z. get_or rs z f) q
+        ∙ get_or_default rs i f d l in
+        at_index (get_or (take (i + 1) rs) j f) (ap (λ (z : Record). z.index) a)
+        (ap (λ (z : Record). z.text.now) a)
 
 pub ends_none : (rs : List Record) (count : ℕ) → AreEnds rs [] (replicate count 0)
-ends_none rs count = record { closes = λ j f l. absurd (omega (arith, l)); others = λ j f. zeros count j }
+ends_none rs count = record {
+  closes = λ j f l. absurd (omega (arith, l));
+  others =
+      λ j f. zeros count j;
+}
   where
     zeros : (n j : ℕ) → get_or {A = ℕ} (replicate n 0) j 0 ≡ 0
     zeros zero j = refl
@@ -204,7 +281,9 @@ ends_none rs count = record { closes = λ j f l. absurd (omega (arith, l)); othe
     zeros (suc n) (suc j) = zeros n j
 
 -- so many units as the records before a record and itself take
-pub so_far : (rs : List Record) (i : ℕ) (d : Record) → i < length rs → sum_by size (record_texts (take i rs)) + size (get_or rs i d).text.now ≤ sum_by size (record_texts rs)
+pub so_far : (rs : List Record) (i : ℕ) (d : Record) → i < length rs
+    → sum_by size (record_texts (take i rs)) + size (get_or rs i d).text.now ≤ sum_by size
+    (record_texts rs)
 so_far rs i d h =
     let t = (get_or rs i d).text.now in
     let e = ap (sum_by size) (texts-split rs i d h) in
@@ -212,10 +291,14 @@ so_far rs i d h =
     let g = sum_by-cons size t (record_texts (drop (suc i) rs)) in
     omega (arith, e, f, g)
 
-pub records-push : (qs : Texts) (t : List ℕ) → flat_map record_units (qs ++ t ∷ []) ≡ flat_map record_units qs ++ record_units t
+pub records-push : (qs : Texts) (t : List ℕ)
+    → flat_map record_units (qs ++ t ∷ []) ≡ flat_map record_units qs ++ record_units t
 records-push [] t = append-nil (record_units t)
-records-push (q ∷ qs) t = ap (λ l. record_units q ++ l) (records-push qs t) ∙ sym (append_assoc (record_units q) (flat_map record_units qs) (record_units t))
+records-push (q ∷ qs) t = ap (λ l. record_units q ++ l) (records-push qs t)
+    ∙ sym (append_assoc (record_units q) (flat_map record_units qs) (record_units t))
 
-pub texts_flat : (xs ys : Texts) → flat_map record_units (xs ++ ys) ≡ flat_map record_units xs ++ flat_map record_units ys
+pub texts_flat : (xs ys : Texts) → flat_map record_units (xs ++ ys) ≡ flat_map record_units xs ++
+    flat_map record_units ys
 texts_flat [] ys = refl
-texts_flat (x ∷ xs) ys = ap (λ l. record_units x ++ l) (texts_flat xs ys) ∙ sym (append_assoc (record_units x) (flat_map record_units xs) (flat_map record_units ys))
+texts_flat (x ∷ xs) ys = ap (λ l. record_units x ++ l) (texts_flat xs ys)
+    ∙ sym (append_assoc (record_units x) (flat_map record_units xs) (flat_map record_units ys))

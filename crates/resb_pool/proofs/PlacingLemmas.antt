@@ -1,12 +1,14 @@
 -- What a turn adds to the records, and what texts that hold the same say of one another.
-use Rattle.std.proofs.Common.{◌≡◌, ◌<◌, ℕ, List, [], ◌∷◌, ◌++◌, length, None, ◌⊎◌, inl, inr, ◌↔◌, sym, ap, subst, arith}
+use Rattle.std.proofs.Common.{◌≡◌, ◌<◌, ℕ, List, [], ◌∷◌, ◌++◌, length, None, ◌⊎◌, inl, inr, ◌↔◌}
+use Rattle.std.proofs.Common.{sym, ap, subst, arith}
 use Rattle.std.specs.List.{Contains}
 use Rattle.std.specs.Map.{lookup}
 use Rattle.std.specs.Borrow.{Bor}
 use Rattle.std.specs.HashMap.{HashMap}
 use Rattle.resb_pool.specs.Plan.{at_text}
 use Rattle.std.specs.Str.{bytes_eq}
-use Rattle.std.proofs.lemmas.List.Elements.{Contains-append_left, Contains-push, Contains-push_cases}
+use Rattle.std.proofs.lemmas.List.Elements.{Contains-append_left, Contains-push}
+use Rattle.std.proofs.lemmas.List.Elements.{Contains-push_cases}
 use Rattle.resb_pool.specs.Records.{IsRecord, IsRecords}
 use Rattle.resb_pool.specs.Container.{IsContainer}
 use Rattle.resb_pool.specs.Inner.Placing.{text, LiesAt, AreRecordsAmong}
@@ -33,10 +35,19 @@ module _ (T S : Texts) (e : (s : List ℕ) → Contains T s ↔ Contains S s) wh
   }
 
   pub container_from : (s r : List ℕ) → IsContainer T s r → IsContainer S s r
-  container_from s r h = record { own = record_from r h.own; ends = h.ends; greatest = λ q x. h.greatest q (record_to q x) }
+  container_from s r h = record {
+    own = record_from r h.own;
+    ends = h.ends;
+    greatest =
+        λ q x. h.greatest q (record_to q x);
+  }
 
   pub records_from : (rs : Texts) → IsRecords T rs → IsRecords S rs
-  records_from rs h = record { once = h.once; just = λ s. (λ x. record_from s ((h.just s).0 x), λ x. (h.just s).1 (record_to s x)) }
+  records_from rs h = record {
+    once = h.once;
+    just =
+        λ s. (λ x. record_from s ((h.just s).0 x), λ x. (h.just s).1 (record_to s x));
+  }
 
 module _ (S D E : Texts) (t : List ℕ) (e : E ≡ D ++ t ∷ []) where
   in_more : (s : List ℕ) → Contains D s → Contains E s
@@ -53,27 +64,57 @@ module _ (S D E : Texts) (t : List ℕ) (e : E ≡ D ++ t ∷ []) where
     listed_keep back = record {
       once = h.once;
       sound = λ s x. let y = h.sound s x in (y.0, in_more s y.1);
-      complete = λ s r x. elim (more_cases s x) [ inl y ↦ h.complete s r y | inr q ↦ subst (Contains rs) q (h.complete t (subst (IsRecord S) (sym q) r) (back (subst (IsRecord S) (sym q) r))) ];
+      complete = λ s r x. elim (more_cases s x) [
+        | inl y ↦ h.complete s r y
+        | inr q ↦
+            subst (Contains rs) q (h.complete t (subst (IsRecord S) (sym q) r)
+            (back (subst (IsRecord S) (sym q) r)))
+      ];
     }
 
     pub listed_push : (Contains D t → ⊥) → IsRecord S t → AreRecordsAmong S E (rs ++ t ∷ [])
     listed_push fresh r = record {
       once = distinct_push rs t h.once (λ x. fresh (h.sound t x).1);
-      sound = λ s x. elim (Contains-push_cases rs t s x) [ inl y ↦ (let z = h.sound s y in (z.0, in_more s z.1)) | inr q ↦ (subst (IsRecord S) q r, subst (Contains E) q last_in) ];
-      complete = λ s q x. elim (more_cases s x) [ inl y ↦ Contains-append_left rs (t ∷ []) s (h.complete s q y) | inr z ↦ subst (Contains (rs ++ t ∷ [])) z (Contains-push rs t) ];
+      sound = λ s x. elim (Contains-push_cases rs t s x) [
+        | inl y ↦
+            (let z = h.sound s y in (z.0, in_more s z.1))
+        | inr q ↦
+            (subst (IsRecord S) q r, subst (Contains E) q last_in)
+      ];
+      complete = λ s q x. elim (more_cases s x) [
+        | inl y ↦
+            Contains-append_left rs (t ∷ []) s (h.complete s q y)
+        | inr z ↦
+            subst (Contains (rs ++ t ∷ [])) z (Contains-push rs t)
+      ];
     }
 
 pub records_all : (S rs : Texts) → AreRecordsAmong S S rs → IsRecords S rs
-records_all S rs h = record { once = h.once; just = λ s. (λ x. (h.sound s x).0, λ x. h.complete s x x.given) }
+records_all S rs h = record {
+  once = h.once;
+  just =
+      λ s. (λ x. (h.sound s x).0, λ x. h.complete s x x.given);
+}
 
-pub at_empty : {V H : Type 0} (m : HashMap (Bor (List ℕ)) V H) (q : List ℕ) → m.entries ≡ [] → at_text m q ≡ None
+pub at_empty : {V H : Type 0} (m : HashMap (Bor (List ℕ)) V H) (q : List ℕ) → m.entries ≡ []
+    → at_text m q ≡ None
 at_empty m q e = ap (lookup (λ k. bytes_eq q k.now)) e
 
 pub none_listed : (T rs : Texts) → rs ≡ [] → AreRecordsAmong T [] rs
-none_listed T rs e = subst (AreRecordsAmong T []) (sym e) (record { once = tt; sound = λ s x. absurd (omega (arith, x.1)); complete = λ s r x. absurd (omega (arith, x.1)) })
+none_listed T rs e = subst (AreRecordsAmong T []) (sym e) (record {
+  once = tt;
+  sound =
+      λ s x. absurd (omega (arith, x.1));
+  complete = λ s r x. absurd (omega (arith, x.1));
+})
 
 -- a text that isn't empty and lies in itself is a record
-pub lies_in_itself : (T : Texts) (i r : ℕ) → LiesAt T i r → r ≡ i → (length (text T i) ≡ 0 → ⊥) → IsRecord T (text T i)
+pub lies_in_itself : (T : Texts) (i r : ℕ) → LiesAt T i r → r ≡ i → (length (text T i) ≡ 0 → ⊥)
+    → IsRecord T (text T i)
 lies_in_itself T i r at e full =
-    let pos : 0 < length (text T i) = elim (cases_lt 0 (length (text T i))) [ inl p ↦ p | inr z ↦ absurd (full (omega (arith, z))) ] in
+    let pos : 0 < length (text T i) = elim (cases_lt 0 (length (text T i))) [
+      | inl p ↦ p
+      | inr z ↦
+          absurd (full (omega (arith, z)))
+    ] in
     subst (λ n. IsRecord T (text T n)) e (at.container pos).own

@@ -1,5 +1,8 @@
 -- From the texts, places, sums, records and closing zeros to the plan.
-use Rattle.std.proofs.Common.{◌≡◌, ℕ, zero, suc, ◌+◌, ◌<◌, ◌≤◌, ◌^◌, List, [], ◌∷◌, length, map, get_or, Bool, Bor, true, false, cond, not, Option, Some, None, MatchOption, ◌↔◌, refl, sym, ◌∙◌, ap, subst, arith, true≢false, inl, inr}
+use Rattle.std.proofs.Common.{◌≡◌, ℕ, zero, suc, ◌+◌, ◌<◌, ◌≤◌, ◌^◌, List, [], ◌∷◌, length, map}
+use Rattle.std.proofs.Common.{get_or, Bool, Bor, true, false, cond, not, Option, Some, None}
+use Rattle.std.proofs.Common.{MatchOption, ◌↔◌, refl, sym, ◌∙◌, ap, subst, arith, true≢false, inl}
+use Rattle.std.proofs.Common.{inr}
 use Rattle.std.specs.Prelude.{slice_get, position, nat_le, nat_lt, ◌&&◌}
 use Rattle.std.specs.Char.Escape.{encode_utf16}
 use Rattle.std.proofs.lemmas.Str.{chars-nil}
@@ -15,9 +18,12 @@ use Rattle.std.proofs.lemmas.List.Sums.{sum_by-cons, sum_by-append}
 use Rattle.resb_format.specs.Units.{units, size, length_marker}
 use Rattle.resb_pool.specs.Records.{IsRecord, IsRecords}
 use Rattle.resb_pool.specs.Container.{IsContainer}
-use Rattle.resb_pool.specs.Pool.{LiesIn, SizeIn, Saved, Precedes, record_units, ClosesAt, Off, off_empty, off_within}
+use Rattle.resb_pool.specs.Pool.{LiesIn, SizeIn, Saved, Precedes, record_units, ClosesAt, Off}
+use Rattle.resb_pool.specs.Pool.{off_empty, off_within}
 use Rattle.resb_pool.specs.Plan.{nows, texts_size, IsPlan}
-use Rattle.resb_pool.specs.Inner.Placing.{text, copies, AreTexts, ArePlaces, AreSums, lying_in, IsRecordOf, AreIndexed, AreEnds, record_texts, record_cmp, offset_by, ClosesWithin}
+use Rattle.resb_pool.specs.Inner.Placing.{text, copies, AreTexts, ArePlaces, AreSums, lying_in}
+use Rattle.resb_pool.specs.Inner.Placing.{IsRecordOf, AreIndexed, AreEnds, record_texts, record_cmp}
+use Rattle.resb_pool.specs.Inner.Placing.{offset_by, ClosesWithin}
 use Rattle.resb_pool.specs.declared.measure.Measure.{Measure}
 use Rattle.resb_pool.specs.declared.places.Place.{Place}
 use Rattle.resb_pool.specs.declared.records.Record.{Record}
@@ -28,7 +34,8 @@ use Rattle.resb_pool.proofs.Sizes.{sizes_within}
 use Rattle.resb_pool.proofs.Sums.{sized, totals_of, copies_of_all}
 use Rattle.resb_pool.proofs.PlacingLemmas.{record_from, container_from, records_from}
 use Rattle.resb_pool.proofs.SharingLemmas.{own_size, size_within}
-use Rattle.resb_pool.proofs.OrderingLemmas.{length-records, neighbours_differ, text_at_index, in_order}
+use Rattle.resb_pool.proofs.OrderingLemmas.{length-records, neighbours_differ, text_at_index}
+use Rattle.resb_pool.proofs.OrderingLemmas.{in_order}
 
 abbrev Texts : Type 0
 Texts = List (List ℕ)
@@ -46,227 +53,325 @@ no_record = record { unit_count = 0; saved = record { 0 = 0 }; text = blank; ind
 size_nil : size [] ≡ 1
 size_nil =
     let e : units [] ≡ [] = ap (flat_map encode_utf16) chars-nil in
-    ap (λ us. length (cond (nat_le (length us) 40 && true) [] (length_marker (length us))) + length us + 1) e
+    ap (λ us. length (cond (nat_le (length us) 40 && true) [] (length_marker (length us))) + length
+    us + 1) e
 
-module _ (S T : Texts) (ms : List Measure) (given : AreTexts S T ms) (small : texts_size S < 2 ^ 28) (ps : List Place) (placed : ArePlaces T ps) (measures : map (λ (p : Place). p.measure) ps ≡ ms) where
-  abbrev back : (s : List ℕ) → Contains S s ↔ Contains T s
-  back s = ((given.same s).1, (given.same s).0)
+module _ (S T : Texts) (ms : List Measure) (given : AreTexts S T ms) (small : texts_size S < 2 ^ 28)
+    (ps : List Place) (placed : ArePlaces T ps) (measures : map (λ (p : Place). p.measure) ps ≡ ms)
+  where
+    abbrev back : (s : List ℕ) → Contains S s ↔ Contains T s
+    back s = ((given.same s).1, (given.same s).0)
 
-  total_is : (i : ℕ) (d : Place) → i < length T → (get_or ps i d).measure.total ≡ copies S (text T i)
-  total_is i d l = sym (ap (λ m. m.total) (measure_at i d l)) ∙ (given.measured i d.measure l).total_is
-    where
-      measure_at : (i : ℕ) (d : Place) → i < length T → get_or ms i d.measure ≡ (get_or ps i d).measure
-      measure_at i d l = ap (λ (z : List Measure). get_or z i d.measure) (sym measures) ∙ get_or-map (λ (p : Place). p.measure) ps i d d.measure (omega (arith, l, placed.len))
+    total_is : (i : ℕ) (d : Place) → i < length T
+        → (get_or ps i d).measure.total ≡ copies S (text T i)
+    total_is i d l = sym (ap (λ m. m.total) (measure_at i d l))
+        ∙ (given.measured i d.measure l).total_is
+      where
+        measure_at : (i : ℕ) (d : Place) → i < length T
+            → get_or ms i d.measure ≡ (get_or ps i d).measure
+        measure_at i d l = ap (λ (z : List Measure). get_or z i d.measure) (sym measures)
+            ∙ get_or-map (λ (p : Place). p.measure) ps i d d.measure (omega (arith, l, placed.len))
 
-  pub unit_count_is : (i : ℕ) (d : Place) → i < length T → (get_or ps i d).measure.unit_count ≡ length (units (text T i))
-  unit_count_is i d l = sym (ap (λ m. m.unit_count) (measure_at i d l)) ∙ (given.measured i d.measure l).units_is
-    where
-      measure_at : (i : ℕ) (d : Place) → i < length T → get_or ms i d.measure ≡ (get_or ps i d).measure
-      measure_at i d l = ap (λ (z : List Measure). get_or z i d.measure) (sym measures) ∙ get_or-map (λ (p : Place). p.measure) ps i d d.measure (omega (arith, l, placed.len))
+    pub unit_count_is : (i : ℕ) (d : Place) → i < length T
+        → (get_or ps i d).measure.unit_count ≡ length (units (text T i))
+    unit_count_is i d l = sym (ap (λ m. m.unit_count) (measure_at i d l))
+        ∙ (given.measured i d.measure l).units_is
+      where
+        measure_at : (i : ℕ) (d : Place) → i < length T
+            → get_or ms i d.measure ≡ (get_or ps i d).measure
+        measure_at i d l = ap (λ (z : List Measure). get_or z i d.measure) (sym measures)
+            ∙ get_or-map (λ (p : Place). p.measure) ps i d d.measure (omega (arith, l, placed.len))
 
-  pub size_is : (i : ℕ) (d : Place) → i < length T → (get_or ps i d).measure.size ≡ size (text T i)
-  size_is i d l = sym (ap (λ m. m.size) (measure_at i d l)) ∙ (given.measured i d.measure l).size_is
-    where
-      measure_at : (i : ℕ) (d : Place) → i < length T → get_or ms i d.measure ≡ (get_or ps i d).measure
-      measure_at i d l = ap (λ (z : List Measure). get_or z i d.measure) (sym measures) ∙ get_or-map (λ (p : Place). p.measure) ps i d d.measure (omega (arith, l, placed.len))
+    pub size_is : (i : ℕ) (d : Place) → i < length T → (get_or ps i d).measure.size ≡ size (text T i)
+    size_is i d l = sym (ap (λ m. m.size) (measure_at i d l)) ∙ (given.measured i d.measure l).size_is
+      where
+        measure_at : (i : ℕ) (d : Place) → i < length T
+            → get_or ms i d.measure ≡ (get_or ps i d).measure
+        measure_at i d l = ap (λ (z : List Measure). get_or z i d.measure) (sym measures)
+            ∙ get_or-map (λ (p : Place). p.measure) ps i d d.measure (omega (arith, l, placed.len))
 
-  pub places_within : All (λ p. p.record < length ps) ps
-  places_within i d l = omega (arith, (placed.lies i d (omega (arith, l, placed.len))).within, placed.len)
+    pub places_within : All (λ p. p.record < length ps) ps
+    places_within i d l = omega (
+      arith,
+      (placed.lies i d (omega (arith, l, placed.len))).within,
+      placed.len,
+    )
 
-  sizes_small : sum_by size S < 2 ^ 28
-  sizes_small = omega (arith, sizes_within S, small)
+    sizes_small : sum_by size S < 2 ^ 28
+    sizes_small = omega (arith, sizes_within S, small)
 
-  pub totals_small : sum_by (λ (p : Place). p.measure.total) ps < 2 ^ 32
-  totals_small = omega (arith, totals_of S ps T placed.len total_is, copies_of_all T S given.once, sizes_small)
+    pub totals_small : sum_by (λ (p : Place). p.measure.total) ps < 2 ^ 32
+    totals_small = omega (
+      arith,
+      totals_of S ps T placed.len total_is,
+      copies_of_all T S given.once,
+      sizes_small,
+    )
 
-  no_place : Place
-  no_place = record { «record» = 0; measure = record { unit_count = 0; size = 0; total = 0 } }
+    no_place : Place
+    no_place = record { «record» = 0; measure = record { unit_count = 0; size = 0; total = 0 } }
 
-  record_in : (q : ℕ) → q < length T → IsRecord T (text T q) → SizeIn S (text T q) S (lying_in ps q)
-  record_in q l r = sized S T given.utf8 given.once given.same ps placed total_is q l r no_place
+    record_in : (q : ℕ) → q < length T → IsRecord T (text T q) → SizeIn S (text T q) S (lying_in ps q)
+    record_in q l r = sized S T given.utf8 given.once given.same ps placed total_is q l r no_place
 
-  -- a record lies in itself
-  own_container : (q : ℕ) → q < length T → IsRecord T (text T q) → IsContainer S (text T q) (text T q)
-  own_container q l r =
-      let at = placed.lies q no_place l in
-      container_from T S given.same (text T q) (text T q) (subst (λ n. IsContainer T (text T q) (text T n)) (at.itself r) (at.container r.nonempty))
+    -- a record lies in itself
+    own_container : (q : ℕ) → q < length T → IsRecord T (text T q)
+        → IsContainer S (text T q) (text T q)
+    own_container q l r =
+        let at = placed.lies q no_place l in
+        container_from T S given.same (text T q) (text T q)
+        (subst (λ n. IsContainer T (text T q) (text T n)) (at.itself r) (at.container r.nonempty))
 
-  module _ (sums : List ℕ) (len : length sums ≡ length ps) (sum_is : (q : ℕ) → q < length ps → get_or sums q 0 ≡ lying_in ps q) where
-    pub sums_are : AreSums T ps sums
-    sums_are = record {
-      len = len ∙ placed.len;
-      units_is = unit_count_is;
-      size_is = size_is;
-      own = λ q l r.
-          let c = own_container q l r in
-          let o = own_size S (text T q) (record { nonempty = r.nonempty; container = c }) S (lying_in ps q) (record_in q l r) c.own.given in
-          omega (arith, o, sum_is q (omega (arith, l, placed.len)));
-    }
-
-    module _ (v : List Record) (records : IsRecords T (record_texts v)) (each : All (IsRecordOf T sums) v) where
-      pub counts : All (λ r. r.unit_count ≡ length (units r.text.now)) v
-      counts = λ i d l. (each i d l).units_is
-
-      pub indexed : AreIndexed v (length ps)
-      indexed = record {
-        within = λ i d l. omega (arith, (each i d l).within, placed.len);
-        one = λ j k d l m e. (each j d l).text_is ∙ ap (text T) e ∙ sym (each k d m).text_is;
+    module _ (sums : List ℕ) (len : length sums ≡ length ps) (sum_is : (q : ℕ) → q < length ps
+        → get_or sums q 0 ≡ lying_in ps q) where
+      pub sums_are : AreSums T ps sums
+      sums_are = record {
+        len = len ∙ placed.len;
+        units_is = unit_count_is;
+        size_is = size_is;
+        own = λ q l r.
+            let c = own_container q l r in
+            let o = own_size S (text T q) (record { nonempty = r.nonempty; container = c }) S
+            (lying_in ps q) (record_in q l r) c.own.given in
+            omega (arith, o, sum_is q (omega (arith, l, placed.len)));
       }
 
-      in_given : IsRecords S (record_texts v)
-      in_given = records_from T S given.same (record_texts v) records
+      module _ (v : List Record) (records : IsRecords T (record_texts v))
+          (each : All (IsRecordOf T sums) v) where
+        pub counts : All (λ r. r.unit_count ≡ length (units r.text.now)) v
+        counts = λ i d l. (each i d l).units_is
 
-      pub laid_within : sum_by size (record_texts v) ≤ sum_by size S
-      laid_within = into_least size (λ p r. p ≡ r) (λ p q r e f. e ∙ sym f) (record_texts v) S in_given.once (λ q c. (q, ((in_given.just q).0 c).given, refl, omega arith))
-
-      pub laid_small : sum_by size (record_texts v) < 2 ^ 28
-      laid_small = omega (arith, laid_within, sizes_small)
-
-      saved_at : (i : ℕ) (d : Record) → i < length v → Saved S (get_or v i d).text.now (get_or v i d).saved.0
-      saved_at i d l =
-          let r = get_or v i d in
-          let e = each i d l in
-          let own : IsRecord T (text T r.index) = subst (IsRecord T) e.text_is ((records.just r.text.now).0 (contains_text v i d l)) in
-          let n : lying_in ps r.index ≡ r.saved.0 + size r.text.now = sym (sum_is r.index (omega (arith, e.within, placed.len))) ∙ sym e.saved_is in
-          subst (λ z. SizeIn S z S (r.saved.0 + size z)) (sym e.text_is) (subst (SizeIn S (text T r.index) S) (n ∙ ap (λ z. r.saved.0 + size z) e.text_is) (record_in r.index e.within own))
-        where
-          contains_text : (v : List Record) (i : ℕ) (d : Record) → i < length v → Contains (record_texts v) (get_or v i d).text.now
-          contains_text v i d l =
-              (i, omega (arith, l, texts_len v), get_or-map (λ (r : Record). r.text.now) v i d (get_or v i d).text.now l)
-
-      module _ (es : List ℕ) (count : length es ≡ length ps) (ends : AreEnds v v es) where
-        closed : (q : ℕ) → q < length T → IsRecord T (text T q) → ClosesAt (record_texts v) (text T q) (get_or es q 0)
-        closed q l r = at (index_of (record_texts v) (text T q) ((records.just (text T q)).1 r))
-          where
-            at : (f : (i : ℕ) × (i < length (record_texts v)) × (text (record_texts v) i ≡ text T q)) → ClosesAt (record_texts v) (text T q) (get_or es q 0)
-            at f =
-                let i : ℕ = f.0 in
-                let k : i < length v = omega (arith, f.1, texts_len v) in
-                let x : Record = get_or v i no_record in
-                let e = each i no_record k in
-                let t : x.text.now ≡ text T q = sym (get_or-map (λ (r : Record). r.text.now) v i no_record [] k) ∙ f.2 in
-                let n : x.index ≡ q = one_index T x.index q given.once e.within l (sym e.text_is ∙ t) in
-                subst (λ z. ClosesAt (record_texts v) z (get_or es q 0)) t (subst (λ z. ClosesAt (record_texts v) x.text.now (get_or es z 0)) n (ends.closes i no_record k))
-
-        closes_within : (r : List ℕ) (k : ℕ) → ClosesAt (record_texts v) r k → k ≤ sum_by size (record_texts v)
-        closes_within r k c = omega (arith, c.place, ap (sum_by size) c.is, sum_by-append size c.before (r ∷ c.after), sum_by-cons size r c.after)
-
-        -- the empty text is no record
-        empty_zero : (q : ℕ) → q < length T → length (text T q) ≡ 0 → get_or es q 0 ≡ 0
-        empty_zero q l z = ends.others q (λ i d k e.
-            let o = each i d k in
-            let c : Contains (record_texts v) (get_or v i d).text.now = (i, omega (arith, k, texts_len v), get_or-map (λ (r : Record). r.text.now) v i d (get_or v i d).text.now k) in
-            let n = ((records.just (get_or v i d).text.now).0 c).nonempty in
-            omega (arith, n, z, ap length (o.text_is ∙ ap (text T) e)))
-
-        -- where the record of a text closes
-        record_end : (i : ℕ) (d : Place) → i < length T → 0 < length (text T i) → LiesIn S (text T i) (text T (get_or ps i d).record)
-            × ClosesAt (record_texts v) (text T (get_or ps i d).record) (get_or es (get_or ps i d).record 0) × (size (text T i) ≤ size (text T (get_or ps i d).record))
-        record_end i d l pos =
-            let at = placed.lies i d l in
-            let c = at.container pos in
-            let own = container_from T S given.same (text T i) (text T (get_or ps i d).record) c in
-            let w = size_within S given.utf8 (text T i) (text T (get_or ps i d).record) ((given.same (text T i)).0 (has_text T i l)) own
-            (λ r. ap (text T) (at.itself (record_from S T back (text T i) r))) pos in
-            (record { nonempty = pos; container = own }, closed (get_or ps i d).record at.within c.own, w)
-
-        -- the empty text closes at unit 0
-        empty_end : (i : ℕ) (d : Place) → i < length T → length (text T i) ≡ 0 → (get_or es (get_or ps i d).record 0 ≡ 0) × (size (text T i) ≡ 1)
-        empty_end i d l z = (
-          ap (λ n. get_or es n 0) ((placed.lies i d l).empty z) ∙ empty_zero i l z,
-          ap size (nil_from_length (text T i) z) ∙ size_nil,
-        )
-
-        pub all_close : All (ClosesWithin es) ps
-        all_close = λ i d l.
-            let m : i < length T = omega (arith, l, placed.len) in
-            let at = placed.lies i d m in
-            let w : get_or ps i d ≡ get_or ps i d = refl in
-            elim (cases_lt 0 (length (text T i))) [
-              | inl pos ↦
-                  let e = record_end i d m pos in
-                  record {
-                    within = omega (arith, at.within, count, placed.len);
-                    reaches = omega (arith, size_is i d m, e.2, e.1.place);
-                    small = omega (arith, closes_within (text T (get_or ps i d).record) (get_or es (get_or ps i d).record 0) e.1, laid_small);
-                  }
-              | inr z ↦
-                  let e = empty_end i d m (omega (arith, z)) in
-                  record {
-                    within = omega (arith, at.within, count, placed.len);
-                    reaches = omega (arith, size_is i d m, e.1);
-                    small = omega (arith, e.0);
-                  }
-            ]
-
-        stands : (i : ℕ) (d : Place) → i < length T → Off S (record_texts v) (text T i) (offset_by es (get_or ps i d))
-        stands i d l = elim (cases_lt 0 (length (text T i))) [
-          | inl pos ↦
-              let e = record_end i d l pos in
-              off_within {s = text T i} {r = text T (get_or ps i d).record} {k = offset_by es (get_or ps i d)} {c = get_or es (get_or ps i d).record 0} e.0 e.1 (omega (arith, size_is i d l, e.2, e.1.place))
-          | inr z ↦
-              let e = empty_end i d l (omega (arith, z)) in
-              let k : offset_by es (get_or ps i d) ≡ 0 = omega (arith, size_is i d l, e.0, e.1) in
-              subst (Off S (record_texts v) (text T i)) (sym k) (subst (λ s. Off S (record_texts v) s 0) (sym (nil_from_length (text T i) (omega (arith, z)))) off_empty)
-        ]
-
-        pub planned : IsSorted record_cmp v → All (λ s. length (units s) ≤ 4294967295) S → (us : List ℕ) (offset : List ℕ → Option ℕ) → us ≡ 0 ∷ flat_map record_units (record_texts v)
-            → ((s : List ℕ) → MatchOption (offset s) (Contains T s → ⊥) (λ k. (i : ℕ) × (i < length T) × (text T i ≡ s) × (k ≡ get_or (map (offset_by es) ps) i 0))) → IsPlan S us offset
-        planned sorted short us offset u f = record {
-          texts = given.utf8;
-          short = short;
-          room = omega (arith, ap length u, length-records (record_texts v), laid_small);
-          records = record_texts v;
-          pool = record {
-            records = in_given;
-            ordered = λ k lt. precedes k lt;
-            units = u;
-          };
-          offsets = λ s. by s (offset s) (f s);
+        pub indexed : AreIndexed v (length ps)
+        indexed = record {
+          within = λ i d l. omega (arith, (each i d l).within, placed.len);
+          one = λ j k d l m e. (each j d l).text_is ∙ ap (text T) e ∙ sym (each k d m).text_is;
         }
-          where
-            by : (s : List ℕ) (o : Option ℕ) → MatchOption o (Contains T s → ⊥) (λ k. (i : ℕ) × (i < length T) × (text T i ≡ s) × (k ≡ get_or (map (offset_by es) ps) i 0))
-                → MatchOption o (Contains S s → ⊥) (λ k. Contains S s × Off S (record_texts v) s k)
-            by s None h = λ c. h ((given.same s).1 c)
-            by s (Some k) (i, l, e, q) =
-                let n : k ≡ offset_by es (get_or ps i no_place) = q ∙ get_or-map (offset_by es) ps i no_place 0 (omega (arith, l, placed.len)) in
-                ((given.same s).0 (subst (Contains T) e (has_text T i l)), subst (λ z. Off S (record_texts v) z k) e (subst (Off S (record_texts v) (text T i)) (sym n) (stands i no_place l)))
 
-            precedes : (k : ℕ) → k + 1 < length (record_texts v) → Precedes S (get_or (record_texts v) k []) (get_or (record_texts v) (k + 1) [])
-            precedes k lt =
-                let Q = record_texts v in
-                let n = texts_len v in
-                let next : suc k ≡ k + 1 = omega arith in
-                let a : k < length v = omega (arith, n) in
-                let b : k + 1 < length v = omega (arith, n) in
-                let here = text_at_index v k no_record a in
-                let there = text_at_index v (k + 1) no_record b in
-                let x = get_or v k no_record in
-                let y = get_or v (k + 1) no_record in
-                let ne : x.text.now ≡ y.text.now → ⊥ = λ q. neighbours_differ Q k records.once (omega arith) (here ∙ q ∙ sym there ∙ ap (λ i. get_or Q i []) (sym next)) in
-                subst (λ z. Precedes S z (get_or Q (k + 1) [])) (sym here) (subst (Precedes S x.text.now) (sym there)
-                (in_order S x y (each k no_record a).units_is (each (k + 1) no_record b).units_is (saved_at k no_record a) (saved_at (k + 1) no_record b) (sorted k no_record (omega arith) b) ne))
+        in_given : IsRecords S (record_texts v)
+        in_given = records_from T S given.same (record_texts v) records
+
+        pub laid_within : sum_by size (record_texts v) ≤ sum_by size S
+        laid_within = into_least size (λ p r. p ≡ r) (λ p q r e f. e ∙ sym f) (record_texts v) S
+            in_given.once (λ q c. (q, ((in_given.just q).0 c).given, refl, omega arith))
+
+        pub laid_small : sum_by size (record_texts v) < 2 ^ 28
+        laid_small = omega (arith, laid_within, sizes_small)
+
+        saved_at : (i : ℕ) (d : Record) → i < length v
+            → Saved S (get_or v i d).text.now (get_or v i d).saved.0
+        saved_at i d l =
+            let r = get_or v i d in
+            let e = each i d l in
+            let own : IsRecord T (text T r.index) =
+            subst (IsRecord T) e.text_is ((records.just r.text.now).0 (contains_text v i d l)) in
+            let n : lying_in ps r.index ≡ r.saved.0 + size r.text.now =
+            sym (sum_is r.index (omega (arith, e.within, placed.len))) ∙ sym e.saved_is in
+            subst (λ z. SizeIn S z S (r.saved.0 + size z)) (sym e.text_is)
+            (subst (SizeIn S (text T r.index) S) (n ∙ ap (λ z. r.saved.0 + size z) e.text_is)
+            (record_in r.index e.within own))
+          where
+            contains_text : (v : List Record) (i : ℕ) (d : Record) → i < length v
+                → Contains (record_texts v) (get_or v i d).text.now
+            contains_text v i d l = (
+              i,
+              omega (arith, l, texts_len v),
+              get_or-map (λ (r : Record). r.text.now) v i d
+                  (get_or v i d).text.now l,
+            )
+
+        module _ (es : List ℕ) (count : length es ≡ length ps) (ends : AreEnds v v es) where
+          closed : (q : ℕ) → q < length T → IsRecord T (text T q)
+              → ClosesAt (record_texts v) (text T q) (get_or es q 0)
+          closed q l r = at (index_of (record_texts v) (text T q) ((records.just (text T q)).1 r))
+            where
+              at : (f : (i : ℕ) × (i < length (record_texts v))
+                  × (text (record_texts v) i ≡ text T q))
+                  → ClosesAt (record_texts v) (text T q) (get_or es q 0)
+              at f =
+                  let i : ℕ = f.0 in
+                  let k : i < length v = omega (arith, f.1, texts_len v) in
+                  let x : Record = get_or v i no_record in
+                  let e = each i no_record k in
+                  let t : x.text.now ≡ text T q =
+                  sym (get_or-map (λ (r : Record). r.text.now) v i no_record [] k) ∙ f.2 in
+                  let n : x.index ≡ q = one_index T x.index q given.once e.within l (sym e.text_is
+                  ∙ t) in
+                  subst (λ z. ClosesAt (record_texts v) z (get_or es q 0)) t
+                  (subst (λ z. ClosesAt (record_texts v) x.text.now (get_or es z 0)) n
+                  (ends.closes i no_record k))
+
+          closes_within : (r : List ℕ) (k : ℕ) → ClosesAt (record_texts v) r k
+              → k ≤ sum_by size (record_texts v)
+          closes_within r k c = omega (
+            arith,
+            c.place,
+            ap (sum_by size) c.is,
+            sum_by-append size c.before (r ∷ c.after),
+            sum_by-cons size r c.after,
+          )
+
+          -- the empty text is no record
+          empty_zero : (q : ℕ) → q < length T → length (text T q) ≡ 0 → get_or es q 0 ≡ 0
+          empty_zero q l z = ends.others q (λ i d k e.
+              let o = each i d k in
+              let c : Contains (record_texts v) (get_or v i d).text.now = (
+                i,
+                omega (arith, k, texts_len v),
+                get_or-map (λ (r : Record). r.text.now) v i d
+                    (get_or v i d).text.now k,
+              ) in
+              let n = ((records.just (get_or v i d).text.now).0 c).nonempty in
+              omega (arith, n, z, ap length (o.text_is ∙ ap (text T) e)))
+
+          -- where the record of a text closes
+          record_end : (i : ℕ) (d : Place) → i < length T → 0 < length (text T i)
+              → LiesIn S (text T i) (text T (get_or ps i d).record)
+              × ClosesAt (record_texts v) (text T (get_or ps i d).record)
+              (get_or es (get_or ps i d).record 0)
+              × (size (text T i) ≤ size (text T (get_or ps i d).record))
+          record_end i d l pos =
+              let at = placed.lies i d l in
+              let c = at.container pos in
+              let own = container_from T S given.same (text T i) (text T (get_or ps i d).record) c in
+              let w = size_within S given.utf8 (text T i) (text T (get_or ps i d).record)
+              ((given.same (text T i)).0 (has_text T i l)) own
+              (λ r. ap (text T) (at.itself (record_from S T back (text T i) r))) pos in (
+                record { nonempty = pos; container = own },
+                closed (get_or ps i d).record at.within
+                    c.own,
+                w,
+              )
+
+          -- the empty text closes at unit 0
+          empty_end : (i : ℕ) (d : Place) → i < length T → length (text T i) ≡ 0
+              → (get_or es (get_or ps i d).record 0 ≡ 0) × (size (text T i) ≡ 1)
+          empty_end i d l z = (
+            ap (λ n. get_or es n 0) ((placed.lies i d l).empty z) ∙ empty_zero i l z,
+            ap size (nil_from_length (text T i) z) ∙ size_nil,
+          )
+
+          pub all_close : All (ClosesWithin es) ps
+          all_close = λ i d l.
+              let m : i < length T = omega (arith, l, placed.len) in
+              let at = placed.lies i d m in
+              let w : get_or ps i d ≡ get_or ps i d = refl in
+              elim (cases_lt 0 (length (text T i))) [
+                | inl pos ↦
+                    let e = record_end i d m pos in
+                    record {
+                      within = omega (arith, at.within, count, placed.len);
+                      reaches = omega (arith, size_is i d m, e.2, e.1.place);
+                      small = omega (
+                        arith,
+                        closes_within (text T (get_or ps i d).record)
+                            (get_or es (get_or ps i d).record 0) e.1,
+                        laid_small,
+                      );
+                    }
+                | inr z ↦
+                    let e = empty_end i d m (omega (arith, z)) in
+                    record {
+                      within = omega (arith, at.within, count, placed.len);
+                      reaches = omega (arith, size_is i d m, e.1);
+                      small = omega (arith, e.0);
+                    }
+              ]
+
+          stands : (i : ℕ) (d : Place) → i < length T
+              → Off S (record_texts v) (text T i) (offset_by es (get_or ps i d))
+          stands i d l = elim (cases_lt 0 (length (text T i))) [
+            | inl pos ↦
+                let e = record_end i d l pos in
+                off_within {s = text T i} {r = text T (get_or ps i d).record} {k =
+                offset_by es (get_or ps i d)} {c = get_or es (get_or ps i d).record 0} e.0 e.1
+                (omega (arith, size_is i d l, e.2, e.1.place))
+            | inr z ↦
+                let e = empty_end i d l (omega (arith, z)) in
+                let k : offset_by es (get_or ps i d) ≡ 0 = omega (arith, size_is i d l, e.0, e.1) in
+                subst (Off S (record_texts v) (text T i)) (sym k)
+                (subst (λ s. Off S (record_texts v) s 0)
+                (sym (nil_from_length (text T i) (omega (arith, z)))) off_empty)
+          ]
+
+          pub planned : IsSorted record_cmp v → All (λ s. length (units s) ≤ 4294967295) S
+              → (us : List ℕ) (offset : List ℕ → Option ℕ)
+              → us ≡ 0 ∷ flat_map record_units (record_texts v)
+              → ((s : List ℕ) → MatchOption (offset s) (Contains T s → ⊥) (λ k. (i : ℕ)
+              × (i < length T) × (text T i ≡ s) × (k ≡ get_or (map (offset_by es) ps) i 0)))
+              → IsPlan S us offset
+          planned sorted short us offset u f = record {
+            texts = given.utf8;
+            short = short;
+            room = omega (arith, ap length u, length-records (record_texts v), laid_small);
+            records = record_texts v;
+            pool = record {
+              records = in_given;
+              ordered = λ k lt. precedes k lt;
+              units = u;
+            };
+            offsets = λ s. by s (offset s) (f s);
+          }
+            where
+              by : (s : List ℕ) (o : Option ℕ) → MatchOption o (Contains T s → ⊥) (λ k. (i : ℕ)
+                  × (i < length T) × (text T i ≡ s) × (k ≡ get_or (map (offset_by es) ps) i 0))
+                  → MatchOption o (Contains S s → ⊥) (λ k. Contains S s × Off S (record_texts v) s k)
+              by s None h = λ c. h ((given.same s).1 c)
+              by s (Some k) (i, l, e, q) =
+                  let n : k ≡ offset_by es (get_or ps i no_place) = q
+                  ∙ get_or-map (offset_by es) ps i no_place 0 (omega (arith, l, placed.len)) in (
+                    (given.same s).0 (subst (Contains T) e (has_text T i l)),
+                    subst (λ z. Off S (record_texts v) z k) e
+                        (subst (Off S (record_texts v) (text T i)) (sym n) (stands i no_place l)),
+                  )
+
+              precedes : (k : ℕ) → k + 1 < length (record_texts v)
+                  → Precedes S (get_or (record_texts v) k []) (get_or (record_texts v) (k + 1) [])
+              precedes k lt =
+                  let Q = record_texts v in
+                  let n = texts_len v in
+                  let next : suc k ≡ k + 1 = omega arith in
+                  let a : k < length v = omega (arith, n) in
+                  let b : k + 1 < length v = omega (arith, n) in
+                  let here = text_at_index v k no_record a in
+                  let there = text_at_index v (k + 1) no_record b in
+                  let x = get_or v k no_record in
+                  let y = get_or v (k + 1) no_record in
+                  let ne : x.text.now ≡ y.text.now
+                  → ⊥ = λ q. neighbours_differ Q k records.once (omega arith) (here ∙ q
+                  ∙ sym there ∙ ap (λ i. get_or Q i []) (sym next)) in
+                  subst (λ z. Precedes S z (get_or Q (k + 1) [])) (sym here)
+                  (subst (Precedes S x.text.now) (sym there)
+                  (in_order S x y (each k no_record a).units_is (each (k + 1) no_record b).units_is
+                  (saved_at k no_record a) (saved_at (k + 1) no_record b)
+                  (sorted k no_record (omega arith) b) ne))
 
 -- the place of a text among keys
 module _ (s : List ℕ) where
   abbrev is_it : Bor (List ℕ) → Bool
   is_it k = bytes_eq s k.now
 
-  found_at : (ks : List (Bor (List ℕ))) → position_or_len is_it ks < length ks → text (nows ks) (position_or_len is_it ks) ≡ s
+  found_at : (ks : List (Bor (List ℕ))) → position_or_len is_it ks < length ks
+      → text (nows ks) (position_or_len is_it ks) ≡ s
   found_at [] l = absurd (omega (arith, l))
   found_at (k ∷ ks) l = by (found_at ks) (bytes_eq s k.now) refl l
     where
-      by : (position_or_len is_it ks < length ks → text (nows ks) (position_or_len is_it ks) ≡ s) → (b : Bool) → bytes_eq s k.now ≡ b → cond (not b) (1 + position_or_len is_it ks) 0 < length (k ∷ ks) → text (nows (k ∷ ks)) (cond (not b) (1 + position_or_len is_it ks) 0) ≡ s
+      by : (position_or_len is_it ks < length ks → text (nows ks) (position_or_len is_it ks) ≡ s)
+          → (b : Bool) → bytes_eq s k.now ≡ b
+          → cond (not b) (1 + position_or_len is_it ks) 0 < length (k ∷ ks)
+          → text (nows (k ∷ ks)) (cond (not b) (1 + position_or_len is_it ks) 0) ≡ s
       by rest true e m = sym ((bytes_decides s k.now).0 e)
       by rest false e m =
           let n : 1 + position_or_len is_it ks ≡ suc (position_or_len is_it ks) = omega arith in
           ap (text (nows (k ∷ ks))) n ∙ rest (omega (arith, m))
 
-  nowhere : (ks : List (Bor (List ℕ))) → length ks ≤ position_or_len is_it ks → Contains (nows ks) s → ⊥
+  nowhere : (ks : List (Bor (List ℕ))) → length ks ≤ position_or_len is_it ks → Contains (nows ks) s
+      → ⊥
   nowhere [] l c = omega (arith, c.1)
   nowhere (k ∷ ks) l c = by (nowhere ks) (bytes_eq s k.now) refl l c
     where
-      by : (length ks ≤ position_or_len is_it ks → Contains (nows ks) s → ⊥) → (b : Bool) → bytes_eq s k.now ≡ b → length (k ∷ ks) ≤ cond (not b) (1 + position_or_len is_it ks) 0 → Contains (nows (k ∷ ks)) s → ⊥
+      by : (length ks ≤ position_or_len is_it ks → Contains (nows ks) s → ⊥) → (b : Bool)
+          → bytes_eq s k.now ≡ b → length (k ∷ ks) ≤ cond (not b) (1 + position_or_len is_it ks) 0
+          → Contains (nows (k ∷ ks)) s → ⊥
       by rest true e m d = omega (arith, m)
       by rest false e m (zero, lt, is) = true≢false (sym ((bytes_decides s k.now).1 (sym is)) ∙ e)
       by rest false e m (suc i, lt, is) = rest (omega (arith, m)) (i, omega (arith, lt), is)
@@ -277,16 +382,22 @@ module _ (s : List ℕ) where
   get_some (x ∷ xs) (suc i) l = get_some xs i (omega (arith, l))
 
   pub offset_at : (ks : List (Bor (List ℕ))) (os : List ℕ) → length os ≡ length ks
-      → MatchOption (option_and_then (slice_get os) (position is_it ks)) (Contains (nows ks) s → ⊥) (λ k. (i : ℕ) × (i < length (nows ks)) × (text (nows ks) i ≡ s) × (k ≡ get_or os i 0))
+      → MatchOption (option_and_then (slice_get os) (position is_it ks)) (Contains (nows ks) s
+      → ⊥) (λ k. (i : ℕ) × (i < length (nows ks)) × (text (nows ks) i ≡ s)
+      × (k ≡ get_or os i 0))
   offset_at ks os e = by (nat_lt (position_or_len is_it ks) (length ks)) refl
     where
       n : ℕ
       n = position_or_len is_it ks
 
       by : (b : Bool) → nat_lt n (length ks) ≡ b
-          → MatchOption (option_and_then (slice_get os) (cond b (Some n) None)) (Contains (nows ks) s → ⊥) (λ k. (i : ℕ) × (i < length (nows ks)) × (text (nows ks) i ≡ s) × (k ≡ get_or os i 0))
+          → MatchOption (option_and_then (slice_get os) (cond b (Some n) None))
+          (Contains (nows ks) s → ⊥) (λ k. (i : ℕ) × (i < length (nows ks))
+          × (text (nows ks) i ≡ s) × (k ≡ get_or os i 0))
       by true f =
           let l : n < length ks = ltb-true n (length ks) f in
-          subst (λ o. MatchOption o (Contains (nows ks) s → ⊥) (λ k. (i : ℕ) × (i < length (nows ks)) × (text (nows ks) i ≡ s) × (k ≡ get_or os i 0))) (sym (get_some os n (omega (arith, l, e))))
+          subst (λ o. MatchOption o (Contains (nows ks) s → ⊥) (λ k. (i : ℕ)
+          × (i < length (nows ks)) × (text (nows ks) i ≡ s) × (k ≡ get_or os i 0)))
+          (sym (get_some os n (omega (arith, l, e))))
           (n, omega (arith, l, length-map ks (λ (k : Bor (List ℕ)). k.now)), found_at ks l, refl)
       by false f = nowhere ks (ltb-false n (length ks) f)

@@ -1,5 +1,6 @@
 -- A text lies in one record, and what the texts that lie in a record take.
-use Rattle.std.proofs.Common.{◌≡◌, ℕ, zero, suc, ◌+◌, ◌<◌, ◌≤◌, List, [], length, Bool, true, false, cond, refl, sym, ◌∙◌, ap, subst, arith, reverse, length-append, inl}
+use Rattle.std.proofs.Common.{◌≡◌, ℕ, zero, suc, ◌+◌, ◌<◌, ◌≤◌, List, [], length, Bool, true, false}
+use Rattle.std.proofs.Common.{cond, refl, sym, ◌∙◌, ap, subst, arith, reverse, length-append, inl}
 use Rattle.std.specs.List.{All, Contains}
 use Rattle.std.specs.Str.{IsUtf8, chars}
 use Rattle.std.specs.Ordering.{ordering_reverse}
@@ -21,23 +22,30 @@ Texts = List (List ℕ)
 module _ (S : Texts) (texts : All IsUtf8 S) where
   pub one_container : (s r q : List ℕ) → IsContainer S s r → IsContainer S s q → r ≡ q
   one_container s r q a b =
-      key_same r q (All-contains IsUtf8 S r texts a.own.given) (All-contains IsUtf8 S q texts b.own.given) (by (suffix_cmp r q) refl)
+      key_same r q (All-contains IsUtf8 S r texts a.own.given)
+      (All-contains IsUtf8 S q texts b.own.given) (by (suffix_cmp r q) refl)
     where
       by : (o : Ordering) → suffix_cmp r q ≡ o → reverse (chars r) ≡ reverse (chars q)
-      by Less e = absurd (a.greatest q b.own b.ends (end_last_total.antisymm (reverse (chars q)) (reverse (chars r)) ∙ ap ordering_reverse e))
+      by Less e = absurd (a.greatest q b.own b.ends (end_last_total.antisymm (reverse (chars q))
+          (reverse (chars r)) ∙ ap ordering_reverse e))
       by Equal e = tied_same (reverse (chars r)) (reverse (chars q)) e
       by Greater e = absurd (b.greatest r a.own a.ends e)
 
 -- a record's own copy counts
-pub own_size : (S : Texts) (q : List ℕ) → LiesIn S q q → (ss : Texts) (n : ℕ) → SizeIn S q ss n → Contains ss q → size q ≤ n
+pub own_size : (S : Texts) (q : List ℕ) → LiesIn S q q → (ss : Texts) (n : ℕ) → SizeIn S q ss n
+    → Contains ss q → size q ≤ n
 own_size S q l _ _ size_none c = absurd (omega (arith, c.1))
 own_size S q l _ _ (size_here {s = t} {ss} {n} k h) (zero, lt, is) = omega (arith, ap size is)
-own_size S q l _ _ (size_here {s = t} {ss} {n} k h) (suc j, lt, is) = omega (arith, own_size S q l ss n h (j, omega arith, is))
-own_size S q l _ _ (size_elsewhere {s = t} {ss} {n} k h) (zero, lt, is) = absurd (k (subst (λ z. LiesIn S z q) (sym is) l))
-own_size S q l _ _ (size_elsewhere {s = t} {ss} {n} k h) (suc j, lt, is) = own_size S q l ss n h (j, omega arith, is)
+own_size S q l _ _ (size_here {s = t} {ss} {n} k h) (suc j, lt, is) =
+    omega (arith, own_size S q l ss n h (j, omega arith, is))
+own_size S q l _ _ (size_elsewhere {s = t} {ss} {n} k h) (zero, lt, is) =
+    absurd (k (subst (λ z. LiesIn S z q) (sym is) l))
+own_size S q l _ _ (size_elsewhere {s = t} {ss} {n} k h) (suc j, lt, is) =
+    own_size S q l ss n h (j, omega arith, is)
 
 -- a text takes no more than the record in which it lies
-pub size_within : (S : Texts) → All IsUtf8 S → (s r : List ℕ) → Contains S s → IsContainer S s r → (IsRecord S s → r ≡ s) → 0 < length s → size s ≤ size r
+pub size_within : (S : Texts) → All IsUtf8 S → (s r : List ℕ) → Contains S s → IsContainer S s r
+    → (IsRecord S s → r ≡ s) → 0 < length s → size s ≤ size r
 size_within S texts s r c k itself pos = by (is_unmarked s) refl
   where
     unmarked_le : (m n a b : ℕ) → m ≡ 0 → a ≤ b → m + a + 1 ≤ n + b + 1
@@ -45,9 +53,12 @@ size_within S texts s r c k itself pos = by (is_unmarked s) refl
 
     by : (b : Bool) → is_unmarked s ≡ b → size s ≤ size r
     by true e =
-        let f = units_end r s (All-contains IsUtf8 S r texts k.own.given) (All-contains IsUtf8 S s texts c) k.ends in
-        let m : length (marker s) ≡ 0 = ap (λ b. length (cond b [] (length_marker (length (units s))))) e in
-        unmarked_le (length (marker s)) (length (marker r)) (length (units s)) (length (units r)) m (omega (arith, ap length f, length-append (units k.ends.front) (units s)))
+        let f = units_end r s (All-contains IsUtf8 S r texts k.own.given)
+        (All-contains IsUtf8 S s texts c) k.ends in
+        let m : length (marker s) ≡ 0 =
+        ap (λ b. length (cond b [] (length_marker (length (units s))))) e in
+        unmarked_le (length (marker s)) (length (marker r)) (length (units s)) (length (units r)) m
+        (omega (arith, ap length f, length-append (units k.ends.front) (units s)))
     by false e =
         let same : r ≡ s = itself (record { given = c; nonempty = pos; alone = inl e }) in
         omega (arith, ap size same)

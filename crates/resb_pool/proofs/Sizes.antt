@@ -1,5 +1,6 @@
 -- How large texts are, and what all copies of a text take.
-use Rattle.std.proofs.Common.{◌≡◌, ℕ, suc, ◌+◌, ◌/◌, ◌%◌, ◌<◌, ◌≤◌, ◌^◌, List, [], ◌∷◌, ◌++◌, length, Bool, true, false, cond, refl, sym, ◌∙◌, ap, arith}
+use Rattle.std.proofs.Common.{◌≡◌, ℕ, suc, ◌+◌, ◌/◌, ◌%◌, ◌<◌, ◌≤◌, ◌^◌, List, [], ◌∷◌, ◌++◌}
+use Rattle.std.proofs.Common.{length, Bool, true, false, cond, refl, sym, ◌∙◌, ap, arith}
 use Rattle.std.specs.List.{All, Contains, sum_by}
 use Rattle.std.specs.Prelude.{nat_le}
 use Rattle.std.specs.Str.{bytes_eq}
@@ -16,7 +17,9 @@ Texts = List (List ℕ)
 marked_le : (n : ℕ) → length (length_marker n) ≤ 3
 marked_le n = by (nat_le n 0x3ee) (nat_le n 0xf_ffff)
   where
-    by : (a b : Bool) → length (cond a ((0xdc00 + n) ∷ []) (cond b ((0xdfef + n / 0x1_0000) ∷ (n % 0x1_0000) ∷ []) (0xdfff ∷ (n / 0x1_0000) ∷ (n % 0x1_0000) ∷ []))) ≤ 3
+    by : (a b : Bool) → length (cond a ((0xdc00 + n) ∷ [])
+        (cond b ((0xdfef + n / 0x1_0000) ∷ (n % 0x1_0000) ∷ [])
+        (0xdfff ∷ (n / 0x1_0000) ∷ (n % 0x1_0000) ∷ []))) ≤ 3
     by true b = omega arith
     by false true = omega arith
     by false false = omega arith
@@ -29,13 +32,15 @@ marker_le s = by (is_unmarked s)
     by false = marked_le (length (units s))
 
 pub sizes_within : (S : Texts) → sum_by size S ≤ texts_size S
-sizes_within S = sum_by-le-sum_by size (λ s. 16 + length (units s)) S (λ s. omega (arith, marker_le s))
+sizes_within S = sum_by-le-sum_by size (λ s. 16 + length (units s)) S
+    (λ s. omega (arith, marker_le s))
 
 pub texts_short : (S : Texts) → texts_size S < 2 ^ 28 → All (λ s. length (units s) < 2 ^ 28) S
 texts_short [] h = All-nil (λ s. length (units s) < 2 ^ 28)
 texts_short (s ∷ S) h =
     let e = sum_by-cons (λ (r : List ℕ). 16 + length (units r)) s S in
-    All-cons (λ r. length (units r) < 2 ^ 28) s S (omega (arith, e)) (texts_short S (omega (arith, e)))
+    All-cons (λ r. length (units r) < 2 ^ 28) s S (omega (arith, e))
+    (texts_short S (omega (arith, e)))
 
 -- what a copy of s adds to the copies of t
 abbrev pub copy : List ℕ → List ℕ → ℕ
@@ -72,4 +77,5 @@ copies_none (s ∷ D) t f =
     omega (arith, copies-cons s t D, n, z)
 
 pub copies_within : (D : Texts) (t : List ℕ) → copies D t ≤ texts_size D
-copies_within D t = sum_by-le-sum_by (copy t) (λ s. 16 + length (units s)) D (λ s. omega (arith, marker_le s, copy_le t s))
+copies_within D t = sum_by-le-sum_by (copy t) (λ s. 16 + length (units s)) D
+    (λ s. omega (arith, marker_le s, copy_le t s))

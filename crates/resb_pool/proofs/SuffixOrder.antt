@@ -1,11 +1,13 @@
 -- The suffix order is total, and what ends with a text stands just before it.
-use Rattle.std.proofs.Common.{◌≡◌, ℕ, ◌<◌, List, [], ◌∷◌, ◌++◌, ◌⊎◌, inl, inr, refl, sym, ◌∙◌, ap, subst, append-nil, reverse}
+use Rattle.std.proofs.Common.{◌≡◌, ℕ, ◌<◌, List, [], ◌∷◌, ◌++◌, ◌⊎◌, inl, inr, refl, sym, ◌∙◌, ap}
+use Rattle.std.proofs.Common.{subst, append-nil, reverse}
 use Rattle.std.specs.Cmp.{IsTotalOrder}
 use Rattle.std.specs.Cmp.Lexicographic.{slice_cmp}
 use Rattle.std.specs.Ordering.{nat_cmp, ordering_then, ordering_reverse}
 use Rattle.std.specs.declared.cmp.Ordering.{Ordering}
 use Rattle.std.specs.declared.cmp.Ordering.TheVariants.{Less, Equal, Greater}
-use Rattle.std.proofs.lemmas.Cmp.{lists_total, then_total, on_total, nat_cmp_total, tied_itself, ranked, by_ranked}
+use Rattle.std.proofs.lemmas.Cmp.{lists_total, then_total, on_total, nat_cmp_total, tied_itself}
+use Rattle.std.proofs.lemmas.Cmp.{ranked, by_ranked}
 use Rattle.std.specs.Str.{chars}
 use Rattle.resb_pool.specs.Order.{end_last_cmp, suffix_cmp}
 use Rattle.resb_pool.specs.Inner.Extends.{Extends, Before, NotAfter}
@@ -19,7 +21,8 @@ abbrev by_pair : ℕ × ℕ → ℕ × ℕ → Ordering
 by_pair p q = ordering_then (nat_cmp p.0 q.0) (nat_cmp p.1 q.1)
 
 by_pair_total : IsTotalOrder by_pair
-by_pair_total = then_total (on_total (λ (p : ℕ × ℕ). p.0) nat_cmp_total) (on_total (λ (p : ℕ × ℕ). p.1) nat_cmp_total)
+by_pair_total = then_total (on_total (λ (p : ℕ × ℕ). p.0) nat_cmp_total)
+    (on_total (λ (p : ℕ × ℕ). p.1) nat_cmp_total)
 
 as_marked : (xs ys : List ℕ) → slice_cmp by_pair (marked xs) (marked ys) ≡ end_last_cmp xs ys
 unfolding marked
@@ -30,15 +33,20 @@ as_marked (x ∷ xs) (y ∷ ys) = ap (ordering_then (nat_cmp x y)) (as_marked xs
 
 pub end_last_total : IsTotalOrder end_last_cmp
 end_last_total =
-    let o : IsTotalOrder (λ xs ys. slice_cmp by_pair (marked xs) (marked ys)) = on_total marked (lists_total by_pair_total) in
+    let o : IsTotalOrder (λ xs ys. slice_cmp by_pair (marked xs) (marked ys)) =
+    on_total marked (lists_total by_pair_total) in
     subst (λ (R : List ℕ → List ℕ → Ordering). IsTotalOrder R) (λ i x y. as_marked x y i) o
 
 -- how two letters compare, both ways
-letters : (x y : ℕ) → ((nat_cmp x y ≡ Less) × (nat_cmp y x ≡ Greater)) ⊎ (((nat_cmp x y ≡ Equal) × (nat_cmp y x ≡ Equal) × (x ≡ y)) ⊎ ((nat_cmp x y ≡ Greater) × (nat_cmp y x ≡ Less)))
+letters : (x y : ℕ) → ((nat_cmp x y ≡ Less) × (nat_cmp y x ≡ Greater))
+    ⊎ (((nat_cmp x y ≡ Equal) × (nat_cmp y x ≡ Equal) × (x ≡ y))
+    ⊎ ((nat_cmp x y ≡ Greater) × (nat_cmp y x ≡ Less)))
 letters x y =
-    let back : (a b : ℕ) (o : Ordering) → nat_cmp a b ≡ o → nat_cmp b a ≡ ordering_reverse o = λ a b o e. nat_cmp_total.antisymm b a ∙ ap ordering_reverse e in
+    let back : (a b : ℕ) (o : Ordering) → nat_cmp a b ≡ o → nat_cmp b a ≡ ordering_reverse o =
+    λ a b o e. nat_cmp_total.antisymm b a ∙ ap ordering_reverse e in
     by_ranked (x < y) (x ≡ y) (y < x) (nat_cmp x y) (ranked x y (nat_cmp x y) refl)
-    (λ e _. inl (e, back x y Less e)) (λ e h. inr (inl (e, back x y Equal e, h))) (λ e _. inr (inr (e, back x y Greater e)))
+    (λ e _. inl (e, back x y Less e)) (λ e h. inr (inl (e, back x y Equal e, h)))
+    (λ e _. inr (inr (e, back x y Greater e)))
 
 then_less : (o p : Ordering) → o ≡ Less → ordering_then o p ≡ Less
 then_less o p e = rw e refl
@@ -56,13 +64,15 @@ tied_same [] (y ∷ ys) e = cc
 tied_same (x ∷ xs) [] e = cc
 tied_same (x ∷ xs) (y ∷ ys) e = elim (letters x y) [
   | inl h ↦ cc (then_less (nat_cmp x y) (end_last_cmp xs ys) h.0)
-  | inr (inl h) ↦ (let k = tied_same xs ys (sym (then_equal (nat_cmp x y) (end_last_cmp xs ys) h.0) ∙ e) in cc)
+  | inr (inl h) ↦ (let k = tied_same xs ys (sym (then_equal (nat_cmp x y) (end_last_cmp xs ys) h.0)
+      ∙ e) in cc)
   | inr (inr h) ↦ cc (then_greater (nat_cmp x y) (end_last_cmp xs ys) h.0)
 ]
 
 longer_before : (s : List ℕ) (z : ℕ) (rest : List ℕ) → Before (s ++ z ∷ rest) s
 longer_before [] z rest = refl
-longer_before (x ∷ s) z rest = then_equal (nat_cmp x x) (end_last_cmp (s ++ z ∷ rest) s) (tied_itself nat_cmp_total x) ∙ longer_before s z rest
+longer_before (x ∷ s) z rest = then_equal (nat_cmp x x) (end_last_cmp (s ++ z ∷ rest) s)
+    (tied_itself nat_cmp_total x) ∙ longer_before s z rest
 
 -- what extends a text stands before it
 pub extends_before : (t s : List ℕ) → Extends t s → (t ≡ s → ⊥) → Before t s
@@ -77,7 +87,9 @@ between [] rest u a b = record { rest = u; is = refl }
 between (x ∷ s) rest [] a b = absurd (b refl)
 between (x ∷ s) rest (y ∷ u) a b = elim (letters x y) [
   | inl h ↦ absurd (b (then_greater (nat_cmp y x) (end_last_cmp u s) h.1))
-  | inr (inl h) ↦ (let k = between s rest u (λ e. a (then_equal (nat_cmp x y) (end_last_cmp (s ++ rest) u) h.0 ∙ e)) (λ e. b (then_equal (nat_cmp y x) (end_last_cmp u s) h.1 ∙ e)) in
+  | inr (inl h) ↦ (let k = between s rest u
+      (λ e. a (then_equal (nat_cmp x y) (end_last_cmp (s ++ rest) u) h.0 ∙ e))
+      (λ e. b (then_equal (nat_cmp y x) (end_last_cmp u s) h.1 ∙ e)) in
       let f : y ∷ u ≡ x ∷ (s ++ k.rest) = cc in record { rest = k.rest; is = f })
   | inr (inr h) ↦ absurd (a (then_greater (nat_cmp x y) (end_last_cmp (s ++ rest) u) h.0))
 ]
@@ -86,7 +98,8 @@ between (x ∷ s) rest (y ∷ u) a b = elim (letters x y) [
 pub extends_between : (t u s : List ℕ) → Extends t s → NotAfter t u → NotAfter u s → Extends u s
 extends_between t u s h a b = between s h.rest u (subst (λ l. NotAfter l u) h.is a) b
 
--- the text t stands just before s among S: if any text of S properly extends s, then t does, and none of those stands after t
+-- the text t stands just before s among S: if any text of S properly extends s, then t does, and
+-- none of those stands after t
 pub neighbour : (S : List ℕ → Type 0) (t s : List ℕ)
     → ((u : List ℕ) → S u → Before u s → NotAfter u t) → Before t s
     → (u : List ℕ) → S u → Extends u s → (u ≡ s → ⊥) → Extends t s × NotAfter u t
@@ -94,13 +107,15 @@ neighbour S t s none_between b u in' h ne =
     let low = none_between u in' (extends_before u s h ne) in
     (extends_between u t s h low (λ e. cc), low)
 
--- Where s gives way to t, and t to r, the greatest of the texts R that extends t is the greatest of them that extends s.
+-- Where s gives way to t, and t to r, the greatest of the texts R that extends t is the greatest of
+-- them that extends s.
 pub linked : (R : List ℕ → Type 0) (t s r : List ℕ) → Extends t s
     → Extends r t → ((u : List ℕ) → R u → Extends u t → NotAfter u r)
     → ((u : List ℕ) → R u → Extends u s → NotAfter u t)
     → (u : List ℕ) → R u → Extends u s → NotAfter u r
 linked R t s r hs hr best low u in' h e =
-    best u in' (extends_between r u t hr (λ f. let k = end_last_total.antisymm r u ∙ ap ordering_reverse e in cc) (low u in' h)) e
+    best u in' (extends_between r u t hr (λ f. let k = end_last_total.antisymm r u
+    ∙ ap ordering_reverse e in cc) (low u in' h)) e
 
 -- the order of texts
 pub suffix_total : IsTotalOrder suffix_cmp

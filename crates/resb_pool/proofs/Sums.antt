@@ -1,5 +1,7 @@
 -- What all copies that lie in a record take: by the texts, and by the strings one after the other.
-use Rattle.std.proofs.Common.{◌≡◌, ℕ, zero, suc, ◌+◌, ◌<◌, ◌≤◌, List, [], ◌∷◌, length, get_or, take, Bool, true, false, cond, ◌↔◌, refl, sym, ◌∙◌, ap, subst, arith, true≢false}
+use Rattle.std.proofs.Common.{◌≡◌, ℕ, zero, suc, ◌+◌, ◌<◌, ◌≤◌, List, [], ◌∷◌, length, get_or, take}
+use Rattle.std.proofs.Common.{Bool, true, false, cond, ◌↔◌, refl, sym, ◌∙◌, ap, subst, arith}
+use Rattle.std.proofs.Common.{true≢false}
 use Rattle.std.specs.Prelude.{nat_eq}
 use Rattle.std.specs.List.{All, Contains, sum_by}
 use Rattle.std.specs.Str.{bytes_eq, IsUtf8}
@@ -58,12 +60,15 @@ part q [] T s = 0
 part q (p ∷ ps) [] s = 0
 part q (p ∷ ps) (t ∷ T) s = if_in p q (copy t s) + part q ps T s
 
-share_all : (q : ℕ) (S : Texts) (ps : List Place) (T : Texts) → length ps ≡ length T → ((i : ℕ) (d : Place) → i < length T → (get_or ps i d).measure.total ≡ copies S (text T i)) → lying_in ps q ≡ share q ps T S
+share_all : (q : ℕ) (S : Texts) (ps : List Place) (T : Texts) → length ps ≡ length T
+    → ((i : ℕ) (d : Place) → i < length T → (get_or ps i d).measure.total ≡ copies S (text T i))
+    → lying_in ps q ≡ share q ps T S
 share_all q S [] T e h = refl
 share_all q S (p ∷ ps) [] e h = absurd (omega (arith, e))
 share_all q S (p ∷ ps) (t ∷ T) e h =
     let rest = share_all q S ps T (omega (arith, e)) (λ i d l. h (suc i) d (omega (arith, l))) in
-    let first : if_in p q p.measure.total ≡ if_in p q (copies S t) = ap (if_in p q) (h 0 p (omega arith)) in
+    let first : if_in p q p.measure.total ≡ if_in p q (copies S t) =
+    ap (if_in p q) (h 0 p (omega arith)) in
     omega (arith, sum_by-cons (λ (z : Place). if_in z q z.measure.total) p ps, first, rest)
 
 share_none : (q : ℕ) (ps : List Place) (T : Texts) → share q ps T [] ≡ 0
@@ -71,110 +76,195 @@ share_none q [] T = refl
 share_none q (p ∷ ps) [] = refl
 share_none q (p ∷ ps) (t ∷ T) = omega (arith, if_in_zero p q 0 refl, share_none q ps T)
 
-share-cons : (q : ℕ) (ps : List Place) (T : Texts) (s : List ℕ) (ss : Texts) → share q ps T (s ∷ ss) ≡ part q ps T s + share q ps T ss
+share-cons : (q : ℕ) (ps : List Place) (T : Texts) (s : List ℕ) (ss : Texts)
+    → share q ps T (s ∷ ss) ≡ part q ps T s + share q ps T ss
 share-cons q [] T s ss = refl
 share-cons q (p ∷ ps) [] s ss = refl
-share-cons q (p ∷ ps) (t ∷ T) s ss = omega (arith, if_in_sum p q (copy t s) (copies ss t) (copies (s ∷ ss) t) (copies-cons s t ss), share-cons q ps T s ss)
+share-cons q (p ∷ ps) (t ∷ T) s ss =
+    omega (
+      arith,
+      if_in_sum p q (copy t s) (copies ss t) (copies (s ∷ ss) t) (copies-cons s t ss),
+      share-cons q ps T s ss,
+    )
 
-part_none : (q : ℕ) (ps : List Place) (T : Texts) (s : List ℕ) → (Contains T s → ⊥) → part q ps T s ≡ 0
+part_none : (q : ℕ) (ps : List Place) (T : Texts) (s : List ℕ) → (Contains T s → ⊥)
+    → part q ps T s ≡ 0
 part_none q [] T s f = refl
 part_none q (p ∷ ps) [] s f = refl
 part_none q (p ∷ ps) (t ∷ T) s f =
-    omega (arith, if_in_zero p q (copy t s) (copy_other t s (λ e. f (0, omega arith, e))), part_none q ps T s (λ c. f (suc c.0, omega (arith, c.1), c.2)))
+    omega (
+      arith,
+      if_in_zero p q (copy t s) (copy_other t s (λ e. f (0, omega arith, e))),
+      part_none q ps T s (λ c. f (suc c.0, omega (arith, c.1), c.2)),
+    )
 
 -- a text takes part in the record in which it lies
-part_at : (q : ℕ) (ps : List Place) (T : Texts) (s : List ℕ) (j : ℕ) (d : Place) → length ps ≡ length T → IsDistinct T → j < length T → text T j ≡ s → part q ps T s ≡ if_in (get_or ps j d) q (size s)
+part_at : (q : ℕ) (ps : List Place) (T : Texts) (s : List ℕ) (j : ℕ) (d : Place)
+    → length ps ≡ length T → IsDistinct T → j < length T → text T j ≡ s
+    → part q ps T s ≡ if_in (get_or ps j d) q (size s)
 part_at q [] T s j d e u l h = absurd (omega (arith, e, l))
 part_at q (p ∷ ps) [] s j d e u l h = absurd (omega (arith, l))
 part_at q (p ∷ ps) (t ∷ T) s zero d e u l h =
     let first : if_in p q (copy t s) ≡ if_in p q (size s) = ap (if_in p q) (copy_same t s h) in
     omega (arith, first, part_none q ps T s (λ c. u.0 (subst (Contains T) (sym h) c)))
 part_at q (p ∷ ps) (t ∷ T) s (suc j) d e u l h =
-    let apart : t ≡ s → ⊥ = λ g. u.0 (subst (Contains T) (h ∙ sym g) (has_text T j (omega (arith, l)))) in
-    omega (arith, if_in_zero p q (copy t s) (copy_other t s apart), part_at q ps T s j d (omega (arith, e)) u.1 (omega (arith, l)) h)
+    let apart : t ≡ s → ⊥ = λ g. u.0 (subst (Contains T) (h
+    ∙ sym g) (has_text T j (omega (arith, l)))) in
+    omega (
+      arith,
+      if_in_zero p q (copy t s) (copy_other t s apart),
+      part_at q ps T s j d (omega (arith, e)) u.1 (omega (arith, l)) h,
+    )
 
 more_than_zero : (n : ℕ) → (n ≡ 0 → ⊥) → 0 < n
 more_than_zero zero f = absurd (f refl)
 more_than_zero (suc n) f = omega arith
 
-module _ (S T : Texts) (texts : All IsUtf8 S) (once : IsDistinct T) (same : (s : List ℕ) → Contains T s ↔ Contains S s) (ps : List Place) (placed : ArePlaces T ps)
-    (totals : (i : ℕ) (d : Place) → i < length T → (get_or ps i d).measure.total ≡ copies S (text T i)) where
+module _ (S T : Texts) (texts : All IsUtf8 S) (once : IsDistinct T) (same : (s : List ℕ)
+    → Contains T s ↔ Contains S s) (ps : List Place) (placed : ArePlaces T ps)
+    (totals : (i : ℕ) (d : Place) → i < length T
+    → (get_or ps i d).measure.total ≡ copies S (text T i)) where
   module _ (q : ℕ) (l : q < length T) (r : IsRecord T (text T q)) (d : Place) where
-    shares : (ss : Texts) → ((s : List ℕ) → Contains ss s → Contains T s) → SizeIn S (text T q) ss (share q ps T ss)
+    shares : (ss : Texts) → ((s : List ℕ) → Contains ss s → Contains T s)
+        → SizeIn S (text T q) ss (share q ps T ss)
     shares [] h = subst (SizeIn S (text T q) []) (sym (share_none q ps T)) size_none
     shares (s ∷ ss) h =
         let f = index_of T s (h s (0, omega arith, refl)) in
         let j : ℕ = f.0 in
         let at = placed.lies j d f.1 in
         let rest = shares ss (λ z c. h z (suc c.0, omega (arith, c.1), c.2)) in
-        let e : share q ps T (s ∷ ss) ≡ if_in (get_or ps j d) q (size s) + share q ps T ss = omega (arith, share-cons q ps T s ss, part_at q ps T s j d placed.len once f.1 f.2) in
-        subst (SizeIn S (text T q) (s ∷ ss)) (sym e) (by f at rest (nat_eq (get_or ps j d).record q) refl)
+        let e : share q ps T (s ∷ ss) ≡ if_in (get_or ps j d) q (size s) + share q ps T ss =
+        omega (arith, share-cons q ps T s ss, part_at q ps T s j d placed.len once f.1 f.2) in
+        subst (SizeIn S (text T q) (s ∷ ss)) (sym e) (by f at rest (nat_eq (get_or ps j d).record q)
+        refl)
       where
-        by : (f : (i : ℕ) × (i < length T) × (text T i ≡ s)) → LiesAt T f.0 (get_or ps f.0 d).record → SizeIn S (text T q) ss (share q ps T ss)
-            → (b : Bool) → nat_eq (get_or ps f.0 d).record q ≡ b → SizeIn S (text T q) (s ∷ ss) (cond b (size s) 0 + share q ps T ss)
+        by : (f : (i : ℕ) × (i < length T) × (text T i ≡ s)) → LiesAt T f.0 (get_or ps f.0 d).record
+            → SizeIn S (text T q) ss (share q ps T ss)
+            → (b : Bool) → nat_eq (get_or ps f.0 d).record q ≡ b
+            → SizeIn S (text T q) (s ∷ ss) (cond b (size s) 0 + share q ps T ss)
         by f at rest true g =
             let k : (get_or ps f.0 d).record ≡ q = eqb-true (get_or ps f.0 d).record q g in
-            let full : (length (text T f.0) ≡ 0 → ⊥) = λ z. (let i : f.0 ≡ q = sym (at.empty z) ∙ k in omega (arith, r.nonempty, z, ap (λ n. length (text T n)) i)) in
+            let full : (length (text T f.0) ≡ 0 → ⊥) = λ z. (let i : f.0 ≡ q = sym (at.empty z)
+            ∙ k in omega (arith, r.nonempty, z, ap (λ n. length (text T n)) i)) in
             let pos : 0 < length (text T f.0) = more_than_zero (length (text T f.0)) full in
-            let c : IsContainer T s (text T q) = subst (λ z. IsContainer T z (text T q)) f.2 (subst (λ n. IsContainer T (text T f.0) (text T n)) k (at.container pos)) in
-            size_here (record { nonempty = subst (λ (z : List ℕ). 0 < length z) f.2 pos; container = container_from T S same s (text T q) c }) rest
+            let c : IsContainer T s (text T q) =
+            subst (λ z. IsContainer T z (text T q)) f.2
+            (subst (λ n. IsContainer T (text T f.0) (text T n)) k (at.container pos)) in
+            size_here (record {
+              nonempty = subst (λ (z : List ℕ). 0 < length z) f.2 pos;
+              container =
+                  container_from T S same s (text T q) c;
+            }) rest
         by f at rest false g = subst (SizeIn S (text T q) (s ∷ ss)) (omega arith) (size_elsewhere
             (λ m.
-            let pos : 0 < length (text T f.0) = subst (λ (z : List ℕ). 0 < length z) (sym f.2) m.nonempty in
-            let c : IsContainer S s (text T (get_or ps f.0 d).record) = container_from T S same s (text T (get_or ps f.0 d).record) (subst (λ z. IsContainer T z (text T (get_or ps f.0 d).record)) f.2 (at.container pos)) in
-            let k : (get_or ps f.0 d).record ≡ q = one_index T (get_or ps f.0 d).record q once at.within l (one_container S texts s (text T (get_or ps f.0 d).record) (text T q) c m.container) in
+            let pos : 0 < length (text T f.0) =
+            subst (λ (z : List ℕ). 0 < length z) (sym f.2) m.nonempty in
+            let c : IsContainer S s (text T (get_or ps f.0 d).record) =
+            container_from T S same s (text T (get_or ps f.0 d).record)
+            (subst (λ z. IsContainer T z (text T (get_or ps f.0 d).record)) f.2
+            (at.container pos)) in
+            let k : (get_or ps f.0 d).record ≡ q =
+            one_index T (get_or ps f.0 d).record q once at.within l
+            (one_container S texts s (text T (get_or ps f.0 d).record) (text T q) c
+            m.container) in
             true≢false (sym (eq-eqb (get_or ps f.0 d).record q k) ∙ g))
             rest)
 
     pub sized : SizeIn S (text T q) S (lying_in ps q)
-    sized = subst (SizeIn S (text T q) S) (sym (share_all q S ps T placed.len totals)) (shares S (λ s c. (same s).1 c))
+    sized = subst (SizeIn S (text T q) S) (sym (share_all q S ps T placed.len totals))
+        (shares S (λ s c. (same s).1 c))
 
 -- distinct texts have no more copies than there are strings
 none_copied : (T : Texts) (s : List ℕ) → (Contains T s → ⊥) → sum_by (λ t. copy t s) T ≡ 0
 none_copied [] s f = refl
 none_copied (t ∷ T) s f =
-    omega (arith, sum_by-cons (λ (z : List ℕ). copy z s) t T, copy_other t s (λ e. f (0, omega arith, e)), none_copied T s (λ c. f (suc c.0, omega (arith, c.1), c.2)))
+    omega (
+      arith,
+      sum_by-cons (λ (z : List ℕ). copy z s) t T,
+      copy_other t s (λ e. f (0, omega arith, e)),
+      none_copied T s (λ c. f (suc c.0, omega (arith, c.1), c.2)),
+    )
 
 once_copied : (T : Texts) (s : List ℕ) → IsDistinct T → sum_by (λ t. copy t s) T ≤ size s
 once_copied [] s u = omega arith
 once_copied (t ∷ T) s u = by (once_copied T s u.1) (bytes_eq t s) refl
   where
-    cons : sum_by (λ (z : List ℕ). copy z s) (t ∷ T) ≡ copy t s + sum_by (λ (z : List ℕ). copy z s) T
+    cons : sum_by (λ (z : List ℕ). copy z s) (t ∷ T) ≡ copy t s + sum_by (λ (z : List ℕ). copy z s)
+        T
     cons = sum_by-cons (λ (z : List ℕ). copy z s) t T
 
-    by : sum_by (λ (z : List ℕ). copy z s) T ≤ size s → (b : Bool) → bytes_eq t s ≡ b → sum_by (λ (z : List ℕ). copy z s) (t ∷ T) ≤ size s
+    by : sum_by (λ (z : List ℕ). copy z s) T ≤ size s → (b : Bool) → bytes_eq t s ≡ b
+        → sum_by (λ (z : List ℕ). copy z s) (t ∷ T) ≤ size s
     by rest true e =
         let same : t ≡ s = (bytes_decides t s).0 e in
-        omega (arith, cons, copy_same t s same, none_copied T s (λ c. u.0 (subst (Contains T) (sym same) c)))
-    by rest false e = omega (arith, cons, copy_other t s (λ q. true≢false (sym ((bytes_decides t s).1 q) ∙ e)), rest)
+        omega (
+          arith,
+          cons,
+          copy_same t s same,
+          none_copied T s (λ c. u.0 (subst (Contains T) (sym same) c)),
+        )
+    by rest false e = omega (
+      arith,
+      cons,
+      copy_other t s (λ q. true≢false (sym ((bytes_decides t s).1 q) ∙ e)),
+      rest,
+    )
 
 copies_none_in : (T : Texts) → sum_by (copies []) T ≡ 0
 copies_none_in [] = refl
 copies_none_in (t ∷ T) = omega (arith, sum_by-cons (copies []) t T, copies_none_in T)
 
-copies_one_more : (T : Texts) (s : List ℕ) (ss : Texts) → sum_by (copies (s ∷ ss)) T ≡ sum_by (λ t. copy t s) T + sum_by (copies ss) T
+copies_one_more : (T : Texts) (s : List ℕ) (ss : Texts)
+    → sum_by (copies (s ∷ ss)) T ≡ sum_by (λ t. copy t s) T + sum_by (copies ss) T
 copies_one_more [] s ss = refl
 copies_one_more (t ∷ T) s ss =
-    omega (arith, sum_by-cons (copies (s ∷ ss)) t T, sum_by-cons (λ (z : List ℕ). copy z s) t T, sum_by-cons (copies ss) t T, copies-cons s t ss, copies_one_more T s ss)
+    omega (
+      arith,
+      sum_by-cons (copies (s ∷ ss)) t T,
+      sum_by-cons (λ (z : List ℕ). copy z s) t T,
+      sum_by-cons (copies ss) t T,
+      copies-cons s t ss,
+      copies_one_more T s ss,
+    )
 
 -- the copies of distinct texts take no more than all strings
 pub copies_of_all : (T : Texts) (ss : Texts) → IsDistinct T → sum_by (copies ss) T ≤ sum_by size ss
 copies_of_all T [] u = omega (arith, copies_none_in T)
-copies_of_all T (s ∷ ss) u = omega (arith, copies_one_more T s ss, once_copied T s u, copies_of_all T ss u, sum_by-cons size s ss)
+copies_of_all T (s ∷ ss) u = omega (
+  arith,
+  copies_one_more T s ss,
+  once_copied T s u,
+  copies_of_all T ss u,
+  sum_by-cons size s ss,
+)
 
-pub totals_of : (S : Texts) (ps : List Place) (T : Texts) → length ps ≡ length T → ((i : ℕ) (d : Place) → i < length T → (get_or ps i d).measure.total ≡ copies S (text T i))
+pub totals_of : (S : Texts) (ps : List Place) (T : Texts) → length ps ≡ length T
+    → ((i : ℕ) (d : Place) → i < length T → (get_or ps i d).measure.total ≡ copies S (text T i))
     → sum_by (λ (p : Place). p.measure.total) ps ≡ sum_by (copies S) T
 totals_of S [] [] e h = refl
 totals_of S [] (t ∷ T) e h = absurd (omega (arith, e))
 totals_of S (p ∷ ps) [] e h = absurd (omega (arith, e))
 totals_of S (p ∷ ps) (t ∷ T) e h =
-    omega (arith, sum_by-cons (λ (z : Place). z.measure.total) p ps, sum_by-cons (copies S) t T, h 0 p (omega arith), totals_of S ps T (omega (arith, e)) (λ i d l. h (suc i) d (omega (arith, l))))
+    omega (
+      arith,
+      sum_by-cons (λ (z : Place). z.measure.total) p ps,
+      sum_by-cons (copies S) t T,
+      h 0 p (omega arith),
+      totals_of S ps T (omega (arith, e))
+          (λ i d l. h (suc i) d (omega (arith, l))),
+    )
 
 -- one place more
-pub lying_in-push : (ps : List Place) (i : ℕ) (d : Place) (q : ℕ) → i < length ps → lying_in (take (i + 1) ps) q ≡ lying_in (take i ps) q + if_in (get_or ps i d) q (get_or ps i d).measure.total
-lying_in-push ps i d q l = ap (λ (z : List Place). lying_in z q) (take_more ps i d l) ∙ sum_by-append (λ (z : Place). if_in z q z.measure.total) (take i ps) (get_or ps i d ∷ []) ∙ omega arith
+pub lying_in-push : (ps : List Place) (i : ℕ) (d : Place) (q : ℕ) → i < length ps
+    → lying_in (take (i + 1) ps) q ≡ lying_in (take i ps) q + if_in (get_or ps i d) q
+    (get_or ps i d).measure.total
+lying_in-push ps i d q l = ap (λ (z : List Place). lying_in z q) (take_more ps i d l)
+    ∙ sum_by-append (λ (z : Place). if_in z q z.measure.total) (take i ps) (get_or ps i d ∷ [])
+    ∙ omega arith
 
-pub lying_within : (ps : List Place) (i : ℕ) (d : Place) (q : ℕ) → i < length ps → lying_in (take i ps) q + (get_or ps i d).measure.total ≤ sum_by (λ (p : Place). p.measure.total) ps
+pub lying_within : (ps : List Place) (i : ℕ) (d : Place) (q : ℕ) → i < length ps
+    → lying_in (take i ps) q + (get_or ps i d).measure.total ≤ sum_by
+    (λ (p : Place). p.measure.total) ps
 lying_within [] i d q l = absurd (omega (arith, l))
 lying_within (p ∷ ps) zero d q l = omega (arith, sum_by-cons (λ (z : Place). z.measure.total) p ps)
 lying_within (p ∷ ps) (suc i) d q l =

@@ -11,7 +11,9 @@ pub data Fault : Type 0 where
   out_of_memory : Fault
 
 abbrev pub message_of : Fault → List ℕ
-message_of (string_too_long n) = codes "Cannot serialize string of length " ++ (decimal n ++ codes ", maximum is 4,294,967,295 characters")
+message_of (string_too_long n) =
+    codes "Cannot serialize string of length " ++
+    (decimal n ++ codes ", maximum is 4,294,967,295 characters")
 message_of (unexpected message) = codes "Unexpected error: " ++ message
 message_of (limit message) = codes "Limit exceeded: " ++ message
 message_of out_of_memory = codes "Out of memory: while writing"

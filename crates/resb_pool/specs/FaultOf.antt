@@ -2,7 +2,8 @@
 --     fault_of e              the fault
 use Rattle.resb_pool.specs.Fault.{Fault, string_too_long, unexpected, limit, out_of_memory}
 use Rattle.resb_pool.specs.declared.error.Kind.{Kind}
-use Rattle.resb_pool.specs.declared.error.Kind.TheVariants.{StringTooLong, Unexpected, Limit, OutOfMemory}
+use Rattle.resb_pool.specs.declared.error.Kind.TheVariants.{StringTooLong, Unexpected, Limit}
+use Rattle.resb_pool.specs.declared.error.Kind.TheVariants.{OutOfMemory}
 use Rattle.resb_pool.specs.declared.error.BinarySerializerError.{BinarySerializerError}
 
 abbrev pub kind_fault : Kind → Fault

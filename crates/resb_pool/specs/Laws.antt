@@ -7,10 +7,12 @@ use Rattle.resb_pool.specs.Plan.{IsPlan}
 
 abbrev pub PoolIsRead : Type 0
 PoolIsRead =
-    (S : List (List ℕ)) (us : List ℕ) (offset : List ℕ → Option ℕ) → IsPlan S us offset → (s : List ℕ) (k : ℕ) → offset s ≡ Some k
+    (S : List (List ℕ)) (us : List ℕ) (offset : List ℕ → Option ℕ) → IsPlan S us offset
+    → (s : List ℕ) (k : ℕ) → offset s ≡ Some k
     → (k < length us) × ((rest : List ℕ) → text_at (us ++ rest) k ≡ Some s)
 
 abbrev pub OnePool : Type 0
 OnePool =
-    (S : List (List ℕ)) (us vs : List ℕ) (offset place : List ℕ → Option ℕ) → IsPlan S us offset → IsPlan S vs place
+    (S : List (List ℕ)) (us vs : List ℕ) (offset place : List ℕ → Option ℕ) → IsPlan S us offset
+    → IsPlan S vs place
     → (us ≡ vs) × (offset ≡ place)

@@ -1,4 +1,5 @@
--- The words of the contracts: why strings aren't planned, which get a record, in which record each lies, and the pool.
+-- The words of the contracts: why strings aren't planned, which get a record, in which record each
+-- lies, and the pool.
 pub use Rattle.resb_format.specs.Bytes
 pub use Rattle.resb_format.specs.Units
 pub use Rattle.resb_format.specs.Strings

@@ -1,5 +1,7 @@
--- The order of texts from their ends, in which a shared suffix finds its record. A text is its UTF-8 bytes.
---     suffix_cmp s t          compares the characters, last first; the end of a text is the greatest
+-- The order of texts from their ends, in which a shared suffix finds its record. A text is its
+-- UTF-8 bytes.
+--     suffix_cmp s t          compares the characters, last first; the end of a text is the
+--                             greatest
 use Rattle.std.specs.Prelude.{ℕ, List, [], ◌∷◌, reverse}
 use Rattle.std.specs.Str.{chars}
 use Rattle.std.specs.Ordering.{nat_cmp, ordering_then}

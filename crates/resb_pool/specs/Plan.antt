@@ -3,7 +3,9 @@
 --     offset_of p s           where the text s stands, if it was given
 --     IsPlan S us offset      these are the units and offsets of the strings S
 --     NotPlanned S f          the fault f is the answer for the strings S
-use Rattle.std.specs.Prelude.{◌≡◌, ℕ, ◌+◌, ◌^◌, ◌≤◌, List, [], ◌∷◌, length, Option, Some, None, MatchOption, All, Contains, nat_le, sum_by, map, codes, slice_get, if◌then◌else◌}
+use Rattle.std.specs.Prelude.{◌≡◌, ℕ, ◌+◌, ◌^◌, ◌≤◌, List, [], ◌∷◌, length, Option, Some, None}
+use Rattle.std.specs.Prelude.{MatchOption, All, Contains, nat_le, sum_by, map, codes, slice_get}
+use Rattle.std.specs.Prelude.{if◌then◌else◌}
 use Rattle.std.specs.Borrow.{Bor}
 use Rattle.std.specs.Str.{bytes_eq, IsUtf8}
 use Rattle.std.specs.Option.{option_and_then}
@@ -25,7 +27,8 @@ abbrev pub plan_units : Plan → List ℕ
 plan_units p = p.units.items
 
 abbrev pub offset_of : Plan → List ℕ → Option ℕ
-offset_of p s = option_and_then (slice_get p.offsets.items) (index_of_by (λ k. bytes_eq s k.now) p.texts)
+offset_of p s = option_and_then (slice_get p.offsets.items) (index_of_by (λ k. bytes_eq s k.now)
+    p.texts)
 
 pub record IsPlan (S : List (List ℕ)) (us : List ℕ) (offset : List ℕ → Option ℕ) : Type 0 where
   pub texts : All IsUtf8 S
@@ -35,12 +38,14 @@ pub record IsPlan (S : List (List ℕ)) (us : List ℕ) (offset : List ℕ → O
   pub records : List (List ℕ)
   pub pool : IsPool S records us
   -- a text has an offset exactly where it was given
-  pub offsets : (s : List ℕ) → MatchOption (offset s) (Contains S s → ⊥) (λ k. Contains S s × Off S records s k)
+  pub offsets : (s : List ℕ) → MatchOption (offset s) (Contains S s → ⊥) (λ k. Contains S s
+      × Off S records s k)
 
 -- the number of units of the first text of more than 4294967295
 abbrev pub first_too_long : List (List ℕ) → Option ℕ
 first_too_long [] = None
-first_too_long (s ∷ ss) = if nat_le (length (units s)) 4294967295 then first_too_long ss else Some (length (units s))
+first_too_long (s ∷ ss) = if nat_le (length (units s)) 4294967295 then first_too_long ss else Some
+    (length (units s))
 
 -- 16 for each text and its units, as often as it is given
 abbrev pub texts_size : List (List ℕ) → ℕ
@@ -49,4 +54,5 @@ texts_size ss = sum_by (λ s. 16 + length (units s)) ss
 pub data NotPlanned (S : List (List ℕ)) : Fault → Type 0 where
   no_memory : NotPlanned S out_of_memory
   too_long : {n : ℕ} → first_too_long S ≡ Some n → NotPlanned S (string_too_long n)
-  too_large : first_too_long S ≡ None → 2 ^ 28 ≤ texts_size S → NotPlanned S (limit (codes "file too large"))
+  too_large : first_too_long S ≡ None → 2 ^ 28 ≤ texts_size S
+      → NotPlanned S (limit (codes "file too large"))

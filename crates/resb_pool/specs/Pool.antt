@@ -14,7 +14,8 @@ use Rattle.resb_format.specs.Units.{units, marker, size}
 use Rattle.resb_pool.specs.Records.{IsRecords}
 use Rattle.resb_pool.specs.Container.{IsContainer}
 
--- a text that isn't empty lies in its container: a record in itself, a shared suffix in the greatest record that ends with it
+-- a text that isn't empty lies in its container: a record in itself, a shared suffix in the
+-- greatest record that ends with it
 pub record LiesIn (S : List (List ℕ)) (s r : List ℕ) : Type 0 where
   pub nonempty : 0 < length s
   pub container : IsContainer S s r
@@ -22,8 +23,10 @@ pub record LiesIn (S : List (List ℕ)) (s r : List ℕ) : Type 0 where
 -- the texts among ss that lie in r would take n units as records of their own
 pub data SizeIn (S : List (List ℕ)) (r : List ℕ) : List (List ℕ) → ℕ → Type 0 where
   size_none : SizeIn S r [] 0
-  size_here : {s : List ℕ} {ss : List (List ℕ)} {n : ℕ} → LiesIn S s r → SizeIn S r ss n → SizeIn S r (s ∷ ss) (size s + n)
-  size_elsewhere : {s : List ℕ} {ss : List (List ℕ)} {n : ℕ} → (LiesIn S s r → ⊥) → SizeIn S r ss n → SizeIn S r (s ∷ ss) n
+  size_here : {s : List ℕ} {ss : List (List ℕ)} {n : ℕ} → LiesIn S s r → SizeIn S r ss n
+      → SizeIn S r (s ∷ ss) (size s + n)
+  size_elsewhere : {s : List ℕ} {ss : List (List ℕ)} {n : ℕ} → (LiesIn S s r → ⊥) → SizeIn S r ss n
+      → SizeIn S r (s ∷ ss) n
 
 -- what the copies and suffixes that lie in r would take, beyond the one record
 abbrev pub Saved : List (List ℕ) → List ℕ → ℕ → Type 0
@@ -32,15 +35,18 @@ Saved S r n = SizeIn S r S (n + size r)
 -- by the text's own units, then by what is saved, the most first, then by the bytes
 pub data Precedes (S : List (List ℕ)) (r q : List ℕ) : Type 0 where
   fewer_units : length (units r) < length (units q) → Precedes S r q
-  saves_more : (m n : ℕ) → length (units r) ≡ length (units q) → Saved S r m → Saved S q n → n < m → Precedes S r q
-  smaller_bytes : (n : ℕ) → length (units r) ≡ length (units q) → Saved S r n → Saved S q n → slice_cmp nat_cmp r q ≡ Less → Precedes S r q
+  saves_more : (m n : ℕ) → length (units r) ≡ length (units q) → Saved S r m → Saved S q n → n < m
+      → Precedes S r q
+  smaller_bytes : (n : ℕ) → length (units r) ≡ length (units q) → Saved S r n → Saved S q n
+      → slice_cmp nat_cmp r q ≡ Less → Precedes S r q
 
 abbrev pub record_units : List ℕ → List ℕ
 record_units r = marker r ++ (units r ++ 0 ∷ [])
 
 pub record IsPool (S Q : List (List ℕ)) (us : List ℕ) : Type 0 where
   pub records : IsRecords S Q
-  pub ordered : (k : ℕ) → k + 1 < length Q → Precedes S (slice_index_or Q k []) (slice_index_or Q (k + 1) [])
+  pub ordered : (k : ℕ) → k + 1 < length Q
+      → Precedes S (slice_index_or Q k []) (slice_index_or Q (k + 1) [])
   pub units : us ≡ 0 ∷ flat_map record_units Q
 
 -- the 0 that closes the record r stands at unit k; unit 0 stands before the first record
@@ -50,7 +56,9 @@ pub record ClosesAt (Q : List (List ℕ)) (r : List ℕ) (k : ℕ) : Type 0 wher
   pub is : Q ≡ before ++ r ∷ after
   pub place : k ≡ sum_by size before + size r
 
--- The empty text stands at unit 0. Any other's marker and units end right before the 0 that closes its record.
+-- The empty text stands at unit 0. Any other's marker and units end right before the 0 that closes
+-- its record.
 pub data Off (S Q : List (List ℕ)) : List ℕ → ℕ → Type 0 where
   off_empty : Off S Q [] 0
-  off_within : {s r : List ℕ} {k c : ℕ} → LiesIn S s r → ClosesAt Q r c → k + (length (marker s) + length (units s)) ≡ c → Off S Q s k
+  off_within : {s r : List ℕ} {k c : ℕ} → LiesIn S s r → ClosesAt Q r c
+      → k + (length (marker s) + length (units s)) ≡ c → Off S Q s k

@@ -1,9 +1,11 @@
--- Which texts get a record in the 16-bit block, and what else could hold the texts. (ICU's `reslist.cpp`: shared suffixes.)
+-- Which texts get a record in the 16-bit block, and what else could hold the texts. (ICU's
+-- `reslist.cpp`: shared suffixes.)
 --     IsRecord S s            s gets a record among the texts S
 --     IsRecords S Q           Q lists those texts, each once
 --     IsLayout S R            records of the texts R, each once, can hold the texts S
 --     RecordsCostLeast        no layout takes fewer units than the records
-use Rattle.std.specs.Prelude.{◌≡◌, ℕ, ◌<◌, ◌≤◌, List, [], ◌∷◌, ◌++◌, length, true, false, ◌⊎◌, ◌↔◌, All, Contains, sum_by}
+use Rattle.std.specs.Prelude.{◌≡◌, ℕ, ◌<◌, ◌≤◌, List, [], ◌∷◌, ◌++◌, length, true, false, ◌⊎◌, ◌↔◌}
+use Rattle.std.specs.Prelude.{All, Contains, sum_by}
 use Rattle.std.specs.Str.{IsUtf8}
 use Rattle.resb_format.specs.Units.{units, is_unmarked, size}
 
@@ -38,8 +40,10 @@ pub record IsLayout (S R : List (List ℕ)) : Type 0 where
   pub once : IsDistinct R
   pub texts : All IsUtf8 R
   pub short : All (λ r. length (units r) ≤ 4294967295) R
-  pub holds : (s : List ℕ) → Contains S s → 0 < length s → Contains R s ⊎ ((r : List ℕ) × Contains R r × IsHeldBy s r)
+  pub holds : (s : List ℕ) → Contains S s → 0 < length s → Contains R s
+      ⊎ ((r : List ℕ) × Contains R r × IsHeldBy s r)
 
 -- in 16-bit units, markers and closing zeros included
 abbrev pub RecordsCostLeast : Type 0
-RecordsCostLeast = (S Q R : List (List ℕ)) → All IsUtf8 S → IsRecords S Q → IsLayout S R → sum_by size Q ≤ sum_by size R
+RecordsCostLeast = (S Q R : List (List ℕ)) → All IsUtf8 S → IsRecords S Q → IsLayout S R
+    → sum_by size Q ≤ sum_by size R

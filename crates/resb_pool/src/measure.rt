@@ -1,6 +1,7 @@
 //! How long texts are, in 16-bit units, and whether a string is too long to plan.
 //! Which texts get a record is not said here.
-ghost use Rattle.std.specs.Prelude.{◌≡◌, ◌+◌, ◌<◌, ◌≤◌, ◌^◌, None, MatchOption, length, nat_le, OnOk, IfErr};
+ghost use Rattle.std.specs.Prelude.{◌≡◌, ◌+◌, ◌<◌, ◌≤◌, ◌^◌, None, MatchOption, length, nat_le};
+ghost use Rattle.std.specs.Prelude.{OnOk, IfErr};
 ghost use Rattle.resb_format.specs.Units.{units, size};
 ghost use Rattle.resb_pool.specs.FaultOf.{fault_of};
 ghost use Rattle.resb_pool.specs.Plan.{nows, first_too_long, NotPlanned};
@@ -17,11 +18,14 @@ const MAX_UNMARKED: usize = 40;
 /// From this size of the strings on they are not planned.
 pub(crate) const SIZE_LIMIT: usize = 0x1000_0000;
 
-/// The number of 16-bit units of a text in UTF-16.
+/// The number of 16-bit units of a text in UTF-16: its bytes, where all of them are ASCII.
 pub fn utf16_len(text: &str) -> usize
     ensures count { result ≡ length (units text.now) }
     ensures small { result ≤ length text.now }
 {
+    if text.is_ascii() {
+        return text.len();
+    }
     let mut count = 0;
     for c in text.chars() {
         count += c.len_utf16();
@@ -48,16 +52,16 @@ impl Measure {
         ensures size { result.size ≡ size text.now }
         ensures total { result.total ≡ 0 }
     {
-        let count = utf16_len(text);
-        let is_marked = count > MAX_UNMARKED || text.as_bytes().contains(&0);
+        let unit_count = utf16_len(text);
+        let is_marked = unit_count > MAX_UNMARKED || text.as_bytes().contains(&0);
         let marker = if is_marked {
-            marker_units(count).max(1)
+            marker_units(unit_count).max(1)
         } else {
             0
         };
         Measure {
-            unit_count: count as u32,
-            size: (marker + count + 1) as u32,
+            unit_count: unit_count as u32,
+            size: (marker + unit_count + 1) as u32,
             total: 0,
         }
     }

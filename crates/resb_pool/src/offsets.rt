@@ -1,6 +1,10 @@
 //! Where each string stands once its record is laid.
 //! The records and their closing zeros come from `records`.
-ghost use Rattle.std.specs.Prelude.{◌≡◌, ◌+◌, ◌-◌, ◌<◌, ◌≤◌, ◌^◌, All, IfOk, length, map, slice_index};
+ghost use Rattle.std.specs.Prelude.{◌≡◌, ◌+◌, ◌-◌, ◌<◌, ◌≤◌, ◌^◌, All, IfOk, length, map};
+ghost use Rattle.std.specs.Prelude.{slice_index};
+ghost use Rattle.std.specs.Prelude.{Some, IsTrue};
+ghost use Rattle.std.specs.Str.{bytes_eq};
+ghost use Rattle.indexmap.specs.IndexSet.{index_of_by};
 ghost use Rattle.resb_pool.specs.Plan.{plan_units, offset_of};
 ghost use Rattle.resb_pool.specs.Inner.Placing.{offset_by, ClosesWithin};
 
@@ -15,6 +19,8 @@ pub struct Plan<'a> {
     pub(crate) texts: IndexSet<&'a str>,
     /// The offset of each text.
     pub(crate) offsets: Vec<u32>,
+    /// The index of each string's text, in the order in which they were given.
+    pub(crate) order: Vec<u32>,
 }
 
 impl<'a> Plan<'a> {
@@ -31,6 +37,31 @@ impl<'a> Plan<'a> {
     {
         let index = self.texts.get_index_of(text)?;
         self.offsets.get(index).copied()
+    }
+
+    /// The same as `offset`. Where the text is that of the string of this number, counted from 0
+    /// in the order in which they were given, it is found without a look-up.
+    pub fn offset_in_turn(&self, number: usize, text: &str) -> Option<u32>
+        ensures { result ≡ offset_of self.now text.now }
+    {
+        let index = self.order.get(number).copied().unwrap_or(0) as usize;
+        if self.is_at(index, text) {
+            return self.offsets.get(index).copied();
+        }
+        self.offset(text)
+    }
+
+    /// Whether this is the text of an index.
+    fn is_at(&self, index: usize, text: &str) -> bool
+        ensures { IsTrue result → index_of_by (λ k. bytes_eq text.now k.now) self.now.texts
+            ≡ Some index }
+    {
+        // `len` is called for its clause that the texts are distinct.
+        let _count = self.texts.len();
+        match self.texts.get_index(index) {
+            Some(found) => *found == text,
+            None => false,
+        }
     }
 }
 

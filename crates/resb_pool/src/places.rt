@@ -1,6 +1,7 @@
 //! In which record each text lies.
 //! Where the records stand is said in `records`.
-ghost use Rattle.std.specs.Prelude.{◌≡◌, ◌+◌, ◌<◌, ◌^◌, ℕ, List, length, map, sum_by, slice_index, if◌then◌else◌, All, IfOk, nat_eq};
+ghost use Rattle.std.specs.Prelude.{◌≡◌, ◌+◌, ◌<◌, ◌^◌, ℕ, List, length, map, sum_by, slice_index};
+ghost use Rattle.std.specs.Prelude.{if◌then◌else◌, All, IfOk, nat_eq};
 ghost use Rattle.resb_pool.specs.Records.{IsDistinct};
 ghost use Rattle.resb_pool.specs.Plan.{nows};
 ghost use Rattle.resb_pool.specs.Inner.Placing.{ArePlaces, lying_in};

@@ -29,11 +29,13 @@ pub fn plan<'a>(alloc: Global, strings: &[&'a str]) -> Result<Plan<'a>, BinarySe
     let places = find_places(alloc, distinct, &texts.measures)?;
     let sums = find_sums(alloc, &places)?;
     let records = ordered(alloc, distinct, &places, &sums)?;
-    let block = lay(alloc, &records, places.len())?;
+    let count = places.len();
+    let block = lay(alloc, &records, count)?;
     let offsets = find_offsets(alloc, &places, &block.ends)?;
     Ok(Plan {
         units: block.units,
         texts: texts.distinct,
         offsets,
+        order: texts.order,
     })
 }

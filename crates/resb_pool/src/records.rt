@@ -1,13 +1,16 @@
 //! The records in their order, and their units.
 //! Which texts are records is said in `places`.
-ghost use Rattle.std.specs.Prelude.{◌≡◌, ◌++◌, ◌∷◌, ℕ, ◌+◌, ◌<◌, ◌≤◌, ◌^◌, List, [], length, map, All, IfOk, OnOk, sum_by, slice_index};
+ghost use Rattle.std.specs.Prelude.{◌≡◌, ◌++◌, ◌∷◌, ℕ, ◌+◌, ◌<◌, ◌≤◌, ◌^◌, List, [], length, map};
+ghost use Rattle.std.specs.Prelude.{All, IfOk, OnOk, sum_by, slice_index};
+ghost use Rattle.std.specs.Prelude.{nat_eq, not, ◌&&◌};
 ghost use Rattle.std.specs.List.{flat_map};
 ghost use Rattle.std.specs.List.Sorted.{IsPermutation, IsSorted};
 ghost use Rattle.resb_format.specs.Units.{units as units_of, marker, size};
 ghost use Rattle.resb_pool.specs.Pool.{record_units};
 ghost use Rattle.resb_pool.specs.Plan.{nows};
 ghost use Rattle.resb_pool.specs.Records.{IsDistinct, IsRecords};
-ghost use Rattle.resb_pool.specs.Inner.Placing.{ArePlaces, AreSums, AreIndexed, AreEnds, IsRecordOf, record_texts, record_cmp};
+ghost use Rattle.resb_pool.specs.Inner.Placing.{ArePlaces, AreSums, AreIndexed, AreEnds};
+ghost use Rattle.resb_pool.specs.Inner.Placing.{IsRecordOf, record_texts, record_cmp};
 
 use crate::places::Place;
 use resb_format::is_unmarked;
@@ -32,6 +35,13 @@ pub(crate) struct Block {
     pub(crate) ends: Vec<u32>,
 }
 
+/// Whether a text with this place is a record: it isn't empty and lies in itself.
+fn is_record(place: &Place, index: usize, text: &str) -> bool
+    ensures { result ≡ (nat_eq place.now.record index && not (nat_eq (length text.now) 0)) }
+{
+    place.record == index && !text.is_empty()
+}
+
 /// The records among texts: those that aren't empty and lie in themselves.
 fn find_records<'a>(
     alloc: Global,
@@ -47,7 +57,7 @@ fn find_records<'a>(
 {
     let mut records = Vec::new(alloc);
     for (index, place) in places.iter().enumerate() {
-        if place.record != index || texts[index].is_empty() {
+        if !is_record(place, index, texts[index]) {
             continue;
         }
         records.push(Record {
@@ -79,10 +89,23 @@ pub(crate) fn ordered<'a>(
     Ok(records)
 }
 
-/// Appends the units of a text.
+/// Appends numbers as units.
+fn push_bytes(units: &mut Vec<u16>, bytes: &[u8]) -> Result<(), AllocError>
+    ensures { OnOk result (units.new.items ≡ units.old.items ++ bytes.now) }
+{
+    for byte in bytes {
+        units.push(u16::from(*byte))?;
+    }
+    Ok(())
+}
+
+/// Appends the units of a text: its bytes, where all of them are ASCII.
 fn push_units(units: &mut Vec<u16>, text: &str) -> Result<(), AllocError>
     ensures { OnOk result (units.new.items ≡ units.old.items ++ units_of text.now) }
 {
+    if text.is_ascii() {
+        return push_bytes(units, text.as_bytes());
+    }
     let mut buffer = [0u16; 2];
     for c in text.chars() {
         units.extend_from_slice(c.encode_utf16(&mut buffer))?;
@@ -90,7 +113,8 @@ fn push_units(units: &mut Vec<u16>, text: &str) -> Result<(), AllocError>
     Ok(())
 }
 
-/// Appends the marker of a text of so many units. (ICU's `uresdata.h`, strings of format version 2.)
+/// Appends the marker of a text of so many units. (ICU's `uresdata.h`, strings of format version
+/// 2.)
 fn push_marker(units: &mut Vec<u16>, text: &str, count: u32) -> Result<(), AllocError>
     requires count { count ≡ length (units_of text.now) }
     requires short { count < 2 ^ 28 }

@@ -1,6 +1,7 @@
 //! The distinct texts of strings, each with its sizes. From here on a text goes by its index.
 //! Where texts lie is said in `places`.
-ghost use Rattle.std.specs.Prelude.{◌≡◌, ◌++◌, ◌∷◌, ◌<◌, ◌^◌, [], List, ℕ, IfOk, IfErr, OnOk, None, length};
+ghost use Rattle.std.specs.Prelude.{◌≡◌, ◌++◌, ◌∷◌, ◌<◌, ◌^◌, [], List, ℕ, IfOk, IfErr, OnOk, None};
+ghost use Rattle.std.specs.Prelude.{length};
 ghost use Rattle.resb_format.specs.Units.{units};
 ghost use Rattle.resb_pool.specs.FaultOf.{fault_of};
 ghost use Rattle.resb_pool.specs.Plan.{nows, first_too_long, texts_size, NotPlanned};
@@ -16,6 +17,9 @@ use std::alloc::{AllocError, Global};
 pub(crate) struct Texts<'a> {
     pub(crate) distinct: IndexSet<&'a str>,
     pub(crate) measures: Vec<Measure>,
+    /// The index of each string's text, in the order in which they were given. An index over
+    /// 4294967295 is cut to that.
+    pub(crate) order: Vec<u32>,
 }
 
 /// Adds a copy of a text, and gives the number of its units.
@@ -35,7 +39,9 @@ fn add<'a>(texts: &mut Texts<'a>, text: &'a str) -> Result<usize, AllocError>
     }
     let measure = &mut texts.measures[index];
     measure.total += measure.size;
-    Ok(measure.unit_count as usize)
+    let count = measure.unit_count as usize;
+    texts.order.push(index.min(0xffff_ffff) as u32)?;
+    Ok(count)
 }
 
 /// The distinct texts of strings. Refused are strings whose units and 16 for each come to 2^28 or
@@ -53,6 +59,7 @@ pub(crate) fn gather<'a>(
     let mut texts = Texts {
         distinct: IndexSet::new(alloc),
         measures: Vec::new(alloc),
+        order: Vec::new(alloc),
     };
     let mut size = 0;
     for text in strings {

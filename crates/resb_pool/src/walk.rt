@@ -1,6 +1,7 @@
 //! Going down the trie to the greatest record at or below a node.
 //! Nothing is changed here.
-ghost use Rattle.std.specs.Prelude.{◌≡◌, ℕ, ◌+◌, ◌<◌, List, [], ◌∷◌, ◌++◌, length, ◌^◌, true, false};
+ghost use Rattle.std.specs.Prelude.{◌≡◌, ℕ, ◌+◌, ◌<◌, List, [], ◌∷◌, ◌++◌, length, ◌^◌, true};
+ghost use Rattle.std.specs.Prelude.{false};
 ghost use Rattle.std.specs.Bool.{MatchBool};
 ghost use Rattle.resb_format.specs.Units.{is_unmarked as is_unmarked_text};
 ghost use Rattle.resb_pool.specs.Inner.Nodes.{path, child, ends, suffix, IsTrie};
@@ -34,12 +35,13 @@ pub(crate) fn greatest_below(nodes: &Vec<Node>, from: usize) -> usize
 {
     let mut at = from;
     loop {
+        let below = match last_child(nodes, at) {
+            None => return at,
+            Some((_, below)) => below,
+        };
         if ends_marked(nodes, at) {
             return at;
         }
-        match last_child(nodes, at) {
-            None => return at,
-            Some((_, below)) => at = below,
-        }
+        at = below;
     }
 }

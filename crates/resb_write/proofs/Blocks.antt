@@ -1,9 +1,14 @@
 -- Strings and keys are read back in the blocks of a file, and what trees say of their walk.
-use Rattle.std.proofs.Common.{◌≡◌, ℕ, zero, suc, ◌+◌, ◌%◌, ◌^◌, ◌<◌, max, List, [], ◌∷◌, ◌++◌, length, get_or, Some, None, option_and_then, Bool, true, false, cond, ◌==◌, refl, sym, ◌∙◌, ap, append_assoc, append-nil, length-append, arith}
+use Rattle.std.proofs.Common.{◌≡◌, ℕ, zero, suc, ◌+◌, ◌%◌, ◌^◌, ◌<◌, max, List, [], ◌∷◌, ◌++◌}
+use Rattle.std.proofs.Common.{length, get_or, Some, None, option_and_then, Bool, true, false, cond}
+use Rattle.std.proofs.Common.{◌==◌, refl, sym, ◌∙◌, ap, append_assoc, append-nil, length-append}
+use Rattle.std.proofs.Common.{arith}
 use Rattle.std.specs.Str.{IsUtf8}
 use Rattle.std.proofs.lemmas.Str.{is_utf8-from_IsUtf8}
 use Rattle.std.proofs.lemmas.List.{drop_at}
-use Rattle.resb_tree.specs.Tree.{Tree, string, array, table, binary, integer, int_vector, Trees, no_trees, more_trees, Entries, no_entries, entry, largest_table, trees_largest, entries_largest}
+use Rattle.resb_tree.specs.Tree.{Tree, string, array, table, binary, integer, int_vector, Trees}
+use Rattle.resb_tree.specs.Tree.{no_trees, more_trees, Entries, no_entries, entry, largest_table}
+use Rattle.resb_tree.specs.Tree.{trees_largest, entries_largest}
 use Rattle.resb_format.specs.Strings.{key_at, before_zero, if_utf8}
 use Rattle.resb_pool.proofs.Zeros.{has_zero, before_zero-found}
 use Rattle.resb_layout.proofs.Numbers.{EachBelow}
@@ -14,23 +19,28 @@ use Rattle.resb_write.specs.Written.{even}
 use Rattle.resb_write.specs.Inner.Gathered.{largest_of}
 use Rattle.resb_write.proofs.Keys.{last_of-stands}
 
-pub key_at-found : (front k rest : List ℕ) → IsUtf8 k → has_zero k ≡ false → key_at (front ++ (k ++ 0 ∷ rest)) (length front) ≡ Some k
+pub key_at-found : (front k rest : List ℕ) → IsUtf8 k → has_zero k ≡ false
+    → key_at (front ++ (k ++ 0 ∷ rest)) (length front) ≡ Some k
 unfolding key_at
 key_at-found front k rest u z =
-    ap (λ l. option_and_then if_utf8 (before_zero l)) (drop_at front (k ++ 0 ∷ rest) (length front) refl)
+    ap (λ l. option_and_then if_utf8 (before_zero l)) (drop_at front (k ++ 0 ∷ rest) (length front)
+    refl)
     ∙ ap (option_and_then if_utf8) (before_zero-found k rest z)
     ∙ ap (λ b. cond b (Some k) None) (is_utf8-from_IsUtf8 k u)
 
 -- a key is read at its position
-pub key_read : (head pad : List ℕ) (js : List (List ℕ)) → length head ≡ 32 → (k : List ℕ) (n : ℕ) → last_of k js ≡ Some n → IsUtf8 k → has_nul k ≡ false
+pub key_read : (head pad : List ℕ) (js : List (List ℕ)) → length head ≡ 32 → (k : List ℕ) (n : ℕ)
+    → last_of k js ≡ Some n → IsUtf8 k → has_nul k ≡ false
     → key_at (head ++ (key_bytes js ++ pad)) (32 + n) ≡ Some k
 key_read head pad js front k n e u z =
     let s = last_of-stands k js n e in
     let f : head ++ (key_bytes js ++ pad) ≡ (head ++ s.front) ++ (k ++ 0 ∷ (s.back ++ pad)) =
     ap (λ l. head ++ (l ++ pad)) s.is
-    ∙ ap (λ l. head ++ l) (append_assoc s.front (k ++ 0 ∷ s.back) pad ∙ ap (λ l. s.front ++ l) (append_assoc k (0 ∷ s.back) pad))
+    ∙ ap (λ l. head ++ l) (append_assoc s.front (k ++ 0 ∷ s.back) pad
+    ∙ ap (λ l. s.front ++ l) (append_assoc k (0 ∷ s.back) pad))
     ∙ sym (append_assoc head s.front (k ++ 0 ∷ (s.back ++ pad))) in
-    let at : 32 + n ≡ length (head ++ s.front) = omega (arith, front, s.place, length-append head s.front) in
+    let at : 32 + n ≡ length (head ++ s.front) =
+    omega (arith, front, s.place, length-append head s.front) in
     (λ i. key_at (f i) (at i)) ∙ key_at-found (head ++ s.front) k (s.back ++ pad) u z
 
 -- the even block
@@ -72,19 +82,37 @@ mutual
   -- the largest table of a tree is the largest of its walk
   pub largest_walked : (t : Tree) → largest_of (walk t) ≡ largest_table t
   largest_walked (string s) = refl
-  largest_walked (array ts) = omega (arith, largest-append (walk_each ts) (array ts ∷ []), largest_each ts)
-  largest_walked (table es) = omega (arith, largest-append (walk_values es) (table es ∷ []), largest_values es)
+  largest_walked (array ts) = omega (
+    arith,
+    largest-append (walk_each ts) (array ts ∷ []),
+    largest_each ts,
+  )
+  largest_walked (table es) = omega (
+    arith,
+    largest-append (walk_values es) (table es ∷ []),
+    largest_values es,
+  )
   largest_walked (binary s) = refl
   largest_walked (integer n) = refl
   largest_walked (int_vector s) = refl
 
   largest_each : (ts : Trees) → largest_of (walk_each ts) ≡ trees_largest ts
   largest_each no_trees = refl
-  largest_each (more_trees t ts) = omega (arith, largest-append (walk t) (walk_each ts), largest_walked t, largest_each ts)
+  largest_each (more_trees t ts) = omega (
+    arith,
+    largest-append (walk t) (walk_each ts),
+    largest_walked t,
+    largest_each ts,
+  )
 
   largest_values : (es : Entries) → largest_of (walk_values es) ≡ entries_largest es
   largest_values no_entries = refl
-  largest_values (entry k t es) = omega (arith, largest-append (walk t) (walk_values es), largest_walked t, largest_values es)
+  largest_values (entry k t es) = omega (
+    arith,
+    largest-append (walk t) (walk_values es),
+    largest_walked t,
+    largest_values es,
+  )
 
 pub walk_long : (t : Tree) → 0 < length (walk t)
 walk_long (string s) = omega arith

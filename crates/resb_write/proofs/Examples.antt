@@ -1,8 +1,10 @@
 -- The definitions at worked examples: what they accept, and what they refuse.
-use Rattle.std.proofs.Common.{◌≡◌, ℕ, zero, suc, List, [], ◌∷◌, ◌++◌, Some, None, true, refl, sym, inl, inr, arith}
+use Rattle.std.proofs.Common.{◌≡◌, ℕ, zero, suc, List, [], ◌∷◌, ◌++◌, Some, None, true, refl, sym}
+use Rattle.std.proofs.Common.{inl, inr, arith}
 use Rattle.std.specs.Prelude.{codes, Contains}
 use Rattle.std.specs.Str.{chars}
-use Rattle.resb_tree.specs.Tree.{Tree, string, array, table, binary, integer, no_trees, more_trees, no_entries, entry}
+use Rattle.resb_tree.specs.Tree.{Tree, string, array, table, binary, integer, no_trees, more_trees}
+use Rattle.resb_tree.specs.Tree.{no_entries, entry}
 use Rattle.resb_format.specs.Units.{size}
 use Rattle.resb_format.specs.Bytes.{units_of, words_of}
 use Rattle.resb_pool.specs.Fault.{unexpected, limit, out_of_memory, message_of}
@@ -14,16 +16,19 @@ use Rattle.resb_write.specs.Faults.{fault}
 use Rattle.resb_write.specs.WrittenHead.{written_header, IndexOf}
 use Rattle.resb_write.specs.Inner.Files.{file_of}
 
--- The key block of the table with the keys a and c, for the list a, a, c: the last place of a counts.
+-- The key block of the table with the keys a and c, for the list a, a, c: the last place of a
+-- counts.
 
 two_keys : Tree
 two_keys = table (entry (97 ∷ []) (string []) (entry (99 ∷ []) (string []) no_entries))
 
-keys_written_twice : key_block two_keys ((97 ∷ []) ∷ (97 ∷ []) ∷ (99 ∷ []) ∷ (100 ∷ []) ∷ []) ≡ 97 ∷ 0 ∷ 97 ∷ 0 ∷ 99 ∷ 0 ∷ 0xaa ∷ 0xaa ∷ []
+keys_written_twice : key_block two_keys ((97 ∷ []) ∷ (97 ∷ []) ∷ (99 ∷ []) ∷ (100 ∷ []) ∷ []) ≡ 97 ∷
+    0 ∷ 97 ∷ 0 ∷ 99 ∷ 0 ∷ 0xaa ∷ 0xaa ∷ []
 unfolding two_keys
 keys_written_twice = refl
 
-last_place_counts : key_position two_keys ((97 ∷ []) ∷ (97 ∷ []) ∷ (99 ∷ []) ∷ []) (97 ∷ []) ≡ Some 34
+last_place_counts : key_position two_keys ((97 ∷ []) ∷ (97 ∷ []) ∷ (99 ∷ []) ∷ []) (97 ∷ []) ≡ Some
+    34
 unfolding two_keys
 last_place_counts = refl
 
@@ -33,42 +38,61 @@ unused_key = refl
 
 -- Faults: a used key that isn't listed, also where it is read inside another; then U+0000 in a key.
 
-unlisted : fault two_keys ((97 ∷ []) ∷ []) ≡ Some (unexpected (codes "key not present in position map"))
+unlisted : fault two_keys ((97 ∷ []) ∷ []) ≡ Some
+    (unexpected (codes "key not present in position map"))
 unfolding two_keys
 unlisted = refl
 
-inside_another : fault (table (entry (97 ∷ 98 ∷ []) (integer 1) (entry (98 ∷ []) (integer 2) no_entries))) ((97 ∷ 98 ∷ []) ∷ []) ≡ Some (unexpected (codes "key not present in position map"))
+inside_another : fault (table (entry (97 ∷ 98 ∷ []) (integer 1)
+    (entry (98 ∷ []) (integer 2) no_entries))) ((97 ∷ 98 ∷ []) ∷ []) ≡ Some
+    (unexpected (codes "key not present in position map"))
 inside_another = refl
 
-key_with_nul : fault (table (entry (0 ∷ []) (integer 1) no_entries)) ((0 ∷ []) ∷ []) ≡ Some (unexpected (codes "key contains U+0000"))
+key_with_nul : fault (table (entry (0 ∷ []) (integer 1) no_entries)) ((0 ∷ []) ∷ []) ≡ Some
+    (unexpected (codes "key contains U+0000"))
 key_with_nul = refl
 
 without_fault : fault (table (entry (97 ∷ []) (integer 1) no_entries)) ((97 ∷ []) ∷ []) ≡ None
 without_fault = refl
 
 -- a key of two bytes, an array of two children, an integer and three bytes
-plain_size_of_three : plain_size (array (more_trees (integer 1) (more_trees (binary (1 ∷ 2 ∷ 3 ∷ [])) no_trees))) ((97 ∷ []) ∷ []) ≡ 60
+plain_size_of_three : plain_size
+    (array (more_trees (integer 1) (more_trees (binary (1 ∷ 2 ∷ 3 ∷ [])) no_trees)))
+    ((97 ∷ []) ∷ []) ≡ 60
 plain_size_of_three = refl
 
 -- An array of one integer, from byte 36 of the body.
-array_laid : Lays (record { position = λ k. None; offset = λ s. None; base = 36 }) (record { units = 0 ∷ []; tail = [] }) (array (more_trees (integer 5) no_trees))
+array_laid : Lays (record { position = λ k. None; offset = λ s. None; base = 36 })
+    (record { units = 0 ∷ []; tail = [] }) (array (more_trees (integer 5) no_trees))
     (record { units = 0 ∷ []; tail = 1 ∷ 0 ∷ 0 ∷ 0 ∷ 5 ∷ 0 ∷ 0 ∷ 0x70 ∷ [] }) 0x8000_0009
-array_laid = lays_items (each_more (lays_integer (omega arith)) each_none) (omega arith) (long_array 9 refl refl (omega arith) (omega arith))
+array_laid = lays_items (each_more (lays_integer (omega arith)) each_none) (omega arith)
+    (long_array 9 refl refl (omega arith) (omega arith))
 
 -- The file of one entry, as ICU's rules ask for it: `b{k{v}}`.
-one_file : file_of 0x5000_0003 1 true (padded (key_bytes ((107 ∷ []) ∷ []))) (0 ∷ 118 ∷ 0 ∷ 1 ∷ 32 ∷ 1 ∷ []) []
-    ≡ written_header ++ (3 ∷ 0 ∷ 0 ∷ 80 ∷ 7 ∷ 0 ∷ 0 ∷ 0 ∷ 9 ∷ 0 ∷ 0 ∷ 0 ∷ 12 ∷ 0 ∷ 0 ∷ 0 ∷ 12 ∷ 0 ∷ 0 ∷ 0 ∷ 1 ∷ 0 ∷ 0 ∷ 0 ∷ 0 ∷ 0 ∷ 0 ∷ 0 ∷ 12 ∷ 0 ∷ 0 ∷ 0
+one_file : file_of 0x5000_0003 1 true (padded (key_bytes ((107 ∷ []) ∷ [])))
+    (0 ∷ 118 ∷ 0 ∷ 1 ∷ 32 ∷ 1 ∷ []) []
+    ≡ written_header ++ (3 ∷ 0 ∷ 0 ∷ 80 ∷ 7 ∷ 0 ∷ 0 ∷ 0 ∷ 9 ∷ 0 ∷ 0 ∷ 0 ∷ 12 ∷ 0 ∷ 0 ∷ 0 ∷ 12 ∷ 0 ∷
+    0 ∷ 0 ∷ 1 ∷ 0 ∷ 0 ∷ 0 ∷ 0 ∷ 0 ∷ 0 ∷ 0 ∷ 12 ∷ 0 ∷ 0 ∷ 0
     ∷ 107 ∷ 0 ∷ 0xaa ∷ 0xaa ∷ 0 ∷ 0 ∷ 118 ∷ 0 ∷ 0 ∷ 0 ∷ 1 ∷ 0 ∷ 32 ∷ 0 ∷ 1 ∷ 0 ∷ [])
 one_file = refl
 
 empty_bundle : List ℕ
 empty_bundle = written_header ++ (
-    0 ∷ 0 ∷ 0 ∷ 0x20 ∷ 7 ∷ 0 ∷ 0 ∷ 0 ∷ 8 ∷ 0 ∷ 0 ∷ 0 ∷ 9 ∷ 0 ∷ 0 ∷ 0 ∷ 9 ∷ 0 ∷ 0 ∷ 0 ∷ 0 ∷ 0 ∷ 0 ∷ 0 ∷ 0 ∷ 0 ∷ 0 ∷ 0 ∷ 9 ∷ 0 ∷ 0 ∷ 0
+    0 ∷ 0 ∷ 0 ∷ 0x20 ∷ 7 ∷ 0 ∷ 0 ∷ 0 ∷ 8 ∷ 0 ∷ 0 ∷ 0 ∷ 9 ∷ 0 ∷ 0 ∷ 0 ∷ 9 ∷ 0 ∷ 0 ∷ 0 ∷ 0 ∷ 0 ∷ 0 ∷ 0
+    ∷ 0 ∷ 0 ∷ 0 ∷ 0 ∷ 9 ∷ 0 ∷ 0 ∷ 0
     ∷ 0 ∷ 0 ∷ 0xaa ∷ 0xaa ∷ [])
 
 empty_index : IndexOf empty_bundle (table no_entries) true
 unfolding empty_bundle units_of words_of
-empty_index = record { header = refl; fields = refl; resources = refl; bundle = refl; largest = refl; no_fallback = refl }
+empty_index = record {
+  header = refl;
+  fields = refl;
+  resources = refl;
+  bundle = refl;
+  largest =
+      refl;
+  no_fallback = refl;
+}
 
 -- What a fault prints.
 prints_limit : message_of (limit (codes "file too large")) ≡ codes "Limit exceeded: file too large"
@@ -90,7 +114,12 @@ size_of_yz = refl
 
 held : IsHeldBy yz xyz
 unfolding xyz yz chars
-held = record { unmarked = refl; ends = record { front = 120 ∷ []; is = refl }; proper = λ (e : 120 ∷ 121 ∷ 122 ∷ [] ≡ 121 ∷ 122 ∷ []). (cc) }
+held = record {
+  unmarked = refl;
+  ends = record { front = 120 ∷ []; is = refl };
+  proper =
+      λ (e : 120 ∷ 121 ∷ 122 ∷ [] ≡ 121 ∷ 122 ∷ []). (cc);
+}
 
 no_record : IsRecord (xyz ∷ yz ∷ []) yz → ⊥
 no_record r = elim r.alone [

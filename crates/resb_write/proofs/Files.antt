@@ -1,11 +1,15 @@
 -- What is put together is the file of its tree.
-use Rattle.std.proofs.Common.{◌≡◌, ℕ, ◌+◌, ◌-◌, ◌*◌, ◌%◌, ◌^◌, ◌<◌, ◌≤◌, List, [], ◌∷◌, ◌++◌, length, get_or, Option, Some, None, option_map, Bool, true, false, cond, refl, sym, ◌∙◌, ap, subst, append_assoc, append-nil, length-append, arith}
+use Rattle.std.proofs.Common.{◌≡◌, ℕ, ◌+◌, ◌-◌, ◌*◌, ◌%◌, ◌^◌, ◌<◌, ◌≤◌, List, [], ◌∷◌, ◌++◌}
+use Rattle.std.proofs.Common.{length, get_or, Option, Some, None, option_map, Bool, true, false}
+use Rattle.std.proofs.Common.{cond, refl, sym, ◌∙◌, ap, subst, append_assoc, append-nil}
+use Rattle.std.proofs.Common.{length-append, arith}
 use Rattle.std.specs.List.{All}
 use Rattle.std.specs.Str.{IsUtf8}
 use Rattle.std.proofs.lemmas.List.{take_at}
 use Rattle.std.proofs.lemmas.List.Elements.{All-contains}
 use Rattle.std.proofs.lemmas.List.Sums.{sum_by-cons}
-use Rattle.resb_tree.specs.Tree.{Tree, string, array, table, binary, integer, int_vector, Entries, no_entries, entry, entries_len, tree_count}
+use Rattle.resb_tree.specs.Tree.{Tree, string, array, table, binary, integer, int_vector, Entries}
+use Rattle.resb_tree.specs.Tree.{no_entries, entry, entries_len, tree_count}
 use Rattle.resb_format.specs.Strings.{text_at, key_at}
 use Rattle.resb_format.specs.Parts.{Parts, root_word}
 use Rattle.resb_format.specs.Denotes.{Den}
@@ -20,7 +24,8 @@ use Rattle.resb_layout.proofs.Denoted.{laid_is_denoted}
 use Rattle.resb_layout.proofs.Paid.{laid_is_paid}
 use Rattle.resb_bodies.specs.WalkOrder.{walk, texts_of, values_of}
 use Rattle.resb_bodies.specs.Room.{HasRoomFor}
-use Rattle.resb_write.specs.Keys.{keys_of, used, key_bytes, padded, key_block, last_of, position_in, key_position, keys_start}
+use Rattle.resb_write.specs.Keys.{keys_of, used, key_bytes, padded, key_block, last_of, position_in}
+use Rattle.resb_write.specs.Keys.{key_position, keys_start}
 use Rattle.resb_write.specs.PlainSize.{held_size, resources_size, list_size}
 use Rattle.resb_write.specs.Faults.{key_fault, fault, first_of}
 use Rattle.resb_write.specs.WrittenHead.{written_header}
@@ -31,7 +36,8 @@ use Rattle.resb_write.specs.Inner.Sizes.{size_fault}
 use Rattle.resb_write.proofs.Keys.{place_contained}
 use Rattle.resb_write.proofs.Room.{small_sizes, used_room, length-padded}
 use Rattle.resb_write.proofs.Known.{is_used, no_nul}
-use Rattle.resb_write.proofs.Blocks.{key_read, even_is, even_long, each_below, below_even, largest_walked}
+use Rattle.resb_write.proofs.Blocks.{key_read, even_is, even_long, each_below, below_even}
+use Rattle.resb_write.proofs.Blocks.{largest_walked}
 use Rattle.resb_write.proofs.Heads as heads
 use Rattle.resb_write.proofs.Heads.{Whole}
 
@@ -42,7 +48,12 @@ entries_values (entry k t es) = omega (arith, entries_values es)
 -- the largest table is bounded by the plain size
 pub largest_room : (ts : List Tree) → largest_of ts ≤ resources_size ts
 largest_room [] = omega arith
-largest_room (t ∷ ts) = omega (arith, by t, largest_room ts, sum_by-cons (λ (u : Tree). 16 + held_size u) t ts)
+largest_room (t ∷ ts) = omega (
+  arith,
+  by t,
+  largest_room ts,
+  sum_by-cons (λ (u : Tree). 16 + held_size u) t ts,
+)
   where
     by : (u : Tree) → entry_count_of u ≤ held_size u
     by (string s) = omega arith
@@ -52,7 +63,8 @@ largest_room (t ∷ ts) = omega (arith, by t, largest_room ts, sum_by-cons (λ (
     by (integer n) = omega arith
     by (int_vector ns) = omega arith
 
-pub block_room : (us ks : List (List ℕ)) → list_size ks < 2 ^ 28 → length (key_bytes (used us ks)) < 2 ^ 28
+pub block_room : (us ks : List (List ℕ)) → list_size ks < 2 ^ 28
+    → length (key_bytes (used us ks)) < 2 ^ 28
 block_room us ks h = omega (arith, used_room us ks, h)
 
 -- what is known when a file is put together
@@ -67,13 +79,16 @@ pub record Made (t : Tree) (ks js : List (List ℕ)) : Type 0 where
   pub small : list_size ks + resources_size (walk t) < 2 ^ 28
   pub plan : IsPlan (texts_of t) pool offset
   pub base : ℕ
-  pub base_is : base ≡ 32 + length (padded (key_bytes js)) + 2 * (length laid.units + length laid.units % 2)
-  pub lays : Lays (record { position = position_in js; offset = offset; base = base }) (record { units = pool; tail = [] }) t laid root
+  pub base_is : base ≡ 32 + length (padded (key_bytes js)) + 2 *
+      (length laid.units + length laid.units % 2)
+  pub lays : Lays (record { position = position_in js; offset = offset; base = base })
+      (record { units = pool; tail = [] }) t laid root
   pub room : HasRoomFor (record { position = position_in js; offset = offset; base = base }) laid []
   pub units_fit : (k : ℕ) → get_or laid.units k 0 < 2 ^ 16
   pub root_fits : root < 2 ^ 32
 
-module _ (t : Tree) (ks js : List (List ℕ)) (m : Made t ks js) (largest : ℕ) (fallback : Bool) (largest_is : largest ≡ largest_of (walk t)) where
+module _ (t : Tree) (ks js : List (List ℕ)) (m : Made t ks js) (largest : ℕ) (fallback : Bool)
+    (largest_is : largest ≡ largest_of (walk t)) where
   abbrev g : Given
   g = record { position = position_in js; offset = m.offset; base = m.base }
 
@@ -81,7 +96,12 @@ module _ (t : Tree) (ks js : List (List ℕ)) (m : Made t ks js) (largest : ℕ)
   block = padded (key_bytes js)
 
   keys_small : length (key_bytes js) < 2 ^ 28
-  keys_small = omega (arith, ap (λ l. length (key_bytes l)) m.js_are, used_room (keys_of t) ks, m.small)
+  keys_small = omega (
+    arith,
+    ap (λ l. length (key_bytes l)) m.js_are,
+    used_room (keys_of t) ks,
+    m.small,
+  )
 
   abbrev us : List ℕ
   us = even m.laid.units
@@ -115,7 +135,10 @@ module _ (t : Tree) (ks js : List (List ℕ)) (m : Made t ks js) (largest : ℕ)
               omega (arith, keys_small, k, b, m.room.units, m.room.bytes),
               (
                 omega (arith, keys_small, k, b, m.room.units, m.room.bytes),
-                (omega (arith, largest_is, largest_room (walk t), m.small), (flag_room fallback, (omega (arith, keys_small, k, b, m.room.units), tt))),
+                (
+                  omega (arith, largest_is, largest_room (walk t), m.small),
+                  (flag_room fallback, (omega (arith, keys_small, k, b, m.room.units), tt)),
+                ),
               ),
             ),
           ),
@@ -150,7 +173,8 @@ module _ (t : Tree) (ks js : List (List ℕ)) (m : Made t ks js) (largest : ℕ)
   begins = (grows m.lays).units_are
 
   block_begins : us ≡ m.pool ++ ((grows m.lays).units ++ more.0)
-  block_begins = more.1 ∙ ap (λ l. l ++ more.0) begins ∙ append_assoc m.pool (grows m.lays).units more.0
+  block_begins = more.1 ∙ ap (λ l. l ++ more.0) begins
+      ∙ append_assoc m.pool (grows m.lays).units more.0
 
   pool_first : (rest : List ℕ) × (m.pool ≡ 0 ∷ rest)
   pool_first = (_, m.plan.pool.units)
@@ -158,20 +182,27 @@ module _ (t : Tree) (ks js : List (List ℕ)) (m : Made t ks js) (largest : ℕ)
   key_is_read : (k : List ℕ) (at : ℕ) → position_in js k ≡ Some at → key_at parts.keys at ≡ Some k
   key_is_read k at e = by (last_of k js) refl e
     where
-      by : (o : Option ℕ) → last_of k js ≡ o → option_map (λ n. keys_start + n) o ≡ Some at → key_at parts.keys at ≡ Some k
+      by : (o : Option ℕ) → last_of k js ≡ o → option_map (λ n. keys_start + n) o ≡ Some at
+          → key_at parts.keys at ≡ Some k
       by None h f = (let n : None ≡ Some at = f in cc)
       by (Some n) h f =
           let q : 32 + n ≡ at = (let f' : Some (32 + n) ≡ Some at = f in cc) in
           ap (key_at parts.keys) (sym q)
-          ∙ key_read (heads.head whole) (fill ((4 - length (key_bytes js) % 4) % 4)) js (heads.head_length whole) k n h
+          ∙ key_read (heads.head whole) (fill ((4 - length (key_bytes js) % 4) % 4)) js
+          (heads.head_length whole) k n h
           (All-contains IsUtf8 js k m.utf8 (place_contained k js n h))
-          (no_nul (keys_of t) js m.faultless k (is_used (keys_of t) js m.faultless ks m.js_are k n h))
+          (no_nul (keys_of t) js m.faultless k (is_used (keys_of t) js m.faultless ks m.js_are k n
+          h))
 
   is_read : IsRead parts g
   is_read = record {
     keys = key_is_read;
-    texts = λ s k e. ap (λ l. text_at l k) block_begins ∙ (pool_is_read (texts_of t) m.pool m.offset m.plan s k e).1 ((grows m.lays).units ++ more.0);
-    empty = ap (λ l. text_at l 0) (block_begins ∙ ap (λ l. l ++ ((grows m.lays).units ++ more.0)) pool_first.1) ∙ text_at-zero (pool_first.0 ++ ((grows m.lays).units ++ more.0));
+    texts = λ s k e. ap (λ l. text_at l k) block_begins
+        ∙ (pool_is_read (texts_of t) m.pool m.offset m.plan s k e).1
+        ((grows m.lays).units ++ more.0);
+    empty = ap (λ l. text_at l 0) (block_begins
+        ∙ ap (λ l. l ++ ((grows m.lays).units ++ more.0)) pool_first.1)
+        ∙ text_at-zero (pool_first.0 ++ ((grows m.lays).units ++ more.0));
     base = omega (arith, m.base_is);
     aligned = base_whole;
   }
@@ -185,7 +216,15 @@ module _ (t : Tree) (ks js : List (List ℕ)) (m : Made t ks js) (largest : ℕ)
     front = front;
     units_behind = more.0;
     bytes_behind = [];
-    front_is = omega (arith, length-append (heads.head whole ++ block) (halves us), length-append (heads.head whole) block, heads.head_length whole, halves_len us, even_long m.laid.units, m.base_is);
+    front_is = omega (
+      arith,
+      length-append (heads.head whole ++ block) (halves us),
+      length-append (heads.head whole) block,
+      heads.head_length whole,
+      halves_len us,
+      even_long m.laid.units,
+      m.base_is,
+    );
     block_is = more.1;
     body_is = sym (append_assoc (heads.head whole) block (halves us ++ m.laid.tail))
         ∙ sym (append_assoc (heads.head whole ++ block) (halves us) m.laid.tail)
@@ -196,10 +235,15 @@ module _ (t : Tree) (ks js : List (List ℕ)) (m : Made t ks js) (largest : ℕ)
   pool_long = omega (arith, ap length pool_first.1)
 
   den : Den parts m.root t (tree_count t)
-  den = laid_is_denoted parts g (record { units = m.pool; tail = [] }) m.laid t m.root is_read pool_long m.lays stands
+  den = laid_is_denoted parts g (record { units = m.pool; tail = [] }) m.laid t m.root is_read
+      pool_long m.lays stands
 
   few : 2 * tree_count t ≤ 2 * length m.laid.units + length m.laid.tail
-  few = omega (arith, laid_is_paid g (record { units = m.pool; tail = [] }) m.laid t m.root m.lays, pool_long)
+  few = omega (
+    arith,
+    laid_is_paid g (record { units = m.pool; tail = [] }) m.laid t m.root m.lays,
+    pool_long,
+  )
 
   same_block : padded (key_bytes js) ≡ key_block t ks
   same_block = ap (λ l. padded (key_bytes l)) m.js_are
@@ -207,8 +251,18 @@ module _ (t : Tree) (ks js : List (List ℕ)) (m : Made t ks js) (largest : ℕ)
   start : tail_start (key_block t ks) m.laid ≡ m.base
   start = omega (arith, ap length same_block, even_long m.laid.units, m.base_is)
 
-  given_is : ◌≡◌ {A = Given} g (record { position = key_position t ks; offset = m.offset; base = tail_start (key_block t ks) m.laid })
-  given_is = λ i. record { position = position_in (m.js_are i); offset = m.offset; base = sym start i }
+  given_is : ◌≡◌ {A = Given} g (record {
+    position = key_position t ks;
+    offset = m.offset;
+    base =
+        tail_start (key_block t ks) m.laid;
+  })
+  given_is = λ i. record {
+    position = position_in (m.js_are i);
+    offset = m.offset;
+    base =
+        sym start i;
+  }
 
   blocks : Blocks t ks
   blocks = record {
@@ -217,12 +271,14 @@ module _ (t : Tree) (ks js : List (List ℕ)) (m : Made t ks js) (largest : ℕ)
     laid = m.laid;
     root = m.root;
     is_pool = m.plan;
-    lays = subst (λ h. Lays h (record { units = m.pool; tail = [] }) t m.laid m.root) given_is m.lays;
+    lays = subst (λ h. Lays h (record { units = m.pool; tail = [] }) t m.laid m.root) given_is
+        m.lays;
   }
 
   no_fault : fault t ks ≡ None
   no_fault =
-      ap (λ o. first_of o (size_fault (walk t))) (ap (key_fault (keys_of t)) (sym m.js_are) ∙ m.faultless)
+      ap (λ o. first_of o (size_fault (walk t))) (ap (key_fault (keys_of t)) (sym m.js_are)
+      ∙ m.faultless)
       ∙ small_sizes (walk t) (omega (arith, m.small))
 
   pub written : Written file t fallback ks
@@ -234,7 +290,14 @@ module _ (t : Tree) (ks js : List (List ℕ)) (m : Made t ks js) (largest : ℕ)
       root = subst (λ p. Den p (root_word file) t (tree_count t)) (sym (heads.parts_are whole))
           (subst (λ w. Den parts w t (tree_count t)) (sym (heads.root_is whole)) den);
     };
-    within_budget = omega (arith, heads.file_length whole, few, even_long m.laid.units, tail_whole, units_whole);
+    within_budget = omega (
+      arith,
+      heads.file_length whole,
+      few,
+      even_long m.laid.units,
+      tail_whole,
+      units_whole,
+    );
     index = record {
       header = take_at written_header (heads.body whole) 32 refl;
       fields = heads.fields_are whole;
@@ -246,6 +309,12 @@ module _ (t : Tree) (ks js : List (List ℕ)) (m : Made t ks js) (largest : ℕ)
     blocks = blocks;
     root = heads.root_is whole;
     keys_end = omega (arith, heads.keys_end_is whole, block_whole, ap length same_block);
-    block_end = omega (arith, heads.block_end_is whole, block_whole, units_whole, ap length same_block);
+    block_end = omega (
+      arith,
+      heads.block_end_is whole,
+      block_whole,
+      units_whole,
+      ap length same_block,
+    );
     body = heads.behind_head whole ∙ ap (λ l. l ++ (halves us ++ m.laid.tail)) same_block;
   }

@@ -1,5 +1,7 @@
 -- What one more resource adds to what is gathered.
-use Rattle.std.proofs.Common.{◌≡◌, ℕ, ◌+◌, ◌-◌, ◌^◌, min, max, List, [], ◌∷◌, ◌++◌, length, Option, Some, None, Bool, true, false, cond, ◌||◌, nat_le, refl, sym, ◌∙◌, ap, append-nil, arith}
+use Rattle.std.proofs.Common.{◌≡◌, ℕ, ◌+◌, ◌-◌, ◌^◌, min, max, List, [], ◌∷◌, ◌++◌, length, Option}
+use Rattle.std.proofs.Common.{Some, None, Bool, true, false, cond, ◌||◌, nat_le, refl, sym, ◌∙◌, ap}
+use Rattle.std.proofs.Common.{append-nil, arith}
 use Rattle.std.specs.List.{list_any, flat_map}
 use Rattle.std.specs.Option.{option_or}
 use Rattle.std.proofs.lemmas.List.Concat.{flat_map-append}
@@ -17,11 +19,13 @@ use Rattle.resb_write.specs.Faults.{is_over_32_bits}
 use Rattle.resb_write.specs.Inner.Gathered.{entry_count_of, largest_of, Gathered}
 use Rattle.resb_write.specs.declared.contents.Contents.{Contents}
 
-pub largest-push : (ts : List Tree) (t : Tree) → largest_of (ts ++ t ∷ []) ≡ max (largest_of ts) (entry_count_of t)
+pub largest-push : (ts : List Tree) (t : Tree)
+    → largest_of (ts ++ t ∷ []) ≡ max (largest_of ts) (entry_count_of t)
 largest-push [] t = omega arith
 largest-push (u ∷ ts) t = omega (arith, largest-push ts t)
 
-or_assoc : {X : Type 0} (a b c : Option X) → option_or a (option_or b c) ≡ option_or (option_or a b) c
+or_assoc : {X : Type 0} (a b c : Option X) → option_or a (option_or b c) ≡ option_or (option_or a b)
+    c
 or_assoc None b c = refl
 or_assoc (Some x) b c = refl
 
@@ -29,24 +33,30 @@ pub or_none : {X : Type 0} (o : Option X) → option_or o None ≡ o
 or_none None = refl
 or_none (Some x) = refl
 
-first-cons : (s : List ℕ) (ss : List (List ℕ)) → first_too_long (s ∷ ss) ≡ option_or (first_too_long (s ∷ [])) (first_too_long ss)
+first-cons : (s : List ℕ) (ss : List (List ℕ))
+    → first_too_long (s ∷ ss) ≡ option_or (first_too_long (s ∷ [])) (first_too_long ss)
 first-cons s ss = by (nat_le (length (units s)) 4294967295)
   where
-    by : (b : Bool) → cond b (first_too_long ss) (Some (length (units s))) ≡ option_or (cond b None (Some (length (units s)))) (first_too_long ss)
+    by : (b : Bool) → cond b (first_too_long ss) (Some (length (units s))) ≡ option_or
+        (cond b None (Some (length (units s)))) (first_too_long ss)
     by true = refl
     by false = refl
 
-pub first-append : (ss rs : List (List ℕ)) → first_too_long (ss ++ rs) ≡ option_or (first_too_long ss) (first_too_long rs)
+pub first-append : (ss rs : List (List ℕ))
+    → first_too_long (ss ++ rs) ≡ option_or (first_too_long ss) (first_too_long rs)
 first-append [] rs = refl
 first-append (s ∷ ss) rs =
     first-cons s (ss ++ rs) ∙ ap (option_or (first_too_long (s ∷ []))) (first-append ss rs)
     ∙ or_assoc (first_too_long (s ∷ [])) (first_too_long ss) (first_too_long rs)
     ∙ ap (λ o. option_or o (first_too_long rs)) (sym (first-cons s ss))
 
-size-push : (ts : List Tree) (t : Tree) → resources_size (ts ++ t ∷ []) ≡ resources_size ts + (16 + held_size t)
-size-push ts t = sum_by-append (λ (u : Tree). 16 + held_size u) ts (t ∷ []) ∙ omega (arith, sum_by-cons (λ (u : Tree). 16 + held_size u) t [])
+size-push : (ts : List Tree) (t : Tree)
+    → resources_size (ts ++ t ∷ []) ≡ resources_size ts + (16 + held_size t)
+size-push ts t = sum_by-append (λ (u : Tree). 16 + held_size u) ts (t ∷ [])
+    ∙ omega (arith, sum_by-cons (λ (u : Tree). 16 + held_size u) t [])
 
-flat-push : (f : Tree → List (List ℕ)) (ts : List Tree) (t : Tree) → flat_map f (ts ++ t ∷ []) ≡ flat_map f ts ++ f t
+flat-push : (f : Tree → List (List ℕ)) (ts : List Tree) (t : Tree)
+    → flat_map f (ts ++ t ∷ []) ≡ flat_map f ts ++ f t
 flat-push f ts t = flat_map-append f ts (t ∷ []) ∙ ap (λ l. flat_map f ts ++ l) (append-nil (f t))
 
 pub or_false : (b : Bool) → (b || false) ≡ b
@@ -62,40 +72,62 @@ pub record Adds (old new : Contents) (t : Tree) : Type 0 where
   pub too_long : new.too_long ≡ option_or old.too_long (first_too_long (text_in t))
   pub over : new.has_count_over_32_bits ≡ (old.has_count_over_32_bits || is_over_32_bits t)
 
-module _ (old new : Contents) (t : Tree) (a : Adds old new t) (ts : List Tree) (g : Gathered ts old) where
-  pub added : Gathered (ts ++ t ∷ []) new
-  added = record {
-    keys_are = a.keys ∙ ap (λ l. l ++ own_keys t) g.keys_are ∙ sym (flat-push own_keys ts t);
-    texts_are = a.texts ∙ ap (λ l. l ++ text_in t) g.texts_are ∙ sym (flat-push text_in ts t);
-    size_is = omega (arith, a.size, g.size_is, size-push ts t);
-    largest_is = a.largest ∙ ap (λ n. max n (entry_count_of t)) g.largest_is ∙ sym (largest-push ts t);
-    too_long_is = a.too_long ∙ ap (λ o. option_or o (first_too_long (text_in t))) g.too_long_is
-        ∙ sym (first-append (flat_map text_in ts) (text_in t)) ∙ ap first_too_long (sym (flat-push text_in ts t));
-    over_is = a.over ∙ ap (λ b. b || is_over_32_bits t) g.over_is ∙ ap (λ b. list_any is_over_32_bits ts || b) (sym (or_false (is_over_32_bits t)))
-        ∙ sym (list_any-append is_over_32_bits ts (t ∷ []));
-  }
+module _ (old new : Contents) (t : Tree) (a : Adds old new t) (ts : List Tree) (g : Gathered ts old)
+  where
+    pub added : Gathered (ts ++ t ∷ []) new
+    added = record {
+      keys_are = a.keys ∙ ap (λ l. l ++ own_keys t) g.keys_are ∙ sym (flat-push own_keys ts t);
+      texts_are = a.texts ∙ ap (λ l. l ++ text_in t) g.texts_are ∙ sym (flat-push text_in ts t);
+      size_is = omega (arith, a.size, g.size_is, size-push ts t);
+      largest_is = a.largest ∙ ap (λ n. max n (entry_count_of t)) g.largest_is
+          ∙ sym (largest-push ts t);
+      too_long_is = a.too_long ∙ ap (λ o. option_or o (first_too_long (text_in t))) g.too_long_is
+          ∙ sym (first-append (flat_map text_in ts) (text_in t))
+          ∙ ap first_too_long (sym (flat-push text_in ts t));
+      over_is = a.over ∙ ap (λ b. b || is_over_32_bits t) g.over_is
+          ∙ ap (λ b. list_any is_over_32_bits ts || b) (sym (or_false (is_over_32_bits t)))
+          ∙ sym (list_any-append is_over_32_bits ts (t ∷ []));
+    }
 
 -- a resource with no key and no text
-module _ (old new : Contents) (t : Tree) (n : ℕ) (b : Bool) (no_keys : own_keys t ≡ []) (no_text : text_in t ≡ []) (no_entries : entry_count_of t ≡ 0) (held : held_size t ≡ n) (over : is_over_32_bits t ≡ b) where
-  pub adds_plain : new ≡ record old { size = min (old.size + (16 + n)) (2 ^ 64 - 1); has_count_over_32_bits = old.has_count_over_32_bits || b } → Adds old new t
+module _ (old new : Contents) (t : Tree) (n : ℕ) (b : Bool) (no_keys : own_keys t ≡ [])
+    (no_text : text_in t ≡ []) (no_entries : entry_count_of t ≡ 0) (held : held_size t ≡ n)
+    (over : is_over_32_bits t ≡ b) where
+  pub adds_plain : new ≡ record old {
+    size = min (old.size + (16 + n)) (2 ^ 64 - 1);
+    has_count_over_32_bits = old.has_count_over_32_bits || b;
+  } → Adds old new t
   adds_plain e = record {
-    keys = ap (λ c. nows c.keys.items) e ∙ sym (append-nil (nows old.keys.items)) ∙ ap (λ l. nows old.keys.items ++ l) (sym no_keys);
-    texts = ap (λ c. nows c.texts.items) e ∙ sym (append-nil (nows old.texts.items)) ∙ ap (λ l. nows old.texts.items ++ l) (sym no_text);
+    keys = ap (λ c. nows c.keys.items) e ∙ sym (append-nil (nows old.keys.items))
+        ∙ ap (λ l. nows old.keys.items ++ l) (sym no_keys);
+    texts = ap (λ c. nows c.texts.items) e ∙ sym (append-nil (nows old.texts.items))
+        ∙ ap (λ l. nows old.texts.items ++ l) (sym no_text);
     size = ap (λ c. c.size) e ∙ ap (λ m. min (old.size + (16 + m)) (2 ^ 64 - 1)) (sym held);
     largest = omega (arith, ap (λ c. c.largest_table) e, no_entries);
-    too_long = ap (λ c. c.too_long) e ∙ sym (or_none old.too_long) ∙ ap (λ l. option_or old.too_long (first_too_long l)) (sym no_text);
-    over = ap (λ c. c.has_count_over_32_bits) e ∙ ap (λ x. old.has_count_over_32_bits || x) (sym over);
+    too_long = ap (λ c. c.too_long) e ∙ sym (or_none old.too_long)
+        ∙ ap (λ l. option_or old.too_long (first_too_long l)) (sym no_text);
+    over = ap (λ c. c.has_count_over_32_bits) e
+        ∙ ap (λ x. old.has_count_over_32_bits || x) (sym over);
   }
 
-pub plain_integer : (old new : Contents) → new ≡ record old { size = min (old.size + (16 + 0)) (2 ^ 64 - 1) }
-    → new ≡ record old { size = min (old.size + (16 + 0)) (2 ^ 64 - 1); has_count_over_32_bits = old.has_count_over_32_bits || false }
-plain_integer old new e = e ∙ (λ i. record old { size = min (old.size + (16 + 0)) (2 ^ 64 - 1); has_count_over_32_bits = sym (or_false old.has_count_over_32_bits) i })
+pub plain_integer : (old new : Contents)
+    → new ≡ record old { size = min (old.size + (16 + 0)) (2 ^ 64 - 1) }
+    → new ≡ record old {
+      size = min (old.size + (16 + 0)) (2 ^ 64 - 1);
+      has_count_over_32_bits =
+          old.has_count_over_32_bits || false;
+    }
+plain_integer old new e = e ∙ (λ i. record old {
+  size = min (old.size + (16 + 0)) (2 ^ 64 - 1);
+  has_count_over_32_bits = sym (or_false old.has_count_over_32_bits) i;
+})
 
 pub items_long : (rs : List Resource) → length (members (items_view rs)) ≡ length rs
 items_long [] = refl
 items_long (r ∷ rs) = omega (arith, items_long rs)
 
-pub entries_long : (es : List (List ℕ × Resource)) → length (values_of (entries_view es)) ≡ length es
+pub entries_long : (es : List (List ℕ × Resource))
+    → length (values_of (entries_view es)) ≡ length es
 entries_long [] = refl
 entries_long (e ∷ es) = omega (arith, entries_long es)
 

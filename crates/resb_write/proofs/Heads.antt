@@ -1,8 +1,12 @@
 -- The parts of a file that is put together from its header, its words, its blocks and its tail.
-use Rattle.std.proofs.Common.{◌≡◌, ℕ, ◌+◌, ◌-◌, ◌*◌, ◌/◌, ◌%◌, ◌^◌, List, [], ◌∷◌, ◌++◌, length, get_or, take, drop, Bool, cond, refl, sym, ◌∙◌, ap, append_assoc, append-nil, length-append, arith}
+use Rattle.std.proofs.Common.{◌≡◌, ℕ, ◌+◌, ◌-◌, ◌*◌, ◌/◌, ◌%◌, ◌^◌, List, [], ◌∷◌, ◌++◌, length}
+use Rattle.std.proofs.Common.{get_or, take, drop, Bool, cond, refl, sym, ◌∙◌, ap, append_assoc}
+use Rattle.std.proofs.Common.{append-nil, length-append, arith}
 use Rattle.std.proofs.lemmas.List.{take_at, drop_at}
 use Rattle.resb_format.specs.Bytes.{units_of, words_of}
-use Rattle.resb_format.specs.Parts.{Parts, header_size, body_of, root_word, field_count, keys_end, resources_end, bundle_end, largest_table_field, attributes, block_end, parts_of, IsBundleFile}
+use Rattle.resb_format.specs.Parts.{Parts, header_size, body_of, root_word, field_count, keys_end}
+use Rattle.resb_format.specs.Parts.{resources_end, bundle_end, largest_table_field, attributes}
+use Rattle.resb_format.specs.Parts.{block_end, parts_of, IsBundleFile}
 use Rattle.resb_layout.specs.Laid.{words, halves}
 use Rattle.resb_layout.proofs.Numbers.{EachBelow, words_read, halves_read, words_len, halves_len}
 use Rattle.resb_write.specs.WrittenHead.{written_header}
@@ -17,7 +21,8 @@ unfolding units_of
 header_of rest = refl
 
 pub body_behind : (rest : List ℕ) → body_of (written_header ++ rest) ≡ rest
-body_behind rest = ap (λ n. drop n (written_header ++ rest)) (header_of rest) ∙ drop_at written_header rest 32 refl
+body_behind rest = ap (λ n. drop n (written_header ++ rest)) (header_of rest)
+    ∙ drop_at written_header rest 32 refl
 
 pub record Whole : Type 0 where
   pub root : ℕ
@@ -58,9 +63,11 @@ module _ (x : Whole) where
   body_is = body_behind body
 
   words_are : words_of (body_of file) ≡ head_words ++ words_of (x.keys ++ (halves x.us ++ x.tail))
-  words_are = ap words_of body_is ∙ words_read head_words (x.keys ++ (halves x.us ++ x.tail)) x.words_fit
+  words_are = ap words_of body_is ∙ words_read head_words (x.keys ++ (halves x.us ++ x.tail))
+      x.words_fit
 
-  word_is : (i : ℕ) → get_or (words_of (body_of file)) i 0 ≡ get_or (head_words ++ words_of (x.keys ++ (halves x.us ++ x.tail))) i 0
+  word_is : (i : ℕ) → get_or (words_of (body_of file)) i 0 ≡ get_or
+      (head_words ++ words_of (x.keys ++ (halves x.us ++ x.tail))) i 0
   word_is i = ap (λ ws. get_or ws i 0) words_are
 
   pub root_is : root_word file ≡ x.root
@@ -102,7 +109,17 @@ module _ (x : Whole) where
   pub body_length : length (body_of file) ≡ 4 * (8 + k + b + d)
   body_length =
       ap length body_is
-      ∙ omega (arith, key_length, unit_length, tail_length, length-append head (x.keys ++ (halves x.us ++ x.tail)), length-append x.keys (halves x.us ++ x.tail), length-append (halves x.us) x.tail, head_length, halves_len x.us)
+      ∙ omega (
+        arith,
+        key_length,
+        unit_length,
+        tail_length,
+        length-append head (x.keys ++ (halves x.us ++ x.tail)),
+        length-append x.keys (halves x.us ++ x.tail),
+        length-append (halves x.us) x.tail,
+        head_length,
+        halves_len x.us,
+      )
 
   pub file_length : length file ≡ 32 + 4 * (8 + k + b + d)
   file_length = omega (arith, length-append written_header body, ap length body_is, body_length)
@@ -114,18 +131,22 @@ module _ (x : Whole) where
   body_split = sym (append_assoc head x.keys (halves x.us ++ x.tail))
 
   pub keys_are : take (4 * keys_end file) (body_of file) ≡ head ++ x.keys
-  keys_are = (λ i. take (4 * keys_end_is i) ((body_is ∙ body_split) i)) ∙ take_at (head ++ x.keys) (halves x.us ++ x.tail) (4 * (8 + k)) front_length
+  keys_are = (λ i. take (4 * keys_end_is i) ((body_is ∙ body_split) i))
+      ∙ take_at (head ++ x.keys) (halves x.us ++ x.tail) (4 * (8 + k)) front_length
 
   pub behind_head : drop 32 (body_of file) ≡ x.keys ++ (halves x.us ++ x.tail)
-  behind_head = ap (drop 32) body_is ∙ drop_at head (x.keys ++ (halves x.us ++ x.tail)) 32 head_length
+  behind_head = ap (drop 32) body_is
+      ∙ drop_at head (x.keys ++ (halves x.us ++ x.tail)) 32 head_length
 
   rest_is : drop (4 * keys_end file) (body_of file) ≡ halves x.us ++ x.tail
-  rest_is = (λ i. drop (4 * keys_end_is i) ((body_is ∙ body_split) i)) ∙ drop_at (head ++ x.keys) (halves x.us ++ x.tail) (4 * (8 + k)) front_length
+  rest_is = (λ i. drop (4 * keys_end_is i) ((body_is ∙ body_split) i))
+      ∙ drop_at (head ++ x.keys) (halves x.us ++ x.tail) (4 * (8 + k)) front_length
 
   halves_long : length (halves x.us) ≡ 4 * (8 + k + b - (8 + k))
   halves_long = omega (arith, halves_len x.us, unit_length)
 
-  block_is : units_of (take (4 * (block_end file - keys_end file)) (drop (4 * keys_end file) (body_of file))) ≡ x.us
+  block_is : units_of (take (4 * (block_end file - keys_end file))
+      (drop (4 * keys_end file) (body_of file))) ≡ x.us
   block_is =
       (λ i. units_of (take (4 * (block_end_is i - keys_end_is i)) (rest_is i)))
       ∙ ap units_of (take_at (halves x.us) x.tail (4 * (8 + k + b - (8 + k))) halves_long)

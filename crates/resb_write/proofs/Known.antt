@@ -1,5 +1,8 @@
--- The keys and texts of a tree's resources are known where no key has a fault and the texts are planned.
-use Rattle.std.proofs.Common.{◌≡◌, ℕ, zero, suc, ◌+◌, ◌^◌, ◌<◌, List, [], ◌∷◌, ◌++◌, map, filter, Option, Some, None, option_map, MatchOption, All, Bool, true, false, cond, nat_lt, unwrap_or, inl, inr, refl, sym, ◌∙◌, ap, subst, arith}
+-- The keys and texts of a tree's resources are known where no key has a fault and the texts are
+-- planned.
+use Rattle.std.proofs.Common.{◌≡◌, ℕ, zero, suc, ◌+◌, ◌^◌, ◌<◌, List, [], ◌∷◌, ◌++◌, map, filter}
+use Rattle.std.proofs.Common.{Option, Some, None, option_map, MatchOption, All, Bool, true, false}
+use Rattle.std.proofs.Common.{cond, nat_lt, unwrap_or, inl, inr, refl, sym, ◌∙◌, ap, subst, arith}
 use Rattle.std.specs.List.{list_any, flat_map, Contains}
 use Rattle.std.specs.Option.{is_none}
 use Rattle.std.specs.Cmp.Lexicographic.{bytes_decides}
@@ -20,12 +23,15 @@ use Rattle.resb_write.specs.Inner.Places.{near_position, near_position_in}
 use Rattle.resb_write.proofs.Keys.{place_contained}
 
 module _ {X : Type 0} where
-  pub none_member : (p : X → Bool) (xs : List X) (x : X) → list_any p xs ≡ false → Contains xs x → p x ≡ false
+  pub none_member : (p : X → Bool) (xs : List X) (x : X) → list_any p xs ≡ false → Contains xs x
+      → p x ≡ false
   none_member p [] x e h = absurd (omega (arith, h.1))
   none_member p (y ∷ ys) x e (zero, lt, is) = ap p (sym is) ∙ (or_parts (p y) (list_any p ys) e).0
-  none_member p (y ∷ ys) x e (suc i, lt, is) = none_member p ys x (or_parts (p y) (list_any p ys) e).1 (i, omega arith, is)
+  none_member p (y ∷ ys) x e (suc i, lt, is) =
+      none_member p ys x (or_parts (p y) (list_any p ys) e).1 (i, omega arith, is)
 
-  pub any_member : (p : X → Bool) (xs : List X) → list_any p xs ≡ true → (x : X) × Contains xs x × (p x ≡ true)
+  pub any_member : (p : X → Bool) (xs : List X) → list_any p xs ≡ true → (x : X) × Contains xs x
+      × (p x ≡ true)
   any_member p [] e = absurd (false≢true e)
   any_member p (x ∷ xs) e = elim (or_cases (p x) (list_any p xs) e) [
     | inl h ↦ (x, (0, omega arith, refl), h)
@@ -35,31 +41,40 @@ module _ {X : Type 0} where
   later : (xs : List X) (y x : X) → Contains xs x → Contains (y ∷ xs) x
   later xs y x h = (suc h.0, omega (arith, h.1), h.2)
 
-  kept_by : (p : X → Bool) (y : X) (ys : List X) (x : X) → (Contains (filter p ys) x → (p x ≡ true) × Contains ys x)
-      → (b : Bool) → p y ≡ b → Contains (cond b (y ∷ filter p ys) (filter p ys)) x → (p x ≡ true) × Contains (y ∷ ys) x
+  kept_by : (p : X → Bool) (y : X) (ys : List X) (x : X) → (Contains (filter p ys) x → (p x ≡ true)
+      × Contains ys x)
+      → (b : Bool) → p y ≡ b → Contains (cond b (y ∷ filter p ys) (filter p ys)) x → (p x ≡ true)
+      × Contains (y ∷ ys) x
   kept_by p y ys x f true e (zero, lt, is) = (ap p (sym is) ∙ e, (0, omega arith, is))
-  kept_by p y ys x f true e (suc i, lt, is) = (let k = f (i, omega arith, is) in (k.0, later ys y x k.1))
+  kept_by p y ys x f true e (suc i, lt, is) =
+      (let k = f (i, omega arith, is) in (k.0, later ys y x k.1))
   kept_by p y ys x f false e h = (let k = f h in (k.0, later ys y x k.1))
 
   -- what a filter keeps passes its test, and was there
-  pub kept : (p : X → Bool) (xs : List X) (x : X) → Contains (filter p xs) x → (p x ≡ true) × Contains xs x
+  pub kept : (p : X → Bool) (xs : List X) (x : X) → Contains (filter p xs) x → (p x ≡ true)
+      × Contains xs x
   kept p [] x h = absurd (omega (arith, h.1))
   kept p (y ∷ ys) x h = kept_by p y ys x (kept p ys x) (p y) refl h
 
   pub all_from : (P : X → Type 0) (xs : List X) → ((x : X) → Contains xs x → P x) → All P xs
   all_from P [] f = All-nil P
-  all_from P (x ∷ xs) f = All-cons P x xs (f x (0, omega arith, refl)) (all_from P xs (λ y h. f y (later xs x y h)))
+  all_from P (x ∷ xs) f = All-cons P x xs (f x (0, omega arith, refl))
+      (all_from P xs (λ y h. f y (later xs x y h)))
 
 module _ {A : Type 0} where
-  pub in_flat : (f : Tree → List A) (ts : List Tree) (t : Tree) (x : A) → Contains ts t → Contains (f t) x → Contains (flat_map f ts) x
+  pub in_flat : (f : Tree → List A) (ts : List Tree) (t : Tree) (x : A) → Contains ts t
+      → Contains (f t) x → Contains (flat_map f ts) x
   in_flat f [] t x h c = absurd (omega (arith, h.1))
-  in_flat f (u ∷ ts) t x (zero, lt, is) c = in_front (f u) (flat_map f ts) x (subst (λ v. Contains (f v) x) (sym is) c)
+  in_flat f (u ∷ ts) t x (zero, lt, is) c =
+      in_front (f u) (flat_map f ts) x (subst (λ v. Contains (f v) x) (sym is) c)
     where
       in_front : (xs ys : List A) (x : A) → Contains xs x → Contains (xs ++ ys) x
       in_front [] ys x h = absurd (omega (arith, h.1))
       in_front (y ∷ xs) ys x (zero, lt, is) = (0, omega arith, is)
-      in_front (y ∷ xs) ys x (suc i, lt, is) = later (xs ++ ys) y x (in_front xs ys x (i, omega arith, is))
-  in_flat f (u ∷ ts) t x (suc i, lt, is) c = behind (f u) (flat_map f ts) x (in_flat f ts t x (i, omega arith, is) c)
+      in_front (y ∷ xs) ys x (suc i, lt, is) =
+          later (xs ++ ys) y x (in_front xs ys x (i, omega arith, is))
+  in_flat f (u ∷ ts) t x (suc i, lt, is) c =
+      behind (f u) (flat_map f ts) x (in_flat f ts t x (i, omega arith, is) c)
     where
       behind : (xs ys : List A) (x : A) → Contains ys x → Contains (xs ++ ys) x
       behind [] ys x h = h
@@ -67,14 +82,17 @@ module _ {A : Type 0} where
 
 -- where keys us with those that are listed js have no fault
 module _ (us js : List (List ℕ)) (faultless : key_fault us js ≡ None) where
-  parts : (a b c : Bool) (x y z : Fault) → cond a (Some x) (cond b (Some y) (cond c (Some z) None)) ≡ None → (a ≡ false) × (b ≡ false) × (c ≡ false)
+  parts : (a b c : Bool) (x y z : Fault) → cond a (Some x) (cond b (Some y) (cond c (Some z) None))
+      ≡ None → (a ≡ false) × (b ≡ false) × (c ≡ false)
   parts true b c x y z e = (let n : Some x ≡ None = e in cc)
   parts false true c x y z e = (let n : Some y ≡ None = e in cc)
   parts false false true x y z e = (let n : Some z ≡ None = e in cc)
   parts false false false x y z e = (refl, refl, refl)
 
-  pub tests : (list_any (is_unlisted js) us ≡ false) × (list_any has_nul us ≡ false) × (list_any (is_far js) us ≡ false)
-  tests = parts (list_any (is_unlisted js) us) (list_any has_nul us) (list_any (is_far js) us) _ _ _ faultless
+  pub tests : (list_any (is_unlisted js) us ≡ false) × (list_any has_nul us ≡ false)
+      × (list_any (is_far js) us ≡ false)
+  tests = parts (list_any (is_unlisted js) us) (list_any has_nul us) (list_any (is_far js) us) _ _ _
+      faultless
 
   pub placed : (k : List ℕ) → Contains us k → (p : ℕ) × (position_in js k ≡ Some p)
   placed k c = there (position_in js k) (none_member (is_unlisted js) us k tests.0 c)
@@ -83,7 +101,8 @@ module _ (us js : List (List ℕ)) (faultless : key_fault us js ≡ None) where
       there None e = cc
       there (Some p) e = (p, refl)
 
-  pub placed_each : (ks : List (List ℕ)) → ((k : List ℕ) → Contains ks k → Contains us k) → (ps : List ℕ) × (map (position_in js) ks ≡ map Some ps)
+  pub placed_each : (ks : List (List ℕ)) → ((k : List ℕ) → Contains ks k → Contains us k)
+      → (ps : List ℕ) × (map (position_in js) ks ≡ map Some ps)
   placed_each [] f = ([], refl)
   placed_each (k ∷ ks) f =
       let p = placed k (f k (0, omega arith, refl)) in
@@ -97,36 +116,46 @@ module _ (us js : List (List ℕ)) (faultless : key_fault us js ≡ None) where
     -- a listed key that has a place is used
     pub is_used : (k : List ℕ) (n : ℕ) → last_of k js ≡ Some n → Contains us k
     is_used k n e =
-        let c = kept (is_among us) ks k (subst (λ l. Contains l k) js_are (place_contained k js n e)) in
+        let c = kept (is_among us) ks k
+        (subst (λ l. Contains l k) js_are (place_contained k js n e)) in
         let m = any_member (same_text k) us c.0 in
         subst (Contains us) (sym ((bytes_decides k m.0).0 m.2)) m.1
 
     -- no position is cut
-    near_is : (k : List ℕ) (o : Option ℕ) → last_of k js ≡ o → option_map near_position o ≡ option_map (λ n. keys_start + n) o
+    near_is : (k : List ℕ) (o : Option ℕ) → last_of k js ≡ o
+        → option_map near_position o ≡ option_map (λ n. keys_start + n) o
     near_is k None e = refl
     near_is k (Some n) e =
         let f = none_member (is_far js) us k tests.2 (is_used k n e) in
-        let l : nat_lt 2147483647 (32 + n) ≡ false = sym (ap (λ o. nat_lt 2147483647 (unwrap_or (option_map (λ m. keys_start + m) o) 0)) e) ∙ f in
+        let l : nat_lt 2147483647 (32 + n) ≡ false =
+        sym (ap (λ o. nat_lt 2147483647 (unwrap_or (option_map (λ m. keys_start + m) o) 0)) e)
+        ∙ f in
         ap Some (omega (arith, ltb-false 2147483647 (32 + n) l))
 
     pub exact : (k : List ℕ) → near_position_in js k ≡ position_in js k
     exact k = near_is k (last_of k js) refl
 
 -- where the texts S are planned
-module _ (S : List (List ℕ)) (us : List ℕ) (offset : List ℕ → Option ℕ) (plan : IsPlan S us offset) where
-  pub offset_of_text : (s : List ℕ) → Contains S s → (k : ℕ) × (offset s ≡ Some k) × (k < 2 ^ 28)
-  offset_of_text s c = by (offset s) refl (plan.offsets s)
-    where
-      by : (o : Option ℕ) → offset s ≡ o → MatchOption o (Contains S s → ⊥) (λ k. Contains S s × Off S plan.records s k) → (k : ℕ) × (offset s ≡ Some k) × (k < 2 ^ 28)
-      by None e h = absurd (h c)
-      by (Some k) e h = (k, e, omega (arith, (pool_is_read S us offset plan s k e).0, plan.room))
+module _ (S : List (List ℕ)) (us : List ℕ) (offset : List ℕ → Option ℕ) (plan : IsPlan S us offset)
+  where
+    pub offset_of_text : (s : List ℕ) → Contains S s → (k : ℕ) × (offset s ≡ Some k) × (k < 2 ^ 28)
+    offset_of_text s c = by (offset s) refl (plan.offsets s)
+      where
+        by : (o : Option ℕ) → offset s ≡ o → MatchOption o (Contains S s → ⊥) (λ k. Contains S s
+            × Off S plan.records s k) → (k : ℕ) × (offset s ≡ Some k) × (k < 2 ^ 28)
+        by None e h = absurd (h c)
+        by (Some k) e h = (k, e, omega (arith, (pool_is_read S us offset plan s k e).0, plan.room))
 
-module _ (ts : List Tree) (g : Given) (js : List (List ℕ)) (us : List ℕ) (plan : IsPlan (flat_map text_in ts) us g.offset)
-    (faultless : key_fault (flat_map own_keys ts) js ≡ None) (positions : (k : List ℕ) → g.position k ≡ position_in js k) where
+module _ (ts : List Tree) (g : Given) (js : List (List ℕ)) (us : List ℕ)
+    (plan : IsPlan (flat_map text_in ts) us g.offset)
+    (faultless : key_fault (flat_map own_keys ts) js ≡ None) (positions : (k : List ℕ)
+    → g.position k ≡ position_in js k) where
   known : (t : Tree) → Contains ts t → IsKnown g t
-  known (string s) c = offset_of_text (flat_map text_in ts) us g.offset plan s (in_flat text_in ts (string s) s c (0, omega arith, refl))
+  known (string s) c = offset_of_text (flat_map text_in ts) us g.offset plan s
+      (in_flat text_in ts (string s) s c (0, omega arith, refl))
   known (table es) c =
-      let r = placed_each (flat_map own_keys ts) js faultless (keys_in es) (λ k h. in_flat own_keys ts (table es) k c h) in
+      let r = placed_each (flat_map own_keys ts) js faultless (keys_in es)
+      (λ k h. in_flat own_keys ts (table es) k c h) in
       (r.0, (λ i. map (λ k. positions k i) (keys_in es)) ∙ r.1)
   known (array us) c = tt
   known (binary s) c = tt

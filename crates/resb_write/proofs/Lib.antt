@@ -1,4 +1,5 @@
 pub mod Keys
+pub mod Distinct
 pub mod Faults
 pub mod Gathering
 pub mod Room

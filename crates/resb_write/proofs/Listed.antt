@@ -1,35 +1,50 @@
 -- Where each key of a tree is listed, no key is refused as unlisted.
-use Rattle.std.proofs.Common.{◌≡◌, ℕ, zero, suc, ◌+◌, ◌<◌, List, [], ◌∷◌, ◌++◌, length, filter, Option, Some, None, option_map, Bool, true, false, cond, ◌||◌, codes, inl, inr, refl, sym, ◌∙◌, ap, subst, append_assoc, append-nil, arith}
+use Rattle.std.proofs.Common.{◌≡◌, ℕ, zero, suc, ◌+◌, ◌<◌, List, [], ◌∷◌, ◌++◌, length, filter}
+use Rattle.std.proofs.Common.{Option, Some, None, option_map, Bool, true, false, cond, ◌||◌, codes}
+use Rattle.std.proofs.Common.{inl, inr, refl, sym, ◌∙◌, ap, subst, append_assoc, append-nil, arith}
 use Rattle.std.specs.List.{Contains, list_any, flat_map}
 use Rattle.std.specs.Option.{is_none}
 use Rattle.std.specs.Cmp.Lexicographic.{bytes_decides}
 use Rattle.std.proofs.lemmas.Bool.{or_left, or_right, true≢false}
-use Rattle.resb_tree.specs.Tree.{Tree, string, array, table, binary, integer, int_vector, Trees, no_trees, more_trees, Entries, no_entries, entry}
+use Rattle.resb_tree.specs.Tree.{Tree, string, array, table, binary, integer, int_vector, Trees}
+use Rattle.resb_tree.specs.Tree.{no_trees, more_trees, Entries, no_entries, entry}
 use Rattle.resb_tree.specs.Keys.{same_text, is_key, is_key_in, is_key_of}
 use Rattle.resb_pool.specs.Fault.{Fault, string_too_long, unexpected, limit, out_of_memory}
 use Rattle.resb_pool.specs.Plan.{first_too_long}
 use Rattle.resb_layout.specs.Laid.{keys_in}
 use Rattle.resb_bodies.specs.WalkOrder.{walk, walk_each, walk_values, texts_of}
-use Rattle.resb_write.specs.Keys.{own_keys, keys_of, is_among, used, last_of, position_in, keys_start}
-use Rattle.resb_write.specs.Faults.{has_nul, is_unlisted, is_far, key_fault, is_over_32_bits, count_fault, fault, first_of}
+use Rattle.resb_write.specs.Keys.{own_keys, keys_of, is_among, used, last_of, position_in}
+use Rattle.resb_write.specs.Keys.{keys_start}
+use Rattle.resb_write.specs.Faults.{has_nul, is_unlisted, is_far, key_fault, is_over_32_bits}
+use Rattle.resb_write.specs.Faults.{count_fault, fault, first_of}
 use Rattle.resb_write.proofs.Keys.{no_place}
 use Rattle.resb_write.proofs.Known.{any_member}
 
 module _ {A : Type 0} where
-  first_or_later : (xs ys : List A) (x : A) → Contains (xs ++ ys) x → (P : Type 0) → (Contains xs x → P) → (Contains ys x → P) → P
+  first_or_later : (xs ys : List A) (x : A) → Contains (xs ++ ys) x → (P : Type 0)
+      → (Contains xs x → P) → (Contains ys x → P) → P
   first_or_later [] ys x h P f g = g h
   first_or_later (y ∷ xs) ys x (zero, lt, is) P f g = f (0, omega arith, is)
   first_or_later (y ∷ xs) ys x (suc i, lt, is) P f g =
       first_or_later xs ys x (i, omega arith, is) P (λ h. f (suc h.0, omega (arith, h.1), h.2)) g
 
-  flat-append : (f : Tree → List A) (ts us : List Tree) → flat_map f (ts ++ us) ≡ flat_map f ts ++ flat_map f us
+  flat-append : (f : Tree → List A) (ts us : List Tree)
+      → flat_map f (ts ++ us) ≡ flat_map f ts ++ flat_map f us
   flat-append f [] us = refl
-  flat-append f (t ∷ ts) us = ap (λ l. f t ++ l) (flat-append f ts us) ∙ sym (append_assoc (f t) (flat_map f ts) (flat_map f us))
+  flat-append f (t ∷ ts) us = ap (λ l. f t ++ l) (flat-append f ts us)
+      ∙ sym (append_assoc (f t) (flat_map f ts) (flat_map f us))
 
-pub contained-filter : {X : Type 0} (p : X → Bool) (xs : List X) (x : X) → p x ≡ true → Contains xs x → Contains (filter p xs) x
+pub contained-filter : {X : Type 0} (p : X → Bool) (xs : List X) (x : X) → p x ≡ true
+    → Contains xs x → Contains (filter p xs) x
 contained-filter p [] x e h = absurd (omega (arith, h.1))
-contained-filter p (y ∷ ys) x e (zero, lt, is) = subst (λ b. Contains (cond b (y ∷ filter p ys) (filter p ys)) x) (sym (ap p is ∙ e)) (0, omega arith, is)
-contained-filter p (y ∷ ys) x e (suc i, lt, is) = by (p y) (contained-filter p ys x e (i, omega arith, is))
+contained-filter p (y ∷ ys) x e (zero, lt, is) =
+    subst (λ b. Contains (cond b (y ∷ filter p ys) (filter p ys)) x) (sym (ap p is ∙ e)) (
+      0,
+      omega arith,
+      is,
+    )
+contained-filter p (y ∷ ys) x e (suc i, lt, is) =
+    by (p y) (contained-filter p ys x e (i, omega arith, is))
   where
     by : (b : Bool) → Contains (filter p ys) x → Contains (cond b (y ∷ filter p ys) (filter p ys)) x
     by true h = (suc h.0, omega (arith, h.1), h.2)
@@ -37,33 +52,47 @@ contained-filter p (y ∷ ys) x e (suc i, lt, is) = by (p y) (contained-filter p
 
 contained_own : (k : List ℕ) (es : Entries) → Contains (keys_in es) k → is_key_of k es ≡ true
 contained_own k no_entries h = absurd (omega (arith, h.1))
-contained_own k (entry j t es) (zero, lt, is) = or_left _ _ (or_left (same_text k j) (is_key k t) ((bytes_decides k j).1 (sym is)))
-contained_own k (entry j t es) (suc i, lt, is) = or_right _ _ (contained_own k es (i, omega arith, is))
+contained_own k (entry j t es) (zero, lt, is) =
+    or_left _ _ (or_left (same_text k j) (is_key k t) ((bytes_decides k j).1 (sym is)))
+contained_own k (entry j t es) (suc i, lt, is) =
+    or_right _ _ (contained_own k es (i, omega arith, is))
 
 mutual
   pub contained_is_key : (k : List ℕ) (t : Tree) → Contains (keys_of t) k → is_key k t ≡ true
   contained_is_key k (string s) h = absurd (omega (arith, h.1))
   contained_is_key k (array ts) h =
-      first_or_later (flat_map own_keys (walk_each ts)) [] k (subst (λ l. Contains l k) (flat-append own_keys (walk_each ts) (array ts ∷ [])) h) (is_key k (array ts) ≡ true)
+      first_or_later (flat_map own_keys (walk_each ts)) [] k
+      (subst (λ l. Contains l k) (flat-append own_keys (walk_each ts) (array ts ∷ [])) h)
+      (is_key k (array ts) ≡ true)
       (λ g. contained_each k ts g) (λ g. absurd (omega (arith, g.1)))
   contained_is_key k (table es) h =
-      first_or_later (flat_map own_keys (walk_values es)) (keys_in es ++ []) k (subst (λ l. Contains l k) (flat-append own_keys (walk_values es) (table es ∷ [])) h) (is_key k (table es) ≡ true)
-      (λ g. contained_values k es g) (λ g. contained_own k es (subst (λ l. Contains l k) (append-nil (keys_in es)) g))
+      first_or_later (flat_map own_keys (walk_values es)) (keys_in es ++ []) k
+      (subst (λ l. Contains l k) (flat-append own_keys (walk_values es) (table es ∷ [])) h)
+      (is_key k (table es) ≡ true)
+      (λ g. contained_values k es g) (λ g. contained_own k es
+      (subst (λ l. Contains l k) (append-nil (keys_in es)) g))
   contained_is_key k (binary s) h = absurd (omega (arith, h.1))
   contained_is_key k (integer n) h = absurd (omega (arith, h.1))
   contained_is_key k (int_vector s) h = absurd (omega (arith, h.1))
 
-  contained_each : (k : List ℕ) (ts : Trees) → Contains (flat_map own_keys (walk_each ts)) k → is_key_in k ts ≡ true
+  contained_each : (k : List ℕ) (ts : Trees) → Contains (flat_map own_keys (walk_each ts)) k
+      → is_key_in k ts ≡ true
   contained_each k no_trees h = absurd (omega (arith, h.1))
   contained_each k (more_trees t ts) h =
-      first_or_later (keys_of t) (flat_map own_keys (walk_each ts)) k (subst (λ l. Contains l k) (flat-append own_keys (walk t) (walk_each ts)) h) (is_key_in k (more_trees t ts) ≡ true)
+      first_or_later (keys_of t) (flat_map own_keys (walk_each ts)) k
+      (subst (λ l. Contains l k) (flat-append own_keys (walk t) (walk_each ts)) h)
+      (is_key_in k (more_trees t ts) ≡ true)
       (λ g. or_left _ _ (contained_is_key k t g)) (λ g. or_right _ _ (contained_each k ts g))
 
-  contained_values : (k : List ℕ) (es : Entries) → Contains (flat_map own_keys (walk_values es)) k → is_key_of k es ≡ true
+  contained_values : (k : List ℕ) (es : Entries) → Contains (flat_map own_keys (walk_values es)) k
+      → is_key_of k es ≡ true
   contained_values k no_entries h = absurd (omega (arith, h.1))
   contained_values k (entry j t es) h =
-      first_or_later (keys_of t) (flat_map own_keys (walk_values es)) k (subst (λ l. Contains l k) (flat-append own_keys (walk t) (walk_values es)) h) (is_key_of k (entry j t es) ≡ true)
-      (λ g. or_left _ _ (or_right (same_text k j) _ (contained_is_key k t g))) (λ g. or_right _ _ (contained_values k es g))
+      first_or_later (keys_of t) (flat_map own_keys (walk_values es)) k
+      (subst (λ l. Contains l k) (flat-append own_keys (walk t) (walk_values es)) h)
+      (is_key_of k (entry j t es) ≡ true)
+      (λ g. or_left _ _ (or_right (same_text k j) _ (contained_is_key k t g)))
+      (λ g. or_right _ _ (contained_values k es g))
 
 -- the length of what is said, where a tree and keys don't belong together
 said : Fault → ℕ
@@ -72,7 +101,8 @@ said (string_too_long n) = 0
 said (limit message) = 0
 said out_of_memory = 0
 
-module _ (t : Tree) (ks : List (List ℕ)) (listed : (k : List ℕ) → is_key k t ≡ true → Contains ks k) where
+module _ (t : Tree) (ks : List (List ℕ)) (listed : (k : List ℕ) → is_key k t ≡ true
+    → Contains ks k) where
   us : List (List ℕ)
   us = keys_of t
 
@@ -88,8 +118,10 @@ module _ (t : Tree) (ks : List (List ℕ)) (listed : (k : List ℕ) → is_key k
   unfolding us js
   placed k c e = by (last_of k js) refl e
     where
-      by : (o : Option ℕ) → last_of k (used (keys_of t) ks) ≡ o → is_none (option_map (λ n. keys_start + n) o) ≡ true → ⊥
-      by None h e = no_place k (used (keys_of t) ks) h (contained-filter (is_among (keys_of t)) ks k (among k (keys_of t) c) (listed k (contained_is_key k t c)))
+      by : (o : Option ℕ) → last_of k (used (keys_of t) ks) ≡ o
+          → is_none (option_map (λ n. keys_start + n) o) ≡ true → ⊥
+      by None h e = no_place k (used (keys_of t) ks) h (contained-filter (is_among (keys_of t)) ks k
+          (among k (keys_of t) c) (listed k (contained_is_key k t c)))
       by (Some n) h e = true≢false (sym e)
 
   all_listed : list_any (is_unlisted js) us ≡ false
@@ -102,26 +134,37 @@ module _ (t : Tree) (ks : List (List ℕ)) (listed : (k : List ℕ) → is_key k
   -- what the fault says, if it is none of that a key isn't listed
   later_faults : (a b c d : Bool) (long : Option ℕ) (f : Fault) → a ≡ false
       → first_of (cond a (Some (unexpected (codes "key not present in position map")))
-      (cond b (Some (unexpected (codes "key contains U+0000"))) (cond c (Some (limit (codes "key position over 2147483647"))) None)))
-      (first_of (option_map string_too_long long) (cond d (Some (limit (codes "count over 32 bits"))) None)) ≡ Some f
+      (cond b (Some (unexpected (codes "key contains U+0000")))
+      (cond c (Some (limit (codes "key position over 2147483647"))) None)))
+      (first_of (option_map string_too_long long)
+      (cond d (Some (limit (codes "count over 32 bits"))) None)) ≡ Some f
       → f ≡ unexpected (codes "key not present in position map") → ⊥
   unfolding said
   later_faults true b c d long f e h q = true≢false e
-  later_faults false true c d long f e h q = (let g : unexpected (codes "key contains U+0000") ≡ f = cc in let n : ◌≡◌ {A = ℕ} 19 31 = ap said (g ∙ q) in absurd (omega (arith, n)))
-  later_faults false false true d long f e h q = (let g : limit (codes "key position over 2147483647") ≡ f = cc in let n : ◌≡◌ {A = ℕ} 0 31 = ap said (g ∙ q) in absurd (omega (arith, n)))
-  later_faults false false false d (Some k) f e h q = (let g : string_too_long k ≡ f = cc in let n : ◌≡◌ {A = ℕ} 0 31 = ap said (g ∙ q) in absurd (omega (arith, n)))
-  later_faults false false false true None f e h q = (let g : limit (codes "count over 32 bits") ≡ f = cc in let n : ◌≡◌ {A = ℕ} 0 31 = ap said (g ∙ q) in absurd (omega (arith, n)))
+  later_faults false true c d long f e h q = (let g : unexpected (codes "key contains U+0000") ≡ f =
+      cc in let n : ◌≡◌ {A = ℕ} 19 31 = ap said (g ∙ q) in absurd (omega (arith, n)))
+  later_faults false false true d long f e h q =
+      (let g : limit (codes "key position over 2147483647") ≡ f = cc in let n : ◌≡◌ {A = ℕ} 0 31 =
+      ap said (g ∙ q) in absurd (omega (arith, n)))
+  later_faults false false false d (Some k) f e h q = (let g : string_too_long k ≡ f = cc in
+      let n : ◌≡◌ {A = ℕ} 0 31 = ap said (g ∙ q) in absurd (omega (arith, n)))
+  later_faults false false false true None f e h q =
+      (let g : limit (codes "count over 32 bits") ≡ f = cc in let n : ◌≡◌ {A = ℕ} 0 31 =
+      ap said (g ∙ q) in absurd (omega (arith, n)))
   later_faults false false false false None f e h q = (let g : None ≡ Some f = h in cc)
 
-  pub not_unlisted : (f : Fault) → fault t ks ≡ Some f → f ≡ unexpected (codes "key not present in position map") → ⊥
+  pub not_unlisted : (f : Fault) → fault t ks ≡ Some f
+      → f ≡ unexpected (codes "key not present in position map") → ⊥
   unfolding us js
   not_unlisted f h q =
-      later_faults (list_any (is_unlisted js) us) (list_any has_nul us) (list_any (is_far js) us) (list_any is_over_32_bits (walk t)) (first_too_long (texts_of t)) f all_listed h q
+      later_faults (list_any (is_unlisted js) us) (list_any has_nul us) (list_any (is_far js) us)
+      (list_any is_over_32_bits (walk t)) (first_too_long (texts_of t)) f all_listed h q
 
   pub not_memory : out_of_memory ≡ unexpected (codes "key not present in position map") → ⊥
   unfolding said
   not_memory q = (let n : ◌≡◌ {A = ℕ} 0 31 = ap said q in absurd (omega (arith, n)))
 
-  pub not_large : limit (codes "file too large") ≡ unexpected (codes "key not present in position map") → ⊥
+  pub not_large : limit (codes "file too large") ≡ unexpected
+      (codes "key not present in position map") → ⊥
   unfolding said
   not_large q = (let n : ◌≡◌ {A = ℕ} 0 31 = ap said q in absurd (omega (arith, n)))

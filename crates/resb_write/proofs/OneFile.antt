@@ -1,12 +1,16 @@
 -- A bundle and a list of keys leave one file.
-use Rattle.std.proofs.Common.{◌≡◌, ℕ, zero, suc, ◌+◌, ◌*◌, ◌/◌, ◌<◌, ◌≤◌, List, [], ◌∷◌, ◌++◌, length, get_or, take, drop, Bool, cond, Option, refl, sym, ◌∙◌, ap, subst, length-append, arith}
+use Rattle.std.proofs.Common.{◌≡◌, ℕ, zero, suc, ◌+◌, ◌*◌, ◌/◌, ◌<◌, ◌≤◌, List, [], ◌∷◌, ◌++◌}
+use Rattle.std.proofs.Common.{length, get_or, take, drop, Bool, cond, Option, refl, sym, ◌∙◌, ap}
+use Rattle.std.proofs.Common.{subst, length-append, arith}
 use Rattle.std.specs.List.{flat_map}
 use Rattle.std.specs.Int.{to_le_bytes, w32}
 use Rattle.std.proofs.lemmas.List.{take-append-drop, drop_at}
 use Rattle.resb_tree.specs.Tree.{Tree, tree_count, largest_table}
 use Rattle.resb_format.specs.Bytes.{units_of, words_of}
 use Rattle.resb_format.specs.Laws.{EachFits}
-use Rattle.resb_format.specs.Parts.{header_size, body_of, root_word, field_count, keys_end, resources_end, bundle_end, largest_table_field, attributes, block_end}
+use Rattle.resb_format.specs.Parts.{header_size, body_of, root_word, field_count, keys_end}
+use Rattle.resb_format.specs.Parts.{resources_end, bundle_end, largest_table_field, attributes}
+use Rattle.resb_format.specs.Parts.{block_end}
 use Rattle.resb_format.proofs.WordsBack.{bytes_back}
 use Rattle.resb_format.proofs.Spelled.{words_length}
 use Rattle.resb_pool.proofs.OnePool.{one_pool}
@@ -20,13 +24,15 @@ use Rattle.resb_write.specs.Written.{even, tail_start, Blocks, bytes_of, Written
 use Rattle.resb_write.specs.Laws.{OneFile}
 use Rattle.resb_write.proofs.Heads.{body_behind}
 
-same_front : (n : ℕ) (xs ys : List ℕ) → n ≤ length xs → n ≤ length ys → ((i : ℕ) → i < n → get_or xs i 0 ≡ get_or ys i 0) → take n xs ≡ take n ys
+same_front : (n : ℕ) (xs ys : List ℕ) → n ≤ length xs → n ≤ length ys
+    → ((i : ℕ) → i < n → get_or xs i 0 ≡ get_or ys i 0) → take n xs ≡ take n ys
 same_front zero xs ys h k e = refl
 same_front (suc n) [] ys h k e = absurd (omega (arith, h))
 same_front (suc n) (x ∷ xs) [] h k e = absurd (omega (arith, k))
 same_front (suc n) (x ∷ xs) (y ∷ ys) h k e =
     let first : x ≡ y = e 0 (omega arith) in
-    let rest = same_front n xs ys (omega (arith, h)) (omega (arith, k)) (λ i l. e (suc i) (omega (arith, l))) in
+    let rest = same_front n xs ys (omega (arith, h)) (omega (arith, k))
+    (λ i l. e (suc i) (omega (arith, l))) in
     λ i. first i ∷ rest i
 
 fits_drop : (n : ℕ) (bs : List ℕ) → EachFits 8 bs → EachFits 8 (drop n bs)
@@ -42,13 +48,19 @@ module _ (t : Tree) (ks : List (List ℕ)) (x y : Blocks t ks) where
   offset_is = (one_pool (texts_of t) x.pool y.pool x.offset y.offset x.is_pool y.is_pool).1
 
   abbrev given : Blocks t ks → Given
-  given b = record { position = key_position t ks; offset = b.offset; base = tail_start (key_block t ks) b.laid }
+  given b = record {
+    position = key_position t ks;
+    offset = b.offset;
+    base =
+        tail_start (key_block t ks) b.laid;
+  }
 
   abbrev start : Blocks t ks → State
   start b = record { units = b.pool; tail = [] }
 
   units_are : x.laid.units ≡ y.laid.units
-  units_are = one_block (given x) (given y) (start x) (start y) x.laid y.laid t x.root y.root refl offset_is pool_is x.lays y.lays
+  units_are = one_block (given x) (given y) (start x) (start y) x.laid y.laid t x.root y.root refl
+      offset_is pool_is x.lays y.lays
 
   base_is : tail_start (key_block t ks) x.laid ≡ tail_start (key_block t ks) y.laid
   base_is = ap (λ us. keys_start + length (key_block t ks) + 2 * length (even us)) units_are
@@ -60,7 +72,8 @@ module _ (t : Tree) (ks : List (List ℕ)) (x y : Blocks t ks) where
   start_is = λ i. record { units = pool_is i; tail = [] }
 
   moved : Lays (given y) (start y) t x.laid x.root
-  moved = subst (λ s. Lays (given y) s t x.laid x.root) start_is (subst (λ g. Lays g (start x) t x.laid x.root) given_is x.lays)
+  moved = subst (λ s. Lays (given y) s t x.laid x.root) start_is
+      (subst (λ g. Lays g (start x) t x.laid x.root) given_is x.lays)
 
   laid_is : x.laid ≡ y.laid
   laid_is = (one_layout (given y) (start y) x.laid y.laid t x.root y.root moved y.lays).0
@@ -74,7 +87,8 @@ module _ (t : Tree) (ks : List (List ℕ)) (x y : Blocks t ks) where
   pub bytes_same : bytes_of x ≡ bytes_of y
   bytes_same = ap (λ s. key_block t ks ++ (halves (even s.units) ++ s.tail)) laid_is
 
-module _ (a : List ℕ) (t : Tree) (fallback : Bool) (ks : List (List ℕ)) (w : Written a t fallback ks) where
+module _ (a : List ℕ) (t : Tree) (fallback : Bool) (ks : List (List ℕ))
+    (w : Written a t fallback ks) where
   whole : a ≡ written_header ++ drop 32 a
   whole = sym (take-append-drop 32 a) ∙ ap (λ l. l ++ drop 32 a) w.index.header
 
@@ -90,7 +104,14 @@ module _ (a : List ℕ) (t : Tree) (fallback : Bool) (ks : List (List ℕ)) (w :
   body_long : length (body_of a) ≡ 32 + length (bytes_of w.blocks)
   body_long =
       let e = ap length (take-append-drop 32 (body_of a)) in
-      omega (arith, e, length-append (take 32 (body_of a)) (drop 32 (body_of a)), ap length w.body, long, take_long 32 (body_of a) long)
+      omega (
+        arith,
+        e,
+        length-append (take 32 (body_of a)) (drop 32 (body_of a)),
+        ap length w.body,
+        long,
+        take_long 32 (body_of a) long,
+      )
     where
       take_long : (n : ℕ) (xs : List ℕ) → n ≤ length xs → length (take n xs) ≡ n
       take_long zero xs h = refl
@@ -100,42 +121,61 @@ module _ (a : List ℕ) (t : Tree) (fallback : Bool) (ks : List (List ℕ)) (w :
 words_long : (bs : List ℕ) → length (words_of bs) ≡ length bs / 4
 words_long bs = words_length bs
 
-module _ (a b : List ℕ) (t : Tree) (fallback : Bool) (ks : List (List ℕ)) (fa : EachFits 8 a) (fb : EachFits 8 b) (x : Written a t fallback ks) (y : Written b t fallback ks) where
+module _ (a b : List ℕ) (t : Tree) (fallback : Bool) (ks : List (List ℕ)) (fa : EachFits 8 a)
+    (fb : EachFits 8 b) (x : Written a t fallback ks) (y : Written b t fallback ks) where
   bytes_are : bytes_of x.blocks ≡ bytes_of y.blocks
   bytes_are = bytes_same t ks x.blocks y.blocks
 
   long_same : length (body_of a) ≡ length (body_of b)
-  long_same = omega (arith, body_long a t fallback ks x, body_long b t fallback ks y, ap length bytes_are)
+  long_same = omega (
+    arith,
+    body_long a t fallback ks x,
+    body_long b t fallback ks y,
+    ap length bytes_are,
+  )
 
-  word_same : (i : ℕ) → i < 8 → get_or (words_of (body_of a)) i 0 ≡ get_or (words_of (body_of b)) i 0
+  word_same : (i : ℕ) → i < 8 → get_or (words_of (body_of a)) i 0 ≡ get_or (words_of (body_of b)) i
+      0
   word_same zero h = x.root ∙ root_same t ks x.blocks y.blocks ∙ sym y.root
   word_same (suc zero) h = x.index.fields ∙ sym y.index.fields
   word_same (suc (suc zero)) h = omega (arith, x.keys_end, y.keys_end)
-  word_same (suc (suc (suc zero))) h = omega (arith, x.index.resources, y.index.resources, long_same)
-  word_same (suc (suc (suc (suc zero)))) h = omega (arith, x.index.bundle, y.index.bundle, long_same)
+  word_same (suc (suc (suc zero))) h = omega (
+    arith,
+    x.index.resources,
+    y.index.resources,
+    long_same,
+  )
+  word_same (suc (suc (suc (suc zero)))) h =
+      omega (arith, x.index.bundle, y.index.bundle, long_same)
   word_same (suc (suc (suc (suc (suc zero))))) h = x.index.largest ∙ sym y.index.largest
-  word_same (suc (suc (suc (suc (suc (suc zero)))))) h = x.index.no_fallback ∙ sym y.index.no_fallback
-  word_same (suc (suc (suc (suc (suc (suc (suc zero))))))) h = omega (arith, x.block_end, y.block_end, start_same t ks x.blocks y.blocks)
+  word_same (suc (suc (suc (suc (suc (suc zero)))))) h = x.index.no_fallback
+      ∙ sym y.index.no_fallback
+  word_same (suc (suc (suc (suc (suc (suc (suc zero))))))) h =
+      omega (arith, x.block_end, y.block_end, start_same t ks x.blocks y.blocks)
   word_same (suc (suc (suc (suc (suc (suc (suc (suc i)))))))) h = absurd (omega (arith, h))
 
   fits_body : (c : List ℕ) → EachFits 8 c → (w : Written c t fallback ks) → EachFits 8 (body_of c)
   fits_body c f w = subst (EachFits 8) (sym (body_is c t fallback ks w)) (fits_drop 32 c f)
 
-  head_of : (c : List ℕ) → EachFits 8 c → (w : Written c t fallback ks) → take 32 (body_of c) ≡ flat_map (to_le_bytes w32) (take 8 (words_of (body_of c)))
-  head_of c f w = sym (bytes_back (body_of c) 8 (fits_body c f w) (omega (arith, long c t fallback ks w)))
+  head_of : (c : List ℕ) → EachFits 8 c → (w : Written c t fallback ks)
+      → take 32 (body_of c) ≡ flat_map (to_le_bytes w32) (take 8 (words_of (body_of c)))
+  head_of c f w = sym (bytes_back (body_of c) 8 (fits_body c f w)
+      (omega (arith, long c t fallback ks w)))
 
   head_same : take 32 (body_of a) ≡ take 32 (body_of b)
   head_same =
       head_of a fa x
       ∙ ap (flat_map (to_le_bytes w32)) (same_front 8 (words_of (body_of a)) (words_of (body_of b))
-      (omega (arith, words_long (body_of a), long a t fallback ks x)) (omega (arith, words_long (body_of b), long b t fallback ks y)) word_same)
+      (omega (arith, words_long (body_of a), long a t fallback ks x))
+      (omega (arith, words_long (body_of b), long b t fallback ks y)) word_same)
       ∙ sym (head_of b fb y)
 
   pub same_file : a ≡ b
   same_file =
       whole a t fallback ks x
       ∙ ap (λ l. written_header ++ l) (sym (body_is a t fallback ks x) ∙ split a t fallback ks x
-      ∙ (λ i. head_same i ++ bytes_are i) ∙ sym (split b t fallback ks y) ∙ body_is b t fallback ks y)
+      ∙ (λ i. head_same i ++ bytes_are i) ∙ sym (split b t fallback ks y)
+      ∙ body_is b t fallback ks y)
       ∙ sym (whole b t fallback ks y)
 
 pub one_file : OneFile

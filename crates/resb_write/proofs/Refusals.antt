@@ -1,26 +1,34 @@
 -- Why a tree is refused, by the step that found it.
-use Rattle.std.proofs.Common.{◌≡◌, ℕ, ◌+◌, ◌^◌, ◌<◌, List, Some, None, ◌⊎◌, inl, inr, sym, ◌∙◌, ap, subst, arith}
+use Rattle.std.proofs.Common.{◌≡◌, ℕ, ◌+◌, ◌^◌, ◌<◌, List, Some, None, ◌⊎◌, inl, inr, sym, ◌∙◌, ap}
+use Rattle.std.proofs.Common.{subst, arith}
 use Rattle.std.specs.List.{flat_map}
 use Rattle.resb_tree.specs.Tree.{Tree}
 use Rattle.resb_pool.specs.Fault.{Fault, out_of_memory}
-use Rattle.resb_pool.specs.Plan.{NotPlanned, no_memory as no_memory_to_plan, too_long, too_large as too_large_to_plan, texts_size, first_too_long}
+use Rattle.resb_pool.specs.Plan.{NotPlanned, no_memory as no_memory_to_plan, too_long}
+use Rattle.resb_pool.specs.Plan.{too_large as too_large_to_plan, texts_size, first_too_long}
 use Rattle.resb_bodies.specs.WalkOrder.{walk, text_in, texts_of}
 use Rattle.resb_write.specs.Keys.{keys_of, used}
 use Rattle.resb_write.specs.PlainSize.{list_size, resources_size}
-use Rattle.resb_write.specs.Faults.{key_fault, fault, first_of, Refused, no_memory, first_fault, too_large}
-use Rattle.resb_write.specs.Inner.Sizes.{size_fault, IsTooMuch, at_fault, too_large as too_large_sizes}
+use Rattle.resb_write.specs.Faults.{key_fault, fault, first_of, Refused, no_memory, first_fault}
+use Rattle.resb_write.specs.Faults.{too_large}
+use Rattle.resb_write.specs.Inner.Sizes.{size_fault, IsTooMuch, at_fault}
+use Rattle.resb_write.specs.Inner.Sizes.{too_large as too_large_sizes}
 use Rattle.resb_write.proofs.Room.{none_too_long, texts_within}
 
 module _ (t : Tree) (ks : List (List ℕ)) where
-  pub key_refused : (us : List (List ℕ)) (f : Fault) → us ≡ keys_of t → (f ≡ out_of_memory) ⊎ (key_fault us (used us ks) ≡ Some f) → Refused t ks f
+  pub key_refused : (us : List (List ℕ)) (f : Fault) → us ≡ keys_of t → (f ≡ out_of_memory)
+      ⊎ (key_fault us (used us ks) ≡ Some f) → Refused t ks f
   key_refused us f e (inl m) = subst (Refused t ks) (sym m) no_memory
   key_refused us f e (inr h) =
-      let k : key_fault (keys_of t) (used (keys_of t) ks) ≡ Some f = (λ i. key_fault (sym e i) (used (sym e i) ks)) ∙ h in
+      let k : key_fault (keys_of t) (used (keys_of t) ks) ≡ Some f =
+      (λ i. key_fault (sym e i) (used (sym e i) ks)) ∙ h in
       first_fault (ap (λ o. first_of o (size_fault (walk t))) k)
 
-  module _ (us js : List (List ℕ)) (us_are : us ≡ keys_of t) (js_are : js ≡ used us ks) (no_key : key_fault us js ≡ None) where
+  module _ (us js : List (List ℕ)) (us_are : us ≡ keys_of t) (js_are : js ≡ used us ks)
+      (no_key : key_fault us js ≡ None) where
     pub no_key_fault : key_fault (keys_of t) (used (keys_of t) ks) ≡ None
-    no_key_fault = (λ i. key_fault (sym us_are i) (used (sym us_are i) ks)) ∙ ap (key_fault us) (sym js_are) ∙ no_key
+    no_key_fault = (λ i. key_fault (sym us_are i) (used (sym us_are i) ks))
+        ∙ ap (key_fault us) (sym js_are) ∙ no_key
 
     only_sizes : fault t ks ≡ size_fault (walk t)
     only_sizes = ap (λ o. first_of o (size_fault (walk t))) no_key_fault
@@ -30,10 +38,16 @@ module _ (t : Tree) (ks : List (List ℕ)) where
     size_refused f (too_large_sizes h l) = too_large (only_sizes ∙ h) l
 
   -- what is small enough is planned, memory aside
-  pub plan_refused : (S : List (List ℕ)) (f : Fault) → S ≡ texts_of t → list_size ks + resources_size (walk t) < 2 ^ 28 → NotPlanned S f → Refused t ks f
+  pub plan_refused : (S : List (List ℕ)) (f : Fault) → S ≡ texts_of t
+      → list_size ks + resources_size (walk t) < 2 ^ 28 → NotPlanned S f → Refused t ks f
   plan_refused S f e small no_memory_to_plan = no_memory
   plan_refused S f e small (too_long {n} h) =
-      let none = none_too_long (flat_map text_in (walk t)) (omega (arith, texts_within (walk t), small)) in
+      let none = none_too_long (flat_map text_in (walk t)) (omega (
+        arith,
+        texts_within (walk t),
+        small,
+      )) in
       let no : Some n ≡ None = sym h ∙ ap first_too_long e ∙ none in
       cc
-  plan_refused S f e small (too_large_to_plan h l) = absurd (omega (arith, texts_within (walk t), small, l, ap texts_size e))
+  plan_refused S f e small (too_large_to_plan h l) =
+      absurd (omega (arith, texts_within (walk t), small, l, ap texts_size e))

@@ -1,5 +1,7 @@
 -- What a small plain size says: no fault of sizes, and room for the pool and the bodies.
-use Rattle.std.proofs.Common.{◌≡◌, ℕ, ◌+◌, ◌-◌, ◌*◌, ◌%◌, ◌^◌, ◌<◌, ◌≤◌, List, [], ◌∷◌, ◌++◌, length, Option, Some, None, Bool, true, false, cond, ◌||◌, nat_le, nat_lt, replicate, refl, sym, ◌∙◌, ap, length-append, arith}
+use Rattle.std.proofs.Common.{◌≡◌, ℕ, ◌+◌, ◌-◌, ◌*◌, ◌%◌, ◌^◌, ◌<◌, ◌≤◌, List, [], ◌∷◌, ◌++◌}
+use Rattle.std.proofs.Common.{length, Option, Some, None, Bool, true, false, cond, ◌||◌, nat_le}
+use Rattle.std.proofs.Common.{nat_lt, replicate, refl, sym, ◌∙◌, ap, length-append, arith}
 use Rattle.std.specs.List.{list_any, flat_map, sum_by}
 use Rattle.std.proofs.lemmas.Bool.Decides.{nat_tests}
 use Rattle.std.proofs.lemmas.List.{length-replicate}
@@ -18,17 +20,20 @@ use Rattle.resb_write.specs.Faults.{is_over_32_bits}
 use Rattle.resb_write.specs.Inner.Sizes.{size_fault}
 use Rattle.resb_write.proofs.Faults.{no_size_fault}
 
-texts_cons : (s : List ℕ) (ss : List (List ℕ)) → texts_size (s ∷ ss) ≡ 16 + length (units s) + texts_size ss
+texts_cons : (s : List ℕ) (ss : List (List ℕ))
+    → texts_size (s ∷ ss) ≡ 16 + length (units s) + texts_size ss
 texts_cons s ss = sum_by-cons (λ (r : List ℕ). 16 + length (units r)) s ss
 
-size_cons : (t : Tree) (ts : List Tree) → resources_size (t ∷ ts) ≡ 16 + held_size t + resources_size ts
+size_cons : (t : Tree) (ts : List Tree)
+    → resources_size (t ∷ ts) ≡ 16 + held_size t + resources_size ts
 size_cons t ts = sum_by-cons (λ (u : Tree). 16 + held_size u) t ts
 
 pub texts_within : (ts : List Tree) → texts_size (flat_map text_in ts) ≤ resources_size ts
 texts_within [] = omega arith
 texts_within (t ∷ ts) = omega (arith, by t, size_cons t ts, texts_within ts)
   where
-    by : (u : Tree) → texts_size (text_in u ++ flat_map text_in ts) ≤ 16 + held_size u + texts_size (flat_map text_in ts)
+    by : (u : Tree) → texts_size (text_in u ++ flat_map text_in ts) ≤ 16 + held_size u + texts_size
+        (flat_map text_in ts)
     by (string s) = omega (arith, texts_cons s (flat_map text_in ts))
     by (array us) = omega arith
     by (table es) = omega arith
@@ -40,8 +45,10 @@ pub none_too_long : (ss : List (List ℕ)) → texts_size ss < 2 ^ 28 → first_
 none_too_long [] h = refl
 none_too_long (s ∷ ss) h =
     let e = texts_cons s ss in
-    let f : nat_le (length (units s)) 4294967295 ≡ true = fits (length (units s)) (omega (arith, e, h)) in
-    ap (λ b. cond b (first_too_long ss) (Some (length (units s)))) f ∙ none_too_long ss (omega (arith, e, h))
+    let f : nat_le (length (units s)) 4294967295 ≡ true =
+    fits (length (units s)) (omega (arith, e, h)) in
+    ap (λ b. cond b (first_too_long ss) (Some (length (units s)))) f
+    ∙ none_too_long ss (omega (arith, e, h))
   where
     fits : (n : ℕ) → n < 2 ^ 28 → nat_le n 4294967295 ≡ true
     fits n l = grind (arith, nat_tests)
@@ -65,29 +72,41 @@ none_over (t ∷ ts) h =
     by (int_vector ns) l = below (length ns) (omega (arith, l))
 
 pub small_sizes : (ts : List Tree) → resources_size ts < 2 ^ 28 → size_fault ts ≡ None
-small_sizes ts h = no_size_fault ts (none_too_long (flat_map text_in ts) (omega (arith, texts_within ts, h))) (none_over ts h)
+small_sizes ts h = no_size_fault ts (none_too_long (flat_map text_in ts)
+    (omega (arith, texts_within ts, h))) (none_over ts h)
 
 -- the pool has at most a record of each text, and unit 0
-pub pool_room : (S : List (List ℕ)) (us : List ℕ) (offset : List ℕ → Option ℕ) → IsPlan S us offset → length us ≤ 1 + sum_by size S
+pub pool_room : (S : List (List ℕ)) (us : List ℕ) (offset : List ℕ → Option ℕ) → IsPlan S us offset
+    → length us ≤ 1 + sum_by size S
 pool_room S us offset p =
     let e = ap length p.pool.units in
-    let q : sum_by size p.records ≤ sum_by size S = into_least size (λ a b. a ≡ b) (λ a b r f g. f ∙ sym g) p.records S p.pool.records.once
+    let q : sum_by size p.records ≤ sum_by size S = into_least size (λ a b. a ≡ b) (λ a b r f g. f
+    ∙ sym g) p.records S p.pool.records.once
     (λ s c. (s, ((p.pool.records.just s).0 c).given, refl, omega arith)) in
     omega (arith, e, length-records p.records, q)
 
 sizes_in : Tree → ℕ
 sizes_in t = sum_by size (text_in t)
 
-sizes_cons : (t : Tree) (ts : List Tree) → sum_by size (flat_map text_in (t ∷ ts)) ≡ sum_by size (text_in t) + sum_by size (flat_map text_in ts)
+sizes_cons : (t : Tree) (ts : List Tree) → sum_by size (flat_map text_in (t ∷ ts)) ≡ sum_by size
+    (text_in t) + sum_by size (flat_map text_in ts)
 sizes_cons t ts = sum_by-append size (text_in t) (flat_map text_in ts)
 
 one_size : (s : List ℕ) → sum_by size (s ∷ []) ≤ length (units s) + 4
 one_size s = omega (arith, sum_by-cons size s [], marker_le s)
 
 -- the records and the short bodies
-pub units_room : (ts : List Tree) → sum_by size (flat_map text_in ts) + sum_by most_units ts + 11 * length ts ≤ resources_size ts
+pub units_room : (ts : List Tree) → sum_by size (flat_map text_in ts) + sum_by most_units ts + 11 *
+    length ts ≤ resources_size ts
 units_room [] = omega arith
-units_room (t ∷ ts) = omega (arith, by t, sizes_cons t ts, size_cons t ts, sum_by-cons most_units t ts, units_room ts)
+units_room (t ∷ ts) = omega (
+  arith,
+  by t,
+  sizes_cons t ts,
+  size_cons t ts,
+  sum_by-cons most_units t ts,
+  units_room ts,
+)
   where
     by : (u : Tree) → sum_by size (text_in u) + most_units u + 11 ≤ 16 + held_size u
     by (string s) = omega (arith, one_size s)
@@ -98,11 +117,22 @@ units_room (t ∷ ts) = omega (arith, by t, sizes_cons t ts, size_cons t ts, sum
     by (int_vector ns) = omega arith
 
 -- and the other bodies
-pub bytes_room : (ts : List Tree) → 2 * (2 * (sum_by size (flat_map text_in ts) + sum_by most_units ts) + sum_by most_bytes ts) ≤ 7 * resources_size ts
+pub bytes_room : (ts : List Tree)
+    → 2 * (2 * (sum_by size (flat_map text_in ts) + sum_by most_units ts) + sum_by most_bytes ts) ≤
+    7 * resources_size ts
 bytes_room [] = omega arith
-bytes_room (t ∷ ts) = omega (arith, by t, sizes_cons t ts, size_cons t ts, sum_by-cons most_units t ts, sum_by-cons most_bytes t ts, bytes_room ts)
+bytes_room (t ∷ ts) = omega (
+  arith,
+  by t,
+  sizes_cons t ts,
+  size_cons t ts,
+  sum_by-cons most_units t ts,
+  sum_by-cons most_bytes t ts,
+  bytes_room ts,
+)
   where
-    by : (u : Tree) → 2 * (2 * (sum_by size (text_in u) + most_units u) + most_bytes u) ≤ 7 * (16 + held_size u)
+    by : (u : Tree) → 2 * (2 * (sum_by size (text_in u) + most_units u) + most_bytes u) ≤ 7 *
+        (16 + held_size u)
     by (string s) = omega (arith, one_size s)
     by (array us) = omega arith
     by (table es) = omega arith
@@ -113,12 +143,24 @@ bytes_room (t ∷ ts) = omega (arith, by t, sizes_cons t ts, size_cons t ts, sum
 -- the used keys take no more room than those that are listed
 pub used_room : (us ks : List (List ℕ)) → length (key_bytes (used us ks)) ≤ list_size ks
 used_room us [] = omega arith
-used_room us (k ∷ ks) = omega (arith, by_test (is_among us k), used_room us ks, sum_by-cons (λ (x : List ℕ). length x + 1) k ks)
+used_room us (k ∷ ks) = omega (
+  arith,
+  by_test (is_among us k),
+  used_room us ks,
+  sum_by-cons (λ (x : List ℕ). length x + 1) k ks,
+)
   where
-    by_test : (b : Bool) → length (key_bytes (cond b (k ∷ used us ks) (used us ks))) ≤ length k + 1 + length (key_bytes (used us ks))
-    by_test true = omega (arith, length-append (k ++ 0 ∷ []) (key_bytes (used us ks)), length-append k (0 ∷ []))
+    by_test : (b : Bool) → length (key_bytes (cond b (k ∷ used us ks) (used us ks))) ≤ length k + 1
+        + length (key_bytes (used us ks))
+    by_test true = omega (
+      arith,
+      length-append (k ++ 0 ∷ []) (key_bytes (used us ks)),
+      length-append k (0 ∷ []),
+    )
     by_test false = omega arith
 
-pub length-padded : (bytes : List ℕ) → length (padded bytes) ≡ length bytes + (4 - length bytes % 4) % 4
+pub length-padded : (bytes : List ℕ) → length (padded bytes) ≡ length bytes + (4 - length bytes % 4)
+    % 4
 length-padded bytes =
-    length-append bytes (replicate ((4 - length bytes % 4) % 4) 0xaa) ∙ ap (λ n. length bytes + n) (length-replicate ((4 - length bytes % 4) % 4) 0xaa)
+    length-append bytes (replicate ((4 - length bytes % 4) % 4) 0xaa)
+    ∙ ap (λ n. length bytes + n) (length-replicate ((4 - length bytes % 4) % 4) 0xaa)

@@ -39,7 +39,8 @@ is_over_32_bits (int_vector ns) = nat_lt 4294967295 (length ns)
 is_over_32_bits _ = false
 
 abbrev pub count_fault : List Tree → Option Fault
-count_fault ts = if list_any is_over_32_bits ts then Some (limit (codes "count over 32 bits")) else None
+count_fault ts = if list_any is_over_32_bits ts then Some (limit (codes "count over 32 bits")) else
+    None
 
 abbrev pub first_of : Option Fault → Option Fault → Option Fault
 first_of (Some f) later = Some f
@@ -53,4 +54,5 @@ fault t ks =
 pub data Refused (t : Tree) (ks : List (List ℕ)) : Fault → Type 0 where
   no_memory : Refused t ks out_of_memory
   first_fault : {f : Fault} → fault t ks ≡ Some f → Refused t ks f
-  too_large : fault t ks ≡ None → 2 ^ 28 ≤ plain_size t ks → Refused t ks (limit (codes "file too large"))
+  too_large : fault t ks ≡ None → 2 ^ 28 ≤ plain_size t ks
+      → Refused t ks (limit (codes "file too large"))

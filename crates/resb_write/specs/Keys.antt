@@ -1,4 +1,5 @@
--- The key block of a written file, and where each key stands in it. (ICU's `uresdata.h`: key block.)
+-- The key block of a written file, and where each key stands in it. (ICU's `uresdata.h`: key
+-- block.)
 --     keys_of t               the keys of the tables of t, as often as each stands there
 --     key_block t ks          the block that a file of t has for the keys ks of a list
 --     key_position t ks k     the position of the key k, in bytes of the body

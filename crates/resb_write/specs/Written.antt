@@ -30,7 +30,12 @@ pub record Blocks (t : Tree) (ks : List (List ℕ)) : Type 0 where
   pub root : ℕ
   pub is_pool : IsPlan (texts_of t) pool offset
   pub lays : Lays
-      (record { position = key_position t ks; offset = offset; base = tail_start (key_block t ks) laid })
+      (record {
+        position = key_position t ks;
+        offset = offset;
+        base =
+            tail_start (key_block t ks) laid;
+      })
       (record { units = pool; tail = [] }) t laid root
 
 -- the bytes behind the index

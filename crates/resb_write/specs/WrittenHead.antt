@@ -1,6 +1,7 @@
 -- The header and the index of a written file. (ICU's `ucmndata.h`, `udata.h` and `uresdata.h`.)
 --     written_header          the 32 bytes that it begins with
---     IndexOf bytes t f       the index is that of a bundle of the tree t, with locale fallback or not
+--     IndexOf bytes t f       the index is that of a bundle of the tree t, with locale fallback or
+--                             not
 use Rattle.std.specs.Prelude.{◌≡◌, ℕ, ◌*◌, List, [], ◌∷◌, length, take, Bool, if◌then◌else◌}
 use Rattle.resb_tree.specs.Tree.{Tree, largest_table}
 use Rattle.resb_format.specs.Parts.{body_of, field_count, resources_end, bundle_end}

@@ -1,6 +1,8 @@
 //! What the resources of a tree hold, gathered in one walk: the keys of tables, the texts of
-//! strings, and what is tested before anything is laid. Where things come to stand is not said here.
-ghost use Rattle.std.specs.Prelude.{◌≡◌, ◌++◌, ◌∷◌, ◌+◌, ◌-◌, ◌*◌, ◌/◌, ◌^◌, ◌||◌, [], List, length};
+//! strings, and what is tested before anything is laid. Where things come to stand is not said
+//! here.
+ghost use Rattle.std.specs.Prelude.{◌≡◌, ◌++◌, ◌∷◌, ◌+◌, ◌-◌, ◌*◌, ◌/◌, ◌^◌, ◌||◌, [], List};
+ghost use Rattle.std.specs.Prelude.{length};
 ghost use Rattle.std.specs.Prelude.{min, max, nat_lt, IfOk, OnOk};
 ghost use Rattle.std.specs.Option.{option_or};
 ghost use Rattle.resb_tree.specs.Tree.{Tree};
@@ -104,7 +106,8 @@ impl<'t> Contents<'t> {
 
     /// Adds a string.
     fn add_text(&mut self, text: &'t str) -> Result<(), AllocError>
-        ensures { OnOk result ((nows self.new.texts.items ≡ nows self.old.texts.items ++ text.now ∷ [])
+        ensures { OnOk result ((nows self.new.texts.items
+            ≡ nows self.old.texts.items ++ text.now ∷ [])
             × (self.new ≡ record self.old {
               texts = self.new.texts;
               size = min (self.old.size + (16 + length (units text.now))) (2 ^ 64 - 1);

@@ -7,7 +7,7 @@ ghost use Rattle.resb_write.specs.WrittenHead.{written_header};
 ghost use Rattle.resb_write.specs.Written.{even};
 ghost use Rattle.resb_write.specs.Inner.Files.{index_words_of, file_with, FitsFile};
 
-use crate::key_block::{append_block, block_length};
+use crate::key_block::{KEYS_START, append_block, block_length};
 use resb_bodies::Bodies;
 use resb_format::{BinHeader, BinIndex, BinReprInfo, CharsetFamily, Endianness, FormatVersion};
 use resb_tree::NoMemory;
@@ -15,9 +15,6 @@ use std::alloc::{AllocError, Global};
 
 /// The header and its padding, in bytes.
 const HEADER_SIZE: usize = 32;
-
-/// The root's word and 7 words of the index stand before the keys.
-const HEAD_WORDS: usize = 8;
 
 /// What a file is put together from.
 #[derive(Clone, Copy)]
@@ -71,7 +68,7 @@ fn index_of(pieces: &Pieces<'_>) -> BinIndex
     requires fits { FitsFile pieces.now }
     ensures { index_words result ≡ index_words_of pieces.now }
 {
-    let keys_end = HEAD_WORDS + block_length(pieces.keys) / 4;
+    let keys_end = KEYS_START / 4 + block_length(pieces.keys) / 4;
     let block_end = keys_end + pieces.bodies.units.len().div_ceil(2);
     let end = (block_end + pieces.bodies.tail.len() / 4) as u32;
     let attributes = if pieces.is_locale_fallback_enabled {

@@ -17,7 +17,8 @@ use resb_pool::BinarySerializerError;
 use resb_tree::Key;
 use std::alloc::{AllocError, Global};
 
-/// Where the first key stands, in bytes of the body.
+/// Where the first key stands, in bytes of the body: behind the root's word and 7 words of the
+/// index.
 pub(crate) const KEYS_START: usize = 32;
 
 /// The greatest position that a key may have.
@@ -48,7 +49,7 @@ impl<'k> KeyBlock<'k> {
         let wanted = key_set(alloc, tree_keys)?;
         let keys = used_keys(alloc, &wanted, list)?;
         let positions = last_positions(alloc, &keys)?;
-        check_keys(tree_keys, &positions)?;
+        check_keys(wanted.keys().as_slice(), &positions)?;
         Ok(KeyBlock { keys, positions })
     }
 }
@@ -97,7 +98,8 @@ fn append_padding(file: &mut Vec<u8>) -> Result<(), AllocError>
     }
 }
 
-/// Appends the block of these keys to a file whose length is a multiple of 4: each with a zero byte,
+/// Appends the block of these keys to a file whose length is a multiple of 4: each with a zero
+/// byte,
 /// padded with 0xaa to a word.
 pub(crate) fn append_block(file: &mut Vec<u8>, keys: &[&str]) -> Result<(), AllocError>
     requires { length file.old.items % 4 ≡ 0 }

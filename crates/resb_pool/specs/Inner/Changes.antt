@@ -44,7 +44,8 @@ pub record IsKept (ms ns : List Node) : Type 0 where
   pub more : length ms ≤ length ns
   pub suffix_is : (k : ℕ) → k < length ms → suffix ns k ≡ suffix ms k
   pub to : (k x : ℕ) → k < length ms → text_at ms k ≡ Some x → text_at ns k ≡ Some x
-  pub from : (k x : ℕ) → k < length ns → text_at ns k ≡ Some x → (k < length ms) × (text_at ms k ≡ Some x)
+  pub from : (k x : ℕ) → k < length ns → text_at ns k ≡ Some x → (k < length ms)
+      × (text_at ms k ≡ Some x)
 
 -- the nodes of before stay, and the text t of index y ends at node i, and no other
 pub record IsAdded (ms ns : List Node) (t : List ℕ) (y i : ℕ) : Type 0 where
@@ -54,7 +55,8 @@ pub record IsAdded (ms ns : List Node) (t : List ℕ) (y i : ℕ) : Type 0 where
   pub is : suffix ns i ≡ t
   pub here : text_at ns i ≡ Some y
   pub to : (k x : ℕ) → k < length ms → text_at ms k ≡ Some x → text_at ns k ≡ Some x
-  pub from : (k x : ℕ) → k < length ns → text_at ns k ≡ Some x → ((k < length ms) × (text_at ms k ≡ Some x)) ⊎ ((k ≡ i) × (x ≡ y))
+  pub from : (k x : ℕ) → k < length ns → text_at ns k ≡ Some x
+      → ((k < length ms) × (text_at ms k ≡ Some x)) ⊎ ((k ≡ i) × (x ≡ y))
 
 -- node j is the child of node i by c, and no child has a greater character
 pub record IsLastChild (ns : List Node) (i c j : ℕ) : Type 0 where

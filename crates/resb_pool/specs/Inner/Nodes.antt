@@ -1,6 +1,7 @@
 -- A vector of nodes as the shape of a trie.
 --     IsTrieOf T ns es        the nodes are a trie of the texts T, which end at the nodes es
-use Rattle.std.specs.Prelude.{◌≡◌, ℕ, ◌<◌, List, [], map, length, Bool, Option, Some, None, is_some, slice_index, slice_index_or}
+use Rattle.std.specs.Prelude.{◌≡◌, ℕ, ◌<◌, List, [], map, length, Bool, Option, Some, None, is_some}
+use Rattle.std.specs.Prelude.{slice_index, slice_index_or}
 use Rattle.std.specs.Ordering.{nat_cmp}
 use Rattle.std.specs.BTreeMap.{get}
 use Rattle.std.specs.Str.{IsUtf8}
@@ -40,4 +41,5 @@ pub record IsTrieOf (T : List (List ℕ)) (ns : List Node) (es : List ℕ) : Typ
   pub len : length es ≡ length T
   pub ends : (x : ℕ) → x < length T → IsEnd ns (slice_index_or T x []) x (slice_index es x)
   -- no other text ends at a node
-  pub only : (k x : ℕ) → k < length ns → text_at ns k ≡ Some x → (x < length T) × (slice_index es x ≡ k)
+  pub only : (k x : ℕ) → k < length ns → text_at ns k ≡ Some x → (x < length T)
+      × (slice_index es x ≡ k)

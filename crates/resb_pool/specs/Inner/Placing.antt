@@ -3,7 +3,8 @@
 --     LiesAt T i r            the text i lies in the text r
 --     lying_in ps q           what all copies that lie in the text q would take
 --     AreEnds rs done es      es says where each record done closes
-use Rattle.std.specs.Prelude.{◌≡◌, ℕ, ◌+◌, ◌-◌, ◌^◌, ◌<◌, ◌≤◌, List, [], length, map, All, Contains, ◌↔◌, sum_by, nat_eq, slice_index, slice_index_or, if◌then◌else◌}
+use Rattle.std.specs.Prelude.{◌≡◌, ℕ, ◌+◌, ◌-◌, ◌^◌, ◌<◌, ◌≤◌, List, [], length, map, All, Contains}
+use Rattle.std.specs.Prelude.{◌↔◌, sum_by, nat_eq, slice_index, slice_index_or, if◌then◌else◌}
 use Rattle.std.specs.Cmp.Lexicographic.{slice_cmp}
 use Rattle.std.specs.Ordering.{nat_cmp, ordering_then}
 use Rattle.std.specs.Str.{bytes_eq, IsUtf8}
@@ -30,7 +31,8 @@ pub record IsMeasure (S : List (List ℕ)) (t : List ℕ) (m : Measure) : Type 0
   pub total_is : m.total ≡ copies S t
 
 abbrev pub AreMeasures : List (List ℕ) → List (List ℕ) → List Measure → Type 0
-AreMeasures S T ms = (i : ℕ) (d : Measure) → i < length T → IsMeasure S (text T i) (slice_index_or ms i d)
+AreMeasures S T ms = (i : ℕ) (d : Measure) → i < length T
+    → IsMeasure S (text T i) (slice_index_or ms i d)
 
 pub record AreTexts (S T : List (List ℕ)) (ms : List Measure) : Type 0 where
   pub utf8 : All IsUtf8 S
@@ -65,8 +67,10 @@ record_texts rs = map (λ r. r.text.now) rs
 -- each text's sizes, and that its own record is among what lies in it
 pub record AreSums (T : List (List ℕ)) (ps : List Place) (sums : List ℕ) : Type 0 where
   pub len : length sums ≡ length T
-  pub units_is : (i : ℕ) (d : Place) → i < length T → (slice_index_or ps i d).measure.unit_count ≡ length (units (text T i))
-  pub size_is : (i : ℕ) (d : Place) → i < length T → (slice_index_or ps i d).measure.size ≡ size (text T i)
+  pub units_is : (i : ℕ) (d : Place) → i < length T
+      → (slice_index_or ps i d).measure.unit_count ≡ length (units (text T i))
+  pub size_is : (i : ℕ) (d : Place) → i < length T
+      → (slice_index_or ps i d).measure.size ≡ size (text T i)
   pub own : (i : ℕ) → i < length T → IsRecord T (text T i) → size (text T i) ≤ slice_index sums i
 
 -- the record of a text with its units, and with what it saves
@@ -78,12 +82,15 @@ pub record IsRecordOf (T : List (List ℕ)) (sums : List ℕ) (r : Record) : Typ
 
 -- the order of records
 abbrev pub record_cmp : Record → Record → Ordering
-record_cmp x y = ordering_then (nat_cmp x.unit_count y.unit_count) (ordering_then (nat_cmp y.saved.0 x.saved.0) (ordering_then (slice_cmp nat_cmp x.text.now y.text.now) (nat_cmp x.index y.index)))
+record_cmp x y = ordering_then (nat_cmp x.unit_count y.unit_count)
+    (ordering_then (nat_cmp y.saved.0 x.saved.0)
+    (ordering_then (slice_cmp nat_cmp x.text.now y.text.now) (nat_cmp x.index y.index)))
 
 -- records of one index are of one text
 pub record AreIndexed (rs : List Record) (count : ℕ) : Type 0 where
   pub within : All (λ r. r.index < count) rs
-  pub one : (j k : ℕ) (d : Record) → j < length rs → k < length rs → (slice_index_or rs j d).index ≡ (slice_index_or rs k d).index
+  pub one : (j k : ℕ) (d : Record) → j < length rs → k < length rs
+      → (slice_index_or rs j d).index ≡ (slice_index_or rs k d).index
       → (slice_index_or rs j d).text.now ≡ (slice_index_or rs k d).text.now
 
 -- where each record done closes; 0 for what is no record

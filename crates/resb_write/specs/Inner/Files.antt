@@ -1,5 +1,6 @@
 -- The bytes of a file, around its parts.
---     file_of root n f ks us tail     of a root word, a largest table, a flag, a key block, a 16-bit
+--     file_of root n f ks us tail     of a root word, a largest table, a flag, a key block, a
+--                                     16-bit
 --                                     block and the tail behind it
 --     file_with c, FitsFile c         of what is put together, and whether its places fit
 use Rattle.std.specs.Prelude.{◌≡◌, ℕ, ◌+◌, ◌%◌, ◌/◌, ◌<◌, ◌^◌, List, [], ◌∷◌, ◌++◌, length}
@@ -11,7 +12,8 @@ use Rattle.resb_write.specs.WrittenHead.{written_header}
 use Rattle.resb_write.specs.Written.{even}
 use Rattle.resb_write.specs.declared.file.Pieces.{Pieces}
 
--- the 7 fields of the index, where the key block, the 16-bit block and the tail have k, b and d words
+-- the 7 fields of the index, where the key block, the 16-bit block and the tail have k, b and d
+-- words
 abbrev pub index_fields : ℕ → ℕ → ℕ → ℕ → ℕ → List ℕ
 index_fields k b d largest attributes =
     7 ∷ (8 + k) ∷ (8 + k + b + d) ∷ (8 + k + b + d) ∷ largest ∷ attributes ∷ (8 + k + b) ∷ []

@@ -6,4 +6,5 @@ use Rattle.resb_bodies.proofs.bytes.put_fill.Goals as goal
 pub loop-turn-preserved : goal.loop-turn-preserved
 loop-turn-preserved c =
     c.in_ok-push.ensures.items ∙ ap (λ l. l ++ 0xaa ∷ []) c.loop-turn.invariant
-    ∙ append_assoc c.args.tail.now.items (fill c.loop-turn._turn) (0xaa ∷ []) ∙ ap (λ l. c.args.tail.now.items ++ l) (sym (fill_next c.loop-turn._turn))
+    ∙ append_assoc c.args.tail.now.items (fill c.loop-turn._turn) (0xaa ∷ [])
+    ∙ ap (λ l. c.args.tail.now.items ++ l) (sym (fill_next c.loop-turn._turn))

@@ -3,4 +3,5 @@ use Rattle.resb_layout.specs.Laid.{halves}
 use Rattle.resb_bodies.proofs.bytes.put_halves.Given as goal
 
 abbrev pub invariant-loop-position : goal.invariant-loop-position
-invariant-loop-position l = l.tail.items ≡ l.fn.tail.items ++ halves (take l.position-index l.positions)
+invariant-loop-position l = l.tail.items ≡ l.fn.tail.items ++ halves
+    (take l.position-index l.positions)

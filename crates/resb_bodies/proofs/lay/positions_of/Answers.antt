@@ -21,7 +21,9 @@ returns c =
     let at = at_text c.args.places.now.positions in
     let none : c.loop-key.key-iterator ≡ [] = search rules in
     record {
-      ascend = subst (IsStrictlySortedBy text_cmp) (sym (keys_view c.args.table.now.entries)) c.keys-key-items.ensures.ordered;
+      ascend = subst (IsStrictlySortedBy text_cmp) (sym (keys_view c.args.table.now.entries))
+          c.keys-key-items.ensures.ordered;
       positions = ap (map at) (keys_view c.args.table.now.entries) ∙ sym c.loop-key.invariant
-          ∙ ap (λ l. map Some c.loop-key.positions.items ++ map at l) none ∙ append-nil (map Some c.loop-key.positions.items);
+          ∙ ap (λ l. map Some c.loop-key.positions.items ++ map at l) none
+          ∙ append-nil (map Some c.loop-key.positions.items);
     }

@@ -12,13 +12,24 @@ use Rattle.resb_bodies.proofs.lay.step_array.Goals as goal
 
 pub returns-then-is_empty-clause-step : goal.returns-then-is_empty-clause-step
 returns-then-is_empty-clause-step c =
-    let z : c.args.items.now ≡ [] = nil_from_len c.args.items.now (eqb-true (length c.args.items.now) 0 (sym c.is_empty.ensures ∙ c.if-is_empty.true)) in
-    on_ok_weaker c.replace.result (λ h. subst (λ rs. Step (given_by c.args.places.now) (state_of c.args.bodies.now) c.args.words.now.items (array (items_view rs)) (state_of c.args.bodies.now) c.replace.new.words.items) (sym z)
-    (empty_array_step (given_by c.args.places.now) (state_of c.args.bodies.now) c.args.words.now.items c.replace.new.words.items c.word.result c.word.ensures h)) c.replace.ensures
+    let z : c.args.items.now ≡ [] =
+    nil_from_len c.args.items.now (eqb-true (length c.args.items.now) 0 (sym c.is_empty.ensures
+    ∙ c.if-is_empty.true)) in
+    on_ok_weaker c.replace.result (λ h. subst (λ rs. Step (given_by c.args.places.now)
+    (state_of c.args.bodies.now) c.args.words.now.items (array (items_view rs))
+    (state_of c.args.bodies.now) c.replace.new.words.items) (sym z)
+    (empty_array_step (given_by c.args.places.now) (state_of c.args.bodies.now)
+    c.args.words.now.items c.replace.new.words.items c.word.result c.word.ensures h))
+    c.replace.ensures
 
 pub returns-then-is_empty-clause-takes : goal.returns-then-is_empty-clause-takes
 returns-then-is_empty-clause-takes c =
-    on_ok_weaker c.replace.result (λ h. record { aligned = c.requires.room.aligned; units = omega arith; bytes = omega arith }) c.replace.ensures
+    on_ok_weaker c.replace.result (λ h. record {
+      aligned = c.requires.room.aligned;
+      units =
+          omega arith;
+      bytes = omega arith;
+    }) c.replace.ensures
 
 pub returns-clause-step : goal.returns-clause-step
 returns-clause-step c =
@@ -27,8 +38,11 @@ returns-clause-step c =
     let some = eqb-false n 0 (sym c.is_empty.ensures ∙ c.if-is_empty.false) in
     let mid = ap (λ k. k - n) (c.len.ensures ∙ c.args.words.now.ok.0) in
     let v = c.split_at.ensures.back ∙ (λ i. drop (mid i) (c.deref.ensures.value i)) in
-    on_ok_weaker c.replace-2.result (λ h. array_step (given_by c.args.places.now) (state_of c.args.bodies.now) (state_of c.close_array.new.bodies) ws c.replace-2.new.words.items c.split_at.result.1.now
-    (items_view c.args.items.now) c.in_ok-word.word n (items_long c.args.items.now) c.requires.enough v (omega (arith, some)) c.in_ok-word.ensures.lays h) c.replace-2.ensures
+    on_ok_weaker c.replace-2.result (λ h. array_step (given_by c.args.places.now)
+    (state_of c.args.bodies.now) (state_of c.close_array.new.bodies) ws
+    c.replace-2.new.words.items c.split_at.result.1.now
+    (items_view c.args.items.now) c.in_ok-word.word n (items_long c.args.items.now)
+    c.requires.enough v (omega (arith, some)) c.in_ok-word.ensures.lays h) c.replace-2.ensures
 
 pub returns-clause-takes : goal.returns-clause-takes
 returns-clause-takes c =
@@ -36,5 +50,8 @@ returns-clause-takes c =
     let n : ℕ = length c.args.items.now in
     let mid = ap (λ k. k - n) (c.len.ensures ∙ c.args.words.now.ok.0) in
     let v = c.split_at.ensures.back ∙ (λ i. drop (mid i) (c.deref.ensures.value i)) in
-    let l : length c.split_at.result.1.now ≡ n = ap length v ∙ (split_stack ws n c.requires.enough).1 in
-    on_ok_weaker c.replace-2.result (λ h. subst (Takes c.args.places.now c.args.bodies.now c.close_array.new.bodies) l c.in_ok-word.ensures.takes) c.replace-2.ensures
+    let l : length c.split_at.result.1.now ≡ n = ap length v
+    ∙ (split_stack ws n c.requires.enough).1 in
+    on_ok_weaker c.replace-2.result
+    (λ h. subst (Takes c.args.places.now c.args.bodies.now c.close_array.new.bodies) l
+    c.in_ok-word.ensures.takes) c.replace-2.ensures

@@ -5,5 +5,7 @@ use Rattle.resb_bodies.proofs.Stacks.{leaf_step}
 use Rattle.resb_bodies.proofs.lay.step_integer.Goals as goal
 
 pub returns : goal.returns
-returns c = λ g s. leaf_step g s s c.args.words.now.items c.push.new.self.items (integer c.args.number) c.word.result refl
-    (subst (Lays g s (integer c.args.number) s) (sym c.word.ensures) (lays_integer c.requires)) c.in_ok-push.ensures.items
+returns c = λ g s. leaf_step g s s c.args.words.now.items c.push.new.self.items
+    (integer c.args.number) c.word.result refl
+    (subst (Lays g s (integer c.args.number) s) (sym c.word.ensures) (lays_integer c.requires))
+    c.in_ok-push.ensures.items

@@ -9,6 +9,8 @@ returns-clause-counts c = λ base end word lays.
     let p = c.args.places.now in
     let b = c.in_ok-bodies.bodies in
     let after = c.lay_tree.new.bodies in
-    ap length (one_block (based p base) (given_by p) (pool_state p) (state_of b) end (state_of after) (tree_of c.args.root.now) word c.in_ok-lay_tree.field-0
-    refl refl (sym (c.in_ok-bodies.ensures.units ∙ c.units.ensures)) lays c.in_ok-lay_tree.ensures.lays)
+    ap length (one_block (based p base) (given_by p) (pool_state p) (state_of b) end
+    (state_of after) (tree_of c.args.root.now) word c.in_ok-lay_tree.field-0
+    refl refl (sym (c.in_ok-bodies.ensures.units ∙ c.units.ensures)) lays
+    c.in_ok-lay_tree.ensures.lays)
     ∙ sym (c.len.ensures ∙ after.units.ok.0)

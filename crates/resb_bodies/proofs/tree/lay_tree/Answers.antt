@@ -15,8 +15,10 @@ steps-requires c =
     let t = tree_of c.args.root.now in
     let order = sym c.in_ok-order.ensures in
     record {
-      room = subst (HasRoomFor (given_by c.args.places.now) (state_of c.args.bodies.now)) order c.requires.room;
-      enough = subst (λ ws. Suffices (length ws) (trees_in c.in_ok-order.order.items)) (sym c.new-words.ensures.items) (subst (Suffices 0) order (suffices t));
+      room = subst (HasRoomFor (given_by c.args.places.now) (state_of c.args.bodies.now)) order
+          c.requires.room;
+      enough = subst (λ ws. Suffices (length ws) (trees_in c.in_ok-order.order.items))
+          (sym c.new-words.ensures.items) (subst (Suffices 0) order (suffices t));
       known = subst (All (IsKnown (given_by c.args.places.now))) order c.requires.known;
     }
 
@@ -27,7 +29,9 @@ unreachable-requires c =
     let s = state_of c.args.bodies.now in
     let e = state_of c.steps.new.bodies in
     let ws = c.steps.new.words.items in
-    let h = subst (λ l. Steps g s l (walk t) e ws) c.new-words.ensures.items (subst (λ ts. Steps g s c.new-words.result.items ts e ws) c.in_ok-order.ensures c.in_ok-steps.ensures.lays) in
+    let h = subst (λ l. Steps g s l (walk t) e ws) c.new-words.ensures.items
+    (subst (λ ts. Steps g s c.new-words.result.items ts e ws) c.in_ok-order.ensures
+    c.in_ok-steps.ensures.lays) in
     let r = steps_lay_trees g s e t ws h in
     omega (arith, c.in_default.ensures.cases.0, c.steps.new.words.ok.0, ap length r.1)
 
@@ -38,7 +42,10 @@ returns-clause-lays c =
     let s = state_of c.args.bodies.now in
     let e = state_of c.steps.new.bodies in
     let ws = c.steps.new.words.items in
-    let h = subst (λ l. Steps g s l (walk t) e ws) c.new-words.ensures.items (subst (λ ts. Steps g s c.new-words.result.items ts e ws) c.in_ok-order.ensures c.in_ok-steps.ensures.lays) in
+    let h = subst (λ l. Steps g s l (walk t) e ws) c.new-words.ensures.items
+    (subst (λ ts. Steps g s c.new-words.result.items ts e ws) c.in_ok-order.ensures
+    c.in_ok-steps.ensures.lays) in
     let r = steps_lay_trees g s e t ws h in
-    let same = same_from_push c.pop.new.self.items [] c.in-Some.word r.0 (sym c.in-Some.ensures.items ∙ r.1) in
+    let same = same_from_push c.pop.new.self.items [] c.in-Some.word r.0
+    (sym c.in-Some.ensures.items ∙ r.1) in
     subst (Lays g s t e) (sym same.1) r.2

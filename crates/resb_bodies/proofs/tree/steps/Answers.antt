@@ -1,4 +1,5 @@
-use Rattle.std.proofs.Common.{rules, ◌≡◌, ◌++◌, ◌∷◌, ◌+◌, [], length, refl, sym, ◌∙◌, ap, subst, append_assoc, arith}
+use Rattle.std.proofs.Common.{rules, ◌≡◌, ◌++◌, ◌∷◌, ◌+◌, [], length, refl, sym, ◌∙◌, ap, subst}
+use Rattle.std.proofs.Common.{append_assoc, arith}
 use Rattle.std.specs.List.{sum_by}
 use Rattle.std.proofs.lemmas.List.Sums.{sum_by-cons}
 use Rattle.std.specs.Vec.Iter.{into_iter_items, into_iter_len}
@@ -12,9 +13,17 @@ use Rattle.resb_bodies.proofs.tree.steps.Goals as goal
 
 pub loop-resource-init : goal.loop-resource-init
 loop-resource-init c =
-    let all : into_iter_items c.into_iter-resource-iterator.result ≡ c.args.order.items = search rules in
-    let many : into_iter_len c.into_iter-resource-iterator.result ≡ length (into_iter_items c.into_iter-resource-iterator.result) = search rules in
-    (refl, many, steps_none, subst (λ rs. CanLay c.args.places.now c.args.bodies.now (length c.args.words.now.items) (trees_in rs)) (sym all) c.requires, omega arith)
+    let all : into_iter_items c.into_iter-resource-iterator.result ≡ c.args.order.items =
+    search rules in
+    let many : into_iter_len c.into_iter-resource-iterator.result ≡ length
+    (into_iter_items c.into_iter-resource-iterator.result) = search rules in (
+      refl,
+      many,
+      steps_none,
+      subst (λ rs. CanLay c.args.places.now c.args.bodies.now
+          (length c.args.words.now.items) (trees_in rs)) (sym all) c.requires,
+      omega arith,
+    )
 
 pub loop-resource-preserved : goal.loop-resource-preserved
 loop-resource-preserved c =
@@ -23,34 +32,57 @@ loop-resource-preserved c =
     let resource = c.in-Some.resource in
     let rest = into_iter_items c.next.new.self in
     let next : into_iter_items c.loop-resource.resource-iterator ≡ resource ∷ rest = search rules in
-    let many : into_iter_len c.next.new.self + 1 ≡ into_iter_len c.loop-resource.resource-iterator = search rules in
+    let many : into_iter_len c.next.new.self + 1 ≡ into_iter_len c.loop-resource.resource-iterator =
+    search rules in
     let old = c.loop-resource.words.items in
     let new = c.step.new.words.items in
     let before = state_of c.loop-resource.bodies in
     let after = state_of c.step.new.bodies in
     let t = tree_of resource.now in
-    let can = subst (λ rs. CanLay c.args.places.now c.loop-resource.bodies (length old) (trees_in rs)) next c.loop-resource.invariant.3 in (
-      append_assoc done (resource ∷ []) rest ∙ ap (λ l. done ++ l) (sym next) ∙ c.loop-resource.invariant.0,
+    let can = subst (λ rs. CanLay c.args.places.now c.loop-resource.bodies (length old)
+    (trees_in rs)) next c.loop-resource.invariant.3 in (
+      append_assoc done (resource ∷ []) rest ∙ ap (λ l. done ++ l) (sym next)
+          ∙ c.loop-resource.invariant.0,
       omega (arith, c.loop-resource.invariant.1, many, ap length next),
-      subst (λ ts. Steps g (state_of c.args.bodies.now) c.args.words.now.items ts after new) (sym (trees-push done (done ++ resource ∷ []) resource refl))
-          (steps_push g (state_of c.args.bodies.now) before after c.args.words.now.items old new (trees_in done) t c.loop-resource.invariant.2 c.in_ok-step.ensures.step),
-      can_go_on c.args.places.now c.loop-resource.bodies (length old) t (trees_in rest) can c.step.new.bodies (length new) c.in_ok-step.ensures.takes
+      subst (λ ts. Steps g (state_of c.args.bodies.now) c.args.words.now.items ts after new)
+          (sym (trees-push done (done ++ resource ∷ []) resource refl))
+          (steps_push g (state_of c.args.bodies.now) before after c.args.words.now.items old new
+          (trees_in done) t c.loop-resource.invariant.2 c.in_ok-step.ensures.step),
+      can_go_on c.args.places.now c.loop-resource.bodies (length old) t (trees_in rest) can
+          c.step.new.bodies (length new) c.in_ok-step.ensures.takes
           (step_long g before after old new t c.in_ok-step.ensures.step),
-      omega (arith, c.loop-resource.invariant.4, c.in_ok-step.ensures.takes.units, sum_by-cons most_units t (trees_in rest), ap (λ rs. sum_by most_units (trees_in rs)) next),
+      omega (
+        arith,
+        c.loop-resource.invariant.4,
+        c.in_ok-step.ensures.takes.units,
+        sum_by-cons most_units t (trees_in rest),
+        ap (λ rs. sum_by most_units (trees_in rs))
+            next,
+      ),
     )
 
 pub returns-clause-fits : goal.returns-clause-fits
 returns-clause-fits c =
     let end : into_iter_len c.loop-resource.resource-iterator ≡ 0 = search rules in
-    let none = nil_from_len (into_iter_items c.loop-resource.resource-iterator) (sym c.loop-resource.invariant.1 ∙ end) in
-    subst (λ rs. HasRoomFor (given_by c.args.places.now) (state_of c.loop-resource.bodies) (trees_in rs)) none c.loop-resource.invariant.3.room
+    let none = nil_from_len (into_iter_items c.loop-resource.resource-iterator)
+    (sym c.loop-resource.invariant.1 ∙ end) in
+    subst (λ rs. HasRoomFor (given_by c.args.places.now) (state_of c.loop-resource.bodies)
+    (trees_in rs)) none c.loop-resource.invariant.3.room
 
 pub returns-clause-takes : goal.returns-clause-takes
 returns-clause-takes c =
-    let all : into_iter_items c.into_iter-resource-iterator.result ≡ c.args.order.items = search rules in
+    let all : into_iter_items c.into_iter-resource-iterator.result ≡ c.args.order.items =
+    search rules in
     let end : into_iter_len c.loop-resource.resource-iterator ≡ 0 = search rules in
-    let none = nil_from_len (into_iter_items c.loop-resource.resource-iterator) (sym c.loop-resource.invariant.1 ∙ end) in
-    omega (arith, c.loop-resource.invariant.4, ap (λ rs. sum_by most_units (trees_in rs)) all, ap (λ rs. sum_by most_units (trees_in rs)) none, zero_sum)
+    let none = nil_from_len (into_iter_items c.loop-resource.resource-iterator)
+    (sym c.loop-resource.invariant.1 ∙ end) in
+    omega (
+      arith,
+      c.loop-resource.invariant.4,
+      ap (λ rs. sum_by most_units (trees_in rs)) all,
+      ap (λ rs. sum_by most_units (trees_in rs)) none,
+      zero_sum,
+    )
   where
     zero_sum : sum_by most_units [] ≡ 0
     zero_sum = refl

@@ -10,6 +10,10 @@ abbrev pub invariant-loop-resource : goal.invariant-loop-resource
 invariant-loop-resource l =
     (l.yielded ++ into_iter_items l.resource-iterator ≡ into_iter_items l.initial.resource-iterator)
     × (into_iter_len l.resource-iterator ≡ length (into_iter_items l.resource-iterator))
-    × Steps (given_by l.places) (state_of l.fn.bodies) l.fn.words.items (trees_in l.yielded) (state_of l.bodies) l.words.items
-    × CanLay l.places l.bodies (length l.words.items) (trees_in (into_iter_items l.resource-iterator))
-    × (length l.bodies.units.items + sum_by most_units (trees_in (into_iter_items l.resource-iterator)) ≤ length l.fn.bodies.units.items + sum_by most_units (trees_in (into_iter_items l.initial.resource-iterator)))
+    × Steps (given_by l.places) (state_of l.fn.bodies) l.fn.words.items (trees_in l.yielded)
+    (state_of l.bodies) l.words.items
+    × CanLay l.places l.bodies (length l.words.items)
+    (trees_in (into_iter_items l.resource-iterator))
+    × (length l.bodies.units.items + sum_by most_units
+    (trees_in (into_iter_items l.resource-iterator)) ≤ length l.fn.bodies.units.items + sum_by
+    most_units (trees_in (into_iter_items l.initial.resource-iterator)))

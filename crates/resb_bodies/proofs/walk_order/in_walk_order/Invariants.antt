@@ -7,7 +7,8 @@ use Rattle.resb_bodies.specs.Room.{trees_in}
 use Rattle.resb_bodies.proofs.walk_order.in_walk_order.Given as goal
 
 abbrev pub invariant-loop-resource : goal.invariant-loop-resource
-invariant-loop-resource l = flat_map walk (trees_in l.pending.items) ++ reverse (trees_in l.order.items) ≡ walk (tree_of l.root)
+invariant-loop-resource l = flat_map walk (trees_in l.pending.items) ++ reverse
+    (trees_in l.order.items) ≡ walk (tree_of l.root)
 
 abbrev pub decreases-loop-resource : goal.decreases-loop-resource
 decreases-loop-resource l = sum_by tree_count (trees_in l.pending.items)

@@ -1,4 +1,5 @@
-use Rattle.std.proofs.Common.{◌≡◌, Some, suc, take, drop, length, get_or, sym, ◌∙◌, ap, subst, arith}
+use Rattle.std.proofs.Common.{◌≡◌, Some, suc, take, drop, length, get_or, sym, ◌∙◌, ap, subst}
+use Rattle.std.proofs.Common.{arith}
 use Rattle.resb_format.specs.Units.{units}
 use Rattle.resb_pool.specs.Plan.{nows, first_too_long, NotPlanned, too_long}
 use Rattle.resb_pool.proofs.TextLoops.{blank, nows-take, nows-split, first_push, first_found}
@@ -8,12 +9,17 @@ pub returns-in-Some-clause-err : goal.returns-in-Some-clause-err
 returns-in-Some-clause-err c =
     let xs = c.args.strings.now in
     let i = c.loop-text.text-index in
-    let e : first_too_long (nows xs) ≡ Some (length (units (get_or xs i blank).now)) = ap first_too_long (nows-split xs i blank c.loop-text-test.true) ∙ first_found (nows (take i xs)) (get_or xs i blank).now (nows (drop (suc i) xs)) c.loop-text.invariant (omega (arith, c.in-Some.ensures.0, c.in-Some.ensures.1)) in
-    subst (NotPlanned (nows xs)) (sym c.string_too_long.ensures) (too_long {n = c.in-Some.count} (e ∙ ap Some (sym c.in-Some.ensures.0)))
+    let e : first_too_long (nows xs) ≡ Some (length (units (get_or xs i blank).now)) =
+    ap first_too_long (nows-split xs i blank c.loop-text-test.true)
+    ∙ first_found (nows (take i xs)) (get_or xs i blank).now (nows (drop (suc i) xs))
+    c.loop-text.invariant (omega (arith, c.in-Some.ensures.0, c.in-Some.ensures.1)) in
+    subst (NotPlanned (nows xs)) (sym c.string_too_long.ensures) (too_long {n = c.in-Some.count} (e
+    ∙ ap Some (sym c.in-Some.ensures.0)))
 
 pub loop-text-preserved : goal.loop-text-preserved
 loop-text-preserved c =
     let xs = c.args.strings.now in
     let i = c.loop-text.text-index in
     ap first_too_long (nows-take xs i blank c.loop-text-test.true)
-    ∙ first_push (nows (take i xs)) (get_or xs i blank).now c.loop-text.invariant c.in_default.ensures
+    ∙ first_push (nows (take i xs)) (get_or xs i blank).now c.loop-text.invariant
+    c.in_default.ensures

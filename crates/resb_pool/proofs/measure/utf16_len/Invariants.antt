@@ -9,4 +9,5 @@ use Rattle.resb_pool.proofs.measure.utf16_len.Given as goal
 abbrev pub invariant-loop-c : goal.invariant-loop-c
 invariant-loop-c l =
     (cs : List ℕ) × (encode_utf8_all cs ≡ chars_rest l.c-iterator)
-    × (l.count + length (flat_map encode_utf16 cs) ≡ length (units l.text)) × (length (units l.text) ≤ length l.text)
+    × (l.count + length (flat_map encode_utf16 cs) ≡ length (units l.text))
+    × (length (units l.text) ≤ length l.text)

@@ -1,5 +1,7 @@
-use Rattle.std.proofs.Common.{◌++◌, ◌∷◌, [], List, length, map, get_or, inl, inr, sym, ◌∙◌, ap, subst, arith}
-use Rattle.std.proofs.lemmas.List.{get_or_append_left, get_or_push, length_push, map_push, take_more}
+use Rattle.std.proofs.Common.{◌++◌, ◌∷◌, [], List, length, map, get_or, inl, inr, sym, ◌∙◌, ap}
+use Rattle.std.proofs.Common.{subst, arith}
+use Rattle.std.proofs.lemmas.List.{get_or_append_left, get_or_push, length_push, map_push}
+use Rattle.std.proofs.lemmas.List.{take_more}
 use Rattle.resb_pool.specs.Plan.{nows}
 use Rattle.resb_pool.specs.Inner.Placing.{LiesAt}
 use Rattle.resb_pool.specs.declared.places.Place.{Place}
@@ -16,15 +18,24 @@ loop-index-preserved c =
     let v = c.loop-index.invariant in
     let e = c.in_ok-push.ensures.items in
     let ps = c.loop-index.places.items in
-    let p : Place = record { «record» = c.record_of.result; measure = get_or c.args.measures.now i no_measure } in
+    let p : Place = record {
+      «record» = c.record_of.result;
+      measure =
+          get_or c.args.measures.now i no_measure;
+    } in
     record {
       len = omega (arith, ap length e, length_push ps p, v.len);
       lies = λ j d l.
           subst (λ (z : List Place). LiesAt (nows c.args.texts.now) j (get_or z j d).record) (sym e)
           (elim (old_or_new i j l) [
-            | inl b ↦ subst (λ (z : Place). LiesAt (nows c.args.texts.now) j z.record) (sym (get_or_append_left ps (p ∷ []) d j (omega (arith, b, v.len)))) (v.lies j d b)
-            | inr q ↦ subst (λ (z : Place). LiesAt (nows c.args.texts.now) j z.record) (sym (get_or_push ps p d j (v.len ∙ sym q)))
-                (subst (λ k. LiesAt (nows c.args.texts.now) k c.record_of.result) (sym q) (c.record_of.ensures (nows c.args.texts.now) c.in_ok-trie.ensures))
+            | inl b ↦ subst (λ (z : Place). LiesAt (nows c.args.texts.now) j z.record)
+                (sym (get_or_append_left ps (p ∷ []) d j (omega (arith, b, v.len)))) (v.lies j d b)
+            | inr q ↦ subst (λ (z : Place). LiesAt (nows c.args.texts.now) j z.record)
+                (sym (get_or_push ps p d j (v.len ∙ sym q)))
+                (subst (λ k. LiesAt (nows c.args.texts.now) k c.record_of.result) (sym q)
+                (c.record_of.ensures (nows c.args.texts.now) c.in_ok-trie.ensures))
           ]);
-      measures = ap (map (λ (z : Place). z.measure)) e ∙ map_push (λ (z : Place). z.measure) ps p ∙ ap (λ (z : List Measure). z ++ p.measure ∷ []) v.measures ∙ sym (take_more c.args.measures.now i no_measure c.loop-index-test.true);
+      measures = ap (map (λ (z : Place). z.measure)) e ∙ map_push (λ (z : Place). z.measure) ps p
+          ∙ ap (λ (z : List Measure). z ++ p.measure ∷ []) v.measures
+          ∙ sym (take_more c.args.measures.now i no_measure c.loop-index-test.true);
     }

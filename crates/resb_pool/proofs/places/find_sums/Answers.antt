@@ -15,5 +15,7 @@ overflow_add-index_mut c =
     let q = (get_or ps i no_place).record in
     let l = c.requires.within i no_place c.loop-place-test.true in
     let v = c.loop-place.invariant in
-    let e : c.index_mut.result.now ≡ lying_in (take i ps) q = get_or_read c.loop-place.sums.items q c.index_mut.result.now (omega (arith, l, v.len)) c.index_mut.ensures.value 0 ∙ v.sums q l in
+    let e : c.index_mut.result.now ≡ lying_in (take i ps) q =
+    get_or_read c.loop-place.sums.items q c.index_mut.result.now (omega (arith, l, v.len))
+    c.index_mut.ensures.value 0 ∙ v.sums q l in
     omega (arith, e, lying_within ps i no_place q c.loop-place-test.true, c.requires.small)

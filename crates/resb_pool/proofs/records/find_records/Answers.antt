@@ -1,12 +1,15 @@
-use Rattle.std.proofs.Common.{◌≡◌, ◌+◌, ◌-◌, ◌<◌, ℕ, List, Bor, length, take, get_or, ap, subst, sym, ◌∙◌, arith}
+use Rattle.std.proofs.Common.{◌≡◌, ◌+◌, ◌-◌, ◌<◌, ℕ, List, Bor, length, take, get_or, ap, subst}
+use Rattle.std.proofs.Common.{sym, ◌∙◌, arith, Bool, true, false, not, nat_eq, ◌&&◌, true≢false}
+use Rattle.std.proofs.Common.{refl, inl, inr}
 use Rattle.std.specs.List.{All, Contains}
-use Rattle.std.proofs.lemmas.Bool.{eqb-true, eqb-false}
+use Rattle.std.proofs.lemmas.Bool.{eqb-true, eq-eqb, and_parts, and_cases}
 use Rattle.std.proofs.lemmas.List.{map_push, take-map}
 use Rattle.std.proofs.lemmas.List.Elements.{All-push}
 use Rattle.resb_format.specs.Units.{units, size}
 use Rattle.resb_pool.specs.Plan.{nows}
 use Rattle.resb_pool.specs.Records.{IsRecord}
-use Rattle.resb_pool.specs.Inner.Placing.{text, ArePlaces, AreRecordsAmong, IsRecordOf, record_texts}
+use Rattle.resb_pool.specs.Inner.Placing.{text, ArePlaces, AreRecordsAmong, IsRecordOf}
+use Rattle.resb_pool.specs.Inner.Placing.{record_texts}
 use Rattle.resb_pool.specs.declared.places.Place.{Place}
 use Rattle.resb_pool.specs.declared.records.Record.{Record}
 use Rattle.resb_pool.proofs.TextLoops.{blank, nows-take, nows-whole}
@@ -14,42 +17,71 @@ use Rattle.resb_pool.proofs.Interning.{length-nows, text_nows}
 use Rattle.resb_pool.proofs.Distinct.{not_before}
 use Rattle.resb_pool.proofs.PlacingLemmas.{listed_keep, listed_push, records_all, lies_in_itself}
 use Rattle.resb_pool.proofs.records.find_records.Goals as goal
-use Rattle.resb_pool.proofs.records.find_records.Goals.{then-place-index-via-then-place-index, then-place-index-via-else-place-index+then-is_empty}
 
 abbrev no_place : Place
 no_place = record { «record» = 0; measure = record { unit_count = 0; size = 0; total = 0 } }
 
--- what lies in itself and isn't empty is a record
-own_record : (xs : List (Bor (List ℕ))) (ps : List Place) (i : ℕ) → ArePlaces (nows xs) ps → i < length ps → (get_or ps i no_place).record ≡ i → (length (get_or xs i blank).now ≡ 0 → ⊥)
+-- what the test of a record says
+own_record : (xs : List (Bor (List ℕ))) (ps : List Place) (i : ℕ) → ArePlaces (nows xs) ps
+    → i < length ps → (nat_eq (get_or ps i no_place).record i
+    && not (nat_eq (length (get_or xs i blank).now) 0)) ≡ true
     → IsRecord (nows xs) (text (nows xs) i)
-own_record xs ps i places l same full =
+own_record xs ps i places l h =
     let k : i < length xs = omega (arith, l, places.len, length-nows xs) in
-    lies_in_itself (nows xs) i (get_or ps i no_place).record (places.lies i no_place (omega (arith, l, places.len))) same
-    (λ z. full (ap length (text_nows xs i k) ∙ z))
+    let both = and_parts (nat_eq (get_or ps i no_place).record i)
+    (not (nat_eq (length (get_or xs i blank).now) 0)) h in
+    lies_in_itself (nows xs) i (get_or ps i no_place).record
+    (places.lies i no_place (omega (arith, l, places.len))) (eqb-true (get_or ps i no_place).record
+    i both.0)
+    (λ z. not_zero (length (get_or xs i blank).now) both.1 (ap length (text_nows xs i k) ∙ z))
+  where
+    not_zero : (n : ℕ) → not (nat_eq n 0) ≡ true → n ≡ 0 → ⊥
+    not_zero n e z = true≢false (sym e ∙ ap not (eq-eqb n 0 z))
+
+no_record : (xs : List (Bor (List ℕ))) (ps : List Place) (i : ℕ) → ArePlaces (nows xs) ps
+    → i < length ps → (nat_eq (get_or ps i no_place).record i
+    && not (nat_eq (length (get_or xs i blank).now) 0)) ≡ false
+    → IsRecord (nows xs) (text (nows xs) i) → ⊥
+no_record xs ps i places l h r =
+    let k : i < length xs = omega (arith, l, places.len, length-nows xs) in
+    let at = places.lies i no_place (omega (arith, l, places.len)) in
+    elim (and_cases (nat_eq (get_or ps i no_place).record i)
+    (not (nat_eq (length (get_or xs i blank).now) 0)) h) [
+      | inl e ↦ true≢false (sym (eq-eqb (get_or ps i no_place).record i (at.itself r)) ∙ e)
+      | inr e ↦ (let n : length (get_or xs i blank).now ≡ 0 =
+          zero_is (length (get_or xs i blank).now) e in
+          omega (arith, n, ap length (text_nows xs i k), r.nonempty))
+    ]
+  where
+    zero_is : (n : ℕ) → not (nat_eq n 0) ≡ false → n ≡ 0
+    zero_is n e = by (nat_eq n 0) refl e
+      where
+        by : (b : Bool) → nat_eq n 0 ≡ b → not b ≡ false → n ≡ 0
+        by true f g = eqb-true n 0 f
+        by false f g = absurd (true≢false g)
 
 pub overflow_sub-sums : goal.overflow_sub-sums
 overflow_sub-sums c =
     let i = c.loop-index.index in
-    let l : i < length (nows c.args.texts.now) = omega (arith, c.loop-index-test.true, c.requires.places.len) in
-    let own = own_record c.args.texts.now c.args.places.now i c.requires.places c.loop-index-test.true c.if-place-index.false
-    (eqb-false (length (get_or c.args.texts.now i blank).now) 0 (sym c.is_empty.ensures ∙ c.if-is_empty.false)) in
+    let l : i < length (nows c.args.texts.now) =
+    omega (arith, c.loop-index-test.true, c.requires.places.len) in
+    let own = own_record c.args.texts.now c.args.places.now i c.requires.places
+    c.loop-index-test.true (sym c.is_record.ensures ∙ c.if-not-is_record.false) in
     omega (arith, c.requires.sums.size_is i no_place l, c.requires.sums.own i l own)
 
-pub loop-index-preserved-then-place-index : goal.loop-index-preserved-then-place-index
-loop-index-preserved-then-place-index c =
+pub loop-index-preserved-then-not-is_record : goal.loop-index-preserved-then-not-is_record
+loop-index-preserved-then-not-is_record c =
     let xs = c.args.texts.now in
     let i = c.loop-index.index in
     let l : i < length (nows xs) = omega (arith, c.loop-index-test.true, c.requires.places.len) in
     let k : i < length xs = omega (arith, l, length-nows xs) in
     let t = text_nows xs i k in
-    let at = c.requires.places.lies i no_place l in
     record {
-      records = listed_keep (nows xs) (nows (take i xs)) (nows (take (i + 1) xs)) (get_or xs i blank).now (nows-take xs i blank k) (record_texts c.loop-index.records.items) c.loop-index.invariant.records
-          (λ r. elim c.then-place-index.branch [
-            | then-place-index-via-then-place-index w ↦ absurd (w.if-place-index.true (at.itself (subst (IsRecord (nows xs)) t r)))
-            | then-place-index-via-else-place-index+then-is_empty w ↦
-                (let z = eqb-true (length (get_or xs i blank).now) 0 (sym w.is_empty.ensures ∙ w.if-is_empty.true) in absurd (omega (arith, z, r.nonempty)))
-          ]);
+      records = listed_keep (nows xs) (nows (take i xs)) (nows (take (i + 1) xs))
+          (get_or xs i blank).now (nows-take xs i blank k) (record_texts c.loop-index.records.items)
+          c.loop-index.invariant.records
+          (λ r. absurd (no_record xs c.args.places.now i c.requires.places c.loop-index-test.true
+          (sym c.is_record.ensures ∙ c.if-not-is_record.true) (subst (IsRecord (nows xs)) t r)));
       each = c.loop-index.invariant.each;
     }
 
@@ -60,18 +92,45 @@ loop-index-preserved c =
     let l : i < length (nows xs) = omega (arith, c.loop-index-test.true, c.requires.places.len) in
     let k : i < length xs = omega (arith, l, length-nows xs) in
     let t = text_nows xs i k in
-    let own = own_record xs c.args.places.now i c.requires.places c.loop-index-test.true c.if-place-index.false
-    (eqb-false (length (get_or xs i blank).now) 0 (sym c.is_empty.ensures ∙ c.if-is_empty.false)) in
+    let own = own_record xs c.args.places.now i c.requires.places c.loop-index-test.true
+    (sym c.is_record.ensures ∙ c.if-not-is_record.false) in
     let p = get_or c.args.places.now i no_place in
-    let r : Record = record { unit_count = p.measure.unit_count; saved = record { 0 = get_or c.args.sums.now i 0 - p.measure.size }; text = get_or xs i blank; index = i } in
+    let r : Record = record {
+      unit_count = p.measure.unit_count;
+      saved =
+          record { 0 = get_or c.args.sums.now i 0 - p.measure.size };
+      text = get_or xs i blank;
+      index = i;
+    } in
     let e = c.in_ok-push.ensures.items in
-    let small : p.measure.size ≡ size (get_or xs i blank).now = c.requires.sums.size_is i no_place l ∙ ap size (sym t) in
+    let small : p.measure.size ≡ size (get_or xs i blank).now = c.requires.sums.size_is i no_place l
+    ∙ ap size (sym t) in
     record {
-      records = subst (AreRecordsAmong (nows xs) (nows (take (i + 1) xs))) (sym (ap record_texts e ∙ map_push (λ (x : Record). x.text.now) c.loop-index.records.items r))
-          (listed_push (nows xs) (nows (take i xs)) (nows (take (i + 1) xs)) (get_or xs i blank).now (nows-take xs i blank k) (record_texts c.loop-index.records.items) c.loop-index.invariant.records
-          (λ x. not_before (nows xs) i c.requires.distinct l (subst (λ (z : List (List ℕ)). Contains z (text (nows xs) i)) (sym (take-map (λ (y : Bor (List ℕ)). y.now) i xs)) (subst (Contains (nows (take i xs))) t x))) (subst (IsRecord (nows xs)) (sym t) own));
-      each = subst (All (IsRecordOf (nows xs) c.args.sums.now)) (sym e) (All-push (IsRecordOf (nows xs) c.args.sums.now) c.loop-index.records.items r c.loop-index.invariant.each
-          (record { within = l; text_is = t; units_is = c.requires.sums.units_is i no_place l ∙ ap (λ z. length (units z)) (sym t); saved_is = omega (arith, small, c.requires.sums.size_is i no_place l, c.requires.sums.own i l own) }));
+      records = subst (AreRecordsAmong (nows xs) (nows (take (i + 1) xs))) (sym (ap record_texts e
+          ∙ map_push (λ (x : Record). x.text.now) c.loop-index.records.items r))
+          (listed_push (nows xs) (nows (take i xs)) (nows (take (i + 1) xs)) (get_or xs i blank).now
+          (nows-take xs i blank k) (record_texts c.loop-index.records.items)
+          c.loop-index.invariant.records
+          (λ x. not_before (nows xs) i c.requires.distinct l
+          (subst (λ (z : List (List ℕ)). Contains z (text (nows xs) i))
+          (sym (take-map (λ (y : Bor (List ℕ)). y.now) i xs))
+          (subst (Contains (nows (take i xs))) t x))) (subst (IsRecord (nows xs)) (sym t) own));
+      each = subst (All (IsRecordOf (nows xs) c.args.sums.now)) (sym e)
+          (All-push (IsRecordOf (nows xs) c.args.sums.now) c.loop-index.records.items r
+          c.loop-index.invariant.each
+          (record {
+            within = l;
+            text_is = t;
+            units_is = c.requires.sums.units_is i no_place l
+                ∙ ap (λ z. length (units z)) (sym t);
+            saved_is =
+                omega (
+                  arith,
+                  small,
+                  c.requires.sums.size_is i no_place l,
+                  c.requires.sums.own i l own,
+                );
+          }));
     }
 
 pub returns-clause-records : goal.returns-clause-records
@@ -79,4 +138,10 @@ returns-clause-records c =
     let xs = c.args.texts.now in
     let i = c.loop-index.index in
     records_all (nows xs) (record_texts c.loop-index.records.items)
-    (subst (λ d. AreRecordsAmong (nows xs) d (record_texts c.loop-index.records.items)) (nows-whole xs i (omega (arith, c.loop-index-test.false, c.requires.places.len, length-nows xs))) c.loop-index.invariant.records)
+    (subst (λ d. AreRecordsAmong (nows xs) d (record_texts c.loop-index.records.items))
+    (nows-whole xs i (omega (
+      arith,
+      c.loop-index-test.false,
+      c.requires.places.len,
+      length-nows xs,
+    ))) c.loop-index.invariant.records)

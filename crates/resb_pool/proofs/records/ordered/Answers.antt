@@ -7,8 +7,12 @@ use Rattle.resb_pool.proofs.records.ordered.Goals as goal
 
 pub returns-clause-records : goal.returns-clause-records
 returns-clause-records c =
-    records_permutation (nows c.args.texts.now) (record_texts c.in_ok-records.records.items) (record_texts c.sort.new.self.items)
-    (IsPermutation-map (λ (r : Record). r.text.now) c.in_ok-records.records.items c.sort.new.self.items c.sort.ensures.permutation) c.in_ok-records.ensures.records
+    records_permutation (nows c.args.texts.now) (record_texts c.in_ok-records.records.items)
+    (record_texts c.sort.new.self.items)
+    (IsPermutation-map (λ (r : Record). r.text.now) c.in_ok-records.records.items
+    c.sort.new.self.items c.sort.ensures.permutation) c.in_ok-records.ensures.records
 
 pub returns-clause-each : goal.returns-clause-each
-returns-clause-each c = All-permutation (IsRecordOf (nows c.args.texts.now) c.args.sums.now) c.in_ok-records.records.items c.sort.new.self.items c.sort.ensures.permutation c.in_ok-records.ensures.each
+returns-clause-each c = All-permutation (IsRecordOf (nows c.args.texts.now) c.args.sums.now)
+    c.in_ok-records.records.items c.sort.new.self.items c.sort.ensures.permutation
+    c.in_ok-records.ensures.each

@@ -21,7 +21,10 @@ loop-x-preserved c =
     let e : a.y ≡ a.x = sym c.if-x-y.true in
     record {
       tail = encode_utf8 a.x ++ i.tail;
-      left = cut_more c.args.left.now (chars_rest c.loop-x.lefts) (chars_rest c.next_back.new.self) i.tail a.x i.left a.ensures.steps s;
-      right = subst (λ (z : ℕ). IsCut c.args.right.now (chars_rest c.next_back-in-loop-x.new.self) (encode_utf8 z ++ i.tail)) e
-          (cut_more c.args.right.now (chars_rest c.loop-x.rights) (chars_rest c.next_back-in-loop-x.new.self) i.tail a.y i.right a.ensures'.steps t);
+      left = cut_more c.args.left.now (chars_rest c.loop-x.lefts) (chars_rest c.next_back.new.self)
+          i.tail a.x i.left a.ensures.steps s;
+      right = subst (λ (z : ℕ). IsCut c.args.right.now (chars_rest c.next_back-in-loop-x.new.self)
+          (encode_utf8 z ++ i.tail)) e
+          (cut_more c.args.right.now (chars_rest c.loop-x.rights)
+          (chars_rest c.next_back-in-loop-x.new.self) i.tail a.y i.right a.ensures'.steps t);
     }

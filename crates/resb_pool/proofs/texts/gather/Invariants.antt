@@ -5,7 +5,8 @@ use Rattle.resb_pool.proofs.texts.gather.Given as goal
 
 abbrev pub invariant-loop-text : goal.invariant-loop-text
 invariant-loop-text l = record {
-  texts : AreTexts (nows (take l.text-index l.strings)) (nows l.texts.distinct.keys) l.texts.measures.items;
+  texts : AreTexts (nows (take l.text-index l.strings)) (nows l.texts.distinct.keys)
+      l.texts.measures.items;
   size : l.size ≡ texts_size (nows (take l.text-index l.strings));
   small : l.size < 2 ^ 28;
 }

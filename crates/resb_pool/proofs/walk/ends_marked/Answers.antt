@@ -7,7 +7,13 @@ use Rattle.resb_pool.proofs.walk.ends_marked.Goals as goal
 
 pub returns-then-is_long-clause-is : goal.returns-then-is_long-clause-is
 returns-then-is_long-clause-is c =
-    let a : ends c.args.nodes.now.items c.args.at ≡ true = ap is_some (sym c.text_of.ensures) ∙ sym c.if-ends_here.ensures in
-    let m : is_unmarked (suffix c.args.nodes.now.items c.args.at) ≡ false = subst (λ (l : List ℕ). is_unmarked l ≡ false) c.suffix_of-text.ensures (long_marked c.suffix_of-text.result.now c.suffix_of-text.utf8 c.if-is_long.true) in
-    subst (λ (b : Bool). MatchBool b ((ends c.args.nodes.now.items c.args.at ≡ true) × (is_unmarked (suffix c.args.nodes.now.items c.args.at) ≡ false)) (ends c.args.nodes.now.items c.args.at ≡ true → is_unmarked (suffix c.args.nodes.now.items c.args.at) ≡ true))
+    let a : ends c.args.nodes.now.items c.args.at ≡ true = ap is_some (sym c.text_of.ensures)
+    ∙ sym c.if-ends_here.ensures in
+    let m : is_unmarked (suffix c.args.nodes.now.items c.args.at) ≡ false =
+    subst (λ (l : List ℕ). is_unmarked l ≡ false) c.suffix_of-text.ensures
+    (long_marked c.suffix_of-text.result.now c.suffix_of-text.utf8 c.if-is_long.true) in
+    subst (λ (b : Bool). MatchBool b ((ends c.args.nodes.now.items c.args.at ≡ true)
+    × (is_unmarked (suffix c.args.nodes.now.items c.args.at) ≡ false))
+    (ends c.args.nodes.now.items c.args.at ≡ true
+    → is_unmarked (suffix c.args.nodes.now.items c.args.at) ≡ true))
     (sym (below_is 120 (length c.suffix_of-text.result.now) c.if-is_long.true)) (a, m)

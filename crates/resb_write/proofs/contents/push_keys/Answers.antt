@@ -11,7 +11,8 @@ loop-key-preserved c =
     let key = c.in-Some.key.now in
     let rest = c.next.new.self in
     let split : c.loop-key.key-iterator ≡ key ∷ rest = search rules in
-    ap (λ l. l ++ rest) (nows-push old c.push.new.self.items c.as_str.result c.in_ok-push.ensures.items)
+    ap (λ l. l ++ rest) (nows-push old c.push.new.self.items c.as_str.result
+    c.in_ok-push.ensures.items)
     ∙ append_assoc (nows old) (c.as_str.result.now ∷ []) rest
     ∙ ap (λ k. nows old ++ k ∷ rest) c.as_str.ensures.value
     ∙ ap (λ l. nows old ++ l) (sym split) ∙ c.loop-key.invariant
@@ -19,5 +20,7 @@ loop-key-preserved c =
 pub returns : goal.returns
 returns c =
     let none : c.loop-key.key-iterator ≡ [] = search rules in
-    sym (append-nil (nows c.loop-key.keys.items)) ∙ ap (λ l. nows c.loop-key.keys.items ++ l) (sym none)
-    ∙ c.loop-key.invariant ∙ ap (λ l. nows c.args.keys.now.items ++ l) (sym (keys_view c.args.table.now.entries))
+    sym (append-nil (nows c.loop-key.keys.items))
+    ∙ ap (λ l. nows c.loop-key.keys.items ++ l) (sym none)
+    ∙ c.loop-key.invariant ∙ ap (λ l. nows c.args.keys.now.items ++ l)
+    (sym (keys_view c.args.table.now.entries))

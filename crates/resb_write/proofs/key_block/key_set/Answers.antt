@@ -18,5 +18,6 @@ loop-key-preserved c = λ q.
     let d : Bor (List ℕ) = record { ref_ptr = (0, 0); now = [] } in
     let a = (get_or xs i d).now in
     key_moves a q (at_text c.loop-key.set q) (at_text c.insert.new.self q) (nows (take i xs))
-    (hash_map_updates_str a c.loop-key.set c.insert.new.self _ c.in_ok-insert.ensures.updates q) (c.loop-key.invariant q)
+    (hash_map_updates_str a c.loop-key.set c.insert.new.self _ c.in_ok-insert.ensures.updates q)
+    (c.loop-key.invariant q)
     ∙ ap (λ l. is_among l q) (sym (nows-take xs i d (omega arith)))

@@ -6,6 +6,8 @@ use Rattle.resb_write.proofs.key_block.last_positions.Given as goal
 
 abbrev pub invariant-loop-key : goal.invariant-loop-key
 invariant-loop-key l = record {
-  position : l.position ≡ min (32 + length (key_bytes (nows (take l.key-index l.keys)))) (2 ^ 64 - 1);
-  positions : (q : List ℕ) → at_text l.positions q ≡ near_position_in (nows (take l.key-index l.keys)) q;
+  position : l.position ≡ min (32 + length (key_bytes (nows (take l.key-index l.keys))))
+      (2 ^ 64 - 1);
+  positions : (q : List ℕ) → at_text l.positions q ≡ near_position_in
+      (nows (take l.key-index l.keys)) q;
 }

@@ -13,11 +13,19 @@ returns-in-Some-clause-err c = λ ts g.
 pub returns-then-contents-clause-err : goal.returns-then-contents-clause-err
 returns-then-contents-clause-err c = λ ts g.
     subst (IsTooMuch ts c.args.list.now) (sym c.limit.ensures)
-    (at_fault (over_fault ts (sym g.too_long_is ∙ c.in_default.is) (sym g.over_is ∙ c.if-contents.true)))
+    (at_fault (over_fault ts (sym g.too_long_is ∙ c.in_default.is) (sym g.over_is
+    ∙ c.if-contents.true)))
 
 pub returns-clause-err : goal.returns-clause-err
 returns-clause-err c = λ ts g.
     let large : 2 ^ 28 ≤ list_size c.args.list.now + resources_size ts
-    = omega (arith, c.if-saturating_add-lt-SIZE_LIMIT.false, c.saturating_add.ensures, c.listed_size.ensures, g.size_is) in
+    = omega (
+      arith,
+      c.if-saturating_add-lt-SIZE_LIMIT.false,
+      c.saturating_add.ensures,
+      c.listed_size.ensures,
+      g.size_is,
+    ) in
     subst (IsTooMuch ts c.args.list.now) (sym c.limit-2.ensures)
-    (too_large (no_size_fault ts (sym g.too_long_is ∙ c.in_default.is) (sym g.over_is ∙ c.if-contents.false)) large)
+    (too_large (no_size_fault ts (sym g.too_long_is ∙ c.in_default.is) (sym g.over_is
+    ∙ c.if-contents.false)) large)

@@ -1,21 +1,48 @@
 -- The listed keys that are used, and what their positions say.
-use Rattle.std.proofs.Common.{ℕ, List, filter, inr, ◌∙◌, ap}
+use Rattle.std.proofs.Common.{◌≡◌, ℕ, List, filter, inr, sym, ◌∙◌, ap}
 use Rattle.std.proofs.lemmas.Result.{err_from_is_err_and}
 use Rattle.resb_pool.specs.Plan.{nows}
+use Rattle.indexmap.specs.IndexMap.{keys}
 use Rattle.resb_write.specs.Keys.{used}
+use Rattle.resb_write.specs.Faults.{key_fault}
+use Rattle.resb_write.proofs.Distinct.{fault_same, same_keys}
 use Rattle.resb_write.specs.Inner.Places.{near_position_in}
 use Rattle.resb_write.proofs.key_block.KeyBlock.new.Goals as goal
 
 pub returns-in_err-check_keys-clause-err : goal.returns-in_err-check_keys-clause-err
 returns-in_err-check_keys-clause-err c =
     let us = nows c.args.tree_keys.now in
-    let js = c.in_ok-keys.ensures.keys ∙ (λ i. filter (λ k. c.in_ok-wanted.ensures k i) c.args.list.now) in
-    let at = λ (q : List ℕ). c.in_ok-positions.ensures q ∙ ap (λ l. near_position_in (nows l) q) c.deref.ensures.value ∙ ap (λ l. near_position_in l q) js in
-    let p = err_from_is_err_and c.from_residual-in_err-check_keys.result c.from_residual-in_err-check_keys.ensures.1 in
-    rw (p.1, p.2) (inr (c.in_err-check_keys.ensures.err (used us c.args.list.now) at))
+    let js = c.in_ok-keys.ensures.keys ∙ (λ i. filter (λ k. c.in_ok-wanted.ensures k i)
+    c.args.list.now) in
+    let at = λ (q : List ℕ). c.in_ok-positions.ensures q ∙ ap (λ l. near_position_in (nows l) q)
+    c.deref.ensures.value ∙ ap (λ l. near_position_in l q) js in
+    let p = err_from_is_err_and c.from_residual-in_err-check_keys.result
+    c.from_residual-in_err-check_keys.ensures.1 in
+    let ws = nows c.as_slice.result.now in
+    let ds : ws ≡ nows (keys c.in_ok-wanted.wanted) = ap nows (c.as_slice.ensures
+    ∙ c.keys.ensures.rest) in
+    let same = fault_same (nows (keys c.in_ok-wanted.wanted)) us
+    (same_keys c.in_ok-wanted.wanted.entries us c.in_ok-wanted.ensures)
+    (used us c.args.list.now) in
+    rw (p.1, p.2) (inr (sym (ap (λ (l : List (List ℕ)). key_fault l (used us c.args.list.now)) ds
+    ∙ same) ∙ c.in_err-check_keys.ensures.err (used us c.args.list.now) at))
 
 pub returns-clause-ok : goal.returns-clause-ok
 returns-clause-ok c =
-    let js = c.in_ok-keys.ensures.keys ∙ (λ i. filter (λ k. c.in_ok-wanted.ensures k i) c.args.list.now) in
-    let at = λ (q : List ℕ). c.in_ok-positions.ensures q ∙ ap (λ l. near_position_in (nows l) q) c.deref.ensures.value in
-    record { keys = js; positions = at; utf8 = c.in_ok-keys.ensures.utf8; faultless = c.in_ok-check_keys.ensures.ok (nows c.in_ok-keys.keys.items) at }
+    let us = nows c.args.tree_keys.now in
+    let ks = nows c.in_ok-keys.keys.items in
+    let js = c.in_ok-keys.ensures.keys ∙ (λ i. filter (λ k. c.in_ok-wanted.ensures k i)
+    c.args.list.now) in
+    let at = λ (q : List ℕ). c.in_ok-positions.ensures q ∙ ap (λ l. near_position_in (nows l) q)
+    c.deref.ensures.value in
+    let ds : nows c.as_slice.result.now ≡ nows (keys c.in_ok-wanted.wanted) =
+    ap nows (c.as_slice.ensures ∙ c.keys.ensures.rest) in
+    let same = fault_same (nows (keys c.in_ok-wanted.wanted)) us
+    (same_keys c.in_ok-wanted.wanted.entries us c.in_ok-wanted.ensures) ks in
+    record {
+      keys = js;
+      positions = at;
+      utf8 = c.in_ok-keys.ensures.utf8;
+      faultless = sym (ap (λ (l : List (List ℕ)). key_fault l ks) ds ∙ same)
+          ∙ c.in_ok-check_keys.ensures.ok ks at;
+    }

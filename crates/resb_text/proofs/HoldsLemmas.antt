@@ -1,10 +1,9 @@
 -- What each step does to the candidates for keys of the open groups.
-use Rattle.std.proofs.Common.{◌≡◌, ◌≢◌, ℕ, ◌+◌, ◌<◌, ◌≤◌, Bool, true, false, List, [], ◌∷◌, ◌++◌}
+use Rattle.std.proofs.Common.{◌≡◌, ℕ, ◌+◌, ◌<◌, ◌≤◌, Bool, true, false, List, [], ◌∷◌, ◌++◌}
 use Rattle.std.proofs.Common.{refl, sym, ◌∙◌, ap, subst, arith, append_assoc}
 use Rattle.std.proofs.lemmas.Bool.{false≢true}
 use Rattle.std.proofs.lemmas.List.{map-append}
-use Rattle.std.proofs.Common.{◌-◌}
-use Rattle.resb_tree.specs.Tree.{Tree, string, table, array}
+use Rattle.resb_tree.specs.Tree.{Tree}
 use Rattle.resb_grammar.specs.Items.{Member, string_member, group_member, Item, plain, flagged}
 use Rattle.resb_grammar.specs.Items.{Shape, a_string, a_table, an_array, shape_of, tree_in, keys_in}
 use Rattle.resb_grammar.specs.Items.{table_keys, array_keys, table_if, is_pairs}

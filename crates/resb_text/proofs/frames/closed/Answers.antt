@@ -23,7 +23,8 @@ returns-in-Array-clause-left c = λ n f e.
     ∙ ap (λ sh. left_after sh n (left c.args.keys.now)) (c.in-Array.ensures n f e)
 
 pub returns-in-String-clause-ok : goal.returns-in-String-clause-ok
-returns-in-String-clause-ok c = λ n f e. tree_of_string _ ∙ closed_string _ _ _ (c.in-String.ensures n f e)
+returns-in-String-clause-ok c = λ n f e.
+    tree_of_string _ ∙ closed_string _ _ _ (c.in-String.ensures n f e)
 
 pub returns-in-String-clause-left : goal.returns-in-String-clause-left
 returns-in-String-clause-left c = λ n f e.

@@ -6,7 +6,7 @@ use Rattle.resb_read.specs.Sequences.{ReadsEach, CountsEach}
 use Rattle.resb_read.specs.Reading.{LacksOrMemory}
 use Rattle.resb_format.specs.declared.error.ReadingError.{ReadingError}
 use Rattle.resb_read.specs.Inner.Front.{Front}
-use Rattle.resb_read.specs.SequenceLaws.{each_counted}
+use Rattle.resb_read.specs.TypeLaws.{each_counted}
 use Rattle.resb_read.specs.Access.{Access, StepsOver, StepsAfter, Steps}
 
 module _ {X : Type 0} (reads : Place → X → ℕ → Type 0) where

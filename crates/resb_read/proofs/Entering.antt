@@ -8,7 +8,7 @@ use Rattle.resb_read.specs.Sequences.{ReadsPairs, CountsPairs, ReadsAll, put_eac
 use Rattle.resb_read.specs.Reading.{LacksOrMemory}
 use Rattle.resb_read.specs.Access.{Entries, EntersOver, EntersAfter, Enters, ReadsPair, CountsPair}
 use Rattle.resb_read.specs.Inner.Front.{FrontPairs}
-use Rattle.resb_read.specs.SequenceLaws.{pairs_counted}
+use Rattle.resb_read.specs.TypeLaws.{pairs_counted}
 use Rattle.resb_format.specs.declared.error.ReadingError.{ReadingError}
 
 module _ {K X : Type 0} (rk : Place → K → ℕ → Type 0) (rv : Place → X → ℕ → Type 0) where

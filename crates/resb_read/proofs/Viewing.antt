@@ -8,10 +8,10 @@ use Rattle.resb_format.proofs.Spelled.{words_length}
 use Rattle.resb_format.specs.HeadChecks.{Refusal}
 use Rattle.resb_format.specs.Error.{IsWrongLength}
 use Rattle.resb_format.specs.declared.error.ReadingError.{ReadingError}
-use Rattle.resb_walk.specs.Faults.{Says}
+use Rattle.resb_walk.specs.Damage.{Says}
 use Rattle.resb_read.specs.Places.{Place}
 use Rattle.resb_read.specs.Reading.{Lacks, CountsThere}
-use Rattle.resb_read.specs.ReadingLaws.{any}
+use Rattle.resb_read.specs.Reading.{any}
 use Rattle.resb_read.specs.Leaves.{CountsBytes, bytes_from}
 use Rattle.resb_read.specs.Refused.{bytes_refusal}
 use Rattle.resb_read.specs.Others.{are_paid, view_refusal}

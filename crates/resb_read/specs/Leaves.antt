@@ -12,7 +12,7 @@ use Rattle.resb_format.specs.Parts.{Parts}
 use Rattle.resb_format.specs.Content.{counted}
 use Rattle.resb_read.specs.Places.{Place}
 use Rattle.resb_read.specs.Reading.{IsThere, CountsThere}
-use Rattle.resb_read.specs.ReadingLaws.{any}
+use Rattle.resb_read.specs.Reading.{any}
 use Rattle.resb_read.specs.declared.cursor.Spot.{Spot}
 use Rattle.resb_read.specs.declared.cursor.Spot.TheVariants as spot
 

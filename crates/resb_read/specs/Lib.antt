@@ -1,4 +1,5 @@
--- The words of the contracts: places in a file, what is read at one, and the laws of reading.
+-- The words of the contracts: places in a file, what is read at one, and why a
+-- reading is refused.
 pub use Rattle.resb_format.specs.Bytes
 pub use Rattle.resb_format.specs.Strings
 pub use Rattle.resb_format.specs.Parts
@@ -7,26 +8,25 @@ pub use Rattle.resb_format.specs.Denotes
 pub use Rattle.resb_format.specs.File
 pub use Rattle.resb_format.specs.HeadChecks
 pub use Rattle.resb_format.specs.Error
+pub use Rattle.resb_format.specs.StringFaults
+pub use Rattle.resb_format.specs.Codes
+pub use Rattle.resb_format.specs.Views
 pub use Rattle.resb_tree.specs.Tree
 pub use Rattle.resb_tree.specs.View
 pub use Rattle.resb_walk.specs.Files
-pub use Rattle.resb_walk.specs.Faults
+pub use Rattle.resb_walk.specs.Damage
 pub use Rattle.resb_walk.specs.Meets
 pub use Rattle.resb_walk.specs.Refusals
 pub use Rattle.resb_walk.specs.Borrows
 pub mod Places
 pub mod Reading
-pub mod ReadingLaws
 pub mod Leaves
 pub mod Refused
-pub mod LeafLaws
 pub mod Resources
-pub mod ResourceLaws
 pub mod Roots
 pub mod Laws
 pub mod Sequences
-pub mod SequenceLaws
 pub mod Access
 pub mod Others
-pub mod ViewLaws
+pub mod TypeLaws
 pub mod Inner

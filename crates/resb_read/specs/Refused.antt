@@ -10,7 +10,7 @@ use Rattle.resb_format.specs.HeadChecks.{Refusal, invalid, unsupported, end_of_i
 use Rattle.resb_format.specs.Parts.{Parts}
 use Rattle.resb_format.specs.StringFaults.{string_fault}
 use Rattle.resb_format.specs.declared.error.ErrorKind.TheVariants.{ResourceTypeMismatch, Unknown}
-use Rattle.resb_walk.specs.Faults.{key_fault}
+use Rattle.resb_walk.specs.Damage.{key_damage}
 use Rattle.resb_read.specs.Places.{Place}
 use Rattle.resb_read.specs.Leaves.{type_in, value_in}
 use Rattle.resb_read.specs.declared.cursor.Spot.{Spot}
@@ -75,7 +75,7 @@ bits_refusal (spot.Key k) left = elsewhere
 
 -- another place, or a fault of the key itself
 abbrev pub key_refusal_from : Parts → Spot → ℕ → Refusal
-key_refusal_from p (spot.Key k) left = key_fault p.keys k
+key_refusal_from p (spot.Key k) left = key_damage p.keys k
 key_refusal_from p (spot.Descriptor w) left = no_value (spot.Descriptor w) left
 key_refusal_from p (spot.Unit u) left = no_value (spot.Unit u) left
 key_refusal_from p (spot.Word w) left = no_value (spot.Word w) left
@@ -94,7 +94,7 @@ abbrev pub bytes_refusal_from : Parts → Spot → ℕ → Refusal
 bytes_refusal_from p (spot.Descriptor w) left = paid left (bytes_fault p w)
 bytes_refusal_from p (spot.Unit u) left = paid left (invalid (string_fault p.block u))
 bytes_refusal_from p (spot.Word w) left = elsewhere
-bytes_refusal_from p (spot.Key k) left = key_fault p.keys k
+bytes_refusal_from p (spot.Key k) left = key_damage p.keys k
 
 abbrev pub bytes_refusal : Place → ℕ → Refusal
 bytes_refusal p left = bytes_refusal_from p.parts p.at left

@@ -6,7 +6,7 @@ ghost use Rattle.resb_read.specs.Places.{place_of};
 ghost use Rattle.resb_read.specs.Sequences as sequences;
 ghost use Rattle.resb_read.specs.Access.{EntersTo, Enters, ReadsPair, CountsPair};
 ghost use Rattle.resb_read.specs.Reading.{LacksOrMemory};
-ghost use Rattle.resb_walk.specs.Faults.{Says};
+ghost use Rattle.resb_walk.specs.Damage.{Says};
 ghost use Rattle.resb_read.specs.Refused.{entries_refusal};
 
 use crate::cursor::{Cursor, Spot};

@@ -2,7 +2,7 @@
 //! Faults of the file itself are in `resb_walk::faults`.
 ghost use Rattle.std.specs.Prelude.{◌≤◌};
 ghost use Rattle.resb_format.specs.HeadChecks.{refusal_of};
-ghost use Rattle.resb_walk.specs.Faults.{Says};
+ghost use Rattle.resb_walk.specs.Damage.{Says};
 ghost use Rattle.resb_walk.specs.Refusals.{IsFault};
 ghost use Rattle.resb_read.specs.Leaves.{type_in};
 ghost use Rattle.resb_read.specs.Refused as refused;

@@ -4,9 +4,9 @@ ghost use Rattle.std.specs.Prelude.{◌-◌, ◌^◌, pos, negsuc};
 ghost use Rattle.resb_read.specs.Leaves.{signed_at, unsigned_at, bool_at, bits_at, IsWithin};
 ghost use Rattle.resb_read.specs.Leaves.{ReadsSigned, CountsSigned, ReadsUnsigned, CountsUnsigned};
 ghost use Rattle.resb_read.specs.Leaves.{ReadsBool, CountsBool, ReadsBits, CountsBits};
-ghost use Rattle.resb_read.specs.LeafLaws.{signed_counted, signed_one, unsigned_counted};
-ghost use Rattle.resb_read.specs.LeafLaws.{unsigned_one, bool_counted, bool_one, bits_counted};
-ghost use Rattle.resb_read.specs.LeafLaws.{bits_one};
+ghost use Rattle.resb_read.specs.TypeLaws.{signed_counted, signed_one, unsigned_counted};
+ghost use Rattle.resb_read.specs.TypeLaws.{unsigned_one, bool_counted, bool_one, bits_counted};
+ghost use Rattle.resb_read.specs.TypeLaws.{bits_one};
 
 use crate::cursor::Cursor;
 use crate::deserialize::Deserialize;

@@ -2,7 +2,7 @@
 //! An `Option` here is always `Some`: it has the shape of a field that may be left out.
 ghost use Rattle.std.specs.Prelude.{◌≡◌, ◌≤◌, ◌+◌, ℕ, IfOk, IfErr, IsSomeAnd};
 ghost use Rattle.resb_format.specs.Views.{unit_bytes, word_bytes, number_bytes, pair_bytes};
-ghost use Rattle.resb_walk.specs.Faults.{Says};
+ghost use Rattle.resb_walk.specs.Damage.{Says};
 ghost use Rattle.resb_read.specs.Places.{place_of};
 ghost use Rattle.resb_read.specs.Reading.{Reads, LacksOrMemory};
 ghost use Rattle.resb_read.specs.Sequences.{ReadsSeq, CountsSeq};

@@ -5,7 +5,7 @@ ghost use Rattle.std.specs.Prelude.{MatchOption};
 ghost use Rattle.std.specs.String.{string_bytes};
 ghost use Rattle.resb_read.specs.Places.{place_of};
 ghost use Rattle.resb_read.specs.Reading.{Reads, LacksOrMemory};
-ghost use Rattle.resb_walk.specs.Faults.{Says, key_fault};
+ghost use Rattle.resb_walk.specs.Damage.{Says, key_damage};
 ghost use Rattle.resb_read.specs.Refused.{bytes_refusal, out_of_range};
 ghost use Rattle.resb_read.specs.Leaves.{ReadsText, CountsText, ReadsKey, CountsKey, ReadsBytes};
 ghost use Rattle.resb_read.specs.Leaves.{CountsBytes, ReadsSigned, CountsSigned, ReadsUnsigned};
@@ -121,7 +121,7 @@ impl<'de> KeyDeserializer<'de> {
     /// Reads the key, which lives as long as the file.
     pub fn read_str(self) -> Result<&'de str, BinaryDeserializerError>
         ensures { let p = named.key_place self.entry in
-            Reads (Says (key_fault p.parts.keys self.entry.position)) (λ s n. ReadsKey p s.now n)
+            Reads (Says (key_damage p.parts.keys self.entry.position)) (λ s n. ReadsKey p s.now n)
             (CountsKey p) 0 0 result }
     {
         match self.file.key(self.position) {

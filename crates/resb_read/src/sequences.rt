@@ -5,7 +5,7 @@ ghost use Rattle.std.specs.Prelude.{MatchOption, IfOk, IfErr};
 ghost use Rattle.resb_read.specs.Places.{place_of};
 ghost use Rattle.resb_read.specs.Sequences.{items};
 ghost use Rattle.resb_read.specs.Access.{StepsTo, Steps};
-ghost use Rattle.resb_walk.specs.Faults.{Says};
+ghost use Rattle.resb_walk.specs.Damage.{Says};
 ghost use Rattle.resb_read.specs.Refused.{members_refusal};
 
 use crate::cursor::{Cursor, Spot};

@@ -7,7 +7,7 @@ ghost use Rattle.resb_format.specs.Bytes.{units_of};
 ghost use Rattle.resb_format.specs.Strings as strings;
 ghost use Rattle.resb_format.specs.HeadChecks.{end_of_input, invalid};
 ghost use Rattle.resb_format.specs.StringFaults.{string_fault};
-ghost use Rattle.resb_walk.specs.Faults.{Says};
+ghost use Rattle.resb_walk.specs.Damage.{Says};
 ghost use Rattle.resb_walk.specs.Files.{parts_in};
 ghost use Rattle.resb_read.specs.Places.{place_of};
 ghost use Rattle.resb_read.specs.Reading.{Reads, LacksOrMemory};
@@ -15,8 +15,8 @@ ghost use Rattle.resb_read.specs.Refused.{key_refusal, bytes_fault, bytes_refusa
 ghost use Rattle.resb_read.specs.Leaves.{type_in, value_in, units_as_bytes, counted_bytes};
 ghost use Rattle.resb_read.specs.Leaves.{bytes_of_type, ReadsText, CountsText, ReadsKey, CountsKey};
 ghost use Rattle.resb_read.specs.Leaves.{ReadsBytes, CountsBytes};
-ghost use Rattle.resb_read.specs.LeafLaws.{text_counted, text_one, key_counted, key_one};
-ghost use Rattle.resb_read.specs.LeafLaws.{bytes_counted, bytes_one};
+ghost use Rattle.resb_read.specs.TypeLaws.{text_counted, text_one, key_counted, key_one};
+ghost use Rattle.resb_read.specs.TypeLaws.{bytes_counted, bytes_one};
 
 use crate::cursor::{Cursor, Spot};
 use crate::deserialize::Deserialize;

@@ -2,11 +2,11 @@
 //! The helpers of the Rust crate's names are in `helpers`.
 ghost use Rattle.std.specs.Prelude.{◌≡◌, ◌+◌, ◌≤◌, ◌%◌, ℕ, length};
 ghost use Rattle.resb_format.specs.Views.{unit_bytes, word_bytes, number_bytes, pair_bytes};
-ghost use Rattle.resb_walk.specs.Faults.{Says};
+ghost use Rattle.resb_walk.specs.Damage.{Says};
 ghost use Rattle.resb_read.specs.Places.{place_of};
 ghost use Rattle.resb_read.specs.Reading.{Reads};
 ghost use Rattle.resb_read.specs.Others.{ReadsView, CountsView, view_refusal};
-ghost use Rattle.resb_read.specs.ViewLaws.{view_counted, view_one};
+ghost use Rattle.resb_read.specs.TypeLaws.{view_counted, view_one};
 
 use crate::cursor::Cursor;
 use crate::deserialize::Deserialize;

@@ -6,9 +6,9 @@ use Rattle.std.specs.Prelude.{codes}
 use Rattle.std.proofs.Common.{sym, ◌∙◌, subst, arith}
 use Rattle.resb_read.specs.Places.{Place}
 use Rattle.resb_read.specs.Leaves.{ReadsKey, ReadsSigned, CountsSigned}
-use Rattle.resb_read.specs.LeafLaws.{key_one, signed_counted, signed_one}
+use Rattle.resb_read.specs.TypeLaws.{key_one, signed_counted, signed_one}
 use Rattle.resb_read.specs.Sequences.{entries, ReadsSeq, CountsSeq}
-use Rattle.resb_read.specs.SequenceLaws.{seq_counted, seq_one}
+use Rattle.resb_read.specs.TypeLaws.{seq_counted, seq_one}
 
 -- the place of a key, and of its value
 abbrev pub Entry : Type 0

@@ -77,7 +77,11 @@ fn push_numbers<N: Copy + Into<u32>>(
 }
 
 /// The line of a count and a tree.
-fn line_of_tree(alloc: Global, count: usize, tree: &Resource<'_>) -> Result<String, Fail> {
+pub(crate) fn line_of_tree(
+    alloc: Global,
+    count: usize,
+    tree: &Resource<'_>,
+) -> Result<String, Fail> {
     let mut line = format!(in alloc; "{count} ")?;
     push_tree(alloc, &mut line, tree, 9)?;
     Ok(line)

@@ -2,9 +2,11 @@
 //! The places are found in `places`, and the rows are in `type_rows`.
 use crate::answers::line_of_refusal;
 use resb_format::{
-    BinaryDeserializerError, I32View, Int28, PairView, ReadingError, Utf16View, WordView,
+    BinaryDeserializerError, I32View, Int28, Key, PairView, ReadingError, Utf16View, WordView,
 };
-use resb_read::helpers::{option_i32, option_i32_tuple, option_u32, option_utf_16, vec_utf_16};
+use resb_read::helpers::{
+    i32_tuple, option_i32, option_i32_tuple, option_u32, option_utf_16, vec_utf_16,
+};
 use resb_read::{Cursor, Deserialize, Walk};
 use std::alloc::Global;
 use std::collections::BTreeMap;
@@ -40,9 +42,12 @@ pub(crate) enum Ask {
     UnitViewList,
     ReprType,
     Skip,
+    KeyMap,
+    Pairs,
+    UnitLists,
 }
 
-/// All of them, in the order of their lines in a sweep.
+/// Those of a sweep, in the order of their lines.
 pub(crate) const ALL: [Ask; 26] = [
     Ask::Bool,
     Ask::I8,
@@ -139,6 +144,10 @@ fn parted(alloc: Global, ask: Ask, at: Cursor<'_>, walk: &mut Walk) -> Result<St
             BTreeMap::<&str, Vec<u32>>::deserialize(alloc, at, walk),
         ),
         Ask::ByteMap => line(alloc, BTreeMap::<String, u8>::deserialize(alloc, at, walk)),
+        Ask::KeyMap => keyed(
+            alloc,
+            BTreeMap::<Key<'_>, String>::deserialize(alloc, at, walk),
+        ),
         _ => viewed(alloc, ask, at, walk),
     }
 }
@@ -150,8 +159,32 @@ fn viewed(alloc: Global, ask: Ask, at: Cursor<'_>, walk: &mut Walk) -> Result<St
         Ask::WordView => words(alloc, option_u32(at, walk)),
         Ask::NumberView => numbers(alloc, option_i32(at, walk)),
         Ask::PairView => pairs(alloc, option_i32_tuple(at, walk)),
+        Ask::Pairs => match i32_tuple(at, walk) {
+            Ok(view) => pairs(alloc, Ok(Some(view))),
+            Err(error) => line_of_refusal(alloc, error),
+        },
+        Ask::UnitLists => items_of_units(alloc, vec_utf_16(alloc, at, walk)),
         _ => unit_lists(alloc, vec_utf_16(alloc, at, walk)),
     }
+}
+
+/// The line of texts by their keys.
+fn keyed(
+    alloc: Global,
+    read: Result<BTreeMap<Key<'_>, String>, BinaryDeserializerError>,
+) -> Result<String, Fail> {
+    let texts = match read {
+        Ok(texts) => texts,
+        Err(error) => return line_of_refusal(alloc, error),
+    };
+    let mut line = String::new(alloc);
+    for (key, text) in &texts {
+        line.push_str(key.as_str())?;
+        line.push_str("=")?;
+        line.push_str(text.as_str())?;
+        line.push_str(",")?;
+    }
+    Ok(line)
 }
 
 /// The line of a view of units.
@@ -240,6 +273,25 @@ fn unit_lists(
         lengths.push(view.len())?;
     }
     Ok(format!(in alloc; "{lengths:?}")?)
+}
+
+/// The line of views of units: how many units each has, and the units.
+fn items_of_units(
+    alloc: Global,
+    read: Result<Vec<Utf16View<'_>>, BinaryDeserializerError>,
+) -> Result<String, Fail> {
+    let views = match read {
+        Ok(views) => views,
+        Err(error) => return line_of_refusal(alloc, error),
+    };
+    let mut line = String::new(alloc);
+    for view in &views {
+        let length = view.len();
+        line.push_str(format!(in alloc; "{length}:")?.as_str())?;
+        line.push_str(units(alloc, Ok(Some(*view)))?.as_str())?;
+        line.push_str(",")?;
+    }
+    Ok(line)
 }
 
 /// The line of what is asked for at a place with so much of a budget, and what of it is left after

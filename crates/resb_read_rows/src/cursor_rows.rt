@@ -4,6 +4,7 @@ use crate::answers::line_of_refusal;
 use crate::asks::line;
 use crate::files::{NUMBERS, TEXT_A, TEXTS, TWO_ENTRIES, file_of};
 use crate::places::{At, entry, member, place};
+use resb_format::{BinaryDeserializerError, Key};
 use resb_read::{Cursor, SeqAccess, Walk, tree_from_bytes};
 use std::alloc::Global;
 use std::test::Fail;
@@ -50,6 +51,33 @@ fn an_access_to_entries_ends(rt: HostRuntime) -> Result<(), Fail> {
     ] {
         let next = entries.next_entry::<&str, String>(rt.alloc(), &mut walk);
         assert_eq!(rt; line(rt.alloc(), next)?.as_str(), said);
+    }
+    Ok(())
+}
+
+/// The line of an entry of a key and a text.
+fn line_of_entry(
+    alloc: Global,
+    next: Result<Option<(Key<'_>, String)>, BinaryDeserializerError>,
+) -> Result<String, Fail> {
+    match next {
+        Ok(Some((key, text))) => {
+            let name = key.as_str();
+            Ok(format!(in alloc; "{name}={text}")?)
+        }
+        Ok(None) => Ok(format!(in alloc; "none")?),
+        Err(error) => line_of_refusal(alloc, error),
+    }
+}
+
+#[test]
+fn an_access_gives_keys(rt: HostRuntime) -> Result<(), Fail> {
+    let bytes = file_of(rt.alloc(), TWO_ENTRIES)?;
+    let (root, mut walk) = Cursor::root(&bytes)?;
+    let mut entries = root.read_map(&mut walk)?;
+    for said in ["a=x", "c=yz", "none"] {
+        let next = entries.next_entry::<Key<'_>, String>(rt.alloc(), &mut walk);
+        assert_eq!(rt; line_of_entry(rt.alloc(), next)?.as_str(), said);
     }
     Ok(())
 }

@@ -174,6 +174,26 @@ const FILES: [(&[u32], &str, u64); 35] = [
     ),
 ];
 
+/// The word of a table at the body's end, of which so many bytes are left, and what is said.
+const ENDS: [(usize, &str); 3] = [
+    (4, "1 {}"),
+    (2, "Invalid resource bundle data: unexpected end of input"),
+    (0, "Invalid resource bundle data: unexpected end of input"),
+];
+
+#[test]
+fn the_padding_of_an_empty_table_lies_inside(rt: HostRuntime) -> Result<(), Fail> {
+    let bytes = file_of(
+        rt.alloc(),
+        &[0x20000009, 7, 8, 9, 9, 0, 0, 9, 0xaaaa0000, 0],
+    )?;
+    for (left, said) in ENDS {
+        let file = cut(rt.alloc(), &bytes, 68 + left)?;
+        assert_eq!(rt; line_of(rt.alloc(), &file)?.as_str(), said);
+    }
+    Ok(())
+}
+
 #[test]
 fn files_are_read(rt: HostRuntime) -> Result<(), Fail> {
     for (words, said, _) in FILES {

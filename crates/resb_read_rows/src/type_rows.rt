@@ -9,7 +9,11 @@ use crate::places::{At, place};
 use std::alloc::Global;
 use std::test::Fail;
 
-const ROWS: [(&[u32], At, usize, Ask, &str); 44] = [
+/// An Int that is no bool.
+const NO_BOOL: &str = "Resource did not match expected data type: \
+                       expected integer resource representable as boolean, 33 left";
+
+const ROWS: [(&[u32], At, usize, Ask, &str); 48] = [
     (
         NUMBERS,
         At::Root,
@@ -31,6 +35,7 @@ const ROWS: [(&[u32], At, usize, Ask, &str); 44] = [
         Ask::TextMap,
         "{\"a\": \"x\", \"c\": \"yz\"}, 43 left",
     ),
+    (TWO_ENTRIES, At::Root, 46, Ask::KeyMap, "a=x,c=yz,, 43 left"),
     (
         &[0x70000001, 7, 8, 9, 9, 0, 0, 9, 0xaaaa0000],
         At::Root,
@@ -57,7 +62,7 @@ const ROWS: [(&[u32], At, usize, Ask, &str); 44] = [
         At::Root,
         34,
         Ask::Bool,
-        "Resource did not match expected data type: expected integer resource representable as boolean, 33 left",
+        NO_BOOL,
     ),
     (
         &[0x70000002, 7, 8, 9, 9, 0, 0, 9, 0xaaaa0000],
@@ -116,6 +121,13 @@ const ROWS: [(&[u32], At, usize, Ask, &str); 44] = [
         NUMBERS,
         At::Value(1),
         9,
+        Ask::Pairs,
+        "[I32Pair(1, -1)], 8 left",
+    ),
+    (
+        NUMBERS,
+        At::Value(1),
+        9,
         Ask::WordView,
         "[1, 4294967295], 8 left",
     ),
@@ -136,6 +148,13 @@ const ROWS: [(&[u32], At, usize, Ask, &str); 44] = [
         Ask::PairView,
         "Unknown error: Wrong length, 8 left",
     ),
+    (
+        THREE_NUMBERS,
+        At::Value(0),
+        9,
+        Ask::Pairs,
+        "Unknown error: Wrong length, 8 left",
+    ),
     (BYTES, At::Value(0), 9, Ask::UnitView, "[65280], 8 left"),
     (
         BYTES,
@@ -145,6 +164,13 @@ const ROWS: [(&[u32], At, usize, Ask, &str); 44] = [
         "Unknown error: Wrong length, 8 left",
     ),
     (TEXTS, At::Value(0), 9, Ask::UnitViewList, "[0, 1], 6 left"),
+    (
+        TEXTS,
+        At::Value(0),
+        9,
+        Ask::UnitLists,
+        "0:[],1:[120],, 6 left",
+    ),
     (
         TEXTS,
         At::Value(0),

@@ -9,7 +9,7 @@ use Rattle.resb_format.specs.Denotes.{DenPairs, pairs_none, pairs_more}
 use Rattle.resb_format.specs.HeadChecks.{Refusal}
 use Rattle.resb_format.specs.Parts.{Parts}
 use Rattle.resb_format.specs.Strings.{key_at}
-use Rattle.resb_walk.specs.Faults.{key_fault}
+use Rattle.resb_walk.specs.Damage.{key_damage}
 use Rattle.resb_walk.specs.Meets.{Meets, meets_text, meets_word, meets_list, meets_key}
 use Rattle.resb_walk.specs.Meets.{meets_entry}
 use Rattle.resb_walk.specs.Inner.Frames.{Waits, OpenedTable}
@@ -98,7 +98,7 @@ module _ (p : Parts) where
   one_fault (meets_key j x ms e c h) (meets_key k y ns d b i) =
       let same = same_entry (j, x) (k, y) ms ns c b (no_key j x h) (no_key k y i)
       (same_pairs e d) in
-      ap (λ z. key_fault p.keys z.0) same
+      ap (λ z. key_damage p.keys z.0) same
   one_fault (meets_key j x ms e c h) (meets_entry {m = y} {f = g'} k ns d b a i) =
       let same = same_entry (j, x) (k, y) ms ns c b (no_key j x h) (no_value k y g' i)
       (same_pairs e d) in
@@ -138,7 +138,7 @@ module _ (p : Parts) where
       (tables : T → List (List ℕ × Tree) → Type 0) (rest later : Pairs) (k : ℕ) (x : Member)
       (made : T) (w n : ℕ)
       → OpenedTable lists tables p rest made w n → pairs_of rest ≡ (k, x) ∷ pairs_of later
-      → key_at p.keys k ≡ None → Meets p (word w) (key_fault p.keys k)
+      → key_at p.keys k ≡ None → Meets p (word w) (key_damage p.keys k)
   table_meets lists tables rest later k x made w n h e none =
       let stands = h.stands ∙ ap (λ es. Some (pairs (h.done ++ es))) e in
       meets_key k x (pairs_of later) stands h.each none

@@ -6,10 +6,12 @@ pub use Rattle.resb_format.specs.Parts
 pub use Rattle.resb_format.specs.Content
 pub use Rattle.resb_format.specs.Denotes
 pub use Rattle.resb_format.specs.Error
+pub use Rattle.resb_format.specs.HeadChecks
+pub use Rattle.resb_format.specs.StringFaults
 pub use Rattle.resb_tree.specs.Tree
 pub use Rattle.resb_tree.specs.View
 pub mod Files
-pub mod Faults
+pub mod Damage
 pub mod Meets
 pub mod Refusals
 pub mod Borrows

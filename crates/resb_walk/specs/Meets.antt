@@ -9,14 +9,14 @@ use Rattle.resb_format.specs.HeadChecks.{Refusal, refusal_of}
 use Rattle.resb_format.specs.Parts.{Parts}
 use Rattle.resb_format.specs.Strings.{text_at, key_at}
 use Rattle.resb_format.specs.declared.error.ReadingError.{ReadingError}
-use Rattle.resb_walk.specs.Faults.{text_fault, key_fault, content_fault}
+use Rattle.resb_walk.specs.Damage.{text_damage, key_damage, content_damage}
 use Rattle.resb_walk.specs.Refusals.{IsFault}
 
 module _ (p : Parts) where
   pub data Meets : Member → Refusal → Type 0 where
     -- nothing stands there
-    meets_text : {u : ℕ} → text_at p.block u ≡ None → Meets (unit u) (text_fault p.block u)
-    meets_word : {w : ℕ} → content p w ≡ None → Meets (word w) (content_fault p w)
+    meets_text : {u : ℕ} → text_at p.block u ≡ None → Meets (unit u) (text_damage p.block u)
+    meets_word : {w : ℕ} → content p w ≡ None → Meets (word w) (content_damage p w)
     -- in a member of an array, behind members that denote
     meets_list : {w n : ℕ} {ms : List Member} {ts : List Tree} {m : Member} {f : Refusal}
         (ns : List Member) → content p w ≡ Some (list (ms ++ m ∷ ns)) → DenEach p ms ts n → Meets m f
@@ -24,7 +24,7 @@ module _ (p : Parts) where
     -- in the key of an entry, behind entries that denote
     meets_key : {w n : ℕ} {es : List (ℕ × Member)} {ts : List (List ℕ × Tree)} (k : ℕ) (m : Member)
         (fs : List (ℕ × Member)) → content p w ≡ Some (pairs (es ++ (k, m) ∷ fs)) → DenPairs p es ts n
-        → key_at p.keys k ≡ None → Meets (word w) (key_fault p.keys k)
+        → key_at p.keys k ≡ None → Meets (word w) (key_damage p.keys k)
     -- in the member of an entry
     meets_entry : {w n : ℕ} {es : List (ℕ × Member)} {ts : List (List ℕ × Tree)} {m : Member}
         {key : List ℕ} {f : Refusal} (k : ℕ) (fs : List (ℕ × Member))

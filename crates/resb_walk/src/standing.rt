@@ -8,8 +8,8 @@ ghost use Rattle.resb_format.specs.Content as at;
 ghost use Rattle.resb_format.specs.Content.{content};
 ghost use Rattle.resb_format.specs.HeadChecks as checks;
 ghost use Rattle.resb_format.specs.Parts.{Parts};
-ghost use Rattle.resb_walk.specs.Faults as faults;
-ghost use Rattle.resb_walk.specs.Faults.{Says, text_fault, key_fault, content_fault};
+ghost use Rattle.resb_walk.specs.Damage as damage;
+ghost use Rattle.resb_walk.specs.Damage.{Says, text_damage, key_damage, content_damage};
 ghost use Rattle.resb_walk.specs.Files.{parts_in};
 ghost use Rattle.resb_walk.specs.Inner.Members.{content_of, text_of_bytes};
 ghost use Rattle.resb_walk.specs.Refusals.{IsFault};
@@ -32,7 +32,7 @@ fn first_zero(bytes: &[u8]) -> Option<usize>
 
 /// What is said of a type that isn't read.
 fn unread_type(kind: u32) -> BinaryDeserializerError
-    ensures says { Says (faults.unread_fault kind) result }
+    ensures says { Says (damage.type_damage kind) result }
     ensures fault { IsFault result }
 {
     match kind {
@@ -49,7 +49,7 @@ impl<'a> File<'a> {
         ensures stands { let keys = self.entry.keys.now in
             MatchResult result (λ s. key_at keys at ≡ Some s.now)
             (λ e. (key_at keys at ≡ None) × IsFault e) }
-        ensures says { IfErr result (Says (key_fault self.entry.keys.now at)) }
+        ensures says { IfErr result (Says (key_damage self.entry.keys.now at)) }
     {
         if self.keys.len() < at {
             return Err(key_past_end());
@@ -74,7 +74,7 @@ impl<'a> File<'a> {
         ensures stands { let block = units_of self.entry.block.now in
             MatchResult result (λ v. text_at block unit ≡ Some (text_of_bytes v.now))
             (λ e. (text_at block unit ≡ None) × IsFault e) }
-        ensures says { IfErr result (Says (text_fault (units_of self.entry.block.now) unit)) }
+        ensures says { IfErr result (Says (text_damage (units_of self.entry.block.now) unit)) }
     {
         match string_at(self.block, unit) {
             Ok(view) => {
@@ -95,7 +95,7 @@ impl<'a> File<'a> {
         ensures stands { let p = parts_in self.entry in
             MatchResult result (λ s. content p word ≡ Some (content_of s))
             (λ e. (content p word ≡ None) × IsFault e) }
-        ensures says { IfErr result (Says (content_fault (parts_in self.entry) word)) }
+        ensures says { IfErr result (Says (content_damage (parts_in self.entry) word)) }
     {
         let kind = word >> 28;
         let value = (word % 0x1000_0000) as usize;
@@ -114,7 +114,7 @@ impl<'a> File<'a> {
         ensures stands { let p = parts_in self.entry in
             MatchResult result (λ s. at.placed p kind value ≡ Some (content_of s))
             (λ e. (at.placed p kind value ≡ None) × IsFault e) }
-        ensures says { IfErr result (Says (faults.placed_fault (parts_in self.entry) kind value)) }
+        ensures says { IfErr result (Says (damage.placed_damage (parts_in self.entry) kind value)) }
     {
         match kind {
             1 => self.binary(value),
@@ -275,7 +275,7 @@ impl<'a> File<'a> {
 fn empty<'a>(kind: u32) -> Result<Standing<'a>, BinaryDeserializerError>
     ensures stands { MatchResult result (λ s. at.empty kind ≡ Some (content_of s))
         (λ e. (at.empty kind ≡ None) × IsFault e) }
-    ensures says { (p : Parts) → IfErr result (Says (faults.placed_fault p kind 0)) }
+    ensures says { (p : Parts) → IfErr result (Says (damage.placed_damage p kind 0)) }
 {
     match kind {
         1 => Ok(Standing::Leaf(Leaf::Binary(&[]))),

@@ -5,8 +5,8 @@ use Rattle.std.specs.Cmp.Lexicographic.{slice_cmp}
 use Rattle.std.proofs.Common.{sym, ap, ◌∙◌, arith}
 use Rattle.resb.specs.Places.{Place}
 use Rattle.resb.specs.Leaves.{ReadsKey, CountsKey}
-use Rattle.resb.specs.LeafLaws.{key_counted, key_one}
-use Rattle.resb.specs.SequenceLaws.{map_counted, map_one}
+use Rattle.resb.specs.TypeLaws.{key_counted, key_one}
+use Rattle.resb.specs.TypeLaws.{map_counted, map_one}
 use Rattle.resb_zones.specs.Zones.{ReadsZone, CountsZone, ReadsTable, CountsTable}
 use Rattle.resb_zones.specs.declared.zone.Zone.{Zone}
 use Rattle.resb_zones.specs.declared.table.ZoneTable.{ZoneTable}

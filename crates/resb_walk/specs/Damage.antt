@@ -1,8 +1,8 @@
 -- What is answered where nothing stands at a place of a file: a kind and a message.
 --     Says f e                the error has this kind and message
---     text_fault block u      where no text stands at unit u of the 16-bit block
---     key_fault keys k        where no key stands at byte k of the key block
---     content_fault p w       where nothing stands at the word w
+--     text_damage block u     where no text stands at unit u of the 16-bit block
+--     key_damage keys k       where no key stands at byte k of the key block
+--     content_damage p w      where nothing stands at the word w
 use Rattle.std.specs.Prelude.{◌≡◌, ◌==◌, ◌||◌, ◌/◌, ◌%◌, ◌^◌, nat_lt, ℕ, List, length, drop, Bool}
 use Rattle.std.specs.Prelude.{is_some, codes, if◌then◌else◌}
 use Rattle.resb_format.specs.HeadChecks.{Refusal, invalid, unsupported, end_of_input, refusal_of}
@@ -15,14 +15,14 @@ abbrev pub Says : Refusal → ReadingError → Type 0
 Says f e = refusal_of e ≡ f
 
 -- no string; or one whose surrogates have no partners
-abbrev pub text_fault : List ℕ → ℕ → Refusal
-text_fault block u =
+abbrev pub text_damage : List ℕ → ℕ → Refusal
+text_damage block u =
     if is_some (string_at block u) then invalid (codes "string resource is not valid UTF-16")
     else invalid (string_fault block u)
 
 -- a position past the block; no zero byte behind it; or bytes before that one that are no text
-abbrev pub key_fault : List ℕ → ℕ → Refusal
-key_fault keys k =
+abbrev pub key_damage : List ℕ → ℕ → Refusal
+key_damage keys k =
     if nat_lt (length keys) k then
     invalid (codes "unexpected end of data while deserializing key")
     else if is_some (before_zero (drop k keys)) then invalid (codes "key string is not valid UTF-8")
@@ -33,16 +33,16 @@ abbrev pub is_counted_type : ℕ → Bool
 is_counted_type n = (((((n == 1 || n == 2) || n == 4) || n == 5) || n == 8) || n == 9) || n == 14
 
 -- strings of the older formats and aliases; or a number that names no type
-abbrev pub unread_fault : ℕ → Refusal
-unread_fault type =
+abbrev pub type_damage : ℕ → Refusal
+type_damage type =
     if type == 0 || type == 3 then unsupported (codes "resource type is not supported")
     else invalid (codes "unrecognized value for ResourceReprType")
 
-abbrev pub placed_fault : Parts → ℕ → ℕ → Refusal
-placed_fault p type v =
-    if type == 6 then text_fault p.block v
+abbrev pub placed_damage : Parts → ℕ → ℕ → Refusal
+placed_damage p type v =
+    if type == 6 then text_damage p.block v
     else if is_counted_type type then end_of_input
-    else unread_fault type
+    else type_damage type
 
-abbrev pub content_fault : Parts → ℕ → Refusal
-content_fault p w = placed_fault p (w / 2 ^ 28) (w % 2 ^ 28)
+abbrev pub content_damage : Parts → ℕ → Refusal
+content_damage p w = placed_damage p (w / 2 ^ 28) (w % 2 ^ 28)

@@ -1,5 +1,5 @@
 -- What stands at a place, or nowhere from it on.
-use Rattle.std.specs.Prelude.{◌≡◌, ℕ, ◌<◌, ◌≤◌, List, length, slice_index}
+use Rattle.std.specs.Prelude.{◌≡◌, ◌==◌, ◌||◌, Bool, ℕ, ◌<◌, ◌≤◌, List, length, slice_index}
 use Rattle.resb_grammar.specs.Ascii as ascii
 
 -- a comment may begin here
@@ -20,3 +20,7 @@ NoByte b text from = (k : ℕ) → from ≤ k → k < length text → slice_inde
 -- no quote stands from here on
 abbrev pub NoQuote : List ℕ → ℕ → Type 0
 NoQuote text from = (k : ℕ) → from ≤ k → slice_index text k ≡ ascii.quote → ⊥
+
+-- a line feed or a carriage return
+abbrev pub ends_line : ℕ → Bool
+ends_line b = b == ascii.line_feed || b == ascii.carriage_return

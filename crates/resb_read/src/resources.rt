@@ -23,7 +23,7 @@ impl<'de> Cursor<'de> {
     /// Memory aside, the budget is spent exactly where one resource more than it stands here before
     /// the first fault, and any other refusal is given only where nothing is denoted: it is what is
     /// said of the first fault, with the members of a collection in their order.
-    /// No count of a file that is refused asks for room.
+    /// No count asks for room that the budget doesn't pay.
     pub fn read_resource(
         self,
         alloc: Global,

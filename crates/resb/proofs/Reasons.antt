@@ -14,18 +14,25 @@ use Rattle.resb.specs.declared.compiling.CompileError.{CompileError}
 use Rattle.resb.specs.declared.compiling.CompileError.TheVariants.{Writing}
 use Rattle.resb_grammar.proofs.Listed.{listed}
 
-pub not_unlisted : (text name : List ℕ) (fallback : Bool) (t : Tree) (ks : List (List ℕ)) → BundleText text name fallback t ks
-    → (f : Fault) → Refused t ks f → f ≡ unexpected (codes "key not present in position map") → ⊥
-not_unlisted text name fallback t ks b f no_memory e = not_memory t ks (listed text name fallback t ks b) e
-not_unlisted text name fallback t ks b f (first_fault h) e = no_fault t ks (listed text name fallback t ks b) f h e
-not_unlisted text name fallback t ks b f (too_large h l) e = not_large t ks (listed text name fallback t ks b) e
+pub not_unlisted : (text name : List ℕ) (fallback : Bool) (t : Tree) (ks : List (List ℕ))
+    → BundleText text name fallback t ks → (f : Fault) → Refused t ks f
+    → f ≡ unexpected (codes "key not present in position map") → ⊥
+not_unlisted text name fallback t ks b f no_memory e =
+    not_memory t ks (listed text name fallback t ks b) e
+not_unlisted text name fallback t ks b f (first_fault h) e =
+    no_fault t ks (listed text name fallback t ks b) f h e
+not_unlisted text name fallback t ks b f (too_large h l) e =
+    not_large t ks (listed text name fallback t ks b) e
 
 -- what the writer refuses for a reason is refused for it
-pub writing_refused : {X : Type 0} (text name : List ℕ) (fallback : Bool) (t : Tree) (ks : List (List ℕ)) (e : BinarySerializerError) → BundleText text name fallback t ks → Refused t ks (fault_of e)
+pub writing_refused : {X : Type 0} (text name : List ℕ) (fallback : Bool) (t : Tree)
+    (ks : List (List ℕ)) (e : BinarySerializerError)
+    → BundleText text name fallback t ks → Refused t ks (fault_of e)
     → (r : Result X CompileError) → IsErrAnd r (λ made. made ≡ Writing e) → IfErr r (IsRefused text)
 writing_refused text name fallback t ks e b h (Ok x) is = tt
-writing_refused text name fallback t ks e b h (Err made) is = subst (IsRefused text) (sym is) (record {
-  bundle = record { name = name; fallback = fallback; tree = t; keys = ks; is = b };
-  refused = h;
-  listed = not_unlisted text name fallback t ks b (fault_of e) h;
-})
+writing_refused text name fallback t ks e b h (Err made) is =
+    subst (IsRefused text) (sym is) (record {
+      bundle = record { name = name; fallback = fallback; tree = t; keys = ks; is = b };
+      refused = h;
+      listed = not_unlisted text name fallback t ks b (fault_of e) h;
+    })

@@ -1,6 +1,6 @@
-//! Makes each public call that asks for memory once, and compares its answer. `tests/memory.sh` runs
-//! it with one request for memory refused. It ends with 0 where each answer is right, with 3 where
-//! a call answered want of memory, and with 1 where one answered anything else.
+//! Makes each public call that asks for memory once, and compares its answer. `tests/memory.sh`
+//! runs it with one request for memory refused. It ends with 0 where each answer is right, with 3
+//! where a call answered want of memory, and with 1 where one answered anything else.
 #![tactic(auto)]
 
 mod example;

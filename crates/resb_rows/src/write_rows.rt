@@ -1,6 +1,6 @@
 //! Trees with lists of keys, and their files or refusals, as the format's rules ask for them. Each
-//! line is an input and its answer: a line more costs no proof.
-use crate::way_rows::digits;
+//! row is an input and its answer, in lines, up to a `;`: a row more costs no proof.
+use crate::way_rows::{digits, joined};
 use resb_read::from_bytes;
 use resb_text::Reader;
 use resb_tree::{Int28, Key, Resource, ResourceBundle, Table};
@@ -13,32 +13,60 @@ use std::test::Fail;
 
 /// Strings of a root array, where `~` stands for U+0000 and `''` for the empty string, and the hex
 /// digits of its file behind the header.
-const STRINGS: &str =
-    r#"~ab ab => 0600009007000000080000000d0000000d00000000000000000000000d000000000003dc0000610062000000020001000300aaaa
-x y y => 0500009007000000080000000d0000000d00000000000000000000000d000000000079000000780000000300030001000100aaaa
-'' x '' => 0300009007000000080000000c0000000c00000000000000000000000c0000000000780000000300000001000000aaaa
-xyz yz z => 0500009007000000080000000d0000000d00000000000000000000000d0000000000780079007a0000000300010002000300aaaa
-'' => 0100009007000000080000000a0000000a00000000000000000000000a000000000001000000aaaa
-a~b b => 0600009007000000080000000d0000000d00000000000000000000000d000000000003dc6100000062000000020001000400aaaa
-~ => 0400009007000000080000000b0000000b00000000000000000000000b000000000001dc0000000001000100
-b a => 0500009007000000080000000c0000000c00000000000000000000000c00000000006100000062000000020003000100
-aa b b => 0600009007000000080000000d0000000d00000000000000000000000d0000000000620000006100610000000300030001000100
-bb aa aa => 0700009007000000080000000e0000000e00000000000000000000000e00000000006100610000006200620000000300040001000100aaaa
-a 𐀀a a => 0800009007000000080000000e0000000e00000000000000000000000e000000000000e06100000000d800dc610000000300010004000600
-😀😀 😀 => 0600009007000000080000000d0000000d00000000000000000000000d00000000003dd800de3dd800de0000020001000300aaaa
-xa ya a => 0700009007000000080000000e0000000e00000000000000000000000e00000000007900610000007800610000000300040001000200aaaa
-a~b ~b b => 0a00009007000000080000000f0000000f00000000000000000000000f000000000002dc00006200000003dc61000000620000000300050001000300
+const STRINGS: &str = r#"~ab ab =>
+    0600009007000000080000000d0000000d00000000000000000000000d000000000003dc0000610062000000
+    020001000300aaaa;
+x y y =>
+    0500009007000000080000000d0000000d00000000000000000000000d000000000079000000780000000300
+    030001000100aaaa;
+'' x '' =>
+    0300009007000000080000000c0000000c00000000000000000000000c000000000078000000030000000100
+    0000aaaa;
+xyz yz z =>
+    0500009007000000080000000d0000000d00000000000000000000000d0000000000780079007a0000000300
+    010002000300aaaa;
+'' => 0100009007000000080000000a0000000a00000000000000000000000a000000000001000000aaaa;
+a~b b =>
+    0600009007000000080000000d0000000d00000000000000000000000d000000000003dc6100000062000000
+    020001000400aaaa;
+~ => 0400009007000000080000000b0000000b00000000000000000000000b000000000001dc0000000001000100;
+b a =>
+    0500009007000000080000000c0000000c00000000000000000000000c000000000061000000620000000200
+    03000100;
+aa b b =>
+    0600009007000000080000000d0000000d00000000000000000000000d000000000062000000610061000000
+    0300030001000100;
+bb aa aa =>
+    0700009007000000080000000e0000000e00000000000000000000000e000000000061006100000062006200
+    00000300040001000100aaaa;
+a 𐀀a a =>
+    0800009007000000080000000e0000000e00000000000000000000000e000000000000e06100000000d800dc
+    610000000300010004000600;
+😀😀 😀 =>
+    0600009007000000080000000d0000000d00000000000000000000000d00000000003dd800de3dd800de0000
+    020001000300aaaa;
+xa ya a =>
+    0700009007000000080000000e0000000e00000000000000000000000e000000000079006100000078006100
+    00000300040001000200aaaa;
+a~b ~b b =>
+    0a00009007000000080000000f0000000f00000000000000000000000f000000000002dc00006200000003dc
+    61000000620000000300050001000300;
 "#;
 
 /// Texts, keys in the order of a list, and the file of the text's tree with these keys.
-const LISTS: &str =
-    r#"b{a{"xyz"}c{"yz"}} | a a c => 05000050070000000a0000000f0000000f00000002000000000000000f000000610061006300aaaa0000780079007a00000002002200240001000200
-b{a{"xyz"}c{"yz"}} | c x a => 0500005007000000090000000e0000000e00000002000000000000000e000000630061000000780079007a00000002002200200001000200
-b{a{"xyz"}c{"yz"}} | a => refused: Unexpected error: key not present in position map
-b{ab{"x"}b{"y"}} | ab => refused: Unexpected error: key not present in position map
-b{a{x{"1"}}} | x b a x => 0d000020070000000a0000000f0000000f00000001000000000000000d000000780061007800aaaa0000310000000100240001000100220003000050
-b{} | k => 00000020070000000800000009000000090000000000000000000000090000000000aaaa
-b{a{"x"}} |  => refused: Unexpected error: key not present in position map
+const LISTS: &str = r#"b{a{"xyz"}c{"yz"}} | a a c =>
+    05000050070000000a0000000f0000000f00000002000000000000000f000000610061006300aaaa00007800
+    79007a00000002002200240001000200;
+b{a{"xyz"}c{"yz"}} | c x a =>
+    0500005007000000090000000e0000000e00000002000000000000000e000000630061000000780079007a00
+    000002002200200001000200;
+b{a{"xyz"}c{"yz"}} | a => refused: Unexpected error: key not present in position map;
+b{ab{"x"}b{"y"}} | ab => refused: Unexpected error: key not present in position map;
+b{a{x{"1"}}} | x b a x =>
+    0d000020070000000a0000000f0000000f00000001000000000000000d000000780061007800aaaa00003100
+    00000100240001000100220003000050;
+b{} | k => 00000020070000000800000009000000090000000000000000000000090000000000aaaa;
+b{a{"x"}} |  => refused: Unexpected error: key not present in position map;
 "#;
 
 /// The digits of the file, or the refusal.
@@ -79,7 +107,12 @@ fn assert_strings(rt: &impl Abort, alloc: Global, row: &str, wanted: &str) -> Re
         items.push(string(alloc, word)?)?;
     }
     let answer = written(alloc, Resource::Array(items), &[]);
-    assert_eq!(rt; told(alloc, answer)?.as_str(), wanted, "the file of {row}");
+    let wanted = joined(alloc, wanted)?;
+    assert_eq!(rt;
+        told(alloc, answer)?.as_str(),
+        wanted.as_str(),
+        "the file of {row}"
+    );
     Ok(())
 }
 
@@ -92,7 +125,12 @@ fn assert_list(rt: &impl Abort, alloc: Global, row: &str, wanted: &str) -> Resul
     }
     let (bundle, _keys) = Reader::read(alloc, text)?;
     let answer = Serializer::to_bytes(alloc, &bundle, &keys);
-    assert_eq!(rt; told(alloc, answer)?.as_str(), wanted, "the file of {row}");
+    let wanted = joined(alloc, wanted)?;
+    assert_eq!(rt;
+        told(alloc, answer)?.as_str(),
+        wanted.as_str(),
+        "the file of {row}"
+    );
     Ok(())
 }
 
@@ -100,10 +138,10 @@ fn assert_list(rt: &impl Abort, alloc: Global, row: &str, wanted: &str) -> Resul
 fn arrays_of_strings_have_their_files(rt: HostRuntime) -> Result<(), Fail> {
     let mut rest = STRINGS;
     for _ in 0..STRINGS.len() {
-        let Some((row, more)) = rest.split_once('\n') else {
+        let Some((row, more)) = rest.split_once(";\n") else {
             break;
         };
-        let (strings, wanted) = row.split_once(" => ").ok_or("a row without an answer")?;
+        let (strings, wanted) = row.split_once(" =>").ok_or("a row without an answer")?;
         assert_strings(&rt, rt.alloc(), strings, wanted)?;
         rest = more;
     }
@@ -115,10 +153,10 @@ fn arrays_of_strings_have_their_files(rt: HostRuntime) -> Result<(), Fail> {
 fn lists_of_keys_have_their_files(rt: HostRuntime) -> Result<(), Fail> {
     let mut rest = LISTS;
     for _ in 0..LISTS.len() {
-        let Some((row, more)) = rest.split_once('\n') else {
+        let Some((row, more)) = rest.split_once(";\n") else {
             break;
         };
-        let (list, wanted) = row.split_once(" => ").ok_or("a row without an answer")?;
+        let (list, wanted) = row.split_once(" =>").ok_or("a row without an answer")?;
         assert_list(&rt, rt.alloc(), list, wanted)?;
         rest = more;
     }
@@ -138,9 +176,12 @@ fn roots_of_each_kind(rt: HostRuntime) -> Result<(), Fail> {
     let expected = "ffffff7f070000000800000009000000090000000000000000000000090000000000aaaa";
     assert_eq!(rt; told(alloc, number)?.as_str(), expected);
     let numbers = written(alloc, Resource::IntVector(vec![in alloc; 1u32, 2]?), &[]);
-    let expected =
-        "090000e007000000080000000c0000000c0000000000000000000000090000000000aaaa020000000100000002000000";
-    assert_eq!(rt; told(alloc, numbers)?.as_str(), expected);
+    let expected = joined(
+        alloc,
+        "090000e007000000080000000c0000000c0000000000000000000000090000000000aaaa
+        020000000100000002000000",
+    )?;
+    assert_eq!(rt; told(alloc, numbers)?.as_str(), expected.as_str());
     let none = written(alloc, Resource::Array(Vec::new(alloc)), &[]);
     let expected = "00000080070000000800000009000000090000000000000000000000090000000000aaaa";
     assert_eq!(rt; told(alloc, none)?.as_str(), expected);

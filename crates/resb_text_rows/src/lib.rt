@@ -1,5 +1,5 @@
-//! The worked rows of texts and trees: inputs with the answers that the rules ask for. Only rows and
-//! tests stand here, so that no crate with code is proved twice.
+//! The worked rows of texts and trees: inputs with the answers that the rules ask for. Only rows
+//! and tests stand here, so that no crate with code is proved twice.
 #![tactic(auto)]
 
 pub mod rows;

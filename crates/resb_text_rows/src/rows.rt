@@ -1,5 +1,5 @@
-//! Texts with their answers, a line each. What is asked of them is in `text_rows`, and in the crates
-//! above that send the same texts on.
+//! Texts with their answers, a line each. What is asked of them is in `text_rows`, and in the
+//! crates above that send the same texts on.
 
 /// Texts with their bundles: name, tree, and the keys that are discovered.
 pub const BUNDLES: &str = r#"b{} => b: { }, keys

@@ -1,5 +1,6 @@
 -- Checking a file beside reading its tree.
-use Rattle.std.proofs.Common.{ℕ, List, ◌≡◌, ◌≤◌, ◌+◌, inl, inr, Some, Result, Ok, Err, sym, subst, ◌∙◌, arith}
+use Rattle.std.proofs.Common.{ℕ, List, ◌≡◌, ◌≤◌, ◌+◌, inl, inr, Some, Result, Ok, Err}
+use Rattle.std.proofs.Common.{sym, subst, ◌∙◌, arith}
 use Rattle.resb_format.specs.Parts.{parts_of}
 use Rattle.resb_format.specs.File.{Denotes, budget}
 use Rattle.resb_format.proofs.Denoting.{unique, counted}

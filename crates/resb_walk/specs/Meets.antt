@@ -19,11 +19,13 @@ module _ (p : Parts) where
     meets_word : {w : ℕ} → content p w ≡ None → Meets (word w) (content_damage p w)
     -- in a member of an array, behind members that denote
     meets_list : {w n : ℕ} {ms : List Member} {ts : List Tree} {m : Member} {f : Refusal}
-        (ns : List Member) → content p w ≡ Some (list (ms ++ m ∷ ns)) → DenEach p ms ts n → Meets m f
+        (ns : List Member)
+        → content p w ≡ Some (list (ms ++ m ∷ ns)) → DenEach p ms ts n → Meets m f
         → Meets (word w) f
     -- in the key of an entry, behind entries that denote
     meets_key : {w n : ℕ} {es : List (ℕ × Member)} {ts : List (List ℕ × Tree)} (k : ℕ) (m : Member)
-        (fs : List (ℕ × Member)) → content p w ≡ Some (pairs (es ++ (k, m) ∷ fs)) → DenPairs p es ts n
+        (fs : List (ℕ × Member))
+        → content p w ≡ Some (pairs (es ++ (k, m) ∷ fs)) → DenPairs p es ts n
         → key_at p.keys k ≡ None → Meets (word w) (key_damage p.keys k)
     -- in the member of an entry
     meets_entry : {w n : ℕ} {es : List (ℕ × Member)} {ts : List (List ℕ × Tree)} {m : Member}

@@ -19,8 +19,10 @@ returns-clause-ok c d =
       record {
         file = d.in_ok-file.file.items;
         compiled = subst (λ text. IsCompiled text d.in_ok-file.file.items) same given.1;
-        line = subst (λ bytes. Appends (c.W.Write.contents d.args.writer.now) (c.W.Write.contents d.write_line.new.writer)
-            (encode_lower bytes ++ 10 ∷ [])) d.as_slice-2.ensures.value line;
+        line = let contents = c.W.Write.contents in
+            subst (λ bytes. Appends (contents d.args.writer.now)
+            (contents d.write_line.new.writer) (encode_lower bytes ++ 10 ∷ []))
+            d.as_slice-2.ensures.value line;
       },
     )))
     d.write_line.ensures.ok

@@ -37,7 +37,8 @@ returns-in_ok-leaf-in-Leaf-clause-reads g c =
       c.in_ok-pay.ensures,
     )
 
-pub returns-in_ok-begin_list-in-List-clause-reads : goal.returns-in_ok-begin_list-in-List-clause-reads
+pub returns-in_ok-begin_list-in-List-clause-reads
+    : goal.returns-in_ok-begin_list-in-List-clause-reads
 returns-in_ok-begin_list-in-List-clause-reads g c =
     let stands = rw c.in-List.is at c.in_ok-leaf-in-Word.ensures.stands in (
       c.in-Word.word,

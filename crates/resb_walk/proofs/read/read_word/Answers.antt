@@ -63,7 +63,8 @@ returns-in_err-item-in-Wants-clause-answers g c =
           (member_of c.in-Wants.member) c.in_err-item-in-Wants.field-0.0 waits h.1,
     )
 
-pub returns-in_err-frame-in-Made-2-clause-answers : goal.returns-in_err-frame-in-Made-2-clause-answers
+pub returns-in_err-frame-in-Made-2-clause-answers
+    : goal.returns-in_err-frame-in-Made-2-clause-answers
 returns-in_err-frame-in-Made-2-clause-answers g c =
     let e = err_from_is_err_and c.from_residual-in_err-frame-in-Made-2.result
     c.from_residual-in_err-frame-in-Made-2.ensures.1 in

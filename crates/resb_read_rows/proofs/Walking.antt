@@ -8,7 +8,7 @@ use Rattle.resb_read.specs.Reading.{LacksOrMemory}
 use Rattle.resb_read.specs.Access.{Entries, EntersToFirst, EntersToAfter, EntersTo}
 use Rattle.resb_read.specs.Sequences.{entries}
 use Rattle.resb_read.specs.declared.cursor.Cursor.{Cursor}
-use Rattle.resb_read_rows.specs.Fields.{Entry, ReadsField, CountsField, CountsFirst, CountsBoth}
+use Rattle.resb_read_rows.specs.Fields.{Entry, CountsField, CountsFirst, CountsBoth}
 use Rattle.resb_read_rows.specs.Fields.{field_one}
 
 same_pair : {A B : Type 0} (p : A × B) (x : A) (y : B) → x ≡ p.0 → y ≡ p.1 → p ≡ (x, y)

@@ -1,6 +1,6 @@
 //! UTF-16 among bytes, two for each unit: whether each surrogate has its partner, and the text.
 //! Where a string's units stand is found in `standing`.
-ghost use Rattle.std.specs.Prelude.{◌≡◌, ◌∷◌, ◌<◌, [], true, not, length};
+ghost use Rattle.std.specs.Prelude.{◌≡◌, ◌∷◌, ◌<◌, ◌≤◌, ◌*◌, ◌/◌, [], true, not, length};
 ghost use Rattle.std.specs.Prelude.{MatchOption, IfOk, IfSome};
 ghost use Rattle.std.specs.Char.Utf16.{is_high_surrogate, is_low_surrogate, has_unpaired_surrogate};
 ghost use Rattle.std.specs.Char.Utf16.{utf16_lossy_chars, surrogate_pair_char};
@@ -108,11 +108,23 @@ fn first_char(bytes: &[u8]) -> Option<(char, &[u8])>
     Some((lone_char(first), later))
 }
 
+/// Room for the text of some units, as far as the first of them tells: scripts seldom mix.
+fn room_for(bytes: &[u8]) -> usize
+    ensures { result ≤ 3 * (length bytes.now / 2) }
+{
+    let units = bytes.len() / 2;
+    match first_unit(bytes) {
+        Some((first, _)) if first >= 0x800 => units.saturating_mul(3),
+        Some((first, _)) if first >= 0x80 => units.saturating_mul(2),
+        _ => units,
+    }
+}
+
 /// The text of some units. U+FFFD stands for a surrogate without a partner.
 pub fn text_of_units(alloc: Global, bytes: &[u8]) -> Result<String, NoMemory>
     ensures { IfOk result (λ s. string_bytes s ≡ text_of_bytes bytes.now) }
 {
-    let mut text = String::with_capacity(alloc, bytes.len() / 2)?;
+    let mut text = String::with_capacity(alloc, room_for(bytes))?;
     let mut rest = bytes;
     'chars: while let Some((first, later)) = first_char(rest) {
         text.push(first)?;

@@ -1,6 +1,6 @@
 -- A text that stands at an index of distinct keys is found there.
 use Rattle.std.proofs.Common.{◌≡◌, ℕ, zero, suc, ◌+◌, ◌<◌, List, [], ◌∷◌, length, Bool, Bor, true}
-use Rattle.std.proofs.Common.{false, cond, not, Option, Some, None, refl, sym, ◌∙◌, ap, subst}
+use Rattle.std.proofs.Common.{false, cond, not, Some, None, refl, sym, ◌∙◌, ap, subst}
 use Rattle.std.proofs.Common.{true≢false, arith}
 use Rattle.std.specs.Prelude.{slice_get, position, nat_lt}
 use Rattle.std.specs.List.{IsDistinct, AllByRecursion, position_or_len}

@@ -1,7 +1,7 @@
 -- Keys and the distinct ones among them have the same faults.
-use Rattle.std.proofs.Common.{◌≡◌, ℕ, zero, suc, ◌<◌, List, [], ◌∷◌, length, Bool, true, false}
+use Rattle.std.proofs.Common.{◌≡◌, ℕ, zero, suc, List, [], ◌∷◌, Bool, true, false}
 use Rattle.std.proofs.Common.{cond}
-use Rattle.std.proofs.Common.{◌||◌, Bor, Option, Some, None, is_some, ◌↔◌, refl, sym, ◌∙◌, ap}
+use Rattle.std.proofs.Common.{◌||◌, Bor, Some, None, is_some, ◌↔◌, refl, sym, ◌∙◌, ap}
 use Rattle.std.proofs.Common.{subst}
 use Rattle.std.proofs.Common.{arith, true≢false}
 use Rattle.std.specs.List.{Contains, list_any}
@@ -10,7 +10,7 @@ use Rattle.std.specs.Str.{bytes_eq}
 use Rattle.std.specs.Cmp.Lexicographic.{bytes_decides}
 use Rattle.resb_tree.specs.Keys.{same_text}
 use Rattle.resb_pool.specs.Plan.{nows}
-use Rattle.resb_pool.specs.Fault.{Fault, unexpected, limit}
+use Rattle.resb_pool.specs.Fault.{unexpected, limit}
 use Rattle.resb_write.specs.Keys.{is_among}
 use Rattle.resb_write.specs.Faults.{is_unlisted, is_far, has_nul, key_fault}
 use Rattle.std.specs.Prelude.{codes}

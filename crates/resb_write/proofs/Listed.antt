@@ -1,7 +1,7 @@
 -- Where each key of a tree is listed, no key is refused as unlisted.
-use Rattle.std.proofs.Common.{◌≡◌, ℕ, zero, suc, ◌+◌, ◌<◌, List, [], ◌∷◌, ◌++◌, length, filter}
-use Rattle.std.proofs.Common.{Option, Some, None, option_map, Bool, true, false, cond, ◌||◌, codes}
-use Rattle.std.proofs.Common.{inl, inr, refl, sym, ◌∙◌, ap, subst, append_assoc, append-nil, arith}
+use Rattle.std.proofs.Common.{◌≡◌, ℕ, zero, suc, ◌+◌, List, [], ◌∷◌, ◌++◌, length, filter}
+use Rattle.std.proofs.Common.{Option, Some, None, option_map, Bool, true, false, cond, codes}
+use Rattle.std.proofs.Common.{refl, sym, ◌∙◌, ap, subst, append_assoc, append-nil, arith}
 use Rattle.std.specs.List.{Contains, list_any, flat_map}
 use Rattle.std.specs.Option.{is_none}
 use Rattle.std.specs.Cmp.Lexicographic.{bytes_decides}
@@ -13,10 +13,10 @@ use Rattle.resb_pool.specs.Fault.{Fault, string_too_long, unexpected, limit, out
 use Rattle.resb_pool.specs.Plan.{first_too_long}
 use Rattle.resb_layout.specs.Laid.{keys_in}
 use Rattle.resb_bodies.specs.WalkOrder.{walk, walk_each, walk_values, texts_of}
-use Rattle.resb_write.specs.Keys.{own_keys, keys_of, is_among, used, last_of, position_in}
+use Rattle.resb_write.specs.Keys.{own_keys, keys_of, is_among, used, last_of}
 use Rattle.resb_write.specs.Keys.{keys_start}
-use Rattle.resb_write.specs.Faults.{has_nul, is_unlisted, is_far, key_fault, is_over_32_bits}
-use Rattle.resb_write.specs.Faults.{count_fault, fault, first_of}
+use Rattle.resb_write.specs.Faults.{has_nul, is_unlisted, is_far, is_over_32_bits}
+use Rattle.resb_write.specs.Faults.{fault, first_of}
 use Rattle.resb_write.proofs.Keys.{no_place}
 use Rattle.resb_write.proofs.Known.{any_member}
 

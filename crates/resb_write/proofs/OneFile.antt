@@ -1,16 +1,14 @@
 -- A bundle and a list of keys leave one file.
 use Rattle.std.proofs.Common.{◌≡◌, ℕ, zero, suc, ◌+◌, ◌*◌, ◌/◌, ◌<◌, ◌≤◌, List, [], ◌∷◌, ◌++◌}
-use Rattle.std.proofs.Common.{length, get_or, take, drop, Bool, cond, Option, refl, sym, ◌∙◌, ap}
+use Rattle.std.proofs.Common.{length, get_or, take, drop, Bool, refl, sym, ◌∙◌, ap}
 use Rattle.std.proofs.Common.{subst, length-append, arith}
 use Rattle.std.specs.List.{flat_map}
 use Rattle.std.specs.Int.{to_le_bytes, w32}
-use Rattle.std.proofs.lemmas.List.{take-append-drop, drop_at}
-use Rattle.resb_tree.specs.Tree.{Tree, tree_count, largest_table}
-use Rattle.resb_format.specs.Bytes.{units_of, words_of}
+use Rattle.std.proofs.lemmas.List.{take-append-drop}
+use Rattle.resb_tree.specs.Tree.{Tree}
+use Rattle.resb_format.specs.Bytes.{words_of}
 use Rattle.resb_format.specs.Laws.{EachFits}
-use Rattle.resb_format.specs.Parts.{header_size, body_of, root_word, field_count, keys_end}
-use Rattle.resb_format.specs.Parts.{resources_end, bundle_end, largest_table_field, attributes}
-use Rattle.resb_format.specs.Parts.{block_end}
+use Rattle.resb_format.specs.Parts.{body_of}
 use Rattle.resb_format.proofs.WordsBack.{bytes_back}
 use Rattle.resb_format.proofs.Spelled.{words_length}
 use Rattle.resb_pool.proofs.OnePool.{one_pool}

@@ -6,7 +6,7 @@ use crate::outcome::{Outcome, Refused, outcome_of};
 use resb::binary::helpers::vec_utf_16;
 use resb::binary::{
     BinHeader, BinIndex, BinReprInfo, Cursor, count_resources, from_bytes, from_bytes_counted,
-    from_words, lay_words,
+    from_words, lay_words, tree_from_bytes,
 };
 use resb::bundle::{Key, Resource};
 use resb::text::Reader;
@@ -27,6 +27,16 @@ pub(crate) fn reads_a_tree(alloc: Global) -> Result<bool, Refused> {
 pub(crate) fn counts(alloc: Global) -> Result<bool, Refused> {
     let (tree, count) = from_bytes_counted::<Resource>(alloc, &FILE)?;
     Ok(count_resources(alloc, &FILE)? == count && is_example(alloc, &tree)?)
+}
+
+pub(crate) fn reads_by_a_cursor(alloc: Global) -> Result<bool, Refused> {
+    let tree = tree_from_bytes(alloc, &FILE)?;
+    let (root, mut walk) = Cursor::root(&FILE)?;
+    let again = root.read_resource(alloc, &mut walk)?;
+    let (strings, mut walk) = Cursor::root(&STRINGS)?;
+    let mut entries = strings.read_map(&mut walk)?;
+    let entry = entries.next_entry::<String, String>(alloc, &mut walk)?;
+    Ok(tree.equals(&again) && entry.is_some_and(|(key, text)| key.as_str() == "a" && text.as_str() == "x"))
 }
 
 pub(crate) fn reads_a_map(alloc: Global) -> Result<bool, Refused> {

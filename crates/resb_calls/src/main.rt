@@ -1,6 +1,7 @@
-//! Makes each public call that asks for memory once, and compares its answer. `tests/memory.sh`
-//! runs it with one request for memory refused. It ends with 0 where each answer is right, with 3
-//! where a call answered want of memory, and with 1 where one answered anything else.
+//! Makes the public calls that ask for memory, all of them twice, and compares their answers.
+//! `tests/memory.sh` runs it with one request for memory refused. It ends with 0 where each answer
+//! is right, with 3 where calls answered want of memory in one of the rounds and all are right in
+//! the other, and with 1 else.
 #![tactic(auto)]
 
 mod example;
@@ -24,6 +25,7 @@ fn all_calls(alloc: Global) -> Outcome {
         texts::turns_a_key_into_a_string(alloc),
         outcome_of(files::reads_a_tree(alloc)),
         outcome_of(files::counts(alloc)),
+        outcome_of(files::reads_by_a_cursor(alloc)),
         outcome_of(files::reads_a_map(alloc)),
         outcome_of(files::reads_views(alloc)),
         files::reads_words(alloc),
@@ -37,9 +39,11 @@ fn all_calls(alloc: Global) -> Outcome {
 }
 
 fn main(rt: HostRuntime) -> ExitCode {
-    ExitCode::from(match all_calls(rt.alloc()) {
-        Outcome::Right => 0,
-        Outcome::Wrong => 1,
-        Outcome::Wanted => 3,
+    let first = all_calls(rt.alloc());
+    let second = all_calls(rt.alloc());
+    ExitCode::from(match (first, second) {
+        (Outcome::Right, Outcome::Right) => 0,
+        (Outcome::Wanted, Outcome::Right) | (Outcome::Right, Outcome::Wanted) => 3,
+        _ => 1,
     })
 }

@@ -151,7 +151,12 @@ module _ (D : Texts) (t : List ℕ) (T : Texts) (ms : List Measure) (h : IsReady
             units_is = o.units_is;
             size_is = o.size_is;
             total_is =
-                omega (arith, o.total_is, copies-push D t (text T i), copy_other (text T i) t apart);
+                omega (
+                  arith,
+                  o.total_is,
+                  copies-push D t (text T i),
+                  copy_other (text T i) t apart,
+                );
           })
     ];
   }

@@ -239,7 +239,8 @@ module _ (D : List (List ℕ)) (ns os : List Node) (es : List ℕ) (m : IsTrieOf
               here = a.here
                   ∙ ap Some (q ∙ sym e);
             } in
-            subst (λ z. IsEnd os z x (get_or (es ++ k ∷ []) x 0)) (sym (get_or_push D s [] x (sym e)))
+            subst (λ z. IsEnd os z x (get_or (es ++ k ∷ []) x 0))
+            (sym (get_or_push D s [] x (sym e)))
             (subst (IsEnd os s x) (sym (get_or_push es k 0 x (m.len ∙ sym e))) f)
       ];
       only = λ j x l h. elim (a.from j x l h) [

@@ -85,7 +85,8 @@ module _ (p : Places) (b : Bodies) (n : ℕ) (t : Tree) (ts : List Tree) (h : Ca
     pub known_now : IsKnown (given_by p) t
     known_now = All-head (IsKnown (given_by p)) t ts h.known
 
-    pub can_go_on : (c : Bodies) (m : ℕ) → Takes p b c (own_size t) → m ≡ n - length (children t) + 1
+    pub can_go_on : (c : Bodies) (m : ℕ) → Takes p b c (own_size t)
+        → m ≡ n - length (children t) + 1
         → CanLay p c m ts
     can_go_on c m k e =
         record {

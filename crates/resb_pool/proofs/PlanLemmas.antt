@@ -84,13 +84,8 @@ module _ (S T : Texts) (ms : List Measure) (given : AreTexts S T ms) (small : te
 
     pub size_is : (i : ℕ) (d : Place) → i < length T
         → (get_or ps i d).measure.size ≡ size (text T i)
-<<<<<<< HEAD
-    size_is i d l =
-        sym (ap (λ m. m.size) (measure_at i d l)) ∙ (given.measured i d.measure l).size_is
-=======
     size_is i d l = sym (ap (λ m. m.size) (measure_at i d l))
         ∙ (given.measured i d.measure l).size_is
->>>>>>> pool
       where
         measure_at : (i : ℕ) (d : Place) → i < length T
             → get_or ms i d.measure ≡ (get_or ps i d).measure
@@ -240,13 +235,8 @@ module _ (S T : Texts) (ms : List Measure) (given : AreTexts S T ms) (small : te
           record_end i d l pos =
               let at = placed.lies i d l in
               let c = at.container pos in
-<<<<<<< HEAD
-              let own =
-              container_from T S given.same (text T i) (text T (get_or ps i d).record) c in
-=======
               let own = container_from T S given.same (text T i)
               (text T (get_or ps i d).record) c in
->>>>>>> pool
               let w = size_within S given.utf8 (text T i) (text T (get_or ps i d).record)
               ((given.same (text T i)).0 (has_text T i l)) own
               (λ r. ap (text T) (at.itself (record_from S T back (text T i) r))) pos in (
@@ -328,13 +318,8 @@ module _ (S T : Texts) (ms : List Measure) (given : AreTexts S T ms) (small : te
             where
               by : (s : List ℕ) (o : Option ℕ) → MatchOption o (Contains T s → ⊥) (λ k. (i : ℕ)
                   × (i < length T) × (text T i ≡ s) × (k ≡ get_or (map (offset_by es) ps) i 0))
-<<<<<<< HEAD
-                  → MatchOption o (Contains S s → ⊥)
-                  (λ k. Contains S s × Off S (record_texts v) s k)
-=======
                   → MatchOption o (Contains S s → ⊥) (λ k. Contains S s
                   × Off S (record_texts v) s k)
->>>>>>> pool
               by s None h = λ c. h ((given.same s).1 c)
               by s (Some k) (i, l, e, q) =
                   let n : k ≡ offset_by es (get_or ps i no_place) = q

@@ -25,12 +25,7 @@ loop-below-smaller c =
     omega arith
 
 pub loop-below-preserved : goal.loop-below-preserved
-<<<<<<< HEAD
-loop-below-preserved c =
-    best_down c.args.nodes.now.items c.args.from c.loop-below.at c.requires.trie
-=======
 loop-below-preserved c = best_down c.args.nodes.now.items c.args.from c.loop-below.at
     c.requires.trie
->>>>>>> pool
     c.loop-below.invariant c.in-Some.field-0-0 c.in-Some.below c.in-Some.ensures
     c.if-ends_marked.ensures.is

@@ -9,6 +9,6 @@ pub compiled_is_read : CompiledIsRead
 compiled_is_read text bytes c (Ok r) h = (unique (parts_of bytes) h.1.root.0 c.file.tree.root).0
 compiled_is_read text bytes c (Err e) (inl m) = m
 compiled_is_read text bytes c (Err e) (inr lacks) =
-    let file = c.file.tree in
-    let counted = record { head = file.head; root = (c.bundle.tree, file.root) } in
-    absurd (lacks (tree_count c.bundle.tree) counted c.file.within_budget)
+    absurd (lacks (tree_count c.bundle.tree)
+    (record { head = c.file.tree.head; root = (c.bundle.tree, c.file.tree.root) })
+    c.file.within_budget)

@@ -35,8 +35,10 @@ pub(crate) fn reads_by_a_cursor(alloc: Global) -> Result<bool, Refused> {
     let again = root.read_resource(alloc, &mut walk)?;
     let (strings, mut walk) = Cursor::root(&STRINGS)?;
     let mut entries = strings.read_map(&mut walk)?;
-    let entry = entries.next_entry::<String, String>(alloc, &mut walk)?;
-    Ok(tree.equals(&again) && entry.is_some_and(|(key, text)| key.as_str() == "a" && text.as_str() == "x"))
+    let Some((key, text)) = entries.next_entry::<String, String>(alloc, &mut walk)? else {
+        return Ok(false);
+    };
+    Ok(tree.equals(&again) && key.as_str() == "a" && text.as_str() == "x")
 }
 
 pub(crate) fn reads_a_map(alloc: Global) -> Result<bool, Refused> {

@@ -1,7 +1,7 @@
 #!/usr/bin/env python3
 """Times text to file: `resb_tool compile IN OUT` beside `genrb -q` on the same text, whole processes.
 
-    write_kinds.py                        the six kinds, each at the size that its row in README.md has
+    write_kinds.py                        the six kinds, each at a size of its own
     write_kinds.py --growth [BYTES ..]    ours alone, 10 kB to 100 MB, with the growth over the size before
     write_kinds.py --make KIND BYTES      the text of a kind, on standard output
 

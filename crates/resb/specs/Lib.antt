@@ -14,6 +14,7 @@ pub use Rattle.resb_text.specs.Refusal
 pub use Rattle.resb_text.specs.Turns
 pub use Rattle.resb_format.specs.Bytes
 pub use Rattle.resb_format.specs.Units
+pub use Rattle.resb_format.specs.Types
 pub use Rattle.resb_format.specs.Codes
 pub use Rattle.resb_format.specs.CodeReading
 pub use Rattle.resb_format.specs.Descriptor

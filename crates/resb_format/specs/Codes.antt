@@ -9,6 +9,7 @@ use Rattle.resb_format.specs.declared.version.FormatVersion.TheVariants.{V1_0, V
 use Rattle.resb_format.specs.declared.version.FormatVersion.TheVariants.{V2_0, V3_0}
 use Rattle.resb_format.specs.declared.repr_type.ResourceReprType.{ResourceReprType}
 use Rattle.resb_format.specs.declared.repr_type.ResourceReprType.TheVariants as kind
+use Rattle.resb_format.specs.Types as types
 
 abbrev pub endianness_number : Endianness → ℕ
 endianness_number Little = 0
@@ -18,19 +19,18 @@ abbrev pub charset_number : CharsetFamily → ℕ
 charset_number Ascii = 0
 charset_number Ebcdic = 1
 
--- ICU's numbers
 abbrev pub type_number : ResourceReprType → ℕ
-type_number kind._String = 0
-type_number kind.Binary = 1
-type_number kind.Table = 2
-type_number kind._Alias = 3
-type_number kind._Table32 = 4
-type_number kind.Table16 = 5
-type_number kind.StringV2 = 6
-type_number kind.Int = 7
-type_number kind.Array = 8
-type_number kind.Array16 = 9
-type_number kind.IntVector = 14
+type_number kind._String = types.old_string
+type_number kind.Binary = types.binary
+type_number kind.Table = types.table
+type_number kind._Alias = types.alias
+type_number kind._Table32 = types.table32
+type_number kind.Table16 = types.table16
+type_number kind.StringV2 = types.string
+type_number kind.Int = types.integer
+type_number kind.Array = types.array
+type_number kind.Array16 = types.array16
+type_number kind.IntVector = types.int_vector
 
 -- major and minor number, and two zero bytes
 abbrev pub version_bytes : FormatVersion → List ℕ

@@ -3,12 +3,13 @@
 --     content p w             a finished tree, or the members of a collection; none where the type
 --                             isn't read or a field lies outside
 use Rattle.std.specs.Prelude.{ℕ, ◌+◌, ◌*◌, ◌/◌, ◌%◌, ◌^◌, List, [], map, Option, Some, None}
-use Rattle.std.specs.Prelude.{option_map, option_and_then, ◌==◌, ◌||◌, slice_get, if◌then◌else◌}
+use Rattle.std.specs.Prelude.{option_map, option_and_then, ◌==◌, slice_get, if◌then◌else◌}
 use Rattle.std.specs.List.{zip}
 use Rattle.resb_tree.specs.Tree.{Tree, string, binary, integer, int_vector}
 use Rattle.resb_format.specs.Bytes.{units_of, words_of, part}
 use Rattle.resb_format.specs.Strings.{text_at}
 use Rattle.resb_format.specs.Parts.{Parts}
+use Rattle.resb_format.specs.Types as types
 
 -- a member of a collection: a resource's word, or a string's unit
 pub data Member : Type 0 where
@@ -77,27 +78,27 @@ table32_at p v =
 abbrev pub string_content : Parts → ℕ → Option Content
 string_content p u = option_map (λ s. leaf (string s)) (text_at p.block u)
 
--- what a type with a value other than 0 leads to; the numbers of types are ICU's
+-- what a type with a value other than 0 leads to
 abbrev pub placed : Parts → ℕ → ℕ → Option Content
 placed p type v =
-    if type == 1 then binary_at p v
-    else if type == 2 then table_at p v
-    else if type == 4 then table32_at p v
-    else if type == 5 then table16_at p v
-    else if type == 6 then string_content p v
-    else if type == 8 then array_at p v
-    else if type == 9 then array16_at p v
-    else if type == 14 then int_vector_at p v
+    if type == types.binary then binary_at p v
+    else if type == types.table then table_at p v
+    else if type == types.table32 then table32_at p v
+    else if type == types.table16 then table16_at p v
+    else if type == types.string then string_content p v
+    else if type == types.array then array_at p v
+    else if type == types.array16 then array16_at p v
+    else if type == types.int_vector then int_vector_at p v
     else None
 
 -- the empty resource of a type
 abbrev pub empty : ℕ → Option Content
 empty type =
-    if type == 1 then Some (leaf (binary []))
-    else if (type == 2 || type == 4) || type == 5 then Some (pairs [])
-    else if type == 6 then Some (leaf (string []))
-    else if type == 8 || type == 9 then Some (list [])
-    else if type == 14 then Some (leaf (int_vector []))
+    if type == types.binary then Some (leaf (binary []))
+    else if types.is_table type then Some (pairs [])
+    else if type == types.string then Some (leaf (string []))
+    else if types.is_array type then Some (list [])
+    else if type == types.int_vector then Some (leaf (int_vector []))
     else None
 
 -- 4 bits of type, 28 bits of value
@@ -105,6 +106,6 @@ unfoldable pub content : Parts → ℕ → Option Content
 content p w =
     let type = w / 2 ^ 28 in
     let value = w % 2 ^ 28 in
-    if type == 7 then Some (leaf (integer value))
+    if type == types.integer then Some (leaf (integer value))
     else if value == 0 then empty type
     else placed p type value

@@ -14,6 +14,7 @@ pub mod Content
 pub mod Denotes
 pub mod File
 pub mod Error
+pub mod Types
 pub mod Codes
 pub mod Descriptor
 pub mod Views

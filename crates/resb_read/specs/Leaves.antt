@@ -10,6 +10,7 @@ use Rattle.resb_format.specs.Bytes.{words_of, part}
 use Rattle.resb_format.specs.Strings.{string_at, text_at, key_at}
 use Rattle.resb_format.specs.Parts.{Parts}
 use Rattle.resb_format.specs.Content.{counted}
+use Rattle.resb_format.specs.Types as types
 use Rattle.resb_read.specs.Places.{Place}
 use Rattle.resb_read.specs.Reading.{IsThere, CountsThere}
 use Rattle.resb_read.specs.Reading.{any}
@@ -25,14 +26,14 @@ value_in w = w % 2 ^ 28
 
 -- a number: the 28 bits of an Int with bit 27 as the sign, or a vector's word
 abbrev pub signed_at : Spot → Option (ℤ × ℕ)
-signed_at (spot.Descriptor w) = if type_in w == 7 then Some (signed (value_in w), 1) else None
+signed_at (spot.Descriptor w) = if type_in w == types.integer then Some (signed (value_in w), 1) else None
 signed_at (spot.Word w) = Some (cast_signed w32 w, 0)
 signed_at (spot.Unit u) = None
 signed_at (spot.Key k) = None
 
 -- the same, from 0
 abbrev pub unsigned_at : Spot → Option (ℕ × ℕ)
-unsigned_at (spot.Descriptor w) = if type_in w == 7 then Some (value_in w, 1) else None
+unsigned_at (spot.Descriptor w) = if type_in w == types.integer then Some (value_in w, 1) else None
 unsigned_at (spot.Word w) = Some (w, 0)
 unsigned_at (spot.Unit u) = None
 unsigned_at (spot.Key k) = None
@@ -41,7 +42,7 @@ abbrev pub bool_of : ℕ → Option (Bool × ℕ)
 bool_of n = if n == 0 then Some (false, 1) else if n == 1 then Some (true, 1) else None
 
 abbrev pub bool_at : Spot → Option (Bool × ℕ)
-bool_at (spot.Descriptor w) = if type_in w == 7 then bool_of (value_in w) else None
+bool_at (spot.Descriptor w) = if type_in w == types.integer then bool_of (value_in w) else None
 bool_at (spot.Word w) = None
 bool_at (spot.Unit u) = None
 bool_at (spot.Key k) = None
@@ -70,7 +71,7 @@ CountsBool p n = CountsThere any (bool_at p.at) n
 
 -- an Int's 28 bits
 abbrev pub bits_at : Spot → Option (ℕ × ℕ)
-bits_at (spot.Descriptor w) = if type_in w == 7 then Some (value_in w, 1) else None
+bits_at (spot.Descriptor w) = if type_in w == types.integer then Some (value_in w, 1) else None
 bits_at (spot.Word w) = None
 bits_at (spot.Unit u) = None
 bits_at (spot.Key k) = None
@@ -84,7 +85,7 @@ CountsBits p n = CountsThere any (bits_at p.at) n
 -- a text: the string of a descriptor or a unit, or a key
 abbrev pub text_in : Parts → ℕ → Option (List ℕ)
 text_in p w =
-    if type_in w == 6 then
+    if type_in w == types.string then
     (if value_in w == 0 then Some [] else text_at p.block (value_in w)) else None
 
 abbrev pub text_from : Parts → Spot → Option (List ℕ × ℕ)
@@ -122,10 +123,10 @@ counted_bytes p each v = counted (words_of p.body) v (λ n. part p.body (4 * v +
 
 abbrev pub bytes_of_type : Parts → ℕ → ℕ → Option (List ℕ)
 bytes_of_type p type v =
-    if type == 1 then (if v == 0 then Some [] else counted_bytes p 1 v)
-    else if type == 6 then
+    if type == types.binary then (if v == 0 then Some [] else counted_bytes p 1 v)
+    else if type == types.string then
     (if v == 0 then Some [] else option_map units_as_bytes (string_at p.block v))
-    else if type == 14 then (if v == 0 then Some [] else counted_bytes p 4 v)
+    else if type == types.int_vector then (if v == 0 then Some [] else counted_bytes p 4 v)
     else None
 
 abbrev pub bytes_from : Parts → Spot → Option (List ℕ × ℕ)

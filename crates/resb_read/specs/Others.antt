@@ -1,10 +1,11 @@
 -- What else a cursor answers: the cost of skipping, the type of what stands at a place, and views
 -- of bytes.
-use Rattle.std.specs.Prelude.{◌≡◌, ◌+◌, ◌<◌, ◌%◌, ◌==◌, ◌&&◌, ◌||◌, not, nat_le, ℕ, List, length}
+use Rattle.std.specs.Prelude.{◌≡◌, ◌+◌, ◌<◌, ◌%◌, nat_le, ℕ, List, length}
 use Rattle.std.specs.Prelude.{Bool, false, Option, Some, None, Result, MatchResult, codes}
 use Rattle.std.specs.Prelude.{if◌then◌else◌}
 use Rattle.resb_format.specs.declared.error.ReadingError.{ReadingError}
 use Rattle.resb_format.specs.HeadChecks.{Refusal}
+use Rattle.resb_format.specs.Types as types
 use Rattle.resb_format.specs.declared.error.ErrorKind.TheVariants.{Unknown}
 use Rattle.resb_walk.specs.Refusals.{IsSpent}
 use Rattle.resb_read.specs.Places.{Place}
@@ -26,13 +27,9 @@ Skips s left left' r =
     MatchResult r (λ _. left' + cost_at s ≡ left)
     (λ e. IsSpent e × (left < cost_at s) × (left' ≡ left))
 
--- the types that are read: all but strings of the older formats and aliases
-abbrev pub is_read_type : ℕ → Bool
-is_read_type n = ((nat_le 1 n && nat_le n 9) && not (n == 3)) || n == 14
-
 abbrev pub type_at : Spot → Option ℕ
-type_at (spot.Descriptor w) = if is_read_type (type_in w) then Some (type_in w) else None
-type_at (spot.Unit u) = Some 6
+type_at (spot.Descriptor w) = if types.is_read_type (type_in w) then Some (type_in w) else None
+type_at (spot.Unit u) = Some types.string
 type_at (spot.Word w) = None
 type_at (spot.Key k) = None
 

@@ -5,12 +5,13 @@
 --                             the same for a key and for bytes
 --     members_refusal s left, entries_refusal s left
 --                             the same for the members of a sequence, and the entries of a map
-use Rattle.std.specs.Prelude.{◌==◌, ◌||◌, ◌&&◌, not, nat_lt, ℕ, List, codes, if◌then◌else◌}
-use Rattle.resb_format.specs.HeadChecks.{Refusal, invalid, unsupported, end_of_input}
+use Rattle.std.specs.Prelude.{◌==◌, ◌||◌, ℕ, List, codes, if◌then◌else◌}
+use Rattle.resb_format.specs.HeadChecks.{Refusal, invalid, end_of_input}
 use Rattle.resb_format.specs.Parts.{Parts}
 use Rattle.resb_format.specs.StringFaults.{string_fault}
+use Rattle.resb_format.specs.Types as types
 use Rattle.resb_format.specs.declared.error.ErrorKind.TheVariants.{ResourceTypeMismatch, Unknown}
-use Rattle.resb_walk.specs.Damage.{key_damage}
+use Rattle.resb_walk.specs.Damage.{key_damage, type_damage}
 use Rattle.resb_read.specs.Places.{Place}
 use Rattle.resb_read.specs.Leaves.{type_in, value_in}
 use Rattle.resb_read.specs.declared.cursor.Spot.{Spot}
@@ -30,10 +31,7 @@ mismatch expected = (ResourceTypeMismatch, expected)
 -- for a type that isn't read; else the other one
 abbrev pub type_refusal : ℕ → Refusal → Refusal
 type_refusal type other =
-    if type == 0 || type == 3 then unsupported (codes "resource type is not supported")
-    else if nat_lt 9 type && not (type == 14) then invalid
-    (codes "unrecognized value for ResourceReprType")
-    else other
+    if types.is_read_type type then other else type_damage type
 
 -- one is paid before anything else is looked at
 abbrev pub paid : ℕ → Refusal → Refusal
@@ -42,7 +40,7 @@ paid left later = if left == 0 then invalid (codes "resource budget spent") else
 -- an Int that doesn't fit, or another type
 abbrev pub integer_refusal : ℕ → Refusal → Refusal
 integer_refusal type unfit =
-    if type == 7 then unfit else type_refusal type (mismatch (codes "expected integer resource"))
+    if type == types.integer then unfit else type_refusal type (mismatch (codes "expected integer resource"))
 
 abbrev pub number_refusal : Spot → ℕ → Refusal
 number_refusal (spot.Descriptor w) left = paid left (integer_refusal (type_in w) out_of_range)
@@ -86,8 +84,8 @@ key_refusal p left = key_refusal_from p.parts p.at left
 -- the string's own fault, a count or what is counted outside the body, or another type
 abbrev pub bytes_fault : Parts → ℕ → Refusal
 bytes_fault p w =
-    if type_in w == 6 then invalid (string_fault p.block (value_in w))
-    else if type_in w == 1 || type_in w == 14 then end_of_input
+    if type_in w == types.string then invalid (string_fault p.block (value_in w))
+    else if type_in w == types.binary || type_in w == types.int_vector then end_of_input
     else type_refusal (type_in w) (mismatch (codes "expected binary data resource"))
 
 abbrev pub bytes_refusal_from : Parts → Spot → ℕ → Refusal
@@ -102,7 +100,7 @@ bytes_refusal p left = bytes_refusal_from p.parts p.at left
 -- a count or the fields behind it outside their block, or another type
 abbrev pub members_refusal : Spot → ℕ → Refusal
 members_refusal (spot.Descriptor w) left =
-    paid left (if (type_in w == 8 || type_in w == 9) || type_in w == 14 then end_of_input
+    paid left (if types.is_array (type_in w) || type_in w == types.int_vector then end_of_input
     else type_refusal (type_in w) (mismatch (codes "expected array resource")))
 members_refusal (spot.Unit u) left = no_value (spot.Unit u) left
 members_refusal (spot.Word w) left = no_value (spot.Word w) left
@@ -110,7 +108,7 @@ members_refusal (spot.Key k) left = no_value (spot.Key k) left
 
 abbrev pub entries_refusal : Spot → ℕ → Refusal
 entries_refusal (spot.Descriptor w) left =
-    paid left (if (type_in w == 2 || type_in w == 4) || type_in w == 5 then end_of_input
+    paid left (if types.is_table (type_in w) then end_of_input
     else type_refusal (type_in w) (mismatch (codes "expected table resource")))
 entries_refusal (spot.Unit u) left = no_value (spot.Unit u) left
 entries_refusal (spot.Word w) left = no_value (spot.Word w) left

@@ -7,6 +7,7 @@ use Rattle.std.specs.BTreeMap.{insert_entry}
 use Rattle.std.specs.declared.cmp.Ordering.{Ordering}
 use Rattle.resb_tree.specs.Tree.{Tree, string, array, table, binary, integer, int_vector}
 use Rattle.resb_format.specs.Parts.{Parts}
+use Rattle.resb_format.specs.Types as types
 use Rattle.resb_format.specs.Content.{Content, Member, leaf, list, pairs, content}
 use Rattle.resb_read.specs.Places.{Place, spot_of}
 use Rattle.resb_read.specs.Leaves.{type_in}
@@ -34,7 +35,7 @@ members_in None = None
 -- of an Array, an Array16 or an IntVector
 abbrev pub items_in : Parts → ℕ → Option (List Spot)
 items_in p w =
-    if (type_in w == 8 || type_in w == 9) || type_in w == 14 then members_in (content p w) else None
+    if types.is_array (type_in w) || type_in w == types.int_vector then members_in (content p w) else None
 
 abbrev pub items_from : Parts → Spot → Option (List Place)
 items_from p (spot.Descriptor w) = option_map (map (at_spot p)) (items_in p w)
@@ -54,7 +55,7 @@ pairs_in None = None
 -- of a Table, a Table16 or a table of 32-bit positions
 abbrev pub entries_in : Parts → ℕ → Option (List (ℕ × Member))
 entries_in p w =
-    if (type_in w == 2 || type_in w == 4) || type_in w == 5 then pairs_in (content p w) else None
+    if types.is_table (type_in w) then pairs_in (content p w) else None
 
 -- the places of a key and its value
 abbrev pub at_entry : Parts → ℕ × Member → Place × Place

@@ -7,6 +7,7 @@ use Rattle.std.specs.Prelude.{◌≡◌, ◌==◌, ◌||◌, ◌/◌, ◌%◌, �
 use Rattle.std.specs.Prelude.{is_some, codes, if◌then◌else◌}
 use Rattle.resb_format.specs.HeadChecks.{Refusal, invalid, unsupported, end_of_input, refusal_of}
 use Rattle.resb_format.specs.Parts.{Parts}
+use Rattle.resb_format.specs.Types as types
 use Rattle.resb_format.specs.StringFaults.{string_fault}
 use Rattle.resb_format.specs.Strings.{string_at, before_zero}
 use Rattle.resb_format.specs.declared.error.ReadingError.{ReadingError}
@@ -30,17 +31,18 @@ key_damage keys k =
 
 -- types whose value leads to a count and what is counted
 abbrev pub is_counted_type : ℕ → Bool
-is_counted_type n = (((((n == 1 || n == 2) || n == 4) || n == 5) || n == 8) || n == 9) || n == 14
+is_counted_type n =
+    ((n == types.binary || types.is_table n) || types.is_array n) || n == types.int_vector
 
 -- strings of the older formats and aliases; or a number that names no type
 abbrev pub type_damage : ℕ → Refusal
 type_damage type =
-    if type == 0 || type == 3 then unsupported (codes "resource type is not supported")
+    if type == types.old_string || type == types.alias then unsupported (codes "resource type is not supported")
     else invalid (codes "unrecognized value for ResourceReprType")
 
 abbrev pub placed_damage : Parts → ℕ → ℕ → Refusal
 placed_damage p type v =
-    if type == 6 then text_damage p.block v
+    if type == types.string then text_damage p.block v
     else if is_counted_type type then end_of_input
     else type_damage type
 

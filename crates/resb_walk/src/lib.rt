@@ -11,6 +11,7 @@ mod read;
 mod room;
 mod standing;
 mod tree;
+pub mod types;
 mod units;
 mod walk;
 

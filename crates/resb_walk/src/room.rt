@@ -1,13 +1,16 @@
 //! Whether all counts of a file can be paid for, before any of them asks for room.
 //! Texts and keys are not looked at here: whether a tree stands at a word is found in `read`.
 use crate::file::{File, Member, Members, Standing};
+use crate::types::readable;
+use resb_format::ResourceReprType;
 use resb_tree::NoMemory;
 use std::alloc::Global;
 
 /// The members of the collection at a word, if one stands there.
 fn members_at(file: File<'_>, word: u32) -> Option<Members<'_>> {
-    // Leaves have none, and texts needn't be looked at.
-    if !matches!(word >> 28, 2 | 4 | 5 | 8 | 9) {
+    let (kind, _) = readable(word).ok()?;
+    // A text has none, and needn't be looked at.
+    if kind == ResourceReprType::StringV2 {
         return None;
     }
     match file.standing(word) {

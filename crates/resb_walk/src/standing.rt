@@ -1,44 +1,32 @@
 //! What stands at a word, at a unit of the 16-bit block, and at a key's position.
 //! Bytes are looked at in `resb_format::bytes` alone.
-ghost use Rattle.std.specs.Prelude.{◌≡◌, ◌<◌, position, ◌==◌, Some, None};
+ghost use Rattle.std.specs.Prelude.{◌≡◌, ◌≢◌, ◌<◌, ◌^◌, position, ◌==◌, Some, None, true};
 ghost use Rattle.std.specs.Prelude.{MatchResult, IfErr};
 ghost use Rattle.resb_format.specs.Bytes.{units_of};
 ghost use Rattle.resb_format.specs.Strings.{text_at, key_at};
+ghost use Rattle.resb_format.specs.Codes.{type_number};
+ghost use Rattle.resb_format.specs.Types.{is_read_type};
 ghost use Rattle.resb_format.specs.Content as at;
 ghost use Rattle.resb_format.specs.Content.{content};
 ghost use Rattle.resb_format.specs.HeadChecks as checks;
-ghost use Rattle.resb_format.specs.Parts.{Parts};
 ghost use Rattle.resb_walk.specs.Damage as damage;
 ghost use Rattle.resb_walk.specs.Damage.{Says, text_damage, key_damage, content_damage};
 ghost use Rattle.resb_walk.specs.Files.{parts_in};
 ghost use Rattle.resb_walk.specs.Inner.Members.{content_of, text_of_bytes};
 ghost use Rattle.resb_walk.specs.Refusals.{IsFault};
 
-use crate::faults::{
-    key_not_utf8, key_past_end, key_unterminated, not_utf16, past_end, unknown_type,
-    unsupported_type,
-};
+use crate::faults::{key_not_utf8, key_past_end, key_unterminated, not_utf16, past_end};
 use crate::file::{File, Leaf, Members, Pairs, Positions, Standing};
+use crate::types::readable;
 use crate::units::is_well_formed;
 use resb_format::bytes::{some_bytes, some_unit, some_units, some_word, some_words};
-use resb_format::{BinaryDeserializerError, string_at};
+use resb_format::{BinaryDeserializerError, ResourceReprType, string_at};
 
 /// The number of the first zero byte.
 fn first_zero(bytes: &[u8]) -> Option<usize>
     ensures { result ≡ position (λ b. b == 0) bytes.now }
 {
     bytes.iter().position(|b| *b == 0)
-}
-
-/// What is said of a type that isn't read.
-fn unread_type(kind: u32) -> BinaryDeserializerError
-    ensures says { Says (damage.type_damage kind) result }
-    ensures fault { IsFault result }
-{
-    match kind {
-        0 | 3 => unsupported_type(),
-        _ => unknown_type(),
-    }
 }
 
 impl<'a> File<'a> {
@@ -97,41 +85,46 @@ impl<'a> File<'a> {
             (λ e. (content p word ≡ None) × IsFault e) }
         ensures says { IfErr result (Says (content_damage (parts_in self.entry) word)) }
     {
-        let kind = word >> 28;
-        let value = (word % 0x1000_0000) as usize;
-        if kind == 7 {
-            return Ok(Standing::Leaf(Leaf::Integer(word)));
+        match readable(word)? {
+            (ResourceReprType::Int, _) => Ok(Standing::Leaf(Leaf::Integer(word))),
+            (kind, 0) => Ok(empty(kind)),
+            (kind, value) => self.placed(kind, value as usize),
         }
-        if value == 0 {
-            return empty(kind);
-        }
-        self.placed(kind, value)
     }
 
     /// What a type with a value other than 0 leads to.
-    fn placed(self, kind: u32, value: usize) -> Result<Standing<'a>, BinaryDeserializerError>
-        requires { value < 268435456 }
-        ensures stands { let p = parts_in self.entry in
-            MatchResult result (λ s. at.placed p kind value ≡ Some (content_of s))
-            (λ e. (at.placed p kind value ≡ None) × IsFault e) }
-        ensures says { IfErr result (Says (damage.placed_damage (parts_in self.entry) kind value)) }
+    fn placed(
+        self,
+        kind: ResourceReprType,
+        value: usize,
+    ) -> Result<Standing<'a>, BinaryDeserializerError>
+        requires read { is_read_type (type_number kind) ≡ true }
+        requires no_number { kind ≢ ResourceReprType.Int }
+        requires small { value < 2 ^ 28 }
+        ensures stands { let found = at.placed (parts_in self.entry) (type_number kind) value in
+            MatchResult result (λ s. found ≡ Some (content_of s))
+            (λ e. (found ≡ None) × IsFault e) }
+        ensures says { IfErr result
+            (Says (damage.placed_damage (parts_in self.entry) (type_number kind) value)) }
     {
         match kind {
-            1 => self.binary(value),
-            2 => self.table(value),
-            4 => self.table32(value),
-            5 => self.table16(value),
-            6 => Ok(Standing::Leaf(Leaf::Text(self.text(value)?))),
-            8 => self.array(value),
-            9 => self.array16(value),
-            14 => self.int_vector(value),
-            _ => Err(unread_type(kind)),
+            ResourceReprType::Binary => self.binary(value),
+            ResourceReprType::Table => self.table(value),
+            ResourceReprType::_Table32 => self.table32(value),
+            ResourceReprType::Table16 => self.table16(value),
+            ResourceReprType::StringV2 => Ok(Standing::Leaf(Leaf::Text(self.text(value)?))),
+            ResourceReprType::Array => self.array(value),
+            ResourceReprType::Array16 => self.array16(value),
+            ResourceReprType::IntVector => self.int_vector(value),
+            ResourceReprType::_String | ResourceReprType::_Alias | ResourceReprType::Int => {
+                unreachable!()
+            }
         }
     }
 
     /// A count of bytes, and the bytes.
     fn binary(self, value: usize) -> Result<Standing<'a>, BinaryDeserializerError>
-        requires { value < 268435456 }
+        requires { value < 2 ^ 28 }
         ensures stands { let p = parts_in self.entry in
             MatchResult result (λ s. at.binary_at p value ≡ Some (content_of s))
             (λ e. (at.binary_at p value ≡ None) × IsFault e) }
@@ -148,7 +141,7 @@ impl<'a> File<'a> {
 
     /// A count of numbers, and the numbers.
     fn int_vector(self, value: usize) -> Result<Standing<'a>, BinaryDeserializerError>
-        requires { value < 268435456 }
+        requires { value < 2 ^ 28 }
         ensures stands { let p = parts_in self.entry in
             MatchResult result (λ s. at.int_vector_at p value ≡ Some (content_of s))
             (λ e. (at.int_vector_at p value ≡ None) × IsFault e) }
@@ -165,7 +158,7 @@ impl<'a> File<'a> {
 
     /// A count of descriptors, and the descriptors.
     fn array(self, value: usize) -> Result<Standing<'a>, BinaryDeserializerError>
-        requires { value < 268435456 }
+        requires { value < 2 ^ 28 }
         ensures stands { let p = parts_in self.entry in
             MatchResult result (λ s. at.array_at p value ≡ Some (content_of s))
             (λ e. (at.array_at p value ≡ None) × IsFault e) }
@@ -182,7 +175,7 @@ impl<'a> File<'a> {
 
     /// A count of offsets, and the offsets.
     fn array16(self, value: usize) -> Result<Standing<'a>, BinaryDeserializerError>
-        requires { value < 268435456 }
+        requires { value < 2 ^ 28 }
         ensures stands { let p = parts_in self.entry in
             MatchResult result (λ s. at.array16_at p value ≡ Some (content_of s))
             (λ e. (at.array16_at p value ≡ None) × IsFault e) }
@@ -199,7 +192,7 @@ impl<'a> File<'a> {
 
     /// A 16-bit count of entries, 16-bit key positions, padding up to a word, and descriptors.
     fn table(self, value: usize) -> Result<Standing<'a>, BinaryDeserializerError>
-        requires { value < 268435456 }
+        requires { value < 2 ^ 28 }
         ensures stands { let p = parts_in self.entry in
             MatchResult result (λ s. at.table_at p value ≡ Some (content_of s))
             (λ e. (at.table_at p value ≡ None) × IsFault e) }
@@ -223,7 +216,7 @@ impl<'a> File<'a> {
 
     /// A count of entries, key positions and offsets, all of 16 bits.
     fn table16(self, value: usize) -> Result<Standing<'a>, BinaryDeserializerError>
-        requires { value < 268435456 }
+        requires { value < 2 ^ 28 }
         ensures stands { let p = parts_in self.entry in
             MatchResult result (λ s. at.table16_at p value ≡ Some (content_of s))
             (λ e. (at.table16_at p value ≡ None) × IsFault e) }
@@ -247,7 +240,7 @@ impl<'a> File<'a> {
 
     /// A count of entries, key positions and descriptors, all of 32 bits, without padding.
     fn table32(self, value: usize) -> Result<Standing<'a>, BinaryDeserializerError>
-        requires { value < 268435456 }
+        requires { value < 2 ^ 28 }
         ensures stands { let p = parts_in self.entry in
             MatchResult result (λ s. at.table32_at p value ≡ Some (content_of s))
             (λ e. (at.table32_at p value ≡ None) × IsFault e) }
@@ -272,20 +265,24 @@ impl<'a> File<'a> {
 
 /// The empty resource of a type.
 #[tactic(auto, unfolding(resb_format::specs::Bytes::words_of, resb_format::specs::Bytes::units_of))]
-fn empty<'a>(kind: u32) -> Result<Standing<'a>, BinaryDeserializerError>
-    ensures stands { MatchResult result (λ s. at.empty kind ≡ Some (content_of s))
-        (λ e. (at.empty kind ≡ None) × IsFault e) }
-    ensures says { (p : Parts) → IfErr result (Says (damage.placed_damage p kind 0)) }
+fn empty<'a>(kind: ResourceReprType) -> Standing<'a>
+    requires read { is_read_type (type_number kind) ≡ true }
+    requires no_number { kind ≢ ResourceReprType.Int }
+    ensures { at.empty (type_number kind) ≡ Some (content_of result) }
 {
     match kind {
-        1 => Ok(Standing::Leaf(Leaf::Binary(&[]))),
-        2 | 4 | 5 => Ok(Standing::Table(Pairs {
-            keys: Positions::Halves(&[]),
-            members: Members::Words(&[]),
-        })),
-        6 => Ok(Standing::Leaf(Leaf::Empty)),
-        8 | 9 => Ok(Standing::List(Members::Words(&[]))),
-        14 => Ok(Standing::Leaf(Leaf::Numbers(&[]))),
-        _ => Err(unread_type(kind)),
+        ResourceReprType::Binary => Standing::Leaf(Leaf::Binary(&[])),
+        ResourceReprType::Table | ResourceReprType::_Table32 | ResourceReprType::Table16 => {
+            Standing::Table(Pairs {
+                keys: Positions::Halves(&[]),
+                members: Members::Words(&[]),
+            })
+        }
+        ResourceReprType::StringV2 => Standing::Leaf(Leaf::Empty),
+        ResourceReprType::Array | ResourceReprType::Array16 => Standing::List(Members::Words(&[])),
+        ResourceReprType::IntVector => Standing::Leaf(Leaf::Numbers(&[])),
+        ResourceReprType::_String | ResourceReprType::_Alias | ResourceReprType::Int => {
+            unreachable!()
+        }
     }
 }

@@ -11,10 +11,11 @@ ghost use Rattle.resb_read.specs.Refused.{entries_refusal};
 
 use crate::cursor::{Cursor, Spot};
 use crate::deserialize::Deserialize;
-use crate::faults::{mismatch, refused_here};
+use crate::faults::refused_here;
 use crate::items::spot_of;
-use resb_format::ReadingError;
+use resb_format::{BinaryDeserializerError, ReadingError, ResourceReprType};
 use resb_walk::faults::past_end;
+use resb_walk::types::readable;
 use resb_walk::{File, Pairs, Standing, Walk};
 use std::alloc::Global;
 use std::marker::Model;
@@ -151,12 +152,14 @@ impl<'de> Cursor<'de> {
         let Spot::Descriptor(word) = self.at else {
             return Err(refused_here(self.at, walk));
         };
-        if let Err(spent) = walk.pay() {
-            return Err(spent);
-        }
-        let kind = word >> 28;
-        if kind != 2 && kind != 4 && kind != 5 {
-            return Err(mismatch(word, "expected table resource"));
+        walk.pay()?;
+        match readable(word)?.0 {
+            ResourceReprType::Table | ResourceReprType::_Table32 | ResourceReprType::Table16 => {}
+            _ => {
+                return Err(BinaryDeserializerError::resource_type_mismatch(
+                    "expected table resource",
+                ));
+            }
         }
         match self.file.standing(word) {
             Ok(Standing::Table(rest)) => Ok(MapAccess {

@@ -1,16 +1,17 @@
-//! What is said where a type isn't read at a place.
+//! What is said where a type isn't read at a place, and the value of a descriptor of one that is.
 //! Faults of the file itself are in `resb_walk::faults`.
-ghost use Rattle.std.specs.Prelude.{◌≤◌};
-ghost use Rattle.resb_format.specs.HeadChecks.{refusal_of};
+ghost use Rattle.std.specs.Prelude.{◌≡◌, ◌≢◌, ◌≤◌, IfOk, IfErr, true};
+ghost use Rattle.resb_format.specs.Codes.{type_number};
+ghost use Rattle.resb_format.specs.Types.{is_read_type};
 ghost use Rattle.resb_walk.specs.Damage.{Says};
 ghost use Rattle.resb_walk.specs.Refusals.{IsFault};
-ghost use Rattle.resb_read.specs.Leaves.{type_in};
+ghost use Rattle.resb_read.specs.Leaves.{type_in, value_in};
 ghost use Rattle.resb_read.specs.Refused as refused;
 
 use crate::cursor::Spot;
-use resb_format::BinaryDeserializerError;
+use resb_format::{BinaryDeserializerError, ResourceReprType};
 use resb_walk::Walk;
-use resb_walk::faults::{unknown_type, unsupported_type};
+use resb_walk::types::readable;
 
 /// A number doesn't fit the type.
 pub(crate) fn out_of_range() -> BinaryDeserializerError
@@ -35,7 +36,10 @@ pub(crate) fn refused_here(at: Spot, walk: &mut Walk) -> BinaryDeserializerError
 {
     match at {
         Spot::Descriptor(word) => match walk.pay() {
-            Ok(()) => unread(word >> 28, elsewhere()),
+            Ok(()) => match readable(word) {
+                Ok(_) => elsewhere(),
+                Err(unread) => unread,
+            },
             Err(spent) => spent,
         },
         Spot::Unit(_) => match walk.pay() {
@@ -46,26 +50,24 @@ pub(crate) fn refused_here(at: Spot, walk: &mut Walk) -> BinaryDeserializerError
     }
 }
 
-/// The refusal of a type that isn't read; else the other one.
-fn unread(kind: u32, other: BinaryDeserializerError) -> BinaryDeserializerError
-    ensures { Says (refused.type_refusal kind (refusal_of other.entry)) result }
+/// The value of a descriptor of this type. Another type is refused: one that isn't read at all as
+/// such, or else as a mismatch.
+#[tactic(auto, using(resb_format::proofs::Apart::type_apart))]
+pub(crate) fn value_of(
+    word: u32,
+    wanted: ResourceReprType,
+    expected: &'static str,
+) -> Result<u32, BinaryDeserializerError>
+    requires { is_read_type (type_number wanted) ≡ true }
+    ensures ok { IfOk result
+        (λ v. (type_in word ≡ type_number wanted) × (v ≡ value_in word)) }
+    ensures err { IfErr result (λ e. type_in word ≢ type_number wanted) }
+    ensures says { IfErr result
+        (Says (refused.type_refusal (type_in word) (refused.mismatch expected.entry.now))) }
 {
-    if kind == 0 || kind == 3 {
-        return unsupported_type();
+    let (kind, value) = readable(word)?;
+    if kind != wanted {
+        return Err(BinaryDeserializerError::resource_type_mismatch(expected));
     }
-    if kind > 9 && kind != 14 {
-        return unknown_type();
-    }
-    other
-}
-
-/// A descriptor of another type than was asked for: one that isn't read at all, or a mismatch.
-pub(crate) fn mismatch(word: u32, expected: &'static str) -> BinaryDeserializerError
-    ensures { Says (refused.type_refusal (type_in word) (refused.mismatch expected.entry.now))
-        result }
-{
-    unread(
-        word >> 28,
-        BinaryDeserializerError::resource_type_mismatch(expected),
-    )
+    Ok(value)
 }

@@ -10,9 +10,12 @@ ghost use Rattle.resb_read.specs.Leaves.{ReadsUnsigned, CountsUnsigned, ReadsBoo
 ghost use Rattle.resb_read.specs.Leaves.{ReadsBits, CountsBits};
 
 use crate::cursor::{Cursor, Spot};
-use crate::faults::{mismatch, out_of_range, refused_here};
-use resb_format::{BinaryDeserializerError, Int28};
+use crate::faults::{out_of_range, refused_here, value_of};
+use resb_format::{BinaryDeserializerError, Int28, ResourceReprType};
 use resb_walk::Walk;
+
+/// What is said of another type than an Int.
+const NO_INTEGER: &str = "expected integer resource";
 
 impl<'de> Cursor<'de> {
     /// The number here, as a signed one.
@@ -23,13 +26,9 @@ impl<'de> Cursor<'de> {
     {
         match self.at {
             Spot::Descriptor(word) => {
-                if let Err(spent) = walk.pay() {
-                    return Err(spent);
-                }
-                if word >> 28 != 7 {
-                    return Err(mismatch(word, "expected integer resource"));
-                }
-                Ok(i32::from(Int28::from(word)))
+                walk.pay()?;
+                let value = value_of(word, ResourceReprType::Int, NO_INTEGER)?;
+                Ok(i32::from(Int28::from(value)))
             }
             Spot::Word(word) => Ok(word.cast_signed()),
             Spot::Unit(_) | Spot::Key(_) => Err(refused_here(self.at, walk)),
@@ -44,13 +43,8 @@ impl<'de> Cursor<'de> {
     {
         match self.at {
             Spot::Descriptor(word) => {
-                if let Err(spent) = walk.pay() {
-                    return Err(spent);
-                }
-                if word >> 28 != 7 {
-                    return Err(mismatch(word, "expected integer resource"));
-                }
-                Ok(word % 0x1000_0000)
+                walk.pay()?;
+                value_of(word, ResourceReprType::Int, NO_INTEGER)
             }
             Spot::Word(word) => Ok(word),
             Spot::Unit(_) | Spot::Key(_) => Err(refused_here(self.at, walk)),
@@ -66,13 +60,8 @@ impl<'de> Cursor<'de> {
         let Spot::Descriptor(word) = self.at else {
             return Err(refused_here(self.at, walk));
         };
-        if let Err(spent) = walk.pay() {
-            return Err(spent);
-        }
-        if word >> 28 != 7 {
-            return Err(mismatch(word, "expected integer resource"));
-        }
-        match word % 0x1000_0000 {
+        walk.pay()?;
+        match value_of(word, ResourceReprType::Int, NO_INTEGER)? {
             0 => Ok(false),
             1 => Ok(true),
             _ => Err(BinaryDeserializerError::resource_type_mismatch(
@@ -90,13 +79,9 @@ impl<'de> Cursor<'de> {
         let Spot::Descriptor(word) = self.at else {
             return Err(refused_here(self.at, walk));
         };
-        if let Err(spent) = walk.pay() {
-            return Err(spent);
-        }
-        if word >> 28 != 7 {
-            return Err(mismatch(word, "expected integer resource"));
-        }
-        Ok(Int28::from(word))
+        walk.pay()?;
+        let value = value_of(word, ResourceReprType::Int, NO_INTEGER)?;
+        Ok(Int28::from(value))
     }
 
     /// Reads a number from -2^7 to 2^7 - 1. Refused where it is out of range.

@@ -10,10 +10,11 @@ ghost use Rattle.resb_read.specs.Refused.{members_refusal};
 
 use crate::cursor::{Cursor, Spot};
 use crate::deserialize::Deserialize;
-use crate::faults::{mismatch, refused_here};
+use crate::faults::refused_here;
 use crate::items::Items;
-use resb_format::ReadingError;
+use resb_format::{BinaryDeserializerError, ReadingError, ResourceReprType};
 use resb_walk::faults::past_end;
+use resb_walk::types::readable;
 use resb_walk::{File, Leaf, Standing, Walk};
 use std::alloc::Global;
 use std::marker::Model;
@@ -123,12 +124,14 @@ impl<'de> Cursor<'de> {
         let Spot::Descriptor(word) = self.at else {
             return Err(refused_here(self.at, walk));
         };
-        if let Err(spent) = walk.pay() {
-            return Err(spent);
-        }
-        let kind = word >> 28;
-        if kind != 8 && kind != 9 && kind != 14 {
-            return Err(mismatch(word, "expected array resource"));
+        walk.pay()?;
+        match readable(word)?.0 {
+            ResourceReprType::Array | ResourceReprType::Array16 | ResourceReprType::IntVector => {}
+            _ => {
+                return Err(BinaryDeserializerError::resource_type_mismatch(
+                    "expected array resource",
+                ));
+            }
         }
         let rest = match self.file.standing(word) {
             Ok(Standing::List(members)) => Items::Members(members),

@@ -10,7 +10,7 @@ use crate::cursor::{Cursor, Spot};
 use crate::faults::elsewhere;
 use resb_format::{BinaryDeserializerError, ResourceReprType};
 use resb_walk::Walk;
-use resb_walk::faults::unsupported_type;
+use resb_walk::types::readable;
 
 impl<'de> Cursor<'de> {
     /// Goes past a resource, and looks at nothing of it.
@@ -30,11 +30,8 @@ impl<'de> Cursor<'de> {
     {
         match self.at {
             Spot::Descriptor(word) => {
-                let kind = word >> 28;
-                if kind == 0 || kind == 3 {
-                    return Err(unsupported_type());
-                }
-                ResourceReprType::try_from(kind as u16)
+                let (kind, _) = readable(word)?;
+                Ok(kind)
             }
             Spot::Unit(_) => Ok(ResourceReprType::StringV2),
             Spot::Word(_) | Spot::Key(_) => Err(elsewhere()),

@@ -20,10 +20,11 @@ ghost use Rattle.resb_read.specs.TypeLaws.{bytes_counted, bytes_one};
 
 use crate::cursor::{Cursor, Spot};
 use crate::deserialize::Deserialize;
-use crate::faults::{elsewhere, mismatch, refused_here};
+use crate::faults::{elsewhere, refused_here, value_of};
 use resb_format::bytes::{some_bytes, some_word};
-use resb_format::{BinaryDeserializerError, Key, ReadingError, string_at};
+use resb_format::{BinaryDeserializerError, Key, ReadingError, ResourceReprType, string_at};
 use resb_walk::faults::past_end;
+use resb_walk::types::readable;
 use resb_walk::{File, Walk, text_of_units};
 use std::alloc::Global;
 
@@ -73,13 +74,15 @@ fn described(file: File<'_>, word: u32) -> Result<&[u8], BinaryDeserializerError
         MatchResult result (λ b. there ≡ Some b.now) (λ _. there ≡ None) }
     ensures says { IfErr result (Says (bytes_fault (parts_in file.entry) word)) }
 {
-    let value = (word % 0x1000_0000) as usize;
-    match word >> 28 {
-        1 | 6 | 14 if value == 0 => Ok(&[]),
-        1 => counted_at(file, 1, value),
-        6 => units_at(file.block, value),
-        14 => counted_at(file, 4, value),
-        _ => Err(mismatch(word, "expected binary data resource")),
+    let (kind, value) = readable(word)?;
+    let value = value as usize;
+    match kind {
+        ResourceReprType::Binary | ResourceReprType::StringV2 | ResourceReprType::IntVector
+            if value == 0 => { Ok(&[]) }
+        ResourceReprType::Binary => counted_at(file, 1, value),
+        ResourceReprType::StringV2 => units_at(file.block, value),
+        ResourceReprType::IntVector => counted_at(file, 4, value),
+        _ => Err(BinaryDeserializerError::resource_type_mismatch("expected binary data resource")),
     }
 }
 
@@ -98,14 +101,11 @@ impl<'de> Cursor<'de> {
         match self.at {
             Spot::Descriptor(word) => {
                 walk.pay()?;
-                if word >> 28 != 6 {
-                    return Err(mismatch(word, "expected string resource"));
-                }
-                let unit = (word % 0x1000_0000) as usize;
+                let unit = value_of(word, ResourceReprType::StringV2, "expected string resource")?;
                 if unit == 0 {
                     return Ok(String::new(alloc));
                 }
-                let units = self.file.text(unit)?;
+                let units = self.file.text(unit as usize)?;
                 Ok(text_of_units(alloc, units)?)
             }
             Spot::Unit(unit) => {

@@ -12,9 +12,9 @@ use std::collections::BTreeMap;
 #[derive(Drop)]
 pub(crate) struct Children {
     /// The greatest character that a child has, and the child.
-    pub(crate) last: Option<(char, usize)>,
+    pub(crate) last: Option<(char, u32)>,
     /// The other children.
-    pub(crate) others: BTreeMap<char, usize>,
+    pub(crate) others: BTreeMap<char, u32>,
     pub(crate) ghost below: { (c j : ℕ) → get nat_cmp others c ≡ Some j → c < bound last },
 }
 
@@ -33,7 +33,7 @@ impl Children {
     }
 
     /// The child of a character.
-    pub(crate) fn get(&self, first: char) -> Option<usize>
+    pub(crate) fn get(&self, first: char) -> Option<u32>
         ensures { result ≡ child_in self.now first }
     {
         match self.last {
@@ -43,7 +43,7 @@ impl Children {
     }
 
     /// The child of the greatest character, with that.
-    pub(crate) fn last(&self) -> Option<(char, usize)>
+    pub(crate) fn last(&self) -> Option<(char, u32)>
         ensures { MatchOption result ((c : ℕ) → child_in self.now c ≡ None)
             (λ p. IsLastIn self.now p.0 p.1) }
     {
@@ -51,7 +51,7 @@ impl Children {
     }
 
     /// Puts a child in the place of the one that a character had.
-    pub(crate) fn put(&mut self, first: char, child: usize) -> Result<(), AllocError>
+    pub(crate) fn put(&mut self, first: char, child: u32) -> Result<(), AllocError>
         ensures { OnOk result (PutsChild self.old self.new first child) }
     {
         match self.last {

@@ -25,7 +25,7 @@ pub(crate) fn set_child(
     nodes: &mut Vec<Node>,
     at: usize,
     first: char,
-    to: usize,
+    to: u32,
 ) -> Result<(), AllocError>
     requires { at < length nodes.old.items }
     ensures { OnOk result (HasChild nodes.old.items nodes.new.items at first to) }
@@ -61,7 +61,7 @@ pub(crate) fn push_node<'a>(
 }
 
 /// The child of node `at` by `first`.
-pub(crate) fn child_of(nodes: &Vec<Node>, at: usize, first: char) -> Option<usize>
+pub(crate) fn child_of(nodes: &Vec<Node>, at: usize, first: char) -> Option<u32>
     requires { at < length nodes.now.items }
     ensures { result ≡ child nodes.now.items at first }
 {
@@ -70,7 +70,7 @@ pub(crate) fn child_of(nodes: &Vec<Node>, at: usize, first: char) -> Option<usiz
 }
 
 /// The greatest child of node `at`, with its character.
-pub(crate) fn last_child(nodes: &Vec<Node>, at: usize) -> Option<(char, usize)>
+pub(crate) fn last_child(nodes: &Vec<Node>, at: usize) -> Option<(char, u32)>
     requires { at < length nodes.now.items }
     ensures { MatchOption result ((c : ℕ) → child nodes.now.items at c ≡ None)
         (λ p. IsLastChild nodes.now.items at p.0 p.1) }

@@ -105,8 +105,7 @@ pub(crate) fn lay_tree(
 }
 
 /// The number of units of the 16-bit block: the pool of the strings, and what a tree adds. It is
-/// the
-/// same wherever the tail begins, so the places may say anything there that leaves room.
+/// the same wherever the tail begins, so the places may say anything there that leaves room.
 pub(crate) fn count_units(
     alloc: Global,
     places: &Places<'_>,
@@ -127,10 +126,9 @@ pub(crate) fn count_units(
 }
 
 /// Lays a tree behind the pool of its strings, where the key block ends at a byte of the body.
-/// Gives
-/// what is laid, and the tree's word. The tail begins behind the 16-bit block, at a multiple of 4,
-/// which the places then say. `Err` is for want of memory alone; the base of the places is then of
-/// no account.
+/// Gives what is laid, and the tree's word. The tail begins behind the 16-bit block, at a multiple
+/// of 4, which the places then say. `Err` is for want of memory alone; the base of the places is
+/// then of no account.
 pub fn lay_bodies(
     alloc: Global,
     places: &mut Places<'_>,

@@ -1,15 +1,12 @@
 -- One node of a vector changes.
-use Rattle.std.proofs.Common.{◌≡◌, ℕ, ◌<◌, List, [], length, map, get_or, Bool, true, false, Some}
-use Rattle.std.proofs.Common.{None, inl, inr, refl, sym, ◌∙◌, ap, arith, get_or-set_other}
+use Rattle.std.proofs.Common.{◌≡◌, ℕ, ◌<◌, List, [], length, map, get_or, Some}
+use Rattle.std.proofs.Common.{None, inl, inr, sym, ◌∙◌, ap, arith, get_or-set_other}
 use Rattle.std.proofs.Common.{get_or-set_same}
 use Rattle.std.specs.Prelude.{slice_set}
 use Rattle.std.proofs.lemmas.List.{map-set, length-set, get_or-map, length-map}
 use Rattle.std.proofs.lemmas.Bool.{cases_eq}
-use Rattle.std.specs.Ordering.{nat_cmp, is_eq}
-use Rattle.std.specs.BTreeMap.{get, Updates}
-use Rattle.std.specs.Cmp.{Equal-is}
-use Rattle.std.proofs.lemmas.Map.Lookups.{exact_unsigned}
 use Rattle.resb_pool.specs.declared.node.Node.{Node}
+use Rattle.resb_pool.specs.Inner.Children.{child_in, PutsChild}
 use Rattle.resb_pool.specs.Inner.Changes.{HasChild, HasEnd}
 
 slot_same : {X : Type 0} (f : Node → X) (d : X) (ns : List Node) (i : ℕ) (n : Node) → i < length ns
@@ -33,25 +30,18 @@ slot_kept f d ns i k o n l e h = elim (cases_eq k i) [
   | inr ne ↦ slot_other f d ns i k n ne
 ]
 
-not_at : (x y : ℕ) → (y ≡ x → ⊥) → is_eq (nat_cmp x y) ≡ false
-not_at x y ne = decide (is_eq (nat_cmp x y)) refl
-  where
-    decide : (b : Bool) → is_eq (nat_cmp x y) ≡ b → is_eq (nat_cmp x y) ≡ false
-    decide false e = e
-    decide true e = absurd (ne (sym (exact_unsigned x y ((Equal-is (nat_cmp x y)).0 e))))
-
 module _ (ns : List Node) (i : ℕ) (o n : Node) (l : i < length ns) (is : o ≡ get_or ns i o) where
   pub has_child : (c j : ℕ) → n.suffix ≡ o.suffix → n.text ≡ o.text
-      → Updates nat_cmp o.children n.children c (Some j) → HasChild ns (slice_set ns i n) i c j
+      → PutsChild o.children n.children c j → HasChild ns (slice_set ns i n) i c j
   has_child c j s e u = record {
     len = length-set ns i n;
     suffix_is = λ k. slot_kept (λ (z : Node). z.suffix.now) [] ns i k o n l is (ap (λ z. z.now) s);
     text_is = λ k. slot_kept (λ (z : Node). z.text) None ns i k o n l is e;
-    new = slot_same (λ (z : Node). get nat_cmp z.children c) None ns i n l ∙ u.1;
+    new = slot_same (λ (z : Node). child_in z.children c) None ns i n l ∙ u.new;
     old = λ k x ne. elim (cases_eq k i) [
-      | inl q ↦ slot_kept (λ (z : Node). get nat_cmp z.children x) None ns i k o n l is
-          (u.2 x (not_at c x (λ f. ne (q, f))))
-      | inr apart ↦ slot_other (λ (z : Node). get nat_cmp z.children x) None ns i k n apart
+      | inl q ↦ slot_kept (λ (z : Node). child_in z.children x) None ns i k o n l is
+          (u.old x (λ f. ne (q, f)))
+      | inr apart ↦ slot_other (λ (z : Node). child_in z.children x) None ns i k n apart
     ];
   }
 
@@ -60,8 +50,8 @@ module _ (ns : List Node) (i : ℕ) (o n : Node) (l : i < length ns) (is : o ≡
   has_end x s e u = record {
     len = length-set ns i n;
     suffix_is = λ k. slot_kept (λ (z : Node). z.suffix.now) [] ns i k o n l is (ap (λ z. z.now) s);
-    child_is = λ k c. slot_kept (λ (z : Node). get nat_cmp z.children c) None ns i k o n l is
-        (ap (λ m. get nat_cmp m c) u);
+    child_is = λ k c. slot_kept (λ (z : Node). child_in z.children c) None ns i k o n l is
+        (ap (λ m. child_in m c) u);
     new = slot_same (λ (z : Node). z.text) None ns i n l ∙ e;
     old = λ k ne. slot_other (λ (z : Node). z.text) None ns i k n ne;
   }

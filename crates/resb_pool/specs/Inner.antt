@@ -1,7 +1,9 @@
--- Words of private functions: the trie's shape, its nodes, what a step changes.
+-- Words of private functions: the trie's shape, its nodes and their children, what a step changes.
 pub mod Extends
 pub mod Shape
 pub mod Cuts
+pub mod Bounds
+pub mod Children
 pub mod Nodes
 pub mod Changes
 pub mod Greatest

@@ -12,6 +12,13 @@ use crate::node::{Node, child_of, push_node, set_child, set_end, suffix_of};
 use crate::text::{back_of, front_of, split_last, strip_shared};
 use std::alloc::{AllocError, Global};
 
+/// The place of a node in 32 bits. A trie whose nodes need more is want of memory.
+fn place_of(node: usize) -> Result<u32, AllocError>
+    ensures { IfOk result (λ place. place ≡ node) }
+{
+    u32::try_from(node).map_err(|_| AllocError)
+}
+
 /// Adds the text of an index below node `at`, which has no child by the text's next character,
 /// `first`. Gives its node.
 fn add_leaf<'a>(
@@ -32,7 +39,7 @@ fn add_leaf<'a>(
 {
     let leaf = nodes.len();
     push_node(alloc, nodes, text, Some(index))?;
-    set_child(nodes, at, first, leaf)?;
+    set_child(nodes, at, first, place_of(leaf)?)?;
     Ok(leaf)
 }
 
@@ -43,7 +50,7 @@ fn split<'a>(
     nodes: &mut Vec<Node<'a>>,
     at: usize,
     first: char,
-    below: usize,
+    below: u32,
     front: &str,
     next: char,
 ) -> Result<usize, AllocError>
@@ -62,11 +69,11 @@ fn split<'a>(
         × (suffix nodes.new.items m
         ≡ drop (length front.now) (suffix nodes.old.items below))) }
 {
-    let shared = back_of(suffix_of(nodes, below), front.len());
+    let shared = back_of(suffix_of(nodes, below as usize), front.len());
     let middle = nodes.len();
     push_node(alloc, nodes, shared, None)?;
     set_child(nodes, middle, next, below)?;
-    set_child(nodes, at, first, middle)?;
+    set_child(nodes, at, first, place_of(middle)?)?;
     Ok(middle)
 }
 
@@ -89,12 +96,12 @@ pub(crate) fn put<'a>(
         let Some(below) = child_of(nodes, at, first) else {
             return add_leaf(alloc, nodes, at, first, text, index);
         };
-        let suffix = suffix_of(nodes, below);
+        let suffix = suffix_of(nodes, below as usize);
         let shared = text.len() - before.len();
         let label = front_of(suffix, suffix.len() - shared);
         let (rest_left, label_left) = strip_shared(before, label);
         at = match split_last(label_left) {
-            None => below,
+            None => below as usize,
             Some((_, next)) => split(alloc, nodes, at, first, below, label_left, next)?,
         };
         rest = rest_left;

@@ -2,6 +2,7 @@
 //! Nothing here knows of trees, keys or files.
 #![tactic(auto)]
 
+mod children;
 mod error;
 mod grow;
 pub mod laws;

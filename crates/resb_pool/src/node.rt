@@ -6,8 +6,8 @@ ghost use Rattle.std.specs.Prelude.{OnOk, IsTrue, true, MatchOption};
 ghost use Rattle.resb_pool.specs.Inner.Nodes.{child, ends, suffix, text_at};
 ghost use Rattle.resb_pool.specs.Inner.Changes.{HasChild, HasEnd, HasNode, IsLastChild};
 
+use crate::children::Children;
 use std::alloc::{AllocError, Global};
-use std::collections::BTreeMap;
 
 /// A place in the trie.
 #[derive(Drop)]
@@ -17,7 +17,7 @@ pub(crate) struct Node<'a> {
     /// The index of the text that is the suffix, if it is one of the texts.
     pub(crate) text: Option<usize>,
     /// The children's places, by the character that each has before this node's suffix.
-    pub(crate) children: BTreeMap<char, usize>,
+    pub(crate) children: Children,
 }
 
 /// Hangs node `to` below node `at` by `first`, in the place of what hung there.
@@ -25,14 +25,13 @@ pub(crate) fn set_child(
     nodes: &mut Vec<Node>,
     at: usize,
     first: char,
-    to: usize,
+    to: u32,
 ) -> Result<(), AllocError>
     requires { at < length nodes.old.items }
     ensures { OnOk result (HasChild nodes.old.items nodes.new.items at first to) }
 {
     let node = &mut nodes[at];
-    node.children.insert(first, to)?;
-    Ok(())
+    node.children.put(first, to)
 }
 
 /// Says that the text of an index ends at node `at`.
@@ -56,29 +55,28 @@ pub(crate) fn push_node<'a>(
     nodes.push(Node {
         suffix,
         text,
-        children: BTreeMap::new(alloc),
+        children: Children::new(alloc),
     })?;
     Ok(())
 }
 
 /// The child of node `at` by `first`.
-pub(crate) fn child_of(nodes: &Vec<Node>, at: usize, first: char) -> Option<usize>
+pub(crate) fn child_of(nodes: &Vec<Node>, at: usize, first: char) -> Option<u32>
     requires { at < length nodes.now.items }
     ensures { result ≡ child nodes.now.items at first }
 {
     let node = &nodes[at];
-    node.children.get(&first).copied()
+    node.children.get(first)
 }
 
 /// The greatest child of node `at`, with its character.
-pub(crate) fn last_child(nodes: &Vec<Node>, at: usize) -> Option<(char, usize)>
+pub(crate) fn last_child(nodes: &Vec<Node>, at: usize) -> Option<(char, u32)>
     requires { at < length nodes.now.items }
     ensures { MatchOption result ((c : ℕ) → child nodes.now.items at c ≡ None)
         (λ p. IsLastChild nodes.now.items at p.0 p.1) }
 {
     let node = &nodes[at];
-    let (first, below) = node.children.last_key_value()?;
-    Some((*first, *below))
+    node.children.last()
 }
 
 /// What all texts at and below node `at` end with.

@@ -93,10 +93,7 @@ pub(crate) fn ordered<'a>(
 fn push_bytes(units: &mut Vec<u16>, bytes: &[u8]) -> Result<(), AllocError>
     ensures { OnOk result (units.new.items ≡ units.old.items ++ bytes.now) }
 {
-    for byte in bytes {
-        units.push(u16::from(*byte))?;
-    }
-    Ok(())
+    units.extend(bytes.iter().map(|byte| u16::from(*byte)))
 }
 
 /// Appends the units of a text: its bytes, where all of them are ASCII.

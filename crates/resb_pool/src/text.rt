@@ -34,6 +34,9 @@ pub(crate) fn back_of(text: &str, len: usize) -> &str
 pub(crate) fn strip_shared<'a, 'b>(left: &'a str, right: &'b str) -> (&'a str, &'b str)
     ensures { IsShared left.now right.now result.0.now result.1.now }
 {
+    if let Some(left_rest) = left.strip_suffix(right) {
+        return (left_rest, "");
+    }
     let mut lefts = left.chars();
     let mut rights = right.chars();
     loop {

@@ -57,9 +57,9 @@ pub(crate) fn gather<'a>(
     ensures err { IfErr result (λ e. NotPlanned (nows strings.now) (fault_of e)) }
 {
     let mut texts = Texts {
-        distinct: IndexSet::new(alloc),
+        distinct: IndexSet::with_capacity(alloc, strings.len())?,
         measures: Vec::new(alloc),
-        order: Vec::new(alloc),
+        order: Vec::with_capacity(alloc, strings.len())?,
     };
     let mut size = 0;
     for text in strings {

@@ -37,7 +37,7 @@ pub(crate) fn greatest_below(nodes: &Vec<Node>, from: usize) -> usize
     loop {
         let below = match last_child(nodes, at) {
             None => return at,
-            Some((_, below)) => below,
+            Some((_, below)) => below as usize,
         };
         if ends_marked(nodes, at) {
             return at;

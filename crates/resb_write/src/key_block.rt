@@ -99,8 +99,7 @@ fn append_padding(file: &mut Vec<u8>) -> Result<(), AllocError>
 }
 
 /// Appends the block of these keys to a file whose length is a multiple of 4: each with a zero
-/// byte,
-/// padded with 0xaa to a word.
+/// byte, and 0xaa up to the next multiple of 4.
 pub(crate) fn append_block(file: &mut Vec<u8>, keys: &[&str]) -> Result<(), AllocError>
     requires { length file.old.items % 4 ≡ 0 }
     ensures { OnOk result (file.new.items

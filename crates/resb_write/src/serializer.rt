@@ -61,11 +61,14 @@ fn write<'a>(
         plan: pool::plan(alloc, &contents.texts)?,
         base: 0,
     };
+    let largest_table = contents.largest_table as u32;
+    drop(contents);
     let keys_end = KEYS_START + block_length(&keys);
     let (bodies, word) = lay_bodies(alloc, &mut places, keys_end, root)?;
+    drop(places);
     let pieces = Pieces {
         root: word,
-        largest_table: contents.largest_table as u32,
+        largest_table,
         is_locale_fallback_enabled: bundle.is_locale_fallback_enabled,
         keys: &keys,
         bodies: &bodies,

@@ -2,10 +2,9 @@
 --     IsTrieOf T ns es        the nodes are a trie of the texts T, which end at the nodes es
 use Rattle.std.specs.Prelude.{◌≡◌, ℕ, ◌<◌, List, [], map, length, Bool, Option, Some, None, is_some}
 use Rattle.std.specs.Prelude.{slice_index, slice_index_or}
-use Rattle.std.specs.Ordering.{nat_cmp}
-use Rattle.std.specs.BTreeMap.{get}
 use Rattle.std.specs.Str.{IsUtf8}
 use Rattle.resb_pool.specs.declared.node.Node.{Node}
+use Rattle.resb_pool.specs.Inner.Children.{child_in}
 use Rattle.resb_pool.specs.Inner.Cuts.{key}
 use Rattle.resb_pool.specs.Inner.Shape.{IsShape}
 
@@ -24,7 +23,7 @@ abbrev pub ends : List Node → ℕ → Bool
 ends ns k = is_some (text_at ns k)
 
 abbrev pub child : List Node → ℕ → ℕ → Option ℕ
-child ns k c = slice_index_or (map (λ n. get nat_cmp n.children c) ns) k None
+child ns k c = slice_index_or (map (λ n. child_in n.children c) ns) k None
 
 pub record IsTrie (ns : List Node) : Type 0 where
   pub shape : IsShape (length ns) (path ns) (child ns) (ends ns)

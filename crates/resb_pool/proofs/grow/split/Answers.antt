@@ -1,5 +1,5 @@
 use Rattle.std.proofs.Common.{rules, ◌≡◌, ◌++◌, ◌∷◌, [], List, ℕ, drop, length, ap, ◌∙◌, subst, sym}
-use Rattle.resb_pool.specs.Inner.Changes.{IsKept}
+use Rattle.resb_pool.specs.Inner.Changes.{HasChild, IsKept}
 use Rattle.resb_pool.specs.Inner.Extends.{Extends}
 use Rattle.resb_pool.specs.Inner.Cuts.{key}
 use Rattle.resb_pool.specs.Inner.Nodes.{path, suffix, IsTrie}
@@ -24,7 +24,9 @@ grown c =
     c.requires.on)
     (subst (λ (l : List ℕ). Extends (path ms c.args.below) (key l ++ c.args.next ∷ [])) e
     c.requires.next)
-    c.in_ok-push_node.ensures q c.in_ok-set_child.ensures c.in_ok-set_child-2.ensures
+    c.in_ok-push_node.ensures q c.in_ok-set_child.ensures
+    (subst (HasChild c.set_child.new.nodes.items c.set_child-2.new.nodes.items c.args.at
+    c.args.first) c.in_ok-place_of.ensures c.in_ok-set_child-2.ensures)
 
 pub returns-clause-trie : goal.returns-clause-trie
 returns-clause-trie c = (grown (goal.at.returns-clause-trie c).In_ok-set_child-2).0

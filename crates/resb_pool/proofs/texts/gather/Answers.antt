@@ -20,9 +20,19 @@ returns-then-is_vast-clause-err c =
     subst (NotPlanned (nows xs)) (sym c.limit.ensures)
     (too_large c.requires (omega (arith, e, f, g)))
 
+pub returns-in_err-with_capacity-clause-err : goal.returns-in_err-with_capacity-clause-err
+returns-in_err-with_capacity-clause-err c = let p =
+    err_from_is_err_and c.from_residual.result c.from_residual.ensures.1 in rw (p.1, p.2) no_memory
+
+pub returns-in_err-with_capacity-2-clause-err : goal.returns-in_err-with_capacity-2-clause-err
+returns-in_err-with_capacity-2-clause-err c = let p =
+    err_from_is_err_and c.from_residual-in_err-with_capacity-2.result
+    c.from_residual-in_err-with_capacity-2.ensures.1 in rw (p.1, p.2) no_memory
+
 pub returns-in_err-size-clause-err : goal.returns-in_err-size-clause-err
 returns-in_err-size-clause-err c = let p =
-    err_from_is_err_and c.from_residual.result c.from_residual.ensures.1 in rw (p.1, p.2) no_memory
+    err_from_is_err_and c.from_residual-in_err-size.result
+    c.from_residual-in_err-size.ensures.1 in rw (p.1, p.2) no_memory
 
 pub returns-then-size-ge-SIZE_LIMIT-clause-err : goal.returns-then-size-ge-SIZE_LIMIT-clause-err
 returns-then-size-ge-SIZE_LIMIT-clause-err c =

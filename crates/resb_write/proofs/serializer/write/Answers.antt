@@ -143,8 +143,8 @@ returns-in_err-bodies-clause-err c =
     c.from_residual-in_err-bodies.ensures.1 in
     rw p.1 (subst (Refused _ c.args.list.now) (sym p.2) no_memory)
 
-pub overflow_cast-pieces : goal.overflow_cast-pieces
-overflow_cast-pieces c =
+pub overflow_cast-largest_table : goal.overflow_cast-largest_table
+overflow_cast-largest_table c =
     let t = tree_of c.root-root.result.now in
     let small = c.in_ok-check_sizes.ensures.ok (walk t) c.in_ok-contents.ensures in
     omega (arith, small, c.in_ok-contents.ensures.largest_is, largest_room (walk t))

@@ -7,7 +7,7 @@ use Rattle.resb_grammar.specs.Ascii as ascii
 use Rattle.resb_tree.specs.Tree.{Tree, string, binary, integer, int_vector}
 use Rattle.resb_grammar.specs.Tokens.{Skip}
 use Rattle.resb_grammar.specs.Items as items
-use Rattle.resb_grammar.specs.Items.{Item, Member, flagged, is_pairs, shape_of, a_table, an_array}
+use Rattle.resb_grammar.specs.Items.{Item, Term, flagged, is_pairs, shape_of, a_table, an_array}
 use Rattle.resb_grammar.specs.Items.{tree_in, keys_in}
 use Rattle.resb_grammar.specs.Types.{Kind, array_kind, table_kind, Head}
 use Rattle.resb_grammar.specs.Group.{Numbers, first_number, next_number, Vector, empty, lone_comma}
@@ -16,15 +16,15 @@ use Rattle.resb_grammar.specs.Group.{binary_content, integer_content, vector_con
 use Rattle.resb_grammar.specs.Group.{nothing, string_item, group_item, comma, Group, untyped}
 use Rattle.resb_grammar.specs.Group.{typed_table, typed_array, typed_leaf}
 use Rattle.resb_grammar.specs.BundleText.{BundleText}
-use Rattle.resb_grammar.specs.Inner.Lex as lex
+use Rattle.resb_grammar.proofs.Lex as lex
 use Rattle.resb_grammar.specs.Machine.{a_text, a_number, opening, closing, a_comma, a_type, Body}
 use Rattle.resb_grammar.specs.Machine.{table_body, array_body, untyped_body, Frame, Title, Open}
 use Rattle.resb_grammar.specs.Machine.{at_start, after_lone_comma, after_number, after_comma}
 use Rattle.resb_grammar.specs.Machine.{inside, typed, in_binary, filled, in_vector, finished}
-use Rattle.resb_grammar.specs.Machine.{is_key_place, when, unless, with_member, within, begun_as}
+use Rattle.resb_grammar.specs.Machine.{is_key_place, when, unless, with_term, within, begun_as}
 use Rattle.resb_grammar.specs.Machine.{leave, next, At}
-use Rattle.resb_grammar.specs.Inner.Lex.{neither, Class, text_class, number_class, open_class}
-use Rattle.resb_grammar.specs.Inner.Lex.{close_class, comma_class, type_class, class_in}
+use Rattle.resb_grammar.proofs.Lex.{neither, Class, text_class, number_class, open_class}
+use Rattle.resb_grammar.proofs.Lex.{close_class, comma_class, type_class, class_in}
 use Rattle.resb_grammar.specs.Inner.Half.{half}
 use Rattle.resb_grammar.proofs.Half.{half-pairs, key_place-pairs, half-group, no_flag}
 use Rattle.resb_grammar.proofs.Moves.{further, byte_class, class_text, class_number}
@@ -73,12 +73,12 @@ type_next title untyped_body xs around kind h = refl
 string_next : (title : Title) (body : Body) (xs : List Item) (around : List Frame) (s : List ℕ)
     → IsList body
     → next (inside (open_at title body xs around)) (a_text s) ≡ Some
-    (inside (open_at title body (items.plain (items.string_member s) ∷ xs) around))
+    (inside (open_at title body (items.plain (items.string_term s) ∷ xs) around))
 string_next title table_body xs around s h = absurd h
 string_next title array_body xs around s h = refl
 string_next title untyped_body xs around s h = refl
 
-comma_next : (title : Title) (body : Body) (xs : List Item) (around : List Frame) (m : Member)
+comma_next : (title : Title) (body : Body) (xs : List Item) (around : List Frame) (m : Term)
     → IsList body
     → next (inside (open_at title body (items.plain m ∷ xs) around)) a_comma ≡ Some
     (inside (open_at title body (flagged m ∷ xs) around))
@@ -113,7 +113,7 @@ module _ (text : List ℕ) where
   run_vector : (from to last : ℕ) (ns : List ℕ) (o : Open) → Vector text from to ns
       → At text from (in_vector at_start [] o) → slice_index text to ≡ ascii.right_brace
       → Skip text (to + 1) last
-      → At text last (inside (with_member (items.group_member (int_vector ns) []) o))
+      → At text last (inside (with_term (items.group_term (int_vector ns) []) o))
   run_vector from to last ns o empty at h skip =
       further text from (from + 1) last _ _ closing close_class at
       (byte_class text lex.numbers from ascii.right_brace close_class h refl) (refl, refl) refl skip
@@ -135,7 +135,7 @@ module _ (text : List ℕ) where
 
   close_filled : (to last : ℕ) (t : Tree) (o : Open) → At text to (filled t o)
       → slice_index text to ≡ ascii.right_brace → Skip text (to + 1) last
-      → At text last (inside (with_member (items.group_member t []) o))
+      → At text last (inside (with_term (items.group_term t []) o))
   close_filled to last t o at h skip =
       further text to (to + 1) last _ _ closing close_class at
       (byte_class text neither to ascii.right_brace close_class h refl) (refl, refl) refl skip
@@ -144,7 +144,7 @@ module _ (text : List ℕ) where
   pub run_content : (from to last : ℕ) (kind : Kind) (t : Tree) (o : Open)
       → LeafContent text from to kind t → At text from (begun_as kind o)
       → slice_index text to ≡ ascii.right_brace → Skip text (to + 1) last
-      → At text last (inside (with_member (items.group_member t []) o))
+      → At text last (inside (with_term (items.group_term t []) o))
   run_content from to last kind t o (string_content i s w skip') at h skip =
       close_filled to last (string s) o (further text from i to _ _ (a_text s) text_class at
       (class_text text from i s w) (s, w, refl) refl skip') h skip
@@ -207,7 +207,7 @@ module _ (text : List ℕ) where
           w,
           refl,
         ) (ap (λ b. when b (inside (open_at title table_body
-        (items.plain (items.string_member s) ∷ ys) around))) (key_place-pairs ys h)) skip
+        (items.plain (items.string_term s) ∷ ys) around))) (key_place-pairs ys h)) skip
     run_table from to xs (group_item _ i j _ ys t ks rest g skip) h title around at =
         run_group i j t ks g title table_body ys around (half-group ys h).1
         (run_table from i ys rest (half-group ys h).0 title around at) to skip
@@ -218,7 +218,7 @@ module _ (text : List ℕ) where
         → At text from (inside (open_at title body ys around))
         → (last : ℕ) → Skip text to last
         → At text last
-        (inside (open_at title body (items.plain (items.group_member t ks) ∷ ys) around))
+        (inside (open_at title body (items.plain (items.group_term t ks) ∷ ys) around))
     run_group from to t ks
         (untyped _ i k xs h skip inner h') title body ys around may at last after =
         let opened : At text i

@@ -18,7 +18,7 @@ use Rattle.resb_grammar.specs.Machine.{Token, a_text, a_number, opening, closing
 use Rattle.resb_grammar.specs.Machine.{table_body, array_body, untyped_body, Frame, Title, Open}
 use Rattle.resb_grammar.specs.Machine.{at_start, after_lone_comma, after_number, after_comma, start}
 use Rattle.resb_grammar.specs.Machine.{named, titled, inside, typed, in_string, in_binary}
-use Rattle.resb_grammar.specs.Machine.{in_integer, filled, in_vector, finished, with_member}
+use Rattle.resb_grammar.specs.Machine.{in_integer, filled, in_vector, finished, with_term}
 use Rattle.resb_grammar.specs.Machine.{at_root, within, next, At}
 use Rattle.resb_grammar.specs.Stuck.{expected, NoToken, Stuck, blocked}
 use Rattle.resb_grammar.specs.declared.expected.Expected.TheVariants as expect
@@ -104,35 +104,35 @@ hex_examples = (refl, refl, refl, refl, refl)
 
 -- one string without a comma is a string, with one an array; pairs are a table
 shape_examples : (x y : List ℕ) (t : Tree) (ks : List (List ℕ)) →
-    (items.shape_of (items.plain (items.string_member x) ∷ []) ≡ items.a_string x)
-    × (items.shape_of (items.flagged (items.string_member x) ∷ []) ≡ items.an_array)
+    (items.shape_of (items.plain (items.string_term x) ∷ []) ≡ items.a_string x)
+    × (items.shape_of (items.flagged (items.string_term x) ∷ []) ≡ items.an_array)
     × (items.shape_of [] ≡ items.a_table)
-    × (items.shape_of (items.plain (items.group_member t ks) ∷ items.plain (items.string_member x) ∷
+    × (items.shape_of (items.plain (items.group_term t ks) ∷ items.plain (items.string_term x) ∷
     []) ≡ items.a_table)
-    × (items.shape_of (items.flagged (items.group_member t ks) ∷ items.plain
-    (items.string_member x) ∷ []) ≡ items.an_array)
-    × (items.shape_of (items.plain (items.string_member y) ∷ items.plain (items.string_member x) ∷
+    × (items.shape_of (items.flagged (items.group_term t ks) ∷ items.plain
+    (items.string_term x) ∷ []) ≡ items.an_array)
+    × (items.shape_of (items.plain (items.string_term y) ∷ items.plain (items.string_term x) ∷
     []) ≡ items.an_array)
-    × (items.shape_of (items.plain (items.group_member t ks) ∷ []) ≡ items.an_array)
+    × (items.shape_of (items.plain (items.group_term t ks) ∷ []) ≡ items.an_array)
 shape_examples x y t ks = (refl, refl, refl, refl, refl, refl, refl)
 
 -- a later pair of an equal key stands; keys of arrays are those of their groups
 tree_examples :
     (items.tree_in items.a_table (items.plain
-    (items.group_member (string (codes "2")) []) ∷ items.plain
-    (items.string_member (codes "a")) ∷ items.plain
-    (items.group_member (string (codes "1")) []) ∷ items.plain
-    (items.string_member (codes "a")) ∷ []) ≡ table (map_of
+    (items.group_term (string (codes "2")) []) ∷ items.plain
+    (items.string_term (codes "a")) ∷ items.plain
+    (items.group_term (string (codes "1")) []) ∷ items.plain
+    (items.string_term (codes "a")) ∷ []) ≡ table (map_of
     ((codes "a", string (codes "2")) ∷ [])))
-    × (items.tree_in items.an_array (items.plain (items.string_member (codes "z")) ∷ items.plain
-    (items.string_member (codes "x")) ∷ []) ≡ array (trees_of
+    × (items.tree_in items.an_array (items.plain (items.string_term (codes "z")) ∷ items.plain
+    (items.string_term (codes "x")) ∷ []) ≡ array (trees_of
     (string (codes "x") ∷ string (codes "z") ∷ [])))
     × (items.keys_in items.an_array (items.flagged
-    (items.group_member (string []) (codes "k" ∷ [])) ∷ items.plain
-    (items.string_member (codes "x")) ∷ []) ≡ codes "k" ∷ [])
+    (items.group_term (string []) (codes "k" ∷ [])) ∷ items.plain
+    (items.string_term (codes "x")) ∷ []) ≡ codes "k" ∷ [])
     × (items.keys_in items.a_table (items.plain
-    (items.group_member (string []) (codes "k" ∷ [])) ∷ items.plain
-    (items.string_member (codes "x")) ∷ []) ≡ codes "x" ∷ codes "k" ∷ [])
+    (items.group_term (string []) (codes "k" ∷ [])) ∷ items.plain
+    (items.string_term (codes "x")) ∷ []) ≡ codes "x" ∷ codes "k" ∷ [])
     × (first_places (codes "a" ∷ codes "x" ∷ codes "a" ∷ []) ≡ codes "a" ∷ codes "x" ∷ [])
 tree_examples = (refl, refl, refl, refl, refl)
 
@@ -260,8 +260,8 @@ bundle_accepted = record {
   first = 2;
   last = 6;
   items =
-      items.plain (items.group_member (string (codes "v")) []) ∷ items.plain
-      (items.string_member (codes "k")) ∷ [];
+      items.plain (items.group_term (string (codes "v")) []) ∷ items.plain
+      (items.string_term (codes "k")) ∷ [];
   header =
       record {
         start = 0;
@@ -292,7 +292,7 @@ bundle_accepted = record {
 
     inner : Group (codes "b{k{v}}") 3 6 (string (codes "v")) []
     inner =
-        untyped 3 4 5 (items.plain (items.string_member (codes "v")) ∷ []) refl (here 4 refl
+        untyped 3 4 5 (items.plain (items.string_term (codes "v")) ∷ []) refl (here 4 refl
         (λ h. absurd (omega arith))) (string_item 4 4 5 5 [] (codes "v") (nothing 4)
         (word_at (codes "b{k{v}}") 4 1 refl refl (lit≤ tt) (omega arith))
         (here 5 refl (λ h. absurd (omega arith)))) refl
@@ -300,7 +300,7 @@ bundle_accepted = record {
 -- a key without a group is refused at the `}`
 bundle_refused : Stuck (codes "b{\"x\"}") 5 expect.LeftBrace
 bundle_refused =
-    blocked (in_root (codes "b") (items.plain (items.string_member (codes "x")) ∷ []))
+    blocked (in_root (codes "b") (items.plain (items.string_term (codes "x")) ∷ []))
     (record { reached = keyed; none = never; no_end = λ h. h; no_digits = λ h. h })
   where
     here : (at : ℕ) → is_white (slice_index (codes "b{\"x\"}") at) ≡ false
@@ -333,19 +333,19 @@ bundle_refused =
             let e : k ≡ 3 = omega arith in let h' = rw e at h in absurd (omega arith)
 
     keyed : At (codes "b{\"x\"}") 5
-        (in_root (codes "b") (items.plain (items.string_member (codes "x")) ∷ []))
+        (in_root (codes "b") (items.plain (items.string_term (codes "x")) ∷ []))
     keyed =
         further (codes "b{\"x\"}") 2 5 5 (in_root (codes "b") []) _
         (a_text (codes "x")) _ opened refl (codes "x", key, refl) refl
         (here 5 refl (λ h. absurd (omega arith)))
 
     never : NoToken (codes "b{\"x\"}") 5
-        (in_root (codes "b") (items.plain (items.string_member (codes "x")) ∷ []))
+        (in_root (codes "b") (items.plain (items.string_term (codes "x")) ∷ []))
     never to u m =
         none_some u (subst (λ (t : Token). next (in_root (codes "b")
-        (items.plain (items.string_member (codes "x")) ∷ [])) t ≡ Some u) (lex_of (codes
+        (items.plain (items.string_term (codes "x")) ∷ [])) t ≡ Some u) (lex_of (codes
         "b{\"x\"}") 5 to (in_root (codes "b")
-        (items.plain (items.string_member (codes "x")) ∷ [])) u m.token m.means m.moves).1 m.moves)
+        (items.plain (items.string_term (codes "x")) ∷ [])) u m.token m.means m.moves).1 m.moves)
 
 -- `1,` is the content of a vector
 vector_accepted : Vector (codes "1,}") 0 2 (1 ∷ [])
@@ -389,23 +389,23 @@ comma_examples : (t : Title) (around : List Frame) →
     })) a_comma ≡ None)
     × (next (inside (record {
       title = t;
-      frame = record { body = array_body; items = items.flagged (items.string_member []) ∷ [] };
+      frame = record { body = array_body; items = items.flagged (items.string_term []) ∷ [] };
       around = around;
     })) a_comma ≡ None)
     × (next (inside (record {
       title = t;
-      frame = record { body = array_body; items = items.plain (items.string_member []) ∷ [] };
+      frame = record { body = array_body; items = items.plain (items.string_term []) ∷ [] };
       around = around;
     })) a_comma
     ≡ Some (inside (record {
       title = t;
-      frame = record { body = array_body; items = items.flagged (items.string_member []) ∷ [] };
+      frame = record { body = array_body; items = items.flagged (items.string_term []) ∷ [] };
       around = around;
     })))
     × (next (inside (record {
       title = t;
       frame = record
-          { body = table_body; items = items.plain (items.group_member (string []) []) ∷ [] };
+          { body = table_body; items = items.plain (items.group_term (string []) []) ∷ [] };
       around = around;
     })) a_comma ≡ None)
 comma_examples t around = (refl, refl, refl, refl)
@@ -418,8 +418,8 @@ expected_examples : (name : List ℕ) (t : Title) (o : Open) (ns : List ℕ) (ar
     × (expected (titled t) 58 ≡ expect.LeftBrace)
     × (expected (inside (at_root t)) 34 ≡ expect.Text)
     × (expected (inside (at_root t)) 58 ≡ expect.RightBrace)
-    × (expected (inside (with_member (items.string_member name) (at_root t))) 58 ≡ expect.TypeName)
-    × (expected (inside (with_member (items.string_member name) (at_root t))) 34 ≡ expect.LeftBrace)
+    × (expected (inside (with_term (items.string_term name) (at_root t))) 58 ≡ expect.TypeName)
+    × (expected (inside (with_term (items.string_term name) (at_root t))) 34 ≡ expect.LeftBrace)
     × (expected (inside (within untyped_body o)) 34 ≡ expect.Text)
     × (expected (inside (within untyped_body o)) 58 ≡ expect.TypeName)
     × (expected (inside (within untyped_body o)) 44 ≡ expect.Item)

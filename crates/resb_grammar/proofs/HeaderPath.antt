@@ -7,8 +7,8 @@ use Rattle.resb_grammar.specs.Types.{RootType}
 use Rattle.resb_grammar.specs.BundleText.{Typing, without, with, Header}
 use Rattle.resb_grammar.specs.Machine.{a_text, opening, a_root_type, start, named, inside, titled}
 use Rattle.resb_grammar.specs.Machine.{at_root, At}
-use Rattle.resb_grammar.specs.Inner.Lex.{neither, root_types, text_class, open_class}
-use Rattle.resb_grammar.specs.Inner.Lex.{root_type_class}
+use Rattle.resb_grammar.proofs.Lex.{neither, root_types, text_class, open_class}
+use Rattle.resb_grammar.proofs.Lex.{root_type_class}
 use Rattle.resb_grammar.proofs.Moves.{begin, further, byte_class, class_text, root_colon}
 
 module _ (text : List ℕ) where

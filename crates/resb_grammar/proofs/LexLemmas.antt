@@ -9,9 +9,9 @@ use Rattle.resb_grammar.specs.Machine.{untyped_body, Open, at_start, after_lone_
 use Rattle.resb_grammar.specs.Machine.{after_comma, State, start, named, titled, inside, typed}
 use Rattle.resb_grammar.specs.Machine.{in_string, in_binary, in_integer, filled, in_vector}
 use Rattle.resb_grammar.specs.Machine.{finished, in_body, next}
-use Rattle.resb_grammar.specs.Inner.Lex.{Mode, neither, numbers, root_types, mode, Class}
-use Rattle.resb_grammar.specs.Inner.Lex.{text_class, number_class, open_class, close_class}
-use Rattle.resb_grammar.specs.Inner.Lex.{comma_class, type_class, root_type_class, class_in, Lex}
+use Rattle.resb_grammar.proofs.Lex.{Mode, neither, numbers, root_types, mode, Class}
+use Rattle.resb_grammar.proofs.Lex.{text_class, number_class, open_class, close_class}
+use Rattle.resb_grammar.proofs.Lex.{comma_class, type_class, root_type_class, class_in, Lex}
 use Rattle.resb_grammar.proofs.Moves.{byte_class, class_text, class_number, none_some, root_colon}
 
 text_mode : (s u : State) (w : List ℕ) → next s (a_text w) ≡ Some u → mode s ≡ neither

@@ -2,6 +2,7 @@ pub mod BytesLemmas
 mod DistinctKeys
 pub mod Half
 pub mod Moves
+pub mod Lex
 mod LexLemmas
 pub mod Unique
 pub mod HeaderPath

@@ -8,8 +8,8 @@ use Rattle.std.specs.Ordering.{nat_cmp, match_ordering}
 use Rattle.std.proofs.lemmas.Bool.{false≢true}
 use Rattle.resb_tree.specs.Tree.{Tree, Entries, no_entries, entry, trees_of, put, put_all}
 use Rattle.resb_tree.specs.Keys.{is_key, is_key_in, is_key_of, same_text}
-use Rattle.resb_grammar.specs.Items.{Member, string_member, group_member, Item, member_tree}
-use Rattle.resb_grammar.specs.Items.{member_text, member_keys, inner_keys, is_entry, and_then}
+use Rattle.resb_grammar.specs.Items.{Term, string_term, group_term, Item, term_tree}
+use Rattle.resb_grammar.specs.Items.{term_text, term_keys, inner_keys, is_entry, and_then}
 use Rattle.resb_grammar.specs.Items.{is_pairs, pairs_in, trees_in, table_keys, array_keys, Shape}
 use Rattle.resb_grammar.specs.Items.{a_string, a_table, an_array, shape_of_one, table_if, shape_of}
 use Rattle.resb_grammar.specs.Items.{tree_in, keys_in}
@@ -20,7 +20,7 @@ use Rattle.resb_grammar.specs.Group.{vector_content}
 use Rattle.resb_grammar.specs.Types.{Kind}
 use Rattle.resb_grammar.specs.BundleText.{BundleText, first_places}
 
--- k is a member of the list
+-- k is a term of the list
 abbrev In : List ℕ → List (List ℕ) → Type 0
 In k [] = ⊥
 In k (j ∷ js) = (k ≡ j) ⊎ In k js
@@ -122,44 +122,44 @@ KeyOf-append k (p ∷ ps) qs (inr h) =
     ⊎_elim (λ (w : KeyOf k ps). inl (inr w)) (λ (w : KeyOf k qs). inr w) (KeyOf-append k ps qs h)
 
 -- each group among the items lists the keys of its tree
-abbrev Lists : Member → Type 0
-Lists (string_member s) = Unit {0}
-Lists (group_member t ks) = (k : List ℕ) → is_key k t ≡ true → In k ks
+abbrev Lists : Term → Type 0
+Lists (string_term s) = Unit {0}
+Lists (group_term t ks) = (k : List ℕ) → is_key k t ≡ true → In k ks
 
 abbrev AllList : List Item → Type 0
 AllList [] = Unit {0}
-AllList (x ∷ xs) = Lists x.member × AllList xs
+AllList (x ∷ xs) = Lists x.term × AllList xs
 
-member_lists : (k : List ℕ) (m : Member) → Lists m → is_key k (member_tree m) ≡ true
-    → In k (member_keys m)
-member_lists k (string_member s) h e = absurd (false≢true e)
-member_lists k (group_member t ks) h e = h k e
+term_lists : (k : List ℕ) (m : Term) → Lists m → is_key k (term_tree m) ≡ true
+    → In k (term_keys m)
+term_lists k (string_term s) h e = absurd (false≢true e)
+term_lists k (group_term t ks) h e = h k e
 
-inner_lists : (k : List ℕ) (m : Member) → Lists m → is_key k (member_tree m) ≡ true
+inner_lists : (k : List ℕ) (m : Term) → Lists m → is_key k (term_tree m) ≡ true
     → In k (inner_keys m)
-inner_lists k (string_member s) h e = absurd (false≢true e)
-inner_lists k (group_member t ks) h e = h k e
+inner_lists k (string_term s) h e = absurd (false≢true e)
+inner_lists k (group_term t ks) h e = h k e
 
-key_listed : (k : List ℕ) (x y : Member) (f g : Bool) → is_entry x y f g ≡ true → k ≡ member_text y
-    → In k (member_keys y)
-key_listed k (group_member t ks) (string_member s) f g h e = inl e
-key_listed k (group_member t ks) (group_member u js) f g h e = absurd (false≢true h)
-key_listed k (string_member s) y f g h e = absurd (false≢true h)
+key_listed : (k : List ℕ) (x y : Term) (f g : Bool) → is_entry x y f g ≡ true → k ≡ term_text y
+    → In k (term_keys y)
+key_listed k (group_term t ks) (string_term s) f g h e = inl e
+key_listed k (group_term t ks) (group_term u js) f g h e = absurd (false≢true h)
+key_listed k (string_term s) y f g h e = absurd (false≢true h)
 
 first_entry : (a b : Bool) → and_then a b ≡ true → a ≡ true
 first_entry true b e = refl
 first_entry false b e = absurd (false≢true e)
 
--- an array's keys, from its members
+-- an array's keys, from its terms
 trees_listed : (k : List ℕ) (xs : List Item) → AllList xs
     → is_key_in k (trees_of (trees_in xs)) ≡ true → In k (array_keys xs)
 trees_listed k [] l e = absurd (false≢true e)
 trees_listed k (x ∷ xs) l e = ⊎_elim
     (λ (w : is_key_in k (trees_of (trees_in xs)) ≡ true). in_left k (array_keys xs) _
     (trees_listed k xs l.1 w))
-    (λ (w : is_key k (member_tree x.member) ≡ true). in_right k (array_keys xs) _
-    (inner_lists k x.member l.0 w))
-    (last_tree k (trees_in xs) (member_tree x.member) e)
+    (λ (w : is_key k (term_tree x.term) ≡ true). in_right k (array_keys xs) _
+    (inner_lists k x.term l.0 w))
+    (last_tree k (trees_in xs) (term_tree x.term) e)
   where
     last_tree : (k : List ℕ) (ts : List Tree) (t : Tree)
         → is_key_in k (trees_of (ts ++ t ∷ [])) ≡ true
@@ -181,14 +181,14 @@ rest_pairs true b e = e
 rest_pairs false b e = absurd (false≢true e)
 
 last_pair : (k : List ℕ) (x y : Item) (before : List (List ℕ))
-    → is_entry x.member y.member x.flag y.flag ≡ true → Lists x.member
-    → KeyOf k ((member_text y.member, member_tree x.member) ∷ [])
-    → In k ((before ++ member_keys y.member) ++ member_keys x.member)
+    → is_entry x.term y.term x.flag y.flag ≡ true → Lists x.term
+    → KeyOf k ((term_text y.term, term_tree x.term) ∷ [])
+    → In k ((before ++ term_keys y.term) ++ term_keys x.term)
 last_pair k x y before h l (inl (inl e)) =
-    in_left k _ (member_keys x.member)
-    (in_right k before _ (key_listed k x.member y.member x.flag y.flag h e))
+    in_left k _ (term_keys x.term)
+    (in_right k before _ (key_listed k x.term y.term x.flag y.flag h e))
 last_pair k x y before h l (inl (inr e)) =
-    in_right k _ (member_keys x.member) (member_lists k x.member l e)
+    in_right k _ (term_keys x.term) (term_lists k x.term l e)
 last_pair k x y before h l (inr e) = absurd e
 
 pairs_listed : (k : List ℕ) (xs : List Item) → is_pairs xs ≡ true → AllList xs
@@ -196,9 +196,9 @@ pairs_listed : (k : List ℕ) (xs : List Item) → is_pairs xs ≡ true → AllL
 pairs_listed k [] h l e = absurd e
 pairs_listed k (x ∷ []) h l e = absurd e
 pairs_listed k (x ∷ y ∷ xs) h l e = ⊎_elim
-    (λ (w : KeyOf k (pairs_in xs)). in_left k _ (member_keys x.member)
-    (in_left k _ (member_keys y.member) (pairs_listed k xs (rest_pairs _ _ h) (l.1).1 w)))
-    (λ (w : KeyOf k ((member_text y.member, member_tree x.member) ∷ [])). last_pair k x y
+    (λ (w : KeyOf k (pairs_in xs)). in_left k _ (term_keys x.term)
+    (in_left k _ (term_keys y.term) (pairs_listed k xs (rest_pairs _ _ h) (l.1).1 w)))
+    (λ (w : KeyOf k ((term_text y.term, term_tree x.term) ∷ [])). last_pair k x y
     (table_keys xs) (first_entry _ _ h) l.0 w)
     (KeyOf-append k (pairs_in xs) _ e)
 
@@ -218,16 +218,16 @@ if_listed : (k : List ℕ) (b : Bool) (xs : List Item) → (b ≡ true → is_pa
 if_listed k true xs h l e = table_listed k xs (h refl) l e
 if_listed k false xs h l e = array_listed k xs l e
 
-one_listed : (k : List ℕ) (m : Member) (f : Bool) (xs : List Item) → AllList xs
+one_listed : (k : List ℕ) (m : Term) (f : Bool) (xs : List Item) → AllList xs
     → is_key k (tree_in (shape_of_one m f) xs) ≡ true → In k (keys_in (shape_of_one m f) xs)
-one_listed k (string_member s) false xs l e = absurd (false≢true e)
-one_listed k (string_member s) true xs l e = array_listed k xs l e
-one_listed k (group_member t ks) f xs l e = array_listed k xs l e
+one_listed k (string_term s) false xs l e = absurd (false≢true e)
+one_listed k (string_term s) true xs l e = array_listed k xs l e
+one_listed k (group_term t ks) f xs l e = array_listed k xs l e
 
 shape_listed : (k : List ℕ) (xs : List Item) → AllList xs
     → is_key k (tree_in (shape_of xs) xs) ≡ true → In k (keys_in (shape_of xs) xs)
 shape_listed k [] l e = table_listed k [] refl l e
-shape_listed k (x ∷ []) l e = one_listed k x.member x.flag (x ∷ []) l e
+shape_listed k (x ∷ []) l e = one_listed k x.term x.flag (x ∷ []) l e
 shape_listed k (x ∷ y ∷ xs) l e = if_listed k (is_pairs (x ∷ y ∷ xs)) (x ∷ y ∷ xs) (λ w. w) l e
 
 leaf_listed : (text : List ℕ) (from to : ℕ) (kind : Kind) (t : Tree)

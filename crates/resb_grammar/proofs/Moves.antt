@@ -9,10 +9,10 @@ use Rattle.resb_grammar.specs.Bytes.{is_word, is_digit, is_number_start}
 use Rattle.resb_grammar.specs.Tokens.{Skip, Text, quoted, unquoted, Number, unsigned, plus, minus}
 use Rattle.resb_grammar.specs.Types.{RootType, table_type, no_fallback_type}
 use Rattle.resb_grammar.specs.Machine.{Token, Means, State, start, next, Move, begun, went, At}
-use Rattle.resb_grammar.specs.Inner.Lex.{Mode, neither, numbers, root_types, mode, Class}
-use Rattle.resb_grammar.specs.Inner.Lex.{text_class, number_class, open_class, close_class}
-use Rattle.resb_grammar.specs.Inner.Lex.{comma_class, type_class, root_type_class, no_class}
-use Rattle.resb_grammar.specs.Inner.Lex.{class_of, class_in, Lex}
+use Rattle.resb_grammar.proofs.Lex.{Mode, neither, numbers, root_types, mode, Class}
+use Rattle.resb_grammar.proofs.Lex.{text_class, number_class, open_class, close_class}
+use Rattle.resb_grammar.proofs.Lex.{comma_class, type_class, root_type_class, no_class}
+use Rattle.resb_grammar.proofs.Lex.{class_of, class_in, Lex}
 
 class_open : (m : Mode) (b : ℕ) → class_in m b ≡ open_class → b ≡ ascii.left_brace
 class_open neither b h = grind (arith, nat_tests)

@@ -7,7 +7,7 @@ use Rattle.resb_grammar.specs.Ascii as ascii
 use Rattle.resb_tree.specs.Tree.{Tree, binary, int_vector}
 use Rattle.resb_grammar.specs.Tokens.{Skip, Text, Number}
 use Rattle.resb_grammar.specs.Items as items
-use Rattle.resb_grammar.specs.Items.{Item, Member, flagged, is_pairs, a_table, tree_in, keys_in}
+use Rattle.resb_grammar.specs.Items.{Item, Term, flagged, is_pairs, a_table, tree_in, keys_in}
 use Rattle.resb_grammar.specs.Types.{Kind, string_kind, array_kind, table_kind, binary_kind}
 use Rattle.resb_grammar.specs.Types.{integer_kind, vector_kind, GroupType, Head, RootType}
 use Rattle.resb_grammar.specs.Group.{hex_bytes, Numbers, first_number, next_number, Vector, empty}
@@ -23,7 +23,7 @@ use Rattle.resb_grammar.specs.Machine.{Frame, Title, Open, VectorStage, at_start
 use Rattle.resb_grammar.specs.Machine.{after_number, after_comma, State, start, named, titled}
 use Rattle.resb_grammar.specs.Machine.{inside, typed, in_string, in_binary, in_integer, filled}
 use Rattle.resb_grammar.specs.Machine.{in_vector, finished, is_key_place, when, unless, leave}
-use Rattle.resb_grammar.specs.Machine.{closed, with_member, within, begun_as, next_in_vector}
+use Rattle.resb_grammar.specs.Machine.{closed, with_term, within, begun_as, next_in_vector}
 use Rattle.resb_grammar.specs.Machine.{in_body, next, Move, Step, Path, begun, went, At}
 use Rattle.resb_grammar.specs.Inner.Half.{half}
 use Rattle.resb_grammar.proofs.Half.{pairs-half, group-half}
@@ -111,7 +111,7 @@ module _ (text : List ℕ) where
   after_one from ends to e skip = subst (λ n. Skip text n to) e skip
 
   suits_group : (body : Body) (xs : List Item) (t : Tree) (ks : List (List ℕ)) → Suits body xs
-      → MayOpen body xs → Suits body (items.plain (items.group_member t ks) ∷ xs)
+      → MayOpen body xs → Suits body (items.plain (items.group_term t ks) ∷ xs)
   suits_group table_body xs t ks h may = group-half xs h may
   suits_group array_body xs t ks h may = tt
   suits_group untyped_body xs t ks h may = tt
@@ -121,7 +121,7 @@ module _ (text : List ℕ) where
       (around : List Frame) (t : Tree) (ks : List (List ℕ))
       → Spelled title from body xs around → MayOpen body xs → Group text from ends t ks
       → Skip text ends to
-      → Spelled title to body (items.plain (items.group_member t ks) ∷ xs) around
+      → Spelled title to body (items.plain (items.group_term t ks) ∷ xs) around
   add_group title from ends to body xs [] t ks (first, e, header, inner, h) may g skip = (
     first,
     e,
@@ -142,7 +142,7 @@ module _ (text : List ℕ) where
 
   suits_string : (body : Body) (xs : List Item) (s : List ℕ) → Suits body xs
       → (body ≡ table_body → is_key_place xs ≡ true)
-      → Suits body (items.plain (items.string_member s) ∷ xs)
+      → Suits body (items.plain (items.string_term s) ∷ xs)
   suits_string table_body xs s h k = pairs-half xs h (k refl)
   suits_string array_body xs s h k = tt
   suits_string untyped_body xs s h k = tt
@@ -152,7 +152,7 @@ module _ (text : List ℕ) where
       (around : List Frame) (s : List ℕ)
       → Spelled title from body xs around → (body ≡ table_body → is_key_place xs ≡ true)
       → Text text from ends s → Skip text ends to
-      → Spelled title to body (items.plain (items.string_member s) ∷ xs) around
+      → Spelled title to body (items.plain (items.string_term s) ∷ xs) around
   add_string title from ends to body xs [] s (first, e, header, inner, h) k w skip = (
     first,
     e,
@@ -217,7 +217,7 @@ module _ (text : List ℕ) where
       → GoodNext (machine.in_table (open_at title table_body xs around) t) to
   table_next title xs around from ends to (a_text s) good m skip =
       when_good (is_key_place xs)
-      (inside (open_at title table_body (items.plain (items.string_member s) ∷ xs) around)) to
+      (inside (open_at title table_body (items.plain (items.string_term s) ∷ xs) around)) to
       (λ k. add_string title from ends to table_body xs around s good (λ _. k) m skip)
   table_next title xs around from ends to closing good m skip =
       when_good (is_key_place xs) (leave title (record { body = table_body; items = xs }) around) to
@@ -243,7 +243,7 @@ module _ (text : List ℕ) where
   flag_suits array_body xs h = tt
   flag_suits untyped_body xs h = tt
 
-  add_comma : (title : Title) (body : Body) (m : Member) (xs : List Item) (around : List Frame)
+  add_comma : (title : Title) (body : Body) (m : Term) (xs : List Item) (around : List Frame)
       (from to : ℕ)
       → (body ≡ table_body → ⊥) → Spelled title from body (items.plain m ∷ xs) around
       → slice_index text from ≡ ascii.comma → Skip text (from + 1) to
@@ -260,10 +260,10 @@ module _ (text : List ℕ) where
         flag_suits body (flagged m ∷ xs) other,
       )
 
-  comma_good : (title : Title) (body : Body) (m : Member) (f : Bool) (xs : List Item)
+  comma_good : (title : Title) (body : Body) (m : Term) (f : Bool) (xs : List Item)
       (around : List Frame) (from to : ℕ)
       → (body ≡ table_body → ⊥)
-      → Spelled title from body (record { member = m; flag = f } ∷ xs) around
+      → Spelled title from body (record { term = m; flag = f } ∷ xs) around
       → slice_index text from ≡ ascii.comma → Skip text (from + 1) to
       → GoodNext (unless f (inside (open_at title body (flagged m ∷ xs) around))) to
   comma_good title body m true xs around from to other good b skip = tt
@@ -295,7 +295,7 @@ module _ (text : List ℕ) where
       (from, ends, good, list_may body xs other, m, skip)
   list_next title body [] around from ends to a_comma other good m skip = tt
   list_next title body (x ∷ xs) around from ends to a_comma other good m skip =
-      comma_good title body x.member x.flag xs around from to other good m.0
+      comma_good title body x.term x.flag xs around from to other good m.0
       (after_one from ends to m.1 skip)
   list_next title body xs around from ends to (a_number v) other good m skip = tt
   list_next title body xs around from ends to (a_root_type fallback) other good m skip = tt
@@ -360,7 +360,7 @@ module _ (text : List ℕ) where
   -- a group without items is closed
   leaf_closed : (kind : Kind) (t : Tree) (o : Open) (first at end to : ℕ) → Began kind o first
       → LeafContent text first at kind t → slice_index text at ≡ ascii.right_brace → end ≡ at + 1
-      → Skip text end to → IsOpen (with_member (items.group_member t []) o) to
+      → Skip text end to → IsOpen (with_term (items.group_term t []) o) to
   leaf_closed kind t o first at end to (from, below, may, head) content b e skip =
       add_group o.title from end to o.frame.body o.frame.items o.around t [] below may (subst
       (λ n. Group text from n t []) (sym e)
@@ -375,7 +375,7 @@ module _ (text : List ℕ) where
 
   vector_closed : (o : Open) (ns : List ℕ) (first at end to : ℕ) → Began vector_kind o first
       → Vector text first at ns → slice_index text at ≡ ascii.right_brace → end ≡ at + 1
-      → Skip text end to → IsOpen (with_member (items.group_member (int_vector ns) []) o) to
+      → Skip text end to → IsOpen (with_term (items.group_term (int_vector ns) []) o) to
   vector_closed o ns first at end to began v b e skip =
       leaf_closed vector_kind (int_vector ns) o first at end to began (vector_content ns v) b e skip
 

@@ -16,9 +16,9 @@ use Rattle.resb_grammar.specs.Types.{integer_kind, vector_kind, Names, TypeName,
 use Rattle.resb_grammar.specs.Types.{NoFallback, RootType, table_type, no_fallback_type}
 use Rattle.resb_grammar.specs.Machine.{Token, a_text, a_number, a_type, a_root_type, State, next}
 use Rattle.resb_grammar.specs.Machine.{Move, Step, Path, begun, went}
-use Rattle.resb_grammar.specs.Inner.Lex.{Class, text_class, number_class, open_class, close_class}
-use Rattle.resb_grammar.specs.Inner.Lex.{comma_class, type_class, root_type_class, no_class}
-use Rattle.resb_grammar.specs.Inner.Lex.{class_in, Lex, mode}
+use Rattle.resb_grammar.proofs.Lex.{Class, text_class, number_class, open_class, close_class}
+use Rattle.resb_grammar.proofs.Lex.{comma_class, type_class, root_type_class, no_class}
+use Rattle.resb_grammar.proofs.Lex.{class_in, Lex, mode}
 use Rattle.resb_grammar.specs.Stuck.{NoToken}
 use Rattle.resb_grammar.proofs.LexLemmas.{lex_of}
 use Rattle.resb_grammar.proofs.BytesLemmas.{Run-one}

@@ -5,7 +5,7 @@ use Rattle.std.specs.Option.{option_map}
 use Rattle.resb_grammar.specs.Ascii as ascii
 use Rattle.resb_tree.specs.Tree.{Tree, string, binary, integer, int_vector}
 use Rattle.resb_grammar.specs.Tokens.{Skip, Text, Number}
-use Rattle.resb_grammar.specs.Items.{Member, string_member, group_member, Item, plain, flagged}
+use Rattle.resb_grammar.specs.Items.{Term, string_term, group_term, Item, plain, flagged}
 use Rattle.resb_grammar.specs.Items.{is_pairs, a_table, an_array, shape_of, tree_in, keys_in}
 use Rattle.resb_grammar.specs.Types.{Kind, string_kind, array_kind, table_kind, binary_kind}
 use Rattle.resb_grammar.specs.Types.{integer_kind, vector_kind, Head}
@@ -71,11 +71,11 @@ mutual
   pub data Items (text : List ℕ) : ℕ → ℕ → List Item → Type 0 where
     nothing : (at : ℕ) → Items text at at []
     string_item : (from i j to : ℕ) (xs : List Item) (s : List ℕ) → Items text from i xs
-        → Text text i j s → Skip text j to → Items text from to (plain (string_member s) ∷ xs)
+        → Text text i j s → Skip text j to → Items text from to (plain (string_term s) ∷ xs)
     group_item : (from i j to : ℕ) (xs : List Item) (t : Tree) (ks : List (List ℕ))
         → Items text from i xs → Group text i j t ks → Skip text j to
-        → Items text from to (plain (group_member t ks) ∷ xs)
-    comma : (from i to : ℕ) (xs : List Item) (m : Member) → Items text from i (plain m ∷ xs)
+        → Items text from to (plain (group_term t ks) ∷ xs)
+    comma : (from i to : ℕ) (xs : List Item) (m : Term) → Items text from i (plain m ∷ xs)
         → slice_index text i ≡ ascii.comma → Skip text (i + 1) to
         → Items text from to (flagged m ∷ xs)
 

@@ -1,3 +1,2 @@
--- Words that only proofs use.
-pub mod Lex
+-- Words of private functions of the text reader.
 pub mod Half

@@ -3,7 +3,7 @@ use Rattle.std.specs.Prelude.{ℕ, ◌%◌, ◌^◌, Bool, true, false, List, []
 use Rattle.std.specs.Prelude.{None}
 use Rattle.std.specs.Option.{option_map}
 use Rattle.resb_tree.specs.Tree.{Tree, string, binary, integer, int_vector}
-use Rattle.resb_grammar.specs.Items.{Member, string_member, group_member, Item, plain, flagged}
+use Rattle.resb_grammar.specs.Items.{Term, string_term, group_term, Item, plain, flagged}
 use Rattle.resb_grammar.specs.Items.{Shape, a_table, an_array, shape_of, tree_in, keys_in}
 use Rattle.resb_grammar.specs.Types.{Kind, string_kind, array_kind, table_kind, binary_kind}
 use Rattle.resb_grammar.specs.Types.{integer_kind, vector_kind}
@@ -21,19 +21,19 @@ shape_in table_body items = a_table
 shape_in array_body items = an_array
 shape_in untyped_body items = shape_of items
 
--- a closed group as a member of the group around it
-abbrev pub closed : Frame → Member
+-- a closed group as a term of the group around it
+abbrev pub closed : Frame → Term
 closed f =
-    group_member (tree_in (shape_in f.body f.items) f.items)
+    group_term (tree_in (shape_in f.body f.items) f.items)
     (keys_in (shape_in f.body f.items) f.items)
 
 -- one item more, without a comma
-abbrev pub with_item : Member → Frame → Frame
+abbrev pub with_item : Term → Frame → Frame
 with_item m f = record { body = f.body; items = plain m ∷ f.items }
 
 -- one item more in the innermost group
-abbrev pub with_member : Member → Open → Open
-with_member m o = record { title = o.title; frame = with_item m o.frame; around = o.around }
+abbrev pub with_term : Term → Open → Open
+with_term m o = record { title = o.title; frame = with_item m o.frame; around = o.around }
 
 -- a group without items yet
 abbrev pub new_frame : Body → Frame
@@ -53,14 +53,14 @@ leave title frame [] = finished title frame.items
 leave title frame (outer ∷ around) =
     inside (record { title = title; frame = with_item (closed frame) outer; around = around })
 
-abbrev pub is_group : Member → Bool
-is_group (string_member s) = false
-is_group (group_member t ks) = true
+abbrev pub is_group : Term → Bool
+is_group (string_term s) = false
+is_group (group_term t ks) = true
 
 -- whether a key may stand after these items of a table body
 abbrev pub is_key_place : List Item → Bool
 is_key_place [] = true
-is_key_place (x ∷ xs) = is_group x.member
+is_key_place (x ∷ xs) = is_group x.term
 
 abbrev pub when : Bool → State → Option State
 when true s = Some s
@@ -76,13 +76,13 @@ with_comma o [] = None
 with_comma o (x ∷ xs) =
     unless x.flag (inside (record {
       title = o.title;
-      frame = record { body = o.frame.body; items = flagged x.member ∷ xs };
+      frame = record { body = o.frame.body; items = flagged x.term ∷ xs };
       around = o.around;
     }))
 
 -- in a table body: a key or `}`, and after a key a type or `{`
 abbrev pub in_table : Open → Token → Option State
-in_table o (a_text s) = when (is_key_place o.frame.items) (inside (with_member (string_member s) o))
+in_table o (a_text s) = when (is_key_place o.frame.items) (inside (with_term (string_term s) o))
 in_table o closing = when (is_key_place o.frame.items) (leave o.title o.frame o.around)
 in_table o opening = unless (is_key_place o.frame.items) (inside (within untyped_body o))
 in_table o (a_type kind) = unless (is_key_place o.frame.items) (typed kind o)
@@ -92,7 +92,7 @@ in_table o (a_root_type fallback) = None
 
 -- in an array's body or an untyped group: any item, `}`, and one comma after an item
 abbrev pub in_list : Open → Token → Option State
-in_list o (a_text s) = Some (inside (with_member (string_member s) o))
+in_list o (a_text s) = Some (inside (with_term (string_term s) o))
 in_list o closing = Some (leave o.title o.frame o.around)
 in_list o opening = Some (inside (within untyped_body o))
 in_list o (a_type kind) = Some (typed kind o)
@@ -116,7 +116,7 @@ begun_as vector_kind o = in_vector at_start [] o
 
 -- a group without keys is closed
 abbrev pub with_leaf : Tree → Open → State
-with_leaf t o = inside (with_member (group_member t []) o)
+with_leaf t o = inside (with_term (group_term t []) o)
 
 -- in `:intvector{..}`, with the numbers so far
 abbrev pub next_in_vector : VectorStage → List ℕ → Open → Token → Option State

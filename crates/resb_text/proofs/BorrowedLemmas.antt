@@ -16,7 +16,7 @@ use Rattle.resb_text.specs.declared.error.TextParserError.{TextParserError}
 use Rattle.resb_text.specs.declared.frames.Frame.{Frame}
 use Rattle.resb_text.specs.Borrowed.{all_true, is_borrowed}
 use Rattle.resb_text.specs.Inner.Shown.{Shown, shown, shows, shown_borrowed, entries_borrowed}
-use Rattle.resb_text.specs.Inner.Shown.{member_shown}
+use Rattle.resb_text.specs.Inner.Shown.{term_shown}
 
 pub borrowed_table : (m : BTreeMap (List ℕ) Resource)
     → is_borrowed (Table m) ≡ entries_borrowed m.entries
@@ -57,9 +57,9 @@ insert_borrowed (e ∷ es) k v h all =
     (both _ _ h (second _ _ all))
     (both _ _ (first _ _ all) (insert_borrowed es k v h (second _ _ all)))
 
-member_borrowed : (m : spec.Member) (f : Bool) → shown_borrowed (member_shown m f) ≡ true
-member_borrowed (spec.string_member s) f = refl
-member_borrowed (spec.group_member t ks) f = refl
+term_borrowed : (m : spec.Term) (f : Bool) → shown_borrowed (term_shown m f) ≡ true
+term_borrowed (spec.string_term s) f = refl
+term_borrowed (spec.group_term t ks) f = refl
 
 map_snoc : (xs : List Shown) (x : Shown)
     → map shown_borrowed (xs ++ x ∷ []) ≡ map shown_borrowed xs ++ shown_borrowed x ∷ []
@@ -70,9 +70,9 @@ map_snoc (y ∷ xs) x = ap (λ bs. shown_borrowed y ∷ bs) (map_snoc xs x)
 pub shows_borrowed : (xs : List spec.Item) → all_true (map shown_borrowed (shows xs)) ≡ true
 shows_borrowed [] = refl
 shows_borrowed (x ∷ xs) =
-    ap all_true (map_snoc (shows xs) (member_shown x.member x.flag))
-    ∙ all_snoc (map shown_borrowed (shows xs)) (shown_borrowed (member_shown x.member x.flag))
-    (shows_borrowed xs) (member_borrowed x.member x.flag)
+    ap all_true (map_snoc (shows xs) (term_shown x.term x.flag))
+    ∙ all_snoc (map shown_borrowed (shows xs)) (shown_borrowed (term_shown x.term x.flag))
+    (shows_borrowed xs) (term_borrowed x.term x.flag)
 
 -- what an open group of the code holds is borrowed
 pub items_borrowed : (f : Frame) (n : ℕ) (g : machine.Frame) → looks f ≡ look_of (layer n g)

@@ -4,7 +4,7 @@ use Rattle.std.proofs.Common.{refl, sym, ◌∙◌, ap, subst, arith, append_ass
 use Rattle.std.proofs.lemmas.Bool.{false≢true}
 use Rattle.std.proofs.lemmas.List.{map-append}
 use Rattle.resb_tree.specs.Tree.{Tree}
-use Rattle.resb_grammar.specs.Items.{Member, string_member, group_member, Item, plain, flagged}
+use Rattle.resb_grammar.specs.Items.{Term, string_term, group_term, Item, plain, flagged}
 use Rattle.resb_grammar.specs.Items.{Shape, a_string, a_table, an_array, shape_of, tree_in, keys_in}
 use Rattle.resb_grammar.specs.Items.{table_keys, array_keys, table_if, is_pairs}
 use Rattle.resb_grammar.specs.Machine.{Body, table_body, array_body, untyped_body, Frame, with_item}
@@ -24,14 +24,14 @@ abbrev pub cand : List ℕ → ℕ → Numbered
 cand s n = record { text = s; group = n }
 
 frame_string : (b : Body) → lists b ≡ true → (xs : List Item) (s : List ℕ)
-    → frame_keys b (plain (string_member s) ∷ xs) ≡ frame_keys b xs ++ s ∷ []
+    → frame_keys b (plain (string_term s) ∷ xs) ≡ frame_keys b xs ++ s ∷ []
 frame_string table_body h xs s = refl
 frame_string untyped_body h xs s = refl
 frame_string array_body h xs s = absurd (false≢true h)
 
 from_string : (n : ℕ) (f : Frame) (s : List ℕ) (own : List Numbered) → lists f.body ≡ true
     → IsFrom (layer n f) own
-    → IsFrom (layer n (with_item (string_member s) f)) (own ++ cand s n ∷ [])
+    → IsFrom (layer n (with_item (string_term s) f)) (own ++ cand s n ∷ [])
 from_string n f s own h x = record {
   whole =
       texts_snoc own (cand s n) ∙ ap (λ ks. ks ++ s ∷ []) x.whole
@@ -49,28 +49,28 @@ from_string n f s own h x = record {
 -- a string in a table's or an untyped group's body
 pub holds_string : (n : ℕ) (f : Frame) (gs : List Layer) (s : List ℕ) (cs : List Numbered)
     → lists f.body ≡ true → Holds (layer n f ∷ gs) cs
-    → Holds (layer n (with_item (string_member s) f) ∷ gs) (cs ++ cand s n ∷ [])
+    → Holds (layer n (with_item (string_term s) f) ∷ gs) (cs ++ cand s n ∷ [])
 holds_string n f gs s cs h (one_more _ _ before own _ outer apart x e) =
-    one_more (layer n (with_item (string_member s) f)) gs before (own ++ cand s n ∷ [])
+    one_more (layer n (with_item (string_term s) f)) gs before (own ++ cand s n ∷ [])
     (cs ++ cand s n ∷ []) outer apart (from_string n f s own h x)
     (ap (λ ds. ds ++ cand s n ∷ []) e ∙ append_assoc before own (cand s n ∷ []))
 
 -- a string in an array's body
 pub holds_item : (n : ℕ) (f : Frame) (gs : List Layer) (s : List ℕ) (cs : List Numbered)
     → f.body ≡ array_body → Holds (layer n f ∷ gs) cs
-    → Holds (layer n (with_item (string_member s) f) ∷ gs) cs
+    → Holds (layer n (with_item (string_term s) f) ∷ gs) cs
 holds_item n f gs s cs h (one_more _ _ before own _ outer apart x e) =
-    one_more (layer n (with_item (string_member s) f)) gs before own cs outer apart
+    one_more (layer n (with_item (string_term s) f)) gs before own cs outer apart
     (record {
       whole =
           x.whole ∙ ap (λ b. frame_keys b f.items) h ∙ sym (append_nil (array_keys f.items))
-          ∙ sym (ap (λ b. frame_keys b (plain (string_member s) ∷ f.items)) h);
+          ∙ sym (ap (λ b. frame_keys b (plain (string_term s) ∷ f.items)) h);
       rest = x.rest ∙ sym (append_nil (array_keys f.items));
       later = x.later;
     }) e
 
 frame_group : (b : Body) (xs : List Item) (t : Tree) (ks : List (List ℕ))
-    → frame_keys b (plain (group_member t ks) ∷ xs) ≡ frame_keys b xs ++ ks
+    → frame_keys b (plain (group_term t ks) ∷ xs) ≡ frame_keys b xs ++ ks
 frame_group table_body xs t ks = refl
 frame_group untyped_body xs t ks = refl
 frame_group array_body xs t ks = refl
@@ -79,9 +79,9 @@ frame_group array_body xs t ks = refl
 pub holds_group : (n m : ℕ) (f : Frame) (gs : List Layer) (t : Tree) (ks : List (List ℕ))
     (cs own : List Numbered)
     → Holds (layer n f ∷ gs) cs → n < m → ((h : ℕ) → h < m → without h own ≡ own) → texts own ≡ ks
-    → Holds (layer n (with_item (group_member t ks) f) ∷ gs) (cs ++ own)
+    → Holds (layer n (with_item (group_term t ks) f) ∷ gs) (cs ++ own)
 holds_group n m f gs t ks cs own (one_more _ _ before mine _ outer apart x e) lt later is =
-    one_more (layer n (with_item (group_member t ks) f)) gs before (mine ++ own)
+    one_more (layer n (with_item (group_term t ks) f)) gs before (mine ++ own)
     (cs ++ own) outer apart
     (record {
       whole =
@@ -99,9 +99,9 @@ holds_group n m f gs t ks cs own (one_more _ _ before mine _ outer apart x e) lt
 
 -- a group without keys
 pub holds_leaf : (n : ℕ) (f : Frame) (gs : List Layer) (t : Tree) (cs : List Numbered)
-    → Holds (layer n f ∷ gs) cs → Holds (layer n (with_item (group_member t []) f) ∷ gs) cs
+    → Holds (layer n f ∷ gs) cs → Holds (layer n (with_item (group_term t []) f) ∷ gs) cs
 holds_leaf n f gs t cs x =
-    subst (λ (ds : List Numbered). Holds (layer n (with_item (group_member t []) f) ∷ gs) ds)
+    subst (λ (ds : List Numbered). Holds (layer n (with_item (group_term t []) f) ∷ gs) ds)
     (append_nil cs) (holds_group n (n + 1) f gs t [] cs [] x (omega arith) (λ h l. refl) refl)
 
 frame_new : (b : Body) → frame_keys b [] ≡ []
@@ -118,13 +118,13 @@ holds_new n b gs cs x apart =
 
 one_string : (xs : List Item) (s : List ℕ) → shape_of xs ≡ a_string s → array_keys xs ≡ []
 one_string [] s e = cc
-one_string (x ∷ []) s e = go x.member x.flag e
+one_string (x ∷ []) s e = go x.term x.flag e
   where
-    go : (m : Member) (f : Bool) → shape_of (record { member = m; flag = f } ∷ []) ≡ a_string s
-        → array_keys (record { member = m; flag = f } ∷ []) ≡ []
-    go (string_member w) false e = refl
-    go (string_member w) true e = cc
-    go (group_member t ks) f e = cc
+    go : (m : Term) (f : Bool) → shape_of (record { term = m; flag = f } ∷ []) ≡ a_string s
+        → array_keys (record { term = m; flag = f } ∷ []) ≡ []
+    go (string_term w) false e = refl
+    go (string_term w) true e = cc
+    go (group_term t ks) f e = cc
 one_string (x ∷ y ∷ xs) s e = no (is_pairs (x ∷ y ∷ xs)) e
   where
     no : (b : Bool) → table_if b ≡ a_string s → array_keys (x ∷ y ∷ xs) ≡ []
@@ -175,18 +175,18 @@ pub holds_root : (n : ℕ) (f : Frame) (cs : List Numbered) → f.body ≡ table
 holds_root n f cs b (one_more _ _ _ own _ none apart x e) =
     ap texts e ∙ x.whole ∙ ap (λ k. frame_keys k f.items) b
 
-frame_flag : (b : Body) (m : Member) (f : Bool) (ys : List Item)
-    → frame_keys b (record { member = m; flag = f } ∷ ys) ≡ frame_keys b (flagged m ∷ ys)
+frame_flag : (b : Body) (m : Term) (f : Bool) (ys : List Item)
+    → frame_keys b (record { term = m; flag = f } ∷ ys) ≡ frame_keys b (flagged m ∷ ys)
 frame_flag table_body m f ys = refl
 frame_flag array_body m f ys = refl
 frame_flag untyped_body m f ys = refl
 
-abbrev pub flagged_frame : Frame → Member → List Item → Frame
+abbrev pub flagged_frame : Frame → Term → List Item → Frame
 flagged_frame f m ys = record { body = f.body; items = flagged m ∷ ys }
 
-pub holds_flag : (n : ℕ) (f : Frame) (gs : List Layer) (cs : List Numbered) (m : Member) (k : Bool)
+pub holds_flag : (n : ℕ) (f : Frame) (gs : List Layer) (cs : List Numbered) (m : Term) (k : Bool)
     (ys : List Item)
-    → f.items ≡ record { member = m; flag = k } ∷ ys → Holds (layer n f ∷ gs) cs
+    → f.items ≡ record { term = m; flag = k } ∷ ys → Holds (layer n f ∷ gs) cs
     → Holds (layer n (flagged_frame f m ys) ∷ gs) cs
 holds_flag n f gs cs m k ys i (one_more _ _ before own _ outer apart x e) =
     one_more (layer n (flagged_frame f m ys)) gs before own cs outer apart

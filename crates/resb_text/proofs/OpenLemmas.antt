@@ -6,20 +6,20 @@ use Rattle.std.proofs.lemmas.Bool.{false≢true}
 use Rattle.std.proofs.lemmas.List.{map-append}
 use Rattle.std.proofs.Common.{get_or, ◌-◌, length-append}
 use Rattle.resb_text.specs.declared.frames.Body as bodies
-use Rattle.resb_text.specs.declared.items.Member.{Member as CodeMember}
+use Rattle.resb_text.specs.declared.items.Term.{Term as CodeTerm}
 use Rattle.std.specs.Prelude.{slice_set, Some}
-use Rattle.resb_text.specs.Inner.Shown.{shown_member}
+use Rattle.resb_text.specs.Inner.Shown.{shown_term}
 use Rattle.resb_text.specs.Inner.Frames.{TakesComma}
 use Rattle.resb_tree.specs.Tree.{Tree, table, map_of}
-use Rattle.resb_grammar.specs.Items.{Member, string_member, group_member, Item, flagged}
+use Rattle.resb_grammar.specs.Items.{Term, string_term, group_term, Item, flagged}
 use Rattle.resb_grammar.specs.Items.{a_table, tree_in, keys_in}
 use Rattle.resb_grammar.specs.Items.{table_keys, is_pairs}
 use Rattle.resb_grammar.specs.Machine.{Body, table_body, array_body, untyped_body, Frame, with_item}
 use Rattle.resb_grammar.specs.Machine.{new_frame, shape_in, closed}
 use Rattle.resb_text.specs.Inner.Shown.{shown_pairs, shown, string_shown, group_shown, shows}
-use Rattle.resb_text.specs.Inner.Shown.{member_shown}
+use Rattle.resb_text.specs.Inner.Shown.{term_shown}
 use Rattle.resb_grammar.specs.Machine as machine
-use Rattle.resb_grammar.specs.Machine.{with_member}
+use Rattle.resb_grammar.specs.Machine.{with_term}
 use Rattle.resb_text.specs.Inner.Discovered.{Numbered, without, texts, left, groups, is_dropped_in}
 use Rattle.resb_text.specs.declared.discovered.Keys.{Keys}
 use Rattle.resb_text.specs.declared.items.Item as code
@@ -37,7 +37,7 @@ use Rattle.resb_text.proofs.HoldsLemmas.{after_keeps, holds_closed, holds_root, 
 use Rattle.resb_text.proofs.HoldsLemmas.{holds_flag}
 use Rattle.resb_text.proofs.FrameLemmas.{same_look, Pushes, whole, tree_same, last_shown, flag_of}
 use Rattle.resb_text.proofs.FrameLemmas.{flag_code, flag_item, with_flag, with_code}
-use Rattle.resb_text.proofs.FrameLemmas.{with_member_flag, map_set_shown, set_last, shown_len}
+use Rattle.resb_text.proofs.FrameLemmas.{with_term_flag, map_set_shown, set_last, shown_len}
 
 pub open_same : (k l : Keys) (limit : ℕ) (gs : List Layer)
     → ((g : ℕ) → is_dropped_in l g ≡ is_dropped_in k g) → AreOpen k limit gs → AreOpen l limit gs
@@ -45,14 +45,14 @@ open_same k l limit [] e x = tt
 open_same k l limit (g ∷ gs) e x = (x.0, e g.number ∙ x.1, open_same k l g.number gs e x.2)
 
 -- one item more
-pub shows_member : (c d : opens.Open) (o : machine.Open) (m : Member) (member : CodeMember)
-    → (x : Shows c o) → shown_member member false ≡ member_shown m false
-    → Pushes c.frame d.frame member → d.around.items ≡ c.around.items
+pub shows_term : (c d : opens.Open) (o : machine.Open) (m : Term) (term : CodeTerm)
+    → (x : Shows c o) → shown_term term false ≡ term_shown m false
+    → Pushes c.frame d.frame term → d.around.items ≡ c.around.items
     → Holds (layer x.number (with_item m o.frame) ∷ x.around) (left d.keys)
     → ((h : ℕ) → groups d.keys ≤ h → without h (left d.keys) ≡ left d.keys)
     → groups d.keys ≡ groups c.keys → ((g : ℕ) → is_dropped_in d.keys g ≡ is_dropped_in c.keys g)
-    → Shows d (with_member m o)
-shows_member c d o m member x is push a holds within gs ds = record {
+    → Shows d (with_term m o)
+shows_term c d o m term x is push a holds within gs ds = record {
   number = x.number;
   around = x.around;
   frame = push x.number o.frame m x.frame is;
@@ -71,22 +71,22 @@ dropped_same : (k l : Keys) → l.is_dropped ≡ k.is_dropped → (g : ℕ)
     → is_dropped_in l g ≡ is_dropped_in k g
 dropped_same k l e g = ap (λ ds. slice_index_or ds.items g false) e
 
-pub shows_string : (c d : opens.Open) (o : machine.Open) (member : CodeMember) (s : List ℕ)
-    → (x : Shows c o) → shown_member member false ≡ string_shown s false
-    → Pushes c.frame d.frame member → d.around.items ≡ c.around.items
+pub shows_string : (c d : opens.Open) (o : machine.Open) (term : CodeTerm) (s : List ℕ)
+    → (x : Shows c o) → shown_term term false ≡ string_shown s false
+    → Pushes c.frame d.frame term → d.around.items ≡ c.around.items
     → lists (body_of c.frame.body) ≡ true → left d.keys ≡ left c.keys ++ cand s c.frame.number ∷ []
-    → d.keys.is_dropped ≡ c.keys.is_dropped → Shows d (with_member (string_member s) o)
-shows_string c d o member s x is push a ls e ds =
+    → d.keys.is_dropped ≡ c.keys.is_dropped → Shows d (with_term (string_term s) o)
+shows_string c d o term s x is push a ls e ds =
     let number : c.frame.number ≡ x.number = ap (λ (l : Look). l.number) x.frame in
     let lists_keys : lists o.frame.body ≡ true = ap lists (sym (ap (λ (l : Look). l.body) x.frame))
     ∙ ls in
     let now : left d.keys ≡ left c.keys ++ cand s x.number ∷ [] = e
     ∙ ap (λ k. left c.keys ++ cand s k ∷ []) number in
     let same : groups d.keys ≡ groups c.keys = ap (λ v. length v.items) ds in
-    shows_member c d o (string_member s) member x is push a
+    shows_term c d o (string_term s) term x is push a
     (subst
     (λ (cs : List Numbered). Holds
-    (layer x.number (with_item (string_member s) o.frame) ∷ x.around) cs)
+    (layer x.number (with_item (string_term s) o.frame) ∷ x.around) cs)
     (sym now) (holds_string x.number o.frame x.around s (left c.keys) lists_keys x.holds))
     (λ h le. ap (without h) now ∙ without-append h (left c.keys) (cand s x.number ∷ [])
     ∙ ap (λ cs. cs ++ without h (cand s x.number ∷ []))
@@ -96,14 +96,14 @@ shows_string c d o member s x is push a ls e ds =
     ∙ sym now)
     same (dropped_same c.keys d.keys ds)
 
-pub shows_item : (c d : opens.Open) (o : machine.Open) (member : CodeMember) (s : List ℕ)
-    → (x : Shows c o) → shown_member member false ≡ string_shown s false
-    → Pushes c.frame d.frame member → d.around.items ≡ c.around.items
+pub shows_item : (c d : opens.Open) (o : machine.Open) (term : CodeTerm) (s : List ℕ)
+    → (x : Shows c o) → shown_term term false ≡ string_shown s false
+    → Pushes c.frame d.frame term → d.around.items ≡ c.around.items
     → lists (body_of c.frame.body) ≡ false → d.keys ≡ c.keys
-    → Shows d (with_member (string_member s) o)
-shows_item c d o member s x is push a ls e =
-    shows_member c d o (string_member s) member x is push a
-    (subst (λ (k : Keys). Holds (layer x.number (with_item (string_member s) o.frame) ∷ x.around)
+    → Shows d (with_term (string_term s) o)
+shows_item c d o term s x is push a ls e =
+    shows_term c d o (string_term s) term x is push a
+    (subst (λ (k : Keys). Holds (layer x.number (with_item (string_term s) o.frame) ∷ x.around)
     (left k)) (sym e)
     (holds_item x.number o.frame x.around s (left c.keys) (array_alone o.frame.body
     (ap lists (sym (ap (λ (l : Look). l.body) x.frame)) ∙ ls)) x.holds))
@@ -116,13 +116,13 @@ shows_item c d o member s x is push a ls e =
     array_alone untyped_body h = absurd (false≢true (sym h))
 
 -- a group without keys
-pub shows_leaf : (c d : opens.Open) (o : machine.Open) (member : CodeMember) (t : Tree)
-    → (x : Shows c o) → shown_member member false ≡ group_shown t true false
-    → Pushes c.frame d.frame member → d.around.items ≡ c.around.items → d.keys ≡ c.keys
-    → Shows d (with_member (group_member t []) o)
-shows_leaf c d o member t x is push a e =
-    shows_member c d o (group_member t []) member x is push a
-    (subst (λ (k : Keys). Holds (layer x.number (with_item (group_member t []) o.frame) ∷ x.around)
+pub shows_leaf : (c d : opens.Open) (o : machine.Open) (term : CodeTerm) (t : Tree)
+    → (x : Shows c o) → shown_term term false ≡ group_shown t true false
+    → Pushes c.frame d.frame term → d.around.items ≡ c.around.items → d.keys ≡ c.keys
+    → Shows d (with_term (group_term t []) o)
+shows_leaf c d o term t x is push a e =
+    shows_term c d o (group_term t []) term x is push a
+    (subst (λ (k : Keys). Holds (layer x.number (with_item (group_term t []) o.frame) ∷ x.around)
     (left k)) (sym e) (holds_leaf x.number o.frame x.around t (left c.keys) x.holds))
     (subst (λ (k : Keys). (h : ℕ) → groups k ≤ h → without h (left k) ≡ left k) (sym e) x.within)
     (ap groups e) (λ g. ap (λ k. is_dropped_in k g) e)
@@ -188,11 +188,11 @@ snoc_same (a ∷ xs) (b ∷ ys) x y e =
     (ap (λ z. z ∷ xs) p ∙ ap (λ zs. b ∷ zs) r.0, r.1)
 
 -- the innermost group is closed
-pub shows_close : (c d : opens.Open) (o : machine.Open) (outer : frames.Frame) (member : CodeMember)
+pub shows_close : (c d : opens.Open) (o : machine.Open) (outer : frames.Frame) (term : CodeTerm)
     (t : Tree)
     → (x : Shows c o) → IsTableWhole o.frame
-    → c.around.items ≡ d.around.items ++ outer ∷ [] → Pushes outer d.frame member
-    → shown_member member false ≡ group_shown t true false
+    → c.around.items ≡ d.around.items ++ outer ∷ [] → Pushes outer d.frame term
+    → shown_term term false ≡ group_shown t true false
     → ((n : ℕ) (f : Frame) → looks c.frame ≡ look_of (layer n f)
     → t ≡ tree_shown_in (shape_in f.body f.items) (map shown c.frame.items.items))
     → ((n : ℕ) (f : Frame) → looks c.frame ≡ look_of (layer n f)
@@ -200,7 +200,7 @@ pub shows_close : (c d : opens.Open) (o : machine.Open) (outer : frames.Frame) (
     → groups d.keys ≡ groups c.keys
     → ((g : ℕ) → g ≢ c.frame.number → is_dropped_in d.keys g ≡ is_dropped_in c.keys g)
     → ClosesTo d o o.around
-shows_close c d o outer member t x whole a push is tree l g ds =
+shows_close c d o outer term t x whole a push is tree l g ds =
     subst (λ (fs : List Frame). ClosesTo d o fs) x.frames (go x.around x.outer x.holds x.are_open)
   where
     number_same : c.frame.number ≡ x.number
@@ -274,16 +274,16 @@ root_keys c o x e b = go x.around (x.frames ∙ e) x.holds
     go [] h holds = holds_root x.number o.frame (left c.keys) b holds
     go (g ∷ gs) h holds = cc
 
-not_alternating : (m : Member) (xs : List Item) → half (flagged m ∷ xs) ≡ false
-not_alternating (string_member s) xs = refl
-not_alternating (group_member t ks) xs = refl
+not_alternating : (m : Term) (xs : List Item) → half (flagged m ∷ xs) ≡ false
+not_alternating (string_term s) xs = refl
+not_alternating (group_term t ks) xs = refl
 
 pub shows_comma : (c d : opens.Open) (o : machine.Open) (x y : code.Item) (k : ℕ) → (s : Shows c o)
     → 0 < length c.frame.items.items → k ≡ length c.frame.items.items - 1
     → x ≡ get_or c.frame.items.items k x → x.comma ≡ false → y ≡ get_or c.frame.items.items k y
     → d.frame.body ≡ c.frame.body → d.frame.number ≡ c.frame.number
     → d.frame.items.items ≡ slice_set c.frame.items.items k
-    (record { member = y.member; comma = true })
+    (record { term = y.term; comma = true })
     → d.frame.alternates ≡ false → d.around.items ≡ c.around.items → d.keys ≡ c.keys
     → TakesComma d o
 shows_comma c d o x y k s lt last xs no_comma ys b n i t a e = go o.frame.items refl
@@ -300,31 +300,31 @@ shows_comma c d o x y k s lt last xs no_comma ys b n i t a e = go o.frame.items 
         empty (z ∷ zs) p q = cc
     go (v ∷ vs) w =
         let seen : map shown c.frame.items.items ≡ shows
-        (record { member = v.member; flag = v.flag } ∷ vs) = items_same
+        (record { term = v.term; flag = v.flag } ∷ vs) = items_same
         ∙ ap shows w in
-        let is_x : shown x ≡ member_shown v.member v.flag = last_shown c.frame.items.items vs
-        v.member v.flag x seen (xs
+        let is_x : shown x ≡ term_shown v.term v.flag = last_shown c.frame.items.items vs
+        v.term v.flag x seen (xs
         ∙ ap (λ j. get_or c.frame.items.items j x) last) in
-        let is_y : shown y ≡ member_shown v.member v.flag = last_shown c.frame.items.items vs
-        v.member v.flag y seen (ys
+        let is_y : shown y ≡ term_shown v.term v.flag = last_shown c.frame.items.items vs
+        v.term v.flag y seen (ys
         ∙ ap (λ j. get_or c.frame.items.items j y) last) in
-        let unflagged : v.flag ≡ false = sym (flag_item v.member v.flag) ∙ ap flag_of (sym is_x)
-        ∙ flag_code x.member x.comma ∙ no_comma in
+        let unflagged : v.flag ≡ false = sym (flag_item v.term v.flag) ∙ ap flag_of (sym is_x)
+        ∙ flag_code x.term x.comma ∙ no_comma in
         let made : shown
-        (record { member = y.member; comma = true }) ≡ member_shown v.member true = sym
-        (with_code y.member y.comma)
-        ∙ ap with_flag is_y ∙ with_member_flag v.member v.flag in
-        let long : length (shows vs ++ member_shown v.member v.flag ∷ []) ≡ length
-        (shows vs) + 1 = length-append (shows vs) (member_shown v.member v.flag ∷ []) in
+        (record { term = y.term; comma = true }) ≡ term_shown v.term true = sym
+        (with_code y.term y.comma)
+        ∙ ap with_flag is_y ∙ with_term_flag v.term v.flag in
+        let long : length (shows vs ++ term_shown v.term v.flag ∷ []) ≡ length
+        (shows vs) + 1 = length-append (shows vs) (term_shown v.term v.flag ∷ []) in
         let size : length c.frame.items.items ≡ length
-        (shows vs ++ member_shown v.member v.flag ∷ []) = sym
+        (shows vs ++ term_shown v.term v.flag ∷ []) = sym
         (shown_len c.frame.items.items)
         ∙ ap length seen in
         let at : k ≡ length (shows vs) = omega (arith, last, long, size) in (
-          record { title = o.title; frame = flagged_frame o.frame v.member vs; around = o.around },
+          record { title = o.title; frame = flagged_frame o.frame v.term vs; around = o.around },
           ap (λ f. machine.unless f (machine.inside (record {
             title = o.title;
-            frame = flagged_frame o.frame v.member vs;
+            frame = flagged_frame o.frame v.term vs;
             around = o.around;
           }))) unflagged,
           record {
@@ -332,33 +332,33 @@ shows_comma c d o x y k s lt last xs no_comma ys b n i t a e = go o.frame.items 
             around = s.around;
             frame =
                 same_look (looks d.frame)
-                (look_of (layer s.number (flagged_frame o.frame v.member vs)))
+                (look_of (layer s.number (flagged_frame o.frame v.term vs)))
                 (ap body_of b ∙ ap (λ (l : Look). l.body) s.frame)
                 (ap (map shown) i
                 ∙ map_set_shown c.frame.items.items k
-                (record { member = y.member; comma = true })
+                (record { term = y.term; comma = true })
                 ∙ ap (λ zs. slice_set zs k
-                (shown (record { member = y.member; comma = true }))) seen
-                ∙ ap (λ j. slice_set (shows vs ++ member_shown v.member v.flag ∷ []) j
-                (shown (record { member = y.member; comma = true }))) at
-                ∙ set_last (shows vs) (member_shown v.member v.flag)
-                (shown (record { member = y.member; comma = true }))
+                (shown (record { term = y.term; comma = true }))) seen
+                ∙ ap (λ j. slice_set (shows vs ++ term_shown v.term v.flag ∷ []) j
+                (shown (record { term = y.term; comma = true }))) at
+                ∙ set_last (shows vs) (term_shown v.term v.flag)
+                (shown (record { term = y.term; comma = true }))
                 ∙ ap (λ z. shows vs ++ z ∷ []) made)
-                (t ∙ sym (not_alternating v.member vs))
+                (t ∙ sym (not_alternating v.term vs))
                 (n ∙ ap (λ (l : Look). l.number) s.frame);
             outer = ap (map looks) a ∙ s.outer;
             frames = s.frames;
             holds =
                 subst (λ (q : Keys). Holds
-                (layer s.number (flagged_frame o.frame v.member vs) ∷ s.around)
+                (layer s.number (flagged_frame o.frame v.term vs) ∷ s.around)
                 (left q)) (sym e) (holds_flag s.number o.frame s.around
-                (left c.keys) v.member v.flag vs w s.holds);
+                (left c.keys) v.term v.flag vs w s.holds);
             within =
                 subst (λ (q : Keys). (h : ℕ) → groups q ≤ h → without h (left q) ≡ left q)
                 (sym e) s.within;
             are_open =
                 subst (λ (q : Keys). AreOpen q (groups q) (layer s.number
-                (flagged_frame o.frame v.member vs) ∷ s.around)) (sym e) (let z = s.are_open in
+                (flagged_frame o.frame v.term vs) ∷ s.around)) (sym e) (let z = s.are_open in
                 (z.0, z.1, z.2));
           },
         )

@@ -7,13 +7,13 @@ use Rattle.resb_grammar.specs.Ascii as ascii
 use Rattle.resb_tree.specs.Tree.{Tree}
 use Rattle.resb_grammar.specs.Tokens.{Skip}
 use Rattle.resb_grammar.specs.Types.{Kind, array_kind, table_kind, GroupType, Head}
-use Rattle.resb_grammar.specs.Items.{Item, group_member}
+use Rattle.resb_grammar.specs.Items.{Item, group_term}
 use Rattle.resb_grammar.specs.Machine as machine
 use Rattle.resb_grammar.specs.Machine.{Body, table_body, array_body, untyped_body, Token, a_text}
 use Rattle.resb_grammar.specs.Machine.{a_number, opening, closing, a_comma, a_type, a_root_type}
-use Rattle.resb_grammar.specs.Machine.{State, inside, typed, with_member, within, is_key_place}
+use Rattle.resb_grammar.specs.Machine.{State, inside, typed, with_term, within, is_key_place}
 use Rattle.resb_grammar.specs.Machine.{in_body, next, At}
-use Rattle.resb_grammar.specs.Inner.Lex.{neither, type_class}
+use Rattle.resb_grammar.proofs.Lex.{neither, type_class}
 use Rattle.resb_grammar.specs.Stuck.{expected, expected_in, Stuck, blocked}
 use Rattle.resb_text.specs.Inner.Leaf.{Leaf, LeafFails}
 use Rattle.resb_text.specs.Inner.Frames.{body_of, Shows}
@@ -191,10 +191,10 @@ module _ (text : List ℕ) where
   pub leaf_added : (c d : Open) (at first next : ℕ) (kind : Kind) (t : Tree) → (x : Among text at c)
       → takes_group x.open_groups.frame.body (is_key_place x.open_groups.frame.items) ≡ true
       → Head text at kind first → Leaf text first next kind t
-      → ((o : machine.Open) → Shows c o → Shows d (with_member (group_member t []) o))
+      → ((o : machine.Open) → Shows c o → Shows d (with_term (group_term t []) o))
       → Among text next d
   leaf_added c d at first next kind t x may head leaf then = record {
-    open_groups = with_member (group_member t []) x.open_groups;
+    open_groups = with_term (group_term t []) x.open_groups;
     shows = then x.open_groups x.shows;
     reached =
         run_content text first leaf.ends next kind t x.open_groups leaf.content

@@ -1,11 +1,13 @@
 //! The drop of a resource by a list of what is still to be dropped, so that no depth of a tree ends
 //! the process.
-//! It calls itself only where that list can't grow.
-ghost use Rattle.std.specs.Prelude.{◌≡◌, ◌+◌, ◌*◌, ◌≤◌, [], MatchResult};
-ghost use Rattle.resb_tree.specs.Tree.{no_trees, array, tree_count, entries_count};
-ghost use Rattle.resb_tree.specs.View.{tree_of, items_view, entries_view};
+//! A resource is dropped by a call of its own only where that list can't grow, and a leaf of a table.
+ghost use Rattle.std.specs.Prelude.{◌≡◌, ◌+◌, ◌≤◌, max, [], MatchResult, IsTrue, ◌↔◌, IfErr, OnOk};
 ghost use Rattle.std.specs.Prelude.{None};
-ghost use Rattle.std.specs.BTreeMap.{get};
+ghost use Rattle.resb_tree.specs.Tree.{no_trees, array, tree_count, trees_count};
+ghost use Rattle.resb_tree.specs.Inner.Dropping.{IsLeaf, depth, depth_of};
+ghost use Rattle.resb_tree.specs.View.{tree_of, items_view};
+ghost use Rattle.std.specs.BTreeMap.{get, values};
+ghost use Rattle.std.specs.List.{All};
 ghost use Rattle.std.specs.Ordering.{nat_cmp};
 ghost use Rattle.std.specs.Cmp.Lexicographic.{slice_cmp};
 
@@ -35,34 +37,26 @@ impl<'a> MadeWith<Global> for Resource<'a> {
     }
 }
 
+/// Drops the resources by the list that they are in. It takes no stack for their depth.
 #[tactic(auto, using(crate::proofs::DroppingLemmas::drop_steps))]
 #[cycle(dropping)]
-pub(crate) fn drop_inside(inside: Inside<'_>) {
-    match inside {
-        Inside::Nothing => {}
-        Inside::List(items) => drop_all(items),
-        Inside::Entries(table) => drop_table(table),
-    }
-}
-
-#[tactic(auto, using(crate::proofs::DroppingLemmas::drop_steps))]
-#[cycle(dropping)]
-fn drop_all(mut pending: Vec<Resource<'_>>) {
+pub(crate) fn drop_all(mut pending: Vec<Resource<'_>>) {
     'pending: while let Some(resource) = pending.pop() {
         match resource.into_inside() {
             Inside::Nothing => {}
             Inside::List(mut items) => {
                 'items: while let Some(item) = items.pop() {
-                    if let Err(refused) = pending.push(item) {
-                        drop_inside(refused.value.into_inside());
+                    if let Err(item) = set_aside(&mut pending, item) {
+                        drop(item);
                     }
                 }
                 items.destroy_empty();
             }
+            Inside::Entries(table) if has_leaves_alone(&table) => drop(table),
             Inside::Entries(mut table) => {
                 'entries: while let Some((_, item)) = table.pop_last() {
-                    if let Err(refused) = pending.push(item) {
-                        drop_inside(refused.value.into_inside());
+                    if let Err(item) = set_aside(&mut pending, item) {
+                        drop(item);
                     }
                 }
                 table.destroy_empty();
@@ -72,45 +66,56 @@ fn drop_all(mut pending: Vec<Resource<'_>>) {
     pending.destroy_empty();
 }
 
+/// Whether no member of the table is an array or a table.
+pub(crate) fn has_leaves_alone(table: &Table<'_>) -> bool
+    ensures { IsTrue result ↔ All (λ r. IsLeaf (tree_of r)) (values table.now) }
+{
+    table.values().all(|resource| is_leaf(resource))
+}
+
+fn is_leaf(resource: &Resource<'_>) -> bool
+    ensures { IsTrue result ↔ IsLeaf (tree_of resource.now) }
+{
+    !matches!(resource, Resource::Array(_) | Resource::Table(_))
+}
+
+/// Drops a leaf, and puts any other resource on the list. Hands back one that the list has no room
+/// for.
 #[tactic(auto, using(crate::proofs::DroppingLemmas::drop_steps))]
-#[cycle(dropping)]
-fn drop_table(mut table: Table<'_>) {
-    let Some((key, first)) = table.pop_last() else {
-        table.destroy_empty();
-        return;
+pub(crate) fn set_aside<'a>(
+    pending: &mut Vec<Resource<'a>>,
+    resource: Resource<'a>,
+) -> Result<(), Resource<'a>>
+    ensures err { IfErr result (λ r. r ≡ resource.entry) }
+    ensures count { trees_count (items_view pending.new.items)
+        ≤ trees_count (items_view pending.old.items) + tree_count (tree_of resource.entry) }
+    ensures depth { depth_of pending.new.items
+        ≤ max (depth_of pending.old.items) (depth resource.entry) }
+{
+    let deep = match resource.into_inside() {
+        Inside::Nothing => return Ok(()),
+        Inside::List(items) => Resource::Array(items),
+        Inside::Entries(table) => Resource::Table(table),
     };
-    match list_beside(&mut table, key, first) {
-        Ok(mut pending) => {
-            'moving: while let Some((_, item)) = table.pop_last() {
-                if let Err(refused) = pending.push(item) {
-                    drop_inside(refused.value.into_inside());
-                }
-            }
-            table.destroy_empty();
-            drop_all(pending);
-        }
-        Err(first) => {
-            drop_inside(first.into_inside());
-            drop_table(table);
-        }
+    match pending.push(deep) {
+        Ok(()) => Ok(()),
+        Err(refused) => Err(refused.value),
     }
 }
 
-#[tactic(auto, using(crate::proofs::DroppingLemmas::insert_count))]
+#[tactic(auto, using(crate::proofs::DroppingLemmas::insert_depth))]
 /// An empty list on the table's allocator, with the child put back at its key. Without memory the
 /// child is handed back.
-fn list_beside<'a>(
+pub(crate) fn list_beside<'a>(
     table: &mut Table<'a>,
     key: Key<'a>,
     child: Resource<'a>,
 ) -> Result<Vec<Resource<'a>>, Resource<'a>>
     requires { get (slice_cmp nat_cmp) table.old key ≡ None }
-    ensures list { MatchResult result (λ v. v.items ≡ []) (λ r. tree_of r ≡ tree_of child.entry) }
-    ensures table { MatchResult result
-        (λ _. entries_count (entries_view table.new.entries)
-        ≤ entries_count (entries_view table.old.entries) + tree_count (tree_of child.entry))
-        (λ _. entries_count (entries_view table.new.entries)
-        ≤ entries_count (entries_view table.old.entries)) }
+    ensures list { MatchResult result (λ v. v.items ≡ []) (λ r. r ≡ child.entry) }
+    ensures table { OnOk result
+        (depth_of (values table.new) ≤ max (depth_of (values table.old)) (depth child.entry)) }
+    ensures same { IfErr result (λ r. table.new.entries ≡ table.old.entries) }
 {
     match table.entry(key) {
         Ok(entry) => {

@@ -4,7 +4,7 @@ ghost use Rattle.std.specs.Prelude.{◌≡◌};
 ghost use Rattle.resb_tree.specs.Equality as test;
 ghost use Rattle.resb_tree.specs.View.{tree_of, items_view, entries_view};
 
-use crate::dropping::{Inside, drop_inside};
+use crate::dropping::{Inside, drop_all, has_leaves_alone, list_beside, set_aside};
 use crate::int28::Int28;
 use crate::key::Key;
 use std::borrow::{CowSlice, CowStr};
@@ -44,18 +44,39 @@ impl<'a> Resource<'a> {
 }
 
 impl Drop for Resource<'_> {
+    #[tactic(auto, using(crate::proofs::DroppingLemmas::drop_steps))]
+    #[cycle(dropping)]
     fn drop(self) {
-        drop_inside(self.into_inside());
+        match self.into_inside() {
+            Inside::Nothing => {}
+            Inside::List(items) => drop_all(items),
+            Inside::Entries(table) if has_leaves_alone(&table) => drop(table),
+            Inside::Entries(mut table) => {
+                'entries: while let Some((key, last)) = table.pop_last() {
+                    match list_beside(&mut table, key, last) {
+                        Ok(mut pending) => {
+                            'moving: while let Some((_, item)) = table.pop_last() {
+                                if let Err(item) = set_aside(&mut pending, item) {
+                                    drop(item);
+                                }
+                            }
+                            drop_all(pending);
+                        }
+                        Err(last) => drop(last),
+                    }
+                }
+                table.destroy_empty();
+            }
+        }
     }
 }
 
 impl<'a> Resource<'a> {
     ghost use Rattle.resb_tree.specs.Inner.Dropping.{InsideOf};
-    ghost use Rattle.resb_tree.specs.View.{tree_of};
 
     /// Drops what can't be deep, and gives the rest.
     pub(crate) fn into_inside(self) -> Inside<'a>
-        ensures { InsideOf (tree_of self.entry) result }
+        ensures { InsideOf self.entry result }
     {
         match self {
             Resource::Array(items) => Inside::List(items),

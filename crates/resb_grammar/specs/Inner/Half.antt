@@ -1,22 +1,22 @@
 -- Items that may go on to be a table's.
 use Rattle.std.specs.Prelude.{Bool, true, false, List, [], ◌∷◌}
-use Rattle.resb_grammar.specs.Items.{Member, string_member, group_member, Item, is_pairs}
+use Rattle.resb_grammar.specs.Items.{Term, string_term, group_term, Item, is_pairs}
 
 -- a key without its group
-abbrev pub is_key : Member → Bool → List Item → Bool
-is_key (string_member s) false xs = is_pairs xs
+abbrev pub is_key : Term → Bool → List Item → Bool
+is_key (string_term s) false xs = is_pairs xs
 is_key _ _ xs = false
 
 abbrev pub key_first : List Item → Bool
 key_first [] = false
-key_first (y ∷ ys) = is_key y.member y.flag ys
+key_first (y ∷ ys) = is_key y.term y.flag ys
 
-abbrev pub is_half : Member → Bool → List Item → Bool
-is_half (string_member s) false xs = is_pairs xs
-is_half (group_member t ks) false xs = key_first xs
+abbrev pub is_half : Term → Bool → List Item → Bool
+is_half (string_term s) false xs = is_pairs xs
+is_half (group_term t ks) false xs = key_first xs
 is_half _ _ xs = false
 
 -- entries, and perhaps a key without its group
 abbrev pub half : List Item → Bool
 half [] = true
-half (x ∷ xs) = is_half x.member x.flag xs
+half (x ∷ xs) = is_half x.term x.flag xs

@@ -17,10 +17,6 @@ pub record FirstByte (b : ℕ) (text : List ℕ) (from to : ℕ) : Type 0 where
 abbrev pub NoByte : ℕ → List ℕ → ℕ → Type 0
 NoByte b text from = (k : ℕ) → from ≤ k → k < length text → slice_index text k ≡ b → ⊥
 
--- no quote stands from here on
-abbrev pub NoQuote : List ℕ → ℕ → Type 0
-NoQuote text from = (k : ℕ) → from ≤ k → slice_index text k ≡ ascii.quote → ⊥
-
 -- a line feed or a carriage return
 abbrev pub ends_line : ℕ → Bool
 ends_line b = b == ascii.line_feed || b == ascii.carriage_return

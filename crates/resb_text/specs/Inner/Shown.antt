@@ -6,44 +6,44 @@ use Rattle.resb_tree.specs.declared.resource.Resource.{Resource}
 use Rattle.resb_text.specs.Borrowed.{all_true, is_borrowed}
 use Rattle.resb_grammar.specs.Items as spec
 use Rattle.resb_text.specs.declared.items.Item.{Item}
-use Rattle.resb_text.specs.declared.items.Member.{Member}
-use Rattle.resb_text.specs.declared.items.Member.TheVariants as variant
+use Rattle.resb_text.specs.declared.items.Term.{Term}
+use Rattle.resb_text.specs.declared.items.Term.TheVariants as variant
 
 -- a string; or a tree of a group, and whether its strings are borrowed
 pub data Shown : Type 0 where
   string_shown : List ℕ → Bool → Shown
   group_shown : Tree → Bool → Bool → Shown
 
--- what a member of the code is as a resource
-abbrev pub member_tree : Member → Tree
-member_tree (variant.String s) = string s.now
-member_tree (variant.Group r) = tree_of r
+-- what a term of the code is as a resource
+abbrev pub term_tree : Term → Tree
+term_tree (variant.String s) = string s.now
+term_tree (variant.Group r) = tree_of r
 
-abbrev pub shown_member : Member → Bool → Shown
-shown_member (variant.String s) f = string_shown s.now f
-shown_member (variant.Group r) f = group_shown (tree_of r) (is_borrowed r) f
+abbrev pub shown_term : Term → Bool → Shown
+shown_term (variant.String s) f = string_shown s.now f
+shown_term (variant.Group r) f = group_shown (tree_of r) (is_borrowed r) f
 
 -- what an item of the code shows
 abbrev pub shown : Item → Shown
-shown x = shown_member x.member x.comma
+shown x = shown_term x.term x.comma
 
-abbrev pub member_shown : spec.Member → Bool → Shown
-member_shown (spec.string_member s) f = string_shown s f
-member_shown (spec.group_member t ks) f = group_shown t true f
+abbrev pub term_shown : spec.Term → Bool → Shown
+term_shown (spec.string_term s) f = string_shown s f
+term_shown (spec.group_term t ks) f = group_shown t true f
 
 -- what the grammar's items show, in order of place
 abbrev pub shows : List spec.Item → List Shown
 shows [] = []
-shows (x ∷ xs) = shows xs ++ member_shown x.member x.flag ∷ []
+shows (x ∷ xs) = shows xs ++ term_shown x.term x.flag ∷ []
 
 abbrev pub shown_borrowed : Shown → Bool
 shown_borrowed (string_shown s f) = true
 shown_borrowed (group_shown t b f) = b
 
--- whether the strings of a member of the code are borrowed
-abbrev pub member_borrowed : Member → Bool
-member_borrowed (variant.String s) = true
-member_borrowed (variant.Group r) = is_borrowed r
+-- whether the strings of a term of the code are borrowed
+abbrev pub term_borrowed : Term → Bool
+term_borrowed (variant.String s) = true
+term_borrowed (variant.Group r) = is_borrowed r
 
 abbrev pub each_borrowed : List (List ℕ × Resource) → List (List ℕ × Bool)
 each_borrowed es = map (λ e. (e.0, is_borrowed e.1)) es

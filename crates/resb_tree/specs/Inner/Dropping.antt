@@ -1,22 +1,27 @@
--- What a resource has inside, by its tree.
+-- What a resource has inside, and how deep it is.
 use Rattle.std.specs.Prelude.{◌≡◌, ℕ}
-use Rattle.resb_tree.specs.Tree.{Tree, array, table, trees_count, entries_count}
-use Rattle.resb_tree.specs.View.{items_view, entries_view}
+use Rattle.resb_tree.specs.Tree.{Tree, array, table}
+use Rattle.resb_tree.specs.View.{tree_of}
+use Rattle.resb_tree.specs.declared.resource.Resource.{Resource, Array, Table, size-Resource}
 use Rattle.resb_tree.specs.declared.dropping.Inside.{Inside}
 use Rattle.resb_tree.specs.declared.dropping.Inside.TheVariants.{Nothing, List, Entries}
+use Rattle.std.specs.Prelude as std
+use denote.Param.Weighed.{most}
 
 abbrev pub IsLeaf : Tree → Type 0
 IsLeaf (array ts) = ⊥
 IsLeaf (table es) = ⊥
 IsLeaf t = Unit {0}
 
-abbrev pub InsideOf : Tree → Inside → Type 0
-InsideOf t Nothing = IsLeaf t
-InsideOf t (List v) = t ≡ array (items_view v.items)
-InsideOf t (Entries m) = t ≡ table (entries_view m.entries)
+abbrev pub InsideOf : Resource → Inside → Type 0
+InsideOf r Nothing = IsLeaf (tree_of r)
+InsideOf r (List v) = r ≡ Array v
+InsideOf r (Entries m) = r ≡ Table m
 
--- how many resources are inside
-abbrev pub inside_count : Inside → ℕ
-inside_count Nothing = 0
-inside_count (List v) = trees_count (items_view v.items)
-inside_count (Entries m) = entries_count (entries_view m.entries)
+-- how many levels a resource has
+abbrev pub depth : Resource → ℕ
+depth = size-Resource
+
+-- the greatest depth in a list
+abbrev pub depth_of : std.List Resource → ℕ
+depth_of = most size-Resource

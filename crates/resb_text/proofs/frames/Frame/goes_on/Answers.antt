@@ -1,17 +1,17 @@
 use Rattle.std.proofs.Common.{◌∙◌, sym, ap, false}
-use Rattle.resb_text.specs.Inner.Shown.{shown_member}
+use Rattle.resb_text.specs.Inner.Shown.{shown_term}
 use Rattle.resb_text.specs.Inner.Frames.{Look}
-use Rattle.resb_text.specs.declared.items.Member.{Member}
+use Rattle.resb_text.specs.declared.items.Term.{Term}
 use Rattle.resb_text.proofs.FrameLemmas.{goes_string, goes_group, key_then}
 use Rattle.resb_text.proofs.frames.Frame.goes_on.Goals as goal
 
 pub returns-in-String : goal.returns-in-String
 returns-in-String c =
     λ n f m x is. goes_string _ m f.items _
-    (sym (ap (λ (w : Member). shown_member w false) c.in-String.is) ∙ is) (c.is_pairs.ensures n f x)
+    (sym (ap (λ (w : Term). shown_term w false) c.in-String.is) ∙ is) (c.is_pairs.ensures n f x)
 
 pub returns-then-self : goal.returns-then-self
 returns-then-self c = λ n f m x is.
-    goes_group _ _ m f.items _ (sym (ap (λ (w : Member). shown_member w false) c.in-Group.is)
+    goes_group _ _ m f.items _ (sym (ap (λ (w : Term). shown_term w false) c.in-Group.is)
     ∙ is) (key_then f.items _ _ (ap (λ (l : Look). l.alternates) x) c.if-self.true
     (c.is_key_place.ensures n f x))

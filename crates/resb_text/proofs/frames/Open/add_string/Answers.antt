@@ -1,7 +1,7 @@
 use Rattle.std.proofs.Common.{ℕ, List, [], ◌∷◌, ◌++◌, sym, ◌∙◌, ap, refl}
 use Rattle.resb_text.specs.Inner.Discovered.{Numbered, left, is_dropped_in}
 use Rattle.resb_text.specs.Inner.Frames.{Look, lists, body_of}
-use Rattle.resb_text.specs.declared.items.Member.TheVariants as members
+use Rattle.resb_text.specs.declared.items.Term.TheVariants as terms
 use Rattle.resb_text.proofs.OpenLemmas.{shows_string, shows_item}
 use Rattle.resb_text.proofs.frames.Open.add_string.Goals as goal
 
@@ -18,7 +18,7 @@ add-requires c =
 pub returns-then-lists_keys-clause-shows : goal.returns-then-lists_keys-clause-shows
 returns-then-lists_keys-clause-shows c =
     λ o x. shows_string c.args.self.now _ o
-    (members.String c.args.text) c.args.text.now x refl c.in_ok-push.ensures.looks refl
+    (terms.String c.args.text) c.args.text.now x refl c.in_ok-push.ensures.looks refl
     (ap (λ b. lists (body_of b)) (sym c.in_ok-push.ensures.body) ∙ sym c.lists_keys.ensures
     ∙ c.if-lists_keys.true) (c.in_ok-add.ensures.left
     ∙ ap (λ n. left c.args.self.now.keys
@@ -27,6 +27,6 @@ returns-then-lists_keys-clause-shows c =
 pub returns-clause-shows : goal.returns-clause-shows
 returns-clause-shows c =
     λ o x. shows_item c.args.self.now _ o
-    (members.String c.args.text) c.args.text.now x refl c.in_ok-push.ensures.looks refl
+    (terms.String c.args.text) c.args.text.now x refl c.in_ok-push.ensures.looks refl
     (ap (λ b. lists (body_of b)) (sym c.in_ok-push.ensures.body) ∙ sym c.lists_keys.ensures
     ∙ c.if-lists_keys.false) refl

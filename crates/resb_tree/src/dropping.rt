@@ -103,9 +103,9 @@ pub(crate) fn set_aside<'a>(
     }
 }
 
-#[tactic(auto, using(crate::proofs::DroppingLemmas::insert_depth))]
 /// An empty list on the table's allocator, with the child put back at its key. Without memory the
 /// child is handed back.
+#[tactic(auto, using(crate::proofs::DroppingLemmas::insert_depth))]
 pub(crate) fn list_beside<'a>(
     table: &mut Table<'a>,
     key: Key<'a>,

@@ -1,7 +1,8 @@
 -- Texts of ASCII units, and strings without markers and surrogates.
 use Rattle.std.proofs.Common.{ℕ, zero, suc, List, [], ◌∷◌, ◌≡◌, true, false, Some, inl, inr}
 use Rattle.std.proofs.Common.{refl, sym, ap, ◌∙◌, arith, ◌<◌, ◌≤◌, ◌+◌, ◌*◌, ◌/◌, min, length, take}
-use Rattle.std.proofs.Common.{drop, get_or, set, slice_get, nat_le, ◌++◌, nat_eq, IsAscii, IsUtf8, lit<, add-zero}
+use Rattle.std.proofs.Common.{drop, get_or, set, slice_get, nat_le, ◌++◌, nat_eq, IsAscii, IsUtf8}
+use Rattle.std.proofs.Common.{lit<, add-zero}
 use Rattle.std.proofs.lemmas.Bool.{cases_lt}
 use Rattle.std.proofs.lemmas.Bool.Decides.{nat_tests}
 use Rattle.std.proofs.lemmas.List.{get_or-take, get_or-drop, get_or_past, length-take, take-take}
@@ -19,7 +20,8 @@ use Rattle.resb_format.proofs.Spelled.{units_drop, units_length, units_at}
 use Rattle.resb_format.proofs.StringsIn.{ended}
 use Rattle.resb_walk.specs.Inner.Members.{text_of_bytes}
 use Rattle.resb_walk.proofs.Placed.{text_some}
-use Rattle.resb_walk.proofs.Surrogates.{char_alone, lone_some, no_chars, no_surrogate_first, nothing}
+use Rattle.resb_walk.proofs.Surrogates.{char_alone, lone_some, no_chars, no_surrogate_first}
+use Rattle.resb_walk.proofs.Surrogates.{nothing}
 
 -- ASCII units are their characters
 ascii_chars : (us : List ℕ) → IsAscii us → utf16_lossy_chars us ≡ us

@@ -118,6 +118,7 @@ impl<'a> File<'a> {
     }
 
     /// What stands at a word.
+    #[inline(always)]
     #[tactic(auto, unfolding(resb_format::specs::Content::content))]
     pub fn standing(self, word: u32) -> Result<Standing<'a>, BinaryDeserializerError>
         ensures stands { let p = parts_in self.entry in
@@ -137,6 +138,7 @@ impl<'a> File<'a> {
     }
 
     /// What a type with a value other than 0 leads to.
+    #[inline(always)]
     fn placed(self, kind: u32, value: usize) -> Result<Standing<'a>, BinaryDeserializerError>
         requires { value < 268435456 }
         ensures stands { let p = parts_in self.entry in

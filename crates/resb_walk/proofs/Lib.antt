@@ -9,3 +9,4 @@ pub mod Placed
 pub mod Made
 pub mod Surrogates
 pub mod Keys
+pub mod Plain

@@ -72,6 +72,7 @@ pub fn advance<'a, 'm, M: Make<'a>>(
 }
 
 /// The collection with the member that it waited for.
+#[inline(always)]
 pub fn put<'a, 'm, M: Make<'a>>(
     waiting: Waiting<'a, M::List, M::Table>,
     item: M,

@@ -23,6 +23,7 @@ use resb_format::ReadingError;
 use std::alloc::Global;
 
 /// Reads a member up to its own members, and pays for it.
+#[inline(always)]
 fn begin<'a, 'm, M: Make<'a>>(
     alloc: Global,
     file: File<'a>,

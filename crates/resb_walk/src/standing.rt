@@ -1,7 +1,7 @@
 //! What stands at a word, at a unit of the 16-bit block, and at a key's position.
 //! Bytes are looked at in `resb_format::bytes` alone.
 ghost use Rattle.std.specs.Prelude.{◌≡◌, ◌≢◌, ◌<◌, ◌^◌, position, ◌==◌, Some, None, true};
-ghost use Rattle.std.specs.Prelude.{MatchResult, IfErr};
+ghost use Rattle.std.specs.Prelude.{MatchResult, IfErr, IfSome};
 ghost use Rattle.resb_format.specs.Bytes.{units_of};
 ghost use Rattle.resb_format.specs.Strings.{text_at, key_at};
 ghost use Rattle.resb_format.specs.Codes.{type_number};
@@ -22,11 +22,36 @@ use crate::units::is_well_formed;
 use resb_format::bytes::{some_bytes, some_unit, some_units, some_word, some_words};
 use resb_format::{BinaryDeserializerError, ResourceReprType, string_at};
 
+/// The most units of a string without a marker.
+const MAX_UNMARKED: usize = 40;
+
 /// The number of the first zero byte.
 fn first_zero(bytes: &[u8]) -> Option<usize>
     ensures { result ≡ position (λ b. b == 0) bytes.now }
 {
     bytes.iter().position(|b| *b == 0)
+}
+
+/// The units of the string at a unit of the block, where it has no marker and no surrogate, as most
+/// have: one look at each unit finds the 0 behind it and that it is a text.
+fn plain_text(block: &[u8], unit: usize) -> Option<&[u8]>
+    ensures { IfSome result (λ v. text_at (units_of block.now) unit ≡ Some (text_of_bytes v.now)) }
+{
+    if unit > block.len() / 2 {
+        return None;
+    }
+    let (_, from) = block.split_at(2 * unit);
+    'units: for count in 0..MAX_UNMARKED + 1 {
+        let found = some_unit(from, count)?;
+        if found == 0 {
+            let units = some_units(from, 0, count)?;
+            return Some(units);
+        }
+        if found >= 0xd800 {
+            return None;
+        }
+    }
+    None
 }
 
 impl<'a> File<'a> {
@@ -64,6 +89,9 @@ impl<'a> File<'a> {
             (λ e. (text_at block unit ≡ None) × IsFault e) }
         ensures says { IfErr result (Says (text_damage (units_of self.entry.block.now) unit)) }
     {
+        if let Some(bytes) = plain_text(self.block, unit) {
+            return Ok(bytes);
+        }
         match string_at(self.block, unit) {
             Ok(view) => {
                 let bytes = view.as_bytes();
@@ -78,6 +106,7 @@ impl<'a> File<'a> {
     }
 
     /// What stands at a word.
+    #[inline(always)]
     #[tactic(auto, unfolding(resb_format::specs::Content::content))]
     pub fn standing(self, word: u32) -> Result<Standing<'a>, BinaryDeserializerError>
         ensures stands { let p = parts_in self.entry in
@@ -93,6 +122,7 @@ impl<'a> File<'a> {
     }
 
     /// What a type with a value other than 0 leads to.
+    #[inline(always)]
     fn placed(
         self,
         kind: ResourceReprType,

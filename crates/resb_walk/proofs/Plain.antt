@@ -1,0 +1,166 @@
+-- Texts of ASCII units, and strings without markers and surrogates.
+use Rattle.std.proofs.Common.{ℕ, zero, suc, List, [], ◌∷◌, ◌≡◌, true, false, Some, inl, inr}
+use Rattle.std.proofs.Common.{refl, sym, ap, ◌∙◌, arith, ◌<◌, ◌≤◌, ◌+◌, ◌*◌, ◌/◌, min, length, take}
+use Rattle.std.proofs.Common.{drop, get_or, set, slice_get, nat_le, ◌++◌, nat_eq, IsAscii, IsUtf8}
+use Rattle.std.proofs.Common.{lit<, add-zero}
+use Rattle.std.proofs.lemmas.Bool.{cases_lt}
+use Rattle.std.proofs.lemmas.Bool.Decides.{nat_tests}
+use Rattle.std.proofs.lemmas.List.{get_or-take, get_or-drop, get_or_past, length-take, take-take}
+use Rattle.std.proofs.lemmas.List.{length-set, take_more_set, take_more, take_all}
+use Rattle.std.proofs.lemmas.Option.{slice_get_within, get_or_from_slice_get, cond_some}
+use Rattle.std.proofs.lemmas.List.Sums.{position_or_len_is}
+use Rattle.std.proofs.lemmas.Str.Ascii.{encodes-IsAscii}
+use Rattle.std.proofs.lemmas.Str.{IsUtf8-from_ascii}
+use Rattle.std.specs.Char.Utf16.{is_high_surrogate, is_low_surrogate, has_unpaired_surrogate}
+use Rattle.std.specs.Char.Utf16.{utf16_lossy_chars}
+use Rattle.std.specs.List.{position_or_len}
+use Rattle.resb_format.specs.Bytes.{units_of, part}
+use Rattle.resb_format.specs.Strings.{text_at, string_at, before_zero, is_no_marker}
+use Rattle.resb_format.proofs.Spelled.{units_drop, units_length, units_at}
+use Rattle.resb_format.proofs.StringsIn.{ended}
+use Rattle.resb_walk.specs.Inner.Members.{text_of_bytes}
+use Rattle.resb_walk.proofs.Placed.{text_some}
+use Rattle.resb_walk.proofs.Surrogates.{char_alone, lone_some, no_chars, no_surrogate_first}
+use Rattle.resb_walk.proofs.Surrogates.{nothing}
+
+-- ASCII units are their characters
+ascii_chars : (us : List ℕ) → IsAscii us → utf16_lossy_chars us ≡ us
+ascii_chars [] h = no_chars [] refl
+ascii_chars (u ∷ us) h =
+    let small : u < 128 = h 0 in
+    let high : is_high_surrogate u ≡ false = grind (arith, nat_tests, small) in
+    let low : is_low_surrogate u ≡ false = grind (arith, nat_tests, small) in
+    let more : utf16_lossy_chars us ≡ us = ascii_chars us (λ k. h (suc k)) in
+    char_alone (u ∷ us) u us refl high ∙ rw (lone_some u high low, more) refl
+
+pub ascii_text_is : (bs : List ℕ) → IsAscii (units_of bs) → text_of_bytes bs ≡ units_of bs
+ascii_text_is bs h = rw (ascii_chars (units_of bs) h) (encodes-IsAscii (units_of bs) h)
+
+pub ascii_valid : (us : List ℕ) → IsAscii us → IsUtf8 us
+ascii_valid us h = IsUtf8-from_ascii us h
+
+-- one more unit is written as its lower byte
+pub ascii_more : (bs text : List ℕ) (k : ℕ) → IsAscii (units_of bs) → length text ≡ length bs / 2
+    → k < length text → take k text ≡ take k (units_of bs)
+    → (length (set text k (get_or bs (2 * k) 0)) ≡ length bs / 2)
+    × (take (k + 1) (set text k (get_or bs (2 * k) 0)) ≡ take (k + 1) (units_of bs))
+ascii_more bs text k h same less e =
+    let inside : k < length bs / 2 = omega arith in
+    let spelled = units_at bs k inside in
+    let small : get_or (units_of bs) k 0 < 128 = h k in
+    let low : get_or bs (2 * k) 0 ≡ get_or (units_of bs) k 0 = omega arith in
+    let within : k < length (units_of bs) = omega (arith, units_length bs) in (
+      length-set text k (get_or bs (2 * k) 0) ∙ same,
+      take_more_set text k (get_or bs (2 * k) 0) less
+          ∙ ap (λ xs. xs ++ get_or bs (2 * k) 0 ∷ []) e
+          ∙ ap (λ u. take k (units_of bs) ++ u ∷ []) low
+          ∙ sym (take_more (units_of bs) k 0 within),
+    )
+
+pub ascii_all : (bs text : List ℕ) (n : ℕ) → length text ≡ length bs / 2 → length bs / 2 ≤ n
+    → take n text ≡ take n (units_of bs) → text ≡ units_of bs
+ascii_all bs text n same most e =
+    let long : length text ≤ n = omega arith in
+    let as_long : length (units_of bs) ≤ n = omega (arith, units_length bs) in
+    sym (take_all n text long) ∙ e ∙ take_all n (units_of bs) as_long
+
+-- units below surrogates
+below_paired : (us : List ℕ) → ((k : ℕ) → get_or us k 0 < 0xd800)
+    → has_unpaired_surrogate us ≡ false
+below_paired [] h = nothing [] refl
+below_paired (u ∷ us) h =
+    let small : u < 0xd800 = h 0 in
+    let high : is_high_surrogate u ≡ false = grind (arith, nat_tests, small) in
+    let low : is_low_surrogate u ≡ false = grind (arith, nat_tests, small) in
+    no_surrogate_first u us high low ∙ below_paired us (λ k. h (suc k))
+
+front_below : (us : List ℕ) (n : ℕ) → ((k : ℕ) → k < n → get_or us k 0 < 0xd800)
+    → (k : ℕ) → get_or (take n us) k 0 < 0xd800
+front_below us n h k = elim (cases_lt k n) [
+  | inl less ↦ rw (get_or-take n us k 0 less) (h k less)
+  | inr more ↦
+      let past : length (take n us) ≤ k = omega (arith, length-take n us) in
+      rw (get_or_past (take n us) k 0 past) (lit< tt)
+]
+
+-- the units before a 0, of which none begins a marker
+before_first_zero : (us : List ℕ) (n : ℕ) → n < 41 → n < length us
+    → ((k : ℕ) → k < n → 0 < get_or us k 0) → get_or us n 0 ≡ 0
+    → before_zero (take 41 us) ≡ Some (take n us)
+before_first_zero us n few inside h e =
+    let front = take 41 us in
+    let long : length front ≡ min 41 (length us) = length-take 41 us in
+    let within : n ≤ length front = omega arith in
+    let less : n < length front = omega arith in
+    let fails : (k : ℕ) → k < n → nat_eq (get_or front k 0) 0 ≡ false = λ k l.
+    (let q : k < 41 = omega arith in let p = h k l in
+    rw (get_or-take 41 us k 0 q) (grind (arith, nat_tests, p))) in
+    let passes : nat_eq (get_or front n 0) 0 ≡ true =
+    rw (get_or-take 41 us n 0 few, e) refl in
+    let place : position_or_len (λ x. nat_eq x 0) front ≡ n =
+    position_or_len_is (λ x. nat_eq x 0) front n 0 within fails (λ l. passes) in
+    let inner : position_or_len (λ x. nat_eq x 0) front < length front = rw place less in
+    let most : n ≤ 41 = omega arith in
+    ended front inner ∙ rw (place, take-take n 41 us most) refl
+
+string_before : (us : List ℕ) (u n : ℕ) → n < 41 → n < length (drop u us)
+    → ((k : ℕ) → k < n → 0 < get_or (drop u us) k 0)
+    → ((k : ℕ) → k < n → get_or (drop u us) k 0 < 0xd800) → get_or (drop u us) n 0 ≡ 0
+    → string_at us u ≡ Some (take n (drop u us))
+unfolding string_at
+string_before us u n few inside h g e =
+    let same : get_or (drop u us) 0 0 ≡ get_or us u 0 = rw add-zero at (get_or-drop u us 0 0) in
+    let small : get_or us u 0 < 0xd800 = rw (← same) (first n g e) in
+    let unmarked : is_no_marker (get_or us u 0) ≡ true = grind (arith, nat_tests, small) in
+    rw unmarked (before_first_zero (drop u us) n few inside h e)
+  where
+    first : (m : ℕ) → ((k : ℕ) → k < m → get_or (drop u us) k 0 < 0xd800)
+        → get_or (drop u us) m 0 ≡ 0 → get_or (drop u us) 0 0 < 0xd800
+    first zero p q = rw q (lit< tt)
+    first (suc m) p q = p 0 (omega arith)
+
+-- a text whose units end at a 0, and of which none is a surrogate
+pub plain_text_is : (block from bs : List ℕ) (u n : ℕ) → from ≡ drop (2 * u) block → n < 41
+    → n < length (units_of from)
+    → ((k : ℕ) → k < n → 0 < get_or (units_of from) k 0)
+    → ((k : ℕ) → k < n → get_or (units_of from) k 0 < 0xd800)
+    → get_or (units_of from) n 0 ≡ 0 → units_of bs ≡ take n (units_of from)
+    → text_at (units_of block) u ≡ Some (text_of_bytes bs)
+plain_text_is block from bs u n is few inside h g e cut =
+    let there : units_of from ≡ drop u (units_of block) = ap units_of is ∙ units_drop block u in
+    let stands : string_at (units_of block) u ≡ Some (take n (drop u (units_of block))) =
+    string_before (units_of block) u n few (rw (← there) inside)
+    (λ k l. rw (← there) (h k l)) (λ k l. rw (← there) (g k l)) (rw (← there) e) in
+    let spelled : take n (drop u (units_of block)) ≡ units_of bs =
+    ap (take n) (sym there) ∙ sym cut in
+    let paired : has_unpaired_surrogate (units_of bs) ≡ false =
+    rw cut (below_paired (take n (units_of from)) (front_below (units_of from) n g)) in
+    text_some (units_of block) u bs (stands ∙ ap Some spelled) (rw paired refl)
+
+-- the unit behind those so far
+pub plain_more : (us : List ℕ) (n found : ℕ) → slice_get us n ≡ Some found → 0 < found
+    → found < 0xd800
+    → ((k : ℕ) → k < n → (0 < get_or us k 0) × (get_or us k 0 < 0xd800))
+    → (k : ℕ) → k < n + 1 → (0 < get_or us k 0) × (get_or us k 0 < 0xd800)
+plain_more us n found e some small h k less = elim (cases_lt k n) [
+  | inl before ↦ h k before
+  | inr behind ↦
+      let same : k ≡ n = omega arith in
+      let here : get_or us k 0 ≡ found = rw same (get_or_from_slice_get us n found 0 e) in
+      rw here (some, small)
+]
+
+-- the 0 behind them
+pub plain_ends : (block from bs : List ℕ) (u n found : ℕ) → from ≡ drop (2 * u) block → n < 41
+    → slice_get (units_of from) n ≡ Some found → found ≡ 0
+    → part (units_of from) 0 n ≡ Some (units_of bs)
+    → ((k : ℕ) → k < n
+    → (0 < get_or (units_of from) k 0) × (get_or (units_of from) k 0 < 0xd800))
+    → text_at (units_of block) u ≡ Some (text_of_bytes bs)
+plain_ends block from bs u n found is few e ends_here cut h =
+    let inside : n < length (units_of from) = slice_get_within (units_of from) n found e in
+    let ends : get_or (units_of from) n 0 ≡ 0 =
+    get_or_from_slice_get (units_of from) n found 0 e ∙ ends_here in
+    let front = (cond_some (nat_le (0 + n) (length (units_of from))) _ _ cut).1 in
+    plain_text_is block from bs u n is few inside (λ k l. (h k l).0) (λ k l. (h k l).1) ends
+    (sym front)

@@ -87,8 +87,8 @@ fn written(
     Serializer::to_bytes(alloc, &bundle, keys)
 }
 
-/// The string that a word of a row stands for.
-fn string<'a>(alloc: Global, word: &str) -> Result<Resource<'a>, Fail> {
+/// The text that a word of a row stands for.
+pub(crate) fn text_of(alloc: Global, word: &str) -> Result<String, Fail> {
     let mut text = String::new(alloc);
     for c in word.chars() {
         match c {
@@ -97,7 +97,29 @@ fn string<'a>(alloc: Global, word: &str) -> Result<Resource<'a>, Fail> {
             other => text.push(other)?,
         }
     }
-    Ok(Resource::String(CowStr::Owned(text)))
+    Ok(text)
+}
+
+/// The string that a word of a row stands for.
+fn string<'a>(alloc: Global, word: &str) -> Result<Resource<'a>, Fail> {
+    Ok(Resource::String(CowStr::Owned(text_of(alloc, word)?)))
+}
+
+/// The word with this number behind the header.
+fn word(file: &[u8], number: usize) -> Result<u32, Fail> {
+    let start = number.saturating_mul(4).saturating_add(32);
+    let (_, rest) = file.split_at_checked(start).ok_or("short")?;
+    let (bytes, _) = rest.split_at_checked(4).ok_or("short")?;
+    let bytes: [u8; 4] = bytes.try_into()?;
+    Ok(u32::from_le_bytes(bytes))
+}
+
+/// The words with these numbers behind the header.
+fn assert_words(rt: &impl Abort, file: &[u8], words: &[(usize, u32)]) -> Result<(), Fail> {
+    for (number, wanted) in words {
+        assert_eq!(rt; word(file, *number)?, *wanted, "word {number}");
+    }
+    Ok(())
 }
 
 /// The array of these strings has this file.
@@ -136,31 +158,19 @@ fn assert_list(rt: &impl Abort, alloc: Global, row: &str, wanted: &str) -> Resul
 
 #[test]
 fn arrays_of_strings_have_their_files(rt: HostRuntime) -> Result<(), Fail> {
-    let mut rest = STRINGS;
-    for _ in 0..STRINGS.len() {
-        let Some((row, more)) = rest.split_once(";\n") else {
-            break;
-        };
+    for row in STRINGS.split_terminator(";\n") {
         let (strings, wanted) = row.split_once(" =>").ok_or("a row without an answer")?;
         assert_strings(&rt, rt.alloc(), strings, wanted)?;
-        rest = more;
     }
-    assert!(rt; rest.is_empty());
     Ok(())
 }
 
 #[test]
 fn lists_of_keys_have_their_files(rt: HostRuntime) -> Result<(), Fail> {
-    let mut rest = LISTS;
-    for _ in 0..LISTS.len() {
-        let Some((row, more)) = rest.split_once(";\n") else {
-            break;
-        };
+    for row in LISTS.split_terminator(";\n") {
         let (list, wanted) = row.split_once(" =>").ok_or("a row without an answer")?;
         assert_list(&rt, rt.alloc(), list, wanted)?;
-        rest = more;
     }
-    assert!(rt; rest.is_empty());
     Ok(())
 }
 
@@ -210,28 +220,50 @@ fn far_table(alloc: Global, letters: usize, list: &str) -> Result<Vec<u8>, Fail>
     Ok(written(alloc, Resource::Table(table), &keys)?)
 }
 
+/// Letters of the long key, a list of keys, the length of the file, and some of its words.
+type Far = (usize, &'static str, usize, &'static [(usize, u32)]);
+
 /// A position of 65535 fits a unit; one of 65536 asks for a table with 32-bit positions. The last
 /// place of a doubled key counts.
+const FAR_TABLES: [Far; 4] = [
+    (
+        65502,
+        "Lz",
+        65592,
+        &[(0, 0x5000_0005), (16_388, 0xffff_0020)],
+    ),
+    (
+        65503,
+        "Lz",
+        65604,
+        &[
+            (0, 0x4000_4004),
+            (16_388, 2),
+            (16_390, 65536),
+            (16_392, 0x6000_0003),
+        ],
+    ),
+    (
+        65502,
+        "zLz",
+        65604,
+        &[(0, 0x4000_4004), (16_389, 34), (16_390, 65537)],
+    ),
+    (
+        65503,
+        "zL",
+        65592,
+        &[(0, 0x5000_0005), (16_388, 0x0020_0022)],
+    ),
+];
+
 #[test]
 fn positions_at_the_limit(rt: HostRuntime) -> Result<(), Fail> {
-    let near = far_table(rt.alloc(), 65502, "Lz")?;
-    assert_eq!(rt; near.len(), 65592);
-    assert_eq!(rt; word(&near, 0)?, 0x5000_0005);
-    assert_eq!(rt; word(&near, 16_388)?, 0xffff_0020);
-    let far = far_table(rt.alloc(), 65503, "Lz")?;
-    assert_eq!(rt; far.len(), 65604);
-    assert_eq!(rt; word(&far, 0)?, 0x4000_4004);
-    assert_eq!(rt; word(&far, 16_388)?, 2);
-    assert_eq!(rt; word(&far, 16_390)?, 65536);
-    assert_eq!(rt; word(&far, 16_392)?, 0x6000_0003);
-    let last = far_table(rt.alloc(), 65502, "zLz")?;
-    let body = (word(&last, 0)? & 0x0fff_ffff) as usize;
-    assert_eq!(rt; word(&last, 0)? >> 28, 4);
-    assert_eq!(rt; word(&last, body + 1)?, 34);
-    assert_eq!(rt; word(&last, body + 2)?, 65537);
-    let first = far_table(rt.alloc(), 65503, "zL")?;
-    assert_eq!(rt; word(&first, 0)?, 0x5000_0005);
-    assert_eq!(rt; word(&first, 16_388)?, 0x0020_0022);
+    for (letters, list, length, words) in FAR_TABLES {
+        let file = far_table(rt.alloc(), letters, list)?;
+        assert_eq!(rt; file.len(), length, "{letters} letters, {list}");
+        assert_words(&rt, &file, words)?;
+    }
     Ok(())
 }
 
@@ -247,10 +279,16 @@ fn marked_strings_stand_in_files(rt: HostRuntime) -> Result<(), Fail> {
         letters.push('a')?;
     }
     let text = written(alloc, Resource::String(CowStr::Owned(faces)), &[])?;
-    assert_eq!(rt; word(&text, 0)?, 0x6000_0001);
-    assert_eq!(rt; word(&text, 7)?, 50);
-    assert_eq!(rt; word(&text, 8)?, 0xdc50_0000);
-    assert_eq!(rt; word(&text, 9)?, 0xde00_d83d);
+    assert_words(
+        &rt,
+        &text,
+        &[
+            (0, 0x6000_0001),
+            (7, 50),
+            (8, 0xdc50_0000),
+            (9, 0xde00_d83d),
+        ],
+    )?;
     let mut items = Vec::new(alloc);
     letters.push('a')?;
     items.push(string(alloc, letters.as_str())?)?;
@@ -258,11 +296,14 @@ fn marked_strings_stand_in_files(rt: HostRuntime) -> Result<(), Fail> {
     items.push(string(alloc, letters.as_str())?)?;
     items.push(string(alloc, "a")?)?;
     let array = written(alloc, Resource::Array(items), &[])?;
-    assert_eq!(rt; word(&array, 0)?, 0x9000_0058);
-    assert_eq!(rt; word(&array, 7)?, 54);
-    assert_eq!(rt; word(&array, 8)?, 0xdc29_0000);
-    assert_eq!(rt; word(&array, 52)?, 0x0001_0003);
-    assert_eq!(rt; word(&array, 53)?, 0x002a_002c);
+    let words = [
+        (0, 0x9000_0058),
+        (7, 54),
+        (8, 0xdc29_0000),
+        (52, 0x1_0003),
+        (53, 0x2a_002c),
+    ];
+    assert_words(&rt, &array, &words)?;
     Ok(())
 }
 
@@ -295,15 +336,6 @@ fn a_key_with_nul_is_refused(rt: HostRuntime) -> Result<(), Fail> {
     Ok(())
 }
 
-/// The word with this number behind the header.
-fn word(file: &[u8], number: usize) -> Result<u32, Fail> {
-    let start = number.saturating_mul(4).saturating_add(32);
-    let (_, rest) = file.split_at_checked(start).ok_or("short")?;
-    let (bytes, _) = rest.split_at_checked(4).ok_or("short")?;
-    let bytes: [u8; 4] = bytes.try_into()?;
-    Ok(u32::from_le_bytes(bytes))
-}
-
 /// 65536 keys `00000` to `65535`: a table with 32-bit positions, which is read back.
 #[test]
 fn a_table_of_65536_entries(rt: HostRuntime) -> Result<(), Fail> {
@@ -323,8 +355,7 @@ fn a_table_of_65536_entries(rt: HostRuntime) -> Result<(), Fail> {
     let root = word(&file, 0)?;
     assert_eq!(rt; root >> 28, 4);
     let body = (root & 0x0fff_ffff) as usize;
-    assert_eq!(rt; word(&file, body)?, 65536);
-    assert_eq!(rt; word(&file, body + 65536)?, 393_242);
+    assert_words(&rt, &file, &[(body, 65536), (body + 65536, 393_242)])?;
     let tree: Resource = from_bytes(alloc, &file)?;
     assert!(rt; tree.equals(bundle.root()));
     Ok(())

@@ -1,7 +1,9 @@
 //! Pools of strings: the units and offsets that the rules of suffix sharing ask for.
 //! Expected values are worked out by hand from the rules of markers, records and their order.
+use crate::write_rows::text_of;
 use resb_pool::{BinarySerializerError, Plan, pool};
 use std::alloc::Global;
+use std::process::Abort;
 use std::test::Fail;
 
 /// A text of so many letters a.
@@ -13,66 +15,79 @@ fn letters(alloc: Global, count: usize) -> Result<String, Fail> {
     Ok(text)
 }
 
-/// Whether a plan has these units, and each text stands at its offset.
-fn is_planned(plan: &Plan<'_>, units: &[u16], offsets: &[(&str, u32)]) -> bool {
-    plan.units() == units
-        && offsets
-            .iter()
-            .all(|(text, offset)| plan.offset(text) == Some(*offset))
+/// Strings, the units that are planned for them, and where each string stands: with no suffix to
+/// share; with one; a copy more saves more, so its record comes first; a text lies in the greatest
+/// of the records that end with it; a text with U+0000 has a marker, and is no suffix of another;
+/// U+E000 comes before U+10000 by characters, and after it by units.
+const POOLS: &str = " => 0 |
+'' => 0 | 0
+xyz yz => 0 78 79 7a 0 | 1 2
+x y y => 0 79 0 78 0 | 3 1 1
+xa ya a => 0 79 61 0 78 61 0 | 4 1 2
+~ab ab => 0 dc03 0 61 62 0 | 1 3
+a~b ~b b => 0 dc02 0 62 0 dc03 61 0 62 0 | 5 1 3
+\u{e000}a \u{10000}a a => 0 e000 61 0 d800 dc00 61 0 | 1 4 6
+";
+
+/// The units of a plan, and where each of its strings stands.
+fn described(alloc: Global, plan: &Plan<'_>, strings: &[&str]) -> Result<String, Fail> {
+    let mut line = String::new(alloc);
+    for unit in plan.units() {
+        line.push_str(format!(in alloc; "{unit:x} ")?.as_str())?;
+    }
+    line.push_str("|")?;
+    for (number, text) in strings.iter().enumerate() {
+        let offset = plan.offset(text).ok_or("no offset")?;
+        let in_turn = plan
+            .offset_in_turn(number, text)
+            .ok_or("no offset in turn")?;
+        if offset != in_turn {
+            return Err("two offsets")?;
+        }
+        line.push_str(format!(in alloc; " {offset}")?.as_str())?;
+    }
+    Ok(line)
 }
 
-#[test]
-fn small_pools(rt: HostRuntime) -> Result<(), Fail> {
-    let alloc = rt.alloc();
-    let none = pool::plan(alloc, &[])?;
-    assert!(rt; is_planned(&none, &[0], &[]));
-    assert_eq!(rt; none.offset(""), None);
-    let empty = pool::plan(alloc, &[""])?;
-    assert!(rt; is_planned(&empty, &[0], &[("", 0)]));
-    let one_suffix = pool::plan(alloc, &["xyz", "yz"])?;
-    assert!(rt;
-        is_planned(
-            &one_suffix,
-            &[0, 0x78, 0x79, 0x7a, 0],
-            &[("xyz", 1), ("yz", 2)]
-        )
-    );
-    assert_eq!(rt; one_suffix.offset("z"), None);
-    // A copy more saves more, so "y" comes first.
-    let copies = pool::plan(alloc, &["x", "y", "y"])?;
-    assert!(rt; is_planned(&copies, &[0, 0x79, 0, 0x78, 0], &[("y", 1), ("x", 3)]));
-    // "a" lies in the greater of two records, which so saves more.
-    let greatest = pool::plan(alloc, &["xa", "ya", "a"])?;
-    assert!(rt;
-        is_planned(
-            &greatest,
-            &[0, 0x79, 0x61, 0, 0x78, 0x61, 0],
-            &[("xa", 4), ("ya", 1), ("a", 2)],
-        )
-    );
+/// The strings are planned so.
+fn assert_plan(rt: &impl Abort, alloc: Global, words: &str, wanted: &str) -> Result<(), Fail> {
+    let mut texts = Vec::new(alloc);
+    for word in words.split_whitespace() {
+        texts.push(text_of(alloc, word)?)?;
+    }
+    let mut strings = Vec::new(alloc);
+    for text in &texts {
+        strings.push(text.as_str())?;
+    }
+    let plan = pool::plan(alloc, &strings)?;
+    let found = described(alloc, &plan, &strings)?;
+    assert_eq!(rt; found.as_str(), wanted, "the plan of {words}");
     Ok(())
 }
 
 #[test]
+fn small_pools(rt: HostRuntime) -> Result<(), Fail> {
+    for row in POOLS.split_terminator('\n') {
+        let (words, wanted) = row.split_once(" => ").ok_or("a row without an answer")?;
+        assert_plan(&rt, rt.alloc(), words, wanted)?;
+    }
+    Ok(())
+}
+
+/// A text that was not given has no offset, also where it is the end of one that was.
+#[test]
+fn other_texts_have_no_offset(rt: HostRuntime) -> Result<(), Fail> {
+    let plan = pool::plan(rt.alloc(), &["xyz", "yz"])?;
+    assert_eq!(rt; plan.offset("z"), None);
+    assert_eq!(rt; plan.offset_in_turn(1, "z"), None);
+    Ok(())
+}
+
+/// Texts of 41 letters and more have markers, so that neither lies in the other; a short end lies
+/// in the shorter one.
+#[test]
 fn marked_pools(rt: HostRuntime) -> Result<(), Fail> {
     let alloc = rt.alloc();
-    // A text with U+0000 has a marker, and is no suffix of another.
-    let nul = pool::plan(alloc, &["\0ab", "ab"])?;
-    assert!(rt;
-        is_planned(
-            &nul,
-            &[0, 0xdc03, 0, 0x61, 0x62, 0],
-            &[("\0ab", 1), ("ab", 3)]
-        )
-    );
-    let two = pool::plan(alloc, &["a\0b", "\0b", "b"])?;
-    assert!(rt;
-        is_planned(
-            &two,
-            &[0, 0xdc02, 0, 0x62, 0, 0xdc03, 0x61, 0, 0x62, 0],
-            &[("a\0b", 5), ("\0b", 1), ("b", 3)],
-        )
-    );
     let (a41, a42) = (letters(alloc, 41)?, letters(alloc, 42)?);
     let long = pool::plan(alloc, &[a41.as_str(), a42.as_str(), "a"])?;
     assert_eq!(rt; long.offset(a41.as_str()), Some(1));
@@ -136,21 +151,6 @@ fn decimal_texts(rt: HostRuntime) -> Result<(), Fail> {
     for (text, offset) in rows {
         assert_eq!(rt; plan.offset(text), Some(offset));
     }
-    Ok(())
-}
-
-#[test]
-fn characters_not_units_order_suffixes(rt: HostRuntime) -> Result<(), Fail> {
-    let alloc = rt.alloc();
-    // U+E000 comes before U+10000 by characters, and after it by units.
-    let plan = pool::plan(alloc, &["\u{e000}a", "\u{10000}a", "a"])?;
-    assert!(rt;
-        is_planned(
-            &plan,
-            &[0, 0xe000, 0x61, 0, 0xd800, 0xdc00, 0x61, 0],
-            &[("\u{e000}a", 1), ("\u{10000}a", 4), ("a", 6)],
-        )
-    );
     Ok(())
 }
 

@@ -147,47 +147,29 @@ fn assert_unread(rt: &impl Abort, alloc: Global, text: &str, wanted: &str) -> Re
 
 #[test]
 fn texts_have_their_files(rt: HostRuntime) -> Result<(), Fail> {
-    let mut rest = FILES;
-    for _ in 0..FILES.len() {
-        let Some((row, more)) = rest.split_once(";\n") else {
-            break;
-        };
+    for row in FILES.split_terminator(";\n") {
         let (text, wanted) = row.split_once(" =>").ok_or("a row without an answer")?;
         assert_file(&rt, rt.alloc(), text, wanted)?;
-        rest = more;
     }
-    assert!(rt; rest.is_empty());
     Ok(())
 }
 
 #[test]
 fn each_bundle_is_read_back(rt: HostRuntime) -> Result<(), Fail> {
-    let mut rest = BUNDLES;
-    for _ in 0..BUNDLES.len() {
-        let Some((row, more)) = rest.split_once('\n') else {
-            break;
-        };
+    for row in BUNDLES.split_terminator('\n') {
         let (text, _tree) = row.split_once(" => ").ok_or("a row without an answer")?;
         let file = compile(rt.alloc(), text)?;
         assert_tree(&rt, rt.alloc(), text, &file)?;
-        rest = more;
     }
-    assert!(rt; rest.is_empty());
     Ok(())
 }
 
 #[test]
 fn each_refusal_is_the_readers(rt: HostRuntime) -> Result<(), Fail> {
-    let mut rest = REFUSALS;
-    for _ in 0..REFUSALS.len() {
-        let Some((row, more)) = rest.split_once('\n') else {
-            break;
-        };
+    for row in REFUSALS.split_terminator('\n') {
         let (text, wanted) = row.split_once(" => ").ok_or("a row without an answer")?;
         assert_unread(&rt, rt.alloc(), text, wanted)?;
-        rest = more;
     }
-    assert!(rt; rest.is_empty());
     Ok(())
 }
 

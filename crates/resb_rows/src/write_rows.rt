@@ -87,8 +87,8 @@ fn written(
     Serializer::to_bytes(alloc, &bundle, keys)
 }
 
-/// The string that a word of a row stands for.
-fn string<'a>(alloc: Global, word: &str) -> Result<Resource<'a>, Fail> {
+/// The text that a word of a row stands for.
+pub(crate) fn text_of(alloc: Global, word: &str) -> Result<String, Fail> {
     let mut text = String::new(alloc);
     for c in word.chars() {
         match c {
@@ -97,7 +97,29 @@ fn string<'a>(alloc: Global, word: &str) -> Result<Resource<'a>, Fail> {
             other => text.push(other)?,
         }
     }
-    Ok(Resource::String(CowStr::Owned(text)))
+    Ok(text)
+}
+
+/// The string that a word of a row stands for.
+fn string<'a>(alloc: Global, word: &str) -> Result<Resource<'a>, Fail> {
+    Ok(Resource::String(CowStr::Owned(text_of(alloc, word)?)))
+}
+
+/// The word with this number behind the header.
+fn word(file: &[u8], number: usize) -> Result<u32, Fail> {
+    let start = number.saturating_mul(4).saturating_add(32);
+    let (_, rest) = file.split_at_checked(start).ok_or("short")?;
+    let (bytes, _) = rest.split_at_checked(4).ok_or("short")?;
+    let bytes: [u8; 4] = bytes.try_into()?;
+    Ok(u32::from_le_bytes(bytes))
+}
+
+/// The words with these numbers behind the header.
+fn assert_words(rt: &impl Abort, file: &[u8], words: &[(usize, u32)]) -> Result<(), Fail> {
+    for (number, wanted) in words {
+        assert_eq!(rt; word(file, *number)?, *wanted, "word {number}");
+    }
+    Ok(())
 }
 
 /// The array of these strings has this file.
@@ -136,56 +158,64 @@ fn assert_list(rt: &impl Abort, alloc: Global, row: &str, wanted: &str) -> Resul
 
 #[test]
 fn arrays_of_strings_have_their_files(rt: HostRuntime) -> Result<(), Fail> {
-    let mut rest = STRINGS;
-    for _ in 0..STRINGS.len() {
-        let Some((row, more)) = rest.split_once(";\n") else {
-            break;
-        };
+    for row in STRINGS.split_terminator(";\n") {
         let (strings, wanted) = row.split_once(" =>").ok_or("a row without an answer")?;
         assert_strings(&rt, rt.alloc(), strings, wanted)?;
-        rest = more;
     }
-    assert!(rt; rest.is_empty());
     Ok(())
 }
 
 #[test]
 fn lists_of_keys_have_their_files(rt: HostRuntime) -> Result<(), Fail> {
-    let mut rest = LISTS;
-    for _ in 0..LISTS.len() {
-        let Some((row, more)) = rest.split_once(";\n") else {
-            break;
-        };
+    for row in LISTS.split_terminator(";\n") {
         let (list, wanted) = row.split_once(" =>").ok_or("a row without an answer")?;
         assert_list(&rt, rt.alloc(), list, wanted)?;
-        rest = more;
     }
-    assert!(rt; rest.is_empty());
     Ok(())
 }
 
-/// Roots that are no collection.
+/// The root has this file.
+fn assert_root(
+    rt: &impl Abort,
+    alloc: Global,
+    root: Resource<'_>,
+    wanted: &str,
+) -> Result<(), Fail> {
+    let found = told(alloc, written(alloc, root, &[]))?;
+    let wanted = joined(alloc, wanted)?;
+    assert_eq!(rt; found.as_str(), wanted.as_str());
+    Ok(())
+}
+
+/// Roots that hold no key.
 #[test]
 fn roots_of_each_kind(rt: HostRuntime) -> Result<(), Fail> {
     let alloc = rt.alloc();
-    let text = written(alloc, string(alloc, "a")?, &[]);
-    let expected =
-        "0100006007000000080000000a0000000a00000000000000000000000a000000000061000000aaaa";
-    assert_eq!(rt; told(alloc, text)?.as_str(), expected);
-    let number = written(alloc, Resource::Integer(Int28::from(-1i32)), &[]);
-    let expected = "ffffff7f070000000800000009000000090000000000000000000000090000000000aaaa";
-    assert_eq!(rt; told(alloc, number)?.as_str(), expected);
-    let numbers = written(alloc, Resource::IntVector(vec![in alloc; 1u32, 2]?), &[]);
-    let expected = joined(
+    assert_root(
+        &rt,
         alloc,
+        string(alloc, "a")?,
+        "0100006007000000080000000a0000000a00000000000000000000000a000000000061000000aaaa",
+    )?;
+    assert_root(
+        &rt,
+        alloc,
+        Resource::Integer(Int28::from(-1i32)),
+        "ffffff7f070000000800000009000000090000000000000000000000090000000000aaaa",
+    )?;
+    assert_root(
+        &rt,
+        alloc,
+        Resource::IntVector(vec![in alloc; 1u32, 2]?),
         "090000e007000000080000000c0000000c0000000000000000000000090000000000aaaa
         020000000100000002000000",
     )?;
-    assert_eq!(rt; told(alloc, numbers)?.as_str(), expected.as_str());
-    let none = written(alloc, Resource::Array(Vec::new(alloc)), &[]);
-    let expected = "00000080070000000800000009000000090000000000000000000000090000000000aaaa";
-    assert_eq!(rt; told(alloc, none)?.as_str(), expected);
-    Ok(())
+    assert_root(
+        &rt,
+        alloc,
+        Resource::Array(Vec::new(alloc)),
+        "00000080070000000800000009000000090000000000000000000000090000000000aaaa",
+    )
 }
 
 /// A table of a key of so many letters K and a key z, for a list of `L`, the long key, and `z`.
@@ -210,140 +240,184 @@ fn far_table(alloc: Global, letters: usize, list: &str) -> Result<Vec<u8>, Fail>
     Ok(written(alloc, Resource::Table(table), &keys)?)
 }
 
+/// Letters of the long key, a list of keys, the length of the file, and some of its words.
+type Far = (usize, &'static str, usize, &'static [(usize, u32)]);
+
 /// A position of 65535 fits a unit; one of 65536 asks for a table with 32-bit positions. The last
 /// place of a doubled key counts.
+const FAR_TABLES: [Far; 4] = [
+    (
+        65502,
+        "Lz",
+        65592,
+        &[(0, 0x5000_0005), (16_388, 0xffff_0020)],
+    ),
+    (
+        65503,
+        "Lz",
+        65604,
+        &[
+            (0, 0x4000_4004),
+            (16_388, 2),
+            (16_390, 65536),
+            (16_392, 0x6000_0003),
+        ],
+    ),
+    (
+        65502,
+        "zLz",
+        65604,
+        &[(0, 0x4000_4004), (16_389, 34), (16_390, 65537)],
+    ),
+    (
+        65503,
+        "zL",
+        65592,
+        &[(0, 0x5000_0005), (16_388, 0x0020_0022)],
+    ),
+];
+
 #[test]
 fn positions_at_the_limit(rt: HostRuntime) -> Result<(), Fail> {
-    let near = far_table(rt.alloc(), 65502, "Lz")?;
-    assert_eq!(rt; near.len(), 65592);
-    assert_eq!(rt; word(&near, 0)?, 0x5000_0005);
-    assert_eq!(rt; word(&near, 16_388)?, 0xffff_0020);
-    let far = far_table(rt.alloc(), 65503, "Lz")?;
-    assert_eq!(rt; far.len(), 65604);
-    assert_eq!(rt; word(&far, 0)?, 0x4000_4004);
-    assert_eq!(rt; word(&far, 16_388)?, 2);
-    assert_eq!(rt; word(&far, 16_390)?, 65536);
-    assert_eq!(rt; word(&far, 16_392)?, 0x6000_0003);
-    let last = far_table(rt.alloc(), 65502, "zLz")?;
-    let body = (word(&last, 0)? & 0x0fff_ffff) as usize;
-    assert_eq!(rt; word(&last, 0)? >> 28, 4);
-    assert_eq!(rt; word(&last, body + 1)?, 34);
-    assert_eq!(rt; word(&last, body + 2)?, 65537);
-    let first = far_table(rt.alloc(), 65503, "zL")?;
-    assert_eq!(rt; word(&first, 0)?, 0x5000_0005);
-    assert_eq!(rt; word(&first, 16_388)?, 0x0020_0022);
+    for (letters, list, length, words) in FAR_TABLES {
+        let file = far_table(rt.alloc(), letters, list)?;
+        assert_eq!(rt; file.len(), length, "{letters} letters, {list}");
+        assert_words(&rt, &file, words)?;
+    }
     Ok(())
 }
 
-/// Marked strings: forty characters of two units each, and 41 and 42 letters of which one ends the
-/// other.
+/// The array of strings of so many of one character each.
+fn repeated<'a>(alloc: Global, c: char, counts: &[usize]) -> Result<Resource<'a>, Fail> {
+    let mut items = Vec::new(alloc);
+    for count in counts {
+        let mut text = String::new(alloc);
+        for _ in 0..*count {
+            text.push(c)?;
+        }
+        items.push(Resource::String(CowStr::Owned(text)))?;
+    }
+    Ok(Resource::Array(items))
+}
+
+/// Forty characters of two units each have a marker.
+#[test]
+fn forty_faces_are_marked(rt: HostRuntime) -> Result<(), Fail> {
+    let alloc = rt.alloc();
+    let file = written(alloc, repeated(alloc, '\u{1f600}', &[40])?, &[])?;
+    let words = [
+        (0, 0x9000_0053),
+        (7, 51),
+        (8, 0xdc50_0000),
+        (9, 0xde00_d83d),
+        (49, 0x0001_0000),
+    ];
+    assert_words(&rt, &file, &words)
+}
+
+/// Strings of 41 and 42 letters have markers, and each a record, although one ends the other.
 #[test]
 fn marked_strings_stand_in_files(rt: HostRuntime) -> Result<(), Fail> {
     let alloc = rt.alloc();
-    let mut faces = String::new(alloc);
-    let mut letters = String::new(alloc);
-    for _ in 0..40 {
-        faces.push('\u{1f600}')?;
-        letters.push('a')?;
+    let file = written(alloc, repeated(alloc, 'a', &[41, 42, 1])?, &[])?;
+    let words = [
+        (0, 0x9000_0058),
+        (7, 54),
+        (8, 0xdc29_0000),
+        (52, 0x1_0003),
+        (53, 0x2a_002c),
+    ];
+    assert_words(&rt, &file, &words)
+}
+
+/// The table of a number at each key, written with a list of keys, is refused so.
+fn assert_refused(
+    rt: &impl Abort,
+    alloc: Global,
+    used: &[&'static str],
+    listed: &[Key<'_>],
+    wanted: &str,
+) -> Result<(), Fail> {
+    let mut table: Table = BTreeMap::new(alloc);
+    for key in used {
+        table.insert(Key::from(*key), Resource::Integer(Int28::from(0u32)))?;
     }
-    let text = written(alloc, Resource::String(CowStr::Owned(faces)), &[])?;
-    assert_eq!(rt; word(&text, 0)?, 0x6000_0001);
-    assert_eq!(rt; word(&text, 7)?, 50);
-    assert_eq!(rt; word(&text, 8)?, 0xdc50_0000);
-    assert_eq!(rt; word(&text, 9)?, 0xde00_d83d);
-    let mut items = Vec::new(alloc);
-    letters.push('a')?;
-    items.push(string(alloc, letters.as_str())?)?;
-    letters.push('a')?;
-    items.push(string(alloc, letters.as_str())?)?;
-    items.push(string(alloc, "a")?)?;
-    let array = written(alloc, Resource::Array(items), &[])?;
-    assert_eq!(rt; word(&array, 0)?, 0x9000_0058);
-    assert_eq!(rt; word(&array, 7)?, 54);
-    assert_eq!(rt; word(&array, 8)?, 0xdc29_0000);
-    assert_eq!(rt; word(&array, 52)?, 0x0001_0003);
-    assert_eq!(rt; word(&array, 53)?, 0x002a_002c);
+    let found = told(alloc, written(alloc, Resource::Table(table), listed))?;
+    assert_eq!(rt; found.as_str(), wanted);
     Ok(())
 }
 
-/// A table of integers at the keys a and b with U+0000, and lists of these.
+/// A key that isn't listed comes before one that holds U+0000.
 #[test]
 fn faults_of_keys_have_an_order(rt: HostRuntime) -> Result<(), Fail> {
     let alloc = rt.alloc();
+    let unlisted = "refused: Unexpected error: key not present in position map";
+    let nul = "refused: Unexpected error: key contains U+0000";
+    let one = [Key::from("b\0")];
+    let both = [Key::from("a"), Key::from("b\0")];
+    assert_refused(&rt, alloc, &["a", "b\0"], &one, unlisted)?;
+    assert_refused(&rt, alloc, &["a", "b\0"], &both, nul)?;
+    assert_refused(&rt, alloc, &["b\0"], &both, nul)
+}
+
+/// A table of a number at each of the keys `00000` to `65535`.
+fn numbered<'a>(alloc: Global) -> Result<Table<'a>, Fail> {
     let mut table: Table = BTreeMap::new(alloc);
-    table.insert(Key::from("a"), Resource::Integer(Int28::from(0u32)))?;
-    table.insert(Key::from("b\0"), Resource::Integer(Int28::from(0u32)))?;
-    let bundle = ResourceBundle::new(CowStr::Borrowed("b"), Resource::Table(table), true);
-    let one = Serializer::to_bytes(alloc, &bundle, &[Key::from("b\0")]);
-    let expected = "refused: Unexpected error: key not present in position map";
-    assert_eq!(rt; told(alloc, one)?.as_str(), expected);
-    let both = Serializer::to_bytes(alloc, &bundle, &[Key::from("a"), Key::from("b\0")]);
-    let expected = "refused: Unexpected error: key contains U+0000";
-    assert_eq!(rt; told(alloc, both)?.as_str(), expected);
-    Ok(())
+    for number in 0..65536u32 {
+        let key = Key::from(format!(in alloc; "{number:05}")?);
+        table.insert(key, Resource::Integer(Int28::from(0u32)))?;
+    }
+    Ok(table)
 }
 
-/// A table of one entry, whose key holds U+0000.
-#[test]
-fn a_key_with_nul_is_refused(rt: HostRuntime) -> Result<(), Fail> {
-    let alloc = rt.alloc();
-    let mut table: Table = BTreeMap::new(alloc);
-    table.insert(Key::from("a\0"), Resource::Array(Vec::new(alloc)))?;
-    let answer = written(alloc, Resource::Table(table), &[Key::from("a\0")]);
-    let expected = "refused: Unexpected error: key contains U+0000";
-    assert_eq!(rt; told(alloc, answer)?.as_str(), expected);
-    Ok(())
+/// The keys of a table, in their order.
+fn keys_of<'a>(alloc: Global, table: &'a Table<'_>) -> Result<Vec<Key<'a>>, Fail> {
+    let mut keys = Vec::with_capacity(alloc, table.len())?;
+    for key in table.keys() {
+        keys.push(Key::from(key.as_str()))?;
+    }
+    Ok(keys)
 }
 
-/// The word with this number behind the header.
-fn word(file: &[u8], number: usize) -> Result<u32, Fail> {
-    let start = number.saturating_mul(4).saturating_add(32);
-    let (_, rest) = file.split_at_checked(start).ok_or("short")?;
-    let (bytes, _) = rest.split_at_checked(4).ok_or("short")?;
-    let bytes: [u8; 4] = bytes.try_into()?;
-    Ok(u32::from_le_bytes(bytes))
-}
-
-/// 65536 keys `00000` to `65535`: a table with 32-bit positions, which is read back.
+/// A table of 65536 entries has 32-bit key positions, and is read back.
 #[test]
 fn a_table_of_65536_entries(rt: HostRuntime) -> Result<(), Fail> {
     let alloc = rt.alloc();
-    let mut table: Table = BTreeMap::new(alloc);
-    let mut keys = Vec::new(alloc);
-    for number in 0..65536u32 {
-        let key = Key::from(format!(in alloc; "{number:05}")?);
-        keys.push(key.try_clone(alloc)?)?;
-        table.insert(key, Resource::Integer(Int28::from(0u32)))?;
-    }
-    let bundle = ResourceBundle::new(CowStr::Borrowed("b"), Resource::Table(table), true);
-    let none = Serializer::to_bytes(alloc, &bundle, &[]);
-    let expected = "refused: Unexpected error: key not present in position map";
-    assert_eq!(rt; told(alloc, none)?.as_str(), expected);
-    let file = Serializer::to_bytes(alloc, &bundle, &keys)?;
+    let table = numbered(alloc)?;
+    let keys = keys_of(alloc, &table)?;
+    let file = written(alloc, Resource::Table(numbered(alloc)?), &keys)?;
     let root = word(&file, 0)?;
     assert_eq!(rt; root >> 28, 4);
     let body = (root & 0x0fff_ffff) as usize;
-    assert_eq!(rt; word(&file, body)?, 65536);
-    assert_eq!(rt; word(&file, body + 65536)?, 393_242);
+    assert_words(&rt, &file, &[(body, 65536), (body + 65536, 393_242)])?;
     let tree: Resource = from_bytes(alloc, &file)?;
-    assert!(rt; tree.equals(bundle.root()));
+    assert!(rt; tree.equals(&Resource::Table(numbered(alloc)?)));
     Ok(())
 }
 
-/// Many arrays in one another, and many tables.
+/// Many arrays in one another.
 #[test]
-fn deep_trees_are_written(rt: HostRuntime) -> Result<(), Fail> {
+fn deep_arrays_are_written(rt: HostRuntime) -> Result<(), Fail> {
     let alloc = rt.alloc();
     let mut arrays = Resource::Array(Vec::new(alloc));
-    let mut tables = Resource::Table(BTreeMap::new(alloc));
     for _ in 0..100_000u32 {
         arrays = Resource::Array(vec![in alloc; arrays]?);
+    }
+    let file = written(alloc, arrays, &[])?;
+    assert_eq!(rt; file.len(), 68 + 800_000);
+    Ok(())
+}
+
+/// Many tables in one another.
+#[test]
+fn deep_tables_are_written(rt: HostRuntime) -> Result<(), Fail> {
+    let alloc = rt.alloc();
+    let mut tables = Resource::Table(BTreeMap::new(alloc));
+    for _ in 0..100_000u32 {
         let mut table: Table = BTreeMap::new(alloc);
         table.insert(Key::from("k"), tables)?;
         tables = Resource::Table(table);
     }
-    let file = written(alloc, arrays, &[])?;
-    assert_eq!(rt; file.len(), 68 + 800_000);
     let file = written(alloc, tables, &[Key::from("k")])?;
     assert_eq!(rt; file.len(), 72 + 800_000);
     Ok(())

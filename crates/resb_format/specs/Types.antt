@@ -1,4 +1,5 @@
--- The numbers of resource types in a descriptor. (ICU's `uresdata.h`: `URES_STRING` and those below.)
+-- The numbers of resource types in a descriptor. (ICU's `uresdata.h`: `URES_STRING` and those
+-- below.)
 --     is_read_type n          a type that is read: all but strings of the older formats and aliases
 use Rattle.std.specs.Prelude.{ℕ, Bool, ◌==◌, ◌&&◌, ◌||◌, not, nat_le}
 

@@ -26,7 +26,8 @@ value_in w = w % 2 ^ 28
 
 -- a number: the 28 bits of an Int with bit 27 as the sign, or a vector's word
 abbrev pub signed_at : Spot → Option (ℤ × ℕ)
-signed_at (spot.Descriptor w) = if type_in w == types.integer then Some (signed (value_in w), 1) else None
+signed_at (spot.Descriptor w) =
+    if type_in w == types.integer then Some (signed (value_in w), 1) else None
 signed_at (spot.Word w) = Some (cast_signed w32 w, 0)
 signed_at (spot.Unit u) = None
 signed_at (spot.Key k) = None

@@ -40,7 +40,8 @@ paid left later = if left == 0 then invalid (codes "resource budget spent") else
 -- an Int that doesn't fit, or another type
 abbrev pub integer_refusal : ℕ → Refusal → Refusal
 integer_refusal type unfit =
-    if type == types.integer then unfit else type_refusal type (mismatch (codes "expected integer resource"))
+    if type == types.integer then unfit
+    else type_refusal type (mismatch (codes "expected integer resource"))
 
 abbrev pub number_refusal : Spot → ℕ → Refusal
 number_refusal (spot.Descriptor w) left = paid left (integer_refusal (type_in w) out_of_range)

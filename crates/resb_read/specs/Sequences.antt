@@ -35,7 +35,8 @@ members_in None = None
 -- of an Array, an Array16 or an IntVector
 abbrev pub items_in : Parts → ℕ → Option (List Spot)
 items_in p w =
-    if types.is_array (type_in w) || type_in w == types.int_vector then members_in (content p w) else None
+    if types.is_array (type_in w) || type_in w == types.int_vector then members_in (content p w)
+    else None
 
 abbrev pub items_from : Parts → Spot → Option (List Place)
 items_from p (spot.Descriptor w) = option_map (map (at_spot p)) (items_in p w)

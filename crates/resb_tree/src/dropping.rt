@@ -1,6 +1,7 @@
 //! The drop of a resource by a list of what is still to be dropped, so that no depth of a tree ends
 //! the process.
-//! A resource is dropped by a call of its own only where that list can't grow, and a leaf of a table.
+//! A resource is dropped by a call of its own only where that list can't grow, and a leaf of a
+//! table.
 ghost use Rattle.std.specs.Prelude.{◌≡◌, ◌+◌, ◌≤◌, max, [], MatchResult, IsTrue, ◌↔◌, IfErr, OnOk};
 ghost use Rattle.std.specs.Prelude.{None};
 ghost use Rattle.resb_tree.specs.Tree.{no_trees, array, tree_count, trees_count};

@@ -37,7 +37,8 @@ is_counted_type n =
 -- strings of the older formats and aliases; or a number that names no type
 abbrev pub type_damage : ℕ → Refusal
 type_damage type =
-    if type == types.old_string || type == types.alias then unsupported (codes "resource type is not supported")
+    if type == types.old_string || type == types.alias then
+    unsupported (codes "resource type is not supported")
     else invalid (codes "unrecognized value for ResourceReprType")
 
 abbrev pub placed_damage : Parts → ℕ → ℕ → Refusal

@@ -1,5 +1,5 @@
 //! Nothing, made by the reader: resources are counted and checked, and no tree is made.
-//! The reader itself is in `reading`.
+//! The reader itself is in `read`.
 
 use crate::file::Leaf;
 use crate::make::Make;

@@ -1,5 +1,5 @@
 //! Open collections, step by step: members are taken from one, and put in when they are made.
-//! In which order they are open is the business of `reading`.
+//! In which order they are open is the business of `read`.
 ghost use Rattle.std.specs.Prelude.{◌≡◌, ℕ, ◌+◌, IfErr};
 ghost use Rattle.resb_tree.specs.Tree.{Tree};
 ghost use Rattle.resb_format.specs.Parts.{Parts};

@@ -1,5 +1,5 @@
 //! The budget of a walk through a file, in resources.
-//! How much a file has of it is said in `opening`.
+//! How much a file has of it is said where the crate above opens one.
 ghost use Rattle.std.specs.Prelude.{◌≡◌, ℕ, ◌+◌, MatchResult};
 ghost use Rattle.resb_walk.specs.Refusals.{IsSpent};
 

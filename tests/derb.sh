@@ -41,6 +41,8 @@ opened 'b{a:intvector{1,-1,4294967295}}'
 opened 'b{a:bin{"00ff10"}}'
 opened 'b{a:array{"x","y"}t{u{v{"w"}}}}'
 opened 'b{k{"aaaaaaaaaaaaaaaaaaaaaaaaaaaaaaaaaaaaaaaaa"}}'
+opened "b{k{\"$(printf 'a%.0s' $(seq 1007))\"}}"
+opened 'b{a:array{:array{:int{1}}:array{:array{"x"}}}}'
 
 echo "derb: $passed passed, $failed failed"
 [ "$failed" = 0 ]

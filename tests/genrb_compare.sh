@@ -43,6 +43,7 @@ compared '' 'b{v:intvector{1,-1,70000}w:intvector{1}}'
 compared '' 'b{d:bin{"00ff10"}e:bin{"000102030405060708090a0b0c0d0e0f10"}}'
 compared '' 'b{a:array{"x","y","z"}}'
 compared '' 'b{a:array{"x",:int{1},{k{"v"}}}}'
+compared '' 'b{a:array{:array{:int{1}}:array{:array{"x"}}}}'
 compared '' 'b{t:table{u:table{v{"w"}}}n{"w"}}'
 compared '' 'b{t:table{k{"v"}l:int{1}m:bin{"aa"}}}'
 compared '' 'b{a{"é"}b{"ü漢"}c{"漢"}d{"😀"}}'
@@ -52,6 +53,11 @@ compared '' "b{k{\"$(letters 1006)\"}l{\"$(letters 1007)\"}}"
 compared 'an end of two marked strings lies in the other' "b{k{\"$(letters 41)\"}l{\"$(letters 42)\"}m{\"a\"}}"
 compared 'an empty string beside others is a word 0 there' 'b{a:array{"",:int{1}}}'
 compared 'an empty group is an array there' 'b{a{}}'
+compared 'words in a row are joined there' 'b{a{hello world}}'
+compared 'strings in a row are joined there' 'b{a{"x" "y"}}'
+compared 'a backslash begins an escape there' 'b{a{"\u0041"}}'
+compared 'a number that begins with 0 is octal there' 'b{a:int{010}}'
+compared 'a collation gets its binary form there' 'b{collations{standard{Sequence{"&a<b"}}}}'
 compared '' 'b:table(nofallback){a{"x"}}'
 
 echo "genrb: $equal equal, $known differ for a known reason, $failed failed"

@@ -1,8 +1,8 @@
 #!/usr/bin/env bash
 # Refuses the first, the second, .. request for memory of the built program, one in each run, until a run
 # asks for no more. Each run has to answer want of memory or what it answers with ample memory; it writes
-# to standard output or to OUT nothing or all, and never ends by a signal. The same for the program
-# `resb_calls`, which makes each public call that asks for memory.
+# to standard output all or nothing, leaves in OUT all or what stood there, and never ends by a signal. The
+# same for the program `resb_calls`, which makes each public call that asks for memory.
 #
 # tests/memory.sh [MOST]    at most MOST requests for each command and input; without it all of them.
 #                           Those of the public calls are always all refused.
@@ -18,13 +18,15 @@ failed=0
 
 . "$top/tests/refusing.sh"
 make_refusing "$work/refuse.so" || exit 3
+printf 'what stood there' > "$work/before.res"
 
 # answer NUMBER WORD..: runs the program on the file `in`; the request with this number is refused.
-# What it wrote is in out, err and res, its status in `status`, and `refused` says whether one was.
+# What it wrote is in out, err and out.res, where another file stood, its status in `status`, and `refused`
+# says whether a request was refused.
 answer() {
   local number=$1
   shift
-  rm -f "$work/out.res"
+  cp "$work/before.res" "$work/out.res"
   : > "$work/mark"
   status=0
   REFUSED_REQUEST=$number LD_PRELOAD=$work/refuse.so "$program" "$@" \
@@ -42,21 +44,16 @@ says_memory() {
   esac
 }
 
-# whether OUT is as the run with ample memory left it
-same_file() {
-  if [ -e "$work/want.res" ]; then cmp -s "$work/out.res" "$work/want.res"; else [ ! -e "$work/out.res" ]; fi
-}
-
 # holds NAME NUMBER WORD..: one run with one request refused
 holds() {
   local name=$1 number=$2
   shift 2
   answer "$number" "$@"
   if [ "$status" = "$want" ] && cmp -s "$work/out" "$work/want_out" \
-    && cmp -s "$work/err" "$work/want_err" && same_file; then
+    && cmp -s "$work/err" "$work/want_err" && cmp -s "$work/out.res" "$work/want.res"; then
     passed=$((passed + 1))
   elif [ "$refused" = yes ] && [ "$status" = 1 ] && [ ! -s "$work/out" ] && says_memory \
-    && [ ! -e "$work/out.res" ]; then
+    && cmp -s "$work/out.res" "$work/before.res"; then
     passed=$((passed + 1))
   else
     failed=$((failed + 1))
@@ -69,12 +66,11 @@ holds() {
 refuses_each() {
   local name=$1 number
   shift
-  rm -f "$work/want.res"
   answer 0 "$@"
   want=$status
   cp "$work/out" "$work/want_out"
   cp "$work/err" "$work/want_err"
-  if [ -e "$work/out.res" ]; then cp "$work/out.res" "$work/want.res"; fi
+  cp "$work/out.res" "$work/want.res"
   for ((number = 1; number <= most; number++)); do
     holds "$name" "$number" "$@"
     [ "$refused" = yes ] || break

@@ -80,6 +80,8 @@ fn other_texts_have_no_offset(rt: HostRuntime) -> Result<(), Fail> {
     let plan = pool::plan(rt.alloc(), &["xyz", "yz"])?;
     assert_eq!(rt; plan.offset("z"), None);
     assert_eq!(rt; plan.offset_in_turn(1, "z"), None);
+    let none = pool::plan(rt.alloc(), &[])?;
+    assert_eq!(rt; none.offset(""), None);
     Ok(())
 }
 

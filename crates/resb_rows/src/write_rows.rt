@@ -250,30 +250,25 @@ const FAR_TABLES: [Far; 4] = [
         65502,
         "Lz",
         65592,
-        &[(0, 0x5000_0005), (16_388, 0xffff_0020)],
+        &[(0, 0x5000_0005), (2, 16385), (16_388, 0xffff_0020)],
     ),
     (
         65503,
         "Lz",
         65604,
-        &[
-            (0, 0x4000_4004),
-            (16_388, 2),
-            (16_390, 65536),
-            (16_392, 0x6000_0003),
-        ],
+        &[(0, 0x4000_4004), (16_388, 2), (16_389, 32), (16_390, 65536)],
     ),
     (
         65502,
         "zLz",
         65604,
-        &[(0, 0x4000_4004), (16_389, 34), (16_390, 65537)],
+        &[(0, 0x4000_4004), (7, 16388), (16_389, 34), (16_390, 65537)],
     ),
     (
         65503,
         "zL",
         65592,
-        &[(0, 0x5000_0005), (16_388, 0x0020_0022)],
+        &[(0, 0x5000_0005), (7, 16390), (16_388, 0x0020_0022)],
     ),
 ];
 
@@ -287,39 +282,44 @@ fn positions_at_the_limit(rt: HostRuntime) -> Result<(), Fail> {
     Ok(())
 }
 
-/// The array of strings of so many of one character each.
-fn repeated<'a>(alloc: Global, c: char, counts: &[usize]) -> Result<Resource<'a>, Fail> {
-    let mut items = Vec::new(alloc);
-    for count in counts {
-        let mut text = String::new(alloc);
-        for _ in 0..*count {
-            text.push(c)?;
-        }
-        items.push(Resource::String(CowStr::Owned(text)))?;
+/// The text of so many of one character.
+fn repeated(alloc: Global, c: char, count: usize) -> Result<String, Fail> {
+    let mut text = String::new(alloc);
+    for _ in 0..count {
+        text.push(c)?;
     }
-    Ok(Resource::Array(items))
+    Ok(text)
 }
 
 /// Forty characters of two units each have a marker.
 #[test]
 fn forty_faces_are_marked(rt: HostRuntime) -> Result<(), Fail> {
     let alloc = rt.alloc();
-    let file = written(alloc, repeated(alloc, '\u{1f600}', &[40])?, &[])?;
+    let text = repeated(alloc, '\u{1f600}', 40)?;
+    let file = written(alloc, Resource::String(CowStr::Owned(text)), &[])?;
     let words = [
-        (0, 0x9000_0053),
-        (7, 51),
+        (0, 0x6000_0001),
+        (7, 50),
         (8, 0xdc50_0000),
         (9, 0xde00_d83d),
-        (49, 0x0001_0000),
     ];
     assert_words(&rt, &file, &words)
+}
+
+/// The array of strings of so many letters a each.
+fn letters<'a>(alloc: Global, counts: &[usize]) -> Result<Resource<'a>, Fail> {
+    let mut items = Vec::new(alloc);
+    for count in counts {
+        items.push(Resource::String(CowStr::Owned(repeated(alloc, 'a', *count)?)))?;
+    }
+    Ok(Resource::Array(items))
 }
 
 /// Strings of 41 and 42 letters have markers, and each a record, although one ends the other.
 #[test]
 fn marked_strings_stand_in_files(rt: HostRuntime) -> Result<(), Fail> {
     let alloc = rt.alloc();
-    let file = written(alloc, repeated(alloc, 'a', &[41, 42, 1])?, &[])?;
+    let file = written(alloc, letters(alloc, &[41, 42, 1])?, &[])?;
     let words = [
         (0, 0x9000_0058),
         (7, 54),
@@ -392,6 +392,19 @@ fn a_table_of_65536_entries(rt: HostRuntime) -> Result<(), Fail> {
     assert_words(&rt, &file, &[(body, 65536), (body + 65536, 393_242)])?;
     let tree: Resource = from_bytes(alloc, &file)?;
     assert!(rt; tree.equals(&Resource::Table(numbered(alloc)?)));
+    Ok(())
+}
+
+/// Without a list no key is known, however many are used.
+#[test]
+fn keys_without_a_list_are_refused(rt: HostRuntime) -> Result<(), Fail> {
+    let alloc = rt.alloc();
+    let found = told(
+        alloc,
+        written(alloc, Resource::Table(numbered(alloc)?), &[]),
+    )?;
+    let wanted = "refused: Unexpected error: key not present in position map";
+    assert_eq!(rt; found.as_str(), wanted);
     Ok(())
 }
 

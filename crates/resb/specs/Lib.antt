@@ -27,6 +27,12 @@ pub use Rattle.resb_format.specs.StringFaults
 pub use Rattle.resb_format.specs.Parts
 pub use Rattle.resb_format.specs.Denotes
 pub use Rattle.resb_format.specs.File
+pub use Rattle.resb_pool.specs.Plan
+pub use Rattle.resb_pool.specs.Fault
+pub use Rattle.resb_pool.specs.FaultOf
+pub use Rattle.resb_write.specs.PlainSize
+pub use Rattle.resb_write.specs.Faults
+pub use Rattle.resb_write.specs.WrittenHead
 pub use Rattle.resb_write.specs.Written
 pub mod Compiling
 pub mod Laws
@@ -35,6 +41,7 @@ pub use Rattle.resb_format.specs.Content
 pub use Rattle.resb_format.specs.Error
 pub use Rattle.resb_format.specs.Views
 pub use Rattle.resb_walk.specs.Damage
+pub use Rattle.resb_walk.specs.Meets
 pub use Rattle.resb_walk.specs.Refusals
 pub use Rattle.resb_walk.specs.Borrows
 pub use Rattle.resb_read.specs.Places

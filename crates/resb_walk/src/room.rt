@@ -8,10 +8,14 @@ use std::alloc::Global;
 
 /// The members of the collection at a word, if one stands there.
 fn members_at(file: File<'_>, word: u32) -> Option<Members<'_>> {
-    let (kind, _) = readable(word).ok()?;
-    // A text has none, and needn't be looked at.
-    if kind == ResourceReprType::StringV2 {
-        return None;
+    match readable(word).ok()?.0 {
+        ResourceReprType::Table
+        | ResourceReprType::_Table32
+        | ResourceReprType::Table16
+        | ResourceReprType::Array
+        | ResourceReprType::Array16 => {}
+        // Leaves have none, and needn't be looked at.
+        _ => return None,
     }
     match file.standing(word) {
         Ok(Standing::List(members)) => Some(members),

@@ -3,6 +3,7 @@
 use resb_format::{BinaryDeserializerError, Resource};
 use resb_read::{count_resources, from_bytes, from_bytes_counted, tree_from_bytes};
 use std::alloc::Global;
+use std::process::Abort;
 use std::test::Fail;
 
 /// Adds a tree of few levels: `"text"`, `[item, ..]`, `{key=item, ..}`, `<bytes>`, `number`,
@@ -76,15 +77,21 @@ fn push_numbers<N: Copy + Into<u32>>(
     Ok(())
 }
 
+/// The line of a tree.
+pub(crate) fn shown(alloc: Global, tree: &Resource<'_>) -> Result<String, Fail> {
+    let mut line = String::new(alloc);
+    push_tree(alloc, &mut line, tree, 9)?;
+    Ok(line)
+}
+
 /// The line of a count and a tree.
 pub(crate) fn line_of_tree(
     alloc: Global,
     count: usize,
     tree: &Resource<'_>,
 ) -> Result<String, Fail> {
-    let mut line = format!(in alloc; "{count} ")?;
-    push_tree(alloc, &mut line, tree, 9)?;
-    Ok(line)
+    let tree = shown(alloc, tree)?;
+    Ok(format!(in alloc; "{count} {tree}")?)
 }
 
 /// The line of a refusal.
@@ -119,13 +126,29 @@ fn line_by_tree(alloc: Global, bytes: &[u8]) -> Result<String, Fail> {
     }
 }
 
-/// The line of a file, which is the same by each of the calls that read a whole tree.
-pub(crate) fn line_of(alloc: Global, bytes: &[u8]) -> Result<String, Fail> {
-    let line = line_by_counted(alloc, bytes)?;
-    if line != line_by_count(alloc, bytes)? || line != line_by_tree(alloc, bytes)? {
+/// The line that two calls give.
+pub(crate) fn same(one: String, other: String) -> Result<String, Fail> {
+    if one != other {
         return Err("the calls differ")?;
     }
-    Ok(line)
+    Ok(one)
+}
+
+/// The line of a file, which is the same by each of the calls that read a whole tree.
+pub(crate) fn line_of(alloc: Global, bytes: &[u8]) -> Result<String, Fail> {
+    let line = same(line_by_counted(alloc, bytes)?, line_by_count(alloc, bytes)?)?;
+    same(line, line_by_tree(alloc, bytes)?)
+}
+
+/// What a row asks for, and the answer that it wants.
+pub(crate) fn parts(row: &str) -> Result<(&str, &str), Fail> {
+    let (input, said) = row.split_once(" =>").ok_or("a row without an answer")?;
+    Ok((input, said.trim_start()))
+}
+
+/// The line is the one that is wanted.
+pub(crate) fn assert_said(rt: &impl Abort, found: String, said: &str) {
+    assert_eq!(rt; found.as_str(), said);
 }
 
 /// The digest of no lines.

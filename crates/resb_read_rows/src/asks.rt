@@ -1,8 +1,9 @@
 //! What can be asked for at a place, and the line of what is answered.
 //! The places are found in `places`, and the rows are in `type_rows`.
-use crate::answers::line_of_refusal;
+use crate::answers::{line_of_refusal, shown};
 use resb_format::{
-    BinaryDeserializerError, I32View, Int28, Key, PairView, ReadingError, Utf16View, WordView,
+    BinaryDeserializerError, I32View, Int28, Key, PairView, ReadingError, Resource, Utf16View,
+    WordView,
 };
 use resb_read::helpers::{
     i32_tuple, option_i32, option_i32_tuple, option_u32, option_utf_16, vec_utf_16,
@@ -13,69 +14,11 @@ use std::collections::BTreeMap;
 use std::fmt::Debug;
 use std::test::Fail;
 
-/// What is asked for at a place.
-#[derive(Clone, Copy)]
-pub(crate) enum Ask {
-    Bool,
-    I8,
-    I16,
-    I32,
-    I64,
-    U8,
-    U16,
-    U32,
-    U64,
-    Text,
-    Key,
-    Bytes,
-    Bits,
-    OptionBool,
-    TextList,
-    WordList,
-    TextMap,
-    WordListMap,
-    ByteMap,
-    UnitView,
-    WordView,
-    NumberView,
-    PairView,
-    UnitViewList,
-    ReprType,
-    Skip,
-    KeyMap,
-    Pairs,
-    UnitLists,
-}
-
-/// Those of a sweep, in the order of their lines.
-pub(crate) const ALL: [Ask; 26] = [
-    Ask::Bool,
-    Ask::I8,
-    Ask::I16,
-    Ask::I32,
-    Ask::I64,
-    Ask::U8,
-    Ask::U16,
-    Ask::U32,
-    Ask::U64,
-    Ask::Text,
-    Ask::Key,
-    Ask::Bytes,
-    Ask::Bits,
-    Ask::OptionBool,
-    Ask::TextList,
-    Ask::WordList,
-    Ask::TextMap,
-    Ask::WordListMap,
-    Ask::ByteMap,
-    Ask::UnitView,
-    Ask::WordView,
-    Ask::NumberView,
-    Ask::PairView,
-    Ask::UnitViewList,
-    Ask::ReprType,
-    Ask::Skip,
-];
+/// What is asked for at a place in a sweep, in the order of the lines.
+pub(crate) const ALL: &str = "\
+    bool i8 i16 i32 i64 u8 u16 u32 u64 text key bytes bits option-bool text-list word-list text-map \
+    word-list-map byte-map unit-view word-view number-view pair-view unit-view-list type skip \
+    key-map pairs unit-lists tree";
 
 /// The line of a value, or of why it is refused.
 pub(crate) fn line<'m, T: Debug + Drop>(
@@ -89,62 +32,64 @@ pub(crate) fn line<'m, T: Debug + Drop>(
 }
 
 /// The line of what a call of the cursor answers.
-fn called(alloc: Global, ask: Ask, at: Cursor<'_>, walk: &mut Walk) -> Result<String, Fail> {
+fn called(alloc: Global, ask: &str, at: Cursor<'_>, walk: &mut Walk) -> Result<String, Fail> {
     match ask {
-        Ask::Bool => line(alloc, at.read_bool(walk)),
-        Ask::I8 => line(alloc, at.read_i8(walk)),
-        Ask::I16 => line(alloc, at.read_i16(walk)),
-        Ask::I32 => line(alloc, at.read_i32(walk)),
-        Ask::I64 => line(alloc, at.read_i64(walk)),
-        Ask::U8 => line(alloc, at.read_u8(walk)),
-        Ask::U16 => line(alloc, at.read_u16(walk)),
-        Ask::U32 => line(alloc, at.read_u32(walk)),
-        Ask::U64 => line(alloc, at.read_u64(walk)),
-        Ask::Text => line(alloc, at.read_string(alloc, walk)),
-        Ask::Key => line(alloc, at.read_str(walk)),
-        Ask::Bytes => line(alloc, at.read_bytes(walk)),
-        Ask::ReprType => line(alloc, at.resource_type()),
-        Ask::Skip => line(alloc, at.skip(walk)),
+        "bool" => line(alloc, at.read_bool(walk)),
+        "i8" => line(alloc, at.read_i8(walk)),
+        "i16" => line(alloc, at.read_i16(walk)),
+        "i32" => line(alloc, at.read_i32(walk)),
+        "i64" => line(alloc, at.read_i64(walk)),
+        "u8" => line(alloc, at.read_u8(walk)),
+        "u16" => line(alloc, at.read_u16(walk)),
+        "u32" => line(alloc, at.read_u32(walk)),
+        "u64" => line(alloc, at.read_u64(walk)),
+        "text" => line(alloc, at.read_string(alloc, walk)),
+        "key" => line(alloc, at.read_str(walk)),
+        "bytes" => line(alloc, at.read_bytes(walk)),
+        "type" => line(alloc, at.resource_type()),
+        "skip" => line(alloc, at.skip(walk)),
+        "tree" => tree(alloc, at.read_resource(alloc, walk), walk),
         _ => typed(alloc, ask, at, walk),
     }
 }
 
 /// The line of the value of a type.
-fn typed(alloc: Global, ask: Ask, at: Cursor<'_>, walk: &mut Walk) -> Result<String, Fail> {
+fn typed(alloc: Global, ask: &str, at: Cursor<'_>, walk: &mut Walk) -> Result<String, Fail> {
     match ask {
-        Ask::Bool => line(alloc, bool::deserialize(alloc, at, walk)),
-        Ask::I8 => line(alloc, i8::deserialize(alloc, at, walk)),
-        Ask::I16 => line(alloc, i16::deserialize(alloc, at, walk)),
-        Ask::I32 => line(alloc, i32::deserialize(alloc, at, walk)),
-        Ask::I64 => line(alloc, i64::deserialize(alloc, at, walk)),
-        Ask::U8 => line(alloc, u8::deserialize(alloc, at, walk)),
-        Ask::U16 => line(alloc, u16::deserialize(alloc, at, walk)),
-        Ask::U32 => line(alloc, u32::deserialize(alloc, at, walk)),
-        Ask::U64 => line(alloc, u64::deserialize(alloc, at, walk)),
-        Ask::Text => line(alloc, String::deserialize(alloc, at, walk)),
-        Ask::Key => line(alloc, <&str>::deserialize(alloc, at, walk)),
-        Ask::Bytes => line(alloc, <&[u8]>::deserialize(alloc, at, walk)),
+        "bool" => line(alloc, bool::deserialize(alloc, at, walk)),
+        "i8" => line(alloc, i8::deserialize(alloc, at, walk)),
+        "i16" => line(alloc, i16::deserialize(alloc, at, walk)),
+        "i32" => line(alloc, i32::deserialize(alloc, at, walk)),
+        "i64" => line(alloc, i64::deserialize(alloc, at, walk)),
+        "u8" => line(alloc, u8::deserialize(alloc, at, walk)),
+        "u16" => line(alloc, u16::deserialize(alloc, at, walk)),
+        "u32" => line(alloc, u32::deserialize(alloc, at, walk)),
+        "u64" => line(alloc, u64::deserialize(alloc, at, walk)),
+        "text" => line(alloc, String::deserialize(alloc, at, walk)),
+        "key" => line(alloc, <&str>::deserialize(alloc, at, walk)),
+        "bytes" => line(alloc, <&[u8]>::deserialize(alloc, at, walk)),
+        "tree" => tree(alloc, Resource::deserialize(alloc, at, walk), walk),
         _ => parted(alloc, ask, at, walk),
     }
 }
 
 /// The line of the value of a type that has parts.
-fn parted(alloc: Global, ask: Ask, at: Cursor<'_>, walk: &mut Walk) -> Result<String, Fail> {
+fn parted(alloc: Global, ask: &str, at: Cursor<'_>, walk: &mut Walk) -> Result<String, Fail> {
     match ask {
-        Ask::Bits => line(alloc, Int28::deserialize(alloc, at, walk).map(u32::from)),
-        Ask::OptionBool => line(alloc, Option::<bool>::deserialize(alloc, at, walk)),
-        Ask::TextList => line(alloc, Vec::<String>::deserialize(alloc, at, walk)),
-        Ask::WordList => line(alloc, Vec::<u32>::deserialize(alloc, at, walk)),
-        Ask::TextMap => line(
+        "bits" => line(alloc, Int28::deserialize(alloc, at, walk).map(u32::from)),
+        "option-bool" => line(alloc, Option::<bool>::deserialize(alloc, at, walk)),
+        "text-list" => line(alloc, Vec::<String>::deserialize(alloc, at, walk)),
+        "word-list" => line(alloc, Vec::<u32>::deserialize(alloc, at, walk)),
+        "text-map" => line(
             alloc,
             BTreeMap::<&str, String>::deserialize(alloc, at, walk),
         ),
-        Ask::WordListMap => line(
+        "word-list-map" => line(
             alloc,
             BTreeMap::<&str, Vec<u32>>::deserialize(alloc, at, walk),
         ),
-        Ask::ByteMap => line(alloc, BTreeMap::<String, u8>::deserialize(alloc, at, walk)),
-        Ask::KeyMap => keyed(
+        "byte-map" => line(alloc, BTreeMap::<String, u8>::deserialize(alloc, at, walk)),
+        "key-map" => keyed(
             alloc,
             BTreeMap::<Key<'_>, String>::deserialize(alloc, at, walk),
         ),
@@ -153,18 +98,33 @@ fn parted(alloc: Global, ask: Ask, at: Cursor<'_>, walk: &mut Walk) -> Result<St
 }
 
 /// The line of a helper's answer.
-fn viewed(alloc: Global, ask: Ask, at: Cursor<'_>, walk: &mut Walk) -> Result<String, Fail> {
+fn viewed(alloc: Global, ask: &str, at: Cursor<'_>, walk: &mut Walk) -> Result<String, Fail> {
     match ask {
-        Ask::UnitView => units(alloc, option_utf_16(at, walk)),
-        Ask::WordView => words(alloc, option_u32(at, walk)),
-        Ask::NumberView => numbers(alloc, option_i32(at, walk)),
-        Ask::PairView => pairs(alloc, option_i32_tuple(at, walk)),
-        Ask::Pairs => match i32_tuple(at, walk) {
+        "unit-view" => units(alloc, option_utf_16(at, walk)),
+        "word-view" => words(alloc, option_u32(at, walk)),
+        "number-view" => numbers(alloc, option_i32(at, walk)),
+        "pair-view" => pairs(alloc, option_i32_tuple(at, walk)),
+        "pairs" => match i32_tuple(at, walk) {
             Ok(view) => pairs(alloc, Ok(Some(view))),
             Err(error) => line_of_refusal(alloc, error),
         },
-        Ask::UnitLists => items_of_units(alloc, vec_utf_16(alloc, at, walk)),
+        "unit-lists" => items_of_units(alloc, vec_utf_16(alloc, at, walk)),
         _ => unit_lists(alloc, vec_utf_16(alloc, at, walk)),
+    }
+}
+
+/// The line of a tree. How much of a budget a refused one leaves is not said: here it is nothing.
+fn tree(
+    alloc: Global,
+    read: Result<Resource<'_>, BinaryDeserializerError>,
+    walk: &mut Walk,
+) -> Result<String, Fail> {
+    match read {
+        Ok(tree) => shown(alloc, &tree),
+        Err(error) => {
+            *walk = Walk::new(0);
+            line_of_refusal(alloc, error)
+        }
     }
 }
 
@@ -179,12 +139,18 @@ fn keyed(
     };
     let mut line = String::new(alloc);
     for (key, text) in &texts {
-        line.push_str(key.as_str())?;
-        line.push_str("=")?;
-        line.push_str(text.as_str())?;
-        line.push_str(",")?;
+        push_entry(&mut line, key.as_str(), text.as_str())?;
     }
     Ok(line)
+}
+
+/// Adds a key and its text.
+fn push_entry(line: &mut String, key: &str, text: &str) -> Result<(), Fail> {
+    line.push_str(key)?;
+    line.push_str("=")?;
+    line.push_str(text)?;
+    line.push_str(",")?;
+    Ok(())
 }
 
 /// The line of a view of units.
@@ -275,6 +241,15 @@ fn unit_lists(
     Ok(format!(in alloc; "{lengths:?}")?)
 }
 
+/// Adds how many units a view has, and the units.
+fn push_units(alloc: Global, line: &mut String, view: Utf16View<'_>) -> Result<(), Fail> {
+    let length = view.len();
+    let units = units(alloc, Ok(Some(view)))?;
+    let item = format!(in alloc; "{length}:{units},")?;
+    line.push_str(item.as_str())?;
+    Ok(())
+}
+
 /// The line of views of units: how many units each has, and the units.
 fn items_of_units(
     alloc: Global,
@@ -286,10 +261,7 @@ fn items_of_units(
     };
     let mut line = String::new(alloc);
     for view in &views {
-        let length = view.len();
-        line.push_str(format!(in alloc; "{length}:")?.as_str())?;
-        line.push_str(units(alloc, Ok(Some(*view)))?.as_str())?;
-        line.push_str(",")?;
+        push_units(alloc, &mut line, *view)?;
     }
     Ok(line)
 }
@@ -297,11 +269,11 @@ fn items_of_units(
 /// The line of what is asked for at a place with so much of a budget, and what of it is left after
 /// it.
 /// A call of the cursor and the type that it reads answer the same.
-pub(crate) fn asked(alloc: Global, ask: Ask, at: Cursor<'_>, left: usize) -> Result<String, Fail> {
+pub(crate) fn asked(alloc: Global, ask: &str, at: Cursor<'_>, left: usize) -> Result<String, Fail> {
     let mut walk = Walk::new(left);
     let said = called(alloc, ask, at, &mut walk)?;
     let mut again = Walk::new(left);
-    if !matches!(ask, Ask::ReprType | Ask::Skip) {
+    if !matches!(ask, "type" | "skip") {
         if said != typed(alloc, ask, at, &mut again)? || walk.left() != again.left() {
             return Err("call and type differ")?;
         }

@@ -1,57 +1,81 @@
 //! Cursors, accesses and named deserializers, step by step: what each step takes from the budget,
 //! and what an access answers behind its last step and behind an error.
-use crate::answers::line_of_refusal;
+use crate::answers::{assert_said, line_of_refusal, line_of_tree, parts, same};
 use crate::asks::line;
-use crate::files::{NUMBERS, TEXT_A, TEXTS, TWO_ENTRIES, file_of};
-use crate::places::{At, entry, member, place};
+use crate::files::{NUMBERS, TEXTS, TWO_ENTRIES, file_of};
+use crate::places::place;
 use resb_format::{BinaryDeserializerError, Key};
-use resb_read::{Cursor, SeqAccess, Walk, tree_from_bytes};
+use resb_read::{Cursor, IntVectorDeserializer, MapAccess, Walk};
 use std::alloc::Global;
 use std::test::Fail;
+
+/// What is left after a table is opened and after each entry's key and value are skipped.
+fn line_of_skips(alloc: Global, bytes: &[u8]) -> Result<String, Fail> {
+    let (root, mut walk) = Cursor::root(bytes)?;
+    let mut entries = root.read_map(&mut walk)?;
+    let (opened, count) = (walk.left(), entries.size_hint());
+    let first = skipped(&mut entries, &mut walk)?;
+    let second = skipped(&mut entries, &mut walk)?;
+    let ends = entries.next_entry_cursor()?.is_none();
+    Ok(format!(in alloc; "{opened} {count} {first} {second} {ends}")?)
+}
+
+/// What is left after the next entry is skipped.
+fn skipped(entries: &mut MapAccess<'_, '_>, walk: &mut Walk) -> Result<usize, Fail> {
+    let Some((key, value)) = entries.next_entry_cursor()? else {
+        return Err("no entry")?;
+    };
+    key.skip(walk)?;
+    value.skip(walk)?;
+    Ok(walk.left())
+}
 
 #[test]
 fn skipping_costs_one_each(rt: HostRuntime) -> Result<(), Fail> {
     let bytes = file_of(rt.alloc(), NUMBERS)?;
-    let (root, mut walk) = Cursor::root(&bytes)?;
-    assert_eq!(rt; walk.left(), 50);
-    let mut entries = root.read_map(&mut walk)?;
-    assert_eq!(rt; (walk.left(), entries.size_hint()), (49, 2));
-    for left in [48usize, 47] {
-        let Some((key, value)) = entries.next_entry_cursor()? else {
-            return Err("no entry")?;
-        };
-        key.skip(&mut walk)?;
-        value.skip(&mut walk)?;
-        assert_eq!(rt; walk.left(), left);
-    }
-    assert!(rt; entries.next_entry_cursor()?.is_none());
+    assert_said(&rt, line_of_skips(rt.alloc(), &bytes)?, "49 2 48 47 true");
     Ok(())
+}
+
+/// The line of a whole tree, with what is left after it.
+fn line_of_root(alloc: Global, bytes: &[u8]) -> Result<String, Fail> {
+    let (root, mut walk) = Cursor::root(bytes)?;
+    let tree = root.read_resource(alloc, &mut walk)?;
+    line_of_tree(alloc, walk.left(), &tree)
 }
 
 #[test]
 fn a_whole_tree_is_paid_for(rt: HostRuntime) -> Result<(), Fail> {
     let bytes = file_of(rt.alloc(), NUMBERS)?;
-    let (root, mut walk) = Cursor::root(&bytes)?;
-    let tree = root.read_resource(rt.alloc(), &mut walk)?;
-    assert_eq!(rt; walk.left(), 47);
-    assert!(rt; tree.equals(&tree_from_bytes(rt.alloc(), &bytes)?));
+    let said = "47 {i=268435455,v=(1,4294967295,),}";
+    assert_said(&rt, line_of_root(rt.alloc(), &bytes)?, said);
     Ok(())
+}
+
+/// Adds what a step says.
+fn push_step(line: &mut String, said: String) -> Result<(), Fail> {
+    line.push_str(said.as_str())?;
+    line.push_str("; ")?;
+    Ok(())
+}
+
+/// The line of four steps over the entries of a table of texts.
+fn line_of_entries(alloc: Global, bytes: &[u8]) -> Result<String, Fail> {
+    let (root, mut walk) = Cursor::root(bytes)?;
+    let mut entries = root.read_map(&mut walk)?;
+    let mut all = String::new(alloc);
+    for _ in 0u8..4 {
+        let next = entries.next_entry::<&str, String>(alloc, &mut walk);
+        push_step(&mut all, line(alloc, next)?)?;
+    }
+    Ok(all)
 }
 
 #[test]
 fn an_access_to_entries_ends(rt: HostRuntime) -> Result<(), Fail> {
     let bytes = file_of(rt.alloc(), TWO_ENTRIES)?;
-    let (root, mut walk) = Cursor::root(&bytes)?;
-    let mut entries = root.read_map(&mut walk)?;
-    for said in [
-        "Some((\"a\", \"x\"))",
-        "Some((\"c\", \"yz\"))",
-        "None",
-        "None",
-    ] {
-        let next = entries.next_entry::<&str, String>(rt.alloc(), &mut walk);
-        assert_eq!(rt; line(rt.alloc(), next)?.as_str(), said);
-    }
+    let said = "Some((\"a\", \"x\")); Some((\"c\", \"yz\")); None; None; ";
+    assert_said(&rt, line_of_entries(rt.alloc(), &bytes)?, said);
     Ok(())
 }
 
@@ -70,123 +94,179 @@ fn line_of_entry(
     }
 }
 
+/// The line of three steps over the entries of a table of texts by their keys.
+fn line_of_keys(alloc: Global, bytes: &[u8]) -> Result<String, Fail> {
+    let (root, mut walk) = Cursor::root(bytes)?;
+    let mut entries = root.read_map(&mut walk)?;
+    let mut all = String::new(alloc);
+    for _ in 0u8..3 {
+        let next = entries.next_entry::<Key<'_>, String>(alloc, &mut walk);
+        push_step(&mut all, line_of_entry(alloc, next)?)?;
+    }
+    Ok(all)
+}
+
 #[test]
 fn an_access_gives_keys(rt: HostRuntime) -> Result<(), Fail> {
     let bytes = file_of(rt.alloc(), TWO_ENTRIES)?;
-    let (root, mut walk) = Cursor::root(&bytes)?;
-    let mut entries = root.read_map(&mut walk)?;
-    for said in ["a=x", "c=yz", "none"] {
-        let next = entries.next_entry::<Key<'_>, String>(rt.alloc(), &mut walk);
-        assert_eq!(rt; line_of_entry(rt.alloc(), next)?.as_str(), said);
-    }
+    assert_said(&rt, line_of_keys(rt.alloc(), &bytes)?, "a=x; c=yz; none; ");
     Ok(())
+}
+
+/// The line of four steps over the members of a list of texts.
+fn line_of_members(alloc: Global, bytes: &[u8]) -> Result<String, Fail> {
+    let mut walk = Walk::new(9);
+    let mut members = place(bytes, "root v0")?.read_seq(&mut walk)?;
+    let mut all = String::new(alloc);
+    for _ in 0u8..4 {
+        let next = members.next_element::<String>(alloc, &mut walk);
+        push_step(&mut all, line(alloc, next)?)?;
+    }
+    Ok(all)
 }
 
 #[test]
 fn an_access_to_members_ends(rt: HostRuntime) -> Result<(), Fail> {
     let bytes = file_of(rt.alloc(), TEXTS)?;
-    let mut walk = Walk::new(9);
-    let mut members = place(&bytes, At::Value(0))?.read_seq(&mut walk)?;
-    for said in ["Some(\"\")", "Some(\"x\")", "None", "None"] {
-        let next = members.next_element::<String>(rt.alloc(), &mut walk);
-        assert_eq!(rt; line(rt.alloc(), next)?.as_str(), said);
-    }
+    let said = "Some(\"\"); Some(\"x\"); None; None; ";
+    assert_said(&rt, line_of_members(rt.alloc(), &bytes)?, said);
     Ok(())
 }
 
-/// What is said where a type is asked for at another place.
-const ELSEWHERE: &str = "Unknown error: value cannot be read here";
+/// Two steps over entries whose values are not what is asked for, and what is then to come and left.
+fn line_of_refused_entries(alloc: Global, bytes: &[u8]) -> Result<String, Fail> {
+    let (root, mut walk) = Cursor::root(bytes)?;
+    let mut entries = root.read_map(&mut walk)?;
+    let first = line(alloc, entries.next_entry::<&str, u8>(alloc, &mut walk))?;
+    let second = line(alloc, entries.next_entry::<&str, u8>(alloc, &mut walk))?;
+    let goes_on = entries.next_entry_cursor().is_ok();
+    let (rest, left) = (entries.size_hint(), walk.left());
+    let said = same(first, second)?;
+    Ok(format!(in alloc; "{said}; {goes_on} {rest} {left}")?)
+}
 
 #[test]
 fn an_access_to_entries_repeats_its_error(rt: HostRuntime) -> Result<(), Fail> {
     let bytes = file_of(rt.alloc(), TWO_ENTRIES)?;
-    let (root, mut walk) = Cursor::root(&bytes)?;
-    let mut entries = root.read_map(&mut walk)?;
-    for _ in 0u8..2 {
-        let next = entries.next_entry::<&str, u8>(rt.alloc(), &mut walk);
-        assert_eq!(rt; line(rt.alloc(), next)?.as_str(), ELSEWHERE);
-    }
-    assert_eq!(rt;
-        line_of_step(rt.alloc(), entries.next_entry_cursor().is_ok())?.as_str(),
-        "false"
-    );
-    assert_eq!(rt; (entries.size_hint(), walk.left()), (2, 44));
+    let said = "Unknown error: value cannot be read here; false 2 44";
+    assert_said(&rt, line_of_refused_entries(rt.alloc(), &bytes)?, said);
     Ok(())
 }
 
-/// Whether a step was made.
-fn line_of_step(alloc: Global, made: bool) -> Result<String, Fail> {
-    Ok(format!(in alloc; "{made}")?)
+/// Two steps over members that are not what is asked for, and what is then to come and left.
+fn line_of_refused_members(alloc: Global, bytes: &[u8]) -> Result<String, Fail> {
+    let mut walk = Walk::new(9);
+    let mut members = place(bytes, "root v0")?.read_seq(&mut walk)?;
+    let first = line(alloc, members.next_element::<u8>(alloc, &mut walk))?;
+    let second = line(alloc, members.next_element::<u8>(alloc, &mut walk))?;
+    let goes_on = members.next_cursor().is_ok();
+    let (rest, left) = (members.size_hint(), walk.left());
+    let said = same(first, second)?;
+    Ok(format!(in alloc; "{said}; {goes_on} {rest} {left}")?)
 }
 
 #[test]
 fn an_access_to_members_repeats_its_error(rt: HostRuntime) -> Result<(), Fail> {
     let bytes = file_of(rt.alloc(), TEXTS)?;
-    let mut walk = Walk::new(9);
-    let mut members = place(&bytes, At::Value(0))?.read_seq(&mut walk)?;
-    for _ in 0u8..2 {
-        let next = members.next_element::<u8>(rt.alloc(), &mut walk);
-        assert_eq!(rt; line(rt.alloc(), next)?.as_str(), ELSEWHERE);
-    }
-    assert!(rt; members.next_cursor().is_err());
-    assert_eq!(rt; (members.size_hint(), walk.left()), (2, 7));
+    let said = "Unknown error: value cannot be read here; false 2 7";
+    assert_said(&rt, line_of_refused_members(rt.alloc(), &bytes)?, said);
     Ok(())
+}
+
+/// Files and places, and whether a deserializer of short strings, of numbers and of keys is there.
+const NAMED: &str = "\
+TEXTS / root => false false false;
+TEXTS / root v0 m1 => true false false;
+NUMBERS / root v1 m1 => false true false;
+TEXTS / root k0 => false false true;
+";
+
+/// Which deserializers a place has.
+fn line_of_named(alloc: Global, input: &str) -> Result<String, Fail> {
+    let (words, path) = input.split_once(" / ").ok_or("a row without a place")?;
+    let bytes = file_of(alloc, words)?;
+    let at = place(&bytes, path)?;
+    let string = at.as_16_bit().is_some();
+    let number = at.as_int_vector().is_some();
+    let key = at.as_key().is_some();
+    Ok(format!(in alloc; "{string} {number} {key}")?)
 }
 
 #[test]
 fn named_deserializers_stand_at_their_places(rt: HostRuntime) -> Result<(), Fail> {
-    let texts = file_of(rt.alloc(), TEXTS)?;
-    let numbers = file_of(rt.alloc(), NUMBERS)?;
-    let places = [
-        place(&texts, At::Root)?,
-        place(&texts, At::Member(0, 1))?,
-        place(&numbers, At::Member(1, 1))?,
-        place(&texts, At::Key(0))?,
-    ];
-    for (number, at) in places.into_iter().enumerate() {
-        assert_eq!(rt; at.as_16_bit().is_some(), number == 1);
-        assert_eq!(rt; at.as_int_vector().is_some(), number == 2);
-        assert_eq!(rt; at.as_key().is_some(), number == 3);
+    for row in NAMED.split_terminator(";\n") {
+        let (input, said) = parts(row)?;
+        assert_said(&rt, line_of_named(rt.alloc(), input)?, said);
     }
     Ok(())
+}
+
+/// A short string by its deserializer: its text, its bytes, and what of 2 is left.
+fn line_of_string(alloc: Global, bytes: &[u8]) -> Result<String, Fail> {
+    let Some(string) = place(bytes, "root v0 m1")?.as_16_bit() else {
+        return Err("no string")?;
+    };
+    let mut walk = Walk::new(2);
+    let text = string.read_string(alloc, &mut walk)?;
+    let units = string.read_bytes(&mut walk)?;
+    let left = walk.left();
+    Ok(format!(in alloc; "{text} {units:?} {left}")?)
 }
 
 #[test]
 fn a_short_string_is_read_by_its_deserializer(rt: HostRuntime) -> Result<(), Fail> {
     let bytes = file_of(rt.alloc(), TEXTS)?;
-    let Some(string) = place(&bytes, At::Member(0, 1))?.as_16_bit() else {
-        return Err("no string")?;
-    };
-    let mut walk = Walk::new(2);
-    assert!(rt; string.read_string(rt.alloc(), &mut walk)?.as_str() == "x");
-    assert_eq!(rt; string.read_bytes(&mut walk)?, b"x\0".as_slice());
-    assert_eq!(rt; walk.left(), 0);
+    assert_said(&rt, line_of_string(rt.alloc(), &bytes)?, "x [120, 0] 0");
     Ok(())
 }
 
+/// The line of a number as a type that is named.
+fn line_of_number(
+    alloc: Global,
+    number: IntVectorDeserializer<'_>,
+    name: &str,
+) -> Result<String, Fail> {
+    match name {
+        "i8" => line(alloc, number.read_i8()),
+        "i16" => line(alloc, number.read_i16()),
+        "i32" => line(alloc, number.read_i32()),
+        "i64" => line(alloc, number.read_i64()),
+        "u8" => line(alloc, number.read_u8()),
+        "u16" => line(alloc, number.read_u16()),
+        "u32" => line(alloc, number.read_u32()),
+        _ => line(alloc, number.read_u64()),
+    }
+}
+
+/// Types, and what the number -1 is as each.
+const MINUS_ONE: &str = "\
+i8 => -1;
+i16 => -1;
+i32 => -1;
+i64 => -1;
+u8 => Unknown error: number out of range;
+u16 => Unknown error: number out of range;
+u32 => 4294967295;
+u64 => 4294967295;
+";
+
 #[test]
 fn a_number_is_read_by_its_deserializer(rt: HostRuntime) -> Result<(), Fail> {
-    let alloc = rt.alloc();
-    let bytes = file_of(alloc, NUMBERS)?;
-    let Some(number) = place(&bytes, At::Member(1, 1))?.as_int_vector() else {
+    let bytes = file_of(rt.alloc(), NUMBERS)?;
+    let Some(number) = place(&bytes, "root v1 m1")?.as_int_vector() else {
         return Err("no number")?;
     };
-    let range = "Unknown error: number out of range";
-    assert_eq!(rt; line(alloc, number.read_i8())?.as_str(), "-1");
-    assert_eq!(rt; line(alloc, number.read_i16())?.as_str(), "-1");
-    assert_eq!(rt; line(alloc, number.read_i32())?.as_str(), "-1");
-    assert_eq!(rt; line(alloc, number.read_i64())?.as_str(), "-1");
-    assert_eq!(rt; line(alloc, number.read_u8())?.as_str(), range);
-    assert_eq!(rt; line(alloc, number.read_u16())?.as_str(), range);
-    assert_eq!(rt; line(alloc, number.read_u32())?.as_str(), "4294967295");
-    assert_eq!(rt; line(alloc, number.read_u64())?.as_str(), "4294967295");
+    for row in MINUS_ONE.split_terminator(";\n") {
+        let (name, said) = parts(row)?;
+        assert_said(&rt, line_of_number(rt.alloc(), number, name)?, said);
+    }
     Ok(())
 }
 
 #[test]
 fn a_key_is_read_by_its_deserializer(rt: HostRuntime) -> Result<(), Fail> {
     let bytes = file_of(rt.alloc(), TWO_ENTRIES)?;
-    let Some(key) = place(&bytes, At::Key(1))?.as_key() else {
+    let Some(key) = place(&bytes, "root k1")?.as_key() else {
         return Err("no key")?;
     };
     assert!(rt; key.read_str()? == "c");

@@ -1,8 +1,8 @@
 //! Files that are made to take room, time or depth: shared bodies, cycles, many levels and many
 //! entries.
 //! Small files that are damaged are in `file_rows`.
-use crate::answers::{line_of, line_of_refusal};
-use crate::files::{WIDE_TABLE, file_of};
+use crate::answers::line_of;
+use crate::files::file_of_words;
 use resb_format::Resource;
 use resb_read::{count_resources, from_bytes_counted, tree_from_bytes};
 use std::alloc::Global;
@@ -14,7 +14,7 @@ const SPENT: &str = "Invalid resource bundle data: resource budget spent";
 fn with_body(alloc: Global, root: u32, body: &[u32]) -> Result<Vec<u8>, Fail> {
     let mut words = Vec::from_slice(alloc, &[root, 7, 9, 9, 9, 0, 0, 9, 0xaaaa_006b])?;
     words.extend_from_slice(body)?;
-    file_of(alloc, &words)
+    file_of_words(alloc, &words)
 }
 
 /// How many arrays of two empty strings an array has, its last word, and the first bytes of its
@@ -53,7 +53,7 @@ fn sharing(alloc: Global, children: u32, last: u32) -> Result<Vec<u8>, Fail> {
         words.push(0x9000_0001)?;
     }
     words.push(last)?;
-    file_of(alloc, &words)
+    file_of_words(alloc, &words)
 }
 
 #[test]
@@ -182,7 +182,7 @@ fn each_entry_of_one_key_is_paid_for_and_the_last_stands(rt: HostRuntime) -> Res
 fn of_many_keys(alloc: Global) -> Result<Vec<u8>, Fail> {
     let keys_end = 98_312;
     let head = [0x4000_0000 + keys_end, 7, keys_end, 0, 0, 0, 0, keys_end];
-    let mut bytes = file_of(alloc, &head)?;
+    let mut bytes = file_of_words(alloc, &head)?;
     for number in 0u32..65536 {
         bytes.extend_from_slice(format!(in alloc; "{number:05}")?.as_bytes())?;
         bytes.push(0)?;

@@ -1,19 +1,10 @@
-//! Places of a file below its root, by the numbers of entries and members.
+//! Places of a file, by the numbers of entries and members.
 //! What stands there is asked for in `type_rows`.
 use resb_read::{Cursor, Walk};
 use std::test::Fail;
 
-/// A place: the root, the key or the value of an entry of the root, or a member of that value.
-#[derive(Clone, Copy)]
-pub(crate) enum At {
-    Root,
-    Key(u32),
-    Value(u32),
-    Member(u32, u32),
-}
-
 /// The key's and the value's place of an entry of a table.
-pub(crate) fn entry<'a>(
+fn entry<'a>(
     table: Cursor<'a>,
     walk: &mut Walk,
     number: u32,
@@ -29,11 +20,7 @@ pub(crate) fn entry<'a>(
 }
 
 /// The place of a member of a sequence.
-pub(crate) fn member<'a>(
-    sequence: Cursor<'a>,
-    walk: &mut Walk,
-    number: u32,
-) -> Result<Cursor<'a>, Fail> {
+fn member<'a>(sequence: Cursor<'a>, walk: &mut Walk, number: u32) -> Result<Cursor<'a>, Fail> {
     let mut members = sequence.read_seq(walk)?;
     for _ in 0..number {
         let _ = members.next_cursor()?;
@@ -44,22 +31,25 @@ pub(crate) fn member<'a>(
     }
 }
 
-/// A place of a file.
-pub(crate) fn place<'a>(bytes: &'a [u8], at: At) -> Result<Cursor<'a>, Fail> {
-    let (root, mut walk) = Cursor::root(bytes)?;
-    match at {
-        At::Root => Ok(root),
-        At::Key(number) => {
-            let (key, _) = entry(root, &mut walk, number)?;
-            Ok(key)
-        }
-        At::Value(number) => {
-            let (_, value) = entry(root, &mut walk, number)?;
-            Ok(value)
-        }
-        At::Member(number, inner) => {
-            let (_, value) = entry(root, &mut walk, number)?;
-            member(value, &mut walk, inner)
+/// The place one step below another: `k1` and `v1`, the key and the value of an entry of a table, and
+/// `m1`, a member of a sequence.
+fn below<'a>(at: Cursor<'a>, walk: &mut Walk, step: &str) -> Result<Cursor<'a>, Fail> {
+    let (kind, number) = step.split_at_checked(1).ok_or("no step")?;
+    let number = number.parse::<u32>()?;
+    if kind == "m" {
+        return member(at, walk, number);
+    }
+    let (key, value) = entry(at, walk, number)?;
+    Ok(if kind == "k" { key } else { value })
+}
+
+/// The place of a file that is named by `root` and the steps below it.
+pub(crate) fn place<'a>(bytes: &'a [u8], path: &str) -> Result<Cursor<'a>, Fail> {
+    let (mut at, mut walk) = Cursor::root(bytes)?;
+    for step in path.split(' ') {
+        if step != "root" {
+            at = below(at, &mut walk, step)?;
         }
     }
+    Ok(at)
 }

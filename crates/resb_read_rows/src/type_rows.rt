@@ -1,442 +1,155 @@
 //! Types that are read at places of files with so much of a budget: the value, or why it is
-//! refused, and what is left. Whole trees are in `file_rows`.
-use crate::answers::{BASIS, digest};
-use crate::asks::{ALL, Ask, asked};
-use crate::files::{
-    BYTES, INTEGER, NUMBERS, TEXT_A, TEXTS, THREE_NUMBERS, TWO_ENTRIES, WIDE_TABLE, file_of,
-};
-use crate::places::{At, place};
+//! refused, and what is left. A row ends with a `;` and a line feed. Whole trees are in `file_rows`.
+use crate::answers::{BASIS, assert_said, digest, parts};
+use crate::asks::{ALL, asked};
+use crate::files::file_of;
+use crate::places::place;
 use std::alloc::Global;
 use std::test::Fail;
 
-/// An Int that is no bool.
-const NO_BOOL: &str = "Resource did not match expected data type: \
-                       expected integer resource representable as boolean, 33 left";
+/// Files, places in them, what is left of a budget and what is asked for, and the answer.
+const ROWS: &str = "\
+NUMBERS / root / 50 word-list-map =>
+    Resource did not match expected data type: expected array resource, 48 left;
+NUMBERS / root / 50 byte-map => Unknown error: number out of range, 48 left;
+TWO_ENTRIES / root / 46 text-map => {\"a\": \"x\", \"c\": \"yz\"}, 43 left;
+TWO_ENTRIES / root / 46 key-map => a=x,c=yz,, 43 left;
+70000001 7 8 9 9 0 0 9 aaaa0000 / root / 34 option-bool => Some(true), 33 left;
+70000001 7 8 9 9 0 0 9 aaaa0000 / root / 34 u64 => 1, 33 left;
+70000001 7 8 9 9 0 0 9 aaaa0000 / root / 0 u64 =>
+    Invalid resource bundle data: resource budget spent, 0 left;
+70000002 7 8 9 9 0 0 9 aaaa0000 / root / 34 bool =>
+    Resource did not match expected data type: expected integer resource representable as boolean, 33 left;
+70000002 7 8 9 9 0 0 9 aaaa0000 / root / 34 text =>
+    Resource did not match expected data type: expected string resource, 33 left;
+70000002 7 8 9 9 0 0 9 aaaa0000 / root / 34 bytes =>
+    Resource did not match expected data type: expected binary data resource, 33 left;
+70000002 7 8 9 9 0 0 9 aaaa0000 / root / 34 byte-map =>
+    Resource did not match expected data type: expected table resource, 33 left;
+TEXT_A / root / 36 key => Unknown error: value cannot be read here, 35 left;
+TEXT_A / root / 0 key => Invalid resource bundle data: resource budget spent, 0 left;
+TEXT_A / root / 36 u32 =>
+    Resource did not match expected data type: expected integer resource, 35 left;
+INTEGER / root / 1 i8 => -1, 0 left;
+INTEGER / root / 1 i64 => -1, 0 left;
+INTEGER / root / 1 u32 => 268435455, 0 left;
+INTEGER / root / 1 bits => 268435455, 0 left;
+NUMBERS / root v1 / 9 pair-view => [I32Pair(1, -1)], 8 left;
+NUMBERS / root v1 / 9 pairs => [I32Pair(1, -1)], 8 left;
+NUMBERS / root v1 / 9 word-view => [1, 4294967295], 8 left;
+NUMBERS / root v1 / 9 number-view => [1, -1], 8 left;
+NUMBERS / root v1 m1 / 0 i64 => -1, 0 left;
+NUMBERS / root v1 m1 / 0 u32 => 4294967295, 0 left;
+NUMBERS / root v1 m1 / 0 u16 => Unknown error: number out of range, 0 left;
+THREE_NUMBERS / root v0 / 9 pair-view => Unknown error: Wrong length, 8 left;
+THREE_NUMBERS / root v0 / 9 pairs => Unknown error: Wrong length, 8 left;
+BYTES / root v0 / 9 unit-view => [65280], 8 left;
+BYTES / root v0 / 9 word-view => Unknown error: Wrong length, 8 left;
+TEXTS / root v0 / 9 unit-view-list => [0, 1], 6 left;
+TEXTS / root v0 / 9 unit-lists => 0:[],1:[120],, 6 left;
+TEXTS / root v0 / 9 text-list => [\"\", \"x\"], 6 left;
+TEXTS / root v0 m1 / 9 text => \"x\", 8 left;
+TEXTS / root v0 m1 / 9 bytes => [120, 0], 8 left;
+TEXTS / root v0 m0 / 9 i32 => Unknown error: value cannot be read here, 8 left;
+TEXTS / root v0 m0 / 0 i32 => Invalid resource bundle data: resource budget spent, 0 left;
+TWO_ENTRIES / root k1 / 0 key => \"c\", 0 left;
+TWO_ENTRIES / root k1 / 0 bytes => [99], 0 left;
+TWO_ENTRIES / root k1 / 0 type => Unknown error: value cannot be read here, 0 left;
+60000001 7 8 a a 0 0 a d8000000 0 / root / 1 bytes => [0, 216], 0 left;
+WIDE_TABLE / root / 2 byte-map => {\"a\": 5}, 0 left;
+WIDE_TABLE / root / 1 byte-map => Invalid resource bundle data: resource budget spent, 0 left;
+WIDE_TABLE / root / 1 type => _Table32, 1 left;
+30000000 7 8 9 9 0 0 9 aaaa0000 / root / 1 type =>
+    Unsupported resource bundle format: resource type is not supported, 1 left;
+a0000000 7 8 9 9 0 0 9 aaaa0000 / root / 1 type =>
+    Invalid resource bundle data: unrecognized value for ResourceReprType, 1 left;
+a0000000 7 8 9 9 0 0 9 aaaa0000 / root / 1 skip => (), 0 left;
+a0000000 7 8 9 9 0 0 9 aaaa0000 / root / 1 key =>
+    Invalid resource bundle data: unrecognized value for ResourceReprType, 0 left;
+1 7 8 9 9 0 0 9 aaaa0000 / root / 1 key =>
+    Unsupported resource bundle format: resource type is not supported, 0 left;
+";
 
-const ROWS: [(&[u32], At, usize, Ask, &str); 48] = [
-    (
-        NUMBERS,
-        At::Root,
-        50,
-        Ask::WordListMap,
-        "Resource did not match expected data type: expected array resource, 48 left",
-    ),
-    (
-        NUMBERS,
-        At::Root,
-        50,
-        Ask::ByteMap,
-        "Unknown error: number out of range, 48 left",
-    ),
-    (
-        TWO_ENTRIES,
-        At::Root,
-        46,
-        Ask::TextMap,
-        "{\"a\": \"x\", \"c\": \"yz\"}, 43 left",
-    ),
-    (TWO_ENTRIES, At::Root, 46, Ask::KeyMap, "a=x,c=yz,, 43 left"),
-    (
-        &[0x70000001, 7, 8, 9, 9, 0, 0, 9, 0xaaaa0000],
-        At::Root,
-        34,
-        Ask::OptionBool,
-        "Some(true), 33 left",
-    ),
-    (
-        &[0x70000001, 7, 8, 9, 9, 0, 0, 9, 0xaaaa0000],
-        At::Root,
-        34,
-        Ask::U64,
-        "1, 33 left",
-    ),
-    (
-        &[0x70000001, 7, 8, 9, 9, 0, 0, 9, 0xaaaa0000],
-        At::Root,
-        0,
-        Ask::U64,
-        "Invalid resource bundle data: resource budget spent, 0 left",
-    ),
-    (
-        &[0x70000002, 7, 8, 9, 9, 0, 0, 9, 0xaaaa0000],
-        At::Root,
-        34,
-        Ask::Bool,
-        NO_BOOL,
-    ),
-    (
-        &[0x70000002, 7, 8, 9, 9, 0, 0, 9, 0xaaaa0000],
-        At::Root,
-        34,
-        Ask::Text,
-        "Resource did not match expected data type: expected string resource, 33 left",
-    ),
-    (
-        &[0x70000002, 7, 8, 9, 9, 0, 0, 9, 0xaaaa0000],
-        At::Root,
-        34,
-        Ask::Bytes,
-        "Resource did not match expected data type: expected binary data resource, 33 left",
-    ),
-    (
-        &[0x70000002, 7, 8, 9, 9, 0, 0, 9, 0xaaaa0000],
-        At::Root,
-        34,
-        Ask::ByteMap,
-        "Resource did not match expected data type: expected table resource, 33 left",
-    ),
-    (
-        TEXT_A,
-        At::Root,
-        36,
-        Ask::Key,
-        "Unknown error: value cannot be read here, 35 left",
-    ),
-    (
-        TEXT_A,
-        At::Root,
-        0,
-        Ask::Key,
-        "Invalid resource bundle data: resource budget spent, 0 left",
-    ),
-    (
-        TEXT_A,
-        At::Root,
-        36,
-        Ask::U32,
-        "Resource did not match expected data type: expected integer resource, 35 left",
-    ),
-    (INTEGER, At::Root, 1, Ask::I8, "-1, 0 left"),
-    (INTEGER, At::Root, 1, Ask::I64, "-1, 0 left"),
-    (INTEGER, At::Root, 1, Ask::U32, "268435455, 0 left"),
-    (INTEGER, At::Root, 1, Ask::Bits, "268435455, 0 left"),
-    (
-        NUMBERS,
-        At::Value(1),
-        9,
-        Ask::PairView,
-        "[I32Pair(1, -1)], 8 left",
-    ),
-    (
-        NUMBERS,
-        At::Value(1),
-        9,
-        Ask::Pairs,
-        "[I32Pair(1, -1)], 8 left",
-    ),
-    (
-        NUMBERS,
-        At::Value(1),
-        9,
-        Ask::WordView,
-        "[1, 4294967295], 8 left",
-    ),
-    (NUMBERS, At::Value(1), 9, Ask::NumberView, "[1, -1], 8 left"),
-    (NUMBERS, At::Member(1, 1), 0, Ask::I64, "-1, 0 left"),
-    (NUMBERS, At::Member(1, 1), 0, Ask::U32, "4294967295, 0 left"),
-    (
-        NUMBERS,
-        At::Member(1, 1),
-        0,
-        Ask::U16,
-        "Unknown error: number out of range, 0 left",
-    ),
-    (
-        THREE_NUMBERS,
-        At::Value(0),
-        9,
-        Ask::PairView,
-        "Unknown error: Wrong length, 8 left",
-    ),
-    (
-        THREE_NUMBERS,
-        At::Value(0),
-        9,
-        Ask::Pairs,
-        "Unknown error: Wrong length, 8 left",
-    ),
-    (BYTES, At::Value(0), 9, Ask::UnitView, "[65280], 8 left"),
-    (
-        BYTES,
-        At::Value(0),
-        9,
-        Ask::WordView,
-        "Unknown error: Wrong length, 8 left",
-    ),
-    (TEXTS, At::Value(0), 9, Ask::UnitViewList, "[0, 1], 6 left"),
-    (
-        TEXTS,
-        At::Value(0),
-        9,
-        Ask::UnitLists,
-        "0:[],1:[120],, 6 left",
-    ),
-    (
-        TEXTS,
-        At::Value(0),
-        9,
-        Ask::TextList,
-        "[\"\", \"x\"], 6 left",
-    ),
-    (TEXTS, At::Member(0, 1), 9, Ask::Text, "\"x\", 8 left"),
-    (TEXTS, At::Member(0, 1), 9, Ask::Bytes, "[120, 0], 8 left"),
-    (
-        TEXTS,
-        At::Member(0, 0),
-        9,
-        Ask::I32,
-        "Unknown error: value cannot be read here, 8 left",
-    ),
-    (
-        TEXTS,
-        At::Member(0, 0),
-        0,
-        Ask::I32,
-        "Invalid resource bundle data: resource budget spent, 0 left",
-    ),
-    (TWO_ENTRIES, At::Key(1), 0, Ask::Key, "\"c\", 0 left"),
-    (TWO_ENTRIES, At::Key(1), 0, Ask::Bytes, "[99], 0 left"),
-    (
-        TWO_ENTRIES,
-        At::Key(1),
-        0,
-        Ask::ReprType,
-        "Unknown error: value cannot be read here, 0 left",
-    ),
-    (
-        &[0x60000001, 7, 8, 10, 10, 0, 0, 10, 0xd8000000, 0],
-        At::Root,
-        1,
-        Ask::Bytes,
-        "[0, 216], 0 left",
-    ),
-    (WIDE_TABLE, At::Root, 2, Ask::ByteMap, "{\"a\": 5}, 0 left"),
-    (
-        WIDE_TABLE,
-        At::Root,
-        1,
-        Ask::ByteMap,
-        "Invalid resource bundle data: resource budget spent, 0 left",
-    ),
-    (WIDE_TABLE, At::Root, 1, Ask::ReprType, "_Table32, 1 left"),
-    (
-        &[0x30000000, 7, 8, 9, 9, 0, 0, 9, 0xaaaa0000],
-        At::Root,
-        1,
-        Ask::ReprType,
-        "Unsupported resource bundle format: resource type is not supported, 1 left",
-    ),
-    (
-        &[0xa0000000, 7, 8, 9, 9, 0, 0, 9, 0xaaaa0000],
-        At::Root,
-        1,
-        Ask::ReprType,
-        "Invalid resource bundle data: unrecognized value for ResourceReprType, 1 left",
-    ),
-    (
-        &[0xa0000000, 7, 8, 9, 9, 0, 0, 9, 0xaaaa0000],
-        At::Root,
-        1,
-        Ask::Skip,
-        "(), 0 left",
-    ),
-    (
-        &[0xa0000000, 7, 8, 9, 9, 0, 0, 9, 0xaaaa0000],
-        At::Root,
-        1,
-        Ask::Key,
-        "Invalid resource bundle data: unrecognized value for ResourceReprType, 0 left",
-    ),
-    (
-        &[1, 7, 8, 9, 9, 0, 0, 9, 0xaaaa0000],
-        At::Root,
-        1,
-        Ask::Key,
-        "Unsupported resource bundle format: resource type is not supported, 0 left",
-    ),
-];
+/// Files, places in them, and the digest of all that is answered there with 0, 1, 2 and 50 of a
+/// budget.
+const SWEEPS: &str = "\
+NUMBERS / root, root k0, root v0, root v1, root v1 m0, root v1 m1 => 7d4cbaa1a0f5c8e1;
+TEXTS / root, root k0, root v0, root v0 m0, root v0 m1 => a8ca2e23ddbe45b2;
+BYTES / root, root k0, root v0 => 0221c01b958e2b54;
+TWO_ENTRIES / root, root k0, root k1, root v0, root v1 => 30987796736f811c;
+WIDE_TABLE / root, root k0, root v0 => cccd3a68dc29b4de;
+THREE_NUMBERS / root v0, root v0 m2 => f06ce4e6218de01e;
+TEXT_A / root => 9f5085cd25d3b1c8;
+70000000 7 8 9 9 0 0 9 aaaa0000 / root => c039a014d79544b2;
+70000001 7 8 9 9 0 0 9 aaaa0000 / root => 3290ce6c3a57fcb2;
+700000ff 7 8 9 9 0 0 9 aaaa0000 / root => fd8a279b8237ec16;
+70000100 7 8 9 9 0 0 9 aaaa0000 / root => 3f43bdfa7b64db41;
+70007fff 7 8 9 9 0 0 9 aaaa0000 / root => adc4499e364f2e91;
+7000ffff 7 8 9 9 0 0 9 aaaa0000 / root => 9a63ba0f5a822cee;
+7fffff80 7 8 9 9 0 0 9 aaaa0000 / root => 421fa128d9a4809f;
+7ffffe00 7 8 9 9 0 0 9 aaaa0000 / root => 5effe5968ff4c13f;
+60000000 7 8 9 9 0 0 9 aaaa0000 / root => 8d5588cf6a0ec23a;
+10000000 7 8 9 9 0 0 9 aaaa0000 / root => 66a186de7d17fea0;
+20000000 7 8 9 9 0 0 9 aaaa0000 / root => a115150189e8c374;
+80000000 7 8 9 9 0 0 9 aaaa0000 / root => 24194d06515cefa2;
+90000000 7 8 9 9 0 0 9 aaaa0000 / root => cfcef0357566bae2;
+e0000000 7 8 9 9 0 0 9 aaaa0000 / root => 29dfbc58c92a2cfb;
+0 7 8 9 9 0 0 9 aaaa0000 / root => f7de028a383eb5f2;
+30000000 7 8 9 9 0 0 9 aaaa0000 / root => f7de028a383eb5f2;
+a0000000 7 8 9 9 0 0 9 aaaa0000 / root => 70db23325c888c84;
+f0000000 7 8 9 9 0 0 9 aaaa0000 / root => 70db23325c888c84;
+1000ffff 7 8 9 9 0 0 9 aaaa0000 / root => 127253f28c0f2890;
+6000ffff 7 8 9 9 0 0 9 aaaa0000 / root => 28c1ab18786c42c8;
+";
 
-/// Each type and call at these places, with 0, 1, 2 and 50 of a budget: the digest of the lines.
-const SWEEPS: [(&[u32], &[At], u64); 27] = [
-    (
-        NUMBERS,
-        &[
-            At::Root,
-            At::Key(0),
-            At::Value(0),
-            At::Value(1),
-            At::Member(1, 0),
-            At::Member(1, 1),
-        ],
-        0xaf7523804ae115dc,
-    ),
-    (
-        TEXTS,
-        &[
-            At::Root,
-            At::Key(0),
-            At::Value(0),
-            At::Member(0, 0),
-            At::Member(0, 1),
-        ],
-        0x189e23292c17e9f6,
-    ),
-    (
-        BYTES,
-        &[At::Root, At::Key(0), At::Value(0)],
-        0x4f0f0a65d805b0a8,
-    ),
-    (
-        TWO_ENTRIES,
-        &[At::Root, At::Key(0), At::Key(1), At::Value(0), At::Value(1)],
-        0x8676e7600c53ecbf,
-    ),
-    (
-        WIDE_TABLE,
-        &[At::Root, At::Key(0), At::Value(0)],
-        0x2087344f8ffe89c8,
-    ),
-    (
-        THREE_NUMBERS,
-        &[At::Value(0), At::Member(0, 2)],
-        0x5fd5528304771314,
-    ),
-    (TEXT_A, &[At::Root], 0xfdb770d9fa0fe667),
-    (
-        &[0x70000000, 7, 8, 9, 9, 0, 0, 9, 0xaaaa0000],
-        &[At::Root],
-        0xa207652bc314caff,
-    ),
-    (
-        &[0x70000001, 7, 8, 9, 9, 0, 0, 9, 0xaaaa0000],
-        &[At::Root],
-        0x407627ca465a4d86,
-    ),
-    (
-        &[0x700000ff, 7, 8, 9, 9, 0, 0, 9, 0xaaaa0000],
-        &[At::Root],
-        0x9a1697d97d26a47b,
-    ),
-    (
-        &[0x70000100, 7, 8, 9, 9, 0, 0, 9, 0xaaaa0000],
-        &[At::Root],
-        0xeefff338fe4bc835,
-    ),
-    (
-        &[0x70007fff, 7, 8, 9, 9, 0, 0, 9, 0xaaaa0000],
-        &[At::Root],
-        0x0b4b179027c6ac09,
-    ),
-    (
-        &[0x7000ffff, 7, 8, 9, 9, 0, 0, 9, 0xaaaa0000],
-        &[At::Root],
-        0x6f56dc1c304793cb,
-    ),
-    (
-        &[0x7fffff80, 7, 8, 9, 9, 0, 0, 9, 0xaaaa0000],
-        &[At::Root],
-        0x4c9270e41f5453f5,
-    ),
-    (
-        &[0x7ffffe00, 7, 8, 9, 9, 0, 0, 9, 0xaaaa0000],
-        &[At::Root],
-        0x7bc99a4781a6c00e,
-    ),
-    (
-        &[0x60000000, 7, 8, 9, 9, 0, 0, 9, 0xaaaa0000],
-        &[At::Root],
-        0xd9aa8f18ccc5eb07,
-    ),
-    (
-        &[0x10000000, 7, 8, 9, 9, 0, 0, 9, 0xaaaa0000],
-        &[At::Root],
-        0xe1ca6ab33aad4a63,
-    ),
-    (
-        &[0x20000000, 7, 8, 9, 9, 0, 0, 9, 0xaaaa0000],
-        &[At::Root],
-        0x2a5c9ed46928b9de,
-    ),
-    (
-        &[0x80000000, 7, 8, 9, 9, 0, 0, 9, 0xaaaa0000],
-        &[At::Root],
-        0x047c42765cb2cac9,
-    ),
-    (
-        &[0x90000000, 7, 8, 9, 9, 0, 0, 9, 0xaaaa0000],
-        &[At::Root],
-        0xeab81ea92e885f89,
-    ),
-    (
-        &[0xe0000000, 7, 8, 9, 9, 0, 0, 9, 0xaaaa0000],
-        &[At::Root],
-        0xdaae92abbbd2149b,
-    ),
-    (
-        &[0, 7, 8, 9, 9, 0, 0, 9, 0xaaaa0000],
-        &[At::Root],
-        0x0a563b76611cc814,
-    ),
-    (
-        &[0x30000000, 7, 8, 9, 9, 0, 0, 9, 0xaaaa0000],
-        &[At::Root],
-        0x0a563b76611cc814,
-    ),
-    (
-        &[0xa0000000, 7, 8, 9, 9, 0, 0, 9, 0xaaaa0000],
-        &[At::Root],
-        0x9e6d36ac54db20e4,
-    ),
-    (
-        &[0xf0000000, 7, 8, 9, 9, 0, 0, 9, 0xaaaa0000],
-        &[At::Root],
-        0x9e6d36ac54db20e4,
-    ),
-    (
-        &[0x1000ffff, 7, 8, 9, 9, 0, 0, 9, 0xaaaa0000],
-        &[At::Root],
-        0x096a66138b715b95,
-    ),
-    (
-        &[0x6000ffff, 7, 8, 9, 9, 0, 0, 9, 0xaaaa0000],
-        &[At::Root],
-        0x923c4b76155ac20d,
-    ),
-];
+/// The line of what is asked for.
+fn line_of_ask(alloc: Global, input: &str) -> Result<String, Fail> {
+    let (words, rest) = input.split_once(" / ").ok_or("a row without a place")?;
+    let (path, rest) = rest.split_once(" / ").ok_or("a row without a budget")?;
+    let (left, ask) = rest.split_once(' ').ok_or("a row that asks for nothing")?;
+    let left = left.parse::<usize>()?;
+    let bytes = file_of(alloc, words)?;
+    asked(alloc, ask, place(&bytes, path)?, left)
+}
 
 #[test]
 fn types_are_read_at_places(rt: HostRuntime) -> Result<(), Fail> {
-    for (words, at, left, ask, said) in ROWS {
-        let bytes = file_of(rt.alloc(), words)?;
-        let found = asked(rt.alloc(), ask, place(&bytes, at)?, left)?;
-        assert_eq!(rt; found.as_str(), said);
+    for row in ROWS.split_terminator(";\n") {
+        let (input, said) = parts(row)?;
+        assert_said(&rt, line_of_ask(rt.alloc(), input)?, said);
     }
     Ok(())
 }
 
-/// The digest of all that is answered at some places of a file.
-fn digest_of_places(alloc: Global, bytes: &[u8], places: &[At]) -> Result<u64, Fail> {
-    let mut sum = BASIS;
-    for at in places {
-        for ask in ALL {
-            for left in [0usize, 1, 2, 50] {
-                let line = asked(alloc, ask, place(bytes, *at)?, left)?;
-                sum = digest(sum, &line);
-            }
+/// The digest so far, and all that is answered at a place of a file.
+fn digest_of_place(alloc: Global, before: u64, bytes: &[u8], path: &str) -> Result<u64, Fail> {
+    let mut sum = before;
+    for ask in ALL.split_whitespace() {
+        for left in [0usize, 1, 2, 50] {
+            let line = asked(alloc, ask, place(bytes, path)?, left)?;
+            sum = digest(sum, &line);
         }
+    }
+    Ok(sum)
+}
+
+/// The digest of all that is answered at the places of a row.
+fn digest_of_places(alloc: Global, row: &str) -> Result<u64, Fail> {
+    let (words, paths) = row.split_once(" / ").ok_or("a row without places")?;
+    let bytes = file_of(alloc, words)?;
+    let mut sum = BASIS;
+    for path in paths.split(", ") {
+        sum = digest_of_place(alloc, sum, &bytes, path)?;
     }
     Ok(sum)
 }
 
 #[test]
 fn each_type_is_answered_at_each_place(rt: HostRuntime) -> Result<(), Fail> {
-    for (words, places, sum) in SWEEPS {
-        let bytes = file_of(rt.alloc(), words)?;
-        assert_eq!(rt;
-            digest_of_places(rt.alloc(), &bytes, places)?,
-            sum,
-            "of {words:?}"
-        );
+    for row in SWEEPS.split_terminator(";\n") {
+        let (places, digits) = parts(row)?;
+        let sum = u64::from_str_radix(digits, 16)?;
+        assert_eq!(rt; digest_of_places(rt.alloc(), places)?, sum, "of {places}");
     }
     Ok(())
 }

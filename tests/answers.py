@@ -15,7 +15,8 @@ def answers(command, inputs):
     run = subprocess.run(shlex.split(command), input=given, capture_output=True, text=True)
     said = run.stdout.split('\n')[:-1]
     if run.returncode != 0 or len(said) != len(inputs):
-        sys.exit('%s: status %d, %d answers of %d' % (command, run.returncode, len(said), len(inputs)))
+        counts = (run.returncode, len(said), len(inputs))
+        sys.exit('%s: status %d, %d answers of %d' % (command, *counts))
     return said
 
 

@@ -3,11 +3,11 @@
 
     plan_compare.py OURS OTHER [COUNT [SEED]]
 
-OURS and OTHER are commands as `answers.py` says. A pool is its strings in their order, each in UTF-8
-and closed by a byte 255. The answer is `ok UNITS OFFSETS TURNS ENDS` or `err MESSAGE`: the units as
-four hex digits each, and then lists of an offset, or `-` where a text wasn't given, each with a comma
-behind it: of each string, of each by its number, and of each string without its first character.
-`dump pools` of `dump.rattle` is such a command.
+OURS and OTHER are commands as `answers.py` says. A pool is its strings in their order, each in
+UTF-8 and closed by a byte 255. The answer is `ok UNITS OFFSETS TURNS ENDS` or `err MESSAGE`: the
+units as four hex digits each, and then lists of an offset, or `-` where a text wasn't given, each
+with a comma behind it: of each string, of each by its number, and of each string without its first
+character. `dump pools` of `dump.rattle` is such a command.
 """
 import random
 import sys
@@ -35,7 +35,7 @@ def text(rng, letters, known):
 
 
 def pool(rng):
-    """Strings of few or of many letters; one pool in a thousand has a string with a marker of two or three units."""
+    """Strings of few or of many letters; one pool in a thousand has a longer marker."""
     letters = rng.sample(LETTERS, rng.choice([1, 2, 3, len(LETTERS)]))
     known = []
     for _ in range(rng.choice([0, 1, 2, 3, 5, 8, 20, 60])):

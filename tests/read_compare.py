@@ -3,11 +3,11 @@
 
     read_compare.py OURS OTHER [COUNT [SEED [FILES]]]
 
-OURS and OTHER are commands as `answers.py` says, which answer a file by `ok COUNT TREE`, by `ok COUNT`
-where the count alone is asked for, or by `err MESSAGE`; a TREE is written as in `text_compare.py`.
-`dump trees` and `dump counts` of `dump.rattle` are such commands. FILES has the hex digits of a file
-in each line; these are damaged beside the small ones here. The first difference is printed with the
-file's bytes, and ends the run with status 1.
+OURS and OTHER are commands as `answers.py` says, which answer a file by `ok COUNT TREE`, by
+`ok COUNT` where the count alone is asked for, or by `err MESSAGE`; a TREE is written as in
+`text_compare.py`. `dump trees` and `dump counts` of `dump.rattle` are such commands. FILES has the
+hex digits of a file in each line; these are damaged beside the small ones here. The first
+difference is printed with the file's bytes, and ends the run with status 1.
 """
 import random
 import struct
@@ -38,7 +38,7 @@ UNITS = [0, 1, 2, 32, 34, 0x61, 0xD800, 0xDC00, 0xDC01, 0xDFEF, 0xDFFF]
 
 
 def word(rng, size):
-    """A word that often leads somewhere in a body of so many: a descriptor, a small number, two units."""
+    """A word that often leads somewhere in so many: a descriptor, a small number, two units."""
     kind = rng.randrange(4)
     if kind == 0:
         return rng.choice(TYPES) << 28 | rng.randrange(size + 3)

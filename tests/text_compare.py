@@ -5,9 +5,9 @@
 
 OURS and OTHER are commands as `answers.py` says. A text is answered by `ok NAME FLAG TREE KEYS` or
 `err PLACE ITEM`, where ITEM is what was expected, NAME and KEYS are in hex digits, FLAG is 1 where
-fallback is on, and TREE is `s HEX ;`, `a[` trees `]`, `t{` HEX `:` tree .. `}`, `b HEX ;`, `i N ,` or
-`v` N `,` .. `;` without blanks. OURS may add a word, the turns that it counted: they must be at most
-8 n + 8 for n bytes. `dump texts` of `dump.rattle` is such a command.
+fallback is on, and TREE is `s HEX ;`, `a[` trees `]`, `t{` HEX `:` tree .. `}`, `b HEX ;`, `i N ,`
+or `v` N `,` .. `;` without blanks. OURS may add a word, the turns that it counted: they must be at
+most 8 n + 8 for n bytes. `dump texts` of `dump.rattle` is such a command.
 """
 import random
 import sys

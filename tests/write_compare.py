@@ -3,10 +3,10 @@
 
     write_compare.py OURS OTHER [COUNT [SEED [KEPT]]]
 
-OURS is a program that takes the words `compile IN OUT`. OTHER is a command as `answers.py` says, which
-answers a text by the hex digits of its file. Two texts in seven are one array of strings that share
-suffixes, so that the pool is all there is. The first difference is printed and ends the run with
-status 1. KEPT gets the hex digits of each file in a line, for `read_compare.py`.
+OURS is a program that takes the words `compile IN OUT`. OTHER is a command as `answers.py` says,
+which answers a text by the hex digits of its file. Two texts in seven are one array of strings that
+share suffixes, so that the pool is all there is. The first difference is printed and ends the run
+with status 1. KEPT gets the hex digits of each file in a line, for `read_compare.py`.
 """
 import os
 import random

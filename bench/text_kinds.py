@@ -1,23 +1,25 @@
 #!/usr/bin/env python3
 """Times the reader of the text form alone, by texts that are refused at their last byte.
 
-    text_kinds.py [--program PATH] [BYTES ..]      (10000 100000 1000000 10000000 where none is given)
+    text_kinds.py [--program PATH] [--alone] [KIND ..] [BYTES ..]    all kinds, 10 kB to 10 MB
+    text_kinds.py --make KIND BYTES                                  such a text, on standard output
 
-Each kind of text is given to the built program, or to that of PATH, on standard input, from a file; the least of five times is
-printed in milliseconds, with the growth over the size before and the program's most memory in bytes for each
-byte of the text. Where ICU's genrb is installed it is timed on the same text without the last byte.
+The built program, or that of PATH, is given each text on standard input. The least of five times
+is printed, in milliseconds of processor, with the growth over the size before and the most memory
+in bytes for each byte of the text; and that of `genrb -q` where it is installed and --alone isn't
+said, on the same text without its last byte.
 """
-import os
 import pathlib
 import resource
 import shutil
-import subprocess
 import sys
 import tempfile
-import time
+
+from timing import growth, least, make
 
 TOP = pathlib.Path(__file__).resolve().parent.parent
 PROGRAM = TOP / 'crates/resb_tool/out/resb_tool'
+SIZES = [10 ** k for k in range(4, 8)]
 
 
 def entries(said, size):
@@ -56,43 +58,35 @@ KINDS = {
 }
 
 
-def least(command, given):
-    best, memory = None, 0
-    for _ in range(5):
-        with open(given, 'rb') as stdin:
-            begun = time.perf_counter()
-            child = subprocess.Popen(command, stdin=stdin, stdout=subprocess.DEVNULL, stderr=subprocess.DEVNULL)
-            _, _, used = os.wait4(child.pid, 0)
-            took = time.perf_counter() - begun
-        best = took if best is None else min(best, took)
-        memory = max(memory, used.ru_maxrss * 1024)
-    return best * 1000, memory
+def times(program, kind, sizes, work, alone):
+    before = None
+    for size in sizes:
+        length = make(__file__, kind, size, work / 'given.txt')
+        took, memory, _ = least([program], 5, work / 'given.txt')
+        line = '%-26s %10d bytes %9.1f ms%s, %.1f bytes a byte' % (
+            kind, length, took, growth(took, before), memory / length)
+        before = took
+        if not alone and shutil.which('genrb'):
+            (work / 'b.txt').write_bytes((work / 'given.txt').read_bytes()[:-1])
+            theirs, _, status = least(['genrb', '-q', '-e', 'UTF-8', 'b.txt'], 3, folder=work)
+            line += ', genrb %.1f ms' % theirs if status == 0 else ', refused by genrb'
+        print(line, flush=True)
 
 
 def main():
     resource.setrlimit(resource.RLIMIT_CORE, (0, 0))
     words = sys.argv[1:]
+    if words[:1] == ['--make']:
+        sys.stdout.write(KINDS[words[1]](int(words[2])) + 'x')
+        return
     program = words.pop(words.index('--program') + 1) if '--program' in words else str(PROGRAM)
-    sizes = [int(a) for a in words if a != '--program'] or [10000, 100000, 1000000, 10000000]
+    alone = '--alone' in words
+    words = [word for word in words if word not in ('--program', '--alone')]
+    sizes = [int(word) for word in words if word.isdigit()] or SIZES
+    kinds = [word for word in words if not word.isdigit()] or list(KINDS)
     with tempfile.TemporaryDirectory() as work:
-        given = os.path.join(work, 'given.txt')
-        for kind, make in KINDS.items():
-            before = None
-            for size in sizes:
-                text = make(size)
-                with open(given, 'w') as file:
-                    file.write(text + 'x')
-                took, memory = least([program], given)
-                growth = '' if before is None else ', growth %.1f' % (took / before)
-                before = took
-                other = ''
-                if shutil.which('genrb'):
-                    with open(os.path.join(work, 'b.txt'), 'w') as file:
-                        file.write(text)
-                    theirs, _ = least(['genrb', '-q', '-e', 'UTF-8', '-s', work, '-d', work, 'b.txt'], given)
-                    other = ', genrb %.1f ms' % theirs
-                print('%-26s %10d bytes %9.1f ms%s, %.1f bytes a byte%s'
-                      % (kind, len(text) + 1, took, growth, memory / (len(text) + 1), other), flush=True)
+        for kind in kinds:
+            times(program, kind, sizes, pathlib.Path(work), alone)
 
 
 main()

@@ -1,21 +1,19 @@
 #!/usr/bin/env python3
-"""Times text to file: `resb_tool compile IN OUT` beside `genrb -q` on the same text, whole processes.
+"""Times text to file: `resb_tool compile IN OUT` beside `genrb -q` on the same text, whole.
 
     write_kinds.py                        the six kinds, each at a size of its own
-    write_kinds.py --growth [BYTES ..]    ours alone, 10 kB to 100 MB, with the growth over the size before
+    write_kinds.py --growth [BYTES ..]    ours alone, 10 kB to 100 MB, with the growth per tenfold
     write_kinds.py --make KIND BYTES      the text of a kind, on standard output
 
 `--program PATH` in front of these times another program. The least of three times is printed, in
-milliseconds, with the most memory of the process in MB. Texts are made by processes of their own, since
-a process that was forked counts the memory of the one that forked it.
+milliseconds of processor, with the most memory of the process in MB.
 """
-import os
 import pathlib
 import shutil
-import subprocess
 import sys
 import tempfile
-import time
+
+from timing import growth, least, make
 
 TOP = pathlib.Path(__file__).resolve().parent.parent
 PROGRAM = str(TOP / 'crates/resb_tool/out/resb_tool')
@@ -82,51 +80,32 @@ KINDS = {
 }
 
 
-def least(command, work):
-    best, memory = None, 0
-    for _ in range(3):
-        begun = time.perf_counter()
-        child = subprocess.Popen(command, cwd=work, stdout=subprocess.DEVNULL, stderr=subprocess.DEVNULL)
-        _, status, used = os.wait4(child.pid, 0)
-        took = time.perf_counter() - begun
-        if status:
-            return None, 0
-        best = took if best is None else min(best, took)
-        memory = max(memory, used.ru_maxrss / 1024)
-    return best * 1000, memory
-
-
-def make_text(work, kind, size):
-    with open(work / 'b.txt', 'wb') as file:
-        subprocess.run([sys.executable, __file__, '--make', kind, str(size)], stdout=file, check=True)
-    return (work / 'b.txt').stat().st_size
-
-
 def beside_genrb(program, work):
     for kind, (_, size) in KINDS.items():
-        length = make_text(work, kind, size)
-        ours, memory = least([program, 'compile', 'b.txt', 'ours.res'], work)
-        line = '%-36s %9d bytes %8.1f ms %6.0f MB' % (kind, length, ours, memory)
+        length = make(__file__, kind, size, work / 'b.txt')
+        ours, memory, _ = least([program, 'compile', 'b.txt', 'ours.res'], 3, folder=work)
+        line = '%-36s %9d bytes %8.1f ms %6.0f MB' % (kind, length, ours, memory / 2 ** 20)
         if shutil.which('genrb'):
-            theirs, their_memory = least(['genrb', '-q', '-e', 'UTF-8', 'b.txt'], work)
-            if theirs is not None:
-                same = (work / 'ours.res').read_bytes() == (work / 'b.res').read_bytes()
-                line += '; genrb %9.1f ms %6.0f MB, part %.3f, %s' % (
-                    theirs, their_memory, ours / theirs, 'same file' if same else 'another file')
+            theirs, their_memory, _ = least(['genrb', '-q', '-e', 'UTF-8', 'b.txt'], 3, folder=work)
+            same = (work / 'ours.res').read_bytes() == (work / 'b.res').read_bytes()
+            line += '; genrb %9.1f ms %6.0f MB, part %.3f, %s' % (
+                theirs, their_memory / 2 ** 20, ours / theirs,
+                'same file' if same else 'another file')
         print(line, flush=True)
 
 
-def growth(program, work, sizes):
+def grows(program, work, sizes):
     for kind in KINDS:
         if kind in ('unsorted keys', 'distinct last letters'):
             continue
         before = None
         for size in sizes:
-            make_text(work, kind, size)
-            took, memory = least([program, 'compile', 'b.txt', 'ours.res'], work)
-            grown = '' if before is None else ', growth %.1f' % (took / before)
+            length = make(__file__, kind, size, work / 'b.txt')
+            took, memory, status = least([program, 'compile', 'b.txt', 'ours.res'], 3, folder=work)
+            print('%-36s %10d bytes %9.1f ms%s, %.1f bytes a byte%s' % (
+                kind, length, took, growth(took, before), memory / length,
+                '' if status == 0 else ', refused'), flush=True)
             before = took
-            print('%-36s %10d bytes %9.1f ms %6.0f MB%s' % (kind, size, took, memory, grown), flush=True)
 
 
 def main():
@@ -140,7 +119,7 @@ def main():
     with tempfile.TemporaryDirectory() as name:
         work = pathlib.Path(name)
         if words[:1] == ['--growth']:
-            growth(program, work, [int(a) for a in words[1:]] or [10 ** k for k in range(4, 9)])
+            grows(program, work, [int(a) for a in words[1:]] or [10 ** k for k in range(4, 9)])
         else:
             beside_genrb(program, work)
 

@@ -1,22 +1,23 @@
 #!/usr/bin/env python3
-"""Compares two programs on random and mutated `.res` files.
+"""Compares readers of files on random and damaged files: the whole trees, or the counts alone.
 
-    read_compare.py OURS THEIRS [COUNT [SEED]]
+    read_compare.py OURS OTHER [COUNT [SEED [FILES]]]
 
-OURS and THEIRS are commands that take the words `check FILE`. Each file is given to both, and their
-exit status, standard output and standard error have to be the same. The first difference is printed
-with the file's bytes, and ends the run with status 1.
+OURS and OTHER are commands as `answers.py` says, which answer a file by `ok COUNT TREE`, by
+`ok COUNT` where the count alone is asked for, or by `err MESSAGE`; a TREE is written as in
+`text_compare.py`. `dump trees` and `dump counts` of `dump.rattle` are such commands. FILES has the
+hex digits of a file in each line; these are damaged beside the small ones here. The first
+difference is printed with the file's bytes, and ends the run with status 1.
 """
 import random
-import shlex
 import struct
-import subprocess
 import sys
-import tempfile
 
-HEADER = bytes.fromhex("2000da2714000000000002005265734202000000010400000000000000000000")
+from answers import answered
 
-SEEDS = [
+HEADER = bytes.fromhex('2000da2714000000000002005265734202000000010400000000000000000000')
+
+SMALL = [
     [0x7FFFFFFF, 7, 8, 9, 9, 0, 0, 9, 0xAAAA0000],
     [0x60000001, 7, 8, 10, 10, 0, 0, 10, 0x00610000, 0xAAAA0000],
     [0x50000006, 7, 9, 15, 15, 2, 0, 15, 0x00630061, 0x00780000, 0x00790000, 0x7A,
@@ -32,31 +33,33 @@ SEEDS = [
     [0x90000006, 7, 8, 13, 13, 0, 0, 13, 0xDC030000, 0x00610000, 0x00000062, 0x00010002,
      0xAAAA0003],
 ]
+TYPES = [0, 1, 2, 3, 4, 5, 6, 7, 8, 9, 10, 14]
+UNITS = [0, 1, 2, 32, 34, 0x61, 0xD800, 0xDC00, 0xDC01, 0xDFEF, 0xDFFF]
 
 
-def word(rng):
-    """A word that often leads somewhere: a descriptor, a small number, two units."""
+def word(rng, size):
+    """A word that often leads somewhere in so many: a descriptor, a small number, two units."""
     kind = rng.randrange(4)
     if kind == 0:
-        return rng.choice([0, 1, 2, 3, 4, 5, 6, 7, 8, 9, 10, 14]) << 28 | rng.randrange(18)
+        return rng.choice(TYPES) << 28 | rng.randrange(size + 3)
     if kind == 1:
-        return rng.randrange(40)
+        return rng.randrange(2 * size + 10)
     if kind == 2:
-        units = [0, 1, 2, 32, 34, 0x61, 0xD800, 0xDC00, 0xDC01, 0xDFEF, 0xDFFF]
-        return rng.choice(units) << 16 | rng.choice(units)
+        return rng.choice(UNITS) << 16 | rng.choice(UNITS)
     return rng.getrandbits(32)
 
 
-def random_file(rng):
-    """A seed with some words, bytes or its end changed, or a file of random words."""
-    words = list(rng.choice(SEEDS))
+def random_file(rng, known):
+    """A known file with some words, bytes or its end changed, or a small one of random words."""
+    head, words = rng.choice(known)
+    words = list(words)
     if rng.randrange(4) == 0:
-        words = words[:9] + [word(rng) for _ in range(rng.randrange(1, 12))]
-        words[0] = word(rng)
+        words = words[:9] + [word(rng, 18) for _ in range(rng.randrange(1, 12))]
+        words[0] = word(rng, 18)
         words[7] = rng.randrange(8, len(words) + 1)
     for _ in range(rng.randrange(4)):
-        words[rng.randrange(len(words))] = word(rng)
-    data = bytearray(HEADER + b"".join(struct.pack("<I", w) for w in words))
+        words[rng.randrange(len(words))] = word(rng, len(words))
+    data = bytearray(head + b''.join(struct.pack('<I', w) for w in words))
     if rng.randrange(3) == 0:
         data[rng.randrange(len(data))] = rng.choice([0, 1, 0x7F, 0xFF, rng.randrange(256)])
     if rng.randrange(6) == 0:
@@ -64,32 +67,31 @@ def random_file(rng):
     return bytes(data)
 
 
-def answer(command, path):
-    run = subprocess.run(command + ["check", path], capture_output=True, timeout=60)
-    return run.returncode, run.stdout, run.stderr
+def files_of(path):
+    """The header and the words of each file."""
+    with open(path) as lines:
+        for line in lines:
+            data = bytes.fromhex(line)
+            yield data[:32], struct.unpack('<%dI' % (len(data) // 4 - 8), data[32:])
 
 
 def main():
     if len(sys.argv) < 3:
         sys.exit(__doc__)
-    ours, theirs = shlex.split(sys.argv[1]), shlex.split(sys.argv[2])
     count = int(sys.argv[3]) if len(sys.argv) > 3 else 1000
     rng = random.Random(int(sys.argv[4]) if len(sys.argv) > 4 else 1)
+    small = [(HEADER, words) for words in SMALL]
+    given = list(files_of(sys.argv[5])) if len(sys.argv) > 5 else small
     accepted = 0
-    with tempfile.NamedTemporaryFile(suffix=".res") as file:
-        for number in range(count):
-            data = random_file(rng)
-            file.seek(0)
-            file.truncate()
-            file.write(data)
-            file.flush()
-            first, second = answer(ours, file.name), answer(theirs, file.name)
-            if first != second:
-                print(f"file {number}: {data.hex()}\n{first}\n{second}")
-                sys.exit(1)
-            accepted += first[0] == 0
-    print(f"{count} files alike, {accepted} of them accepted")
+
+    def make():
+        return random_file(rng, rng.choice([small, given]))
+
+    for data, mine, theirs in answered(sys.argv[1], sys.argv[2], make, count):
+        if mine != theirs:
+            sys.exit('differ on %s:\n%s\n%s' % (data.hex(), mine, theirs))
+        accepted += mine.startswith('ok')
+    print('%d files, %d of them accepted: no difference' % (count, accepted))
 
 
-if __name__ == "__main__":
-    main()
+main()

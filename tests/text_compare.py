@@ -3,17 +3,16 @@
 
     text_compare.py OURS OTHER [COUNT [SEED]]
 
-OURS and OTHER are commands. Each is given texts on standard input, a line of hex digits each (a lone `-` for
-the empty text), and answers each by a line: `ok NAME FLAG TREE KEYS` or `err PLACE ITEM`, where ITEM is what
-was expected, NAME and KEYS are in hex digits, FLAG is 1 where fallback is on, and TREE is
-`s HEX ;`, `a[` trees `]`, `t{` HEX `:` tree .. `}`, `b HEX ;`, `i N ,` or `v` N `,` .. `;` without blanks.
-OURS may add a word, the turns that it counted: they must be at most 8 n + 8 for n bytes.
-`tests/text_dump.rattle` is such a program over `resb_text`.
+OURS and OTHER are commands as `answers.py` says. A text is answered by `ok NAME FLAG TREE KEYS` or
+`err PLACE ITEM`, where ITEM is what was expected, NAME and KEYS are in hex digits, FLAG is 1 where
+fallback is on, and TREE is `s HEX ;`, `a[` trees `]`, `t{` HEX `:` tree .. `}`, `b HEX ;`, `i N ,`
+or `v` N `,` .. `;` without blanks. OURS may add a word, the turns that it counted: they must be at
+most 8 n + 8 for n bytes. `dump texts` of `dump.rattle` is such a command.
 """
 import random
-import shlex
-import subprocess
 import sys
+
+from answers import answered
 
 PIECES = ['{', '}', '{', '}', '{', '}', ',', '"x"', '"yz"', '""', 'k', 'a', 'b', 'c', '"k"', '"a"', ' ', '\n',
           ':table', ':array', ':string', ':int', ':integer', ':bin', ':binary', ':intvector', ':table(nofallback)',
@@ -92,21 +91,16 @@ def text(rng):
 
 
 def main():
-    ours, other = shlex.split(sys.argv[1]), shlex.split(sys.argv[2])
+    if len(sys.argv) < 3:
+        sys.exit(__doc__)
     count = int(sys.argv[3]) if len(sys.argv) > 3 else 200000
     rng = random.Random(int(sys.argv[4]) if len(sys.argv) > 4 else 1)
-    texts = [text(rng) for _ in range(count)]
-    given = '\n'.join(t.encode().hex() or '-' for t in texts) + '\n'
-    answers = [subprocess.run(c, input=given, capture_output=True, text=True, check=True).stdout.splitlines()
-               for c in (ours, other)]
-    if [len(a) for a in answers] != [count, count]:
-        sys.exit('answers: %s of %d' % ([len(a) for a in answers], count))
     accepted = 0
-    for said, mine, theirs in zip(texts, *answers):
+    for said, mine, theirs in answered(sys.argv[1], sys.argv[2], lambda: text(rng).encode(), count):
         words, wanted = mine.split(' '), theirs.split(' ')
         turns = int(words.pop()) if len(words) > len(wanted) else 0
         accepted += words[0] == 'ok'
-        if words != wanted or turns > 8 * len(said.encode()) + 8:
+        if words != wanted or turns > 8 * len(said) + 8:
             sys.exit('differ on %r:\n%s\n%s' % (said, mine, theirs))
     print('%d texts, %d of them accepted: no difference' % (count, accepted))
 

@@ -1,18 +1,21 @@
 #!/usr/bin/env python3
 """Compares writers on the texts of random trees, byte for byte.
 
-    write_compare.py OURS OTHER [COUNT [SEED]]
+    write_compare.py OURS OTHER [COUNT [SEED [KEPT]]]
 
-OURS is a program that takes the words `compile IN OUT`. OTHER is a command that is given texts on
-standard input, a line of hex digits each, and answers each by a line: the hex digits of its file.
-Two texts in seven are one array of strings that share suffixes, so that the pool is all there is.
-The first difference is printed and ends the run with status 1.
+OURS is a program that takes the words `compile IN OUT`. OTHER is a command as `answers.py` says,
+which answers a text by the hex digits of its file. Two texts in seven are one array of strings that
+share suffixes, so that the pool is all there is. The first difference is printed and ends the run
+with status 1. KEPT gets the hex digits of each file in a line, for `read_compare.py`.
 """
+import os
 import random
 import shlex
 import subprocess
 import sys
 import tempfile
+
+from answers import answers
 
 LETTERS = ['a', 'b', 'ab', 'x', 'é', '\U0001f600', '\ue000', '\0']
 
@@ -72,26 +75,34 @@ def text(rng):
     return 'b%s{%s}' % (flag, entries(rng, known, 4))
 
 
+def file_of(program, said, folder):
+    """The hex digits of the file of a text, or what is said on standard error."""
+    given, made = os.path.join(folder, 'in'), os.path.join(folder, 'out')
+    with open(given, 'wb') as file:
+        file.write(said)
+    run = subprocess.run(program + ['compile', given, made], stderr=subprocess.PIPE)
+    if run.returncode != 0:
+        return run.stderr.decode()
+    with open(made, 'rb') as file:
+        return file.read().hex()
+
+
 def main():
-    ours = shlex.split(sys.argv[1])
-    other = shlex.split(sys.argv[2])
+    if len(sys.argv) < 3:
+        sys.exit(__doc__)
     count = int(sys.argv[3]) if len(sys.argv) > 3 else 1000
     rng = random.Random(int(sys.argv[4]) if len(sys.argv) > 4 else 1)
     texts = [text(rng).encode() for _ in range(count)]
-    lines = ''.join('%s\n' % one.hex() for one in texts)
-    answers = subprocess.run(other, input=lines.encode(), stdout=subprocess.PIPE, check=True).stdout.decode().split('\n')
-    folder = tempfile.mkdtemp()
-    for one, wanted in zip(texts, answers):
-        with open(folder + '/in', 'wb') as f:
-            f.write(one)
-        run = subprocess.run(ours + ['compile', folder + '/in', folder + '/out'], stderr=subprocess.PIPE)
-        found = open(folder + '/out', 'rb').read().hex() if run.returncode == 0 else run.stderr.decode()
-        if found != wanted:
-            print('%r\nfound  %s\nwanted %s' % (one, found, wanted))
-            return 1
-    print('%d texts, no difference' % len(texts))
-    return 0
+    wanted = answers(sys.argv[2], texts)
+    with tempfile.TemporaryDirectory() as folder:
+        for said, theirs in zip(texts, wanted):
+            mine = file_of(shlex.split(sys.argv[1]), said, folder)
+            if mine != theirs:
+                sys.exit('differ on %r:\n%s\n%s' % (said, mine, theirs))
+    if len(sys.argv) > 5:
+        with open(sys.argv[5], 'w') as kept:
+            kept.writelines(one + '\n' for one in wanted)
+    print('%d texts: no difference' % count)
 
 
-if __name__ == '__main__':
-    sys.exit(main())
+main()

@@ -1,4 +1,5 @@
-//! One bundle as a text and as its file, which follows from the format's rules.
+//! One bundle as a text and as its file, and other texts with theirs: all files follow from the
+//! format's rules.
 
 /// A table of each type of resource.
 pub(crate) const TEXT: &str =
@@ -40,4 +41,32 @@ pub(crate) const STRINGS: [u8; 92] = [
     0, 0, 0, 0, 0, 0, 0, 0, 6, 0, 0, 0x50, 7, 0, 0, 0, 9, 0, 0, 0, 0x0f, 0, 0, 0, 0x0f, 0, 0, 0, 2,
     0, 0, 0, 0, 0, 0, 0, 0x0f, 0, 0, 0, 0x61, 0, 0x63, 0, 0, 0, 0x78, 0, 0, 0, 0x79, 0, 0x7a, 0, 0,
     0, 2, 0, 0x20, 0, 0x22, 0, 1, 0, 3, 0, 0xaa, 0xaa,
+];
+
+/// Texts: strings in an array, shared suffixes, bytes without fallback, tables in one another. And
+/// what stands in the file of each behind the 32 bytes that every file begins with.
+pub(crate) const OTHERS: [(&str, &[u8]); 4] = [
+    (
+        r#"b{a:array{"" "x"}}"#,
+        b"\x0c\0\0\x20\x07\0\0\0\x09\0\0\0\x0e\0\0\0\x0e\0\0\0\x01\0\0\0\0\0\0\0\x0c\0\0\
+          \0a\0\xaa\xaa\0\0x\0\0\0\x02\0\0\0\x01\0\x01\0\x20\0\x03\0\0\x90",
+    ),
+    (
+        "b{a{ab}b{b}c{ab}d{cab}}",
+        b"\x05\0\0P\x07\0\0\0\x0a\0\0\0\x11\0\0\0\x11\0\0\0\x04\0\0\0\0\0\0\0\x11\0\0\0a\
+          \0b\0c\0d\0\0\0c\0a\0b\0\0\0\x04\0\x20\0\x22\0$\0&\0\x02\0\x03\0\x02\0\x01\0",
+    ),
+    (
+        r#"b:table(nofallback){d:bin{"00"}e:bin{"00"}}"#,
+        b"\x11\0\0\x20\x07\0\0\0\x09\0\0\0\x15\0\0\0\x15\0\0\0\x02\0\0\0\x01\0\0\0\x0a\0\
+          \0\0d\0e\0\0\0\xaa\xaa\xaa\xaa\xaa\xaa\x01\0\0\0\0\xaa\xaa\xaa\xaa\xaa\xaa\xaa\
+          \xaa\xaa\xaa\xaa\x01\0\0\0\0\xaa\xaa\xaa\x02\0\x20\0\x22\0\xaa\xaa\x0b\0\0\x10\
+          \x0f\0\0\x10",
+    ),
+    (
+        "b{a:table{k{v}}b:table{k{v}l:int{1}}}",
+        b"\x11\0\0\x20\x07\0\0\0\x0a\0\0\0\x15\0\0\0\x15\0\0\0\x02\0\0\0\0\0\0\0\x0d\0\0\
+          \0a\0k\0b\0l\0\0\0v\0\0\0\x01\0\x22\0\x01\0\x02\0\x22\0&\0\xaa\xaa\x01\0\0`\
+          \x01\0\0p\x02\0\x20\0$\0\xaa\xaa\x03\0\0P\x0d\0\0\x20",
+    ),
 ];

@@ -20,6 +20,8 @@ fn all_calls(alloc: Global) -> Outcome {
         outcome_of(texts::reads_counted(alloc)),
         outcome_of(texts::writes(alloc)),
         outcome_of(texts::compiles(alloc)),
+        outcome_of(texts::compiles_others(alloc)),
+        outcome_of(texts::refuses(alloc)),
         outcome_of(texts::plans(alloc)),
         outcome_of(texts::clones_keys(alloc)),
         texts::turns_a_key_into_a_string(alloc),

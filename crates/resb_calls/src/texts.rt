@@ -1,12 +1,12 @@
 //! The calls that begin with a text or with keys: reading, writing, compiling, planning a pool.
 //! Those that begin with a file are in `files`.
 
-use crate::example::{FILE, TEXT};
+use crate::example::{FILE, OTHERS, TEXT};
 use crate::outcome::{Outcome, Refused};
-use resb::binary::{Serializer, pool};
+use resb::binary::{Serializer, pool, tree_from_bytes};
 use resb::bundle::Key;
-use resb::compile;
-use resb::text::{Reader, Turns};
+use resb::text::{Expected, Reader, Turns};
+use resb::{CompileError, compile};
 use std::alloc::Global;
 
 pub(crate) fn reads(alloc: Global) -> Result<bool, Refused> {
@@ -29,6 +29,32 @@ pub(crate) fn writes(alloc: Global) -> Result<bool, Refused> {
 pub(crate) fn compiles(alloc: Global) -> Result<bool, Refused> {
     let file = compile(alloc, TEXT)?;
     Ok(file.as_slice() == FILE.as_slice())
+}
+
+/// Whether the text has a file that ends with this, and that is read back as the text's tree.
+fn compiles_to(alloc: Global, text: &str, body: &[u8]) -> Result<bool, Refused> {
+    let file = compile(alloc, text)?;
+    let tree = tree_from_bytes(alloc, &file)?;
+    let (bundle, _keys) = Reader::read(alloc, text)?;
+    Ok(file.get(32..) == Some(body) && tree.equals(bundle.root()))
+}
+
+pub(crate) fn compiles_others(alloc: Global) -> Result<bool, Refused> {
+    for (text, body) in OTHERS {
+        if !compiles_to(alloc, text, body)? {
+            return Ok(false);
+        }
+    }
+    Ok(true)
+}
+
+/// A text whose last group is open is refused at its end, after much of it was read.
+pub(crate) fn refuses(alloc: Global) -> Result<bool, Refused> {
+    match compile(alloc, r#"b{t{k{"v"}}d:bin{"00ff"}a:array{"x"{y}"#) {
+        Err(CompileError::Reading(e)) if e.expected() == Expected::Item => Ok(e.position() == 38),
+        Err(e) => Err(Refused::from(e)),
+        Ok(_) => Ok(false),
+    }
 }
 
 pub(crate) fn plans(alloc: Global) -> Result<bool, Refused> {

@@ -16,9 +16,9 @@ use std::test::Fail;
 
 /// What is asked for at a place in a sweep, in the order of the lines.
 pub(crate) const ALL: &str = "\
-    bool i8 i16 i32 i64 u8 u16 u32 u64 text key bytes bits option-bool text-list word-list text-map \
-    word-list-map byte-map unit-view word-view number-view pair-view unit-view-list type skip \
-    key-map pairs unit-lists tree";
+    bool i8 i16 i32 i64 u8 u16 u32 u64 text key bytes bits option-bool text-list word-list \
+    text-map word-list-map byte-map unit-view word-view number-view pair-view unit-view-list \
+    type skip key-map pairs unit-lists tree";
 
 /// The line of a value, or of why it is refused.
 pub(crate) fn line<'m, T: Debug + Drop>(

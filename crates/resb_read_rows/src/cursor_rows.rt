@@ -133,7 +133,8 @@ fn an_access_to_members_ends(rt: HostRuntime) -> Result<(), Fail> {
     Ok(())
 }
 
-/// Two steps over entries whose values are not what is asked for, and what is then to come and left.
+/// Two steps over entries whose values are not what is asked for, and what is then to come and
+/// left.
 fn line_of_refused_entries(alloc: Global, bytes: &[u8]) -> Result<String, Fail> {
     let (root, mut walk) = Cursor::root(bytes)?;
     let mut entries = root.read_map(&mut walk)?;

@@ -31,8 +31,8 @@ fn member<'a>(sequence: Cursor<'a>, walk: &mut Walk, number: u32) -> Result<Curs
     }
 }
 
-/// The place one step below another: `k1` and `v1`, the key and the value of an entry of a table, and
-/// `m1`, a member of a sequence.
+/// The place one step below another: `k1` and `v1`, the key and the value of an entry of a table,
+/// and `m1`, a member of a sequence.
 fn below<'a>(at: Cursor<'a>, walk: &mut Walk, step: &str) -> Result<Cursor<'a>, Fail> {
     let (kind, number) = step.split_at_checked(1).ok_or("no step")?;
     let number = number.parse::<u32>()?;

@@ -1,5 +1,6 @@
 //! Types that are read at places of files with so much of a budget: the value, or why it is
-//! refused, and what is left. A row ends with a `;` and a line feed. Whole trees are in `file_rows`.
+//! refused, and what is left. A row ends with a `;` and a line feed. Whole trees are in
+//! `file_rows`.
 use crate::answers::{BASIS, assert_said, digest, parts};
 use crate::asks::{ALL, asked};
 use crate::files::file_of;
@@ -19,7 +20,8 @@ TWO_ENTRIES / root / 46 key-map => a=x,c=yz,, 43 left;
 70000001 7 8 9 9 0 0 9 aaaa0000 / root / 0 u64 =>
     Invalid resource bundle data: resource budget spent, 0 left;
 70000002 7 8 9 9 0 0 9 aaaa0000 / root / 34 bool =>
-    Resource did not match expected data type: expected integer resource representable as boolean, 33 left;
+    Resource did not match expected data type: expected integer resource \
+    representable as boolean, 33 left;
 70000002 7 8 9 9 0 0 9 aaaa0000 / root / 34 text =>
     Resource did not match expected data type: expected string resource, 33 left;
 70000002 7 8 9 9 0 0 9 aaaa0000 / root / 34 bytes =>

@@ -3,6 +3,8 @@
 #![tactic(auto)]
 
 #[cfg(test)]
+mod answers;
+#[cfg(test)]
 mod pool_rows;
 #[cfg(test)]
 mod way_rows;

@@ -1,5 +1,6 @@
 //! Pools of strings: the units and offsets that the rules of suffix sharing ask for.
 //! Expected values are worked out by hand from the rules of markers, records and their order.
+use crate::answers::{assert_said, parts};
 use crate::write_rows::text_of;
 use resb_pool::{BinarySerializerError, Plan, pool};
 use std::alloc::Global;
@@ -37,174 +38,260 @@ fn described(alloc: Global, plan: &Plan<'_>, strings: &[&str]) -> Result<String,
     }
     line.push_str("|")?;
     for (number, text) in strings.iter().enumerate() {
-        let offset = plan.offset(text).ok_or("no offset")?;
-        let in_turn = plan
-            .offset_in_turn(number, text)
-            .ok_or("no offset in turn")?;
-        if offset != in_turn {
+        if plan.offset(text) != plan.offset_in_turn(number, text) {
             return Err("two offsets")?;
         }
-        line.push_str(format!(in alloc; " {offset}")?.as_str())?;
+        push_offset(alloc, &mut line, plan, text)?;
     }
     Ok(line)
 }
 
-/// The strings are planned so.
-fn assert_plan(rt: &impl Abort, alloc: Global, words: &str, wanted: &str) -> Result<(), Fail> {
+/// The line of the plan of these strings.
+fn line_of_texts(alloc: Global, texts: &[String]) -> Result<String, Fail> {
+    let mut strings = Vec::new(alloc);
+    for text in texts {
+        strings.push(text.as_str())?;
+    }
+    let plan = pool::plan(alloc, &strings)?;
+    described(alloc, &plan, &strings)
+}
+
+/// The line of the plan of the strings that these words stand for.
+fn line_of_words(alloc: Global, words: &str) -> Result<String, Fail> {
     let mut texts = Vec::new(alloc);
     for word in words.split_whitespace() {
         texts.push(text_of(alloc, word)?)?;
     }
-    let mut strings = Vec::new(alloc);
-    for text in &texts {
-        strings.push(text.as_str())?;
-    }
-    let plan = pool::plan(alloc, &strings)?;
-    let found = described(alloc, &plan, &strings)?;
-    assert_eq!(rt; found.as_str(), wanted, "the plan of {words}");
-    Ok(())
+    line_of_texts(alloc, &texts)
 }
 
 #[test]
 fn small_pools(rt: HostRuntime) -> Result<(), Fail> {
     for row in POOLS.split_terminator('\n') {
-        let (words, wanted) = row.split_once(" => ").ok_or("a row without an answer")?;
-        assert_plan(&rt, rt.alloc(), words, wanted)?;
+        let (words, wanted) = parts(row)?;
+        assert_said(
+            &rt,
+            rt.alloc(),
+            words,
+            line_of_words(rt.alloc(), words)?,
+            wanted,
+        )?;
     }
     Ok(())
+}
+
+/// The offset of a text in the plan of these strings, which is also the one that is found in turn.
+fn offset_in(alloc: Global, strings: &[&str], text: &str) -> Result<Option<u32>, Fail> {
+    let plan = pool::plan(alloc, strings)?;
+    let offset = plan.offset(text);
+    if offset != plan.offset_in_turn(1, text) {
+        return Err("two offsets")?;
+    }
+    Ok(offset)
 }
 
 /// A text that was not given has no offset, also where it is the end of one that was.
 #[test]
 fn other_texts_have_no_offset(rt: HostRuntime) -> Result<(), Fail> {
-    let plan = pool::plan(rt.alloc(), &["xyz", "yz"])?;
-    assert_eq!(rt; plan.offset("z"), None);
-    assert_eq!(rt; plan.offset_in_turn(1, "z"), None);
-    let none = pool::plan(rt.alloc(), &[])?;
-    assert_eq!(rt; none.offset(""), None);
+    let end = offset_in(rt.alloc(), &["xyz", "yz"], "z")?;
+    assert_eq!(rt; end, None);
+    let empty = offset_in(rt.alloc(), &[], "")?;
+    assert_eq!(rt; empty, None);
     Ok(())
+}
+
+/// The offsets of texts of so many letters a in their plan, how many units there are, and those at
+/// the first two offsets.
+fn line_of_letters(alloc: Global, all: &str, counts: [usize; 3]) -> Result<String, Fail> {
+    let [one, other, third] = counts;
+    let (one, other) = (
+        all.get(..one).ok_or("short")?,
+        all.get(..other).ok_or("short")?,
+    );
+    let third = all.get(..third).ok_or("short")?;
+    let plan = pool::plan(alloc, &[one, other, third])?;
+    let first = plan.offset(one).ok_or("no offset")?;
+    let second = plan.offset(other).ok_or("no offset")?;
+    let last = plan.offset(third).ok_or("no offset")?;
+    let length = plan.units().len();
+    let unit = plan.units().get(first as usize).copied().unwrap_or(0);
+    let next = plan.units().get(second as usize).copied().unwrap_or(0);
+    Ok(format!(in alloc; "{first} {second} {last} of {length}: {unit:x} {next:x}")?)
 }
 
 /// Texts of 41 letters and more have markers, so that neither lies in the other; a short end lies
 /// in the shorter one.
 #[test]
 fn marked_pools(rt: HostRuntime) -> Result<(), Fail> {
-    let alloc = rt.alloc();
-    let (a41, a42) = (letters(alloc, 41)?, letters(alloc, 42)?);
-    let long = pool::plan(alloc, &[a41.as_str(), a42.as_str(), "a"])?;
-    assert_eq!(rt; long.offset(a41.as_str()), Some(1));
-    assert_eq!(rt; long.offset(a42.as_str()), Some(44));
-    assert_eq!(rt; long.offset("a"), Some(42));
-    assert_eq!(rt; long.units().get(1).copied(), Some(0xdc29));
-    assert_eq!(rt; long.units().get(44).copied(), Some(0xdc2a));
-    assert_eq!(rt; long.units().len(), 88);
-    Ok(())
+    let all = letters(rt.alloc(), 42)?;
+    let found = line_of_letters(rt.alloc(), all.as_str(), [41, 42, 1])?;
+    assert_said(
+        &rt,
+        rt.alloc(),
+        "letters",
+        found,
+        "1 44 42 of 88: dc29 dc2a",
+    )
+}
+
+/// How many letters a text has, and the first three units of its plan behind unit 0, and how many
+/// units there are.
+const MARKERS: &str = "\
+40 => 61 61 61 of 42;
+41 => dc29 61 61 of 44;
+1006 => dfee 61 61 of 1009;
+1007 => dfef 3ef 61 of 1011;
+1048575 => dffe ffff 61 of 1048579;
+1048576 => dfff 10 0 of 1048581;
+";
+
+/// The line of the plan of a text of so many letters.
+fn line_of_marker(alloc: Global, count: &str) -> Result<String, Fail> {
+    let text = letters(alloc, count.parse::<usize>()?)?;
+    let plan = pool::plan(alloc, &[text.as_str()])?;
+    if plan.offset(text.as_str()) != Some(1) {
+        return Err("another offset")?;
+    }
+    described_front(alloc, plan.units())
+}
+
+/// The first three units behind unit 0, and how many there are.
+fn described_front(alloc: Global, units: &[u16]) -> Result<String, Fail> {
+    let length = units.len();
+    let first = units.get(1).copied().unwrap_or(0);
+    let second = units.get(2).copied().unwrap_or(0);
+    let third = units.get(3).copied().unwrap_or(0);
+    Ok(format!(in alloc; "{first:x} {second:x} {third:x} of {length}")?)
 }
 
 #[test]
 fn markers_by_units(rt: HostRuntime) -> Result<(), Fail> {
-    let alloc = rt.alloc();
-    let rows: [(usize, [u16; 3], usize); 6] = [
-        (40, [0, 0, 0], 0),
-        (41, [0xdc29, 0, 0], 1),
-        (1006, [0xdfee, 0, 0], 1),
-        (1007, [0xdfef, 0x03ef, 0], 2),
-        (1_048_575, [0xdffe, 0xffff, 0], 2),
-        (1_048_576, [0xdfff, 0x0010, 0x0000], 3),
-    ];
-    for (count, marker, marker_len) in rows {
-        let text = letters(alloc, count)?;
-        let plan = pool::plan(alloc, &[text.as_str()])?;
-        assert_eq!(rt; plan.offset(text.as_str()), Some(1));
-        assert_eq!(rt; plan.units().len(), count + marker_len + 2);
-        for (place, unit) in marker.iter().enumerate() {
-            let expected = if place < marker_len { *unit } else { 0x61 };
-            assert_eq!(rt; plan.units().get(1 + place).copied(), Some(expected));
-        }
+    for row in MARKERS.split_terminator(";\n") {
+        let (count, wanted) = parts(row)?;
+        assert_said(
+            &rt,
+            rt.alloc(),
+            count,
+            line_of_marker(rt.alloc(), count)?,
+            wanted,
+        )?;
     }
+    Ok(())
+}
+
+/// Decimal texts, and their offsets among those of 1 to 2000.
+const DECIMALS: &str = "1991 1995 995 95 5 1910 10 100 1000 2000";
+
+/// The texts of 1 to 2000.
+fn decimals(alloc: Global) -> Result<Vec<String>, Fail> {
+    let mut texts = Vec::new(alloc);
+    for number in 1..2001u32 {
+        texts.push(format!(in alloc; "{number}")?)?;
+    }
+    Ok(texts)
+}
+
+/// How many units the plan of these texts has, and the offsets of some of them.
+fn line_of_decimals(alloc: Global, texts: &[String]) -> Result<String, Fail> {
+    let mut strings = Vec::new(alloc);
+    for text in texts {
+        strings.push(text.as_str())?;
+    }
+    let plan = pool::plan(alloc, &strings)?;
+    let length = plan.units().len();
+    let mut line = format!(in alloc; "{length} units:")?;
+    for text in DECIMALS.split(' ') {
+        push_offset(alloc, &mut line, &plan, text)?;
+    }
+    Ok(line)
+}
+
+/// Adds the offset of a text.
+fn push_offset(alloc: Global, line: &mut String, plan: &Plan<'_>, text: &str) -> Result<(), Fail> {
+    let offset = plan.offset(text).ok_or("no offset")?;
+    line.push_str(format!(in alloc; " {offset}")?.as_str())?;
     Ok(())
 }
 
 #[test]
 fn decimal_texts(rt: HostRuntime) -> Result<(), Fail> {
-    let alloc = rt.alloc();
-    let mut texts = Vec::new(alloc);
-    for number in 1..2001u32 {
-        texts.push(format!(in alloc; "{number}")?)?;
-    }
-    let mut strings = Vec::new(alloc);
-    for text in &texts {
-        strings.push(text.as_str())?;
-    }
-    let plan = pool::plan(alloc, &strings)?;
-    assert_eq!(rt; plan.units().len(), 5006);
-    let rows = [
-        ("1991", 1),
-        ("1995", 21),
-        ("995", 22),
-        ("95", 23),
-        ("5", 24),
-        ("1910", 46),
-        ("10", 48),
-        ("100", 452),
-        ("1000", 4501),
-        ("2000", 5001),
-    ];
-    for (text, offset) in rows {
-        assert_eq!(rt; plan.offset(text), Some(offset));
-    }
+    let texts = decimals(rt.alloc())?;
+    let found = line_of_decimals(rt.alloc(), &texts)?;
+    let wanted = "5006 units: 1 21 22 23 24 46 48 452 4501 5001";
+    assert_said(&rt, rt.alloc(), DECIMALS, found, wanted)
+}
+
+/// The error prints so.
+fn assert_printed(
+    rt: &impl Abort,
+    alloc: Global,
+    error: BinarySerializerError,
+    wanted: &str,
+) -> Result<(), Fail> {
+    let is_memory = error.is_out_of_memory();
+    let found = format!(in alloc; "{error}, {is_memory}")?;
+    assert_eq!(rt; found.as_str(), wanted);
     Ok(())
 }
 
 #[test]
 fn errors_print(rt: HostRuntime) -> Result<(), Fail> {
-    let alloc = rt.alloc();
-    let rows = [
-        (
-            BinarySerializerError::string_too_long(5),
-            "Cannot serialize string of length 5, maximum is 4,294,967,295 characters",
-        ),
-        (
-            BinarySerializerError::unexpected("a"),
-            "Unexpected error: a",
-        ),
-        (
-            BinarySerializerError::limit("file too large"),
-            "Limit exceeded: file too large",
-        ),
-        (
-            BinarySerializerError::out_of_memory(),
-            "Out of memory: while writing",
-        ),
-    ];
-    for (place, (error, text)) in rows.iter().enumerate() {
-        let printed = format!(in alloc; "{error}")?;
-        assert_eq!(rt; printed.as_str(), *text);
-        assert_eq!(rt; error.is_out_of_memory(), place == 3);
+    let long = "Cannot serialize string of length 5, maximum is 4,294,967,295 characters, false";
+    assert_printed(
+        &rt,
+        rt.alloc(),
+        BinarySerializerError::string_too_long(5),
+        long,
+    )?;
+    let unexpected = BinarySerializerError::unexpected("a");
+    assert_printed(&rt, rt.alloc(), unexpected, "Unexpected error: a, false")?;
+    let limit = BinarySerializerError::limit("file too large");
+    assert_printed(
+        &rt,
+        rt.alloc(),
+        limit,
+        "Limit exceeded: file too large, false",
+    )?;
+    let memory = BinarySerializerError::out_of_memory();
+    assert_printed(
+        &rt,
+        rt.alloc(),
+        memory,
+        "Out of memory: while writing, true",
+    )
+}
+
+/// The texts of 1 to so many letters, all ends of one text.
+fn ends_of(alloc: Global, all: &str, most: usize) -> Result<Vec<&str>, Fail> {
+    let mut texts = Vec::new(alloc);
+    for count in 1..most.saturating_add(1) {
+        texts.push(all.get(..count).ok_or("short")?)?;
     }
-    Ok(())
+    Ok(texts)
+}
+
+/// Whether each of the texts of up to 40 letters ends at the same unit of their plan, and the front
+/// of its units.
+fn line_of_ends(alloc: Global, texts: &[&str], end: usize) -> Result<String, Fail> {
+    let plan = pool::plan(alloc, texts)?;
+    for text in texts {
+        let offset = plan.offset(text).ok_or("not planned")?;
+        let is_short = text.len() <= 40;
+        if is_short && (offset as usize).saturating_add(text.len()) != end {
+            return Err("another end")?;
+        }
+    }
+    described_front(alloc, plan.units())
 }
 
 /// The texts of 1 to 40 letters a lie in the longest; beside 41 letters, in those.
 #[test]
 fn letters_lie_in_the_longest(rt: HostRuntime) -> Result<(), Fail> {
-    let alloc = rt.alloc();
-    let longest = letters(alloc, 41)?;
-    let all = longest.as_str();
-    let mut texts = Vec::new(alloc);
-    for count in 1..41usize {
-        texts.push(all.get(..count).ok_or("short")?)?;
-    }
-    let plan = pool::plan(alloc, &texts)?;
-    assert_eq!(rt; plan.units().len(), 42);
-    for text in &texts {
-        let offset = plan.offset(text).ok_or("not planned")?;
-        assert_eq!(rt; (offset as usize).saturating_add(text.len()), 41);
-    }
-    texts.push(all)?;
-    let plan = pool::plan(alloc, &texts)?;
-    assert_eq!(rt; plan.units().get(1).copied(), Some(0xdc29));
-    assert_eq!(rt; plan.offset(all), Some(1));
-    assert_eq!(rt; plan.offset("a"), Some(42));
-    Ok(())
+    let all = letters(rt.alloc(), 41)?;
+    let texts = ends_of(rt.alloc(), all.as_str(), 40)?;
+    let found = line_of_ends(rt.alloc(), &texts, 41)?;
+    assert_said(&rt, rt.alloc(), "40 letters", found, "61 61 61 of 42")?;
+    let texts = ends_of(rt.alloc(), all.as_str(), 41)?;
+    let found = line_of_ends(rt.alloc(), &texts, 43)?;
+    assert_said(&rt, rt.alloc(), "41 letters", found, "dc29 61 61 of 44")
 }

@@ -1,20 +1,14 @@
 //! The whole way from a text to a file and back, against files that follow from the format's rules.
 //! Each row is a text and the hex digits of its file behind the header, in lines, up to a `;`: a
 //! row more costs no proof.
-use resb::binary::{BinarySerializerError, from_bytes};
+use crate::answers::{assert_said, digits, parts};
+use resb::binary::{BinarySerializerError, from_bytes, from_bytes_counted};
 use resb::bundle::Resource;
 use resb::text::{Expected, Reader};
 use resb::{CompileError, compile};
-use resb_text_rows::rows::{BUNDLES, REFUSALS};
+use resb_text_rows::rows::{BUNDLES, LINES, OPEN_GROUPS, REFUSALS, REFUSED_LINES, nested};
 use std::alloc::Global;
-use std::process::Abort;
 use std::test::Fail;
-
-/// The 32 bytes that each file begins with.
-pub(crate) const HEADER: [u8; 32] = [
-    0x20, 0, 0xda, 0x27, 0x14, 0, 0, 0, 0, 0, 2, 0, 0x52, 0x65, 0x73, 0x42, 2, 0, 0, 0, 1, 4, 0, 0,
-    0, 0, 0, 0, 0, 0, 0, 0,
-];
 
 /// Texts and their files behind the header.
 const FILES: &str = r#"b:table(nofallback){} =>
@@ -93,52 +87,38 @@ b{a{ab}b{b}c{ab}d{cab}} =>
     610062000000040020002200240026000200030002000100;
 "#;
 
-/// The hex digits of a file behind its header.
-pub(crate) fn digits(alloc: Global, file: &[u8]) -> Result<String, Fail> {
-    let (header, body) = file.split_at_checked(32).ok_or("short")?;
-    if header != HEADER.as_slice() {
-        return Err("another header")?;
-    }
-    Ok(hex::encode(alloc, body)?)
-}
-
-/// The lines without the blanks that begin them.
-pub(crate) fn joined(alloc: Global, lines: &str) -> Result<String, Fail> {
-    let mut all = String::new(alloc);
-    for line in lines.split('\n') {
-        all.push_str(line.trim_start())?;
-    }
-    Ok(all)
-}
-
-/// The file is read back as the text's tree.
-fn assert_tree(rt: &impl Abort, alloc: Global, text: &str, file: &[u8]) -> Result<(), Fail> {
-    let (bundle, _keys) = Reader::read(alloc, text)?;
+/// Whether the file is read back as the text's tree.
+fn is_read_back(alloc: Global, text: &str, file: &[u8]) -> Result<bool, Fail> {
     let tree: Resource = from_bytes(alloc, file)?;
-    assert!(rt; tree.equals(bundle.root()), "the tree of {text}");
-    Ok(())
+    let (bundle, _keys) = Reader::read(alloc, text)?;
+    Ok(tree.equals(bundle.root()))
 }
 
-/// The text has this file, which is read back as the text's tree.
-fn assert_file(rt: &impl Abort, alloc: Global, text: &str, wanted: &str) -> Result<(), Fail> {
+/// The digits of the file of a text, and whether it is read back as the text's tree.
+fn line_of_file(alloc: Global, text: &str) -> Result<String, Fail> {
     let file = compile(alloc, text)?;
-    assert_eq!(rt;
-        digits(alloc, &file)?.as_str(),
-        joined(alloc, wanted)?.as_str(),
-        "the file of {text}"
-    );
-    assert_tree(rt, alloc, text, &file)
+    if !is_read_back(alloc, text, &file)? {
+        return Err("another tree is read back")?;
+    }
+    digits(alloc, &file)
 }
 
-/// The reader refuses the text, at this place and for this expectation.
-fn assert_unread(rt: &impl Abort, alloc: Global, text: &str, wanted: &str) -> Result<(), Fail> {
+/// The length of the file of a text, which is read back as the text's tree.
+fn length_of_file(alloc: Global, text: &str) -> Result<usize, Fail> {
+    let file = compile(alloc, text)?;
+    if !is_read_back(alloc, text, &file)? {
+        return Err("another tree is read back")?;
+    }
+    Ok(file.len())
+}
+
+/// The place where the reader refuses a text, and what was expected there.
+fn line_of_refusal(alloc: Global, text: &str) -> Result<String, Fail> {
     match compile(alloc, text) {
         Err(CompileError::Reading(e)) => {
             let position = e.position();
             let expected = e.expected();
-            let said = format!(in alloc; "at {position}: {expected}")?;
-            assert_eq!(rt; said.as_str(), wanted, "compile of {text}");
-            Ok(())
+            Ok(format!(in alloc; "at {position}: {expected}")?)
         }
         Err(CompileError::Writing(e)) => Err(e)?,
         Ok(_) => Err("a text that is no bundle is compiled")?,
@@ -148,8 +128,14 @@ fn assert_unread(rt: &impl Abort, alloc: Global, text: &str, wanted: &str) -> Re
 #[test]
 fn texts_have_their_files(rt: HostRuntime) -> Result<(), Fail> {
     for row in FILES.split_terminator(";\n") {
-        let (text, wanted) = row.split_once(" =>").ok_or("a row without an answer")?;
-        assert_file(&rt, rt.alloc(), text, wanted)?;
+        let (text, wanted) = parts(row)?;
+        assert_said(
+            &rt,
+            rt.alloc(),
+            text,
+            line_of_file(rt.alloc(), text)?,
+            wanted,
+        )?;
     }
     Ok(())
 }
@@ -157,9 +143,8 @@ fn texts_have_their_files(rt: HostRuntime) -> Result<(), Fail> {
 #[test]
 fn each_bundle_is_read_back(rt: HostRuntime) -> Result<(), Fail> {
     for row in BUNDLES.split_terminator('\n') {
-        let (text, _tree) = row.split_once(" => ").ok_or("a row without an answer")?;
-        let file = compile(rt.alloc(), text)?;
-        assert_tree(&rt, rt.alloc(), text, &file)?;
+        let (text, _tree) = parts(row)?;
+        let _ = length_of_file(rt.alloc(), text)?;
     }
     Ok(())
 }
@@ -167,29 +152,128 @@ fn each_bundle_is_read_back(rt: HostRuntime) -> Result<(), Fail> {
 #[test]
 fn each_refusal_is_the_readers(rt: HostRuntime) -> Result<(), Fail> {
     for row in REFUSALS.split_terminator('\n') {
-        let (text, wanted) = row.split_once(" => ").ok_or("a row without an answer")?;
-        assert_unread(&rt, rt.alloc(), text, wanted)?;
+        let (text, wanted) = parts(row)?;
+        assert_said(
+            &rt,
+            rt.alloc(),
+            text,
+            line_of_refusal(rt.alloc(), text)?,
+            wanted,
+        )?;
     }
     Ok(())
 }
 
 #[test]
-fn a_refused_text_keeps_its_place(rt: HostRuntime) -> Result<(), Fail> {
-    match compile(rt.alloc(), "b{\"x\"}") {
-        Err(CompileError::Reading(e)) => {
-            assert_eq!(rt; e.position(), 5);
-            assert_eq!(rt; e.expected(), Expected::LeftBrace);
-        }
-        _ => return Err("not refused by the reader")?,
+fn texts_of_several_lines_are_compiled(rt: HostRuntime) -> Result<(), Fail> {
+    for (text, _tree) in LINES {
+        let _ = length_of_file(rt.alloc(), text)?;
     }
-    let Err(e) = compile(rt.alloc(), "") else {
-        return Err("the empty text is no bundle")?;
-    };
-    let text = format!(in rt.alloc(); "{e}")?;
-    let expected = "Parse error while reading text bundle:\nat byte 0: expected a string";
-    assert_eq!(rt; text.as_str(), expected);
-    let limit = CompileError::from(BinarySerializerError::limit("file too large"));
-    let text = format!(in rt.alloc(); "{limit}")?;
-    assert_eq!(rt; text.as_str(), "Limit exceeded: file too large");
+    for (text, wanted) in REFUSED_LINES {
+        assert_said(
+            &rt,
+            rt.alloc(),
+            text,
+            line_of_refusal(rt.alloc(), text)?,
+            wanted,
+        )?;
+    }
     Ok(())
+}
+
+/// Where the text of so many open groups is refused.
+fn line_of_open(alloc: Global, depth: usize, within: &str, closing: &str) -> Result<String, Fail> {
+    let text = nested(alloc, ("b{a", ""), ("{", closing), depth, within)?;
+    line_of_refusal(alloc, text.as_str())
+}
+
+#[test]
+fn open_groups_are_refused(rt: HostRuntime) -> Result<(), Fail> {
+    for (depth, within, closing, wanted) in OPEN_GROUPS {
+        let found = line_of_open(rt.alloc(), depth, within, closing)?;
+        assert_said(&rt, rt.alloc(), within, found, wanted)?;
+    }
+    Ok(())
+}
+
+/// How long the file of a text is, and how many resources are read of it; they are dropped.
+fn line_of_counts(alloc: Global, text: &str) -> Result<String, Fail> {
+    let file = compile(alloc, text)?;
+    let length = file.len();
+    let (_, count) = from_bytes_counted::<Resource>(alloc, &file)?;
+    Ok(format!(in alloc; "{length} bytes, {count} resources")?)
+}
+
+/// The line of the text of so many closed groups.
+fn line_of_closed(alloc: Global, depth: usize, within: &str) -> Result<String, Fail> {
+    let text = nested(alloc, ("b{a", "}"), ("{", "}"), depth, within)?;
+    line_of_counts(alloc, text.as_str())
+}
+
+#[test]
+fn closed_groups_are_read_back(rt: HostRuntime) -> Result<(), Fail> {
+    let few = line_of_closed(rt.alloc(), 994, "\"x\" \"yz\"")?;
+    assert_said(&rt, rt.alloc(), "994", few, "8040 bytes, 997 resources")?;
+    let many = line_of_closed(rt.alloc(), 1_000_000, "")?;
+    assert_said(
+        &rt,
+        rt.alloc(),
+        "a million",
+        many,
+        "8000072 bytes, 1000001 resources",
+    )
+}
+
+/// The text of 994 closed groups, one in another.
+#[test]
+fn nested_groups_are_read_back_as_their_tree(rt: HostRuntime) -> Result<(), Fail> {
+    let text = nested(rt.alloc(), ("b{a", "}"), ("{", "}"), 994, "\"x\" \"yz\"")?;
+    let length = length_of_file(rt.alloc(), text.as_str())?;
+    assert_eq!(rt; length, 8040);
+    Ok(())
+}
+
+/// What was expected where the reader refuses a text.
+fn expected_in(alloc: Global, text: &str) -> Result<Expected, Fail> {
+    match compile(alloc, text) {
+        Err(CompileError::Reading(e)) => Ok(e.expected()),
+        _ => Err("not refused by the reader")?,
+    }
+}
+
+/// What an error prints.
+fn printed(alloc: Global, error: CompileError) -> Result<String, Fail> {
+    Ok(format!(in alloc; "{error}")?)
+}
+
+/// What the refusal of a text prints.
+fn printed_refusal(alloc: Global, text: &str) -> Result<String, Fail> {
+    match compile(alloc, text) {
+        Err(error) => printed(alloc, error),
+        Ok(_) => Err("a text that is no bundle is compiled")?,
+    }
+}
+
+#[test]
+fn a_refused_text_keeps_its_place(rt: HostRuntime) -> Result<(), Fail> {
+    let expected = expected_in(rt.alloc(), "b{\"x\"}")?;
+    assert_eq!(rt; expected, Expected::LeftBrace);
+    let empty = printed_refusal(rt.alloc(), "")?;
+    assert!(rt;
+        empty.as_str() == "Parse error while reading text bundle:\nat byte 0: expected a string"
+    );
+    Ok(())
+}
+
+#[test]
+fn a_limit_of_the_writer_is_printed(rt: HostRuntime) -> Result<(), Fail> {
+    let limit = CompileError::from(BinarySerializerError::limit("file too large"));
+    let found = printed(rt.alloc(), limit)?;
+    assert_said(
+        &rt,
+        rt.alloc(),
+        "a limit",
+        found,
+        "Limit exceeded: file too large",
+    )
 }

@@ -1,6 +1,6 @@
 //! Trees with lists of keys, and their files or refusals, as the format's rules ask for them. Each
 //! row is an input and its answer, in lines, up to a `;`: a row more costs no proof.
-use crate::way_rows::{digits, joined};
+use crate::answers::{assert_said, digits, parts};
 use resb_read::from_bytes;
 use resb_text::Reader;
 use resb_tree::{Int28, Key, Resource, ResourceBundle, Table};
@@ -8,7 +8,6 @@ use resb_write::{BinarySerializerError, Serializer};
 use std::alloc::Global;
 use std::borrow::CowStr;
 use std::collections::BTreeMap;
-use std::process::Abort;
 use std::test::Fail;
 
 /// Strings of a root array, where `~` stands for U+0000 and `''` for the empty string, and the hex
@@ -105,6 +104,104 @@ fn string<'a>(alloc: Global, word: &str) -> Result<Resource<'a>, Fail> {
     Ok(Resource::String(CowStr::Owned(text_of(alloc, word)?)))
 }
 
+/// The line of the file of an array of these strings.
+fn line_of_strings(alloc: Global, words: &str) -> Result<String, Fail> {
+    let mut items = Vec::new(alloc);
+    for word in words.split(' ') {
+        items.push(string(alloc, word)?)?;
+    }
+    told(alloc, written(alloc, Resource::Array(items), &[]))
+}
+
+#[test]
+fn arrays_of_strings_have_their_files(rt: HostRuntime) -> Result<(), Fail> {
+    for row in STRINGS.split_terminator(";\n") {
+        let (words, wanted) = parts(row)?;
+        assert_said(
+            &rt,
+            rt.alloc(),
+            words,
+            line_of_strings(rt.alloc(), words)?,
+            wanted,
+        )?;
+    }
+    Ok(())
+}
+
+/// The line of the file of a text's tree with these keys.
+fn line_of_text(alloc: Global, text: &str, keys: &[Key<'_>]) -> Result<String, Fail> {
+    let (bundle, _keys) = Reader::read(alloc, text)?;
+    told(alloc, Serializer::to_bytes(alloc, &bundle, keys))
+}
+
+/// The line of a text and a list of keys.
+fn line_of_list(alloc: Global, input: &str) -> Result<String, Fail> {
+    let (text, words) = input.split_once(" | ").ok_or("a row without keys")?;
+    let mut keys = Vec::new(alloc);
+    for word in words.split(' ') {
+        keys.push(Key::from(word))?;
+    }
+    line_of_text(alloc, text, &keys)
+}
+
+#[test]
+fn lists_of_keys_have_their_files(rt: HostRuntime) -> Result<(), Fail> {
+    for row in LISTS.split_terminator(";\n") {
+        let (input, wanted) = parts(row)?;
+        assert_said(
+            &rt,
+            rt.alloc(),
+            input,
+            line_of_list(rt.alloc(), input)?,
+            wanted,
+        )?;
+    }
+    Ok(())
+}
+
+/// Roots that hold no key, and their files.
+const ROOTS: &str = "\
+string =>
+    0100006007000000080000000a0000000a00000000000000000000000a000000000061000000aaaa;
+number =>
+    ffffff7f070000000800000009000000090000000000000000000000090000000000aaaa;
+vector =>
+    090000e007000000080000000c0000000c0000000000000000000000090000000000aaaa
+    020000000100000002000000;
+array =>
+    00000080070000000800000009000000090000000000000000000000090000000000aaaa;
+";
+
+/// The root that is named: the string a, the number -1, the numbers 1 and 2, and no items.
+fn root_named<'a>(alloc: Global, name: &str) -> Result<Resource<'a>, Fail> {
+    match name {
+        "string" => string(alloc, "a"),
+        "number" => Ok(Resource::Integer(Int28::from(-1i32))),
+        "vector" => Ok(Resource::IntVector(vec![in alloc; 1u32, 2]?)),
+        _ => Ok(Resource::Array(Vec::new(alloc))),
+    }
+}
+
+/// The line of the file of a root that is named.
+fn line_of_root(alloc: Global, name: &str) -> Result<String, Fail> {
+    told(alloc, written(alloc, root_named(alloc, name)?, &[]))
+}
+
+#[test]
+fn roots_of_each_kind(rt: HostRuntime) -> Result<(), Fail> {
+    for row in ROOTS.split_terminator(";\n") {
+        let (name, wanted) = parts(row)?;
+        assert_said(
+            &rt,
+            rt.alloc(),
+            name,
+            line_of_root(rt.alloc(), name)?,
+            wanted,
+        )?;
+    }
+    Ok(())
+}
+
 /// The word with this number behind the header.
 fn word(file: &[u8], number: usize) -> Result<u32, Fail> {
     let start = number.saturating_mul(4).saturating_add(32);
@@ -114,170 +211,76 @@ fn word(file: &[u8], number: usize) -> Result<u32, Fail> {
     Ok(u32::from_le_bytes(bytes))
 }
 
-/// The words with these numbers behind the header.
-fn assert_words(rt: &impl Abort, file: &[u8], words: &[(usize, u32)]) -> Result<(), Fail> {
-    for (number, wanted) in words {
-        assert_eq!(rt; word(file, *number)?, *wanted, "word {number}");
+/// The length of a file, and the words behind its header that have these numbers, in hex digits.
+fn line_of_words(alloc: Global, file: &[u8], numbers: &str) -> Result<String, Fail> {
+    let length = file.len();
+    let mut line = format!(in alloc; "{length}")?;
+    for number in numbers.split(' ') {
+        push_word(alloc, &mut line, word(file, number.parse::<usize>()?)?)?;
     }
+    Ok(line)
+}
+
+/// Adds a word.
+fn push_word(alloc: Global, line: &mut String, word: u32) -> Result<(), Fail> {
+    line.push_str(format!(in alloc; " {word:x}")?.as_str())?;
     Ok(())
 }
 
-/// The array of these strings has this file.
-fn assert_strings(rt: &impl Abort, alloc: Global, row: &str, wanted: &str) -> Result<(), Fail> {
-    let mut items = Vec::new(alloc);
-    for word in row.split(' ') {
-        items.push(string(alloc, word)?)?;
-    }
-    let answer = written(alloc, Resource::Array(items), &[]);
-    let wanted = joined(alloc, wanted)?;
-    assert_eq!(rt;
-        told(alloc, answer)?.as_str(),
-        wanted.as_str(),
-        "the file of {row}"
-    );
-    Ok(())
-}
+/// So many letters K, a list of keys, where `L` is the key of these letters, and numbers of words;
+/// then the length of the file of a table of both keys, and these words. A position of 65535 fits a
+/// unit; one of 65536 asks for a table with 32-bit positions. The last place of a doubled key
+/// counts.
+const FAR_TABLES: &str = "\
+65502 Lz | 0 2 16388 => 65592 50000005 4001 ffff0020;
+65503 Lz | 0 16388 16389 16390 => 65604 40004004 2 20 10000;
+65502 zLz | 0 7 16388 16389 16390 => 65604 40004004 4004 2 22 10001;
+65503 zL | 0 7 16388 => 65592 50000005 4006 200022;
+";
 
-/// The text's tree with these keys has this file.
-fn assert_list(rt: &impl Abort, alloc: Global, row: &str, wanted: &str) -> Result<(), Fail> {
-    let (text, words) = row.split_once(" | ").ok_or("a row without keys")?;
-    let mut keys = Vec::new(alloc);
-    for word in words.split(' ') {
-        keys.push(Key::from(word))?;
-    }
-    let (bundle, _keys) = Reader::read(alloc, text)?;
-    let answer = Serializer::to_bytes(alloc, &bundle, &keys);
-    let wanted = joined(alloc, wanted)?;
-    assert_eq!(rt;
-        told(alloc, answer)?.as_str(),
-        wanted.as_str(),
-        "the file of {row}"
-    );
-    Ok(())
-}
-
-#[test]
-fn arrays_of_strings_have_their_files(rt: HostRuntime) -> Result<(), Fail> {
-    for row in STRINGS.split_terminator(";\n") {
-        let (strings, wanted) = row.split_once(" =>").ok_or("a row without an answer")?;
-        assert_strings(&rt, rt.alloc(), strings, wanted)?;
-    }
-    Ok(())
-}
-
-#[test]
-fn lists_of_keys_have_their_files(rt: HostRuntime) -> Result<(), Fail> {
-    for row in LISTS.split_terminator(";\n") {
-        let (list, wanted) = row.split_once(" =>").ok_or("a row without an answer")?;
-        assert_list(&rt, rt.alloc(), list, wanted)?;
-    }
-    Ok(())
-}
-
-/// The root has this file.
-fn assert_root(
-    rt: &impl Abort,
-    alloc: Global,
-    root: Resource<'_>,
-    wanted: &str,
-) -> Result<(), Fail> {
-    let found = told(alloc, written(alloc, root, &[]))?;
-    let wanted = joined(alloc, wanted)?;
-    assert_eq!(rt; found.as_str(), wanted.as_str());
-    Ok(())
-}
-
-/// Roots that hold no key.
-#[test]
-fn roots_of_each_kind(rt: HostRuntime) -> Result<(), Fail> {
-    let alloc = rt.alloc();
-    assert_root(
-        &rt,
-        alloc,
-        string(alloc, "a")?,
-        "0100006007000000080000000a0000000a00000000000000000000000a000000000061000000aaaa",
-    )?;
-    assert_root(
-        &rt,
-        alloc,
-        Resource::Integer(Int28::from(-1i32)),
-        "ffffff7f070000000800000009000000090000000000000000000000090000000000aaaa",
-    )?;
-    assert_root(
-        &rt,
-        alloc,
-        Resource::IntVector(vec![in alloc; 1u32, 2]?),
-        "090000e007000000080000000c0000000c0000000000000000000000090000000000aaaa
-        020000000100000002000000",
-    )?;
-    assert_root(
-        &rt,
-        alloc,
-        Resource::Array(Vec::new(alloc)),
-        "00000080070000000800000009000000090000000000000000000000090000000000aaaa",
-    )
-}
-
-/// A table of a key of so many letters K and a key z, for a list of `L`, the long key, and `z`.
-fn far_table(alloc: Global, letters: usize, list: &str) -> Result<Vec<u8>, Fail> {
-    let mut key = String::new(alloc);
-    for _ in 0..letters {
-        key.push('K')?;
-    }
-    let long = Key::from(key);
+/// The keys of a list, where `L` is a long key.
+fn keys_in_list<'k>(alloc: Global, long: &'k str, list: &str) -> Result<Vec<Key<'k>>, Fail> {
     let mut keys = Vec::new(alloc);
     for letter in list.chars() {
-        let key = if letter == 'L' {
-            long.try_clone(alloc)?
-        } else {
-            Key::from("z")
-        };
-        keys.push(key)?;
+        keys.push(Key::from(if letter == 'L' { long } else { "z" }))?;
     }
-    let mut table: Table = BTreeMap::new(alloc);
-    table.insert(long, string(alloc, "x")?)?;
-    table.insert(Key::from("z"), string(alloc, "y")?)?;
-    Ok(written(alloc, Resource::Table(table), &keys)?)
+    Ok(keys)
 }
 
-/// Letters of the long key, a list of keys, the length of the file, and some of its words.
-type Far = (usize, &'static str, usize, &'static [(usize, u32)]);
+/// The table of "x" at a long key and "y" at z.
+fn table_with<'k>(alloc: Global, long: &'k str) -> Result<Table<'k>, Fail> {
+    let mut table: Table = BTreeMap::new(alloc);
+    table.insert(Key::from(long), string(alloc, "x")?)?;
+    table.insert(Key::from("z"), string(alloc, "y")?)?;
+    Ok(table)
+}
 
-/// A position of 65535 fits a unit; one of 65536 asks for a table with 32-bit positions. The last
-/// place of a doubled key counts.
-const FAR_TABLES: [Far; 4] = [
-    (
-        65502,
-        "Lz",
-        65592,
-        &[(0, 0x5000_0005), (2, 16385), (16_388, 0xffff_0020)],
-    ),
-    (
-        65503,
-        "Lz",
-        65604,
-        &[(0, 0x4000_4004), (16_388, 2), (16_389, 32), (16_390, 65536)],
-    ),
-    (
-        65502,
-        "zLz",
-        65604,
-        &[(0, 0x4000_4004), (7, 16388), (16_389, 34), (16_390, 65537)],
-    ),
-    (
-        65503,
-        "zL",
-        65592,
-        &[(0, 0x5000_0005), (7, 16390), (16_388, 0x0020_0022)],
-    ),
-];
+/// The file of that table with a list of keys.
+fn far_table(alloc: Global, long: &str, list: &str) -> Result<Vec<u8>, Fail> {
+    let keys = keys_in_list(alloc, long, list)?;
+    Ok(written(alloc, Resource::Table(table_with(alloc, long)?), &keys)?)
+}
+
+/// The length and some words of the file of a row.
+fn line_of_far(alloc: Global, input: &str) -> Result<String, Fail> {
+    let (table, numbers) = input.split_once(" | ").ok_or("a row without words")?;
+    let (count, list) = table.split_once(' ').ok_or("a row without keys")?;
+    let long = repeated(alloc, 'K', count.parse::<usize>()?)?;
+    let file = far_table(alloc, long.as_str(), list)?;
+    line_of_words(alloc, &file, numbers)
+}
 
 #[test]
 fn positions_at_the_limit(rt: HostRuntime) -> Result<(), Fail> {
-    for (letters, list, length, words) in FAR_TABLES {
-        let file = far_table(rt.alloc(), letters, list)?;
-        assert_eq!(rt; file.len(), length, "{letters} letters, {list}");
-        assert_words(&rt, &file, words)?;
+    for row in FAR_TABLES.split_terminator(";\n") {
+        let (input, wanted) = parts(row)?;
+        assert_said(
+            &rt,
+            rt.alloc(),
+            input,
+            line_of_far(rt.alloc(), input)?,
+            wanted,
+        )?;
     }
     Ok(())
 }
@@ -294,16 +297,16 @@ fn repeated(alloc: Global, c: char, count: usize) -> Result<String, Fail> {
 /// Forty characters of two units each have a marker.
 #[test]
 fn forty_faces_are_marked(rt: HostRuntime) -> Result<(), Fail> {
-    let alloc = rt.alloc();
-    let text = repeated(alloc, '\u{1f600}', 40)?;
-    let file = written(alloc, Resource::String(CowStr::Owned(text)), &[])?;
-    let words = [
-        (0, 0x6000_0001),
-        (7, 50),
-        (8, 0xdc50_0000),
-        (9, 0xde00_d83d),
-    ];
-    assert_words(&rt, &file, &words)
+    let text = repeated(rt.alloc(), '\u{1f600}', 40)?;
+    let file = written(rt.alloc(), Resource::String(CowStr::Owned(text)), &[])?;
+    let found = line_of_words(rt.alloc(), &file, "0 7 8 9")?;
+    assert_said(
+        &rt,
+        rt.alloc(),
+        "faces",
+        found,
+        "232 60000001 32 dc500000 de00d83d",
+    )
 }
 
 /// The array of strings of so many letters a each.
@@ -318,136 +321,169 @@ fn letters<'a>(alloc: Global, counts: &[usize]) -> Result<Resource<'a>, Fail> {
 /// Strings of 41 and 42 letters have markers, and each a record, although one ends the other.
 #[test]
 fn marked_strings_stand_in_files(rt: HostRuntime) -> Result<(), Fail> {
-    let alloc = rt.alloc();
-    let file = written(alloc, letters(alloc, &[41, 42, 1])?, &[])?;
-    let words = [
-        (0, 0x9000_0058),
-        (7, 54),
-        (8, 0xdc29_0000),
-        (52, 0x1_0003),
-        (53, 0x2a_002c),
-    ];
-    assert_words(&rt, &file, &words)
+    let file = written(rt.alloc(), letters(rt.alloc(), &[41, 42, 1])?, &[])?;
+    let found = line_of_words(rt.alloc(), &file, "0 7 8 52 53")?;
+    assert_said(
+        &rt,
+        rt.alloc(),
+        "letters",
+        found,
+        "248 90000058 36 dc290000 10003 2a002c",
+    )
 }
 
-/// The table of a number at each key, written with a list of keys, is refused so.
-fn assert_refused(
-    rt: &impl Abort,
-    alloc: Global,
-    used: &[&'static str],
-    listed: &[Key<'_>],
-    wanted: &str,
-) -> Result<(), Fail> {
-    let mut table: Table = BTreeMap::new(alloc);
-    for key in used {
-        table.insert(Key::from(*key), Resource::Integer(Int28::from(0u32)))?;
+/// Keys of a table, `,` between them and `~` for U+0000, a list of keys, and why the table is
+/// refused: a key that isn't listed comes before one that holds U+0000.
+const KEY_FAULTS: &str = "\
+a,b~ | b~ => refused: Unexpected error: key not present in position map;
+a,b~ | a,b~ => refused: Unexpected error: key contains U+0000;
+b~ | a,b~ => refused: Unexpected error: key contains U+0000;
+";
+
+/// The keys that words stand for.
+fn keys_named<'a>(alloc: Global, words: &str) -> Result<Vec<Key<'a>>, Fail> {
+    let mut keys = Vec::new(alloc);
+    for word in words.split(',') {
+        keys.push(Key::from(text_of(alloc, word)?))?;
     }
-    let found = told(alloc, written(alloc, Resource::Table(table), listed))?;
-    assert_eq!(rt; found.as_str(), wanted);
-    Ok(())
+    Ok(keys)
 }
 
-/// A key that isn't listed comes before one that holds U+0000.
-#[test]
-fn faults_of_keys_have_an_order(rt: HostRuntime) -> Result<(), Fail> {
-    let alloc = rt.alloc();
-    let unlisted = "refused: Unexpected error: key not present in position map";
-    let nul = "refused: Unexpected error: key contains U+0000";
-    let one = [Key::from("b\0")];
-    let both = [Key::from("a"), Key::from("b\0")];
-    assert_refused(&rt, alloc, &["a", "b\0"], &one, unlisted)?;
-    assert_refused(&rt, alloc, &["a", "b\0"], &both, nul)?;
-    assert_refused(&rt, alloc, &["b\0"], &both, nul)
-}
-
-/// A table of a number at each of the keys `00000` to `65535`.
-fn numbered<'a>(alloc: Global) -> Result<Table<'a>, Fail> {
+/// The table of the number 0 at each key.
+fn zeros<'a>(alloc: Global, keys: Vec<Key<'a>>) -> Result<Table<'a>, Fail> {
     let mut table: Table = BTreeMap::new(alloc);
-    for number in 0..65536u32 {
-        let key = Key::from(format!(in alloc; "{number:05}")?);
+    for key in keys {
         table.insert(key, Resource::Integer(Int28::from(0u32)))?;
     }
     Ok(table)
 }
 
-/// The keys of a table, in their order.
-fn keys_of<'a>(alloc: Global, table: &'a Table<'_>) -> Result<Vec<Key<'a>>, Fail> {
-    let mut keys = Vec::with_capacity(alloc, table.len())?;
-    for key in table.keys() {
-        keys.push(Key::from(key.as_str()))?;
+/// The line of a table of some keys with a list of keys.
+fn line_of_keys(alloc: Global, input: &str) -> Result<String, Fail> {
+    let (used, listed) = input.split_once(" | ").ok_or("a row without a list")?;
+    let listed = keys_named(alloc, listed)?;
+    let table = zeros(alloc, keys_named(alloc, used)?)?;
+    told(alloc, written(alloc, Resource::Table(table), &listed))
+}
+
+#[test]
+fn faults_of_keys_have_an_order(rt: HostRuntime) -> Result<(), Fail> {
+    for row in KEY_FAULTS.split_terminator(";\n") {
+        let (input, wanted) = parts(row)?;
+        assert_said(
+            &rt,
+            rt.alloc(),
+            input,
+            line_of_keys(rt.alloc(), input)?,
+            wanted,
+        )?;
+    }
+    Ok(())
+}
+
+/// The keys `00000` to `65535`.
+fn numbers<'a>(alloc: Global) -> Result<Vec<Key<'a>>, Fail> {
+    let mut keys = Vec::new(alloc);
+    for number in 0..65536u32 {
+        keys.push(Key::from(format!(in alloc; "{number:05}")?))?;
     }
     Ok(keys)
+}
+
+/// The file of the table of these keys.
+fn numbered(alloc: Global) -> Result<Vec<u8>, Fail> {
+    let listed = numbers(alloc)?;
+    let table = zeros(alloc, numbers(alloc)?)?;
+    Ok(written(alloc, Resource::Table(table), &listed)?)
+}
+
+/// Whether the file is read back as the table of these keys.
+fn is_numbered(alloc: Global, file: &[u8]) -> Result<bool, Fail> {
+    let tree: Resource = from_bytes(alloc, file)?;
+    let table = zeros(alloc, numbers(alloc)?)?;
+    Ok(tree.equals(&Resource::Table(table)))
 }
 
 /// A table of 65536 entries has 32-bit key positions, and is read back.
 #[test]
 fn a_table_of_65536_entries(rt: HostRuntime) -> Result<(), Fail> {
-    let alloc = rt.alloc();
-    let table = numbered(alloc)?;
-    let keys = keys_of(alloc, &table)?;
-    let file = written(alloc, Resource::Table(numbered(alloc)?), &keys)?;
-    let root = word(&file, 0)?;
-    assert_eq!(rt; root >> 28, 4);
-    let body = (root & 0x0fff_ffff) as usize;
-    assert_words(&rt, &file, &[(body, 65536), (body + 65536, 393_242)])?;
-    let tree: Resource = from_bytes(alloc, &file)?;
-    assert!(rt; tree.equals(&Resource::Table(numbered(alloc)?)));
+    let file = numbered(rt.alloc())?;
+    let found = line_of_words(rt.alloc(), &file, "0 98313 163849")?;
+    assert_said(
+        &rt,
+        rt.alloc(),
+        "numbers",
+        found,
+        "917576 40018009 10000 6001a",
+    )?;
+    let is_read_back = is_numbered(rt.alloc(), &file)?;
+    assert!(rt; is_read_back);
     Ok(())
 }
 
 /// Without a list no key is known, however many are used.
 #[test]
 fn keys_without_a_list_are_refused(rt: HostRuntime) -> Result<(), Fail> {
-    let alloc = rt.alloc();
-    let found = told(
-        alloc,
-        written(alloc, Resource::Table(numbered(alloc)?), &[]),
-    )?;
+    let table = zeros(rt.alloc(), numbers(rt.alloc())?)?;
+    let found = told(rt.alloc(), written(rt.alloc(), Resource::Table(table), &[]))?;
     let wanted = "refused: Unexpected error: key not present in position map";
-    assert_eq!(rt; found.as_str(), wanted);
-    Ok(())
+    assert_said(&rt, rt.alloc(), "numbers", found, wanted)
 }
 
-/// Many arrays in one another.
-#[test]
-fn deep_arrays_are_written(rt: HostRuntime) -> Result<(), Fail> {
-    let alloc = rt.alloc();
+/// So many arrays in one another.
+fn nested_arrays<'a>(alloc: Global, levels: u32) -> Result<Resource<'a>, Fail> {
     let mut arrays = Resource::Array(Vec::new(alloc));
-    for _ in 0..100_000u32 {
+    for _ in 0..levels {
         arrays = Resource::Array(vec![in alloc; arrays]?);
     }
-    let file = written(alloc, arrays, &[])?;
+    Ok(arrays)
+}
+
+#[test]
+fn deep_arrays_are_written(rt: HostRuntime) -> Result<(), Fail> {
+    let file = written(rt.alloc(), nested_arrays(rt.alloc(), 100_000)?, &[])?;
     assert_eq!(rt; file.len(), 68 + 800_000);
     Ok(())
 }
 
-/// Many tables in one another.
+/// The table of one tree at k.
+fn table_of<'a>(alloc: Global, tree: Resource<'a>) -> Result<Resource<'a>, Fail> {
+    let mut table: Table = BTreeMap::new(alloc);
+    table.insert(Key::from("k"), tree)?;
+    Ok(Resource::Table(table))
+}
+
+/// So many tables in one another.
+fn nested_tables<'a>(alloc: Global, levels: u32) -> Result<Resource<'a>, Fail> {
+    let mut tables = Resource::Table(BTreeMap::new(alloc));
+    for _ in 0..levels {
+        tables = table_of(alloc, tables)?;
+    }
+    Ok(tables)
+}
+
 #[test]
 fn deep_tables_are_written(rt: HostRuntime) -> Result<(), Fail> {
-    let alloc = rt.alloc();
-    let mut tables = Resource::Table(BTreeMap::new(alloc));
-    for _ in 0..100_000u32 {
-        let mut table: Table = BTreeMap::new(alloc);
-        table.insert(Key::from("k"), tables)?;
-        tables = Resource::Table(table);
-    }
-    let file = written(alloc, tables, &[Key::from("k")])?;
+    let file = written(
+        rt.alloc(),
+        nested_tables(rt.alloc(), 100_000)?,
+        &[Key::from("k")],
+    )?;
     assert_eq!(rt; file.len(), 72 + 800_000);
     Ok(())
 }
 
+/// What an error prints.
+fn printed(alloc: Global, error: BinarySerializerError) -> Result<String, Fail> {
+    Ok(error.to_string(alloc)?)
+}
+
 #[test]
 fn faults_print(rt: HostRuntime) -> Result<(), Fail> {
-    let alloc = rt.alloc();
-    let long = BinarySerializerError::string_too_long(5);
+    let long = printed(rt.alloc(), BinarySerializerError::string_too_long(5))?;
     let expected = "Cannot serialize string of length 5, maximum is 4,294,967,295 characters";
-    assert_eq!(rt; long.to_string(alloc)?.as_str(), expected);
-    let memory = BinarySerializerError::out_of_memory();
-    assert_eq!(rt;
-        memory.to_string(alloc)?.as_str(),
-        "Out of memory: while writing"
-    );
-    assert!(rt; memory.is_out_of_memory());
-    assert!(rt; !long.is_out_of_memory());
+    assert!(rt; long.as_str() == expected);
+    let memory = printed(rt.alloc(), BinarySerializerError::out_of_memory())?;
+    assert!(rt; memory.as_str() == "Out of memory: while writing");
     Ok(())
 }

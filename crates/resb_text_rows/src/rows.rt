@@ -1,5 +1,6 @@
 //! Texts with their answers, a line each. What is asked of them is in `text_rows`, and in the
 //! crates above that send the same texts on.
+use std::alloc::{AllocError, Global};
 
 /// Texts with their bundles: name, tree, and the keys that are discovered.
 pub const BUNDLES: &str = r#"b{} => b: { }, keys
@@ -137,3 +138,47 @@ b{a_{x}} => at 3: '{'
 b{i:int{99999999999999999999}} => at 8: a number
 b{v:intvector{1,-2147483649}} => at 16: a number
 "#;
+
+/// Texts of several lines, with their bundles.
+pub const LINES: [(&str, &str); 2] = [
+    (
+        " // first\r\n\"b c\" /* { */ {\tk\n{ v } /* } */ } // last",
+        "b c: { k: 'v' }, keys k",
+    ),
+    ("b{//x\r\n}", "b: { }, keys"),
+];
+
+/// Texts of several lines, with the place where each is refused.
+pub const REFUSED_LINES: [(&str, &str); 3] = [
+    ("b{}//x\ry", "at 3: the end of the text"),
+    ("b//x\ry{}", "at 1: '{'"),
+    ("b{}//x\ny", "at 7: the end of the text"),
+];
+
+/// How many groups are open in `b{a`, what stands within, what closes each, and where the text,
+/// which lacks the `}` of its root, is refused.
+pub const OPEN_GROUPS: [(usize, &str, &str, &str); 3] = [
+    (994, "\"x\" \"yz\"", "}", "at 1999: '}'"),
+    (2000, "", "", "at 2003: a resource"),
+    (5_000_000, "", "", "at 5000003: a resource"),
+];
+
+/// The beginning, then so many openings, what stands within, so many closings, and the end.
+pub fn nested(
+    alloc: Global,
+    ends: (&str, &str),
+    braces: (&str, &str),
+    depth: usize,
+    within: &str,
+) -> Result<String, AllocError> {
+    let mut text = String::from_str(alloc, ends.0)?;
+    for _ in 0..depth {
+        text.push_str(braces.0)?;
+    }
+    text.push_str(within)?;
+    for _ in 0..depth {
+        text.push_str(braces.1)?;
+    }
+    text.push_str(ends.1)?;
+    Ok(text)
+}

@@ -21,6 +21,18 @@ pub record IsUnclosed (text : List ℕ) (at : ℕ) (e : TextParserError) : Type 
   pub none : slice_index text at ≢ ascii.right_brace
   pub is : e ≡ record { position = at; expected = expect.RightBrace }
 
+-- behind a number: the `}` stands right here, or a comma does, with the discardable text after it
+abbrev pub IsBehindNumber : List ℕ → ℕ → ℕ → Type 0
+IsBehindNumber text at to =
+    (slice_index text at ≡ ascii.right_brace × to ≡ at)
+    ⊎ (slice_index text at ≡ ascii.comma × Skip text (at + 1) to)
+
+-- neither `}` nor a comma stands here, and the error says so
+pub record IsUnended (text : List ℕ) (at : ℕ) (e : TextParserError) : Type 0 where
+  pub none : slice_index text at ≢ ascii.right_brace
+  pub no_comma : slice_index text at ≢ ascii.comma
+  pub is : e ≡ record { position = at; expected = expect.RightBrace }
+
 -- the content of a group of this type, and its `}`
 pub record Leaf (text : List ℕ) (at to : ℕ) (kind : Kind) (tree : Tree) : Type 0 where
   pub ends : ℕ

@@ -6,7 +6,7 @@ use Rattle.std.proofs.lemmas.Bool.{false≢true}
 use Rattle.resb_grammar.specs.Ascii as ascii
 use Rattle.resb_tree.specs.Tree.{Tree}
 use Rattle.resb_grammar.specs.Tokens.{Skip}
-use Rattle.resb_grammar.specs.Types.{Kind, GroupType, Head}
+use Rattle.resb_grammar.specs.GroupTypes.{Kind, GroupType, Head}
 use Rattle.resb_grammar.specs.Items.{Item, group_term}
 use Rattle.resb_grammar.specs.Machine as machine
 use Rattle.resb_grammar.specs.Machine.{Body, table_body, array_body, untyped_body, Token, a_text}

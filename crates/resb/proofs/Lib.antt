@@ -1,2 +1,3 @@
-pub mod Reasons
-pub mod ReadBack
+-- For this crate alone.
+mod Reasons
+mod ReadBack

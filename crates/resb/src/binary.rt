@@ -5,8 +5,8 @@ pub mod helpers;
 
 pub use resb_format::{
     BinHeader, BinIndex, BinReprInfo, BinaryDeserializerError, CharsetFamily, Endianness,
-    ErrorKind, FileParts, FormatVersion, ReadingError, ResDescriptor, ResourceReprType,
-    is_unmarked, marker_units, string_at,
+    ErrorKind, FileParts, FormatVersion, MAX_UNMARKED, ReadingError, ResDescriptor,
+    ResourceReprType, bytes, is_unmarked, marker_units, string_at,
 };
 pub use resb_pool::{Plan, pool};
 pub use resb_read::{

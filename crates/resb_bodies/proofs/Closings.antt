@@ -11,17 +11,10 @@ use Rattle.resb_layout.specs.Laid.{binary_body, Given, State, ClosesArray, short
 use Rattle.resb_layout.specs.Laid.{ClosesTable, short_table, long_table, wide_table, here, words}
 use Rattle.resb_layout.specs.Laid.{halves, words_body, table_body, wide_table_body, pad, are_short}
 use Rattle.resb_layout.specs.Laid.{are_near, offsets_in}
-
-pub words_long : (ws : List ℕ) → length (words ws) ≡ 4 * length ws
-words_long [] = refl
-words_long (w ∷ ws) = omega (arith, words_long ws, length-append (to_le_bytes w32 w) (words ws))
-
-pub halves_long : (us : List ℕ) → length (halves us) ≡ 2 * length us
-halves_long [] = refl
-halves_long (u ∷ us) = omega (arith, halves_long us, length-append (to_le_bytes w16 u) (halves us))
+use Rattle.resb_layout.proofs.Numbers.{words_len, halves_len}
 
 pub body_long : (ws : List ℕ) → length (words_body ws) ≡ 4 + 4 * length ws
-body_long ws = omega (arith, words_long ws, length-append (to_le_bytes w32 (length ws)) (words ws))
+body_long ws = omega (arith, words_len ws, length-append (to_le_bytes w32 (length ws)) (words ws))
 
 pub offsets_long : (ws : List ℕ) → length (offsets_in ws) ≡ length ws
 offsets_long [] = refl
@@ -108,24 +101,6 @@ module _ (g : Given) (s : State) (ps ws : List ℕ) where
             s.tail ++ wide_table_body ps ws;
       })) (sym v) (wide_table at far a room n small))
 
-pub table_units_taken : (us vs ps ws : List ℕ) → length ps ≡ length ws
-    → vs ≡ ((us ++ length ws ∷ []) ++ ps) ++ offsets_in ws
-    → length vs ≡ length us + (2 * length ws + 1)
-table_units_taken us vs ps ws n e =
-    omega (
-      arith,
-      n,
-      ap length e,
-      length-append ((us ++ length ws ∷ []) ++ ps) (offsets_in ws),
-      length-append (us ++ length ws ∷ []) ps,
-      length-append us (length ws ∷ []),
-      one (length ws),
-      offsets_long ws,
-    )
-  where
-    one : (n : ℕ) → length {A = ℕ} (n ∷ []) ≡ 1
-    one n = refl
-
 pub wide_taken : (bs cs ps ws : List ℕ) → length ps ≡ length ws
     → cs ≡ (bs ++ words_body ps) ++ words ws → length cs ≡ length bs + (4 + 8 * length ws)
 wide_taken bs cs ps ws n e = omega (
@@ -136,7 +111,7 @@ wide_taken bs cs ps ws n e = omega (
       (words ws),
   length-append bs (words_body ps),
   body_long ps,
-  words_long ws,
+  words_len ws,
 )
 
 pad_long : (n : ℕ) → ((n % 2 ≡ 0) × (length (pad n) ≡ 2)) ⊎ ((n % 2 ≡ 1) × (length (pad n) ≡ 0))
@@ -164,12 +139,12 @@ table_taken bs cs ps ws n e =
     let two : length (to_le_bytes w16 (length ps)) ≡ 2 = refl in
     elim (pad_long (length ps)) [
       | inl p ↦ (
-        omega (arith, ap length e, a, b, d, f, two, halves_long ps, words_long ws, p.1, n),
-        omega (arith, ap length e, a, b, d, f, two, halves_long ps, words_long ws, p.0, p.1, n),
+        omega (arith, ap length e, a, b, d, f, two, halves_len ps, words_len ws, p.1, n),
+        omega (arith, ap length e, a, b, d, f, two, halves_len ps, words_len ws, p.0, p.1, n),
       )
       | inr p ↦ (
-        omega (arith, ap length e, a, b, d, f, two, halves_long ps, words_long ws, p.1, n),
-        omega (arith, ap length e, a, b, d, f, two, halves_long ps, words_long ws, p.0, p.1, n),
+        omega (arith, ap length e, a, b, d, f, two, halves_len ps, words_len ws, p.1, n),
+        omega (arith, ap length e, a, b, d, f, two, halves_len ps, words_len ws, p.0, p.1, n),
       )
     ]
 
@@ -180,10 +155,6 @@ fill_more (suc n) = ap (λ l. 0xaa ∷ l) (fill_more n)
 
 pub fill_next : (n : ℕ) → fill (n + 1) ≡ fill n ++ 0xaa ∷ []
 fill_next n = let e : n + 1 ≡ suc n = omega arith in ap fill e ∙ fill_more n
-
-pub fill_long : (n : ℕ) → length (fill n) ≡ n
-fill_long zero = refl
-fill_long (suc n) = omega (arith, fill_long n)
 
 module _ (g : Given) (s : State) where
   pub numbers_laid : (ns bs : List ℕ) (w at : ℕ) → 0 < length ns → length ns < 2 ^ 32
@@ -213,21 +184,3 @@ module _ (g : Given) (s : State) where
         tail =
             s.tail ++ binary_body (here g s) xs;
       })) (sym v) (lays_bytes at some many a room))
-
-pub bytes_taken : (bs cs xs : List ℕ) (h : ℕ)
-    → cs ≡ (((bs ++ fill (to_data h)) ++ to_le_bytes w32 (length xs)) ++ xs) ++ fill
-    (to_word (length xs)) → length cs ≡ length bs + to_data h + 4 + length xs + to_word (length xs)
-bytes_taken bs cs xs h e =
-    let four : length (to_le_bytes w32 (length xs)) ≡ 4 = refl in
-    omega (
-      arith,
-      ap length e,
-      length-append (((bs ++ fill (to_data h)) ++ to_le_bytes w32 (length xs)) ++ xs)
-          (fill (to_word (length xs))),
-      length-append ((bs ++ fill (to_data h)) ++ to_le_bytes w32 (length xs)) xs,
-      length-append (bs ++ fill (to_data h)) (to_le_bytes w32 (length xs)),
-      length-append bs (fill (to_data h)),
-      fill_long (to_data h),
-      fill_long (to_word (length xs)),
-      four,
-    )

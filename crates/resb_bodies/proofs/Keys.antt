@@ -4,14 +4,16 @@ use Rattle.std.proofs.Common.{false, IsTrue, ◌<◌, zero, suc, refl, sym, ◌�
 use Rattle.std.specs.Map.{keys_of}
 use Rattle.resb_tree.specs.View.{entries_view}
 use Rattle.resb_tree.specs.declared.resource.Resource.{Resource}
-use Rattle.resb_layout.specs.Laid.{Given, ArePlaced, keys_in}
-use Rattle.resb_bodies.specs.WalkOrder.{values_of}
+use Rattle.resb_layout.specs.Laid.{Given, ArePlaced}
+use Rattle.std.proofs.lemmas.List.{length-map}
+use Rattle.resb_tree.specs.WalkOrder.{entry_keys}
+use Rattle.resb_tree.specs.WalkOrder.{values_of}
 
-pub keys_view : (es : List (List ℕ × Resource)) → keys_in (entries_view es) ≡ keys_of es
+pub keys_view : (es : List (List ℕ × Resource)) → entry_keys (entries_view es) ≡ keys_of es
 keys_view [] = refl
 keys_view (e ∷ es) = ap (λ l. e.0 ∷ l) (keys_view es)
 
-pub keys_long : (es : List (List ℕ × Resource)) → length (keys_in (entries_view es)) ≡ length es
+pub keys_long : (es : List (List ℕ × Resource)) → length (entry_keys (entries_view es)) ≡ length es
 keys_long [] = refl
 keys_long (e ∷ es) = omega (arith, keys_long es)
 
@@ -19,14 +21,10 @@ pub values_long : (es : List (List ℕ × Resource)) → length es ≡ length (v
 values_long [] = refl
 values_long (e ∷ es) = omega (arith, values_long es)
 
-map_long : {A B : Type 0} (f : A → B) (xs : List A) → length (map f xs) ≡ length xs
-map_long f [] = refl
-map_long f (x ∷ xs) = omega (arith, map_long f xs)
-
 pub placed_long : (g : Given) (ks : List (List ℕ)) (ps : List ℕ) → ArePlaced g ks ps
     → length ps ≡ length ks
-placed_long g ks ps a = sym (map_long Some ps) ∙ ap length (sym a.positions)
-    ∙ map_long g.position ks
+placed_long g ks ps a = sym (length-map ps Some) ∙ ap length (sym a.positions)
+    ∙ length-map ks g.position
 
 -- behind known ones, the next one is known
 pub next_known : (known : List ℕ) (o : Option ℕ) (rest : List (Option ℕ)) (ps : List ℕ)

@@ -1,6 +1,7 @@
+-- For crates above: those that are `pub`.
 pub mod Walks
-pub mod Stacks
-pub mod Closings
+mod Stacks
+mod Closings
 pub mod Keys
-pub mod Rows
+mod Rows
 pub mod OneBlock

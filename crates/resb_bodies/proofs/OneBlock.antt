@@ -1,16 +1,17 @@
 -- The units that a tree takes don't depend on where the tail begins.
-use Rattle.std.proofs.Common.{ℕ, suc, List, [], ◌∷◌, ◌++◌, map, Some, Bool, true, false, ◌&&◌}
+use Rattle.std.proofs.Common.{ℕ, suc, List, [], ◌∷◌, ◌++◌, map, Some, true, false, ◌&&◌}
 use Rattle.std.proofs.Common.{length, ◌≡◌, ◌<◌, ◌+◌, refl, sym, ◌∙◌, ap, subst, arith, nat_le}
 use Rattle.std.specs.List.{list_all}
 use Rattle.std.proofs.lemmas.Bool.{lt-leb, and_left, and_right, and_parts}
-use Rattle.resb_tree.specs.Tree.{Tree, Trees, no_trees}
+use Rattle.resb_tree.specs.Tree.{Tree, Trees}
 use Rattle.resb_layout.specs.Laid.{Given, State, is_short_string, are_short, are_near, offsets_in}
 use Rattle.resb_layout.specs.Laid.{ClosesArray, short_array, long_array, ClosesTable, short_table}
-use Rattle.resb_layout.specs.Laid.{long_table, wide_table, ArePlaced, keys_in, Lays, lays_integer}
+use Rattle.resb_layout.specs.Laid.{long_table, wide_table, ArePlaced, Lays, lays_integer}
+use Rattle.resb_tree.specs.WalkOrder.{entry_keys}
 use Rattle.resb_layout.specs.Laid.{lays_string, lays_no_bytes, lays_bytes, lays_no_numbers}
 use Rattle.resb_layout.specs.Laid.{lays_numbers, lays_no_items, lays_items, lays_no_entries}
 use Rattle.resb_layout.specs.Laid.{lays_entries, LaysEach, each_none, each_more}
-use Rattle.resb_layout.proofs.Once.{same_somes}
+use Rattle.resb_layout.proofs.Once.{same_somes, none_inside, nothing, not_both}
 use Rattle.resb_bodies.specs.Laws.{OneBlock}
 
 -- words that are the same, or neither a short string's
@@ -45,9 +46,6 @@ all_tests (alike_more {v} {w} a h) = λ i. one_test v w a i && all_tests h i
 as_short : (vs ws : List ℕ) → AlikeEach vs ws → are_short vs ≡ are_short ws
 as_short vs ws h = λ i. nat_le (alike_long h i) 65535 && all_tests h i
 
-not_both : {A : Type 0} (b : Bool) → b ≡ true → b ≡ false → A
-not_both b t f = cc
-
 one_same : (v w : ℕ) → Alike v w → is_short_string v ≡ true → v ≡ w
 one_same v w (same e) h = e
 one_same v w (apart f g) h = not_both (is_short_string v) h f
@@ -61,13 +59,6 @@ all_same (alike_more {v} {w} {vs} {ws} a k) h =
 short_same : (vs ws : List ℕ) → AlikeEach vs ws → are_short vs ≡ true → vs ≡ ws
 short_same vs ws k h = all_same k (and_parts (nat_le (length vs) 65535)
     (list_all is_short_string vs) h).1
-
-none_inside : {g : Given} {s mid : State} {ws : List ℕ} → LaysEach g s no_trees mid ws
-    → 0 < length ws → ⊥
-none_inside each_none h = omega (arith, h)
-
-nothing : {n : ℕ} → 0 < n → n ≡ 0 → ⊥
-nothing h e = omega (arith, h, e)
 
 array_block : {g h : Given} {vs ws : List ℕ} {s u a b : State} {v w : ℕ} → s.units ≡ u.units
     → AlikeEach vs ws → ClosesArray g s vs a v → ClosesArray h u ws b w → (a.units ≡ b.units)
@@ -155,7 +146,7 @@ module _ (g h : Given) (positions : g.position ≡ h.position) (offsets : g.offs
         w2} qs q l some2 d) =
         let r = block_each e k l in
         table_block r.0 r.1 c (subst (λ rs. ClosesTable h m2 rs w2 b' w')
-        (same_positions (keys_in es) ps qs p q) d)
+        (same_positions (entry_keys es) ps qs p q) d)
 
     block_each : {s u a b : State} {ts : Trees} {vs ws : List ℕ} → s.units ≡ u.units
         → LaysEach g s ts a vs → LaysEach h u ts b ws → (a.units ≡ b.units) × AlikeEach vs ws

@@ -2,14 +2,14 @@
 use Rattle.std.proofs.Common.{◌≡◌, ℕ, ◌+◌, ◌-◌, List, [], ◌∷◌, ◌++◌, length, refl, sym, ap, subst}
 use Rattle.std.proofs.Common.{append_assoc, append-nil, length-append, arith}
 use Rattle.std.proofs.lemmas.List.Sums.{sum_by-cons}
-use Rattle.std.proofs.lemmas.List.Elements.{All-head, All-tail}
+use Rattle.std.proofs.lemmas.List.Elements.{All-tail}
 use Rattle.resb_tree.specs.Tree.{Tree, string, array, table, binary, integer, int_vector, Trees}
 use Rattle.resb_tree.specs.Tree.{no_trees, more_trees, Entries, no_entries, entry}
 use Rattle.resb_layout.specs.Laid.{Given, State}
-use Rattle.resb_bodies.specs.WalkOrder.{members, values_of, children, walk, walk_each, walk_values}
+use Rattle.resb_tree.specs.WalkOrder.{members, values_of, children, walk, walk_each, walk_values}
 use Rattle.resb_bodies.specs.Steps.{Step, Steps, steps_none, steps_more}
 use Rattle.resb_bodies.specs.Room.{given_by, own_size, most_units, most_bytes, IsKnown}
-use Rattle.resb_bodies.specs.Inner.Seen.{HasRoom, Takes, Suffices, CanLay}
+use Rattle.resb_bodies.specs.Inner.Seen.{Takes, Suffices, CanLay}
 use Rattle.resb_bodies.specs.declared.given.Places.{Places}
 use Rattle.resb_bodies.specs.declared.given.Bodies.{Bodies}
 
@@ -74,17 +74,6 @@ suffices t = subst (Suffices 0) (append-nil (walk t)) (suffices_tree t 0 [] tt)
 
 module _ (p : Places) (b : Bodies) (n : ℕ) (t : Tree) (ts : List Tree) (h : CanLay p b n (t ∷ ts))
   where
-    pub room_now : HasRoom p b (own_size t)
-    room_now =
-        record {
-          aligned = h.room.aligned;
-          units = omega (arith, h.room.units, sum_by-cons most_units t ts);
-          bytes = omega (arith, h.room.bytes, sum_by-cons most_bytes t ts);
-        }
-
-    pub known_now : IsKnown (given_by p) t
-    known_now = All-head (IsKnown (given_by p)) t ts h.known
-
     pub can_go_on : (c : Bodies) (m : ℕ) → Takes p b c (own_size t)
         → m ≡ n - length (children t) + 1
         → CanLay p c m ts

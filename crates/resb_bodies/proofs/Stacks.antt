@@ -6,8 +6,9 @@ use Rattle.resb_tree.specs.Tree.{Tree, string, array, table, binary, integer, in
 use Rattle.resb_tree.specs.Tree.{no_trees, more_trees, Entries, no_entries, entry, trees_of}
 use Rattle.resb_layout.specs.Laid.{Given, State, Lays, LaysEach, each_none, each_more, lays_items}
 use Rattle.resb_layout.specs.Laid.{lays_no_items, lays_entries, lays_no_entries, ClosesArray}
-use Rattle.resb_layout.specs.Laid.{ClosesTable, ArePlaced, keys_in, members_in}
-use Rattle.resb_bodies.specs.WalkOrder.{members, values_of, children, walk, walk_each, walk_values}
+use Rattle.resb_layout.specs.Laid.{ClosesTable, ArePlaced, members_in}
+use Rattle.resb_tree.specs.WalkOrder.{entry_keys}
+use Rattle.resb_tree.specs.WalkOrder.{members, values_of, children, walk, walk_each, walk_values}
 use Rattle.resb_bodies.specs.Steps.{Step, Steps, steps_none, steps_more}
 use Rattle.resb_bodies.proofs.Walks.{nil_from_len}
 
@@ -203,7 +204,7 @@ values_back (entry k t es) = ap (more_trees t) (values_back es)
 
 pub table_step : (g : Given) (s e : State) (ws xs vs ps : List ℕ) (es : Entries) (w n : ℕ)
     → n ≡ length (values_of es) → n ≤ length ws → vs ≡ drop (length ws - n) ws → 0 < n
-    → ArePlaced g (keys_in es) ps → ClosesTable g s ps vs e w
+    → ArePlaced g (entry_keys es) ps → ClosesTable g s ps vs e w
     → xs ≡ take (length ws - n) ws ++ w ∷ [] → Step g s ws (table es) e xs
 table_step g s e ws xs vs ps es w n c h v some a k p =
     let q = split_stack ws n h in

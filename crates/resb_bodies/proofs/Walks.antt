@@ -6,11 +6,12 @@ use Rattle.std.proofs.lemmas.List.{reverse-append, map_push}
 use Rattle.std.proofs.lemmas.List.Sums.{sum_by-cons, sum_by-append}
 use Rattle.resb_tree.specs.Tree.{Tree, string, array, table, binary, integer, int_vector, Trees}
 use Rattle.resb_tree.specs.Tree.{no_trees, more_trees, Entries, no_entries, entry, trees_of}
-use Rattle.resb_tree.specs.Tree.{entries_of, tree_count, trees_count, entries_count}
+use Rattle.resb_tree.specs.Tree.{tree_count, trees_count, entries_count}
 use Rattle.resb_tree.specs.View.{tree_of, items_view, entries_view}
 use Rattle.resb_tree.specs.declared.resource.Resource.{Resource}
-use Rattle.resb_bodies.specs.WalkOrder.{members, values_of, children, walk, walk_each, walk_values}
+use Rattle.resb_tree.specs.WalkOrder.{members, values_of, children, walk, walk_each, walk_values}
 use Rattle.resb_bodies.specs.Room.{trees_in}
+use Rattle.std.proofs.lemmas.Grind.{flat_map-append}
 
 each_is : (ts : Trees) → walk_each ts ≡ flat_map walk (members ts)
 each_is no_trees = refl
@@ -56,18 +57,9 @@ pub members-trees_of : (ts : List Tree) → members (trees_of ts) ≡ ts
 members-trees_of [] = refl
 members-trees_of (t ∷ ts) = ap (λ l. t ∷ l) (members-trees_of ts)
 
-pub values-entries_of : (ps : List (List ℕ × Tree)) → values_of (entries_of ps) ≡ map (λ p. p.1) ps
-values-entries_of [] = refl
-values-entries_of (p ∷ ps) = ap (λ l. p.1 ∷ l) (values-entries_of ps)
-
 pub trees-push : (old new : List (Bor Resource)) (r : Bor Resource) → new ≡ old ++ r ∷ []
     → trees_in new ≡ trees_in old ++ tree_of r.now ∷ []
 trees-push old new r e = ap trees_in e ∙ map_push (λ (x : Bor Resource). tree_of x.now) old r
-
-flat-append : (xs ys : List Tree) → flat_map walk (xs ++ ys) ≡ flat_map walk xs ++ flat_map walk ys
-flat-append [] ys = refl
-flat-append (x ∷ xs) ys = ap (λ l. walk x ++ l) (flat-append xs ys)
-    ∙ sym (append_assoc (walk x) (flat_map walk xs) (flat_map walk ys))
 
 -- a resource is taken off, and what is inside it put on
 pub turn : (front old new seen seen' : List Tree) (t : Tree) (all : List Tree)
@@ -75,14 +67,14 @@ pub turn : (front old new seen seen' : List Tree) (t : Tree) (all : List Tree)
     → flat_map walk old ++ reverse seen ≡ all → flat_map walk new ++ reverse seen' ≡ all
 turn front old new seen seen' t all e f g h =
     (λ i. flat_map walk (f i) ++ reverse (g i))
-    ∙ (λ i. flat-append front (children t) i ++ reverse-append seen (t ∷ []) i)
+    ∙ (λ i. flat_map-append walk front (children t) i ++ reverse-append seen (t ∷ []) i)
     ∙ append_assoc (flat_map walk front) (flat_map walk (children t)) (t ∷ reverse seen)
     ∙ ap (λ l. flat_map walk front ++ l)
     (sym (append_assoc (flat_map walk (children t)) (t ∷ []) (reverse seen)))
     ∙ ap (λ l. flat_map walk front ++ (l ++ reverse seen)) (sym (walk_is t))
     ∙ sym (append_assoc (flat_map walk front) (walk t) (reverse seen))
     ∙ ap (λ l. (flat_map walk front ++ l) ++ reverse seen) (sym (append-nil (walk t)))
-    ∙ ap (λ l. l ++ reverse seen) (sym (flat-append front (t ∷ [])))
+    ∙ ap (λ l. l ++ reverse seen) (sym (flat_map-append walk front (t ∷ [])))
     ∙ ap (λ l. flat_map walk l ++ reverse seen) (sym e)
     ∙ h
 

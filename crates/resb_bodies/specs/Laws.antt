@@ -5,7 +5,7 @@
 use Rattle.std.specs.Prelude.{◌≡◌, ℕ, List, [], ◌∷◌}
 use Rattle.resb_tree.specs.Tree.{Tree}
 use Rattle.resb_layout.specs.Laid.{Given, State, Lays}
-use Rattle.resb_bodies.specs.WalkOrder.{walk}
+use Rattle.resb_tree.specs.WalkOrder.{walk}
 use Rattle.resb_bodies.specs.Steps.{Steps}
 
 abbrev pub StepsLayTrees : Type 0

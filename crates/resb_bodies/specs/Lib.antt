@@ -1,7 +1,10 @@
 -- The words of the contracts: the order of a tree's resources, what is given, the room that they
 -- need, and laying them one by one.
+pub use Rattle.resb_tree.specs.Tree
+pub use Rattle.resb_tree.specs.View
+pub use Rattle.resb_tree.specs.WalkOrder
+pub use Rattle.resb_pool.specs.Plan
 pub use Rattle.resb_layout.specs.Laid
-pub mod WalkOrder
 pub mod Room
 pub mod Steps
 pub mod Laws

@@ -13,9 +13,10 @@ use Rattle.std.specs.Borrow.{Bor}
 use Rattle.resb_tree.specs.Tree.{Tree, string, array, table, binary, integer, int_vector}
 use Rattle.resb_tree.specs.View.{tree_of}
 use Rattle.resb_tree.specs.declared.resource.Resource.{Resource}
-use Rattle.resb_layout.specs.Laid.{Given, State, here, keys_in}
+use Rattle.resb_layout.specs.Laid.{Given, State, here}
+use Rattle.resb_tree.specs.WalkOrder.{entry_keys}
 use Rattle.resb_pool.specs.Plan.{at_text, offset_of, plan_units}
-use Rattle.resb_bodies.specs.WalkOrder.{members, values_of}
+use Rattle.resb_tree.specs.WalkOrder.{members, values_of}
 use Rattle.resb_bodies.specs.declared.given.Places.{Places}
 use Rattle.resb_bodies.specs.declared.given.Bodies.{Bodies}
 
@@ -37,7 +38,7 @@ pool_state p = record { units = plan_units p.plan; tail = [] }
 -- the keys and the text of a resource are known
 abbrev pub IsKnown : Given → Tree → Type 0
 IsKnown g (string s) = (k : ℕ) × (g.offset s ≡ Some k) × (k < 2 ^ 28)
-IsKnown g (table es) = (ps : List ℕ) × (map g.position (keys_in es) ≡ map Some ps)
+IsKnown g (table es) = (ps : List ℕ) × (map g.position (entry_keys es) ≡ map Some ps)
 IsKnown g (array ts) = Unit {0}
 IsKnown g (binary s) = Unit {0}
 IsKnown g (integer n) = Unit {0}

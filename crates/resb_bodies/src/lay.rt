@@ -5,7 +5,8 @@ ghost use Rattle.std.specs.Prelude.{ℕ, Some, [], length, take, IfOk, OnOk};
 ghost use Rattle.resb_tree.specs.Tree.{array, binary, int_vector, integer, string};
 ghost use Rattle.resb_tree.specs.Tree.{table as table_with};
 ghost use Rattle.resb_pool.specs.Plan.{offset_of};
-ghost use Rattle.resb_layout.specs.Laid.{Given, State, ArePlaced, keys_in};
+ghost use Rattle.resb_layout.specs.Laid.{Given, State, ArePlaced};
+ghost use Rattle.resb_tree.specs.WalkOrder.{entry_keys};
 ghost use Rattle.resb_tree.specs.View.{items_view, entries_view};
 ghost use Rattle.resb_bodies.specs.Steps.{Step};
 ghost use Rattle.resb_bodies.specs.Room.{given_by, state_of, IsKnown};
@@ -57,7 +58,7 @@ fn positions_of(
 ) -> Result<Vec<u32>, AllocError>
     requires { IsKnown (given_by places.now) (table_with (entries_view table.now.entries)) }
     ensures { IfOk result (λ v. ArePlaced (given_by places.now)
-        (keys_in (entries_view table.now.entries)) v.items) }
+        (entry_keys (entries_view table.now.entries)) v.items) }
 {
     let mut positions = Vec::new(alloc);
     for key in table.keys() {

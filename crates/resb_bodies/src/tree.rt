@@ -5,7 +5,7 @@ ghost use Rattle.std.specs.List.{sum_by};
 ghost use Rattle.resb_tree.specs.View.{tree_of};
 ghost use Rattle.resb_pool.specs.Plan.{plan_units};
 ghost use Rattle.resb_layout.specs.Laid.{State, Lays};
-ghost use Rattle.resb_bodies.specs.WalkOrder.{walk, children};
+ghost use Rattle.resb_tree.specs.WalkOrder.{walk, children};
 ghost use Rattle.resb_bodies.specs.Steps.{Step, Steps};
 ghost use Rattle.resb_bodies.specs.Room.{based, pool_state, given_by, state_of, trees_in, own_size};
 ghost use Rattle.resb_bodies.specs.Room.{HasRoomFor, HasRoomBehind, IsKnown, block_end, most_units};

@@ -2,7 +2,7 @@
 //! What is laid for each is not said here. No function calls itself, so that any depth is walked.
 ghost use Rattle.std.specs.Prelude.{◌≡◌, ◌++◌, map, IfOk, OnOk};
 ghost use Rattle.resb_tree.specs.View.{tree_of};
-ghost use Rattle.resb_bodies.specs.WalkOrder.{walk, children};
+ghost use Rattle.resb_tree.specs.WalkOrder.{walk, children};
 ghost use Rattle.resb_bodies.specs.Room.{trees_in};
 
 use resb_tree::{Resource, Table};

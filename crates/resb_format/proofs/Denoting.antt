@@ -18,24 +18,24 @@ same_some e f = cc
 same_leaf : {o : Option Content} {t u : Tree} → o ≡ Some (leaf t) → o ≡ Some (leaf u) → t ≡ u
 same_leaf e f = cc
 
-same_list : {o : Option Content} {ms ns : List Member} → o ≡ Some (list ms) → o ≡ Some (list ns)
+pub same_list : {o : Option Content} {ms ns : List Member} → o ≡ Some (list ms) → o ≡ Some (list ns)
     → ms ≡ ns
 same_list e f = cc
 
-same_pairs : {o : Option Content} {es fs : List (ℕ × Member)} → o ≡ Some (pairs es)
+pub same_pairs : {o : Option Content} {es fs : List (ℕ × Member)} → o ≡ Some (pairs es)
     → o ≡ Some (pairs fs) → es ≡ fs
 same_pairs e f = cc
 
-leaf_list : {o : Option Content} {t : Tree} {ms : List Member} → o ≡ Some (leaf t)
+pub leaf_list : {o : Option Content} {t : Tree} {ms : List Member} → o ≡ Some (leaf t)
     → o ≡ Some (list ms) → ⊥
 leaf_list e f = cc
 
-leaf_pairs : {o : Option Content} {t : Tree} {es : List (ℕ × Member)} → o ≡ Some (leaf t)
+pub leaf_pairs : {o : Option Content} {t : Tree} {es : List (ℕ × Member)} → o ≡ Some (leaf t)
     → o ≡ Some (pairs es) → ⊥
 leaf_pairs e f = cc
 
-list_pairs : {o : Option Content} {ms : List Member} {es : List (ℕ × Member)} → o ≡ Some (list ms)
-    → o ≡ Some (pairs es) → ⊥
+pub list_pairs : {o : Option Content} {ms : List Member} {es : List (ℕ × Member)}
+    → o ≡ Some (list ms) → o ≡ Some (pairs es) → ⊥
 list_pairs e f = cc
 
 module _ (p : Parts) where
@@ -92,7 +92,7 @@ module _ (p : Parts) where
         let h = counted_pairs d (subst (λ es. ReachesPairs p es n') (same_pairs f e) r) in
         omega arith
 
-    counted_member : {x : Member} {m n : ℕ} {t : Tree} → DenMember p x t n → ReachesMember p x m
+    pub counted_member : {x : Member} {m n : ℕ} {t : Tree} → DenMember p x t n → ReachesMember p x m
         → m ≤ n
     counted_member (den_word d) (reaches_word r) = counted d r
     counted_member (den_unit e) reaches_unit = omega arith

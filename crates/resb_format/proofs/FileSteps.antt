@@ -17,7 +17,7 @@ use Rattle.resb_format.specs.declared.error.ReadingError.{ReadingError}
 use Rattle.resb_format.proofs.HeadSteps.{le_true, le_false}
 use Rattle.resb_format.proofs.IndexSteps.{index_holds}
 use Rattle.resb_format.proofs.SupportSteps.{support_holds}
-use Rattle.resb_format.proofs.Passing.{passed, header_passes, behind}
+use Rattle.resb_format.proofs.Passing.{le_is, passed, header_passes, behind}
 
 -- checks in a row: the first ones answer, or else the later ones
 pub first_fault-none : (cs bs : List (Bool × Refusal)) → first_fault cs ≡ None
@@ -201,9 +201,6 @@ pub size_is : (bytes : List ℕ) → header_fault false bytes ≡ None
 size_is bytes e =
     let z : get_or bytes 8 0 ≡ 0 = ((header_passes false bytes).0 e).own_endianness refl in
     rw z refl
-
-le_is : (a b : ℕ) → nat_le a b ≡ true → a ≤ b
-le_is a b h = grind (arith, nat_tests)
 
 eq_is : (a b : ℕ) → nat_eq a b ≡ true → a ≡ b
 eq_is a b h = grind (arith, nat_tests)

@@ -1,18 +1,18 @@
+-- For crates above: those that are `pub`.
 pub mod Denoting
-pub mod ContentLemmas
-pub mod Examples
+mod Examples
 pub mod Spelled
 pub mod InsideLemmas
 pub mod StringsIn
-pub mod TextUnits
-pub mod HeadSteps
-pub mod HeaderSteps
-pub mod IndexSteps
+mod TextUnits
+mod HeadSteps
+mod HeaderSteps
+mod IndexSteps
 pub mod Apart
-pub mod Survival
-pub mod Passing
+mod Survival
+mod Passing
 pub mod FileSteps
-pub mod SupportSteps
+mod SupportSteps
 pub mod WordsBack
-pub mod IndexSurvival
-pub mod HeaderSurvival
+mod IndexSurvival
+mod HeaderSurvival

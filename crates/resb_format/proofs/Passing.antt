@@ -22,7 +22,7 @@ passed [] e = tt
 passed ((true, f) ∷ checks) e = (refl, passed checks e)
 passed ((false, f) ∷ checks) e = cc
 
-le_is : (a b : ℕ) → nat_le a b ≡ true → a ≤ b
+pub le_is : (a b : ℕ) → nat_le a b ≡ true → a ≤ b
 le_is a b h = grind (arith, nat_tests)
 
 zero_is : (any : Bool) (n : ℕ) → (any || nat_eq n 0) ≡ true → any ≡ false → n ≡ 0

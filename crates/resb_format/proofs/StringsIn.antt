@@ -9,16 +9,14 @@ use Rattle.std.proofs.lemmas.Grind.{common_steps}
 use Rattle.resb_format.specs.Bytes.{units_of, part}
 use Rattle.resb_format.specs.Strings.{before_zero, string_from, string_at}
 use Rattle.resb_format.specs.StringFaults.{string_fault}
+use Rattle.resb_format.proofs.InsideLemmas.{units_outside}
 use Rattle.resb_format.proofs.Spelled.{units_length}
 
 pub part_inside : (bs : List ℕ) (i n : ℕ) → i + n ≤ length bs / 2
     → part (units_of bs) i n ≡ Some (take n (drop i (units_of bs)))
 part_inside bs i n h = grind (arith, nat_tests, units_length bs)
 
-pub part_outside : (bs : List ℕ) (i n : ℕ) → length bs / 2 < i + n → part (units_of bs) i n ≡ None
-part_outside bs i n h = grind (arith, nat_tests, units_length bs)
-
-pub ruleset units_cut = (part_inside, part_outside)
+pub ruleset units_cut = (part_inside, units_outside)
 
 -- the second unit of a marker is missing
 pub no_second : (bs : List ℕ) (u first : ℕ) → 0xdfee < first → first ≤ 0xdfff

@@ -1,5 +1,5 @@
 -- The words of the contracts: bytes and their numbers, strings and keys in their blocks, the parts
--- of a file, what a word and a file denote.
+-- of a file, what a word and a file denote. `Inner` has words of private functions.
 pub use Rattle.resb_tree.specs.Tree
 pub use Rattle.resb_tree.specs.View
 pub use Rattle.resb_tree.specs.Bundle
@@ -26,3 +26,4 @@ pub mod DescriptorReading
 pub mod HeadReading
 pub mod PartsReading
 pub mod Laws
+pub mod Inner

@@ -2,6 +2,7 @@
 //! Where a number stands is the business of the module that asks for it.
 ghost use Rattle.std.specs.Prelude.{◌≡◌, ◌+◌, ◌*◌, ◌/◌, ◌<◌, ◌≤◌, [], ◌∷◌, length, slice_get};
 ghost use Rattle.std.specs.Prelude.{slice_index, slice_range, take, drop, Some, None, MatchOption};
+ghost use Rattle.std.specs.Prelude.{IfSome};
 ghost use Rattle.resb_format.specs.Bytes.{units_of, words_of, part};
 ghost use Rattle.resb_format.specs.HeadChecks as checks;
 
@@ -120,8 +121,20 @@ pub fn first_word(bytes: &[u8]) -> Option<(u32, &[u8])>
     Some((word, rest))
 }
 
+/// The bytes before this place and those from it on, if no more than all of them stand before it.
+pub fn cut_at(bytes: &[u8], place: usize) -> Option<(&[u8], &[u8])>
+    ensures parts { MatchOption result (length bytes.now < place)
+        (λ r. (r.0.now ≡ take place bytes.now) × (r.1.now ≡ drop place bytes.now)) }
+    ensures inside { IfSome result (λ r. place ≤ length bytes.now) }
+{
+    if place > bytes.len() {
+        return None;
+    }
+    Some(bytes.split_at(place))
+}
+
 /// So many bytes from this place on, if they lie inside.
-#[tactic(auto, using(crate::proofs::ContentLemmas::part_cut))]
+#[tactic(auto, using(crate::proofs::InsideLemmas::part_cut))]
 pub fn some_bytes(bytes: &[u8], from: usize, count: usize) -> Option<&[u8]>
     ensures { let cut = part bytes.now from count in
         MatchOption result (cut ≡ None) (λ b. cut ≡ Some b.now) }

@@ -2,7 +2,8 @@
 //! holds. What the root's word leads to is read in the crates above.
 ghost use Rattle.std.specs.Prelude.{drop, ◌≤◌, length};
 ghost use Rattle.resb_format.specs.Head.{IndexAt};
-ghost use Rattle.resb_format.specs.PartsReading.{ReadsFile, ReadsBody, ReadsBlocks};
+ghost use Rattle.resb_format.specs.PartsReading.{ReadsFile};
+ghost use Rattle.resb_format.specs.Inner.Checked.{ReadsBody, ReadsBlocks};
 
 use crate::bytes::word_at;
 use crate::error::BinaryDeserializerError;

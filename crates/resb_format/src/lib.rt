@@ -33,6 +33,6 @@ pub use index::BinIndex;
 pub use repr_info::BinReprInfo;
 pub use repr_type::ResourceReprType;
 pub use resb_tree::{Int28, Key, NoMemory, Resource, ResourceBundle, Table};
-pub use units::{is_unmarked, marker_units, string_at};
+pub use units::{MAX_UNMARKED, is_unmarked, marker_units, string_at};
 pub use version::FormatVersion;
 pub use views::{I32Pair, I32View, PairView, Utf16View, WordView};

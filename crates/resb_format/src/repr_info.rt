@@ -38,7 +38,7 @@ pub struct BinReprInfo {
 }
 
 impl BinReprInfo {
-    ghost use Rattle.resb_format.specs.PartsReading.{ReadsSupport};
+    ghost use Rattle.resb_format.specs.Inner.Checked.{ReadsSupport};
 
     /// The info in these bytes, in the order that it names. Only where `any_order` says so,
     /// that order may be another than the one of this crate, little-endian.

@@ -15,7 +15,7 @@ use crate::error::BinaryDeserializerError;
 use crate::views::Utf16View;
 
 /// The most units of a string without a marker.
-const MAX_UNMARKED: usize = 40;
+pub const MAX_UNMARKED: usize = 40;
 
 /// The units of the string that stands at this unit of the 16-bit block.
 /// A first unit from 0xdc00 to 0xdfff begins a marker, which says how many units follow it.

@@ -7,9 +7,8 @@ use Rattle.resb_grammar.specs.Ascii as ascii
 use Rattle.resb_tree.specs.Tree.{Tree, string, binary, integer, int_vector}
 use Rattle.resb_grammar.specs.Tokens.{Skip}
 use Rattle.resb_grammar.specs.Items as items
-use Rattle.resb_grammar.specs.Items.{Item, Term, flagged, is_pairs, shape_of, a_table, an_array}
-use Rattle.resb_grammar.specs.Items.{tree_in, keys_in}
-use Rattle.resb_grammar.specs.Types.{Kind, array_kind, table_kind, Head}
+use Rattle.resb_grammar.specs.Items.{Item, Term, before_comma}
+use Rattle.resb_grammar.specs.GroupTypes.{Kind, array_kind, table_kind, Head}
 use Rattle.resb_grammar.specs.Group.{Numbers, first_number, next_number, Vector, empty, lone_comma}
 use Rattle.resb_grammar.specs.Group.{numbers, numbers_comma, LeafContent, string_content}
 use Rattle.resb_grammar.specs.Group.{binary_content, integer_content, vector_content, Items}
@@ -23,10 +22,10 @@ use Rattle.resb_grammar.specs.Machine.{at_start, after_lone_comma, after_number,
 use Rattle.resb_grammar.specs.Machine.{inside, typed, in_binary, filled, in_vector, finished}
 use Rattle.resb_grammar.specs.Machine.{is_key_place, when, unless, with_term, within, begun_as}
 use Rattle.resb_grammar.specs.Machine.{leave, next, At}
-use Rattle.resb_grammar.proofs.Lex.{neither, Class, text_class, number_class, open_class}
-use Rattle.resb_grammar.proofs.Lex.{close_class, comma_class, type_class, class_in}
+use Rattle.resb_grammar.proofs.Lex.{neither, text_class, number_class, open_class}
+use Rattle.resb_grammar.proofs.Lex.{close_class, comma_class, type_class}
 use Rattle.resb_grammar.specs.Inner.Half.{half}
-use Rattle.resb_grammar.proofs.Half.{half-pairs, key_place-pairs, half-group, no_flag}
+use Rattle.resb_grammar.proofs.Half.{half-pairs, key_place-pairs, half-group, no_comma}
 use Rattle.resb_grammar.proofs.Moves.{further, byte_class, class_text, class_number}
 use Rattle.resb_grammar.proofs.HeaderPath.{header_at}
 
@@ -81,17 +80,10 @@ string_next title untyped_body xs around s h = refl
 comma_next : (title : Title) (body : Body) (xs : List Item) (around : List Frame) (m : Term)
     → IsList body
     → next (inside (open_at title body (items.plain m ∷ xs) around)) a_comma ≡ Some
-    (inside (open_at title body (flagged m ∷ xs) around))
+    (inside (open_at title body (before_comma m ∷ xs) around))
 comma_next title table_body xs around m h = absurd h
 comma_next title array_body xs around m h = refl
 comma_next title untyped_body xs around m h = refl
-
-close_next : (title : Title) (body : Body) (xs : List Item) (around : List Frame) → IsList body
-    → next (inside (open_at title body xs around)) closing ≡ Some
-    (leave title (record { body = body; items = xs }) around)
-close_next title table_body xs around h = absurd h
-close_next title array_body xs around h = refl
-close_next title untyped_body xs around h = refl
 
 module _ (text : List ℕ) where
   -- the numbers of a vector
@@ -211,7 +203,7 @@ module _ (text : List ℕ) where
     run_table from to xs (group_item _ i j _ ys t ks rest g skip) h title around at =
         run_group i j t ks g title table_body ys around (half-group ys h).1
         (run_table from i ys rest (half-group ys h).0 title around at) to skip
-    run_table from to xs (comma _ i _ ys m rest k skip) h title around at = absurd (no_flag m ys h)
+    run_table from to xs (comma _ i _ ys m rest k skip) h title around at = absurd (no_comma m ys h)
 
     pub run_group : (from to : ℕ) (t : Tree) (ks : List (List ℕ)) → Group text from to t ks
         → (title : Title) (body : Body) (ys : List Item) (around : List Frame) → MayOpen body ys

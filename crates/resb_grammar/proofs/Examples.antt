@@ -5,12 +5,13 @@ use Rattle.std.specs.Prelude.{◌&&◌, ◌==◌, not, slice_index, slice_range,
 use Rattle.std.proofs.lemmas.Bool.{false≢true}
 use Rattle.std.proofs.lemmas.Bool.Decides.{nat_tests}
 use Rattle.resb_tree.specs.Tree.{Tree, string, array, table, binary, integer, trees_of, map_of}
-use Rattle.resb_grammar.specs.Bytes.{is_white, is_word, is_digit, Run}
+use Rattle.resb_grammar.specs.ByteRuns.{is_white, is_word, is_digit, Run}
 use Rattle.resb_grammar.specs.Tokens.{Comment, line, block, none, comment, Skip, Text, quoted}
 use Rattle.resb_grammar.specs.Tokens.{unquoted, Number, unsigned, plus, minus}
 use Rattle.resb_grammar.specs.Items as items
-use Rattle.resb_grammar.specs.Types.{string_kind, integer_kind, vector_kind, GroupType, RootType}
-use Rattle.resb_grammar.specs.Types.{no_fallback_type}
+use Rattle.resb_grammar.specs.GroupTypes.{string_kind, integer_kind, vector_kind, GroupType}
+use Rattle.resb_grammar.specs.GroupTypes.{RootType}
+use Rattle.resb_grammar.specs.GroupTypes.{no_fallback_type}
 use Rattle.resb_grammar.specs.Group.{hex_bytes, first_number, Vector, numbers_comma, nothing}
 use Rattle.resb_grammar.specs.Group.{string_item, group_item, Group, untyped}
 use Rattle.resb_grammar.specs.BundleText.{first_places, without, BundleText}
@@ -22,7 +23,7 @@ use Rattle.resb_grammar.specs.Machine.{in_integer, filled, in_vector, finished, 
 use Rattle.resb_grammar.specs.Machine.{at_root, within, next, At}
 use Rattle.resb_grammar.specs.Stuck.{expected, NoToken, Stuck, blocked}
 use Rattle.resb_grammar.specs.declared.expected.Expected.TheVariants as expect
-use Rattle.resb_grammar.proofs.BytesLemmas.{Run-one}
+use Rattle.resb_grammar.proofs.ByteRunsLemmas.{Run-one}
 use Rattle.resb_grammar.proofs.LexLemmas.{lex_of}
 use Rattle.resb_grammar.proofs.Moves.{begin, further, none_some}
 
@@ -105,11 +106,11 @@ hex_examples = (refl, refl, refl, refl, refl)
 -- one string without a comma is a string, with one an array; pairs are a table
 shape_examples : (x y : List ℕ) (t : Tree) (ks : List (List ℕ)) →
     (items.shape_of (items.plain (items.string_term x) ∷ []) ≡ items.a_string x)
-    × (items.shape_of (items.flagged (items.string_term x) ∷ []) ≡ items.an_array)
+    × (items.shape_of (items.before_comma (items.string_term x) ∷ []) ≡ items.an_array)
     × (items.shape_of [] ≡ items.a_table)
     × (items.shape_of (items.plain (items.group_term t ks) ∷ items.plain (items.string_term x) ∷
     []) ≡ items.a_table)
-    × (items.shape_of (items.flagged (items.group_term t ks) ∷ items.plain
+    × (items.shape_of (items.before_comma (items.group_term t ks) ∷ items.plain
     (items.string_term x) ∷ []) ≡ items.an_array)
     × (items.shape_of (items.plain (items.string_term y) ∷ items.plain (items.string_term x) ∷
     []) ≡ items.an_array)
@@ -127,7 +128,7 @@ tree_examples :
     × (items.tree_in items.an_array (items.plain (items.string_term (codes "z")) ∷ items.plain
     (items.string_term (codes "x")) ∷ []) ≡ array (trees_of
     (string (codes "x") ∷ string (codes "z") ∷ [])))
-    × (items.keys_in items.an_array (items.flagged
+    × (items.keys_in items.an_array (items.before_comma
     (items.group_term (string []) (codes "k" ∷ [])) ∷ items.plain
     (items.string_term (codes "x")) ∷ []) ≡ codes "k" ∷ [])
     × (items.keys_in items.a_table (items.plain
@@ -389,7 +390,7 @@ comma_examples : (t : Title) (around : List Frame) →
     })) a_comma ≡ None)
     × (next (inside (record {
       title = t;
-      frame = record { body = array_body; items = items.flagged (items.string_term []) ∷ [] };
+      frame = record { body = array_body; items = items.before_comma (items.string_term []) ∷ [] };
       around = around;
     })) a_comma ≡ None)
     × (next (inside (record {
@@ -399,7 +400,7 @@ comma_examples : (t : Title) (around : List Frame) →
     })) a_comma
     ≡ Some (inside (record {
       title = t;
-      frame = record { body = array_body; items = items.flagged (items.string_term []) ∷ [] };
+      frame = record { body = array_body; items = items.before_comma (items.string_term []) ∷ [] };
       around = around;
     })))
     × (next (inside (record {

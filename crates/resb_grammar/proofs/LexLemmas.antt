@@ -2,7 +2,7 @@
 use Rattle.std.proofs.Common.{◌≡◌, ℕ, Bool, List, refl, sym, ◌∙◌, ap, subst, Some}
 use Rattle.std.specs.Prelude.{slice_index}
 use Rattle.resb_grammar.specs.Ascii as ascii
-use Rattle.resb_grammar.specs.Types.{Kind}
+use Rattle.resb_grammar.specs.GroupTypes.{Kind}
 use Rattle.resb_grammar.specs.Machine.{Token, Means, a_text, a_number, opening, closing, a_comma}
 use Rattle.resb_grammar.specs.Machine.{a_type, a_root_type, Body, table_body, array_body}
 use Rattle.resb_grammar.specs.Machine.{untyped_body, Open, at_start, after_lone_comma, after_number}

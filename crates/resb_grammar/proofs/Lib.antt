@@ -1,4 +1,5 @@
-pub mod BytesLemmas
+-- For crates above: those that are `pub`.
+pub mod ByteRunsLemmas
 mod DistinctKeys
 pub mod Half
 pub mod Moves

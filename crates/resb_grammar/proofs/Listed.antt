@@ -17,7 +17,7 @@ use Rattle.resb_grammar.specs.Group.{Items, nothing, string_item, group_item, co
 use Rattle.resb_grammar.specs.Group.{typed_table, typed_array, typed_leaf, LeafContent}
 use Rattle.resb_grammar.specs.Group.{string_content, binary_content, integer_content}
 use Rattle.resb_grammar.specs.Group.{vector_content}
-use Rattle.resb_grammar.specs.Types.{Kind}
+use Rattle.resb_grammar.specs.GroupTypes.{Kind}
 use Rattle.resb_grammar.specs.BundleText.{BundleText, first_places}
 
 -- k is a term of the list
@@ -181,12 +181,12 @@ rest_pairs true b e = e
 rest_pairs false b e = absurd (false≢true e)
 
 last_pair : (k : List ℕ) (x y : Item) (before : List (List ℕ))
-    → is_entry x.term y.term x.flag y.flag ≡ true → Lists x.term
+    → is_entry x.term y.term x.comma y.comma ≡ true → Lists x.term
     → KeyOf k ((term_text y.term, term_tree x.term) ∷ [])
     → In k ((before ++ term_keys y.term) ++ term_keys x.term)
 last_pair k x y before h l (inl (inl e)) =
     in_left k _ (term_keys x.term)
-    (in_right k before _ (key_listed k x.term y.term x.flag y.flag h e))
+    (in_right k before _ (key_listed k x.term y.term x.comma y.comma h e))
 last_pair k x y before h l (inl (inr e)) =
     in_right k _ (term_keys x.term) (term_lists k x.term l e)
 last_pair k x y before h l (inr e) = absurd e
@@ -227,7 +227,7 @@ one_listed k (group_term t ks) f xs l e = array_listed k xs l e
 shape_listed : (k : List ℕ) (xs : List Item) → AllList xs
     → is_key k (tree_in (shape_of xs) xs) ≡ true → In k (keys_in (shape_of xs) xs)
 shape_listed k [] l e = table_listed k [] refl l e
-shape_listed k (x ∷ []) l e = one_listed k x.term x.flag (x ∷ []) l e
+shape_listed k (x ∷ []) l e = one_listed k x.term x.comma (x ∷ []) l e
 shape_listed k (x ∷ y ∷ xs) l e = if_listed k (is_pairs (x ∷ y ∷ xs)) (x ∷ y ∷ xs) (λ w. w) l e
 
 leaf_listed : (text : List ℕ) (from to : ℕ) (kind : Kind) (t : Tree)

@@ -5,9 +5,9 @@ use Rattle.std.specs.Prelude.{◌||◌, ◌==◌, cond, slice_index}
 use Rattle.std.proofs.lemmas.Bool.{false≢true}
 use Rattle.std.proofs.lemmas.Bool.Decides.{nat_tests}
 use Rattle.resb_grammar.specs.Ascii as ascii
-use Rattle.resb_grammar.specs.Bytes.{is_word, is_digit, is_number_start}
+use Rattle.resb_grammar.specs.ByteRuns.{is_word, is_digit, is_number_start}
 use Rattle.resb_grammar.specs.Tokens.{Skip, Text, quoted, unquoted, Number, unsigned, plus, minus}
-use Rattle.resb_grammar.specs.Types.{RootType, table_type, no_fallback_type}
+use Rattle.resb_grammar.specs.GroupTypes.{RootType, table_type, no_fallback_type}
 use Rattle.resb_grammar.specs.Machine.{Token, Means, State, start, next, Move, begun, went, At}
 use Rattle.resb_grammar.proofs.Lex.{Mode, neither, numbers, root_types, mode, Class}
 use Rattle.resb_grammar.proofs.Lex.{text_class, number_class, open_class, close_class}

@@ -7,9 +7,9 @@ use Rattle.resb_grammar.specs.Ascii as ascii
 use Rattle.resb_tree.specs.Tree.{Tree, binary, int_vector}
 use Rattle.resb_grammar.specs.Tokens.{Skip, Text, Number}
 use Rattle.resb_grammar.specs.Items as items
-use Rattle.resb_grammar.specs.Items.{Item, Term, flagged, is_pairs, a_table, tree_in, keys_in}
-use Rattle.resb_grammar.specs.Types.{Kind, string_kind, array_kind, table_kind, binary_kind}
-use Rattle.resb_grammar.specs.Types.{integer_kind, vector_kind, GroupType, Head, RootType}
+use Rattle.resb_grammar.specs.Items.{Item, Term, before_comma, is_pairs, a_table, tree_in, keys_in}
+use Rattle.resb_grammar.specs.GroupTypes.{Kind, string_kind, array_kind, table_kind, binary_kind}
+use Rattle.resb_grammar.specs.GroupTypes.{integer_kind, vector_kind, GroupType, Head, RootType}
 use Rattle.resb_grammar.specs.Group.{hex_bytes, Numbers, first_number, next_number, Vector, empty}
 use Rattle.resb_grammar.specs.Group.{lone_comma, numbers, numbers_comma, LeafContent}
 use Rattle.resb_grammar.specs.Group.{string_content, binary_content, integer_content}
@@ -23,8 +23,8 @@ use Rattle.resb_grammar.specs.Machine.{Frame, Title, Open, VectorStage, at_start
 use Rattle.resb_grammar.specs.Machine.{after_number, after_comma, State, start, named, titled}
 use Rattle.resb_grammar.specs.Machine.{inside, typed, in_string, in_binary, in_integer, filled}
 use Rattle.resb_grammar.specs.Machine.{in_vector, finished, is_key_place, when, unless, leave}
-use Rattle.resb_grammar.specs.Machine.{closed, with_term, within, begun_as, next_in_vector}
-use Rattle.resb_grammar.specs.Machine.{in_body, next, Move, Step, Path, begun, went, At}
+use Rattle.resb_grammar.specs.Machine.{with_term, within, begun_as, next_in_vector}
+use Rattle.resb_grammar.specs.Machine.{in_body, next, Step, Path, begun, went, At}
 use Rattle.resb_grammar.specs.Inner.Half.{half}
 use Rattle.resb_grammar.proofs.Half.{pairs-half, group-half}
 use Rattle.resb_grammar.specs.Token.{Means}
@@ -199,9 +199,6 @@ module _ (text : List ℕ) where
       add_group title q ends to outer.body outer.items around _ _ below may
       (group_made body q first at ends xs begins inner h k b is) skip
 
-  not_table : (body : Body) (A : Type 0) → (body ≡ table_body → ⊥) → body ≡ table_body → A
-  not_table body A h e = absurd (h e)
-
   array_no : array_body ≡ table_body → ⊥
   array_no e = cc
 
@@ -238,16 +235,16 @@ module _ (text : List ℕ) where
   list_may array_body xs h = tt
   list_may untyped_body xs h = tt
 
-  flag_suits : (body : Body) (xs : List Item) → (body ≡ table_body → ⊥) → Suits body xs
-  flag_suits table_body xs h = absurd (h refl)
-  flag_suits array_body xs h = tt
-  flag_suits untyped_body xs h = tt
+  comma_suits : (body : Body) (xs : List Item) → (body ≡ table_body → ⊥) → Suits body xs
+  comma_suits table_body xs h = absurd (h refl)
+  comma_suits array_body xs h = tt
+  comma_suits untyped_body xs h = tt
 
   add_comma : (title : Title) (body : Body) (m : Term) (xs : List Item) (around : List Frame)
       (from to : ℕ)
       → (body ≡ table_body → ⊥) → Spelled title from body (items.plain m ∷ xs) around
       → slice_index text from ≡ ascii.comma → Skip text (from + 1) to
-      → Spelled title to body (flagged m ∷ xs) around
+      → Spelled title to body (before_comma m ∷ xs) around
   add_comma title body m xs [] from to other (first, e, header, inner, h) b skip = absurd (other e)
   add_comma title body m xs (outer ∷ around) from to other
       (q, first, below, may, begins, inner, h) b skip = (
@@ -257,15 +254,15 @@ module _ (text : List ℕ) where
         may,
         begins,
         comma first from to xs m inner b skip,
-        flag_suits body (flagged m ∷ xs) other,
+        comma_suits body (before_comma m ∷ xs) other,
       )
 
   comma_good : (title : Title) (body : Body) (m : Term) (f : Bool) (xs : List Item)
       (around : List Frame) (from to : ℕ)
       → (body ≡ table_body → ⊥)
-      → Spelled title from body (record { term = m; flag = f } ∷ xs) around
+      → Spelled title from body (record { term = m; comma = f } ∷ xs) around
       → slice_index text from ≡ ascii.comma → Skip text (from + 1) to
-      → GoodNext (unless f (inside (open_at title body (flagged m ∷ xs) around))) to
+      → GoodNext (unless f (inside (open_at title body (before_comma m ∷ xs) around))) to
   comma_good title body m true xs around from to other good b skip = tt
   comma_good title body m false xs around from to other good b skip =
       add_comma title body m xs around from to other good b skip
@@ -295,7 +292,7 @@ module _ (text : List ℕ) where
       (from, ends, good, list_may body xs other, m, skip)
   list_next title body [] around from ends to a_comma other good m skip = tt
   list_next title body (x ∷ xs) around from ends to a_comma other good m skip =
-      comma_good title body x.term x.flag xs around from to other good m.0
+      comma_good title body x.term x.comma xs around from to other good m.0
       (after_one from ends to m.1 skip)
   list_next title body xs around from ends to (a_number v) other good m skip = tt
   list_next title body xs around from ends to (a_root_type fallback) other good m skip = tt

@@ -7,13 +7,13 @@ use Rattle.std.specs.Cmp.Lexicographic.{pointwise}
 use Rattle.std.proofs.lemmas.Bool.{cases_lt, false≢true}
 use Rattle.std.proofs.lemmas.Bool.Decides.{nat_tests}
 use Rattle.resb_grammar.specs.Ascii as ascii
-use Rattle.resb_grammar.specs.Bytes.{is_word, is_white, is_digit, Run, FirstQuote}
+use Rattle.resb_grammar.specs.ByteRuns.{is_word, is_white, is_digit, Run, FirstQuote}
 use Rattle.resb_grammar.specs.Tokens.{EndsLine, LineRest, FirstCloser, Comment, line, block, Blanks}
 use Rattle.resb_grammar.specs.Tokens.{none, white, comment, IsSolid, Skip, Text, quoted, unquoted}
 use Rattle.resb_grammar.specs.Tokens.{digits_value, Digits, negated, Number, unsigned, plus, minus}
-use Rattle.resb_grammar.specs.Types.{Kind, string_kind, array_kind, table_kind, binary_kind}
-use Rattle.resb_grammar.specs.Types.{integer_kind, vector_kind, Names, TypeName, GroupType}
-use Rattle.resb_grammar.specs.Types.{NoFallback, RootType, table_type, no_fallback_type}
+use Rattle.resb_grammar.specs.GroupTypes.{Kind, string_kind, array_kind, table_kind, binary_kind}
+use Rattle.resb_grammar.specs.GroupTypes.{integer_kind, vector_kind, Names, TypeName, GroupType}
+use Rattle.resb_grammar.specs.GroupTypes.{NoFallback, RootType, table_type, no_fallback_type}
 use Rattle.resb_grammar.specs.Machine.{Token, a_text, a_number, a_type, a_root_type, State, next}
 use Rattle.resb_grammar.specs.Machine.{Move, Step, Path, begun, went}
 use Rattle.resb_grammar.proofs.Lex.{Class, text_class, number_class, open_class, close_class}
@@ -21,7 +21,7 @@ use Rattle.resb_grammar.proofs.Lex.{comma_class, type_class, root_type_class, no
 use Rattle.resb_grammar.proofs.Lex.{class_in, Lex, mode}
 use Rattle.resb_grammar.specs.Stuck.{NoToken}
 use Rattle.resb_grammar.proofs.LexLemmas.{lex_of}
-use Rattle.resb_grammar.proofs.BytesLemmas.{Run-one}
+use Rattle.resb_grammar.proofs.ByteRunsLemmas.{Run-one}
 
 -- two places are equal if neither is below the other
 meet : (a b : ℕ) → (a < b → ⊥) → (b < a → ⊥) → a ≡ b

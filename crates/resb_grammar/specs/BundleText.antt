@@ -6,7 +6,7 @@ use Rattle.resb_grammar.specs.Ascii as ascii
 use Rattle.resb_tree.specs.Tree.{Tree}
 use Rattle.resb_grammar.specs.Tokens.{Skip, Text}
 use Rattle.resb_grammar.specs.Items.{Item, is_pairs, a_table, tree_in, keys_in}
-use Rattle.resb_grammar.specs.Types.{RootType}
+use Rattle.resb_grammar.specs.GroupTypes.{RootType}
 use Rattle.resb_grammar.specs.Group.{Items}
 
 -- the keys in order, each at its first place alone
@@ -33,7 +33,7 @@ pub record Header (text name : List ℕ) (fallback : Bool) (to : ℕ) : Type 0 w
   pub opens : slice_index text brace ≡ ascii.left_brace
   pub after : Skip text (brace + 1) to
 
--- the text is a bundle of this name, flag and tree, with these keys discovered
+-- the text is a bundle of this name, fallback and tree, with these keys discovered
 pub record BundleText (text name : List ℕ) (fallback : Bool) (tree : Tree)
     (keys : List (List ℕ)) : Type 0 where
   pub first : ℕ

@@ -5,10 +5,10 @@ use Rattle.std.specs.Option.{option_map}
 use Rattle.resb_grammar.specs.Ascii as ascii
 use Rattle.resb_tree.specs.Tree.{Tree, string, binary, integer, int_vector}
 use Rattle.resb_grammar.specs.Tokens.{Skip, Text, Number}
-use Rattle.resb_grammar.specs.Items.{Term, string_term, group_term, Item, plain, flagged}
+use Rattle.resb_grammar.specs.Items.{Term, string_term, group_term, Item, plain, before_comma}
 use Rattle.resb_grammar.specs.Items.{is_pairs, a_table, an_array, shape_of, tree_in, keys_in}
-use Rattle.resb_grammar.specs.Types.{Kind, string_kind, array_kind, table_kind, binary_kind}
-use Rattle.resb_grammar.specs.Types.{integer_kind, vector_kind, Head}
+use Rattle.resb_grammar.specs.GroupTypes.{Kind, string_kind, array_kind, table_kind, binary_kind}
+use Rattle.resb_grammar.specs.GroupTypes.{integer_kind, vector_kind, Head}
 
 -- the bytes from one byte to another
 abbrev pub is_between : ℕ → ℕ → ℕ → Bool
@@ -77,7 +77,7 @@ mutual
         → Items text from to (plain (group_term t ks) ∷ xs)
     comma : (from i to : ℕ) (xs : List Item) (m : Term) → Items text from i (plain m ∷ xs)
         → slice_index text i ≡ ascii.comma → Skip text (i + 1) to
-        → Items text from to (flagged m ∷ xs)
+        → Items text from to (before_comma m ∷ xs)
 
   -- a group with its tree, and the keys of its tables in order of place
   pub data Group (text : List ℕ) : ℕ → ℕ → Tree → List (List ℕ) → Type 0 where

@@ -10,7 +10,7 @@ use Rattle.resb_grammar.specs.Machine.{At, finished}
 use Rattle.resb_grammar.specs.Stuck.{Stuck}
 use Rattle.resb_grammar.specs.declared.expected.Expected.{Expected}
 
--- a text has at most one name, flag, tree and list of keys
+-- a text has at most one name, fallback, tree and list of keys
 abbrev pub OneBundleText : Type 0
 OneBundleText =
     (text name other : List ℕ) (fallback enabled : Bool) (tree root : Tree)
@@ -19,8 +19,8 @@ OneBundleText =
     → (name ≡ other) × (fallback ≡ enabled) × (tree ≡ root) × (keys ≡ ks)
 
 -- a reading that gets stuck does so at one place, where one thing is expected
-abbrev pub OneRefusal : Type 0
-OneRefusal =
+abbrev pub StuckInOneWay : Type 0
+StuckInOneWay =
     (text : List ℕ) (at place : ℕ) (x y : Expected) → Stuck text at x → Stuck text place y
     → (at ≡ place) × (x ≡ y)
 

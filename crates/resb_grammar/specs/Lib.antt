@@ -1,10 +1,10 @@
 -- The grammar of the text form, its readings, and what the laws say of both. `Inner` has words that
 -- only proofs use.
 pub mod Ascii
-pub mod Bytes
+pub mod ByteRuns
 pub mod Tokens
 pub mod Items
-pub mod Types
+pub mod GroupTypes
 pub mod Group
 pub mod BundleText
 pub mod Token

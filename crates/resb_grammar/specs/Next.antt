@@ -3,10 +3,10 @@ use Rattle.std.specs.Prelude.{ℕ, ◌%◌, ◌^◌, Bool, true, false, List, []
 use Rattle.std.specs.Prelude.{None}
 use Rattle.std.specs.Option.{option_map}
 use Rattle.resb_tree.specs.Tree.{Tree, string, binary, integer, int_vector}
-use Rattle.resb_grammar.specs.Items.{Term, string_term, group_term, Item, plain, flagged}
+use Rattle.resb_grammar.specs.Items.{Term, string_term, group_term, Item, plain, before_comma}
 use Rattle.resb_grammar.specs.Items.{Shape, a_table, an_array, shape_of, tree_in, keys_in}
-use Rattle.resb_grammar.specs.Types.{Kind, string_kind, array_kind, table_kind, binary_kind}
-use Rattle.resb_grammar.specs.Types.{integer_kind, vector_kind}
+use Rattle.resb_grammar.specs.GroupTypes.{Kind, string_kind, array_kind, table_kind, binary_kind}
+use Rattle.resb_grammar.specs.GroupTypes.{integer_kind, vector_kind}
 use Rattle.resb_grammar.specs.Group.{hex_bytes}
 use Rattle.resb_grammar.specs.Token.{Token, a_text, a_number, opening, closing, a_comma, a_type}
 use Rattle.resb_grammar.specs.Token.{a_root_type}
@@ -74,9 +74,9 @@ unless false s = Some s
 abbrev pub with_comma : Open → List Item → Option State
 with_comma o [] = None
 with_comma o (x ∷ xs) =
-    unless x.flag (inside (record {
+    unless x.comma (inside (record {
       title = o.title;
-      frame = record { body = o.frame.body; items = flagged x.term ∷ xs };
+      frame = record { body = o.frame.body; items = before_comma x.term ∷ xs };
       around = o.around;
     }))
 

@@ -2,7 +2,7 @@
 use Rattle.std.specs.Prelude.{ℕ, Bool, List}
 use Rattle.resb_tree.specs.Tree.{Tree}
 use Rattle.resb_grammar.specs.Items.{Item}
-use Rattle.resb_grammar.specs.Types.{Kind}
+use Rattle.resb_grammar.specs.GroupTypes.{Kind}
 
 -- the body of a group that holds items
 pub data Body : Type 0 where

@@ -7,7 +7,7 @@ use Rattle.resb_grammar.specs.Machine.{Body, table_body, array_body, untyped_bod
 use Rattle.resb_grammar.specs.Machine.{VectorStage, at_start, after_comma, State, start, named}
 use Rattle.resb_grammar.specs.Machine.{titled, inside, typed, in_string, in_binary, in_integer}
 use Rattle.resb_grammar.specs.Machine.{filled, in_vector, finished, is_key_place, Move, At}
-use Rattle.resb_grammar.specs.Bytes.{is_number_start}
+use Rattle.resb_grammar.specs.ByteRuns.{is_number_start}
 use Rattle.resb_grammar.specs.declared.expected.Expected.{Expected}
 use Rattle.resb_grammar.specs.declared.expected.Expected.TheVariants as expect
 

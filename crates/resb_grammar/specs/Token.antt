@@ -2,7 +2,7 @@
 use Rattle.std.specs.Prelude.{◌≡◌, ℕ, ◌+◌, Bool, List, slice_index}
 use Rattle.resb_grammar.specs.Ascii as ascii
 use Rattle.resb_grammar.specs.Tokens.{Text, Number}
-use Rattle.resb_grammar.specs.Types.{Kind, GroupType, RootType}
+use Rattle.resb_grammar.specs.GroupTypes.{Kind, GroupType, RootType}
 
 pub data Token : Type 0 where
   a_text : List ℕ → Token

@@ -2,7 +2,7 @@
 use Rattle.std.specs.Prelude.{◌≡◌, ℕ, zero, suc, ◌+◌, ◌-◌, ◌*◌, ◌<◌, ◌≤◌, ◌⊎◌, true, false, ◌||◌}
 use Rattle.std.specs.Prelude.{◌==◌, List, length, slice_index, slice_range}
 use Rattle.resb_grammar.specs.Ascii as ascii
-use Rattle.resb_grammar.specs.Bytes.{is_white, is_word, is_digit, Run, FirstQuote}
+use Rattle.resb_grammar.specs.ByteRuns.{is_white, is_word, is_digit, Run, FirstQuote}
 
 -- a line ends here: at the text's end, at LF, or at CR LF
 abbrev pub EndsLine : List ℕ → ℕ → Type 0

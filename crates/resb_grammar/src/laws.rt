@@ -1,17 +1,17 @@
 //! Laws of the text form, each the contract of a function that does nothing.
 //! They speak of the definitions alone; what a reader answers is said where one stands.
-ghost use Rattle.resb_grammar.specs.Laws.{OneBundleText, OneRefusal, StuckIsNoBundle};
+ghost use Rattle.resb_grammar.specs.Laws.{OneBundleText, StuckInOneWay, StuckIsNoBundle};
 ghost use Rattle.resb_grammar.specs.Laws.{ReadToTheEndIsABundle, ABundleIsReadToTheEnd};
 ghost use Rattle.resb_grammar.specs.Laws.{KeysAreDistinct, KeysAreListed};
 
-/// A text has at most one name, flag, tree and list of keys.
+/// A text has at most one name, fallback, tree and list of keys.
 pub fn one_bundle_text()
     ensures { OneBundleText }
 {}
 
 /// A reading that gets stuck does so at one place, where one thing is expected.
 pub fn one_refusal()
-    ensures { OneRefusal }
+    ensures { StuckInOneWay }
 {}
 
 /// A text whose reading gets stuck is no bundle.

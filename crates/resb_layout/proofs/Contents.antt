@@ -1,9 +1,9 @@
 -- What stands at the word of a body: the members that it was closed with.
-use Rattle.std.proofs.Common.{zero, suc, ◌≡◌, ℕ, ◌+◌, ◌-◌, ◌*◌, ◌/◌, ◌%◌, ◌^◌, ◌<◌, ◌≤◌, List, []}
+use Rattle.std.proofs.Common.{zero, suc, ◌≡◌, ℕ, ◌+◌, ◌*◌, ◌/◌, ◌%◌, ◌^◌, ◌<◌, List, []}
 use Rattle.std.proofs.Common.{◌∷◌, ◌++◌, length, map, take, drop, Option, Some, None, option_map}
-use Rattle.std.proofs.Common.{option_and_then, Bool, true, false, cond, nat_le, nat_eq, ◌==◌, refl}
-use Rattle.std.proofs.Common.{sym, ◌∙◌, ap, subst, append_assoc, length-append, arith}
-use Rattle.std.specs.Prelude.{All, slice_get}
+use Rattle.std.proofs.Common.{option_and_then, true, false, cond, nat_le, ◌==◌, refl}
+use Rattle.std.proofs.Common.{sym, ◌∙◌, ap, append_assoc, length-append, arith}
+use Rattle.std.specs.Prelude.{slice_get}
 use Rattle.std.specs.Int.{to_le_bytes, w16, w32}
 use Rattle.std.specs.List.{zip}
 use Rattle.std.proofs.lemmas.Bool.{le-leb, ne_eqb}
@@ -12,7 +12,7 @@ use Rattle.std.proofs.lemmas.List.{take_at, drop_at}
 use Rattle.resb_tree.specs.Tree.{binary, integer, int_vector}
 use Rattle.resb_format.specs.Bytes.{units_of, words_of, part}
 use Rattle.resb_format.specs.Parts.{Parts}
-use Rattle.resb_format.specs.Content.{Member, word, unit, Content, leaf, list, pairs, counted}
+use Rattle.resb_format.specs.Content.{word, unit, leaf, list, pairs, counted}
 use Rattle.resb_format.specs.Content.{content, placed, empty, paired, words_at, offsets_at}
 use Rattle.resb_format.specs.Content.{binary_at, int_vector_at, array_at, array16_at, table_at}
 use Rattle.resb_format.specs.Content.{table16_at, table32_at}
@@ -22,7 +22,7 @@ use Rattle.resb_layout.specs.Laid.{to_data, to_word, pad, binary_body, words_bod
 use Rattle.resb_layout.specs.Laid.{wide_table_body}
 use Rattle.resb_layout.specs.Laws.{StandsIn}
 use Rattle.resb_layout.proofs.Numbers.{EachBelow, word_read, unit_read, words_read, halves_read}
-use Rattle.resb_layout.proofs.Numbers.{words_len, halves_len, words_behind, units_behind}
+use Rattle.resb_layout.proofs.Numbers.{halves_len, words_behind, units_behind}
 
 -- a part that stands between two others
 pub part_found : (xs front ys back : List ℕ) (at n : ℕ) → xs ≡ front ++ (ys ++ back)

@@ -1,7 +1,7 @@
 -- What is laid out is denoted: member by member, and then by the content of its own word.
 use Rattle.std.proofs.Common.{zero, suc, ◌≡◌, ℕ, ◌+◌, ◌-◌, ◌*◌, ◌/◌, ◌%◌, ◌^◌, ◌<◌, ◌≤◌, List, []}
-use Rattle.std.proofs.Common.{◌∷◌, ◌++◌, length, map, Option, Some, None, Bool, true, false, cond}
-use Rattle.std.proofs.Common.{◌==◌, option_map, ◌&&◌, nat_le, refl, sym, ◌∙◌, ap, subst, arith}
+use Rattle.std.proofs.Common.{◌∷◌, ◌++◌, length, map, Option, Some, true, false, cond}
+use Rattle.std.proofs.Common.{◌==◌, option_map, nat_le, refl, sym, ◌∙◌, ap, subst, arith}
 use Rattle.std.specs.Prelude.{All}
 use Rattle.std.specs.List.{zip, list_all}
 use Rattle.std.specs.List.Sorted.{IsStrictlySortedBy}
@@ -10,20 +10,21 @@ use Rattle.std.proofs.lemmas.Bool.{and_parts, leb-true, ne_eqb}
 use Rattle.std.proofs.lemmas.List.{length-map}
 use Rattle.resb_tree.specs.Tree.{Tree, string, array, table, binary, integer, int_vector, Trees}
 use Rattle.resb_tree.specs.Tree.{no_trees, more_trees, Entries, no_entries, entry, trees_of}
-use Rattle.resb_tree.specs.Tree.{entries_of, map_of, tree_count, trees_count, entries_count}
+use Rattle.resb_tree.specs.Tree.{map_of, tree_count, trees_count, entries_count}
 use Rattle.resb_tree.specs.Maps.{text_cmp, pairs_of}
 use Rattle.resb_tree.proofs.MapLemmas.{map_of-sorted, entries_of-pairs_of}
-use Rattle.resb_format.specs.Strings.{text_at, key_at}
+use Rattle.resb_format.specs.Strings.{key_at}
 use Rattle.resb_format.specs.Parts.{Parts}
-use Rattle.resb_format.specs.Content.{Member, word, unit, Content, leaf, list, pairs, content}
+use Rattle.resb_format.specs.Content.{Member, word, unit, leaf, list, pairs, content}
 use Rattle.resb_format.specs.Content.{placed, empty}
 use Rattle.resb_format.specs.Denotes.{Den, den_leaf, den_list, den_pairs, DenMember, den_word}
 use Rattle.resb_format.specs.Denotes.{den_unit, DenEach, each_none as none_denoted}
 use Rattle.resb_format.specs.Denotes.{each_more as more_denoted, DenPairs, pairs_none, pairs_more}
 use Rattle.resb_layout.specs.Laid.{Given, State, here, more_units, to_data, words_body, table_body}
-use Rattle.resb_layout.specs.Laid.{wide_table_body, is_short_string, are_short, are_near}
+use Rattle.resb_layout.specs.Laid.{wide_table_body, is_short_string}
 use Rattle.resb_layout.specs.Laid.{offsets_in, ClosesArray, short_array, long_array, ClosesTable}
-use Rattle.resb_layout.specs.Laid.{short_table, long_table, wide_table, keys_in, members_in}
+use Rattle.resb_layout.specs.Laid.{short_table, long_table, wide_table, members_in}
+use Rattle.resb_tree.specs.WalkOrder.{entry_keys}
 use Rattle.resb_layout.specs.Laid.{ArePlaced, Lays, lays_integer, lays_string, lays_no_bytes}
 use Rattle.resb_layout.specs.Laid.{lays_bytes, lays_no_numbers, lays_numbers, lays_no_items}
 use Rattle.resb_layout.specs.Laid.{lays_items, lays_no_entries, lays_entries, LaysEach, each_none}
@@ -139,14 +140,14 @@ module _ (p : Parts) (g : Given) (read : IsRead p g) where
 
   -- the texts of the keys at these positions
   keyed : (es : Entries) (ps : List ℕ) (ms : List Member) (n : ℕ)
-      → map g.position (keys_in es) ≡ map Some ps → DenEach p ms (list_of (members_in es)) n
+      → map g.position (entry_keys es) ≡ map Some ps → DenEach p ms (list_of (members_in es)) n
       → DenPairs p (zip ps ms) (pairs_of es) n
   keyed no_entries [] ms n e d = none_keyed ms n d
   keyed no_entries (q ∷ ps) ms n e d = absurd (let no : ⊥ = cc in no)
   keyed (entry k t es) [] ms n e d = absurd (let no : ⊥ = cc in no)
   keyed (entry k t es) (q ∷ ps) ms n e d =
       let first : g.position k ≡ Some q = cc in
-      let rest : map g.position (keys_in es) ≡ map Some ps = cc in
+      let rest : map g.position (entry_keys es) ≡ map Some ps = cc in
       behind (read.keys k q first) (λ ms j h. keyed es ps ms j rest h) ms n d
     where
       behind : key_at p.keys q ≡ Some k → ((ms : List Member) (j : ℕ)
@@ -164,7 +165,7 @@ none_placed : (g : Given) → ArePlaced g [] []
 unfolding IsStrictlySortedBy
 none_placed g = record { ascend = tt; positions = refl }
 
-members_many : (es : Entries) → length (keys_in es) ≡ length (list_of (members_in es))
+members_many : (es : Entries) → length (entry_keys es) ≡ length (list_of (members_in es))
 members_many no_entries = refl
 members_many (entry k t es) = ap suc (members_many es)
 
@@ -173,11 +174,11 @@ members_count no_entries = refl
 members_count (entry k t es) = ap (λ n. tree_count t + n) (members_count es)
 
 -- entries that ascend are their own map
-same_keys : (es : Entries) → keys_of (pairs_of es) ≡ keys_in es
+same_keys : (es : Entries) → keys_of (pairs_of es) ≡ entry_keys es
 same_keys no_entries = refl
 same_keys (entry k t es) = ap (λ ks. k ∷ ks) (same_keys es)
 
-own_map : (es : Entries) → IsStrictlySortedBy text_cmp (keys_in es) → map_of (pairs_of es) ≡ es
+own_map : (es : Entries) → IsStrictlySortedBy text_cmp (entry_keys es) → map_of (pairs_of es) ≡ es
 own_map es h =
     map_of-sorted (pairs_of es) (subst (IsStrictlySortedBy text_cmp) (sym (same_keys es)) h)
     ∙ entries_of-pairs_of es
@@ -199,7 +200,8 @@ module _ (p : Parts) (g : Given) (read : IsRead p g) where
       (subst (λ n. Den p w (array (trees_of (list_of ts))) n) (one_more (trees_count ts))
       (den_list e d))
 
-  as_table : (w : ℕ) (ps : List ℕ) (ms : List Member) (es : Entries) → ArePlaced g (keys_in es) ps
+  as_table : (w : ℕ) (ps : List ℕ) (ms : List Member) (es : Entries)
+      → ArePlaced g (entry_keys es) ps
       → content p w ≡ Some (pairs (zip ps ms))
       → DenEach p ms (list_of (members_in es)) (trees_count (members_in es))
       → Den p w (table es) (entries_count es + 1)
@@ -279,7 +281,7 @@ module _ (p : Parts) (g : Given) (read : IsRead p g) where
 
   table_denoted : (s : State) (es : Entries) (ps ws : List ℕ) (e : State) (w : ℕ)
       → 0 < length s.units → ClosesTable g s ps ws e w → StandsIn p g e
-      → ArePlaced g (keys_in es) ps → length ps ≡ length ws → EachBelow (2 ^ 32) ws
+      → ArePlaced g (entry_keys es) ps → length ps ≡ length ws → EachBelow (2 ^ 32) ws
       → (StandsIn p g s
       → DenEach p (map word ws) (list_of (members_in es)) (trees_count (members_in es)))
       → (list_all is_short_string ws ≡ true
@@ -330,7 +332,7 @@ module _ (p : Parts) (g : Given) (read : IsRead p g) where
         as_table 0x2000_0000 [] [] no_entries (none_placed g) no_pairs none_denoted
     denoted {e = e'} u (lays_entries {s = s'} {mid = m'} {es = es'} {ws = ws'} {w =
         w'} ps q h some c) i =
-        let same : length ps ≡ length ws' = sym (positions_many g (keys_in es') ps q.positions)
+        let same : length ps ≡ length ws' = sym (positions_many g (entry_keys es') ps q.positions)
         ∙ members_many es' ∙ sym (words_many h) in
         table_denoted m' es' ps ws' e' w' (units_stay (grows_each h) u) c i q same (words_small h)
         (λ k. denoted_each u h k) (λ k. short_each p g read h k)

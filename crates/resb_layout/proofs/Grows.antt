@@ -1,5 +1,5 @@
 -- What is laid out is appended, so what stands after it holds what stood before.
-use Rattle.std.proofs.Common.{ℕ, List, [], ◌∷◌, ◌++◌, ◌≡◌, ◌<◌, ◌≤◌, ◌+◌, length, refl, sym, ◌∙◌}
+use Rattle.std.proofs.Common.{ℕ, List, [], ◌++◌, ◌≡◌, ◌<◌, length, refl, sym, ◌∙◌}
 use Rattle.std.proofs.Common.{ap, append_assoc, append-nil, length-append, arith}
 use Rattle.resb_tree.specs.Tree.{Tree, Trees}
 use Rattle.resb_format.specs.Parts.{Parts}

@@ -1,7 +1,7 @@
--- For crates above: all of them.
+-- For crates above: those that are `pub`.
 pub mod Once
 pub mod Grows
 pub mod Numbers
-pub mod Contents
+mod Contents
 pub mod Denoted
 pub mod Paid

@@ -1,11 +1,11 @@
 -- A tree is laid out in one way.
-use Rattle.std.proofs.Common.{ℕ, List, [], ◌∷◌, ◌++◌, map, Some, Option, Bool, true, false, length}
+use Rattle.std.proofs.Common.{ℕ, List, [], ◌∷◌, map, Some, Bool, true, false, length}
 use Rattle.std.proofs.Common.{◌≡◌, ◌<◌, ◌+◌, ◌*◌, refl, sym, ◌∙◌, ap, subst, arith}
-use Rattle.resb_tree.specs.Tree.{Tree, Trees, Entries, no_trees, more_trees, no_entries, entry}
-use Rattle.resb_layout.specs.Laid.{Given, State, here, more_units, more_bytes, offsets_in}
-use Rattle.resb_layout.specs.Laid.{words_body, table_body, wide_table_body, binary_body, to_data}
+use Rattle.resb_tree.specs.Tree.{Tree, Trees, no_trees}
+use Rattle.resb_layout.specs.Laid.{Given, State, here}
+use Rattle.resb_layout.specs.Laid.{to_data}
 use Rattle.resb_layout.specs.Laid.{ClosesArray, short_array, long_array, ClosesTable, short_table}
-use Rattle.resb_layout.specs.Laid.{long_table, wide_table, ArePlaced, members_in, Lays}
+use Rattle.resb_layout.specs.Laid.{long_table, wide_table, Lays}
 use Rattle.resb_layout.specs.Laid.{lays_integer, lays_string, lays_no_bytes, lays_bytes}
 use Rattle.resb_layout.specs.Laid.{lays_no_numbers, lays_numbers, lays_no_items, lays_items}
 use Rattle.resb_layout.specs.Laid.{lays_no_entries, lays_entries, LaysEach, each_none, each_more}
@@ -21,17 +21,17 @@ same_somes (p ∷ ps) (q ∷ qs) e =
     let r = same_somes ps qs t in
     cc
 
-some_none : {g : Given} {s mid : State} {ws : List ℕ} → LaysEach g s no_trees mid ws
+pub none_inside : {g : Given} {s mid : State} {ws : List ℕ} → LaysEach g s no_trees mid ws
     → 0 < length ws → ⊥
-some_none each_none h = omega (arith, h)
+none_inside each_none h = omega (arith, h)
 
-nothing : {n : ℕ} → 0 < n → n ≡ 0 → ⊥
+pub nothing : {n : ℕ} → 0 < n → n ≡ 0 → ⊥
 nothing h e = omega (arith, h, e)
 
 same_at : (n at at' : ℕ) → n ≡ 4 * at → n ≡ 4 * at' → at ≡ at'
 same_at n at at' a b = omega (arith, a, b)
 
-not_both : {A : Type 0} (b : Bool) → b ≡ true → b ≡ false → A
+pub not_both : {A : Type 0} (b : Bool) → b ≡ true → b ≡ false → A
 not_both b t f = cc
 
 once_array : {g : Given} {s : State} {ws : List ℕ} {a b : State} {v w : ℕ} → ClosesArray g s ws a v
@@ -73,16 +73,16 @@ mutual
   once {g = g} {s = s} (lays_numbers at some n a e l) (lays_numbers at2 some2 n2 a2 f l2) =
       (refl, ap (λ i. 0xe000_0000 + i) (same_at (here g s) at at2 e f))
   once lays_no_items lays_no_items = (refl, refl)
-  once lays_no_items (lays_items k some c) = absurd (some_none k some)
-  once (lays_items k some c) lays_no_items = absurd (some_none k some)
+  once lays_no_items (lays_items k some c) = absurd (none_inside k some)
+  once (lays_items k some c) lays_no_items = absurd (none_inside k some)
   once {g = g} {b = b'} {w = w'} (lays_items {mid = m1} {ws = w1} h some c) (lays_items {mid =
       m2} {ws = w2} k some2 d) =
       let r = once_each h k in
       once_array c (subst (λ m. ClosesArray g m w1 b' w') (sym r.0)
       (subst (λ ws. ClosesArray g m2 ws b' w') (sym r.1) d))
   once lays_no_entries lays_no_entries = (refl, refl)
-  once lays_no_entries (lays_entries ps p k some c) = absurd (some_none k some)
-  once (lays_entries ps p k some c) lays_no_entries = absurd (some_none k some)
+  once lays_no_entries (lays_entries ps p k some c) = absurd (none_inside k some)
+  once (lays_entries ps p k some c) lays_no_entries = absurd (none_inside k some)
   once {g = g} {b = b'} {w = w'} (lays_entries {mid = m1} {ws =
       w1} ps p h some c) (lays_entries {mid = m2} {ws = w2} qs q k some2 d) =
       let r = once_each h k in

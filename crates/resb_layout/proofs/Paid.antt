@@ -1,18 +1,18 @@
 -- Each resource of a laid tree but the root takes a unit or a word of its collection's body.
-use Rattle.std.proofs.Common.{zero, suc, ◌≡◌, ℕ, ◌+◌, ◌-◌, ◌*◌, ◌≤◌, List, [], ◌∷◌, ◌++◌, length}
-use Rattle.std.proofs.Common.{map, refl, sym, ◌∙◌, ap, subst, length-append, arith}
+use Rattle.std.proofs.Common.{◌≡◌, ℕ, ◌+◌, ◌-◌, ◌*◌, ◌≤◌, List, ◌∷◌, ◌++◌, length}
+use Rattle.std.proofs.Common.{length-append, arith}
 use Rattle.std.specs.Int.{to_le_bytes, w16, w32}
 use Rattle.std.proofs.lemmas.List.{length-map}
-use Rattle.resb_tree.specs.Tree.{Tree, Trees, Entries, tree_count, trees_count, entries_count}
+use Rattle.resb_tree.specs.Tree.{Tree, Trees, tree_count, trees_count}
 use Rattle.resb_layout.specs.Laid.{Given, State, more_units, more_bytes, here, words, halves, pad}
 use Rattle.resb_layout.specs.Laid.{offsets_in, words_body, table_body, wide_table_body, binary_body}
-use Rattle.resb_layout.specs.Laid.{members_in, ClosesArray, short_array, long_array, ClosesTable}
+use Rattle.resb_layout.specs.Laid.{ClosesArray, short_array, long_array, ClosesTable}
 use Rattle.resb_layout.specs.Laid.{short_table, long_table, wide_table, Lays, lays_integer}
 use Rattle.resb_layout.specs.Laid.{lays_string, lays_no_bytes, lays_bytes, lays_no_numbers}
 use Rattle.resb_layout.specs.Laid.{lays_numbers, lays_no_items, lays_items, lays_no_entries}
 use Rattle.resb_layout.specs.Laid.{lays_entries, LaysEach, each_none, each_more}
 use Rattle.resb_layout.specs.Laws.{taken, LaidIsPaid}
-use Rattle.resb_layout.proofs.Numbers.{words_len, halves_len}
+use Rattle.resb_layout.proofs.Numbers.{words_len}
 use Rattle.resb_layout.proofs.Denoted.{members_count}
 
 bytes_taken : (s : State) (bs : List ℕ) → taken (more_bytes s bs) ≡ taken s + length bs

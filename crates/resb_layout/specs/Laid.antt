@@ -4,7 +4,7 @@
 --     Lays g before t after w         from where before stands, the tree t takes what after has
 --                                     more, and its word is w
 --     LaysEach g before ts after ws   the same of trees in a row
-use Rattle.std.specs.Prelude.{◌≡◌, ℕ, ◌+◌, ◌-◌, ◌*◌, ◌^◌, ◌<◌, ◌≤◌, ◌%◌, List, [], ◌∷◌, ◌++◌}
+use Rattle.std.specs.Prelude.{◌≡◌, ℕ, ◌+◌, ◌-◌, ◌*◌, ◌^◌, ◌<◌, ◌%◌, List, [], ◌∷◌, ◌++◌}
 use Rattle.std.specs.Prelude.{length, map, replicate, All, Option, Some, Bool, true, false, ◌&&◌}
 use Rattle.std.specs.Prelude.{nat_le, nat_eq, if◌then◌else◌}
 use Rattle.std.specs.List.{flat_map, list_all}
@@ -13,6 +13,7 @@ use Rattle.std.specs.Int.{to_le_bytes, w16, w32}
 use Rattle.resb_tree.specs.Tree.{Tree, string, array, table, binary, integer, int_vector, Trees}
 use Rattle.resb_tree.specs.Tree.{no_trees, more_trees, Entries, no_entries, entry}
 use Rattle.resb_tree.specs.Maps.{text_cmp}
+use Rattle.resb_tree.specs.WalkOrder.{entry_keys}
 
 -- Positions of keys are in bytes of the body, offsets of strings in units of the 16-bit block. The
 -- tail begins so many bytes into the body.
@@ -110,10 +111,6 @@ pub data ClosesTable (g : Given) (s : State) (ps ws : List ℕ) : State → ℕ 
       → length ps < 2 ^ 32 → All (λ p. p < 2 ^ 32) ps
       → ClosesTable g s ps ws (more_bytes s (wide_table_body ps ws)) (0x4000_0000 + at)
 
-abbrev pub keys_in : Entries → List (List ℕ)
-keys_in no_entries = []
-keys_in (entry k t es) = k ∷ keys_in es
-
 abbrev pub members_in : Entries → Trees
 members_in no_entries = no_trees
 members_in (entry k t es) = more_trees t (members_in es)
@@ -142,7 +139,7 @@ mutual
         → 0 < length ws → ClosesArray g mid ws end w → Lays g s (array ts) end w
     lays_no_entries : {s : State} → Lays g s (table no_entries) s 0x2000_0000
     lays_entries : {s mid end : State} {es : Entries} {ws : List ℕ} {w : ℕ} (ps : List ℕ)
-        → ArePlaced g (keys_in es) ps → LaysEach g s (members_in es) mid ws → 0 < length ws
+        → ArePlaced g (entry_keys es) ps → LaysEach g s (members_in es) mid ws → 0 < length ws
         → ClosesTable g mid ps ws end w → Lays g s (table es) end w
 
   pub data LaysEach (g : Given) : State → Trees → State → List ℕ → Type 0 where

@@ -86,15 +86,6 @@ pub record IsBest (ns : List Node) (from at : ℕ) : Type 0 where
       → Extends (path ns k) (path ns at) ⊎ ((u : List ℕ) → Extends u (path ns at)
       → Before (path ns k) u)
 
-pub best_start : (ns : List Node) (from : ℕ) → from < length ns → 0 < from → IsBest ns from from
-best_start ns from l p = record {
-  within = l;
-  pos = p;
-  below = ext_refl (path ns from);
-  best =
-      λ k r h. inl h;
-}
-
 module _ (ns : List Node) (from at : ℕ) (t : IsTrie ns) (b : IsBest ns from at) where
   -- nothing goes on from a node without children
   bare_end : ((c : ℕ) → child ns at c ≡ None) → (m : ℕ) → m < length ns

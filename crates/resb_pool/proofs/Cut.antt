@@ -8,9 +8,18 @@ use Rattle.std.proofs.Math.Seq.{take-append_seam, drop-append_seam}
 use Rattle.std.proofs.lemmas.Str.{chars-nil, IsUtf8-encode, IsUtf8-append, IsUtf8-nil}
 use Rattle.std.proofs.lemmas.Str.{encodes-chars, encodes-append, chars-append, chars-encodes}
 use Rattle.std.proofs.lemmas.List.{reverse-append, reverse-reverse}
-use Rattle.resb_pool.proofs.Reading.{front_utf8}
 use Rattle.resb_pool.specs.Inner.Extends.{Extends}
 use Rattle.resb_pool.specs.Inner.Cuts.{key, IsCut}
+use Rattle.std.proofs.Math.Seq.{take-append_seam}
+use Rattle.std.proofs.lemmas.Str.{IsCharBoundary-at_seam, IsUtf8-take}
+
+-- what stands before a text's tail is a text
+pub front_utf8 : (t xs ys : List ℕ) → t ≡ xs ++ ys → IsUtf8 t → IsUtf8 ys → IsUtf8 xs
+front_utf8 t xs ys e u v =
+    let w : IsUtf8 (take (length xs) t) =
+    IsUtf8-take t (length xs) u (IsCharBoundary-at_seam t xs ys e v) in
+    let f : take (length xs) t ≡ xs = rw e (take-append_seam xs ys) in
+    subst IsUtf8 f w
 
 -- the whole text is the front
 pub cut_whole : (t x : List ℕ) → IsUtf8 t → x ≡ t → IsCut t x []

@@ -1,6 +1,6 @@
 -- A copy of a text more: the distinct texts and their measures.
 use Rattle.std.proofs.Common.{◌≡◌, ℕ, zero, suc, ◌+◌, ◌<◌, ◌^◌, List, [], ◌∷◌, ◌++◌, length, get_or}
-use Rattle.std.proofs.Common.{Bool, Bor, true, false, cond, not, ◌||◌, Some, None, inl, inr, ◌↔◌}
+use Rattle.std.proofs.Common.{◌||◌, Bool, Bor, true, false, cond, not, Some, None, inl, inr, ◌↔◌}
 use Rattle.std.proofs.Common.{refl, sym, ◌∙◌, ap, subst, arith, true≢false, get_or-set_other}
 use Rattle.std.proofs.Common.{get_or-set_same}
 use Rattle.std.specs.Prelude.{slice_set, slice_get}
@@ -10,7 +10,7 @@ use Rattle.std.specs.Cmp.Lexicographic.{bytes_decides}
 use Rattle.std.proofs.lemmas.Bool.{cases_eq, or_parts}
 use Rattle.std.proofs.lemmas.List.{get_or_append_left, get_or_push, length-set, length_push}
 use Rattle.std.proofs.lemmas.List.{map_push, get_or-map}
-use Rattle.std.proofs.lemmas.List.Elements.{All-nil, All-push, Contains-append_left, Contains-push}
+use Rattle.std.proofs.lemmas.List.Elements.{All-push, Contains-append_left, Contains-push}
 use Rattle.std.proofs.lemmas.List.Elements.{Contains-push_cases}
 use Rattle.indexmap.specs.IndexSet.{insert_key}
 use Rattle.resb_format.specs.Units.{units, size}
@@ -226,13 +226,3 @@ module _ (D : Texts) (ks new : List Key) (t : Key) (ms : List Measure) (h : AreT
           ∙ map_push (λ (y : Key). y.now) ks t))
           (ready_new D (nows ks) ms h t.now u (any_none ks t.now g) m p q z)
       by true g = absurd (true≢false (sym f ∙ is ∙ ap not g))
-
-pub texts_none : (ks : List Key) (ms : List Measure) → ks ≡ [] → ms ≡ [] → AreTexts [] (nows ks) ms
-texts_none ks ms e f = subst (λ (z : List Key). AreTexts [] (nows z) ms) (sym e)
-    (subst (AreTexts [] []) (sym f) (record {
-      utf8 = All-nil IsUtf8;
-      once = tt;
-      same = λ s. (λ x. absurd (omega (arith, x.1)), λ x. absurd (omega (arith, x.1)));
-      len = refl;
-      measured = λ i d l. absurd (omega (arith, l));
-    }))

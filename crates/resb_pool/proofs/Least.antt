@@ -1,7 +1,7 @@
 -- No layout costs less than the records.
 use Rattle.std.proofs.Common.{◌≡◌, ℕ, zero, suc, ◌+◌, ◌≤◌, List, [], ◌∷◌, ◌++◌, length, Bool, true}
-use Rattle.std.proofs.Common.{false, cond, ◌⊎◌, inl, inr, refl, sym, ◌∙◌, ap, subst, append_assoc}
-use Rattle.std.proofs.Common.{length-append, take, arith}
+use Rattle.std.proofs.Common.{false, cond, ◌⊎◌, inl, inr, refl, sym, ◌∙◌, ap, subst}
+use Rattle.std.proofs.Common.{length-append, arith}
 use Rattle.std.specs.List.{All, Contains, sum_by, remove, flat_map}
 use Rattle.std.specs.List.Sorted.{IsPermutation}
 use Rattle.std.specs.Str.{chars, IsUtf8}
@@ -9,10 +9,11 @@ use Rattle.std.specs.Char.Escape.{encode_utf16}
 use Rattle.std.proofs.lemmas.List.Sorted.{IsPermutation-remove, Contains-permutation, sum_by_popped}
 use Rattle.std.proofs.lemmas.List.Sums.{sum_by-cons}
 use Rattle.std.proofs.lemmas.List.Elements.{All-contains}
-use Rattle.std.proofs.Math.Seq.{take-append_seam}
-use Rattle.std.proofs.lemmas.Str.{IsCharBoundary-at_seam, IsUtf8-take, chars-append}
+use Rattle.std.proofs.lemmas.Str.{chars-append}
 use Rattle.resb_format.specs.Units.{units, is_unmarked, marker, size, length_marker}
 use Rattle.resb_pool.specs.Records.{EndsWith, IsDistinct, IsRecord, IsRecords, IsHeldBy, IsLayout}
+use Rattle.std.proofs.lemmas.Grind.{flat_map-append}
+use Rattle.resb_pool.proofs.Cut.{front_utf8}
 
 -- one of a list with x in front
 cons_cases : (x : List ℕ) (xs : List (List ℕ)) (y : List ℕ) → Contains (x ∷ xs) y → (x ≡ y)
@@ -78,26 +79,13 @@ fits_alone S p q r (hp, inr g) (hq, inr h) =
       | inr e ↦ sym (last_of S q p hp g.unmarked hq.given e)
     ]
 
-flat_append : (xs ys : List ℕ) → flat_map encode_utf16 (xs ++ ys) ≡ flat_map encode_utf16 xs ++
-    flat_map encode_utf16 ys
-flat_append [] ys = refl
-flat_append (x ∷ xs) ys = ap (λ l. encode_utf16 x ++ l) (flat_append xs ys)
-    ∙ sym (append_assoc (encode_utf16 x) (flat_map encode_utf16 xs) (flat_map encode_utf16 ys))
-
-front_utf8 : (t xs ys : List ℕ) → t ≡ xs ++ ys → IsUtf8 t → IsUtf8 ys → IsUtf8 xs
-front_utf8 t xs ys e u v =
-    let w : IsUtf8 (take (length xs) t) =
-    IsUtf8-take t (length xs) u (IsCharBoundary-at_seam t xs ys e v) in
-    let f : take (length xs) t ≡ xs = rw e (take-append_seam xs ys) in
-    subst IsUtf8 f w
-
 -- the units of an end stand at the end
 pub units_end : (t s : List ℕ) → IsUtf8 t → IsUtf8 s → (h : EndsWith t s)
     → units t ≡ units h.front ++ units s
 units_end t s u v h =
     ap units h.is ∙ ap (flat_map encode_utf16)
     (chars-append h.front s (front_utf8 t h.front s h.is u v))
-    ∙ flat_append (chars h.front) (chars s)
+    ∙ flat_map-append encode_utf16 (chars h.front) (chars s)
 
 no_marker : (b : Bool) (m : List ℕ) → b ≡ true → length (cond b [] m) ≡ 0
 no_marker true m e = refl

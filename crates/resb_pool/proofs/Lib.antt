@@ -1,26 +1,26 @@
+-- For crates above: those that are `pub`.
 pub mod Zeros
-pub mod Utf16
+mod Utf16
 pub mod TextLoops
-pub mod Distinct
+mod Distinct
 pub mod Sizes
-pub mod Interning
-pub mod Sums
-pub mod Turns
+mod Interning
+mod Sums
+mod FoundKeys
 pub mod ReadBack
 pub mod PlacingLemmas
-pub mod SharingLemmas
+mod SharingLemmas
 pub mod OrderingLemmas
-pub mod PlanLemmas
+mod PlanLemmas
 pub mod IsRead
 pub mod OnePool
 pub mod Least
-pub mod SuffixOrder
-pub mod Reading
-pub mod Extend
-pub mod NewNode
-pub mod Cut
-pub mod Slots
-pub mod Steps
-pub mod Down
-pub mod Best
-pub mod Whole
+mod SuffixOrder
+mod Extend
+mod NewNode
+mod Cut
+mod Slots
+mod Steps
+mod Down
+mod Best
+mod Whole

@@ -6,7 +6,7 @@ use Rattle.std.proofs.Common.{length-append, true≢false, inl, inr, ◌⊎◌, 
 use Rattle.std.proofs.Common.{get_or-set_other, get_or-set_same}
 use Rattle.std.specs.List.{Contains, sum_by, flat_map}
 use Rattle.std.specs.List.Sorted.{IsPermutation}
-use Rattle.std.specs.Prelude.{slice_set, replicate}
+use Rattle.std.specs.Prelude.{slice_set}
 use Rattle.std.proofs.Math.Nat.{eq-or-lt_of_le}
 use Rattle.std.proofs.lemmas.Bool.{cases_eq}
 use Rattle.std.proofs.lemmas.List.{get_or_default, get_or-take, length-take-le, map_more}
@@ -267,18 +267,6 @@ ends_put rs i count d es k l x e h c = record {
         ∙ get_or_default rs i f d l in
         at_index (get_or (take (i + 1) rs) j f) (ap (λ (z : Record). z.index) a)
         (ap (λ (z : Record). z.text.now) a)
-
-pub ends_none : (rs : List Record) (count : ℕ) → AreEnds rs [] (replicate count 0)
-ends_none rs count = record {
-  closes = λ j f l. absurd (omega (arith, l));
-  others =
-      λ j f. zeros count j;
-}
-  where
-    zeros : (n j : ℕ) → get_or {A = ℕ} (replicate n 0) j 0 ≡ 0
-    zeros zero j = refl
-    zeros (suc n) zero = refl
-    zeros (suc n) (suc j) = zeros n j
 
 -- so many units as the records before a record and itself take
 pub so_far : (rs : List Record) (i : ℕ) (d : Record) → i < length rs

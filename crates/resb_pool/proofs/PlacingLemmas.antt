@@ -100,14 +100,6 @@ pub at_empty : {V H : Type 0} (m : HashMap (Bor (List ℕ)) V H) (q : List ℕ) 
     → at_text m q ≡ None
 at_empty m q e = ap (lookup (λ k. bytes_eq q k.now)) e
 
-pub none_listed : (T rs : Texts) → rs ≡ [] → AreRecordsAmong T [] rs
-none_listed T rs e = subst (AreRecordsAmong T []) (sym e) (record {
-  once = tt;
-  sound =
-      λ s x. absurd (omega (arith, x.1));
-  complete = λ s r x. absurd (omega (arith, x.1));
-})
-
 -- a text that isn't empty and lies in itself is a record
 pub lies_in_itself : (T : Texts) (i r : ℕ) → LiesAt T i r → r ≡ i → (length (text T i) ≡ 0 → ⊥)
     → IsRecord T (text T i)

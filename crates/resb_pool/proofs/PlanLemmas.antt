@@ -13,7 +13,6 @@ use Rattle.std.specs.Str.{bytes_eq}
 use Rattle.std.specs.Cmp.Lexicographic.{bytes_decides}
 use Rattle.std.proofs.lemmas.Bool.{cases_lt, ltb-true, ltb-false}
 use Rattle.std.proofs.lemmas.List.{get_or-map, length-map, nil_from_length}
-use Rattle.std.proofs.lemmas.List.Elements.{All-contains_itself, All-weaker}
 use Rattle.std.proofs.lemmas.List.Sums.{sum_by-cons, sum_by-append}
 use Rattle.resb_format.specs.Units.{units, size, length_marker}
 use Rattle.resb_pool.specs.Records.{IsRecord, IsRecords}
@@ -22,7 +21,7 @@ use Rattle.resb_pool.specs.Pool.{LiesIn, SizeIn, Saved, Precedes, record_units, 
 use Rattle.resb_pool.specs.Pool.{off_empty, off_within}
 use Rattle.resb_pool.specs.Plan.{nows, texts_size, IsPlan}
 use Rattle.resb_pool.specs.Inner.Placing.{text, copies, AreTexts, ArePlaces, AreSums, lying_in}
-use Rattle.resb_pool.specs.Inner.Placing.{IsRecordOf, AreIndexed, AreEnds, record_texts, record_cmp}
+use Rattle.resb_pool.specs.Inner.Placing.{IsRecordOf, AreEnds, record_texts, record_cmp}
 use Rattle.resb_pool.specs.Inner.Placing.{offset_by, ClosesWithin}
 use Rattle.resb_pool.specs.declared.measure.Measure.{Measure}
 use Rattle.resb_pool.specs.declared.places.Place.{Place}
@@ -39,9 +38,6 @@ use Rattle.resb_pool.proofs.OrderingLemmas.{in_order}
 
 abbrev Texts : Type 0
 Texts = List (List ℕ)
-
-all_from : (P : List ℕ → Type 0) (xs : Texts) → ((x : List ℕ) → Contains xs x → P x) → All P xs
-all_from P xs h = All-weaker (Contains xs) P h xs (All-contains_itself xs)
 
 texts_len : (v : List Record) → length (record_texts v) ≡ length v
 texts_len [] = refl
@@ -92,13 +88,6 @@ module _ (S T : Texts) (ms : List Measure) (given : AreTexts S T ms) (small : te
         measure_at i d l = ap (λ (z : List Measure). get_or z i d.measure) (sym measures)
             ∙ get_or-map (λ (p : Place). p.measure) ps i d d.measure (omega (arith, l, placed.len))
 
-    pub places_within : All (λ p. p.record < length ps) ps
-    places_within i d l = omega (
-      arith,
-      (placed.lies i d (omega (arith, l, placed.len))).within,
-      placed.len,
-    )
-
     sizes_small : sum_by size S < 2 ^ 28
     sizes_small = omega (arith, sizes_within S, small)
 
@@ -141,15 +130,6 @@ module _ (S T : Texts) (ms : List Measure) (given : AreTexts S T ms) (small : te
 
       module _ (v : List Record) (records : IsRecords T (record_texts v))
           (each : All (IsRecordOf T sums) v) where
-        pub counts : All (λ r. r.unit_count ≡ length (units r.text.now)) v
-        counts = λ i d l. (each i d l).units_is
-
-        pub indexed : AreIndexed v (length ps)
-        indexed = record {
-          within = λ i d l. omega (arith, (each i d l).within, placed.len);
-          one = λ j k d l m e. (each j d l).text_is ∙ ap (text T) e ∙ sym (each k d m).text_is;
-        }
-
         in_given : IsRecords S (record_texts v)
         in_given = records_from T S given.same (record_texts v) records
 

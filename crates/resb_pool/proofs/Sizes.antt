@@ -1,11 +1,10 @@
 -- How large texts are, and what all copies of a text take.
-use Rattle.std.proofs.Common.{◌≡◌, ℕ, suc, ◌+◌, ◌/◌, ◌%◌, ◌<◌, ◌≤◌, ◌^◌, List, [], ◌∷◌, ◌++◌}
+use Rattle.std.proofs.Common.{◌≡◌, ℕ, suc, ◌+◌, ◌/◌, ◌%◌, ◌≤◌, List, [], ◌∷◌, ◌++◌}
 use Rattle.std.proofs.Common.{length, Bool, true, false, cond, refl, sym, ◌∙◌, ap, arith}
-use Rattle.std.specs.List.{All, Contains, sum_by}
+use Rattle.std.specs.List.{Contains, sum_by}
 use Rattle.std.specs.Prelude.{nat_le}
 use Rattle.std.specs.Str.{bytes_eq}
 use Rattle.std.specs.Cmp.Lexicographic.{bytes_decides}
-use Rattle.std.proofs.lemmas.List.Elements.{All-cons, All-nil}
 use Rattle.std.proofs.lemmas.List.Sums.{sum_by-cons, sum_by-append, sum_by-le-sum_by}
 use Rattle.resb_format.specs.Units.{units, marker, size, is_unmarked, length_marker}
 use Rattle.resb_pool.specs.Plan.{texts_size}
@@ -34,13 +33,6 @@ marker_le s = by (is_unmarked s)
 pub sizes_within : (S : Texts) → sum_by size S ≤ texts_size S
 sizes_within S = sum_by-le-sum_by size (λ s. 16 + length (units s)) S
     (λ s. omega (arith, marker_le s))
-
-pub texts_short : (S : Texts) → texts_size S < 2 ^ 28 → All (λ s. length (units s) < 2 ^ 28) S
-texts_short [] h = All-nil (λ s. length (units s) < 2 ^ 28)
-texts_short (s ∷ S) h =
-    let e = sum_by-cons (λ (r : List ℕ). 16 + length (units r)) s S in
-    All-cons (λ r. length (units r) < 2 ^ 28) s S (omega (arith, e))
-    (texts_short S (omega (arith, e)))
 
 -- what a copy of s adds to the copies of t
 abbrev pub copy : List ℕ → List ℕ → ℕ

@@ -1,6 +1,6 @@
 -- The suffix order is total, and what ends with a text stands just before it.
 use Rattle.std.proofs.Common.{◌≡◌, ℕ, ◌<◌, List, [], ◌∷◌, ◌++◌, ◌⊎◌, inl, inr, refl, sym, ◌∙◌, ap}
-use Rattle.std.proofs.Common.{subst, append-nil, reverse}
+use Rattle.std.proofs.Common.{subst, append-nil}
 use Rattle.std.specs.Cmp.{IsTotalOrder}
 use Rattle.std.specs.Cmp.Lexicographic.{slice_cmp}
 use Rattle.std.specs.Ordering.{nat_cmp, ordering_then, ordering_reverse}
@@ -8,9 +8,8 @@ use Rattle.std.specs.declared.cmp.Ordering.{Ordering}
 use Rattle.std.specs.declared.cmp.Ordering.TheVariants.{Less, Equal, Greater}
 use Rattle.std.proofs.lemmas.Cmp.{lists_total, then_total, on_total, nat_cmp_total, tied_itself}
 use Rattle.std.proofs.lemmas.Cmp.{ranked, by_ranked}
-use Rattle.std.specs.Str.{chars}
-use Rattle.resb_pool.specs.Order.{end_last_cmp, suffix_cmp}
-use Rattle.resb_pool.specs.Inner.Extends.{Extends, Before, NotAfter}
+use Rattle.resb_pool.specs.Order.{end_last_cmp}
+use Rattle.resb_pool.specs.Inner.Extends.{Extends, Before}
 
 -- the letters and then the end, which is above each letter
 marked : List ℕ → List (ℕ × ℕ)
@@ -81,42 +80,3 @@ extends_before t s h ne = before s t h.rest h.is ne
     before : (s t r : List ℕ) → t ≡ s ++ r → (t ≡ s → ⊥) → Before t s
     before s t [] e ne = absurd (ne (e ∙ append-nil s))
     before s t (z ∷ r) e ne = ap (λ l. end_last_cmp l s) e ∙ longer_before s z r
-
-between : (s rest u : List ℕ) → NotAfter (s ++ rest) u → NotAfter u s → Extends u s
-between [] rest u a b = record { rest = u; is = refl }
-between (x ∷ s) rest [] a b = absurd (b refl)
-between (x ∷ s) rest (y ∷ u) a b = elim (letters x y) [
-  | inl h ↦ absurd (b (then_greater (nat_cmp y x) (end_last_cmp u s) h.1))
-  | inr (inl h) ↦ (let k = between s rest u
-      (λ e. a (then_equal (nat_cmp x y) (end_last_cmp (s ++ rest) u) h.0 ∙ e))
-      (λ e. b (then_equal (nat_cmp y x) (end_last_cmp u s) h.1 ∙ e)) in
-      let f : y ∷ u ≡ x ∷ (s ++ k.rest) = cc in record { rest = k.rest; is = f })
-  | inr (inr h) ↦ absurd (a (then_greater (nat_cmp x y) (end_last_cmp (s ++ rest) u) h.0))
-]
-
--- between a text and one that extends it stand only texts that extend it
-pub extends_between : (t u s : List ℕ) → Extends t s → NotAfter t u → NotAfter u s → Extends u s
-extends_between t u s h a b = between s h.rest u (subst (λ l. NotAfter l u) h.is a) b
-
--- the text t stands just before s among S: if any text of S properly extends s, then t does, and
--- none of those stands after t
-pub neighbour : (S : List ℕ → Type 0) (t s : List ℕ)
-    → ((u : List ℕ) → S u → Before u s → NotAfter u t) → Before t s
-    → (u : List ℕ) → S u → Extends u s → (u ≡ s → ⊥) → Extends t s × NotAfter u t
-neighbour S t s none_between b u in' h ne =
-    let low = none_between u in' (extends_before u s h ne) in
-    (extends_between u t s h low (λ e. cc), low)
-
--- Where s gives way to t, and t to r, the greatest of the texts R that extends t is the greatest of
--- them that extends s.
-pub linked : (R : List ℕ → Type 0) (t s r : List ℕ) → Extends t s
-    → Extends r t → ((u : List ℕ) → R u → Extends u t → NotAfter u r)
-    → ((u : List ℕ) → R u → Extends u s → NotAfter u t)
-    → (u : List ℕ) → R u → Extends u s → NotAfter u r
-linked R t s r hs hr best low u in' h e =
-    best u in' (extends_between r u t hr (λ f. let k = end_last_total.antisymm r u
-    ∙ ap ordering_reverse e in cc) (low u in' h)) e
-
--- the order of texts
-pub suffix_total : IsTotalOrder suffix_cmp
-suffix_total = on_total (λ (t : List ℕ). reverse (chars t)) end_last_total

@@ -7,8 +7,7 @@ use Rattle.std.specs.List.{All, Contains, sum_by}
 use Rattle.std.specs.Str.{bytes_eq, IsUtf8}
 use Rattle.std.specs.Cmp.Lexicographic.{bytes_decides}
 use Rattle.std.proofs.lemmas.Bool.{eqb-true, eq-eqb}
-use Rattle.std.proofs.lemmas.List.Sums.{sum_by-cons, sum_by-append}
-use Rattle.std.proofs.lemmas.List.{take_more}
+use Rattle.std.proofs.lemmas.List.Sums.{sum_by-cons}
 use Rattle.resb_format.specs.Units.{size}
 use Rattle.resb_pool.specs.Records.{IsRecord, IsDistinct}
 use Rattle.resb_pool.specs.Container.{IsContainer}
@@ -253,14 +252,6 @@ totals_of S (p ∷ ps) (t ∷ T) e h =
       totals_of S ps T (omega (arith, e))
           (λ i d l. h (suc i) d (omega (arith, l))),
     )
-
--- one place more
-pub lying_in-push : (ps : List Place) (i : ℕ) (d : Place) (q : ℕ) → i < length ps
-    → lying_in (take (i + 1) ps) q ≡ lying_in (take i ps) q + if_in (get_or ps i d) q
-    (get_or ps i d).measure.total
-lying_in-push ps i d q l = ap (λ (z : List Place). lying_in z q) (take_more ps i d l)
-    ∙ sum_by-append (λ (z : Place). if_in z q z.measure.total) (take i ps) (get_or ps i d ∷ [])
-    ∙ omega arith
 
 pub lying_within : (ps : List Place) (i : ℕ) (d : Place) (q : ℕ) → i < length ps
     → lying_in (take i ps) q + (get_or ps i d).measure.total ≤ sum_by

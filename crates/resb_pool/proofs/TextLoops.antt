@@ -6,7 +6,6 @@ use Rattle.std.proofs.lemmas.List.{map_more, map_push}
 use Rattle.std.proofs.lemmas.List.Elements.{All-nil, All-cons}
 use Rattle.std.proofs.lemmas.List.Sums.{sum_by-append, sum_by-cons}
 use Rattle.std.proofs.lemmas.Bool.Decides.{nat_tests}
-use Rattle.std.specs.List.{Contains}
 use Rattle.std.specs.Prelude.{nat_le}
 use Rattle.resb_format.specs.Units.{units}
 use Rattle.resb_pool.specs.Plan.{nows, first_too_long, texts_size}
@@ -99,10 +98,3 @@ nows-whole xs i h = ap nows (take-all xs i h)
 pub nows-push : (old new : List (Bor (List ℕ))) (t : Bor (List ℕ)) → new ≡ old ++ t ∷ []
     → nows new ≡ nows old ++ t.now ∷ []
 nows-push old new t e = ap nows e ∙ map_push (λ (y : Bor (List ℕ)). y.now) old t
-
-pub in_nows : (xs : List (Bor (List ℕ))) (i : ℕ) → i < length xs
-    → Contains (nows xs) (get_or xs i blank).now
-in_nows [] i h = absurd (omega arith)
-in_nows (x ∷ xs) zero h = (0, omega arith, refl)
-in_nows (x ∷ xs) (suc i) h = (let k = in_nows xs i (omega arith) in
-    (suc k.0, omega (arith, k.1), k.2))

@@ -2,7 +2,6 @@
 use Rattle.std.proofs.Common.{◌≡◌, ℕ, get_or, ◌<◌, List, [], ◌∷◌, ◌++◌, length, true, Option, Some}
 use Rattle.std.proofs.Common.{None, is_some, inl, inr, refl, sym, ◌∙◌, ap, subst, length-append}
 use Rattle.std.proofs.Common.{reverse, arith, true≢false}
-use Rattle.std.proofs.lemmas.Bool.{cases_lt}
 use Rattle.std.proofs.lemmas.List.{get_or_default, get_or_append_left, get_or_push, nil_from_length}
 use Rattle.std.specs.List.{Contains}
 use Rattle.std.specs.Str.{IsUtf8}
@@ -17,7 +16,6 @@ use Rattle.resb_pool.proofs.SuffixOrder.{end_last_total, tied_same}
 use Rattle.resb_pool.proofs.Best.{extends_not_after}
 use Rattle.resb_pool.proofs.Extend.{ext_refl}
 use Rattle.resb_pool.specs.Inner.Extends.{Extends, NotAfter}
-use Rattle.resb_pool.proofs.Reading.{front_utf8}
 use Rattle.resb_pool.specs.declared.node.Node.{Node}
 use Rattle.resb_pool.specs.Inner.Cuts.{key}
 use Rattle.resb_pool.specs.Inner.Nodes.{suffix, path, ends, text_at, IsTrie, IsEnd, IsTrieOf}
@@ -25,7 +23,7 @@ use Rattle.resb_pool.specs.Inner.Changes.{HasText, HasNode, IsAdded}
 use Rattle.resb_pool.specs.Inner.Greatest.{IsRecordAt, IsGreatestBelow}
 use Rattle.resb_pool.specs.Inner.Placing.{text, LiesAt}
 use Rattle.resb_pool.specs.Container.{IsContainer}
-use Rattle.resb_pool.proofs.Cut.{cut_extends, cut_back, key_same}
+use Rattle.resb_pool.proofs.Cut.{front_utf8, cut_extends, cut_back, key_same}
 use Rattle.resb_pool.proofs.NewNode.{old_or_new}
 use Rattle.resb_pool.proofs.Steps.{root_trie}
 
@@ -73,13 +71,6 @@ module _ (T : List (List ℕ)) (ns : List Node) (es : List ℕ) (m : IsTrieOf T 
   root_nil : suffix ns 0 ≡ []
   root_nil = key_same (suffix ns 0) [] (t.texts 0 t.shape.some) IsUtf8-nil (t.shape.root
       ∙ sym (ap reverse chars-nil))
-
-  pub not_root : (i : ℕ) (s : List ℕ) → suffix ns i ≡ s → 0 < length s → 0 < i
-  not_root i s h l = elim (cases_lt 0 i) [
-    | inl p ↦ p
-    | inr z ↦ (let w : i ≡ 0 = omega arith in
-        absurd (omega (arith, ap length (sym h ∙ ap (suffix ns) w ∙ root_nil))))
-  ]
 
   pub at_root : (i : ℕ) (s : List ℕ) → i < length ns → suffix ns i ≡ s → length s ≡ 0 → i ≡ 0
   at_root i s l h z = t.shape.once i 0 l t.shape.some (ap key (h ∙ nil_from_length s z
@@ -203,10 +194,6 @@ module _ (T : List (List ℕ)) (ns : List Node) (es : List ℕ) (m : IsTrieOf T 
             λ h. refl;
         empty = λ y. refl;
       }
-
-  -- the text at whose node the walk ends
-  pub ends_at_text : (i r : ℕ) → IsGreatestBelow ns i r → is_some (text_at ns r) ≡ true
-  ends_at_text i r g = g.own.ends_here
 
 -- a text more
 module _ (D : List (List ℕ)) (ns os : List Node) (es : List ℕ) (m : IsTrieOf D ns es) (s : List ℕ)

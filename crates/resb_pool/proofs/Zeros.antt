@@ -1,16 +1,12 @@
 -- What stands before the first 0 of a list.
-use Rattle.std.proofs.Common.{◌≡◌, ℕ, ◌+◌, List, [], ◌∷◌, ◌++◌, length, take, Some, None}
-use Rattle.std.proofs.Common.{option_map, Bool, true, false, not, ◌==◌, nat_eq, nat_lt, cond, ◌||◌}
+use Rattle.std.proofs.Common.{◌||◌, ◌≡◌, ℕ, ◌+◌, List, [], ◌∷◌, ◌++◌, length, take, Some, None}
+use Rattle.std.proofs.Common.{option_map, Bool, true, false, not, ◌==◌, nat_eq, nat_lt, cond}
 use Rattle.std.proofs.Common.{refl, ◌∙◌, ap, length-append, arith}
 use Rattle.std.specs.List.{list_any, position_or_len}
 use Rattle.std.proofs.lemmas.Bool.{or_parts, lt-ltb}
 use Rattle.std.proofs.lemmas.List.Folds.{list_any-append}
 use Rattle.std.proofs.lemmas.List.{take_at}
 use Rattle.resb_format.specs.Strings.{before_zero}
-
--- no number is 0
-abbrev pub no_zero : List ℕ → Bool
-no_zero xs = not (list_any (λ b. nat_eq b 0) xs)
 
 abbrev pub has_zero : List ℕ → Bool
 has_zero xs = list_any (λ b. nat_eq b 0) xs

@@ -7,13 +7,10 @@ ghost use Rattle.resb_pool.specs.FaultOf.{fault_of};
 ghost use Rattle.resb_pool.specs.Plan.{nows, first_too_long, NotPlanned};
 
 use crate::error::BinarySerializerError;
-use resb_format::marker_units;
+use resb_format::{MAX_UNMARKED, marker_units};
 
 /// The most units of a string, which its marker can say.
 const LONGEST: usize = 4_294_967_295;
-
-/// The most units of a string without a marker.
-const MAX_UNMARKED: usize = 40;
 
 /// From this size of the strings on they are not planned.
 pub(crate) const SIZE_LIMIT: usize = 0x1000_0000;

@@ -1,6 +1,6 @@
 -- Members read one by one.
 use Rattle.std.proofs.Common.{ℕ, List, [], ◌∷◌, ◌++◌, ◌≡◌, ◌+◌, ◌≤◌, refl, sym, ◌∙◌, ap, subst}
-use Rattle.std.proofs.Common.{arith, inl, inr, append_assoc, append-nil, Ok, Err, Some, None}
+use Rattle.std.proofs.Common.{arith, inl, inr, append_assoc, Ok, Err, Some, None}
 use Rattle.resb_read.specs.Places.{Place}
 use Rattle.resb_read.specs.Sequences.{ReadsEach, CountsEach}
 use Rattle.resb_read.specs.Reading.{LacksOrMemory}
@@ -75,11 +75,6 @@ module _ {X : Type 0} (reads : Place → X → ℕ → Type 0) (counts : Place �
       over_err old.rest left new left' d
       (subst (λ f. StepsAfter reads counts f old left new left' (Err d)) none h)
 
-  pub over_none : (rest : List Place) (left : ℕ) (new : Access) (left' : ℕ)
-      → StepsOver reads counts rest left new left' (Ok None) → (rest ≡ []) × (left' ≡ left)
-  over_none [] left new left' h = (refl, h.1)
-  over_none (p ∷ ps) left new left' h = absurd h
-
 module _ {X : Type 0} (reads : Place → X → ℕ → Type 0) (counts : Place → ℕ → Type 0) where
   pub front_more : (all : List Place) (old : Access) (values : List X) (before left : ℕ)
       (new : Access) (left' : ℕ) (x : X)
@@ -99,18 +94,6 @@ module _ {X : Type 0} (reads : Place → X → ℕ → Type 0) (counts : Place �
           paid = omega arith;
         },
       )
-
-  pub front_all : (all : List Place) (old : Access) (values : List X) (before left : ℕ)
-      (new : Access) (left' : ℕ)
-      → old.failed ≡ None → Front reads all old.rest values before left
-      → Steps reads counts old left new left' (Ok None)
-      → (n : ℕ) × ReadsEach reads all values n × (left' + n ≡ before)
-  front_all all old values before left new left' none f h =
-      let (e, s) = over_none reads counts old.rest left new left'
-      (subst (λ f. StepsAfter reads counts f old left new left' (Ok None)) none h) in
-      let paid : left + f.spent ≡ before = f.paid in
-      let same : all ≡ f.done = f.are ∙ ap (λ r. f.done ++ r) e ∙ append-nil f.done in
-      (f.spent, subst (λ ps. ReadsEach reads ps values f.spent) (sym same) f.each, omega arith)
 
 module _ {X : Type 0} (reads : Place → X → ℕ → Type 0) (counts : Place → ℕ → Type 0)
     (counted : (p : Place) (v : X) (n : ℕ) → reads p v n → counts p n)

@@ -1,10 +1,10 @@
 -- Entries read one by one.
 use Rattle.std.proofs.Common.{ℕ, List, [], ◌∷◌, ◌++◌, ◌≡◌, ◌+◌, ◌≤◌, refl, sym, ◌∙◌, ap, subst}
-use Rattle.std.proofs.Common.{arith, inl, inr, append_assoc, append-nil, Ok, Err, Some, None}
+use Rattle.std.proofs.Common.{arith, inl, inr, append_assoc, Ok, Err, Some, None}
 use Rattle.std.specs.BTreeMap.{insert_entry}
 use Rattle.std.specs.declared.cmp.Ordering.{Ordering}
 use Rattle.resb_read.specs.Places.{Place}
-use Rattle.resb_read.specs.Sequences.{ReadsPairs, CountsPairs, ReadsAll, put_each}
+use Rattle.resb_read.specs.Sequences.{ReadsPairs, CountsPairs, put_each}
 use Rattle.resb_read.specs.Reading.{LacksOrMemory}
 use Rattle.resb_read.specs.Access.{Entries, EntersOver, EntersAfter, Enters, ReadsPair, CountsPair}
 use Rattle.resb_read.specs.Inner.Front.{FrontPairs}
@@ -72,11 +72,6 @@ module _ {K X : Type 0} (rk : Place → K → ℕ → Type 0) (ck : Place → �
   enters_over_err [] left new left' d h = absurd h
   enters_over_err (p ∷ ps) left new left' d (e, s, r) = (p, ps, refl, s, r)
 
-  enters_over_none : (rest : List (Place × Place)) (left : ℕ) (new : Entries) (left' : ℕ)
-      → EntersOver rk ck rv cv rest left new left' (Ok None) → (rest ≡ []) × (left' ≡ left)
-  enters_over_none [] left new left' h = (refl, h.1)
-  enters_over_none (p ∷ ps) left new left' h = absurd h
-
   pub enters_some : (old : Entries) (left : ℕ) (new : Entries) (left' : ℕ) (x : K × X)
       → old.failed ≡ None → Enters rk ck rv cv old left new left' (Ok (Some x))
       → (p : Place × Place) × (old.rest ≡ p ∷ new.rest) × (new.failed ≡ None) × (n : ℕ)
@@ -92,12 +87,6 @@ module _ {K X : Type 0} (rk : Place → K → ℕ → Type 0) (ck : Place → �
   enters_err old left new left' d none h =
       enters_over_err old.rest left new left' d
       (subst (λ f. EntersAfter rk ck rv cv f old left new left' (Err d)) none h)
-
-  pub enters_none : (old : Entries) (left : ℕ) (new : Entries) (left' : ℕ) → old.failed ≡ None
-      → Enters rk ck rv cv old left new left' (Ok None) → (old.rest ≡ []) × (left' ≡ left)
-  enters_none old left new left' none h =
-      enters_over_none old.rest left new left'
-      (subst (λ f. EntersAfter rk ck rv cv f old left new left' (Ok None)) none h)
 
   module _ (cmp : K → K → Ordering) (all : List (Place × Place)) (old : Entries) (m : List (K × X))
       (before left : ℕ) (new : Entries) (left' : ℕ) (ok : old.failed ≡ None)
@@ -118,17 +107,6 @@ module _ {K X : Type 0} (rk : Place → K → ℕ → Type 0) (ck : Place → �
             map = ap (λ m. insert_entry cmp m k x) f.map ∙ sym (put_more cmp [] f.read (k, x));
             paid = omega arith;
           },
-        )
-
-    pub front_ends : Enters rk ck rv cv old left new left' (Ok None)
-        → (n : ℕ) × ReadsAll cmp rk rv all m n × (left' + n ≡ before)
-    front_ends h =
-        let (e, s) = enters_none old left new left' ok h in
-        let paid : left + f.spent ≡ before = f.paid in
-        let same : all ≡ f.done = f.are ∙ ap (λ r. f.done ++ r) e ∙ append-nil f.done in (
-          f.spent,
-          (f.read, subst (λ ps. ReadsPairs rk rv ps f.read f.spent) (sym same) f.each, f.map),
-          omega arith,
         )
 
     pub front_fails : (hk : (p : Place) (v : K) (n : ℕ) → rk p v n → ck p n)

@@ -1,8 +1,9 @@
-pub mod Trees
+-- For crates above: those that are `pub`.
+mod Trees
 pub mod Rooted
-pub mod Each
-pub mod Singly
-pub mod UnitsBack
-pub mod Entering
-pub mod Viewing
+mod Each
+mod Singly
+mod UnitsBack
+mod Entering
+mod Viewing
 pub mod OneRefusal

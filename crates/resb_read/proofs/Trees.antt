@@ -5,7 +5,7 @@ use Rattle.resb_format.specs.Parts.{Parts}
 use Rattle.resb_format.proofs.Denoting.{counted}
 use Rattle.resb_format.specs.declared.error.ReadingError.{ReadingError}
 use Rattle.resb_walk.specs.Refusals.{Refuses}
-use Rattle.resb_walk.proofs.Lists.{counted_member}
+use Rattle.resb_format.proofs.Denoting.{counted_member}
 use Rattle.resb_read.specs.Places.{Place}
 use Rattle.resb_read.specs.Reading.{LacksOrMemory}
 use Rattle.resb_read.specs.Resources.{DenSpot, ReachesSpot, DenPlace, ReachesPlace, CountsTree}

@@ -1,1 +1,2 @@
-pub mod Walking
+-- For this crate alone.
+mod Walking

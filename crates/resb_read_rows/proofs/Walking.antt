@@ -9,7 +9,7 @@ use Rattle.resb_read.specs.Access.{Entries, EntersToFirst, EntersToAfter, Enters
 use Rattle.resb_read.specs.Sequences.{entries}
 use Rattle.resb_read.specs.declared.cursor.Cursor.{Cursor}
 use Rattle.resb_read_rows.specs.Fields.{Entry, CountsField, CountsFirst, CountsBoth}
-use Rattle.resb_read_rows.specs.Fields.{field_one}
+use Rattle.resb_read_rows.specs.FieldLaws.{field_one}
 
 same_pair : {A B : Type 0} (p : A × B) (x : A) (y : B) → x ≡ p.0 → y ≡ p.1 → p ≡ (x, y)
 same_pair p x y a b = rw (a, b) refl

@@ -1,12 +1,13 @@
 //! A type as a user of the reader would write it: what is read as it, its two laws, and its
 //! reading.
-//! The words of its contracts are in `specs/Fields`, and the page that walks through it is
-//! `docs/READING.md`.
+//! The words of its contracts are in `specs/Fields`, their laws in `specs/FieldLaws`, and the page
+//! that walks through it is `docs/READING.md`.
 ghost use Rattle.std.specs.Prelude.{◌≡◌, ◌+◌, ◌≤◌, ℕ, ◌∷◌, None, IfOk, IfErr};
 ghost use Rattle.resb_read.specs.Reading.{LacksOrMemory};
 ghost use Rattle.resb_read_rows.specs.Fields.{Entry, ReadsField, CountsFirst, ReadsBoth};
-ghost use Rattle.resb_read_rows.specs.Fields.{CountsBoth, both_counted, both_one, i16_counted};
-ghost use Rattle.resb_read_rows.specs.Fields.{i16_one, list_counted, list_one};
+ghost use Rattle.resb_read_rows.specs.Fields.{CountsBoth};
+ghost use Rattle.resb_read_rows.specs.FieldLaws.{both_counted, both_one, i16_counted, i16_one};
+ghost use Rattle.resb_read_rows.specs.FieldLaws.{list_counted, list_one};
 
 use resb_format::{BinaryDeserializerError, ReadingError};
 use resb_read::{Cursor, Deserialize, MapAccess, Walk};

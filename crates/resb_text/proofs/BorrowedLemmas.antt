@@ -70,9 +70,9 @@ map_snoc (y ∷ xs) x = ap (λ bs. shown_borrowed y ∷ bs) (map_snoc xs x)
 pub shows_borrowed : (xs : List spec.Item) → all_true (map shown_borrowed (shows xs)) ≡ true
 shows_borrowed [] = refl
 shows_borrowed (x ∷ xs) =
-    ap all_true (map_snoc (shows xs) (term_shown x.term x.flag))
-    ∙ all_snoc (map shown_borrowed (shows xs)) (shown_borrowed (term_shown x.term x.flag))
-    (shows_borrowed xs) (term_borrowed x.term x.flag)
+    ap all_true (map_snoc (shows xs) (term_shown x.term x.comma))
+    ∙ all_snoc (map shown_borrowed (shows xs)) (shown_borrowed (term_shown x.term x.comma))
+    (shows_borrowed xs) (term_borrowed x.term x.comma)
 
 -- what an open group of the code holds is borrowed
 pub items_borrowed : (f : Frame) (n : ℕ) (g : machine.Frame) → looks f ≡ look_of (layer n g)

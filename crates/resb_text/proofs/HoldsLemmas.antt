@@ -4,7 +4,7 @@ use Rattle.std.proofs.Common.{refl, sym, ◌∙◌, ap, subst, arith, append_ass
 use Rattle.std.proofs.lemmas.Bool.{false≢true}
 use Rattle.std.proofs.lemmas.List.{map-append}
 use Rattle.resb_tree.specs.Tree.{Tree}
-use Rattle.resb_grammar.specs.Items.{Term, string_term, group_term, Item, plain, flagged}
+use Rattle.resb_grammar.specs.Items.{Term, string_term, group_term, Item, plain, before_comma}
 use Rattle.resb_grammar.specs.Items.{Shape, a_string, a_table, an_array, shape_of, tree_in, keys_in}
 use Rattle.resb_grammar.specs.Items.{table_keys, array_keys, table_if, is_pairs}
 use Rattle.resb_grammar.specs.Machine.{Body, table_body, array_body, untyped_body, Frame, with_item}
@@ -118,10 +118,10 @@ holds_new n b gs cs x apart =
 
 one_string : (xs : List Item) (s : List ℕ) → shape_of xs ≡ a_string s → array_keys xs ≡ []
 one_string [] s e = cc
-one_string (x ∷ []) s e = go x.term x.flag e
+one_string (x ∷ []) s e = go x.term x.comma e
   where
-    go : (m : Term) (f : Bool) → shape_of (record { term = m; flag = f } ∷ []) ≡ a_string s
-        → array_keys (record { term = m; flag = f } ∷ []) ≡ []
+    go : (m : Term) (f : Bool) → shape_of (record { term = m; comma = f } ∷ []) ≡ a_string s
+        → array_keys (record { term = m; comma = f } ∷ []) ≡ []
     go (string_term w) false e = refl
     go (string_term w) true e = cc
     go (group_term t ks) f e = cc
@@ -175,23 +175,23 @@ pub holds_root : (n : ℕ) (f : Frame) (cs : List Numbered) → f.body ≡ table
 holds_root n f cs b (one_more _ _ _ own _ none apart x e) =
     ap texts e ∙ x.whole ∙ ap (λ k. frame_keys k f.items) b
 
-frame_flag : (b : Body) (m : Term) (f : Bool) (ys : List Item)
-    → frame_keys b (record { term = m; flag = f } ∷ ys) ≡ frame_keys b (flagged m ∷ ys)
-frame_flag table_body m f ys = refl
-frame_flag array_body m f ys = refl
-frame_flag untyped_body m f ys = refl
+frame_comma : (b : Body) (m : Term) (f : Bool) (ys : List Item)
+    → frame_keys b (record { term = m; comma = f } ∷ ys) ≡ frame_keys b (before_comma m ∷ ys)
+frame_comma table_body m f ys = refl
+frame_comma array_body m f ys = refl
+frame_comma untyped_body m f ys = refl
 
-abbrev pub flagged_frame : Frame → Term → List Item → Frame
-flagged_frame f m ys = record { body = f.body; items = flagged m ∷ ys }
+abbrev pub comma_frame : Frame → Term → List Item → Frame
+comma_frame f m ys = record { body = f.body; items = before_comma m ∷ ys }
 
-pub holds_flag : (n : ℕ) (f : Frame) (gs : List Layer) (cs : List Numbered) (m : Term) (k : Bool)
+pub holds_comma : (n : ℕ) (f : Frame) (gs : List Layer) (cs : List Numbered) (m : Term) (k : Bool)
     (ys : List Item)
-    → f.items ≡ record { term = m; flag = k } ∷ ys → Holds (layer n f ∷ gs) cs
-    → Holds (layer n (flagged_frame f m ys) ∷ gs) cs
-holds_flag n f gs cs m k ys i (one_more _ _ before own _ outer apart x e) =
-    one_more (layer n (flagged_frame f m ys)) gs before own cs outer apart
+    → f.items ≡ record { term = m; comma = k } ∷ ys → Holds (layer n f ∷ gs) cs
+    → Holds (layer n (comma_frame f m ys) ∷ gs) cs
+holds_comma n f gs cs m k ys i (one_more _ _ before own _ outer apart x e) =
+    one_more (layer n (comma_frame f m ys)) gs before own cs outer apart
     (record {
-      whole = x.whole ∙ ap (frame_keys f.body) i ∙ frame_flag f.body m k ys;
+      whole = x.whole ∙ ap (frame_keys f.body) i ∙ frame_comma f.body m k ys;
       rest = x.rest ∙ ap array_keys i;
       later = x.later;
     }) e

@@ -11,7 +11,7 @@ use Rattle.std.specs.Prelude.{slice_set, Some}
 use Rattle.resb_text.specs.Inner.Shown.{shown_term}
 use Rattle.resb_text.specs.Inner.Frames.{TakesComma}
 use Rattle.resb_tree.specs.Tree.{Tree, table, map_of}
-use Rattle.resb_grammar.specs.Items.{Term, string_term, group_term, Item, flagged}
+use Rattle.resb_grammar.specs.Items.{Term, string_term, group_term, Item, before_comma}
 use Rattle.resb_grammar.specs.Items.{a_table, tree_in, keys_in}
 use Rattle.resb_grammar.specs.Items.{table_keys, is_pairs}
 use Rattle.resb_grammar.specs.Machine.{Body, table_body, array_body, untyped_body, Frame, with_item}
@@ -33,11 +33,11 @@ use Rattle.resb_text.specs.Inner.Frames.{Holds, none}
 use Rattle.resb_text.proofs.KeyLemmas.{without-append, without-other}
 use Rattle.resb_text.proofs.ItemLemmas.{pairs_shown}
 use Rattle.resb_text.proofs.HoldsLemmas.{cand, holds_string, holds_item, holds_leaf, holds_new}
-use Rattle.resb_text.proofs.HoldsLemmas.{after_keeps, holds_closed, holds_root, flagged_frame}
-use Rattle.resb_text.proofs.HoldsLemmas.{holds_flag}
-use Rattle.resb_text.proofs.FrameLemmas.{same_look, Pushes, whole, tree_same, last_shown, flag_of}
-use Rattle.resb_text.proofs.FrameLemmas.{flag_code, flag_item, with_flag, with_code}
-use Rattle.resb_text.proofs.FrameLemmas.{with_term_flag, map_set_shown, set_last, shown_len}
+use Rattle.resb_text.proofs.HoldsLemmas.{after_keeps, holds_closed, holds_root, comma_frame}
+use Rattle.resb_text.proofs.HoldsLemmas.{holds_comma}
+use Rattle.resb_text.proofs.FrameLemmas.{same_look, Pushes, whole, tree_same, last_shown, comma_of}
+use Rattle.resb_text.proofs.FrameLemmas.{comma_code, comma_item, set_comma, with_code}
+use Rattle.resb_text.proofs.FrameLemmas.{set_comma_term, map_set_shown, set_last, shown_len}
 
 pub open_same : (k l : Keys) (limit : ℕ) (gs : List Layer)
     → ((g : ℕ) → is_dropped_in l g ≡ is_dropped_in k g) → AreOpen k limit gs → AreOpen l limit gs
@@ -274,7 +274,7 @@ root_keys c o x e b = go x.around (x.frames ∙ e) x.holds
     go [] h holds = holds_root x.number o.frame (left c.keys) b holds
     go (g ∷ gs) h holds = cc
 
-not_alternating : (m : Term) (xs : List Item) → half (flagged m ∷ xs) ≡ false
+not_alternating : (m : Term) (xs : List Item) → half (before_comma m ∷ xs) ≡ false
 not_alternating (string_term s) xs = refl
 not_alternating (group_term t ks) xs = refl
 
@@ -300,48 +300,49 @@ shows_comma c d o x y k s lt last xs no_comma ys b n i t a e = go o.frame.items 
         empty (z ∷ zs) p q = cc
     go (v ∷ vs) w =
         let seen : map shown c.frame.items.items ≡ shows
-        (record { term = v.term; flag = v.flag } ∷ vs) = items_same
+        (record { term = v.term; comma = v.comma } ∷ vs) = items_same
         ∙ ap shows w in
-        let is_x : shown x ≡ term_shown v.term v.flag = last_shown c.frame.items.items vs
-        v.term v.flag x seen (xs
+        let is_x : shown x ≡ term_shown v.term v.comma = last_shown c.frame.items.items vs
+        v.term v.comma x seen (xs
         ∙ ap (λ j. get_or c.frame.items.items j x) last) in
-        let is_y : shown y ≡ term_shown v.term v.flag = last_shown c.frame.items.items vs
-        v.term v.flag y seen (ys
+        let is_y : shown y ≡ term_shown v.term v.comma = last_shown c.frame.items.items vs
+        v.term v.comma y seen (ys
         ∙ ap (λ j. get_or c.frame.items.items j y) last) in
-        let unflagged : v.flag ≡ false = sym (flag_item v.term v.flag) ∙ ap flag_of (sym is_x)
-        ∙ flag_code x.term x.comma ∙ no_comma in
+        let no_comma_yet : v.comma ≡ false =
+        sym (comma_item v.term v.comma) ∙ ap comma_of (sym is_x)
+        ∙ comma_code x.term x.comma ∙ no_comma in
         let made : shown
         (record { term = y.term; comma = true }) ≡ term_shown v.term true = sym
         (with_code y.term y.comma)
-        ∙ ap with_flag is_y ∙ with_term_flag v.term v.flag in
-        let long : length (shows vs ++ term_shown v.term v.flag ∷ []) ≡ length
-        (shows vs) + 1 = length-append (shows vs) (term_shown v.term v.flag ∷ []) in
+        ∙ ap set_comma is_y ∙ set_comma_term v.term v.comma in
+        let long : length (shows vs ++ term_shown v.term v.comma ∷ []) ≡ length
+        (shows vs) + 1 = length-append (shows vs) (term_shown v.term v.comma ∷ []) in
         let size : length c.frame.items.items ≡ length
-        (shows vs ++ term_shown v.term v.flag ∷ []) = sym
+        (shows vs ++ term_shown v.term v.comma ∷ []) = sym
         (shown_len c.frame.items.items)
         ∙ ap length seen in
         let at : k ≡ length (shows vs) = omega (arith, last, long, size) in (
-          record { title = o.title; frame = flagged_frame o.frame v.term vs; around = o.around },
+          record { title = o.title; frame = comma_frame o.frame v.term vs; around = o.around },
           ap (λ f. machine.unless f (machine.inside (record {
             title = o.title;
-            frame = flagged_frame o.frame v.term vs;
+            frame = comma_frame o.frame v.term vs;
             around = o.around;
-          }))) unflagged,
+          }))) no_comma_yet,
           record {
             number = s.number;
             around = s.around;
             frame =
                 same_look (looks d.frame)
-                (look_of (layer s.number (flagged_frame o.frame v.term vs)))
+                (look_of (layer s.number (comma_frame o.frame v.term vs)))
                 (ap body_of b ∙ ap (λ (l : Look). l.body) s.frame)
                 (ap (map shown) i
                 ∙ map_set_shown c.frame.items.items k
                 (record { term = y.term; comma = true })
                 ∙ ap (λ zs. slice_set zs k
                 (shown (record { term = y.term; comma = true }))) seen
-                ∙ ap (λ j. slice_set (shows vs ++ term_shown v.term v.flag ∷ []) j
+                ∙ ap (λ j. slice_set (shows vs ++ term_shown v.term v.comma ∷ []) j
                 (shown (record { term = y.term; comma = true }))) at
-                ∙ set_last (shows vs) (term_shown v.term v.flag)
+                ∙ set_last (shows vs) (term_shown v.term v.comma)
                 (shown (record { term = y.term; comma = true }))
                 ∙ ap (λ z. shows vs ++ z ∷ []) made)
                 (t ∙ sym (not_alternating v.term vs))
@@ -350,15 +351,15 @@ shows_comma c d o x y k s lt last xs no_comma ys b n i t a e = go o.frame.items 
             frames = s.frames;
             holds =
                 subst (λ (q : Keys). Holds
-                (layer s.number (flagged_frame o.frame v.term vs) ∷ s.around)
-                (left q)) (sym e) (holds_flag s.number o.frame s.around
-                (left c.keys) v.term v.flag vs w s.holds);
+                (layer s.number (comma_frame o.frame v.term vs) ∷ s.around)
+                (left q)) (sym e) (holds_comma s.number o.frame s.around
+                (left c.keys) v.term v.comma vs w s.holds);
             within =
                 subst (λ (q : Keys). (h : ℕ) → groups q ≤ h → without h (left q) ≡ left q)
                 (sym e) s.within;
             are_open =
                 subst (λ (q : Keys). AreOpen q (groups q) (layer s.number
-                (flagged_frame o.frame v.term vs) ∷ s.around)) (sym e) (let z = s.are_open in
+                (comma_frame o.frame v.term vs) ∷ s.around)) (sym e) (let z = s.are_open in
                 (z.0, z.1, z.2));
           },
         )

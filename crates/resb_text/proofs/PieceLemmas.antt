@@ -2,9 +2,9 @@
 use Rattle.std.proofs.Common.{◌≡◌, ℕ, ◌+◌, ◌-◌, ◌<◌, true, List, get_or, arith, subst, ⊎_elim}
 use Rattle.std.proofs.lemmas.Str.{IsCharBoundary-before_ascii, IsCharBoundary-after_ascii}
 use Rattle.std.specs.Str.{IsUtf8, IsCharBoundary}
-use Rattle.resb_grammar.specs.Bytes.{is_word}
+use Rattle.resb_grammar.specs.ByteRuns.{is_word}
 use Rattle.resb_text.specs.Turns.{IsPiece, IsWordPiece, IsQuotedPiece}
-use Rattle.resb_grammar.proofs.BytesLemmas.{word_ascii, word_some, there}
+use Rattle.resb_grammar.proofs.ByteRunsLemmas.{word_ascii, word_some, there}
 
 -- a place after an ASCII byte
 after_byte : (text : List ℕ) (from : ℕ) → IsUtf8 text → 0 < from → 0 < get_or text (from - 1) 0

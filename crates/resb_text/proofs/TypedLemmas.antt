@@ -6,7 +6,7 @@ use Rattle.std.proofs.lemmas.Bool.{false≢true}
 use Rattle.resb_grammar.specs.Ascii as ascii
 use Rattle.resb_tree.specs.Tree.{Tree}
 use Rattle.resb_grammar.specs.Tokens.{Skip}
-use Rattle.resb_grammar.specs.Types.{Kind, array_kind, table_kind, GroupType, Head}
+use Rattle.resb_grammar.specs.GroupTypes.{Kind, GroupType, Head}
 use Rattle.resb_grammar.specs.Items.{Item, group_term}
 use Rattle.resb_grammar.specs.Machine as machine
 use Rattle.resb_grammar.specs.Machine.{Body, table_body, array_body, untyped_body, Token, a_text}
@@ -159,24 +159,17 @@ module _ (text : List ℕ) where
       → HeadFails text at e → Fails text e
   head_refused c at e x may fails = inr (fails x.open_groups may x.reached)
 
-  pub array_opened : (c d : Open) (at first : ℕ) → (x : Among text at c)
+  -- a group that holds items is opened
+  pub group_opened : (c d : Open) (at first : ℕ) (kind : Kind) (body : Body) → (x : Among text at c)
       → takes_group x.open_groups.frame.body (is_key_place x.open_groups.frame.items) ≡ true
-      → Head text at array_kind first
-      → ((o : machine.Open) → Shows c o → Shows d (within array_body o)) → Among text first d
-  array_opened c d at first x may head then = record {
-    open_groups = within array_body x.open_groups;
+      → Head text at kind first
+      → ((o : machine.Open) → machine.begun_as kind o ≡ inside (within body o))
+      → ((o : machine.Open) → Shows c o → Shows d (within body o)) → Among text first d
+  group_opened c d at first kind body x may head opens then = record {
+    open_groups = within body x.open_groups;
     shows = then x.open_groups x.shows;
-    reached = begun x.open_groups at first array_kind may x.reached head;
-  }
-
-  pub table_opened : (c d : Open) (at first : ℕ) → (x : Among text at c)
-      → takes_group x.open_groups.frame.body (is_key_place x.open_groups.frame.items) ≡ true
-      → Head text at table_kind first
-      → ((o : machine.Open) → Shows c o → Shows d (within table_body o)) → Among text first d
-  table_opened c d at first x may head then = record {
-    open_groups = within table_body x.open_groups;
-    shows = then x.open_groups x.shows;
-    reached = begun x.open_groups at first table_kind may x.reached head;
+    reached = subst (λ (s : State). At text first s) (opens x.open_groups)
+        (begun x.open_groups at first kind may x.reached head);
   }
 
   pub leaf_refused : (c : Open) (at first : ℕ) (kind : Kind) (e : TextParserError)

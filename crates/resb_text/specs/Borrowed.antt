@@ -1,5 +1,6 @@
 -- Which strings are slices of the text, so that none of them was copied.
-use Rattle.std.specs.Prelude.{◌≡◌, Bool, true, false, ◌&&◌, List, [], ◌∷◌, map}
+use Rattle.std.specs.Prelude.{◌≡◌, Bool, true, false, List, map}
+use Rattle.std.specs.List.{list_all}
 use Rattle.std.specs.declared.borrow.CowStr.{CowStr}
 use Rattle.std.specs.declared.borrow.CowStr.TheVariants as text
 use Rattle.resb_tree.specs.declared.resource.Resource.{Resource, fold-Resource}
@@ -12,9 +13,9 @@ abbrev pub is_slice : {Z : Type 0} → CowStr Z → Bool
 is_slice (text.Borrowed r) = true
 is_slice (text.Owned s) = false
 
+-- each of them is true
 abbrev pub all_true : List Bool → Bool
-all_true [] = true
-all_true (b ∷ bs) = b && all_true bs
+all_true = list_all (λ b. b)
 
 -- one level, where it is known of each resource inside
 abbrev pub borrowed_step : Resource-F Bool → Bool

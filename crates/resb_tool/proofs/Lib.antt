@@ -1,3 +1,4 @@
+-- For this crate alone.
 mod HexText
 mod Words
 mod Agreeing

@@ -16,10 +16,6 @@ pub entries_of-pairs_of : (es : Entries) → entries_of (pairs_of es) ≡ es
 entries_of-pairs_of no_entries = refl
 entries_of-pairs_of (entry k t es) = ap (entry k t) (entries_of-pairs_of es)
 
-pub pairs_of-entries_of : (ps : List (List ℕ × Tree)) → pairs_of (entries_of ps) ≡ ps
-pairs_of-entries_of [] = refl
-pairs_of-entries_of (p ∷ ps) = ap (λ qs. p ∷ qs) (pairs_of-entries_of ps)
-
 pairs_at : (o : Ordering) (a b c : Entries)
     → pairs_of (match_ordering o a b c) ≡ fin.by_order o (pairs_of a) (pairs_of b) (pairs_of c)
 pairs_at Less a b c = refl
@@ -45,13 +41,6 @@ pub IsMap-put : (k : List ℕ) (t : Tree) (es : Entries) → IsMap es → IsMap 
 IsMap-put k t es h =
     subst (λ ps. T (fin.is_sorted text_cmp ps)) (sym (pairs_of-put k t es))
     (fin.is_sorted-put text_cmp nat_list_cmp_total k t (pairs_of es) h)
-
-pub IsMap-put_all : (ps : List (List ℕ × Tree)) (es : Entries) → IsMap es → IsMap (put_all es ps)
-IsMap-put_all [] es h = h
-IsMap-put_all (p ∷ ps) es h = IsMap-put_all ps (put p.0 p.1 es) (IsMap-put p.0 p.1 es h)
-
-pub IsMap-map_of : (ps : List (List ℕ × Tree)) → IsMap (map_of ps)
-IsMap-map_of ps = IsMap-put_all ps no_entries tt
 
 -- two maps that answer alike are equal
 pub same_map : (es fs : Entries) → IsMap es → IsMap fs → ((q : List ℕ) → get q es ≡ get q fs)

@@ -6,6 +6,7 @@ pub mod Equality
 pub mod View
 pub mod Maps
 pub mod Keys
+pub mod WalkOrder
 pub mod Bundle
 pub mod Int28
 pub mod Laws

@@ -75,8 +75,8 @@ module _ {L T : Type 0} (lists : L → List Tree → Type 0)
       waits_refused lists tables p f' w' n' (left + s') before (word u') d h sum
       (refused_word p u' (left + s') d (chain_refused left (left + s') d c refl r))
 
-  -- the state of the reader between turns
-  pub record Turn (root before : ℕ) (fs : List (Waiting L T)) (f : Open L T)
+  -- the state of the reader between rounds
+  pub record Round (root before : ℕ) (fs : List (Waiting L T)) (f : Open L T)
       (left : ℕ) : Type 0 where
     pub place : ℕ
     pub outer : ℕ

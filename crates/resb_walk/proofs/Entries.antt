@@ -8,7 +8,7 @@ use Rattle.resb_format.specs.Content.{Member}
 use Rattle.resb_format.specs.Denotes.{DenMember, DenPairs, pairs_none, pairs_more, ReachesMember}
 use Rattle.resb_format.specs.Denotes.{ReachesPairs, pairs_here, pairs_later}
 use Rattle.resb_format.proofs.Denoting.{unique_member}
-use Rattle.resb_walk.proofs.Lists.{counted_member}
+use Rattle.resb_format.proofs.Denoting.{counted_member}
 
 module _ (p : Parts) where
   -- one more entry at the end

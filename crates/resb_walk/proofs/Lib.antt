@@ -1,12 +1,13 @@
-pub mod Lists
-pub mod Entries
-pub mod Lift
+-- For crates above: those that are `pub`.
+mod Lists
+mod Entries
+mod Lift
 pub mod Meeting
-pub mod Waits
-pub mod Chain
-pub mod Turns
-pub mod Placed
-pub mod Made
-pub mod Surrogates
-pub mod Keys
-pub mod Plain
+mod Waits
+mod Chain
+mod Rounds
+mod Placed
+mod Made
+mod Surrogates
+mod Keys
+mod Plain

@@ -1,55 +1,25 @@
 -- From the members of a word to the word.
-use Rattle.std.proofs.Common.{inl, inr, ℕ, List, ◌≡◌, ◌≤◌, ◌+◌, Option, Some, None, refl}
+use Rattle.std.proofs.Common.{inl, inr, ℕ, List, ◌≡◌, ◌+◌, Option, Some, None}
 use Rattle.std.proofs.Common.{subst, arith}
 use Rattle.resb_tree.specs.Tree.{Tree}
 use Rattle.resb_format.specs.Parts.{Parts}
-use Rattle.resb_format.specs.Content.{Member, Content, leaf, list, pairs, content, word, unit}
+use Rattle.resb_format.specs.Content.{Member, list, pairs, content, word, unit}
 use Rattle.resb_format.specs.Denotes.{Den, den_leaf, den_list, den_pairs, DenMember, den_word}
 use Rattle.resb_format.specs.Denotes.{DenEach, DenPairs, Reaches, reaches_one, reaches_list}
 use Rattle.resb_format.specs.Denotes.{reaches_pairs, ReachesMember, reaches_word, reaches_unit}
 use Rattle.resb_format.specs.Denotes.{ReachesEach, ReachesPairs}
+use Rattle.resb_format.proofs.Denoting.{same_list, same_pairs, leaf_list, leaf_pairs, list_pairs}
 use Rattle.resb_walk.specs.Refusals.{DenotesNothing, Refuses}
 use Rattle.resb_format.specs.declared.error.ReadingError.{ReadingError}
 
 pub some_none : {A : Type 0} {o : Option A} {x : A} → o ≡ None → o ≡ Some x → ⊥
 some_none e f = cc
 
-pub same_list : {o : Option Content} {ms ns : List Member} → o ≡ Some (list ms) → o ≡ Some (list ns)
-    → ms ≡ ns
-same_list e f = cc
-
-pub same_pairs : {o : Option Content} {es fs : List (ℕ × Member)} → o ≡ Some (pairs es)
-    → o ≡ Some (pairs fs) → es ≡ fs
-same_pairs e f = cc
-
-pub leaf_list : {o : Option Content} {t : Tree} {ms : List Member} → o ≡ Some (leaf t)
-    → o ≡ Some (list ms) → ⊥
-leaf_list e f = cc
-
-pub leaf_pairs : {o : Option Content} {t : Tree} {es : List (ℕ × Member)} → o ≡ Some (leaf t)
-    → o ≡ Some (pairs es) → ⊥
-leaf_pairs e f = cc
-
-pub list_pairs : {o : Option Content} {ms : List Member} {es : List (ℕ × Member)}
-    → o ≡ Some (list ms) → o ≡ Some (pairs es) → ⊥
-list_pairs e f = cc
-
 module _ (p : Parts) where
   pub none_of_none : {w n : ℕ} {t : Tree} → content p w ≡ None → Den p w t n → ⊥
   none_of_none e (den_leaf f) = some_none e f
   none_of_none e (den_list f d) = some_none e f
   none_of_none e (den_pairs f d) = some_none e f
-
-  one_of_none : {w k : ℕ} → content p w ≡ None → Reaches p w k → k ≡ 1
-  one_of_none e reaches_one = refl
-  one_of_none e (reaches_list f r) = absurd (some_none e f)
-  one_of_none e (reaches_pairs f r) = absurd (some_none e f)
-
-  -- no content
-  pub stuck_none : (w left : ℕ) → content p w ≡ None → 1 ≤ left
-      → DenotesNothing (Den p w) (Reaches p w) left
-  stuck_none w left e h =
-      ((λ t n d. none_of_none e d), (λ r. let k : left + 1 ≡ 1 = one_of_none e r in omega arith))
 
   pub none_of_list : {w n : ℕ} {t : Tree} {ms : List Member} → content p w ≡ Some (list ms)
       → ((ts : List Tree) (k : ℕ) → DenEach p ms ts k → ⊥) → Den p w t n → ⊥

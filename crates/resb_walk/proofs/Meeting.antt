@@ -18,10 +18,11 @@ use Rattle.resb_walk.specs.declared.file.Pairs.{Pairs}
 use Rattle.resb_walk.specs.declared.frame.Open.{Open}
 use Rattle.resb_walk.specs.declared.frame.Waiting.{Waiting}
 use Rattle.resb_walk.specs.declared.frame.Waiting.TheVariants as waiting
-use Rattle.resb_walk.proofs.Chain.{Chain, chain_none, chain_more, Turn}
+use Rattle.resb_walk.proofs.Chain.{Chain, chain_none, chain_more, Round}
 use Rattle.resb_walk.proofs.Lists.{none_each}
 use Rattle.resb_walk.proofs.Entries.{none_pairs}
-use Rattle.resb_walk.proofs.Lift.{some_none, same_list, same_pairs, list_pairs}
+use Rattle.resb_format.proofs.Denoting.{same_list, same_pairs, list_pairs}
+use Rattle.resb_walk.proofs.Lift.{some_none}
 use Rattle.resb_walk.proofs.Lift.{none_of_none, none_of_list, none_of_pairs}
 
 module _ (p : Parts) where
@@ -145,6 +146,6 @@ module _ (p : Parts) where
 
   pub turn_meets : {L T : Type 0} (lists : L → List Tree → Type 0)
       (tables : T → List (List ℕ × Tree) → Type 0) (root before : ℕ) (fs : List (Waiting L T))
-      (f : Open L T) (left : ℕ) (turn : Turn lists tables p root before fs f left) (g : Refusal)
+      (f : Open L T) (left : ℕ) (turn : Round lists tables p root before fs f left) (g : Refusal)
       → Meets p (word turn.place) g → Meets p (word root) g
   turn_meets lists tables root before fs f left turn g h = chain_meets lists tables g turn.chain h

@@ -36,34 +36,6 @@ module _ {L T : Type 0} (lists : L → List Tree → Type 0)
   table_begins rest made w e h =
       record { done = []; entries = []; stands = e; each = pairs_none; is_made = h }
 
-  -- a member is wanted
-  pub list_wants : (rest later : Members) (x : Member) (made : L) (w n : ℕ)
-      → OpenedList lists tables p rest made w n → members_of rest ≡ x ∷ members_of later
-      → ListWaits lists tables p later made w x n
-  list_wants rest later x made w n h e =
-      record {
-        done = h.done;
-        trees = h.trees;
-        stands = h.stands ∙ ap (λ ms. Some (list (h.done ++ ms))) e;
-        each = h.each;
-        is_made = h.is_made;
-      }
-
-  pub table_wants : (rest later : Pairs) (place : ℕ) (x : Member) (made : T) (key : List ℕ)
-      (w n : ℕ)
-      → OpenedTable lists tables p rest made w n → pairs_of rest ≡ (place, x) ∷ pairs_of later
-      → key_at p.keys place ≡ Some key → TableWaits lists tables p later made key w x n
-  table_wants rest later place x made key w n h e k =
-      record {
-        done = h.done;
-        entries = h.entries;
-        place = place;
-        stands = h.stands ∙ ap (λ es. Some (pairs (h.done ++ es))) e;
-        keyed = k;
-        each = h.each;
-        is_made = h.is_made;
-      }
-
   -- a member is put in
   pub list_puts : (rest : Members) (made made' : L) (w n k : ℕ) (x : Member) (t : Tree)
       → (h : ListWaits lists tables p rest made w x n) → DenMember p x t k

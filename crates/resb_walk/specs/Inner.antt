@@ -1,4 +1,4 @@
 -- Words of the reader's private steps: nothing here has to be trusted.
 pub mod Members
 pub mod Frames
-pub mod Turns
+pub mod Rounds

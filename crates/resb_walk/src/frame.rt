@@ -9,7 +9,7 @@ ghost use Rattle.resb_format.specs.HeadChecks.{refusal_of};
 ghost use Rattle.resb_walk.specs.Files.{parts_in};
 ghost use Rattle.resb_walk.specs.Inner.Frames.{Opened, Waits};
 ghost use Rattle.resb_walk.specs.Meets.{Meets};
-ghost use Rattle.resb_walk.specs.Inner.Turns.{Steps, Puts};
+ghost use Rattle.resb_walk.specs.Inner.Rounds.{Steps, Puts};
 
 use crate::file::{File, Member, Members, Pairs};
 use crate::make::Make;

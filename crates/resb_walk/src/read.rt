@@ -11,7 +11,7 @@ ghost use Rattle.resb_walk.specs.Files.{parts_in};
 ghost use Rattle.resb_walk.specs.Inner.Members.{member_of};
 ghost use Rattle.resb_walk.specs.Meets.{Meets, Blames};
 ghost use Rattle.resb_walk.specs.Refusals.{Answers};
-ghost use Rattle.resb_walk.specs.Inner.Turns.{Reads};
+ghost use Rattle.resb_walk.specs.Inner.Rounds.{Reads};
 
 use crate::count::Checked;
 use crate::file::{File, Leaf, Member, Standing};

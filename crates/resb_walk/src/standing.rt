@@ -19,11 +19,8 @@ use crate::faults::{key_not_utf8, key_past_end, key_unterminated, not_utf16, pas
 use crate::file::{File, Leaf, Members, Pairs, Positions, Standing};
 use crate::types::readable;
 use crate::units::is_well_formed;
-use resb_format::bytes::{some_bytes, some_unit, some_units, some_word, some_words};
-use resb_format::{BinaryDeserializerError, ResourceReprType, string_at};
-
-/// The most units of a string without a marker.
-const MAX_UNMARKED: usize = 40;
+use resb_format::bytes::{cut_at, some_bytes, some_unit, some_units, some_word, some_words};
+use resb_format::{BinaryDeserializerError, MAX_UNMARKED, ResourceReprType, string_at};
 
 /// The number of the first zero byte.
 fn first_zero(bytes: &[u8]) -> Option<usize>
@@ -40,7 +37,7 @@ fn plain_text(block: &[u8], unit: usize) -> Option<&[u8]>
     if unit > block.len() / 2 {
         return None;
     }
-    let (_, from) = block.split_at(2 * unit);
+    let (_, from) = cut_at(block, 2 * unit)?;
     'units: for count in 0..MAX_UNMARKED + 1 {
         let found = some_unit(from, count)?;
         if found == 0 {
@@ -64,17 +61,15 @@ impl<'a> File<'a> {
             (λ e. (key_at keys at ≡ None) × IsFault e) }
         ensures says { IfErr result (Says (key_damage self.entry.keys.now at)) }
     {
-        if self.keys.len() < at {
+        let Some((_, tail)) = cut_at(self.keys, at) else {
             return Err(key_past_end());
-        }
-        let (_, tail) = self.keys.split_at(at);
+        };
         let Some(end) = first_zero(tail) else {
             return Err(key_unterminated());
         };
-        if end > tail.len() {
+        let Some((front, _)) = cut_at(tail, end) else {
             return Err(key_unterminated());
-        }
-        let (front, _) = tail.split_at(end);
+        };
         match str::from_utf8(front) {
             Ok(text) => Ok(text),
             Err(_) => Err(key_not_utf8()),

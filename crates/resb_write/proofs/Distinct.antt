@@ -11,7 +11,7 @@ use Rattle.std.specs.Cmp.Lexicographic.{bytes_decides}
 use Rattle.resb_tree.specs.Keys.{same_text}
 use Rattle.resb_pool.specs.Plan.{nows}
 use Rattle.resb_pool.specs.Fault.{unexpected, limit}
-use Rattle.resb_write.specs.Keys.{is_among}
+use Rattle.resb_write.specs.KeyBlock.{is_among}
 use Rattle.resb_write.specs.Faults.{is_unlisted, is_far, has_nul, key_fault}
 use Rattle.std.specs.Prelude.{codes}
 

@@ -22,10 +22,11 @@ use Rattle.resb_layout.proofs.Numbers.{EachBelow, halves_len}
 use Rattle.resb_layout.proofs.Grows.{grows}
 use Rattle.resb_layout.proofs.Denoted.{laid_is_denoted}
 use Rattle.resb_layout.proofs.Paid.{laid_is_paid}
-use Rattle.resb_bodies.specs.WalkOrder.{walk, texts_of, values_of}
+use Rattle.resb_tree.specs.WalkOrder.{walk, texts_of, values_of}
 use Rattle.resb_bodies.specs.Room.{HasRoomFor}
-use Rattle.resb_write.specs.Keys.{keys_of, used, key_bytes, padded, key_block, last_of, position_in}
-use Rattle.resb_write.specs.Keys.{key_position, keys_start}
+use Rattle.resb_write.specs.KeyBlock.{used, key_bytes, padded, key_block, last_of, position_in}
+use Rattle.resb_tree.specs.WalkOrder.{keys_of}
+use Rattle.resb_write.specs.KeyBlock.{key_position, keys_start}
 use Rattle.resb_write.specs.PlainSize.{held_size, resources_size, list_size}
 use Rattle.resb_write.specs.Faults.{key_fault, fault, first_of}
 use Rattle.resb_write.specs.WrittenHead.{written_header}
@@ -62,10 +63,6 @@ largest_room (t ∷ ts) = omega (
     by (binary s) = omega arith
     by (integer n) = omega arith
     by (int_vector ns) = omega arith
-
-pub block_room : (us ks : List (List ℕ)) → list_size ks < 2 ^ 28
-    → length (key_bytes (used us ks)) < 2 ^ 28
-block_room us ks h = omega (arith, used_room us ks, h)
 
 -- what is known when a file is put together
 pub record Made (t : Tree) (ks js : List (List ℕ)) : Type 0 where

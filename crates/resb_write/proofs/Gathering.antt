@@ -7,13 +7,13 @@ use Rattle.std.specs.Option.{option_or}
 use Rattle.std.proofs.lemmas.List.Concat.{flat_map-append}
 use Rattle.std.proofs.lemmas.List.Folds.{list_any-append}
 use Rattle.std.proofs.lemmas.List.Sums.{sum_by-append, sum_by-cons}
-use Rattle.resb_tree.specs.Tree.{Tree, entries_len}
+use Rattle.resb_tree.specs.Tree.{Tree}
 use Rattle.resb_tree.specs.View.{entries_view, items_view}
 use Rattle.resb_tree.specs.declared.resource.Resource.{Resource}
 use Rattle.resb_format.specs.Units.{units}
 use Rattle.resb_pool.specs.Plan.{nows, first_too_long}
-use Rattle.resb_bodies.specs.WalkOrder.{text_in, members, values_of}
-use Rattle.resb_write.specs.Keys.{own_keys}
+use Rattle.resb_tree.specs.WalkOrder.{text_in, members, values_of}
+use Rattle.resb_tree.specs.WalkOrder.{own_keys}
 use Rattle.resb_write.specs.PlainSize.{held_size, resources_size}
 use Rattle.resb_write.specs.Faults.{is_over_32_bits}
 use Rattle.resb_write.specs.Inner.Gathered.{entry_count_of, largest_of, Gathered}
@@ -130,7 +130,3 @@ pub entries_long : (es : List (List ℕ × Resource))
     → length (values_of (entries_view es)) ≡ length es
 entries_long [] = refl
 entries_long (e ∷ es) = omega (arith, entries_long es)
-
-pub entries_len_is : (es : List (List ℕ × Resource)) → entries_len (entries_view es) ≡ length es
-entries_len_is [] = refl
-entries_len_is (e ∷ es) = omega (arith, entries_len_is es)

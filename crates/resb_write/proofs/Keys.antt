@@ -1,6 +1,6 @@
 -- Keys in a list, and the places of their last occurrences.
-use Rattle.std.proofs.Common.{◌≡◌, ℕ, zero, suc, ◌+◌, ◌-◌, ◌^◌, ◌<◌, min, List, [], ◌∷◌, ◌++◌}
-use Rattle.std.proofs.Common.{length, filter, get_or, take, Bor, Option, Some, None, option_map}
+use Rattle.std.proofs.Common.{◌≡◌, ℕ, zero, suc, ◌+◌, ◌-◌, ◌^◌, min, List, [], ◌∷◌, ◌++◌}
+use Rattle.std.proofs.Common.{length, filter, Bor, Option, Some, None, option_map}
 use Rattle.std.proofs.Common.{Bool, true, false, cond, ◌||◌, inl, inr, refl, sym, ◌∙◌, ap}
 use Rattle.std.proofs.Common.{append_assoc, length-append, arith}
 use Rattle.std.specs.List.{Contains}
@@ -13,9 +13,9 @@ use Rattle.std.proofs.lemmas.List.Concat.{flat_map-append}
 use Rattle.std.proofs.lemmas.List.Folds.{list_any-append}
 use Rattle.resb_tree.specs.Keys.{same_text}
 use Rattle.resb_pool.specs.Plan.{nows}
-use Rattle.resb_write.specs.Keys.{is_among, key_bytes, last_of}
+use Rattle.resb_write.specs.KeyBlock.{is_among, key_bytes, last_of}
 use Rattle.resb_write.specs.Inner.Places.{near_position, near_position_in}
-use Rattle.std.proofs.lemmas.List.{map_push, map_more}
+use Rattle.std.proofs.lemmas.List.{map_push}
 
 same_either_way : (a b : List ℕ) → bytes_eq a b ≡ same_text b a
 same_either_way a b = same_from_decides _ _ (Decides-like _ (λ e. sym e) (λ e. sym e)
@@ -188,10 +188,6 @@ position_moves a js at next e p =
     let h = length-append (a ++ 0 ∷ []) [] in
     let k = length-append a (0 ∷ []) in
     omega (arith, e, p, f, g, h, k)
-
-pub nows-take : (xs : List (Bor (List ℕ))) (i : ℕ) (d : Bor (List ℕ)) → i < length xs
-    → nows (take (i + 1) xs) ≡ nows (take i xs) ++ (get_or xs i d).now ∷ []
-nows-take xs i d h = map_more (λ (y : Bor (List ℕ)). y.now) xs i d h
 
 -- a key that has a place is in the list
 pub place_contained : (k : List ℕ) (js : List (List ℕ)) (n : ℕ) → last_of k js ≡ Some n

@@ -14,10 +14,12 @@ use Rattle.resb_pool.specs.Fault.{Fault}
 use Rattle.resb_pool.specs.Plan.{IsPlan}
 use Rattle.resb_pool.specs.Pool.{Off}
 use Rattle.resb_pool.proofs.IsRead.{pool_is_read}
-use Rattle.resb_layout.specs.Laid.{Given, keys_in}
-use Rattle.resb_bodies.specs.WalkOrder.{text_in}
+use Rattle.resb_layout.specs.Laid.{Given}
+use Rattle.resb_tree.specs.WalkOrder.{entry_keys}
+use Rattle.resb_tree.specs.WalkOrder.{text_in}
 use Rattle.resb_bodies.specs.Room.{IsKnown}
-use Rattle.resb_write.specs.Keys.{own_keys, used, is_among, last_of, position_in, keys_start}
+use Rattle.resb_write.specs.KeyBlock.{used, is_among, last_of, position_in, keys_start}
+use Rattle.resb_tree.specs.WalkOrder.{own_keys}
 use Rattle.resb_write.specs.Faults.{has_nul, is_unlisted, is_far, key_fault}
 use Rattle.resb_write.specs.Inner.Places.{near_position, near_position_in}
 use Rattle.resb_write.proofs.Keys.{place_contained}
@@ -154,9 +156,9 @@ module _ (ts : List Tree) (g : Given) (js : List (List ℕ)) (us : List ℕ)
   known (string s) c = offset_of_text (flat_map text_in ts) us g.offset plan s
       (in_flat text_in ts (string s) s c (0, omega arith, refl))
   known (table es) c =
-      let r = placed_each (flat_map own_keys ts) js faultless (keys_in es)
+      let r = placed_each (flat_map own_keys ts) js faultless (entry_keys es)
       (λ k h. in_flat own_keys ts (table es) k c h) in
-      (r.0, (λ i. map (λ k. positions k i) (keys_in es)) ∙ r.1)
+      (r.0, (λ i. map (λ k. positions k i) (entry_keys es)) ∙ r.1)
   known (array us) c = tt
   known (binary s) c = tt
   known (integer n) c = tt

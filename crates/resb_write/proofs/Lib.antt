@@ -1,13 +1,14 @@
-pub mod Keys
-pub mod Distinct
-pub mod Faults
-pub mod Gathering
-pub mod Room
-pub mod Known
-pub mod Heads
-pub mod Blocks
-pub mod Files
-pub mod Refusals
+-- For crates above: those that are `pub`.
+mod Keys
+mod Distinct
+mod Faults
+mod Gathering
+mod Room
+mod Known
+mod Heads
+mod Blocks
+mod Files
+mod Refusals
 pub mod Listed
-pub mod Examples
-pub mod OneFile
+mod Examples
+mod OneFile

@@ -1,7 +1,7 @@
 -- Where each key of a tree is listed, no key is refused as unlisted.
 use Rattle.std.proofs.Common.{◌≡◌, ℕ, zero, suc, ◌+◌, List, [], ◌∷◌, ◌++◌, length, filter}
 use Rattle.std.proofs.Common.{Option, Some, None, option_map, Bool, true, false, cond, codes}
-use Rattle.std.proofs.Common.{refl, sym, ◌∙◌, ap, subst, append_assoc, append-nil, arith}
+use Rattle.std.proofs.Common.{refl, sym, ◌∙◌, ap, subst, append-nil, arith}
 use Rattle.std.specs.List.{Contains, list_any, flat_map}
 use Rattle.std.specs.Option.{is_none}
 use Rattle.std.specs.Cmp.Lexicographic.{bytes_decides}
@@ -11,14 +11,16 @@ use Rattle.resb_tree.specs.Tree.{no_trees, more_trees, Entries, no_entries, entr
 use Rattle.resb_tree.specs.Keys.{same_text, is_key, is_key_in, is_key_of}
 use Rattle.resb_pool.specs.Fault.{Fault, string_too_long, unexpected, limit, out_of_memory}
 use Rattle.resb_pool.specs.Plan.{first_too_long}
-use Rattle.resb_layout.specs.Laid.{keys_in}
-use Rattle.resb_bodies.specs.WalkOrder.{walk, walk_each, walk_values, texts_of}
-use Rattle.resb_write.specs.Keys.{own_keys, keys_of, is_among, used, last_of}
-use Rattle.resb_write.specs.Keys.{keys_start}
+use Rattle.resb_tree.specs.WalkOrder.{entry_keys}
+use Rattle.resb_tree.specs.WalkOrder.{walk, walk_each, walk_values, texts_of}
+use Rattle.resb_write.specs.KeyBlock.{is_among, used, last_of}
+use Rattle.resb_tree.specs.WalkOrder.{own_keys, keys_of}
+use Rattle.resb_write.specs.KeyBlock.{keys_start}
 use Rattle.resb_write.specs.Faults.{has_nul, is_unlisted, is_far, is_over_32_bits}
 use Rattle.resb_write.specs.Faults.{fault, first_of}
 use Rattle.resb_write.proofs.Keys.{no_place}
 use Rattle.resb_write.proofs.Known.{any_member}
+use Rattle.std.proofs.lemmas.Grind.{flat_map-append}
 
 module _ {A : Type 0} where
   first_or_later : (xs ys : List A) (x : A) → Contains (xs ++ ys) x → (P : Type 0)
@@ -27,12 +29,6 @@ module _ {A : Type 0} where
   first_or_later (y ∷ xs) ys x (zero, lt, is) P f g = f (0, omega arith, is)
   first_or_later (y ∷ xs) ys x (suc i, lt, is) P f g =
       first_or_later xs ys x (i, omega arith, is) P (λ h. f (suc h.0, omega (arith, h.1), h.2)) g
-
-  flat-append : (f : Tree → List A) (ts us : List Tree)
-      → flat_map f (ts ++ us) ≡ flat_map f ts ++ flat_map f us
-  flat-append f [] us = refl
-  flat-append f (t ∷ ts) us = ap (λ l. f t ++ l) (flat-append f ts us)
-      ∙ sym (append_assoc (f t) (flat_map f ts) (flat_map f us))
 
 pub contained-filter : {X : Type 0} (p : X → Bool) (xs : List X) (x : X) → p x ≡ true
     → Contains xs x → Contains (filter p xs) x
@@ -50,7 +46,7 @@ contained-filter p (y ∷ ys) x e (suc i, lt, is) =
     by true h = (suc h.0, omega (arith, h.1), h.2)
     by false h = h
 
-contained_own : (k : List ℕ) (es : Entries) → Contains (keys_in es) k → is_key_of k es ≡ true
+contained_own : (k : List ℕ) (es : Entries) → Contains (entry_keys es) k → is_key_of k es ≡ true
 contained_own k no_entries h = absurd (omega (arith, h.1))
 contained_own k (entry j t es) (zero, lt, is) =
     or_left _ _ (or_left (same_text k j) (is_key k t) ((bytes_decides k j).1 (sym is)))
@@ -62,15 +58,15 @@ mutual
   contained_is_key k (string s) h = absurd (omega (arith, h.1))
   contained_is_key k (array ts) h =
       first_or_later (flat_map own_keys (walk_each ts)) [] k
-      (subst (λ l. Contains l k) (flat-append own_keys (walk_each ts) (array ts ∷ [])) h)
+      (subst (λ l. Contains l k) (flat_map-append own_keys (walk_each ts) (array ts ∷ [])) h)
       (is_key k (array ts) ≡ true)
       (λ g. contained_each k ts g) (λ g. absurd (omega (arith, g.1)))
   contained_is_key k (table es) h =
-      first_or_later (flat_map own_keys (walk_values es)) (keys_in es ++ []) k
-      (subst (λ l. Contains l k) (flat-append own_keys (walk_values es) (table es ∷ [])) h)
+      first_or_later (flat_map own_keys (walk_values es)) (entry_keys es ++ []) k
+      (subst (λ l. Contains l k) (flat_map-append own_keys (walk_values es) (table es ∷ [])) h)
       (is_key k (table es) ≡ true)
       (λ g. contained_values k es g) (λ g. contained_own k es
-      (subst (λ l. Contains l k) (append-nil (keys_in es)) g))
+      (subst (λ l. Contains l k) (append-nil (entry_keys es)) g))
   contained_is_key k (binary s) h = absurd (omega (arith, h.1))
   contained_is_key k (integer n) h = absurd (omega (arith, h.1))
   contained_is_key k (int_vector s) h = absurd (omega (arith, h.1))
@@ -80,7 +76,7 @@ mutual
   contained_each k no_trees h = absurd (omega (arith, h.1))
   contained_each k (more_trees t ts) h =
       first_or_later (keys_of t) (flat_map own_keys (walk_each ts)) k
-      (subst (λ l. Contains l k) (flat-append own_keys (walk t) (walk_each ts)) h)
+      (subst (λ l. Contains l k) (flat_map-append own_keys (walk t) (walk_each ts)) h)
       (is_key_in k (more_trees t ts) ≡ true)
       (λ g. or_left _ _ (contained_is_key k t g)) (λ g. or_right _ _ (contained_each k ts g))
 
@@ -89,7 +85,7 @@ mutual
   contained_values k no_entries h = absurd (omega (arith, h.1))
   contained_values k (entry j t es) h =
       first_or_later (keys_of t) (flat_map own_keys (walk_values es)) k
-      (subst (λ l. Contains l k) (flat-append own_keys (walk t) (walk_values es)) h)
+      (subst (λ l. Contains l k) (flat_map-append own_keys (walk t) (walk_values es)) h)
       (is_key_of k (entry j t es) ≡ true)
       (λ g. or_left _ _ (or_right (same_text k j) _ (contained_is_key k t g)))
       (λ g. or_right _ _ (contained_values k es g))

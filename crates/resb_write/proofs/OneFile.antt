@@ -1,5 +1,5 @@
 -- A bundle and a list of keys leave one file.
-use Rattle.std.proofs.Common.{◌≡◌, ℕ, zero, suc, ◌+◌, ◌*◌, ◌/◌, ◌<◌, ◌≤◌, List, [], ◌∷◌, ◌++◌}
+use Rattle.std.proofs.Common.{◌≡◌, ℕ, zero, suc, ◌+◌, ◌*◌, ◌<◌, ◌≤◌, List, [], ◌∷◌, ◌++◌}
 use Rattle.std.proofs.Common.{length, get_or, take, drop, Bool, refl, sym, ◌∙◌, ap}
 use Rattle.std.proofs.Common.{subst, length-append, arith}
 use Rattle.std.specs.List.{flat_map}
@@ -14,9 +14,9 @@ use Rattle.resb_format.proofs.Spelled.{words_length}
 use Rattle.resb_pool.proofs.OnePool.{one_pool}
 use Rattle.resb_layout.specs.Laid.{Given, State, Lays, halves}
 use Rattle.resb_layout.proofs.Once.{one_layout}
-use Rattle.resb_bodies.specs.WalkOrder.{texts_of}
+use Rattle.resb_tree.specs.WalkOrder.{texts_of}
 use Rattle.resb_bodies.proofs.OneBlock.{one_block}
-use Rattle.resb_write.specs.Keys.{key_block, key_position, keys_start}
+use Rattle.resb_write.specs.KeyBlock.{key_block, key_position, keys_start}
 use Rattle.resb_write.specs.WrittenHead.{written_header}
 use Rattle.resb_write.specs.Written.{even, tail_start, Blocks, bytes_of, Written}
 use Rattle.resb_write.specs.Laws.{OneFile}
@@ -116,9 +116,6 @@ module _ (a : List ℕ) (t : Tree) (fallback : Bool) (ks : List (List ℕ))
       take_long (suc n) [] h = absurd (omega (arith, h))
       take_long (suc n) (x ∷ xs) h = omega (arith, take_long n xs (omega (arith, h)))
 
-words_long : (bs : List ℕ) → length (words_of bs) ≡ length bs / 4
-words_long bs = words_length bs
-
 module _ (a b : List ℕ) (t : Tree) (fallback : Bool) (ks : List (List ℕ)) (fa : EachFits 8 a)
     (fb : EachFits 8 b) (x : Written a t fallback ks) (y : Written b t fallback ks) where
   bytes_are : bytes_of x.blocks ≡ bytes_of y.blocks
@@ -164,8 +161,8 @@ module _ (a b : List ℕ) (t : Tree) (fallback : Bool) (ks : List (List ℕ)) (f
   head_same =
       head_of a fa x
       ∙ ap (flat_map (to_le_bytes w32)) (same_front 8 (words_of (body_of a)) (words_of (body_of b))
-      (omega (arith, words_long (body_of a), long a t fallback ks x))
-      (omega (arith, words_long (body_of b), long b t fallback ks y)) word_same)
+      (omega (arith, words_length (body_of a), long a t fallback ks x))
+      (omega (arith, words_length (body_of b), long b t fallback ks y)) word_same)
       ∙ sym (head_of b fb y)
 
   pub same_file : a ≡ b

@@ -6,8 +6,9 @@ use Rattle.resb_tree.specs.Tree.{Tree}
 use Rattle.resb_pool.specs.Fault.{Fault, out_of_memory}
 use Rattle.resb_pool.specs.Plan.{NotPlanned, no_memory as no_memory_to_plan, too_long}
 use Rattle.resb_pool.specs.Plan.{too_large as too_large_to_plan, texts_size, first_too_long}
-use Rattle.resb_bodies.specs.WalkOrder.{walk, text_in, texts_of}
-use Rattle.resb_write.specs.Keys.{keys_of, used}
+use Rattle.resb_tree.specs.WalkOrder.{walk, text_in, texts_of}
+use Rattle.resb_write.specs.KeyBlock.{used}
+use Rattle.resb_tree.specs.WalkOrder.{keys_of}
 use Rattle.resb_write.specs.PlainSize.{list_size, resources_size}
 use Rattle.resb_write.specs.Faults.{key_fault, fault, first_of, Refused, no_memory, first_fault}
 use Rattle.resb_write.specs.Faults.{too_large}

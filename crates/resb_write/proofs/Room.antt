@@ -1,6 +1,6 @@
 -- What a small plain size says: no fault of sizes, and room for the pool and the bodies.
-use Rattle.std.proofs.Common.{◌≡◌, ℕ, ◌+◌, ◌-◌, ◌*◌, ◌%◌, ◌^◌, ◌<◌, ◌≤◌, List, [], ◌∷◌, ◌++◌}
-use Rattle.std.proofs.Common.{length, Option, Some, None, Bool, true, false, cond, ◌||◌, nat_le}
+use Rattle.std.proofs.Common.{◌||◌, ◌≡◌, ℕ, ◌+◌, ◌-◌, ◌*◌, ◌%◌, ◌^◌, ◌<◌, ◌≤◌, List, [], ◌∷◌, ◌++◌}
+use Rattle.std.proofs.Common.{length, Option, Some, None, Bool, true, false, cond, nat_le}
 use Rattle.std.proofs.Common.{nat_lt, replicate, refl, sym, ◌∙◌, ap, length-append, arith}
 use Rattle.std.specs.List.{list_any, flat_map, sum_by}
 use Rattle.std.proofs.lemmas.Bool.Decides.{nat_tests}
@@ -12,9 +12,9 @@ use Rattle.resb_pool.specs.Plan.{first_too_long, texts_size, IsPlan}
 use Rattle.resb_pool.proofs.Least.{into_least}
 use Rattle.resb_pool.proofs.OrderingLemmas.{length-records}
 use Rattle.resb_pool.proofs.Sizes.{marker_le}
-use Rattle.resb_bodies.specs.WalkOrder.{text_in, members}
+use Rattle.resb_tree.specs.WalkOrder.{text_in, members}
 use Rattle.resb_bodies.specs.Room.{most_units, most_bytes}
-use Rattle.resb_write.specs.Keys.{key_bytes, padded, used, is_among}
+use Rattle.resb_write.specs.KeyBlock.{key_bytes, padded, used, is_among}
 use Rattle.resb_write.specs.PlainSize.{held_size, resources_size, list_size}
 use Rattle.resb_write.specs.Faults.{is_over_32_bits}
 use Rattle.resb_write.specs.Inner.Sizes.{size_fault}
@@ -84,9 +84,6 @@ pool_room S us offset p =
     ∙ sym g) p.records S p.pool.records.once
     (λ s c. (s, ((p.pool.records.just s).0 c).given, refl, omega arith)) in
     omega (arith, e, length-records p.records, q)
-
-sizes_in : Tree → ℕ
-sizes_in t = sum_by size (text_in t)
 
 sizes_cons : (t : Tree) (ts : List Tree) → sum_by size (flat_map text_in (t ∷ ts)) ≡ sum_by size
     (text_in t) + sum_by size (flat_map text_in ts)

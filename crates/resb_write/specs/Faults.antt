@@ -8,8 +8,9 @@ use Rattle.std.specs.Option.{is_none}
 use Rattle.resb_tree.specs.Tree.{Tree, array, binary, int_vector}
 use Rattle.resb_pool.specs.Fault.{Fault, string_too_long, unexpected, limit, out_of_memory}
 use Rattle.resb_pool.specs.Plan.{first_too_long}
-use Rattle.resb_bodies.specs.WalkOrder.{walk, members, texts_of}
-use Rattle.resb_write.specs.Keys.{keys_of, used, position_in}
+use Rattle.resb_tree.specs.WalkOrder.{walk, members, texts_of}
+use Rattle.resb_write.specs.KeyBlock.{used, position_in}
+use Rattle.resb_tree.specs.WalkOrder.{keys_of}
 use Rattle.resb_write.specs.PlainSize.{plain_size}
 
 -- the text holds U+0000, which alone has a byte 0

@@ -9,8 +9,8 @@ pub use Rattle.resb_pool.specs.Fault
 pub use Rattle.resb_pool.specs.FaultOf
 pub use Rattle.resb_pool.specs.Plan
 pub use Rattle.resb_layout.specs.Laid
-pub use Rattle.resb_bodies.specs.WalkOrder
-pub mod Keys
+pub use Rattle.resb_tree.specs.WalkOrder
+pub mod KeyBlock
 pub mod PlainSize
 pub mod Faults
 pub mod WrittenHead

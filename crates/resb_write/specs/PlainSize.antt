@@ -5,7 +5,7 @@ use Rattle.std.specs.Prelude.{ℕ, ◌+◌, ◌*◌, ◌/◌, List, length}
 use Rattle.std.specs.List.{sum_by}
 use Rattle.resb_tree.specs.Tree.{Tree, string, array, table, binary, integer, int_vector}
 use Rattle.resb_format.specs.Units.{units}
-use Rattle.resb_bodies.specs.WalkOrder.{walk, members, values_of}
+use Rattle.resb_tree.specs.WalkOrder.{walk, members, values_of}
 
 -- a string's units, 4 for each child, half the bytes, 2 for each number
 abbrev pub held_size : Tree → ℕ

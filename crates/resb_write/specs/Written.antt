@@ -8,8 +8,8 @@ use Rattle.resb_format.specs.Parts.{body_of, root_word, keys_end, block_end}
 use Rattle.resb_format.specs.File.{Denotes, budget}
 use Rattle.resb_pool.specs.Plan.{IsPlan}
 use Rattle.resb_layout.specs.Laid.{State, Lays, halves}
-use Rattle.resb_bodies.specs.WalkOrder.{texts_of}
-use Rattle.resb_write.specs.Keys.{key_block, key_position, keys_start}
+use Rattle.resb_tree.specs.WalkOrder.{texts_of}
+use Rattle.resb_write.specs.KeyBlock.{key_block, key_position, keys_start}
 use Rattle.resb_write.specs.Faults.{fault}
 use Rattle.resb_write.specs.WrittenHead.{IndexOf}
 

@@ -9,8 +9,8 @@ ghost use Rattle.resb_tree.specs.Tree.{Tree};
 ghost use Rattle.resb_tree.specs.View.{tree_of, entries_view};
 ghost use Rattle.resb_format.specs.Units.{units};
 ghost use Rattle.resb_pool.specs.Plan.{nows, first_too_long};
-ghost use Rattle.resb_layout.specs.Laid.{keys_in};
-ghost use Rattle.resb_bodies.specs.WalkOrder.{walk};
+ghost use Rattle.resb_tree.specs.WalkOrder.{entry_keys};
+ghost use Rattle.resb_tree.specs.WalkOrder.{walk};
 ghost use Rattle.resb_write.specs.Inner.Gathered.{Gathered};
 
 use resb_bodies::in_walk_order;
@@ -126,7 +126,7 @@ impl<'t> Contents<'t> {
     /// Adds a table.
     fn add_table(&mut self, table: &'t Table<'_>) -> Result<(), AllocError>
         ensures { OnOk result ((nows self.new.keys.items
-            ≡ nows self.old.keys.items ++ keys_in (entries_view table.now.entries))
+            ≡ nows self.old.keys.items ++ entry_keys (entries_view table.now.entries))
             × (self.new ≡ record self.old {
               keys = self.new.keys;
               size = min (self.old.size + (16 + 4 * length table.now.entries)) (2 ^ 64 - 1);
@@ -142,7 +142,7 @@ impl<'t> Contents<'t> {
 /// Appends a table's keys.
 fn push_keys<'t>(keys: &mut Vec<&'t str>, table: &'t Table<'_>) -> Result<(), AllocError>
     ensures { OnOk result (nows keys.new.items
-        ≡ nows keys.old.items ++ keys_in (entries_view table.now.entries)) }
+        ≡ nows keys.old.items ++ entry_keys (entries_view table.now.entries)) }
 {
     for key in table.keys() {
         keys.push(key.as_str())?;

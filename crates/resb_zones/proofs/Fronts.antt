@@ -31,7 +31,7 @@ use Rattle.std.proofs.lemmas.List.{get_or-append-add}
 use Rattle.std.proofs.lemmas.List.Elements.{All-append, All-cons, All-nil}
 use Rattle.resb.specs.Places.{Place}
 use Rattle.resb_zones.specs.Zones.{IsNamed, IsReadable, IsLast}
-use Rattle.resb_zones.specs.Inner.Fields.{Takes, LastSoFar, HasTaken, HasSeen, Front}
+use Rattle.resb_zones.specs.Inner.Fields.{Takes, LastSoFar, HasTaken, Front}
 use Rattle.resb_zones.specs.declared.fields.Fields.{Fields}
 
 one : {A : Type 0} (P : A → Type 0) (x : A) → P x → All P (x ∷ [])
@@ -133,11 +133,3 @@ module _ (all : List (Place × Place)) (e : Place × Place) (rest : List (Place 
             ∙ length-append front.done (e ∷ rest) in
             omega arith,
       )
-
-pub front_ends : (all : List (Place × Place)) (f : Fields) (before left : ℕ)
-    → Front all [] f before left → HasSeen all f × (left + length all ≡ before)
-front_ends all f before left front =
-    let same : all ≡ front.done = front.are ∙ append-nil front.done in
-    let paid : left + length front.done ≡ before = front.paid in
-    let long : length all ≡ length front.done = ap length same in
-    (subst (λ ps. HasSeen ps f) (sym same) front.seen, omega arith)

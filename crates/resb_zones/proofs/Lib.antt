@@ -1,3 +1,4 @@
+-- For this crate alone.
 mod Costs
 mod Steps
 mod Fronts

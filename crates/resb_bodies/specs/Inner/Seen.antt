@@ -1,7 +1,7 @@
 -- Words of the steps: room for one body, and what it takes of it.
 use Rattle.std.specs.Prelude.{◌≡◌, ℕ, ◌+◌, ◌-◌, ◌*◌, ◌%◌, ◌^◌, ◌<◌, ◌≤◌, List, [], ◌∷◌, length, All}
 use Rattle.resb_tree.specs.Tree.{Tree}
-use Rattle.resb_bodies.specs.WalkOrder.{children}
+use Rattle.resb_tree.specs.WalkOrder.{children}
 use Rattle.resb_bodies.specs.Room.{given_by, state_of, HasRoomFor, IsKnown}
 use Rattle.resb_bodies.specs.declared.given.Places.{Places}
 use Rattle.resb_bodies.specs.declared.given.Bodies.{Bodies}

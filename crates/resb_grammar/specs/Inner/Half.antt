@@ -9,7 +9,7 @@ is_key _ _ xs = false
 
 abbrev pub key_first : List Item → Bool
 key_first [] = false
-key_first (y ∷ ys) = is_key y.term y.flag ys
+key_first (y ∷ ys) = is_key y.term y.comma ys
 
 abbrev pub is_half : Term → Bool → List Item → Bool
 is_half (string_term s) false xs = is_pairs xs
@@ -19,4 +19,4 @@ is_half _ _ xs = false
 -- entries, and perhaps a key without its group
 abbrev pub half : List Item → Bool
 half [] = true
-half (x ∷ xs) = is_half x.term x.flag xs
+half (x ∷ xs) = is_half x.term x.comma xs

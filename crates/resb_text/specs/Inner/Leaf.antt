@@ -3,7 +3,7 @@ use Rattle.std.specs.Prelude.{◌≡◌, ◌≢◌, ◌⊎◌, ℕ, ◌+◌, Lis
 use Rattle.resb_grammar.specs.Ascii as ascii
 use Rattle.resb_tree.specs.Tree.{Tree}
 use Rattle.resb_grammar.specs.Tokens.{Skip}
-use Rattle.resb_grammar.specs.Types.{Kind}
+use Rattle.resb_grammar.specs.GroupTypes.{Kind}
 use Rattle.resb_grammar.specs.Group.{LeafContent}
 use Rattle.resb_grammar.specs.Machine.{Open, begun_as, At}
 use Rattle.resb_grammar.specs.Stuck.{Stuck}
@@ -19,6 +19,18 @@ pub record Closes (text : List ℕ) (at to : ℕ) : Type 0 where
 -- no `}` stands here, and the error says so
 pub record IsUnclosed (text : List ℕ) (at : ℕ) (e : TextParserError) : Type 0 where
   pub none : slice_index text at ≢ ascii.right_brace
+  pub is : e ≡ record { position = at; expected = expect.RightBrace }
+
+-- behind a number: the `}` stands right here, or a comma does, with the discardable text after it
+abbrev pub IsBehindNumber : List ℕ → ℕ → ℕ → Type 0
+IsBehindNumber text at to =
+    (slice_index text at ≡ ascii.right_brace × to ≡ at)
+    ⊎ (slice_index text at ≡ ascii.comma × Skip text (at + 1) to)
+
+-- neither `}` nor a comma stands here, and the error says so
+pub record IsUnended (text : List ℕ) (at : ℕ) (e : TextParserError) : Type 0 where
+  pub none : slice_index text at ≢ ascii.right_brace
+  pub no_comma : slice_index text at ≢ ascii.comma
   pub is : e ≡ record { position = at; expected = expect.RightBrace }
 
 -- the content of a group of this type, and its `}`

@@ -34,7 +34,7 @@ term_shown (spec.group_term t ks) f = group_shown t true f
 -- what the grammar's items show, in order of place
 abbrev pub shows : List spec.Item → List Shown
 shows [] = []
-shows (x ∷ xs) = shows xs ++ term_shown x.term x.flag ∷ []
+shows (x ∷ xs) = shows xs ++ term_shown x.term x.comma ∷ []
 
 abbrev pub shown_borrowed : Shown → Bool
 shown_borrowed (string_shown s f) = true

@@ -1,6 +1,6 @@
 -- The code's names of the types of groups.
-use Rattle.resb_grammar.specs.Types.{Kind, string_kind, array_kind, table_kind, binary_kind}
-use Rattle.resb_grammar.specs.Types.{integer_kind, vector_kind}
+use Rattle.resb_grammar.specs.GroupTypes.{Kind, string_kind, array_kind, table_kind, binary_kind}
+use Rattle.resb_grammar.specs.GroupTypes.{integer_kind, vector_kind}
 use Rattle.resb_text.specs.declared.types.Kind as code
 use Rattle.resb_text.specs.declared.types.Kind.TheVariants as names
 

@@ -5,8 +5,8 @@ use Rattle.std.specs.Prelude.{◌≡◌, ℕ, ◌-◌, ◌^◌, List, [], ◌∷
 use Rattle.std.specs.List.{list_any, flat_map}
 use Rattle.resb_tree.specs.Tree.{Tree, table, entries_len}
 use Rattle.resb_pool.specs.Plan.{nows, first_too_long}
-use Rattle.resb_bodies.specs.WalkOrder.{text_in}
-use Rattle.resb_write.specs.Keys.{own_keys}
+use Rattle.resb_tree.specs.WalkOrder.{text_in}
+use Rattle.resb_tree.specs.WalkOrder.{own_keys}
 use Rattle.resb_write.specs.PlainSize.{resources_size}
 use Rattle.resb_write.specs.Faults.{is_over_32_bits}
 use Rattle.resb_write.specs.declared.contents.Contents.{Contents}

@@ -4,7 +4,7 @@
 --                             their positions
 use Rattle.std.specs.Prelude.{◌≡◌, ℕ, ◌+◌, ◌-◌, ◌^◌, min, List, Option, None, option_map, All}
 use Rattle.std.specs.Str.{IsUtf8}
-use Rattle.resb_write.specs.Keys.{used, last_of, keys_start}
+use Rattle.resb_write.specs.KeyBlock.{used, last_of, keys_start}
 use Rattle.resb_write.specs.Faults.{key_fault}
 
 abbrev pub near_position : ℕ → ℕ

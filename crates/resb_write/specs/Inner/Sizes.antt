@@ -4,7 +4,7 @@ use Rattle.std.specs.List.{flat_map}
 use Rattle.resb_tree.specs.Tree.{Tree}
 use Rattle.resb_pool.specs.Fault.{Fault, string_too_long, limit}
 use Rattle.resb_pool.specs.Plan.{first_too_long}
-use Rattle.resb_bodies.specs.WalkOrder.{text_in}
+use Rattle.resb_tree.specs.WalkOrder.{text_in}
 use Rattle.resb_write.specs.PlainSize.{list_size, resources_size}
 use Rattle.resb_write.specs.Faults.{count_fault, first_of}
 

@@ -2,7 +2,8 @@ use Rattle.std.proofs.Common.{◌≡◌, ◌-◌, [], ℕ, ◌++◌, ◌∷◌, 
 use Rattle.std.proofs.lemmas.Result.{on_ok_weaker}
 use Rattle.resb_tree.specs.Tree.{table}
 use Rattle.resb_tree.specs.View.{entries_view}
-use Rattle.resb_layout.specs.Laid.{ClosesTable, keys_in}
+use Rattle.resb_layout.specs.Laid.{ClosesTable}
+use Rattle.resb_tree.specs.WalkOrder.{entry_keys}
 use Rattle.resb_bodies.specs.Steps.{Step}
 use Rattle.resb_bodies.specs.Room.{given_by, state_of}
 use Rattle.resb_bodies.proofs.Walks.{nil_from_len}
@@ -30,7 +31,7 @@ close_table-requires-clause-many c =
     ∙ ap (λ k. length c.args.words.now.items - k) c.len-2.ensures.len in
     let v = c.split_at.ensures.back ∙ (λ i. drop (mid i) (c.deref.ensures.value i)) in
     ap length c.deref-2.ensures.value
-    ∙ placed_long (given_by c.args.places.now) (keys_in (entries_view es))
+    ∙ placed_long (given_by c.args.places.now) (entry_keys (entries_view es))
     c.in_ok-positions.positions.items c.in_ok-positions.ensures
     ∙ keys_long es ∙ sym (ap length v ∙ (split_stack c.args.words.now.items n c.requires.enough).1)
 

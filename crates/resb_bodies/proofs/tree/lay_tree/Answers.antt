@@ -2,7 +2,7 @@ use Rattle.std.proofs.Common.{[], All, length, sym, ◌∙◌, ap, subst, arith}
 use Rattle.std.proofs.lemmas.List.{same_from_push}
 use Rattle.resb_tree.specs.View.{tree_of}
 use Rattle.resb_layout.specs.Laid.{Lays}
-use Rattle.resb_bodies.specs.WalkOrder.{walk}
+use Rattle.resb_tree.specs.WalkOrder.{walk}
 use Rattle.resb_bodies.specs.Steps.{Steps}
 use Rattle.resb_bodies.specs.Room.{given_by, state_of, trees_in, HasRoomFor, IsKnown}
 use Rattle.resb_bodies.specs.Inner.Seen.{Suffices}

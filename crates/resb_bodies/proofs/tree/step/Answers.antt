@@ -3,7 +3,7 @@ use Rattle.std.proofs.lemmas.Result.{on_ok_weaker}
 use Rattle.resb_tree.specs.Tree.{array, string, table}
 use Rattle.resb_tree.specs.View.{tree_of, items_view, entries_view}
 use Rattle.resb_tree.specs.declared.resource.Resource.{the_lemmas}
-use Rattle.resb_bodies.specs.WalkOrder.{children}
+use Rattle.resb_tree.specs.WalkOrder.{children}
 use Rattle.resb_bodies.specs.Room.{given_by, own_size, IsKnown}
 use Rattle.resb_bodies.specs.Inner.Seen.{HasRoom, Takes}
 use Rattle.resb_bodies.proofs.Walks.{items_long}

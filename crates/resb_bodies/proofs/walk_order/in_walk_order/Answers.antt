@@ -1,7 +1,7 @@
 use Rattle.std.proofs.Common.{◌≡◌, ◌∙◌, ◌++◌, [], ◌∷◌, reverse, ap, sym, append-nil, arith}
 use Rattle.std.specs.List.{flat_map}
 use Rattle.resb_tree.specs.View.{tree_of}
-use Rattle.resb_bodies.specs.WalkOrder.{walk}
+use Rattle.resb_tree.specs.WalkOrder.{walk}
 use Rattle.resb_bodies.specs.Room.{trees_in}
 use Rattle.resb_bodies.proofs.Walks.{nil_from_len, trees-push, trees-reverse, turn, turn_counts}
 use Rattle.resb_bodies.proofs.walk_order.in_walk_order.Goals as goal

@@ -2,7 +2,7 @@ use Rattle.std.proofs.Common.{◌≡◌, ◌++◌, reverse}
 use Rattle.std.specs.List.{flat_map, sum_by}
 use Rattle.resb_tree.specs.Tree.{tree_count}
 use Rattle.resb_tree.specs.View.{tree_of}
-use Rattle.resb_bodies.specs.WalkOrder.{walk}
+use Rattle.resb_tree.specs.WalkOrder.{walk}
 use Rattle.resb_bodies.specs.Room.{trees_in}
 use Rattle.resb_bodies.proofs.walk_order.in_walk_order.Given as goal
 

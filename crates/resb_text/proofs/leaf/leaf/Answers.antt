@@ -1,4 +1,4 @@
-use Rattle.resb_grammar.specs.Types.{string_kind, integer_kind}
+use Rattle.resb_grammar.specs.GroupTypes.{string_kind, integer_kind}
 use Rattle.resb_text.proofs.Leaves.{leaf_err}
 use Rattle.resb_text.proofs.leaf.leaf.Goals as goal
 

@@ -1,8 +1,8 @@
 use Rattle.std.proofs.Common.{refl, sym}
 use Rattle.std.proofs.lemmas.Result.{err_from_is_err_and}
 use Rattle.resb_grammar.specs.Ascii as ascii
-use Rattle.resb_text.proofs.TypedLemmas.{may_stand, type_refused, head_refused, array_opened}
-use Rattle.resb_text.proofs.TypedLemmas.{table_opened, leaf_refused, leaf_added}
+use Rattle.resb_text.proofs.TypedLemmas.{may_stand, type_refused, head_refused, group_opened}
+use Rattle.resb_text.proofs.TypedLemmas.{leaf_refused, leaf_added}
 use Rattle.resb_text.proofs.steps.typed.Goals as goal
 
 pub returns-then-not-takes_group-clause-err : goal.returns-then-not-takes_group-clause-err
@@ -26,16 +26,19 @@ returns-in_err-first-clause-err c =
     (head_refused c.args.turns.now.text c.args.groups.now c.args.at _ c.requires.among may
     c.in_err-first.ensures.err)
 
-pub leaf-requires-clause-no_array : goal.leaf-requires-clause-no_array
-leaf-requires-clause-no_array c = c.in_default.not-Array
+pub returns-in-Some-clause-ok : goal.returns-in-Some-clause-ok
+returns-in-Some-clause-ok c =
+    let may = may_stand c.args.turns.now.text c.args.groups.now c.args.at
+    c.is_key_place-key_place.result c.takes_group.result c.requires.among
+    c.is_key_place-key_place.ensures c.takes_group.ensures c.if-not-takes_group.false in
+    group_opened c.args.turns.now.text c.args.groups.now _ c.args.at c.in_ok-first.first _ _
+    c.requires.among may c.in_ok-first.ensures.ok c.in-Some.ensures.some
+    c.in_ok-open.ensures.shows
 
-pub leaf-requires-clause-no_table : goal.leaf-requires-clause-no_table
-leaf-requires-clause-no_table c = c.in_default.not-Table
-
-pub returns-in_err-next-in_default-clause-err : goal.returns-in_err-next-in_default-clause-err
-returns-in_err-next-in_default-clause-err c =
-    let p = err_from_is_err_and c.from_residual-in_err-next-in_default.result
-    c.from_residual-in_err-next-in_default.ensures.1 in
+pub returns-in_err-next-clause-err : goal.returns-in_err-next-clause-err
+returns-in_err-next-clause-err c =
+    let p = err_from_is_err_and c.from_residual-in_err-next.result
+    c.from_residual-in_err-next.ensures.1 in
     let may = may_stand c.args.turns.now.text c.args.groups.now c.args.at
     c.is_key_place-key_place.result c.takes_group.result c.requires.among
     c.is_key_place-key_place.ensures c.takes_group.ensures c.if-not-takes_group.false in
@@ -45,32 +48,14 @@ returns-in_err-next-in_default-clause-err c =
     )
     (leaf_refused c.args.turns.now.text c.args.groups.now c.args.at _ _ _ c.requires.among
     may c.in_ok-first.ensures.ok
-    (rw c.head.ensures.text at c.in_err-next-in_default.ensures.err))
+    (rw c.head.ensures.text at c.in_err-next.ensures.err))
 
-pub returns-in_ok-open-in-Array-clause-ok : goal.returns-in_ok-open-in-Array-clause-ok
-returns-in_ok-open-in-Array-clause-ok c =
-    let may = may_stand c.args.turns.now.text c.args.groups.now c.args.at
-    c.is_key_place-key_place.result c.takes_group.result c.requires.among
-    c.is_key_place-key_place.ensures c.takes_group.ensures c.if-not-takes_group.false in
-    array_opened c.args.turns.now.text c.args.groups.now _ c.args.at c.in_ok-first.first
-    c.requires.among may (rw c.in-Array.is at c.in_ok-first.ensures.ok)
-    c.in_ok-open-in-Array.ensures.shows
-
-pub returns-in_ok-open-in-Table-clause-ok : goal.returns-in_ok-open-in-Table-clause-ok
-returns-in_ok-open-in-Table-clause-ok c =
-    let may = may_stand c.args.turns.now.text c.args.groups.now c.args.at
-    c.is_key_place-key_place.result c.takes_group.result c.requires.among
-    c.is_key_place-key_place.ensures c.takes_group.ensures c.if-not-takes_group.false in
-    table_opened c.args.turns.now.text c.args.groups.now _ c.args.at c.in_ok-first.first
-    c.requires.among may (rw c.in-Table.is at c.in_ok-first.ensures.ok)
-    c.in_ok-open-in-Table.ensures.shows
-
-pub returns-in_ok-add_leaf-in_default-clause-ok : goal.returns-in_ok-add_leaf-in_default-clause-ok
-returns-in_ok-add_leaf-in_default-clause-ok c =
+pub returns-clause-ok : goal.returns-clause-ok
+returns-clause-ok c =
     let may = may_stand c.args.turns.now.text c.args.groups.now c.args.at
     c.is_key_place-key_place.result c.takes_group.result c.requires.among
     c.is_key_place-key_place.ensures c.takes_group.ensures c.if-not-takes_group.false in
     leaf_added c.args.turns.now.text c.args.groups.now _ c.args.at c.in_ok-first.first _ _ _
     c.requires.among may c.in_ok-first.ensures.ok
-    (rw c.head.ensures.text at c.in_ok-next-in_default.ensures.ok)
-    c.in_ok-add_leaf-in_default.ensures.shows
+    (rw c.head.ensures.text at c.in_ok-next.ensures.ok)
+    c.in_ok-add_leaf.ensures.shows

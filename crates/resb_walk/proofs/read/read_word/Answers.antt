@@ -7,8 +7,8 @@ use Rattle.resb_walk.specs.Files.{parts_in}
 use Rattle.resb_walk.specs.Inner.Members.{member_of}
 use Rattle.resb_walk.proofs.Lift.{word_den, word_refused}
 use Rattle.resb_walk.proofs.Meeting.{waits_meets, turn_meets}
-use Rattle.resb_walk.proofs.Turns.{turn_first, turn_falls, turn_stuck, turn_refused, turn_puts}
-use Rattle.resb_walk.proofs.Turns.{turn_begins, turn_last, turn_outer, turn_closes}
+use Rattle.resb_walk.proofs.Rounds.{turn_first, turn_falls, turn_stuck, turn_refused, turn_puts}
+use Rattle.resb_walk.proofs.Rounds.{turn_begins, turn_last, turn_outer, turn_closes}
 use Rattle.resb_walk.proofs.read.read_word.Goals as goal
 
 pub returns-in_err-made-clause-answers : goal.returns-in_err-made-clause-answers

@@ -1,11 +1,11 @@
 use Rattle.std.proofs.Common.{◌+◌, ◌*◌, vec_len}
 use Rattle.resb_walk.specs.Files.{parts_in}
-use Rattle.resb_walk.proofs.Chain.{Turn}
+use Rattle.resb_walk.proofs.Chain.{Round}
 use Rattle.resb_walk.proofs.read.read_word.Given as goal
 
 abbrev pub invariant-turns : goal.invariant-turns
 invariant-turns g l =
-    Turn g.M.Make.lists g.M.Make.tables
+    Round g.M.Make.lists g.M.Make.tables
     (parts_in l.fn.file) l.fn.word l.fn.walk l.frames.items l.frame l.walk
 
 -- A turn pays for a member, or closes a frame.

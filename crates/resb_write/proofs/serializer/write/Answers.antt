@@ -7,9 +7,9 @@ use Rattle.resb_format.specs.Units.{size}
 use Rattle.resb_pool.specs.FaultOf.{fault_of}
 use Rattle.resb_pool.specs.Plan.{nows, at_text, plan_units, offset_of, IsPlan}
 use Rattle.resb_layout.specs.Laid.{Given, Lays}
-use Rattle.resb_bodies.specs.WalkOrder.{walk}
+use Rattle.resb_tree.specs.WalkOrder.{walk}
 use Rattle.resb_bodies.specs.Room.{state_of, IsKnown}
-use Rattle.resb_write.specs.Keys.{used, key_bytes, padded, position_in}
+use Rattle.resb_write.specs.KeyBlock.{used, key_bytes, padded, position_in}
 use Rattle.resb_write.specs.Faults.{Refused, no_memory, key_fault}
 use Rattle.resb_write.specs.Written.{Written, even}
 use Rattle.resb_write.specs.Inner.Files.{file_of}

@@ -4,7 +4,8 @@ use Rattle.std.proofs.Common.{ap, subst, ◌∙◌, rules, false}
 use Rattle.resb_format.specs.HeadChecks.{header_fault, first_fault, support_checks}
 use Rattle.resb_format.specs.HeadChecks.{refusal_of}
 use Rattle.resb_format.specs.Parts.{parts_of, parts_in_body, body_of, root_word, header_size}
-use Rattle.resb_format.specs.PartsReading.{parts_in, ReadsBody}
+use Rattle.resb_format.specs.PartsReading.{parts_in}
+use Rattle.resb_format.specs.Inner.Checked.{ReadsBody}
 use Rattle.resb_format.proofs.FileSteps.{header_answers, support_answers, body_answers, size_is}
 use Rattle.resb_format.proofs.FileSteps.{drop_min}
 use Rattle.resb_format.proofs.file_parts.FileParts.read.Goals as goal

@@ -1,7 +1,7 @@
 use Rattle.std.proofs.Common.{◌≡◌, true, sym, ◌∙◌}
 use Rattle.std.specs.Str.{bytes_eq}
 use Rattle.std.specs.Cmp.Lexicographic.{bytes_decides}
-use Rattle.resb_pool.proofs.Turns.{found_there}
+use Rattle.resb_pool.proofs.FoundKeys.{found_there}
 use Rattle.resb_pool.proofs.offsets.Plan.is_at.Goals as goal
 
 pub returns-in-Some : goal.returns-in-Some

@@ -5,7 +5,7 @@ use Rattle.std.specs.Int.{w16}
 use Rattle.std.proofs.lemmas.Int.{to_z-of_z}
 use Rattle.resb_read.specs.Places.{place_of}
 use Rattle.resb_read.specs.Sequences.{entries}
-use Rattle.resb_read_rows.specs.Fields.{i16_counted, i16_one}
+use Rattle.resb_read_rows.specs.FieldLaws.{i16_counted, i16_one}
 use Rattle.resb_read_rows.proofs.Walking.{refused_i, refused_v, none_left}
 use Rattle.resb_read_rows.proofs.both.BothDeserialize.deserialize.Goals as goal
 

@@ -8,7 +8,8 @@ use Rattle.resb_tree.specs.declared.resource.Resource.{the_lemmas}
 use Rattle.resb_pool.specs.Plan.{nows}
 use Rattle.resb_write.specs.Inner.Gathered.{Gathered}
 use Rattle.resb_write.proofs.Gathering.{added, adds_plain, plain_integer, items_long, entries_long}
-use Rattle.resb_write.proofs.Gathering.{entries_len_is, or_false, or_none}
+use Rattle.resb_tree.proofs.ViewLemmas.{entries_len_view}
+use Rattle.resb_write.proofs.Gathering.{or_false, or_none}
 use Rattle.resb_write.proofs.contents.Contents.add.Goals as goal
 
 pub returns-in-Array : goal.returns-in-Array
@@ -98,7 +99,7 @@ returns-in_ok-add_table-in-Table c = λ ts g.
       texts = ap (λ x. nows x.texts.items) new
           ∙ sym (append-nil (nows c.args.self.now.texts.items));
       size = omega (arith, ap (λ x. x.size) new, entries_long es);
-      largest = omega (arith, ap (λ x. x.largest_table) new, entries_len_is es);
+      largest = omega (arith, ap (λ x. x.largest_table) new, entries_len_view es);
       too_long = ap (λ x. x.too_long) new ∙ sym (or_none c.args.self.now.too_long);
       over = ap (λ x. x.has_count_over_32_bits) new
           ∙ sym (or_false c.args.self.now.has_count_over_32_bits);

@@ -3,7 +3,7 @@ use Rattle.std.proofs.Common.{◌≡◌, ℕ, List, filter, inr, sym, ◌∙◌,
 use Rattle.std.proofs.lemmas.Result.{err_from_is_err_and}
 use Rattle.resb_pool.specs.Plan.{nows}
 use Rattle.indexmap.specs.IndexMap.{keys}
-use Rattle.resb_write.specs.Keys.{used}
+use Rattle.resb_write.specs.KeyBlock.{used}
 use Rattle.resb_write.specs.Faults.{key_fault}
 use Rattle.resb_write.proofs.Distinct.{fault_same, same_keys}
 use Rattle.resb_write.specs.Inner.Places.{near_position_in}

@@ -1,22 +1,14 @@
 -- The key block of a written file, and where each key stands in it. (ICU's `uresdata.h`: key
 -- block.)
---     keys_of t               the keys of the tables of t, as often as each stands there
 --     key_block t ks          the block that a file of t has for the keys ks of a list
 --     key_position t ks k     the position of the key k, in bytes of the body
 use Rattle.std.specs.Prelude.{ℕ, ◌+◌, ◌%◌, ◌-◌, List, [], ◌∷◌, ◌++◌, length, filter}
 use Rattle.std.specs.Prelude.{Option, Some, None, option_map, Bool, if◌then◌else◌}
 use Rattle.std.specs.List.{flat_map, list_any}
-use Rattle.resb_tree.specs.Tree.{Tree, table}
+use Rattle.resb_tree.specs.Tree.{Tree}
 use Rattle.resb_tree.specs.Keys.{same_text}
-use Rattle.resb_layout.specs.Laid.{keys_in, fill}
-use Rattle.resb_bodies.specs.WalkOrder.{walk}
-
-abbrev pub own_keys : Tree → List (List ℕ)
-own_keys (table es) = keys_in es
-own_keys _ = []
-
-abbrev pub keys_of : Tree → List (List ℕ)
-keys_of t = flat_map own_keys (walk t)
+use Rattle.resb_layout.specs.Laid.{fill}
+use Rattle.resb_tree.specs.WalkOrder.{keys_of}
 
 abbrev pub is_among : List (List ℕ) → List ℕ → Bool
 is_among us k = list_any (same_text k) us

@@ -2,7 +2,7 @@
 use Rattle.std.specs.Prelude.{◌≡◌, ℕ, ◌+◌, ◌⊎◌, Bool, true, false, List, [], ◌∷◌, Some, slice_get}
 use Rattle.std.specs.Prelude.{slice_index, slice_range, codes}
 use Rattle.resb_grammar.specs.Ascii as ascii
-use Rattle.resb_grammar.specs.Bytes.{is_word, Run}
+use Rattle.resb_grammar.specs.ByteRuns.{is_word, Run}
 use Rattle.resb_grammar.specs.Tokens.{Skip}
 
 -- the types that a group may name

@@ -12,7 +12,7 @@ use Rattle.resb_walk.specs.declared.frame.Waiting.{Waiting}
 use Rattle.resb_format.specs.declared.error.ReadingError.{ReadingError}
 use Rattle.resb_walk.proofs.Waits.{waits_refused}
 use Rattle.resb_walk.proofs.Chain.{Chain, chain_none, chain_push, chain_pop, chain_empty}
-use Rattle.resb_walk.proofs.Chain.{chain_refused, Turn, Popped}
+use Rattle.resb_walk.proofs.Chain.{chain_refused, Round, Popped}
 
 same_word : {v w : ℕ} → word v ≡ word w → v ≡ w
 same_word e = cc
@@ -21,9 +21,9 @@ module _ {L T : Type 0} (lists : L → List Tree → Type 0)
     (tables : T → List (List ℕ × Tree) → Type 0) (p : Parts) where
   pub turn_first : (root before left w : ℕ) (fs : List (Waiting L T)) (f : Open L T) → fs ≡ []
       → word root ≡ word w → Opened lists tables p f w 0 → left + 1 ≡ before
-      → Turn lists tables p root before fs f left
+      → Round lists tables p root before fs f left
   turn_first root before left w fs f none e h s =
-      subst (λ gs. Turn lists tables p root before gs f left) (sym none) (record {
+      subst (λ gs. Round lists tables p root before gs f left) (sym none) (record {
         place = root;
         outer = 0;
         inner = 0;
@@ -33,7 +33,7 @@ module _ {L T : Type 0} (lists : L → List Tree → Type 0)
       })
 
   module _ (root before : ℕ) (fs : List (Waiting L T)) (f : Open L T) (left : ℕ)
-      (turn : Turn lists tables p root before fs f left) where
+      (turn : Round lists tables p root before fs f left) where
     -- at most the budget is left
     pub turn_falls : left ≤ before
     turn_falls =
@@ -64,7 +64,7 @@ module _ {L T : Type 0} (lists : L → List Tree → Type 0)
 
     -- its member is put in
     pub turn_puts : (g : Open L T) (left' : ℕ) → Opened lists tables p g turn.place (turn.inner + 1)
-        → left' + 1 ≡ left → Turn lists tables p root before fs g left'
+        → left' + 1 ≡ left → Round lists tables p root before fs g left'
     turn_puts g left' h s =
         let paid : left + (turn.outer + (1 + turn.inner)) ≡ before = turn.paid in
         record {
@@ -80,10 +80,10 @@ module _ {L T : Type 0} (lists : L → List Tree → Type 0)
     pub turn_begins : (g : Waiting L T) (i : Open L T) (w left' : ℕ) (gs : List (Waiting L T))
         → gs ≡ fs ++ g ∷ [] → Waits lists tables p g turn.place (word w) turn.inner
         → Opened lists tables p i w 0 → left' + 1 ≡ left
-        → Turn lists tables p root before gs i left'
+        → Round lists tables p root before gs i left'
     turn_begins g i w left' gs e h o s =
         let paid : left + (turn.outer + (1 + turn.inner)) ≡ before = turn.paid in
-        subst (λ hs. Turn lists tables p root before hs i left') (sym e) (record {
+        subst (λ hs. Round lists tables p root before hs i left') (sym e) (record {
           place = w;
           outer = turn.outer + (1 + turn.inner);
           inner = 0;
@@ -112,7 +112,7 @@ module _ {L T : Type 0} (lists : L → List Tree → Type 0)
     pub turn_closes : (g : Waiting L T) (gs : List (Waiting L T)) (o : Open L T)
         (r : Popped lists tables p root gs g turn.place turn.outer)
         → Opened lists tables p o r.place (r.inner + (1 + turn.inner))
-        → Turn lists tables p root before gs o left
+        → Round lists tables p root before gs o left
     turn_closes g gs o r h =
         let paid : left + (turn.outer + (1 + turn.inner)) ≡ before = turn.paid in
         let sum : turn.outer ≡ r.outer + (1 + r.inner) = r.sum in

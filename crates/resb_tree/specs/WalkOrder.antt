@@ -3,6 +3,7 @@
 --     children t              the resources right inside t
 --     walk t                  all resources of t
 --     texts_of t              the texts of its strings, as often as each stands there
+--     keys_of t               the keys of its tables, as often as each stands there
 use Rattle.std.specs.Prelude.{ℕ, List, [], ◌∷◌, ◌++◌}
 use Rattle.std.specs.List.{flat_map}
 use Rattle.resb_tree.specs.Tree.{Tree, string, array, table, binary, integer, int_vector, Trees}
@@ -47,3 +48,14 @@ text_in _ = []
 
 abbrev pub texts_of : Tree → List (List ℕ)
 texts_of t = flat_map text_in (walk t)
+
+abbrev pub entry_keys : Entries → List (List ℕ)
+entry_keys no_entries = []
+entry_keys (entry k t es) = k ∷ entry_keys es
+
+abbrev pub own_keys : Tree → List (List ℕ)
+own_keys (table es) = entry_keys es
+own_keys _ = []
+
+abbrev pub keys_of : Tree → List (List ℕ)
+keys_of t = flat_map own_keys (walk t)

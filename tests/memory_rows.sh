@@ -1,15 +1,15 @@
 #!/usr/bin/env bash
 # Refuses the first, the second, .. request for memory of each built test of the rows, one in each run, until a
 # run asks for no more: so each public call that a row makes is refused each of its requests. A run has to pass,
-# or to end with an error that names want of memory; where an assertion stops it, an answer has changed.
+# or to end with an error or an answer that names want of memory; with any other, an answer has changed.
 #
 # tests/memory_rows.sh [MOST] [CRATE..]    of these crates, else of all rows whose tests are built (`rt test`).
 #                                          Behind the first MOST requests of a test, 1000 where none is given,
 #                                          one is refused whose number is a tenth greater, and so on: a tree of a
 #                                          million levels asks some million times. By hand.
 set -uo pipefail
-# that it passes, or what names want of memory
-fits='test result: ok\|AllocError\|OutOfMemory\|NoMemory\|out of memory\|expected: Memory\|left: "at 0: memory"'
+# that it passes, an error that names want of memory, or an answer that does where a row wants another
+fits='test result: ok\|AllocError\|AllocFailed\|OutOfMemory\|NoMemory\|out of memory\|expected: Memory\|left: .*[Mm]emory'
 most=1000
 case ${1:-} in [0-9]*) most=$1; shift ;; esac
 top=$(cd "$(dirname "$0")/.." && pwd)

@@ -1,7 +1,7 @@
 #!/usr/bin/env python3
 """Times text to file: `resb_tool compile IN OUT` beside `genrb -q` on the same text, whole.
 
-    write_kinds.py                        the six kinds, each at a size of its own
+    write_kinds.py [KIND ..]              all six kinds or these, each at a size of its own
     write_kinds.py --growth [BYTES ..]    ours alone, 10 kB to 100 MB, with the growth per tenfold
     write_kinds.py --make KIND BYTES      the text of a kind, on standard output
 
@@ -80,8 +80,9 @@ KINDS = {
 }
 
 
-def beside_genrb(program, work):
-    for kind, (_, size) in KINDS.items():
+def beside_genrb(program, work, kinds):
+    for kind in kinds:
+        size = KINDS[kind][1]
         length = make(__file__, kind, size, work / 'b.txt')
         ours, memory, _ = least([program, 'compile', 'b.txt', 'ours.res'], 3, folder=work)
         line = '%-36s %9d bytes %8.1f ms %6.0f MB' % (kind, length, ours, memory / 2 ** 20)
@@ -121,7 +122,7 @@ def main():
         if words[:1] == ['--growth']:
             grows(program, work, [int(a) for a in words[1:]] or [10 ** k for k in range(4, 9)])
         else:
-            beside_genrb(program, work)
+            beside_genrb(program, work, words or list(KINDS))
 
 
 main()

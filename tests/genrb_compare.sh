@@ -55,6 +55,7 @@ compared 'an empty string beside others is a word 0 there' 'b{a:array{"",:int{1}
 compared 'an empty group is an array there' 'b{a{}}'
 compared 'words in a row are joined there' 'b{a{hello world}}'
 compared 'strings in a row are joined there' 'b{a{"x" "y"}}'
+compared 'a comment ends at U+2029 there' $'b{a{"x"}//c\u2029d{"y"}\n}'
 compared 'a backslash begins an escape there' 'b{a{"\u0041"}}'
 compared 'a number that begins with 0 is octal there' 'b{a:int{010}}'
 compared 'a collation gets its binary form there' 'b{collations{standard{Sequence{"&a<b"}}}}'

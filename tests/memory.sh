@@ -145,6 +145,16 @@ bytes '2000da27 14000000 00000200 52657342 02000000 01040000 0000000000000000
   0000aaaa 01000000 09000080' > "$work/file"
 commands 'what is refused'
 
+# smaller texts: strings in an array, with and without a type, bytes, a key that stands twice, numbers
+number=0
+for text in 'b{a:array{"" "x"}}' 'b{a{"x" {"y"} "z"}}' 'b{d:bin{"00fF"}}' 'b{a{x{"1"}}a{"2"}}' \
+  'b{i:int{-1}v:intvector{1,-1,}}'; do
+  number=$((number + 1))
+  printf '%s' "$text" > "$work/text"
+  "$program" compile "$work/text" "$work/file" || exit 3
+  commands "small text $number"
+done
+
 public_calls
 
 echo "memory: $passed passed, $failed failed"

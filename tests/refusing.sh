@@ -3,7 +3,12 @@
 # make_refusing FILE: builds it. Its `malloc` and kin refuse the request that REFUSED_REQUEST counts, from 1
 # on, and then write one byte to descriptor 9.
 make_refusing() {
-  gcc -O2 -shared -fPIC -x c -o "$1" - <<'C'
+  local compiler
+  compiler=$(command -v cc || command -v gcc || command -v clang) || {
+    echo 'no C compiler (cc, gcc or clang) is on PATH' >&2
+    return 1
+  }
+  "$compiler" -O2 -shared -fPIC -x c -o "$1" - <<'C'
 #define _GNU_SOURCE
 #include <errno.h>
 #include <stdlib.h>

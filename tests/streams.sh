@@ -1,6 +1,7 @@
 #!/usr/bin/env bash
 # Streams and files that fail: a full disk, a closed pipe, a folder or nothing at all as IN or OUT, and
-# input that comes in pieces. The program ends with a status and a line, and never by a signal.
+# input that comes in pieces. The program ends with a status and a line, and never by a signal
+# (but for the one that ends any program which writes past a limit on the size of files).
 set -uo pipefail
 top=$(cd "$(dirname "$0")/.." && pwd)
 program=$top/crates/resb_tool/out/resb_tool

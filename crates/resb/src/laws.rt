@@ -10,7 +10,7 @@ pub use resb_format::laws::{
 };
 pub use resb_layout::laws::{laid_is_denoted, laid_is_paid, one_layout};
 pub use resb_pool::laws::{one_pool, pool_is_read, records_cost_least};
-pub use resb_read::laws::one_refusal_of_a_file;
+pub use resb_read::laws::{one_refusal_of_a_file, one_value};
 pub use resb_text::laws::{
     a_bundle_is_read_to_the_end, keys_are_distinct, keys_are_listed, one_bundle_text, one_refusal,
     read_to_the_end_is_a_bundle, stuck_is_no_bundle,

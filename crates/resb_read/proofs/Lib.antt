@@ -7,3 +7,4 @@ mod UnitsBack
 mod Entering
 mod Viewing
 pub mod OneRefusal
+mod OneValue

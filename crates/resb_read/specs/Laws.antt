@@ -1,11 +1,27 @@
 -- What the laws of reading say.
 --     OneRefusal              memory aside, a file is refused in one way
-use Rattle.std.specs.Prelude.{◌≡◌, ◌⊎◌, ℕ, List}
+--     OneValue                at a place stands one value of each type without parts, and one tree
+use Rattle.std.specs.Prelude.{◌≡◌, ◌⊎◌, ℕ, ℤ, List}
 use Rattle.resb_format.specs.Error.{IsWantOfMemory}
 use Rattle.resb_format.specs.HeadChecks.{refusal_of}
 use Rattle.resb_format.specs.declared.error.ReadingError.{ReadingError}
+use Rattle.resb_read.specs.Leaves.{ReadsSigned, ReadsUnsigned, ReadsBool, ReadsBits, ReadsText}
+use Rattle.resb_read.specs.Leaves.{ReadsKey, ReadsBytes}
+use Rattle.resb_read.specs.Others.{ReadsView}
+use Rattle.resb_read.specs.Places.{Place}
+use Rattle.resb_read.specs.Resources.{DenPlace}
 use Rattle.resb_read.specs.Roots.{RefusesFile}
 
 abbrev pub OneRefusal : Type 0
 OneRefusal = (bytes : List ℕ) (d e : ReadingError) → RefusesFile bytes d → RefusesFile bytes e
     → (IsWantOfMemory d ⊎ IsWantOfMemory e) ⊎ (refusal_of d ≡ refusal_of e)
+
+-- two values that are read at one place are equal
+abbrev pub OneAtPlace : {X : Type 0} → (Place → X → ℕ → Type 0) → Type 0
+OneAtPlace {X} reads = (p : Place) (x y : X) (m n : ℕ) → reads p x m → reads p y n → x ≡ y
+
+abbrev pub OneValue : Type 0
+OneValue = ((low high : ℤ) → OneAtPlace (ReadsSigned low high))
+    × ((high : ℕ) → OneAtPlace (ReadsUnsigned high)) × OneAtPlace ReadsBool × OneAtPlace ReadsBits
+    × OneAtPlace ReadsText × OneAtPlace ReadsKey × OneAtPlace ReadsBytes
+    × ((each : ℕ) → OneAtPlace (ReadsView each)) × OneAtPlace DenPlace

@@ -1,8 +1,9 @@
--- Why readings that ask for no memory are refused: a kind and a message.
+-- Why readings of what has no parts are refused: a kind and a message.
 --     number_refusal s left, bool_refusal s left, bits_refusal s left
 --                             what is answered where no number, bool or Int is read
---     key_refusal p left, bytes_refusal p left
---                             the same for a key and for bytes
+--     text_refusal p left, key_refusal p left, bytes_refusal p left
+--                             the same for a text, where memory isn't what is wanted, for a key and
+--                             for bytes
 --     members_refusal s left, entries_refusal s left
 --                             the same for the members of a sequence, and the entries of a map
 use Rattle.std.specs.Prelude.{◌==◌, ◌||◌, ℕ, List, codes, if◌then◌else◌}
@@ -11,7 +12,7 @@ use Rattle.resb_format.specs.Parts.{Parts}
 use Rattle.resb_format.specs.StringFaults.{string_fault}
 use Rattle.resb_format.specs.Types as types
 use Rattle.resb_format.specs.declared.error.ErrorKind.TheVariants.{ResourceTypeMismatch, Unknown}
-use Rattle.resb_walk.specs.Damage.{key_damage, type_damage}
+use Rattle.resb_walk.specs.Damage.{text_damage, key_damage, type_damage}
 use Rattle.resb_read.specs.Places.{Place}
 use Rattle.resb_read.specs.Leaves.{type_in, value_in}
 use Rattle.resb_read.specs.declared.cursor.Spot.{Spot}
@@ -81,6 +82,21 @@ key_refusal_from p (spot.Word w) left = no_value (spot.Word w) left
 
 abbrev pub key_refusal : Place → ℕ → Refusal
 key_refusal p left = key_refusal_from p.parts p.at left
+
+-- no string, or one that is no text; or another type
+abbrev pub text_fault : Parts → ℕ → Refusal
+text_fault p w =
+    if type_in w == types.string then text_damage p.block (value_in w)
+    else type_refusal (type_in w) (mismatch (codes "expected string resource"))
+
+abbrev pub text_refusal_from : Parts → Spot → ℕ → Refusal
+text_refusal_from p (spot.Descriptor w) left = paid left (text_fault p w)
+text_refusal_from p (spot.Unit u) left = paid left (text_damage p.block u)
+text_refusal_from p (spot.Word w) left = elsewhere
+text_refusal_from p (spot.Key k) left = key_damage p.keys k
+
+abbrev pub text_refusal : Place → ℕ → Refusal
+text_refusal p left = text_refusal_from p.parts p.at left
 
 -- the string's own fault, a count or what is counted outside the body, or another type
 abbrev pub bytes_fault : Parts → ℕ → Refusal

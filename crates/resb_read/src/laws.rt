@@ -1,8 +1,14 @@
 //! Laws of reading, each the contract of a call that does nothing.
 //! Their statements stand in `specs/Laws`.
-ghost use Rattle.resb_read.specs.Laws.{OneRefusal};
+ghost use Rattle.resb_read.specs.Laws.{OneRefusal, OneValue};
 
 /// A file whose tree isn't read is refused in one way, by kind and message, memory aside.
 pub fn one_refusal_of_a_file()
     ensures { OneRefusal }
+{}
+
+/// Two readings of one place give one value: a number of a range, a bool, an `Int28`, a text, a
+/// key, bytes, a view of items of so many bytes, or a tree.
+pub fn one_value()
+    ensures { OneValue }
 {}

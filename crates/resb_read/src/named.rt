@@ -1,12 +1,13 @@
 //! Cursors at places that are no descriptor: a string's unit, a vector's word, a key.
 //! What they read is said in the modules of the types.
-ghost use Rattle.std.specs.Prelude.{◌≡◌, ◌≤◌, ◌+◌, ◌-◌, ◌^◌, ℕ, pos, negsuc, IfOk, IfErr};
+ghost use Rattle.std.specs.Prelude.{◌≡◌, ◌≤◌, ◌⊎◌, ◌+◌, ◌-◌, ◌^◌, ℕ, pos, negsuc, IfOk, IfErr};
 ghost use Rattle.std.specs.Prelude.{MatchOption};
 ghost use Rattle.std.specs.String.{string_bytes};
 ghost use Rattle.resb_read.specs.Places.{place_of};
 ghost use Rattle.resb_read.specs.Reading.{Reads, LacksOrMemory};
+ghost use Rattle.resb_format.specs.Error.{IsWantOfMemory};
 ghost use Rattle.resb_walk.specs.Damage.{Says, key_damage};
-ghost use Rattle.resb_read.specs.Refused.{bytes_refusal, out_of_range};
+ghost use Rattle.resb_read.specs.Refused.{text_refusal, bytes_refusal, out_of_range};
 ghost use Rattle.resb_read.specs.Leaves.{ReadsText, CountsText, ReadsKey, CountsKey, ReadsBytes};
 ghost use Rattle.resb_read.specs.Leaves.{CountsBytes, ReadsSigned, CountsSigned, ReadsUnsigned};
 ghost use Rattle.resb_read.specs.Leaves.{CountsUnsigned};
@@ -95,6 +96,8 @@ impl<'de> Resource16BitDeserializer<'de> {
             × (walk.new + n ≡ walk.old)) }
         ensures refused { IfErr result (λ e. (walk.new ≤ walk.old)
             × LacksOrMemory (CountsText (named.unit_place self.entry)) walk.old e) }
+        ensures says { IfErr result (λ e. IsWantOfMemory e
+            ⊎ Says (text_refusal (named.unit_place self.entry) walk.old) e) }
     {
         let at = Cursor {
             file: self.file,

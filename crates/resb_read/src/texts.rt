@@ -1,17 +1,18 @@
 //! Texts, keys and bytes, at a descriptor, at a string's unit and at a key.
 //! Bytes, keys and borrowed texts live as long as the file.
-ghost use Rattle.std.specs.Prelude.{◌≡◌, ◌≤◌, ◌<◌, ◌+◌, ◌*◌, ◌^◌, ℕ, Some, None, length};
+ghost use Rattle.std.specs.Prelude.{◌≡◌, ◌≤◌, ◌<◌, ◌⊎◌, ◌+◌, ◌*◌, ◌^◌, ℕ, Some, None, length};
 ghost use Rattle.std.specs.Prelude.{option_map, IfOk, IfErr, MatchResult};
 ghost use Rattle.std.specs.String.{string_bytes};
 ghost use Rattle.resb_format.specs.Bytes.{units_of};
 ghost use Rattle.resb_format.specs.Strings as strings;
+ghost use Rattle.resb_format.specs.Error.{IsWantOfMemory};
 ghost use Rattle.resb_format.specs.HeadChecks.{end_of_input, invalid};
 ghost use Rattle.resb_format.specs.StringFaults.{string_fault};
 ghost use Rattle.resb_walk.specs.Damage.{Says};
 ghost use Rattle.resb_walk.specs.Files.{parts_in};
 ghost use Rattle.resb_read.specs.Places.{place_of};
 ghost use Rattle.resb_read.specs.Reading.{Reads, LacksOrMemory};
-ghost use Rattle.resb_read.specs.Refused.{key_refusal, bytes_fault, bytes_refusal};
+ghost use Rattle.resb_read.specs.Refused.{text_refusal, key_refusal, bytes_fault, bytes_refusal};
 ghost use Rattle.resb_read.specs.Leaves.{type_in, value_in, units_as_bytes, counted_bytes};
 ghost use Rattle.resb_read.specs.Leaves.{bytes_of_type, ReadsText, CountsText, ReadsKey, CountsKey};
 ghost use Rattle.resb_read.specs.Leaves.{ReadsBytes, CountsBytes};
@@ -97,6 +98,8 @@ impl<'de> Cursor<'de> {
             × ReadsText (place_of self.entry) (string_bytes s) n × (walk.new + n ≡ walk.old)) }
         ensures refused { IfErr result (λ e. (walk.new ≤ walk.old)
             × LacksOrMemory (CountsText (place_of self.entry)) walk.old e) }
+        ensures says { IfErr result (λ e. IsWantOfMemory e
+            ⊎ Says (text_refusal (place_of self.entry) walk.old) e) }
     {
         match self.at {
             Spot::Descriptor(word) => {

@@ -94,11 +94,14 @@ pub(crate) fn line_of_tree(
     Ok(format!(in alloc; "{count} {tree}")?)
 }
 
-/// The line of a refusal.
+/// The line of a refusal. Want of memory is handed up: it is no answer of a row.
 pub(crate) fn line_of_refusal(
     alloc: Global,
     error: BinaryDeserializerError,
 ) -> Result<String, Fail> {
+    if error.is_out_of_memory() {
+        return Err(error)?;
+    }
     Ok(format!(in alloc; "{error}")?)
 }
 

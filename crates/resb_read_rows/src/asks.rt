@@ -49,6 +49,7 @@ fn called(alloc: Global, ask: &str, at: Cursor<'_>, walk: &mut Walk) -> Result<S
         "type" => line(alloc, at.resource_type()),
         "skip" => line(alloc, at.skip(walk)),
         "tree" => tree(alloc, at.read_resource(alloc, walk), walk),
+        "unit-view" | "word-view" | "number-view" | "pair-view" => viewed(alloc, ask, at, walk),
         _ => typed(alloc, ask, at, walk),
     }
 }
@@ -93,6 +94,10 @@ fn parted(alloc: Global, ask: &str, at: Cursor<'_>, walk: &mut Walk) -> Result<S
             alloc,
             BTreeMap::<Key<'_>, String>::deserialize(alloc, at, walk),
         ),
+        "unit-view" => units(alloc, Utf16View::deserialize(alloc, at, walk).map(Some)),
+        "word-view" => words(alloc, WordView::deserialize(alloc, at, walk).map(Some)),
+        "number-view" => numbers(alloc, I32View::deserialize(alloc, at, walk).map(Some)),
+        "pair-view" => pairs(alloc, PairView::deserialize(alloc, at, walk).map(Some)),
         _ => viewed(alloc, ask, at, walk),
     }
 }

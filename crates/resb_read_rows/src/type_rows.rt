@@ -15,6 +15,8 @@ NUMBERS / root / 50 word-list-map =>
 NUMBERS / root / 50 byte-map => Unknown error: number out of range, 48 left;
 TWO_ENTRIES / root / 46 text-map => {\"a\": \"x\", \"c\": \"yz\"}, 43 left;
 TWO_ENTRIES / root / 46 key-map => a=x,c=yz,, 43 left;
+50000006 7 9 f f 2 0 f 630061 780000 790000 7a 250002 10022 aaaa0003 / root / 46 byte-map =>
+    Invalid resource bundle data: unexpected end of data while deserializing key, 45 left;
 70000001 7 8 9 9 0 0 9 aaaa0000 / root / 34 option-bool => Some(true), 33 left;
 70000001 7 8 9 9 0 0 9 aaaa0000 / root / 34 u64 => 1, 33 left;
 70000001 7 8 9 9 0 0 9 aaaa0000 / root / 0 u64 =>

@@ -1,6 +1,7 @@
 //! Trees with lists of keys, and their files or refusals, as the format's rules ask for them. Each
 //! row is an input and its answer, in lines, up to a `;`: a row more costs no proof.
 use crate::answers::{assert_said, digits, parts};
+use resb::compile;
 use resb_read::from_bytes;
 use resb_text::Reader;
 use resb_tree::{Int28, Key, Resource, ResourceBundle, Table};
@@ -233,7 +234,8 @@ fn push_word(alloc: Global, line: &mut String, word: u32) -> Result<(), Fail> {
 /// counts.
 const FAR_TABLES: &str = "\
 65502 Lz | 0 2 16388 => 65592 50000005 4001 ffff0020;
-65503 Lz | 0 16388 16389 16390 => 65604 40004004 2 20 10000;
+65503 Lz | 0 1 2 3 4 5 6 7 16388 16389 16390 16391 16392 =>
+    65604 40004004 7 4001 4009 4009 2 0 4004 2 20 10000 60000001 60000003;
 65502 zLz | 0 7 16388 16389 16390 => 65604 40004004 4004 2 22 10001;
 65503 zL | 0 7 16388 => 65592 50000005 4006 200022;
 ";
@@ -261,12 +263,28 @@ fn far_table(alloc: Global, long: &str, list: &str) -> Result<Vec<u8>, Fail> {
     Ok(written(alloc, Resource::Table(table_with(alloc, long)?), &keys)?)
 }
 
-/// The length and some words of the file of a row.
+/// The file of the text of that table, whose discovered keys are those of a list that has each
+/// once.
+fn far_text(alloc: Global, long: &str, list: &str) -> Result<Vec<u8>, Fail> {
+    let mut text = String::from_str(alloc, "b{")?;
+    for letter in list.chars() {
+        text.push_str(if letter == 'L' { long } else { "z" })?;
+        text.push_str(if letter == 'L' { "{x}" } else { "{y}" })?;
+    }
+    text.push_str("}")?;
+    Ok(compile(alloc, text.as_str())?)
+}
+
+/// The length and some words of the file of a row, which is the text's where the list has each key
+/// once.
 fn line_of_far(alloc: Global, input: &str) -> Result<String, Fail> {
     let (table, numbers) = input.split_once(" | ").ok_or("a row without words")?;
     let (count, list) = table.split_once(' ').ok_or("a row without keys")?;
     let long = repeated(alloc, 'K', count.parse::<usize>()?)?;
     let file = far_table(alloc, long.as_str(), list)?;
+    if list.len() == 2 && far_text(alloc, long.as_str(), list)? != file {
+        return Err("the text has another file")?;
+    }
     line_of_words(alloc, &file, numbers)
 }
 
@@ -294,19 +312,24 @@ fn repeated(alloc: Global, c: char, count: usize) -> Result<String, Fail> {
     Ok(text)
 }
 
-/// Forty characters of two units each have a marker.
+/// The numbers of the words of a file of forty characters of two units each, and those words: the
+/// string has a marker.
+const FACES: (&str, &str) = (
+    "0 7 8 9 10 11 12 13 14 15 16 17 18 19 20 21 22 23 24 25 26 27 28 29 30 31 32 33 34 35 36 \
+     37 38 39 40 41 42 43 44 45 46 47 48 49",
+    "232 60000001 32 dc500000 de00d83d de00d83d de00d83d de00d83d de00d83d de00d83d de00d83d \
+     de00d83d de00d83d de00d83d de00d83d de00d83d de00d83d de00d83d de00d83d de00d83d de00d83d \
+     de00d83d de00d83d de00d83d de00d83d de00d83d de00d83d de00d83d de00d83d de00d83d de00d83d \
+     de00d83d de00d83d de00d83d de00d83d de00d83d de00d83d de00d83d de00d83d de00d83d de00d83d \
+     de00d83d de00d83d de00d83d aaaa0000",
+);
+
 #[test]
 fn forty_faces_are_marked(rt: HostRuntime) -> Result<(), Fail> {
     let text = repeated(rt.alloc(), '\u{1f600}', 40)?;
     let file = written(rt.alloc(), Resource::String(CowStr::Owned(text)), &[])?;
-    let found = line_of_words(rt.alloc(), &file, "0 7 8 9")?;
-    assert_said(
-        &rt,
-        rt.alloc(),
-        "faces",
-        found,
-        "232 60000001 32 dc500000 de00d83d",
-    )
+    let found = line_of_words(rt.alloc(), &file, FACES.0)?;
+    assert_said(&rt, rt.alloc(), "faces", found, FACES.1)
 }
 
 /// The array of strings of so many letters a each.
@@ -322,13 +345,13 @@ fn letters<'a>(alloc: Global, counts: &[usize]) -> Result<Resource<'a>, Fail> {
 #[test]
 fn marked_strings_stand_in_files(rt: HostRuntime) -> Result<(), Fail> {
     let file = written(rt.alloc(), letters(rt.alloc(), &[41, 42, 1])?, &[])?;
-    let found = line_of_words(rt.alloc(), &file, "0 7 8 52 53")?;
+    let found = line_of_words(rt.alloc(), &file, "0 7 8 9 28 29 30 50 51 52 53")?;
     assert_said(
         &rt,
         rt.alloc(),
         "letters",
         found,
-        "248 90000058 36 dc290000 10003 2a002c",
+        "248 90000058 36 dc290000 610061 610061 61 61dc2a 610061 61 10003 2a002c",
     )
 }
 
@@ -397,6 +420,17 @@ fn numbered(alloc: Global) -> Result<Vec<u8>, Fail> {
     Ok(written(alloc, Resource::Table(table), &listed)?)
 }
 
+/// The file of the text of that table.
+fn numbered_text(alloc: Global) -> Result<Vec<u8>, Fail> {
+    let mut text = String::from_str(alloc, "b{")?;
+    for number in 0..65536u32 {
+        let entry = format!(in alloc; "{number:05}:int{{0}}")?;
+        text.push_str(entry.as_str())?;
+    }
+    text.push_str("}")?;
+    Ok(compile(alloc, text.as_str())?)
+}
+
 /// Whether the file is read back as the table of these keys.
 fn is_numbered(alloc: Global, file: &[u8]) -> Result<bool, Fail> {
     let tree: Resource = from_bytes(alloc, file)?;
@@ -418,6 +452,8 @@ fn a_table_of_65536_entries(rt: HostRuntime) -> Result<(), Fail> {
     )?;
     let is_read_back = is_numbered(rt.alloc(), &file)?;
     assert!(rt; is_read_back);
+    let is_compiled = numbered_text(rt.alloc())? == file;
+    assert!(rt; is_compiled);
     Ok(())
 }
 
@@ -466,10 +502,10 @@ fn nested_tables<'a>(alloc: Global, levels: u32) -> Result<Resource<'a>, Fail> {
 fn deep_tables_are_written(rt: HostRuntime) -> Result<(), Fail> {
     let file = written(
         rt.alloc(),
-        nested_tables(rt.alloc(), 100_000)?,
+        nested_tables(rt.alloc(), 1_000_000)?,
         &[Key::from("k")],
     )?;
-    assert_eq!(rt; file.len(), 72 + 800_000);
+    assert_eq!(rt; file.len(), 72 + 8_000_000);
     Ok(())
 }
 

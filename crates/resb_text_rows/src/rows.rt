@@ -51,6 +51,18 @@ b{i:int{-0}} => b: { i: 0 }, keys i
 b{i:int{00000000000000000007}} => b: { i: 7 }, keys i
 b{v:intvector{1,2,3}} => b: { v: ( 1 2 3 ) }, keys v
 b{v:intvector{+1,-2147483648,}} => b: { v: ( 1 2147483648 ) }, keys v
+b{a{"x"}c{"yz"}} => b: { a: 'x' c: 'yz' }, keys a c
+b{d:bin{"00"}e:bin{"00"}} => b: { d: < 0 > e: < 0 > }, keys d e
+b{a:table{k{v}}b:table{k{v}l:int{1}}} => b: { a: { k: 'v' } b: { k: 'v' l: 1 } }, keys a k b l
+b{a:array{:int{1} :int{2} {x}}} => b: { a: [ 1 2 'x' ] }, keys a
+b{k{""}} => b: { k: '' }, keys k
+b{a{"é"}b{"aé"}c{"😀"}d{"é😀"}} => b: { a: 'é' b: 'aé' c: '😀' d: 'é😀' }, keys a b c d
+b{t:table{b:int{2}a:int{1}}} => b: { t: { a: 1 b: 2 } }, keys t b a
+b{l:int{1}k:int{2}m:int{3}} => b: { k: 2 l: 1 m: 3 }, keys l k m
+"é"{"é"{"é"}} => é: { é: 'é' }, keys é
+b:table(nofallback){a:array{}b:table{}c:bin{""}d:string{""}} => b without fallback: { a: [ ] b: { } c: < > d: '' }, keys a b c d
+b{a{x}b{y}c{y}} => b: { a: 'x' b: 'y' c: 'y' }, keys a b c
+b{a{ab}b{b}c{ab}d{cab}} => b: { a: 'ab' b: 'b' c: 'ab' d: 'cab' }, keys a b c d
 "#;
 
 /// Texts with the place where each is refused, and what was expected there.

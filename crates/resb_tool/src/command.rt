@@ -1,11 +1,11 @@
 //! The command line: what the words ask for, and what is done with the files that they name.
 //! What is done with their bytes is in `streams`.
-ghost use Rattle.std.specs.Prelude.{◌≡◌, ◌≤◌, map, string_bytes, IfErr};
+ghost use Rattle.std.specs.Prelude.{◌≡◌, ◌⊎◌, ◌≤◌, map, string_bytes, IfErr};
 ghost use Rattle.resb_tool.specs.Commands.{Asks};
 ghost use Rattle.resb_tool.specs.Program.{status_of};
 
 use crate::fault::ToolError;
-use crate::streams::{check_file, compile_text, run};
+use crate::streams::{check_file, compile_text, read_all, run};
 use std::alloc::Global;
 use std::io::ErrorKind;
 use std::rt::{Env, Files};
@@ -81,12 +81,23 @@ fn refuse<R: Eprint>(rt: &R, e: ToolError) -> u8
     e.status()
 }
 
+/// The bytes of the file of that name, read in blocks as standard input is.
+fn read_file<R: Files + AllocGlobal>(rt: &R, name: &str) -> Result<Vec<u8>, ToolError>
+    ensures { IfErr result (λ e. (e ≡ ToolError.Input) ⊎ (e ≡ ToolError.Memory)) }
+{
+    match fs::open(rt, name) {
+        Ok(mut file) => read_all(rt.alloc(), &mut file),
+        Err(e) if e.kind() == ErrorKind::OutOfMemory => Err(ToolError::Memory),
+        Err(_) => Err(ToolError::Input),
+    }
+}
+
 fn read_named<R: Files + AllocGlobal + Eprint>(rt: &R, name: &str) -> Result<Vec<u8>, u8>
     ensures { IfErr result (λ status. status ≤ 2) }
 {
-    match fs::read(rt, name) {
+    match read_file(rt, name) {
         Ok(bytes) => Ok(bytes),
-        Err(e) if e.kind() == ErrorKind::OutOfMemory => Err(refuse(rt, ToolError::Memory)),
+        Err(ToolError::Memory) => Err(refuse(rt, ToolError::Memory)),
         Err(_) => {
             let _ = eprintln!(rt; "cannot read {name}");
             Err(2)

@@ -66,7 +66,7 @@ fn read_some<R: Read>(
 }
 
 /// All that the reader has left.
-fn read_all<R: Read>(alloc: Global, reader: &mut R) -> Result<Vec<u8>, ToolError>
+pub(crate) fn read_all<R: Read>(alloc: Global, reader: &mut R) -> Result<Vec<u8>, ToolError>
     ensures ok { IfOk result (λ bytes.
         IfSome (R.remaining reader.old) (λ input. bytes.items ≡ input)) }
     ensures err { IfErr result (λ e. (e ≡ ToolError.Input) ⊎ (e ≡ ToolError.Memory)) }

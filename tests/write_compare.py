@@ -5,7 +5,8 @@
 
 OURS is a program that takes the words `compile IN OUT`. OTHER is a command as `answers.py` says,
 which answers a text by the hex digits of its file. Two texts in seven are one array of strings that
-share suffixes, so that the pool is all there is. The first difference is printed and ends the run
+share suffixes, so that the pool is all there is. Behind each 200 of them stands one with offsets or
+key positions that no 16-bit unit holds. The first difference is printed and ends the run
 with status 1. KEPT gets the hex digits of each file in a line, for `read_compare.py`.
 """
 import os
@@ -75,6 +76,16 @@ def text(rng):
     return 'b%s{%s}' % (flag, entries(rng, known, 4))
 
 
+def far(rng):
+    """A text with a key or with strings that others stand far behind."""
+    known = []
+    if rng.randrange(2):
+        long = 'K' * rng.choice([65501, 65502, 65503, 65504, 70000])
+        return 'b{%s%s%s}' % (long, value(rng, known, 1), entries(rng, known, 2))
+    long = ' '.join('"%s"' % (letter * rng.randrange(65400, 65600)) for letter in 'xy')
+    return 'b{a:array{%s %s}%s}' % (long, string(rng, known), entries(rng, known, 3))
+
+
 def file_of(program, said, folder):
     """The hex digits of the file of a text, or what is said on standard error."""
     given, made = os.path.join(folder, 'in'), os.path.join(folder, 'out')
@@ -93,6 +104,7 @@ def main():
     count = int(sys.argv[3]) if len(sys.argv) > 3 else 1000
     rng = random.Random(int(sys.argv[4]) if len(sys.argv) > 4 else 1)
     texts = [text(rng).encode() for _ in range(count)]
+    texts += [far(rng).encode() for _ in range(count // 200)]
     wanted = answers(sys.argv[2], texts)
     with tempfile.TemporaryDirectory() as folder:
         for said, theirs in zip(texts, wanted):
@@ -102,7 +114,7 @@ def main():
     if len(sys.argv) > 5:
         with open(sys.argv[5], 'w') as kept:
             kept.writelines(one + '\n' for one in wanted)
-    print('%d texts: no difference' % count)
+    print('%d texts: no difference' % len(texts))
 
 
 main()

@@ -23,13 +23,15 @@ SIZES = [10 ** k for k in range(4, 8)]
 
 
 def entries(said, size):
-    """A root of tables of at most 100 entries, up to so many bytes."""
+    """Tables of at most 100 entries in one another, up to so many bytes."""
     parts, length, n = [], 0, 0
     while length < size:
         part = 'k%d{' % n + ''.join(said(i) for i in range(100)) + '}'
         parts.append(part)
         length += len(part)
         n += 1
+    while len(parts) > 100:
+        parts = ['t%d{%s}' % (at, ''.join(parts[at:at + 100])) for at in range(0, len(parts), 100)]
     return 'b{' + ''.join(parts) + '}'
 
 

@@ -20,13 +20,14 @@ pub(crate) const ALL: &str = "\
     text-map word-list-map byte-map unit-view word-view number-view pair-view unit-view-list \
     type skip key-map pairs unit-lists tree";
 
-/// The line of a value, or of why it is refused.
+/// The line of a value, or of why it is refused. Want of memory is handed up.
 pub(crate) fn line<'m, T: Debug + Drop>(
     alloc: Global,
     read: Result<T, ReadingError<'m>>,
 ) -> Result<String, Fail> {
     match read {
         Ok(value) => Ok(format!(in alloc; "{value:?}")?),
+        Err(error) if error.is_out_of_memory() => Err("out of memory")?,
         Err(error) => Ok(format!(in alloc; "{error}")?),
     }
 }

@@ -7,19 +7,19 @@ use Rattle.resb_tree.specs.Tree.{Tree, string, array, table, binary, integer, in
 use Rattle.resb_tree.specs.Tree.{no_trees, more_trees, Entries, no_entries, entry}
 use Rattle.resb_layout.specs.Laid.{Given, State}
 use Rattle.resb_tree.specs.WalkOrder.{members, values_of, children, walk, walk_each, walk_values}
-use Rattle.resb_bodies.specs.Steps.{Step, Steps, steps_none, steps_more}
+use Rattle.resb_bodies.specs.StackSteps.{LaysNext, LaysRow, steps_none, steps_more}
 use Rattle.resb_bodies.specs.Room.{given_by, own_size, most_units, most_bytes, IsKnown}
 use Rattle.resb_bodies.specs.Inner.Seen.{Takes, Suffices, CanLay}
-use Rattle.resb_bodies.specs.declared.given.Places.{Places}
+use Rattle.resb_bodies.specs.declared.given.Sites.{Sites}
 use Rattle.resb_bodies.specs.declared.given.Bodies.{Bodies}
 
 pub steps_push : (g : Given) (s m e : State) (ws xs ys : List ℕ) (ts : List Tree) (t : Tree)
-    → Steps g s ws ts m xs → Step g m xs t e ys → Steps g s ws (ts ++ t ∷ []) e ys
+    → LaysRow g s ws ts m xs → LaysNext g m xs t e ys → LaysRow g s ws (ts ++ t ∷ []) e ys
 steps_push g s m e ws xs ys [] t steps_none k = steps_more k steps_none
 steps_push g s n e ws xs ys (u ∷ ts) t (steps_more {m} {xs = zs} h more) k =
     steps_more h (steps_push g m n e zs xs ys ts t more k)
 
-pub step_long : (g : Given) (s e : State) (ws xs : List ℕ) (t : Tree) → Step g s ws t e xs
+pub step_long : (g : Given) (s e : State) (ws xs : List ℕ) (t : Tree) → LaysNext g s ws t e xs
     → length xs ≡ length ws - length (children t) + 1
 step_long g s e ws xs t k =
     omega (
@@ -72,7 +72,7 @@ mutual
 pub suffices : (t : Tree) → Suffices 0 (walk t)
 suffices t = subst (Suffices 0) (append-nil (walk t)) (suffices_tree t 0 [] tt)
 
-module _ (p : Places) (b : Bodies) (n : ℕ) (t : Tree) (ts : List Tree) (h : CanLay p b n (t ∷ ts))
+module _ (p : Sites) (b : Bodies) (n : ℕ) (t : Tree) (ts : List Tree) (h : CanLay p b n (t ∷ ts))
   where
     pub can_go_on : (c : Bodies) (m : ℕ) → Takes p b c (own_size t)
         → m ≡ n - length (children t) + 1

@@ -9,7 +9,7 @@ use Rattle.resb_layout.specs.Laid.{lays_no_items, lays_entries, lays_no_entries,
 use Rattle.resb_layout.specs.Laid.{ClosesTable, ArePlaced, members_in}
 use Rattle.resb_tree.specs.WalkOrder.{entry_keys}
 use Rattle.resb_tree.specs.WalkOrder.{members, values_of, children, walk, walk_each, walk_values}
-use Rattle.resb_bodies.specs.Steps.{Step, Steps, steps_none, steps_more}
+use Rattle.resb_bodies.specs.StackSteps.{LaysNext, LaysRow, steps_none, steps_more}
 use Rattle.resb_bodies.proofs.Walks.{nil_from_len}
 
 -- of two lists in two parts, the parts are the same where the last ones have one length
@@ -41,7 +41,7 @@ module _ (g : Given) where
     pub mid : State
     pub word : ℕ
     pub lays : Lays g s t mid word
-    pub goes : Steps g mid (ws ++ word ∷ []) rest e ys
+    pub goes : LaysRow g mid (ws ++ word ∷ []) rest e ys
 
   pub record SplitEach (s : State) (ws : List ℕ) (ts : List Tree) (rest : List Tree) (e : State)
       (ys : List ℕ) : Type 0 where
@@ -49,102 +49,102 @@ module _ (g : Given) where
     pub words : List ℕ
     pub lays : LaysEach g s (trees_of ts) mid words
     pub many : length words ≡ length ts
-    pub goes : Steps g mid (ws ++ words) rest e ys
+    pub goes : LaysRow g mid (ws ++ words) rest e ys
 
   -- the step of a resource whose members are laid
   last_step : (s mid e : State) (ws words ys : List ℕ) (t : Tree) (rest : List Tree)
       → LaysEach g s (trees_of (children t)) mid words → length words ≡ length (children t)
-      → Steps g mid (ws ++ words) (t ∷ rest) e ys → Split s ws t rest e ys
+      → LaysRow g mid (ws ++ words) (t ∷ rest) e ys → Split s ws t rest e ys
   last_step s mid e ws words ys t rest h n (steps_more {m} {xs} k more) =
       let r = same_parts ws words k.below k.members k.taken (n ∙ sym k.many) in
       record {
         mid = m;
         word = k.word;
         lays = k.closes s (subst (LaysEach g s (trees_of (children t)) mid) r.1 h);
-        goes = subst (λ l. Steps g m l rest e ys) (k.put ∙ ap (λ l. l ++ k.word ∷ []) (sym r.0))
+        goes = subst (λ l. LaysRow g m l rest e ys) (k.put ∙ ap (λ l. l ++ k.word ∷ []) (sym r.0))
             more;
       }
 
   leaf : (s e : State) (ws ys : List ℕ) (t : Tree) (rest : List Tree) → children t ≡ []
-      → Steps g s ws (t ∷ rest) e ys → Split s ws t rest e ys
+      → LaysRow g s ws (t ∷ rest) e ys → Split s ws t rest e ys
   leaf s e ws ys t rest n h =
       last_step s s e ws [] ys t rest (subst (λ ts. LaysEach g s (trees_of ts) s []) (sym n)
-      each_none) (sym (ap length n)) (subst (λ l. Steps g s l (t ∷ rest) e ys)
+      each_none) (sym (ap length n)) (subst (λ l. LaysRow g s l (t ∷ rest) e ys)
       (sym (append-nil ws)) h)
 
   mutual
     steps_tree : (t : Tree) (s e : State) (ws ys : List ℕ) (rest : List Tree)
-        → Steps g s ws (walk t ++ rest) e ys → Split s ws t rest e ys
+        → LaysRow g s ws (walk t ++ rest) e ys → Split s ws t rest e ys
     steps_tree (string x) s e ws ys rest h = leaf s e ws ys (string x) rest refl h
     steps_tree (binary x) s e ws ys rest h = leaf s e ws ys (binary x) rest refl h
     steps_tree (integer n) s e ws ys rest h = leaf s e ws ys (integer n) rest refl h
     steps_tree (int_vector x) s e ws ys rest h = leaf s e ws ys (int_vector x) rest refl h
     steps_tree (array ts) s e ws ys rest h =
         let k = steps_each ts s e ws ys (array ts ∷ rest)
-        (subst (λ l. Steps g s ws l e ys) (append_assoc (walk_each ts) (array ts ∷ []) rest)
+        (subst (λ l. LaysRow g s ws l e ys) (append_assoc (walk_each ts) (array ts ∷ []) rest)
         h) in
         last_step s k.mid e ws k.words ys (array ts) rest k.lays k.many k.goes
     steps_tree (table es) s e ws ys rest h =
         let k = steps_values es s e ws ys (table es ∷ rest)
-        (subst (λ l. Steps g s ws l e ys) (append_assoc (walk_values es) (table es ∷ []) rest)
+        (subst (λ l. LaysRow g s ws l e ys) (append_assoc (walk_values es) (table es ∷ []) rest)
         h) in
         last_step s k.mid e ws k.words ys (table es) rest k.lays k.many k.goes
 
     steps_each : (ts : Trees) (s e : State) (ws ys : List ℕ) (rest : List Tree)
-        → Steps g s ws (walk_each ts ++ rest) e ys → SplitEach s ws (members ts) rest e ys
+        → LaysRow g s ws (walk_each ts ++ rest) e ys → SplitEach s ws (members ts) rest e ys
     steps_each no_trees s e ws ys rest h = record {
       mid = s;
       words = [];
       lays = each_none;
       many =
           refl;
-      goes = subst (λ l. Steps g s l rest e ys) (sym (append-nil ws)) h;
+      goes = subst (λ l. LaysRow g s l rest e ys) (sym (append-nil ws)) h;
     }
     steps_each (more_trees t ts) s e ws ys rest h =
         let a = steps_tree t s e ws ys (walk_each ts ++ rest)
-        (subst (λ l. Steps g s ws l e ys) (append_assoc (walk t) (walk_each ts) rest) h) in
+        (subst (λ l. LaysRow g s ws l e ys) (append_assoc (walk t) (walk_each ts) rest) h) in
         let b = steps_each ts a.mid e (ws ++ a.word ∷ []) ys rest a.goes in
         record {
           mid = b.mid;
           words = a.word ∷ b.words;
           lays = each_more a.lays b.lays;
           many = omega (arith, b.many);
-          goes = subst (λ l. Steps g b.mid l rest e ys) (append_assoc ws (a.word ∷ []) b.words)
+          goes = subst (λ l. LaysRow g b.mid l rest e ys) (append_assoc ws (a.word ∷ []) b.words)
               b.goes;
         }
 
     steps_values : (es : Entries) (s e : State) (ws ys : List ℕ) (rest : List Tree)
-        → Steps g s ws (walk_values es ++ rest) e ys → SplitEach s ws (values_of es) rest e ys
+        → LaysRow g s ws (walk_values es ++ rest) e ys → SplitEach s ws (values_of es) rest e ys
     steps_values no_entries s e ws ys rest h = record {
       mid = s;
       words = [];
       lays =
           each_none;
       many = refl;
-      goes = subst (λ l. Steps g s l rest e ys) (sym (append-nil ws)) h;
+      goes = subst (λ l. LaysRow g s l rest e ys) (sym (append-nil ws)) h;
     }
     steps_values (entry k t es) s e ws ys rest h =
         let a = steps_tree t s e ws ys (walk_values es ++ rest)
-        (subst (λ l. Steps g s ws l e ys) (append_assoc (walk t) (walk_values es) rest) h) in
+        (subst (λ l. LaysRow g s ws l e ys) (append_assoc (walk t) (walk_values es) rest) h) in
         let b = steps_values es a.mid e (ws ++ a.word ∷ []) ys rest a.goes in
         record {
           mid = b.mid;
           words = a.word ∷ b.words;
           lays = each_more a.lays b.lays;
           many = omega (arith, b.many);
-          goes = subst (λ l. Steps g b.mid l rest e ys) (append_assoc ws (a.word ∷ []) b.words)
+          goes = subst (λ l. LaysRow g b.mid l rest e ys) (append_assoc ws (a.word ∷ []) b.words)
               b.goes;
         }
 
 -- nothing is left
-ended : (g : Given) (s e : State) (ws ys : List ℕ) → Steps g s ws [] e ys → (s ≡ e) × (ws ≡ ys)
+ended : (g : Given) (s e : State) (ws ys : List ℕ) → LaysRow g s ws [] e ys → (s ≡ e) × (ws ≡ ys)
 ended g s e ws ys steps_none = (refl, refl)
 
 pub steps_lay_trees : (g : Given) (s e : State) (t : Tree) (xs : List ℕ)
-    → Steps g s [] (walk t) e xs → (w : ℕ) × (xs ≡ w ∷ []) × Lays g s t e w
+    → LaysRow g s [] (walk t) e xs → (w : ℕ) × (xs ≡ w ∷ []) × Lays g s t e w
 steps_lay_trees g s e t xs h =
     let k = steps_tree g t s e [] xs []
-    (subst (λ l. Steps g s [] l e xs) (sym (append-nil (walk t))) h) in
+    (subst (λ l. LaysRow g s [] l e xs) (sym (append-nil (walk t))) h) in
     let z = ended g k.mid e (k.word ∷ []) xs k.goes in
     (k.word, sym z.1, subst (λ m. Lays g s t m k.word) z.0 k.lays)
 
@@ -165,7 +165,8 @@ split_stack ws n h = (
 
 pub array_step : (g : Given) (s e : State) (ws xs vs : List ℕ) (ts : Trees) (w n : ℕ)
     → n ≡ length (members ts) → n ≤ length ws → vs ≡ drop (length ws - n) ws → 0 < n
-    → ClosesArray g s vs e w → xs ≡ take (length ws - n) ws ++ w ∷ [] → Step g s ws (array ts) e xs
+    → ClosesArray g s vs e w → xs ≡ take (length ws - n) ws ++ w ∷ []
+    → LaysNext g s ws (array ts) e xs
 array_step g s e ws xs vs ts w n c h v some k p =
     let q = split_stack ws n h in
     record {
@@ -180,7 +181,7 @@ array_step g s e ws xs vs ts w n c h v some k p =
     }
 
 pub empty_array_step : (g : Given) (s : State) (ws xs : List ℕ) (w : ℕ) → w ≡ 0x8000_0000
-    → xs ≡ take (length ws - 0) ws ++ w ∷ [] → Step g s ws (array no_trees) s xs
+    → xs ≡ take (length ws - 0) ws ++ w ∷ [] → LaysNext g s ws (array no_trees) s xs
 empty_array_step g s ws xs w e p =
     let q = split_stack ws 0 (omega arith) in
     record {
@@ -205,7 +206,7 @@ values_back (entry k t es) = ap (more_trees t) (values_back es)
 pub table_step : (g : Given) (s e : State) (ws xs vs ps : List ℕ) (es : Entries) (w n : ℕ)
     → n ≡ length (values_of es) → n ≤ length ws → vs ≡ drop (length ws - n) ws → 0 < n
     → ArePlaced g (entry_keys es) ps → ClosesTable g s ps vs e w
-    → xs ≡ take (length ws - n) ws ++ w ∷ [] → Step g s ws (table es) e xs
+    → xs ≡ take (length ws - n) ws ++ w ∷ [] → LaysNext g s ws (table es) e xs
 table_step g s e ws xs vs ps es w n c h v some a k p =
     let q = split_stack ws n h in
     record {
@@ -221,7 +222,7 @@ table_step g s e ws xs vs ps es w n c h v some a k p =
 
 -- a resource with nothing inside takes no word, and puts its own
 pub leaf_step : (g : Given) (s e : State) (ws xs : List ℕ) (t : Tree) (w : ℕ) → children t ≡ []
-    → Lays g s t e w → xs ≡ ws ++ w ∷ [] → Step g s ws t e xs
+    → Lays g s t e w → xs ≡ ws ++ w ∷ [] → LaysNext g s ws t e xs
 leaf_step g s e ws xs t w none l p =
     record {
       below = ws;
@@ -238,7 +239,7 @@ leaf_step g s e ws xs t w none l p =
     same ts f each_none = refl
 
 pub empty_table_step : (g : Given) (s : State) (ws xs : List ℕ) (w : ℕ) → w ≡ 0x2000_0000
-    → xs ≡ take (length ws - 0) ws ++ w ∷ [] → Step g s ws (table no_entries) s xs
+    → xs ≡ take (length ws - 0) ws ++ w ∷ [] → LaysNext g s ws (table no_entries) s xs
 empty_table_step g s ws xs w e p =
     let q = split_stack ws 0 (omega arith) in
     leaf_step g s s ws xs (table no_entries) w refl (subst (Lays g s (table no_entries) s) (sym e)

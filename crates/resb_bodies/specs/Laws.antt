@@ -6,11 +6,11 @@ use Rattle.std.specs.Prelude.{◌≡◌, ℕ, List, [], ◌∷◌}
 use Rattle.resb_tree.specs.Tree.{Tree}
 use Rattle.resb_layout.specs.Laid.{Given, State, Lays}
 use Rattle.resb_tree.specs.WalkOrder.{walk}
-use Rattle.resb_bodies.specs.Steps.{Steps}
+use Rattle.resb_bodies.specs.StackSteps.{LaysRow}
 
 abbrev pub StepsLayTrees : Type 0
 StepsLayTrees =
-    (g : Given) (s e : State) (t : Tree) (xs : List ℕ) → Steps g s [] (walk t) e xs
+    (g : Given) (s e : State) (t : Tree) (xs : List ℕ) → LaysRow g s [] (walk t) e xs
     → (w : ℕ) × (xs ≡ w ∷ []) × Lays g s t e w
 
 abbrev pub OneBlock : Type 0

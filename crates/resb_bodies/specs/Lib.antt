@@ -6,6 +6,6 @@ pub use Rattle.resb_tree.specs.WalkOrder
 pub use Rattle.resb_pool.specs.Plan
 pub use Rattle.resb_layout.specs.Laid
 pub mod Room
-pub mod Steps
+pub mod StackSteps
 pub mod Laws
 pub mod Inner

@@ -17,22 +17,22 @@ use Rattle.resb_layout.specs.Laid.{Given, State, here}
 use Rattle.resb_tree.specs.WalkOrder.{entry_keys}
 use Rattle.resb_pool.specs.Plan.{at_text, offset_of, plan_units}
 use Rattle.resb_tree.specs.WalkOrder.{members, values_of}
-use Rattle.resb_bodies.specs.declared.given.Places.{Places}
+use Rattle.resb_bodies.specs.declared.given.Sites.{Sites}
 use Rattle.resb_bodies.specs.declared.given.Bodies.{Bodies}
 
 abbrev pub trees_in : List (Bor Resource) → List Tree
 trees_in rs = map (λ r. tree_of r.now) rs
 
-abbrev pub based : Places → ℕ → Given
+abbrev pub based : Sites → ℕ → Given
 based p n = record { position = at_text p.positions; offset = offset_of p.plan; base = n }
 
-abbrev pub given_by : Places → Given
+abbrev pub given_by : Sites → Given
 given_by p = based p p.base
 
 abbrev pub state_of : Bodies → State
 state_of b = record { units = b.units.items; tail = b.tail.items }
 
-abbrev pub pool_state : Places → State
+abbrev pub pool_state : Sites → State
 pool_state p = record { units = plan_units p.plan; tail = [] }
 
 -- the keys and the text of a resource are known
@@ -72,7 +72,7 @@ block_end n b = n + 2 * (length b.units.items + length b.units.items % 2)
 
 -- from byte n of the body there is room for the pool, and behind it for the bodies of these
 -- resources
-pub record HasRoomBehind (p : Places) (n : ℕ) (ts : List Tree) : Type 0 where
+pub record HasRoomBehind (p : Sites) (n : ℕ) (ts : List Tree) : Type 0 where
   pub units : length (plan_units p.plan) + sum_by most_units ts < 2 ^ 28
   pub bytes : n + 2 * (length (plan_units p.plan) + sum_by most_units ts + 1)
       + sum_by most_bytes ts < 2 ^ 30

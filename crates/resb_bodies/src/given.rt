@@ -10,13 +10,13 @@ use std::alloc::{AllocError, Global};
 /// The position of each used key in bytes of the body, the plan of the strings, and how many bytes
 /// of the body stand before the tail, a multiple of 4.
 #[derive(Drop)]
-pub struct Places<'p> {
+pub struct Sites<'p> {
     pub positions: IndexMap<&'p str, u32>,
     pub plan: Plan<'p>,
     pub base: usize,
 }
 
-impl<'p> Places<'p> {
+impl<'p> Sites<'p> {
     /// The position of a key, if it is used.
     pub(crate) fn position(&self, key: &str) -> Option<u32>
         ensures { result ≡ at_text self.now.positions key.now }

@@ -8,11 +8,11 @@ ghost use Rattle.resb_pool.specs.Plan.{offset_of};
 ghost use Rattle.resb_layout.specs.Laid.{Given, State, ArePlaced};
 ghost use Rattle.resb_tree.specs.WalkOrder.{entry_keys};
 ghost use Rattle.resb_tree.specs.View.{items_view, entries_view};
-ghost use Rattle.resb_bodies.specs.Steps.{Step};
+ghost use Rattle.resb_bodies.specs.StackSteps.{LaysNext};
 ghost use Rattle.resb_bodies.specs.Room.{given_by, state_of, IsKnown};
 ghost use Rattle.resb_bodies.specs.Inner.Seen.{HasRoom, Takes};
 
-use crate::given::{Bodies, Places};
+use crate::given::{Bodies, Sites};
 use crate::resource::{close_array, close_table, lay_bytes, lay_numbers, word};
 use resb_format::ResourceReprType;
 use resb_tree::{Resource, Table};
@@ -31,38 +31,34 @@ fn replace(words: &mut Vec<u32>, count: usize, word: u32) -> Result<(), AllocErr
 
 /// Lays an array behind its members, whose words it takes off the stack.
 pub(crate) fn step_array(
-    places: &Places<'_>,
+    sites: &Sites<'_>,
     bodies: &mut Bodies,
     words: &mut Vec<u32>,
     items: &[Resource<'_>],
 ) -> Result<(), AllocError>
-    requires room { HasRoom places.now bodies.old (length items.now) }
+    requires room { HasRoom sites.now bodies.old (length items.now) }
     requires enough { length items.now ≤ length words.old.items }
-    ensures step { OnOk result (Step (given_by places.now) (state_of bodies.old) words.old.items
+    ensures step { OnOk result (LaysNext (given_by sites.now) (state_of bodies.old) words.old.items
         (array (items_view items.now)) (state_of bodies.new) words.new.items) }
-    ensures takes { OnOk result (Takes places.now bodies.old bodies.new (length items.now)) }
+    ensures takes { OnOk result (Takes sites.now bodies.old bodies.new (length items.now)) }
 {
     if items.is_empty() {
         return replace(words, 0, word(ResourceReprType::Array, 0));
     }
     let (_, members) = words.split_at(words.len() - items.len());
-    let word = close_array(places, bodies, members)?;
+    let word = close_array(sites, bodies, members)?;
     replace(words, items.len(), word)
 }
 
 /// The positions of a table's keys, which are all used.
-fn positions_of(
-    alloc: Global,
-    places: &Places<'_>,
-    table: &Table<'_>,
-) -> Result<Vec<u32>, AllocError>
-    requires { IsKnown (given_by places.now) (table_with (entries_view table.now.entries)) }
-    ensures { IfOk result (λ v. ArePlaced (given_by places.now)
+fn positions_of(alloc: Global, sites: &Sites<'_>, table: &Table<'_>) -> Result<Vec<u32>, AllocError>
+    requires { IsKnown (given_by sites.now) (table_with (entries_view table.now.entries)) }
+    ensures { IfOk result (λ v. ArePlaced (given_by sites.now)
         (entry_keys (entries_view table.now.entries)) v.items) }
 {
     let mut positions = Vec::new(alloc);
     for key in table.keys() {
-        let Some(position) = places.position(key.as_str()) else {
+        let Some(position) = sites.position(key.as_str()) else {
             unreachable!()
         };
         positions.push(position)?;
@@ -73,25 +69,25 @@ fn positions_of(
 /// Lays a table, whose keys are all used, behind its values, whose words it takes off the stack.
 pub(crate) fn step_table(
     alloc: Global,
-    places: &Places<'_>,
+    sites: &Sites<'_>,
     bodies: &mut Bodies,
     words: &mut Vec<u32>,
     table: &Table<'_>,
 ) -> Result<(), AllocError>
-    requires room { HasRoom places.now bodies.old (length table.now.entries) }
+    requires room { HasRoom sites.now bodies.old (length table.now.entries) }
     requires enough { length table.now.entries ≤ length words.old.items }
-    requires known { IsKnown (given_by places.now) (table_with (entries_view table.now.entries)) }
-    ensures step { OnOk result (Step (given_by places.now) (state_of bodies.old) words.old.items
+    requires known { IsKnown (given_by sites.now) (table_with (entries_view table.now.entries)) }
+    ensures step { OnOk result (LaysNext (given_by sites.now) (state_of bodies.old) words.old.items
         (table_with (entries_view table.now.entries)) (state_of bodies.new) words.new.items) }
-    ensures takes { OnOk result (Takes places.now bodies.old bodies.new
+    ensures takes { OnOk result (Takes sites.now bodies.old bodies.new
         (length table.now.entries)) }
 {
     if table.is_empty() {
         return replace(words, 0, word(ResourceReprType::Table, 0));
     }
-    let positions = positions_of(alloc, places, table)?;
+    let positions = positions_of(alloc, sites, table)?;
     let (_, members) = words.split_at(words.len() - table.len());
-    let word = close_table(places, bodies, &positions, members)?;
+    let word = close_table(sites, bodies, &positions, members)?;
     replace(words, table.len(), word)
 }
 
@@ -99,7 +95,7 @@ pub(crate) fn step_table(
 pub(crate) fn step_integer(words: &mut Vec<u32>, number: u32) -> Result<(), AllocError>
     requires { number < 2 ^ 28 }
     ensures { OnOk result ((g : Given) (s : State)
-        → Step g s words.old.items (integer number) s words.new.items) }
+        → LaysNext g s words.old.items (integer number) s words.new.items) }
 {
     words.push(word(ResourceReprType::Int, number))?;
     Ok(())
@@ -107,36 +103,36 @@ pub(crate) fn step_integer(words: &mut Vec<u32>, number: u32) -> Result<(), Allo
 
 /// Lays bytes, and puts their word.
 pub(crate) fn step_bytes(
-    places: &Places<'_>,
+    sites: &Sites<'_>,
     bodies: &mut Bodies,
     words: &mut Vec<u32>,
     bytes: &[u8],
 ) -> Result<(), AllocError>
-    requires { HasRoom places.now bodies.old ((length bytes.now + 7) / 8) }
-    ensures step { OnOk result (Step (given_by places.now) (state_of bodies.old) words.old.items
+    requires { HasRoom sites.now bodies.old ((length bytes.now + 7) / 8) }
+    ensures step { OnOk result (LaysNext (given_by sites.now) (state_of bodies.old) words.old.items
         (binary bytes.now) (state_of bodies.new) words.new.items) }
-    ensures takes { OnOk result (Takes places.now bodies.old bodies.new
+    ensures takes { OnOk result (Takes sites.now bodies.old bodies.new
         ((length bytes.now + 7) / 8)) }
 {
-    let word = lay_bytes(places, bodies, bytes)?;
+    let word = lay_bytes(sites, bodies, bytes)?;
     words.push(word)?;
     Ok(())
 }
 
 /// Lays numbers, and puts their word.
 pub(crate) fn step_numbers(
-    places: &Places<'_>,
+    sites: &Sites<'_>,
     bodies: &mut Bodies,
     words: &mut Vec<u32>,
     numbers: &[u32],
 ) -> Result<(), AllocError>
-    requires { HasRoom places.now bodies.old ((length numbers.now + 1) / 2) }
-    ensures step { OnOk result (Step (given_by places.now) (state_of bodies.old) words.old.items
+    requires { HasRoom sites.now bodies.old ((length numbers.now + 1) / 2) }
+    ensures step { OnOk result (LaysNext (given_by sites.now) (state_of bodies.old) words.old.items
         (int_vector numbers.now) (state_of bodies.new) words.new.items) }
-    ensures takes { OnOk result (Takes places.now bodies.old bodies.new
+    ensures takes { OnOk result (Takes sites.now bodies.old bodies.new
         ((length numbers.now + 1) / 2)) }
 {
-    let word = lay_numbers(places, bodies, numbers)?;
+    let word = lay_numbers(sites, bodies, numbers)?;
     words.push(word)?;
     Ok(())
 }
@@ -144,16 +140,16 @@ pub(crate) fn step_numbers(
 /// Puts the word of a string, whose text has an offset. Its number among the strings of the tree
 /// is where its text is looked for first.
 pub(crate) fn step_string(
-    places: &Places<'_>,
+    sites: &Sites<'_>,
     words: &mut Vec<u32>,
     number: usize,
     text: &str,
 ) -> Result<(), AllocError>
-    requires { (k : ℕ) × (offset_of places.now.plan text.now ≡ Some k) × (k < 2 ^ 28) }
+    requires { (k : ℕ) × (offset_of sites.now.plan text.now ≡ Some k) × (k < 2 ^ 28) }
     ensures { OnOk result ((s : State)
-        → Step (given_by places.now) s words.old.items (string text.now) s words.new.items) }
+        → LaysNext (given_by sites.now) s words.old.items (string text.now) s words.new.items) }
 {
-    let Some(offset) = places.plan.offset_in_turn(number, text) else {
+    let Some(offset) = sites.plan.offset_in_turn(number, text) else {
         unreachable!()
     };
     words.push(word(ResourceReprType::StringV2, offset))?;

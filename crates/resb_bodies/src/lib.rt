@@ -10,6 +10,6 @@ mod resource;
 mod tree;
 mod walk_order;
 
-pub use given::{Bodies, Places};
+pub use given::{Bodies, Sites};
 pub use tree::lay_bodies;
 pub use walk_order::in_walk_order;

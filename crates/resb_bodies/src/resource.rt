@@ -10,7 +10,7 @@ ghost use Rattle.resb_bodies.specs.Room.{given_by, state_of};
 ghost use Rattle.resb_bodies.specs.Inner.Seen.{HasRoom, Takes};
 
 use crate::bytes::{put_counted, put_fill, put_short_table, put_word, put_words};
-use crate::given::{Bodies, Places};
+use crate::given::{Bodies, Sites};
 use resb_format::{ResDescriptor, ResourceReprType};
 use std::alloc::AllocError;
 
@@ -33,13 +33,13 @@ fn first_string_word() -> u32
 }
 
 /// The word of the body at which the next byte of the tail stands.
-fn place(places: &Places<'_>, tail: &[u8], skipped: usize) -> u32
-    requires aligned { (places.now.base + length tail.now + skipped) % 4 ≡ 0 }
-    requires small { places.now.base + length tail.now + skipped < 2 ^ 30 }
-    ensures at { places.now.base + length tail.now + skipped ≡ 4 * result }
+fn tail_value(sites: &Sites<'_>, tail: &[u8], skipped: usize) -> u32
+    requires aligned { (sites.now.base + length tail.now + skipped) % 4 ≡ 0 }
+    requires small { sites.now.base + length tail.now + skipped < 2 ^ 30 }
+    ensures at { sites.now.base + length tail.now + skipped ≡ 4 * result }
     ensures fits { result < 2 ^ 28 }
 {
-    ((places.base + tail.len() + skipped) / 4) as u32
+    ((sites.base + tail.len() + skipped) / 4) as u32
 }
 
 /// Whether these are the words of at most 65535 strings at offsets of at most 65535.
@@ -98,14 +98,14 @@ fn put_near(units: &mut Vec<u16>, positions: &[u32]) -> Result<(), AllocError>
 
 /// Lays an array that isn't empty.
 pub(crate) fn close_array(
-    places: &Places<'_>,
+    sites: &Sites<'_>,
     bodies: &mut Bodies,
     words: &[u32],
 ) -> Result<u32, AllocError>
-    requires { HasRoom places.now bodies.old (length words.now) }
-    ensures lays { IfOk result (λ w. ClosesArray (given_by places.now) (state_of bodies.old)
+    requires { HasRoom sites.now bodies.old (length words.now) }
+    ensures lays { IfOk result (λ w. ClosesArray (given_by sites.now) (state_of bodies.old)
         words.now (state_of bodies.new) w) }
-    ensures takes { OnOk result (Takes places.now bodies.old bodies.new (length words.now)) }
+    ensures takes { OnOk result (Takes sites.now bodies.old bodies.new (length words.now)) }
 {
     if are_short_strings(words) {
         let at = bodies.units.len() as u32;
@@ -113,26 +113,26 @@ pub(crate) fn close_array(
         put_offsets(&mut bodies.units, words)?;
         return Ok(word(ResourceReprType::Array16, at));
     }
-    let at = place(places, &bodies.tail, 0);
+    let at = tail_value(sites, &bodies.tail, 0);
     put_counted(&mut bodies.tail, words)?;
     Ok(word(ResourceReprType::Array, at))
 }
 
 /// Lays a table that isn't empty.
 pub(crate) fn close_table(
-    places: &Places<'_>,
+    sites: &Sites<'_>,
     bodies: &mut Bodies,
     positions: &[u32],
     words: &[u32],
 ) -> Result<u32, AllocError>
-    requires room { HasRoom places.now bodies.old (length words.now) }
+    requires room { HasRoom sites.now bodies.old (length words.now) }
     requires many { length positions.now ≡ length words.now }
-    ensures lays { IfOk result (λ w. ClosesTable (given_by places.now) (state_of bodies.old)
+    ensures lays { IfOk result (λ w. ClosesTable (given_by sites.now) (state_of bodies.old)
         positions.now words.now (state_of bodies.new) w) }
-    ensures takes { OnOk result (Takes places.now bodies.old bodies.new (length words.now)) }
+    ensures takes { OnOk result (Takes sites.now bodies.old bodies.new (length words.now)) }
 {
     if !are_near_positions(positions) {
-        let at = place(places, &bodies.tail, 0);
+        let at = tail_value(sites, &bodies.tail, 0);
         put_counted(&mut bodies.tail, positions)?;
         put_words(&mut bodies.tail, words)?;
         return Ok(word(ResourceReprType::_Table32, at));
@@ -144,28 +144,28 @@ pub(crate) fn close_table(
         put_offsets(&mut bodies.units, words)?;
         return Ok(word(ResourceReprType::Table16, at));
     }
-    let at = place(places, &bodies.tail, 0);
+    let at = tail_value(sites, &bodies.tail, 0);
     put_short_table(&mut bodies.tail, positions, words)?;
     Ok(word(ResourceReprType::Table, at))
 }
 
 /// Lays bytes, which begin at a multiple of 16 in the body.
 pub(crate) fn lay_bytes(
-    places: &Places<'_>,
+    sites: &Sites<'_>,
     bodies: &mut Bodies,
     bytes: &[u8],
 ) -> Result<u32, AllocError>
-    requires { HasRoom places.now bodies.old ((length bytes.now + 7) / 8) }
-    ensures lays { IfOk result (λ w. Lays (given_by places.now) (state_of bodies.old)
+    requires { HasRoom sites.now bodies.old ((length bytes.now + 7) / 8) }
+    ensures lays { IfOk result (λ w. Lays (given_by sites.now) (state_of bodies.old)
         (binary bytes.now) (state_of bodies.new) w) }
-    ensures takes { OnOk result (Takes places.now bodies.old bodies.new
+    ensures takes { OnOk result (Takes sites.now bodies.old bodies.new
         ((length bytes.now + 7) / 8)) }
 {
     if bytes.is_empty() {
         return Ok(word(ResourceReprType::Binary, 0));
     }
-    let skipped = (28 - (places.base + bodies.tail.len()) % 16) % 16;
-    let at = place(places, &bodies.tail, skipped);
+    let skipped = (28 - (sites.base + bodies.tail.len()) % 16) % 16;
+    let at = tail_value(sites, &bodies.tail, skipped);
     put_fill(&mut bodies.tail, skipped)?;
     put_word(&mut bodies.tail, bytes.len() as u32)?;
     bodies.tail.extend_from_slice(bytes)?;
@@ -175,20 +175,20 @@ pub(crate) fn lay_bytes(
 
 /// Lays numbers.
 pub(crate) fn lay_numbers(
-    places: &Places<'_>,
+    sites: &Sites<'_>,
     bodies: &mut Bodies,
     numbers: &[u32],
 ) -> Result<u32, AllocError>
-    requires { HasRoom places.now bodies.old ((length numbers.now + 1) / 2) }
-    ensures lays { IfOk result (λ w. Lays (given_by places.now) (state_of bodies.old)
+    requires { HasRoom sites.now bodies.old ((length numbers.now + 1) / 2) }
+    ensures lays { IfOk result (λ w. Lays (given_by sites.now) (state_of bodies.old)
         (int_vector numbers.now) (state_of bodies.new) w) }
-    ensures takes { OnOk result (Takes places.now bodies.old bodies.new
+    ensures takes { OnOk result (Takes sites.now bodies.old bodies.new
         ((length numbers.now + 1) / 2)) }
 {
     if numbers.is_empty() {
         return Ok(word(ResourceReprType::IntVector, 0));
     }
-    let at = place(places, &bodies.tail, 0);
+    let at = tail_value(sites, &bodies.tail, 0);
     put_counted(&mut bodies.tail, numbers)?;
     Ok(word(ResourceReprType::IntVector, at))
 }

@@ -6,12 +6,12 @@ ghost use Rattle.resb_tree.specs.View.{tree_of};
 ghost use Rattle.resb_pool.specs.Plan.{plan_units};
 ghost use Rattle.resb_layout.specs.Laid.{State, Lays};
 ghost use Rattle.resb_tree.specs.WalkOrder.{walk, children};
-ghost use Rattle.resb_bodies.specs.Steps.{Step, Steps};
+ghost use Rattle.resb_bodies.specs.StackSteps.{LaysNext, LaysRow};
 ghost use Rattle.resb_bodies.specs.Room.{based, pool_state, given_by, state_of, trees_in, own_size};
 ghost use Rattle.resb_bodies.specs.Room.{HasRoomFor, HasRoomBehind, IsKnown, block_end, most_units};
 ghost use Rattle.resb_bodies.specs.Inner.Seen.{HasRoom, Takes, CanLay};
 
-use crate::given::{Bodies, Places};
+use crate::given::{Bodies, Sites};
 use crate::lay::{step_array, step_bytes, step_integer, step_numbers, step_string, step_table};
 use crate::walk_order::in_walk_order;
 use resb_tree::Resource;
@@ -21,27 +21,27 @@ use std::alloc::{AllocError, Global};
 /// many strings came before it.
 fn step(
     alloc: Global,
-    places: &Places<'_>,
+    sites: &Sites<'_>,
     bodies: &mut Bodies,
     words: &mut Vec<u32>,
     number: usize,
     resource: &Resource<'_>,
 ) -> Result<(), AllocError>
-    requires room { HasRoom places.now bodies.old (own_size (tree_of resource.now)) }
+    requires room { HasRoom sites.now bodies.old (own_size (tree_of resource.now)) }
     requires enough { length (children (tree_of resource.now)) ≤ length words.old.items }
-    requires known { IsKnown (given_by places.now) (tree_of resource.now) }
-    ensures step { OnOk result (Step (given_by places.now) (state_of bodies.old) words.old.items
+    requires known { IsKnown (given_by sites.now) (tree_of resource.now) }
+    ensures step { OnOk result (LaysNext (given_by sites.now) (state_of bodies.old) words.old.items
         (tree_of resource.now) (state_of bodies.new) words.new.items) }
-    ensures takes { OnOk result (Takes places.now bodies.old bodies.new
+    ensures takes { OnOk result (Takes sites.now bodies.old bodies.new
         (own_size (tree_of resource.now))) }
 {
     match resource {
-        Resource::String(text) => step_string(places, words, number, text.as_str()),
-        Resource::Array(items) => step_array(places, bodies, words, items),
-        Resource::Table(table) => step_table(alloc, places, bodies, words, table),
-        Resource::Binary(bytes) => step_bytes(places, bodies, words, bytes.as_slice()),
+        Resource::String(text) => step_string(sites, words, number, text.as_str()),
+        Resource::Array(items) => step_array(sites, bodies, words, items),
+        Resource::Table(table) => step_table(alloc, sites, bodies, words, table),
+        Resource::Binary(bytes) => step_bytes(sites, bodies, words, bytes.as_slice()),
         Resource::Integer(number) => step_integer(words, u32::from(*number)),
-        Resource::IntVector(numbers) => step_numbers(places, bodies, words, numbers),
+        Resource::IntVector(numbers) => step_numbers(sites, bodies, words, numbers),
     }
 }
 
@@ -57,21 +57,21 @@ fn number_behind(number: usize, resource: &Resource<'_>) -> usize {
 /// Lays resources in a row.
 fn steps(
     alloc: Global,
-    places: &Places<'_>,
+    sites: &Sites<'_>,
     bodies: &mut Bodies,
     words: &mut Vec<u32>,
     order: Vec<&Resource<'_>>,
 ) -> Result<(), AllocError>
-    requires { CanLay places.now bodies.old (length words.old.items) (trees_in order.items) }
-    ensures lays { OnOk result (Steps (given_by places.now) (state_of bodies.old) words.old.items
+    requires { CanLay sites.now bodies.old (length words.old.items) (trees_in order.items) }
+    ensures lays { OnOk result (LaysRow (given_by sites.now) (state_of bodies.old) words.old.items
         (trees_in order.entry.items) (state_of bodies.new) words.new.items) }
     ensures takes { OnOk result (length bodies.new.units.items
         ≤ length bodies.old.units.items + sum_by most_units (trees_in order.entry.items)) }
-    ensures fits { OnOk result (HasRoomFor (given_by places.now) (state_of bodies.new) []) }
+    ensures fits { OnOk result (HasRoomFor (given_by sites.now) (state_of bodies.new) []) }
 {
     let mut number = 0;
     for resource in order {
-        step(alloc, places, bodies, words, number, resource)?;
+        step(alloc, sites, bodies, words, number, resource)?;
         number = number_behind(number, resource);
     }
     Ok(())
@@ -82,22 +82,22 @@ fn steps(
 /// then is of no use.
 pub(crate) fn lay_tree(
     alloc: Global,
-    places: &Places<'_>,
+    sites: &Sites<'_>,
     bodies: &mut Bodies,
     root: &Resource<'_>,
 ) -> Result<u32, AllocError>
-    requires room { HasRoomFor (given_by places.now) (state_of bodies.old)
+    requires room { HasRoomFor (given_by sites.now) (state_of bodies.old)
         (walk (tree_of root.now)) }
-    requires known { All (IsKnown (given_by places.now)) (walk (tree_of root.now)) }
-    ensures lays { IfOk result (λ word. Lays (given_by places.now) (state_of bodies.old)
+    requires known { All (IsKnown (given_by sites.now)) (walk (tree_of root.now)) }
+    ensures lays { IfOk result (λ word. Lays (given_by sites.now) (state_of bodies.old)
         (tree_of root.now) (state_of bodies.new) word) }
     ensures takes { OnOk result (length bodies.new.units.items
         ≤ length bodies.old.units.items + sum_by most_units (walk (tree_of root.now))) }
-    ensures fits { OnOk result (HasRoomFor (given_by places.now) (state_of bodies.new) []) }
+    ensures fits { OnOk result (HasRoomFor (given_by sites.now) (state_of bodies.new) []) }
 {
     let order = in_walk_order(alloc, root)?;
     let mut words = Vec::new(alloc);
-    steps(alloc, places, bodies, &mut words, order)?;
+    steps(alloc, sites, bodies, &mut words, order)?;
     let Some(word) = words.pop() else {
         unreachable!()
     };
@@ -105,50 +105,50 @@ pub(crate) fn lay_tree(
 }
 
 /// The number of units of the 16-bit block: the pool of the strings, and what a tree adds. It is
-/// the same wherever the tail begins, so the places may say anything there that leaves room.
+/// the same wherever the tail begins, so the sites may say anything there that leaves room.
 pub(crate) fn count_units(
     alloc: Global,
-    places: &Places<'_>,
+    sites: &Sites<'_>,
     root: &Resource<'_>,
 ) -> Result<usize, AllocError>
-    requires room { HasRoomFor (given_by places.now) (pool_state places.now)
+    requires room { HasRoomFor (given_by sites.now) (pool_state sites.now)
         (walk (tree_of root.now)) }
-    requires known { All (IsKnown (given_by places.now)) (walk (tree_of root.now)) }
+    requires known { All (IsKnown (given_by sites.now)) (walk (tree_of root.now)) }
     ensures counts { IfOk result (λ count. (base : ℕ) (end : State) (word : ℕ)
-        → Lays (based places.now base) (pool_state places.now) (tree_of root.now) end word
+        → Lays (based sites.now base) (pool_state sites.now) (tree_of root.now) end word
         → length end.units ≡ count) }
     ensures few { IfOk result (λ count. count
-        ≤ length (plan_units places.now.plan) + sum_by most_units (walk (tree_of root.now))) }
+        ≤ length (plan_units sites.now.plan) + sum_by most_units (walk (tree_of root.now))) }
 {
-    let mut bodies = Bodies::new(alloc, places.plan.units())?;
-    lay_tree(alloc, places, &mut bodies, root)?;
+    let mut bodies = Bodies::new(alloc, sites.plan.units())?;
+    lay_tree(alloc, sites, &mut bodies, root)?;
     Ok(bodies.units.len())
 }
 
 /// Lays a tree behind the pool of its strings, where the key block ends at a byte of the body.
 /// Gives what is laid, and the tree's word. The tail begins behind the 16-bit block, at a multiple
-/// of 4, which the places then say. `Err` is for want of memory alone; the base of the places is
+/// of 4, which the sites then say. `Err` is for want of memory alone; the base of the sites is
 /// then of no account.
 pub fn lay_bodies(
     alloc: Global,
-    places: &mut Places<'_>,
+    sites: &mut Sites<'_>,
     keys_end: usize,
     root: &Resource<'_>,
 ) -> Result<(Bodies, u32), AllocError>
     requires aligned { keys_end % 4 ≡ 0 }
-    requires room { HasRoomBehind places.old keys_end (walk (tree_of root.now)) }
-    requires known { (base : ℕ) → All (IsKnown (based places.old base)) (walk (tree_of root.now)) }
-    ensures lays { IfOk result (λ laid. Lays (based places.old (block_end keys_end laid.0))
-        (pool_state places.old) (tree_of root.now) (state_of laid.0) laid.1) }
-    ensures fits { IfOk result (λ laid. HasRoomFor (based places.old (block_end keys_end laid.0))
+    requires room { HasRoomBehind sites.old keys_end (walk (tree_of root.now)) }
+    requires known { (base : ℕ) → All (IsKnown (based sites.old base)) (walk (tree_of root.now)) }
+    ensures lays { IfOk result (λ laid. Lays (based sites.old (block_end keys_end laid.0))
+        (pool_state sites.old) (tree_of root.now) (state_of laid.0) laid.1) }
+    ensures fits { IfOk result (λ laid. HasRoomFor (based sites.old (block_end keys_end laid.0))
         (state_of laid.0) []) }
-    ensures behind { IfOk result (λ laid. places.new.base ≡ block_end keys_end laid.0) }
-    ensures keeps { places.new ≡ record places.old { base = places.new.base } }
+    ensures behind { IfOk result (λ laid. sites.new.base ≡ block_end keys_end laid.0) }
+    ensures keeps { sites.new ≡ record sites.old { base = sites.new.base } }
 {
-    places.base = 0;
-    let count = count_units(alloc, places, root)?;
-    places.base = keys_end + 2 * (count + count % 2);
-    let mut bodies = Bodies::new(alloc, places.plan.units())?;
-    let word = lay_tree(alloc, places, &mut bodies, root)?;
+    sites.base = 0;
+    let count = count_units(alloc, sites, root)?;
+    sites.base = keys_end + 2 * (count + count % 2);
+    let mut bodies = Bodies::new(alloc, sites.plan.units())?;
+    let word = lay_tree(alloc, sites, &mut bodies, root)?;
     Ok((bodies, word))
 }

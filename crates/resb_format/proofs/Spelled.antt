@@ -152,3 +152,18 @@ unfolding units_of
 unit_first [] h = absurd (omega arith)
 unit_first (a ∷ []) h = absurd (omega arith)
 unit_first (a ∷ b ∷ bs) h = refl
+
+-- the first four units, and those of the bytes behind them
+pub four_first : (bs : List ℕ) → 8 ≤ length bs
+    → units_of bs ≡ get_or (units_of bs) 0 0 ∷ get_or (units_of bs) 1 0 ∷ get_or (units_of bs) 2 0
+    ∷ get_or (units_of bs) 3 0 ∷ units_of (drop 8 bs)
+unfolding units_of
+four_first [] h = absurd (omega arith)
+four_first (a ∷ []) h = absurd (omega arith)
+four_first (a ∷ b ∷ []) h = absurd (omega arith)
+four_first (a ∷ b ∷ c ∷ []) h = absurd (omega arith)
+four_first (a ∷ b ∷ c ∷ d ∷ []) h = absurd (omega arith)
+four_first (a ∷ b ∷ c ∷ d ∷ e ∷ []) h = absurd (omega arith)
+four_first (a ∷ b ∷ c ∷ d ∷ e ∷ f ∷ []) h = absurd (omega arith)
+four_first (a ∷ b ∷ c ∷ d ∷ e ∷ f ∷ g ∷ []) h = absurd (omega arith)
+four_first (a ∷ b ∷ c ∷ d ∷ e ∷ f ∷ g ∷ h ∷ bs) long = refl

@@ -1,6 +1,6 @@
 //! Little-endian numbers among bytes. No other module indexes bytes.
 //! Where a number stands is the business of the module that asks for it.
-ghost use Rattle.std.specs.Prelude.{◌≡◌, ◌+◌, ◌*◌, ◌/◌, ◌<◌, ◌≤◌, [], ◌∷◌, length, slice_get};
+ghost use Rattle.std.specs.Prelude.{◌≡◌, ◌+◌, ◌*◌, ◌/◌, ◌<◌, ◌≤◌, [], ◌∷◌, ◌++◌, length, slice_get};
 ghost use Rattle.std.specs.Prelude.{slice_index, slice_range, take, drop, Some, None, MatchOption};
 ghost use Rattle.std.specs.Prelude.{IfSome};
 ghost use Rattle.resb_format.specs.Bytes.{units_of, words_of, part};
@@ -8,7 +8,7 @@ ghost use Rattle.resb_format.specs.HeadChecks as checks;
 
 /// The 16-bit unit with this number.
 #[tactic(auto, using(crate::proofs::Spelled::units_at))]
-pub(crate) fn unit_at(bytes: &[u8], number: usize) -> u16
+pub fn unit_at(bytes: &[u8], number: usize) -> u16
     requires { number < length bytes.now / 2 }
     ensures { result ≡ slice_index (units_of bytes.now) number }
 {
@@ -105,6 +105,26 @@ pub fn first_unit(bytes: &[u8]) -> Option<(u16, &[u8])>
     let unit = u16::from_le_bytes([bytes[0], bytes[1]]);
     let (_, rest) = bytes.split_at(2);
     Some((unit, rest))
+}
+
+/// The first four units, and the bytes behind them, if so many stand there.
+#[tactic(auto, using(crate::proofs::Spelled::four_first, crate::proofs::Spelled::units_length))]
+pub fn first_four_units(bytes: &[u8]) -> Option<([u16; 4], &[u8])>
+    ensures { let units = units_of bytes.now in
+        MatchOption result (length units < 4)
+        (λ r. (length r.0 ≡ 4) × (units ≡ r.0 ++ units_of r.1.now)) }
+{
+    if bytes.len() < 8 {
+        return None;
+    }
+    let units = [
+        unit_at(bytes, 0),
+        unit_at(bytes, 1),
+        unit_at(bytes, 2),
+        unit_at(bytes, 3),
+    ];
+    let (_, rest) = bytes.split_at(8);
+    Some((units, rest))
 }
 
 /// The first word, and the bytes behind it.

@@ -24,7 +24,7 @@ use Rattle.resb_grammar.specs.Machine.{after_number, after_comma, State, start, 
 use Rattle.resb_grammar.specs.Machine.{inside, typed, in_string, in_binary, in_integer, filled}
 use Rattle.resb_grammar.specs.Machine.{in_vector, finished, is_key_place, when, unless, leave}
 use Rattle.resb_grammar.specs.Machine.{with_term, within, begun_as, next_in_vector}
-use Rattle.resb_grammar.specs.Machine.{in_body, next, Step, Path, begun, went, At}
+use Rattle.resb_grammar.specs.Machine.{in_body, next, TokenStep, Path, begun, went, At}
 use Rattle.resb_grammar.specs.Inner.Half.{half}
 use Rattle.resb_grammar.proofs.Half.{pairs-half, group-half}
 use Rattle.resb_grammar.specs.Token.{Means}
@@ -537,7 +537,7 @@ module _ (text : List ℕ) where
       vector_next place ns o from ends to t good m skip
   good_next (finished t xs) from ends to token good m skip = tt
 
-  good_step : (from to : ℕ) (s u : State) → Good s from → Step text from s to u → Good u to
+  good_step : (from to : ℕ) (s u : State) → Good s from → TokenStep text from s to u → Good u to
   good_step from to s u good x =
       subst (λ (o : Option State). GoodNext o to) x.move.moves
       (good_next s from x.ends to x.move.token good

@@ -15,7 +15,7 @@ use Rattle.resb_grammar.specs.GroupTypes.{Kind, string_kind, array_kind, table_k
 use Rattle.resb_grammar.specs.GroupTypes.{integer_kind, vector_kind, Names, TypeName, GroupType}
 use Rattle.resb_grammar.specs.GroupTypes.{NoFallback, RootType, table_type, no_fallback_type}
 use Rattle.resb_grammar.specs.Machine.{Token, a_text, a_number, a_type, a_root_type, State, next}
-use Rattle.resb_grammar.specs.Machine.{Move, Step, Path, begun, went}
+use Rattle.resb_grammar.specs.Machine.{Move, TokenStep, Path, begun, went}
 use Rattle.resb_grammar.proofs.Lex.{Class, text_class, number_class, open_class, close_class}
 use Rattle.resb_grammar.proofs.Lex.{comma_class, type_class, root_type_class, no_class}
 use Rattle.resb_grammar.proofs.Lex.{class_in, Lex, mode}
@@ -215,9 +215,9 @@ Move-one text from s a b u v p q =
     let same : Some u ≡ Some v = sym p.moves ∙ ap (next s) both.1 ∙ q.moves in
     (both.0, cc)
 
-pub Step-one : (text : List ℕ) (from : ℕ) (s : State) (a b : ℕ) (u v : State) → Step text from s a u
-    → Step text from s b v → (a ≡ b) × (u ≡ v)
-Step-one text from s a b u v p q =
+pub token_step_one : (text : List ℕ) (from : ℕ) (s : State) (a b : ℕ) (u v : State)
+    → TokenStep text from s a u → TokenStep text from s b v → (a ≡ b) × (u ≡ v)
+token_step_one text from s a b u v p q =
     let both = Move-one text from s p.ends q.ends u v p.move q.move in
     (Skip-one text p.ends a b p.after (subst (λ n. Skip text n b) (sym both.0) q.after), both.1)
 
@@ -226,9 +226,9 @@ pub Path-one : (text : List ℕ) (n a b : ℕ) (s t : State) → Path text n a s
 Path-one text zero a b s t (begun _ h) (begun _ h') = (Skip-one text 0 a b h h', refl)
 Path-one text (suc n) a b s t (went _ i _ u _ p x) (went _ j _ v _ q y) =
     let both = Path-one text n i j u v p q in
-    let y' : Step text i u b t = subst (λ (w : State). Step text i w b t) (sym both.1)
-    (subst (λ (k : ℕ). Step text k v b t) (sym both.0) y) in
-    Step-one text i u a b s t x y'
+    let y' : TokenStep text i u b t = subst (λ (w : State). TokenStep text i w b t) (sym both.1)
+    (subst (λ (k : ℕ). TokenStep text k v b t) (sym both.0) y) in
+    token_step_one text i u a b s t x y'
 
 -- a longer path goes on from each shorter one
 pub Path-front : (text : List ℕ) (n m a b : ℕ) (s t : State) → Path text n a s → NoToken text a s
@@ -239,8 +239,8 @@ Path-front text n (suc m) a b s t p stop (went _ i _ u _ q x) low = ⊎_elim
     (λ (w : m ≤ n).
     let e : n ≡ m = omega arith in
     let both = Path-one text m a i s u (subst (λ k. Path text k a s) e p) q in
-    let x' : Step text a s b t = subst (λ (k : State). Step text a k b t) (sym both.1)
-    (subst (λ (k : ℕ). Step text k u b t) (sym both.0) x) in
+    let x' : TokenStep text a s b t = subst (λ (k : State). TokenStep text a k b t) (sym both.1)
+    (subst (λ (k : ℕ). TokenStep text k u b t) (sym both.0) x) in
     stop x'.ends t x'.move)
     (cases_lt n m)
 

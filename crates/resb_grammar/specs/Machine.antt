@@ -10,4 +10,4 @@ pub use Rattle.resb_grammar.specs.Next.{shape_in, closed, with_item, with_term, 
 pub use Rattle.resb_grammar.specs.Next.{at_root, within, leave, is_group, is_key_place, when}
 pub use Rattle.resb_grammar.specs.Next.{unless, with_comma, in_table, in_list, in_body, begun_as}
 pub use Rattle.resb_grammar.specs.Next.{with_leaf, next_in_vector, next}
-pub use Rattle.resb_grammar.specs.Paths.{Move, Step, Path, begun, went, At}
+pub use Rattle.resb_grammar.specs.Paths.{Move, TokenStep, Path, begun, went, At}

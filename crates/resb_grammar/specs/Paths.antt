@@ -12,7 +12,7 @@ pub record Move (text : List ℕ) (from : ℕ) (s : State) (to : ℕ) (u : State
   pub moves : next s token ≡ Some u
 
 -- the same, with the discardable text after it
-pub record Step (text : List ℕ) (from : ℕ) (s : State) (to : ℕ) (u : State) : Type 0 where
+pub record TokenStep (text : List ℕ) (from : ℕ) (s : State) (to : ℕ) (u : State) : Type 0 where
   pub ends : ℕ
   pub move : Move text from s ends u
   pub after : Skip text ends to
@@ -20,7 +20,7 @@ pub record Step (text : List ℕ) (from : ℕ) (s : State) (to : ℕ) (u : State
 -- n tokens lead to this place and state
 pub data Path (text : List ℕ) : ℕ → ℕ → State → Type 0 where
   begun : (at : ℕ) → Skip text 0 at → Path text 0 at start
-  went : (n from to : ℕ) (s u : State) → Path text n from s → Step text from s to u
+  went : (n from to : ℕ) (s u : State) → Path text n from s → TokenStep text from s to u
       → Path text (suc n) to u
 
 -- a reading comes to this place in this state

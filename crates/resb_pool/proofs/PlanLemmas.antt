@@ -1,4 +1,4 @@
--- From the texts, places, sums, records and closing zeros to the plan.
+-- From the texts, homes, sums, records and closing zeros to the plan.
 use Rattle.std.proofs.Common.{◌≡◌, ℕ, zero, suc, ◌+◌, ◌<◌, ◌≤◌, ◌^◌, List, [], ◌∷◌, length, map}
 use Rattle.std.proofs.Common.{get_or, Bool, Bor, true, false, cond, not, Option, Some, None}
 use Rattle.std.proofs.Common.{MatchOption, ◌↔◌, refl, sym, ◌∙◌, ap, subst, arith, true≢false, inl}
@@ -20,11 +20,11 @@ use Rattle.resb_pool.specs.Container.{IsContainer}
 use Rattle.resb_pool.specs.Pool.{LiesIn, SizeIn, Saved, Precedes, record_units, ClosesAt, Off}
 use Rattle.resb_pool.specs.Pool.{off_empty, off_within}
 use Rattle.resb_pool.specs.Plan.{nows, texts_size, IsPlan}
-use Rattle.resb_pool.specs.Inner.Placing.{text, copies, AreTexts, ArePlaces, AreSums, lying_in}
+use Rattle.resb_pool.specs.Inner.Placing.{text, copies, AreTexts, AreHomes, AreSums, lying_in}
 use Rattle.resb_pool.specs.Inner.Placing.{IsRecordOf, AreEnds, record_texts, record_cmp}
 use Rattle.resb_pool.specs.Inner.Placing.{offset_by, ClosesWithin}
 use Rattle.resb_pool.specs.declared.measure.Measure.{Measure}
-use Rattle.resb_pool.specs.declared.places.Place.{Place}
+use Rattle.resb_pool.specs.declared.homes.Home.{Home}
 use Rattle.resb_pool.specs.declared.records.Record.{Record}
 use Rattle.resb_pool.proofs.Least.{into_least}
 use Rattle.resb_pool.proofs.TextLoops.{blank}
@@ -53,45 +53,45 @@ size_nil =
     us + 1) e
 
 module _ (S T : Texts) (ms : List Measure) (given : AreTexts S T ms) (small : texts_size S < 2 ^ 28)
-    (ps : List Place) (placed : ArePlaces T ps) (measures : map (λ (p : Place). p.measure) ps ≡ ms)
+    (ps : List Home) (placed : AreHomes T ps) (measures : map (λ (p : Home). p.measure) ps ≡ ms)
   where
     abbrev back : (s : List ℕ) → Contains S s ↔ Contains T s
     back s = ((given.same s).1, (given.same s).0)
 
-    total_is : (i : ℕ) (d : Place) → i < length T
+    total_is : (i : ℕ) (d : Home) → i < length T
         → (get_or ps i d).measure.total ≡ copies S (text T i)
     total_is i d l = sym (ap (λ m. m.total) (measure_at i d l))
         ∙ (given.measured i d.measure l).total_is
       where
-        measure_at : (i : ℕ) (d : Place) → i < length T
+        measure_at : (i : ℕ) (d : Home) → i < length T
             → get_or ms i d.measure ≡ (get_or ps i d).measure
         measure_at i d l = ap (λ (z : List Measure). get_or z i d.measure) (sym measures)
-            ∙ get_or-map (λ (p : Place). p.measure) ps i d d.measure (omega (arith, l, placed.len))
+            ∙ get_or-map (λ (p : Home). p.measure) ps i d d.measure (omega (arith, l, placed.len))
 
-    pub unit_count_is : (i : ℕ) (d : Place) → i < length T
+    pub unit_count_is : (i : ℕ) (d : Home) → i < length T
         → (get_or ps i d).measure.unit_count ≡ length (units (text T i))
     unit_count_is i d l = sym (ap (λ m. m.unit_count) (measure_at i d l))
         ∙ (given.measured i d.measure l).units_is
       where
-        measure_at : (i : ℕ) (d : Place) → i < length T
+        measure_at : (i : ℕ) (d : Home) → i < length T
             → get_or ms i d.measure ≡ (get_or ps i d).measure
         measure_at i d l = ap (λ (z : List Measure). get_or z i d.measure) (sym measures)
-            ∙ get_or-map (λ (p : Place). p.measure) ps i d d.measure (omega (arith, l, placed.len))
+            ∙ get_or-map (λ (p : Home). p.measure) ps i d d.measure (omega (arith, l, placed.len))
 
-    pub size_is : (i : ℕ) (d : Place) → i < length T
+    pub size_is : (i : ℕ) (d : Home) → i < length T
         → (get_or ps i d).measure.size ≡ size (text T i)
     size_is i d l = sym (ap (λ m. m.size) (measure_at i d l))
         ∙ (given.measured i d.measure l).size_is
       where
-        measure_at : (i : ℕ) (d : Place) → i < length T
+        measure_at : (i : ℕ) (d : Home) → i < length T
             → get_or ms i d.measure ≡ (get_or ps i d).measure
         measure_at i d l = ap (λ (z : List Measure). get_or z i d.measure) (sym measures)
-            ∙ get_or-map (λ (p : Place). p.measure) ps i d d.measure (omega (arith, l, placed.len))
+            ∙ get_or-map (λ (p : Home). p.measure) ps i d d.measure (omega (arith, l, placed.len))
 
     sizes_small : sum_by size S < 2 ^ 28
     sizes_small = omega (arith, sizes_within S, small)
 
-    pub totals_small : sum_by (λ (p : Place). p.measure.total) ps < 2 ^ 32
+    pub totals_small : sum_by (λ (p : Home). p.measure.total) ps < 2 ^ 32
     totals_small = omega (
       arith,
       totals_of S ps T placed.len total_is,
@@ -99,18 +99,18 @@ module _ (S T : Texts) (ms : List Measure) (given : AreTexts S T ms) (small : te
       sizes_small,
     )
 
-    no_place : Place
-    no_place = record { «record» = 0; measure = record { unit_count = 0; size = 0; total = 0 } }
+    no_home : Home
+    no_home = record { «record» = 0; measure = record { unit_count = 0; size = 0; total = 0 } }
 
     record_in : (q : ℕ) → q < length T → IsRecord T (text T q)
         → SizeIn S (text T q) S (lying_in ps q)
-    record_in q l r = sized S T given.utf8 given.once given.same ps placed total_is q l r no_place
+    record_in q l r = sized S T given.utf8 given.once given.same ps placed total_is q l r no_home
 
     -- a record lies in itself
     own_container : (q : ℕ) → q < length T → IsRecord T (text T q)
         → IsContainer S (text T q) (text T q)
     own_container q l r =
-        let at = placed.lies q no_place l in
+        let at = placed.lies q no_home l in
         container_from T S given.same (text T q) (text T q)
         (subst (λ n. IsContainer T (text T q) (text T n)) (at.itself r) (at.container r.nonempty))
 
@@ -207,7 +207,7 @@ module _ (S T : Texts) (ms : List Measure) (given : AreTexts S T ms) (small : te
               omega (arith, n, z, ap length (o.text_is ∙ ap (text T) e)))
 
           -- where the record of a text closes
-          record_end : (i : ℕ) (d : Place) → i < length T → 0 < length (text T i)
+          record_end : (i : ℕ) (d : Home) → i < length T → 0 < length (text T i)
               → LiesIn S (text T i) (text T (get_or ps i d).record)
               × ClosesAt (record_texts v) (text T (get_or ps i d).record)
               (get_or es (get_or ps i d).record 0)
@@ -227,7 +227,7 @@ module _ (S T : Texts) (ms : List Measure) (given : AreTexts S T ms) (small : te
               )
 
           -- the empty text closes at unit 0
-          empty_end : (i : ℕ) (d : Place) → i < length T → length (text T i) ≡ 0
+          empty_end : (i : ℕ) (d : Home) → i < length T → length (text T i) ≡ 0
               → (get_or es (get_or ps i d).record 0 ≡ 0) × (size (text T i) ≡ 1)
           empty_end i d l z = (
             ap (λ n. get_or es n 0) ((placed.lies i d l).empty z) ∙ empty_zero i l z,
@@ -261,7 +261,7 @@ module _ (S T : Texts) (ms : List Measure) (given : AreTexts S T ms) (small : te
                     }
               ]
 
-          stands : (i : ℕ) (d : Place) → i < length T
+          stands : (i : ℕ) (d : Home) → i < length T
               → Off S (record_texts v) (text T i) (offset_by es (get_or ps i d))
           stands i d l = elim (cases_lt 0 (length (text T i))) [
             | inl pos ↦
@@ -302,11 +302,11 @@ module _ (S T : Texts) (ms : List Measure) (given : AreTexts S T ms) (small : te
                   × Off S (record_texts v) s k)
               by s None h = λ c. h ((given.same s).1 c)
               by s (Some k) (i, l, e, q) =
-                  let n : k ≡ offset_by es (get_or ps i no_place) = q
-                  ∙ get_or-map (offset_by es) ps i no_place 0 (omega (arith, l, placed.len)) in (
+                  let n : k ≡ offset_by es (get_or ps i no_home) = q
+                  ∙ get_or-map (offset_by es) ps i no_home 0 (omega (arith, l, placed.len)) in (
                     (given.same s).0 (subst (Contains T) e (has_text T i l)),
                     subst (λ z. Off S (record_texts v) z k) e
-                        (subst (Off S (record_texts v) (text T i)) (sym n) (stands i no_place l)),
+                        (subst (Off S (record_texts v) (text T i)) (sym n) (stands i no_home l)),
                   )
 
               precedes : (k : ℕ) → k + 1 < length (record_texts v)

@@ -12,8 +12,8 @@ use Rattle.resb_format.specs.Units.{size}
 use Rattle.resb_pool.specs.Records.{IsRecord, IsDistinct}
 use Rattle.resb_pool.specs.Container.{IsContainer}
 use Rattle.resb_pool.specs.Pool.{SizeIn, size_none, size_here, size_elsewhere}
-use Rattle.resb_pool.specs.Inner.Placing.{text, copies, ArePlaces, LiesAt, lying_in}
-use Rattle.resb_pool.specs.declared.places.Place.{Place}
+use Rattle.resb_pool.specs.Inner.Placing.{text, copies, AreHomes, LiesAt, lying_in}
+use Rattle.resb_pool.specs.declared.homes.Home.{Home}
 use Rattle.resb_pool.proofs.Distinct.{has_text, index_of, one_index}
 use Rattle.resb_pool.proofs.Sizes.{copy, copy_same, copy_other, copies-cons}
 use Rattle.resb_pool.proofs.PlacingLemmas.{container_from}
@@ -23,24 +23,24 @@ abbrev Texts : Type 0
 Texts = List (List ℕ)
 
 -- n, where a place is in q
-abbrev if_in : Place → ℕ → ℕ → ℕ
+abbrev if_in : Home → ℕ → ℕ → ℕ
 if_in p q n = cond (nat_eq p.record q) n 0
 
-if_in_zero : (p : Place) (q n : ℕ) → n ≡ 0 → if_in p q n ≡ 0
+if_in_zero : (p : Home) (q n : ℕ) → n ≡ 0 → if_in p q n ≡ 0
 if_in_zero p q n e = by (nat_eq p.record q)
   where
     by : (b : Bool) → cond b n 0 ≡ 0
     by true = e
     by false = refl
 
-if_in_le : (p : Place) (q n : ℕ) → if_in p q n ≤ n
+if_in_le : (p : Home) (q n : ℕ) → if_in p q n ≤ n
 if_in_le p q n = by (nat_eq p.record q)
   where
     by : (b : Bool) → cond b n 0 ≤ n
     by true = omega arith
     by false = omega arith
 
-if_in_sum : (p : Place) (q m n k : ℕ) → k ≡ m + n → if_in p q k ≡ if_in p q m + if_in p q n
+if_in_sum : (p : Home) (q m n k : ℕ) → k ≡ m + n → if_in p q k ≡ if_in p q m + if_in p q n
 if_in_sum p q m n k e = by (nat_eq p.record q)
   where
     by : (b : Bool) → cond b k 0 ≡ cond b m 0 + cond b n 0
@@ -48,19 +48,19 @@ if_in_sum p q m n k e = by (nat_eq p.record q)
     by false = refl
 
 -- what the copies among ss of the texts that lie in q take
-abbrev share : ℕ → List Place → Texts → Texts → ℕ
+abbrev share : ℕ → List Home → Texts → Texts → ℕ
 share q [] T ss = 0
 share q (p ∷ ps) [] ss = 0
 share q (p ∷ ps) (t ∷ T) ss = if_in p q (copies ss t) + share q ps T ss
 
 -- the same of one string
-abbrev part : ℕ → List Place → Texts → List ℕ → ℕ
+abbrev part : ℕ → List Home → Texts → List ℕ → ℕ
 part q [] T s = 0
 part q (p ∷ ps) [] s = 0
 part q (p ∷ ps) (t ∷ T) s = if_in p q (copy t s) + part q ps T s
 
-share_all : (q : ℕ) (S : Texts) (ps : List Place) (T : Texts) → length ps ≡ length T
-    → ((i : ℕ) (d : Place) → i < length T → (get_or ps i d).measure.total ≡ copies S (text T i))
+share_all : (q : ℕ) (S : Texts) (ps : List Home) (T : Texts) → length ps ≡ length T
+    → ((i : ℕ) (d : Home) → i < length T → (get_or ps i d).measure.total ≡ copies S (text T i))
     → lying_in ps q ≡ share q ps T S
 share_all q S [] T e h = refl
 share_all q S (p ∷ ps) [] e h = absurd (omega (arith, e))
@@ -68,14 +68,14 @@ share_all q S (p ∷ ps) (t ∷ T) e h =
     let rest = share_all q S ps T (omega (arith, e)) (λ i d l. h (suc i) d (omega (arith, l))) in
     let first : if_in p q p.measure.total ≡ if_in p q (copies S t) =
     ap (if_in p q) (h 0 p (omega arith)) in
-    omega (arith, sum_by-cons (λ (z : Place). if_in z q z.measure.total) p ps, first, rest)
+    omega (arith, sum_by-cons (λ (z : Home). if_in z q z.measure.total) p ps, first, rest)
 
-share_none : (q : ℕ) (ps : List Place) (T : Texts) → share q ps T [] ≡ 0
+share_none : (q : ℕ) (ps : List Home) (T : Texts) → share q ps T [] ≡ 0
 share_none q [] T = refl
 share_none q (p ∷ ps) [] = refl
 share_none q (p ∷ ps) (t ∷ T) = omega (arith, if_in_zero p q 0 refl, share_none q ps T)
 
-share-cons : (q : ℕ) (ps : List Place) (T : Texts) (s : List ℕ) (ss : Texts)
+share-cons : (q : ℕ) (ps : List Home) (T : Texts) (s : List ℕ) (ss : Texts)
     → share q ps T (s ∷ ss) ≡ part q ps T s + share q ps T ss
 share-cons q [] T s ss = refl
 share-cons q (p ∷ ps) [] s ss = refl
@@ -86,7 +86,7 @@ share-cons q (p ∷ ps) (t ∷ T) s ss =
       share-cons q ps T s ss,
     )
 
-part_none : (q : ℕ) (ps : List Place) (T : Texts) (s : List ℕ) → (Contains T s → ⊥)
+part_none : (q : ℕ) (ps : List Home) (T : Texts) (s : List ℕ) → (Contains T s → ⊥)
     → part q ps T s ≡ 0
 part_none q [] T s f = refl
 part_none q (p ∷ ps) [] s f = refl
@@ -98,7 +98,7 @@ part_none q (p ∷ ps) (t ∷ T) s f =
     )
 
 -- a text takes part in the record in which it lies
-part_at : (q : ℕ) (ps : List Place) (T : Texts) (s : List ℕ) (j : ℕ) (d : Place)
+part_at : (q : ℕ) (ps : List Home) (T : Texts) (s : List ℕ) (j : ℕ) (d : Home)
     → length ps ≡ length T → IsDistinct T → j < length T → text T j ≡ s
     → part q ps T s ≡ if_in (get_or ps j d) q (size s)
 part_at q [] T s j d e u l h = absurd (omega (arith, e, l))
@@ -120,10 +120,10 @@ more_than_zero zero f = absurd (f refl)
 more_than_zero (suc n) f = omega arith
 
 module _ (S T : Texts) (texts : All IsUtf8 S) (once : IsDistinct T) (same : (s : List ℕ)
-    → Contains T s ↔ Contains S s) (ps : List Place) (placed : ArePlaces T ps)
-    (totals : (i : ℕ) (d : Place) → i < length T
+    → Contains T s ↔ Contains S s) (ps : List Home) (placed : AreHomes T ps)
+    (totals : (i : ℕ) (d : Home) → i < length T
     → (get_or ps i d).measure.total ≡ copies S (text T i)) where
-  module _ (q : ℕ) (l : q < length T) (r : IsRecord T (text T q)) (d : Place) where
+  module _ (q : ℕ) (l : q < length T) (r : IsRecord T (text T q)) (d : Home) where
     shares : (ss : Texts) → ((s : List ℕ) → Contains ss s → Contains T s)
         → SizeIn S (text T q) ss (share q ps T ss)
     shares [] h = subst (SizeIn S (text T q) []) (sym (share_none q ps T)) size_none
@@ -237,32 +237,32 @@ copies_of_all T (s ∷ ss) u = omega (
   sum_by-cons size s ss,
 )
 
-pub totals_of : (S : Texts) (ps : List Place) (T : Texts) → length ps ≡ length T
-    → ((i : ℕ) (d : Place) → i < length T → (get_or ps i d).measure.total ≡ copies S (text T i))
-    → sum_by (λ (p : Place). p.measure.total) ps ≡ sum_by (copies S) T
+pub totals_of : (S : Texts) (ps : List Home) (T : Texts) → length ps ≡ length T
+    → ((i : ℕ) (d : Home) → i < length T → (get_or ps i d).measure.total ≡ copies S (text T i))
+    → sum_by (λ (p : Home). p.measure.total) ps ≡ sum_by (copies S) T
 totals_of S [] [] e h = refl
 totals_of S [] (t ∷ T) e h = absurd (omega (arith, e))
 totals_of S (p ∷ ps) [] e h = absurd (omega (arith, e))
 totals_of S (p ∷ ps) (t ∷ T) e h =
     omega (
       arith,
-      sum_by-cons (λ (z : Place). z.measure.total) p ps,
+      sum_by-cons (λ (z : Home). z.measure.total) p ps,
       sum_by-cons (copies S) t T,
       h 0 p (omega arith),
       totals_of S ps T (omega (arith, e))
           (λ i d l. h (suc i) d (omega (arith, l))),
     )
 
-pub lying_within : (ps : List Place) (i : ℕ) (d : Place) (q : ℕ) → i < length ps
+pub lying_within : (ps : List Home) (i : ℕ) (d : Home) (q : ℕ) → i < length ps
     → lying_in (take i ps) q + (get_or ps i d).measure.total ≤ sum_by
-    (λ (p : Place). p.measure.total) ps
+    (λ (p : Home). p.measure.total) ps
 lying_within [] i d q l = absurd (omega (arith, l))
-lying_within (p ∷ ps) zero d q l = omega (arith, sum_by-cons (λ (z : Place). z.measure.total) p ps)
+lying_within (p ∷ ps) zero d q l = omega (arith, sum_by-cons (λ (z : Home). z.measure.total) p ps)
 lying_within (p ∷ ps) (suc i) d q l =
     omega (
       arith,
       lying_within ps i d q (omega (arith, l)),
-      sum_by-cons (λ (z : Place). z.measure.total) p ps,
-      sum_by-cons (λ (z : Place). if_in z q z.measure.total) p (take i ps),
+      sum_by-cons (λ (z : Home). z.measure.total) p ps,
+      sum_by-cons (λ (z : Home). if_in z q z.measure.total) p (take i ps),
       if_in_le p q p.measure.total,
     )

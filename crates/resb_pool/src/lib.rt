@@ -5,11 +5,11 @@
 mod children;
 mod error;
 mod grow;
+mod homes;
 pub mod laws;
 mod measure;
 mod node;
 mod offsets;
-mod places;
 pub mod pool;
 mod records;
 mod suffix_trie;

@@ -8,7 +8,7 @@ ghost use Rattle.indexmap.specs.IndexSet.{index_of_by};
 ghost use Rattle.resb_pool.specs.Plan.{plan_units, offset_of};
 ghost use Rattle.resb_pool.specs.Inner.Placing.{offset_by, ClosesWithin};
 
-use crate::places::Place;
+use crate::homes::Home;
 use indexmap::IndexSet;
 use std::alloc::{AllocError, Global};
 
@@ -68,15 +68,15 @@ impl<'a> Plan<'a> {
 /// The units at which texts stand, by where their records close.
 pub(crate) fn find_offsets(
     alloc: Global,
-    places: &[Place],
+    homes: &[Home],
     ends: &[u32],
 ) -> Result<Vec<u32>, AllocError>
-    requires { All (ClosesWithin ends.now) places.now }
-    ensures { IfOk result (λ v. v.items ≡ map (offset_by ends.now) places.now) }
+    requires { All (ClosesWithin ends.now) homes.now }
+    ensures { IfOk result (λ v. v.items ≡ map (offset_by ends.now) homes.now) }
 {
-    let mut offsets = Vec::with_capacity(alloc, places.len())?;
-    for place in places {
-        offsets.push(ends[place.record] + 1 - place.measure.size)?;
+    let mut offsets = Vec::with_capacity(alloc, homes.len())?;
+    for home in homes {
+        offsets.push(ends[home.record] + 1 - home.measure.size)?;
     }
     Ok(offsets)
 }

@@ -1,13 +1,13 @@
 //! The plan of a pool: strings in, the units of their records and their offsets out.
-//! Each step has a file of its own: `texts`, `places`, `records`, `offsets`.
+//! Each step has a file of its own: `texts`, `homes`, `records`, `offsets`.
 ghost use Rattle.std.specs.Prelude.{IfOk, IfErr};
 ghost use Rattle.resb_pool.specs.FaultOf.{fault_of};
 ghost use Rattle.resb_pool.specs.Plan.{nows, plan_units, offset_of, IsPlan, NotPlanned};
 
 use crate::error::BinarySerializerError;
+use crate::homes::{find_homes, find_sums};
 use crate::measure::check_lengths;
 use crate::offsets::{Plan, find_offsets};
-use crate::places::{find_places, find_sums};
 use crate::records::{lay, ordered};
 use crate::texts::gather;
 use std::alloc::Global;
@@ -26,12 +26,12 @@ pub fn plan<'a>(alloc: Global, strings: &[&'a str]) -> Result<Plan<'a>, BinarySe
     check_lengths(strings)?;
     let texts = gather(alloc, strings)?;
     let distinct = texts.distinct.as_slice();
-    let places = find_places(alloc, distinct, &texts.measures)?;
-    let sums = find_sums(alloc, &places)?;
-    let records = ordered(alloc, distinct, &places, &sums)?;
-    let count = places.len();
+    let homes = find_homes(alloc, distinct, &texts.measures)?;
+    let sums = find_sums(alloc, &homes)?;
+    let records = ordered(alloc, distinct, &homes, &sums)?;
+    let count = homes.len();
     let block = lay(alloc, &records, count)?;
-    let offsets = find_offsets(alloc, &places, &block.ends)?;
+    let offsets = find_offsets(alloc, &homes, &block.ends)?;
     Ok(Plan {
         units: block.units,
         texts: texts.distinct,

@@ -1,5 +1,5 @@
 //! The records in their order, and their units.
-//! Which texts are records is said in `places`.
+//! Which texts are records is said in `homes`.
 ghost use Rattle.std.specs.Prelude.{◌≡◌, ◌++◌, ◌∷◌, ℕ, ◌+◌, ◌<◌, ◌≤◌, ◌^◌, List, [], length, map};
 ghost use Rattle.std.specs.Prelude.{All, IfOk, OnOk, sum_by, slice_index};
 ghost use Rattle.std.specs.Prelude.{nat_eq, not, ◌&&◌};
@@ -9,10 +9,10 @@ ghost use Rattle.resb_format.specs.Units.{units as units_of, marker, size};
 ghost use Rattle.resb_pool.specs.Pool.{record_units};
 ghost use Rattle.resb_pool.specs.Plan.{nows};
 ghost use Rattle.resb_pool.specs.Records.{IsDistinct, IsRecords};
-ghost use Rattle.resb_pool.specs.Inner.Placing.{ArePlaces, AreSums, AreIndexed, AreEnds};
+ghost use Rattle.resb_pool.specs.Inner.Placing.{AreHomes, AreSums, AreIndexed, AreEnds};
 ghost use Rattle.resb_pool.specs.Inner.Placing.{IsRecordOf, record_texts, record_cmp};
 
-use crate::places::Place;
+use crate::homes::Home;
 use resb_format::is_unmarked;
 use std::alloc::{AllocError, Global};
 use std::cmp::Reverse;
@@ -35,34 +35,34 @@ pub(crate) struct Block {
     pub(crate) ends: Vec<u32>,
 }
 
-/// Whether a text with this place is a record: it isn't empty and lies in itself.
-fn is_record(place: &Place, index: usize, text: &str) -> bool
-    ensures { result ≡ (nat_eq place.now.record index && not (nat_eq (length text.now) 0)) }
+/// Whether a text with this home is a record: it isn't empty and lies in itself.
+fn is_record(home: &Home, index: usize, text: &str) -> bool
+    ensures { result ≡ (nat_eq home.now.record index && not (nat_eq (length text.now) 0)) }
 {
-    place.record == index && !text.is_empty()
+    home.record == index && !text.is_empty()
 }
 
 /// The records among texts: those that aren't empty and lie in themselves.
 fn find_records<'a>(
     alloc: Global,
     texts: &[&'a str],
-    places: &[Place],
+    homes: &[Home],
     sums: &[u32],
 ) -> Result<Vec<Record<'a>>, AllocError>
     requires distinct { IsDistinct (nows texts.now) }
-    requires places { ArePlaces (nows texts.now) places.now }
-    requires sums { AreSums (nows texts.now) places.now sums.now }
+    requires homes { AreHomes (nows texts.now) homes.now }
+    requires sums { AreSums (nows texts.now) homes.now sums.now }
     ensures records { IfOk result (λ v. IsRecords (nows texts.now) (record_texts v.items)) }
     ensures each { IfOk result (λ v. All (IsRecordOf (nows texts.now) sums.now) v.items) }
 {
     let mut records = Vec::new(alloc);
-    for (index, place) in places.iter().enumerate() {
-        if !is_record(place, index, texts[index]) {
+    for (index, home) in homes.iter().enumerate() {
+        if !is_record(home, index, texts[index]) {
             continue;
         }
         records.push(Record {
-            unit_count: place.measure.unit_count,
-            saved: Reverse(sums[index] - place.measure.size),
+            unit_count: home.measure.unit_count,
+            saved: Reverse(sums[index] - home.measure.size),
             text: texts[index],
             index,
         })?;
@@ -74,17 +74,17 @@ fn find_records<'a>(
 pub(crate) fn ordered<'a>(
     alloc: Global,
     texts: &[&'a str],
-    places: &[Place],
+    homes: &[Home],
     sums: &[u32],
 ) -> Result<Vec<Record<'a>>, AllocError>
     requires distinct { IsDistinct (nows texts.now) }
-    requires places { ArePlaces (nows texts.now) places.now }
-    requires sums { AreSums (nows texts.now) places.now sums.now }
+    requires homes { AreHomes (nows texts.now) homes.now }
+    requires sums { AreSums (nows texts.now) homes.now sums.now }
     ensures records { IfOk result (λ v. IsRecords (nows texts.now) (record_texts v.items)) }
     ensures each { IfOk result (λ v. All (IsRecordOf (nows texts.now) sums.now) v.items) }
     ensures ascend { IfOk result (λ v. IsSorted record_cmp v.items) }
 {
-    let mut records = find_records(alloc, texts, places, sums)?;
+    let mut records = find_records(alloc, texts, homes, sums)?;
     records.sort()?;
     Ok(records)
 }

@@ -20,7 +20,7 @@ use Rattle.resb_format.proofs.Spelled.{units_drop, units_length, units_at}
 use Rattle.resb_format.proofs.StringsIn.{ended}
 use Rattle.resb_walk.specs.Inner.Members.{text_of_bytes}
 use Rattle.resb_walk.proofs.Placed.{text_some}
-use Rattle.resb_walk.proofs.Surrogates.{char_alone, lone_some, no_chars, no_surrogate_first}
+use Rattle.resb_walk.proofs.Surrogates.{char_alone, lone_some, no_chars, plain_first}
 use Rattle.resb_walk.proofs.Surrogates.{nothing}
 
 -- ASCII units are their characters
@@ -39,21 +39,17 @@ ascii_text_is bs h = rw (ascii_chars (units_of bs) h) (encodes-IsAscii (units_of
 pub ascii_valid : (us : List ℕ) → IsAscii us → IsUtf8 us
 ascii_valid us h = IsUtf8-from_ascii us h
 
--- one more unit is written as its lower byte
-pub ascii_more : (bs text : List ℕ) (k : ℕ) → IsAscii (units_of bs) → length text ≡ length bs / 2
-    → k < length text → take k text ≡ take k (units_of bs)
-    → (length (set text k (get_or bs (2 * k) 0)) ≡ length bs / 2)
-    × (take (k + 1) (set text k (get_or bs (2 * k) 0)) ≡ take (k + 1) (units_of bs))
-ascii_more bs text k h same less e =
-    let inside : k < length bs / 2 = omega arith in
-    let spelled = units_at bs k inside in
-    let small : get_or (units_of bs) k 0 < 128 = h k in
-    let low : get_or bs (2 * k) 0 ≡ get_or (units_of bs) k 0 = omega arith in
+-- one more unit is written
+pub ascii_more : (bs text : List ℕ) (k : ℕ) → length text ≡ length bs / 2 → k < length text
+    → take k text ≡ take k (units_of bs)
+    → (length (set text k (get_or (units_of bs) k 0)) ≡ length bs / 2)
+    × (take (k + 1) (set text k (get_or (units_of bs) k 0)) ≡ take (k + 1) (units_of bs))
+ascii_more bs text k same less e =
+    let u = get_or (units_of bs) k 0 in
     let within : k < length (units_of bs) = omega (arith, units_length bs) in (
-      length-set text k (get_or bs (2 * k) 0) ∙ same,
-      take_more_set text k (get_or bs (2 * k) 0) less
-          ∙ ap (λ xs. xs ++ get_or bs (2 * k) 0 ∷ []) e
-          ∙ ap (λ u. take k (units_of bs) ++ u ∷ []) low
+      length-set text k u ∙ same,
+      take_more_set text k u less
+          ∙ ap (λ xs. xs ++ u ∷ []) e
           ∙ sym (take_more (units_of bs) k 0 within),
     )
 
@@ -68,11 +64,7 @@ ascii_all bs text n same most e =
 below_paired : (us : List ℕ) → ((k : ℕ) → get_or us k 0 < 0xd800)
     → has_unpaired_surrogate us ≡ false
 below_paired [] h = nothing [] refl
-below_paired (u ∷ us) h =
-    let small : u < 0xd800 = h 0 in
-    let high : is_high_surrogate u ≡ false = grind (arith, nat_tests, small) in
-    let low : is_low_surrogate u ≡ false = grind (arith, nat_tests, small) in
-    no_surrogate_first u us high low ∙ below_paired us (λ k. h (suc k))
+below_paired (u ∷ us) h = plain_first u us (h 0) ∙ below_paired us (λ k. h (suc k))
 
 front_below : (us : List ℕ) (n : ℕ) → ((k : ℕ) → k < n → get_or us k 0 < 0xd800)
     → (k : ℕ) → get_or (take n us) k 0 < 0xd800

@@ -9,7 +9,7 @@ ghost use Rattle.resb_format.specs.HeadChecks.{refusal_of};
 ghost use Rattle.resb_walk.specs.Files.{parts_in};
 ghost use Rattle.resb_walk.specs.Inner.Frames.{Opened, Waits};
 ghost use Rattle.resb_walk.specs.Meets.{Meets};
-ghost use Rattle.resb_walk.specs.Inner.Rounds.{Steps, Puts};
+ghost use Rattle.resb_walk.specs.Inner.Rounds.{Progresses, Puts};
 
 use crate::file::{File, Member, Members, Pairs};
 use crate::make::Make;
@@ -30,9 +30,9 @@ pub enum Waiting<'a, L, T> {
     Table(Pairs<'a>, T, &'a str),
 }
 
-/// A step of an open collection.
+/// How an open collection goes on.
 #[derive(Drop)]
-pub enum Step<'a, X, L, T> {
+pub enum Progress<'a, X, L, T> {
     /// A member is wanted.
     Wants(Member, Waiting<'a, L, T>),
     /// All members were read.
@@ -46,27 +46,27 @@ pub enum Read<'a, X, L, T> {
     Begun(Open<'a, L, T>),
 }
 
-/// A step of an open collection.
+/// Takes the next member of an open collection, or closes it where none is left.
 pub fn advance<'a, 'm, M: Make<'a>>(
     file: File<'a>,
     frame: Open<'a, M::List, M::Table>,
-) -> Result<Step<'a, M, M::List, M::Table>, ReadingError<'m>>
+) -> Result<Progress<'a, M, M::List, M::Table>, ReadingError<'m>>
     ensures steps { (w n : ℕ) → Opened M.lists M.tables (parts_in file.entry) frame.entry w n
-        → Steps M.is M.lists M.tables (parts_in file.entry) w n result }
+        → Progresses M.is M.lists M.tables (parts_in file.entry) w n result }
     ensures meets { (w n : ℕ) → Opened M.lists M.tables (parts_in file.entry) frame.entry w n
         → IfErr result (λ e. Meets (parts_in file.entry) (at.word w) (refusal_of e)) }
 {
     match frame {
         Open::List(rest, made) => match rest.split() {
-            Some((member, rest)) => Ok(Step::Wants(member, Waiting::List(rest, made))),
-            None => Ok(Step::Done(M::end_list(made))),
+            Some((member, rest)) => Ok(Progress::Wants(member, Waiting::List(rest, made))),
+            None => Ok(Progress::Done(M::end_list(made))),
         },
         Open::Table(rest, made) => match rest.split() {
             Some((position, member, rest)) => match file.key(position) {
-                Ok(key) => Ok(Step::Wants(member, Waiting::Table(rest, made, key))),
+                Ok(key) => Ok(Progress::Wants(member, Waiting::Table(rest, made, key))),
                 Err(error) => Err(error),
             },
-            None => Ok(Step::Done(M::end_table(made))),
+            None => Ok(Progress::Done(M::end_table(made))),
         },
     }
 }

@@ -15,7 +15,7 @@ ghost use Rattle.resb_walk.specs.Inner.Rounds.{Reads};
 
 use crate::count::Checked;
 use crate::file::{File, Leaf, Member, Standing};
-use crate::frame::{Open, Read, Step, advance, put};
+use crate::frame::{Open, Progress, Read, advance, put};
 use crate::make::Make;
 use crate::room::can_be_paid;
 use crate::walk::Walk;
@@ -87,7 +87,7 @@ pub fn read_word<'a, 'm, M: Make<'a>>(
     };
     'turns: loop {
         match advance::<M>(file, frame)? {
-            Step::Wants(member, waiting) => match begin::<M>(alloc, file, member, walk)? {
+            Progress::Wants(member, waiting) => match begin::<M>(alloc, file, member, walk)? {
                 Read::Made(item) => {
                     frame = put::<M>(waiting, item)?;
                 }
@@ -96,7 +96,7 @@ pub fn read_word<'a, 'm, M: Make<'a>>(
                     frame = inner;
                 }
             },
-            Step::Done(item) => {
+            Progress::Done(item) => {
                 let Some(waiting) = frames.pop() else {
                     return Ok(item);
                 };

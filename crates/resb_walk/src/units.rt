@@ -10,7 +10,7 @@ ghost use Rattle.std.specs.String.{string_bytes};
 ghost use Rattle.resb_format.specs.Bytes.{units_of};
 ghost use Rattle.resb_walk.specs.Inner.Members.{text_of_bytes};
 
-use resb_format::bytes::first_unit;
+use resb_format::bytes::{first_four_units, first_unit, unit_at};
 use resb_tree::NoMemory;
 use std::alloc::Global;
 
@@ -35,13 +35,10 @@ fn behind_plain(bytes: &[u8]) -> Option<&[u8]>
         (has_unpaired_surrogate (units_of bytes.now) ≡ has_unpaired_surrogate (units_of rest.now))
         × (length (units_of rest.now) < length (units_of bytes.now))) }
 {
-    if bytes.len() < 8 {
+    let ([first, second, third, fourth], rest) = first_four_units(bytes)?;
+    if first.max(second).max(third.max(fourth)) >= 0xd800 {
         return None;
     }
-    if bytes[1].max(bytes[3]).max(bytes[5].max(bytes[7])) >= 0xd8 {
-        return None;
-    }
-    let (_, rest) = bytes.split_at(8);
     Some(rest)
 }
 
@@ -129,8 +126,8 @@ fn ascii_text(alloc: Global, bytes: &[u8]) -> Result<String, NoMemory>
     let count = bytes.len() / 2;
     let mut text = Vec::with_capacity(alloc, count)?;
     text.resize(count, 0u8)?;
-    'bytes: for number in 0..count {
-        text[number] = bytes[2 * number];
+    'units: for number in 0..count {
+        text[number] = unit_at(bytes, number) as u8;
     }
     let Ok(text) = String::from_utf8(text) else {
         unreachable!()

@@ -21,7 +21,7 @@ use Rattle.resb_bodies.specs.Room.{IsKnown}
 use Rattle.resb_write.specs.KeyBlock.{used, is_among, last_of, position_in, keys_start}
 use Rattle.resb_tree.specs.WalkOrder.{own_keys}
 use Rattle.resb_write.specs.Faults.{has_nul, is_unlisted, is_far, key_fault}
-use Rattle.resb_write.specs.Inner.Places.{near_position, near_position_in}
+use Rattle.resb_write.specs.Inner.NearPositions.{near_position, near_position_in}
 use Rattle.resb_write.proofs.Keys.{place_contained}
 
 module _ {X : Type 0} where

@@ -10,7 +10,7 @@ use crate::contents::Contents;
 use crate::file::{Pieces, assemble};
 use crate::key_block::{KEYS_START, KeyBlock, block_length};
 use crate::limits::check_sizes;
-use resb_bodies::{Places, lay_bodies};
+use resb_bodies::{Sites, lay_bodies};
 use resb_pool::{BinarySerializerError, pool};
 use resb_tree::{Key, ResourceBundle};
 use std::alloc::Global;
@@ -56,7 +56,7 @@ fn write<'a>(
     let contents = Contents::gather(alloc, root)?;
     let KeyBlock { keys, positions } = KeyBlock::new(alloc, &contents.keys, list)?;
     check_sizes(&contents, list)?;
-    let mut places = Places {
+    let mut sites = Sites {
         positions,
         plan: pool::plan(alloc, &contents.texts)?,
         base: 0,
@@ -64,8 +64,8 @@ fn write<'a>(
     let largest_table = contents.largest_table as u32;
     drop(contents);
     let keys_end = KEYS_START + block_length(&keys);
-    let (bodies, word) = lay_bodies(alloc, &mut places, keys_end, root)?;
-    drop(places);
+    let (bodies, word) = lay_bodies(alloc, &mut sites, keys_end, root)?;
+    drop(sites);
     let pieces = Pieces {
         root: word,
         largest_table,

@@ -3,18 +3,18 @@ use Rattle.std.specs.Prelude.{◌≡◌, ℕ, ◌+◌, ◌-◌, ◌*◌, ◌%◌
 use Rattle.resb_tree.specs.Tree.{Tree}
 use Rattle.resb_tree.specs.WalkOrder.{children}
 use Rattle.resb_bodies.specs.Room.{given_by, state_of, HasRoomFor, IsKnown}
-use Rattle.resb_bodies.specs.declared.given.Places.{Places}
+use Rattle.resb_bodies.specs.declared.given.Sites.{Sites}
 use Rattle.resb_bodies.specs.declared.given.Bodies.{Bodies}
 
 -- there is room for the body of a resource of so many members, pairs of numbers or eights of
 -- bytes
-pub record HasRoom (p : Places) (b : Bodies) (n : ℕ) : Type 0 where
+pub record HasRoom (p : Sites) (b : Bodies) (n : ℕ) : Type 0 where
   pub aligned : (p.base + length b.tail.items) % 4 ≡ 0
   pub units : length b.units.items + (2 * n + 1) < 2 ^ 28
   pub bytes : p.base + length b.tail.items + (8 * n + 32) < 2 ^ 30
 
 -- a body of such a resource takes no more
-pub record Takes (p : Places) (b c : Bodies) (n : ℕ) : Type 0 where
+pub record Takes (p : Sites) (b c : Bodies) (n : ℕ) : Type 0 where
   pub aligned : (p.base + length c.tail.items) % 4 ≡ 0
   pub units : length c.units.items ≤ length b.units.items + (2 * n + 1)
   pub bytes : length c.tail.items ≤ length b.tail.items + (8 * n + 32)
@@ -25,7 +25,7 @@ Suffices n [] = Unit {0}
 Suffices n (t ∷ ts) = (length (children t) ≤ n) × Suffices (n - length (children t) + 1) ts
 
 -- these resources can be laid, over a stack of n words
-pub record CanLay (p : Places) (b : Bodies) (n : ℕ) (ts : List Tree) : Type 0 where
+pub record CanLay (p : Sites) (b : Bodies) (n : ℕ) (ts : List Tree) : Type 0 where
   pub room : HasRoomFor (given_by p) (state_of b) ts
   pub enough : Suffices n ts
   pub known : All (IsKnown (given_by p)) ts

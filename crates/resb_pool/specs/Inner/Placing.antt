@@ -14,7 +14,7 @@ use Rattle.resb_pool.specs.Records.{IsRecord, IsDistinct}
 use Rattle.resb_pool.specs.Container.{IsContainer}
 use Rattle.resb_pool.specs.Pool.{ClosesAt}
 use Rattle.resb_pool.specs.declared.measure.Measure.{Measure}
-use Rattle.resb_pool.specs.declared.places.Place.{Place}
+use Rattle.resb_pool.specs.declared.homes.Home.{Home}
 use Rattle.resb_pool.specs.declared.records.Record.{Record}
 
 -- the text of index i
@@ -48,11 +48,11 @@ pub record LiesAt (T : List (List ℕ)) (i r : ℕ) : Type 0 where
   pub itself : IsRecord T (text T i) → r ≡ i
   pub empty : length (text T i) ≡ 0 → r ≡ i
 
-pub record ArePlaces (T : List (List ℕ)) (ps : List Place) : Type 0 where
+pub record AreHomes (T : List (List ℕ)) (ps : List Home) : Type 0 where
   pub len : length ps ≡ length T
-  pub lies : (i : ℕ) (d : Place) → i < length T → LiesAt T i (slice_index_or ps i d).record
+  pub lies : (i : ℕ) (d : Home) → i < length T → LiesAt T i (slice_index_or ps i d).record
 
-abbrev pub lying_in : List Place → ℕ → ℕ
+abbrev pub lying_in : List Home → ℕ → ℕ
 lying_in ps q = sum_by (λ p. if nat_eq p.record q then p.measure.total else 0) ps
 
 -- rs are the records among the texts done, each once
@@ -65,11 +65,11 @@ abbrev pub record_texts : List Record → List (List ℕ)
 record_texts rs = map (λ r. r.text.now) rs
 
 -- each text's sizes, and that its own record is among what lies in it
-pub record AreSums (T : List (List ℕ)) (ps : List Place) (sums : List ℕ) : Type 0 where
+pub record AreSums (T : List (List ℕ)) (ps : List Home) (sums : List ℕ) : Type 0 where
   pub len : length sums ≡ length T
-  pub units_is : (i : ℕ) (d : Place) → i < length T
+  pub units_is : (i : ℕ) (d : Home) → i < length T
       → (slice_index_or ps i d).measure.unit_count ≡ length (units (text T i))
-  pub size_is : (i : ℕ) (d : Place) → i < length T
+  pub size_is : (i : ℕ) (d : Home) → i < length T
       → (slice_index_or ps i d).measure.size ≡ size (text T i)
   pub own : (i : ℕ) → i < length T → IsRecord T (text T i) → size (text T i) ≤ slice_index sums i
 
@@ -99,11 +99,11 @@ pub record AreEnds (rs done : List Record) (es : List ℕ) : Type 0 where
   pub others : (i : ℕ) → All (λ r. r.index ≡ i → ⊥) done → slice_index es i ≡ 0
 
 -- where a text stands, by where its record closes
-abbrev pub offset_by : List ℕ → Place → ℕ
+abbrev pub offset_by : List ℕ → Home → ℕ
 offset_by es p = slice_index es p.record + 1 - p.measure.size
 
 -- the record closes far enough
-pub record ClosesWithin (es : List ℕ) (p : Place) : Type 0 where
+pub record ClosesWithin (es : List ℕ) (p : Home) : Type 0 where
   pub within : p.record < length es
   pub reaches : p.measure.size ≤ slice_index es p.record + 1
   pub small : slice_index es p.record < 2 ^ 28

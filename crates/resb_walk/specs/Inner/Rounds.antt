@@ -10,18 +10,19 @@ use Rattle.resb_walk.specs.Refusals.{IsFault, DenotesNothing, Refuses}
 use Rattle.resb_format.specs.Error.{IsWantOfMemory}
 use Rattle.resb_format.specs.declared.error.ReadingError.{ReadingError}
 use Rattle.resb_walk.specs.declared.frame.Open.{Open}
-use Rattle.resb_walk.specs.declared.frame.Step.{Step}
-use Rattle.resb_walk.specs.declared.frame.Step.TheVariants.{Wants, Done}
+use Rattle.resb_walk.specs.declared.frame.Progress.{Progress}
+use Rattle.resb_walk.specs.declared.frame.Progress.TheVariants.{Wants, Done}
 use Rattle.resb_walk.specs.declared.frame.Read.{Read}
 use Rattle.resb_walk.specs.declared.frame.Read.TheVariants.{Made, Begun}
 
 module _ {X L T : Type 0} (is : X → Tree → Type 0) (lists : L → List Tree → Type 0)
     (tables : T → List (List ℕ × Tree) → Type 0) (p : Parts) where
-  -- a step of a collection that stands at w and whose members so far denote n resources
-  abbrev pub Steps : ℕ → ℕ → Result (Step X L T) ReadingError → Type 0
-  Steps w n (Ok (Wants m f)) = Waits lists tables p f w (member_of m) n
-  Steps w n (Ok (Done x)) = (t : Tree) × Den p w t (1 + n) × is x t
-  Steps w n (Err e) = IsFault e × ((k : ℕ) → DenotesNothing (Den p w) (Reaches p w) (k + (1 + n)))
+  -- how a collection goes on that stands at w and whose members so far denote n resources
+  abbrev pub Progresses : ℕ → ℕ → Result (Progress X L T) ReadingError → Type 0
+  Progresses w n (Ok (Wants m f)) = Waits lists tables p f w (member_of m) n
+  Progresses w n (Ok (Done x)) = (t : Tree) × Den p w t (1 + n) × is x t
+  Progresses w n (Err e) =
+      IsFault e × ((k : ℕ) → DenotesNothing (Den p w) (Reaches p w) (k + (1 + n)))
 
   -- a member is read, up to its own members, and paid for
   abbrev pub Reads : at.Member → ℕ → ℕ → Result (Read X L T) ReadingError → Type 0

@@ -7,7 +7,7 @@ use Rattle.resb_bodies.proofs.lay.positions_of.Goals as goal
 
 pub unreachable-requires : goal.unreachable-requires
 unreachable-requires c =
-    let at = at_text c.args.places.now.positions in
+    let at = at_text c.args.sites.now.positions in
     let key = c.in-Some.key.now in
     let rest = c.next.new.self in
     let split : c.loop-key.key-iterator ≡ key ∷ rest = search rules in
@@ -18,7 +18,7 @@ unreachable-requires c =
 
 pub returns : goal.returns
 returns c =
-    let at = at_text c.args.places.now.positions in
+    let at = at_text c.args.sites.now.positions in
     let none : c.loop-key.key-iterator ≡ [] = search rules in
     record {
       ascend = subst (IsStrictlySortedBy text_cmp) (sym (keys_view c.args.table.now.entries))

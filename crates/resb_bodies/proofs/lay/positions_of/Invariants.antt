@@ -4,5 +4,5 @@ use Rattle.resb_pool.specs.Plan.{at_text}
 use Rattle.resb_bodies.proofs.lay.positions_of.Given as goal
 
 abbrev pub invariant-loop-key : goal.invariant-loop-key
-invariant-loop-key l = map Some l.positions.items ++ map (at_text l.places.positions) l.key-iterator
-    ≡ map (at_text l.places.positions) (keys_of l.table.entries)
+invariant-loop-key l = map Some l.positions.items ++ map (at_text l.sites.positions) l.key-iterator
+    ≡ map (at_text l.sites.positions) (keys_of l.table.entries)

@@ -3,7 +3,7 @@ use Rattle.std.proofs.lemmas.Bool.{eqb-true, eqb-false}
 use Rattle.std.proofs.lemmas.Result.{on_ok_weaker}
 use Rattle.resb_tree.specs.Tree.{array}
 use Rattle.resb_tree.specs.View.{items_view}
-use Rattle.resb_bodies.specs.Steps.{Step}
+use Rattle.resb_bodies.specs.StackSteps.{LaysNext}
 use Rattle.resb_bodies.specs.Room.{given_by, state_of}
 use Rattle.resb_bodies.specs.Inner.Seen.{Takes}
 use Rattle.resb_bodies.proofs.Walks.{nil_from_len, items_long}
@@ -15,10 +15,10 @@ returns-then-is_empty-clause-step c =
     let z : c.args.items.now ≡ [] =
     nil_from_len c.args.items.now (eqb-true (length c.args.items.now) 0 (sym c.is_empty.ensures
     ∙ c.if-is_empty.true)) in
-    on_ok_weaker c.replace.result (λ h. subst (λ rs. Step (given_by c.args.places.now)
+    on_ok_weaker c.replace.result (λ h. subst (λ rs. LaysNext (given_by c.args.sites.now)
     (state_of c.args.bodies.now) c.args.words.now.items (array (items_view rs))
     (state_of c.args.bodies.now) c.replace.new.words.items) (sym z)
-    (empty_array_step (given_by c.args.places.now) (state_of c.args.bodies.now)
+    (empty_array_step (given_by c.args.sites.now) (state_of c.args.bodies.now)
     c.args.words.now.items c.replace.new.words.items c.word.result c.word.ensures h))
     c.replace.ensures
 
@@ -38,7 +38,7 @@ returns-clause-step c =
     let some = eqb-false n 0 (sym c.is_empty.ensures ∙ c.if-is_empty.false) in
     let mid = ap (λ k. k - n) (c.len.ensures ∙ c.args.words.now.ok.0) in
     let v = c.split_at.ensures.back ∙ (λ i. drop (mid i) (c.deref.ensures.value i)) in
-    on_ok_weaker c.replace-2.result (λ h. array_step (given_by c.args.places.now)
+    on_ok_weaker c.replace-2.result (λ h. array_step (given_by c.args.sites.now)
     (state_of c.args.bodies.now) (state_of c.close_array.new.bodies) ws
     c.replace-2.new.words.items c.split_at.result.1.now
     (items_view c.args.items.now) c.in_ok-word.word n (items_long c.args.items.now)
@@ -53,5 +53,5 @@ returns-clause-takes c =
     let l : length c.split_at.result.1.now ≡ n = ap length v
     ∙ (split_stack ws n c.requires.enough).1 in
     on_ok_weaker c.replace-2.result
-    (λ h. subst (Takes c.args.places.now c.args.bodies.now c.close_array.new.bodies) l
+    (λ h. subst (Takes c.args.sites.now c.args.bodies.now c.close_array.new.bodies) l
     c.in_ok-word.ensures.takes) c.replace-2.ensures

@@ -18,7 +18,7 @@ returns c = λ s.
     ∙ c.requires.1 in
     let f : c.in-Some.offset ≡ c.requires.0 = cc in
     let v = c.word.ensures ∙ ap (λ k. 0x6000_0000 + k) f in
-    leaf_step (given_by c.args.places.now) s s c.args.words.now.items c.push.new.self.items
+    leaf_step (given_by c.args.sites.now) s s c.args.words.now.items c.push.new.self.items
     (string c.args.text.now) c.word.result refl
-    (subst (Lays (given_by c.args.places.now) s (string c.args.text.now) s) (sym v)
+    (subst (Lays (given_by c.args.sites.now) s (string c.args.text.now) s) (sym v)
     (lays_string c.requires.1 c.requires.2)) c.in_ok-push.ensures.items

@@ -4,7 +4,7 @@ use Rattle.resb_tree.specs.Tree.{table}
 use Rattle.resb_tree.specs.View.{entries_view}
 use Rattle.resb_layout.specs.Laid.{ClosesTable}
 use Rattle.resb_tree.specs.WalkOrder.{entry_keys}
-use Rattle.resb_bodies.specs.Steps.{Step}
+use Rattle.resb_bodies.specs.StackSteps.{LaysNext}
 use Rattle.resb_bodies.specs.Room.{given_by, state_of}
 use Rattle.resb_bodies.proofs.Walks.{nil_from_len}
 use Rattle.resb_bodies.proofs.Keys.{keys_long, values_long, placed_long, not_none}
@@ -15,10 +15,10 @@ pub returns-then-is_empty-clause-step : goal.returns-then-is_empty-clause-step
 returns-then-is_empty-clause-step c =
     let z : c.args.table.now.entries ≡ [] =
     nil_from_len c.args.table.now.entries (c.is_empty.ensures.0 c.if-is_empty.true) in
-    on_ok_weaker c.replace.result (λ h. subst (λ es. Step (given_by c.args.places.now)
+    on_ok_weaker c.replace.result (λ h. subst (λ es. LaysNext (given_by c.args.sites.now)
     (state_of c.args.bodies.now) c.args.words.now.items (table (entries_view es))
     (state_of c.args.bodies.now) c.replace.new.words.items) (sym z)
-    (empty_table_step (given_by c.args.places.now) (state_of c.args.bodies.now)
+    (empty_table_step (given_by c.args.sites.now) (state_of c.args.bodies.now)
     c.args.words.now.items c.replace.new.words.items c.word.result c.word.ensures h))
     c.replace.ensures
 
@@ -31,7 +31,7 @@ close_table-requires-clause-many c =
     ∙ ap (λ k. length c.args.words.now.items - k) c.len-2.ensures.len in
     let v = c.split_at.ensures.back ∙ (λ i. drop (mid i) (c.deref.ensures.value i)) in
     ap length c.deref-2.ensures.value
-    ∙ placed_long (given_by c.args.places.now) (entry_keys (entries_view es))
+    ∙ placed_long (given_by c.args.sites.now) (entry_keys (entries_view es))
     c.in_ok-positions.positions.items c.in_ok-positions.ensures
     ∙ keys_long es ∙ sym (ap length v ∙ (split_stack c.args.words.now.items n c.requires.enough).1)
 
@@ -44,7 +44,7 @@ returns-clause-step c =
     ap (λ k. k - c.len-2.result) (c.len.ensures ∙ c.args.words.now.ok.0)
     ∙ ap (λ k. length c.args.words.now.items - k) c.len-2.ensures.len in
     let v = c.split_at.ensures.back ∙ (λ i. drop (mid i) (c.deref.ensures.value i)) in
-    let g = given_by c.args.places.now in
+    let g = given_by c.args.sites.now in
     let s = state_of c.args.bodies.now in
     let e = state_of c.close_table.new.bodies in
     let closes = subst (λ ps. ClosesTable g s ps c.split_at.result.1.now e c.in_ok-word.word)

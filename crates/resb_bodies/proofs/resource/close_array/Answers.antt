@@ -7,7 +7,7 @@ use Rattle.resb_bodies.proofs.resource.close_array.Goals as goal
 pub returns-then-are_short_strings-clause-lays : goal.returns-then-are_short_strings-clause-lays
 returns-then-are_short_strings-clause-lays c =
     let at = c.len-at.ensures in
-    array_in_units (given_by c.args.places.now) (state_of c.args.bodies.now) c.args.words.now
+    array_in_units (given_by c.args.sites.now) (state_of c.args.bodies.now) c.args.words.now
     c.put_offsets.new.units.items c.word.result c.len-at.result
     (sym c.are_short_strings.ensures ∙ c.if-are_short_strings.true)
     (omega (arith, c.requires.units)) (c.in_ok-put_offsets.ensures
@@ -23,11 +23,11 @@ returns-then-are_short_strings-clause-takes c =
 
 pub returns-clause-lays : goal.returns-clause-lays
 returns-clause-lays c =
-    array_in_tail (given_by c.args.places.now) (state_of c.args.bodies.now) c.args.words.now
-    c.put_counted.new.tail.items c.word-2.result c.place-at.result
+    array_in_tail (given_by c.args.sites.now) (state_of c.args.bodies.now) c.args.words.now
+    c.put_counted.new.tail.items c.word-2.result c.tail_value-at.result
     (sym c.are_short_strings.ensures ∙ c.if-are_short_strings.false)
-    (omega (arith, c.place-at.ensures.at, ap length c.deref.ensures.value))
-    c.place-at.ensures.fits (omega (arith, c.requires.bytes))
+    (omega (arith, c.tail_value-at.ensures.at, ap length c.deref.ensures.value))
+    c.tail_value-at.ensures.fits (omega (arith, c.requires.bytes))
     c.in_ok-put_counted.ensures c.word-2.ensures
 
 pub returns-clause-takes : goal.returns-clause-takes

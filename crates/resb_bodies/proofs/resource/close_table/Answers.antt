@@ -10,11 +10,11 @@ pub returns-then-not-are_near_positions-clause-lays
     : goal.returns-then-not-are_near_positions-clause-lays
 returns-then-not-are_near_positions-clause-lays c =
     let h = c.if-not-are_near_positions.true in
-    table_is_wide (given_by c.args.places.now) (state_of c.args.bodies.now) c.args.positions.now
-    c.args.words.now c.put_words.new.tail.items c.word.result c.place-at.result
+    table_is_wide (given_by c.args.sites.now) (state_of c.args.bodies.now) c.args.positions.now
+    c.args.words.now c.put_words.new.tail.items c.word.result c.tail_value-at.result
     (sym c.are_near_positions.ensures
-    ∙ h) (omega (arith, c.place-at.ensures.at, ap length c.deref.ensures.value))
-    c.place-at.ensures.fits (omega (arith, c.requires.room.bytes, c.requires.many))
+    ∙ h) (omega (arith, c.tail_value-at.ensures.at, ap length c.deref.ensures.value))
+    c.tail_value-at.ensures.fits (omega (arith, c.requires.room.bytes, c.requires.many))
     (All-from_get_or (λ p. p < 2 ^ 32) c.args.positions.now 0 (λ i l. let f =
     c.type_inv.positions i in omega (arith, f)))
     (c.in_ok-put_words.ensures ∙ ap (λ l. l ++ words c.args.words.now) c.in_ok-put_counted.ensures)
@@ -36,7 +36,7 @@ returns-then-not-are_near_positions-clause-takes c =
 pub returns-then-are_short_strings-clause-lays : goal.returns-then-are_short_strings-clause-lays
 returns-then-are_short_strings-clause-lays c =
     let h = c.if-not-are_near_positions.false in
-    table_in_units (given_by c.args.places.now) (state_of c.args.bodies.now) c.args.positions.now
+    table_in_units (given_by c.args.sites.now) (state_of c.args.bodies.now) c.args.positions.now
     c.args.words.now c.put_offsets.new.units.items c.word-then-are_short_strings.result
     c.len-at.result
     (sym c.are_near_positions.ensures ∙ h) (sym c.are_short_strings.ensures
@@ -48,14 +48,14 @@ returns-then-are_short_strings-clause-lays c =
 pub returns-clause-lays : goal.returns-clause-lays
 returns-clause-lays c =
     let h = c.if-not-are_near_positions.false in
-    table_in_tail (given_by c.args.places.now) (state_of c.args.bodies.now) c.args.positions.now
-    c.args.words.now c.put_short_table.new.tail.items c.word-2.result c.place-at-2.result
+    table_in_tail (given_by c.args.sites.now) (state_of c.args.bodies.now) c.args.positions.now
+    c.args.words.now c.put_short_table.new.tail.items c.word-2.result c.tail_value-at-2.result
     (sym c.are_near_positions.ensures ∙ h) (sym c.are_short_strings.ensures
     ∙ c.if-are_short_strings.false) (omega (
       arith,
-      c.place-at-2.ensures.at,
+      c.tail_value-at-2.ensures.at,
       ap length c.deref-2.ensures.value,
-    )) c.place-at-2.ensures.fits
+    )) c.tail_value-at-2.ensures.fits
     c.in_ok-put_short_table.ensures c.word-2.ensures
 
 pub returns-clause-takes : goal.returns-clause-takes

@@ -13,22 +13,22 @@ returns-then-is_empty-clause-lays c =
     let z : c.args.numbers.now ≡ [] =
     nil_from_len c.args.numbers.now (eqb-true (length c.args.numbers.now) 0
     (sym c.is_empty.ensures ∙ c.if-is_empty.true)) in
-    subst (λ ns. Lays (given_by c.args.places.now) (state_of c.args.bodies.now) (int_vector ns)
+    subst (λ ns. Lays (given_by c.args.sites.now) (state_of c.args.bodies.now) (int_vector ns)
     (state_of c.args.bodies.now) c.word.result) (sym z)
-    (subst (Lays (given_by c.args.places.now) (state_of c.args.bodies.now) (int_vector [])
+    (subst (Lays (given_by c.args.sites.now) (state_of c.args.bodies.now) (int_vector [])
     (state_of c.args.bodies.now)) (sym c.word.ensures) lays_no_numbers)
 
 pub returns-clause-lays : goal.returns-clause-lays
 returns-clause-lays c =
     let n = eqb-false (length c.args.numbers.now) 0 (sym c.is_empty.ensures
     ∙ c.if-is_empty.false) in
-    numbers_laid (given_by c.args.places.now) (state_of c.args.bodies.now) c.args.numbers.now
-    c.put_counted.new.tail.items c.word-2.result c.place-at.result
+    numbers_laid (given_by c.args.sites.now) (state_of c.args.bodies.now) c.args.numbers.now
+    c.put_counted.new.tail.items c.word-2.result c.tail_value-at.result
     (omega (arith, n)) (omega (arith, c.requires.bytes))
     (All-from_get_or (λ p. p < 2 ^ 32) c.args.numbers.now 0 (λ i l. let f =
     c.type_inv.numbers i in omega (arith, f)))
-    (omega (arith, c.place-at.ensures.at, ap length c.deref.ensures.value)) c.place-at.ensures.fits
-    c.in_ok-put_counted.ensures c.word-2.ensures
+    (omega (arith, c.tail_value-at.ensures.at, ap length c.deref.ensures.value))
+    c.tail_value-at.ensures.fits c.in_ok-put_counted.ensures c.word-2.ensures
 
 pub returns-clause-takes : goal.returns-clause-takes
 returns-clause-takes c =

@@ -6,7 +6,7 @@ use Rattle.resb_bodies.proofs.tree.count_units.Goals as goal
 
 pub returns-clause-counts : goal.returns-clause-counts
 returns-clause-counts c = λ base end word lays.
-    let p = c.args.places.now in
+    let p = c.args.sites.now in
     let b = c.in_ok-bodies.bodies in
     let after = c.lay_tree.new.bodies in
     ap length (one_block (based p base) (given_by p) (pool_state p) (state_of b) end

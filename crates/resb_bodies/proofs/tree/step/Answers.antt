@@ -16,7 +16,7 @@ step_array-requires-clause-room c =
     search (rules, the_lemmas) in
     let n = ap own_size e ∙ sym (items_long c.in-Array.items.items)
     ∙ sym (ap length c.deref.ensures.value) in
-    subst (HasRoom c.args.places.now c.args.bodies.now) n c.requires.room
+    subst (HasRoom c.args.sites.now c.args.bodies.now) n c.requires.room
 
 pub step_array-requires-clause-enough : goal.step_array-requires-clause-enough
 step_array-requires-clause-enough c =
@@ -34,7 +34,7 @@ pub step_table-requires-clause-room : goal.step_table-requires-clause-room
 step_table-requires-clause-room c =
     let e : tree_of c.args.resource.now ≡ table (entries_view c.in-Table.table.entries) =
     search (rules, the_lemmas) in
-    subst (HasRoom c.args.places.now c.args.bodies.now) (ap own_size e
+    subst (HasRoom c.args.sites.now c.args.bodies.now) (ap own_size e
     ∙ sym (values_long c.in-Table.table.entries)) c.requires.room
 
 pub step_table-requires-clause-enough : goal.step_table-requires-clause-enough
@@ -55,7 +55,7 @@ returns-in-Array-clause-takes c =
     let n = ap own_size e ∙ sym (items_long c.in-Array.items.items)
     ∙ sym (ap length c.deref.ensures.value) in
     on_ok_weaker c.step_array.result
-    (λ h. subst (Takes c.args.places.now c.args.bodies.now c.step_array.new.bodies) (sym n) h)
+    (λ h. subst (Takes c.args.sites.now c.args.bodies.now c.step_array.new.bodies) (sym n) h)
     c.step_array.ensures.takes
 
 pub returns-in-Table-clause-takes : goal.returns-in-Table-clause-takes
@@ -63,11 +63,11 @@ returns-in-Table-clause-takes c =
     let e : tree_of c.args.resource.now ≡ table (entries_view c.in-Table.table.entries) =
     search (rules, the_lemmas) in
     on_ok_weaker c.step_table.result
-    (λ h. subst (Takes c.args.places.now c.args.bodies.now c.step_table.new.bodies)
+    (λ h. subst (Takes c.args.sites.now c.args.bodies.now c.step_table.new.bodies)
     (sym (ap own_size e ∙ sym (values_long c.in-Table.table.entries))) h)
     c.step_table.ensures.takes
 
 pub step_string-requires : goal.step_string-requires
 step_string-requires c =
     let e : tree_of c.args.resource.now ≡ string c.as_str.result.now = search (rules, the_lemmas) in
-    subst (IsKnown (given_by c.args.places.now)) e c.requires.known
+    subst (IsKnown (given_by c.args.sites.now)) e c.requires.known

@@ -4,7 +4,7 @@ use Rattle.std.specs.List.{sum_by}
 use Rattle.std.proofs.lemmas.List.Sums.{sum_by-cons}
 use Rattle.std.specs.Vec.Iter.{into_iter_items, into_iter_len}
 use Rattle.resb_tree.specs.View.{tree_of}
-use Rattle.resb_bodies.specs.Steps.{Steps, steps_none}
+use Rattle.resb_bodies.specs.StackSteps.{LaysRow, steps_none}
 use Rattle.resb_bodies.specs.Room.{given_by, state_of, trees_in, most_units, HasRoomFor}
 use Rattle.resb_bodies.specs.Inner.Seen.{CanLay}
 use Rattle.resb_bodies.proofs.Walks.{trees-push, nil_from_len}
@@ -20,14 +20,14 @@ loop-resource-init c =
       refl,
       many,
       steps_none,
-      subst (λ rs. CanLay c.args.places.now c.args.bodies.now
+      subst (λ rs. CanLay c.args.sites.now c.args.bodies.now
           (length c.args.words.now.items) (trees_in rs)) (sym all) c.requires,
       omega arith,
     )
 
 pub loop-resource-preserved : goal.loop-resource-preserved
 loop-resource-preserved c =
-    let g = given_by c.args.places.now in
+    let g = given_by c.args.sites.now in
     let done = c.loop-resource.yielded in
     let resource = c.in-Some.resource in
     let rest = into_iter_items c.next.new.self in
@@ -39,16 +39,16 @@ loop-resource-preserved c =
     let before = state_of c.loop-resource.bodies in
     let after = state_of c.step.new.bodies in
     let t = tree_of resource.now in
-    let can = subst (λ rs. CanLay c.args.places.now c.loop-resource.bodies (length old)
+    let can = subst (λ rs. CanLay c.args.sites.now c.loop-resource.bodies (length old)
     (trees_in rs)) next c.loop-resource.invariant.3 in (
       append_assoc done (resource ∷ []) rest ∙ ap (λ l. done ++ l) (sym next)
           ∙ c.loop-resource.invariant.0,
       omega (arith, c.loop-resource.invariant.1, many, ap length next),
-      subst (λ ts. Steps g (state_of c.args.bodies.now) c.args.words.now.items ts after new)
+      subst (λ ts. LaysRow g (state_of c.args.bodies.now) c.args.words.now.items ts after new)
           (sym (trees-push done (done ++ resource ∷ []) resource refl))
           (steps_push g (state_of c.args.bodies.now) before after c.args.words.now.items old new
           (trees_in done) t c.loop-resource.invariant.2 c.in_ok-step.ensures.step),
-      can_go_on c.args.places.now c.loop-resource.bodies (length old) t (trees_in rest) can
+      can_go_on c.args.sites.now c.loop-resource.bodies (length old) t (trees_in rest) can
           c.step.new.bodies (length new) c.in_ok-step.ensures.takes
           (step_long g before after old new t c.in_ok-step.ensures.step),
       omega (
@@ -66,7 +66,7 @@ returns-clause-fits c =
     let end : into_iter_len c.loop-resource.resource-iterator ≡ 0 = search rules in
     let none = nil_from_len (into_iter_items c.loop-resource.resource-iterator)
     (sym c.loop-resource.invariant.1 ∙ end) in
-    subst (λ rs. HasRoomFor (given_by c.args.places.now) (state_of c.loop-resource.bodies)
+    subst (λ rs. HasRoomFor (given_by c.args.sites.now) (state_of c.loop-resource.bodies)
     (trees_in rs)) none c.loop-resource.invariant.3.room
 
 pub returns-clause-takes : goal.returns-clause-takes

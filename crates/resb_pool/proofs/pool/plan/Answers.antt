@@ -11,7 +11,7 @@ use Rattle.resb_pool.specs.Plan.{nows, no_memory}
 use Rattle.resb_pool.specs.Records.{IsRecords}
 use Rattle.resb_pool.specs.Inner.Placing.{text, AreTexts, AreSums, lying_in, IsRecordOf}
 use Rattle.resb_pool.specs.Inner.Placing.{record_texts, record_cmp, offset_by, ClosesWithin}
-use Rattle.resb_pool.specs.declared.places.Place.{Place}
+use Rattle.resb_pool.specs.declared.homes.Home.{Home}
 use Rattle.resb_pool.specs.declared.records.Record.{Record}
 use Rattle.resb_pool.proofs.Interning.{length-nows}
 use Rattle.resb_pool.proofs.TextLoops.{none_too_long}
@@ -19,10 +19,10 @@ use Rattle.resb_pool.proofs.PlanLemmas.{totals_small, sums_are, laid_small, all_
 use Rattle.resb_pool.proofs.PlanLemmas.{offset_at}
 use Rattle.resb_pool.proofs.pool.plan.Goals as goal
 
-pub returns-in_err-places-clause-err : goal.returns-in_err-places-clause-err
-returns-in_err-places-clause-err c = let p =
-    err_from_is_err_and c.from_residual-in_err-places.result
-    c.from_residual-in_err-places.ensures.1 in rw (p.1, p.2) no_memory
+pub returns-in_err-homes-clause-err : goal.returns-in_err-homes-clause-err
+returns-in_err-homes-clause-err c = let p =
+    err_from_is_err_and c.from_residual-in_err-homes.result
+    c.from_residual-in_err-homes.ensures.1 in rw (p.1, p.2) no_memory
 
 pub returns-in_err-sums-clause-err : goal.returns-in_err-sums-clause-err
 returns-in_err-sums-clause-err c = let p = err_from_is_err_and c.from_residual-in_err-sums.result
@@ -47,14 +47,14 @@ find_sums-requires-clause-small c =
     let S = nows c.args.strings.now in
     let T = nows c.as_slice-distinct.result.now in
     let ms = c.deref.result.now in
-    let ps = c.in_ok-places.places.items in
+    let ps = c.in_ok-homes.homes.items in
     let given : AreTexts S T ms = subst (AreTexts S T) (sym c.deref.ensures.value)
     (subst (λ (z : List (Bor (List ℕ))). AreTexts S (nows z) c.in_ok-texts.texts.measures.items)
     (sym c.as_slice-distinct.ensures.keys) c.in_ok-texts.ensures.texts) in
     let small = c.in_ok-texts.ensures.small in
-    let placed = c.in_ok-places.ensures.places in
-    let measures = c.in_ok-places.ensures.measures in
-    subst (λ (z : List Place). sum_by (λ (p : Place). p.measure.total) z < 4294967296)
+    let placed = c.in_ok-homes.ensures.homes in
+    let measures = c.in_ok-homes.ensures.measures in
+    subst (λ (z : List Home). sum_by (λ (p : Home). p.measure.total) z < 4294967296)
     (sym c.deref-2.ensures.value) (totals_small S T ms given small ps placed measures)
 
 pub ordered-requires-clause-sums : goal.ordered-requires-clause-sums
@@ -62,19 +62,19 @@ ordered-requires-clause-sums c =
     let S = nows c.args.strings.now in
     let T = nows c.as_slice-distinct.result.now in
     let ms = c.deref.result.now in
-    let ps = c.in_ok-places.places.items in
+    let ps = c.in_ok-homes.homes.items in
     let given : AreTexts S T ms = subst (AreTexts S T) (sym c.deref.ensures.value)
     (subst (λ (z : List (Bor (List ℕ))). AreTexts S (nows z) c.in_ok-texts.texts.measures.items)
     (sym c.as_slice-distinct.ensures.keys) c.in_ok-texts.ensures.texts) in
     let small = c.in_ok-texts.ensures.small in
-    let placed = c.in_ok-places.ensures.places in
-    let measures = c.in_ok-places.ensures.measures in
+    let placed = c.in_ok-homes.ensures.homes in
+    let measures = c.in_ok-homes.ensures.measures in
     let sums = c.in_ok-sums.sums.items in
     let len : length sums ≡ length ps = c.in_ok-sums.ensures.len
     ∙ ap length c.deref-2.ensures.value in
-    let sum_is = subst (λ (z : List Place). (q : ℕ) → q < length z → get_or sums q 0 ≡ lying_in z q)
+    let sum_is = subst (λ (z : List Home). (q : ℕ) → q < length z → get_or sums q 0 ≡ lying_in z q)
     c.deref-2.ensures.value c.in_ok-sums.ensures.sums in
-    subst (λ (z : List Place). AreSums T z c.deref-4.result.now) (sym c.deref-3.ensures.value)
+    subst (λ (z : List Home). AreSums T z c.deref-4.result.now) (sym c.deref-3.ensures.value)
     (subst (AreSums T ps) (sym c.deref-4.ensures.value) (sums_are S T ms given small ps placed
     measures sums len sum_is))
 
@@ -83,17 +83,17 @@ lay-requires-clause-short c =
     let S = nows c.args.strings.now in
     let T = nows c.as_slice-distinct.result.now in
     let ms = c.deref.result.now in
-    let ps = c.in_ok-places.places.items in
+    let ps = c.in_ok-homes.homes.items in
     let given : AreTexts S T ms = subst (AreTexts S T) (sym c.deref.ensures.value)
     (subst (λ (z : List (Bor (List ℕ))). AreTexts S (nows z) c.in_ok-texts.texts.measures.items)
     (sym c.as_slice-distinct.ensures.keys) c.in_ok-texts.ensures.texts) in
     let small = c.in_ok-texts.ensures.small in
-    let placed = c.in_ok-places.ensures.places in
-    let measures = c.in_ok-places.ensures.measures in
+    let placed = c.in_ok-homes.ensures.homes in
+    let measures = c.in_ok-homes.ensures.measures in
     let sums = c.in_ok-sums.sums.items in
     let len : length sums ≡ length ps = c.in_ok-sums.ensures.len
     ∙ ap length c.deref-2.ensures.value in
-    let sum_is = subst (λ (z : List Place). (q : ℕ) → q < length z → get_or sums q 0 ≡ lying_in z q)
+    let sum_is = subst (λ (z : List Home). (q : ℕ) → q < length z → get_or sums q 0 ≡ lying_in z q)
     c.deref-2.ensures.value c.in_ok-sums.ensures.sums in
     let v = c.deref-5.result.now in
     let records = subst (λ (z : List Record). IsRecords T (record_texts z))
@@ -108,17 +108,17 @@ find_offsets-requires c =
     let S = nows c.args.strings.now in
     let T = nows c.as_slice-distinct.result.now in
     let ms = c.deref.result.now in
-    let ps = c.in_ok-places.places.items in
+    let ps = c.in_ok-homes.homes.items in
     let given : AreTexts S T ms = subst (AreTexts S T) (sym c.deref.ensures.value)
     (subst (λ (z : List (Bor (List ℕ))). AreTexts S (nows z) c.in_ok-texts.texts.measures.items)
     (sym c.as_slice-distinct.ensures.keys) c.in_ok-texts.ensures.texts) in
     let small = c.in_ok-texts.ensures.small in
-    let placed = c.in_ok-places.ensures.places in
-    let measures = c.in_ok-places.ensures.measures in
+    let placed = c.in_ok-homes.ensures.homes in
+    let measures = c.in_ok-homes.ensures.measures in
     let sums = c.in_ok-sums.sums.items in
     let len : length sums ≡ length ps = c.in_ok-sums.ensures.len
     ∙ ap length c.deref-2.ensures.value in
-    let sum_is = subst (λ (z : List Place). (q : ℕ) → q < length z → get_or sums q 0 ≡ lying_in z q)
+    let sum_is = subst (λ (z : List Home). (q : ℕ) → q < length z → get_or sums q 0 ≡ lying_in z q)
     c.deref-2.ensures.value c.in_ok-sums.ensures.sums in
     let v = c.deref-5.result.now in
     let records = subst (λ (z : List Record). IsRecords T (record_texts z))
@@ -129,7 +129,7 @@ find_offsets-requires c =
     let es = c.in_ok-block.block.ends.items in
     let count : length es ≡ length ps = c.in_ok-block.ensures.len ∙ c.len-count.ensures
     ∙ sym c.deref-2.ensures.len ∙ ap length c.deref-2.ensures.value in
-    subst (λ (z : List Place). All (ClosesWithin c.deref-7.result.now) z)
+    subst (λ (z : List Home). All (ClosesWithin c.deref-7.result.now) z)
     (sym c.deref-6.ensures.value)
     (subst (λ (z : List ℕ). All (ClosesWithin z) ps) (sym c.deref-7.ensures.value)
     (all_close S T ms given small ps placed measures sums len sum_is v records each es count
@@ -140,17 +140,17 @@ returns-clause-ok c =
     let S = nows c.args.strings.now in
     let T = nows c.as_slice-distinct.result.now in
     let ms = c.deref.result.now in
-    let ps = c.in_ok-places.places.items in
+    let ps = c.in_ok-homes.homes.items in
     let given : AreTexts S T ms = subst (AreTexts S T) (sym c.deref.ensures.value)
     (subst (λ (z : List (Bor (List ℕ))). AreTexts S (nows z) c.in_ok-texts.texts.measures.items)
     (sym c.as_slice-distinct.ensures.keys) c.in_ok-texts.ensures.texts) in
     let small = c.in_ok-texts.ensures.small in
-    let placed = c.in_ok-places.ensures.places in
-    let measures = c.in_ok-places.ensures.measures in
+    let placed = c.in_ok-homes.ensures.homes in
+    let measures = c.in_ok-homes.ensures.measures in
     let sums = c.in_ok-sums.sums.items in
     let len : length sums ≡ length ps = c.in_ok-sums.ensures.len
     ∙ ap length c.deref-2.ensures.value in
-    let sum_is = subst (λ (z : List Place). (q : ℕ) → q < length z → get_or sums q 0 ≡ lying_in z q)
+    let sum_is = subst (λ (z : List Home). (q : ℕ) → q < length z → get_or sums q 0 ≡ lying_in z q)
     c.deref-2.ensures.value c.in_ok-sums.ensures.sums in
     let v = c.deref-5.result.now in
     let records = subst (λ (z : List Record). IsRecords T (record_texts z))

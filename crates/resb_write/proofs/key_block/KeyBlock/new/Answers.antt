@@ -6,7 +6,7 @@ use Rattle.indexmap.specs.IndexMap.{keys}
 use Rattle.resb_write.specs.KeyBlock.{used}
 use Rattle.resb_write.specs.Faults.{key_fault}
 use Rattle.resb_write.proofs.Distinct.{fault_same, same_keys}
-use Rattle.resb_write.specs.Inner.Places.{near_position_in}
+use Rattle.resb_write.specs.Inner.NearPositions.{near_position_in}
 use Rattle.resb_write.proofs.key_block.KeyBlock.new.Goals as goal
 
 pub returns-in_err-check_keys-clause-err : goal.returns-in_err-check_keys-clause-err

@@ -4,10 +4,10 @@ use Rattle.std.proofs.lemmas.List.{get_or_append_left, get_or_push, length_push,
 use Rattle.std.proofs.lemmas.List.{take_more}
 use Rattle.resb_pool.specs.Plan.{nows}
 use Rattle.resb_pool.specs.Inner.Placing.{LiesAt}
-use Rattle.resb_pool.specs.declared.places.Place.{Place}
+use Rattle.resb_pool.specs.declared.homes.Home.{Home}
 use Rattle.resb_pool.specs.declared.measure.Measure.{Measure}
 use Rattle.resb_pool.proofs.NewNode.{old_or_new}
-use Rattle.resb_pool.proofs.places.find_places.Goals as goal
+use Rattle.resb_pool.proofs.homes.find_homes.Goals as goal
 
 abbrev no_measure : Measure
 no_measure = record { unit_count = 0; size = 0; total = 0 }
@@ -17,8 +17,8 @@ loop-index-preserved c =
     let i = c.loop-index.index in
     let v = c.loop-index.invariant in
     let e = c.in_ok-push.ensures.items in
-    let ps = c.loop-index.places.items in
-    let p : Place = record {
+    let ps = c.loop-index.homes.items in
+    let p : Home = record {
       «record» = c.record_of.result;
       measure =
           get_or c.args.measures.now i no_measure;
@@ -26,16 +26,16 @@ loop-index-preserved c =
     record {
       len = omega (arith, ap length e, length_push ps p, v.len);
       lies = λ j d l.
-          subst (λ (z : List Place). LiesAt (nows c.args.texts.now) j (get_or z j d).record) (sym e)
+          subst (λ (z : List Home). LiesAt (nows c.args.texts.now) j (get_or z j d).record) (sym e)
           (elim (old_or_new i j l) [
-            | inl b ↦ subst (λ (z : Place). LiesAt (nows c.args.texts.now) j z.record)
+            | inl b ↦ subst (λ (z : Home). LiesAt (nows c.args.texts.now) j z.record)
                 (sym (get_or_append_left ps (p ∷ []) d j (omega (arith, b, v.len)))) (v.lies j d b)
-            | inr q ↦ subst (λ (z : Place). LiesAt (nows c.args.texts.now) j z.record)
+            | inr q ↦ subst (λ (z : Home). LiesAt (nows c.args.texts.now) j z.record)
                 (sym (get_or_push ps p d j (v.len ∙ sym q)))
                 (subst (λ k. LiesAt (nows c.args.texts.now) k c.record_of.result) (sym q)
                 (c.record_of.ensures (nows c.args.texts.now) c.in_ok-trie.ensures))
           ]);
-      measures = ap (map (λ (z : Place). z.measure)) e ∙ map_push (λ (z : Place). z.measure) ps p
+      measures = ap (map (λ (z : Home). z.measure)) e ∙ map_push (λ (z : Home). z.measure) ps p
           ∙ ap (λ (z : List Measure). z ++ p.measure ∷ []) v.measures
           ∙ sym (take_more c.args.measures.now i no_measure c.loop-index-test.true);
     }

@@ -1,0 +1,28 @@
+-- Laying a tree's resources one by one, over a stack of words: each takes its members' words and
+-- puts its own.
+--     LaysNext g s ws t e xs  the body of t is laid, behind its members' bodies
+--     LaysRow g s ws ts e xs  those of resources in a row
+use Rattle.std.specs.Prelude.{◌≡◌, ℕ, List, [], ◌∷◌, ◌++◌, length}
+use Rattle.resb_tree.specs.Tree.{Tree, trees_of}
+use Rattle.resb_layout.specs.Laid.{Given, State, Lays, LaysEach}
+use Rattle.resb_tree.specs.WalkOrder.{children}
+
+-- where t's members are laid, with the words vs, its body makes it laid, with the word w
+abbrev pub Closes : Given → State → Tree → List ℕ → State → ℕ → Type 0
+Closes g s t vs e w = (before : State) → LaysEach g before (trees_of (children t)) s vs
+    → Lays g before t e w
+
+pub record LaysNext (g : Given) (s : State) (ws : List ℕ) (t : Tree) (e : State) (xs : List ℕ)
+    : Type 0 where
+  pub below : List ℕ
+  pub members : List ℕ
+  pub word : ℕ
+  pub taken : ws ≡ below ++ members
+  pub many : length members ≡ length (children t)
+  pub put : xs ≡ below ++ word ∷ []
+  pub closes : Closes g s t members e word
+
+pub data LaysRow (g : Given) : State → List ℕ → List Tree → State → List ℕ → Type 0 where
+  steps_none : {s : State} {ws : List ℕ} → LaysRow g s ws [] s ws
+  steps_more : {s m e : State} {ws xs ys : List ℕ} {t : Tree} {ts : List Tree}
+      → LaysNext g s ws t m xs → LaysRow g m xs ts e ys → LaysRow g s ws (t ∷ ts) e ys

@@ -1,6 +1,6 @@
 //! The binary form, `.res`: the types of its head and descriptors, its reader, its writer, and the
-//! errors of both ways. Numbers and parts among bytes are in `bytes`; views of bytes, their casts and
-//! what reads them are in `helpers`.
+//! errors of both ways. Numbers among bytes are in `bytes`; views of bytes, their casts and what
+//! reads them are in `helpers`.
 
 pub mod bytes;
 pub mod helpers;

@@ -1,6 +1,6 @@
 //! The laws of a head's codecs and checks, each the contract of a call that does nothing. Their
-//! statements stand in `specs/Laws`; those of types, of descriptors and of what a file denotes stand
-//! in `resb_format`.
+//! statements stand in `specs/Laws`; the laws of types, of descriptors and of what a file denotes
+//! stand in `resb_format`.
 ghost use Rattle.resb_format.specs.Laws.{Survives};
 ghost use Rattle.resb_head.specs.Codes.{endianness_number, charset_number, version_bytes};
 ghost use Rattle.resb_head.specs.CodeReading.{ReadsEndianness, ReadsCharset, ReadsVersion};

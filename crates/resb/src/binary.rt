@@ -1,12 +1,16 @@
 //! The binary form, `.res`: the types of its head and descriptors, its reader, its writer, and the
-//! errors of both ways. Views of bytes, their casts and what reads them are in `helpers`.
+//! errors of both ways. Numbers among bytes are in `bytes`; views of bytes, their casts and what
+//! reads them are in `helpers`.
 
+pub mod bytes;
 pub mod helpers;
 
 pub use resb_format::{
-    BinHeader, BinIndex, BinReprInfo, BinaryDeserializerError, CharsetFamily, Endianness,
-    ErrorKind, FileParts, FormatVersion, MAX_UNMARKED, ReadingError, ResDescriptor,
-    ResourceReprType, bytes, is_unmarked, marker_units, string_at,
+    BinaryDeserializerError, ErrorKind, MAX_UNMARKED, ReadingError, ResDescriptor,
+    ResourceReprType, is_unmarked, marker_units, string_at,
+};
+pub use resb_head::{
+    BinHeader, BinIndex, BinReprInfo, CharsetFamily, Endianness, FileParts, FormatVersion,
 };
 pub use resb_pool::{Plan, pool};
 pub use resb_read::{

@@ -4,9 +4,12 @@ ghost use Rattle.resb.specs.Laws.{CompiledIsRead};
 
 pub use resb_bodies::laws::{one_block, steps_lay_trees};
 pub use resb_format::laws::{
-    bundle_file_passes, charset_survives, counted_is_reached, descriptor_survives,
-    endianness_survives, header_passes, header_survives, index_survives, one_tree,
-    reached_is_counted, reaching_goes_down, type_survives, version_survives,
+    counted_is_reached, descriptor_survives, one_tree, reached_is_counted, reaching_goes_down,
+    type_survives,
+};
+pub use resb_head::laws::{
+    bundle_file_passes, charset_survives, endianness_survives, header_passes, header_survives,
+    index_survives, version_survives,
 };
 pub use resb_layout::laws::{laid_is_denoted, laid_is_paid, one_layout};
 pub use resb_pool::laws::{one_pool, pool_is_read, records_cost_least};

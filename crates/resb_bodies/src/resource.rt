@@ -3,7 +3,7 @@
 ghost use Rattle.std.specs.Prelude.{◌≡◌, ◌++◌, ◌+◌, ◌*◌, ◌/◌, ◌%◌, ◌<◌, ◌^◌, length, IfOk, OnOk};
 ghost use Rattle.std.specs.Prelude.{true};
 ghost use Rattle.resb_tree.specs.Tree.{binary, int_vector};
-ghost use Rattle.resb_format.specs.Codes.{type_number};
+ghost use Rattle.resb_format.specs.Descriptor.{type_number};
 ghost use Rattle.resb_layout.specs.Laid.{Lays, ClosesArray, ClosesTable, are_short, are_near};
 ghost use Rattle.resb_layout.specs.Laid.{offsets_in};
 ghost use Rattle.resb_bodies.specs.Room.{given_by, state_of};

@@ -5,14 +5,6 @@ pub mod Spelled
 pub mod InsideLemmas
 pub mod StringsIn
 mod TextUnits
-mod HeadSteps
-mod HeaderSteps
-mod IndexSteps
 pub mod Apart
 mod Survival
-mod Passing
-pub mod FileSteps
-mod SupportSteps
 pub mod WordsBack
-mod IndexSurvival
-mod HeaderSurvival

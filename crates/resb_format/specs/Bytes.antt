@@ -3,7 +3,7 @@
 --     words_of bytes          the 32-bit words that they spell
 --     part xs i n             n members of xs from place i on, if they lie inside
 use Rattle.std.specs.Prelude.{ℕ, ◌+◌, ◌*◌, List, [], ◌∷◌, length, take, drop, Option, Some, None}
-use Rattle.std.specs.Prelude.{nat_le, if◌then◌else◌}
+use Rattle.std.specs.Prelude.{Bool, nat_le, slice_index, if◌then◌else◌}
 
 -- an odd byte at the end spells nothing
 unfoldable pub units_of : List ℕ → List ℕ
@@ -21,3 +21,9 @@ words_of [] = []
 
 abbrev pub part : List ℕ → ℕ → ℕ → Option (List ℕ)
 part xs i n = if nat_le (i + n) (length xs) then Some (take n (drop i xs)) else None
+
+-- unit i, its higher byte first where the file is in big-endian order
+abbrev pub unit_in : Bool → List ℕ → ℕ → ℕ
+unit_in big bytes i =
+    if big then slice_index bytes (2 * i + 1) + 256 * slice_index bytes (2 * i)
+    else slice_index (units_of bytes) i

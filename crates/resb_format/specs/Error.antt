@@ -1,5 +1,6 @@
 -- What a refusal of reading says.
 --     IsRefusal e kind m      the refusal e is of this kind and has the message m
+--     refusal_of e            its kind and its message
 use Rattle.std.specs.Prelude.{◌≡◌, ℕ, List, codes}
 use Rattle.resb_format.specs.declared.error.ErrorKind.{ErrorKind}
 use Rattle.resb_format.specs.declared.error.ErrorKind.TheVariants.{InvalidData}
@@ -29,6 +30,24 @@ IsWantOfMemory e = IsRefusal e OutOfMemory (codes "while reading")
 -- bytes that are no whole number of items
 abbrev pub IsWrongLength : ReadingError → Type 0
 IsWrongLength e = IsRefusal e Unknown (codes "Wrong length")
+
+-- what is answered: a kind and a message
+abbrev pub Refusal : Type 0
+Refusal = ErrorKind × List ℕ
+
+abbrev pub invalid : List ℕ → Refusal
+invalid message = (InvalidData, message)
+
+abbrev pub unsupported : List ℕ → Refusal
+unsupported message = (UnsupportedFormat, message)
+
+-- a part of the file lies past its end
+abbrev pub end_of_input : Refusal
+end_of_input = invalid (codes "unexpected end of input")
+
+-- what an error tells
+abbrev pub refusal_of : ReadingError → Refusal
+refusal_of e = (kind_of e, message_of e)
 
 -- what a kind prints
 abbrev pub description_of : ErrorKind → List ℕ

@@ -1,5 +1,5 @@
 -- The words of the contracts: bytes and their numbers, strings and keys in their blocks, the parts
--- of a file, what a word and a file denote. `Inner` has words of private functions.
+-- of a file, what a word and a file denote.
 pub use Rattle.resb_tree.specs.Tree
 pub use Rattle.resb_tree.specs.View
 pub use Rattle.resb_tree.specs.Bundle
@@ -15,15 +15,8 @@ pub mod Denotes
 pub mod File
 pub mod Error
 pub mod Types
-pub mod Codes
 pub mod Descriptor
 pub mod Views
 pub mod StringFaults
-pub mod HeadChecks
-pub mod Head
-pub mod CodeReading
 pub mod DescriptorReading
-pub mod HeadReading
-pub mod PartsReading
 pub mod Laws
-pub mod Inner

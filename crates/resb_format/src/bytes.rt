@@ -4,7 +4,7 @@ ghost use Rattle.std.specs.Prelude.{◌≡◌, ◌+◌, ◌*◌, ◌/◌, ◌<�
 ghost use Rattle.std.specs.Prelude.{slice_index, slice_range, take, drop, Some, None, MatchOption};
 ghost use Rattle.std.specs.Prelude.{IfSome};
 ghost use Rattle.resb_format.specs.Bytes.{units_of, words_of, part};
-ghost use Rattle.resb_format.specs.HeadChecks as checks;
+ghost use Rattle.resb_format.specs.Bytes as spelled;
 
 /// The 16-bit unit with this number.
 #[tactic(auto, using(crate::proofs::Spelled::units_at))]
@@ -17,7 +17,7 @@ pub fn unit_at(bytes: &[u8], number: usize) -> u16
 
 /// The 32-bit word with this number.
 #[tactic(auto, using(crate::proofs::Spelled::words_at))]
-pub(crate) fn word_at(bytes: &[u8], number: usize) -> u32
+pub fn word_at(bytes: &[u8], number: usize) -> u32
     requires { number < length bytes.now / 4 }
     ensures { result ≡ slice_index (words_of bytes.now) number }
 {
@@ -31,7 +31,7 @@ pub(crate) fn word_at(bytes: &[u8], number: usize) -> u32
 }
 
 /// The byte at this place.
-pub(crate) fn byte_at(bytes: &[u8], place: usize) -> u8
+pub fn byte_at(bytes: &[u8], place: usize) -> u8
     requires { place < length bytes.now }
     ensures { result ≡ slice_index bytes.now place }
 {
@@ -39,7 +39,7 @@ pub(crate) fn byte_at(bytes: &[u8], place: usize) -> u8
 }
 
 /// The two bytes from this place on.
-pub(crate) fn two_at(bytes: &[u8], place: usize) -> [u8; 2]
+pub fn two_at(bytes: &[u8], place: usize) -> [u8; 2]
     requires { place + 2 ≤ length bytes.now }
     ensures { result ≡ slice_range bytes.now place (place + 2) }
 {
@@ -47,7 +47,7 @@ pub(crate) fn two_at(bytes: &[u8], place: usize) -> [u8; 2]
 }
 
 /// The four bytes from this place on.
-pub(crate) fn four_at(bytes: &[u8], place: usize) -> [u8; 4]
+pub fn four_at(bytes: &[u8], place: usize) -> [u8; 4]
     requires { place + 4 ≤ length bytes.now }
     ensures { result ≡ slice_range bytes.now place (place + 4) }
 {
@@ -60,9 +60,9 @@ pub(crate) fn four_at(bytes: &[u8], place: usize) -> [u8; 4]
 }
 
 /// The 16-bit unit with this number, in big-endian order where `is_big` says so.
-pub(crate) fn unit_in(bytes: &[u8], number: usize, is_big: bool) -> u16
+pub fn unit_in(bytes: &[u8], number: usize, is_big: bool) -> u16
     requires { number < length bytes.now / 2 }
-    ensures { result ≡ checks.unit_in is_big bytes.now number }
+    ensures { result ≡ spelled.unit_in is_big bytes.now number }
 {
     if is_big {
         u16::from_be_bytes([bytes[2 * number], bytes[2 * number + 1]])

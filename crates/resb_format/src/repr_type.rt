@@ -1,8 +1,8 @@
 //! The types that a descriptor may name.
 //! What stands at a descriptor of each type is said in the specs, and read by the reader.
 ghost use Rattle.std.specs.Prelude.{◌≡◌};
-ghost use Rattle.resb_format.specs.Codes.{type_number};
-ghost use Rattle.resb_format.specs.CodeReading.{ReadsType};
+ghost use Rattle.resb_format.specs.Descriptor.{type_number};
+ghost use Rattle.resb_format.specs.DescriptorReading.{ReadsType};
 
 use crate::error::BinaryDeserializerError;
 

@@ -1,8 +1,7 @@
 //! Numbers of the format: codes, versions, descriptors, and integers of 28 bits.
 use crate::refusals::is_refused;
-use resb_format::{
-    CharsetFamily, Endianness, ErrorKind, FormatVersion, Int28, ResDescriptor, ResourceReprType,
-};
+use resb_format::{ErrorKind, Int28, ResDescriptor, ResourceReprType};
+use resb_head::{CharsetFamily, Endianness, FormatVersion};
 
 const INVALID: ErrorKind = ErrorKind::InvalidData;
 

@@ -2,7 +2,8 @@
 //! What the root's word denotes is read in other rows.
 use crate::head_rows::damaged;
 use crate::refusals::is_refused;
-use resb_format::{ErrorKind, FileParts};
+use resb_format::ErrorKind;
+use resb_head::FileParts;
 use std::test::Fail;
 
 /// The file of the string "a", with locale fallback and no keys.

@@ -1,8 +1,9 @@
 -- A file is refused in one way.
 use Rattle.std.proofs.Common.{ℕ, List, ◌≡◌, inl, inr, Some, sym, ◌∙◌}
 use Rattle.resb_format.specs.Parts.{parts_of}
-use Rattle.resb_format.specs.HeadChecks.{Refusal, file_fault, refusal_of}
+use Rattle.resb_format.specs.Error.{Refusal, refusal_of}
 use Rattle.resb_format.specs.declared.error.ReadingError.{ReadingError}
+use Rattle.resb_head.specs.HeadChecks.{file_fault}
 use Rattle.resb_walk.specs.Refusals.{IsSpent}
 use Rattle.resb_walk.proofs.Meeting.{one_fault}
 use Rattle.resb_read.specs.Laws.{OneRefusal}

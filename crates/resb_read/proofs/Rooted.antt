@@ -8,9 +8,10 @@ use Rattle.resb_tree.specs.View.{tree_of}
 use Rattle.resb_tree.specs.declared.resource.Resource.{Resource}
 use Rattle.resb_format.specs.Parts.{IsBundleFile}
 use Rattle.resb_format.specs.File.{Denotes, budget}
-use Rattle.resb_format.specs.HeadChecks.{file_fault, Refusal}
-use Rattle.resb_format.proofs.FileSteps.{bundle_file_passes}
+use Rattle.resb_format.specs.Error.{Refusal}
 use Rattle.resb_format.specs.declared.error.ReadingError.{ReadingError}
+use Rattle.resb_head.specs.HeadChecks.{file_fault}
+use Rattle.resb_head.proofs.FileSteps.{bundle_file_passes}
 use Rattle.resb_walk.specs.Meets.{Blames}
 use Rattle.resb_walk.specs.Refusals.{Refuses}
 use Rattle.resb_read.specs.Places.{Place}

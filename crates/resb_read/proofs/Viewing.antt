@@ -5,8 +5,7 @@ use Rattle.std.specs.Prelude.{nat_le, if◌then◌else◌}
 use Rattle.std.proofs.lemmas.Bool.Decides.{nat_tests}
 use Rattle.resb_format.specs.Bytes.{words_of}
 use Rattle.resb_format.proofs.Spelled.{words_length}
-use Rattle.resb_format.specs.HeadChecks.{Refusal}
-use Rattle.resb_format.specs.Error.{IsWrongLength}
+use Rattle.resb_format.specs.Error.{Refusal, IsWrongLength}
 use Rattle.resb_format.specs.declared.error.ReadingError.{ReadingError}
 use Rattle.resb_walk.specs.Damage.{Says}
 use Rattle.resb_read.specs.Places.{Place}

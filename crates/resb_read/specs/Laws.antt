@@ -2,8 +2,7 @@
 --     OneRefusal              memory aside, a file is refused in one way
 --     OneValue                at a place stands one value of each type without parts, and one tree
 use Rattle.std.specs.Prelude.{◌≡◌, ◌⊎◌, ℕ, ℤ, List}
-use Rattle.resb_format.specs.Error.{IsWantOfMemory}
-use Rattle.resb_format.specs.HeadChecks.{refusal_of}
+use Rattle.resb_format.specs.Error.{IsWantOfMemory, refusal_of}
 use Rattle.resb_format.specs.declared.error.ReadingError.{ReadingError}
 use Rattle.resb_read.specs.Leaves.{ReadsSigned, ReadsUnsigned, ReadsBool, ReadsBits, ReadsText}
 use Rattle.resb_read.specs.Leaves.{ReadsKey, ReadsBytes}

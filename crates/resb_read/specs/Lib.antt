@@ -7,11 +7,12 @@ pub use Rattle.resb_format.specs.Types
 pub use Rattle.resb_format.specs.Content
 pub use Rattle.resb_format.specs.Denotes
 pub use Rattle.resb_format.specs.File
-pub use Rattle.resb_format.specs.HeadChecks
 pub use Rattle.resb_format.specs.Error
 pub use Rattle.resb_format.specs.StringFaults
-pub use Rattle.resb_format.specs.Codes
+pub use Rattle.resb_format.specs.Descriptor
 pub use Rattle.resb_format.specs.Views
+pub use Rattle.resb_head.specs.HeadChecks
+pub use Rattle.resb_head.specs.Codes
 pub use Rattle.resb_tree.specs.Tree
 pub use Rattle.resb_tree.specs.View
 pub use Rattle.resb_walk.specs.Files

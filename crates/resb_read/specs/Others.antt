@@ -4,7 +4,7 @@ use Rattle.std.specs.Prelude.{◌≡◌, ◌+◌, ◌<◌, ◌%◌, nat_le, ℕ,
 use Rattle.std.specs.Prelude.{Bool, false, Option, Some, None, Result, MatchResult, codes}
 use Rattle.std.specs.Prelude.{if◌then◌else◌}
 use Rattle.resb_format.specs.declared.error.ReadingError.{ReadingError}
-use Rattle.resb_format.specs.HeadChecks.{Refusal}
+use Rattle.resb_format.specs.Error.{Refusal}
 use Rattle.resb_format.specs.Types as types
 use Rattle.resb_format.specs.declared.error.ErrorKind.TheVariants.{Unknown}
 use Rattle.resb_walk.specs.Refusals.{IsSpent}

@@ -7,7 +7,7 @@
 --     members_refusal s left, entries_refusal s left
 --                             the same for the members of a sequence, and the entries of a map
 use Rattle.std.specs.Prelude.{◌==◌, ◌||◌, ℕ, List, codes, if◌then◌else◌}
-use Rattle.resb_format.specs.HeadChecks.{Refusal, invalid, end_of_input}
+use Rattle.resb_format.specs.Error.{Refusal, invalid, end_of_input}
 use Rattle.resb_format.specs.Parts.{Parts}
 use Rattle.resb_format.specs.StringFaults.{string_fault}
 use Rattle.resb_format.specs.Types as types

@@ -10,8 +10,9 @@ use Rattle.resb_format.specs.Content.{word}
 use Rattle.resb_format.specs.Parts.{IsBundleFile, parts_of, root_word}
 use Rattle.resb_format.specs.Denotes.{Den, Reaches}
 use Rattle.resb_format.specs.File.{Denotes, budget}
-use Rattle.resb_format.specs.HeadChecks.{file_fault, refusal_of}
+use Rattle.resb_format.specs.Error.{refusal_of}
 use Rattle.resb_format.specs.declared.error.ReadingError.{ReadingError}
+use Rattle.resb_head.specs.HeadChecks.{file_fault}
 use Rattle.resb_walk.specs.Meets.{Meets, Blames}
 use Rattle.resb_walk.specs.Refusals.{Refuses}
 use Rattle.resb_walk.specs.Borrows.{Borrows}

@@ -1,12 +1,14 @@
 //! A place in a file: where a cursor stands, and where it begins.
 //! What is read there is said in the modules of the types.
 ghost use Rattle.std.specs.Prelude.{◌≡◌, Some, None, MatchResult};
+ghost use Rattle.resb_format.specs.Error.{refusal_of};
 ghost use Rattle.resb_format.specs.File.{budget};
-ghost use Rattle.resb_format.specs.HeadChecks.{file_fault, refusal_of};
+ghost use Rattle.resb_head.specs.HeadChecks.{file_fault};
 ghost use Rattle.resb_read.specs.Places.{place_of};
 ghost use Rattle.resb_read.specs.Roots.{root_place};
 
-use resb_format::{BinaryDeserializerError, FileParts};
+use resb_format::BinaryDeserializerError;
+use resb_head::FileParts;
 use resb_walk::{File, Walk};
 
 /// Where a cursor stands.

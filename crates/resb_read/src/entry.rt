@@ -1,9 +1,10 @@
 //! Whole files: any type at the root, its count, and the file's tree.
 //! Places below the root are reached by a cursor.
 ghost use Rattle.std.specs.Prelude.{◌≡◌, ◌≤◌, ℕ, Some, IfOk, IfErr};
+ghost use Rattle.resb_format.specs.Error as reading;
+ghost use Rattle.resb_format.specs.Error.{refusal_of};
 ghost use Rattle.resb_format.specs.File.{budget};
-ghost use Rattle.resb_format.specs.HeadChecks as checks;
-ghost use Rattle.resb_format.specs.HeadChecks.{file_fault, refusal_of};
+ghost use Rattle.resb_head.specs.HeadChecks.{file_fault};
 ghost use Rattle.resb_read.specs.Reading.{LacksOrMemory};
 ghost use Rattle.resb_read.specs.Roots.{AtRoot, TreeOf, CountOf};
 
@@ -22,7 +23,7 @@ pub fn from_bytes<'a, 'm, T: Deserialize<'a>>(
     ensures refused { IfErr result (λ e. LacksOrMemory
         (λ n. AtRoot (λ p. T.counts p n) bytes.entry.now) (budget bytes.entry.now) e) }
     ensures head { IfErr result
-        (λ e. (f : checks.Refusal) → file_fault bytes.entry.now ≡ Some f → refusal_of e ≡ f) }
+        (λ e. (f : reading.Refusal) → file_fault bytes.entry.now ≡ Some f → refusal_of e ≡ f) }
 {
     let (value, _) = from_bytes_counted::<T>(alloc, bytes)?;
     Ok(value)
@@ -38,7 +39,7 @@ pub fn from_bytes_counted<'a, 'm, T: Deserialize<'a>>(
     ensures refused { IfErr result (λ e. LacksOrMemory
         (λ n. AtRoot (λ p. T.counts p n) bytes.entry.now) (budget bytes.entry.now) e) }
     ensures head { IfErr result
-        (λ e. (f : checks.Refusal) → file_fault bytes.entry.now ≡ Some f → refusal_of e ≡ f) }
+        (λ e. (f : reading.Refusal) → file_fault bytes.entry.now ≡ Some f → refusal_of e ≡ f) }
 {
     let (root, mut walk) = Cursor::root(bytes)?;
     let before = walk.left();

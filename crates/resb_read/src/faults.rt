@@ -1,7 +1,7 @@
 //! What is said where a type isn't read at a place, and the value of a descriptor of one that is.
 //! Faults of the file itself are in `resb_walk::faults`.
 ghost use Rattle.std.specs.Prelude.{◌≡◌, ◌≢◌, ◌≤◌, IfOk, IfErr, true};
-ghost use Rattle.resb_format.specs.Codes.{type_number};
+ghost use Rattle.resb_format.specs.Descriptor.{type_number};
 ghost use Rattle.resb_format.specs.Types.{is_read_type};
 ghost use Rattle.resb_walk.specs.Damage.{Says};
 ghost use Rattle.resb_walk.specs.Refusals.{IsFault};

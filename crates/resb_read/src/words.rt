@@ -6,17 +6,18 @@ ghost use Rattle.std.specs.Prelude.{MatchResult, IfOk, IfErr};
 ghost use Rattle.std.specs.Vec.{vec_capacity};
 ghost use Rattle.std.specs.Int.{to_le_bytes, w32};
 ghost use Rattle.std.specs.List.{flat_map};
-ghost use Rattle.resb_format.specs.Codes.{endianness_number};
-ghost use Rattle.resb_format.specs.Error.{IsWantOfMemory};
+ghost use Rattle.resb_format.specs.Error as reading;
+ghost use Rattle.resb_format.specs.Error.{IsWantOfMemory, refusal_of};
 ghost use Rattle.resb_format.specs.File.{budget};
-ghost use Rattle.resb_format.specs.HeadChecks as checks;
-ghost use Rattle.resb_format.specs.HeadChecks.{file_fault, header_fault, refusal_of};
+ghost use Rattle.resb_head.specs.Codes.{endianness_number};
+ghost use Rattle.resb_head.specs.HeadChecks.{file_fault, header_fault};
 ghost use Rattle.resb_read.specs.Reading.{LacksOrMemory};
 ghost use Rattle.resb_read.specs.Roots.{AtRoot};
 
 use crate::deserialize::Deserialize;
 use crate::entry::from_bytes;
-use resb_format::{BinHeader, BinaryDeserializerError, Endianness, ReadingError};
+use resb_format::{BinaryDeserializerError, ReadingError};
+use resb_head::{BinHeader, Endianness};
 use std::alloc::Global;
 
 /// Lays the bytes of words in a buffer, each with its lowest byte first. What the buffer held goes.
@@ -60,7 +61,7 @@ pub fn from_words<'a, 'm, T: Deserialize<'a>>(
         IfErr result (λ e. LacksOrMemory (λ n. AtRoot (λ p. T.counts p n) bytes) (budget bytes) e) }
     ensures head { let bytes = flat_map (to_le_bytes w32) words.now in
         IfErr result (λ e. IsWantOfMemory e ⊎
-        ((f : checks.Refusal) → file_fault bytes ≡ Some f → refusal_of e ≡ f)) }
+        ((f : reading.Refusal) → file_fault bytes ≡ Some f → refusal_of e ≡ f)) }
 {
     lay_words(alloc, words, buffer)?;
     let bytes: &'a [u8] = buffer.as_slice();

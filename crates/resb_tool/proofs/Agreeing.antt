@@ -5,7 +5,8 @@ use Rattle.resb_format.specs.Parts.{parts_of}
 use Rattle.resb_format.specs.File.{Denotes, budget}
 use Rattle.resb_format.proofs.Denoting.{unique, counted}
 use Rattle.resb_format.specs.declared.error.ReadingError.{ReadingError}
-use Rattle.resb_format.specs.HeadChecks.{file_fault, refusal_of}
+use Rattle.resb_format.specs.Error.{refusal_of}
+use Rattle.resb_head.specs.HeadChecks.{file_fault}
 use Rattle.resb_read.specs.Roots.{CountOf, TreeOf}
 use Rattle.resb_read.proofs.OneRefusal.{one_refusal}
 use Rattle.resb_read.proofs.Rooted.{no_bundle}

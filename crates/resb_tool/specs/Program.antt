@@ -26,11 +26,10 @@ use Rattle.std.specs.Prelude.{
 use Rattle.std.specs.Io.KnownBytes.{Appends}
 use Rattle.hex.specs.Hex.{encode_lower}
 use Rattle.resb_format.specs.Error as reading
-use Rattle.resb_format.specs.Error.{kind_of, description_of, IsWantOfMemory}
+use Rattle.resb_format.specs.Error.{kind_of, description_of, IsWantOfMemory, refusal_of}
 use Rattle.resb_format.specs.File.{Denotes, budget}
-use Rattle.resb_format.specs.HeadChecks as checks
-use Rattle.resb_format.specs.HeadChecks.{file_fault, refusal_of}
 use Rattle.resb_format.specs.declared.error.ReadingError.{ReadingError}
+use Rattle.resb_head.specs.HeadChecks.{file_fault}
 use Rattle.resb_read.specs.Reading.{LacksOrMemory}
 use Rattle.resb_read.specs.Resources.{DenPlace, CountsTree}
 use Rattle.resb_read.specs.Roots.{AtRoot, CountOf}
@@ -100,7 +99,7 @@ ReadsCounted bytes (Ok r) =
     AtRoot (λ p. DenPlace p (tree_of r.0) r.1) bytes × (r.1 ≤ budget bytes)
 ReadsCounted bytes (Err e) =
     LacksOrMemory (λ n. AtRoot (λ p. CountsTree p n) bytes) (budget bytes) e
-    × ((f : checks.Refusal) → file_fault bytes ≡ Some f → refusal_of e ≡ f)
+    × ((f : reading.Refusal) → file_fault bytes ≡ Some f → refusal_of e ≡ f)
 
 -- the same count; where one is refused and the other isn't, for want of memory; and where a check
 -- of the head fails, the same refusal
@@ -109,7 +108,7 @@ Agrees bytes (Ok n) (Ok r) = n ≡ r.1
 Agrees bytes (Ok n) (Err e) = IsWantOfMemory e
 Agrees bytes (Err (Checking e)) (Ok r) = IsWantOfMemory e
 Agrees bytes (Err (Checking e)) (Err d) =
-    (f : checks.Refusal) → file_fault bytes ≡ Some f → refusal_of e ≡ refusal_of d
+    (f : reading.Refusal) → file_fault bytes ≡ Some f → refusal_of e ≡ refusal_of d
 Agrees bytes (Err NotUtf8) r = ⊥
 Agrees bytes (Err (Compiling e)) r = ⊥
 Agrees bytes (Err Input) r = ⊥

@@ -3,10 +3,9 @@ use Rattle.std.proofs.Common.{ℕ, List, ◌∷◌, ◌++◌, ◌≡◌, Some, N
 use Rattle.std.proofs.Common.{subst, ap}
 use Rattle.resb_tree.specs.Tree.{Tree}
 use Rattle.resb_format.specs.Content.{Member, word, pairs}
-use Rattle.resb_format.specs.Denotes.{DenMember, den_word}
-use Rattle.resb_format.specs.Denotes.{den_unit, DenEach, each_none, each_more}
+use Rattle.resb_format.specs.Denotes.{DenMember, den_word, den_unit, DenEach, each_none, each_more}
 use Rattle.resb_format.specs.Denotes.{DenPairs, pairs_none, pairs_more}
-use Rattle.resb_format.specs.HeadChecks.{Refusal}
+use Rattle.resb_format.specs.Error.{Refusal}
 use Rattle.resb_format.specs.Parts.{Parts}
 use Rattle.resb_format.specs.Strings.{key_at}
 use Rattle.resb_walk.specs.Damage.{key_damage}

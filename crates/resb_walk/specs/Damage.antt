@@ -5,7 +5,7 @@
 --     content_damage p w      where nothing stands at the word w
 use Rattle.std.specs.Prelude.{◌≡◌, ◌==◌, ◌||◌, ◌/◌, ◌%◌, ◌^◌, nat_lt, ℕ, List, length, drop, Bool}
 use Rattle.std.specs.Prelude.{is_some, codes, if◌then◌else◌}
-use Rattle.resb_format.specs.HeadChecks.{Refusal, invalid, unsupported, end_of_input, refusal_of}
+use Rattle.resb_format.specs.Error.{Refusal, invalid, unsupported, end_of_input, refusal_of}
 use Rattle.resb_format.specs.Parts.{Parts}
 use Rattle.resb_format.specs.Types as types
 use Rattle.resb_format.specs.StringFaults.{string_fault}

@@ -7,7 +7,6 @@ pub use Rattle.resb_format.specs.Types
 pub use Rattle.resb_format.specs.Content
 pub use Rattle.resb_format.specs.Denotes
 pub use Rattle.resb_format.specs.Error
-pub use Rattle.resb_format.specs.HeadChecks
 pub use Rattle.resb_format.specs.StringFaults
 pub use Rattle.resb_tree.specs.Tree
 pub use Rattle.resb_tree.specs.View

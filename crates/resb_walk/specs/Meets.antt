@@ -5,7 +5,7 @@ use Rattle.std.specs.Prelude.{◌≡◌, ℕ, List, ◌∷◌, ◌++◌, Some, N
 use Rattle.resb_tree.specs.Tree.{Tree}
 use Rattle.resb_format.specs.Content.{Member, word, unit, list, pairs, content}
 use Rattle.resb_format.specs.Denotes.{DenEach, DenPairs}
-use Rattle.resb_format.specs.HeadChecks.{Refusal, refusal_of}
+use Rattle.resb_format.specs.Error.{Refusal, refusal_of}
 use Rattle.resb_format.specs.Parts.{Parts}
 use Rattle.resb_format.specs.Strings.{text_at, key_at}
 use Rattle.resb_format.specs.declared.error.ReadingError.{ReadingError}

@@ -5,7 +5,7 @@ ghost use Rattle.resb_tree.specs.Tree.{Tree};
 ghost use Rattle.resb_format.specs.Parts.{Parts};
 ghost use Rattle.resb_format.specs.Content as at;
 ghost use Rattle.resb_format.specs.Denotes.{DenMember};
-ghost use Rattle.resb_format.specs.HeadChecks.{refusal_of};
+ghost use Rattle.resb_format.specs.Error.{refusal_of};
 ghost use Rattle.resb_walk.specs.Files.{parts_in};
 ghost use Rattle.resb_walk.specs.Inner.Frames.{Opened, Waits};
 ghost use Rattle.resb_walk.specs.Meets.{Meets};

@@ -4,11 +4,11 @@ ghost use Rattle.std.specs.Prelude.{◌≡◌, ◌≢◌, ◌<◌, ◌^◌, posi
 ghost use Rattle.std.specs.Prelude.{MatchResult, IfErr, IfSome};
 ghost use Rattle.resb_format.specs.Bytes.{units_of};
 ghost use Rattle.resb_format.specs.Strings.{text_at, key_at};
-ghost use Rattle.resb_format.specs.Codes.{type_number};
+ghost use Rattle.resb_format.specs.Descriptor.{type_number};
 ghost use Rattle.resb_format.specs.Types.{is_read_type};
 ghost use Rattle.resb_format.specs.Content as at;
 ghost use Rattle.resb_format.specs.Content.{content};
-ghost use Rattle.resb_format.specs.HeadChecks as checks;
+ghost use Rattle.resb_format.specs.Error as reading;
 ghost use Rattle.resb_walk.specs.Damage as damage;
 ghost use Rattle.resb_walk.specs.Damage.{Says, text_damage, key_damage, content_damage};
 ghost use Rattle.resb_walk.specs.Files.{parts_in};
@@ -153,7 +153,7 @@ impl<'a> File<'a> {
         ensures stands { let p = parts_in self.entry in
             MatchResult result (λ s. at.binary_at p value ≡ Some (content_of s))
             (λ e. (at.binary_at p value ≡ None) × IsFault e) }
-        ensures says { IfErr result (Says checks.end_of_input) }
+        ensures says { IfErr result (Says reading.end_of_input) }
     {
         let Some(count) = some_word(self.body, value) else {
             return Err(past_end());
@@ -170,7 +170,7 @@ impl<'a> File<'a> {
         ensures stands { let p = parts_in self.entry in
             MatchResult result (λ s. at.int_vector_at p value ≡ Some (content_of s))
             (λ e. (at.int_vector_at p value ≡ None) × IsFault e) }
-        ensures says { IfErr result (Says checks.end_of_input) }
+        ensures says { IfErr result (Says reading.end_of_input) }
     {
         let Some(count) = some_word(self.body, value) else {
             return Err(past_end());
@@ -187,7 +187,7 @@ impl<'a> File<'a> {
         ensures stands { let p = parts_in self.entry in
             MatchResult result (λ s. at.array_at p value ≡ Some (content_of s))
             (λ e. (at.array_at p value ≡ None) × IsFault e) }
-        ensures says { IfErr result (Says checks.end_of_input) }
+        ensures says { IfErr result (Says reading.end_of_input) }
     {
         let Some(count) = some_word(self.body, value) else {
             return Err(past_end());
@@ -204,7 +204,7 @@ impl<'a> File<'a> {
         ensures stands { let p = parts_in self.entry in
             MatchResult result (λ s. at.array16_at p value ≡ Some (content_of s))
             (λ e. (at.array16_at p value ≡ None) × IsFault e) }
-        ensures says { IfErr result (Says checks.end_of_input) }
+        ensures says { IfErr result (Says reading.end_of_input) }
     {
         let Some(count) = some_unit(self.block, value) else {
             return Err(past_end());
@@ -221,7 +221,7 @@ impl<'a> File<'a> {
         ensures stands { let p = parts_in self.entry in
             MatchResult result (λ s. at.table_at p value ≡ Some (content_of s))
             (λ e. (at.table_at p value ≡ None) × IsFault e) }
-        ensures says { IfErr result (Says checks.end_of_input) }
+        ensures says { IfErr result (Says reading.end_of_input) }
     {
         let Some(count) = some_unit(self.body, 2 * value) else {
             return Err(past_end());
@@ -245,7 +245,7 @@ impl<'a> File<'a> {
         ensures stands { let p = parts_in self.entry in
             MatchResult result (λ s. at.table16_at p value ≡ Some (content_of s))
             (λ e. (at.table16_at p value ≡ None) × IsFault e) }
-        ensures says { IfErr result (Says checks.end_of_input) }
+        ensures says { IfErr result (Says reading.end_of_input) }
     {
         let Some(count) = some_unit(self.block, value) else {
             return Err(past_end());
@@ -269,7 +269,7 @@ impl<'a> File<'a> {
         ensures stands { let p = parts_in self.entry in
             MatchResult result (λ s. at.table32_at p value ≡ Some (content_of s))
             (λ e. (at.table32_at p value ≡ None) × IsFault e) }
-        ensures says { IfErr result (Says checks.end_of_input) }
+        ensures says { IfErr result (Says reading.end_of_input) }
     {
         let Some(count) = some_word(self.body, value) else {
             return Err(past_end());

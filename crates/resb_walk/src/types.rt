@@ -1,7 +1,7 @@
 //! The type and the value in a descriptor's word, and which types are read.
 //! What stands at the value is found in `standing`.
 ghost use Rattle.std.specs.Prelude.{◌≡◌, ◌/◌, ◌%◌, ◌^◌, ◌<◌, IfOk, IfErr, true, false};
-ghost use Rattle.resb_format.specs.Codes.{type_number};
+ghost use Rattle.resb_format.specs.Descriptor.{type_number};
 ghost use Rattle.resb_format.specs.Types.{is_read_type};
 ghost use Rattle.resb_walk.specs.Damage.{Says, type_damage};
 ghost use Rattle.resb_walk.specs.Refusals.{IsFault};

@@ -1,7 +1,7 @@
 //! Puts the file together: the header, the root's word and the index around the blocks.
 //! What the blocks hold is said in `key_block` and by those who plan and lay.
 ghost use Rattle.std.specs.Prelude.{◌≡◌, ◌++◌, ◌^◌, ◌<◌, ℕ, slice_index, IfOk, OnOk};
-ghost use Rattle.resb_format.specs.Head.{index_words};
+ghost use Rattle.resb_head.specs.Head.{index_words};
 ghost use Rattle.resb_layout.specs.Laid.{halves};
 ghost use Rattle.resb_write.specs.WrittenHead.{written_header};
 ghost use Rattle.resb_write.specs.Written.{even};
@@ -9,7 +9,7 @@ ghost use Rattle.resb_write.specs.Inner.Files.{index_words_of, file_with, FitsFi
 
 use crate::key_block::{KEYS_START, append_block, block_length};
 use resb_bodies::Bodies;
-use resb_format::{BinHeader, BinIndex, BinReprInfo, CharsetFamily, Endianness, FormatVersion};
+use resb_head::{BinHeader, BinIndex, BinReprInfo, CharsetFamily, Endianness, FormatVersion};
 use resb_tree::NoMemory;
 use std::alloc::{AllocError, Global};
 

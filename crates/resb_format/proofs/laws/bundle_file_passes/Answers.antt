@@ -1,5 +1,0 @@
-use Rattle.resb_format.proofs.FileSteps.{bundle_file_passes}
-use Rattle.resb_format.proofs.laws.bundle_file_passes.Goals as goal
-
-pub returns : goal.returns
-returns c = bundle_file_passes

@@ -1,5 +1,0 @@
-use Rattle.resb_format.proofs.Passing.{header_passes}
-use Rattle.resb_format.proofs.laws.header_passes.Goals as goal
-
-pub returns : goal.returns
-returns c = header_passes

@@ -1,5 +1,0 @@
-use Rattle.resb_format.proofs.IndexSurvival.{index_survives}
-use Rattle.resb_format.proofs.laws.index_survives.Goals as goal
-
-pub returns : goal.returns
-returns c = index_survives

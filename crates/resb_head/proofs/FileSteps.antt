@@ -1,0 +1,308 @@
+-- Which check of a whole file is the first that fails, and what holds where none does.
+use Rattle.std.proofs.Common.{ℕ, zero, suc, List, [], ◌∷◌, ◌++◌, ◌≡◌, ◌+◌, ◌-◌, ◌*◌, ◌≤◌, ◌<◌, ◌⊎◌}
+use Rattle.std.proofs.Common.{inl, inr, length, take, drop, min, Bool, true, false, ◌&&◌, nat_le}
+use Rattle.std.proofs.Common.{nat_eq, Some, None, refl, sym, ap, subst, ◌∙◌, arith, get_or}
+use Rattle.std.proofs.Common.{codes, slice_range, length-drop, if◌then◌else◌}
+use Rattle.std.proofs.lemmas.Bool.Decides.{nat_tests}
+use Rattle.std.proofs.lemmas.List.{get_or-drop, drop-take}
+use Rattle.std.proofs.lemmas.Slice.Eq.{bytes_eq-Decides}
+use Rattle.resb_format.specs.Bytes.{words_of, unit_in}
+use Rattle.resb_format.specs.Error.{IsInvalid, Refusal, refusal_of}
+use Rattle.resb_format.specs.Parts.{IsBundleFile, body_of, header_size}
+use Rattle.resb_format.specs.declared.error.ReadingError.{ReadingError}
+use Rattle.resb_head.specs.Laws.{IsHeader, BundleFilePasses}
+use Rattle.resb_head.specs.HeadChecks.{first_fault, header_checks, header_fault, index_checks}
+use Rattle.resb_head.specs.HeadChecks.{index_fault, support_checks, block_checks, body_checks}
+use Rattle.resb_head.specs.HeadChecks.{file_checks, file_fault}
+use Rattle.resb_head.proofs.HeadSteps.{le_true, le_false}
+use Rattle.resb_head.proofs.IndexSteps.{index_holds}
+use Rattle.resb_head.proofs.SupportSteps.{support_holds}
+use Rattle.resb_head.proofs.Passing.{le_is, passed, header_passes, behind}
+
+-- checks in a row: the first ones answer, or else the later ones
+pub first_fault-none : (cs bs : List (Bool × Refusal)) → first_fault cs ≡ None
+    → first_fault (cs ++ bs) ≡ first_fault bs
+first_fault-none [] bs e = refl
+first_fault-none ((true, f) ∷ cs) bs e = first_fault-none cs bs e
+first_fault-none ((false, f) ∷ cs) bs e = cc
+
+pub first_fault-some : (cs bs : List (Bool × Refusal)) (g : Refusal) → first_fault cs ≡ Some g
+    → first_fault (cs ++ bs) ≡ Some g
+first_fault-some [] bs g e = cc
+first_fault-some ((true, f) ∷ cs) bs g e = first_fault-some cs bs g e
+first_fault-some ((false, f) ∷ cs) bs g e = e
+
+-- where none of all fails, none of the first ones does
+pub first_fault-both : (cs bs : List (Bool × Refusal)) → first_fault (cs ++ bs) ≡ None
+    → (first_fault cs ≡ None) × (first_fault bs ≡ None)
+first_fault-both [] bs e = (refl, e)
+first_fault-both ((true, f) ∷ cs) bs e = first_fault-both cs bs e
+first_fault-both ((false, f) ∷ cs) bs e = cc
+
+-- the words of a body without its first
+words_behind : (bs : List ℕ) → words_of (drop 4 bs) ≡ drop 1 (words_of bs)
+unfolding words_of
+words_behind [] = refl
+words_behind (a ∷ []) = refl
+words_behind (a ∷ b ∷ []) = refl
+words_behind (a ∷ b ∷ c ∷ []) = refl
+words_behind (a ∷ b ∷ c ∷ d ∷ bs) = refl
+
+-- a word of the index is the next one of the body
+pub field_behind : (body : List ℕ) (i : ℕ)
+    → get_or (words_of (drop 4 body)) i 0 ≡ get_or (words_of body) (1 + i) 0
+field_behind body i =
+    ap (λ ws. get_or ws i 0) (words_behind body) ∙ get_or-drop 1 (words_of body) i 0
+
+-- the checks of the blocks
+pub keys_past : (body : List ℕ) (e : ReadingError) → length body < 4 * get_or (words_of body) 2 0
+    → IsInvalid e (codes "unexpected end of input")
+    → first_fault (block_checks body) ≡ Some (refusal_of e)
+unfolding block_checks
+keys_past body e h r =
+    rw (le_false (4 * get_or (words_of body) 2 0) (length body) h, r.kind_is, r.message_is) refl
+
+pub end_missing : (body : List ℕ) (e : ReadingError) → 4 * get_or (words_of body) 2 0 ≤ length body
+    → get_or (words_of body) 1 0 < 7
+    → IsInvalid e (codes "offset to the end of 16-bit data not specified")
+    → first_fault (block_checks body) ≡ Some (refusal_of e)
+unfolding block_checks
+end_missing body e h k r =
+    rw (
+      le_true (4 * get_or (words_of body) 2 0) (length body) h,
+      le_false 7 (get_or (words_of body) 1 0) k,
+      r.kind_is,
+      r.message_is,
+    ) refl
+
+both_false : (a b c d : ℕ) → (b < a) ⊎ (d < c) → (nat_le a b && nat_le c d) ≡ false
+both_false a b c d (inl h) = rw (le_false a b h) refl
+both_false a b c d (inr h) = grind (arith, nat_tests)
+
+both_true : (a b c d : ℕ) → a ≤ b → c ≤ d → (nat_le a b && nat_le c d) ≡ true
+both_true a b c d h k = rw (le_true a b h, le_true c d k) refl
+
+both_are : (a b c d : ℕ) → (nat_le a b && nat_le c d) ≡ true → (a ≤ b) × (c ≤ d)
+both_are a b c d e = (grind (arith, nat_tests), grind (arith, nat_tests))
+
+pub block_past : (body : List ℕ) (e : ReadingError) → 4 * get_or (words_of body) 2 0 ≤ length body
+    → 7 ≤ get_or (words_of body) 1 0
+    → (get_or (words_of body) 7 0 < get_or (words_of body) 2 0)
+    ⊎ (length body < 4 * get_or (words_of body) 7 0)
+    → IsInvalid e (codes "unexpected end of input")
+    → first_fault (block_checks body) ≡ Some (refusal_of e)
+unfolding block_checks
+block_past body e h k l r =
+    rw (
+      le_true (4 * get_or (words_of body) 2 0) (length body) h,
+      le_true 7 (get_or (words_of body) 1 0) k,
+      both_false (get_or (words_of body) 2 0) (get_or (words_of body) 7 0)
+          (4 * get_or (words_of body) 7 0) (length body) l,
+      r.kind_is,
+      r.message_is,
+    ) refl
+
+pub blocks_hold : (body : List ℕ) → 4 * get_or (words_of body) 2 0 ≤ length body
+    → 7 ≤ get_or (words_of body) 1 0
+    → get_or (words_of body) 2 0 ≤ get_or (words_of body) 7 0
+    → 4 * get_or (words_of body) 7 0 ≤ length body → first_fault (block_checks body) ≡ None
+unfolding block_checks
+blocks_hold body h k l m =
+    rw (
+      le_true (4 * get_or (words_of body) 2 0) (length body) h,
+      le_true 7 (get_or (words_of body) 1 0) k,
+      both_true (get_or (words_of body) 2 0) (get_or (words_of body) 7 0)
+          (4 * get_or (words_of body) 7 0) (length body) l m,
+    ) refl
+
+-- an optional word is there exactly where the count asks for it
+pub no_field : (n x : ℕ) → (if nat_le 7 n then Some x else None) ≡ None → n < 7
+no_field n x e = grind (arith, nat_tests)
+
+pub some_field : (n v x : ℕ) → (if nat_le 7 n then Some v else None) ≡ Some x → (7 ≤ n) × (v ≡ x)
+some_field n v x e = (grind (arith, nat_tests), grind (arith, nat_tests))
+
+-- the checks of a body
+pub root_missing : (body : List ℕ) (e : ReadingError) → length body < 4
+    → IsInvalid e (codes "unexpected end of input")
+    → first_fault (body_checks body) ≡ Some (refusal_of e)
+unfolding body_checks
+root_missing body e h r = rw (le_false 4 (length body) h, r.kind_is, r.message_is) refl
+
+pub index_answers : (body : List ℕ) (g : Refusal) → 4 ≤ length body
+    → index_fault (drop 4 body) ≡ Some g → first_fault (body_checks body) ≡ Some g
+unfolding body_checks index_fault
+index_answers body g h e =
+    rw (le_true 4 (length body) h)
+    (first_fault-some (index_checks (drop 4 body)) (block_checks body) g e)
+
+pub blocks_answer : (body : List ℕ) → 4 ≤ length body → index_fault (drop 4 body) ≡ None
+    → first_fault (body_checks body) ≡ first_fault (block_checks body)
+unfolding body_checks index_fault
+blocks_answer body h e =
+    rw (le_true 4 (length body) h)
+    (first_fault-none (index_checks (drop 4 body)) (block_checks body) e)
+
+-- the parts of a body, cut out of it
+pub take_inside : (body : List ℕ) (k b : ℕ) → k ≤ b → take k (take b body) ≡ take k body
+take_inside body zero b h = refl
+take_inside body (suc k) zero h = absurd (omega arith)
+take_inside [] (suc k) (suc b) h = refl
+take_inside (x ∷ body) (suc k) (suc b) h = ap (λ xs. x ∷ xs) (take_inside body k b (omega arith))
+
+pub drop_inside : (body : List ℕ) (k b : ℕ) → k ≤ b
+    → drop (4 * k) (take (4 * b) body) ≡ take (4 * (b - k)) (drop (4 * k) body)
+drop_inside body k b h =
+    let e : 4 * b ≡ 4 * k + 4 * (b - k) = omega arith in
+    ap (λ n. drop (4 * k) (take n body)) e ∙ drop-take (4 * k) (4 * (b - k)) body
+
+-- no more bytes than there are
+pub drop_min : (xs : List ℕ) (n : ℕ) → drop (min (length xs) n) xs ≡ drop n xs
+drop_min [] n = nothing (min 0 n) n
+  where
+    nothing : (a b : ℕ) → drop {A = ℕ} a [] ≡ drop b []
+    nothing zero zero = refl
+    nothing zero (suc b) = refl
+    nothing (suc a) zero = refl
+    nothing (suc a) (suc b) = refl
+drop_min (x ∷ xs) zero = let e : min (suc (length xs)) 0 ≡ 0 = omega arith in rw e refl
+drop_min (x ∷ xs) (suc n) =
+    let e : min (suc (length xs)) (suc n) ≡ suc (min (length xs) n) = omega arith in
+    rw e (drop_min xs n)
+
+-- the checks of a file
+pub header_answers : (bytes : List ℕ) (g : Refusal) → header_fault false bytes ≡ Some g
+    → file_fault bytes ≡ Some g
+unfolding file_fault file_checks header_fault
+header_answers bytes g e =
+    first_fault-some (header_checks false bytes)
+    (support_checks (drop 4 bytes) ++ body_checks (body_of bytes)) g e
+
+pub support_answers : (bytes : List ℕ) (g : Refusal) → header_fault false bytes ≡ None
+    → first_fault (support_checks (drop 4 bytes)) ≡ Some g → file_fault bytes ≡ Some g
+unfolding file_fault file_checks header_fault
+support_answers bytes g h e =
+    first_fault-none (header_checks false bytes)
+    (support_checks (drop 4 bytes) ++ body_checks (body_of bytes)) h
+    ∙ first_fault-some (support_checks (drop 4 bytes)) (body_checks (body_of bytes)) g e
+
+pub body_answers : (bytes : List ℕ) → header_fault false bytes ≡ None
+    → first_fault (support_checks (drop 4 bytes)) ≡ None
+    → file_fault bytes ≡ first_fault (body_checks (body_of bytes))
+unfolding file_fault file_checks header_fault
+body_answers bytes h e =
+    first_fault-none (header_checks false bytes)
+    (support_checks (drop 4 bytes) ++ body_checks (body_of bytes)) h
+    ∙ first_fault-none (support_checks (drop 4 bytes)) (body_checks (body_of bytes)) e
+
+-- a header that is read stands in little-endian order
+pub size_is : (bytes : List ℕ) → header_fault false bytes ≡ None
+    → unit_in (nat_eq (get_or bytes 8 0) 1) bytes 0 ≡ header_size bytes
+size_is bytes e =
+    let z : get_or bytes 8 0 ≡ 0 = ((header_passes false bytes).0 e).own_endianness refl in
+    rw z refl
+
+eq_is : (a b : ℕ) → nat_eq a b ≡ true → a ≡ b
+eq_is a b h = grind (arith, nat_tests)
+
+record IsBody (body : List ℕ) : Type 0 where
+  fields : 7 ≤ get_or (words_of body) 1 0
+  index_inside : 4 * (1 + min (get_or (words_of body) 1 0) 8) ≤ length body
+  keys_inside : 4 * get_or (words_of body) 2 0 ≤ length body
+  blocks_ordered : get_or (words_of body) 2 0 ≤ get_or (words_of body) 7 0
+  block_inside : 4 * get_or (words_of body) 7 0 ≤ length body
+
+a_body : (body : List ℕ) → first_fault (body_checks body) ≡ None → IsBody body
+unfolding body_checks index_checks block_checks
+a_body body e =
+    let p = passed (body_checks body) e in
+    let c : get_or (words_of (drop 4 body)) 0 0 ≡ get_or (words_of body) 1 0 =
+    field_behind body 0 in
+    let l : length (drop 4 body) ≡ length body - 4 = length-drop 4 body in
+    let inside = le_is (4 * min (get_or (words_of (drop 4 body)) 0 0) 8) (length (drop 4 body))
+    p.1.1.1.0 in
+    let few = le_is 5 (get_or (words_of (drop 4 body)) 0 0) p.1.1.0 in
+    let ends = both_are (get_or (words_of body) 2 0) (get_or (words_of body) 7 0)
+    (4 * get_or (words_of body) 7 0) (length body) p.1.1.1.1.1.1.0 in
+    record {
+      fields = le_is 7 (get_or (words_of body) 1 0) p.1.1.1.1.1.0;
+      index_inside = omega (arith, c, l, inside, few);
+      keys_inside = le_is (4 * get_or (words_of body) 2 0) (length body) p.1.1.1.1.0;
+      blocks_ordered = ends.0;
+      block_inside = ends.1;
+    }
+
+body_holds : (body : List ℕ) → IsBody body → first_fault (body_checks body) ≡ None
+body_holds body b =
+    let c : get_or (words_of body) 1 0 ≡ get_or (words_of (drop 4 body)) 0 0 =
+    sym (field_behind body 0) in
+    let l : length (drop 4 body) ≡ length body - 4 = length-drop 4 body in
+    let f : 7 ≤ get_or (words_of body) 1 0 = b.fields in
+    let i : 4 * (1 + min (get_or (words_of body) 1 0) 8) ≤ length body = b.index_inside in
+    blocks_answer body (omega arith)
+    (index_holds (drop 4 body) (get_or (words_of body) 1 0) c (omega arith) (omega arith)
+    (omega arith))
+    ∙ blocks_hold body b.keys_inside b.fields b.blocks_ordered b.block_inside
+
+passes_is : (bytes : List ℕ) → file_fault bytes ≡ None → IsBundleFile bytes
+unfolding file_fault file_checks support_checks header_fault
+passes_is bytes e =
+    let parts = first_fault-both (header_checks false bytes)
+    (support_checks (drop 4 bytes) ++ body_checks (body_of bytes)) e in
+    let later = first_fault-both (support_checks (drop 4 bytes)) (body_checks (body_of bytes))
+    parts.1 in
+    let h : IsHeader false bytes = (header_passes false bytes).0 parts.0 in
+    let p = passed (support_checks (drop 4 bytes)) later.0 in
+    let b = a_body (body_of bytes) later.1 in
+    let f5 : get_or (drop 4 bytes) 5 0 ≡ get_or bytes 9 0 = get_or-drop 4 bytes 5 0 in
+    let f6 : get_or (drop 4 bytes) 6 0 ≡ get_or bytes 10 0 = get_or-drop 4 bytes 6 0 in
+    let l : length (body_of bytes) ≡ length bytes - header_size bytes =
+    length-drop (header_size bytes) bytes in
+    let s : 24 ≤ header_size bytes = subst (λ n. 24 ≤ n) (size_is bytes parts.0) h.size in
+    record {
+      magic = h.magic;
+      little_endian = h.own_endianness refl;
+      ascii = sym f5 ∙ eq_is (get_or (drop 4 bytes) 5 0) 0 p.0;
+      two_byte_chars = sym f6 ∙ eq_is (get_or (drop 4 bytes) 6 0) 2 p.1.0;
+      format = h.format;
+      version =
+          sym (behind bytes 12 16)
+          ∙ (bytes_eq-Decides (slice_range (drop 4 bytes) 12 16) (2 ∷ 0 ∷ 0 ∷ 0 ∷ [])).0 p.1.1.0;
+      header = s;
+      header_inside = omega (arith, l, b.index_inside);
+      fields = b.fields;
+      index_inside = b.index_inside;
+      keys_inside = b.keys_inside;
+      blocks_ordered = b.blocks_ordered;
+      block_inside = b.block_inside;
+    }
+
+is_passes : (bytes : List ℕ) → IsBundleFile bytes → file_fault bytes ≡ None
+is_passes bytes f =
+    let z : get_or bytes 8 0 ≡ 0 = f.little_endian in
+    let s : unit_in (nat_eq (get_or bytes 8 0) 1) bytes 0 ≡ header_size bytes = rw z refl in
+    let h : IsHeader false bytes = record {
+      long = omega (arith, f.header, f.header_inside);
+      magic = f.magic;
+      known_endianness = omega arith;
+      own_endianness = λ _. z;
+      known_charset = omega (arith, f.ascii);
+      format = f.format;
+      version = rw f.version refl;
+      size = omega (arith, s, f.header);
+    } in
+    let f5 : get_or (drop 4 bytes) 5 0 ≡ get_or bytes 9 0 = get_or-drop 4 bytes 5 0 in
+    let f6 : get_or (drop 4 bytes) 6 0 ≡ get_or bytes 10 0 = get_or-drop 4 bytes 6 0 in
+    body_answers bytes ((header_passes false bytes).1 h)
+    (support_holds (drop 4 bytes) (f5 ∙ f.ascii) (f6 ∙ f.two_byte_chars)
+    (behind bytes 12 16 ∙ f.version))
+    ∙ body_holds (body_of bytes) (record {
+      fields = f.fields;
+      index_inside = f.index_inside;
+      keys_inside = f.keys_inside;
+      blocks_ordered = f.blocks_ordered;
+      block_inside = f.block_inside;
+    })
+
+pub bundle_file_passes : BundleFilePasses
+bundle_file_passes bytes = (passes_is bytes, is_passes bytes)

@@ -1,0 +1,228 @@
+-- An index is read back as it was written, and written back as it was read.
+use Rattle.std.proofs.Common.{ℕ, suc, List, [], ◌∷◌, ◌++◌, ◌≡◌, ◌+◌, ◌*◌, ◌<◌, ◌≤◌, length, take}
+use Rattle.std.proofs.Common.{min, true, false, nat_le, Option, Some, None, Result, Ok, Err, refl}
+use Rattle.std.proofs.Common.{sym, ap, ◌∙◌, arith, get_or, append-nil, length-append, ◌⊎◌, inl, inr}
+use Rattle.std.proofs.Common.{if◌then◌else◌}
+use Rattle.std.specs.Option.{is_some, option_to_list}
+use Rattle.std.specs.List.{flat_map}
+use Rattle.std.specs.Int.{to_le_bytes, w32}
+use Rattle.std.proofs.Math.Seq.{take-suc}
+use Rattle.std.proofs.lemmas.Bool.Decides.{nat_tests}
+use Rattle.std.proofs.Props.{props}
+use mathlib.Core.HLevel.{Σ_prop_path}
+use Rattle.resb_format.specs.Bytes.{words_of}
+use Rattle.resb_format.specs.Laws.{EachFits}
+use Rattle.resb_format.specs.declared.error.ReadingError.{ReadingError}
+use Rattle.resb_format.proofs.Spelled.{words_length}
+use Rattle.resb_format.proofs.WordsBack.{words_back, written_length, bytes_back}
+use Rattle.resb_head.specs.Laws.{IndexSurvives}
+use Rattle.resb_head.specs.Head.{IndexAt, field, index_words, index_bytes}
+use Rattle.resb_head.specs.HeadChecks.{index_fault}
+use Rattle.resb_head.specs.HeadReading.{ReadsIndex}
+use Rattle.resb_head.specs.declared.index.BinIndex.{BinIndex}
+use Rattle.resb_head.proofs.HeadSteps.{le_true, le_false}
+use Rattle.resb_head.proofs.IndexSteps.{index_holds}
+
+-- one field more, where the count asks for it
+more_yes : (ws : List ℕ) (n k : ℕ) → k + 1 ≤ n → k + 1 ≤ length ws
+    → take (min n (k + 1)) ws ≡ take (min n k) ws ++ get_or ws k 0 ∷ []
+more_yes ws n k h l =
+    let e : min n (k + 1) ≡ suc k = omega arith in
+    let f : min n k ≡ k = omega arith in
+    let g : k < length ws = omega arith in
+    rw (e, f) (take-suc ws k 0 g)
+
+more_no : (ws : List ℕ) (n k : ℕ) → n ≤ k → take (min n (k + 1)) ws ≡ take (min n k) ws ++ []
+more_no ws n k h =
+    let e : min n (k + 1) ≡ n = omega arith in
+    let f : min n k ≡ n = omega arith in
+    rw (e, f) (sym (append-nil (take n ws)))
+
+one_more : (ws : List ℕ) (n k : ℕ) → min n (k + 1) ≤ length ws
+    → take (min n (k + 1)) ws ≡ take (min n k) ws
+    ++ option_to_list (if nat_le (k + 1) n then Some (get_or ws k 0) else None)
+one_more ws n k l = elim (le_cases (k + 1) n) [
+  | inl h ↦ rw (le_true (k + 1) n h) (more_yes ws n k h (omega arith))
+  | inr h ↦ rw (le_false (k + 1) n h) (more_no ws n k (omega arith))
+]
+  where
+    le_cases : (a b : ℕ) → (a ≤ b) ⊎ (b < a)
+    le_cases a b =
+        elim (nat_le a b) as (λ t. nat_le a b ≡ t → (a ≤ b) ⊎ (b < a)) [
+          | true ↦ (λ e. inl (grind (arith, nat_tests)))
+          | false ↦ (λ e. inr (grind (arith, nat_tests)))
+        ] refl
+
+-- the five fields that are always there
+five : (ws : List ℕ) (n : ℕ) → n ≡ get_or ws 0 0 → 5 ≤ length ws
+    → take 5 ws ≡ n ∷ get_or ws 1 0 ∷ get_or ws 2 0 ∷ get_or ws 3 0 ∷ get_or ws 4 0 ∷ []
+five [] n q h = absurd (omega arith)
+five (a ∷ []) n q h = absurd (omega arith)
+five (a ∷ b ∷ []) n q h = absurd (omega arith)
+five (a ∷ b ∷ c ∷ []) n q h = absurd (omega arith)
+five (a ∷ b ∷ c ∷ d ∷ []) n q h = absurd (omega arith)
+five (a ∷ b ∷ c ∷ d ∷ e ∷ ws) n q h = ap (λ m. m ∷ b ∷ c ∷ d ∷ e ∷ []) (sym q)
+
+all_words : (ws : List ℕ) (n : ℕ) → n ≡ get_or ws 0 0 → 5 ≤ n → min n 8 ≤ length ws
+    → take (min n 8) ws ≡ n ∷ get_or ws 1 0 ∷ get_or ws 2 0 ∷ get_or ws 3 0 ∷ get_or ws 4 0 ∷ []
+    ++ option_to_list (if nat_le 6 n then Some (get_or ws 5 0) else None)
+    ++ option_to_list (if nat_le 7 n then Some (get_or ws 6 0) else None)
+    ++ option_to_list (if nat_le 8 n then Some (get_or ws 7 0) else None)
+all_words ws n q h l =
+    let e : min n 5 ≡ 5 = omega arith in
+    one_more ws n 7 (omega arith)
+    ∙ ap (λ xs. xs ++ option_to_list (if nat_le 8 n then Some (get_or ws 7 0) else None))
+    (one_more ws n 6 (omega arith)
+    ∙ ap (λ xs. xs ++ option_to_list (if nat_le 7 n then Some (get_or ws 6 0) else None))
+    (one_more ws n 5 (omega arith)
+    ∙ ap (λ xs. xs ++ option_to_list (if nat_le 6 n then Some (get_or ws 5 0) else None))
+    (ap (λ k. take k ws) e ∙ five ws n q (omega arith))))
+
+-- what was read is written as it stood
+same_words : (bs : List ℕ) (i : BinIndex) → IndexAt i bs
+    → index_words i ≡ take (min i.field_count 8) (words_of bs)
+same_words bs i a =
+    let l : min i.field_count 8 ≤ length (words_of bs) = omega (arith, a.inside, words_length bs) in
+    rw (
+      a.bundle_attributes,
+      a.data_16_bit_end,
+      a.pool_checksum,
+      a.keys_end,
+      a.resources_end,
+      a.bundle_end,
+      a.largest_table_entry_count,
+    )
+    (sym (all_words (words_of bs) i.field_count a.field_count i.enough l))
+
+written_back : (bs : List ℕ) (i : BinIndex) → EachFits 8 bs → ReadsIndex bs (Ok i)
+    → index_bytes i ≡ take (4 * min i.field_count 8) bs
+written_back bs i fits h =
+    ap (flat_map (to_le_bytes w32)) (same_words bs i h.1)
+    ∙ bytes_back bs (min i.field_count 8) fits h.1.inside
+
+-- what was written has as many words as the count asks for
+one_count : (o : Option ℕ) (n k : ℕ) → is_some o ≡ nat_le (k + 1) n
+    → length (option_to_list o) + min n k ≡ min n (k + 1)
+one_count None n k e = grind (arith, nat_tests)
+one_count (Some x) n k e = grind (arith, nat_tests)
+
+words_count : (i : BinIndex) → length (index_words i) ≡ min i.field_count 8
+words_count i =
+    let front : List ℕ = i.field_count ∷ i.keys_end ∷ i.resources_end ∷ i.bundle_end
+    ∷ i.largest_table_entry_count ∷ [] in
+    let a = one_count i.bundle_attributes i.field_count 5 i.attributes_there in
+    let b = one_count i.data_16_bit_end i.field_count 6 i.end_there in
+    let c = one_count i.pool_checksum i.field_count 7 i.checksum_there in
+    let f = length-append
+    (front ++ option_to_list i.bundle_attributes ++ option_to_list i.data_16_bit_end)
+    (option_to_list i.pool_checksum) in
+    let g = length-append (front ++ option_to_list i.bundle_attributes)
+    (option_to_list i.data_16_bit_end) in
+    let h = length-append front (option_to_list i.bundle_attributes) in
+    omega (arith, a, b, c, f, g, h, i.enough)
+
+abbrev all_fields : (n k r b l : ℕ) → (o p q : Option ℕ) → List ℕ
+all_fields n k r b l o p q =
+    n ∷ k ∷ r ∷ b ∷ l ∷ [] ++ option_to_list o ++ option_to_list p ++ option_to_list q
+
+-- the optional fields are read back
+fields_back : (n k r b l : ℕ) (o p q : Option ℕ) → is_some o ≡ nat_le 6 n → is_some p ≡ nat_le 7 n
+    → is_some q ≡ nat_le 8 n
+    → (let ws = all_fields n k r b l o p q in
+    ((if nat_le 6 n then Some (get_or ws 5 0) else None) ≡ o)
+    × ((if nat_le 7 n then Some (get_or ws 6 0) else None) ≡ p)
+    × ((if nat_le 8 n then Some (get_or ws 7 0) else None) ≡ q))
+fields_back n k r b l None None None e f g = (rw (← e) refl, rw (← f) refl, rw (← g) refl)
+fields_back n k r b l (Some x) None None e f g = (rw (← e) refl, rw (← f) refl, rw (← g) refl)
+fields_back n k r b l (Some x) (Some y) None e f g = (rw (← e) refl, rw (← f) refl, rw (← g) refl)
+fields_back n k r b l (Some x) (Some y) (Some z) e f g =
+    (rw (← e) refl, rw (← f) refl, rw (← g) refl)
+fields_back n k r b l None (Some y) None e f g = absurd (grind (arith, nat_tests))
+fields_back n k r b l None (Some y) (Some z) e f g = absurd (grind (arith, nat_tests))
+fields_back n k r b l None None (Some z) e f g = absurd (grind (arith, nat_tests))
+fields_back n k r b l (Some x) None (Some z) e f g = absurd (grind (arith, nat_tests))
+
+pub none_some : {A : Type 0} {x : A} → None ≡ Some x → ⊥
+none_some e = cc
+
+-- the fields tell an index
+abbrev Values : Type 0
+Values = ℕ × ℕ × ℕ × ℕ × ℕ × Option ℕ × Option ℕ × Option ℕ
+
+abbrev Counted : Values → Type 0
+Counted v =
+    (5 ≤ v.0) × (is_some v.5 ≡ nat_le 6 v.0) × (is_some v.6 ≡ nat_le 7 v.0)
+    × (is_some v.7 ≡ nat_le 8 v.0)
+
+counted_prop : (v : Values) → IsProp (Counted v)
+counted_prop v = hlevel props
+
+abbrev values : BinIndex → Values
+values i = (
+  i.field_count,
+  i.keys_end,
+  i.resources_end,
+  i.bundle_end,
+  i.largest_table_entry_count,
+  i.bundle_attributes,
+  i.data_16_bit_end,
+  i.pool_checksum,
+)
+
+index_apart : (i j : BinIndex) → values i ≡ values j → i ≡ j
+index_apart i j e =
+    let pairs : ◌≡◌ {A = (v : Values) × Counted v}
+    (values i, (i.enough, i.attributes_there, i.end_there, i.checksum_there))
+    (values j, (j.enough, j.attributes_there, j.end_there, j.checksum_there)) =
+    Σ_prop_path counted_prop e in
+    λ t. record {
+      field_count = (pairs t).0.0;
+      keys_end = (pairs t).0.1;
+      resources_end = (pairs t).0.2;
+      bundle_end = (pairs t).0.3;
+      largest_table_entry_count = (pairs t).0.4;
+      bundle_attributes = (pairs t).0.5;
+      data_16_bit_end = (pairs t).0.6;
+      pool_checksum = (pairs t).0.7;
+      enough = (pairs t).1.0;
+      attributes_there = (pairs t).1.1;
+      end_there = (pairs t).1.2;
+      checksum_there = (pairs t).1.3;
+    }
+
+read_back : (i : BinIndex) (r : Result BinIndex ReadingError) → EachFits 32 (index_words i)
+    → ReadsIndex (index_bytes i) r → r ≡ Ok i
+read_back i (Err e) fits h =
+    let w : i.field_count ≡ get_or (words_of (index_bytes i)) 0 0 =
+    ap (λ ws. get_or ws 0 0) (sym (words_back (index_words i) fits)) in
+    let l : length (index_bytes i) ≡ 4 * min i.field_count 8 =
+    written_length (index_words i) ∙ ap (λ n. 4 * n) (words_count i) in
+    let n : index_fault (index_bytes i) ≡ None =
+    index_holds (index_bytes i) i.field_count w (omega (arith, i.enough)) i.enough
+    (omega arith) in
+    absurd (none_some (sym n ∙ h))
+read_back i (Ok j) fits h =
+    let a : IndexAt j (index_bytes i) = h.1 in
+    let w : words_of (index_bytes i) ≡ index_words i = words_back (index_words i) fits in
+    let n : j.field_count ≡ i.field_count = a.field_count ∙ ap (λ ws. get_or ws 0 0) w in
+    let k : j.keys_end ≡ i.keys_end = a.keys_end ∙ ap (λ ws. get_or ws 1 0) w in
+    let x : j.resources_end ≡ i.resources_end = a.resources_end ∙ ap (λ ws. get_or ws 2 0) w in
+    let b : j.bundle_end ≡ i.bundle_end = a.bundle_end ∙ ap (λ ws. get_or ws 3 0) w in
+    let l : j.largest_table_entry_count ≡ i.largest_table_entry_count =
+    a.largest_table_entry_count ∙ ap (λ ws. get_or ws 4 0) w in
+    let f = fields_back i.field_count i.keys_end i.resources_end i.bundle_end
+    i.largest_table_entry_count i.bundle_attributes i.data_16_bit_end i.pool_checksum
+    i.attributes_there i.end_there i.checksum_there in
+    let o : j.bundle_attributes ≡ i.bundle_attributes =
+    a.bundle_attributes ∙ ap (λ m. field (index_bytes i) m 5) n
+    ∙ ap (λ ws. if nat_le 6 i.field_count then Some (get_or ws 5 0) else None) w ∙ f.0 in
+    let p : j.data_16_bit_end ≡ i.data_16_bit_end =
+    a.data_16_bit_end ∙ ap (λ m. field (index_bytes i) m 6) n
+    ∙ ap (λ ws. if nat_le 7 i.field_count then Some (get_or ws 6 0) else None) w ∙ f.1 in
+    let q : j.pool_checksum ≡ i.pool_checksum =
+    a.pool_checksum ∙ ap (λ m. field (index_bytes i) m 7) n
+    ∙ ap (λ ws. if nat_le 8 i.field_count then Some (get_or ws 7 0) else None) w ∙ f.2 in
+    ap Ok (index_apart j i (λ t. (n t, k t, x t, b t, l t, o t, p t, q t)))
+
+pub index_survives : IndexSurvives
+index_survives = record { read_back = read_back; written_back = written_back }

@@ -1,0 +1,11 @@
+-- For crates above: those that are `pub`.
+mod HeadSteps
+mod HeaderSteps
+mod IndexSteps
+mod SupportSteps
+mod Apart
+mod Survival
+mod Passing
+pub mod FileSteps
+mod IndexSurvival
+mod HeaderSurvival

@@ -1,0 +1,39 @@
+-- Which check of what is supported is the first that fails.
+use Rattle.std.proofs.Common.{ℕ, List, [], ◌∷◌, ◌≡◌, ◌≢◌, false, nat_eq, Some, None}
+use Rattle.std.proofs.Common.{refl, arith, get_or, codes, slice_range}
+use Rattle.std.proofs.lemmas.Bool.Decides.{nat_tests}
+use Rattle.resb_format.specs.Error.{IsRefusal, refusal_of}
+use Rattle.resb_format.specs.declared.error.ReadingError.{ReadingError}
+use Rattle.resb_format.specs.declared.error.ErrorKind.TheVariants.{UnsupportedFormat}
+use Rattle.resb_head.specs.HeadChecks.{first_fault, support_checks}
+use Rattle.resb_head.proofs.HeadSteps.{same_false}
+
+eq_false : (a b : ℕ) → a ≢ b → nat_eq a b ≡ false
+eq_false a b h = grind (arith, nat_tests, h)
+
+pub family_fails : (info : List ℕ) (e : ReadingError) → get_or info 5 0 ≢ 0
+    → IsRefusal e UnsupportedFormat (codes "bundle and system character set families do not match")
+    → first_fault (support_checks info) ≡ Some (refusal_of e)
+unfolding support_checks
+family_fails info e h r = rw (eq_false (get_or info 5 0) 0 h, r.kind_is, r.message_is) refl
+
+pub size_fails : (info : List ℕ) (e : ReadingError) → get_or info 5 0 ≡ 0 → get_or info 6 0 ≢ 2
+    → IsRefusal e UnsupportedFormat (codes "characters of size other than 2 are not supported")
+    → first_fault (support_checks info) ≡ Some (refusal_of e)
+unfolding support_checks
+size_fails info e a h r = rw (a, eq_false (get_or info 6 0) 2 h, r.kind_is, r.message_is) refl
+
+pub version_fails : (info : List ℕ) (e : ReadingError) → get_or info 5 0 ≡ 0 → get_or info 6 0 ≡ 2
+    → slice_range info 12 16 ≢ 2 ∷ 0 ∷ 0 ∷ 0 ∷ []
+    → IsRefusal e UnsupportedFormat
+    (codes "format versions other than 2.0 are not supported at this time")
+    → first_fault (support_checks info) ≡ Some (refusal_of e)
+unfolding support_checks
+version_fails info e a b h r =
+    rw (a, b, same_false (slice_range info 12 16) (2 ∷ 0 ∷ 0 ∷ 0 ∷ []) h, r.kind_is, r.message_is)
+    refl
+
+pub support_holds : (info : List ℕ) → get_or info 5 0 ≡ 0 → get_or info 6 0 ≡ 2
+    → slice_range info 12 16 ≡ 2 ∷ 0 ∷ 0 ∷ 0 ∷ [] → first_fault (support_checks info) ≡ None
+unfolding support_checks
+support_holds info a b v = rw (a, b, v) refl

@@ -1,0 +1,117 @@
+-- The checks of a file's head in their order, and what is answered for the first that fails. (ICU's
+-- `udata.h`, `ucmndata.h` and `uresdata.h`.)
+--     header_fault any bytes      for a header; a foreign order of bytes is let through where `any`
+--                                 is true
+--     info_fault bytes            for the representation info, the 20 bytes behind the magic word
+--     index_fault bytes           for an index, the words behind the root's descriptor
+--     file_fault bytes            for a whole file: header, what is supported, index and blocks
+use Rattle.std.specs.Prelude.{ℕ, ◌+◌, ◌*◌, min, List, [], ◌∷◌, ◌++◌, length, drop, Bool, false}
+use Rattle.std.specs.Prelude.{◌||◌, ◌&&◌, nat_le, nat_eq, Option, Some, None, slice_index}
+use Rattle.std.specs.Prelude.{slice_range, codes, if◌then◌else◌}
+use Rattle.std.specs.List.{list_any}
+use Rattle.std.specs.Str.{bytes_eq}
+use Rattle.resb_format.specs.Bytes.{words_of, unit_in}
+use Rattle.resb_format.specs.Parts.{body_of}
+use Rattle.resb_format.specs.Error.{Refusal, invalid, unsupported, end_of_input}
+use Rattle.resb_head.specs.Codes.{version_bytes}
+use Rattle.resb_head.specs.declared.version.FormatVersion.TheVariants.{V1_0, V1_1, V1_2, V1_3}
+use Rattle.resb_head.specs.declared.version.FormatVersion.TheVariants.{V2_0, V3_0}
+
+-- the fault of the first check that fails; a check is a test and the fault where it fails
+abbrev pub first_fault : List (Bool × Refusal) → Option Refusal
+first_fault [] = None
+first_fault ((holds, fault) ∷ checks) = if holds then first_fault checks else Some fault
+
+-- one of the six spellings
+abbrev pub is_version : List ℕ → Bool
+is_version bytes =
+    list_any (λ v. bytes_eq (version_bytes v) bytes) (V1_0 ∷ V1_1 ∷ V1_2 ∷ V1_3 ∷ V2_0 ∷ V3_0 ∷ [])
+
+unfoldable pub info_checks : Bool → List ℕ → List (Bool × Refusal)
+info_checks any info =
+    (nat_le (slice_index info 4) 1, invalid (codes "unrecognized value for Endianness"))
+    ∷ (
+      any || nat_eq (slice_index info 4) 0,
+      unsupported (codes "bundle endianness does not match platform endianness"),
+    )
+    ∷ (nat_le (slice_index info 5) 1, invalid (codes "unrecognized value for CharsetFamily"))
+    ∷ (
+      bytes_eq (slice_range info 8 12) (codes "ResB"),
+      invalid (codes "unexpected data format value"),
+    )
+    ∷ (is_version (slice_range info 12 16), invalid (codes "unrecognized format version"))
+    ∷ []
+
+unfoldable pub info_fault : List ℕ → Option Refusal
+info_fault bytes =
+    first_fault
+    ((nat_le 20 (length bytes), invalid (codes "input is too short to contain representation info"))
+    ∷ info_checks false bytes)
+
+-- the size is the header's first unit; the byte of the order is its ninth
+unfoldable pub header_checks : Bool → List ℕ → List (Bool × Refusal)
+header_checks any bytes =
+    (nat_le 24 (length bytes), invalid (codes "input is too short to contain file header"))
+    ∷ (
+      bytes_eq (slice_range bytes 2 4) (0xda ∷ 0x27 ∷ []),
+      invalid (codes "magic word does not match"),
+    )
+    ∷ info_checks any (drop 4 bytes)
+    ++ (
+      nat_le 24 (unit_in (nat_eq (slice_index bytes 8) 1) bytes 0),
+      invalid (codes "header size specified in file is smaller than expected"),
+    )
+    ∷ []
+
+unfoldable pub header_fault : Bool → List ℕ → Option Refusal
+header_fault any bytes = first_fault (header_checks any bytes)
+
+-- the words behind the root's descriptor
+unfoldable pub index_checks : List ℕ → List (Bool × Refusal)
+index_checks bytes =
+    let count = slice_index (words_of bytes) 0 in
+    (nat_le 4 (length bytes), end_of_input)
+    ∷ (nat_le 5 count, invalid (codes "invalid index field count"))
+    ∷ (nat_le (4 * min count 8) (length bytes), end_of_input)
+    ∷ []
+
+unfoldable pub index_fault : List ℕ → Option Refusal
+index_fault bytes = first_fault (index_checks bytes)
+
+-- what an info may say in a file that is read
+unfoldable pub support_checks : List ℕ → List (Bool × Refusal)
+support_checks info = (
+  nat_eq (slice_index info 5) 0,
+  unsupported (codes "bundle and system character set families do not match"),
+)
+    ∷ (
+      nat_eq (slice_index info 6) 2,
+      unsupported (codes "characters of size other than 2 are not supported"),
+    )
+    ∷ (
+      bytes_eq (slice_range info 12 16) (2 ∷ 0 ∷ 0 ∷ 0 ∷ []),
+      unsupported (codes "format versions other than 2.0 are not supported at this time"),
+    )
+    ∷ []
+
+-- the blocks lie inside the body, one behind the other; the ends are in words
+unfoldable pub block_checks : List ℕ → List (Bool × Refusal)
+block_checks body =
+    let field : ℕ → ℕ = λ i. slice_index (words_of body) i in
+    (nat_le (4 * field 2) (length body), end_of_input)
+    ∷ (nat_le 7 (field 1), invalid (codes "offset to the end of 16-bit data not specified"))
+    ∷ (nat_le (field 2) (field 7) && nat_le (4 * field 7) (length body), end_of_input)
+    ∷ []
+
+-- the root's word, the index and the blocks
+unfoldable pub body_checks : List ℕ → List (Bool × Refusal)
+body_checks body =
+    (nat_le 4 (length body), end_of_input) ∷ (index_checks (drop 4 body) ++ block_checks body)
+
+-- all of them; a header that is longer than the file leaves no body
+unfoldable pub file_checks : List ℕ → List (Bool × Refusal)
+file_checks bytes =
+    header_checks false bytes ++ (support_checks (drop 4 bytes) ++ body_checks (body_of bytes))
+
+unfoldable pub file_fault : List ℕ → Option Refusal
+file_fault bytes = first_fault (file_checks bytes)

@@ -1,0 +1,26 @@
+-- What reading a head's parts answers: their values where no check fails, else the fault of the
+-- first that does.
+use Rattle.std.specs.Prelude.{◌≡◌, ℕ, List, Bool, Some, None, Result, MatchResult}
+use Rattle.resb_format.specs.Error.{refusal_of}
+use Rattle.resb_format.specs.declared.error.ReadingError.{ReadingError}
+use Rattle.resb_head.specs.HeadChecks.{header_fault, info_fault, index_fault}
+use Rattle.resb_head.specs.Head.{HeaderAt, InfoAt, IndexAt}
+use Rattle.resb_head.specs.declared.head.BinHeader.{BinHeader}
+use Rattle.resb_head.specs.declared.repr_info.BinReprInfo.{BinReprInfo}
+use Rattle.resb_head.specs.declared.index.BinIndex.{BinIndex}
+
+-- a foreign order of bytes is let through where `any` is true
+abbrev pub ReadsHeader : Bool → List ℕ → Result BinHeader ReadingError → Type 0
+ReadsHeader any bytes r =
+    MatchResult r (λ h. (header_fault any bytes ≡ None) × HeaderAt h bytes)
+    (λ e. header_fault any bytes ≡ Some (refusal_of e))
+
+abbrev pub ReadsInfo : List ℕ → Result BinReprInfo ReadingError → Type 0
+ReadsInfo bytes r =
+    MatchResult r (λ i. (info_fault bytes ≡ None) × InfoAt i bytes)
+    (λ e. info_fault bytes ≡ Some (refusal_of e))
+
+abbrev pub ReadsIndex : List ℕ → Result BinIndex ReadingError → Type 0
+ReadsIndex bytes r =
+    MatchResult r (λ i. (index_fault bytes ≡ None) × IndexAt i bytes)
+    (λ e. index_fault bytes ≡ Some (refusal_of e))

@@ -1,0 +1,13 @@
+-- The words of the contracts: where the values of a head stand, its checks in their order, and what
+-- reading it answers. `Inner` has words of private functions.
+pub use Rattle.resb_format.specs.Bytes
+pub use Rattle.resb_format.specs.Parts
+pub use Rattle.resb_format.specs.Error
+pub mod Codes
+pub mod CodeReading
+pub mod HeadChecks
+pub mod Head
+pub mod HeadReading
+pub mod PartsReading
+pub mod Laws
+pub mod Inner

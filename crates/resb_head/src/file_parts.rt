@@ -1,0 +1,79 @@
+//! The parts of a file: body, keys, 16-bit block and the root's word, once every check of its head
+//! holds. What the root's word leads to is read in the crates above.
+ghost use Rattle.std.specs.Prelude.{drop, ◌≤◌, length};
+ghost use Rattle.resb_head.specs.Head.{IndexAt};
+ghost use Rattle.resb_head.specs.PartsReading.{ReadsFile};
+ghost use Rattle.resb_head.specs.Inner.Checked.{ReadsBody, ReadsBlocks};
+
+use crate::head::BinHeader;
+use crate::index::BinIndex;
+use resb_format::BinaryDeserializerError;
+use resb_format::bytes::word_at;
+
+/// The parts of a file whose head passes every check. (ICU's `uresdata.h`.)
+#[derive(Clone, Copy)]
+pub struct FileParts<'de> {
+    /// The bytes behind the header. Words count from its start.
+    pub body: &'de [u8],
+    /// The body's front, up to the end of the keys. Key positions count bytes from its start.
+    pub keys: &'de [u8],
+    /// The 16-bit block behind the keys, two bytes for each unit.
+    pub block: &'de [u8],
+    /// The root's descriptor.
+    pub root: u32,
+}
+
+impl<'de> FileParts<'de> {
+    /// The parts of a file. The checks of header, format, index and blocks are made in this order,
+    /// and the first that fails answers.
+    pub fn read(bytes: &'de [u8]) -> Result<FileParts<'de>, BinaryDeserializerError>
+        ensures { ReadsFile bytes.now result }
+    {
+        let header = BinHeader::try_from(bytes)?;
+        header.repr_info.check_support()?;
+        let (_, body) = bytes.split_at(bytes.len().min(usize::from(header.size)));
+        FileParts::of_body(body)
+    }
+
+    /// The parts of a body: the root's word, the index, and the blocks whose ends this gives.
+    fn of_body(body: &'de [u8]) -> Result<FileParts<'de>, BinaryDeserializerError>
+        ensures { ReadsBody body.now result }
+    {
+        if body.len() < 4 {
+            return Err(BinaryDeserializerError::invalid_data("unexpected end of input"));
+        }
+        let (_, rest) = body.split_at(4);
+        let index = BinIndex::try_from(rest)?;
+        FileParts::cut(body, &index)
+    }
+
+    /// Cuts the blocks out of a body with this index.
+    fn cut(body: &'de [u8], index: &BinIndex) -> Result<FileParts<'de>, BinaryDeserializerError>
+        requires long { 4 ≤ length body.now }
+        requires indexed { IndexAt index.now (drop 4 body.now) }
+        ensures { ReadsBlocks body.now result }
+    {
+        let keys_end = 4 * index.keys_end as usize;
+        if keys_end > body.len() {
+            return Err(BinaryDeserializerError::invalid_data("unexpected end of input"));
+        }
+        let Some(block_end) = index.data_16_bit_end else {
+            return Err(BinaryDeserializerError::invalid_data(
+                "offset to the end of 16-bit data not specified",
+            ));
+        };
+        let block_end = 4 * block_end as usize;
+        if block_end < keys_end || block_end > body.len() {
+            return Err(BinaryDeserializerError::invalid_data("unexpected end of input"));
+        }
+        let (front, _) = body.split_at(block_end);
+        let (keys, block) = front.split_at(keys_end);
+        let root = word_at(body, 0);
+        Ok(FileParts {
+            body,
+            keys,
+            block,
+            root,
+        })
+    }
+}

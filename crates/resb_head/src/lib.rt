@@ -1,0 +1,21 @@
+//! The head of a `.res` file: header, representation info and index, the checks that they pass, and
+//! the parts that they cut a file into. What the parts denote is said in `resb_format`.
+#![tactic(auto)]
+
+mod charset;
+mod endianness;
+mod file_parts;
+mod head;
+mod index;
+mod index_fields;
+pub mod laws;
+mod repr_info;
+mod version;
+
+pub use charset::CharsetFamily;
+pub use endianness::Endianness;
+pub use file_parts::FileParts;
+pub use head::BinHeader;
+pub use index::BinIndex;
+pub use repr_info::BinReprInfo;
+pub use version::FormatVersion;

@@ -20,6 +20,7 @@ use Rattle.resb_pool.specs.Inner.Placing.{text, IsMeasure, AreMeasures, AreTexts
 use Rattle.resb_pool.specs.declared.measure.Measure.{Measure}
 use Rattle.resb_pool.proofs.TextLoops.{blank}
 use Rattle.resb_pool.proofs.NewNode.{old_or_new}
+use Rattle.resb_pool.proofs.FoundKeys.{same_key}
 use Rattle.resb_pool.proofs.Distinct.{one_index, distinct_push}
 use Rattle.resb_pool.proofs.Sizes.{copy_same, copy_other, copies-push, copies_none, copies_within}
 use Rattle.resb_pool.proofs.Sizes.{marker_le}
@@ -162,9 +163,6 @@ module _ (D : Texts) (t : List ℕ) (T : Texts) (ms : List Measure) (h : IsReady
   }
 
 -- keys as the set has them
-abbrev same_key : Key → Key → Bool
-same_key x y = bytes_eq x.now y.now
-
 any_none : (ks : List Key) (t : List ℕ) → list_any (λ k. bytes_eq t k.now) ks ≡ false
     → Contains (nows ks) t → ⊥
 any_none [] t e c = omega (arith, c.1)

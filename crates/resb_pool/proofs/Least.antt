@@ -1,5 +1,5 @@
 -- No layout costs less than the records.
-use Rattle.std.proofs.Common.{◌≡◌, ℕ, zero, suc, ◌+◌, ◌≤◌, List, [], ◌∷◌, ◌++◌, length, Bool, true}
+use Rattle.std.proofs.Common.{◌≡◌, ℕ, ◌+◌, ◌≤◌, List, [], ◌∷◌, ◌++◌, length, Bool, true}
 use Rattle.std.proofs.Common.{false, cond, ◌⊎◌, inl, inr, refl, sym, ◌∙◌, ap, subst}
 use Rattle.std.proofs.Common.{length-append, arith}
 use Rattle.std.specs.List.{All, Contains, sum_by, remove, flat_map}
@@ -14,19 +14,7 @@ use Rattle.resb_format.specs.Units.{units, is_unmarked, marker, size, length_mar
 use Rattle.resb_pool.specs.Records.{EndsWith, IsDistinct, IsRecord, IsRecords, IsHeldBy, IsLayout}
 use Rattle.std.proofs.lemmas.Grind.{flat_map-append}
 use Rattle.resb_pool.proofs.Cut.{front_utf8}
-
--- one of a list with x in front
-cons_cases : (x : List ℕ) (xs : List (List ℕ)) (y : List ℕ) → Contains (x ∷ xs) y → (x ≡ y)
-    ⊎ Contains xs y
-cons_cases x xs y (zero, lt, is) = inl is
-cons_cases x xs y (suc k, lt, is) = inr (k, omega arith, is)
-
-Contains-first : (x : List ℕ) (xs : List (List ℕ)) → Contains (x ∷ xs) x
-Contains-first x xs = (0, omega arith, refl)
-
-Contains-later : (x : List ℕ) (xs : List (List ℕ)) (y : List ℕ) → Contains xs y
-    → Contains (x ∷ xs) y
-Contains-later x xs y (k, lt, is) = (suc k, omega arith, is)
+use Rattle.resb_pool.proofs.Distinct.{cons_cases, Contains-first, Contains-later}
 
 module _ (f : List ℕ → ℕ) (M : List ℕ → List ℕ → Type 0) (alone : (p q r : List ℕ) → M p r → M q r
     → p ≡ q) where

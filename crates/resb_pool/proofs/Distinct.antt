@@ -19,9 +19,6 @@ cons_cases x xs y (suc k, lt, is) = inr (k, omega arith, is)
 pub Contains-first : (x : List ℕ) (xs : Texts) → Contains (x ∷ xs) x
 Contains-first x xs = (0, omega arith, refl)
 
-pub Contains-later : (x : List ℕ) (xs : Texts) (y : List ℕ) → Contains xs y → Contains (x ∷ xs) y
-Contains-later x xs y (k, lt, is) = (suc k, omega arith, is)
-
 -- a text by its index, and the index of a text
 pub has_text : (T : Texts) (i : ℕ) → i < length T → Contains T (text T i)
 has_text T i l = (i, l, get_or_default T i (text T i) [] l)

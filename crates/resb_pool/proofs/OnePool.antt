@@ -8,13 +8,14 @@ use Rattle.std.specs.Ordering.{ordering_reverse}
 use Rattle.std.specs.Cmp.Lexicographic.{slice_cmp}
 use Rattle.std.specs.declared.cmp.Ordering.TheVariants.{Less}
 use Rattle.std.proofs.lemmas.Cmp.{nat_list_cmp_total}
+use Rattle.std.proofs.lemmas.List.Elements.{Contains-append_right}
 use Rattle.resb_format.specs.Units.{size}
 use Rattle.resb_pool.specs.Records.{IsDistinct}
 use Rattle.resb_pool.specs.Pool.{SizeIn, size_none, size_here, size_elsewhere, Saved, Precedes}
 use Rattle.resb_pool.specs.Pool.{fewer_units, saves_more, smaller_bytes, record_units, ClosesAt}
 use Rattle.resb_pool.specs.Pool.{Off, off_empty, off_within}
 use Rattle.resb_pool.specs.Plan.{IsPlan}
-use Rattle.resb_pool.proofs.Distinct.{cons_cases, Contains-first, Contains-later}
+use Rattle.resb_pool.proofs.Distinct.{cons_cases, Contains-first}
 use Rattle.resb_pool.proofs.SharingLemmas.{one_container}
 
 abbrev Texts : Type 0
@@ -100,7 +101,7 @@ module _ (S : Texts) where
   same_rest : (q r : List ℕ) (Q R : Texts) → q ≡ r → IsDistinct (q ∷ Q)
       → ((s : List ℕ) → Contains (q ∷ Q) s → Contains (r ∷ R) s) → (s : List ℕ) → Contains Q s
       → Contains R s
-  same_rest q r Q R e d f s c = elim (cons_cases r R s (f s (Contains-later q Q s c))) [
+  same_rest q r Q R e d f s c = elim (cons_cases r R s (f s (Contains-append_right (q ∷ []) Q s c))) [
     | inl g ↦ absurd (d.0 (subst (Contains Q) (sym (e ∙ g)) c))
     | inr g ↦ g
   ]
@@ -129,7 +130,7 @@ module _ (S : Texts) where
     where
       among : (b : Texts) (r : List ℕ) (y : Texts) (q : List ℕ) → q ≡ r → Contains (b ++ r ∷ y) q
       among [] r y q g = (0, omega arith, sym g)
-      among (w ∷ b) r y q g = Contains-later w (b ++ r ∷ y) q (among b r y q g)
+      among (w ∷ b) r y q g = Contains-append_right (w ∷ []) (b ++ r ∷ y) q (among b r y q g)
   one_front (q ∷ Q) (u ∷ a) [] x y r d e f =
       let g : q ≡ r = cc in
       let h : Q ≡ a ++ r ∷ x = cc in
@@ -137,7 +138,7 @@ module _ (S : Texts) where
     where
       among : (b : Texts) (r : List ℕ) (y : Texts) (q : List ℕ) → q ≡ r → Contains (b ++ r ∷ y) q
       among [] r y q g = (0, omega arith, sym g)
-      among (w ∷ b) r y q g = Contains-later w (b ++ r ∷ y) q (among b r y q g)
+      among (w ∷ b) r y q g = Contains-append_right (w ∷ []) (b ++ r ∷ y) q (among b r y q g)
   one_front (q ∷ Q) (u ∷ a) (v ∷ b) x y r d e f =
       let g : Q ≡ a ++ r ∷ x = cc in
       let h : Q ≡ b ++ r ∷ y = cc in

@@ -9,7 +9,7 @@ use Rattle.std.specs.Str.{bytes_eq, IsUtf8}
 use Rattle.std.specs.Cmp.Lexicographic.{bytes_decides}
 use Rattle.std.proofs.lemmas.Bool.{cases_eq, or_parts}
 use Rattle.std.proofs.lemmas.List.{get_or_append_left, get_or_push, length-set, length_push}
-use Rattle.std.proofs.lemmas.List.{map_push, get_or-map}
+use Rattle.std.proofs.lemmas.List.{map_push, get_or-map, length-map}
 use Rattle.std.proofs.lemmas.List.Elements.{All-push, Contains-append_left, Contains-push}
 use Rattle.std.proofs.lemmas.List.Elements.{Contains-push_cases}
 use Rattle.indexmap.specs.IndexSet.{insert_key}
@@ -185,8 +185,7 @@ pub text_nows : (ks : List Key) (i : ℕ) → i < length ks → (get_or ks i bla
 text_nows ks i l = sym (get_or-map (λ (y : Key). y.now) ks i blank [] l)
 
 pub length-nows : (ks : List Key) → length (nows ks) ≡ length ks
-length-nows [] = refl
-length-nows (k ∷ ks) = ap suc (length-nows ks)
+length-nows ks = length-map ks (λ (y : Key). y.now)
 
 any_some : (ks : List Key) (t : List ℕ) → list_any (λ k. bytes_eq t k.now) ks ≡ true
     → Contains (nows ks) t

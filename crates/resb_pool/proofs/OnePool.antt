@@ -118,6 +118,9 @@ module _ (S : Texts) where
       (same_rest r q R Q (sym same) e g) (ordered_tail q Q h) (ordered_tail r R k) in
       λ i. same i ∷ rest i
 
+  among : (b : Texts) (r : List ℕ) (y : Texts) (q : List ℕ) → q ≡ r → Contains (b ++ r ∷ y) q
+  among b r y q g = Contains-append_right b (r ∷ y) q (0, omega arith, sym g)
+
   one_front : (Q a b x y : Texts) (r : List ℕ) → IsDistinct Q → Q ≡ a ++ r ∷ x → Q ≡ b ++ r ∷ y
       → a ≡ b
   one_front [] [] b x y r d e f = (let n : [] ≡ r ∷ x = e in cc)
@@ -127,18 +130,10 @@ module _ (S : Texts) where
       let g : q ≡ r = cc in
       let h : Q ≡ b ++ r ∷ y = cc in
       absurd (d.0 (subst (λ l. Contains l q) (sym h) (among b r y q g)))
-    where
-      among : (b : Texts) (r : List ℕ) (y : Texts) (q : List ℕ) → q ≡ r → Contains (b ++ r ∷ y) q
-      among [] r y q g = (0, omega arith, sym g)
-      among (w ∷ b) r y q g = Contains-append_right (w ∷ []) (b ++ r ∷ y) q (among b r y q g)
   one_front (q ∷ Q) (u ∷ a) [] x y r d e f =
       let g : q ≡ r = cc in
       let h : Q ≡ a ++ r ∷ x = cc in
       absurd (d.0 (subst (λ l. Contains l q) (sym h) (among a r x q g)))
-    where
-      among : (b : Texts) (r : List ℕ) (y : Texts) (q : List ℕ) → q ≡ r → Contains (b ++ r ∷ y) q
-      among [] r y q g = (0, omega arith, sym g)
-      among (w ∷ b) r y q g = Contains-append_right (w ∷ []) (b ++ r ∷ y) q (among b r y q g)
   one_front (q ∷ Q) (u ∷ a) (v ∷ b) x y r d e f =
       let g : Q ≡ a ++ r ∷ x = cc in
       let h : Q ≡ b ++ r ∷ y = cc in

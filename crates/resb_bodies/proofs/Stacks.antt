@@ -181,8 +181,8 @@ empty_array_step g s ws xs w e p =
       below = take (length ws - 0) ws;
       members = [];
       word = w;
-      taken = q.0 ∙ ap (λ l. take (length ws - 0) ws ++ l) (nil_from_length (drop (length ws - 0) ws)
-          q.1);
+      taken = q.0
+          ∙ ap (λ l. take (length ws - 0) ws ++ l) (nil_from_length (drop (length ws - 0) ws) q.1);
       many = refl;
       put = p;
       closes = λ before l. subst (λ b. Lays g b (array no_trees) s w) (sym (none_back l))

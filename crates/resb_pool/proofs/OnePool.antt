@@ -101,10 +101,11 @@ module _ (S : Texts) where
   same_rest : (q r : List ℕ) (Q R : Texts) → q ≡ r → IsDistinct (q ∷ Q)
       → ((s : List ℕ) → Contains (q ∷ Q) s → Contains (r ∷ R) s) → (s : List ℕ) → Contains Q s
       → Contains R s
-  same_rest q r Q R e d f s c = elim (cons_cases r R s (f s (Contains-append_right (q ∷ []) Q s c))) [
-    | inl g ↦ absurd (d.0 (subst (Contains Q) (sym (e ∙ g)) c))
-    | inr g ↦ g
-  ]
+  same_rest q r Q R e d f s c =
+      let h = f s (Contains-append_right (q ∷ []) Q s c) in elim (cons_cases r R s h) [
+        | inl g ↦ absurd (d.0 (subst (Contains Q) (sym (e ∙ g)) c))
+        | inr g ↦ g
+      ]
 
   one_order : (Q R : Texts) → IsDistinct Q → IsDistinct R
       → ((s : List ℕ) → Contains Q s → Contains R s) → ((s : List ℕ) → Contains R s → Contains Q s)

@@ -47,7 +47,10 @@ pub tree_root : (bytes : List ℕ) (p : Place) (left left' : ℕ) (r : Result Re
     → IfErr r (Blames (MeetsPlace p)) → TreeOf bytes r
 tree_root bytes p left left' (Ok x) none same all (n, (d, b), paid) h met = (
   n,
-  record { head = (bundle_file_passes bytes).0 none; root = subst (λ q. DenPlace q (tree_of x) n) same d },
+  record {
+    head = (bundle_file_passes bytes).0 none;
+    root = subst (λ q. DenPlace q (tree_of x) n) same d;
+  },
   omega arith,
   b,
 )

@@ -86,9 +86,6 @@ pub record StandsAt (bytes k : List ℕ) (n : ℕ) : Type 0 where
   pub place : length front ≡ n
   pub is : bytes ≡ front ++ (k ++ 0 ∷ back)
 
-text_same : (k j : List ℕ) → same_text k j ≡ true → k ≡ j
-text_same k j e = (bytes_decides k j).0 e
-
 stands_first : (k j : List ℕ) (js : List (List ℕ)) (n : ℕ) (b : Bool) → same_text k j ≡ b
     → cond (same_text k j) (Some 0) None ≡ Some n → StandsAt (key_bytes (j ∷ js)) k n
 stands_first k j js n true b e =
@@ -99,7 +96,7 @@ stands_first k j js n true b e =
       back = key_bytes js;
       place = g;
       is = append_assoc j (0 ∷ []) (key_bytes js)
-          ∙ ap (λ l. l ++ 0 ∷ key_bytes js) (sym (text_same k j b));
+          ∙ ap (λ l. l ++ 0 ∷ key_bytes js) (sym ((bytes_decides k j).0 b));
     }
 stands_first k j js n false b e = absurd (none-some n (sym (ap (λ t. cond t (Some 0) None) b) ∙ e))
 
@@ -203,7 +200,7 @@ place_contained k (j ∷ js) n e =
       where
         first_contained : (k j : List ℕ) (js : List (List ℕ)) (n : ℕ) (b : Bool) → same_text k j ≡ b
             → cond (same_text k j) (Some 0) None ≡ Some n → Contains (j ∷ js) k
-        first_contained k j js n true b e = (0, omega arith, sym (text_same k j b))
+        first_contained k j js n true b e = (0, omega arith, sym ((bytes_decides k j).0 b))
         first_contained k j js n false b e =
             absurd (none-some n (sym (ap (λ t. cond t (Some 0) None) b) ∙ e))
 
@@ -213,16 +210,13 @@ some_placed k j js (Some m) o e =
     absurd (none-some (length j + 1 + m) (sym e ∙ same_found k j js m o))
 some_placed k j js None o e = o
 
-same_itself : (k j : List ℕ) → k ≡ j → same_text k j ≡ true
-same_itself k j e = (bytes_decides k j).1 e
-
 -- a key with no place isn't in the list
 pub no_place : (k : List ℕ) (js : List (List ℕ)) → last_of k js ≡ None → Contains js k → ⊥
 no_place k [] e h = absurd (omega (arith, h.1))
 no_place k (j ∷ js) e (zero, lt, is) =
     let o = some_placed k j js (last_of k js) refl e in
     let f : Some 0 ≡ None = sym (same_none k j js o
-    ∙ ap (λ t. cond t (Some 0) None) (same_itself k j (sym is))) ∙ e in
+    ∙ ap (λ t. cond t (Some 0) None) ((bytes_decides k j).1 (sym is))) ∙ e in
     none-some 0 (sym f)
 no_place k (j ∷ js) e (suc i, lt, is) = no_place k js (some_placed k j js (last_of k js) refl e) (
   i,

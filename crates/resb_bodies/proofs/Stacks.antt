@@ -1,5 +1,5 @@
 -- Steps in walk order lay a tree.
-use Rattle.std.proofs.Common.{◌≡◌, ℕ, zero, suc, ◌+◌, ◌-◌, ◌<◌, ◌≤◌, take, drop, length-drop, List}
+use Rattle.std.proofs.Common.{◌≡◌, ℕ, ◌+◌, ◌-◌, ◌<◌, ◌≤◌, take, drop, length-drop, List}
 use Rattle.std.proofs.Common.{[], ◌∷◌, ◌++◌, length, refl, sym, ◌∙◌, ap, subst, append_assoc}
 use Rattle.std.proofs.Common.{append-nil, length-append, arith}
 use Rattle.resb_tree.specs.Tree.{Tree, string, array, table, binary, integer, int_vector, Trees}
@@ -10,7 +10,7 @@ use Rattle.resb_layout.specs.Laid.{ClosesTable, ArePlaced, members_in}
 use Rattle.resb_tree.specs.WalkOrder.{entry_keys}
 use Rattle.resb_tree.specs.WalkOrder.{members, values_of, children, walk, walk_each, walk_values}
 use Rattle.resb_bodies.specs.StackSteps.{LaysNext, LaysRow, steps_none, steps_more}
-use Rattle.resb_bodies.proofs.Walks.{nil_from_len}
+use Rattle.std.proofs.lemmas.List.{nil_from_length, take-append-drop}
 
 -- of two lists in two parts, the parts are the same where the last ones have one length
 same_parts : (a b c d : List ℕ) → a ++ b ≡ c ++ d → length b ≡ length d → (a ≡ c) × (b ≡ d)
@@ -148,18 +148,12 @@ steps_lay_trees g s e t xs h =
     let z = ended g k.mid e (k.word ∷ []) xs k.goes in
     (k.word, sym z.1, subst (λ m. Lays g s t m k.word) z.0 k.lays)
 
-take_drop : (n : ℕ) (xs : List ℕ) → take n xs ++ drop n xs ≡ xs
-take_drop zero [] = refl
-take_drop zero (x ∷ xs) = refl
-take_drop (suc n) [] = refl
-take_drop (suc n) (x ∷ xs) = ap (λ l. x ∷ l) (take_drop n xs)
-
 -- the last words of a stack, and those below them
 pub split_stack : (ws : List ℕ) (n : ℕ) → n ≤ length ws
     → (ws ≡ take (length ws - n) ws ++ drop (length ws - n) ws)
     × (length (drop (length ws - n) ws) ≡ n)
 split_stack ws n h = (
-  sym (take_drop (length ws - n) ws),
+  sym (take-append-drop (length ws - n) ws),
   omega (arith, length-drop (length ws - n) ws),
 )
 
@@ -188,8 +182,8 @@ empty_array_step g s ws xs w e p =
       below = take (length ws - 0) ws;
       members = [];
       word = w;
-      taken = q.0 ∙ ap (λ l. take (length ws - 0) ws ++ l) (nil_from_len (drop (length ws - 0) ws)
-          q.1);
+      taken = q.0
+          ∙ ap (λ l. take (length ws - 0) ws ++ l) (nil_from_length (drop (length ws - 0) ws) q.1);
       many = refl;
       put = p;
       closes = λ before l. subst (λ b. Lays g b (array no_trees) s w) (sym (none_back l))
@@ -245,5 +239,5 @@ empty_table_step g s ws xs w e p =
     leaf_step g s s ws xs (table no_entries) w refl (subst (Lays g s (table no_entries) s) (sym e)
     lays_no_entries)
     (p ∙ ap (λ l. l ++ w ∷ []) (sym (q.0
-    ∙ ap (λ l. take (length ws - 0) ws ++ l) (nil_from_len (drop (length ws - 0) ws) q.1)
+    ∙ ap (λ l. take (length ws - 0) ws ++ l) (nil_from_length (drop (length ws - 0) ws) q.1)
     ∙ append-nil (take (length ws - 0) ws))))

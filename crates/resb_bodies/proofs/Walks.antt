@@ -105,10 +105,6 @@ trees-reverse (r ∷ rs) =
     ∙ ap (λ l. l ++ tree_of r.now ∷ []) (trees-reverse rs)
     ∙ sym (reverse-append (tree_of r.now ∷ []) (trees_in rs))
 
-pub nil_from_len : {A : Type 0} (xs : List A) → length xs ≡ 0 → xs ≡ []
-nil_from_len [] h = refl
-nil_from_len (x ∷ xs) h = absurd (omega arith)
-
 pub items_long : (rs : List Resource) → length rs ≡ length (members (items_view rs))
 items_long [] = refl
 items_long (r ∷ rs) = omega (arith, items_long rs)

@@ -4,7 +4,7 @@ mod Examples
 pub mod Spelled
 pub mod InsideLemmas
 pub mod StringsIn
-mod TextUnits
+pub mod TextUnits
 pub mod Apart
 mod Survival
 pub mod WordsBack

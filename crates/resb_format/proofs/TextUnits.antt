@@ -1,6 +1,6 @@
 -- The units of a text, a character at a time.
-use Rattle.std.proofs.Common.{◌≡◌, ℕ, ◌≤◌, ◌<◌, List, [], ◌∷◌, length, length-append, nat_le, true}
-use Rattle.std.proofs.Common.{false, refl, arith}
+use Rattle.std.proofs.Common.{◌≡◌, ℕ, ◌≤◌, ◌<◌, List, [], ◌∷◌, length, length-append}
+use Rattle.std.proofs.Common.{refl, arith}
 use Rattle.std.specs.Char.Escape.{encode_utf16}
 use Rattle.std.specs.Str.{encode_utf8_all}
 use Rattle.std.proofs.Math.Utf8.{encode}
@@ -17,9 +17,3 @@ no_chars (c ∷ cs) e =
 pub unit_count : (c n : ℕ) → (c < 0x10000 → n ≡ 1) → (0x10000 ≤ c → n ≡ 2)
     → length (encode_utf16 c) ≡ n
 unit_count c n h k = grind (arith, nat_tests)
-
-pub fits : (a b : ℕ) → a ≤ b → true ≡ nat_le a b
-fits a b h = grind (arith, nat_tests)
-
-pub too_many : (a b : ℕ) → b < a → false ≡ nat_le a b
-too_many a b h = grind (arith, nat_tests)

@@ -2,7 +2,7 @@
 use Rattle.std.proofs.Common.{◌≡◌, ◌≢◌, ℕ, zero, suc, ◌+◌, ◌<◌, ◌≤◌, Bool, true, false, List, []}
 use Rattle.std.proofs.Common.{◌∷◌, length, refl, sym, subst, ◌∙◌, arith, inl, inr, Some, None, lit≤}
 use Rattle.std.specs.Prelude.{◌&&◌, ◌==◌, not, slice_index, slice_range, codes}
-use Rattle.std.proofs.lemmas.Bool.{false≢true}
+use Rattle.std.proofs.lemmas.Bool.{false≢true, and_parts}
 use Rattle.std.proofs.lemmas.Bool.Decides.{nat_tests}
 use Rattle.resb_tree.specs.Tree.{Tree, string, array, table, binary, integer, trees_of, map_of}
 use Rattle.resb_grammar.specs.ByteRuns.{is_white, is_word, is_digit, Run}
@@ -41,27 +41,19 @@ abbrev passes : (ℕ → Bool) → List ℕ → ℕ → ℕ → Bool
 passes p text from zero = true
 passes p text from (suc n) = p (slice_index text from) && passes p text (suc from) n
 
-both_left : (a b : Bool) → (a && b) ≡ true → a ≡ true
-both_left true b h = refl
-both_left false b h = h
-
-both_right : (a b : Bool) → (a && b) ≡ true → b ≡ true
-both_right true b h = h
-both_right false b h = absurd (false≢true h)
-
 each_passes : (p : ℕ → Bool) (text : List ℕ) (from n k : ℕ) → passes p text from n ≡ true → from ≤ k
     → k < from + n → p (slice_index text k) ≡ true
 each_passes p text from zero k h low high = absurd (omega arith)
 each_passes p text from (suc n) k h low high =
     cases (k == from) refl
-    (λ low' high'. each_passes p text (suc from) n k (both_right _ _ h) low' high')
+    (λ low' high'. each_passes p text (suc from) n k (and_parts _ _ h).1 low' high')
   where
     cases : (b : Bool) → (k == from) ≡ b
         → (suc from ≤ k → k < suc from + n → p (slice_index text k) ≡ true)
         → p (slice_index text k) ≡ true
     cases true e more =
         let same : from ≡ k = grind (arith, nat_tests) in
-        subst (λ i. p (slice_index text i) ≡ true) same (both_left _ _ h)
+        subst (λ i. p (slice_index text i) ≡ true) same (and_parts _ _ h).0
     cases false e more =
         let other : k ≢ from = grind (arith, nat_tests) in more (omega arith) (omega arith)
 

@@ -30,7 +30,8 @@ text_mode (in_vector after_number ns o) u w e = refl
 text_mode (in_vector after_comma ns o) u w e = none_some u e
 text_mode (finished title items) u w e = refl
 
-no_number : {A : Type 0} (b : Body) (o : Open) (v : ℕ) (u : State)
+-- no number stands right in a group
+pub no_number : {A : Type 0} (b : Body) (o : Open) (v : ℕ) (u : State)
     → in_body b o (a_number v) ≡ Some u → A
 no_number table_body o v u e = none_some u e
 no_number array_body o v u e = none_some u e
@@ -68,7 +69,8 @@ type_mode (in_vector after_number ns o) u k e = refl
 type_mode (in_vector after_comma ns o) u k e = none_some u e
 type_mode (finished title items) u k e = refl
 
-no_root_type : {A : Type 0} (b : Body) (o : Open) (f : Bool) (u : State)
+-- nor does a type of the root
+pub no_root_type : {A : Type 0} (b : Body) (o : Open) (f : Bool) (u : State)
     → in_body b o (a_root_type f) ≡ Some u → A
 no_root_type table_body o f u e = none_some u e
 no_root_type array_body o f u e = none_some u e

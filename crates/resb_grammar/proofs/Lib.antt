@@ -1,10 +1,10 @@
 -- For crates above: those that are `pub`.
 pub mod ByteRunsLemmas
-mod DistinctKeys
+pub mod DistinctKeys
 pub mod Half
 pub mod Moves
 pub mod Lex
-mod LexLemmas
+pub mod LexLemmas
 pub mod Unique
 pub mod HeaderPath
 pub mod Complete

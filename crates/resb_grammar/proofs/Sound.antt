@@ -29,7 +29,7 @@ use Rattle.resb_grammar.specs.Inner.Half.{half}
 use Rattle.resb_grammar.proofs.Half.{pairs-half, group-half}
 use Rattle.resb_grammar.specs.Token.{Means}
 use Rattle.resb_grammar.proofs.Moves.{move_means}
-use Rattle.resb_grammar.proofs.Complete.{MayOpen}
+use Rattle.resb_grammar.proofs.Complete.{MayOpen, open_at}
 
 module _ (text : List ℕ) where
   -- a group of this body begins, and its first item may stand at `first`
@@ -204,10 +204,6 @@ module _ (text : List ℕ) where
 
   untyped_no : untyped_body ≡ table_body → ⊥
   untyped_no e = cc
-
-  abbrev open_at : Title → Body → List Item → List Frame → Open
-  open_at title body xs around =
-      record { title = title; frame = record { body = body; items = xs }; around = around }
 
   table_next : (title : Title) (xs : List Item) (around : List Frame) (from ends to : ℕ) (t : Token)
       → Spelled title from table_body xs around → Means text from ends t → Skip text ends to

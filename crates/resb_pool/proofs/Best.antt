@@ -1,5 +1,5 @@
 -- The walk to the greatest record.
-use Rattle.std.proofs.Common.{nat_lt, ◌≡◌, ℕ, ◌*◌, ◌<◌, ◌≤◌, List, [], ◌∷◌, ◌++◌, length, true}
+use Rattle.std.proofs.Common.{◌≡◌, ℕ, ◌*◌, ◌<◌, ◌≤◌, List, [], ◌∷◌, ◌++◌, length, true}
 use Rattle.std.proofs.Common.{false, Some, None, ◌⊎◌, inl, inr, refl, sym, ◌∙◌, ap, subst}
 use Rattle.std.proofs.Common.{append_assoc, append-nil, length-append, arith}
 use Rattle.std.proofs.lemmas.Bool.{cases_lt}
@@ -216,6 +216,3 @@ module _ (ns : List Node) (from at : ℕ) (t : IsTrie ns) (b : IsBest ns from at
                 (none_left p.0 z)),
           ))
         ]
-
-pub below_is : (m n : ℕ) → m < n → nat_lt m n ≡ true
-below_is m n l = grind (arith, nat_tests)

@@ -1,6 +1,6 @@
--- Texts that stand once in a list go by their indexes.
-use Rattle.std.proofs.Common.{◌≡◌, ℕ, zero, suc, ◌<◌, List, [], ◌∷◌, ◌++◌, length, take, inl, inr}
-use Rattle.std.proofs.Common.{refl, sym, ◌∙◌, ap, subst, arith}
+-- A list with a text in front, and texts that stand once in a list and go by their indexes.
+use Rattle.std.proofs.Common.{◌≡◌, ℕ, zero, suc, ◌<◌, List, [], ◌∷◌, ◌++◌, length, take}
+use Rattle.std.proofs.Common.{◌⊎◌, inl, inr, refl, sym, ◌∙◌, ap, subst, arith}
 use Rattle.std.specs.List.{Contains}
 use Rattle.std.proofs.lemmas.List.{get_or_default}
 use Rattle.std.proofs.lemmas.List.Elements.{Contains-push_cases}
@@ -10,6 +10,16 @@ use Rattle.resb_pool.specs.Inner.Placing.{text}
 abbrev Texts : Type 0
 Texts = List (List ℕ)
 
+-- one of a list with x in front
+pub cons_cases : (x : List ℕ) (xs : Texts) (y : List ℕ) → Contains (x ∷ xs) y → (x ≡ y)
+    ⊎ Contains xs y
+cons_cases x xs y (zero, lt, is) = inl is
+cons_cases x xs y (suc k, lt, is) = inr (k, omega arith, is)
+
+pub Contains-first : (x : List ℕ) (xs : Texts) → Contains (x ∷ xs) x
+Contains-first x xs = (0, omega arith, refl)
+
+-- a text by its index, and the index of a text
 pub has_text : (T : Texts) (i : ℕ) → i < length T → Contains T (text T i)
 has_text T i l = (i, l, get_or_default T i (text T i) [] l)
 

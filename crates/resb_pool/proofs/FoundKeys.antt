@@ -11,7 +11,8 @@ use Rattle.std.proofs.lemmas.Bool.{lt-ltb}
 abbrev Key : Type 0
 Key = Bor (List ℕ)
 
-abbrev same_key : Key → Key → Bool
+-- whether two keys are one text
+abbrev pub same_key : Key → Key → Bool
 same_key x y = bytes_eq x.now y.now
 
 at_place : (P : Key → Type 0) (ks : List Key) (i : ℕ) (k : Key) → AllByRecursion P ks

@@ -9,7 +9,7 @@ use Rattle.std.specs.Str.{bytes_eq, IsUtf8}
 use Rattle.std.specs.Cmp.Lexicographic.{bytes_decides}
 use Rattle.std.proofs.lemmas.Bool.{cases_eq, or_parts}
 use Rattle.std.proofs.lemmas.List.{get_or_append_left, get_or_push, length-set, length_push}
-use Rattle.std.proofs.lemmas.List.{map_push, get_or-map}
+use Rattle.std.proofs.lemmas.List.{map_push, get_or-map, length-map}
 use Rattle.std.proofs.lemmas.List.Elements.{All-push, Contains-append_left, Contains-push}
 use Rattle.std.proofs.lemmas.List.Elements.{Contains-push_cases}
 use Rattle.indexmap.specs.IndexSet.{insert_key}
@@ -20,6 +20,7 @@ use Rattle.resb_pool.specs.Inner.Placing.{text, IsMeasure, AreMeasures, AreTexts
 use Rattle.resb_pool.specs.declared.measure.Measure.{Measure}
 use Rattle.resb_pool.proofs.TextLoops.{blank}
 use Rattle.resb_pool.proofs.NewNode.{old_or_new}
+use Rattle.resb_pool.proofs.FoundKeys.{same_key}
 use Rattle.resb_pool.proofs.Distinct.{one_index, distinct_push}
 use Rattle.resb_pool.proofs.Sizes.{copy_same, copy_other, copies-push, copies_none, copies_within}
 use Rattle.resb_pool.proofs.Sizes.{marker_le}
@@ -162,9 +163,6 @@ module _ (D : Texts) (t : List ℕ) (T : Texts) (ms : List Measure) (h : IsReady
   }
 
 -- keys as the set has them
-abbrev same_key : Key → Key → Bool
-same_key x y = bytes_eq x.now y.now
-
 any_none : (ks : List Key) (t : List ℕ) → list_any (λ k. bytes_eq t k.now) ks ≡ false
     → Contains (nows ks) t → ⊥
 any_none [] t e c = omega (arith, c.1)
@@ -187,8 +185,7 @@ pub text_nows : (ks : List Key) (i : ℕ) → i < length ks → (get_or ks i bla
 text_nows ks i l = sym (get_or-map (λ (y : Key). y.now) ks i blank [] l)
 
 pub length-nows : (ks : List Key) → length (nows ks) ≡ length ks
-length-nows [] = refl
-length-nows (k ∷ ks) = ap suc (length-nows ks)
+length-nows ks = length-map ks (λ (y : Key). y.now)
 
 any_some : (ks : List Key) (t : List ℕ) → list_any (λ k. bytes_eq t k.now) ks ≡ true
     → Contains (nows ks) t

@@ -1,5 +1,5 @@
 -- No layout costs less than the records.
-use Rattle.std.proofs.Common.{◌≡◌, ℕ, zero, suc, ◌+◌, ◌≤◌, List, [], ◌∷◌, ◌++◌, length, Bool, true}
+use Rattle.std.proofs.Common.{◌≡◌, ℕ, ◌+◌, ◌≤◌, List, [], ◌∷◌, ◌++◌, length, Bool, true}
 use Rattle.std.proofs.Common.{false, cond, ◌⊎◌, inl, inr, refl, sym, ◌∙◌, ap, subst}
 use Rattle.std.proofs.Common.{length-append, arith}
 use Rattle.std.specs.List.{All, Contains, sum_by, remove, flat_map}
@@ -8,25 +8,13 @@ use Rattle.std.specs.Str.{chars, IsUtf8}
 use Rattle.std.specs.Char.Escape.{encode_utf16}
 use Rattle.std.proofs.lemmas.List.Sorted.{IsPermutation-remove, Contains-permutation, sum_by_popped}
 use Rattle.std.proofs.lemmas.List.Sums.{sum_by-cons}
-use Rattle.std.proofs.lemmas.List.Elements.{All-contains}
+use Rattle.std.proofs.lemmas.List.Elements.{All-contains, Contains-append_right}
 use Rattle.std.proofs.lemmas.Str.{chars-append}
 use Rattle.resb_format.specs.Units.{units, is_unmarked, marker, size, length_marker}
 use Rattle.resb_pool.specs.Records.{EndsWith, IsDistinct, IsRecord, IsRecords, IsHeldBy, IsLayout}
 use Rattle.std.proofs.lemmas.Grind.{flat_map-append}
 use Rattle.resb_pool.proofs.Cut.{front_utf8}
-
--- one of a list with x in front
-cons_cases : (x : List ℕ) (xs : List (List ℕ)) (y : List ℕ) → Contains (x ∷ xs) y → (x ≡ y)
-    ⊎ Contains xs y
-cons_cases x xs y (zero, lt, is) = inl is
-cons_cases x xs y (suc k, lt, is) = inr (k, omega arith, is)
-
-Contains-first : (x : List ℕ) (xs : List (List ℕ)) → Contains (x ∷ xs) x
-Contains-first x xs = (0, omega arith, refl)
-
-Contains-later : (x : List ℕ) (xs : List (List ℕ)) (y : List ℕ) → Contains xs y
-    → Contains (x ∷ xs) y
-Contains-later x xs y (k, lt, is) = (suc k, omega arith, is)
+use Rattle.resb_pool.proofs.Distinct.{cons_cases, Contains-first}
 
 module _ (f : List ℕ → ℕ) (M : List ℕ → List ℕ → Type 0) (alone : (p q r : List ℕ) → M p r → M q r
     → p ≡ q) where
@@ -40,7 +28,7 @@ module _ (f : List ℕ → ℕ) (M : List ℕ → List ℕ → Type 0) (alone : 
       let k : ℕ = g.1.0 in
       let p : IsPermutation R (g.0 ∷ remove R k) = IsPermutation-remove R k g.0 g.1.1 (sym g.1.2) in
       let rest : sum_by f Q ≤ sum_by f (remove R k) = into_least Q (remove R k) d (λ q' in'.
-      let g' = goes q' (Contains-later q Q q' in') in
+      let g' = goes q' (Contains-append_right (q ∷ []) Q q' in') in
       elim (cons_cases g.0 (remove R k) g'.0 (Contains-permutation R (g.0 ∷ remove R k) g'.0 p
       g'.1)) [
         | inl e ↦ absurd (fresh (subst (λ x. Contains Q x)
@@ -91,6 +79,10 @@ no_marker : (b : Bool) (m : List ℕ) → b ≡ true → length (cond b [] m) �
 no_marker true m e = refl
 no_marker false m e = cc
 
+-- without a marker of its own a text takes no more than one of as many units
+pub size_le : (m n a b : ℕ) → m ≡ 0 → a ≤ b → m + a + 1 ≤ n + b + 1
+size_le m n a b e h = omega arith
+
 held_costs : (s r : List ℕ) → IsUtf8 r → IsUtf8 s → IsHeldBy s r → size s ≤ size r
 held_costs s r u v h =
     let e : length (units r) ≡ length (units h.ends.front ++ units s) =
@@ -100,9 +92,6 @@ held_costs s r u v h =
     h.unmarked in
     size_le (length (marker s)) (length (marker r)) (length (units s)) (length (units r)) z
     (omega (arith, e, f))
-  where
-    size_le : (m n a b : ℕ) → m ≡ 0 → a ≤ b → m + a + 1 ≤ n + b + 1
-    size_le m n a b e h = omega arith
 
 pub least : (S Q R : List (List ℕ)) → All IsUtf8 S → IsRecords S Q → IsLayout S R
     → sum_by size Q ≤ sum_by size R

@@ -1,6 +1,6 @@
 -- Strings have one pool, and each text one place in it.
-use Rattle.std.proofs.Common.{◌≡◌, ℕ, zero, suc, ◌+◌, ◌<◌, List, [], ◌∷◌, ◌++◌, length}
-use Rattle.std.proofs.Common.{slice_index_or, Option, Some, None, MatchOption, ◌⊎◌, inl, inr}
+use Rattle.std.proofs.Common.{◌≡◌, ℕ, suc, ◌+◌, ◌<◌, List, [], ◌∷◌, ◌++◌, length}
+use Rattle.std.proofs.Common.{slice_index_or, Option, Some, None, MatchOption, inl, inr}
 use Rattle.std.proofs.Common.{nat_cmp, refl, sym, ◌∙◌, ap, subst, arith}
 use Rattle.std.specs.List.{All, Contains, sum_by, flat_map}
 use Rattle.std.specs.Str.{IsUtf8}
@@ -8,26 +8,18 @@ use Rattle.std.specs.Ordering.{ordering_reverse}
 use Rattle.std.specs.Cmp.Lexicographic.{slice_cmp}
 use Rattle.std.specs.declared.cmp.Ordering.TheVariants.{Less}
 use Rattle.std.proofs.lemmas.Cmp.{nat_list_cmp_total}
+use Rattle.std.proofs.lemmas.List.Elements.{Contains-append_right}
 use Rattle.resb_format.specs.Units.{size}
 use Rattle.resb_pool.specs.Records.{IsDistinct}
 use Rattle.resb_pool.specs.Pool.{SizeIn, size_none, size_here, size_elsewhere, Saved, Precedes}
 use Rattle.resb_pool.specs.Pool.{fewer_units, saves_more, smaller_bytes, record_units, ClosesAt}
 use Rattle.resb_pool.specs.Pool.{Off, off_empty, off_within}
 use Rattle.resb_pool.specs.Plan.{IsPlan}
+use Rattle.resb_pool.proofs.Distinct.{cons_cases, Contains-first}
 use Rattle.resb_pool.proofs.SharingLemmas.{one_container}
 
 abbrev Texts : Type 0
 Texts = List (List ℕ)
-
-cons_cases : (x : List ℕ) (xs : Texts) (y : List ℕ) → Contains (x ∷ xs) y → (x ≡ y) ⊎ Contains xs y
-cons_cases x xs y (zero, lt, is) = inl is
-cons_cases x xs y (suc k, lt, is) = inr (k, omega arith, is)
-
-first : (x : List ℕ) (xs : Texts) → Contains (x ∷ xs) x
-first x xs = (0, omega arith, refl)
-
-later : (x : List ℕ) (xs : Texts) (y : List ℕ) → Contains xs y → Contains (x ∷ xs) y
-later x xs y (k, lt, is) = (suc k, omega arith, is)
 
 bytes_asym : (r q : List ℕ) → slice_cmp nat_cmp r q ≡ Less → slice_cmp nat_cmp q r ≡ Less → ⊥
 bytes_asym r q e f =
@@ -109,22 +101,26 @@ module _ (S : Texts) where
   same_rest : (q r : List ℕ) (Q R : Texts) → q ≡ r → IsDistinct (q ∷ Q)
       → ((s : List ℕ) → Contains (q ∷ Q) s → Contains (r ∷ R) s) → (s : List ℕ) → Contains Q s
       → Contains R s
-  same_rest q r Q R e d f s c = elim (cons_cases r R s (f s (later q Q s c))) [
-    | inl g ↦ absurd (d.0 (subst (Contains Q) (sym (e ∙ g)) c))
-    | inr g ↦ g
-  ]
+  same_rest q r Q R e d f s c =
+      let h = f s (Contains-append_right (q ∷ []) Q s c) in elim (cons_cases r R s h) [
+        | inl g ↦ absurd (d.0 (subst (Contains Q) (sym (e ∙ g)) c))
+        | inr g ↦ g
+      ]
 
   one_order : (Q R : Texts) → IsDistinct Q → IsDistinct R
       → ((s : List ℕ) → Contains Q s → Contains R s) → ((s : List ℕ) → Contains R s → Contains Q s)
       → IsOrdered Q → IsOrdered R → Q ≡ R
   one_order [] [] d e f g h k = refl
-  one_order [] (r ∷ R) d e f g h k = absurd (let c = g r (first r R) in omega (arith, c.1))
-  one_order (q ∷ Q) [] d e f g h k = absurd (let c = f q (first q Q) in omega (arith, c.1))
+  one_order [] (r ∷ R) d e f g h k = absurd (let c = g r (Contains-first r R) in omega (arith, c.1))
+  one_order (q ∷ Q) [] d e f g h k = absurd (let c = f q (Contains-first q Q) in omega (arith, c.1))
   one_order (q ∷ Q) (r ∷ R) d e f g h k =
-      let same = same_first q r Q R (f q (first q Q)) (g r (first r R)) h k in
+      let same = same_first q r Q R (f q (Contains-first q Q)) (g r (Contains-first r R)) h k in
       let rest = one_order Q R d.1 e.1 (same_rest q r Q R same d f)
       (same_rest r q R Q (sym same) e g) (ordered_tail q Q h) (ordered_tail r R k) in
       λ i. same i ∷ rest i
+
+  among : (b : Texts) (r : List ℕ) (y : Texts) (q : List ℕ) → q ≡ r → Contains (b ++ r ∷ y) q
+  among b r y q g = Contains-append_right b (r ∷ y) q (0, omega arith, sym g)
 
   one_front : (Q a b x y : Texts) (r : List ℕ) → IsDistinct Q → Q ≡ a ++ r ∷ x → Q ≡ b ++ r ∷ y
       → a ≡ b
@@ -135,18 +131,10 @@ module _ (S : Texts) where
       let g : q ≡ r = cc in
       let h : Q ≡ b ++ r ∷ y = cc in
       absurd (d.0 (subst (λ l. Contains l q) (sym h) (among b r y q g)))
-    where
-      among : (b : Texts) (r : List ℕ) (y : Texts) (q : List ℕ) → q ≡ r → Contains (b ++ r ∷ y) q
-      among [] r y q g = (0, omega arith, sym g)
-      among (w ∷ b) r y q g = later w (b ++ r ∷ y) q (among b r y q g)
   one_front (q ∷ Q) (u ∷ a) [] x y r d e f =
       let g : q ≡ r = cc in
       let h : Q ≡ a ++ r ∷ x = cc in
       absurd (d.0 (subst (λ l. Contains l q) (sym h) (among a r x q g)))
-    where
-      among : (b : Texts) (r : List ℕ) (y : Texts) (q : List ℕ) → q ≡ r → Contains (b ++ r ∷ y) q
-      among [] r y q g = (0, omega arith, sym g)
-      among (w ∷ b) r y q g = later w (b ++ r ∷ y) q (among b r y q g)
   one_front (q ∷ Q) (u ∷ a) (v ∷ b) x y r d e f =
       let g : Q ≡ a ++ r ∷ x = cc in
       let h : Q ≡ b ++ r ∷ y = cc in

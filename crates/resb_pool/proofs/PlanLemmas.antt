@@ -13,6 +13,7 @@ use Rattle.std.specs.Str.{bytes_eq}
 use Rattle.std.specs.Cmp.Lexicographic.{bytes_decides}
 use Rattle.std.proofs.lemmas.Bool.{cases_lt, ltb-true, ltb-false}
 use Rattle.std.proofs.lemmas.List.{get_or-map, length-map, nil_from_length}
+use Rattle.std.proofs.lemmas.Option.{slice_get-get_or}
 use Rattle.std.proofs.lemmas.List.Sums.{sum_by-cons, sum_by-append}
 use Rattle.resb_format.specs.Units.{units, size, length_marker}
 use Rattle.resb_pool.specs.Records.{IsRecord, IsRecords}
@@ -361,11 +362,6 @@ module _ (s : List ℕ) where
       by rest false e m (zero, lt, is) = true≢false (sym ((bytes_decides s k.now).1 (sym is)) ∙ e)
       by rest false e m (suc i, lt, is) = rest (omega (arith, m)) (i, omega (arith, lt), is)
 
-  get_some : (xs : List ℕ) (i : ℕ) → i < length xs → slice_get xs i ≡ Some (get_or xs i 0)
-  get_some [] i l = absurd (omega (arith, l))
-  get_some (x ∷ xs) zero l = refl
-  get_some (x ∷ xs) (suc i) l = get_some xs i (omega (arith, l))
-
   pub offset_at : (ks : List (Bor (List ℕ))) (os : List ℕ) → length os ≡ length ks
       → MatchOption (option_and_then (slice_get os) (position is_it ks)) (Contains (nows ks) s
       → ⊥) (λ k. (i : ℕ) × (i < length (nows ks)) × (text (nows ks) i ≡ s)
@@ -383,6 +379,6 @@ module _ (s : List ℕ) where
           let l : n < length ks = ltb-true n (length ks) f in
           subst (λ o. MatchOption o (Contains (nows ks) s → ⊥) (λ k. (i : ℕ)
           × (i < length (nows ks)) × (text (nows ks) i ≡ s) × (k ≡ get_or os i 0)))
-          (sym (get_some os n (omega (arith, l, e))))
+          (sym (slice_get-get_or os n 0 (omega (arith, l, e))))
           (n, omega (arith, l, length-map ks (λ (k : Bor (List ℕ)). k.now)), found_at ks l, refl)
       by false f = nowhere ks (ltb-false n (length ks) f)

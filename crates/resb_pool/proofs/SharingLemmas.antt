@@ -1,5 +1,5 @@
 -- A text lies in one record, and what the texts that lie in a record take.
-use Rattle.std.proofs.Common.{◌≡◌, ℕ, zero, suc, ◌+◌, ◌<◌, ◌≤◌, List, [], length, Bool, true, false}
+use Rattle.std.proofs.Common.{◌≡◌, ℕ, zero, suc, ◌<◌, ◌≤◌, List, [], length, Bool, true, false}
 use Rattle.std.proofs.Common.{cond, refl, sym, ◌∙◌, ap, subst, arith, reverse, length-append, inl}
 use Rattle.std.specs.List.{All, Contains}
 use Rattle.std.specs.Str.{IsUtf8, chars}
@@ -14,7 +14,7 @@ use Rattle.resb_pool.specs.Pool.{LiesIn, SizeIn, size_none, size_here, size_else
 use Rattle.resb_pool.specs.Records.{IsRecord}
 use Rattle.resb_pool.proofs.SuffixOrder.{end_last_total, tied_same}
 use Rattle.resb_pool.proofs.Cut.{key_same}
-use Rattle.resb_pool.proofs.Least.{units_end}
+use Rattle.resb_pool.proofs.Least.{units_end, size_le}
 
 abbrev Texts : Type 0
 Texts = List (List ℕ)
@@ -48,16 +48,13 @@ pub size_within : (S : Texts) → All IsUtf8 S → (s r : List ℕ) → Contains
     → (IsRecord S s → r ≡ s) → 0 < length s → size s ≤ size r
 size_within S texts s r c k itself pos = by (is_unmarked s) refl
   where
-    unmarked_le : (m n a b : ℕ) → m ≡ 0 → a ≤ b → m + a + 1 ≤ n + b + 1
-    unmarked_le m n a b e h = omega arith
-
     by : (b : Bool) → is_unmarked s ≡ b → size s ≤ size r
     by true e =
         let f = units_end r s (All-contains IsUtf8 S r texts k.own.given)
         (All-contains IsUtf8 S s texts c) k.ends in
         let m : length (marker s) ≡ 0 =
         ap (λ b. length (cond b [] (length_marker (length (units s))))) e in
-        unmarked_le (length (marker s)) (length (marker r)) (length (units s)) (length (units r)) m
+        size_le (length (marker s)) (length (marker r)) (length (units s)) (length (units r)) m
         (omega (arith, ap length f, length-append (units k.ends.front) (units s)))
     by false e =
         let same : r ≡ s = itself (record { given = c; nonempty = pos; alone = inl e }) in

@@ -5,7 +5,7 @@ use Rattle.std.proofs.Common.{sym, ◌∙◌, ap, arith}
 use Rattle.std.proofs.lemmas.List.{map_more, map_push}
 use Rattle.std.proofs.lemmas.List.Elements.{All-nil, All-cons}
 use Rattle.std.proofs.lemmas.List.Sums.{sum_by-append, sum_by-cons}
-use Rattle.std.proofs.lemmas.Bool.Decides.{nat_tests}
+use Rattle.std.proofs.lemmas.Bool.{leb-true, le-leb, lt-leb}
 use Rattle.std.specs.Prelude.{nat_le}
 use Rattle.resb_format.specs.Units.{units}
 use Rattle.resb_pool.specs.Plan.{nows, first_too_long, texts_size}
@@ -24,33 +24,24 @@ nows-split [] i d h = absurd (omega arith)
 nows-split (x ∷ xs) zero d h = refl
 nows-split (x ∷ xs) (suc i) d h = ap (λ l. x.now ∷ l) (nows-split xs i d (omega arith))
 
-fits : (n : ℕ) → n ≤ 4294967295 → nat_le n 4294967295 ≡ true
-fits n h = grind (arith, nat_tests)
-
-over : (n : ℕ) → 4294967295 < n → nat_le n 4294967295 ≡ false
-over n h = grind (arith, nat_tests)
-
-fitted : (n : ℕ) → nat_le n 4294967295 ≡ true → n ≤ 4294967295
-fitted n h = grind (arith, nat_tests)
-
 module _ (s : List ℕ) (ss : List (List ℕ)) where
   first_cases : (P : Type 0) → first_too_long (s ∷ ss) ≡ None
       → (length (units s) ≤ 4294967295 → first_too_long ss ≡ None → P) → P
   first_cases P h next = by (nat_le (length (units s)) 4294967295) refl
     where
       by : (b : Bool) → nat_le (length (units s)) 4294967295 ≡ b → P
-      by true e = next (fitted (length (units s)) e)
+      by true e = next (leb-true (length (units s)) 4294967295 e)
           (sym (ap (λ b. cond b (first_too_long ss) (Some (length (units s)))) e) ∙ h)
       by false e = (let k = sym (ap (λ b. cond b (first_too_long ss) (Some (length (units s)))) e)
           ∙ h in cc)
 
   first_more : (o : length (units s) ≤ 4294967295) → first_too_long (s ∷ ss) ≡ first_too_long ss
   first_more o = ap (λ b. cond b (first_too_long ss) (Some (length (units s))))
-      (fits (length (units s)) o)
+      (le-leb (length (units s)) 4294967295 o)
 
   first_here : 4294967295 < length (units s) → first_too_long (s ∷ ss) ≡ Some (length (units s))
   first_here o = ap (λ b. cond b (first_too_long ss) (Some (length (units s))))
-      (over (length (units s)) o)
+      (lt-leb (length (units s)) 4294967295 o)
 
 pub first_after : (ss rs : List (List ℕ)) → first_too_long ss ≡ None
     → first_too_long (ss ++ rs) ≡ first_too_long rs

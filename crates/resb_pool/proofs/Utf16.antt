@@ -11,7 +11,7 @@ use Rattle.std.specs.Char.Utf16.{has_unpaired_surrogate, utf16_lossy_chars}
 use Rattle.std.specs.Str.{chars, IsUtf8, IsAscii, encode_utf8_all}
 use Rattle.std.proofs.Math.Utf8.{scalar, scalars, scalar_cases, encode, encodes}
 use Rattle.std.proofs.lemmas.Str.{utf16_chars-nil, utf16_chars_lone, utf16_chars_pair, encode_ascii}
-use Rattle.std.proofs.lemmas.Str.{length-encode, len_utf8_bounds, scalars-chars, encodes-chars}
+use Rattle.std.proofs.lemmas.Str.{length-encode, scalars-chars, encodes-chars}
 use Rattle.std.proofs.lemmas.Str.{chars-IsAscii}
 use Rattle.std.proofs.lemmas.Bool.{and_parts, cases_lt, or_parts, or_from, ne_eqb, eqb-false}
 use Rattle.std.proofs.lemmas.Bool.Decides.{nat_tests}
@@ -154,16 +154,6 @@ units_le (c ∷ cs) = omega (
       (encode_utf16 c) (flat_map encode_utf16 cs),
   length-append (encode c) (encodes cs),
 )
-
-pub no_chars : (cs : List ℕ) → length (encodes cs) ≡ 0 → cs ≡ []
-no_chars [] e = refl
-no_chars (c ∷ cs) e = absurd (omega (
-  arith,
-  len_utf8_bounds c,
-  length-encode c,
-  length-append
-      (encode c) (encodes cs),
-))
 
 -- a text has no more units than bytes
 pub units_within : (s : List ℕ) → IsUtf8 s → length (units s) ≤ length s

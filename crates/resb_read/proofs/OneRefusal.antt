@@ -1,17 +1,14 @@
 -- A file is refused in one way.
-use Rattle.std.proofs.Common.{ℕ, List, ◌≡◌, inl, inr, Some, sym, ◌∙◌}
+use Rattle.std.proofs.Common.{◌≡◌, inl, inr, sym, ◌∙◌}
 use Rattle.resb_format.specs.Parts.{parts_of}
-use Rattle.resb_format.specs.Error.{Refusal, refusal_of}
+use Rattle.std.proofs.lemmas.Option.{same_Some}
+use Rattle.resb_format.specs.Error.{refusal_of}
 use Rattle.resb_format.specs.declared.error.ReadingError.{ReadingError}
 use Rattle.resb_head.specs.HeadChecks.{file_fault}
 use Rattle.resb_walk.specs.Refusals.{IsSpent}
 use Rattle.resb_walk.proofs.Meeting.{one_fault}
 use Rattle.resb_read.specs.Laws.{OneRefusal}
 use Rattle.resb_read.proofs.Rooted.{no_bundle}
-
-same_some : (bytes : List ℕ) {f g : Refusal} → file_fault bytes ≡ Some f → file_fault bytes ≡ Some g
-    → f ≡ g
-same_some bytes h k = cc
 
 both_spent : (d e : ReadingError) → IsSpent d → IsSpent e → refusal_of d ≡ refusal_of e
 both_spent d e h k =
@@ -20,7 +17,7 @@ both_spent d e h k =
     cc
 
 pub one_refusal : OneRefusal
-one_refusal bytes d e (inl h) (inl k) = inr (same_some bytes h k)
+one_refusal bytes d e (inl h) (inl k) = inr (same_Some _ _ (sym h ∙ k))
 one_refusal bytes d e (inl h) (inr (is, _, _)) = absurd (no_bundle bytes (refusal_of d) h is)
 one_refusal bytes d e (inr (is, _, _)) (inl k) = absurd (no_bundle bytes (refusal_of e) k is)
 one_refusal bytes d e (inr (_, inl m, _)) (inr k) = inl (inl m)

@@ -18,9 +18,6 @@ use Rattle.resb_read.specs.Places.{Place}
 use Rattle.resb_read.specs.Resources.{DenPlace, ReachesPlace, ReadsTree, MeetsPlace}
 use Rattle.resb_read.specs.Roots.{root_place, AtRoot, RefusesFile, TreeOf}
 
-pub passes : (bytes : List ℕ) → file_fault bytes ≡ None → IsBundleFile bytes
-passes bytes e = (bundle_file_passes bytes).0 e
-
 -- a file with a fault is no bundle
 pub no_bundle : (bytes : List ℕ) (f : Refusal) → file_fault bytes ≡ Some f → IsBundleFile bytes → ⊥
 no_bundle bytes f e h =
@@ -31,14 +28,14 @@ no_bundle bytes f e h =
 
 pub at_root : (P : Place → Type 0) (bytes : List ℕ) (p : Place) → file_fault bytes ≡ None
     → p ≡ root_place bytes → P p → AtRoot P bytes
-at_root P bytes p e same h = record { head = passes bytes e; root = subst P same h }
+at_root P bytes p e same h = record { head = (bundle_file_passes bytes).0 e; root = subst P same h }
 
 pub refused_root : (bytes : List ℕ) (p : Place) (left : ℕ) (e : ReadingError)
     → file_fault bytes ≡ None → p ≡ root_place bytes → left ≡ budget bytes
     → Refuses (DenPlace p) (ReachesPlace p) left e → Blames (MeetsPlace p) e → RefusesFile bytes e
 refused_root bytes p left e none same all h met =
     inr (
-      passes bytes none,
+      (bundle_file_passes bytes).0 none,
       subst (λ n. Refuses (DenPlace (root_place bytes)) (ReachesPlace (root_place bytes)) n e) all
           (subst (λ q. Refuses (DenPlace q) (ReachesPlace q) left e) same h),
       subst (λ q. Blames (MeetsPlace q) e) same met,
@@ -51,7 +48,10 @@ pub tree_root : (bytes : List ℕ) (p : Place) (left left' : ℕ) (r : Result Re
     → IfErr r (Blames (MeetsPlace p)) → TreeOf bytes r
 tree_root bytes p left left' (Ok x) none same all (n, (d, b), paid) h met = (
   n,
-  record { head = passes bytes none; root = subst (λ q. DenPlace q (tree_of x) n) same d },
+  record {
+    head = (bundle_file_passes bytes).0 none;
+    root = subst (λ q. DenPlace q (tree_of x) n) same d;
+  },
   omega arith,
   b,
 )
@@ -66,7 +66,7 @@ count_root bytes p left left' t n none same all d paid =
     let e : n ≡ left - left' = omega arith in (
       t,
       record {
-        head = passes bytes none;
+        head = (bundle_file_passes bytes).0 none;
         root = subst (λ k. DenPlace (root_place bytes) t k) e
             (subst (λ q. DenPlace q t n) same d);
       },

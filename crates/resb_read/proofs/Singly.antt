@@ -11,9 +11,6 @@ map_first f xs x rest e = ap (map f) e
 pub map_none : {A B : Type 0} (f : A → B) (xs : List A) → xs ≡ [] → map f xs ≡ []
 map_none f xs e = ap (map f) e
 
-pub map_length : {A B : Type 0} (f : A → B) (xs : List A) → length (map f xs) ≡ length xs
-map_length f xs = length-map xs f
-
 pub drop_first : {A : Type 0} (xs : List A) (x : A) (rest : List A) → xs ≡ x ∷ rest
     → drop 1 xs ≡ rest
 drop_first xs x rest e = ap (drop 1) e
@@ -29,4 +26,4 @@ pub ruleset firsts = (map_first, map_none, some_first)
 
 pub ruleset rests = (map_first, map_none, drop_first, none_left)
 
-pub ruleset lengths = (map_length, words_length)
+pub ruleset lengths = (length-map, words_length)

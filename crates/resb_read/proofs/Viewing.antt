@@ -1,8 +1,9 @@
 -- Why bytes are no view: they are no whole items, or there are none.
-use Rattle.std.proofs.Common.{ℕ, List, ◌≡◌, ◌≤◌, ◌+◌, Bool, true, false, Some, None, Option, refl}
+use Rattle.std.proofs.Common.{ℕ, List, ◌≡◌, ◌+◌, Bool, true, false, Some, None, Option, refl}
 use Rattle.std.proofs.Common.{sym, ◌∙◌, arith, ap, ◌%◌, length}
 use Rattle.std.specs.Prelude.{nat_le, if◌then◌else◌}
-use Rattle.std.proofs.lemmas.Bool.Decides.{nat_tests}
+use Rattle.std.proofs.lemmas.Bool.{leb-true, le-leb}
+use Rattle.std.proofs.lemmas.Option.{same_Some}
 use Rattle.resb_format.specs.Bytes.{words_of}
 use Rattle.resb_format.proofs.Spelled.{words_length}
 use Rattle.resb_format.specs.Error.{Refusal, IsWrongLength}
@@ -15,12 +16,6 @@ use Rattle.resb_read.specs.Leaves.{CountsBytes, bytes_from}
 use Rattle.resb_read.specs.Refused.{bytes_refusal}
 use Rattle.resb_read.specs.Others.{are_paid, view_refusal}
 
-le_from : (m n : ℕ) → nat_le m n ≡ true → m ≤ n
-le_from m n e = grind (arith, nat_tests, e)
-
-le_test : (m n : ℕ) → m ≤ n → nat_le m n ≡ true
-le_test m n h = grind (arith, nat_tests, h)
-
 unpaid : (there : Option (List ℕ × ℕ)) (left : ℕ) (wrong other : Refusal)
     → Lacks (CountsThere any there) left
     → (if are_paid there left then wrong else other) ≡ other
@@ -28,7 +23,7 @@ unpaid None left wrong other lacks = refl
 unpaid (Some (x, n)) left wrong other lacks = either (nat_le n left) refl
   where
     either : (b : Bool) → nat_le n left ≡ b → (if b then wrong else other) ≡ other
-    either true e = absurd (lacks n (x, (tt, refl)) (le_from n left e))
+    either true e = absurd (lacks n (x, (tt, refl)) (leb-true n left e))
     either false e = refl
 
 -- where no bytes are read, it is said why
@@ -44,15 +39,12 @@ pub no_items : (p : Place) (left left1 : ℕ) (b : List ℕ) (n : ℕ) (e : Read
 no_items p left left1 b n e there paid wrong =
     let k = wrong.kind_is in
     let m = wrong.message_is in
-    let t : nat_le n left ≡ true = le_test n left (omega arith) in
+    let t : nat_le n left ≡ true = le-leb n left (omega arith) in
     rw (there, t, k, m) refl
-
-some_injective : {A : Type 0} {x y : A} → Some x ≡ Some y → x ≡ y
-some_injective e = cc
 
 same_bytes : {there : Option (List ℕ × ℕ)} {b x : List ℕ} {m n : ℕ} → there ≡ Some (b, n)
     → there ≡ Some (x, m) → x ≡ b
-same_bytes e f = sym (ap (λ r. r.0) (some_injective (sym e ∙ f)))
+same_bytes e f = sym (ap (λ r. r.0) (same_Some _ _ (sym e ∙ f)))
 
 -- whole pairs are whole words of an even number
 pub even_words : (there : Option (List ℕ × ℕ)) (b x : List ℕ) (n m : ℕ) → there ≡ Some (b, n)

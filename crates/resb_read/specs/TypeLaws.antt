@@ -3,6 +3,7 @@
 use Rattle.std.specs.Prelude.{◌≡◌, ℕ, ℤ, ◌≤◌, ◌%◌, List, length, Bool, Option, Some, None, [], ◌∷◌}
 use Rattle.std.specs.Prelude.{◌+◌, IsSomeAnd}
 use Rattle.std.proofs.Common.{sym, ap, ◌∙◌, subst, arith}
+use Rattle.std.proofs.lemmas.Option.{same_Some}
 use Rattle.resb_read.specs.Places.{Place}
 use Rattle.resb_read.specs.Reading.{any, IsThere, CountsThere}
 use Rattle.resb_read.specs.Leaves.{IsWithin, signed_at, unsigned_at, bool_at, bits_at, text_from}
@@ -89,9 +90,6 @@ view_counted each p = there_counted (λ b. length b % each ≡ 0) (bytes_from p.
 pub view_one : (each : ℕ) (p : Place) (m n : ℕ) → CountsView each p m → CountsView each p n → m ≡ n
 view_one each p = there_one (λ b. length b % each ≡ 0) (bytes_from p.parts p.at)
 
-some_injective : {A : Type 0} {x y : A} → Some x ≡ Some y → x ≡ y
-some_injective e = cc
-
 module _ {X : Type 0} (reads : Place → X → ℕ → Type 0) (counts : Place → ℕ → Type 0)
     (counted : (p : Place) (v : X) (n : ℕ) → reads p v n → counts p n) where
   pub option_counted : (p : Place) (o : Option X) (n : ℕ) → IsSomeAnd o (λ x. reads p x n)
@@ -128,7 +126,7 @@ module _ (counts : Place → ℕ → Type 0)
 
   pub seq_one : (p : Place) (m n : ℕ) → CountsSeq counts p m → CountsSeq counts p n → m ≡ n
   seq_one p m n h k =
-      let same : h.places ≡ k.places = some_injective (sym h.are ∙ k.are) in
+      let same : h.places ≡ k.places = same_Some _ _ (sym h.are ∙ k.are) in
       let moved = subst (λ ps. CountsEach counts ps h.total) same h.each in
       let e : h.total ≡ k.total = each_one k.places h.total k.total moved k.each in
       let f : m ≡ 1 + h.total = h.count in
@@ -168,16 +166,17 @@ module _ (ck cv : Place → ℕ → Type 0) (ok : (p : Place) (m n : ℕ) → ck
 
   pub map_one : (p : Place) (m n : ℕ) → CountsMap ck cv p m → CountsMap ck cv p n → m ≡ n
   map_one p m n h k =
-      let same : h.places ≡ k.places = some_injective (sym h.are ∙ k.are) in
+      let same : h.places ≡ k.places = same_Some _ _ (sym h.are ∙ k.are) in
       let e : h.total ≡ k.total = pairs_one k.places h.total k.total
       (subst (λ ps. CountsPairs ck cv ps h.total) same h.each) k.each in
       let f : m ≡ 1 + h.total = h.count in
       let g : n ≡ 1 + k.total = k.count in omega arith
 
+-- at a spot stands one tree, of one count
 pub one_tree_at : (p : Parts) (s : Spot) (t u : Tree) (m n : ℕ) → DenSpot p s t m → DenSpot p s u n
-    → m ≡ n
-one_tree_at p (spot.Descriptor w) t u m n h k = (unique p h k).1
-one_tree_at p (spot.Unit v) t u m n h k = (unique_member p h k).1
+    → (t ≡ u) × (m ≡ n)
+one_tree_at p (spot.Descriptor w) t u m n h k = unique p h k
+one_tree_at p (spot.Unit v) t u m n h k = unique_member p h k
 one_tree_at p (spot.Word w) t u m n h k = absurd h
 one_tree_at p (spot.Key j) t u m n h k = absurd h
 
@@ -185,4 +184,4 @@ pub tree_counted : (p : Place) (t : Tree) (n : ℕ) → DenPlace p t n → Count
 tree_counted p t n h = (t, h)
 
 pub tree_one : (p : Place) (m n : ℕ) → CountsTree p m → CountsTree p n → m ≡ n
-tree_one p m n (t, h) (u, k) = one_tree_at p.parts p.at t u m n h k
+tree_one p m n (t, h) (u, k) = (one_tree_at p.parts p.at t u m n h k).1

@@ -40,7 +40,7 @@ impl<'de, 'm> Model for MapAccess<'de, 'm> {
 
 impl<'de, 'm> MapAccess<'de, 'm> {
     /// How many entries are still to come.
-    #[tactic(auto, using(crate::proofs::Singly::map_length))]
+    #[tactic(auto, using(crate::proofs::Singly::lengths))]
     pub fn size_hint(&self) -> usize
         ensures { result ≡ length self.now.rest }
     {

@@ -39,7 +39,7 @@ impl<'de, 'm> Model for SeqAccess<'de, 'm> {
 
 impl<'de, 'm> SeqAccess<'de, 'm> {
     /// How many members are still to come.
-    #[tactic(auto, using(crate::proofs::Singly::map_length))]
+    #[tactic(auto, using(crate::proofs::Singly::lengths))]
     pub fn size_hint(&self) -> usize
         ensures { result ≡ length self.now.rest }
     {

@@ -1,9 +1,10 @@
 -- Borrowed strings, level by level.
-use Rattle.std.proofs.Common.{◌≡◌, ℕ, Bool, true, false, ◌&&◌, List, [], ◌∷◌, ◌++◌, BTreeMap}
+use Rattle.std.proofs.Common.{◌≡◌, ℕ, Bool, true, List, [], ◌∷◌, ◌++◌, BTreeMap}
 use Rattle.std.proofs.Common.{Ordering, Less, Equal, Greater, nat_cmp, refl, ap, ◌∙◌}
 use Rattle.std.proofs.Common.{rules}
 use Rattle.std.specs.Prelude.{map, Result, Ok, Err, IfOk}
-use Rattle.std.proofs.lemmas.Bool.{false≢true}
+use Rattle.std.proofs.lemmas.Bool.{and_from, and_parts}
+use Rattle.std.proofs.lemmas.List.{map_push}
 use Rattle.std.specs.BTreeMap.{insert_entry}
 use Rattle.std.specs.Cmp.Lexicographic.{slice_cmp}
 use Rattle.std.specs.Ordering.{match_ordering}
@@ -15,30 +16,18 @@ use Rattle.resb_text.specs.Inner.Frames.{Look, looks, look_of, layer}
 use Rattle.resb_text.specs.declared.error.TextParserError.{TextParserError}
 use Rattle.resb_text.specs.declared.frames.Frame.{Frame}
 use Rattle.resb_text.specs.Borrowed.{all_true, is_borrowed}
-use Rattle.resb_text.specs.Inner.Shown.{Shown, shown, shows, shown_borrowed, entries_borrowed}
+use Rattle.resb_text.specs.Inner.Shown.{shown, shows, shown_borrowed, entries_borrowed}
 use Rattle.resb_text.specs.Inner.Shown.{term_shown}
 
 pub borrowed_table : (m : BTreeMap (List ℕ) Resource)
     → is_borrowed (Table m) ≡ entries_borrowed m.entries
 borrowed_table m = search (rules, the_lemmas)
 
-both : (a b : Bool) → a ≡ true → b ≡ true → (a && b) ≡ true
-both true b h k = k
-both false b h k = h
-
-first : (a b : Bool) → (a && b) ≡ true → a ≡ true
-first true b h = refl
-first false b h = h
-
-second : (a b : Bool) → (a && b) ≡ true → b ≡ true
-second true b h = h
-second false b h = absurd (false≢true h)
-
 -- all of one more
 pub all_snoc : (bs : List Bool) (b : Bool) → all_true bs ≡ true → b ≡ true
     → all_true (bs ++ b ∷ []) ≡ true
-all_snoc [] b h k = both b true k refl
-all_snoc (c ∷ bs) b h k = both c _ (first c _ h) (all_snoc bs b (second c _ h) k)
+all_snoc [] b h k = and_from b true k refl
+all_snoc (c ∷ bs) b h k = let all = and_parts c _ h in and_from c _ all.0 (all_snoc bs b all.1 k)
 
 at_ordering : (o : Ordering) (a b c : List (List ℕ × Resource)) → entries_borrowed a ≡ true
     → entries_borrowed b ≡ true → entries_borrowed c ≡ true
@@ -51,26 +40,21 @@ at_ordering Greater a b c h k l = l
 pub insert_borrowed : (es : List (List ℕ × Resource)) (k : List ℕ) (v : Resource)
     → is_borrowed v ≡ true → entries_borrowed es ≡ true
     → entries_borrowed (insert_entry (slice_cmp nat_cmp) es k v) ≡ true
-insert_borrowed [] k v h all = both (is_borrowed v) true h refl
+insert_borrowed [] k v h all = and_from (is_borrowed v) true h refl
 insert_borrowed (e ∷ es) k v h all =
-    at_ordering (slice_cmp nat_cmp k e.0) _ _ _ (both _ _ h all)
-    (both _ _ h (second _ _ all))
-    (both _ _ (first _ _ all) (insert_borrowed es k v h (second _ _ all)))
+    at_ordering (slice_cmp nat_cmp k e.0) _ _ _ (and_from _ _ h all)
+    (and_from _ _ h (and_parts _ _ all).1)
+    (and_from _ _ (and_parts _ _ all).0 (insert_borrowed es k v h (and_parts _ _ all).1))
 
 term_borrowed : (m : spec.Term) (f : Bool) → shown_borrowed (term_shown m f) ≡ true
 term_borrowed (spec.string_term s) f = refl
 term_borrowed (spec.group_term t ks) f = refl
 
-map_snoc : (xs : List Shown) (x : Shown)
-    → map shown_borrowed (xs ++ x ∷ []) ≡ map shown_borrowed xs ++ shown_borrowed x ∷ []
-map_snoc [] x = refl
-map_snoc (y ∷ xs) x = ap (λ bs. shown_borrowed y ∷ bs) (map_snoc xs x)
-
 -- what the machine's items show is borrowed
 pub shows_borrowed : (xs : List spec.Item) → all_true (map shown_borrowed (shows xs)) ≡ true
 shows_borrowed [] = refl
 shows_borrowed (x ∷ xs) =
-    ap all_true (map_snoc (shows xs) (term_shown x.term x.comma))
+    ap all_true (map_push shown_borrowed (shows xs) (term_shown x.term x.comma))
     ∙ all_snoc (map shown_borrowed (shows xs)) (shown_borrowed (term_shown x.term x.comma))
     (shows_borrowed xs) (term_borrowed x.term x.comma)
 

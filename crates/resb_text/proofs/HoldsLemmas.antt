@@ -1,6 +1,6 @@
 -- What each step does to the candidates for keys of the open groups.
 use Rattle.std.proofs.Common.{◌≡◌, ℕ, ◌+◌, ◌<◌, ◌≤◌, Bool, true, false, List, [], ◌∷◌, ◌++◌}
-use Rattle.std.proofs.Common.{refl, sym, ◌∙◌, ap, subst, arith, append_assoc}
+use Rattle.std.proofs.Common.{refl, sym, ◌∙◌, ap, subst, arith, append_assoc, append-nil}
 use Rattle.std.proofs.lemmas.Bool.{false≢true}
 use Rattle.std.proofs.lemmas.List.{map-append}
 use Rattle.resb_tree.specs.Tree.{Tree}
@@ -13,7 +13,6 @@ use Rattle.resb_text.specs.Inner.Discovered.{Numbered, without, texts}
 use Rattle.resb_text.specs.Inner.Frames.{lists}
 use Rattle.resb_text.specs.Inner.Frames.{left_after, Layer, layer, frame_keys}
 use Rattle.resb_text.specs.Inner.Frames.{IsFrom, Holds, none, one_more}
-use Rattle.resb_text.proofs.Keys.{append_nil}
 use Rattle.resb_text.proofs.KeyLemmas.{without-append, without-own, without-other, without-without}
 use Rattle.resb_text.proofs.KeyLemmas.{texts_snoc}
 
@@ -38,8 +37,8 @@ from_string n f s own h x = record {
       ∙ sym (frame_string f.body h f.items s);
   rest =
       ap texts (without-append n own (cand s n ∷ [])
-      ∙ ap (λ cs. without n own ++ cs) (without-own n s) ∙ append_nil (without n own))
-      ∙ x.rest ∙ sym (append_nil (array_keys f.items));
+      ∙ ap (λ cs. without n own ++ cs) (without-own n s) ∙ append-nil (without n own))
+      ∙ x.rest ∙ sym (append-nil (array_keys f.items));
   later =
       λ h lt. without-append h own (cand s n ∷ [])
       ∙ ap (λ cs. cs ++ without h (cand s n ∷ [])) (x.later h lt)
@@ -63,9 +62,9 @@ holds_item n f gs s cs h (one_more _ _ before own _ outer apart x e) =
     one_more (layer n (with_item (string_term s) f)) gs before own cs outer apart
     (record {
       whole =
-          x.whole ∙ ap (λ b. frame_keys b f.items) h ∙ sym (append_nil (array_keys f.items))
+          x.whole ∙ ap (λ b. frame_keys b f.items) h ∙ sym (append-nil (array_keys f.items))
           ∙ sym (ap (λ b. frame_keys b (plain (string_term s) ∷ f.items)) h);
-      rest = x.rest ∙ sym (append_nil (array_keys f.items));
+      rest = x.rest ∙ sym (append-nil (array_keys f.items));
       later = x.later;
     }) e
 
@@ -102,7 +101,7 @@ pub holds_leaf : (n : ℕ) (f : Frame) (gs : List Layer) (t : Tree) (cs : List N
     → Holds (layer n f ∷ gs) cs → Holds (layer n (with_item (group_term t []) f) ∷ gs) cs
 holds_leaf n f gs t cs x =
     subst (λ (ds : List Numbered). Holds (layer n (with_item (group_term t []) f) ∷ gs) ds)
-    (append_nil cs) (holds_group n (n + 1) f gs t [] cs [] x (omega arith) (λ h l. refl) refl)
+    (append-nil cs) (holds_group n (n + 1) f gs t [] cs [] x (omega arith) (λ h l. refl) refl)
 
 frame_new : (b : Body) → frame_keys b [] ≡ []
 frame_new table_body = refl
@@ -114,7 +113,7 @@ pub holds_new : (n : ℕ) (b : Body) (gs : List Layer) (cs : List Numbered) → 
     → ((h : ℕ) → n ≤ h → without h cs ≡ cs) → Holds (layer n (new_frame b) ∷ gs) cs
 holds_new n b gs cs x apart =
     one_more (layer n (new_frame b)) gs cs [] cs x apart
-    (record { whole = sym (frame_new b); rest = refl; later = λ h l. refl }) (sym (append_nil cs))
+    (record { whole = sym (frame_new b); rest = refl; later = λ h l. refl }) (sym (append-nil cs))
 
 one_string : (xs : List Item) (s : List ℕ) → shape_of xs ≡ a_string s → array_keys xs ≡ []
 one_string [] s e = cc

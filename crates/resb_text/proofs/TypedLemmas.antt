@@ -27,7 +27,9 @@ use Rattle.resb_text.specs.declared.error.TextParserError.{TextParserError}
 use Rattle.resb_grammar.specs.Token.{Means}
 use Rattle.resb_grammar.proofs.Moves.{move_means, further, byte_class, none_some, no_text_colon}
 use Rattle.resb_grammar.proofs.Complete.{MayOpen, type_next, run_head, run_content}
-use Rattle.resb_text.proofs.StepLemmas.{error_at, body_same, stuck_here, no_number, no_root_type}
+use Rattle.resb_grammar.proofs.LexLemmas.{no_number, no_root_type}
+use Rattle.resb_text.proofs.HeaderLemmas.{error_at}
+use Rattle.resb_text.proofs.StepLemmas.{body_same, stuck_here}
 
 may_open : (b : Body) (xs : List Item) → takes_group b (is_key_place xs) ≡ true → MayOpen b xs
 may_open table_body xs h = go (is_key_place xs) h

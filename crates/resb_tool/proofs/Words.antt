@@ -1,11 +1,5 @@
 -- Lists of two and of three words.
-use Rattle.std.proofs.Common.{ℕ, List, [], ◌∷◌, ◌≡◌, ◌≤◌, ◌<◌, true, length, get_or, sym, arith}
-use Rattle.std.specs.Str.{bytes_eq}
-use Rattle.std.proofs.lemmas.Slice.Eq.{bytes_eq-Decides}
-
--- what a test of two texts says
-pub same_text : (xs ys : List ℕ) → true ≡ bytes_eq xs ys → xs ≡ ys
-same_text xs ys h = (bytes_eq-Decides xs ys).0 (sym h)
+use Rattle.std.proofs.Common.{List, [], ◌∷◌, ◌≡◌, ◌≤◌, ◌<◌, length, get_or, arith}
 
 pub two_words : {A : Type 0} (xs : List A) (a b : A) → 2 ≤ length xs → length xs < 3
     → a ≡ get_or xs 0 a

@@ -8,7 +8,7 @@ use Rattle.std.specs.Map.{keys_of}
 use Rattle.std.specs.FinMap.{slice_cmp-IsAntisymmetric, nat_cmp-IsAntisymmetric}
 use Rattle.std.specs.FinMap.Entries as fin
 use Rattle.std.proofs.Common.{Ordering, Less, Equal, Greater, refl, sym, ap, ◌∙◌, subst}
-use Rattle.std.proofs.Common.{append_assoc}
+use Rattle.std.proofs.Common.{append_assoc, append-nil}
 use Rattle.resb_tree.specs.Tree.{Tree, Entries, no_entries, entry, entries_of, put, put_all, map_of}
 use Rattle.resb_tree.specs.Maps.{text_cmp, pairs_of, get, IsMap}
 
@@ -72,11 +72,7 @@ put_last (first ∷ done) e more h =
 put_all_after : (done ps : List (List ℕ × Tree))
     → IsStrictlySortedBy text_cmp (keys_of (done ++ ps))
     → put_all (entries_of done) ps ≡ entries_of (done ++ ps)
-put_all_after done [] h = ap entries_of (sym (append_nil done))
-  where
-    append_nil : (xs : List (List ℕ × Tree)) → xs ++ [] ≡ xs
-    append_nil [] = refl
-    append_nil (x ∷ xs) = ap (λ ys. x ∷ ys) (append_nil xs)
+put_all_after done [] h = ap entries_of (sym (append-nil done))
 put_all_after done (p ∷ ps) h =
     rw (put_last done p ps h)
     (put_all_after (done

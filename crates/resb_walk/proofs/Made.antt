@@ -1,5 +1,5 @@
 -- What a reader makes of resources, one more at the end.
-use Rattle.std.proofs.Common.{ℕ, List, [], ◌∷◌, ◌++◌, ◌≡◌, ◌&&◌, Bool, true, false, map, refl, ap}
+use Rattle.std.proofs.Common.{ℕ, List, [], ◌∷◌, ◌++◌, ◌≡◌, ◌&&◌, Bool, true, false, refl, ap}
 use Rattle.std.proofs.Common.{◌∙◌, nat_cmp}
 use Rattle.std.specs.declared.cmp.Ordering.{Ordering}
 use Rattle.std.specs.declared.cmp.Ordering.TheVariants.{Less, Equal, Greater}
@@ -11,11 +11,6 @@ use Rattle.resb_tree.specs.View.{tree_of, entries_view}
 use Rattle.resb_tree.specs.declared.resource.Resource.{Resource}
 use Rattle.resb_tree.proofs.ViewLemmas.{entries_view_insert}
 use Rattle.resb_walk.specs.Borrows.{borrows, all_borrow, entries_borrow}
-
-pub map_snoc : (rs : List Resource) (r : Resource)
-    → map tree_of (rs ++ r ∷ []) ≡ map tree_of rs ++ tree_of r ∷ []
-map_snoc [] r = refl
-map_snoc (s ∷ rs) r = ap (λ ts. tree_of s ∷ ts) (map_snoc rs r)
 
 put_all_snoc : (ps : List (List ℕ × Tree)) (es : Entries) (k : List ℕ) (t : Tree)
     → put_all es (ps ++ (k, t) ∷ []) ≡ put k t (put_all es ps)

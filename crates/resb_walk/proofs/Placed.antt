@@ -1,7 +1,7 @@
 -- What lies inside a block, by numbers of bytes.
 use Rattle.resb_format.proofs.Spelled.{words_length, units_length}
 use Rattle.std.specs.List.{zip}
-use Rattle.std.proofs.Common.{min, map, ℕ, List, [], ◌∷◌, ◌≡◌}
+use Rattle.std.proofs.Common.{min, ℕ, List, [], ◌∷◌, ◌≡◌}
 use Rattle.std.proofs.Common.{Bool, true, false, length, get_or, Some, None}
 use Rattle.std.proofs.Common.{refl, sym, ap, ◌∙◌, arith}
 use Rattle.std.specs.Prelude.{not}
@@ -63,9 +63,6 @@ string_fails block u e h = either (nat_lt u (length block) && is_no_marker (slic
               (let h : 117 ≡ 114 = ap (λ xs. get_or xs 0 0) (sym i.message_is ∙ m) in omega arith);
         }
 
-pub map_length : {A B : Type 0} (f : A → B) (xs : List A) → length (map f xs) ≡ length xs
-map_length f xs = length-map xs f
-
 pub zip_length : {A B : Type 0} (xs : List A) (ys : List B)
     → length (zip xs ys) ≡ min (length xs) (length ys)
 zip_length [] [] = omega arith
@@ -73,4 +70,4 @@ zip_length [] (y ∷ ys) = omega arith
 zip_length (x ∷ xs) [] = omega arith
 zip_length (x ∷ xs) (y ∷ ys) = let h = zip_length xs ys in omega (arith, h)
 
-pub ruleset lengths = (map_length, words_length, units_length)
+pub ruleset lengths = (length-map, words_length, units_length)

@@ -73,7 +73,7 @@ impl<'de> Make<'de> for Resource<'de> {
         Ok(Vec::with_capacity(alloc, room)?)
     }
 
-    #[tactic(auto, using(crate::proofs::Made::map_snoc, crate::proofs::Made::borrow_snoc))]
+    #[tactic(auto, using(std::proofs::lemmas::List::map_push, crate::proofs::Made::borrow_snoc))]
     fn add(
         mut list: Vec<Resource<'de>>,
         item: Resource<'de>,

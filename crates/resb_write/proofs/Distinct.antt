@@ -1,7 +1,7 @@
 -- Keys and the distinct ones among them have the same faults.
 use Rattle.std.proofs.Common.{◌≡◌, ℕ, zero, suc, List, [], ◌∷◌, Bool, true, false}
 use Rattle.std.proofs.Common.{cond}
-use Rattle.std.proofs.Common.{◌||◌, Bor, Some, None, is_some, ◌↔◌, refl, sym, ◌∙◌, ap}
+use Rattle.std.proofs.Common.{Bor, Some, None, is_some, ◌↔◌, refl, sym, ◌∙◌, ap}
 use Rattle.std.proofs.Common.{subst}
 use Rattle.std.proofs.Common.{arith, true≢false}
 use Rattle.std.specs.List.{Contains, list_any}
@@ -14,32 +14,10 @@ use Rattle.resb_pool.specs.Fault.{unexpected, limit}
 use Rattle.resb_write.specs.KeyBlock.{is_among}
 use Rattle.resb_write.specs.Faults.{is_unlisted, is_far, has_nul, key_fault}
 use Rattle.std.specs.Prelude.{codes}
+use Rattle.resb_write.proofs.Known.{any_member, member_any}
 
 abbrev Texts : Type 0
 Texts = List (List ℕ)
-
-pub some_passes : (f : List ℕ → Bool) (us : Texts) → list_any f us ≡ true
-    → (k : List ℕ) × Contains us k × (f k ≡ true)
-some_passes f [] e = absurd (true≢false (sym e))
-some_passes f (u ∷ us) e = by (some_passes f us) (f u) refl
-  where
-    by : (list_any f us ≡ true → (k : List ℕ) × Contains us k × (f k ≡ true)) → (b : Bool) → f u ≡ b
-        → (k : List ℕ) × Contains (u ∷ us) k × (f k ≡ true)
-    by rest true h = (u, (0, omega arith, refl), h)
-    by rest false h =
-        let r = rest (sym (ap (λ c. c || list_any f us) h) ∙ e) in
-        (r.0, (suc r.1.0, omega (arith, r.1.1), r.1.2), r.2)
-
-pub passes_any : (f : List ℕ → Bool) (us : Texts) (k : List ℕ) → Contains us k → f k ≡ true
-    → list_any f us ≡ true
-passes_any f [] k c h = absurd (omega (arith, c.1))
-passes_any f (u ∷ us) k (zero, lt, is) h = ap (λ b. b || list_any f us) (ap f is ∙ h)
-passes_any f (u ∷ us) k (suc i, lt, is) h =
-    ap (λ b. f u || b) (passes_any f us k (i, omega (arith, lt), is) h) ∙ or_true (f u)
-  where
-    or_true : (b : Bool) → (b || true) ≡ true
-    or_true true = refl
-    or_true false = refl
 
 any_same : (f : List ℕ → Bool) (us ws : Texts) → ((q : List ℕ) → Contains us q ↔ Contains ws q)
     → list_any f us ≡ list_any f ws
@@ -49,11 +27,11 @@ any_same f us ws h = by (list_any f us) (list_any f ws) refl refl
     by true true e g = refl
     by false false e g = refl
     by true false e g =
-        let r = some_passes f us e in
-        absurd (true≢false (sym (passes_any f ws r.0 ((h r.0).0 r.1) r.2) ∙ g))
+        let r = any_member f us e in
+        absurd (true≢false (sym (member_any f ws r.0 ((h r.0).0 r.1) r.2) ∙ g))
     by false true e g =
-        let r = some_passes f ws g in
-        absurd (true≢false (sym (passes_any f us r.0 ((h r.0).1 r.1) r.2) ∙ e))
+        let r = any_member f ws g in
+        absurd (true≢false (sym (member_any f us r.0 ((h r.0).1 r.1) r.2) ∙ e))
 
 -- three tests in a row
 pub fault_same : (us ws : Texts) → ((q : List ℕ) → Contains us q ↔ Contains ws q) → (js : Texts)
@@ -67,11 +45,11 @@ fault_same us ws h js i =
 
 among_contains : (us : Texts) (q : List ℕ) → is_among us q ≡ true → Contains us q
 among_contains us q e =
-    let r = some_passes (same_text q) us e in
+    let r = any_member (same_text q) us e in
     subst (Contains us) (sym ((bytes_decides q r.0).0 r.2)) r.1
 
-contains_among : (us : Texts) (q : List ℕ) → Contains us q → is_among us q ≡ true
-contains_among us q c = passes_any (same_text q) us q c ((bytes_decides q q).1 refl)
+pub contains_among : (us : Texts) (q : List ℕ) → Contains us q → is_among us q ≡ true
+contains_among us q c = member_any (same_text q) us q c ((bytes_decides q q).1 refl)
 
 module _ {V : Type 0} (q : List ℕ) where
   key_found : (es : List (Bor (List ℕ) × V)) → is_some (lookup (λ k. bytes_eq q k.now) es) ≡ true

@@ -4,15 +4,16 @@ use Rattle.std.proofs.Common.{Some, None, Bool, true, false, cond, ◌||◌, nat
 use Rattle.std.proofs.Common.{append-nil, arith}
 use Rattle.std.specs.List.{list_any, flat_map}
 use Rattle.std.specs.Option.{option_or}
+use Rattle.std.proofs.Math.Bool.{or-false}
 use Rattle.std.proofs.lemmas.List.Concat.{flat_map-append}
 use Rattle.std.proofs.lemmas.List.Folds.{list_any-append}
 use Rattle.std.proofs.lemmas.List.Sums.{sum_by-append, sum_by-cons}
 use Rattle.resb_tree.specs.Tree.{Tree}
-use Rattle.resb_tree.specs.View.{entries_view, items_view}
+use Rattle.resb_tree.specs.View.{entries_view}
 use Rattle.resb_tree.specs.declared.resource.Resource.{Resource}
 use Rattle.resb_format.specs.Units.{units}
 use Rattle.resb_pool.specs.Plan.{nows, first_too_long}
-use Rattle.resb_tree.specs.WalkOrder.{text_in, members, values_of}
+use Rattle.resb_tree.specs.WalkOrder.{text_in, values_of}
 use Rattle.resb_tree.specs.WalkOrder.{own_keys}
 use Rattle.resb_write.specs.PlainSize.{held_size, resources_size}
 use Rattle.resb_write.specs.Faults.{is_over_32_bits}
@@ -59,10 +60,6 @@ flat-push : (f : Tree → List (List ℕ)) (ts : List Tree) (t : Tree)
     → flat_map f (ts ++ t ∷ []) ≡ flat_map f ts ++ f t
 flat-push f ts t = flat_map-append f ts (t ∷ []) ∙ ap (λ l. flat_map f ts ++ l) (append-nil (f t))
 
-pub or_false : (b : Bool) → (b || false) ≡ b
-or_false true = refl
-or_false false = refl
-
 -- what a resource adds
 pub record Adds (old new : Contents) (t : Tree) : Type 0 where
   pub keys : nows new.keys.items ≡ nows old.keys.items ++ own_keys t
@@ -85,7 +82,7 @@ module _ (old new : Contents) (t : Tree) (a : Adds old new t) (ts : List Tree) (
           ∙ sym (first-append (flat_map text_in ts) (text_in t))
           ∙ ap first_too_long (sym (flat-push text_in ts t));
       over_is = a.over ∙ ap (λ b. b || is_over_32_bits t) g.over_is
-          ∙ ap (λ b. list_any is_over_32_bits ts || b) (sym (or_false (is_over_32_bits t)))
+          ∙ ap (λ b. list_any is_over_32_bits ts || b) (sym (or-false (is_over_32_bits t)))
           ∙ sym (list_any-append is_over_32_bits ts (t ∷ []));
     }
 
@@ -119,12 +116,8 @@ pub plain_integer : (old new : Contents)
     }
 plain_integer old new e = e ∙ (λ i. record old {
   size = min (old.size + (16 + 0)) (2 ^ 64 - 1);
-  has_count_over_32_bits = sym (or_false old.has_count_over_32_bits) i;
+  has_count_over_32_bits = sym (or-false old.has_count_over_32_bits) i;
 })
-
-pub items_long : (rs : List Resource) → length (members (items_view rs)) ≡ length rs
-items_long [] = refl
-items_long (r ∷ rs) = omega (arith, items_long rs)
 
 pub entries_long : (es : List (List ℕ × Resource))
     → length (values_of (entries_view es)) ≡ length es

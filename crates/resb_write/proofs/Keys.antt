@@ -8,6 +8,7 @@ use Rattle.std.specs.Option.{is_some}
 use Rattle.std.specs.Str.{bytes_eq}
 use Rattle.std.specs.Cmp.Lexicographic.{bytes_decides}
 use Rattle.std.proofs.lemmas.Bool.{cases_Bool}
+use Rattle.std.proofs.lemmas.Option.{none-some}
 use Rattle.std.proofs.lemmas.Bool.Decides.{same_from_decides, Decides-like}
 use Rattle.std.proofs.lemmas.List.Concat.{flat_map-append}
 use Rattle.std.proofs.lemmas.List.Folds.{list_any-append}
@@ -85,12 +86,6 @@ pub record StandsAt (bytes k : List ℕ) (n : ℕ) : Type 0 where
   pub place : length front ≡ n
   pub is : bytes ≡ front ++ (k ++ 0 ∷ back)
 
-text_same : (k j : List ℕ) → same_text k j ≡ true → k ≡ j
-text_same k j e = (bytes_decides k j).0 e
-
-pub none_some : (n : ℕ) → None ≡ Some n → ⊥
-none_some n e = cc
-
 stands_first : (k j : List ℕ) (js : List (List ℕ)) (n : ℕ) (b : Bool) → same_text k j ≡ b
     → cond (same_text k j) (Some 0) None ≡ Some n → StandsAt (key_bytes (j ∷ js)) k n
 stands_first k j js n true b e =
@@ -101,9 +96,9 @@ stands_first k j js n true b e =
       back = key_bytes js;
       place = g;
       is = append_assoc j (0 ∷ []) (key_bytes js)
-          ∙ ap (λ l. l ++ 0 ∷ key_bytes js) (sym (text_same k j b));
+          ∙ ap (λ l. l ++ 0 ∷ key_bytes js) (sym ((bytes_decides k j).0 b));
     }
-stands_first k j js n false b e = absurd (none_some n (sym (ap (λ t. cond t (Some 0) None) b) ∙ e))
+stands_first k j js n false b e = absurd (none-some n (sym (ap (λ t. cond t (Some 0) None) b) ∙ e))
 
 stands_in : (k j : List ℕ) (js : List (List ℕ)) (n : ℕ) (o : Option ℕ) → last_of k js ≡ o
     → ((m : ℕ) → last_of k js ≡ Some m → StandsAt (key_bytes js) k m)
@@ -131,7 +126,7 @@ stands_in k j js n None o later e =
 -- a key stands at the place of its last occurrence
 pub last_of-stands : (k : List ℕ) (js : List (List ℕ)) (n : ℕ) → last_of k js ≡ Some n
     → StandsAt (key_bytes js) k n
-last_of-stands k [] n e = absurd (none_some n e)
+last_of-stands k [] n e = absurd (none-some n e)
 last_of-stands k (j ∷ js) n e =
     stands_in k j js n (last_of k js) refl (λ m h. last_of-stands k js m h) e
 
@@ -192,7 +187,7 @@ position_moves a js at next e p =
 -- a key that has a place is in the list
 pub place_contained : (k : List ℕ) (js : List (List ℕ)) (n : ℕ) → last_of k js ≡ Some n
     → Contains js k
-place_contained k [] n e = absurd (none_some n e)
+place_contained k [] n e = absurd (none-some n e)
 place_contained k (j ∷ js) n e =
     contained_in k j js n (last_of k js) refl (λ m h. place_contained k js m h) e
   where
@@ -205,18 +200,15 @@ place_contained k (j ∷ js) n e =
       where
         first_contained : (k j : List ℕ) (js : List (List ℕ)) (n : ℕ) (b : Bool) → same_text k j ≡ b
             → cond (same_text k j) (Some 0) None ≡ Some n → Contains (j ∷ js) k
-        first_contained k j js n true b e = (0, omega arith, sym (text_same k j b))
+        first_contained k j js n true b e = (0, omega arith, sym ((bytes_decides k j).0 b))
         first_contained k j js n false b e =
-            absurd (none_some n (sym (ap (λ t. cond t (Some 0) None) b) ∙ e))
+            absurd (none-some n (sym (ap (λ t. cond t (Some 0) None) b) ∙ e))
 
 some_placed : (k j : List ℕ) (js : List (List ℕ)) (o : Option ℕ) → last_of k js ≡ o
     → last_of k (j ∷ js) ≡ None → last_of k js ≡ None
 some_placed k j js (Some m) o e =
-    absurd (none_some (length j + 1 + m) (sym e ∙ same_found k j js m o))
+    absurd (none-some (length j + 1 + m) (sym e ∙ same_found k j js m o))
 some_placed k j js None o e = o
-
-same_itself : (k j : List ℕ) → k ≡ j → same_text k j ≡ true
-same_itself k j e = (bytes_decides k j).1 e
 
 -- a key with no place isn't in the list
 pub no_place : (k : List ℕ) (js : List (List ℕ)) → last_of k js ≡ None → Contains js k → ⊥
@@ -224,8 +216,8 @@ no_place k [] e h = absurd (omega (arith, h.1))
 no_place k (j ∷ js) e (zero, lt, is) =
     let o = some_placed k j js (last_of k js) refl e in
     let f : Some 0 ≡ None = sym (same_none k j js o
-    ∙ ap (λ t. cond t (Some 0) None) (same_itself k j (sym is))) ∙ e in
-    none_some 0 (sym f)
+    ∙ ap (λ t. cond t (Some 0) None) ((bytes_decides k j).1 (sym is))) ∙ e in
+    none-some 0 (sym f)
 no_place k (j ∷ js) e (suc i, lt, is) = no_place k js (some_placed k j js (last_of k js) refl e) (
   i,
   omega arith,

@@ -1,13 +1,16 @@
 -- The keys and texts of a tree's resources are known where no key has a fault and the texts are
 -- planned.
-use Rattle.std.proofs.Common.{◌≡◌, ℕ, zero, suc, ◌+◌, ◌^◌, ◌<◌, List, [], ◌∷◌, ◌++◌, map, filter}
+use Rattle.std.proofs.Common.{◌≡◌, ℕ, zero, suc, ◌+◌, ◌^◌, ◌<◌, List, [], ◌∷◌, map, filter}
 use Rattle.std.proofs.Common.{Option, Some, None, option_map, MatchOption, All, Bool, true, false}
-use Rattle.std.proofs.Common.{cond, nat_lt, unwrap_or, inl, inr, refl, sym, ◌∙◌, ap, subst, arith}
+use Rattle.std.proofs.Common.{cond, nat_lt, unwrap_or, refl, sym, ◌∙◌, ap, subst, arith}
 use Rattle.std.specs.List.{list_any, flat_map, Contains}
 use Rattle.std.specs.Option.{is_none}
 use Rattle.std.specs.Cmp.Lexicographic.{bytes_decides}
-use Rattle.std.proofs.lemmas.Bool.{or_parts, or_cases, ltb-false, false≢true}
-use Rattle.std.proofs.lemmas.List.Elements.{All-nil, All-cons}
+use Rattle.std.proofs.lemmas.Bool.{ltb-false}
+use Rattle.std.proofs.lemmas.Bool.{both_ways, false_from_ne_true}
+use Rattle.std.proofs.lemmas.List.Elements.{All-nil, All-cons, Contains-append_left}
+use Rattle.std.proofs.lemmas.List.Elements.{Contains-append_right}
+use Rattle.std.proofs.lemmas.List.Folds.{Any-from_list_any, list_any-from_Any}
 use Rattle.resb_tree.specs.Tree.{Tree, string, array, table, binary, integer, int_vector}
 use Rattle.resb_tree.specs.Keys.{same_text}
 use Rattle.resb_pool.specs.Fault.{Fault}
@@ -25,23 +28,19 @@ use Rattle.resb_write.specs.Inner.NearPositions.{near_position, near_position_in
 use Rattle.resb_write.proofs.Keys.{place_contained}
 
 module _ {X : Type 0} where
+  pub member_any : (p : X → Bool) (xs : List X) (x : X) → Contains xs x → p x ≡ true
+      → list_any p xs ≡ true
+  member_any p xs x h t = list_any-from_Any p xs (h.0, x, h.1, h.2, t)
+
   pub none_member : (p : X → Bool) (xs : List X) (x : X) → list_any p xs ≡ false → Contains xs x
       → p x ≡ false
-  none_member p [] x e h = absurd (omega (arith, h.1))
-  none_member p (y ∷ ys) x e (zero, lt, is) = ap p (sym is) ∙ (or_parts (p y) (list_any p ys) e).0
-  none_member p (y ∷ ys) x e (suc i, lt, is) =
-      none_member p ys x (or_parts (p y) (list_any p ys) e).1 (i, omega arith, is)
+  none_member p xs x e h =
+      false_from_ne_true (p x)
+      (λ t. both_ways (list_any p xs) e (member_any p xs x h t))
 
   pub any_member : (p : X → Bool) (xs : List X) → list_any p xs ≡ true → (x : X) × Contains xs x
       × (p x ≡ true)
-  any_member p [] e = absurd (false≢true e)
-  any_member p (x ∷ xs) e = elim (or_cases (p x) (list_any p xs) e) [
-    | inl h ↦ (x, (0, omega arith, refl), h)
-    | inr h ↦ (let m = any_member p xs h in (m.0, (suc m.1.0, omega arith, m.1.2), m.2))
-  ]
-
-  later : (xs : List X) (y x : X) → Contains xs x → Contains (y ∷ xs) x
-  later xs y x h = (suc h.0, omega (arith, h.1), h.2)
+  any_member p xs e = let m = Any-from_list_any p xs e in (m.1, (m.0, m.2, m.3), m.4)
 
   kept_by : (p : X → Bool) (y : X) (ys : List X) (x : X) → (Contains (filter p ys) x → (p x ≡ true)
       × Contains ys x)
@@ -49,8 +48,8 @@ module _ {X : Type 0} where
       × Contains (y ∷ ys) x
   kept_by p y ys x f true e (zero, lt, is) = (ap p (sym is) ∙ e, (0, omega arith, is))
   kept_by p y ys x f true e (suc i, lt, is) =
-      (let k = f (i, omega arith, is) in (k.0, later ys y x k.1))
-  kept_by p y ys x f false e h = (let k = f h in (k.0, later ys y x k.1))
+      (let k = f (i, omega arith, is) in (k.0, Contains-append_right (y ∷ []) ys x k.1))
+  kept_by p y ys x f false e h = (let k = f h in (k.0, Contains-append_right (y ∷ []) ys x k.1))
 
   -- what a filter keeps passes its test, and was there
   pub kept : (p : X → Bool) (xs : List X) (x : X) → Contains (filter p xs) x → (p x ≡ true)
@@ -61,26 +60,16 @@ module _ {X : Type 0} where
   pub all_from : (P : X → Type 0) (xs : List X) → ((x : X) → Contains xs x → P x) → All P xs
   all_from P [] f = All-nil P
   all_from P (x ∷ xs) f = All-cons P x xs (f x (0, omega arith, refl))
-      (all_from P xs (λ y h. f y (later xs x y h)))
+      (all_from P xs (λ y h. f y (Contains-append_right (x ∷ []) xs y h)))
 
 module _ {A : Type 0} where
   pub in_flat : (f : Tree → List A) (ts : List Tree) (t : Tree) (x : A) → Contains ts t
       → Contains (f t) x → Contains (flat_map f ts) x
   in_flat f [] t x h c = absurd (omega (arith, h.1))
   in_flat f (u ∷ ts) t x (zero, lt, is) c =
-      in_front (f u) (flat_map f ts) x (subst (λ v. Contains (f v) x) (sym is) c)
-    where
-      in_front : (xs ys : List A) (x : A) → Contains xs x → Contains (xs ++ ys) x
-      in_front [] ys x h = absurd (omega (arith, h.1))
-      in_front (y ∷ xs) ys x (zero, lt, is) = (0, omega arith, is)
-      in_front (y ∷ xs) ys x (suc i, lt, is) =
-          later (xs ++ ys) y x (in_front xs ys x (i, omega arith, is))
+      Contains-append_left (f u) (flat_map f ts) x (subst (λ v. Contains (f v) x) (sym is) c)
   in_flat f (u ∷ ts) t x (suc i, lt, is) c =
-      behind (f u) (flat_map f ts) x (in_flat f ts t x (i, omega arith, is) c)
-    where
-      behind : (xs ys : List A) (x : A) → Contains ys x → Contains (xs ++ ys) x
-      behind [] ys x h = h
-      behind (y ∷ xs) ys x h = later (xs ++ ys) y x (behind xs ys x h)
+      Contains-append_right (f u) (flat_map f ts) x (in_flat f ts t x (i, omega arith, is) c)
 
 -- where keys us with those that are listed js have no fault
 module _ (us js : List (List ℕ)) (faultless : key_fault us js ≡ None) where
@@ -108,7 +97,7 @@ module _ (us js : List (List ℕ)) (faultless : key_fault us js ≡ None) where
   placed_each [] f = ([], refl)
   placed_each (k ∷ ks) f =
       let p = placed k (f k (0, omega arith, refl)) in
-      let r = placed_each ks (λ j c. f j (later ks k j c)) in
+      let r = placed_each ks (λ j c. f j (Contains-append_right (k ∷ []) ks j c)) in
       (p.0 ∷ r.0, λ i. p.1 i ∷ r.1 i)
 
   pub no_nul : (k : List ℕ) → Contains us k → has_nul k ≡ false

@@ -1,7 +1,7 @@
 -- Where each key of a tree is listed, no key is refused as unlisted.
 use Rattle.std.proofs.Common.{◌≡◌, ℕ, zero, suc, ◌+◌, List, [], ◌∷◌, ◌++◌, length, filter}
 use Rattle.std.proofs.Common.{Option, Some, None, option_map, Bool, true, false, cond, codes}
-use Rattle.std.proofs.Common.{refl, sym, ◌∙◌, ap, subst, append-nil, arith}
+use Rattle.std.proofs.Common.{refl, sym, ◌∙◌, ap, subst, append-nil, ⊎_elim, arith}
 use Rattle.std.specs.List.{Contains, list_any, flat_map}
 use Rattle.std.specs.Option.{is_none}
 use Rattle.std.specs.Cmp.Lexicographic.{bytes_decides}
@@ -20,15 +20,9 @@ use Rattle.resb_write.specs.Faults.{has_nul, is_unlisted, is_far, is_over_32_bit
 use Rattle.resb_write.specs.Faults.{fault, first_of}
 use Rattle.resb_write.proofs.Keys.{no_place}
 use Rattle.resb_write.proofs.Known.{any_member}
+use Rattle.resb_write.proofs.Distinct.{contains_among}
+use Rattle.std.proofs.lemmas.List.Elements.{Contains-append_cases}
 use Rattle.std.proofs.lemmas.Grind.{flat_map-append}
-
-module _ {A : Type 0} where
-  first_or_later : (xs ys : List A) (x : A) → Contains (xs ++ ys) x → (P : Type 0)
-      → (Contains xs x → P) → (Contains ys x → P) → P
-  first_or_later [] ys x h P f g = g h
-  first_or_later (y ∷ xs) ys x (zero, lt, is) P f g = f (0, omega arith, is)
-  first_or_later (y ∷ xs) ys x (suc i, lt, is) P f g =
-      first_or_later xs ys x (i, omega arith, is) P (λ h. f (suc h.0, omega (arith, h.1), h.2)) g
 
 pub contained-filter : {X : Type 0} (p : X → Bool) (xs : List X) (x : X) → p x ≡ true
     → Contains xs x → Contains (filter p xs) x
@@ -57,16 +51,14 @@ mutual
   pub contained_is_key : (k : List ℕ) (t : Tree) → Contains (keys_of t) k → is_key k t ≡ true
   contained_is_key k (string s) h = absurd (omega (arith, h.1))
   contained_is_key k (array ts) h =
-      first_or_later (flat_map own_keys (walk_each ts)) [] k
-      (subst (λ l. Contains l k) (flat_map-append own_keys (walk_each ts) (array ts ∷ [])) h)
-      (is_key k (array ts) ≡ true)
-      (λ g. contained_each k ts g) (λ g. absurd (omega (arith, g.1)))
+      ⊎_elim (λ g. contained_each k ts g) (λ g. absurd (omega (arith, g.1)))
+      (Contains-append_cases (flat_map own_keys (walk_each ts)) [] k
+      (subst (λ l. Contains l k) (flat_map-append own_keys (walk_each ts) (array ts ∷ [])) h))
   contained_is_key k (table es) h =
-      first_or_later (flat_map own_keys (walk_values es)) (entry_keys es ++ []) k
-      (subst (λ l. Contains l k) (flat_map-append own_keys (walk_values es) (table es ∷ [])) h)
-      (is_key k (table es) ≡ true)
-      (λ g. contained_values k es g) (λ g. contained_own k es
-      (subst (λ l. Contains l k) (append-nil (entry_keys es)) g))
+      ⊎_elim (λ g. contained_values k es g)
+      (λ g. contained_own k es (subst (λ l. Contains l k) (append-nil (entry_keys es)) g))
+      (Contains-append_cases (flat_map own_keys (walk_values es)) (entry_keys es ++ []) k
+      (subst (λ l. Contains l k) (flat_map-append own_keys (walk_values es) (table es ∷ [])) h))
   contained_is_key k (binary s) h = absurd (omega (arith, h.1))
   contained_is_key k (integer n) h = absurd (omega (arith, h.1))
   contained_is_key k (int_vector s) h = absurd (omega (arith, h.1))
@@ -75,20 +67,19 @@ mutual
       → is_key_in k ts ≡ true
   contained_each k no_trees h = absurd (omega (arith, h.1))
   contained_each k (more_trees t ts) h =
-      first_or_later (keys_of t) (flat_map own_keys (walk_each ts)) k
-      (subst (λ l. Contains l k) (flat_map-append own_keys (walk t) (walk_each ts)) h)
-      (is_key_in k (more_trees t ts) ≡ true)
-      (λ g. or_left _ _ (contained_is_key k t g)) (λ g. or_right _ _ (contained_each k ts g))
+      ⊎_elim (λ g. or_left _ _ (contained_is_key k t g))
+      (λ g. or_right _ _ (contained_each k ts g))
+      (Contains-append_cases (keys_of t) (flat_map own_keys (walk_each ts)) k
+      (subst (λ l. Contains l k) (flat_map-append own_keys (walk t) (walk_each ts)) h))
 
   contained_values : (k : List ℕ) (es : Entries) → Contains (flat_map own_keys (walk_values es)) k
       → is_key_of k es ≡ true
   contained_values k no_entries h = absurd (omega (arith, h.1))
   contained_values k (entry j t es) h =
-      first_or_later (keys_of t) (flat_map own_keys (walk_values es)) k
-      (subst (λ l. Contains l k) (flat_map-append own_keys (walk t) (walk_values es)) h)
-      (is_key_of k (entry j t es) ≡ true)
-      (λ g. or_left _ _ (or_right (same_text k j) _ (contained_is_key k t g)))
+      ⊎_elim (λ g. or_left _ _ (or_right (same_text k j) _ (contained_is_key k t g)))
       (λ g. or_right _ _ (contained_values k es g))
+      (Contains-append_cases (keys_of t) (flat_map own_keys (walk_values es)) k
+      (subst (λ l. Contains l k) (flat_map-append own_keys (walk t) (walk_values es)) h))
 
 -- the length of what is said, where a tree and keys don't belong together
 said : Fault → ℕ
@@ -105,11 +96,6 @@ module _ (t : Tree) (ks : List (List ℕ)) (listed : (k : List ℕ) → is_key k
   js : List (List ℕ)
   js = used (keys_of t) ks
 
-  among : (k : List ℕ) (us : List (List ℕ)) → Contains us k → is_among us k ≡ true
-  among k [] h = absurd (omega (arith, h.1))
-  among k (u ∷ us) (zero, lt, is) = or_left _ _ ((bytes_decides k u).1 (sym is))
-  among k (u ∷ us) (suc i, lt, is) = or_right _ _ (among k us (i, omega arith, is))
-
   placed : (k : List ℕ) → Contains us k → is_unlisted js k ≡ true → ⊥
   unfolding us js
   placed k c e = by (last_of k js) refl e
@@ -117,7 +103,7 @@ module _ (t : Tree) (ks : List (List ℕ)) (listed : (k : List ℕ) → is_key k
       by : (o : Option ℕ) → last_of k (used (keys_of t) ks) ≡ o
           → is_none (option_map (λ n. keys_start + n) o) ≡ true → ⊥
       by None h e = no_place k (used (keys_of t) ks) h (contained-filter (is_among (keys_of t)) ks k
-          (among k (keys_of t) c) (listed k (contained_is_key k t c)))
+          (contains_among (keys_of t) k c) (listed k (contained_is_key k t c)))
       by (Some n) h e = true≢false (sym e)
 
   all_listed : list_any (is_unlisted js) us ≡ false

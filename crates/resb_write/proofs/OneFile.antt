@@ -4,7 +4,7 @@ use Rattle.std.proofs.Common.{length, get_or, take, drop, Bool, refl, sym, ◌�
 use Rattle.std.proofs.Common.{subst, length-append, arith}
 use Rattle.std.specs.List.{flat_map}
 use Rattle.std.specs.Int.{to_le_bytes, w32}
-use Rattle.std.proofs.lemmas.List.{take-append-drop}
+use Rattle.std.proofs.lemmas.List.{take-append-drop, length-take-le}
 use Rattle.resb_tree.specs.Tree.{Tree}
 use Rattle.resb_format.specs.Bytes.{words_of}
 use Rattle.resb_format.specs.Laws.{EachFits}
@@ -108,13 +108,8 @@ module _ (a : List ℕ) (t : Tree) (fallback : Bool) (ks : List (List ℕ))
         length-append (take 32 (body_of a)) (drop 32 (body_of a)),
         ap length w.body,
         long,
-        take_long 32 (body_of a) long,
+        length-take-le 32 (body_of a) long,
       )
-    where
-      take_long : (n : ℕ) (xs : List ℕ) → n ≤ length xs → length (take n xs) ≡ n
-      take_long zero xs h = refl
-      take_long (suc n) [] h = absurd (omega (arith, h))
-      take_long (suc n) (x ∷ xs) h = omega (arith, take_long n xs (omega (arith, h)))
 
 module _ (a b : List ℕ) (t : Tree) (fallback : Bool) (ks : List (List ℕ)) (fa : EachFits 8 a)
     (fb : EachFits 8 b) (x : Written a t fallback ks) (y : Written b t fallback ks) where

@@ -1,9 +1,9 @@
 -- What a small plain size says: no fault of sizes, and room for the pool and the bodies.
 use Rattle.std.proofs.Common.{◌||◌, ◌≡◌, ℕ, ◌+◌, ◌-◌, ◌*◌, ◌%◌, ◌^◌, ◌<◌, ◌≤◌, List, [], ◌∷◌, ◌++◌}
 use Rattle.std.proofs.Common.{length, Option, Some, None, Bool, true, false, cond, nat_le}
-use Rattle.std.proofs.Common.{nat_lt, replicate, refl, sym, ◌∙◌, ap, length-append, arith}
+use Rattle.std.proofs.Common.{replicate, refl, sym, ◌∙◌, ap, length-append, arith}
 use Rattle.std.specs.List.{list_any, flat_map, sum_by}
-use Rattle.std.proofs.lemmas.Bool.Decides.{nat_tests}
+use Rattle.std.proofs.lemmas.Bool.{le-leb, le-ltb}
 use Rattle.std.proofs.lemmas.List.{length-replicate}
 use Rattle.std.proofs.lemmas.List.Sums.{sum_by-append, sum_by-cons}
 use Rattle.resb_tree.specs.Tree.{Tree, string, array, table, binary, integer, int_vector}
@@ -46,12 +46,9 @@ none_too_long [] h = refl
 none_too_long (s ∷ ss) h =
     let e = texts_cons s ss in
     let f : nat_le (length (units s)) 4294967295 ≡ true =
-    fits (length (units s)) (omega (arith, e, h)) in
+    le-leb (length (units s)) 4294967295 (omega (arith, e, h)) in
     ap (λ b. cond b (first_too_long ss) (Some (length (units s)))) f
     ∙ none_too_long ss (omega (arith, e, h))
-  where
-    fits : (n : ℕ) → n < 2 ^ 28 → nat_le n 4294967295 ≡ true
-    fits n l = grind (arith, nat_tests)
 
 none_over : (ts : List Tree) → resources_size ts < 2 ^ 28 → list_any is_over_32_bits ts ≡ false
 none_over [] h = refl
@@ -60,16 +57,13 @@ none_over (t ∷ ts) h =
     let f : is_over_32_bits t ≡ false = by t (omega (arith, e, h)) in
     ap (λ b. b || list_any is_over_32_bits ts) f ∙ none_over ts (omega (arith, e, h))
   where
-    below : (n : ℕ) → n < 2 ^ 30 → nat_lt 4294967295 n ≡ false
-    below n l = grind (arith, nat_tests)
-
     by : (u : Tree) → held_size u < 2 ^ 28 → is_over_32_bits u ≡ false
     by (string s) l = refl
-    by (array us) l = below (length (members us)) (omega (arith, l))
+    by (array us) l = le-ltb 4294967295 (length (members us)) (omega (arith, l))
     by (table es) l = refl
-    by (binary s) l = below (length s) (omega (arith, l))
+    by (binary s) l = le-ltb 4294967295 (length s) (omega (arith, l))
     by (integer n) l = refl
-    by (int_vector ns) l = below (length ns) (omega (arith, l))
+    by (int_vector ns) l = le-ltb 4294967295 (length ns) (omega (arith, l))
 
 pub small_sizes : (ts : List Tree) → resources_size ts < 2 ^ 28 → size_fault ts ≡ None
 small_sizes ts h = no_size_fault ts (none_too_long (flat_map text_in ts)

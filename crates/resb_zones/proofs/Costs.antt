@@ -26,6 +26,7 @@ use Rattle.std.proofs.Common.{
 use Rattle.std.specs.Option.{option_map}
 use Rattle.std.specs.List.{All}
 use Rattle.std.proofs.lemmas.List.Elements.{All-cons, All-nil}
+use Rattle.std.proofs.lemmas.Option.{same_Some}
 use Rattle.resb.specs.Places.{Place, spot_of}
 use Rattle.resb.specs.Parts.{Parts}
 use Rattle.resb.specs.Content.{Member, word, unit}
@@ -78,17 +79,14 @@ pub entries_are : (p : Place) (places : List (Place × Place)) → entries p ≡
     → All IsEntry places
 entries_are p places e = entries_at p.parts p.at places e
 
-some_is : {A : Type 0} {x y : A} → Some x ≡ Some y → x ≡ y
-some_is e = cc
-
 -- what stands there has the count that it is given
 counted_as : {A B : Type 0} (f : A → B) (k : ℕ) (o : Option A) (q : B × ℕ)
     → option_map {U = B × ℕ} (λ x. (f x, k)) o ≡ Some q → q.1 ≡ k
-counted_as f k (Some x) q e = sym (ap (λ r. r.1) (some_is e))
+counted_as f k (Some x) q e = sym (ap (λ r. r.1) (same_Some _ _ e))
 counted_as f k None q e = cc
 
 chosen : {A : Type 0} (b : Bool) (p q : A × ℕ) → (if b then Some p else None) ≡ Some q → q.1 ≡ p.1
-chosen true p q e = sym (ap (λ r. r.1) (some_is e))
+chosen true p q e = sym (ap (λ r. r.1) (same_Some _ _ e))
 chosen false p q e = cc
 
 key_at_spot : (p : Parts) (s : Spot) (q : List ℕ × ℕ) → key_from p s ≡ Some q → q.1 ≡ 0
@@ -125,7 +123,8 @@ view_costs each p n c (x, h) = bytes_at_spot p.parts p.at (x, n) c h.1
 
 -- a key has one text
 pub one_name : (p : Place) (x y : List ℕ) (m n : ℕ) → ReadsKey p x m → ReadsKey p y n → x ≡ y
-one_name p x y m n h k = let P : List ℕ × ℕ → List ℕ = λ r. r.0 in ap P (some_is (sym h.1 ∙ k.1))
+one_name p x y m n h k =
+    let P : List ℕ × ℕ → List ℕ = λ r. r.0 in ap P (same_Some _ _ (sym h.1 ∙ k.1))
 
 -- where the value that a name asks for can't be read and paid for, the entry can't be read or
 -- nothing is left

@@ -35,10 +35,7 @@ pub on_err : {X E : Type 0} (r : Result X E) (P : Type 0) → P → OnErr r P
 on_err (Ok x) P h = tt
 on_err (Err e) P h = h
 
--- what a test of two texts says
-pub same_text : (xs ys : List ℕ) → true ≡ bytes_eq xs ys → xs ≡ ys
-same_text xs ys h = (bytes_eq-Decides xs ys).0 (sym h)
-
+-- what a test says that finds two texts different
 pub other_text : (xs ys : List ℕ) → false ≡ bytes_eq xs ys → xs ≡ ys → ⊥
 other_text xs ys h e = let t : bytes_eq xs ys ≡ true = (bytes_eq-Decides xs ys).1 e in cc
 

@@ -2,6 +2,7 @@
 use Rattle.std.proofs.Common.{ℕ, List, ◌≡◌, ◌+◌, ◌⊎◌, inl, inr, Some, None, length, refl, sym}
 use Rattle.std.proofs.Common.{subst, ◌∙◌}
 use Rattle.std.specs.List.{All}
+use Rattle.std.proofs.lemmas.Option.{same_Some}
 use Rattle.resb.specs.Places.{Place}
 use Rattle.resb.specs.Sequences.{entries}
 use Rattle.resb_zones.specs.Zones.{base_name, pairs_name, ReadsNumber, IsNamed, ReadsZone}
@@ -10,9 +11,6 @@ use Rattle.resb_zones.specs.Inner.Fields.{ReadsPairs, LastSoFar, HasSeen}
 use Rattle.resb_zones.specs.declared.fields.Fields.{Fields}
 use Rattle.resb_zones.specs.declared.zone.Zone.{Zone}
 use Rattle.resb_zones.proofs.Fronts.{none_is_last}
-
-some_is : {A : Type 0} {x y : A} → Some x ≡ Some y → x ≡ y
-some_is e = cc
 
 module _ (p : Place) (places : List (Place
     × Place)) (are : entries p ≡ Some places) (f : Fields) (seen : HasSeen places f) where
@@ -37,12 +35,12 @@ module _ (p : Place) (places : List (Place
 
   pub no_zone : (f.base ≡ None) ⊎ (f.pairs ≡ None) → (n : ℕ) → CountsZone p n → ⊥
   no_zone (inl none) n h =
-      let same : places ≡ h.places = some_is (sym are ∙ h.are) in
+      let same : places ≡ h.places = same_Some _ _ (sym are ∙ h.are) in
       let lacks = subst (LastSoFar base_name ReadsNumber places) none seen.base in
       none_is_last base_name h.places h.base (subst (All (λ e. IsNamed base_name e
       → ⊥)) same lacks) h.base_last
   no_zone (inr none) n h =
-      let same : places ≡ h.places = some_is (sym are ∙ h.are) in
+      let same : places ≡ h.places = same_Some _ _ (sym are ∙ h.are) in
       let lacks = subst (LastSoFar pairs_name ReadsPairs places) none seen.pairs in
       none_is_last pairs_name h.places h.pairs (subst (All (λ e. IsNamed pairs_name e
       → ⊥)) same lacks) h.pairs_last

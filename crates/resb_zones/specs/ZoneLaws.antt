@@ -1,8 +1,9 @@
 -- The laws of zones and of tables of zones: a reading has its count, and a place has at most one.
-use Rattle.std.specs.Prelude.{◌≡◌, ◌+◌, ℕ, Some, length}
+use Rattle.std.specs.Prelude.{◌≡◌, ◌+◌, ℕ, length}
 use Rattle.std.specs.Ordering.{nat_cmp}
 use Rattle.std.specs.Cmp.Lexicographic.{slice_cmp}
 use Rattle.std.proofs.Common.{sym, ap, ◌∙◌, arith}
+use Rattle.std.proofs.lemmas.Option.{same_Some}
 use Rattle.resb.specs.Places.{Place}
 use Rattle.resb.specs.Leaves.{ReadsKey, CountsKey}
 use Rattle.resb.specs.TypeLaws.{key_counted, key_one}
@@ -24,12 +25,9 @@ zone_counted p z n h =
       count = h.count;
     }
 
-some_injective : {A : Type 0} {x y : A} → Some x ≡ Some y → x ≡ y
-some_injective e = cc
-
 pub zone_one : (p : Place) (m n : ℕ) → CountsZone p m → CountsZone p n → m ≡ n
 zone_one p m n h k =
-    let same : length h.places ≡ length k.places = ap length (some_injective (sym h.are ∙ k.are)) in
+    let same : length h.places ≡ length k.places = ap length (same_Some _ _ (sym h.are ∙ k.are)) in
     let f : m ≡ 1 + length h.places = h.count in
     let g : n ≡ 1 + length k.places = k.count in omega arith
 

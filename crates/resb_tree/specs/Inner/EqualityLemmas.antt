@@ -1,9 +1,10 @@
 -- The test of equality decides whether two trees are equal.
-use Rattle.std.specs.Prelude.{Bool, true, false, ◌&&◌}
+use Rattle.std.specs.Prelude.{true, false}
 use Rattle.std.specs.Bool.{Decides}
 use Rattle.std.specs.Cmp.{IsPartialEquivalence, both_ways, first_so, second_so, nat_eq_equiv}
 use Rattle.std.specs.Cmp.Lexicographic.{bytes_decides, nat_list_eq_equiv}
 use Rattle.std.proofs.Common.{◌≡◌, refl, sym, ap, ◌∙◌, true≢false, eqb-true}
+use Rattle.std.proofs.lemmas.Bool.{and_from}
 use Rattle.resb_tree.specs.Tree.{Tree, string, array, table, binary, integer, int_vector, Trees}
 use Rattle.resb_tree.specs.Tree.{no_trees, more_trees, Entries, no_entries, entry}
 use Rattle.resb_tree.specs.Equality.{tree_eq, trees_eq, entries_eq}
@@ -44,9 +45,6 @@ mutual
       (tree_eq_true t u (second_so _ _ (first_so _ _ e)) i)
       (entries_eq_true es fs (second_so _ _ e) i)
 
-both_true : (a b : Bool) → a ≡ true → b ≡ true → (a && b) ≡ true
-both_true a b e f = λ i. e i && f i
-
 mutual
   pub tree_eq_refl : (a : Tree) → tree_eq a a ≡ true
   tree_eq_refl (string s) = nat_list_eq_equiv.refl s
@@ -58,12 +56,12 @@ mutual
 
   trees_eq_refl : (ts : Trees) → trees_eq ts ts ≡ true
   trees_eq_refl no_trees = refl
-  trees_eq_refl (more_trees t ts) = both_true _ _ (tree_eq_refl t) (trees_eq_refl ts)
+  trees_eq_refl (more_trees t ts) = and_from _ _ (tree_eq_refl t) (trees_eq_refl ts)
 
   entries_eq_refl : (es : Entries) → entries_eq es es ≡ true
   entries_eq_refl no_entries = refl
   entries_eq_refl (entry k t es) =
-      both_true _ _ (both_true _ _ (nat_list_eq_equiv.refl k) (tree_eq_refl t)) (entries_eq_refl es)
+      and_from _ _ (and_from _ _ (nat_list_eq_equiv.refl k) (tree_eq_refl t)) (entries_eq_refl es)
 
 pub tree_eq_decides : (a b : Tree) → Decides (tree_eq a b) (a ≡ b)
 tree_eq_decides a b = (tree_eq_true a b, λ e. ap (λ c. tree_eq a c) (sym e) ∙ tree_eq_refl a)

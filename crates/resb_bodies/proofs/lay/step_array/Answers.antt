@@ -6,14 +6,15 @@ use Rattle.resb_tree.specs.View.{items_view}
 use Rattle.resb_bodies.specs.StackSteps.{LaysNext}
 use Rattle.resb_bodies.specs.Room.{given_by, state_of}
 use Rattle.resb_bodies.specs.Inner.Seen.{Takes}
-use Rattle.resb_bodies.proofs.Walks.{nil_from_len, items_long}
+use Rattle.std.proofs.lemmas.List.{nil_from_length}
+use Rattle.resb_bodies.proofs.Walks.{items_long}
 use Rattle.resb_bodies.proofs.Stacks.{split_stack, array_step, empty_array_step}
 use Rattle.resb_bodies.proofs.lay.step_array.Goals as goal
 
 pub returns-then-is_empty-clause-step : goal.returns-then-is_empty-clause-step
 returns-then-is_empty-clause-step c =
     let z : c.args.items.now ≡ [] =
-    nil_from_len c.args.items.now (eqb-true (length c.args.items.now) 0 (sym c.is_empty.ensures
+    nil_from_length c.args.items.now (eqb-true (length c.args.items.now) 0 (sym c.is_empty.ensures
     ∙ c.if-is_empty.true)) in
     on_ok_weaker c.replace.result (λ h. subst (λ rs. LaysNext (given_by c.args.sites.now)
     (state_of c.args.bodies.now) c.args.words.now.items (array (items_view rs))

@@ -6,7 +6,7 @@ use Rattle.resb_layout.specs.Laid.{ClosesTable}
 use Rattle.resb_tree.specs.WalkOrder.{entry_keys}
 use Rattle.resb_bodies.specs.StackSteps.{LaysNext}
 use Rattle.resb_bodies.specs.Room.{given_by, state_of}
-use Rattle.resb_bodies.proofs.Walks.{nil_from_len}
+use Rattle.std.proofs.lemmas.List.{nil_from_length}
 use Rattle.resb_bodies.proofs.Keys.{keys_long, values_long, placed_long, not_none}
 use Rattle.resb_bodies.proofs.Stacks.{split_stack, table_step, empty_table_step}
 use Rattle.resb_bodies.proofs.lay.step_table.Goals as goal
@@ -14,7 +14,7 @@ use Rattle.resb_bodies.proofs.lay.step_table.Goals as goal
 pub returns-then-is_empty-clause-step : goal.returns-then-is_empty-clause-step
 returns-then-is_empty-clause-step c =
     let z : c.args.table.now.entries ≡ [] =
-    nil_from_len c.args.table.now.entries (c.is_empty.ensures.0 c.if-is_empty.true) in
+    nil_from_length c.args.table.now.entries (c.is_empty.ensures.0 c.if-is_empty.true) in
     on_ok_weaker c.replace.result (λ h. subst (λ es. LaysNext (given_by c.args.sites.now)
     (state_of c.args.bodies.now) c.args.words.now.items (table (entries_view es))
     (state_of c.args.bodies.now) c.replace.new.words.items) (sym z)

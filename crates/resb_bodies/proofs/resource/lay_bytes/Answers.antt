@@ -4,14 +4,14 @@ use Rattle.std.proofs.lemmas.Bool.{eqb-true, eqb-false}
 use Rattle.resb_tree.specs.Tree.{binary}
 use Rattle.resb_layout.specs.Laid.{Lays, lays_no_bytes, fill, to_data, to_word}
 use Rattle.resb_bodies.specs.Room.{given_by, state_of}
-use Rattle.resb_bodies.proofs.Walks.{nil_from_len}
+use Rattle.std.proofs.lemmas.List.{nil_from_length}
 use Rattle.resb_bodies.proofs.Closings.{bytes_laid}
 use Rattle.resb_bodies.proofs.resource.lay_bytes.Goals as goal
 
 pub returns-then-is_empty-clause-lays : goal.returns-then-is_empty-clause-lays
 returns-then-is_empty-clause-lays c =
     let z : c.args.bytes.now ≡ [] =
-    nil_from_len c.args.bytes.now (eqb-true (length c.args.bytes.now) 0 (sym c.is_empty.ensures
+    nil_from_length c.args.bytes.now (eqb-true (length c.args.bytes.now) 0 (sym c.is_empty.ensures
     ∙ c.if-is_empty.true)) in
     subst (λ ns. Lays (given_by c.args.sites.now) (state_of c.args.bodies.now) (binary ns)
     (state_of c.args.bodies.now) c.word.result) (sym z)

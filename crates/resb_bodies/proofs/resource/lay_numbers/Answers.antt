@@ -4,14 +4,14 @@ use Rattle.std.proofs.lemmas.List.Elements.{All-from_get_or}
 use Rattle.resb_tree.specs.Tree.{int_vector}
 use Rattle.resb_layout.specs.Laid.{Lays, lays_no_numbers}
 use Rattle.resb_bodies.specs.Room.{given_by, state_of}
-use Rattle.resb_bodies.proofs.Walks.{nil_from_len}
+use Rattle.std.proofs.lemmas.List.{nil_from_length}
 use Rattle.resb_bodies.proofs.Closings.{numbers_laid, tail_taken}
 use Rattle.resb_bodies.proofs.resource.lay_numbers.Goals as goal
 
 pub returns-then-is_empty-clause-lays : goal.returns-then-is_empty-clause-lays
 returns-then-is_empty-clause-lays c =
     let z : c.args.numbers.now ≡ [] =
-    nil_from_len c.args.numbers.now (eqb-true (length c.args.numbers.now) 0
+    nil_from_length c.args.numbers.now (eqb-true (length c.args.numbers.now) 0
     (sym c.is_empty.ensures ∙ c.if-is_empty.true)) in
     subst (λ ns. Lays (given_by c.args.sites.now) (state_of c.args.bodies.now) (int_vector ns)
     (state_of c.args.bodies.now) c.word.result) (sym z)

@@ -7,7 +7,8 @@ use Rattle.resb_tree.specs.View.{tree_of}
 use Rattle.resb_bodies.specs.StackSteps.{LaysRow, steps_none}
 use Rattle.resb_bodies.specs.Room.{given_by, state_of, trees_in, most_units, HasRoomFor}
 use Rattle.resb_bodies.specs.Inner.Seen.{CanLay}
-use Rattle.resb_bodies.proofs.Walks.{trees-push, nil_from_len}
+use Rattle.std.proofs.lemmas.List.{nil_from_length}
+use Rattle.resb_bodies.proofs.Walks.{trees-push}
 use Rattle.resb_bodies.proofs.Rows.{steps_push, step_long, can_go_on}
 use Rattle.resb_bodies.proofs.tree.steps.Goals as goal
 
@@ -64,7 +65,7 @@ loop-resource-preserved c =
 pub returns-clause-fits : goal.returns-clause-fits
 returns-clause-fits c =
     let end : into_iter_len c.loop-resource.resource-iterator ≡ 0 = search rules in
-    let none = nil_from_len (into_iter_items c.loop-resource.resource-iterator)
+    let none = nil_from_length (into_iter_items c.loop-resource.resource-iterator)
     (sym c.loop-resource.invariant.1 ∙ end) in
     subst (λ rs. HasRoomFor (given_by c.args.sites.now) (state_of c.loop-resource.bodies)
     (trees_in rs)) none c.loop-resource.invariant.3.room
@@ -74,7 +75,7 @@ returns-clause-takes c =
     let all : into_iter_items c.into_iter-resource-iterator.result ≡ c.args.order.items =
     search rules in
     let end : into_iter_len c.loop-resource.resource-iterator ≡ 0 = search rules in
-    let none = nil_from_len (into_iter_items c.loop-resource.resource-iterator)
+    let none = nil_from_length (into_iter_items c.loop-resource.resource-iterator)
     (sym c.loop-resource.invariant.1 ∙ end) in
     omega (
       arith,

@@ -3,7 +3,8 @@ use Rattle.std.specs.List.{flat_map}
 use Rattle.resb_tree.specs.View.{tree_of}
 use Rattle.resb_tree.specs.WalkOrder.{walk}
 use Rattle.resb_bodies.specs.Room.{trees_in}
-use Rattle.resb_bodies.proofs.Walks.{nil_from_len, trees-push, trees-reverse, turn, turn_counts}
+use Rattle.resb_bodies.proofs.Walks.{trees-push, trees-reverse, turn, turn_counts}
+use Rattle.std.proofs.lemmas.List.{nil_from_length}
 use Rattle.resb_bodies.proofs.walk_order.in_walk_order.Goals as goal
 
 pub loop-resource-init : goal.loop-resource-init
@@ -36,7 +37,7 @@ loop-resource-preserved c =
 pub returns : goal.returns
 returns c =
     let none : c.loop-resource.pending.items ≡ [] =
-    nil_from_len c.loop-resource.pending.items (omega (
+    nil_from_length c.loop-resource.pending.items (omega (
       arith,
       c.in_default.ensures.cases.0,
       c.loop-resource.pending.ok.0,

@@ -4,9 +4,10 @@ use Rattle.std.specs.Str.{chars}
 use Rattle.std.specs.Str.Iter.{chars_rest}
 use Rattle.std.specs.List.{flat_map}
 use Rattle.std.specs.Char.Escape.{encode_utf16}
+use Rattle.std.proofs.lemmas.Bool.{le-leb, lt-leb}
 use Rattle.std.proofs.lemmas.Str.{encodes-chars, cons_from_encodes}
 use Rattle.resb_format.specs.Units.{units}
-use Rattle.resb_format.proofs.TextUnits.{no_chars, unit_count, fits, too_many}
+use Rattle.resb_format.proofs.TextUnits.{no_chars, unit_count}
 use Rattle.resb_format.proofs.units.has_at_most.Goals as goal
 
 pub loop-c-init : goal.loop-c-init
@@ -49,19 +50,18 @@ returns-then-taken-left c =
     let n : length (encode_utf16 c.in-Some.c) ≡ c.len_utf16-taken.result =
     unit_count c.in-Some.c c.len_utf16-taken.result c.len_utf16-taken.ensures.bmp
     c.len_utf16-taken.ensures.surrogate_pair in
-    too_many (length (units c.args.text.now)) c.args.most
-    (omega (
+    sym (lt-leb (length (units c.args.text.now)) c.args.most (omega (
       arith,
       i.2,
       e,
       n,
       c.if-taken-left.true,
       length-append (encode_utf16 c.in-Some.c) (flat_map encode_utf16 s.0),
-    ))
+    )))
 
 pub returns : goal.returns
 returns c =
     let i = c.loop-c.invariant in
     let z = no_chars i.0 (ap length i.1 ∙ c.in-None.ensures.steps.0.0) in
     let e : length (flat_map encode_utf16 i.0) ≡ 0 = ap (λ l. length (flat_map encode_utf16 l)) z in
-    fits (length (units c.args.text.now)) c.args.most (omega (arith, i.2, e))
+    sym (le-leb (length (units c.args.text.now)) c.args.most (omega (arith, i.2, e)))

@@ -1,12 +1,12 @@
 -- Each turn counts the units of the next character.
-use Rattle.std.proofs.Common.{◌≡◌, sym, ◌∙◌, ap, ℕ, ◌<◌, ◌≤◌, ◌++◌, length, length-append, arith}
+use Rattle.std.proofs.Common.{◌≡◌, sym, ◌∙◌, ap, ◌++◌, length, length-append, arith}
 use Rattle.std.specs.Str.{chars}
 use Rattle.std.specs.Str.Iter.{chars_rest}
 use Rattle.std.specs.List.{flat_map}
 use Rattle.std.specs.Char.Escape.{encode_utf16}
 use Rattle.std.proofs.lemmas.Str.{encodes-chars, cons_from_encodes}
-use Rattle.std.proofs.lemmas.Bool.Decides.{nat_tests}
-use Rattle.resb_pool.proofs.Utf16.{units_le, no_chars, units_ascii}
+use Rattle.resb_format.proofs.TextUnits.{no_chars, unit_count}
+use Rattle.resb_pool.proofs.Utf16.{units_le, units_ascii}
 use Rattle.resb_pool.proofs.measure.utf16_len.Goals as goal
 
 pub loop-c-init : goal.loop-c-init
@@ -23,17 +23,13 @@ loop-c-init c = (
   ),
 )
 
--- what one character adds
-counted : (c n : ℕ) → (c < 0x10000 → n ≡ 1) → (0x10000 ≤ c → n ≡ 2) → length (encode_utf16 c) ≡ n
-counted c n h k = grind (arith, nat_tests)
-
 pub loop-c-preserved : goal.loop-c-preserved
 loop-c-preserved c =
     let i = c.loop-c.invariant in
     let s = cons_from_encodes i.0 _ c.in-Some.c (i.1 ∙ c.in-Some.ensures.steps.0) in
     let e : length (flat_map encode_utf16 i.0) ≡ length (encode_utf16 c.in-Some.c ++ flat_map
     encode_utf16 s.0) = ap (λ l. length (flat_map encode_utf16 l)) s.1 in
-    let n : length (encode_utf16 c.in-Some.c) ≡ c.len_utf16-count.result = counted c.in-Some.c
+    let n : length (encode_utf16 c.in-Some.c) ≡ c.len_utf16-count.result = unit_count c.in-Some.c
     c.len_utf16-count.result c.len_utf16-count.ensures.bmp
     c.len_utf16-count.ensures.surrogate_pair in (
       s.0,

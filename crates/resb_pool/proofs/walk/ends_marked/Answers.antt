@@ -1,8 +1,9 @@
 use Rattle.std.proofs.Common.{◌≡◌, List, ℕ, Bool, subst, sym, ap, ◌∙◌, is_some, true, false, length}
 use Rattle.std.specs.Bool.{MatchBool}
+use Rattle.std.proofs.lemmas.Bool.{lt-ltb}
 use Rattle.resb_format.specs.Units.{is_unmarked}
 use Rattle.resb_pool.specs.Inner.Nodes.{suffix, ends}
-use Rattle.resb_pool.proofs.Best.{long_marked, below_is}
+use Rattle.resb_pool.proofs.Best.{long_marked}
 use Rattle.resb_pool.proofs.walk.ends_marked.Goals as goal
 
 pub returns-then-is_long-clause-is : goal.returns-then-is_long-clause-is
@@ -16,4 +17,4 @@ returns-then-is_long-clause-is c =
     × (is_unmarked (suffix c.args.nodes.now.items c.args.at) ≡ false))
     (ends c.args.nodes.now.items c.args.at ≡ true
     → is_unmarked (suffix c.args.nodes.now.items c.args.at) ≡ true))
-    (sym (below_is 120 (length c.suffix_of-text.result.now) c.if-is_long.true)) (a, m)
+    (sym (lt-ltb 120 (length c.suffix_of-text.result.now) c.if-is_long.true)) (a, m)

@@ -1,5 +1,6 @@
 use Rattle.std.proofs.Common.{◌≡◌, map, string_bytes, ap, sym, codes, ◌∙◌}
-use Rattle.resb_tool.proofs.Words.{same_text, two_words, three_words}
+use Rattle.std.proofs.lemmas.Slice.Eq.{bytes_eq-Decides}
+use Rattle.resb_tool.proofs.Words.{two_words, three_words}
 use Rattle.resb_tool.proofs.command.command_of.Goals as goal
 
 pub returns-in-len2 : goal.returns-in-len2
@@ -11,7 +12,7 @@ returns-in-len2 c =
     let are =
     two_words words word.result input.result size.len_at_least size.len_below word.is input.is in
     let is : string_bytes word.result ≡ codes "check" = sym c.as_str.ensures.value
-    ∙ same_text _ _ c.if-eq.ensures in
+    ∙ (bytes_eq-Decides _ _).0 (sym c.if-eq.ensures) in
     let named = sym c.as_str-in-len2.ensures.value in
     let all = ap (map string_bytes) are in
     rw (is, named) at all
@@ -27,7 +28,7 @@ returns-in-len3 c =
     three_words words word.result input.result output.result size.len_at_least size.len_below
     word.is input.is output.is in
     let is : string_bytes word.result ≡ codes "compile" =
-    sym c.as_str-then-words-lt4.ensures.value ∙ same_text _ _ c.if-eq-2.ensures in
+    sym c.as_str-then-words-lt4.ensures.value ∙ (bytes_eq-Decides _ _).0 (sym c.if-eq-2.ensures) in
     let from = sym c.as_str-in-len3.ensures.value in
     let to = sym c.as_str-in-len3-2.ensures.value in
     let all = ap (map string_bytes) are in

@@ -1,6 +1,6 @@
 use Rattle.std.proofs.Common.{◌∙◌, ap, arith}
 use Rattle.resb_text.specs.Turns.{Counted}
-use Rattle.resb_text.proofs.KeyLemmas.{eq_is, is_eq}
+use Rattle.std.proofs.lemmas.Bool.{eqb-true, eq-eqb}
 use Rattle.resb_text.proofs.TokensLemmas.{rest_of, byte_found, byte_missing}
 use Rattle.resb_text.proofs.turns.Turns.find.Goals as goal
 
@@ -9,12 +9,12 @@ returns-in-Some-clause-found c =
     byte_found c.args.b c.args.self.now.text _ c.args.from c.in-Some.n
     (rest_of c.args.self.now.text c.as_bytes.result.now c.args.from
     (c.as_bytes.ensures.value ∙ ap (λ (t : Counted). t.text) c.self.view_is))
-    c.in-Some.ensures.0.high (eq_is _ _ c.in-Some.ensures.1)
-    (λ k lt is. c.in-Some.ensures.0.before k (omega arith) lt (is_eq _ _ is))
+    c.in-Some.ensures.0.high (eqb-true _ _ c.in-Some.ensures.1)
+    (λ k lt is. c.in-Some.ensures.0.before k (omega arith) lt (eq-eqb _ _ is))
 
 pub returns-in-None-clause-none : goal.returns-in-None-clause-none
 returns-in-None-clause-none c =
     byte_missing c.args.b c.args.self.now.text _ c.args.from
     (rest_of c.args.self.now.text c.as_bytes.result.now c.args.from
     (c.as_bytes.ensures.value ∙ ap (λ (t : Counted). t.text) c.self.view_is))
-    (λ k lt is. c.in-None.ensures k (omega arith) lt (is_eq _ _ is))
+    (λ k lt is. c.in-None.ensures k (omega arith) lt (eq-eqb _ _ is))

@@ -7,9 +7,11 @@ use Rattle.resb_tree.specs.View.{tree_of, items_view, entries_view}
 use Rattle.resb_tree.specs.declared.resource.Resource.{the_lemmas}
 use Rattle.resb_pool.specs.Plan.{nows}
 use Rattle.resb_write.specs.Inner.Gathered.{Gathered}
-use Rattle.resb_write.proofs.Gathering.{added, adds_plain, plain_integer, items_long, entries_long}
+use Rattle.resb_write.proofs.Gathering.{added, adds_plain, plain_integer, entries_long}
 use Rattle.resb_tree.proofs.ViewLemmas.{entries_len_view}
-use Rattle.resb_write.proofs.Gathering.{or_false, or_none}
+use Rattle.std.proofs.Math.Bool.{or-false}
+use Rattle.resb_bodies.proofs.Walks.{items_long}
+use Rattle.resb_write.proofs.Gathering.{or_none}
 use Rattle.resb_write.proofs.contents.Contents.add.Goals as goal
 
 pub returns-in-Array : goal.returns-in-Array
@@ -17,7 +19,7 @@ returns-in-Array c = λ ts g.
     let t = array (items_view c.in-Array.items.items) in
     let e : tree_of c.args.resource.now ≡ array (items_view c.in-Array.items.items) =
     search (rules, the_lemmas) in
-    let n = items_long c.in-Array.items.items in
+    let n = sym (items_long c.in-Array.items.items) in
     let m = c.len.ensures ∙ c.in-Array.items.ok.0 in
     subst (λ u. Gathered (ts ++ u ∷ []) c.add_counted.new.self) (sym e)
     (added c.args.self.now c.add_counted.new.self t
@@ -80,7 +82,7 @@ returns-in_ok-add_text-in-String c = λ ts g.
       largest = omega (arith, ap (λ x. x.largest_table) new);
       too_long = ap (λ x. x.too_long) new;
       over = ap (λ x. x.has_count_over_32_bits) new
-          ∙ sym (or_false c.args.self.now.has_count_over_32_bits);
+          ∙ sym (or-false c.args.self.now.has_count_over_32_bits);
     })
     ts g)
 
@@ -102,6 +104,6 @@ returns-in_ok-add_table-in-Table c = λ ts g.
       largest = omega (arith, ap (λ x. x.largest_table) new, entries_len_view es);
       too_long = ap (λ x. x.too_long) new ∙ sym (or_none c.args.self.now.too_long);
       over = ap (λ x. x.has_count_over_32_bits) new
-          ∙ sym (or_false c.args.self.now.has_count_over_32_bits);
+          ∙ sym (or-false c.args.self.now.has_count_over_32_bits);
     })
     ts g)

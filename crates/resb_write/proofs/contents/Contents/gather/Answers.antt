@@ -4,7 +4,8 @@ use Rattle.std.proofs.Common.{append_assoc, append-nil, arith}
 use Rattle.std.specs.Vec.Iter.{into_iter_items, into_iter_len}
 use Rattle.resb_pool.specs.Plan.{nows}
 use Rattle.resb_bodies.specs.Room.{trees_in}
-use Rattle.resb_bodies.proofs.Walks.{trees-push, nil_from_len}
+use Rattle.std.proofs.lemmas.List.{nil_from_length}
+use Rattle.resb_bodies.proofs.Walks.{trees-push}
 use Rattle.resb_write.specs.Inner.Gathered.{Gathered}
 use Rattle.resb_write.proofs.contents.Contents.gather.Goals as goal
 
@@ -45,7 +46,7 @@ returns c =
     let all : into_iter_items c.into_iter-resource-iterator.result ≡
     c.in_ok-resource-items.resource-items.items = search rules in
     let end : into_iter_len c.loop-resource.resource-iterator ≡ 0 = search rules in
-    let none = nil_from_len (into_iter_items c.loop-resource.resource-iterator)
+    let none = nil_from_length (into_iter_items c.loop-resource.resource-iterator)
     (sym c.loop-resource.invariant.1 ∙ end) in
     let done = sym (append-nil c.loop-resource.yielded)
     ∙ ap (λ l. c.loop-resource.yielded ++ l) (sym none) ∙ c.loop-resource.invariant.0 ∙ all in

@@ -1,5 +1,6 @@
-use Rattle.std.proofs.Common.{rules, ◌≡◌, ◌≤◌, ◌+◌, ℕ, Some, ap, ◌∙◌, arith}
+use Rattle.std.proofs.Common.{rules, ◌≡◌, ◌≤◌, ◌+◌, ℕ, Some, sym, ap, ◌∙◌, arith}
 use Rattle.std.proofs.lemmas.Int.{to_z-of_z}
+use Rattle.std.proofs.lemmas.Slice.Eq.{bytes_eq-Decides}
 use mir.Syntax.{w32}
 use mir.Val.{SFits}
 use Rattle.resb.specs.Places.{place_of}
@@ -10,7 +11,6 @@ use Rattle.resb_zones.specs.Inner.Fields.{entry_of, ReadsPairs}
 use Rattle.resb_zones.proofs.Costs.{key_is_free, number_costs, view_costs, lacks_base, lacks_pairs}
 use Rattle.resb_zones.proofs.Takings.{
   on_err,
-  same_text,
   other_text,
   takes_base,
   takes_pairs,
@@ -26,7 +26,7 @@ returns-in_err-base-clause-refused c =
     let (k, key, paid) = c.in_ok-name.ensures in
     let (falls, lacks, why) = c.in_err-base.ensures in
     let free : k ≡ 0 = key_is_free (place_of c.args.key) k (name, key) in
-    let is : name ≡ base_name = same_text _ _ c.if-eq.ensures in
+    let is : name ≡ base_name = (bytes_eq-Decides _ _).0 (sym c.if-eq.ensures) in
     let T : Type 0 = (c.read_i32.new.walk ≤ c.args.walk.now)
     × (IsReadable entry → c.args.walk.now ≡ 0) in
     let fell : c.read_i32.new.walk ≤ c.args.walk.now = omega (arith, paid, falls) in
@@ -44,7 +44,7 @@ returns-in_err-pairs-clause-refused c =
     let (k, key, paid) = c.in_ok-name.ensures in
     let (falls, lacks, why) = c.in_err-pairs.ensures in
     let free : k ≡ 0 = key_is_free (place_of c.args.key) k (name, key) in
-    let is : name ≡ pairs_name = same_text _ _ c.if-eq-2.ensures in
+    let is : name ≡ pairs_name = (bytes_eq-Decides _ _).0 (sym c.if-eq-2.ensures) in
     let T : Type 0 = (c.i32_tuple.new.walk ≤ c.args.walk.now)
     × (IsReadable entry → c.args.walk.now ≡ 0) in
     let fell : c.i32_tuple.new.walk ≤ c.args.walk.now = omega (arith, paid, falls) in
@@ -70,7 +70,7 @@ returns-clause-read c =
           let x = w.in_ok-base.base in
           let (n, value, fell) = w.in_ok-base.ensures in
           let one : n ≡ 1 = number_costs at n costs (x, value) in
-          let is : name ≡ base_name = same_text _ _ w.if-eq.ensures in
+          let is : name ≡ base_name = (bytes_eq-Decides _ _).0 (sym w.if-eq.ensures) in
           let fits : SFits w32 x = search rules in
           let base : new.base ≡ Some x = ap (λ f. f.base) w.self-is
           ∙ ap Some (to_z-of_z w32 x fits) in
@@ -83,7 +83,7 @@ returns-clause-read c =
           × (w.i32_tuple.new.walk + n ≡ left) = w.in_ok-pairs.ensures in
           let (n, value, fell) = got in
           let one : n ≡ 1 = view_costs 8 at n costs (pair_bytes v, value) in
-          let is : name ≡ pairs_name = same_text _ _ w.if-eq-2.ensures in
+          let is : name ≡ pairs_name = (bytes_eq-Decides _ _).0 (sym w.if-eq-2.ensures) in
           let pairs : new.pairs ≡ Some v = ap (λ f. f.pairs) w.self-is in
           let taken =
           takes_pairs entry name k key old new v n value is pairs (ap (λ f. f.base) w.self-is) in

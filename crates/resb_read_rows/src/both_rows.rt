@@ -1,6 +1,6 @@
 //! A type of a user's own at the root of files, in a map and in a list.
-//! The type and its proof are in `both`.
-use crate::answers::{assert_said, line_of_refusal, parts};
+//! The type and its proof are in `both`, the tests in `rows`.
+use crate::answers::line_of_refusal;
 use crate::both::Both;
 use crate::files::file_of;
 use resb_format::BinaryDeserializerError;
@@ -11,7 +11,7 @@ use std::fmt::Debug;
 use std::test::Fail;
 
 /// Files, and what is read of each as a `Both`, with its count.
-const ROWS: &str = "\
+pub(crate) const ALONE: &str = "\
 NUMBERS => 3 Both { i: -1, v: [1, -1] };
 TWO_ENTRIES => Unknown error: another field;
 20000000 7 8 9 9 0 0 9 aaaa0000 => Unknown error: a field is missing;
@@ -24,14 +24,18 @@ TWO_ENTRIES => Unknown error: another field;
 
 /// The root is a table of p = a table of i = -1 and v = (1, -1), and q = a table of i = 2 and v =
 /// ().
-const MAP: &str = "20000016 7 a 1a 1a 2 0 b 690070 710076 aaaa0000 2 1 ffffffff 220002 aaaa0024 \
-    7fffffff e000000b 220002 aaaa0024 70000002 e0000000 200002 aaaa0026 2000000e \
-    20000012";
+pub(crate) const MAP: &str = "\
+20000016 7 a 1a 1a 2 0 b 690070 710076 aaaa0000 2 1 ffffffff 220002 aaaa0024 7fffffff e000000b
+  220002 aaaa0024 70000002 e0000000 200002 aaaa0026 2000000e 20000012 =>
+    7 {\"p\": Both { i: -1, v: [1, -1] }, \"q\": Both { i: 2, v: [] }};
+";
 
 /// The root is a table of a = the array of two such tables.
-const LIST: &str = "20000019 7 a 1b 1b 2 0 b 690061 aaaa0076 aaaa0000 2 1 ffffffff 220002 aaaa0024 \
-    7fffffff e000000b 220002 aaaa0024 70000002 e0000000 2 2000000e 20000012 200001 \
-    80000016";
+pub(crate) const LIST: &str = "\
+20000019 7 a 1b 1b 2 0 b 690061 aaaa0076 aaaa0000 2 1 ffffffff 220002 aaaa0024 7fffffff e000000b
+  220002 aaaa0024 70000002 e0000000 2 2000000e 20000012 200001 80000016 =>
+    8 {\"a\": [Both { i: -1, v: [1, -1] }, Both { i: 2, v: [] }]};
+";
 
 /// The line of a value and its count.
 fn line<T: Debug + Drop>(
@@ -45,48 +49,25 @@ fn line<T: Debug + Drop>(
 }
 
 /// The line of a file that is read as the type.
-fn line_alone(alloc: Global, words: &str) -> Result<String, Fail> {
+pub(crate) fn line_alone(alloc: Global, words: &str) -> Result<String, Fail> {
     let bytes = file_of(alloc, words)?;
     line(alloc, from_bytes_counted::<Both>(alloc, &bytes))
 }
 
-#[test]
-fn a_type_of_a_users_own_is_read(rt: HostRuntime) -> Result<(), Fail> {
-    for row in ROWS.split_terminator(";\n") {
-        let (words, said) = parts(row)?;
-        assert_said(&rt, line_alone(rt.alloc(), words)?, said);
-    }
-    Ok(())
-}
-
 /// The line of a file that is read as a map of the type.
-fn line_in_map(alloc: Global) -> Result<String, Fail> {
-    let bytes = file_of(alloc, MAP)?;
+pub(crate) fn line_in_map(alloc: Global, words: &str) -> Result<String, Fail> {
+    let bytes = file_of(alloc, words)?;
     line(
         alloc,
         from_bytes_counted::<BTreeMap<&str, Both>>(alloc, &bytes),
     )
 }
 
-#[test]
-fn it_is_read_in_a_map(rt: HostRuntime) -> Result<(), Fail> {
-    let said = "7 {\"p\": Both { i: -1, v: [1, -1] }, \"q\": Both { i: 2, v: [] }}";
-    assert_said(&rt, line_in_map(rt.alloc())?, said);
-    Ok(())
-}
-
 /// The line of a file that is read as a map of lists of the type.
-fn line_in_list(alloc: Global) -> Result<String, Fail> {
-    let bytes = file_of(alloc, LIST)?;
+pub(crate) fn line_in_list(alloc: Global, words: &str) -> Result<String, Fail> {
+    let bytes = file_of(alloc, words)?;
     line(
         alloc,
         from_bytes_counted::<BTreeMap<&str, Vec<Both>>>(alloc, &bytes),
     )
-}
-
-#[test]
-fn it_is_read_in_a_list(rt: HostRuntime) -> Result<(), Fail> {
-    let said = "8 {\"a\": [Both { i: -1, v: [1, -1] }, Both { i: 2, v: [] }]}";
-    assert_said(&rt, line_in_list(rt.alloc())?, said);
-    Ok(())
 }

@@ -1,13 +1,58 @@
 //! Cursors, accesses and named deserializers, step by step: what each step takes from the budget,
-//! and what an access answers behind its last step and behind an error.
-use crate::answers::{assert_said, line_of_refusal, line_of_tree, parts, same};
+//! and what an access answers behind its last step and behind an error. The tests are in `rows`.
+use crate::answers::{line_of_refusal, line_of_tree, same};
 use crate::asks::line;
-use crate::files::{NUMBERS, TEXTS, TWO_ENTRIES, file_of};
+use crate::files::file_of;
 use crate::places::place;
 use resb_format::{BinaryDeserializerError, Key};
 use resb_read::{Cursor, IntVectorDeserializer, MapAccess, Walk};
 use std::alloc::Global;
 use std::test::Fail;
+
+/// What is done with files, and what comes of it. The last are types, and what the number -1 is as
+/// each.
+pub(crate) const STEPS: &str = "\
+skips of NUMBERS => 49 2 48 47 true;
+tree of NUMBERS => 47 {i=268435455,v=(1,4294967295,),};
+entries of TWO_ENTRIES => Some((\"a\", \"x\")); Some((\"c\", \"yz\")); None; None; ;
+keys of TWO_ENTRIES => a=x; c=yz; none; ;
+members of TEXTS => Some(\"\"); Some(\"x\"); None; None; ;
+refused entries of TWO_ENTRIES => Unknown error: value cannot be read here; false 2 44;
+refused members of TEXTS => Unknown error: value cannot be read here; false 2 7;
+string of TEXTS => x [120, 0] 0;
+key of TWO_ENTRIES => c;
+i8 of NUMBERS => -1;
+i16 of NUMBERS => -1;
+i32 of NUMBERS => -1;
+i64 of NUMBERS => -1;
+u8 of NUMBERS => Unknown error: number out of range;
+u16 of NUMBERS => Unknown error: number out of range;
+u32 of NUMBERS => 4294967295;
+u64 of NUMBERS => 4294967295;
+";
+
+/// The line of what comes of a row of these.
+pub(crate) fn line_of_step(alloc: Global, input: &str) -> Result<String, Fail> {
+    let (step, words) = input.split_once(" of ").ok_or("a row without a file")?;
+    let bytes = file_of(alloc, words)?;
+    stepped(alloc, step, &bytes)
+}
+
+/// The line of what comes of a step.
+fn stepped(alloc: Global, step: &str, bytes: &[u8]) -> Result<String, Fail> {
+    match step {
+        "skips" => line_of_skips(alloc, bytes),
+        "tree" => line_of_root(alloc, bytes),
+        "entries" => line_of_entries(alloc, bytes),
+        "keys" => line_of_keys(alloc, bytes),
+        "members" => line_of_members(alloc, bytes),
+        "refused entries" => line_of_refused_entries(alloc, bytes),
+        "refused members" => line_of_refused_members(alloc, bytes),
+        "string" => line_of_string(alloc, bytes),
+        "key" => line_of_key(alloc, bytes),
+        _ => line_of_minus_one(alloc, step, bytes),
+    }
+}
 
 /// What is left after a table is opened and after each entry's key and value are skipped.
 fn line_of_skips(alloc: Global, bytes: &[u8]) -> Result<String, Fail> {
@@ -30,26 +75,11 @@ fn skipped(entries: &mut MapAccess<'_, '_>, walk: &mut Walk) -> Result<usize, Fa
     Ok(walk.left())
 }
 
-#[test]
-fn skipping_costs_one_each(rt: HostRuntime) -> Result<(), Fail> {
-    let bytes = file_of(rt.alloc(), NUMBERS)?;
-    assert_said(&rt, line_of_skips(rt.alloc(), &bytes)?, "49 2 48 47 true");
-    Ok(())
-}
-
 /// The line of a whole tree, with what is left after it.
 fn line_of_root(alloc: Global, bytes: &[u8]) -> Result<String, Fail> {
     let (root, mut walk) = Cursor::root(bytes)?;
     let tree = root.read_resource(alloc, &mut walk)?;
     line_of_tree(alloc, walk.left(), &tree)
-}
-
-#[test]
-fn a_whole_tree_is_paid_for(rt: HostRuntime) -> Result<(), Fail> {
-    let bytes = file_of(rt.alloc(), NUMBERS)?;
-    let said = "47 {i=268435455,v=(1,4294967295,),}";
-    assert_said(&rt, line_of_root(rt.alloc(), &bytes)?, said);
-    Ok(())
 }
 
 /// Adds what a step says.
@@ -69,14 +99,6 @@ fn line_of_entries(alloc: Global, bytes: &[u8]) -> Result<String, Fail> {
         push_step(&mut all, line(alloc, next)?)?;
     }
     Ok(all)
-}
-
-#[test]
-fn an_access_to_entries_ends(rt: HostRuntime) -> Result<(), Fail> {
-    let bytes = file_of(rt.alloc(), TWO_ENTRIES)?;
-    let said = "Some((\"a\", \"x\")); Some((\"c\", \"yz\")); None; None; ";
-    assert_said(&rt, line_of_entries(rt.alloc(), &bytes)?, said);
-    Ok(())
 }
 
 /// The line of an entry of a key and a text.
@@ -106,13 +128,6 @@ fn line_of_keys(alloc: Global, bytes: &[u8]) -> Result<String, Fail> {
     Ok(all)
 }
 
-#[test]
-fn an_access_gives_keys(rt: HostRuntime) -> Result<(), Fail> {
-    let bytes = file_of(rt.alloc(), TWO_ENTRIES)?;
-    assert_said(&rt, line_of_keys(rt.alloc(), &bytes)?, "a=x; c=yz; none; ");
-    Ok(())
-}
-
 /// The line of four steps over the members of a list of texts.
 fn line_of_members(alloc: Global, bytes: &[u8]) -> Result<String, Fail> {
     let mut walk = Walk::new(9);
@@ -123,14 +138,6 @@ fn line_of_members(alloc: Global, bytes: &[u8]) -> Result<String, Fail> {
         push_step(&mut all, line(alloc, next)?)?;
     }
     Ok(all)
-}
-
-#[test]
-fn an_access_to_members_ends(rt: HostRuntime) -> Result<(), Fail> {
-    let bytes = file_of(rt.alloc(), TEXTS)?;
-    let said = "Some(\"\"); Some(\"x\"); None; None; ";
-    assert_said(&rt, line_of_members(rt.alloc(), &bytes)?, said);
-    Ok(())
 }
 
 /// Two steps over entries whose values are not what is asked for, and what is then to come and
@@ -146,14 +153,6 @@ fn line_of_refused_entries(alloc: Global, bytes: &[u8]) -> Result<String, Fail> 
     Ok(format!(in alloc; "{said}; {goes_on} {rest} {left}")?)
 }
 
-#[test]
-fn an_access_to_entries_repeats_its_error(rt: HostRuntime) -> Result<(), Fail> {
-    let bytes = file_of(rt.alloc(), TWO_ENTRIES)?;
-    let said = "Unknown error: value cannot be read here; false 2 44";
-    assert_said(&rt, line_of_refused_entries(rt.alloc(), &bytes)?, said);
-    Ok(())
-}
-
 /// Two steps over members that are not what is asked for, and what is then to come and left.
 fn line_of_refused_members(alloc: Global, bytes: &[u8]) -> Result<String, Fail> {
     let mut walk = Walk::new(9);
@@ -166,16 +165,8 @@ fn line_of_refused_members(alloc: Global, bytes: &[u8]) -> Result<String, Fail> 
     Ok(format!(in alloc; "{said}; {goes_on} {rest} {left}")?)
 }
 
-#[test]
-fn an_access_to_members_repeats_its_error(rt: HostRuntime) -> Result<(), Fail> {
-    let bytes = file_of(rt.alloc(), TEXTS)?;
-    let said = "Unknown error: value cannot be read here; false 2 7";
-    assert_said(&rt, line_of_refused_members(rt.alloc(), &bytes)?, said);
-    Ok(())
-}
-
 /// Files and places, and whether a deserializer of short strings, of numbers and of keys is there.
-const NAMED: &str = "\
+pub(crate) const NAMED: &str = "\
 TEXTS / root => false false false;
 TEXTS / root v0 m1 => true false false;
 NUMBERS / root v1 m1 => false true false;
@@ -183,7 +174,7 @@ TEXTS / root k0 => false false true;
 ";
 
 /// Which deserializers a place has.
-fn line_of_named(alloc: Global, input: &str) -> Result<String, Fail> {
+pub(crate) fn line_of_named(alloc: Global, input: &str) -> Result<String, Fail> {
     let (words, path) = input.split_once(" / ").ok_or("a row without a place")?;
     let bytes = file_of(alloc, words)?;
     let at = place(&bytes, path)?;
@@ -191,15 +182,6 @@ fn line_of_named(alloc: Global, input: &str) -> Result<String, Fail> {
     let number = at.as_int_vector().is_some();
     let key = at.as_key().is_some();
     Ok(format!(in alloc; "{string} {number} {key}")?)
-}
-
-#[test]
-fn named_deserializers_stand_at_their_places(rt: HostRuntime) -> Result<(), Fail> {
-    for row in NAMED.split_terminator(";\n") {
-        let (input, said) = parts(row)?;
-        assert_said(&rt, line_of_named(rt.alloc(), input)?, said);
-    }
-    Ok(())
 }
 
 /// A short string by its deserializer: its text, its bytes, and what of 2 is left.
@@ -212,13 +194,6 @@ fn line_of_string(alloc: Global, bytes: &[u8]) -> Result<String, Fail> {
     let units = string.read_bytes(&mut walk)?;
     let left = walk.left();
     Ok(format!(in alloc; "{text} {units:?} {left}")?)
-}
-
-#[test]
-fn a_short_string_is_read_by_its_deserializer(rt: HostRuntime) -> Result<(), Fail> {
-    let bytes = file_of(rt.alloc(), TEXTS)?;
-    assert_said(&rt, line_of_string(rt.alloc(), &bytes)?, "x [120, 0] 0");
-    Ok(())
 }
 
 /// The line of a number as a type that is named.
@@ -239,37 +214,18 @@ fn line_of_number(
     }
 }
 
-/// Types, and what the number -1 is as each.
-const MINUS_ONE: &str = "\
-i8 => -1;
-i16 => -1;
-i32 => -1;
-i64 => -1;
-u8 => Unknown error: number out of range;
-u16 => Unknown error: number out of range;
-u32 => 4294967295;
-u64 => 4294967295;
-";
-
-#[test]
-fn a_number_is_read_by_its_deserializer(rt: HostRuntime) -> Result<(), Fail> {
-    let bytes = file_of(rt.alloc(), NUMBERS)?;
-    let Some(number) = place(&bytes, "root v1 m1")?.as_int_vector() else {
-        return Err("no number")?;
-    };
-    for row in MINUS_ONE.split_terminator(";\n") {
-        let (name, said) = parts(row)?;
-        assert_said(&rt, line_of_number(rt.alloc(), number, name)?, said);
+/// The line of the second member of the vector of 1 and -1 as a type that is named.
+fn line_of_minus_one(alloc: Global, name: &str, bytes: &[u8]) -> Result<String, Fail> {
+    match place(bytes, "root v1 m1")?.as_int_vector() {
+        Some(number) => line_of_number(alloc, number, name),
+        None => Err("no number")?,
     }
-    Ok(())
 }
 
-#[test]
-fn a_key_is_read_by_its_deserializer(rt: HostRuntime) -> Result<(), Fail> {
-    let bytes = file_of(rt.alloc(), TWO_ENTRIES)?;
-    let Some(key) = place(&bytes, "root k1")?.as_key() else {
-        return Err("no key")?;
-    };
-    assert!(rt; key.read_str()? == "c");
-    Ok(())
+/// A key by its deserializer.
+fn line_of_key(alloc: Global, bytes: &[u8]) -> Result<String, Fail> {
+    match place(bytes, "root k1")?.as_key() {
+        Some(key) => Ok(String::from_str(alloc, key.read_str()?)?),
+        None => Err("no key")?,
+    }
 }

@@ -1,12 +1,12 @@
 //! Files, and the count and the tree that each denotes, or why it is refused. A row ends with a `;`
 //! and a line feed. The number in it is the digest of the lines of its file cut at each length, and
-//! then with each byte changed to 0, 1, 0x7f and 0xff.
-use crate::answers::{BASIS, assert_said, digest, line_of, parts};
+//! then with each byte changed to 0, 1, 0x7f and 0xff. The tests are in `rows`.
+use crate::answers::{BASIS, digest, line_of};
 use crate::files::{cut, file_of, with_byte};
 use std::alloc::Global;
 use std::test::Fail;
 
-const FILES: &str = "\
+pub(crate) const FILES: &str = "\
 INTEGER | 57527c573832488d => 1 268435455;
 TEXT_A | 952d7bc6cb29d296 => 1 \"a\";
 TEXTS | 3c94aec31f048231 => 4 {a=[\"\",\"x\",],};
@@ -112,43 +112,34 @@ a0000000 7 8 9 9 0 0 9 aaaa0000 | 015924a140afedee =>
 ";
 
 /// How many bytes of the word of a table at the body's end are left, and what is said.
-const ENDS: &str = "\
+pub(crate) const ENDS: &str = "\
 4 => 1 {};
 2 => Invalid resource bundle data: unexpected end of input;
 0 => Invalid resource bundle data: unexpected end of input;
 ";
 
 /// The line of a file of a table without entries, of whose word so many bytes are left.
-fn line_of_end(alloc: Global, left: &str) -> Result<String, Fail> {
+pub(crate) fn line_of_end(alloc: Global, left: &str) -> Result<String, Fail> {
     let bytes = file_of(alloc, "20000009 7 8 9 9 0 0 9 aaaa0000 0")?;
     let left = left.parse::<usize>()?;
     let file = cut(alloc, &bytes, left.saturating_add(68))?;
     line_of(alloc, &file)
 }
 
-#[test]
-fn the_padding_of_an_empty_table_lies_inside(rt: HostRuntime) -> Result<(), Fail> {
-    for row in ENDS.split_terminator(";\n") {
-        let (left, said) = parts(row)?;
-        assert_said(&rt, line_of_end(rt.alloc(), left)?, said);
-    }
-    Ok(())
-}
-
 /// The line of a file of these words.
-fn line_of_words(alloc: Global, words: &str) -> Result<String, Fail> {
+pub(crate) fn line_of_words(alloc: Global, words: &str) -> Result<String, Fail> {
     let bytes = file_of(alloc, words)?;
     line_of(alloc, &bytes)
 }
 
-#[test]
-fn files_are_read(rt: HostRuntime) -> Result<(), Fail> {
-    for row in FILES.split_terminator(";\n") {
-        let (file, said) = parts(row)?;
-        let (words, _) = file.split_once(" | ").ok_or("a row without a digest")?;
-        assert_said(&rt, line_of_words(rt.alloc(), words)?, said);
+/// The line of the file of a row, whose digest is the one of the damaged files.
+pub(crate) fn line_of_file(alloc: Global, input: &str) -> Result<String, Fail> {
+    let (words, digits) = input.split_once(" | ").ok_or("a row without a digest")?;
+    let sum = digest_of_damage(alloc, words)?;
+    if u64::from_str_radix(digits, 16)? != sum {
+        return Ok(format!(in alloc; "damaged files have the digest {sum:016x}")?);
     }
-    Ok(())
+    line_of_words(alloc, words)
 }
 
 /// The digest so far, with the line of a file.
@@ -170,15 +161,4 @@ fn digest_of_damage(alloc: Global, words: &str) -> Result<u64, Fail> {
         }
     }
     Ok(sum)
-}
-
-#[test]
-fn damaged_files_are_answered(rt: HostRuntime) -> Result<(), Fail> {
-    for row in FILES.split_terminator(";\n") {
-        let (file, _) = parts(row)?;
-        let (words, digits) = file.split_once(" | ").ok_or("a row without a digest")?;
-        let sum = u64::from_str_radix(digits, 16)?;
-        assert_eq!(rt; digest_of_damage(rt.alloc(), words)?, sum, "of {file}");
-    }
-    Ok(())
 }

@@ -1,14 +1,90 @@
 //! Files that are made to take room, time or depth: shared bodies, cycles, many levels and many
 //! entries.
-//! Small files that are damaged are in `file_rows`.
+//! Small files that are damaged are in `file_rows`, and the tests are in `rows`.
 use crate::answers::line_of;
 use crate::files::file_of_words;
 use resb_format::Resource;
-use resb_read::{count_resources, from_bytes_counted, tree_from_bytes};
+use resb_read::{count_resources, from_bytes_counted};
 use std::alloc::Global;
 use std::test::Fail;
 
-const SPENT: &str = "Invalid resource bundle data: resource budget spent";
+/// Files of shared bodies, and what is answered: an array of so many arrays of two empty strings and
+/// a last word; twenty levels of doubling without so many of the last words; an array of so many
+/// members, each of which is that array itself, and so much padding, 66 kilobytes in all.
+pub(crate) const SHARED: &str = "\
+shared 37 90000001 =>
+    112 [[\"\",\"\",],[\"\",\"\",],[\"\",\"\",],[\"\",\"\",],[\"\",\"\",],[\"\",\"\",],\
+    [\"\",\"\",],[\"\",\"\",],[\"\",\"\",],[\"\",\"\",],[\"\",\"\",],[\"\",\"\",],\
+    [\"\",\"\",],[\"\",\"\",],[\"\",\"\",],[\"\",\"\",],[\"\",\"\",],[\"\",\"\",],\
+    [\"\",\"\",],[\"\",\"\",],[\"\",\"\",],[\"\",\"\",],[\"\",\"\",],[\"\",\"\",],\
+    [\"\",\"\",],[\"\",\"\",],[\"\",\"\",],[\"\",\"\",],[\"\",\"\",],[\"\",\"\",],\
+    [\"\",\"\",],[\"\",\"\",],[\"\",\"\",],[\"\",\"\",],[\"\",\"\",],[\"\",\"\",],\
+    [\"\",\"\",],];
+shared 38 90000001 => Invalid resource bundle data: resource budget spent;
+shared 40 a0000000 => Invalid resource bundle data: resource budget spent;
+shared 39 a0000000 =>
+    Invalid resource bundle data: unrecognized value for ResourceReprType;
+doubling 0 - => Invalid resource bundle data: resource budget spent;
+doubling 1 - => Invalid resource bundle data: unexpected end of input;
+cycle 1 16490 => Invalid resource bundle data: resource budget spent;
+cycle 16490 1 => Invalid resource bundle data: resource budget spent;
+";
+
+/// So many arrays or tables in one another, and how many are counted. Their tree is dropped.
+pub(crate) const DEEP: &str = "\
+arrays 1249999 - => 1250000;
+tables 999999 - => 1000000;
+";
+
+/// Tables of so many entries of one key, whose last stands, and of many, and what is answered.
+pub(crate) const WIDE: &str = "\
+entries 65535 k => 65536 {k=65534,};
+entries 65536 - => 65537 {00000=0,00001=0,00002=0, and ,65534=0,65535=0,} in 524296 bytes;
+";
+
+/// The file that a row names.
+fn made(alloc: Global, kind: &str, count: &str, last: &str) -> Result<Vec<u8>, Fail> {
+    match kind {
+        "shared" => sharing(alloc, count.parse::<u32>()?, u32::from_str_radix(last, 16)?),
+        "doubling" => doubling(alloc, count.parse::<usize>()?),
+        "cycle" => cyclic(alloc, count.parse::<u32>()?, last.parse::<u32>()?),
+        "arrays" => nested_arrays(alloc, count.parse::<u32>()?),
+        "tables" => nested_tables(alloc, count.parse::<u32>()?),
+        _ if last == "k" => of_one_key(alloc),
+        _ => of_many_keys(alloc),
+    }
+}
+
+/// The line of a file, or the count of one that is deep, or the ends of a line that is long.
+fn line_of_kind(alloc: Global, kind: &str, bytes: &[u8]) -> Result<String, Fail> {
+    if matches!(kind, "arrays" | "tables") {
+        let count = count_of(alloc, bytes)?;
+        return Ok(format!(in alloc; "{count}")?);
+    }
+    ends_of(alloc, line_of(alloc, bytes)?)
+}
+
+/// The line, or of a long one the first 31 and the last 18 bytes, and how many there are.
+fn ends_of(alloc: Global, line: String) -> Result<String, Fail> {
+    let length = line.len();
+    if length < 1000 {
+        return Ok(line);
+    }
+    let first = line.as_str().get(..31).ok_or("no character ends there")?;
+    let last = line
+        .as_str()
+        .get(length - 18..)
+        .ok_or("no character begins there")?;
+    Ok(format!(in alloc; "{first} and {last} in {length} bytes")?)
+}
+
+/// The line of the file of a row of these.
+pub(crate) fn line_of_hostile(alloc: Global, input: &str) -> Result<String, Fail> {
+    let (kind, numbers) = input.split_once(' ').ok_or("a row without a count")?;
+    let (count, last) = numbers.split_once(' ').ok_or("a row without a last word")?;
+    let bytes = made(alloc, kind, count, last)?;
+    line_of_kind(alloc, kind, &bytes)
+}
 
 /// A file whose root is this word, behind whose index these words stand.
 fn with_body(alloc: Global, root: u32, body: &[u32]) -> Result<Vec<u8>, Fail> {
@@ -17,20 +93,7 @@ fn with_body(alloc: Global, root: u32, body: &[u32]) -> Result<Vec<u8>, Fail> {
     file_of_words(alloc, &words)
 }
 
-/// How many arrays of two empty strings an array has, its last word, and the first bytes of its
-/// line.
-const SHARED: [(u32, u32, &str); 4] = [
-    (37, 0x9000_0001, "112 [[\"\",\"\",],[\"\",\"\",],"),
-    (38, 0x9000_0001, SPENT),
-    (40, 0xa000_0000, SPENT),
-    (
-        39,
-        0xa000_0000,
-        "Invalid resource bundle data: unrecognized value for ResourceReprType",
-    ),
-];
-
-/// The file of a row of these, in which all arrays have one body.
+/// The file of an array of so many arrays, in which all have one body, and the last is this word.
 fn sharing(alloc: Global, children: u32, last: u32) -> Result<Vec<u8>, Fail> {
     let end = children.saturating_add(11);
     let mut words = Vec::from_slice(
@@ -56,15 +119,6 @@ fn sharing(alloc: Global, children: u32, last: u32) -> Result<Vec<u8>, Fail> {
     file_of_words(alloc, &words)
 }
 
-#[test]
-fn a_shared_body_is_paid_for_each_time(rt: HostRuntime) -> Result<(), Fail> {
-    for (children, last, said) in SHARED {
-        let line = line_of(rt.alloc(), &sharing(rt.alloc(), children, last)?)?;
-        assert!(rt; line.starts_with(said));
-    }
-    Ok(())
-}
-
 /// Twenty levels of arrays, each of the next one twice, without so many of the last words.
 fn doubling(alloc: Global, without: usize) -> Result<Vec<u8>, Fail> {
     let mut body = Vec::new(alloc);
@@ -75,18 +129,6 @@ fn doubling(alloc: Global, without: usize) -> Result<Vec<u8>, Fail> {
     body.extend_from_slice(&[2, 0x7000_0000, 0x7000_0000])?;
     body.truncate(60usize.saturating_sub(without));
     with_body(alloc, 0x8000_0009, &body)
-}
-
-#[test]
-fn the_budget_stands_before_a_later_fault(rt: HostRuntime) -> Result<(), Fail> {
-    let whole = line_of(rt.alloc(), &doubling(rt.alloc(), 0)?)?;
-    assert_eq!(rt; whole.as_str(), SPENT);
-    let cut = line_of(rt.alloc(), &doubling(rt.alloc(), 1)?)?;
-    assert_eq!(rt;
-        cut.as_str(),
-        "Invalid resource bundle data: unexpected end of input"
-    );
-    Ok(())
 }
 
 /// An array of so many members, each of which is that array itself.
@@ -100,15 +142,6 @@ fn cyclic(alloc: Global, members: u32, padding: u32) -> Result<Vec<u8>, Fail> {
         body.push(0xaaaa_aaaa)?;
     }
     with_body(alloc, 0x8000_0009, &body)
-}
-
-#[test]
-fn a_cycle_of_66_kilobytes_ends(rt: HostRuntime) -> Result<(), Fail> {
-    let narrow = line_of(rt.alloc(), &cyclic(rt.alloc(), 1, 16_490)?)?;
-    assert_eq!(rt; narrow.as_str(), SPENT);
-    let wide = line_of(rt.alloc(), &cyclic(rt.alloc(), 16_490, 1)?)?;
-    assert_eq!(rt; wide.as_str(), SPENT);
-    Ok(())
 }
 
 /// So many arrays, one in another.
@@ -144,20 +177,6 @@ fn count_of(alloc: Global, bytes: &[u8]) -> Result<usize, Fail> {
     Ok(count)
 }
 
-#[test]
-fn a_million_nested_arrays_are_read_and_dropped(rt: HostRuntime) -> Result<(), Fail> {
-    let bytes = nested_arrays(rt.alloc(), 1_249_999)?;
-    assert_eq!(rt; count_of(rt.alloc(), &bytes)?, 1_250_000);
-    Ok(())
-}
-
-#[test]
-fn a_million_nested_tables_are_read_and_dropped(rt: HostRuntime) -> Result<(), Fail> {
-    let bytes = nested_tables(rt.alloc(), 999_999)?;
-    assert_eq!(rt; count_of(rt.alloc(), &bytes)?, 1_000_000);
-    Ok(())
-}
-
 /// A table of 65535 entries with one key, whose values count from 0.
 fn of_one_key(alloc: Global) -> Result<Vec<u8>, Fail> {
     let mut body = Vec::new(alloc);
@@ -169,13 +188,6 @@ fn of_one_key(alloc: Global) -> Result<Vec<u8>, Fail> {
         body.push(0x7000_0000 + number)?;
     }
     with_body(alloc, 0x2000_0009, &body)
-}
-
-#[test]
-fn each_entry_of_one_key_is_paid_for_and_the_last_stands(rt: HostRuntime) -> Result<(), Fail> {
-    let line = line_of(rt.alloc(), &of_one_key(rt.alloc())?)?;
-    assert_eq!(rt; line.as_str(), "65536 {k=65534,}");
-    Ok(())
 }
 
 /// A table of 65536 keys of five digits, from 00000 to 65535, and the number 0 at each.
@@ -195,14 +207,4 @@ fn of_many_keys(alloc: Global) -> Result<Vec<u8>, Fail> {
         bytes.extend_from_slice(&0x7000_0000_u32.to_le_bytes())?;
     }
     Ok(bytes)
-}
-
-#[test]
-fn a_table_of_65536_keys_is_read(rt: HostRuntime) -> Result<(), Fail> {
-    let bytes = of_many_keys(rt.alloc())?;
-    let line = line_of(rt.alloc(), &bytes)?;
-    assert!(rt; line.starts_with("65537 {00000=0,00001=0,00002=0,"));
-    assert!(rt; line.ends_with(",65534=0,65535=0,}"));
-    assert_eq!(rt; line.len(), 65536 * 8 + 8);
-    Ok(())
 }

@@ -22,6 +22,8 @@ mod hostile_rows;
 #[cfg(test)]
 mod places;
 #[cfg(test)]
+mod rows;
+#[cfg(test)]
 mod type_rows;
 
 pub use both::Both;

@@ -28,6 +28,14 @@ pub(crate) fn assert_said(
     Ok(())
 }
 
+/// The line that two calls give.
+pub(crate) fn same(one: String, other: String) -> Result<String, Fail> {
+    if one != other {
+        return Err("the calls differ")?;
+    }
+    Ok(one)
+}
+
 /// The hex digits of a file behind its header.
 pub(crate) fn digits(alloc: Global, file: &[u8]) -> Result<String, Fail> {
     let (header, body) = file.split_at_checked(32).ok_or("short")?;

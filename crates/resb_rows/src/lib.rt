@@ -7,6 +7,8 @@ mod answers;
 #[cfg(test)]
 mod pool_rows;
 #[cfg(test)]
+mod rows;
+#[cfg(test)]
 mod way_rows;
 #[cfg(test)]
 mod write_rows;

@@ -1,10 +1,9 @@
 //! Pools of strings: the units and offsets that the rules of suffix sharing ask for.
 //! Expected values are worked out by hand from the rules of markers, records and their order.
-use crate::answers::{assert_said, parts};
+use crate::answers::same;
 use crate::write_rows::text_of;
 use resb_pool::{BinarySerializerError, Plan, pool};
 use std::alloc::Global;
-use std::process::Abort;
 use std::test::Fail;
 
 /// A text of so many letters a.
@@ -20,7 +19,7 @@ fn letters(alloc: Global, count: usize) -> Result<String, Fail> {
 /// share; with one; a copy more saves more, so its record comes first; a text lies in the greatest
 /// of the records that end with it; a text with U+0000 has a marker, and is no suffix of another;
 /// U+E000 comes before U+10000 by characters, and after it by units.
-const POOLS: &str = " => 0 |
+pub(crate) const POOLS: &str = " => 0 |
 '' => 0 | 0
 xyz yz => 0 78 79 7a 0 | 1 2
 x y y => 0 79 0 78 0 | 3 1 1
@@ -57,27 +56,12 @@ fn line_of_texts(alloc: Global, texts: &[String]) -> Result<String, Fail> {
 }
 
 /// The line of the plan of the strings that these words stand for.
-fn line_of_words(alloc: Global, words: &str) -> Result<String, Fail> {
+pub(crate) fn line_of_words(alloc: Global, words: &str) -> Result<String, Fail> {
     let mut texts = Vec::new(alloc);
     for word in words.split_whitespace() {
         texts.push(text_of(alloc, word)?)?;
     }
     line_of_texts(alloc, &texts)
-}
-
-#[test]
-fn small_pools(rt: HostRuntime) -> Result<(), Fail> {
-    for row in POOLS.split_terminator('\n') {
-        let (words, wanted) = parts(row)?;
-        assert_said(
-            &rt,
-            rt.alloc(),
-            words,
-            line_of_words(rt.alloc(), words)?,
-            wanted,
-        )?;
-    }
-    Ok(())
 }
 
 /// The offset of a text in the plan of these strings, which is also the one that is found in turn.
@@ -110,6 +94,17 @@ fn line_of_letters(alloc: Global, all: &str, counts: [usize; 3]) -> Result<Strin
     );
     let third = all.get(..third).ok_or("short")?;
     let plan = pool::plan(alloc, &[one, other, third])?;
+    described_letters(alloc, &plan, one, other, third)
+}
+
+/// The offsets of three texts in their plan, how many units there are, and those at the first two.
+fn described_letters(
+    alloc: Global,
+    plan: &Plan<'_>,
+    one: &str,
+    other: &str,
+    third: &str,
+) -> Result<String, Fail> {
     let first = plan.offset(one).ok_or("no offset")?;
     let second = plan.offset(other).ok_or("no offset")?;
     let last = plan.offset(third).ok_or("no offset")?;
@@ -119,24 +114,9 @@ fn line_of_letters(alloc: Global, all: &str, counts: [usize; 3]) -> Result<Strin
     Ok(format!(in alloc; "{first} {second} {last} of {length}: {unit:x} {next:x}")?)
 }
 
-/// Texts of 41 letters and more have markers, so that neither lies in the other; a short end lies
-/// in the shorter one.
-#[test]
-fn marked_pools(rt: HostRuntime) -> Result<(), Fail> {
-    let all = letters(rt.alloc(), 42)?;
-    let found = line_of_letters(rt.alloc(), all.as_str(), [41, 42, 1])?;
-    assert_said(
-        &rt,
-        rt.alloc(),
-        "letters",
-        found,
-        "1 44 42 of 88: dc29 dc2a",
-    )
-}
-
 /// How many letters a text has, and the first three units of its plan behind unit 0, and how many
 /// units there are.
-const MARKERS: &str = "\
+pub(crate) const MARKERS: &str = "\
 40 => 61 61 61 of 42;
 41 => dc29 61 61 of 44;
 1006 => dfee 61 61 of 1009;
@@ -146,7 +126,7 @@ const MARKERS: &str = "\
 ";
 
 /// The line of the plan of a text of so many letters.
-fn line_of_marker(alloc: Global, count: &str) -> Result<String, Fail> {
+pub(crate) fn line_of_marker(alloc: Global, count: &str) -> Result<String, Fail> {
     let text = letters(alloc, count.parse::<usize>()?)?;
     let plan = pool::plan(alloc, &[text.as_str()])?;
     if plan.offset(text.as_str()) != Some(1) {
@@ -162,21 +142,6 @@ fn described_front(alloc: Global, units: &[u16]) -> Result<String, Fail> {
     let second = units.get(2).copied().unwrap_or(0);
     let third = units.get(3).copied().unwrap_or(0);
     Ok(format!(in alloc; "{first:x} {second:x} {third:x} of {length}")?)
-}
-
-#[test]
-fn markers_by_units(rt: HostRuntime) -> Result<(), Fail> {
-    for row in MARKERS.split_terminator(";\n") {
-        let (count, wanted) = parts(row)?;
-        assert_said(
-            &rt,
-            rt.alloc(),
-            count,
-            line_of_marker(rt.alloc(), count)?,
-            wanted,
-        )?;
-    }
-    Ok(())
 }
 
 /// Decimal texts, and their offsets among those of 1 to 2000.
@@ -213,52 +178,32 @@ fn push_offset(alloc: Global, line: &mut String, plan: &Plan<'_>, text: &str) ->
     Ok(())
 }
 
-#[test]
-fn decimal_texts(rt: HostRuntime) -> Result<(), Fail> {
-    let texts = decimals(rt.alloc())?;
-    let found = line_of_decimals(rt.alloc(), &texts)?;
-    let wanted = "5006 units: 1 21 22 23 24 46 48 452 4501 5001";
-    assert_said(&rt, rt.alloc(), DECIMALS, found, wanted)
+/// Errors, what each prints, and whether it is want of memory.
+pub(crate) const ERRORS: &str = "\
+length =>
+    Cannot serialize string of length 5, maximum is 4,294,967,295 characters, false;
+unexpected => Unexpected error: a, false;
+limit => Limit exceeded: file too large, false;
+memory => Out of memory: while writing, true;
+";
+
+/// The error that is named.
+fn error_named(name: &str) -> BinarySerializerError {
+    match name {
+        "length" => BinarySerializerError::string_too_long(5),
+        "unexpected" => BinarySerializerError::unexpected("a"),
+        "limit" => BinarySerializerError::limit("file too large"),
+        _ => BinarySerializerError::out_of_memory(),
+    }
 }
 
-/// The error prints so.
-fn assert_printed(
-    rt: &impl Abort,
-    alloc: Global,
-    error: BinarySerializerError,
-    wanted: &str,
-) -> Result<(), Fail> {
+/// What an error prints, which is also its text.
+pub(crate) fn line_of_error(alloc: Global, name: &str) -> Result<String, Fail> {
+    let error = error_named(name);
+    let printed = format!(in alloc; "{error}")?;
+    let line = same(printed, error.to_string(alloc)?)?;
     let is_memory = error.is_out_of_memory();
-    let found = format!(in alloc; "{error}, {is_memory}")?;
-    assert_eq!(rt; found.as_str(), wanted);
-    Ok(())
-}
-
-#[test]
-fn errors_print(rt: HostRuntime) -> Result<(), Fail> {
-    let long = "Cannot serialize string of length 5, maximum is 4,294,967,295 characters, false";
-    assert_printed(
-        &rt,
-        rt.alloc(),
-        BinarySerializerError::string_too_long(5),
-        long,
-    )?;
-    let unexpected = BinarySerializerError::unexpected("a");
-    assert_printed(&rt, rt.alloc(), unexpected, "Unexpected error: a, false")?;
-    let limit = BinarySerializerError::limit("file too large");
-    assert_printed(
-        &rt,
-        rt.alloc(),
-        limit,
-        "Limit exceeded: file too large, false",
-    )?;
-    let memory = BinarySerializerError::out_of_memory();
-    assert_printed(
-        &rt,
-        rt.alloc(),
-        memory,
-        "Out of memory: while writing, true",
-    )
+    Ok(format!(in alloc; "{line}, {is_memory}")?)
 }
 
 /// The texts of 1 to so many letters, all ends of one text.
@@ -284,14 +229,35 @@ fn line_of_ends(alloc: Global, texts: &[&str], end: usize) -> Result<String, Fai
     described_front(alloc, plan.units())
 }
 
-/// The texts of 1 to 40 letters a lie in the longest; beside 41 letters, in those.
-#[test]
-fn letters_lie_in_the_longest(rt: HostRuntime) -> Result<(), Fail> {
-    let all = letters(rt.alloc(), 41)?;
-    let texts = ends_of(rt.alloc(), all.as_str(), 40)?;
-    let found = line_of_ends(rt.alloc(), &texts, 41)?;
-    assert_said(&rt, rt.alloc(), "40 letters", found, "61 61 61 of 42")?;
-    let texts = ends_of(rt.alloc(), all.as_str(), 41)?;
-    let found = line_of_ends(rt.alloc(), &texts, 43)?;
-    assert_said(&rt, rt.alloc(), "41 letters", found, "dc29 61 61 of 44")
+/// Texts, and what is planned for them. Texts of 41 letters and more have markers, so that neither
+/// lies in the other; a short end lies in the shorter one. The texts of 1 to 40 letters a lie in
+/// the longest; beside 41 letters, in those.
+pub(crate) const PLANS: &str = "\
+41, 42 and 1 letters => 1 44 42 of 88: dc29 dc2a;
+1 to 40 letters => 61 61 61 of 42;
+1 to 41 letters => dc29 61 61 of 44;
+1 to 2000 => 5006 units: 1 21 22 23 24 46 48 452 4501 5001;
+";
+
+/// The line of texts of 1 to so many letters, those of up to 40 of which end at this unit.
+fn line_of_fronts(alloc: Global, most: usize, end: usize) -> Result<String, Fail> {
+    let all = letters(alloc, most)?;
+    let texts = ends_of(alloc, all.as_str(), most)?;
+    line_of_ends(alloc, &texts, end)
+}
+
+/// The line of the plan that is named.
+pub(crate) fn line_of_plan(alloc: Global, name: &str) -> Result<String, Fail> {
+    match name {
+        "41, 42 and 1 letters" => {
+            let all = letters(alloc, 42)?;
+            line_of_letters(alloc, all.as_str(), [41, 42, 1])
+        }
+        "1 to 40 letters" => line_of_fronts(alloc, 40, 41),
+        "1 to 41 letters" => line_of_fronts(alloc, 41, 43),
+        _ => {
+            let texts = decimals(alloc)?;
+            line_of_decimals(alloc, &texts)
+        }
+    }
 }

@@ -6,12 +6,12 @@ use resb::binary::{BinarySerializerError, from_bytes, from_bytes_counted};
 use resb::bundle::Resource;
 use resb::text::{Expected, Reader};
 use resb::{CompileError, compile};
-use resb_text_rows::rows::{BUNDLES, LINES, OPEN_GROUPS, REFUSALS, REFUSED_LINES, nested};
+use resb_text_rows::rows::{BUNDLES, LINES, OPEN_GROUPS, REFUSED_LINES, nested};
 use std::alloc::Global;
 use std::test::Fail;
 
 /// Texts and their files behind the header.
-const FILES: &str = r#"b:table(nofallback){} =>
+pub(crate) const FILES: &str = r#"b:table(nofallback){} =>
     00000020070000000800000009000000090000000000000001000000090000000000aaaa;
 b{} => 00000020070000000800000009000000090000000000000000000000090000000000aaaa;
 b{k{v}} =>
@@ -90,12 +90,17 @@ b{a{ab}b{b}c{ab}d{cab}} =>
 /// Whether the file is read back as the text's tree.
 fn is_read_back(alloc: Global, text: &str, file: &[u8]) -> Result<bool, Fail> {
     let tree: Resource = from_bytes(alloc, file)?;
+    is_tree_of(alloc, text, &tree)
+}
+
+/// Whether it is the text's tree.
+fn is_tree_of(alloc: Global, text: &str, tree: &Resource<'_>) -> Result<bool, Fail> {
     let (bundle, _keys) = Reader::read(alloc, text)?;
     Ok(tree.equals(bundle.root()))
 }
 
 /// The digits of the file of a text, and whether it is read back as the text's tree.
-fn line_of_file(alloc: Global, text: &str) -> Result<String, Fail> {
+pub(crate) fn line_of_file(alloc: Global, text: &str) -> Result<String, Fail> {
     let file = compile(alloc, text)?;
     if !is_read_back(alloc, text, &file)? {
         return Err("another tree is read back")?;
@@ -113,7 +118,7 @@ fn length_of_file(alloc: Global, text: &str) -> Result<usize, Fail> {
 }
 
 /// The place where the reader refuses a text, and what was expected there.
-fn line_of_refusal(alloc: Global, text: &str) -> Result<String, Fail> {
+pub(crate) fn line_of_refusal(alloc: Global, text: &str) -> Result<String, Fail> {
     match compile(alloc, text) {
         Err(CompileError::Reading(e)) => {
             let position = e.position();
@@ -126,40 +131,10 @@ fn line_of_refusal(alloc: Global, text: &str) -> Result<String, Fail> {
 }
 
 #[test]
-fn texts_have_their_files(rt: HostRuntime) -> Result<(), Fail> {
-    for row in FILES.split_terminator(";\n") {
-        let (text, wanted) = parts(row)?;
-        assert_said(
-            &rt,
-            rt.alloc(),
-            text,
-            line_of_file(rt.alloc(), text)?,
-            wanted,
-        )?;
-    }
-    Ok(())
-}
-
-#[test]
 fn each_bundle_is_read_back(rt: HostRuntime) -> Result<(), Fail> {
     for row in BUNDLES.split_terminator('\n') {
         let (text, _tree) = parts(row)?;
         let _ = length_of_file(rt.alloc(), text)?;
-    }
-    Ok(())
-}
-
-#[test]
-fn each_refusal_is_the_readers(rt: HostRuntime) -> Result<(), Fail> {
-    for row in REFUSALS.split_terminator('\n') {
-        let (text, wanted) = parts(row)?;
-        assert_said(
-            &rt,
-            rt.alloc(),
-            text,
-            line_of_refusal(rt.alloc(), text)?,
-            wanted,
-        )?;
     }
     Ok(())
 }
@@ -204,33 +179,26 @@ fn line_of_counts(alloc: Global, text: &str) -> Result<String, Fail> {
     Ok(format!(in alloc; "{length} bytes, {count} resources")?)
 }
 
+/// How many closed groups stand in one another, what stands within, and what is read of the file.
+/// A million are not compared with the text's tree.
+pub(crate) const CLOSED: &str = r#"994 "x" "yz" => 8040 bytes, 997 resources;
+1000000  => 8000072 bytes, 1000001 resources;
+"#;
+
 /// The line of the text of so many closed groups.
-fn line_of_closed(alloc: Global, depth: usize, within: &str) -> Result<String, Fail> {
-    let text = nested(alloc, ("b{a", "}"), ("{", "}"), depth, within)?;
+pub(crate) fn line_of_closed(alloc: Global, input: &str) -> Result<String, Fail> {
+    let (depth, within) = input.split_once(' ').ok_or("a row without groups")?;
+    let text = nested(
+        alloc,
+        ("b{a", "}"),
+        ("{", "}"),
+        depth.parse::<usize>()?,
+        within,
+    )?;
+    if text.len() < 10_000 {
+        let _ = length_of_file(alloc, text.as_str())?;
+    }
     line_of_counts(alloc, text.as_str())
-}
-
-#[test]
-fn closed_groups_are_read_back(rt: HostRuntime) -> Result<(), Fail> {
-    let few = line_of_closed(rt.alloc(), 994, "\"x\" \"yz\"")?;
-    assert_said(&rt, rt.alloc(), "994", few, "8040 bytes, 997 resources")?;
-    let many = line_of_closed(rt.alloc(), 1_000_000, "")?;
-    assert_said(
-        &rt,
-        rt.alloc(),
-        "a million",
-        many,
-        "8000072 bytes, 1000001 resources",
-    )
-}
-
-/// The text of 994 closed groups, one in another.
-#[test]
-fn nested_groups_are_read_back_as_their_tree(rt: HostRuntime) -> Result<(), Fail> {
-    let text = nested(rt.alloc(), ("b{a", "}"), ("{", "}"), 994, "\"x\" \"yz\"")?;
-    let length = length_of_file(rt.alloc(), text.as_str())?;
-    assert_eq!(rt; length, 8040);
-    Ok(())
 }
 
 /// What was expected where the reader refuses a text.

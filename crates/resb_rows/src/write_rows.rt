@@ -1,6 +1,6 @@
 //! Trees with lists of keys, and their files or refusals, as the format's rules ask for them. Each
 //! row is an input and its answer, in lines, up to a `;`: a row more costs no proof.
-use crate::answers::{assert_said, digits, parts};
+use crate::answers::{assert_said, digits};
 use resb::compile;
 use resb_read::from_bytes;
 use resb_text::Reader;
@@ -13,7 +13,7 @@ use std::test::Fail;
 
 /// Strings of a root array, where `~` stands for U+0000 and `''` for the empty string, and the hex
 /// digits of its file behind the header.
-const STRINGS: &str = r#"~ab ab =>
+pub(crate) const STRINGS: &str = r#"~ab ab =>
     0600009007000000080000000d0000000d00000000000000000000000d000000000003dc0000610062000000
     020001000300aaaa;
 x y y =>
@@ -54,7 +54,7 @@ a~b ~b b =>
 "#;
 
 /// Texts, keys in the order of a list, and the file of the text's tree with these keys.
-const LISTS: &str = r#"b{a{"xyz"}c{"yz"}} | a a c =>
+pub(crate) const LISTS: &str = r#"b{a{"xyz"}c{"yz"}} | a a c =>
     05000050070000000a0000000f0000000f00000002000000000000000f000000610061006300aaaa00007800
     79007a00000002002200240001000200;
 b{a{"xyz"}c{"yz"}} | c x a =>
@@ -106,27 +106,12 @@ fn string<'a>(alloc: Global, word: &str) -> Result<Resource<'a>, Fail> {
 }
 
 /// The line of the file of an array of these strings.
-fn line_of_strings(alloc: Global, words: &str) -> Result<String, Fail> {
+pub(crate) fn line_of_strings(alloc: Global, words: &str) -> Result<String, Fail> {
     let mut items = Vec::new(alloc);
     for word in words.split(' ') {
         items.push(string(alloc, word)?)?;
     }
     told(alloc, written(alloc, Resource::Array(items), &[]))
-}
-
-#[test]
-fn arrays_of_strings_have_their_files(rt: HostRuntime) -> Result<(), Fail> {
-    for row in STRINGS.split_terminator(";\n") {
-        let (words, wanted) = parts(row)?;
-        assert_said(
-            &rt,
-            rt.alloc(),
-            words,
-            line_of_strings(rt.alloc(), words)?,
-            wanted,
-        )?;
-    }
-    Ok(())
 }
 
 /// The line of the file of a text's tree with these keys.
@@ -136,7 +121,7 @@ fn line_of_text(alloc: Global, text: &str, keys: &[Key<'_>]) -> Result<String, F
 }
 
 /// The line of a text and a list of keys.
-fn line_of_list(alloc: Global, input: &str) -> Result<String, Fail> {
+pub(crate) fn line_of_list(alloc: Global, input: &str) -> Result<String, Fail> {
     let (text, words) = input.split_once(" | ").ok_or("a row without keys")?;
     let mut keys = Vec::new(alloc);
     for word in words.split(' ') {
@@ -145,23 +130,8 @@ fn line_of_list(alloc: Global, input: &str) -> Result<String, Fail> {
     line_of_text(alloc, text, &keys)
 }
 
-#[test]
-fn lists_of_keys_have_their_files(rt: HostRuntime) -> Result<(), Fail> {
-    for row in LISTS.split_terminator(";\n") {
-        let (input, wanted) = parts(row)?;
-        assert_said(
-            &rt,
-            rt.alloc(),
-            input,
-            line_of_list(rt.alloc(), input)?,
-            wanted,
-        )?;
-    }
-    Ok(())
-}
-
 /// Roots that hold no key, and their files.
-const ROOTS: &str = "\
+pub(crate) const ROOTS: &str = "\
 string =>
     0100006007000000080000000a0000000a00000000000000000000000a000000000061000000aaaa;
 number =>
@@ -184,23 +154,8 @@ fn root_named<'a>(alloc: Global, name: &str) -> Result<Resource<'a>, Fail> {
 }
 
 /// The line of the file of a root that is named.
-fn line_of_root(alloc: Global, name: &str) -> Result<String, Fail> {
+pub(crate) fn line_of_root(alloc: Global, name: &str) -> Result<String, Fail> {
     told(alloc, written(alloc, root_named(alloc, name)?, &[]))
-}
-
-#[test]
-fn roots_of_each_kind(rt: HostRuntime) -> Result<(), Fail> {
-    for row in ROOTS.split_terminator(";\n") {
-        let (name, wanted) = parts(row)?;
-        assert_said(
-            &rt,
-            rt.alloc(),
-            name,
-            line_of_root(rt.alloc(), name)?,
-            wanted,
-        )?;
-    }
-    Ok(())
 }
 
 /// The word with this number behind the header.
@@ -232,7 +187,7 @@ fn push_word(alloc: Global, line: &mut String, word: u32) -> Result<(), Fail> {
 /// then the length of the file of a table of both keys, and these words. A position of 65535 fits a
 /// unit; one of 65536 asks for a table with 32-bit positions. The last place of a doubled key
 /// counts.
-const FAR_TABLES: &str = "\
+pub(crate) const FAR_TABLES: &str = "\
 65502 Lz | 0 2 16388 => 65592 50000005 4001 ffff0020;
 65503 Lz | 0 1 2 3 4 5 6 7 16388 16389 16390 16391 16392 =>
     65604 40004004 7 4001 4009 4009 2 0 4004 2 20 10000 60000001 60000003;
@@ -277,7 +232,7 @@ fn far_text(alloc: Global, long: &str, list: &str) -> Result<Vec<u8>, Fail> {
 
 /// The length and some words of the file of a row, which is the text's where the list has each key
 /// once.
-fn line_of_far(alloc: Global, input: &str) -> Result<String, Fail> {
+pub(crate) fn line_of_far(alloc: Global, input: &str) -> Result<String, Fail> {
     let (table, numbers) = input.split_once(" | ").ok_or("a row without words")?;
     let (count, list) = table.split_once(' ').ok_or("a row without keys")?;
     let long = repeated(alloc, 'K', count.parse::<usize>()?)?;
@@ -286,21 +241,6 @@ fn line_of_far(alloc: Global, input: &str) -> Result<String, Fail> {
         return Err("the text has another file")?;
     }
     line_of_words(alloc, &file, numbers)
-}
-
-#[test]
-fn positions_at_the_limit(rt: HostRuntime) -> Result<(), Fail> {
-    for row in FAR_TABLES.split_terminator(";\n") {
-        let (input, wanted) = parts(row)?;
-        assert_said(
-            &rt,
-            rt.alloc(),
-            input,
-            line_of_far(rt.alloc(), input)?,
-            wanted,
-        )?;
-    }
-    Ok(())
 }
 
 /// The text of so many of one character.
@@ -312,25 +252,23 @@ fn repeated(alloc: Global, c: char, count: usize) -> Result<String, Fail> {
     Ok(text)
 }
 
-/// The numbers of the words of a file of forty characters of two units each, and those words: the
-/// string has a marker.
-const FACES: (&str, &str) = (
-    "0 7 8 9 10 11 12 13 14 15 16 17 18 19 20 21 22 23 24 25 26 27 28 29 30 31 32 33 34 35 36 \
-     37 38 39 40 41 42 43 44 45 46 47 48 49",
-    "232 60000001 32 dc500000 de00d83d de00d83d de00d83d de00d83d de00d83d de00d83d de00d83d \
-     de00d83d de00d83d de00d83d de00d83d de00d83d de00d83d de00d83d de00d83d de00d83d de00d83d \
-     de00d83d de00d83d de00d83d de00d83d de00d83d de00d83d de00d83d de00d83d de00d83d de00d83d \
-     de00d83d de00d83d de00d83d de00d83d de00d83d de00d83d de00d83d de00d83d de00d83d de00d83d \
-     de00d83d de00d83d de00d83d aaaa0000",
-);
-
-#[test]
-fn forty_faces_are_marked(rt: HostRuntime) -> Result<(), Fail> {
-    let text = repeated(rt.alloc(), '\u{1f600}', 40)?;
-    let file = written(rt.alloc(), Resource::String(CowStr::Owned(text)), &[])?;
-    let found = line_of_words(rt.alloc(), &file, FACES.0)?;
-    assert_said(&rt, rt.alloc(), "faces", found, FACES.1)
-}
+/// Files, numbers of words, and the length of each file and these words: forty characters of two
+/// units each, whose string has a marker; strings of 41, 42 and 1 letters, of which the first two
+/// have markers, and each a record, although one ends the other; a table of 65536 entries, which
+/// has 32-bit key positions.
+pub(crate) const LARGE: &str = "\
+faces | \
+    0 7 8 9 10 11 12 13 14 15 16 17 18 19 20 21 22 23 24 25 26 27 28 29 30 31 32 33 34 35 36 37 \
+    38 39 40 41 42 43 44 45 46 47 48 49 => \
+    232 60000001 32 dc500000 de00d83d de00d83d de00d83d de00d83d de00d83d de00d83d de00d83d \
+    de00d83d de00d83d de00d83d de00d83d de00d83d de00d83d de00d83d de00d83d de00d83d de00d83d \
+    de00d83d de00d83d de00d83d de00d83d de00d83d de00d83d de00d83d de00d83d de00d83d de00d83d \
+    de00d83d de00d83d de00d83d de00d83d de00d83d de00d83d de00d83d de00d83d de00d83d de00d83d \
+    de00d83d de00d83d de00d83d aaaa0000;
+letters | 0 7 8 9 28 29 30 50 51 52 53 =>
+    248 90000058 36 dc290000 610061 610061 61 61dc2a 610061 61 10003 2a002c;
+numbers | 0 98313 163849 => 917576 40018009 10000 6001a;
+";
 
 /// The array of strings of so many letters a each.
 fn letters<'a>(alloc: Global, counts: &[usize]) -> Result<Resource<'a>, Fail> {
@@ -341,23 +279,9 @@ fn letters<'a>(alloc: Global, counts: &[usize]) -> Result<Resource<'a>, Fail> {
     Ok(Resource::Array(items))
 }
 
-/// Strings of 41 and 42 letters have markers, and each a record, although one ends the other.
-#[test]
-fn marked_strings_stand_in_files(rt: HostRuntime) -> Result<(), Fail> {
-    let file = written(rt.alloc(), letters(rt.alloc(), &[41, 42, 1])?, &[])?;
-    let found = line_of_words(rt.alloc(), &file, "0 7 8 9 28 29 30 50 51 52 53")?;
-    assert_said(
-        &rt,
-        rt.alloc(),
-        "letters",
-        found,
-        "248 90000058 36 dc290000 610061 610061 61 61dc2a 610061 61 10003 2a002c",
-    )
-}
-
 /// Keys of a table, `,` between them and `~` for U+0000, a list of keys, and why the table is
 /// refused: a key that isn't listed comes before one that holds U+0000.
-const KEY_FAULTS: &str = "\
+pub(crate) const KEY_FAULTS: &str = "\
 a,b~ | b~ => refused: Unexpected error: key not present in position map;
 a,b~ | a,b~ => refused: Unexpected error: key contains U+0000;
 b~ | a,b~ => refused: Unexpected error: key contains U+0000;
@@ -382,26 +306,11 @@ fn zeros<'a>(alloc: Global, keys: Vec<Key<'a>>) -> Result<Table<'a>, Fail> {
 }
 
 /// The line of a table of some keys with a list of keys.
-fn line_of_keys(alloc: Global, input: &str) -> Result<String, Fail> {
+pub(crate) fn line_of_keys(alloc: Global, input: &str) -> Result<String, Fail> {
     let (used, listed) = input.split_once(" | ").ok_or("a row without a list")?;
     let listed = keys_named(alloc, listed)?;
     let table = zeros(alloc, keys_named(alloc, used)?)?;
     told(alloc, written(alloc, Resource::Table(table), &listed))
-}
-
-#[test]
-fn faults_of_keys_have_an_order(rt: HostRuntime) -> Result<(), Fail> {
-    for row in KEY_FAULTS.split_terminator(";\n") {
-        let (input, wanted) = parts(row)?;
-        assert_said(
-            &rt,
-            rt.alloc(),
-            input,
-            line_of_keys(rt.alloc(), input)?,
-            wanted,
-        )?;
-    }
-    Ok(())
 }
 
 /// The keys `00000` to `65535`.
@@ -438,25 +347,6 @@ fn is_numbered(alloc: Global, file: &[u8]) -> Result<bool, Fail> {
     Ok(tree.equals(&Resource::Table(table)))
 }
 
-/// A table of 65536 entries has 32-bit key positions, and is read back.
-#[test]
-fn a_table_of_65536_entries(rt: HostRuntime) -> Result<(), Fail> {
-    let file = numbered(rt.alloc())?;
-    let found = line_of_words(rt.alloc(), &file, "0 98313 163849")?;
-    assert_said(
-        &rt,
-        rt.alloc(),
-        "numbers",
-        found,
-        "917576 40018009 10000 6001a",
-    )?;
-    let is_read_back = is_numbered(rt.alloc(), &file)?;
-    assert!(rt; is_read_back);
-    let is_compiled = numbered_text(rt.alloc())? == file;
-    assert!(rt; is_compiled);
-    Ok(())
-}
-
 /// Without a list no key is known, however many are used.
 #[test]
 fn keys_without_a_list_are_refused(rt: HostRuntime) -> Result<(), Fail> {
@@ -475,13 +365,6 @@ fn nested_arrays<'a>(alloc: Global, levels: u32) -> Result<Resource<'a>, Fail> {
     Ok(arrays)
 }
 
-#[test]
-fn deep_arrays_are_written(rt: HostRuntime) -> Result<(), Fail> {
-    let file = written(rt.alloc(), nested_arrays(rt.alloc(), 100_000)?, &[])?;
-    assert_eq!(rt; file.len(), 68 + 800_000);
-    Ok(())
-}
-
 /// The table of one tree at k.
 fn table_of<'a>(alloc: Global, tree: Resource<'a>) -> Result<Resource<'a>, Fail> {
     let mut table: Table = BTreeMap::new(alloc);
@@ -498,28 +381,47 @@ fn nested_tables<'a>(alloc: Global, levels: u32) -> Result<Resource<'a>, Fail> {
     Ok(tables)
 }
 
-#[test]
-fn deep_tables_are_written(rt: HostRuntime) -> Result<(), Fail> {
-    let file = written(
-        rt.alloc(),
-        nested_tables(rt.alloc(), 1_000_000)?,
-        &[Key::from("k")],
-    )?;
-    assert_eq!(rt; file.len(), 72 + 8_000_000);
-    Ok(())
+/// So many collections in one another, and the length of their file.
+pub(crate) const DEEP: &str = "arrays 100000 => 800068;\ntables 1000000 => 8000072;\n";
+
+/// The length of the file of so many collections in one another.
+pub(crate) fn line_of_deep(alloc: Global, input: &str) -> Result<String, Fail> {
+    let (kind, levels) = input.split_once(' ').ok_or("a row without levels")?;
+    let levels = levels.parse::<u32>()?;
+    let file = match kind {
+        "arrays" => written(alloc, nested_arrays(alloc, levels)?, &[])?,
+        _ => written(alloc, nested_tables(alloc, levels)?, &[Key::from("k")])?,
+    };
+    let length = file.len();
+    Ok(format!(in alloc; "{length}")?)
 }
 
-/// What an error prints.
-fn printed(alloc: Global, error: BinarySerializerError) -> Result<String, Fail> {
-    Ok(error.to_string(alloc)?)
+/// The file of the table of 65536 keys, which is read back, and is the text's.
+fn checked_numbers(alloc: Global) -> Result<Vec<u8>, Fail> {
+    let file = numbered(alloc)?;
+    if !is_numbered(alloc, &file)? || numbered_text(alloc)? != file {
+        return Err("another table or another file")?;
+    }
+    Ok(file)
 }
 
-#[test]
-fn faults_print(rt: HostRuntime) -> Result<(), Fail> {
-    let long = printed(rt.alloc(), BinarySerializerError::string_too_long(5))?;
-    let expected = "Cannot serialize string of length 5, maximum is 4,294,967,295 characters";
-    assert!(rt; long.as_str() == expected);
-    let memory = printed(rt.alloc(), BinarySerializerError::out_of_memory())?;
-    assert!(rt; memory.as_str() == "Out of memory: while writing");
-    Ok(())
+/// The file of forty faces.
+fn faces(alloc: Global) -> Result<Vec<u8>, Fail> {
+    let text = repeated(alloc, '\u{1f600}', 40)?;
+    Ok(written(alloc, Resource::String(CowStr::Owned(text)), &[])?)
+}
+
+/// The file that is named.
+fn file_named(alloc: Global, name: &str) -> Result<Vec<u8>, Fail> {
+    match name {
+        "faces" => faces(alloc),
+        "letters" => Ok(written(alloc, letters(alloc, &[41, 42, 1])?, &[])?),
+        _ => checked_numbers(alloc),
+    }
+}
+
+/// The length and some words of the file that is named.
+pub(crate) fn line_of_large(alloc: Global, input: &str) -> Result<String, Fail> {
+    let (name, numbers) = input.split_once(" | ").ok_or("a row without words")?;
+    line_of_words(alloc, &file_named(alloc, name)?, numbers)
 }

@@ -7,23 +7,42 @@ use std::alloc::Global;
 use std::process::Abort;
 use std::test::Fail;
 
+/// What a row is asked for.
+#[derive(Clone, Copy)]
+enum Kind {
+    Pool,
+    Marker,
+    Plan,
+    Error,
+    Text,
+    Refusal,
+    Closed,
+    Strings,
+    List,
+    Root,
+    FarTable,
+    KeyFault,
+    Large,
+    Deep,
+}
+
 /// The line of a row of this kind.
-fn answered(alloc: Global, kind: &str, input: &str) -> Result<String, Fail> {
+fn answered(alloc: Global, kind: Kind, input: &str) -> Result<String, Fail> {
     match kind {
-        "pool" => pool_rows::line_of_words(alloc, input),
-        "marker" => pool_rows::line_of_marker(alloc, input),
-        "plan" => pool_rows::line_of_plan(alloc, input),
-        "error" => pool_rows::line_of_error(alloc, input),
-        "text" => way_rows::line_of_file(alloc, input),
-        "refusal" => way_rows::line_of_refusal(alloc, input),
-        "closed" => way_rows::line_of_closed(alloc, input),
-        "strings" => write_rows::line_of_strings(alloc, input),
-        "list" => write_rows::line_of_list(alloc, input),
-        "root" => write_rows::line_of_root(alloc, input),
-        "far" => write_rows::line_of_far(alloc, input),
-        "keys" => write_rows::line_of_keys(alloc, input),
-        "large" => write_rows::line_of_large(alloc, input),
-        _ => write_rows::line_of_deep(alloc, input),
+        Kind::Pool => pool_rows::line_of_words(alloc, input),
+        Kind::Marker => pool_rows::line_of_marker(alloc, input),
+        Kind::Plan => pool_rows::line_of_plan(alloc, input),
+        Kind::Error => pool_rows::line_of_error(alloc, input),
+        Kind::Text => way_rows::line_of_file(alloc, input),
+        Kind::Refusal => way_rows::line_of_refusal(alloc, input),
+        Kind::Closed => way_rows::line_of_closed(alloc, input),
+        Kind::Strings => write_rows::line_of_strings(alloc, input),
+        Kind::List => write_rows::line_of_list(alloc, input),
+        Kind::Root => write_rows::line_of_root(alloc, input),
+        Kind::FarTable => write_rows::line_of_far(alloc, input),
+        Kind::KeyFault => write_rows::line_of_keys(alloc, input),
+        Kind::Large => write_rows::line_of_large(alloc, input),
+        Kind::Deep => write_rows::line_of_deep(alloc, input),
     }
 }
 
@@ -31,7 +50,7 @@ fn answered(alloc: Global, kind: &str, input: &str) -> Result<String, Fail> {
 fn assert_ended(
     rt: &impl Abort,
     alloc: Global,
-    kind: &str,
+    kind: Kind,
     rows: &str,
     end: &str,
 ) -> Result<(), Fail> {
@@ -43,44 +62,44 @@ fn assert_ended(
 }
 
 /// Each row of a table has its answer. A row ends with a `;` and a line feed.
-fn assert_rows(rt: &impl Abort, alloc: Global, kind: &str, rows: &str) -> Result<(), Fail> {
+fn assert_rows(rt: &impl Abort, alloc: Global, kind: Kind, rows: &str) -> Result<(), Fail> {
     assert_ended(rt, alloc, kind, rows, ";\n")
 }
 
 #[test]
 fn strings_are_pooled(rt: HostRuntime) -> Result<(), Fail> {
-    assert_ended(&rt, rt.alloc(), "pool", pool_rows::POOLS, "\n")?;
-    assert_rows(&rt, rt.alloc(), "marker", pool_rows::MARKERS)?;
-    assert_rows(&rt, rt.alloc(), "plan", pool_rows::PLANS)?;
-    assert_rows(&rt, rt.alloc(), "error", pool_rows::ERRORS)
+    assert_ended(&rt, rt.alloc(), Kind::Pool, pool_rows::POOLS, "\n")?;
+    assert_rows(&rt, rt.alloc(), Kind::Marker, pool_rows::MARKERS)?;
+    assert_rows(&rt, rt.alloc(), Kind::Plan, pool_rows::PLANS)?;
+    assert_rows(&rt, rt.alloc(), Kind::Error, pool_rows::ERRORS)
 }
 
 #[test]
 fn texts_have_their_files(rt: HostRuntime) -> Result<(), Fail> {
-    assert_rows(&rt, rt.alloc(), "text", way_rows::FILES)?;
-    assert_ended(&rt, rt.alloc(), "refusal", REFUSALS, "\n")
+    assert_rows(&rt, rt.alloc(), Kind::Text, way_rows::FILES)?;
+    assert_ended(&rt, rt.alloc(), Kind::Refusal, REFUSALS, "\n")
 }
 
 #[test]
 fn closed_groups_are_read_back(rt: HostRuntime) -> Result<(), Fail> {
-    assert_rows(&rt, rt.alloc(), "closed", way_rows::CLOSED)
+    assert_rows(&rt, rt.alloc(), Kind::Closed, way_rows::CLOSED)
 }
 
 #[test]
 fn trees_have_their_files(rt: HostRuntime) -> Result<(), Fail> {
-    assert_rows(&rt, rt.alloc(), "strings", write_rows::STRINGS)?;
-    assert_rows(&rt, rt.alloc(), "list", write_rows::LISTS)?;
-    assert_rows(&rt, rt.alloc(), "root", write_rows::ROOTS)?;
-    assert_rows(&rt, rt.alloc(), "far", write_rows::FAR_TABLES)?;
-    assert_rows(&rt, rt.alloc(), "keys", write_rows::KEY_FAULTS)
+    assert_rows(&rt, rt.alloc(), Kind::Strings, write_rows::STRINGS)?;
+    assert_rows(&rt, rt.alloc(), Kind::List, write_rows::LISTS)?;
+    assert_rows(&rt, rt.alloc(), Kind::Root, write_rows::ROOTS)?;
+    assert_rows(&rt, rt.alloc(), Kind::FarTable, write_rows::FAR_TABLES)?;
+    assert_rows(&rt, rt.alloc(), Kind::KeyFault, write_rows::KEY_FAULTS)
 }
 
 #[test]
 fn large_trees_have_their_files(rt: HostRuntime) -> Result<(), Fail> {
-    assert_rows(&rt, rt.alloc(), "large", write_rows::LARGE)
+    assert_rows(&rt, rt.alloc(), Kind::Large, write_rows::LARGE)
 }
 
 #[test]
 fn deep_trees_have_their_files(rt: HostRuntime) -> Result<(), Fail> {
-    assert_rows(&rt, rt.alloc(), "deep", write_rows::DEEP)
+    assert_rows(&rt, rt.alloc(), Kind::Deep, write_rows::DEEP)
 }

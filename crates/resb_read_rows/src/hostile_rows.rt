@@ -8,9 +8,9 @@ use resb_read::{count_resources, from_bytes_counted};
 use std::alloc::Global;
 use std::test::Fail;
 
-/// Files of shared bodies, and what is answered: an array of so many arrays of two empty strings and
-/// a last word; twenty levels of doubling without so many of the last words; an array of so many
-/// members, each of which is that array itself, and so much padding, 66 kilobytes in all.
+/// Files of shared bodies, and what is answered: an array of so many arrays of two empty strings
+/// and a last word; twenty levels of doubling without so many of the last words; an array of so
+/// many members, each of which is that array itself, and so much padding, 66 kilobytes in all.
 pub(crate) const SHARED: &str = "\
 shared 37 90000001 =>
     112 [[\"\",\"\",],[\"\",\"\",],[\"\",\"\",],[\"\",\"\",],[\"\",\"\",],[\"\",\"\",],\

@@ -1,8 +1,11 @@
-//! The worked rows of the codecs, the views, the head and the parts of a file: inputs with the
-//! answers that the format's rules ask for. Only tests stand here, so that no other crate is proved
-//! twice. Each kind of row has one helper, which is proved once; a row more is a line of its table.
+//! The worked rows of the bytes, the codecs, the views, the head and the parts of a file: inputs
+//! with the answers that the format's rules ask for. Only tests stand here, so that no other crate
+//! is proved twice. Each kind of row has one helper, which is proved once; a row more is a line of
+//! its table.
 #![tactic(auto)]
 
+#[cfg(test)]
+mod byte_rows;
 #[cfg(test)]
 mod code_rows;
 #[cfg(test)]

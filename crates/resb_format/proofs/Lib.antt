@@ -5,6 +5,6 @@ pub mod Spelled
 pub mod InsideLemmas
 pub mod StringsIn
 pub mod TextUnits
-mod Apart
+pub mod Apart
 mod Survival
 pub mod WordsBack

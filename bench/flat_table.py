@@ -1,8 +1,10 @@
 #!/usr/bin/env python3
-"""Writes the text of a bundle whose root is a flat table, of about so many bytes: flat_table.py BYTES [DISTINCT].
+"""Writes the text of a bundle whose root is a flat table, of about so many bytes.
 
-Keys have 18 letters, strings 24. From DISTINCT keys on (2600 where none is given) the keys begin anew, so that later
-entries replace earlier ones: the files of this stage hold at most 65535 units of strings.
+    flat_table.py BYTES [DISTINCT]
+
+Keys have 18 letters, strings 24. From DISTINCT keys on (2600 where none is given) the keys begin
+anew, so that later entries replace earlier ones: an earlier writer held at most 65535 units of strings.
 """
 import sys
 
@@ -11,7 +13,8 @@ def entries(size, distinct):
     written = 0
     i = 0
     while written < size:
-        entry = 'keyOfTheTable%05d{"%s"}\n' % (i % distinct, "abcdefghijklmnopqrst%04d" % (i % 10000))
+        entry = 'keyOfTheTable%05d{"%s"}\n' % (
+            i % distinct, "abcdefghijklmnopqrst%04d" % (i % 10000))
         written += len(entry)
         yield entry
         i += 1

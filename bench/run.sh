@@ -1,6 +1,7 @@
 #!/usr/bin/env bash
-# Times the program on flat tables of 1 kB to 10 MB, the best of five runs each, and its growth per tenfold;
-# beside it ICU's genrb where that is installed. Each timed run's output is compared with that of the run before.
+# Times the program on flat tables of 1 kB to 10 MB, the best of five runs each, and its growth per
+# tenfold; beside it ICU's genrb where that is installed. Each timed run's output is compared with
+# that of the run before.
 set -euo pipefail
 top=$(cd "$(dirname "$0")/.." && pwd)
 work=$(mktemp -d)

@@ -41,7 +41,8 @@ def deep(i, level=0):
 
 def unsorted_keys(size):
     count = max(1, min(size // 16, 100000))
-    step = next(s for s in range(count // 2 + 1, 2 * count + 2) if all(s % p or count % p for p in (2, 3, 5, 7)))
+    step = next(s for s in range(count // 2 + 1, 2 * count + 2)
+                if all(s % p or count % p for p in (2, 3, 5, 7)))
     keys = ''.join('key%08d{v}' % (i * step % count) for i in range(count))
     return 'b{%s}' % keys
 
@@ -52,9 +53,11 @@ KINDS = {
     'tables of tables': lambda n: entries(deep, n),
     'arrays of short words': lambda n: entries(lambda i: 'a%d{%s}' % (i, 'x, yz, ' * 20), n),
     'integers': lambda n: entries(lambda i: 'i%d:int{%d}' % (i, i * 4099), n),
-    'vectors': lambda n: entries(lambda i: 'v%d:intvector{%s}' % (i, ','.join(map(str, range(i, i + 20)))), n),
+    'vectors': lambda n: entries(
+        lambda i: 'v%d:intvector{%s}' % (i, ','.join(map(str, range(i, i + 20)))), n),
     'hex digits': lambda n: entries(lambda i: 'h%d:bin{"%s"}' % (i, '0fA7' * 500), n),
-    'comments and blanks': lambda n: entries(lambda i: 'k%d /* %s */ { v } // c\n\t ' % (i, 'c' * 40), n),
+    'comments and blanks': lambda n: entries(
+        lambda i: 'k%d /* %s */ { v } // c\n\t ' % (i, 'c' * 40), n),
     'unsorted keys': unsorted_keys,
     'nesting alone': lambda n: 'b{a%s%s}' % ('{' * (n // 2), '}' * (n // 2)),
 }

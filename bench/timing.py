@@ -9,7 +9,8 @@ import sys
 
 
 def least(command, turns, given=os.devnull, folder=None):
-    """The least milliseconds of so many runs, the most memory in bytes, and the last run's status."""
+    """The least milliseconds of so many runs, the most memory in bytes, and the last run's
+    status."""
     best, memory, status = None, 0, 0
     for _ in range(turns):
         with open(given, 'rb') as stdin:

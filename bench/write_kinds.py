@@ -26,7 +26,9 @@ def tables(size):
         rows = []
         for i in range(10):
             word = 'text %d of group %d' % (i * 7919 + n, n * 31 + i)
-            cells = ''.join('c%d{"%s"}' % (j, word[-9:] if j % 10 < 3 else '%s, %d' % (word, j)) for j in range(10))
+            cells = ''.join(
+                'c%d{"%s"}' % (j, word[-9:] if j % 10 < 3 else '%s, %d' % (word, j))
+                for j in range(10))
             rows.append('row%d{%s}' % (i, cells))
         part = 'group%d{%s}' % (n, ''.join(rows))
         parts.append(part)
@@ -37,14 +39,16 @@ def tables(size):
 
 def unsorted_keys(size):
     count = max(1, min(size // 16, 65535))
-    step = next(s for s in range(count // 2 + 1, 2 * count + 2) if all(s % p or count % p for p in (2, 3, 5, 7, 17, 257)))
+    step = next(s for s in range(count // 2 + 1, 2 * count + 2)
+                if all(s % p or count % p for p in (2, 3, 5, 7, 17, 257)))
     return 'b{%s}' % ''.join('key%06d{v}' % (i * step % count) for i in range(count))
 
 
 def vectors(size):
     parts, length, n = [], 0, 0
     while length < size:
-        part = 't%d{%s}' % (n, ''.join('v%d:intvector{%d,%d,%d}' % (i, n, i, n + i) for i in range(100)))
+        part = 't%d{%s}' % (
+            n, ''.join('v%d:intvector{%d,%d,%d}' % (i, n, i, n + i) for i in range(100)))
         parts.append(part)
         length += len(part)
         n += 1

@@ -1,8 +1,9 @@
 #!/usr/bin/env bash
-# ICU opens compiled files: what its derb prints of a file is a text again, and that text has the same file.
+# ICU opens compiled files: what its derb prints of a file is a text again, and that text has the
+# same file.
 # Run by hand, where derb is installed.
-# derb prints neither `:table(nofallback)` nor quotes around a key, and keys in their order, so no text
-# here needs the first two, and each has its keys in order.
+# derb prints neither `:table(nofallback)` nor quotes around a key, and keys in their order, so no
+# text here needs the first two, and each has its keys in order.
 set -uo pipefail
 top=$(cd "$(dirname "$0")/.." && pwd)
 program=$top/crates/resb_tool/out/resb_tool

@@ -1,7 +1,8 @@
 #!/usr/bin/env bash
-# Compiles texts that ICU's genrb reads the same way, with both programs, and compares the files byte
-# for byte. Run by hand, where genrb is installed. Each text is a bundle of the name b, whose groups
-# mean the same in both grammars; where the files differ for a known reason, the reason stands with it.
+# Compiles texts that ICU's genrb reads the same way, with both programs, and compares the files
+# byte for byte. Run by hand, where genrb is installed. Each text is a bundle of the name b, whose
+# groups mean the same in both grammars; where the files differ for a known reason, the reason
+# stands with it.
 set -uo pipefail
 top=$(cd "$(dirname "$0")/.." && pwd)
 program=$top/crates/resb_tool/out/resb_tool
@@ -16,7 +17,8 @@ printf 'b{}' | "$top/run" > /dev/null || exit 3
 # compared REASON TEXT: REASON is empty where the files have to be equal
 compared() {
   printf '%s' "$2" > "$work/b.txt"
-  "$program" compile "$work/b.txt" "$work/ours.res" && genrb -q -d "$work" -s "$work" b.txt > /dev/null 2>&1 || {
+  "$program" compile "$work/b.txt" "$work/ours.res" \
+    && genrb -q -d "$work" -s "$work" b.txt > /dev/null 2>&1 || {
     failed=$((failed + 1))
     echo "failed: $2"
     return
@@ -50,7 +52,8 @@ compared '' 'b{a{"é"}b{"ü漢"}c{"漢"}d{"😀"}}'
 compared '' "b{k{\"$(letters 40)\"}l{\"$(letters 39)\"}}"
 compared '' "b{k{\"$(letters 41)\"}}"
 compared '' "b{k{\"$(letters 1006)\"}l{\"$(letters 1007)\"}}"
-compared 'an end of two marked strings lies in the other' "b{k{\"$(letters 41)\"}l{\"$(letters 42)\"}m{\"a\"}}"
+compared 'an end of two marked strings lies in the other' \
+  "b{k{\"$(letters 41)\"}l{\"$(letters 42)\"}m{\"a\"}}"
 compared 'an empty string beside others is a word 0 there' 'b{a:array{"",:int{1}}}'
 compared 'an empty group is an array there' 'b{a{}}'
 compared 'words in a row are joined there' 'b{a{hello world}}'

@@ -1,11 +1,12 @@
 #!/usr/bin/env bash
-# Refuses the first, the second, .. request for memory of the built program, one in each run, until a run
-# asks for no more. Each run has to answer want of memory or what it answers with ample memory; it writes
-# to standard output all or nothing, leaves in OUT all or what stood there, and never ends by a signal. The
-# same for the program `resb_calls`, which makes each public call that asks for memory.
+# Refuses the first, the second, .. request for memory of the built program, one in each run, until
+# a run asks for no more. Each run has to answer want of memory or what it answers with ample
+# memory; it writes to standard output all or nothing, leaves in OUT all or what stood there, and
+# never ends by a signal. The same for the program `resb_calls`, which makes each public call that
+# asks for memory.
 #
-# tests/memory.sh [MOST]    at most MOST requests for each command and input; without it all of them.
-#                           Those of the public calls are always all refused.
+# tests/memory.sh [MOST]    at most MOST requests for each command and input; without it all of
+#                           them. Those of the public calls are always all refused.
 set -uo pipefail
 top=$(cd "$(dirname "$0")/.." && pwd)
 most=${1:-1000000}
@@ -21,8 +22,8 @@ make_refusing "$work/refuse.so" || exit 3
 printf 'what stood there' > "$work/before.res"
 
 # answer NUMBER WORD..: runs the program on the file `in`; the request with this number is refused.
-# What it wrote is in out, err and out.res, where another file stood, its status in `status`, and `refused`
-# says whether a request was refused.
+# What it wrote is in out, err and out.res, where another file stood, its status in `status`, and
+# `refused` says whether a request was refused.
 answer() {
   local number=$1
   shift
@@ -87,15 +88,16 @@ commands() {
   refuses_each "$1 checked" check "$work/file"
 }
 
-# each public call: the program compares the answers itself, and ends with 3 where one is want of memory
+# each public call: the program compares the answers itself, and ends with 3 where one is want of
+# memory
 public_calls() {
   local number status
   [ -x "$calls" ] || { echo "failed: $calls is not built"; failed=$((failed + 1)); return; }
   for ((number = 1; number <= 100000; number++)); do
     : > "$work/mark"
     status=0
-    REFUSED_REQUEST=$number LD_PRELOAD=$work/refuse.so "$calls" < /dev/null > "$work/out" 2> "$work/err" 9> "$work/mark" \
-      || status=$?
+    REFUSED_REQUEST=$number LD_PRELOAD=$work/refuse.so "$calls" < /dev/null \
+      > "$work/out" 2> "$work/err" 9> "$work/mark" || status=$?
     if [ "$status" = 0 ] || { [ "$status" = 3 ] && [ -s "$work/mark" ]; }; then
       passed=$((passed + 1))
     else
@@ -116,7 +118,9 @@ printf 'b{}' > "$work/in"
 # a flat table, and its file
 {
   printf 'flat{'
-  for ((entry = 0; entry < 40; entry++)); do printf 'key%02d{"value %d"}' $((entry * 7 % 40)) "$entry"; done
+  for ((entry = 0; entry < 40; entry++)); do
+    printf 'key%02d{"value %d"}' $((entry * 7 % 40)) "$entry"
+  done
   printf '}'
 } > "$work/text"
 "$program" compile "$work/text" "$work/file" || exit 3
@@ -145,7 +149,8 @@ bytes '2000da27 14000000 00000200 52657342 02000000 01040000 0000000000000000
   0000aaaa 01000000 09000080' > "$work/file"
 commands 'what is refused'
 
-# smaller texts: strings in an array, with and without a type, bytes, a key that stands twice, numbers
+# smaller texts: strings in an array, with and without a type, bytes, a key that stands twice,
+# numbers
 number=0
 for text in 'b{a:array{"" "x"}}' 'b{a{"x" {"y"} "z"}}' 'b{d:bin{"00fF"}}' 'b{a{x{"1"}}a{"2"}}' \
   'b{i:int{-1}v:intvector{1,-1,}}'; do

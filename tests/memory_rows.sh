@@ -1,15 +1,19 @@
 #!/usr/bin/env bash
-# Refuses the first, the second, .. request for memory of each built test of the rows, one in each run, until a
-# run asks for no more: so each public call that a row makes is refused each of its requests. A run has to pass,
-# or to end with an error or an answer that names want of memory; with any other, an answer has changed.
+# Refuses the first, the second, .. request for memory of each built test of the rows, one in each
+# run, until a run asks for no more: so each public call that a row makes is refused each of its
+# requests. A run has to pass, or to end with an error or an answer that names want of memory; with
+# any other, an answer has changed.
 #
-# tests/memory_rows.sh [MOST] [CRATE..]    of these crates, else of all rows whose tests are built (`rt test`).
-#                                          Behind the first MOST requests of a test, 1000 where none is given,
-#                                          one is refused whose number is a tenth greater, and so on: a tree of a
-#                                          million levels asks some million times. By hand.
+# tests/memory_rows.sh [MOST] [CRATE..]    of these crates, else of all rows whose tests are built
+#                                          (`rt test`). Behind the first MOST requests of a test,
+#                                          1000 where none is given, one is refused whose number is
+#                                          a tenth greater, and so on: a tree of a million levels
+#                                          asks some million times. By hand.
 set -uo pipefail
-# that it passes, an error that names want of memory, or an answer that does where a row wants another
-fits='test result: ok\|AllocError\|AllocFailed\|OutOfMemory\|NoMemory\|out of memory\|expected: Memory\|left: .*[Mm]emory'
+# that it passes, an error that names want of memory, or an answer that does where a row wants
+# another
+fits='test result: ok\|AllocError\|AllocFailed\|OutOfMemory\|NoMemory\|out of memory'
+fits+='\|expected: Memory\|left: .*[Mm]emory'
 most=1000
 case ${1:-} in [0-9]*) most=$1; shift ;; esac
 top=$(cd "$(dirname "$0")/.." && pwd)
@@ -25,7 +29,10 @@ refuses_each() {
   local number=1 odd=0 runs=0
   while :; do
     : > "$work/mark"
-    { REFUSED_REQUEST=$number LD_PRELOAD=$work/refuse.so "$1" "$2" > "$work/out" 2>&1 9> "$work/mark"; } 2> /dev/null
+    {
+      REFUSED_REQUEST=$number LD_PRELOAD=$work/refuse.so "$1" "$2" \
+        > "$work/out" 2>&1 9> "$work/mark"
+    } 2> /dev/null
     [ -s "$work/mark" ] || break
     if grep -q "$fits" "$work/out"; then
       passed=$((passed + 1))

@@ -1,7 +1,8 @@
-# To be sourced: a library that refuses one request for memory of the program that it is preloaded in.
+# To be sourced: a library that refuses one request for memory of the program that it is preloaded
+# in.
 
-# make_refusing FILE: builds it. Its `malloc` and kin refuse the request that REFUSED_REQUEST counts, from 1
-# on, and then write one byte to descriptor 9.
+# make_refusing FILE: builds it. Its `malloc` and kin refuse the request that REFUSED_REQUEST
+# counts, from 1 on, and then write one byte to descriptor 9.
 make_refusing() {
   local compiler
   compiler=$(command -v cc || command -v gcc || command -v clang) || {

@@ -1,6 +1,6 @@
 #!/usr/bin/env bash
-# Streams and files that fail: a full disk, a closed pipe, a folder or nothing at all as IN or OUT, and
-# input that comes in pieces. The program ends with a status and a line, and never by a signal
+# Streams and files that fail: a full disk, a closed pipe, a folder or nothing at all as IN or OUT,
+# and input that comes in pieces. The program ends with a status and a line, and never by a signal
 # (but for the one that ends any program which writes past a limit on the size of files).
 set -uo pipefail
 top=$(cd "$(dirname "$0")/.." && pwd)
@@ -64,13 +64,28 @@ runs < "$work/text" >&-
 ends 'no standard output' 2 "$status" 'cannot write standard output'
 for text in text long; do
   # the reader of the pipe has gone before anything is written
-  { status=0; sleep 0.2; "$program" < "$work/$text" 2> "$work/err" || status=$?; echo "$status" > "$work/status"; } | true
-  ends "a closed pipe behind the line of $text" 2 "$(cat "$work/status")" 'cannot write standard output'
+  {
+    status=0
+    sleep 0.2
+    "$program" < "$work/$text" 2> "$work/err" || status=$?
+    echo "$status" > "$work/status"
+  } | true
+  ends "a closed pipe behind the line of $text" 2 "$(cat "$work/status")" \
+    'cannot write standard output'
 done
-{ status=0; sleep 0.2; "$program" check "$work/file" 2> "$work/err" || status=$?; echo "$status" > "$work/status"; } | true
+{
+  status=0
+  sleep 0.2
+  "$program" check "$work/file" 2> "$work/err" || status=$?
+  echo "$status" > "$work/status"
+} | true
 ends 'a closed pipe behind the count' 2 "$(cat "$work/status")" 'cannot write standard output'
 # the line is longer than a pipe holds, so it can't be written whole before `head` goes
-{ status=0; "$program" < "$work/long" 2> "$work/err" || status=$?; echo "$status" > "$work/status"; } | head -c 5 > "$work/front"
+{
+  status=0
+  "$program" < "$work/long" 2> "$work/err" || status=$?
+  echo "$status" > "$work/status"
+} | head -c 5 > "$work/front"
 ends 'a pipe that is closed in the middle' 2 "$(cat "$work/status")" 'cannot write standard output'
 
 # standard input
@@ -78,9 +93,11 @@ runs < "$work" > "$work/out"
 ends 'a folder as standard input' 2 "$status" 'cannot read standard input'
 runs <&- > "$work/out"
 ends 'no standard input' 2 "$status" 'cannot read standard input'
-{ sleep 0.1; head -c 7 "$work/long"; sleep 0.1; tail -c +8 "$work/long"; } | "$program" > "$work/out"
+{ sleep 0.1; head -c 7 "$work/long"; sleep 0.1; tail -c +8 "$work/long"; } \
+  | "$program" > "$work/out"
 holds 'a text that comes in two pieces' cmp -s "$work/out" "$work/long_line"
-while IFS= read -r -n 1 -d '' byte; do printf '%s' "$byte"; sleep 0.01; done < "$work/text" | "$program" > "$work/out"
+while IFS= read -r -n 1 -d '' byte; do printf '%s' "$byte"; sleep 0.01; done < "$work/text" \
+  | "$program" > "$work/out"
 holds 'a text that comes byte by byte' cmp -s "$work/out" "$work/line"
 
 # IN
@@ -106,7 +123,8 @@ ends 'a full disk behind OUT' 2 "$status" 'cannot write /dev/full'
 printf 'b{' > "$work/open"
 cp "$work/file" "$work/kept"
 runs compile "$work/open" "$work/kept"
-ends 'a text that is refused' 1 "$status" $'Parse error while reading text bundle:\nat byte 2: expected \'}\''
+ends 'a text that is refused' 1 "$status" \
+  $'Parse error while reading text bundle:\nat byte 2: expected \'}\''
 holds 'OUT is kept where the text is refused' cmp -s "$work/file" "$work/kept"
 runs compile "$work/text" "$work/text"
 holds 'OUT may be IN' cmp -s "$work/file" "$work/text"

@@ -14,11 +14,12 @@ import sys
 
 from answers import answered
 
-PIECES = ['{', '}', '{', '}', '{', '}', ',', '"x"', '"yz"', '""', 'k', 'a', 'b', 'c', '"k"', '"a"', ' ', '\n',
-          ':table', ':array', ':string', ':int', ':integer', ':bin', ':binary', ':intvector', ':table(nofallback)',
-          '(nofallback)', ':', '"', '/*c*/', '//c\n', '//c\r\n', '//c\r', '/', '/*', '*/', '/*/', '12', '-1', '+7',
-          '007', '4294967295', '4294967296', '-2147483648', '-2147483649', '+2147483648', '-', '+', '"00fF"',
-          '"0"', '"1g"', '"0g0"', '00', '0f', 'ff', '\t', '\r', 'é', '"é"', '"\x00"', '_', 'k-1', ':import', ': int']
+PIECES = ['{', '}', '{', '}', '{', '}', ',', '"x"', '"yz"', '""', 'k', 'a', 'b', 'c', '"k"', '"a"',
+          ' ', '\n', ':table', ':array', ':string', ':int', ':integer', ':bin', ':binary',
+          ':intvector', ':table(nofallback)', '(nofallback)', ':', '"', '/*c*/', '//c\n', '//c\r\n',
+          '//c\r', '/', '/*', '*/', '/*/', '12', '-1', '+7', '007', '4294967295', '4294967296',
+          '-2147483648', '-2147483649', '+2147483648', '-', '+', '"00fF"', '"0"', '"1g"', '"0g0"',
+          '00', '0f', 'ff', '\t', '\r', 'é', '"é"', '"\x00"', '_', 'k-1', ':import', ': int']
 ATOMS = ['x', '"x"', '"y z"', '""', 'k', '1', '"é"']
 KEYS = ['a', 'b', 'c', 'd', '"a"', '"e f"', 'a-1', '0']
 
@@ -34,7 +35,8 @@ def leaf(rng):
     if kind == 1:
         return ':bin{%s}' % rng.choice(['"00fF"', '""', '0a', '"0"', '"zz"', 'ff00'])
     if kind == 2:
-        return ':int{%s}' % rng.choice(['1', '-1', '+7', '007', '4294967295', '4294967296', '-2147483648', 'x'])
+        return ':int{%s}' % rng.choice(
+            ['1', '-1', '+7', '007', '4294967295', '4294967296', '-2147483648', 'x'])
     if kind == 3:
         parts = [rng.choice(['1', '-1', '7']) for _ in range(rng.randrange(4))]
         return ':intvector{%s%s}' % (','.join(parts), rng.choice(['', '', ',']))
@@ -60,7 +62,8 @@ def entries(rng, depth):
 def items(rng, depth):
     said = blank(rng)
     for _ in range(rng.randrange(5)):
-        said += rng.choice([lambda: rng.choice(ATOMS) + rng.choice([' ', ',', '']), lambda: group(rng, depth)])()
+        said += rng.choice([lambda: rng.choice(ATOMS) + rng.choice([' ', ',', '']),
+                            lambda: group(rng, depth)])()
         said += rng.choice(['', '', ',', ', ', blank(rng)])
     return said
 
@@ -87,7 +90,8 @@ def text(rng):
             else:
                 said = said[:at]
         return said
-    return rng.choice(['b{', 'b{a', 'b{a{', '']) + ''.join(rng.choice(PIECES) for _ in range(rng.randrange(16)))
+    return rng.choice(['b{', 'b{a', 'b{a{', '']) + ''.join(
+        rng.choice(PIECES) for _ in range(rng.randrange(16)))
 
 
 def main():

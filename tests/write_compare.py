@@ -60,11 +60,13 @@ def value(rng, known, depth):
         data = bytes(rng.randrange(256) for _ in range(rng.choice([0, 1, 2, 3, 4, 15, 16, 17, 33])))
         return ':bin{"%s"}' % data.hex()
     if kind == 4:
-        return ':intvector{%s}' % ','.join(str(rng.randrange(-5, 70000)) for _ in range(rng.choice([0, 1, 2, 5])))
+        return ':intvector{%s}' % ','.join(
+            str(rng.randrange(-5, 70000)) for _ in range(rng.choice([0, 1, 2, 5])))
     if kind == 5:
         return ':array' + strings(rng, known)
     if kind == 6:
-        return ':array{%s}' % ' '.join(value(rng, known, depth - 1) for _ in range(rng.choice([0, 1, 2, 4])))
+        return ':array{%s}' % ' '.join(
+            value(rng, known, depth - 1) for _ in range(rng.choice([0, 1, 2, 4])))
     return ':table{%s}' % entries(rng, known, depth - 1)
 
 

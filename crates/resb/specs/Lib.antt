@@ -1,6 +1,7 @@
 -- The words of the contracts: compiled texts, and what the crates below say of trees and files.
 pub use Rattle.resb_tree.specs.Tree
 pub use Rattle.resb_tree.specs.View
+pub use Rattle.resb_tree.specs.Equality
 pub use Rattle.resb_tree.specs.Bundle
 pub use Rattle.resb_tree.specs.Maps
 pub use Rattle.resb_tree.specs.Keys

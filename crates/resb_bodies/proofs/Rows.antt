@@ -7,7 +7,7 @@ use Rattle.resb_tree.specs.Tree.{Tree, string, array, table, binary, integer, in
 use Rattle.resb_tree.specs.Tree.{no_trees, more_trees, Entries, no_entries, entry}
 use Rattle.resb_layout.specs.Laid.{Given, State}
 use Rattle.resb_tree.specs.WalkOrder.{members, values_of, children, walk, walk_each, walk_values}
-use Rattle.resb_bodies.specs.StackSteps.{LaysNext, LaysRow, steps_none, steps_more}
+use Rattle.resb_bodies.specs.StackSteps.{LaysNext, LaysRow, row_none, row_more}
 use Rattle.resb_bodies.specs.Room.{given_by, own_size, most_units, most_bytes, IsKnown}
 use Rattle.resb_bodies.specs.Inner.Seen.{Takes, Suffices, CanLay}
 use Rattle.resb_bodies.specs.declared.given.Sites.{Sites}
@@ -15,9 +15,9 @@ use Rattle.resb_bodies.specs.declared.given.Bodies.{Bodies}
 
 pub steps_push : (g : Given) (s m e : State) (ws xs ys : List ℕ) (ts : List Tree) (t : Tree)
     → LaysRow g s ws ts m xs → LaysNext g m xs t e ys → LaysRow g s ws (ts ++ t ∷ []) e ys
-steps_push g s m e ws xs ys [] t steps_none k = steps_more k steps_none
-steps_push g s n e ws xs ys (u ∷ ts) t (steps_more {m} {xs = zs} h more) k =
-    steps_more h (steps_push g m n e zs xs ys ts t more k)
+steps_push g s m e ws xs ys [] t row_none k = row_more k row_none
+steps_push g s n e ws xs ys (u ∷ ts) t (row_more {m} {xs = zs} h more) k =
+    row_more h (steps_push g m n e zs xs ys ts t more k)
 
 pub step_long : (g : Given) (s e : State) (ws xs : List ℕ) (t : Tree) → LaysNext g s ws t e xs
     → length xs ≡ length ws - length (children t) + 1

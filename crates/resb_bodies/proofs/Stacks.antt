@@ -9,7 +9,7 @@ use Rattle.resb_layout.specs.Laid.{lays_no_items, lays_entries, lays_no_entries,
 use Rattle.resb_layout.specs.Laid.{ClosesTable, ArePlaced, members_in}
 use Rattle.resb_tree.specs.WalkOrder.{entry_keys}
 use Rattle.resb_tree.specs.WalkOrder.{members, values_of, children, walk, walk_each, walk_values}
-use Rattle.resb_bodies.specs.StackSteps.{LaysNext, LaysRow, steps_none, steps_more}
+use Rattle.resb_bodies.specs.StackSteps.{LaysNext, LaysRow, row_none, row_more}
 use Rattle.std.proofs.lemmas.List.{nil_from_length, take-append-drop}
 
 -- of two lists in two parts, the parts are the same where the last ones have one length
@@ -55,7 +55,7 @@ module _ (g : Given) where
   last_step : (s mid e : State) (ws words ys : List ℕ) (t : Tree) (rest : List Tree)
       → LaysEach g s (trees_of (children t)) mid words → length words ≡ length (children t)
       → LaysRow g mid (ws ++ words) (t ∷ rest) e ys → Split s ws t rest e ys
-  last_step s mid e ws words ys t rest h n (steps_more {m} {xs} k more) =
+  last_step s mid e ws words ys t rest h n (row_more {m} {xs} k more) =
       let r = same_parts ws words k.below k.members k.taken (n ∙ sym k.many) in
       record {
         mid = m;
@@ -138,7 +138,7 @@ module _ (g : Given) where
 
 -- nothing is left
 ended : (g : Given) (s e : State) (ws ys : List ℕ) → LaysRow g s ws [] e ys → (s ≡ e) × (ws ≡ ys)
-ended g s e ws ys steps_none = (refl, refl)
+ended g s e ws ys row_none = (refl, refl)
 
 pub steps_lay_trees : (g : Given) (s e : State) (t : Tree) (xs : List ℕ)
     → LaysRow g s [] (walk t) e xs → (w : ℕ) × (xs ≡ w ∷ []) × Lays g s t e w

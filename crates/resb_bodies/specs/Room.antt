@@ -5,7 +5,7 @@
 --     pool_state p            the pool of the strings, and nothing else
 --     IsKnown g t             the keys and the text of t are known
 --     HasRoomFor g s ts       there is room for the bodies of ts behind s
---     block_end n b           where the 16-bit block ends, if it begins at byte n
+--     tail_base n b           where the 16-bit block ends, if it begins at byte n
 --     HasRoomBehind p n ts    there is room for the pool and the bodies of ts from byte n
 use Rattle.std.specs.Prelude.{◌≡◌, ℕ, ◌+◌, ◌*◌, ◌/◌, ◌%◌, ◌^◌, ◌<◌, List, [], length, map, Some}
 use Rattle.std.specs.List.{sum_by}
@@ -67,8 +67,8 @@ pub record HasRoomFor (g : Given) (s : State) (ts : List Tree) : Type 0 where
   pub bytes : here g s + sum_by most_bytes ts < 2 ^ 30
 
 -- where a 16-bit block that begins at byte n of the body ends, with a unit that fills the last word
-abbrev pub block_end : ℕ → Bodies → ℕ
-block_end n b = n + 2 * (length b.units.items + length b.units.items % 2)
+abbrev pub tail_base : ℕ → Bodies → ℕ
+tail_base n b = n + 2 * (length b.units.items + length b.units.items % 2)
 
 -- from byte n of the body there is room for the pool, and behind it for the bodies of these
 -- resources

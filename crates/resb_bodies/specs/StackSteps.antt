@@ -23,6 +23,6 @@ pub record LaysNext (g : Given) (s : State) (ws : List ℕ) (t : Tree) (e : Stat
   pub closes : Closes g s t members e word
 
 pub data LaysRow (g : Given) : State → List ℕ → List Tree → State → List ℕ → Type 0 where
-  steps_none : {s : State} {ws : List ℕ} → LaysRow g s ws [] s ws
-  steps_more : {s m e : State} {ws xs ys : List ℕ} {t : Tree} {ts : List Tree}
+  row_none : {s : State} {ws : List ℕ} → LaysRow g s ws [] s ws
+  row_more : {s m e : State} {ws xs ys : List ℕ} {t : Tree} {ts : List Tree}
       → LaysNext g s ws t m xs → LaysRow g m xs ts e ys → LaysRow g s ws (t ∷ ts) e ys

@@ -8,7 +8,7 @@ ghost use Rattle.resb_layout.specs.Laid.{State, Lays};
 ghost use Rattle.resb_tree.specs.WalkOrder.{walk, children};
 ghost use Rattle.resb_bodies.specs.StackSteps.{LaysNext, LaysRow};
 ghost use Rattle.resb_bodies.specs.Room.{based, pool_state, given_by, state_of, trees_in, own_size};
-ghost use Rattle.resb_bodies.specs.Room.{HasRoomFor, HasRoomBehind, IsKnown, block_end, most_units};
+ghost use Rattle.resb_bodies.specs.Room.{HasRoomFor, HasRoomBehind, IsKnown, tail_base, most_units};
 ghost use Rattle.resb_bodies.specs.Inner.Seen.{HasRoom, Takes, CanLay};
 
 use crate::given::{Bodies, Sites};
@@ -138,11 +138,11 @@ pub fn lay_bodies(
     requires aligned { keys_end % 4 ≡ 0 }
     requires room { HasRoomBehind sites.old keys_end (walk (tree_of root.now)) }
     requires known { (base : ℕ) → All (IsKnown (based sites.old base)) (walk (tree_of root.now)) }
-    ensures lays { IfOk result (λ laid. Lays (based sites.old (block_end keys_end laid.0))
+    ensures lays { IfOk result (λ laid. Lays (based sites.old (tail_base keys_end laid.0))
         (pool_state sites.old) (tree_of root.now) (state_of laid.0) laid.1) }
-    ensures fits { IfOk result (λ laid. HasRoomFor (based sites.old (block_end keys_end laid.0))
+    ensures fits { IfOk result (λ laid. HasRoomFor (based sites.old (tail_base keys_end laid.0))
         (state_of laid.0) []) }
-    ensures behind { IfOk result (λ laid. sites.new.base ≡ block_end keys_end laid.0) }
+    ensures behind { IfOk result (λ laid. sites.new.base ≡ tail_base keys_end laid.0) }
     ensures keeps { sites.new ≡ record sites.old { base = sites.new.base } }
 {
     sites.base = 0;

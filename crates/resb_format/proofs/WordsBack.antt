@@ -1,11 +1,17 @@
 -- Words as bytes, and back.
 use Rattle.std.proofs.Common.{ℕ, zero, suc, List, [], ◌∷◌, ◌++◌, ◌≡◌, ◌+◌, ◌*◌, ◌<◌, ◌≤◌, length}
-use Rattle.std.proofs.Common.{take, refl, ap, ◌∙◌, arith, get_or}
+use Rattle.std.proofs.Common.{take, drop, refl, ap, ◌∙◌, arith, get_or}
 use Rattle.std.specs.Int.{to_le_bytes, from_le_bytes, w32}
 use Rattle.std.specs.List.{flat_map}
 use Rattle.std.proofs.lemmas.Nat.{from_le_bytes-to_le_bytes_4, le_bytes_4}
 use Rattle.resb_format.specs.Bytes.{words_of}
 use Rattle.resb_format.specs.Laws.{EachFits}
+
+-- what stands behind some of them fits too
+pub fits_drop : (size : ℕ) (bs : List ℕ) (n : ℕ) → EachFits size bs → EachFits size (drop n bs)
+fits_drop size bs zero h = h
+fits_drop size [] (suc n) h = h
+fits_drop size (b ∷ bs) (suc n) h = fits_drop size bs n h.1
 
 -- the words that written words spell
 pub words_back : (ws : List ℕ) → EachFits 32 ws → words_of (flat_map (to_le_bytes w32) ws) ≡ ws

@@ -1,6 +1,7 @@
 -- Bytes as little-endian numbers, and parts of lists that lie inside.
 --     units_of bytes          the 16-bit units that the bytes spell
 --     words_of bytes          the 32-bit words that they spell
+--     unit_in big bytes n     the nth unit, its higher byte first where `big` says so
 --     part xs i n             n members of xs from place i on, if they lie inside
 use Rattle.std.specs.Prelude.{ℕ, ◌+◌, ◌*◌, List, [], ◌∷◌, length, take, drop, Option, Some, None}
 use Rattle.std.specs.Prelude.{Bool, nat_le, slice_index, if◌then◌else◌}

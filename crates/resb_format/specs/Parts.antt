@@ -1,4 +1,4 @@
--- The parts of a file, and the checks of its head. (ICU's `ucmndata.h`, `udata.h` and
+-- The parts of a file, and which bytes are one. (ICU's `ucmndata.h`, `udata.h` and
 -- `uresdata.h`.)
 --     IsBundleFile bytes      the head names this format, and the blocks lie inside the file
 --     parts_of bytes          its parts

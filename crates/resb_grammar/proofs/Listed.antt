@@ -10,7 +10,7 @@ use Rattle.resb_tree.specs.Tree.{Tree, Entries, no_entries, entry, trees_of, put
 use Rattle.resb_tree.specs.Keys.{is_key, is_key_in, is_key_of, same_text}
 use Rattle.resb_grammar.specs.Items.{Term, string_term, group_term, Item, term_tree}
 use Rattle.resb_grammar.specs.Items.{term_text, term_keys, inner_keys, is_entry, and_then}
-use Rattle.resb_grammar.specs.Items.{is_pairs, pairs_in, trees_in, table_keys, array_keys, Shape}
+use Rattle.resb_grammar.specs.Items.{is_pairs, pairs_in, item_trees, table_keys, array_keys, Shape}
 use Rattle.resb_grammar.specs.Items.{a_string, a_table, an_array, shape_of_one, table_if, shape_of}
 use Rattle.resb_grammar.specs.Items.{tree_in, keys_in}
 use Rattle.resb_grammar.specs.Group.{Items, nothing, string_item, group_item, comma, Group, untyped}
@@ -152,14 +152,14 @@ first_entry false b e = absurd (false≢true e)
 
 -- an array's keys, from its terms
 trees_listed : (k : List ℕ) (xs : List Item) → AllList xs
-    → is_key_in k (trees_of (trees_in xs)) ≡ true → In k (array_keys xs)
+    → is_key_in k (trees_of (item_trees xs)) ≡ true → In k (array_keys xs)
 trees_listed k [] l e = absurd (false≢true e)
 trees_listed k (x ∷ xs) l e = ⊎_elim
-    (λ (w : is_key_in k (trees_of (trees_in xs)) ≡ true). in_left k (array_keys xs) _
+    (λ (w : is_key_in k (trees_of (item_trees xs)) ≡ true). in_left k (array_keys xs) _
     (trees_listed k xs l.1 w))
     (λ (w : is_key k (term_tree x.term) ≡ true). in_right k (array_keys xs) _
     (inner_lists k x.term l.0 w))
-    (last_tree k (trees_in xs) (term_tree x.term) e)
+    (last_tree k (item_trees xs) (term_tree x.term) e)
   where
     last_tree : (k : List ℕ) (ts : List Tree) (t : Tree)
         → is_key_in k (trees_of (ts ++ t ∷ [])) ≡ true

@@ -15,22 +15,10 @@ use Rattle.resb_head.specs.HeadChecks.{first_fault, header_checks, header_fault,
 use Rattle.resb_head.specs.HeadChecks.{index_fault, support_checks, block_checks, body_checks}
 use Rattle.resb_head.specs.HeadChecks.{file_checks, file_fault}
 use Rattle.resb_head.proofs.HeadSteps.{le_true, le_false}
+use Rattle.resb_head.proofs.HeaderSteps.{none_before, some_before}
 use Rattle.resb_head.proofs.IndexSteps.{index_holds}
 use Rattle.resb_head.proofs.SupportSteps.{support_holds}
 use Rattle.resb_head.proofs.Passing.{le_is, passed, header_passes, behind}
-
--- checks in a row: the first ones answer, or else the later ones
-pub first_fault-none : (cs bs : List (Bool × Refusal)) → first_fault cs ≡ None
-    → first_fault (cs ++ bs) ≡ first_fault bs
-first_fault-none [] bs e = refl
-first_fault-none ((true, f) ∷ cs) bs e = first_fault-none cs bs e
-first_fault-none ((false, f) ∷ cs) bs e = cc
-
-pub first_fault-some : (cs bs : List (Bool × Refusal)) (g : Refusal) → first_fault cs ≡ Some g
-    → first_fault (cs ++ bs) ≡ Some g
-first_fault-some [] bs g e = cc
-first_fault-some ((true, f) ∷ cs) bs g e = first_fault-some cs bs g e
-first_fault-some ((false, f) ∷ cs) bs g e = e
 
 -- where none of all fails, none of the first ones does
 pub first_fault-both : (cs bs : List (Bool × Refusal)) → first_fault (cs ++ bs) ≡ None
@@ -134,14 +122,14 @@ pub index_answers : (body : List ℕ) (g : Refusal) → 4 ≤ length body
 unfolding body_checks index_fault
 index_answers body g h e =
     rw (le_true 4 (length body) h)
-    (first_fault-some (index_checks (drop 4 body)) (block_checks body) g e)
+    (some_before (index_checks (drop 4 body)) (block_checks body) g e)
 
 pub blocks_answer : (body : List ℕ) → 4 ≤ length body → index_fault (drop 4 body) ≡ None
     → first_fault (body_checks body) ≡ first_fault (block_checks body)
 unfolding body_checks index_fault
 blocks_answer body h e =
     rw (le_true 4 (length body) h)
-    (first_fault-none (index_checks (drop 4 body)) (block_checks body) e)
+    (none_before (index_checks (drop 4 body)) (block_checks body) e)
 
 -- the parts of a body, cut out of it
 pub take_inside : (body : List ℕ) (k b : ℕ) → k ≤ b → take k (take b body) ≡ take k body
@@ -175,25 +163,25 @@ pub header_answers : (bytes : List ℕ) (g : Refusal) → header_fault false byt
     → file_fault bytes ≡ Some g
 unfolding file_fault file_checks header_fault
 header_answers bytes g e =
-    first_fault-some (header_checks false bytes)
+    some_before (header_checks false bytes)
     (support_checks (drop 4 bytes) ++ body_checks (body_of bytes)) g e
 
 pub support_answers : (bytes : List ℕ) (g : Refusal) → header_fault false bytes ≡ None
     → first_fault (support_checks (drop 4 bytes)) ≡ Some g → file_fault bytes ≡ Some g
 unfolding file_fault file_checks header_fault
 support_answers bytes g h e =
-    first_fault-none (header_checks false bytes)
+    none_before (header_checks false bytes)
     (support_checks (drop 4 bytes) ++ body_checks (body_of bytes)) h
-    ∙ first_fault-some (support_checks (drop 4 bytes)) (body_checks (body_of bytes)) g e
+    ∙ some_before (support_checks (drop 4 bytes)) (body_checks (body_of bytes)) g e
 
 pub body_answers : (bytes : List ℕ) → header_fault false bytes ≡ None
     → first_fault (support_checks (drop 4 bytes)) ≡ None
     → file_fault bytes ≡ first_fault (body_checks (body_of bytes))
 unfolding file_fault file_checks header_fault
 body_answers bytes h e =
-    first_fault-none (header_checks false bytes)
+    none_before (header_checks false bytes)
     (support_checks (drop 4 bytes) ++ body_checks (body_of bytes)) h
-    ∙ first_fault-none (support_checks (drop 4 bytes)) (body_checks (body_of bytes)) e
+    ∙ none_before (support_checks (drop 4 bytes)) (body_checks (body_of bytes)) e
 
 -- a header that is read stands in little-endian order
 pub size_is : (bytes : List ℕ) → header_fault false bytes ≡ None

@@ -7,6 +7,7 @@ use Rattle.std.proofs.lemmas.List.{get_or-drop}
 use Rattle.resb_format.specs.Bytes.{units_of, unit_in}
 use Rattle.resb_format.specs.Laws.{EachFits}
 use Rattle.resb_format.specs.declared.error.ReadingError.{ReadingError}
+use Rattle.resb_format.proofs.WordsBack.{fits_drop}
 use Rattle.resb_head.specs.Codes.{endianness_number, charset_number, version_bytes}
 use Rattle.resb_head.specs.Laws.{IsHeader, HeaderSurvives}
 use Rattle.resb_head.specs.Head.{HeaderAt, header_bytes}
@@ -27,11 +28,6 @@ unit_fits [] i h = omega arith
 unit_fits (a ∷ []) i h = omega arith
 unit_fits (a ∷ b ∷ bs) zero h = let f = h.0 in let g = h.1.0 in omega arith
 unit_fits (a ∷ b ∷ bs) (suc i) h = unit_fits bs i h.1.1
-
-fits_drop : (bs : List ℕ) (i : ℕ) → EachFits 8 bs → EachFits 8 (drop i bs)
-fits_drop bs zero h = h
-fits_drop [] (suc i) h = h
-fits_drop (b ∷ bs) (suc i) h = fits_drop bs i h.1
 
 -- four bytes, one by one
 four : (xs : List ℕ) → length xs ≡ 4
@@ -78,8 +74,8 @@ known bs h fits p a =
     record {
       size_fits = subst (λ n. n < 2 ^ 16) (sym s) (unit_fits bs 0 fits);
       size_enough = subst (λ n. 24 ≤ n) (sym a.size) p.size;
-      info_fits = subst (λ n. n < 2 ^ 16) (sym i) (unit_fits (drop 4 bs) 0 (fits_drop bs 4 fits));
-      word_fits = subst (λ n. n < 2 ^ 16) (sym w) (unit_fits (drop 4 bs) 1 (fits_drop bs 4 fits));
+      info_fits = subst (λ n. n < 2 ^ 16) (sym i) (unit_fits (drop 4 bs) 0 (fits_drop 8 bs 4 fits));
+      word_fits = subst (λ n. n < 2 ^ 16) (sym w) (unit_fits (drop 4 bs) 1 (fits_drop 8 bs 4 fits));
       little = a.info.endianness ∙ y;
       format = a.info.data_format ∙ behind bs 8 12 ∙ p.format;
       dates = ap length (a.info.data_version ∙ behind bs 16 20) ∙ l;

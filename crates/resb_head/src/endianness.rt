@@ -1,5 +1,5 @@
 //! The order of bytes that a file names.
-//! The numbers of a file are read in `bytes`.
+//! The numbers of a file are read in `resb_format::bytes`.
 ghost use Rattle.std.specs.Prelude.{◌≡◌, nat_eq};
 ghost use Rattle.resb_head.specs.Codes.{endianness_number};
 ghost use Rattle.resb_head.specs.CodeReading.{ReadsEndianness};

@@ -1,4 +1,4 @@
--- Strings have one pool, and each text one place in it.
+-- Strings have one pool, and each text one offset in it.
 use Rattle.std.proofs.Common.{◌≡◌, ℕ, suc, ◌+◌, ◌<◌, List, [], ◌∷◌, ◌++◌, length}
 use Rattle.std.proofs.Common.{slice_index_or, Option, Some, None, MatchOption, inl, inr}
 use Rattle.std.proofs.Common.{nat_cmp, refl, sym, ◌∙◌, ap, subst, arith}

@@ -22,7 +22,7 @@ use Rattle.resb_pool.proofs.SharingLemmas.{one_container}
 abbrev Texts : Type 0
 Texts = List (List ℕ)
 
--- n, where a place is in q
+-- n, where a home is in q
 abbrev if_in : Home → ℕ → ℕ → ℕ
 if_in p q n = cond (nat_eq p.record q) n 0
 

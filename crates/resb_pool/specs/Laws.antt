@@ -1,9 +1,18 @@
 -- What the laws of pools say.
+--     RecordsCostLeast        no layout takes fewer units than the records
 --     PoolIsRead              each text is read back where it stands, whatever follows the pool
---     OnePool                 strings have one pool, and each text one place in it
-use Rattle.std.specs.Prelude.{◌≡◌, ℕ, ◌<◌, List, ◌++◌, length, Option, Some}
+--     OnePool                 strings have one pool, and each text one offset in it
+use Rattle.std.specs.Prelude.{◌≡◌, ℕ, ◌<◌, ◌≤◌, List, ◌++◌, length, Option, Some, All, sum_by}
+use Rattle.std.specs.Str.{IsUtf8}
+use Rattle.resb_format.specs.Units.{size}
 use Rattle.resb_format.specs.Strings.{text_at}
+use Rattle.resb_pool.specs.Records.{IsRecords, IsLayout}
 use Rattle.resb_pool.specs.Plan.{IsPlan}
+
+-- in 16-bit units, markers and closing zeros included
+abbrev pub RecordsCostLeast : Type 0
+RecordsCostLeast = (S Q R : List (List ℕ)) → All IsUtf8 S → IsRecords S Q → IsLayout S R
+    → sum_by size Q ≤ sum_by size R
 
 abbrev pub PoolIsRead : Type 0
 PoolIsRead =

@@ -1,5 +1,5 @@
 -- How strings S stand at the front of the 16-bit block. (ICU's `reslist.cpp`: shared suffixes.)
--- S holds a text as often as it stands in the tree. Sizes and places count 16-bit units.
+-- S holds a text as often as it stands in the tree. Sizes and offsets count 16-bit units.
 --     LiesIn S s r            s lies in the record r
 --     Saved S r n             sharing the record r saves n units
 --     Precedes S r q          the record r stands before the record q

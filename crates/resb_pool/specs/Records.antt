@@ -3,11 +3,10 @@
 --     IsRecord S s            s gets a record among the texts S
 --     IsRecords S Q           Q lists those texts, each once
 --     IsLayout S R            records of the texts R, each once, can hold the texts S
---     RecordsCostLeast        no layout takes fewer units than the records
 use Rattle.std.specs.Prelude.{◌≡◌, ℕ, ◌<◌, ◌≤◌, List, [], ◌∷◌, ◌++◌, length, true, false, ◌⊎◌, ◌↔◌}
-use Rattle.std.specs.Prelude.{All, Contains, sum_by}
+use Rattle.std.specs.Prelude.{All, Contains}
 use Rattle.std.specs.Str.{IsUtf8}
-use Rattle.resb_format.specs.Units.{units, is_unmarked, size}
+use Rattle.resb_format.specs.Units.{units, is_unmarked}
 
 -- t ends with s, or is s
 pub record EndsWith (t s : List ℕ) : Type 0 where
@@ -42,8 +41,3 @@ pub record IsLayout (S R : List (List ℕ)) : Type 0 where
   pub short : All (λ r. length (units r) ≤ 4294967295) R
   pub holds : (s : List ℕ) → Contains S s → 0 < length s → Contains R s
       ⊎ ((r : List ℕ) × Contains R r × IsHeldBy s r)
-
--- in 16-bit units, markers and closing zeros included
-abbrev pub RecordsCostLeast : Type 0
-RecordsCostLeast = (S Q R : List (List ℕ)) → All IsUtf8 S → IsRecords S Q → IsLayout S R
-    → sum_by size Q ≤ sum_by size R

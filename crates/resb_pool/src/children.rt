@@ -8,7 +8,7 @@ ghost use Rattle.resb_pool.specs.Inner.Bounds.{bound};
 use std::alloc::{AllocError, Global};
 use std::collections::BTreeMap;
 
-/// The places of a node's children, by their characters.
+/// The indexes of a node's children, by their characters.
 #[derive(Drop)]
 pub(crate) struct Children {
     /// The greatest character that a child has, and the child.

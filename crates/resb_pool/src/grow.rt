@@ -12,7 +12,7 @@ use crate::node::{Node, child_of, push_node, set_child, set_end, suffix_of};
 use crate::text::{back_of, front_of, split_last, strip_shared};
 use std::alloc::{AllocError, Global};
 
-/// The place of a node in 32 bits. A trie whose nodes need more is want of memory.
+/// The index of a node in 32 bits. A trie whose nodes need more is want of memory.
 fn place_of(node: usize) -> Result<u32, AllocError>
     ensures { IfOk result (λ place. place ≡ node) }
 {

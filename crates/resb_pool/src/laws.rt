@@ -1,6 +1,5 @@
 //! Laws of the definitions, each the contract of a call that does nothing.
-ghost use Rattle.resb_pool.specs.Laws.{PoolIsRead, OnePool};
-ghost use Rattle.resb_pool.specs.Records.{RecordsCostLeast};
+ghost use Rattle.resb_pool.specs.Laws.{RecordsCostLeast, PoolIsRead, OnePool};
 
 /// Whatever records could hold the strings of a tree, those that the format's rule gives take no
 /// more 16-bit units.

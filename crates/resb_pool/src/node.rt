@@ -9,14 +9,14 @@ ghost use Rattle.resb_pool.specs.Inner.Changes.{HasChild, HasEnd, HasNode, IsLas
 use crate::children::Children;
 use std::alloc::{AllocError, Global};
 
-/// A place in the trie.
+/// A node of the trie.
 #[derive(Drop)]
 pub(crate) struct Node<'a> {
     /// What all texts below this node end with.
     pub(crate) suffix: &'a str,
     /// The index of the text that is the suffix, if it is one of the texts.
     pub(crate) text: Option<usize>,
-    /// The children's places, by the character that each has before this node's suffix.
+    /// The children's indexes, by the character that each has before this node's suffix.
     pub(crate) children: Children,
 }
 

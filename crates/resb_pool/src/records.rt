@@ -131,7 +131,7 @@ fn push_marker(units: &mut Vec<u16>, text: &str, count: u32) -> Result<(), Alloc
     units.extend_from_slice(&[0xdfff, high, low])
 }
 
-/// Appends a record, and gives the place of its closing 0.
+/// Appends a record, and gives the index of its closing 0.
 fn push_record(units: &mut Vec<u16>, item: &Record<'_>) -> Result<u32, AllocError>
     requires count { item.now.unit_count ≡ length (units_of item.now.text.now) }
     requires short { item.now.unit_count < 2 ^ 28 }
@@ -148,7 +148,7 @@ fn push_record(units: &mut Vec<u16>, item: &Record<'_>) -> Result<u32, AllocErro
     Ok(end)
 }
 
-/// Unit 0 and the records of so many texts, with the places of their closing zeros.
+/// Unit 0 and the records of so many texts, with the indexes of their closing zeros.
 pub(crate) fn lay(alloc: Global, records: &[Record<'_>], count: usize) -> Result<Block, AllocError>
     requires counts { All (λ r. r.unit_count ≡ length (units_of r.text.now)) records.now }
     requires indexed { AreIndexed records.now count }

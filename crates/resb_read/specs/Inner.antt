@@ -1,4 +1,5 @@
--- Words of private steps: nothing here has to be trusted.
+-- Words of private steps. Public clauses cite those of `Items` and `Named`; the others have not to
+-- be trusted.
 pub mod Front
 pub mod Items
 pub mod Named

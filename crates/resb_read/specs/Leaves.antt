@@ -84,13 +84,13 @@ abbrev pub CountsBits : Place → ℕ → Type 0
 CountsBits p n = CountsThere any (bits_at p.at) n
 
 -- a text: the string of a descriptor or a unit, or a key
-abbrev pub text_in : Parts → ℕ → Option (List ℕ)
-text_in p w =
+abbrev pub described_text : Parts → ℕ → Option (List ℕ)
+described_text p w =
     if type_in w == types.string then
     (if value_in w == 0 then Some [] else text_at p.block (value_in w)) else None
 
 abbrev pub text_from : Parts → Spot → Option (List ℕ × ℕ)
-text_from p (spot.Descriptor w) = option_map (λ s. (s, 1)) (text_in p w)
+text_from p (spot.Descriptor w) = option_map (λ s. (s, 1)) (described_text p w)
 text_from p (spot.Unit u) = option_map (λ s. (s, 1)) (text_at p.block u)
 text_from p (spot.Word w) = None
 text_from p (spot.Key k) = option_map (λ s. (s, 0)) (key_at p.keys k)

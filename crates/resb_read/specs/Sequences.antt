@@ -26,16 +26,16 @@ numbers_in (table es) = None
 numbers_in (binary s) = None
 numbers_in (integer n) = None
 
-abbrev pub members_in : Option Content → Option (List Spot)
-members_in (Some (list ms)) = Some (map spot_of ms)
-members_in (Some (leaf t)) = numbers_in t
-members_in (Some (pairs es)) = None
-members_in None = None
+abbrev pub member_spots : Option Content → Option (List Spot)
+member_spots (Some (list ms)) = Some (map spot_of ms)
+member_spots (Some (leaf t)) = numbers_in t
+member_spots (Some (pairs es)) = None
+member_spots None = None
 
 -- of an Array, an Array16 or an IntVector
 abbrev pub items_in : Parts → ℕ → Option (List Spot)
 items_in p w =
-    if types.is_array (type_in w) || type_in w == types.int_vector then members_in (content p w)
+    if types.is_array (type_in w) || type_in w == types.int_vector then member_spots (content p w)
     else None
 
 abbrev pub items_from : Parts → Spot → Option (List Place)
@@ -47,16 +47,16 @@ items_from p (spot.Key k) = None
 abbrev pub items : Place → Option (List Place)
 items p = items_from p.parts p.at
 
-abbrev pub pairs_in : Option Content → Option (List (ℕ × Member))
-pairs_in (Some (pairs es)) = Some es
-pairs_in (Some (list ms)) = None
-pairs_in (Some (leaf t)) = None
-pairs_in None = None
+abbrev pub entry_pairs : Option Content → Option (List (ℕ × Member))
+entry_pairs (Some (pairs es)) = Some es
+entry_pairs (Some (list ms)) = None
+entry_pairs (Some (leaf t)) = None
+entry_pairs None = None
 
 -- of a Table, a Table16 or a table of 32-bit positions
 abbrev pub entries_in : Parts → ℕ → Option (List (ℕ × Member))
 entries_in p w =
-    if types.is_table (type_in w) then pairs_in (content p w) else None
+    if types.is_table (type_in w) then entry_pairs (content p w) else None
 
 -- the places of a key and its value
 abbrev pub at_entry : Parts → ℕ × Member → Place × Place

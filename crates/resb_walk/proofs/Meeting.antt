@@ -143,8 +143,9 @@ module _ (p : Parts) where
       let stands = h.stands ∙ ap (λ es. Some (pairs (h.done ++ es))) e in
       meets_key k x (pairs_of later) stands h.each none
 
-  pub turn_meets : {L T : Type 0} (lists : L → List Tree → Type 0)
+  pub round_meets : {L T : Type 0} (lists : L → List Tree → Type 0)
       (tables : T → List (List ℕ × Tree) → Type 0) (root before : ℕ) (fs : List (Waiting L T))
-      (f : Open L T) (left : ℕ) (turn : Round lists tables p root before fs f left) (g : Refusal)
-      → Meets p (word turn.place) g → Meets p (word root) g
-  turn_meets lists tables root before fs f left turn g h = chain_meets lists tables g turn.chain h
+      (f : Open L T) (left : ℕ) (round : Round lists tables p root before fs f left) (g : Refusal)
+      → Meets p (word round.place) g → Meets p (word root) g
+  round_meets lists tables root before fs f left round g h =
+      chain_meets lists tables g round.chain h

@@ -7,16 +7,16 @@ use Rattle.std.specs.declared.borrow.CowSlice.TheVariants.{Borrowed, Owned}
 use Rattle.resb_tree.specs.declared.resource.Resource.{Resource, fold-Resource}
 use Rattle.resb_tree.specs.declared.resource.Resource.TheOpen.{Resource-F}
 
-abbrev pub is_slice : {X Z : Type 0} → CowSlice X Z → Bool
-is_slice (Borrowed r) = true
-is_slice (Owned v) = false
+abbrev pub is_borrowed_slice : {X Z : Type 0} → CowSlice X Z → Bool
+is_borrowed_slice (Borrowed r) = true
+is_borrowed_slice (Owned v) = false
 
 -- one level, with each resource inside already looked at
 abbrev pub borrow_step : Resource-F Bool → Bool
 borrow_step (Resource-F.String s) = true
 borrow_step (Resource-F.Array v) = list_all (λ b. b) v.items
 borrow_step (Resource-F.Table m) = list_all (λ (e : List ℕ × Bool). e.1) m.entries
-borrow_step (Resource-F.Binary b) = is_slice b
+borrow_step (Resource-F.Binary b) = is_borrowed_slice b
 borrow_step (Resource-F.Integer n) = true
 borrow_step (Resource-F.IntVector v) = true
 

@@ -1,4 +1,5 @@
--- Words of the reader's private steps: nothing here has to be trusted.
+-- Words of the reader's private steps. Public clauses cite those of `Members`; the others have not
+-- to be trusted.
 pub mod Members
 pub mod Frames
 pub mod Rounds

@@ -4,6 +4,7 @@ pub use Rattle.resb_format.specs.Bytes
 pub use Rattle.resb_format.specs.Strings
 pub use Rattle.resb_format.specs.Parts
 pub use Rattle.resb_format.specs.Types
+pub use Rattle.resb_format.specs.Descriptor
 pub use Rattle.resb_format.specs.Content
 pub use Rattle.resb_format.specs.Denotes
 pub use Rattle.resb_format.specs.Error

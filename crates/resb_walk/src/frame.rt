@@ -1,4 +1,4 @@
-//! Open collections, step by step: members are taken from one, and put in when they are made.
+//! Open collections, round by round: members are taken from one, and put in when they are made.
 //! In which order they are open is the business of `read`.
 ghost use Rattle.std.specs.Prelude.{◌≡◌, ℕ, ◌+◌, IfErr};
 ghost use Rattle.resb_tree.specs.Tree.{Tree};

@@ -1,9 +1,9 @@
 //! The reader: it goes from frame to frame, and no function calls itself, so any depth is read.
 //! What stands at a word is found in `standing`, and what is made of it in `tree` and `count`.
 //!
-//! The frames of the collections around are in `frames`, the outermost first. A turn takes the next
-//! member from the innermost, or closes it. Each member is paid for as it begins, so that twice
-//! what is left, plus the number of frames, falls in each turn.
+//! The frames of the collections around are in `frames`, the outermost first. A round takes the
+//! next member from the innermost, or closes it. Each member is paid for as it begins, so that
+//! twice what is left, plus the number of frames, falls in each round.
 ghost use Rattle.std.specs.Prelude.{◌≡◌, ℕ, ◌+◌, IfErr};
 ghost use Rattle.resb_format.specs.Content as at;
 ghost use Rattle.resb_format.specs.Denotes.{Den, Reaches, DenMember, ReachesMember};
@@ -85,7 +85,7 @@ pub fn read_word<'a, 'm, M: Make<'a>>(
         Read::Made(made) => return Ok(made),
         Read::Begun(frame) => frame,
     };
-    'turns: loop {
+    'rounds: loop {
         match advance::<M>(file, frame)? {
             Progress::Wants(member, waiting) => match begin::<M>(alloc, file, member, walk)? {
                 Read::Made(item) => {

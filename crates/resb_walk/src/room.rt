@@ -36,7 +36,7 @@ pub(crate) fn can_be_paid(
     let Some(mut members) = members_at(file, word) else {
         return Ok(true);
     };
-    'turns: loop {
+    'rounds: loop {
         let Some((member, rest)) = members.split() else {
             let Some(outer) = around.pop() else {
                 return Ok(true);

@@ -9,7 +9,7 @@ use Rattle.resb_tree.specs.Tree.{Tree}
 use Rattle.resb_format.specs.Bytes.{words_of}
 use Rattle.resb_format.specs.Laws.{EachFits}
 use Rattle.resb_format.specs.Parts.{body_of}
-use Rattle.resb_format.proofs.WordsBack.{bytes_back}
+use Rattle.resb_format.proofs.WordsBack.{bytes_back, fits_drop}
 use Rattle.resb_format.proofs.Spelled.{words_length}
 use Rattle.resb_pool.proofs.OnePool.{one_pool}
 use Rattle.resb_layout.specs.Laid.{Given, State, Lays, halves}
@@ -32,11 +32,6 @@ same_front (suc n) (x ∷ xs) (y ∷ ys) h k e =
     let rest = same_front n xs ys (omega (arith, h)) (omega (arith, k))
     (λ i l. e (suc i) (omega (arith, l))) in
     λ i. first i ∷ rest i
-
-fits_drop : (n : ℕ) (bs : List ℕ) → EachFits 8 bs → EachFits 8 (drop n bs)
-fits_drop zero bs h = h
-fits_drop (suc n) [] h = tt
-fits_drop (suc n) (b ∷ bs) h = fits_drop n bs h.1
 
 module _ (t : Tree) (ks : List (List ℕ)) (x y : Blocks t ks) where
   pool_is : x.pool ≡ y.pool
@@ -145,7 +140,7 @@ module _ (a b : List ℕ) (t : Tree) (fallback : Bool) (ks : List (List ℕ)) (f
   word_same (suc (suc (suc (suc (suc (suc (suc (suc i)))))))) h = absurd (omega (arith, h))
 
   fits_body : (c : List ℕ) → EachFits 8 c → (w : Written c t fallback ks) → EachFits 8 (body_of c)
-  fits_body c f w = subst (EachFits 8) (sym (body_is c t fallback ks w)) (fits_drop 32 c f)
+  fits_body c f w = subst (EachFits 8) (sym (body_is c t fallback ks w)) (fits_drop 8 c 32 f)
 
   head_of : (c : List ℕ) → EachFits 8 c → (w : Written c t fallback ks)
       → take 32 (body_of c) ≡ flat_map (to_le_bytes w32) (take 8 (words_of (body_of c)))

@@ -30,8 +30,8 @@ use Rattle.std.specs.List.{All}
 use Rattle.std.proofs.lemmas.List.{get_or-append-add}
 use Rattle.std.proofs.lemmas.List.Elements.{All-append, All-cons, All-nil}
 use Rattle.resb.specs.Places.{Place}
-use Rattle.resb_zones.specs.Zones.{IsNamed, IsReadable, IsLast}
-use Rattle.resb_zones.specs.Inner.Fields.{Takes, LastSoFar, HasTaken, Front}
+use Rattle.resb_zones.specs.Zones.{IsNamed, IsReadable, IsLastNamed}
+use Rattle.resb_zones.specs.Inner.Fields.{Takes, LastSoFar, HasTaken, FieldsFront}
 use Rattle.resb_zones.specs.declared.fields.Fields.{Fields}
 
 one : {A : Type 0} (P : A → Type 0) (x : A) → P x → All P (x ∷ [])
@@ -48,7 +48,7 @@ at_front P done e rest h =
 module _ (name : List ℕ) where
   -- where no entry has the name there is no last one
   pub none_is_last : (places : List (Place × Place)) (q : Place)
-      → All (λ e. IsNamed name e → ⊥) places → IsLast name places q → ⊥
+      → All (λ e. IsNamed name e → ⊥) places → IsLastNamed name places q → ⊥
   none_is_last places q none l =
       at_front (λ e. IsNamed name e
       → ⊥) l.before (
@@ -79,7 +79,7 @@ module _ (name : List ℕ) where
       r,
     )
 
-    last_one : IsNamed name e → IsLast name (ps ++ e ∷ []) e.1
+    last_one : IsNamed name e → IsLastNamed name (ps ++ e ∷ []) e.1
     last_one named =
         record {
           before = ps;
@@ -100,12 +100,12 @@ module _ (name : List ℕ) where
         subst (LastSoFar name reads (ps ++ e ∷ [])) (sym same) (not_named old h other)
 
 module _ (all : List (Place × Place)) (e : Place × Place) (rest : List (Place × Place)) (f : Fields)
-    (before left : ℕ) (front : Front all (e ∷ rest) f before left) where
+    (before left : ℕ) (front : FieldsFront all (e ∷ rest) f before left) where
   pub here : (P : Place × Place → Type 0) → All P all → P e
   here P h = at_front P front.done e rest (subst (All P) front.are h)
 
   pub front_takes : (g : Fields) (left' : ℕ) → HasTaken e f g → left' + 1 ≡ left
-      → Front all rest g before left'
+      → FieldsFront all rest g before left'
   front_takes g left' t sum =
       let paid : left + length front.done ≡ before = front.paid in
       let here_too : All IsReadable (e ∷ []) = one IsReadable e t.readable in

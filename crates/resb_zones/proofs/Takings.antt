@@ -27,7 +27,7 @@ use Rattle.resb.specs.Leaves.{ReadsKey}
 use Rattle.resb.specs.Views.{pair_bytes}
 use Rattle.resb.specs.declared.binary.helpers.PairView.{PairView}
 use Rattle.resb_zones.specs.Zones.{base_name, pairs_name, ReadsNumber, IsNamed}
-use Rattle.resb_zones.specs.Inner.Fields.{ReadsPairs, HasTaken}
+use Rattle.resb_zones.specs.Inner.Fields.{ReadsPairView, HasTaken}
 use Rattle.resb_zones.specs.declared.fields.Fields.{Fields}
 use Rattle.resb_zones.proofs.Costs.{one_name}
 
@@ -69,7 +69,7 @@ module _ (e : Place
         pairs = inr (other_name pairs_name differs, pairs);
       }
 
-  pub takes_pairs : (v : PairView) (n : ℕ) → ReadsPairs e.1 v n → name ≡ pairs_name
+  pub takes_pairs : (v : PairView) (n : ℕ) → ReadsPairView e.1 v n → name ≡ pairs_name
       → new.pairs ≡ Some v → new.base ≡ old.base → HasTaken e old new
   takes_pairs v n value is pairs base =
       let differs : name ≡ base_name → ⊥ = λ f. names_differ (sym f ∙ is) in

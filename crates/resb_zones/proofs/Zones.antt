@@ -7,7 +7,7 @@ use Rattle.resb.specs.Places.{Place}
 use Rattle.resb.specs.Sequences.{entries}
 use Rattle.resb_zones.specs.Zones.{base_name, pairs_name, ReadsNumber, IsNamed, ReadsZone}
 use Rattle.resb_zones.specs.Zones.{CountsZone}
-use Rattle.resb_zones.specs.Inner.Fields.{ReadsPairs, LastSoFar, HasSeen}
+use Rattle.resb_zones.specs.Inner.Fields.{ReadsPairView, LastSoFar, HasSeen}
 use Rattle.resb_zones.specs.declared.fields.Fields.{Fields}
 use Rattle.resb_zones.specs.declared.zone.Zone.{Zone}
 use Rattle.resb_zones.proofs.Fronts.{none_is_last}
@@ -19,7 +19,7 @@ module _ (p : Place) (places : List (Place
   zone_is z base pairs =
       let (q, last, k, value) = subst (LastSoFar base_name ReadsNumber places) base seen.base in
       let (r, last', k', value') =
-      subst (LastSoFar pairs_name ReadsPairs places) pairs seen.pairs in
+      subst (LastSoFar pairs_name ReadsPairView places) pairs seen.pairs in
       record {
         places = places;
         are = are;
@@ -41,6 +41,6 @@ module _ (p : Place) (places : List (Place
       → ⊥)) same lacks) h.base_last
   no_zone (inr none) n h =
       let same : places ≡ h.places = same_Some _ _ (sym are ∙ h.are) in
-      let lacks = subst (LastSoFar pairs_name ReadsPairs places) none seen.pairs in
+      let lacks = subst (LastSoFar pairs_name ReadsPairView places) none seen.pairs in
       none_is_last pairs_name h.places h.pairs (subst (All (λ e. IsNamed pairs_name e
       → ⊥)) same lacks) h.pairs_last

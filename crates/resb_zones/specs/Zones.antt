@@ -2,7 +2,7 @@
 --     IsNamed name e           the key of the entry e is this text
 --     IsReadable e             the entry's key is a text, and its value is of the type that the
 --                              key asks for
---     IsLast name es q         of the entries of this name the last one's value stands at q
+--     IsLastNamed name es q    of the entries of this name the last one's value stands at q
 --     ReadsZone, CountsZone    a table of readable entries, with a last `base` and a last `pairs`
 --     ReadsTable, CountsTable  a map of zones by borrowed names: the last zone of an equal name
 --                              stands
@@ -60,7 +60,8 @@ pub record IsReadable (e : Place × Place) : Type 0 where
   pub base : name ≡ base_name → (n : ℕ) × CountsNumber e.1 n
   pub pairs : name ≡ pairs_name → (n : ℕ) × CountsView 8 e.1 n
 
-pub record IsLast (name : List ℕ) (places : List (Place × Place)) (value : Place) : Type 0 where
+pub record IsLastNamed (name : List ℕ) (places : List (Place × Place)) (value : Place)
+    : Type 0 where
   pub before : List (Place × Place)
   pub key : Place
   pub after : List (Place × Place)
@@ -73,10 +74,10 @@ pub record ReadsZone (p : Place) (z : Zone) (n : ℕ) : Type 0 where
   pub are : entries p ≡ Some places
   pub each : All IsReadable places
   pub base : Place
-  pub base_last : IsLast base_name places base
+  pub base_last : IsLastNamed base_name places base
   pub base_read : (k : ℕ) × ReadsNumber base z.base k
   pub pairs : Place
-  pub pairs_last : IsLast pairs_name places pairs
+  pub pairs_last : IsLastNamed pairs_name places pairs
   pub pairs_read : (k : ℕ) × ReadsView 8 pairs (pair_bytes z.pairs) k
   pub count : n ≡ 1 + length places
 
@@ -85,9 +86,9 @@ pub record CountsZone (p : Place) (n : ℕ) : Type 0 where
   pub are : entries p ≡ Some places
   pub each : All IsReadable places
   pub base : Place
-  pub base_last : IsLast base_name places base
+  pub base_last : IsLastNamed base_name places base
   pub pairs : Place
-  pub pairs_last : IsLast pairs_name places pairs
+  pub pairs_last : IsLastNamed pairs_name places pairs
   pub count : n ≡ 1 + length places
 
 abbrev pub ReadsTable : Place → ZoneTable → ℕ → Type 0

@@ -1,4 +1,4 @@
--- What the steps of a reader answer.
+-- What the rounds of a reader answer.
 use Rattle.std.specs.Prelude.{ℕ, List, Result, Ok, Err, ◌≡◌, ◌≤◌, ◌+◌}
 use Rattle.resb_tree.specs.Tree.{Tree}
 use Rattle.resb_format.specs.Parts.{Parts}

@@ -6,7 +6,8 @@ use Rattle.resb.specs.Others.{ReadsView, cost_at}
 use Rattle.resb.specs.Views.{pair_bytes}
 use Rattle.resb.specs.declared.binary.Cursor.{Cursor}
 use Rattle.resb.specs.declared.binary.helpers.PairView.{PairView}
-use Rattle.resb_zones.specs.Zones.{base_name, pairs_name, ReadsNumber, IsNamed, IsReadable, IsLast}
+use Rattle.resb_zones.specs.Zones.{base_name, pairs_name, ReadsNumber, IsNamed, IsReadable}
+use Rattle.resb_zones.specs.Zones.{IsLastNamed}
 use Rattle.resb_zones.specs.declared.fields.Fields.{Fields}
 
 -- the places of a key and its value
@@ -17,8 +18,8 @@ entry_of key value = (place_of key, place_of value)
 abbrev pub IsEntry : Place × Place → Type 0
 IsEntry e = (cost_at e.0.at ≡ 0) × (cost_at e.1.at ≡ 1)
 
-abbrev pub ReadsPairs : Place → PairView → ℕ → Type 0
-ReadsPairs q v k = ReadsView 8 q (pair_bytes v) k
+abbrev pub ReadsPairView : Place → PairView → ℕ → Type 0
+ReadsPairView q v k = ReadsView 8 q (pair_bytes v) k
 
 module _ {X : Type 0} (name : List ℕ) (reads : Place → X → ℕ → Type 0) where
   -- an entry of this name is read, and any other changes nothing
@@ -30,20 +31,21 @@ module _ {X : Type 0} (name : List ℕ) (reads : Place → X → ℕ → Type 0)
   -- the value of the last entry of this name, if there is one
   abbrev pub LastSoFar : List (Place × Place) → Option X → Type 0
   LastSoFar places None = All (λ e. IsNamed name e → ⊥) places
-  LastSoFar places (Some x) = (q : Place) × IsLast name places q × (k : ℕ) × reads q x k
+  LastSoFar places (Some x) = (q : Place) × IsLastNamed name places q × (k : ℕ) × reads q x k
 
 pub record HasTaken (e : Place × Place) (old new : Fields) : Type 0 where
   pub readable : IsReadable e
   pub base : Takes base_name ReadsNumber e old.base new.base
-  pub pairs : Takes pairs_name ReadsPairs e old.pairs new.pairs
+  pub pairs : Takes pairs_name ReadsPairView e old.pairs new.pairs
 
 pub record HasSeen (places : List (Place × Place)) (f : Fields) : Type 0 where
   pub each : All IsReadable places
   pub base : LastSoFar base_name ReadsNumber places f.base
-  pub pairs : LastSoFar pairs_name ReadsPairs places f.pairs
+  pub pairs : LastSoFar pairs_name ReadsPairView places f.pairs
 
 -- the front of all entries has been read, and the budget has fallen by one for each
-pub record Front (all rest : List (Place × Place)) (f : Fields) (before left : ℕ) : Type 0 where
+pub record FieldsFront (all rest : List (Place × Place)) (f : Fields) (before left : ℕ)
+    : Type 0 where
   pub done : List (Place × Place)
   pub are : all ≡ done ++ rest
   pub seen : HasSeen done f

@@ -4,7 +4,7 @@ use Rattle.std.specs.List.{sum_by}
 use Rattle.std.proofs.lemmas.List.Sums.{sum_by-cons}
 use Rattle.std.specs.Vec.Iter.{into_iter_items, into_iter_len}
 use Rattle.resb_tree.specs.View.{tree_of}
-use Rattle.resb_bodies.specs.StackSteps.{LaysRow, steps_none}
+use Rattle.resb_bodies.specs.StackSteps.{LaysRow, row_none}
 use Rattle.resb_bodies.specs.Room.{given_by, state_of, trees_in, most_units, HasRoomFor}
 use Rattle.resb_bodies.specs.Inner.Seen.{CanLay}
 use Rattle.std.proofs.lemmas.List.{nil_from_length}
@@ -20,7 +20,7 @@ loop-resource-init c =
     (into_iter_items c.into_iter-resource-iterator.result) = search rules in (
       refl,
       many,
-      steps_none,
+      row_none,
       subst (λ rs. CanLay c.args.sites.now c.args.bodies.now
           (length c.args.words.now.items) (trees_in rs)) (sym all) c.requires,
       omega arith,

@@ -6,9 +6,9 @@ use Rattle.resb_format.specs.Denotes.{den_word}
 use Rattle.resb_walk.specs.Files.{parts_in}
 use Rattle.resb_walk.specs.Inner.Members.{member_of}
 use Rattle.resb_walk.proofs.Lift.{word_den, word_refused}
-use Rattle.resb_walk.proofs.Meeting.{waits_meets, turn_meets}
-use Rattle.resb_walk.proofs.Rounds.{turn_first, turn_falls, turn_stuck, turn_refused, turn_puts}
-use Rattle.resb_walk.proofs.Rounds.{turn_begins, turn_last, turn_outer, turn_closes}
+use Rattle.resb_walk.proofs.Meeting.{waits_meets, round_meets}
+use Rattle.resb_walk.proofs.Rounds.{round_first, round_falls, round_stuck, round_refused}
+use Rattle.resb_walk.proofs.Rounds.{round_puts, round_begins, round_last, round_outer, round_closes}
 use Rattle.resb_walk.proofs.read.read_word.Goals as goal
 
 pub returns-in_err-made-clause-answers : goal.returns-in_err-made-clause-answers
@@ -25,10 +25,10 @@ returns-in-Made-clause-answers g c =
     let h = rw c.in-Made.is at c.in_ok-made.ensures.reads in
     (h.0, 1, word_den (parts_in c.args.file) h.1, h.2, h.3)
 
-pub turns-init : goal.turns-init
-turns-init g c =
+pub rounds-init : goal.rounds-init
+rounds-init g c =
     let h = rw c.in-Begun.is at c.in_ok-made.ensures.reads in
-    turn_first g.M.Make.lists g.M.Make.tables (parts_in c.args.file) c.args.word c.args.walk.now
+    round_first g.M.Make.lists g.M.Make.tables (parts_in c.args.file) c.args.word c.args.walk.now
     c.begin.new.walk h.0 c.new-frames.result.items c.in-Begun.frame c.new-frames.ensures.items
     h.1 h.2 h.3
 
@@ -36,30 +36,30 @@ pub returns-in_err-member-clause-answers : goal.returns-in_err-member-clause-ans
 returns-in_err-member-clause-answers g c =
     let e = err_from_is_err_and c.from_residual-in_err-member.result
     c.from_residual-in_err-member.ensures.1 in
-    let i = c.turns.invariant in
+    let i = c.rounds.invariant in
     let h = c.in_err-member.ensures.steps i.place i.inner i.opened in
     rw (e.1, e.2) (
-      turn_falls g.M.Make.lists g.M.Make.tables (parts_in c.args.file) c.args.word c.args.walk.now
-          c.turns.frames.items c.turns.frame c.turns.walk i,
-      turn_stuck g.M.Make.lists g.M.Make.tables (parts_in c.args.file) c.args.word c.args.walk.now
-          c.turns.frames.items c.turns.frame c.turns.walk i c.in_err-member.field-0.0 h.0 h.1,
+      round_falls g.M.Make.lists g.M.Make.tables (parts_in c.args.file) c.args.word c.args.walk.now
+          c.rounds.frames.items c.rounds.frame c.rounds.walk i,
+      round_stuck g.M.Make.lists g.M.Make.tables (parts_in c.args.file) c.args.word c.args.walk.now
+          c.rounds.frames.items c.rounds.frame c.rounds.walk i c.in_err-member.field-0.0 h.0 h.1,
     )
 
 pub returns-in_err-item-in-Wants-clause-answers : goal.returns-in_err-item-in-Wants-clause-answers
 returns-in_err-item-in-Wants-clause-answers g c =
     let e = err_from_is_err_and c.from_residual-in_err-item-in-Wants.result
     c.from_residual-in_err-item-in-Wants.ensures.1 in
-    let i = c.turns.invariant in
+    let i = c.rounds.invariant in
     let waits = rw c.in-Wants.is at c.in_ok-member.ensures.steps i.place i.inner i.opened in
     let h = c.in_err-item-in-Wants.ensures.reads in
-    let le : c.begin-in-Wants.new.walk ≤ c.turns.walk = h.0 in
-    let falls : c.turns.walk ≤ c.args.walk.now = turn_falls g.M.Make.lists g.M.Make.tables
-    (parts_in c.args.file) c.args.word c.args.walk.now c.turns.frames.items c.turns.frame
-    c.turns.walk i in
+    let le : c.begin-in-Wants.new.walk ≤ c.rounds.walk = h.0 in
+    let falls : c.rounds.walk ≤ c.args.walk.now = round_falls g.M.Make.lists g.M.Make.tables
+    (parts_in c.args.file) c.args.word c.args.walk.now c.rounds.frames.items c.rounds.frame
+    c.rounds.walk i in
     rw (e.1, e.2) (
       omega arith,
-      turn_refused g.M.Make.lists g.M.Make.tables (parts_in c.args.file) c.args.word c.args.walk.now
-          c.turns.frames.items c.turns.frame c.turns.walk i c.in-Wants.waiting
+      round_refused g.M.Make.lists g.M.Make.tables (parts_in c.args.file) c.args.word
+          c.args.walk.now c.rounds.frames.items c.rounds.frame c.rounds.walk i c.in-Wants.waiting
           (member_of c.in-Wants.member) c.in_err-item-in-Wants.field-0.0 waits h.1,
     )
 
@@ -68,55 +68,55 @@ pub returns-in_err-frame-in-Made-2-clause-answers
 returns-in_err-frame-in-Made-2-clause-answers g c =
     let e = err_from_is_err_and c.from_residual-in_err-frame-in-Made-2.result
     c.from_residual-in_err-frame-in-Made-2.ensures.1 in
-    let i = c.turns.invariant in
+    let i = c.rounds.invariant in
     let waits = rw c.in-Wants.is at c.in_ok-member.ensures.steps i.place i.inner i.opened in
     let h = rw c.in-Made-2.is at c.in_ok-item-in-Wants.ensures.reads in
     let memory = c.in_err-frame-in-Made-2.ensures (parts_in c.args.file) i.place i.inner 1
     (member_of c.in-Wants.member) h.0 waits h.1 h.2 in
-    let paid : c.begin-in-Wants.new.walk + 1 ≡ c.turns.walk = h.3 in
-    let falls : c.turns.walk ≤ c.args.walk.now = turn_falls g.M.Make.lists g.M.Make.tables
-    (parts_in c.args.file) c.args.word c.args.walk.now c.turns.frames.items c.turns.frame
-    c.turns.walk i in
+    let paid : c.begin-in-Wants.new.walk + 1 ≡ c.rounds.walk = h.3 in
+    let falls : c.rounds.walk ≤ c.args.walk.now = round_falls g.M.Make.lists g.M.Make.tables
+    (parts_in c.args.file) c.args.word c.args.walk.now c.rounds.frames.items c.rounds.frame
+    c.rounds.walk i in
     rw (e.1, e.2) (omega arith, inl memory)
 
-pub turns-preserved-in-Made-2 : goal.turns-preserved-in-Made-2
-turns-preserved-in-Made-2 g c =
-    let i = c.turns.invariant in
+pub rounds-preserved-in-Made-2 : goal.rounds-preserved-in-Made-2
+rounds-preserved-in-Made-2 g c =
+    let i = c.rounds.invariant in
     let waits = rw c.in-Wants.is at c.in_ok-member.ensures.steps i.place i.inner i.opened in
     let h = rw c.in-Made-2.is at c.in_ok-item-in-Wants.ensures.reads in
     let next = c.in_ok-frame-in-Made-2.ensures (parts_in c.args.file) i.place i.inner 1
     (member_of c.in-Wants.member) h.0 waits h.1 h.2 in
-    turn_puts g.M.Make.lists g.M.Make.tables (parts_in c.args.file) c.args.word c.args.walk.now
-    c.turns.frames.items c.turns.frame c.turns.walk i c.in_ok-frame-in-Made-2.frame
+    round_puts g.M.Make.lists g.M.Make.tables (parts_in c.args.file) c.args.word c.args.walk.now
+    c.rounds.frames.items c.rounds.frame c.rounds.walk i c.in_ok-frame-in-Made-2.frame
     c.begin-in-Wants.new.walk next h.3
 
-pub turns-preserved-in-Begun-2 : goal.turns-preserved-in-Begun-2
-turns-preserved-in-Begun-2 g c =
-    let i = c.turns.invariant in
+pub rounds-preserved-in-Begun-2 : goal.rounds-preserved-in-Begun-2
+rounds-preserved-in-Begun-2 g c =
+    let i = c.rounds.invariant in
     let waits = rw c.in-Wants.is at c.in_ok-member.ensures.steps i.place i.inner i.opened in
     let h = rw c.in-Begun-2.is at c.in_ok-item-in-Wants.ensures.reads in
-    turn_begins g.M.Make.lists g.M.Make.tables (parts_in c.args.file) c.args.word c.args.walk.now
-    c.turns.frames.items c.turns.frame c.turns.walk i c.in-Wants.waiting c.in-Begun-2.inner h.0
+    round_begins g.M.Make.lists g.M.Make.tables (parts_in c.args.file) c.args.word c.args.walk.now
+    c.rounds.frames.items c.rounds.frame c.rounds.walk i c.in-Wants.waiting c.in-Begun-2.inner h.0
     c.begin-in-Wants.new.walk c.push.new.self.items c.in_ok-push-in-Begun-2.ensures.items
     (rw h.1 at waits) h.2 h.3
 
 pub returns-in_default-clause-answers : goal.returns-in_default-clause-answers
 returns-in_default-clause-answers g c =
-    let i = c.turns.invariant in
+    let i = c.rounds.invariant in
     let h = rw c.in-Done.is at c.in_ok-member.ensures.steps i.place i.inner i.opened in
-    let empty : c.turns.frames.items ≡ [] = grind (arith, c.in_default.ensures.cases) in
-    let r = turn_last g.M.Make.lists g.M.Make.tables (parts_in c.args.file) c.args.word
-    c.args.walk.now c.turns.frames.items c.turns.frame c.turns.walk i h.0 empty h.1 in
+    let empty : c.rounds.frames.items ≡ [] = grind (arith, c.in_default.ensures.cases) in
+    let r = round_last g.M.Make.lists g.M.Make.tables (parts_in c.args.file) c.args.word
+    c.args.walk.now c.rounds.frames.items c.rounds.frame c.rounds.walk i h.0 empty h.1 in
     (h.0, r.0, r.1, h.2, r.2)
 
 pub returns-in_err-frame-in-Done-clause-answers : goal.returns-in_err-frame-in-Done-clause-answers
 returns-in_err-frame-in-Done-clause-answers g c =
     let e = err_from_is_err_and c.from_residual-in_err-frame-in-Done.result
     c.from_residual-in_err-frame-in-Done.ensures.1 in
-    let i = c.turns.invariant in
+    let i = c.rounds.invariant in
     let h = rw c.in-Done.is at c.in_ok-member.ensures.steps i.place i.inner i.opened in
-    let outer = turn_outer g.M.Make.lists g.M.Make.tables (parts_in c.args.file) c.args.word
-    c.args.walk.now c.turns.frames.items c.turns.frame c.turns.walk i c.in-Some.waiting
+    let outer = round_outer g.M.Make.lists g.M.Make.tables (parts_in c.args.file) c.args.word
+    c.args.walk.now c.rounds.frames.items c.rounds.frame c.rounds.walk i c.in-Some.waiting
     c.pop.new.self.items c.in-Some.ensures.items in
     let memory = c.in_err-frame-in-Done.ensures (parts_in c.args.file) outer.place outer.inner
     (1 + i.inner) (word i.place) h.0 outer.waits (den_word h.1) h.2 in
@@ -124,22 +124,22 @@ returns-in_err-frame-in-Done-clause-answers g c =
       e.1,
       e.2,
     ) (
-      turn_falls g.M.Make.lists g.M.Make.tables (parts_in c.args.file) c.args.word
-          c.args.walk.now c.turns.frames.items c.turns.frame c.turns.walk i,
+      round_falls g.M.Make.lists g.M.Make.tables (parts_in c.args.file) c.args.word
+          c.args.walk.now c.rounds.frames.items c.rounds.frame c.rounds.walk i,
       inl memory,
     )
 
-pub turns-preserved : goal.turns-preserved
-turns-preserved g c =
-    let i = c.turns.invariant in
+pub rounds-preserved : goal.rounds-preserved
+rounds-preserved g c =
+    let i = c.rounds.invariant in
     let h = rw c.in-Done.is at c.in_ok-member.ensures.steps i.place i.inner i.opened in
-    let outer = turn_outer g.M.Make.lists g.M.Make.tables (parts_in c.args.file) c.args.word
-    c.args.walk.now c.turns.frames.items c.turns.frame c.turns.walk i c.in-Some.waiting
+    let outer = round_outer g.M.Make.lists g.M.Make.tables (parts_in c.args.file) c.args.word
+    c.args.walk.now c.rounds.frames.items c.rounds.frame c.rounds.walk i c.in-Some.waiting
     c.pop.new.self.items c.in-Some.ensures.items in
     let next = c.in_ok-frame-in-Done.ensures (parts_in c.args.file) outer.place outer.inner
     (1 + i.inner) (word i.place) h.0 outer.waits (den_word h.1) h.2 in
-    turn_closes g.M.Make.lists g.M.Make.tables (parts_in c.args.file) c.args.word c.args.walk.now
-    c.turns.frames.items c.turns.frame c.turns.walk i c.in-Some.waiting c.pop.new.self.items
+    round_closes g.M.Make.lists g.M.Make.tables (parts_in c.args.file) c.args.word c.args.walk.now
+    c.rounds.frames.items c.rounds.frame c.rounds.walk i c.in-Some.waiting c.pop.new.self.items
     c.in_ok-frame-in-Done.frame outer next
 
 pub returns-in_err-made-clause-meets : goal.returns-in_err-made-clause-meets
@@ -151,19 +151,19 @@ pub returns-in_err-member-clause-meets : goal.returns-in_err-member-clause-meets
 returns-in_err-member-clause-meets g c =
     let e = err_from_is_err_and c.from_residual-in_err-member.result
     c.from_residual-in_err-member.ensures.1 in
-    let i = c.turns.invariant in
+    let i = c.rounds.invariant in
     let met = c.in_err-member.ensures.meets i.place i.inner i.opened in
-    rw (e.1, e.2) (λ _. turn_meets (parts_in c.args.file) g.M.Make.lists g.M.Make.tables c.args.word
-    c.args.walk.now c.turns.frames.items c.turns.frame c.turns.walk i _ met)
+    rw (e.1, e.2) (λ _. round_meets (parts_in c.args.file) g.M.Make.lists g.M.Make.tables
+    c.args.word c.args.walk.now c.rounds.frames.items c.rounds.frame c.rounds.walk i _ met)
 
 pub returns-in_err-item-in-Wants-clause-meets : goal.returns-in_err-item-in-Wants-clause-meets
 returns-in_err-item-in-Wants-clause-meets g c =
     let e = err_from_is_err_and c.from_residual-in_err-item-in-Wants.result
     c.from_residual-in_err-item-in-Wants.ensures.1 in
-    let i = c.turns.invariant in
+    let i = c.rounds.invariant in
     let waits = rw c.in-Wants.is at c.in_ok-member.ensures.steps i.place i.inner i.opened in
-    rw (e.1, e.2) (λ h. turn_meets (parts_in c.args.file) g.M.Make.lists g.M.Make.tables c.args.word
-    c.args.walk.now c.turns.frames.items c.turns.frame c.turns.walk i _
+    rw (e.1, e.2) (λ h. round_meets (parts_in c.args.file) g.M.Make.lists g.M.Make.tables
+    c.args.word c.args.walk.now c.rounds.frames.items c.rounds.frame c.rounds.walk i _
     (waits_meets (parts_in c.args.file) g.M.Make.lists g.M.Make.tables c.in-Wants.waiting i.place
     i.inner (member_of c.in-Wants.member) _ waits (c.in_err-item-in-Wants.ensures.meets h)))
 
@@ -171,7 +171,7 @@ pub returns-in_err-frame-in-Made-2-clause-meets : goal.returns-in_err-frame-in-M
 returns-in_err-frame-in-Made-2-clause-meets g c =
     let e = err_from_is_err_and c.from_residual-in_err-frame-in-Made-2.result
     c.from_residual-in_err-frame-in-Made-2.ensures.1 in
-    let i = c.turns.invariant in
+    let i = c.rounds.invariant in
     let waits = rw c.in-Wants.is at c.in_ok-member.ensures.steps i.place i.inner i.opened in
     let h = rw c.in-Made-2.is at c.in_ok-item-in-Wants.ensures.reads in
     let memory = c.in_err-frame-in-Made-2.ensures (parts_in c.args.file) i.place i.inner 1
@@ -182,10 +182,10 @@ pub returns-in_err-frame-in-Done-clause-meets : goal.returns-in_err-frame-in-Don
 returns-in_err-frame-in-Done-clause-meets g c =
     let e = err_from_is_err_and c.from_residual-in_err-frame-in-Done.result
     c.from_residual-in_err-frame-in-Done.ensures.1 in
-    let i = c.turns.invariant in
+    let i = c.rounds.invariant in
     let h = rw c.in-Done.is at c.in_ok-member.ensures.steps i.place i.inner i.opened in
-    let outer = turn_outer g.M.Make.lists g.M.Make.tables (parts_in c.args.file) c.args.word
-    c.args.walk.now c.turns.frames.items c.turns.frame c.turns.walk i c.in-Some.waiting
+    let outer = round_outer g.M.Make.lists g.M.Make.tables (parts_in c.args.file) c.args.word
+    c.args.walk.now c.rounds.frames.items c.rounds.frame c.rounds.walk i c.in-Some.waiting
     c.pop.new.self.items c.in-Some.ensures.items in
     let memory = c.in_err-frame-in-Done.ensures (parts_in c.args.file) outer.place outer.inner
     (1 + i.inner) (word i.place) h.0 outer.waits (den_word h.1) h.2 in

@@ -1,5 +1,5 @@
 use Rattle.std.proofs.Common.{subst}
-use Rattle.resb_zones.specs.Inner.Fields.{entry_of, IsEntry, Front}
+use Rattle.resb_zones.specs.Inner.Fields.{entry_of, IsEntry, FieldsFront}
 use Rattle.resb_zones.proofs.Steps.{steps_some}
 use Rattle.resb_zones.proofs.Fronts.{here, front_takes, front_fails}
 use Rattle.resb_zones.proofs.Takings.{on_err}
@@ -14,7 +14,7 @@ take-requires c =
     let before = c.args.walk.now in
     let h = rw c.in-Some.is at c.in_ok-key.ensures in
     let step = steps_some l.entries new l.invariant.0 (c.in-Some.key, c.in-Some.value) h in
-    let front = subst (λ r. Front all r l.fields before l.walk) step.0 l.invariant.1 in
+    let front = subst (λ r. FieldsFront all r l.fields before l.walk) step.0 l.invariant.1 in
     here all entry new.rest l.fields before l.walk front IsEntry c.requires.places
 
 pub entries-preserved : goal.entries-preserved
@@ -26,7 +26,7 @@ entries-preserved c =
     let before = c.args.walk.now in
     let h = rw c.in-Some.is at c.in_ok-key.ensures in
     let step = steps_some l.entries new l.invariant.0 (c.in-Some.key, c.in-Some.value) h in
-    let front = subst (λ r. Front all r l.fields before l.walk) step.0 l.invariant.1 in
+    let front = subst (λ r. FieldsFront all r l.fields before l.walk) step.0 l.invariant.1 in
     let (taken, paid) = c.in_ok-take.ensures.read in
     let takes = front_takes all entry new.rest l.fields before l.walk front in
     (step.1, takes c.take.new.self c.take.new.walk taken paid)
@@ -40,7 +40,7 @@ returns-in_err-take-clause-refused c =
     let before = c.args.walk.now in
     let h = rw c.in-Some.is at c.in_ok-key.ensures in
     let step = steps_some l.entries new l.invariant.0 (c.in-Some.key, c.in-Some.value) h in
-    let front = subst (λ r. Front all r l.fields before l.walk) step.0 l.invariant.1 in
+    let front = subst (λ r. FieldsFront all r l.fields before l.walk) step.0 l.invariant.1 in
     let (falls, spent) = c.in_err-take.ensures.refused in
     let fails = front_fails all entry new.rest l.fields before l.walk front in
     on_err _ _ (fails c.take.new.walk falls spent)

@@ -6,7 +6,7 @@ use Rattle.resb_format.specs.Bytes.{words_of}
 use Rattle.resb_format.specs.Error.{refusal_of}
 use Rattle.resb_format.specs.Parts.{parts_in_body}
 use Rattle.resb_head.specs.HeadChecks.{index_fault}
-use Rattle.resb_head.specs.PartsReading.{parts_in}
+use Rattle.resb_head.specs.PartsReading.{parts_shown}
 use Rattle.resb_head.proofs.FileSteps.{root_missing, index_answers, blocks_answer}
 use Rattle.resb_head.proofs.file_parts.FileParts.of_body.Goals as goal
 
@@ -29,7 +29,7 @@ returns c =
     ap index_fault (sym c.split_at.ensures.back) ∙ c.in_ok-index.ensures.0 in
     subst
     (λ o. MatchResult c.cut.result
-    (λ f. (o ≡ None) × (parts_in f ≡ parts_in_body body)
+    (λ f. (o ≡ None) × (parts_shown f ≡ parts_in_body body)
     × (f.root ≡ slice_index (words_of body) 0)) (λ x. o ≡ Some (refusal_of x)))
     (sym (blocks_answer body c.if-body-lt4.false e))
     c.cut.ensures

@@ -7,7 +7,7 @@ use Rattle.resb.specs.Places.{place_of}
 use Rattle.resb.specs.Others.{cost_at}
 use Rattle.resb.specs.Views.{pair_bytes}
 use Rattle.resb_zones.specs.Zones.{base_name, pairs_name, IsReadable}
-use Rattle.resb_zones.specs.Inner.Fields.{entry_of, ReadsPairs}
+use Rattle.resb_zones.specs.Inner.Fields.{entry_of, ReadsPairView}
 use Rattle.resb_zones.proofs.Costs.{key_is_free, number_costs, view_costs, lacks_base, lacks_pairs}
 use Rattle.resb_zones.proofs.Takings.{
   on_err,
@@ -79,7 +79,7 @@ returns-clause-read c =
           (taken, omega (arith, paid, fell, w.walk-is))
       | goal.else-eq+then-eq-2+in_ok-pairs w ↦
           let v = w.in_ok-pairs.pairs in
-          let got : (n : ℕ) × ReadsPairs at v n
+          let got : (n : ℕ) × ReadsPairView at v n
           × (w.i32_tuple.new.walk + n ≡ left) = w.in_ok-pairs.ensures in
           let (n, value, fell) = got in
           let one : n ≡ 1 = view_costs 8 at n costs (pair_bytes v, value) in

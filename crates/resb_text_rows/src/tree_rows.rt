@@ -46,95 +46,61 @@ fn a_million_levels_of_tables_are_dropped(rt: HostRuntime) -> Result<(), Fail> {
     Ok(())
 }
 
-/// Whether binaries of borrowed and of owned bytes are equal.
-fn are_equal_binaries(alloc: Global) -> Result<bool, AllocError> {
-    let borrowed = Resource::Binary(CowSlice::Borrowed(b"ab".as_slice()));
-    let owned = Resource::Binary(CowSlice::Owned(Vec::from_slice(alloc, b"ab".as_slice())?));
-    Ok(borrowed == owned && borrowed.equals(&owned))
-}
-
-/// Whether the tree of these levels of tables is equal to another.
-fn is_nested_tables(
-    alloc: Global,
-    depth: u32,
-    other: &Resource<'static>,
-) -> Result<bool, AllocError> {
-    let tables = nested_tables(alloc, depth)?;
-    Ok(tables == *other)
-}
-
 #[test]
 fn equal_trees_of_borrowed_and_owned_parts(rt: HostRuntime) -> Result<(), Fail> {
-    let binaries = are_equal_binaries(rt.alloc())?;
-    let shallow = nested_tables(rt.alloc(), 2)?;
-    let alike = is_nested_tables(rt.alloc(), 2, &shallow)?;
-    let deeper = is_nested_tables(rt.alloc(), 3, &shallow)?;
-    let vector = shallow == Resource::IntVector(Vec::new(rt.alloc()));
-    assert!(rt; binaries && alike && !deeper && !vector);
+    let alloc = rt.alloc();
+    let borrowed = Resource::Binary(CowSlice::Borrowed(b"ab".as_slice()));
+    let owned = Resource::Binary(CowSlice::Owned(Vec::from_slice(alloc, b"ab".as_slice())?));
+    assert!(rt; borrowed == owned);
+    assert!(rt; borrowed.equals(&owned));
+    let shallow = nested_tables(alloc, 2)?;
+    let deeper = nested_tables(alloc, 3)?;
+    assert!(rt; shallow == nested_tables(alloc, 2)?);
+    assert!(rt; shallow != deeper);
+    assert!(rt; shallow != Resource::IntVector(Vec::new(alloc)));
     Ok(())
-}
-
-fn hash_of(key: &Key<'_>) -> u64 {
-    let mut hasher = FoldHasher::default();
-    key.hash(&mut hasher);
-    hasher.finish()
-}
-
-/// Whether the key of a borrowed text is that text, and is ordered as it.
-fn is_its_text() -> bool {
-    let key = Key::from("key");
-    key < Key::from("kez") && key.as_bytes() == b"key".as_slice() && key.as_str() == "key"
-}
-
-/// Whether a key of an owned text is equal to a borrowed one and to its clone, with one hash.
-fn is_one_key(alloc: Global) -> Result<bool, Fail> {
-    let borrowed = Key::from("key");
-    let owned = Key::from(String::from_str(alloc, "key")?);
-    let clone = borrowed.try_clone(alloc)?;
-    Ok(borrowed == owned && clone == owned && hash_of(&borrowed) == hash_of(&owned))
-}
-
-/// Whether a key of an owned text is turned into it.
-fn is_turned_into_its_text(alloc: Global) -> Result<bool, Fail> {
-    match Key::from(String::from_str(alloc, "key")?).into_string(alloc) {
-        Ok(text) => Ok(text.as_str() == "key"),
-        Err(_) => Err(NoMemory)?,
-    }
 }
 
 #[test]
 fn a_key_is_its_text(rt: HostRuntime) -> Result<(), Fail> {
-    let one = is_one_key(rt.alloc())?;
-    let turned = is_turned_into_its_text(rt.alloc())?;
-    assert!(rt; is_its_text() && one && turned);
+    let alloc = rt.alloc();
+    let borrowed = Key::from("key");
+    let owned = Key::from(String::from_str(alloc, "key")?);
+    assert!(rt; borrowed == owned);
+    assert!(rt; borrowed < Key::from("kez"));
+    assert_eq!(rt; borrowed.as_bytes(), b"key".as_slice());
+    assert_eq!(rt; borrowed.as_str(), "key");
+    assert!(rt; borrowed.try_clone(alloc)? == owned);
+    let mut one = FoldHasher::default();
+    borrowed.hash(&mut one);
+    let mut other = FoldHasher::default();
+    owned.hash(&mut other);
+    assert_eq!(rt; one.finish(), other.finish());
+    let Ok(text) = owned.into_string(alloc) else {
+        return Err(NoMemory)?;
+    };
+    assert_eq!(rt; text.as_str(), "key");
     Ok(())
-}
-
-fn are_kept_modulo_two_to_the_28() -> bool {
-    let minus_one = Int28::from(-1i32);
-    u32::from(minus_one) == 268435455
-        && i32::from(minus_one) == -1
-        && i32::from(Int28::from(0x0800_0000u32)) == -134217728
-        && u32::from(Int28::from(0xffff_ffffu32)) == 268435455
-        && Int28::from(5u32) == Int28::from(0x1000_0005u32)
 }
 
 #[test]
 fn integers_are_kept_modulo_two_to_the_28(rt: HostRuntime) {
-    assert!(rt; are_kept_modulo_two_to_the_28());
-}
-
-/// Whether a bundle has the name, the root and the flag that it is made of.
-fn holds_name_root_and_flag() -> bool {
-    let root = Resource::String(CowStr::Borrowed("x"));
-    let bundle = ResourceBundle::new(CowStr::Borrowed("root"), root, false);
-    let is_root = *bundle.root() == Resource::String(CowStr::Borrowed("x"));
-    is_root && bundle.name() == "root" && !bundle.is_locale_fallback_enabled
+    let minus_one = Int28::from(-1i32);
+    assert_eq!(rt; u32::from(minus_one), 268435455);
+    assert_eq!(rt; i32::from(minus_one), -1);
+    assert_eq!(rt; i32::from(Int28::from(0x0800_0000u32)), -134217728);
+    assert_eq!(rt; u32::from(Int28::from(0xffff_ffffu32)), 268435455);
+    assert_eq!(rt; Int28::from(5u32), Int28::from(0x1000_0005u32));
 }
 
 #[test]
-fn a_bundle_holds_name_root_and_flag(rt: HostRuntime) {
-    assert!(rt; holds_name_root_and_flag());
+fn a_bundle_holds_name_root_and_flag(rt: HostRuntime) -> Result<(), Fail> {
+    let root = Resource::String(CowStr::Borrowed("x"));
+    let bundle = ResourceBundle::new(CowStr::Borrowed("root"), root, false);
+    assert_eq!(rt; bundle.name(), "root");
+    assert!(rt; *bundle.root() == Resource::String(CowStr::Borrowed("x")));
+    assert!(rt; !bundle.is_locale_fallback_enabled);
+    Ok(())
 }
 
 #[test]

@@ -4,7 +4,8 @@
     flat_table.py BYTES [DISTINCT]
 
 Keys have 18 letters, strings 24. From DISTINCT keys on (2600 where none is given) the keys begin
-anew, so that later entries replace earlier ones: an earlier writer held at most 65535 units of strings.
+anew, so that later entries replace earlier ones: an earlier writer held at most 65535 units of
+strings.
 """
 import sys
 

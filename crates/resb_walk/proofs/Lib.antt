@@ -4,6 +4,7 @@ mod Entries
 mod Lift
 pub mod Meeting
 mod Waits
+mod Starts
 mod Chain
 mod Rounds
 mod Placed

@@ -16,7 +16,7 @@ use Rattle.std.specs.Char.Utf16.{utf16_lossy_chars}
 use Rattle.std.specs.List.{position_or_len}
 use Rattle.resb_format.specs.Bytes.{units_of, part}
 use Rattle.resb_format.specs.Strings.{text_at, string_at, before_zero, is_no_marker}
-use Rattle.resb_format.proofs.Spelled.{units_drop, units_length, units_at}
+use Rattle.resb_format.proofs.Spelled.{units_drop, units_length}
 use Rattle.resb_format.proofs.StringsIn.{ended}
 use Rattle.resb_walk.specs.Inner.Members.{text_of_bytes}
 use Rattle.resb_walk.proofs.Placed.{text_some}

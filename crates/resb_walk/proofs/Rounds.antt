@@ -1,11 +1,13 @@
 -- The rounds of the reader.
-use Rattle.std.proofs.Common.{inr, ℕ, List, [], ◌∷◌, ◌++◌, ◌≡◌, ◌≤◌, ◌+◌, refl, sym}
-use Rattle.std.proofs.Common.{subst, arith}
+use Rattle.std.proofs.Common.{inl, inr, ℕ, List, [], ◌∷◌, ◌++◌, ◌≡◌, ◌≤◌, ◌+◌, refl, sym}
+use Rattle.std.proofs.Common.{subst, arith, Ok, ◌*◌, ◌<◌, length, ap}
+use Rattle.std.proofs.lemmas.List.{length-append}
 use Rattle.resb_tree.specs.Tree.{Tree}
 use Rattle.resb_format.specs.Parts.{Parts}
 use Rattle.resb_format.specs.Content.{Member, word}
 use Rattle.resb_format.specs.Denotes.{Den, DenMember, Reaches, ReachesMember}
 use Rattle.resb_walk.specs.Inner.Frames.{Opened, Waits}
+use Rattle.resb_walk.specs.Inner.Rounds.{Enters}
 use Rattle.resb_walk.specs.Refusals.{DenotesNothing, Refuses, IsFault}
 use Rattle.resb_walk.specs.declared.frame.Open.{Open}
 use Rattle.resb_walk.specs.declared.frame.Waiting.{Waiting}
@@ -31,6 +33,16 @@ module _ {L T : Type 0} (lists : L → List Tree → Type 0)
         opened = subst (λ v. Opened lists tables p f v 0) (sym (same_word e)) h;
         paid = omega arith;
       })
+
+  -- to enter a member is a step towards the end
+  pub enters_falls : (g : Waiting L T) (x : Member) (o : Open L T) (w n : ℕ)
+      (fs gs : List (Waiting L T)) (left left' : ℕ)
+      → Enters lists tables p g x w n fs gs left left' (Ok o)
+      → 2 * left' + length gs < 2 * left + length fs
+  enters_falls g x o w n fs gs left left' (s, inl (same, put)) =
+      let long = ap length same in omega (arith, s, long)
+  enters_falls g x o w n fs gs left left' (s, inr (more, v, is_word, begun)) =
+      let long = ap length more in omega (arith, s, long, length-append fs (g ∷ []))
 
   module _ (root before : ℕ) (fs : List (Waiting L T)) (f : Open L T) (left : ℕ)
       (round : Round lists tables p root before fs f left) where
@@ -63,7 +75,7 @@ module _ {L T : Type 0} (lists : L → List Tree → Type 0)
         (left + (1 + round.inner)) x d h refl r)
 
     -- its member is put in
-    pub round_puts : (g : Open L T) (left' : ℕ)
+    round_puts : (g : Open L T) (left' : ℕ)
         → Opened lists tables p g round.place (round.inner + 1) → left' + 1 ≡ left
         → Round lists tables p root before fs g left'
     round_puts g left' h s =
@@ -78,7 +90,7 @@ module _ {L T : Type 0} (lists : L → List Tree → Type 0)
         }
 
     -- its member is a collection
-    pub round_begins : (g : Waiting L T) (i : Open L T) (w left' : ℕ) (gs : List (Waiting L T))
+    round_begins : (g : Waiting L T) (i : Open L T) (w left' : ℕ) (gs : List (Waiting L T))
         → gs ≡ fs ++ g ∷ [] → Waits lists tables p g round.place (word w) round.inner
         → Opened lists tables p i w 0 → left' + 1 ≡ left
         → Round lists tables p root before gs i left'
@@ -92,6 +104,19 @@ module _ {L T : Type 0} (lists : L → List Tree → Type 0)
           opened = o;
           paid = omega arith;
         })
+
+    -- its member is entered
+    pub round_enters : (g : Waiting L T) (x : Member) (o : Open L T) (gs : List (Waiting L T))
+        (left' : ℕ)
+        → Waits lists tables p g round.place x round.inner
+        → Enters lists tables p g x round.place round.inner fs gs left left' (Ok o)
+        → Round lists tables p root before gs o left'
+    round_enters g x o gs left' h (s, inl (same, put)) =
+        subst (λ hs. Round lists tables p root before hs o left') (sym same)
+        (round_puts o left' put s)
+    round_enters g x o gs left' h (s, inr (more, w, is_word, begun)) =
+        round_begins g o w left' gs more
+        (subst (λ m. Waits lists tables p g round.place m round.inner) is_word h) begun s
 
     -- it is the root, and ends
     pub round_last : (t : Tree) → fs ≡ [] → Den p round.place t (1 + round.inner)

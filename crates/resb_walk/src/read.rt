@@ -4,23 +4,40 @@
 //! The frames of the collections around are in `frames`, the outermost first. A round takes the
 //! next member from the innermost, or closes it. Each member is paid for as it begins, so that
 //! twice what is left, plus the number of frames, falls in each round.
-ghost use Rattle.std.specs.Prelude.{◌≡◌, ℕ, ◌+◌, IfErr};
+ghost use Rattle.std.specs.Prelude.{◌≡◌, ℕ, ◌+◌, IfOk, IfErr};
 ghost use Rattle.resb_format.specs.Content as at;
 ghost use Rattle.resb_format.specs.Denotes.{Den, Reaches, DenMember, ReachesMember};
 ghost use Rattle.resb_walk.specs.Files.{parts_in};
 ghost use Rattle.resb_walk.specs.Inner.Members.{member_of};
 ghost use Rattle.resb_walk.specs.Meets.{Meets, Blames};
 ghost use Rattle.resb_walk.specs.Refusals.{Answers};
-ghost use Rattle.resb_walk.specs.Inner.Rounds.{Reads};
+ghost use Rattle.resb_walk.specs.Inner.Frames.{Waits};
+ghost use Rattle.resb_walk.specs.Inner.Rounds.{Starts, Reads, Enters};
 
 use crate::count::Checked;
-use crate::file::{File, Leaf, Member, Standing};
-use crate::frame::{Open, Progress, Read, advance, put};
+use crate::file::{File, Member, Standing};
+use crate::frame::{Open, Progress, Read, Waiting, advance, put};
 use crate::make::Make;
 use crate::room::can_be_paid;
 use crate::walk::Walk;
 use resb_format::ReadingError;
+use resb_tree::NoMemory;
 use std::alloc::Global;
+
+/// Makes a leaf, or begins a collection.
+#[inline(always)]
+fn start<'a, M: Make<'a>>(
+    alloc: Global,
+    standing: Standing<'a>,
+) -> Result<Read<'a, M, M::List, M::Table>, NoMemory>
+    ensures { IfOk result (Starts M.is M.lists M.tables standing.entry) }
+{
+    Ok(match standing {
+        Standing::Leaf(leaf) => Read::Made(M::leaf(alloc, leaf)?),
+        Standing::List(rest) => Read::Begun(Open::List(rest, M::begin_list(alloc, rest.len())?)),
+        Standing::Table(rest) => Read::Begun(Open::Table(rest, M::begin_table(alloc))),
+    })
+}
 
 /// Reads a member up to its own members, and pays for it.
 #[inline(always)]
@@ -35,20 +52,35 @@ fn begin<'a, 'm, M: Make<'a>>(
     ensures meets { IfErr result (Blames (Meets (parts_in file.entry) (member_of member))) }
 {
     walk.pay()?;
-    match member {
-        Member::Unit(unit) => {
-            let text = file.text(unit as usize)?;
-            Ok(Read::Made(M::leaf(alloc, Leaf::Text(text))?))
-        }
-        Member::Word(word) => match file.standing(word)? {
-            Standing::Leaf(leaf) => Ok(Read::Made(M::leaf(alloc, leaf)?)),
-            Standing::List(rest) => Ok(Read::Begun(Open::List(
-                rest,
-                M::begin_list(alloc, rest.len())?,
-            ))),
-            Standing::Table(rest) => Ok(Read::Begun(Open::Table(rest, M::begin_table(alloc)))),
-        },
-    }
+    let standing = file.member(member)?;
+    Ok(start::<M>(alloc, standing)?)
+}
+
+/// Reads a member that a collection waits for. One that has members of its own is the innermost
+/// collection then, and the other stands among those around it.
+#[inline(always)]
+fn enter<'a, 'm, M: Make<'a>>(
+    alloc: Global,
+    file: File<'a>,
+    member: Member,
+    waiting: Waiting<'a, M::List, M::Table>,
+    frames: &mut Vec<Waiting<'a, M::List, M::Table>>,
+    walk: &mut Walk,
+) -> Result<Open<'a, M::List, M::Table>, ReadingError<'m>>
+    ensures enters { let p = parts_in file.entry in let m = member_of member in
+        (w n : ℕ) → Waits M.lists M.tables p waiting.entry w m n
+        → Enters M.lists M.tables p waiting.entry m w n frames.old.items frames.new.items
+        walk.old walk.new result }
+    ensures meets { let p = parts_in file.entry in let m = member_of member in
+        (w n : ℕ) → Waits M.lists M.tables p waiting.entry w m n
+        → IfErr result (Blames (Meets p m)) }
+{
+    let inner = match begin::<M>(alloc, file, member, walk)? {
+        Read::Made(item) => return put::<M>(waiting, item),
+        Read::Begun(inner) => inner,
+    };
+    frames.push(waiting)?;
+    Ok(inner)
 }
 
 /// Reads the string at a unit of the 16-bit block.
@@ -80,29 +112,21 @@ pub fn read_word<'a, 'm, M: Make<'a>>(
         (Reaches (parts_in file.entry) word) walk.old walk.new result }
     ensures meets { IfErr result (Blames (Meets (parts_in file.entry) (at.word word))) }
 {
-    let mut frames = Vec::new(alloc);
     let mut frame = match begin::<M>(alloc, file, Member::Word(word), walk)? {
         Read::Made(made) => return Ok(made),
         Read::Begun(frame) => frame,
     };
+    let mut frames = Vec::new(alloc);
     'rounds: loop {
-        match advance::<M>(file, frame)? {
-            Progress::Wants(member, waiting) => match begin::<M>(alloc, file, member, walk)? {
-                Read::Made(item) => {
-                    frame = put::<M>(waiting, item)?;
-                }
-                Read::Begun(inner) => {
-                    frames.push(waiting)?;
-                    frame = inner;
-                }
-            },
-            Progress::Done(item) => {
-                let Some(waiting) = frames.pop() else {
-                    return Ok(item);
-                };
-                frame = put::<M>(waiting, item)?;
+        frame = match advance::<M>(file, frame)? {
+            Progress::Wants(member, waiting) => {
+                enter::<M>(alloc, file, member, waiting, &mut frames, walk)?
             }
-        }
+            Progress::Done(item) => match frames.pop() {
+                Some(waiting) => put::<M>(waiting, item)?,
+                None => return Ok(item),
+            },
+        };
     }
 }
 

@@ -12,11 +12,12 @@ ghost use Rattle.resb_format.specs.Error as reading;
 ghost use Rattle.resb_walk.specs.Damage as damage;
 ghost use Rattle.resb_walk.specs.Damage.{Says, text_damage, key_damage, content_damage};
 ghost use Rattle.resb_walk.specs.Files.{parts_in};
-ghost use Rattle.resb_walk.specs.Inner.Members.{content_of, text_of_bytes};
+ghost use Rattle.resb_walk.specs.Inner.Members.{content_of, text_of_bytes, member_of};
+ghost use Rattle.resb_walk.specs.Inner.Members.{member_content, member_damage};
 ghost use Rattle.resb_walk.specs.Refusals.{IsFault};
 
 use crate::faults::{key_not_utf8, key_past_end, key_unterminated, not_utf16, past_end};
-use crate::file::{File, Leaf, Members, Pairs, Positions, Standing};
+use crate::file::{File, Leaf, Member, Members, Pairs, Positions, Standing};
 use crate::types::readable;
 use crate::units::is_well_formed;
 use resb_format::bytes::{cut_at, some_bytes, some_unit, some_units, some_word, some_words};
@@ -113,6 +114,24 @@ impl<'a> File<'a> {
             (ResourceReprType::Int, _) => Ok(Standing::Leaf(Leaf::Integer(word))),
             (kind, 0) => Ok(empty(kind)),
             (kind, value) => self.placed(kind, value as usize),
+        }
+    }
+
+    /// What stands at a member.
+    #[inline(always)]
+    #[tactic(auto, unfolding(crate::specs::Inner::Members::member_content))]
+    pub fn member(self, member: Member) -> Result<Standing<'a>, BinaryDeserializerError>
+        ensures stands { let p = parts_in self.entry in let m = member_of member in
+            MatchResult result (λ s. member_content p m ≡ Some (content_of s))
+            (λ e. (member_content p m ≡ None) × IsFault e) }
+        ensures says { IfErr result (Says (member_damage (parts_in self.entry) (member_of member))) }
+    {
+        match member {
+            Member::Word(word) => self.standing(word),
+            Member::Unit(unit) => match self.text(usize::from(unit)) {
+                Ok(text) => Ok(Standing::Leaf(Leaf::Text(text))),
+                Err(error) => Err(error),
+            },
         }
     }
 

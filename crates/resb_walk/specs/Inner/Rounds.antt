@@ -1,19 +1,32 @@
 -- What the rounds of a reader answer.
-use Rattle.std.specs.Prelude.{ℕ, List, Result, Ok, Err, ◌≡◌, ◌≤◌, ◌+◌}
+use Rattle.std.specs.Prelude.{ℕ, List, [], ◌∷◌, ◌++◌, Result, Ok, Err, ◌≡◌, ◌⊎◌, ◌≤◌, ◌+◌}
 use Rattle.resb_tree.specs.Tree.{Tree}
 use Rattle.resb_format.specs.Parts.{Parts}
 use Rattle.resb_format.specs.Content as at
 use Rattle.resb_format.specs.Denotes.{Den, DenMember, Reaches, ReachesMember}
-use Rattle.resb_walk.specs.Inner.Members.{member_of}
+use Rattle.resb_walk.specs.Inner.Members.{member_of, leaf_tree}
 use Rattle.resb_walk.specs.Inner.Frames.{Opened, Waits}
 use Rattle.resb_walk.specs.Refusals.{IsFault, DenotesNothing, Refuses}
 use Rattle.resb_format.specs.Error.{IsWantOfMemory}
 use Rattle.resb_format.specs.declared.error.ReadingError.{ReadingError}
+use Rattle.resb_walk.specs.declared.file.Leaf.{Leaf}
+use Rattle.resb_walk.specs.declared.file.Standing.{Standing}
+use Rattle.resb_walk.specs.declared.file.Standing.TheVariants as stands
 use Rattle.resb_walk.specs.declared.frame.Open.{Open}
+use Rattle.resb_walk.specs.declared.frame.Open.TheVariants as open_
 use Rattle.resb_walk.specs.declared.frame.Progress.{Progress}
 use Rattle.resb_walk.specs.declared.frame.Progress.TheVariants.{Wants, Done}
 use Rattle.resb_walk.specs.declared.frame.Read.{Read}
 use Rattle.resb_walk.specs.declared.frame.Read.TheVariants.{Made, Begun}
+use Rattle.resb_walk.specs.declared.frame.Waiting.{Waiting}
+
+module _ {X L T : Type 0} (is : X → Tree → Type 0) (lists : L → List Tree → Type 0)
+    (tables : T → List (List ℕ × Tree) → Type 0) where
+  -- a leaf is made, or a collection begun whose members are all still to come
+  abbrev pub Starts : Standing → Read X L T → Type 0
+  Starts s (Made x) = (l : Leaf) × (s ≡ stands.Leaf l) × is x (leaf_tree l)
+  Starts s (Begun (open_.List rest made)) = (s ≡ stands.List rest) × lists made []
+  Starts s (Begun (open_.Table rest made)) = (s ≡ stands.Table rest) × tables made []
 
 module _ {X L T : Type 0} (is : X → Tree → Type 0) (lists : L → List Tree → Type 0)
     (tables : T → List (List ℕ × Tree) → Type 0) (p : Parts) where
@@ -37,3 +50,13 @@ module _ {L T : Type 0} (lists : L → List Tree → Type 0)
   abbrev pub Puts : ℕ → ℕ → Result (Open L T) ReadingError → Type 0
   Puts w n (Ok f) = Opened lists tables p f w n
   Puts w n (Err e) = IsWantOfMemory e
+
+  -- the member that f waited for is paid for: it is put in, or it is the innermost collection
+  abbrev pub Enters : Waiting L T → at.Member → ℕ → ℕ → List (Waiting L T) → List (Waiting L T) → ℕ
+      → ℕ → Result (Open L T) ReadingError → Type 0
+  Enters f m w n fs fs' left left' (Ok o) =
+      (left' + 1 ≡ left)
+      × ((fs' ≡ fs) × Opened lists tables p o w (n + 1)
+      ⊎ (fs' ≡ fs ++ f ∷ []) × (v : ℕ) × (m ≡ at.word v) × Opened lists tables p o v 0)
+  Enters f m w n fs fs' left left' (Err e) =
+      (left' ≤ left) × Refuses (DenMember p m) (ReachesMember p m) left e

@@ -8,7 +8,7 @@ use Rattle.resb_walk.specs.Inner.Members.{member_of}
 use Rattle.resb_walk.proofs.Lift.{word_den, word_refused}
 use Rattle.resb_walk.proofs.Meeting.{waits_meets, round_meets}
 use Rattle.resb_walk.proofs.Rounds.{round_first, round_falls, round_stuck, round_refused}
-use Rattle.resb_walk.proofs.Rounds.{round_puts, round_begins, round_last, round_outer, round_closes}
+use Rattle.resb_walk.proofs.Rounds.{round_enters, enters_falls, round_last, round_outer, round_closes}
 use Rattle.resb_walk.proofs.read.read_word.Goals as goal
 
 pub returns-in_err-made-clause-answers : goal.returns-in_err-made-clause-answers
@@ -45,14 +45,14 @@ returns-in_err-member-clause-answers g c =
           c.rounds.frames.items c.rounds.frame c.rounds.walk i c.in_err-member.field-0.0 h.0 h.1,
     )
 
-pub returns-in_err-item-in-Wants-clause-answers : goal.returns-in_err-item-in-Wants-clause-answers
-returns-in_err-item-in-Wants-clause-answers g c =
-    let e = err_from_is_err_and c.from_residual-in_err-item-in-Wants.result
-    c.from_residual-in_err-item-in-Wants.ensures.1 in
+pub returns-in_err-frame-in-Wants-clause-answers : goal.returns-in_err-frame-in-Wants-clause-answers
+returns-in_err-frame-in-Wants-clause-answers g c =
+    let e = err_from_is_err_and c.from_residual-in_err-frame-in-Wants.result
+    c.from_residual-in_err-frame-in-Wants.ensures.1 in
     let i = c.rounds.invariant in
     let waits = rw c.in-Wants.is at c.in_ok-member.ensures.steps i.place i.inner i.opened in
-    let h = c.in_err-item-in-Wants.ensures.reads in
-    let le : c.begin-in-Wants.new.walk ≤ c.rounds.walk = h.0 in
+    let h = c.in_err-frame-in-Wants.ensures.enters i.place i.inner waits in
+    let le : c.enter.new.walk ≤ c.rounds.walk = h.0 in
     let falls : c.rounds.walk ≤ c.args.walk.now = round_falls g.M.Make.lists g.M.Make.tables
     (parts_in c.args.file) c.args.word c.args.walk.now c.rounds.frames.items c.rounds.frame
     c.rounds.walk i in
@@ -60,65 +60,47 @@ returns-in_err-item-in-Wants-clause-answers g c =
       omega arith,
       round_refused g.M.Make.lists g.M.Make.tables (parts_in c.args.file) c.args.word
           c.args.walk.now c.rounds.frames.items c.rounds.frame c.rounds.walk i c.in-Wants.waiting
-          (member_of c.in-Wants.member) c.in_err-item-in-Wants.field-0.0 waits h.1,
+          (member_of c.in-Wants.member) c.in_err-frame-in-Wants.field-0.0 waits h.1,
     )
 
-pub returns-in_err-frame-in-Made-2-clause-answers
-    : goal.returns-in_err-frame-in-Made-2-clause-answers
-returns-in_err-frame-in-Made-2-clause-answers g c =
-    let e = err_from_is_err_and c.from_residual-in_err-frame-in-Made-2.result
-    c.from_residual-in_err-frame-in-Made-2.ensures.1 in
+pub rounds-smaller-in_ok-frame-in-Wants : goal.rounds-smaller-in_ok-frame-in-Wants
+rounds-smaller-in_ok-frame-in-Wants g c =
     let i = c.rounds.invariant in
     let waits = rw c.in-Wants.is at c.in_ok-member.ensures.steps i.place i.inner i.opened in
-    let h = rw c.in-Made-2.is at c.in_ok-item-in-Wants.ensures.reads in
-    let memory = c.in_err-frame-in-Made-2.ensures (parts_in c.args.file) i.place i.inner 1
-    (member_of c.in-Wants.member) h.0 waits h.1 h.2 in
-    let paid : c.begin-in-Wants.new.walk + 1 ≡ c.rounds.walk = h.3 in
-    let falls : c.rounds.walk ≤ c.args.walk.now = round_falls g.M.Make.lists g.M.Make.tables
-    (parts_in c.args.file) c.args.word c.args.walk.now c.rounds.frames.items c.rounds.frame
-    c.rounds.walk i in
-    rw (e.1, e.2) (omega arith, inl memory)
+    let h = c.in_ok-frame-in-Wants.ensures.enters i.place i.inner waits in
+    enters_falls g.M.Make.lists g.M.Make.tables (parts_in c.args.file) c.in-Wants.waiting
+    (member_of c.in-Wants.member) c.in_ok-frame-in-Wants.frame i.place i.inner
+    c.rounds.frames.items c.enter.new.frames.items c.rounds.walk c.enter.new.walk h
 
-pub rounds-preserved-in-Made-2 : goal.rounds-preserved-in-Made-2
-rounds-preserved-in-Made-2 g c =
+pub rounds-preserved-in_ok-frame-in-Wants : goal.rounds-preserved-in_ok-frame-in-Wants
+rounds-preserved-in_ok-frame-in-Wants g c =
     let i = c.rounds.invariant in
     let waits = rw c.in-Wants.is at c.in_ok-member.ensures.steps i.place i.inner i.opened in
-    let h = rw c.in-Made-2.is at c.in_ok-item-in-Wants.ensures.reads in
-    let next = c.in_ok-frame-in-Made-2.ensures (parts_in c.args.file) i.place i.inner 1
-    (member_of c.in-Wants.member) h.0 waits h.1 h.2 in
-    round_puts g.M.Make.lists g.M.Make.tables (parts_in c.args.file) c.args.word c.args.walk.now
-    c.rounds.frames.items c.rounds.frame c.rounds.walk i c.in_ok-frame-in-Made-2.frame
-    c.begin-in-Wants.new.walk next h.3
+    let h = c.in_ok-frame-in-Wants.ensures.enters i.place i.inner waits in
+    round_enters g.M.Make.lists g.M.Make.tables (parts_in c.args.file) c.args.word c.args.walk.now
+    c.rounds.frames.items c.rounds.frame c.rounds.walk i c.in-Wants.waiting
+    (member_of c.in-Wants.member) c.in_ok-frame-in-Wants.frame c.enter.new.frames.items
+    c.enter.new.walk waits h
 
-pub rounds-preserved-in-Begun-2 : goal.rounds-preserved-in-Begun-2
-rounds-preserved-in-Begun-2 g c =
-    let i = c.rounds.invariant in
-    let waits = rw c.in-Wants.is at c.in_ok-member.ensures.steps i.place i.inner i.opened in
-    let h = rw c.in-Begun-2.is at c.in_ok-item-in-Wants.ensures.reads in
-    round_begins g.M.Make.lists g.M.Make.tables (parts_in c.args.file) c.args.word c.args.walk.now
-    c.rounds.frames.items c.rounds.frame c.rounds.walk i c.in-Wants.waiting c.in-Begun-2.inner h.0
-    c.begin-in-Wants.new.walk c.push.new.self.items c.in_ok-push-in-Begun-2.ensures.items
-    (rw h.1 at waits) h.2 h.3
-
-pub returns-in_default-clause-answers : goal.returns-in_default-clause-answers
-returns-in_default-clause-answers g c =
+pub returns-in-None-clause-answers : goal.returns-in-None-clause-answers
+returns-in-None-clause-answers g c =
     let i = c.rounds.invariant in
     let h = rw c.in-Done.is at c.in_ok-member.ensures.steps i.place i.inner i.opened in
-    let empty : c.rounds.frames.items ≡ [] = grind (arith, c.in_default.ensures.cases) in
+    let empty : c.rounds.frames.items ≡ [] = grind (arith, c.in-None.ensures.cases) in
     let r = round_last g.M.Make.lists g.M.Make.tables (parts_in c.args.file) c.args.word
     c.args.walk.now c.rounds.frames.items c.rounds.frame c.rounds.walk i h.0 empty h.1 in
     (h.0, r.0, r.1, h.2, r.2)
 
-pub returns-in_err-frame-in-Done-clause-answers : goal.returns-in_err-frame-in-Done-clause-answers
-returns-in_err-frame-in-Done-clause-answers g c =
-    let e = err_from_is_err_and c.from_residual-in_err-frame-in-Done.result
-    c.from_residual-in_err-frame-in-Done.ensures.1 in
+pub returns-in_err-frame-in-Some-clause-answers : goal.returns-in_err-frame-in-Some-clause-answers
+returns-in_err-frame-in-Some-clause-answers g c =
+    let e = err_from_is_err_and c.from_residual-in_err-frame-in-Some.result
+    c.from_residual-in_err-frame-in-Some.ensures.1 in
     let i = c.rounds.invariant in
     let h = rw c.in-Done.is at c.in_ok-member.ensures.steps i.place i.inner i.opened in
     let outer = round_outer g.M.Make.lists g.M.Make.tables (parts_in c.args.file) c.args.word
     c.args.walk.now c.rounds.frames.items c.rounds.frame c.rounds.walk i c.in-Some.waiting
     c.pop.new.self.items c.in-Some.ensures.items in
-    let memory = c.in_err-frame-in-Done.ensures (parts_in c.args.file) outer.place outer.inner
+    let memory = c.in_err-frame-in-Some.ensures (parts_in c.args.file) outer.place outer.inner
     (1 + i.inner) (word i.place) h.0 outer.waits (den_word h.1) h.2 in
     rw (
       e.1,
@@ -136,11 +118,11 @@ rounds-preserved g c =
     let outer = round_outer g.M.Make.lists g.M.Make.tables (parts_in c.args.file) c.args.word
     c.args.walk.now c.rounds.frames.items c.rounds.frame c.rounds.walk i c.in-Some.waiting
     c.pop.new.self.items c.in-Some.ensures.items in
-    let next = c.in_ok-frame-in-Done.ensures (parts_in c.args.file) outer.place outer.inner
+    let next = c.in_ok-frame-in-Some.ensures (parts_in c.args.file) outer.place outer.inner
     (1 + i.inner) (word i.place) h.0 outer.waits (den_word h.1) h.2 in
     round_closes g.M.Make.lists g.M.Make.tables (parts_in c.args.file) c.args.word c.args.walk.now
     c.rounds.frames.items c.rounds.frame c.rounds.walk i c.in-Some.waiting c.pop.new.self.items
-    c.in_ok-frame-in-Done.frame outer next
+    c.in_ok-frame-in-Some.frame outer next
 
 pub returns-in_err-made-clause-meets : goal.returns-in_err-made-clause-meets
 returns-in_err-made-clause-meets g c =
@@ -156,37 +138,27 @@ returns-in_err-member-clause-meets g c =
     rw (e.1, e.2) (λ _. round_meets (parts_in c.args.file) g.M.Make.lists g.M.Make.tables
     c.args.word c.args.walk.now c.rounds.frames.items c.rounds.frame c.rounds.walk i _ met)
 
-pub returns-in_err-item-in-Wants-clause-meets : goal.returns-in_err-item-in-Wants-clause-meets
-returns-in_err-item-in-Wants-clause-meets g c =
-    let e = err_from_is_err_and c.from_residual-in_err-item-in-Wants.result
-    c.from_residual-in_err-item-in-Wants.ensures.1 in
+pub returns-in_err-frame-in-Wants-clause-meets : goal.returns-in_err-frame-in-Wants-clause-meets
+returns-in_err-frame-in-Wants-clause-meets g c =
+    let e = err_from_is_err_and c.from_residual-in_err-frame-in-Wants.result
+    c.from_residual-in_err-frame-in-Wants.ensures.1 in
     let i = c.rounds.invariant in
     let waits = rw c.in-Wants.is at c.in_ok-member.ensures.steps i.place i.inner i.opened in
     rw (e.1, e.2) (λ h. round_meets (parts_in c.args.file) g.M.Make.lists g.M.Make.tables
     c.args.word c.args.walk.now c.rounds.frames.items c.rounds.frame c.rounds.walk i _
     (waits_meets (parts_in c.args.file) g.M.Make.lists g.M.Make.tables c.in-Wants.waiting i.place
-    i.inner (member_of c.in-Wants.member) _ waits (c.in_err-item-in-Wants.ensures.meets h)))
+    i.inner (member_of c.in-Wants.member) _ waits
+    (c.in_err-frame-in-Wants.ensures.meets i.place i.inner waits h)))
 
-pub returns-in_err-frame-in-Made-2-clause-meets : goal.returns-in_err-frame-in-Made-2-clause-meets
-returns-in_err-frame-in-Made-2-clause-meets g c =
-    let e = err_from_is_err_and c.from_residual-in_err-frame-in-Made-2.result
-    c.from_residual-in_err-frame-in-Made-2.ensures.1 in
-    let i = c.rounds.invariant in
-    let waits = rw c.in-Wants.is at c.in_ok-member.ensures.steps i.place i.inner i.opened in
-    let h = rw c.in-Made-2.is at c.in_ok-item-in-Wants.ensures.reads in
-    let memory = c.in_err-frame-in-Made-2.ensures (parts_in c.args.file) i.place i.inner 1
-    (member_of c.in-Wants.member) h.0 waits h.1 h.2 in
-    rw (e.1, e.2) (λ f. absurd (f.not_memory memory.kind_is))
-
-pub returns-in_err-frame-in-Done-clause-meets : goal.returns-in_err-frame-in-Done-clause-meets
-returns-in_err-frame-in-Done-clause-meets g c =
-    let e = err_from_is_err_and c.from_residual-in_err-frame-in-Done.result
-    c.from_residual-in_err-frame-in-Done.ensures.1 in
+pub returns-in_err-frame-in-Some-clause-meets : goal.returns-in_err-frame-in-Some-clause-meets
+returns-in_err-frame-in-Some-clause-meets g c =
+    let e = err_from_is_err_and c.from_residual-in_err-frame-in-Some.result
+    c.from_residual-in_err-frame-in-Some.ensures.1 in
     let i = c.rounds.invariant in
     let h = rw c.in-Done.is at c.in_ok-member.ensures.steps i.place i.inner i.opened in
     let outer = round_outer g.M.Make.lists g.M.Make.tables (parts_in c.args.file) c.args.word
     c.args.walk.now c.rounds.frames.items c.rounds.frame c.rounds.walk i c.in-Some.waiting
     c.pop.new.self.items c.in-Some.ensures.items in
-    let memory = c.in_err-frame-in-Done.ensures (parts_in c.args.file) outer.place outer.inner
+    let memory = c.in_err-frame-in-Some.ensures (parts_in c.args.file) outer.place outer.inner
     (1 + i.inner) (word i.place) h.0 outer.waits (den_word h.1) h.2 in
     rw (e.1, e.2) (λ f. absurd (f.not_memory memory.kind_is))

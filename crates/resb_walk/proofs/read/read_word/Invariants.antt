@@ -1,4 +1,4 @@
-use Rattle.std.proofs.Common.{◌+◌, ◌*◌, vec_len}
+use Rattle.std.proofs.Common.{◌+◌, ◌*◌, length}
 use Rattle.resb_walk.specs.Files.{parts_in}
 use Rattle.resb_walk.proofs.Chain.{Round}
 use Rattle.resb_walk.proofs.read.read_word.Given as goal
@@ -10,4 +10,4 @@ invariant-rounds g l =
 
 -- A round pays for a member, or closes a frame.
 abbrev pub decreases-rounds : goal.decreases-rounds
-decreases-rounds g l = 2 * l.walk + vec_len l.frames
+decreases-rounds g l = 2 * l.walk + length l.frames.items

@@ -1,4 +1,4 @@
-use Rattle.std.proofs.Common.{◌<◌, arith}
+use Rattle.std.proofs.Common.{arith}
 use Rattle.resb_format.specs.Bytes.{units_of}
 use Rattle.resb_walk.proofs.Surrogates.{four_plain}
 use Rattle.resb_walk.proofs.units.behind_plain.Goals as goal

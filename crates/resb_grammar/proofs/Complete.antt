@@ -25,7 +25,7 @@ use Rattle.resb_grammar.specs.Machine.{leave, next, At}
 use Rattle.resb_grammar.proofs.Lex.{neither, text_class, number_class, open_class}
 use Rattle.resb_grammar.proofs.Lex.{close_class, comma_class, type_class}
 use Rattle.resb_grammar.specs.Inner.Half.{half}
-use Rattle.resb_grammar.proofs.Half.{half-pairs, key_place-pairs, half-group, no_comma}
+use Rattle.resb_grammar.proofs.HalfLemmas.{half-pairs, key_place-pairs, half-group, no_comma}
 use Rattle.resb_grammar.proofs.Moves.{further, byte_class, class_text, class_number}
 use Rattle.resb_grammar.proofs.HeaderPath.{header_at}
 

@@ -1,7 +1,7 @@
 -- For crates above: those that are `pub`.
 pub mod ByteRunsLemmas
 pub mod DistinctKeys
-pub mod Half
+pub mod HalfLemmas
 pub mod Moves
 pub mod Lex
 pub mod LexLemmas

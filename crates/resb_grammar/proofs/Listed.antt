@@ -5,7 +5,7 @@ use Rattle.std.proofs.Common.{arith}
 use Rattle.std.specs.Prelude.{◌||◌, not, filter, Contains, nat_eq, cond}
 use Rattle.std.specs.Cmp.Lexicographic.{pointwise, slice_cmp, bytes_decides}
 use Rattle.std.specs.Ordering.{nat_cmp, match_ordering}
-use Rattle.std.proofs.lemmas.Bool.{false≢true}
+use Rattle.std.proofs.lemmas.Bool.{false≢true, or_left, or_right}
 use Rattle.resb_tree.specs.Tree.{Tree, Entries, no_entries, entry, trees_of, put, put_all}
 use Rattle.resb_tree.specs.Keys.{is_key, is_key_in, is_key_of, same_text}
 use Rattle.resb_grammar.specs.Items.{Term, string_term, group_term, Item, term_tree}
@@ -62,14 +62,6 @@ here_or k l t es h = ⊎_elim
     (λ (w : is_key_of k es ≡ true). inr w)
     (either (same_text k l || is_key k t) (is_key_of k es) h)
 
-or_first : (a b : Bool) → a ≡ true → (a || b) ≡ true
-or_first true b h = refl
-or_first false b h = absurd (false≢true h)
-
-or_later : (a b : Bool) → b ≡ true → (a || b) ≡ true
-or_later true b h = refl
-or_later false b h = h
-
 -- a key of the map after a put is the key put, a key of its tree, or was one before
 abbrev AfterPut : List ℕ → List ℕ → Tree → Entries → Type 0
 AfterPut k l t es = ((k ≡ l) ⊎ (is_key k t ≡ true)) ⊎ (is_key_of k es ≡ true)
@@ -88,19 +80,19 @@ put_key k l t (entry m u es) h =
     replaced : ((k ≡ m) ⊎ (is_key k t ≡ true)) ⊎ (is_key_of k es ≡ true)
         → AfterPut k l t (entry m u es)
     replaced (inl (inl e)) =
-        inr (or_first _ (is_key_of k es)
-        (or_first (same_text k m) (is_key k u) ((bytes_decides k m).1 e)))
+        inr (or_left _ (is_key_of k es)
+        (or_left (same_text k m) (is_key k u) ((bytes_decides k m).1 e)))
     replaced (inl (inr e)) = inl (inr e)
-    replaced (inr e) = inr (or_later (same_text k m || is_key k u) _ e)
+    replaced (inr e) = inr (or_right (same_text k m || is_key k u) _ e)
 
     later : AfterPut k l t es → AfterPut k l t (entry m u es)
     later (inl e) = inl e
-    later (inr e) = inr (or_later (same_text k m || is_key k u) _ e)
+    later (inr e) = inr (or_right (same_text k m || is_key k u) _ e)
 
     kept : (is_key_of k (put l t es) ≡ true → AfterPut k l t es)
         → ((same_text k m || is_key k u) ≡ true) ⊎ (is_key_of k (put l t es) ≡ true)
         → AfterPut k l t (entry m u es)
-    kept f (inl e) = inr (or_first _ (is_key_of k es) e)
+    kept f (inl e) = inr (or_left _ (is_key_of k es) e)
     kept f (inr e) = later (f e)
 
 put_all_key : (k : List ℕ) (ps : List (List ℕ × Tree)) (es : Entries)
@@ -168,9 +160,9 @@ trees_listed k (x ∷ xs) l e = ⊎_elim
         ⊎_elim (λ (w : is_key k t ≡ true). inr w) (λ (w : false ≡ true). absurd (false≢true w))
         (either (is_key k t) false e)
     last_tree k (u ∷ ts) t e = ⊎_elim
-        (λ (w : is_key k u ≡ true). inl (or_first _ (is_key_in k (trees_of ts)) w))
+        (λ (w : is_key k u ≡ true). inl (or_left _ (is_key_in k (trees_of ts)) w))
         (λ (w : is_key_in k (trees_of (ts ++ t ∷ [])) ≡ true). ⊎_elim
-        (λ (v : is_key_in k (trees_of ts) ≡ true). inl (or_later (is_key k u) _ v))
+        (λ (v : is_key_in k (trees_of ts) ≡ true). inl (or_right (is_key k u) _ v))
         (λ (v : is_key k t ≡ true). inr v)
         (last_tree k ts t w))
         (either (is_key k u) (is_key_in k (trees_of (ts ++ t ∷ []))) e)

@@ -1,8 +1,8 @@
 -- What a token says of the text, and how a token leads on.
 use Rattle.std.proofs.Common.{◌≡◌, ℕ, suc, Bool, true, false, List, refl, sym, ◌∙◌, ap, subst}
 use Rattle.std.proofs.Common.{arith, Some, None}
-use Rattle.std.specs.Prelude.{◌||◌, ◌==◌, cond, slice_index}
-use Rattle.std.proofs.lemmas.Bool.{false≢true}
+use Rattle.std.specs.Prelude.{◌==◌, cond, slice_index}
+use Rattle.std.proofs.lemmas.Bool.{false≢true, or_right}
 use Rattle.std.proofs.lemmas.Bool.Decides.{nat_tests}
 use Rattle.resb_grammar.specs.Ascii as ascii
 use Rattle.resb_grammar.specs.ByteRuns.{is_word, is_digit, is_number_start}
@@ -37,10 +37,6 @@ root_colon text from to false (no_fallback_type i w n e) = w.colon
 if_true : (b : Bool) (k l : Class) → b ≡ true → cond b k l ≡ k
 if_true true k l h = refl
 if_true false k l h = absurd (false≢true h)
-
-or_right : (b c : Bool) → c ≡ true → (b || c) ≡ true
-or_right true c h = refl
-or_right false c h = h
 
 -- a string's first byte, where no number is looked for
 pub class_text : (text : List ℕ) (from to : ℕ) (s : List ℕ) → Text text from to s

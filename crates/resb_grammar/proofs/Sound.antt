@@ -26,7 +26,7 @@ use Rattle.resb_grammar.specs.Machine.{in_vector, finished, is_key_place, when, 
 use Rattle.resb_grammar.specs.Machine.{with_term, within, begun_as, next_in_vector}
 use Rattle.resb_grammar.specs.Machine.{in_body, next, TokenStep, Path, begun, went, At}
 use Rattle.resb_grammar.specs.Inner.Half.{half}
-use Rattle.resb_grammar.proofs.Half.{pairs-half, group-half}
+use Rattle.resb_grammar.proofs.HalfLemmas.{pairs-half, group-half}
 use Rattle.resb_grammar.specs.Token.{Means}
 use Rattle.resb_grammar.proofs.Moves.{move_means}
 use Rattle.resb_grammar.proofs.Complete.{MayOpen, open_at}

@@ -6,7 +6,7 @@ pub mod Meeting
 mod Waits
 mod Starts
 mod Chain
-mod Rounds
+mod RoundsLemmas
 mod Placed
 mod Made
 mod Surrogates

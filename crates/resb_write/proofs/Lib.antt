@@ -1,13 +1,13 @@
 -- For crates above: those that are `pub`.
 mod Keys
 mod Distinct
-mod Faults
+mod FaultsLemmas
 mod Gathering
 mod Room
 mod Known
 mod Heads
 mod Blocks
-mod Files
+mod FilesLemmas
 mod Refusals
 pub mod Listed
 mod Examples

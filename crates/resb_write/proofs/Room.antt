@@ -18,7 +18,7 @@ use Rattle.resb_write.specs.KeyBlock.{key_bytes, padded, used, is_among}
 use Rattle.resb_write.specs.PlainSize.{held_size, resources_size, list_size}
 use Rattle.resb_write.specs.Faults.{is_over_32_bits}
 use Rattle.resb_write.specs.Inner.Sizes.{size_fault}
-use Rattle.resb_write.proofs.Faults.{no_size_fault}
+use Rattle.resb_write.proofs.FaultsLemmas.{no_size_fault}
 
 texts_cons : (s : List ℕ) (ss : List (List ℕ))
     → texts_size (s ∷ ss) ≡ 16 + length (units s) + texts_size ss

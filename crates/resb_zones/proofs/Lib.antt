@@ -3,4 +3,4 @@ mod Costs
 mod Steps
 mod Fronts
 mod Takings
-mod Zones
+mod ZonesLemmas

@@ -2,7 +2,7 @@
 use Rattle.std.proofs.Common.{◌+◌, ◌^◌, ◌≤◌, sym, ◌∙◌, subst, arith}
 use Rattle.resb_write.specs.PlainSize.{list_size, resources_size}
 use Rattle.resb_write.specs.Inner.Sizes.{IsTooMuch, at_fault, too_large}
-use Rattle.resb_write.proofs.Faults.{long_fault, over_fault, no_size_fault}
+use Rattle.resb_write.proofs.FaultsLemmas.{long_fault, over_fault, no_size_fault}
 use Rattle.resb_write.proofs.limits.check_sizes.Goals as goal
 
 pub returns-in-Some-clause-err : goal.returns-in-Some-clause-err

@@ -16,7 +16,7 @@ use Rattle.resb_write.specs.Inner.Files.{file_of}
 use Rattle.resb_write.proofs.Room.{units_room, bytes_room, used_room, length-padded, pool_room}
 use Rattle.resb_write.proofs.Known.{exact, all_known}
 use Rattle.resb_write.proofs.Blocks.{walk_long}
-use Rattle.resb_write.proofs.Files.{largest_room, Made, written}
+use Rattle.resb_write.proofs.FilesLemmas.{largest_room, Made, written}
 use Rattle.resb_write.proofs.Refusals.{key_refused, size_refused, plan_refused}
 use Rattle.resb_write.proofs.serializer.write.Goals as goal
 

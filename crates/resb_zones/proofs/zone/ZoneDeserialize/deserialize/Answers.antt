@@ -4,7 +4,7 @@ use mir.Syntax.{w32}
 use mir.Val.{SFits}
 use Rattle.resb.specs.Places.{place_of}
 use Rattle.resb_zones.proofs.Costs.{entries_are}
-use Rattle.resb_zones.proofs.Zones.{zone_is, no_zone}
+use Rattle.resb_zones.proofs.ZonesLemmas.{zone_is, no_zone}
 use Rattle.resb_zones.proofs.zone.ZoneDeserialize.deserialize.Goals as goal
 
 pub read_fields-requires-clause-places : goal.read_fields-requires-clause-places

@@ -4,7 +4,6 @@ use Rattle.resb_format.specs.Parts.{parts_of}
 use Rattle.std.proofs.lemmas.Option.{same_Some}
 use Rattle.resb_format.specs.Error.{refusal_of}
 use Rattle.resb_format.specs.declared.error.ReadingError.{ReadingError}
-use Rattle.resb_head.specs.HeadChecks.{file_fault}
 use Rattle.resb_walk.specs.Refusals.{IsSpent}
 use Rattle.resb_walk.proofs.Meeting.{one_fault}
 use Rattle.resb_read.specs.Laws.{OneRefusal}

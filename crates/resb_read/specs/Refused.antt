@@ -115,18 +115,24 @@ abbrev pub bytes_refusal : Place → ℕ → Refusal
 bytes_refusal p left = bytes_refusal_from p.parts p.at left
 
 -- a count or the fields behind it outside their block, or another type
+abbrev pub members_fault : ℕ → Refusal
+members_fault w =
+    if types.is_array (type_in w) || type_in w == types.int_vector then end_of_input
+    else type_refusal (type_in w) (mismatch (codes "expected array resource"))
+
+abbrev pub entries_fault : ℕ → Refusal
+entries_fault w =
+    if types.is_table (type_in w) then end_of_input
+    else type_refusal (type_in w) (mismatch (codes "expected table resource"))
+
 abbrev pub members_refusal : Spot → ℕ → Refusal
-members_refusal (spot.Descriptor w) left =
-    paid left (if types.is_array (type_in w) || type_in w == types.int_vector then end_of_input
-    else type_refusal (type_in w) (mismatch (codes "expected array resource")))
+members_refusal (spot.Descriptor w) left = paid left (members_fault w)
 members_refusal (spot.Unit u) left = no_value (spot.Unit u) left
 members_refusal (spot.Word w) left = no_value (spot.Word w) left
 members_refusal (spot.Key k) left = no_value (spot.Key k) left
 
 abbrev pub entries_refusal : Spot → ℕ → Refusal
-entries_refusal (spot.Descriptor w) left =
-    paid left (if types.is_table (type_in w) then end_of_input
-    else type_refusal (type_in w) (mismatch (codes "expected table resource")))
+entries_refusal (spot.Descriptor w) left = paid left (entries_fault w)
 entries_refusal (spot.Unit u) left = no_value (spot.Unit u) left
 entries_refusal (spot.Word w) left = no_value (spot.Word w) left
 entries_refusal (spot.Key k) left = no_value (spot.Key k) left

@@ -1,13 +1,15 @@
 //! The entries of a table, one after another.
 //! Whole maps are read in `maps`.
 ghost use Rattle.std.specs.Prelude.{◌≡◌, ◌≤◌, ◌<◌, ◌+◌, ◌⊎◌, ℕ, Some, None, [], ◌∷◌, drop, length};
-ghost use Rattle.std.specs.Prelude.{MatchOption, IfOk, IfErr};
+ghost use Rattle.std.specs.Prelude.{MatchOption, MatchResult, IfOk, IfErr};
 ghost use Rattle.resb_read.specs.Places.{place_of};
 ghost use Rattle.resb_read.specs.Sequences as sequences;
 ghost use Rattle.resb_read.specs.Access.{EntersTo, Enters, ReadsPair, CountsPair};
 ghost use Rattle.resb_read.specs.Reading.{LacksOrMemory};
 ghost use Rattle.resb_walk.specs.Damage.{Says};
-ghost use Rattle.resb_read.specs.Refused.{entries_refusal};
+ghost use Rattle.resb_walk.specs.Files.{parts_in};
+ghost use Rattle.resb_walk.specs.Inner.Members.{pairs_of};
+ghost use Rattle.resb_read.specs.Refused.{entries_fault, entries_refusal};
 
 use crate::cursor::{Cursor, Spot};
 use crate::deserialize::Deserialize;
@@ -139,6 +141,27 @@ fn read_pair<'de, 'm, K: Deserialize<'de>, T: Deserialize<'de>>(
     Ok((key, value))
 }
 
+/// The entries of the table at a word.
+#[inline(always)]
+fn entries_at<'de>(file: File<'de>, word: u32) -> Result<Pairs<'de>, BinaryDeserializerError>
+    ensures { let entries = sequences.entries_in (parts_in file.entry) word in
+        MatchResult result (λ r. entries ≡ Some (pairs_of r))
+        (λ e. (entries ≡ None) × Says (entries_fault word) e) }
+{
+    match readable(word)?.0 {
+        ResourceReprType::Table | ResourceReprType::_Table32 | ResourceReprType::Table16 => {}
+        _ => {
+            return Err(BinaryDeserializerError::resource_type_mismatch("expected table resource"));
+        }
+    }
+    match file.standing(word) {
+        Ok(Standing::Table(rest)) => Ok(rest),
+        // Nothing else stands at a word of these types.
+        Ok(Standing::List(_) | Standing::Leaf(_)) => Err(past_end()),
+        Err(error) => Err(error),
+    }
+}
+
 impl<'de> Cursor<'de> {
     /// The entries of the table that stands here. The fields of all lie in the file, but where they
     /// lead isn't looked at yet.
@@ -153,23 +176,10 @@ impl<'de> Cursor<'de> {
             return Err(refused_here(self.at, walk));
         };
         walk.pay()?;
-        match readable(word)?.0 {
-            ResourceReprType::Table | ResourceReprType::_Table32 | ResourceReprType::Table16 => {}
-            _ => {
-                return Err(BinaryDeserializerError::resource_type_mismatch(
-                    "expected table resource",
-                ));
-            }
-        }
-        match self.file.standing(word) {
-            Ok(Standing::Table(rest)) => Ok(MapAccess {
-                file: self.file,
-                rest,
-                failed: None,
-            }),
-            // Nothing else stands at a word of these types.
-            Ok(Standing::List(_) | Standing::Leaf(_)) => Err(past_end()),
-            Err(error) => Err(error),
-        }
+        Ok(MapAccess {
+            file: self.file,
+            rest: entries_at(self.file, word)?,
+            failed: None,
+        })
     }
 }

@@ -1,12 +1,14 @@
 //! The members of an array or a vector, one after another.
 //! Whole lists are read in `lists`.
 ghost use Rattle.std.specs.Prelude.{◌≡◌, ◌≤◌, ◌<◌, ◌+◌, ◌⊎◌, Some, None, [], ◌∷◌, drop, length};
-ghost use Rattle.std.specs.Prelude.{MatchOption, IfOk, IfErr};
+ghost use Rattle.std.specs.Prelude.{MatchOption, MatchResult, IfOk, IfErr};
 ghost use Rattle.resb_read.specs.Places.{place_of};
-ghost use Rattle.resb_read.specs.Sequences.{items};
+ghost use Rattle.resb_read.specs.Inner.Items.{spots_of};
+ghost use Rattle.resb_read.specs.Sequences.{items, items_in};
+ghost use Rattle.resb_walk.specs.Files.{parts_in};
 ghost use Rattle.resb_read.specs.Access.{StepsTo, Steps};
 ghost use Rattle.resb_walk.specs.Damage.{Says};
-ghost use Rattle.resb_read.specs.Refused.{members_refusal};
+ghost use Rattle.resb_read.specs.Refused.{members_fault, members_refusal};
 
 use crate::cursor::{Cursor, Spot};
 use crate::deserialize::Deserialize;
@@ -111,6 +113,28 @@ impl<'de, 'm> SeqAccess<'de, 'm> {
     }
 }
 
+/// The members of the array or vector at a word.
+#[inline(always)]
+fn members_at<'de>(file: File<'de>, word: u32) -> Result<Items<'de>, BinaryDeserializerError>
+    ensures { let members = items_in (parts_in file.entry) word in
+        MatchResult result (λ r. members ≡ Some (spots_of r))
+        (λ e. (members ≡ None) × Says (members_fault word) e) }
+{
+    match readable(word)?.0 {
+        ResourceReprType::Array | ResourceReprType::Array16 | ResourceReprType::IntVector => {}
+        _ => {
+            return Err(BinaryDeserializerError::resource_type_mismatch("expected array resource"));
+        }
+    }
+    match file.standing(word) {
+        Ok(Standing::List(members)) => Ok(Items::Members(members)),
+        Ok(Standing::Leaf(Leaf::Numbers(numbers))) => Ok(Items::Numbers(numbers)),
+        // Nothing else stands at a word of these types.
+        Ok(Standing::Table(_) | Standing::Leaf(_)) => Err(past_end()),
+        Err(error) => Err(error),
+    }
+}
+
 impl<'de> Cursor<'de> {
     /// The members of the array or vector that stands here. The fields of all lie in the file, but
     /// where they lead isn't looked at yet.
@@ -125,24 +149,9 @@ impl<'de> Cursor<'de> {
             return Err(refused_here(self.at, walk));
         };
         walk.pay()?;
-        match readable(word)?.0 {
-            ResourceReprType::Array | ResourceReprType::Array16 | ResourceReprType::IntVector => {}
-            _ => {
-                return Err(BinaryDeserializerError::resource_type_mismatch(
-                    "expected array resource",
-                ));
-            }
-        }
-        let rest = match self.file.standing(word) {
-            Ok(Standing::List(members)) => Items::Members(members),
-            Ok(Standing::Leaf(Leaf::Numbers(numbers))) => Items::Numbers(numbers),
-            // Nothing else stands at a word of these types.
-            Ok(Standing::Table(_) | Standing::Leaf(_)) => return Err(past_end()),
-            Err(error) => return Err(error),
-        };
         Ok(SeqAccess {
             file: self.file,
-            rest,
+            rest: members_at(self.file, word)?,
             failed: None,
         })
     }

@@ -2,6 +2,7 @@
 pub mod Walks
 mod Stacks
 mod Closings
+mod Each
 pub mod Keys
 mod Rows
 pub mod OneBlock

@@ -9,7 +9,7 @@ use Rattle.resb_layout.specs.Laid.{Given, State}
 use Rattle.resb_tree.specs.WalkOrder.{members, values_of, children, walk, walk_each, walk_values}
 use Rattle.resb_bodies.specs.StackSteps.{LaysNext, LaysRow, row_none, row_more}
 use Rattle.resb_bodies.specs.Room.{given_by, own_size, most_units, most_bytes, IsKnown}
-use Rattle.resb_bodies.specs.Inner.Seen.{Takes, Suffices, CanLay}
+use Rattle.resb_bodies.specs.Inner.Seen.{HasRoom, Takes, Suffices, CanLay}
 use Rattle.resb_bodies.specs.declared.given.Sites.{Sites}
 use Rattle.resb_bodies.specs.declared.given.Bodies.{Bodies}
 
@@ -74,6 +74,13 @@ suffices t = subst (Suffices 0) (append-nil (walk t)) (suffices_tree t 0 [] tt)
 
 module _ (p : Sites) (b : Bodies) (n : ℕ) (t : Tree) (ts : List Tree) (h : CanLay p b n (t ∷ ts))
   where
+    pub has_room : HasRoom p b (own_size t)
+    has_room = record {
+      aligned = h.room.aligned;
+      units = omega (arith, h.room.units, sum_by-cons most_units t ts);
+      bytes = omega (arith, h.room.bytes, sum_by-cons most_bytes t ts);
+    }
+
     pub can_go_on : (c : Bodies) (m : ℕ) → Takes p b c (own_size t)
         → m ≡ n - length (children t) + 1
         → CanLay p c m ts

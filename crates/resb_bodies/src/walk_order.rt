@@ -1,6 +1,6 @@
 //! The resources of a tree in the order in which they are laid: members before their collection.
 //! What is laid for each is not said here. No function calls itself, so that any depth is walked.
-ghost use Rattle.std.specs.Prelude.{◌≡◌, ◌++◌, map, IfOk, OnOk};
+ghost use Rattle.std.specs.Prelude.{◌≡◌, ◌++◌, [], map, reverse, IfOk, OnOk};
 ghost use Rattle.resb_tree.specs.View.{tree_of};
 ghost use Rattle.resb_tree.specs.WalkOrder.{walk, children};
 ghost use Rattle.resb_bodies.specs.Room.{trees_in};
@@ -15,15 +15,28 @@ pub fn in_walk_order<'t, 'a>(
 ) -> Result<Vec<&'t Resource<'a>>, AllocError>
     ensures { IfOk result (λ v. trees_in v.items ≡ walk (tree_of root.now)) }
 {
-    let mut pending = Vec::new(alloc);
     let mut order = Vec::new(alloc);
+    push_walk(alloc, &mut order, root)?;
+    order.reverse();
+    Ok(order)
+}
+
+/// Appends the resources of a tree, each behind its collection, to none.
+fn push_walk<'t, 'a>(
+    alloc: Global,
+    order: &mut Vec<&'t Resource<'a>>,
+    root: &'t Resource<'a>,
+) -> Result<(), AllocError>
+    requires { order.old.items ≡ [] }
+    ensures { OnOk result (reverse (trees_in order.new.items) ≡ walk (tree_of root.now)) }
+{
+    let mut pending = Vec::new(alloc);
     pending.push(root)?;
     while let Some(resource) = pending.pop() {
         order.push(resource)?;
         push_children(&mut pending, resource)?;
     }
-    order.reverse();
-    Ok(order)
+    Ok(())
 }
 
 /// Appends the resources right inside a resource.

@@ -12,6 +12,7 @@ pub mod PlacingLemmas
 mod SharingLemmas
 pub mod OrderingLemmas
 mod PlanLemmas
+mod Laying
 pub mod IsRead
 pub mod OnePool
 pub mod Least

@@ -8,3 +8,4 @@ pub mod Nodes
 pub mod Changes
 pub mod Greatest
 pub mod Placing
+pub mod Laid

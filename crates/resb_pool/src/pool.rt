@@ -1,16 +1,48 @@
 //! The plan of a pool: strings in, the units of their records and their offsets out.
 //! Each step has a file of its own: `texts`, `homes`, `records`, `offsets`.
-ghost use Rattle.std.specs.Prelude.{IfOk, IfErr};
+ghost use Rattle.std.specs.Prelude.{ℕ, ◌<◌, ◌^◌, List, map, IfOk, IfErr};
 ghost use Rattle.resb_pool.specs.FaultOf.{fault_of};
-ghost use Rattle.resb_pool.specs.Plan.{nows, plan_units, offset_of, IsPlan, NotPlanned};
+ghost use Rattle.resb_pool.specs.Plan.{nows, plan_units, offset_of, texts_size, IsPlan, NotPlanned};
+ghost use Rattle.resb_pool.specs.Inner.Placing.{AreTexts, AreHomes};
+ghost use Rattle.resb_pool.specs.Inner.Laid.{IsBlock, ArePlaced};
 
 use crate::error::BinarySerializerError;
-use crate::homes::{find_homes, find_sums};
-use crate::measure::check_lengths;
+use crate::homes::{Home, find_homes, find_sums};
+use crate::measure::{Measure, check_lengths};
 use crate::offsets::{Plan, find_offsets};
-use crate::records::{lay, ordered};
+use crate::records::{Block, lay, ordered};
 use crate::texts::gather;
-use std::alloc::Global;
+use std::alloc::{AllocError, Global};
+
+/// The records of distinct texts with these homes, laid in their order.
+fn lay_records(alloc: Global, texts: &[&str], homes: &[Home]) -> Result<Block, AllocError>
+    requires given { (strings : List (List ℕ)) × (texts_size strings < 2 ^ 28)
+        × AreTexts strings (nows texts.now) (map (λ p. p.measure) homes.now) }
+    requires homes { AreHomes (nows texts.now) homes.now }
+    ensures { IfOk result (λ b.
+        IsBlock (nows texts.now) homes.now b.units.items b.ends.items) }
+{
+    let sums = find_sums(alloc, homes)?;
+    let records = ordered(alloc, texts, homes, &sums)?;
+    lay(alloc, &records, homes.len())
+}
+
+/// Unit 0 and the records of distinct texts, and the unit at which each text stands.
+fn place(
+    alloc: Global,
+    texts: &[&str],
+    measures: &[Measure],
+) -> Result<(Vec<u16>, Vec<u32>), AllocError>
+    requires given { (strings : List (List ℕ)) × (texts_size strings < 2 ^ 28)
+        × AreTexts strings (nows texts.now) measures.now }
+    ensures { IfOk result (λ p.
+        ArePlaced (nows texts.now) measures.now p.0.items p.1.items) }
+{
+    let homes = find_homes(alloc, texts, measures)?;
+    let block = lay_records(alloc, texts, &homes)?;
+    let offsets = find_offsets(alloc, &homes, &block.ends)?;
+    Ok((block.units, offsets))
+}
 
 /// Plans strings, given in walk order and as often as each stands in the tree. Each non-empty one
 /// that is not, without a marker, the end of another gets a record: marker, units, 0. Any other
@@ -25,15 +57,9 @@ pub fn plan<'a>(alloc: Global, strings: &[&'a str]) -> Result<Plan<'a>, BinarySe
 {
     check_lengths(strings)?;
     let texts = gather(alloc, strings)?;
-    let distinct = texts.distinct.as_slice();
-    let homes = find_homes(alloc, distinct, &texts.measures)?;
-    let sums = find_sums(alloc, &homes)?;
-    let records = ordered(alloc, distinct, &homes, &sums)?;
-    let count = homes.len();
-    let block = lay(alloc, &records, count)?;
-    let offsets = find_offsets(alloc, &homes, &block.ends)?;
+    let (units, offsets) = place(alloc, texts.distinct.as_slice(), &texts.measures)?;
     Ok(Plan {
-        units: block.units,
+        units,
         texts: texts.distinct,
         offsets,
         order: texts.order,

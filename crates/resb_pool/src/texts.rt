@@ -22,6 +22,19 @@ pub(crate) struct Texts<'a> {
     pub(crate) order: Vec<u32>,
 }
 
+impl<'a> Texts<'a> {
+    /// No texts, with room for those of so many strings.
+    fn with_capacity(alloc: Global, count: usize) -> Result<Texts<'a>, AllocError>
+        ensures { IfOk result (λ t. AreTexts [] (nows t.distinct.keys) t.measures.items) }
+    {
+        Ok(Texts {
+            distinct: IndexSet::with_capacity(alloc, count)?,
+            measures: Vec::new(alloc),
+            order: Vec::with_capacity(alloc, count)?,
+        })
+    }
+}
+
 /// Adds a copy of a text, and gives the number of its units.
 fn add<'a>(texts: &mut Texts<'a>, text: &'a str) -> Result<usize, AllocError>
     requires given { (done : List (List ℕ)) × (texts_size done < 2 ^ 28)
@@ -44,6 +57,28 @@ fn add<'a>(texts: &mut Texts<'a>, text: &'a str) -> Result<usize, AllocError>
     Ok(count)
 }
 
+/// Adds strings to no texts. Refused are strings whose units and 16 for each come to 2^28 or more.
+fn add_all<'a>(texts: &mut Texts<'a>, strings: &[&'a str]) -> Result<(), BinarySerializerError>
+    requires short { first_too_long (nows strings.now) ≡ None }
+    requires empty { AreTexts [] (nows texts.old.distinct.keys) texts.old.measures.items }
+    ensures texts { OnOk result (AreTexts (nows strings.now) (nows texts.new.distinct.keys)
+        texts.new.measures.items) }
+    ensures small { OnOk result (texts_size (nows strings.now) < 2 ^ 28) }
+    ensures err { IfErr result (λ e. NotPlanned (nows strings.now) (fault_of e)) }
+{
+    let mut size = 0;
+    for text in strings {
+        if is_vast(text) {
+            return Err(BinarySerializerError::limit("file too large"));
+        }
+        size += 16 + add(texts, text)?;
+        if size >= SIZE_LIMIT {
+            return Err(BinarySerializerError::limit("file too large"));
+        }
+    }
+    Ok(())
+}
+
 /// The distinct texts of strings. Refused are strings whose units and 16 for each come to 2^28 or
 /// more.
 pub(crate) fn gather<'a>(
@@ -56,20 +91,7 @@ pub(crate) fn gather<'a>(
     ensures small { OnOk result (texts_size (nows strings.now) < 2 ^ 28) }
     ensures err { IfErr result (λ e. NotPlanned (nows strings.now) (fault_of e)) }
 {
-    let mut texts = Texts {
-        distinct: IndexSet::with_capacity(alloc, strings.len())?,
-        measures: Vec::new(alloc),
-        order: Vec::with_capacity(alloc, strings.len())?,
-    };
-    let mut size = 0;
-    for text in strings {
-        if is_vast(text) {
-            return Err(BinarySerializerError::limit("file too large"));
-        }
-        size += 16 + add(&mut texts, text)?;
-        if size >= SIZE_LIMIT {
-            return Err(BinarySerializerError::limit("file too large"));
-        }
-    }
+    let mut texts = Texts::with_capacity(alloc, strings.len())?;
+    add_all(&mut texts, strings)?;
     Ok(texts)
 }

@@ -1,4 +1,4 @@
-use Rattle.std.proofs.Common.{rules, ◌≡◌, ◌++◌, ◌∷◌, ◌+◌, [], length, refl, sym, ◌∙◌, ap, subst}
+use Rattle.std.proofs.Common.{rules, ◌≡◌, ◌++◌, ◌∷◌, [], length, refl, sym, ◌∙◌, ap, subst}
 use Rattle.std.proofs.Common.{append_assoc, arith}
 use Rattle.std.specs.List.{sum_by}
 use Rattle.std.proofs.lemmas.List.Sums.{sum_by-cons}
@@ -9,7 +9,7 @@ use Rattle.resb_bodies.specs.Room.{given_by, state_of, trees_in, most_units, Has
 use Rattle.resb_bodies.specs.Inner.Seen.{CanLay}
 use Rattle.std.proofs.lemmas.List.{nil_from_length}
 use Rattle.resb_bodies.proofs.Walks.{trees-push}
-use Rattle.resb_bodies.proofs.Rows.{steps_push, step_long, can_go_on}
+use Rattle.resb_bodies.proofs.Rows.{steps_push, step_long, has_room, can_go_on}
 use Rattle.resb_bodies.proofs.tree.steps.Goals as goal
 
 pub loop-resource-init : goal.loop-resource-init
@@ -26,15 +26,28 @@ loop-resource-init c =
       omega arith,
     )
 
+pub next-requires : goal.next-requires
+next-requires c = tt
+
+pub step-requires-clause-room : goal.step-requires-clause-room
+step-requires-clause-room c =
+    let t = tree_of c.in-Some.resource.now in
+    let rest = trees_in (into_iter_items c.next.new.self) in
+    has_room c.args.sites.now c.loop-resource.bodies (length c.loop-resource.words.items) t rest
+    (subst (λ rs. CanLay c.args.sites.now c.loop-resource.bodies
+    (length c.loop-resource.words.items) (trees_in rs)) c.in-Some.ensures.steps.0
+    c.loop-resource.invariant.3)
+
+pub number_behind-number-requires : goal.number_behind-number-requires
+number_behind-number-requires c = tt
+
 pub loop-resource-preserved : goal.loop-resource-preserved
 loop-resource-preserved c =
     let g = given_by c.args.sites.now in
     let done = c.loop-resource.yielded in
     let resource = c.in-Some.resource in
     let rest = into_iter_items c.next.new.self in
-    let next : into_iter_items c.loop-resource.resource-iterator ≡ resource ∷ rest = search rules in
-    let many : into_iter_len c.next.new.self + 1 ≡ into_iter_len c.loop-resource.resource-iterator =
-    search rules in
+    let next = c.in-Some.ensures.steps.0 in
     let old = c.loop-resource.words.items in
     let new = c.step.new.words.items in
     let before = state_of c.loop-resource.bodies in
@@ -44,7 +57,7 @@ loop-resource-preserved c =
     (trees_in rs)) next c.loop-resource.invariant.3 in (
       append_assoc done (resource ∷ []) rest ∙ ap (λ l. done ++ l) (sym next)
           ∙ c.loop-resource.invariant.0,
-      omega (arith, c.loop-resource.invariant.1, many, ap length next),
+      omega (arith, c.loop-resource.invariant.1, c.in-Some.ensures.steps.1, ap length next),
       subst (λ ts. LaysRow g (state_of c.args.bodies.now) c.args.words.now.items ts after new)
           (sym (trees-push done (done ++ resource ∷ []) resource refl))
           (steps_push g (state_of c.args.bodies.now) before after c.args.words.now.items old new

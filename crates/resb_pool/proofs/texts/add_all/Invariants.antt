@@ -1,7 +1,7 @@
 use Rattle.std.proofs.Common.{◌≡◌, ◌<◌, ◌^◌, take}
 use Rattle.resb_pool.specs.Plan.{nows, texts_size}
 use Rattle.resb_pool.specs.Inner.Placing.{AreTexts}
-use Rattle.resb_pool.proofs.texts.gather.Given as goal
+use Rattle.resb_pool.proofs.texts.add_all.Given as goal
 
 abbrev pub invariant-loop-text : goal.invariant-loop-text
 invariant-loop-text l = record {

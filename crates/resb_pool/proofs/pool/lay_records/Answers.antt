@@ -1,0 +1,62 @@
+use Rattle.std.proofs.Common.{ℕ, List, refl, sym, subst}
+use Rattle.std.specs.List.{All}
+use Rattle.std.specs.List.Sorted.{IsSorted}
+use Rattle.resb_pool.specs.Plan.{nows}
+use Rattle.resb_pool.specs.Records.{IsRecords}
+use Rattle.resb_pool.specs.Inner.Placing.{AreSums, IsRecordOf, record_texts, record_cmp}
+use Rattle.resb_pool.specs.Inner.Laid.{AreLyingIn}
+use Rattle.resb_pool.specs.declared.records.Record.{Record}
+use Rattle.resb_pool.proofs.PlanLemmas.{totals_small, sums_are, laid_small}
+use Rattle.resb_pool.proofs.Laying.{block_of}
+use Rattle.resb_pool.proofs.pool.lay_records.Goals as goal
+
+pub find_sums-requires-clause-small : goal.find_sums-requires-clause-small
+find_sums-requires-clause-small c =
+    let T = nows c.args.texts.now in
+    let ps = c.args.homes.now in
+    let g = c.requires.given in
+    totals_small g.0 T _ g.2 g.1 ps c.requires.homes refl
+
+pub ordered-requires-clause-sums : goal.ordered-requires-clause-sums
+ordered-requires-clause-sums c =
+    let T = nows c.args.texts.now in
+    let ps = c.args.homes.now in
+    let g = c.requires.given in
+    let sums = c.in_ok-sums.sums.items in
+    subst (AreSums T ps) (sym c.deref.ensures.value)
+    (sums_are g.0 T _ g.2 g.1 ps c.requires.homes refl sums c.in_ok-sums.ensures.len
+    c.in_ok-sums.ensures.sums)
+
+pub lay-requires-clause-short : goal.lay-requires-clause-short
+lay-requires-clause-short c =
+    let T = nows c.args.texts.now in
+    let ps = c.args.homes.now in
+    let g = c.requires.given in
+    let sums = c.in_ok-sums.sums.items in
+    let v = c.deref-2.result.now in
+    let records = subst (λ (z : List Record). IsRecords T (record_texts z))
+    (sym c.deref-2.ensures.value) c.in_ok-records.ensures.records in
+    let each = subst (λ (z : List Record). All (IsRecordOf T sums) z) (sym c.deref-2.ensures.value)
+    (subst (λ (z : List ℕ). All (IsRecordOf T z) c.in_ok-records.records.items)
+    c.deref.ensures.value c.in_ok-records.ensures.each) in
+    laid_small g.0 T _ g.2 g.1 ps c.requires.homes refl sums c.in_ok-sums.ensures.len
+    c.in_ok-sums.ensures.sums v records each
+
+pub returns : goal.returns
+returns c =
+    let T = nows c.args.texts.now in
+    let sums = c.in_ok-sums.sums.items in
+    let v = c.deref-2.result.now in
+    let records = subst (λ (z : List Record). IsRecords T (record_texts z))
+    (sym c.deref-2.ensures.value) c.in_ok-records.ensures.records in
+    let each = subst (λ (z : List Record). All (IsRecordOf T sums) z) (sym c.deref-2.ensures.value)
+    (subst (λ (z : List ℕ). All (IsRecordOf T z) c.in_ok-records.records.items)
+    c.deref.ensures.value c.in_ok-records.ensures.each) in
+    let ascend = subst (IsSorted record_cmp) (sym c.deref-2.ensures.value)
+    c.in_ok-records.ensures.ascend in
+    let lying : AreLyingIn c.args.homes.now sums = record {
+      len = c.in_ok-sums.ensures.len;
+      each = c.in_ok-sums.ensures.sums;
+    } in
+    block_of T c.args.homes.now sums lying v records each ascend c.lay.result c.lay.ensures.units
+    c.lay.ensures.len c.lay.ensures.ends

@@ -8,18 +8,9 @@ use Rattle.resb_grammar.specs.Group.{LeafContent}
 use Rattle.resb_grammar.specs.Machine.{Open, begun_as, At}
 use Rattle.resb_grammar.specs.Stuck.{Stuck}
 use Rattle.resb_grammar.specs.declared.expected.Expected.TheVariants as expect
+use Rattle.resb_text.specs.Inner.Braces.{Closes}
 use Rattle.resb_text.specs.Refusal.{want_of_memory}
 use Rattle.resb_text.specs.declared.error.TextParserError.{TextParserError}
-
--- `}` stands here, with the discardable text after it
-pub record Closes (text : List ℕ) (at to : ℕ) : Type 0 where
-  pub brace : slice_index text at ≡ ascii.right_brace
-  pub after : Skip text (at + 1) to
-
--- no `}` stands here, and the error says so
-pub record IsUnclosed (text : List ℕ) (at : ℕ) (e : TextParserError) : Type 0 where
-  pub none : slice_index text at ≢ ascii.right_brace
-  pub is : e ≡ record { position = at; expected = expect.RightBrace }
 
 -- behind a number: the `}` stands right here, or a comma does, with the discardable text after it
 abbrev pub IsBehindNumber : List ℕ → ℕ → ℕ → Type 0

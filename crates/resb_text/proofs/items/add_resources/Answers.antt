@@ -4,7 +4,7 @@ use Rattle.std.specs.Prelude.{map}
 use Rattle.std.specs.Vec.Iter.{into_iter_items}
 use Rattle.resb_text.specs.Inner.Shown.{shown, shown_tree, shown_borrowed}
 use Rattle.resb_text.proofs.ItemLemmas.{term_tree_shown, term_borrowed_shown}
-use Rattle.resb_text.proofs.items.array_of.Goals as goal
+use Rattle.resb_text.proofs.items.add_resources.Goals as goal
 
 -- one goes from those that are left to those that are made
 one_more : {B C D : Type 0} (g : C → D) (h : B → C) (before after : List D) (d : D)

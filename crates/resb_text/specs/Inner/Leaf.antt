@@ -1,10 +1,10 @@
 -- Groups that hold no items, from after their `{` on.
-use Rattle.std.specs.Prelude.{◌≡◌, ◌≢◌, ◌⊎◌, ℕ, ◌+◌, List, slice_index}
+use Rattle.std.specs.Prelude.{◌≡◌, ◌≢◌, ◌⊎◌, ℕ, ◌+◌, List, slice_index, None}
 use Rattle.resb_grammar.specs.Ascii as ascii
 use Rattle.resb_tree.specs.Tree.{Tree}
 use Rattle.resb_grammar.specs.Tokens.{Skip}
 use Rattle.resb_grammar.specs.GroupTypes.{Kind}
-use Rattle.resb_grammar.specs.Group.{LeafContent}
+use Rattle.resb_grammar.specs.Group.{LeafContent, hex_bytes}
 use Rattle.resb_grammar.specs.Machine.{Open, begun_as, At}
 use Rattle.resb_grammar.specs.Stuck.{Stuck}
 use Rattle.resb_grammar.specs.declared.expected.Expected.TheVariants as expect
@@ -23,6 +23,11 @@ pub record IsUnended (text : List ℕ) (at : ℕ) (e : TextParserError) : Type 0
   pub none : slice_index text at ≢ ascii.right_brace
   pub no_comma : slice_index text at ≢ ascii.comma
   pub is : e ≡ record { position = at; expected = expect.RightBrace }
+
+-- these are no pairs of hex digits, and the error says so of this place
+pub record IsUnpaired (digits : List ℕ) (at : ℕ) (e : TextParserError) : Type 0 where
+  pub none : hex_bytes digits ≡ None
+  pub is : e ≡ record { position = at; expected = expect.HexPairs }
 
 -- the content of a group of this type, and its `}`
 pub record Leaf (text : List ℕ) (at to : ℕ) (kind : Kind) (tree : Tree) : Type 0 where

@@ -22,7 +22,8 @@ add-requires c =
 pub returns-then-lists_keys-clause-shows : goal.returns-then-lists_keys-clause-shows
 returns-then-lists_keys-clause-shows c =
     on_ok_from {Q = (o : machine.Open) → Shows c.args.self.now o
-    → Shows _ (with_term (spec.string_term c.args.text.now) o)} _ (λ added. λ o x. shows_string c.args.self.now _ o
+    → Shows _ (with_term (spec.string_term c.args.text.now) o)} _
+    (λ added. λ o x. shows_string c.args.self.now _ o
     (terms.String c.args.text) c.args.text.now x refl c.in_ok-push.ensures.looks refl
     (ap (λ b. lists (body_of b)) (sym c.in_ok-push.ensures.body) ∙ sym c.lists_keys.ensures
     ∙ c.if-lists_keys.true) (added

@@ -1,6 +1,7 @@
 -- Words of private functions.
 pub mod Runs
 pub mod TypeNames
+pub mod Braces
 pub mod Leaf
 pub mod Shown
 pub mod Discovered

@@ -1,25 +1,16 @@
 -- Groups that hold no items, from after their `{` on.
-use Rattle.std.specs.Prelude.{◌≡◌, ◌≢◌, ◌⊎◌, ℕ, ◌+◌, List, slice_index}
+use Rattle.std.specs.Prelude.{◌≡◌, ◌≢◌, ◌⊎◌, ℕ, ◌+◌, List, slice_index, None}
 use Rattle.resb_grammar.specs.Ascii as ascii
 use Rattle.resb_tree.specs.Tree.{Tree}
 use Rattle.resb_grammar.specs.Tokens.{Skip}
 use Rattle.resb_grammar.specs.GroupTypes.{Kind}
-use Rattle.resb_grammar.specs.Group.{LeafContent}
+use Rattle.resb_grammar.specs.Group.{LeafContent, hex_bytes}
 use Rattle.resb_grammar.specs.Machine.{Open, begun_as, At}
 use Rattle.resb_grammar.specs.Stuck.{Stuck}
 use Rattle.resb_grammar.specs.declared.expected.Expected.TheVariants as expect
+use Rattle.resb_text.specs.Inner.Braces.{Closes}
 use Rattle.resb_text.specs.Refusal.{want_of_memory}
 use Rattle.resb_text.specs.declared.error.TextParserError.{TextParserError}
-
--- `}` stands here, with the discardable text after it
-pub record Closes (text : List ℕ) (at to : ℕ) : Type 0 where
-  pub brace : slice_index text at ≡ ascii.right_brace
-  pub after : Skip text (at + 1) to
-
--- no `}` stands here, and the error says so
-pub record IsUnclosed (text : List ℕ) (at : ℕ) (e : TextParserError) : Type 0 where
-  pub none : slice_index text at ≢ ascii.right_brace
-  pub is : e ≡ record { position = at; expected = expect.RightBrace }
 
 -- behind a number: the `}` stands right here, or a comma does, with the discardable text after it
 abbrev pub IsBehindNumber : List ℕ → ℕ → ℕ → Type 0
@@ -32,6 +23,11 @@ pub record IsUnended (text : List ℕ) (at : ℕ) (e : TextParserError) : Type 0
   pub none : slice_index text at ≢ ascii.right_brace
   pub no_comma : slice_index text at ≢ ascii.comma
   pub is : e ≡ record { position = at; expected = expect.RightBrace }
+
+-- these are no pairs of hex digits, and the error says so of this place
+pub record IsUnpaired (digits : List ℕ) (at : ℕ) (e : TextParserError) : Type 0 where
+  pub none : hex_bytes digits ≡ None
+  pub is : e ≡ record { position = at; expected = expect.HexPairs }
 
 -- the content of a group of this type, and its `}`
 pub record Leaf (text : List ℕ) (at to : ℕ) (kind : Kind) (tree : Tree) : Type 0 where

@@ -1,5 +1,7 @@
 -- What the code's items show of the grammar's: strings, trees and commas, without keys.
 use Rattle.std.specs.Prelude.{ℕ, Bool, true, List, [], ◌∷◌, ◌++◌, map, Option, Some, None}
+use Rattle.std.specs.Borrow.{Bor}
+use Rattle.std.specs.Option.{option_map}
 use Rattle.resb_tree.specs.Tree.{Tree, string}
 use Rattle.resb_tree.specs.View.{tree_of}
 use Rattle.resb_tree.specs.declared.resource.Resource.{Resource}
@@ -62,6 +64,10 @@ pairs_after waiting [] = []
 pairs_after waiting (string_shown s f ∷ xs) = pairs_after (Some s) xs
 pairs_after (Some k) (group_shown t b f ∷ xs) = (k, t) ∷ pairs_after None xs
 pairs_after None (group_shown t b f ∷ xs) = pairs_after None xs
+
+-- the text of a key that waits, if one does
+abbrev pub key_of : Option (Bor (List ℕ)) → Option (List ℕ)
+key_of waiting = option_map (λ k. k.now) waiting
 
 abbrev pub shown_pairs : List Shown → List (List ℕ × Tree)
 shown_pairs xs = pairs_after None xs

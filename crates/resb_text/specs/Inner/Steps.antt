@@ -5,6 +5,7 @@ use Rattle.resb_grammar.specs.Machine as machine
 use Rattle.resb_grammar.specs.Machine.{Body, table_body, array_body, untyped_body, named, inside}
 use Rattle.resb_grammar.specs.Machine.{At}
 use Rattle.resb_grammar.specs.Stuck.{Stuck}
+use Rattle.resb_grammar.specs.Tokens.{Skip, Text}
 use Rattle.resb_text.specs.Inner.Frames.{Shows}
 use Rattle.resb_text.specs.declared.frames.Open.{Open}
 use Rattle.resb_text.specs.declared.error.TextParserError.{TextParserError}
@@ -32,6 +33,14 @@ abbrev pub HeadFails : List ℕ → ℕ → TextParserError → Type 0
 HeadFails text at e =
     (o : machine.Open) → takes_group o.frame.body (machine.is_key_place o.frame.items) ≡ true
     → At text at (inside o) → Stuck text e.position e.expected
+
+-- a bundle's text up to what follows its name
+pub record IsNamed (text name : List ℕ) (to : ℕ) : Type 0 where
+  pub start : ℕ
+  pub ends : ℕ
+  pub before : Skip text 0 start
+  pub named : Text text start ends name
+  pub after : Skip text ends to
 
 -- wherever the root's type may stand there, a reading gets stuck so
 abbrev pub TypingFails : List ℕ → ℕ → TextParserError → Type 0

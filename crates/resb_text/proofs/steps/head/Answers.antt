@@ -1,3 +1,4 @@
+use Rattle.std.proofs.lemmas.Result.{err_from_is_err_and}
 use Rattle.resb_text.proofs.TypedLemmas.{no_type, no_type_brace}
 use Rattle.resb_text.proofs.steps.head.Goals as goal
 
@@ -5,12 +6,10 @@ pub returns-in_default-clause-err : goal.returns-in_default-clause-err
 returns-in_default-clause-err c =
     rw c.new.ensures (no_type _ _ c.requires.byte c.in_default.ensures.none)
 
-pub returns-then-byte-ne123-clause-err : goal.returns-then-byte-ne123-clause-err
-returns-then-byte-ne123-clause-err c =
-    rw c.new-then-byte-ne123.ensures (no_type_brace _ _ _ _ _ c.in-Some.ensures.found
-    (rw c.group_type.ensures.text at c.skip-brace.ensures.skip)
-    (rw (
-      ← c.group_type.ensures.text,
-      ← c.skip-brace.ensures.text,
-      ← c.byte.ensures.byte,
-    ) c.if-byte-ne123.true))
+pub returns-in_err-first-clause-err : goal.returns-in_err-first-clause-err
+returns-in_err-first-clause-err c =
+    let p = err_from_is_err_and c.from_residual.result c.from_residual.ensures.1 in
+    let unopened = rw (c.skip-brace.ensures.text, c.group_type.ensures.text)
+    at c.in_err-first.ensures.err in
+    rw (p.1, p.2, unopened.is) (no_type_brace _ _ _ _ _ c.in-Some.ensures.found
+    (rw c.group_type.ensures.text at c.skip-brace.ensures.skip) unopened.none)

@@ -1,0 +1,38 @@
+use Rattle.std.proofs.Common.{◌≡◌, List, [], ◌∷◌, ◌++◌, length, sym, ◌∙◌, ap, arith}
+use Rattle.std.proofs.Common.{append_assoc}
+use Rattle.std.specs.Prelude.{map}
+use Rattle.std.specs.Vec.Iter.{into_iter_items}
+use Rattle.resb_text.specs.Inner.Shown.{shown, shown_tree, shown_borrowed}
+use Rattle.resb_text.proofs.ItemLemmas.{term_tree_shown, term_borrowed_shown}
+use Rattle.resb_text.proofs.items.add_resources.Goals as goal
+
+-- one goes from those that are left to those that are made
+one_more : {B C D : Type 0} (g : C → D) (h : B → C) (before after : List D) (d : D)
+    (left rest : List B) (y : B) (all : List D) → left ≡ y ∷ rest → after ≡ before ++ d ∷ []
+    → d ≡ g (h y) → before ++ map g (map h left) ≡ all → after ++ map g (map h rest) ≡ all
+one_more g h before after d left rest y all e push same is =
+    ap (λ l. l ++ map g (map h rest)) push
+    ∙ append_assoc before (d ∷ []) (map g (map h rest))
+    ∙ ap (λ z. before ++ z ∷ map g (map h rest)) same
+    ∙ ap (λ l. before ++ map g (map h l)) (sym e) ∙ is
+
+pub loop-item-preserved : goal.loop-item-preserved
+loop-item-preserved c =
+    let i = c.loop-item.invariant in
+    let left = into_iter_items c.loop-item.item-iterator in
+    let rest = into_iter_items c.next.new.self in
+    let steps = c.in-Some.ensures.steps in
+    let made = c.in_ok-add_resource.ensures in
+    let one = ap length steps.0 in
+    let item = c.in-Some.item in
+    let tick = c.tick.ensures in
+    let counted = ap (λ w. w.count) tick in
+    record {
+      made = one_more shown_tree shown _ _ _ left rest item _ steps.0 made.trees
+          (term_tree_shown item.term item.comma) i.made;
+      borrowed = one_more shown_borrowed shown _ _ _ left rest item _ steps.0 made.borrowed
+          (term_borrowed_shown item.term item.comma) i.borrowed;
+      text = ap (λ w. w.text) tick ∙ i.text;
+      grows = omega (arith, counted, i.grows);
+      count = omega (arith, counted, i.count, one);
+    }

@@ -1,6 +1,6 @@
 //! Rows as lines of text, and the lines that they are compared with.
 //! A row ends with a `;` and a line feed, and its answer stands behind ` =>`.
-use std::alloc::Global;
+use std::alloc::{AllocError, Global};
 use std::process::Abort;
 use std::test::Fail;
 
@@ -12,7 +12,12 @@ const HEADER: [u8; 32] = [
 
 /// What a row asks for, and the answer that it wants.
 pub(crate) fn parts(row: &str) -> Result<(&str, &str), Fail> {
-    Ok(row.split_once(" =>").ok_or("a row without an answer")?)
+    halves(row, " =>")
+}
+
+/// What stands before and behind the first mark of a row.
+pub(crate) fn halves<'r>(row: &'r str, mark: &str) -> Result<(&'r str, &'r str), Fail> {
+    Ok(row.split_once(mark).ok_or("a row without a mark")?)
 }
 
 /// The line is the one that is wanted, whose own lines begin with blanks.
@@ -23,9 +28,13 @@ pub(crate) fn assert_said(
     found: String,
     wanted: &str,
 ) -> Result<(), Fail> {
-    let wanted = joined(alloc, wanted)?;
-    assert_eq!(rt; found.as_str(), wanted.as_str(), "for {input}");
+    assert_same(rt, input, found, joined(alloc, wanted)?);
     Ok(())
+}
+
+/// The line of an input is the one that is wanted.
+fn assert_same(rt: &impl Abort, input: &str, found: String, wanted: String) {
+    assert_eq!(rt; found.as_str(), wanted.as_str(), "for {input}");
 }
 
 /// The line that two calls give.
@@ -45,11 +54,17 @@ pub(crate) fn digits(alloc: Global, file: &[u8]) -> Result<String, Fail> {
     Ok(hex::encode(alloc, body)?)
 }
 
-/// The lines without the blanks that begin them.
-fn joined(alloc: Global, lines: &str) -> Result<String, Fail> {
-    let mut all = String::new(alloc);
+/// Adds the lines without the blanks that begin them.
+fn push_lines(all: &mut String, lines: &str) -> Result<(), AllocError> {
     for line in lines.split('\n') {
         all.push_str(line.trim_start())?;
     }
+    Ok(())
+}
+
+/// The lines without the blanks that begin them.
+fn joined(alloc: Global, lines: &str) -> Result<String, AllocError> {
+    let mut all = String::new(alloc);
+    push_lines(&mut all, lines)?;
     Ok(all)
 }

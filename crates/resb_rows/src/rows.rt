@@ -46,6 +46,12 @@ fn answered(alloc: Global, kind: Kind, input: &str) -> Result<String, Fail> {
     }
 }
 
+/// A row of this kind has its answer.
+fn assert_row(rt: &impl Abort, alloc: Global, kind: Kind, row: &str) -> Result<(), Fail> {
+    let (input, wanted) = parts(row)?;
+    assert_said(rt, alloc, input, answered(alloc, kind, input)?, wanted)
+}
+
 /// Each row of a table has its answer. Behind a row stands this end.
 fn assert_ended(
     rt: &impl Abort,
@@ -55,8 +61,7 @@ fn assert_ended(
     end: &str,
 ) -> Result<(), Fail> {
     for row in rows.split_terminator(end) {
-        let (input, wanted) = parts(row)?;
-        assert_said(rt, alloc, input, answered(alloc, kind, input)?, wanted)?;
+        assert_row(rt, alloc, kind, row)?;
     }
     Ok(())
 }

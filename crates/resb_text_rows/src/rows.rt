@@ -175,6 +175,14 @@ pub const OPEN_GROUPS: [(usize, &str, &str, &str); 3] = [
     (5_000_000, "", "", "at 5000003: a resource"),
 ];
 
+/// Adds a part so many times.
+fn push_times(text: &mut String, part: &str, count: usize) -> Result<(), AllocError> {
+    for _ in 0..count {
+        text.push_str(part)?;
+    }
+    Ok(())
+}
+
 /// The beginning, then so many openings, what stands within, so many closings, and the end.
 pub fn nested(
     alloc: Global,
@@ -184,13 +192,9 @@ pub fn nested(
     within: &str,
 ) -> Result<String, AllocError> {
     let mut text = String::from_str(alloc, ends.0)?;
-    for _ in 0..depth {
-        text.push_str(braces.0)?;
-    }
+    push_times(&mut text, braces.0, depth)?;
     text.push_str(within)?;
-    for _ in 0..depth {
-        text.push_str(braces.1)?;
-    }
+    push_times(&mut text, braces.1, depth)?;
     text.push_str(ends.1)?;
     Ok(text)
 }

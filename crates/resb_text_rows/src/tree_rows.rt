@@ -12,20 +12,23 @@ const DEPTH: u32 = 1_000_000;
 fn nested_arrays(alloc: Global, depth: u32) -> Result<Resource<'static>, AllocError> {
     let mut tree = Resource::Integer(Int28::from(1u32));
     for _ in 0..depth {
-        let mut items = Vec::new(alloc);
-        items.push(tree)?;
-        tree = Resource::Array(items);
+        tree = Resource::Array(vec![in alloc; tree]?);
     }
     Ok(tree)
+}
+
+/// The table of a tree at a and of an empty table at b.
+fn table_of(alloc: Global, tree: Resource<'static>) -> Result<Resource<'static>, AllocError> {
+    let mut table: Table = BTreeMap::new(alloc);
+    table.insert(Key::from("a"), tree)?;
+    table.insert(Key::from("b"), Resource::Table(BTreeMap::new(alloc)))?;
+    Ok(Resource::Table(table))
 }
 
 fn nested_tables(alloc: Global, depth: u32) -> Result<Resource<'static>, AllocError> {
     let mut tree = Resource::Integer(Int28::from(1u32));
     for _ in 0..depth {
-        let mut table: Table = BTreeMap::new(alloc);
-        table.insert(Key::from("a"), tree)?;
-        table.insert(Key::from("b"), Resource::Table(BTreeMap::new(alloc)))?;
-        tree = Resource::Table(table);
+        tree = table_of(alloc, tree)?;
     }
     Ok(tree)
 }
@@ -46,61 +49,126 @@ fn a_million_levels_of_tables_are_dropped(rt: HostRuntime) -> Result<(), Fail> {
     Ok(())
 }
 
+/// Whether bytes that are borrowed and bytes that are owned are the same tree.
+fn are_bytes_equal(alloc: Global, bytes: &[u8]) -> Result<bool, AllocError> {
+    let owned = Resource::Binary(CowSlice::Owned(Vec::from_slice(alloc, bytes)?));
+    let borrowed = Resource::Binary(CowSlice::Borrowed(bytes));
+    Ok(borrowed == owned && borrowed.equals(&owned))
+}
+
+/// Whether tables of so many levels are equal, and whether they differ.
+fn are_tables_equal(alloc: Global, one: u32, other: u32) -> Result<(bool, bool), AllocError> {
+    let one = nested_tables(alloc, one)?;
+    let other = nested_tables(alloc, other)?;
+    Ok((one == other, one != other))
+}
+
+/// Whether tables of two levels differ from a vector.
+fn is_no_vector(alloc: Global) -> Result<bool, AllocError> {
+    Ok(nested_tables(alloc, 2)? != Resource::IntVector(Vec::new(alloc)))
+}
+
 #[test]
 fn equal_trees_of_borrowed_and_owned_parts(rt: HostRuntime) -> Result<(), Fail> {
-    let alloc = rt.alloc();
-    let borrowed = Resource::Binary(CowSlice::Borrowed(b"ab".as_slice()));
-    let owned = Resource::Binary(CowSlice::Owned(Vec::from_slice(alloc, b"ab".as_slice())?));
-    assert!(rt; borrowed == owned);
-    assert!(rt; borrowed.equals(&owned));
-    let shallow = nested_tables(alloc, 2)?;
-    let deeper = nested_tables(alloc, 3)?;
-    assert!(rt; shallow == nested_tables(alloc, 2)?);
-    assert!(rt; shallow != deeper);
-    assert!(rt; shallow != Resource::IntVector(Vec::new(alloc)));
+    let are_equal = are_bytes_equal(rt.alloc(), b"ab")?;
+    assert!(rt; are_equal);
+    let shallow = are_tables_equal(rt.alloc(), 2, 2)?;
+    assert!(rt; shallow == (true, false));
+    let deeper = are_tables_equal(rt.alloc(), 2, 3)?;
+    assert!(rt; deeper == (false, true));
+    let is_other = is_no_vector(rt.alloc())?;
+    assert!(rt; is_other);
     Ok(())
+}
+
+/// The hash of a key.
+fn hash_of(key: &Key<'_>) -> u64 {
+    let mut hasher = FoldHasher::default();
+    key.hash(&mut hasher);
+    hasher.finish()
+}
+
+/// Whether a key is this text, and comes before another key.
+fn is_text_before(key: &Key<'_>, text: &str, later: &Key<'_>) -> bool {
+    key < later && key.as_bytes() == text.as_bytes() && key.as_str() == text
+}
+
+/// Whether two keys are the same, also by their hashes.
+fn are_one(one: &Key<'_>, other: &Key<'_>) -> bool {
+    one == other && hash_of(one) == hash_of(other)
+}
+
+/// Whether a key that owns a text is the one that borrows it.
+fn is_owned_key(alloc: Global, text: &str) -> Result<bool, AllocError> {
+    let owned = Key::from(String::from_str(alloc, text)?);
+    Ok(are_one(&Key::from(text), &owned))
+}
+
+/// Whether a clone is the key.
+fn has_clone(alloc: Global, key: &Key<'_>) -> Result<bool, NoMemory> {
+    Ok(key.try_clone(alloc)? == *key)
+}
+
+/// The text of a key that owns it.
+fn text_of_owned(alloc: Global, text: &str) -> Result<String, Fail> {
+    match Key::from(String::from_str(alloc, text)?).into_string(alloc) {
+        Ok(text) => Ok(text),
+        Err(_) => Err(NoMemory)?,
+    }
 }
 
 #[test]
 fn a_key_is_its_text(rt: HostRuntime) -> Result<(), Fail> {
-    let alloc = rt.alloc();
-    let borrowed = Key::from("key");
-    let owned = Key::from(String::from_str(alloc, "key")?);
-    assert!(rt; borrowed == owned);
-    assert!(rt; borrowed < Key::from("kez"));
-    assert_eq!(rt; borrowed.as_bytes(), b"key".as_slice());
-    assert_eq!(rt; borrowed.as_str(), "key");
-    assert!(rt; borrowed.try_clone(alloc)? == owned);
-    let mut one = FoldHasher::default();
-    borrowed.hash(&mut one);
-    let mut other = FoldHasher::default();
-    owned.hash(&mut other);
-    assert_eq!(rt; one.finish(), other.finish());
-    let Ok(text) = owned.into_string(alloc) else {
-        return Err(NoMemory)?;
-    };
+    assert!(rt; is_text_before(&Key::from("key"), "key", &Key::from("kez")));
+    let is_one = is_owned_key(rt.alloc(), "key")?;
+    assert!(rt; is_one);
+    let has_clone = has_clone(rt.alloc(), &Key::from("key"))?;
+    assert!(rt; has_clone);
+    let text = text_of_owned(rt.alloc(), "key")?;
     assert_eq!(rt; text.as_str(), "key");
     Ok(())
 }
 
-#[test]
-fn integers_are_kept_modulo_two_to_the_28(rt: HostRuntime) {
-    let minus_one = Int28::from(-1i32);
-    assert_eq!(rt; u32::from(minus_one), 268435455);
-    assert_eq!(rt; i32::from(minus_one), -1);
-    assert_eq!(rt; i32::from(Int28::from(0x0800_0000u32)), -134217728);
-    assert_eq!(rt; u32::from(Int28::from(0xffff_ffffu32)), 268435455);
-    assert_eq!(rt; Int28::from(5u32), Int28::from(0x1000_0005u32));
+/// A number, and the 28 bits that are kept of it, without a sign and with one.
+const INTEGERS: [(u32, u32, i32); 5] = [
+    (u32::MAX, 268_435_455, -1),
+    (0x0800_0000, 0x0800_0000, -134_217_728),
+    (5, 5, 5),
+    (0x1000_0005, 5, 5),
+    (0, 0, 0),
+];
+
+/// Whether these bits are kept of a number, however its sign is read.
+fn are_kept(number: u32, bits: u32, signed: i32) -> bool {
+    let integer = Int28::from(number);
+    integer == Int28::from(number.cast_signed())
+        && integer == Int28::from(bits)
+        && u32::from(integer) == bits
+        && i32::from(integer) == signed
 }
 
 #[test]
-fn a_bundle_holds_name_root_and_flag(rt: HostRuntime) -> Result<(), Fail> {
-    let root = Resource::String(CowStr::Borrowed("x"));
-    let bundle = ResourceBundle::new(CowStr::Borrowed("root"), root, false);
-    assert_eq!(rt; bundle.name(), "root");
-    assert!(rt; *bundle.root() == Resource::String(CowStr::Borrowed("x")));
-    assert!(rt; !bundle.is_locale_fallback_enabled);
-    Ok(())
+fn integers_are_kept_modulo_two_to_the_28(rt: HostRuntime) {
+    for (number, bits, signed) in INTEGERS {
+        assert!(rt; are_kept(number, bits, signed), "{number}");
+    }
+}
+
+/// Whether a bundle holds this name and this root, and has no fallback.
+fn holds<'a>(bundle: &ResourceBundle<'a>, name: &str, root: &Resource<'a>) -> bool {
+    bundle.name() == name && *bundle.root() == *root && !bundle.is_locale_fallback_enabled
+}
+
+/// Whether a bundle holds what it is made of.
+fn is_held(name: &str, text: &str) -> bool {
+    let root = Resource::String(CowStr::Borrowed(text));
+    let bundle = ResourceBundle::new(CowStr::Borrowed(name), root, false);
+    holds(&bundle, name, &Resource::String(CowStr::Borrowed(text)))
+}
+
+#[test]
+fn a_bundle_holds_name_root_and_flag(rt: HostRuntime) {
+    assert!(rt; is_held("root", "x"));
 }
 
 #[test]

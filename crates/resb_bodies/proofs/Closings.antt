@@ -64,14 +64,11 @@ tail_taken bs cs ws e = omega (arith, ap length e, length-append bs (words_body 
 module _ (g : Given) (s : State) (ps ws : List ℕ) where
   pub table_in_units : (us : List ℕ) (w at : ℕ) → are_near ps ≡ true → are_short ws ≡ true
       → length s.units < 2 ^ 28
-      → us ≡ ((s.units ++ length ws ∷ []) ++ ps) ++ offsets_in ws → at ≡ length s.units
+      → us ≡ s.units ++ length ws ∷ (ps ++ offsets_in ws) → at ≡ length s.units
       → w ≡ 0x5000_0000 + at
       → ClosesTable g s ps ws (record { units = us; tail = s.tail }) w
   table_in_units us w at near short room e a v =
-      let f : s.units ++ length ws ∷ (ps ++ offsets_in ws) ≡ us =
-      sym (e ∙ append_assoc (s.units ++ length ws ∷ []) ps (offsets_in ws)
-      ∙ append_assoc s.units (length ws ∷ []) (ps ++ offsets_in ws)) in
-      subst (λ x. ClosesTable g s ps ws (record { units = x; tail = s.tail }) w) f
+      subst (λ x. ClosesTable g s ps ws (record { units = x; tail = s.tail }) w) (sym e)
       (subst (ClosesTable g s ps ws (record {
         units = s.units ++ length ws ∷ (ps ++ offsets_in ws);
         tail = s.tail;
@@ -87,14 +84,10 @@ module _ (g : Given) (s : State) (ps ws : List ℕ) where
 
   pub table_is_wide : (bs : List ℕ) (w at : ℕ) → are_near ps ≡ false → here g s ≡ 4 * at
       → at < 2 ^ 28 → length ps < 2 ^ 32 → All (λ p. p < 2 ^ 32) ps
-      → bs ≡ (s.tail ++ words_body ps) ++ words ws → w ≡ 0x4000_0000 + at
+      → bs ≡ s.tail ++ wide_table_body ps ws → w ≡ 0x4000_0000 + at
       → ClosesTable g s ps ws (record { units = s.units; tail = bs }) w
   table_is_wide bs w at far a room n small e v =
-      let f : s.tail ++ wide_table_body ps ws ≡ bs =
-      sym (e ∙ append_assoc s.tail (words_body ps) (words ws)
-      ∙ ap (λ l. s.tail ++ l) (append_assoc (to_le_bytes w32 (length ps)) (words ps)
-      (words ws))) in
-      subst (λ x. ClosesTable g s ps ws (record { units = s.units; tail = x }) w) f
+      subst (λ x. ClosesTable g s ps ws (record { units = s.units; tail = x }) w) (sym e)
       (subst (ClosesTable g s ps ws (record {
         units = s.units;
         tail =
@@ -102,17 +95,20 @@ module _ (g : Given) (s : State) (ps ws : List ℕ) where
       })) (sym v) (wide_table at far a room n small))
 
 pub wide_taken : (bs cs ps ws : List ℕ) → length ps ≡ length ws
-    → cs ≡ (bs ++ words_body ps) ++ words ws → length cs ≡ length bs + (4 + 8 * length ws)
-wide_taken bs cs ps ws n e = omega (
-  arith,
-  n,
-  ap length e,
-  length-append (bs ++ words_body ps)
-      (words ws),
-  length-append bs (words_body ps),
-  body_long ps,
-  words_len ws,
-)
+    → cs ≡ bs ++ wide_table_body ps ws → length cs ≡ length bs + (4 + 8 * length ws)
+wide_taken bs cs ps ws n e =
+    let count : length (to_le_bytes w32 (length ps)) ≡ 4 = refl in
+    omega (
+      arith,
+      n,
+      count,
+      ap length e,
+      length-append bs (wide_table_body ps ws),
+      length-append (to_le_bytes w32 (length ps)) (words ps ++ words ws),
+      length-append (words ps) (words ws),
+      words_len ps,
+      words_len ws,
+    )
 
 pad_long : (n : ℕ) → ((n % 2 ≡ 0) × (length (pad n) ≡ 2)) ⊎ ((n % 2 ≡ 1) × (length (pad n) ≡ 0))
 pad_long n = by (nat_eq (n % 2) 0) refl

@@ -3,7 +3,7 @@
 ghost use Rattle.std.specs.Prelude.{◌≡◌, ◌++◌, ◌<◌, ◌^◌, length, true, OnOk};
 ghost use Rattle.std.specs.Int.{to_le_bytes, w32, w16};
 ghost use Rattle.resb_layout.specs.Laid.{words as words_bytes, fill, halves, words_body};
-ghost use Rattle.resb_layout.specs.Laid.{table_body, are_near};
+ghost use Rattle.resb_layout.specs.Laid.{table_body, wide_table_body, are_near};
 
 use std::alloc::AllocError;
 
@@ -63,6 +63,21 @@ pub(crate) fn put_short_table(
     if positions.len() % 2 == 0 {
         put_half(tail, 0xaaaa)?;
     }
+    put_words(tail, words)
+}
+
+/// Appends the body of a table that has a position which no unit holds: their count, the positions
+/// and the words.
+pub(crate) fn put_wide_table(
+    tail: &mut Vec<u8>,
+    positions: &[u32],
+    words: &[u32],
+) -> Result<(), AllocError>
+    requires { length positions.now < 2 ^ 32 }
+    ensures { OnOk result (tail.new.items
+        ≡ tail.old.items ++ wide_table_body positions.now words.now) }
+{
+    put_counted(tail, positions)?;
     put_words(tail, words)
 }
 

@@ -2,11 +2,11 @@
 //! What is laid for a body is said in `resource`.
 ghost use Rattle.std.specs.Prelude.{◌≡◌, ◌++◌, ◌∷◌, ◌+◌, ◌-◌, ◌/◌, ◌^◌, ◌<◌, ◌≤◌};
 ghost use Rattle.std.specs.Prelude.{ℕ, Some, [], length, take, IfOk, OnOk};
-ghost use Rattle.resb_tree.specs.Tree.{array, binary, int_vector, integer, string};
+ghost use Rattle.resb_tree.specs.Tree.{Entries, array, binary, int_vector, integer, string};
 ghost use Rattle.resb_tree.specs.Tree.{table as table_with};
 ghost use Rattle.resb_pool.specs.Plan.{offset_of};
 ghost use Rattle.resb_layout.specs.Laid.{Given, State, ArePlaced};
-ghost use Rattle.resb_tree.specs.WalkOrder.{entry_keys};
+ghost use Rattle.resb_tree.specs.WalkOrder.{entry_keys, values_of};
 ghost use Rattle.resb_tree.specs.View.{items_view, entries_view};
 ghost use Rattle.resb_bodies.specs.StackSteps.{LaysNext};
 ghost use Rattle.resb_bodies.specs.Room.{given_by, state_of, IsKnown};
@@ -66,6 +66,28 @@ fn positions_of(alloc: Global, sites: &Sites<'_>, table: &Table<'_>) -> Result<V
     Ok(positions)
 }
 
+/// Lays a table that isn't empty, whose keys have these positions, behind its values.
+fn step_full_table(
+    sites: &Sites<'_>,
+    bodies: &mut Bodies,
+    words: &mut Vec<u32>,
+    positions: &[u32],
+) -> Result<(), AllocError>
+    requires room { HasRoom sites.now bodies.old (length positions.now) }
+    requires enough { length positions.now ≤ length words.old.items }
+    requires full { 0 < length positions.now }
+    ensures step { OnOk result ((entries : Entries)
+        → length (values_of entries) ≡ length positions.now
+        → ArePlaced (given_by sites.now) (entry_keys entries) positions.now
+        → LaysNext (given_by sites.now) (state_of bodies.old) words.old.items
+        (table_with entries) (state_of bodies.new) words.new.items) }
+    ensures takes { OnOk result (Takes sites.now bodies.old bodies.new (length positions.now)) }
+{
+    let (_, members) = words.split_at(words.len() - positions.len());
+    let word = close_table(sites, bodies, positions, members)?;
+    replace(words, positions.len(), word)
+}
+
 /// Lays a table, whose keys are all used, behind its values, whose words it takes off the stack.
 pub(crate) fn step_table(
     alloc: Global,
@@ -86,9 +108,7 @@ pub(crate) fn step_table(
         return replace(words, 0, word(ResourceReprType::Table, 0));
     }
     let positions = positions_of(alloc, sites, table)?;
-    let (_, members) = words.split_at(words.len() - table.len());
-    let word = close_table(sites, bodies, &positions, members)?;
-    replace(words, table.len(), word)
+    step_full_table(sites, bodies, words, &positions)
 }
 
 /// Puts the word of a number of 28 bits, which has no body.

@@ -1,6 +1,6 @@
 //! The body of one resource, whose members' bodies stand already.
 //! In which order resources come is said in `walk_order`.
-ghost use Rattle.std.specs.Prelude.{◌≡◌, ◌++◌, ◌+◌, ◌*◌, ◌/◌, ◌%◌, ◌<◌, ◌^◌, length, IfOk, OnOk};
+ghost use Rattle.std.specs.Prelude.{◌≡◌, ◌++◌, ◌∷◌, ◌+◌, ◌*◌, ◌/◌, ◌%◌, ◌<◌, ◌^◌, length, IfOk, OnOk};
 ghost use Rattle.std.specs.Prelude.{true};
 ghost use Rattle.resb_tree.specs.Tree.{binary, int_vector};
 ghost use Rattle.resb_format.specs.Descriptor.{type_number};
@@ -9,7 +9,7 @@ ghost use Rattle.resb_layout.specs.Laid.{offsets_in};
 ghost use Rattle.resb_bodies.specs.Room.{given_by, state_of};
 ghost use Rattle.resb_bodies.specs.Inner.Seen.{HasRoom, Takes};
 
-use crate::bytes::{put_counted, put_fill, put_short_table, put_word, put_words};
+use crate::bytes::{put_counted, put_fill, put_short_table, put_wide_table, put_word};
 use crate::given::{Bodies, Sites};
 use resb_format::{ResDescriptor, ResourceReprType};
 use std::alloc::AllocError;
@@ -96,6 +96,18 @@ fn put_near(units: &mut Vec<u16>, positions: &[u32]) -> Result<(), AllocError>
     Ok(())
 }
 
+/// Appends the count, the positions and the offsets of a table of short strings.
+fn put_unit_table(units: &mut Vec<u16>, positions: &[u32], words: &[u32]) -> Result<(), AllocError>
+    requires near { are_near positions.now ≡ true }
+    requires short { are_short words.now ≡ true }
+    ensures { OnOk result (units.new.items ≡ units.old.items
+        ++ length words.now ∷ (positions.now ++ offsets_in words.now)) }
+{
+    units.push(words.len() as u16)?;
+    put_near(units, positions)?;
+    put_offsets(units, words)
+}
+
 /// Lays an array that isn't empty.
 pub(crate) fn close_array(
     sites: &Sites<'_>,
@@ -133,15 +145,12 @@ pub(crate) fn close_table(
 {
     if !are_near_positions(positions) {
         let at = tail_value(sites, &bodies.tail, 0);
-        put_counted(&mut bodies.tail, positions)?;
-        put_words(&mut bodies.tail, words)?;
+        put_wide_table(&mut bodies.tail, positions, words)?;
         return Ok(word(ResourceReprType::_Table32, at));
     }
     if are_short_strings(words) {
         let at = bodies.units.len() as u32;
-        bodies.units.push(words.len() as u16)?;
-        put_near(&mut bodies.units, positions)?;
-        put_offsets(&mut bodies.units, words)?;
+        put_unit_table(&mut bodies.units, positions, words)?;
         return Ok(word(ResourceReprType::Table16, at));
     }
     let at = tail_value(sites, &bodies.tail, 0);

@@ -1,6 +1,5 @@
-use Rattle.std.proofs.Common.{◌++◌, ◌<◌, ◌^◌, length, sym, ◌∙◌, ap, arith}
+use Rattle.std.proofs.Common.{◌<◌, ◌^◌, length, sym, ◌∙◌, ap, arith}
 use Rattle.std.proofs.lemmas.List.Elements.{All-from_get_or}
-use Rattle.resb_layout.specs.Laid.{offsets_in, words}
 use Rattle.resb_bodies.specs.Room.{given_by, state_of}
 use Rattle.resb_bodies.proofs.Closings.{table_in_units, table_in_tail, table_is_wide, wide_taken}
 use Rattle.resb_bodies.proofs.Closings.{table_taken}
@@ -11,21 +10,19 @@ pub returns-then-not-are_near_positions-clause-lays
 returns-then-not-are_near_positions-clause-lays c =
     let h = c.if-not-are_near_positions.true in
     table_is_wide (given_by c.args.sites.now) (state_of c.args.bodies.now) c.args.positions.now
-    c.args.words.now c.put_words.new.tail.items c.word.result c.tail_value-at.result
+    c.args.words.now c.put_wide_table.new.tail.items c.word.result c.tail_value-at.result
     (sym c.are_near_positions.ensures
     ∙ h) (omega (arith, c.tail_value-at.ensures.at, ap length c.deref.ensures.value))
     c.tail_value-at.ensures.fits (omega (arith, c.requires.room.bytes, c.requires.many))
     (All-from_get_or (λ p. p < 2 ^ 32) c.args.positions.now 0 (λ i l. let f =
     c.type_inv.positions i in omega (arith, f)))
-    (c.in_ok-put_words.ensures ∙ ap (λ l. l ++ words c.args.words.now) c.in_ok-put_counted.ensures)
-    c.word.ensures
+    c.in_ok-put_wide_table.ensures c.word.ensures
 
 pub returns-then-not-are_near_positions-clause-takes
     : goal.returns-then-not-are_near_positions-clause-takes
 returns-then-not-are_near_positions-clause-takes c =
-    let n = wide_taken c.args.bodies.now.tail.items c.put_words.new.tail.items c.args.positions.now
-    c.args.words.now c.requires.many (c.in_ok-put_words.ensures
-    ∙ ap (λ l. l ++ words c.args.words.now) c.in_ok-put_counted.ensures) in
+    let n = wide_taken c.args.bodies.now.tail.items c.put_wide_table.new.tail.items
+    c.args.positions.now c.args.words.now c.requires.many c.in_ok-put_wide_table.ensures in
     record {
       aligned = omega (arith, n, c.requires.room.aligned);
       units = omega arith;
@@ -37,12 +34,11 @@ pub returns-then-are_short_strings-clause-lays : goal.returns-then-are_short_str
 returns-then-are_short_strings-clause-lays c =
     let h = c.if-not-are_near_positions.false in
     table_in_units (given_by c.args.sites.now) (state_of c.args.bodies.now) c.args.positions.now
-    c.args.words.now c.put_offsets.new.units.items c.word-then-are_short_strings.result
+    c.args.words.now c.put_unit_table.new.units.items c.word-then-are_short_strings.result
     c.len-at.result
     (sym c.are_near_positions.ensures ∙ h) (sym c.are_short_strings.ensures
     ∙ c.if-are_short_strings.true) (omega (arith, c.requires.room.units))
-    (c.in_ok-put_offsets.ensures ∙ ap (λ l. l ++ offsets_in c.args.words.now)
-    (c.in_ok-put_near.ensures ∙ ap (λ l. l ++ c.args.positions.now) c.in_ok-push.ensures.items))
+    c.in_ok-put_unit_table.ensures
     (c.len-at.ensures ∙ c.args.bodies.now.units.ok.0) c.word-then-are_short_strings.ensures
 
 pub returns-clause-lays : goal.returns-clause-lays

@@ -6,7 +6,7 @@ use Rattle.std.specs.List.Sorted.{IsSorted}
 use Rattle.resb_pool.specs.Pool.{record_units}
 use Rattle.resb_pool.specs.Records.{IsRecords}
 use Rattle.resb_pool.specs.Inner.Placing.{IsRecordOf, AreEnds, record_texts, record_cmp}
-use Rattle.resb_pool.specs.Inner.Laid.{AreLyingIn, IsBlock}
+use Rattle.resb_pool.specs.Inner.LaidRecords.{AreLyingIn, IsBlock}
 use Rattle.resb_pool.specs.declared.homes.Home.{Home}
 use Rattle.resb_pool.specs.declared.records.Record.{Record}
 use Rattle.resb_pool.specs.declared.records.Block.{Block}

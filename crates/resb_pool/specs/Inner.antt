@@ -8,4 +8,4 @@ pub mod Nodes
 pub mod Changes
 pub mod Greatest
 pub mod Placing
-pub mod Laid
+pub mod LaidRecords

@@ -4,7 +4,7 @@ ghost use Rattle.std.specs.Prelude.{ℕ, ◌<◌, ◌^◌, List, map, IfOk, IfEr
 ghost use Rattle.resb_pool.specs.FaultOf.{fault_of};
 ghost use Rattle.resb_pool.specs.Plan.{nows, plan_units, offset_of, texts_size, IsPlan, NotPlanned};
 ghost use Rattle.resb_pool.specs.Inner.Placing.{AreTexts, AreHomes};
-ghost use Rattle.resb_pool.specs.Inner.Laid.{IsBlock, ArePlaced};
+ghost use Rattle.resb_pool.specs.Inner.LaidRecords.{IsBlock, ArePlaced};
 
 use crate::error::BinarySerializerError;
 use crate::homes::{Home, find_homes, find_sums};

@@ -4,7 +4,7 @@ use Rattle.std.specs.List.Sorted.{IsSorted}
 use Rattle.resb_pool.specs.Plan.{nows}
 use Rattle.resb_pool.specs.Records.{IsRecords}
 use Rattle.resb_pool.specs.Inner.Placing.{AreSums, IsRecordOf, record_texts, record_cmp}
-use Rattle.resb_pool.specs.Inner.Laid.{AreLyingIn}
+use Rattle.resb_pool.specs.Inner.LaidRecords.{AreLyingIn}
 use Rattle.resb_pool.specs.declared.records.Record.{Record}
 use Rattle.resb_pool.proofs.PlanLemmas.{totals_small, sums_are, laid_small}
 use Rattle.resb_pool.proofs.Laying.{block_of}

@@ -2,7 +2,7 @@ use Rattle.std.proofs.Common.{ℕ, List, map, sym, ◌∙◌, ap, subst}
 use Rattle.std.specs.List.{All}
 use Rattle.resb_pool.specs.Plan.{nows}
 use Rattle.resb_pool.specs.Inner.Placing.{AreTexts, ClosesWithin, offset_by}
-use Rattle.resb_pool.specs.Inner.Laid.{IsBlock}
+use Rattle.resb_pool.specs.Inner.LaidRecords.{IsBlock}
 use Rattle.resb_pool.specs.declared.homes.Home.{Home}
 use Rattle.resb_pool.proofs.PlanLemmas.{all_close}
 use Rattle.resb_pool.proofs.pool.place.Goals as goal

@@ -8,7 +8,7 @@ use Rattle.std.proofs.lemmas.Result.{err_from_is_err_and}
 use Rattle.std.proofs.lemmas.List.{length-map}
 use Rattle.resb_pool.specs.Plan.{nows, no_memory}
 use Rattle.resb_pool.specs.Inner.Placing.{text, AreTexts, offset_by}
-use Rattle.resb_pool.specs.Inner.Laid.{ArePlaced}
+use Rattle.resb_pool.specs.Inner.LaidRecords.{ArePlaced}
 use Rattle.resb_pool.proofs.Interning.{length-nows}
 use Rattle.resb_pool.proofs.TextLoops.{none_too_long}
 use Rattle.resb_pool.proofs.PlanLemmas.{planned, offset_at}

@@ -24,6 +24,7 @@ loop-word-preserved c =
     let ws = c.args.words.now in
     let i = c.loop-word.word-index in
     c.in_ok-push.ensures.items
-    ∙ ap (λ k. c.loop-word.units.items ++ (get_or ws i 0 - k) ∷ []) c.first_string_word-first.ensures
+    ∙ ap (λ k. c.loop-word.units.items ++ (get_or ws i 0 - k) ∷ [])
+    c.first_string_word-first.ensures
     ∙ ap (λ l. l ++ (get_or ws i 0 - 0x6000_0000) ∷ []) c.loop-word.invariant
     ∙ offsets_more us ws i c.loop-word-test.true

@@ -6,7 +6,8 @@ use Rattle.resb_format.specs.Parts.{Parts}
 use Rattle.resb_format.specs.Content.{Member, word, unit, Content, leaf, list, pairs, content}
 use Rattle.resb_format.specs.Denotes.{DenMember, den_word, den_unit, den_leaf}
 use Rattle.resb_format.specs.Strings.{text_at}
-use Rattle.resb_walk.specs.Inner.Members.{member_content, member_damage, content_of, leaf_tree}
+use Rattle.resb_walk.specs.Inner.MemberContent.{member_content, member_damage}
+use Rattle.resb_walk.specs.Inner.Members.{content_of, leaf_tree}
 use Rattle.resb_walk.specs.Inner.Rounds.{Starts, Reads}
 use Rattle.resb_walk.specs.Meets.{Meets, meets_text, meets_word}
 use Rattle.resb_walk.specs.declared.file.Standing.{Standing}

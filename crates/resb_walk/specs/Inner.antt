@@ -1,5 +1,6 @@
 -- Words of the reader's private steps. Public clauses cite those of `Members`; the others have not
 -- to be trusted.
 pub mod Members
+pub mod MemberContent
 pub mod Frames
 pub mod Rounds

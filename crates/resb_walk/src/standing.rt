@@ -13,7 +13,7 @@ ghost use Rattle.resb_walk.specs.Damage as damage;
 ghost use Rattle.resb_walk.specs.Damage.{Says, text_damage, key_damage, content_damage};
 ghost use Rattle.resb_walk.specs.Files.{parts_in};
 ghost use Rattle.resb_walk.specs.Inner.Members.{content_of, text_of_bytes, member_of};
-ghost use Rattle.resb_walk.specs.Inner.Members.{member_content, member_damage};
+ghost use Rattle.resb_walk.specs.Inner.MemberContent.{member_content, member_damage};
 ghost use Rattle.resb_walk.specs.Refusals.{IsFault};
 
 use crate::faults::{key_not_utf8, key_past_end, key_unterminated, not_utf16, past_end};
@@ -119,7 +119,7 @@ impl<'a> File<'a> {
 
     /// What stands at a member.
     #[inline(always)]
-    #[tactic(auto, unfolding(crate::specs::Inner::Members::member_content))]
+    #[tactic(auto, unfolding(crate::specs::Inner::MemberContent::member_content))]
     pub fn member(self, member: Member) -> Result<Standing<'a>, BinaryDeserializerError>
         ensures stands { let p = parts_in self.entry in let m = member_of member in
             MatchResult result (λ s. member_content p m ≡ Some (content_of s))

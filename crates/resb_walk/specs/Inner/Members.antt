@@ -1,14 +1,10 @@
--- The members and entries that are still to come, what stands at a member, and the tree of a leaf.
-use Rattle.std.specs.Prelude.{ℕ, ◌%◌, ◌^◌, List, [], map, encode_utf8_all, Option, option_map}
+-- The members and entries that are still to come, and the tree of a leaf.
+use Rattle.std.specs.Prelude.{ℕ, ◌%◌, ◌^◌, List, [], map, encode_utf8_all}
 use Rattle.std.specs.List.{zip}
 use Rattle.std.specs.Char.Utf16.{utf16_lossy_chars}
 use Rattle.resb_tree.specs.Tree.{Tree, string, binary, integer, int_vector}
 use Rattle.resb_format.specs.Bytes.{units_of, words_of}
 use Rattle.resb_format.specs.Content as at
-use Rattle.resb_format.specs.Error.{Refusal}
-use Rattle.resb_format.specs.Parts.{Parts}
-use Rattle.resb_format.specs.Strings.{text_at}
-use Rattle.resb_walk.specs.Damage.{text_damage, content_damage}
 use Rattle.resb_walk.specs.declared.file.Leaf.{Leaf}
 use Rattle.resb_walk.specs.declared.file.Leaf.TheVariants.{Text, Empty, Binary, Integer, Numbers}
 use Rattle.resb_walk.specs.declared.file.Member.{Member}
@@ -50,12 +46,3 @@ abbrev pub content_of : Standing → at.Content
 content_of (kind.Leaf l) = at.leaf (leaf_tree l)
 content_of (kind.List ms) = at.list (members_of ms)
 content_of (kind.Table ps) = at.pairs (pairs_of ps)
-
--- what stands at a member, and what is said where nothing does
-abbrev pub member_content : Parts → at.Member → Option at.Content
-member_content p (at.word w) = at.content p w
-member_content p (at.unit u) = option_map (λ t. at.leaf (string t)) (text_at p.block u)
-
-abbrev pub member_damage : Parts → at.Member → Refusal
-member_damage p (at.word w) = content_damage p w
-member_damage p (at.unit u) = text_damage p.block u

@@ -2,7 +2,7 @@
 //! Rows compare such lines.
 use resb_format::{BinaryDeserializerError, Resource};
 use resb_read::{count_resources, from_bytes, from_bytes_counted, tree_from_bytes};
-use std::alloc::{AllocError, Global};
+use std::alloc::Global;
 use std::process::Abort;
 use std::test::Fail;
 
@@ -13,55 +13,51 @@ fn push_tree(
     line: &mut String,
     tree: &Resource<'_>,
     levels: u8,
-) -> Result<(), AllocError> {
+) -> Result<(), Fail> {
     if levels == 0 {
-        return line.push_str("..");
+        line.push_str("..")?;
+        return Ok(());
     }
     match tree {
-        Resource::String(text) => push_between(line, "\"", text.as_str(), "\""),
+        Resource::String(text) => push_text(line, text.as_str())?,
         Resource::Array(items) => {
             line.push_str("[")?;
             for item in items {
                 push_tree(alloc, line, item, levels - 1)?;
                 line.push_str(",")?;
             }
-            line.push_str("]")
+            line.push_str("]")?;
         }
         Resource::Table(table) => {
             line.push_str("{")?;
             for (key, item) in table {
-                push_between(line, "", key.as_str(), "=")?;
+                line.push_str(key.as_str())?;
+                line.push_str("=")?;
                 push_tree(alloc, line, item, levels - 1)?;
                 line.push_str(",")?;
             }
-            line.push_str("}")
+            line.push_str("}")?;
         }
-        Resource::Binary(bytes) => push_numbers(alloc, line, "<", bytes.as_slice(), ">"),
-        Resource::Integer(number) => push_number(alloc, line, u32::from(*number), ""),
-        Resource::IntVector(numbers) => push_numbers(alloc, line, "(", numbers.as_slice(), ")"),
+        Resource::Binary(bytes) => push_numbers(alloc, line, "<", bytes.as_slice(), ">")?,
+        Resource::Integer(number) => push_number(alloc, line, u32::from(*number))?,
+        Resource::IntVector(numbers) => push_numbers(alloc, line, "(", numbers.as_slice(), ")")?,
     }
+    Ok(())
 }
 
-/// Adds a text between two others.
-pub(crate) fn push_between(
-    line: &mut String,
-    before: &str,
-    text: &str,
-    behind: &str,
-) -> Result<(), AllocError> {
-    line.push_str(before)?;
+/// Adds a text between quotation marks.
+fn push_text(line: &mut String, text: &str) -> Result<(), Fail> {
+    line.push_str("\"")?;
     line.push_str(text)?;
-    line.push_str(behind)
+    line.push_str("\"")?;
+    Ok(())
 }
 
-/// Adds a number and what stands behind it.
-fn push_number(
-    alloc: Global,
-    line: &mut String,
-    number: u32,
-    behind: &str,
-) -> Result<(), AllocError> {
-    line.push_str(format!(in alloc; "{number}{behind}")?.as_str())
+/// Adds a number.
+fn push_number(alloc: Global, line: &mut String, number: u32) -> Result<(), Fail> {
+    let digits = format!(in alloc; "{number}")?;
+    line.push_str(digits.as_str())?;
+    Ok(())
 }
 
 /// Adds numbers between two marks.
@@ -71,12 +67,14 @@ fn push_numbers<N: Copy + Into<u32>>(
     before: &str,
     numbers: &[N],
     behind: &str,
-) -> Result<(), AllocError> {
+) -> Result<(), Fail> {
     line.push_str(before)?;
     for number in numbers {
-        push_number(alloc, line, (*number).into(), ",")?;
+        push_number(alloc, line, (*number).into())?;
+        line.push_str(",")?;
     }
-    line.push_str(behind)
+    line.push_str(behind)?;
+    Ok(())
 }
 
 /// The line of a tree.
@@ -115,15 +113,10 @@ fn line_by_counted(alloc: Global, bytes: &[u8]) -> Result<String, Fail> {
     }
 }
 
-/// The line of a file's tree, with the count that `count_resources` gives.
-fn line_of_counted(alloc: Global, bytes: &[u8], tree: &Resource<'_>) -> Result<String, Fail> {
-    line_of_tree(alloc, count_resources(alloc, bytes)?, tree)
-}
-
 /// The line of a file, by `from_bytes` and `count_resources`.
 fn line_by_count(alloc: Global, bytes: &[u8]) -> Result<String, Fail> {
     match from_bytes::<Resource<'_>>(alloc, bytes) {
-        Ok(tree) => line_of_counted(alloc, bytes, &tree),
+        Ok(tree) => line_of_tree(alloc, count_resources(alloc, bytes)?, &tree),
         Err(error) => line_of_refusal(alloc, error),
     }
 }
@@ -150,20 +143,15 @@ pub(crate) fn line_of(alloc: Global, bytes: &[u8]) -> Result<String, Fail> {
     same(line, line_by_tree(alloc, bytes)?)
 }
 
-/// What stands before and behind the first mark of a row.
-pub(crate) fn halves<'r>(row: &'r str, mark: &str) -> Result<(&'r str, &'r str), Fail> {
-    Ok(row.split_once(mark).ok_or("a row without a mark")?)
-}
-
 /// What a row asks for, and the answer that it wants.
 pub(crate) fn parts(row: &str) -> Result<(&str, &str), Fail> {
-    let (input, said) = halves(row, " =>")?;
+    let (input, said) = row.split_once(" =>").ok_or("a row without an answer")?;
     Ok((input, said.trim_start()))
 }
 
-/// The line of an input is the one that is wanted.
-pub(crate) fn assert_said(rt: &impl Abort, found: String, said: &str, input: &str) {
-    assert_eq!(rt; found.as_str(), said, "of {input}");
+/// The line is the one that is wanted.
+pub(crate) fn assert_said(rt: &impl Abort, found: String, said: &str) {
+    assert_eq!(rt; found.as_str(), said);
 }
 
 /// The digest of no lines.

@@ -1,13 +1,11 @@
 //! Cursors, accesses and named deserializers, step by step: what each step takes from the budget,
 //! and what an access answers behind its last step and behind an error. The tests are in `rows`.
-use crate::answers::{halves, line_of_refusal, line_of_tree, same};
-use crate::asks::line_of_read;
+use crate::answers::{line_of_refusal, line_of_tree, same};
+use crate::asks::line;
 use crate::files::file_of;
 use crate::places::place;
 use resb_format::{BinaryDeserializerError, Key};
-use resb_read::{
-    Cursor, IntVectorDeserializer, MapAccess, Resource16BitDeserializer, SeqAccess, Walk,
-};
+use resb_read::{Cursor, IntVectorDeserializer, MapAccess, Walk};
 use std::alloc::Global;
 use std::test::Fail;
 
@@ -35,7 +33,7 @@ u64 of NUMBERS => 4294967295;
 
 /// The line of what comes of a row of these.
 pub(crate) fn line_of_step(alloc: Global, input: &str) -> Result<String, Fail> {
-    let (step, words) = halves(input, " of ")?;
+    let (step, words) = input.split_once(" of ").ok_or("a row without a file")?;
     let bytes = file_of(alloc, words)?;
     stepped(alloc, step, &bytes)
 }
@@ -60,18 +58,9 @@ fn stepped(alloc: Global, step: &str, bytes: &[u8]) -> Result<String, Fail> {
 fn line_of_skips(alloc: Global, bytes: &[u8]) -> Result<String, Fail> {
     let (root, mut walk) = Cursor::root(bytes)?;
     let mut entries = root.read_map(&mut walk)?;
-    line_of_two_skips(alloc, &mut entries, &mut walk)
-}
-
-/// What is left of a table's opening and of its two entries, and whether it ends there.
-fn line_of_two_skips(
-    alloc: Global,
-    entries: &mut MapAccess<'_, '_>,
-    walk: &mut Walk,
-) -> Result<String, Fail> {
     let (opened, count) = (walk.left(), entries.size_hint());
-    let first = skipped(entries, walk)?;
-    let second = skipped(entries, walk)?;
+    let first = skipped(&mut entries, &mut walk)?;
+    let second = skipped(&mut entries, &mut walk)?;
     let ends = entries.next_entry_cursor()?.is_none();
     Ok(format!(in alloc; "{opened} {count} {first} {second} {ends}")?)
 }
@@ -100,22 +89,16 @@ fn push_step(line: &mut String, said: String) -> Result<(), Fail> {
     Ok(())
 }
 
-/// Adds four steps over the entries of a table of texts.
-fn push_entries(alloc: Global, line: &mut String, bytes: &[u8]) -> Result<(), Fail> {
+/// The line of four steps over the entries of a table of texts.
+fn line_of_entries(alloc: Global, bytes: &[u8]) -> Result<String, Fail> {
     let (root, mut walk) = Cursor::root(bytes)?;
     let mut entries = root.read_map(&mut walk)?;
+    let mut all = String::new(alloc);
     for _ in 0u8..4 {
         let next = entries.next_entry::<&str, String>(alloc, &mut walk);
-        push_step(line, line_of_read(alloc, next)?)?;
+        push_step(&mut all, line(alloc, next)?)?;
     }
-    Ok(())
-}
-
-/// The line of those steps.
-fn line_of_entries(alloc: Global, bytes: &[u8]) -> Result<String, Fail> {
-    let mut line = String::new(alloc);
-    push_entries(alloc, &mut line, bytes)?;
-    Ok(line)
+    Ok(all)
 }
 
 /// The line of an entry of a key and a text.
@@ -133,72 +116,28 @@ fn line_of_entry(
     }
 }
 
-/// Adds three steps over the entries of a table of texts by their keys.
-fn push_keys(alloc: Global, line: &mut String, bytes: &[u8]) -> Result<(), Fail> {
+/// The line of three steps over the entries of a table of texts by their keys.
+fn line_of_keys(alloc: Global, bytes: &[u8]) -> Result<String, Fail> {
     let (root, mut walk) = Cursor::root(bytes)?;
     let mut entries = root.read_map(&mut walk)?;
+    let mut all = String::new(alloc);
     for _ in 0u8..3 {
         let next = entries.next_entry::<Key<'_>, String>(alloc, &mut walk);
-        push_step(line, line_of_entry(alloc, next)?)?;
+        push_step(&mut all, line_of_entry(alloc, next)?)?;
     }
-    Ok(())
+    Ok(all)
 }
 
-/// The line of those steps.
-fn line_of_keys(alloc: Global, bytes: &[u8]) -> Result<String, Fail> {
-    let mut line = String::new(alloc);
-    push_keys(alloc, &mut line, bytes)?;
-    Ok(line)
-}
-
-/// Adds four steps over the members of a list of texts.
-fn push_members(alloc: Global, line: &mut String, list: Cursor<'_>) -> Result<(), Fail> {
+/// The line of four steps over the members of a list of texts.
+fn line_of_members(alloc: Global, bytes: &[u8]) -> Result<String, Fail> {
     let mut walk = Walk::new(9);
-    let mut members = list.read_seq(&mut walk)?;
+    let mut members = place(bytes, "root v0")?.read_seq(&mut walk)?;
+    let mut all = String::new(alloc);
     for _ in 0u8..4 {
         let next = members.next_element::<String>(alloc, &mut walk);
-        push_step(line, line_of_read(alloc, next)?)?;
+        push_step(&mut all, line(alloc, next)?)?;
     }
-    Ok(())
-}
-
-/// The line of those steps.
-fn line_of_members(alloc: Global, bytes: &[u8]) -> Result<String, Fail> {
-    let mut line = String::new(alloc);
-    push_members(alloc, &mut line, place(bytes, "root v0")?)?;
-    Ok(line)
-}
-
-/// What an access says to each of two steps, whether it goes on, what is to come, and what is left.
-fn line_behind(
-    alloc: Global,
-    said: &str,
-    goes_on: bool,
-    rest: usize,
-    left: usize,
-) -> Result<String, Fail> {
-    Ok(format!(in alloc; "{said}; {goes_on} {rest} {left}")?)
-}
-
-/// What is said of the next entry, whose value is not what is asked for.
-fn refused_entry(
-    alloc: Global,
-    entries: &mut MapAccess<'_, '_>,
-    walk: &mut Walk,
-) -> Result<String, Fail> {
-    line_of_read(alloc, entries.next_entry::<&str, u8>(alloc, walk))
-}
-
-/// Two steps over such entries, and what is then to come and left.
-fn line_of_refusals(
-    alloc: Global,
-    entries: &mut MapAccess<'_, '_>,
-    walk: &mut Walk,
-) -> Result<String, Fail> {
-    let first = refused_entry(alloc, entries, walk)?;
-    let said = same(first, refused_entry(alloc, entries, walk)?)?;
-    let goes_on = entries.next_entry_cursor().is_ok();
-    line_behind(alloc, &said, goes_on, entries.size_hint(), walk.left())
+    Ok(all)
 }
 
 /// Two steps over entries whose values are not what is asked for, and what is then to come and
@@ -206,35 +145,24 @@ fn line_of_refusals(
 fn line_of_refused_entries(alloc: Global, bytes: &[u8]) -> Result<String, Fail> {
     let (root, mut walk) = Cursor::root(bytes)?;
     let mut entries = root.read_map(&mut walk)?;
-    line_of_refusals(alloc, &mut entries, &mut walk)
-}
-
-/// What is said of the next member, which is not what is asked for.
-fn refused_member(
-    alloc: Global,
-    members: &mut SeqAccess<'_, '_>,
-    walk: &mut Walk,
-) -> Result<String, Fail> {
-    line_of_read(alloc, members.next_element::<u8>(alloc, walk))
-}
-
-/// Two steps over such members, and what is then to come and left.
-fn line_of_other_members(
-    alloc: Global,
-    members: &mut SeqAccess<'_, '_>,
-    walk: &mut Walk,
-) -> Result<String, Fail> {
-    let first = refused_member(alloc, members, walk)?;
-    let said = same(first, refused_member(alloc, members, walk)?)?;
-    let goes_on = members.next_cursor().is_ok();
-    line_behind(alloc, &said, goes_on, members.size_hint(), walk.left())
+    let first = line(alloc, entries.next_entry::<&str, u8>(alloc, &mut walk))?;
+    let second = line(alloc, entries.next_entry::<&str, u8>(alloc, &mut walk))?;
+    let goes_on = entries.next_entry_cursor().is_ok();
+    let (rest, left) = (entries.size_hint(), walk.left());
+    let said = same(first, second)?;
+    Ok(format!(in alloc; "{said}; {goes_on} {rest} {left}")?)
 }
 
 /// Two steps over members that are not what is asked for, and what is then to come and left.
 fn line_of_refused_members(alloc: Global, bytes: &[u8]) -> Result<String, Fail> {
     let mut walk = Walk::new(9);
     let mut members = place(bytes, "root v0")?.read_seq(&mut walk)?;
-    line_of_other_members(alloc, &mut members, &mut walk)
+    let first = line(alloc, members.next_element::<u8>(alloc, &mut walk))?;
+    let second = line(alloc, members.next_element::<u8>(alloc, &mut walk))?;
+    let goes_on = members.next_cursor().is_ok();
+    let (rest, left) = (members.size_hint(), walk.left());
+    let said = same(first, second)?;
+    Ok(format!(in alloc; "{said}; {goes_on} {rest} {left}")?)
 }
 
 /// Files and places, and whether a deserializer of short strings, of numbers and of keys is there.
@@ -246,35 +174,26 @@ TEXTS / root k0 => false false true;
 ";
 
 /// Which deserializers a place has.
-fn line_of_place(alloc: Global, at: Cursor<'_>) -> Result<String, Fail> {
+pub(crate) fn line_of_named(alloc: Global, input: &str) -> Result<String, Fail> {
+    let (words, path) = input.split_once(" / ").ok_or("a row without a place")?;
+    let bytes = file_of(alloc, words)?;
+    let at = place(&bytes, path)?;
     let string = at.as_16_bit().is_some();
     let number = at.as_int_vector().is_some();
     let key = at.as_key().is_some();
     Ok(format!(in alloc; "{string} {number} {key}")?)
 }
 
-/// Which deserializers the place of a row has.
-pub(crate) fn line_of_named(alloc: Global, input: &str) -> Result<String, Fail> {
-    let (words, path) = halves(input, " / ")?;
-    let bytes = file_of(alloc, words)?;
-    line_of_place(alloc, place(&bytes, path)?)
-}
-
-/// The line of a short string: its text, its bytes, and what of 2 is left.
-fn line_of_short(alloc: Global, string: Resource16BitDeserializer<'_>) -> Result<String, Fail> {
+/// A short string by its deserializer: its text, its bytes, and what of 2 is left.
+fn line_of_string(alloc: Global, bytes: &[u8]) -> Result<String, Fail> {
+    let Some(string) = place(bytes, "root v0 m1")?.as_16_bit() else {
+        return Err("no string")?;
+    };
     let mut walk = Walk::new(2);
-    let units = string.read_bytes(&mut walk)?;
     let text = string.read_string(alloc, &mut walk)?;
+    let units = string.read_bytes(&mut walk)?;
     let left = walk.left();
     Ok(format!(in alloc; "{text} {units:?} {left}")?)
-}
-
-/// The line of a short string by its deserializer.
-fn line_of_string(alloc: Global, bytes: &[u8]) -> Result<String, Fail> {
-    match place(bytes, "root v0 m1")?.as_16_bit() {
-        Some(string) => line_of_short(alloc, string),
-        None => Err("no string")?,
-    }
 }
 
 /// The line of a number as a type that is named.
@@ -284,14 +203,14 @@ fn line_of_number(
     name: &str,
 ) -> Result<String, Fail> {
     match name {
-        "i8" => line_of_read(alloc, number.read_i8()),
-        "i16" => line_of_read(alloc, number.read_i16()),
-        "i32" => line_of_read(alloc, number.read_i32()),
-        "i64" => line_of_read(alloc, number.read_i64()),
-        "u8" => line_of_read(alloc, number.read_u8()),
-        "u16" => line_of_read(alloc, number.read_u16()),
-        "u32" => line_of_read(alloc, number.read_u32()),
-        _ => line_of_read(alloc, number.read_u64()),
+        "i8" => line(alloc, number.read_i8()),
+        "i16" => line(alloc, number.read_i16()),
+        "i32" => line(alloc, number.read_i32()),
+        "i64" => line(alloc, number.read_i64()),
+        "u8" => line(alloc, number.read_u8()),
+        "u16" => line(alloc, number.read_u16()),
+        "u32" => line(alloc, number.read_u32()),
+        _ => line(alloc, number.read_u64()),
     }
 }
 

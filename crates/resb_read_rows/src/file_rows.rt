@@ -1,7 +1,7 @@
 //! Files, and the count and the tree that each denotes, or why it is refused. A row ends with a `;`
 //! and a line feed. The number in it is the digest of the lines of its file cut at each length, and
 //! then with each byte changed to 0, 1, 0x7f and 0xff. The tests are in `rows`.
-use crate::answers::{BASIS, digest, halves, line_of};
+use crate::answers::{BASIS, digest, line_of};
 use crate::files::{cut, file_of, with_byte};
 use std::alloc::Global;
 use std::test::Fail;
@@ -132,26 +132,14 @@ pub(crate) fn line_of_words(alloc: Global, words: &str) -> Result<String, Fail> 
     line_of(alloc, &bytes)
 }
 
-/// The file of a row, and the digest of the lines of the damaged files.
-fn words_and_digest(row: &str) -> Result<(&str, u64), Fail> {
-    let (words, digits) = halves(row, " | ")?;
-    Ok((words, u64::from_str_radix(digits, 16)?))
-}
-
-/// The line of a file, or of a digest of its damaged files that is not the one that is wanted.
-fn line_with_digest(alloc: Global, bytes: &[u8], wanted: u64) -> Result<String, Fail> {
-    let sum = digest_of_damage(alloc, bytes)?;
-    if sum == wanted {
-        return line_of(alloc, bytes);
-    }
-    Ok(format!(in alloc; "damaged files have the digest {sum:016x}")?)
-}
-
 /// The line of the file of a row, whose digest is the one of the damaged files.
 pub(crate) fn line_of_file(alloc: Global, input: &str) -> Result<String, Fail> {
-    let (words, wanted) = words_and_digest(input)?;
-    let bytes = file_of(alloc, words)?;
-    line_with_digest(alloc, &bytes, wanted)
+    let (words, digits) = input.split_once(" | ").ok_or("a row without a digest")?;
+    let sum = digest_of_damage(alloc, words)?;
+    if u64::from_str_radix(digits, 16)? != sum {
+        return Ok(format!(in alloc; "damaged files have the digest {sum:016x}")?);
+    }
+    line_of_words(alloc, words)
 }
 
 /// The digest so far, with the line of a file.
@@ -160,21 +148,16 @@ fn with_line(alloc: Global, sum: u64, file: Vec<u8>) -> Result<u64, Fail> {
     Ok(digest(sum, &line))
 }
 
-/// The digest of the lines of a file cut at each length.
-fn digest_of_cuts(alloc: Global, bytes: &[u8]) -> Result<u64, Fail> {
+/// The digest of the lines of a file cut at each length and changed at each byte.
+fn digest_of_damage(alloc: Global, words: &str) -> Result<u64, Fail> {
+    let bytes = file_of(alloc, words)?;
     let mut sum = BASIS;
     for length in 0..bytes.len() {
-        sum = with_line(alloc, sum, cut(alloc, bytes, length)?)?;
+        sum = with_line(alloc, sum, cut(alloc, &bytes, length)?)?;
     }
-    Ok(sum)
-}
-
-/// The digest of the lines of a file cut at each length and changed at each byte.
-fn digest_of_damage(alloc: Global, bytes: &[u8]) -> Result<u64, Fail> {
-    let mut sum = digest_of_cuts(alloc, bytes)?;
     for place in 0..bytes.len() {
         for byte in [0u8, 1, 0x7f, 0xff] {
-            sum = with_line(alloc, sum, with_byte(alloc, bytes, place, byte)?)?;
+            sum = with_line(alloc, sum, with_byte(alloc, &bytes, place, byte)?)?;
         }
     }
     Ok(sum)

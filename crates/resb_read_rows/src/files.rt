@@ -76,13 +76,6 @@ pub(crate) fn file_of_words(alloc: Global, words: &[u32]) -> Result<Vec<u8>, Fai
     Ok(bytes)
 }
 
-/// Puts a byte at a place, if there is one.
-pub(crate) fn put(bytes: &mut [u8], place: usize, byte: u8) {
-    if place < bytes.len() {
-        bytes[place] = byte;
-    }
-}
-
 /// The bytes, of which the one at this place is another.
 pub(crate) fn with_byte(
     alloc: Global,
@@ -91,7 +84,9 @@ pub(crate) fn with_byte(
     byte: u8,
 ) -> Result<Vec<u8>, Fail> {
     let mut changed = Vec::from_slice(alloc, bytes)?;
-    put(&mut changed, place, byte);
+    if place < changed.len() {
+        changed[place] = byte;
+    }
     Ok(changed)
 }
 

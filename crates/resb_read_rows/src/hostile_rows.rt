@@ -1,7 +1,7 @@
 //! Files that are made to take room, time or depth: shared bodies, cycles, many levels and many
 //! entries.
 //! Small files that are damaged are in `file_rows`, and the tests are in `rows`.
-use crate::answers::{halves, line_of};
+use crate::answers::line_of;
 use crate::files::file_of_words;
 use resb_format::Resource;
 use resb_read::{count_resources, from_bytes_counted};
@@ -42,61 +42,46 @@ entries 65535 k => 65536 {k=65534,};
 entries 65536 - => 65537 {00000=0,00001=0,00002=0, and ,65534=0,65535=0,} in 524296 bytes;
 ";
 
-/// The file of this kind, with so many parts and a last word or number.
-fn made(alloc: Global, kind: &str, count: u32, last: &str) -> Result<Vec<u8>, Fail> {
+/// The file that a row names.
+fn made(alloc: Global, kind: &str, count: &str, last: &str) -> Result<Vec<u8>, Fail> {
     match kind {
-        "shared" => sharing(alloc, count, last),
-        "doubling" => doubling(alloc, count),
-        "cycle" => cyclic(alloc, count, last),
-        "arrays" => nested_arrays(alloc, count),
-        "tables" => nested_tables(alloc, count),
+        "shared" => sharing(alloc, count.parse::<u32>()?, u32::from_str_radix(last, 16)?),
+        "doubling" => doubling(alloc, count.parse::<usize>()?),
+        "cycle" => cyclic(alloc, count.parse::<u32>()?, last.parse::<u32>()?),
+        "arrays" => nested_arrays(alloc, count.parse::<u32>()?),
+        "tables" => nested_tables(alloc, count.parse::<u32>()?),
         _ if last == "k" => of_one_key(alloc),
         _ => of_many_keys(alloc),
     }
 }
 
-/// The line, or of a long one the first 31 and the last 18 bytes, and how many there are.
-fn ends_of(alloc: Global, line: &str) -> Result<String, Fail> {
-    let length = line.len();
-    let first = line.get(..31).ok_or("no character ends there")?;
-    let start = length.saturating_sub(18);
-    let last = line.get(start..).ok_or("no character begins there")?;
-    Ok(format!(in alloc; "{first} and {last} in {length} bytes")?)
-}
-
-/// The line of a file, or its ends where it is long.
-fn line_or_ends(alloc: Global, bytes: &[u8]) -> Result<String, Fail> {
-    let line = line_of(alloc, bytes)?;
-    if line.len() < 1000 {
-        return Ok(line);
-    }
-    ends_of(alloc, &line)
-}
-
-/// The line of a count.
-fn line_of_count(alloc: Global, bytes: &[u8]) -> Result<String, Fail> {
-    let count = count_of(alloc, bytes)?;
-    Ok(format!(in alloc; "{count}")?)
-}
-
 /// The line of a file, or the count of one that is deep, or the ends of a line that is long.
 fn line_of_kind(alloc: Global, kind: &str, bytes: &[u8]) -> Result<String, Fail> {
-    match kind {
-        "arrays" | "tables" => line_of_count(alloc, bytes),
-        _ => line_or_ends(alloc, bytes),
+    if matches!(kind, "arrays" | "tables") {
+        let count = count_of(alloc, bytes)?;
+        return Ok(format!(in alloc; "{count}")?);
     }
+    ends_of(alloc, line_of(alloc, bytes)?)
 }
 
-/// What kind of file a row names, how many parts it has, and its last word or number.
-fn named(row: &str) -> Result<(&str, u32, &str), Fail> {
-    let (kind, numbers) = halves(row, " ")?;
-    let (count, last) = halves(numbers, " ")?;
-    Ok((kind, count.parse::<u32>()?, last))
+/// The line, or of a long one the first 31 and the last 18 bytes, and how many there are.
+fn ends_of(alloc: Global, line: String) -> Result<String, Fail> {
+    let length = line.len();
+    if length < 1000 {
+        return Ok(line);
+    }
+    let first = line.as_str().get(..31).ok_or("no character ends there")?;
+    let last = line
+        .as_str()
+        .get(length - 18..)
+        .ok_or("no character begins there")?;
+    Ok(format!(in alloc; "{first} and {last} in {length} bytes")?)
 }
 
 /// The line of the file of a row of these.
 pub(crate) fn line_of_hostile(alloc: Global, input: &str) -> Result<String, Fail> {
-    let (kind, count, last) = named(input)?;
+    let (kind, numbers) = input.split_once(' ').ok_or("a row without a count")?;
+    let (count, last) = numbers.split_once(' ').ok_or("a row without a last word")?;
     let bytes = made(alloc, kind, count, last)?;
     line_of_kind(alloc, kind, &bytes)
 }
@@ -109,23 +94,24 @@ fn with_body(alloc: Global, root: u32, body: &[u32]) -> Result<Vec<u8>, Fail> {
 }
 
 /// The file of an array of so many arrays, in which all have one body, and the last is this word.
-fn sharing(alloc: Global, children: u32, last: &str) -> Result<Vec<u8>, Fail> {
-    let last = u32::from_str_radix(last, 16)?;
+fn sharing(alloc: Global, children: u32, last: u32) -> Result<Vec<u8>, Fail> {
     let end = children.saturating_add(11);
-    let head = [
-        0x8000_000a,
-        7,
-        8,
-        end,
-        end,
-        0,
-        0,
-        10,
-        0x0002_0000,
-        0,
-        children,
-    ];
-    let mut words = Vec::from_slice(alloc, &head)?;
+    let mut words = Vec::from_slice(
+        alloc,
+        &[
+            0x8000_000a,
+            7,
+            8,
+            end,
+            end,
+            0,
+            0,
+            10,
+            0x0002_0000,
+            0,
+            children,
+        ],
+    )?;
     for _ in 1..children {
         words.push(0x9000_0001)?;
     }
@@ -134,25 +120,27 @@ fn sharing(alloc: Global, children: u32, last: &str) -> Result<Vec<u8>, Fail> {
 }
 
 /// Twenty levels of arrays, each of the next one twice, without so many of the last words.
-fn doubling(alloc: Global, without: u32) -> Result<Vec<u8>, Fail> {
+fn doubling(alloc: Global, without: usize) -> Result<Vec<u8>, Fail> {
     let mut body = Vec::new(alloc);
     for level in 0u32..19 {
         let next = 0x8000_000c + 3 * level;
         body.extend_from_slice(&[2, next, next])?;
     }
     body.extend_from_slice(&[2, 0x7000_0000, 0x7000_0000])?;
-    body.truncate(60u32.saturating_sub(without) as usize);
+    body.truncate(60usize.saturating_sub(without));
     with_body(alloc, 0x8000_0009, &body)
 }
 
 /// An array of so many members, each of which is that array itself.
-fn cyclic(alloc: Global, members: u32, padding: &str) -> Result<Vec<u8>, Fail> {
-    let padding = padding.parse::<usize>()?;
+fn cyclic(alloc: Global, members: u32, padding: u32) -> Result<Vec<u8>, Fail> {
     let mut body = Vec::new(alloc);
     body.push(members)?;
-    let end = body.len().saturating_add(members as usize);
-    body.resize(end, 0x8000_0009)?;
-    body.resize(end.saturating_add(padding), 0xaaaa_aaaa)?;
+    for _ in 0..members {
+        body.push(0x8000_0009)?;
+    }
+    for _ in 0..padding {
+        body.push(0xaaaa_aaaa)?;
+    }
     with_body(alloc, 0x8000_0009, &body)
 }
 
@@ -202,16 +190,15 @@ fn of_one_key(alloc: Global) -> Result<Vec<u8>, Fail> {
     with_body(alloc, 0x2000_0009, &body)
 }
 
-/// Adds 65536 keys of five digits, from 00000 to 65535.
-fn push_keys(alloc: Global, bytes: &mut Vec<u8>) -> Result<(), Fail> {
+/// A table of 65536 keys of five digits, from 00000 to 65535, and the number 0 at each.
+fn of_many_keys(alloc: Global) -> Result<Vec<u8>, Fail> {
+    let keys_end = 98_312;
+    let head = [0x4000_0000 + keys_end, 7, keys_end, 0, 0, 0, 0, keys_end];
+    let mut bytes = file_of_words(alloc, &head)?;
     for number in 0u32..65536 {
-        bytes.extend_from_slice(format!(in alloc; "{number:05}\0")?.as_bytes())?;
+        bytes.extend_from_slice(format!(in alloc; "{number:05}")?.as_bytes())?;
+        bytes.push(0)?;
     }
-    Ok(())
-}
-
-/// Adds the table of these keys, and the number 0 at each.
-fn push_table(bytes: &mut Vec<u8>) -> Result<(), Fail> {
     bytes.extend_from_slice(&65536u32.to_le_bytes())?;
     for number in 0u32..65536 {
         bytes.extend_from_slice(&(32 + 6 * number).to_le_bytes())?;
@@ -219,15 +206,5 @@ fn push_table(bytes: &mut Vec<u8>) -> Result<(), Fail> {
     for _ in 0u32..65536 {
         bytes.extend_from_slice(&0x7000_0000_u32.to_le_bytes())?;
     }
-    Ok(())
-}
-
-/// The file of that table.
-fn of_many_keys(alloc: Global) -> Result<Vec<u8>, Fail> {
-    let keys_end = 98_312;
-    let head = [0x4000_0000 + keys_end, 7, keys_end, 0, 0, 0, 0, keys_end];
-    let mut bytes = file_of_words(alloc, &head)?;
-    push_keys(alloc, &mut bytes)?;
-    push_table(&mut bytes)?;
     Ok(bytes)
 }

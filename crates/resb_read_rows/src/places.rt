@@ -13,7 +13,10 @@ fn entry<'a>(
     for _ in 0..number {
         let _ = entries.next_entry_cursor()?;
     }
-    Ok(entries.next_entry_cursor()?.ok_or("no entry")?)
+    match entries.next_entry_cursor()? {
+        Some(found) => Ok(found),
+        None => Err("no entry")?,
+    }
 }
 
 /// The place of a member of a sequence.
@@ -22,19 +25,17 @@ fn member<'a>(sequence: Cursor<'a>, walk: &mut Walk, number: u32) -> Result<Curs
     for _ in 0..number {
         let _ = members.next_cursor()?;
     }
-    Ok(members.next_cursor()?.ok_or("no member")?)
-}
-
-/// What a step goes to, and its number there.
-fn parts(step: &str) -> Result<(&str, u32), Fail> {
-    let (kind, number) = step.split_at_checked(1).ok_or("no step")?;
-    Ok((kind, number.parse::<u32>()?))
+    match members.next_cursor()? {
+        Some(found) => Ok(found),
+        None => Err("no member")?,
+    }
 }
 
 /// The place one step below another: `k1` and `v1`, the key and the value of an entry of a table,
 /// and `m1`, a member of a sequence.
 fn below<'a>(at: Cursor<'a>, walk: &mut Walk, step: &str) -> Result<Cursor<'a>, Fail> {
-    let (kind, number) = parts(step)?;
+    let (kind, number) = step.split_at_checked(1).ok_or("no step")?;
+    let number = number.parse::<u32>()?;
     if kind == "m" {
         return member(at, walk, number);
     }

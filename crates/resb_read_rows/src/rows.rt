@@ -1,6 +1,6 @@
 //! The tests of the rows that are lines of text: what answers a row of each kind, and one loop,
 //! which is proved once. The rows and what answers them stand in the other modules.
-use crate::answers::{assert_said, parts};
+use crate::answers::parts;
 use crate::{both_rows, cursor_rows, file_rows, head_rows, hostile_rows, type_rows};
 use std::alloc::Global;
 use std::process::Abort;
@@ -47,72 +47,46 @@ fn answered(alloc: Global, kind: Kind, input: &str) -> Result<String, Fail> {
     }
 }
 
-/// A row of this kind has its answer.
-fn assert_row(rt: &impl Abort, alloc: Global, kind: Kind, row: &str) -> Result<(), Fail> {
-    let (input, said) = parts(row)?;
-    assert_said(rt, answered(alloc, kind, input)?, said, input);
-    Ok(())
-}
-
 /// Each row of a table has its answer.
 fn assert_rows(rt: &impl Abort, alloc: Global, kind: Kind, rows: &str) -> Result<(), Fail> {
     for row in rows.split_terminator(";\n") {
-        assert_row(rt, alloc, kind, row)?;
+        let (input, said) = parts(row)?;
+        assert_row(rt, answered(alloc, kind, input)?, said, input);
     }
     Ok(())
 }
 
-/// Each row of each table has its answer.
-fn assert_tables(rt: &impl Abort, alloc: Global, tables: &[(Kind, &str)]) -> Result<(), Fail> {
-    for (kind, rows) in tables {
-        assert_rows(rt, alloc, *kind, rows)?;
-    }
-    Ok(())
+/// The line of a row is the one that is wanted.
+fn assert_row(rt: &impl Abort, found: String, said: &str, input: &str) {
+    assert_eq!(rt; found.as_str(), said, "of {input}");
 }
-
-/// Tables of files that are read as a type of a user's own.
-const TYPES: [(Kind, &str); 3] = [
-    (Kind::Alone, both_rows::ALONE),
-    (Kind::InMap, both_rows::MAP),
-    (Kind::InList, both_rows::LIST),
-];
 
 #[test]
 fn types_of_a_users_own_are_read(rt: HostRuntime) -> Result<(), Fail> {
-    assert_tables(&rt, rt.alloc(), &TYPES)
+    assert_rows(&rt, rt.alloc(), Kind::Alone, both_rows::ALONE)?;
+    assert_rows(&rt, rt.alloc(), Kind::InMap, both_rows::MAP)?;
+    assert_rows(&rt, rt.alloc(), Kind::InList, both_rows::LIST)
 }
-
-/// Tables of steps of a reading.
-const STEPS: [(Kind, &str); 2] = [
-    (Kind::Step, cursor_rows::STEPS),
-    (Kind::Named, cursor_rows::NAMED),
-];
 
 #[test]
 fn steps_of_a_reading_are_answered(rt: HostRuntime) -> Result<(), Fail> {
-    assert_tables(&rt, rt.alloc(), &STEPS)
+    assert_rows(&rt, rt.alloc(), Kind::Step, cursor_rows::STEPS)?;
+    assert_rows(&rt, rt.alloc(), Kind::Named, cursor_rows::NAMED)
 }
-
-/// Tables of whole files and of damaged ones.
-const FILES: [(Kind, &str); 2] = [(Kind::File, file_rows::FILES), (Kind::End, file_rows::ENDS)];
 
 #[test]
 fn files_and_damaged_files_are_answered(rt: HostRuntime) -> Result<(), Fail> {
-    assert_tables(&rt, rt.alloc(), &FILES)
+    assert_rows(&rt, rt.alloc(), Kind::File, file_rows::FILES)?;
+    assert_rows(&rt, rt.alloc(), Kind::End, file_rows::ENDS)
 }
-
-/// Tables of heads.
-const HEADS: [(Kind, &str); 5] = [
-    (Kind::Change, head_rows::CHANGES),
-    (Kind::Index, head_rows::INDICES),
-    (Kind::Longer, head_rows::LONGER),
-    (Kind::Order, head_rows::ORDERS),
-    (Kind::Laid, head_rows::LAID),
-];
 
 #[test]
 fn heads_are_judged(rt: HostRuntime) -> Result<(), Fail> {
-    assert_tables(&rt, rt.alloc(), &HEADS)
+    assert_rows(&rt, rt.alloc(), Kind::Change, head_rows::CHANGES)?;
+    assert_rows(&rt, rt.alloc(), Kind::Index, head_rows::INDICES)?;
+    assert_rows(&rt, rt.alloc(), Kind::Longer, head_rows::LONGER)?;
+    assert_rows(&rt, rt.alloc(), Kind::Order, head_rows::ORDERS)?;
+    assert_rows(&rt, rt.alloc(), Kind::Laid, head_rows::LAID)
 }
 
 #[test]
@@ -130,13 +104,8 @@ fn tables_of_many_entries_are_read(rt: HostRuntime) -> Result<(), Fail> {
     assert_rows(&rt, rt.alloc(), Kind::Hostile, hostile_rows::WIDE)
 }
 
-/// Tables of places and what is asked for there.
-const PLACES: [(Kind, &str); 2] = [
-    (Kind::Type, type_rows::TYPES),
-    (Kind::Sweep, type_rows::SWEEPS),
-];
-
 #[test]
 fn types_are_read_at_places(rt: HostRuntime) -> Result<(), Fail> {
-    assert_tables(&rt, rt.alloc(), &PLACES)
+    assert_rows(&rt, rt.alloc(), Kind::Type, type_rows::TYPES)?;
+    assert_rows(&rt, rt.alloc(), Kind::Sweep, type_rows::SWEEPS)
 }

@@ -1,11 +1,10 @@
 //! Types that are read at places of files with so much of a budget: the value, or why it is
 //! refused, and what is left. A row ends with a `;` and a line feed. Whole trees are in
 //! `file_rows`, and the tests in `rows`.
-use crate::answers::{BASIS, digest, halves};
+use crate::answers::{BASIS, digest};
 use crate::asks::{ALL, asked};
 use crate::files::file_of;
 use crate::places::place;
-use resb_read::Cursor;
 use std::alloc::Global;
 use std::test::Fail;
 
@@ -107,56 +106,35 @@ f0000000 7 8 9 9 0 0 9 aaaa0000 / root => 70db23325c888c84;
 6000ffff 7 8 9 9 0 0 9 aaaa0000 / root => 28c1ab18786c42c8;
 ";
 
-/// The file of a row, the place in it, how much of a budget there is, and what is asked for.
-fn question(row: &str) -> Result<(&str, &str, usize, &str), Fail> {
-    let (words, rest) = halves(row, " / ")?;
-    let (path, rest) = halves(rest, " / ")?;
-    let (left, ask) = halves(rest, " ")?;
-    Ok((words, path, left.parse::<usize>()?, ask))
-}
-
 /// The line of what is asked for.
 pub(crate) fn line_of_ask(alloc: Global, input: &str) -> Result<String, Fail> {
-    let (words, path, left, ask) = question(input)?;
+    let (words, rest) = input.split_once(" / ").ok_or("a row without a place")?;
+    let (path, rest) = rest.split_once(" / ").ok_or("a row without a budget")?;
+    let (left, ask) = rest.split_once(' ').ok_or("a row that asks for nothing")?;
+    let left = left.parse::<usize>()?;
     let bytes = file_of(alloc, words)?;
     asked(alloc, ask, place(&bytes, path)?, left)
 }
 
-/// The digest so far, and what is answered at a place with 0, 1, 2 and 50 of a budget.
-fn digest_of_ask(alloc: Global, before: u64, at: Cursor<'_>, ask: &str) -> Result<u64, Fail> {
-    let mut sum = before;
-    for left in [0usize, 1, 2, 50] {
-        sum = digest(sum, asked(alloc, ask, at, left)?.as_str());
-    }
-    Ok(sum)
-}
-
-/// The digest so far, and all that is answered at a place.
-fn digest_of_place(alloc: Global, before: u64, at: Cursor<'_>) -> Result<u64, Fail> {
+/// The digest so far, and all that is answered at a place of a file.
+fn digest_of_place(alloc: Global, before: u64, bytes: &[u8], path: &str) -> Result<u64, Fail> {
     let mut sum = before;
     for ask in ALL.split_whitespace() {
-        sum = digest_of_ask(alloc, sum, at, ask)?;
+        for left in [0usize, 1, 2, 50] {
+            let line = asked(alloc, ask, place(bytes, path)?, left)?;
+            sum = digest(sum, &line);
+        }
     }
     Ok(sum)
-}
-
-/// The digest of all that is answered at places of a file.
-fn digest_of_places(alloc: Global, bytes: &[u8], paths: &str) -> Result<u64, Fail> {
-    let mut sum = BASIS;
-    for path in paths.split(", ") {
-        sum = digest_of_place(alloc, sum, place(bytes, path)?)?;
-    }
-    Ok(sum)
-}
-
-/// The digits of a digest.
-fn digits(alloc: Global, sum: u64) -> Result<String, Fail> {
-    Ok(format!(in alloc; "{sum:016x}")?)
 }
 
 /// The digest of all that is answered at the places of a row.
 pub(crate) fn line_of_places(alloc: Global, row: &str) -> Result<String, Fail> {
-    let (words, paths) = halves(row, " / ")?;
+    let (words, paths) = row.split_once(" / ").ok_or("a row without places")?;
     let bytes = file_of(alloc, words)?;
-    digits(alloc, digest_of_places(alloc, &bytes, paths)?)
+    let mut sum = BASIS;
+    for path in paths.split(", ") {
+        sum = digest_of_place(alloc, sum, &bytes, path)?;
+    }
+    Ok(format!(in alloc; "{sum:016x}")?)
 }

@@ -24,65 +24,34 @@ pub(crate) fn reads_a_tree(alloc: Global) -> Result<bool, Refused> {
     is_example(alloc, &tree)
 }
 
-/// Whether it is the example's tree, and the count is the one that is counted alone.
-fn is_counted(alloc: Global, tree: &Resource<'_>, count: usize) -> Result<bool, Refused> {
-    Ok(count_resources(alloc, &FILE)? == count && is_example(alloc, tree)?)
-}
-
 pub(crate) fn counts(alloc: Global) -> Result<bool, Refused> {
     let (tree, count) = from_bytes_counted::<Resource>(alloc, &FILE)?;
-    is_counted(alloc, &tree, count)
-}
-
-/// Whether a cursor at the example's root reads this tree.
-fn is_at_root(alloc: Global, tree: &Resource<'_>) -> Result<bool, Refused> {
-    let (root, mut walk) = Cursor::root(&FILE)?;
-    let again = root.read_resource(alloc, &mut walk)?;
-    Ok(tree.equals(&again))
-}
-
-fn reads_a_root(alloc: Global) -> Result<bool, Refused> {
-    let tree = tree_from_bytes(alloc, &FILE)?;
-    is_at_root(alloc, &tree)
-}
-
-fn reads_an_entry(alloc: Global) -> Result<bool, Refused> {
-    let (strings, mut walk) = Cursor::root(&STRINGS)?;
-    let mut entries = strings.read_map(&mut walk)?;
-    match entries.next_entry::<String, String>(alloc, &mut walk)? {
-        Some((key, text)) => Ok(key.as_str() == "a" && text.as_str() == "x"),
-        None => Ok(false),
-    }
+    Ok(count_resources(alloc, &FILE)? == count && is_example(alloc, &tree)?)
 }
 
 pub(crate) fn reads_by_a_cursor(alloc: Global) -> Result<bool, Refused> {
-    Ok(reads_a_root(alloc)? && reads_an_entry(alloc)?)
-}
-
-/// Whether the map has two texts, and this one at a key.
-fn has_text<'k>(map: &BTreeMap<Key<'k>, String>, key: &Key<'k>, wanted: &str) -> bool {
-    let text = map.get(key);
-    text.is_some_and(|text| text.as_str() == wanted) && map.len() == 2
+    let tree = tree_from_bytes(alloc, &FILE)?;
+    let (root, mut walk) = Cursor::root(&FILE)?;
+    let again = root.read_resource(alloc, &mut walk)?;
+    let (strings, mut walk) = Cursor::root(&STRINGS)?;
+    let mut entries = strings.read_map(&mut walk)?;
+    let Some((key, text)) = entries.next_entry::<String, String>(alloc, &mut walk)? else {
+        return Ok(false);
+    };
+    Ok(tree.equals(&again) && key.as_str() == "a" && text.as_str() == "x")
 }
 
 pub(crate) fn reads_a_map(alloc: Global) -> Result<bool, Refused> {
     let map: BTreeMap<Key, String> = from_bytes(alloc, &STRINGS)?;
-    Ok(has_text(&map, &Key::from("c"), "yz"))
-}
-
-/// How many views of units are read.
-fn views(alloc: Global) -> Result<usize, Refused> {
-    let (at, mut walk) = Cursor::root(&BINARIES)?;
-    Ok(vec_utf_16(alloc, at, &mut walk)?.len())
-}
-
-/// How many binaries are read.
-fn binaries(alloc: Global) -> Result<usize, Refused> {
-    Ok(from_bytes::<Vec<&[u8]>>(alloc, &BINARIES)?.len())
+    let text = map.get(&Key::from("c"));
+    Ok(text.is_some_and(|text| text.as_str() == "yz") && map.len() == 2)
 }
 
 pub(crate) fn reads_views(alloc: Global) -> Result<bool, Refused> {
-    Ok(views(alloc)? == 2 && binaries(alloc)? == 2)
+    let (at, mut walk) = Cursor::root(&BINARIES)?;
+    let views = vec_utf_16(alloc, at, &mut walk)?;
+    let binaries: Vec<&[u8]> = from_bytes(alloc, &BINARIES)?;
+    Ok(views.len() == 2 && binaries.len() == 2)
 }
 
 /// Where memory is wanted for the bytes of the words, the buffer is empty.
@@ -101,21 +70,12 @@ fn reads_laid_words(alloc: Global) -> Result<bool, Refused> {
     is_example(alloc, &tree)
 }
 
-fn lays_a_header(alloc: Global) -> Result<bool, Refused> {
-    let header = BinHeader::try_from(FILE.as_slice())?.to_bytes(alloc)?;
-    Ok(header.as_slice() == &FILE[..24])
-}
-
-fn lays_an_info(alloc: Global) -> Result<bool, Refused> {
-    let info = BinReprInfo::try_from(&FILE[4..])?.to_bytes(alloc)?;
-    Ok(info.as_slice() == &FILE[4..24])
-}
-
-fn lays_an_index(alloc: Global) -> Result<bool, Refused> {
-    let index = BinIndex::try_from(&FILE[36..])?.to_bytes(alloc)?;
-    Ok(index.as_slice() == &FILE[36..64])
-}
-
 pub(crate) fn lays_a_head(alloc: Global) -> Result<bool, Refused> {
-    Ok(lays_a_header(alloc)? && lays_an_info(alloc)? && lays_an_index(alloc)?)
+    let header = BinHeader::try_from(FILE.as_slice())?.to_bytes(alloc)?;
+    let info = BinReprInfo::try_from(&FILE[4..])?.to_bytes(alloc)?;
+    let index = BinIndex::try_from(&FILE[36..])?.to_bytes(alloc)?;
+    let is_right = header.as_slice() == &FILE[..24]
+        && info.as_slice() == &FILE[4..24]
+        && index.as_slice() == &FILE[36..64];
+    Ok(is_right)
 }

@@ -13,18 +13,9 @@ use crate::outcome::{Outcome, outcome_of};
 use std::alloc::Global;
 use std::process::ExitCode;
 
-/// The worst of some outcomes.
-fn worst(outcomes: &[Outcome]) -> Outcome {
-    let mut all = Outcome::Right;
-    for outcome in outcomes {
-        all = all.max(*outcome);
-    }
-    all
-}
-
-/// What comes of the calls that begin with a text or with keys.
-fn calls_of_texts(alloc: Global) -> Outcome {
-    worst(&[
+/// What comes of all calls.
+fn all_calls(alloc: Global) -> Outcome {
+    let outcomes = [
         outcome_of(texts::reads(alloc)),
         outcome_of(texts::reads_counted(alloc)),
         outcome_of(texts::writes(alloc)),
@@ -34,12 +25,6 @@ fn calls_of_texts(alloc: Global) -> Outcome {
         outcome_of(texts::plans(alloc)),
         outcome_of(texts::clones_keys(alloc)),
         texts::turns_a_key_into_a_string(alloc),
-    ])
-}
-
-/// What comes of the calls that begin with a file.
-fn calls_of_files(alloc: Global) -> Outcome {
-    worst(&[
         outcome_of(files::reads_a_tree(alloc)),
         outcome_of(files::counts(alloc)),
         outcome_of(files::reads_by_a_cursor(alloc)),
@@ -47,12 +32,12 @@ fn calls_of_files(alloc: Global) -> Outcome {
         outcome_of(files::reads_views(alloc)),
         files::reads_words(alloc),
         outcome_of(files::lays_a_head(alloc)),
-    ])
-}
-
-/// What comes of all calls.
-fn all_calls(alloc: Global) -> Outcome {
-    worst(&[calls_of_texts(alloc), calls_of_files(alloc)])
+    ];
+    let mut all = Outcome::Right;
+    for outcome in outcomes {
+        all = all.max(outcome);
+    }
+    all
 }
 
 fn main(rt: HostRuntime) -> ExitCode {

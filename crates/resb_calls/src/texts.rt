@@ -3,8 +3,8 @@
 
 use crate::example::{FILE, OTHERS, TEXT};
 use crate::outcome::{Outcome, Refused};
-use resb::binary::{Plan, Serializer, pool, tree_from_bytes};
-use resb::bundle::{Key, Resource};
+use resb::binary::{Serializer, pool, tree_from_bytes};
+use resb::bundle::Key;
 use resb::text::{Expected, Reader, Turns};
 use resb::{CompileError, compile};
 use std::alloc::Global;
@@ -20,14 +20,10 @@ pub(crate) fn reads_counted(alloc: Global) -> Result<bool, Refused> {
     Ok(bundle.name() == "b" && keys.len() == 8)
 }
 
-/// The file of the example's tree.
-fn written(alloc: Global) -> Result<Vec<u8>, Refused> {
-    let (bundle, keys) = Reader::read(alloc, TEXT)?;
-    Ok(Serializer::to_bytes(alloc, &bundle, keys.as_slice())?)
-}
-
 pub(crate) fn writes(alloc: Global) -> Result<bool, Refused> {
-    Ok(written(alloc)?.as_slice() == FILE.as_slice())
+    let (bundle, keys) = Reader::read(alloc, TEXT)?;
+    let file = Serializer::to_bytes(alloc, &bundle, keys.as_slice())?;
+    Ok(file.as_slice() == FILE.as_slice())
 }
 
 pub(crate) fn compiles(alloc: Global) -> Result<bool, Refused> {
@@ -35,22 +31,12 @@ pub(crate) fn compiles(alloc: Global) -> Result<bool, Refused> {
     Ok(file.as_slice() == FILE.as_slice())
 }
 
-/// Whether it is the tree of the text.
-fn is_tree_of(alloc: Global, text: &str, tree: &Resource<'_>) -> Result<bool, Refused> {
-    let (bundle, _keys) = Reader::read(alloc, text)?;
-    Ok(tree.equals(bundle.root()))
-}
-
-/// Whether the file is read back as the text's tree.
-fn is_read_back(alloc: Global, text: &str, file: &[u8]) -> Result<bool, Refused> {
-    let tree = tree_from_bytes(alloc, file)?;
-    is_tree_of(alloc, text, &tree)
-}
-
 /// Whether the text has a file that ends with this, and that is read back as the text's tree.
 fn compiles_to(alloc: Global, text: &str, body: &[u8]) -> Result<bool, Refused> {
     let file = compile(alloc, text)?;
-    Ok(file.get(32..) == Some(body) && is_read_back(alloc, text, &file)?)
+    let tree = tree_from_bytes(alloc, &file)?;
+    let (bundle, _keys) = Reader::read(alloc, text)?;
+    Ok(file.get(32..) == Some(body) && tree.equals(bundle.root()))
 }
 
 pub(crate) fn compiles_others(alloc: Global) -> Result<bool, Refused> {
@@ -71,24 +57,16 @@ pub(crate) fn refuses(alloc: Global) -> Result<bool, Refused> {
     }
 }
 
-/// Whether the plan of yz, xyz and the empty text has the units of xyz alone.
-fn is_planned(plan: &Plan<'_>) -> bool {
-    let units: &[u16] = &[0, 120, 121, 122, 0];
-    plan.units() == units && plan.offset("yz") == Some(2)
-}
-
 pub(crate) fn plans(alloc: Global) -> Result<bool, Refused> {
     let plan = pool::plan(alloc, &["yz", "xyz", ""])?;
-    Ok(is_planned(&plan))
-}
-
-fn is_cloned(alloc: Global, key: &Key<'_>) -> Result<bool, Refused> {
-    Ok(key.try_clone(alloc)? == *key)
+    let units: &[u16] = &[0, 120, 121, 122, 0];
+    Ok(plan.units() == units && plan.offset("yz") == Some(2))
 }
 
 pub(crate) fn clones_keys(alloc: Global) -> Result<bool, Refused> {
     let owned = Key::from(String::from_str(alloc, "key")?);
-    is_cloned(alloc, &owned)
+    let again = owned.try_clone(alloc)?;
+    Ok(again == owned)
 }
 
 /// A key that can't be turned is handed back.

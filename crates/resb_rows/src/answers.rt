@@ -1,6 +1,6 @@
 //! Rows as lines of text, and the lines that they are compared with.
 //! A row ends with a `;` and a line feed, and its answer stands behind ` =>`.
-use std::alloc::{AllocError, Global};
+use std::alloc::Global;
 use std::process::Abort;
 use std::test::Fail;
 
@@ -12,12 +12,7 @@ const HEADER: [u8; 32] = [
 
 /// What a row asks for, and the answer that it wants.
 pub(crate) fn parts(row: &str) -> Result<(&str, &str), Fail> {
-    halves(row, " =>")
-}
-
-/// What stands before and behind the first mark of a row.
-pub(crate) fn halves<'r>(row: &'r str, mark: &str) -> Result<(&'r str, &'r str), Fail> {
-    Ok(row.split_once(mark).ok_or("a row without a mark")?)
+    Ok(row.split_once(" =>").ok_or("a row without an answer")?)
 }
 
 /// The line is the one that is wanted, whose own lines begin with blanks.
@@ -28,13 +23,9 @@ pub(crate) fn assert_said(
     found: String,
     wanted: &str,
 ) -> Result<(), Fail> {
-    assert_same(rt, input, found, joined(alloc, wanted)?);
-    Ok(())
-}
-
-/// The line of an input is the one that is wanted.
-fn assert_same(rt: &impl Abort, input: &str, found: String, wanted: String) {
+    let wanted = joined(alloc, wanted)?;
     assert_eq!(rt; found.as_str(), wanted.as_str(), "for {input}");
+    Ok(())
 }
 
 /// The line that two calls give.
@@ -54,17 +45,11 @@ pub(crate) fn digits(alloc: Global, file: &[u8]) -> Result<String, Fail> {
     Ok(hex::encode(alloc, body)?)
 }
 
-/// Adds the lines without the blanks that begin them.
-fn push_lines(all: &mut String, lines: &str) -> Result<(), AllocError> {
+/// The lines without the blanks that begin them.
+fn joined(alloc: Global, lines: &str) -> Result<String, Fail> {
+    let mut all = String::new(alloc);
     for line in lines.split('\n') {
         all.push_str(line.trim_start())?;
     }
-    Ok(())
-}
-
-/// The lines without the blanks that begin them.
-fn joined(alloc: Global, lines: &str) -> Result<String, AllocError> {
-    let mut all = String::new(alloc);
-    push_lines(&mut all, lines)?;
     Ok(all)
 }

@@ -1,9 +1,9 @@
 //! Pools of strings: the units and offsets that the rules of suffix sharing ask for.
 //! Expected values are worked out by hand from the rules of markers, records and their order.
-use crate::answers::{assert_said, same};
+use crate::answers::same;
 use crate::write_rows::text_of;
 use resb_pool::{BinarySerializerError, Plan, pool};
-use std::alloc::{AllocError, Global};
+use std::alloc::Global;
 use std::test::Fail;
 
 /// A text of so many letters a.
@@ -29,148 +29,89 @@ a~b ~b b => 0 dc02 0 62 0 dc03 61 0 62 0 | 5 1 3
 \u{e000}a \u{10000}a a => 0 e000 61 0 d800 dc00 61 0 | 1 4 6
 ";
 
-/// What a plan of texts is asked for.
-#[derive(Clone, Copy)]
-enum Question<'t> {
-    /// Its units, and where each text stands.
-    Whole,
-    /// The offsets of three texts, how many units there are, and those at the first two.
-    Three,
-    /// The front of its units, where each text stands behind unit 0.
-    Marker,
-    /// The front of its units, where each text of up to 40 letters ends at this unit.
-    Ends(usize),
-    /// How many units it has, and the offsets of some decimal texts.
-    Decimals,
-    /// The offset of a text, also in turn.
-    Other(&'t str),
-}
-
-/// The line of what is asked of the plan of these texts.
-fn line_planned(alloc: Global, texts: &[&str], question: Question<'_>) -> Result<String, Fail> {
-    let plan = pool::plan(alloc, texts)?;
-    described(alloc, &plan, texts, question)
-}
-
-/// The line of what is asked of a plan.
-fn described(
-    alloc: Global,
-    plan: &Plan<'_>,
-    texts: &[&str],
-    question: Question<'_>,
-) -> Result<String, Fail> {
-    match question {
-        Question::Whole => described_whole(alloc, plan, texts),
-        Question::Three => described_letters(alloc, plan, texts),
-        Question::Marker => described_marker(alloc, plan, texts),
-        Question::Ends(end) => described_ends(alloc, plan, texts, end),
-        Question::Decimals => described_decimals(alloc, plan),
-        Question::Other(text) => described_other(alloc, plan, text),
-    }
-}
-
-/// Adds units.
-fn push_units(alloc: Global, line: &mut String, units: &[u16]) -> Result<(), AllocError> {
-    for unit in units {
+/// The units of a plan, and where each of its strings stands.
+fn described(alloc: Global, plan: &Plan<'_>, strings: &[&str]) -> Result<String, Fail> {
+    let mut line = String::new(alloc);
+    for unit in plan.units() {
         line.push_str(format!(in alloc; "{unit:x} ")?.as_str())?;
     }
-    Ok(())
-}
-
-/// Adds the offset of each text, which is also the one that is found in turn.
-fn push_offsets(
-    alloc: Global,
-    line: &mut String,
-    plan: &Plan<'_>,
-    texts: &[&str],
-) -> Result<(), Fail> {
-    for (number, text) in texts.iter().enumerate() {
+    line.push_str("|")?;
+    for (number, text) in strings.iter().enumerate() {
         if plan.offset(text) != plan.offset_in_turn(number, text) {
             return Err("two offsets")?;
         }
-        push_offset(alloc, line, plan, text)?;
+        push_offset(alloc, &mut line, plan, text)?;
     }
-    Ok(())
-}
-
-/// The units of a plan, and where each of its texts stands.
-fn described_whole(alloc: Global, plan: &Plan<'_>, texts: &[&str]) -> Result<String, Fail> {
-    let mut line = String::new(alloc);
-    push_units(alloc, &mut line, plan.units())?;
-    line.push_str("|")?;
-    push_offsets(alloc, &mut line, plan, texts)?;
     Ok(line)
 }
 
-/// The texts, borrowed.
-fn borrowed(alloc: Global, texts: &[String]) -> Result<Vec<&str>, AllocError> {
+/// The line of the plan of these strings.
+fn line_of_texts(alloc: Global, texts: &[String]) -> Result<String, Fail> {
     let mut strings = Vec::new(alloc);
     for text in texts {
         strings.push(text.as_str())?;
     }
-    Ok(strings)
-}
-
-/// The line of what is asked of the plan of texts that are owned.
-fn line_of_texts(alloc: Global, texts: &[String], question: Question<'_>) -> Result<String, Fail> {
-    let strings = borrowed(alloc, texts)?;
-    line_planned(alloc, &strings, question)
-}
-
-/// The texts that words stand for.
-fn texts_of(alloc: Global, words: &str) -> Result<Vec<String>, Fail> {
-    let mut texts = Vec::new(alloc);
-    for word in words.split_whitespace() {
-        texts.push(text_of(alloc, word)?)?;
-    }
-    Ok(texts)
+    let plan = pool::plan(alloc, &strings)?;
+    described(alloc, &plan, &strings)
 }
 
 /// The line of the plan of the strings that these words stand for.
 pub(crate) fn line_of_words(alloc: Global, words: &str) -> Result<String, Fail> {
-    let texts = texts_of(alloc, words)?;
-    line_of_texts(alloc, &texts, Question::Whole)
+    let mut texts = Vec::new(alloc);
+    for word in words.split_whitespace() {
+        texts.push(text_of(alloc, word)?)?;
+    }
+    line_of_texts(alloc, &texts)
 }
 
-/// The offsets of a text in a plan, by its text and in turn.
-fn described_other(alloc: Global, plan: &Plan<'_>, text: &str) -> Result<String, Fail> {
+/// The offset of a text in the plan of these strings, which is also the one that is found in turn.
+fn offset_in(alloc: Global, strings: &[&str], text: &str) -> Result<Option<u32>, Fail> {
+    let plan = pool::plan(alloc, strings)?;
     let offset = plan.offset(text);
-    let in_turn = plan.offset_in_turn(1, text);
-    Ok(format!(in alloc; "{offset:?} {in_turn:?}")?)
+    if offset != plan.offset_in_turn(1, text) {
+        return Err("two offsets")?;
+    }
+    Ok(offset)
 }
 
 /// A text that was not given has no offset, also where it is the end of one that was.
 #[test]
 fn other_texts_have_no_offset(rt: HostRuntime) -> Result<(), Fail> {
-    let end = line_planned(rt.alloc(), &["xyz", "yz"], Question::Other("z"))?;
-    assert_said(&rt, rt.alloc(), "z", end, "None None")?;
-    let empty = line_planned(rt.alloc(), &[], Question::Other(""))?;
-    assert_said(&rt, rt.alloc(), "nothing", empty, "None None")
+    let end = offset_in(rt.alloc(), &["xyz", "yz"], "z")?;
+    assert_eq!(rt; end, None);
+    let empty = offset_in(rt.alloc(), &[], "")?;
+    assert_eq!(rt; empty, None);
+    Ok(())
 }
 
-/// The offset of the text with this number, and the unit that stands there.
-fn offset_and_unit(plan: &Plan<'_>, texts: &[&str], number: usize) -> Result<(u32, u16), Fail> {
-    let text = texts.get(number).ok_or("short")?;
-    let offset = plan.offset(text).ok_or("no offset")?;
-    let unit = plan.units().get(offset as usize).copied().unwrap_or(0);
-    Ok((offset, unit))
+/// The offsets of texts of so many letters a in their plan, how many units there are, and those at
+/// the first two offsets.
+fn line_of_letters(alloc: Global, all: &str, counts: [usize; 3]) -> Result<String, Fail> {
+    let [one, other, third] = counts;
+    let (one, other) = (
+        all.get(..one).ok_or("short")?,
+        all.get(..other).ok_or("short")?,
+    );
+    let third = all.get(..third).ok_or("short")?;
+    let plan = pool::plan(alloc, &[one, other, third])?;
+    described_letters(alloc, &plan, one, other, third)
 }
 
 /// The offsets of three texts in their plan, how many units there are, and those at the first two.
-fn described_letters(alloc: Global, plan: &Plan<'_>, texts: &[&str]) -> Result<String, Fail> {
-    let (first, unit) = offset_and_unit(plan, texts, 0)?;
-    let (second, next) = offset_and_unit(plan, texts, 1)?;
-    let (last, _) = offset_and_unit(plan, texts, 2)?;
+fn described_letters(
+    alloc: Global,
+    plan: &Plan<'_>,
+    one: &str,
+    other: &str,
+    third: &str,
+) -> Result<String, Fail> {
+    let first = plan.offset(one).ok_or("no offset")?;
+    let second = plan.offset(other).ok_or("no offset")?;
+    let last = plan.offset(third).ok_or("no offset")?;
     let length = plan.units().len();
+    let unit = plan.units().get(first as usize).copied().unwrap_or(0);
+    let next = plan.units().get(second as usize).copied().unwrap_or(0);
     Ok(format!(in alloc; "{first} {second} {last} of {length}: {unit:x} {next:x}")?)
-}
-
-/// The line of the plan of 41, 42 and 1 of these letters.
-fn line_of_letters(alloc: Global, all: &str) -> Result<String, Fail> {
-    let one = all.get(..41).ok_or("short")?;
-    let other = all.get(..42).ok_or("short")?;
-    let third = all.get(..1).ok_or("short")?;
-    line_planned(alloc, &[one, other, third], Question::Three)
 }
 
 /// How many letters a text has, and the first three units of its plan behind unit 0, and how many
@@ -187,15 +128,9 @@ pub(crate) const MARKERS: &str = "\
 /// The line of the plan of a text of so many letters.
 pub(crate) fn line_of_marker(alloc: Global, count: &str) -> Result<String, Fail> {
     let text = letters(alloc, count.parse::<usize>()?)?;
-    line_planned(alloc, &[text.as_str()], Question::Marker)
-}
-
-/// The front of the units, where each text stands behind unit 0.
-fn described_marker(alloc: Global, plan: &Plan<'_>, texts: &[&str]) -> Result<String, Fail> {
-    for text in texts {
-        if plan.offset(text) != Some(1) {
-            return Err("another offset")?;
-        }
+    let plan = pool::plan(alloc, &[text.as_str()])?;
+    if plan.offset(text.as_str()) != Some(1) {
+        return Err("another offset")?;
     }
     described_front(alloc, plan.units())
 }
@@ -221,26 +156,19 @@ fn decimals(alloc: Global) -> Result<Vec<String>, Fail> {
     Ok(texts)
 }
 
-/// Adds the offsets of those texts.
-fn push_decimals(alloc: Global, line: &mut String, plan: &Plan<'_>) -> Result<(), Fail> {
-    for text in DECIMALS.split(' ') {
-        push_offset(alloc, line, plan, text)?;
+/// How many units the plan of these texts has, and the offsets of some of them.
+fn line_of_decimals(alloc: Global, texts: &[String]) -> Result<String, Fail> {
+    let mut strings = Vec::new(alloc);
+    for text in texts {
+        strings.push(text.as_str())?;
     }
-    Ok(())
-}
-
-/// How many units a plan has, and the offsets of those texts.
-fn described_decimals(alloc: Global, plan: &Plan<'_>) -> Result<String, Fail> {
+    let plan = pool::plan(alloc, &strings)?;
     let length = plan.units().len();
     let mut line = format!(in alloc; "{length} units:")?;
-    push_decimals(alloc, &mut line, plan)?;
+    for text in DECIMALS.split(' ') {
+        push_offset(alloc, &mut line, &plan, text)?;
+    }
     Ok(line)
-}
-
-/// The line of the plan of the texts of 1 to 2000.
-fn line_of_decimals(alloc: Global) -> Result<String, Fail> {
-    let texts = decimals(alloc)?;
-    line_of_texts(alloc, &texts, Question::Decimals)
 }
 
 /// Adds the offset of a text.
@@ -270,16 +198,11 @@ fn error_named(name: &str) -> BinarySerializerError {
 }
 
 /// What an error prints, which is also its text.
-fn printed(alloc: Global, error: BinarySerializerError) -> Result<String, Fail> {
-    let printed = format!(in alloc; "{error}")?;
-    same(printed, error.to_string(alloc)?)
-}
-
-/// What an error prints, and whether it is want of memory.
 pub(crate) fn line_of_error(alloc: Global, name: &str) -> Result<String, Fail> {
     let error = error_named(name);
+    let printed = format!(in alloc; "{error}")?;
+    let line = same(printed, error.to_string(alloc)?)?;
     let is_memory = error.is_out_of_memory();
-    let line = printed(alloc, error)?;
     Ok(format!(in alloc; "{line}, {is_memory}")?)
 }
 
@@ -292,21 +215,14 @@ fn ends_of(alloc: Global, all: &str, most: usize) -> Result<Vec<&str>, Fail> {
     Ok(texts)
 }
 
-/// Whether a text of up to 40 letters ends at this unit of a plan. A longer one stands anywhere.
-fn ends_at(plan: &Plan<'_>, text: &str, end: usize) -> Result<bool, Fail> {
-    let offset = plan.offset(text).ok_or("not planned")?;
-    Ok(text.len() > 40 || (offset as usize).saturating_add(text.len()) == end)
-}
-
-/// The front of the units, where each text of up to 40 letters ends at this unit.
-fn described_ends(
-    alloc: Global,
-    plan: &Plan<'_>,
-    texts: &[&str],
-    end: usize,
-) -> Result<String, Fail> {
+/// Whether each of the texts of up to 40 letters ends at the same unit of their plan, and the front
+/// of its units.
+fn line_of_ends(alloc: Global, texts: &[&str], end: usize) -> Result<String, Fail> {
+    let plan = pool::plan(alloc, texts)?;
     for text in texts {
-        if !ends_at(plan, text, end)? {
+        let offset = plan.offset(text).ok_or("not planned")?;
+        let is_short = text.len() <= 40;
+        if is_short && (offset as usize).saturating_add(text.len()) != end {
             return Err("another end")?;
         }
     }
@@ -323,19 +239,25 @@ pub(crate) const PLANS: &str = "\
 1 to 2000 => 5006 units: 1 21 22 23 24 46 48 452 4501 5001;
 ";
 
-/// The line of the texts of 1 to so many of these letters, those of up to 40 of which end at this
-/// unit.
-fn line_of_ends(alloc: Global, all: &str, end: usize) -> Result<String, Fail> {
-    let texts = ends_of(alloc, all, all.len())?;
-    line_planned(alloc, &texts, Question::Ends(end))
+/// The line of texts of 1 to so many letters, those of up to 40 of which end at this unit.
+fn line_of_fronts(alloc: Global, most: usize, end: usize) -> Result<String, Fail> {
+    let all = letters(alloc, most)?;
+    let texts = ends_of(alloc, all.as_str(), most)?;
+    line_of_ends(alloc, &texts, end)
 }
 
 /// The line of the plan that is named.
 pub(crate) fn line_of_plan(alloc: Global, name: &str) -> Result<String, Fail> {
     match name {
-        "41, 42 and 1 letters" => line_of_letters(alloc, letters(alloc, 42)?.as_str()),
-        "1 to 40 letters" => line_of_ends(alloc, letters(alloc, 40)?.as_str(), 41),
-        "1 to 41 letters" => line_of_ends(alloc, letters(alloc, 41)?.as_str(), 43),
-        _ => line_of_decimals(alloc),
+        "41, 42 and 1 letters" => {
+            let all = letters(alloc, 42)?;
+            line_of_letters(alloc, all.as_str(), [41, 42, 1])
+        }
+        "1 to 40 letters" => line_of_fronts(alloc, 40, 41),
+        "1 to 41 letters" => line_of_fronts(alloc, 41, 43),
+        _ => {
+            let texts = decimals(alloc)?;
+            line_of_decimals(alloc, &texts)
+        }
     }
 }

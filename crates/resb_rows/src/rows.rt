@@ -46,12 +46,6 @@ fn answered(alloc: Global, kind: Kind, input: &str) -> Result<String, Fail> {
     }
 }
 
-/// A row of this kind has its answer.
-fn assert_row(rt: &impl Abort, alloc: Global, kind: Kind, row: &str) -> Result<(), Fail> {
-    let (input, wanted) = parts(row)?;
-    assert_said(rt, alloc, input, answered(alloc, kind, input)?, wanted)
-}
-
 /// Each row of a table has its answer. Behind a row stands this end.
 fn assert_ended(
     rt: &impl Abort,
@@ -61,7 +55,8 @@ fn assert_ended(
     end: &str,
 ) -> Result<(), Fail> {
     for row in rows.split_terminator(end) {
-        assert_row(rt, alloc, kind, row)?;
+        let (input, wanted) = parts(row)?;
+        assert_said(rt, alloc, input, answered(alloc, kind, input)?, wanted)?;
     }
     Ok(())
 }

@@ -1,10 +1,10 @@
 //! The whole way from a text to a file and back, against files that follow from the format's rules.
 //! Each row is a text and the hex digits of its file behind the header, in lines, up to a `;`: a
 //! row more costs no proof.
-use crate::answers::{assert_said, digits, halves, parts};
+use crate::answers::{assert_said, digits, parts};
 use resb::binary::{BinarySerializerError, from_bytes, from_bytes_counted};
 use resb::bundle::Resource;
-use resb::text::{Expected, Reader, TextParserError};
+use resb::text::{Expected, Reader};
 use resb::{CompileError, compile};
 use resb_text_rows::rows::{BUNDLES, LINES, OPEN_GROUPS, REFUSED_LINES, nested};
 use std::alloc::Global;
@@ -99,38 +99,32 @@ fn is_tree_of(alloc: Global, text: &str, tree: &Resource<'_>) -> Result<bool, Fa
     Ok(tree.equals(bundle.root()))
 }
 
-/// The file is read back as the text's tree.
-fn read_back(alloc: Global, text: &str, file: &[u8]) -> Result<(), Fail> {
-    if !is_read_back(alloc, text, file)? {
+/// The digits of the file of a text, and whether it is read back as the text's tree.
+pub(crate) fn line_of_file(alloc: Global, text: &str) -> Result<String, Fail> {
+    let file = compile(alloc, text)?;
+    if !is_read_back(alloc, text, &file)? {
         return Err("another tree is read back")?;
     }
-    Ok(())
-}
-
-/// The file of a text, which is read back as the text's tree.
-fn file_of(alloc: Global, text: &str) -> Result<Vec<u8>, Fail> {
-    let file = compile(alloc, text)?;
-    read_back(alloc, text, &file)?;
-    Ok(file)
-}
-
-/// The digits of the file of a text, which is read back as the text's tree.
-pub(crate) fn line_of_file(alloc: Global, text: &str) -> Result<String, Fail> {
-    let file = file_of(alloc, text)?;
     digits(alloc, &file)
 }
 
-/// The place of an error, and what was expected there.
-fn line_of_error(alloc: Global, error: TextParserError) -> Result<String, Fail> {
-    let position = error.position();
-    let expected = error.expected();
-    Ok(format!(in alloc; "at {position}: {expected}")?)
+/// The length of the file of a text, which is read back as the text's tree.
+fn length_of_file(alloc: Global, text: &str) -> Result<usize, Fail> {
+    let file = compile(alloc, text)?;
+    if !is_read_back(alloc, text, &file)? {
+        return Err("another tree is read back")?;
+    }
+    Ok(file.len())
 }
 
 /// The place where the reader refuses a text, and what was expected there.
 pub(crate) fn line_of_refusal(alloc: Global, text: &str) -> Result<String, Fail> {
     match compile(alloc, text) {
-        Err(CompileError::Reading(e)) => line_of_error(alloc, e),
+        Err(CompileError::Reading(e)) => {
+            let position = e.position();
+            let expected = e.expected();
+            Ok(format!(in alloc; "at {position}: {expected}")?)
+        }
         Err(CompileError::Writing(e)) => Err(e)?,
         Ok(_) => Err("a text that is no bundle is compiled")?,
     }
@@ -140,7 +134,7 @@ pub(crate) fn line_of_refusal(alloc: Global, text: &str) -> Result<String, Fail>
 fn each_bundle_is_read_back(rt: HostRuntime) -> Result<(), Fail> {
     for row in BUNDLES.split_terminator('\n') {
         let (text, _tree) = parts(row)?;
-        let _ = file_of(rt.alloc(), text)?;
+        let _ = length_of_file(rt.alloc(), text)?;
     }
     Ok(())
 }
@@ -148,11 +142,16 @@ fn each_bundle_is_read_back(rt: HostRuntime) -> Result<(), Fail> {
 #[test]
 fn texts_of_several_lines_are_compiled(rt: HostRuntime) -> Result<(), Fail> {
     for (text, _tree) in LINES {
-        let _ = file_of(rt.alloc(), text)?;
+        let _ = length_of_file(rt.alloc(), text)?;
     }
     for (text, wanted) in REFUSED_LINES {
-        let found = line_of_refusal(rt.alloc(), text)?;
-        assert_said(&rt, rt.alloc(), text, found, wanted)?;
+        assert_said(
+            &rt,
+            rt.alloc(),
+            text,
+            line_of_refusal(rt.alloc(), text)?,
+            wanted,
+        )?;
     }
     Ok(())
 }
@@ -172,27 +171,12 @@ fn open_groups_are_refused(rt: HostRuntime) -> Result<(), Fail> {
     Ok(())
 }
 
-/// How many resources are read of a file; they are dropped.
-fn count_of(alloc: Global, file: &[u8]) -> Result<usize, Fail> {
-    let (_, count) = from_bytes_counted::<Resource>(alloc, file)?;
-    Ok(count)
-}
-
-/// How long a file is, and how many resources are read of it.
-fn line_of_count(alloc: Global, file: &[u8]) -> Result<String, Fail> {
-    let length = file.len();
-    let count = count_of(alloc, file)?;
-    Ok(format!(in alloc; "{length} bytes, {count} resources")?)
-}
-
-/// What is read of the file of a text. A short one is read back as the text's tree.
+/// How long the file of a text is, and how many resources are read of it; they are dropped.
 fn line_of_counts(alloc: Global, text: &str) -> Result<String, Fail> {
-    let file = if text.len() < 10_000 {
-        file_of(alloc, text)?
-    } else {
-        compile(alloc, text)?
-    };
-    line_of_count(alloc, &file)
+    let file = compile(alloc, text)?;
+    let length = file.len();
+    let (_, count) = from_bytes_counted::<Resource>(alloc, &file)?;
+    Ok(format!(in alloc; "{length} bytes, {count} resources")?)
 }
 
 /// How many closed groups stand in one another, what stands within, and what is read of the file.
@@ -203,9 +187,17 @@ pub(crate) const CLOSED: &str = r#"994 "x" "yz" => 8040 bytes, 997 resources;
 
 /// The line of the text of so many closed groups.
 pub(crate) fn line_of_closed(alloc: Global, input: &str) -> Result<String, Fail> {
-    let (depth, within) = halves(input, " ")?;
-    let depth = depth.parse::<usize>()?;
-    let text = nested(alloc, ("b{a", "}"), ("{", "}"), depth, within)?;
+    let (depth, within) = input.split_once(' ').ok_or("a row without groups")?;
+    let text = nested(
+        alloc,
+        ("b{a", "}"),
+        ("{", "}"),
+        depth.parse::<usize>()?,
+        within,
+    )?;
+    if text.len() < 10_000 {
+        let _ = length_of_file(alloc, text.as_str())?;
+    }
     line_of_counts(alloc, text.as_str())
 }
 

@@ -1,12 +1,12 @@
 //! Trees with lists of keys, and their files or refusals, as the format's rules ask for them. Each
 //! row is an input and its answer, in lines, up to a `;`: a row more costs no proof.
-use crate::answers::{assert_said, digits, halves};
+use crate::answers::{assert_said, digits};
 use resb::compile;
 use resb_read::from_bytes;
 use resb_text::Reader;
 use resb_tree::{Int28, Key, Resource, ResourceBundle, Table};
 use resb_write::{BinarySerializerError, Serializer};
-use std::alloc::{AllocError, Global};
+use std::alloc::Global;
 use std::borrow::CowStr;
 use std::collections::BTreeMap;
 use std::test::Fail;
@@ -105,18 +105,13 @@ fn string<'a>(alloc: Global, word: &str) -> Result<Resource<'a>, Fail> {
     Ok(Resource::String(CowStr::Owned(text_of(alloc, word)?)))
 }
 
-/// The array of the strings that words stand for.
-fn strings<'a>(alloc: Global, words: &str) -> Result<Resource<'a>, Fail> {
+/// The line of the file of an array of these strings.
+pub(crate) fn line_of_strings(alloc: Global, words: &str) -> Result<String, Fail> {
     let mut items = Vec::new(alloc);
     for word in words.split(' ') {
         items.push(string(alloc, word)?)?;
     }
-    Ok(Resource::Array(items))
-}
-
-/// The line of the file of an array of these strings.
-pub(crate) fn line_of_strings(alloc: Global, words: &str) -> Result<String, Fail> {
-    told(alloc, written(alloc, strings(alloc, words)?, &[]))
+    told(alloc, written(alloc, Resource::Array(items), &[]))
 }
 
 /// The line of the file of a text's tree with these keys.
@@ -125,19 +120,13 @@ fn line_of_text(alloc: Global, text: &str, keys: &[Key<'_>]) -> Result<String, F
     told(alloc, Serializer::to_bytes(alloc, &bundle, keys))
 }
 
-/// The keys that are these words.
-fn keys_of<'k>(alloc: Global, words: &'k str) -> Result<Vec<Key<'k>>, AllocError> {
+/// The line of a text and a list of keys.
+pub(crate) fn line_of_list(alloc: Global, input: &str) -> Result<String, Fail> {
+    let (text, words) = input.split_once(" | ").ok_or("a row without keys")?;
     let mut keys = Vec::new(alloc);
     for word in words.split(' ') {
         keys.push(Key::from(word))?;
     }
-    Ok(keys)
-}
-
-/// The line of a text and a list of keys.
-pub(crate) fn line_of_list(alloc: Global, input: &str) -> Result<String, Fail> {
-    let (text, words) = halves(input, " | ")?;
-    let keys = keys_of(alloc, words)?;
     line_of_text(alloc, text, &keys)
 }
 
@@ -178,19 +167,13 @@ fn word(file: &[u8], number: usize) -> Result<u32, Fail> {
     Ok(u32::from_le_bytes(bytes))
 }
 
-/// Adds the words behind the header that have these numbers.
-fn push_words(alloc: Global, line: &mut String, file: &[u8], numbers: &str) -> Result<(), Fail> {
-    for number in numbers.split(' ') {
-        push_word(alloc, line, word(file, number.parse::<usize>()?)?)?;
-    }
-    Ok(())
-}
-
 /// The length of a file, and the words behind its header that have these numbers, in hex digits.
 fn line_of_words(alloc: Global, file: &[u8], numbers: &str) -> Result<String, Fail> {
     let length = file.len();
     let mut line = format!(in alloc; "{length}")?;
-    push_words(alloc, &mut line, file, numbers)?;
+    for number in numbers.split(' ') {
+        push_word(alloc, &mut line, word(file, number.parse::<usize>()?)?)?;
+    }
     Ok(line)
 }
 
@@ -212,73 +195,52 @@ pub(crate) const FAR_TABLES: &str = "\
 65503 zL | 0 7 16388 => 65592 50000005 4006 200022;
 ";
 
-/// The text of the key that a letter stands for: `L` for a long key, and z.
-fn key_text(long: &str, letter: char) -> &str {
-    if letter == 'L' { long } else { "z" }
-}
-
 /// The keys of a list, where `L` is a long key.
-fn keys_in_list<'k>(alloc: Global, long: &'k str, list: &str) -> Result<Vec<Key<'k>>, AllocError> {
+fn keys_in_list<'k>(alloc: Global, long: &'k str, list: &str) -> Result<Vec<Key<'k>>, Fail> {
     let mut keys = Vec::new(alloc);
     for letter in list.chars() {
-        keys.push(Key::from(key_text(long, letter)))?;
+        keys.push(Key::from(if letter == 'L' { long } else { "z" }))?;
     }
     Ok(keys)
 }
 
-/// Puts a string at a key.
-fn put<'k>(alloc: Global, table: &mut Table<'k>, key: &'k str, text: &str) -> Result<(), Fail> {
-    table.insert(Key::from(key), string(alloc, text)?)?;
-    Ok(())
-}
-
 /// The table of "x" at a long key and "y" at z.
-fn table_with<'k>(alloc: Global, long: &'k str) -> Result<Resource<'k>, Fail> {
+fn table_with<'k>(alloc: Global, long: &'k str) -> Result<Table<'k>, Fail> {
     let mut table: Table = BTreeMap::new(alloc);
-    put(alloc, &mut table, long, "x")?;
-    put(alloc, &mut table, "z", "y")?;
-    Ok(Resource::Table(table))
+    table.insert(Key::from(long), string(alloc, "x")?)?;
+    table.insert(Key::from("z"), string(alloc, "y")?)?;
+    Ok(table)
 }
 
 /// The file of that table with a list of keys.
 fn far_table(alloc: Global, long: &str, list: &str) -> Result<Vec<u8>, Fail> {
     let keys = keys_in_list(alloc, long, list)?;
-    Ok(written(alloc, table_with(alloc, long)?, &keys)?)
-}
-
-/// Adds the entries of the text of that table, in the order of a list.
-fn push_entries(text: &mut String, long: &str, list: &str) -> Result<(), AllocError> {
-    for letter in list.chars() {
-        text.push_str(key_text(long, letter))?;
-        text.push_str(if letter == 'L' { "{x}" } else { "{y}" })?;
-    }
-    Ok(())
+    Ok(written(alloc, Resource::Table(table_with(alloc, long)?), &keys)?)
 }
 
 /// The file of the text of that table, whose discovered keys are those of a list that has each
 /// once.
 fn far_text(alloc: Global, long: &str, list: &str) -> Result<Vec<u8>, Fail> {
     let mut text = String::from_str(alloc, "b{")?;
-    push_entries(&mut text, long, list)?;
+    for letter in list.chars() {
+        text.push_str(if letter == 'L' { long } else { "z" })?;
+        text.push_str(if letter == 'L' { "{x}" } else { "{y}" })?;
+    }
     text.push_str("}")?;
     Ok(compile(alloc, text.as_str())?)
 }
 
-/// The length and some words of that file, which is the text's where the list has each key once.
-fn line_of_table(alloc: Global, long: &str, list: &str, numbers: &str) -> Result<String, Fail> {
-    let file = far_table(alloc, long, list)?;
-    if list.len() == 2 && far_text(alloc, long, list)? != file {
+/// The length and some words of the file of a row, which is the text's where the list has each key
+/// once.
+pub(crate) fn line_of_far(alloc: Global, input: &str) -> Result<String, Fail> {
+    let (table, numbers) = input.split_once(" | ").ok_or("a row without words")?;
+    let (count, list) = table.split_once(' ').ok_or("a row without keys")?;
+    let long = repeated(alloc, 'K', count.parse::<usize>()?)?;
+    let file = far_table(alloc, long.as_str(), list)?;
+    if list.len() == 2 && far_text(alloc, long.as_str(), list)? != file {
         return Err("the text has another file")?;
     }
     line_of_words(alloc, &file, numbers)
-}
-
-/// The length and some words of the file of a row.
-pub(crate) fn line_of_far(alloc: Global, input: &str) -> Result<String, Fail> {
-    let (table, numbers) = halves(input, " | ")?;
-    let (count, list) = halves(table, " ")?;
-    let long = repeated(alloc, 'K', count.parse::<usize>()?)?;
-    line_of_table(alloc, long.as_str(), list, numbers)
 }
 
 /// The text of so many of one character.
@@ -334,31 +296,21 @@ fn keys_named<'a>(alloc: Global, words: &str) -> Result<Vec<Key<'a>>, Fail> {
     Ok(keys)
 }
 
-/// Puts the number 0 at each key.
-fn put_zeros<'a>(table: &mut Table<'a>, keys: Vec<Key<'a>>) -> Result<(), Fail> {
+/// The table of the number 0 at each key.
+fn zeros<'a>(alloc: Global, keys: Vec<Key<'a>>) -> Result<Table<'a>, Fail> {
+    let mut table: Table = BTreeMap::new(alloc);
     for key in keys {
         table.insert(key, Resource::Integer(Int28::from(0u32)))?;
     }
-    Ok(())
-}
-
-/// The table of the number 0 at each key.
-fn zeros<'a>(alloc: Global, keys: Vec<Key<'a>>) -> Result<Resource<'a>, Fail> {
-    let mut table: Table = BTreeMap::new(alloc);
-    put_zeros(&mut table, keys)?;
-    Ok(Resource::Table(table))
-}
-
-/// The table of the number 0 at each key that words stand for.
-fn zeros_named<'a>(alloc: Global, words: &str) -> Result<Resource<'a>, Fail> {
-    zeros(alloc, keys_named(alloc, words)?)
+    Ok(table)
 }
 
 /// The line of a table of some keys with a list of keys.
 pub(crate) fn line_of_keys(alloc: Global, input: &str) -> Result<String, Fail> {
-    let (used, listed) = halves(input, " | ")?;
+    let (used, listed) = input.split_once(" | ").ok_or("a row without a list")?;
     let listed = keys_named(alloc, listed)?;
-    told(alloc, written(alloc, zeros_named(alloc, used)?, &listed))
+    let table = zeros(alloc, keys_named(alloc, used)?)?;
+    told(alloc, written(alloc, Resource::Table(table), &listed))
 }
 
 /// The keys `00000` to `65535`.
@@ -370,29 +322,20 @@ fn numbers<'a>(alloc: Global) -> Result<Vec<Key<'a>>, Fail> {
     Ok(keys)
 }
 
-/// The table of these keys.
-fn numbered_table<'a>(alloc: Global) -> Result<Resource<'a>, Fail> {
-    zeros(alloc, numbers(alloc)?)
-}
-
 /// The file of the table of these keys.
 fn numbered(alloc: Global) -> Result<Vec<u8>, Fail> {
     let listed = numbers(alloc)?;
-    Ok(written(alloc, numbered_table(alloc)?, &listed)?)
-}
-
-/// Adds the entries of the text of that table.
-fn push_numbered(alloc: Global, text: &mut String) -> Result<(), AllocError> {
-    for number in 0..65536u32 {
-        text.push_str(format!(in alloc; "{number:05}:int{{0}}")?.as_str())?;
-    }
-    Ok(())
+    let table = zeros(alloc, numbers(alloc)?)?;
+    Ok(written(alloc, Resource::Table(table), &listed)?)
 }
 
 /// The file of the text of that table.
 fn numbered_text(alloc: Global) -> Result<Vec<u8>, Fail> {
     let mut text = String::from_str(alloc, "b{")?;
-    push_numbered(alloc, &mut text)?;
+    for number in 0..65536u32 {
+        let entry = format!(in alloc; "{number:05}:int{{0}}")?;
+        text.push_str(entry.as_str())?;
+    }
     text.push_str("}")?;
     Ok(compile(alloc, text.as_str())?)
 }
@@ -400,15 +343,15 @@ fn numbered_text(alloc: Global) -> Result<Vec<u8>, Fail> {
 /// Whether the file is read back as the table of these keys.
 fn is_numbered(alloc: Global, file: &[u8]) -> Result<bool, Fail> {
     let tree: Resource = from_bytes(alloc, file)?;
-    let table = numbered_table(alloc)?;
-    Ok(tree.equals(&table))
+    let table = zeros(alloc, numbers(alloc)?)?;
+    Ok(tree.equals(&Resource::Table(table)))
 }
 
 /// Without a list no key is known, however many are used.
 #[test]
 fn keys_without_a_list_are_refused(rt: HostRuntime) -> Result<(), Fail> {
-    let table = numbered_table(rt.alloc())?;
-    let found = told(rt.alloc(), written(rt.alloc(), table, &[]))?;
+    let table = zeros(rt.alloc(), numbers(rt.alloc())?)?;
+    let found = told(rt.alloc(), written(rt.alloc(), Resource::Table(table), &[]))?;
     let wanted = "refused: Unexpected error: key not present in position map";
     assert_said(&rt, rt.alloc(), "numbers", found, wanted)
 }
@@ -441,28 +384,15 @@ fn nested_tables<'a>(alloc: Global, levels: u32) -> Result<Resource<'a>, Fail> {
 /// So many collections in one another, and the length of their file.
 pub(crate) const DEEP: &str = "arrays 100000 => 800068;\ntables 1000000 => 8000072;\n";
 
-/// The file of so many arrays in one another.
-fn deep_arrays(alloc: Global, levels: u32) -> Result<Vec<u8>, Fail> {
-    Ok(written(alloc, nested_arrays(alloc, levels)?, &[])?)
-}
-
-/// The file of so many tables in one another.
-fn deep_tables(alloc: Global, levels: u32) -> Result<Vec<u8>, Fail> {
-    Ok(written(alloc, nested_tables(alloc, levels)?, &[Key::from("k")])?)
-}
-
-/// The file of so many collections of a kind in one another.
-fn deep(alloc: Global, kind: &str, levels: u32) -> Result<Vec<u8>, Fail> {
-    match kind {
-        "arrays" => deep_arrays(alloc, levels),
-        _ => deep_tables(alloc, levels),
-    }
-}
-
 /// The length of the file of so many collections in one another.
 pub(crate) fn line_of_deep(alloc: Global, input: &str) -> Result<String, Fail> {
-    let (kind, levels) = halves(input, " ")?;
-    let length = deep(alloc, kind, levels.parse::<u32>()?)?.len();
+    let (kind, levels) = input.split_once(' ').ok_or("a row without levels")?;
+    let levels = levels.parse::<u32>()?;
+    let file = match kind {
+        "arrays" => written(alloc, nested_arrays(alloc, levels)?, &[])?,
+        _ => written(alloc, nested_tables(alloc, levels)?, &[Key::from("k")])?,
+    };
+    let length = file.len();
     Ok(format!(in alloc; "{length}")?)
 }
 
@@ -492,6 +422,6 @@ fn file_named(alloc: Global, name: &str) -> Result<Vec<u8>, Fail> {
 
 /// The length and some words of the file that is named.
 pub(crate) fn line_of_large(alloc: Global, input: &str) -> Result<String, Fail> {
-    let (name, numbers) = halves(input, " | ")?;
+    let (name, numbers) = input.split_once(" | ").ok_or("a row without words")?;
     line_of_words(alloc, &file_named(alloc, name)?, numbers)
 }

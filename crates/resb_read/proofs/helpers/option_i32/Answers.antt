@@ -1,0 +1,4 @@
+use Rattle.resb_read.proofs.helpers.option_i32.Goals as goal
+
+pub returns-in-Ok : goal.returns-in-Ok
+returns-in-Ok c = rw c.cast_u32_to_i32_slice.ensures c.in-Ok.ensures

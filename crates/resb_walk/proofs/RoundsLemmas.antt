@@ -1,13 +1,13 @@
 -- The rounds of the reader.
 use Rattle.std.proofs.Common.{inl, inr, ℕ, List, [], ◌∷◌, ◌++◌, ◌≡◌, ◌≤◌, ◌+◌, refl, sym}
-use Rattle.std.proofs.Common.{subst, arith, Ok, ◌*◌, ◌<◌, length, ap}
+use Rattle.std.proofs.Common.{subst, arith, Result, Ok, Err, ◌*◌, ◌<◌, length, ap}
 use Rattle.std.proofs.lemmas.List.{length-append}
 use Rattle.resb_tree.specs.Tree.{Tree}
 use Rattle.resb_format.specs.Parts.{Parts}
 use Rattle.resb_format.specs.Content.{Member, word}
 use Rattle.resb_format.specs.Denotes.{Den, DenMember, Reaches, ReachesMember}
 use Rattle.resb_walk.specs.Inner.Frames.{Opened, Waits}
-use Rattle.resb_walk.specs.Inner.Rounds.{Enters}
+use Rattle.resb_walk.specs.Inner.Rounds.{Enters, Puts}
 use Rattle.resb_walk.specs.Refusals.{DenotesNothing, Refuses, IsFault}
 use Rattle.resb_walk.specs.declared.frame.Open.{Open}
 use Rattle.resb_walk.specs.declared.frame.Waiting.{Waiting}
@@ -33,6 +33,13 @@ module _ {L T : Type 0} (lists : L → List Tree → Type 0)
         opened = subst (λ v. Opened lists tables p f v 0) (sym (same_word e)) h;
         paid = omega arith;
       })
+
+  -- a member that is put in is entered
+  pub put_enters : (g : Waiting L T) (x : Member) (w n : ℕ) (fs : List (Waiting L T))
+      (left left' : ℕ) (r : Result (Open L T) ReadingError) → left' + 1 ≡ left
+      → Puts lists tables p w (n + 1) r → Enters lists tables p g x w n fs fs left left' r
+  put_enters g x w n fs left left' (Ok o) s h = (s, inl (refl, h))
+  put_enters g x w n fs left left' (Err e) s h = (omega (arith, s), inl h)
 
   -- to enter a member is a step towards the end
   pub enters_falls : (g : Waiting L T) (x : Member) (o : Open L T) (w n : ℕ)

@@ -124,7 +124,8 @@ impl<'a> File<'a> {
         ensures stands { let p = parts_in self.entry in let m = member_of member in
             MatchResult result (λ s. member_content p m ≡ Some (content_of s))
             (λ e. (member_content p m ≡ None) × IsFault e) }
-        ensures says { IfErr result (Says (member_damage (parts_in self.entry) (member_of member))) }
+        ensures says { let p = parts_in self.entry in
+            IfErr result (Says (member_damage p (member_of member))) }
     {
         match member {
             Member::Word(word) => self.standing(word),

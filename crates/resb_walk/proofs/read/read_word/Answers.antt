@@ -8,7 +8,8 @@ use Rattle.resb_walk.specs.Inner.Members.{member_of}
 use Rattle.resb_walk.proofs.Lift.{word_den, word_refused}
 use Rattle.resb_walk.proofs.Meeting.{waits_meets, round_meets}
 use Rattle.resb_walk.proofs.RoundsLemmas.{round_first, round_falls, round_stuck, round_refused}
-use Rattle.resb_walk.proofs.RoundsLemmas.{round_enters, enters_falls, round_last, round_outer, round_closes}
+use Rattle.resb_walk.proofs.RoundsLemmas.{round_enters, enters_falls, round_last, round_outer}
+use Rattle.resb_walk.proofs.RoundsLemmas.{round_closes}
 use Rattle.resb_walk.proofs.read.read_word.Goals as goal
 
 pub returns-in_err-made-clause-answers : goal.returns-in_err-made-clause-answers

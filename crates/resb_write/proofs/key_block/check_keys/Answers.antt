@@ -6,7 +6,8 @@ use Rattle.std.specs.Option.{is_none}
 use Rattle.resb_pool.specs.Plan.{nows, at_text}
 use Rattle.resb_write.specs.Faults.{has_nul}
 use Rattle.resb_write.specs.Inner.NearPositions.{near_position_in}
-use Rattle.resb_write.proofs.FaultsLemmas.{any_now, unlisted_fault, nul_fault, far_fault, no_key_fault}
+use Rattle.resb_write.proofs.FaultsLemmas.{any_now, unlisted_fault, nul_fault, far_fault}
+use Rattle.resb_write.proofs.FaultsLemmas.{no_key_fault}
 use Rattle.resb_write.proofs.key_block.check_keys.Goals as goal
 
 module _ (p : Option ℕ → Bool) (us : List (List ℕ)) (js : List (List ℕ)) (at : List ℕ

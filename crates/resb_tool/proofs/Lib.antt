@@ -1,4 +1,1 @@
--- For this crate alone.
-mod HexText
-mod Words
-mod Agreeing
+-- No lemmas.

@@ -1,43 +1,12 @@
-//! The command line: what the words ask for, and what is done with the files that they name.
-//! What is done with their bytes is in `streams`.
-ghost use Rattle.std.specs.Prelude.{◌≡◌, ◌⊎◌, ◌≤◌, map, string_bytes, IfErr};
-ghost use Rattle.resb_tool.specs.Commands.{Asks};
-ghost use Rattle.resb_tool.specs.Program.{status_of};
+//! The command line: the process's words, and what is done with the files that they name.
+//! What the words ask for, and what is done with the bytes of files, is in `resb_command`.
+ghost use Rattle.std.specs.Prelude.{◌≡◌, ◌⊎◌, ◌≤◌, IfErr};
+ghost use Rattle.resb_command.specs.Program.{status_of};
 
-use crate::fault::ToolError;
-use crate::streams::{check_file, compile_text, read_all, run};
-use std::alloc::Global;
+use resb_command::{Command, ToolError, check_file, command_of, compile_text, read_all, run};
 use std::io::ErrorKind;
 use std::rt::{Env, Files};
 use std::{env, fs, io};
-
-/// What the program is asked to do.
-#[derive(Clone, Copy)]
-pub enum Command<'a> {
-    /// No words: a text on standard input, the hex line of its file on standard output.
-    Stream,
-    /// `compile IN OUT`: the text of file IN, its file written to OUT.
-    Compile { input: &'a str, output: &'a str },
-    /// `check IN`: the number of resources of file IN.
-    Check { input: &'a str },
-}
-
-/// What the words after the program's name ask for. Any others than those above are no command.
-pub fn command_of(words: &[String]) -> Option<Command<'_>>
-    ensures { Asks (map string_bytes words.entry.now) result }
-{
-    match words {
-        [] => Some(Command::Stream),
-        [word, input, output] if word.as_str() == "compile" => Some(Command::Compile {
-            input: input.as_str(),
-            output: output.as_str(),
-        }),
-        [word, input] if word.as_str() == "check" => Some(Command::Check {
-            input: input.as_str(),
-        }),
-        _ => None,
-    }
-}
 
 fn words_of<R: Env + AllocGlobal>(rt: &R) -> io::Result<Vec<String>> {
     let mut words = env::args(rt)?;

@@ -1,14 +1,11 @@
 //! The program: `compile IN OUT`, `check IN`, and with no words a text on standard input to the hex
-//! digits of its file on standard output.
+//! digits of its file on standard output. What it does with their bytes is in `resb_command`.
 #![tactic(auto)]
 
 mod command;
-mod fault;
-mod streams;
 
-pub use fault::ToolError;
+pub use resb_command::{ToolError, check_file, compile_text, run};
 use std::process::ExitCode;
-pub use streams::{check_file, compile_text, run};
 
 fn main(rt: HostRuntime) -> ExitCode {
     ExitCode::from(command::perform(&rt))

@@ -5,7 +5,6 @@ use resb::binary::{from_bytes, from_bytes_counted};
 use resb::compile;
 use resb_zones::ZoneTable;
 use std::alloc::{AllocError, Global};
-use std::process::Abort;
 use std::test::Fail;
 
 /// The zones that the answers speak of.
@@ -16,7 +15,7 @@ const MOMENTS: [i32; 8] = [i32::MIN, -1, 0, 99, 100, 199, 200, i32::MAX];
 
 /// Texts with their zones: the count, the number of zones, and on a line of its own, after its
 /// name, a zone's offset at each of the moments.
-const ZONES: &str = r#"z{Pole{base:int{60}pairs:intvector{100,3600,200,7200}}}
+pub(crate) const ZONES: &str = r#"z{Pole{base:int{60}pairs:intvector{100,3600,200,7200}}}
   => 4 resources, 1 zones,
   Pole 60 60 60 60 3600 3600 7200 7200;
 z{Pole{base:int{60}pairs:intvector{100,3600,200,7200}note{"n"}}} => 5 resources, 1 zones,
@@ -85,7 +84,7 @@ z{Pole{base:int{60}pairs:bin{""}}} => 4 resources, 1 zones,
 "#;
 
 /// Texts that hold no table of zones, and what they are refused for.
-const REFUSALS: &str = r#"z{Pole{base:int{60}}} => Unknown error: zone field missing;
+pub(crate) const REFUSALS: &str = r#"z{Pole{base:int{60}}} => Unknown error: zone field missing;
 z{Pole{base:int{60}pairs:intvector{1,2,3}}} => Unknown error: Wrong length;
 z{Pole{base:int{60}pairs:intvector{1}}} => Unknown error: Wrong length;
 z{Pole{pairs:intvector{1,2}}} => Unknown error: zone field missing;
@@ -144,8 +143,8 @@ fn described(alloc: Global, table: &ZoneTable<'_>, count: usize) -> Result<Strin
     Ok(line)
 }
 
-/// What is read of the text's file.
-fn answer(alloc: Global, text: &str) -> Result<String, Fail> {
+/// The line of what is read of the text's file.
+pub(crate) fn line_of_zones(alloc: Global, text: &str) -> Result<String, Fail> {
     let file = compile(alloc, text)?;
     match from_bytes::<ZoneTable>(alloc, file.as_slice()) {
         Ok(table) => {
@@ -155,24 +154,4 @@ fn answer(alloc: Global, text: &str) -> Result<String, Fail> {
         Err(error) if error.is_out_of_memory() => Err(error)?,
         Err(error) => Ok(format!(in alloc; "{error}")?),
     }
-}
-
-/// Each row is a text, ` => `, its answer, and `;` at the end of a line.
-fn assert_rows(rt: &impl Abort, alloc: Global, rows: &str) -> Result<(), Fail> {
-    for row in rows.split_terminator(";\n") {
-        let (text, wanted) = row.split_once(" => ").ok_or("a row without an answer")?;
-        let found = answer(alloc, text)?;
-        assert_eq!(rt; found.as_str(), wanted, "{text}");
-    }
-    Ok(())
-}
-
-#[test]
-fn texts_have_their_zones(rt: HostRuntime) -> Result<(), Fail> {
-    assert_rows(&rt, rt.alloc(), ZONES)
-}
-
-#[test]
-fn texts_without_zones_are_refused(rt: HostRuntime) -> Result<(), Fail> {
-    assert_rows(&rt, rt.alloc(), REFUSALS)
 }

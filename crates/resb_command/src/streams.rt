@@ -1,13 +1,13 @@
-//! What the program does, over any reader and writer.
-//! The process's own streams are named in `main` alone.
+//! What the program does with the bytes of a reader or a file.
+//! Why it fails is said in `fault`.
 ghost use Rattle.std.specs.Prelude.{◌≡◌, ◌≢◌, ◌⊎◌, ℕ, List, [], ◌∷◌, ◌++◌, length, ◌<◌, ◌≤◌};
 ghost use Rattle.std.specs.Prelude.{Ok, true, IfOk, OnOk, IfErr, IfSome, IsUtf8, IsOkUnless};
 ghost use Rattle.std.specs.Io.KnownBytes.{Appends, Consumes, IsAtEnd, Keeps};
 ghost use Rattle.hex.specs.Hex.{encode_lower};
 ghost use Rattle.resb.specs.Compiling.{IsCompiled};
-ghost use Rattle.resb_tool.specs.Program.{IsNoInput, Writes, HasReason};
+ghost use Rattle.resb_command.specs.Program.{IsNoInput, Writes, HasReason};
 ghost use Rattle.resb_read.specs.Roots.{TreeOf};
-ghost use Rattle.resb_tool.specs.Program.{CountsFile, ReadsCounted, Agrees, Matches};
+ghost use Rattle.resb_command.specs.Program.{CountsFile, ReadsCounted, Agrees, Matches};
 
 use crate::fault::ToolError;
 use std::alloc::Global;
@@ -66,7 +66,7 @@ fn read_some<R: Read>(
 }
 
 /// All that the reader has left.
-pub(crate) fn read_all<R: Read>(alloc: Global, reader: &mut R) -> Result<Vec<u8>, ToolError>
+pub fn read_all<R: Read>(alloc: Global, reader: &mut R) -> Result<Vec<u8>, ToolError>
     ensures ok { IfOk result (λ bytes.
         IfSome (R.remaining reader.old) (λ input. bytes.items ≡ input)) }
     ensures err { IfErr result (λ e. (e ≡ ToolError.Input) ⊎ (e ≡ ToolError.Memory)) }
@@ -137,6 +137,3 @@ pub fn run<R: Read, W: Write>(
     let file = compile_text(alloc, input.as_slice())?;
     write_line(writer, file.as_slice())
 }
-
-#[cfg(test)]
-mod tests;

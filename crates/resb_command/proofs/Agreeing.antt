@@ -12,8 +12,8 @@ use Rattle.resb_read.proofs.OneRefusal.{one_refusal}
 use Rattle.resb_read.proofs.Rooted.{no_bundle}
 use Rattle.resb.specs.View.{tree_of}
 use Rattle.resb.specs.declared.bundle.Resource.{Resource}
-use Rattle.resb_tool.specs.Program.{ReadsCounted, Agrees, Matches}
-use Rattle.resb_tool.specs.declared.fault.ToolError.TheVariants.{Checking}
+use Rattle.resb_command.specs.Program.{ReadsCounted, Agrees, Matches}
+use Rattle.resb_command.specs.declared.fault.ToolError.TheVariants.{Checking}
 
 pub agree_ok : (bytes : List ℕ) (n : ℕ) → CountOf bytes (Ok n)
     → (r : Result (Resource × ℕ) ReadingError)

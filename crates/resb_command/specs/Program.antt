@@ -37,8 +37,8 @@ use Rattle.resb.specs.View.{tree_of}
 use Rattle.resb.specs.declared.bundle.Resource.{Resource}
 use Rattle.resb.specs.Compiling as compiling
 use Rattle.resb.specs.Compiling.{IsCompiled, IsRefused}
-use Rattle.resb_tool.specs.declared.fault.ToolError.{ToolError}
-use Rattle.resb_tool.specs.declared.fault.ToolError.TheVariants.{
+use Rattle.resb_command.specs.declared.fault.ToolError.{ToolError}
+use Rattle.resb_command.specs.declared.fault.ToolError.TheVariants.{
   Input,
   Output,
   NotUtf8,

@@ -1,6 +1,6 @@
 //! Why the program fails, and the status that it ends with.
 ghost use Rattle.std.specs.Prelude.{◌≡◌, Some};
-ghost use Rattle.resb_tool.specs.Program.{message_of, status_of};
+ghost use Rattle.resb_command.specs.Program.{message_of, status_of};
 
 use resb::CompileError;
 use resb::binary::BinaryDeserializerError;

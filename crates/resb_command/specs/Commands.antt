@@ -1,7 +1,7 @@
 -- What the words behind the program's name ask for.
 use Rattle.std.specs.Prelude.{◌≡◌, ◌≢◌, ℕ, List, [], ◌∷◌, Option, Some, None, codes}
-use Rattle.resb_tool.specs.declared.command.Command.{Command}
-use Rattle.resb_tool.specs.declared.command.Command.TheVariants.{Stream, Compile, Check}
+use Rattle.resb_command.specs.declared.command.Command.{Command}
+use Rattle.resb_command.specs.declared.command.Command.TheVariants.{Stream, Compile, Check}
 
 abbrev pub compile_words : List ℕ → List ℕ → List (List ℕ)
 compile_words input output = codes "compile" ∷ input ∷ output ∷ []

@@ -1,0 +1,4 @@
+-- For this crate alone.
+mod HexText
+mod Words
+mod Agreeing

@@ -1,0 +1,13 @@
+//! The worked rows of what stands on `resb`: the zone table, and what the program does over any
+//! reader and writer. Texts, files and streams, with the answers that the rules ask for.
+//! Only tests stand here, so that `resb_zones` and `resb_command` are not proved twice.
+#![tactic(auto)]
+
+#[cfg(test)]
+mod rows;
+#[cfg(test)]
+mod stream_rows;
+#[cfg(test)]
+mod text_rows;
+#[cfg(test)]
+mod zone_rows;

@@ -7,7 +7,10 @@ use Rattle.std.specs.List.{All, Contains, sum_by}
 use Rattle.std.specs.Str.{bytes_eq, IsUtf8}
 use Rattle.std.specs.Cmp.Lexicographic.{bytes_decides}
 use Rattle.std.proofs.lemmas.Bool.{eqb-true, eq-eqb}
-use Rattle.std.proofs.lemmas.List.Sums.{sum_by-cons}
+use Rattle.std.proofs.Common.{◌++◌, get_or-set_other, get_or-set_same}
+use Rattle.std.specs.Prelude.{slice_set}
+use Rattle.std.proofs.lemmas.List.{take_more}
+use Rattle.std.proofs.lemmas.List.Sums.{sum_by-cons, sum_by-append}
 use Rattle.resb_format.specs.Units.{size}
 use Rattle.resb_pool.specs.Records.{IsRecord, IsDistinct}
 use Rattle.resb_pool.specs.Container.{IsContainer}
@@ -266,3 +269,40 @@ lying_within (p ∷ ps) (suc i) d q l =
       sum_by-cons (λ (z : Home). if_in z q z.measure.total) p (take i ps),
       if_in_le p q p.measure.total,
     )
+
+-- one home more puts its total on the sum of its record
+pub sum_put : (ps : List Home) (i : ℕ) (d : Home) (es : List ℕ) (n : ℕ) → i < length ps
+    → (get_or ps i d).record < length es
+    → n ≡ get_or es (get_or ps i d).record 0 + (get_or ps i d).measure.total
+    → (q : ℕ) → get_or es q 0 ≡ lying_in (take i ps) q
+    → get_or (slice_set es (get_or ps i d).record n) q 0 ≡ lying_in (take (i + 1) ps) q
+sum_put ps i d es n l k e q h = by (nat_eq p.record q) refl
+  where
+    p : Home
+    p = get_or ps i d
+
+    total : Home → ℕ
+    total z = if_in z q z.measure.total
+
+    more : lying_in (take (i + 1) ps) q ≡ lying_in (take i ps) q + total p
+    more =
+        let all : lying_in (take (i + 1) ps) q ≡ sum_by total (take i ps ++ p ∷ []) =
+        ap (λ z. lying_in z q) (take_more ps i d l) in
+        omega (arith, all, sum_by-append total (take i ps) (p ∷ []), sum_by-cons total p [])
+
+    by : (b : Bool) → nat_eq p.record q ≡ b
+        → get_or (slice_set es p.record n) q 0 ≡ lying_in (take (i + 1) ps) q
+    by true f =
+        let same = eqb-true p.record q f in
+        let here : total p ≡ p.measure.total = ap (λ b. cond {A = ℕ} b p.measure.total 0) f in
+        let read : get_or (slice_set es p.record n) q 0 ≡ n =
+        ap (λ z. get_or (slice_set es p.record n) z 0) (sym same)
+        ∙ get_or-set_same es p.record n 0 k in
+        let was : get_or es p.record 0 ≡ get_or es q 0 = ap (λ z. get_or es z 0) same in
+        omega (arith, read, e, was, h, more, here)
+    by false f =
+        let none : total p ≡ 0 = ap (λ b. cond {A = ℕ} b p.measure.total 0) f in
+        let read : get_or (slice_set es p.record n) q 0 ≡ get_or es q 0 =
+        get_or-set_other es p.record q n 0
+        (λ s. true≢false (sym (eq-eqb p.record q (sym s)) ∙ f)) in
+        omega (arith, read, h, more, none)

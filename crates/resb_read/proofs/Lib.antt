@@ -5,6 +5,7 @@ mod Each
 mod Singly
 mod UnitsBack
 mod Entering
+mod Failing
 mod Viewing
 pub mod OneRefusal
 mod OneValue

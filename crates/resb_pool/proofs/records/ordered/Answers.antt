@@ -16,3 +16,6 @@ pub returns-clause-each : goal.returns-clause-each
 returns-clause-each c = All-permutation (IsRecordOf (nows c.args.texts.now) c.args.sums.now)
     c.in_ok-records.records.items c.sort.new.self.items c.sort.ensures.permutation
     c.in_ok-records.ensures.each
+
+pub returns-clause-ascend : goal.returns-clause-ascend
+returns-clause-ascend c = c.in_ok-sort.ensures.sorted

@@ -8,3 +8,6 @@ returns-clause-ok c = rw c.new.ensures at c.read_counted.ensures.ok
 
 pub returns-clause-err : goal.returns-clause-err
 returns-clause-err c = rw c.new.ensures at c.read_counted.ensures.err
+
+pub returns-clause-borrowed : goal.returns-clause-borrowed
+returns-clause-borrowed c = c.read_counted.ensures.borrowed

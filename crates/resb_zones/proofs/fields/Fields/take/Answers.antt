@@ -54,6 +54,19 @@ returns-in_err-pairs-clause-refused c =
     omega (arith, paid) in
     on_err _ T (fell, spent)
 
+pub returns-in_err-skip-clause-refused : goal.returns-in_err-skip-clause-refused
+returns-in_err-skip-clause-refused c =
+    let name = c.in_ok-name.name.now in
+    let entry = entry_of c.args.key c.args.value in
+    let (k, key, paid) = c.in_ok-name.ensures in
+    let (why, short, same) = c.in_err-skip.ensures in
+    let free : k ≡ 0 = key_is_free (place_of c.args.key) k (name, key) in
+    let costs : cost_at c.args.value.at ≡ 1 = c.requires.1 in
+    let T : Type 0 = (c.skip.new.walk ≤ c.args.walk.now)
+    × (IsReadable entry → c.args.walk.now ≡ 0) in
+    let fell : c.skip.new.walk ≤ c.args.walk.now = omega (arith, paid, same) in
+    on_err _ T (fell, λ readable. omega (arith, paid, short, costs, free))
+
 pub returns-clause-read : goal.returns-clause-read
 returns-clause-read c =
     let left = c.read_str.new.walk in

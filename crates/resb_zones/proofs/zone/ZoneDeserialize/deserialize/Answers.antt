@@ -40,3 +40,6 @@ returns-in_default-clause-refused c =
         inr (λ n h fits. none (inl w.in_default.is-0) n h),
       )
     ]
+
+pub returns-in_default-clause-missing : goal.returns-in_default-clause-missing
+returns-in_default-clause-missing c = λ lacks. c.unknown.ensures

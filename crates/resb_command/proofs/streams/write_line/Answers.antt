@@ -8,8 +8,11 @@ use Rattle.std.proofs.Common.{
   ◌∙◌,
   subst,
   append_assoc,
+  append-nil,
   take-append-drop,
 }
+use Rattle.std.proofs.lemmas.Bool.{eqb-true}
+use Rattle.std.proofs.lemmas.List.{nil_from_length}
 use Rattle.std.specs.Io.KnownBytes.{Appends}
 use Rattle.std.proofs.KnownBytes.{Appends-nil, Appends-trans}
 use Rattle.hex.specs.Hex.{lower_digits}
@@ -33,3 +36,11 @@ pieces-preserved g c =
       are ∙ ap (λ s. front ++ s) (sym whole) ∙ sym (append_assoc front block.now others.now),
       subst (Appends _ _) (sym (encode_with-append lower_digits front block.now)) written,
     )
+
+pub returns-in-Ok-clause-ok : goal.returns-in-Ok-clause-ok
+returns-in-Ok-clause-ok g c =
+    let (front, are, done) = c.pieces.invariant in
+    let none : c.pieces.rest.now ≡ [] =
+    nil_from_length _ (eqb-true _ 0 (sym c.pieces-test.ensures)) in
+    let whole : c.args.file.now ≡ front = are ∙ ap (λ s. front ++ s) none ∙ append-nil front in
+    rw whole (Appends-trans _ _ _ _ _ done c.in-Ok.ensures.bytes)

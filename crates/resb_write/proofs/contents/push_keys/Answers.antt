@@ -1,4 +1,4 @@
--- A turn moves a key from what is left to what is there.
+-- An iteration moves a key from what is left to what is there.
 use Rattle.std.proofs.Common.{rules, ◌≡◌, [], ◌∷◌, ◌++◌, sym, ◌∙◌, ap, append_assoc, append-nil}
 use Rattle.resb_pool.specs.Plan.{nows}
 use Rattle.resb_pool.proofs.TextLoops.{nows-push}

@@ -1,4 +1,4 @@
--- A turn moves the next key into the set.
+-- An iteration moves the next key into the set.
 use Rattle.std.proofs.Common.{List, ℕ, [], Bor, take, get_or, sym, ◌∙◌, ap, arith}
 use Rattle.std.specs.Option.{is_some}
 use Rattle.std.proofs.lemmas.Map.Text.{hash_map_updates_str}

@@ -1,4 +1,4 @@
--- A turn puts the next key at the position behind those before it.
+-- An iteration puts the next key at the position behind those before it.
 use Rattle.std.proofs.Common.{◌≡◌, ◌+◌, ◌-◌, ◌^◌, min, List, ℕ, [], ◌∷◌, ◌++◌, Bor, length, take}
 use Rattle.std.proofs.Common.{get_or, sym, ◌∙◌, ap, arith}
 use Rattle.std.proofs.lemmas.Map.Text.{hash_map_updates_str}

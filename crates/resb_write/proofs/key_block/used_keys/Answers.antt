@@ -1,4 +1,4 @@
--- A turn keeps the next key where the set has it.
+-- An iteration keeps the next key where the set has it.
 use Rattle.std.proofs.Common.{◌≡◌, ◌+◌, List, ℕ, ◌∷◌, ◌++◌, drop, filter, All, sym, ◌∙◌, ap, subst}
 use Rattle.std.proofs.Common.{arith}
 use Rattle.std.specs.Str.{IsUtf8}

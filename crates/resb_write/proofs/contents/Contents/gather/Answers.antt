@@ -1,4 +1,4 @@
--- A turn adds the next resource.
+-- An iteration adds the next resource.
 use Rattle.std.proofs.Common.{rules, ◌≡◌, ◌++◌, ◌∷◌, ◌+◌, [], length, refl, sym, ◌∙◌, ap, subst}
 use Rattle.std.proofs.Common.{append_assoc, append-nil, arith}
 use Rattle.std.specs.Vec.Iter.{into_iter_items, into_iter_len}

@@ -1,4 +1,5 @@
--- The words of the contracts: compiled texts, and what the crates below say of trees and files.
+-- The words of the contracts: compiled texts, and what the crates below say of trees, texts and
+-- files. The statements of each crate's laws go by that crate's name.
 pub use Rattle.resb_tree.specs.Tree
 pub use Rattle.resb_tree.specs.View
 pub use Rattle.resb_tree.specs.Equality
@@ -6,41 +7,37 @@ pub use Rattle.resb_tree.specs.Bundle
 pub use Rattle.resb_tree.specs.Maps
 pub use Rattle.resb_tree.specs.Keys
 pub use Rattle.resb_tree.specs.Int28
+pub use Rattle.resb_tree.specs.WalkOrder
+pub use Rattle.resb_tree.specs.Laws as TreeLaws
 pub use Rattle.resb_grammar.specs.BundleText
 pub use Rattle.resb_grammar.specs.Stuck
 pub use Rattle.resb_grammar.specs.Expected
+pub use Rattle.resb_grammar.specs.Laws as GrammarLaws
 pub use Rattle.resb_text.specs.Answer
 pub use Rattle.resb_text.specs.Borrowed
 pub use Rattle.resb_text.specs.Refusal
 pub use Rattle.resb_text.specs.Turns
 pub use Rattle.resb_format.specs.Bytes
 pub use Rattle.resb_format.specs.Units
+pub use Rattle.resb_format.specs.Strings
+pub use Rattle.resb_format.specs.StringFaults
 pub use Rattle.resb_format.specs.Types
-pub use Rattle.resb_head.specs.Codes
-pub use Rattle.resb_head.specs.CodeReading
 pub use Rattle.resb_format.specs.Descriptor
 pub use Rattle.resb_format.specs.DescriptorReading
+pub use Rattle.resb_format.specs.Views
+pub use Rattle.resb_format.specs.Error
+pub use Rattle.resb_format.specs.Parts
+pub use Rattle.resb_format.specs.Content
+pub use Rattle.resb_format.specs.Denotes
+pub use Rattle.resb_format.specs.File
+pub use Rattle.resb_format.specs.Laws as FormatLaws
+pub use Rattle.resb_head.specs.Codes
+pub use Rattle.resb_head.specs.CodeReading
 pub use Rattle.resb_head.specs.Head
 pub use Rattle.resb_head.specs.HeadChecks
 pub use Rattle.resb_head.specs.HeadReading
 pub use Rattle.resb_head.specs.PartsReading
-pub use Rattle.resb_format.specs.StringFaults
-pub use Rattle.resb_format.specs.Parts
-pub use Rattle.resb_format.specs.Denotes
-pub use Rattle.resb_format.specs.File
-pub use Rattle.resb_pool.specs.Plan
-pub use Rattle.resb_pool.specs.Fault
-pub use Rattle.resb_pool.specs.FaultOf
-pub use Rattle.resb_write.specs.PlainSize
-pub use Rattle.resb_write.specs.Faults
-pub use Rattle.resb_write.specs.WrittenHead
-pub use Rattle.resb_write.specs.Written
-pub mod Compiling
-pub mod Laws
-pub use Rattle.resb_format.specs.Strings
-pub use Rattle.resb_format.specs.Content
-pub use Rattle.resb_format.specs.Error
-pub use Rattle.resb_format.specs.Views
+pub use Rattle.resb_head.specs.Laws as HeadLaws
 pub use Rattle.resb_walk.specs.Damage
 pub use Rattle.resb_walk.specs.Meets
 pub use Rattle.resb_walk.specs.Refusals
@@ -54,4 +51,21 @@ pub use Rattle.resb_read.specs.Roots
 pub use Rattle.resb_read.specs.Others
 pub use Rattle.resb_read.specs.Sequences
 pub use Rattle.resb_read.specs.Access
+pub use Rattle.resb_read.specs.Inner.Named
 pub use Rattle.resb_read.specs.TypeLaws
+pub use Rattle.resb_read.specs.Laws as ReadLaws
+pub use Rattle.resb_pool.specs.Plan
+pub use Rattle.resb_pool.specs.Fault
+pub use Rattle.resb_pool.specs.FaultOf
+pub use Rattle.resb_pool.specs.Laws as PoolLaws
+pub use Rattle.resb_layout.specs.Laid
+pub use Rattle.resb_layout.specs.Laws as LayoutLaws
+pub use Rattle.resb_bodies.specs.StackSteps
+pub use Rattle.resb_bodies.specs.Laws as BodiesLaws
+pub use Rattle.resb_write.specs.PlainSize
+pub use Rattle.resb_write.specs.Faults
+pub use Rattle.resb_write.specs.WrittenHead
+pub use Rattle.resb_write.specs.Written
+pub use Rattle.resb_write.specs.Laws as WriteLaws
+pub mod Compiling
+pub mod Laws

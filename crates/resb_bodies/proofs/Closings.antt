@@ -7,20 +7,23 @@ use Rattle.std.proofs.lemmas.Bool.{eqb-true, eqb-false}
 use Rattle.std.specs.List.{All}
 use Rattle.resb_tree.specs.Tree.{binary, int_vector}
 use Rattle.resb_layout.specs.Laid.{Lays, lays_bytes, lays_numbers, fill, to_word, to_data}
-use Rattle.resb_layout.specs.Laid.{binary_body, Given, State, ClosesArray, short_array, long_array}
+use Rattle.resb_layout.specs.Laid.{binary_body, Given, Laid, ClosesArray, short_array, long_array}
 use Rattle.resb_layout.specs.Laid.{ClosesTable, short_table, long_table, wide_table, here, words}
-use Rattle.resb_layout.specs.Laid.{halves, words_body, table_body, wide_table_body, pad, are_short}
+use Rattle.resb_layout.specs.Laid.{halves, words_body, near_table_body, wide_table_body, pad}
+use Rattle.resb_layout.specs.Laid.{are_short, more_bytes}
 use Rattle.resb_layout.specs.Laid.{are_near, offsets_in}
-use Rattle.resb_layout.proofs.Numbers.{words_len, halves_len}
+use Rattle.resb_layout.proofs.Numbers.{halves_len}
+use Rattle.resb_format.proofs.WordsBack.{written_length}
 
 pub body_long : (ws : List ℕ) → length (words_body ws) ≡ 4 + 4 * length ws
-body_long ws = omega (arith, words_len ws, length-append (to_le_bytes w32 (length ws)) (words ws))
+body_long ws = omega (arith, written_length ws, length-append (to_le_bytes w32 (length ws))
+    (words ws))
 
 pub offsets_long : (ws : List ℕ) → length (offsets_in ws) ≡ length ws
 offsets_long [] = refl
 offsets_long (w ∷ ws) = omega (arith, offsets_long ws)
 
-module _ (g : Given) (s : State) (ws : List ℕ) where
+module _ (g : Given) (s : Laid) (ws : List ℕ) where
   pub array_in_units : (us : List ℕ) (w at : ℕ) → are_short ws ≡ true → length s.units < 2 ^ 28
       → us ≡ (s.units ++ length ws ∷ []) ++ offsets_in ws → at ≡ length s.units
       → w ≡ 0x9000_0000 + at
@@ -61,7 +64,7 @@ pub tail_taken : (bs cs ws : List ℕ) → cs ≡ bs ++ words_body ws
     → length cs ≡ length bs + (4 + 4 * length ws)
 tail_taken bs cs ws e = omega (arith, ap length e, length-append bs (words_body ws), body_long ws)
 
-module _ (g : Given) (s : State) (ps ws : List ℕ) where
+module _ (g : Given) (s : Laid) (ps ws : List ℕ) where
   pub table_in_units : (us : List ℕ) (w at : ℕ) → are_near ps ≡ true → are_short ws ≡ true
       → length s.units < 2 ^ 28
       → us ≡ s.units ++ length ws ∷ (ps ++ offsets_in ws) → at ≡ length s.units
@@ -75,11 +78,12 @@ module _ (g : Given) (s : State) (ps ws : List ℕ) where
       })) (sym (v ∙ ap (λ k. 0x5000_0000 + k) a)) (short_table near short room))
 
   pub table_in_tail : (bs : List ℕ) (w at : ℕ) → are_near ps ≡ true → are_short ws ≡ false
-      → here g s ≡ 4 * at → at < 2 ^ 28 → bs ≡ s.tail ++ table_body ps ws → w ≡ 0x2000_0000 + at
+      → here g s ≡ 4 * at → at < 2 ^ 28 → bs ≡ s.tail ++ near_table_body ps ws
+      → w ≡ 0x2000_0000 + at
       → ClosesTable g s ps ws (record { units = s.units; tail = bs }) w
   table_in_tail bs w at near long a room e v =
       subst (λ x. ClosesTable g s ps ws (record { units = s.units; tail = x }) w) (sym e)
-      (subst (ClosesTable g s ps ws (record { units = s.units; tail = s.tail ++ table_body ps ws }))
+      (subst (ClosesTable g s ps ws (more_bytes s (near_table_body ps ws)))
       (sym v) (long_table at near long a room))
 
   pub table_is_wide : (bs : List ℕ) (w at : ℕ) → are_near ps ≡ false → here g s ≡ 4 * at
@@ -106,8 +110,8 @@ wide_taken bs cs ps ws n e =
       length-append bs (wide_table_body ps ws),
       length-append (to_le_bytes w32 (length ps)) (words ps ++ words ws),
       length-append (words ps) (words ws),
-      words_len ps,
-      words_len ws,
+      written_length ps,
+      written_length ws,
     )
 
 pad_long : (n : ℕ) → ((n % 2 ≡ 0) × (length (pad n) ≡ 2)) ⊎ ((n % 2 ≡ 1) × (length (pad n) ≡ 0))
@@ -124,10 +128,10 @@ pad_long n = by (nat_eq (n % 2) 0) refl
         inr (omega (arith, ne), ap (λ b. length {A = ℕ} (cond b (0xaa ∷ 0xaa ∷ []) [])) e))
 
 -- an even number of positions is padded, so that whole words are taken
-pub table_taken : (bs cs ps ws : List ℕ) → length ps ≡ length ws → cs ≡ bs ++ table_body ps ws
+pub table_taken : (bs cs ps ws : List ℕ) → length ps ≡ length ws → cs ≡ bs ++ near_table_body ps ws
     → (length cs ≤ length bs + (8 * length ws + 32)) × (length cs % 4 ≡ length bs % 4)
 table_taken bs cs ps ws n e =
-    let a = length-append bs (table_body ps ws) in
+    let a = length-append bs (near_table_body ps ws) in
     let b = length-append (to_le_bytes w16 (length ps))
     (halves ps ++ (pad (length ps) ++ words ws)) in
     let d = length-append (halves ps) (pad (length ps) ++ words ws) in
@@ -135,12 +139,12 @@ table_taken bs cs ps ws n e =
     let two : length (to_le_bytes w16 (length ps)) ≡ 2 = refl in
     elim (pad_long (length ps)) [
       | inl p ↦ (
-        omega (arith, ap length e, a, b, d, f, two, halves_len ps, words_len ws, p.1, n),
-        omega (arith, ap length e, a, b, d, f, two, halves_len ps, words_len ws, p.0, p.1, n),
+        omega (arith, ap length e, a, b, d, f, two, halves_len ps, written_length ws, p.1, n),
+        omega (arith, ap length e, a, b, d, f, two, halves_len ps, written_length ws, p.0, p.1, n),
       )
       | inr p ↦ (
-        omega (arith, ap length e, a, b, d, f, two, halves_len ps, words_len ws, p.1, n),
-        omega (arith, ap length e, a, b, d, f, two, halves_len ps, words_len ws, p.0, p.1, n),
+        omega (arith, ap length e, a, b, d, f, two, halves_len ps, written_length ws, p.1, n),
+        omega (arith, ap length e, a, b, d, f, two, halves_len ps, written_length ws, p.0, p.1, n),
       )
     ]
 
@@ -152,7 +156,7 @@ fill_more (suc n) = ap (λ l. 0xaa ∷ l) (fill_more n)
 pub fill_next : (n : ℕ) → fill (n + 1) ≡ fill n ++ 0xaa ∷ []
 fill_next n = let e : n + 1 ≡ suc n = omega arith in ap fill e ∙ fill_more n
 
-module _ (g : Given) (s : State) where
+module _ (g : Given) (s : Laid) where
   pub numbers_laid : (ns bs : List ℕ) (w at : ℕ) → 0 < length ns → length ns < 2 ^ 32
       → All (λ n. n < 2 ^ 32) ns → here g s ≡ 4 * at → at < 2 ^ 28 → bs ≡ s.tail ++ words_body ns
       → w ≡ 0xe000_0000 + at

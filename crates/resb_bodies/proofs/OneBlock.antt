@@ -4,7 +4,7 @@ use Rattle.std.proofs.Common.{length, ◌≡◌, ◌<◌, ◌+◌, refl, sym, �
 use Rattle.std.specs.List.{list_all}
 use Rattle.std.proofs.lemmas.Bool.{lt-leb, and_left, and_right, and_parts}
 use Rattle.resb_tree.specs.Tree.{Tree, Trees}
-use Rattle.resb_layout.specs.Laid.{Given, State, is_short_string, are_short, are_near, offsets_in}
+use Rattle.resb_layout.specs.Laid.{Given, Laid, is_short_string, are_short, are_near, offsets_in}
 use Rattle.resb_layout.specs.Laid.{ClosesArray, short_array, long_array, ClosesTable, short_table}
 use Rattle.resb_layout.specs.Laid.{long_table, wide_table, ArePlaced, Lays, lays_integer}
 use Rattle.resb_tree.specs.WalkOrder.{entry_keys}
@@ -60,7 +60,7 @@ short_same : (vs ws : List ℕ) → AlikeEach vs ws → are_short vs ≡ true �
 short_same vs ws k h = all_same k (and_parts (nat_le (length vs) 65535)
     (list_all is_short_string vs) h).1
 
-array_block : {g h : Given} {vs ws : List ℕ} {s u a b : State} {v w : ℕ} → s.units ≡ u.units
+array_block : {g h : Given} {vs ws : List ℕ} {s u a b : Laid} {v w : ℕ} → s.units ≡ u.units
     → AlikeEach vs ws → ClosesArray g s vs a v → ClosesArray h u ws b w → (a.units ≡ b.units)
     × Alike v w
 array_block {vs = vs} {ws = ws} e k (short_array m l) (short_array n o) =
@@ -73,7 +73,7 @@ array_block {vs = vs} {ws = ws} e k (long_array at n f p q) (short_array m l) =
 array_block e k (long_array at n f p q) (long_array at2 n2 f2 p2 q2) =
     (e, apart (high (0x8000_0000 + at) (omega arith)) (high (0x8000_0000 + at2) (omega arith)))
 
-table_block : {g h : Given} {ps vs ws : List ℕ} {s u a b : State} {v w : ℕ} → s.units ≡ u.units
+table_block : {g h : Given} {ps vs ws : List ℕ} {s u a b : Laid} {v w : ℕ} → s.units ≡ u.units
     → AlikeEach vs ws → ClosesTable g s ps vs a v → ClosesTable h u ps ws b w → (a.units ≡ b.units)
     × Alike v w
 table_block {ps = ps} {vs = vs} {ws = ws} e k (short_table r m l) (short_table t n o) =
@@ -115,7 +115,7 @@ module _ (g h : Given) (positions : g.position ≡ h.position) (offsets : g.offs
       f
 
   mutual
-    pub block : {s u a b : State} {t : Tree} {v w : ℕ} → s.units ≡ u.units → Lays g s t a v
+    pub block : {s u a b : Laid} {t : Tree} {v w : ℕ} → s.units ≡ u.units → Lays g s t a v
         → Lays h u t b w → (a.units ≡ b.units) × Alike v w
     block e (lays_integer k) (lays_integer l) = (e, same refl)
     block e (lays_string {text = x} {k = m} k l) (lays_string {k = n} o p) =
@@ -148,7 +148,7 @@ module _ (g h : Given) (positions : g.position ≡ h.position) (offsets : g.offs
         table_block r.0 r.1 c (subst (λ rs. ClosesTable h m2 rs w2 b' w')
         (same_positions (entry_keys es) ps qs p q) d)
 
-    block_each : {s u a b : State} {ts : Trees} {vs ws : List ℕ} → s.units ≡ u.units
+    block_each : {s u a b : Laid} {ts : Trees} {vs ws : List ℕ} → s.units ≡ u.units
         → LaysEach g s ts a vs → LaysEach h u ts b ws → (a.units ≡ b.units) × AlikeEach vs ws
     block_each e each_none each_none = (e, alike_none)
     block_each e (each_more k ks) (each_more l ls) =

@@ -6,21 +6,21 @@ use Rattle.std.proofs.lemmas.List.Sums.{sum_by-cons}
 use Rattle.std.proofs.lemmas.List.Elements.{All-tail}
 use Rattle.resb_tree.specs.Tree.{Tree, string, array, table, binary, integer, int_vector, Trees}
 use Rattle.resb_tree.specs.Tree.{no_trees, more_trees, Entries, no_entries, entry}
-use Rattle.resb_layout.specs.Laid.{Given, State}
+use Rattle.resb_layout.specs.Laid.{Given, Laid}
 use Rattle.resb_tree.specs.WalkOrder.{members, values_of, children, walk, walk_each, walk_values}
 use Rattle.resb_bodies.specs.StackSteps.{LaysNext, LaysRow, row_none, row_more}
 use Rattle.resb_bodies.specs.Room.{given_by, own_size, most_units, most_bytes, IsKnown}
-use Rattle.resb_bodies.specs.Inner.Seen.{HasRoom, Takes, Suffices, CanLay}
+use Rattle.resb_bodies.specs.Inner.Seen.{HasRoom, TakesNoMore, Suffices, CanLay}
 use Rattle.resb_bodies.specs.declared.given.Sites.{Sites}
 use Rattle.resb_bodies.specs.declared.given.Bodies.{Bodies}
 
-pub steps_push : (g : Given) (s m e : State) (ws xs ys : List ℕ) (ts : List Tree) (t : Tree)
+pub steps_push : (g : Given) (s m e : Laid) (ws xs ys : List ℕ) (ts : List Tree) (t : Tree)
     → LaysRow g s ws ts m xs → LaysNext g m xs t e ys → LaysRow g s ws (ts ++ t ∷ []) e ys
 steps_push g s m e ws xs ys [] t row_none k = row_more k row_none
 steps_push g s n e ws xs ys (u ∷ ts) t (row_more {m} {xs = zs} h more) k =
     row_more h (steps_push g m n e zs xs ys ts t more k)
 
-pub step_long : (g : Given) (s e : State) (ws xs : List ℕ) (t : Tree) → LaysNext g s ws t e xs
+pub step_long : (g : Given) (s e : Laid) (ws xs : List ℕ) (t : Tree) → LaysNext g s ws t e xs
     → length xs ≡ length ws - length (children t) + 1
 step_long g s e ws xs t k =
     omega (
@@ -87,7 +87,7 @@ module _ (p : Sites) (b : Bodies) (n : ℕ) (t : Tree) (ts : List Tree) (h : Can
           (sum_by most_bytes (t ∷ ts)) (2 ^ 30) (sum_by-cons most_bytes t ts) h.room.bytes;
     }
 
-    pub can_go_on : (c : Bodies) (m : ℕ) → Takes p b c (own_size t)
+    pub can_go_on : (c : Bodies) (m : ℕ) → TakesNoMore p b c (own_size t)
         → m ≡ n - length (children t) + 1
         → CanLay p c m ts
     can_go_on c m k e =

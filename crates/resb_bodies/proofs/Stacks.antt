@@ -4,7 +4,7 @@ use Rattle.std.proofs.Common.{[], ◌∷◌, ◌++◌, length, refl, sym, ◌∙
 use Rattle.std.proofs.Common.{append-nil, length-append, arith}
 use Rattle.resb_tree.specs.Tree.{Tree, string, array, table, binary, integer, int_vector, Trees}
 use Rattle.resb_tree.specs.Tree.{no_trees, more_trees, Entries, no_entries, entry, trees_of}
-use Rattle.resb_layout.specs.Laid.{Given, State, Lays, LaysEach, each_none, each_more, lays_items}
+use Rattle.resb_layout.specs.Laid.{Given, Laid, Lays, LaysEach, each_none, each_more, lays_items}
 use Rattle.resb_layout.specs.Laid.{lays_no_items, lays_entries, lays_no_entries, ClosesArray}
 use Rattle.resb_layout.specs.Laid.{ClosesTable, ArePlaced, members_in}
 use Rattle.resb_tree.specs.WalkOrder.{entry_keys}
@@ -36,23 +36,23 @@ members_back no_trees = refl
 members_back (more_trees t ts) = ap (more_trees t) (members_back ts)
 
 module _ (g : Given) where
-  pub record Split (s : State) (ws : List ℕ) (t : Tree) (rest : List Tree) (e : State)
+  pub record Split (s : Laid) (ws : List ℕ) (t : Tree) (rest : List Tree) (e : Laid)
       (ys : List ℕ) : Type 0 where
-    pub mid : State
+    pub mid : Laid
     pub word : ℕ
     pub lays : Lays g s t mid word
     pub goes : LaysRow g mid (ws ++ word ∷ []) rest e ys
 
-  pub record SplitEach (s : State) (ws : List ℕ) (ts : List Tree) (rest : List Tree) (e : State)
+  pub record SplitEach (s : Laid) (ws : List ℕ) (ts : List Tree) (rest : List Tree) (e : Laid)
       (ys : List ℕ) : Type 0 where
-    pub mid : State
+    pub mid : Laid
     pub words : List ℕ
     pub lays : LaysEach g s (trees_of ts) mid words
     pub many : length words ≡ length ts
     pub goes : LaysRow g mid (ws ++ words) rest e ys
 
   -- the step of a resource whose members are laid
-  last_step : (s mid e : State) (ws words ys : List ℕ) (t : Tree) (rest : List Tree)
+  last_step : (s mid e : Laid) (ws words ys : List ℕ) (t : Tree) (rest : List Tree)
       → LaysEach g s (trees_of (children t)) mid words → length words ≡ length (children t)
       → LaysRow g mid (ws ++ words) (t ∷ rest) e ys → Split s ws t rest e ys
   last_step s mid e ws words ys t rest h n (row_more {m} {xs} k more) =
@@ -65,7 +65,7 @@ module _ (g : Given) where
             more;
       }
 
-  leaf : (s e : State) (ws ys : List ℕ) (t : Tree) (rest : List Tree) → children t ≡ []
+  leaf : (s e : Laid) (ws ys : List ℕ) (t : Tree) (rest : List Tree) → children t ≡ []
       → LaysRow g s ws (t ∷ rest) e ys → Split s ws t rest e ys
   leaf s e ws ys t rest n h =
       last_step s s e ws [] ys t rest (subst (λ ts. LaysEach g s (trees_of ts) s []) (sym n)
@@ -73,7 +73,7 @@ module _ (g : Given) where
       (sym (append-nil ws)) h)
 
   mutual
-    steps_tree : (t : Tree) (s e : State) (ws ys : List ℕ) (rest : List Tree)
+    steps_tree : (t : Tree) (s e : Laid) (ws ys : List ℕ) (rest : List Tree)
         → LaysRow g s ws (walk t ++ rest) e ys → Split s ws t rest e ys
     steps_tree (string x) s e ws ys rest h = leaf s e ws ys (string x) rest refl h
     steps_tree (binary x) s e ws ys rest h = leaf s e ws ys (binary x) rest refl h
@@ -90,7 +90,7 @@ module _ (g : Given) where
         h) in
         last_step s k.mid e ws k.words ys (table es) rest k.lays k.many k.goes
 
-    steps_each : (ts : Trees) (s e : State) (ws ys : List ℕ) (rest : List Tree)
+    steps_each : (ts : Trees) (s e : Laid) (ws ys : List ℕ) (rest : List Tree)
         → LaysRow g s ws (walk_each ts ++ rest) e ys → SplitEach s ws (members ts) rest e ys
     steps_each no_trees s e ws ys rest h = record {
       mid = s;
@@ -113,7 +113,7 @@ module _ (g : Given) where
               b.goes;
         }
 
-    steps_values : (es : Entries) (s e : State) (ws ys : List ℕ) (rest : List Tree)
+    steps_values : (es : Entries) (s e : Laid) (ws ys : List ℕ) (rest : List Tree)
         → LaysRow g s ws (walk_values es ++ rest) e ys → SplitEach s ws (values_of es) rest e ys
     steps_values no_entries s e ws ys rest h = record {
       mid = s;
@@ -137,10 +137,10 @@ module _ (g : Given) where
         }
 
 -- nothing is left
-ended : (g : Given) (s e : State) (ws ys : List ℕ) → LaysRow g s ws [] e ys → (s ≡ e) × (ws ≡ ys)
+ended : (g : Given) (s e : Laid) (ws ys : List ℕ) → LaysRow g s ws [] e ys → (s ≡ e) × (ws ≡ ys)
 ended g s e ws ys row_none = (refl, refl)
 
-pub steps_lay_trees : (g : Given) (s e : State) (t : Tree) (xs : List ℕ)
+pub steps_lay_trees : (g : Given) (s e : Laid) (t : Tree) (xs : List ℕ)
     → LaysRow g s [] (walk t) e xs → (w : ℕ) × (xs ≡ w ∷ []) × Lays g s t e w
 steps_lay_trees g s e t xs h =
     let k = steps_tree g t s e [] xs []
@@ -157,7 +157,7 @@ split_stack ws n h = (
   omega (arith, length-drop (length ws - n) ws),
 )
 
-pub array_step : (g : Given) (s e : State) (ws xs vs : List ℕ) (ts : Trees) (w n : ℕ)
+pub array_step : (g : Given) (s e : Laid) (ws xs vs : List ℕ) (ts : Trees) (w n : ℕ)
     → n ≡ length (members ts) → n ≤ length ws → vs ≡ drop (length ws - n) ws → 0 < n
     → ClosesArray g s vs e w → xs ≡ take (length ws - n) ws ++ w ∷ []
     → LaysNext g s ws (array ts) e xs
@@ -174,7 +174,7 @@ array_step g s e ws xs vs ts w n c h v some k p =
           (omega (arith, ap length v, q.1)) k;
     }
 
-pub empty_array_step : (g : Given) (s : State) (ws xs : List ℕ) (w : ℕ) → w ≡ 0x8000_0000
+pub empty_array_step : (g : Given) (s : Laid) (ws xs : List ℕ) (w : ℕ) → w ≡ 0x8000_0000
     → xs ≡ take (length ws - 0) ws ++ w ∷ [] → LaysNext g s ws (array no_trees) s xs
 empty_array_step g s ws xs w e p =
     let q = split_stack ws 0 (omega arith) in
@@ -190,14 +190,14 @@ empty_array_step g s ws xs w e p =
           (subst (Lays g s (array no_trees) s) (sym e) lays_no_items);
     }
   where
-    none_back : {before : State} → LaysEach g before no_trees s [] → before ≡ s
+    none_back : {before : Laid} → LaysEach g before no_trees s [] → before ≡ s
     none_back each_none = refl
 
 values_back : (es : Entries) → trees_of (values_of es) ≡ members_in es
 values_back no_entries = refl
 values_back (entry k t es) = ap (more_trees t) (values_back es)
 
-pub table_step : (g : Given) (s e : State) (ws xs vs ps : List ℕ) (es : Entries) (w n : ℕ)
+pub table_step : (g : Given) (s e : Laid) (ws xs vs ps : List ℕ) (es : Entries) (w n : ℕ)
     → n ≡ length (values_of es) → n ≤ length ws → vs ≡ drop (length ws - n) ws → 0 < n
     → ArePlaced g (entry_keys es) ps → ClosesTable g s ps vs e w
     → xs ≡ take (length ws - n) ws ++ w ∷ [] → LaysNext g s ws (table es) e xs
@@ -215,7 +215,7 @@ table_step g s e ws xs vs ps es w n c h v some a k p =
     }
 
 -- a resource with nothing inside takes no word, and puts its own
-pub leaf_step : (g : Given) (s e : State) (ws xs : List ℕ) (t : Tree) (w : ℕ) → children t ≡ []
+pub leaf_step : (g : Given) (s e : Laid) (ws xs : List ℕ) (t : Tree) (w : ℕ) → children t ≡ []
     → Lays g s t e w → xs ≡ ws ++ w ∷ [] → LaysNext g s ws t e xs
 leaf_step g s e ws xs t w none l p =
     record {
@@ -229,10 +229,10 @@ leaf_step g s e ws xs t w none l p =
           (sym (same (trees_of (children t)) (ap trees_of none) h)) l;
     }
   where
-    same : {before : State} (ts : Trees) → ts ≡ no_trees → LaysEach g before ts s [] → before ≡ s
+    same : {before : Laid} (ts : Trees) → ts ≡ no_trees → LaysEach g before ts s [] → before ≡ s
     same ts f each_none = refl
 
-pub empty_table_step : (g : Given) (s : State) (ws xs : List ℕ) (w : ℕ) → w ≡ 0x2000_0000
+pub empty_table_step : (g : Given) (s : Laid) (ws xs : List ℕ) (w : ℕ) → w ≡ 0x2000_0000
     → xs ≡ take (length ws - 0) ws ++ w ∷ [] → LaysNext g s ws (table no_entries) s xs
 empty_table_step g s ws xs w e p =
     let q = split_stack ws 0 (omega arith) in

@@ -62,10 +62,10 @@ pub trees-push : (old new : List (Bor Resource)) (r : Bor Resource) → new ≡ 
 trees-push old new r e = ap trees_in e ∙ map_push (λ (x : Bor Resource). tree_of x.now) old r
 
 -- a resource is taken off, and what is inside it put on
-pub turn : (front old new seen seen' : List Tree) (t : Tree) (all : List Tree)
+pub replaced : (front old new seen seen' : List Tree) (t : Tree) (all : List Tree)
     → old ≡ front ++ t ∷ [] → new ≡ front ++ children t → seen' ≡ seen ++ t ∷ []
     → flat_map walk old ++ reverse seen ≡ all → flat_map walk new ++ reverse seen' ≡ all
-turn front old new seen seen' t all e f g h =
+replaced front old new seen seen' t all e f g h =
     (λ i. flat_map walk (f i) ++ reverse (g i))
     ∙ (λ i. flat_map-append walk front (children t) i ++ reverse-append seen (t ∷ []) i)
     ∙ append_assoc (flat_map walk front) (flat_map walk (children t)) (t ∷ reverse seen)
@@ -78,9 +78,9 @@ turn front old new seen seen' t all e f g h =
     ∙ ap (λ l. flat_map walk l ++ reverse seen) (sym e)
     ∙ h
 
-pub turn_counts : (front old new : List Tree) (t : Tree) → old ≡ front ++ t ∷ []
+pub replaced_counts : (front old new : List Tree) (t : Tree) → old ≡ front ++ t ∷ []
     → new ≡ front ++ children t → sum_by tree_count new < sum_by tree_count old
-turn_counts front old new t e f =
+replaced_counts front old new t e f =
     omega (
       arith,
       ap (sum_by tree_count) e,

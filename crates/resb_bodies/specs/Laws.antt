@@ -4,16 +4,16 @@
 --     OneBlock                the units that a tree takes don't depend on where the tail begins
 use Rattle.std.specs.Prelude.{◌≡◌, ℕ, List, [], ◌∷◌}
 use Rattle.resb_tree.specs.Tree.{Tree}
-use Rattle.resb_layout.specs.Laid.{Given, State, Lays}
+use Rattle.resb_layout.specs.Laid.{Given, Laid, Lays}
 use Rattle.resb_tree.specs.WalkOrder.{walk}
 use Rattle.resb_bodies.specs.StackSteps.{LaysRow}
 
 abbrev pub StepsLayTrees : Type 0
 StepsLayTrees =
-    (g : Given) (s e : State) (t : Tree) (xs : List ℕ) → LaysRow g s [] (walk t) e xs
+    (g : Given) (s e : Laid) (t : Tree) (xs : List ℕ) → LaysRow g s [] (walk t) e xs
     → (w : ℕ) × (xs ≡ w ∷ []) × Lays g s t e w
 
 abbrev pub OneBlock : Type 0
 OneBlock =
-    (g h : Given) (s u a b : State) (t : Tree) (v w : ℕ) → g.position ≡ h.position
+    (g h : Given) (s u a b : Laid) (t : Tree) (v w : ℕ) → g.position ≡ h.position
     → g.offset ≡ h.offset → s.units ≡ u.units → Lays g s t a v → Lays h u t b w → a.units ≡ b.units

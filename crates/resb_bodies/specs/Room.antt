@@ -13,7 +13,7 @@ use Rattle.std.specs.Borrow.{Bor}
 use Rattle.resb_tree.specs.Tree.{Tree, string, array, table, binary, integer, int_vector}
 use Rattle.resb_tree.specs.View.{tree_of}
 use Rattle.resb_tree.specs.declared.resource.Resource.{Resource}
-use Rattle.resb_layout.specs.Laid.{Given, State, here}
+use Rattle.resb_layout.specs.Laid.{Given, Laid, here}
 use Rattle.resb_tree.specs.WalkOrder.{entry_keys}
 use Rattle.resb_pool.specs.Plan.{at_text, offset_of, plan_units}
 use Rattle.resb_tree.specs.WalkOrder.{members, values_of}
@@ -29,10 +29,10 @@ based p n = record { position = at_text p.positions; offset = offset_of p.plan; 
 abbrev pub given_by : Sites → Given
 given_by p = based p p.base
 
-abbrev pub state_of : Bodies → State
+abbrev pub state_of : Bodies → Laid
 state_of b = record { units = b.units.items; tail = b.tail.items }
 
-abbrev pub pool_state : Sites → State
+abbrev pub pool_state : Sites → Laid
 pool_state p = record { units = plan_units p.plan; tail = [] }
 
 -- the keys and the text of a resource are known
@@ -61,7 +61,7 @@ abbrev pub most_bytes : Tree → ℕ
 most_bytes t = 8 * own_size t + 32
 
 -- there is room for the bodies of these resources, one behind another
-pub record HasRoomFor (g : Given) (s : State) (ts : List Tree) : Type 0 where
+pub record HasRoomFor (g : Given) (s : Laid) (ts : List Tree) : Type 0 where
   pub aligned : here g s % 4 ≡ 0
   pub units : length s.units + sum_by most_units ts < 2 ^ 28
   pub bytes : here g s + sum_by most_bytes ts < 2 ^ 30

@@ -4,15 +4,15 @@
 --     LaysRow g s ws ts e xs  those of resources in a row
 use Rattle.std.specs.Prelude.{◌≡◌, ℕ, List, [], ◌∷◌, ◌++◌, length}
 use Rattle.resb_tree.specs.Tree.{Tree, trees_of}
-use Rattle.resb_layout.specs.Laid.{Given, State, Lays, LaysEach}
+use Rattle.resb_layout.specs.Laid.{Given, Laid, Lays, LaysEach}
 use Rattle.resb_tree.specs.WalkOrder.{children}
 
 -- where t's members are laid, with the words vs, its body makes it laid, with the word w
-abbrev pub Closes : Given → State → Tree → List ℕ → State → ℕ → Type 0
-Closes g s t vs e w = (before : State) → LaysEach g before (trees_of (children t)) s vs
+abbrev pub ClosesTree : Given → Laid → Tree → List ℕ → Laid → ℕ → Type 0
+ClosesTree g s t vs e w = (before : Laid) → LaysEach g before (trees_of (children t)) s vs
     → Lays g before t e w
 
-pub record LaysNext (g : Given) (s : State) (ws : List ℕ) (t : Tree) (e : State) (xs : List ℕ)
+pub record LaysNext (g : Given) (s : Laid) (ws : List ℕ) (t : Tree) (e : Laid) (xs : List ℕ)
     : Type 0 where
   pub below : List ℕ
   pub members : List ℕ
@@ -20,9 +20,9 @@ pub record LaysNext (g : Given) (s : State) (ws : List ℕ) (t : Tree) (e : Stat
   pub taken : ws ≡ below ++ members
   pub many : length members ≡ length (children t)
   pub put : xs ≡ below ++ word ∷ []
-  pub closes : Closes g s t members e word
+  pub closes : ClosesTree g s t members e word
 
-pub data LaysRow (g : Given) : State → List ℕ → List Tree → State → List ℕ → Type 0 where
-  row_none : {s : State} {ws : List ℕ} → LaysRow g s ws [] s ws
-  row_more : {s m e : State} {ws xs ys : List ℕ} {t : Tree} {ts : List Tree}
+pub data LaysRow (g : Given) : Laid → List ℕ → List Tree → Laid → List ℕ → Type 0 where
+  row_none : {s : Laid} {ws : List ℕ} → LaysRow g s ws [] s ws
+  row_more : {s m e : Laid} {ws xs ys : List ℕ} {t : Tree} {ts : List Tree}
       → LaysNext g s ws t m xs → LaysRow g m xs ts e ys → LaysRow g s ws (t ∷ ts) e ys

@@ -3,7 +3,7 @@
 ghost use Rattle.std.specs.Prelude.{◌≡◌, ◌++◌, ◌<◌, ◌^◌, length, true, OnOk};
 ghost use Rattle.std.specs.Int.{to_le_bytes, w32, w16};
 ghost use Rattle.resb_layout.specs.Laid.{words as words_bytes, fill, halves, words_body};
-ghost use Rattle.resb_layout.specs.Laid.{table_body, wide_table_body, are_near};
+ghost use Rattle.resb_layout.specs.Laid.{near_table_body, wide_table_body, are_near};
 
 use std::alloc::AllocError;
 
@@ -56,7 +56,8 @@ pub(crate) fn put_short_table(
     words: &[u32],
 ) -> Result<(), AllocError>
     requires { are_near positions.now ≡ true }
-    ensures { OnOk result (tail.new.items ≡ tail.old.items ++ table_body positions.now words.now) }
+    ensures { OnOk result (tail.new.items
+        ≡ tail.old.items ++ near_table_body positions.now words.now) }
 {
     put_half(tail, positions.len() as u16)?;
     put_halves(tail, positions)?;
@@ -85,7 +86,7 @@ pub(crate) fn put_wide_table(
 pub(crate) fn put_fill(tail: &mut Vec<u8>, count: usize) -> Result<(), AllocError>
     ensures { OnOk result (tail.new.items ≡ tail.old.items ++ fill count) }
 {
-    for _turn in 0..count {
+    for _written in 0..count {
         tail.push(0xaa)?;
     }
     Ok(())

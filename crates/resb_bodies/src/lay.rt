@@ -5,12 +5,12 @@ ghost use Rattle.std.specs.Prelude.{ℕ, Some, [], length, take, IfOk, OnOk};
 ghost use Rattle.resb_tree.specs.Tree.{Entries, array, binary, int_vector, integer, string};
 ghost use Rattle.resb_tree.specs.Tree.{table as table_with};
 ghost use Rattle.resb_pool.specs.Plan.{offset_of};
-ghost use Rattle.resb_layout.specs.Laid.{Given, State, ArePlaced};
+ghost use Rattle.resb_layout.specs.Laid.{Given, Laid, ArePlaced};
 ghost use Rattle.resb_tree.specs.WalkOrder.{entry_keys, values_of};
 ghost use Rattle.resb_tree.specs.View.{items_view, entries_view};
 ghost use Rattle.resb_bodies.specs.StackSteps.{LaysNext};
 ghost use Rattle.resb_bodies.specs.Room.{given_by, state_of, IsKnown};
-ghost use Rattle.resb_bodies.specs.Inner.Seen.{HasRoom, Takes};
+ghost use Rattle.resb_bodies.specs.Inner.Seen.{HasRoom, TakesNoMore};
 
 use crate::given::{Bodies, Sites};
 use crate::resource::{close_array, close_table, lay_bytes, lay_numbers, word};
@@ -40,7 +40,7 @@ pub(crate) fn step_array(
     requires enough { length items.now ≤ length words.old.items }
     ensures step { OnOk result (LaysNext (given_by sites.now) (state_of bodies.old) words.old.items
         (array (items_view items.now)) (state_of bodies.new) words.new.items) }
-    ensures takes { OnOk result (Takes sites.now bodies.old bodies.new (length items.now)) }
+    ensures takes { OnOk result (TakesNoMore sites.now bodies.old bodies.new (length items.now)) }
 {
     if items.is_empty() {
         return replace(words, 0, word(ResourceReprType::Array, 0));
@@ -81,7 +81,8 @@ fn step_full_table(
         → ArePlaced (given_by sites.now) (entry_keys entries) positions.now
         → LaysNext (given_by sites.now) (state_of bodies.old) words.old.items
         (table_with entries) (state_of bodies.new) words.new.items) }
-    ensures takes { OnOk result (Takes sites.now bodies.old bodies.new (length positions.now)) }
+    ensures takes { OnOk result (TakesNoMore sites.now bodies.old bodies.new
+        (length positions.now)) }
 {
     let (_, members) = words.split_at(words.len() - positions.len());
     let word = close_table(sites, bodies, positions, members)?;
@@ -101,7 +102,7 @@ pub(crate) fn step_table(
     requires known { IsKnown (given_by sites.now) (table_with (entries_view table.now.entries)) }
     ensures step { OnOk result (LaysNext (given_by sites.now) (state_of bodies.old) words.old.items
         (table_with (entries_view table.now.entries)) (state_of bodies.new) words.new.items) }
-    ensures takes { OnOk result (Takes sites.now bodies.old bodies.new
+    ensures takes { OnOk result (TakesNoMore sites.now bodies.old bodies.new
         (length table.now.entries)) }
 {
     if table.is_empty() {
@@ -114,7 +115,7 @@ pub(crate) fn step_table(
 /// Puts the word of a number of 28 bits, which has no body.
 pub(crate) fn step_integer(words: &mut Vec<u32>, number: u32) -> Result<(), AllocError>
     requires { number < 2 ^ 28 }
-    ensures { OnOk result ((g : Given) (s : State)
+    ensures { OnOk result ((g : Given) (s : Laid)
         → LaysNext g s words.old.items (integer number) s words.new.items) }
 {
     words.push(word(ResourceReprType::Int, number))?;
@@ -131,7 +132,7 @@ pub(crate) fn step_bytes(
     requires { HasRoom sites.now bodies.old ((length bytes.now + 7) / 8) }
     ensures step { OnOk result (LaysNext (given_by sites.now) (state_of bodies.old) words.old.items
         (binary bytes.now) (state_of bodies.new) words.new.items) }
-    ensures takes { OnOk result (Takes sites.now bodies.old bodies.new
+    ensures takes { OnOk result (TakesNoMore sites.now bodies.old bodies.new
         ((length bytes.now + 7) / 8)) }
 {
     let word = lay_bytes(sites, bodies, bytes)?;
@@ -149,7 +150,7 @@ pub(crate) fn step_numbers(
     requires { HasRoom sites.now bodies.old ((length numbers.now + 1) / 2) }
     ensures step { OnOk result (LaysNext (given_by sites.now) (state_of bodies.old) words.old.items
         (int_vector numbers.now) (state_of bodies.new) words.new.items) }
-    ensures takes { OnOk result (Takes sites.now bodies.old bodies.new
+    ensures takes { OnOk result (TakesNoMore sites.now bodies.old bodies.new
         ((length numbers.now + 1) / 2)) }
 {
     let word = lay_numbers(sites, bodies, numbers)?;
@@ -166,7 +167,7 @@ pub(crate) fn step_string(
     text: &str,
 ) -> Result<(), AllocError>
     requires { (k : ℕ) × (offset_of sites.now.plan text.now ≡ Some k) × (k < 2 ^ 28) }
-    ensures { OnOk result ((s : State)
+    ensures { OnOk result ((s : Laid)
         → LaysNext (given_by sites.now) s words.old.items (string text.now) s words.new.items) }
 {
     let Some(offset) = sites.plan.offset_in_turn(number, text) else {

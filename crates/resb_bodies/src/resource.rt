@@ -7,7 +7,7 @@ ghost use Rattle.resb_format.specs.Descriptor.{type_number};
 ghost use Rattle.resb_layout.specs.Laid.{Lays, ClosesArray, ClosesTable, are_short, are_near};
 ghost use Rattle.resb_layout.specs.Laid.{offsets_in};
 ghost use Rattle.resb_bodies.specs.Room.{given_by, state_of};
-ghost use Rattle.resb_bodies.specs.Inner.Seen.{HasRoom, Takes};
+ghost use Rattle.resb_bodies.specs.Inner.Seen.{HasRoom, TakesNoMore};
 
 use crate::bytes::{put_counted, put_fill, put_short_table, put_wide_table, put_word};
 use crate::given::{Bodies, Sites};
@@ -117,7 +117,7 @@ pub(crate) fn close_array(
     requires { HasRoom sites.now bodies.old (length words.now) }
     ensures lays { IfOk result (λ w. ClosesArray (given_by sites.now) (state_of bodies.old)
         words.now (state_of bodies.new) w) }
-    ensures takes { OnOk result (Takes sites.now bodies.old bodies.new (length words.now)) }
+    ensures takes { OnOk result (TakesNoMore sites.now bodies.old bodies.new (length words.now)) }
 {
     if are_short_strings(words) {
         let at = bodies.units.len() as u32;
@@ -141,7 +141,7 @@ pub(crate) fn close_table(
     requires many { length positions.now ≡ length words.now }
     ensures lays { IfOk result (λ w. ClosesTable (given_by sites.now) (state_of bodies.old)
         positions.now words.now (state_of bodies.new) w) }
-    ensures takes { OnOk result (Takes sites.now bodies.old bodies.new (length words.now)) }
+    ensures takes { OnOk result (TakesNoMore sites.now bodies.old bodies.new (length words.now)) }
 {
     if !are_near_positions(positions) {
         let at = tail_value(sites, &bodies.tail, 0);
@@ -167,7 +167,7 @@ pub(crate) fn lay_bytes(
     requires { HasRoom sites.now bodies.old ((length bytes.now + 7) / 8) }
     ensures lays { IfOk result (λ w. Lays (given_by sites.now) (state_of bodies.old)
         (binary bytes.now) (state_of bodies.new) w) }
-    ensures takes { OnOk result (Takes sites.now bodies.old bodies.new
+    ensures takes { OnOk result (TakesNoMore sites.now bodies.old bodies.new
         ((length bytes.now + 7) / 8)) }
 {
     if bytes.is_empty() {
@@ -191,7 +191,7 @@ pub(crate) fn lay_numbers(
     requires { HasRoom sites.now bodies.old ((length numbers.now + 1) / 2) }
     ensures lays { IfOk result (λ w. Lays (given_by sites.now) (state_of bodies.old)
         (int_vector numbers.now) (state_of bodies.new) w) }
-    ensures takes { OnOk result (Takes sites.now bodies.old bodies.new
+    ensures takes { OnOk result (TakesNoMore sites.now bodies.old bodies.new
         ((length numbers.now + 1) / 2)) }
 {
     if numbers.is_empty() {

@@ -4,12 +4,12 @@ ghost use Rattle.std.specs.Prelude.{ℕ, ◌≡◌, ◌+◌, ◌%◌, ◌≤◌,
 ghost use Rattle.std.specs.List.{sum_by};
 ghost use Rattle.resb_tree.specs.View.{tree_of};
 ghost use Rattle.resb_pool.specs.Plan.{plan_units};
-ghost use Rattle.resb_layout.specs.Laid.{State, Lays};
+ghost use Rattle.resb_layout.specs.Laid.{Laid, Lays};
 ghost use Rattle.resb_tree.specs.WalkOrder.{walk, children};
 ghost use Rattle.resb_bodies.specs.StackSteps.{LaysNext, LaysRow};
 ghost use Rattle.resb_bodies.specs.Room.{based, pool_state, given_by, state_of, trees_in, own_size};
 ghost use Rattle.resb_bodies.specs.Room.{HasRoomFor, HasRoomBehind, IsKnown, tail_base, most_units};
-ghost use Rattle.resb_bodies.specs.Inner.Seen.{HasRoom, Takes, CanLay};
+ghost use Rattle.resb_bodies.specs.Inner.Seen.{HasRoom, TakesNoMore, CanLay};
 
 use crate::given::{Bodies, Sites};
 use crate::lay::{step_array, step_bytes, step_integer, step_numbers, step_string, step_table};
@@ -32,7 +32,7 @@ fn step(
     requires known { IsKnown (given_by sites.now) (tree_of resource.now) }
     ensures step { OnOk result (LaysNext (given_by sites.now) (state_of bodies.old) words.old.items
         (tree_of resource.now) (state_of bodies.new) words.new.items) }
-    ensures takes { OnOk result (Takes sites.now bodies.old bodies.new
+    ensures takes { OnOk result (TakesNoMore sites.now bodies.old bodies.new
         (own_size (tree_of resource.now))) }
 {
     match resource {
@@ -114,7 +114,7 @@ pub(crate) fn count_units(
     requires room { HasRoomFor (given_by sites.now) (pool_state sites.now)
         (walk (tree_of root.now)) }
     requires known { All (IsKnown (given_by sites.now)) (walk (tree_of root.now)) }
-    ensures counts { IfOk result (λ count. (base : ℕ) (end : State) (word : ℕ)
+    ensures counts { IfOk result (λ count. (base : ℕ) (end : Laid) (word : ℕ)
         → Lays (based sites.now base) (pool_state sites.now) (tree_of root.now) end word
         → length end.units ≡ count) }
     ensures few { IfOk result (λ count. count

@@ -16,7 +16,7 @@ pub part_inside : (bs : List ℕ) (i n : ℕ) → i + n ≤ length bs / 2
     → part (units_of bs) i n ≡ Some (take n (drop i (units_of bs)))
 part_inside bs i n h = grind (arith, nat_tests, units_length bs)
 
-pub ruleset units_cut = (part_inside, units_outside)
+pub ruleset string_units_cut = (part_inside, units_outside)
 
 -- the second unit of a marker is missing
 pub no_second : (bs : List ℕ) (u first : ℕ) → 0xdfee < first → first ≤ 0xdfff

@@ -1,6 +1,6 @@
 -- Words as bytes, and back.
-use Rattle.std.proofs.Common.{ℕ, zero, suc, List, [], ◌∷◌, ◌++◌, ◌≡◌, ◌+◌, ◌*◌, ◌<◌, ◌≤◌, length}
-use Rattle.std.proofs.Common.{take, drop, refl, ap, ◌∙◌, arith, get_or}
+use Rattle.std.proofs.Common.{ℕ, zero, suc, List, [], ◌∷◌, ◌++◌, ◌≡◌, ◌+◌, ◌*◌, ◌/◌, ◌%◌, ◌<◌, ◌≤◌}
+use Rattle.std.proofs.Common.{length, take, drop, refl, ap, ◌∙◌, arith, get_or}
 use Rattle.std.specs.Int.{to_le_bytes, from_le_bytes, w32}
 use Rattle.std.specs.List.{flat_map}
 use Rattle.std.proofs.lemmas.Nat.{from_le_bytes-to_le_bytes_4, le_bytes_4}
@@ -21,6 +21,10 @@ words_back (w ∷ ws) h =
     let e : from_le_bytes w32 (to_le_bytes w32 w) ≡ w = from_le_bytes-to_le_bytes_4 w h.0 in
     ap (λ n. n ∷ words_of (flat_map (to_le_bytes w32) ws)) (omega (arith, e))
     ∙ ap (λ vs. w ∷ vs) (words_back ws h.1)
+
+-- a number from its two bytes
+pub two_bytes : (n : ℕ) → n < 65536 → n % 256 + 256 * (n / 256 % 256) ≡ n
+two_bytes n h = omega arith
 
 pub written_length : (ws : List ℕ) → length (flat_map (to_le_bytes w32) ws) ≡ 4 * length ws
 written_length [] = omega arith

@@ -107,7 +107,7 @@ fn some_unit(block: &[u8], number: usize) -> Result<u16, BinaryDeserializerError
 }
 
 /// So many units from this one on, if they lie inside the block.
-#[tactic(auto, using(crate::proofs::StringsIn::units_cut))]
+#[tactic(auto, using(crate::proofs::StringsIn::string_units_cut))]
 fn cut(block: &[u8], from: usize, count: usize) -> Result<Utf16View<'_>, BinaryDeserializerError>
     ensures { let cut = part (units_of block.now) from count in
         MatchResult result (λ v. cut ≡ Some (view_units v))

@@ -10,8 +10,8 @@ use Rattle.resb_tree.specs.Tree.{Tree, Entries, no_entries, entry, trees_of, put
 use Rattle.resb_tree.specs.Keys.{is_key, is_key_in, is_key_of, same_text}
 use Rattle.resb_grammar.specs.Items.{Term, string_term, group_term, Item, term_tree}
 use Rattle.resb_grammar.specs.Items.{term_text, term_keys, inner_keys, is_entry, and_then}
-use Rattle.resb_grammar.specs.Items.{is_pairs, pairs_in, item_trees, table_keys, array_keys, Shape}
-use Rattle.resb_grammar.specs.Items.{a_string, a_table, an_array, shape_of_one, table_if, shape_of}
+use Rattle.resb_grammar.specs.Items.{is_pairs, pairs_in, item_trees, table_keys, array_keys}
+use Rattle.resb_grammar.specs.Items.{a_table, an_array, shape_of_one, table_if, shape_of}
 use Rattle.resb_grammar.specs.Items.{tree_in, keys_in}
 use Rattle.resb_grammar.specs.Group.{Items, nothing, string_item, group_item, comma, Group, untyped}
 use Rattle.resb_grammar.specs.Group.{typed_table, typed_array, typed_leaf, LeafContent}

@@ -1,5 +1,5 @@
--- The grammar of the text form, its readings, and what the laws say of both. `Inner` has words that
--- only proofs use.
+-- The grammar of the text form, its readings, and what the laws say of both. `Inner` has words of
+-- proofs and of a private function of the text reader.
 pub mod Ascii
 pub mod ByteRuns
 pub mod Tokens

@@ -3,6 +3,7 @@ use Rattle.std.proofs.Common.{ℕ, List, ◌≡◌, ◌≢◌, ◌<◌, ◌≤�
 use Rattle.std.proofs.Common.{◌||◌, nat_le, nat_eq, Some, None, refl, arith, get_or, codes}
 use Rattle.std.proofs.Common.{slice_range}
 use Rattle.std.specs.Str.{bytes_eq}
+use Rattle.std.proofs.lemmas.Bool.{or_right}
 use Rattle.std.proofs.lemmas.Bool.Decides.{nat_tests}
 use Rattle.std.proofs.lemmas.Slice.Eq.{bytes_eq-Decides}
 use Rattle.resb_format.specs.Error.{IsRefusal, IsInvalid, refusal_of}
@@ -87,12 +88,8 @@ order_stands any bs x e (inl a) =
 order_stands any bs x e (inr z) =
     record {
       known = le_true (get_or bs 4 0) 1 (omega arith);
-      own = or_true any (nat_eq (get_or bs 4 0) 0) (rw z refl);
+      own = or_right any (nat_eq (get_or bs 4 0) 0) (rw z refl);
     }
-  where
-    or_true : (a b : Bool) → b ≡ true → (a || b) ≡ true
-    or_true true b h = refl
-    or_true false b h = h
 
 pub endianness_fails : (any : Bool) (bs : List ℕ) (e : ReadingError) → 1 < get_or bs 4 0
     → IsInvalid e (codes "unrecognized value for Endianness")
@@ -156,11 +153,3 @@ not_big n b h e f = grind (arith, nat_tests)
 
 pub is_big : (n : ℕ) (b : Bool) → b ≡ nat_eq n 1 → b ≡ true → n ≡ 1
 is_big n b e f = grind (arith, nat_tests)
-
-pub negated : (r b : Bool) → r ≡ not b → r ≡ true → b ≡ false
-negated r true e f = cc
-negated r false e f = refl
-
-pub affirmed : (r b : Bool) → r ≡ not b → r ≡ false → b ≡ true
-affirmed r true e f = refl
-affirmed r false e f = cc

@@ -1,5 +1,5 @@
 -- A header is read back from the bytes that it is written as.
-use Rattle.std.proofs.Common.{ℕ, zero, suc, List, [], ◌∷◌, ◌++◌, ◌≡◌, ◌+◌, ◌*◌, ◌/◌, ◌%◌, ◌^◌, ◌<◌}
+use Rattle.std.proofs.Common.{ℕ, zero, suc, List, [], ◌∷◌, ◌++◌, ◌≡◌, ◌+◌, ◌^◌, ◌<◌}
 use Rattle.std.proofs.Common.{◌≤◌, length, take, drop, false, nat_eq, Result, Ok, Err, refl, sym}
 use Rattle.std.proofs.Common.{ap, subst, ◌∙◌, arith, get_or, codes, length-drop, length-take}
 use Rattle.std.specs.Int.{to_le_bytes, w16}
@@ -16,9 +16,9 @@ use Rattle.resb_head.specs.declared.head.BinHeader.{BinHeader}
 use Rattle.resb_head.specs.declared.version.FormatVersion.{FormatVersion}
 use Rattle.resb_head.specs.declared.version.FormatVersion.TheVariants.{V1_0, V1_1, V1_2, V1_3}
 use Rattle.resb_head.specs.declared.version.FormatVersion.TheVariants.{V2_0, V3_0}
+use Rattle.resb_format.proofs.WordsBack.{two_bytes}
 use Rattle.resb_head.proofs.Apart.{endianness_apart, charset_apart, version_apart}
 use Rattle.resb_head.proofs.HeadSteps.{a_version, charset_small}
-use Rattle.resb_head.proofs.IndexSurvival.{none_some}
 use Rattle.resb_head.proofs.Passing.{behind, header_passes}
 
 -- a unit of bytes has 16 bits
@@ -46,9 +46,6 @@ version_length V1_2 = refl
 version_length V1_3 = refl
 version_length V2_0 = refl
 version_length V3_0 = refl
-
-halves : (n : ℕ) → n < 2 ^ 16 → n % 256 + 256 * (n / 256 % 256) ≡ n
-halves n h = omega arith
 
 -- what is known of a header that was read
 record Known (h : BinHeader) : Type 0 where
@@ -122,7 +119,7 @@ laid_passes h k = record {
   version =
       a_version h.repr_info.format_version _
       (four (version_bytes h.repr_info.format_version) (version_length h.repr_info.format_version));
-  size = rw k.little (subst (λ n. 24 ≤ n) (sym (halves h.size k.size_fits)) k.size_enough);
+  size = rw k.little (subst (λ n. 24 ≤ n) (sym (two_bytes h.size k.size_fits)) k.size_enough);
 }
 
 -- bytes give one header
@@ -130,13 +127,13 @@ same_header : (h j : BinHeader) → Known h → HeaderAt j (laid h) → j ≡ h
 unfolding units_of
 same_header h j k a =
     let s : j.size ≡ h.size = a.size ∙ ap (λ n. unit_in (nat_eq n 1) (laid h) 0) k.little
-    ∙ halves h.size k.size_fits in
+    ∙ two_bytes h.size k.size_fits in
     let i : j.repr_info.size ≡ h.repr_info.size =
     a.info.size ∙ ap (λ n. unit_in (nat_eq n 1) (drop 4 (laid h)) 0) k.little
-    ∙ halves h.repr_info.size k.info_fits in
+    ∙ two_bytes h.repr_info.size k.info_fits in
     let w : j.repr_info.reserved_word ≡ h.repr_info.reserved_word =
     a.info.reserved_word ∙ ap (λ n. unit_in (nat_eq n 1) (drop 4 (laid h)) 1) k.little
-    ∙ halves h.repr_info.reserved_word k.word_fits in
+    ∙ two_bytes h.repr_info.reserved_word k.word_fits in
     let e : j.repr_info.endianness ≡ h.repr_info.endianness =
     endianness_apart _ _ a.info.endianness in
     let c : j.repr_info.charset_family ≡ h.repr_info.charset_family =
@@ -168,7 +165,7 @@ reads_same : (h : BinHeader) (r : Result BinHeader ReadingError) → Known h
     → ReadsHeader false (laid h) r → r ≡ Ok h
 reads_same h (Ok j) k read = ap Ok (same_header h j k read.1)
 reads_same h (Err e) k read =
-    absurd (none_some (sym ((header_passes false (laid h)).1 (laid_passes h k)) ∙ read))
+    let both = sym ((header_passes false (laid h)).1 (laid_passes h k)) ∙ read in absurd cc
 
 pub header_survives : HeaderSurvives
 header_survives bs h r fits read back =

@@ -142,9 +142,6 @@ fields_back n k r b l None (Some y) (Some z) e f g = absurd (grind (arith, nat_t
 fields_back n k r b l None None (Some z) e f g = absurd (grind (arith, nat_tests))
 fields_back n k r b l (Some x) None (Some z) e f g = absurd (grind (arith, nat_tests))
 
-pub none_some : {A : Type 0} {x : A} → None ≡ Some x → ⊥
-none_some e = cc
-
 -- the fields tell an index
 abbrev Values : Type 0
 Values = ℕ × ℕ × ℕ × ℕ × ℕ × Option ℕ × Option ℕ × Option ℕ
@@ -200,7 +197,7 @@ read_back i (Err e) fits h =
     let n : index_fault (index_bytes i) ≡ None =
     index_holds (index_bytes i) i.field_count w (omega (arith, i.enough)) i.enough
     (omega arith) in
-    absurd (none_some (sym n ∙ h))
+    let both = sym n ∙ h in absurd cc
 read_back i (Ok j) fits h =
     let a : IndexAt j (index_bytes i) = h.1 in
     let w : words_of (index_bytes i) ≡ index_words i = words_back (index_words i) fits in

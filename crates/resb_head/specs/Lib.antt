@@ -3,6 +3,8 @@
 pub use Rattle.resb_format.specs.Bytes
 pub use Rattle.resb_format.specs.Parts
 pub use Rattle.resb_format.specs.Error
+-- what is written is read back: `Survives`
+pub use Rattle.resb_format.specs.Laws as FormatLaws
 pub mod Codes
 pub mod CodeReading
 pub mod HeadChecks

@@ -17,8 +17,8 @@ use Rattle.resb_format.specs.Content.{content, placed, empty, paired, words_at, 
 use Rattle.resb_format.specs.Content.{binary_at, int_vector_at, array_at, array16_at, table_at}
 use Rattle.resb_format.specs.Content.{table16_at, table32_at}
 use Rattle.resb_format.proofs.Spelled.{words_length, units_length}
-use Rattle.resb_layout.specs.Laid.{Given, State, here, more_units, more_bytes, words, halves, fill}
-use Rattle.resb_layout.specs.Laid.{to_data, to_word, pad, binary_body, words_body, table_body}
+use Rattle.resb_layout.specs.Laid.{Given, Laid, here, more_units, more_bytes, words, halves, fill}
+use Rattle.resb_layout.specs.Laid.{to_data, to_word, pad, binary_body, words_body, near_table_body}
 use Rattle.resb_layout.specs.Laid.{wide_table_body}
 use Rattle.resb_layout.specs.Laws.{StandsIn}
 use Rattle.resb_layout.proofs.Numbers.{EachBelow, word_read, unit_read, words_read, halves_read}
@@ -92,7 +92,7 @@ content_placed p type value t s h l =
     ∙ ap (λ c. cond c (empty type) (placed p type value)) z
 
 -- the bytes before a body, and it and what follows
-module _ (p : Parts) (g : Given) (s : State) (body : List ℕ)
+module _ (p : Parts) (g : Given) (s : Laid) (body : List ℕ)
     (stands : StandsIn p g (more_bytes s body)) where
   abbrev before : List ℕ
   before = stands.front ++ s.tail
@@ -123,7 +123,7 @@ module _ (p : Parts) (g : Given) (s : State) (body : List ℕ)
   front_units at e = omega (arith, units_length before, before_len, e)
 
 -- u32 n, n words
-module _ (p : Parts) (g : Given) (s : State) (ws : List ℕ) (at : ℕ) (e : here g s
+module _ (p : Parts) (g : Given) (s : Laid) (ws : List ℕ) (at : ℕ) (e : here g s
     ≡ 4 * at) (small : EachBelow (2 ^ 32) ws) (few : length ws < 2 ^ 32)
     (stands : StandsIn p g (more_bytes s (words_body ws))) where
   counted_words : words_of p.body ≡ words_of (before p g s (words_body ws) stands) ++ length ws
@@ -154,11 +154,11 @@ module _ (p : Parts) (g : Given) (s : State) (ws : List ℕ) (at : ℕ) (e : her
       (front_words p g s (words_body ws) stands at e) refl)
 
 -- u32 n, n positions, n words
-module _ (p : Parts) (g : Given) (s : State) (ps ws : List ℕ) (at : ℕ) (e : here g s
+module _ (p : Parts) (g : Given) (s : Laid) (ps ws : List ℕ) (at : ℕ) (e : here g s
     ≡ 4 * at) (near : EachBelow (2 ^ 32) ps) (small : EachBelow (2 ^ 32) ws)
     (few : length ps < 2 ^ 32)
-    (same : length ps
-    ≡ length ws) (stands : StandsIn p g (more_bytes s (wide_table_body ps ws))) where
+    (same : length ps ≡ length ws)
+    (stands : StandsIn p g (more_bytes s (wide_table_body ps ws))) where
   wide_words : words_of p.body ≡ words_of (before p g s (wide_table_body ps ws) stands)
       ++ length ps ∷ (ps ++ (ws ++ words_of stands.bytes_behind))
   wide_words =
@@ -185,18 +185,19 @@ pad_even : (n : ℕ) → (2 + 2 * n + length (pad n)) ≡ 4 * (n / 2 + 1)
 pad_even n = grind (arith, nat_tests)
 
 -- u16 n, n positions, padding, n words
-module _ (p : Parts) (g : Given) (s : State) (ps ws : List ℕ) (at : ℕ) (e : here g s
+module _ (p : Parts) (g : Given) (s : Laid) (ps ws : List ℕ) (at : ℕ) (e : here g s
     ≡ 4 * at) (near : EachBelow (2 ^ 16) ps) (small : EachBelow (2 ^ 32) ws)
     (few : length ps < 2 ^ 16)
-    (same : length ps ≡ length ws) (stands : StandsIn p g (more_bytes s (table_body ps ws))) where
+    (same : length ps ≡ length ws)
+    (stands : StandsIn p g (more_bytes s (near_table_body ps ws))) where
   abbrev n : ℕ
   n = length ps
 
-  table_units : units_of p.body ≡ units_of (before p g s (table_body ps ws) stands) ++ n
+  table_units : units_of p.body ≡ units_of (before p g s (near_table_body ps ws) stands) ++ n
       ∷ (ps ++ units_of ((pad n ++ words ws) ++ stands.bytes_behind))
   table_units =
-      units_are p g s (table_body ps ws) stands at e
-      ∙ ap (λ l. units_of (before p g s (table_body ps ws) stands) ++ l) (
+      units_are p g s (near_table_body ps ws) stands at e
+      ∙ ap (λ l. units_of (before p g s (near_table_body ps ws) stands) ++ l) (
       ap units_of (append_assoc (to_le_bytes w16 n) (halves ps
       ++ (pad n ++ words ws)) stands.bytes_behind)
       ∙ unit_read n ((halves ps ++ (pad n ++ words ws)) ++ stands.bytes_behind) few
@@ -207,17 +208,17 @@ module _ (p : Parts) (g : Given) (s : State) (ps ws : List ℕ) (at : ℕ) (e : 
 
   -- the bytes before the descriptors
   abbrev ahead : List ℕ
-  ahead = before p g s (table_body ps ws) stands ++ (to_le_bytes w16 n ++ (halves ps ++ pad n))
+  ahead = before p g s (near_table_body ps ws) stands ++ (to_le_bytes w16 n ++ (halves ps ++ pad n))
 
   ahead_len : length ahead ≡ 4 * (at + n / 2 + 1)
   ahead_len =
       omega (
         arith,
-        before_len p g s (table_body ps ws) stands,
+        before_len p g s (near_table_body ps ws) stands,
         e,
         pad_even n,
         halves_len ps,
-        length-append (before p g s (table_body ps ws) stands) (to_le_bytes w16 n
+        length-append (before p g s (near_table_body ps ws) stands) (to_le_bytes w16 n
             ++ (halves ps ++ pad n)),
         length-append (to_le_bytes w16 n) (halves ps ++ pad n),
         length-append (halves ps) (pad n),
@@ -225,8 +226,8 @@ module _ (p : Parts) (g : Given) (s : State) (ps ws : List ℕ) (at : ℕ) (e : 
 
   ahead_is : p.body ≡ ahead ++ (words ws ++ stands.bytes_behind)
   ahead_is =
-      body_is p g s (table_body ps ws) stands
-      ∙ ap (λ l. before p g s (table_body ps ws) stands ++ l) (
+      body_is p g s (near_table_body ps ws) stands
+      ∙ ap (λ l. before p g s (near_table_body ps ws) stands ++ l) (
       append_assoc (to_le_bytes w16 n) (halves ps ++ (pad n ++ words ws)) stands.bytes_behind
       ∙ ap (λ l. to_le_bytes w16 n ++ l) (
       append_assoc (halves ps) (pad n ++ words ws) stands.bytes_behind
@@ -236,7 +237,7 @@ module _ (p : Parts) (g : Given) (s : State) (ps ws : List ℕ) (at : ℕ) (e : 
       ∙ sym (append_assoc (to_le_bytes w16 n) (halves ps ++ pad n) (words ws
       ++ stands.bytes_behind))
       )
-      ∙ sym (append_assoc (before p g s (table_body ps ws) stands) (to_le_bytes w16 n
+      ∙ sym (append_assoc (before p g s (near_table_body ps ws) stands) (to_le_bytes w16 n
       ++ (halves ps ++ pad n)) (words ws ++ stands.bytes_behind))
 
   table_words : words_of p.body ≡ words_of ahead ++ (ws ++ words_of stands.bytes_behind)
@@ -247,7 +248,7 @@ module _ (p : Parts) (g : Given) (s : State) (ps ws : List ℕ) (at : ℕ) (e : 
 
   pub table_found : table_at p at ≡ Some (pairs (zip ps (map word ws)))
   table_found =
-      let f = front_units p g s (table_body ps ws) stands at e in
+      let f = front_units p g s (near_table_body ps ws) stands at e in
       let a = first_part (units_of p.body) _ ps _ n (2 * at) table_units f refl in
       let l : at + n / 2 + 1 ≡ length (words_of ahead) =
       omega (arith, words_length ahead, ahead_len) in
@@ -258,10 +259,10 @@ module _ (p : Parts) (g : Given) (s : State) (ps ws : List ℕ) (at : ℕ) (e : 
       ∙ (λ i. paired (a i) (option_map (map word) (b i)))
 
 -- u32 n, n bytes, behind so much fill
-module _ (p : Parts) (g : Given) (s : State) (bytes : List ℕ) (at : ℕ) (e : here g s
+module _ (p : Parts) (g : Given) (s : Laid) (bytes : List ℕ) (at : ℕ) (e : here g s
     + to_data (here g s) ≡ 4 * at) (few : length bytes < 2 ^ 32)
     (stands : StandsIn p g (more_bytes s (binary_body (here g s) bytes))) where
-  abbrev filled : State
+  abbrev filled : Laid
   filled = more_bytes s (fill (to_data (here g s)))
 
   abbrev data_body : List ℕ
@@ -334,7 +335,7 @@ module _ (p : Parts) (g : Given) (s : State) (bytes : List ℕ) (at : ℕ) (e : 
       + 4) (length bytes) data_is l refl)
 
 -- unit n, n offsets
-module _ (p : Parts) (g : Given) (s : State) (os : List ℕ)
+module _ (p : Parts) (g : Given) (s : Laid) (os : List ℕ)
     (stands : StandsIn p g (more_units s (length os ∷ os))) where
   short_units : p.block ≡ s.units ++ length os ∷ (os ++ stands.units_behind)
   short_units = stands.block_is ∙ append_assoc s.units (length os ∷ os) stands.units_behind
@@ -348,7 +349,7 @@ module _ (p : Parts) (g : Given) (s : State) (os : List ℕ)
       short_units refl refl)
 
 -- unit n, n positions, n offsets
-module _ (p : Parts) (g : Given) (s : State) (ps os : List ℕ) (same : length os
+module _ (p : Parts) (g : Given) (s : Laid) (ps os : List ℕ) (same : length os
     ≡ length ps) (stands : StandsIn p g (more_units s (length os ∷ (ps ++ os)))) where
   table16_units : p.block ≡ s.units ++ length os ∷ (ps ++ (os ++ stands.units_behind))
   table16_units =

@@ -20,7 +20,8 @@ use Rattle.resb_format.specs.Content.{placed, empty}
 use Rattle.resb_format.specs.Denotes.{Den, den_leaf, den_list, den_pairs, DenMember, den_word}
 use Rattle.resb_format.specs.Denotes.{den_unit, DenEach, each_none as none_denoted}
 use Rattle.resb_format.specs.Denotes.{each_more as more_denoted, DenPairs, pairs_none, pairs_more}
-use Rattle.resb_layout.specs.Laid.{Given, State, here, more_units, to_data, words_body, table_body}
+use Rattle.resb_layout.specs.Laid.{Given, Laid, here, more_units, to_data, words_body}
+use Rattle.resb_layout.specs.Laid.{near_table_body}
 use Rattle.resb_layout.specs.Laid.{wide_table_body, is_short_string}
 use Rattle.resb_layout.specs.Laid.{offsets_in, ClosesArray, short_array, long_array, ClosesTable}
 use Rattle.resb_layout.specs.Laid.{short_table, long_table, wide_table, members_in}
@@ -59,19 +60,19 @@ near_below n (p ∷ ps) h e =
     let both = and_parts _ _ e in
     (omega (arith, h, leb-true p 65535 both.0), near_below n ps h both.1)
 
-array_word : {g : Given} {s : State} {ws : List ℕ} {e : State} {w : ℕ} → ClosesArray g s ws e w
+array_word : {g : Given} {s : Laid} {ws : List ℕ} {e : Laid} {w : ℕ} → ClosesArray g s ws e w
     → (w < 2 ^ 32) × (0x6000_ffff < w)
 array_word (short_array k l) = (omega arith, omega arith)
 array_word (long_array at k e l n) = (omega arith, omega arith)
 
-table_word : {g : Given} {s : State} {ps ws : List ℕ} {e : State} {w : ℕ}
+table_word : {g : Given} {s : Laid} {ps ws : List ℕ} {e : Laid} {w : ℕ}
     → ClosesTable g s ps ws e w → (w < 2 ^ 32) × (w < 0x6000_0000)
 table_word (short_table n k l) = (omega arith, omega arith)
 table_word (long_table at n k e l) = (omega arith, omega arith)
 table_word (wide_table at n e l q r) = (omega arith, omega arith)
 
 -- a word has 32 bits
-word_small : {g : Given} {s e : State} {t : Tree} {w : ℕ} → Lays g s t e w → w < 2 ^ 32
+word_small : {g : Given} {s e : Laid} {t : Tree} {w : ℕ} → Lays g s t e w → w < 2 ^ 32
 word_small (lays_integer h) = omega arith
 word_small (lays_string h l) = omega arith
 word_small lays_no_bytes = omega arith
@@ -83,13 +84,13 @@ word_small (lays_items h some c) = (array_word c).0
 word_small lays_no_entries = omega arith
 word_small (lays_entries ps p h some c) = (table_word c).0
 
-words_small : {g : Given} {s e : State} {ts : Trees} {ws : List ℕ} → LaysEach g s ts e ws
+words_small : {g : Given} {s e : Laid} {ts : Trees} {ws : List ℕ} → LaysEach g s ts e ws
     → EachBelow (2 ^ 32) ws
 words_small each_none = tt
 words_small (each_more h k) = (word_small h, words_small k)
 
 -- members and words are as many
-words_many : {g : Given} {s e : State} {ts : Trees} {ws : List ℕ} → LaysEach g s ts e ws
+words_many : {g : Given} {s e : Laid} {ts : Trees} {ws : List ℕ} → LaysEach g s ts e ws
     → length ws ≡ length (list_of ts)
 words_many each_none = refl
 words_many (each_more h k) = ap suc (words_many k)
@@ -103,7 +104,7 @@ some_offset : (o : Option ℕ) (k : ℕ) → o ≡ Some k → o ≡ Some (0x6000
 some_offset o k e = let f : k ≡ 0x6000_0000 + k - 0x6000_0000 = omega arith in e ∙ ap Some f
 
 -- a word in this range is a string's
-string_word : {g : Given} {s e : State} {t : Tree} {w : ℕ} → Lays g s t e w → 0x6000_0000 ≤ w
+string_word : {g : Given} {s e : Laid} {t : Tree} {w : ℕ} → Lays g s t e w → 0x6000_0000 ≤ w
     → w ≤ 0x6000_ffff → IsShortString g t w
 string_word (lays_integer h) a b = absurd (omega arith)
 string_word {g = g} (lays_string {text = text} {k = k} h l) a b =
@@ -119,7 +120,7 @@ string_word (lays_entries ps p h some c) a b = let far =
     (table_word c).1 in absurd (omega (arith, far))
 
 module _ (p : Parts) (g : Given) (read : IsRead p g) where
-  short_member : {s e : State} {t : Tree} {w : ℕ} → Lays g s t e w → is_short_string w ≡ true
+  short_member : {s e : Laid} {t : Tree} {w : ℕ} → Lays g s t e w → is_short_string w ≡ true
       → DenMember p (unit (w - 0x6000_0000)) t (tree_count t)
   short_member {w = w} h e =
       let both = and_parts _ _ e in
@@ -128,7 +129,7 @@ module _ (p : Parts) (g : Given) (read : IsRead p g) where
       (den_unit (read.texts i.text (w - 0x6000_0000) i.offset))
 
   -- strings alone
-  short_each : {s e : State} {ts : Trees} {ws : List ℕ} → LaysEach g s ts e ws
+  short_each : {s e : Laid} {ts : Trees} {ws : List ℕ} → LaysEach g s ts e ws
       → list_all is_short_string ws ≡ true
       → DenEach p (map unit (offsets_in ws)) (list_of ts) (trees_count ts)
   short_each each_none e = none_denoted
@@ -184,7 +185,7 @@ own_map es h =
     ∙ entries_of-pairs_of es
 
 module _ (p : Parts) (g : Given) (read : IsRead p g) where
-  some_here : (s : State) (at : ℕ) → here g s ≡ 4 * at → 0 < at
+  some_here : (s : Laid) (at : ℕ) → here g s ≡ 4 * at → 0 < at
   some_here s at e = omega (arith, e, read.base)
 
   some_filled : (n m at : ℕ) → 0 < n → n + m ≡ 4 * at → 0 < at
@@ -213,10 +214,10 @@ module _ (p : Parts) (g : Given) (read : IsRead p g) where
       (subst (λ n. Den p w (table (map_of (pairs_of es))) n) (one_more (entries_count es))
       (den_pairs e ds))
 
-  abbrev to_data_of : State → ℕ
+  abbrev to_data_of : Laid → ℕ
   to_data_of s = to_data (here g s)
 
-  some_base : (s : State) → 0 < here g s
+  some_base : (s : Laid) → 0 < here g s
   some_base s = omega (arith, read.base)
 
   integer_word : (n : ℕ) → n < 2 ^ 28 → content p (0x7000_0000 + n) ≡ Some (leaf (integer n))
@@ -259,7 +260,7 @@ module _ (p : Parts) (g : Given) (read : IsRead p g) where
       ∙ ap (λ c. cond c (empty 6) (placed p 6 (suc k))) z
       ∙ ap (option_map (λ s. leaf (string s))) (read.texts text (suc k) h)
 
-  array_denoted : (s : State) (ts : Trees) (ws : List ℕ) (e : State) (w : ℕ) → 0 < length s.units
+  array_denoted : (s : Laid) (ts : Trees) (ws : List ℕ) (e : Laid) (w : ℕ) → 0 < length s.units
       → ClosesArray g s ws e w → StandsIn p g e → EachBelow (2 ^ 32) ws
       → (StandsIn p g s → DenEach p (map word ws) (list_of ts) (trees_count ts))
       → (list_all is_short_string ws ≡ true
@@ -279,7 +280,7 @@ module _ (p : Parts) (g : Given) (read : IsRead p g) where
       (word_of_array p at (some_here s at f) l ∙ array_found p g s ws at f small n i)
       (long (stood (by_bytes s (words_body ws)) i))
 
-  table_denoted : (s : State) (es : Entries) (ps ws : List ℕ) (e : State) (w : ℕ)
+  table_denoted : (s : Laid) (es : Entries) (ps ws : List ℕ) (e : Laid) (w : ℕ)
       → 0 < length s.units → ClosesTable g s ps ws e w → StandsIn p g e
       → ArePlaced g (entry_keys es) ps → length ps ≡ length ws → EachBelow (2 ^ 32) ws
       → (StandsIn p g s
@@ -304,7 +305,7 @@ module _ (p : Parts) (g : Given) (read : IsRead p g) where
       (word_of_table p at (some_here s at f) l
       ∙ table_found p g s ps ws at f (near_below (2 ^ 16) ps (omega arith) both.1) small few
       same i)
-      (long (stood (by_bytes s (table_body ps ws)) i))
+      (long (stood (by_bytes s (near_table_body ps ws)) i))
   table_denoted s es ps ws e w u (wide_table at near f l n a) i q same small long short =
       as_table (0x4000_0000 + at) ps (map word ws) es q
       (word_of_table32 p at (some_here s at f) l
@@ -312,7 +313,7 @@ module _ (p : Parts) (g : Given) (read : IsRead p g) where
       (long (stood (by_bytes s (wide_table_body ps ws)) i))
 
   mutual
-    pub denoted : {s e : State} {t : Tree} {w : ℕ} → 0 < length s.units → Lays g s t e w
+    pub denoted : {s e : Laid} {t : Tree} {w : ℕ} → 0 < length s.units → Lays g s t e w
         → StandsIn p g e → Den p w t (tree_count t)
     denoted u (lays_integer {n = n} h) i = den_leaf (integer_word n h)
     denoted u (lays_string {text = text} {k = k} h l) i = den_leaf (string_leaf text k h l)
@@ -337,7 +338,7 @@ module _ (p : Parts) (g : Given) (read : IsRead p g) where
         table_denoted m' es' ps ws' e' w' (units_stay (grows_each h) u) c i q same (words_small h)
         (λ k. denoted_each u h k) (λ k. short_each p g read h k)
 
-    denoted_each : {s e : State} {ts : Trees} {ws : List ℕ} → 0 < length s.units
+    denoted_each : {s e : Laid} {ts : Trees} {ws : List ℕ} → 0 < length s.units
         → LaysEach g s ts e ws → StandsIn p g e
         → DenEach p (map word ws) (list_of ts) (trees_count ts)
     denoted_each u each_none i = none_denoted

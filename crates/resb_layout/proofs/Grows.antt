@@ -3,20 +3,20 @@ use Rattle.std.proofs.Common.{ℕ, List, [], ◌++◌, ◌≡◌, ◌<◌, lengt
 use Rattle.std.proofs.Common.{ap, append_assoc, append-nil, length-append, arith}
 use Rattle.resb_tree.specs.Tree.{Tree, Trees}
 use Rattle.resb_format.specs.Parts.{Parts}
-use Rattle.resb_layout.specs.Laid.{Given, State, more_units, more_bytes, ClosesArray, short_array}
+use Rattle.resb_layout.specs.Laid.{Given, Laid, more_units, more_bytes, ClosesArray, short_array}
 use Rattle.resb_layout.specs.Laid.{long_array, ClosesTable, short_table, long_table, wide_table}
 use Rattle.resb_layout.specs.Laid.{Lays, lays_integer, lays_string, lays_no_bytes, lays_bytes}
 use Rattle.resb_layout.specs.Laid.{lays_no_numbers, lays_numbers, lays_no_items, lays_items}
 use Rattle.resb_layout.specs.Laid.{lays_no_entries, lays_entries, LaysEach, each_none, each_more}
 use Rattle.resb_layout.specs.Laws.{StandsIn}
 
-pub record Grows (a b : State) : Type 0 where
+pub record Grows (a b : Laid) : Type 0 where
   pub units : List ℕ
   pub bytes : List ℕ
   pub units_are : b.units ≡ a.units ++ units
   pub bytes_are : b.tail ≡ a.tail ++ bytes
 
-pub stays : (s : State) → Grows s s
+pub stays : (s : Laid) → Grows s s
 stays s = record {
   units = [];
   bytes = [];
@@ -24,7 +24,7 @@ stays s = record {
   bytes_are = sym (append-nil s.tail);
 }
 
-pub onward : {a b c : State} → Grows a b → Grows b c → Grows a c
+pub onward : {a b c : Laid} → Grows a b → Grows b c → Grows a c
 onward {a} {b} {c} g h = record {
   units = g.units ++ h.units;
   bytes = g.bytes ++ h.bytes;
@@ -34,7 +34,7 @@ onward {a} {b} {c} g h = record {
       ∙ append_assoc a.tail g.bytes h.bytes;
 }
 
-pub by_units : (s : State) (us : List ℕ) → Grows s (more_units s us)
+pub by_units : (s : Laid) (us : List ℕ) → Grows s (more_units s us)
 by_units s us = record {
   units = us;
   bytes = [];
@@ -42,7 +42,7 @@ by_units s us = record {
   bytes_are = sym (append-nil s.tail);
 }
 
-pub by_bytes : (s : State) (bs : List ℕ) → Grows s (more_bytes s bs)
+pub by_bytes : (s : Laid) (bs : List ℕ) → Grows s (more_bytes s bs)
 by_bytes s bs = record {
   units = [];
   bytes = bs;
@@ -50,19 +50,19 @@ by_bytes s bs = record {
   bytes_are = refl;
 }
 
-pub array_grows : {g : Given} {s : State} {ws : List ℕ} {e : State} {w : ℕ}
+pub array_grows : {g : Given} {s : Laid} {ws : List ℕ} {e : Laid} {w : ℕ}
     → ClosesArray g s ws e w → Grows s e
 array_grows (short_array h l) = by_units _ _
 array_grows (long_array at h e l n) = by_bytes _ _
 
-pub table_grows : {g : Given} {s : State} {ps ws : List ℕ} {e : State} {w : ℕ}
+pub table_grows : {g : Given} {s : Laid} {ps ws : List ℕ} {e : Laid} {w : ℕ}
     → ClosesTable g s ps ws e w → Grows s e
 table_grows (short_table n h l) = by_units _ _
 table_grows (long_table at n h e l) = by_bytes _ _
 table_grows (wide_table at n e l q r) = by_bytes _ _
 
 mutual
-  pub grows : {g : Given} {s e : State} {t : Tree} {w : ℕ} → Lays g s t e w → Grows s e
+  pub grows : {g : Given} {s e : Laid} {t : Tree} {w : ℕ} → Lays g s t e w → Grows s e
   grows (lays_integer h) = stays _
   grows (lays_string h l) = stays _
   grows lays_no_bytes = stays _
@@ -74,13 +74,13 @@ mutual
   grows lays_no_entries = stays _
   grows (lays_entries ps p h some c) = onward (grows_each h) (table_grows c)
 
-  pub grows_each : {g : Given} {s e : State} {ts : Trees} {ws : List ℕ} → LaysEach g s ts e ws
+  pub grows_each : {g : Given} {s e : Laid} {ts : Trees} {ws : List ℕ} → LaysEach g s ts e ws
       → Grows s e
   grows_each each_none = stays _
   grows_each (each_more h k) = onward (grows h) (grows_each k)
 
 -- what stands in the parts later stood in them before
-pub stood : {p : Parts} {g : Given} {a b : State} → Grows a b → StandsIn p g b → StandsIn p g a
+pub stood : {p : Parts} {g : Given} {a b : Laid} → Grows a b → StandsIn p g b → StandsIn p g a
 stood {p} {g} {a} {b} h s = record {
   front = s.front;
   units_behind = h.units ++ s.units_behind;
@@ -92,7 +92,7 @@ stood {p} {g} {a} {b} h s = record {
       ∙ append_assoc a.tail h.bytes s.bytes_behind);
 }
 
-pub units_stay : {a b : State} → Grows a b → 0 < length a.units → 0 < length b.units
+pub units_stay : {a b : Laid} → Grows a b → 0 < length a.units → 0 < length b.units
 units_stay {a} {b} h some = omega (
   arith,
   some,

@@ -3,15 +3,13 @@ use Rattle.std.proofs.Common.{◌≡◌, ℕ, zero, suc, ◌+◌, ◌*◌, ◌/�
 use Rattle.std.proofs.Common.{length, refl, ap, length-append, arith}
 use Rattle.std.specs.Int.{to_le_bytes, w16, w32}
 use Rattle.resb_format.specs.Bytes.{units_of, words_of}
+use Rattle.resb_format.proofs.WordsBack.{two_bytes}
 use Rattle.resb_layout.specs.Laid.{words, halves}
 
 -- each number is below a bound
 abbrev pub EachBelow : ℕ → List ℕ → Type 0
 EachBelow n [] = Unit {0}
 EachBelow n (x ∷ xs) = (x < n) × EachBelow n xs
-
-two_bytes : (u : ℕ) → u < 65536 → u % 256 + 256 * (u / 256 % 256) ≡ u
-two_bytes u h = omega arith
 
 four_bytes : (w : ℕ) → w < 4294967296 → w % 256 + 256 * (w / 256 % 256) + 65536 * (w / 65536 % 256)
     + 16777216 * (w / 16777216 % 256) ≡ w
@@ -38,10 +36,6 @@ pub halves_read : (us rest : List ℕ) → EachBelow (2 ^ 16) us
 unfolding units_of
 halves_read [] rest h = refl
 halves_read (u ∷ us) rest h = λ i. two_bytes u h.0 i ∷ halves_read us rest h.1 i
-
-pub words_len : (ws : List ℕ) → length (words ws) ≡ 4 * length ws
-words_len [] = refl
-words_len (w ∷ ws) = omega (arith, words_len ws, length-append (to_le_bytes w32 w) (words ws))
 
 pub halves_len : (us : List ℕ) → length (halves us) ≡ 2 * length us
 halves_len [] = refl

@@ -2,7 +2,7 @@
 use Rattle.std.proofs.Common.{ℕ, List, [], ◌∷◌, map, Some, Bool, true, false, length}
 use Rattle.std.proofs.Common.{◌≡◌, ◌<◌, ◌+◌, ◌*◌, refl, sym, ◌∙◌, ap, subst, arith}
 use Rattle.resb_tree.specs.Tree.{Tree, Trees, no_trees}
-use Rattle.resb_layout.specs.Laid.{Given, State, here}
+use Rattle.resb_layout.specs.Laid.{Given, Laid, here}
 use Rattle.resb_layout.specs.Laid.{to_data}
 use Rattle.resb_layout.specs.Laid.{ClosesArray, short_array, long_array, ClosesTable, short_table}
 use Rattle.resb_layout.specs.Laid.{long_table, wide_table, Lays}
@@ -21,7 +21,7 @@ same_somes (p ∷ ps) (q ∷ qs) e =
     let r = same_somes ps qs t in
     cc
 
-pub none_inside : {g : Given} {s mid : State} {ws : List ℕ} → LaysEach g s no_trees mid ws
+pub none_inside : {g : Given} {s mid : Laid} {ws : List ℕ} → LaysEach g s no_trees mid ws
     → 0 < length ws → ⊥
 none_inside each_none h = omega (arith, h)
 
@@ -34,7 +34,7 @@ same_at n at at' a b = omega (arith, a, b)
 pub not_both : {A : Type 0} (b : Bool) → b ≡ true → b ≡ false → A
 not_both b t f = cc
 
-once_array : {g : Given} {s : State} {ws : List ℕ} {a b : State} {v w : ℕ} → ClosesArray g s ws a v
+once_array : {g : Given} {s : Laid} {ws : List ℕ} {a b : Laid} {v w : ℕ} → ClosesArray g s ws a v
     → ClosesArray g s ws b w → (a ≡ b) × (v ≡ w)
 once_array (short_array h l) (short_array k m) = (refl, refl)
 once_array {ws = ws} (short_array h l) (long_array at k e m n) = not_both _ h k
@@ -42,7 +42,7 @@ once_array (long_array at k e m n) (short_array h l) = not_both _ h k
 once_array {g = g} {s = s} (long_array at h e l n) (long_array at2 k f m o) =
     (refl, ap (λ i. 0x8000_0000 + i) (same_at (here g s) at at2 e f))
 
-once_table : {g : Given} {s : State} {ps ws : List ℕ} {a b : State} {v w : ℕ}
+once_table : {g : Given} {s : Laid} {ps ws : List ℕ} {a b : Laid} {v w : ℕ}
     → ClosesTable g s ps ws a v → ClosesTable g s ps ws b w → (a ≡ b) × (v ≡ w)
 once_table (short_table n h l) (short_table m k o) = (refl, refl)
 once_table (short_table n h l) (long_table at m k e o) = not_both _ h k
@@ -57,7 +57,7 @@ once_table {g = g} {s = s} (wide_table at n e l q r) (wide_table at2 m f o t u) 
     (refl, ap (λ i. 0x4000_0000 + i) (same_at (here g s) at at2 e f))
 
 mutual
-  pub once : {g : Given} {s a b : State} {t : Tree} {v w : ℕ} → Lays g s t a v → Lays g s t b w
+  pub once : {g : Given} {s a b : Laid} {t : Tree} {v w : ℕ} → Lays g s t a v → Lays g s t b w
       → (a ≡ b) × (v ≡ w)
   once (lays_integer h) (lays_integer k) = (refl, refl)
   once (lays_string {k = m} h l) (lays_string {k = n} k o) = let e : m ≡ n =
@@ -91,7 +91,7 @@ mutual
       (subst (λ m. ClosesTable g m qs w1 b' w') (sym r.0)
       (subst (λ ws. ClosesTable g m2 qs ws b' w') (sym r.1) d)))
 
-  pub once_each : {g : Given} {s a b : State} {vs ws : List ℕ} {ts : Trees} → LaysEach g s ts a vs
+  pub once_each : {g : Given} {s a b : Laid} {vs ws : List ℕ} {ts : Trees} → LaysEach g s ts a vs
       → LaysEach g s ts b ws → (a ≡ b) × (vs ≡ ws)
   once_each each_none each_none = (refl, refl)
   once_each {g = g} {b = b'} (each_more {w = v'} {ts = ts'} h k) (each_more {ws = ws'} {w =

@@ -4,25 +4,26 @@ use Rattle.std.proofs.Common.{length-append, arith}
 use Rattle.std.specs.Int.{to_le_bytes, w16, w32}
 use Rattle.std.proofs.lemmas.List.{length-map}
 use Rattle.resb_tree.specs.Tree.{Tree, Trees, tree_count, trees_count}
-use Rattle.resb_layout.specs.Laid.{Given, State, more_units, more_bytes, here, words, halves, pad}
-use Rattle.resb_layout.specs.Laid.{offsets_in, words_body, table_body, wide_table_body, binary_body}
+use Rattle.resb_layout.specs.Laid.{Given, Laid, more_units, more_bytes, here, words, halves, pad}
+use Rattle.resb_layout.specs.Laid.{offsets_in, words_body, near_table_body, wide_table_body}
+use Rattle.resb_layout.specs.Laid.{binary_body}
 use Rattle.resb_layout.specs.Laid.{ClosesArray, short_array, long_array, ClosesTable}
 use Rattle.resb_layout.specs.Laid.{short_table, long_table, wide_table, Lays, lays_integer}
 use Rattle.resb_layout.specs.Laid.{lays_string, lays_no_bytes, lays_bytes, lays_no_numbers}
 use Rattle.resb_layout.specs.Laid.{lays_numbers, lays_no_items, lays_items, lays_no_entries}
 use Rattle.resb_layout.specs.Laid.{lays_entries, LaysEach, each_none, each_more}
 use Rattle.resb_layout.specs.Laws.{taken, LaidIsPaid}
-use Rattle.resb_layout.proofs.Numbers.{words_len}
+use Rattle.resb_format.proofs.WordsBack.{written_length}
 use Rattle.resb_layout.proofs.Denoted.{members_count}
 
-bytes_taken : (s : State) (bs : List ℕ) → taken (more_bytes s bs) ≡ taken s + length bs
+bytes_taken : (s : Laid) (bs : List ℕ) → taken (more_bytes s bs) ≡ taken s + length bs
 bytes_taken s bs = omega (arith, length-append s.tail bs)
 
-units_taken : (s : State) (us : List ℕ) → taken (more_units s us) ≡ taken s + 2 * length us
+units_taken : (s : Laid) (us : List ℕ) → taken (more_units s us) ≡ taken s + 2 * length us
 units_taken s us = omega (arith, length-append s.units us)
 
 -- a body has room for each member
-array_room : {g : Given} {s : State} {ws : List ℕ} {e : State} {w : ℕ} → ClosesArray g s ws e w
+array_room : {g : Given} {s : Laid} {ws : List ℕ} {e : Laid} {w : ℕ} → ClosesArray g s ws e w
     → taken s + 2 * length ws ≤ taken e
 array_room {s = s} {ws = ws} (short_array h l) =
     omega (arith, units_taken s (length ws ∷ offsets_in ws), length-map ws (λ x. x - 0x6000_0000))
@@ -30,11 +31,11 @@ array_room {s = s} {ws = ws} (long_array at h e l n) =
     omega (
       arith,
       bytes_taken s (words_body ws),
-      words_len ws,
+      written_length ws,
       length-append (to_le_bytes w32 (length ws)) (words ws),
     )
 
-table_room : {g : Given} {s : State} {ps ws : List ℕ} {e : State} {w : ℕ}
+table_room : {g : Given} {s : Laid} {ps ws : List ℕ} {e : Laid} {w : ℕ}
     → ClosesTable g s ps ws e w → taken s + 2 * length ws ≤ taken e
 table_room {s = s} {ps = ps} {ws = ws} (short_table n h l) =
     omega (
@@ -46,8 +47,8 @@ table_room {s = s} {ps = ps} {ws = ws} (short_table n h l) =
 table_room {s = s} {ps = ps} {ws = ws} (long_table at n h e l) =
     omega (
       arith,
-      bytes_taken s (table_body ps ws),
-      words_len ws,
+      bytes_taken s (near_table_body ps ws),
+      written_length ws,
       length-append (to_le_bytes w16 (length ps)) (halves ps ++ (pad (length ps) ++ words ws)),
       length-append (halves ps) (pad (length ps) ++ words ws),
       length-append (pad (length ps)) (words ws),
@@ -56,13 +57,13 @@ table_room {s = s} {ps = ps} {ws = ws} (wide_table at n e l q r) =
     omega (
       arith,
       bytes_taken s (wide_table_body ps ws),
-      words_len ws,
+      written_length ws,
       length-append (to_le_bytes w32 (length ps)) (words ps ++ words ws),
       length-append (words ps) (words ws),
     )
 
 mutual
-  pub paid : {g : Given} {s e : State} {t : Tree} {w : ℕ} → Lays g s t e w
+  pub paid : {g : Given} {s e : Laid} {t : Tree} {w : ℕ} → Lays g s t e w
       → taken s + 2 * tree_count t ≤ taken e + 2
   paid (lays_integer h) = omega arith
   paid (lays_string h l) = omega arith
@@ -79,7 +80,7 @@ mutual
   paid (lays_entries {es = es'} ps p h some c) = let each = paid_each h in let room =
       table_room c in omega (arith, each, room, members_count es')
 
-  paid_each : {g : Given} {s e : State} {ts : Trees} {ws : List ℕ} → LaysEach g s ts e ws
+  paid_each : {g : Given} {s e : Laid} {ts : Trees} {ws : List ℕ} → LaysEach g s ts e ws
       → taken s + 2 * trees_count ts ≤ taken e + 2 * length ws
   paid_each each_none = omega arith
   paid_each (each_more h k) = let first = paid h in let rest =

@@ -23,18 +23,18 @@ pub record Given : Type 0 where
   pub base : ℕ
 
 -- what stands so far: the units of the 16-bit block, and the bytes of the tail
-pub record State : Type 0 where
+pub record Laid : Type 0 where
   pub units : List ℕ
   pub tail : List ℕ
 
 -- the next byte of the body behind the tail
-abbrev pub here : Given → State → ℕ
+abbrev pub here : Given → Laid → ℕ
 here g s = g.base + length s.tail
 
-abbrev pub more_units : State → List ℕ → State
+abbrev pub more_units : Laid → List ℕ → Laid
 more_units s us = record { units = s.units ++ us; tail = s.tail }
 
-abbrev pub more_bytes : State → List ℕ → State
+abbrev pub more_bytes : Laid → List ℕ → Laid
 more_bytes s bs = record { units = s.units; tail = s.tail ++ bs }
 
 abbrev pub words : List ℕ → List ℕ
@@ -69,8 +69,8 @@ abbrev pub pad : ℕ → List ℕ
 pad n = if nat_eq (n % 2) 0 then 0xaa ∷ 0xaa ∷ [] else []
 
 -- u16 n, n positions, padding, n descriptors
-abbrev pub table_body : List ℕ → List ℕ → List ℕ
-table_body ps ws = to_le_bytes w16 (length ps) ++ (halves ps ++ (pad (length ps) ++ words ws))
+abbrev pub near_table_body : List ℕ → List ℕ → List ℕ
+near_table_body ps ws = to_le_bytes w16 (length ps) ++ (halves ps ++ (pad (length ps) ++ words ws))
 
 -- u32 n, n positions, n descriptors
 abbrev pub wide_table_body : List ℕ → List ℕ → List ℕ
@@ -92,7 +92,7 @@ abbrev pub offsets_in : List ℕ → List ℕ
 offsets_in ws = map (λ w. w - 0x6000_0000) ws
 
 -- behind its members, whose words are ws: an array's further units or bytes, and its word
-pub data ClosesArray (g : Given) (s : State) (ws : List ℕ) : State → ℕ → Type 0 where
+pub data ClosesArray (g : Given) (s : Laid) (ws : List ℕ) : Laid → ℕ → Type 0 where
   short_array : are_short ws ≡ true → length s.units < 2 ^ 28
       → ClosesArray g s ws (more_units s (length ws ∷ offsets_in ws)) (0x9000_0000 + length s.units)
   long_array : (at : ℕ) → are_short ws ≡ false → here g s ≡ 4 * at → at < 2 ^ 28
@@ -100,13 +100,13 @@ pub data ClosesArray (g : Given) (s : State) (ws : List ℕ) : State → ℕ →
       → ClosesArray g s ws (more_bytes s (words_body ws)) (0x8000_0000 + at)
 
 -- a table's, whose keys have the positions ps
-pub data ClosesTable (g : Given) (s : State) (ps ws : List ℕ) : State → ℕ → Type 0 where
+pub data ClosesTable (g : Given) (s : Laid) (ps ws : List ℕ) : Laid → ℕ → Type 0 where
   short_table : are_near ps ≡ true → are_short ws ≡ true → length s.units < 2 ^ 28
       → ClosesTable g s ps ws (more_units s (length ws ∷ (ps ++ offsets_in ws))) (0x5000_0000
       + length s.units)
   long_table : (at : ℕ) → are_near ps ≡ true → are_short ws ≡ false → here g s ≡ 4 * at
       → at < 2 ^ 28
-      → ClosesTable g s ps ws (more_bytes s (table_body ps ws)) (0x2000_0000 + at)
+      → ClosesTable g s ps ws (more_bytes s (near_table_body ps ws)) (0x2000_0000 + at)
   wide_table : (at : ℕ) → are_near ps ≡ false → here g s ≡ 4 * at → at < 2 ^ 28
       → length ps < 2 ^ 32 → All (λ p. p < 2 ^ 32) ps
       → ClosesTable g s ps ws (more_bytes s (wide_table_body ps ws)) (0x4000_0000 + at)
@@ -122,27 +122,27 @@ pub record ArePlaced (g : Given) (ks : List (List ℕ)) (ps : List ℕ) : Type 0
 
 mutual
   -- an empty collection, binary or vector is its type with value 0
-  pub data Lays (g : Given) : State → Tree → State → ℕ → Type 0 where
-    lays_integer : {s : State} {n : ℕ} → n < 2 ^ 28 → Lays g s (integer n) s (0x7000_0000 + n)
-    lays_string : {s : State} {text : List ℕ} {k : ℕ} → g.offset text ≡ Some k → k < 2 ^ 28
+  pub data Lays (g : Given) : Laid → Tree → Laid → ℕ → Type 0 where
+    lays_integer : {s : Laid} {n : ℕ} → n < 2 ^ 28 → Lays g s (integer n) s (0x7000_0000 + n)
+    lays_string : {s : Laid} {text : List ℕ} {k : ℕ} → g.offset text ≡ Some k → k < 2 ^ 28
         → Lays g s (string text) s (0x6000_0000 + k)
-    lays_no_bytes : {s : State} → Lays g s (binary []) s 0x1000_0000
-    lays_bytes : {s : State} {bytes : List ℕ} (at : ℕ) → 0 < length bytes → length bytes < 2 ^ 32
+    lays_no_bytes : {s : Laid} → Lays g s (binary []) s 0x1000_0000
+    lays_bytes : {s : Laid} {bytes : List ℕ} (at : ℕ) → 0 < length bytes → length bytes < 2 ^ 32
         → here g s + to_data (here g s) ≡ 4 * at → at < 2 ^ 28
         → Lays g s (binary bytes) (more_bytes s (binary_body (here g s) bytes)) (0x1000_0000 + at)
-    lays_no_numbers : {s : State} → Lays g s (int_vector []) s 0xe000_0000
-    lays_numbers : {s : State} {ns : List ℕ} (at : ℕ) → 0 < length ns → length ns < 2 ^ 32
+    lays_no_numbers : {s : Laid} → Lays g s (int_vector []) s 0xe000_0000
+    lays_numbers : {s : Laid} {ns : List ℕ} (at : ℕ) → 0 < length ns → length ns < 2 ^ 32
         → All (λ n. n < 2 ^ 32) ns → here g s ≡ 4 * at → at < 2 ^ 28
         → Lays g s (int_vector ns) (more_bytes s (words_body ns)) (0xe000_0000 + at)
-    lays_no_items : {s : State} → Lays g s (array no_trees) s 0x8000_0000
-    lays_items : {s mid end : State} {ts : Trees} {ws : List ℕ} {w : ℕ} → LaysEach g s ts mid ws
+    lays_no_items : {s : Laid} → Lays g s (array no_trees) s 0x8000_0000
+    lays_items : {s mid end : Laid} {ts : Trees} {ws : List ℕ} {w : ℕ} → LaysEach g s ts mid ws
         → 0 < length ws → ClosesArray g mid ws end w → Lays g s (array ts) end w
-    lays_no_entries : {s : State} → Lays g s (table no_entries) s 0x2000_0000
-    lays_entries : {s mid end : State} {es : Entries} {ws : List ℕ} {w : ℕ} (ps : List ℕ)
+    lays_no_entries : {s : Laid} → Lays g s (table no_entries) s 0x2000_0000
+    lays_entries : {s mid end : Laid} {es : Entries} {ws : List ℕ} {w : ℕ} (ps : List ℕ)
         → ArePlaced g (entry_keys es) ps → LaysEach g s (members_in es) mid ws → 0 < length ws
         → ClosesTable g mid ps ws end w → Lays g s (table es) end w
 
-  pub data LaysEach (g : Given) : State → Trees → State → List ℕ → Type 0 where
-    each_none : {s : State} → LaysEach g s no_trees s []
-    each_more : {s mid end : State} {ws : List ℕ} {w : ℕ} {t : Tree} {ts : Trees}
+  pub data LaysEach (g : Given) : Laid → Trees → Laid → List ℕ → Type 0 where
+    each_none : {s : Laid} → LaysEach g s no_trees s []
+    each_more : {s mid end : Laid} {ws : List ℕ} {w : ℕ} {t : Tree} {ts : Trees}
         → Lays g s t mid w → LaysEach g mid ts end ws → LaysEach g s (more_trees t ts) end (w ∷ ws)

@@ -7,10 +7,10 @@ use Rattle.resb_tree.specs.Tree.{Tree, tree_count}
 use Rattle.resb_format.specs.Strings.{text_at, key_at}
 use Rattle.resb_format.specs.Parts.{Parts}
 use Rattle.resb_format.specs.Denotes.{Den}
-use Rattle.resb_layout.specs.Laid.{Given, State, Lays}
+use Rattle.resb_layout.specs.Laid.{Given, Laid, Lays}
 
 abbrev pub OneLayout : Type 0
-OneLayout = (g : Given) (s a b : State) (t : Tree) (v w : ℕ) → Lays g s t a v → Lays g s t b w
+OneLayout = (g : Given) (s a b : Laid) (t : Tree) (v w : ℕ) → Lays g s t a v → Lays g s t b w
     → (a ≡ b) × (v ≡ w)
 
 -- the blocks read back what is given: each key at its position, each string at its offset
@@ -22,7 +22,7 @@ pub record IsRead (p : Parts) (g : Given) : Type 0 where
   pub aligned : g.base % 4 ≡ 0
 
 -- the state stands in the parts, whatever follows it
-pub record StandsIn (p : Parts) (g : Given) (s : State) : Type 0 where
+pub record StandsIn (p : Parts) (g : Given) (s : Laid) : Type 0 where
   pub front : List ℕ
   pub units_behind : List ℕ
   pub bytes_behind : List ℕ
@@ -32,16 +32,16 @@ pub record StandsIn (p : Parts) (g : Given) (s : State) : Type 0 where
 
 abbrev pub LaidIsDenoted : Type 0
 LaidIsDenoted =
-    (p : Parts) (g : Given) (before after : State) (t : Tree) (w : ℕ) → IsRead p g
+    (p : Parts) (g : Given) (before after : Laid) (t : Tree) (w : ℕ) → IsRead p g
     → 0 < length before.units → Lays g before t after w → StandsIn p g after
     → Den p w t (tree_count t)
 
 -- the bytes of what stands
-abbrev pub taken : State → ℕ
+abbrev pub taken : Laid → ℕ
 taken s = 2 * length s.units + length s.tail
 
 -- two bytes for each resource but the root
 abbrev pub LaidIsPaid : Type 0
 LaidIsPaid =
-    (g : Given) (before after : State) (t : Tree) (w : ℕ) → Lays g before t after w
+    (g : Given) (before after : Laid) (t : Tree) (w : ℕ) → Lays g before t after w
     → taken before + 2 * tree_count t ≤ taken after + 2

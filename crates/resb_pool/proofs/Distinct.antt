@@ -6,27 +6,26 @@ use Rattle.std.proofs.lemmas.List.{get_or_default}
 use Rattle.std.proofs.lemmas.List.Elements.{Contains-push_cases}
 use Rattle.resb_pool.specs.Records.{IsDistinct}
 use Rattle.resb_pool.specs.Inner.Placing.{text}
-
-abbrev Texts : Type 0
-Texts = List (List ℕ)
+use Rattle.resb_pool.proofs.TextLists.{TextList}
 
 -- one of a list with x in front
-pub cons_cases : (x : List ℕ) (xs : Texts) (y : List ℕ) → Contains (x ∷ xs) y → (x ≡ y)
+pub cons_cases : (x : List ℕ) (xs : TextList) (y : List ℕ) → Contains (x ∷ xs) y → (x ≡ y)
     ⊎ Contains xs y
 cons_cases x xs y (zero, lt, is) = inl is
 cons_cases x xs y (suc k, lt, is) = inr (k, omega arith, is)
 
-pub Contains-first : (x : List ℕ) (xs : Texts) → Contains (x ∷ xs) x
+pub Contains-first : (x : List ℕ) (xs : TextList) → Contains (x ∷ xs) x
 Contains-first x xs = (0, omega arith, refl)
 
 -- a text by its index, and the index of a text
-pub has_text : (T : Texts) (i : ℕ) → i < length T → Contains T (text T i)
+pub has_text : (T : TextList) (i : ℕ) → i < length T → Contains T (text T i)
 has_text T i l = (i, l, get_or_default T i (text T i) [] l)
 
-pub index_of : (T : Texts) (s : List ℕ) → Contains T s → (i : ℕ) × (i < length T) × (text T i ≡ s)
+pub index_of : (T : TextList) (s : List ℕ) → Contains T s
+    → (i : ℕ) × (i < length T) × (text T i ≡ s)
 index_of T s h = (h.0, h.1, get_or_default T h.0 [] s h.1 ∙ h.2)
 
-pub distinct_push : (qs : Texts) (t : List ℕ) → IsDistinct qs → (Contains qs t → ⊥)
+pub distinct_push : (qs : TextList) (t : List ℕ) → IsDistinct qs → (Contains qs t → ⊥)
     → IsDistinct (qs ++ t ∷ [])
 distinct_push [] t d f = (λ x. absurd (omega (arith, x.1)), tt)
 distinct_push (q ∷ qs) t d f = (
@@ -38,7 +37,7 @@ distinct_push (q ∷ qs) t d f = (
   distinct_push qs t d.1 (λ x. f (suc x.0, omega (arith, x.1), x.2)),
 )
 
-pub one_index : (T : Texts) (i j : ℕ) → IsDistinct T → i < length T → j < length T
+pub one_index : (T : TextList) (i j : ℕ) → IsDistinct T → i < length T → j < length T
     → text T i ≡ text T j → i ≡ j
 one_index [] i j d l m e = absurd (omega (arith, l))
 one_index (x ∷ T) zero zero d l m e = refl
@@ -50,7 +49,8 @@ one_index (x ∷ T) (suc i) (suc j) d l m e =
     ap suc (one_index T i j d.1 (omega (arith, l)) (omega (arith, m)) e)
 
 -- a text doesn't stand before its index
-pub not_before : (T : Texts) (i : ℕ) → IsDistinct T → i < length T → Contains (take i T) (text T i)
+pub not_before : (T : TextList) (i : ℕ) → IsDistinct T → i < length T
+    → Contains (take i T) (text T i)
     → ⊥
 not_before [] i d l h = omega (arith, l)
 not_before (x ∷ T) zero d l h = omega (arith, h.1)

@@ -24,22 +24,21 @@ use Rattle.resb_pool.proofs.FoundKeys.{same_key}
 use Rattle.resb_pool.proofs.Distinct.{one_index, distinct_push}
 use Rattle.resb_pool.proofs.Sizes.{copy_same, copy_other, copies-push, copies_none, copies_within}
 use Rattle.resb_pool.proofs.Sizes.{marker_le}
-
-abbrev Texts : Type 0
-Texts = List (List ℕ)
+use Rattle.resb_pool.proofs.TextLists.{TextList}
 
 abbrev Key : Type 0
 Key = Bor (List ℕ)
 
 -- the texts of D and t, and the measures of the texts of D
-pub record IsReady (D : Texts) (t : List ℕ) (T : Texts) (ms : List Measure) : Type 0 where
+pub record IsReady (D : TextList) (t : List ℕ) (T : TextList) (ms : List Measure) : Type 0 where
   pub utf8 : All IsUtf8 (D ++ t ∷ [])
   pub once : IsDistinct T
   pub same : (s : List ℕ) → Contains T s ↔ Contains (D ++ t ∷ []) s
   pub len : length ms ≡ length T
   pub measured : AreMeasures D T ms
 
-module _ (D T : Texts) (ms : List Measure) (h : AreTexts D T ms) (t : List ℕ) (u : IsUtf8 t) where
+module _ (D T : TextList) (ms : List Measure) (h : AreTexts D T ms) (t : List ℕ)
+    (u : IsUtf8 t) where
   pub ready_known : Contains T t → IsReady D t T ms
   ready_known c = record {
     utf8 = All-push IsUtf8 D t h.utf8 u;
@@ -96,7 +95,8 @@ module _ (D T : Texts) (ms : List Measure) (h : AreTexts D T ms) (t : List ℕ) 
     ];
   }
 
-module _ (D : Texts) (t : List ℕ) (T : Texts) (ms : List Measure) (h : IsReady D t T ms) (j : ℕ)
+module _ (D : TextList) (t : List ℕ) (T : TextList) (ms : List Measure) (h : IsReady D t T ms)
+    (j : ℕ)
     (l : j < length T) (at : text T j ≡ t) (old : Measure) (is : old ≡ get_or ms j old) where
   own : IsMeasure D t old
   own = subst (λ s. IsMeasure D s old) at (subst (IsMeasure D (text T j)) (sym is)
@@ -200,7 +200,8 @@ any_some (k ∷ ks) t e = by (any_some ks t) (bytes_eq t k.now) refl
         (suc c.0, omega (arith, c.1), c.2)
 
 -- what a set that takes a key in says of texts and measures
-module _ (D : Texts) (ks new : List Key) (t : Key) (ms : List Measure) (h : AreTexts D (nows ks) ms)
+module _ (D : TextList) (ks new : List Key) (t : Key) (ms : List Measure)
+    (h : AreTexts D (nows ks) ms)
     (u : IsUtf8 t.now) (e : new ≡ insert_key same_key ks t) (b : Bool)
     (is : b ≡ not (list_any (same_key t) ks)) where
   pub taken_known : b ≡ false → IsReady D t.now (nows new) ms
@@ -218,7 +219,7 @@ module _ (D : Texts) (ks new : List Key) (t : Key) (ms : List Measure) (h : AreT
     where
       by : (a : Bool) → list_any (same_key t) ks ≡ a → IsReady D t.now (nows new) (ms ++ m ∷ [])
       by false g =
-          subst (λ (l : Texts). IsReady D t.now l (ms ++ m ∷ []))
+          subst (λ (l : TextList). IsReady D t.now l (ms ++ m ∷ []))
           (sym (ap nows (e ∙ ap (λ a. cond a ks (ks ++ t ∷ [])) g)
           ∙ map_push (λ (y : Key). y.now) ks t))
           (ready_new D (nows ks) ms h t.now u (any_none ks t.now g) m p q z)

@@ -18,12 +18,10 @@ use Rattle.resb_pool.proofs.Least.{units_end}
 use Rattle.resb_pool.proofs.SharingLemmas.{one_container}
 use Rattle.resb_pool.proofs.OrderingLemmas.{length-records, texts_flat}
 use Rattle.resb_pool.proofs.ReadBack.{text_at-zero, text_at-found, text_at-marked}
-
-abbrev Texts : Type 0
-Texts = List (List ℕ)
+use Rattle.resb_pool.proofs.TextLists.{TextList}
 
 -- a record is its own container
-own_container : (S : Texts) → All IsUtf8 S → (s r : List ℕ) → IsRecord S s → IsContainer S s r
+own_container : (S : TextList) → All IsUtf8 S → (s r : List ℕ) → IsRecord S s → IsContainer S s r
     → r ≡ s
 own_container S texts s r own c =
     one_container S texts s r s c (record {
@@ -35,7 +33,7 @@ own_container S texts s r own c =
     })
 
 -- the units around a record
-around : (us : List ℕ) (Q : Texts) (before after : Texts) (r rest : List ℕ)
+around : (us : List ℕ) (Q : TextList) (before after : TextList) (r rest : List ℕ)
     → us ≡ 0 ∷ flat_map record_units Q → Q ≡ before ++ r ∷ after
     → us ++ rest ≡ (0 ∷ flat_map record_units before) ++
     (marker r ++ (units r ++ 0 ∷ (flat_map record_units after ++ rest)))
@@ -50,7 +48,7 @@ around us Q before after r rest u q =
     ∙ ap (λ l. marker r ++ l) (append_assoc (units r) (0 ∷ [])
     (flat_map record_units after ++ rest)))
 
-module _ (S : Texts) (us : List ℕ) (offset : List ℕ → Option ℕ) (p : IsPlan S us offset) where
+module _ (S : TextList) (us : List ℕ) (offset : List ℕ → Option ℕ) (p : IsPlan S us offset) where
   inside : (r : List ℕ) (c : ℕ) → ClosesAt p.records r c → c < length us
   inside r c h =
       let n = ap length p.pool.units in
@@ -139,7 +137,7 @@ module _ (S : Texts) (us : List ℕ) (offset : List ℕ → Option ℕ) (p : IsP
           ap (λ j. text_at (us ++ rest) j) here ∙ ap (λ x. text_at x (length first)) split
           ∙ text_at-found first s (behind rest) (All-contains IsUtf8 S s p.texts c) m
 
-pub pool_is_read : (S : Texts) (us : List ℕ) (offset : List ℕ → Option ℕ) → IsPlan S us offset
+pub pool_is_read : (S : TextList) (us : List ℕ) (offset : List ℕ → Option ℕ) → IsPlan S us offset
     → (s : List ℕ) (k : ℕ) → offset s ≡ Some k
     → (k < length us) × ((rest : List ℕ) → text_at (us ++ rest) k ≡ Some s)
 pool_is_read S us offset p s k e =

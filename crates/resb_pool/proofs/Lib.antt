@@ -1,4 +1,5 @@
 -- For crates above: those that are `pub`.
+mod TextLists
 pub mod Zeros
 mod Utf16
 pub mod TextLoops

@@ -17,9 +17,7 @@ use Rattle.resb_pool.specs.Pool.{Off, off_empty, off_within}
 use Rattle.resb_pool.specs.Plan.{IsPlan}
 use Rattle.resb_pool.proofs.Distinct.{cons_cases, Contains-first}
 use Rattle.resb_pool.proofs.SharingLemmas.{one_container}
-
-abbrev Texts : Type 0
-Texts = List (List ℕ)
+use Rattle.resb_pool.proofs.TextLists.{TextList}
 
 bytes_asym : (r q : List ℕ) → slice_cmp nat_cmp r q ≡ Less → slice_cmp nat_cmp q r ≡ Less → ⊥
 bytes_asym r q e f =
@@ -27,8 +25,8 @@ bytes_asym r q e f =
     ∙ ap ordering_reverse f in
     cc
 
-module _ (S : Texts) where
-  size_once : (r : List ℕ) (ss : Texts) (m n : ℕ) → SizeIn S r ss m → SizeIn S r ss n → m ≡ n
+module _ (S : TextList) where
+  size_once : (r : List ℕ) (ss : TextList) (m n : ℕ) → SizeIn S r ss m → SizeIn S r ss n → m ≡ n
   size_once r _ _ _ size_none size_none = refl
   size_once r _ _ _ (size_here {s} {ss} {n = m} h p) (size_here {n} k q) =
       ap (λ j. size s + j) (size_once r ss m n p q)
@@ -70,17 +68,17 @@ module _ (S : Texts) where
       smaller_bytes n (e ∙ e') a (subst (Saved S p) (sym (saved_once q n n' b a')) b')
       (nat_list_cmp_total.trans r q p l l')
 
-  abbrev IsOrdered : Texts → Type 0
+  abbrev IsOrdered : TextList → Type 0
   IsOrdered Q = (k : ℕ) → k + 1 < length Q
       → Precedes S (slice_index_or Q k []) (slice_index_or Q (k + 1) [])
 
-  ordered_tail : (q : List ℕ) (Q : Texts) → IsOrdered (q ∷ Q) → IsOrdered Q
+  ordered_tail : (q : List ℕ) (Q : TextList) → IsOrdered (q ∷ Q) → IsOrdered Q
   ordered_tail q Q h k lt =
       let e : suc k + 1 ≡ suc (k + 1) = omega arith in
       subst (λ j. Precedes S (slice_index_or Q k []) (slice_index_or (q ∷ Q) j [])) e
       (h (suc k) (omega (arith, lt)))
 
-  heads : (q : List ℕ) (Q : Texts) → IsOrdered (q ∷ Q) → (x : List ℕ) → Contains Q x
+  heads : (q : List ℕ) (Q : TextList) → IsOrdered (q ∷ Q) → (x : List ℕ) → Contains Q x
       → Precedes S q x
   heads q [] h x c = absurd (omega (arith, c.1))
   heads q (p ∷ Q) h x c = elim (cons_cases p Q x c) [
@@ -88,7 +86,7 @@ module _ (S : Texts) where
     | inr d ↦ onward q p x (h 0 (omega arith)) (heads p Q (ordered_tail q (p ∷ Q) h) x d)
   ]
 
-  same_first : (q r : List ℕ) (Q R : Texts) → Contains (r ∷ R) q → Contains (q ∷ Q) r
+  same_first : (q r : List ℕ) (Q R : TextList) → Contains (r ∷ R) q → Contains (q ∷ Q) r
       → IsOrdered (q ∷ Q) → IsOrdered (r ∷ R) → q ≡ r
   same_first q r Q R c d h k = elim (cons_cases r R q c) [
     | inl e ↦ sym e
@@ -98,7 +96,7 @@ module _ (S : Texts) where
     ]
   ]
 
-  same_rest : (q r : List ℕ) (Q R : Texts) → q ≡ r → IsDistinct (q ∷ Q)
+  same_rest : (q r : List ℕ) (Q R : TextList) → q ≡ r → IsDistinct (q ∷ Q)
       → ((s : List ℕ) → Contains (q ∷ Q) s → Contains (r ∷ R) s) → (s : List ℕ) → Contains Q s
       → Contains R s
   same_rest q r Q R e d f s c =
@@ -107,7 +105,7 @@ module _ (S : Texts) where
         | inr g ↦ g
       ]
 
-  one_order : (Q R : Texts) → IsDistinct Q → IsDistinct R
+  one_order : (Q R : TextList) → IsDistinct Q → IsDistinct R
       → ((s : List ℕ) → Contains Q s → Contains R s) → ((s : List ℕ) → Contains R s → Contains Q s)
       → IsOrdered Q → IsOrdered R → Q ≡ R
   one_order [] [] d e f g h k = refl
@@ -119,10 +117,10 @@ module _ (S : Texts) where
       (same_rest r q R Q (sym same) e g) (ordered_tail q Q h) (ordered_tail r R k) in
       λ i. same i ∷ rest i
 
-  among : (b : Texts) (r : List ℕ) (y : Texts) (q : List ℕ) → q ≡ r → Contains (b ++ r ∷ y) q
+  among : (b : TextList) (r : List ℕ) (y : TextList) (q : List ℕ) → q ≡ r → Contains (b ++ r ∷ y) q
   among b r y q g = Contains-append_right b (r ∷ y) q (0, omega arith, sym g)
 
-  one_front : (Q a b x y : Texts) (r : List ℕ) → IsDistinct Q → Q ≡ a ++ r ∷ x → Q ≡ b ++ r ∷ y
+  one_front : (Q a b x y : TextList) (r : List ℕ) → IsDistinct Q → Q ≡ a ++ r ∷ x → Q ≡ b ++ r ∷ y
       → a ≡ b
   one_front [] [] b x y r d e f = (let n : [] ≡ r ∷ x = e in cc)
   one_front [] (u ∷ a) b x y r d e f = (let n : [] ≡ u ∷ (a ++ r ∷ x) = e in cc)
@@ -141,13 +139,14 @@ module _ (S : Texts) where
       let k : u ≡ v = cc in
       λ i. k i ∷ one_front Q a b x y r d.1 g h i
 
-  closes_once : (Q : Texts) (r : List ℕ) (c d : ℕ) → IsDistinct Q → ClosesAt Q r c → ClosesAt Q r d
+  closes_once : (Q : TextList) (r : List ℕ) (c d : ℕ) → IsDistinct Q → ClosesAt Q r c
+      → ClosesAt Q r d
       → c ≡ d
   closes_once Q r c d u h k = h.place
       ∙ ap (λ l. sum_by size l + size r) (one_front Q h.before k.before h.after k.after r u h.is
       k.is) ∙ sym k.place
 
-  off_once : (texts : All IsUtf8 S) (Q : Texts) (u : IsDistinct Q) (s : List ℕ) (j k : ℕ)
+  off_once : (texts : All IsUtf8 S) (Q : TextList) (u : IsDistinct Q) (s : List ℕ) (j k : ℕ)
       → Off S Q s j → Off S Q s k → j ≡ k
   off_once texts Q u _ _ _ off_empty off_empty = refl
   off_once texts Q u _ _ _ off_empty (off_within l h f) = absurd (omega (arith, l.nonempty))
@@ -159,7 +158,8 @@ module _ (S : Texts) where
       omega (arith, f, e, close)
 
 -- the units, and where each text stands
-pub one_pool : (S : Texts) (us vs : List ℕ) (offset place : List ℕ → Option ℕ) → IsPlan S us offset
+pub one_pool : (S : TextList) (us vs : List ℕ) (offset place : List ℕ → Option ℕ)
+    → IsPlan S us offset
     → IsPlan S vs place → (us ≡ vs) × (offset ≡ place)
 one_pool S us vs offset place p q = (
   p.pool.units ∙ ap (λ Q. 0 ∷ flat_map record_units Q) records

@@ -26,15 +26,13 @@ use Rattle.resb_pool.specs.Pool.{Saved, Precedes, fewer_units, saves_more, small
 use Rattle.resb_pool.specs.Pool.{record_units, ClosesAt}
 use Rattle.resb_pool.specs.Inner.Placing.{AreIndexed, AreEnds, record_texts, record_cmp}
 use Rattle.resb_pool.specs.declared.records.Record.{Record}
-
-abbrev Texts : Type 0
-Texts = List (List ℕ)
+use Rattle.resb_pool.proofs.TextLists.{TextList}
 
 -- how often x stands among the texts
 abbrev one : List ℕ → List ℕ → ℕ
 one x y = cond (bytes_eq x y) 1 0
 
-abbrev often : List ℕ → Texts → ℕ
+abbrev often : List ℕ → TextList → ℕ
 often x xs = sum_by (one x) xs
 
 is_one : (x y : List ℕ) → x ≡ y → one x y ≡ 1
@@ -47,7 +45,7 @@ one_cases x y = by (bytes_eq x y) refl
     by true e = inl (ap (λ b. cond {A = ℕ} b 1 0) e, (bytes_decides x y).0 e)
     by false e = inr (ap (λ b. cond {A = ℕ} b 1 0) e)
 
-often_none : (x : List ℕ) (xs : Texts) → (Contains xs x → ⊥) → often x xs ≡ 0
+often_none : (x : List ℕ) (xs : TextList) → (Contains xs x → ⊥) → often x xs ≡ 0
 often_none x [] h = refl
 often_none x (y ∷ ys) h =
     let n = often_none x ys (λ c. h (suc c.0, omega (arith, c.1), c.2)) in
@@ -56,7 +54,7 @@ often_none x (y ∷ ys) h =
       | inr e ↦ omega (arith, sum_by-cons (one x) y ys, n, e)
     ]
 
-often_once : (x : List ℕ) (xs : Texts) → IsDistinct xs → often x xs ≤ 1
+often_once : (x : List ℕ) (xs : TextList) → IsDistinct xs → often x xs ≤ 1
 often_once x [] d = omega arith
 often_once x (y ∷ ys) d =
     let m = often_once x ys d.1 in
@@ -66,24 +64,25 @@ often_once x (y ∷ ys) d =
       | inr e ↦ omega (arith, sum_by-cons (one x) y ys, m, e)
     ]
 
-often_some : (x : List ℕ) (xs : Texts) → Contains xs x → 1 ≤ often x xs
+often_some : (x : List ℕ) (xs : TextList) → Contains xs x → 1 ≤ often x xs
 often_some x [] c = absurd (omega (arith, c.1))
 often_some x (y ∷ ys) (zero, lt, is) = omega (arith, sum_by-cons (one x) y ys, is_one x y (sym is))
 often_some x (y ∷ ys) (suc k, lt, is) =
     omega (arith, sum_by-cons (one x) y ys, often_some x ys (k, omega arith, is))
 
-once_distinct : (xs : Texts) → ((x : List ℕ) → often x xs ≤ 1) → IsDistinct xs
+once_distinct : (xs : TextList) → ((x : List ℕ) → often x xs ≤ 1) → IsDistinct xs
 once_distinct [] h = tt
 once_distinct (y ∷ ys) h = (
   λ c. omega (arith, h y, sum_by-cons (one y) y ys, often_some y ys c, is_one y y refl),
   once_distinct ys (λ x. omega (arith, h x, sum_by-cons (one x) y ys)),
 )
 
-pub distinct_permutation : (xs ys : Texts) → IsPermutation xs ys → IsDistinct xs → IsDistinct ys
+pub distinct_permutation : (xs ys : TextList) → IsPermutation xs ys → IsDistinct xs → IsDistinct ys
 distinct_permutation xs ys p d =
     once_distinct ys (λ x. omega (arith, often_once x xs d, sum_by-IsPermutation (one x) xs ys p))
 
-pub records_permutation : (S xs ys : Texts) → IsPermutation xs ys → IsRecords S xs → IsRecords S ys
+pub records_permutation : (S xs ys : TextList) → IsPermutation xs ys → IsRecords S xs
+    → IsRecords S ys
 records_permutation S xs ys p h = record {
   once = distinct_permutation xs ys p h.once;
   just = λ s. (
@@ -93,7 +92,7 @@ records_permutation S xs ys p h = record {
 }
 
 -- two neighbours of distinct texts differ
-pub neighbours_differ : (xs : Texts) (k : ℕ) → IsDistinct xs → suc k < length xs
+pub neighbours_differ : (xs : TextList) (k : ℕ) → IsDistinct xs → suc k < length xs
     → get_or xs k [] ≡ get_or xs (suc k) [] → ⊥
 neighbours_differ [] k d h e = omega arith
 neighbours_differ (x ∷ []) zero d h e = omega arith
@@ -123,7 +122,7 @@ text_order s t z h ne = by (slice_cmp nat_cmp t s) refl
     by Greater e = nat_list_cmp_total.antisymm s t ∙ ap ordering_reverse e
 
 -- of two records in order, the first precedes
-module _ (S : Texts) (x y : Record) (ux : x.unit_count ≡ length (units x.text.now))
+module _ (S : TextList) (x y : Record) (ux : x.unit_count ≡ length (units x.text.now))
     (uy : y.unit_count ≡ length (units y.text.now))
     (sx : Saved S x.text.now x.saved.0) (sy : Saved S y.text.now y.saved.0) where
   pub in_order : is_lt (record_cmp y x) ≡ false → (x.text.now ≡ y.text.now → ⊥)
@@ -155,7 +154,7 @@ module _ (S : Texts) (x y : Record) (ux : x.unit_count ≡ length (units x.text.
 one_long : length {A = ℕ} (0 ∷ []) ≡ 1
 one_long = refl
 
-pub length-records : (qs : Texts) → length (flat_map record_units qs) ≡ sum_by size qs
+pub length-records : (qs : TextList) → length (flat_map record_units qs) ≡ sum_by size qs
 length-records [] = refl
 length-records (q ∷ qs) = omega (
   arith,
@@ -279,13 +278,13 @@ so_far rs i d h =
     let g = sum_by-cons size t (record_texts (drop (suc i) rs)) in
     omega (arith, e, f, g)
 
-pub records-push : (qs : Texts) (t : List ℕ)
+pub records-push : (qs : TextList) (t : List ℕ)
     → flat_map record_units (qs ++ t ∷ []) ≡ flat_map record_units qs ++ record_units t
 records-push [] t = append-nil (record_units t)
 records-push (q ∷ qs) t = ap (λ l. record_units q ++ l) (records-push qs t)
     ∙ sym (append_assoc (record_units q) (flat_map record_units qs) (record_units t))
 
-pub texts_flat : (xs ys : Texts) → flat_map record_units (xs ++ ys) ≡ flat_map record_units xs ++
+pub texts_flat : (xs ys : TextList) → flat_map record_units (xs ++ ys) ≡ flat_map record_units xs ++
     flat_map record_units ys
 texts_flat [] ys = refl
 texts_flat (x ∷ xs) ys = ap (λ l. record_units x ++ l) (texts_flat xs ys)

@@ -1,4 +1,4 @@
--- What a turn adds to the records, and what texts that hold the same say of one another.
+-- What an iteration adds to the records, and what texts that hold the same say of one another.
 use Rattle.std.proofs.Common.{◌≡◌, ◌<◌, ℕ, List, [], ◌∷◌, ◌++◌, length, None, ◌⊎◌, inl, inr, ◌↔◌}
 use Rattle.std.proofs.Common.{sym, ap, subst, arith}
 use Rattle.std.specs.List.{Contains}
@@ -14,12 +14,10 @@ use Rattle.resb_pool.specs.Container.{IsContainer}
 use Rattle.resb_pool.specs.Inner.Placing.{text, LiesAt, AreRecordsAmong}
 use Rattle.std.proofs.lemmas.Bool.{cases_lt}
 use Rattle.resb_pool.proofs.Distinct.{distinct_push}
-
-abbrev Texts : Type 0
-Texts = List (List ℕ)
+use Rattle.resb_pool.proofs.TextLists.{TextList}
 
 -- records and containers are the same for lists that hold the same texts
-module _ (T S : Texts) (e : (s : List ℕ) → Contains T s ↔ Contains S s) where
+module _ (T S : TextList) (e : (s : List ℕ) → Contains T s ↔ Contains S s) where
   pub record_from : (s : List ℕ) → IsRecord T s → IsRecord S s
   record_from s h = record {
     given = (e s).0 h.given;
@@ -42,24 +40,24 @@ module _ (T S : Texts) (e : (s : List ℕ) → Contains T s ↔ Contains S s) wh
         λ q x. h.greatest q (record_to q x);
   }
 
-  pub records_from : (rs : Texts) → IsRecords T rs → IsRecords S rs
+  pub records_from : (rs : TextList) → IsRecords T rs → IsRecords S rs
   records_from rs h = record {
     once = h.once;
     just =
         λ s. (λ x. record_from s ((h.just s).0 x), λ x. (h.just s).1 (record_to s x));
   }
 
-module _ (S D E : Texts) (t : List ℕ) (e : E ≡ D ++ t ∷ []) where
+module _ (S D E : TextList) (t : List ℕ) (e : E ≡ D ++ t ∷ []) where
   in_more : (s : List ℕ) → Contains D s → Contains E s
-  in_more s h = subst (λ (l : Texts). Contains l s) (sym e) (Contains-append_left D (t ∷ []) s h)
+  in_more s h = subst (λ (l : TextList). Contains l s) (sym e) (Contains-append_left D (t ∷ []) s h)
 
   last_in : Contains E t
-  last_in = subst (λ (l : Texts). Contains l t) (sym e) (Contains-push D t)
+  last_in = subst (λ (l : TextList). Contains l t) (sym e) (Contains-push D t)
 
   more_cases : (s : List ℕ) → Contains E s → Contains D s ⊎ (t ≡ s)
-  more_cases s h = Contains-push_cases D t s (subst (λ (l : Texts). Contains l s) e h)
+  more_cases s h = Contains-push_cases D t s (subst (λ (l : TextList). Contains l s) e h)
 
-  module _ (rs : Texts) (h : AreRecordsAmong S D rs) where
+  module _ (rs : TextList) (h : AreRecordsAmong S D rs) where
     pub listed_keep : (IsRecord S t → Contains D t) → AreRecordsAmong S E rs
     listed_keep back = record {
       once = h.once;
@@ -89,7 +87,7 @@ module _ (S D E : Texts) (t : List ℕ) (e : E ≡ D ++ t ∷ []) where
       ];
     }
 
-pub records_all : (S rs : Texts) → AreRecordsAmong S S rs → IsRecords S rs
+pub records_all : (S rs : TextList) → AreRecordsAmong S S rs → IsRecords S rs
 records_all S rs h = record {
   once = h.once;
   just =
@@ -101,7 +99,7 @@ pub at_empty : {V H : Type 0} (m : HashMap (Bor (List ℕ)) V H) (q : List ℕ) 
 at_empty m q e = ap (lookup (λ k. bytes_eq q k.now)) e
 
 -- a text that isn't empty and lies in itself is a record
-pub lies_in_itself : (T : Texts) (i r : ℕ) → LiesAt T i r → r ≡ i → (length (text T i) ≡ 0 → ⊥)
+pub lies_in_itself : (T : TextList) (i r : ℕ) → LiesAt T i r → r ≡ i → (length (text T i) ≡ 0 → ⊥)
     → IsRecord T (text T i)
 lies_in_itself T i r at e full =
     let pos : 0 < length (text T i) = elim (cases_lt 0 (length (text T i))) [

@@ -36,9 +36,7 @@ use Rattle.resb_pool.proofs.PlacingLemmas.{record_from, container_from, records_
 use Rattle.resb_pool.proofs.SharingLemmas.{own_size, size_within}
 use Rattle.resb_pool.proofs.OrderingLemmas.{length-records, neighbours_differ, text_at_index}
 use Rattle.resb_pool.proofs.OrderingLemmas.{in_order}
-
-abbrev Texts : Type 0
-Texts = List (List ℕ)
+use Rattle.resb_pool.proofs.TextLists.{TextList}
 
 texts_len : (v : List Record) → length (record_texts v) ≡ length v
 texts_len [] = refl
@@ -53,7 +51,8 @@ size_nil =
     ap (λ us. length (cond (nat_le (length us) 40 && true) [] (length_marker (length us))) + length
     us + 1) e
 
-module _ (S T : Texts) (ms : List Measure) (given : AreTexts S T ms) (small : texts_size S < 2 ^ 28)
+module _ (S T : TextList) (ms : List Measure) (given : AreTexts S T ms)
+    (small : texts_size S < 2 ^ 28)
     (ps : List Home) (placed : AreHomes T ps) (measures : map (λ (p : Home). p.measure) ps ≡ ms)
   where
     abbrev back : (s : List ℕ) → Contains S s ↔ Contains T s

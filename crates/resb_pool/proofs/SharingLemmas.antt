@@ -15,11 +15,9 @@ use Rattle.resb_pool.specs.Records.{IsRecord}
 use Rattle.resb_pool.proofs.SuffixOrder.{end_last_total, tied_same}
 use Rattle.resb_pool.proofs.Cut.{key_same}
 use Rattle.resb_pool.proofs.Least.{units_end, size_le}
+use Rattle.resb_pool.proofs.TextLists.{TextList}
 
-abbrev Texts : Type 0
-Texts = List (List ℕ)
-
-module _ (S : Texts) (texts : All IsUtf8 S) where
+module _ (S : TextList) (texts : All IsUtf8 S) where
   pub one_container : (s r q : List ℕ) → IsContainer S s r → IsContainer S s q → r ≡ q
   one_container s r q a b =
       key_same r q (All-contains IsUtf8 S r texts a.own.given)
@@ -32,7 +30,8 @@ module _ (S : Texts) (texts : All IsUtf8 S) where
       by Greater e = absurd (b.greatest r a.own a.ends e)
 
 -- a record's own copy counts
-pub own_size : (S : Texts) (q : List ℕ) → LiesIn S q q → (ss : Texts) (n : ℕ) → SizeIn S q ss n
+pub own_size : (S : TextList) (q : List ℕ) → LiesIn S q q → (ss : TextList) (n : ℕ)
+    → SizeIn S q ss n
     → Contains ss q → size q ≤ n
 own_size S q l _ _ size_none c = absurd (omega (arith, c.1))
 own_size S q l _ _ (size_here {s = t} {ss} {n} k h) (zero, lt, is) = omega (arith, ap size is)
@@ -44,7 +43,7 @@ own_size S q l _ _ (size_elsewhere {s = t} {ss} {n} k h) (suc j, lt, is) =
     own_size S q l ss n h (j, omega arith, is)
 
 -- a text takes no more than the record in which it lies
-pub size_within : (S : Texts) → All IsUtf8 S → (s r : List ℕ) → Contains S s → IsContainer S s r
+pub size_within : (S : TextList) → All IsUtf8 S → (s r : List ℕ) → Contains S s → IsContainer S s r
     → (IsRecord S s → r ≡ s) → 0 < length s → size s ≤ size r
 size_within S texts s r c k itself pos = by (is_unmarked s) refl
   where

@@ -9,9 +9,7 @@ use Rattle.std.proofs.lemmas.List.Sums.{sum_by-cons, sum_by-append, sum_by-le-su
 use Rattle.resb_format.specs.Units.{units, marker, size, is_unmarked, length_marker}
 use Rattle.resb_pool.specs.Plan.{texts_size}
 use Rattle.resb_pool.specs.Inner.Placing.{copies}
-
-abbrev Texts : Type 0
-Texts = List (List ℕ)
+use Rattle.resb_pool.proofs.TextLists.{TextList}
 
 marked_le : (n : ℕ) → length (length_marker n) ≤ 3
 marked_le n = by (nat_le n 0x3ee) (nat_le n 0xf_ffff)
@@ -30,7 +28,7 @@ marker_le s = by (is_unmarked s)
     by true = omega arith
     by false = marked_le (length (units s))
 
-pub sizes_within : (S : Texts) → sum_by size S ≤ texts_size S
+pub sizes_within : (S : TextList) → sum_by size S ≤ texts_size S
 sizes_within S = sum_by-le-sum_by size (λ s. 16 + length (units s)) S
     (λ s. omega (arith, marker_le s))
 
@@ -55,19 +53,19 @@ copy_le t s = by (bytes_eq t s)
     by true = omega arith
     by false = omega arith
 
-pub copies-push : (D : Texts) (s t : List ℕ) → copies (D ++ s ∷ []) t ≡ copies D t + copy t s
+pub copies-push : (D : TextList) (s t : List ℕ) → copies (D ++ s ∷ []) t ≡ copies D t + copy t s
 copies-push D s t = sum_by-append (copy t) D (s ∷ []) ∙ omega arith
 
-pub copies-cons : (s t : List ℕ) (D : Texts) → copies (s ∷ D) t ≡ copy t s + copies D t
+pub copies-cons : (s t : List ℕ) (D : TextList) → copies (s ∷ D) t ≡ copy t s + copies D t
 copies-cons s t D = sum_by-cons (copy t) s D
 
-pub copies_none : (D : Texts) (t : List ℕ) → (Contains D t → ⊥) → copies D t ≡ 0
+pub copies_none : (D : TextList) (t : List ℕ) → (Contains D t → ⊥) → copies D t ≡ 0
 copies_none [] t f = refl
 copies_none (s ∷ D) t f =
     let n = copies_none D t (λ c. f (suc c.0, omega (arith, c.1), c.2)) in
     let z = copy_other t s (λ e. f (0, omega arith, sym e)) in
     omega (arith, copies-cons s t D, n, z)
 
-pub copies_within : (D : Texts) (t : List ℕ) → copies D t ≤ texts_size D
+pub copies_within : (D : TextList) (t : List ℕ) → copies D t ≤ texts_size D
 copies_within D t = sum_by-le-sum_by (copy t) (λ s. 16 + length (units s)) D
     (λ s. omega (arith, marker_le s, copy_le t s))

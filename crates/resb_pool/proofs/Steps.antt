@@ -9,7 +9,7 @@ use Rattle.resb_pool.specs.Inner.Extends.{Extends}
 use Rattle.resb_pool.specs.declared.node.Node.{Node}
 use Rattle.resb_pool.specs.Inner.Cuts.{key}
 use Rattle.resb_pool.specs.Inner.Shape.{IsShape}
-use Rattle.resb_pool.specs.Inner.Nodes.{suffix, path, ends, child, text_at, IsTrie}
+use Rattle.resb_pool.specs.Inner.Nodes.{suffix, path, ends, child, text_ending, IsTrie}
 use Rattle.resb_pool.specs.Inner.Changes.{HasChild, HasEnd, HasNode, HasText, IsKept, IsAdded}
 use Rattle.resb_pool.proofs.Extend.{ext_refl, ext_on, ext_trans, ext_longer, ext_char}
 use Rattle.resb_pool.proofs.NewNode.{IsGrown, grown, old_or_new}
@@ -46,9 +46,9 @@ kept_itself ms = record {
 -- what is nowhere before is nowhere behind
 pub kept_new : (ms ns : List Node) (t : List ℕ) → IsKept ms ns → (HasText ms t → ⊥) → HasText ns t
     → ⊥
-kept_new ms ns t h fresh x = by (text_at ns x.place) refl x.ends_here
+kept_new ms ns t h fresh x = by (text_ending ns x.place) refl x.ends_here
   where
-    by : (o : Option ℕ) → text_at ns x.place ≡ o → is_some o ≡ true → ⊥
+    by : (o : Option ℕ) → text_ending ns x.place ≡ o → is_some o ≡ true → ⊥
     by None e f = true≢false (sym f)
     by (Some y) e f =
         let g = h.from x.place y x.within e in
@@ -113,23 +113,23 @@ some_kept (Some x) P e f = f x refl
 pub end_trie : (ms ns : List Node) (i y : ℕ) (t : List ℕ) → IsTrie ms → i < length ms
     → suffix ms i ≡ t → (HasText ms t → ⊥) → HasEnd ms ns i y → IsTrie ns × IsAdded ms ns t y i
 end_trie ms ns i y t m l e fresh h =
-    let none : text_at ms i ≡ None =
-    no_text (text_at ms i) (λ f. fresh (record {
+    let none : text_ending ms i ≡ None =
+    no_text (text_ending ms i) (λ f. fresh (record {
       place = i;
       within = l;
       ends_here = f;
       is =
           e;
     })) in
-    let stays : (k x : ℕ) → k < length ms → text_at ms k ≡ Some x → text_at ns k ≡ Some x =
+    let stays : (k x : ℕ) → k < length ms → text_ending ms k ≡ Some x → text_ending ns k ≡ Some x =
     λ k x b f.
     elim (cases_eq k i) [
-      | inl q ↦ (let z : None ≡ Some x = sym none ∙ ap (text_at ms) (sym q) ∙ f in
+      | inl q ↦ (let z : None ≡ Some x = sym none ∙ ap (text_ending ms) (sym q) ∙ f in
           cc)
       | inr ne ↦ h.old k ne ∙ f
     ] in (
       trie_moved ms ns h.len m (λ k b. h.suffix_is k) (λ k c b. h.child_is k c)
-          (λ k b f. some_kept (text_at ms k) (ends ns k ≡ true) f
+          (λ k b f. some_kept (text_ending ms k) (ends ns k ≡ true) f
           (λ x g. ap is_some (stays k x b g))),
       record {
         more = omega (arith, h.len);
@@ -139,7 +139,7 @@ end_trie ms ns i y t m l e fresh h =
         here = h.new;
         to = stays;
         from = λ k x b f. elim (cases_eq k i) [
-          | inl q ↦ (let z : Some x ≡ Some y = sym f ∙ ap (text_at ns) q ∙ h.new in
+          | inl q ↦ (let z : Some x ≡ Some y = sym f ∙ ap (text_ending ns) q ∙ h.new in
               let w : x ≡ y = cc in inr (q, w))
           | inr ne ↦ inl (omega (arith, h.len), sym (h.old k ne) ∙ f)
         ];
@@ -154,16 +154,16 @@ end_trie ms ns i y t m l e fresh h =
 record IsOver (ms ns : List Node) (t : List ℕ) (o : Option ℕ) : Type 0 where
   len : length ns ≡ length ms + 1
   suffix_old : (k : ℕ) → k < length ms → suffix ns k ≡ suffix ms k
-  text_old : (k : ℕ) → k < length ms → text_at ns k ≡ text_at ms k
+  text_old : (k : ℕ) → k < length ms → text_ending ns k ≡ text_ending ms k
   suffix_new : suffix ns (length ms) ≡ t
-  text_new : text_at ns (length ms) ≡ o
+  text_new : text_ending ns (length ms) ≡ o
 
 module _ (ms ns : List Node) (t : List ℕ) (e : Option ℕ) (o : IsOver ms ns t e) where
-  over_from : (k x : ℕ) → k < length ns → text_at ns k ≡ Some x
-      → ((k < length ms) × (text_at ms k ≡ Some x)) ⊎ ((k ≡ length ms) × (e ≡ Some x))
+  over_from : (k x : ℕ) → k < length ns → text_ending ns k ≡ Some x
+      → ((k < length ms) × (text_ending ms k ≡ Some x)) ⊎ ((k ≡ length ms) × (e ≡ Some x))
   over_from k x l h = elim (old_or_new (length ms) k (omega (arith, l, o.len))) [
     | inl b ↦ inl (b, sym (o.text_old k b) ∙ h)
-    | inr q ↦ inr (q, sym o.text_new ∙ ap (text_at ns) (sym q) ∙ h)
+    | inr q ↦ inr (q, sym o.text_new ∙ ap (text_ending ns) (sym q) ∙ h)
   ]
 
   over_trie : IsTrie ms → IsUtf8 t → IsShape (length ms + 1) (path ns) (child ns) (ends ns)
@@ -222,7 +222,7 @@ leaf_trie ms ns os t y i c n m u l none h a q b =
         suffix_is = over.suffix_old;
         within = omega (arith, over.len, q);
         is = ap (suffix os) q ∙ over.suffix_new;
-        here = ap (text_at os) q ∙ over.text_new;
+        here = ap (text_ending os) q ∙ over.text_new;
         to = λ k x r f. over.text_old k r ∙ f;
         from = λ k x r f. elim (over_from ms os t (Some y) over k x r f) [
           | inl z ↦ inl z

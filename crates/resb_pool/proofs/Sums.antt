@@ -21,9 +21,7 @@ use Rattle.resb_pool.proofs.Distinct.{has_text, index_of, one_index}
 use Rattle.resb_pool.proofs.Sizes.{copy, copy_same, copy_other, copies-cons}
 use Rattle.resb_pool.proofs.PlacingLemmas.{container_from}
 use Rattle.resb_pool.proofs.SharingLemmas.{one_container}
-
-abbrev Texts : Type 0
-Texts = List (List ℕ)
+use Rattle.resb_pool.proofs.TextLists.{TextList}
 
 -- n, where a home is in q
 abbrev if_in : Home → ℕ → ℕ → ℕ
@@ -51,18 +49,18 @@ if_in_sum p q m n k e = by (nat_eq p.record q)
     by false = refl
 
 -- what the copies among ss of the texts that lie in q take
-abbrev share : ℕ → List Home → Texts → Texts → ℕ
+abbrev share : ℕ → List Home → TextList → TextList → ℕ
 share q [] T ss = 0
 share q (p ∷ ps) [] ss = 0
 share q (p ∷ ps) (t ∷ T) ss = if_in p q (copies ss t) + share q ps T ss
 
 -- the same of one string
-abbrev part : ℕ → List Home → Texts → List ℕ → ℕ
+abbrev part : ℕ → List Home → TextList → List ℕ → ℕ
 part q [] T s = 0
 part q (p ∷ ps) [] s = 0
 part q (p ∷ ps) (t ∷ T) s = if_in p q (copy t s) + part q ps T s
 
-share_all : (q : ℕ) (S : Texts) (ps : List Home) (T : Texts) → length ps ≡ length T
+share_all : (q : ℕ) (S : TextList) (ps : List Home) (T : TextList) → length ps ≡ length T
     → ((i : ℕ) (d : Home) → i < length T → (get_or ps i d).measure.total ≡ copies S (text T i))
     → lying_in ps q ≡ share q ps T S
 share_all q S [] T e h = refl
@@ -73,12 +71,12 @@ share_all q S (p ∷ ps) (t ∷ T) e h =
     ap (if_in p q) (h 0 p (omega arith)) in
     omega (arith, sum_by-cons (λ (z : Home). if_in z q z.measure.total) p ps, first, rest)
 
-share_none : (q : ℕ) (ps : List Home) (T : Texts) → share q ps T [] ≡ 0
+share_none : (q : ℕ) (ps : List Home) (T : TextList) → share q ps T [] ≡ 0
 share_none q [] T = refl
 share_none q (p ∷ ps) [] = refl
 share_none q (p ∷ ps) (t ∷ T) = omega (arith, if_in_zero p q 0 refl, share_none q ps T)
 
-share-cons : (q : ℕ) (ps : List Home) (T : Texts) (s : List ℕ) (ss : Texts)
+share-cons : (q : ℕ) (ps : List Home) (T : TextList) (s : List ℕ) (ss : TextList)
     → share q ps T (s ∷ ss) ≡ part q ps T s + share q ps T ss
 share-cons q [] T s ss = refl
 share-cons q (p ∷ ps) [] s ss = refl
@@ -89,7 +87,7 @@ share-cons q (p ∷ ps) (t ∷ T) s ss =
       share-cons q ps T s ss,
     )
 
-part_none : (q : ℕ) (ps : List Home) (T : Texts) (s : List ℕ) → (Contains T s → ⊥)
+part_none : (q : ℕ) (ps : List Home) (T : TextList) (s : List ℕ) → (Contains T s → ⊥)
     → part q ps T s ≡ 0
 part_none q [] T s f = refl
 part_none q (p ∷ ps) [] s f = refl
@@ -101,7 +99,7 @@ part_none q (p ∷ ps) (t ∷ T) s f =
     )
 
 -- a text takes part in the record in which it lies
-part_at : (q : ℕ) (ps : List Home) (T : Texts) (s : List ℕ) (j : ℕ) (d : Home)
+part_at : (q : ℕ) (ps : List Home) (T : TextList) (s : List ℕ) (j : ℕ) (d : Home)
     → length ps ≡ length T → IsDistinct T → j < length T → text T j ≡ s
     → part q ps T s ≡ if_in (get_or ps j d) q (size s)
 part_at q [] T s j d e u l h = absurd (omega (arith, e, l))
@@ -122,12 +120,12 @@ more_than_zero : (n : ℕ) → (n ≡ 0 → ⊥) → 0 < n
 more_than_zero zero f = absurd (f refl)
 more_than_zero (suc n) f = omega arith
 
-module _ (S T : Texts) (texts : All IsUtf8 S) (once : IsDistinct T) (same : (s : List ℕ)
+module _ (S T : TextList) (texts : All IsUtf8 S) (once : IsDistinct T) (same : (s : List ℕ)
     → Contains T s ↔ Contains S s) (ps : List Home) (placed : AreHomes T ps)
     (totals : (i : ℕ) (d : Home) → i < length T
     → (get_or ps i d).measure.total ≡ copies S (text T i)) where
   module _ (q : ℕ) (l : q < length T) (r : IsRecord T (text T q)) (d : Home) where
-    shares : (ss : Texts) → ((s : List ℕ) → Contains ss s → Contains T s)
+    shares : (ss : TextList) → ((s : List ℕ) → Contains ss s → Contains T s)
         → SizeIn S (text T q) ss (share q ps T ss)
     shares [] h = subst (SizeIn S (text T q) []) (sym (share_none q ps T)) size_none
     shares (s ∷ ss) h =
@@ -177,7 +175,7 @@ module _ (S T : Texts) (texts : All IsUtf8 S) (once : IsDistinct T) (same : (s :
         (shares S (λ s c. (same s).1 c))
 
 -- distinct texts have no more copies than there are strings
-none_copied : (T : Texts) (s : List ℕ) → (Contains T s → ⊥) → sum_by (λ t. copy t s) T ≡ 0
+none_copied : (T : TextList) (s : List ℕ) → (Contains T s → ⊥) → sum_by (λ t. copy t s) T ≡ 0
 none_copied [] s f = refl
 none_copied (t ∷ T) s f =
     omega (
@@ -187,7 +185,7 @@ none_copied (t ∷ T) s f =
       none_copied T s (λ c. f (suc c.0, omega (arith, c.1), c.2)),
     )
 
-once_copied : (T : Texts) (s : List ℕ) → IsDistinct T → sum_by (λ t. copy t s) T ≤ size s
+once_copied : (T : TextList) (s : List ℕ) → IsDistinct T → sum_by (λ t. copy t s) T ≤ size s
 once_copied [] s u = omega arith
 once_copied (t ∷ T) s u = by (once_copied T s u.1) (bytes_eq t s) refl
   where
@@ -212,11 +210,11 @@ once_copied (t ∷ T) s u = by (once_copied T s u.1) (bytes_eq t s) refl
       rest,
     )
 
-copies_none_in : (T : Texts) → sum_by (copies []) T ≡ 0
+copies_none_in : (T : TextList) → sum_by (copies []) T ≡ 0
 copies_none_in [] = refl
 copies_none_in (t ∷ T) = omega (arith, sum_by-cons (copies []) t T, copies_none_in T)
 
-copies_one_more : (T : Texts) (s : List ℕ) (ss : Texts)
+copies_one_more : (T : TextList) (s : List ℕ) (ss : TextList)
     → sum_by (copies (s ∷ ss)) T ≡ sum_by (λ t. copy t s) T + sum_by (copies ss) T
 copies_one_more [] s ss = refl
 copies_one_more (t ∷ T) s ss =
@@ -230,7 +228,8 @@ copies_one_more (t ∷ T) s ss =
     )
 
 -- the copies of distinct texts take no more than all strings
-pub copies_of_all : (T : Texts) (ss : Texts) → IsDistinct T → sum_by (copies ss) T ≤ sum_by size ss
+pub copies_of_all : (T : TextList) (ss : TextList) → IsDistinct T
+    → sum_by (copies ss) T ≤ sum_by size ss
 copies_of_all T [] u = omega (arith, copies_none_in T)
 copies_of_all T (s ∷ ss) u = omega (
   arith,
@@ -240,7 +239,7 @@ copies_of_all T (s ∷ ss) u = omega (
   sum_by-cons size s ss,
 )
 
-pub totals_of : (S : Texts) (ps : List Home) (T : Texts) → length ps ≡ length T
+pub totals_of : (S : TextList) (ps : List Home) (T : TextList) → length ps ≡ length T
     → ((i : ℕ) (d : Home) → i < length T → (get_or ps i d).measure.total ≡ copies S (text T i))
     → sum_by (λ (p : Home). p.measure.total) ps ≡ sum_by (copies S) T
 totals_of S [] [] e h = refl

@@ -1,4 +1,4 @@
--- Loops over texts: what a turn adds, and which text is the first that is too long.
+-- Loops over texts: what an iteration adds, and which text is the first that is too long.
 use Rattle.std.proofs.Common.{◌≡◌, ℕ, zero, suc, ◌+◌, ◌<◌, ◌≤◌, List, [], ◌∷◌, ◌++◌, Bor, length}
 use Rattle.std.proofs.Common.{get_or, take, drop, Some, None, Bool, true, false, cond, All, refl}
 use Rattle.std.proofs.Common.{sym, ◌∙◌, ap, arith}

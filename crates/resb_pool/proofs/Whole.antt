@@ -18,7 +18,7 @@ use Rattle.resb_pool.proofs.Extend.{ext_refl}
 use Rattle.resb_pool.specs.Inner.Extends.{Extends, NotAfter}
 use Rattle.resb_pool.specs.declared.node.Node.{Node}
 use Rattle.resb_pool.specs.Inner.Cuts.{key}
-use Rattle.resb_pool.specs.Inner.Nodes.{suffix, path, ends, text_at, IsTrie, IsEnd, IsTrieOf}
+use Rattle.resb_pool.specs.Inner.Nodes.{suffix, path, ends, text_ending, IsTrie, EndsAt, IsTrieOf}
 use Rattle.resb_pool.specs.Inner.Changes.{HasText, HasNode, IsAdded}
 use Rattle.resb_pool.specs.Inner.Greatest.{IsRecordAt, IsGreatestBelow}
 use Rattle.resb_pool.specs.Inner.Placing.{text, LiesAt}
@@ -56,9 +56,9 @@ module _ (T : List (List ℕ)) (ns : List Node) (es : List ℕ) (m : IsTrieOf T 
   has_of u h = subst (HasText ns) (get_or_default T h.0 [] u h.1 ∙ h.2) (has_at h.0 h.1)
 
   listed_at : (k : ℕ) → k < length ns → ends ns k ≡ true → Contains T (suffix ns k)
-  listed_at k l f = by (text_at ns k) refl f
+  listed_at k l f = by (text_ending ns k) refl f
     where
-      by : (o : Option ℕ) → text_at ns k ≡ o → is_some o ≡ true → Contains T (suffix ns k)
+      by : (o : Option ℕ) → text_ending ns k ≡ o → is_some o ≡ true → Contains T (suffix ns k)
       by None e g = absurd (true≢false (sym g))
       by (Some x) e g =
           let o = m.only k x l e in (
@@ -158,7 +158,7 @@ module _ (T : List (List ℕ)) (ns : List Node) (es : List ℕ) (m : IsTrieOf T 
 
   -- a text lies where the walk from its node ends
   pub lies_below : (x r y : ℕ) → x < length T → 0 < get_or es x 0
-      → IsGreatestBelow ns (get_or es x 0) r → text_at ns r ≡ Some y → LiesAt T x y
+      → IsGreatestBelow ns (get_or es x 0) r → text_ending ns r ≡ Some y → LiesAt T x y
   lies_below x r y l pos g here =
       let e = m.ends x l in
       let o = m.only r y g.own.within here in
@@ -172,7 +172,7 @@ module _ (T : List (List ℕ)) (ns : List Node) (es : List ℕ) (m : IsTrieOf T 
             h in
             let k : r ≡ get_or es x 0 = t.shape.once r (get_or es x 0) g.own.within e.within
             (ap key (q ∙ sym e.is)) in
-            let z : Some y ≡ Some x = sym here ∙ ap (text_at ns) k ∙ e.here in
+            let z : Some y ≡ Some x = sym here ∙ ap (text_ending ns) k ∙ e.here in
             cc;
         empty = λ z. absurd (omega (
           arith,
@@ -210,25 +210,25 @@ module _ (D : List (List ℕ)) (ns os : List Node) (es : List ℕ) (m : IsTrieOf
       ends = λ x l. elim (old_or_new (length D) x (omega (arith, l, length-append D (s ∷ [])))) [
         | inl b ↦
             let e = m.ends x b in
-            let f : IsEnd os (text D x) x (get_or es x 0) = record {
+            let f : EndsAt os (text D x) x (get_or es x 0) = record {
               within = omega (arith, e.within, a.more);
               is = a.suffix_is (get_or es x 0) e.within ∙ e.is;
               here = a.to (get_or es x 0) x e.within e.here;
             } in
-            subst (λ z. IsEnd os z x (get_or (es ++ k ∷ []) x 0))
+            subst (λ z. EndsAt os z x (get_or (es ++ k ∷ []) x 0))
             (sym (get_or_append_left D (s ∷ []) [] x b))
-            (subst (IsEnd os (text D x) x) (sym (get_or_append_left es (k ∷ []) 0 x
+            (subst (EndsAt os (text D x) x) (sym (get_or_append_left es (k ∷ []) 0 x
             (omega (arith, b, m.len)))) f)
         | inr e ↦
-            let f : IsEnd os s x k = record {
+            let f : EndsAt os s x k = record {
               within = a.within;
               is = a.is;
               here = a.here
                   ∙ ap Some (q ∙ sym e);
             } in
-            subst (λ z. IsEnd os z x (get_or (es ++ k ∷ []) x 0))
+            subst (λ z. EndsAt os z x (get_or (es ++ k ∷ []) x 0))
             (sym (get_or_push D s [] x (sym e)))
-            (subst (IsEnd os s x) (sym (get_or_push es k 0 x (m.len ∙ sym e))) f)
+            (subst (EndsAt os s x) (sym (get_or_push es k 0 x (m.len ∙ sym e))) f)
       ];
       only = λ j x l h. elim (a.from j x l h) [
         | inl g ↦
@@ -251,6 +251,6 @@ trie_none ns h = record {
   ends = λ x l. absurd (omega (arith, l));
   only = λ k x l e.
       let z : k ≡ 0 = omega (arith, l, h.len) in
-      let w : None ≡ Some x = sym h.text_new ∙ ap (text_at ns) (sym z) ∙ e in
+      let w : None ≡ Some x = sym h.text_new ∙ ap (text_ending ns) (sym z) ∙ e in
       cc;
 }

@@ -3,7 +3,7 @@
 ghost use Rattle.std.specs.Prelude.{◌≡◌, ℕ, ◌+◌, ◌<◌, List, [], ◌∷◌, ◌++◌, length, Option, Some};
 ghost use Rattle.std.specs.Prelude.{None};
 ghost use Rattle.std.specs.Prelude.{OnOk, IsTrue, true, MatchOption};
-ghost use Rattle.resb_pool.specs.Inner.Nodes.{child, ends, suffix, text_at};
+ghost use Rattle.resb_pool.specs.Inner.Nodes.{child, ends, suffix, text_ending};
 ghost use Rattle.resb_pool.specs.Inner.Changes.{HasChild, HasEnd, HasNode, IsLastChild};
 
 use crate::children::Children;
@@ -90,7 +90,7 @@ pub(crate) fn suffix_of<'a>(nodes: &Vec<Node<'a>>, at: usize) -> &'a str
 /// The index of the text that ends at node `at`, if one does.
 pub(crate) fn text_of(nodes: &Vec<Node>, at: usize) -> Option<usize>
     requires { at < length nodes.now.items }
-    ensures { result ≡ text_at nodes.now.items at }
+    ensures { result ≡ text_ending nodes.now.items at }
 {
     nodes[at].text
 }

@@ -4,7 +4,7 @@ ghost use Rattle.std.specs.Prelude.{ℕ, ◌<◌, ◌^◌, List, map, IfOk, IfEr
 ghost use Rattle.resb_pool.specs.FaultOf.{fault_of};
 ghost use Rattle.resb_pool.specs.Plan.{nows, plan_units, offset_of, texts_size, IsPlan, NotPlanned};
 ghost use Rattle.resb_pool.specs.Inner.Placing.{AreTexts, AreHomes};
-ghost use Rattle.resb_pool.specs.Inner.LaidRecords.{IsBlock, ArePlaced};
+ghost use Rattle.resb_pool.specs.Inner.LaidRecords.{IsBlock, HaveOffsets};
 
 use crate::error::BinarySerializerError;
 use crate::homes::{Home, find_homes, find_sums};
@@ -36,7 +36,7 @@ fn place(
     requires given { (strings : List (List ℕ)) × (texts_size strings < 2 ^ 28)
         × AreTexts strings (nows texts.now) measures.now }
     ensures { IfOk result (λ p.
-        ArePlaced (nows texts.now) measures.now p.0.items p.1.items) }
+        HaveOffsets (nows texts.now) measures.now p.0.items p.1.items) }
 {
     let homes = find_homes(alloc, texts, measures)?;
     let block = lay_records(alloc, texts, &homes)?;

@@ -6,7 +6,8 @@ use Rattle.std.specs.declared.cmp.Ordering.{Ordering}
 use Rattle.resb_read.specs.Places.{Place}
 use Rattle.resb_read.specs.Sequences.{ReadsPairs, CountsPairs, put_each}
 use Rattle.resb_read.specs.Reading.{LacksOrMemory}
-use Rattle.resb_read.specs.Access.{Entries, EntersOver, EntersAfter, Enters, ReadsPair, CountsPair}
+use Rattle.resb_read.specs.Access.{EntryAccess, EntersOver, EntersAfter, Enters, ReadsPair}
+use Rattle.resb_read.specs.Access.{CountsPair}
 use Rattle.resb_read.specs.Inner.Front.{FrontPairs}
 use Rattle.resb_read.specs.TypeLaws.{pairs_counted}
 use Rattle.resb_format.specs.declared.error.ReadingError.{ReadingError}
@@ -55,7 +56,7 @@ module _ (ck cv : Place → ℕ → Type 0) (ok : (p : Place) (m n : ℕ) → ck
 
 module _ {K X : Type 0} (rk : Place → K → ℕ → Type 0) (ck : Place → ℕ → Type 0)
     (rv : Place → X → ℕ → Type 0) (cv : Place → ℕ → Type 0) where
-  enters_over_some : (rest : List (Place × Place)) (left : ℕ) (new : Entries) (left' : ℕ)
+  enters_over_some : (rest : List (Place × Place)) (left : ℕ) (new : EntryAccess) (left' : ℕ)
       (x : K × X)
       → EntersOver rk ck rv cv rest left new left' (Ok (Some x))
       → (p : Place × Place) × (rest ≡ p ∷ new.rest) × (new.failed ≡ None) × (n : ℕ)
@@ -64,7 +65,7 @@ module _ {K X : Type 0} (rk : Place → K → ℕ → Type 0) (ck : Place → �
   enters_over_some (p ∷ ps) left new left' x (e, n, r, s) =
       (p, ap (λ a. p ∷ a.rest) (sym e), ap (λ a. a.failed) e, n, r, s)
 
-  enters_over_err : (rest : List (Place × Place)) (left : ℕ) (new : Entries) (left' : ℕ)
+  enters_over_err : (rest : List (Place × Place)) (left : ℕ) (new : EntryAccess) (left' : ℕ)
       (d : ReadingError)
       → EntersOver rk ck rv cv rest left new left' (Err d)
       → (p : Place × Place) × (ps : List (Place × Place)) × (rest ≡ p ∷ ps) × (left' ≤ left)
@@ -72,7 +73,7 @@ module _ {K X : Type 0} (rk : Place → K → ℕ → Type 0) (ck : Place → �
   enters_over_err [] left new left' d h = absurd h
   enters_over_err (p ∷ ps) left new left' d (e, s, r) = (p, ps, refl, s, r)
 
-  pub enters_some : (old : Entries) (left : ℕ) (new : Entries) (left' : ℕ) (x : K × X)
+  pub enters_some : (old : EntryAccess) (left : ℕ) (new : EntryAccess) (left' : ℕ) (x : K × X)
       → old.failed ≡ None → Enters rk ck rv cv old left new left' (Ok (Some x))
       → (p : Place × Place) × (old.rest ≡ p ∷ new.rest) × (new.failed ≡ None) × (n : ℕ)
       × ReadsPair rk rv p x n × (left' + n ≡ left)
@@ -80,7 +81,7 @@ module _ {K X : Type 0} (rk : Place → K → ℕ → Type 0) (ck : Place → �
       enters_over_some old.rest left new left' x
       (subst (λ f. EntersAfter rk ck rv cv f old left new left' (Ok (Some x))) none h)
 
-  pub enters_err : (old : Entries) (left : ℕ) (new : Entries) (left' : ℕ) (d : ReadingError)
+  pub enters_err : (old : EntryAccess) (left : ℕ) (new : EntryAccess) (left' : ℕ) (d : ReadingError)
       → old.failed ≡ None → Enters rk ck rv cv old left new left' (Err d)
       → (p : Place × Place) × (ps : List (Place × Place)) × (old.rest ≡ p ∷ ps) × (left' ≤ left)
       × LacksOrMemory (CountsPair ck cv p) left d
@@ -88,8 +89,9 @@ module _ {K X : Type 0} (rk : Place → K → ℕ → Type 0) (ck : Place → �
       enters_over_err old.rest left new left' d
       (subst (λ f. EntersAfter rk ck rv cv f old left new left' (Err d)) none h)
 
-  module _ (cmp : K → K → Ordering) (all : List (Place × Place)) (old : Entries) (m : List (K × X))
-      (before left : ℕ) (new : Entries) (left' : ℕ) (ok : old.failed ≡ None)
+  module _ (cmp : K → K → Ordering) (all : List (Place × Place)) (old : EntryAccess)
+      (m : List (K × X))
+      (before left : ℕ) (new : EntryAccess) (left' : ℕ) (ok : old.failed ≡ None)
       (f : FrontPairs cmp rk rv all old.rest m before left) where
     pub front_enters : (k : K) (x : X) → Enters rk ck rv cv old left new left' (Ok (Some (k, x)))
         → (new.failed ≡ None)

@@ -3,7 +3,7 @@ use Rattle.std.proofs.Common.{ℕ, ◌≡◌, ◌≤◌, ◌∷◌, List, Some, 
 use Rattle.resb_format.specs.declared.error.ReadingError.{ReadingError}
 use Rattle.resb_read.specs.Places.{Place}
 use Rattle.resb_read.specs.Reading.{LacksOrMemory}
-use Rattle.resb_read.specs.Access.{Access, Steps, Entries, Enters, CountsPair}
+use Rattle.resb_read.specs.Access.{Access, Steps, EntryAccess, Enters, CountsPair}
 
 abbrev pub members_stop : ReadingError → List Place → Access
 members_stop e ps = record { rest = ps; failed = Some e }
@@ -16,11 +16,11 @@ pub member_fails : {X : Type 0} (reads : Place → X → ℕ → Type 0) (counts
 member_fails reads counts old new p ps left left' e whole rest stopped falls lacks =
     rw (whole, rest) (stopped, falls, lacks)
 
-abbrev pub entries_stop : ReadingError → List (Place × Place) → Entries
+abbrev pub entries_stop : ReadingError → List (Place × Place) → EntryAccess
 entries_stop e ps = record { rest = ps; failed = Some e }
 
 pub entry_fails : {K X : Type 0} (rk : Place → K → ℕ → Type 0) (ck : Place → ℕ → Type 0)
-    (rv : Place → X → ℕ → Type 0) (cv : Place → ℕ → Type 0) (old new : Entries)
+    (rv : Place → X → ℕ → Type 0) (cv : Place → ℕ → Type 0) (old new : EntryAccess)
     (p : Place × Place) (ps : List (Place × Place)) (left left' : ℕ) (e : ReadingError)
     → old.failed ≡ None → old.rest ≡ p ∷ ps → new ≡ entries_stop e (p ∷ ps)
     → left' ≤ left → LacksOrMemory (CountsPair ck cv p) left e

@@ -51,7 +51,7 @@ abbrev pub StepsTo : Access → Access → Result (Option Cursor) ReadingError �
 StepsTo old new result = StepsToAfter old.failed old new result
 
 -- an access to the entries of a map
-pub record Entries : Type 0 where
+pub record EntryAccess : Type 0 where
   pub rest : List (Place × Place)
   pub failed : Option ReadingError
 
@@ -66,7 +66,7 @@ ReadsPair key value p e n = (a : ℕ) × (b : ℕ) × key p.0 e.0 a × value p.1
 -- one step over the entries: the key and then the value at the first of them, or the error again
 module _ {K X : Type 0} (rk : Place → K → ℕ → Type 0) (ck : Place → ℕ → Type 0)
     (rv : Place → X → ℕ → Type 0) (cv : Place → ℕ → Type 0) where
-  abbrev pub EntersOver : List (Place × Place) → ℕ → Entries → ℕ
+  abbrev pub EntersOver : List (Place × Place) → ℕ → EntryAccess → ℕ
       → Result (Option (K × X)) ReadingError → Type 0
   EntersOver [] left new left' (Ok None) =
       (new ≡ record { rest = []; failed = None }) × (left' ≡ left)
@@ -80,16 +80,17 @@ module _ {K X : Type 0} (rk : Place → K → ℕ → Type 0) (ck : Place → �
       (new ≡ record { rest = p ∷ ps; failed = Some e }) × (left' ≤ left)
       × LacksOrMemory (CountsPair ck cv p) left e
 
-  abbrev pub EntersAfter : Option ReadingError → Entries → ℕ → Entries → ℕ
+  abbrev pub EntersAfter : Option ReadingError → EntryAccess → ℕ → EntryAccess → ℕ
       → Result (Option (K × X)) ReadingError → Type 0
   EntersAfter (Some e) old left new left' result = (result ≡ Err e) × (new ≡ old) × (left' ≡ left)
   EntersAfter None old left new left' result = EntersOver old.rest left new left' result
 
-  abbrev pub Enters : Entries → ℕ → Entries → ℕ → Result (Option (K × X)) ReadingError → Type 0
+  abbrev pub Enters : EntryAccess → ℕ → EntryAccess → ℕ → Result (Option (K × X)) ReadingError
+      → Type 0
   Enters old left new left' result = EntersAfter old.failed old left new left' result
 
 -- one step to the first of the entries
-abbrev pub EntersToFirst : List (Place × Place) → Entries
+abbrev pub EntersToFirst : List (Place × Place) → EntryAccess
     → Result (Option (Cursor × Cursor)) ReadingError → Type 0
 EntersToFirst [] new (Ok None) = new ≡ record { rest = []; failed = None }
 EntersToFirst [] new (Ok (Some c)) = ⊥
@@ -99,10 +100,11 @@ EntersToFirst (p ∷ ps) new (Ok (Some c)) =
     (new ≡ record { rest = ps; failed = None }) × (place_of c.0 ≡ p.0) × (place_of c.1 ≡ p.1)
 EntersToFirst (p ∷ ps) new (Err e) = ⊥
 
-abbrev pub EntersToAfter : Option ReadingError → Entries → Entries
+abbrev pub EntersToAfter : Option ReadingError → EntryAccess → EntryAccess
     → Result (Option (Cursor × Cursor)) ReadingError → Type 0
 EntersToAfter (Some e) old new result = (result ≡ Err e) × (new ≡ old)
 EntersToAfter None old new result = EntersToFirst old.rest new result
 
-abbrev pub EntersTo : Entries → Entries → Result (Option (Cursor × Cursor)) ReadingError → Type 0
+abbrev pub EntersTo : EntryAccess → EntryAccess → Result (Option (Cursor × Cursor)) ReadingError
+    → Type 0
 EntersTo old new result = EntersToAfter old.failed old new result

@@ -8,7 +8,7 @@ ghost use Rattle.resb_read.specs.Access.{EntersTo, Enters, ReadsPair, CountsPair
 ghost use Rattle.resb_read.specs.Reading.{LacksOrMemory};
 ghost use Rattle.resb_walk.specs.Damage.{Says};
 ghost use Rattle.resb_walk.specs.Files.{parts_in};
-ghost use Rattle.resb_walk.specs.Inner.Members.{pairs_of};
+ghost use Rattle.resb_walk.specs.Inner.Members.{keyed_members};
 ghost use Rattle.resb_read.specs.Refused.{entries_fault, entries_refusal};
 
 use crate::cursor::{Cursor, Spot};
@@ -32,10 +32,10 @@ pub struct MapAccess<'de, 'm> {
 }
 
 impl<'de, 'm> Model for MapAccess<'de, 'm> {
-    ghost use Rattle.resb_read.specs.Access.{Entries};
+    ghost use Rattle.resb_read.specs.Access.{EntryAccess};
     ghost use Rattle.resb_read.specs.Inner.Items.{entry_places};
 
-    ghost Value = { Entries };
+    ghost Value = { EntryAccess };
 
     ghost view = { λ s. record { rest = entry_places s.file s.rest; failed = s.failed } };
 }
@@ -145,7 +145,7 @@ fn read_pair<'de, 'm, K: Deserialize<'de>, T: Deserialize<'de>>(
 #[inline(always)]
 fn entries_at<'de>(file: File<'de>, word: u32) -> Result<Pairs<'de>, BinaryDeserializerError>
     ensures { let entries = sequences.entries_in (parts_in file.entry) word in
-        MatchResult result (λ r. entries ≡ Some (pairs_of r))
+        MatchResult result (λ r. entries ≡ Some (keyed_members r))
         (λ e. (entries ≡ None) × Says (entries_fault word) e) }
 {
     match readable(word)?.0 {

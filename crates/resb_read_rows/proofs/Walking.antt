@@ -5,7 +5,7 @@ use Rattle.std.specs.Prelude.{codes}
 use Rattle.resb_format.specs.declared.error.ReadingError.{ReadingError}
 use Rattle.resb_read.specs.Places.{Place, place_of}
 use Rattle.resb_read.specs.Reading.{LacksOrMemory}
-use Rattle.resb_read.specs.Access.{Entries, EntersToFirst, EntersToAfter, EntersTo}
+use Rattle.resb_read.specs.Access.{EntryAccess, EntersToFirst, EntersToAfter, EntersTo}
 use Rattle.resb_read.specs.Sequences.{entries}
 use Rattle.resb_read.specs.declared.cursor.Cursor.{Cursor}
 use Rattle.resb_read_rows.specs.Fields.{Entry, CountsField, CountsFirst, CountsBoth}
@@ -15,7 +15,7 @@ same_pair : {A B : Type 0} (p : A × B) (x : A) (y : B) → x ≡ p.0 → y ≡ 
 same_pair p x y a b = rw (a, b) refl
 
 -- the first of the entries is stepped over
-pub entered : (rest : List Entry) (new : Entries) (k v : Cursor)
+pub entered : (rest : List Entry) (new : EntryAccess) (k v : Cursor)
     → EntersToFirst rest new (Ok (Some (k, v)))
     → (rest ≡ (place_of k, place_of v) ∷ new.rest) × (new.failed ≡ None)
 entered [] new k v h = absurd h
@@ -24,7 +24,7 @@ entered (p ∷ ps) new k v (e, a, b) =
     let same = same_pair p (place_of k) (place_of v) a b in
     (ap (λ q. q ∷ ps) same ∙ ap (λ r. (place_of k, place_of v) ∷ r) later, ap (λ s. s.failed) e)
 
-pub entered_after : (old new : Entries) (k v : Cursor) → old.failed ≡ None
+pub entered_after : (old new : EntryAccess) (k v : Cursor) → old.failed ≡ None
     → EntersTo old new (Ok (Some (k, v)))
     → (old.rest ≡ (place_of k, place_of v) ∷ new.rest) × (new.failed ≡ None)
 entered_after old new k v none h =

@@ -26,7 +26,7 @@ use Rattle.resb_text.specs.declared.items.Item as code
 use Rattle.resb_text.specs.declared.frames.Frame as frames
 use Rattle.resb_text.specs.declared.frames.Open as opens
 use Rattle.resb_grammar.specs.Inner.Half.{half}
-use Rattle.resb_text.specs.Inner.Frames.{IsTableWhole, ClosesTo, body_of, lists}
+use Rattle.resb_text.specs.Inner.Frames.{IsTableWhole, ClosesTo, body_named, lists}
 use Rattle.resb_text.specs.Inner.Frames.{looks, look_of, looks_of, frames_in, Look, Shows, AreOpen}
 use Rattle.resb_text.specs.Inner.Frames.{tree_shown_in, left_after, Layer, layer}
 use Rattle.resb_text.specs.Inner.Frames.{Holds, none}
@@ -74,7 +74,8 @@ dropped_same k l e g = ap (λ ds. slice_index_or ds.items g false) e
 pub shows_string : (c d : opens.Open) (o : machine.Open) (term : CodeTerm) (s : List ℕ)
     → (x : Shows c o) → shown_term term false ≡ string_shown s false
     → Pushes c.frame d.frame term → d.around.items ≡ c.around.items
-    → lists (body_of c.frame.body) ≡ true → left d.keys ≡ left c.keys ++ cand s c.frame.number ∷ []
+    → lists (body_named c.frame.body) ≡ true
+    → left d.keys ≡ left c.keys ++ cand s c.frame.number ∷ []
     → d.keys.is_dropped ≡ c.keys.is_dropped → Shows d (with_term (string_term s) o)
 shows_string c d o term s x is push a ls e ds =
     let number : c.frame.number ≡ x.number = ap (λ (l : Look). l.number) x.frame in
@@ -99,7 +100,7 @@ shows_string c d o term s x is push a ls e ds =
 pub shows_item : (c d : opens.Open) (o : machine.Open) (term : CodeTerm) (s : List ℕ)
     → (x : Shows c o) → shown_term term false ≡ string_shown s false
     → Pushes c.frame d.frame term → d.around.items ≡ c.around.items
-    → lists (body_of c.frame.body) ≡ false → d.keys ≡ c.keys
+    → lists (body_named c.frame.body) ≡ false → d.keys ≡ c.keys
     → Shows d (with_term (string_term s) o)
 shows_item c d o term s x is push a ls e =
     shows_term c d o (string_term s) term x is push a
@@ -147,11 +148,11 @@ shows_root c title e n d a l = record {
 
 -- an open group within
 pub shows_open : (c d : opens.Open) (o : machine.Open) (b : bodies.Body) → (x : Shows c o)
-    → looks d.frame ≡ look_of (layer (groups c.keys) (new_frame (body_of b)))
+    → looks d.frame ≡ look_of (layer (groups c.keys) (new_frame (body_named b)))
     → d.around.items ≡ c.around.items ++ c.frame ∷ []
     → left d.keys ≡ left c.keys → groups d.keys ≡ groups c.keys + 1
     → ((g : ℕ) → is_dropped_in d.keys g ≡ is_dropped_in c.keys g)
-    → is_dropped_in c.keys (groups c.keys) ≡ false → Shows d (machine.within (body_of b) o)
+    → is_dropped_in c.keys (groups c.keys) ≡ false → Shows d (machine.within (body_named b) o)
 shows_open c d o b x e a l g ds fresh = record {
   number = groups c.keys;
   around = layer x.number o.frame ∷ x.around;
@@ -163,9 +164,9 @@ shows_open c d o b x e a l g ds fresh = record {
   holds =
       subst
       (λ (cs : List Numbered). Holds
-      (layer (groups c.keys) (new_frame (body_of b)) ∷ layer x.number o.frame ∷ x.around) cs)
+      (layer (groups c.keys) (new_frame (body_named b)) ∷ layer x.number o.frame ∷ x.around) cs)
       (sym l)
-      (holds_new (groups c.keys) (body_of b) (layer x.number o.frame ∷ x.around)
+      (holds_new (groups c.keys) (body_named b) (layer x.number o.frame ∷ x.around)
       (left c.keys) x.holds x.within);
   within = λ h le. ap (without h) l ∙ x.within h (omega (arith, g)) ∙ sym l;
   are_open = (
@@ -334,7 +335,7 @@ shows_comma c d o x y k s lt last xs no_comma ys b n i t a e = go o.frame.items 
             frame =
                 same_look (looks d.frame)
                 (look_of (layer s.number (comma_frame o.frame v.term vs)))
-                (ap body_of b ∙ ap (λ (l : Look). l.body) s.frame)
+                (ap body_named b ∙ ap (λ (l : Look). l.body) s.frame)
                 (ap (map shown) i
                 ∙ map_set_shown c.frame.items.items k
                 (record { term = y.term; comma = true })

@@ -1,9 +1,10 @@
 -- What a reader makes of resources, one more at the end.
-use Rattle.std.proofs.Common.{ℕ, List, [], ◌∷◌, ◌++◌, ◌≡◌, ◌&&◌, Bool, true, false, refl, ap}
+use Rattle.std.proofs.Common.{ℕ, List, [], ◌∷◌, ◌++◌, ◌≡◌, true, refl, ap}
 use Rattle.std.proofs.Common.{◌∙◌, nat_cmp}
 use Rattle.std.specs.declared.cmp.Ordering.{Ordering}
 use Rattle.std.specs.declared.cmp.Ordering.TheVariants.{Less, Equal, Greater}
 use Rattle.std.specs.Ordering.{match_ordering}
+use Rattle.std.proofs.lemmas.Bool.{and_parts, and_from}
 use Rattle.std.specs.BTreeMap.{insert_entry}
 use Rattle.std.specs.Cmp.Lexicographic.{slice_cmp}
 use Rattle.resb_tree.specs.Tree.{Tree, Entries, put, put_all, map_of, no_entries}
@@ -28,40 +29,29 @@ put_snoc es ps k r e =
     sym_of : {a b : Entries} → a ≡ b → b ≡ a
     sym_of e = cc
 
-and_both : {a b : Bool} → (a && b) ≡ true → (a ≡ true) × (b ≡ true)
-and_both {a} {b} h = by_cases a b h
-  where
-    by_cases : (a b : Bool) → (a && b) ≡ true → (a ≡ true) × (b ≡ true)
-    by_cases true true h = (refl, refl)
-    by_cases true false h = absurd (cc)
-    by_cases false b h = absurd (cc)
-
-both_and : {a b : Bool} → a ≡ true → b ≡ true → (a && b) ≡ true
-both_and h k = rw (h, k) refl
-
 -- one more resource that copies nothing
 pub borrow_snoc : (rs : List Resource) (r : Resource) → all_borrow rs ≡ true → borrows r ≡ true
     → all_borrow (rs ++ r ∷ []) ≡ true
-borrow_snoc [] r h k = both_and k refl
+borrow_snoc [] r h k = and_from _ _ k refl
 borrow_snoc (s ∷ rs) r h k =
-    let (first, later) = and_both h in both_and first (borrow_snoc rs r later k)
+    let (first, later) = and_parts _ _ h in and_from _ _ first (borrow_snoc rs r later k)
 
 -- one more entry whose value copies nothing
 pub borrow_put : (es : List (List ℕ × Resource)) (k : List ℕ) (r : Resource)
     → entries_borrow es ≡ true → borrows r ≡ true
     → entries_borrow (insert_entry (slice_cmp nat_cmp) es k r) ≡ true
-borrow_put [] k r h b = both_and b refl
+borrow_put [] k r h b = and_from _ _ b refl
 borrow_put (e ∷ es) k r h b =
-    let (first, later) = and_both h in
+    let (first, later) = and_parts _ _ h in
     placed (slice_cmp nat_cmp k e.0) (borrow_put es k r later b) first later
   where
     placed : (o : Ordering) → entries_borrow (insert_entry (slice_cmp nat_cmp) es k r) ≡ true
         → borrows e.1 ≡ true → entries_borrow es ≡ true
         → entries_borrow (match_ordering o ((k, r) ∷ e ∷ es) ((e.0, r) ∷ es)
         (e ∷ insert_entry (slice_cmp nat_cmp) es k r)) ≡ true
-    placed Less rest first later = both_and b (both_and first later)
-    placed Equal rest first later = both_and b later
-    placed Greater rest first later = both_and first rest
+    placed Less rest first later = and_from _ _ b (and_from _ _ first later)
+    placed Equal rest first later = and_from _ _ b later
+    placed Greater rest first later = and_from _ _ first rest
 
 -- one more entry of a table
 pub put_made : (es : List (List ℕ × Resource)) (ps : List (List ℕ × Tree)) (k : List ℕ)

@@ -12,7 +12,7 @@ use Rattle.resb_walk.specs.Damage.{key_damage}
 use Rattle.resb_walk.specs.Meets.{Meets, meets_text, meets_word, meets_list, meets_key}
 use Rattle.resb_walk.specs.Meets.{meets_entry}
 use Rattle.resb_walk.specs.Inner.Frames.{Waits, OpenedTable}
-use Rattle.resb_walk.specs.Inner.Members.{members_of, pairs_of}
+use Rattle.resb_walk.specs.Inner.Members.{members_of, keyed_members}
 use Rattle.resb_walk.specs.declared.file.Pairs.{Pairs}
 use Rattle.resb_walk.specs.declared.frame.Open.{Open}
 use Rattle.resb_walk.specs.declared.frame.Waiting.{Waiting}
@@ -123,7 +123,7 @@ module _ (p : Parts) where
   waits_meets lists tables (waiting.List rest made) w n x g h i =
       meets_list (members_of rest) h.stands h.each i
   waits_meets lists tables (waiting.Table rest made key) w n x g h i =
-      meets_entry h.place (pairs_of rest) h.stands h.each h.keyed i
+      meets_entry h.place (keyed_members rest) h.stands h.each h.keyed i
 
   pub chain_meets : {L T : Type 0} (lists : L → List Tree → Type 0)
       (tables : T → List (List ℕ × Tree) → Type 0) {w v s : ℕ} {fs : List (Waiting L T)}
@@ -137,11 +137,11 @@ module _ (p : Parts) where
   pub table_meets : {L T : Type 0} (lists : L → List Tree → Type 0)
       (tables : T → List (List ℕ × Tree) → Type 0) (rest later : Pairs) (k : ℕ) (x : Member)
       (made : T) (w n : ℕ)
-      → OpenedTable lists tables p rest made w n → pairs_of rest ≡ (k, x) ∷ pairs_of later
+      → OpenedTable lists tables p rest made w n → keyed_members rest ≡ (k, x) ∷ keyed_members later
       → key_at p.keys k ≡ None → Meets p (word w) (key_damage p.keys k)
   table_meets lists tables rest later k x made w n h e none =
       let stands = h.stands ∙ ap (λ es. Some (pairs (h.done ++ es))) e in
-      meets_key k x (pairs_of later) stands h.each none
+      meets_key k x (keyed_members later) stands h.each none
 
   pub round_meets : {L T : Type 0} (lists : L → List Tree → Type 0)
       (tables : T → List (List ℕ × Tree) → Type 0) (root before : ℕ) (fs : List (Waiting L T))

@@ -5,6 +5,7 @@ use Rattle.std.proofs.Common.{min, ℕ, List, [], ◌∷◌, ◌≡◌}
 use Rattle.std.proofs.Common.{Bool, true, false, length, get_or, Some, None}
 use Rattle.std.proofs.Common.{refl, sym, ap, ◌∙◌, arith}
 use Rattle.std.specs.Prelude.{not}
+use Rattle.std.proofs.lemmas.Bool.{not-true, not-false}
 use Rattle.std.proofs.lemmas.List.{length-map}
 use Rattle.std.specs.Char.Utf16.{has_unpaired_surrogate}
 use Rattle.resb_format.specs.Bytes.{units_of}
@@ -17,25 +18,17 @@ use Rattle.resb_format.specs.declared.error.ReadingError.{ReadingError}
 use Rattle.resb_format.specs.Strings.{text_at, string_at}
 use Rattle.resb_walk.specs.Inner.Members.{text_of_bytes}
 
-not_true : (b : Bool) → true ≡ not b → b ≡ false
-not_true true h = cc
-not_true false h = refl
-
-not_false : (b : Bool) → false ≡ not b → b ≡ true
-not_false true h = refl
-not_false false h = cc
-
 pub text_some : (block : List ℕ) (u : ℕ) (bs : List ℕ) → string_at block u ≡ Some (units_of bs)
     → true ≡ not (has_unpaired_surrogate (units_of bs)) → text_at block u ≡ Some (text_of_bytes bs)
 unfolding text_at
 text_some block u bs e h =
-    let g : has_unpaired_surrogate (units_of bs) ≡ false = not_true _ h in rw (e, g) refl
+    let g : has_unpaired_surrogate (units_of bs) ≡ false = not-true _ (sym h) in rw (e, g) refl
 
 pub text_unpaired : (block : List ℕ) (u : ℕ) (bs : List ℕ) → string_at block u ≡ Some (units_of bs)
     → false ≡ not (has_unpaired_surrogate (units_of bs)) → text_at block u ≡ None
 unfolding text_at
 text_unpaired block u bs e h =
-    let g : has_unpaired_surrogate (units_of bs) ≡ true = not_false _ h in rw (e, g) refl
+    let g : has_unpaired_surrogate (units_of bs) ≡ true = not-false _ (sym h) in rw (e, g) refl
 
 pub text_none : (block : List ℕ) (u : ℕ) → string_at block u ≡ None → text_at block u ≡ None
 unfolding text_at

@@ -7,7 +7,7 @@ use Rattle.resb_format.specs.Parts.{Parts}
 use Rattle.resb_format.specs.Content.{Member, word}
 use Rattle.resb_format.specs.Denotes.{Den, DenMember, Reaches, ReachesMember}
 use Rattle.resb_walk.specs.Inner.Frames.{Opened, Waits}
-use Rattle.resb_walk.specs.Inner.Rounds.{Enters, Puts}
+use Rattle.resb_walk.specs.Inner.Rounds.{PutsOrOpens, Puts}
 use Rattle.resb_walk.specs.Refusals.{DenotesNothing, Refuses, IsFault}
 use Rattle.resb_walk.specs.declared.frame.Open.{Open}
 use Rattle.resb_walk.specs.declared.frame.Waiting.{Waiting}
@@ -37,14 +37,14 @@ module _ {L T : Type 0} (lists : L → List Tree → Type 0)
   -- a member that is put in is entered
   pub put_enters : (g : Waiting L T) (x : Member) (w n : ℕ) (fs : List (Waiting L T))
       (left left' : ℕ) (r : Result (Open L T) ReadingError) → left' + 1 ≡ left
-      → Puts lists tables p w (n + 1) r → Enters lists tables p g x w n fs fs left left' r
+      → Puts lists tables p w (n + 1) r → PutsOrOpens lists tables p g x w n fs fs left left' r
   put_enters g x w n fs left left' (Ok o) s h = (s, inl (refl, h))
   put_enters g x w n fs left left' (Err e) s h = (omega (arith, s), inl h)
 
   -- to enter a member is a step towards the end
   pub enters_falls : (g : Waiting L T) (x : Member) (o : Open L T) (w n : ℕ)
       (fs gs : List (Waiting L T)) (left left' : ℕ)
-      → Enters lists tables p g x w n fs gs left left' (Ok o)
+      → PutsOrOpens lists tables p g x w n fs gs left left' (Ok o)
       → 2 * left' + length gs < 2 * left + length fs
   enters_falls g x o w n fs gs left left' (s, inl (same, put)) =
       let long = ap length same in omega (arith, s, long)
@@ -116,7 +116,7 @@ module _ {L T : Type 0} (lists : L → List Tree → Type 0)
     pub round_enters : (g : Waiting L T) (x : Member) (o : Open L T) (gs : List (Waiting L T))
         (left' : ℕ)
         → Waits lists tables p g round.place x round.inner
-        → Enters lists tables p g x round.place round.inner fs gs left left' (Ok o)
+        → PutsOrOpens lists tables p g x round.place round.inner fs gs left left' (Ok o)
         → Round lists tables p root before gs o left'
     round_enters g x o gs left' h (s, inl (same, put)) =
         subst (λ hs. Round lists tables p root before hs o left') (sym same)

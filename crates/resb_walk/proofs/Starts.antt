@@ -8,7 +8,7 @@ use Rattle.resb_format.specs.Denotes.{DenMember, den_word, den_unit, den_leaf}
 use Rattle.resb_format.specs.Strings.{text_at}
 use Rattle.resb_walk.specs.Inner.MemberContent.{member_content, member_damage}
 use Rattle.resb_walk.specs.Inner.Members.{content_of, leaf_tree}
-use Rattle.resb_walk.specs.Inner.Rounds.{Starts, Reads}
+use Rattle.resb_walk.specs.Inner.Rounds.{Starts, ReadsMember}
 use Rattle.resb_walk.specs.Meets.{Meets, meets_text, meets_word}
 use Rattle.resb_walk.specs.declared.file.Standing.{Standing}
 use Rattle.resb_walk.specs.declared.frame.Open.TheVariants as open_
@@ -39,7 +39,7 @@ module _ {X L T : Type 0} (is : X → Tree → Type 0) (lists : L → List Tree 
     (tables : T → List (List ℕ × Tree) → Type 0) (p : Parts) where
   pub started : (m : Member) (s : Standing) (r : Read X L T) (left left' : ℕ)
       → member_content p m ≡ Some (content_of s) → Starts is lists tables s r → left' + 1 ≡ left
-      → Reads is lists tables p m left left' (Ok r)
+      → ReadsMember is lists tables p m left left' (Ok r)
   started (word w) s (Made x) left left' e h paid =
       let stands = subst (λ v. content p w ≡ Some (content_of v)) h.1 e in
       (leaf_tree h.0, den_word (den_leaf stands), h.2, paid)

@@ -9,7 +9,7 @@ use Rattle.resb_format.specs.Denotes.{Den, den_list, den_pairs, DenMember, each_
 use Rattle.resb_format.specs.Denotes.{pairs_none, Reaches, reaches_list, reaches_pairs}
 use Rattle.resb_format.specs.Denotes.{ReachesMember, each_here}
 use Rattle.resb_format.specs.Denotes.{pairs_here}
-use Rattle.resb_walk.specs.Inner.Members.{members_of, pairs_of}
+use Rattle.resb_walk.specs.Inner.Members.{members_of, keyed_members}
 use Rattle.resb_walk.specs.Inner.Frames.{OpenedList, OpenedTable, ListWaits, TableWaits}
 use Rattle.resb_walk.specs.Inner.Frames.{Waits}
 use Rattle.resb_walk.specs.Refusals.{DenotesNothing, Refuses}
@@ -31,7 +31,8 @@ module _ {L T : Type 0} (lists : L → List Tree → Type 0)
   list_begins rest made w e h =
       record { done = []; trees = []; stands = e; each = each_none; is_made = h }
 
-  pub table_begins : (rest : Pairs) (made : T) (w : ℕ) → content p w ≡ Some (pairs (pairs_of rest))
+  pub table_begins : (rest : Pairs) (made : T) (w : ℕ)
+      → content p w ≡ Some (pairs (keyed_members rest))
       → tables made [] → OpenedTable lists tables p rest made w 0
   table_begins rest made w e h =
       record { done = []; entries = []; stands = e; each = pairs_none; is_made = h }
@@ -61,7 +62,7 @@ module _ {L T : Type 0} (lists : L → List Tree → Type 0)
     stands =
         h.stands
         ∙ ap (λ es. Some (pairs es))
-        (sym (append_assoc h.done ((h.place, x) ∷ []) (pairs_of rest)));
+        (sym (append_assoc h.done ((h.place, x) ∷ []) (keyed_members rest)));
     each = pairs_snoc p h.place x key t k h.each h.keyed d;
     is_made = f h.entries h.is_made;
   }
@@ -76,24 +77,25 @@ module _ {L T : Type 0} (lists : L → List Tree → Type 0)
 
   pub table_ends : (rest : Pairs) (made : T) (w n : ℕ)
       (h : OpenedTable lists tables p rest made w n)
-      → pairs_of rest ≡ [] → Den p w (table (map_of h.entries)) (1 + n)
+      → keyed_members rest ≡ [] → Den p w (table (map_of h.entries)) (1 + n)
   table_ends rest made w n h e =
       den_pairs (h.stands ∙ ap (λ es. Some (pairs (h.done ++ es))) e
       ∙ ap (λ es. Some (pairs es)) (append-nil h.done)) h.each
 
   -- an entry has no key
   pub table_no_key : (rest later : Pairs) (place : ℕ) (x : Member) (made : T) (w n : ℕ)
-      → OpenedTable lists tables p rest made w n → pairs_of rest ≡ (place, x) ∷ pairs_of later
+      → OpenedTable lists tables p rest made w n
+      → keyed_members rest ≡ (place, x) ∷ keyed_members later
       → key_at p.keys place ≡ None → (left : ℕ)
       → DenotesNothing (Den p w) (Reaches p w) (left + (1 + n))
   table_no_key rest later place x made w n h e k left =
       let stands = h.stands ∙ ap (λ es. Some (pairs (h.done ++ es))) e in
       let sum : n + left + 1 ≡ left + (1 + n) = omega arith in
       stuck_pairs_of p w (n + left) (left + (1 + n))
-      (h.done ++ (place, x) ∷ pairs_of later) stands sum (
-        (λ ts i d. none_pairs p h.done place x (pairs_of later)
+      (h.done ++ (place, x) ∷ keyed_members later) stands sum (
+        (λ ts i d. none_pairs p h.done place x (keyed_members later)
             (λ key t j g m. some_none k g) ts i d),
-        (λ r. stuck_pairs p place x (pairs_of later) left (n + left + 1)
+        (λ r. stuck_pairs p place x (keyed_members later) left (n + left + 1)
             (λ key t j g m. some_none k g) (λ key g m. some_none k g) h.each refl r),
       )
 
@@ -123,9 +125,12 @@ module _ {L T : Type 0} (lists : L → List Tree → Type 0)
       → DenotesNothing (Den p w) (Reaches p w) before
   table_stuck rest made key w n left before x h e s =
       let sum : n + left + 1 ≡ before = omega arith in
-      stuck_pairs_of p w (n + left) before (h.done ++ (h.place, x) ∷ pairs_of rest) h.stands sum (
-        (λ ts i d. none_pairs p h.done h.place x (pairs_of rest) (λ k t j g m. s.0 t j m) ts i d),
-        (λ r. stuck_pairs p h.place x (pairs_of rest) left (n + left + 1) (λ k t j g m. s.0 t j m)
+      stuck_pairs_of p w (n + left) before
+      (h.done ++ (h.place, x) ∷ keyed_members rest) h.stands sum (
+        (λ ts i d. none_pairs p h.done h.place x (keyed_members rest)
+        (λ k t j g m. s.0 t j m) ts i d),
+        (λ r. stuck_pairs p h.place x (keyed_members rest) left (n + left + 1)
+        (λ k t j g m. s.0 t j m)
             (λ k g m. s.1 m) h.each refl r),
       )
 
@@ -135,7 +140,7 @@ module _ {L T : Type 0} (lists : L → List Tree → Type 0)
   table_reaches rest made key w n left before x h e r =
       let sum : 1 + (n + (left + 1)) ≡ before + 1 = omega arith in
       subst (λ i. Reaches p w i) sum (reaches_pairs h.stands (reach_after_pairs p
-      ((h.place, x) ∷ pairs_of rest) (left + 1) h.each (pairs_here h.keyed r)))
+      ((h.place, x) ∷ keyed_members rest) (left + 1) h.each (pairs_here h.keyed r)))
 
   pub waits_refused : (f : Waiting L T) (w n left before : ℕ) (x : Member) (d : ReadingError)
       → Waits lists tables p f w x n → left + (1 + n) ≡ before

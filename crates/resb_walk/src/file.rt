@@ -1,7 +1,7 @@
 //! The parts of a file, what has no members, and the members that are still to come.
 //! Where they stand is found in `standing`.
 ghost use Rattle.std.specs.Prelude.{◌≡◌, [], ◌∷◌, MatchOption, length};
-ghost use Rattle.resb_walk.specs.Inner.Members.{member_of, members_of, positions_of, pairs_of};
+ghost use Rattle.resb_walk.specs.Inner.Members.{member_of, members_of, positions_of, keyed_members};
 
 use resb_format::bytes::{first_unit, first_word};
 
@@ -137,15 +137,15 @@ impl<'a> Pairs<'a> {
     /// How many entries are still to come.
     #[tactic(auto, using(crate::proofs::Placed::zip_length))]
     pub fn len(self) -> usize
-        ensures { result ≡ length (pairs_of self.entry) }
+        ensures { result ≡ length (keyed_members self.entry) }
     {
         self.keys.len().min(self.members.len())
     }
 
     /// The first entry, and those after it.
     pub fn split(self) -> Option<(usize, Member, Pairs<'a>)>
-        ensures { MatchOption result (pairs_of self.entry ≡ [])
-            (λ r. pairs_of self.entry ≡ (r.0, member_of r.1) ∷ pairs_of r.2) }
+        ensures { MatchOption result (keyed_members self.entry ≡ [])
+            (λ r. keyed_members self.entry ≡ (r.0, member_of r.1) ∷ keyed_members r.2) }
     {
         let (position, keys) = self.keys.split()?;
         let (member, members) = self.members.split()?;

@@ -12,7 +12,7 @@ ghost use Rattle.resb_walk.specs.Inner.Members.{member_of};
 ghost use Rattle.resb_walk.specs.Meets.{Meets, Blames};
 ghost use Rattle.resb_walk.specs.Refusals.{Answers};
 ghost use Rattle.resb_walk.specs.Inner.Frames.{Waits};
-ghost use Rattle.resb_walk.specs.Inner.Rounds.{Starts, Reads, Enters};
+ghost use Rattle.resb_walk.specs.Inner.Rounds.{Starts, ReadsMember, PutsOrOpens};
 
 use crate::count::Checked;
 use crate::file::{File, Member, Standing};
@@ -47,7 +47,7 @@ fn begin<'a, 'm, M: Make<'a>>(
     member: Member,
     walk: &mut Walk,
 ) -> Result<Read<'a, M, M::List, M::Table>, ReadingError<'m>>
-    ensures reads { Reads M.is M.lists M.tables (parts_in file.entry)
+    ensures reads { ReadsMember M.is M.lists M.tables (parts_in file.entry)
         (member_of member) walk.old walk.new result }
     ensures meets { IfErr result (Blames (Meets (parts_in file.entry) (member_of member))) }
 {
@@ -69,7 +69,7 @@ fn enter<'a, 'm, M: Make<'a>>(
 ) -> Result<Open<'a, M::List, M::Table>, ReadingError<'m>>
     ensures enters { let p = parts_in file.entry in let m = member_of member in
         (w n : ℕ) → Waits M.lists M.tables p waiting.entry w m n
-        → Enters M.lists M.tables p waiting.entry m w n frames.old.items frames.new.items
+        → PutsOrOpens M.lists M.tables p waiting.entry m w n frames.old.items frames.new.items
         walk.old walk.new result }
     ensures meets { let p = parts_in file.entry in let m = member_of member in
         (w n : ℕ) → Waits M.lists M.tables p waiting.entry w m n

@@ -16,7 +16,7 @@ use Rattle.resb_format.specs.Denotes.{Den}
 use Rattle.resb_pool.specs.Plan.{IsPlan}
 use Rattle.resb_pool.proofs.IsRead.{pool_is_read}
 use Rattle.resb_pool.proofs.ReadBack.{text_at-zero}
-use Rattle.resb_layout.specs.Laid.{Given, State, Lays, halves, fill}
+use Rattle.resb_layout.specs.Laid.{Given, Laid, Lays, halves, fill}
 use Rattle.resb_layout.specs.Laws.{IsRead, StandsIn}
 use Rattle.resb_layout.proofs.Numbers.{EachBelow, halves_len}
 use Rattle.resb_layout.proofs.Grows.{grows}
@@ -68,7 +68,7 @@ largest_room (t ∷ ts) = omega (
 pub record Made (t : Tree) (ks js : List (List ℕ)) : Type 0 where
   pub pool : List ℕ
   pub offset : List ℕ → Option ℕ
-  pub laid : State
+  pub laid : Laid
   pub root : ℕ
   pub js_are : js ≡ used (keys_of t) ks
   pub utf8 : All IsUtf8 js

@@ -8,7 +8,8 @@ use Rattle.resb_format.specs.Parts.{Parts, header_size, body_of, root_word, fiel
 use Rattle.resb_format.specs.Parts.{resources_end, bundle_end, largest_table_field, attributes}
 use Rattle.resb_format.specs.Parts.{block_end, parts_of, IsBundleFile}
 use Rattle.resb_layout.specs.Laid.{words, halves}
-use Rattle.resb_layout.proofs.Numbers.{EachBelow, words_read, halves_read, words_len, halves_len}
+use Rattle.resb_layout.proofs.Numbers.{EachBelow, words_read, halves_read, halves_len}
+use Rattle.resb_format.proofs.WordsBack.{written_length}
 use Rattle.resb_write.specs.WrittenHead.{written_header}
 use Rattle.resb_write.specs.Inner.Files.{fields_of, file_of}
 
@@ -104,7 +105,7 @@ module _ (x : Whole) where
   tail_length = omega (arith, x.tail_whole)
 
   pub head_length : length head ≡ 32
-  head_length = words_len head_words
+  head_length = written_length head_words
 
   pub body_length : length (body_of file) ≡ 4 * (8 + k + b + d)
   body_length =

@@ -12,7 +12,7 @@ use Rattle.resb_format.specs.Parts.{body_of}
 use Rattle.resb_format.proofs.WordsBack.{bytes_back, fits_drop}
 use Rattle.resb_format.proofs.Spelled.{words_length}
 use Rattle.resb_pool.proofs.OnePool.{one_pool}
-use Rattle.resb_layout.specs.Laid.{Given, State, Lays, halves}
+use Rattle.resb_layout.specs.Laid.{Given, Laid, Lays, halves}
 use Rattle.resb_layout.proofs.Once.{one_layout}
 use Rattle.resb_tree.specs.WalkOrder.{texts_of}
 use Rattle.resb_bodies.proofs.OneBlock.{one_block}
@@ -48,7 +48,7 @@ module _ (t : Tree) (ks : List (List ℕ)) (x y : Blocks t ks) where
         tail_start (key_block t ks) b.laid;
   }
 
-  abbrev start : Blocks t ks → State
+  abbrev start : Blocks t ks → Laid
   start b = record { units = b.pool; tail = [] }
 
   units_are : x.laid.units ≡ y.laid.units
@@ -61,7 +61,7 @@ module _ (t : Tree) (ks : List (List ℕ)) (x y : Blocks t ks) where
   given_is : ◌≡◌ {A = Given} (given x) (given y)
   given_is = λ i. record { position = key_position t ks; offset = offset_is i; base = base_is i }
 
-  start_is : ◌≡◌ {A = State} (start x) (start y)
+  start_is : ◌≡◌ {A = Laid} (start x) (start y)
   start_is = λ i. record { units = pool_is i; tail = [] }
 
   moved : Lays (given y) (start y) t x.laid x.root

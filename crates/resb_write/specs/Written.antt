@@ -7,7 +7,7 @@ use Rattle.resb_tree.specs.Tree.{Tree, tree_count}
 use Rattle.resb_format.specs.Parts.{body_of, root_word, keys_end, block_end}
 use Rattle.resb_format.specs.File.{Denotes, budget}
 use Rattle.resb_pool.specs.Plan.{IsPlan}
-use Rattle.resb_layout.specs.Laid.{State, Lays, halves}
+use Rattle.resb_layout.specs.Laid.{Laid, Lays, halves}
 use Rattle.resb_tree.specs.WalkOrder.{texts_of}
 use Rattle.resb_write.specs.KeyBlock.{key_block, key_position, keys_start}
 use Rattle.resb_write.specs.Faults.{fault}
@@ -18,7 +18,7 @@ abbrev pub even : List ℕ → List ℕ
 even us = if length us % 2 == 1 then us ++ 0xaaaa ∷ [] else us
 
 -- where the tail begins, behind the key block and the 16-bit block
-abbrev pub tail_start : List ℕ → State → ℕ
+abbrev pub tail_start : List ℕ → Laid → ℕ
 tail_start keys laid = keys_start + length keys + 2 * length (even laid.units)
 
 pub record Blocks (t : Tree) (ks : List (List ℕ)) : Type 0 where
@@ -26,7 +26,7 @@ pub record Blocks (t : Tree) (ks : List (List ℕ)) : Type 0 where
   pub pool : List ℕ
   pub offset : List ℕ → Option ℕ
   -- the units of the 16-bit block and the bytes of the tail, with the bodies of all resources
-  pub laid : State
+  pub laid : Laid
   pub root : ℕ
   pub is_pool : IsPlan (texts_of t) pool offset
   pub lays : Lays

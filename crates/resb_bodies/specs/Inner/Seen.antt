@@ -14,7 +14,7 @@ pub record HasRoom (p : Sites) (b : Bodies) (n : ℕ) : Type 0 where
   pub bytes : p.base + length b.tail.items + (8 * n + 32) < 2 ^ 30
 
 -- a body of such a resource takes no more
-pub record Takes (p : Sites) (b c : Bodies) (n : ℕ) : Type 0 where
+pub record TakesNoMore (p : Sites) (b c : Bodies) (n : ℕ) : Type 0 where
   pub aligned : (p.base + length c.tail.items) % 4 ≡ 0
   pub units : length c.units.items ≤ length b.units.items + (2 * n + 1)
   pub bytes : length c.tail.items ≤ length b.tail.items + (8 * n + 32)

@@ -2,7 +2,7 @@
 use Rattle.std.specs.Prelude.{List, map}
 use Rattle.resb_format.specs.Bytes.{words_of}
 use Rattle.resb_walk.specs.Files.{parts_in}
-use Rattle.resb_walk.specs.Inner.Members.{members_of, pairs_of}
+use Rattle.resb_walk.specs.Inner.Members.{members_of, keyed_members}
 use Rattle.resb_walk.specs.declared.file.File.{File}
 use Rattle.resb_walk.specs.declared.file.Pairs.{Pairs}
 use Rattle.resb_read.specs.Places.{Place, spot_of}
@@ -20,4 +20,4 @@ abbrev pub places_of : File → Items → List Place
 places_of f i = map (at_spot (parts_in f)) (spots_of i)
 
 abbrev pub entry_places : File → Pairs → List (Place × Place)
-entry_places f ps = map (at_entry (parts_in f)) (pairs_of ps)
+entry_places f ps = map (at_entry (parts_in f)) (keyed_members ps)

@@ -20,10 +20,10 @@ use Rattle.resb_text.specs.declared.frames.Open.{Open}
 use Rattle.resb_text.specs.declared.frames.Shape.{Shape}
 use Rattle.resb_text.specs.declared.frames.Shape.TheVariants as shape
 
-abbrev pub body_of : Body → machine.Body
-body_of body.Table = machine.table_body
-body_of body.Array = machine.array_body
-body_of body.Untyped = machine.untyped_body
+abbrev pub body_named : Body → machine.Body
+body_named body.Table = machine.table_body
+body_named body.Array = machine.array_body
+body_named body.Untyped = machine.untyped_body
 
 -- whether strings may be keys in such a body
 abbrev pub lists : machine.Body → Bool
@@ -58,7 +58,7 @@ pub record Look : Type 0 where
 abbrev pub looks : Frame → Look
 looks f =
     record {
-      body = body_of f.body;
+      body = body_named f.body;
       items = map shown f.items.items;
       alternates = f.alternates;
       number = f.number;

@@ -17,9 +17,9 @@ pub data Shown : Type 0 where
   group_shown : Tree → Bool → Bool → Shown
 
 -- what a term of the code is as a resource
-abbrev pub term_tree : Term → Tree
-term_tree (variant.String s) = string s.now
-term_tree (variant.Group r) = tree_of r
+abbrev pub tree_of_term : Term → Tree
+tree_of_term (variant.String s) = string s.now
+tree_of_term (variant.Group r) = tree_of r
 
 abbrev pub shown_term : Term → Bool → Shown
 shown_term (variant.String s) f = string_shown s.now f

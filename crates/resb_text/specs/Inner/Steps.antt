@@ -35,7 +35,7 @@ HeadFails text at e =
     → At text at (inside o) → Stuck text e.position e.expected
 
 -- a bundle's text up to what follows its name
-pub record IsNamed (text name : List ℕ) (to : ℕ) : Type 0 where
+pub record HasBundleName (text name : List ℕ) (to : ℕ) : Type 0 where
   pub start : ℕ
   pub ends : ℕ
   pub before : Skip text 0 start

@@ -8,7 +8,7 @@ use Rattle.resb_format.specs.Strings.{key_at}
 use Rattle.resb_format.specs.Parts.{Parts}
 use Rattle.resb_format.specs.Content.{Member, list, pairs, content}
 use Rattle.resb_format.specs.Denotes.{DenEach, DenPairs}
-use Rattle.resb_walk.specs.Inner.Members.{members_of, pairs_of}
+use Rattle.resb_walk.specs.Inner.Members.{members_of, keyed_members}
 use Rattle.resb_walk.specs.declared.file.Members.{Members}
 use Rattle.resb_walk.specs.declared.file.Pairs.{Pairs}
 use Rattle.resb_walk.specs.declared.frame.Open.{Open}
@@ -28,7 +28,7 @@ module _ {L T : Type 0} (lists : L → List Tree → Type 0)
   pub record OpenedTable (rest : Pairs) (made : T) (w n : ℕ) : Type 0 where
     pub done : List (ℕ × Member)
     pub entries : List (List ℕ × Tree)
-    pub stands : content p w ≡ Some (pairs (done ++ pairs_of rest))
+    pub stands : content p w ≡ Some (pairs (done ++ keyed_members rest))
     pub each : DenPairs p done entries n
     pub is_made : tables made entries
 
@@ -44,7 +44,7 @@ module _ {L T : Type 0} (lists : L → List Tree → Type 0)
     pub done : List (ℕ × Member)
     pub entries : List (List ℕ × Tree)
     pub place : ℕ
-    pub stands : content p w ≡ Some (pairs (done ++ (place, x) ∷ pairs_of rest))
+    pub stands : content p w ≡ Some (pairs (done ++ (place, x) ∷ keyed_members rest))
     pub keyed : key_at p.keys place ≡ Some key
     pub each : DenPairs p done entries n
     pub is_made : tables made entries

@@ -39,10 +39,10 @@ abbrev pub positions_of : Positions → List ℕ
 positions_of (Halves b) = units_of b.now
 positions_of (Wholes b) = words_of b.now
 
-abbrev pub pairs_of : Pairs → List (ℕ × at.Member)
-pairs_of s = zip (positions_of s.keys) (members_of s.members)
+abbrev pub keyed_members : Pairs → List (ℕ × at.Member)
+keyed_members s = zip (positions_of s.keys) (members_of s.members)
 
 abbrev pub content_of : Standing → at.Content
 content_of (kind.Leaf l) = at.leaf (leaf_tree l)
 content_of (kind.List ms) = at.list (members_of ms)
-content_of (kind.Table ps) = at.pairs (pairs_of ps)
+content_of (kind.Table ps) = at.pairs (keyed_members ps)

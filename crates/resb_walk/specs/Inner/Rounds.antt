@@ -38,11 +38,13 @@ module _ {X L T : Type 0} (is : X → Tree → Type 0) (lists : L → List Tree 
       IsFault e × ((k : ℕ) → DenotesNothing (Den p w) (Reaches p w) (k + (1 + n)))
 
   -- a member is read, up to its own members, and paid for
-  abbrev pub Reads : at.Member → ℕ → ℕ → Result (Read X L T) ReadingError → Type 0
-  Reads m left left' (Ok (Made x)) = (t : Tree) × DenMember p m t 1 × is x t × (left' + 1 ≡ left)
-  Reads m left left' (Ok (Begun f)) =
+  abbrev pub ReadsMember : at.Member → ℕ → ℕ → Result (Read X L T) ReadingError → Type 0
+  ReadsMember m left left' (Ok (Made x)) = (t : Tree) × DenMember p m t 1 × is x t
+      × (left' + 1 ≡ left)
+  ReadsMember m left left' (Ok (Begun f)) =
       (w : ℕ) × (m ≡ at.word w) × Opened lists tables p f w 0 × (left' + 1 ≡ left)
-  Reads m left left' (Err e) = (left' ≤ left) × Refuses (DenMember p m) (ReachesMember p m) left e
+  ReadsMember m left left' (Err e) = (left' ≤ left)
+      × Refuses (DenMember p m) (ReachesMember p m) left e
 
 module _ {L T : Type 0} (lists : L → List Tree → Type 0)
     (tables : T → List (List ℕ × Tree) → Type 0) (p : Parts) where
@@ -52,11 +54,12 @@ module _ {L T : Type 0} (lists : L → List Tree → Type 0)
   Puts w n (Err e) = IsWantOfMemory e
 
   -- the member that f waited for is paid for: it is put in, or it is the innermost collection
-  abbrev pub Enters : Waiting L T → at.Member → ℕ → ℕ → List (Waiting L T) → List (Waiting L T) → ℕ
+  abbrev pub PutsOrOpens : Waiting L T → at.Member → ℕ → ℕ → List (Waiting L T)
+      → List (Waiting L T) → ℕ
       → ℕ → Result (Open L T) ReadingError → Type 0
-  Enters f m w n fs fs' left left' (Ok o) =
+  PutsOrOpens f m w n fs fs' left left' (Ok o) =
       (left' + 1 ≡ left)
       × ((fs' ≡ fs) × Opened lists tables p o w (n + 1)
       ⊎ (fs' ≡ fs ++ f ∷ []) × (v : ℕ) × (m ≡ at.word v) × Opened lists tables p o v 0)
-  Enters f m w n fs fs' left left' (Err e) =
+  PutsOrOpens f m w n fs fs' left left' (Err e) =
       (left' ≤ left) × Refuses (DenMember p m) (ReachesMember p m) left e

@@ -5,7 +5,7 @@ use Rattle.resb_tree.specs.Tree.{array}
 use Rattle.resb_tree.specs.View.{items_view}
 use Rattle.resb_bodies.specs.StackSteps.{LaysNext}
 use Rattle.resb_bodies.specs.Room.{given_by, state_of}
-use Rattle.resb_bodies.specs.Inner.Seen.{Takes}
+use Rattle.resb_bodies.specs.Inner.Seen.{TakesNoMore}
 use Rattle.std.proofs.lemmas.List.{nil_from_length}
 use Rattle.resb_bodies.proofs.Walks.{items_long}
 use Rattle.resb_bodies.proofs.Stacks.{split_stack, array_step, empty_array_step}
@@ -54,5 +54,5 @@ returns-clause-takes c =
     let l : length c.split_at.result.1.now ≡ n = ap length v
     ∙ (split_stack ws n c.requires.enough).1 in
     on_ok_weaker c.replace-2.result
-    (λ h. subst (Takes c.args.sites.now c.args.bodies.now c.close_array.new.bodies) l
+    (λ h. subst (TakesNoMore c.args.sites.now c.args.bodies.now c.close_array.new.bodies) l
     c.in_ok-word.ensures.takes) c.replace-2.ensures

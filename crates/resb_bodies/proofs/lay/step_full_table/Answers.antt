@@ -1,7 +1,7 @@
 use Rattle.std.proofs.Common.{◌-◌, ℕ, length, drop, sym, ◌∙◌, ap, subst}
 use Rattle.std.proofs.lemmas.Result.{on_ok_weaker}
 use Rattle.resb_bodies.specs.Room.{given_by, state_of}
-use Rattle.resb_bodies.specs.Inner.Seen.{HasRoom, Takes}
+use Rattle.resb_bodies.specs.Inner.Seen.{HasRoom, TakesNoMore}
 use Rattle.resb_bodies.proofs.Stacks.{split_stack, table_step}
 use Rattle.resb_bodies.proofs.lay.step_full_table.Goals as goal
 
@@ -38,6 +38,6 @@ returns-clause-takes c =
     let mid = ap (λ k. k - n) (c.len.ensures ∙ c.args.words.now.ok.0) in
     let v = c.split_at.ensures.back ∙ (λ i. drop (mid i) (c.deref.ensures.value i)) in
     on_ok_weaker c.replace.result
-    (λ h. subst (Takes c.args.sites.now c.args.bodies.now c.close_table.new.bodies)
+    (λ h. subst (TakesNoMore c.args.sites.now c.args.bodies.now c.close_table.new.bodies)
     (ap length v ∙ (split_stack c.args.words.now.items n c.requires.enough).1)
     c.in_ok-word.ensures.takes) c.replace.ensures

@@ -6,7 +6,7 @@ use Rattle.resb_layout.specs.Laid.{ArePlaced}
 use Rattle.resb_tree.specs.WalkOrder.{entry_keys}
 use Rattle.resb_bodies.specs.StackSteps.{LaysNext}
 use Rattle.resb_bodies.specs.Room.{given_by, state_of}
-use Rattle.resb_bodies.specs.Inner.Seen.{HasRoom, Takes}
+use Rattle.resb_bodies.specs.Inner.Seen.{HasRoom, TakesNoMore}
 use Rattle.std.proofs.lemmas.List.{nil_from_length}
 use Rattle.resb_bodies.proofs.Keys.{keys_long, values_long, placed_long, not_none}
 use Rattle.resb_bodies.proofs.Stacks.{empty_table_step}
@@ -67,5 +67,6 @@ returns-clause-takes c =
     ∙ placed_long (given_by c.args.sites.now) (entry_keys (entries_view es))
     c.in_ok-positions.positions.items c.in_ok-positions.ensures ∙ keys_long es in
     on_ok_weaker c.step_full_table.result
-    (λ h. subst (Takes c.args.sites.now c.args.bodies.now c.step_full_table.new.bodies) long h)
+    (λ h.
+        subst (TakesNoMore c.args.sites.now c.args.bodies.now c.step_full_table.new.bodies) long h)
     c.step_full_table.ensures.takes

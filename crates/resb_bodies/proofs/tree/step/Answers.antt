@@ -5,7 +5,7 @@ use Rattle.resb_tree.specs.View.{tree_of, items_view, entries_view}
 use Rattle.resb_tree.specs.declared.resource.Resource.{the_lemmas}
 use Rattle.resb_tree.specs.WalkOrder.{children}
 use Rattle.resb_bodies.specs.Room.{given_by, own_size, IsKnown}
-use Rattle.resb_bodies.specs.Inner.Seen.{HasRoom, Takes}
+use Rattle.resb_bodies.specs.Inner.Seen.{HasRoom, TakesNoMore}
 use Rattle.resb_bodies.proofs.Walks.{items_long}
 use Rattle.resb_bodies.proofs.Keys.{values_long}
 use Rattle.resb_bodies.proofs.tree.step.Goals as goal
@@ -55,7 +55,7 @@ returns-in-Array-clause-takes c =
     let n = ap own_size e ∙ sym (items_long c.in-Array.items.items)
     ∙ sym (ap length c.deref.ensures.value) in
     on_ok_weaker c.step_array.result
-    (λ h. subst (Takes c.args.sites.now c.args.bodies.now c.step_array.new.bodies) (sym n) h)
+    (λ h. subst (TakesNoMore c.args.sites.now c.args.bodies.now c.step_array.new.bodies) (sym n) h)
     c.step_array.ensures.takes
 
 pub returns-in-Table-clause-takes : goal.returns-in-Table-clause-takes
@@ -63,7 +63,7 @@ returns-in-Table-clause-takes c =
     let e : tree_of c.args.resource.now ≡ table (entries_view c.in-Table.table.entries) =
     search (rules, the_lemmas) in
     on_ok_weaker c.step_table.result
-    (λ h. subst (Takes c.args.sites.now c.args.bodies.now c.step_table.new.bodies)
+    (λ h. subst (TakesNoMore c.args.sites.now c.args.bodies.now c.step_table.new.bodies)
     (sym (ap own_size e ∙ sym (values_long c.in-Table.table.entries))) h)
     c.step_table.ensures.takes
 

@@ -3,7 +3,7 @@ use Rattle.std.specs.List.{flat_map}
 use Rattle.resb_tree.specs.View.{tree_of}
 use Rattle.resb_tree.specs.WalkOrder.{walk}
 use Rattle.resb_bodies.specs.Room.{trees_in}
-use Rattle.resb_bodies.proofs.Walks.{trees-push, turn, turn_counts}
+use Rattle.resb_bodies.proofs.Walks.{trees-push, replaced, replaced_counts}
 use Rattle.std.proofs.lemmas.List.{nil_from_length}
 use Rattle.resb_bodies.proofs.walk_order.push_walk.Goals as goal
 
@@ -18,14 +18,14 @@ loop-resource-init c =
 
 pub loop-resource-smaller : goal.loop-resource-smaller
 loop-resource-smaller c =
-    turn_counts (trees_in c.pop.new.self.items) (trees_in c.loop-resource.pending.items)
+    replaced_counts (trees_in c.pop.new.self.items) (trees_in c.loop-resource.pending.items)
     (trees_in c.push_children.new.pending.items) (tree_of c.in-Some.resource.now)
     (trees-push c.pop.new.self.items c.loop-resource.pending.items c.in-Some.resource
     c.in-Some.ensures.items) c.in_ok-push_children.ensures
 
 pub loop-resource-preserved : goal.loop-resource-preserved
 loop-resource-preserved c =
-    turn (trees_in c.pop.new.self.items) (trees_in c.loop-resource.pending.items)
+    replaced (trees_in c.pop.new.self.items) (trees_in c.loop-resource.pending.items)
     (trees_in c.push_children.new.pending.items) (trees_in c.loop-resource.order.items)
     (trees_in c.push-in-Some.new.self.items) (tree_of c.in-Some.resource.now)
     (walk (tree_of c.args.root.now))

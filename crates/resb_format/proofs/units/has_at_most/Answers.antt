@@ -1,4 +1,4 @@
--- Each turn takes the units of the next character from what is left.
+-- Each iteration takes the units of the next character from what is left.
 use Rattle.std.proofs.Common.{◌≡◌, ◌++◌, sym, ◌∙◌, ap, length, length-append, arith}
 use Rattle.std.specs.Str.{chars}
 use Rattle.std.specs.Str.Iter.{chars_rest}

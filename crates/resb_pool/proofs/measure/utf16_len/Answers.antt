@@ -1,4 +1,4 @@
--- Each turn counts the units of the next character.
+-- Each iteration counts the units of the next character.
 use Rattle.std.proofs.Common.{◌≡◌, sym, ◌∙◌, ap, ◌++◌, length, length-append, arith}
 use Rattle.std.specs.Str.{chars}
 use Rattle.std.specs.Str.Iter.{chars_rest}

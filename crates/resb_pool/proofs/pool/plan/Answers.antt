@@ -8,7 +8,7 @@ use Rattle.std.proofs.lemmas.Result.{err_from_is_err_and}
 use Rattle.std.proofs.lemmas.List.{length-map}
 use Rattle.resb_pool.specs.Plan.{nows, no_memory}
 use Rattle.resb_pool.specs.Inner.Placing.{text, AreTexts, offset_by}
-use Rattle.resb_pool.specs.Inner.LaidRecords.{ArePlaced}
+use Rattle.resb_pool.specs.Inner.LaidRecords.{HaveOffsets}
 use Rattle.resb_pool.proofs.Interning.{length-nows}
 use Rattle.resb_pool.proofs.TextLoops.{none_too_long}
 use Rattle.resb_pool.proofs.PlanLemmas.{planned, offset_at}
@@ -39,8 +39,8 @@ returns-clause-ok c =
     let T = nows keys in
     let ms = c.in_ok-texts.texts.measures.items in
     let os = c.in_ok-units.offsets.items in
-    let p = subst (λ z. ArePlaced T z c.in_ok-units.units.items os) c.deref.ensures.value
-    (subst (λ (z : List (Bor (List ℕ))). ArePlaced (nows z) c.deref.result.now
+    let p = subst (λ z. HaveOffsets T z c.in_ok-units.units.items os) c.deref.ensures.value
+    (subst (λ (z : List (Bor (List ℕ))). HaveOffsets (nows z) c.deref.result.now
     c.in_ok-units.units.items os) c.as_slice.ensures.keys c.in_ok-units.ensures) in
     let b = p.block in
     let laid = map (offset_by p.ends) p.homes in

@@ -1,4 +1,4 @@
--- Each turn appends the units of the next character.
+-- Each iteration appends the units of the next character.
 use Rattle.std.proofs.Common.{◌≡◌, sym, ◌∙◌, ap, ◌++◌, append_assoc, append-nil}
 use Rattle.std.specs.Str.{chars}
 use Rattle.std.specs.Str.Iter.{chars_rest}

@@ -2,6 +2,7 @@
 use Rattle.std.proofs.Common.{◌≡◌, ◌<◌, ◌≤◌, ℕ, List, [], ◌∷◌, not, drop, nat_eq, get_or}
 use Rattle.std.proofs.Common.{slice_range, None, Some, sym, ap, subst, ◌∙◌, rules}
 use Rattle.std.specs.Str.{bytes_eq}
+use Rattle.std.proofs.lemmas.Bool.{not-true, not-false}
 use Rattle.std.proofs.lemmas.List.{get_or-drop}
 use Rattle.std.proofs.lemmas.Slice.Eq.{bytes_eq-Decides}
 use Rattle.resb_format.specs.Bytes.{unit_in}
@@ -9,7 +10,6 @@ use Rattle.resb_format.specs.Error.{refusal_of}
 use Rattle.resb_head.specs.Codes.{endianness_number}
 use Rattle.resb_head.specs.HeadChecks.{first_fault, info_checks}
 use Rattle.resb_head.specs.Head.{InfoAt}
-use Rattle.resb_head.proofs.HeadSteps.{negated, affirmed}
 use Rattle.resb_head.proofs.HeaderSteps.{Begun, short_header, magic_fails, info_fails, size_fails}
 use Rattle.resb_head.proofs.HeaderSteps.{header_holds}
 use Rattle.resb_head.proofs.head.BinHeader.read.Goals as goal
@@ -23,9 +23,9 @@ pub returns-then-ne : goal.returns-then-ne
 returns-then-ne c =
     let bs : List ℕ = c.args.bytes.now in
     magic_fails c.args.any_order bs c.invalid_data-then-ne.result c.if-bytes-lt24.false
-    (negated c.ne.result (bytes_eq (slice_range bs 2 4) (0xda ∷ 0x27 ∷ []))
-    (c.ne.ensures ∙ ap (λ xs. not (bytes_eq xs (0xda ∷ 0x27 ∷ []))) c.two_at.ensures)
-    c.if-ne.true)
+    (not-true (bytes_eq (slice_range bs 2 4) (0xda ∷ 0x27 ∷ []))
+    (sym (c.ne.ensures ∙ ap (λ xs. not (bytes_eq xs (0xda ∷ 0x27 ∷ []))) c.two_at.ensures)
+    ∙ c.if-ne.true))
     c.invalid_data-then-ne.ensures
 
 pub returns-in_err-repr_info : goal.returns-in_err-repr_info
@@ -33,9 +33,9 @@ returns-in_err-repr_info c =
     let bs : List ℕ = c.args.bytes.now in
     let b : Begun bs = record {
       long = c.if-bytes-lt24.false;
-      magic = affirmed c.ne.result (bytes_eq (slice_range bs 2 4) (0xda ∷ 0x27 ∷ []))
-          (c.ne.ensures ∙ ap (λ xs. not (bytes_eq xs (0xda ∷ 0x27 ∷ []))) c.two_at.ensures)
-          c.if-ne.false;
+      magic = not-false (bytes_eq (slice_range bs 2 4) (0xda ∷ 0x27 ∷ []))
+          (sym (c.ne.ensures ∙ ap (λ xs. not (bytes_eq xs (0xda ∷ 0x27 ∷ []))) c.two_at.ensures)
+          ∙ c.if-ne.false);
     } in
     let e : first_fault (info_checks c.args.any_order (drop 4 bs))
     ≡ Some (refusal_of c.in_err-repr_info.field-0.0) =
@@ -49,9 +49,9 @@ returns-then-size-lt24 c =
     let bs : List ℕ = c.args.bytes.now in
     let b : Begun bs = record {
       long = c.if-bytes-lt24.false;
-      magic = affirmed c.ne.result (bytes_eq (slice_range bs 2 4) (0xda ∷ 0x27 ∷ []))
-          (c.ne.ensures ∙ ap (λ xs. not (bytes_eq xs (0xda ∷ 0x27 ∷ []))) c.two_at.ensures)
-          c.if-ne.false;
+      magic = not-false (bytes_eq (slice_range bs 2 4) (0xda ∷ 0x27 ∷ []))
+          (sym (c.ne.ensures ∙ ap (λ xs. not (bytes_eq xs (0xda ∷ 0x27 ∷ []))) c.two_at.ensures)
+          ∙ c.if-ne.false);
     } in
     let e : first_fault (info_checks c.args.any_order (drop 4 bs)) ≡ None =
     ap (λ xs. first_fault (info_checks c.args.any_order xs)) (sym c.split_at.ensures.back)
@@ -72,9 +72,9 @@ returns c =
     let bs : List ℕ = c.args.bytes.now in
     let b : Begun bs = record {
       long = c.if-bytes-lt24.false;
-      magic = affirmed c.ne.result (bytes_eq (slice_range bs 2 4) (0xda ∷ 0x27 ∷ []))
-          (c.ne.ensures ∙ ap (λ xs. not (bytes_eq xs (0xda ∷ 0x27 ∷ []))) c.two_at.ensures)
-          c.if-ne.false;
+      magic = not-false (bytes_eq (slice_range bs 2 4) (0xda ∷ 0x27 ∷ []))
+          (sym (c.ne.ensures ∙ ap (λ xs. not (bytes_eq xs (0xda ∷ 0x27 ∷ []))) c.two_at.ensures)
+          ∙ c.if-ne.false);
     } in
     let e : first_fault (info_checks c.args.any_order (drop 4 bs)) ≡ None =
     ap (λ xs. first_fault (info_checks c.args.any_order xs)) (sym c.split_at.ensures.back)

@@ -2,12 +2,13 @@
 use Rattle.std.proofs.Common.{◌≡◌, inl, inr, ℕ, List, nat_eq, not, ◌≤◌, get_or, codes, slice_range}
 use Rattle.std.proofs.Common.{sym, ap, subst, ◌∙◌, rules}
 use Rattle.std.specs.Str.{bytes_eq}
+use Rattle.std.proofs.lemmas.Bool.{not-true, not-false}
 use Rattle.resb_format.specs.Bytes.{unit_in}
 use Rattle.resb_head.specs.Codes.{endianness_number, charset_number, version_bytes}
 use Rattle.resb_head.proofs.HeadSteps.{Order, Families, Formats, order_stands, endianness_fails}
 use Rattle.resb_head.proofs.HeadSteps.{order_fails, charset_fails, format_fails, version_fails}
 use Rattle.resb_head.proofs.HeadSteps.{all_hold, le_true, endianness_small, charset_small, not_big}
-use Rattle.resb_head.proofs.HeadSteps.{is_big, negated, affirmed}
+use Rattle.resb_head.proofs.HeadSteps.{is_big}
 use Rattle.resb_head.proofs.repr_info.BinReprInfo.read.Goals as goal
 use Rattle.resb_head.proofs.repr_info.BinReprInfo.read.Goals.{else-is_big-via-else-is_big}
 
@@ -76,9 +77,9 @@ returns-then-ne c =
           (subst (λ k. k ≤ 1) m (charset_small c.in_ok-charset_family.charset_family));
     } in
     format_fails c.args.any_order bs c.invalid_data.result f
-    (negated c.ne.result (bytes_eq (slice_range bs 8 12) (codes "ResB"))
-    (c.ne.ensures ∙ ap (λ xs. not (bytes_eq xs (codes "ResB"))) c.four_at-data_format.ensures)
-    c.if-ne.true) c.invalid_data.ensures
+    (not-true (bytes_eq (slice_range bs 8 12) (codes "ResB"))
+    (sym (c.ne.ensures ∙ ap (λ xs. not (bytes_eq xs (codes "ResB"))) c.four_at-data_format.ensures)
+    ∙ c.if-ne.true)) c.invalid_data.ensures
 
 pub returns-in_err-format_version : goal.returns-in_err-format_version
 returns-in_err-format_version c =
@@ -109,9 +110,10 @@ returns-in_err-format_version c =
     record {
       families = f;
       format =
-          affirmed c.ne.result (bytes_eq (slice_range bs 8 12) (codes "ResB"))
-          (c.ne.ensures ∙ ap (λ xs. not (bytes_eq xs (codes "ResB"))) c.four_at-data_format.ensures)
-          c.if-ne.false;
+          not-false (bytes_eq (slice_range bs 8 12) (codes "ResB"))
+          (sym (c.ne.ensures
+          ∙ ap (λ xs. not (bytes_eq xs (codes "ResB"))) c.four_at-data_format.ensures)
+          ∙ c.if-ne.false);
     } in
     let e = c.in_err-format_version.ensures in
     let h = version_fails c.args.any_order bs c.in_err-format_version.field-0.0 g
@@ -147,9 +149,10 @@ returns c =
     record {
       families = f;
       format =
-          affirmed c.ne.result (bytes_eq (slice_range bs 8 12) (codes "ResB"))
-          (c.ne.ensures ∙ ap (λ xs. not (bytes_eq xs (codes "ResB"))) c.four_at-data_format.ensures)
-          c.if-ne.false;
+          not-false (bytes_eq (slice_range bs 8 12) (codes "ResB"))
+          (sym (c.ne.ensures
+          ∙ ap (λ xs. not (bytes_eq xs (codes "ResB"))) c.four_at-data_format.ensures)
+          ∙ c.if-ne.false);
     } in
     let v : version_bytes c.in_ok-format_version.format_version ≡ slice_range bs 12 16 =
     c.in_ok-format_version.ensures ∙ c.as_slice.ensures ∙ c.four_at.ensures in (

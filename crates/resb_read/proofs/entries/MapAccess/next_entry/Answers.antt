@@ -1,5 +1,5 @@
 use Rattle.std.proofs.Common.{◌≡◌, None, drop, ap, sym, ◌∙◌}
-use Rattle.resb_read.specs.Access.{Entries}
+use Rattle.resb_read.specs.Access.{EntryAccess}
 use Rattle.resb_read.specs.Places.{place_of}
 use Rattle.resb_read.proofs.Failing.{entries_stop, entry_fails}
 use Rattle.resb_read.proofs.entries.MapAccess.next_entry.Goals as goal
@@ -10,9 +10,10 @@ returns-in-Err g c =
     let seen = c.self.view_is in
     let first = c.in-Some-first.ensures in
     let h = c.in-Err.ensures.refused in
-    let whole : old.failed ≡ None = sym (ap (λ (a : Entries). a.failed) seen) ∙ c.in_default.is in
+    let whole : old.failed ≡ None = sym (ap (λ (a : EntryAccess). a.failed) seen)
+        ∙ c.in_default.is in
     entry_fails g.K.Deserialize.reads g.K.Deserialize.counts g.T.Deserialize.reads
     g.T.Deserialize.counts old _
     (place_of c.in-Some-first.key_at, place_of c.in-Some-first.value_at) (drop 1 old.rest)
     c.args.walk.now c.read_pair.new.walk c.in-Err.error whole first
-    (ap (entries_stop c.in-Err.error) (ap (λ (a : Entries). a.rest) seen ∙ first)) h.0 h.1
+    (ap (entries_stop c.in-Err.error) (ap (λ (a : EntryAccess). a.rest) seen ∙ first)) h.0 h.1

@@ -1,0 +1,5 @@
+-- The short name that proofs have for a list of texts.
+use Rattle.std.proofs.Common.{ℕ, List}
+
+abbrev pub TextList : Type 0
+TextList = List (List ℕ)

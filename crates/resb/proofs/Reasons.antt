@@ -5,7 +5,7 @@ use Rattle.std.specs.Prelude.{codes, Bool}
 use Rattle.resb_tree.specs.Tree.{Tree}
 use Rattle.resb_grammar.specs.BundleText.{BundleText}
 use Rattle.resb_pool.specs.Fault.{Fault, unexpected}
-use Rattle.resb_write.specs.Faults.{Refused, no_memory, first_fault, too_large}
+use Rattle.resb_write.specs.Faults.{Refused, no_memory, at_the_first, too_large}
 use Rattle.resb_write.proofs.Listed.{not_unlisted as no_fault, not_memory, not_large}
 use Rattle.resb_pool.specs.FaultOf.{fault_of}
 use Rattle.resb_pool.specs.declared.error.BinarySerializerError.{BinarySerializerError}
@@ -19,7 +19,7 @@ pub not_unlisted : (text name : List ℕ) (fallback : Bool) (t : Tree) (ks : Lis
     → f ≡ unexpected (codes "key not present in position map") → ⊥
 not_unlisted text name fallback t ks b f no_memory e =
     not_memory t ks (listed text name fallback t ks b) e
-not_unlisted text name fallback t ks b f (first_fault h) e =
+not_unlisted text name fallback t ks b f (at_the_first h) e =
     no_fault t ks (listed text name fallback t ks b) f h e
 not_unlisted text name fallback t ks b f (too_large h l) e =
     not_large t ks (listed text name fallback t ks b) e

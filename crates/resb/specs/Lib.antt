@@ -9,7 +9,14 @@ pub use Rattle.resb_tree.specs.Keys
 pub use Rattle.resb_tree.specs.Int28
 pub use Rattle.resb_tree.specs.WalkOrder
 pub use Rattle.resb_tree.specs.Laws as TreeLaws
+pub use Rattle.resb_grammar.specs.Ascii
+pub use Rattle.resb_grammar.specs.ByteRuns
+pub use Rattle.resb_grammar.specs.Tokens
+pub use Rattle.resb_grammar.specs.Items
+pub use Rattle.resb_grammar.specs.GroupTypes
+pub use Rattle.resb_grammar.specs.Group
 pub use Rattle.resb_grammar.specs.BundleText
+pub use Rattle.resb_grammar.specs.Machine
 pub use Rattle.resb_grammar.specs.Stuck
 pub use Rattle.resb_grammar.specs.Expected
 pub use Rattle.resb_grammar.specs.Laws as GrammarLaws
@@ -38,10 +45,12 @@ pub use Rattle.resb_head.specs.HeadChecks
 pub use Rattle.resb_head.specs.HeadReading
 pub use Rattle.resb_head.specs.PartsReading
 pub use Rattle.resb_head.specs.Laws as HeadLaws
+pub use Rattle.resb_walk.specs.Files
 pub use Rattle.resb_walk.specs.Damage
 pub use Rattle.resb_walk.specs.Meets
 pub use Rattle.resb_walk.specs.Refusals
 pub use Rattle.resb_walk.specs.Borrows
+pub use Rattle.resb_walk.specs.Inner.Members
 pub use Rattle.resb_read.specs.Places
 pub use Rattle.resb_read.specs.Reading
 pub use Rattle.resb_read.specs.Leaves
@@ -51,9 +60,12 @@ pub use Rattle.resb_read.specs.Roots
 pub use Rattle.resb_read.specs.Others
 pub use Rattle.resb_read.specs.Sequences
 pub use Rattle.resb_read.specs.Access
+pub use Rattle.resb_read.specs.Inner.Items as AccessItems
 pub use Rattle.resb_read.specs.Inner.Named
 pub use Rattle.resb_read.specs.TypeLaws
 pub use Rattle.resb_read.specs.Laws as ReadLaws
+pub use Rattle.resb_pool.specs.Records
+pub use Rattle.resb_pool.specs.Pool
 pub use Rattle.resb_pool.specs.Plan
 pub use Rattle.resb_pool.specs.Fault
 pub use Rattle.resb_pool.specs.FaultOf
@@ -62,6 +74,7 @@ pub use Rattle.resb_layout.specs.Laid
 pub use Rattle.resb_layout.specs.Laws as LayoutLaws
 pub use Rattle.resb_bodies.specs.StackSteps
 pub use Rattle.resb_bodies.specs.Laws as BodiesLaws
+pub use Rattle.resb_write.specs.KeyBlock
 pub use Rattle.resb_write.specs.PlainSize
 pub use Rattle.resb_write.specs.Faults
 pub use Rattle.resb_write.specs.WrittenHead

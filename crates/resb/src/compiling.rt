@@ -1,4 +1,5 @@
 //! From a text to the bytes of its file: the reader, and then the writer with the discovered keys.
+//! What a text and a file are, and each half of the way, is in the crates below.
 ghost use Rattle.std.specs.Prelude.{Some, IfOk, IfErr};
 ghost use Rattle.resb.specs.Compiling.{IsCompiled, IsRefused, message_of};
 

@@ -16,8 +16,12 @@ use Rattle.resb_layout.proofs.Numbers.{halves_len}
 use Rattle.resb_format.proofs.WordsBack.{written_length}
 
 pub body_long : (ws : List ℕ) → length (words_body ws) ≡ 4 + 4 * length ws
-body_long ws = omega (arith, written_length ws, length-append (to_le_bytes w32 (length ws))
-    (words ws))
+body_long ws = omega (
+  arith,
+  written_length ws,
+  length-append (to_le_bytes w32 (length ws))
+      (words ws),
+)
 
 pub offsets_long : (ws : List ℕ) → length (offsets_in ws) ≡ length ws
 offsets_long [] = refl

@@ -1,8 +1,8 @@
 -- What is given and what stands, as the definitions see it, and room for the bodies of a tree.
 --     trees_in rs             resources as trees
---     given_by p, state_of b  what is given, and what stands so far
+--     given_by p, laid_of b  what is given, and what stands so far
 --     based p n               what is given, where the tail begins n bytes into the body
---     pool_state p            the pool of the strings, and nothing else
+--     pool_laid p            the pool of the strings, and nothing else
 --     IsKnown g t             the keys and the text of t are known
 --     HasRoomFor g s ts       there is room for the bodies of ts behind s
 --     tail_base n b           where the 16-bit block ends, if it begins at byte n
@@ -29,11 +29,11 @@ based p n = record { position = at_text p.positions; offset = offset_of p.plan; 
 abbrev pub given_by : Sites → Given
 given_by p = based p p.base
 
-abbrev pub state_of : Bodies → Laid
-state_of b = record { units = b.units.items; tail = b.tail.items }
+abbrev pub laid_of : Bodies → Laid
+laid_of b = record { units = b.units.items; tail = b.tail.items }
 
-abbrev pub pool_state : Sites → Laid
-pool_state p = record { units = plan_units p.plan; tail = [] }
+abbrev pub pool_laid : Sites → Laid
+pool_laid p = record { units = plan_units p.plan; tail = [] }
 
 -- the keys and the text of a resource are known
 abbrev pub IsKnown : Given → Tree → Type 0

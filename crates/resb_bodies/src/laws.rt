@@ -1,4 +1,5 @@
-//! Laws of the definitions, each the contract of a call that does nothing.
+//! Laws of laying in steps, each the contract of a call that does nothing.
+//! Their statements are in `specs/Laws.antt`; those of the layout itself are in `resb_layout`.
 ghost use Rattle.resb_bodies.specs.Laws.{StepsLayTrees, OneBlock};
 
 /// What lays a tree's resources one by one, in walk order and over a stack of words, lays the tree.

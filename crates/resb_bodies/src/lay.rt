@@ -9,7 +9,7 @@ ghost use Rattle.resb_layout.specs.Laid.{Given, Laid, ArePlaced};
 ghost use Rattle.resb_tree.specs.WalkOrder.{entry_keys, values_of};
 ghost use Rattle.resb_tree.specs.View.{items_view, entries_view};
 ghost use Rattle.resb_bodies.specs.StackSteps.{LaysNext};
-ghost use Rattle.resb_bodies.specs.Room.{given_by, state_of, IsKnown};
+ghost use Rattle.resb_bodies.specs.Room.{given_by, laid_of, IsKnown};
 ghost use Rattle.resb_bodies.specs.Inner.Seen.{HasRoom, TakesNoMore};
 
 use crate::given::{Bodies, Sites};
@@ -38,8 +38,8 @@ pub(crate) fn step_array(
 ) -> Result<(), AllocError>
     requires room { HasRoom sites.now bodies.old (length items.now) }
     requires enough { length items.now ≤ length words.old.items }
-    ensures step { OnOk result (LaysNext (given_by sites.now) (state_of bodies.old) words.old.items
-        (array (items_view items.now)) (state_of bodies.new) words.new.items) }
+    ensures step { OnOk result (LaysNext (given_by sites.now) (laid_of bodies.old) words.old.items
+        (array (items_view items.now)) (laid_of bodies.new) words.new.items) }
     ensures takes { OnOk result (TakesNoMore sites.now bodies.old bodies.new (length items.now)) }
 {
     if items.is_empty() {
@@ -79,8 +79,8 @@ fn step_full_table(
     ensures step { OnOk result ((entries : Entries)
         → length (values_of entries) ≡ length positions.now
         → ArePlaced (given_by sites.now) (entry_keys entries) positions.now
-        → LaysNext (given_by sites.now) (state_of bodies.old) words.old.items
-        (table_with entries) (state_of bodies.new) words.new.items) }
+        → LaysNext (given_by sites.now) (laid_of bodies.old) words.old.items
+        (table_with entries) (laid_of bodies.new) words.new.items) }
     ensures takes { OnOk result (TakesNoMore sites.now bodies.old bodies.new
         (length positions.now)) }
 {
@@ -100,8 +100,8 @@ pub(crate) fn step_table(
     requires room { HasRoom sites.now bodies.old (length table.now.entries) }
     requires enough { length table.now.entries ≤ length words.old.items }
     requires known { IsKnown (given_by sites.now) (table_with (entries_view table.now.entries)) }
-    ensures step { OnOk result (LaysNext (given_by sites.now) (state_of bodies.old) words.old.items
-        (table_with (entries_view table.now.entries)) (state_of bodies.new) words.new.items) }
+    ensures step { OnOk result (LaysNext (given_by sites.now) (laid_of bodies.old) words.old.items
+        (table_with (entries_view table.now.entries)) (laid_of bodies.new) words.new.items) }
     ensures takes { OnOk result (TakesNoMore sites.now bodies.old bodies.new
         (length table.now.entries)) }
 {
@@ -130,8 +130,8 @@ pub(crate) fn step_bytes(
     bytes: &[u8],
 ) -> Result<(), AllocError>
     requires { HasRoom sites.now bodies.old ((length bytes.now + 7) / 8) }
-    ensures step { OnOk result (LaysNext (given_by sites.now) (state_of bodies.old) words.old.items
-        (binary bytes.now) (state_of bodies.new) words.new.items) }
+    ensures step { OnOk result (LaysNext (given_by sites.now) (laid_of bodies.old) words.old.items
+        (binary bytes.now) (laid_of bodies.new) words.new.items) }
     ensures takes { OnOk result (TakesNoMore sites.now bodies.old bodies.new
         ((length bytes.now + 7) / 8)) }
 {
@@ -148,8 +148,8 @@ pub(crate) fn step_numbers(
     numbers: &[u32],
 ) -> Result<(), AllocError>
     requires { HasRoom sites.now bodies.old ((length numbers.now + 1) / 2) }
-    ensures step { OnOk result (LaysNext (given_by sites.now) (state_of bodies.old) words.old.items
-        (int_vector numbers.now) (state_of bodies.new) words.new.items) }
+    ensures step { OnOk result (LaysNext (given_by sites.now) (laid_of bodies.old) words.old.items
+        (int_vector numbers.now) (laid_of bodies.new) words.new.items) }
     ensures takes { OnOk result (TakesNoMore sites.now bodies.old bodies.new
         ((length numbers.now + 1) / 2)) }
 {

@@ -6,7 +6,7 @@ ghost use Rattle.resb_tree.specs.Tree.{binary, int_vector};
 ghost use Rattle.resb_format.specs.Descriptor.{type_number};
 ghost use Rattle.resb_layout.specs.Laid.{Lays, ClosesArray, ClosesTable, are_short, are_near};
 ghost use Rattle.resb_layout.specs.Laid.{offsets_in};
-ghost use Rattle.resb_bodies.specs.Room.{given_by, state_of};
+ghost use Rattle.resb_bodies.specs.Room.{given_by, laid_of};
 ghost use Rattle.resb_bodies.specs.Inner.Seen.{HasRoom, TakesNoMore};
 
 use crate::bytes::{put_counted, put_fill, put_short_table, put_wide_table, put_word};
@@ -115,8 +115,8 @@ pub(crate) fn close_array(
     words: &[u32],
 ) -> Result<u32, AllocError>
     requires { HasRoom sites.now bodies.old (length words.now) }
-    ensures lays { IfOk result (λ w. ClosesArray (given_by sites.now) (state_of bodies.old)
-        words.now (state_of bodies.new) w) }
+    ensures lays { IfOk result (λ w. ClosesArray (given_by sites.now) (laid_of bodies.old)
+        words.now (laid_of bodies.new) w) }
     ensures takes { OnOk result (TakesNoMore sites.now bodies.old bodies.new (length words.now)) }
 {
     if are_short_strings(words) {
@@ -139,8 +139,8 @@ pub(crate) fn close_table(
 ) -> Result<u32, AllocError>
     requires room { HasRoom sites.now bodies.old (length words.now) }
     requires many { length positions.now ≡ length words.now }
-    ensures lays { IfOk result (λ w. ClosesTable (given_by sites.now) (state_of bodies.old)
-        positions.now words.now (state_of bodies.new) w) }
+    ensures lays { IfOk result (λ w. ClosesTable (given_by sites.now) (laid_of bodies.old)
+        positions.now words.now (laid_of bodies.new) w) }
     ensures takes { OnOk result (TakesNoMore sites.now bodies.old bodies.new (length words.now)) }
 {
     if !are_near_positions(positions) {
@@ -165,8 +165,8 @@ pub(crate) fn lay_bytes(
     bytes: &[u8],
 ) -> Result<u32, AllocError>
     requires { HasRoom sites.now bodies.old ((length bytes.now + 7) / 8) }
-    ensures lays { IfOk result (λ w. Lays (given_by sites.now) (state_of bodies.old)
-        (binary bytes.now) (state_of bodies.new) w) }
+    ensures lays { IfOk result (λ w. Lays (given_by sites.now) (laid_of bodies.old)
+        (binary bytes.now) (laid_of bodies.new) w) }
     ensures takes { OnOk result (TakesNoMore sites.now bodies.old bodies.new
         ((length bytes.now + 7) / 8)) }
 {
@@ -189,8 +189,8 @@ pub(crate) fn lay_numbers(
     numbers: &[u32],
 ) -> Result<u32, AllocError>
     requires { HasRoom sites.now bodies.old ((length numbers.now + 1) / 2) }
-    ensures lays { IfOk result (λ w. Lays (given_by sites.now) (state_of bodies.old)
-        (int_vector numbers.now) (state_of bodies.new) w) }
+    ensures lays { IfOk result (λ w. Lays (given_by sites.now) (laid_of bodies.old)
+        (int_vector numbers.now) (laid_of bodies.new) w) }
     ensures takes { OnOk result (TakesNoMore sites.now bodies.old bodies.new
         ((length numbers.now + 1) / 2)) }
 {

@@ -7,7 +7,7 @@ ghost use Rattle.resb_pool.specs.Plan.{plan_units};
 ghost use Rattle.resb_layout.specs.Laid.{Laid, Lays};
 ghost use Rattle.resb_tree.specs.WalkOrder.{walk, children};
 ghost use Rattle.resb_bodies.specs.StackSteps.{LaysNext, LaysRow};
-ghost use Rattle.resb_bodies.specs.Room.{based, pool_state, given_by, state_of, trees_in, own_size};
+ghost use Rattle.resb_bodies.specs.Room.{based, pool_laid, given_by, laid_of, trees_in, own_size};
 ghost use Rattle.resb_bodies.specs.Room.{HasRoomFor, HasRoomBehind, IsKnown, tail_base, most_units};
 ghost use Rattle.resb_bodies.specs.Inner.Seen.{HasRoom, TakesNoMore, CanLay};
 
@@ -30,8 +30,8 @@ fn step(
     requires room { HasRoom sites.now bodies.old (own_size (tree_of resource.now)) }
     requires enough { length (children (tree_of resource.now)) ≤ length words.old.items }
     requires known { IsKnown (given_by sites.now) (tree_of resource.now) }
-    ensures step { OnOk result (LaysNext (given_by sites.now) (state_of bodies.old) words.old.items
-        (tree_of resource.now) (state_of bodies.new) words.new.items) }
+    ensures step { OnOk result (LaysNext (given_by sites.now) (laid_of bodies.old) words.old.items
+        (tree_of resource.now) (laid_of bodies.new) words.new.items) }
     ensures takes { OnOk result (TakesNoMore sites.now bodies.old bodies.new
         (own_size (tree_of resource.now))) }
 {
@@ -63,11 +63,11 @@ fn steps(
     order: Vec<&Resource<'_>>,
 ) -> Result<(), AllocError>
     requires { CanLay sites.now bodies.old (length words.old.items) (trees_in order.items) }
-    ensures lays { OnOk result (LaysRow (given_by sites.now) (state_of bodies.old) words.old.items
-        (trees_in order.entry.items) (state_of bodies.new) words.new.items) }
+    ensures lays { OnOk result (LaysRow (given_by sites.now) (laid_of bodies.old) words.old.items
+        (trees_in order.entry.items) (laid_of bodies.new) words.new.items) }
     ensures takes { OnOk result (length bodies.new.units.items
         ≤ length bodies.old.units.items + sum_by most_units (trees_in order.entry.items)) }
-    ensures fits { OnOk result (HasRoomFor (given_by sites.now) (state_of bodies.new) []) }
+    ensures fits { OnOk result (HasRoomFor (given_by sites.now) (laid_of bodies.new) []) }
 {
     let mut number = 0;
     for resource in order {
@@ -86,14 +86,14 @@ pub(crate) fn lay_tree(
     bodies: &mut Bodies,
     root: &Resource<'_>,
 ) -> Result<u32, AllocError>
-    requires room { HasRoomFor (given_by sites.now) (state_of bodies.old)
+    requires room { HasRoomFor (given_by sites.now) (laid_of bodies.old)
         (walk (tree_of root.now)) }
     requires known { All (IsKnown (given_by sites.now)) (walk (tree_of root.now)) }
-    ensures lays { IfOk result (λ word. Lays (given_by sites.now) (state_of bodies.old)
-        (tree_of root.now) (state_of bodies.new) word) }
+    ensures lays { IfOk result (λ word. Lays (given_by sites.now) (laid_of bodies.old)
+        (tree_of root.now) (laid_of bodies.new) word) }
     ensures takes { OnOk result (length bodies.new.units.items
         ≤ length bodies.old.units.items + sum_by most_units (walk (tree_of root.now))) }
-    ensures fits { OnOk result (HasRoomFor (given_by sites.now) (state_of bodies.new) []) }
+    ensures fits { OnOk result (HasRoomFor (given_by sites.now) (laid_of bodies.new) []) }
 {
     let order = in_walk_order(alloc, root)?;
     let mut words = Vec::new(alloc);
@@ -111,11 +111,11 @@ pub(crate) fn count_units(
     sites: &Sites<'_>,
     root: &Resource<'_>,
 ) -> Result<usize, AllocError>
-    requires room { HasRoomFor (given_by sites.now) (pool_state sites.now)
+    requires room { HasRoomFor (given_by sites.now) (pool_laid sites.now)
         (walk (tree_of root.now)) }
     requires known { All (IsKnown (given_by sites.now)) (walk (tree_of root.now)) }
     ensures counts { IfOk result (λ count. (base : ℕ) (end : Laid) (word : ℕ)
-        → Lays (based sites.now base) (pool_state sites.now) (tree_of root.now) end word
+        → Lays (based sites.now base) (pool_laid sites.now) (tree_of root.now) end word
         → length end.units ≡ count) }
     ensures few { IfOk result (λ count. count
         ≤ length (plan_units sites.now.plan) + sum_by most_units (walk (tree_of root.now))) }
@@ -139,9 +139,9 @@ pub fn lay_bodies(
     requires room { HasRoomBehind sites.old keys_end (walk (tree_of root.now)) }
     requires known { (base : ℕ) → All (IsKnown (based sites.old base)) (walk (tree_of root.now)) }
     ensures lays { IfOk result (λ laid. Lays (based sites.old (tail_base keys_end laid.0))
-        (pool_state sites.old) (tree_of root.now) (state_of laid.0) laid.1) }
+        (pool_laid sites.old) (tree_of root.now) (laid_of laid.0) laid.1) }
     ensures fits { IfOk result (λ laid. HasRoomFor (based sites.old (tail_base keys_end laid.0))
-        (state_of laid.0) []) }
+        (laid_of laid.0) []) }
     ensures behind { IfOk result (λ laid. sites.new.base ≡ tail_base keys_end laid.0) }
     ensures keeps { sites.new ≡ record sites.old { base = sites.new.base } }
 {

@@ -6,23 +6,8 @@
 --     ReadsCounted bytes r    what `from_bytes_counted::<Resource>` promises of its answer
 --     Agrees bytes r s        the answer of a check beside the answer of such a reading
 --     Matches bytes r s       the same beside the answer of `tree_from_bytes`
-use Rattle.std.specs.Prelude.{
-  ◌≡◌,
-  ◌≤◌,
-  ◌⊎◌,
-  ℕ,
-  List,
-  [],
-  ◌∷◌,
-  ◌++◌,
-  codes,
-  IsUtf8,
-  Option,
-  Some,
-  Result,
-  Ok,
-  Err,
-}
+use Rattle.std.specs.Prelude.{◌≡◌, ◌≤◌, ◌⊎◌, ℕ, List, [], ◌∷◌, ◌++◌, codes, IsUtf8, Option, Some}
+use Rattle.std.specs.Prelude.{Result, Ok, Err}
 use Rattle.std.specs.Io.KnownBytes.{Appends}
 use Rattle.hex.specs.Hex.{encode_lower}
 use Rattle.resb_format.specs.Error as reading
@@ -38,14 +23,8 @@ use Rattle.resb.specs.declared.bundle.Resource.{Resource}
 use Rattle.resb.specs.Compiling as compiling
 use Rattle.resb.specs.Compiling.{IsCompiled, IsRefused}
 use Rattle.resb_command.specs.declared.fault.ToolError.{ToolError}
-use Rattle.resb_command.specs.declared.fault.ToolError.TheVariants.{
-  Input,
-  Output,
-  NotUtf8,
-  Compiling,
-  Checking,
-  Memory,
-}
+use Rattle.resb_command.specs.declared.fault.ToolError.TheVariants.{Input, Output, NotUtf8}
+use Rattle.resb_command.specs.declared.fault.ToolError.TheVariants.{Compiling, Checking, Memory}
 
 pub record Writes (input : List ℕ) (old new : Option (List ℕ)) : Type 0 where
   pub file : List ℕ

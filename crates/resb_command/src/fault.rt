@@ -1,4 +1,5 @@
 //! Why the program fails, and the status that it ends with.
+//! What it does is in `streams` and `command`.
 ghost use Rattle.std.specs.Prelude.{◌≡◌, Some};
 ghost use Rattle.resb_command.specs.Program.{message_of, status_of};
 

@@ -2,7 +2,7 @@
 pub mod Denoting
 mod Examples
 pub mod Spelled
-pub mod InsideLemmas
+pub mod Inside
 pub mod StringsIn
 pub mod TextUnits
 pub mod Apart

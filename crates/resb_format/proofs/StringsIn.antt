@@ -9,7 +9,7 @@ use Rattle.std.proofs.lemmas.Grind.{common_steps}
 use Rattle.resb_format.specs.Bytes.{units_of, part}
 use Rattle.resb_format.specs.Strings.{before_zero, string_from, string_at}
 use Rattle.resb_format.specs.StringFaults.{string_fault}
-use Rattle.resb_format.proofs.InsideLemmas.{units_outside}
+use Rattle.resb_format.proofs.Inside.{units_outside}
 use Rattle.resb_format.proofs.Spelled.{units_length}
 
 pub part_inside : (bs : List ℕ) (i n : ℕ) → i + n ≤ length bs / 2

@@ -75,8 +75,8 @@ table32_at p v =
     counted (words_of p.body) v
     (λ n. paired (part (words_of p.body) (v + 1) n) (words_at p (v + 1 + n) n))
 
-abbrev pub string_leaf : Parts → ℕ → Option Content
-string_leaf p u = option_map (λ s. leaf (string s)) (text_at p.block u)
+abbrev pub text_leaf : Parts → ℕ → Option Content
+text_leaf p u = option_map (λ s. leaf (string s)) (text_at p.block u)
 
 -- what a type with a value other than 0 leads to
 abbrev pub placed : Parts → ℕ → ℕ → Option Content
@@ -85,7 +85,7 @@ placed p type v =
     else if type == types.table then table_at p v
     else if type == types.table32 then table32_at p v
     else if type == types.table16 then table16_at p v
-    else if type == types.string then string_leaf p v
+    else if type == types.string then text_leaf p v
     else if type == types.array then array_at p v
     else if type == types.array16 then array16_at p v
     else if type == types.int_vector then int_vector_at p v

@@ -1,4 +1,4 @@
-//! Little-endian numbers among bytes. No other module indexes bytes.
+//! Numbers among a file's bytes, and parts of them. No other module indexes a file's bytes.
 //! Where a number stands is the business of the module that asks for it.
 ghost use Rattle.std.specs.Prelude.{◌≡◌, ◌+◌, ◌*◌, ◌/◌, ◌<◌, ◌≤◌, [], ◌∷◌, ◌++◌, length, slice_get};
 ghost use Rattle.std.specs.Prelude.{slice_index, slice_range, take, drop, Some, None, MatchOption};
@@ -72,7 +72,7 @@ pub fn unit_in(bytes: &[u8], number: usize, is_big: bool) -> u16
 }
 
 /// The 16-bit unit with this number, if it lies inside.
-#[tactic(auto, using(crate::proofs::InsideLemmas::one_unit))]
+#[tactic(auto, using(crate::proofs::Inside::one_unit))]
 pub fn some_unit(bytes: &[u8], number: usize) -> Option<u16>
     ensures { result ≡ slice_get (units_of bytes.now) number }
 {
@@ -83,7 +83,7 @@ pub fn some_unit(bytes: &[u8], number: usize) -> Option<u16>
 }
 
 /// The 32-bit word with this number, if it lies inside.
-#[tactic(auto, using(crate::proofs::InsideLemmas::one_word))]
+#[tactic(auto, using(crate::proofs::Inside::one_word))]
 pub fn some_word(bytes: &[u8], number: usize) -> Option<u32>
     ensures { result ≡ slice_get (words_of bytes.now) number }
 {
@@ -154,7 +154,7 @@ pub fn cut_at(bytes: &[u8], place: usize) -> Option<(&[u8], &[u8])>
 }
 
 /// So many bytes from this place on, if they lie inside.
-#[tactic(auto, using(crate::proofs::InsideLemmas::part_cut))]
+#[tactic(auto, using(crate::proofs::Inside::part_cut))]
 pub fn some_bytes(bytes: &[u8], from: usize, count: usize) -> Option<&[u8]>
     ensures { let cut = part bytes.now from count in
         MatchOption result (cut ≡ None) (λ b. cut ≡ Some b.now) }
@@ -168,7 +168,7 @@ pub fn some_bytes(bytes: &[u8], from: usize, count: usize) -> Option<&[u8]>
 }
 
 /// The bytes of so many units from this unit on, if they lie inside.
-#[tactic(auto, using(crate::proofs::InsideLemmas::units_cut))]
+#[tactic(auto, using(crate::proofs::Inside::units_cut))]
 pub fn some_units(bytes: &[u8], from: usize, count: usize) -> Option<&[u8]>
     ensures value { let cut = part (units_of bytes.now) from count in
         MatchOption result (cut ≡ None) (λ b. cut ≡ Some (units_of b.now)) }
@@ -186,7 +186,7 @@ pub fn some_units(bytes: &[u8], from: usize, count: usize) -> Option<&[u8]>
 }
 
 /// The bytes of so many words from this word on, if they lie inside.
-#[tactic(auto, using(crate::proofs::InsideLemmas::words_cut))]
+#[tactic(auto, using(crate::proofs::Inside::words_cut))]
 pub fn some_words(bytes: &[u8], from: usize, count: usize) -> Option<&[u8]>
     ensures value { let cut = part (words_of bytes.now) from count in
         MatchOption result (cut ≡ None) (λ b. cut ≡ Some (words_of b.now)) }

@@ -1,6 +1,6 @@
 //! Bytes as lists of numbers, and one such list as another.
 //! Only a length that is no multiple is refused: a view needs no alignment.
-ghost use Rattle.std.specs.Prelude.{◌≡◌, ◌≢◌, ◌%◌, length, MatchResult, codes};
+ghost use Rattle.std.specs.Prelude.{◌≡◌, ◌≢◌, ◌%◌, length, MatchResult};
 ghost use Rattle.resb_format.specs.Error.{IsWrongLength};
 ghost use Rattle.resb_format.specs.Views.{unit_bytes, word_bytes, view_words, number_bytes};
 ghost use Rattle.resb_format.specs.Views.{pair_bytes};

@@ -1,4 +1,5 @@
 //! Numbers and parts among bytes: how they are spelled, and what doesn't lie inside.
+//! Views of whole vectors are in `view_rows`.
 use resb_format::bytes;
 
 /// Four units, which are two words, and a byte that spells nothing.

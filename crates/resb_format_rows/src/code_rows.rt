@@ -1,4 +1,5 @@
 //! Numbers of the format: codes, versions, descriptors, and integers of 28 bits.
+//! Whole heads are in `head_rows`.
 use crate::refusals::is_refused;
 use resb_format::{ErrorKind, Int28, ResDescriptor, ResourceReprType};
 use resb_head::{CharsetFamily, Endianness, FormatVersion};

@@ -1,4 +1,5 @@
-//! What a refusal says, and what it prints.
+//! What a refusal says, and what it prints, as a line that rows compare.
+//! Holds no rows.
 use resb_format::{BinaryDeserializerError, ErrorKind, NoMemory};
 use std::alloc::{AllocError, Global};
 use std::test::Fail;

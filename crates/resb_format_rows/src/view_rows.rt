@@ -1,4 +1,5 @@
 //! Strings in a block, markers at their limits, and views of bytes as numbers.
+//! Single numbers are in `byte_rows`.
 use crate::refusals::is_refused;
 use resb_format::{
     ErrorKind, I32Pair, PairView, Utf16View, WordView, cast_bytes_to_u16_slice,

@@ -24,7 +24,7 @@ use Rattle.resb_grammar.specs.Machine.{is_key_place, when, unless, with_term, wi
 use Rattle.resb_grammar.specs.Machine.{leave, next, At}
 use Rattle.resb_grammar.proofs.Lex.{neither, text_class, number_class, open_class}
 use Rattle.resb_grammar.proofs.Lex.{close_class, comma_class, type_class}
-use Rattle.resb_grammar.specs.Inner.Half.{half}
+use Rattle.resb_grammar.specs.Inner.Half.{is_half}
 use Rattle.resb_grammar.proofs.HalfLemmas.{half-pairs, key_place-pairs, half-group, no_comma}
 use Rattle.resb_grammar.proofs.Moves.{further, byte_class, class_text, class_number}
 use Rattle.resb_grammar.proofs.HeaderPath.{header_at}
@@ -186,7 +186,7 @@ module _ (text : List ℕ) where
         (byte_class text neither i ascii.comma comma_class h refl) (refl, refl)
         (comma_next title body ys around m list) skip
 
-    run_table : (from to : ℕ) (xs : List Item) → Items text from to xs → half xs ≡ true
+    run_table : (from to : ℕ) (xs : List Item) → Items text from to xs → is_half xs ≡ true
         → (title : Title) (around : List Frame)
         → At text from (inside (open_at title table_body [] around))
         → At text to (inside (open_at title table_body xs around))

@@ -25,7 +25,7 @@ use Rattle.resb_grammar.specs.Machine.{inside, typed, in_string, in_binary, in_i
 use Rattle.resb_grammar.specs.Machine.{in_vector, finished, is_key_place, when, unless, leave}
 use Rattle.resb_grammar.specs.Machine.{with_term, within, begun_as, next_in_vector}
 use Rattle.resb_grammar.specs.Machine.{in_body, next, TokenStep, Path, begun, went, At}
-use Rattle.resb_grammar.specs.Inner.Half.{half}
+use Rattle.resb_grammar.specs.Inner.Half.{is_half}
 use Rattle.resb_grammar.proofs.HalfLemmas.{pairs-half, group-half}
 use Rattle.resb_grammar.specs.Token.{Means}
 use Rattle.resb_grammar.proofs.Moves.{move_means}
@@ -41,7 +41,7 @@ module _ (text : List ℕ) where
 
   -- the items may go on to be what the body asks for
   abbrev Suits : Body → List Item → Type 0
-  Suits table_body xs = half xs ≡ true
+  Suits table_body xs = is_half xs ≡ true
   Suits array_body xs = Unit {0}
   Suits untyped_body xs = Unit {0}
 
@@ -49,7 +49,7 @@ module _ (text : List ℕ) where
   abbrev Spelled : Title → ℕ → Body → List Item → List Frame → Type 0
   Spelled title at body xs [] =
       (first : ℕ) × (body ≡ table_body) × Header text title.name title.fallback first
-      × Items text first at xs × (half xs ≡ true)
+      × Items text first at xs × (is_half xs ≡ true)
   Spelled title at body xs (outer ∷ around) =
       (from : ℕ) × (first : ℕ) × Spelled title from outer.body outer.items around
       × MayOpen outer.body outer.items × Begins body from first × Items text first at xs
@@ -569,18 +569,18 @@ module _ (text : List ℕ) where
 
   -- an open table's items may go on to be a table's
   pub open_half : (o : Open) (at : ℕ) → At text at (inside o) → o.frame.body ≡ table_body
-      → half o.frame.items ≡ true
+      → is_half o.frame.items ≡ true
   open_half o at reached table =
       go o.around o.frame.body o.frame.items table
       (good_path reached.tokens at (inside o) reached.path)
     where
-      suits : (b : Body) (xs : List Item) → b ≡ table_body → Suits b xs → half xs ≡ true
+      suits : (b : Body) (xs : List Item) → b ≡ table_body → Suits b xs → is_half xs ≡ true
       suits table_body xs e h = h
       suits array_body xs e h = cc
       suits untyped_body xs e h = cc
 
       go : (fs : List Frame) (b : Body) (xs : List Item) → b ≡ table_body
-          → Spelled o.title at b xs fs → half xs ≡ true
+          → Spelled o.title at b xs fs → is_half xs ≡ true
       go [] b xs e (first, table, header, inner, h) = h
       go (f ∷ fs) b xs e (from, first, outer, may, begins, inner, h) = suits b xs e h
 

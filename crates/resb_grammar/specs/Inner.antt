@@ -1,2 +1,2 @@
--- Words of private functions of the text reader.
+-- Words of proofs and of a private function of the text reader.
 pub mod Half

@@ -1,5 +1,7 @@
 -- The grammar of the text form, its readings, and what the laws say of both. `Inner` has words of
 -- proofs and of a private function of the text reader.
+pub use Rattle.resb_tree.specs.Tree
+pub use Rattle.resb_tree.specs.Keys
 pub mod Ascii
 pub mod ByteRuns
 pub mod Tokens

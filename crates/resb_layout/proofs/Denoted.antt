@@ -12,7 +12,7 @@ use Rattle.resb_tree.specs.Tree.{Tree, string, array, table, binary, integer, in
 use Rattle.resb_tree.specs.Tree.{no_trees, more_trees, Entries, no_entries, entry, trees_of}
 use Rattle.resb_tree.specs.Tree.{map_of, tree_count, trees_count, entries_count}
 use Rattle.resb_tree.specs.Maps.{text_cmp, pairs_of}
-use Rattle.resb_tree.proofs.MapLemmas.{map_of-sorted, entries_of-pairs_of}
+use Rattle.resb_tree.proofs.MapsLemmas.{map_of-sorted, entries_of-pairs_of}
 use Rattle.resb_format.specs.Strings.{key_at}
 use Rattle.resb_format.specs.Parts.{Parts}
 use Rattle.resb_format.specs.Content.{Member, word, unit, leaf, list, pairs, content}

@@ -1,5 +1,5 @@
 -- What the laws of layouts say.
---     OneLayout               from a state a tree has one end and one word
+--     OneLayout               behind what is laid a tree has one end and one word
 --     LaidIsDenoted           in a file whose blocks hold what was laid, its word denotes the tree
 --     LaidIsPaid              what was laid has two bytes for each resource but the root
 use Rattle.std.specs.Prelude.{◌≡◌, ℕ, ◌+◌, ◌*◌, ◌%◌, ◌<◌, ◌≤◌, List, [], ◌++◌, length, Some}
@@ -21,7 +21,7 @@ pub record IsRead (p : Parts) (g : Given) : Type 0 where
   pub base : 0 < g.base
   pub aligned : g.base % 4 ≡ 0
 
--- the state stands in the parts, whatever follows it
+-- what is laid stands in the parts, whatever follows it
 pub record StandsIn (p : Parts) (g : Given) (s : Laid) : Type 0 where
   pub front : List ℕ
   pub units_behind : List ℕ

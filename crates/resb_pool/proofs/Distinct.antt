@@ -4,7 +4,7 @@ use Rattle.std.proofs.Common.{◌⊎◌, inl, inr, refl, sym, ◌∙◌, ap, sub
 use Rattle.std.specs.List.{Contains}
 use Rattle.std.proofs.lemmas.List.{get_or_default}
 use Rattle.std.proofs.lemmas.List.Elements.{Contains-push_cases}
-use Rattle.resb_pool.specs.Records.{IsDistinct}
+use Rattle.resb_pool.specs.Records.{EachOnce}
 use Rattle.resb_pool.specs.Inner.Placing.{text}
 use Rattle.resb_pool.proofs.TextLists.{TextList}
 
@@ -25,8 +25,8 @@ pub index_of : (T : TextList) (s : List ℕ) → Contains T s
     → (i : ℕ) × (i < length T) × (text T i ≡ s)
 index_of T s h = (h.0, h.1, get_or_default T h.0 [] s h.1 ∙ h.2)
 
-pub distinct_push : (qs : TextList) (t : List ℕ) → IsDistinct qs → (Contains qs t → ⊥)
-    → IsDistinct (qs ++ t ∷ [])
+pub distinct_push : (qs : TextList) (t : List ℕ) → EachOnce qs → (Contains qs t → ⊥)
+    → EachOnce (qs ++ t ∷ [])
 distinct_push [] t d f = (λ x. absurd (omega (arith, x.1)), tt)
 distinct_push (q ∷ qs) t d f = (
   λ x. elim (Contains-push_cases qs t q x) [
@@ -37,7 +37,7 @@ distinct_push (q ∷ qs) t d f = (
   distinct_push qs t d.1 (λ x. f (suc x.0, omega (arith, x.1), x.2)),
 )
 
-pub one_index : (T : TextList) (i j : ℕ) → IsDistinct T → i < length T → j < length T
+pub one_index : (T : TextList) (i j : ℕ) → EachOnce T → i < length T → j < length T
     → text T i ≡ text T j → i ≡ j
 one_index [] i j d l m e = absurd (omega (arith, l))
 one_index (x ∷ T) zero zero d l m e = refl
@@ -49,7 +49,7 @@ one_index (x ∷ T) (suc i) (suc j) d l m e =
     ap suc (one_index T i j d.1 (omega (arith, l)) (omega (arith, m)) e)
 
 -- a text doesn't stand before its index
-pub not_before : (T : TextList) (i : ℕ) → IsDistinct T → i < length T
+pub not_before : (T : TextList) (i : ℕ) → EachOnce T → i < length T
     → Contains (take i T) (text T i)
     → ⊥
 not_before [] i d l h = omega (arith, l)

@@ -14,7 +14,7 @@ use Rattle.std.proofs.lemmas.List.Elements.{All-push, Contains-append_left, Cont
 use Rattle.std.proofs.lemmas.List.Elements.{Contains-push_cases}
 use Rattle.indexmap.specs.IndexSet.{insert_key}
 use Rattle.resb_format.specs.Units.{units, size}
-use Rattle.resb_pool.specs.Records.{IsDistinct}
+use Rattle.resb_pool.specs.Records.{EachOnce}
 use Rattle.resb_pool.specs.Plan.{nows, texts_size}
 use Rattle.resb_pool.specs.Inner.Placing.{text, IsMeasure, AreMeasures, AreTexts}
 use Rattle.resb_pool.specs.declared.measure.Measure.{Measure}
@@ -32,7 +32,7 @@ Key = Bor (List ℕ)
 -- the texts of D and t, and the measures of the texts of D
 pub record IsReady (D : TextList) (t : List ℕ) (T : TextList) (ms : List Measure) : Type 0 where
   pub utf8 : All IsUtf8 (D ++ t ∷ [])
-  pub once : IsDistinct T
+  pub once : EachOnce T
   pub same : (s : List ℕ) → Contains T s ↔ Contains (D ++ t ∷ []) s
   pub len : length ms ≡ length T
   pub measured : AreMeasures D T ms

@@ -15,8 +15,8 @@ use Rattle.resb_pool.specs.Plan.{IsPlan}
 use Rattle.resb_pool.proofs.Best.{extends_not_after}
 use Rattle.resb_pool.proofs.Whole.{ends_extends}
 use Rattle.resb_pool.proofs.Least.{units_end}
-use Rattle.resb_pool.proofs.SharingLemmas.{one_container}
-use Rattle.resb_pool.proofs.OrderingLemmas.{length-records, texts_flat}
+use Rattle.resb_pool.proofs.Sharing.{one_container}
+use Rattle.resb_pool.proofs.InOrder.{length-records, texts_flat}
 use Rattle.resb_pool.proofs.ReadBack.{text_at-zero, text_at-found, text_at-marked}
 use Rattle.resb_pool.proofs.TextLists.{TextList}
 

@@ -11,7 +11,7 @@ use Rattle.std.proofs.lemmas.List.Sums.{sum_by-cons}
 use Rattle.std.proofs.lemmas.List.Elements.{All-contains, Contains-append_right}
 use Rattle.std.proofs.lemmas.Str.{chars-append}
 use Rattle.resb_format.specs.Units.{units, is_unmarked, marker, size, length_marker}
-use Rattle.resb_pool.specs.Records.{EndsWith, IsDistinct, IsRecord, IsRecords, IsHeldBy, IsLayout}
+use Rattle.resb_pool.specs.Records.{EndsWith, EachOnce, IsRecord, IsRecords, IsHeldBy, IsLayout}
 use Rattle.std.proofs.lemmas.Grind.{flat_map-append}
 use Rattle.resb_pool.proofs.Cut.{front_utf8}
 use Rattle.resb_pool.proofs.Distinct.{cons_cases, Contains-first}
@@ -19,7 +19,7 @@ use Rattle.resb_pool.proofs.Distinct.{cons_cases, Contains-first}
 module _ (f : List ℕ → ℕ) (M : List ℕ → List ℕ → Type 0) (alone : (p q r : List ℕ) → M p r → M q r
     → p ≡ q) where
   -- each of Q goes to its own member of R, which is at least as large
-  pub into_least : (Q R : List (List ℕ)) → IsDistinct Q
+  pub into_least : (Q R : List (List ℕ)) → EachOnce Q
       → ((q : List ℕ) → Contains Q q → (r : List ℕ) × Contains R r × M q r × (f q ≤ f r))
       → sum_by f Q ≤ sum_by f R
   into_least [] R d goes = omega arith

@@ -1,5 +1,5 @@
 -- For crates above: those that are `pub`.
-mod TextLists
+pub mod TextLists
 pub mod Zeros
 mod Utf16
 pub mod TextLoops
@@ -10,8 +10,8 @@ mod Sums
 mod FoundKeys
 pub mod ReadBack
 pub mod PlacingLemmas
-mod SharingLemmas
-pub mod OrderingLemmas
+mod Sharing
+pub mod InOrder
 mod PlanLemmas
 mod Laying
 pub mod IsRead

@@ -10,13 +10,13 @@ use Rattle.std.specs.declared.cmp.Ordering.TheVariants.{Less}
 use Rattle.std.proofs.lemmas.Cmp.{nat_list_cmp_total}
 use Rattle.std.proofs.lemmas.List.Elements.{Contains-append_right}
 use Rattle.resb_format.specs.Units.{size}
-use Rattle.resb_pool.specs.Records.{IsDistinct}
+use Rattle.resb_pool.specs.Records.{EachOnce}
 use Rattle.resb_pool.specs.Pool.{SizeIn, size_none, size_here, size_elsewhere, Saved, Precedes}
 use Rattle.resb_pool.specs.Pool.{fewer_units, saves_more, smaller_bytes, record_units, ClosesAt}
 use Rattle.resb_pool.specs.Pool.{Off, off_empty, off_within}
 use Rattle.resb_pool.specs.Plan.{IsPlan}
 use Rattle.resb_pool.proofs.Distinct.{cons_cases, Contains-first}
-use Rattle.resb_pool.proofs.SharingLemmas.{one_container}
+use Rattle.resb_pool.proofs.Sharing.{one_container}
 use Rattle.resb_pool.proofs.TextLists.{TextList}
 
 bytes_asym : (r q : List ℕ) → slice_cmp nat_cmp r q ≡ Less → slice_cmp nat_cmp q r ≡ Less → ⊥
@@ -96,7 +96,7 @@ module _ (S : TextList) where
     ]
   ]
 
-  same_rest : (q r : List ℕ) (Q R : TextList) → q ≡ r → IsDistinct (q ∷ Q)
+  same_rest : (q r : List ℕ) (Q R : TextList) → q ≡ r → EachOnce (q ∷ Q)
       → ((s : List ℕ) → Contains (q ∷ Q) s → Contains (r ∷ R) s) → (s : List ℕ) → Contains Q s
       → Contains R s
   same_rest q r Q R e d f s c =
@@ -105,7 +105,7 @@ module _ (S : TextList) where
         | inr g ↦ g
       ]
 
-  one_order : (Q R : TextList) → IsDistinct Q → IsDistinct R
+  one_order : (Q R : TextList) → EachOnce Q → EachOnce R
       → ((s : List ℕ) → Contains Q s → Contains R s) → ((s : List ℕ) → Contains R s → Contains Q s)
       → IsOrdered Q → IsOrdered R → Q ≡ R
   one_order [] [] d e f g h k = refl
@@ -120,7 +120,7 @@ module _ (S : TextList) where
   among : (b : TextList) (r : List ℕ) (y : TextList) (q : List ℕ) → q ≡ r → Contains (b ++ r ∷ y) q
   among b r y q g = Contains-append_right b (r ∷ y) q (0, omega arith, sym g)
 
-  one_front : (Q a b x y : TextList) (r : List ℕ) → IsDistinct Q → Q ≡ a ++ r ∷ x → Q ≡ b ++ r ∷ y
+  one_front : (Q a b x y : TextList) (r : List ℕ) → EachOnce Q → Q ≡ a ++ r ∷ x → Q ≡ b ++ r ∷ y
       → a ≡ b
   one_front [] [] b x y r d e f = (let n : [] ≡ r ∷ x = e in cc)
   one_front [] (u ∷ a) b x y r d e f = (let n : [] ≡ u ∷ (a ++ r ∷ x) = e in cc)
@@ -139,14 +139,14 @@ module _ (S : TextList) where
       let k : u ≡ v = cc in
       λ i. k i ∷ one_front Q a b x y r d.1 g h i
 
-  closes_once : (Q : TextList) (r : List ℕ) (c d : ℕ) → IsDistinct Q → ClosesAt Q r c
+  closes_once : (Q : TextList) (r : List ℕ) (c d : ℕ) → EachOnce Q → ClosesAt Q r c
       → ClosesAt Q r d
       → c ≡ d
   closes_once Q r c d u h k = h.place
       ∙ ap (λ l. sum_by size l + size r) (one_front Q h.before k.before h.after k.after r u h.is
       k.is) ∙ sym k.place
 
-  off_once : (texts : All IsUtf8 S) (Q : TextList) (u : IsDistinct Q) (s : List ℕ) (j k : ℕ)
+  off_once : (texts : All IsUtf8 S) (Q : TextList) (u : EachOnce Q) (s : List ℕ) (j k : ℕ)
       → Off S Q s j → Off S Q s k → j ≡ k
   off_once texts Q u _ _ _ off_empty off_empty = refl
   off_once texts Q u _ _ _ off_empty (off_within l h f) = absurd (omega (arith, l.nonempty))

@@ -33,9 +33,9 @@ use Rattle.resb_pool.proofs.Distinct.{has_text, index_of, one_index}
 use Rattle.resb_pool.proofs.Sizes.{sizes_within}
 use Rattle.resb_pool.proofs.Sums.{sized, totals_of, copies_of_all}
 use Rattle.resb_pool.proofs.PlacingLemmas.{record_from, container_from, records_from}
-use Rattle.resb_pool.proofs.SharingLemmas.{own_size, size_within}
-use Rattle.resb_pool.proofs.OrderingLemmas.{length-records, neighbours_differ, text_at_index}
-use Rattle.resb_pool.proofs.OrderingLemmas.{in_order}
+use Rattle.resb_pool.proofs.Sharing.{own_size, size_within}
+use Rattle.resb_pool.proofs.InOrder.{length-records, neighbours_differ, text_at_index}
+use Rattle.resb_pool.proofs.InOrder.{in_order}
 use Rattle.resb_pool.proofs.TextLists.{TextList}
 
 texts_len : (v : List Record) → length (record_texts v) ≡ length v

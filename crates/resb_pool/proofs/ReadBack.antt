@@ -13,7 +13,7 @@ use Rattle.std.proofs.lemmas.Bool.Decides.{nat_tests}
 use Rattle.resb_format.specs.Strings.{is_no_marker, before_zero, string_from, string_at}
 use Rattle.resb_format.specs.Strings.{text_of_units, text_at}
 use Rattle.std.proofs.Math.Seq.{take-append_seam}
-use Rattle.resb_format.proofs.InsideLemmas.{part_in}
+use Rattle.resb_format.proofs.Inside.{part_in}
 use Rattle.resb_format.specs.Bytes.{part}
 use Rattle.resb_format.specs.Units.{units, is_unmarked, marker, length_marker}
 use Rattle.resb_pool.proofs.Zeros.{has_zero, before_zero-found}

@@ -46,18 +46,18 @@ kept_itself ms = record {
 -- what is nowhere before is nowhere behind
 pub kept_new : (ms ns : List Node) (t : List ℕ) → IsKept ms ns → (HasText ms t → ⊥) → HasText ns t
     → ⊥
-kept_new ms ns t h fresh x = by (text_ending ns x.place) refl x.ends_here
+kept_new ms ns t h fresh x = by (text_ending ns x.node) refl x.ends_here
   where
-    by : (o : Option ℕ) → text_ending ns x.place ≡ o → is_some o ≡ true → ⊥
+    by : (o : Option ℕ) → text_ending ns x.node ≡ o → is_some o ≡ true → ⊥
     by None e f = true≢false (sym f)
     by (Some y) e f =
-        let g = h.from x.place y x.within e in
+        let g = h.from x.node y x.within e in
         fresh (record {
-          place = x.place;
+          node = x.node;
           within = g.0;
           ends_here = ap is_some g.1;
           is =
-              sym (h.suffix_is x.place g.0) ∙ x.is;
+              sym (h.suffix_is x.node g.0) ∙ x.is;
         })
 
 shape_moved : (n : ℕ) (path path' : ℕ → List ℕ) (child child' : ℕ → ℕ → Option ℕ) (ends ends' : ℕ
@@ -115,7 +115,7 @@ pub end_trie : (ms ns : List Node) (i y : ℕ) (t : List ℕ) → IsTrie ms → 
 end_trie ms ns i y t m l e fresh h =
     let none : text_ending ms i ≡ None =
     no_text (text_ending ms i) (λ f. fresh (record {
-      place = i;
+      node = i;
       within = l;
       ends_here = f;
       is =

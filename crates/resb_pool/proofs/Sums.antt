@@ -12,7 +12,7 @@ use Rattle.std.specs.Prelude.{slice_set}
 use Rattle.std.proofs.lemmas.List.{take_more}
 use Rattle.std.proofs.lemmas.List.Sums.{sum_by-cons, sum_by-append}
 use Rattle.resb_format.specs.Units.{size}
-use Rattle.resb_pool.specs.Records.{IsRecord, IsDistinct}
+use Rattle.resb_pool.specs.Records.{IsRecord, EachOnce}
 use Rattle.resb_pool.specs.Container.{IsContainer}
 use Rattle.resb_pool.specs.Pool.{SizeIn, size_none, size_here, size_elsewhere}
 use Rattle.resb_pool.specs.Inner.Placing.{text, copies, AreHomes, LiesAt, lying_in}
@@ -20,7 +20,7 @@ use Rattle.resb_pool.specs.declared.homes.Home.{Home}
 use Rattle.resb_pool.proofs.Distinct.{has_text, index_of, one_index}
 use Rattle.resb_pool.proofs.Sizes.{copy, copy_same, copy_other, copies-cons}
 use Rattle.resb_pool.proofs.PlacingLemmas.{container_from}
-use Rattle.resb_pool.proofs.SharingLemmas.{one_container}
+use Rattle.resb_pool.proofs.Sharing.{one_container}
 use Rattle.resb_pool.proofs.TextLists.{TextList}
 
 -- n, where a home is in q
@@ -100,7 +100,7 @@ part_none q (p ∷ ps) (t ∷ T) s f =
 
 -- a text takes part in the record in which it lies
 part_at : (q : ℕ) (ps : List Home) (T : TextList) (s : List ℕ) (j : ℕ) (d : Home)
-    → length ps ≡ length T → IsDistinct T → j < length T → text T j ≡ s
+    → length ps ≡ length T → EachOnce T → j < length T → text T j ≡ s
     → part q ps T s ≡ if_in (get_or ps j d) q (size s)
 part_at q [] T s j d e u l h = absurd (omega (arith, e, l))
 part_at q (p ∷ ps) [] s j d e u l h = absurd (omega (arith, l))
@@ -120,7 +120,7 @@ more_than_zero : (n : ℕ) → (n ≡ 0 → ⊥) → 0 < n
 more_than_zero zero f = absurd (f refl)
 more_than_zero (suc n) f = omega arith
 
-module _ (S T : TextList) (texts : All IsUtf8 S) (once : IsDistinct T) (same : (s : List ℕ)
+module _ (S T : TextList) (texts : All IsUtf8 S) (once : EachOnce T) (same : (s : List ℕ)
     → Contains T s ↔ Contains S s) (ps : List Home) (placed : AreHomes T ps)
     (totals : (i : ℕ) (d : Home) → i < length T
     → (get_or ps i d).measure.total ≡ copies S (text T i)) where
@@ -185,7 +185,7 @@ none_copied (t ∷ T) s f =
       none_copied T s (λ c. f (suc c.0, omega (arith, c.1), c.2)),
     )
 
-once_copied : (T : TextList) (s : List ℕ) → IsDistinct T → sum_by (λ t. copy t s) T ≤ size s
+once_copied : (T : TextList) (s : List ℕ) → EachOnce T → sum_by (λ t. copy t s) T ≤ size s
 once_copied [] s u = omega arith
 once_copied (t ∷ T) s u = by (once_copied T s u.1) (bytes_eq t s) refl
   where
@@ -228,7 +228,7 @@ copies_one_more (t ∷ T) s ss =
     )
 
 -- the copies of distinct texts take no more than all strings
-pub copies_of_all : (T : TextList) (ss : TextList) → IsDistinct T
+pub copies_of_all : (T : TextList) (ss : TextList) → EachOnce T
     → sum_by (copies ss) T ≤ sum_by size ss
 copies_of_all T [] u = omega (arith, copies_none_in T)
 copies_of_all T (s ∷ ss) u = omega (

@@ -45,7 +45,7 @@ module _ (T : List (List ℕ)) (ns : List Node) (es : List ℕ) (m : IsTrieOf T 
 
   has_at : (x : ℕ) → x < length T → HasText ns (text T x)
   has_at x l = (let e = m.ends x l in record {
-    place = get_or es x 0;
+    node = get_or es x 0;
     within = e.within;
     ends_here =
         ap is_some e.here;
@@ -80,7 +80,7 @@ module _ (T : List (List ℕ)) (ns : List Node) (es : List ℕ) (m : IsTrieOf T 
   record_at : (q : List ℕ) → IsRecord T q → (k : ℕ) × (suffix ns k ≡ q) × IsRecordAt ns k
   record_at q h =
       let p = has_of q h.given in (
-        p.place,
+        p.node,
         p.is,
         record {
           within = p.within;
@@ -90,10 +90,10 @@ module _ (T : List (List ℕ)) (ns : List Node) (es : List ℕ) (m : IsTrieOf T 
             | inr only ↦ inr (λ m l f x.
                 let y : EndsWith (suffix ns m) q =
                 subst (EndsWith (suffix ns m)) p.is
-                (extends_ends (suffix ns m) (suffix ns p.place) (t.texts m l)
-                (t.texts p.place p.within) x) in
+                (extends_ends (suffix ns m) (suffix ns p.node) (t.texts m l)
+                (t.texts p.node p.within) x) in
                 let z : suffix ns m ≡ q = only (suffix ns m) (listed_at m l f) y in
-                t.shape.once m p.place l p.within (ap key (z ∙ sym p.is)))
+                t.shape.once m p.node l p.within (ap key (z ∙ sym p.is)))
           ];
         },
       )
@@ -106,11 +106,11 @@ module _ (T : List (List ℕ)) (ns : List Node) (es : List ℕ) (m : IsTrieOf T 
       | inl m ↦ inl m
       | inr only ↦ inr (λ u g x.
           let p = has_of u g in
-          let y : Extends (path ns p.place) (path ns k) =
-          ends_extends (suffix ns p.place) (suffix ns k) (t.texts p.place p.within)
+          let y : Extends (path ns p.node) (path ns k) =
+          ends_extends (suffix ns p.node) (suffix ns k) (t.texts p.node p.within)
           (t.texts k h.within) (subst (λ (z : List ℕ). EndsWith z (suffix ns k)) (sym p.is)
           x) in
-          sym p.is ∙ ap (suffix ns) (only p.place p.within p.ends_here y))
+          sym p.is ∙ ap (suffix ns) (only p.node p.within p.ends_here y))
     ];
   }
 
@@ -200,7 +200,7 @@ module _ (D : List (List ℕ)) (ns os : List Node) (es : List ℕ) (m : IsTrieOf
   where
     pub trie_fresh : (Contains D s → ⊥) → HasText ns s → ⊥
     trie_fresh f h = f (subst (λ (u : List ℕ). Contains D u) h.is
-        (listed_at D ns es m h.place h.within h.ends_here))
+        (listed_at D ns es m h.node h.within h.ends_here))
 
     pub trie_push : (y k : ℕ) → y ≡ length D → IsTrie os → IsAdded ns os s y k
         → IsTrieOf (D ++ s ∷ []) os (es ++ k ∷ [])

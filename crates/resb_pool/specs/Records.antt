@@ -14,9 +14,9 @@ pub record EndsWith (t s : List ℕ) : Type 0 where
   pub is : t ≡ front ++ s
 
 -- each text once
-abbrev pub IsDistinct : List (List ℕ) → Type 0
-IsDistinct [] = Unit {0}
-IsDistinct (x ∷ xs) = (Contains xs x → ⊥) × IsDistinct xs
+abbrev pub EachOnce : List (List ℕ) → Type 0
+EachOnce [] = Unit {0}
+EachOnce (x ∷ xs) = (Contains xs x → ⊥) × EachOnce xs
 
 -- a non-empty text of S that has a marker, or that no other text of S ends with
 pub record IsRecord (S : List (List ℕ)) (s : List ℕ) : Type 0 where
@@ -25,7 +25,7 @@ pub record IsRecord (S : List (List ℕ)) (s : List ℕ) : Type 0 where
   pub alone : (is_unmarked s ≡ false) ⊎ ((t : List ℕ) → Contains S t → EndsWith t s → t ≡ s)
 
 pub record IsRecords (S Q : List (List ℕ)) : Type 0 where
-  pub once : IsDistinct Q
+  pub once : EachOnce Q
   pub just : (s : List ℕ) → Contains Q s ↔ IsRecord S s
 
 -- s lies, unmarked, at the end of another text r
@@ -36,7 +36,7 @@ pub record IsHeldBy (s r : List ℕ) : Type 0 where
 
 -- whatever texts R a writer could choose: each text of S is one of them or held by one
 pub record IsLayout (S R : List (List ℕ)) : Type 0 where
-  pub once : IsDistinct R
+  pub once : EachOnce R
   pub texts : All IsUtf8 R
   pub short : All (λ r. length (units r) ≤ 4294967295) R
   pub holds : (s : List ℕ) → Contains S s → 0 < length s → Contains R s

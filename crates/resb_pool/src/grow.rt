@@ -1,10 +1,10 @@
 //! How a text is put into the trie: down its path, and a new leaf or a node between at its end.
 //! Where memory is wanting the trie is given up, so nothing is said of it then.
-ghost use Rattle.std.specs.Prelude.{◌≡◌, ℕ, ◌+◌, ◌<◌, List, [], ◌∷◌, ◌++◌, length, drop, Option};
+ghost use Rattle.std.specs.Prelude.{◌≡◌, ◌+◌, ◌<◌, [], ◌∷◌, ◌++◌, length, drop};
 ghost use Rattle.std.specs.Prelude.{Some};
 ghost use Rattle.std.specs.Prelude.{None, IfOk};
 ghost use Rattle.resb_pool.specs.Inner.Extends.{Extends};
-ghost use Rattle.resb_pool.specs.Inner.Nodes.{path, child, ends, suffix, IsTrie};
+ghost use Rattle.resb_pool.specs.Inner.Nodes.{path, child, suffix, IsTrie};
 ghost use Rattle.resb_pool.specs.Inner.Changes.{HasText, IsKept, IsAdded};
 ghost use Rattle.resb_pool.specs.Inner.Cuts.{key, IsCut};
 

@@ -1,8 +1,8 @@
 //! In which record each text lies.
 //! Where the records stand is said in `records`.
-ghost use Rattle.std.specs.Prelude.{◌≡◌, ◌+◌, ◌<◌, ◌^◌, ℕ, List, length, map, sum_by, slice_index};
-ghost use Rattle.std.specs.Prelude.{if◌then◌else◌, All, IfOk, nat_eq};
-ghost use Rattle.resb_pool.specs.Records.{IsDistinct};
+ghost use Rattle.std.specs.Prelude.{◌≡◌, ◌+◌, ◌<◌, ◌^◌, ℕ, length, map, sum_by, slice_index};
+ghost use Rattle.std.specs.Prelude.{All, IfOk};
+ghost use Rattle.resb_pool.specs.Records.{EachOnce};
 ghost use Rattle.resb_pool.specs.Plan.{nows};
 ghost use Rattle.resb_pool.specs.Inner.Placing.{AreHomes, lying_in};
 
@@ -24,7 +24,7 @@ pub(crate) fn find_homes(
     texts: &[&str],
     measures: &[Measure],
 ) -> Result<Vec<Home>, AllocError>
-    requires distinct { IsDistinct (nows texts.now) }
+    requires distinct { EachOnce (nows texts.now) }
     requires len { length measures.now ≡ length texts.now }
     ensures homes { IfOk result (λ v. AreHomes (nows texts.now) v.items) }
     ensures measures { IfOk result (λ v. map (λ p. p.measure) v.items ≡ measures.now) }

@@ -1,4 +1,5 @@
-//! Laws of the definitions, each the contract of a call that does nothing.
+//! Laws of pools, each the contract of a call that does nothing.
+//! Their statements are in `specs/Laws.antt`.
 ghost use Rattle.resb_pool.specs.Laws.{RecordsCostLeast, PoolIsRead, OnePool};
 
 /// Whatever records could hold the strings of a tree, those that the format's rule gives take no

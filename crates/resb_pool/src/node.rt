@@ -1,9 +1,9 @@
 //! The nodes of the trie, and the single steps that read and change them.
 //! Each helper takes the whole vector, so that its contract says what stays.
-ghost use Rattle.std.specs.Prelude.{◌≡◌, ℕ, ◌+◌, ◌<◌, List, [], ◌∷◌, ◌++◌, length, Option, Some};
+ghost use Rattle.std.specs.Prelude.{◌≡◌, ℕ, ◌<◌, length, Option, Some};
 ghost use Rattle.std.specs.Prelude.{None};
-ghost use Rattle.std.specs.Prelude.{OnOk, IsTrue, true, MatchOption};
-ghost use Rattle.resb_pool.specs.Inner.Nodes.{child, ends, suffix, text_ending};
+ghost use Rattle.std.specs.Prelude.{OnOk, MatchOption};
+ghost use Rattle.resb_pool.specs.Inner.Nodes.{child, suffix, text_ending};
 ghost use Rattle.resb_pool.specs.Inner.Changes.{HasChild, HasEnd, HasNode, IsLastChild};
 
 use crate::children::Children;

@@ -1,14 +1,14 @@
 //! The records in their order, and their units.
 //! Which texts are records is said in `homes`.
-ghost use Rattle.std.specs.Prelude.{◌≡◌, ◌++◌, ◌∷◌, ℕ, ◌+◌, ◌<◌, ◌≤◌, ◌^◌, List, [], length, map};
-ghost use Rattle.std.specs.Prelude.{All, IfOk, OnOk, sum_by, slice_index};
+ghost use Rattle.std.specs.Prelude.{◌≡◌, ◌++◌, ◌∷◌, ◌+◌, ◌<◌, ◌^◌, length, map};
+ghost use Rattle.std.specs.Prelude.{All, IfOk, OnOk, sum_by};
 ghost use Rattle.std.specs.Prelude.{nat_eq, not, ◌&&◌};
 ghost use Rattle.std.specs.List.{flat_map};
-ghost use Rattle.std.specs.List.Sorted.{IsPermutation, IsSorted};
+ghost use Rattle.std.specs.List.Sorted.{IsSorted};
 ghost use Rattle.resb_format.specs.Units.{units as units_of, marker, size};
 ghost use Rattle.resb_pool.specs.Pool.{record_units};
 ghost use Rattle.resb_pool.specs.Plan.{nows};
-ghost use Rattle.resb_pool.specs.Records.{IsDistinct, IsRecords};
+ghost use Rattle.resb_pool.specs.Records.{EachOnce, IsRecords};
 ghost use Rattle.resb_pool.specs.Inner.Placing.{AreHomes, AreSums, AreIndexed, AreEnds};
 ghost use Rattle.resb_pool.specs.Inner.Placing.{IsRecordOf, record_texts, record_cmp};
 
@@ -49,7 +49,7 @@ fn find_records<'a>(
     homes: &[Home],
     sums: &[u32],
 ) -> Result<Vec<Record<'a>>, AllocError>
-    requires distinct { IsDistinct (nows texts.now) }
+    requires distinct { EachOnce (nows texts.now) }
     requires homes { AreHomes (nows texts.now) homes.now }
     requires sums { AreSums (nows texts.now) homes.now sums.now }
     ensures records { IfOk result (λ v. IsRecords (nows texts.now) (record_texts v.items)) }
@@ -77,7 +77,7 @@ pub(crate) fn ordered<'a>(
     homes: &[Home],
     sums: &[u32],
 ) -> Result<Vec<Record<'a>>, AllocError>
-    requires distinct { IsDistinct (nows texts.now) }
+    requires distinct { EachOnce (nows texts.now) }
     requires homes { AreHomes (nows texts.now) homes.now }
     requires sums { AreSums (nows texts.now) homes.now sums.now }
     ensures records { IfOk result (λ v. IsRecords (nows texts.now) (record_texts v.items)) }

@@ -1,7 +1,7 @@
 //! Distinct texts as a radix tree over their characters, last first.
 //! It finds the record in which a text lies; where records stand is not said here.
-ghost use Rattle.std.specs.Prelude.{◌≡◌, ℕ, ◌<◌, List, length, IfOk};
-ghost use Rattle.resb_pool.specs.Records.{IsDistinct};
+ghost use Rattle.std.specs.Prelude.{ℕ, ◌<◌, List, length, IfOk};
+ghost use Rattle.resb_pool.specs.Records.{EachOnce};
 ghost use Rattle.resb_pool.specs.Plan.{nows};
 ghost use Rattle.resb_pool.specs.Inner.Nodes.{IsTrieOf};
 ghost use Rattle.resb_pool.specs.Inner.Placing.{LiesAt};
@@ -22,7 +22,7 @@ pub(crate) struct SuffixTrie<'a> {
 impl<'a> SuffixTrie<'a> {
     /// The trie of distinct texts.
     pub(crate) fn of(alloc: Global, texts: &[&'a str]) -> Result<SuffixTrie<'a>, AllocError>
-        requires { IsDistinct (nows texts.now) }
+        requires { EachOnce (nows texts.now) }
         ensures { IfOk result (λ t. IsTrieOf (nows texts.now) t.nodes.items t.ends.items) }
     {
         let mut nodes = Vec::new(alloc);

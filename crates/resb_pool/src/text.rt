@@ -1,8 +1,7 @@
 //! Texts in parts: a last character, a front, a back, what is left without a shared end.
 //! Nothing here knows of nodes.
-ghost use Rattle.std.specs.Prelude.{◌≡◌, ℕ, List, [], ◌++◌, ◌-◌, ◌≤◌, length, take, drop};
+ghost use Rattle.std.specs.Prelude.{◌≡◌, [], ◌-◌, ◌≤◌, length, take, drop};
 ghost use Rattle.std.specs.Prelude.{MatchOption, encode_utf8};
-ghost use Rattle.std.specs.Str.{IsUtf8};
 ghost use Rattle.resb_pool.specs.Inner.Cuts.{IsCut, IsShared};
 
 /// A text's last character, and what stands before it.

@@ -1,10 +1,10 @@
 //! Going down the trie to the greatest record at or below a node.
 //! Nothing is changed here.
-ghost use Rattle.std.specs.Prelude.{◌≡◌, ℕ, ◌+◌, ◌<◌, List, [], ◌∷◌, ◌++◌, length, ◌^◌, true};
+ghost use Rattle.std.specs.Prelude.{◌≡◌, ◌<◌, length, ◌^◌, true};
 ghost use Rattle.std.specs.Prelude.{false};
 ghost use Rattle.std.specs.Bool.{MatchBool};
 ghost use Rattle.resb_format.specs.Units.{is_unmarked as is_unmarked_text};
-ghost use Rattle.resb_pool.specs.Inner.Nodes.{path, child, ends, suffix, IsTrie};
+ghost use Rattle.resb_pool.specs.Inner.Nodes.{ends, suffix, IsTrie};
 ghost use Rattle.resb_pool.specs.Inner.Greatest.{IsGreatestBelow};
 
 use crate::node::{Node, last_child, suffix_of, text_of};

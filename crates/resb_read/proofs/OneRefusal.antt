@@ -6,7 +6,7 @@ use Rattle.resb_format.specs.Error.{refusal_of}
 use Rattle.resb_format.specs.declared.error.ReadingError.{ReadingError}
 use Rattle.resb_walk.specs.Refusals.{IsSpent}
 use Rattle.resb_walk.proofs.Meeting.{one_fault}
-use Rattle.resb_read.specs.Laws.{OneRefusal}
+use Rattle.resb_read.specs.Laws.{OneRefusalOfAFile}
 use Rattle.resb_read.proofs.Rooted.{no_bundle}
 
 both_spent : (d e : ReadingError) → IsSpent d → IsSpent e → refusal_of d ≡ refusal_of e
@@ -15,7 +15,7 @@ both_spent d e h k =
     let messages = h.message_is ∙ sym k.message_is in
     cc
 
-pub one_refusal : OneRefusal
+pub one_refusal : OneRefusalOfAFile
 one_refusal bytes d e (inl h) (inl k) = inr (same_Some _ _ (sym h ∙ k))
 one_refusal bytes d e (inl h) (inr (is, _, _)) = absurd (no_bundle bytes (refusal_of d) h is)
 one_refusal bytes d e (inr (is, _, _)) (inl k) = absurd (no_bundle bytes (refusal_of e) k is)

@@ -1,4 +1,4 @@
--- An access to the members of a sequence.
+-- An access to the members of a sequence, or to the entries of a map.
 use Rattle.std.specs.Prelude.{ℕ, List, [], ◌∷◌, Option, Some, None, Result, Ok, Err, ◌≡◌, ◌≤◌, ◌+◌}
 use Rattle.resb_read.specs.Places.{Place, place_of}
 use Rattle.resb_read.specs.declared.cursor.Cursor.{Cursor}
@@ -50,7 +50,8 @@ StepsToAfter None old new result = StepsToFirst old.rest new result
 abbrev pub StepsTo : Access → Access → Result (Option Cursor) ReadingError → Type 0
 StepsTo old new result = StepsToAfter old.failed old new result
 
--- an access to the entries of a map
+-- the entries still to come, each the places of its key and value, and the error that it stopped
+-- at
 pub record EntryAccess : Type 0 where
   pub rest : List (Place × Place)
   pub failed : Option ReadingError

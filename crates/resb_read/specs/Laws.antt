@@ -1,5 +1,5 @@
 -- What the laws of reading say.
---     OneRefusal              memory aside, a file is refused in one way
+--     OneRefusalOfAFile              memory aside, a file is refused in one way
 --     OneValue                at a place stands one value of each type without parts, and one tree
 use Rattle.std.specs.Prelude.{◌≡◌, ◌⊎◌, ℕ, ℤ, List}
 use Rattle.resb_format.specs.Error.{IsWantOfMemory, refusal_of}
@@ -11,8 +11,9 @@ use Rattle.resb_read.specs.Places.{Place}
 use Rattle.resb_read.specs.Resources.{DenPlace}
 use Rattle.resb_read.specs.Roots.{RefusesFile}
 
-abbrev pub OneRefusal : Type 0
-OneRefusal = (bytes : List ℕ) (d e : ReadingError) → RefusesFile bytes d → RefusesFile bytes e
+abbrev pub OneRefusalOfAFile : Type 0
+OneRefusalOfAFile = (bytes : List ℕ) (d e : ReadingError) → RefusesFile bytes d
+    → RefusesFile bytes e
     → (IsWantOfMemory d ⊎ IsWantOfMemory e) ⊎ (refusal_of d ≡ refusal_of e)
 
 -- two values that are read at one place are equal

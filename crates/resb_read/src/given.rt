@@ -1,7 +1,6 @@
 //! The numbers as types that can be read.
 //! How they are read is said in `numbers`.
 ghost use Rattle.std.specs.Prelude.{◌-◌, ◌^◌, pos, negsuc};
-ghost use Rattle.resb_read.specs.Leaves.{signed_at, unsigned_at, bool_at, bits_at, IsWithin};
 ghost use Rattle.resb_read.specs.Leaves.{ReadsSigned, CountsSigned, ReadsUnsigned, CountsUnsigned};
 ghost use Rattle.resb_read.specs.Leaves.{ReadsBool, CountsBool, ReadsBits, CountsBits};
 ghost use Rattle.resb_read.specs.TypeLaws.{signed_counted, signed_one, unsigned_counted};

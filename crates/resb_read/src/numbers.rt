@@ -1,6 +1,6 @@
 //! Numbers, at an Int's descriptor and at a vector's word.
 //! Numbers as views of a whole vector are in `helpers`.
-ghost use Rattle.std.specs.Prelude.{◌≡◌, ◌≤◌, ◌+◌, ◌-◌, ◌^◌, ◌==◌, ℕ, ℤ, pos, negsuc, Some, None};
+ghost use Rattle.std.specs.Prelude.{◌≡◌, ◌-◌, ◌^◌, ℕ, ℤ, pos, negsuc, Some};
 ghost use Rattle.resb_read.specs.Places.{place_of};
 ghost use Rattle.resb_read.specs.Reading.{Reads};
 ghost use Rattle.resb_walk.specs.Damage.{Says};

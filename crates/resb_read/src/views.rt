@@ -1,6 +1,5 @@
 //! Views of bytes as numbers, as types that can be read: nothing is copied.
 //! The helpers of the Rust crate's names are in `helpers`.
-ghost use Rattle.std.specs.Prelude.{◌≡◌, ◌+◌, ◌≤◌, ◌%◌, ℕ, length};
 ghost use Rattle.resb_format.specs.Views.{unit_bytes, word_bytes, number_bytes, pair_bytes};
 ghost use Rattle.resb_walk.specs.Damage.{Says};
 ghost use Rattle.resb_read.specs.Places.{place_of};

@@ -1,6 +1,6 @@
 -- A table of two named fields, and what each of them is read as.
 --     ReadsField name reads e x n     the entry's key is the name, and its value is read as x
--- ReadsBoth, CountsBoth           the table has the entries i and v, in this order and no others
+--     ReadsBoth, CountsBoth           the table has the entries i and v alone, in this order
 use Rattle.std.specs.Prelude.{◌≡◌, ◌+◌, ◌-◌, ◌^◌, ℕ, ℤ, pos, negsuc, List, [], ◌∷◌, Some}
 use Rattle.std.specs.Prelude.{codes}
 use Rattle.resb_read.specs.Places.{Place}

@@ -60,7 +60,8 @@ b{a{"é"}b{"aé"}c{"😀"}d{"é😀"}} => b: { a: 'é' b: 'aé' c: '😀' d: 'é
 b{t:table{b:int{2}a:int{1}}} => b: { t: { a: 1 b: 2 } }, keys t b a
 b{l:int{1}k:int{2}m:int{3}} => b: { k: 2 l: 1 m: 3 }, keys l k m
 "é"{"é"{"é"}} => é: { é: 'é' }, keys é
-b:table(nofallback){a:array{}b:table{}c:bin{""}d:string{""}} => b without fallback: { a: [ ] b: { } c: < > d: '' }, keys a b c d
+b:table(nofallback){a:array{}b:table{}} => b without fallback: { a: [ ] b: { } }, keys a b
+b{c:bin{""}d:string{""}} => b: { c: < > d: '' }, keys c d
 b{a{x}b{y}c{y}} => b: { a: 'x' b: 'y' c: 'y' }, keys a b c
 b{a{ab}b{b}c{ab}d{cab}} => b: { a: 'ab' b: 'b' c: 'ab' d: 'cab' }, keys a b c d
 "#;

@@ -1,6 +1,6 @@
 //! Integers of 28 bits, as integer resources hold them.
 //! How a descriptor carries one is not said here.
-ghost use Rattle.std.specs.Prelude.{◌≡◌, ℕ, ◌+◌, ◌-◌, ◌<◌, ◌^◌, ◌%◌};
+ghost use Rattle.std.specs.Prelude.{◌≡◌, ℕ, ◌-◌, ◌<◌, ◌^◌, ◌%◌};
 ghost use Rattle.std.specs.Int.{cast_unsigned, w32};
 ghost use Rattle.resb_tree.specs.Int28.{signed};
 

@@ -1,4 +1,5 @@
 //! The keys of tables: texts, borrowed or owned, ordered by their UTF-8 bytes.
+//! The tables that they are keys of are in `resource`.
 ghost use Rattle.std.specs.Prelude.{◌≡◌, ℕ, List, IfOk, IfErr, nat_eq, refl, Some};
 ghost use Rattle.std.specs.Ordering.{nat_cmp};
 ghost use Rattle.std.specs.Cmp.{partial_equiv_from_equiv};

@@ -1,4 +1,5 @@
 //! Laws of trees and integers, each the contract of a call that does nothing.
+//! Their statements are in `specs/Laws.antt`.
 ghost use Rattle.resb_tree.specs.Laws.{PutIsFound, PutKeepsOrder, MapsAreTheirAnswers};
 ghost use Rattle.resb_tree.specs.Laws.{IntegersSurvive};
 

@@ -1,5 +1,6 @@
 //! Want of memory, where it is the only refusal.
-ghost use Rattle.std.specs.Prelude.{◌≡◌, Some, codes};
+//! The errors of reading and writing, which have it among others, are in the crates above.
+ghost use Rattle.std.specs.Prelude.{Some, codes};
 
 use std::alloc::{AllocError, AllocFailed};
 use std::error::Error;

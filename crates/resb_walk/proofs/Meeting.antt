@@ -123,7 +123,7 @@ module _ (p : Parts) where
   waits_meets lists tables (waiting.List rest made) w n x g h i =
       meets_list (members_of rest) h.stands h.each i
   waits_meets lists tables (waiting.Table rest made key) w n x g h i =
-      meets_entry h.place (keyed_members rest) h.stands h.each h.keyed i
+      meets_entry h.position (keyed_members rest) h.stands h.each h.keyed i
 
   pub chain_meets : {L T : Type 0} (lists : L → List Tree → Type 0)
       (tables : T → List (List ℕ × Tree) → Type 0) {w v s : ℕ} {fs : List (Waiting L T)}

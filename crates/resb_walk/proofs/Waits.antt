@@ -57,13 +57,13 @@ module _ {L T : Type 0} (lists : L → List Tree → Type 0)
       → ((es : List (List ℕ × Tree)) → tables made es → tables made' (es ++ (key, t) ∷ []))
       → OpenedTable lists tables p rest made' w (n + k)
   table_puts rest made made' key w n k x t h d f = record {
-    done = h.done ++ (h.place, x) ∷ [];
+    done = h.done ++ (h.position, x) ∷ [];
     entries = h.entries ++ (key, t) ∷ [];
     stands =
         h.stands
         ∙ ap (λ es. Some (pairs es))
-        (sym (append_assoc h.done ((h.place, x) ∷ []) (keyed_members rest)));
-    each = pairs_snoc p h.place x key t k h.each h.keyed d;
+        (sym (append_assoc h.done ((h.position, x) ∷ []) (keyed_members rest)));
+    each = pairs_snoc p h.position x key t k h.each h.keyed d;
     is_made = f h.entries h.is_made;
   }
 
@@ -126,11 +126,11 @@ module _ {L T : Type 0} (lists : L → List Tree → Type 0)
   table_stuck rest made key w n left before x h e s =
       let sum : n + left + 1 ≡ before = omega arith in
       stuck_pairs_of p w (n + left) before
-      (h.done ++ (h.place, x) ∷ keyed_members rest) h.stands sum (
-        (λ ts i d. none_pairs p h.done h.place x (keyed_members rest)
-        (λ k t j g m. s.0 t j m) ts i d),
-        (λ r. stuck_pairs p h.place x (keyed_members rest) left (n + left + 1)
-        (λ k t j g m. s.0 t j m)
+      (h.done ++ (h.position, x) ∷ keyed_members rest) h.stands sum (
+        (λ ts i d. none_pairs p h.done h.position x (keyed_members rest)
+            (λ k t j g m. s.0 t j m) ts i d),
+        (λ r. stuck_pairs p h.position x (keyed_members rest) left (n + left + 1)
+            (λ k t j g m. s.0 t j m)
             (λ k g m. s.1 m) h.each refl r),
       )
 
@@ -140,7 +140,7 @@ module _ {L T : Type 0} (lists : L → List Tree → Type 0)
   table_reaches rest made key w n left before x h e r =
       let sum : 1 + (n + (left + 1)) ≡ before + 1 = omega arith in
       subst (λ i. Reaches p w i) sum (reaches_pairs h.stands (reach_after_pairs p
-      ((h.place, x) ∷ keyed_members rest) (left + 1) h.each (pairs_here h.keyed r)))
+      ((h.position, x) ∷ keyed_members rest) (left + 1) h.each (pairs_here h.keyed r)))
 
   pub waits_refused : (f : Waiting L T) (w n left before : ℕ) (x : Member) (d : ReadingError)
       → Waits lists tables p f w x n → left + (1 + n) ≡ before

@@ -1,5 +1,5 @@
--- Words of the reader's private steps. Public clauses cite those of `Members`; the others have not
--- to be trusted.
+-- Words of the reader's private steps. Public clauses cite those of `Members` and `MemberContent`;
+-- the others have not to be trusted.
 pub mod Members
 pub mod MemberContent
 pub mod Frames

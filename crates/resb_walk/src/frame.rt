@@ -1,6 +1,6 @@
 //! Open collections, round by round: members are taken from one, and put in when they are made.
 //! In which order they are open is the business of `read`.
-ghost use Rattle.std.specs.Prelude.{◌≡◌, ℕ, ◌+◌, IfErr};
+ghost use Rattle.std.specs.Prelude.{ℕ, ◌+◌, IfErr};
 ghost use Rattle.resb_tree.specs.Tree.{Tree};
 ghost use Rattle.resb_format.specs.Parts.{Parts};
 ghost use Rattle.resb_format.specs.Content as at;

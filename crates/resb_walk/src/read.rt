@@ -1,10 +1,7 @@
 //! The reader: it goes from frame to frame, and no function calls itself, so any depth is read.
 //! What stands at a word is found in `standing`, and what is made of it in `tree` and `count`.
-//!
-//! The frames of the collections around are in `frames`, the outermost first. A round takes the
-//! next member from the innermost, or closes it. Each member is paid for as it begins, so that
-//! twice what is left, plus the number of frames, falls in each round.
-ghost use Rattle.std.specs.Prelude.{◌≡◌, ℕ, ◌+◌, IfOk, IfErr};
+//! A round takes the innermost collection's next member, paid for as it begins, or closes it.
+ghost use Rattle.std.specs.Prelude.{ℕ, IfOk, IfErr};
 ghost use Rattle.resb_format.specs.Content as at;
 ghost use Rattle.resb_format.specs.Denotes.{Den, Reaches, DenMember, ReachesMember};
 ghost use Rattle.resb_walk.specs.Files.{parts_in};
@@ -117,6 +114,7 @@ pub fn read_word<'a, 'm, M: Make<'a>>(
         Read::Begun(frame) => frame,
     };
     let mut frames = Vec::new(alloc);
+    // twice what is left, plus the number of frames, falls in each round
     'rounds: loop {
         frame = match advance::<M>(file, frame)? {
             Progress::Wants(member, waiting) => {

@@ -11,15 +11,13 @@ use Rattle.std.specs.Cmp.Lexicographic.{bytes_decides}
 use Rattle.resb_tree.specs.Keys.{same_text}
 use Rattle.resb_pool.specs.Plan.{nows}
 use Rattle.resb_pool.specs.Fault.{unexpected, limit}
+use Rattle.resb_pool.proofs.TextLists.{TextList}
 use Rattle.resb_write.specs.KeyBlock.{is_among}
 use Rattle.resb_write.specs.Faults.{is_unlisted, is_far, has_nul, key_fault}
 use Rattle.std.specs.Prelude.{codes}
 use Rattle.resb_write.proofs.Known.{any_member, member_any}
 
-abbrev Texts : Type 0
-Texts = List (List ℕ)
-
-any_same : (f : List ℕ → Bool) (us ws : Texts) → ((q : List ℕ) → Contains us q ↔ Contains ws q)
+any_same : (f : List ℕ → Bool) (us ws : TextList) → ((q : List ℕ) → Contains us q ↔ Contains ws q)
     → list_any f us ≡ list_any f ws
 any_same f us ws h = by (list_any f us) (list_any f ws) refl refl
   where
@@ -34,7 +32,8 @@ any_same f us ws h = by (list_any f us) (list_any f ws) refl refl
         absurd (true≢false (sym (member_any f us r.0 ((h r.0).1 r.1) r.2) ∙ e))
 
 -- three tests in a row
-pub fault_same : (us ws : Texts) → ((q : List ℕ) → Contains us q ↔ Contains ws q) → (js : Texts)
+pub fault_same : (us ws : TextList) → ((q : List ℕ) → Contains us q ↔ Contains ws q)
+    → (js : TextList)
     → key_fault us js ≡ key_fault ws js
 fault_same us ws h js i =
     cond (any_same (is_unlisted js) us ws h i)
@@ -43,12 +42,12 @@ fault_same us ws h js i =
     (cond (any_same (is_far js) us ws h i) (Some (limit (codes "key position over 2147483647")))
     None))
 
-among_contains : (us : Texts) (q : List ℕ) → is_among us q ≡ true → Contains us q
+among_contains : (us : TextList) (q : List ℕ) → is_among us q ≡ true → Contains us q
 among_contains us q e =
     let r = any_member (same_text q) us e in
     subst (Contains us) (sym ((bytes_decides q r.0).0 r.2)) r.1
 
-pub contains_among : (us : Texts) (q : List ℕ) → Contains us q → is_among us q ≡ true
+pub contains_among : (us : TextList) (q : List ℕ) → Contains us q → is_among us q ≡ true
 contains_among us q c = member_any (same_text q) us q c ((bytes_decides q q).1 refl)
 
 module _ {V : Type 0} (q : List ℕ) where
@@ -80,7 +79,7 @@ module _ {V : Type 0} (q : List ℕ) where
       by false g = g
 
 -- the keys of a map that has the keys us
-pub same_keys : {V : Type 0} (es : List (Bor (List ℕ) × V)) (us : Texts)
+pub same_keys : {V : Type 0} (es : List (Bor (List ℕ) × V)) (us : TextList)
     → ((q : List ℕ) → is_some (lookup (λ k. bytes_eq q k.now) es) ≡ is_among us q) → (q : List ℕ)
     → Contains (nows (keys_of es)) q ↔ Contains us q
 same_keys es us h q = (

@@ -10,7 +10,7 @@ use Rattle.resb_tree.specs.WalkOrder.{walk, text_in, texts_of}
 use Rattle.resb_write.specs.KeyBlock.{used}
 use Rattle.resb_tree.specs.WalkOrder.{keys_of}
 use Rattle.resb_write.specs.PlainSize.{list_size, resources_size}
-use Rattle.resb_write.specs.Faults.{key_fault, fault, first_of, Refused, no_memory, first_fault}
+use Rattle.resb_write.specs.Faults.{key_fault, fault, first_of, Refused, no_memory, at_the_first}
 use Rattle.resb_write.specs.Faults.{too_large}
 use Rattle.resb_write.specs.Inner.Sizes.{size_fault, IsTooMuch, at_fault}
 use Rattle.resb_write.specs.Inner.Sizes.{too_large as too_large_sizes}
@@ -23,7 +23,7 @@ module _ (t : Tree) (ks : List (List ℕ)) where
   key_refused us f e (inr h) =
       let k : key_fault (keys_of t) (used (keys_of t) ks) ≡ Some f =
       (λ i. key_fault (sym e i) (used (sym e i) ks)) ∙ h in
-      first_fault (ap (λ o. first_of o (size_fault (walk t))) k)
+      at_the_first (ap (λ o. first_of o (size_fault (walk t))) k)
 
   module _ (us js : List (List ℕ)) (us_are : us ≡ keys_of t) (js_are : js ≡ used us ks)
       (no_key : key_fault us js ≡ None) where
@@ -35,7 +35,7 @@ module _ (t : Tree) (ks : List (List ℕ)) where
     only_sizes = ap (λ o. first_of o (size_fault (walk t))) no_key_fault
 
     pub size_refused : (f : Fault) → IsTooMuch (walk t) ks f → Refused t ks f
-    size_refused f (at_fault h) = first_fault (only_sizes ∙ h)
+    size_refused f (at_fault h) = at_the_first (only_sizes ∙ h)
     size_refused f (too_large_sizes h l) = too_large (only_sizes ∙ h) l
 
   -- what is small enough is planned, memory aside

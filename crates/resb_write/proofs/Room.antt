@@ -10,7 +10,7 @@ use Rattle.resb_tree.specs.Tree.{Tree, string, array, table, binary, integer, in
 use Rattle.resb_format.specs.Units.{units, size}
 use Rattle.resb_pool.specs.Plan.{first_too_long, texts_size, IsPlan}
 use Rattle.resb_pool.proofs.Least.{into_least}
-use Rattle.resb_pool.proofs.OrderingLemmas.{length-records}
+use Rattle.resb_pool.proofs.InOrder.{length-records}
 use Rattle.resb_pool.proofs.Sizes.{marker_le}
 use Rattle.resb_tree.specs.WalkOrder.{text_in, members}
 use Rattle.resb_bodies.specs.Room.{most_units, most_bytes}

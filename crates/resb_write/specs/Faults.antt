@@ -54,6 +54,6 @@ fault t ks =
 
 pub data Refused (t : Tree) (ks : List (List ℕ)) : Fault → Type 0 where
   no_memory : Refused t ks out_of_memory
-  first_fault : {f : Fault} → fault t ks ≡ Some f → Refused t ks f
+  at_the_first : {f : Fault} → fault t ks ≡ Some f → Refused t ks f
   too_large : fault t ks ≡ None → 2 ^ 28 ≤ plain_size t ks
       → Refused t ks (limit (codes "file too large"))

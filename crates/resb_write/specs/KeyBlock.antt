@@ -2,12 +2,12 @@
 -- block.)
 --     key_block t ks          the block that a file of t has for the keys ks of a list
 --     key_position t ks k     the position of the key k, in bytes of the body
-use Rattle.std.specs.Prelude.{ℕ, ◌+◌, ◌%◌, ◌-◌, List, [], ◌∷◌, ◌++◌, length, filter}
+use Rattle.std.specs.Prelude.{ℕ, ◌+◌, List, [], ◌∷◌, ◌++◌, length, filter}
 use Rattle.std.specs.Prelude.{Option, Some, None, option_map, Bool, if◌then◌else◌}
 use Rattle.std.specs.List.{flat_map, list_any}
 use Rattle.resb_tree.specs.Tree.{Tree}
 use Rattle.resb_tree.specs.Keys.{same_text}
-use Rattle.resb_layout.specs.Laid.{fill}
+use Rattle.resb_layout.specs.Laid.{fill, to_word}
 use Rattle.resb_tree.specs.WalkOrder.{keys_of}
 
 abbrev pub is_among : List (List ℕ) → List ℕ → Bool
@@ -23,12 +23,12 @@ key_bytes ks = flat_map (λ k. k ++ 0 ∷ []) ks
 
 -- bytes 0xaa up to a word's boundary
 abbrev pub padded : List ℕ → List ℕ
-padded bytes = bytes ++ fill ((4 - length bytes % 4) % 4)
+padded bytes = bytes ++ fill (to_word (length bytes))
 
 abbrev pub key_block : Tree → List (List ℕ) → List ℕ
 key_block t ks = padded (key_bytes (used (keys_of t) ks))
 
--- the place, in bytes, of the last occurrence of k among keys that stand one behind the other
+-- how many bytes stand before the last occurrence of k among keys that stand one behind the other
 abbrev pub last_of : List ℕ → List (List ℕ) → Option ℕ
 last_of k [] = None
 last_of k (j ∷ js) = or_here (last_of k js)

@@ -5,6 +5,7 @@ pub use Rattle.resb_tree.specs.Bundle
 pub use Rattle.resb_format.specs.Parts
 pub use Rattle.resb_format.specs.Denotes
 pub use Rattle.resb_format.specs.File
+pub use Rattle.resb_format.specs.Laws as FormatLaws
 pub use Rattle.resb_pool.specs.Fault
 pub use Rattle.resb_pool.specs.FaultOf
 pub use Rattle.resb_pool.specs.Plan

@@ -1,6 +1,6 @@
 //! The key block: which listed keys are used, where each stands, and their bytes.
 //! The faults of keys are found here, in the order in which they are answered.
-ghost use Rattle.std.specs.Prelude.{◌≡◌, ◌++◌, ◌<◌, ◌+◌, ◌%◌, ◌/◌, ◌^◌, ◌⊎◌, ℕ, List, Some, None};
+ghost use Rattle.std.specs.Prelude.{◌≡◌, ◌++◌, ◌<◌, ◌+◌, ◌%◌, ◌^◌, ◌⊎◌, ℕ, List, Some, None};
 ghost use Rattle.std.specs.Prelude.{IfOk, IfErr, OnOk, All, length, filter, nat_lt, unwrap_or};
 ghost use Rattle.std.specs.Str.{IsUtf8};
 ghost use Rattle.std.specs.List.{list_any};

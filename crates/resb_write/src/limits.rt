@@ -1,6 +1,6 @@
 //! The bound on a file's size that is tested before anything is laid out, and the counts that a
 //! file can't hold. The faults of keys are found in `key_block`.
-ghost use Rattle.std.specs.Prelude.{◌≡◌, ◌+◌, ◌-◌, ◌^◌, ◌<◌, List, min, length, OnOk, IfErr};
+ghost use Rattle.std.specs.Prelude.{◌≡◌, ◌+◌, ◌-◌, ◌^◌, ◌<◌, List, min, OnOk, IfErr};
 ghost use Rattle.resb_tree.specs.Tree.{Tree};
 ghost use Rattle.resb_pool.specs.FaultOf.{fault_of};
 ghost use Rattle.resb_write.specs.PlainSize.{list_size, resources_size};

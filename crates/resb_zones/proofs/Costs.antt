@@ -1,28 +1,6 @@
 -- What an entry's key and value cost: the key nothing, and the value one.
-use Rattle.std.proofs.Common.{
-  ℕ,
-  ℤ,
-  List,
-  [],
-  ◌∷◌,
-  ◌≡◌,
-  ◌≤◌,
-  ◌==◌,
-  Bool,
-  true,
-  false,
-  if◌then◌else◌,
-  Option,
-  Some,
-  None,
-  map,
-  refl,
-  sym,
-  ap,
-  subst,
-  ◌∙◌,
-  arith,
-}
+use Rattle.std.proofs.Common.{ℕ, ℤ, List, [], ◌∷◌, ◌≡◌, ◌≤◌, ◌==◌, Bool, true, false, if◌then◌else◌}
+use Rattle.std.proofs.Common.{Option, Some, None, map, refl, sym, ap, subst, ◌∙◌, arith}
 use Rattle.std.specs.Option.{option_map}
 use Rattle.std.specs.List.{All}
 use Rattle.std.proofs.lemmas.List.Elements.{All-cons, All-nil}
@@ -33,17 +11,8 @@ use Rattle.resb.specs.Content.{Member, word, unit}
 use Rattle.resb.specs.Strings.{string_at, key_at}
 use Rattle.resb.specs.Int28.{signed}
 use Rattle.resb.specs.Reading.{Lacks}
-use Rattle.resb.specs.Leaves.{
-  type_in,
-  value_in,
-  signed_at,
-  key_from,
-  bytes_from,
-  bytes_of_type,
-  units_as_bytes,
-  ReadsKey,
-  CountsKey,
-}
+use Rattle.resb.specs.Leaves.{type_in, value_in, signed_at, key_from, bytes_from, bytes_of_type}
+use Rattle.resb.specs.Leaves.{units_as_bytes, ReadsKey, CountsKey}
 use Rattle.resb.specs.Others.{cost_at, CountsView}
 use Rattle.resb.specs.Sequences.{at_entry, entries_in, entries_from, entries}
 use Rattle.resb.specs.declared.binary.Spot.{Spot}

@@ -1,31 +1,8 @@
 -- Entries taken one by one: the front of all of them, and what follows where one is refused or none
 -- is left.
-use Rattle.std.proofs.Common.{
-  ℕ,
-  List,
-  [],
-  ◌∷◌,
-  ◌++◌,
-  ◌≡◌,
-  ◌+◌,
-  ◌≤◌,
-  ◌<◌,
-  inl,
-  inr,
-  Option,
-  Some,
-  None,
-  length,
-  length-append,
-  refl,
-  sym,
-  ap,
-  subst,
-  ◌∙◌,
-  append_assoc,
-  append-nil,
-  arith,
-}
+use Rattle.std.proofs.Common.{ℕ, List, [], ◌∷◌, ◌++◌, ◌≡◌, ◌+◌, ◌≤◌, ◌<◌, inl, inr, Option, Some}
+use Rattle.std.proofs.Common.{None, length, length-append, refl, sym, ap, subst, ◌∙◌, append_assoc}
+use Rattle.std.proofs.Common.{arith}
 use Rattle.std.specs.List.{All}
 use Rattle.std.proofs.lemmas.List.{get_or-append-add}
 use Rattle.std.proofs.lemmas.List.Elements.{All-append, All-cons, All-nil}

@@ -1,24 +1,6 @@
 -- One entry taken: a `base`, a `pairs`, or another one.
-use Rattle.std.proofs.Common.{
-  ℕ,
-  ℤ,
-  List,
-  ◌≡◌,
-  true,
-  false,
-  inl,
-  inr,
-  Some,
-  Result,
-  Ok,
-  Err,
-  get_or,
-  sym,
-  ap,
-  subst,
-  ◌∙◌,
-  arith,
-}
+use Rattle.std.proofs.Common.{ℕ, ℤ, List, ◌≡◌, true, false, inl, inr, Some, Result, Ok, Err, get_or}
+use Rattle.std.proofs.Common.{sym, ap, subst, ◌∙◌, arith}
 use Rattle.std.specs.Result.{OnErr}
 use Rattle.std.specs.Str.{bytes_eq}
 use Rattle.std.proofs.lemmas.Slice.Eq.{bytes_eq-Decides}

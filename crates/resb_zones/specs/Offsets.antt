@@ -1,20 +1,7 @@
 -- The offset of a zone at a moment: that of the last pair, in their order, that begins at most
 -- there, else the base.
-use Rattle.std.specs.Prelude.{
-  ◌≡◌,
-  ◌+◌,
-  ◌*◌,
-  ◌/◌,
-  ◌<◌,
-  ◌≤◌,
-  ◌⊎◌,
-  ◌≤ℤ◌,
-  ◌<ℤ◌,
-  ℕ,
-  ℤ,
-  length,
-  slice_index,
-}
+use Rattle.std.specs.Prelude.{◌≡◌, ◌+◌, ◌*◌, ◌/◌, ◌<◌, ◌≤◌, ◌⊎◌, ◌≤ℤ◌, ◌<ℤ◌, ℕ, ℤ, length}
+use Rattle.std.specs.Prelude.{slice_index}
 use Rattle.std.specs.Int.{cast_signed, w32}
 use Rattle.resb.specs.Views.{pair_words}
 use Rattle.resb_zones.specs.declared.zone.Zone.{Zone}

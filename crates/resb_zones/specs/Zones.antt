@@ -6,25 +6,8 @@
 --     ReadsZone, CountsZone    a table of readable entries, with a last `base` and a last `pairs`
 --     ReadsTable, CountsTable  a map of zones by borrowed names: the last zone of an equal name
 --                              stands
-use Rattle.std.specs.Prelude.{
-  ◌≡◌,
-  ◌≤◌,
-  ◌+◌,
-  ◌-◌,
-  ◌^◌,
-  ◌⊎◌,
-  ◌++◌,
-  ◌∷◌,
-  ℕ,
-  ℤ,
-  pos,
-  negsuc,
-  List,
-  length,
-  Option,
-  Some,
-  codes,
-}
+use Rattle.std.specs.Prelude.{◌≡◌, ◌≤◌, ◌+◌, ◌-◌, ◌^◌, ◌⊎◌, ◌++◌, ◌∷◌, ℕ, ℤ, pos, negsuc, List}
+use Rattle.std.specs.Prelude.{length, Option, Some, codes}
 use Rattle.std.specs.Ordering.{nat_cmp}
 use Rattle.std.specs.BTreeMap.{get_by}
 use Rattle.std.specs.List.{All}

@@ -1,6 +1,6 @@
 //! The entries of a zone, one after another: the last `base` and the last `pairs`.
 //! What a zone is made of is said in `zone`.
-ghost use Rattle.std.specs.Prelude.{◌≡◌, ◌≤◌, ◌<◌, ◌+◌, None, length, IfOk, IfErr, OnOk, OnErr};
+ghost use Rattle.std.specs.Prelude.{◌≡◌, ◌≤◌, ◌<◌, ◌+◌, None, length, IfOk, OnOk, OnErr};
 ghost use Rattle.std.specs.List.{All};
 ghost use Rattle.resb_zones.specs.Zones.{IsReadable};
 ghost use Rattle.resb_zones.specs.Inner.Fields.{entry_of, IsEntry, HasTaken, HasSeen};

@@ -2,7 +2,7 @@
 use Rattle.std.specs.Prelude.{◌≡◌, ℕ, ◌+◌, ◌-◌, ◌*◌, ◌%◌, ◌^◌, ◌<◌, ◌≤◌, List, [], ◌∷◌, length, All}
 use Rattle.resb_tree.specs.Tree.{Tree}
 use Rattle.resb_tree.specs.WalkOrder.{children}
-use Rattle.resb_bodies.specs.Room.{given_by, state_of, HasRoomFor, IsKnown}
+use Rattle.resb_bodies.specs.Room.{given_by, laid_of, HasRoomFor, IsKnown}
 use Rattle.resb_bodies.specs.declared.given.Sites.{Sites}
 use Rattle.resb_bodies.specs.declared.given.Bodies.{Bodies}
 
@@ -26,6 +26,6 @@ Suffices n (t ∷ ts) = (length (children t) ≤ n) × Suffices (n - length (chi
 
 -- these resources can be laid, over a stack of n words
 pub record CanLay (p : Sites) (b : Bodies) (n : ℕ) (ts : List Tree) : Type 0 where
-  pub room : HasRoomFor (given_by p) (state_of b) ts
+  pub room : HasRoomFor (given_by p) (laid_of b) ts
   pub enough : Suffices n ts
   pub known : All (IsKnown (given_by p)) ts

@@ -34,10 +34,10 @@ pub record HasNode (ms ns : List Node) (t : List ℕ) (x : Option ℕ) : Type 0 
 
 -- t is one of the texts
 pub record HasText (ns : List Node) (t : List ℕ) : Type 0 where
-  pub place : ℕ
-  pub within : place < length ns
-  pub ends_here : ends ns place ≡ true
-  pub is : suffix ns place ≡ t
+  pub node : ℕ
+  pub within : node < length ns
+  pub ends_here : ends ns node ≡ true
+  pub is : suffix ns node ≡ t
 
 -- the nodes of before stay, and no text ends at another
 pub record IsKept (ms ns : List Node) : Type 0 where

@@ -1,6 +1,6 @@
 -- Texts in suffix order. A text stands here as its characters, last first.
 --     Extends t s             t begins with s, so that the text t ends with the text s
---     Least, Below            what the order says of two texts
+--     Before, NotAfter        what the order says of two texts
 use Rattle.std.specs.Prelude.{◌≡◌, ℕ, List, ◌++◌}
 use Rattle.std.specs.declared.cmp.Ordering.TheVariants.{Less, Greater}
 use Rattle.resb_pool.specs.Order.{end_last_cmp}

@@ -1,6 +1,6 @@
 -- What stands once texts are laid. T are distinct texts, and ps say in which record each lies.
 --     IsBlock T ps us es      us are unit 0 and the records in their order, which close at es
---     HaveOffsets T ms us os    the texts of these measures stand in us, each where os says
+--     HaveOffsets T ms us os  the texts of these measures stand in us, each where os says
 use Rattle.std.specs.Prelude.{◌≡◌, ℕ, ◌<◌, List, ◌∷◌, length, map, All, slice_index}
 use Rattle.std.specs.List.{flat_map}
 use Rattle.std.specs.List.Sorted.{IsSorted}

@@ -10,7 +10,7 @@ use Rattle.std.specs.Ordering.{nat_cmp, ordering_then}
 use Rattle.std.specs.Str.{bytes_eq, IsUtf8}
 use Rattle.std.specs.declared.cmp.Ordering.{Ordering}
 use Rattle.resb_format.specs.Units.{units, size}
-use Rattle.resb_pool.specs.Records.{IsRecord, IsDistinct}
+use Rattle.resb_pool.specs.Records.{IsRecord, EachOnce}
 use Rattle.resb_pool.specs.Container.{IsContainer}
 use Rattle.resb_pool.specs.Pool.{ClosesAt}
 use Rattle.resb_pool.specs.declared.measure.Measure.{Measure}
@@ -36,7 +36,7 @@ AreMeasures S T ms = (i : ℕ) (d : Measure) → i < length T
 
 pub record AreTexts (S T : List (List ℕ)) (ms : List Measure) : Type 0 where
   pub utf8 : All IsUtf8 S
-  pub once : IsDistinct T
+  pub once : EachOnce T
   pub same : (s : List ℕ) → Contains T s ↔ Contains S s
   pub len : length ms ≡ length T
   pub measured : AreMeasures S T ms
@@ -57,7 +57,7 @@ lying_in ps q = sum_by (λ p. if nat_eq p.record q then p.measure.total else 0) 
 
 -- rs are the records among the texts done, each once
 pub record AreRecordsAmong (S done rs : List (List ℕ)) : Type 0 where
-  pub once : IsDistinct rs
+  pub once : EachOnce rs
   pub sound : (s : List ℕ) → Contains rs s → IsRecord S s × Contains done s
   pub complete : (s : List ℕ) → IsRecord S s → Contains done s → Contains rs s
 

@@ -6,7 +6,7 @@ use Rattle.std.specs.List.{sum_by}
 use Rattle.resb_tree.specs.Tree.{Tree, string, array, table, trees_of, map_of}
 use Rattle.resb_grammar.specs.Items as spec
 use Rattle.resb_grammar.specs.Items.{is_pairs, table_keys, array_keys}
-use Rattle.resb_grammar.specs.Inner.Half.{half as is_half}
+use Rattle.resb_grammar.specs.Inner.Half.{is_half}
 use Rattle.resb_grammar.specs.Machine as machine
 use Rattle.resb_text.specs.Inner.Shown.{Shown, string_shown, group_shown, shown, shows, shown_tree}
 use Rattle.resb_text.specs.Inner.Shown.{shown_pairs}
@@ -20,10 +20,10 @@ use Rattle.resb_text.specs.declared.frames.Open.{Open}
 use Rattle.resb_text.specs.declared.frames.Shape.{Shape}
 use Rattle.resb_text.specs.declared.frames.Shape.TheVariants as shape
 
-abbrev pub body_named : Body → machine.Body
-body_named body.Table = machine.table_body
-body_named body.Array = machine.array_body
-body_named body.Untyped = machine.untyped_body
+abbrev pub group_body_of : Body → machine.Body
+group_body_of body.Table = machine.table_body
+group_body_of body.Array = machine.array_body
+group_body_of body.Untyped = machine.untyped_body
 
 -- whether strings may be keys in such a body
 abbrev pub lists : machine.Body → Bool
@@ -58,7 +58,7 @@ pub record Look : Type 0 where
 abbrev pub looks : Frame → Look
 looks f =
     record {
-      body = body_named f.body;
+      body = group_body_of f.body;
       items = map shown f.items.items;
       alternates = f.alternates;
       number = f.number;

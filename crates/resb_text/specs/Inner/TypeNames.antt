@@ -5,10 +5,10 @@ use Rattle.resb_text.specs.declared.types.Kind as code
 use Rattle.resb_text.specs.declared.types.Kind.TheVariants as names
 
 -- the type that the code names so
-abbrev pub kind_named : code.Kind → Kind
-kind_named names.String = string_kind
-kind_named names.Array = array_kind
-kind_named names.Table = table_kind
-kind_named names.Binary = binary_kind
-kind_named names.Integer = integer_kind
-kind_named names.IntVector = vector_kind
+abbrev pub group_kind_of : code.Kind → Kind
+group_kind_of names.String = string_kind
+group_kind_of names.Array = array_kind
+group_kind_of names.Table = table_kind
+group_kind_of names.Binary = binary_kind
+group_kind_of names.Integer = integer_kind
+group_kind_of names.IntVector = vector_kind

@@ -43,9 +43,9 @@ module _ {L T : Type 0} (lists : L → List Tree → Type 0)
       (n : ℕ) : Type 0 where
     pub done : List (ℕ × Member)
     pub entries : List (List ℕ × Tree)
-    pub place : ℕ
-    pub stands : content p w ≡ Some (pairs (done ++ (place, x) ∷ keyed_members rest))
-    pub keyed : key_at p.keys place ≡ Some key
+    pub position : ℕ
+    pub stands : content p w ≡ Some (pairs (done ++ (position, x) ∷ keyed_members rest))
+    pub keyed : key_at p.keys position ≡ Some key
     pub each : DenPairs p done entries n
     pub is_made : tables made entries
 

@@ -1,15 +1,13 @@
 -- What stands at a member, and what is said where nothing does.
-use Rattle.std.specs.Prelude.{Option, option_map}
-use Rattle.resb_tree.specs.Tree.{string}
-use Rattle.resb_format.specs.Content.{Member, word, unit, Content, leaf, content}
+use Rattle.std.specs.Prelude.{Option}
+use Rattle.resb_format.specs.Content.{Member, word, unit, Content, content, text_leaf}
 use Rattle.resb_format.specs.Error.{Refusal}
 use Rattle.resb_format.specs.Parts.{Parts}
-use Rattle.resb_format.specs.Strings.{text_at}
 use Rattle.resb_walk.specs.Damage.{text_damage, content_damage}
 
 abbrev pub member_content : Parts → Member → Option Content
 member_content p (word w) = content p w
-member_content p (unit u) = option_map (λ t. leaf (string t)) (text_at p.block u)
+member_content p (unit u) = text_leaf p u
 
 abbrev pub member_damage : Parts → Member → Refusal
 member_damage p (word w) = content_damage p w

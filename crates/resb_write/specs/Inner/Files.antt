@@ -1,7 +1,6 @@
 -- The bytes of a file, around its parts.
 --     file_of root n f ks us tail     of a root word, a largest table, a flag, a key block, a
---                                     16-bit
---                                     block and the tail behind it
+--                                     16-bit block and the tail behind it
 --     file_with c, FitsFile c         of what is put together, and whether its places fit
 use Rattle.std.specs.Prelude.{◌≡◌, ℕ, ◌+◌, ◌%◌, ◌/◌, ◌<◌, ◌^◌, List, [], ◌∷◌, ◌++◌, length}
 use Rattle.std.specs.Prelude.{Bool, if◌then◌else◌}

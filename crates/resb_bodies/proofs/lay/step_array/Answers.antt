@@ -4,7 +4,7 @@ use Rattle.std.proofs.lemmas.Result.{on_ok_weaker}
 use Rattle.resb_tree.specs.Tree.{array}
 use Rattle.resb_tree.specs.View.{items_view}
 use Rattle.resb_bodies.specs.StackSteps.{LaysNext}
-use Rattle.resb_bodies.specs.Room.{given_by, state_of}
+use Rattle.resb_bodies.specs.Room.{given_by, laid_of}
 use Rattle.resb_bodies.specs.Inner.Seen.{TakesNoMore}
 use Rattle.std.proofs.lemmas.List.{nil_from_length}
 use Rattle.resb_bodies.proofs.Walks.{items_long}
@@ -17,9 +17,9 @@ returns-then-is_empty-clause-step c =
     nil_from_length c.args.items.now (eqb-true (length c.args.items.now) 0 (sym c.is_empty.ensures
     ∙ c.if-is_empty.true)) in
     on_ok_weaker c.replace.result (λ h. subst (λ rs. LaysNext (given_by c.args.sites.now)
-    (state_of c.args.bodies.now) c.args.words.now.items (array (items_view rs))
-    (state_of c.args.bodies.now) c.replace.new.words.items) (sym z)
-    (empty_array_step (given_by c.args.sites.now) (state_of c.args.bodies.now)
+    (laid_of c.args.bodies.now) c.args.words.now.items (array (items_view rs))
+    (laid_of c.args.bodies.now) c.replace.new.words.items) (sym z)
+    (empty_array_step (given_by c.args.sites.now) (laid_of c.args.bodies.now)
     c.args.words.now.items c.replace.new.words.items c.word.result c.word.ensures h))
     c.replace.ensures
 
@@ -40,7 +40,7 @@ returns-clause-step c =
     let mid = ap (λ k. k - n) (c.len.ensures ∙ c.args.words.now.ok.0) in
     let v = c.split_at.ensures.back ∙ (λ i. drop (mid i) (c.deref.ensures.value i)) in
     on_ok_weaker c.replace-2.result (λ h. array_step (given_by c.args.sites.now)
-    (state_of c.args.bodies.now) (state_of c.close_array.new.bodies) ws
+    (laid_of c.args.bodies.now) (laid_of c.close_array.new.bodies) ws
     c.replace-2.new.words.items c.split_at.result.1.now
     (items_view c.args.items.now) c.in_ok-word.word n (items_long c.args.items.now)
     c.requires.enough v (omega (arith, some)) c.in_ok-word.ensures.lays h) c.replace-2.ensures

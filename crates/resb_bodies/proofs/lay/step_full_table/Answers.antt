@@ -1,6 +1,6 @@
 use Rattle.std.proofs.Common.{◌-◌, ℕ, length, drop, sym, ◌∙◌, ap, subst}
 use Rattle.std.proofs.lemmas.Result.{on_ok_weaker}
-use Rattle.resb_bodies.specs.Room.{given_by, state_of}
+use Rattle.resb_bodies.specs.Room.{given_by, laid_of}
 use Rattle.resb_bodies.specs.Inner.Seen.{HasRoom, TakesNoMore}
 use Rattle.resb_bodies.proofs.Stacks.{split_stack, table_step}
 use Rattle.resb_bodies.proofs.lay.step_full_table.Goals as goal
@@ -28,7 +28,7 @@ returns-clause-step c =
     let mid = ap (λ k. k - n) (c.len.ensures ∙ c.args.words.now.ok.0) in
     let v = c.split_at.ensures.back ∙ (λ i. drop (mid i) (c.deref.ensures.value i)) in
     on_ok_weaker c.replace.result (λ h es e placed. table_step (given_by c.args.sites.now)
-    (state_of c.args.bodies.now) (state_of c.close_table.new.bodies) ws c.replace.new.words.items
+    (laid_of c.args.bodies.now) (laid_of c.close_table.new.bodies) ws c.replace.new.words.items
     c.split_at.result.1.now ps es c.in_ok-word.word n (sym e) c.requires.enough v c.requires.full
     placed c.in_ok-word.ensures.lays h) c.replace.ensures
 

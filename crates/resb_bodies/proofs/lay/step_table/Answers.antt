@@ -5,7 +5,7 @@ use Rattle.resb_tree.specs.View.{entries_view}
 use Rattle.resb_layout.specs.Laid.{ArePlaced}
 use Rattle.resb_tree.specs.WalkOrder.{entry_keys}
 use Rattle.resb_bodies.specs.StackSteps.{LaysNext}
-use Rattle.resb_bodies.specs.Room.{given_by, state_of}
+use Rattle.resb_bodies.specs.Room.{given_by, laid_of}
 use Rattle.resb_bodies.specs.Inner.Seen.{HasRoom, TakesNoMore}
 use Rattle.std.proofs.lemmas.List.{nil_from_length}
 use Rattle.resb_bodies.proofs.Keys.{keys_long, values_long, placed_long, not_none}
@@ -17,9 +17,9 @@ returns-then-is_empty-clause-step c =
     let z : c.args.table.now.entries ≡ [] =
     nil_from_length c.args.table.now.entries (c.is_empty.ensures.0 c.if-is_empty.true) in
     on_ok_weaker c.replace.result (λ h. subst (λ es. LaysNext (given_by c.args.sites.now)
-    (state_of c.args.bodies.now) c.args.words.now.items (table (entries_view es))
-    (state_of c.args.bodies.now) c.replace.new.words.items) (sym z)
-    (empty_table_step (given_by c.args.sites.now) (state_of c.args.bodies.now)
+    (laid_of c.args.bodies.now) c.args.words.now.items (table (entries_view es))
+    (laid_of c.args.bodies.now) c.replace.new.words.items) (sym z)
+    (empty_table_step (given_by c.args.sites.now) (laid_of c.args.bodies.now)
     c.args.words.now.items c.replace.new.words.items c.word.result c.word.ensures h))
     c.replace.ensures
 
@@ -68,5 +68,5 @@ returns-clause-takes c =
     c.in_ok-positions.positions.items c.in_ok-positions.ensures ∙ keys_long es in
     on_ok_weaker c.step_full_table.result
     (λ h.
-        subst (TakesNoMore c.args.sites.now c.args.bodies.now c.step_full_table.new.bodies) long h)
+    subst (TakesNoMore c.args.sites.now c.args.bodies.now c.step_full_table.new.bodies) long h)
     c.step_full_table.ensures.takes

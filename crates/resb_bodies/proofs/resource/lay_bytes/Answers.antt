@@ -3,7 +3,7 @@ use Rattle.std.specs.Int.{to_le_bytes, w32}
 use Rattle.std.proofs.lemmas.Bool.{eqb-true, eqb-false}
 use Rattle.resb_tree.specs.Tree.{binary}
 use Rattle.resb_layout.specs.Laid.{Lays, lays_no_bytes, fill, to_data, to_word}
-use Rattle.resb_bodies.specs.Room.{given_by, state_of}
+use Rattle.resb_bodies.specs.Room.{given_by, laid_of}
 use Rattle.std.proofs.lemmas.List.{nil_from_length}
 use Rattle.resb_bodies.proofs.Closings.{bytes_laid}
 use Rattle.resb_bodies.proofs.resource.lay_bytes.Goals as goal
@@ -13,10 +13,10 @@ returns-then-is_empty-clause-lays c =
     let z : c.args.bytes.now ≡ [] =
     nil_from_length c.args.bytes.now (eqb-true (length c.args.bytes.now) 0 (sym c.is_empty.ensures
     ∙ c.if-is_empty.true)) in
-    subst (λ ns. Lays (given_by c.args.sites.now) (state_of c.args.bodies.now) (binary ns)
-    (state_of c.args.bodies.now) c.word.result) (sym z)
-    (subst (Lays (given_by c.args.sites.now) (state_of c.args.bodies.now) (binary [])
-    (state_of c.args.bodies.now)) (sym c.word.ensures) lays_no_bytes)
+    subst (λ ns. Lays (given_by c.args.sites.now) (laid_of c.args.bodies.now) (binary ns)
+    (laid_of c.args.bodies.now) c.word.result) (sym z)
+    (subst (Lays (given_by c.args.sites.now) (laid_of c.args.bodies.now) (binary [])
+    (laid_of c.args.bodies.now)) (sym c.word.ensures) lays_no_bytes)
 
 pub returns-clause-lays : goal.returns-clause-lays
 returns-clause-lays c =
@@ -30,7 +30,7 @@ returns-clause-lays c =
     let e2 = c.in_ok-put_word.ensures ∙ ap (λ x. x ++ to_le_bytes w32 (length c.args.bytes.now))
     e1 in
     let e3 = c.in_ok-extend_from_slice.ensures.items ∙ ap (λ x. x ++ c.args.bytes.now) e2 in
-    bytes_laid (given_by c.args.sites.now) (state_of c.args.bodies.now) c.args.bytes.now
+    bytes_laid (given_by c.args.sites.now) (laid_of c.args.bodies.now) c.args.bytes.now
     c.put_fill-2.new.tail.items c.word-2.result c.tail_value-at.result
     (omega (arith, n)) (omega (arith, c.requires.bytes)) (omega (
       arith,

@@ -4,7 +4,7 @@ use Rattle.resb_tree.specs.View.{tree_of}
 use Rattle.resb_layout.specs.Laid.{Lays}
 use Rattle.resb_tree.specs.WalkOrder.{walk}
 use Rattle.resb_bodies.specs.StackSteps.{LaysRow}
-use Rattle.resb_bodies.specs.Room.{given_by, state_of, trees_in, HasRoomFor, IsKnown}
+use Rattle.resb_bodies.specs.Room.{given_by, laid_of, trees_in, HasRoomFor, IsKnown}
 use Rattle.resb_bodies.specs.Inner.Seen.{Suffices}
 use Rattle.resb_bodies.proofs.Rows.{suffices}
 use Rattle.resb_bodies.proofs.Stacks.{steps_lay_trees}
@@ -15,7 +15,7 @@ steps-requires c =
     let t = tree_of c.args.root.now in
     let order = sym c.in_ok-order.ensures in
     record {
-      room = subst (HasRoomFor (given_by c.args.sites.now) (state_of c.args.bodies.now)) order
+      room = subst (HasRoomFor (given_by c.args.sites.now) (laid_of c.args.bodies.now)) order
           c.requires.room;
       enough = subst (λ ws. Suffices (length ws) (trees_in c.in_ok-order.order.items))
           (sym c.new-words.ensures.items) (subst (Suffices 0) order (suffices t));
@@ -26,8 +26,8 @@ pub unreachable-requires : goal.unreachable-requires
 unreachable-requires c =
     let t = tree_of c.args.root.now in
     let g = given_by c.args.sites.now in
-    let s = state_of c.args.bodies.now in
-    let e = state_of c.steps.new.bodies in
+    let s = laid_of c.args.bodies.now in
+    let e = laid_of c.steps.new.bodies in
     let ws = c.steps.new.words.items in
     let h = subst (λ l. LaysRow g s l (walk t) e ws) c.new-words.ensures.items
     (subst (λ ts. LaysRow g s c.new-words.result.items ts e ws) c.in_ok-order.ensures
@@ -39,8 +39,8 @@ pub returns-clause-lays : goal.returns-clause-lays
 returns-clause-lays c =
     let t = tree_of c.args.root.now in
     let g = given_by c.args.sites.now in
-    let s = state_of c.args.bodies.now in
-    let e = state_of c.steps.new.bodies in
+    let s = laid_of c.args.bodies.now in
+    let e = laid_of c.steps.new.bodies in
     let ws = c.steps.new.words.items in
     let h = subst (λ l. LaysRow g s l (walk t) e ws) c.new-words.ensures.items
     (subst (λ ts. LaysRow g s c.new-words.result.items ts e ws) c.in_ok-order.ensures

@@ -5,7 +5,7 @@ use Rattle.std.proofs.lemmas.List.Sums.{sum_by-cons}
 use Rattle.std.specs.Vec.Iter.{into_iter_items, into_iter_len}
 use Rattle.resb_tree.specs.View.{tree_of}
 use Rattle.resb_bodies.specs.StackSteps.{LaysRow, row_none}
-use Rattle.resb_bodies.specs.Room.{given_by, state_of, trees_in, most_units, HasRoomFor}
+use Rattle.resb_bodies.specs.Room.{given_by, laid_of, trees_in, most_units, HasRoomFor}
 use Rattle.resb_bodies.specs.Inner.Seen.{CanLay}
 use Rattle.std.proofs.lemmas.List.{nil_from_length}
 use Rattle.resb_bodies.proofs.Walks.{trees-push}
@@ -50,17 +50,17 @@ loop-resource-preserved c =
     let next = c.in-Some.ensures.steps.0 in
     let old = c.loop-resource.words.items in
     let new = c.step.new.words.items in
-    let before = state_of c.loop-resource.bodies in
-    let after = state_of c.step.new.bodies in
+    let before = laid_of c.loop-resource.bodies in
+    let after = laid_of c.step.new.bodies in
     let t = tree_of resource.now in
     let can = subst (λ rs. CanLay c.args.sites.now c.loop-resource.bodies (length old)
     (trees_in rs)) next c.loop-resource.invariant.3 in (
       append_assoc done (resource ∷ []) rest ∙ ap (λ l. done ++ l) (sym next)
           ∙ c.loop-resource.invariant.0,
       omega (arith, c.loop-resource.invariant.1, c.in-Some.ensures.steps.1, ap length next),
-      subst (λ ts. LaysRow g (state_of c.args.bodies.now) c.args.words.now.items ts after new)
+      subst (λ ts. LaysRow g (laid_of c.args.bodies.now) c.args.words.now.items ts after new)
           (sym (trees-push done (done ++ resource ∷ []) resource refl))
-          (steps_push g (state_of c.args.bodies.now) before after c.args.words.now.items old new
+          (steps_push g (laid_of c.args.bodies.now) before after c.args.words.now.items old new
           (trees_in done) t c.loop-resource.invariant.2 c.in_ok-step.ensures.step),
       can_go_on c.args.sites.now c.loop-resource.bodies (length old) t (trees_in rest) can
           c.step.new.bodies (length new) c.in_ok-step.ensures.takes
@@ -80,7 +80,7 @@ returns-clause-fits c =
     let end : into_iter_len c.loop-resource.resource-iterator ≡ 0 = search rules in
     let none = nil_from_length (into_iter_items c.loop-resource.resource-iterator)
     (sym c.loop-resource.invariant.1 ∙ end) in
-    subst (λ rs. HasRoomFor (given_by c.args.sites.now) (state_of c.loop-resource.bodies)
+    subst (λ rs. HasRoomFor (given_by c.args.sites.now) (laid_of c.loop-resource.bodies)
     (trees_in rs)) none c.loop-resource.invariant.3.room
 
 pub returns-clause-takes : goal.returns-clause-takes

@@ -1,16 +1,5 @@
-use Rattle.std.proofs.Common.{
-  ◌≡◌,
-  ◌++◌,
-  [],
-  refl,
-  ap,
-  sym,
-  ◌∙◌,
-  subst,
-  append_assoc,
-  append-nil,
-  take-append-drop,
-}
+use Rattle.std.proofs.Common.{◌≡◌, ◌++◌, [], refl, ap, sym, ◌∙◌, subst, append_assoc, append-nil}
+use Rattle.std.proofs.Common.{take-append-drop}
 use Rattle.std.proofs.lemmas.Bool.{eqb-true}
 use Rattle.std.proofs.lemmas.List.{nil_from_length}
 use Rattle.std.specs.Io.KnownBytes.{Appends}

@@ -7,8 +7,8 @@ use Rattle.resb_pool.specs.Pool.{record_units}
 use Rattle.resb_pool.specs.Inner.Placing.{record_texts}
 use Rattle.resb_pool.specs.declared.records.Record.{Record}
 use Rattle.resb_pool.proofs.TextLoops.{blank}
-use Rattle.resb_pool.proofs.OrderingLemmas.{length-records, texts-take, ends_put, closes_at, so_far}
-use Rattle.resb_pool.proofs.OrderingLemmas.{records-push}
+use Rattle.resb_pool.proofs.InOrder.{length-records, texts-take, ends_put, closes_at, so_far}
+use Rattle.resb_pool.proofs.InOrder.{records-push}
 use Rattle.resb_pool.proofs.records.lay.Goals as goal
 
 abbrev no_record : Record

@@ -2,7 +2,7 @@ use Rattle.std.proofs.lemmas.List.Sorted.{IsPermutation-map, All-permutation}
 use Rattle.resb_pool.specs.Plan.{nows}
 use Rattle.resb_pool.specs.Inner.Placing.{IsRecordOf, record_texts}
 use Rattle.resb_pool.specs.declared.records.Record.{Record}
-use Rattle.resb_pool.proofs.OrderingLemmas.{records_permutation}
+use Rattle.resb_pool.proofs.InOrder.{records_permutation}
 use Rattle.resb_pool.proofs.records.ordered.Goals as goal
 
 pub returns-clause-records : goal.returns-clause-records

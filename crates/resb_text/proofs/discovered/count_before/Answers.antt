@@ -1,5 +1,5 @@
 use Rattle.std.proofs.Common.{◌∙◌, ap, refl, arith}
-use Rattle.resb_text.proofs.KeyLemmas.{left_of-less}
+use Rattle.resb_text.proofs.DiscoveredLemmas.{left_of-less}
 use Rattle.resb_text.proofs.discovered.count_before.Goals as goal
 
 pub loop-count-preserved : goal.loop-count-preserved

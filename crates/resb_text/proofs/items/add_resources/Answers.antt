@@ -3,7 +3,7 @@ use Rattle.std.proofs.Common.{append_assoc}
 use Rattle.std.specs.Prelude.{map}
 use Rattle.std.specs.Vec.Iter.{into_iter_items}
 use Rattle.resb_text.specs.Inner.Shown.{shown, shown_tree, shown_borrowed}
-use Rattle.resb_text.proofs.ItemLemmas.{term_tree_shown, term_borrowed_shown}
+use Rattle.resb_text.proofs.ShownLemmas.{term_tree_shown, term_borrowed_shown}
 use Rattle.resb_text.proofs.items.add_resources.Goals as goal
 
 -- one goes from those that are left to those that are made

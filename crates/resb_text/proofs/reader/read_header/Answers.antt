@@ -1,6 +1,6 @@
 use Rattle.std.proofs.Common.{arith}
 use Rattle.std.proofs.lemmas.Result.{err_from_is_err_and}
-use Rattle.resb_text.proofs.HeaderLemmas.{typing_first, no_open, typing_refused}
+use Rattle.resb_text.proofs.HeaderReading.{typing_first, no_open, typing_refused}
 use Rattle.resb_grammar.proofs.HeaderPath.{name_read}
 use Rattle.resb_text.proofs.reader.read_header.Goals as goal
 

@@ -1,4 +1,4 @@
-use Rattle.resb_text.proofs.HeaderLemmas.{no_name}
+use Rattle.resb_text.proofs.HeaderReading.{no_name}
 use Rattle.resb_text.proofs.reader.read_name.Goals as goal
 
 pub returns-in_default-clause-err : goal.returns-in_default-clause-err

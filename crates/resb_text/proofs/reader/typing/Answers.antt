@@ -1,6 +1,6 @@
 use Rattle.std.proofs.Common.{refl, sym, ◌∙◌}
 use Rattle.resb_grammar.specs.BundleText.{without, with}
-use Rattle.resb_text.proofs.HeaderLemmas.{no_root_type}
+use Rattle.resb_text.proofs.HeaderReading.{no_root_type}
 use Rattle.resb_text.proofs.reader.typing.Goals as goal
 
 pub returns-then-byte-ne58-clause-ok : goal.returns-then-byte-ne58-clause-ok

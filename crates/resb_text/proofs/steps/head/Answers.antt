@@ -1,5 +1,5 @@
 use Rattle.std.proofs.lemmas.Result.{err_from_is_err_and}
-use Rattle.resb_text.proofs.TypedLemmas.{no_type, no_type_brace}
+use Rattle.resb_text.proofs.TypedGroups.{no_type, no_type_brace}
 use Rattle.resb_text.proofs.steps.head.Goals as goal
 
 pub returns-in_default-clause-err : goal.returns-in_default-clause-err

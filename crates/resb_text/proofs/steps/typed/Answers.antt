@@ -1,8 +1,8 @@
 use Rattle.std.proofs.Common.{refl, sym}
 use Rattle.std.proofs.lemmas.Result.{err_from_is_err_and}
 use Rattle.resb_grammar.specs.Ascii as ascii
-use Rattle.resb_text.proofs.TypedLemmas.{may_stand, type_refused, head_refused, group_opened}
-use Rattle.resb_text.proofs.TypedLemmas.{leaf_refused, leaf_added}
+use Rattle.resb_text.proofs.TypedGroups.{may_stand, type_refused, head_refused, group_opened}
+use Rattle.resb_text.proofs.TypedGroups.{leaf_refused, leaf_added}
 use Rattle.resb_text.proofs.steps.typed.Goals as goal
 
 pub returns-then-not-takes_group-clause-err : goal.returns-then-not-takes_group-clause-err

@@ -8,7 +8,7 @@ use Rattle.resb_pool.specs.FaultOf.{fault_of}
 use Rattle.resb_pool.specs.Plan.{nows, at_text, plan_units, offset_of, IsPlan}
 use Rattle.resb_layout.specs.Laid.{Given, Lays}
 use Rattle.resb_tree.specs.WalkOrder.{walk}
-use Rattle.resb_bodies.specs.Room.{state_of, IsKnown}
+use Rattle.resb_bodies.specs.Room.{laid_of, IsKnown}
 use Rattle.resb_write.specs.KeyBlock.{used, key_bytes, padded, position_in}
 use Rattle.resb_write.specs.Faults.{Refused, no_memory, key_fault}
 use Rattle.resb_write.specs.Written.{Written, even}
@@ -183,7 +183,7 @@ returns-clause-ok c =
     let plan = c.in_ok-plan.field-0 in
     let b = c.in_ok-keys.ensures.ok in
     let js = nows c.in_ok-keys.field-0.keys.items in
-    let laid = state_of c.in_ok-bodies.bodies in
+    let laid = laid_of c.in_ok-bodies.bodies in
     let us = ap nows c.deref.ensures.value ∙ c.in_ok-contents.ensures.keys_are in
     let texts = ap nows c.deref-2.ensures.value ∙ c.in_ok-contents.ensures.texts_are in
     let small = c.in_ok-check_sizes.ensures.ok (walk t) c.in_ok-contents.ensures in

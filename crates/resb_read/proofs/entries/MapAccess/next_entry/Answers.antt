@@ -11,7 +11,7 @@ returns-in-Err g c =
     let first = c.in-Some-first.ensures in
     let h = c.in-Err.ensures.refused in
     let whole : old.failed ≡ None = sym (ap (λ (a : EntryAccess). a.failed) seen)
-        ∙ c.in_default.is in
+    ∙ c.in_default.is in
     entry_fails g.K.Deserialize.reads g.K.Deserialize.counts g.T.Deserialize.reads
     g.T.Deserialize.counts old _
     (place_of c.in-Some-first.key_at, place_of c.in-Some-first.value_at) (drop 1 old.rest)

@@ -2,7 +2,7 @@ use Rattle.std.proofs.Common.{◌∙◌, sym, ap, false}
 use Rattle.resb_text.specs.Inner.Shown.{shown_term}
 use Rattle.resb_text.specs.Inner.Frames.{Look}
 use Rattle.resb_text.specs.declared.items.Term.{Term}
-use Rattle.resb_text.proofs.FrameLemmas.{goes_string, goes_group, key_then}
+use Rattle.resb_text.proofs.FramesLemmas.{goes_string, goes_group, key_then}
 use Rattle.resb_text.proofs.frames.Frame.goes_on.Goals as goal
 
 pub returns-in-String : goal.returns-in-String

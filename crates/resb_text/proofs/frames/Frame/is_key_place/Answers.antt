@@ -1,4 +1,4 @@
-use Rattle.resb_text.proofs.FrameLemmas.{some_key_place, none_key_place}
+use Rattle.resb_text.proofs.FramesLemmas.{some_key_place, none_key_place}
 use Rattle.resb_text.proofs.frames.Frame.is_key_place.Goals as goal
 
 pub returns-in-Some : goal.returns-in-Some

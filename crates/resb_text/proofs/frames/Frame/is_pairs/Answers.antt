@@ -1,6 +1,6 @@
 use Rattle.std.proofs.Common.{ap}
 use Rattle.resb_text.specs.Inner.Frames.{Look}
-use Rattle.resb_text.proofs.FrameLemmas.{pairs_then}
+use Rattle.resb_text.proofs.FramesLemmas.{pairs_then}
 use Rattle.resb_text.proofs.frames.Frame.is_pairs.Goals as goal
 
 pub returns-then-self : goal.returns-then-self

@@ -1,6 +1,6 @@
 use Rattle.std.proofs.Common.{refl}
 use Rattle.resb_text.specs.declared.frames.Frame.{Frame}
-use Rattle.resb_text.proofs.FrameLemmas.{look_more}
+use Rattle.resb_text.proofs.FramesLemmas.{look_more}
 use Rattle.resb_text.proofs.frames.Frame.push.Goals as goal
 
 pub returns-clause-looks : goal.returns-clause-looks

@@ -3,10 +3,10 @@ use Rattle.resb_text.specs.Inner.Discovered.{Numbered, left, is_dropped_in}
 use Rattle.resb_grammar.specs.Items as spec
 use Rattle.resb_grammar.specs.Machine as machine
 use Rattle.resb_grammar.specs.Machine.{with_term}
-use Rattle.resb_text.specs.Inner.Frames.{Look, lists, body_named, Shows}
+use Rattle.resb_text.specs.Inner.Frames.{Look, lists, group_body_of, Shows}
 use Rattle.resb_text.specs.declared.items.Term.TheVariants as terms
-use Rattle.resb_text.proofs.OpenLemmas.{shows_string, shows_item}
-use Rattle.resb_text.proofs.ResultLemmas.{on_ok_from}
+use Rattle.resb_text.proofs.OpenGroups.{shows_string, shows_item}
+use Rattle.resb_text.proofs.Outcomes.{on_ok_from}
 use Rattle.resb_text.proofs.frames.Open.add_string.Goals as goal
 
 abbrev one : List ℕ → ℕ → Numbered
@@ -25,7 +25,7 @@ returns-then-lists_keys-clause-shows c =
     → Shows _ (with_term (spec.string_term c.args.text.now) o)} _
     (λ added. λ o x. shows_string c.args.self.now _ o
     (terms.String c.args.text) c.args.text.now x refl c.in_ok-push.ensures.looks refl
-    (ap (λ b. lists (body_named b)) (sym c.in_ok-push.ensures.body) ∙ sym c.lists_keys.ensures
+    (ap (λ b. lists (group_body_of b)) (sym c.in_ok-push.ensures.body) ∙ sym c.lists_keys.ensures
     ∙ c.if-lists_keys.true) (added
     ∙ ap (λ n. left c.args.self.now.keys
     ++ one c.args.text.now n ∷ []) c.in_ok-push.ensures.number) c.add.ensures.dropped)
@@ -35,5 +35,5 @@ pub returns-clause-shows : goal.returns-clause-shows
 returns-clause-shows c =
     λ o x. shows_item c.args.self.now _ o
     (terms.String c.args.text) c.args.text.now x refl c.in_ok-push.ensures.looks refl
-    (ap (λ b. lists (body_named b)) (sym c.in_ok-push.ensures.body) ∙ sym c.lists_keys.ensures
+    (ap (λ b. lists (group_body_of b)) (sym c.in_ok-push.ensures.body) ∙ sym c.lists_keys.ensures
     ∙ c.if-lists_keys.false) refl

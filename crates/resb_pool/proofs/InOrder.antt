@@ -21,7 +21,7 @@ use Rattle.std.proofs.lemmas.List.Sums.{sum_by-cons, sum_by-append}
 use Rattle.std.proofs.lemmas.List.Sorted.{sum_by-IsPermutation, Contains-permutation}
 use Rattle.std.proofs.lemmas.List.Sorted.{IsPermutation-sym}
 use Rattle.resb_format.specs.Units.{units, marker, size}
-use Rattle.resb_pool.specs.Records.{IsDistinct, IsRecords}
+use Rattle.resb_pool.specs.Records.{EachOnce, IsRecords}
 use Rattle.resb_pool.specs.Pool.{Saved, Precedes, fewer_units, saves_more, smaller_bytes}
 use Rattle.resb_pool.specs.Pool.{record_units, ClosesAt}
 use Rattle.resb_pool.specs.Inner.Placing.{AreIndexed, AreEnds, record_texts, record_cmp}
@@ -54,7 +54,7 @@ often_none x (y ∷ ys) h =
       | inr e ↦ omega (arith, sum_by-cons (one x) y ys, n, e)
     ]
 
-often_once : (x : List ℕ) (xs : TextList) → IsDistinct xs → often x xs ≤ 1
+often_once : (x : List ℕ) (xs : TextList) → EachOnce xs → often x xs ≤ 1
 often_once x [] d = omega arith
 often_once x (y ∷ ys) d =
     let m = often_once x ys d.1 in
@@ -70,14 +70,14 @@ often_some x (y ∷ ys) (zero, lt, is) = omega (arith, sum_by-cons (one x) y ys,
 often_some x (y ∷ ys) (suc k, lt, is) =
     omega (arith, sum_by-cons (one x) y ys, often_some x ys (k, omega arith, is))
 
-once_distinct : (xs : TextList) → ((x : List ℕ) → often x xs ≤ 1) → IsDistinct xs
+once_distinct : (xs : TextList) → ((x : List ℕ) → often x xs ≤ 1) → EachOnce xs
 once_distinct [] h = tt
 once_distinct (y ∷ ys) h = (
   λ c. omega (arith, h y, sum_by-cons (one y) y ys, often_some y ys c, is_one y y refl),
   once_distinct ys (λ x. omega (arith, h x, sum_by-cons (one x) y ys)),
 )
 
-pub distinct_permutation : (xs ys : TextList) → IsPermutation xs ys → IsDistinct xs → IsDistinct ys
+pub distinct_permutation : (xs ys : TextList) → IsPermutation xs ys → EachOnce xs → EachOnce ys
 distinct_permutation xs ys p d =
     once_distinct ys (λ x. omega (arith, often_once x xs d, sum_by-IsPermutation (one x) xs ys p))
 
@@ -92,7 +92,7 @@ records_permutation S xs ys p h = record {
 }
 
 -- two neighbours of distinct texts differ
-pub neighbours_differ : (xs : TextList) (k : ℕ) → IsDistinct xs → suc k < length xs
+pub neighbours_differ : (xs : TextList) (k : ℕ) → EachOnce xs → suc k < length xs
     → get_or xs k [] ≡ get_or xs (suc k) [] → ⊥
 neighbours_differ [] k d h e = omega arith
 neighbours_differ (x ∷ []) zero d h e = omega arith

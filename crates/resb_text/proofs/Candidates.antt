@@ -13,8 +13,9 @@ use Rattle.resb_text.specs.Inner.Discovered.{Numbered, without, texts}
 use Rattle.resb_text.specs.Inner.Frames.{lists}
 use Rattle.resb_text.specs.Inner.Frames.{left_after, Layer, layer, frame_keys}
 use Rattle.resb_text.specs.Inner.Frames.{IsFrom, Holds, none, one_more}
-use Rattle.resb_text.proofs.KeyLemmas.{without-append, without-own, without-other, without-without}
-use Rattle.resb_text.proofs.KeyLemmas.{texts_snoc}
+use Rattle.resb_text.proofs.DiscoveredLemmas.{without-append, without-own, without-other}
+use Rattle.resb_text.proofs.DiscoveredLemmas.{without-without}
+use Rattle.resb_text.proofs.DiscoveredLemmas.{texts_snoc}
 
 texts-append : (xs ys : List Numbered) → texts (xs ++ ys) ≡ texts xs ++ texts ys
 texts-append xs ys = map-append (λ c. c.text) xs ys

@@ -16,7 +16,7 @@ use Rattle.resb_grammar.specs.Machine.{in_body, next, At}
 use Rattle.resb_grammar.proofs.Lex.{neither, type_class}
 use Rattle.resb_grammar.specs.Stuck.{expected, expected_in, Stuck, blocked}
 use Rattle.resb_text.specs.Inner.Leaf.{Leaf, LeafFails}
-use Rattle.resb_text.specs.Inner.Frames.{body_named, Shows}
+use Rattle.resb_text.specs.Inner.Frames.{group_body_of, Shows}
 use Rattle.resb_text.specs.Answer.{Fails}
 use Rattle.resb_text.specs.Refusal.{want_of_memory}
 use Rattle.resb_text.specs.Inner.Steps.{takes_group, Among, HeadFails}
@@ -28,8 +28,8 @@ use Rattle.resb_grammar.specs.Token.{Means}
 use Rattle.resb_grammar.proofs.Moves.{move_means, further, byte_class, none_some, no_text_colon}
 use Rattle.resb_grammar.proofs.Complete.{MayOpen, type_next, run_head, run_content}
 use Rattle.resb_grammar.proofs.LexLemmas.{no_number, no_root_type}
-use Rattle.resb_text.proofs.HeaderLemmas.{error_at}
-use Rattle.resb_text.proofs.StepLemmas.{body_same, stuck_here}
+use Rattle.resb_text.proofs.HeaderReading.{error_at}
+use Rattle.resb_text.proofs.StepsLemmas.{body_same, stuck_here}
 
 may_open : (b : Body) (xs : List Item) → takes_group b (is_key_place xs) ≡ true → MayOpen b xs
 may_open table_body xs h = go (is_key_place xs) h
@@ -123,19 +123,22 @@ module _ (text : List ℕ) where
   -- a typed group may stand here
   pub may_stand : (c : Open) (at : ℕ) (key b : Bool) → (x : Among text at c)
       → ((o : machine.Open) → Shows c o → key ≡ is_key_place o.frame.items)
-      → b ≡ takes_group (body_named c.frame.body) key → b ≡ true
+      → b ≡ takes_group (group_body_of c.frame.body) key → b ≡ true
       → takes_group x.open_groups.frame.body (is_key_place x.open_groups.frame.items) ≡ true
   may_stand c at key b x place takes is =
       sym (ap (λ k. takes_group k (is_key_place x.open_groups.frame.items))
       (body_same c x.open_groups x.shows))
-      ∙ sym (ap (takes_group (body_named c.frame.body)) (place x.open_groups x.shows)) ∙ sym takes
+      ∙ sym (ap (takes_group (group_body_of c.frame.body)) (place x.open_groups x.shows))
+      ∙ sym takes
       ∙ is
 
   -- no type may stand here
   pub type_refused : (c : Open) (at b : ℕ) (key may : Bool) (e : Expected) → (x : Among text at c)
       → ((o : machine.Open) → Shows c o → key ≡ is_key_place o.frame.items)
-      → b ≡ slice_index text at → b ≡ ascii.colon → e ≡ expected_in (body_named c.frame.body) key b
-      → may ≡ takes_group (body_named c.frame.body) key → may ≡ false → Fails text (error_at at e)
+      → b ≡ slice_index text at → b ≡ ascii.colon
+      → e ≡ expected_in (group_body_of c.frame.body) key b
+      → may ≡ takes_group (group_body_of c.frame.body) key → may ≡ false
+      → Fails text (error_at at e)
   type_refused c at b key may e x place byte colon is takes refused =
       stuck_here text c at b key e x place byte is
       (λ to u m. only_types x.open_groups at to u m.token (sym byte ∙ colon)
@@ -146,7 +149,7 @@ module _ (text : List ℕ) where
       out =
           sym (ap (λ k. takes_group k (is_key_place x.open_groups.frame.items))
           (body_same c x.open_groups x.shows))
-          ∙ sym (ap (takes_group (body_named c.frame.body)) (place x.open_groups x.shows))
+          ∙ sym (ap (takes_group (group_body_of c.frame.body)) (place x.open_groups x.shows))
           ∙ sym takes
           ∙ refused
 

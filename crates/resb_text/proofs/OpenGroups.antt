@@ -25,19 +25,19 @@ use Rattle.resb_text.specs.declared.discovered.Keys.{Keys}
 use Rattle.resb_text.specs.declared.items.Item as code
 use Rattle.resb_text.specs.declared.frames.Frame as frames
 use Rattle.resb_text.specs.declared.frames.Open as opens
-use Rattle.resb_grammar.specs.Inner.Half.{half}
-use Rattle.resb_text.specs.Inner.Frames.{IsTableWhole, ClosesTo, body_named, lists}
+use Rattle.resb_grammar.specs.Inner.Half.{is_half}
+use Rattle.resb_text.specs.Inner.Frames.{IsTableWhole, ClosesTo, group_body_of, lists}
 use Rattle.resb_text.specs.Inner.Frames.{looks, look_of, looks_of, frames_in, Look, Shows, AreOpen}
 use Rattle.resb_text.specs.Inner.Frames.{tree_shown_in, left_after, Layer, layer}
 use Rattle.resb_text.specs.Inner.Frames.{Holds, none}
-use Rattle.resb_text.proofs.KeyLemmas.{without-append, without-other}
-use Rattle.resb_text.proofs.ItemLemmas.{pairs_shown}
-use Rattle.resb_text.proofs.HoldsLemmas.{cand, holds_string, holds_item, holds_leaf, holds_new}
-use Rattle.resb_text.proofs.HoldsLemmas.{after_keeps, holds_closed, holds_root, comma_frame}
-use Rattle.resb_text.proofs.HoldsLemmas.{holds_comma}
-use Rattle.resb_text.proofs.FrameLemmas.{same_look, Pushes, whole, tree_same, last_shown, comma_of}
-use Rattle.resb_text.proofs.FrameLemmas.{comma_code, comma_item, set_comma, with_code}
-use Rattle.resb_text.proofs.FrameLemmas.{set_comma_term, map_set_shown, set_last, shown_len}
+use Rattle.resb_text.proofs.DiscoveredLemmas.{without-append, without-other}
+use Rattle.resb_text.proofs.ShownLemmas.{pairs_shown}
+use Rattle.resb_text.proofs.Candidates.{cand, holds_string, holds_item, holds_leaf, holds_new}
+use Rattle.resb_text.proofs.Candidates.{after_keeps, holds_closed, holds_root, comma_frame}
+use Rattle.resb_text.proofs.Candidates.{holds_comma}
+use Rattle.resb_text.proofs.FramesLemmas.{same_look, Pushes, whole, tree_same, last_shown, comma_of}
+use Rattle.resb_text.proofs.FramesLemmas.{comma_code, comma_item, set_comma, with_code}
+use Rattle.resb_text.proofs.FramesLemmas.{set_comma_term, map_set_shown, set_last, shown_len}
 
 pub open_same : (k l : Keys) (limit : ℕ) (gs : List Layer)
     → ((g : ℕ) → is_dropped_in l g ≡ is_dropped_in k g) → AreOpen k limit gs → AreOpen l limit gs
@@ -74,7 +74,7 @@ dropped_same k l e g = ap (λ ds. slice_index_or ds.items g false) e
 pub shows_string : (c d : opens.Open) (o : machine.Open) (term : CodeTerm) (s : List ℕ)
     → (x : Shows c o) → shown_term term false ≡ string_shown s false
     → Pushes c.frame d.frame term → d.around.items ≡ c.around.items
-    → lists (body_named c.frame.body) ≡ true
+    → lists (group_body_of c.frame.body) ≡ true
     → left d.keys ≡ left c.keys ++ cand s c.frame.number ∷ []
     → d.keys.is_dropped ≡ c.keys.is_dropped → Shows d (with_term (string_term s) o)
 shows_string c d o term s x is push a ls e ds =
@@ -100,7 +100,7 @@ shows_string c d o term s x is push a ls e ds =
 pub shows_item : (c d : opens.Open) (o : machine.Open) (term : CodeTerm) (s : List ℕ)
     → (x : Shows c o) → shown_term term false ≡ string_shown s false
     → Pushes c.frame d.frame term → d.around.items ≡ c.around.items
-    → lists (body_named c.frame.body) ≡ false → d.keys ≡ c.keys
+    → lists (group_body_of c.frame.body) ≡ false → d.keys ≡ c.keys
     → Shows d (with_term (string_term s) o)
 shows_item c d o term s x is push a ls e =
     shows_term c d o (string_term s) term x is push a
@@ -148,11 +148,11 @@ shows_root c title e n d a l = record {
 
 -- an open group within
 pub shows_open : (c d : opens.Open) (o : machine.Open) (b : bodies.Body) → (x : Shows c o)
-    → looks d.frame ≡ look_of (layer (groups c.keys) (new_frame (body_named b)))
+    → looks d.frame ≡ look_of (layer (groups c.keys) (new_frame (group_body_of b)))
     → d.around.items ≡ c.around.items ++ c.frame ∷ []
     → left d.keys ≡ left c.keys → groups d.keys ≡ groups c.keys + 1
     → ((g : ℕ) → is_dropped_in d.keys g ≡ is_dropped_in c.keys g)
-    → is_dropped_in c.keys (groups c.keys) ≡ false → Shows d (machine.within (body_named b) o)
+    → is_dropped_in c.keys (groups c.keys) ≡ false → Shows d (machine.within (group_body_of b) o)
 shows_open c d o b x e a l g ds fresh = record {
   number = groups c.keys;
   around = layer x.number o.frame ∷ x.around;
@@ -164,9 +164,9 @@ shows_open c d o b x e a l g ds fresh = record {
   holds =
       subst
       (λ (cs : List Numbered). Holds
-      (layer (groups c.keys) (new_frame (body_named b)) ∷ layer x.number o.frame ∷ x.around) cs)
+      (layer (groups c.keys) (new_frame (group_body_of b)) ∷ layer x.number o.frame ∷ x.around) cs)
       (sym l)
-      (holds_new (groups c.keys) (body_named b) (layer x.number o.frame ∷ x.around)
+      (holds_new (groups c.keys) (group_body_of b) (layer x.number o.frame ∷ x.around)
       (left c.keys) x.holds x.within);
   within = λ h le. ap (without h) l ∙ x.within h (omega (arith, g)) ∙ sym l;
   are_open = (
@@ -275,7 +275,7 @@ root_keys c o x e b = go x.around (x.frames ∙ e) x.holds
     go [] h holds = holds_root x.number o.frame (left c.keys) b holds
     go (g ∷ gs) h holds = cc
 
-not_alternating : (m : Term) (xs : List Item) → half (before_comma m ∷ xs) ≡ false
+not_alternating : (m : Term) (xs : List Item) → is_half (before_comma m ∷ xs) ≡ false
 not_alternating (string_term s) xs = refl
 not_alternating (group_term t ks) xs = refl
 
@@ -335,7 +335,7 @@ shows_comma c d o x y k s lt last xs no_comma ys b n i t a e = go o.frame.items 
             frame =
                 same_look (looks d.frame)
                 (look_of (layer s.number (comma_frame o.frame v.term vs)))
-                (ap body_named b ∙ ap (λ (l : Look). l.body) s.frame)
+                (ap group_body_of b ∙ ap (λ (l : Look). l.body) s.frame)
                 (ap (map shown) i
                 ∙ map_set_shown c.frame.items.items k
                 (record { term = y.term; comma = true })

@@ -7,12 +7,14 @@ ghost use Rattle.resb_layout.specs.Laid.{near_table_body, wide_table_body, are_n
 
 use std::alloc::AllocError;
 
+/// Appends the 4 bytes of a word, the lowest first.
 pub(crate) fn put_word(tail: &mut Vec<u8>, word: u32) -> Result<(), AllocError>
     ensures { OnOk result (tail.new.items ≡ tail.old.items ++ to_le_bytes w32 word) }
 {
     tail.extend_from_slice(&word.to_le_bytes())
 }
 
+/// Appends the bytes of words, one behind the other.
 pub(crate) fn put_words(tail: &mut Vec<u8>, words: &[u32]) -> Result<(), AllocError>
     ensures { OnOk result (tail.new.items ≡ tail.old.items ++ words_bytes words.now) }
 {
@@ -22,6 +24,7 @@ pub(crate) fn put_words(tail: &mut Vec<u8>, words: &[u32]) -> Result<(), AllocEr
     Ok(())
 }
 
+/// Appends the 2 bytes of a 16-bit number, the lower one first.
 pub(crate) fn put_half(tail: &mut Vec<u8>, half: u16) -> Result<(), AllocError>
     ensures { OnOk result (tail.new.items ≡ tail.old.items ++ to_le_bytes w16 half) }
 {

@@ -8,6 +8,7 @@ use std::io::ErrorKind;
 use std::rt::{Env, Files};
 use std::{env, fs, io};
 
+/// The words behind the program's own name.
 fn words_of<R: Env + AllocGlobal>(rt: &R) -> io::Result<Vec<String>> {
     let mut words = env::args(rt)?;
     let _program = words.next();
@@ -36,6 +37,7 @@ pub fn perform(rt: &HostRuntime) -> u8
     }
 }
 
+/// Says how the program is called, and answers the status of that fault.
 fn usage<R: Eprint>(rt: &R) -> u8
     ensures { result ≡ 2 }
 {
@@ -43,6 +45,7 @@ fn usage<R: Eprint>(rt: &R) -> u8
     2
 }
 
+/// Says what is wrong, and answers its status.
 fn refuse<R: Eprint>(rt: &R, e: ToolError) -> u8
     ensures { result ≡ status_of e }
 {
@@ -61,6 +64,7 @@ fn read_file<R: Files + AllocGlobal>(rt: &R, name: &str) -> Result<Vec<u8>, Tool
     }
 }
 
+/// The bytes of the file of that name, or the status, once it is said what is wrong.
 fn read_named<R: Files + AllocGlobal + Eprint>(rt: &R, name: &str) -> Result<Vec<u8>, u8>
     ensures { IfErr result (λ status. status ≤ 2) }
 {
@@ -97,6 +101,7 @@ fn compile_named<R: Files + AllocGlobal + Eprint>(rt: &R, input: &str, output: &
     }
 }
 
+/// Prints how many resources the file of that name has.
 fn check_named<R: Files + AllocGlobal + Eprint + Print>(rt: &R, input: &str) -> u8
     ensures { result ≤ 2 }
 {

@@ -7,6 +7,7 @@ mod command;
 pub use resb_command::{ToolError, check_file, compile_text, run};
 use std::process::ExitCode;
 
+/// Ends the process with the status of what its words ask for.
 fn main(rt: HostRuntime) -> ExitCode {
     ExitCode::from(command::perform(&rt))
 }

@@ -74,6 +74,7 @@ pub(crate) fn has_leaves_alone(table: &Table<'_>) -> bool
     table.values().all(|resource| is_leaf(resource))
 }
 
+/// Whether a resource is no array and no table.
 fn is_leaf(resource: &Resource<'_>) -> bool
     ensures { IsTrue result ↔ IsLeaf (tree_of resource.now) }
 {

@@ -110,6 +110,7 @@ impl<'a> PartialEq for Resource<'a> {
     }
 }
 
+/// Whether two resources stand for one tree. Calls itself once a level.
 #[cycle(same)]
 fn same(a: &Resource<'_>, b: &Resource<'_>) -> bool
     ensures { result ≡ test.tree_eq (tree_of a.now) (tree_of b.now) }
@@ -125,6 +126,7 @@ fn same(a: &Resource<'_>, b: &Resource<'_>) -> bool
     }
 }
 
+/// Whether two arrays have equal members in the same order.
 #[cycle(same)]
 fn same_items(a: &Vec<Resource<'_>>, b: &Vec<Resource<'_>>) -> bool
     ensures { result ≡ test.trees_eq (items_view a.now.items) (items_view b.now.items) }
@@ -141,6 +143,7 @@ fn same_items(a: &Vec<Resource<'_>>, b: &Vec<Resource<'_>>) -> bool
     others.next().is_none()
 }
 
+/// Whether two tables have the same keys, each with equal resources.
 #[cycle(same)]
 fn same_entries(a: &Table<'_>, b: &Table<'_>) -> bool
     ensures { result ≡ test.entries_eq (entries_view a.now.entries) (entries_view b.now.entries) }

@@ -1,14 +1,43 @@
--- A compiled text is read back as its tree.
-use Rattle.std.proofs.Common.{Ok, Err, inl, inr}
+-- A written file is read back as its tree, and so is a compiled text; a text of a bundle is read
+-- back as that bundle; and what isn't read as a tree denotes none.
+use Rattle.std.proofs.Common.{◌⊎◌, ℕ, List, Result, Ok, Err, inl, inr}
+use Rattle.std.specs.Result.{IfErr}
+use Rattle.resb_tree.specs.declared.resource.Resource.{Resource}
+use Rattle.resb_format.specs.Error.{IsWantOfMemory}
+use Rattle.resb_format.specs.File.{budget}
+use Rattle.resb_format.specs.declared.error.ReadingError.{ReadingError}
+use Rattle.resb_read.specs.Reading.{LacksOrMemory}
+use Rattle.resb_read.specs.Resources.{CountsTree}
+use Rattle.resb_read.specs.Roots.{AtRoot}
+use Rattle.resb.specs.Headline.{DenotesNone}
 use Rattle.resb_tree.specs.Tree.{tree_count}
 use Rattle.resb_format.specs.Parts.{parts_of}
 use Rattle.resb_format.proofs.Denoting.{unique}
-use Rattle.resb.specs.Laws.{CompiledIsRead}
+use Rattle.resb_grammar.proofs.GrammarLaws.{one_bundle}
+use Rattle.resb.specs.Laws.{WrittenIsRead, CompiledIsRead, BundleTextIsRead}
+
+pub written_is_read : WrittenIsRead
+written_is_read bytes t f ks (Ok r) w h = (unique (parts_of bytes) h.1.root.0 w.tree.root).0
+written_is_read bytes t f ks (Err e) w (inl m) = m
+written_is_read bytes t f ks (Err e) w (inr lacks) =
+    absurd (lacks (tree_count t) (record { head = w.tree.head; root = (t, w.tree.root) })
+    w.within_budget)
 
 pub compiled_is_read : CompiledIsRead
-compiled_is_read text bytes c (Ok r) h = (unique (parts_of bytes) h.1.root.0 c.file.tree.root).0
-compiled_is_read text bytes c (Err e) (inl m) = m
-compiled_is_read text bytes c (Err e) (inr lacks) =
-    absurd (lacks (tree_count c.bundle.tree)
-    (record { head = c.file.tree.head; root = (c.bundle.tree, c.file.tree.root) })
-    c.file.within_budget)
+compiled_is_read text bytes c r h =
+    written_is_read bytes c.bundle.tree c.bundle.fallback c.bundle.keys r c.file h
+
+pub tree_or_none : (bytes : List ℕ) (r : Result Resource ReadingError)
+    → IfErr r (LacksOrMemory (λ n. AtRoot (λ p. CountsTree p n) bytes) (budget bytes))
+    → IfErr r (λ e. IsWantOfMemory e ⊎ DenotesNone bytes)
+tree_or_none bytes (Ok r) h = tt
+tree_or_none bytes (Err e) (inl m) = inl m
+tree_or_none bytes (Err e) (inr lacks) =
+    inr (λ t d. lacks d.0 (record { head = d.1.head; root = (t, d.1.root) }) d.2)
+
+pub bundle_text_is_read : BundleTextIsRead
+bundle_text_is_read text name f t ks b (Ok r) h =
+    let e = one_bundle text _ _ _ _ _ _ _ _ h b in
+    (e.0, e.1, e.2)
+bundle_text_is_read text name f t ks b (Err e) (inl m) = m
+bundle_text_is_read text name f t ks b (Err e) (inr none) = absurd (none name f t ks b)

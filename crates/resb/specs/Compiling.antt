@@ -24,6 +24,7 @@ pub record IsBundle (text : List ℕ) : Type 0 where
   pub keys : List (List ℕ)
   pub is : BundleText text name fallback tree keys
 
+-- the text is a bundle, and the bytes are a written file of its tree, flag and keys
 pub record IsCompiled (text bytes : List ℕ) : Type 0 where
   pub bundle : IsBundle text
   pub file : Written bytes bundle.tree bundle.fallback bundle.keys
@@ -39,10 +40,12 @@ pub record IsUnreadable (text : List ℕ) (e : TextParserError) : Type 0 where
   pub fails : Fails text e
   pub no_bundle : (e ≡ refusal.want_of_memory) ⊎ IsNoBundle text
 
+-- why a text isn't compiled: the reader refuses it, or the writer refuses its tree
 abbrev pub IsRefused : List ℕ → CompileError → Type 0
 IsRefused text (Reading e) = IsUnreadable text e
 IsRefused text (Writing e) = IsUnwritable text e
 
+-- what the error prints: the text of the error inside
 abbrev pub message_of : CompileError → List ℕ
 message_of (Reading e) = refusal.message_of e
 message_of (Writing e) = fault.message_of (fault_of e)

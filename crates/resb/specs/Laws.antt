@@ -1,28 +1,71 @@
--- What the law of the whole way says.
+-- What the laws of the whole way say.
 --     ReadsRoot bytes r       what `from_bytes::<Resource>` promises of its answer
+--     WrittenIsRead           a file of a tree is read back as that tree, memory aside
 --     CompiledIsRead          a compiled text is read back as its tree, memory aside
-use Rattle.std.specs.Prelude.{◌≡◌, ◌≤◌, ℕ, List, Result, Ok, Err}
+--     BundleTextIsRead        a text of a bundle is read back as that bundle, memory aside
+use Rattle.std.specs.Prelude.{◌≡◌, ◌≤◌, ◌⊎◌, ℕ, Bool, List, Result, Ok, Err}
+use Rattle.std.specs.declared.vec.Vec.{Vec}
+use Rattle.std.specs.declared.alloc.Global.{Global}
 use Rattle.resb_tree.specs.Tree.{Tree}
 use Rattle.resb_tree.specs.View.{tree_of}
+use Rattle.resb_tree.specs.Bundle.{name_of, root_of}
+use Rattle.resb_tree.specs.declared.bundle.ResourceBundle.{ResourceBundle}
+use Rattle.resb_tree.specs.declared.key.Key.{Key}
 use Rattle.resb_tree.specs.declared.resource.Resource.{Resource}
+use Rattle.resb_grammar.specs.BundleText.{BundleText}
+use Rattle.resb_text.specs.Answer.{IsNoBundle}
+use Rattle.resb_text.specs.Refusal.{want_of_memory}
+use Rattle.resb_text.specs.declared.error.TextParserError.{TextParserError}
 use Rattle.resb_format.specs.Error.{IsWantOfMemory}
 use Rattle.resb_format.specs.File.{budget}
 use Rattle.resb_format.specs.declared.error.ReadingError.{ReadingError}
 use Rattle.resb_read.specs.Reading.{LacksOrMemory}
 use Rattle.resb_read.specs.Resources.{ReadsTree, CountsTree}
 use Rattle.resb_read.specs.Roots.{AtRoot}
+use Rattle.resb_write.specs.Written.{Written}
 use Rattle.resb.specs.Compiling.{IsCompiled}
 
+-- what reading a file as a tree promises: a tree at the root, paid for, or memory, or no such tree
 abbrev pub ReadsRoot : List ℕ → Result Resource ReadingError → Type 0
 ReadsRoot bytes (Ok r) = (n : ℕ) × AtRoot (λ p. ReadsTree p r n) bytes × (n ≤ budget bytes)
 ReadsRoot bytes (Err e) =
     LacksOrMemory (λ n. AtRoot (λ p. CountsTree p n) bytes) (budget bytes) e
 
+-- the answer is this tree, or memory was wanted
 abbrev pub IsTree : Tree → Result Resource ReadingError → Type 0
 IsTree t (Ok r) = tree_of r ≡ t
 IsTree t (Err e) = IsWantOfMemory e
 
+-- whoever wrote the file, and in whatever order its keys were listed
+abbrev pub WrittenIsRead : Type 0
+WrittenIsRead =
+    (bytes : List ℕ) (t : Tree) (fallback : Bool) (ks : List (List ℕ))
+    (r : Result Resource ReadingError)
+    → Written bytes t fallback ks → ReadsRoot bytes r → IsTree t r
+
+-- whatever reads a compiled file as a tree answers the text's tree, memory aside
 abbrev pub CompiledIsRead : Type 0
 CompiledIsRead =
     (text bytes : List ℕ) (c : IsCompiled text bytes) (r : Result Resource ReadingError)
     → ReadsRoot bytes r → IsTree c.bundle.tree r
+
+-- what reading a text promises: a bundle that the text is, or want of memory, or it is none
+abbrev pub AnswersText : List ℕ → Result (ResourceBundle × Vec Key Global) TextParserError → Type 0
+AnswersText text (Ok r) =
+    BundleText text (name_of r.0) r.0.is_locale_fallback_enabled (root_of r.0) r.1.items
+AnswersText text (Err e) = (e ≡ want_of_memory) ⊎ IsNoBundle text
+
+-- the answer is a bundle of this name, flag and tree, or memory was wanted
+abbrev pub IsBundleOf : List ℕ → Bool → Tree
+    → Result (ResourceBundle × Vec Key Global) TextParserError → Type 0
+IsBundleOf name fallback t (Ok r) =
+    (name_of r.0 ≡ name) × (r.0.is_locale_fallback_enabled ≡ fallback) × (root_of r.0 ≡ t)
+IsBundleOf name fallback t (Err e) = e ≡ want_of_memory
+
+-- whatever reads a text of a bundle answers that bundle, memory aside
+abbrev pub BundleTextIsRead : Type 0
+BundleTextIsRead =
+    (text name : List ℕ) (fallback : Bool) (t : Tree) (keys : List (List ℕ))
+    → BundleText text name fallback t keys
+    → (r : Result (ResourceBundle × Vec Key Global) TextParserError) → AnswersText text r
+    → IsBundleOf name fallback t r

@@ -24,12 +24,17 @@ pub use Rattle.resb_text.specs.Answer
 pub use Rattle.resb_text.specs.Borrowed
 pub use Rattle.resb_text.specs.Refusal
 pub use Rattle.resb_text.specs.Turns
+pub use Rattle.resb_print.specs.Printed
+pub use Rattle.resb_print.specs.Held
+pub use Rattle.resb_print.specs.Quotes
+pub use Rattle.resb_print.specs.Laws as PrintLaws
 pub use Rattle.resb_format.specs.Bytes
 pub use Rattle.resb_format.specs.Units
 pub use Rattle.resb_format.specs.Strings
 pub use Rattle.resb_format.specs.StringFaults
 pub use Rattle.resb_format.specs.Types
 pub use Rattle.resb_format.specs.Descriptor
+pub use Rattle.resb_format.specs.Coded
 pub use Rattle.resb_format.specs.DescriptorReading
 pub use Rattle.resb_format.specs.Views
 pub use Rattle.resb_format.specs.Error
@@ -45,6 +50,8 @@ pub use Rattle.resb_head.specs.HeadChecks
 pub use Rattle.resb_head.specs.HeadReading
 pub use Rattle.resb_head.specs.PartsReading
 pub use Rattle.resb_head.specs.Laws as HeadLaws
+pub use Rattle.resb_shared.specs.Links
+pub use Rattle.resb_shared.specs.Laws as SharedLaws
 pub use Rattle.resb_walk.specs.Files
 pub use Rattle.resb_walk.specs.Damage
 pub use Rattle.resb_walk.specs.Meets
@@ -55,6 +62,7 @@ pub use Rattle.resb_read.specs.Places
 pub use Rattle.resb_read.specs.Reading
 pub use Rattle.resb_read.specs.Leaves
 pub use Rattle.resb_read.specs.Refused
+pub use Rattle.resb_read.specs.Refusing
 pub use Rattle.resb_read.specs.Resources
 pub use Rattle.resb_read.specs.Roots
 pub use Rattle.resb_read.specs.Others
@@ -71,6 +79,7 @@ pub use Rattle.resb_pool.specs.Fault
 pub use Rattle.resb_pool.specs.FaultOf
 pub use Rattle.resb_pool.specs.Laws as PoolLaws
 pub use Rattle.resb_layout.specs.Laid
+pub use Rattle.resb_layout.specs.InOrder
 pub use Rattle.resb_layout.specs.Laws as LayoutLaws
 pub use Rattle.resb_bodies.specs.StackSteps
 pub use Rattle.resb_bodies.specs.Laws as BodiesLaws
@@ -81,4 +90,5 @@ pub use Rattle.resb_write.specs.WrittenHead
 pub use Rattle.resb_write.specs.Written
 pub use Rattle.resb_write.specs.Laws as WriteLaws
 pub mod Compiling
+pub mod Headline
 pub mod Laws

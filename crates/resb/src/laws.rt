@@ -1,25 +1,119 @@
 //! The page of theorems: each law of the crates below, as a call that does nothing and whose
-//! contract is the law. What a single call promises stands with that call.
-ghost use Rattle.resb.specs.Laws.{CompiledIsRead};
+//! contract is the law. What a single call promises stands with that call, and the few laws that
+//! the headline needs stand beside its calls, in `headline`.
+ghost use Rattle.resb.specs.Laws.{BundleTextIsRead, CompiledIsRead, WrittenIsRead};
 
-pub use resb_bodies::laws::{one_block, steps_lay_trees};
-pub use resb_format::laws::{
-    counted_is_reached, descriptor_survives, one_tree, reached_is_counted, reaching_goes_down,
-    type_survives,
-};
-pub use resb_head::laws::{
-    bundle_file_passes, charset_survives, endianness_survives, header_passes, header_survives,
-    index_survives, version_survives,
-};
-pub use resb_layout::laws::{laid_is_denoted, laid_is_paid, one_layout};
-pub use resb_pool::laws::{one_pool, pool_is_read, records_cost_least};
-pub use resb_read::laws::{one_refusal_of_a_file, one_value};
-pub use resb_text::laws::{
-    a_bundle_is_read_to_the_end, keys_are_distinct, keys_are_listed, one_bundle_text, one_refusal,
-    read_to_the_end_is_a_bundle, stuck_is_no_bundle,
-};
-pub use resb_tree::laws::{integers_survive, tables_are_finite_maps};
+// Trees and integers.
+
+// A table is a finite map: what is put at a key is found there and nowhere else.
+pub use resb_tree::laws::tables_are_finite_maps;
+// The keys of each table of a resource strictly ascend.
+pub use resb_tree::laws::table_ascends;
+// An integer of 28 bits is kept by its readings without and with a sign.
+pub use resb_tree::laws::integers_survive;
+
+// Texts.
+
+// A text has at most one name, fallback flag, tree and list of keys.
+pub use resb_text::laws::one_bundle_text;
+// What is read to the end of the text is a bundle.
+pub use resb_text::laws::read_to_the_end_is_a_bundle;
+// Each bundle is read to the end of its text.
+pub use resb_text::laws::a_bundle_is_read_to_the_end;
+// A reading that gets stuck does so at one place, where one thing is expected.
+pub use resb_text::laws::one_refusal;
+// A text whose reading gets stuck is no bundle.
+pub use resb_text::laws::stuck_is_no_bundle;
+// No two discovered keys are equal.
+pub use resb_text::laws::keys_are_distinct;
+// The discovered keys hold each key of the tree.
+pub use resb_text::laws::keys_are_listed;
+
+// A tree in whose way nothing stands is printed as a bundle text.
+pub use resb_print::laws::printed_is_a_bundle;
+// Nothing stands in the way of a bundle text's tree.
+pub use resb_print::laws::a_bundle_gives_no_cause;
+
+// Files.
+
+// The checks of a header let through exactly the headers that pass each.
+pub use resb_head::laws::header_passes;
+// The checks of a file's head let through exactly the bundle files.
+pub use resb_head::laws::bundle_file_passes;
+// A word denotes at most one tree, with one count.
+pub use resb_format::laws::one_tree;
+// Each table of a denoted tree is a map whose keys strictly ascend.
+pub use resb_format::laws::denoted_are_maps;
+// A word that denotes a tree reaches no more resources than the tree has.
+pub use resb_format::laws::reached_is_counted;
+// It reaches each number of resources up to that.
+pub use resb_format::laws::counted_is_reached;
+// A word that reaches a number of resources reaches each smaller one.
+pub use resb_format::laws::reaching_goes_down;
+// A file whose tree isn't read is refused in one way, memory aside.
+pub use resb_read::laws::one_refusal_of_a_file;
+// Units of a block are well-formed exactly by their two ends and their neighbours.
+pub use resb_shared::laws::ranges_by_links;
+// A place in a key has a key exactly where a character begins.
+pub use resb_shared::laws::keys_in_keys;
+// Two readings of one place give one value.
+pub use resb_read::laws::one_value;
+
+// Writing.
+
+// Strings have one pool, and each text one place in it.
+pub use resb_pool::laws::one_pool;
+// Each text of a pool is read back where it stands.
+pub use resb_pool::laws::pool_is_read;
+// No records that could hold the strings take fewer 16-bit units.
+pub use resb_pool::laws::records_cost_least;
+// From where it begins a tree is laid out in one way.
+pub use resb_layout::laws::one_layout;
+// The bodies stand in walk order, without a gap but for filling bytes.
+pub use resb_layout::laws::laid_in_order;
+// In a file that holds what was laid out for a tree, its word denotes the tree.
+pub use resb_layout::laws::laid_is_denoted;
+// What was laid out has two bytes for each resource but the root.
+pub use resb_layout::laws::laid_is_paid;
+// Laying the resources one by one, in walk order, lays the tree.
+pub use resb_bodies::laws::steps_lay_trees;
+// The units of a tree don't depend on where the tail begins.
+pub use resb_bodies::laws::one_block;
+// So they stand in each written file.
+pub use resb_write::laws::written_in_order;
+// A bundle and a list of keys leave one file.
 pub use resb_write::laws::one_file;
+
+// Codecs: what is written is read back, and what is read is written as it stood.
+
+// A type, by its number.
+pub use resb_format::laws::type_survives;
+// A descriptor, by its word.
+pub use resb_format::laws::descriptor_survives;
+// An order of bytes, by its number.
+pub use resb_head::laws::endianness_survives;
+// A family of character sets, by its number.
+pub use resb_head::laws::charset_survives;
+// Versions are ordered as they came.
+pub use resb_head::laws::versions_ascend;
+// A version, by its four bytes.
+pub use resb_head::laws::version_survives;
+// A header that was read, by its bytes.
+pub use resb_head::laws::header_survives;
+// An index, by its bytes.
+pub use resb_head::laws::index_survives;
+
+// And back again.
+
+/// A text of a bundle, as one that `print_text` gives, is read back as that bundle, memory aside.
+pub fn bundle_text_is_read()
+    ensures { BundleTextIsRead }
+{}
+
+/// What was written of a tree is read back by `from_bytes::<Resource>` as that tree, memory aside.
+pub fn written_is_read()
+    ensures { WrittenIsRead }
+{}
 
 /// A compiled text is read back by `from_bytes::<Resource>` as the text's tree, memory aside.
 pub fn compiled_is_read()

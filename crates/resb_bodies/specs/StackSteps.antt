@@ -12,6 +12,7 @@ abbrev pub ClosesTree : Given → Laid → Tree → List ℕ → Laid → ℕ �
 ClosesTree g s t vs e w = (before : Laid) → LaysEach g before (trees_of (children t)) s vs
     → Lays g before t e w
 
+-- a resource's members' words are taken off the stack, its body is laid, and its own word is put
 pub record LaysNext (g : Given) (s : Laid) (ws : List ℕ) (t : Tree) (e : Laid) (xs : List ℕ)
     : Type 0 where
   pub below : List ℕ
@@ -22,6 +23,7 @@ pub record LaysNext (g : Given) (s : Laid) (ws : List ℕ) (t : Tree) (e : Laid)
   pub put : xs ≡ below ++ word ∷ []
   pub closes : ClosesTree g s t members e word
 
+-- so for resources in a row, one after another
 pub data LaysRow (g : Given) : Laid → List ℕ → List Tree → Laid → List ℕ → Type 0 where
   row_none : {s : Laid} {ws : List ℕ} → LaysRow g s ws [] s ws
   row_more : {s m e : Laid} {ws xs ys : List ℕ} {t : Tree} {ts : List Tree}

@@ -4,8 +4,8 @@
 --     HasReason input e       the same, or a stream or memory failed
 --     CountsFile bytes r      what checking a file answers
 --     ReadsCounted bytes r    what `from_bytes_counted::<Resource>` promises of its answer
---     Agrees bytes r s        the answer of a check beside the answer of such a reading
---     Matches bytes r s       the same beside the answer of `tree_from_bytes`
+--     Agrees has r s          the answer of a check beside that of a reading: the same count, or
+--                             the same refusal, want of memory aside
 use Rattle.std.specs.Prelude.{◌≡◌, ◌≤◌, ◌⊎◌, ℕ, List, [], ◌∷◌, ◌++◌, codes, IsUtf8, Option, Some}
 use Rattle.std.specs.Prelude.{Result, Ok, Err}
 use Rattle.std.specs.Io.KnownBytes.{Appends}
@@ -14,10 +14,9 @@ use Rattle.resb_format.specs.Error as reading
 use Rattle.resb_format.specs.Error.{kind_of, description_of, IsWantOfMemory, refusal_of}
 use Rattle.resb_format.specs.File.{Denotes, budget}
 use Rattle.resb_format.specs.declared.error.ReadingError.{ReadingError}
-use Rattle.resb_head.specs.HeadChecks.{file_fault}
-use Rattle.resb_read.specs.Reading.{LacksOrMemory}
-use Rattle.resb_read.specs.Resources.{DenPlace, CountsTree}
-use Rattle.resb_read.specs.Roots.{AtRoot, CountOf}
+use Rattle.resb_read.specs.Refusing.{RefusesTree}
+use Rattle.resb_read.specs.Resources.{DenPlace}
+use Rattle.resb_read.specs.Roots.{AtRoot, RefusesRoot, CountOf}
 use Rattle.resb.specs.View.{tree_of}
 use Rattle.resb.specs.declared.bundle.Resource.{Resource}
 use Rattle.resb.specs.Compiling as compiling
@@ -76,34 +75,27 @@ CountsFile bytes (Err Memory) = ⊥
 abbrev pub ReadsCounted : List ℕ → Result (Resource × ℕ) ReadingError → Type 0
 ReadsCounted bytes (Ok r) =
     AtRoot (λ p. DenPlace p (tree_of r.0) r.1) bytes × (r.1 ≤ budget bytes)
-ReadsCounted bytes (Err e) =
-    LacksOrMemory (λ n. AtRoot (λ p. CountsTree p n) bytes) (budget bytes) e
-    × ((f : reading.Refusal) → file_fault bytes ≡ Some f → refusal_of e ≡ f)
+ReadsCounted bytes (Err e) = RefusesRoot RefusesTree bytes e
 
--- the same count; where one is refused and the other isn't, for want of memory; and where a check
--- of the head fails, the same refusal
-abbrev pub Agrees : List ℕ → Result ℕ ToolError → Result (Resource × ℕ) ReadingError → Type 0
-Agrees bytes (Ok n) (Ok r) = n ≡ r.1
-Agrees bytes (Ok n) (Err e) = IsWantOfMemory e
-Agrees bytes (Err (Checking e)) (Ok r) = IsWantOfMemory e
-Agrees bytes (Err (Checking e)) (Err d) =
-    (f : reading.Refusal) → file_fault bytes ≡ Some f → refusal_of e ≡ refusal_of d
-Agrees bytes (Err NotUtf8) r = ⊥
-Agrees bytes (Err (Compiling e)) r = ⊥
-Agrees bytes (Err Input) r = ⊥
-Agrees bytes (Err Output) r = ⊥
-Agrees bytes (Err Memory) r = ⊥
-
--- the count of the tree that is read; where one is refused and the other isn't, for want of memory;
--- and where both are, for want of memory or by the same refusal
-abbrev pub Matches : List ℕ → Result ℕ ToolError → Result Resource ReadingError → Type 0
-Matches bytes (Ok n) (Ok r) = Denotes bytes (tree_of r) n
-Matches bytes (Ok n) (Err e) = IsWantOfMemory e
-Matches bytes (Err (Checking e)) (Ok r) = IsWantOfMemory e
-Matches bytes (Err (Checking e)) (Err d) =
+-- where both are Ok, the value that is read has the count; where one is refused and the other
+-- isn't, for want of memory; and where both are, for want of memory or by the same refusal
+abbrev pub Agrees : {X : Type 0} → (X → ℕ → Type 0) → Result ℕ ToolError → Result X ReadingError
+    → Type 0
+Agrees has (Ok n) (Ok x) = has x n
+Agrees has (Ok n) (Err e) = IsWantOfMemory e
+Agrees has (Err (Checking e)) (Ok x) = IsWantOfMemory e
+Agrees has (Err (Checking e)) (Err d) =
     (IsWantOfMemory e ⊎ IsWantOfMemory d) ⊎ (refusal_of e ≡ refusal_of d)
-Matches bytes (Err NotUtf8) r = ⊥
-Matches bytes (Err (Compiling e)) r = ⊥
-Matches bytes (Err Input) r = ⊥
-Matches bytes (Err Output) r = ⊥
-Matches bytes (Err Memory) r = ⊥
+Agrees has (Err NotUtf8) r = ⊥
+Agrees has (Err (Compiling e)) r = ⊥
+Agrees has (Err Input) r = ⊥
+Agrees has (Err Output) r = ⊥
+Agrees has (Err Memory) r = ⊥
+
+-- a value that was read with its count
+abbrev pub HasCount : Resource × ℕ → ℕ → Type 0
+HasCount r n = n ≡ r.1
+
+-- a tree that the file denotes with this count
+abbrev pub IsCounted : List ℕ → Resource → ℕ → Type 0
+IsCounted bytes r n = Denotes bytes (tree_of r) n

@@ -7,7 +7,8 @@ ghost use Rattle.hex.specs.Hex.{encode_lower};
 ghost use Rattle.resb.specs.Compiling.{IsCompiled};
 ghost use Rattle.resb_command.specs.Program.{IsNoInput, Writes, HasReason};
 ghost use Rattle.resb_read.specs.Roots.{TreeOf};
-ghost use Rattle.resb_command.specs.Program.{CountsFile, ReadsCounted, Agrees, Matches};
+ghost use Rattle.resb_command.specs.Program.{CountsFile, ReadsCounted, Agrees, HasCount};
+ghost use Rattle.resb_command.specs.Program.{IsCounted};
 
 use crate::fault::ToolError;
 use std::alloc::Global;
@@ -30,10 +31,11 @@ pub fn compile_text(alloc: Global, input: &[u8]) -> Result<Vec<u8>, ToolError>
 /// The number of resources of a file's tree, which is not made. (`resb::binary::count_resources`.)
 pub fn check_file(alloc: Global, file: &[u8]) -> Result<usize, ToolError>
     ensures counts { CountsFile file.now result }
-    // The answer is that of `from_bytes_counted::<Resource>`, want of memory aside.
-    ensures as_read { (r : _) → ReadsCounted file.now r → Agrees file.now result r }
-    // It is that of `tree_from_bytes`, by kind and message, want of memory aside.
-    ensures as_tree { (r : _) → TreeOf file.now r → Matches file.now result r }
+    // The answer is that of `from_bytes_counted::<Resource>`, by kind and message, want of memory
+    // aside.
+    ensures as_read { (r : _) → ReadsCounted file.now r → Agrees HasCount result r }
+    // It is that of `tree_from_bytes` in the same way.
+    ensures as_tree { (r : _) → TreeOf file.now r → Agrees (IsCounted file.now) result r }
 {
     match resb::binary::count_resources(alloc, file) {
         Ok(count) => Ok(count),
@@ -121,7 +123,8 @@ fn write_line<W: Write>(writer: &mut W, file: &[u8]) -> Result<(), ToolError>
 /// feed.
 ///
 /// A read that was interrupted is asked again. After a write fault an unknown part was written,
-/// else nothing.
+/// else nothing. Where memory is wanted, no clause says for what: `Memory` may stand for the
+/// reader's or the writer's too, and it prints as theirs do.
 pub fn run<R: Read, W: Write>(
     alloc: Global,
     reader: &mut R,

@@ -1,5 +1,6 @@
 -- For crates above: those that are `pub`.
 pub mod Denoting
+mod Mapped
 mod Examples
 pub mod Spelled
 pub mod Inside
@@ -7,4 +8,5 @@ pub mod StringsIn
 pub mod TextUnits
 pub mod Apart
 mod Survival
+pub mod Unnamed
 pub mod WordsBack

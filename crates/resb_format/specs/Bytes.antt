@@ -20,6 +20,7 @@ words_of (a ∷ b ∷ []) = []
 words_of (a ∷ []) = []
 words_of [] = []
 
+-- n items of a list from place i on, where all of them are inside it
 abbrev pub part : List ℕ → ℕ → ℕ → Option (List ℕ)
 part xs i n = if nat_le (i + n) (length xs) then Some (take n (drop i xs)) else None
 

@@ -16,6 +16,8 @@ pub data Member : Type 0 where
   word : ℕ → Member
   unit : ℕ → Member
 
+-- what a word leads to: a tree without parts, members in a row, or entries of key positions and
+-- members
 pub data Content : Type 0 where
   leaf : Tree → Content
   list : List Member → Content
@@ -26,9 +28,11 @@ pub data Content : Type 0 where
 abbrev pub counted : {A : Type 0} → List ℕ → ℕ → (ℕ → Option A) → Option A
 counted numbers i behind = option_and_then behind (slice_get numbers i)
 
+-- the n words of the body from word v on, as members
 abbrev pub words_at : Parts → ℕ → ℕ → Option (List Member)
 words_at p v n = option_map (map word) (part (words_of p.body) v n)
 
+-- the n units of the 16-bit block from unit u on, as members
 abbrev pub offsets_at : Parts → ℕ → ℕ → Option (List Member)
 offsets_at p u n = option_map (map unit) (part p.block u n)
 
@@ -75,6 +79,7 @@ table32_at p v =
     counted (words_of p.body) v
     (λ n. paired (part (words_of p.body) (v + 1) n) (words_at p (v + 1 + n) n))
 
+-- the string that stands at a unit of the 16-bit block, if it is a text
 abbrev pub text_leaf : Parts → ℕ → Option Content
 text_leaf p u = option_map (λ s. leaf (string s)) (text_at p.block u)
 

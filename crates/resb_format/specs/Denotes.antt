@@ -37,6 +37,7 @@ module _ (p : Parts) where
           → DenPairs es ts k → DenPairs ((at, m) ∷ es) ((key, t) ∷ ts) (j + k)
 
   mutual
+    -- a word reaches one resource, its own; and one more than is reached in its members or entries
     pub data Reaches : ℕ → ℕ → Type 0 where
       reaches_one : {w : ℕ} → Reaches w 1
       reaches_list : {w n : ℕ} {ms : List Member} → content p w ≡ Some (list ms) → ReachesEach ms n
@@ -44,6 +45,7 @@ module _ (p : Parts) where
       reaches_pairs : {w n : ℕ} {es : List (ℕ × Member)} → content p w ≡ Some (pairs es)
           → ReachesPairs es n → Reaches w (1 + n)
 
+    -- a member that is a word reaches what the word does, a string of a short collection one
     pub data ReachesMember : Member → ℕ → Type 0 where
       reaches_word : {w n : ℕ} → Reaches w n → ReachesMember (word w) n
       reaches_unit : {u : ℕ} → ReachesMember (unit u) 1

@@ -6,6 +6,7 @@ use Rattle.resb_format.specs.declared.repr_type.ResourceReprType.{ResourceReprTy
 use Rattle.resb_format.specs.declared.repr_type.ResourceReprType.TheVariants as kind
 use Rattle.resb_format.specs.declared.descriptor.ResDescriptor.{ResDescriptor}
 
+-- the number by which a descriptor names each type
 abbrev pub type_number : ResourceReprType → ℕ
 type_number kind._String = types.old_string
 type_number kind.Binary = types.binary
@@ -19,11 +20,14 @@ type_number kind.Array = types.array
 type_number kind.Array16 = types.array16
 type_number kind.IntVector = types.int_vector
 
+-- a descriptor's type
 abbrev pub type_of : ResDescriptor → ResourceReprType
 type_of d = d.resource_type
 
+-- a descriptor's value, of 28 bits
 abbrev pub value_of : ResDescriptor → ℕ
 value_of d = d.value
 
+-- a descriptor's word: the type's number in the 4 bits above the value
 abbrev pub word_of : ResDescriptor → ℕ
 word_of d = type_number (type_of d) * 2 ^ 28 + value_of d

@@ -1,21 +1,16 @@
 -- What reading a type's number or a descriptor's word answers: the value that is written so, or the
 -- refusal where none is.
-use Rattle.std.specs.Prelude.{◌≡◌, ◌≢◌, ℕ, ◌/◌, ◌^◌, ◌<◌, codes, Result, MatchResult}
+use Rattle.std.specs.Prelude.{ℕ, codes, Result}
+use Rattle.resb_format.specs.Coded.{ReadsCode}
 use Rattle.resb_format.specs.Descriptor.{type_number, word_of}
-use Rattle.resb_format.specs.Error.{IsInvalid}
 use Rattle.resb_format.specs.declared.error.ReadingError.{ReadingError}
 use Rattle.resb_format.specs.declared.repr_type.ResourceReprType.{ResourceReprType}
 use Rattle.resb_format.specs.declared.descriptor.ResDescriptor.{ResDescriptor}
 
--- a number over 9 other than 14 names no type
+-- the type that has this number
 abbrev pub ReadsType : ℕ → Result ResourceReprType ReadingError → Type 0
-ReadsType n r =
-    MatchResult r (λ t. type_number t ≡ n)
-    (λ e. (9 < n) × (n ≢ 14) × IsInvalid e (codes "unrecognized value for ResourceReprType"))
+ReadsType = ReadsCode type_number (codes "unrecognized value for ResourceReprType")
 
--- upper 4 bits that name no type are refused
+-- the descriptor that has this word; where none has, its upper 4 bits are no type's number
 abbrev pub ReadsDescriptor : ℕ → Result ResDescriptor ReadingError → Type 0
-ReadsDescriptor w r =
-    MatchResult r (λ d. word_of d ≡ w)
-    (λ e. (9 < w / 2 ^ 28) × (w / 2 ^ 28 ≢ 14)
-    × IsInvalid e (codes "unrecognized value for ResourceReprType"))
+ReadsDescriptor = ReadsCode word_of (codes "unrecognized value for ResourceReprType")

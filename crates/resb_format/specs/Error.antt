@@ -9,12 +9,15 @@ use Rattle.resb_format.specs.declared.error.ErrorKind.TheVariants.{UnsupportedFo
 use Rattle.resb_format.specs.declared.error.ErrorKind.TheVariants.{OutOfMemory}
 use Rattle.resb_format.specs.declared.error.ReadingError.{ReadingError}
 
+-- an error's kind
 abbrev pub kind_of : ReadingError → ErrorKind
 kind_of e = e.kind
 
+-- an error's message, as bytes
 abbrev pub message_of : ReadingError → List ℕ
 message_of e = e.message.now
 
+-- the error is of this kind and has this message
 pub record IsRefusal (e : ReadingError) (kind : ErrorKind) (message : List ℕ) : Type 0 where
   pub kind_is : kind_of e ≡ kind
   pub message_is : message_of e ≡ message
@@ -35,9 +38,11 @@ IsWrongLength e = IsRefusal e Unknown (codes "Wrong length")
 abbrev pub Refusal : Type 0
 Refusal = ErrorKind × List ℕ
 
+-- a refusal of data that is wrong, with this message
 abbrev pub invalid : List ℕ → Refusal
 invalid message = (InvalidData, message)
 
+-- a refusal of a file of another kind, with this message
 abbrev pub unsupported : List ℕ → Refusal
 unsupported message = (UnsupportedFormat, message)
 

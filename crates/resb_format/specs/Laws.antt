@@ -1,10 +1,12 @@
 -- What the laws of this crate say.
 --     OneTree, ReachedIsCounted   a word has one tree and count, and reaches no more resources than
 --                                 that
+--     DenotedAreMaps              the tables of a denoted tree are finite maps
 --     Survives write reads        what is written is read back, and what is read is written as it
 --                                 stood
 use Rattle.std.specs.Prelude.{◌≡◌, ℕ, ◌^◌, ◌<◌, ◌≤◌, List, [], ◌∷◌, Ok, Result}
 use Rattle.resb_tree.specs.Tree.{Tree}
+use Rattle.resb_tree.specs.Maps.{AreMaps}
 use Rattle.resb_format.specs.Parts.{Parts}
 use Rattle.resb_format.specs.Denotes.{Den, Reaches}
 use Rattle.resb_format.specs.declared.error.ReadingError.{ReadingError}
@@ -12,6 +14,10 @@ use Rattle.resb_format.specs.declared.error.ReadingError.{ReadingError}
 -- in given parts a word denotes at most one tree, with one count
 abbrev pub OneTree : Type 0
 OneTree = (p : Parts) (w m n : ℕ) (t u : Tree) → Den p w t m → Den p w u n → (t ≡ u) × (m ≡ n)
+
+-- the tables of a denoted tree are maps, whose keys strictly ascend
+abbrev pub DenotedAreMaps : Type 0
+DenotedAreMaps = (p : Parts) (w n : ℕ) (t : Tree) → Den p w t n → AreMaps t
 
 -- no more resources are reached than are denoted
 abbrev pub ReachedIsCounted : Type 0
@@ -25,6 +31,7 @@ CountedIsReached = (p : Parts) (w m n : ℕ) (t : Tree) → Den p w t n → 1 �
 abbrev pub ReachingGoesDown : Type 0
 ReachingGoesDown = (p : Parts) (w m n : ℕ) → Reaches p w n → 1 ≤ m → m ≤ n → Reaches p w m
 
+-- whatever is written is read back as it was, and whatever is read is written as it stood
 pub record Survives {A B : Type 0} (write : A → B)
     (reads : B → Result A ReadingError → Type 0) : Type 0 where
   pub read_back : (x : A) (r : Result A ReadingError) → reads (write x) r → r ≡ Ok x

@@ -16,6 +16,7 @@ pub mod File
 pub mod Error
 pub mod Types
 pub mod Descriptor
+pub mod Coded
 pub mod Views
 pub mod StringFaults
 pub mod DescriptorReading

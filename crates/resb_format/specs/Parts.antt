@@ -16,6 +16,7 @@ pub record Parts : Type 0 where
 abbrev pub header_size : List ℕ → ℕ
 header_size bytes = slice_index (units_of bytes) 0
 
+-- the bytes behind the header
 abbrev pub body_of : List ℕ → List ℕ
 body_of bytes = drop (header_size bytes) bytes
 
@@ -23,6 +24,7 @@ body_of bytes = drop (header_size bytes) bytes
 abbrev pub root_word : List ℕ → ℕ
 root_word bytes = slice_index (words_of (body_of bytes)) 0
 
+-- the index's first word: how many words the index has
 abbrev pub field_count : List ℕ → ℕ
 field_count bytes = slice_index (words_of (body_of bytes)) 1
 
@@ -30,18 +32,23 @@ field_count bytes = slice_index (words_of (body_of bytes)) 1
 abbrev pub keys_end : List ℕ → ℕ
 keys_end bytes = slice_index (words_of (body_of bytes)) 2
 
+-- the index's third word: where the resources end, in words of the body
 abbrev pub resources_end : List ℕ → ℕ
 resources_end bytes = slice_index (words_of (body_of bytes)) 3
 
+-- the index's fourth word: where the bundle ends, in words of the body
 abbrev pub bundle_end : List ℕ → ℕ
 bundle_end bytes = slice_index (words_of (body_of bytes)) 4
 
+-- the index's fifth word: the number of entries of the largest table
 abbrev pub largest_table_field : List ℕ → ℕ
 largest_table_field bytes = slice_index (words_of (body_of bytes)) 5
 
+-- the index's sixth word: the attributes, whose lowest bit turns fallback off
 abbrev pub attributes : List ℕ → ℕ
 attributes bytes = slice_index (words_of (body_of bytes)) 6
 
+-- the index's seventh word: where the 16-bit block ends, in words of the body
 abbrev pub block_end : List ℕ → ℕ
 block_end bytes = slice_index (words_of (body_of bytes)) 7
 
@@ -56,9 +63,11 @@ parts_in_body body =
       block = units_of (take (4 * (block_end - keys_end)) (drop (4 * keys_end) body));
     }
 
+-- the parts of a file: those of its body
 unfoldable pub parts_of : List ℕ → Parts
 parts_of bytes = parts_in_body (body_of bytes)
 
+-- the file's head says each of these things, and the parts lie inside the file
 pub record IsBundleFile (bytes : List ℕ) : Type 0 where
   pub magic : slice_range bytes 2 4 ≡ 0xda ∷ 0x27 ∷ []
   pub little_endian : slice_index bytes 8 ≡ 0

@@ -28,6 +28,7 @@ string_from block u first =
     part block (u + 2) ((first - 0xdfef) * 0x1_0000 + slice_index block (u + 1))
     else part block (u + 3) (slice_index block (u + 1) * 0x1_0000 + slice_index block (u + 2))
 
+-- the units of the string that begins at a unit of the 16-bit block, by its first unit
 unfoldable pub string_at : List ℕ → ℕ → Option (List ℕ)
 string_at block u = string_from block u (slice_index block u)
 
@@ -36,9 +37,11 @@ abbrev pub text_of_units : List ℕ → Option (List ℕ)
 text_of_units us =
     if has_unpaired_surrogate us then None else Some (encode_utf8_all (utf16_lossy_chars us))
 
+-- the text of the string that begins at a unit, if its units are well-formed UTF-16
 unfoldable pub text_at : List ℕ → ℕ → Option (List ℕ)
 text_at block u = option_and_then text_of_units (string_at block u)
 
+-- the bytes, if they are UTF-8
 abbrev pub if_utf8 : List ℕ → Option (List ℕ)
 if_utf8 bytes = if is_utf8 bytes then Some bytes else None
 

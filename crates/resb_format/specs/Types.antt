@@ -3,15 +3,19 @@
 --     is_read_type n          a type that is read: all but strings of the older formats and aliases
 use Rattle.std.specs.Prelude.{ℕ, Bool, ◌==◌, ◌&&◌, ◌||◌, not, nat_le}
 
+-- a string of an old format, which is not read
 abbrev pub old_string : ℕ
 old_string = 0
 
+-- bytes
 abbrev pub binary : ℕ
 binary = 1
 
+-- a table with key positions of 16 bits and members of 32 bits
 abbrev pub table : ℕ
 table = 2
 
+-- an alias of another bundle's resource, which is not read
 abbrev pub alias : ℕ
 alias = 3
 
@@ -23,12 +27,15 @@ table32 = 4
 abbrev pub table16 : ℕ
 table16 = 5
 
+-- a string of the 16-bit block
 abbrev pub string : ℕ
 string = 6
 
+-- an integer of 28 bits, in the descriptor itself
 abbrev pub integer : ℕ
 integer = 7
 
+-- an array with members of 32 bits
 abbrev pub array : ℕ
 array = 8
 
@@ -36,14 +43,18 @@ array = 8
 abbrev pub array16 : ℕ
 array16 = 9
 
+-- a vector of numbers of 32 bits
 abbrev pub int_vector : ℕ
 int_vector = 14
 
+-- one of the three types of tables
 abbrev pub is_table : ℕ → Bool
 is_table n = (n == table || n == table32) || n == table16
 
+-- one of the two types of arrays
 abbrev pub is_array : ℕ → Bool
 is_array n = n == array || n == array16
 
+-- a type that is read: each but the old string, the alias and the numbers that name none
 abbrev pub is_read_type : ℕ → Bool
 is_read_type n = ((nat_le binary n && nat_le n array16) && not (n == alias)) || n == int_vector

@@ -9,6 +9,7 @@ use Rattle.std.specs.List.{flat_map, list_any}
 use Rattle.std.specs.Char.Escape.{encode_utf16}
 use Rattle.std.specs.Str.{chars}
 
+-- a text in UTF-16: the units of its characters, one after another
 abbrev pub units : List ℕ → List ℕ
 units t = flat_map encode_utf16 (chars t)
 
@@ -28,6 +29,7 @@ abbrev pub marker_len : ℕ → ℕ
 marker_len n =
     if nat_le n 40 then 0 else if nat_le n 0x3ee then 1 else if nat_le n 0xf_ffff then 2 else 3
 
+-- the units in front of a text's own that say how many these are; none where the text is unmarked
 abbrev pub marker : List ℕ → List ℕ
 marker t = if is_unmarked t then [] else length_marker (length (units t))
 

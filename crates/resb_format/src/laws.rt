@@ -4,11 +4,16 @@
 ghost use Rattle.resb_format.specs.Descriptor.{type_number, word_of};
 ghost use Rattle.resb_format.specs.DescriptorReading.{ReadsType, ReadsDescriptor};
 ghost use Rattle.resb_format.specs.Laws.{OneTree, ReachedIsCounted, CountedIsReached};
-ghost use Rattle.resb_format.specs.Laws.{ReachingGoesDown, Survives};
+ghost use Rattle.resb_format.specs.Laws.{ReachingGoesDown, Survives, DenotedAreMaps};
 
 /// In given parts a word denotes at most one tree, with one count.
 pub fn one_tree()
     ensures { OneTree }
+{}
+
+/// The tables of a tree that a word denotes are finite maps: their keys strictly ascend.
+pub fn denoted_are_maps()
+    ensures { DenotedAreMaps }
 {}
 
 /// A word that denotes a tree reaches no more resources than the tree has.

@@ -26,6 +26,7 @@ hex_value b =
     if is_between ascii.digit_0 ascii.digit_9 b then b - ascii.digit_0 else if is_between
     ascii.upper_a ascii.upper_f b then b - ascii.upper_a + 10 else b - ascii.lower_a + 10
 
+-- a byte in front of others, where the byte was good and the others are some
 abbrev pub byte_before : Bool → ℕ → Option (List ℕ) → Option (List ℕ)
 byte_before true b rest = option_map (λ bytes. b ∷ bytes) rest
 byte_before false b rest = None

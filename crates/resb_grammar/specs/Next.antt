@@ -53,6 +53,7 @@ leave title frame [] = finished title frame.items
 leave title frame (outer ∷ around) =
     inside (record { title = title; frame = with_item (closed frame) outer; around = around })
 
+-- the term is a group, and no string
 abbrev pub is_group : Term → Bool
 is_group (string_term s) = false
 is_group (group_term t ks) = true
@@ -62,10 +63,12 @@ abbrev pub is_key_place : List Item → Bool
 is_key_place [] = true
 is_key_place (x ∷ xs) = is_group x.term
 
+-- this state, if the condition holds
 abbrev pub when : Bool → State → Option State
 when true s = Some s
 when false s = None
 
+-- this state, if the condition doesn't hold
 abbrev pub unless : Bool → State → Option State
 unless true s = None
 unless false s = Some s
@@ -100,6 +103,7 @@ in_list o a_comma = with_comma o o.frame.items
 in_list o (a_number v) = None
 in_list o (a_root_type fallback) = None
 
+-- what a token leads to among the items of a table, an array or a group without a type
 abbrev pub in_body : Body → Open → Token → Option State
 in_body table_body o t = in_table o t
 in_body array_body o t = in_list o t

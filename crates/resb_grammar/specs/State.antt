@@ -33,6 +33,8 @@ pub data VectorStage : Type 0 where
   after_number : VectorStage
   after_comma : VectorStage
 
+-- what has been read so far: at the start, behind the name, behind the root's type, or inside open
+-- groups
 pub data State : Type 0 where
   start : State
   -- after the bundle's name

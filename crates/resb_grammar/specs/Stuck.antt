@@ -11,6 +11,7 @@ use Rattle.resb_grammar.specs.ByteRuns.{is_number_start}
 use Rattle.resb_grammar.specs.declared.expected.Expected.{Expected}
 use Rattle.resb_grammar.specs.declared.expected.Expected.TheVariants as expect
 
+-- one thing was expected if the condition holds, else the other
 abbrev pub choose : Bool → Expected → Expected → Expected
 choose true x y = x
 choose false x y = y
@@ -39,6 +40,7 @@ expected_in table_body false b = expected_brace b
 expected_in array_body key b = expected_item b
 expected_in untyped_body key b = expected_item b
 
+-- what was expected inside a vector, by what stands before the place and by the byte there
 abbrev pub expected_in_vector : VectorStage → ℕ → Expected
 expected_in_vector at_start b = expected_number b
 expected_in_vector after_comma b = expected_number b

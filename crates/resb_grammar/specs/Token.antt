@@ -4,6 +4,7 @@ use Rattle.resb_grammar.specs.Ascii as ascii
 use Rattle.resb_grammar.specs.Tokens.{Text, Number}
 use Rattle.resb_grammar.specs.GroupTypes.{Kind, GroupType, RootType}
 
+-- a string, a number, a brace, a comma, a type, or a type of the root
 pub data Token : Type 0 where
   a_text : List ℕ → Token
   a_number : ℕ → Token

@@ -1,5 +1,5 @@
 -- Which check of the representation info is the first that fails.
-use Rattle.std.proofs.Common.{ℕ, List, ◌≡◌, ◌≢◌, ◌<◌, ◌≤◌, ◌⊎◌, inl, inr, Bool, true, false, not}
+use Rattle.std.proofs.Common.{ℕ, List, ◌≡◌, ◌≢◌, ◌<◌, ◌≤◌, ◌⊎◌, inl, inr, Bool, true, false}
 use Rattle.std.proofs.Common.{◌||◌, nat_le, nat_eq, Some, None, refl, arith, get_or, codes}
 use Rattle.std.proofs.Common.{slice_range}
 use Rattle.std.specs.Str.{bytes_eq}
@@ -91,11 +91,21 @@ order_stands any bs x e (inr z) =
       own = or_right any (nat_eq (get_or bs 4 0) 0) (rw z refl);
     }
 
-pub endianness_fails : (any : Bool) (bs : List ℕ) (e : ReadingError) → 1 < get_or bs 4 0
+-- a number of no order of bytes
+no_order : (n : ℕ) → ((x : Endianness) → endianness_number x ≢ n) → 1 < n
+no_order n h = omega (arith, h Little, h Big)
+
+-- a number of no family of character sets
+no_family : (n : ℕ) → ((x : CharsetFamily) → charset_number x ≢ n) → 1 < n
+no_family n h = omega (arith, h Ascii, h Ebcdic)
+
+pub endianness_fails : (any : Bool) (bs : List ℕ) (e : ReadingError)
+    → ((x : Endianness) → endianness_number x ≢ get_or bs 4 0)
     → IsInvalid e (codes "unrecognized value for Endianness")
     → first_fault (info_checks any bs) ≡ Some (refusal_of e)
 unfolding info_checks
-endianness_fails any bs e h r = rw (le_false (get_or bs 4 0) 1 h, r.kind_is, r.message_is) refl
+endianness_fails any bs e h r =
+    rw (le_false (get_or bs 4 0) 1 (no_order (get_or bs 4 0) h), r.kind_is, r.message_is) refl
 
 pub order_fails : (any : Bool) (bs : List ℕ) (e : ReadingError) → get_or bs 4 0 ≡ 1 → any ≡ false
     → IsRefusal e UnsupportedFormat (codes "bundle endianness does not match platform endianness")
@@ -104,12 +114,14 @@ unfolding info_checks
 order_fails any bs e h a r =
     rw (le_true (get_or bs 4 0) 1 (omega arith), a, h, r.kind_is, r.message_is) refl
 
-pub charset_fails : (any : Bool) (bs : List ℕ) (e : ReadingError) → Order any bs → 1 < get_or bs 5 0
+pub charset_fails : (any : Bool) (bs : List ℕ) (e : ReadingError) → Order any bs
+    → ((x : CharsetFamily) → charset_number x ≢ get_or bs 5 0)
     → IsInvalid e (codes "unrecognized value for CharsetFamily")
     → first_fault (info_checks any bs) ≡ Some (refusal_of e)
 unfolding info_checks
 charset_fails any bs e o h r =
-    rw (o.known, o.own, le_false (get_or bs 5 0) 1 h, r.kind_is, r.message_is) refl
+    let over = no_family (get_or bs 5 0) h in
+    rw (o.known, o.own, le_false (get_or bs 5 0) 1 over, r.kind_is, r.message_is) refl
 
 pub format_fails : (any : Bool) (bs : List ℕ) (e : ReadingError) → Families any bs
     → bytes_eq (slice_range bs 8 12) (codes "ResB") ≡ false

@@ -1,5 +1,5 @@
 -- A header is read back from the bytes that it is written as.
-use Rattle.std.proofs.Common.{ℕ, zero, suc, List, [], ◌∷◌, ◌++◌, ◌≡◌, ◌+◌, ◌^◌, ◌<◌}
+use Rattle.std.proofs.Common.{ℕ, zero, suc, List, [], ◌∷◌, ◌++◌, ◌≡◌, ◌^◌, ◌<◌}
 use Rattle.std.proofs.Common.{◌≤◌, length, take, drop, false, nat_eq, Result, Ok, Err, refl, sym}
 use Rattle.std.proofs.Common.{ap, subst, ◌∙◌, arith, get_or, codes, length-drop, length-take}
 use Rattle.std.specs.Int.{to_le_bytes, w16}

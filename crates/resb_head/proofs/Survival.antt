@@ -1,5 +1,5 @@
 -- Numbers and spellings are read back as what they were written for.
-use Rattle.std.proofs.Common.{◌≡◌, Result, Ok, Err, ap, refl, arith}
+use Rattle.std.proofs.Common.{◌≡◌, Result, Ok, Err, ap, refl}
 use Rattle.resb_format.specs.Laws.{Survives}
 use Rattle.resb_format.specs.declared.error.ReadingError.{ReadingError}
 use Rattle.resb_head.specs.Codes.{endianness_number, charset_number, version_bytes}
@@ -8,17 +8,16 @@ use Rattle.resb_head.specs.declared.endianness.Endianness.{Endianness}
 use Rattle.resb_head.specs.declared.charset.CharsetFamily.{CharsetFamily}
 use Rattle.resb_head.specs.declared.version.FormatVersion.{FormatVersion}
 use Rattle.resb_head.proofs.Apart.{endianness_apart, charset_apart, version_apart}
-use Rattle.resb_head.proofs.HeadSteps.{endianness_small, charset_small}
 
 endianness_read : (x : Endianness) (r : Result Endianness ReadingError)
     → ReadsEndianness (endianness_number x) r → r ≡ Ok x
 endianness_read x (Ok y) h = ap Ok (endianness_apart y x h)
-endianness_read x (Err e) h = absurd (omega (arith, endianness_small x, h.0))
+endianness_read x (Err e) h = absurd (h.0 x refl)
 
 charset_read : (x : CharsetFamily) (r : Result CharsetFamily ReadingError)
     → ReadsCharset (charset_number x) r → r ≡ Ok x
 charset_read x (Ok y) h = ap Ok (charset_apart y x h)
-charset_read x (Err e) h = absurd (omega (arith, charset_small x, h.0))
+charset_read x (Err e) h = absurd (h.0 x refl)
 
 version_read : (v : FormatVersion) (r : Result FormatVersion ReadingError)
     → ReadsVersion (version_bytes v) r → r ≡ Ok v

@@ -9,10 +9,12 @@ use Rattle.resb_head.specs.declared.version.FormatVersion.{FormatVersion}
 use Rattle.resb_head.specs.declared.version.FormatVersion.TheVariants.{V1_0, V1_1, V1_2, V1_3}
 use Rattle.resb_head.specs.declared.version.FormatVersion.TheVariants.{V2_0, V3_0}
 
+-- the number by which a header names an order of bytes
 abbrev pub endianness_number : Endianness → ℕ
 endianness_number Little = 0
 endianness_number Big = 1
 
+-- the number by which a header names a family of character sets
 abbrev pub charset_number : CharsetFamily → ℕ
 charset_number Ascii = 0
 charset_number Ebcdic = 1

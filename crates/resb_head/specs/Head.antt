@@ -36,6 +36,8 @@ pub record HeaderAt (header : BinHeader) (bytes : List ℕ) : Type 0 where
 abbrev pub field : List ℕ → ℕ → ℕ → Option ℕ
 field bytes count i = if nat_le (i + 1) count then Some (slice_index (words_of bytes) i) else None
 
+-- each field of the index is the word at its place, and the last three are there where the count
+-- says so
 pub record IndexAt (index : BinIndex) (bytes : List ℕ) : Type 0 where
   pub field_count : index.field_count ≡ slice_index (words_of bytes) 0
   pub keys_end : index.keys_end ≡ slice_index (words_of bytes) 1
@@ -47,6 +49,7 @@ pub record IndexAt (index : BinIndex) (bytes : List ℕ) : Type 0 where
   pub pool_checksum : index.pool_checksum ≡ field bytes index.field_count 7
   pub inside : 4 * min index.field_count 8 ≤ length bytes
 
+-- the 20 bytes that representation info is written as
 abbrev pub info_bytes : BinReprInfo → List ℕ
 info_bytes i =
     to_le_bytes w16 i.size ++ to_le_bytes w16 i.reserved_word
@@ -54,6 +57,7 @@ info_bytes i =
     ∷ i.reserved_byte ∷ []
     ++ i.data_format ++ version_bytes i.format_version ++ i.data_version
 
+-- the 24 bytes that a header is written as
 abbrev pub header_bytes : BinHeader → List ℕ
 header_bytes h = to_le_bytes w16 h.size ++ 0xda ∷ 0x27 ∷ [] ++ info_bytes h.repr_info
 
@@ -64,5 +68,6 @@ index_words i =
     ++ option_to_list i.bundle_attributes ++ option_to_list i.data_16_bit_end
     ++ option_to_list i.pool_checksum
 
+-- the bytes that an index is written as: its words
 abbrev pub index_bytes : BinIndex → List ℕ
 index_bytes i = flat_map (to_le_bytes w32) (index_words i)

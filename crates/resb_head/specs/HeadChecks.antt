@@ -5,7 +5,7 @@
 --     info_fault bytes            for the representation info, the 20 bytes behind the magic word
 --     index_fault bytes           for an index, the words behind the root's descriptor
 --     file_fault bytes            for a whole file: header, what is supported, index and blocks
-use Rattle.std.specs.Prelude.{ℕ, ◌+◌, ◌*◌, min, List, [], ◌∷◌, ◌++◌, length, drop, Bool, false}
+use Rattle.std.specs.Prelude.{ℕ, ◌*◌, min, List, [], ◌∷◌, ◌++◌, length, drop, Bool, false}
 use Rattle.std.specs.Prelude.{◌||◌, ◌&&◌, nat_le, nat_eq, Option, Some, None, slice_index}
 use Rattle.std.specs.Prelude.{slice_range, codes, if◌then◌else◌}
 use Rattle.std.specs.List.{list_any}
@@ -27,6 +27,8 @@ abbrev pub is_version : List ℕ → Bool
 is_version bytes =
     list_any (λ v. bytes_eq (version_bytes v) bytes) (V1_0 ∷ V1_1 ∷ V1_2 ∷ V1_3 ∷ V2_0 ∷ V3_0 ∷ [])
 
+-- the checks of representation info, in their order, each with its refusal; `any` lets both orders
+-- of bytes pass
 unfoldable pub info_checks : Bool → List ℕ → List (Bool × Refusal)
 info_checks any info =
     (nat_le (slice_index info 4) 1, invalid (codes "unrecognized value for Endianness"))
@@ -42,6 +44,7 @@ info_checks any info =
     ∷ (is_version (slice_range info 12 16), invalid (codes "unrecognized format version"))
     ∷ []
 
+-- the first check of representation info that fails
 unfoldable pub info_fault : List ℕ → Option Refusal
 info_fault bytes =
     first_fault
@@ -63,6 +66,7 @@ header_checks any bytes =
     )
     ∷ []
 
+-- the first check of a header that fails
 unfoldable pub header_fault : Bool → List ℕ → Option Refusal
 header_fault any bytes = first_fault (header_checks any bytes)
 
@@ -75,6 +79,7 @@ index_checks bytes =
     ∷ (nat_le (4 * min count 8) (length bytes), end_of_input)
     ∷ []
 
+-- the first check of an index that fails
 unfoldable pub index_fault : List ℕ → Option Refusal
 index_fault bytes = first_fault (index_checks bytes)
 
@@ -113,5 +118,6 @@ unfoldable pub file_checks : List ℕ → List (Bool × Refusal)
 file_checks bytes =
     header_checks false bytes ++ (support_checks (drop 4 bytes) ++ body_checks (body_of bytes))
 
+-- the first check of a whole file's head that fails
 unfoldable pub file_fault : List ℕ → Option Refusal
 file_fault bytes = first_fault (file_checks bytes)

@@ -15,11 +15,13 @@ ReadsHeader any bytes r =
     MatchResult r (λ h. (header_fault any bytes ≡ None) × HeaderAt h bytes)
     (λ e. header_fault any bytes ≡ Some (refusal_of e))
 
+-- representation info with the values that stand there, or the first check that fails
 abbrev pub ReadsInfo : List ℕ → Result BinReprInfo ReadingError → Type 0
 ReadsInfo bytes r =
     MatchResult r (λ i. (info_fault bytes ≡ None) × InfoAt i bytes)
     (λ e. info_fault bytes ≡ Some (refusal_of e))
 
+-- an index with the values that stand there, or the first check that fails
 abbrev pub ReadsIndex : List ℕ → Result BinIndex ReadingError → Type 0
 ReadsIndex bytes r =
     MatchResult r (λ i. (index_fault bytes ≡ None) × IndexAt i bytes)

@@ -1,4 +1,5 @@
 -- What the laws of this crate say, beside those of numbers and spellings.
+--     VersionsAscend cmp          versions are ordered as their bytes, from 1.0 to 3.0
 --     HeaderSurvives              a header that was read is read back from the bytes it is written
 --                                 as
 --     IndexSurvives               so is any index, and the words that were read are written
@@ -6,21 +7,34 @@
 --     BundleFilePasses            the checks of a file's head let through exactly the bundle files
 use Rattle.std.specs.Prelude.{◌≡◌, ℕ, ◌*◌, ◌≤◌, min, List, [], ◌∷◌, length, take, Bool, true, false}
 use Rattle.std.specs.Prelude.{nat_eq, Ok, None, Result, slice_index, slice_range, codes}
+use Rattle.std.specs.Ordering.{nat_cmp}
+use Rattle.std.specs.Cmp.Lexicographic.{slice_cmp}
+use Rattle.std.specs.declared.cmp.Ordering.{Ordering}
 use Rattle.resb_format.specs.Bytes.{unit_in}
 use Rattle.resb_format.specs.Parts.{IsBundleFile}
 use Rattle.resb_format.specs.Laws.{EachFits}
 use Rattle.resb_format.specs.declared.error.ReadingError.{ReadingError}
+use Rattle.resb_head.specs.Codes.{version_bytes}
 use Rattle.resb_head.specs.Head.{header_bytes, index_bytes, index_words}
 use Rattle.resb_head.specs.HeadChecks.{header_fault, file_fault, is_version}
 use Rattle.resb_head.specs.HeadReading.{ReadsHeader, ReadsIndex}
 use Rattle.resb_head.specs.declared.head.BinHeader.{BinHeader}
 use Rattle.resb_head.specs.declared.index.BinIndex.{BinIndex}
+use Rattle.resb_head.specs.declared.version.FormatVersion.{FormatVersion}
 
+-- versions are ordered as the bytes that spell them: 1.0, 1.1, 1.2, 1.3, 2.0, 3.0
+abbrev pub VersionsAscend : (FormatVersion → FormatVersion → Ordering) → Type 0
+VersionsAscend cmp =
+    (a b : FormatVersion) → cmp a b ≡ slice_cmp nat_cmp (version_bytes a) (version_bytes b)
+
+-- a header that was read is read back from the bytes that it is written as
 abbrev pub HeaderSurvives : Type 0
 HeaderSurvives =
     (bytes : List ℕ) (h : BinHeader) (r : Result BinHeader ReadingError) → EachFits 8 bytes
     → ReadsHeader false bytes (Ok h) → ReadsHeader false (header_bytes h) r → r ≡ Ok h
 
+-- an index is read back from its bytes, and one that was read is written as the words that it was
+-- read from
 pub record IndexSurvives : Type 0 where
   pub read_back : (i : BinIndex) (r : Result BinIndex ReadingError) → EachFits 32 (index_words i)
       → ReadsIndex (index_bytes i) r → r ≡ Ok i

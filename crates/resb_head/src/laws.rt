@@ -5,7 +5,9 @@ ghost use Rattle.resb_format.specs.Laws.{Survives};
 ghost use Rattle.resb_head.specs.Codes.{endianness_number, charset_number, version_bytes};
 ghost use Rattle.resb_head.specs.CodeReading.{ReadsEndianness, ReadsCharset, ReadsVersion};
 ghost use Rattle.resb_head.specs.Laws.{HeaderSurvives, IndexSurvives, HeaderPasses};
-ghost use Rattle.resb_head.specs.Laws.{BundleFilePasses};
+ghost use Rattle.resb_head.specs.Laws.{BundleFilePasses, VersionsAscend};
+
+use crate::version::FormatVersion;
 
 /// An order of bytes is read back from its number, and a number that is read is written unchanged.
 pub fn endianness_survives()
@@ -20,6 +22,11 @@ pub fn charset_survives()
 /// A version is read back from its bytes, and the other way round.
 pub fn version_survives()
     ensures { Survives version_bytes ReadsVersion }
+{}
+
+/// Versions are ordered as the bytes that spell them: 1.0, 1.1, 1.2, 1.3, 2.0, 3.0.
+pub fn versions_ascend()
+    ensures { VersionsAscend ⟦<FormatVersion as Ord>⟧.cmp }
 {}
 
 /// A header that was read is read back from the bytes that it is written as.

@@ -5,3 +5,4 @@ pub mod Numbers
 mod Contents
 pub mod Denoted
 pub mod Paid
+pub mod InOrderLemmas

@@ -31,18 +31,23 @@ pub record Laid : Type 0 where
 abbrev pub here : Given → Laid → ℕ
 here g s = g.base + length s.tail
 
+-- what is laid, with these units behind the 16-bit block's
 abbrev pub more_units : Laid → List ℕ → Laid
 more_units s us = record { units = s.units ++ us; tail = s.tail }
 
+-- what is laid, with these bytes behind the tail's
 abbrev pub more_bytes : Laid → List ℕ → Laid
 more_bytes s bs = record { units = s.units; tail = s.tail ++ bs }
 
+-- numbers of 32 bits as bytes, the lowest byte first
 abbrev pub words : List ℕ → List ℕ
 words ws = flat_map (to_le_bytes w32) ws
 
+-- numbers of 16 bits as bytes, the lowest byte first
 abbrev pub halves : List ℕ → List ℕ
 halves us = flat_map (to_le_bytes w16) us
 
+-- n filling bytes
 abbrev pub fill : ℕ → List ℕ
 fill n = replicate n 0xaa
 
@@ -88,6 +93,7 @@ are_short ws = nat_le (length ws) 65535 && list_all is_short_string ws
 abbrev pub are_near : List ℕ → Bool
 are_near ps = nat_le (length ps) 65535 && list_all (λ p. nat_le p 65535) ps
 
+-- the offsets in the words of strings
 abbrev pub offsets_in : List ℕ → List ℕ
 offsets_in ws = map (λ w. w - 0x6000_0000) ws
 
@@ -111,6 +117,7 @@ pub data ClosesTable (g : Given) (s : Laid) (ps ws : List ℕ) : Laid → ℕ �
       → length ps < 2 ^ 32 → All (λ p. p < 2 ^ 32) ps
       → ClosesTable g s ps ws (more_bytes s (wide_table_body ps ws)) (0x4000_0000 + at)
 
+-- the trees of entries, in their order
 abbrev pub members_in : Entries → Trees
 members_in no_entries = no_trees
 members_in (entry k t es) = more_trees t (members_in es)
@@ -142,6 +149,7 @@ mutual
         → ArePlaced g (entry_keys es) ps → LaysEach g s (members_in es) mid ws → 0 < length ws
         → ClosesTable g mid ps ws end w → Lays g s (table es) end w
 
+  -- trees are laid one after another, each with its word
   pub data LaysEach (g : Given) : Laid → Trees → Laid → List ℕ → Type 0 where
     each_none : {s : Laid} → LaysEach g s no_trees s []
     each_more : {s mid end : Laid} {ws : List ℕ} {w : ℕ} {t : Tree} {ts : Trees}

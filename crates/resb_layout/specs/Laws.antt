@@ -1,14 +1,19 @@
 -- What the laws of layouts say.
 --     OneLayout               behind what is laid a tree has one end and one word
 --     LaidIsDenoted           in a file whose blocks hold what was laid, its word denotes the tree
+--     LaidInOrder             what is laid are the bodies of the tree's resources in walk order,
+--                             without a gap
 --     LaidIsPaid              what was laid has two bytes for each resource but the root
 use Rattle.std.specs.Prelude.{◌≡◌, ℕ, ◌+◌, ◌*◌, ◌%◌, ◌<◌, ◌≤◌, List, [], ◌++◌, length, Some}
 use Rattle.resb_tree.specs.Tree.{Tree, tree_count}
 use Rattle.resb_format.specs.Strings.{text_at, key_at}
 use Rattle.resb_format.specs.Parts.{Parts}
 use Rattle.resb_format.specs.Denotes.{Den}
-use Rattle.resb_layout.specs.Laid.{Given, Laid, Lays}
+use Rattle.resb_tree.specs.WalkOrder.{walk}
+use Rattle.resb_layout.specs.Laid.{Given, Laid, Lays, here}
+use Rattle.resb_layout.specs.InOrder.{FillsTail, FillsBlock}
 
+-- from where it begins a tree is laid in one way, with one word
 abbrev pub OneLayout : Type 0
 OneLayout = (g : Given) (s a b : Laid) (t : Tree) (v w : ℕ) → Lays g s t a v → Lays g s t b w
     → (a ≡ b) × (v ≡ w)
@@ -30,11 +35,29 @@ pub record StandsIn (p : Parts) (g : Given) (s : Laid) : Type 0 where
   pub block_is : p.block ≡ s.units ++ units_behind
   pub body_is : p.body ≡ front ++ (s.tail ++ bytes_behind)
 
+-- in a file that holds what was laid for a tree, its word denotes the tree, each resource counted
+-- once
 abbrev pub LaidIsDenoted : Type 0
 LaidIsDenoted =
     (p : Parts) (g : Given) (before after : Laid) (t : Tree) (w : ℕ) → IsRead p g
     → 0 < length before.units → Lays g before t after w → StandsIn p g after
     → Den p w t (tree_count t)
+
+-- behind what stands before, what stands after has these bytes and units more
+pub record StandsInOrder (g : Given) (before after : Laid) (ts : List Tree) : Type 0 where
+  pub bytes : List ℕ
+  pub units : List ℕ
+  pub bytes_are : after.tail ≡ before.tail ++ bytes
+  pub units_are : after.units ≡ before.units ++ units
+  pub tail : FillsTail (here g before) ts bytes
+  pub block : FillsBlock ts units
+  pub whole : here g after % 4 ≡ 0
+
+-- a tail that begins at a word is filled in walk order
+abbrev pub LaidInOrder : Type 0
+LaidInOrder =
+    (g : Given) (before after : Laid) (t : Tree) (w : ℕ) → here g before % 4 ≡ 0
+    → Lays g before t after w → StandsInOrder g before after (walk t)
 
 -- the bytes of what stands
 abbrev pub taken : Laid → ℕ

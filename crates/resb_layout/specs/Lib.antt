@@ -6,4 +6,5 @@ pub use Rattle.resb_format.specs.Parts
 pub use Rattle.resb_format.specs.Content
 pub use Rattle.resb_format.specs.Denotes
 pub mod Laid
+pub mod InOrder
 pub mod Laws

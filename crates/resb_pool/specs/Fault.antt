@@ -3,6 +3,7 @@
 use Rattle.std.specs.Prelude.{ℕ, List, ◌++◌, codes}
 use Rattle.std.specs.Fmt.{decimal}
 
+-- a string too long, something that can't be written, a limit passed, or want of memory
 pub data Fault : Type 0 where
   -- a string of so many 16-bit units
   string_too_long : ℕ → Fault
@@ -10,6 +11,7 @@ pub data Fault : Type 0 where
   limit : List ℕ → Fault
   out_of_memory : Fault
 
+-- what each fault prints
 abbrev pub message_of : Fault → List ℕ
 message_of (string_too_long n) =
     codes "Cannot serialize string of length " ++

@@ -14,12 +14,14 @@ abbrev pub RecordsCostLeast : Type 0
 RecordsCostLeast = (S Q R : List (List ℕ)) → All IsUtf8 S → IsRecords S Q → IsLayout S R
     → sum_by size Q ≤ sum_by size R
 
+-- a text with an offset is read back there, whatever follows the pool
 abbrev pub PoolIsRead : Type 0
 PoolIsRead =
     (S : List (List ℕ)) (us : List ℕ) (offset : List ℕ → Option ℕ) → IsPlan S us offset
     → (s : List ℕ) (k : ℕ) → offset s ≡ Some k
     → (k < length us) × ((rest : List ℕ) → text_at (us ++ rest) k ≡ Some s)
 
+-- two plans of the same strings have the same units and the same offsets
 abbrev pub OnePool : Type 0
 OnePool =
     (S : List (List ℕ)) (us vs : List ℕ) (offset place : List ℕ → Option ℕ) → IsPlan S us offset

@@ -30,6 +30,8 @@ abbrev pub offset_of : Plan → List ℕ → Option ℕ
 offset_of p s = option_and_then (slice_get p.offsets.items) (index_of_by (λ k. bytes_eq s k.now)
     p.texts)
 
+-- the units are the pool of the strings, and just the given texts have offsets: where they stand in
+-- it
 pub record IsPlan (S : List (List ℕ)) (us : List ℕ) (offset : List ℕ → Option ℕ) : Type 0 where
   pub texts : All IsUtf8 S
   -- none is too long

@@ -40,9 +40,11 @@ pub data Precedes (S : List (List ℕ)) (r q : List ℕ) : Type 0 where
   smaller_bytes : (n : ℕ) → length (units r) ≡ length (units q) → Saved S r n → Saved S q n
       → slice_cmp nat_cmp r q ≡ Less → Precedes S r q
 
+-- a record: the text's marker, its units, and 0
 abbrev pub record_units : List ℕ → List ℕ
 record_units r = marker r ++ (units r ++ 0 ∷ [])
 
+-- the units are unit 0 and the records of the strings, each before those that it precedes
 pub record IsPool (S Q : List (List ℕ)) (us : List ℕ) : Type 0 where
   pub records : IsRecords S Q
   pub ordered : (k : ℕ) → k + 1 < length Q

@@ -24,6 +24,7 @@ pub record IsRecord (S : List (List ℕ)) (s : List ℕ) : Type 0 where
   pub nonempty : 0 < length s
   pub alone : (is_unmarked s ≡ false) ⊎ ((t : List ℕ) → Contains S t → EndsWith t s → t ≡ s)
 
+-- the list has each record of the strings once, and nothing else
 pub record IsRecords (S Q : List (List ℕ)) : Type 0 where
   pub once : EachOnce Q
   pub just : (s : List ℕ) → Contains Q s ↔ IsRecord S s

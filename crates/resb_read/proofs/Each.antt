@@ -4,6 +4,7 @@ use Rattle.std.proofs.Common.{arith, inl, inr, append_assoc, Ok, Err, Some, None
 use Rattle.resb_read.specs.Places.{Place}
 use Rattle.resb_read.specs.Sequences.{ReadsEach, CountsEach}
 use Rattle.resb_read.specs.Reading.{LacksOrMemory}
+use Rattle.resb_read.specs.Refusing.{RefusesThere, RefusesOne}
 use Rattle.resb_format.specs.declared.error.ReadingError.{ReadingError}
 use Rattle.resb_read.specs.Inner.Front.{Front}
 use Rattle.resb_read.specs.TypeLaws.{each_counted}
@@ -43,9 +44,10 @@ module _ (counts : Place → ℕ → Type 0)
       inr (λ n all fits. let at = each_split ps p rest k n h all in let le : k + at.0 ≤ n = at.2 in
       none at.0 at.1 (omega arith))
 
-module _ {X : Type 0} (reads : Place → X → ℕ → Type 0) (counts : Place → ℕ → Type 0) where
+module _ {X : Type 0} (reads : Place → X → ℕ → Type 0) (counts : Place → ℕ → Type 0)
+    (refuses : Place → ℕ → ℕ → ReadingError → Type 0) where
   pub over_some : (rest : List Place) (left : ℕ) (new : Access) (left' : ℕ) (x : X)
-      → StepsOver reads counts rest left new left' (Ok (Some x))
+      → StepsOver reads counts refuses rest left new left' (Ok (Some x))
       → (p : Place) × (rest ≡ p ∷ new.rest) × (new.failed ≡ None) × (n : ℕ) × reads p x n
       × (left' + n ≡ left)
   over_some [] left new left' x h = absurd h
@@ -53,36 +55,38 @@ module _ {X : Type 0} (reads : Place → X → ℕ → Type 0) (counts : Place �
       (p, ap (λ a. p ∷ a.rest) (sym e), ap (λ a. a.failed) e, n, r, s)
 
   pub over_err : (rest : List Place) (left : ℕ) (new : Access) (left' : ℕ) (d : ReadingError)
-      → StepsOver reads counts rest left new left' (Err d)
-      → (p : Place) × (ps : List Place) × (rest ≡ p ∷ ps) × (left' ≤ left)
-      × LacksOrMemory (counts p) left d
+      → StepsOver reads counts refuses rest left new left' (Err d)
+      → (p : Place) × (ps : List Place) × (rest ≡ p ∷ ps)
+      × RefusesThere counts refuses p left left' d
   over_err [] left new left' d h = absurd h
-  over_err (p ∷ ps) left new left' d (e, s, r) = (p, ps, refl, s, r)
+  over_err (p ∷ ps) left new left' d (e, r) = (p, ps, refl, r)
 
   pub steps_some : (old : Access) (left : ℕ) (new : Access) (left' : ℕ) (x : X) → old.failed ≡ None
-      → Steps reads counts old left new left' (Ok (Some x))
+      → Steps reads counts refuses old left new left' (Ok (Some x))
       → (p : Place) × (old.rest ≡ p ∷ new.rest) × (new.failed ≡ None) × (n : ℕ) × reads p x n
       × (left' + n ≡ left)
   steps_some old left new left' x none h =
       over_some old.rest left new left' x
-      (subst (λ f. StepsAfter reads counts f old left new left' (Ok (Some x))) none h)
+      (subst (λ f. StepsAfter reads counts refuses f old left new left' (Ok (Some x))) none h)
 
   pub steps_err : (old : Access) (left : ℕ) (new : Access) (left' : ℕ) (d : ReadingError)
-      → old.failed ≡ None → Steps reads counts old left new left' (Err d)
-      → (p : Place) × (ps : List Place) × (old.rest ≡ p ∷ ps) × (left' ≤ left)
-      × LacksOrMemory (counts p) left d
+      → old.failed ≡ None → Steps reads counts refuses old left new left' (Err d)
+      → (p : Place) × (ps : List Place) × (old.rest ≡ p ∷ ps)
+      × RefusesThere counts refuses p left left' d
   steps_err old left new left' d none h =
       over_err old.rest left new left' d
-      (subst (λ f. StepsAfter reads counts f old left new left' (Err d)) none h)
+      (subst (λ f. StepsAfter reads counts refuses f old left new left' (Err d)) none h)
 
-module _ {X : Type 0} (reads : Place → X → ℕ → Type 0) (counts : Place → ℕ → Type 0) where
+module _ {X : Type 0} (reads : Place → X → ℕ → Type 0) (counts : Place → ℕ → Type 0)
+    (refuses : Place → ℕ → ℕ → ReadingError → Type 0) where
   pub front_more : (all : List Place) (old : Access) (values : List X) (before left : ℕ)
       (new : Access) (left' : ℕ) (x : X)
       → old.failed ≡ None → Front reads all old.rest values before left
-      → Steps reads counts old left new left' (Ok (Some x))
+      → Steps reads counts refuses old left new left' (Ok (Some x))
       → (new.failed ≡ None) × Front reads all new.rest (values ++ x ∷ []) before left'
   front_more all old values before left new left' x none f h =
-      let (p, first, none', n, r, s) = steps_some reads counts old left new left' x none h in
+      let step = steps_some reads counts refuses old left new left' x none h in
+      let (p, first, none', n, r, s) = step in
       let paid : left + f.spent ≡ before = f.paid in (
         none',
         record {
@@ -96,19 +100,33 @@ module _ {X : Type 0} (reads : Place → X → ℕ → Type 0) (counts : Place �
       )
 
 module _ {X : Type 0} (reads : Place → X → ℕ → Type 0) (counts : Place → ℕ → Type 0)
+    (refuses : Place → ℕ → ℕ → ReadingError → Type 0)
     (counted : (p : Place) (v : X) (n : ℕ) → reads p v n → counts p n)
     (one : (p : Place) (m n : ℕ) → counts p m → counts p n → m ≡ n) where
   pub front_refused : (all : List Place) (old : Access) (values : List X) (before left : ℕ)
       (new : Access) (left' : ℕ) (d : ReadingError)
       → old.failed ≡ None → Front reads all old.rest values before left
-      → Steps reads counts old left new left' (Err d)
+      → Steps reads counts refuses old left new left' (Err d)
       → (left' ≤ before) × LacksOrMemory (CountsEach counts all) before d
+      × RefusesOne counts refuses all before left' d
   front_refused all old values before left new left' d none f h =
-      let (p, ps, first, s, refuses) = steps_err reads counts old left new left' d none h in
+      let (p, ps, first, r) = steps_err reads counts refuses old left new left' d none h in
+      let s : left' ≤ left = r.0 in
       let paid : left + f.spent ≡ before = f.paid in
       let same : all ≡ f.done ++ p ∷ ps = f.are ∙ ap (λ r. f.done ++ r) first in (
         omega arith,
         subst (λ qs. LacksOrMemory (CountsEach counts qs) before d) (sym same)
             (each_refused counts one f.done p ps f.spent before left d paid
-            (each_counted reads counts counted f.done values f.spent f.each) refuses),
+            (each_counted reads counts counted f.done values f.spent f.each) r.1),
+        record {
+          done = f.done;
+          at = p;
+          after = ps;
+          spent = f.spent;
+          here = left;
+          are = same;
+          counted = each_counted reads counts counted f.done values f.spent f.each;
+          paid = paid;
+          refused = r;
+        },
       )

@@ -6,6 +6,7 @@ use Rattle.std.specs.declared.cmp.Ordering.{Ordering}
 use Rattle.resb_read.specs.Places.{Place}
 use Rattle.resb_read.specs.Sequences.{ReadsPairs, CountsPairs, put_each}
 use Rattle.resb_read.specs.Reading.{LacksOrMemory}
+use Rattle.resb_read.specs.Refusing.{RefusesPair, RefusesOneEntry}
 use Rattle.resb_read.specs.Access.{EntryAccess, EntersOver, EntersAfter, Enters, ReadsPair}
 use Rattle.resb_read.specs.Access.{CountsPair}
 use Rattle.resb_read.specs.Inner.Front.{FrontPairs}
@@ -55,10 +56,11 @@ module _ (ck cv : Place → ℕ → Type 0) (ok : (p : Place) (m n : ℕ) → ck
       none at.0 at.1 (omega arith))
 
 module _ {K X : Type 0} (rk : Place → K → ℕ → Type 0) (ck : Place → ℕ → Type 0)
-    (rv : Place → X → ℕ → Type 0) (cv : Place → ℕ → Type 0) where
+    (fk : Place → ℕ → ℕ → ReadingError → Type 0) (rv : Place → X → ℕ → Type 0)
+    (cv : Place → ℕ → Type 0) (fv : Place → ℕ → ℕ → ReadingError → Type 0) where
   enters_over_some : (rest : List (Place × Place)) (left : ℕ) (new : EntryAccess) (left' : ℕ)
       (x : K × X)
-      → EntersOver rk ck rv cv rest left new left' (Ok (Some x))
+      → EntersOver rk ck fk rv cv fv rest left new left' (Ok (Some x))
       → (p : Place × Place) × (rest ≡ p ∷ new.rest) × (new.failed ≡ None) × (n : ℕ)
       × ReadsPair rk rv p x n × (left' + n ≡ left)
   enters_over_some [] left new left' x h = absurd h
@@ -67,33 +69,34 @@ module _ {K X : Type 0} (rk : Place → K → ℕ → Type 0) (ck : Place → �
 
   enters_over_err : (rest : List (Place × Place)) (left : ℕ) (new : EntryAccess) (left' : ℕ)
       (d : ReadingError)
-      → EntersOver rk ck rv cv rest left new left' (Err d)
+      → EntersOver rk ck fk rv cv fv rest left new left' (Err d)
       → (p : Place × Place) × (ps : List (Place × Place)) × (rest ≡ p ∷ ps) × (left' ≤ left)
-      × LacksOrMemory (CountsPair ck cv p) left d
+      × LacksOrMemory (CountsPair ck cv p) left d × RefusesPair ck fk cv fv p left left' d
   enters_over_err [] left new left' d h = absurd h
-  enters_over_err (p ∷ ps) left new left' d (e, s, r) = (p, ps, refl, s, r)
+  enters_over_err (p ∷ ps) left new left' d (e, s, l, r) = (p, ps, refl, s, l, r)
 
   pub enters_some : (old : EntryAccess) (left : ℕ) (new : EntryAccess) (left' : ℕ) (x : K × X)
-      → old.failed ≡ None → Enters rk ck rv cv old left new left' (Ok (Some x))
+      → old.failed ≡ None → Enters rk ck fk rv cv fv old left new left' (Ok (Some x))
       → (p : Place × Place) × (old.rest ≡ p ∷ new.rest) × (new.failed ≡ None) × (n : ℕ)
       × ReadsPair rk rv p x n × (left' + n ≡ left)
   enters_some old left new left' x none h =
       enters_over_some old.rest left new left' x
-      (subst (λ f. EntersAfter rk ck rv cv f old left new left' (Ok (Some x))) none h)
+      (subst (λ f. EntersAfter rk ck fk rv cv fv f old left new left' (Ok (Some x))) none h)
 
   pub enters_err : (old : EntryAccess) (left : ℕ) (new : EntryAccess) (left' : ℕ) (d : ReadingError)
-      → old.failed ≡ None → Enters rk ck rv cv old left new left' (Err d)
+      → old.failed ≡ None → Enters rk ck fk rv cv fv old left new left' (Err d)
       → (p : Place × Place) × (ps : List (Place × Place)) × (old.rest ≡ p ∷ ps) × (left' ≤ left)
-      × LacksOrMemory (CountsPair ck cv p) left d
+      × LacksOrMemory (CountsPair ck cv p) left d × RefusesPair ck fk cv fv p left left' d
   enters_err old left new left' d none h =
       enters_over_err old.rest left new left' d
-      (subst (λ f. EntersAfter rk ck rv cv f old left new left' (Err d)) none h)
+      (subst (λ f. EntersAfter rk ck fk rv cv fv f old left new left' (Err d)) none h)
 
   module _ (cmp : K → K → Ordering) (all : List (Place × Place)) (old : EntryAccess)
       (m : List (K × X))
       (before left : ℕ) (new : EntryAccess) (left' : ℕ) (ok : old.failed ≡ None)
       (f : FrontPairs cmp rk rv all old.rest m before left) where
-    pub front_enters : (k : K) (x : X) → Enters rk ck rv cv old left new left' (Ok (Some (k, x)))
+    pub front_enters : (k : K) (x : X)
+        → Enters rk ck fk rv cv fv old left new left' (Ok (Some (k, x)))
         → (new.failed ≡ None)
         × FrontPairs cmp rk rv all new.rest (insert_entry cmp m k x) before left'
     front_enters k x h =
@@ -115,14 +118,26 @@ module _ {K X : Type 0} (rk : Place → K → ℕ → Type 0) (ck : Place → �
         (hv : (p : Place) (v : X) (n : ℕ) → rv p v n → cv p n)
         (one_k : (p : Place) (m n : ℕ) → ck p m → ck p n → m ≡ n)
         (one_v : (p : Place) (m n : ℕ) → cv p m → cv p n → m ≡ n) (d : ReadingError)
-        → Enters rk ck rv cv old left new left' (Err d)
+        → Enters rk ck fk rv cv fv old left new left' (Err d)
         → (left' ≤ before) × LacksOrMemory (CountsPairs ck cv all) before d
+        × RefusesOneEntry ck fk cv fv all before left' d
     front_fails hk hv one_k one_v d h =
-        let (p, ps, first, s, refuses) = enters_err old left new left' d ok h in
+        let (p, ps, first, s, lacks, refuses) = enters_err old left new left' d ok h in
         let paid : left + f.spent ≡ before = f.paid in
         let same : all ≡ f.done ++ p ∷ ps = f.are ∙ ap (λ r. f.done ++ r) first in (
           omega arith,
           subst (λ qs. LacksOrMemory (CountsPairs ck cv qs) before d) (sym same)
               (pairs_refused ck cv one_k one_v f.done p ps f.spent before left d paid
-              (pairs_counted rk rv ck cv hk hv f.done f.read f.spent f.each) refuses),
+              (pairs_counted rk rv ck cv hk hv f.done f.read f.spent f.each) lacks),
+          record {
+            done = f.done;
+            at = p;
+            after = ps;
+            spent = f.spent;
+            here = left;
+            are = same;
+            counted = pairs_counted rk rv ck cv hk hv f.done f.read f.spent f.each;
+            paid = paid;
+            refused = refuses;
+          },
         )

@@ -7,5 +7,6 @@ mod UnitsBack
 mod Entering
 mod Failing
 mod Viewing
+mod Taking
 pub mod OneRefusal
 mod OneValue

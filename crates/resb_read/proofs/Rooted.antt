@@ -16,7 +16,7 @@ use Rattle.resb_walk.specs.Meets.{Blames}
 use Rattle.resb_walk.specs.Refusals.{Refuses}
 use Rattle.resb_read.specs.Places.{Place}
 use Rattle.resb_read.specs.Resources.{DenPlace, ReachesPlace, ReadsTree, MeetsPlace}
-use Rattle.resb_read.specs.Roots.{root_place, AtRoot, RefusesFile, TreeOf}
+use Rattle.resb_read.specs.Roots.{root_place, AtRoot, RefusesRoot, RefusesFile, TreeOf}
 
 -- a file with a fault is no bundle
 pub no_bundle : (bytes : List ℕ) (f : Refusal) → file_fault bytes ≡ Some f → IsBundleFile bytes → ⊥
@@ -29,6 +29,18 @@ no_bundle bytes f e h =
 pub at_root : (P : Place → Type 0) (bytes : List ℕ) (p : Place) → file_fault bytes ≡ None
     → p ≡ root_place bytes → P p → AtRoot P bytes
 at_root P bytes p e same h = record { head = (bundle_file_passes bytes).0 e; root = subst P same h }
+
+-- what a type answers at the root
+pub refused_there : (refuses : Place → ℕ → ℕ → ReadingError → Type 0) (bytes : List ℕ) (p : Place)
+    (left left' : ℕ) (e : ReadingError)
+    → file_fault bytes ≡ None → p ≡ root_place bytes → left ≡ budget bytes
+    → refuses p left left' e → RefusesRoot refuses bytes e
+refused_there refuses bytes p left left' e none same all h =
+    inr (
+      left',
+      at_root (λ q. refuses q (budget bytes) left' e) bytes p none same
+          (subst (λ n. refuses p n left' e) all h),
+    )
 
 pub refused_root : (bytes : List ℕ) (p : Place) (left : ℕ) (e : ReadingError)
     → file_fault bytes ≡ None → p ≡ root_place bytes → left ≡ budget bytes

@@ -3,6 +3,7 @@ use Rattle.std.specs.Prelude.{ℕ, List, [], ◌∷◌, Option, Some, None, Resu
 use Rattle.resb_read.specs.Places.{Place, place_of}
 use Rattle.resb_read.specs.declared.cursor.Cursor.{Cursor}
 use Rattle.resb_read.specs.Reading.{LacksOrMemory}
+use Rattle.resb_read.specs.Refusing.{RefusesThere, RefusesPair}
 use Rattle.resb_format.specs.declared.error.ReadingError.{ReadingError}
 
 -- the members still to come, and the error that it stopped at
@@ -11,7 +12,8 @@ pub record Access : Type 0 where
   pub failed : Option ReadingError
 
 -- one step over the places: what is read at the first of them, or that error again
-module _ {X : Type 0} (reads : Place → X → ℕ → Type 0) (counts : Place → ℕ → Type 0) where
+module _ {X : Type 0} (reads : Place → X → ℕ → Type 0) (counts : Place → ℕ → Type 0)
+    (refuses : Place → ℕ → ℕ → ReadingError → Type 0) where
   abbrev pub StepsOver : List Place → ℕ → Access → ℕ → Result (Option X) ReadingError → Type 0
   StepsOver [] left new left' (Ok None) =
       (new ≡ record { rest = []; failed = None }) × (left' ≡ left)
@@ -21,8 +23,8 @@ module _ {X : Type 0} (reads : Place → X → ℕ → Type 0) (counts : Place �
   StepsOver (p ∷ ps) left new left' (Ok (Some x)) =
       (new ≡ record { rest = ps; failed = None }) × (n : ℕ) × reads p x n × (left' + n ≡ left)
   StepsOver (p ∷ ps) left new left' (Err e) =
-      (new ≡ record { rest = p ∷ ps; failed = Some e }) × (left' ≤ left)
-      × LacksOrMemory (counts p) left e
+      (new ≡ record { rest = p ∷ ps; failed = Some e })
+      × RefusesThere counts refuses p left left' e
 
   abbrev pub StepsAfter : Option ReadingError → Access → ℕ → Access → ℕ
       → Result (Option X) ReadingError → Type 0
@@ -66,7 +68,8 @@ ReadsPair key value p e n = (a : ℕ) × (b : ℕ) × key p.0 e.0 a × value p.1
 
 -- one step over the entries: the key and then the value at the first of them, or the error again
 module _ {K X : Type 0} (rk : Place → K → ℕ → Type 0) (ck : Place → ℕ → Type 0)
-    (rv : Place → X → ℕ → Type 0) (cv : Place → ℕ → Type 0) where
+    (fk : Place → ℕ → ℕ → ReadingError → Type 0) (rv : Place → X → ℕ → Type 0)
+    (cv : Place → ℕ → Type 0) (fv : Place → ℕ → ℕ → ReadingError → Type 0) where
   abbrev pub EntersOver : List (Place × Place) → ℕ → EntryAccess → ℕ
       → Result (Option (K × X)) ReadingError → Type 0
   EntersOver [] left new left' (Ok None) =
@@ -79,7 +82,7 @@ module _ {K X : Type 0} (rk : Place → K → ℕ → Type 0) (ck : Place → �
       × (left' + n ≡ left)
   EntersOver (p ∷ ps) left new left' (Err e) =
       (new ≡ record { rest = p ∷ ps; failed = Some e }) × (left' ≤ left)
-      × LacksOrMemory (CountsPair ck cv p) left e
+      × LacksOrMemory (CountsPair ck cv p) left e × RefusesPair ck fk cv fv p left left' e
 
   abbrev pub EntersAfter : Option ReadingError → EntryAccess → ℕ → EntryAccess → ℕ
       → Result (Option (K × X)) ReadingError → Type 0

@@ -11,6 +11,7 @@ use Rattle.resb_read.specs.Places.{Place}
 use Rattle.resb_read.specs.Resources.{DenPlace}
 use Rattle.resb_read.specs.Roots.{RefusesFile}
 
+-- two refusals of a file are equal, by kind and message, if neither is want of memory
 abbrev pub OneRefusalOfAFile : Type 0
 OneRefusalOfAFile = (bytes : List ℕ) (d e : ReadingError) → RefusesFile bytes d
     → RefusesFile bytes e
@@ -20,6 +21,7 @@ OneRefusalOfAFile = (bytes : List ℕ) (d e : ReadingError) → RefusesFile byte
 abbrev pub OneAtPlace : {X : Type 0} → (Place → X → ℕ → Type 0) → Type 0
 OneAtPlace {X} reads = (p : Place) (x y : X) (m n : ℕ) → reads p x m → reads p y n → x ≡ y
 
+-- so it is for numbers of a range, bools, 28 bits, texts, keys, bytes, views and trees
 abbrev pub OneValue : Type 0
 OneValue = ((low high : ℤ) → OneAtPlace (ReadsSigned low high))
     × ((high : ℕ) → OneAtPlace (ReadsUnsigned high)) × OneAtPlace ReadsBool × OneAtPlace ReadsBits

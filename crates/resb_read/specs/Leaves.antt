@@ -21,6 +21,7 @@ use Rattle.resb_read.specs.declared.cursor.Spot.TheVariants as spot
 abbrev pub type_in : ℕ → ℕ
 type_in w = w / 2 ^ 28
 
+-- a word's value: its lower 28 bits
 abbrev pub value_in : ℕ → ℕ
 value_in w = w % 2 ^ 28
 
@@ -39,9 +40,11 @@ unsigned_at (spot.Word w) = Some (w, 0)
 unsigned_at (spot.Unit u) = None
 unsigned_at (spot.Key k) = None
 
+-- 0 is false and 1 is true, for one resource
 abbrev pub bool_of : ℕ → Option (Bool × ℕ)
 bool_of n = if n == 0 then Some (false, 1) else if n == 1 then Some (true, 1) else None
 
+-- a bool stands at the descriptor of an integer, and nowhere else
 abbrev pub bool_at : Spot → Option (Bool × ℕ)
 bool_at (spot.Descriptor w) = if type_in w == types.integer then bool_of (value_in w) else None
 bool_at (spot.Word w) = None
@@ -52,18 +55,21 @@ bool_at (spot.Key k) = None
 abbrev pub IsWithin : ℤ → ℤ → ℤ → Type 0
 IsWithin low high x = (low ≤ℤ x) × (x ≤ℤ high)
 
+-- a number with a sign stands there, and lies in the range
 abbrev pub ReadsSigned : ℤ → ℤ → Place → ℤ → ℕ → Type 0
 ReadsSigned low high p x n = IsThere (IsWithin low high) (signed_at p.at) x n
 
 abbrev pub CountsSigned : ℤ → ℤ → Place → ℕ → Type 0
 CountsSigned low high p n = CountsThere (IsWithin low high) (signed_at p.at) n
 
+-- a number without a sign stands there, and is at most the greatest of its type
 abbrev pub ReadsUnsigned : ℕ → Place → ℕ → ℕ → Type 0
 ReadsUnsigned high p x n = IsThere (λ x. x ≤ high) (unsigned_at p.at) x n
 
 abbrev pub CountsUnsigned : ℕ → Place → ℕ → Type 0
 CountsUnsigned high p n = CountsThere (λ x. x ≤ high) (unsigned_at p.at) n
 
+-- this bool stands there
 abbrev pub ReadsBool : Place → Bool → ℕ → Type 0
 ReadsBool p x n = IsThere any (bool_at p.at) x n
 
@@ -77,9 +83,11 @@ bits_at (spot.Word w) = None
 bits_at (spot.Unit u) = None
 bits_at (spot.Key k) = None
 
+-- these 28 bits stand there
 abbrev pub ReadsBits : Place → ℕ → ℕ → Type 0
 ReadsBits p x n = IsThere any (bits_at p.at) x n
 
+-- some 28 bits stand there
 abbrev pub CountsBits : Place → ℕ → Type 0
 CountsBits p n = CountsThere any (bits_at p.at) n
 
@@ -89,12 +97,14 @@ described_text p w =
     if type_in w == types.string then
     (if value_in w == 0 then Some [] else text_at p.block (value_in w)) else None
 
+-- the text of a string, for one resource, or of a key, for none
 abbrev pub text_from : Parts → Spot → Option (List ℕ × ℕ)
 text_from p (spot.Descriptor w) = option_map (λ s. (s, 1)) (described_text p w)
 text_from p (spot.Unit u) = option_map (λ s. (s, 1)) (text_at p.block u)
 text_from p (spot.Word w) = None
 text_from p (spot.Key k) = option_map (λ s. (s, 0)) (key_at p.keys k)
 
+-- this text stands there
 abbrev pub ReadsText : Place → List ℕ → ℕ → Type 0
 ReadsText p x n = IsThere any (text_from p.parts p.at) x n
 
@@ -108,6 +118,7 @@ key_from p (spot.Unit u) = None
 key_from p (spot.Word w) = None
 key_from p (spot.Key k) = option_map (λ s. (s, 0)) (key_at p.keys k)
 
+-- this key stands there
 abbrev pub ReadsKey : Place → List ℕ → ℕ → Type 0
 ReadsKey p x n = IsThere any (key_from p.parts p.at) x n
 
@@ -122,6 +133,7 @@ units_as_bytes us = flat_map (to_le_bytes w16) us
 abbrev pub counted_bytes : Parts → ℕ → ℕ → Option (List ℕ)
 counted_bytes p each v = counted (words_of p.body) v (λ n. part p.body (4 * v + 4) (each * n))
 
+-- the bytes of a binary, of a string's units or of a vector's numbers, none at value 0
 abbrev pub bytes_of_type : Parts → ℕ → ℕ → Option (List ℕ)
 bytes_of_type p type v =
     if type == types.binary then (if v == 0 then Some [] else counted_bytes p 1 v)
@@ -130,6 +142,7 @@ bytes_of_type p type v =
     else if type == types.int_vector then (if v == 0 then Some [] else counted_bytes p 4 v)
     else None
 
+-- the bytes of what a descriptor or a unit leads to, for one resource, or of a key, for none
 abbrev pub bytes_from : Parts → Spot → Option (List ℕ × ℕ)
 bytes_from p (spot.Descriptor w) =
     option_map (λ s. (s, 1)) (bytes_of_type p (type_in w) (value_in w))
@@ -137,6 +150,7 @@ bytes_from p (spot.Unit u) = option_map (λ us. (units_as_bytes us, 1)) (string_
 bytes_from p (spot.Word w) = None
 bytes_from p (spot.Key k) = option_map (λ s. (s, 0)) (key_at p.keys k)
 
+-- these bytes stand there
 abbrev pub ReadsBytes : Place → List ℕ → ℕ → Type 0
 ReadsBytes p x n = IsThere any (bytes_from p.parts p.at) x n
 

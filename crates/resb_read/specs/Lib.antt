@@ -30,5 +30,6 @@ pub mod Laws
 pub mod Sequences
 pub mod Access
 pub mod Others
+pub mod Refusing
 pub mod TypeLaws
 pub mod Inner

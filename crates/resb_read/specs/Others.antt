@@ -49,9 +49,11 @@ IsKey s = ⊥
 abbrev pub ReadsView : ℕ → Place → List ℕ → ℕ → Type 0
 ReadsView each p b n = IsThere (λ b. length b % each ≡ 0) (bytes_from p.parts p.at) b n
 
+-- some bytes stand there whose number is a multiple of an item's
 abbrev pub CountsView : ℕ → Place → ℕ → Type 0
 CountsView each p n = CountsThere (λ b. length b % each ≡ 0) (bytes_from p.parts p.at) n
 
+-- bytes stand there, and what is left pays for them
 abbrev pub are_paid : Option (List ℕ × ℕ) → ℕ → Bool
 are_paid (Some r) left = nat_le r.1 left
 are_paid None left = false

@@ -11,6 +11,7 @@ pub record Place : Type 0 where
   pub parts : Parts
   pub at : Spot
 
+-- where a cursor stands, in which parts of a file
 abbrev pub place_of : Cursor → Place
 place_of c = record { parts = parts_in c.file; at = c.at }
 

@@ -1,19 +1,22 @@
 -- What a reading within a budget answers.
 --     Lacks counts left           no count that can be paid for stands there
---     Reads faults reads counts left left' r
+--     Reads refuses reads counts left left' r
 --                             Ok with a value that is read and paid for; or else such a count
---                             lacks, and the error is one of these
+--                             lacks, and the error is one that may be answered then
 use Rattle.std.specs.Prelude.{◌≡◌, ◌≤◌, ◌+◌, ◌⊎◌, ℕ, Option, Some, Result, Ok, Err}
 use Rattle.resb_format.specs.Error.{IsWantOfMemory}
 use Rattle.resb_format.specs.declared.error.ReadingError.{ReadingError}
 
+-- no count of at most what is left stands there
 abbrev pub Lacks : (ℕ → Type 0) → ℕ → Type 0
 Lacks counts left = (n : ℕ) → counts n → n ≤ left → ⊥
 
-abbrev pub Reads : {X : Type 0} → (ReadingError → Type 0) → (X → ℕ → Type 0) → (ℕ → Type 0) → ℕ → ℕ
-    → Result X ReadingError → Type 0
-Reads faults reads counts left left' (Ok x) = (n : ℕ) × reads x n × (left' + n ≡ left)
-Reads faults reads counts left left' (Err e) = (left' ≤ left) × Lacks counts left × faults e
+-- a value that is read and paid for; or no count that can be paid for, and one of these errors
+abbrev pub Reads : {X : Type 0} → (ℕ → ℕ → ReadingError → Type 0) → (X → ℕ → Type 0)
+    → (ℕ → Type 0) → ℕ → ℕ → Result X ReadingError → Type 0
+Reads refuses reads counts left left' (Ok x) = (n : ℕ) × reads x n × (left' + n ≡ left)
+Reads refuses reads counts left left' (Err e) =
+    (left' ≤ left) × Lacks counts left × refuses left left' e
 
 -- why a reading that asks for memory is refused
 abbrev pub LacksOrMemory : (ℕ → Type 0) → ℕ → ReadingError → Type 0
@@ -23,6 +26,7 @@ LacksOrMemory counts left e = IsWantOfMemory e ⊎ Lacks counts left
 abbrev pub IsThere : {X : Type 0} → (X → Type 0) → Option (X × ℕ) → X → ℕ → Type 0
 IsThere fits there x n = fits x × (there ≡ Some (x, n))
 
+-- some value that fits stands there, with its count
 abbrev pub CountsThere : {X : Type 0} → (X → Type 0) → Option (X × ℕ) → ℕ → Type 0
 CountsThere {X} fits there n = (x : X) × IsThere fits there x n
 

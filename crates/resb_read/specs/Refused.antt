@@ -105,12 +105,14 @@ bytes_fault p w =
     else if type_in w == types.binary || type_in w == types.int_vector then end_of_input
     else type_refusal (type_in w) (mismatch (codes "expected binary data resource"))
 
+-- why no bytes are read at a spot with so much left
 abbrev pub bytes_refusal_from : Parts → Spot → ℕ → Refusal
 bytes_refusal_from p (spot.Descriptor w) left = paid left (bytes_fault p w)
 bytes_refusal_from p (spot.Unit u) left = paid left (invalid (string_fault p.block u))
 bytes_refusal_from p (spot.Word w) left = elsewhere
 bytes_refusal_from p (spot.Key k) left = key_damage p.keys k
 
+-- why no bytes are read at a place with so much left
 abbrev pub bytes_refusal : Place → ℕ → Refusal
 bytes_refusal p left = bytes_refusal_from p.parts p.at left
 
@@ -125,12 +127,14 @@ entries_fault w =
     if types.is_table (type_in w) then end_of_input
     else type_refusal (type_in w) (mismatch (codes "expected table resource"))
 
+-- why no members are read at a spot with so much left
 abbrev pub members_refusal : Spot → ℕ → Refusal
 members_refusal (spot.Descriptor w) left = paid left (members_fault w)
 members_refusal (spot.Unit u) left = no_value (spot.Unit u) left
 members_refusal (spot.Word w) left = no_value (spot.Word w) left
 members_refusal (spot.Key k) left = no_value (spot.Key k) left
 
+-- why no entries are read at a spot with so much left
 abbrev pub entries_refusal : Spot → ℕ → Refusal
 entries_refusal (spot.Descriptor w) left = paid left (entries_fault w)
 entries_refusal (spot.Unit u) left = no_value (spot.Unit u) left

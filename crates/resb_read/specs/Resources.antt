@@ -14,12 +14,14 @@ use Rattle.resb_read.specs.Refused.{elsewhere}
 use Rattle.resb_read.specs.declared.cursor.Spot.{Spot}
 use Rattle.resb_read.specs.declared.cursor.Spot.TheVariants as spot
 
+-- the tree that a spot denotes: at a descriptor or at a short collection's string, and nowhere else
 abbrev pub DenSpot : Parts → Spot → Tree → ℕ → Type 0
 DenSpot p (spot.Descriptor w) t n = Den p w t n
 DenSpot p (spot.Unit u) t n = DenMember p (unit u) t n
 DenSpot p (spot.Word w) t n = ⊥
 DenSpot p (spot.Key k) t n = ⊥
 
+-- the tree that a place denotes, with its count
 abbrev pub DenPlace : Place → Tree → ℕ → Type 0
 DenPlace p t n = DenSpot p.parts p.at t n
 
@@ -27,6 +29,7 @@ DenPlace p t n = DenSpot p.parts p.at t n
 abbrev pub ReadsTree : Place → Resource → ℕ → Type 0
 ReadsTree p r n = DenPlace p (tree_of r) n × Borrows r
 
+-- some tree is denoted there, with this count
 abbrev pub CountsTree : Place → ℕ → Type 0
 CountsTree p n = (t : Tree) × DenPlace p t n
 

@@ -1,6 +1,7 @@
 -- What is read at a file's root, with the whole budget.
 --     root_place bytes            the place of the root
 --     AtRoot P bytes              the file is a bundle, and P holds of the place of its root
+--     RefusesRoot refuses bytes e     what a type that refuses so answers of the file
 --     TreeOf, CountOf             what reading and counting the file's tree answer
 use Rattle.std.specs.Prelude.{◌≡◌, ◌≤◌, ◌⊎◌, ℕ, List, Some, Result, Ok, Err}
 use Rattle.resb_tree.specs.Tree.{Tree}
@@ -19,12 +20,21 @@ use Rattle.resb_walk.specs.Borrows.{Borrows}
 use Rattle.resb_read.specs.Places.{Place}
 use Rattle.resb_read.specs.declared.cursor.Spot.TheVariants as spot
 
+-- the place of a file's root
 abbrev pub root_place : List ℕ → Place
 root_place bytes = record { parts = parts_of bytes; at = spot.Descriptor (root_word bytes) }
 
+-- the file is a bundle, and this holds of the place of its root
 pub record AtRoot (P : Place → Type 0) (bytes : List ℕ) : Type 0 where
   pub head : IsBundleFile bytes
   pub root : P (root_place bytes)
+
+-- the first check of the head that fails, or what the type answers at the root, with the whole
+-- budget
+abbrev pub RefusesRoot : (Place → ℕ → ℕ → ReadingError → Type 0) → List ℕ → ReadingError → Type 0
+RefusesRoot refuses bytes e =
+    (file_fault bytes ≡ Some (refusal_of e))
+    ⊎ ((left : ℕ) × AtRoot (λ p. refuses p (budget bytes) left e) bytes)
 
 -- the first check of the head that fails, or what is refused at the root, by the first fault there
 abbrev pub RefusesFile : List ℕ → ReadingError → Type 0
@@ -35,10 +45,13 @@ RefusesFile bytes e =
     (Reaches (parts_of bytes) (root_word bytes)) (budget bytes) e
     × Blames (Meets (parts_of bytes) (word (root_word bytes))) e)
 
+-- what reading a file's tree answers: a tree that is denoted within the budget and borrows, or its
+-- refusal
 abbrev pub TreeOf : List ℕ → Result Resource ReadingError → Type 0
 TreeOf bytes (Ok r) = (n : ℕ) × Denotes bytes (tree_of r) n × (n ≤ budget bytes) × Borrows r
 TreeOf bytes (Err e) = RefusesFile bytes e
 
+-- what counting a file's tree answers: the count of a tree within the budget, or its refusal
 abbrev pub CountOf : List ℕ → Result ℕ ReadingError → Type 0
 CountOf bytes (Ok n) = (t : Tree) × Denotes bytes t n × (n ≤ budget bytes)
 CountOf bytes (Err e) = RefusesFile bytes e

@@ -14,6 +14,7 @@ use Rattle.resb_read.specs.Leaves.{type_in}
 use Rattle.resb_read.specs.declared.cursor.Spot.{Spot}
 use Rattle.resb_read.specs.declared.cursor.Spot.TheVariants as spot
 
+-- the place of a spot in these parts
 abbrev pub at_spot : Parts → Spot → Place
 at_spot p s = record { parts = p; at = s }
 
@@ -26,6 +27,7 @@ numbers_in (table es) = None
 numbers_in (binary s) = None
 numbers_in (integer n) = None
 
+-- the spots of a list's members or of a vector's numbers; other things have none
 abbrev pub member_spots : Option Content → Option (List Spot)
 member_spots (Some (list ms)) = Some (map spot_of ms)
 member_spots (Some (leaf t)) = numbers_in t
@@ -38,12 +40,14 @@ items_in p w =
     if types.is_array (type_in w) || type_in w == types.int_vector then member_spots (content p w)
     else None
 
+-- the places of the members at a spot: only a descriptor has any
 abbrev pub items_from : Parts → Spot → Option (List Place)
 items_from p (spot.Descriptor w) = option_map (map (at_spot p)) (items_in p w)
 items_from p (spot.Unit u) = None
 items_from p (spot.Word w) = None
 items_from p (spot.Key k) = None
 
+-- the places of the members of the sequence at a place
 abbrev pub items : Place → Option (List Place)
 items p = items_from p.parts p.at
 
@@ -93,6 +97,7 @@ pub record ReadsSeq {X : Type 0} (reads : Place → X → ℕ → Type 0) (p : P
   pub each : ReadsEach reads places xs total
   pub count : n ≡ 1 + total
 
+-- a sequence stands there, each member has a count, and the sum with one more is n
 pub record CountsSeq (counts : Place → ℕ → Type 0) (p : Place) (n : ℕ) : Type 0 where
   pub places : List Place
   pub total : ℕ

@@ -59,9 +59,11 @@ bool_counted p = there_counted any (bool_at p.at)
 pub bool_one : (p : Place) (m n : ℕ) → CountsBool p m → CountsBool p n → m ≡ n
 bool_one p = there_one any (bool_at p.at)
 
+-- 28 bits that are read have their count
 pub bits_counted : (p : Place) (x : ℕ) (n : ℕ) → ReadsBits p x n → CountsBits p n
 bits_counted p = there_counted any (bits_at p.at)
 
+-- and one count
 pub bits_one : (p : Place) (m n : ℕ) → CountsBits p m → CountsBits p n → m ≡ n
 bits_one p = there_one any (bits_at p.at)
 

@@ -9,7 +9,8 @@ ghost use Rattle.resb_read.specs.Reading.{LacksOrMemory};
 ghost use Rattle.resb_walk.specs.Damage.{Says};
 ghost use Rattle.resb_walk.specs.Files.{parts_in};
 ghost use Rattle.resb_walk.specs.Inner.Members.{keyed_members};
-ghost use Rattle.resb_read.specs.Refused.{entries_fault, entries_refusal};
+ghost use Rattle.resb_read.specs.Refused.{entries_fault};
+ghost use Rattle.resb_read.specs.Refusing.{RefusesEntries, RefusesPair};
 
 use crate::cursor::{Cursor, Spot};
 use crate::deserialize::Deserialize;
@@ -100,8 +101,8 @@ impl<'de, 'm> MapAccess<'de, 'm> {
         alloc: Global,
         walk: &mut Walk,
     ) -> Result<Option<(K, T)>, ReadingError<'m>>
-        ensures { Enters K.reads K.counts T.reads T.counts self.old walk.old self.new walk.new
-            result }
+        ensures { Enters K.reads K.counts K.refuses T.reads T.counts T.refuses self.old walk.old
+            self.new walk.new result }
     {
         if let Some(error) = self.failed {
             return Err(error);
@@ -135,6 +136,8 @@ fn read_pair<'de, 'm, K: Deserialize<'de>, T: Deserialize<'de>>(
     ensures refused { IfErr result (λ e. (walk.new ≤ walk.old)
         × LacksOrMemory (CountsPair K.counts T.counts
         (place_of key_at.entry, place_of value_at.entry)) walk.old e) }
+    ensures says { IfErr result (RefusesPair K.counts K.refuses T.counts T.refuses
+        (place_of key_at.entry, place_of value_at.entry) walk.old walk.new) }
 {
     let key = K::deserialize(alloc, key_at, walk)?;
     let value = T::deserialize(alloc, value_at, walk)?;
@@ -170,7 +173,7 @@ impl<'de> Cursor<'de> {
             × (s.failed ≡ None) × (walk.new + 1 ≡ walk.old)) }
         ensures refused { IfErr result (λ e. (walk.new ≤ walk.old)
             × (sequences.entries (place_of self.entry) ≡ None ⊎ walk.old ≡ 0)
-            × Says (entries_refusal self.entry.at walk.old) e) }
+            × RefusesEntries (place_of self.entry) walk.old walk.new e) }
     {
         let Spot::Descriptor(word) = self.at else {
             return Err(refused_here(self.at, walk));

@@ -6,7 +6,7 @@ ghost use Rattle.resb_format.specs.Error.{refusal_of};
 ghost use Rattle.resb_format.specs.File.{budget};
 ghost use Rattle.resb_head.specs.HeadChecks.{file_fault};
 ghost use Rattle.resb_read.specs.Reading.{LacksOrMemory};
-ghost use Rattle.resb_read.specs.Roots.{AtRoot, TreeOf, CountOf};
+ghost use Rattle.resb_read.specs.Roots.{AtRoot, RefusesRoot, TreeOf, CountOf};
 
 use crate::cursor::Cursor;
 use crate::deserialize::Deserialize;
@@ -24,6 +24,7 @@ pub fn from_bytes<'a, 'm, T: Deserialize<'a>>(
         (λ n. AtRoot (λ p. T.counts p n) bytes.entry.now) (budget bytes.entry.now) e) }
     ensures head { IfErr result
         (λ e. (f : reading.Refusal) → file_fault bytes.entry.now ≡ Some f → refusal_of e ≡ f) }
+    ensures says { IfErr result (RefusesRoot T.refuses bytes.entry.now) }
 {
     let (value, _) = from_bytes_counted::<T>(alloc, bytes)?;
     Ok(value)
@@ -40,6 +41,7 @@ pub fn from_bytes_counted<'a, 'm, T: Deserialize<'a>>(
         (λ n. AtRoot (λ p. T.counts p n) bytes.entry.now) (budget bytes.entry.now) e) }
     ensures head { IfErr result
         (λ e. (f : reading.Refusal) → file_fault bytes.entry.now ≡ Some f → refusal_of e ≡ f) }
+    ensures says { IfErr result (RefusesRoot T.refuses bytes.entry.now) }
 {
     let (root, mut walk) = Cursor::root(bytes)?;
     let before = walk.left();

@@ -7,6 +7,7 @@ ghost use Rattle.resb_walk.specs.Damage.{Says};
 ghost use Rattle.resb_walk.specs.Refusals.{IsFault};
 ghost use Rattle.resb_read.specs.Leaves.{type_in, value_in};
 ghost use Rattle.resb_read.specs.Refused as refused;
+ghost use Rattle.resb_read.specs.Refusing.{Takes};
 
 use crate::cursor::Spot;
 use resb_format::{BinaryDeserializerError, ResourceReprType};
@@ -33,6 +34,7 @@ pub(crate) fn elsewhere() -> BinaryDeserializerError
 pub(crate) fn refused_here(at: Spot, walk: &mut Walk) -> BinaryDeserializerError
     ensures falls { walk.new ≤ walk.old }
     ensures says { Says (refused.no_value at walk.old) result }
+    ensures takes { Takes at walk.old walk.new }
 {
     match at {
         Spot::Descriptor(word) => match walk.pay() {

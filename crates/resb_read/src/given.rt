@@ -3,6 +3,7 @@
 ghost use Rattle.std.specs.Prelude.{◌-◌, ◌^◌, pos, negsuc};
 ghost use Rattle.resb_read.specs.Leaves.{ReadsSigned, CountsSigned, ReadsUnsigned, CountsUnsigned};
 ghost use Rattle.resb_read.specs.Leaves.{ReadsBool, CountsBool, ReadsBits, CountsBits};
+ghost use Rattle.resb_read.specs.Refusing.{RefusesNumber, RefusesBool, RefusesBits};
 ghost use Rattle.resb_read.specs.TypeLaws.{signed_counted, signed_one, unsigned_counted};
 ghost use Rattle.resb_read.specs.TypeLaws.{unsigned_one, bool_counted, bool_one, bits_counted};
 ghost use Rattle.resb_read.specs.TypeLaws.{bits_one};
@@ -17,6 +18,8 @@ impl<'de> Deserialize<'de> for i8 {
     ghost reads = { ReadsSigned (negsuc (2 ^ 7 - 1)) (pos (2 ^ 7 - 1)) };
 
     ghost counts = { CountsSigned (negsuc (2 ^ 7 - 1)) (pos (2 ^ 7 - 1)) };
+
+    ghost refuses = { RefusesNumber };
 
     ghost counted = { signed_counted (negsuc (2 ^ 7 - 1)) (pos (2 ^ 7 - 1)) };
 
@@ -36,6 +39,8 @@ impl<'de> Deserialize<'de> for i16 {
 
     ghost counts = { CountsSigned (negsuc (2 ^ 15 - 1)) (pos (2 ^ 15 - 1)) };
 
+    ghost refuses = { RefusesNumber };
+
     ghost counted = { signed_counted (negsuc (2 ^ 15 - 1)) (pos (2 ^ 15 - 1)) };
 
     ghost one_count = { signed_one (negsuc (2 ^ 15 - 1)) (pos (2 ^ 15 - 1)) };
@@ -53,6 +58,8 @@ impl<'de> Deserialize<'de> for i32 {
     ghost reads = { ReadsSigned (negsuc (2 ^ 31 - 1)) (pos (2 ^ 31 - 1)) };
 
     ghost counts = { CountsSigned (negsuc (2 ^ 31 - 1)) (pos (2 ^ 31 - 1)) };
+
+    ghost refuses = { RefusesNumber };
 
     ghost counted = { signed_counted (negsuc (2 ^ 31 - 1)) (pos (2 ^ 31 - 1)) };
 
@@ -72,6 +79,8 @@ impl<'de> Deserialize<'de> for i64 {
 
     ghost counts = { CountsSigned (negsuc (2 ^ 63 - 1)) (pos (2 ^ 63 - 1)) };
 
+    ghost refuses = { RefusesNumber };
+
     ghost counted = { signed_counted (negsuc (2 ^ 63 - 1)) (pos (2 ^ 63 - 1)) };
 
     ghost one_count = { signed_one (negsuc (2 ^ 63 - 1)) (pos (2 ^ 63 - 1)) };
@@ -89,6 +98,8 @@ impl<'de> Deserialize<'de> for u8 {
     ghost reads = { ReadsUnsigned (2 ^ 8 - 1) };
 
     ghost counts = { CountsUnsigned (2 ^ 8 - 1) };
+
+    ghost refuses = { RefusesNumber };
 
     ghost counted = { unsigned_counted (2 ^ 8 - 1) };
 
@@ -108,6 +119,8 @@ impl<'de> Deserialize<'de> for u16 {
 
     ghost counts = { CountsUnsigned (2 ^ 16 - 1) };
 
+    ghost refuses = { RefusesNumber };
+
     ghost counted = { unsigned_counted (2 ^ 16 - 1) };
 
     ghost one_count = { unsigned_one (2 ^ 16 - 1) };
@@ -125,6 +138,8 @@ impl<'de> Deserialize<'de> for u32 {
     ghost reads = { ReadsUnsigned (2 ^ 32 - 1) };
 
     ghost counts = { CountsUnsigned (2 ^ 32 - 1) };
+
+    ghost refuses = { RefusesNumber };
 
     ghost counted = { unsigned_counted (2 ^ 32 - 1) };
 
@@ -144,6 +159,8 @@ impl<'de> Deserialize<'de> for u64 {
 
     ghost counts = { CountsUnsigned (2 ^ 64 - 1) };
 
+    ghost refuses = { RefusesNumber };
+
     ghost counted = { unsigned_counted (2 ^ 64 - 1) };
 
     ghost one_count = { unsigned_one (2 ^ 64 - 1) };
@@ -162,6 +179,8 @@ impl<'de> Deserialize<'de> for bool {
 
     ghost counts = { CountsBool };
 
+    ghost refuses = { RefusesBool };
+
     ghost counted = { bool_counted };
 
     ghost one_count = { bool_one };
@@ -179,6 +198,8 @@ impl<'de> Deserialize<'de> for Int28 {
     ghost reads = { ReadsBits };
 
     ghost counts = { CountsBits };
+
+    ghost refuses = { RefusesBits };
 
     ghost counted = { bits_counted };
 

@@ -2,11 +2,11 @@
 //! An `Option` here is always `Some`: it has the shape of a field that may be left out.
 ghost use Rattle.std.specs.Prelude.{◌≡◌, ◌≤◌, ◌+◌, ℕ, IfOk, IfErr, IsSomeAnd};
 ghost use Rattle.resb_format.specs.Views.{unit_bytes, word_bytes, number_bytes, pair_bytes};
-ghost use Rattle.resb_walk.specs.Damage.{Says};
 ghost use Rattle.resb_read.specs.Places.{place_of};
 ghost use Rattle.resb_read.specs.Reading.{Reads, LacksOrMemory};
 ghost use Rattle.resb_read.specs.Sequences.{ReadsSeq, CountsSeq};
-ghost use Rattle.resb_read.specs.Others.{ReadsView, CountsView, view_refusal};
+ghost use Rattle.resb_read.specs.Others.{ReadsView, CountsView};
+ghost use Rattle.resb_read.specs.Refusing.{RefusesView, RefusesSeq};
 
 use crate::cursor::Cursor;
 use crate::deserialize::Deserialize;
@@ -22,7 +22,7 @@ pub fn option_utf_16<'de>(
     walk: &mut Walk,
 ) -> Result<Option<Utf16View<'de>>, BinaryDeserializerError>
     ensures { let p = place_of at.entry in
-        Reads (Says (view_refusal p walk.old))
+        Reads (RefusesView p)
         (λ o n. IsSomeAnd o (λ v. ReadsView 2 p (unit_bytes v) n))
         (CountsView 2 p) walk.old walk.new result }
 {
@@ -38,7 +38,7 @@ pub fn option_u32<'de>(
     walk: &mut Walk,
 ) -> Result<Option<WordView<'de>>, BinaryDeserializerError>
     ensures { let p = place_of at.entry in
-        Reads (Says (view_refusal p walk.old))
+        Reads (RefusesView p)
         (λ o n. IsSomeAnd o (λ v. ReadsView 4 p (word_bytes v) n))
         (CountsView 4 p) walk.old walk.new result }
 {
@@ -54,7 +54,7 @@ pub fn option_i32<'de>(
     walk: &mut Walk,
 ) -> Result<Option<I32View<'de>>, BinaryDeserializerError>
     ensures { let p = place_of at.entry in
-        Reads (Says (view_refusal p walk.old))
+        Reads (RefusesView p)
         (λ o n. IsSomeAnd o (λ v. ReadsView 4 p (number_bytes v) n))
         (CountsView 4 p) walk.old walk.new result }
 {
@@ -70,7 +70,7 @@ pub fn i32_tuple<'de>(
     walk: &mut Walk,
 ) -> Result<PairView<'de>, BinaryDeserializerError>
     ensures { let p = place_of at.entry in
-        Reads (Says (view_refusal p walk.old)) (λ v n. ReadsView 8 p (pair_bytes v) n)
+        Reads (RefusesView p) (λ v n. ReadsView 8 p (pair_bytes v) n)
         (CountsView 8 p) walk.old walk.new result }
 {
     at.pairs(walk)
@@ -82,7 +82,7 @@ pub fn option_i32_tuple<'de>(
     walk: &mut Walk,
 ) -> Result<Option<PairView<'de>>, BinaryDeserializerError>
     ensures { let p = place_of at.entry in
-        Reads (Says (view_refusal p walk.old))
+        Reads (RefusesView p)
         (λ o n. IsSomeAnd o (λ v. ReadsView 8 p (pair_bytes v) n))
         (CountsView 8 p) walk.old walk.new result }
 {
@@ -103,6 +103,8 @@ pub fn vec_utf_16<'de>(
         × (walk.new + n ≡ walk.old)) }
     ensures refused { IfErr result (λ e. (walk.new ≤ walk.old)
         × LacksOrMemory (CountsSeq (CountsView 2) (place_of at.entry)) walk.old e) }
+    ensures says { IfErr result
+        (RefusesSeq (CountsView 2) RefusesView (place_of at.entry) walk.old walk.new) }
 {
     Vec::deserialize(alloc, at, walk)
 }

@@ -3,6 +3,7 @@
 ghost use Rattle.std.specs.Prelude.{◌≡◌, ◌≤◌, ◌+◌, ℕ, None, IfOk, IfErr, IsSomeAnd};
 ghost use Rattle.resb_read.specs.Reading.{LacksOrMemory};
 ghost use Rattle.resb_read.specs.Sequences.{ReadsEach, CountsEach, ReadsSeq, CountsSeq};
+ghost use Rattle.resb_read.specs.Refusing.{RefusesEach, RefusesSeq};
 ghost use Rattle.resb_read.specs.TypeLaws.{option_counted, seq_counted, seq_one};
 
 use crate::cursor::Cursor;
@@ -16,6 +17,8 @@ impl<'de, T: Deserialize<'de>> Deserialize<'de> for Option<T> {
     ghost reads = { λ p o n. IsSomeAnd o (λ x. T.reads p x n) };
 
     ghost counts = { T.counts };
+
+    ghost refuses = { T.refuses };
 
     ghost counted = { option_counted T.reads T.counts T.counted };
 
@@ -41,6 +44,8 @@ fn read_members<'de, 'm, T: Deserialize<'de>>(
         (λ v. (n : ℕ) × ReadsEach T.reads seq.entry.rest v.items n × (walk.new + n ≡ walk.old)) }
     ensures refused { IfErr result (λ e. (walk.new ≤ walk.old)
         × LacksOrMemory (CountsEach T.counts seq.entry.rest) walk.old e) }
+    ensures says { IfErr result
+        (RefusesEach T.counts T.refuses seq.entry.rest walk.old walk.new) }
 {
     let mut values = Vec::new(alloc);
     'members: while let Some(value) = seq.next_element::<T>(alloc, walk)? {
@@ -53,6 +58,8 @@ impl<'de, T: Deserialize<'de>> Deserialize<'de> for Vec<T> {
     ghost reads = { λ p v n. ReadsSeq T.reads p v.items n };
 
     ghost counts = { CountsSeq T.counts };
+
+    ghost refuses = { RefusesSeq T.counts T.refuses };
 
     ghost counted = { λ p v n. seq_counted T.reads T.counts T.counted p v.items n };
 

@@ -3,6 +3,7 @@
 ghost use Rattle.std.specs.Prelude.{◌≡◌, ◌≤◌, ◌+◌, ℕ, None, IfOk, IfErr};
 ghost use Rattle.resb_read.specs.Reading.{LacksOrMemory};
 ghost use Rattle.resb_read.specs.Sequences.{ReadsAll, CountsPairs, ReadsMap, CountsMap};
+ghost use Rattle.resb_read.specs.Refusing.{RefusesPairs, RefusesMap};
 ghost use Rattle.resb_read.specs.TypeLaws.{map_counted, map_one};
 
 use crate::cursor::Cursor;
@@ -25,6 +26,8 @@ fn read_entries<'de, 'm, K: Deserialize<'de> + Ord, T: Deserialize<'de>>(
         × (walk.new + n ≡ walk.old)) }
     ensures refused { IfErr result (λ e. (walk.new ≤ walk.old)
         × LacksOrMemory (CountsPairs K.counts T.counts access.entry.rest) walk.old e) }
+    ensures says { IfErr result (RefusesPairs K.counts K.refuses T.counts T.refuses
+        access.entry.rest walk.old walk.new) }
 {
     let mut map = BTreeMap::new(alloc);
     'entries: while let Some((key, value)) = access.next_entry::<K, T>(alloc, walk)? {
@@ -37,6 +40,8 @@ impl<'de, K: Deserialize<'de> + Ord, T: Deserialize<'de>> Deserialize<'de> for B
     ghost reads = { λ p m n. ReadsMap K.cmp K.reads T.reads p m.entries n };
 
     ghost counts = { CountsMap K.counts T.counts };
+
+    ghost refuses = { RefusesMap K.counts K.refuses T.counts T.refuses };
 
     ghost counted = { λ p m n. map_counted K.reads T.reads K.counts T.counts K.counted T.counted
         K.cmp p

@@ -5,9 +5,8 @@ ghost use Rattle.std.specs.Prelude.{MatchOption};
 ghost use Rattle.std.specs.String.{string_bytes};
 ghost use Rattle.resb_read.specs.Places.{place_of};
 ghost use Rattle.resb_read.specs.Reading.{Reads, LacksOrMemory};
-ghost use Rattle.resb_format.specs.Error.{IsWantOfMemory};
-ghost use Rattle.resb_walk.specs.Damage.{Says, key_damage};
-ghost use Rattle.resb_read.specs.Refused.{text_refusal, bytes_refusal, out_of_range};
+ghost use Rattle.resb_read.specs.Refusing.{RefusesText, RefusesKey, RefusesBytes};
+ghost use Rattle.resb_read.specs.Refusing.{RefusesNumber};
 ghost use Rattle.resb_read.specs.Leaves.{ReadsText, CountsText, ReadsKey, CountsKey, ReadsBytes};
 ghost use Rattle.resb_read.specs.Leaves.{CountsBytes, ReadsSigned, CountsSigned, ReadsUnsigned};
 ghost use Rattle.resb_read.specs.Leaves.{CountsUnsigned};
@@ -96,8 +95,8 @@ impl<'de> Resource16BitDeserializer<'de> {
             × (walk.new + n ≡ walk.old)) }
         ensures refused { IfErr result (λ e. (walk.new ≤ walk.old)
             × LacksOrMemory (CountsText (named.unit_place self.entry)) walk.old e) }
-        ensures says { IfErr result (λ e. IsWantOfMemory e
-            ⊎ Says (text_refusal (named.unit_place self.entry) walk.old) e) }
+        ensures says { IfErr result
+            (RefusesText (named.unit_place self.entry) walk.old walk.new) }
     {
         let at = Cursor {
             file: self.file,
@@ -109,7 +108,7 @@ impl<'de> Resource16BitDeserializer<'de> {
     /// Reads the bytes of the string's units, which need be no text.
     pub fn read_bytes(self, walk: &mut Walk) -> Result<&'de [u8], BinaryDeserializerError>
         ensures { let p = named.unit_place self.entry in
-            Reads (Says (bytes_refusal p walk.old)) (λ b n. ReadsBytes p b.now n) (CountsBytes p)
+            Reads (RefusesBytes p) (λ b n. ReadsBytes p b.now n) (CountsBytes p)
             walk.old walk.new result }
     {
         let at = Cursor {
@@ -124,7 +123,7 @@ impl<'de> KeyDeserializer<'de> {
     /// Reads the key, which lives as long as the file.
     pub fn read_str(self) -> Result<&'de str, BinaryDeserializerError>
         ensures { let p = named.key_place self.entry in
-            Reads (Says (key_damage p.parts.keys self.entry.position)) (λ s n. ReadsKey p s.now n)
+            Reads (RefusesKey p) (λ s n. ReadsKey p s.now n)
             (CountsKey p) 0 0 result }
     {
         match self.file.key(self.position) {
@@ -149,7 +148,7 @@ impl<'de> IntVectorDeserializer<'de> {
     pub fn read_i8(self) -> Result<i8, BinaryDeserializerError>
         ensures { let low = negsuc (2 ^ 7 - 1) in let high = pos (2 ^ 7 - 1) in
             let p = named.word_place self.entry in
-            Reads (Says out_of_range) (ReadsSigned low high p) (CountsSigned low high p) 0 0
+            Reads (RefusesNumber p) (ReadsSigned low high p) (CountsSigned low high p) 0 0
             result }
     {
         let mut walk = Walk::new(0);
@@ -163,7 +162,7 @@ impl<'de> IntVectorDeserializer<'de> {
     pub fn read_i16(self) -> Result<i16, BinaryDeserializerError>
         ensures { let low = negsuc (2 ^ 15 - 1) in let high = pos (2 ^ 15 - 1) in
             let p = named.word_place self.entry in
-            Reads (Says out_of_range) (ReadsSigned low high p) (CountsSigned low high p) 0 0
+            Reads (RefusesNumber p) (ReadsSigned low high p) (CountsSigned low high p) 0 0
             result }
     {
         let mut walk = Walk::new(0);
@@ -177,7 +176,7 @@ impl<'de> IntVectorDeserializer<'de> {
     pub fn read_i32(self) -> Result<i32, BinaryDeserializerError>
         ensures { let low = negsuc (2 ^ 31 - 1) in let high = pos (2 ^ 31 - 1) in
             let p = named.word_place self.entry in
-            Reads (Says out_of_range) (ReadsSigned low high p) (CountsSigned low high p) 0 0
+            Reads (RefusesNumber p) (ReadsSigned low high p) (CountsSigned low high p) 0 0
             result }
     {
         let mut walk = Walk::new(0);
@@ -191,7 +190,7 @@ impl<'de> IntVectorDeserializer<'de> {
     pub fn read_i64(self) -> Result<i64, BinaryDeserializerError>
         ensures { let low = negsuc (2 ^ 63 - 1) in let high = pos (2 ^ 63 - 1) in
             let p = named.word_place self.entry in
-            Reads (Says out_of_range) (ReadsSigned low high p) (CountsSigned low high p) 0 0
+            Reads (RefusesNumber p) (ReadsSigned low high p) (CountsSigned low high p) 0 0
             result }
     {
         let mut walk = Walk::new(0);
@@ -204,7 +203,7 @@ impl<'de> IntVectorDeserializer<'de> {
     /// Reads the number, as one from 0 to 2^8 - 1.
     pub fn read_u8(self) -> Result<u8, BinaryDeserializerError>
         ensures { let high = 2 ^ 8 - 1 in let p = named.word_place self.entry in
-            Reads (Says out_of_range) (ReadsUnsigned high p) (CountsUnsigned high p) 0 0 result }
+            Reads (RefusesNumber p) (ReadsUnsigned high p) (CountsUnsigned high p) 0 0 result }
     {
         let mut walk = Walk::new(0);
         match self.at().read_u8(&mut walk) {
@@ -216,7 +215,7 @@ impl<'de> IntVectorDeserializer<'de> {
     /// Reads the number, as one from 0 to 2^16 - 1.
     pub fn read_u16(self) -> Result<u16, BinaryDeserializerError>
         ensures { let high = 2 ^ 16 - 1 in let p = named.word_place self.entry in
-            Reads (Says out_of_range) (ReadsUnsigned high p) (CountsUnsigned high p) 0 0 result }
+            Reads (RefusesNumber p) (ReadsUnsigned high p) (CountsUnsigned high p) 0 0 result }
     {
         let mut walk = Walk::new(0);
         match self.at().read_u16(&mut walk) {
@@ -228,7 +227,7 @@ impl<'de> IntVectorDeserializer<'de> {
     /// Reads the number, as one from 0 to 2^32 - 1.
     pub fn read_u32(self) -> Result<u32, BinaryDeserializerError>
         ensures { let high = 2 ^ 32 - 1 in let p = named.word_place self.entry in
-            Reads (Says out_of_range) (ReadsUnsigned high p) (CountsUnsigned high p) 0 0 result }
+            Reads (RefusesNumber p) (ReadsUnsigned high p) (CountsUnsigned high p) 0 0 result }
     {
         let mut walk = Walk::new(0);
         match self.at().read_u32(&mut walk) {
@@ -240,7 +239,7 @@ impl<'de> IntVectorDeserializer<'de> {
     /// Reads the number, as one from 0 to 2^64 - 1.
     pub fn read_u64(self) -> Result<u64, BinaryDeserializerError>
         ensures { let high = 2 ^ 64 - 1 in let p = named.word_place self.entry in
-            Reads (Says out_of_range) (ReadsUnsigned high p) (CountsUnsigned high p) 0 0 result }
+            Reads (RefusesNumber p) (ReadsUnsigned high p) (CountsUnsigned high p) 0 0 result }
     {
         let mut walk = Walk::new(0);
         match self.at().read_u64(&mut walk) {

@@ -3,8 +3,7 @@
 ghost use Rattle.std.specs.Prelude.{◌≡◌, ◌-◌, ◌^◌, ℕ, ℤ, pos, negsuc, Some};
 ghost use Rattle.resb_read.specs.Places.{place_of};
 ghost use Rattle.resb_read.specs.Reading.{Reads};
-ghost use Rattle.resb_walk.specs.Damage.{Says};
-ghost use Rattle.resb_read.specs.Refused.{number_refusal, bool_refusal, bits_refusal};
+ghost use Rattle.resb_read.specs.Refusing.{RefusesNumber, RefusesBool, RefusesBits};
 ghost use Rattle.resb_read.specs.Leaves.{signed_at, unsigned_at, ReadsSigned, CountsSigned};
 ghost use Rattle.resb_read.specs.Leaves.{ReadsUnsigned, CountsUnsigned, ReadsBool, CountsBool};
 ghost use Rattle.resb_read.specs.Leaves.{ReadsBits, CountsBits};
@@ -21,7 +20,7 @@ impl<'de> Cursor<'de> {
     /// The number here, as a signed one.
     fn signed(self, walk: &mut Walk) -> Result<i32, BinaryDeserializerError>
         ensures { let there = signed_at self.entry.at in
-            Reads (Says (number_refusal self.entry.at walk.old)) (λ x n. there ≡ Some (x, n))
+            Reads (RefusesNumber (place_of self.entry)) (λ x n. there ≡ Some (x, n))
             (λ n. (x : ℤ) × (there ≡ Some (x, n))) walk.old walk.new result }
     {
         match self.at {
@@ -38,7 +37,7 @@ impl<'de> Cursor<'de> {
     /// The number here, from 0.
     fn unsigned(self, walk: &mut Walk) -> Result<u32, BinaryDeserializerError>
         ensures { let there = unsigned_at self.entry.at in
-            Reads (Says (number_refusal self.entry.at walk.old)) (λ x n. there ≡ Some (x, n))
+            Reads (RefusesNumber (place_of self.entry)) (λ x n. there ≡ Some (x, n))
             (λ n. (x : ℕ) × (there ≡ Some (x, n))) walk.old walk.new result }
     {
         match self.at {
@@ -54,7 +53,7 @@ impl<'de> Cursor<'de> {
     /// Reads whether an Int is 1; it must be 0 or 1.
     pub fn read_bool(self, walk: &mut Walk) -> Result<bool, BinaryDeserializerError>
         ensures { let p = place_of self.entry in
-            Reads (Says (bool_refusal self.entry.at walk.old)) (ReadsBool p) (CountsBool p) walk.old
+            Reads (RefusesBool p) (ReadsBool p) (CountsBool p) walk.old
             walk.new result }
     {
         let Spot::Descriptor(word) = self.at else {
@@ -73,7 +72,7 @@ impl<'de> Cursor<'de> {
     /// Reads the 28 bits of an Int.
     pub(crate) fn read_bits(self, walk: &mut Walk) -> Result<Int28, BinaryDeserializerError>
         ensures { let p = place_of self.entry in
-            Reads (Says (bits_refusal self.entry.at walk.old)) (ReadsBits p) (CountsBits p) walk.old
+            Reads (RefusesBits p) (ReadsBits p) (CountsBits p) walk.old
             walk.new result }
     {
         let Spot::Descriptor(word) = self.at else {
@@ -88,7 +87,7 @@ impl<'de> Cursor<'de> {
     pub fn read_i8(self, walk: &mut Walk) -> Result<i8, BinaryDeserializerError>
         ensures { let low = negsuc (2 ^ 7 - 1) in let high = pos (2 ^ 7 - 1) in
             let p = place_of self.entry in
-            Reads (Says (number_refusal self.entry.at walk.old)) (ReadsSigned low high p)
+            Reads (RefusesNumber p) (ReadsSigned low high p)
             (CountsSigned low high p) walk.old walk.new result }
     {
         let value = self.signed(walk)?;
@@ -102,7 +101,7 @@ impl<'de> Cursor<'de> {
     pub fn read_i16(self, walk: &mut Walk) -> Result<i16, BinaryDeserializerError>
         ensures { let low = negsuc (2 ^ 15 - 1) in let high = pos (2 ^ 15 - 1) in
             let p = place_of self.entry in
-            Reads (Says (number_refusal self.entry.at walk.old)) (ReadsSigned low high p)
+            Reads (RefusesNumber p) (ReadsSigned low high p)
             (CountsSigned low high p) walk.old walk.new result }
     {
         let value = self.signed(walk)?;
@@ -116,7 +115,7 @@ impl<'de> Cursor<'de> {
     pub fn read_i32(self, walk: &mut Walk) -> Result<i32, BinaryDeserializerError>
         ensures { let low = negsuc (2 ^ 31 - 1) in let high = pos (2 ^ 31 - 1) in
             let p = place_of self.entry in
-            Reads (Says (number_refusal self.entry.at walk.old)) (ReadsSigned low high p)
+            Reads (RefusesNumber p) (ReadsSigned low high p)
             (CountsSigned low high p) walk.old walk.new result }
     {
         let value = self.signed(walk)?;
@@ -127,7 +126,7 @@ impl<'de> Cursor<'de> {
     pub fn read_i64(self, walk: &mut Walk) -> Result<i64, BinaryDeserializerError>
         ensures { let low = negsuc (2 ^ 63 - 1) in let high = pos (2 ^ 63 - 1) in
             let p = place_of self.entry in
-            Reads (Says (number_refusal self.entry.at walk.old)) (ReadsSigned low high p)
+            Reads (RefusesNumber p) (ReadsSigned low high p)
             (CountsSigned low high p) walk.old walk.new result }
     {
         let value = self.signed(walk)?;
@@ -137,7 +136,7 @@ impl<'de> Cursor<'de> {
     /// Reads a number from 0 to 2^8 - 1. Refused where it is out of range.
     pub fn read_u8(self, walk: &mut Walk) -> Result<u8, BinaryDeserializerError>
         ensures { let high = 2 ^ 8 - 1 in let p = place_of self.entry in
-            Reads (Says (number_refusal self.entry.at walk.old)) (ReadsUnsigned high p)
+            Reads (RefusesNumber p) (ReadsUnsigned high p)
             (CountsUnsigned high p) walk.old walk.new result }
     {
         let value = self.unsigned(walk)?;
@@ -150,7 +149,7 @@ impl<'de> Cursor<'de> {
     /// Reads a number from 0 to 2^16 - 1. Refused where it is out of range.
     pub fn read_u16(self, walk: &mut Walk) -> Result<u16, BinaryDeserializerError>
         ensures { let high = 2 ^ 16 - 1 in let p = place_of self.entry in
-            Reads (Says (number_refusal self.entry.at walk.old)) (ReadsUnsigned high p)
+            Reads (RefusesNumber p) (ReadsUnsigned high p)
             (CountsUnsigned high p) walk.old walk.new result }
     {
         let value = self.unsigned(walk)?;
@@ -163,7 +162,7 @@ impl<'de> Cursor<'de> {
     /// Reads a number from 0 to 2^32 - 1. Refused where it is out of range.
     pub fn read_u32(self, walk: &mut Walk) -> Result<u32, BinaryDeserializerError>
         ensures { let high = 2 ^ 32 - 1 in let p = place_of self.entry in
-            Reads (Says (number_refusal self.entry.at walk.old)) (ReadsUnsigned high p)
+            Reads (RefusesNumber p) (ReadsUnsigned high p)
             (CountsUnsigned high p) walk.old walk.new result }
     {
         let value = self.unsigned(walk)?;
@@ -173,7 +172,7 @@ impl<'de> Cursor<'de> {
     /// Reads a number from 0 to 2^64 - 1. Refused where it is out of range.
     pub fn read_u64(self, walk: &mut Walk) -> Result<u64, BinaryDeserializerError>
         ensures { let high = 2 ^ 64 - 1 in let p = place_of self.entry in
-            Reads (Says (number_refusal self.entry.at walk.old)) (ReadsUnsigned high p)
+            Reads (RefusesNumber p) (ReadsUnsigned high p)
             (CountsUnsigned high p) walk.old walk.new result }
     {
         let value = self.unsigned(walk)?;

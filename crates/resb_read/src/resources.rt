@@ -8,13 +8,14 @@ ghost use Rattle.resb_walk.specs.Refusals.{Refuses};
 ghost use Rattle.resb_read.specs.Places.{place_of};
 ghost use Rattle.resb_read.specs.Resources.{DenPlace, ReachesPlace, MeetsPlace};
 ghost use Rattle.resb_read.specs.Resources.{ReadsTree, CountsTree};
+ghost use Rattle.resb_read.specs.Refusing.{RefusesTree, TakesSome};
 ghost use Rattle.resb_read.specs.TypeLaws.{tree_counted, tree_one};
 
 use crate::cursor::{Cursor, Spot};
 use crate::deserialize::Deserialize;
 use crate::faults::elsewhere;
 use resb_format::{BinaryDeserializerError, ReadingError, Resource};
-use resb_walk::{Checked, Walk, read_checked, read_string_at, read_word};
+use resb_walk::{Walk, count_string_at, count_word, read_checked, read_string_at};
 use std::alloc::Global;
 
 impl<'de> Cursor<'de> {
@@ -35,6 +36,7 @@ impl<'de> Cursor<'de> {
             × Refuses (DenPlace (place_of self.entry)) (ReachesPlace (place_of self.entry)) walk.old
             e) }
         ensures meets { IfErr result (Blames (MeetsPlace (place_of self.entry))) }
+        ensures takes { IfErr result (TakesSome self.entry.at walk.old walk.new) }
     {
         match self.at {
             Spot::Descriptor(word) => read_checked::<Resource<'de>>(alloc, self.file, word, walk),
@@ -57,15 +59,10 @@ impl<'de> Cursor<'de> {
         ensures meets { IfErr result (Blames (MeetsPlace (place_of self.entry))) }
     {
         match self.at {
-            Spot::Descriptor(word) => {
-                read_word::<Checked>(alloc, self.file, word, walk)?;
-            }
-            Spot::Unit(unit) => {
-                read_string_at::<Checked>(alloc, self.file, unit, walk)?;
-            }
-            Spot::Word(_) | Spot::Key(_) => return Err(elsewhere()),
+            Spot::Descriptor(word) => count_word(alloc, self.file, word, walk),
+            Spot::Unit(unit) => count_string_at(self.file, unit, walk),
+            Spot::Word(_) | Spot::Key(_) => Err(elsewhere()),
         }
-        Ok(())
     }
 }
 
@@ -73,6 +70,8 @@ impl<'de> Deserialize<'de> for Resource<'de> {
     ghost reads = { ReadsTree };
 
     ghost counts = { CountsTree };
+
+    ghost refuses = { RefusesTree };
 
     ghost counted = { λ p r n h. tree_counted p (tree_of r) n h.0 };
 

@@ -8,7 +8,8 @@ ghost use Rattle.resb_read.specs.Sequences.{items, items_in};
 ghost use Rattle.resb_walk.specs.Files.{parts_in};
 ghost use Rattle.resb_read.specs.Access.{StepsTo, Steps};
 ghost use Rattle.resb_walk.specs.Damage.{Says};
-ghost use Rattle.resb_read.specs.Refused.{members_fault, members_refusal};
+ghost use Rattle.resb_read.specs.Refused.{members_fault};
+ghost use Rattle.resb_read.specs.Refusing.{RefusesMembers};
 
 use crate::cursor::{Cursor, Spot};
 use crate::deserialize::Deserialize;
@@ -92,7 +93,7 @@ impl<'de, 'm> SeqAccess<'de, 'm> {
         alloc: Global,
         walk: &mut Walk,
     ) -> Result<Option<T>, ReadingError<'m>>
-        ensures { Steps T.reads T.counts self.old walk.old self.new walk.new result }
+        ensures { Steps T.reads T.counts T.refuses self.old walk.old self.new walk.new result }
     {
         if let Some(error) = self.failed {
             return Err(error);
@@ -143,7 +144,7 @@ impl<'de> Cursor<'de> {
             × (s.failed ≡ None) × (walk.new + 1 ≡ walk.old)) }
         ensures refused { IfErr result (λ e. (walk.new ≤ walk.old)
             × (items (place_of self.entry) ≡ None ⊎ walk.old ≡ 0)
-            × Says (members_refusal self.entry.at walk.old) e) }
+            × RefusesMembers (place_of self.entry) walk.old walk.new e) }
     {
         let Spot::Descriptor(word) = self.at else {
             return Err(refused_here(self.at, walk));

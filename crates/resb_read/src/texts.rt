@@ -5,13 +5,14 @@ ghost use Rattle.std.specs.Prelude.{option_map, IfOk, IfErr, MatchResult};
 ghost use Rattle.std.specs.String.{string_bytes};
 ghost use Rattle.resb_format.specs.Bytes.{units_of};
 ghost use Rattle.resb_format.specs.Strings as strings;
-ghost use Rattle.resb_format.specs.Error.{IsWantOfMemory, end_of_input, invalid};
+ghost use Rattle.resb_format.specs.Error.{end_of_input, invalid};
 ghost use Rattle.resb_format.specs.StringFaults.{string_fault};
 ghost use Rattle.resb_walk.specs.Damage.{Says};
 ghost use Rattle.resb_walk.specs.Files.{parts_in};
 ghost use Rattle.resb_read.specs.Places.{place_of};
 ghost use Rattle.resb_read.specs.Reading.{Reads, LacksOrMemory};
-ghost use Rattle.resb_read.specs.Refused.{text_refusal, key_refusal, bytes_fault, bytes_refusal};
+ghost use Rattle.resb_read.specs.Refused.{bytes_fault};
+ghost use Rattle.resb_read.specs.Refusing.{RefusesText, RefusesKey, RefusesBytes};
 ghost use Rattle.resb_read.specs.Leaves.{type_in, value_in, units_as_bytes, counted_bytes};
 ghost use Rattle.resb_read.specs.Leaves.{bytes_of_type, ReadsText, CountsText, ReadsKey, CountsKey};
 ghost use Rattle.resb_read.specs.Leaves.{ReadsBytes, CountsBytes};
@@ -97,8 +98,7 @@ impl<'de> Cursor<'de> {
             × ReadsText (place_of self.entry) (string_bytes s) n × (walk.new + n ≡ walk.old)) }
         ensures refused { IfErr result (λ e. (walk.new ≤ walk.old)
             × LacksOrMemory (CountsText (place_of self.entry)) walk.old e) }
-        ensures says { IfErr result (λ e. IsWantOfMemory e
-            ⊎ Says (text_refusal (place_of self.entry) walk.old) e) }
+        ensures says { IfErr result (RefusesText (place_of self.entry) walk.old walk.new) }
     {
         match self.at {
             Spot::Descriptor(word) => {
@@ -126,7 +126,7 @@ impl<'de> Cursor<'de> {
     /// Reads a key, which lives as long as the file.
     pub fn read_str(self, walk: &mut Walk) -> Result<&'de str, BinaryDeserializerError>
         ensures { let p = place_of self.entry in
-            Reads (Says (key_refusal p walk.old)) (λ s n. ReadsKey p s.now n) (CountsKey p)
+            Reads (RefusesKey p) (λ s n. ReadsKey p s.now n) (CountsKey p)
             walk.old walk.new result }
     {
         match self.at {
@@ -144,7 +144,7 @@ impl<'de> Cursor<'de> {
     /// string's units, which need be no text, or of a key.
     pub fn read_bytes(self, walk: &mut Walk) -> Result<&'de [u8], BinaryDeserializerError>
         ensures { let p = place_of self.entry in
-            Reads (Says (bytes_refusal p walk.old)) (λ b n. ReadsBytes p b.now n) (CountsBytes p)
+            Reads (RefusesBytes p) (λ b n. ReadsBytes p b.now n) (CountsBytes p)
             walk.old walk.new result }
     {
         match self.at {
@@ -180,6 +180,8 @@ impl<'de> Deserialize<'de> for String {
 
     ghost counts = { CountsText };
 
+    ghost refuses = { RefusesText };
+
     ghost counted = { λ p s n. text_counted p (string_bytes s) n };
 
     ghost one_count = { text_one };
@@ -197,6 +199,8 @@ impl<'de> Deserialize<'de> for &'de str {
     ghost reads = { λ p s n. ReadsKey p s.now n };
 
     ghost counts = { CountsKey };
+
+    ghost refuses = { RefusesKey };
 
     ghost counted = { λ p s n. key_counted p s.now n };
 
@@ -216,6 +220,8 @@ impl<'de> Deserialize<'de> for Key<'de> {
 
     ghost counts = { CountsKey };
 
+    ghost refuses = { RefusesKey };
+
     ghost counted = { key_counted };
 
     ghost one_count = { key_one };
@@ -234,6 +240,8 @@ impl<'de> Deserialize<'de> for &'de [u8] {
     ghost reads = { λ p b n. ReadsBytes p b.now n };
 
     ghost counts = { CountsBytes };
+
+    ghost refuses = { RefusesBytes };
 
     ghost counted = { λ p b n. bytes_counted p b.now n };
 

@@ -1,10 +1,10 @@
 //! Views of bytes as numbers, as types that can be read: nothing is copied.
 //! The helpers of the Rust crate's names are in `helpers`.
 ghost use Rattle.resb_format.specs.Views.{unit_bytes, word_bytes, number_bytes, pair_bytes};
-ghost use Rattle.resb_walk.specs.Damage.{Says};
 ghost use Rattle.resb_read.specs.Places.{place_of};
 ghost use Rattle.resb_read.specs.Reading.{Reads};
-ghost use Rattle.resb_read.specs.Others.{ReadsView, CountsView, view_refusal};
+ghost use Rattle.resb_read.specs.Others.{ReadsView, CountsView};
+ghost use Rattle.resb_read.specs.Refusing.{RefusesView};
 ghost use Rattle.resb_read.specs.TypeLaws.{view_counted, view_one};
 
 use crate::cursor::Cursor;
@@ -22,7 +22,7 @@ impl<'de> Cursor<'de> {
     #[tactic(auto, using(crate::proofs::Viewing::no_items))]
     pub(crate) fn units(self, walk: &mut Walk) -> Result<Utf16View<'de>, BinaryDeserializerError>
         ensures { let p = place_of self.entry in
-            Reads (Says (view_refusal p walk.old)) (λ v n. ReadsView 2 p (unit_bytes v) n)
+            Reads (RefusesView p) (λ v n. ReadsView 2 p (unit_bytes v) n)
             (CountsView 2 p) walk.old walk.new result }
     {
         let bytes = self.read_bytes(walk)?;
@@ -34,7 +34,7 @@ impl<'de> Cursor<'de> {
     #[tactic(auto, using(crate::proofs::Viewing::no_items))]
     pub(crate) fn words(self, walk: &mut Walk) -> Result<WordView<'de>, BinaryDeserializerError>
         ensures { let p = place_of self.entry in
-            Reads (Says (view_refusal p walk.old)) (λ v n. ReadsView 4 p (word_bytes v) n)
+            Reads (RefusesView p) (λ v n. ReadsView 4 p (word_bytes v) n)
             (CountsView 4 p) walk.old walk.new result }
     {
         let bytes = self.read_bytes(walk)?;
@@ -46,7 +46,7 @@ impl<'de> Cursor<'de> {
     #[tactic(auto, using(resb_format::proofs::Spelled::words_length))]
     pub(crate) fn pairs(self, walk: &mut Walk) -> Result<PairView<'de>, BinaryDeserializerError>
         ensures { let p = place_of self.entry in
-            Reads (Says (view_refusal p walk.old)) (λ v n. ReadsView 8 p (pair_bytes v) n)
+            Reads (RefusesView p) (λ v n. ReadsView 8 p (pair_bytes v) n)
             (CountsView 8 p) walk.old walk.new result }
     {
         let words = self.words(walk)?;
@@ -59,6 +59,8 @@ impl<'de> Deserialize<'de> for Utf16View<'de> {
     ghost reads = { λ p v n. ReadsView 2 p (unit_bytes v) n };
 
     ghost counts = { CountsView 2 };
+
+    ghost refuses = { RefusesView };
 
     ghost counted = { λ p v n. view_counted 2 p (unit_bytes v) n };
 
@@ -78,6 +80,8 @@ impl<'de> Deserialize<'de> for WordView<'de> {
 
     ghost counts = { CountsView 4 };
 
+    ghost refuses = { RefusesView };
+
     ghost counted = { λ p v n. view_counted 4 p (word_bytes v) n };
 
     ghost one_count = { view_one 4 };
@@ -96,6 +100,8 @@ impl<'de> Deserialize<'de> for PairView<'de> {
 
     ghost counts = { CountsView 8 };
 
+    ghost refuses = { RefusesView };
+
     ghost counted = { λ p v n. view_counted 8 p (pair_bytes v) n };
 
     ghost one_count = { view_one 8 };
@@ -113,6 +119,8 @@ impl<'de> Deserialize<'de> for I32View<'de> {
     ghost reads = { λ p v n. ReadsView 4 p (number_bytes v) n };
 
     ghost counts = { CountsView 4 };
+
+    ghost refuses = { RefusesView };
 
     ghost counted = { λ p v n. view_counted 4 p (number_bytes v) n };
 

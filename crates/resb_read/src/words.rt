@@ -12,7 +12,7 @@ ghost use Rattle.resb_format.specs.File.{budget};
 ghost use Rattle.resb_head.specs.Codes.{endianness_number};
 ghost use Rattle.resb_head.specs.HeadChecks.{file_fault, header_fault};
 ghost use Rattle.resb_read.specs.Reading.{LacksOrMemory};
-ghost use Rattle.resb_read.specs.Roots.{AtRoot};
+ghost use Rattle.resb_read.specs.Roots.{AtRoot, RefusesRoot};
 
 use crate::deserialize::Deserialize;
 use crate::entry::from_bytes;
@@ -62,6 +62,8 @@ pub fn from_words<'a, 'm, T: Deserialize<'a>>(
     ensures head { let bytes = flat_map (to_le_bytes w32) words.now in
         IfErr result (λ e. IsWantOfMemory e ⊎
         ((f : reading.Refusal) → file_fault bytes ≡ Some f → refusal_of e ≡ f)) }
+    ensures says { let bytes = flat_map (to_le_bytes w32) words.now in
+        IfErr result (λ e. IsWantOfMemory e ⊎ RefusesRoot T.refuses bytes e) }
 {
     lay_words(alloc, words, buffer)?;
     let bytes: &'a [u8] = buffer.as_slice();

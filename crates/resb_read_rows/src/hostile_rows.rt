@@ -42,6 +42,23 @@ entries 65535 k => 65536 {k=65534,};
 entries 65536 - => 65537 {00000=0,00001=0,00002=0, and ,65534=0,65535=0,} in 524296 bytes;
 ";
 
+/// Files in which so many places lead to one text, and what is answered. All members of an array
+/// but the last are a string of 503 pairs; from its third unit on stands another, since the second
+/// unit of a pair is a marker. All keys of a table but the last are ends of one of 200 characters,
+/// each of two bytes, which begins at byte 32.
+pub(crate) const ONE_TEXT: &str = "\
+pairs 1000 60000003 =>
+    1001 [\"\u{10002}\u{10002}\u{10002}\u{10002}\u{10002}\u{10002} and \
+    \u{10002}\u{10002}\",\"\u{10002}\",] in 2012999 bytes;
+halves 1000 60000003 => Invalid resource bundle data: string resource is not valid UTF-16;
+halves 1000 60000000 =>
+    1001 [\"\u{10001}\u{10001}\u{10001}\u{10001}\u{10001}\u{10001} and \
+    \u{10001}\u{10001}\u{10001}\",\"\",] in 2012995 bytes;
+ends 100 232 => 101 {\u{e9}\u{e9}\u{e9}\u{e9}\u{e9}\u{e9}\u{e9}\u{e9}\u{e9}\u{e9}\u{e9}\
+    \u{e9}\u{e9} and \u{e9}\u{e9}\u{e9}\u{e9}\u{e9}\u{e9}\u{e9}=0,} in 30404 bytes;
+ends 100 231 => Invalid resource bundle data: key string is not valid UTF-8;
+";
+
 /// The file that a row names.
 fn made(alloc: Global, kind: &str, count: &str, last: &str) -> Result<Vec<u8>, Fail> {
     match kind {
@@ -50,6 +67,9 @@ fn made(alloc: Global, kind: &str, count: &str, last: &str) -> Result<Vec<u8>, F
         "cycle" => cyclic(alloc, count.parse::<u32>()?, last.parse::<u32>()?),
         "arrays" => nested_arrays(alloc, count.parse::<u32>()?),
         "tables" => nested_tables(alloc, count.parse::<u32>()?),
+        "pairs" => of_one_string(alloc, count.parse::<u32>()?, last, 0xdc02_d800),
+        "halves" => of_one_string(alloc, count.parse::<u32>()?, last, 0xdc01_d800),
+        "ends" => of_ends(alloc, count.parse::<u32>()?, last.parse::<u32>()?),
         _ if last == "k" => of_one_key(alloc),
         _ => of_many_keys(alloc),
     }
@@ -207,4 +227,40 @@ fn of_many_keys(alloc: Global) -> Result<Vec<u8>, Fail> {
         bytes.extend_from_slice(&0x7000_0000_u32.to_le_bytes())?;
     }
     Ok(bytes)
+}
+
+/// An array of so many members: a string of 503 of these pairs of units, and a last word.
+fn of_one_string(alloc: Global, members: u32, last: &str, pair: u32) -> Result<Vec<u8>, Fail> {
+    let end = members.saturating_add(513);
+    let mut words = Vec::from_slice(
+        alloc,
+        &[0x8000_0200, 7, 8, end, end, 0, 0, 512, 0xdfee_0000],
+    )?;
+    for _ in 0..503 {
+        words.push(pair)?;
+    }
+    words.push(members)?;
+    for _ in 1..members {
+        words.push(0x6000_0001)?;
+    }
+    words.push(u32::from_str_radix(last, 16)?)?;
+    file_of_words(alloc, &words)
+}
+
+/// A table of so many entries, all with the number 0: the ends of a key of 200 characters, and a
+/// last one from this byte on.
+fn of_ends(alloc: Global, entries: u32, last: u32) -> Result<Vec<u8>, Fail> {
+    let mut words = Vec::from_slice(alloc, &[0x4000_006d, 7, 109, 0, 0, 0, 0, 109])?;
+    for _ in 0..100 {
+        words.push(0xa9c3_a9c3)?;
+    }
+    words.extend_from_slice(&[0, entries])?;
+    for number in 1..entries {
+        words.push(number.wrapping_mul(2).wrapping_add(30))?;
+    }
+    words.push(last)?;
+    for _ in 0..entries {
+        words.push(0x7000_0000)?;
+    }
+    file_of_words(alloc, &words)
 }

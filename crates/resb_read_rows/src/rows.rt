@@ -91,7 +91,8 @@ fn heads_are_judged(rt: HostRuntime) -> Result<(), Fail> {
 
 #[test]
 fn shared_bodies_are_paid_for_each_time(rt: HostRuntime) -> Result<(), Fail> {
-    assert_rows(&rt, rt.alloc(), Kind::Hostile, hostile_rows::SHARED)
+    assert_rows(&rt, rt.alloc(), Kind::Hostile, hostile_rows::SHARED)?;
+    assert_rows(&rt, rt.alloc(), Kind::Hostile, hostile_rows::ONE_TEXT)
 }
 
 #[test]

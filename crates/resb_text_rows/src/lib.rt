@@ -2,6 +2,8 @@
 //! and tests stand here, so that no crate with code is proved twice.
 #![tactic(auto)]
 
+#[cfg(test)]
+mod print_rows;
 pub mod rows;
 #[cfg(test)]
 mod text_rows;

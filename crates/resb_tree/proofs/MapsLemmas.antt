@@ -1,6 +1,6 @@
 -- Tables as finite maps: putting, finding, and pairs that ascend already.
-use Rattle.std.specs.Prelude.{◌≡◌, ℕ, List, [], ◌∷◌, ◌++◌, Some, cond, T}
-use Rattle.std.specs.Ordering.{match_ordering, ordering_reverse, eq_by_cmp}
+use Rattle.std.specs.Prelude.{◌≡◌, ℕ, List, [], ◌∷◌, ◌++◌, Some, cond, T, Bool, true, false, ◌&&◌}
+use Rattle.std.specs.Ordering.{match_ordering, ordering_reverse, eq_by_cmp, is_lt}
 use Rattle.std.specs.Cmp.Lexicographic.{nat_list_cmp_total}
 use Rattle.std.specs.List.{AllByRecursion}
 use Rattle.std.specs.List.Sorted.{IsStrictlySortedBy}
@@ -9,8 +9,11 @@ use Rattle.std.specs.FinMap.{slice_cmp-IsAntisymmetric, nat_cmp-IsAntisymmetric}
 use Rattle.std.specs.FinMap.Entries as fin
 use Rattle.std.proofs.Common.{Ordering, Less, Equal, Greater, refl, sym, ap, ◌∙◌, subst}
 use Rattle.std.proofs.Common.{append_assoc, append-nil}
-use Rattle.resb_tree.specs.Tree.{Tree, Entries, no_entries, entry, entries_of, put, put_all, map_of}
-use Rattle.resb_tree.specs.Maps.{text_cmp, pairs_of, get, IsMap}
+use Rattle.resb_tree.specs.Tree.{Tree, table, Entries, no_entries, entry, entries_of, put, put_all}
+use Rattle.resb_tree.specs.Tree.{map_of}
+use Rattle.resb_tree.specs.View.{entries_view}
+use Rattle.resb_tree.specs.Maps.{text_cmp, pairs_of, get, IsMap, AreMaps, AreMapsOf}
+use Rattle.resb_tree.specs.declared.resource.Resource.{Resource}
 
 pub entries_of-pairs_of : (es : Entries) → entries_of (pairs_of es) ≡ es
 entries_of-pairs_of no_entries = refl
@@ -84,3 +87,53 @@ put_all_after done (p ∷ ps) h =
 pub map_of-sorted : (ps : List (List ℕ × Tree)) → IsStrictlySortedBy text_cmp (keys_of ps)
     → map_of ps ≡ entries_of ps
 map_of-sorted ps h = put_all_after [] ps h
+
+both_true : (a b : Bool) → T a → T b → T (a && b)
+both_true true b h k = k
+both_true false b h k = absurd h
+
+below : (k : List ℕ) (es : List (List ℕ × Resource))
+    → AllByRecursion (λ y. text_cmp k y ≡ Less) (keys_of es)
+    → T (fin.below_all text_cmp k (pairs_of (entries_view es)))
+below k [] h = tt
+below k (e ∷ es) h =
+    both_true (is_lt (text_cmp k e.0)) _ (subst (λ o. T (is_lt o)) (sym h.0) tt) (below k es h.1)
+
+-- a table's keys strictly ascend
+pub IsMap-view : (es : List (List ℕ × Resource)) → IsStrictlySortedBy text_cmp (keys_of es)
+    → IsMap (entries_view es)
+unfolding IsStrictlySortedBy
+IsMap-view [] h = tt
+IsMap-view (e ∷ es) h =
+    both_true (fin.below_all text_cmp e.0 (pairs_of (entries_view es))) _ (below e.0 es h.0)
+    (IsMap-view es h.1)
+
+-- entries that are put into maps of maps
+pub AreMapsOf-put : (k : List ℕ) (t : Tree) (es : Entries) → AreMaps t → AreMapsOf es
+    → AreMapsOf (put k t es)
+AreMapsOf-put k t no_entries h all = (h, tt)
+AreMapsOf-put k t (entry l u es) h all =
+    at_order (text_cmp k l) (entry k t (entry l u es)) (entry l t es) (entry l u (put k t es))
+    (h, all) (h, all.1) (all.0, AreMapsOf-put k t es h all.1)
+  where
+    at_order : (o : Ordering) (a b c : Entries) → AreMapsOf a → AreMapsOf b → AreMapsOf c
+        → AreMapsOf (match_ordering o a b c)
+    at_order Less a b c x y z = x
+    at_order Equal a b c x y z = y
+    at_order Greater a b c x y z = z
+
+-- trees of maps
+abbrev pub AllAreMaps : List (List ℕ × Tree) → Type 0
+AllAreMaps [] = Unit {0}
+AllAreMaps (p ∷ ps) = AreMaps p.1 × AllAreMaps ps
+
+put_all_maps : (es : Entries) (ps : List (List ℕ × Tree)) → IsMap es → AreMapsOf es → AllAreMaps ps
+    → IsMap (put_all es ps) × AreMapsOf (put_all es ps)
+put_all_maps es [] is all h = (is, all)
+put_all_maps es (p ∷ ps) is all h =
+    put_all_maps (put p.0 p.1 es) ps (IsMap-put p.0 p.1 es is) (AreMapsOf-put p.0 p.1 es h.0 all)
+    h.1
+
+-- a table of trees of maps
+pub AreMaps-map_of : (ps : List (List ℕ × Tree)) → AllAreMaps ps → AreMaps (table (map_of ps))
+AreMaps-map_of ps h = put_all_maps no_entries ps tt tt h

@@ -5,10 +5,12 @@ use Rattle.std.specs.Cmp.Lexicographic.{pointwise}
 use Rattle.resb_tree.specs.Tree.{Tree, string, array, table, binary, integer, int_vector, Trees}
 use Rattle.resb_tree.specs.Tree.{no_trees, more_trees, Entries, no_entries, entry}
 
+-- two texts have the same bytes
 abbrev pub same_text : List ℕ → List ℕ → Bool
 same_text = pointwise nat_eq
 
 abbrev mutual
+  -- the text is a key of some table of the tree
   pub is_key : List ℕ → Tree → Bool
   is_key k (array ts) = is_key_in k ts
   is_key k (table es) = is_key_of k es

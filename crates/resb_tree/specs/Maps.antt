@@ -5,7 +5,8 @@ use Rattle.std.specs.Ordering.{nat_cmp}
 use Rattle.std.specs.Cmp.Lexicographic.{slice_cmp}
 use Rattle.std.specs.FinMap.Entries as fin
 use Rattle.std.specs.declared.cmp.Ordering.{Ordering}
-use Rattle.resb_tree.specs.Tree.{Tree, Entries, no_entries, entry}
+use Rattle.resb_tree.specs.Tree.{Tree, string, array, table, binary, integer, int_vector, Trees}
+use Rattle.resb_tree.specs.Tree.{no_trees, more_trees, Entries, no_entries, entry}
 
 -- texts are ordered by their bytes
 abbrev pub text_cmp : List ℕ → List ℕ → Ordering
@@ -23,3 +24,24 @@ get q es = fin.find text_cmp q (pairs_of es)
 -- the keys strictly ascend
 abbrev pub IsMap : Entries → Type 0
 IsMap es = T (fin.is_sorted text_cmp (pairs_of es))
+
+-- each table in the tree is such a map
+abbrev mutual
+  -- in a tree
+  pub AreMaps : Tree → Type 0
+  AreMaps (array ts) = AreMapsIn ts
+  AreMaps (table es) = IsMap es × AreMapsOf es
+  AreMaps (string s) = Unit {0}
+  AreMaps (binary s) = Unit {0}
+  AreMaps (integer n) = Unit {0}
+  AreMaps (int_vector s) = Unit {0}
+
+  -- in each tree of the list
+  pub AreMapsIn : Trees → Type 0
+  AreMapsIn no_trees = Unit {0}
+  AreMapsIn (more_trees t ts) = AreMaps t × AreMapsIn ts
+
+  -- in the tree of each entry
+  pub AreMapsOf : Entries → Type 0
+  AreMapsOf no_entries = Unit {0}
+  AreMapsOf (entry k t es) = AreMaps t × AreMapsOf es

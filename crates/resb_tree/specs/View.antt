@@ -15,6 +15,7 @@ tree_step (Resource-F.Binary b) = binary (cow_slice_items b)
 tree_step (Resource-F.Integer n) = integer n
 tree_step (Resource-F.IntVector v) = int_vector v.items
 
+-- the tree that a resource stands for, whether its parts are borrowed or owned
 abbrev pub tree_of : Resource → Tree
 tree_of = fold-Resource Tree tree_step
 
@@ -25,5 +26,6 @@ items_view rs = trees_of (map tree_of rs)
 abbrev pub pairs_view : List (List ℕ × Resource) → List (List ℕ × Tree)
 pairs_view ps = map (λ p. (p.0, tree_of p.1)) ps
 
+-- the entries that pairs of keys and resources stand for
 abbrev pub entries_view : List (List ℕ × Resource) → Entries
 entries_view ps = entries_of (pairs_view ps)

@@ -9,14 +9,17 @@ use Rattle.std.specs.List.{flat_map}
 use Rattle.resb_tree.specs.Tree.{Tree, string, array, table, binary, integer, int_vector, Trees}
 use Rattle.resb_tree.specs.Tree.{no_trees, more_trees, Entries, no_entries, entry}
 
+-- the members of an array, in their order
 abbrev pub members : Trees → List Tree
 members no_trees = []
 members (more_trees t ts) = t ∷ members ts
 
+-- the values of a table, in the order of its keys
 abbrev pub values_of : Entries → List Tree
 values_of no_entries = []
 values_of (entry k t es) = t ∷ values_of es
 
+-- the trees right inside a tree
 abbrev pub children : Tree → List Tree
 children (string s) = []
 children (array ts) = members ts
@@ -26,6 +29,7 @@ children (integer n) = []
 children (int_vector s) = []
 
 abbrev mutual
+  -- the resources of a tree, members before their collection
   pub walk : Tree → List Tree
   walk (string s) = string s ∷ []
   walk (array ts) = walk_each ts ++ array ts ∷ []
@@ -34,28 +38,35 @@ abbrev mutual
   walk (integer n) = integer n ∷ []
   walk (int_vector s) = int_vector s ∷ []
 
+  -- the resources of trees, one tree after another
   pub walk_each : Trees → List Tree
   walk_each no_trees = []
   walk_each (more_trees t ts) = walk t ++ walk_each ts
 
+  -- the resources of the trees of entries, one after another
   pub walk_values : Entries → List Tree
   walk_values no_entries = []
   walk_values (entry k t es) = walk t ++ walk_values es
 
+-- the text of a string; nothing of any other tree
 abbrev pub text_in : Tree → List (List ℕ)
 text_in (string s) = s ∷ []
 text_in _ = []
 
+-- the texts of a tree's strings in walk order, as often as each stands there
 abbrev pub texts_of : Tree → List (List ℕ)
 texts_of t = flat_map text_in (walk t)
 
+-- the keys of entries, in their order
 abbrev pub entry_keys : Entries → List (List ℕ)
 entry_keys no_entries = []
 entry_keys (entry k t es) = k ∷ entry_keys es
 
+-- a table's own keys; other trees have none
 abbrev pub own_keys : Tree → List (List ℕ)
 own_keys (table es) = entry_keys es
 own_keys _ = []
 
+-- the keys of a tree's tables in walk order, as often as each stands there
 abbrev pub keys_of : Tree → List (List ℕ)
 keys_of t = flat_map own_keys (walk t)

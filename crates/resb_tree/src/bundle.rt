@@ -47,7 +47,8 @@ impl<'a> ResourceBundle<'a> {
 
     /// The resource at the root.
     pub fn root(&self) -> &Resource<'a>
-        ensures { tree_of result.now ≡ root_of self.now }
+        ensures tree { tree_of result.now ≡ root_of self.now }
+        ensures part { result.now ≡ root_part self.now }
     {
         &self.root
     }

@@ -12,3 +12,5 @@ mod Made
 mod Surrogates
 mod Keys
 mod Plain
+mod Marked
+mod Paths

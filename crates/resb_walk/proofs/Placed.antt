@@ -1,12 +1,12 @@
 -- What lies inside a block, by numbers of bytes.
-use Rattle.resb_format.proofs.Spelled.{words_length, units_length}
+use Rattle.resb_format.proofs.Spelled.{words_length, units_length, words_drop, units_drop}
 use Rattle.std.specs.List.{zip}
 use Rattle.std.proofs.Common.{min, ℕ, List, [], ◌∷◌, ◌≡◌}
-use Rattle.std.proofs.Common.{Bool, true, false, length, get_or, Some, None}
+use Rattle.std.proofs.Common.{Bool, true, false, length, get_or, Some, None, drop, zero, suc}
 use Rattle.std.proofs.Common.{refl, sym, ap, ◌∙◌, arith}
 use Rattle.std.specs.Prelude.{not}
 use Rattle.std.proofs.lemmas.Bool.{not-true, not-false}
-use Rattle.std.proofs.lemmas.List.{length-map}
+use Rattle.std.proofs.lemmas.List.{length-map, drop-map}
 use Rattle.std.specs.Char.Utf16.{has_unpaired_surrogate}
 use Rattle.resb_format.specs.Bytes.{units_of}
 use Rattle.std.specs.Prelude.{nat_lt, ◌&&◌, slice_index, codes, if◌then◌else◌}
@@ -64,3 +64,17 @@ zip_length (x ∷ xs) [] = omega arith
 zip_length (x ∷ xs) (y ∷ ys) = let h = zip_length xs ys in omega (arith, h)
 
 pub ruleset lengths = (length-map, words_length, units_length)
+
+zip_none : {A B : Type 0} (xs : List A) → zip {K = A} {X = B} xs [] ≡ []
+zip_none [] = refl
+zip_none (x ∷ xs) = refl
+
+pub zip_behind : {A B : Type 0} (n : ℕ) (xs : List A) (ys : List B)
+    → zip (drop n xs) (drop n ys) ≡ drop n (zip xs ys)
+zip_behind zero xs ys = refl
+zip_behind (suc n) [] ys = refl
+zip_behind {B = B} (suc n) (x ∷ xs) [] = zip_none {B = B} (drop n xs)
+zip_behind (suc n) (x ∷ xs) (y ∷ ys) = zip_behind n xs ys
+
+-- the words and units of bytes behind some
+pub ruleset behind = (drop-map, words_drop, units_drop)

@@ -58,6 +58,11 @@ module _ {L T : Type 0} (lists : L → List Tree → Type 0)
     round_falls =
         let paid : left + (round.outer + (1 + round.inner)) ≡ before = round.paid in omega arith
 
+    -- the root itself was paid for
+    pub round_takes : left + 1 ≤ before
+    round_takes =
+        let paid : left + (round.outer + (1 + round.inner)) ≡ before = round.paid in omega arith
+
     -- the innermost collection has a fault of its own
     pub round_stuck : (d : ReadingError) → IsFault d
         → ((k : ℕ)

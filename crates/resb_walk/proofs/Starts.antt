@@ -66,3 +66,12 @@ pub member_meets : (p : Parts) (m : Member) → member_content p m ≡ None
     → Meets p m (member_damage p m)
 member_meets p (word w) e = meets_word e
 member_meets p (unit u) e = meets_text (no_text (text_at p.block u) e)
+
+-- what has no members denotes itself
+pub leaf_denotes : (p : Parts) (m : Member) (t : Tree) → member_content p m ≡ Some (leaf t)
+    → DenMember p m t 1
+leaf_denotes p (word w) t e = den_word (den_leaf e)
+leaf_denotes p (unit u) t e =
+    let r = unit_text (text_at p.block u) (leaf t) e in
+    let same : t ≡ string r.0 = same_leaf r.2 in
+    subst (λ v. DenMember p (unit u) v 1) (sym same) (den_unit r.1)

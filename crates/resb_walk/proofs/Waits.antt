@@ -100,7 +100,7 @@ module _ {L T : Type 0} (lists : L → List Tree → Type 0)
       )
 
   -- a member is refused
-  list_stuck : (rest : Members) (made : L) (w n left before : ℕ) (x : Member)
+  pub list_stuck : (rest : Members) (made : L) (w n left before : ℕ) (x : Member)
       → ListWaits lists tables p rest made w x n → left + (1 + n) ≡ before
       → DenotesNothing (DenMember p x) (ReachesMember p x) left
       → DenotesNothing (Den p w) (Reaches p w) before
@@ -111,7 +111,7 @@ module _ {L T : Type 0} (lists : L → List Tree → Type 0)
         (λ r. stuck_each p x (members_of rest) left (n + left + 1) s.0 s.1 h.each refl r),
       )
 
-  list_reaches : (rest : Members) (made : L) (w n left before : ℕ) (x : Member)
+  pub list_reaches : (rest : Members) (made : L) (w n left before : ℕ) (x : Member)
       → ListWaits lists tables p rest made w x n → left + (1 + n) ≡ before
       → ReachesMember p x (left + 1) → Reaches p w (before + 1)
   list_reaches rest made w n left before x h e r =
@@ -119,7 +119,7 @@ module _ {L T : Type 0} (lists : L → List Tree → Type 0)
       subst (λ i. Reaches p w i) sum (reaches_list h.stands
       (reach_after p (x ∷ members_of rest) (left + 1) h.each (each_here r)))
 
-  table_stuck : (rest : Pairs) (made : T) (key : List ℕ) (w n left before : ℕ) (x : Member)
+  pub table_stuck : (rest : Pairs) (made : T) (key : List ℕ) (w n left before : ℕ) (x : Member)
       → TableWaits lists tables p rest made key w x n → left + (1 + n) ≡ before
       → DenotesNothing (DenMember p x) (ReachesMember p x) left
       → DenotesNothing (Den p w) (Reaches p w) before
@@ -134,7 +134,7 @@ module _ {L T : Type 0} (lists : L → List Tree → Type 0)
             (λ k g m. s.1 m) h.each refl r),
       )
 
-  table_reaches : (rest : Pairs) (made : T) (key : List ℕ) (w n left before : ℕ) (x : Member)
+  pub table_reaches : (rest : Pairs) (made : T) (key : List ℕ) (w n left before : ℕ) (x : Member)
       → TableWaits lists tables p rest made key w x n → left + (1 + n) ≡ before
       → ReachesMember p x (left + 1) → Reaches p w (before + 1)
   table_reaches rest made key w n left before x h e r =

@@ -7,6 +7,7 @@ use Rattle.std.specs.declared.borrow.CowSlice.TheVariants.{Borrowed, Owned}
 use Rattle.resb_tree.specs.declared.resource.Resource.{Resource, fold-Resource}
 use Rattle.resb_tree.specs.declared.resource.Resource.TheOpen.{Resource-F}
 
+-- the bytes are borrowed, and not owned
 abbrev pub is_borrowed_slice : {X Z : Type 0} → CowSlice X Z → Bool
 is_borrowed_slice (Borrowed r) = true
 is_borrowed_slice (Owned v) = false
@@ -20,9 +21,11 @@ borrow_step (Resource-F.Binary b) = is_borrowed_slice b
 borrow_step (Resource-F.Integer n) = true
 borrow_step (Resource-F.IntVector v) = true
 
+-- each binary of a resource is borrowed
 abbrev pub borrows : Resource → Bool
 borrows = fold-Resource Bool borrow_step
 
+-- the same as a fact
 abbrev pub Borrows : Resource → Type 0
 Borrows r = borrows r ≡ true
 

@@ -12,6 +12,7 @@ use Rattle.resb_format.specs.StringFaults.{string_fault}
 use Rattle.resb_format.specs.Strings.{string_at, before_zero}
 use Rattle.resb_format.specs.declared.error.ReadingError.{ReadingError}
 
+-- the error is this refusal, by kind and message
 abbrev pub Says : Refusal → ReadingError → Type 0
 Says f e = refusal_of e ≡ f
 
@@ -41,11 +42,14 @@ type_damage type =
     unsupported (codes "resource type is not supported")
     else invalid (codes "unrecognized value for ResourceReprType")
 
+-- what is said where nothing stands at a value of a type: of a string its own damage, of others
+-- that the input ends
 abbrev pub placed_damage : Parts → ℕ → ℕ → Refusal
 placed_damage p type v =
     if type == types.string then text_damage p.block v
     else if is_counted_type type then end_of_input
     else type_damage type
 
+-- what is said where a word leads to nothing
 abbrev pub content_damage : Parts → ℕ → Refusal
 content_damage p w = placed_damage p (w / 2 ^ 28) (w % 2 ^ 28)

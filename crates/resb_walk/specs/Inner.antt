@@ -4,3 +4,4 @@ pub mod Members
 pub mod MemberContent
 pub mod Frames
 pub mod Rounds
+pub mod Counting

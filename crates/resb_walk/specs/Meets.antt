@@ -13,6 +13,8 @@ use Rattle.resb_walk.specs.Damage.{text_damage, key_damage, content_damage}
 use Rattle.resb_walk.specs.Refusals.{IsFault}
 
 module _ (p : Parts) where
+  -- a fault stands here, or it is the first in a list's members or a table's keys and members, in
+  -- order
   pub data Meets : Member → Refusal → Type 0 where
     -- nothing stands there
     meets_text : {u : ℕ} → text_at p.block u ≡ None → Meets (unit u) (text_damage p.block u)
@@ -33,5 +35,6 @@ module _ (p : Parts) where
         → content p w ≡ Some (pairs (es ++ (k, m) ∷ fs)) → DenPairs p es ts n
         → key_at p.keys k ≡ Some key → Meets m f → Meets (word w) f
 
+-- the error is a fault that is met, if it is one
 abbrev pub Blames : (Refusal → Type 0) → ReadingError → Type 0
 Blames meets e = IsFault e → meets (refusal_of e)

@@ -2,14 +2,17 @@
 --     IsSpent e               the error says that the budget is spent
 --     IsFault e               it says neither that, nor want of memory
 --     Refuses den reaches left e      why a reading with so much left is refused
+--     TakesOne left left' e   unless memory or the budget is wanted, at least one was taken
 use Rattle.std.specs.Prelude.{◌≡◌, ◌≢◌, ◌≤◌, ◌+◌, ◌⊎◌, ℕ, Result, Ok, Err, codes}
 use Rattle.resb_format.specs.Error.{kind_of, message_of, IsInvalid, IsWantOfMemory}
 use Rattle.resb_format.specs.declared.error.ErrorKind.TheVariants.{OutOfMemory}
 use Rattle.resb_format.specs.declared.error.ReadingError.{ReadingError}
 
+-- the error says that the budget is spent
 abbrev pub IsSpent : ReadingError → Type 0
 IsSpent e = IsInvalid e (codes "resource budget spent")
 
+-- the error is of what stands in the file: neither want of memory nor a spent budget
 pub record IsFault (e : ReadingError) : Type 0 where
   pub not_memory : kind_of e ≢ OutOfMemory
   pub not_spent : message_of e ≢ codes "resource budget spent"
@@ -23,6 +26,10 @@ abbrev pub Refuses : {T : Type 0} → (T → ℕ → Type 0) → (ℕ → Type 0
 Refuses den reaches left e =
     IsWantOfMemory e
     ⊎ ((IsSpent e × reaches (left + 1)) ⊎ (IsFault e × DenotesNothing den reaches left))
+
+-- a refusal for another reason than memory or the spent budget has taken at least one
+abbrev pub TakesOne : ℕ → ℕ → ReadingError → Type 0
+TakesOne left left' e = IsWantOfMemory e ⊎ (IsSpent e ⊎ (left' + 1 ≤ left))
 
 -- a value that stands for what is denoted, and is paid for, or a refusal
 abbrev pub Answers : {X T : Type 0} → (X → T → Type 0) → (T → ℕ → Type 0) → (ℕ → Type 0) → ℕ → ℕ

@@ -1,6 +1,7 @@
 //! The parts of a file, what has no members, and the members that are still to come.
 //! Where they stand is found in `standing`.
-ghost use Rattle.std.specs.Prelude.{◌≡◌, [], ◌∷◌, MatchOption, length};
+ghost use Rattle.std.specs.Prelude.{◌≡◌, ◌≤◌, [], ◌∷◌, MatchOption, length, drop};
+ghost use Rattle.resb_walk.specs.Inner.Members.{rest_length};
 ghost use Rattle.resb_walk.specs.Inner.Members.{member_of, members_of, positions_of, keyed_members};
 
 use resb_format::bytes::{first_unit, first_word};
@@ -62,6 +63,15 @@ pub struct Pairs<'a> {
     pub members: Members<'a>,
 }
 
+/// What is still to come of a collection.
+#[derive(Clone, Copy)]
+pub enum Rest<'a> {
+    /// Members of an array.
+    List(Members<'a>),
+    /// Entries of a table.
+    Table(Pairs<'a>),
+}
+
 /// What stands at a word.
 #[derive(Clone, Copy)]
 pub enum Standing<'a> {
@@ -82,6 +92,24 @@ impl<'a> Members<'a> {
         match self {
             Members::Words(bytes) => bytes.len() / 4,
             Members::Units(bytes) => bytes.len() / 2,
+        }
+    }
+
+    /// The members behind so many.
+    #[tactic(auto, using(crate::proofs::Placed::lengths, crate::proofs::Placed::behind))]
+    pub fn behind(self, count: usize) -> Members<'a>
+        requires { count ≤ length (members_of self) }
+        ensures { members_of result ≡ drop count (members_of self.entry) }
+    {
+        match self {
+            Members::Words(bytes) => {
+                let (_, rest) = bytes.split_at(4 * count);
+                Members::Words(rest)
+            }
+            Members::Units(bytes) => {
+                let (_, rest) = bytes.split_at(2 * count);
+                Members::Units(rest)
+            }
         }
     }
 
@@ -115,6 +143,24 @@ impl<'a> Positions<'a> {
         }
     }
 
+    /// The positions behind so many.
+    #[tactic(auto, using(crate::proofs::Placed::lengths, crate::proofs::Placed::behind))]
+    pub fn behind(self, count: usize) -> Positions<'a>
+        requires { count ≤ length (positions_of self) }
+        ensures { positions_of result ≡ drop count (positions_of self.entry) }
+    {
+        match self {
+            Positions::Halves(bytes) => {
+                let (_, rest) = bytes.split_at(2 * count);
+                Positions::Halves(rest)
+            }
+            Positions::Wholes(bytes) => {
+                let (_, rest) = bytes.split_at(4 * count);
+                Positions::Wholes(rest)
+            }
+        }
+    }
+
     /// The first position, and those after it.
     pub fn split(self) -> Option<(usize, Positions<'a>)>
         ensures { MatchOption result (positions_of self.entry ≡ [])
@@ -142,6 +188,18 @@ impl<'a> Pairs<'a> {
         self.keys.len().min(self.members.len())
     }
 
+    /// The entries behind so many.
+    #[tactic(auto, using(crate::proofs::Placed::zip_length, crate::proofs::Placed::zip_behind))]
+    pub fn behind(self, count: usize) -> Pairs<'a>
+        requires { count ≤ length (keyed_members self) }
+        ensures { keyed_members result ≡ drop count (keyed_members self.entry) }
+    {
+        Pairs {
+            keys: self.keys.behind(count),
+            members: self.members.behind(count),
+        }
+    }
+
     /// The first entry, and those after it.
     pub fn split(self) -> Option<(usize, Member, Pairs<'a>)>
         ensures { MatchOption result (keyed_members self.entry ≡ [])
@@ -150,5 +208,17 @@ impl<'a> Pairs<'a> {
         let (position, keys) = self.keys.split()?;
         let (member, members) = self.members.split()?;
         Some((position, member, Pairs { keys, members }))
+    }
+}
+
+impl<'a> Rest<'a> {
+    /// How many members are still to come.
+    pub fn len(self) -> usize
+        ensures { result ≡ rest_length self.entry }
+    {
+        match self {
+            Rest::List(members) => members.len(),
+            Rest::Table(pairs) => pairs.len(),
+        }
     }
 }

@@ -2,6 +2,7 @@
 //! Places other than words, and other types than trees, are read in the crate above.
 #![tactic(auto)]
 
+mod checker;
 mod count;
 pub mod faults;
 mod file;
@@ -10,13 +11,14 @@ mod make;
 mod read;
 mod room;
 mod standing;
+mod strings;
 mod tree;
 pub mod types;
 mod units;
 mod walk;
 
-pub use count::Checked;
-pub use file::{File, Leaf, Member, Members, Pairs, Positions, Standing};
+pub use count::{count_string_at, count_word};
+pub use file::{File, Leaf, Member, Members, Pairs, Positions, Rest, Standing};
 pub use make::Make;
 pub use read::{read_checked, read_string_at, read_word};
 pub use units::text_of_units;

@@ -1,5 +1,5 @@
 //! What a reader makes of the resources that it reads.
-//! Trees are made in `tree`; where only their number is wanted, `count` makes nothing.
+//! Trees are made in `tree`. Where only their number is wanted nothing is made: see `count`.
 ghost use Rattle.std.specs.Prelude.{ℕ, List, [], ◌∷◌, ◌++◌, IfOk};
 ghost use Rattle.resb_tree.specs.Tree as tree;
 ghost use Rattle.resb_tree.specs.Tree.{Tree};

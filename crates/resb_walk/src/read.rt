@@ -1,5 +1,6 @@
 //! The reader: it goes from frame to frame, and no function calls itself, so any depth is read.
-//! What stands at a word is found in `standing`, and what is made of it in `tree` and `count`.
+//! What stands at a word is found in `standing`, and what is made of it in `tree`. Where nothing is
+//! made, the resources are gone through in `count`.
 //! A round takes the innermost collection's next member, paid for as it begins, or closes it.
 ghost use Rattle.std.specs.Prelude.{ℕ, IfOk, IfErr};
 ghost use Rattle.resb_format.specs.Content as at;
@@ -7,11 +8,11 @@ ghost use Rattle.resb_format.specs.Denotes.{Den, Reaches, DenMember, ReachesMemb
 ghost use Rattle.resb_walk.specs.Files.{parts_in};
 ghost use Rattle.resb_walk.specs.Inner.Members.{member_of};
 ghost use Rattle.resb_walk.specs.Meets.{Meets, Blames};
-ghost use Rattle.resb_walk.specs.Refusals.{Answers};
+ghost use Rattle.resb_walk.specs.Refusals.{Answers, TakesOne};
 ghost use Rattle.resb_walk.specs.Inner.Frames.{Waits};
 ghost use Rattle.resb_walk.specs.Inner.Rounds.{Starts, ReadsMember, PutsOrOpens};
 
-use crate::count::Checked;
+use crate::count::count_word;
 use crate::file::{File, Member, Standing};
 use crate::frame::{Open, Progress, Read, Waiting, advance, put};
 use crate::make::Make;
@@ -47,6 +48,7 @@ fn begin<'a, 'm, M: Make<'a>>(
     ensures reads { ReadsMember M.is M.lists M.tables (parts_in file.entry)
         (member_of member) walk.old walk.new result }
     ensures meets { IfErr result (Blames (Meets (parts_in file.entry) (member_of member))) }
+    ensures takes { IfErr result (TakesOne walk.old walk.new) }
 {
     walk.pay()?;
     let standing = file.member(member)?;
@@ -91,6 +93,7 @@ pub fn read_string_at<'a, 'm, M: Make<'a>>(
         Answers M.is (DenMember p (at.unit unit)) (ReachesMember p (at.unit unit)) walk.old walk.new
         result }
     ensures meets { IfErr result (Blames (Meets (parts_in file.entry) (at.unit unit))) }
+    ensures takes { IfErr result (TakesOne walk.old walk.new) }
 {
     match begin::<M>(alloc, file, Member::Unit(unit), walk)? {
         Read::Made(made) => Ok(made),
@@ -108,6 +111,7 @@ pub fn read_word<'a, 'm, M: Make<'a>>(
     ensures answers { Answers M.is (Den (parts_in file.entry) word)
         (Reaches (parts_in file.entry) word) walk.old walk.new result }
     ensures meets { IfErr result (Blames (Meets (parts_in file.entry) (at.word word))) }
+    ensures takes { IfErr result (TakesOne walk.old walk.new) }
 {
     let mut frame = match begin::<M>(alloc, file, Member::Word(word), walk)? {
         Read::Made(made) => return Ok(made),
@@ -139,10 +143,12 @@ pub fn read_checked<'a, 'm, M: Make<'a>>(
     ensures answers { Answers M.is (Den (parts_in file.entry) word)
         (Reaches (parts_in file.entry) word) walk.old walk.new result }
     ensures meets { IfErr result (Blames (Meets (parts_in file.entry) (at.word word))) }
+    ensures takes { IfErr result (TakesOne walk.old walk.new) }
 {
     if !can_be_paid(alloc, file, word, walk.left())? {
         let mut budget = Walk::new(walk.left());
-        if let Err(error) = read_word::<Checked>(alloc, file, word, &mut budget) {
+        if let Err(error) = count_word(alloc, file, word, &mut budget) {
+            walk.pay()?;
             return Err(error);
         }
     }

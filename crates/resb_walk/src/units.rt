@@ -11,22 +11,9 @@ ghost use Rattle.resb_format.specs.Bytes.{units_of};
 ghost use Rattle.resb_walk.specs.Inner.Members.{text_of_bytes};
 
 use resb_format::bytes::{first_four_units, first_unit, unit_at};
+use resb_shared::{is_high, is_low};
 use resb_tree::NoMemory;
 use std::alloc::Global;
-
-/// Whether it is the first unit of a pair.
-fn is_high(unit: u16) -> bool
-    ensures { result ≡ is_high_surrogate unit }
-{
-    0xd800 <= unit && unit < 0xdc00
-}
-
-/// Whether it is the second unit of a pair.
-fn is_low(unit: u16) -> bool
-    ensures { result ≡ is_low_surrogate unit }
-{
-    0xdc00 <= unit && unit < 0xe000
-}
 
 /// The bytes behind the first four units, if so many stand there and none is a surrogate.
 #[tactic(auto, using(crate::proofs::Surrogates::four_plain))]

@@ -12,3 +12,4 @@ mod Refusals
 pub mod Listed
 mod Examples
 mod OneFile
+mod Filled

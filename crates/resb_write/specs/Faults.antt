@@ -21,6 +21,7 @@ has_nul text = list_any (λ b. nat_eq b 0) text
 abbrev pub is_unlisted : List (List ℕ) → List ℕ → Bool
 is_unlisted js k = is_none (position_in js k)
 
+-- the key's place among the listed keys that are used is over 2147483647
 abbrev pub is_far : List (List ℕ) → List ℕ → Bool
 is_far js k = nat_lt 2147483647 (unwrap_or (position_in js k) 0)
 
@@ -39,19 +40,23 @@ is_over_32_bits (binary bytes) = nat_lt 4294967295 (length bytes)
 is_over_32_bits (int_vector ns) = nat_lt 4294967295 (length ns)
 is_over_32_bits _ = false
 
+-- the fault of trees of which one has a count over 32 bits
 abbrev pub count_fault : List Tree → Option Fault
 count_fault ts = if list_any is_over_32_bits ts then Some (limit (codes "count over 32 bits")) else
     None
 
+-- the first of two faults
 abbrev pub first_of : Option Fault → Option Fault → Option Fault
 first_of (Some f) later = Some f
 first_of None later = later
 
+-- the first fault of a tree and a list of keys: of its keys, of a string's length, of a count
 abbrev pub fault : Tree → List (List ℕ) → Option Fault
 fault t ks =
     first_of (key_fault (keys_of t) (used (keys_of t) ks))
     (first_of (option_map string_too_long (first_too_long (texts_of t))) (count_fault (walk t)))
 
+-- want of memory, the first fault, or a plain size of 2^28 and more where there is no fault
 pub data Refused (t : Tree) (ks : List (List ℕ)) : Fault → Type 0 where
   no_memory : Refused t ks out_of_memory
   at_the_first : {f : Fault} → fault t ks ≡ Some f → Refused t ks f

@@ -10,6 +10,7 @@ use Rattle.resb_tree.specs.Keys.{same_text}
 use Rattle.resb_layout.specs.Laid.{fill, to_word}
 use Rattle.resb_tree.specs.WalkOrder.{keys_of}
 
+-- the key is one of these
 abbrev pub is_among : List (List ℕ) → List ℕ → Bool
 is_among us k = list_any (same_text k) us
 
@@ -25,6 +26,7 @@ key_bytes ks = flat_map (λ k. k ++ 0 ∷ []) ks
 abbrev pub padded : List ℕ → List ℕ
 padded bytes = bytes ++ fill (to_word (length bytes))
 
+-- the listed keys that a tree uses, each with a zero byte, filled to a word
 abbrev pub key_block : Tree → List (List ℕ) → List ℕ
 key_block t ks = padded (key_bytes (used (keys_of t) ks))
 
@@ -45,5 +47,6 @@ keys_start = 32
 abbrev pub position_in : List (List ℕ) → List ℕ → Option ℕ
 position_in js k = option_map (λ n. keys_start + n) (last_of k js)
 
+-- where a key stands in the file, in bytes from the body's start
 abbrev pub key_position : Tree → List (List ℕ) → List ℕ → Option ℕ
 key_position t ks k = position_in (used (keys_of t) ks) k

@@ -1,9 +1,29 @@
--- What the law of written files says.
+-- What the laws of written files say.
 --     OneFile                 a bundle and a list of keys leave one file
-use Rattle.std.specs.Prelude.{◌≡◌, ℕ, List, Bool}
+--     WrittenInOrder          its tail is the bodies of the tree's resources, without a gap
+use Rattle.std.specs.Prelude.{◌≡◌, ℕ, ◌*◌, List, ◌++◌, drop, Bool}
 use Rattle.resb_tree.specs.Tree.{Tree}
+use Rattle.resb_tree.specs.WalkOrder.{walk}
+use Rattle.resb_format.specs.Parts.{body_of, block_end}
+use Rattle.resb_layout.specs.InOrder.{FillsTail, FillsBlock}
 use Rattle.resb_format.specs.Laws.{EachFits}
 use Rattle.resb_write.specs.Written.{Written}
+
+-- Behind the 16-bit block, and up to the file's end, the bodies of the tree's resources in walk
+-- order stand one right behind another, each from a word on; behind the pool of the strings the
+-- 16-bit block has the short ones.
+pub record IsInOrder {bytes : List ℕ} {t : Tree} {fallback : Bool} {ks : List (List ℕ)}
+    (w : Written bytes t fallback ks) : Type 0 where
+  pub tail : FillsTail (4 * block_end bytes) (walk t) (drop (4 * block_end bytes) (body_of bytes))
+  pub short : List ℕ
+  pub units : w.blocks.laid.units ≡ w.blocks.pool ++ short
+  pub block : FillsBlock (walk t) short
+
+-- in each written file the bodies stand in order
+abbrev pub WrittenInOrder : Type 0
+WrittenInOrder =
+    (bytes : List ℕ) (t : Tree) (fallback : Bool) (ks : List (List ℕ))
+    (w : Written bytes t fallback ks) → IsInOrder w
 
 -- of bytes
 abbrev pub OneFile : Type 0

@@ -24,5 +24,6 @@ resources_size ts = sum_by (λ t. 16 + held_size t) ts
 abbrev pub list_size : List (List ℕ) → ℕ
 list_size ks = sum_by (λ k. length k + 1) ks
 
+-- the size that is compared with 2^28: the listed keys', and that of each resource
 abbrev pub plain_size : Tree → List (List ℕ) → ℕ
 plain_size t ks = list_size ks + resources_size (walk t)

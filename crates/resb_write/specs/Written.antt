@@ -21,6 +21,7 @@ even us = if length us % 2 == 1 then us ++ 0xaaaa ∷ [] else us
 abbrev pub tail_start : List ℕ → Laid → ℕ
 tail_start keys laid = keys_start + length keys + 2 * length (even laid.units)
 
+-- what a file is made of: the pool of the tree's strings, and its resources laid behind it
 pub record Blocks (t : Tree) (ks : List (List ℕ)) : Type 0 where
   -- the pool of the tree's strings, and where each string stands in it
   pub pool : List ℕ
@@ -42,6 +43,8 @@ pub record Blocks (t : Tree) (ks : List (List ℕ)) : Type 0 where
 abbrev pub bytes_of : {t : Tree} {ks : List (List ℕ)} → Blocks t ks → List ℕ
 bytes_of {t} {ks} b = key_block t ks ++ (halves (even b.laid.units) ++ b.laid.tail)
 
+-- a file that denotes the tree, with the bundle's index, whose bytes behind the index are just the
+-- blocks
 pub record Written (bytes : List ℕ) (t : Tree) (fallback : Bool) (ks : List (List ℕ)) : Type 0 where
   pub faultless : fault t ks ≡ None
   -- it denotes the tree, and holds each of its resources once

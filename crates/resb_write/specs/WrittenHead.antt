@@ -14,6 +14,8 @@ written_header =
     32 ∷ 0 ∷ 0xda ∷ 0x27 ∷ 20 ∷ 0 ∷ 0 ∷ 0 ∷ 0 ∷ 0 ∷ 2 ∷ 0 ∷ 0x52 ∷ 0x65 ∷ 0x73 ∷ 0x42
     ∷ 2 ∷ 0 ∷ 0 ∷ 0 ∷ 1 ∷ 4 ∷ 0 ∷ 0 ∷ 0 ∷ 0 ∷ 0 ∷ 0 ∷ 0 ∷ 0 ∷ 0 ∷ 0 ∷ []
 
+-- the written header, seven fields, both ends at the body's end, the largest table, and the
+-- fallback flag
 pub record IndexOf (bytes : List ℕ) (t : Tree) (fallback : Bool) : Type 0 where
   pub header : take 32 bytes ≡ written_header
   pub fields : field_count bytes ≡ 7

@@ -58,6 +58,7 @@ impl<'de> Deserialize<'de> for Zone<'de> {
             IfOk result (λ z. (n : ℕ) × ReadsZone p z n × (walk.new + n ≡ walk.old)) }
         ensures refused { let p = place_of at.entry in
             IfErr result (λ e. (walk.new ≤ walk.old) × LacksOrMemory (CountsZone p) walk.old e) }
+        ensures says { IfErr result (λ _. Unit {0}) }
         ensures missing { let p = place_of at.entry in
             IfErr result (λ e. LacksField p walk.old
             → IsRefusal e ErrorKind.Unknown (codes "zone field missing")) }

@@ -1,5 +1,5 @@
 -- The members and entries that are still to come, and the tree of a leaf.
-use Rattle.std.specs.Prelude.{ℕ, ◌%◌, ◌^◌, List, [], map, encode_utf8_all}
+use Rattle.std.specs.Prelude.{ℕ, ◌%◌, ◌^◌, List, [], map, length, encode_utf8_all}
 use Rattle.std.specs.List.{zip}
 use Rattle.std.specs.Char.Utf16.{utf16_lossy_chars}
 use Rattle.resb_tree.specs.Tree.{Tree, string, binary, integer, int_vector}
@@ -14,12 +14,16 @@ use Rattle.resb_walk.specs.declared.file.Members.TheVariants as some
 use Rattle.resb_walk.specs.declared.file.Positions.{Positions}
 use Rattle.resb_walk.specs.declared.file.Positions.TheVariants.{Halves, Wholes}
 use Rattle.resb_walk.specs.declared.file.Pairs.{Pairs}
+use Rattle.resb_walk.specs.declared.file.Rest.{Rest}
+use Rattle.resb_walk.specs.declared.file.Rest.TheVariants as rest
 use Rattle.resb_walk.specs.declared.file.Standing.{Standing}
 use Rattle.resb_walk.specs.declared.file.Standing.TheVariants as kind
 
+-- the text of a string's bytes, which are well-formed UTF-16
 abbrev pub text_of_bytes : List ℕ → List ℕ
 text_of_bytes bs = encode_utf8_all (utf16_lossy_chars (units_of bs))
 
+-- the tree of what stands at a word without members
 abbrev pub leaf_tree : Leaf → Tree
 leaf_tree (Text b) = string (text_of_bytes b.now)
 leaf_tree (Binary b) = binary b.now
@@ -46,3 +50,8 @@ abbrev pub content_of : Standing → at.Content
 content_of (kind.Leaf l) = at.leaf (leaf_tree l)
 content_of (kind.List ms) = at.list (members_of ms)
 content_of (kind.Table ps) = at.pairs (keyed_members ps)
+
+-- how many members are still to come
+abbrev pub rest_length : Rest → ℕ
+rest_length (rest.List ms) = length (members_of ms)
+rest_length (rest.Table es) = length (keyed_members es)

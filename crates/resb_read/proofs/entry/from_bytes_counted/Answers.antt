@@ -3,7 +3,7 @@ use Rattle.std.proofs.lemmas.Result.{err_from_is_err_and}
 use Rattle.resb_format.specs.File.{budget}
 use Rattle.resb_format.specs.Error.{refusal_of}
 use Rattle.resb_read.specs.Places.{place_of}
-use Rattle.resb_read.proofs.Rooted.{no_bundle, at_root}
+use Rattle.resb_read.proofs.Rooted.{no_bundle, at_root, refused_there}
 use Rattle.resb_read.proofs.entry.from_bytes_counted.Goals as goal
 
 pub returns-in_err-root-clause-refused : goal.returns-in_err-root-clause-refused
@@ -24,3 +24,16 @@ returns-clause-read g c =
           (λ k. g.T.Deserialize.reads (place_of c.in_ok-root.root) c.in_ok-value.value k) e r),
       omega arith,
     )
+
+pub returns-in_err-value-clause-says : goal.returns-in_err-value-clause-says
+returns-in_err-value-clause-says g c =
+    let e = err_from_is_err_and c.from_residual-in_err-value.result
+    c.from_residual-in_err-value.ensures.1 in
+    let h = c.in_ok-root.ensures in
+    rw (
+      e.1,
+      e.2,
+    )
+    (refused_there g.T.Deserialize.refuses c.args.bytes.now (place_of c.in_ok-root.root)
+    c.in_ok-root.walk c.deserialize.new.walk c.in_err-value.field-0.0 h.0 h.1 h.2
+    c.in_err-value.ensures.says)

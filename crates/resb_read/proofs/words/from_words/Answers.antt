@@ -21,3 +21,9 @@ returns-clause-head g c =
     let laid : c.as_slice-bytes.result.now ≡ flat_map (to_le_bytes w32) c.args.words.now =
     c.as_slice-bytes.ensures.value ∙ c.in_ok-lay_words.ensures.lays in
     IfErr-weaker c.from_bytes.result _ _ (λ e h. inr h) (rw laid at c.from_bytes.ensures.head)
+
+pub returns-clause-says : goal.returns-clause-says
+returns-clause-says g c =
+    let laid : c.as_slice-bytes.result.now ≡ flat_map (to_le_bytes w32) c.args.words.now =
+    c.as_slice-bytes.ensures.value ∙ c.in_ok-lay_words.ensures.lays in
+    IfErr-weaker c.from_bytes.result _ _ (λ e h. inr h) (rw laid at c.from_bytes.ensures.says)

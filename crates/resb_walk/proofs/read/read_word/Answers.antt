@@ -1,4 +1,4 @@
-use Rattle.std.proofs.Common.{inl, ◌≡◌, ◌+◌, ◌≤◌, []}
+use Rattle.std.proofs.Common.{inl, inr, ◌≡◌, ◌+◌, ◌≤◌, []}
 use Rattle.std.proofs.Common.{arith}
 use Rattle.std.proofs.lemmas.Result.{err_from_is_err_and}
 use Rattle.resb_format.specs.Content.{word}
@@ -9,7 +9,7 @@ use Rattle.resb_walk.proofs.Lift.{word_den, word_refused}
 use Rattle.resb_walk.proofs.Meeting.{waits_meets, round_meets}
 use Rattle.resb_walk.proofs.RoundsLemmas.{round_first, round_falls, round_stuck, round_refused}
 use Rattle.resb_walk.proofs.RoundsLemmas.{round_enters, enters_falls, round_last, round_outer}
-use Rattle.resb_walk.proofs.RoundsLemmas.{round_closes}
+use Rattle.resb_walk.proofs.RoundsLemmas.{round_closes, round_takes}
 use Rattle.resb_walk.proofs.read.read_word.Goals as goal
 
 pub returns-in_err-made-clause-answers : goal.returns-in_err-made-clause-answers
@@ -163,3 +163,37 @@ returns-in_err-frame-in-Some-clause-meets g c =
     let memory = c.in_err-frame-in-Some.ensures (parts_in c.args.file) outer.place outer.inner
     (1 + i.inner) (word i.place) h.0 outer.waits (den_word h.1) h.2 in
     rw (e.1, e.2) (λ f. absurd (f.not_memory memory.kind_is))
+
+pub returns-in_err-made-clause-takes : goal.returns-in_err-made-clause-takes
+returns-in_err-made-clause-takes g c =
+    let e = err_from_is_err_and c.from_residual.result c.from_residual.ensures.1 in
+    rw (e.1, e.2) c.in_err-made.ensures.takes
+
+pub returns-in_err-member-clause-takes : goal.returns-in_err-member-clause-takes
+returns-in_err-member-clause-takes g c =
+    let e = err_from_is_err_and c.from_residual-in_err-member.result
+    c.from_residual-in_err-member.ensures.1 in
+    rw e.1 (inr (inr (round_takes g.M.Make.lists g.M.Make.tables (parts_in c.args.file)
+    c.args.word c.args.walk.now c.rounds.frames.items c.rounds.frame c.rounds.walk
+    c.rounds.invariant)))
+
+pub returns-in_err-frame-in-Wants-clause-takes : goal.returns-in_err-frame-in-Wants-clause-takes
+returns-in_err-frame-in-Wants-clause-takes g c =
+    let e = err_from_is_err_and c.from_residual-in_err-frame-in-Wants.result
+    c.from_residual-in_err-frame-in-Wants.ensures.1 in
+    let i = c.rounds.invariant in
+    let waits = rw c.in-Wants.is at c.in_ok-member.ensures.steps i.place i.inner i.opened in
+    let le : c.enter.new.walk ≤ c.rounds.walk =
+    (c.in_err-frame-in-Wants.ensures.enters i.place i.inner waits).0 in
+    let taken : c.rounds.walk + 1 ≤ c.args.walk.now = round_takes g.M.Make.lists g.M.Make.tables
+    (parts_in c.args.file) c.args.word c.args.walk.now c.rounds.frames.items c.rounds.frame
+    c.rounds.walk i in
+    rw e.1 (inr (inr (omega arith)))
+
+pub returns-in_err-frame-in-Some-clause-takes : goal.returns-in_err-frame-in-Some-clause-takes
+returns-in_err-frame-in-Some-clause-takes g c =
+    let e = err_from_is_err_and c.from_residual-in_err-frame-in-Some.result
+    c.from_residual-in_err-frame-in-Some.ensures.1 in
+    rw e.1 (inr (inr (round_takes g.M.Make.lists g.M.Make.tables (parts_in c.args.file)
+    c.args.word c.args.walk.now c.rounds.frames.items c.rounds.frame c.rounds.walk
+    c.rounds.invariant)))

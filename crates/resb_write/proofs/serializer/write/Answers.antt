@@ -32,7 +32,7 @@ returns-in_err-keys-clause-err c =
     let p = err_from_is_err_and c.from_residual-in_err-keys.result
     c.from_residual-in_err-keys.ensures.1 in
     rw (p.1, p.2) (subst (λ u. Refused u c.args.list.now (fault_of c.in_err-keys.field-0.0))
-    c.root-root.ensures (key_refused t c.args.list.now (nows c.deref.result.now) _ us
+    c.root-root.ensures.tree (key_refused t c.args.list.now (nows c.deref.result.now) _ us
     c.in_err-keys.ensures.err))
 
 pub returns-in_err-check_sizes-clause-err : goal.returns-in_err-check_sizes-clause-err
@@ -43,7 +43,7 @@ returns-in_err-check_sizes-clause-err c =
     let p = err_from_is_err_and c.from_residual-in_err-check_sizes.result
     c.from_residual-in_err-check_sizes.ensures.1 in
     rw (p.1, p.2) (subst (λ u. Refused u c.args.list.now (fault_of c.in_err-check_sizes.field-0.0))
-    c.root-root.ensures
+    c.root-root.ensures.tree
     (size_refused t c.args.list.now (nows c.deref.result.now) _ us b.keys b.faultless _
     (c.in_err-check_sizes.ensures.err (walk t) c.in_ok-contents.ensures)))
 
@@ -55,7 +55,7 @@ returns-in_err-plan-clause-err c =
     let p = err_from_is_err_and c.from_residual-in_err-plan.result
     c.from_residual-in_err-plan.ensures.1 in
     rw (p.1, p.2) (subst (λ u. Refused u c.args.list.now (fault_of c.in_err-plan.field-0.0))
-    c.root-root.ensures
+    c.root-root.ensures.tree
     (plan_refused t c.args.list.now (nows c.deref-2.result.now) _ texts small
     c.in_err-plan.ensures.err))
 
@@ -221,6 +221,6 @@ returns-clause-ok c =
     let file = c.in_ok-assemble.ensures.file
     ∙ ap (λ l. file_of c.in_ok-bodies.word largest fallback (padded (key_bytes (nows l)))
     (even laid.units) laid.tail) c.deref-4.ensures.value in
-    subst (λ u. Written c.in_ok-assemble.field-0.items u fallback ks) c.root-root.ensures
+    subst (λ u. Written c.in_ok-assemble.field-0.items u fallback ks) c.root-root.ensures.tree
     (subst (λ bytes. Written bytes t fallback ks) (sym file) (written t ks js made largest fallback
     c.in_ok-contents.ensures.largest_is))

@@ -2,6 +2,7 @@ use Rattle.std.proofs.Common.{◌≡◌, ◌%◌, length, arith}
 use Rattle.std.proofs.lemmas.Result.{err_from_is_err_and}
 use Rattle.resb_format.specs.Views.{word_bytes}
 use Rattle.resb_read.specs.Places.{place_of}
+use Rattle.resb_read.proofs.Taking.{bytes_taken}
 use Rattle.resb_read.proofs.Viewing.{no_items, even_words}
 use Rattle.resb_read.proofs.cursor.Cursor.pairs.Goals as goal
 
@@ -26,7 +27,11 @@ returns-in_err-view c =
       omega (arith, paid),
       (λ m (x, (whole, same)) k.
           odd (even_words _ (word_bytes c.in_ok-words.words) x n m there same whole)),
-      no_items (place_of c.args.self) c.args.walk.now c.words.new.walk
-          (word_bytes c.in_ok-words.words) n c.in_err-view.field-0.0 there paid
-          c.in_err-view.ensures.1,
+      (
+        no_items (place_of c.args.self) c.args.walk.now c.words.new.walk
+            (word_bytes c.in_ok-words.words) n c.in_err-view.field-0.0 there paid
+            c.in_err-view.ensures.1,
+        bytes_taken (place_of c.args.self) (word_bytes c.in_ok-words.words) n c.args.walk.now
+            c.words.new.walk there paid,
+      ),
     )

@@ -10,5 +10,8 @@ returns-in_err-bytes c =
     rw (e.1, e.2) (
       h.0,
       (λ n (x, (fits, there)) paid. h.1 n (x, (tt, there)) paid),
-      no_bytes (place_of c.args.self) c.args.walk.now c.in_err-bytes.field-0.0 h.1 h.2,
+      (
+        no_bytes (place_of c.args.self) c.args.walk.now c.in_err-bytes.field-0.0 h.1 h.2.0,
+        h.2.1,
+      ),
     )

@@ -12,8 +12,9 @@ returns-in-Err g c =
     let h = c.in-Err.ensures.refused in
     let whole : old.failed ≡ None = sym (ap (λ (a : EntryAccess). a.failed) seen)
     ∙ c.in_default.is in
-    entry_fails g.K.Deserialize.reads g.K.Deserialize.counts g.T.Deserialize.reads
-    g.T.Deserialize.counts old _
+    entry_fails g.K.Deserialize.reads g.K.Deserialize.counts g.K.Deserialize.refuses
+    g.T.Deserialize.reads g.T.Deserialize.counts g.T.Deserialize.refuses old _
     (place_of c.in-Some-first.key_at, place_of c.in-Some-first.value_at) (drop 1 old.rest)
     c.args.walk.now c.read_pair.new.walk c.in-Err.error whole first
     (ap (entries_stop c.in-Err.error) (ap (λ (a : EntryAccess). a.rest) seen ∙ first)) h.0 h.1
+    c.in-Err.ensures.says

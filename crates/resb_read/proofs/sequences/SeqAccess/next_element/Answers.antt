@@ -10,7 +10,9 @@ returns-in-Err g c =
     let seen = c.self.view_is in
     let first = c.in-Some-first.ensures in
     let h = c.in-Err.ensures.refused in
+    let says = c.in-Err.ensures.says in
     let whole : old.failed ≡ None = sym (ap (λ (a : Access). a.failed) seen) ∙ c.in_default.is in
-    member_fails g.T.Deserialize.reads g.T.Deserialize.counts old _ (place_of c.in-Some-first.at)
+    member_fails g.T.Deserialize.reads g.T.Deserialize.counts g.T.Deserialize.refuses
+    old _ (place_of c.in-Some-first.at)
     (drop 1 old.rest) c.args.walk.now c.deserialize.new.walk c.in-Err.error whole first
-    (ap (members_stop c.in-Err.error) (ap (λ (a : Access). a.rest) seen ∙ first)) h.0 h.1
+    (ap (members_stop c.in-Err.error) (ap (λ (a : Access). a.rest) seen ∙ first)) (h.0, h.1, says)

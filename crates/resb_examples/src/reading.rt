@@ -1,0 +1,45 @@
+//! Reading without a type of one's own: by the given types, and by a plain function over cursors.
+//! A type of one's own is shown by `resb_zones`.
+use resb::binary::{BinaryDeserializerError, Cursor, from_bytes};
+use std::alloc::Global;
+use std::collections::BTreeMap;
+
+/// The number `base` of a zone, in a file of tables of numbers by their names.
+pub fn base_of(
+    alloc: Global,
+    file: &[u8],
+    zone: &str,
+) -> Result<Option<u32>, BinaryDeserializerError> {
+    let zones: BTreeMap<&str, BTreeMap<&str, u32>> = from_bytes(alloc, file)?;
+    let Some(fields) = zones.get(zone) else {
+        return Ok(None);
+    };
+    Ok(fields.get("base").copied())
+}
+
+/// The number `base` of a zone, in a file of tables that may hold anything beside it. No memory is
+/// asked for, and what isn't looked for is skipped.
+pub fn base_by_cursor(file: &[u8], zone: &str) -> Result<Option<i32>, BinaryDeserializerError> {
+    let (root, mut walk) = Cursor::root(file)?;
+    let mut zones = root.read_map(&mut walk)?;
+    for _ in 0..zones.size_hint() {
+        let Some((name, fields)) = zones.next_entry_cursor()? else {
+            break;
+        };
+        if name.read_str(&mut walk)? != zone {
+            fields.skip(&mut walk)?;
+            continue;
+        }
+        let mut entries = fields.read_map(&mut walk)?;
+        for _ in 0..entries.size_hint() {
+            let Some((key, value)) = entries.next_entry_cursor()? else {
+                break;
+            };
+            if key.read_str(&mut walk)? == "base" {
+                return Ok(Some(value.read_i32(&mut walk)?));
+            }
+            value.skip(&mut walk)?;
+        }
+    }
+    Ok(None)
+}

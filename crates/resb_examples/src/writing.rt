@@ -1,0 +1,85 @@
+//! Writing a tree that a program made, and one that it put together from two texts.
+//! Texts that stand by themselves are written by `resb::compile`.
+use resb::binary::{BinaryDeserializerError, BinarySerializerError, Serializer, from_bytes};
+use resb::bundle::{Int28, Key, Resource, ResourceBundle, Table};
+use resb::text::{Reader, TextParserError};
+use resb::{CompileError, compile};
+use std::alloc::{AllocError, AllocFailed, Global};
+use std::borrow::CowStr;
+use std::collections::BTreeMap;
+use thiserror::Error;
+
+/// Why nothing is written.
+#[derive(Debug, Drop, Error)]
+pub enum WritingError {
+    /// A text is no bundle, or has no file.
+    #[error("{0}")]
+    Compiling(#[from] CompileError),
+    /// A text is no bundle.
+    #[error("{0}")]
+    Text(#[from] TextParserError),
+    /// A file isn't a table of trees.
+    #[error("{0}")]
+    Reading(#[from] BinaryDeserializerError),
+    /// The tree has no file.
+    #[error("{0}")]
+    Writing(#[from] BinarySerializerError),
+    /// Memory was wanted.
+    #[error("out of memory")]
+    Memory(#[from] AllocError),
+}
+
+/// A map that can't grow hands back what was put.
+impl<T: Drop> From<AllocFailed<T>> for WritingError {
+    fn from(_: AllocFailed<T>) -> WritingError {
+        WritingError::Memory(AllocError)
+    }
+}
+
+/// The file of `names { age:int { 7 } greeting { "hello" } }`, without a text.
+pub fn greeting_file(alloc: Global) -> Result<Vec<u8>, WritingError> {
+    let mut table: Table<'_> = BTreeMap::new(alloc);
+    table.insert(
+        Key::from("greeting"),
+        Resource::String(CowStr::Borrowed("hello")),
+    )?;
+    table.insert(Key::from("age"), Resource::Integer(Int28::from(7u32)))?;
+    let bundle = ResourceBundle::new(CowStr::Borrowed("names"), Resource::Table(table), true);
+    let keys = [Key::from("age"), Key::from("greeting")];
+    Ok(Serializer::to_bytes(alloc, &bundle, &keys)?)
+}
+
+/// The entries of two files, whose roots are tables; of an equal key those of the second.
+fn both<'a>(alloc: Global, first: &'a [u8], second: &'a [u8]) -> Result<Table<'a>, WritingError> {
+    let mut table: Table<'a> = from_bytes(alloc, first)?;
+    let added: Table<'a> = from_bytes(alloc, second)?;
+    for (key, tree) in added {
+        table.insert(key, tree)?;
+    }
+    Ok(table)
+}
+
+/// The keys of two texts, each once.
+fn keys_of<'a>(
+    alloc: Global,
+    first: &'a str,
+    second: &'a str,
+) -> Result<Vec<Key<'a>>, WritingError> {
+    let (_, mut keys) = Reader::read(alloc, first)?;
+    let (_, more_keys) = Reader::read(alloc, second)?;
+    keys.extend(more_keys)?;
+    keys.sort()?;
+    keys.dedup();
+    Ok(keys)
+}
+
+/// The file of two texts, with locale fallback: the entries of both, and of an equal key those of
+/// the second.
+pub fn merge(alloc: Global, first: &str, second: &str) -> Result<Vec<u8>, WritingError> {
+    let first_file = compile(alloc, first)?;
+    let second_file = compile(alloc, second)?;
+    let table = both(alloc, &first_file, &second_file)?;
+    let bundle = ResourceBundle::new(CowStr::Borrowed("merged"), Resource::Table(table), true);
+    let keys = keys_of(alloc, first, second)?;
+    Ok(Serializer::to_bytes(alloc, &bundle, &keys)?)
+}

@@ -1,0 +1,47 @@
+-- The bodies of a written file, one right behind another in walk order: what a layout implies of
+-- the bytes of its tail and the units of its block.
+--     TailBody at t body      the body of t in the tail, from byte `at` of the file's body
+--     FillsTail at ts bytes   those bodies of the trees ts that stand in the tail are these bytes
+--     BlockBody t us, FillsBlock ts us    the same of the units of the 16-bit block
+use Rattle.std.specs.Prelude.{◌≡◌, ℕ, ◌+◌, ◌%◌, ◌<◌, List, [], ◌∷◌, ◌++◌, length}
+use Rattle.resb_tree.specs.Tree.{Tree, array, table, binary, int_vector, Trees, Entries}
+use Rattle.resb_layout.specs.Laid.{binary_body, words_body, near_table_body, wide_table_body}
+use Rattle.resb_layout.specs.Laid.{offsets_in}
+
+-- all fillings are bytes 0xaa: up to the place of a binary's bytes, behind these, and behind an
+-- even number of a table's 16-bit positions
+pub data TailBody : ℕ → Tree → List ℕ → Type 0 where
+  tail_bytes : {at : ℕ} {bytes : List ℕ} → 0 < length bytes
+      → TailBody at (binary bytes) (binary_body at bytes)
+  tail_numbers : {at : ℕ} {ns : List ℕ} → 0 < length ns
+      → TailBody at (int_vector ns) (words_body ns)
+  tail_array : {at : ℕ} {ts : Trees} (ws : List ℕ) → 0 < length ws
+      → TailBody at (array ts) (words_body ws)
+  tail_table : {at : ℕ} {es : Entries} (ps ws : List ℕ) → 0 < length ws
+      → TailBody at (table es) (near_table_body ps ws)
+  tail_wide_table : {at : ℕ} {es : Entries} (ps ws : List ℕ) → 0 < length ws
+      → TailBody at (table es) (wide_table_body ps ws)
+
+-- without a gap, each body from a word on; the others of the trees have none in the tail
+pub data FillsTail : ℕ → List Tree → List ℕ → Type 0 where
+  tail_ends : {at : ℕ} → FillsTail at [] []
+  tail_without : {at : ℕ} {t : Tree} {ts : List Tree} {bytes : List ℕ} → FillsTail at ts bytes
+      → FillsTail at (t ∷ ts) bytes
+  tail_with : {at : ℕ} {t : Tree} {ts : List Tree} {body bytes : List ℕ} → at % 4 ≡ 0
+      → TailBody at t body → FillsTail (at + length body) ts bytes
+      → FillsTail at (t ∷ ts) (body ++ bytes)
+
+-- a count, and the strings' offsets, behind a table's key positions
+pub data BlockBody : Tree → List ℕ → Type 0 where
+  block_array : {ts : Trees} (ws : List ℕ) → 0 < length ws
+      → BlockBody (array ts) (length ws ∷ offsets_in ws)
+  block_table : {es : Entries} (ps ws : List ℕ) → 0 < length ws
+      → BlockBody (table es) (length ws ∷ (ps ++ offsets_in ws))
+
+-- without a gap; the others of the trees have none in the block
+pub data FillsBlock : List Tree → List ℕ → Type 0 where
+  block_ends : FillsBlock [] []
+  block_without : {t : Tree} {ts : List Tree} {us : List ℕ} → FillsBlock ts us
+      → FillsBlock (t ∷ ts) us
+  block_with : {t : Tree} {ts : List Tree} {body us : List ℕ} → BlockBody t body
+      → FillsBlock ts us → FillsBlock (t ∷ ts) (body ++ us)

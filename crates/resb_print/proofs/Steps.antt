@@ -1,0 +1,330 @@
+-- What a job leaves to be done, together with what it writes, is the job.
+use Rattle.std.proofs.Common.{◌≡◌, ℕ, zero, suc, ◌+◌, ◌*◌, ◌<◌, Bool, true, false, List}
+use Rattle.std.proofs.Common.{[], ◌∷◌, ◌++◌}
+use Rattle.std.proofs.Common.{map, reverse, length, refl, sym, ◌∙◌, ap, subst, arith, append_assoc}
+use Rattle.std.proofs.Common.{Option, Some, None}
+use Rattle.std.specs.Prelude.{codes, IsTrue, ◌==◌}
+use Rattle.std.proofs.lemmas.Bool.{false≢true}
+use Rattle.std.proofs.lemmas.Bool.Decides.{nat_tests}
+use Rattle.std.specs.Map.{keys_of}
+use Rattle.std.specs.String.{string_bytes}
+use Rattle.std.specs.declared.alloc.Global.{Global}
+use Rattle.std.specs.declared.string.String.{String}
+use Rattle.std.proofs.lemmas.List.{reverse-append, append-nil}
+use Rattle.resb_tree.specs.Tree.{Tree, array, table, Entries, trees_of, entries_of, tree_count}
+use Rattle.resb_tree.specs.Tree.{trees_count, entries_count}
+use Rattle.resb_tree.specs.View.{tree_of, pairs_view, entries_view}
+use Rattle.resb_tree.specs.WalkOrder.{entry_keys}
+use Rattle.resb_tree.specs.declared.resource.Resource.{Resource}
+use Rattle.resb_print.specs.declared.cause.Cause.{Cause}
+use Rattle.resb_print.specs.declared.place.Place.{Place}
+use Rattle.resb_print.specs.Printed.{deeper, tree_on, trees_on, entries_on, end_on}
+use Rattle.resb_print.specs.Printed.{close_on}
+use Rattle.resb_print.specs.Quotes.{has_quote, quote_else, cause_else, causes_else, causes_in_else}
+use Rattle.resb_print.specs.Held.{IsHeld, AreHeld, HeldIn}
+use Rattle.resb_print.specs.Inner.Jobs.{Job, entry_job, item_job, close_job, job_on, fold_jobs}
+use Rattle.resb_print.specs.Inner.Jobs.{jobs_on, job_cause, jobs_cause, IsHeldJob, AreHeldJobs}
+use Rattle.resb_print.specs.Inner.Jobs.{job_turns, add_turns, jobs_turns, Writes, entry_jobs}
+use Rattle.resb_print.specs.Inner.Jobs.{item_jobs, DoesTree, DoesJob, IsUnderWay, Refuses, Refused}
+use Rattle.resb_print.specs.declared.error.PrintError.{PrintError}
+use Rattle.resb_print.specs.declared.error.PrintError.TheVariants.{NotPrintable}
+use Rattle.resb_tree.specs.Maps.{text_cmp}
+use Rattle.std.specs.List.Sorted.{IsStrictlySortedBy}
+use Rattle.std.proofs.Common.{inl, inr}
+
+pub keys_view : (es : List (List ℕ × Resource)) → entry_keys (entries_view es) ≡ keys_of es
+keys_view [] = refl
+keys_view (e ∷ es) = ap (λ l. e.0 ∷ l) (keys_view es)
+
+-- a job is put, where those before it come later
+pub put_before : (js ks : List Job) (j : Job)
+    → (js ++ j ∷ []) ++ reverse ks ≡ js ++ reverse (ks ++ j ∷ [])
+put_before js ks j =
+    append_assoc js (j ∷ []) (reverse ks) ∙ ap (λ l. js ++ l) (sym (reverse-append ks (j ∷ [])))
+
+pub entry_last : (n : ℕ) (es : List (List ℕ × Resource)) (e : List ℕ × Resource)
+    → entry_jobs n (pairs_view (es ++ e ∷ []))
+    ≡ entry_jobs n (pairs_view es) ++ entry_job n e.0 (tree_of e.1) ∷ []
+entry_last n [] e = refl
+entry_last n (f ∷ es) e = ap (λ l. entry_job n f.0 (tree_of f.1) ∷ l) (entry_last n es e)
+
+pub item_last : (n : ℕ) (rs : List Resource) (r : Resource)
+    → item_jobs n (map tree_of (rs ++ r ∷ []))
+    ≡ item_jobs n (map tree_of rs) ++ item_job n (tree_of r) ∷ []
+item_last n [] r = refl
+item_last n (s ∷ rs) r = ap (λ l. item_job n (tree_of s) ∷ l) (item_last n rs r)
+
+pub fold_push : {X : Type 0} (f : Job → X → X) (js : List Job) (j : Job) (x : X)
+    → fold_jobs f (js ++ j ∷ []) x ≡ f j (fold_jobs f js x)
+fold_push f [] j x = refl
+fold_push f (i ∷ js) j x = fold_push f js j (f i x)
+
+reverse_more : (js ks : List Job) (j : Job)
+    → js ++ reverse (j ∷ ks) ≡ (js ++ reverse ks) ++ j ∷ []
+reverse_more js ks j =
+    ap (λ l. js ++ l) (reverse-append (j ∷ []) ks) ∙ sym (append_assoc js (reverse ks) (j ∷ []))
+
+fold_more : {X : Type 0} (f : Job → X → X) (js ks : List Job) (j : Job) (x : X)
+    → fold_jobs f (js ++ reverse (j ∷ ks)) x ≡ f j (fold_jobs f (js ++ reverse ks) x)
+fold_more f js ks j x =
+    ap (λ l. fold_jobs f l x) (reverse_more js ks j) ∙ fold_push f (js ++ reverse ks) j x
+
+fold_none : {X : Type 0} (f : Job → X → X) (js : List Job) (x : X)
+    → fold_jobs f (js ++ reverse []) x ≡ fold_jobs f js x
+fold_none f js x = ap (λ l. fold_jobs f l x) (append-nil js)
+
+held_push : (js : List Job) (j : Job) → AreHeldJobs (js ++ j ∷ [])
+    → AreHeldJobs js × IsHeldJob j
+held_push [] j h = (tt, h.0)
+held_push (i ∷ js) j h = let r = held_push js j h.1 in ((h.0, r.0), r.1)
+
+held_more : (js ks : List Job) (j : Job) → AreHeldJobs (js ++ reverse (j ∷ ks))
+    → AreHeldJobs (js ++ reverse ks) × IsHeldJob j
+held_more js ks j h = held_push (js ++ reverse ks) j (subst AreHeldJobs (reverse_more js ks j) h)
+
+-- the entries of a table
+pub entries_text : (n : ℕ) (js : List Job) (ps : List (List ℕ × Tree)) (rest : List ℕ)
+    → jobs_on (js ++ reverse (entry_jobs n ps)) rest
+    ≡ entries_on n (entries_of ps) (jobs_on js rest)
+entries_text n js [] rest = fold_none job_on js rest
+entries_text n js (p ∷ ps) rest =
+    fold_more job_on js (entry_jobs n ps) (entry_job n p.0 p.1) rest
+    ∙ ap (job_on (entry_job n p.0 p.1)) (entries_text n js ps rest)
+
+pub entries_cause : (n : ℕ) (js : List Job) (ps : List (List ℕ × Tree)) (later : Option Cause)
+    → jobs_cause (js ++ reverse (entry_jobs n ps)) later
+    ≡ causes_in_else (entries_of ps) (jobs_cause js later)
+entries_cause n js [] later = fold_none job_cause js later
+entries_cause n js (p ∷ ps) later =
+    fold_more job_cause js (entry_jobs n ps) (entry_job n p.0 p.1) later
+    ∙ ap (job_cause (entry_job n p.0 p.1)) (entries_cause n js ps later)
+
+pub entries_held : (n : ℕ) (js : List Job) (ps : List (List ℕ × Tree))
+    → AreHeldJobs (js ++ reverse (entry_jobs n ps)) → AreHeldJobs js × HeldIn (entries_of ps)
+entries_held n js [] h = (subst AreHeldJobs (append-nil js) h, tt)
+entries_held n js (p ∷ ps) h =
+    let a = held_more js (entry_jobs n ps) (entry_job n p.0 p.1) h in
+    let b = entries_held n js ps a.0 in
+    (b.0, (a.1, b.1))
+
+pub entries_turns : (n : ℕ) (js : List Job) (ps : List (List ℕ × Tree))
+    → jobs_turns (js ++ reverse (entry_jobs n ps))
+    ≡ jobs_turns js + 2 * entries_count (entries_of ps)
+entries_turns n js [] = fold_none add_turns js 0 ∙ omega arith
+entries_turns n js (p ∷ ps) =
+    fold_more add_turns js (entry_jobs n ps) (entry_job n p.0 p.1) 0
+    ∙ omega (arith, entries_turns n js ps)
+
+-- the items of an array
+items_text : (n : ℕ) (js : List Job) (ts : List Tree) (rest : List ℕ)
+    → jobs_on (js ++ reverse (item_jobs n ts)) rest ≡ trees_on n (trees_of ts) (jobs_on js rest)
+items_text n js [] rest = fold_none job_on js rest
+items_text n js (t ∷ ts) rest =
+    fold_more job_on js (item_jobs n ts) (item_job n t) rest
+    ∙ ap (job_on (item_job n t)) (items_text n js ts rest)
+
+items_cause : (n : ℕ) (js : List Job) (ts : List Tree) (later : Option Cause)
+    → jobs_cause (js ++ reverse (item_jobs n ts)) later
+    ≡ causes_else (trees_of ts) (jobs_cause js later)
+items_cause n js [] later = fold_none job_cause js later
+items_cause n js (t ∷ ts) later =
+    fold_more job_cause js (item_jobs n ts) (item_job n t) later
+    ∙ ap (job_cause (item_job n t)) (items_cause n js ts later)
+
+items_held : (n : ℕ) (js : List Job) (ts : List Tree)
+    → AreHeldJobs (js ++ reverse (item_jobs n ts)) → AreHeldJobs js × AreHeld (trees_of ts)
+items_held n js [] h = (subst AreHeldJobs (append-nil js) h, tt)
+items_held n js (t ∷ ts) h =
+    let a = held_more js (item_jobs n ts) (item_job n t) h in
+    let b = items_held n js ts a.0 in
+    (b.0, (a.1, b.1))
+
+items_turns : (n : ℕ) (js : List Job) (ts : List Tree)
+    → jobs_turns (js ++ reverse (item_jobs n ts)) ≡ jobs_turns js + 2 * trees_count (trees_of ts)
+items_turns n js [] = fold_none add_turns js 0 ∙ omega arith
+items_turns n js (t ∷ ts) =
+    fold_more add_turns js (item_jobs n ts) (item_job n t) 0 ∙ omega (arith, items_turns n js ts)
+
+-- a resource that leaves nothing to be done
+pub does_leaf : (old new : String Global) (js : List Job) (p : Place) (n : ℕ) (t : Tree)
+    → Writes old new (tree_on p n t) → ((later : Option Cause) → cause_else t later ≡ later)
+    → IsHeld t → 0 < tree_count t → DoesTree old new js js p n t
+does_leaf old new js p n t w free held some = record {
+  text = λ rest. w (jobs_on js rest);
+  causes = λ later. sym (free (jobs_cause js later));
+  holds = λ h. (h, held);
+  fewer = omega arith;
+}
+
+pub writes_bytes : (old new : String Global) (w : List ℕ) → string_bytes new ≡ string_bytes old ++ w
+    → (rest : List ℕ) → string_bytes new ++ rest ≡ string_bytes old ++ (w ++ rest)
+writes_bytes old new w e rest = ap (λ l. l ++ rest) e ∙ append_assoc (string_bytes old) w rest
+
+-- a collection begins, and leaves what is inside it and its end
+module _ (old new : String Global) (before after : List Job) (p : Place) (n : ℕ) where
+  pub does_array : (ts : List Tree) → string_bytes new ≡ string_bytes old ++ codes ":array{"
+      → 0 < length ts
+      → after ≡ (before ++ close_job n p ∷ []) ++ reverse (item_jobs (deeper n) ts)
+      → DoesTree old new before after p n (array (trees_of ts))
+  does_array [] e some f = absurd (omega arith)
+  does_array (t ∷ ts) e some f =
+      let c = close_job n p in
+      let m = deeper n in
+      record {
+        text = λ rest. ap (λ js. string_bytes new ++ jobs_on js rest) f
+            ∙ ap (λ l. string_bytes new ++ l) (items_text m (before ++ c ∷ []) (t ∷ ts) rest
+            ∙ ap (trees_on m (trees_of (t ∷ ts))) (fold_push job_on before c rest))
+            ∙ writes_bytes old new (codes ":array{") e (trees_on m (trees_of (t ∷ ts)) (close_on n
+            (end_on p (jobs_on before rest))));
+        causes = λ later. ap (λ js. jobs_cause js later) f
+            ∙ items_cause m (before ++ c ∷ []) (t ∷ ts) later
+            ∙ ap (causes_else (trees_of (t ∷ ts))) (fold_push job_cause before c later);
+        holds = λ h. (
+            let a = items_held m (before ++ c ∷ []) (t ∷ ts) (subst AreHeldJobs f h) in
+            ((held_push before c a.0).0, a.1)
+            );
+        fewer = omega (
+          arith,
+          ap jobs_turns f,
+          items_turns m (before ++ c ∷ []) (t ∷ ts),
+          fold_push add_turns before c 0,
+        );
+      }
+
+  pub does_table : (ps : List (List ℕ × Tree)) → string_bytes new ≡ string_bytes old ++ codes "{"
+      → 0 < length ps → IsStrictlySortedBy text_cmp (entry_keys (entries_of ps))
+      → after ≡ (before ++ close_job n p ∷ []) ++ reverse (entry_jobs (deeper n) ps)
+      → DoesTree old new before after p n (table (entries_of ps))
+  does_table [] e some ascend f = absurd (omega arith)
+  does_table (q ∷ ps) e some ascend f =
+      let c = close_job n p in
+      let m = deeper n in
+      record {
+        text = λ rest. ap (λ js. string_bytes new ++ jobs_on js rest) f
+            ∙ ap (λ l. string_bytes new ++ l) (entries_text m (before ++ c ∷ []) (q ∷ ps) rest
+            ∙ ap (entries_on m (entries_of (q ∷ ps))) (fold_push job_on before c rest))
+            ∙ writes_bytes old new (codes "{") e (entries_on m (entries_of (q ∷ ps)) (close_on
+            n (end_on p (jobs_on before rest))));
+        causes = λ later. ap (λ js. jobs_cause js later) f
+            ∙ entries_cause m (before ++ c ∷ []) (q ∷ ps) later
+            ∙ ap (causes_in_else (entries_of (q ∷ ps))) (fold_push job_cause before c later);
+        holds = λ h. (
+            let a = entries_held m (before ++ c ∷ []) (q ∷ ps) (subst AreHeldJobs f h) in
+            ((held_push before c a.0).0, (ascend, a.1))
+            );
+        fewer = omega (
+          arith,
+          ap jobs_turns f,
+          entries_turns m (before ++ c ∷ []) (q ∷ ps),
+          fold_push add_turns before c 0,
+        );
+      }
+
+-- a line begins, and the resource on it is done
+pub does_line : (old line new : String Global) (js ks : List Job) (j : Job)
+    (write : List ℕ → List ℕ) (p : Place) (n : ℕ) (t : Tree)
+    → Writes old line write → DoesTree line new js ks p n t
+    → ((rest : List ℕ) → job_on j rest ≡ write (tree_on p n t rest))
+    → ((later : Option Cause) → job_cause j later ≡ cause_else t later)
+    → (IsHeld t → IsHeldJob j) → job_turns j ≡ 2 * tree_count t → DoesJob old new js ks j
+does_line old line new js ks j write p n t w d same causes held turns = record {
+  text = λ rest. d.text rest ∙ w (tree_on p n t (jobs_on js rest))
+      ∙ ap (λ l. string_bytes old ++ l) (sym (same (jobs_on js rest)));
+  causes = λ later. d.causes later ∙ sym (causes (jobs_cause js later));
+  holds = λ h. (let r = d.holds h in (r.0, held r.1));
+  fewer = omega (arith, d.fewer);
+}
+
+held_both : (js : List Job) (j : Job) → AreHeldJobs js × IsHeldJob j → AreHeldJobs (js ++ j ∷ [])
+held_both [] j h = (h.1, tt)
+held_both (i ∷ js) j h = ((h.0).0, held_both js j ((h.0).1, h.1))
+
+-- the whole walk
+pub begun : (old : String Global) (js : List Job) (ps : List (List ℕ × Tree))
+    → js ≡ reverse (entry_jobs 1 ps) → IsUnderWay old old js (entries_of ps)
+begun old js ps e = record {
+  text = λ rest. ap (λ l. string_bytes old ++ jobs_on l rest) e
+      ∙ ap (λ l. string_bytes old ++ l) (entries_text 1 [] ps rest);
+  causes = ap (λ l. jobs_cause l None) e ∙ entries_cause 1 [] ps None;
+  holds = λ h. (entries_held 1 [] ps (subst AreHeldJobs e h)).1;
+}
+
+pub going : (old now new : String Global) (js ks ls : List Job) (j : Job) (es : Entries)
+    → ls ≡ js ++ j ∷ [] → IsUnderWay old now ls es → DoesJob now new js ks j
+    → IsUnderWay old new ks es
+going old now new js ks ls j es e u d = record {
+  text = λ rest. d.text rest
+      ∙ ap (λ l. string_bytes now ++ l) (sym (fold_push job_on js j rest)
+      ∙ ap (λ l. jobs_on l rest) (sym e)) ∙ u.text rest;
+  causes = d.causes None ∙ sym (fold_push job_cause js j None) ∙ ap (λ l. jobs_cause l None) (sym e)
+      ∙ u.causes;
+  holds = λ h. u.holds (subst AreHeldJobs (sym e) (held_both js j (d.holds h)));
+}
+
+pub fewer_left : (now new : String Global) (js ks ls : List Job) (j : Job) → ls ≡ js ++ j ∷ []
+    → DoesJob now new js ks j → jobs_turns ks < jobs_turns ls
+fewer_left now new js ks ls j e d =
+    omega (arith, d.fewer, ap jobs_turns e, fold_push add_turns js j 0)
+
+pub refused : (js ls : List Job) (j : Job) (es : Entries) (old now : String Global) (e : PrintError)
+    → ls ≡ js ++ j ∷ [] → IsUnderWay old now ls es → Refuses e (job_cause j)
+    → Refused e (causes_in_else es None)
+refused js ls j es old now e f u (inl h) = inl h
+refused js ls j es old now e f u (inr (x, h, g)) =
+    inr (
+      x,
+      h,
+      sym u.causes ∙ ap (λ l. jobs_cause l None) f ∙ fold_push job_cause js j None
+          ∙ g (jobs_cause js None),
+    )
+
+pub not_none : (n : ℕ) (b : Bool) → (n ≡ 0 → IsTrue b) → b ≡ false → 0 < n
+not_none zero b h e = absurd (false≢true (sym e ∙ h refl))
+not_none (suc n) b h e = omega arith
+
+pub not_empty : (n : ℕ) → (n == 0) ≡ false → 0 < n
+not_empty n h = grind (arith, nat_tests)
+
+pub many_entries : (es : List (List ℕ × Resource)) → 0 < length es → 0 < length (pairs_view es)
+many_entries [] h = h
+many_entries (e ∷ es) h = omega arith
+
+pub many_items : (rs : List Resource) → 0 < length rs → 0 < length (map tree_of rs)
+many_items [] h = h
+many_items (r ∷ rs) h = omega arith
+
+pub quote_found : (x : Cause) (s : List ℕ) (later : Option Cause) → has_quote s ≡ true
+    → quote_else x s later ≡ Some x
+quote_found x s later h = rw h refl
+
+pub quote_missed : (x : Cause) (s : List ℕ) (later : Option Cause) → has_quote s ≡ false
+    → quote_else x s later ≡ later
+quote_missed x s later h = rw h refl
+
+pub refuses_more : (e : PrintError) (f g : Option Cause → Option Cause) → Refuses e f
+    → ((later : Option Cause) → g later ≡ f later) → Refuses e g
+refuses_more e f g (inl h) same = inl h
+refuses_more e f g (inr (x, h, found)) same = inr (x, h, λ later. same later ∙ found later)
+
+pub refuses_quote : (e : PrintError) (x : Cause) (s : List ℕ) (g : Option Cause → Option Cause)
+    → e ≡ NotPrintable x → has_quote s ≡ true
+    → ((later : Option Cause) → (m : Option Cause) × (g later ≡ quote_else x s m)) → Refuses e g
+refuses_quote e x s g h q same =
+    inr (x, h, λ later. (same later).1 ∙ quote_found x s (same later).0 q)
+
+sorted_none : IsStrictlySortedBy text_cmp []
+unfolding IsStrictlySortedBy
+sorted_none = tt
+
+-- an empty table
+pub empty_table : (old new : String Global) (js : List Job) (p : Place) (n : ℕ)
+    (es : List (List ℕ × Resource))
+    → Writes old new (λ rest. codes ":table{}" ++ end_on p rest) → length es ≡ 0
+    → DoesTree old new js js p n (table (entries_view es))
+empty_table old new js p n [] w e = record {
+  text = λ rest. w (jobs_on js rest);
+  causes = λ later. refl;
+  holds = λ h. (h, (sorted_none, tt));
+  fewer = omega arith;
+}
+empty_table old new js p n (f ∷ es) w e = absurd (omega arith)

@@ -1,0 +1,13 @@
+//! Laws of printed texts, each the contract of a function that does nothing.
+//! Their statements stand in `specs/Laws`.
+ghost use Rattle.resb_print.specs.Laws.{PrintedIsABundle, ABundleGivesNoCause};
+
+/// A tree in whose way nothing stands has a text.
+pub fn printed_is_a_bundle()
+    ensures { PrintedIsABundle }
+{}
+
+/// Nothing stands in the way of the tree of a bundle text.
+pub fn a_bundle_gives_no_cause()
+    ensures { ABundleGivesNoCause }
+{}

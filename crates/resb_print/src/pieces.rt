@@ -1,0 +1,132 @@
+//! Small pieces of a printed text: names, strings, numbers, the ends of lines.
+//! What a resource is made of stands in `step`.
+ghost use Rattle.std.specs.Prelude.{◌≡◌, ◌++◌, ◌∷◌, ℕ, List, OnOk, codes, decimal, refl, IsTrue};
+ghost use Rattle.std.specs.String.{string_bytes};
+ghost use Rattle.resb_print.specs.Quotes as quotes;
+ghost use Rattle.resb_print.specs.Printed as printed;
+ghost use Rattle.resb_print.specs.Printed.{indent_on, line_on, quoted_on, name_on, numbers_on};
+ghost use Rattle.resb_print.specs.Printed.{end_on, root_type_on};
+ghost use Rattle.resb_print.specs.Inner.Jobs.{Writes};
+ghost use Rattle.resb_grammar.specs.ByteRuns as bytes;
+
+use crate::place::Place;
+use std::alloc::AllocError;
+
+/// Whether the text holds a quote.
+pub(crate) fn has_quote(text: &str) -> bool
+    ensures { result ≡ quotes.has_quote text.now }
+{
+    for byte in text.as_bytes() {
+        if *byte == b'"' {
+            return true;
+        }
+    }
+    false
+}
+
+/// Whether a byte may stand in a string without quotes.
+fn is_word(byte: u8) -> bool
+    ensures { result ≡ bytes.is_word byte }
+{
+    byte.is_ascii_alphanumeric() || byte == b'-'
+}
+
+/// Whether the bytes are word characters.
+fn are_words(bytes: &[u8]) -> bool
+    ensures { result ≡ printed.are_words bytes.now }
+{
+    for byte in bytes {
+        if !is_word(*byte) {
+            return false;
+        }
+    }
+    true
+}
+
+/// Whether a string may stand without quotes.
+fn is_bare(text: &str) -> bool
+    ensures { result ≡ printed.is_bare text.now }
+{
+    !text.is_empty() && are_words(text.as_bytes())
+}
+
+/// Writes a string in quotes.
+pub(crate) fn push_quoted(out: &mut String, text: &str) -> Result<(), AllocError>
+    ensures { OnOk result (Writes out.old out.new (quoted_on text.now)) }
+{
+    out.push_str("\"")?;
+    out.push_str(text)?;
+    out.push_str("\"")
+}
+
+/// Writes a name or key.
+pub(crate) fn push_name(out: &mut String, text: &str) -> Result<(), AllocError>
+    ensures { OnOk result (Writes out.old out.new (name_on text.now)) }
+{
+    if is_bare(text) {
+        out.push_str(text)
+    } else {
+        push_quoted(out, text)
+    }
+}
+
+/// Begins a line.
+pub(crate) fn push_line(out: &mut String, level: usize) -> Result<(), AllocError>
+    ensures { OnOk result (Writes out.old out.new (line_on level)) }
+{
+    out.push_str("\n")?;
+    for line in 0..level {
+        out.push_str("    ")?;
+    }
+    Ok(())
+}
+
+/// Writes what follows a resource.
+pub(crate) fn push_end(out: &mut String, place: Place) -> Result<(), AllocError>
+    ensures { OnOk result (Writes out.old out.new (end_on place)) }
+{
+    match place {
+        Place::InTable => Ok(()),
+        Place::InArray => out.push_str(","),
+    }
+}
+
+/// Writes the root's type.
+pub(crate) fn push_root_type(out: &mut String, fallback: bool) -> Result<(), AllocError>
+    ensures { OnOk result (Writes out.old out.new (root_type_on fallback)) }
+{
+    if fallback {
+        Ok(())
+    } else {
+        out.push_str(":table(nofallback)")
+    }
+}
+
+/// Writes a number.
+pub(crate) fn push_number(out: &mut String, number: u32) -> Result<(), AllocError>
+    ensures { OnOk result (Writes out.old out.new (λ rest. decimal number ++ rest)) }
+{
+    write!(out, "{number}")
+}
+
+/// Writes numbers with commas.
+pub(crate) fn push_numbers(out: &mut String, numbers: &[u32]) -> Result<(), AllocError>
+    ensures { OnOk result (Writes out.old out.new (numbers_on numbers.now)) }
+{
+    let Some((first, more)) = numbers.split_first() else {
+        return Ok(());
+    };
+    push_number(out, *first)?;
+    push_more(out, more)
+}
+
+/// Writes numbers, each behind a comma.
+fn push_more(out: &mut String, numbers: &[u32]) -> Result<(), AllocError>
+    ensures { OnOk result (Writes out.old out.new (printed.more_numbers_on numbers.now)) }
+{
+    for number in numbers {
+        out.push_str(",")?;
+        push_number(out, *number)?;
+    }
+    Ok(())
+}

@@ -1,0 +1,63 @@
+//! Prints a bundle as a text: its name, its root's type and the lines of its entries.
+//! What one line is stands in `step`, what it is made of in `pieces`.
+ghost use Rattle.std.specs.Prelude.{◌≡◌, ◌⊎◌, ℕ, List, Bool, IfOk, IfErr, OnOk, None};
+ghost use Rattle.std.specs.String.{string_bytes};
+ghost use Rattle.resb_tree.specs.Bundle.{name_of, root_of};
+ghost use Rattle.resb_tree.specs.View.{entries_view};
+ghost use Rattle.resb_grammar.specs.BundleText.{BundleText};
+ghost use Rattle.resb_print.specs.Quotes.{causes_in_else, first_cause};
+ghost use Rattle.resb_print.specs.Laws.{HasNoText};
+ghost use Rattle.resb_print.specs.Printed.{IsBundleText};
+ghost use Rattle.resb_print.specs.Inner.Jobs.{ArePrinted, Refused};
+
+use crate::cause::Cause;
+use crate::error::PrintError;
+use crate::pieces::{has_quote, push_name, push_root_type};
+use crate::step::{push_entries, step};
+use resb_tree::{Resource, ResourceBundle, Table};
+use std::alloc::Global;
+
+/// Writes the entries of the root.
+fn push_lines(alloc: Global, out: &mut String, table: &Table<'_>) -> Result<(), PrintError>
+    ensures ok { OnOk result (ArePrinted out.old out.new (entries_view table.now.entries)) }
+    ensures err { IfErr result (λ e.
+        Refused e (causes_in_else (entries_view table.now.entries) None)) }
+{
+    let mut pending = Vec::new(alloc);
+    push_entries(&mut pending, 1, table)?;
+    while let Some(task) = pending.pop() {
+        step(alloc, out, &mut pending, task)?;
+    }
+    Ok(())
+}
+
+/// The text of a bundle, one entry or item a line, indented by four blanks a level up to 32 levels.
+/// Names and keys stand without quotes where they may. No text is given where none has this name,
+/// flag and tree: where the root is no table, or the name, a key or a string holds a `"`; the first
+/// of these in the order of the text is answered. Want of memory may come before any of them.
+pub fn print_text(alloc: Global, bundle: &ResourceBundle<'_>) -> Result<String, PrintError>
+    ensures text { IfOk result (λ text. (keys : List (List ℕ)) × BundleText (string_bytes text)
+        (name_of bundle.now) bundle.now.is_locale_fallback_enabled (root_of bundle.now) keys) }
+    ensures exact { IfOk result (λ text. IsBundleText (string_bytes text)
+        (name_of bundle.now) bundle.now.is_locale_fallback_enabled (root_of bundle.now)) }
+    ensures refusal { IfErr result (λ e.
+        Refused e (first_cause (name_of bundle.now) (root_of bundle.now))) }
+    ensures none { IfErr result (λ e. (e ≡ PrintError.OutOfMemory)
+        ⊎ HasNoText (name_of bundle.now) bundle.now.is_locale_fallback_enabled
+        (root_of bundle.now)) }
+{
+    let Resource::Table(table) = bundle.root() else {
+        return Err(PrintError::NotPrintable(Cause::RootIsNoTable));
+    };
+    let name = bundle.name();
+    if has_quote(name) {
+        return Err(PrintError::NotPrintable(Cause::QuoteInName));
+    }
+    let mut out = String::new(alloc);
+    push_name(&mut out, name)?;
+    push_root_type(&mut out, bundle.is_locale_fallback_enabled)?;
+    out.push_str("{")?;
+    push_lines(alloc, &mut out, table)?;
+    out.push_str("\n}\n")?;
+    Ok(out)
+}

@@ -1,0 +1,161 @@
+-- Which errors a reading at a place may answer, and what it leaves of the budget then.
+--     RefusesNumber, RefusesBool, RefusesBits, RefusesText, RefusesKey, RefusesBytes, RefusesView
+--                             for the types without parts: one kind and message, memory aside
+--     RefusesTree p left left' e
+--                             for a tree: by the first fault, or the spent budget, or memory
+--     RefusesSeq, RefusesMap  for lists and maps, from what their parts' types say
+use Rattle.std.specs.Prelude.{◌≡◌, ◌≤◌, ◌+◌, ◌-◌, ◌⊎◌, ℕ, List, ◌∷◌, ◌++◌, Some, None}
+use Rattle.resb_format.specs.Error.{IsWantOfMemory, Refusal}
+use Rattle.resb_format.specs.declared.error.ReadingError.{ReadingError}
+use Rattle.resb_walk.specs.Damage.{Says}
+use Rattle.resb_walk.specs.Meets.{Blames}
+use Rattle.resb_walk.specs.Refusals.{Refuses, TakesOne}
+use Rattle.resb_read.specs.Places.{Place}
+use Rattle.resb_read.specs.Reading.{LacksOrMemory}
+use Rattle.resb_read.specs.Others.{cost_at, view_refusal}
+use Rattle.resb_read.specs.Refused.{number_refusal, bool_refusal, bits_refusal, text_refusal}
+use Rattle.resb_read.specs.Refused.{key_refusal, bytes_refusal, members_refusal, entries_refusal}
+use Rattle.resb_read.specs.Resources.{DenPlace, ReachesPlace, MeetsPlace}
+use Rattle.resb_read.specs.Sequences.{items, entries, CountsEach, CountsPairs}
+use Rattle.resb_read.specs.declared.cursor.Spot.{Spot}
+use Rattle.resb_read.specs.declared.cursor.Spot.TheVariants as spot
+
+-- a refusal takes one at a descriptor or a unit, if one is left, and nothing elsewhere
+abbrev pub Takes : Spot → ℕ → ℕ → Type 0
+Takes s left left' = left' ≡ left - cost_at s
+
+-- this kind and message, and what is taken
+abbrev pub RefusesAs : (Place → ℕ → Refusal) → Place → ℕ → ℕ → ReadingError → Type 0
+RefusesAs refusal p left left' e = Says (refusal p left) e × Takes p.at left left'
+
+-- no number, or one that doesn't fit
+abbrev pub RefusesNumber : Place → ℕ → ℕ → ReadingError → Type 0
+RefusesNumber = RefusesAs (λ p left. number_refusal p.at left)
+
+-- no Int that is 0 or 1
+abbrev pub RefusesBool : Place → ℕ → ℕ → ReadingError → Type 0
+RefusesBool = RefusesAs (λ p left. bool_refusal p.at left)
+
+-- no Int
+abbrev pub RefusesBits : Place → ℕ → ℕ → ReadingError → Type 0
+RefusesBits = RefusesAs (λ p left. bits_refusal p.at left)
+
+-- no key
+abbrev pub RefusesKey : Place → ℕ → ℕ → ReadingError → Type 0
+RefusesKey = RefusesAs key_refusal
+
+-- no bytes
+abbrev pub RefusesBytes : Place → ℕ → ℕ → ReadingError → Type 0
+RefusesBytes = RefusesAs bytes_refusal
+
+-- no bytes, or no whole items
+abbrev pub RefusesView : Place → ℕ → ℕ → ReadingError → Type 0
+RefusesView = RefusesAs view_refusal
+
+-- no text, or memory for it is wanted
+abbrev pub RefusesText : Place → ℕ → ℕ → ReadingError → Type 0
+RefusesText p left left' e =
+    (IsWantOfMemory e ⊎ Says (text_refusal p left) e) × Takes p.at left left'
+
+-- memory aside, a refusal for another reason than the spent budget has taken at least one at a
+-- descriptor or a unit
+abbrev pub TakesSome : Spot → ℕ → ℕ → ReadingError → Type 0
+TakesSome (spot.Descriptor w) left left' e = TakesOne left left' e
+TakesSome (spot.Unit u) left left' e = TakesOne left left' e
+TakesSome (spot.Word w) left left' e = Unit {0}
+TakesSome (spot.Key k) left left' e = Unit {0}
+
+-- no tree within the budget
+abbrev pub RefusesTree : Place → ℕ → ℕ → ReadingError → Type 0
+RefusesTree p left left' e =
+    Refuses (DenPlace p) (ReachesPlace p) left e × Blames (MeetsPlace p) e
+    × TakesSome p.at left left' e
+
+-- no members
+abbrev pub RefusesMembers : Place → ℕ → ℕ → ReadingError → Type 0
+RefusesMembers = RefusesAs (λ p left. members_refusal p.at left)
+
+-- no entries
+abbrev pub RefusesEntries : Place → ℕ → ℕ → ReadingError → Type 0
+RefusesEntries = RefusesAs (λ p left. entries_refusal p.at left)
+
+-- what is refused at a place by a type, whose counts are known
+abbrev pub RefusesThere : (Place → ℕ → Type 0) → (Place → ℕ → ℕ → ReadingError → Type 0) → Place → ℕ
+    → ℕ → ReadingError → Type 0
+RefusesThere counts refuses p left left' e =
+    (left' ≤ left) × LacksOrMemory (counts p) left e × refuses p left left' e
+
+module _ (counts : Place → ℕ → Type 0) (refuses : Place → ℕ → ℕ → ReadingError → Type 0) where
+  -- a place is refused with what those before it leave
+  pub record RefusesOne (places : List Place) (left left' : ℕ) (e : ReadingError) : Type 0 where
+    pub done : List Place
+    pub at : Place
+    pub after : List Place
+    pub spent : ℕ
+    pub here : ℕ
+    pub are : places ≡ done ++ at ∷ after
+    pub counted : CountsEach counts done spent
+    pub paid : here + spent ≡ left
+    pub refused : RefusesThere counts refuses at here left' e
+
+  -- of the places one is refused, or memory for the values is wanted
+  abbrev pub RefusesEach : List Place → ℕ → ℕ → ReadingError → Type 0
+  RefusesEach places left left' e = IsWantOfMemory e ⊎ RefusesOne places left left' e
+
+  -- there are members, one is paid for the sequence, and one of them is refused
+  pub record RefusesMember (p : Place) (left left' : ℕ) (e : ReadingError) : Type 0 where
+    pub places : List Place
+    pub inside : ℕ
+    pub are : items p ≡ Some places
+    pub paid : inside + 1 ≡ left
+    pub refused : RefusesEach places inside left' e
+
+  -- no members, or the budget is spent; or one of them is refused
+  abbrev pub RefusesSeq : Place → ℕ → ℕ → ReadingError → Type 0
+  RefusesSeq p left left' e =
+      ((items p ≡ None ⊎ left ≡ 0) × RefusesMembers p left left' e) ⊎ RefusesMember p left left' e
+
+module _ (ck : Place → ℕ → Type 0) (fk : Place → ℕ → ℕ → ReadingError → Type 0)
+    (cv : Place → ℕ → Type 0) (fv : Place → ℕ → ℕ → ReadingError → Type 0) where
+  -- the key has its count, and the value is refused with what the key leaves
+  pub record RefusesValue (p : Place × Place) (left left' : ℕ) (e : ReadingError) : Type 0 where
+    pub spent : ℕ
+    pub here : ℕ
+    pub counted : ck p.0 spent
+    pub paid : here + spent ≡ left
+    pub refused : RefusesThere cv fv p.1 here left' e
+
+  -- the key is refused, before the value is looked at; or else the value
+  abbrev pub RefusesPair : Place × Place → ℕ → ℕ → ReadingError → Type 0
+  RefusesPair p left left' e =
+      RefusesThere ck fk p.0 left left' e ⊎ RefusesValue p left left' e
+
+  -- an entry is refused with what those before it leave
+  pub record RefusesOneEntry (places : List (Place × Place)) (left left' : ℕ) (e : ReadingError)
+      : Type 0 where
+    pub done : List (Place × Place)
+    pub at : Place × Place
+    pub after : List (Place × Place)
+    pub spent : ℕ
+    pub here : ℕ
+    pub are : places ≡ done ++ at ∷ after
+    pub counted : CountsPairs ck cv done spent
+    pub paid : here + spent ≡ left
+    pub refused : RefusesPair at here left' e
+
+  -- of the entries one is refused, or memory for the map is wanted
+  abbrev pub RefusesPairs : List (Place × Place) → ℕ → ℕ → ReadingError → Type 0
+  RefusesPairs places left left' e = IsWantOfMemory e ⊎ RefusesOneEntry places left left' e
+
+  -- there are entries, one is paid for the table, and one of them is refused
+  pub record RefusesEntry (p : Place) (left left' : ℕ) (e : ReadingError) : Type 0 where
+    pub places : List (Place × Place)
+    pub inside : ℕ
+    pub are : entries p ≡ Some places
+    pub paid : inside + 1 ≡ left
+    pub refused : RefusesPairs places inside left' e
+
+  -- no entries, or the budget is spent; or one of them is refused
+  abbrev pub RefusesMap : Place → ℕ → ℕ → ReadingError → Type 0
+  RefusesMap p left left' e =
+      ((entries p ≡ None ⊎ left ≡ 0) × RefusesEntries p left left' e) ⊎ RefusesEntry p left left' e

@@ -1,0 +1,8 @@
+use Rattle.std.proofs.Common.{◌-◌, ◌≤◌, length}
+use Rattle.resb_shared.proofs.tails.text_end.Given as goal
+
+abbrev pub invariant-faults : goal.invariant-faults
+invariant-faults l = l.before ≤ length l.bytes
+
+abbrev pub decreases-faults : goal.decreases-faults
+decreases-faults l = length l.bytes - l.before

@@ -1,0 +1,12 @@
+-- The blocks of which something is known.
+use Rattle.std.specs.Prelude.{ℕ, List}
+use Rattle.resb_shared.specs.declared.breaks.Breaks.{Breaks}
+use Rattle.resb_shared.specs.declared.tails.LongTails.{LongTails}
+
+-- the block whose breaks these are
+abbrev pub breaks_block : Breaks → List ℕ
+breaks_block b = b.block.now
+
+-- the key block whose tails these are
+abbrev pub tails_keys : LongTails → List ℕ
+tails_keys t = t.keys.now

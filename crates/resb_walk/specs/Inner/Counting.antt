@@ -1,0 +1,110 @@
+-- Collections whose members are counted, and those that wait until a member is.
+--     IsOpen p o w n          o is to come of the collection at the word w, and what was before
+--                             denotes n resources
+--     Awaits p o w x n        the same, where the member x stands before o
+--     Rests p w k o           o is the last k members of the collection at the word w
+use Rattle.std.specs.Prelude.{ℕ, List, [], ◌∷◌, ◌++◌, ◌≡◌, ◌+◌, ◌-◌, ◌≤◌, ◌⊎◌, length, drop, Some}
+use Rattle.std.specs.Prelude.{None}
+use Rattle.std.specs.Prelude.{Option, Result, Ok, Err}
+use Rattle.resb_tree.specs.Tree.{Tree}
+use Rattle.resb_format.specs.Content.{Member, word, leaf, list, pairs, content}
+use Rattle.resb_format.specs.Denotes.{Den, DenMember, Reaches, ReachesMember}
+use Rattle.resb_format.specs.Error.{IsWantOfMemory}
+use Rattle.resb_format.specs.Parts.{Parts}
+use Rattle.resb_format.specs.declared.error.ReadingError.{ReadingError}
+use Rattle.resb_format.specs.Strings.{text_at, key_at}
+use Rattle.resb_walk.specs.Damage.{Says, text_damage, key_damage}
+use Rattle.resb_walk.specs.Inner.Frames.{OpenedList, OpenedTable, ListWaits, TableWaits}
+use Rattle.resb_walk.specs.Inner.MemberContent.{member_content, member_damage}
+use Rattle.resb_walk.specs.Inner.Members.{member_of, members_of, keyed_members, rest_length}
+use Rattle.resb_walk.specs.Refusals.{IsFault, DenotesNothing, Refuses}
+use Rattle.resb_walk.specs.declared.count.Inner.{Inner}
+use Rattle.resb_walk.specs.declared.count.Outer.{Outer}
+use Rattle.resb_walk.specs.declared.file.Member.{Member as Stood}
+use Rattle.resb_walk.specs.declared.file.Rest.{Rest}
+use Rattle.resb_walk.specs.declared.file.Rest.TheVariants as rest
+
+-- nothing is made of members or entries
+abbrev pub no_list : ℕ → List Tree → Type 0
+no_list _ _ = Unit {0}
+
+abbrev pub no_table : ℕ → List (List ℕ × Tree) → Type 0
+no_table _ _ = Unit {0}
+
+-- some key stands there, or the fault of it is said
+abbrev pub LooksKey : {A : Type 0} → List ℕ → ℕ → Result A ReadingError → Type 0
+LooksKey keys k (Ok _) = (key : List ℕ) × (key_at keys k ≡ Some key)
+LooksKey keys k (Err e) =
+    IsWantOfMemory e ⊎ ((key_at keys k ≡ None) × IsFault e × Says (key_damage keys k) e)
+
+-- some text stands there, or the fault of it is said
+abbrev pub LooksText : {A : Type 0} → List ℕ → ℕ → Result A ReadingError → Type 0
+LooksText block u (Ok _) = (text : List ℕ) × (text_at block u ≡ Some text)
+LooksText block u (Err e) =
+    IsWantOfMemory e ⊎ ((text_at block u ≡ None) × IsFault e × Says (text_damage block u) e)
+
+-- the collection waits, by its word and by how many members are still to come
+abbrev pub Keeps : Inner → Outer → Type 0
+Keeps i c = (c.word ≡ i.word) × (c.left ≡ rest_length i.rest)
+
+module _ (p : Parts) where
+  -- what is still to come stands at the end of the collection, and what was before is denoted
+  abbrev pub IsOpen : Rest → ℕ → ℕ → Type 0
+  IsOpen (rest.List ms) w n = OpenedList no_list no_table p ms 0 w n
+  IsOpen (rest.Table es) w n = OpenedTable no_list no_table p es 0 w n
+
+  -- the same, with one member between that is being counted
+  abbrev pub Awaits : Rest → ℕ → Member → ℕ → Type 0
+  Awaits (rest.List ms) w x n = ListWaits no_list no_table p ms 0 w x n
+  Awaits (rest.Table es) w x n =
+      (key : List ℕ) × TableWaits no_list no_table p es 0 key w x n
+
+  -- the last k members of the collection
+  abbrev pub Rests : ℕ → ℕ → Rest → Type 0
+  Rests w k (rest.List r) =
+      (ms : List Member) × (content p w ≡ Some (list ms))
+      × (members_of r ≡ drop (length ms - k) ms)
+  Rests w k (rest.Table r) =
+      (es : List (ℕ × Member)) × (content p w ≡ Some (pairs es))
+      × (keyed_members r ≡ drop (length es - k) es)
+
+  -- a collection of at least k members stands there
+  abbrev pub HasLast : ℕ → ℕ → Type 0
+  HasLast w k =
+      ((ms : List Member) × (content p w ≡ Some (list ms)) × (k ≤ length ms))
+      ⊎ ((es : List (ℕ × Member)) × (content p w ≡ Some (pairs es)) × (k ≤ length es))
+
+  -- what stands at a member: a leaf, or the members of a collection
+  abbrev pub Looks : Member → Result (Option Rest) ReadingError → Type 0
+  Looks m (Ok None) = (t : Tree) × (member_content p m ≡ Some (leaf t))
+  Looks m (Ok (Some (rest.List r))) = member_content p m ≡ Some (list (members_of r))
+  Looks m (Ok (Some (rest.Table r))) = member_content p m ≡ Some (pairs (keyed_members r))
+  Looks m (Err e) =
+      IsWantOfMemory e
+      ⊎ ((member_content p m ≡ None) × IsFault e × Says (member_damage p m) e)
+
+  -- a member is paid for; one with members of its own has all of them to come
+  abbrev pub Enters : Member → ℕ → ℕ → Result (Option Inner) ReadingError → Type 0
+  Enters m left left' (Ok None) = (t : Tree) × DenMember p m t 1 × (left' + 1 ≡ left)
+  Enters m left left' (Ok (Some i)) =
+      (m ≡ word i.word) × IsOpen i.rest i.word 0 × (left' + 1 ≡ left)
+  Enters m left left' (Err e) = (left' ≤ left) × Refuses (DenMember p m) (ReachesMember p m) left e
+
+  -- the next member of a collection, of which n resources are counted
+  abbrev pub Takes : ℕ → ℕ → Result (Option (Stood × Rest)) ReadingError → Type 0
+  Takes w n (Ok None) = (t : Tree) × Den p w t (1 + n)
+  Takes w n (Ok (Some r)) = Awaits r.1 w (member_of r.0) n
+  Takes w n (Err e) =
+      IsWantOfMemory e
+      ⊎ (IsFault e × ((k : ℕ) → DenotesNothing (Den p w) (Reaches p w) (k + (1 + n))))
+
+  -- a member is paid for: it is counted, or its members are counted next
+  abbrev pub Entered : Inner → Member → ℕ → List Outer → List Outer → ℕ → ℕ
+      → Result Inner ReadingError → Type 0
+  Entered i m n cs cs' left left' (Ok j) =
+      (left' + 1 ≡ left)
+      × ((cs' ≡ cs) × (j.word ≡ i.word) × IsOpen j.rest j.word (n + 1)
+      ⊎ (c : Outer) × Keeps i c × (cs' ≡ cs ++ c ∷ []) × (m ≡ word j.word)
+      × IsOpen j.rest j.word 0)
+  Entered i m n cs cs' left left' (Err e) =
+      (left' ≤ left) × Refuses (DenMember p m) (ReachesMember p m) left e

@@ -1,0 +1,55 @@
+//! Where the units of strings stand in the 16-bit block, as far as a few units show.
+//! Whether they are texts is found in `standing` and `checker`.
+ghost use Rattle.std.specs.Prelude.{◌≡◌, ◌+◌, ◌≤◌, IfSome, Some, length, take, drop};
+ghost use Rattle.resb_format.specs.Bytes.{units_of};
+ghost use Rattle.resb_format.specs.Content as at;
+ghost use Rattle.resb_format.specs.Parts.{Parts};
+ghost use Rattle.resb_format.specs.Strings.{string_at};
+ghost use Rattle.resb_walk.specs.Damage.{text_damage};
+ghost use Rattle.resb_walk.specs.Inner.MemberContent.{member_content, member_damage};
+ghost use Rattle.resb_walk.specs.Inner.Members.{member_of};
+
+use crate::file::Member;
+use crate::types::readable;
+use resb_format::ResourceReprType;
+use resb_format::bytes::unit_at;
+
+/// Where the units of the string at a unit begin, and how many there are, where it has a marker.
+pub fn marked(block: &[u8], unit: usize) -> Option<(usize, usize)>
+    ensures { let us = units_of block.now in IfSome result (λ r. r.0 + r.1 ≤ length us
+        → string_at us unit ≡ Some (take r.1 (drop r.0 us))) }
+{
+    let units = block.len() / 2;
+    if unit >= units || units - unit < 4 {
+        return None;
+    }
+    let first = usize::from(unit_at(block, unit));
+    if first < 0xdc00 || first > 0xdfff {
+        return None;
+    }
+    if first <= 0xdfee {
+        return Some((unit + 1, first - 0xdc00));
+    }
+    let second = usize::from(unit_at(block, unit + 1));
+    if first <= 0xdffe {
+        return Some((unit + 2, (first - 0xdfef) * 0x1_0000 + second));
+    }
+    let third = usize::from(unit_at(block, unit + 2));
+    Some((unit + 3, second * 0x1_0000 + third))
+}
+
+/// The unit of the 16-bit block to which a member leads, if that is what it does.
+#[tactic(auto, unfolding(resb_format::specs::Content::content))]
+#[inline(always)]
+pub fn string_unit(member: Member) -> Option<usize>
+    ensures { let m = member_of member in IfSome result (λ u. (p : Parts)
+        → (member_content p m ≡ at.text_leaf p u) × (member_damage p m ≡ text_damage p.block u)) }
+{
+    match member {
+        Member::Unit(unit) => Some(usize::from(unit)),
+        Member::Word(word) => match readable(word) {
+            Ok((ResourceReprType::StringV2, value)) if value != 0 => Some(value as usize),
+            _ => None,
+        },
+    }
+}

@@ -1,0 +1,47 @@
+-- The tail of a written file is the bodies of its tree, one right behind another.
+use Rattle.std.proofs.Common.{◌≡◌, ℕ, ◌+◌, ◌*◌, ◌%◌, List, [], ◌++◌, length, drop, sym, ap, ◌∙◌}
+use Rattle.std.proofs.Common.{subst, arith}
+use Rattle.std.proofs.lemmas.List.{drop-drop}
+use Rattle.std.proofs.Math.Seq.{drop-append_seam}
+use Rattle.resb_tree.specs.WalkOrder.{walk}
+use Rattle.resb_format.specs.Parts.{body_of, block_end}
+use Rattle.resb_layout.specs.Laid.{Laid, Given, here, halves}
+use Rattle.resb_layout.specs.InOrder.{FillsTail}
+use Rattle.resb_layout.proofs.Numbers.{halves_len}
+use Rattle.resb_layout.proofs.InOrderLemmas.{laid_in_order}
+use Rattle.resb_write.specs.KeyBlock.{key_block, key_position, keys_start}
+use Rattle.resb_write.specs.Written.{even, tail_start}
+use Rattle.resb_write.specs.Laws.{WrittenInOrder}
+
+-- what stands behind two parts
+drop_two : (n : ℕ) (xs a b c : List ℕ) → drop n xs ≡ a ++ (b ++ c)
+    → drop (n + length a + length b) xs ≡ c
+drop_two n xs a b c e =
+    let sum : n + length a + length b ≡ n + (length a + length b) = omega arith in
+    ap (λ k. drop k xs) sum ∙ sym (drop-drop (length a + length b) n xs)
+    ∙ ap (drop (length a + length b)) e ∙ sym (drop-drop (length b) (length a) (a ++ (b ++ c)))
+    ∙ ap (drop (length b)) (drop-append_seam a (b ++ c)) ∙ drop-append_seam b c
+
+pub written_in_order : WrittenInOrder
+written_in_order bytes t f ks w =
+    let b = w.blocks in
+    let keys = key_block t ks in
+    let base = tail_start keys b.laid in
+    let g : Given = record { position = key_position t ks; offset = b.offset; base = base } in
+    let s : Laid = record { units = b.pool; tail = [] } in
+    let ends : 4 * block_end bytes ≡ base = w.block_end in
+    let begins : here g s ≡ 4 * block_end bytes = omega (arith, ends) in
+    let word : here g s % 4 ≡ 0 = omega (arith, begins) in
+    let h = laid_in_order g s b.laid t b.root word b.lays in
+    let long : base ≡ keys_start + length keys + length (halves (even b.laid.units)) =
+    omega (arith, halves_len (even b.laid.units)) in
+    let behind : drop (4 * block_end bytes) (body_of bytes) ≡ b.laid.tail =
+    ap (λ n. drop n (body_of bytes)) (ends ∙ long)
+    ∙ drop_two keys_start (body_of bytes) keys (halves (even b.laid.units)) b.laid.tail w.body in
+    record {
+      tail = subst (λ n. FillsTail n (walk t) (drop (4 * block_end bytes) (body_of bytes))) begins
+          (subst (λ bs. FillsTail (here g s) (walk t) bs) (sym (behind ∙ h.bytes_are)) h.tail);
+      short = h.units;
+      units = h.units_are;
+      block = h.block;
+    }

@@ -1,0 +1,168 @@
+#!/usr/bin/env python3
+"""The page of signatures, docs/SIGNATURES.md: every public call of `resb`, a line each, with the
+first sentence of its documentation. It is made from the sources.
+
+  signatures.py           writes the page
+  signatures.py --check   status 1 where the page isn't what would be written
+"""
+import pathlib
+import re
+import sys
+
+TOP = pathlib.Path(__file__).resolve().parent.parent
+CRATES = TOP / "crates"
+PAGE = TOP / "docs" / "SIGNATURES.md"
+HEAD = """# Every public call of `resb`
+
+This page is made from the sources by `tests/signatures.py`, and `./test` compares the two. Each line has a call, without its contract, and the first sentence of its documentation; the contract stands with the call. `resb::laws` isn't listed here: it has a sentence for each law itself.
+"""
+
+
+def sources():
+    """The files of the library's crates, by crate."""
+    for line in (TOP / "crates.txt").read_text().split("\n"):
+        name = line.split(":")[0]
+        if name in LIBRARIES:
+            for path in sorted((CRATES / name / "src").rglob("*.rt")):
+                yield name, path
+
+
+LIBRARIES = ["resb_tree", "resb_grammar", "resb_text", "resb_format", "resb_head", "resb_pool",
+             "resb_print", "resb_walk", "resb_read", "resb_write"]
+
+
+def exports(path, crate="resb"):
+    """The names that a module of `resb` passes on, in their order, each with its crate."""
+    text = path.read_text(encoding="utf8")
+    for found in re.finditer(r"^pub use (\w+)(?:::(\w+))?(?:::(\{[^}]*\}|\w+));", text, re.M):
+        source, _, names = found.groups()
+        for name in re.findall(r"\w+", names):
+            yield source, name
+
+
+def sentence(lines, at):
+    """The first sentence of the documentation above a line."""
+    said = []
+    at -= 1
+    while at >= 0 and (lines[at].strip().startswith("///") or lines[at].strip().startswith("#[")):
+        if lines[at].strip().startswith("///"):
+            said.insert(0, lines[at].strip()[3:].strip())
+        at -= 1
+    whole = " ".join(said)
+    return re.split(r"(?<=\.)\s+(?=[A-Z`])", whole)[0] if whole else ""
+
+
+def signature(lines, at):
+    """A call's signature on one line, without its clauses."""
+    text = ""
+    for line in lines[at:]:
+        stripped = line.strip()
+        if re.match(r"^(ensures|requires|\{|//)", stripped):
+            break
+        text += " " + stripped
+        if stripped.endswith(("{", ";")):
+            text = text.rstrip("{; ")
+            break
+    text = re.sub(r"\s+", " ", text).strip()
+    text = text.replace("( ", "(").replace(", )", ")").replace("pub fn ", "fn ")
+    return text
+
+
+class Library:
+    """Where each public name of the library's crates stands."""
+
+    def __init__(self):
+        self.items, self.methods, self.traits = {}, {}, {}
+        for crate, path in sources():
+            self.read(path)
+
+    def read(self, path):
+        lines = path.read_text(encoding="utf8").split("\n")
+        around, is_trait = "", False
+        for at, line in enumerate(lines):
+            found = re.match(r"^(?:pub )?(impl|trait)\b(.*)", line)
+            if found:
+                inherent = re.match(r"^impl(?:<[^>]*>)? (\w+)(?:<[^{]*>)? ", line)
+                trait = re.match(r"^pub trait (\w+)", line)
+                around = (trait or inherent).group(1) if trait or (
+                    inherent and " for " not in line) else ""
+                is_trait = bool(trait)
+                given = re.match(r"^impl(?:<.*?>)? ([A-Z]\w*(?:<.*>)?) for (\w+)", line)
+                if given:
+                    name = given.group(2)
+                    self.traits.setdefault(name, []).append((given.group(1), lines, at))
+            elif line.startswith("}"):
+                around = ""
+            item = re.match(r"^pub (fn|struct|enum|trait|const|type) (\w+)", line)
+            if item:
+                self.items.setdefault(item.group(2), (item.group(1), lines, at))
+            method = re.match(r"^    (pub )?(?:const )?fn (\w+)", line)
+            if method and around and (method.group(1) or is_trait):
+                self.methods.setdefault(around, []).append((method.group(2), lines, at))
+
+
+def rows_of(library, name):
+    """The lines of the page for a name: itself, and its calls."""
+    if name not in library.items:
+        return []
+    kind, lines, at = library.items[name]
+    if kind == "fn":
+        return [(signature(lines, at), sentence(lines, at))]
+    rows = [(f"{kind} {name}", sentence(lines, at))]
+    for _, lines, at in library.methods.get(name, []):
+        rows.append((f"{name}: " + signature(lines, at), sentence(lines, at)))
+    traits = [trait for trait, _, _ in library.traits.get(name, [])
+              if not trait.startswith(("Drop", "Error", "MadeWith", "Model"))]
+    if traits:
+        rows.append((f"{name}: " + ", ".join(dict.fromkeys(traits)), "The traits that it has."))
+    return rows
+
+
+def section(library, title, path):
+    text = path.read_text(encoding="utf8")
+    lines = text.split("\n")
+    rows, seen = [], set()
+    for at, line in enumerate(lines):
+        if re.match(r"^pub fn", line):
+            rows.append((signature(lines, at), sentence(lines, at)))
+        found = re.match(r"^pub (struct|enum) (\w+)", line)
+        if found:
+            rows.append((found.group(1) + " " + found.group(2), sentence(lines, at)))
+    for _, name in exports(path):
+        if name not in seen and "laws" not in path.name:
+            seen.add(name)
+            rows += rows_of(library, name)
+    if not rows:
+        return ""
+    out = [f"\n## {title}\n", "| Call | What it does |", "|---|---|"]
+    for call, said in rows:
+        out.append("| `" + call.replace("|", "\\|") + "` | " + said.replace("|", "\\|") + " |")
+    return "\n".join(out) + "\n"
+
+
+def page():
+    library = Library()
+    text = HEAD
+    top = CRATES / "resb" / "src"
+    modules = [("`resb`", top / "compiling.rt"), ("`resb::headline`", top / "headline.rt"),
+               ("`resb::bundle`", top / "bundle.rt"), ("`resb::text`", top / "text.rt"),
+               ("`resb::binary`", top / "binary.rt")]
+    modules += [(f"`resb::binary::{path.stem}`", path)
+                for path in sorted((top / "binary").glob("*.rt"))]
+    for title, path in modules:
+        text += section(library, title, path)
+    return text
+
+
+def main():
+    if sys.argv[1:] == ["--check"]:
+        if PAGE.read_text(encoding="utf8") != page():
+            print("docs/SIGNATURES.md isn't what tests/signatures.py writes", file=sys.stderr)
+            return 1
+        return 0
+    PAGE.write_text(page(), encoding="utf8")
+    return 0
+
+
+if __name__ == "__main__":
+    sys.exit(main())

@@ -1,0 +1,351 @@
+#!/usr/bin/env python3
+"""Tries each wrong body, and says for which goal it is refused.
+
+    wrong_bodies.py [--jobs N] [--logs FOLDER] [CRATE | CRATE/EDIT]..
+
+A wrong body is a file crates/CRATE/must-fail/EDIT.edit. Each is applied to a copy of the repository
+in a temporary folder, never in place, and the copy takes over what out/ keeps, so that little more
+than the changed function is proved. First each crate is checked as it stands. N checks run side by
+side (1 if left out); --logs keeps what each of them printed.
+
+A line for each wrong body has the crate, the edit, the kind of the goal, the goal, and how it was
+refused. The kinds:
+
+    contract   what the changed function promises
+    caller     what a called function asks for, or a goal of a function that calls the changed one
+    invariant  of a loop, a recursion or a type
+    safety     an index in range, a number that fits, a place that isn't reached
+    name       nothing but a proof file that names what the edit took away, or that isn't there
+
+How: 'false' (the check found values at which the goal is false), 'open' (no tactic proves it),
+'answer' (its answer in proofs/ proves another statement, and where the two differ).
+An edit of the kind 'name' shows nothing, since a right body written in another way would be refused
+with the same words. It fails, and so does an edit that is not refused or can't be applied. Where an
+edit has lines 'same: TEXT' below its 'new:' lines, these texts are such a right body, which has to
+be proved. The last line is 'N passed, M failed'.
+"""
+import argparse
+import concurrent.futures
+import os
+import queue
+import re
+import shutil
+import subprocess
+import sys
+import tempfile
+
+ROOT = os.path.dirname(os.path.dirname(os.path.abspath(__file__)))
+PARTS = ('src', 'specs', 'proofs')
+SAFETY = re.compile(r'(overflow|nonzero|bounds|slice_bounds|offset_bounds)_|(bounds|slice_bounds|'
+                    r'offset_bounds)-|.*(unreachable|prove)-requires')
+INVARIANT = re.compile(r'.*-(init|preserved|smaller)(-|$)|invariant_of-|(invariant|decreases)-')
+MISSING = re.compile(r'has no field|is not in scope|has no `|was not admitted|is no name|no goal|'
+                     r'cannot find|unknown name')
+OPEN = re.compile(r'^note: src/\S+: it is not proved .*?\(`([^`]+)`\)')
+REFUSED = re.compile(r'^fn (\S+): ((?:no proof|not proved|could not tell|depends on).*)$')
+AT_ANSWER = re.compile(r'^(?:\./)?(proofs/\S+?)/(?:Answers|Invariants|Proof)\.antt:\d+:\d+: error: '
+                       r'(?:(`[^`]*`): )?(.*)$')
+
+
+def libraries():
+    """The repository's crates that each crate stands on, by crates.txt."""
+    below = {}
+    with open(f'{ROOT}/crates.txt', encoding='utf-8') as lines:
+        for line in lines:
+            name, colon, needs = line.partition('#')[0].partition(':')
+            if colon:
+                below[name.split()[0]] = needs.split()
+    return {name: [it for it in needs if it in below] for name, needs in below.items()}
+
+
+def all_below(name, below):
+    """A crate's libraries and theirs."""
+    found = set()
+    for it in below[name]:
+        found |= {it} | all_below(it, below)
+    return found
+
+
+class Edit:
+    """A wrong body: a text of a file of src/, and what stands in its place."""
+
+    def __init__(self, crate, path):
+        self.crate, self.path = crate, path
+        self.name = os.path.basename(path).removesuffix('.edit')
+        self.steps, self.same = [], False
+        file = old = None
+        with open(path, encoding='utf-8') as lines:
+            for line in lines.read().split('\n'):
+                word, _, text = line.partition(': ')
+                if word == 'file':
+                    file = text.strip()
+                elif word == 'old':
+                    old = text
+                elif line.startswith('new:'):
+                    self.steps.append([file, old, text, text])
+                elif word == 'same':
+                    self.steps[-1][3] = text
+                    self.same = True
+
+    def texts(self, right=False):
+        """The files' texts with the wrong body, or with the right one written otherwise."""
+        texts = {}
+        for file, old, new, same in self.steps:
+            if file not in texts:
+                with open(f'{ROOT}/crates/{self.crate}/{file}', encoding='utf-8') as it:
+                    texts[file] = it.read()
+            if texts[file].count(old) != 1:
+                raise ValueError(f"'old:' stands in {file} {texts[file].count(old)} times")
+            texts[file] = texts[file].replace(old, same if right else new)
+        return texts
+
+    def modules(self):
+        """The modules of the changed files, or none where one is the crate's root."""
+        inner = [file.removeprefix('src/').removesuffix('.rt') for file, *_ in self.steps]
+        if any(it in ('lib', 'main') for it in inner):
+            return []
+        return sorted({it.replace('/', '::') for it in inner})
+
+    def functions(self):
+        """The names of the functions that the edit changes."""
+        found = set()
+        for file, old, *_ in self.steps:
+            with open(f'{ROOT}/crates/{self.crate}/{file}', encoding='utf-8') as it:
+                before = it.read().split(old)[0]
+            names = re.findall(r'\bfn (\w+)', before)
+            if names and before.count('{') > before.count('}'):
+                found.add(names[-1])
+        return found
+
+    def helpers(self):
+        """The names of the functions that the edit adds."""
+        found = set()
+        for file, _, new, _ in self.steps:
+            with open(f'{ROOT}/crates/{self.crate}/{file}', encoding='utf-8') as it:
+                stands = set(re.findall(r'\bfn (\w+)', it.read()))
+            found |= set(re.findall(r'\bfn (\w+)', new)) - stands
+        return found
+
+
+class Room:
+    """A copy of the repository in which one check at a time is made."""
+
+    def __init__(self, folder, below):
+        self.folder, self.below, self.made = folder, below, set()
+        os.makedirs(f'{folder}/crates')
+        for name in ('crates.txt', 'HANDLES'):
+            shutil.copy2(f'{ROOT}/{name}', folder)
+        for name in below:
+            for part in PARTS:
+                copy(f'crates/{name}/{part}', folder)
+
+    def hold(self, crate):
+        """Has the crate with its kept proofs, and its libraries as they are built."""
+        for name in all_below(crate, self.below) - self.made:
+            copy(f'crates/{name}/out/rlib', self.folder)
+            self.made.add(name)
+        for part in PARTS:
+            restore(f'{ROOT}/crates/{crate}/{part}', f'{self.folder}/crates/{crate}/{part}')
+        kept = f'crates/{crate}/out/incremental'
+        restore(f'{ROOT}/{kept}', f'{self.folder}/{kept}')
+
+    def check(self, crate, texts, modules):
+        """What a check of the crate prints with these texts, and whether it is proved."""
+        self.hold(crate)
+        for file, text in texts.items():
+            with open(f'{self.folder}/crates/{crate}/{file}', 'w', encoding='utf-8') as it:
+                it.write(text)
+        words = ['rt', 'check', '--jobs', '1', '--allow-holes']
+        for it in modules:
+            words += ['--only', it]
+        ran = subprocess.run(words, cwd=f'{self.folder}/crates/{crate}', text=True,
+                             stdin=subprocess.DEVNULL, stdout=subprocess.PIPE,
+                             stderr=subprocess.STDOUT, errors='replace', check=False)
+        # the crates above are checked over this one as it stands
+        for part in PARTS:
+            restore(f'{ROOT}/crates/{crate}/{part}', f'{self.folder}/crates/{crate}/{part}')
+        return ran.stdout, ran.returncode == 0
+
+
+def copy(part, to):
+    """Copies a folder of the repository, if it stands there."""
+    if os.path.isdir(f'{ROOT}/{part}'):
+        shutil.copytree(f'{ROOT}/{part}', f'{to}/{part}', dirs_exist_ok=True)
+
+
+def restore(source, copied):
+    """Makes a folder what its source is, and copies no file that is the same already."""
+    wanted = {}
+    for at, _, files in os.walk(source):
+        for name in files:
+            path = os.path.join(at, name)
+            wanted[os.path.relpath(path, source)] = path
+    for at, _, files in os.walk(copied):
+        for name in files:
+            if os.path.relpath(os.path.join(at, name), copied) not in wanted:
+                os.remove(os.path.join(at, name))
+    for name, path in wanted.items():
+        to, told = os.path.join(copied, name), os.stat(path)
+        if os.path.isfile(to):
+            has = os.stat(to)
+            if (has.st_size, has.st_mtime_ns) == (told.st_size, told.st_mtime_ns):
+                continue
+        os.makedirs(os.path.dirname(to), exist_ok=True)
+        shutil.copy2(path, to)
+
+
+def kind_of(goal, path, changed):
+    """What a goal of a function is about."""
+    if SAFETY.match(goal):
+        return 'safety'
+    if INVARIANT.match(goal):
+        return 'invariant'
+    is_own = not changed or path.split('::')[-1] in changed
+    return 'contract' if is_own and goal.startswith('returns') else 'caller'
+
+
+class Refusal:
+    """What a check that isn't proved says: which goals are open, and which answers don't fit."""
+
+    def __init__(self, said):
+        self.false, self.open, self.answers, self.missing = {}, {}, {}, {}
+        pending = {}
+        for line in said.split('\n'):
+            note, refused, answer = OPEN.match(line), REFUSED.match(line), AT_ANSWER.match(line)
+            if note:
+                pending[note[1]] = 'allow values at which' in line
+            elif answer:
+                self.add_answer(answer[1], (answer[2] or '?').strip('`'), answer[3])
+            elif refused:
+                path, why = refused[1].partition('::')[2], refused[2]
+                for goal in re.findall(r'`([^`]+)`', why.partition('did not prove')[2]):
+                    pending.setdefault(goal, False)
+                for goal, is_false in pending.items():
+                    (self.false if is_false else self.open)[path, goal] = ''
+                pending = {}
+                if re.match('no proof', why) and not re.search('did not prove|it calls', why):
+                    self.missing[path, 'no proof file'] = why[:150]
+
+    def add_answer(self, folder, goal, why):
+        """Has an answer that is refused. One that differs in a step's number alone is a name."""
+        found = folder.removeprefix('proofs/').replace('/', '::'), goal
+        both = re.search(r'where one has `([^`]*)`.* the other has `([^`]*)`', why)
+        numbered = both and re.sub(r'-\d+', '', both[1]) == re.sub(r'-\d+', '', both[2])
+        part = self.missing if numbered or MISSING.search(why) else self.answers
+        part.setdefault(found, re.sub(r'\s+', ' ', why)[:150])
+
+    def found(self):
+        """The goals, those first that say most, each with how it was refused."""
+        parts = ((self.false, 'false'), (self.open, 'open'), (self.answers, 'answer'),
+                 (self.missing, 'name'))
+        return [(path, goal, f'{how}: {why}' if why else how)
+                for part, how in parts for (path, goal), why in part.items()]
+
+
+def judged(edit, room):
+    """Whether a wrong body is refused as it must be, and the line that says so."""
+    label = f'{edit.crate}/{edit.name}'
+    try:
+        texts = edit.texts()
+    except (OSError, ValueError) as error:
+        return False, f'{label}: cannot be applied: {error}', ''
+    modules = edit.modules()
+    said, proved = room.check(edit.crate, texts, modules)
+    if proved and modules:
+        said, proved = room.check(edit.crate, texts, [])
+    if proved:
+        return False, f'{label}: not refused', said
+    refusal = Refusal(said)
+    found = refusal.found()
+    if not found:
+        first = next((it for it in said.split('\n') if 'error' in it), said[-200:])
+        return False, f'{label}: it did not reach the prover: {first[:160]}', said
+    for path, goal, _ in found:
+        if path.split('::')[-1] in edit.helpers():
+            return False, f'{label}: its own helper is not proved: {goal} of {path}', said
+    changed = edit.functions()
+    kinds = [(kind_of(goal, path, changed), path, goal, how) for path, goal, how in found]
+    if all(it[2].startswith('name') for it in found):
+        kinds = [('name', *it[1:]) for it in kinds]
+    kind, path, goal, how = next((it for it in kinds if it[0] == 'contract'), kinds[0])
+    line = f'{label}: {kind}: {goal} of {path} ({how})'
+    if edit.same:
+        told, is_proved = room.check(edit.crate, edit.texts(right=True), modules)
+        said += '\n-- the right body written otherwise\n' + told
+        if not is_proved:
+            return False, f'{line}; the right body written otherwise is refused too', said
+        line += '; the right body written otherwise is proved'
+    return kind != 'name', line, said
+
+
+def chosen(words, below):
+    """The wrong bodies that the words name, or all, by crate and name."""
+    found = []
+    for crate in below:
+        folder = f'{ROOT}/crates/{crate}/must-fail'
+        for name in sorted(os.listdir(folder)) if os.path.isdir(folder) else []:
+            if name.endswith('.edit'):
+                found.append(Edit(crate, f'{folder}/{name}'))
+    if not words:
+        return found
+    kept = [it for it in found if it.crate in words or f'{it.crate}/{it.name}' in words]
+    known = {it.crate for it in kept} | {f'{it.crate}/{it.name}' for it in kept}
+    for word in words:
+        if word not in known:
+            sys.exit(f'wrong_bodies: no wrong body is named {word}')
+    return kept
+
+
+def checked_first(crates):
+    """Checks each crate as it stands, so that out/ keeps its proofs, and gives those not proved."""
+    bad = []
+    for crate in crates:
+        ran = subprocess.run(['rt', 'check'], cwd=f'{ROOT}/crates/{crate}', check=False,
+                             stdin=subprocess.DEVNULL, stdout=subprocess.PIPE,
+                             stderr=subprocess.STDOUT)
+        if ran.returncode:
+            print(f'{crate}: is not proved as it stands', flush=True)
+            bad.append(crate)
+    return bad
+
+
+def main():
+    """Tries the wrong bodies that the command names."""
+    words = argparse.ArgumentParser(usage=__doc__)
+    words.add_argument('--jobs', type=int, default=1)
+    words.add_argument('--logs')
+    words.add_argument('names', nargs='*')
+    given = words.parse_args()
+    below = libraries()
+    edits = chosen(given.names, below)
+    bad = checked_first(dict.fromkeys(it.crate for it in edits))
+    edits = [it for it in edits if it.crate not in bad]
+    passed, failed = 0, len(bad)
+    if given.logs:
+        os.makedirs(given.logs, exist_ok=True)
+    with tempfile.TemporaryDirectory(prefix='wrong-bodies-') as folder:
+        rooms = queue.Queue()
+        for number in range(given.jobs):
+            rooms.put(Room(f'{folder}/{number}', below))
+
+        def tried(edit):
+            room = rooms.get()
+            try:
+                return (edit, *judged(edit, room))
+            finally:
+                rooms.put(room)
+
+        with concurrent.futures.ThreadPoolExecutor(given.jobs) as pool:
+            for edit, is_well, line, said in pool.map(tried, edits):
+                print(line if is_well else f'FAILED: {line}', flush=True)
+                passed, failed = passed + is_well, failed + (not is_well)
+                if given.logs:
+                    file = f'{given.logs}/{edit.crate}.{edit.name}.log'
+                    with open(file, 'w', encoding='utf-8') as it:
+                        it.write(said)
+    print(f'{passed} passed, {failed} failed')
+    return 1 if failed else 0
+
+
+if __name__ == '__main__':
+    sys.exit(main())

@@ -5,7 +5,7 @@ use crate::rows::{BUNDLES, nested};
 use resb_print::{Cause, PrintError, print_text};
 use resb_text::Reader;
 use resb_tree::{Int28, Key, Resource, ResourceBundle};
-use std::alloc::{AllocError, Global};
+use std::alloc::Global;
 use std::borrow::CowStr;
 use std::collections::BTreeMap;
 use std::test::Fail;
@@ -73,10 +73,10 @@ fn entry<'a>(
     name: &'a str,
     key: &'a str,
     value: &'a str,
-) -> Result<ResourceBundle<'a>, AllocError> {
+) -> Result<ResourceBundle<'a>, Fail> {
     let mut table = BTreeMap::new(alloc);
     let text = Resource::String(CowStr::Borrowed(value));
-    table.insert(Key::from(key), text).map_err(|_| AllocError)?;
+    table.insert(Key::from(key), text)?;
     Ok(ResourceBundle::new(CowStr::Borrowed(name), Resource::Table(table), true))
 }
 

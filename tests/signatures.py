@@ -118,6 +118,16 @@ def rows_of(library, name):
     return rows
 
 
+def calls_of(crate, module):
+    """The lines of a module of a lower crate that `resb` passes on."""
+    path = CRATES / crate / "src" / f"{module}.rt"
+    if not path.is_file():
+        return []
+    lines = path.read_text(encoding="utf8").split("\n")
+    return [(signature(lines, at).replace("fn ", f"fn {module}::", 1), sentence(lines, at))
+            for at, line in enumerate(lines) if line.startswith("pub fn")]
+
+
 def section(library, title, path):
     text = path.read_text(encoding="utf8")
     lines = text.split("\n")
@@ -128,10 +138,10 @@ def section(library, title, path):
         found = re.match(r"^pub (struct|enum) (\w+)", line)
         if found:
             rows.append((found.group(1) + " " + found.group(2), sentence(lines, at)))
-    for _, name in exports(path):
+    for source, name in exports(path):
         if name not in seen and "laws" not in path.name:
             seen.add(name)
-            rows += rows_of(library, name)
+            rows += rows_of(library, name) or calls_of(source, name)
     if not rows:
         return ""
     out = [f"\n## {title}\n", "| Call | What it does |", "|---|---|"]

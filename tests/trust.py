@@ -180,7 +180,7 @@ class Specs:
         while left:
             definition = left.pop()
             key = (definition.path, definition.name)
-            if key in seen:
+            if key in seen or definition.path.stem in PROOFS:
                 continue
             seen[key] = definition
             module = module_of(definition.path)
@@ -188,6 +188,9 @@ class Specs:
                 left += self.resolve(module, self.imports[module], word)
         return sorted(seen.values(), key=lambda each: (str(each.path), each.line))
 
+
+# Files of specs/ that hold proofs of laws, and say nothing to be trusted.
+PROOFS = ("TypeLaws", "ZoneLaws", "EqualityLemmas")
 
 CLAUSE = re.compile(r"^\s*(?:pub )?(ensures|requires|ghost)\b\s*([a-z_]*)")
 
@@ -227,7 +230,7 @@ def roots_of(specs, path, wanted, labels, types=None):
     for name, around, is_public, label, text in clauses_of(lines):
         if wanted and name != wanted or not is_public or labels and label not in labels:
             continue
-        if types is not None and not (name in types or words_of(around) & types):
+        if types is not None and not (name in types or set(re.findall(r"\w+", around)) & types):
             continue
         for word in words_of(text.replace("::", ".")):
             roots += specs.resolve("", imports, word)
@@ -241,7 +244,19 @@ def exported():
         text = path.read_text(encoding="utf8")
         for found in re.finditer(r"^pub use [^;]*;", text, re.M):
             names |= set(re.findall(r"\w+", found.group(0)))
+            names |= passed_on(found.group(0))
         names |= set(re.findall(r"^pub (?:fn|enum|struct) (\w+)", text, re.M))
+    return names
+
+
+def passed_on(use):
+    """The public functions of the modules that a `pub use` passes on."""
+    names = set()
+    for crate, listed in re.findall(r"use (resb_\w+)::([^;]*);", use):
+        for module in re.findall(r"\b[a-z_]+\b", listed):
+            path = CRATES / crate / "src" / f"{module}.rt"
+            if path.is_file():
+                names |= set(re.findall(r"^pub fn (\w+)", path.read_text(encoding="utf8"), re.M))
     return names
 
 

@@ -40,7 +40,7 @@ SAFETY = re.compile(r'(overflow|nonzero|bounds|slice_bounds|offset_bounds)_|(bou
                     r'offset_bounds)-|.*(unreachable|prove)-requires')
 INVARIANT = re.compile(r'.*-(init|preserved|smaller)(-|$)|invariant_of-|(invariant|decreases)-')
 MISSING = re.compile(r'has no field|is not in scope|has no `|was not admitted|is no name|no goal|'
-                     r'cannot find|unknown name')
+                     r'cannot find|unknown name|\(nearest: ')
 OPEN = re.compile(r'^note: src/\S+: it is not proved .*?\(`([^`]+)`\)')
 REFUSED = re.compile(r'^fn (\S+): ((?:no proof|not proved|could not tell|depends on).*)$')
 AT_ANSWER = re.compile(r'^(?:\./)?(proofs/\S+?)/(?:Answers|Invariants|Proof)\.antt:\d+:\d+: error: '

@@ -51,6 +51,7 @@ pub fn read_text_in_turns<'a>(
     requires { turns.old.count < 2 ^ 64 }
     ensures ok { IfOk result (λ r. BundleText turns.old.text
         (name_of r.0) r.0.is_locale_fallback_enabled (root_of r.0) r.1.items) }
+    ensures stuck { IfErr result (Fails turns.old.text) }
     ensures no_bundle { IfErr result (λ e. (e ≡ want_of_memory) ⊎ IsNoBundle turns.old.text) }
     ensures linear { turns.new.count ≤ turns.old.count + 8 * length turns.old.text + 8 }
 {

@@ -16,6 +16,7 @@ use Rattle.resb_pool.specs.Fault.{Fault, string_too_long, limit, out_of_memory}
 use Rattle.resb_pool.specs.Pool.{IsPool, Off}
 use Rattle.resb_pool.specs.declared.offsets.Plan.{Plan}
 
+-- the texts that borrowed strings are
 abbrev pub nows : List (Bor (List ℕ)) → List (List ℕ)
 nows xs = map (λ x. x.now) xs
 
@@ -23,9 +24,11 @@ nows xs = map (λ x. x.now) xs
 abbrev pub at_text : {V H : Type 0} → IndexMap (Bor (List ℕ)) V H → List ℕ → Option V
 at_text m q = get_by (λ k. bytes_eq q k.now) m
 
+-- the 16-bit units of a plan's pool
 abbrev pub plan_units : Plan → List ℕ
 plan_units p = p.units.items
 
+-- where a plan has the text in its pool, if it has it
 abbrev pub offset_of : Plan → List ℕ → Option ℕ
 offset_of p s = option_and_then (slice_get p.offsets.items) (index_of_by (λ k. bytes_eq s k.now)
     p.texts)
@@ -53,6 +56,8 @@ first_too_long (s ∷ ss) = if nat_le (length (units s)) 4294967295 then first_t
 abbrev pub texts_size : List (List ℕ) → ℕ
 texts_size ss = sum_by (λ s. 16 + length (units s)) ss
 
+-- why strings have no plan: want of memory, the first string that is too long, or a pool of
+-- 2^28 units and more
 pub data NotPlanned (S : List (List ℕ)) : Fault → Type 0 where
   no_memory : NotPlanned S out_of_memory
   too_long : {n : ℕ} → first_too_long S ≡ Some n → NotPlanned S (string_too_long n)

@@ -14,6 +14,8 @@ pub record Access : Type 0 where
 -- one step over the places: what is read at the first of them, or that error again
 module _ {X : Type 0} (reads : Place → X → ℕ → Type 0) (counts : Place → ℕ → Type 0)
     (refuses : Place → ℕ → ℕ → ReadingError → Type 0) where
+  -- one step over these places: the value at the first is read and paid, and its place is gone; or
+  -- it is refused, and the error is kept; or no place is left
   abbrev pub StepsOver : List Place → ℕ → Access → ℕ → Result (Option X) ReadingError → Type 0
   StepsOver [] left new left' (Ok None) =
       (new ≡ record { rest = []; failed = None }) × (left' ≡ left)
@@ -26,11 +28,13 @@ module _ {X : Type 0} (reads : Place → X → ℕ → Type 0) (counts : Place �
       (new ≡ record { rest = p ∷ ps; failed = Some e })
       × RefusesThere counts refuses p left left' e
 
+  -- one step: an error that was kept is answered again, and nothing else changes
   abbrev pub StepsAfter : Option ReadingError → Access → ℕ → Access → ℕ
       → Result (Option X) ReadingError → Type 0
   StepsAfter (Some e) old left new left' result = (result ≡ Err e) × (new ≡ old) × (left' ≡ left)
   StepsAfter None old left new left' result = StepsOver old.rest left new left' result
 
+  -- one step of an access, with what is left of the budget before and after
   abbrev pub Steps : Access → ℕ → Access → ℕ → Result (Option X) ReadingError → Type 0
   Steps old left new left' result = StepsAfter old.failed old left new left' result
 
@@ -44,11 +48,13 @@ StepsToFirst (p ∷ ps) new (Ok (Some c)) =
     (new ≡ record { rest = ps; failed = None }) × (place_of c ≡ p)
 StepsToFirst (p ∷ ps) new (Err e) = ⊥
 
+-- one step to a place: an error that was kept is answered again
 abbrev pub StepsToAfter : Option ReadingError → Access → Access
     → Result (Option Cursor) ReadingError → Type 0
 StepsToAfter (Some e) old new result = (result ≡ Err e) × (new ≡ old)
 StepsToAfter None old new result = StepsToFirst old.rest new result
 
+-- one step of an access to the next place, which is handed on unread and unpaid
 abbrev pub StepsTo : Access → Access → Result (Option Cursor) ReadingError → Type 0
 StepsTo old new result = StepsToAfter old.failed old new result
 
@@ -62,6 +68,7 @@ pub record EntryAccess : Type 0 where
 abbrev pub CountsPair : (Place → ℕ → Type 0) → (Place → ℕ → Type 0) → Place × Place → ℕ → Type 0
 CountsPair key value p n = (a : ℕ) × (b : ℕ) × key p.0 a × value p.1 b × (n ≡ a + b)
 
+-- a key and a value are read at the places of an entry, and n is the sum of their counts
 abbrev pub ReadsPair : {K X : Type 0} → (Place → K → ℕ → Type 0) → (Place → X → ℕ → Type 0)
     → Place × Place → K × X → ℕ → Type 0
 ReadsPair key value p e n = (a : ℕ) × (b : ℕ) × key p.0 e.0 a × value p.1 e.1 b × (n ≡ a + b)
@@ -70,6 +77,8 @@ ReadsPair key value p e n = (a : ℕ) × (b : ℕ) × key p.0 e.0 a × value p.1
 module _ {K X : Type 0} (rk : Place → K → ℕ → Type 0) (ck : Place → ℕ → Type 0)
     (fk : Place → ℕ → ℕ → ReadingError → Type 0) (rv : Place → X → ℕ → Type 0)
     (cv : Place → ℕ → Type 0) (fv : Place → ℕ → ℕ → ReadingError → Type 0) where
+  -- one step over these entries: the first's key and value are read and paid, and its places are
+  -- gone; or one of them is refused, and the error is kept; or no entry is left
   abbrev pub EntersOver : List (Place × Place) → ℕ → EntryAccess → ℕ
       → Result (Option (K × X)) ReadingError → Type 0
   EntersOver [] left new left' (Ok None) =
@@ -84,11 +93,13 @@ module _ {K X : Type 0} (rk : Place → K → ℕ → Type 0) (ck : Place → �
       (new ≡ record { rest = p ∷ ps; failed = Some e }) × (left' ≤ left)
       × LacksOrMemory (CountsPair ck cv p) left e × RefusesPair ck fk cv fv p left left' e
 
+  -- one step: an error that was kept is answered again, and nothing else changes
   abbrev pub EntersAfter : Option ReadingError → EntryAccess → ℕ → EntryAccess → ℕ
       → Result (Option (K × X)) ReadingError → Type 0
   EntersAfter (Some e) old left new left' result = (result ≡ Err e) × (new ≡ old) × (left' ≡ left)
   EntersAfter None old left new left' result = EntersOver old.rest left new left' result
 
+  -- one step of an access to entries, with what is left of the budget before and after
   abbrev pub Enters : EntryAccess → ℕ → EntryAccess → ℕ → Result (Option (K × X)) ReadingError
       → Type 0
   Enters old left new left' result = EntersAfter old.failed old left new left' result
@@ -104,11 +115,13 @@ EntersToFirst (p ∷ ps) new (Ok (Some c)) =
     (new ≡ record { rest = ps; failed = None }) × (place_of c.0 ≡ p.0) × (place_of c.1 ≡ p.1)
 EntersToFirst (p ∷ ps) new (Err e) = ⊥
 
+-- one step to the places of an entry: an error that was kept is answered again
 abbrev pub EntersToAfter : Option ReadingError → EntryAccess → EntryAccess
     → Result (Option (Cursor × Cursor)) ReadingError → Type 0
 EntersToAfter (Some e) old new result = (result ≡ Err e) × (new ≡ old)
 EntersToAfter None old new result = EntersToFirst old.rest new result
 
+-- one step to the places of the next key and value, which are handed on unread and unpaid
 abbrev pub EntersTo : EntryAccess → EntryAccess → Result (Option (Cursor × Cursor)) ReadingError
     → Type 0
 EntersTo old new result = EntersToAfter old.failed old new result

@@ -59,6 +59,7 @@ IsWithin low high x = (low ≤ℤ x) × (x ≤ℤ high)
 abbrev pub ReadsSigned : ℤ → ℤ → Place → ℤ → ℕ → Type 0
 ReadsSigned low high p x n = IsThere (IsWithin low high) (signed_at p.at) x n
 
+-- a number with a sign stands there that is within the bounds of its type, and takes n
 abbrev pub CountsSigned : ℤ → ℤ → Place → ℕ → Type 0
 CountsSigned low high p n = CountsThere (IsWithin low high) (signed_at p.at) n
 
@@ -66,6 +67,7 @@ CountsSigned low high p n = CountsThere (IsWithin low high) (signed_at p.at) n
 abbrev pub ReadsUnsigned : ℕ → Place → ℕ → ℕ → Type 0
 ReadsUnsigned high p x n = IsThere (λ x. x ≤ high) (unsigned_at p.at) x n
 
+-- a number without a sign stands there that is at most the greatest of its type, and takes n
 abbrev pub CountsUnsigned : ℕ → Place → ℕ → Type 0
 CountsUnsigned high p n = CountsThere (λ x. x ≤ high) (unsigned_at p.at) n
 
@@ -73,6 +75,7 @@ CountsUnsigned high p n = CountsThere (λ x. x ≤ high) (unsigned_at p.at) n
 abbrev pub ReadsBool : Place → Bool → ℕ → Type 0
 ReadsBool p x n = IsThere any (bool_at p.at) x n
 
+-- a bool stands there, and takes n
 abbrev pub CountsBool : Place → ℕ → Type 0
 CountsBool p n = CountsThere any (bool_at p.at) n
 
@@ -108,6 +111,7 @@ text_from p (spot.Key k) = option_map (λ s. (s, 0)) (key_at p.keys k)
 abbrev pub ReadsText : Place → List ℕ → ℕ → Type 0
 ReadsText p x n = IsThere any (text_from p.parts p.at) x n
 
+-- a text stands there, and takes n
 abbrev pub CountsText : Place → ℕ → Type 0
 CountsText p n = CountsThere any (text_from p.parts p.at) n
 
@@ -122,6 +126,7 @@ key_from p (spot.Key k) = option_map (λ s. (s, 0)) (key_at p.keys k)
 abbrev pub ReadsKey : Place → List ℕ → ℕ → Type 0
 ReadsKey p x n = IsThere any (key_from p.parts p.at) x n
 
+-- a key that is a text stands there, and takes n
 abbrev pub CountsKey : Place → ℕ → Type 0
 CountsKey p n = CountsThere any (key_from p.parts p.at) n
 
@@ -154,5 +159,6 @@ bytes_from p (spot.Key k) = option_map (λ s. (s, 0)) (key_at p.keys k)
 abbrev pub ReadsBytes : Place → List ℕ → ℕ → Type 0
 ReadsBytes p x n = IsThere any (bytes_from p.parts p.at) x n
 
+-- bytes stand there, and take n
 abbrev pub CountsBytes : Place → ℕ → Type 0
 CountsBytes p n = CountsThere any (bytes_from p.parts p.at) n

@@ -18,6 +18,7 @@ use Rattle.resb_read.specs.Leaves.{type_in, value_in}
 use Rattle.resb_read.specs.declared.cursor.Spot.{Spot}
 use Rattle.resb_read.specs.declared.cursor.Spot.TheVariants as spot
 
+-- a number stands there that its type has not
 abbrev pub out_of_range : Refusal
 out_of_range = (Unknown, codes "number out of range")
 
@@ -44,12 +45,14 @@ integer_refusal type unfit =
     if type == types.integer then unfit
     else type_refusal type (mismatch (codes "expected integer resource"))
 
+-- why no number is read at a spot with so much left
 abbrev pub number_refusal : Spot → ℕ → Refusal
 number_refusal (spot.Descriptor w) left = paid left (integer_refusal (type_in w) out_of_range)
 number_refusal (spot.Unit u) left = paid left elsewhere
 number_refusal (spot.Word w) left = out_of_range
 number_refusal (spot.Key k) left = elsewhere
 
+-- why no bool is read at a spot with so much left
 abbrev pub bool_refusal : Spot → ℕ → Refusal
 bool_refusal (spot.Descriptor w) left =
     paid left (integer_refusal (type_in w)
@@ -80,6 +83,7 @@ key_refusal_from p (spot.Descriptor w) left = no_value (spot.Descriptor w) left
 key_refusal_from p (spot.Unit u) left = no_value (spot.Unit u) left
 key_refusal_from p (spot.Word w) left = no_value (spot.Word w) left
 
+-- why no key is read at a place with so much left
 abbrev pub key_refusal : Place → ℕ → Refusal
 key_refusal p left = key_refusal_from p.parts p.at left
 
@@ -89,12 +93,14 @@ text_fault p w =
     if type_in w == types.string then text_damage p.block (value_in w)
     else type_refusal (type_in w) (mismatch (codes "expected string resource"))
 
+-- why no text is read at a spot with so much left
 abbrev pub text_refusal_from : Parts → Spot → ℕ → Refusal
 text_refusal_from p (spot.Descriptor w) left = paid left (text_fault p w)
 text_refusal_from p (spot.Unit u) left = paid left (text_damage p.block u)
 text_refusal_from p (spot.Word w) left = elsewhere
 text_refusal_from p (spot.Key k) left = key_damage p.keys k
 
+-- why no text is read at a place with so much left
 abbrev pub text_refusal : Place → ℕ → Refusal
 text_refusal p left = text_refusal_from p.parts p.at left
 
@@ -122,6 +128,7 @@ members_fault w =
     if types.is_array (type_in w) || type_in w == types.int_vector then end_of_input
     else type_refusal (type_in w) (mismatch (codes "expected array resource"))
 
+-- a table's entries reach outside the body, or another type stands there
 abbrev pub entries_fault : ℕ → Refusal
 entries_fault w =
     if types.is_table (type_in w) then end_of_input

@@ -33,12 +33,14 @@ ReadsTree p r n = DenPlace p (tree_of r) n × Borrows r
 abbrev pub CountsTree : Place → ℕ → Type 0
 CountsTree p n = (t : Tree) × DenPlace p t n
 
+-- at least n resources stand at this spot up to the first fault
 abbrev pub ReachesSpot : Parts → Spot → ℕ → Type 0
 ReachesSpot p (spot.Descriptor w) n = Reaches p w n
 ReachesSpot p (spot.Unit u) n = ReachesMember p (unit u) n
 ReachesSpot p (spot.Word w) n = ⊥
 ReachesSpot p (spot.Key k) n = ⊥
 
+-- at least n resources stand at this place up to the first fault
 abbrev pub ReachesPlace : Place → ℕ → Type 0
 ReachesPlace p n = ReachesSpot p.parts p.at n
 
@@ -49,5 +51,6 @@ MeetsSpot p (spot.Unit u) f = Meets p (unit u) f
 MeetsSpot p (spot.Word w) f = f ≡ elsewhere
 MeetsSpot p (spot.Key k) f = f ≡ elsewhere
 
+-- the first fault that a reading of the tree at this place meets
 abbrev pub MeetsPlace : Place → Refusal → Type 0
 MeetsPlace p f = MeetsSpot p.parts p.at f

@@ -51,6 +51,7 @@ items_from p (spot.Key k) = None
 abbrev pub items : Place → Option (List Place)
 items p = items_from p.parts p.at
 
+-- a table's entries: each a key's position and a member
 abbrev pub entry_pairs : Option Content → Option (List (ℕ × Member))
 entry_pairs (Some (pairs es)) = Some es
 entry_pairs (Some (list ms)) = None
@@ -66,12 +67,14 @@ entries_in p w =
 abbrev pub at_entry : Parts → ℕ × Member → Place × Place
 at_entry p e = (at_spot p (spot.Key e.0), at_spot p (spot_of e.1))
 
+-- the places of the keys and values of the table at this spot, if one stands there
 abbrev pub entries_from : Parts → Spot → Option (List (Place × Place))
 entries_from p (spot.Descriptor w) = option_map (map (at_entry p)) (entries_in p w)
 entries_from p (spot.Unit u) = None
 entries_from p (spot.Word w) = None
 entries_from p (spot.Key k) = None
 
+-- the places of the keys and values of the table at this place, if one stands there
 abbrev pub entries : Place → Option (List (Place × Place))
 entries p = entries_from p.parts p.at
 
@@ -115,6 +118,7 @@ ReadsPairs key value (p ∷ ps) (e ∷ es) n =
     (a : ℕ) × (b : ℕ) × (c : ℕ) × key p.0 e.0 a × value p.1 e.1 b × ReadsPairs key value ps es c
     × (n ≡ a + b + c)
 
+-- some key and some value are read at the places of each entry, and n is the sum of the counts
 abbrev pub CountsPairs : (Place → ℕ → Type 0) → (Place → ℕ → Type 0) → List (Place × Place) → ℕ
     → Type 0
 CountsPairs key value [] n = n ≡ 0
@@ -128,6 +132,8 @@ abbrev pub put_each : {K X : Type 0} → (K → K → Ordering) → List (K × X
 put_each cmp m [] = m
 put_each cmp m (e ∷ es) = put_each cmp (insert_entry cmp m e.0 e.1) es
 
+-- a table stands there, each of its entries is read, and the map has them put in one after
+-- another; the table itself counts as one
 pub record ReadsMap {K X : Type 0} (cmp : K → K → Ordering) (key : Place → K → ℕ → Type 0)
     (value : Place → X → ℕ → Type 0) (p : Place) (m : List (K × X)) (n : ℕ) : Type 0 where
   pub places : List (Place × Place)
@@ -138,6 +144,7 @@ pub record ReadsMap {K X : Type 0} (cmp : K → K → Ordering) (key : Place →
   pub map : m ≡ put_each cmp [] read
   pub count : n ≡ 1 + total
 
+-- a table stands there whose entries take n, the table itself counted as one
 pub record CountsMap (key : Place → ℕ → Type 0) (value : Place → ℕ → Type 0) (p : Place)
     (n : ℕ) : Type 0 where
   pub places : List (Place × Place)

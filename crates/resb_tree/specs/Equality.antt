@@ -5,6 +5,7 @@ use Rattle.resb_tree.specs.Tree.{Tree, string, array, table, binary, integer, in
 use Rattle.resb_tree.specs.Tree.{no_trees, more_trees, Entries, no_entries, entry}
 
 abbrev mutual
+  -- two trees are the same
   pub tree_eq : Tree → Tree → Bool
   tree_eq (string s) (string t) = pointwise nat_eq s t
   tree_eq (string s) _ = false
@@ -19,12 +20,14 @@ abbrev mutual
   tree_eq (int_vector s) (int_vector t) = pointwise nat_eq s t
   tree_eq (int_vector s) _ = false
 
+  -- two lists of trees are the same
   pub trees_eq : Trees → Trees → Bool
   trees_eq no_trees no_trees = true
   trees_eq no_trees (more_trees u us) = false
   trees_eq (more_trees t ts) no_trees = false
   trees_eq (more_trees t ts) (more_trees u us) = tree_eq t u && trees_eq ts us
 
+  -- two lists of entries are the same, keys and trees
   pub entries_eq : Entries → Entries → Bool
   entries_eq no_entries no_entries = true
   entries_eq no_entries (entry l u fs) = false

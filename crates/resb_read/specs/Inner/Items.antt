@@ -12,12 +12,15 @@ use Rattle.resb_read.specs.declared.cursor.Spot.TheVariants as spot
 use Rattle.resb_read.specs.declared.items.Items.{Items}
 use Rattle.resb_read.specs.declared.items.Items.TheVariants.{Members, Numbers}
 
+-- where the items of a list stand: members, or numbers of a vector
 abbrev pub spots_of : Items → List Spot
 spots_of (Members ms) = map spot_of (members_of ms)
 spots_of (Numbers b) = map spot.Word (words_of b.now)
 
+-- the items' places in the file
 abbrev pub places_of : File → Items → List Place
 places_of f i = map (at_spot (parts_in f)) (spots_of i)
 
+-- the places of each entry's key and value in the file
 abbrev pub entry_places : File → Pairs → List (Place × Place)
 entry_places f ps = map (at_entry (parts_in f)) (keyed_members ps)

@@ -35,14 +35,17 @@ abbrev pub member_of : Member → at.Member
 member_of (one.Word w) = at.word w
 member_of (one.Unit u) = at.unit u
 
+-- the members: words or 16-bit units
 abbrev pub members_of : Members → List at.Member
 members_of (some.Words b) = map at.word (words_of b.now)
 members_of (some.Units b) = map at.unit (units_of b.now)
 
+-- the positions of a table's keys, of 16 or of 32 bits each
 abbrev pub positions_of : Positions → List ℕ
 positions_of (Halves b) = units_of b.now
 positions_of (Wholes b) = words_of b.now
 
+-- each member with the position of its key
 abbrev pub keyed_members : Pairs → List (ℕ × at.Member)
 keyed_members s = zip (positions_of s.keys) (members_of s.members)
 

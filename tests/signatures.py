@@ -15,6 +15,8 @@ PAGE = TOP / "docs" / "SIGNATURES.md"
 HEAD = """# Every public call of `resb`
 
 This page is made from the sources by `tests/signatures.py`, and `./test` compares the two. Each line has a call, without its contract, and the first sentence of its documentation; the contract stands with the call. `resb::laws` isn't listed here: it has a sentence for each law itself.
+
+Most programs need these: `resb::compile`, `resb::text::Reader::read`, `resb::text::print_text`, `resb::binary::from_bytes`, `resb::binary::count_resources`, `resb::binary::Cursor` and `resb::binary::Serializer::to_bytes`.
 """
 
 
@@ -72,7 +74,7 @@ class Library:
     """Where each public name of the library's crates stands."""
 
     def __init__(self):
-        self.items, self.methods, self.traits = {}, {}, {}
+        self.items, self.methods, self.traits, self.into = {}, {}, {}, {}
         for crate, path in sources():
             self.read(path)
 
@@ -88,6 +90,9 @@ class Library:
                     inherent and " for " not in line) else ""
                 is_trait = bool(trait)
                 given = re.match(r"^impl(?:<.*?>)? ([A-Z]\w*(?:<.*>)?) for (\w+)", line)
+                turned = re.match(r"^impl(?:<.*?>)? From<(\w+)(?:<.*>)?> for ([a-z]\w*)", line)
+                if turned:
+                    self.into.setdefault(turned.group(1), []).append(turned.group(2))
                 if given:
                     name = given.group(2)
                     self.traits.setdefault(name, []).append((given.group(1), lines, at))
@@ -108,13 +113,35 @@ def rows_of(library, name):
     kind, lines, at = library.items[name]
     if kind == "fn":
         return [(signature(lines, at), sentence(lines, at))]
-    rows = [(f"{kind} {name}", sentence(lines, at))]
+    head = signature(lines, at).removeprefix("pub ") if kind == "type" else f"{kind} {name}"
+    rows = [(head, sentence(lines, at)), *parts_of(name, lines, at)]
     for _, lines, at in library.methods.get(name, []):
         rows.append((f"{name}: " + signature(lines, at), sentence(lines, at)))
     traits = [trait for trait, _, _ in library.traits.get(name, [])
               if not trait.startswith(("Drop", "Error", "MadeWith", "Model"))]
     if traits:
         rows.append((f"{name}: " + ", ".join(dict.fromkeys(traits)), "The traits that it has."))
+    into = library.into.get(name, [])
+    if into:
+        rows.append((", ".join(f"{it}: From<{name}>" for it in into), "What it turns into."))
+    return rows
+
+
+def parts_of(name, lines, at):
+    """The lines of the page for an enum's variants or a struct's public fields."""
+    rows = []
+    if lines[at].rstrip().endswith(("}", ";")):
+        return rows
+    for below in range(at + 1, len(lines)):
+        line = lines[below]
+        if line.startswith("}"):
+            break
+        variant = re.match(r"^    ([A-Z]\w*(?:\(.*\))?)(?: = \w+)?,$", line)
+        field = re.match(r"^    pub (\w+: .*),$", line)
+        if variant and " enum " in f" {lines[at]}":
+            rows.append((f"{name}::{variant.group(1)}", sentence(lines, below)))
+        elif field:
+            rows.append((f"{name}: {field.group(1)}", sentence(lines, below)))
     return rows
 
 

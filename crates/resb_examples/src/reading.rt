@@ -9,8 +9,8 @@ pub fn base_of(
     alloc: Global,
     file: &[u8],
     zone: &str,
-) -> Result<Option<u32>, BinaryDeserializerError> {
-    let zones: BTreeMap<&str, BTreeMap<&str, u32>> = from_bytes(alloc, file)?;
+) -> Result<Option<i32>, BinaryDeserializerError> {
+    let zones: BTreeMap<&str, BTreeMap<&str, i32>> = from_bytes(alloc, file)?;
     let Some(fields) = zones.get(zone) else {
         return Ok(None);
     };

@@ -37,7 +37,7 @@ impl<T: Drop> From<AllocFailed<T>> for WritingError {
 }
 
 /// The file of `names { age:int { 7 } greeting { "hello" } }`, without a text.
-pub fn greeting_file(alloc: Global) -> Result<Vec<u8>, WritingError> {
+pub fn greeting_file(alloc: Global) -> Result<Vec<u8>, BinarySerializerError> {
     let mut table: Table<'_> = BTreeMap::new(alloc);
     table.insert(
         Key::from("greeting"),
@@ -46,7 +46,7 @@ pub fn greeting_file(alloc: Global) -> Result<Vec<u8>, WritingError> {
     table.insert(Key::from("age"), Resource::Integer(Int28::from(7u32)))?;
     let bundle = ResourceBundle::new(CowStr::Borrowed("names"), Resource::Table(table), true);
     let keys = [Key::from("age"), Key::from("greeting")];
-    Ok(Serializer::to_bytes(alloc, &bundle, &keys)?)
+    Serializer::to_bytes(alloc, &bundle, &keys)
 }
 
 /// The entries of two files, whose roots are tables; of an equal key those of the second.

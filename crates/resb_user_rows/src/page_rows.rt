@@ -8,14 +8,10 @@ use std::alloc::Global;
 use std::test::Fail;
 
 /// A text of two zones.
-const ZONES: &str = "zones { East { base:int { 5 } } Pole { base:int { 60 } width:int { 3 } } }";
+const ZONES: &str = "zones { East { base:int { 5 } } Pole { base:int { -60 } width:int { 3 } } }";
 
-/// Names of zones, and their bases as the two ways answer them.
-const BASES: [(&str, Option<u32>, Option<i32>); 3] = [
-    ("Pole", Some(60), Some(60)),
-    ("East", Some(5), Some(5)),
-    ("West", None, None),
-];
+/// Names of zones, and their bases.
+const BASES: [(&str, Option<i32>); 3] = [("Pole", Some(-60)), ("East", Some(5)), ("West", None)];
 
 /// Two texts, and one with their entries, whose keys stand in the order of their bytes.
 const MERGED: [&str; 3] = [
@@ -27,8 +23,8 @@ const MERGED: [&str; 3] = [
 /// Whether each zone's base is read, by both ways.
 fn are_read(alloc: Global) -> Result<bool, Fail> {
     let file = compile(alloc, ZONES)?;
-    for (name, base, signed) in BASES {
-        if base_of(alloc, &file, name)? != base || base_by_cursor(&file, name)? != signed {
+    for (name, base) in BASES {
+        if base_of(alloc, &file, name)? != base || base_by_cursor(&file, name)? != base {
             return Ok(false);
         }
     }

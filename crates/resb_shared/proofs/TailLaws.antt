@@ -1,6 +1,6 @@
 -- An end of a tail is a key.
 use Rattle.std.proofs.Common.{ℕ, List, ◌≡◌, ◌+◌, ◌-◌, ◌<◌, ◌≤◌, take, drop, length, Some, None}
-use Rattle.std.proofs.Common.{Bool}
+use Rattle.std.proofs.Common.{Bool, zero, suc, [], ◌∷◌}
 use Rattle.std.proofs.Common.{refl, sym, ap, ◌∙◌, arith, nat_eq, true, false, inl, inr, ◌⊎◌}
 use Rattle.std.proofs.Common.{length-drop}
 use Rattle.std.proofs.lemmas.Bool.{cases_lt}
@@ -57,8 +57,21 @@ later xs t k e h =
     sym (drop-take k (n - k) xs) ∙ ap (λ m. drop k (take m xs)) back ∙ ap (drop k) (sym was.1) in
     ended (drop k xs) less ∙ ap Some (ap (λ m. take m (drop k xs)) moved ∙ cut)
 
+-- bytes without a zero have none further on
+tail_zero : (x : ℕ) (xs : List ℕ) (b : Bool) → nat_eq x 0 ≡ b
+    → length (x ∷ xs) ≤ zero_at (x ∷ xs) → length xs ≤ zero_at xs
+tail_zero x xs true e h = absurd (let f = rw e at h in omega (arith, f))
+tail_zero x xs false e h = let f = rw e at h in omega (arith, f)
+
+no_zero_later : (xs : List ℕ) (k : ℕ) → length xs ≤ zero_at xs
+    → length (drop k xs) ≤ zero_at (drop k xs)
+no_zero_later [] zero h = h
+no_zero_later [] (suc k) h = omega arith
+no_zero_later (x ∷ xs) zero h = h
+no_zero_later (x ∷ xs) (suc k) h = no_zero_later xs k (tail_zero x xs (nat_eq x 0) refl h)
+
 -- a key is what stands there, and is UTF-8
-parts : (o : Option (List ℕ)) (t : List ℕ) → option_and_then if_utf8 o ≡ Some t
+pub parts : (o : Option (List ℕ)) (t : List ℕ) → option_and_then if_utf8 o ≡ Some t
     → (o ≡ Some t) × (is_utf8 t ≡ true)
 parts None t e = absurd cc
 parts (Some bs) t e = cases (is_utf8 bs) refl
@@ -69,6 +82,29 @@ parts (Some bs) t e = cases (is_utf8 bs) refl
         let g : bs ≡ t = cc in
         (f, ap is_utf8 (sym g) ∙ u)
     cases false u = let f : None ≡ Some t = rw u at e in absurd cc
+
+-- behind the last zero byte there is no key
+pub no_key_behind : (keys s : List ℕ) (start at : ℕ)
+    → position (λ b. nat_eq b 0) (drop start keys) ≡ None → start ≤ at → key_at keys at ≡ Some s
+    → ⊥
+unfolding key_at
+no_key_behind keys s start at none le e =
+    let rest = drop start keys in
+    let k = at - start in
+    let its = stood (drop at keys) s (parts (before_zero (drop at keys)) s e).0 in
+    let f : length rest ≤ zero_at rest = grind (arith, nat_tests, none) in
+    let g = no_zero_later rest k f in
+    let i : start + k ≡ at = omega (arith, le) in
+    let same : drop k rest ≡ drop at keys = drop-drop k start keys ∙ ap (λ n. drop n keys) i in
+    let h : length (drop at keys) ≤ zero_at (drop at keys) = rw same at g in
+    omega (arith, h, its.0)
+
+-- nor behind the last byte
+pub no_key_past : (keys s : List ℕ) (at : ℕ) → length keys ≤ at → key_at keys at ≡ Some s → ⊥
+unfolding key_at
+no_key_past keys s at le e =
+    let its = stood (drop at keys) s (parts (before_zero (drop at keys)) s e).0 in
+    omega (arith, its.0, le, length-drop at keys)
 
 -- the law: a key cut between two characters is a key
 pub end_of_tail : (keys t : List ℕ) (from k : ℕ) → key_at keys from ≡ Some t

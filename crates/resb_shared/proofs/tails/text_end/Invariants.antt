@@ -1,8 +1,10 @@
-use Rattle.std.proofs.Common.{◌-◌, ◌≤◌, length}
+use Rattle.std.proofs.Common.{ℕ, ◌-◌, ◌<◌, ◌≤◌, drop, length}
+use Rattle.std.specs.Str.{IsUtf8}
 use Rattle.resb_shared.proofs.tails.text_end.Given as goal
 
 abbrev pub invariant-faults : goal.invariant-faults
-invariant-faults l = l.before ≤ length l.bytes
+invariant-faults l =
+    (l.before ≤ length l.bytes) × ((k : ℕ) → k < l.before → IsUtf8 (drop k l.bytes) → ⊥)
 
 abbrev pub decreases-faults : goal.decreases-faults
 decreases-faults l = length l.bytes - l.before

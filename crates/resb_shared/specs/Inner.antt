@@ -1,0 +1,2 @@
+-- Words of private steps; they have not to be trusted.
+pub mod Listed

@@ -1,7 +1,7 @@
 #!/usr/bin/env python3
 """Tries each wrong body, and says for which goal it is refused.
 
-    wrong_bodies.py [--jobs N] [--logs FOLDER] [CRATE | CRATE/EDIT]..
+    wrong_bodies.py [--jobs N] [--logs FOLDER] [--without-answers] [CRATE | CRATE/EDIT]..
 
 A wrong body is a file crates/CRATE/must-fail/EDIT.edit. Each is applied to a copy of the repository
 in a temporary folder, never in place, and the copy takes over what out/ keeps, so that little more
@@ -22,7 +22,11 @@ How: 'false' (the check found values at which the goal is false), 'open' (no tac
 An edit of the kind 'name' shows nothing, since a right body written in another way would be refused
 with the same words. It fails, and so does an edit that is not refused or can't be applied. Where an
 edit has lines 'same: TEXT' below its 'new:' lines, these texts are such a right body, which has to
-be proved. The last line is 'N passed, M failed'.
+be proved.
+With --without-answers, an edit that is refused by an answer alone is tried once more with that
+answer taken out: the goal must then be false or open, and a wrong body that is proved so fails. The
+right body is tried without it too: where it is proved, the difference is the edit's meaning.
+The last line is 'N passed, M failed'.
 """
 import argparse
 import concurrent.futures
@@ -43,8 +47,8 @@ MISSING = re.compile(r'has no field|is not in scope|has no `|was not admitted|is
                      r'cannot find|unknown name|\(nearest: ')
 OPEN = re.compile(r'^note: src/\S+: it is not proved .*?\(`([^`]+)`\)')
 REFUSED = re.compile(r'^fn (\S+): ((?:no proof|not proved|could not tell|depends on).*)$')
-AT_ANSWER = re.compile(r'^(?:\./)?(proofs/\S+?)/(?:Answers|Invariants|Proof)\.antt:\d+:\d+: error: '
-                       r'(?:(`[^`]*`): )?(.*)$')
+AT_ANSWER = re.compile(r'^(?:\./)?((proofs/\S+?)/(?:Answers|Invariants|Proof)\.antt):\d+:\d+: '
+                       r'error: (?:(`[^`]*`): )?(.*)$')
 
 
 def libraries():
@@ -209,13 +213,16 @@ class Refusal:
 
     def __init__(self, said):
         self.false, self.open, self.answers, self.missing = {}, {}, {}, {}
+        self.cited = set()
         pending = {}
         for line in said.split('\n'):
             note, refused, answer = OPEN.match(line), REFUSED.match(line), AT_ANSWER.match(line)
             if note:
                 pending[note[1]] = 'allow values at which' in line
             elif answer:
-                self.add_answer(answer[1], (answer[2] or '?').strip('`'), answer[3])
+                goal = (answer[3] or '?').strip('`')
+                self.cited.add((answer[1], goal))
+                self.add_answer(answer[2], goal, answer[4])
             elif refused:
                 path, why = refused[1].partition('::')[2], refused[2]
                 for goal in re.findall(r'`([^`]+)`', why.partition('did not prove')[2]):
@@ -242,7 +249,31 @@ class Refusal:
                 for part, how in parts for (path, goal), why in part.items()]
 
 
-def judged(edit, room):
+def without_answers(crate, cited):
+    """The texts of the proof files without the answers that are cited, as (file, goal)."""
+    texts = {}
+    for file, goal in sorted(cited):
+        if file not in texts:
+            with open(f'{ROOT}/crates/{crate}/{file}', encoding='utf-8') as it:
+                texts[file] = it.read()
+        texts[file] = re.sub(rf'(?ms)^pub {re.escape(goal)} :.*?(?=^pub |\Z)', '', texts[file])
+    return texts
+
+
+def tried_without_answers(edit, room, refusal):
+    """Whether the edit is refused without the answers too, the words that say how, and the log."""
+    proofs, modules = without_answers(edit.crate, refusal.cited), edit.modules()
+    said, is_proved = room.check(edit.crate, edit.texts() | proofs, modules)
+    if is_proved:
+        return False, 'proved without the answer', said
+    again = Refusal(said)
+    how = 'false' if again.false else 'open' if again.open else 'refused'
+    told, is_right = room.check(edit.crate, proofs, modules)
+    right = 'the right body is proved' if is_right else 'the right body needs the answer'
+    return True, f'without the answer: {how}; {right}', f'{said}\n-- the right body\n{told}'
+
+
+def judged(edit, room, without=False):
     """Whether a wrong body is refused as it must be, and the line that says so."""
     label = f'{edit.crate}/{edit.name}'
     try:
@@ -275,6 +306,12 @@ def judged(edit, room):
         if not is_proved:
             return False, f'{line}; the right body written otherwise is refused too', said
         line += '; the right body written otherwise is proved'
+    if without and how.startswith('answer'):
+        is_well, words, told = tried_without_answers(edit, room, refusal)
+        said += f'\n-- without the answer\n{told}'
+        line += f'; {words}'
+        if not is_well:
+            return False, line, said
     return kind != 'name', line, said
 
 
@@ -314,6 +351,7 @@ def main():
     words = argparse.ArgumentParser(usage=__doc__)
     words.add_argument('--jobs', type=int, default=1)
     words.add_argument('--logs')
+    words.add_argument('--without-answers', action='store_true')
     words.add_argument('names', nargs='*')
     given = words.parse_args()
     below = libraries()
@@ -331,7 +369,7 @@ def main():
         def tried(edit):
             room = rooms.get()
             try:
-                return (edit, *judged(edit, room))
+                return (edit, *judged(edit, room, given.without_answers))
             finally:
                 rooms.put(room)
 

@@ -12,5 +12,5 @@ found keys at (Some s) e t = (s.now, e)
 pub returns-in-Some : goal.returns-in-Some
 returns-in-Some c h =
     let same = c.args.self.now.of_keys c.in-Some.tails c.in-Some.is in
-    found c.args.self.now.file.keys.now c.args.at c.key.result (rw same at c.key.ensures)
+    found c.args.self.now.file.keys.now c.args.at c.key.result (rw same at c.key.ensures.is_key)
     (sym c.is_some.ensures ∙ h)

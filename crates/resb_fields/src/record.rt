@@ -9,6 +9,7 @@ use crate::fields::Fields;
 use resb_format::ReadingError;
 use resb_read::{Cursor, Deserialize, Walk};
 use std::alloc::Global;
+use std::fmt;
 use std::marker::PhantomData;
 
 /// A struct that is made of the fields of a table, by their names.
@@ -33,6 +34,15 @@ pub trait Record<'de, F: Fields<'de>>: Sized + Drop {
 /// besides what the fields take; entries of other names are not looked at.
 #[derive(Drop)]
 pub struct Table<R, F>(pub R, PhantomData<F>);
+
+/// It prints as the record.
+impl<R: fmt::Debug, F> fmt::Debug for Table<R, F> {
+    ghost debug_output = { λ t. R.debug_output t.0 };
+
+    fn fmt<W: fmt::Write>(&self, f: &mut fmt::Formatter<W>) -> fmt::Result {
+        fmt::Debug::fmt(&self.0, f)
+    }
+}
 
 impl<'de, F: Fields<'de>, R: Record<'de, F>> Deserialize<'de> for Table<R, F> {
     ghost reads = { λ p t n. ReadsRecord F.reads R.names R.made p t.0 n };

@@ -72,6 +72,9 @@ pub use Rattle.resb_read.specs.Inner.Items as AccessItems
 pub use Rattle.resb_read.specs.Inner.Named
 pub use Rattle.resb_read.specs.TypeLaws
 pub use Rattle.resb_read.specs.Laws as ReadLaws
+pub use Rattle.resb_read.specs.Tables
+pub use Rattle.resb_fields.specs.Fields
+pub use Rattle.resb_fields.specs.FieldLaws
 pub use Rattle.resb_pool.specs.Records
 pub use Rattle.resb_pool.specs.Pool
 pub use Rattle.resb_pool.specs.Plan

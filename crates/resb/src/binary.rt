@@ -15,7 +15,7 @@ pub use resb_head::{
 pub use resb_pool::{Plan, pool};
 pub use resb_read::{
     Cursor, Deserialize, IntVectorDeserializer, KeyDeserializer, MapAccess,
-    Resource16BitDeserializer, SeqAccess, Spot, Walk, count_resources, determine_endianness,
-    from_bytes, from_bytes_counted, from_words, lay_words, tree_from_bytes,
+    Resource16BitDeserializer, SeqAccess, SortedTable, Spot, TableView, Walk, count_resources,
+    determine_endianness, from_bytes, from_bytes_counted, from_words, lay_words, tree_from_bytes,
 };
 pub use resb_write::{BinarySerializerError, Serializer};

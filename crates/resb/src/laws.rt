@@ -58,6 +58,10 @@ pub use resb_shared::laws::ranges_by_links;
 pub use resb_shared::laws::keys_in_keys;
 // Two readings of one place give one value.
 pub use resb_read::laws::one_value;
+// What is found for a name is the value of the last entry of that name.
+pub use resb_read::laws::last_of_a_name;
+// Whether the keys of a table ascend is told by a test.
+pub use resb_read::laws::ascend_is_told;
 
 // Writing.
 

@@ -6,6 +6,7 @@
 pub mod binary;
 pub mod bundle;
 mod compiling;
+pub mod fields;
 pub mod headline;
 pub mod laws;
 pub mod text;

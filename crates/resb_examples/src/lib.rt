@@ -4,4 +4,5 @@
 #![tactic(auto)]
 
 pub mod reading;
+pub mod records;
 pub mod writing;

@@ -1,5 +1,6 @@
-//! Reading without a type of one's own: by the given types, and by a plain function over cursors.
-//! A type of one's own is shown by `resb_zones`.
+//! Reading without a type of one's own: by the given types, by look-ups of keys, and by a plain
+//! function over cursors.
+//! A type of one's own is shown in `records`, and one with relations of its own by `resb_zones`.
 use resb::binary::{BinaryDeserializerError, Cursor, from_bytes};
 use std::alloc::Global;
 use std::collections::BTreeMap;
@@ -15,6 +16,22 @@ pub fn base_of(
         return Ok(None);
     };
     Ok(fields.get("base").copied())
+}
+
+/// The number `base` of a zone, looked up by its keys, in a file of tables that may hold anything
+/// beside it.
+pub fn base_by_key(
+    alloc: Global,
+    file: &[u8],
+    zone: &str,
+) -> Result<Option<i32>, BinaryDeserializerError> {
+    let (root, mut walk) = Cursor::root(file)?;
+    let zones = root.read_table(&mut walk)?;
+    let Some(fields) = zones.get(zone) else {
+        return Ok(None);
+    };
+    let fields = fields.read_table(&mut walk)?;
+    fields.value(alloc, "base", &mut walk)
 }
 
 /// The number `base` of a zone, in a file of tables that may hold anything beside it. No memory is

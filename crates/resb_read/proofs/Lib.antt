@@ -1,4 +1,7 @@
 -- For crates above: those that are `pub`.
+mod Ascending
+mod Lasts
+mod Naming
 mod Trees
 pub mod Rooted
 mod Each

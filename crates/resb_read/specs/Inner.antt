@@ -3,3 +3,4 @@
 pub mod Front
 pub mod Items
 pub mod Named
+pub mod Naming

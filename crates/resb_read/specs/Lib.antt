@@ -29,6 +29,7 @@ pub mod Roots
 pub mod Laws
 pub mod Sequences
 pub mod Access
+pub mod Tables
 pub mod Others
 pub mod Refusing
 pub mod TypeLaws

@@ -11,11 +11,13 @@ ghost use Rattle.resb_walk.specs.Files.{parts_in};
 ghost use Rattle.resb_walk.specs.Inner.Members.{keyed_members};
 ghost use Rattle.resb_read.specs.Refused.{entries_fault};
 ghost use Rattle.resb_read.specs.Refusing.{RefusesEntries, RefusesPair};
+ghost use Rattle.resb_read.specs.Tables.{entries_of, RefusesPaying};
 
 use crate::cursor::{Cursor, Spot};
 use crate::deserialize::Deserialize;
 use crate::faults::refused_here;
 use crate::items::spot_of;
+use crate::tables::{TableView, pay_each};
 use resb_format::{BinaryDeserializerError, ReadingError, ResourceReprType};
 use resb_walk::faults::past_end;
 use resb_walk::types::readable;
@@ -48,6 +50,20 @@ impl<'de, 'm> MapAccess<'de, 'm> {
         ensures { result ≡ length self.now.rest }
     {
         self.rest.len()
+    }
+
+    /// The entries that are still to come, for look-ups by key. It takes one from the budget for
+    /// each of them, or nothing where not so many are left.
+    pub fn table(&self, walk: &mut Walk) -> Result<TableView<'de>, ReadingError<'m>>
+        ensures read { IfOk result (λ t. (entries_of t ≡ self.now.rest)
+            × (walk.new + length self.now.rest ≡ walk.old)) }
+        ensures refused { IfErr result (RefusesPaying self.now.rest walk.old walk.new) }
+    {
+        pay_each(self.size_hint(), walk)?;
+        Ok(TableView {
+            file: self.file,
+            entries: self.rest,
+        })
     }
 
     /// The places of the first entry's key and value.

@@ -1,6 +1,7 @@
 //! Laws of reading, each the contract of a call that does nothing.
 //! Their statements stand in `specs/Laws`.
 ghost use Rattle.resb_read.specs.Laws.{OneRefusalOfAFile, OneValue};
+ghost use Rattle.resb_read.specs.Tables.{LastOfAName, AscendIsTold};
 
 /// A file whose tree isn't read is refused in one way, by kind and message, memory aside.
 pub fn one_refusal_of_a_file()
@@ -11,4 +12,16 @@ pub fn one_refusal_of_a_file()
 /// key, bytes, a view of items of so many bytes, or a tree.
 pub fn one_value()
     ensures { OneValue }
+{}
+
+/// What is found for a name is the value of an entry of that name, with no entry of it behind; and
+/// nothing is found where no entry has it.
+pub fn last_of_a_name()
+    ensures { LastOfAName }
+{}
+
+/// The test by which `TableView::sorted` goes is true exactly where each key is a text, and above
+/// the one before.
+pub fn ascend_is_told()
+    ensures { AscendIsTold }
 {}

@@ -18,6 +18,8 @@ mod numbers;
 mod resources;
 mod sequences;
 mod skipping;
+mod sorted;
+mod tables;
 mod texts;
 mod views;
 mod words;
@@ -29,4 +31,6 @@ pub use entry::{count_resources, from_bytes, from_bytes_counted, tree_from_bytes
 pub use named::{IntVectorDeserializer, KeyDeserializer, Resource16BitDeserializer};
 pub use resb_walk::Walk;
 pub use sequences::SeqAccess;
+pub use sorted::SortedTable;
+pub use tables::TableView;
 pub use words::{determine_endianness, from_words, lay_words};

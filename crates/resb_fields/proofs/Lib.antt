@@ -1,0 +1,1 @@
+-- Nothing: what one proof needs stands beside it.

@@ -1,0 +1,13 @@
+//! Records: a table's named entries as the fields of a struct of one's own, with no proof.
+//! Single values are looked up by `resb_read::TableView`.
+#![tactic(auto)]
+
+mod chain;
+mod field;
+mod fields;
+mod record;
+
+pub use chain::Chain;
+pub use field::{Field, Maybe, OrDefault};
+pub use fields::Fields;
+pub use record::{Record, Table};

@@ -1,0 +1,58 @@
+use Rattle.std.proofs.Common.{ℕ, Some, refl, sym, ap, ◌∙◌, option_map}
+use Rattle.resb_walk.specs.Files.{parts_in}
+use Rattle.resb_walk.specs.Inner.Members.{keyed_members, member_of}
+use Rattle.resb_format.specs.Content.{Member}
+use Rattle.resb_read.specs.Sequences.{at_entry, at_spot}
+use Rattle.resb_read.specs.Inner.Items.{entry_places}
+use Rattle.resb_read.specs.Tables.{entries_of, last_named}
+use Rattle.resb_read.proofs.Ascending.{sound, window_is, half_less, half_greater, half_equal}
+use Rattle.resb_read.proofs.sorted.SortedTable.get.Goals as goal
+
+pub halves-init : goal.halves-init
+halves-init c = (sound (entries_of c.args.self.now.table) c.args.self.now.ascend, refl)
+
+pub returns-in-Equal : goal.returns-in-Equal
+returns-in-Equal c =
+    let file = c.args.self.now.table.file in
+    let name = c.args.name.now in
+    let e : ℕ × Member = (c.in-Some-split.position, member_of c.in-Some-split.member) in
+    let front = keyed_members c.in-Some.front in
+    let later = keyed_members c.in-Some-split.later in
+    let is = window_is (at_entry (parts_in file)) (keyed_members c.halves.window) front
+    (keyed_members c.in-Some.back) later e c.in-Some.ensures.all c.in-Some-split.ensures in
+    ap (λ s. Some (at_spot (parts_in file) s)) c.spot_of.ensures
+    ∙ half_equal name (last_named name (entries_of c.args.self.now.table))
+    (entry_places file c.halves.window) (entry_places file c.in-Some.front)
+    (entry_places file c.in-Some-split.later) (at_entry (parts_in file) e) (c.in-Ok.key.now, 0) is
+    c.halves.invariant (ap (option_map (λ s. (s, 0))) c.in-Ok.ensures.stands)
+    (sym c.cmp.ensures ∙ c.in-Equal.is)
+
+pub halves-preserved-in-Less : goal.halves-preserved-in-Less
+halves-preserved-in-Less c =
+    let file = c.args.self.now.table.file in
+    let name = c.args.name.now in
+    let e : ℕ × Member = (c.in-Some-split.position, member_of c.in-Some-split.member) in
+    let front = keyed_members c.in-Some.front in
+    let later = keyed_members c.in-Some-split.later in
+    let is = window_is (at_entry (parts_in file)) (keyed_members c.halves.window) front
+    (keyed_members c.in-Some.back) later e c.in-Some.ensures.all c.in-Some-split.ensures in
+    half_less name (last_named name (entries_of c.args.self.now.table))
+    (entry_places file c.halves.window) (entry_places file c.in-Some.front)
+    (entry_places file c.in-Some-split.later) (at_entry (parts_in file) e) (c.in-Ok.key.now, 0) is
+    c.halves.invariant (ap (option_map (λ s. (s, 0))) c.in-Ok.ensures.stands)
+    (sym c.cmp.ensures ∙ c.in-Less.is)
+
+pub halves-preserved : goal.halves-preserved
+halves-preserved c =
+    let file = c.args.self.now.table.file in
+    let name = c.args.name.now in
+    let e : ℕ × Member = (c.in-Some-split.position, member_of c.in-Some-split.member) in
+    let front = keyed_members c.in-Some.front in
+    let later = keyed_members c.in-Some-split.later in
+    let is = window_is (at_entry (parts_in file)) (keyed_members c.halves.window) front
+    (keyed_members c.in-Some.back) later e c.in-Some.ensures.all c.in-Some-split.ensures in
+    half_greater name (last_named name (entries_of c.args.self.now.table))
+    (entry_places file c.halves.window) (entry_places file c.in-Some.front)
+    (entry_places file c.in-Some-split.later) (at_entry (parts_in file) e) (c.in-Ok.key.now, 0) is
+    c.halves.invariant (ap (option_map (λ s. (s, 0))) c.in-Ok.ensures.stands)
+    (sym c.cmp.ensures ∙ c.in-Greater.is)

@@ -1,0 +1,137 @@
+//! A table whose values are looked up by their keys.
+//! Its entries one after another are in `entries`; a table whose keys ascend is in `sorted`.
+ghost use Rattle.std.specs.Prelude.{◌≡◌, ◌≤◌, ◌<◌, ◌+◌, ◌⊎◌, ℕ, Some, None, length, option_map};
+ghost use Rattle.std.specs.Prelude.{MatchResult, IfOk, IfErr};
+ghost use Rattle.resb_walk.specs.Files.{parts_in};
+ghost use Rattle.resb_walk.specs.Refusals.{IsSpent};
+ghost use Rattle.resb_read.specs.Places.{place_of};
+ghost use Rattle.resb_read.specs.Sequences as sequences;
+ghost use Rattle.resb_read.specs.Leaves.{key_from};
+ghost use Rattle.resb_read.specs.declared.cursor.Spot.TheVariants as spot;
+ghost use Rattle.resb_read.specs.Tables.{entries_of, is_text, last_named, RefusesTable};
+ghost use Rattle.resb_read.specs.Tables.{ReadsFound, RefusesFound};
+ghost use Rattle.resb_read.specs.Inner.Naming.{is_ended};
+
+use crate::cursor::{Cursor, Spot};
+use crate::deserialize::Deserialize;
+use crate::items::spot_of;
+use resb_format::bytes::cut_at;
+use resb_format::{BinaryDeserializerError, ReadingError};
+use resb_walk::{File, Pairs, Walk};
+use std::alloc::Global;
+
+/// A table that stands in a file, with one paid of the budget for each of its entries.
+#[derive(Clone, Copy)]
+pub struct TableView<'de> {
+    pub(crate) file: File<'de>,
+    pub(crate) entries: Pairs<'de>,
+}
+
+impl<'de> TableView<'de> {
+    /// How many entries there are.
+    #[tactic(auto, using(crate::proofs::Singly::lengths))]
+    pub fn len(&self) -> usize
+        ensures { result ≡ length (entries_of self.now) }
+    {
+        self.entries.len()
+    }
+
+    /// Where the value of the last entry stands whose key is this name. A key that can't be read is
+    /// no name. Of each key at most one byte more than the name has is looked at.
+    pub fn get(&self, name: &str) -> Option<Cursor<'de>>
+        ensures { option_map place_of result ≡ last_named name.now (entries_of self.now) }
+    {
+        let mut found = None;
+        let mut rest = self.entries;
+        'entries: while let Some((position, member, later)) = rest.split() {
+            if is_key(self.file, position, name) {
+                found = Some(Cursor {
+                    file: self.file,
+                    at: spot_of(member),
+                });
+            }
+            rest = later;
+        }
+        found
+    }
+
+    /// Reads the value of the last entry whose key is this name, if there is one.
+    pub fn value<'m, T: Deserialize<'de>>(
+        &self,
+        alloc: Global,
+        name: &str,
+        walk: &mut Walk,
+    ) -> Result<Option<T>, ReadingError<'m>>
+        ensures read { let found = last_named name.now (entries_of self.now) in
+            IfOk result (λ x. (n : ℕ) × ReadsFound T.reads found x n × (walk.new + n ≡ walk.old)) }
+        ensures refused { let found = last_named name.now (entries_of self.now) in
+            IfErr result (RefusesFound T.counts T.refuses found walk.old walk.new) }
+    {
+        let Some(at) = self.get(name) else {
+            return Ok(None);
+        };
+        Ok(Some(T::deserialize(alloc, at, walk)?))
+    }
+}
+
+/// Whether the key at a position is this name.
+#[tactic(auto, using(crate::proofs::Naming::told))]
+fn is_key(file: File<'_>, position: usize, name: &str) -> bool
+    ensures { result ≡ is_text name.now (key_from (parts_in file.entry) (spot.Key position)) }
+{
+    match cut_at(file.keys, position) {
+        Some((_, tail)) => begins_with(tail, name.as_bytes()),
+        None => false,
+    }
+}
+
+/// Whether the bytes begin with these, none of them zero, and a zero byte behind them.
+fn begins_with(bytes: &[u8], wanted: &[u8]) -> bool
+    ensures { result ≡ is_ended bytes.entry.now wanted.entry.now }
+{
+    let mut rest = bytes;
+    let mut left = wanted;
+    'bytes: while let Some((first, later)) = left.split_first() {
+        let Some((byte, behind)) = rest.split_first() else {
+            return false;
+        };
+        if *byte == 0 || *byte != *first {
+            return false;
+        }
+        rest = behind;
+        left = later;
+    }
+    match rest.first() {
+        Some(byte) => *byte == 0,
+        None => false,
+    }
+}
+
+/// Pays one for each of so many entries, or nothing where not so many are left.
+pub(crate) fn pay_each(count: usize, walk: &mut Walk) -> Result<(), BinaryDeserializerError>
+    ensures { MatchResult result (λ _. walk.new + count ≡ walk.old)
+        (λ e. IsSpent e × (walk.old < count) × (walk.new ≡ walk.old)) }
+{
+    let left = walk.left();
+    if left < count {
+        return Err(BinaryDeserializerError::invalid_data("resource budget spent"));
+    }
+    *walk = Walk::new(left - count);
+    Ok(())
+}
+
+impl<'de> Cursor<'de> {
+    /// The table that stands here, for look-ups by key. It takes one from the budget, and one for
+    /// each entry: then any number of names may be looked for. The fields of all entries lie in the
+    /// file, but where they lead isn't looked at yet.
+    pub fn read_table<'m>(self, walk: &mut Walk) -> Result<TableView<'de>, ReadingError<'m>>
+        ensures read { IfOk result (λ t.
+            (sequences.entries (place_of self.entry) ≡ Some (entries_of t))
+            × (walk.new + 1 + length (entries_of t) ≡ walk.old)) }
+        ensures refused { IfErr result (λ e.
+            RefusesTable (place_of self.entry) walk.old walk.new e) }
+    {
+        let access = self.read_map(walk)?;
+        access.table(walk)
+    }
+}

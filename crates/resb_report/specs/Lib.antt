@@ -1,0 +1,2 @@
+-- The words of the contracts: lines and columns.
+pub mod Location

@@ -1,0 +1,7 @@
+//! What a person is told about a place of a text: its line and column, and the line around it.
+//! What a text means, and why one is refused, is in the crates of its reader.
+#![tactic(auto)]
+
+mod location;
+
+pub use location::{Location, location_of};

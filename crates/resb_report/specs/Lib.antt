@@ -1,2 +1,3 @@
--- The words of the contracts: lines and columns.
+-- The words of the contracts: lines and columns, and the brace that is open.
 pub mod Location
+pub mod Braces

@@ -2,6 +2,8 @@
 //! What a text means, and why one is refused, is in the crates of its reader.
 #![tactic(auto)]
 
+mod braces;
 mod location;
 
+pub use braces::innermost_open;
 pub use location::{Location, location_of};

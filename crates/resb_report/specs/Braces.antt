@@ -10,14 +10,19 @@ use Rattle.resb_report.specs.declared.braces.Mode.TheVariants as mode
 -- the characters " * / { } and the line feed, by their numbers in ASCII
 abbrev pub quote : ℕ
 quote = 34
+
 abbrev pub star : ℕ
 star = 42
+
 abbrev pub slash : ℕ
 slash = 47
+
 abbrev pub left_brace : ℕ
 left_brace = 123
+
 abbrev pub right_brace : ℕ
 right_brace = 125
+
 abbrev pub line_feed : ℕ
 line_feed = 10
 

@@ -3,7 +3,9 @@
 #![tactic(auto)]
 
 mod braces;
+mod excerpt;
 mod location;
 
 pub use braces::innermost_open;
+pub use excerpt::pointed_line;
 pub use location::{Location, location_of};

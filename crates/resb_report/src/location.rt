@@ -34,7 +34,7 @@ pub fn location_of(text: &[u8], place: usize) -> Location
 }
 
 /// Whether a byte begins a character of UTF-8, and doesn't go on with one.
-fn begins_character(byte: u8) -> bool
+pub(crate) fn begins_character(byte: u8) -> bool
     ensures { result ≡ location.begins_character byte }
 {
     byte < 128 || 191 < byte

@@ -22,7 +22,7 @@ pub(crate) enum Mode {
 
 impl Mode {
     /// What the byte behind this one stands in.
-    fn behind(self, byte: u8) -> Mode
+    pub(crate) fn behind(self, byte: u8) -> Mode
         ensures { result ≡ braces.mode_behind self byte }
     {
         match self {

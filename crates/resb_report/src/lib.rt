@@ -4,8 +4,11 @@
 
 mod braces;
 mod excerpt;
+mod groups;
 mod location;
+mod warning;
 
 pub use braces::innermost_open;
 pub use excerpt::pointed_line;
 pub use location::{Location, location_of};
+pub use warning::{Reason, Warning, warnings};

@@ -7,7 +7,7 @@ use Rattle.std.proofs.Math.Seq.{get_or-append_seam}
 use Rattle.std.proofs.Math.Utf8.{encode}
 use Rattle.std.proofs.lemmas.Bool.{cases_lt}
 use Rattle.std.proofs.lemmas.Bool.Decides.{nat_tests}
-use Rattle.std.proofs.lemmas.List.{get_or-drop, take_more, take_all, length-take}
+use Rattle.std.proofs.lemmas.List.{get_or-drop, take_more, length-take}
 use Rattle.std.proofs.lemmas.List.Sums.{sum_by-cons, sum_by_push}
 use Rattle.std.proofs.lemmas.Str.{length-encode, len_utf8_bounds}
 use Rattle.std.specs.Char.{len_utf8}
@@ -88,10 +88,6 @@ at_step us ns unit front behind h within e f =
     let there = rw whole at sum in
     let first = h (unit / 64) within in
     (omega (arith, e, f, there, first), omega (arith, e, f, there, first, front_at_most us unit))
-
-pub whole_width : (us : List ℕ) (n : ℕ) → length us ≤ n
-    → text_width (take n (drop 0 us)) ≡ text_width us
-whole_width us n h = ap text_width (take_all n us h)
 
 -- one sum more
 pub summed_push : (us ns : List ℕ) (total : ℕ) → AreSummed us ns

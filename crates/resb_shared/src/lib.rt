@@ -9,4 +9,4 @@ mod widths;
 
 pub use breaks::{Breaks, is_high, is_low};
 pub use tails::{LongTails, SHORT_TAIL, Tail};
-pub use widths::{Widths, utf8_len};
+pub use widths::Widths;

@@ -49,13 +49,6 @@ fn width_between(block: &[u8], from: usize, count: usize) -> usize
     sum
 }
 
-/// How many bytes of UTF-8 all units of some bytes take.
-pub fn utf8_len(bytes: &[u8]) -> usize
-    ensures { result ≡ text_width (units_of bytes.now) }
-{
-    width_between(bytes, 0, bytes.len() / 2)
-}
-
 impl<'a> Widths<'a> {
     ghost use Rattle.std.specs.Prelude.{◌≡◌, ◌+◌, ◌/◌, ◌≤◌, length, take, drop, IfOk};
     ghost use Rattle.resb_format.specs.Bytes.{units_of};

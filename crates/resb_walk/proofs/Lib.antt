@@ -14,3 +14,6 @@ mod Keys
 mod Plain
 mod Marked
 mod Paths
+mod SumsLemmas
+pub mod Holding
+mod Weighed

@@ -17,7 +17,7 @@ use Rattle.resb_walk.specs.Pieces.{Holds, holds_leaf, holds_list, holds_pairs, H
 use Rattle.resb_walk.specs.Pieces.{holds_word, holds_unit, HoldsEach, holds_none, holds_more}
 use Rattle.resb_walk.specs.Pieces.{HoldsPairs, holds_no_pair, holds_pair}
 use Rattle.resb_walk.specs.Sums.{resources_in}
-use Rattle.resb_walk.specs.Inner.Weighing.{count_of}
+use Rattle.resb_walk.specs.Sums.{count_of}
 
 same_leaf : {o : Option Content} {t u : Tree} → o ≡ Some (leaf t) → o ≡ Some (leaf u) → t ≡ u
 same_leaf e f = cc

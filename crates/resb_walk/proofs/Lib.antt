@@ -14,6 +14,7 @@ mod Keys
 mod Plain
 mod Marked
 mod Paths
-mod SumsLemmas
 pub mod Holding
 mod Weighed
+pub mod TreePieces
+pub mod SumsLemmas

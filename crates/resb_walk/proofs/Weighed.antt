@@ -8,10 +8,10 @@ use Rattle.resb_format.specs.Content.{Member, list, pairs}
 use Rattle.resb_format.proofs.Denoting.{same_list, same_pairs, list_pairs}
 use Rattle.resb_walk.specs.Inner.Counting.{Rests, HasLast, Keeps}
 use Rattle.resb_walk.specs.Inner.Members.{members_of, keyed_members, rest_length, member_of}
-use Rattle.resb_walk.specs.Inner.Weighing.{count_of, RestHolds, IsEnd, ToCome, Waiting, waits_none}
+use Rattle.resb_walk.specs.Inner.Weighing.{RestHolds, IsEnd, ToCome, Waiting, waits_none}
 use Rattle.resb_walk.specs.Inner.Weighing.{waits_more, Looked, Nexts, Entered, Weighing}
 use Rattle.resb_walk.specs.Pieces.{Piece, Holds, HoldsMember}
-use Rattle.resb_walk.specs.Sums.{AddsUp, resources_in}
+use Rattle.resb_walk.specs.Sums.{AddsUp, resources_in, count_of}
 use Rattle.resb_walk.specs.declared.count.Inner.{Inner}
 use Rattle.resb_walk.specs.declared.count.Outer.{Outer}
 use Rattle.resb_walk.specs.declared.file.Member.{Member as Stood}

@@ -18,4 +18,5 @@ pub mod Refusals
 pub mod Borrows
 pub mod Pieces
 pub mod Sums
+pub mod TreeBytes
 pub mod Inner

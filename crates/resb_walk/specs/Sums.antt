@@ -1,5 +1,6 @@
 -- What pieces add up to.
 --     resources_in x, tables_in x, ..     how many of a kind the piece x is, or has
+--     count_of xs             how many resources there are among the pieces
 --     fitting n               the number, if it fits in 64 bits
 --     AddsUp s xs             the sums s are those of the pieces xs
 use Rattle.std.specs.Prelude.{◌≡◌, ℕ, ◌^◌, List, length, Option, Some, None, nat_lt, sum_by}
@@ -13,6 +14,10 @@ use Rattle.resb_walk.specs.declared.sums.Sums.{Sums}
 abbrev pub resources_in : Piece → ℕ
 resources_in (key_piece k) = 0
 resources_in _ = 1
+
+-- how many resources there are among pieces
+abbrev pub count_of : List Piece → ℕ
+count_of xs = sum_by resources_in xs
 
 -- 1 for a table that has entries
 abbrev pub tables_in : Piece → ℕ

@@ -4,9 +4,9 @@
 ghost use Rattle.std.specs.Prelude.{◌≡◌, ℕ, ◌++◌, List, IfOk};
 ghost use Rattle.resb_walk.specs.Files.{parts_in};
 ghost use Rattle.resb_walk.specs.Inner.Members.{member_of};
-ghost use Rattle.resb_walk.specs.Inner.Weighing.{ToCome, Waiting, Entered, count_of};
+ghost use Rattle.resb_walk.specs.Inner.Weighing.{ToCome, Waiting, Entered};
 ghost use Rattle.resb_walk.specs.Pieces.{Piece, Holds, HoldsMember};
-ghost use Rattle.resb_walk.specs.Sums.{AddsUp};
+ghost use Rattle.resb_walk.specs.Sums.{AddsUp, count_of};
 
 use crate::count::{Inner, Outer, again, keep};
 use crate::file::{File, Member};

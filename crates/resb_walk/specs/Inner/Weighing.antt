@@ -4,22 +4,17 @@
 --     Waiting cs xs           xs are the pieces still to come of collections that wait, the inmost
 --                             one's first
 use Rattle.std.specs.Prelude.{◌≡◌, ℕ, ◌+◌, ◌≤◌, List, [], ◌∷◌, ◌++◌, length, Option, Some, None}
-use Rattle.std.specs.Prelude.{sum_by}
 use Rattle.resb_format.specs.Content.{Member, list, pairs, content}
 use Rattle.resb_format.specs.Parts.{Parts}
 use Rattle.resb_walk.specs.Inner.Members.{member_of, members_of, keyed_members, rest_length}
 use Rattle.resb_walk.specs.Pieces.{Piece, Holds, HoldsMember, HoldsEach, HoldsPairs}
-use Rattle.resb_walk.specs.Sums.{AddsUp, resources_in}
+use Rattle.resb_walk.specs.Sums.{AddsUp, resources_in, count_of}
 use Rattle.resb_walk.specs.declared.count.Inner.{Inner}
 use Rattle.resb_walk.specs.declared.count.Outer.{Outer}
 use Rattle.resb_walk.specs.declared.file.Member.{Member as Stood}
 use Rattle.resb_walk.specs.declared.file.Rest.{Rest}
 use Rattle.resb_walk.specs.declared.file.Rest.TheVariants as rest
 use Rattle.resb_walk.specs.declared.sums.Sums.{Sums}
-
--- how many resources there are among pieces
-abbrev pub count_of : List Piece → ℕ
-count_of xs = sum_by resources_in xs
 
 module _ (p : Parts) where
   abbrev pub RestHolds : Rest → List Piece → Type 0

@@ -30,7 +30,7 @@ def sources():
 
 
 LIBRARIES = ["resb_tree", "resb_grammar", "resb_text", "resb_format", "resb_head", "resb_pool",
-             "resb_print", "resb_walk", "resb_read", "resb_write"]
+             "resb_print", "resb_walk", "resb_read", "resb_fields", "resb_write"]
 
 
 def exports(path, crate="resb"):
@@ -76,9 +76,19 @@ class Library:
     def __init__(self):
         self.items, self.methods, self.traits, self.into = {}, {}, {}, {}
         for crate, path in sources():
-            self.read(path)
+            self.read(crate, path)
 
-    def read(self, path):
+    def item(self, crate, name):
+        """What a name of a crate is, which that crate may have from another."""
+        return self.items.get((crate, name)) or self.items.get(name)
+
+    def traits_of(self, crate, name):
+        """The traits of a type; of one whose name two crates have, those that its own gives it."""
+        shared = sum(1 for it in self.items if isinstance(it, tuple) and it[1] == name) > 1
+        return [trait for giver, trait in self.traits.get(name, [])
+                if not shared or giver == crate]
+
+    def read(self, crate, path):
         lines = path.read_text(encoding="utf8").split("\n")
         around, is_trait = "", False
         for at, line in enumerate(lines):
@@ -95,29 +105,31 @@ class Library:
                     self.into.setdefault(turned.group(1), []).append(turned.group(2))
                 if given:
                     name = given.group(2)
-                    self.traits.setdefault(name, []).append((given.group(1), lines, at))
+                    self.traits.setdefault(name, []).append((crate, given.group(1)))
             elif line.startswith("}"):
                 around = ""
             item = re.match(r"^pub (fn|struct|enum|trait|const|type) (\w+)", line)
             if item:
-                self.items.setdefault(item.group(2), (item.group(1), lines, at))
+                found = (item.group(1), lines, at)
+                self.items.setdefault(item.group(2), found)
+                self.items.setdefault((crate, item.group(2)), found)
             method = re.match(r"^    (pub )?(?:const )?fn (\w+)", line)
             if method and around and (method.group(1) or is_trait):
                 self.methods.setdefault(around, []).append((method.group(2), lines, at))
 
 
-def rows_of(library, name):
-    """The lines of the page for a name: itself, and its calls."""
-    if name not in library.items:
+def rows_of(library, crate, name):
+    """The lines of the page for a name that a crate has: itself, and its calls."""
+    if not library.item(crate, name):
         return []
-    kind, lines, at = library.items[name]
+    kind, lines, at = library.item(crate, name)
     if kind == "fn":
         return [(signature(lines, at), sentence(lines, at))]
     head = signature(lines, at).removeprefix("pub ") if kind == "type" else f"{kind} {name}"
     rows = [(head, sentence(lines, at)), *parts_of(name, lines, at)]
     for _, lines, at in library.methods.get(name, []):
         rows.append((f"{name}: " + signature(lines, at), sentence(lines, at)))
-    traits = [trait for trait, _, _ in library.traits.get(name, [])
+    traits = [trait for trait in library.traits_of(crate, name)
               if not trait.startswith(("Drop", "Error", "MadeWith", "Model"))]
     if traits:
         rows.append((f"{name}: " + ", ".join(dict.fromkeys(traits)), "The traits that it has."))
@@ -168,7 +180,7 @@ def section(library, title, path):
     for source, name in exports(path):
         if name not in seen and "laws" not in path.name:
             seen.add(name)
-            rows += rows_of(library, name) or calls_of(source, name)
+            rows += rows_of(library, source, name) or calls_of(source, name)
     if not rows:
         return ""
     out = [f"\n## {title}\n", "| Call | What it does |", "|---|---|"]
@@ -186,6 +198,7 @@ def page():
                ("`resb::binary`", top / "binary.rt")]
     modules += [(f"`resb::binary::{path.stem}`", path)
                 for path in sorted((top / "binary").glob("*.rt"))]
+    modules += [("`resb::fields`", top / "fields.rt")]
     for title, path in modules:
         text += section(library, title, path)
     return text

@@ -190,7 +190,7 @@ class Specs:
 
 
 # Files of specs/ that hold proofs of laws, and say nothing to be trusted.
-PROOFS = ("TypeLaws", "ZoneLaws", "EqualityLemmas")
+PROOFS = ("TypeLaws", "ZoneLaws", "FieldLaws", "EqualityLemmas")
 
 CLAUSE = re.compile(r"^\s*(?:pub )?(ensures|requires|ghost)\b\s*([a-z_]*)")
 
@@ -289,8 +289,8 @@ def law_roots(specs, path):
 
 
 LIBRARIES = ["resb_tree", "resb_grammar", "resb_text", "resb_print", "resb_format", "resb_head",
-             "resb_layout", "resb_pool", "resb_shared", "resb_walk", "resb_read", "resb_bodies",
-             "resb_write", "resb"]
+             "resb_layout", "resb_pool", "resb_shared", "resb_walk", "resb_read", "resb_fields",
+             "resb_bodies", "resb_write", "resb"]
 
 
 def table(specs):

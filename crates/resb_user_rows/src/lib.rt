@@ -1,13 +1,17 @@
-//! The worked rows of what stands on `resb`: the zone table, the code of the pages, and what the
-//! program does over any reader and writer. Texts, files and streams, with the answers that the
-//! rules ask for.
+//! The worked rows of what stands on `resb`: records, the zone table, the code of the pages, and
+//! what the program does over any reader and writer. Texts, files and streams, with the answers
+//! that the rules ask for.
 //! Only tests stand here, so that `resb_zones` and `resb_command` are not proved twice.
 #![tactic(auto)]
 
 #[cfg(test)]
 mod page_rows;
 #[cfg(test)]
+mod record_rows;
+#[cfg(test)]
 mod rows;
+#[cfg(test)]
+mod shapes;
 #[cfg(test)]
 mod stream_rows;
 #[cfg(test)]

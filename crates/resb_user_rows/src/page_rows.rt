@@ -1,8 +1,9 @@
-//! What the code of the pages answers: zones read without a type of one's own, a tree made in code,
-//! and two texts in one file.
+//! What the code of the pages answers: zones read without a type of one's own, a record's number, a
+//! tree made in code, and two texts in one file.
 //! The zone table has its rows in `text_rows` and `zone_rows`.
 use resb::compile;
-use resb_examples::reading::{base_by_cursor, base_of};
+use resb_examples::reading::{base_by_cursor, base_by_key, base_of};
+use resb_examples::records::digits_of;
 use resb_examples::writing::{greeting_file, merge};
 use std::alloc::Global;
 use std::test::Fail;
@@ -20,11 +21,34 @@ const MERGED: [&str; 3] = [
     r#"names { age:int { 7 } greeting { "hi" } zone { "Pole" } }"#,
 ];
 
-/// Whether each zone's base is read, by both ways.
+/// A text of two currencies, one of which had other codes.
+const CURRENCIES: &str = r#"currencies {
+    EUR { digits:int { 2 } name { "Euro" } old { "ECU", "XEU" } }
+    JPY { digits:int { 0 } name { "Yen" } }
+}"#;
+
+/// Codes of currencies, and their digits.
+const DIGITS: [(&str, Option<i32>); 3] = [("EUR", Some(2)), ("JPY", Some(0)), ("XXX", None)];
+
+/// Whether each zone's base is read, by each way.
 fn are_read(alloc: Global) -> Result<bool, Fail> {
     let file = compile(alloc, ZONES)?;
     for (name, base) in BASES {
         if base_of(alloc, &file, name)? != base || base_by_cursor(&file, name)? != base {
+            return Ok(false);
+        }
+        if base_by_key(alloc, &file, name)? != base {
+            return Ok(false);
+        }
+    }
+    Ok(true)
+}
+
+/// Whether the digits of each currency are read.
+fn are_records(alloc: Global) -> Result<bool, Fail> {
+    let file = compile(alloc, CURRENCIES)?;
+    for (code, digits) in DIGITS {
+        if digits_of(alloc, &file, code)? != digits {
             return Ok(false);
         }
     }
@@ -40,7 +64,7 @@ fn are_written(alloc: Global) -> Result<bool, Fail> {
 
 #[test]
 fn pages_answer(rt: HostRuntime) -> Result<(), Fail> {
-    let read = are_read(rt.alloc())?;
+    let read = are_read(rt.alloc())? && are_records(rt.alloc())?;
     let written = are_written(rt.alloc())?;
     assert!(rt; read && written);
     Ok(())

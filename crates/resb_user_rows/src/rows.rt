@@ -1,6 +1,6 @@
 //! The tests of the rows that are lines of text: what answers a row of each kind, and one loop,
 //! which is proved once. The rows and what answers them stand in the other modules.
-use crate::{stream_rows, text_rows};
+use crate::{record_rows, stream_rows, text_rows};
 use std::alloc::Global;
 use std::process::Abort;
 use std::test::Fail;
@@ -8,6 +8,7 @@ use std::test::Fail;
 /// What a row is asked for.
 #[derive(Clone, Copy)]
 enum Kind {
+    Records,
     Zones,
     Run,
     Fault,
@@ -16,6 +17,7 @@ enum Kind {
 /// The line of a row of this kind.
 fn answered(alloc: Global, kind: Kind, input: &str) -> Result<String, Fail> {
     match kind {
+        Kind::Records => record_rows::line_of_record(alloc, input),
         Kind::Zones => text_rows::line_of_zones(alloc, input),
         Kind::Run => stream_rows::line_of_run(alloc, input),
         Kind::Fault => stream_rows::line_of_fault(alloc, input),
@@ -30,6 +32,13 @@ fn assert_rows(rt: &impl Abort, alloc: Global, kind: Kind, rows: &str) -> Result
         assert_eq!(rt; found.as_str(), wanted, "{input}");
     }
     Ok(())
+}
+
+#[test]
+fn records_are_read(rt: HostRuntime) -> Result<(), Fail> {
+    assert_rows(&rt, rt.alloc(), Kind::Records, record_rows::RECORDS)?;
+    assert_rows(&rt, rt.alloc(), Kind::Records, record_rows::UNWRITTEN)?;
+    assert_rows(&rt, rt.alloc(), Kind::Records, record_rows::SHARED)
 }
 
 #[test]

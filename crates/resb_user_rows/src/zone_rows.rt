@@ -104,7 +104,8 @@ const REFUSED: [Refused; 3] = [
     },
 ];
 
-fn file_of(alloc: Global, words: &[u32]) -> Result<Vec<u8>, AllocError> {
+/// The bytes of these words behind a written header.
+pub(crate) fn file_of(alloc: Global, words: &[u32]) -> Result<Vec<u8>, AllocError> {
     let mut file = Vec::from_slice(alloc, &HEADER)?;
     for word in words {
         file.extend_from_slice(&word.to_le_bytes())?;

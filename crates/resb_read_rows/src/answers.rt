@@ -122,7 +122,7 @@ fn line_by_count(alloc: Global, bytes: &[u8]) -> Result<String, Fail> {
 }
 
 /// The line of a file, by `count_resources` and `tree_from_bytes`.
-fn line_by_tree(alloc: Global, bytes: &[u8]) -> Result<String, Fail> {
+pub(crate) fn line_by_tree(alloc: Global, bytes: &[u8]) -> Result<String, Fail> {
     match count_resources(alloc, bytes) {
         Ok(count) => line_of_tree(alloc, count, &tree_from_bytes(alloc, bytes)?),
         Err(error) => line_of_refusal(alloc, error),

@@ -60,7 +60,7 @@ ends 100 231 => Invalid resource bundle data: key string is not valid UTF-8;
 ";
 
 /// The file that a row names.
-fn made(alloc: Global, kind: &str, count: &str, last: &str) -> Result<Vec<u8>, Fail> {
+pub(crate) fn made(alloc: Global, kind: &str, count: &str, last: &str) -> Result<Vec<u8>, Fail> {
     match kind {
         "shared" => sharing(alloc, count.parse::<u32>()?, u32::from_str_radix(last, 16)?),
         "doubling" => doubling(alloc, count.parse::<usize>()?),
@@ -69,6 +69,7 @@ fn made(alloc: Global, kind: &str, count: &str, last: &str) -> Result<Vec<u8>, F
         "tables" => nested_tables(alloc, count.parse::<u32>()?),
         "pairs" => of_one_string(alloc, count.parse::<u32>()?, last, 0xdc02_d800),
         "halves" => of_one_string(alloc, count.parse::<u32>()?, last, 0xdc01_d800),
+        "parts" => of_parts(alloc),
         "ends" => of_ends(alloc, count.parse::<u32>()?, last.parse::<u32>()?),
         _ if last == "k" => of_one_key(alloc),
         _ => of_many_keys(alloc),
@@ -227,6 +228,30 @@ fn of_many_keys(alloc: Global) -> Result<Vec<u8>, Fail> {
         bytes.extend_from_slice(&0x7000_0000_u32.to_le_bytes())?;
     }
     Ok(bytes)
+}
+
+/// An array of one vector twice, a binary, an empty table, and a table with two entries of one key.
+fn of_parts(alloc: Global) -> Result<Vec<u8>, Fail> {
+    let body = [
+        5,
+        0xe000_000f,
+        0xe000_000f,
+        0x1000_0013,
+        0x2000_0000,
+        0x2000_0016,
+        3,
+        1,
+        2,
+        3,
+        5,
+        0x0403_0201,
+        5,
+        0x0020_0002,
+        0x20,
+        0x7000_0001,
+        0x6000_0000,
+    ];
+    with_body(alloc, 0x8000_0009, &body)
 }
 
 /// An array of so many members: a string of 503 of these pairs of units, and a last word.

@@ -20,6 +20,8 @@ mod head_rows;
 #[cfg(test)]
 mod hostile_rows;
 #[cfg(test)]
+mod measure_rows;
+#[cfg(test)]
 mod places;
 #[cfg(test)]
 mod rows;

@@ -1,7 +1,7 @@
 //! The tests of the rows that are lines of text: what answers a row of each kind, and one loop,
 //! which is proved once. The rows and what answers them stand in the other modules.
 use crate::answers::parts;
-use crate::{both_rows, cursor_rows, file_rows, head_rows, hostile_rows, type_rows};
+use crate::{both_rows, cursor_rows, file_rows, head_rows, hostile_rows, measure_rows, type_rows};
 use std::alloc::Global;
 use std::process::Abort;
 use std::test::Fail;
@@ -22,6 +22,7 @@ enum Kind {
     Order,
     Laid,
     Hostile,
+    Measure,
     Type,
     Sweep,
 }
@@ -42,6 +43,7 @@ fn answered(alloc: Global, kind: Kind, input: &str) -> Result<String, Fail> {
         Kind::Order => head_rows::line_of_order(alloc, input),
         Kind::Laid => head_rows::line_of_laid(alloc, input),
         Kind::Hostile => hostile_rows::line_of_hostile(alloc, input),
+        Kind::Measure => measure_rows::line_of_measure(alloc, input),
         Kind::Type => type_rows::line_of_ask(alloc, input),
         Kind::Sweep => type_rows::line_of_places(alloc, input),
     }
@@ -109,4 +111,9 @@ fn tables_of_many_entries_are_read(rt: HostRuntime) -> Result<(), Fail> {
 fn types_are_read_at_places(rt: HostRuntime) -> Result<(), Fail> {
     assert_rows(&rt, rt.alloc(), Kind::Type, type_rows::TYPES)?;
     assert_rows(&rt, rt.alloc(), Kind::Sweep, type_rows::SWEEPS)
+}
+
+#[test]
+fn trees_are_measured_before_they_are_made(rt: HostRuntime) -> Result<(), Fail> {
+    assert_rows(&rt, rt.alloc(), Kind::Measure, measure_rows::MEASURES)
 }

@@ -1,4 +1,5 @@
--- A word has one list of pieces, as many of them resources as its count, and no fewer than its tree.
+-- A word has one list of pieces, as many of them resources as its count, and no fewer than its
+-- tree.
 use Rattle.std.proofs.Common.{ℕ, List, [], ◌∷◌, ◌++◌, Option, Some, None, ◌≡◌, ◌≤◌, refl, sym}
 use Rattle.std.proofs.Common.{ap, ◌∙◌, subst, arith}
 use Rattle.std.specs.Prelude.{option_map}

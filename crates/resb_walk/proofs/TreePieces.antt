@@ -211,7 +211,9 @@ module _ (f : Piece → ℕ) where
           let more = pairs_within d i.2 in
           let all = all_within no_entries ts' in
           let own = same_within (f (table_piece es')) 1 in
-          let there = as_within _ _ _ _ refl (omega arith) refl (omega arith) all in
+          let there : Within (sum_of (pieces_of_entries (map_of ts'))) (pairs_sum ts')
+              (entries_count (map_of ts')) (pairs_count ts') =
+          as_within _ _ _ _ refl (omega arith) refl (omega arith) all in
           let whole : sum_of (entries_piece (map_of ts') ∷ pieces_of_entries (map_of ts'))
           ≡ f (table_piece es') + sum_of (pieces_of_entries (map_of ts')) =
           ap (λ x. sum_of (x ∷ pieces_of_entries (map_of ts'))) (table_same d)

@@ -10,25 +10,29 @@ pub returns-in_err-self : goal.returns-in_err-self
 returns-in_err-self c xs h =
     let none : c.args.self.sums.tables ≡ None = c.in_err-self.was in
     let large = fits_none (sum_by tables_in xs) (sym none ∙ h.sums.tables) in
-    rw c.from_residual.ensures (fits_not (tree_bytes xs) (omega (arith, bytes_by_sums xs, large)))
+    rw c.from_residual.ensures
+    (fits_not (tree_bytes xs) (omega (arith, bytes_by_sums xs, large)))
 
 pub returns-in_err-self-2 : goal.returns-in_err-self-2
 returns-in_err-self-2 c xs h =
     let none : c.args.self.sums.entries ≡ None = c.in_err-self-2.was in
     let large = fits_none (sum_by entries_in xs) (sym none ∙ h.sums.entries) in
-    rw c.from_residual-in_err-self-2.ensures (fits_not (tree_bytes xs) (omega (arith, bytes_by_sums xs, large)))
+    rw c.from_residual-in_err-self-2.ensures
+    (fits_not (tree_bytes xs) (omega (arith, bytes_by_sums xs, large)))
 
 pub returns-in_err-self-3 : goal.returns-in_err-self-3
 returns-in_err-self-3 c xs h =
     let none : c.args.self.sums.text_bytes ≡ None = c.in_err-self-3.was in
     let large = fits_none (sum_by text_bytes_in xs) (sym none ∙ h.sums.text_bytes) in
-    rw c.from_residual-in_err-self-3.ensures (fits_not (tree_bytes xs) (omega (arith, bytes_by_sums xs, large)))
+    rw c.from_residual-in_err-self-3.ensures
+    (fits_not (tree_bytes xs) (omega (arith, bytes_by_sums xs, large)))
 
 pub returns-in_err-self-4 : goal.returns-in_err-self-4
 returns-in_err-self-4 c xs h =
     let none : c.args.self.sums.numbers ≡ None = c.in_err-self-4.was in
     let large = fits_none (sum_by numbers_in xs) (sym none ∙ h.sums.numbers) in
-    rw c.from_residual-in_err-self-4.ensures (fits_not (tree_bytes xs) (omega (arith, bytes_by_sums xs, large)))
+    rw c.from_residual-in_err-self-4.ensures
+    (fits_not (tree_bytes xs) (omega (arith, bytes_by_sums xs, large)))
 
 pub returns-then-bytes : goal.returns-then-bytes
 returns-then-bytes c xs h =

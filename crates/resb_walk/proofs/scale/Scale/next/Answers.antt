@@ -1,4 +1,5 @@
-use Rattle.std.proofs.Common.{refl, subst, [], ◌∷◌, ◌++◌, ap, ◌∙◌, sym, append_assoc, Some, append-nil}
+use Rattle.std.proofs.Common.{refl, subst, [], ◌∷◌, ◌++◌, ap, ◌∙◌, sym, append_assoc, Some}
+use Rattle.std.proofs.Common.{append-nil}
 use Rattle.resb_format.specs.Content.{list, pairs}
 use Rattle.resb_walk.specs.Files.{parts_in}
 use Rattle.resb_walk.specs.Inner.Members.{member_of, members_of, keyed_members}

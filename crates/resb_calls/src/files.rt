@@ -6,7 +6,7 @@ use crate::outcome::{Outcome, Refused, outcome_of};
 use resb::binary::helpers::vec_utf_16;
 use resb::binary::{
     BinHeader, BinIndex, BinReprInfo, Cursor, count_resources, from_bytes, from_bytes_counted,
-    from_words, lay_words, tree_from_bytes,
+    from_words, lay_words, measure, tree_from_bytes, tree_from_bytes_within,
 };
 use resb::bundle::{Key, Resource};
 use resb::text::Reader;
@@ -27,6 +27,15 @@ pub(crate) fn reads_a_tree(alloc: Global) -> Result<bool, Refused> {
 pub(crate) fn counts(alloc: Global) -> Result<bool, Refused> {
     let (tree, count) = from_bytes_counted::<Resource>(alloc, &FILE)?;
     Ok(count_resources(alloc, &FILE)? == count && is_example(alloc, &tree)?)
+}
+
+pub(crate) fn measures(alloc: Global) -> Result<bool, Refused> {
+    let measured = measure(alloc, &FILE)?;
+    let Some(limit) = measured.tree_bytes() else {
+        return Ok(false);
+    };
+    let tree = tree_from_bytes_within(alloc, &FILE, limit)?;
+    is_example(alloc, &tree)
 }
 
 pub(crate) fn reads_by_a_cursor(alloc: Global) -> Result<bool, Refused> {

@@ -27,6 +27,7 @@ fn all_calls(alloc: Global) -> Outcome {
         texts::turns_a_key_into_a_string(alloc),
         outcome_of(files::reads_a_tree(alloc)),
         outcome_of(files::counts(alloc)),
+        outcome_of(files::measures(alloc)),
         outcome_of(files::reads_by_a_cursor(alloc)),
         outcome_of(files::reads_a_map(alloc)),
         outcome_of(files::reads_views(alloc)),

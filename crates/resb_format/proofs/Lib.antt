@@ -1,6 +1,6 @@
 -- For crates above: those that are `pub`.
 pub mod Denoting
-mod Mapped
+pub mod Mapped
 mod Examples
 pub mod Spelled
 pub mod Inside

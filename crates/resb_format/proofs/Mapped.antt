@@ -1,8 +1,9 @@
--- The tables of a tree that a file denotes are maps.
+-- The tables of a tree that a file denotes are maps, and what has no members by its type is a leaf.
 use Rattle.std.proofs.Common.{ℕ, List, Bool, true, false, Option, Some, None, subst, ◌==◌}
 use Rattle.std.specs.Prelude.{◌/◌, ◌%◌, ◌^◌, ◌+◌, ◌*◌, option_map, option_and_then, ◌≡◌}
 use Rattle.std.specs.Prelude.{slice_get, if◌then◌else◌}
-use Rattle.resb_tree.specs.Tree.{Tree, string, binary, int_vector, trees_of}
+use Rattle.resb_tree.specs.Tree.{Tree, string, array, table, binary, integer, int_vector}
+use Rattle.resb_tree.specs.Tree.{trees_of}
 use Rattle.resb_tree.specs.Maps.{AreMaps, AreMapsIn}
 use Rattle.resb_tree.proofs.MapsLemmas.{AllAreMaps, AreMaps-map_of}
 use Rattle.resb_format.specs.Bytes.{units_of, words_of, part}
@@ -15,9 +16,18 @@ use Rattle.resb_format.specs.Denotes.{Den, den_leaf, den_list, den_pairs, DenMem
 use Rattle.resb_format.specs.Denotes.{den_unit, DenEach, each_none, each_more, DenPairs, pairs_none}
 use Rattle.resb_format.specs.Denotes.{pairs_more}
 
--- what is finished is a tree of maps
+-- no array and no table
+abbrev pub IsLeaf : Tree → Type 0
+IsLeaf (string s) = Unit {0}
+IsLeaf (array ts) = ⊥
+IsLeaf (table es) = ⊥
+IsLeaf (binary s) = Unit {0}
+IsLeaf (integer n) = Unit {0}
+IsLeaf (int_vector ns) = Unit {0}
+
+-- what is finished is a tree of maps, and a leaf
 abbrev IsPlain : Option Content → Type 0
-IsPlain (Some (leaf t)) = AreMaps t
+IsPlain (Some (leaf t)) = AreMaps t × IsLeaf t
 IsPlain (Some (list ms)) = Unit {0}
 IsPlain (Some (pairs es)) = Unit {0}
 IsPlain None = Unit {0}
@@ -47,16 +57,16 @@ plain_paired None ms = tt
 
 plain_empty : (type : ℕ) → IsPlain (empty type)
 plain_empty type =
-    plain_if (type == types.binary) _ _ tt
+    plain_if (type == types.binary) _ _ (tt, tt)
     (plain_if (types.is_table type) _ _ tt
-    (plain_if (type == types.string) _ _ tt
+    (plain_if (type == types.string) _ _ (tt, tt)
     (plain_if (types.is_array type) _ _ tt
-    (plain_if (type == types.int_vector) _ _ tt tt))))
+    (plain_if (type == types.int_vector) _ _ (tt, tt) tt))))
 
 plain_placed : (p : Parts) (type v : ℕ) → IsPlain (placed p type v)
 plain_placed p type v =
     plain_if (type == types.binary) _ _ (plain_counted (words_of p.body) v _
-    (λ n. plain_map (λ x. leaf (binary x)) (part p.body (4 * v + 4) n) (λ bytes. tt)))
+    (λ n. plain_map (λ x. leaf (binary x)) (part p.body (4 * v + 4) n) (λ bytes. (tt, tt))))
     (plain_if (type == types.table) _ _ (plain_counted (units_of p.body) (2 * v) _
     (λ n. plain_paired (part (units_of p.body) (2 * v + 1) n) (words_at p (v + n / 2 + 1) n)))
     (plain_if (type == types.table32) _ _ (plain_counted (words_of p.body) v _
@@ -64,30 +74,34 @@ plain_placed p type v =
     (plain_if (type == types.table16) _ _ (plain_counted p.block v _
     (λ n. plain_paired (part p.block (v + 1) n) (offsets_at p (v + 1 + n) n)))
     (plain_if (type == types.string) _ _
-    (plain_map (λ x. leaf (string x)) (text_at p.block v) (λ s. tt))
+    (plain_map (λ x. leaf (string x)) (text_at p.block v) (λ s. (tt, tt)))
     (plain_if (type == types.array) _ _ (plain_counted (words_of p.body) v _
     (λ n. plain_map list (words_at p (v + 1) n) (λ ms. tt)))
     (plain_if (type == types.array16) _ _ (plain_counted p.block v _
     (λ n. plain_map list (offsets_at p (v + 1) n) (λ ms. tt)))
     (plain_if (type == types.int_vector) _ _ (plain_counted (words_of p.body) v _
-    (λ n. plain_map (λ x. leaf (int_vector x)) (part (words_of p.body) (v + 1) n) (λ ns. tt)))
+    (λ n. plain_map (λ x. leaf (int_vector x)) (part (words_of p.body) (v + 1) n) (λ ns. (tt, tt))))
     tt)))))))
 
 plain_content : (p : Parts) (w : ℕ) → IsPlain (content p w)
 unfolding content
 plain_content p w =
-    plain_if (w / 2 ^ 28 == types.integer) _ _ tt
+    plain_if (w / 2 ^ 28 == types.integer) _ _ (tt, tt)
     (plain_if (w % 2 ^ 28 == 0) _ _ (plain_empty (w / 2 ^ 28))
     (plain_placed p (w / 2 ^ 28) (w % 2 ^ 28)))
 
 leaf_maps : {o : Option Content} {t : Tree} → o ≡ Some (leaf t)
-    → IsPlain o → AreMaps t
+    → IsPlain o → AreMaps t × IsLeaf t
 leaf_maps e h = subst IsPlain e h
+
+-- what stands at a word without members is a leaf
+pub content_leaf : (p : Parts) (w : ℕ) (t : Tree) → content p w ≡ Some (leaf t) → IsLeaf t
+content_leaf p w t e = (leaf_maps e (plain_content p w)).1
 
 module _ (p : Parts) where
   mutual
     pub denoted_maps : {w n : ℕ} {t : Tree} → Den p w t n → AreMaps t
-    denoted_maps (den_leaf {w = w'} e) = leaf_maps e (plain_content p w')
+    denoted_maps (den_leaf {w = w'} e) = (leaf_maps e (plain_content p w')).0
     denoted_maps (den_list e d) = each_maps d
     denoted_maps (den_pairs {ts = ts'} e d) = AreMaps-map_of ts' (pairs_maps d)
 

@@ -13,3 +13,4 @@ mod Viewing
 mod Taking
 pub mod OneRefusal
 mod OneValue
+mod Measures

@@ -20,12 +20,16 @@ pub use Rattle.resb_walk.specs.Damage
 pub use Rattle.resb_walk.specs.Meets
 pub use Rattle.resb_walk.specs.Refusals
 pub use Rattle.resb_walk.specs.Borrows
+pub use Rattle.resb_walk.specs.Pieces
+pub use Rattle.resb_walk.specs.Sums
+pub use Rattle.resb_walk.specs.TreeBytes
 pub mod Places
 pub mod Reading
 pub mod Leaves
 pub mod Refused
 pub mod Resources
 pub mod Roots
+pub mod Measuring
 pub mod Laws
 pub mod Sequences
 pub mod Access

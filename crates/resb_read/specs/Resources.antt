@@ -1,10 +1,11 @@
 -- Which tree is read at a place, as a resource.
-use Rattle.std.specs.Prelude.{◌≡◌, ℕ}
+use Rattle.std.specs.Prelude.{◌≡◌, ℕ, List}
 use Rattle.resb_tree.specs.Tree.{Tree}
 use Rattle.resb_tree.specs.View.{tree_of}
 use Rattle.resb_tree.specs.declared.resource.Resource.{Resource}
 use Rattle.resb_walk.specs.Borrows.{Borrows}
 use Rattle.resb_walk.specs.Meets.{Meets}
+use Rattle.resb_walk.specs.Pieces.{Piece, Holds}
 use Rattle.resb_format.specs.Content.{word, unit}
 use Rattle.resb_format.specs.Parts.{Parts}
 use Rattle.resb_format.specs.Denotes.{Den, DenMember, Reaches, ReachesMember}
@@ -54,3 +55,14 @@ MeetsSpot p (spot.Key k) f = f ≡ elsewhere
 -- the first fault that a reading of the tree at this place meets
 abbrev pub MeetsPlace : Place → Refusal → Type 0
 MeetsPlace p f = MeetsSpot p.parts p.at f
+
+-- the pieces of the tree at a descriptor's place
+abbrev pub HoldsSpot : Parts → Spot → List Piece → Type 0
+HoldsSpot p (spot.Descriptor w) xs = Holds p w xs
+HoldsSpot p (spot.Unit u) xs = ⊥
+HoldsSpot p (spot.Word w) xs = ⊥
+HoldsSpot p (spot.Key k) xs = ⊥
+
+-- the same of a place
+abbrev pub HoldsPlace : Place → List Piece → Type 0
+HoldsPlace p xs = HoldsSpot p.parts p.at xs

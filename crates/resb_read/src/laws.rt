@@ -1,6 +1,7 @@
 //! Laws of reading, each the contract of a call that does nothing.
 //! Their statements stand in `specs/Laws`.
 ghost use Rattle.resb_read.specs.Laws.{OneRefusalOfAFile, OneValue};
+ghost use Rattle.resb_read.specs.Measuring.{OneWeight, TreesWeighNoMore};
 ghost use Rattle.resb_read.specs.Tables.{LastOfAName, AscendIsTold};
 
 /// A file whose tree isn't read is refused in one way, by kind and message, memory aside.
@@ -24,4 +25,16 @@ pub fn last_of_a_name()
 /// the one before.
 pub fn ascend_is_told()
     ensures { AscendIsTold }
+{}
+
+/// What a reading of a file's tree goes through is one list of resources and keys: so each sum over
+/// them is one number.
+pub fn one_weight()
+    ensures { OneWeight }
+{}
+
+/// By any weights the tree of a file weighs no more than what is read of it, and the same where no
+/// entry is replaced.
+pub fn trees_weigh_no_more()
+    ensures { TreesWeighNoMore }
 {}

@@ -13,7 +13,7 @@ use Rattle.std.specs.Char.Utf16.{has_unpaired_surrogate}
 use Rattle.resb_shared.specs.Links.{AreLinked, AreCounted, break_at, breaks, IsLinkedText}
 use Rattle.resb_shared.specs.Links.{IsWellFormed}
 
-lone_some : (u : ℕ) → is_high_surrogate u ≡ false → is_low_surrogate u ≡ false
+pub lone_some : (u : ℕ) → is_high_surrogate u ≡ false → is_low_surrogate u ≡ false
     → lone_unit_char u ≡ Some u
 lone_some u h l = grind (arith, nat_tests, h, l)
 
@@ -26,13 +26,13 @@ high_none u h = grind (arith, nat_tests, h)
 low_is_not_high : (u : ℕ) → is_low_surrogate u ≡ true → is_high_surrogate u ≡ false
 low_is_not_high u l = grind (arith, nat_tests, l)
 
-plain_first : (u : ℕ) (us : List ℕ) → is_high_surrogate u ≡ false
+pub plain_first : (u : ℕ) (us : List ℕ) → is_high_surrogate u ≡ false
     → is_low_surrogate u ≡ false → has_unpaired_surrogate (u ∷ us) ≡ has_unpaired_surrogate us
 unfolding utf16_chars
 plain_first u [] h l = rw (lone_some u h l) refl
 plain_first u (v ∷ us) h l = rw (h, lone_some u h l) refl
 
-pair_first : (u v : ℕ) (us : List ℕ) → is_high_surrogate u ≡ true → is_low_surrogate v ≡ true
+pub pair_first : (u v : ℕ) (us : List ℕ) → is_high_surrogate u ≡ true → is_low_surrogate v ≡ true
     → has_unpaired_surrogate (u ∷ v ∷ us) ≡ has_unpaired_surrogate us
 unfolding utf16_chars
 pair_first u v us h l = rw (h, l) refl
@@ -123,18 +123,18 @@ part_of_run us a b from count h l r some inside low high =
     )
 
 -- the other way round: what a well-formed text is
-high_alone : (u v : ℕ) (us : List ℕ) → is_high_surrogate u ≡ true → is_low_surrogate v ≡ false
+pub high_alone : (u v : ℕ) (us : List ℕ) → is_high_surrogate u ≡ true → is_low_surrogate v ≡ false
     → has_unpaired_surrogate (u ∷ v ∷ us) ≡ true
 unfolding utf16_chars
 high_alone u v us h l = rw (h, l, high_none u h) refl
 
-low_first : (u : ℕ) (us : List ℕ) → is_low_surrogate u ≡ true
+pub low_first : (u : ℕ) (us : List ℕ) → is_low_surrogate u ≡ true
     → has_unpaired_surrogate (u ∷ us) ≡ true
 unfolding utf16_chars
 low_first u [] l = rw (low_none u l) refl
 low_first u (v ∷ us) l = rw (low_is_not_high u l, low_none u l) refl
 
-high_last : (u : ℕ) → is_high_surrogate u ≡ true → has_unpaired_surrogate (u ∷ []) ≡ true
+pub high_last : (u : ℕ) → is_high_surrogate u ≡ true → has_unpaired_surrogate (u ∷ []) ≡ true
 unfolding utf16_chars
 high_last u h = rw (high_none u h) refl
 

@@ -1,13 +1,15 @@
 -- What the laws of this crate say.
 --     RangesByLinks           which parts of a block are texts
 --     KeysInKeys              which places in a key have a key
+--     WidthsOfTexts           how many bytes of UTF-8 a text's units take
 use Rattle.std.specs.Prelude.{◌≡◌, ℕ, ◌+◌, ◌-◌, ◌<◌, ◌≤◌, ◌↔◌, List, length, take, drop}
-use Rattle.std.specs.Prelude.{slice_index}
+use Rattle.std.specs.Prelude.{slice_index, encode_utf8_all}
 use Rattle.std.specs.Prelude.{false, Some}
-use Rattle.std.specs.Char.Utf16.{is_high_surrogate, is_low_surrogate}
+use Rattle.std.specs.Char.Utf16.{is_high_surrogate, is_low_surrogate, utf16_lossy_chars}
 use Rattle.std.specs.Str.{IsCharBoundary}
 use Rattle.resb_format.specs.Strings.{key_at}
 use Rattle.resb_shared.specs.Links.{AreLinked, IsWellFormed}
+use Rattle.resb_shared.specs.Wide.{text_width}
 
 -- a part of a list of units is well-formed exactly where its first unit ends no pair, its last one
 -- begins none, and its neighbours are linked
@@ -25,3 +27,9 @@ KeysInKeys =
     (keys t : List ℕ) (from k : ℕ) → key_at keys from ≡ Some t → k ≤ length t
     → (IsCharBoundary t k → key_at keys (from + k) ≡ Some (drop k t))
     × ((s : List ℕ) → key_at keys (from + k) ≡ Some s → IsCharBoundary t k)
+
+-- the text of well-formed units has as many bytes of UTF-8 as the units take, one by one
+abbrev pub WidthsOfTexts : Type 0
+WidthsOfTexts =
+    (us : List ℕ) → IsWellFormed us
+    → length (encode_utf8_all (utf16_lossy_chars us)) ≡ text_width us

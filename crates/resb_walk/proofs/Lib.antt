@@ -14,3 +14,7 @@ mod Keys
 mod Plain
 mod Marked
 mod Paths
+pub mod Holding
+mod Weighed
+pub mod TreePieces
+pub mod SumsLemmas

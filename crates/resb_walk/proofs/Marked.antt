@@ -1,11 +1,13 @@
 -- Strings with a marker, by where their units begin and how many there are.
 use Rattle.std.proofs.Common.{refl, ℕ, List, ◌≡◌, ◌+◌, ◌-◌, ◌*◌, ◌<◌, ◌≤◌, length, take, drop}
-use Rattle.std.proofs.Common.{get_or, Some, false, encode_utf8_all, ap, sym, ◌∙◌, arith}
+use Rattle.std.proofs.Common.{get_or, Some, Bool, true, false, encode_utf8_all, ap, sym, ◌∙◌, arith}
 use Rattle.std.proofs.lemmas.Bool.Decides.{nat_tests}
 use Rattle.std.specs.Char.Utf16.{has_unpaired_surrogate, utf16_lossy_chars}
 use Rattle.resb_format.specs.Bytes.{part}
-use Rattle.resb_format.specs.Strings.{string_from, string_at, text_at}
+use Rattle.resb_format.specs.Strings.{string_from, string_at, text_at, text_of_units}
 use Rattle.resb_format.proofs.StringsIn.{at_marker}
+use Rattle.resb_shared.specs.Wide.{text_width}
+use Rattle.resb_shared.proofs.WideLemmas.{text_is_wide}
 
 inside : (us : List ℕ) (i n : ℕ) → i + n ≤ length us → part us i n ≡ Some (take n (drop i us))
 inside us i n h = grind (arith, nat_tests)
@@ -49,3 +51,23 @@ pub known_is_text : (block : List ℕ) (u i n : ℕ) → i + n ≤ length block
 unfolding text_at
 known_is_text block u i n l at well =
     (encode_utf8_all (utf16_lossy_chars (take n (drop i block))), rw (at l, well) refl)
+
+-- the bytes of the text of such a string
+pub marked_width : (block : List ℕ) (u i n : ℕ) (s : List ℕ)
+    → string_at block u ≡ Some (take n (drop i block)) → text_at block u ≡ Some s
+    → length s ≡ text_width (take n (drop i block))
+unfolding text_at
+marked_width block u i n s at e =
+    let us = take n (drop i block) in
+    let f : text_of_units us ≡ Some s = rw at at e in
+    cases (has_unpaired_surrogate us) refl f
+  where
+    cases : (b : Bool) → has_unpaired_surrogate (take n (drop i block)) ≡ b
+        → text_of_units (take n (drop i block)) ≡ Some s
+        → length s ≡ text_width (take n (drop i block))
+    cases true well f = absurd (let g = rw well at f in cc)
+    cases false well f =
+        let g : Some (encode_utf8_all (utf16_lossy_chars (take n (drop i block)))) ≡ Some s =
+        rw well at f in
+        let h : encode_utf8_all (utf16_lossy_chars (take n (drop i block))) ≡ s = cc in
+        ap length (sym h) ∙ text_is_wide (take n (drop i block)) well

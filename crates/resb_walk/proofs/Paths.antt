@@ -28,7 +28,7 @@ use Rattle.resb_walk.proofs.Waits.{list_stuck, list_reaches, table_stuck}
 use Rattle.resb_walk.proofs.Waits.{table_reaches}
 
 -- the end of a list, by its length
-last_of : {A : Type 0} (xs ys zs : List A) (k : ℕ) → k ≡ length ys → zs ≡ xs ++ ys
+pub last_of : {A : Type 0} (xs ys zs : List A) (k : ℕ) → k ≡ length ys → zs ≡ xs ++ ys
     → drop (length zs - k) zs ≡ ys
 last_of xs ys zs k e f =
     let n : length zs - k ≡ length xs = omega (arith, ap length f, length-append xs ys, e) in

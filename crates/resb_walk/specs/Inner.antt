@@ -5,3 +5,4 @@ pub mod MemberContent
 pub mod Frames
 pub mod Rounds
 pub mod Counting
+pub mod Weighing

@@ -16,4 +16,7 @@ pub mod Damage
 pub mod Meets
 pub mod Refusals
 pub mod Borrows
+pub mod Pieces
+pub mod Sums
+pub mod TreeBytes
 pub mod Inner

@@ -34,7 +34,7 @@ pub struct Outer {
 }
 
 /// The collection as it waits. No collection of a file has more members than a word tells.
-fn keep(inner: Inner<'_>) -> Result<Outer, NoMemory>
+pub(crate) fn keep(inner: Inner<'_>) -> Result<Outer, NoMemory>
     ensures { IfOk result (Keeps inner.entry) }
 {
     let Ok(left) = u32::try_from(inner.rest.len()) else {
@@ -47,7 +47,7 @@ fn keep(inner: Inner<'_>) -> Result<Outer, NoMemory>
 }
 
 /// What is still to come of a collection that waited.
-fn again<'a>(file: File<'a>, outer: Outer) -> Rest<'a>
+pub(crate) fn again<'a>(file: File<'a>, outer: Outer) -> Rest<'a>
     requires { HasLast (parts_in file) outer.word outer.left }
     ensures { Rests (parts_in file.entry) outer.word outer.left result }
 {

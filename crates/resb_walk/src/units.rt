@@ -122,6 +122,20 @@ fn ascii_text(alloc: Global, bytes: &[u8]) -> Result<String, NoMemory>
     Ok(text)
 }
 
+/// How many bytes the text of some units has.
+#[tactic(auto, using(crate::proofs::Surrogates::first_chars))]
+pub fn text_len(bytes: &[u8]) -> usize
+    ensures { result ≡ length (text_of_bytes bytes.now) }
+{
+    let mut len = 0;
+    let mut rest = bytes;
+    'chars: while let Some((first, later)) = first_char(rest) {
+        len += first.len_utf8();
+        rest = later;
+    }
+    len
+}
+
 /// Room for the text of some units, as far as the first of them tells: scripts seldom mix.
 fn room_for(bytes: &[u8]) -> usize
     ensures { result ≤ 3 * (length bytes.now / 2) }

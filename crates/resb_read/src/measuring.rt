@@ -1,0 +1,109 @@
+//! What a file's tree adds up to before any of it is made, and a tree within a limit of bytes.
+//! The sums themselves are found in `resb_walk`.
+ghost use Rattle.std.specs.Prelude.{◌≡◌, ◌≤◌, ℕ, List, IfOk, IsTrue, ◌↔◌};
+ghost use Rattle.resb_walk.specs.Files.{parts_in};
+ghost use Rattle.resb_walk.specs.Pieces.{Piece, Holds};
+ghost use Rattle.resb_walk.specs.Sums.{AddsUp, count_of, fitting};
+ghost use Rattle.resb_walk.specs.TreeBytes.{tree_bytes};
+ghost use Rattle.resb_read.specs.Measuring.{IsMeasured, MeasureOf, TreeWithin, IsLarger};
+ghost use Rattle.resb_read.specs.Places.{place_of};
+ghost use Rattle.resb_read.specs.Resources.{HoldsPlace};
+
+use crate::cursor::{Cursor, Spot};
+use crate::entry::tree_from_bytes;
+use resb_format::{BinaryDeserializerError, Resource};
+use resb_tree::NoMemory;
+use resb_walk::{Sums, weigh_word};
+use std::alloc::Global;
+
+/// What a file's tree has; entries that are replaced count too.
+#[derive(Clone, Copy, Debug, PartialEq, Eq, Drop)]
+pub struct Measured {
+    /// The resources: each but the root is a member of another.
+    pub resources: usize,
+    /// What they add up to.
+    pub sums: Sums,
+}
+
+impl Measured {
+    /// How many bytes the tree takes in memory, or none where that doesn't fit in 64 bits: 72 for
+    /// each resource, 3 more for each byte of a text, 4 for each number of a vector, 1024 for each
+    /// table that has entries, and 192 for each entry. Binaries and keys are slices of the file.
+    pub fn tree_bytes(self) -> Option<u64>
+        ensures { (xs : List Piece) → IsMeasured self xs → result ≡ fitting (tree_bytes xs) }
+    {
+        let tables = u128::from(self.sums.tables?);
+        let entries = u128::from(self.sums.entries?);
+        let texts = u128::from(self.sums.text_bytes?);
+        let numbers = u128::from(self.sums.numbers?);
+        let resources = self.resources as u128;
+        let bytes = 72 * resources + 1024 * tables + 192 * entries + 3 * texts + 4 * numbers;
+        if bytes >= 1 << 64 {
+            return None;
+        }
+        Some(bytes as u64)
+    }
+
+    /// Whether the tree takes no more bytes than the limit.
+    pub fn is_within(self, limit: u64) -> bool
+        ensures { (xs : List Piece) → IsMeasured self xs
+            → (IsTrue result ↔ (tree_bytes xs ≤ limit)) }
+    {
+        match self.tree_bytes() {
+            Some(bytes) => bytes <= limit,
+            None => false,
+        }
+    }
+}
+
+/// The tree would take more bytes than it may.
+fn larger() -> BinaryDeserializerError
+    ensures { IsLarger result }
+{
+    BinaryDeserializerError::invalid_data("tree larger than the limit")
+}
+
+impl<'de> Cursor<'de> {
+    /// The sums of the tree that stands at a descriptor, which has so many resources.
+    fn sums(self, alloc: Global, resources: usize) -> Result<Sums, NoMemory>
+        requires { (xs : List Piece) × HoldsPlace (place_of self) xs × (count_of xs ≡ resources) }
+        ensures { IfOk result
+            (λ s. (xs : List Piece) × HoldsPlace (place_of self.entry) xs × AddsUp s xs) }
+    {
+        match self.at {
+            Spot::Descriptor(word) => weigh_word(alloc, self.file, word, resources),
+            Spot::Unit(_) | Spot::Word(_) | Spot::Key(_) => unreachable!(),
+        }
+    }
+}
+
+/// Counts the resources of a file's tree, sums what they hold, and makes no tree. It is refused as
+/// `count_resources` is. No key and no string is looked at twice as a whole.
+pub fn measure(alloc: Global, bytes: &[u8]) -> Result<Measured, BinaryDeserializerError>
+    ensures { MeasureOf bytes.now result }
+{
+    let (root, mut walk) = Cursor::root(bytes)?;
+    let before = walk.left();
+    root.count_resource(alloc, &mut walk)?;
+    let resources = before - walk.left();
+    let Ok(sums) = root.sums(alloc, resources) else {
+        return Err(BinaryDeserializerError::out_of_memory());
+    };
+    Ok(Measured { resources, sums })
+}
+
+/// Reads the tree of a file where it takes no more bytes than the limit, as `Measured::tree_bytes`
+/// counts them. It is refused before any of the tree is made; else it answers as `tree_from_bytes`.
+pub fn tree_from_bytes_within(
+    alloc: Global,
+    bytes: &[u8],
+    limit: u64,
+) -> Result<Resource<'_>, BinaryDeserializerError>
+    ensures { TreeWithin bytes.now limit result }
+{
+    let measured = measure(alloc, bytes)?;
+    if !measured.is_within(limit) {
+        return Err(larger());
+    }
+    tree_from_bytes(alloc, bytes)
+}

@@ -1,0 +1,14 @@
+//! What a person is told about a place of a text: its line and column, and the line around it.
+//! What a text means, and why one is refused, is in the crates of its reader.
+#![tactic(auto)]
+
+mod braces;
+mod excerpt;
+mod groups;
+mod location;
+mod warning;
+
+pub use braces::innermost_open;
+pub use excerpt::pointed_line;
+pub use location::{Location, location_of};
+pub use warning::{Reason, Warning, warnings};

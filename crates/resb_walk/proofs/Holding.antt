@@ -1,0 +1,213 @@
+-- A word has one list of pieces, as many of them resources as its count, and no fewer than its tree.
+use Rattle.std.proofs.Common.{ℕ, List, [], ◌∷◌, ◌++◌, Option, Some, None, ◌≡◌, ◌≤◌, refl, sym}
+use Rattle.std.proofs.Common.{ap, ◌∙◌, subst, arith}
+use Rattle.std.specs.Prelude.{option_map}
+use Rattle.std.proofs.lemmas.List.Sums.{sum_by-cons, sum_by-append}
+use Rattle.resb_tree.specs.Tree.{Tree, string}
+use Rattle.resb_format.specs.Strings.{text_at, key_at}
+use Rattle.resb_format.specs.Parts.{Parts}
+use Rattle.resb_format.specs.Content.{Member, Content, word, unit, leaf, list, pairs, content}
+use Rattle.resb_format.specs.Content.{text_leaf}
+use Rattle.resb_format.specs.Denotes.{Den, den_leaf, den_list, den_pairs, DenMember, den_word}
+use Rattle.resb_format.specs.Denotes.{den_unit, DenEach, each_none, each_more, DenPairs, pairs_none}
+use Rattle.resb_format.specs.Denotes.{pairs_more}
+use Rattle.resb_format.proofs.Denoting.{same_list, same_pairs, leaf_list, leaf_pairs, list_pairs}
+use Rattle.resb_walk.specs.Pieces.{Piece, leaf_piece, array_piece, table_piece, key_piece}
+use Rattle.resb_walk.specs.Pieces.{Holds, holds_leaf, holds_list, holds_pairs, HoldsMember}
+use Rattle.resb_walk.specs.Pieces.{holds_word, holds_unit, HoldsEach, holds_none, holds_more}
+use Rattle.resb_walk.specs.Pieces.{HoldsPairs, holds_no_pair, holds_pair}
+use Rattle.resb_walk.specs.Sums.{resources_in}
+use Rattle.resb_walk.specs.Sums.{count_of}
+
+same_leaf : {o : Option Content} {t u : Tree} → o ≡ Some (leaf t) → o ≡ Some (leaf u) → t ≡ u
+same_leaf e f = cc
+
+same_some : {A : Type 0} {o : Option A} {x y : A} → o ≡ Some x → o ≡ Some y → x ≡ y
+same_some e f = cc
+
+some_none : {A : Type 0} {o : Option A} {x : A} → o ≡ None → o ≡ Some x → ⊥
+some_none e f = cc
+
+-- a table is one resource
+pub table_is_one : {A : Type 0} (es : List A) → resources_in (table_piece es) ≡ 1
+table_is_one [] = refl
+table_is_one (e ∷ es) = refl
+
+-- what a leaf of a text is
+text_of_leaf : {o : Option (List ℕ)} {c : Content}
+    → option_map (λ s. leaf (string s)) o ≡ Some c
+    → (s : List ℕ) × (o ≡ Some s) × (c ≡ leaf (string s))
+text_of_leaf {o = None} e = absurd cc
+text_of_leaf {o = Some s} e = (s, refl, cc)
+
+module _ (p : Parts) where
+  -- by what stands at the word
+  pub leaf_holds : {w : ℕ} {t : Tree} {xs : List Piece} → content p w ≡ Some (leaf t)
+      → Holds p w xs → xs ≡ leaf_piece t ∷ []
+  leaf_holds e (holds_leaf f) = ap (λ t. leaf_piece t ∷ []) (same_leaf f e)
+  leaf_holds e (holds_list f h) = absurd (leaf_list e f)
+  leaf_holds e (holds_pairs f h) = absurd (leaf_pairs e f)
+
+  pub list_holds : {w : ℕ} {ms : List Member} {xs : List Piece} → content p w ≡ Some (list ms)
+      → Holds p w xs → (ys : List Piece) × (xs ≡ array_piece ∷ ys) × HoldsEach p ms ys
+  list_holds e (holds_leaf f) = absurd (leaf_list f e)
+  list_holds e (holds_list {xs = ys} f h) =
+      (ys, refl, subst (λ ms. HoldsEach p ms ys) (same_list f e) h)
+  list_holds e (holds_pairs f h) = absurd (list_pairs e f)
+
+  pub pairs_holds : {w : ℕ} {es : List (ℕ × Member)} {xs : List Piece}
+      → content p w ≡ Some (pairs es) → Holds p w xs
+      → (ys : List Piece) × (xs ≡ table_piece es ∷ ys) × HoldsPairs p es ys
+  pairs_holds e (holds_leaf f) = absurd (leaf_pairs f e)
+  pairs_holds e (holds_list f h) = absurd (list_pairs f e)
+  pairs_holds e (holds_pairs {xs = ys} f h) = (
+    ys,
+    ap (λ es. table_piece es ∷ ys) (same_pairs f e),
+    subst (λ es. HoldsPairs p es ys) (same_pairs f e) h,
+  )
+
+  pub none_holds : {w : ℕ} {xs : List Piece} → content p w ≡ None → Holds p w xs → ⊥
+  none_holds e (holds_leaf f) = some_none e f
+  none_holds e (holds_list f h) = some_none e f
+  none_holds e (holds_pairs f h) = some_none e f
+
+  pub text_holds : (w u : ℕ) (xs : List Piece) → content p w ≡ text_leaf p u → Holds p w xs
+      → (s : List ℕ) × (text_at p.block u ≡ Some s) × (xs ≡ leaf_piece (string s) ∷ [])
+  text_holds w u xs e h = at h (text_at p.block u) refl
+    where
+      at : Holds p w xs → (o : Option (List ℕ)) → text_at p.block u ≡ o
+          → (s : List ℕ) × (text_at p.block u ≡ Some s) × (xs ≡ leaf_piece (string s) ∷ [])
+      at g None f = absurd (none_holds (e ∙ ap (option_map (λ s. leaf (string s))) f) g)
+      at g (Some s) f =
+          (s, f, leaf_holds (e ∙ ap (option_map (λ s. leaf (string s))) f) g)
+
+  pub unit_holds : (u : ℕ) (xs : List Piece) → HoldsMember p (unit u) xs
+      → (s : List ℕ) × (text_at p.block u ≡ Some s) × (xs ≡ leaf_piece (string s) ∷ [])
+  unit_holds u xs (holds_unit {s = t} e) = (t, e, refl)
+
+  pub word_holds : {w : ℕ} {xs : List Piece} → HoldsMember p (word w) xs → Holds p w xs
+  word_holds (holds_word h) = h
+
+  -- the first member, and those behind it
+  pub each_first : (ms ns : List Member) (m : Member) (xs : List Piece) → ms ≡ m ∷ ns
+      → HoldsEach p ms xs
+      → (ys zs : List Piece) × (xs ≡ ys ++ zs) × HoldsMember p m ys × HoldsEach p ns zs
+  each_first ms ns m xs e h = first (subst (λ ls. HoldsEach p ls xs) e h)
+    where
+      first : {us : List Piece} → HoldsEach p (m ∷ ns) us
+          → (ys zs : List Piece) × (us ≡ ys ++ zs) × HoldsMember p m ys × HoldsEach p ns zs
+      first (holds_more {xs = ys} {ys = zs} g i) = (ys, zs, refl, g, i)
+
+  pub pair_first : (es fs : List (ℕ × Member)) (at : ℕ) (m : Member) (xs : List Piece)
+      → es ≡ (at, m) ∷ fs → HoldsPairs p es xs
+      → (k : List ℕ) × (ys zs : List Piece) × (key_at p.keys at ≡ Some k)
+      × (xs ≡ key_piece k ∷ ys ++ zs) × HoldsMember p m ys × HoldsPairs p fs zs
+  pair_first es fs at m xs e h = first (subst (λ ls. HoldsPairs p ls xs) e h)
+    where
+      first : {us : List Piece} → HoldsPairs p ((at, m) ∷ fs) us
+          → (k : List ℕ) × (ys zs : List Piece) × (key_at p.keys at ≡ Some k)
+          × (us ≡ key_piece k ∷ ys ++ zs) × HoldsMember p m ys × HoldsPairs p fs zs
+      first (holds_pair {key = k} {xs = ys} {ys = zs} f g i) = (k, ys, zs, f, refl, g, i)
+
+  pub each_last : (ms : List Member) (xs : List Piece) → ms ≡ [] → HoldsEach p ms xs → xs ≡ []
+  each_last ms xs e h = last (subst (λ ls. HoldsEach p ls xs) e h)
+    where
+      last : {us : List Piece} → HoldsEach p [] us → us ≡ []
+      last holds_none = refl
+
+  pub pair_last : (es : List (ℕ × Member)) (xs : List Piece) → es ≡ [] → HoldsPairs p es xs
+      → xs ≡ []
+  pair_last es xs e h = last (subst (λ ls. HoldsPairs p ls xs) e h)
+    where
+      last : {us : List Piece} → HoldsPairs p [] us → us ≡ []
+      last holds_no_pair = refl
+
+  -- one list of pieces
+  mutual
+    pub one_holding : {w : ℕ} {xs ys : List Piece} → Holds p w xs → Holds p w ys → xs ≡ ys
+    one_holding (holds_leaf e) h = sym (leaf_holds e h)
+    one_holding (holds_list e g) h =
+        let i = list_holds e h in ap (λ zs. array_piece ∷ zs) (one_each g i.2) ∙ sym i.1
+    one_holding (holds_pairs {es = es'} e g) h =
+        let i = pairs_holds e h in ap (λ zs. table_piece es' ∷ zs) (one_pairs g i.2) ∙ sym i.1
+
+    one_member : {m : Member} {xs ys : List Piece} → HoldsMember p m xs → HoldsMember p m ys
+        → xs ≡ ys
+    one_member (holds_word g) (holds_word h) = one_holding g h
+    one_member (holds_unit e) (holds_unit f) =
+        ap (λ s. leaf_piece (string s) ∷ []) (same_some e f)
+
+    one_each : {ms : List Member} {xs ys : List Piece} → HoldsEach p ms xs → HoldsEach p ms ys
+        → xs ≡ ys
+    one_each holds_none holds_none = refl
+    one_each (holds_more g i) (holds_more h j) =
+        let e = one_member g h in let f = one_each i j in λ k. e k ++ f k
+
+    one_pairs : {es : List (ℕ × Member)} {xs ys : List Piece} → HoldsPairs p es xs
+        → HoldsPairs p es ys → xs ≡ ys
+    one_pairs holds_no_pair holds_no_pair = refl
+    one_pairs (holds_pair a g i) (holds_pair b h j) =
+        let key = same_some a b in let e = one_member g h in let f = one_pairs i j in
+        λ k. key_piece (key k) ∷ e k ++ f k
+
+  -- what denotes a tree has pieces, of which as many are resources as are counted
+  mutual
+    pub held : {w n : ℕ} {t : Tree} → Den p w t n
+        → (xs : List Piece) × Holds p w xs × (count_of xs ≡ n)
+    held (den_leaf {t = t'} e) = (leaf_piece t' ∷ [], holds_leaf e, refl)
+    held (den_list e d) =
+        let h = held_each d in (
+          array_piece ∷ h.0,
+          holds_list e h.1,
+          omega (arith, sum_by-cons resources_in array_piece h.0, h.2),
+        )
+    held (den_pairs {es = es'} e d) =
+        let h = held_pairs d in (
+          table_piece es' ∷ h.0,
+          holds_pairs e h.1,
+          omega
+              (arith, sum_by-cons resources_in (table_piece es') h.0, h.2, table_is_one es'),
+        )
+
+    held_member : {m : Member} {n : ℕ} {t : Tree} → DenMember p m t n
+        → (xs : List Piece) × HoldsMember p m xs × (count_of xs ≡ n)
+    held_member (den_word d) = let h = held d in (h.0, holds_word h.1, h.2)
+    held_member (den_unit {s = s'} e) = (leaf_piece (string s') ∷ [], holds_unit e, refl)
+
+    held_each : {ms : List Member} {ts : List Tree} {n : ℕ} → DenEach p ms ts n
+        → (xs : List Piece) × HoldsEach p ms xs × (count_of xs ≡ n)
+    held_each each_none = ([], holds_none, refl)
+    held_each (each_more d ds) =
+        let h = held_member d in let i = held_each ds in (
+          h.0 ++ i.0,
+          holds_more h.1 i.1,
+          omega (arith, sum_by-append resources_in h.0 i.0, h.2, i.2),
+        )
+
+    held_pairs : {es : List (ℕ × Member)} {ts : List (List ℕ × Tree)} {n : ℕ}
+        → DenPairs p es ts n → (xs : List Piece) × HoldsPairs p es xs × (count_of xs ≡ n)
+    held_pairs pairs_none = ([], holds_no_pair, refl)
+    held_pairs (pairs_more {key = key'} e d ds) =
+        let h = held_member d in let i = held_pairs ds in (
+          key_piece key' ∷ h.0 ++ i.0,
+          holds_pair e h.1 i.1,
+          omega (
+            arith,
+            sum_by-cons resources_in (key_piece key') (h.0 ++ i.0),
+            sum_by-append resources_in h.0 i.0,
+            h.2,
+            i.2,
+          ),
+        )
+
+  -- a member is one resource or more
+  pub member_some : {m : Member} {xs : List Piece} → HoldsMember p m xs → 1 ≤ count_of xs
+  member_some (holds_word h) = word_some h
+    where
+      word_some : {w : ℕ} {xs : List Piece} → Holds p w xs → 1 ≤ count_of xs
+      word_some (holds_leaf e) = omega arith
+      word_some (holds_list {xs = ys} e g) =
+          omega (arith, sum_by-cons resources_in array_piece ys)
+      word_some (holds_pairs {es = es'} {xs = ys} e g) =
+          omega (arith, sum_by-cons resources_in (table_piece es') ys, table_is_one es')
+  member_some (holds_unit e) = omega arith

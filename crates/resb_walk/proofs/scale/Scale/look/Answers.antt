@@ -1,0 +1,13 @@
+use Rattle.std.proofs.Common.{refl, subst}
+use Rattle.resb_walk.specs.Files.{parts_in}
+use Rattle.resb_walk.specs.Inner.Members.{member_of}
+use Rattle.resb_walk.specs.Pieces.{HoldsMember}
+use Rattle.resb_walk.proofs.Holding.{unit_holds}
+use Rattle.resb_walk.proofs.scale.Scale.look.Goals as goal
+
+pub returns-in-Unit : goal.returns-in-Unit
+returns-in-Unit c xs zs h adds =
+    let p = parts_in c.args.self.now.file in
+    let g = subst (λ m. HoldsMember p (member_of m) xs) c.in-Unit.is h in
+    let t = unit_holds p c.in-Unit.unit xs g in
+    rw t.2 (refl, c.with_text.ensures zs t.0 adds (rw c.from.ensures at (c.text_len.ensures t.0) t.1))

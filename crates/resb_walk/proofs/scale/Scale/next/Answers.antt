@@ -1,0 +1,64 @@
+use Rattle.std.proofs.Common.{refl, subst, [], ◌∷◌, ◌++◌, ap, ◌∙◌, sym, append_assoc, Some, append-nil}
+use Rattle.resb_format.specs.Content.{list, pairs}
+use Rattle.resb_walk.specs.Files.{parts_in}
+use Rattle.resb_walk.specs.Inner.Members.{member_of, members_of, keyed_members}
+use Rattle.resb_walk.specs.Inner.Weighing.{IsEnd, RestHolds}
+use Rattle.resb_walk.specs.Pieces.{key_piece}
+use Rattle.resb_walk.specs.Sums.{AddsUp}
+use Rattle.resb_walk.proofs.Holding.{each_first, pair_first}
+use Rattle.resb_walk.proofs.scale.Scale.next.Goals as goal
+
+pub returns-in_ok-member-in-List : goal.returns-in_ok-member-in-List
+returns-in_ok-member-in-List c xs zs h adds =
+    let p = parts_in c.args.self.now.file in
+    let ms = members_of c.in-List.members in
+    let ns = members_of c.in_ok-member-in-List.later in
+    let m = member_of c.in_ok-member-in-List.member in
+    let ends = subst (λ r. IsEnd p r c.args.inner.word) c.in-List.is h.ends in
+    let holds = subst (λ r. RestHolds p r xs) c.in-List.is h.holds in
+    let split = c.in_ok-member-in-List.ensures in
+    let f = each_first p ms ns m xs split holds in (
+      [],
+      f.0,
+      f.1,
+      f.2,
+      refl,
+      subst (AddsUp c.args.sums.now) (sym (append-nil zs)) adds,
+      f.3,
+      record {
+        ends = (
+          ends.0 ++ m ∷ [],
+          ends.1 ∙ ap (λ ls. Some (list (ends.0 ++ ls))) split
+              ∙ ap (λ ls. Some (list ls)) (sym (append_assoc ends.0 (m ∷ []) ns)),
+        );
+        holds = f.4;
+      },
+    )
+
+pub returns-in_ok-position-in-Table : goal.returns-in_ok-position-in-Table
+returns-in_ok-position-in-Table c xs zs h adds =
+    let p = parts_in c.args.self.now.file in
+    let es = keyed_members c.in-Table.pairs in
+    let fs = keyed_members c.in_ok-position-in-Table.later in
+    let place = c.in_ok-position-in-Table.position in
+    let m = member_of c.in_ok-position-in-Table.member in
+    let ends = subst (λ r. IsEnd p r c.args.inner.word) c.in-Table.is h.ends in
+    let holds = subst (λ r. RestHolds p r xs) c.in-Table.is h.holds in
+    let split = c.in_ok-position-in-Table.ensures in
+    let f = pair_first p es fs place m xs split holds in (
+      key_piece f.0 ∷ [],
+      f.1,
+      f.2,
+      f.4,
+      refl,
+      c.with_key.ensures zs f.0 adds (c.key_len.ensures f.0 f.3),
+      f.5,
+      record {
+        ends = (
+          ends.0 ++ (place, m) ∷ [],
+          ends.1 ∙ ap (λ ls. Some (pairs (ends.0 ++ ls))) split
+              ∙ ap (λ ls. Some (pairs ls)) (sym (append_assoc ends.0 ((place, m) ∷ []) fs)),
+        );
+        holds = f.6;
+      },
+    )

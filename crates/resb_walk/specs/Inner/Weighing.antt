@@ -1,0 +1,80 @@
+-- Collections whose pieces are summed, and those that wait until the pieces of a member are.
+--     RestHolds r xs          xs are the pieces of the members that are still to come
+--     IsEnd r w               these members are the end of the collection at the word w
+--     Waiting cs xs           xs are the pieces still to come of collections that wait, the inmost
+--                             one's first
+use Rattle.std.specs.Prelude.{◌≡◌, ℕ, ◌+◌, ◌≤◌, List, [], ◌∷◌, ◌++◌, length, Option, Some, None}
+use Rattle.resb_format.specs.Content.{Member, list, pairs, content}
+use Rattle.resb_format.specs.Parts.{Parts}
+use Rattle.resb_walk.specs.Inner.Members.{member_of, members_of, keyed_members, rest_length}
+use Rattle.resb_walk.specs.Pieces.{Piece, Holds, HoldsMember, HoldsEach, HoldsPairs}
+use Rattle.resb_walk.specs.Sums.{AddsUp, resources_in, count_of}
+use Rattle.resb_walk.specs.declared.count.Inner.{Inner}
+use Rattle.resb_walk.specs.declared.count.Outer.{Outer}
+use Rattle.resb_walk.specs.declared.file.Member.{Member as Stood}
+use Rattle.resb_walk.specs.declared.file.Rest.{Rest}
+use Rattle.resb_walk.specs.declared.file.Rest.TheVariants as rest
+use Rattle.resb_walk.specs.declared.sums.Sums.{Sums}
+
+module _ (p : Parts) where
+  abbrev pub RestHolds : Rest → List Piece → Type 0
+  RestHolds (rest.List ms) xs = HoldsEach p (members_of ms) xs
+  RestHolds (rest.Table es) xs = HoldsPairs p (keyed_members es) xs
+
+  abbrev pub IsEnd : Rest → ℕ → Type 0
+  IsEnd (rest.List ms) w =
+      (front : List Member) × (content p w ≡ Some (list (front ++ members_of ms)))
+  IsEnd (rest.Table es) w =
+      (front : List (ℕ × Member)) × (content p w ≡ Some (pairs (front ++ keyed_members es)))
+
+  -- a collection of which these pieces are still to come
+  pub record ToCome (i : Inner) (xs : List Piece) : Type 0 where
+    pub ends : IsEnd i.rest i.word
+    pub holds : RestHolds i.rest xs
+
+  pub data Waiting : List Outer → List Piece → Type 0 where
+    waits_none : Waiting [] []
+    waits_more : {c : Outer} {cs : List Outer} {ys : List Piece} (xs : List Piece) (r : Rest)
+        → c.left ≡ rest_length r → IsEnd r c.word → RestHolds r xs → Waiting cs ys
+        → Waiting (c ∷ cs) (ys ++ xs)
+
+  -- A member of the pieces xs is looked at, behind the pieces zs: it is summed, up to the pieces of
+  -- its own members.
+  abbrev pub Looked : List Piece → List Piece → Option Inner → Sums → Type 0
+  Looked xs zs None s = (count_of xs ≡ 1) × AddsUp s (zs ++ xs)
+  Looked xs zs (Some i) s =
+      (x : Piece) × (ys : List Piece) × (xs ≡ x ∷ ys) × (resources_in x ≡ 1)
+      × AddsUp s (zs ++ x ∷ []) × ToCome i ys
+
+  -- The next member of a collection of which xs are still to come is taken, behind the pieces zs:
+  -- a key before it is summed.
+  abbrev pub Nexts : List Piece → List Piece → Option (Stood × Inner) → Sums → Type 0
+  Nexts xs zs None s = (xs ≡ []) × AddsUp s zs
+  Nexts xs zs (Some r) s =
+      (ks ys ts : List Piece) × (xs ≡ ks ++ (ys ++ ts)) × (count_of ks ≡ 0) × AddsUp s (zs ++ ks)
+      × HoldsMember p (member_of r.0) ys × ToCome r.1 ts
+
+  -- A member is entered, behind the pieces zs and before the pieces of its collection and of those
+  -- that wait: xs in all. It is summed, or its members are still to come.
+  pub record Entered (xs zs : List Piece) (before after : List Outer) (i : Inner)
+      (s : Sums) : Type 0 where
+    pub new : List Piece
+    pub inner : List Piece
+    pub outer : List Piece
+    pub split : new ++ (inner ++ outer) ≡ xs
+    pub paid : count_of (inner ++ outer) + 1 ≡ count_of xs
+    pub sums : AddsUp s (zs ++ new)
+    pub to_come : ToCome i inner
+    pub waiting : Waiting after outer
+    pub one_more : length after ≤ length before + 1
+
+  -- between rounds: what is summed, what is to come, and how many resources that is
+  pub record Weighing (root : ℕ) (cs : List Outer) (i : Inner) (s : Sums) (left : ℕ) : Type 0 where
+    pub done : List Piece
+    pub inner : List Piece
+    pub outer : List Piece
+    pub whole : Holds p root (done ++ (inner ++ outer))
+    pub sums : AddsUp s done
+    pub to_come : ToCome i inner
+    pub waiting : Waiting cs outer
+    pub left_is : left ≡ count_of (inner ++ outer) + 1

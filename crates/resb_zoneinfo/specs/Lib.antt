@@ -1,0 +1,2 @@
+-- The words of the contracts: civil dates.
+pub mod Civil

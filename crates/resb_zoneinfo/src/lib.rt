@@ -1,0 +1,5 @@
+//! ICU's own time zones, `zoneinfo64.res`, read into records, and the offset of a zone at a moment.
+//! It names `resb` and no lower crate; how tables become records is said in `resb::fields`.
+#![tactic(auto)]
+
+pub mod civil;

@@ -1,2 +1,3 @@
--- The words of the contracts: civil dates.
+-- The words of the contracts: civil dates, and rules for when clocks change.
 pub mod Civil
+pub mod RuleDays

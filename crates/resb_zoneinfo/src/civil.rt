@@ -35,7 +35,7 @@ pub fn leap_years()
 {}
 
 /// The number of the first day of a month, where 0 is January.
-pub fn month_start(year: u64, month: u8) -> u64
+pub fn month_start(year: u64, month: u64) -> u64
     requires real { month < 12 }
     requires small { year < 2 ^ 48 }
     ensures { result ≡ civil.month_start year month }
@@ -70,7 +70,7 @@ pub fn is_leap(year: u64) -> bool
 }
 
 /// How many days a month has, where 0 is January.
-pub fn month_length(year: u64, month: u8) -> u64
+pub fn month_length(year: u64, month: u64) -> u64
     requires real { month < 12 }
     ensures { result ≡ civil.month_length year month }
 {

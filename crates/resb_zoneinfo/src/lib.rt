@@ -3,3 +3,6 @@
 #![tactic(auto)]
 
 pub mod civil;
+mod day;
+
+pub use day::RuleDay;

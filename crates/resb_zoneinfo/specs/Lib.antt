@@ -1,3 +1,5 @@
 -- The words of the contracts: civil dates, and rules for when clocks change.
 pub mod Civil
 pub mod RuleDays
+pub mod Numbers
+pub mod Edges

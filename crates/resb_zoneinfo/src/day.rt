@@ -1,6 +1,7 @@
 //! Which day of a month a rule names, and which one that is in a given year.
 //! The rules are in `rule`.
-ghost use Rattle.std.specs.Prelude.{◌≡◌, ◌<◌, ◌≤◌, ◌^◌, IsTrue};
+ghost use Rattle.std.specs.Prelude.{◌≡◌, ◌+◌, ◌<◌, ◌≤◌, ◌^◌, IsTrue};
+ghost use Rattle.resb_zoneinfo.specs.Civil.{year_start};
 ghost use Rattle.resb_zoneinfo.specs.RuleDays.{is_real, IsRuleDay};
 
 use crate::civil::{first_on, last_on, month_length, month_start};
@@ -44,13 +45,15 @@ pub enum RuleDay {
 }
 
 impl RuleDay {
-    /// The number of this day, in the sense of `civil`, in a month, where 0 is January.
+    /// The number of this day, in the sense of `civil`, in a month, where 0 is January. It lies at
+    /// most a week behind the year.
     pub fn in_month(&self, year: u64, month: u64) -> u64
         requires real { IsTrue (is_real self.now) }
         requires in_year { month < 12 }
         requires early { 1 ≤ year }
         requires small { year < 2 ^ 47 }
-        ensures { IsRuleDay self.now year month result }
+        ensures is { IsRuleDay self.now year month result }
+        ensures near { result < year_start (year + 1) + 7 }
     {
         let start = month_start(year, month);
         let length = month_length(year, month);

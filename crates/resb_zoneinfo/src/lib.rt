@@ -4,5 +4,9 @@
 
 pub mod civil;
 mod day;
+mod edge;
+mod numbers;
 
 pub use day::RuleDay;
+pub use edge::{Clock, Edge};
+pub use numbers::RuleError;

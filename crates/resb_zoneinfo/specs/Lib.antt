@@ -3,3 +3,5 @@ pub mod Civil
 pub mod RuleDays
 pub mod Numbers
 pub mod Edges
+pub mod Rules
+pub use Rattle.resb.specs.Views

@@ -6,7 +6,9 @@ pub mod civil;
 mod day;
 mod edge;
 mod numbers;
+mod rule;
 
 pub use day::RuleDay;
 pub use edge::{Clock, Edge};
 pub use numbers::RuleError;
+pub use rule::FinalRule;

@@ -4,4 +4,7 @@ pub mod RuleDays
 pub mod Numbers
 pub mod Edges
 pub mod Rules
+pub mod LongMoments
+pub mod Transitions
+pub mod Offsets
 pub use Rattle.resb.specs.Views

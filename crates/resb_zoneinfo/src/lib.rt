@@ -7,8 +7,12 @@ mod day;
 mod edge;
 mod numbers;
 mod rule;
+mod transitions;
+mod zone;
 
 pub use day::RuleDay;
 pub use edge::{Clock, Edge};
 pub use numbers::RuleError;
 pub use rule::FinalRule;
+pub use transitions::Transitions;
+pub use zone::{FinalYears, Zone};

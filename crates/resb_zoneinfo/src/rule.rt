@@ -10,7 +10,7 @@ use crate::numbers::RuleError;
 use resb::binary::helpers::I32View;
 
 /// Seconds from the begin of the year 0 to that of 1970.
-const BEFORE_1970: u64 = 62_167_219_200;
+pub(crate) const BEFORE_1970: u64 = 62_167_219_200;
 
 /// A rule for all years: when in a year saving begins and ends, and how much is saved.
 #[derive(Clone, Copy, Debug)]

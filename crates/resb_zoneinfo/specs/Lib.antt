@@ -7,4 +7,9 @@ pub mod Rules
 pub mod LongMoments
 pub mod Transitions
 pub mod Offsets
+pub mod Linked
+pub mod LinkedLaws
+pub use Rattle.resb.specs.Leaves
+pub use Rattle.resb.specs.Others
+pub use Rattle.resb.specs.Places
 pub use Rattle.resb.specs.Views

@@ -3,15 +3,19 @@
 #![tactic(auto)]
 
 pub mod civil;
+mod data;
 mod day;
 mod edge;
+mod linked;
 mod numbers;
 mod rule;
 mod transitions;
 mod zone;
 
+pub use data::{InfoFields, ZoneData, ZoneFields, ZoneFile, ZoneInfo};
 pub use day::RuleDay;
 pub use edge::{Clock, Edge};
+pub use linked::Linked;
 pub use numbers::RuleError;
 pub use rule::FinalRule;
 pub use transitions::Transitions;

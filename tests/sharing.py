@@ -2,11 +2,15 @@
 """Files in which many places lead to one long text, key or vector, counted by the program.
 
     tests/sharing.py PROGRAM [MEGABYTES ..]      counts each kind at each size (1 and 10)
+    tests/sharing.py --measure PROGRAM [MEGABYTES ..]    the same by the program of measure.rattle
     tests/sharing.py --write KIND BYTES FILE     writes one such file, and prints its count
 
 PROGRAM is the built program, which is asked to `check` each file. A count that isn't the one that
 the file was made with, more time than 0.2 s for each megabyte, or more memory than twice the file
-and 16 MB, which is about what this script itself has, is a failure.
+and 16 MB, which is about what this script itself has, is a failure. Where it measures, the file is
+read from standard input, which takes it once more, at most twice as the buffer grows, so that it
+may have four times the file. To build that program let `measure.rattle` be `src/main.rt` of a crate
+`measure_file: resb` for the time being, and call `rt run` there.
 """
 import os
 import struct
@@ -111,10 +115,12 @@ def nested_first(size):
 KINDS = [string, strings_in_a_string, key, ends_of_a_key, vector, nested, nested_first]
 
 
-def counted(program, path):
+def counted(program, path, measures):
     """What the program prints, its processor time, and the most memory that it had, in bytes."""
-    child = subprocess.Popen([program, "check", path], stdout=subprocess.PIPE)
-    text = child.stdout.read().decode()
+    words = [program] if measures else [program, "check", path]
+    with open(path, "rb") as file:
+        child = subprocess.Popen(words, stdin=file, stdout=subprocess.PIPE)
+        text = child.stdout.read().decode()
     _, status, used = os.wait4(child.pid, 0)
     child.returncode = status
     return text, used.ru_utime + used.ru_stime, used.ru_maxrss * 1024
@@ -128,7 +134,10 @@ def main():
             out.write(data)
         print(count)
         return 0
-    sizes = [int(size) for size in sys.argv[2:]] or [1, 10]
+    measures = sys.argv[1] == "--measure"
+    words = sys.argv[2:] if measures else sys.argv[1:]
+    sizes = [int(size) for size in words[1:]] or [1, 10]
+    most = 4 if measures else 2
     passed = failed = 0
     for size in sizes:
         for kind in KINDS:
@@ -137,9 +146,9 @@ def main():
                 make += [str(size * 1000000), out.name]
                 count = int(subprocess.run(make, check=True, stdout=subprocess.PIPE).stdout)
                 length = os.path.getsize(out.name)
-                text, seconds, memory = counted(sys.argv[1], out.name)
-            good = text == "ok %d resources\n" % count
-            few = seconds <= 0.2 * size and memory <= 2 * length + 16000000
+                text, seconds, memory = counted(words[0], out.name, measures)
+            good = text.startswith("ok %d resources" % count)
+            few = seconds <= 0.2 * size and memory <= most * length + 16000000
             row = (kind.__name__, size, seconds, memory / length, text.strip())
             print("%-20s %4d MB %8.3f s %6.2f bytes a byte   %s" % row)
             if good and few:

@@ -51,12 +51,16 @@ pub use Rattle.resb_head.specs.HeadReading
 pub use Rattle.resb_head.specs.PartsReading
 pub use Rattle.resb_head.specs.Laws as HeadLaws
 pub use Rattle.resb_shared.specs.Links
+pub use Rattle.resb_shared.specs.Wide
 pub use Rattle.resb_shared.specs.Laws as SharedLaws
 pub use Rattle.resb_walk.specs.Files
 pub use Rattle.resb_walk.specs.Damage
 pub use Rattle.resb_walk.specs.Meets
 pub use Rattle.resb_walk.specs.Refusals
 pub use Rattle.resb_walk.specs.Borrows
+pub use Rattle.resb_walk.specs.Pieces
+pub use Rattle.resb_walk.specs.Sums
+pub use Rattle.resb_walk.specs.TreeBytes
 pub use Rattle.resb_walk.specs.Inner.Members
 pub use Rattle.resb_read.specs.Places
 pub use Rattle.resb_read.specs.Reading
@@ -65,6 +69,7 @@ pub use Rattle.resb_read.specs.Refused
 pub use Rattle.resb_read.specs.Refusing
 pub use Rattle.resb_read.specs.Resources
 pub use Rattle.resb_read.specs.Roots
+pub use Rattle.resb_read.specs.Measuring
 pub use Rattle.resb_read.specs.Others
 pub use Rattle.resb_read.specs.Sequences
 pub use Rattle.resb_read.specs.Access

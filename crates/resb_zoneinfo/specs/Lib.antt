@@ -9,6 +9,7 @@ pub mod Transitions
 pub mod Offsets
 pub mod Linked
 pub mod LinkedLaws
+pub mod Checking
 pub use Rattle.resb.specs.Leaves
 pub use Rattle.resb.specs.Others
 pub use Rattle.resb.specs.Places

@@ -2,6 +2,7 @@
 //! It names `resb` and no lower crate; how tables become records is said in `resb::fields`.
 #![tactic(auto)]
 
+mod checking;
 pub mod civil;
 mod data;
 mod day;
@@ -12,6 +13,7 @@ mod rule;
 mod transitions;
 mod zone;
 
+pub use checking::ZoneError;
 pub use data::{InfoFields, ZoneData, ZoneFields, ZoneFile, ZoneInfo};
 pub use day::RuleDay;
 pub use edge::{Clock, Edge};

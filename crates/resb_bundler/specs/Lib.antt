@@ -1,0 +1,3 @@
+-- The words of the contracts: what a file's head says, and why a text has no file.
+pub mod Summary
+pub mod Sources

@@ -1,0 +1,11 @@
+//! What a program for people does with the bytes of texts and files: compile, check, dump, get.
+//! Words, files and streams are the program's; lines, columns and marks are in `resb_report`.
+#![tactic(auto)]
+
+mod compiling;
+mod error;
+mod summary;
+
+pub use compiling::compile_source;
+pub use error::SourceError;
+pub use summary::{Summary, summary_of};

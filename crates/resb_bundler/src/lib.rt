@@ -4,8 +4,10 @@
 
 mod compiling;
 mod error;
+mod json;
 mod summary;
 
 pub use compiling::compile_source;
 pub use error::SourceError;
+pub use json::{JsonError, json_text};
 pub use summary::{Summary, summary_of};

@@ -1,1 +1,1 @@
--- Nothing is passed on.
+pub mod JsonLemmas

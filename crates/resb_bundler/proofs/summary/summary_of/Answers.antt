@@ -1,5 +1,5 @@
 -- The header's size leads to the body, and the index stands behind the root's word.
-use Rattle.std.proofs.Common.{ℕ, List, ◌≡◌, ◌∙◌, min, length, drop, ap, subst, rules, refl, not}
+use Rattle.std.proofs.Common.{ℕ, List, ◌≡◌, ◌∙◌, min, length, drop, ap, subst, refl, not}
 use Rattle.resb_format.specs.Parts.{body_of, header_size}
 use Rattle.resb_head.specs.Head.{IndexAt}
 use Rattle.resb_head.proofs.FileSteps.{size_is, drop_min}

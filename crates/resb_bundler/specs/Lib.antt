@@ -2,3 +2,4 @@
 pub mod Summary
 pub mod Sources
 pub mod Json
+pub mod Files

@@ -1,6 +1,7 @@
 //! Why a text has no file, and why a file isn't read.
 //! Where a text is to blame, and what a person is told of it, is in `compiling`.
 use resb::CompileError;
+use resb::binary::BinaryDeserializerError;
 use std::error::Error;
 use std::fmt;
 
@@ -27,3 +28,23 @@ impl fmt::Display for SourceError {
 }
 
 impl Error for SourceError {}
+
+/// Why a file isn't read.
+#[derive(Debug, Drop)]
+pub enum FileError {
+    /// It uses the keys of a pool bundle, and has none of its own.
+    UsesPool,
+    /// The reader refuses it, or memory was wanted.
+    Reading(BinaryDeserializerError),
+}
+
+impl fmt::Display for FileError {
+    fn fmt<W: fmt::Write>(&self, f: &mut fmt::Formatter<W>) -> fmt::Result {
+        match self {
+            FileError::UsesPool => write!(f, "this file uses the keys of a pool bundle"),
+            FileError::Reading(e) => write!(f, "{e}"),
+        }
+    }
+}
+
+impl Error for FileError {}

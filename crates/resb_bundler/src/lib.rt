@@ -6,10 +6,12 @@ mod compiling;
 mod error;
 mod files;
 mod json;
+mod path;
 mod summary;
 
 pub use compiling::compile_source;
 pub use error::{FileError, SourceError};
 pub use files::{count_file, read_file};
 pub use json::{JsonError, json_text};
+pub use path::{Found, find};
 pub use summary::{Summary, summary_of};

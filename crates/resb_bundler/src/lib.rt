@@ -9,7 +9,7 @@ mod json;
 mod path;
 mod summary;
 
-pub use compiling::compile_source;
+pub use compiling::{Blame, compile_source, where_to_look};
 pub use error::{FileError, SourceError};
 pub use files::{count_file, read_file};
 pub use json::{JsonError, json_text};

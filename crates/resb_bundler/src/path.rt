@@ -25,7 +25,9 @@ pub fn find<'t, 'a>(root: &'t Resource<'a>, path: &[&str]) -> Option<Found<'t, '
 /// What stands inside, under one name.
 fn step<'t, 'a>(found: Found<'t, 'a>, name: &str) -> Option<Found<'t, 'a>> {
     match found {
-        Found::Resource(Resource::Table(entries)) => Some(Found::Resource(value_of(entries, name)?)),
+        Found::Resource(Resource::Table(entries)) => Some(Found::Resource(value_of(
+            entries, name,
+        )?)),
         Found::Resource(Resource::Array(members)) => {
             Some(Found::Resource(members.as_slice().get(number_of(name)?)?))
         }

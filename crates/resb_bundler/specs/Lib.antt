@@ -1,0 +1,5 @@
+-- The words of the contracts: what a file's head says, and why a text has no file.
+pub mod Summary
+pub mod Sources
+pub mod Json
+pub mod Files

@@ -1,0 +1,44 @@
+-- Why the bytes of a text have no file.
+use Rattle.std.specs.Prelude.{List, ℕ, Bool, true, false, Option, Some, None, length, nat_lt, IsUtf8}
+use Rattle.std.specs.Prelude.{if◌then◌else◌}
+use Rattle.std.specs.Str.{IsValidUpTo}
+use Rattle.resb_report.specs.Braces.{innermost_open}
+use Rattle.resb_grammar.specs.declared.expected.Expected.{Expected}
+use Rattle.resb_grammar.specs.declared.expected.Expected.TheVariants.{Memory}
+use Rattle.resb_text.specs.declared.error.TextParserError.{TextParserError}
+use Rattle.resb.specs.Compiling.{IsRefused}
+use Rattle.resb.specs.declared.compiling.CompileError.TheVariants.{Reading, Writing}
+use Rattle.resb_bundler.specs.declared.compiling.Blame.{Blame}
+use Rattle.resb_bundler.specs.declared.compiling.Blame.TheVariants.{At, Open, Nowhere}
+use Rattle.resb_bundler.specs.declared.error.SourceError.{SourceError}
+use Rattle.resb_bundler.specs.declared.error.SourceError.TheVariants.{NotUtf8, Refused}
+
+-- these bytes have no file, for this reason: they are no UTF-8, and the place is the first that
+-- isn't; or they are, and the text is refused
+abbrev pub IsNoSource : List ℕ → SourceError → Type 0
+IsNoSource source (NotUtf8 place) = (IsUtf8 source → ⊥) × IsValidUpTo source place
+IsNoSource source (Refused e) = IsUtf8 source × IsRefused source e
+
+-- memory was wanted, and nothing of the text
+abbrev pub is_memory : Expected → Bool
+is_memory Memory = true
+is_memory _ = false
+
+-- the innermost brace that is open where the text ends, or else that place
+abbrev pub at_end : ℕ → Option ℕ → Blame
+at_end place (Some brace) = Open brace
+at_end place None = At place
+
+-- where a reading got stuck: memory is to blame for nothing in the text, and the end of the text only
+-- where no brace is open
+abbrev pub stuck_at : List ℕ → TextParserError → Blame
+stuck_at source e =
+    if is_memory e.expected then Nowhere
+    else (if nat_lt e.position (length source) then At e.position
+    else at_end e.position (innermost_open source))
+
+-- where to look for the cause of a refusal
+abbrev pub blame_of : List ℕ → SourceError → Blame
+blame_of source (NotUtf8 place) = At place
+blame_of source (Refused (Writing e)) = Nowhere
+blame_of source (Refused (Reading e)) = stuck_at source e

@@ -1,0 +1,58 @@
+//! The file of a text that is given as bytes, and where a person is to look if there is none.
+ghost use Rattle.std.specs.Prelude.{◌≡◌, IsUtf8, IfOk, IfErr};
+ghost use Rattle.resb.specs.Compiling.{IsCompiled};
+ghost use Rattle.resb_bundler.specs.Sources.{IsNoSource, blame_of};
+
+use crate::error::SourceError;
+use resb::CompileError;
+use resb::text::Expected;
+use resb_report::innermost_open;
+use std::alloc::Global;
+
+/// The bytes of the `.res` file of a bundle's text, which is given as bytes. (`resb::compile`.)
+pub fn compile_source(alloc: Global, source: &[u8]) -> Result<Vec<u8>, SourceError>
+    ensures ok { IfOk result (λ file. IsUtf8 source.now × IsCompiled source.now file.items) }
+    ensures err { IfErr result (IsNoSource source.now) }
+{
+    match str::from_utf8(source) {
+        Ok(text) => match resb::compile(alloc, text) {
+            Ok(file) => Ok(file),
+            Err(e) => Err(SourceError::Refused(e)),
+        },
+        Err(e) => Err(SourceError::NotUtf8(e.valid_up_to())),
+    }
+}
+
+/// Where a person is to look for the cause of a refusal, in bytes from the text's start.
+#[derive(Clone, Copy, Debug, PartialEq, Eq)]
+pub enum Blame {
+    /// At this place.
+    At(usize),
+    /// At this `{`, which is open where the text ends.
+    Open(usize),
+    /// At no place of the text.
+    Nowhere,
+}
+
+/// Where to look in a text that was refused: where it is no UTF-8, where the reading got stuck, or,
+/// if that is the text's end, at the innermost `{` that is open there.
+pub fn where_to_look(source: &[u8], error: &SourceError) -> Blame
+    ensures { result ≡ blame_of source.now error.now }
+{
+    match error {
+        SourceError::NotUtf8(place) => Blame::At(*place),
+        SourceError::Refused(CompileError::Writing(_)) => Blame::Nowhere,
+        SourceError::Refused(CompileError::Reading(e)) => {
+            if e.expected() == Expected::Memory {
+                return Blame::Nowhere;
+            }
+            if e.position() < source.len() {
+                return Blame::At(e.position());
+            }
+            match innermost_open(source) {
+                Some(place) => Blame::Open(place),
+                None => Blame::At(e.position()),
+            }
+        }
+    }
+}

@@ -1,0 +1,93 @@
+//! The command `compile`: each text to a file of its own.
+//! What a text's file is, and why it has none, is in `resb_bundler`.
+use crate::say::{complain, refuse, warn};
+use crate::streams::{is_same_file, read_input, write_output};
+use clap::ArgMatches;
+use resb_bundler::compile_source;
+use std::path::Path;
+
+/// Compiles each text. One that fails doesn't stop the others; the status says whether one did.
+pub(crate) fn compile(rt: &HostRuntime, matches: &ArgMatches<'_>) -> u8 {
+    let mut status = 0;
+    let output = matches.get_str("OUT");
+    let folder = matches.get_str("DIR");
+    let texts = matches.get_strs("FILE").unwrap_or(&[]);
+    if output.is_some() && texts.len() > 1 {
+        complain(rt, "resb", "--output is for one text; --directory is for several");
+        return 2;
+    }
+    for text in texts.iter().copied() {
+        status = status.max(compile_one(rt, text, output, folder));
+    }
+    status
+}
+
+/// Compiles a text, and answers its status.
+fn compile_one(rt: &HostRuntime, name: &str, output: Option<&str>, folder: Option<&str>) -> u8 {
+    let Some(output) = output_of(rt, name, output, folder) else {
+        complain(rt, name, "this has no name for a file; say one by --output");
+        return 2;
+    };
+    if is_same_file(rt, name, output.as_str()) {
+        complain(rt, name, "the file would take the place of its own text");
+        return 2;
+    }
+    let source = match read_input(rt, name) {
+        Ok(source) => source,
+        Err(cause) => {
+            complain(rt, name, cause);
+            return 2;
+        }
+    };
+    match compile_source(rt.alloc(), source.as_slice()) {
+        Err(e) => {
+            refuse(rt, name, source.as_slice(), &e);
+            1
+        }
+        Ok(file) => {
+            if let Ok(text) = str::from_utf8(source.as_slice()) {
+                warn(rt, name, text);
+            }
+            write_one(rt, output.as_str(), file.as_slice())
+        }
+    }
+}
+
+/// Writes a file, and answers its status.
+fn write_one(rt: &HostRuntime, name: &str, bytes: &[u8]) -> u8 {
+    match write_output(rt, name, bytes) {
+        Ok(()) => 0,
+        Err(cause) => {
+            complain(rt, name, cause);
+            2
+        }
+    }
+}
+
+/// The name of a text's file: the one that was said, or the text's with `.res`, in the folder that
+/// was said or beside the text. Standard input goes to standard output.
+fn output_of(
+    rt: &HostRuntime,
+    name: &str,
+    output: Option<&str>,
+    folder: Option<&str>,
+) -> Option<String> {
+    if let Some(output) = output {
+        return String::from_str(rt.alloc(), output).ok();
+    }
+    if name == "-" {
+        return match folder {
+            None => String::from_str(rt.alloc(), "-").ok(),
+            Some(_) => None,
+        };
+    }
+    let path = Path::new(name);
+    let stem = path.file_stem()?;
+    match folder {
+        Some(folder) => format!(in rt.alloc(); "{folder}/{stem}.res").ok(),
+        None => {
+            let beside = path.with_extension(rt.alloc(), "res").ok()?;
+            String::from_str(rt.alloc(), beside.as_path().as_str()).ok()
+        }
+    }
+}

@@ -1,0 +1,75 @@
+//! What is said on standard error: the place, the cause, the line round it, and warnings.
+//! What the causes are called is theirs to print.
+use resb_bundler::{Blame, SourceError, where_to_look};
+use resb_report::{Reason, location_of, pointed_line, warnings};
+
+/// The most warnings that are said of one text.
+const MOST_WARNINGS: usize = 20;
+
+/// Says one line.
+pub(crate) fn complain<R: Eprint>(rt: &R, name: &str, cause: &str) {
+    let _ = eprintln!(rt; "{name}: {cause}");
+}
+
+/// Says why a text is refused, and where.
+pub(crate) fn refuse<R: Eprint + AllocGlobal>(
+    rt: &R,
+    name: &str,
+    source: &[u8],
+    error: &SourceError,
+) {
+    match where_to_look(source, error) {
+        Blame::Nowhere => {
+            let _ = eprintln!(rt; "{name}: {error}");
+        }
+        Blame::At(place) => {
+            let at = location_of(source, place);
+            let (line, column) = (at.line, at.column);
+            let _ = eprintln!(rt; "{name}:{line}:{column}: {error}");
+            point(rt, source, place);
+        }
+        Blame::Open(place) => {
+            let at = location_of(source, place);
+            let (line, column) = (at.line, at.column);
+            let _ = eprintln!(rt; "{name}:{line}:{column}: {error} before the text ends inside this");
+            point(rt, source, place);
+        }
+    }
+}
+
+/// Shows the line round a place.
+fn point<R: Eprint + AllocGlobal>(rt: &R, source: &[u8], place: usize) {
+    if let Ok(line) = pointed_line(rt.alloc(), source, place) {
+        if let Ok(text) = String::from_utf8(line) {
+            let _ = eprintln!(rt; "{text}");
+        }
+    }
+}
+
+/// Says what another reader takes otherwise in a text that was compiled.
+pub(crate) fn warn<R: Eprint + AllocGlobal>(rt: &R, name: &str, text: &str) {
+    let Ok(found) = warnings(rt.alloc(), text) else {
+        return;
+    };
+    let source = text.as_bytes();
+    for warning in found.iter().take(MOST_WARNINGS) {
+        let at = location_of(source, warning.place);
+        let (line, column) = (at.line, at.column);
+        let _ = match warning.reason {
+            Reason::RepeatedKey(first) => {
+                let before = location_of(source, first);
+                let (line_before, column_before) = (before.line, before.column);
+                eprintln!(rt; "{name}:{line}:{column}: warning: this key stands at \
+                    {line_before}:{column_before} too; genrb refuses that")
+            }
+            Reason::Backslash => eprintln!(rt; "{name}:{line}:{column}: warning: this \
+                backslash is a character here, and an escape for genrb"),
+            Reason::StringsInRow => eprintln!(rt; "{name}:{line}:{column}: warning: this \
+                string is an item of its own here; genrb joins it to the one before"),
+        };
+    }
+    if found.len() > MOST_WARNINGS {
+        let more = found.len() - MOST_WARNINGS;
+        let _ = eprintln!(rt; "{name}: {more} more warnings");
+    }
+}

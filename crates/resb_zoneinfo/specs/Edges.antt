@@ -1,0 +1,68 @@
+-- When in a year clocks change, and what five numbers of a file say of it.
+use Rattle.std.specs.Prelude.{ℕ, ℤ, pos, ◌≡◌, ◌+◌, ◌*◌, ◌+ℤ◌, List, slice_index}
+use Rattle.std.specs.Int.{cast_signed, w32}
+use Rattle.resb_zoneinfo.specs.RuleDays.{IsRuleDay}
+use Rattle.resb_zoneinfo.specs.Numbers.{IsBeyond, SaysDay, IsDayFault}
+use Rattle.resb_zoneinfo.specs.declared.edge.Clock.{Clock}
+use Rattle.resb_zoneinfo.specs.declared.edge.Clock.TheVariants.{Wall, Standard, Universal}
+use Rattle.resb_zoneinfo.specs.declared.edge.Edge.{Edge}
+use Rattle.resb_zoneinfo.specs.declared.numbers.RuleError.{RuleError}
+use Rattle.resb_zoneinfo.specs.declared.numbers.RuleError.TheVariants as error
+
+-- what the clock of a change shows then in a year: the seconds before its day, and those of its time
+pub record IsTimeIn (e : Edge) (year time : ℕ) : Type 0 where
+  pub day : ℕ
+  pub day_is : IsRuleDay e.day year e.month day
+  pub time_is : time ≡ 86400 * day + e.seconds
+
+-- the clock of standard time shows that of universal time and the zone's offset
+abbrev pub IsStandard : ℕ → ℤ → ℕ → Type 0
+IsStandard universal raw standard = pos standard ≡ pos universal +ℤ raw
+
+-- the clock on the wall shows standard time and what it is ahead, the others what they are for
+abbrev pub clock_reading : Clock → ℕ → ℕ → ℕ → ℕ
+clock_reading Wall standard universal ahead = standard + ahead
+clock_reading Standard standard universal ahead = standard
+clock_reading Universal standard universal ahead = universal
+
+-- the numbers of the clocks: 0 for the wall's, 1 for standard time, 2 for universal time
+abbrev pub clock_number : Clock → ℤ
+clock_number Wall = pos 0
+clock_number Standard = pos 1
+clock_number Universal = pos 2
+
+-- five numbers say a change: its month from 0 on, its day and weekday, its seconds and its clock
+pub record SaysEdge (month day weekday time clock : ℤ) (e : Edge) : Type 0 where
+  pub month_is : month ≡ pos e.month
+  pub day_is : SaysDay day weekday e.day
+  pub time_is : time ≡ pos e.seconds
+  pub clock_is : clock ≡ clock_number e.clock
+
+-- the month is a month, and its day or weekday is none
+abbrev pub DayIsNone : ℤ → ℤ → ℤ → RuleError → Type 0
+DayIsNone month day weekday e = (m : ℕ) × (month ≡ pos m) × IsDayFault m day weekday e
+
+-- five numbers say no change: the month is beyond 11, the time beyond a day, the clock beyond 2, or
+-- the day or weekday is none
+abbrev pub IsFault : ℤ → ℤ → ℤ → ℤ → ℤ → RuleError → Type 0
+IsFault month day weekday time clock error.Month = IsBeyond 11 month
+IsFault month day weekday time clock error.Time = IsBeyond 86400 time
+IsFault month day weekday time clock error.Clock = IsBeyond 2 clock
+IsFault month day weekday time clock error.Day = DayIsNone month day weekday error.Day
+IsFault month day weekday time clock error.Weekday = DayIsNone month day weekday error.Weekday
+IsFault month day weekday time clock error.Length = ⊥
+IsFault month day weekday time clock error.Saving = ⊥
+
+-- the number at a place among words
+abbrev pub number : List ℕ → ℕ → ℤ
+number words k = cast_signed w32 (slice_index words k)
+
+-- five numbers from a place on say a change
+abbrev pub SaysEdgeAt : List ℕ → ℕ → Edge → Type 0
+SaysEdgeAt v k =
+    SaysEdge (number v k) (number v (k + 1)) (number v (k + 2)) (number v (k + 3)) (number v (k + 4))
+
+-- five numbers from a place on have a fault
+abbrev pub IsFaultAt : List ℕ → ℕ → RuleError → Type 0
+IsFaultAt v k =
+    IsFault (number v k) (number v (k + 1)) (number v (k + 2)) (number v (k + 3)) (number v (k + 4))

@@ -1,0 +1,102 @@
+//! The numbers of a file's rules: naturals up to a limit, numbers by their signs, and days.
+//! What a whole change of clocks is read from is said in `edge`.
+ghost use Rattle.std.specs.Prelude.{◌≡◌, ◌<◌, ◌≤◌, pos, IsTrue, IfOk, IfErr, MatchOption};
+ghost use Rattle.resb_zoneinfo.specs.RuleDays.{is_real};
+ghost use Rattle.resb_zoneinfo.specs.Numbers.{IsBeyond, SaysDay, IsDayFault, IsSigned};
+
+use crate::civil::month_length;
+use crate::day::RuleDay;
+
+/// Why numbers of a file are no rule.
+#[derive(Clone, Copy, Debug, PartialEq, Eq)]
+pub enum RuleError {
+    /// There are not eleven numbers.
+    Length,
+    /// A month that is not 0 to 11.
+    Month,
+    /// A weekday that is not -7 to 7.
+    Weekday,
+    /// A day that the month does not have, or that is not the first to fifth of a weekday.
+    Day,
+    /// A time that is not within a day.
+    Time,
+    /// A clock that is not 0, 1 or 2.
+    Clock,
+    /// Nothing, or less than nothing, is saved.
+    Saving,
+}
+
+/// A number of a file that is to be one from 0 up to a limit.
+pub(crate) fn natural(number: i32, limit: u64) -> Option<u64>
+    ensures { MatchOption result (IsBeyond limit number) (λ n. (number ≡ pos n) × (n ≤ limit)) }
+{
+    if number < 0 {
+        return None;
+    }
+    let size = u64::from(number.unsigned_abs());
+    if limit < size { None } else { Some(size) }
+}
+
+/// A number with its sign.
+#[derive(Clone, Copy)]
+enum Signed {
+    Up(u64),
+    Down(u64),
+}
+
+/// Takes the sign from a number.
+fn sign_of(number: i32) -> Signed
+    ensures { IsSigned number result }
+{
+    let size = u64::from(number.unsigned_abs());
+    if number < 0 {
+        Signed::Down(size)
+    } else {
+        Signed::Up(size)
+    }
+}
+
+/// The day of a month that two numbers of a file say.
+pub(crate) fn day_of(month: u64, day: i32, weekday: i32) -> Result<RuleDay, RuleError>
+    requires { month < 12 }
+    ensures said { IfOk result (λ d. IsTrue (is_real d) × SaysDay day weekday d) }
+    ensures refused { IfErr result (IsDayFault month day weekday) }
+{
+    let (name, number) = (sign_of(weekday), sign_of(day));
+    if weekday.unsigned_abs() > 7 {
+        return Err(RuleError::Weekday);
+    }
+    let size = u64::from(day.unsigned_abs());
+    let limit = if weekday > 0 {
+        5
+    } else {
+        month_length(0, month)
+    };
+    if size < 1 || limit < size {
+        return Err(RuleError::Day);
+    }
+    match (name, number) {
+        (Signed::Up(0), Signed::Up(number)) => Ok(RuleDay::Number { number }),
+        (Signed::Up(0), Signed::Down(_)) => Err(RuleError::Day),
+        (Signed::Up(name), Signed::Up(count)) => Ok(RuleDay::Nth {
+            count,
+            weekday: name - 1,
+        }),
+        (Signed::Up(name), Signed::Down(count)) => {
+            Ok(RuleDay::NthLast {
+                count,
+                weekday: name - 1,
+            })
+        }
+        (Signed::Down(name), Signed::Up(number)) => Ok(RuleDay::From {
+            number,
+            weekday: name - 1,
+        }),
+        (Signed::Down(name), Signed::Down(number)) => {
+            Ok(RuleDay::UpTo {
+                number,
+                weekday: name - 1,
+            })
+        }
+    }
+}

@@ -1,0 +1,128 @@
+//! The rule that a zone follows from its final year on: each year clocks go forward and back.
+//! When in a year they do is said in `edge`, and what stood before the final year in `zone`.
+ghost use Rattle.std.specs.Prelude.{◌≡◌, ◌+◌, ◌<◌, ◌≤◌, ◌^◌, IfOk, IfErr, length};
+ghost use Rattle.resb.specs.Views.{number_words};
+ghost use Rattle.resb_zoneinfo.specs.Edges.{IsStandard, clock_reading, SaysEdgeAt, IsFaultAt};
+
+use crate::civil::year_of;
+use crate::edge::{Clock, Edge};
+use crate::numbers::RuleError;
+use resb::binary::helpers::I32View;
+
+/// Seconds from the begin of the year 0 to that of 1970.
+pub(crate) const BEFORE_1970: u64 = 62_167_219_200;
+
+/// A rule for all years: when in a year saving begins and ends, and how much is saved.
+#[derive(Clone, Copy, Debug)]
+pub struct FinalRule {
+    /// When saving begins.
+    pub start: Edge,
+    /// When it ends: in the same year where its month is not before that of the start, else the
+    /// year begins and ends with saving.
+    pub end: Edge,
+    /// How many seconds clocks are ahead meanwhile.
+    pub saving: u64,
+    ghost saves: { 0 < saving },
+    ghost small: { saving < 2 ^ 31 },
+}
+
+impl FinalRule {
+    ghost use Rattle.resb_zoneinfo.specs.Rules.{SaysRule, IsRuleFault, IsFinalOffset, IsSaving};
+
+    /// The rule that eleven numbers of a file say: five for its start, five for its end, as
+    /// `Edge::from_numbers` reads them, and the seconds that are saved.
+    pub fn from_numbers(numbers: I32View<'_>) -> Result<FinalRule, RuleError>
+        ensures said { IfOk result (SaysRule (number_words numbers.entry)) }
+        ensures refused { IfErr result (IsRuleFault (number_words numbers.entry)) }
+    {
+        if numbers.len() != 11 {
+            return Err(RuleError::Length);
+        }
+        let start = edge_at(numbers, 0)?;
+        let end = edge_at(numbers, 5)?;
+        let saved = numbers.item(10);
+        if saved <= 0 {
+            return Err(RuleError::Saving);
+        }
+        let saving = u64::from(saved.unsigned_abs());
+        Ok(FinalRule { start, end, saving })
+    }
+
+    /// The offset from universal time in seconds, at a moment in seconds since 1970, of a zone whose
+    /// offset without what is saved is given.
+    pub fn offset_at(&self, raw: i32, moment: u64) -> i64
+        requires { moment < 2 ^ 63 }
+        ensures { IsFinalOffset self.now raw moment result }
+    {
+        let universal = moment + BEFORE_1970;
+        let standard = standard_of(universal, raw);
+        let year = year_of(standard / 86_400);
+        if self.saves_at(year, standard, universal) {
+            i64::from(raw) + self.saving.cast_signed()
+        } else {
+            i64::from(raw)
+        }
+    }
+
+    /// Whether something is saved in a year when the clocks of standard and universal time show
+    /// these seconds since the year 0.
+    fn saves_at(&self, year: u64, standard: u64, universal: u64) -> bool
+        requires early { 1 ≤ year }
+        requires small { year < 2 ^ 39 }
+        requires fits { standard < 2 ^ 63 + 2 ^ 62 }
+        ensures { IsSaving self.now year standard universal result }
+    {
+        let start = self.start.time_in(year);
+        let end = self.end.time_in(year);
+        let begun = start <= reading(self.start.clock, standard, universal, 0);
+        let ended = end <= reading(self.end.clock, standard, universal, self.saving);
+        if self.start.month <= self.end.month {
+            begun && !ended
+        } else {
+            begun || !ended
+        }
+    }
+}
+
+/// The change that five numbers say, from the one at a place on.
+fn edge_at(numbers: I32View<'_>, from: usize) -> Result<Edge, RuleError>
+    requires small { from ≤ 5 }
+    requires there { from + 5 ≤ length (number_words numbers) }
+    ensures said { IfOk result (SaysEdgeAt (number_words numbers.entry) from) }
+    ensures refused { IfErr result (IsFaultAt (number_words numbers.entry) from) }
+{
+    Edge::from_numbers(
+        numbers.item(from),
+        numbers.item(from + 1),
+        numbers.item(from + 2),
+        numbers.item(from + 3),
+        numbers.item(from + 4),
+    )
+}
+
+/// What a clock shows, where those of standard and universal time show these and clocks on walls are
+/// ahead by so much.
+fn reading(clock: Clock, standard: u64, universal: u64, ahead: u64) -> u64
+    requires { standard + ahead < 2 ^ 64 }
+    ensures { result ≡ clock_reading clock standard universal ahead }
+{
+    match clock {
+        Clock::Wall => standard + ahead,
+        Clock::Standard => standard,
+        Clock::Universal => universal,
+    }
+}
+
+/// What the clock of standard time shows when that of universal time shows this.
+fn standard_of(universal: u64, raw: i32) -> u64
+    requires late { 2 ^ 32 ≤ universal }
+    requires fits { universal < 2 ^ 63 + 2 ^ 61 }
+    ensures { IsStandard universal raw result }
+{
+    let size = u64::from(raw.unsigned_abs());
+    if raw < 0 {
+        universal - size
+    } else {
+        universal + size
+    }
+}

@@ -212,7 +212,7 @@ module _ (f : Piece → ℕ) where
           let all = all_within no_entries ts' in
           let own = same_within (f (table_piece es')) 1 in
           let there : Within (sum_of (pieces_of_entries (map_of ts'))) (pairs_sum ts')
-              (entries_count (map_of ts')) (pairs_count ts') =
+          (entries_count (map_of ts')) (pairs_count ts') =
           as_within _ _ _ _ refl (omega arith) refl (omega arith) all in
           let whole : sum_of (entries_piece (map_of ts') ∷ pieces_of_entries (map_of ts'))
           ≡ f (table_piece es') + sum_of (pieces_of_entries (map_of ts')) =

@@ -1,10 +1,7 @@
 //! What the pieces of a tree add up to, sum by sum. Which pieces a file's tree has is found in
-//! `weigh`, and how many bytes a tree of them takes in `measured`.
-ghost use Rattle.std.specs.Prelude.{◌≡◌, ℕ, ◌+◌, ◌<◌, List, [], ◌∷◌, ◌++◌, length};
-ghost use Rattle.resb_tree.specs.Tree.{Tree, string};
-ghost use Rattle.resb_walk.specs.Pieces.{Piece, leaf_piece, array_piece, table_piece, key_piece};
-ghost use Rattle.resb_walk.specs.Sums.{AddsUp, fitting};
-ghost use Rattle.resb_walk.specs.Inner.Members.{leaf_tree};
+//! `weigh`, and how many bytes a tree of them takes in the crate above.
+ghost use Rattle.std.specs.Prelude.{◌≡◌, ℕ, ◌+◌};
+ghost use Rattle.resb_walk.specs.Sums.{fitting};
 
 use crate::file::Leaf;
 use crate::units::text_len;
@@ -38,7 +35,7 @@ impl Sums {
     ghost use Rattle.std.specs.Prelude.{◌≡◌, ℕ, ◌+◌, ◌<◌, List, [], ◌∷◌, ◌++◌, length};
     ghost use Rattle.resb_tree.specs.Tree.{Tree, string};
     ghost use Rattle.resb_format.specs.Content as at;
-    ghost use Rattle.resb_walk.specs.Pieces.{Piece, leaf_piece, array_piece, table_piece, key_piece};
+    ghost use Rattle.resb_walk.specs.Pieces.{Piece, leaf_piece, table_piece, key_piece};
     ghost use Rattle.resb_walk.specs.Sums.{AddsUp};
     ghost use Rattle.resb_walk.specs.Inner.Members.{leaf_tree};
 

@@ -10,6 +10,9 @@ pub mod Offsets
 pub mod Linked
 pub mod LinkedLaws
 pub mod Checking
+pub mod Names
+pub mod Leading
+pub mod Info
 pub use Rattle.resb.specs.Leaves
 pub use Rattle.resb.specs.Others
 pub use Rattle.resb.specs.Places

@@ -1,0 +1,128 @@
+#!/usr/bin/env bash
+# Stored sessions of each command of the program `resb`: what is printed, what is said on standard
+# error, and the status. The last line says how many there are, as 'N passed, M failed'.
+set -uo pipefail
+top=$(cd "$(dirname "$(readlink -f "$0")")/.." && pwd)
+program=$top/crates/resb_cli/out/resb_cli
+folder=$(mktemp -d)
+trap 'rm -rf "$folder"' EXIT
+cd "$folder"
+passed=0
+failed=0
+
+# told STATUS OUTPUT ERROR WORD..: the session of these words
+told() {
+  local status=$1 output=$2 error=$3 got
+  shift 3
+  (exec -a resb "$program" "$@") > out 2> err < "${input:-/dev/null}"
+  got=$?
+  if [ "$got" = "$status" ] && [ "$(cat out)" = "$output" ] && [ "$(cat err)" = "$error" ]; then
+    passed=$((passed + 1))
+  else
+    failed=$((failed + 1))
+    printf 'resb %s: status %s\n' "$*" "$got"
+    diff <(printf '%s\n' "$output") out
+    diff <(printf '%s\n' "$error") err
+  fi
+}
+
+# same FILE OTHER: two files of one content
+same() {
+  if cmp -s "$1" "$2"; then passed=$((passed + 1)); else failed=$((failed + 1)); echo "$1, $2"; fi
+}
+
+[ -x "$program" ] || { echo "$program isn't built"; echo '0 passed, 1 failed'; exit 1; }
+
+printf 'names {\n  b:bin{"00ff"} hi{"hello"} list:array{"a","c"}\n  n:int{-5} v:intvector{1,-2}\n}\n' \
+  > names.txt
+told 0 '' '' compile names.txt
+told 0 'names.res: 8 resources, format 2.0, fallback, largest table 5' '' check names.res
+printed='names{
+    b:bin{"00ff"}
+    hi{"hello"}
+    list:array{
+        "a",
+        "c",
+    }
+    n:int{268435451}
+    v:intvector{1,4294967294}
+}'
+told 0 "$printed" '' dump names.res
+told 0 '{"b":{"binary":"00ff"},"hi":"hello","list":["a","c"],"n":-5,"v":[1,-2]}' '' \
+  dump --json names.res
+told 0 'hello' '' get names.res hi
+told 0 '-5' '' get names.res n
+told 0 '-2' '' get names.res v/1
+told 0 'c' '' get names.res list/1
+told 0 '["a","c"]' '' get names.res list
+told 1 '' 'names.res: nothing stands at list/2' get names.res list/2
+told 1 '' 'names.res: nothing stands at hi/x' get names.res hi/x
+
+# what is dumped compiles to the same file where its keys stand in their order, through a stream too
+(exec -a resb "$program" dump names.res) > again.txt
+told 0 '' '' compile again.txt -o again.res
+same names.res again.res
+input=names.txt
+told 0 '' '' compile - -o stream.res
+same names.res stream.res
+input=
+
+# where a text is refused: line and column in characters, the line, and a mark
+printf 'b{\n\ta{"x"} \303\251{"y"}}' > bad.txt
+told 1 '' $'bad.txt:2:9: expected \'}\'\n a{"x"} \303\251{"y"}}\n        ^' compile bad.txt
+printf 'b{\n a{"x"}' > open.txt
+told 1 '' $'open.txt:1:2: expected \'}\' before the text ends inside this\nb{\n ^' compile open.txt
+printf 'b{a{"x\377"}}' > bytes.txt
+told 1 '' $'bytes.txt:1:7: this is no UTF-8\nb{a{"x?"}}\n      ^' compile bytes.txt
+printf 'b{a:float{"x"}}' > type.txt
+told 1 '' $'type.txt:1:4: expected a type\nb{a:float{"x"}}\n   ^' compile type.txt
+printf 'b{a:int{x}}' > number.txt
+told 1 '' $'number.txt:1:9: expected a number\nb{a:int{x}}\n        ^' compile number.txt
+printf 'b{a:bin{"0"}}' > digits.txt
+told 1 '' $'digits.txt:1:9: expected pairs of hex digits\nb{a:bin{"0"}}\n        ^' compile digits.txt
+printf 'b{a{:int}}' > brace.txt
+told 1 '' $'brace.txt:1:9: expected \'{\'\nb{a{:int}}\n        ^' compile brace.txt
+printf 'b{a{,}}' > item.txt
+told 1 '' $'item.txt:1:5: expected a resource\nb{a{,}}\n    ^' compile item.txt
+printf 'b{}c' > end.txt
+told 1 '' $'end.txt:1:4: expected the end of the text\nb{}c\n   ^' compile end.txt
+printf '{}' > string.txt
+told 1 '' $'string.txt:1:1: expected a string\n{}\n^' compile string.txt
+
+# warnings change nothing
+printf 'b{a{"x\\y"}a{"z"}l:array{"p" "q"}}' > warned.txt
+told 0 '' "warned.txt:1:7: warning: this backslash is a character here, and an escape for genrb
+warned.txt:1:11: warning: this key stands at 1:3 too; genrb refuses that
+warned.txt:1:29: warning: this string is an item of its own here; genrb joins it to the one before" \
+  compile warned.txt
+
+# one text that fails doesn't stop the others
+told 1 '' $'open.txt:1:2: expected \'}\' before the text ends inside this\nb{\n ^' \
+  compile open.txt names.txt -d .
+told 2 '' 'none.txt: no such file' compile none.txt
+told 2 '' 'names.txt: the file would take the place of its own text' compile names.txt -o names.txt
+told 2 '' 'resb: --output is for one text; --directory is for several' \
+  compile names.txt again.txt -o x.res
+told 1 '' 'names.txt: Invalid resource bundle data: magic word does not match' check names.txt
+[ -z "$(ls ./*.part 2> /dev/null)" ] && passed=$((passed + 1)) || failed=$((failed + 1))
+
+# files of other forms are refused by name
+python3 - << 'END'
+data = bytearray(open("names.res", "rb").read())
+other = bytearray(data)
+other[16] = 3
+open("three.res", "wb").write(other)
+pool = bytearray(data)
+pool[32 + 4 + 5 * 4] |= 4
+open("uses_pool.res", "wb").write(pool)
+END
+told 1 '' "three.res: format version 3.0: Unsupported resource bundle format: format versions other \
+than 2.0 are not supported at this time" check three.res
+told 1 '' 'uses_pool.res: this file uses the keys of a pool bundle' check uses_pool.res
+told 1 '' 'uses_pool.res: this file uses the keys of a pool bundle' dump uses_pool.res
+
+told 0 'resb 0.2.0' '' --version
+(exec -a resb "$program" help compile) > help.txt && grep -q '^Example: resb compile' help.txt \
+  && passed=$((passed + 1)) || failed=$((failed + 1))
+echo "$passed passed, $failed failed"
+[ "$failed" = 0 ]

@@ -1,5 +1,5 @@
--- The JSON of a tree: objects by key, arrays, strings and signed numbers; bytes are an object with the
--- one member `binary`, their hex digits.
+-- The JSON of a tree: objects by key, arrays, strings and signed numbers; bytes are an object with
+-- the one member `binary`, their hex digits.
 use Rattle.std.specs.Prelude.{ℕ, map, codes}
 use Rattle.std.specs.Int.{cast_signed, w32}
 use Rattle.hex.specs.Hex.{encode_lower}

@@ -1,5 +1,6 @@
 -- Why the bytes of a text have no file.
-use Rattle.std.specs.Prelude.{List, ℕ, Bool, true, false, Option, Some, None, length, nat_lt, IsUtf8}
+use Rattle.std.specs.Prelude.{List, ℕ, Bool, true, false, Option, Some, None, length, nat_lt}
+use Rattle.std.specs.Prelude.{IsUtf8}
 use Rattle.std.specs.Prelude.{if◌then◌else◌}
 use Rattle.std.specs.Str.{IsValidUpTo}
 use Rattle.resb_report.specs.Braces.{innermost_open}
@@ -29,8 +30,8 @@ abbrev pub at_end : ℕ → Option ℕ → Blame
 at_end place (Some brace) = Open brace
 at_end place None = At place
 
--- where a reading got stuck: memory is to blame for nothing in the text, and the end of the text only
--- where no brace is open
+-- where a reading got stuck: memory is to blame for nothing in the text, and the end of the text
+-- only where no brace is open
 abbrev pub stuck_at : List ℕ → TextParserError → Blame
 stuck_at source e =
     if is_memory e.expected then Nowhere

@@ -14,8 +14,8 @@ has_bit attributes value = nat_eq ((attributes / value) % 2) 1
 abbrev pub attributes_of : BinIndex → ℕ
 attributes_of index = unwrap_or index.bundle_attributes 0
 
--- the version is the header's; fallback is on where the attribute of value 1 isn't set, the file is a
--- pool where that of 2 is set, and uses one where that of 4 is; the largest table is the index's
+-- the version is the header's; fallback is on where the attribute of value 1 isn't set, the file is
+-- a pool where that of 2 is set, and uses one where that of 4 is; the largest table is the index's
 pub record Summarizes (bytes : List ℕ) (s : Summary) : Type 0 where
   pub header : BinHeader
   pub index : BinIndex

@@ -9,8 +9,8 @@ use resb::binary::{count_resources, tree_from_bytes};
 use resb::bundle::Resource;
 use std::alloc::Global;
 
-/// Refuses a file that uses the keys of a pool bundle, as its head says: what stands in the place of
-/// keys there are other bytes of the file.
+/// Refuses a file that uses the keys of a pool bundle, as its head says: what stands in the place
+/// of keys there are other bytes of the file.
 fn check_keys(file: &[u8]) -> Result<(), FileError>
     ensures { IfErr result (λ e. (e ≡ FileError.UsesPool) × HasNoKeys file.now) }
 {

@@ -13,7 +13,11 @@ pub(crate) fn compile(rt: &HostRuntime, matches: &ArgMatches<'_>) -> u8 {
     let folder = matches.get_str("DIR");
     let texts = matches.get_strs("FILE").unwrap_or(&[]);
     if output.is_some() && texts.len() > 1 {
-        complain(rt, "resb", "--output is for one text; --directory is for several");
+        complain(
+            rt,
+            "resb",
+            "--output is for one text; --directory is for several",
+        );
         return 2;
     }
     for text in texts.iter().copied() {

@@ -31,7 +31,9 @@ pub(crate) fn refuse<R: Eprint + AllocGlobal>(
         Blame::Open(place) => {
             let at = location_of(source, place);
             let (line, column) = (at.line, at.column);
-            let _ = eprintln!(rt; "{name}:{line}:{column}: {error} before the text ends inside this");
+            let _ = eprintln!(rt;
+                "{name}:{line}:{column}: {error} before the text ends inside this"
+            );
             point(rt, source, place);
         }
     }
@@ -59,13 +61,19 @@ pub(crate) fn warn<R: Eprint + AllocGlobal>(rt: &R, name: &str, text: &str) {
             Reason::RepeatedKey(first) => {
                 let before = location_of(source, first);
                 let (line_before, column_before) = (before.line, before.column);
-                eprintln!(rt; "{name}:{line}:{column}: warning: this key stands at \
-                    {line_before}:{column_before} too; genrb refuses that")
+                eprintln!(rt;
+                    "{name}:{line}:{column}: warning: this key stands at \
+                    {line_before}:{column_before} too; genrb refuses that"
+                )
             }
-            Reason::Backslash => eprintln!(rt; "{name}:{line}:{column}: warning: this \
-                backslash is a character here, and an escape for genrb"),
-            Reason::StringsInRow => eprintln!(rt; "{name}:{line}:{column}: warning: this \
-                string is an item of its own here; genrb joins it to the one before"),
+            Reason::Backslash => eprintln!(rt;
+                "{name}:{line}:{column}: warning: this \
+                backslash is a character here, and an escape for genrb"
+            ),
+            Reason::StringsInRow => eprintln!(rt;
+                "{name}:{line}:{column}: warning: this \
+                string is an item of its own here; genrb joins it to the one before"
+            ),
         };
     }
     if found.len() > MOST_WARNINGS {

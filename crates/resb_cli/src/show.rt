@@ -65,11 +65,17 @@ fn foreign(version: FormatVersion) -> Option<&'static str> {
 
 /// The line of a file that is right.
 fn say_summary(rt: &HostRuntime, name: &str, count: usize, summary: &Summary) -> u8 {
-    let fallback = if summary.has_fallback { "fallback" } else { "no fallback" };
+    let fallback = if summary.has_fallback {
+        "fallback"
+    } else {
+        "no fallback"
+    };
     let pool = if summary.is_pool { ", pool bundle" } else { "" };
     let largest = summary.largest_table;
-    let line = println!(rt; "{name}: {count} resources, format 2.0, {fallback}, largest table \
-        {largest}{pool}");
+    let line = println!(rt;
+        "{name}: {count} resources, format 2.0, {fallback}, largest table \
+        {largest}{pool}"
+    );
     match line {
         Ok(()) => 0,
         Err(_) => {
@@ -124,7 +130,11 @@ fn show_json(rt: &HostRuntime, name: &str, resource: &Resource<'_>) -> u8 {
         },
         Err(JsonError::OutOfMemory) => refuse_memory(rt, name),
         Err(JsonError::TooDeep) => {
-            complain(rt, name, "this nests more than 120 levels deep, too deep for JSON");
+            complain(
+                rt,
+                name,
+                "this nests more than 120 levels deep, too deep for JSON",
+            );
             1
         }
     }

@@ -33,8 +33,8 @@ fn cause_of(e: &io::Error) -> &'static str {
     }
 }
 
-/// Writes bytes to a file, or to standard output. The file is written beside and moved over, so that
-/// a write that fails leaves the old one.
+/// Writes bytes to a file, or to standard output. The file is written beside and moved over, so
+/// that a write that fails leaves the old one.
 pub(crate) fn write_output(rt: &HostRuntime, name: &str, bytes: &[u8]) -> Result<(), &'static str> {
     if name == "-" {
         return match write_stream(rt, bytes) {
@@ -68,7 +68,10 @@ fn write_stream(rt: &HostRuntime, bytes: &[u8]) -> io::Result<()> {
 
 /// Whether two names lead to one file that is there.
 pub(crate) fn is_same_file(rt: &HostRuntime, one: &str, other: &str) -> bool {
-    match (Path::new(one).canonicalize(rt), Path::new(other).canonicalize(rt)) {
+    match (
+        Path::new(one).canonicalize(rt),
+        Path::new(other).canonicalize(rt),
+    ) {
         (Ok(one), Ok(other)) => one == other,
         _ => false,
     }

@@ -5,15 +5,17 @@ use std::alloc::Global;
 
 /// The program's words.
 pub(crate) fn words<'a>(alloc: Global) -> Result<Command<'a>, Error> {
-    Ok(Command::new(alloc, "resb")
-        .version("0.2.0")
-        .about("Compiles ICU resource bundles, checks them, and shows what is in them.")
-        .subcommand_required(true)
-        .arg_required_else_help(true)
-        .subcommand(compile(alloc)?)?
-        .subcommand(check(alloc)?)?
-        .subcommand(dump(alloc)?)?
-        .subcommand(get(alloc)?)?)
+    Ok(
+        Command::new(alloc, "resb")
+            .version("0.2.0")
+            .about("Compiles ICU resource bundles, checks them, and shows what is in them.")
+            .subcommand_required(true)
+            .arg_required_else_help(true)
+            .subcommand(compile(alloc)?)?
+            .subcommand(check(alloc)?)?
+            .subcommand(dump(alloc)?)?
+            .subcommand(get(alloc)?)?,
+    )
 }
 
 /// Texts to files.
@@ -32,20 +34,24 @@ fn compile<'a>(alloc: Global) -> Result<Command<'a>, Error> {
         .long("directory")
         .help("The folder for the files, in place of that of each text")
         .conflicts_with("OUT")?;
-    Ok(Command::new(alloc, "compile")
-        .about("Compiles texts of bundles into .res files")
-        .after_help("Example: resb compile root.txt de.txt -d out")
-        .arg(texts)?
-        .arg(output)?
-        .arg(folder)?)
+    Ok(
+        Command::new(alloc, "compile")
+            .about("Compiles texts of bundles into .res files")
+            .after_help("Example: resb compile root.txt de.txt -d out")
+            .arg(texts)?
+            .arg(output)?
+            .arg(folder)?,
+    )
 }
 
 /// What is said of files.
 fn check<'a>(alloc: Global) -> Result<Command<'a>, Error> {
-    Ok(Command::new(alloc, "check")
-        .about("Checks .res files, a line for each")
-        .after_help("Example: resb check out/root.res out/de.res")
-        .arg(files(alloc))?)
+    Ok(
+        Command::new(alloc, "check")
+            .about("Checks .res files, a line for each")
+            .after_help("Example: resb check out/root.res out/de.res")
+            .arg(files(alloc))?,
+    )
 }
 
 /// Files to texts.
@@ -54,11 +60,13 @@ fn dump<'a>(alloc: Global) -> Result<Command<'a>, Error> {
         .long("json")
         .help("Prints JSON in place of a text")
         .action(ArgAction::SetTrue);
-    Ok(Command::new(alloc, "dump")
-        .about("Prints the text of a .res file, or JSON where it has none")
-        .after_help("Example: resb dump out/root.res")
-        .arg(file(alloc))?
-        .arg(json)?)
+    Ok(
+        Command::new(alloc, "dump")
+            .about("Prints the text of a .res file, or JSON where it has none")
+            .after_help("Example: resb dump out/root.res")
+            .arg(file(alloc))?
+            .arg(json)?,
+    )
 }
 
 /// One thing of a file.
@@ -66,11 +74,13 @@ fn get<'a>(alloc: Global) -> Result<Command<'a>, Error> {
     let path = Arg::new(alloc, "PATH")
         .help("Keys and numbers of members, from 0, such as zones/Pole/pairs/0")
         .required(true);
-    Ok(Command::new(alloc, "get")
-        .about("Prints what stands at a path in a .res file")
-        .after_help("Example: resb get out/zones.res zones/Pole/base")
-        .arg(file(alloc))?
-        .arg(path)?)
+    Ok(
+        Command::new(alloc, "get")
+            .about("Prints what stands at a path in a .res file")
+            .after_help("Example: resb get out/zones.res zones/Pole/base")
+            .arg(file(alloc))?
+            .arg(path)?,
+    )
 }
 
 /// The argument of several files.

@@ -28,8 +28,8 @@ pub record EndsExcerpt (text : List ℕ) (place to : ℕ) : Type 0 where
   pub near : to ≤ place + 63
   pub whole : ((to ≡ length text) ⊎ (slice_index text to ≡ line_feed)) ⊎ (place + 60 ≤ to)
 
--- what is shown of a byte: a blank for a character of control, and `?` for what is no ASCII in a text
--- that is no UTF-8
+-- what is shown of a byte: a blank for a character of control, and `?` for what is no ASCII in a
+-- text that is no UTF-8
 abbrev pub shown : Bool → ℕ → ℕ
 shown is_utf8 b =
     if nat_lt b 32 || b == 127 then 32 else (if nat_lt 127 b && not is_utf8 then 63 else b)

@@ -26,8 +26,8 @@ column_behind true begins column = 1
 column_behind false true column = suc column
 column_behind false false column = column
 
--- the column of the place behind so many bytes of a text: 1 where a line begins, and one more behind
--- each byte that begins a character
+-- the column of the place behind so many bytes of a text: 1 where a line begins, and one more
+-- behind each byte that begins a character
 abbrev pub column_at : List ℕ → ℕ → ℕ
 column_at text zero = 1
 column_at text (suc n) =

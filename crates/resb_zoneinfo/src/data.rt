@@ -109,7 +109,8 @@ impl<'de> Record<'de, InfoFields<'de>> for ZoneInfo<'de> {
     ghost names = { codes "TZVersion" ∷ codes "Names" ∷ codes "Zones" ∷ codes "Rules"
         ∷ codes "Regions" ∷ [] };
 
-    ghost made = { λ f. record { version = f.0; names = f.1; zones = f.2; rules = f.3; regions = f.4 } };
+    ghost made = { λ f.
+        record { version = f.0; names = f.1; zones = f.2; rules = f.3; regions = f.4 } };
 
     fn names() -> &'de [&'de str] {
         &["TZVersion", "Names", "Zones", "Rules", "Regions"]

@@ -81,7 +81,8 @@ impl<'de> Record<'de, ZoneFields<'de>> for ZoneData<'de> {
     }
 }
 
-/// The whole file: its zones by number, and their names, rules and regions.
+/// The whole file: its zones by number, and their names, rules and regions. Each is the value of a
+/// key of the file's root, `TZVersion`, `Names`, `Zones`, `Rules` and `Regions`.
 #[derive(Drop)]
 pub struct ZoneInfo<'de> {
     /// The version of the time zone database that the file was made of.
@@ -95,38 +96,3 @@ pub struct ZoneInfo<'de> {
     /// The region that each zone is in, in the order of `zones`.
     pub regions: Vec<Utf16View<'de>>,
 }
-
-/// The types of the file's fields.
-pub type InfoFields<'de> = (
-    String,
-    Vec<Utf16View<'de>>,
-    Vec<Linked<Table<ZoneData<'de>, ZoneFields<'de>>>>,
-    BTreeMap<&'de str, I32View<'de>>,
-    Vec<Utf16View<'de>>,
-);
-
-impl<'de> Record<'de, InfoFields<'de>> for ZoneInfo<'de> {
-    ghost names = { codes "TZVersion" ∷ codes "Names" ∷ codes "Zones" ∷ codes "Rules"
-        ∷ codes "Regions" ∷ [] };
-
-    ghost made = { λ f.
-        record { version = f.0; names = f.1; zones = f.2; rules = f.3; regions = f.4 } };
-
-    fn names() -> &'de [&'de str] {
-        &["TZVersion", "Names", "Zones", "Rules", "Regions"]
-    }
-
-    fn made(fields: InfoFields<'de>) -> ZoneInfo<'de> {
-        let (version, names, zones, rules, regions) = fields;
-        ZoneInfo {
-            version,
-            names,
-            zones,
-            rules,
-            regions,
-        }
-    }
-}
-
-/// The whole file as it is read: `let file: ZoneFile = from_bytes(alloc, bytes)?`.
-pub type ZoneFile<'de> = Table<ZoneInfo<'de>, InfoFields<'de>>;

@@ -17,7 +17,7 @@ mod transitions;
 mod zone;
 
 pub use checking::ZoneError;
-pub use data::{InfoFields, ZoneData, ZoneFields, ZoneFile, ZoneInfo};
+pub use data::{ZoneData, ZoneFields, ZoneInfo};
 pub use day::RuleDay;
 pub use edge::{Clock, Edge};
 pub use linked::Linked;

@@ -1,0 +1,1 @@
+-- Nothing: the check proves this crate by itself.

@@ -1,0 +1,62 @@
+-- What the calls for C answer, and what the caller gets of it.
+--     CompilesInto text old new r    what compiling to a buffer answers, and leaves there
+--     CountsFile file r              what checking a file answers
+--     Reports r status n e           the status, number and error that the caller gets of an answer
+use Rattle.std.specs.Prelude.{◌≡◌, ◌≤◌, ◌<◌, ◌⊎◌, ℕ, List, [], ◌∷◌, ◌++◌, length, drop, take}
+use Rattle.std.specs.Prelude.{Result, Ok, Err, Option, Some, None, IsUtf8, IfSome, replicate}
+use Rattle.std.specs.Str.Lossy.{utf8_valid_len}
+use Rattle.resb.specs.Compiling.{IsCompiled, IsRefused}
+use Rattle.resb_read.specs.Roots.{CountOf}
+use Rattle.resb_c.specs.Faults.{number_of, place_of}
+use Rattle.resb_c.specs.declared.fault.Fault.{Fault}
+use Rattle.resb_c.specs.declared.fault.Fault.TheVariants.{TooShort, NotUtf8, Compiling, Reading}
+use Rattle.resb_c.specs.declared.fault.Fault.TheVariants.{Printing}
+use Rattle.resb_c.specs.declared.report.ResbError.{ResbError}
+
+-- where the buffer has room, the answer stands at its front, what is behind stays, and its length
+-- is answered; else nothing is written, and the length that is needed is answered
+abbrev pub Fills : List ℕ → List ℕ → List ℕ → Result ℕ ℕ → Type 0
+Fills answer old new (Ok n) =
+    (n ≡ length answer) × (n ≤ length old) × (new ≡ answer ++ drop n old)
+Fills answer old new (Err n) = (n ≡ length answer) × (length old < n) × (new ≡ old)
+
+-- the bytes aren't UTF-8, and this is how long their longest front is that is
+abbrev pub IsNotUtf8 : List ℕ → ℕ → Type 0
+IsNotUtf8 bytes n = (IsUtf8 bytes → ⊥) × (n ≡ utf8_valid_len bytes)
+
+-- the text's file is in the buffer, or would be if it had room, or the text has no file
+abbrev pub CompilesInto : List ℕ → List ℕ → List ℕ → Result ℕ Fault → Type 0
+CompilesInto text old new (Ok n) =
+    (file : List ℕ) × IsUtf8 text × IsCompiled text file × Fills file old new (Ok n)
+CompilesInto text old new (Err (TooShort n)) =
+    (file : List ℕ) × IsUtf8 text × IsCompiled text file × Fills file old new (Err n)
+CompilesInto text old new (Err (NotUtf8 n)) = IsNotUtf8 text n × (new ≡ old)
+CompilesInto text old new (Err (Compiling e)) = IsUtf8 text × IsRefused text e × (new ≡ old)
+CompilesInto text old new (Err (Reading e)) = ⊥
+CompilesInto text old new (Err (Printing e)) = ⊥
+
+-- the number of resources of the file's tree, or the reader's refusal
+abbrev pub CountsFile : List ℕ → Result ℕ Fault → Type 0
+CountsFile file (Ok n) = CountOf file (Ok n)
+CountsFile file (Err (Reading e)) = CountOf file (Err e)
+CountsFile file (Err (TooShort n)) = ⊥
+CountsFile file (Err (NotUtf8 n)) = ⊥
+CountsFile file (Err (Compiling e)) = ⊥
+CountsFile file (Err (Printing e)) = ⊥
+
+-- the length that a fault has for the caller: that of the answer which the buffer is too short for
+abbrev pub needed_of : Fault → ℕ
+needed_of (TooShort n) = n
+needed_of (NotUtf8 n) = 0
+needed_of (Compiling e) = 0
+needed_of (Reading e) = 0
+needed_of (Printing e) = 0
+
+-- the status is 0 where there is an answer, and else the fault's number, which the error has too,
+-- with its place; of the message nothing is said
+abbrev pub Reports : Result ℕ Fault → ℕ → ℕ → ResbError → Type 0
+Reports (Ok n) status number e =
+    (status ≡ 0) × (number ≡ n) × (e.kind ≡ 0) × (e.place ≡ 0)
+Reports (Err fault) status number e =
+    (status ≡ number_of fault) × (number ≡ needed_of fault)
+    × (e.kind ≡ number_of fault) × (e.place ≡ place_of fault)

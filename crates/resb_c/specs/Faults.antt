@@ -1,0 +1,78 @@
+-- The numbers and places that the caller in C gets of a fault, and what it prints.
+--     number_of f             the status that the header names
+--     place_of f              the byte of the text at which it can't be read on
+--     message_of f            what it prints as
+use Rattle.std.specs.Prelude.{ℕ, List, ◌++◌, codes, decimal, Option, Some, None}
+use Rattle.resb_grammar.specs.declared.expected.Expected.{Expected}
+use Rattle.resb_grammar.specs.declared.expected.Expected.TheVariants as expect
+use Rattle.resb_format.specs.Error.{kind_of, description_of}
+use Rattle.resb_format.specs.Error as reading
+use Rattle.resb_format.specs.declared.error.ErrorKind.{ErrorKind}
+use Rattle.resb_format.specs.declared.error.ErrorKind.TheVariants as kind
+use Rattle.resb_pool.specs.Fault as fault
+use Rattle.resb_pool.specs.FaultOf.{fault_of}
+use Rattle.resb_print.specs.declared.error.PrintError.{PrintError}
+use Rattle.resb_print.specs.declared.error.PrintError.TheVariants as print
+use Rattle.resb.specs.declared.compiling.CompileError.{CompileError}
+use Rattle.resb.specs.declared.compiling.CompileError.TheVariants as compiling
+use Rattle.resb.specs.Compiling as compile
+use Rattle.resb_c.specs.declared.fault.Fault.{Fault}
+use Rattle.resb_c.specs.declared.fault.Fault.TheVariants.{TooShort, NotUtf8, Compiling, Reading}
+use Rattle.resb_c.specs.declared.fault.Fault.TheVariants.{Printing}
+
+-- a text that isn't read is 3, want of memory 8
+abbrev pub text_number : Expected → ℕ
+text_number expect.Memory = 8
+text_number _ = 3
+
+-- a tree that isn't written is 4, want of memory 8
+abbrev pub tree_number : fault.Fault → ℕ
+tree_number fault.out_of_memory = 8
+tree_number _ = 4
+
+-- a file that isn't read is 5, one of another form 6, want of memory 8
+abbrev pub file_number : ErrorKind → ℕ
+file_number kind.UnsupportedFormat = 6
+file_number kind.OutOfMemory = 8
+file_number _ = 5
+
+-- a tree that has no text is 7, want of memory 8
+abbrev pub print_number : PrintError → ℕ
+print_number (print.NotPrintable cause) = 7
+print_number print.OutOfMemory = 8
+
+-- why a text isn't compiled: the number of the reader's fault, or of the writer's
+abbrev pub compile_number : CompileError → ℕ
+compile_number (compiling.Reading e) = text_number e.expected
+compile_number (compiling.Writing e) = tree_number (fault_of e)
+
+-- a buffer that is too short is 1, bytes that aren't UTF-8 are 2, and else the fault's own number
+abbrev pub number_of : Fault → ℕ
+number_of (TooShort n) = 1
+number_of (NotUtf8 n) = 2
+number_of (Compiling e) = compile_number e
+number_of (Reading e) = file_number (kind_of e)
+number_of (Printing e) = print_number e
+
+-- the reader's place in the text, and 0 for a tree that isn't written
+abbrev pub compile_place : CompileError → ℕ
+compile_place (compiling.Reading e) = e.position
+compile_place (compiling.Writing e) = 0
+
+-- the byte at which the text is no UTF-8 or isn't read on, and 0 for any other fault
+abbrev pub place_of : Fault → ℕ
+place_of (TooShort n) = 0
+place_of (NotUtf8 n) = n
+place_of (Compiling e) = compile_place e
+place_of (Reading e) = 0
+place_of (Printing e) = 0
+
+-- the length that was wanted, the place, or what the error inside prints; printing's is not said
+abbrev pub message_of : Fault → Option (List ℕ)
+message_of (TooShort n) =
+    Some (codes "the buffer is too short, " ++ (decimal n ++ codes " bytes are needed"))
+message_of (NotUtf8 n) = Some (codes "not UTF-8 from byte " ++ (decimal n ++ codes " on"))
+message_of (Compiling e) = Some (compile.message_of e)
+message_of (Reading e) =
+    Some (description_of (kind_of e) ++ (codes ": " ++ reading.message_of e))
+message_of (Printing e) = None

@@ -1,0 +1,3 @@
+-- The words of the contracts for C: what is answered, why a call fails, and what the caller gets.
+pub mod Faults
+pub mod Calls

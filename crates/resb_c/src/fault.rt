@@ -1,0 +1,80 @@
+//! Why a call for C fails: its number, its place and what it prints.
+//! How that reaches the caller is in `report`.
+ghost use Rattle.std.specs.Prelude.{◌≡◌};
+ghost use Rattle.resb_c.specs.Faults.{message_of, number_of, place_of};
+
+use resb::CompileError;
+use resb::binary::{BinaryDeserializerError, ErrorKind};
+use resb::text::{Expected, PrintError};
+use std::error::Error;
+use std::fmt;
+
+/// Why a call fails.
+#[derive(Debug, Drop)]
+pub enum Fault {
+    /// The answer has so many bytes, more than the buffer.
+    TooShort(usize),
+    /// The bytes that should be a text, or a name, aren't UTF-8 from this place on.
+    NotUtf8(usize),
+    /// The text has no file.
+    Compiling(CompileError),
+    /// The bytes are no file of a tree within its budget.
+    Reading(BinaryDeserializerError),
+    /// The tree has no text.
+    Printing(PrintError),
+}
+
+impl Fault {
+    /// The number of the fault, as the header gives it.
+    pub fn number(&self) -> u32
+        ensures { result ≡ number_of self.now }
+    {
+        match self {
+            Fault::TooShort(_) => 1,
+            Fault::NotUtf8(_) => 2,
+            Fault::Compiling(CompileError::Reading(e)) => match e.expected() {
+                Expected::Memory => 8,
+                _ => 3,
+            },
+            Fault::Compiling(CompileError::Writing(e)) => {
+                if e.is_out_of_memory() { 8 } else { 4 }
+            }
+            Fault::Reading(e) => match e.kind() {
+                ErrorKind::OutOfMemory => 8,
+                ErrorKind::UnsupportedFormat => 6,
+                _ => 5,
+            },
+            Fault::Printing(PrintError::NotPrintable(_)) => 7,
+            Fault::Printing(PrintError::OutOfMemory) => 8,
+        }
+    }
+
+    /// The byte of the text at which it can't be read on, else 0.
+    pub fn place(&self) -> usize
+        ensures { result ≡ place_of self.now }
+    {
+        match self {
+            Fault::NotUtf8(place) => *place,
+            Fault::Compiling(CompileError::Reading(e)) => e.position(),
+            _ => 0,
+        }
+    }
+}
+
+impl fmt::Display for Fault {
+    ghost output = { λ e. message_of e };
+
+    fn fmt<W: fmt::Write>(&self, f: &mut fmt::Formatter<W>) -> fmt::Result {
+        match self {
+            Fault::TooShort(length) => {
+                write!(f, "the buffer is too short, {length} bytes are needed")
+            }
+            Fault::NotUtf8(place) => write!(f, "not UTF-8 from byte {place} on"),
+            Fault::Compiling(e) => write!(f, "{e}"),
+            Fault::Reading(e) => write!(f, "{e}"),
+            Fault::Printing(e) => write!(f, "{e}"),
+        }
+    }
+}
+
+impl Error for Fault {}

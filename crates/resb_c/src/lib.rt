@@ -1,0 +1,49 @@
+//! The library for C, whose header is `include/resb.h`: each call hands the caller's buffers on, and
+//! writes its status, a length and an error where the caller wants them.
+//! What is done over the bytes is in `files`, why a call fails in `fault`.
+#![tactic(auto)]
+
+ghost use Rattle.std.specs.Prelude.{ℕ, Result};
+ghost use Rattle.resb_c.specs.Calls.{CompilesInto, CountsFile, Reports};
+
+mod fault;
+mod files;
+mod report;
+
+use crate::files::{compile_into, count_file};
+use crate::report::report;
+pub use fault::Fault;
+pub use report::ResbError;
+use std::alloc::Global;
+
+/// Compiles a bundle's text to the front of `out`. `length` gets the file's length, for
+/// `RESB_TOO_SHORT` too, else 0.
+#[unsafe(no_mangle)]
+pub extern "C" fn resb_compile(
+    alloc: Global,
+    text: &[u8],
+    out: &mut [u8],
+    length: &mut usize,
+    error: &mut ResbError,
+) -> u32
+    ensures { (r : Result ℕ Fault) × CompilesInto text.now out.old out.new r
+        × Reports r result length.new error.new }
+{
+    let answer = compile_into(alloc, text, out);
+    report(alloc, answer, length, error)
+}
+
+/// Counts the resources of a file, which checks it as a whole. `count` gets their number, else 0.
+#[unsafe(no_mangle)]
+pub extern "C" fn resb_check(
+    alloc: Global,
+    file: &[u8],
+    count: &mut usize,
+    error: &mut ResbError,
+) -> u32
+    ensures { (r : Result ℕ Fault) × CountsFile file.now r
+        × Reports r result count.new error.new }
+{
+    let answer = count_file(alloc, file);
+    report(alloc, answer, count, error)
+}

@@ -1,0 +1,54 @@
+//! What the caller is told: a status, a number, and an error with its message.
+//! Which fault there is, is found in `files`.
+ghost use Rattle.resb_c.specs.Calls.{Reports};
+
+use crate::fault::Fault;
+use std::alloc::Global;
+
+/// Why a call failed. After a call that succeeded its kind is 0, its place 0 and its message empty.
+#[repr(C)]
+pub struct ResbError {
+    /// The number of the fault, which is the call's status.
+    pub kind: u32,
+    /// The byte of the text at which it can't be read on, else 0.
+    pub place: usize,
+    /// What the fault prints as, cut at 255 bytes, and a zero byte at its end.
+    pub message: [u8; 256],
+}
+
+/// Writes a fault's message, with zero bytes behind it, or nothing where memory is wanted for it.
+fn write_message(alloc: Global, fault: &Fault, message: &mut [u8; 256]) {
+    *message = [0; 256];
+    if let Ok(text) = format!(in alloc; "{fault}") {
+        let bytes = text.as_bytes();
+        let count = bytes.len().min(255);
+        message[..count].copy_from_slice(&bytes[..count]);
+    }
+}
+
+/// Writes the answer of a call where the caller wants it, and gives its status.
+pub(crate) fn report(
+    alloc: Global,
+    answer: Result<usize, Fault>,
+    number: &mut usize,
+    error: &mut ResbError,
+) -> u32
+    ensures { Reports answer result number.new error.new }
+{
+    error.kind = 0;
+    error.place = 0;
+    error.message = [0; 256];
+    match answer {
+        Ok(found) => *number = found,
+        Err(fault) => {
+            *number = match fault {
+                Fault::TooShort(needed) => needed,
+                _ => 0,
+            };
+            error.kind = fault.number();
+            error.place = fault.place();
+            write_message(alloc, &fault, &mut error.message);
+        }
+    }
+    error.kind
+}

@@ -1,0 +1,64 @@
+#!/usr/bin/env bash
+# The examples of the library for C, built and run: a bundle's text, a text that is none, bytes that
+# are no UTF-8. Where the library isn't built, `rt lib` builds it. A missing compiler is no failure.
+# RATTLE_C is the folder of the toolchain's liblibc_c.a.
+set -uo pipefail
+top=$(cd "$(dirname "$(readlink -f "$0")")/.." && pwd)
+kit=$(dirname "$(dirname "$(readlink -f "$(command -v rt)")")")
+export RATTLE_C=${RATTLE_C:-$kit/c}
+export RESB_LIB=$top/crates/resb_c/out
+folder=$(mktemp -d)
+trap 'rm -rf "$folder"' EXIT
+passed=0
+failed=0
+
+# expect NAME STATUS ANSWER TEXT COMMAND..: the status and the answer of a command that reads TEXT
+expect() {
+  local name=$1 status=$2 answer=$3 text=$4 got got_status=0
+  shift 4
+  got=$(printf "$text" | "$@" 2>&1) || got_status=$?
+  if [ "$got_status" = "$status" ] && [ "$got" = "$answer" ]; then
+    passed=$((passed + 1))
+  else
+    failed=$((failed + 1))
+    echo "FAIL $name: status $got_status, answer $got"
+  fi
+}
+
+# rows LANGUAGE COMMAND..: the rows of a built example
+rows() {
+  local language=$1
+  shift
+  expect "$language: a bundle" 0 '80 bytes, 2 resources' 'a { b { "c" } }' "$@"
+  expect "$language: no bundle" 1 "fault 3 at byte 4: Parse error while reading text bundle:
+at byte 4: expected '}'" 'a { ' "$@"
+  expect "$language: no UTF-8" 1 'fault 2 at byte 1: not UTF-8 from byte 1 on' 'a\377' "$@"
+}
+
+# built NAME COMMAND..: whether the example is built, which counts only where it fails
+built() {
+  local name=$1
+  shift
+  if ! "$@" > "$folder/log" 2>&1; then
+    failed=$((failed + 1))
+    echo "FAIL $name isn't built"
+    cat "$folder/log"
+    return 1
+  fi
+}
+
+if [ ! -e "$RESB_LIB/libresb_c.a" ]; then
+  built resb_c bash -c "cd '$top/crates/resb_c' && rt lib"
+fi
+if command -v cc > /dev/null; then
+  built 'the C example' cc -std=c99 -Wall -Wextra -Werror -O2 ${CFLAGS:-} -I "$top/include" \
+    "$top/examples/c/compile.c" "$RESB_LIB/libresb_c.a" "$RATTLE_C/liblibc_c.a" \
+    -o "$folder/compile" && rows C "$folder/compile"
+fi
+if command -v cargo > /dev/null; then
+  built 'the Rust example' cargo build --quiet --offline --manifest-path \
+    "$top/examples/rust/Cargo.toml" --target-dir "$folder/target" &&
+    rows Rust "$folder/target/debug/resb_example"
+fi
+echo "$passed passed, $failed failed"
+[ "$failed" = 0 ]

@@ -27,7 +27,8 @@ LeapYears = (y : ℕ) → year_start (y + 1) ≡ year_start y + year_length y
 
 -- how many days of a year that is no leap year stand before a month, where 0 is January
 abbrev pub days_before : ℕ → ℕ
-days_before m = slice_index (0 ∷ 31 ∷ 59 ∷ 90 ∷ 120 ∷ 151 ∷ 181 ∷ 212 ∷ 243 ∷ 273 ∷ 304 ∷ 334 ∷ []) m
+days_before m =
+    slice_index (0 ∷ 31 ∷ 59 ∷ 90 ∷ 120 ∷ 151 ∷ 181 ∷ 212 ∷ 243 ∷ 273 ∷ 304 ∷ 334 ∷ []) m
 
 -- the number of a month's first day: behind February a leap year has one day more
 abbrev pub month_start : ℕ → ℕ → ℕ

@@ -9,7 +9,8 @@ use Rattle.resb_zoneinfo.specs.declared.edge.Edge.{Edge}
 use Rattle.resb_zoneinfo.specs.declared.numbers.RuleError.{RuleError}
 use Rattle.resb_zoneinfo.specs.declared.numbers.RuleError.TheVariants as error
 
--- what the clock of a change shows then in a year: the seconds before its day, and those of its time
+-- what the clock of a change shows then in a year: the seconds before its day, and those of its
+-- time
 pub record IsTimeIn (e : Edge) (year time : ℕ) : Type 0 where
   pub day : ℕ
   pub day_is : IsRuleDay e.day year e.month day
@@ -60,7 +61,8 @@ number words k = cast_signed w32 (slice_index words k)
 -- five numbers from a place on say a change
 abbrev pub SaysEdgeAt : List ℕ → ℕ → Edge → Type 0
 SaysEdgeAt v k =
-    SaysEdge (number v k) (number v (k + 1)) (number v (k + 2)) (number v (k + 3)) (number v (k + 4))
+    SaysEdge (number v k) (number v (k + 1)) (number v (k + 2)) (number v (k + 3))
+    (number v (k + 4))
 
 -- five numbers from a place on have a fault
 abbrev pub IsFaultAt : List ℕ → ℕ → RuleError → Type 0

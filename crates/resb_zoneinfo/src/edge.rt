@@ -46,9 +46,9 @@ impl Edge {
     }
 
     /// The change that five numbers of a file say: the month from 0 on, the day, the weekday, the
-    /// time in seconds and the clock. Without a weekday the day is that of its number; with one from
-    /// 1 on, which is Sunday, the first, second .. or from the month's end; with a negative one the
-    /// first from a day on or, where that is negative too, the last up to it.
+    /// time in seconds and the clock. Without a weekday the day is that of its number; with one
+    /// from 1 on, which is Sunday, the first, second .. or from the month's end; with a negative
+    /// one the first from a day on or, where that is negative too, the last up to it.
     pub fn from_numbers(
         month: i32,
         day: i32,

@@ -48,8 +48,8 @@ impl FinalRule {
         Ok(FinalRule { start, end, saving })
     }
 
-    /// The offset from universal time in seconds, at a moment in seconds since 1970, of a zone whose
-    /// offset without what is saved is given.
+    /// The offset from universal time in seconds, at a moment in seconds since 1970, of a zone
+    /// whose offset without what is saved is given.
     pub fn offset_at(&self, raw: i32, moment: u64) -> i64
         requires { moment < 2 ^ 63 }
         ensures { IsFinalOffset self.now raw moment result }
@@ -100,8 +100,8 @@ fn edge_at(numbers: I32View<'_>, from: usize) -> Result<Edge, RuleError>
     )
 }
 
-/// What a clock shows, where those of standard and universal time show these and clocks on walls are
-/// ahead by so much.
+/// What a clock shows, where those of standard and universal time show these and clocks on walls
+/// are ahead by so much.
 fn reading(clock: Clock, standard: u64, universal: u64, ahead: u64) -> u64
     requires { standard + ahead < 2 ^ 64 }
     ensures { result ≡ clock_reading clock standard universal ahead }

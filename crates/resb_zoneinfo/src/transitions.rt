@@ -6,8 +6,8 @@ ghost use Rattle.resb_zoneinfo.specs.LongMoments.{words_or_none, long_moment};
 
 use resb::binary::helpers::{I32View, WordView};
 
-/// The moments at which a zone's offset changed, in seconds since 1970, in their order: those before
-/// the range of 32 bits, those within it, and those after it.
+/// The moments at which a zone's offset changed, in seconds since 1970, in their order: those
+/// before the range of 32 bits, those within it, and those after it.
 #[derive(Clone, Copy)]
 pub struct Transitions<'de> {
     /// Two words for each moment, the upper one first.

@@ -33,8 +33,8 @@ impl FinalYears {
         86_400 * year_start(self.year) - BEFORE_1970
     }
 
-    /// The offset from universal time in seconds, at a moment in seconds since 1970, if the year has
-    /// begun then.
+    /// The offset from universal time in seconds, at a moment in seconds since 1970, if the year
+    /// has begun then.
     pub fn offset_at(&self, moment: i64) -> Option<i64>
         ensures { MatchOption result (moment <ℤ pos (final_begin self.now))
             (IsInFinalYears self.now moment) }

@@ -1,4 +1,5 @@
-use Rattle.std.proofs.Common.{rules, ◌≡◌, IsTrue, true, false, below_more, sym, ◌∙◌, subst, length, refl, arith}
+use Rattle.std.proofs.Common.{rules, ◌≡◌, IsTrue, true, false, below_more, sym, ◌∙◌, subst, length}
+use Rattle.std.proofs.Common.{refl, arith}
 use Rattle.std.proofs.lemmas.Option.{slice_get_read, same_Some}
 use Rattle.resb.specs.Views.{view_units}
 use Rattle.resb_zoneinfo.specs.Names.{IsSame}

@@ -9,5 +9,6 @@ pub returns-in-Err-clause-refused : goal.returns-in-Err-clause-refused
 returns-in-Err-clause-refused g c =
     let h = c.in-Err.ensures.refused in
     let p = place_of c.args.at in
-    let is : IsInteger p = c.in_ok-resource_type.ensures ∙ ap (λ t. Some (type_number t)) c.in-Int.is in
+    let is : IsInteger p =
+    c.in_ok-resource_type.ensures ∙ ap (λ t. Some (type_number t)) c.in-Int.is in
     (h.0, link_refused g.T.Deserialize.counts p c.args.walk.now c.in-Err.error is h.1)

@@ -1,7 +1,6 @@
 -- When a zone's record is one whose offsets can be looked up, and what else is wrong with it.
 use Rattle.std.specs.Prelude.{ℕ, ℤ, pos, ◌≡◌, ◌<◌, ◌≤◌, ◌/◌, ◌<ℤ◌, ◌⊎◌, List, Option, Some, None}
-use Rattle.std.specs.Prelude.{length}
-use Rattle.std.specs.Prelude.{option_map, slice_index}
+use Rattle.std.specs.Prelude.{length, option_map, slice_index}
 use Rattle.std.specs.Ordering.{nat_cmp}
 use Rattle.std.specs.Cmp.Lexicographic.{slice_cmp}
 use Rattle.std.specs.BTreeMap.{get_by}

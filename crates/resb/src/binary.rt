@@ -15,8 +15,8 @@ pub use resb_head::{
 pub use resb_pool::{Plan, pool};
 pub use resb_read::{
     Cursor, Deserialize, IntVectorDeserializer, KeyDeserializer, MapAccess, Measured,
-    Resource16BitDeserializer, SeqAccess, SortedTable, Spot, Sums, TableView, Walk, count_resources,
-    determine_endianness, from_bytes, from_bytes_counted, from_words, lay_words, measure,
-    tree_from_bytes, tree_from_bytes_within,
+    Resource16BitDeserializer, SeqAccess, SortedTable, Spot, Sums, TableView, Walk,
+    count_resources, determine_endianness, from_bytes, from_bytes_counted, from_words, lay_words,
+    measure, tree_from_bytes, tree_from_bytes_within,
 };
 pub use resb_write::{BinarySerializerError, Serializer};

@@ -8,7 +8,8 @@
  *
  * What the caller owes, since no contract can rule it out:
  *   - no pointer is null, also where its length is 0;
- *   - each pointer leads to as many bytes as its length says, and those of an input are initialized;
+ *   - each pointer leads to as many bytes as its length says, and those of an input are
+ *     initialized;
  *   - what a call writes overlaps nothing else that it is given: the buffer, the number and the
  *     error are apart from each other and from the input;
  *   - an input doesn't change while the call runs. */
@@ -30,7 +31,8 @@ extern "C" {
 #define RESB_NOT_UTF8 2u
 /* The text is no bundle: it can't be read on at the error's place. */
 #define RESB_NOT_A_BUNDLE 3u
-/* The text is a bundle, but its tree has no file: a key or a count is over what the format holds. */
+/* The text is a bundle, but its tree has no file: a key or a count is over what the format
+ * holds. */
 #define RESB_NO_FILE 4u
 /* The bytes are no file of a bundle. */
 #define RESB_NOT_A_FILE 5u
@@ -75,7 +77,7 @@ typedef struct resb_measured {
   /* the tables that have entries, and the entries of all tables */
   uint64_t tables;
   uint64_t entries;
-  /* the bytes of the entries' keys, the UTF-8 bytes of the strings, and the bytes of the binaries */
+  /* the bytes of the entries' keys, the UTF-8 bytes of the strings, the bytes of the binaries */
   uint64_t key_bytes;
   uint64_t text_bytes;
   uint64_t binary_bytes;

@@ -58,8 +58,8 @@ needed_of _ = 0
 abbrev pub IsNoMessage : List ℕ → Type 0
 IsNoMessage message = message ≡ replicate 256 0
 
--- what the fault prints, cut at 255 bytes, stands at the front of 256 zeros, or there is no message;
--- of what is printed for a tree that has no text nothing is said
+-- what the fault prints, cut at 255 bytes, stands at the front of 256 zeros, or there is no
+-- message; of what is printed for a tree that has no text nothing is said
 abbrev pub IsMessage : Option (List ℕ) → List ℕ → Type 0
 IsMessage (Some text) message =
     ((n : ℕ) × Fills (take 255 text) (replicate 256 0) message (Ok n)) ⊎ IsNoMessage message

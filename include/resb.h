@@ -1,4 +1,4 @@
-/* resb.h: ICU resource bundles, from a text to a .res file, and checks of such files.
+/* resb.h: ICU resource bundles, from a text to a .res file and back, and checks of such files.
  *
  * Link with libresb_c.a and with the toolchain's liblibc_c.a, in this order.
  *
@@ -8,7 +8,8 @@
  *
  * What the caller owes, since no contract can rule it out:
  *   - no pointer is null, also where its length is 0;
- *   - each pointer leads to as many bytes as its length says, and those of an input are initialized;
+ *   - each pointer leads to as many bytes as its length says, and those of an input are
+ *     initialized;
  *   - what a call writes overlaps nothing else that it is given: the buffer, the number and the
  *     error are apart from each other and from the input;
  *   - an input doesn't change while the call runs. */
@@ -30,14 +31,19 @@ extern "C" {
 #define RESB_NOT_UTF8 2u
 /* The text is no bundle: it can't be read on at the error's place. */
 #define RESB_NOT_A_BUNDLE 3u
-/* The text is a bundle, but its tree has no file: a key or a count is over what the format holds. */
+/* The text is a bundle, but its tree has no file: a key or a count is over what the format
+ * holds. */
 #define RESB_NO_FILE 4u
 /* The bytes are no file of a bundle. */
 #define RESB_NOT_A_FILE 5u
 /* The file has another format or version, or another order of bytes. */
 #define RESB_UNSUPPORTED 6u
+/* The file's tree has no text: its root is no table, or a name, key or string holds a '"'. */
+#define RESB_NOT_PRINTABLE 7u
 /* A request for memory was refused. The input may be sound. */
 #define RESB_NO_MEMORY 8u
+/* The file uses the keys of a pool bundle, and has none of its own. */
+#define RESB_USES_POOL 9u
 
 /* Why a call failed. Each call writes all of it: after RESB_OK it holds zeros alone. */
 typedef struct resb_error {
@@ -45,8 +51,8 @@ typedef struct resb_error {
   uint32_t kind;
   /* for RESB_NOT_UTF8 and RESB_NOT_A_BUNDLE a byte of the text, counted from 0; else 0 */
   size_t place;
-  /* what went wrong, in English, and a zero byte at its end; empty where memory is wanted for it;
-   * no proof speaks of these bytes */
+  /* what went wrong, in English, cut at 255 bytes, and zero bytes behind it; empty where memory is
+   * wanted for it */
   uint8_t message[256];
 } resb_error;
 
@@ -62,6 +68,42 @@ uint32_t resb_compile(const uint8_t *text, size_t text_length, uint8_t *out, siz
  *
  * RESB_OK: *count is the number of resources of its tree, the root included. Else *count is 0. */
 uint32_t resb_check(const uint8_t *file, size_t file_length, size_t *count, resb_error *error);
+
+/* What a file's tree adds up to; entries that are replaced count too. A sum that does not fit is
+ * UINT64_MAX. */
+typedef struct resb_measured {
+  /* the resources, the root included */
+  size_t resources;
+  /* the tables that have entries, and the entries of all tables */
+  uint64_t tables;
+  uint64_t entries;
+  /* the bytes of the entries' keys, the UTF-8 bytes of the strings, the bytes of the binaries */
+  uint64_t key_bytes;
+  uint64_t text_bytes;
+  uint64_t binary_bytes;
+  /* the numbers of the vectors */
+  uint64_t numbers;
+  /* the bytes that the tree takes in memory: 72 for each resource, 1024 for each table that has
+   * entries, 192 for each entry, 3 for each byte of a string, 4 for each number of a vector */
+  uint64_t tree_bytes;
+} resb_measured;
+
+/* Measures a file, which checks it as a whole, and makes no tree.
+ *
+ * RESB_OK: measured has the sums of its tree. Else each of them is 0. */
+uint32_t resb_measure(const uint8_t *file, size_t file_length, resb_measured *measured,
+                      resb_error *error);
+
+/* Prints a file's tree as the text of a bundle of that name, which is UTF-8 of name_length bytes.
+ * A tree that takes more bytes than the limit, as tree_bytes counts them, is refused before it is
+ * made, by RESB_NOT_A_FILE. UINT64_MAX is no limit.
+ *
+ * RESB_OK: the text is the first *length bytes of out, with no zero behind it, and the bytes behind
+ * it are as they were. RESB_TOO_SHORT: out is as it was, and *length is the length of the text.
+ * Else out is as it was, and *length is 0. */
+uint32_t resb_dump(const uint8_t *file, size_t file_length, const uint8_t *name,
+                   size_t name_length, uint64_t limit, uint8_t *out, size_t out_length,
+                   size_t *length, resb_error *error);
 
 #ifdef __cplusplus
 }

@@ -29,7 +29,10 @@ expect() {
 rows() {
   local language=$1
   shift
-  expect "$language: a bundle" 0 '80 bytes, 2 resources' 'a { b { "c" } }' "$@"
+  expect "$language: a bundle" 0 '80 bytes, 2 resources, 1 entries
+bundle{
+    b{"c"}
+}' 'a { b { "c" } }' "$@"
   expect "$language: no bundle" 1 "fault 3 at byte 4: Parse error while reading text bundle:
 at byte 4: expected '}'" 'a { ' "$@"
   expect "$language: no UTF-8" 1 'fault 2 at byte 1: not UTF-8 from byte 1 on' 'a\377' "$@"

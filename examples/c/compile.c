@@ -1,8 +1,11 @@
-/* Compiles the text on standard input, checks the file that comes of it, and says how large it is. */
+/* Compiles the text on standard input, says how large the file is, and prints it back as a text. */
 #include "resb.h"
 
 #include <stdio.h>
 #include <stdlib.h>
+
+/* the most bytes that a tree may take */
+#define LIMIT 1000000u
 
 static int fail(const resb_error *error) {
   fprintf(stderr, "fault %u at byte %zu: %s\n", (unsigned)error->kind, error->place,
@@ -10,10 +13,39 @@ static int fail(const resb_error *error) {
   return 1;
 }
 
+/* The text of a file, of *length bytes, or null. */
+static uint8_t *text_of(const uint8_t *file, size_t file_length, size_t *length,
+                        resb_error *error) {
+  static const uint8_t name[] = "bundle";
+  uint8_t none;
+  if (resb_dump(file, file_length, name, sizeof name - 1, LIMIT, &none, 0, length, error) !=
+      RESB_TOO_SHORT)
+    return NULL;
+  uint8_t *text = malloc(*length);
+  if (text != NULL)
+    resb_dump(file, file_length, name, sizeof name - 1, LIMIT, text, *length, length, error);
+  return text;
+}
+
+static int show(const uint8_t *file, size_t length) {
+  resb_measured measured;
+  resb_error error;
+  size_t count, text_length;
+  if (resb_check(file, length, &count, &error) != RESB_OK ||
+      resb_measure(file, length, &measured, &error) != RESB_OK)
+    return fail(&error);
+  printf("%zu bytes, %zu resources, %zu entries\n", length, count, (size_t)measured.entries);
+  uint8_t *text = text_of(file, length, &text_length, &error);
+  if (text == NULL) return fail(&error);
+  fwrite(text, 1, text_length, stdout);
+  free(text);
+  return 0;
+}
+
 int main(void) {
   static uint8_t text[65536];
   uint8_t none;
-  size_t length, count;
+  size_t length;
   resb_error error;
   size_t text_length = fread(text, 1, sizeof text, stdin);
 
@@ -22,12 +54,9 @@ int main(void) {
     return fail(&error);
   uint8_t *file = malloc(length);
   if (file == NULL) return 1;
-  int status = 0;
-  if (resb_compile(text, text_length, file, length, &length, &error) != RESB_OK ||
-      resb_check(file, length, &count, &error) != RESB_OK)
-    status = fail(&error);
-  else
-    printf("%zu bytes, %zu resources\n", length, count);
+  int status = resb_compile(text, text_length, file, length, &length, &error) == RESB_OK
+                   ? show(file, length)
+                   : fail(&error);
   free(file);
   return status;
 }

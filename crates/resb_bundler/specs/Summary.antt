@@ -1,6 +1,10 @@
 -- What a file's head says of the file, for people. (ICU's `uresdata.h`.)
-use Rattle.std.specs.Prelude.{◌≡◌, ℕ, ◌/◌, ◌%◌, Bool, not, nat_eq, List, drop, unwrap_or}
+use Rattle.std.specs.Prelude.{◌≡◌, ◌⊎◌, ◌<◌, ℕ, ◌/◌, ◌%◌, Bool, not, nat_eq, List, drop, unwrap_or}
+use Rattle.std.specs.Prelude.{length, codes, Some, false}
 use Rattle.resb_head.specs.Head.{HeaderAt, IndexAt}
+use Rattle.resb_head.specs.HeadChecks.{header_fault, index_fault}
+use Rattle.resb_format.specs.Error.{refusal_of, IsInvalid}
+use Rattle.resb_format.specs.declared.error.ReadingError.{ReadingError}
 use Rattle.resb_format.specs.Parts.{body_of}
 use Rattle.resb_head.specs.declared.head.BinHeader.{BinHeader}
 use Rattle.resb_head.specs.declared.index.BinIndex.{BinIndex}
@@ -26,3 +30,11 @@ pub record Summarizes (bytes : List ℕ) (s : Summary) : Type 0 where
   pub is_pool : s.is_pool ≡ has_bit (attributes_of index) 2
   pub uses_pool : s.uses_pool ≡ has_bit (attributes_of index) 4
   pub largest : s.largest_table ≡ index.largest_table_entry_count
+
+-- the first check of the header that fails, a body too short for its root, or the first check of
+-- the index that fails
+abbrev pub HasNoSummary : List ℕ → ReadingError → Type 0
+HasNoSummary bytes e =
+    (header_fault false bytes ≡ Some (refusal_of e))
+    ⊎ (length (body_of bytes) < 4 × IsInvalid e (codes "unexpected end of input"))
+    ⊎ (index_fault (drop 4 (body_of bytes)) ≡ Some (refusal_of e))

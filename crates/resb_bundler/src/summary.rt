@@ -1,8 +1,8 @@
 //! What a file's head says of the file, for people.
 //! Whether the rest of the file is right isn't looked at here.
-ghost use Rattle.std.specs.Prelude.{◌<◌, ◌≡◌, IfOk};
+ghost use Rattle.std.specs.Prelude.{◌<◌, ◌≡◌, IfOk, IfErr};
 ghost use Rattle.resb_bundler.specs.Summary as spec;
-ghost use Rattle.resb_bundler.specs.Summary.{Summarizes};
+ghost use Rattle.resb_bundler.specs.Summary.{Summarizes, HasNoSummary};
 
 use resb::binary::{BinHeader, BinIndex, BinaryDeserializerError, FormatVersion};
 
@@ -33,7 +33,8 @@ fn has_bit(attributes: u32, value: u32) -> bool
 /// that ends before its index, and for an index that is none. Formats that aren't read have a
 /// summary too.
 pub fn summary_of(file: &[u8]) -> Result<Summary, BinaryDeserializerError>
-    ensures { IfOk result (Summarizes file.now) }
+    ensures ok { IfOk result (Summarizes file.now) }
+    ensures err { IfErr result (HasNoSummary file.now) }
 {
     let header = BinHeader::try_from(file)?;
     let (_, body) = file.split_at(file.len().min(usize::from(header.size)));

@@ -2,15 +2,17 @@
 --     CompilesInto text old new r    what compiling to a buffer answers, and leaves there
 --     CountsFile file r              what checking a file answers
 --     Reports r status n e           the status, number and error that the caller gets of an answer
-use Rattle.std.specs.Prelude.{◌≡◌, ◌≤◌, ◌<◌, ◌⊎◌, ℕ, List, [], ◌∷◌, ◌++◌, length, drop, take}
-use Rattle.std.specs.Prelude.{Result, Ok, Err, Option, Some, None, IsUtf8, IfSome, replicate}
+use Rattle.std.specs.Prelude.{◌≡◌, ◌≤◌, ◌<◌, ◌⊎◌, ℕ, List, ◌++◌, length, drop, take}
+use Rattle.std.specs.Prelude.{Result, Ok, Err, Option, Some, None, IsUtf8, replicate}
 use Rattle.std.specs.Str.Lossy.{utf8_valid_len}
 use Rattle.resb.specs.Compiling.{IsCompiled, IsRefused}
 use Rattle.resb_read.specs.Roots.{CountOf}
-use Rattle.resb_c.specs.Faults.{number_of, place_of}
+use Rattle.resb_bundler.specs.Files.{HasNoKeys}
+use Rattle.resb_bundler.specs.Summary.{HasNoSummary}
+use Rattle.resb_c.specs.Faults.{number_of, place_of, message_of}
 use Rattle.resb_c.specs.declared.fault.Fault.{Fault}
 use Rattle.resb_c.specs.declared.fault.Fault.TheVariants.{TooShort, NotUtf8, Compiling, Reading}
-use Rattle.resb_c.specs.declared.fault.Fault.TheVariants.{Printing}
+use Rattle.resb_c.specs.declared.fault.Fault.TheVariants.{UsesPool}
 use Rattle.resb_c.specs.declared.report.ResbError.{ResbError}
 
 -- where the buffer has room, the answer stands at its front, what is behind stays, and its length
@@ -32,31 +34,43 @@ CompilesInto text old new (Err (TooShort n)) =
     (file : List ℕ) × IsUtf8 text × IsCompiled text file × Fills file old new (Err n)
 CompilesInto text old new (Err (NotUtf8 n)) = IsNotUtf8 text n × (new ≡ old)
 CompilesInto text old new (Err (Compiling e)) = IsUtf8 text × IsRefused text e × (new ≡ old)
-CompilesInto text old new (Err (Reading e)) = ⊥
-CompilesInto text old new (Err (Printing e)) = ⊥
+CompilesInto text old new (Err _) = ⊥
 
--- the number of resources of the file's tree, or the reader's refusal
+-- the file uses the keys of a pool bundle, or its head is refused
+abbrev pub HasNoOwnSummary : List ℕ → Fault → Type 0
+HasNoOwnSummary file UsesPool = HasNoKeys file
+HasNoOwnSummary file (Reading e) = HasNoSummary file e
+HasNoOwnSummary file _ = ⊥
+
+-- the number of resources of the file's tree, the reader's refusal, or that the file has no keys
 abbrev pub CountsFile : List ℕ → Result ℕ Fault → Type 0
 CountsFile file (Ok n) = CountOf file (Ok n)
-CountsFile file (Err (Reading e)) = CountOf file (Err e)
-CountsFile file (Err (TooShort n)) = ⊥
-CountsFile file (Err (NotUtf8 n)) = ⊥
-CountsFile file (Err (Compiling e)) = ⊥
-CountsFile file (Err (Printing e)) = ⊥
+CountsFile file (Err UsesPool) = HasNoKeys file
+CountsFile file (Err (Reading e)) = HasNoSummary file e ⊎ CountOf file (Err e)
+CountsFile file (Err _) = ⊥
 
 -- the length that a fault has for the caller: that of the answer which the buffer is too short for
 abbrev pub needed_of : Fault → ℕ
 needed_of (TooShort n) = n
-needed_of (NotUtf8 n) = 0
-needed_of (Compiling e) = 0
-needed_of (Reading e) = 0
-needed_of (Printing e) = 0
+needed_of _ = 0
+
+-- no message: memory was wanted for it
+abbrev pub IsNoMessage : List ℕ → Type 0
+IsNoMessage message = message ≡ replicate 256 0
+
+-- what the fault prints, cut at 255 bytes, stands at the front of 256 zeros, or there is no
+-- message; of what is printed for a tree that has no text nothing is said
+abbrev pub IsMessage : Option (List ℕ) → List ℕ → Type 0
+IsMessage (Some text) message =
+    ((n : ℕ) × Fills (take 255 text) (replicate 256 0) message (Ok n)) ⊎ IsNoMessage message
+IsMessage None message = Unit {0}
 
 -- the status is 0 where there is an answer, and else the fault's number, which the error has too,
--- with its place; of the message nothing is said
+-- with its place and its message
 abbrev pub Reports : Result ℕ Fault → ℕ → ℕ → ResbError → Type 0
 Reports (Ok n) status number e =
-    (status ≡ 0) × (number ≡ n) × (e.kind ≡ 0) × (e.place ≡ 0)
+    (status ≡ 0) × (number ≡ n) × (e.kind ≡ 0) × (e.place ≡ 0) × IsNoMessage e.message
 Reports (Err fault) status number e =
     (status ≡ number_of fault) × (number ≡ needed_of fault)
     × (e.kind ≡ number_of fault) × (e.place ≡ place_of fault)
+    × IsMessage (message_of fault) e.message

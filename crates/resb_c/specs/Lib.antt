@@ -1,3 +1,5 @@
 -- The words of the contracts for C: what is answered, why a call fails, and what the caller gets.
 pub mod Faults
 pub mod Calls
+pub mod Dumping
+pub mod Measures

@@ -20,6 +20,8 @@ pub enum Fault {
     Compiling(CompileError),
     /// The bytes are no file of a tree within its budget.
     Reading(BinaryDeserializerError),
+    /// The file uses the keys of a pool bundle, and has none of its own.
+    UsesPool,
     /// The tree has no text.
     Printing(PrintError),
 }
@@ -44,6 +46,7 @@ impl Fault {
                 ErrorKind::UnsupportedFormat => 6,
                 _ => 5,
             },
+            Fault::UsesPool => 9,
             Fault::Printing(PrintError::NotPrintable(_)) => 7,
             Fault::Printing(PrintError::OutOfMemory) => 8,
         }
@@ -72,6 +75,12 @@ impl fmt::Display for Fault {
             Fault::NotUtf8(place) => write!(f, "not UTF-8 from byte {place} on"),
             Fault::Compiling(e) => write!(f, "{e}"),
             Fault::Reading(e) => write!(f, "{e}"),
+            Fault::UsesPool => {
+                write!(
+                    f,
+                    "the file uses the keys of a pool bundle, and has none of its own"
+                )
+            }
             Fault::Printing(e) => write!(f, "{e}"),
         }
     }

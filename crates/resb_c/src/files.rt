@@ -1,14 +1,22 @@
 //! What the calls for C do over bytes: their answers go to the front of the caller's buffer.
 //! What the caller is told beside that is in `report`.
-ghost use Rattle.std.specs.Prelude.{◌≡◌, ℕ, IfOk, IfErr, IsUtf8};
-ghost use Rattle.resb_c.specs.Calls.{CompilesInto, CountsFile, Fills, IsNotUtf8};
+ghost use Rattle.std.specs.Prelude.{◌≡◌, ℕ, false, IfOk, IfErr, IsUtf8};
+ghost use Rattle.resb_bundler.specs.Summary.{Summarizes};
+ghost use Rattle.resb_c.specs.Calls.{CompilesInto, CountsFile, Fills, HasNoOwnSummary, IsNotUtf8};
+ghost use Rattle.resb_c.specs.Dumping.{DumpsInto, HasNoBundle, IsBundleOf};
+ghost use Rattle.resb_c.specs.Measures.{MeasuresFile};
 
 use crate::fault::Fault;
+use resb::binary::{Measured, count_resources, measure, tree_from_bytes_within};
+use resb::bundle::ResourceBundle;
+use resb::text::print_text;
+use resb_bundler::{Summary, summary_of};
 use std::alloc::Global;
+use std::borrow::CowStr;
 
 /// Copies an answer to the front of the buffer where it has room, and gives its length, which is
 /// the error where it has none.
-fn fill(answer: &[u8], out: &mut [u8]) -> Result<usize, usize>
+pub(crate) fn fill(answer: &[u8], out: &mut [u8]) -> Result<usize, usize>
     ensures { Fills answer.now out.old out.new result }
 {
     let count = answer.len();
@@ -31,6 +39,18 @@ fn text_of(bytes: &[u8]) -> Result<&str, Fault>
     }
 }
 
+/// What the head of a file says that has keys of its own.
+fn own_summary(file: &[u8]) -> Result<Summary, Fault>
+    ensures ok { IfOk result (λ s. Summarizes file.now s × (s.uses_pool ≡ false)) }
+    ensures err { IfErr result (λ e. HasNoOwnSummary file.now e) }
+{
+    match summary_of(file) {
+        Ok(summary) if summary.uses_pool => Err(Fault::UsesPool),
+        Ok(summary) => Ok(summary),
+        Err(e) => Err(Fault::Reading(e)),
+    }
+}
+
 /// Compiles a text to the front of the buffer.
 pub(crate) fn compile_into(alloc: Global, text: &[u8], out: &mut [u8]) -> Result<usize, Fault>
     ensures { CompilesInto text.now out.old out.new result }
@@ -49,8 +69,61 @@ pub(crate) fn compile_into(alloc: Global, text: &[u8], out: &mut [u8]) -> Result
 pub(crate) fn count_file(alloc: Global, file: &[u8]) -> Result<usize, Fault>
     ensures { CountsFile file.now result }
 {
-    match resb::binary::count_resources(alloc, file) {
+    own_summary(file)?;
+    match count_resources(alloc, file) {
         Ok(count) => Ok(count),
         Err(e) => Err(Fault::Reading(e)),
+    }
+}
+
+/// What a file's tree adds up to.
+pub(crate) fn measure_file(alloc: Global, file: &[u8]) -> Result<Measured, Fault>
+    ensures { MeasuresFile file.now result }
+{
+    own_summary(file)?;
+    match measure(alloc, file) {
+        Ok(measured) => Ok(measured),
+        Err(e) => Err(Fault::Reading(e)),
+    }
+}
+
+/// The tree of a file, which takes no more bytes than the limit, as a bundle of that name.
+fn bundle_of<'a>(
+    alloc: Global,
+    file: &'a [u8],
+    name: &'a str,
+    limit: u64,
+) -> Result<ResourceBundle<'a>, Fault>
+    ensures ok { IfOk result (IsBundleOf file.entry.now name.entry.now limit) }
+    ensures err { IfErr result (HasNoBundle file.entry.now limit) }
+{
+    let summary = own_summary(file)?;
+    match tree_from_bytes_within(alloc, file, limit) {
+        Ok(tree) => {
+            let name = CowStr::Borrowed(name);
+            Ok(ResourceBundle::new(name, tree, summary.has_fallback))
+        }
+        Err(e) => Err(Fault::Reading(e)),
+    }
+}
+
+/// Prints a file's tree to the front of the buffer, as the text of a bundle of that name.
+pub(crate) fn dump_into(
+    alloc: Global,
+    file: &[u8],
+    name: &[u8],
+    limit: u64,
+    out: &mut [u8],
+) -> Result<usize, Fault>
+    ensures { DumpsInto file.now name.now limit out.old out.new result }
+{
+    let name = text_of(name)?;
+    let bundle = bundle_of(alloc, file, name, limit)?;
+    match print_text(alloc, &bundle) {
+        Ok(text) => match fill(text.as_bytes(), out) {
+            Ok(count) => Ok(count),
+            Err(needed) => Err(Fault::TooShort(needed)),
+        },
+        Err(e) => Err(Fault::Printing(e)),
     }
 }

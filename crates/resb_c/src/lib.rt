@@ -4,15 +4,20 @@
 #![tactic(auto)]
 
 ghost use Rattle.std.specs.Prelude.{ℕ, Result};
+ghost use Rattle.resb_read.specs.declared.measuring.Measured.{Measured};
 ghost use Rattle.resb_c.specs.Calls.{CompilesInto, CountsFile, Reports};
+ghost use Rattle.resb_c.specs.Dumping.{DumpsInto};
+ghost use Rattle.resb_c.specs.Measures.{MeasuresFile, Shows, resources_of};
 
 mod fault;
 mod files;
+mod measured;
 mod report;
 
-use crate::files::{compile_into, count_file};
+use crate::files::{compile_into, count_file, dump_into, measure_file};
 use crate::report::report;
 pub use fault::Fault;
+pub use measured::ResbMeasured;
 pub use report::ResbError;
 use std::alloc::Global;
 
@@ -46,4 +51,42 @@ pub extern "C" fn resb_check(
 {
     let answer = count_file(alloc, file);
     report(alloc, answer, count, error)
+}
+
+/// Measures a file, which checks it as a whole, and makes no tree. `measured` gets the sums, else
+/// zeros.
+#[unsafe(no_mangle)]
+pub extern "C" fn resb_measure(
+    alloc: Global,
+    file: &[u8],
+    measured: &mut ResbMeasured,
+    error: &mut ResbError,
+) -> u32
+    ensures { (r : Result Measured Fault) × (n : ℕ) × MeasuresFile file.now r
+        × Shows r measured.new × Reports (resources_of r) result n error.new }
+{
+    let answer = measure_file(alloc, file);
+    *measured = ResbMeasured::of(&answer);
+    let mut resources = 0;
+    report(alloc, answer.map(|m| m.resources), &mut resources, error)
+}
+
+/// Prints a file's tree to the front of `out`, as the text of a bundle of that name. `length` gets
+/// the text's length, for `RESB_TOO_SHORT` too, else 0. A tree that takes more bytes than the limit
+/// is refused before it is made.
+#[unsafe(no_mangle)]
+pub extern "C" fn resb_dump(
+    alloc: Global,
+    file: &[u8],
+    name: &[u8],
+    limit: u64,
+    out: &mut [u8],
+    length: &mut usize,
+    error: &mut ResbError,
+) -> u32
+    ensures { (r : Result ℕ Fault) × DumpsInto file.now name.now limit out.old out.new r
+        × Reports r result length.new error.new }
+{
+    let answer = dump_into(alloc, file, name, limit, out);
+    report(alloc, answer, length, error)
 }

@@ -1,8 +1,10 @@
 //! What the caller is told: a status, a number, and an error with its message.
 //! Which fault there is, is found in `files`.
-ghost use Rattle.resb_c.specs.Calls.{Reports};
+ghost use Rattle.resb_c.specs.Calls.{IsMessage, Reports};
+ghost use Rattle.resb_c.specs.Faults.{message_of};
 
 use crate::fault::Fault;
+use crate::files::fill;
 use std::alloc::Global;
 
 /// Why a call failed. After a call that succeeded its kind is 0, its place 0 and its message empty.
@@ -17,12 +19,13 @@ pub struct ResbError {
 }
 
 /// Writes a fault's message, with zero bytes behind it, or nothing where memory is wanted for it.
-fn write_message(alloc: Global, fault: &Fault, message: &mut [u8; 256]) {
+fn write_message(alloc: Global, fault: &Fault, message: &mut [u8; 256])
+    ensures { IsMessage (message_of fault.now) message.new }
+{
     *message = [0; 256];
     if let Ok(text) = format!(in alloc; "{fault}") {
         let bytes = text.as_bytes();
-        let count = bytes.len().min(255);
-        message[..count].copy_from_slice(&bytes[..count]);
+        let _ = fill(&bytes[..bytes.len().min(255)], message);
     }
 }
 

@@ -1,22 +1,26 @@
-//! Compiles the text on standard input, checks the file that comes of it, and says how large it is.
+//! Compiles the text on standard input, says how large its file is, and prints it back as a text.
 mod resb;
 
 use std::io::Read;
 use std::process::ExitCode;
 
-fn sizes(text: &[u8]) -> Result<(usize, usize), resb::Error> {
+/// The most bytes that a tree may take.
+const LIMIT: u64 = 1_000_000;
+
+fn show(text: &[u8]) -> Result<(), resb::Error> {
     let file = resb::compile(text)?;
-    Ok((file.len(), resb::check(&file)?))
+    let count = resb::check(&file)?;
+    let entries = resb::measure(&file)?.entries;
+    println!("{} bytes, {count} resources, {entries} entries", file.len());
+    print!("{}", resb::dump(&file, "bundle", LIMIT)?);
+    Ok(())
 }
 
 fn main() -> ExitCode {
     let mut text = Vec::new();
     std::io::stdin().read_to_end(&mut text).expect("standard input");
-    match sizes(&text) {
-        Ok((length, count)) => {
-            println!("{length} bytes, {count} resources");
-            ExitCode::SUCCESS
-        }
+    match show(&text) {
+        Ok(()) => ExitCode::SUCCESS,
         Err(e) => {
             eprintln!("{e}");
             ExitCode::FAILURE

@@ -23,6 +23,20 @@ impl fmt::Display for Error {
     }
 }
 
+/// As `resb_measured` of the header.
+#[repr(C)]
+#[derive(Default)]
+pub struct Measured {
+    pub resources: usize,
+    pub tables: u64,
+    pub entries: u64,
+    pub key_bytes: u64,
+    pub text_bytes: u64,
+    pub binary_bytes: u64,
+    pub numbers: u64,
+    pub tree_bytes: u64,
+}
+
 const OK: u32 = 0;
 const TOO_SHORT: u32 = 1;
 
@@ -39,6 +53,23 @@ extern "C" {
         file: *const u8,
         file_length: usize,
         count: *mut usize,
+        error: *mut Error,
+    ) -> u32;
+    fn resb_measure(
+        file: *const u8,
+        file_length: usize,
+        measured: *mut Measured,
+        error: *mut Error,
+    ) -> u32;
+    fn resb_dump(
+        file: *const u8,
+        file_length: usize,
+        name: *const u8,
+        name_length: usize,
+        limit: u64,
+        out: *mut u8,
+        out_length: usize,
+        length: *mut usize,
         error: *mut Error,
     ) -> u32;
 }
@@ -71,4 +102,50 @@ pub fn check(file: &[u8]) -> Result<usize, Error> {
         OK => Ok(count),
         _ => Err(error),
     }
+}
+
+/// What a file's tree adds up to.
+pub fn measure(file: &[u8]) -> Result<Measured, Error> {
+    let (mut measured, mut error) = (Measured::default(), Error::none());
+    match unsafe { resb_measure(file.as_ptr(), file.len(), &mut measured, &mut error) } {
+        OK => Ok(measured),
+        _ => Err(error),
+    }
+}
+
+/// Dumps to the buffer: the text's length, and whether it fitted.
+fn dump_to(
+    file: &[u8],
+    name: &str,
+    limit: u64,
+    out: &mut [u8],
+) -> Result<(usize, bool), Error> {
+    let (mut length, mut error) = (0, Error::none());
+    let status = unsafe {
+        resb_dump(
+            file.as_ptr(),
+            file.len(),
+            name.as_ptr(),
+            name.len(),
+            limit,
+            out.as_mut_ptr(),
+            out.len(),
+            &mut length,
+            &mut error,
+        )
+    };
+    match status {
+        OK => Ok((length, true)),
+        TOO_SHORT => Ok((length, false)),
+        _ => Err(error),
+    }
+}
+
+/// The text of a file's tree as a bundle of that name. A tree of more bytes than the limit, as
+/// `Measured::tree_bytes` counts them, is refused.
+pub fn dump(file: &[u8], name: &str, limit: u64) -> Result<String, Error> {
+    let (length, _) = dump_to(file, name, limit, &mut [])?;
+    let mut text = vec![0; length];
+    dump_to(file, name, limit, &mut text)?;
+    Ok(String::from_utf8_lossy(&text).into_owned())
 }

@@ -1,22 +1,49 @@
 -- The header's size leads to the body, and the index stands behind the root's word.
-use Rattle.std.proofs.Common.{ℕ, List, ◌≡◌, ◌∙◌, min, length, drop, ap, subst, refl, not}
+use Rattle.std.proofs.Common.{ℕ, List, ◌≡◌, ◌∙◌, ◌<◌, min, length, drop, ap, subst, refl, not}
+use Rattle.std.proofs.Common.{inl, inr, sym}
+use Rattle.std.proofs.lemmas.Result.{err_from_is_err_and}
 use Rattle.resb_format.specs.Parts.{body_of, header_size}
 use Rattle.resb_head.specs.Head.{IndexAt}
+use Rattle.resb_head.specs.HeadChecks.{index_fault}
 use Rattle.resb_head.proofs.FileSteps.{size_is, drop_min}
 use Rattle.resb_bundler.specs.Summary.{has_bit}
 use Rattle.resb_bundler.proofs.summary.summary_of.Goals as goal
 
-pub returns : goal.returns
-returns c =
+-- what stands behind a header of this size is the body
+body_is : (bytes body : List ℕ) (cut number size : ℕ)
+    → body ≡ drop cut bytes → cut ≡ min (length bytes) number → number ≡ size
+    → size ≡ header_size bytes → body ≡ body_of bytes
+body_is bytes body cut number size is least from header =
+    is ∙ ap (λ n. drop n bytes) (least ∙ ap (min (length bytes)) (from ∙ header))
+    ∙ drop_min bytes (header_size bytes)
+
+pub returns-then-body-lt4-clause-err : goal.returns-then-body-lt4-clause-err
+returns-then-body-lt4-clause-err c =
+    let bytes : List ℕ = c.args.file.now in
+    let size = c.in_ok-header.ensures.1.size ∙ size_is bytes c.in_ok-header.ensures.0 in
+    let body = body_is bytes c.split_at.result.1.now c.min.result c.from.result
+    c.in_ok-header.header.size c.split_at.ensures.back c.min.ensures c.from.ensures size in
+    inr (inl (subst (λ b. length b < 4) body c.if-body-lt4.true, c.invalid_data.ensures))
+
+pub returns-in_err-index-clause-err : goal.returns-in_err-index-clause-err
+returns-in_err-index-clause-err c =
+    let bytes : List ℕ = c.args.file.now in
+    let size = c.in_ok-header.ensures.1.size ∙ size_is bytes c.in_ok-header.ensures.0 in
+    let body = body_is bytes c.split_at.result.1.now c.min.result c.from.result
+    c.in_ok-header.header.size c.split_at.ensures.back c.min.ensures c.from.ensures size in
+    let rest = c.split_at-2.ensures.back ∙ ap (drop 4) body in
+    let p = err_from_is_err_and c.from_residual-in_err-index.result
+    c.from_residual-in_err-index.ensures.1 in
+    rw (p.1, p.2) (inr (inr (ap index_fault (sym rest) ∙ c.in_err-index.ensures)))
+
+pub returns-clause-ok : goal.returns-clause-ok
+returns-clause-ok c =
     let bytes : List ℕ = c.args.file.now in
     let header = c.in_ok-header.header in
     let index = c.in_ok-index.index in
-    let size : header.size ≡ header_size bytes =
-    c.in_ok-header.ensures.1.size ∙ size_is bytes c.in_ok-header.ensures.0 in
-    let body : c.split_at.result.1.now ≡ body_of bytes =
-    c.split_at.ensures.back
-    ∙ ap (λ n. drop n bytes) (c.min.ensures ∙ ap (min (length bytes)) (c.from.ensures ∙ size))
-    ∙ drop_min bytes (header_size bytes) in
+    let size = c.in_ok-header.ensures.1.size ∙ size_is bytes c.in_ok-header.ensures.0 in
+    let body = body_is bytes c.split_at.result.1.now c.min.result c.from.result header.size
+    c.split_at.ensures.back c.min.ensures c.from.ensures size in
     let rest : c.split_at-2.result.1.now ≡ drop 4 (body_of bytes) =
     c.split_at-2.ensures.back ∙ ap (drop 4) body in
     let attributes = c.unwrap_or-attributes.ensures in

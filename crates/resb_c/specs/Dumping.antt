@@ -1,0 +1,65 @@
+-- What printing a file's tree to a buffer answers.
+--     IsBundleOf file name limit b   the bundle is the file's tree, under that name
+--     DumpsInto file name limit old new r    what printing it to a buffer answers, and leaves there
+use Rattle.std.specs.Prelude.{◌≡◌, ◌⊎◌, ℕ, List, false, Result, Ok, Err}
+use Rattle.resb_tree.specs.Bundle.{name_of, root_of}
+use Rattle.resb_tree.specs.View.{tree_of}
+use Rattle.resb_tree.specs.declared.bundle.ResourceBundle.{ResourceBundle}
+use Rattle.resb_tree.specs.declared.resource.Resource.{Resource}
+use Rattle.resb_grammar.specs.BundleText.{BundleText}
+use Rattle.resb_print.specs.Laws.{HasNoText}
+use Rattle.resb_print.specs.declared.error.PrintError.{PrintError}
+use Rattle.resb_print.specs.declared.error.PrintError.TheVariants.{OutOfMemory}
+use Rattle.resb_read.specs.Measuring.{TreeWithin}
+use Rattle.resb_bundler.specs.Files.{HasNoKeys}
+use Rattle.resb_bundler.specs.Summary.{Summarizes, HasNoSummary}
+use Rattle.resb_bundler.specs.declared.summary.Summary.{Summary}
+use Rattle.resb_c.specs.Calls.{Fills, IsNotUtf8}
+use Rattle.resb_c.specs.declared.fault.Fault.{Fault}
+use Rattle.resb_c.specs.declared.fault.Fault.TheVariants.{TooShort, NotUtf8, Reading, UsesPool}
+use Rattle.resb_c.specs.declared.fault.Fault.TheVariants.{Printing}
+
+-- the bundle has this name, the file's tree, which takes no more bytes than the limit, and the
+-- fallback flag of the file's head
+pub record IsBundleOf (file name : List ℕ) (limit : ℕ) (b : ResourceBundle) : Type 0 where
+  pub tree : Resource
+  pub summary : Summary
+  pub reads : TreeWithin file limit (Ok tree)
+  pub summarizes : Summarizes file summary
+  pub own : summary.uses_pool ≡ false
+  pub named : name_of b ≡ name
+  pub root : root_of b ≡ tree_of tree
+  pub flag : b.is_locale_fallback_enabled ≡ summary.has_fallback
+
+-- the file has no keys of its own, its head is refused, or the reader refuses it, as by a tree that
+-- takes more bytes than the limit
+abbrev pub HasNoBundle : List ℕ → ℕ → Fault → Type 0
+HasNoBundle file limit UsesPool = HasNoKeys file
+HasNoBundle file limit (Reading e) = HasNoSummary file e ⊎ TreeWithin file limit (Err e)
+HasNoBundle file limit _ = ⊥
+
+-- the text is one of the file's bundle under this name
+pub record IsDump (file name : List ℕ) (limit : ℕ) (text : List ℕ) : Type 0 where
+  pub bundle : ResourceBundle
+  pub keys : List (List ℕ)
+  pub of_file : IsBundleOf file name limit bundle
+  pub texts : BundleText text (name_of bundle) bundle.is_locale_fallback_enabled (root_of bundle)
+      keys
+
+-- memory was wanted, or no text is that of the file's bundle under this name
+pub record HasNoDump (file name : List ℕ) (limit : ℕ) (e : PrintError) : Type 0 where
+  pub bundle : ResourceBundle
+  pub of_file : IsBundleOf file name limit bundle
+  pub none : (e ≡ OutOfMemory)
+      ⊎ HasNoText (name_of bundle) bundle.is_locale_fallback_enabled (root_of bundle)
+
+-- a text of the file's bundle is in the buffer, or would be if it had room, or there is none
+abbrev pub DumpsInto : List ℕ → List ℕ → ℕ → List ℕ → List ℕ → Result ℕ Fault → Type 0
+DumpsInto file name limit old new (Ok n) =
+    (text : List ℕ) × IsDump file name limit text × Fills text old new (Ok n)
+DumpsInto file name limit old new (Err (TooShort n)) =
+    (text : List ℕ) × IsDump file name limit text × Fills text old new (Err n)
+DumpsInto file name limit old new (Err (NotUtf8 n)) = IsNotUtf8 name n × (new ≡ old)
+DumpsInto file name limit old new (Err (Printing e)) =
+    HasNoDump file name limit e × (new ≡ old)
+DumpsInto file name limit old new (Err fault) = HasNoBundle file limit fault × (new ≡ old)

@@ -426,7 +426,8 @@ making_examples : (t : Title) (o : Open) (ns : List ℕ) (around : List Frame) �
     })) closing ≡ 0)
     × (made_by (inside (record {
       title = t;
-      frame = record { body = untyped_body; items = items.before_comma (items.string_term []) ∷ [] };
+      frame = record
+          { body = untyped_body; items = items.before_comma (items.string_term []) ∷ [] };
       around = around;
     })) closing ≡ 0)
     × (made_by (filled (string (codes "ab")) o) closing ≡ 78)

@@ -10,7 +10,8 @@ use Rattle.resb_grammar.specs.Group.{numbers, numbers_comma, LeafContent, string
 use Rattle.resb_grammar.specs.Group.{binary_content, integer_content, vector_content}
 use Rattle.resb_grammar.specs.BundleText.{Typing, without, with, Header}
 use Rattle.resb_grammar.specs.Machine.{Token, a_text, a_number, opening, closing, a_comma, a_type}
-use Rattle.resb_grammar.specs.Machine.{a_root_type, Means, Open, State, start, named, titled, inside}
+use Rattle.resb_grammar.specs.Machine.{a_root_type, Means, Open, State, start, named, titled}
+use Rattle.resb_grammar.specs.Machine.{inside}
 use Rattle.resb_grammar.specs.Machine.{typed, in_binary, filled, in_vector, at_start, after_number}
 use Rattle.resb_grammar.specs.Machine.{after_lone_comma, after_comma, next, begun_as, with_leaf}
 use Rattle.resb_grammar.specs.Machine.{at_root, begun, went, At}
@@ -61,8 +62,8 @@ module _ (text : List ℕ) where
   makes_numbers n from to ns o (first_number i _ v number skip) made =
       makes_on n n from i to _ _ (a_number v) made (free n) number refl skip
   makes_numbers n from to ns o (next_number i j k _ v ms rest h skip number skip') made =
-      let here : Makes text n i (in_vector after_number ms o) = makes_numbers n from i ms o rest made
-      in
+      let here : Makes text n i (in_vector after_number ms o) =
+      makes_numbers n from i ms o rest made in
       let comma : Makes text n j (in_vector after_comma ms o) = makes_on n n i (i + 1) j _ _ a_comma
       here (free n) (h, refl) refl skip in
       makes_on n n j k to _ _ (a_number v) comma (free n) number refl skip'
@@ -110,8 +111,8 @@ module _ (text : List ℕ) where
   content_made n from to kind t o (string_content i s w skip) made =
       filled_made n to t o (makes_on n n from i to _ _ (a_text s) made (free n) w refl skip)
   content_made n from to kind t o (binary_content i s bytes w e skip) made =
-      filled_made n to t o (makes_on n n from i to (in_binary o) (filled (binary bytes) o) (a_text s)
-      made (free n) w (ap (option_map (λ bs. filled (binary bs) o)) e) skip)
+      filled_made n to t o (makes_on n n from i to (in_binary o) (filled (binary bytes) o)
+      (a_text s) made (free n) w (ap (option_map (λ bs. filled (binary bs) o)) e) skip)
   content_made n from to kind t o (integer_content i v w skip) made =
       filled_made n to t o (makes_on n n from i to _ _ (a_number v) made (free n) w refl skip)
   content_made n from to kind t o (vector_content ns v) made = vector_made n from to ns o v made

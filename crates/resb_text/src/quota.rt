@@ -16,14 +16,14 @@ pub(crate) const GROUP_BYTES: u128 = 72;
 /// How many bytes were made, how many may be, and whether more were asked for.
 #[derive(Drop)]
 pub(crate) struct Quota {
-    limit: u128,
-    made: u128,
+    limit: u64,
+    made: u64,
     pub is_over: bool,
 }
 
 impl Quota {
     /// Nothing is made yet.
-    pub(crate) fn new(limit: u128) -> Quota
+    pub(crate) fn new(limit: u64) -> Quota
         ensures { result ≡ record { limit = limit; made = 0; is_over = false } }
     {
         Quota {
@@ -44,11 +44,11 @@ impl Quota {
             → Keeps text self.new }
         ensures err { IfErr result (λ e. e ≡ want_of_memory) }
     {
-        if bytes > self.limit - self.made {
+        if bytes > u128::from(self.limit - self.made) {
             self.is_over = true;
             return Err(TextParserError::out_of_memory());
         }
-        self.made += bytes;
+        self.made += bytes as u64;
         Ok(())
     }
 }

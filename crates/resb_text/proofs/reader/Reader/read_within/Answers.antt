@@ -6,7 +6,7 @@ use Rattle.resb_text.proofs.reader.Reader.read_within.Goals as goal
 pub returns-in-Err-clause-none : goal.returns-in-Err-clause-none
 returns-in-Err-clause-none c =
     let same : c.read_limited.new.quota.limit ≡ c.args.limit = c.read_limited.ensures.limit
-    ∙ ap (λ (q : Quota). q.limit) c.new-quota.ensures ∙ c.from.ensures in
+    ∙ ap (λ (q : Quota). q.limit) c.new-quota.ensures in
     λ within. never_more _ _ within
     (rw (c.new.ensures, same) at (c.read_limited.ensures.quota.over c.if-quota.true))
 

@@ -28,6 +28,12 @@ pub use resb_text::laws::stuck_is_no_bundle;
 pub use resb_text::laws::keys_are_distinct;
 // The discovered keys hold each key of the tree.
 pub use resb_text::laws::keys_are_listed;
+// What the whole reading of a text makes is one number of bytes.
+pub use resb_text::laws::one_making;
+// A bundle's text is read to its end, and its reading makes some number of bytes.
+pub use resb_text::laws::bundles_are_made;
+// Where the whole reading of a text makes no more than a limit, no part of it makes more.
+pub use resb_text::laws::within_is_never_more;
 
 // A tree in whose way nothing stands is printed as a bundle text.
 pub use resb_print::laws::printed_is_a_bundle;

@@ -3,4 +3,4 @@
 //! The way on to a file is `compile`, at the top.
 
 pub use resb_print::{Cause, PrintError, print_text};
-pub use resb_text::{Expected, Reader, TextParserError, Turns};
+pub use resb_text::{Expected, LimitError, Reader, TextParserError, Turns};

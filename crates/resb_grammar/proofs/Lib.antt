@@ -11,4 +11,6 @@ pub mod Complete
 pub mod Sound
 pub mod GrammarLaws
 pub mod Listed
+pub mod Making
+pub mod MadeOnce
 mod Examples

@@ -6,8 +6,9 @@ use Rattle.resb_tree.specs.Tree.{Tree}
 use Rattle.resb_tree.specs.Keys.{is_key}
 use Rattle.resb_grammar.specs.Items.{Item, a_table, tree_in, keys_in}
 use Rattle.resb_grammar.specs.BundleText.{BundleText, first_places}
-use Rattle.resb_grammar.specs.Machine.{At, finished}
+use Rattle.resb_grammar.specs.Machine.{Title, At, finished}
 use Rattle.resb_grammar.specs.Stuck.{Stuck}
+use Rattle.resb_grammar.specs.Limit.{Makes, MadeWithin, MakesMore}
 use Rattle.resb_grammar.specs.declared.expected.Expected.{Expected}
 
 -- a text has at most one name, fallback, tree and list of keys
@@ -57,3 +58,23 @@ abbrev pub KeysAreListed : Type 0
 KeysAreListed =
     (text name : List ℕ) (fallback : Bool) (t : Tree) (ks : List (List ℕ))
     → BundleText text name fallback t ks → (k : List ℕ) → is_key k t ≡ true → Contains ks k
+
+-- what the whole reading of a text makes is one number of bytes
+abbrev pub OneMaking : Type 0
+OneMaking =
+    (text : List ℕ) (n m : ℕ) (title other : Title) (xs ys : List Item)
+    → Makes text n (length text) (finished title xs)
+    → Makes text m (length text) (finished other ys) → n ≡ m
+
+-- a bundle's text is read to its end, and its reading makes some number of bytes
+abbrev pub BundlesAreMade : Type 0
+BundlesAreMade =
+    (text name : List ℕ) (fallback : Bool) (tree : Tree) (keys : List (List ℕ))
+    → BundleText text name fallback tree keys
+    → (items : List Item) × (n : ℕ)
+    × Makes text n (length text) (finished (record { name = name; fallback = fallback }) items)
+
+-- where the whole reading of a text makes no more than a limit, no part of it makes more
+abbrev pub WithinIsNeverMore : Type 0
+WithinIsNeverMore =
+    (text : List ℕ) (limit : ℕ) → MadeWithin text limit → MakesMore text limit → ⊥

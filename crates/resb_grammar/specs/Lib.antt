@@ -15,6 +15,7 @@ pub mod Next
 pub mod Paths
 pub mod Machine
 pub mod Stuck
+pub mod Limit
 pub mod Expected
 pub mod Laws
 pub mod Inner

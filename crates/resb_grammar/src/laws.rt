@@ -3,6 +3,7 @@
 ghost use Rattle.resb_grammar.specs.Laws.{OneBundleText, StuckInOneWay, StuckIsNoBundle};
 ghost use Rattle.resb_grammar.specs.Laws.{ReadToTheEndIsABundle, ABundleIsReadToTheEnd};
 ghost use Rattle.resb_grammar.specs.Laws.{KeysAreDistinct, KeysAreListed};
+ghost use Rattle.resb_grammar.specs.Laws.{OneMaking, BundlesAreMade, WithinIsNeverMore};
 
 /// A text has at most one name, fallback, tree and list of keys.
 pub fn one_bundle_text()
@@ -37,4 +38,19 @@ pub fn keys_are_distinct()
 /// The discovered keys of a bundle's text hold every key of its tree.
 pub fn keys_are_listed()
     ensures { KeysAreListed }
+{}
+
+/// What the whole reading of a text makes is one number of bytes.
+pub fn one_making()
+    ensures { OneMaking }
+{}
+
+/// A bundle's text is read to its end, and its reading makes some number of bytes.
+pub fn bundles_are_made()
+    ensures { BundlesAreMade }
+{}
+
+/// Where the whole reading of a text makes no more than a limit, no part of it makes more.
+pub fn within_is_never_more()
+    ensures { WithinIsNeverMore }
 {}

@@ -9,3 +9,7 @@ pub if_ok_both : {T E : Type 0} {P Q R : T → Type 0} (r : Result T E)
     → ((x : T) → P x → Q x → R x) → IfOk r P → IfOk r Q → IfOk r R
 if_ok_both (Ok x) f g h = f x g h
 if_ok_both (Err e) f g h = tt
+
+pub if_ok_always : {T E P : Type 0} (r : Result T E) → P → IfOk r (λ _. P)
+if_ok_always (Ok x) h = h
+if_ok_always (Err e) h = tt

@@ -1,12 +1,18 @@
 -- Typed groups among the items of an open group.
-use Rattle.std.proofs.Common.{◌≡◌, ◌≢◌, ℕ, Bool, true, false, List, [], refl, sym, ◌∙◌, ap}
-use Rattle.std.proofs.Common.{subst, arith, Some, inl, inr, ⊎_elim}
+use Rattle.std.proofs.Common.{◌≡◌, ◌≢◌, ◌+◌, ◌<◌, ℕ, Bool, true, false, List, [], refl, sym, ◌∙◌}
+use Rattle.std.proofs.Common.{ap, subst, arith, Some, inl, inr, ⊎_elim}
 use Rattle.std.specs.Prelude.{◌⊎◌, not, slice_index}
 use Rattle.std.proofs.lemmas.Bool.{false≢true}
 use Rattle.resb_grammar.specs.Ascii as ascii
 use Rattle.resb_tree.specs.Tree.{Tree}
 use Rattle.resb_grammar.specs.Tokens.{Skip}
-use Rattle.resb_grammar.specs.GroupTypes.{Kind, GroupType, Head}
+use Rattle.resb_grammar.specs.GroupTypes.{Kind, string_kind, array_kind, table_kind, binary_kind}
+use Rattle.resb_grammar.specs.GroupTypes.{integer_kind, vector_kind, GroupType, Head}
+use Rattle.resb_grammar.specs.Group.{LeafContent, string_content, binary_content, integer_content}
+use Rattle.resb_grammar.specs.Group.{vector_content}
+use Rattle.resb_grammar.specs.Limit.{begun_bytes, leaf_bytes, Makes, MakesMore}
+use Rattle.resb_grammar.proofs.Making.{reading_of, free, makes_on, makes_more, head_made}
+use Rattle.resb_grammar.proofs.Making.{begun_made, content_made, BeforeBrace}
 use Rattle.resb_grammar.specs.Items.{Item, group_term}
 use Rattle.resb_grammar.specs.Machine as machine
 use Rattle.resb_grammar.specs.Machine.{Body, table_body, array_body, untyped_body, Token, a_text}
@@ -26,7 +32,7 @@ use Rattle.resb_grammar.specs.declared.expected.Expected.TheVariants as expect
 use Rattle.resb_text.specs.declared.error.TextParserError.{TextParserError}
 use Rattle.resb_grammar.specs.Token.{Means}
 use Rattle.resb_grammar.proofs.Moves.{move_means, further, byte_class, none_some, no_text_colon}
-use Rattle.resb_grammar.proofs.Complete.{MayOpen, type_next, run_head, run_content}
+use Rattle.resb_grammar.proofs.Complete.{MayOpen, type_next, run_head}
 use Rattle.resb_grammar.proofs.LexLemmas.{no_number, no_root_type}
 use Rattle.resb_text.proofs.HeaderReading.{error_at}
 use Rattle.resb_text.proofs.StepsLemmas.{body_same, stuck_here}
@@ -121,7 +127,7 @@ module _ (text : List ℕ) where
       go to u (a_root_type fallback) m e = none_some u e
 
   -- a typed group may stand here
-  pub may_stand : (c : Open) (at : ℕ) (key b : Bool) → (x : Among text at c)
+  pub may_stand : {n : ℕ} (c : Open) (at : ℕ) (key b : Bool) → (x : Among text at c n)
       → ((o : machine.Open) → Shows c o → key ≡ is_key_place o.frame.items)
       → b ≡ takes_group (group_body_of c.frame.body) key → b ≡ true
       → takes_group x.open_groups.frame.body (is_key_place x.open_groups.frame.items) ≡ true
@@ -133,7 +139,8 @@ module _ (text : List ℕ) where
       ∙ is
 
   -- no type may stand here
-  pub type_refused : (c : Open) (at b : ℕ) (key may : Bool) (e : Expected) → (x : Among text at c)
+  pub type_refused : {n : ℕ} (c : Open) (at b : ℕ) (key may : Bool) (e : Expected)
+      → (x : Among text at c n)
       → ((o : machine.Open) → Shows c o → key ≡ is_key_place o.frame.items)
       → b ≡ slice_index text at → b ≡ ascii.colon
       → e ≡ expected_in (group_body_of c.frame.body) key b
@@ -160,26 +167,66 @@ module _ (text : List ℕ) where
       run_head text at first kind o.title o.frame.body o.frame.items o.around head
       (may_open o.frame.body o.frame.items may) reached
 
-  pub head_refused : (c : Open) (at : ℕ) (e : TextParserError) → (x : Among text at c)
+  pub head_refused : {n : ℕ} (c : Open) (at : ℕ) (e : TextParserError) → (x : Among text at c n)
       → takes_group x.open_groups.frame.body (is_key_place x.open_groups.frame.items) ≡ true
       → HeadFails text at e → Fails text e
   head_refused c at e x may fails = inr (fails x.open_groups may x.reached)
 
+  -- a type leads to its `{`
+  type_moves : (o : machine.Open) (kind : Kind)
+      → takes_group o.frame.body (is_key_place o.frame.items) ≡ true
+      → next (inside o) (a_type kind) ≡ Some (typed kind o)
+  type_moves o kind may =
+      type_next o.title o.frame.body o.frame.items o.around kind
+      (may_open o.frame.body o.frame.items may)
+
+  -- a type that holds items begins a group
+  begins : (kind : Kind) (body : Body)
+      → ((o : machine.Open) → machine.begun_as kind o ≡ inside (within body o))
+      → machine.Open → begun_bytes kind ≡ 72
+  begins array_kind body opens o = refl
+  begins table_kind body opens o = refl
+  begins string_kind body opens o = let e = opens o in cc
+  begins binary_kind body opens o = let e = opens o in cc
+  begins integer_kind body opens o = let e = opens o in cc
+  begins vector_kind body opens o = let e = opens o in cc
+
   -- a group that holds items is opened
-  pub group_opened : (c d : Open) (at first : ℕ) (kind : Kind) (body : Body) → (x : Among text at c)
+  pub group_opened : {n : ℕ} (m : ℕ) (c d : Open) (at first : ℕ) (kind : Kind) (body : Body)
+      → (x : Among text at c n)
       → takes_group x.open_groups.frame.body (is_key_place x.open_groups.frame.items) ≡ true
       → Head text at kind first
       → ((o : machine.Open) → machine.begun_as kind o ≡ inside (within body o))
-      → ((o : machine.Open) → Shows c o → Shows d (within body o)) → Among text first d
-  group_opened c d at first kind body x may head opens then = record {
-    open_groups = within body x.open_groups;
-    shows = then x.open_groups x.shows;
-    reached = subst (λ (s : State). At text first s) (opens x.open_groups)
-        (begun x.open_groups at first kind may x.reached head);
-  }
+      → ((o : machine.Open) → Shows c o → Shows d (within body o)) → m ≡ n + 72
+      → Among text first d m
+  group_opened {n} m c d at first kind body x may head opens then sum =
+      let adds = begins kind body opens x.open_groups in
+      let made = subst (λ (s : State). Makes text m first s) (opens x.open_groups)
+      (begun_made text n m at first kind x.open_groups head
+      (type_moves x.open_groups kind may) x.made
+      (omega (arith, sum, adds))) in
+      record {
+        open_groups = within body x.open_groups;
+        shows = then x.open_groups x.shows;
+        reached = reading_of text m first _ made;
+        made = made;
+      }
 
-  pub leaf_refused : (c : Open) (at first : ℕ) (kind : Kind) (e : TextParserError)
-      → (x : Among text at c)
+  -- such a group makes more than the limit
+  pub opened_over : {n : ℕ} (limit : ℕ) (c : Open) (at first : ℕ) (kind : Kind) (body : Body)
+      → (x : Among text at c n)
+      → takes_group x.open_groups.frame.body (is_key_place x.open_groups.frame.items) ≡ true
+      → Head text at kind first
+      → ((o : machine.Open) → machine.begun_as kind o ≡ inside (within body o)) → limit < n + 72
+      → MakesMore text limit
+  opened_over {n} limit c at first kind body x may head opens more =
+      let adds = begins kind body opens x.open_groups in
+      makes_more text n limit head.brace (head.brace + 1) (typed kind x.open_groups) _ opening
+      (head_made text n at first kind x.open_groups head (type_moves x.open_groups kind may) x.made)
+      (head.opens, refl) refl (omega (arith, more, adds))
+
+  pub leaf_refused : {n : ℕ} (c : Open) (at first : ℕ) (kind : Kind) (e : TextParserError)
+      → (x : Among text at c n)
       → takes_group x.open_groups.frame.body (is_key_place x.open_groups.frame.items) ≡ true
       → Head text at kind first
       → (e ≡ want_of_memory) ⊎ LeafFails text first kind e → Fails text e
@@ -187,15 +234,52 @@ module _ (text : List ℕ) where
       ⊎_elim (λ (h : e ≡ want_of_memory). inl h) (λ (h : LeafFails text first kind e). inr
       (h x.open_groups (begun x.open_groups at first kind may x.reached head))) fails
 
-  pub leaf_added : (c d : Open) (at first next : ℕ) (kind : Kind) (t : Tree) → (x : Among text at c)
+  -- a type that holds no items begins none
+  leaf_kind : (from to : ℕ) (kind : Kind) (t : Tree) (n : ℕ) → LeafContent text from to kind t
+      → n ≡ n + begun_bytes kind
+  leaf_kind from to kind t n (string_content i s w skip) = free n
+  leaf_kind from to kind t n (binary_content i s bytes w e skip) = free n
+  leaf_kind from to kind t n (integer_content i v w skip) = free n
+  leaf_kind from to kind t n (vector_content ns v) = free n
+
+  -- a group that holds no items, up to its `}`
+  before_brace : {n : ℕ} (c : Open) (at first next : ℕ) (kind : Kind) (t : Tree)
+      → (x : Among text at c n)
       → takes_group x.open_groups.frame.body (is_key_place x.open_groups.frame.items) ≡ true
-      → Head text at kind first → Leaf text first next kind t
+      → Head text at kind first → (leaf : Leaf text first next kind t)
+      → BeforeBrace text n leaf.ends t x.open_groups
+  before_brace {n} c at first next kind t x may head leaf =
+      content_made text n first leaf.ends kind t x.open_groups leaf.content
+      (begun_made text n n at first kind x.open_groups head
+      (type_moves x.open_groups kind may) x.made
+      (leaf_kind first leaf.ends kind t n leaf.content))
+
+  pub leaf_added : {n : ℕ} (m : ℕ) (c d : Open) (at first to : ℕ) (kind : Kind) (t : Tree)
+      → (x : Among text at c n)
+      → takes_group x.open_groups.frame.body (is_key_place x.open_groups.frame.items) ≡ true
+      → Head text at kind first → Leaf text first to kind t
       → ((o : machine.Open) → Shows c o → Shows d (with_term (group_term t []) o))
-      → Among text next d
-  leaf_added c d at first next kind t x may head leaf then = record {
-    open_groups = with_term (group_term t []) x.open_groups;
-    shows = then x.open_groups x.shows;
-    reached =
-        run_content text first leaf.ends next kind t x.open_groups leaf.content
-        (begun x.open_groups at first kind may x.reached head) leaf.closes.brace leaf.closes.after;
-  }
+      → m ≡ n + leaf_bytes t → Among text to d m
+  leaf_added {n} m c d at first to kind t x may head leaf then sum =
+      let b = before_brace c at first to kind t x may head leaf in
+      let adds = b.adds in
+      let made = makes_on text n m leaf.ends (leaf.ends + 1) to b.state _ closing b.made
+      (omega (arith, sum, adds)) (leaf.closes.brace, refl) b.moves leaf.closes.after in
+      record {
+        open_groups = with_term (group_term t []) x.open_groups;
+        shows = then x.open_groups x.shows;
+        reached = reading_of text m to _ made;
+        made = made;
+      }
+
+  -- such a group makes more than the limit
+  pub leaf_over : {n : ℕ} (limit : ℕ) (c : Open) (at first to : ℕ) (kind : Kind) (t : Tree)
+      → (x : Among text at c n)
+      → takes_group x.open_groups.frame.body (is_key_place x.open_groups.frame.items) ≡ true
+      → Head text at kind first → Leaf text first to kind t → limit < n + leaf_bytes t
+      → MakesMore text limit
+  leaf_over {n} limit c at first to kind t x may head leaf more =
+      let b = before_brace c at first to kind t x may head leaf in
+      let adds = b.adds in
+      makes_more text n limit leaf.ends (leaf.ends + 1) b.state _ closing b.made
+      (leaf.closes.brace, refl) b.moves (omega (arith, more, adds))

@@ -6,4 +6,5 @@ pub mod Leaf
 pub mod Shown
 pub mod Discovered
 pub mod Frames
+pub mod Quota
 pub mod Steps

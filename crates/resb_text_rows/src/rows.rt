@@ -66,6 +66,42 @@ b{a{x}b{y}c{y}} => b: { a: 'x' b: 'y' c: 'y' }, keys a b c
 b{a{ab}b{b}c{ab}d{cab}} => b: { a: 'ab' b: 'b' c: 'ab' d: 'cab' }, keys a b c d
 "#;
 
+/// Limits and texts with their answers. `b{k{v}}` makes 72 for the root, 195 for `k`, 72 for its
+/// group, 195 for `v`, and 1024 for the entry's table: 1558. The others are summed so by hand.
+pub const LIMITED: [(u64, &str, &str); 31] = [
+    (0, "", "at 0: a string"),
+    (0, "b", "at 1: '{'"),
+    (71, "b{", "text larger than the limit"),
+    (72, "b{", "at 2: '}'"),
+    (71, "b{}", "text larger than the limit"),
+    (72, "b{}", "b: { }, keys"),
+    (71, "b:table(nofallback){}", "text larger than the limit"),
+    (72, "b:table(nofallback){}", "b without fallback: { }, keys"),
+    (1557, "b{k{v}}", "text larger than the limit"),
+    (1558, "b{k{v}}", "b: { k: 'v' }, keys k"),
+    (u64::MAX, "b{k{v}}", "b: { k: 'v' }, keys k"),
+    (1557, "b{k{v}}x", "text larger than the limit"),
+    (1558, "b{k{v}}x", "at 7: the end of the text"),
+    (728, "b{k{v}x}", "text larger than the limit"),
+    (729, "b{k{v}x}", "at 7: '{'"),
+    (2478, "b{c{1}a{2}c{\"\"}}", "text larger than the limit"),
+    (2479, "b{c{1}a{2}c{\"\"}}", "b: { a: '2' c: '' }, keys c a"),
+    (1557, "b{a{x,}}", "text larger than the limit"),
+    (1558, "b{a{x,}}", "b: { a: [ 'x' ] }, keys a"),
+    (1752, "b{a:array{x \"y\"}}", "text larger than the limit"),
+    (1753, "b{a:array{x,\"y\"}}", "b: { a: [ 'x' 'y' ] }, keys a"),
+    (1362, "b{t:table{}}", "text larger than the limit"),
+    (1363, "b{t:table{}}", "b: { t: { } }, keys t"),
+    (1368, "b{s:string{\"xy\"}}", "text larger than the limit"),
+    (1369, "b{s:string{\"xy\"}}", "b: { s: 'xy' }, keys s"),
+    (1364, "b{d:bin{00ff}}", "text larger than the limit"),
+    (1365, "b{d:bin{00ff}}", "b: { d: < 0 255 > }, keys d"),
+    (1362, "b{i:int{7}}", "text larger than the limit"),
+    (1363, "b{i:int{7}}", "b: { i: 7 }, keys i"),
+    (1374, "b{v:intvector{1,2,3}}", "text larger than the limit"),
+    (1375, "b{v:intvector{1,2,3}}", "b: { v: ( 1 2 3 ) }, keys v"),
+];
+
 /// Texts with the place where each is refused, and what was expected there.
 pub const REFUSALS: &str = r#" => at 0: a string
 "b => at 0: a string

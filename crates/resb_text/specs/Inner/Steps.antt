@@ -1,10 +1,11 @@
 -- What one token does to the open groups.
-use Rattle.std.specs.Prelude.{◌≡◌, ℕ, Bool, true, false, not, List, [], slice_index}
+use Rattle.std.specs.Prelude.{◌≡◌, ℕ, ◌+◌, Bool, true, false, not, List, [], slice_index}
 use Rattle.resb_grammar.specs.Ascii as ascii
 use Rattle.resb_grammar.specs.Machine as machine
 use Rattle.resb_grammar.specs.Machine.{Body, table_body, array_body, untyped_body, named, inside}
 use Rattle.resb_grammar.specs.Machine.{At}
 use Rattle.resb_grammar.specs.Stuck.{Stuck}
+use Rattle.resb_grammar.specs.Limit.{Makes, closing_bytes}
 use Rattle.resb_grammar.specs.Tokens.{Skip, Text}
 use Rattle.resb_text.specs.Inner.Frames.{Shows}
 use Rattle.resb_text.specs.declared.frames.Open.{Open}
@@ -22,11 +23,12 @@ takes_group table_body key = not key
 takes_group array_body key = true
 takes_group untyped_body key = true
 
--- a reading stands here, among the items of these groups
-pub record Among (text : List ℕ) (at : ℕ) (c : Open) : Type 0 where
+-- a reading that has made so many bytes stands here, among the items of these groups
+pub record Among (text : List ℕ) (at : ℕ) (c : Open) (bytes : ℕ) : Type 0 where
   pub open_groups : machine.Open
   pub shows : Shows c open_groups
   pub reached : At text at (inside open_groups)
+  pub made : Makes text bytes at (inside open_groups)
 
 -- wherever a typed group may stand there, a reading gets stuck so
 abbrev pub HeadFails : List ℕ → ℕ → TextParserError → Type 0
@@ -46,11 +48,14 @@ pub record HasBundleName (text name : List ℕ) (to : ℕ) : Type 0 where
 abbrev pub TypingFails : List ℕ → ℕ → TextParserError → Type 0
 TypingFails text at e = (name : List ℕ) → At text at (named name) → Stuck text e.position e.expected
 
--- the root may be closed here
-pub record IsLast (text : List ℕ) (at : ℕ) (c : Open) : Type 0 where
+-- the root may be closed here, by which so many bytes will be made
+pub record IsLast (text : List ℕ) (at : ℕ) (c : Open) (bytes : ℕ) : Type 0 where
   pub open_groups : machine.Open
   pub shows : Shows c open_groups
   pub reached : At text at (inside open_groups)
+  pub before : ℕ
+  pub made : Makes text before at (inside open_groups)
+  pub sum : bytes ≡ before + closing_bytes open_groups.frame
   pub root : open_groups.around ≡ []
   pub key_place : machine.is_key_place open_groups.frame.items ≡ true
   pub closes : slice_index text at ≡ ascii.right_brace

@@ -1,8 +1,9 @@
-use Rattle.std.proofs.Common.{refl, sym}
+use Rattle.std.proofs.Common.{refl, sym, ◌∙◌, ap, ◌+◌}
 use Rattle.std.proofs.lemmas.Result.{err_from_is_err_and}
 use Rattle.resb_grammar.specs.Ascii as ascii
 use Rattle.resb_text.proofs.TypedGroups.{may_stand, type_refused, head_refused, group_opened}
-use Rattle.resb_text.proofs.TypedGroups.{leaf_refused, leaf_added}
+use Rattle.resb_text.proofs.TypedGroups.{opened_over, leaf_refused, leaf_added, leaf_over}
+use Rattle.resb_text.proofs.QuotaLemmas.{kept}
 use Rattle.resb_text.proofs.steps.typed.Goals as goal
 
 pub returns-then-not-takes_group-clause-err : goal.returns-then-not-takes_group-clause-err
@@ -26,14 +27,41 @@ returns-in_err-first-clause-err c =
     (head_refused c.args.turns.now.text c.args.groups.now c.args.at _ c.requires.among may
     c.in_err-first.ensures.err)
 
+pub returns-in_err-take-clause-quota : goal.returns-in_err-take-clause-quota
+returns-in_err-take-clause-quota c =
+    let may = may_stand c.args.turns.now.text c.args.groups.now c.args.at
+    c.is_key_place-key_place.result c.takes_group.result c.requires.among
+    c.is_key_place-key_place.ensures c.takes_group.ensures c.if-not-takes_group.false in
+    c.take.ensures.keeps _ c.requires.quota
+    (λ more. opened_over c.args.turns.now.text _ c.args.groups.now c.args.at c.in_ok-first.first _ _
+    c.requires.among may c.in_ok-first.ensures.ok c.in-Some.ensures.some more)
+
+pub returns-in_err-open-clause-quota : goal.returns-in_err-open-clause-quota
+returns-in_err-open-clause-quota c =
+    let may = may_stand c.args.turns.now.text c.args.groups.now c.args.at
+    c.is_key_place-key_place.result c.takes_group.result c.requires.among
+    c.is_key_place-key_place.ensures c.takes_group.ensures c.if-not-takes_group.false in
+    c.take.ensures.keeps _ c.requires.quota
+    (λ more. opened_over c.args.turns.now.text _ c.args.groups.now c.args.at c.in_ok-first.first _ _
+    c.requires.among may c.in_ok-first.ensures.ok c.in-Some.ensures.some more)
+
+pub returns-in-Some-clause-quota : goal.returns-in-Some-clause-quota
+returns-in-Some-clause-quota c =
+    let may = may_stand c.args.turns.now.text c.args.groups.now c.args.at
+    c.is_key_place-key_place.result c.takes_group.result c.requires.among
+    c.is_key_place-key_place.ensures c.takes_group.ensures c.if-not-takes_group.false in
+    c.take.ensures.keeps _ c.requires.quota
+    (λ more. opened_over c.args.turns.now.text _ c.args.groups.now c.args.at c.in_ok-first.first _ _
+    c.requires.among may c.in_ok-first.ensures.ok c.in-Some.ensures.some more)
+
 pub returns-in-Some-clause-ok : goal.returns-in-Some-clause-ok
 returns-in-Some-clause-ok c =
     let may = may_stand c.args.turns.now.text c.args.groups.now c.args.at
     c.is_key_place-key_place.result c.takes_group.result c.requires.among
     c.is_key_place-key_place.ensures c.takes_group.ensures c.if-not-takes_group.false in
-    group_opened c.args.turns.now.text c.args.groups.now _ c.args.at c.in_ok-first.first _ _
+    group_opened c.args.turns.now.text _ c.args.groups.now _ c.args.at c.in_ok-first.first _ _
     c.requires.among may c.in_ok-first.ensures.ok c.in-Some.ensures.some
-    c.in_ok-open.ensures.shows
+    c.in_ok-open.ensures.shows c.in_ok-take.ensures.made
 
 pub returns-in_err-next-clause-err : goal.returns-in_err-next-clause-err
 returns-in_err-next-clause-err c =
@@ -50,12 +78,43 @@ returns-in_err-next-clause-err c =
     may c.in_ok-first.ensures.ok
     (rw c.head.ensures.text at c.in_err-next.ensures.err))
 
+pub returns-in_err-take-2-clause-quota : goal.returns-in_err-take-2-clause-quota
+returns-in_err-take-2-clause-quota c =
+    let may = may_stand c.args.turns.now.text c.args.groups.now c.args.at
+    c.is_key_place-key_place.result c.takes_group.result c.requires.among
+    c.is_key_place-key_place.ensures c.takes_group.ensures c.if-not-takes_group.false in
+    kept _ _ _ _ _ c.leaf_bytes.ensures c.requires.quota c.take-2.ensures.keeps
+    (λ more. leaf_over c.args.turns.now.text _ c.args.groups.now c.args.at c.in_ok-first.first _ _ _
+    c.requires.among may c.in_ok-first.ensures.ok
+    (rw c.head.ensures.text at c.in_ok-next.ensures.ok) more)
+
+pub returns-in_err-add_leaf-clause-quota : goal.returns-in_err-add_leaf-clause-quota
+returns-in_err-add_leaf-clause-quota c =
+    let may = may_stand c.args.turns.now.text c.args.groups.now c.args.at
+    c.is_key_place-key_place.result c.takes_group.result c.requires.among
+    c.is_key_place-key_place.ensures c.takes_group.ensures c.if-not-takes_group.false in
+    kept _ _ _ _ _ c.leaf_bytes.ensures c.requires.quota c.take-2.ensures.keeps
+    (λ more. leaf_over c.args.turns.now.text _ c.args.groups.now c.args.at c.in_ok-first.first _ _ _
+    c.requires.among may c.in_ok-first.ensures.ok
+    (rw c.head.ensures.text at c.in_ok-next.ensures.ok) more)
+
+pub returns-clause-quota : goal.returns-clause-quota
+returns-clause-quota c =
+    let may = may_stand c.args.turns.now.text c.args.groups.now c.args.at
+    c.is_key_place-key_place.result c.takes_group.result c.requires.among
+    c.is_key_place-key_place.ensures c.takes_group.ensures c.if-not-takes_group.false in
+    kept _ _ _ _ _ c.leaf_bytes.ensures c.requires.quota c.take-2.ensures.keeps
+    (λ more. leaf_over c.args.turns.now.text _ c.args.groups.now c.args.at c.in_ok-first.first _ _ _
+    c.requires.among may c.in_ok-first.ensures.ok
+    (rw c.head.ensures.text at c.in_ok-next.ensures.ok) more)
+
 pub returns-clause-ok : goal.returns-clause-ok
 returns-clause-ok c =
     let may = may_stand c.args.turns.now.text c.args.groups.now c.args.at
     c.is_key_place-key_place.result c.takes_group.result c.requires.among
     c.is_key_place-key_place.ensures c.takes_group.ensures c.if-not-takes_group.false in
-    leaf_added c.args.turns.now.text c.args.groups.now _ c.args.at c.in_ok-first.first _ _ _
+    leaf_added c.args.turns.now.text _ c.args.groups.now _ c.args.at c.in_ok-first.first _ _ _
     c.requires.among may c.in_ok-first.ensures.ok
     (rw c.head.ensures.text at c.in_ok-next.ensures.ok)
     c.in_ok-add_leaf.ensures.shows
+    (c.in_ok-take-2.ensures.made ∙ ap (λ k. c.args.quota.now.made + k) c.leaf_bytes.ensures)

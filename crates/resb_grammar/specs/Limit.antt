@@ -1,0 +1,82 @@
+-- How many bytes of memory a reading of a text makes, as they are counted, and a limit for them.
+--     made_by s t             what a token adds, in the state in which it stands
+--     Makes text n at s       a reading that has made n bytes comes to this place in this state
+--     MadeWithin text limit   the text is read to its end, and no more than the limit is made
+--     MakesMore text limit    a reading comes to a token by which more than the limit is made
+use Rattle.std.specs.Prelude.{◌≡◌, ℕ, ◌+◌, ◌*◌, ◌<◌, ◌≤◌, List, ◌∷◌, length}
+use Rattle.resb_tree.specs.Tree.{Tree, string, binary, int_vector}
+use Rattle.resb_grammar.specs.Items.{Item, Shape, a_table}
+use Rattle.resb_grammar.specs.GroupTypes.{Kind, array_kind, table_kind}
+use Rattle.resb_grammar.specs.Machine.{Token, a_text, opening, closing, Frame, Title, State, named}
+use Rattle.resb_grammar.specs.Machine.{titled, inside, typed, filled, in_vector, finished, shape_in}
+use Rattle.resb_grammar.specs.Machine.{Path, begun, went, Move}
+
+-- a string among items: 192, since it may be the key of an entry, and 3 for each of its bytes
+abbrev pub string_bytes : List ℕ → ℕ
+string_bytes s = 192 + 3 * length s
+
+-- a group that holds no items: 72, and 3 for each byte of a string, 1 for each byte of a binary, 4
+-- for each number of a vector
+abbrev pub leaf_bytes : Tree → ℕ
+leaf_bytes (string s) = 72 + 3 * length s
+leaf_bytes (binary s) = 72 + length s
+leaf_bytes (int_vector ns) = 72 + 4 * length ns
+leaf_bytes _ = 72
+
+-- the `{` behind a type: 72 for a group that holds items
+abbrev pub begun_bytes : Kind → ℕ
+begun_bytes array_kind = 72
+begun_bytes table_kind = 72
+begun_bytes _ = 0
+
+-- items of this shape, once their `}` stands: 1024 for a table that has entries
+abbrev pub shape_bytes : Shape → List Item → ℕ
+shape_bytes a_table (x ∷ xs) = 1024
+shape_bytes _ _ = 0
+
+-- the `}` of a group that holds items
+abbrev pub closing_bytes : Frame → ℕ
+closing_bytes f = shape_bytes (shape_in f.body f.items) f.items
+
+-- what a token adds: a string among items, the `{` of a group that holds items, and each `}`
+abbrev pub made_by : State → Token → ℕ
+made_by (named name) opening = 72
+made_by (titled title) opening = 72
+made_by (inside o) (a_text s) = string_bytes s
+made_by (inside o) opening = 72
+made_by (inside o) closing = closing_bytes o.frame
+made_by (typed kind o) opening = begun_bytes kind
+made_by (filled t o) closing = leaf_bytes t
+made_by (in_vector place ns o) closing = leaf_bytes (int_vector ns)
+made_by _ _ = 0
+
+-- what the tokens of a path add up to
+abbrev pub bytes_of : (text : List ℕ) (n at : ℕ) (s : State) → Path text n at s → ℕ
+bytes_of text _ _ _ (begun at skip) = 0
+bytes_of text _ _ _ (went n from to s u path step) =
+    bytes_of text n from s path + made_by s step.move.token
+
+-- a reading that has made so many bytes comes to this place in this state
+pub record Makes (text : List ℕ) (bytes at : ℕ) (s : State) : Type 0 where
+  pub tokens : ℕ
+  pub path : Path text tokens at s
+  pub sum : bytes ≡ bytes_of text tokens at s path
+
+-- the text is read to its end, and no more bytes than the limit are made
+pub record MadeWithin (text : List ℕ) (limit : ℕ) : Type 0 where
+  pub title : Title
+  pub items : List Item
+  pub bytes : ℕ
+  pub made : Makes text bytes (length text) (finished title items)
+  pub within : bytes ≤ limit
+
+-- a reading comes to a token that may stand there, by which more bytes than the limit are made
+pub record MakesMore (text : List ℕ) (limit : ℕ) : Type 0 where
+  pub at : ℕ
+  pub state : State
+  pub bytes : ℕ
+  pub ends : ℕ
+  pub after : State
+  pub made : Makes text bytes at state
+  pub move : Move text at state ends after
+  pub more : limit < bytes + made_by state move.token

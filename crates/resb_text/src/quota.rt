@@ -1,0 +1,73 @@
+//! How many bytes of memory a reading has made, and the limit for them.
+//! What each token adds is said in the grammar; `steps` asks for it before it is made.
+ghost use Rattle.std.specs.Prelude.{◌≡◌, ℕ, ◌+◌, ◌<◌, ◌≤◌, List, false, OnOk, IfErr};
+ghost use Rattle.resb_tree.specs.View.{tree_of};
+ghost use Rattle.resb_grammar.specs.Limit as limit;
+ghost use Rattle.resb_grammar.specs.Limit.{MakesMore};
+ghost use Rattle.resb_text.specs.Inner.Quota.{Keeps};
+ghost use Rattle.resb_text.specs.Refusal.{want_of_memory};
+
+use crate::error::TextParserError;
+use resb_tree::Resource;
+
+/// A resource of its own.
+pub(crate) const GROUP_BYTES: u128 = 72;
+
+/// How many bytes were made, how many may be, and whether more were asked for.
+#[derive(Drop)]
+pub(crate) struct Quota {
+    limit: u64,
+    made: u64,
+    pub is_over: bool,
+}
+
+impl Quota {
+    /// Nothing is made yet.
+    pub(crate) fn new(limit: u64) -> Quota
+        ensures { result ≡ record { limit = limit; made = 0; is_over = false } }
+    {
+        Quota {
+            limit,
+            made: 0,
+            is_over: false,
+        }
+    }
+
+    /// So many bytes more are made, or more than the limit were asked for: then it is as if memory
+    /// were wanted.
+    pub(crate) fn take(&mut self, bytes: u128) -> Result<(), TextParserError>
+        requires { self.old.made ≤ self.old.limit }
+        ensures made { OnOk result (self.new.made ≡ self.old.made + bytes) }
+        ensures limit { self.new.limit ≡ self.old.limit }
+        ensures keeps { (text : List ℕ) → Keeps text self.old
+            → (self.old.limit < self.old.made + bytes → MakesMore text self.old.limit)
+            → Keeps text self.new }
+        ensures err { IfErr result (λ e. e ≡ want_of_memory) }
+    {
+        if bytes > u128::from(self.limit - self.made) {
+            self.is_over = true;
+            return Err(TextParserError::out_of_memory());
+        }
+        self.made += bytes as u64;
+        Ok(())
+    }
+}
+
+/// What a string among items makes.
+pub(crate) fn string_bytes(text: &str) -> u128
+    ensures { result ≡ limit.string_bytes text.now }
+{
+    192 + 3 * text.len() as u128
+}
+
+/// What a group that holds no items makes.
+pub(crate) fn leaf_bytes(resource: &Resource<'_>) -> u128
+    ensures { result ≡ limit.leaf_bytes (tree_of resource.now) }
+{
+    match resource {
+        Resource::String(text) => GROUP_BYTES + 3 * text.as_str().len() as u128,
+        Resource::Binary(bytes) => GROUP_BYTES + bytes.len() as u128,
+        Resource::IntVector(numbers) => GROUP_BYTES + 4 * numbers.len() as u128,
+        Resource::Array(_) | Resource::Table(_) | Resource::Integer(_) => GROUP_BYTES,
+    }
+}

@@ -18,6 +18,7 @@ fn all_calls(alloc: Global) -> Outcome {
     let outcomes = [
         outcome_of(texts::reads(alloc)),
         outcome_of(texts::reads_counted(alloc)),
+        outcome_of(texts::reads_within(alloc)),
         outcome_of(texts::writes(alloc)),
         outcome_of(texts::compiles(alloc)),
         outcome_of(texts::compiles_others(alloc)),

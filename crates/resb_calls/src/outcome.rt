@@ -4,7 +4,7 @@
 use resb::CompileError;
 use resb::binary::{BinarySerializerError, ReadingError};
 use resb::bundle::NoMemory;
-use resb::text::{Expected, TextParserError};
+use resb::text::{Expected, LimitError, TextParserError};
 use std::alloc::AllocError;
 
 /// What comes of a call, the worst last.
@@ -49,6 +49,15 @@ impl From<TextParserError> for Refused {
     fn from(e: TextParserError) -> Refused {
         Refused {
             is_memory: e.expected() == Expected::Memory,
+        }
+    }
+}
+
+impl From<LimitError> for Refused {
+    fn from(e: LimitError) -> Refused {
+        match e {
+            LimitError::Text(e) => Refused::from(e),
+            LimitError::Larger => Refused { is_memory: false },
         }
     }
 }

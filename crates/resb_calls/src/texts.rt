@@ -20,6 +20,11 @@ pub(crate) fn reads_counted(alloc: Global) -> Result<bool, Refused> {
     Ok(bundle.name() == "b" && keys.len() == 8)
 }
 
+pub(crate) fn reads_within(alloc: Global) -> Result<bool, Refused> {
+    let (bundle, keys) = Reader::read_within(alloc, TEXT, u64::MAX)?;
+    Ok(bundle.name() == "b" && keys.len() == 8)
+}
+
 pub(crate) fn writes(alloc: Global) -> Result<bool, Refused> {
     let (bundle, keys) = Reader::read(alloc, TEXT)?;
     let file = Serializer::to_bytes(alloc, &bundle, keys.as_slice())?;

@@ -2,20 +2,16 @@
 //! Its entries one after another are in `entries`; a table whose keys ascend is in `sorted`.
 ghost use Rattle.std.specs.Prelude.{◌≡◌, ◌≤◌, ◌<◌, ◌+◌, ◌⊎◌, ℕ, Some, None, length, option_map};
 ghost use Rattle.std.specs.Prelude.{MatchResult, IfOk, IfErr};
-ghost use Rattle.resb_walk.specs.Files.{parts_in};
 ghost use Rattle.resb_walk.specs.Refusals.{IsSpent};
 ghost use Rattle.resb_read.specs.Places.{place_of};
 ghost use Rattle.resb_read.specs.Sequences as sequences;
-ghost use Rattle.resb_read.specs.Leaves.{key_from};
-ghost use Rattle.resb_read.specs.declared.cursor.Spot.TheVariants as spot;
-ghost use Rattle.resb_read.specs.Tables.{entries_of, is_text, last_named, RefusesTable};
+ghost use Rattle.resb_read.specs.Tables.{entries_of, last_named, RefusesTable};
 ghost use Rattle.resb_read.specs.Tables.{ReadsFound, RefusesFound};
-ghost use Rattle.resb_read.specs.Inner.Naming.{is_ended};
 
-use crate::cursor::{Cursor, Spot};
+use crate::cursor::Cursor;
 use crate::deserialize::Deserialize;
 use crate::items::spot_of;
-use resb_format::bytes::cut_at;
+use crate::keys::is_key;
 use resb_format::{BinaryDeserializerError, ReadingError};
 use resb_walk::{File, Pairs, Walk};
 use std::alloc::Global;
@@ -71,39 +67,6 @@ impl<'de> TableView<'de> {
             return Ok(None);
         };
         Ok(Some(T::deserialize(alloc, at, walk)?))
-    }
-}
-
-/// Whether the key at a position is this name.
-#[tactic(auto, using(crate::proofs::Naming::told))]
-fn is_key(file: File<'_>, position: usize, name: &str) -> bool
-    ensures { result ≡ is_text name.now (key_from (parts_in file.entry) (spot.Key position)) }
-{
-    match cut_at(file.keys, position) {
-        Some((_, tail)) => begins_with(tail, name.as_bytes()),
-        None => false,
-    }
-}
-
-/// Whether the bytes begin with these, none of them zero, and a zero byte behind them.
-fn begins_with(bytes: &[u8], wanted: &[u8]) -> bool
-    ensures { result ≡ is_ended bytes.entry.now wanted.entry.now }
-{
-    let mut rest = bytes;
-    let mut left = wanted;
-    'bytes: while let Some((first, later)) = left.split_first() {
-        let Some((byte, behind)) = rest.split_first() else {
-            return false;
-        };
-        if *byte == 0 || *byte != *first {
-            return false;
-        }
-        rest = behind;
-        left = later;
-    }
-    match rest.first() {
-        Some(byte) => *byte == 0,
-        None => false,
     }
 }
 

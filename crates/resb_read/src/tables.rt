@@ -5,6 +5,7 @@ ghost use Rattle.std.specs.Prelude.{MatchResult, IfOk, IfErr};
 ghost use Rattle.resb_walk.specs.Refusals.{IsSpent};
 ghost use Rattle.resb_read.specs.Places.{place_of};
 ghost use Rattle.resb_read.specs.Sequences as sequences;
+ghost use Rattle.resb_read.specs.Inner.Items.{entry_places};
 ghost use Rattle.resb_read.specs.Tables.{entries_of, last_named, RefusesTable};
 ghost use Rattle.resb_read.specs.Tables.{ReadsFound, RefusesFound};
 
@@ -13,7 +14,7 @@ use crate::deserialize::Deserialize;
 use crate::items::spot_of;
 use crate::keys::is_key;
 use resb_format::{BinaryDeserializerError, ReadingError};
-use resb_walk::{File, Pairs, Walk};
+use resb_walk::{File, Members, Pairs, Positions, Walk};
 use std::alloc::Global;
 
 /// A table that stands in a file, with one paid of the budget for each of its entries.
@@ -37,18 +38,17 @@ impl<'de> TableView<'de> {
     pub fn get(&self, name: &str) -> Option<Cursor<'de>>
         ensures { option_map place_of result ≡ last_named name.now (entries_of self.now) }
     {
-        let mut found = None;
-        let mut rest = self.entries;
-        'entries: while let Some((position, member, later)) = rest.split() {
-            if is_key(self.file, position, name) {
-                found = Some(Cursor {
-                    file: self.file,
-                    at: spot_of(member),
-                });
+        match (self.entries.keys, self.entries.members) {
+            // Most tables are so: then the search goes by these two alone.
+            (Positions::Halves(keys), Members::Words(members)) => {
+                let entries = Pairs {
+                    keys: Positions::Halves(keys),
+                    members: Members::Words(members),
+                };
+                last_of(self.file, entries, name)
             }
-            rest = later;
+            _ => last_of(self.file, self.entries, name),
         }
-        found
     }
 
     /// Reads the value of the last entry whose key is this name, if there is one.
@@ -68,6 +68,26 @@ impl<'de> TableView<'de> {
         };
         Ok(Some(T::deserialize(alloc, at, walk)?))
     }
+}
+
+/// Where the value of the last of these entries stands whose key is this name.
+#[inline(always)]
+fn last_of<'de>(file: File<'de>, entries: Pairs<'de>, name: &str) -> Option<Cursor<'de>>
+    ensures { option_map place_of result
+        ≡ last_named name.now (entry_places file.entry entries.entry) }
+{
+    let mut found = None;
+    let mut rest = entries;
+    'entries: while let Some((position, member, later)) = rest.split() {
+        if is_key(file, position, name) {
+            found = Some(Cursor {
+                file,
+                at: spot_of(member),
+            });
+        }
+        rest = later;
+    }
+    found
 }
 
 /// Pays one for each of so many entries, or nothing where not so many are left.

@@ -77,6 +77,13 @@ pub back_ascend : (front : List (Place × Place)) (e : Place × Place)
     → key_of e ≡ Some t → Ascend back
 back_ascend front e back t h k = ascend_of t.0 back (back_above front e back t h k)
 
+-- an entry among those that ascend has a text as its key
+pub key_in : (front : List (Place × Place)) (e : Place × Place) (back : List (Place × Place))
+    → Ascend (front ++ e ∷ back) → (t : List ℕ × ℕ) × (key_of e ≡ Some t)
+key_in [] e back (t, key, rest) = (t, key)
+key_in (f ∷ front) e back (t, key, rest) =
+    key_in front e back (ascend_of t.0 (front ++ e ∷ back) rest)
+
 front_above : (low : List ℕ) (front rest : List (Place × Place)) → AscendAbove low (front ++ rest)
     → AscendAbove low front
 front_above low [] rest h = tt

@@ -14,3 +14,4 @@ mod Taking
 pub mod OneRefusal
 mod OneValue
 mod Measures
+mod Pricing

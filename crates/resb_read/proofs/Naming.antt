@@ -1,18 +1,24 @@
--- A key is a name exactly where the name stands at its position, with a zero byte behind it.
+-- A key is a name exactly where the name stands at its position, with a zero byte behind it; and
+-- the first bytes of a key order it and a name.
 use Rattle.std.proofs.Common.{ℕ, List, [], ◌∷◌, ◌≡◌, ◌+◌, ◌<◌, ◌==◌, Option, Some, None, Bool, true}
 use Rattle.std.proofs.Common.{false, refl, sym, ◌∙◌, ap, drop, take, if◌then◌else◌, option_map}
 use Rattle.std.proofs.Common.{length, suc, not, cond, nat_eq, arith, length-drop, ◌⊎◌, inl, inr}
-use Rattle.std.proofs.Common.{◌≤◌}
-use Rattle.std.specs.Prelude.{option_and_then}
+use Rattle.std.proofs.Common.{◌≤◌, ◌≢◌}
+use Rattle.std.specs.Prelude.{option_and_then, slice_get}
 use Rattle.std.specs.List.{position_or_len}
 use Rattle.std.specs.Str.{bytes_eq, is_utf8, IsUtf8}
 use Rattle.std.proofs.lemmas.Slice.Eq.{bytes_eq-Decides}
 use Rattle.std.proofs.lemmas.Str.{is_utf8-from_IsUtf8}
-use Rattle.std.proofs.lemmas.Bool.{true≢false, false_from_ne_true, cases_lt}
+use Rattle.std.proofs.lemmas.Bool.{true≢false, false_from_ne_true, cases_lt, eqb-true}
+use Rattle.std.proofs.lemmas.Option.{same_Some, none-some}
+use Rattle.std.specs.Ordering.{nat_cmp, ordering_then}
+use Rattle.std.specs.Cmp.Lexicographic.{slice_cmp}
+use Rattle.std.specs.declared.cmp.Ordering.{Ordering}
+use Rattle.std.specs.declared.cmp.Ordering.TheVariants.{Less, Equal, Greater}
 use Rattle.resb_format.specs.Strings.{before_zero, if_utf8, key_at}
 use Rattle.resb_format.proofs.StringsIn.{ended, not_ended}
 use Rattle.resb_read.specs.Tables.{is_text}
-use Rattle.resb_read.specs.Inner.Naming.{is_ended}
+use Rattle.resb_read.specs.Inner.Naming.{is_ended, is_plain, order_ended}
 
 -- the bytes before the first zero byte are this text
 abbrev is_bytes : List ℕ → Option (List ℕ) → Bool
@@ -102,7 +108,7 @@ text_told name (Some t) u = by (is_utf8 t) refl
     by true h = rw h refl
     by false h = rw h (sym (false_from_ne_true (bytes_eq t name) (other h)))
 
-pub key_told : (keys name tail : List ℕ) (at : ℕ) → IsUtf8 name → tail ≡ drop at keys
+key_told : (keys name tail : List ℕ) (at : ℕ) → IsUtf8 name → tail ≡ drop at keys
     → is_ended tail name ≡ is_text name (option_map (λ s. (s, 0)) (key_at keys at))
 unfolding key_at
 key_told keys name tail at u e =
@@ -121,4 +127,130 @@ past_keys keys name at u h =
     sym (key_told keys name (drop at keys) at u refl)
     ∙ nothing_behind name (drop at keys) (omega (arith, length-drop at keys))
 
-pub ruleset told = (key_told, past_keys)
+-- where no zero byte stands behind a name's length, the name doesn't stand there
+open_told : (xs name : List ℕ) → slice_get xs (length name) ≢ Some 0 → is_ended xs name ≡ false
+open_told [] [] h = refl
+open_told [] (w ∷ ws) h = refl
+open_told (b ∷ bs) [] h = by (b == 0) refl
+  where
+    by : (z : Bool) → (b == 0) ≡ z → (b == 0) ≡ false
+    by true e = absurd (h (ap Some (eqb-true b 0 e)))
+    by false e = e
+open_told (b ∷ bs) (w ∷ ws) h = by (b == 0) (b == w) (open_told bs ws h)
+  where
+    by : (y z : Bool) → is_ended bs ws ≡ false
+        → (if y then false else if z then is_ended bs ws else false) ≡ false
+    by true z later = refl
+    by false true later = later
+    by false false later = refl
+
+-- where one stands there, the name does exactly if it is what stands before
+closed_told : (xs name : List ℕ) → slice_get xs (length name) ≡ Some 0
+    → is_plain (take (length name) xs) name ≡ is_ended xs name
+closed_told [] [] h = absurd (none-some 0 h)
+closed_told [] (w ∷ ws) h = refl
+closed_told (b ∷ bs) [] h = sym (ap (λ n. n == 0) (same_Some b 0 h))
+closed_told (b ∷ bs) (w ∷ ws) h =
+    ap (λ e. if b == 0 then false else if b == w then e else false) (closed_told bs ws h)
+
+pub key_open : (keys name tail : List ℕ) (at : ℕ) → IsUtf8 name → tail ≡ drop at keys
+    → slice_get tail (length name) ≢ Some 0
+    → is_text name (option_map (λ s. (s, 0)) (key_at keys at)) ≡ false
+key_open keys name tail at u e h =
+    sym (key_told keys name tail at u e) ∙ open_told tail name h
+
+pub key_closed : (keys name tail front : List ℕ) (at : ℕ) → IsUtf8 name → tail ≡ drop at keys
+    → slice_get tail (length name) ≡ Some 0 → front ≡ take (length name) tail
+    → is_plain front name ≡ is_text name (option_map (λ s. (s, 0)) (key_at keys at))
+key_closed keys name tail front at u e h f =
+    ap (λ xs. is_plain xs name) f ∙ closed_told tail name h ∙ key_told keys name tail at u e
+
+pub ruleset told = (key_open, key_closed, past_keys)
+
+-- what stands before the first zero byte is nothing, or the first byte and what follows
+starts : (b : ℕ) (bs t : List ℕ) → before_zero (b ∷ bs) ≡ Some t
+    → (((b == 0) ≡ true) × (t ≡ []))
+    ⊎ (((b == 0) ≡ false) × (s : List ℕ) × (t ≡ b ∷ s) × (before_zero bs ≡ Some s))
+starts b bs t h = by (b == 0) refl (before_zero bs) refl
+  where
+    by : (z : Bool) → (b == 0) ≡ z → (o : Option (List ℕ)) → before_zero bs ≡ o
+        → (((b == 0) ≡ true) × (t ≡ []))
+        ⊎ (((b == 0) ≡ false) × (s : List ℕ) × (t ≡ b ∷ s) × (before_zero bs ≡ Some s))
+    by true e o k = inl (e, same_Some t [] (sym h ∙ at_zero b bs e))
+    by false e None k =
+        absurd (none-some t (sym (past_first b bs e ∙ ap (option_map (λ t. b ∷ t)) k) ∙ h))
+    by false e (Some s) k =
+        inr (
+          e,
+          s,
+          same_Some t (b ∷ s) (sym h ∙ past_first b bs e ∙ ap (option_map (λ t. b ∷ t)) k),
+          k,
+        )
+
+-- one byte more than a name has is enough to order the name and a key
+order_front : (name xs t : List ℕ) → before_zero xs ≡ Some t
+    → order_ended name (take (suc (length name)) xs) ≡ slice_cmp nat_cmp name t
+order_front [] [] t h = absurd (none-some t h)
+order_front (w ∷ ws) [] t h = absurd (none-some t h)
+order_front [] (b ∷ bs) t h = by (starts b bs t h)
+  where
+    by : (((b == 0) ≡ true) × (t ≡ []))
+        ⊎ (((b == 0) ≡ false) × (s : List ℕ) × (t ≡ b ∷ s) × (before_zero bs ≡ Some s))
+        → (if b == 0 then Equal else Less) ≡ slice_cmp nat_cmp [] t
+    by (inl (e, is)) =
+        ap (λ z. if z then Equal else Less) e ∙ sym (ap (slice_cmp nat_cmp []) is)
+    by (inr (e, s, is, k)) =
+        ap (λ z. if z then Equal else Less) e ∙ sym (ap (slice_cmp nat_cmp []) is)
+order_front (w ∷ ws) (b ∷ bs) t h = by (order_front ws bs) (starts b bs t h)
+  where
+    later : Ordering
+    later = ordering_then (nat_cmp w b) (order_ended ws (take (suc (length ws)) bs))
+
+    by : ((s : List ℕ) → before_zero bs ≡ Some s
+        → order_ended ws (take (suc (length ws)) bs) ≡ slice_cmp nat_cmp ws s)
+        → (((b == 0) ≡ true) × (t ≡ []))
+        ⊎ (((b == 0) ≡ false) × (s : List ℕ) × (t ≡ b ∷ s) × (before_zero bs ≡ Some s))
+        → (if b == 0 then Greater else later) ≡ slice_cmp nat_cmp (w ∷ ws) t
+    by each (inl (e, is)) =
+        ap (λ z. if z then Greater else later) e ∙ sym (ap (slice_cmp nat_cmp (w ∷ ws)) is)
+    by each (inr (e, s, is, k)) =
+        ap (λ z. if z then Greater else later) e
+        ∙ ap (ordering_then (nat_cmp w b)) (each s k)
+        ∙ sym (ap (slice_cmp nat_cmp (w ∷ ws)) is)
+
+bytes_of_text : (o : Option (List ℕ)) (t : List ℕ) → option_and_then if_utf8 o ≡ Some t
+    → o ≡ Some t
+bytes_of_text None t h = h
+bytes_of_text (Some s) t h = by (is_utf8 s) refl
+  where
+    by : (z : Bool) → is_utf8 s ≡ z → Some s ≡ Some t
+    by true e = sym (ap (λ z. if z then Some s else None) e) ∙ h
+    by false e = absurd (none-some t (sym (ap (λ z. if z then Some s else None) e) ∙ h))
+
+pub key_ordered : (keys name tail front : List ℕ) (at : ℕ) → tail ≡ drop at keys
+    → front ≡ take (length name + 1) tail → (t : List ℕ) → key_at keys at ≡ Some t
+    → order_ended name front ≡ slice_cmp nat_cmp name t
+unfolding key_at
+key_ordered keys name tail front at e f t h =
+    let many : length name + 1 ≡ suc (length name) = omega arith in
+    let cut : front ≡ take (suc (length name)) (drop at keys) =
+    f ∙ ap (λ n. take n tail) many ∙ ap (take (suc (length name))) e in
+    ap (order_ended name) cut
+    ∙ order_front name (drop at keys) t (bytes_of_text (before_zero (drop at keys)) t h)
+
+pub none_past : (keys : List ℕ) (at : ℕ) → length keys < at → (t : List ℕ)
+    → key_at keys at ≡ Some t → ⊥
+unfolding key_at
+none_past keys at l t h =
+    none_in (drop at keys) (omega (arith, length-drop at keys))
+    (bytes_of_text (before_zero (drop at keys)) t h)
+  where
+    none_in : (xs : List ℕ) → length xs ≡ 0 → before_zero xs ≡ Some t → ⊥
+    none_in [] m k = none-some t k
+    none_in (x ∷ xs) m k = omega (arith, m)
+
+-- the text of a key that is there
+pub text_there : (o : Option (List ℕ)) (t : List ℕ × ℕ) → option_map (λ s. (s, 0)) o ≡ Some t
+    → o ≡ Some t.0
+text_there None t h = absurd (none-some t h)
+text_there (Some s) t h = ap (λ p. Some p.0) (same_Some (s, 0) t h)

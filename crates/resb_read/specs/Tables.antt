@@ -4,12 +4,14 @@
 --     IsLastNamed name es p   the same as a relation; `LastOfAName` says that the two agree
 --     Ascend es               each key is a text, and above the one before
 --     ascend es               the same as a test; `AscendIsTold` says that the two agree
+--     price_of es             what is paid before all keys are read
 --     ReadsFound, CountsFound, RefusesFound
 --                             what is read of a value that may be missing
 --     RefusesTable p left left' e
 --                             why no table is read at a place
 use Rattle.std.specs.Prelude.{ℕ, List, [], ◌∷◌, ◌++◌, Bool, true, false, Option, Some, None, length}
-use Rattle.std.specs.Prelude.{◌≡◌, ◌<◌, ◌+◌, ◌⊎◌, ◌↔◌, if◌then◌else◌}
+use Rattle.std.specs.Prelude.{◌≡◌, ◌<◌, ◌+◌, ◌/◌, ◌==◌, ◌⊎◌, ◌↔◌, drop, if◌then◌else◌}
+use Rattle.std.specs.List.{position_or_len}
 use Rattle.std.specs.Str.{bytes_eq}
 use Rattle.std.specs.Ordering.{nat_cmp, is_lt}
 use Rattle.std.specs.Cmp.Lexicographic.{slice_cmp}
@@ -21,6 +23,8 @@ use Rattle.resb_read.specs.Leaves.{key_from, ReadsKey}
 use Rattle.resb_read.specs.Refusing.{RefusesThere, RefusesEntries}
 use Rattle.resb_read.specs.Sequences.{entries}
 use Rattle.resb_read.specs.Inner.Items.{entry_places}
+use Rattle.resb_read.specs.declared.cursor.Spot.{Spot}
+use Rattle.resb_read.specs.declared.cursor.Spot.TheVariants as spot
 use Rattle.resb_read.specs.declared.tables.TableView.{TableView}
 
 -- the places of a table's keys and values
@@ -119,6 +123,18 @@ ascend (e ∷ es) = ascend_from (key_of e) es
 -- the test is true exactly where the keys ascend
 abbrev pub AscendIsTold : Type 0
 AscendIsTold = (es : List (Place × Place)) → (ascend es ≡ true) ↔ Ascend es
+
+-- how many bytes stand from a key's place to the next zero byte, or to the key block's end
+abbrev pub size_at : List ℕ → Spot → ℕ
+size_at keys (spot.Key k) = position_or_len (λ b. b == 0) (drop k keys)
+size_at keys (spot.Descriptor w) = 0
+size_at keys (spot.Unit u) = 0
+size_at keys (spot.Word w) = 0
+
+-- what is paid before all keys of entries are read: of each, one for each 16 of its bytes
+abbrev pub price_of : List (Place × Place) → ℕ
+price_of [] = 0
+price_of (e ∷ es) = size_at e.0.parts.keys e.0.at / 16 + price_of es
 
 -- there is no place and no value, which costs nothing; or the value is read at the place
 abbrev pub ReadsFound : {X : Type 0} → (Place → X → ℕ → Type 0) → Option Place → Option X → ℕ

@@ -10,6 +10,7 @@ mod faults;
 mod given;
 pub mod helpers;
 mod items;
+mod keys;
 pub mod laws;
 mod lists;
 mod maps;

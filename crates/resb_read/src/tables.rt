@@ -2,22 +2,19 @@
 //! Its entries one after another are in `entries`; a table whose keys ascend is in `sorted`.
 ghost use Rattle.std.specs.Prelude.{◌≡◌, ◌≤◌, ◌<◌, ◌+◌, ◌⊎◌, ℕ, Some, None, length, option_map};
 ghost use Rattle.std.specs.Prelude.{MatchResult, IfOk, IfErr};
-ghost use Rattle.resb_walk.specs.Files.{parts_in};
 ghost use Rattle.resb_walk.specs.Refusals.{IsSpent};
 ghost use Rattle.resb_read.specs.Places.{place_of};
 ghost use Rattle.resb_read.specs.Sequences as sequences;
-ghost use Rattle.resb_read.specs.Leaves.{key_from};
-ghost use Rattle.resb_read.specs.declared.cursor.Spot.TheVariants as spot;
-ghost use Rattle.resb_read.specs.Tables.{entries_of, is_text, last_named, RefusesTable};
+ghost use Rattle.resb_read.specs.Inner.Items.{entry_places};
+ghost use Rattle.resb_read.specs.Tables.{entries_of, last_named, RefusesTable};
 ghost use Rattle.resb_read.specs.Tables.{ReadsFound, RefusesFound};
-ghost use Rattle.resb_read.specs.Inner.Naming.{is_ended};
 
-use crate::cursor::{Cursor, Spot};
+use crate::cursor::Cursor;
 use crate::deserialize::Deserialize;
 use crate::items::spot_of;
-use resb_format::bytes::cut_at;
+use crate::keys::is_key;
 use resb_format::{BinaryDeserializerError, ReadingError};
-use resb_walk::{File, Pairs, Walk};
+use resb_walk::{File, Members, Pairs, Positions, Walk};
 use std::alloc::Global;
 
 /// A table that stands in a file, with one paid of the budget for each of its entries.
@@ -41,18 +38,17 @@ impl<'de> TableView<'de> {
     pub fn get(&self, name: &str) -> Option<Cursor<'de>>
         ensures { option_map place_of result ≡ last_named name.now (entries_of self.now) }
     {
-        let mut found = None;
-        let mut rest = self.entries;
-        'entries: while let Some((position, member, later)) = rest.split() {
-            if is_key(self.file, position, name) {
-                found = Some(Cursor {
-                    file: self.file,
-                    at: spot_of(member),
-                });
+        match (self.entries.keys, self.entries.members) {
+            // Most tables are so: then the search goes by these two alone.
+            (Positions::Halves(keys), Members::Words(members)) => {
+                let entries = Pairs {
+                    keys: Positions::Halves(keys),
+                    members: Members::Words(members),
+                };
+                last_of(self.file, entries, name)
             }
-            rest = later;
+            _ => last_of(self.file, self.entries, name),
         }
-        found
     }
 
     /// Reads the value of the last entry whose key is this name, if there is one.
@@ -74,37 +70,24 @@ impl<'de> TableView<'de> {
     }
 }
 
-/// Whether the key at a position is this name.
-#[tactic(auto, using(crate::proofs::Naming::told))]
-fn is_key(file: File<'_>, position: usize, name: &str) -> bool
-    ensures { result ≡ is_text name.now (key_from (parts_in file.entry) (spot.Key position)) }
+/// Where the value of the last of these entries stands whose key is this name.
+#[inline(always)]
+fn last_of<'de>(file: File<'de>, entries: Pairs<'de>, name: &str) -> Option<Cursor<'de>>
+    ensures { option_map place_of result
+        ≡ last_named name.now (entry_places file.entry entries.entry) }
 {
-    match cut_at(file.keys, position) {
-        Some((_, tail)) => begins_with(tail, name.as_bytes()),
-        None => false,
-    }
-}
-
-/// Whether the bytes begin with these, none of them zero, and a zero byte behind them.
-fn begins_with(bytes: &[u8], wanted: &[u8]) -> bool
-    ensures { result ≡ is_ended bytes.entry.now wanted.entry.now }
-{
-    let mut rest = bytes;
-    let mut left = wanted;
-    'bytes: while let Some((first, later)) = left.split_first() {
-        let Some((byte, behind)) = rest.split_first() else {
-            return false;
-        };
-        if *byte == 0 || *byte != *first {
-            return false;
+    let mut found = None;
+    let mut rest = entries;
+    'entries: while let Some((position, member, later)) = rest.split() {
+        if is_key(file, position, name) {
+            found = Some(Cursor {
+                file,
+                at: spot_of(member),
+            });
         }
-        rest = behind;
-        left = later;
+        rest = later;
     }
-    match rest.first() {
-        Some(byte) => *byte == 0,
-        None => false,
-    }
+    found
 }
 
 /// Pays one for each of so many entries, or nothing where not so many are left.

@@ -13,6 +13,7 @@ pub mod Checking
 pub mod Names
 pub mod Leading
 pub mod Info
+pub mod Reading
 pub use Rattle.resb.specs.Leaves
 pub use Rattle.resb.specs.Others
 pub use Rattle.resb.specs.Places

@@ -81,6 +81,15 @@ impl<'de> Record<'de, ZoneFields<'de>> for ZoneData<'de> {
     }
 }
 
+/// The types of the values of a file's root: its version, names, zones, rules and regions.
+pub type InfoFields<'de> = (
+    String,
+    Vec<Utf16View<'de>>,
+    Vec<Linked<Table<ZoneData<'de>, ZoneFields<'de>>>>,
+    BTreeMap<&'de str, I32View<'de>>,
+    Vec<Utf16View<'de>>,
+);
+
 /// The whole file: its zones by number, and their names, rules and regions. Each is the value of a
 /// key of the file's root, `TZVersion`, `Names`, `Zones`, `Rules` and `Regions`.
 #[derive(Drop)]

@@ -12,12 +12,13 @@ mod info;
 mod linked;
 mod names;
 mod numbers;
+mod reading;
 mod rule;
 mod transitions;
 mod zone;
 
 pub use checking::ZoneError;
-pub use data::{ZoneData, ZoneFields, ZoneInfo};
+pub use data::{InfoFields, ZoneData, ZoneFields, ZoneInfo};
 pub use day::RuleDay;
 pub use edge::{Clock, Edge};
 pub use linked::Linked;

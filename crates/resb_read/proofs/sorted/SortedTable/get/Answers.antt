@@ -1,11 +1,14 @@
-use Rattle.std.proofs.Common.{ℕ, Some, refl, sym, ap, ◌∙◌, option_map}
+use Rattle.std.proofs.Common.{ℕ, Some, refl, sym, ap, subst, ◌∙◌}
 use Rattle.resb_walk.specs.Files.{parts_in}
 use Rattle.resb_walk.specs.Inner.Members.{keyed_members, member_of}
 use Rattle.resb_format.specs.Content.{Member}
 use Rattle.resb_read.specs.Sequences.{at_entry, at_spot}
 use Rattle.resb_read.specs.Inner.Items.{entry_places}
-use Rattle.resb_read.specs.Tables.{entries_of, last_named}
-use Rattle.resb_read.proofs.Ascending.{sound, window_is, half_less, half_greater, half_equal}
+use Rattle.resb_read.specs.Tables.{entries_of, last_named, Ascend}
+use Rattle.resb_read.proofs.Ascending.{sound, window_is, key_in, half_less, half_greater}
+use Rattle.resb_read.proofs.Ascending.{half_equal}
+use Rattle.resb_read.proofs.Naming.{text_there}
+use Rattle.resb_format.specs.Strings.{key_at}
 use Rattle.resb_read.proofs.sorted.SortedTable.get.Goals as goal
 
 pub halves-init : goal.halves-init
@@ -20,12 +23,15 @@ returns-in-Equal c =
     let later = keyed_members c.in-Some-split.later in
     let is = window_is (at_entry (parts_in file)) (keyed_members c.halves.window) front
     (keyed_members c.in-Some.back) later e c.in-Some.ensures.all c.in-Some-split.ensures in
+    let (t, key) = key_in (entry_places file c.in-Some.front) (at_entry (parts_in file) e)
+    (entry_places file c.in-Some-split.later) (subst Ascend is c.halves.invariant.0) in
     ap (λ s. Some (at_spot (parts_in file) s)) c.spot_of.ensures
     ∙ half_equal name (last_named name (entries_of c.args.self.now.table))
     (entry_places file c.halves.window) (entry_places file c.in-Some.front)
-    (entry_places file c.in-Some-split.later) (at_entry (parts_in file) e) (c.in-Ok.key.now, 0) is
-    c.halves.invariant (ap (option_map (λ s. (s, 0))) c.in-Ok.ensures.stands)
-    (sym c.cmp.ensures ∙ c.in-Equal.is)
+    (entry_places file c.in-Some-split.later) (at_entry (parts_in file) e) t is
+    c.halves.invariant key
+    (sym (c.order_of.ensures t.0 (text_there (key_at file.keys.now c.in-Some-split.position) t key))
+    ∙ c.in-Equal.is)
 
 pub halves-preserved-in-Less : goal.halves-preserved-in-Less
 halves-preserved-in-Less c =
@@ -36,11 +42,14 @@ halves-preserved-in-Less c =
     let later = keyed_members c.in-Some-split.later in
     let is = window_is (at_entry (parts_in file)) (keyed_members c.halves.window) front
     (keyed_members c.in-Some.back) later e c.in-Some.ensures.all c.in-Some-split.ensures in
+    let (t, key) = key_in (entry_places file c.in-Some.front) (at_entry (parts_in file) e)
+    (entry_places file c.in-Some-split.later) (subst Ascend is c.halves.invariant.0) in
     half_less name (last_named name (entries_of c.args.self.now.table))
     (entry_places file c.halves.window) (entry_places file c.in-Some.front)
-    (entry_places file c.in-Some-split.later) (at_entry (parts_in file) e) (c.in-Ok.key.now, 0) is
-    c.halves.invariant (ap (option_map (λ s. (s, 0))) c.in-Ok.ensures.stands)
-    (sym c.cmp.ensures ∙ c.in-Less.is)
+    (entry_places file c.in-Some-split.later) (at_entry (parts_in file) e) t is
+    c.halves.invariant key
+    (sym (c.order_of.ensures t.0 (text_there (key_at file.keys.now c.in-Some-split.position) t key))
+    ∙ c.in-Less.is)
 
 pub halves-preserved : goal.halves-preserved
 halves-preserved c =
@@ -51,8 +60,11 @@ halves-preserved c =
     let later = keyed_members c.in-Some-split.later in
     let is = window_is (at_entry (parts_in file)) (keyed_members c.halves.window) front
     (keyed_members c.in-Some.back) later e c.in-Some.ensures.all c.in-Some-split.ensures in
+    let (t, key) = key_in (entry_places file c.in-Some.front) (at_entry (parts_in file) e)
+    (entry_places file c.in-Some-split.later) (subst Ascend is c.halves.invariant.0) in
     half_greater name (last_named name (entries_of c.args.self.now.table))
     (entry_places file c.halves.window) (entry_places file c.in-Some.front)
-    (entry_places file c.in-Some-split.later) (at_entry (parts_in file) e) (c.in-Ok.key.now, 0) is
-    c.halves.invariant (ap (option_map (λ s. (s, 0))) c.in-Ok.ensures.stands)
-    (sym c.cmp.ensures ∙ c.in-Greater.is)
+    (entry_places file c.in-Some-split.later) (at_entry (parts_in file) e) t is
+    c.halves.invariant key
+    (sym (c.order_of.ensures t.0 (text_there (key_at file.keys.now c.in-Some-split.position) t key))
+    ∙ c.in-Greater.is)

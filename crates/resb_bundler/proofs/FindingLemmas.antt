@@ -34,14 +34,16 @@ written (b ∷ bs) h l =
 not_written : (bs : List ℕ) → (IsNumeral 10 bs × (digits_value 10 bs < 2 ^ 64) → ⊥)
     → number_written bs ≡ None
 not_written [] h = refl
-not_written (b ∷ bs) h = by (are_digits (b ∷ bs)) (nat_lt (digits_value 10 (b ∷ bs)) (2 ^ 64)) refl refl
+not_written (b ∷ bs) h =
+    by (are_digits (b ∷ bs)) (nat_lt (digits_value 10 (b ∷ bs)) (2 ^ 64)) refl refl
   where
     v : ℕ
     v = digits_value 10 (b ∷ bs)
 
     by : (s t : Bool) → are_digits (b ∷ bs) ≡ s → nat_lt v (2 ^ 64) ≡ t
         → cond (s && t) (Some v) None ≡ None
-    by true true e f = absurd (h ((omega arith, tested_digits (b ∷ bs) e), (Decides-ltb v (2 ^ 64)).0 f))
+    by true true e f =
+        absurd (h ((omega arith, tested_digits (b ∷ bs) e), (Decides-ltb v (2 ^ 64)).0 f))
     by true false e f = refl
     by false t e f = refl
 

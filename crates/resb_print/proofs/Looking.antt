@@ -181,7 +181,8 @@ goes_member ls ms ks path next n t ts b e f d =
     let here = path ++ by_number n ∷ [] in
     let more = ls ++ member_look (suc n) ts ∷ [] in
     record {
-      met = λ h later. d.met h here (member_path_else path (suc n) ts (later path)) ∙ ap Some (sym e);
+      met = λ h later. d.met h here (member_path_else path (suc n) ts (later path))
+          ∙ ap Some (sym e);
       passed = λ h. ap (looks_path ks) e ∙ d.passed h here
           ∙ ap (λ m. path_else here t (looks_path m here)) f
           ∙ ap (path_else here t) (leaving more path (by_number n))

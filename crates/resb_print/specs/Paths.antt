@@ -1,5 +1,5 @@
--- Where the first cause stands that keeps a bundle from having a text: the keys and numbers that lead
--- there from the root.
+-- Where the first cause stands that keeps a bundle from having a text: the keys and numbers that
+-- lead there from the root.
 use Rattle.std.specs.Prelude.{ℕ, suc, List, [], ◌∷◌, ◌++◌, Option, Some, None}
 use Rattle.std.specs.Prelude.{if◌then◌else◌}
 use Rattle.resb_tree.specs.Tree.{Tree, string, array, table, binary, integer, int_vector, Trees}

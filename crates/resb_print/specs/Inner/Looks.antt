@@ -80,11 +80,11 @@ pub record Enters (before after : List Look) (t : Tree) (found : Bool) : Type 0 
   pub fewer : looks_turns after + 2 ≤ looks_turns before + 3 * tree_count t
 
 -- a look finds the cause, whose path stands then, or leaves what is still to be looked at
-pub record Goes (before after : List Look) (path next : List Step) (l : Look) (found : Bool) : Type 0
-  where
-    pub met : found ≡ true → (later : Finding) → look_path l later path ≡ Some next
-    pub passed : found ≡ false → looks_path after next ≡ look_path l (looks_path before) path
-    pub fewer : found ≡ false → looks_turns after < looks_turns before + look_turns l
+pub record Goes (before after : List Look) (path next : List Step) (l : Look) (found : Bool)
+    : Type 0 where
+  pub met : found ≡ true → (later : Finding) → look_path l later path ≡ Some next
+  pub passed : found ≡ false → looks_path after next ≡ look_path l (looks_path before) path
+  pub fewer : found ≡ false → looks_turns after < looks_turns before + look_turns l
 
 -- the looks at the entries of a table
 abbrev pub entry_looks : List (List ℕ × Tree) → List Look

@@ -5,4 +5,5 @@ use Rattle.resb_bundler.proofs.path.value_of.Given as goal
 
 abbrev pub invariant-loop-key : goal.invariant-loop-key
 invariant-loop-key l =
-    value_named l.name (entries_view l.key-iterator) ≡ value_named l.name (entries_view l.entries.entries)
+    value_named l.name (entries_view l.key-iterator)
+    ≡ value_named l.name (entries_view l.entries.entries)

@@ -89,6 +89,45 @@ told 1 '' $'end.txt:1:4: expected the end of the text\nb{}c\n   ^' compile end.t
 printf '{}' > string.txt
 told 1 '' $'string.txt:1:1: expected a string\n{}\n^' compile string.txt
 
+# each message of the page GRAMMAR by a text that shows it, on its third line: column, message, text
+while IFS=@ read -r column message text; do
+  printf '\n\n%s' "$text" > case.txt
+  (exec -a resb "$program" compile case.txt) > out 2> err
+  if [ "$?" = 1 ] && [ "$(head -n 1 err)" = "case.txt:3:$column: expected $message" ]; then
+    passed=$((passed + 1))
+  else
+    failed=$((failed + 1))
+    printf '%s: ' "$text"
+    head -n 1 err
+  fi
+done << 'END'
+1@a string@
+12@a string@b{a:string{}}
+5@a string@b{a{"x
+3@'{'@b x
+6@'{'@b{"x"}
+9@'{'@b:table (nofallback){}
+2@'}' before the text ends inside this@b{
+11@'}'@b{a:int{1 2}}
+15@'}'@b{v:intvector{x}}
+16@'}'@b{v:intvector{,1}}
+17@'}'@b{v:intvector{1 2}}
+17@'}'@b{v:intvector{1,,}}
+4@a type@b{a:import{"x"}}
+4@a type@b{a: int{1}}
+2@a type@b:array{}
+9@a number@b{i:int{x}}
+9@a number@b{i:int{4294967296}}
+9@pairs of hex digits@b{d:bin{"0"}}
+9@pairs of hex digits@b{d:bin{"00 ff"}}
+5@a resource@b{a{,}}
+9@a resource@b{a{"x",,}}
+4@the end of the text@b{}x
+4@the end of the text@b{}/*
+END
+printf 'b{"k\0"{"x"}}' > nul.txt
+told 1 '' 'nul.txt: Unexpected error: key contains U+0000' compile nul.txt
+
 # warnings change nothing
 printf 'b{a{"x\\y"}a{"z"}l:array{"p" "q"}}' > warned.txt
 told 0 '' "warned.txt:1:7: warning: this backslash is a character here, and an escape for genrb
@@ -105,6 +144,26 @@ told 2 '' 'resb: --output is for one text; --directory is for several' \
   compile names.txt again.txt -o x.res
 told 1 '' 'names.txt: Invalid resource bundle data: magic word does not match' check names.txt
 [ -z "$(ls ./*.part 2> /dev/null)" ] && passed=$((passed + 1)) || failed=$((failed + 1))
+
+# a tree may be asked to take no more bytes than a limit
+told 0 'hello' '' get names.res hi --limit 100000
+told 1 '' 'names.res: Invalid resource bundle data: tree larger than the limit' \
+  get names.res hi --limit 10
+told 1 '' 'names.res: Invalid resource bundle data: tree larger than the limit' \
+  dump --limit 10 names.res
+told 2 '' 'resb: --limit is a number of bytes' dump --limit ten names.res
+
+# where no text holds a string, the path to it is said
+printf 'b{zones{Pole{list{"first","other"} note{"plain"}}}}' > path.txt
+told 0 '' '' compile path.txt
+python3 - << 'END'
+data = open("path.res", "rb").read()
+old, new = "other".encode("utf-16-le"), 'oth"r'.encode("utf-16-le")
+open("path.res", "wb").write(data.replace(old, new))
+END
+told 0 '{"zones":{"Pole":{"list":["first","oth\"r"],"note":"plain"}}}' \
+  "path.res: this has no text, since a string holds a '\"' at zones/Pole/list/1; here is its JSON" \
+  dump path.res
 
 # files of other forms are refused by name
 python3 - << 'END'

@@ -119,4 +119,5 @@ def main():
     print('%d texts: no difference' % len(texts))
 
 
-main()
+if __name__ == '__main__':
+    main()

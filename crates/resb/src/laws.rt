@@ -39,6 +39,8 @@ pub use resb_text::laws::within_is_never_more;
 pub use resb_print::laws::printed_is_a_bundle;
 // Nothing stands in the way of a bundle text's tree.
 pub use resb_print::laws::a_bundle_gives_no_cause;
+// A bundle has a path to its first cause exactly where it has a cause.
+pub use resb_print::laws::causes_have_paths;
 
 // Files.
 

@@ -2,6 +2,7 @@
 use Rattle.std.specs.Prelude.{◌≡◌, ℕ, List, true, Result, Ok, Err}
 use Rattle.resb_tree.specs.declared.resource.Resource.{Resource}
 use Rattle.resb_read.specs.Roots.{TreeOf, CountOf}
+use Rattle.resb_read.specs.Measuring.{TreeWithin}
 use Rattle.resb_bundler.specs.Summary.{Summarizes}
 use Rattle.resb_bundler.specs.declared.summary.Summary.{Summary}
 use Rattle.resb_bundler.specs.declared.error.FileError.{FileError}
@@ -22,3 +23,9 @@ abbrev pub ReadsOwn : List ℕ → Result Resource FileError → Type 0
 ReadsOwn bytes (Ok r) = TreeOf bytes (Ok r)
 ReadsOwn bytes (Err UsesPool) = HasNoKeys bytes
 ReadsOwn bytes (Err (Reading e)) = TreeOf bytes (Err e)
+
+-- the same of a tree that may take no more bytes than a limit
+abbrev pub ReadsOwnWithin : List ℕ → ℕ → Result Resource FileError → Type 0
+ReadsOwnWithin bytes limit (Ok r) = TreeWithin bytes limit (Ok r)
+ReadsOwnWithin bytes limit (Err UsesPool) = HasNoKeys bytes
+ReadsOwnWithin bytes limit (Err (Reading e)) = TreeWithin bytes limit (Err e)

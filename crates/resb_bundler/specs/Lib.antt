@@ -2,4 +2,5 @@
 pub mod Summary
 pub mod Sources
 pub mod Json
+pub mod Finding
 pub mod Files

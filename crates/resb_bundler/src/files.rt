@@ -1,11 +1,11 @@
 //! The tree of a file that has its own keys, and how many resources it has.
 //! What the file's head says is in `summary`.
 ghost use Rattle.std.specs.Prelude.{◌≡◌, IfErr};
-ghost use Rattle.resb_bundler.specs.Files.{HasNoKeys, CountsOwn, ReadsOwn};
+ghost use Rattle.resb_bundler.specs.Files.{HasNoKeys, CountsOwn, ReadsOwn, ReadsOwnWithin};
 
 use crate::error::FileError;
 use crate::summary::summary_of;
-use resb::binary::{count_resources, tree_from_bytes};
+use resb::binary::{count_resources, tree_from_bytes, tree_from_bytes_within};
 use resb::bundle::Resource;
 use std::alloc::Global;
 
@@ -37,6 +37,22 @@ pub fn read_file<'a>(alloc: Global, file: &'a [u8]) -> Result<Resource<'a>, File
 {
     check_keys(file)?;
     match tree_from_bytes(alloc, file) {
+        Ok(tree) => Ok(tree),
+        Err(e) => Err(FileError::Reading(e)),
+    }
+}
+
+/// The tree of a file, where it takes no more bytes than the limit. It is refused before any of it
+/// is made. (`resb::binary::tree_from_bytes_within`.)
+pub fn read_file_within<'a>(
+    alloc: Global,
+    file: &'a [u8],
+    limit: u64,
+) -> Result<Resource<'a>, FileError>
+    ensures { ReadsOwnWithin file.now limit result }
+{
+    check_keys(file)?;
+    match tree_from_bytes_within(alloc, file, limit) {
         Ok(tree) => Ok(tree),
         Err(e) => Err(FileError::Reading(e)),
     }

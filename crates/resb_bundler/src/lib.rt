@@ -11,7 +11,7 @@ mod summary;
 
 pub use compiling::{Blame, compile_source, where_to_look};
 pub use error::{FileError, SourceError};
-pub use files::{count_file, read_file};
+pub use files::{count_file, read_file, read_file_within};
 pub use json::{JsonError, json_text};
 pub use path::{Found, find};
 pub use summary::{Summary, summary_of};

@@ -1,5 +1,6 @@
 //! The command `compile`: each text to a file of its own.
 //! What a text's file is, and why it has none, is in `resb_bundler`.
+use crate::progress::Progress;
 use crate::say::{complain, refuse, warn};
 use crate::streams::{is_same_file, read_input, write_output};
 use clap::ArgMatches;
@@ -20,9 +21,12 @@ pub(crate) fn compile(rt: &HostRuntime, matches: &ArgMatches<'_>) -> u8 {
         );
         return 2;
     }
+    let mut progress = Progress::new(rt, texts.len());
     for text in texts.iter().copied() {
         status = status.max(compile_one(rt, text, output, folder));
+        progress.one_more(rt);
     }
+    progress.end(rt);
     status
 }
 

@@ -3,6 +3,7 @@
 #![tactic(auto)]
 
 mod compile;
+mod progress;
 mod say;
 mod show;
 mod streams;

@@ -1,7 +1,10 @@
 //! What is said on standard error: the place, the cause, the line round it, and warnings.
 //! What the causes are called is theirs to print.
+use resb::bundle::ResourceBundle;
+use resb::text::{PathStep, PrintError, cause_path};
 use resb_bundler::{Blame, SourceError, where_to_look};
 use resb_report::{Reason, location_of, pointed_line, warnings};
+use std::alloc::{AllocError, Global};
 
 /// The most warnings that are said of one text.
 const MOST_WARNINGS: usize = 20;
@@ -9,6 +12,41 @@ const MOST_WARNINGS: usize = 20;
 /// Says one line.
 pub(crate) fn complain<R: Eprint>(rt: &R, name: &str, cause: &str) {
     let _ = eprintln!(rt; "{name}: {cause}");
+}
+
+/// Says why a bundle has no text, and the path to the cause, if that is inside it.
+pub(crate) fn say_no_text<R: Eprint + AllocGlobal>(
+    rt: &R,
+    name: &str,
+    bundle: &ResourceBundle<'_>,
+    cause: PrintError,
+) {
+    let at = match cause_path(rt.alloc(), bundle) {
+        Ok(Some(path)) => path_text(rt.alloc(), path.as_slice()).ok(),
+        _ => None,
+    };
+    let _ = match at {
+        Some(at) if !at.is_empty() => {
+            let at = at.as_str();
+            eprintln!(rt; "{name}: this has no text, since {cause} at {at}; here is its JSON")
+        }
+        _ => eprintln!(rt; "{name}: this has no text, since {cause}; here is its JSON"),
+    };
+}
+
+/// The keys and numbers of a path, with a slash between two of them.
+fn path_text(alloc: Global, path: &[PathStep<'_>]) -> Result<String, AllocError> {
+    let mut text = String::new(alloc);
+    for step in path {
+        if !text.is_empty() {
+            text.push_str("/")?;
+        }
+        match step {
+            PathStep::Key(key) => text.push_str(key)?,
+            PathStep::Member(number) => write!(text, "{number}")?,
+        }
+    }
+    Ok(text)
 }
 
 /// Says why a text is refused, and where.

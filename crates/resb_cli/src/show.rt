@@ -1,21 +1,28 @@
 //! The commands `check`, `dump` and `get`: what is said of a file, and what is shown of it.
 //! What a file is, and why it isn't read, is in `resb_bundler`.
-use crate::say::complain;
+use crate::progress::Progress;
+use crate::say::{complain, say_no_text};
 use crate::streams::{read_input, write_output};
 use clap::ArgMatches;
 use resb::binary::FormatVersion;
 use resb::bundle::{Resource, ResourceBundle};
 use resb::text::{PrintError, print_text};
-use resb_bundler::{Found, JsonError, Summary, count_file, find, json_text, read_file, summary_of};
+use resb_bundler::{
+    Found, JsonError, Summary, count_file, find, json_text, read_file, read_file_within, summary_of,
+};
 use std::borrow::CowStr;
 use std::path::Path;
 
 /// Says of each file what it is, a line each.
 pub(crate) fn check(rt: &HostRuntime, matches: &ArgMatches<'_>) -> u8 {
     let mut status = 0;
-    for name in matches.get_strs("FILE").unwrap_or(&[]).iter().copied() {
+    let names = matches.get_strs("FILE").unwrap_or(&[]);
+    let mut progress = Progress::new(rt, names.len());
+    for name in names.iter().copied() {
         status = status.max(check_one(rt, name));
+        progress.one_more(rt);
     }
+    progress.end(rt);
     status
 }
 
@@ -85,24 +92,58 @@ fn say_summary(rt: &HostRuntime, name: &str, count: usize, summary: &Summary) ->
     }
 }
 
+/// The most bytes that a tree may take, if the words say it; or the status, once it is said that
+/// they say no number.
+fn limit(rt: &HostRuntime, matches: &ArgMatches<'_>) -> Result<Option<u64>, u8> {
+    match matches.get_str("BYTES") {
+        None => Ok(None),
+        Some(text) => match text.parse::<u64>() {
+            Ok(limit) => Ok(Some(limit)),
+            Err(_) => {
+                complain(rt, "resb", "--limit is a number of bytes");
+                Err(2)
+            }
+        },
+    }
+}
+
+/// The tree of a file, or the status, once it is said why there is none.
+fn tree<'f>(
+    rt: &HostRuntime,
+    name: &str,
+    file: &'f [u8],
+    limit: Option<u64>,
+) -> Result<Resource<'f>, u8> {
+    let read = match limit {
+        Some(limit) => read_file_within(rt.alloc(), file, limit),
+        None => read_file(rt.alloc(), file),
+    };
+    read.map_err(|e| {
+        let _ = eprintln!(rt; "{name}: {e}");
+        1
+    })
+}
+
+/// The status of what was done, or of what kept it from being done.
+fn settled(answer: Result<u8, u8>) -> u8 {
+    match answer {
+        Ok(status) | Err(status) => status,
+    }
+}
+
 /// Prints a file's text, or its JSON where it has none.
 pub(crate) fn dump(rt: &HostRuntime, matches: &ArgMatches<'_>) -> u8 {
-    let Some(name) = matches.get_str("FILE") else {
-        return 2;
-    };
-    let file = match input(rt, name) {
-        Ok(file) => file,
-        Err(status) => return status,
-    };
-    let tree = match read_file(rt.alloc(), file.as_slice()) {
-        Ok(tree) => tree,
-        Err(e) => {
-            let _ = eprintln!(rt; "{name}: {e}");
-            return 1;
-        }
-    };
+    settled(dump_file(rt, matches))
+}
+
+/// The same: the status, or that of a file without a tree.
+fn dump_file(rt: &HostRuntime, matches: &ArgMatches<'_>) -> Result<u8, u8> {
+    let name = matches.get_str("FILE").ok_or(2)?;
+    let limit = limit(rt, matches)?;
+    let file = input(rt, name)?;
+    let tree = tree(rt, name, file.as_slice(), limit)?;
     if matches.get_flag("json") {
-        return show_json(rt, name, &tree);
+        return Ok(show_json(rt, name, &tree));
     }
     let has_fallback = match summary_of(file.as_slice()) {
         Ok(summary) => summary.has_fallback,
@@ -111,14 +152,14 @@ pub(crate) fn dump(rt: &HostRuntime, matches: &ArgMatches<'_>) -> u8 {
     let stem = Path::new(name).file_stem().unwrap_or("bundle");
     let bundle_name = if name == "-" { "bundle" } else { stem };
     let bundle = ResourceBundle::new(CowStr::Borrowed(bundle_name), tree, has_fallback);
-    match print_text(rt.alloc(), &bundle) {
+    Ok(match print_text(rt.alloc(), &bundle) {
         Ok(text) => show(rt, text.as_str()),
         Err(PrintError::OutOfMemory) => refuse_memory(rt, name),
         Err(e) => {
-            let _ = eprintln!(rt; "{name}: this has no text, since {e}; here is its JSON");
+            say_no_text(rt, name, &bundle, e);
             show_json(rt, name, bundle.root())
         }
-    }
+    })
 }
 
 /// Prints a resource as JSON, with a line feed.
@@ -142,30 +183,26 @@ fn show_json(rt: &HostRuntime, name: &str, resource: &Resource<'_>) -> u8 {
 
 /// Prints what stands at a path: a string as it is, a number with its sign, all else as JSON.
 pub(crate) fn get(rt: &HostRuntime, matches: &ArgMatches<'_>) -> u8 {
-    let (Some(name), Some(path)) = (matches.get_str("FILE"), matches.get_str("PATH")) else {
-        return 2;
-    };
-    let file = match input(rt, name) {
-        Ok(file) => file,
-        Err(status) => return status,
-    };
-    let tree = match read_file(rt.alloc(), file.as_slice()) {
-        Ok(tree) => tree,
-        Err(e) => {
-            let _ = eprintln!(rt; "{name}: {e}");
-            return 1;
-        }
-    };
+    settled(get_found(rt, matches))
+}
+
+/// The same: the status, or that of a file without a tree.
+fn get_found(rt: &HostRuntime, matches: &ArgMatches<'_>) -> Result<u8, u8> {
+    let name = matches.get_str("FILE").ok_or(2)?;
+    let path = matches.get_str("PATH").ok_or(2)?;
+    let limit = limit(rt, matches)?;
+    let file = input(rt, name)?;
+    let tree = tree(rt, name, file.as_slice(), limit)?;
     let Ok(names) = path.split('/').collect::<Vec<&str>>(rt.alloc()) else {
-        return refuse_memory(rt, name);
+        return Ok(refuse_memory(rt, name));
     };
-    match find(&tree, names.as_slice()) {
+    Ok(match find(&tree, names.as_slice()) {
         None => {
             let _ = eprintln!(rt; "{name}: nothing stands at {path}");
             1
         }
         Some(found) => show_found(rt, name, found),
-    }
+    })
 }
 
 /// Prints what was found.

@@ -65,7 +65,8 @@ fn dump<'a>(alloc: Global) -> Result<Command<'a>, Error> {
             .about("Prints the text of a .res file, or JSON where it has none")
             .after_help("Example: resb dump out/root.res")
             .arg(file(alloc))?
-            .arg(json)?,
+            .arg(json)?
+            .arg(limit(alloc))?,
     )
 }
 
@@ -79,7 +80,15 @@ fn get<'a>(alloc: Global) -> Result<Command<'a>, Error> {
             .about("Prints what stands at a path in a .res file")
             .after_help("Example: resb get out/zones.res zones/Pole/base")
             .arg(file(alloc))?
-            .arg(path)?,
+            .arg(path)?
+            .arg(limit(alloc))?,
+    )
+}
+
+/// The most that a tree may take.
+fn limit<'a>(alloc: Global) -> Arg<'a> {
+    Arg::new(alloc, "BYTES").long("limit").help(
+        "Refuses a file whose tree takes more bytes of memory than this",
     )
 }
 

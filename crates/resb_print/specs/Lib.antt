@@ -2,5 +2,6 @@
 pub mod Printed
 pub mod Held
 pub mod Quotes
+pub mod Paths
 pub mod Laws
 pub mod Inner

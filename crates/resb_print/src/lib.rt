@@ -5,6 +5,7 @@
 mod cause;
 mod error;
 pub mod laws;
+mod path;
 mod pieces;
 mod place;
 mod print;
@@ -13,4 +14,5 @@ mod task;
 
 pub use cause::Cause;
 pub use error::PrintError;
+pub use path::{PathStep, cause_path};
 pub use print::print_text;

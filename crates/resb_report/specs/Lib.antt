@@ -2,3 +2,4 @@
 pub mod Location
 pub mod Braces
 pub mod Excerpt
+pub mod Warnings

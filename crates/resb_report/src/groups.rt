@@ -1,5 +1,8 @@
 //! The groups of a text that are open while warnings are looked for: their keys, and their strings
 //! in a row. Which bytes are strings and braces is found in `warning`.
+ghost use Rattle.std.specs.Prelude.{◌≡◌, All, OnOk};
+ghost use Rattle.resb_report.specs.Warnings.{IsOther};
+
 use crate::warning::{Reason, Warning};
 use indexmap::IndexMap;
 use std::alloc::{AllocError, Global};
@@ -96,7 +99,9 @@ impl<'a> Group<'a> {
     }
 
     /// Adds the warnings of the group, now closed.
-    pub(crate) fn tell(self, alloc: Global, found: &mut Vec<Warning>) -> Result<(), AllocError> {
+    pub(crate) fn tell(self, alloc: Global, found: &mut Vec<Warning>) -> Result<(), AllocError>
+        ensures { OnOk result (All IsOther found.old.items → All IsOther found.new.items) }
+    {
         if self.is_table() {
             return tell_repeated(alloc, self.keys.as_slice(), found);
         }
@@ -115,7 +120,9 @@ fn tell_repeated(
     alloc: Global,
     keys: &[StringAt<'_>],
     found: &mut Vec<Warning>,
-) -> Result<(), AllocError> {
+) -> Result<(), AllocError>
+    ensures { OnOk result (All IsOther found.old.items → All IsOther found.new.items) }
+{
     if keys.len() < 2 {
         return Ok(());
     }

@@ -1,6 +1,10 @@
 //! What another reader of bundles, ICU's `genrb`, takes otherwise in a text that is a bundle here.
 //! A warning changes nothing about what is made. Why a text is refused isn't found here.
-ghost use Rattle.std.specs.Prelude.{◌≡◌, ◌≤◌, ◌<◌, length, All, IfOk, vec_items};
+ghost use Rattle.std.specs.Prelude.{◌≡◌, ◌++◌, List, length, All, IfOk, OnOk, IsPermutation, []};
+ghost use Rattle.std.specs.List.Sorted.{IsSortedByKey};
+ghost use Rattle.std.specs.Ordering.{nat_cmp};
+ghost use Rattle.resb_report.specs.Warnings as telling;
+ghost use Rattle.resb_report.specs.Warnings.{IsOther, backslashes};
 
 use crate::braces::Mode;
 use crate::groups::{Group, Kind, StringAt};
@@ -28,14 +32,54 @@ pub enum Reason {
 
 /// The warnings of a text, in order of place. They are right for a text that is a bundle; for any
 /// other one they say little.
-pub fn warnings(alloc: Global, text: &str) -> Result<Vec<Warning>, AllocError> {
+pub fn warnings(alloc: Global, text: &str) -> Result<Vec<Warning>, AllocError>
+    ensures backslashes { IfOk result (λ found. (others : List Warning) × All IsOther others
+        × IsPermutation (others ++ backslashes text.now (length text.now)) found.items) }
+    ensures order { IfOk result (λ found. IsSortedByKey (λ w. w.place) nat_cmp found.items) }
+{
     let mut scan = Scan::new(alloc, text.as_bytes());
-    for at in 0..text.len() {
+    'bytes: for at in 0..text.len() {
         scan.byte(at)?;
     }
     let mut found = scan.found;
+    tell_backslashes(text.as_bytes(), &mut found)?;
     found.sort_unstable();
     Ok(found)
+}
+
+/// Whether a byte is the first backslash of a string in quotes.
+fn is_first(mode: Mode, byte: u8, is_told: bool) -> bool
+    ensures { result ≡ telling.is_first mode byte is_told }
+{
+    mode == Mode::Quotes && byte == b'\\' && !is_told
+}
+
+/// Whether a string in quotes had a backslash, behind a byte in this mode.
+fn told_behind(mode: Mode, byte: u8, is_told: bool) -> bool
+    ensures { result ≡ telling.told_behind mode byte is_told }
+{
+    mode == Mode::Quotes && (byte == b'\\' || is_told)
+}
+
+/// Adds a warning for the first backslash of each string in quotes.
+fn tell_backslashes(text: &[u8], found: &mut Vec<Warning>) -> Result<(), AllocError>
+    ensures { OnOk result (found.new.items
+        ≡ found.old.items ++ backslashes text.now (length text.now)) }
+{
+    let mut mode = Mode::Tokens;
+    let mut is_told = false;
+    'bytes: for at in 0..text.len() {
+        let byte = text[at];
+        if is_first(mode, byte, is_told) {
+            found.push(Warning {
+                place: at,
+                reason: Reason::Backslash,
+            })?;
+        }
+        is_told = told_behind(mode, byte, is_told);
+        mode = mode.behind(byte);
+    }
+    Ok(())
 }
 
 /// How far a text was looked at.
@@ -46,8 +90,6 @@ struct Scan<'a> {
     mode: Mode,
     /// Where the string began that isn't at its end.
     begun: Option<usize>,
-    /// Whether that string had a backslash.
-    is_told: bool,
     /// A type was named, and its `{` comes.
     typed: Option<Kind>,
     groups: Vec<Group<'a>>,
@@ -56,13 +98,14 @@ struct Scan<'a> {
 
 impl<'a> Scan<'a> {
     /// Nothing was looked at.
-    fn new(alloc: Global, text: &'a [u8]) -> Scan<'a> {
+    fn new(alloc: Global, text: &'a [u8]) -> Scan<'a>
+        ensures { result.found.items ≡ [] }
+    {
         Scan {
             alloc,
             text,
             mode: Mode::Tokens,
             begun: None,
-            is_told: false,
             typed: None,
             groups: Vec::new(alloc),
             found: Vec::new(alloc),
@@ -70,7 +113,10 @@ impl<'a> Scan<'a> {
     }
 
     /// Looks at the byte at a place.
-    fn byte(&mut self, at: usize) -> Result<(), AllocError> {
+    fn byte(&mut self, at: usize) -> Result<(), AllocError>
+        ensures { OnOk result (All IsOther self.old.found.items
+            → All IsOther self.new.found.items) }
+    {
         let Some(byte) = self.text.get(at) else {
             return Ok(());
         };
@@ -84,7 +130,10 @@ impl<'a> Scan<'a> {
     }
 
     /// A byte that is no part of a string in quotes or a comment.
-    fn among_tokens(&mut self, at: usize, byte: u8) -> Result<(), AllocError> {
+    fn among_tokens(&mut self, at: usize, byte: u8) -> Result<(), AllocError>
+        ensures { OnOk result (All IsOther self.old.found.items
+            → All IsOther self.new.found.items) }
+    {
         if byte.is_ascii_alphanumeric() || byte == b'-' {
             self.begun = self.begun.or(Some(at));
             return Ok(());
@@ -104,11 +153,9 @@ impl<'a> Scan<'a> {
     }
 
     /// A byte of a string in quotes.
-    fn in_quotes(&mut self, at: usize, byte: u8) -> Result<(), AllocError> {
-        if byte == b'\\' && !self.is_told {
-            self.is_told = true;
-            self.warn(at, Reason::Backslash)?;
-        }
+    fn in_quotes(&mut self, at: usize, byte: u8) -> Result<(), AllocError>
+        ensures { OnOk result (self.new.found.items ≡ self.old.found.items) }
+    {
         if byte == b'"' {
             let from = self.begun.take().unwrap_or(at);
             if from < at {
@@ -119,13 +166,16 @@ impl<'a> Scan<'a> {
     }
 
     /// A string in quotes begins.
-    fn begin_quotes(&mut self, at: usize) {
+    fn begin_quotes(&mut self, at: usize)
+        ensures { self.new.found.items ≡ self.old.found.items }
+    {
         self.begun = Some(at);
-        self.is_told = false;
     }
 
     /// A string that begins at a place ended; its content stands between two others.
-    fn string(&mut self, place: usize, from: usize, to: usize) -> Result<(), AllocError> {
+    fn string(&mut self, place: usize, from: usize, to: usize) -> Result<(), AllocError>
+        ensures { OnOk result (self.new.found.items ≡ self.old.found.items) }
+    {
         let content = self.text.get(from..to).unwrap_or(&[]);
         if self.typed.is_some() {
             self.typed = Some(Kind::named(content));
@@ -138,7 +188,9 @@ impl<'a> Scan<'a> {
     }
 
     /// A `{`: the bundle's, or that of a group, behind its key if the group around is a table.
-    fn open(&mut self) -> Result<(), AllocError> {
+    fn open(&mut self) -> Result<(), AllocError>
+        ensures { OnOk result (self.new.found.items ≡ self.old.found.items) }
+    {
         let kind = match self.groups.last_mut() {
             Some(group) => {
                 group.group()?;
@@ -152,7 +204,10 @@ impl<'a> Scan<'a> {
     }
 
     /// A `}`: what the group turned out to be is known.
-    fn close(&mut self) -> Result<(), AllocError> {
+    fn close(&mut self) -> Result<(), AllocError>
+        ensures { OnOk result (All IsOther self.old.found.items
+            → All IsOther self.new.found.items) }
+    {
         match self.groups.pop() {
             Some(group) => group.tell(self.alloc, &mut self.found),
             None => Ok(()),
@@ -160,15 +215,11 @@ impl<'a> Scan<'a> {
     }
 
     /// A comma among the items of a group.
-    fn comma(&mut self) {
+    fn comma(&mut self)
+        ensures { self.new.found.items ≡ self.old.found.items }
+    {
         if let Some(group) = self.groups.last_mut() {
             group.comma();
         }
-    }
-
-    /// One warning more.
-    fn warn(&mut self, place: usize, reason: Reason) -> Result<(), AllocError> {
-        self.found.push(Warning { place, reason })?;
-        Ok(())
     }
 }

@@ -1,0 +1,224 @@
+-- What a look leaves to be looked at finds, together with it, what the look finds.
+use Rattle.std.proofs.Common.{◌≡◌, ℕ, zero, suc, ◌+◌, ◌-◌, ◌*◌, ◌<◌, Bool, true, false, List}
+use Rattle.std.proofs.Common.{[], ◌∷◌, ◌++◌, take, reverse, length, refl, sym, ◌∙◌, ap}
+use Rattle.std.proofs.Common.{arith, append_assoc, Option, Some, None}
+use Rattle.std.proofs.lemmas.Bool.{false≢true}
+use Rattle.std.proofs.lemmas.List.{reverse-append, append-nil}
+use Rattle.resb_tree.specs.Tree.{Tree, string, array, table, Trees, more_trees, no_trees}
+use Rattle.resb_tree.specs.Tree.{entries_of, entries_count, tree_count}
+use Rattle.resb_tree.specs.View.{tree_of, pairs_view}
+use Rattle.resb_tree.specs.declared.resource.Resource.{Resource}
+use Rattle.resb_print.specs.Quotes.{has_quote}
+use Rattle.resb_print.specs.Paths.{Step, by_key, by_number, path_if, path_else, entry_path_else}
+use Rattle.resb_print.specs.Paths.{member_path_else}
+use Rattle.resb_print.specs.Inner.Looks.{Look, entry_look, member_look, leave_look, fold_looks}
+use Rattle.resb_print.specs.Inner.Looks.{without_last, look_path, nowhere, looks_path}
+use Rattle.resb_print.specs.Inner.Looks.{add_look, looks_turns, Enters, Goes}
+use Rattle.resb_print.specs.Inner.Looks.{entry_looks, step_of, steps_in}
+use Rattle.resb_print.specs.declared.path.PathStep.{PathStep}
+
+pub look_before : (ls ks : List Look) (l : Look)
+    → (ls ++ l ∷ []) ++ reverse ks ≡ ls ++ reverse (ks ++ l ∷ [])
+look_before ls ks l =
+    append_assoc ls (l ∷ []) (reverse ks) ∙ ap (λ m. ls ++ m) (sym (reverse-append ks (l ∷ [])))
+
+pub entry_look_last : (es : List (List ℕ × Resource)) (e : List ℕ × Resource)
+    → entry_looks (pairs_view (es ++ e ∷ []))
+    ≡ entry_looks (pairs_view es) ++ entry_look e.0 (tree_of e.1) ∷ []
+entry_look_last [] e = refl
+entry_look_last (f ∷ es) e = ap (λ l. entry_look f.0 (tree_of f.1) ∷ l) (entry_look_last es e)
+
+pub fold_look : {X : Type 0} (f : Look → X → X) (ls : List Look) (l : Look) (x : X)
+    → fold_looks f (ls ++ l ∷ []) x ≡ f l (fold_looks f ls x)
+fold_look f [] l x = refl
+fold_look f (i ∷ ls) l x = fold_look f ls l (f i x)
+
+looks_more : (ls ks : List Look) (l : Look)
+    → ls ++ reverse (l ∷ ks) ≡ (ls ++ reverse ks) ++ l ∷ []
+looks_more ls ks l =
+    ap (λ m. ls ++ m) (reverse-append (l ∷ []) ks) ∙ sym (append_assoc ls (reverse ks) (l ∷ []))
+
+fold_more : {X : Type 0} (f : Look → X → X) (ls ks : List Look) (l : Look) (x : X)
+    → fold_looks f (ls ++ reverse (l ∷ ks)) x ≡ f l (fold_looks f (ls ++ reverse ks) x)
+fold_more f ls ks l x =
+    ap (λ m. fold_looks f m x) (looks_more ls ks l) ∙ fold_look f (ls ++ reverse ks) l x
+
+fold_none : {X : Type 0} (f : Look → X → X) (ls : List Look) (x : X)
+    → fold_looks f (ls ++ reverse []) x ≡ fold_looks f ls x
+fold_none f ls x = ap (λ m. fold_looks f m x) (append-nil ls)
+
+-- the entries of a table
+pub entries_path : (ls : List Look) (ps : List (List ℕ × Tree)) (path : List Step)
+    → looks_path (ls ++ reverse (entry_looks ps)) path
+    ≡ entry_path_else path (entries_of ps) (looks_path ls path)
+entries_path ls [] path = ap (λ f. f path) (fold_none look_path ls nowhere)
+entries_path ls (p ∷ ps) path =
+    let here = path ++ by_key p.0 ∷ [] in
+    ap (λ f. f path) (fold_more look_path ls (entry_looks ps) (entry_look p.0 p.1) nowhere)
+    ∙ ap (λ later. path_if p.0 here (path_else here p.1 later)) (entries_path ls ps path)
+
+entries_turns : (ls : List Look) (ps : List (List ℕ × Tree))
+    → looks_turns (ls ++ reverse (entry_looks ps))
+    ≡ looks_turns ls + 3 * entries_count (entries_of ps)
+entries_turns ls [] = fold_none add_look ls 0 ∙ omega arith
+entries_turns ls (p ∷ ps) =
+    fold_more add_look ls (entry_looks ps) (entry_look p.0 p.1) 0
+    ∙ omega (arith, entries_turns ls ps)
+
+found_here : (s : List ℕ) (path : List Step) (later : Option (List Step)) → has_quote s ≡ true
+    → path_if s path later ≡ Some path
+found_here s path later h = rw h refl
+
+passed_here : (s : List ℕ) (path : List Step) (later : Option (List Step)) → has_quote s ≡ false
+    → path_if s path later ≡ later
+passed_here s path later h = rw h refl
+
+not_both : (b : Bool) → b ≡ true → b ≡ false → ⊥
+not_both b h e = false≢true (sym e ∙ h)
+
+-- what is inside a resource
+pub enters_string : (ls : List Look) (s : List ℕ) (b : Bool) → b ≡ has_quote s
+    → Enters ls ls (string s) b
+enters_string ls s b e = record {
+  met = λ h path later. found_here s path later (sym e ∙ h);
+  passed = λ h path. sym (passed_here s path (looks_path ls path) (sym e ∙ h));
+  fewer = omega arith;
+}
+
+pub enters_array : (ls ks : List Look) (ts : Trees) → ks ≡ ls ++ member_look 0 ts ∷ []
+    → Enters ls ks (array ts) false
+enters_array ls ks ts e = record {
+  met = λ h path later. absurd (false≢true h);
+  passed = λ h path. ap (λ m. looks_path m path) e
+      ∙ ap (λ f. f path) (fold_look look_path ls (member_look 0 ts) nowhere);
+  fewer = omega (arith, ap looks_turns e, fold_look add_look ls (member_look 0 ts) 0);
+}
+
+pub enters_table : (ls ks : List Look) (ps : List (List ℕ × Tree))
+    → ks ≡ ls ++ reverse (entry_looks ps) → Enters ls ks (table (entries_of ps)) false
+enters_table ls ks ps e = record {
+  met = λ h path later. absurd (false≢true h);
+  passed = λ h path. ap (λ m. looks_path m path) e ∙ entries_path ls ps path;
+  fewer = omega (arith, ap looks_turns e, entries_turns ls ps);
+}
+
+pub enters_leaf : (ls : List Look) (t : Tree)
+    → ((path : List Step) (later : Option (List Step)) → path_else path t later ≡ later)
+    → 0 < tree_count t → Enters ls ls t false
+enters_leaf ls t same some = record {
+  met = λ h path later. absurd (false≢true h);
+  passed = λ h path. sym (same path (looks_path ls path));
+  fewer = omega arith;
+}
+
+-- a look
+pub last_off : (ps : List Step) (p : Step) → without_last (ps ++ p ∷ []) ≡ ps
+last_off [] p = refl
+last_off (q ∷ []) p = refl
+last_off (q ∷ r ∷ ps) p = ap (λ l. q ∷ l) (last_off (r ∷ ps) p)
+
+pub popped_last : (ps : List PathStep) (m : ℕ) → m ≡ length ps - 1
+    → without_last (steps_in ps) ≡ steps_in (take m ps)
+popped_last [] zero e = refl
+popped_last [] (suc m) e = absurd (omega arith)
+popped_last (p ∷ []) zero e = refl
+popped_last (p ∷ []) (suc m) e = absurd (omega arith)
+popped_last (p ∷ q ∷ ps) zero e = absurd (omega arith)
+popped_last (p ∷ q ∷ ps) (suc m) e =
+    ap (λ l. step_of p ∷ l) (popped_last (q ∷ ps) m (omega arith))
+
+pub goes_back : (ls : List Look) (path next : List Step) → without_last path ≡ next
+    → Goes ls ls path next leave_look false
+goes_back ls path next e = record {
+  met = λ h later. absurd (false≢true h);
+  passed = λ h. ap (looks_path ls) (sym e);
+  fewer = λ h. omega arith;
+}
+
+pub goes_quote : (ls : List Look) (path next : List Step) (k : List ℕ) (t : Tree)
+    → has_quote k ≡ true → next ≡ path ++ by_key k ∷ [] → Goes ls ls path next (entry_look k t) true
+goes_quote ls path next k t q e = record {
+  met = λ h later. found_here k (path ++ by_key k ∷ [])
+      (path_else (path ++ by_key k ∷ []) t (later path)) q ∙ ap Some (sym e);
+  passed = λ h. absurd (false≢true (sym h));
+  fewer = λ h. absurd (false≢true (sym h));
+}
+
+leaving : (ls : List Look) (path : List Step) (p : Step)
+    → looks_path (ls ++ leave_look ∷ []) (path ++ p ∷ []) ≡ looks_path ls path
+leaving ls path p =
+    ap (λ f. f (path ++ p ∷ [])) (fold_look look_path ls leave_look nowhere)
+    ∙ ap (looks_path ls) (last_off path p)
+
+pub goes_entry : (ls ms ks : List Look) (path next : List Step) (k : List ℕ) (t : Tree) (b : Bool)
+    → has_quote k ≡ false → next ≡ path ++ by_key k ∷ [] → ms ≡ ls ++ leave_look ∷ []
+    → Enters ms ks t b → Goes ls ks path next (entry_look k t) b
+goes_entry ls ms ks path next k t b q e f d =
+    let here = path ++ by_key k ∷ [] in
+    record {
+      met = λ h later. passed_here k here (path_else here t (later path)) q
+          ∙ d.met h here (later path) ∙ ap Some (sym e);
+      passed = λ h. ap (looks_path ks) e ∙ d.passed h here
+          ∙ ap (λ m. path_else here t (looks_path m here)) f
+          ∙ ap (path_else here t) (leaving ls path (by_key k))
+          ∙ sym (passed_here k here (path_else here t (looks_path ls path)) q);
+      fewer = λ h. omega (arith, d.fewer, ap looks_turns f, fold_look add_look ls leave_look 0);
+    }
+
+pub goes_end : (ls : List Look) (path : List Step) (n : ℕ)
+    → Goes ls ls path path (member_look n no_trees) false
+goes_end ls path n = record {
+  met = λ h later. absurd (false≢true h);
+  passed = λ h. refl;
+  fewer = λ h. omega arith;
+}
+
+pub goes_member : (ls ms ks : List Look) (path next : List Step) (n : ℕ) (t : Tree) (ts : Trees)
+    (b : Bool) → next ≡ path ++ by_number n ∷ []
+    → ms ≡ (ls ++ member_look (suc n) ts ∷ []) ++ leave_look ∷ []
+    → Enters ms ks t b → Goes ls ks path next (member_look n (more_trees t ts)) b
+goes_member ls ms ks path next n t ts b e f d =
+    let here = path ++ by_number n ∷ [] in
+    let more = ls ++ member_look (suc n) ts ∷ [] in
+    record {
+      met = λ h later. d.met h here (member_path_else path (suc n) ts (later path))
+          ∙ ap Some (sym e);
+      passed = λ h. ap (looks_path ks) e ∙ d.passed h here
+          ∙ ap (λ m. path_else here t (looks_path m here)) f
+          ∙ ap (path_else here t) (leaving more path (by_number n))
+          ∙ ap (λ g. path_else here t (g path))
+          (fold_look look_path ls (member_look (suc n) ts) nowhere);
+      fewer = λ h. omega (
+        arith,
+        d.fewer,
+        ap looks_turns f,
+        fold_look add_look more leave_look 0,
+        fold_look add_look ls (member_look (suc n) ts) 0,
+      );
+    }
+
+-- the whole walk
+pub path_begun : (ls : List Look) (path : List Step) (ps : List (List ℕ × Tree))
+    → ls ≡ reverse (entry_looks ps) → path ≡ []
+    → looks_path ls path ≡ entry_path_else [] (entries_of ps) None
+path_begun ls path ps e f =
+    ap (λ m. looks_path m path) e ∙ ap (looks_path (reverse (entry_looks ps))) f
+    ∙ entries_path [] ps []
+
+-- from the looks before the last one on
+module _ (ls ms ks : List Look) (l : Look) (path next : List Step) (e : ls ≡ ms ++ l ∷ []) where
+  last_look : looks_path ls path ≡ look_path l (looks_path ms) path
+  last_look =
+      ap (λ m. looks_path m path) e ∙ ap (λ f. f path) (fold_look look_path ms l nowhere)
+
+  pub path_met : (found : Option (List Step)) (b : Bool) → looks_path ls path ≡ found
+      → Goes ms ks path next l b → b ≡ true → Some next ≡ found
+  path_met found b under g h = sym (g.met h (looks_path ms)) ∙ sym last_look ∙ under
+
+  pub path_goes : (found : Option (List Step)) (b : Bool) → looks_path ls path ≡ found
+      → Goes ms ks path next l b → b ≡ false → looks_path ks next ≡ found
+  path_goes found b under g h = g.passed h ∙ sym last_look ∙ under
+
+  pub path_fewer : (b : Bool) → Goes ms ks path next l b → b ≡ false
+      → looks_turns ks < looks_turns ls
+  path_fewer b g h = omega (arith, g.fewer h, ap looks_turns e, fold_look add_look ms l 0)

@@ -1,0 +1,46 @@
+-- Where the first cause stands that keeps a bundle from having a text: the keys and numbers that
+-- lead there from the root.
+use Rattle.std.specs.Prelude.{ℕ, suc, List, [], ◌∷◌, ◌++◌, Option, Some, None}
+use Rattle.std.specs.Prelude.{if◌then◌else◌}
+use Rattle.resb_tree.specs.Tree.{Tree, string, array, table, binary, integer, int_vector, Trees}
+use Rattle.resb_tree.specs.Tree.{no_trees, more_trees, Entries, no_entries, entry}
+use Rattle.resb_print.specs.Quotes.{has_quote}
+
+-- into a table by a key, or into an array by a number from 0
+pub data Step : Type 0 where
+  by_key : List ℕ → Step
+  by_number : ℕ → Step
+
+-- this path where the text holds a quote, and else what comes later
+abbrev pub path_if : List ℕ → List Step → Option (List Step) → Option (List Step)
+path_if s path later = if has_quote s then Some path else later
+
+-- the path to the first cause in the order of the text, and else what comes later
+abbrev mutual
+  -- in a tree that stands at a path: a string that holds a quote, or what is found inside
+  pub path_else : List Step → Tree → Option (List Step) → Option (List Step)
+  path_else path (string s) later = path_if s path later
+  path_else path (array ts) later = member_path_else path 0 ts later
+  path_else path (table es) later = entry_path_else path es later
+  path_else path (binary bs) later = later
+  path_else path (integer n) later = later
+  path_else path (int_vector ns) later = later
+
+  -- in the members of an array that stands at a path, the first of which has this number
+  pub member_path_else : List Step → ℕ → Trees → Option (List Step) → Option (List Step)
+  member_path_else path n no_trees later = later
+  member_path_else path n (more_trees t ts) later =
+      path_else (path ++ by_number n ∷ []) t (member_path_else path (suc n) ts later)
+
+  -- in the entries of a table that stands at a path, each key before its tree
+  pub entry_path_else : List Step → Entries → Option (List Step) → Option (List Step)
+  entry_path_else path no_entries later = later
+  entry_path_else path (entry k t es) later =
+      path_if k (path ++ by_key k ∷ [])
+      (path_else (path ++ by_key k ∷ []) t (entry_path_else path es later))
+
+-- the path to the first cause of a bundle of this name and root, if it has one: no step where the
+-- root or the name is the cause
+abbrev pub cause_path : List ℕ → Tree → Option (List Step)
+cause_path name (table es) = path_if name [] (entry_path_else [] es None)
+cause_path name _ = Some []

@@ -1,0 +1,140 @@
+//! Where the first cause stands that keeps a bundle from having a text: keys and numbers.
+//! Which cause it is, `print_text` answers. No function calls itself.
+ghost use Rattle.std.specs.Prelude.{◌≡◌, ◌++◌, [], reverse, IfOk, OnOk, None};
+ghost use Rattle.resb_tree.specs.Bundle.{name_of, root_of};
+ghost use Rattle.resb_tree.specs.View.{tree_of, entries_view, pairs_view};
+ghost use Rattle.resb_print.specs.Paths as paths;
+ghost use Rattle.resb_print.specs.Paths.{entry_path_else};
+ghost use Rattle.resb_print.specs.Inner.Looks.{look_of, looks_in, steps_in, entry_looks};
+ghost use Rattle.resb_print.specs.Inner.Looks.{path_found, Enters, Goes};
+
+use crate::pieces::has_quote;
+use resb_tree::{Key, Resource, ResourceBundle, Table};
+use std::alloc::{AllocError, Global};
+
+/// A step into a table or an array.
+#[derive(Clone, Copy, Debug, PartialEq, Eq)]
+pub enum PathStep<'t> {
+    /// To this key of a table and to its value.
+    Key(&'t str),
+    /// To the member of an array that has this number, from 0.
+    Member(usize),
+}
+
+/// What is still to be looked at.
+#[derive(Clone, Copy)]
+pub(crate) enum Visit<'t, 'a> {
+    /// A key and its resource.
+    Entry(&'t Key<'a>, &'t Resource<'a>),
+    /// The members of an array from this number on.
+    Members(&'t [Resource<'a>], usize),
+    /// The last step of the path is taken back.
+    Leave,
+}
+
+/// Puts the entries of a table, the last one first.
+fn push_entries<'t, 'a>(
+    pending: &mut Vec<Visit<'t, 'a>>,
+    table: &'t Table<'a>,
+) -> Result<(), AllocError>
+    ensures { OnOk result (looks_in pending.new.items
+        ≡ looks_in pending.old.items ++ reverse (entry_looks (pairs_view table.now.entries))) }
+{
+    for (key, resource) in table.iter().rev() {
+        pending.push(Visit::Entry(key, resource))?;
+    }
+    Ok(())
+}
+
+/// Puts what is inside a resource. Answers whether it is a string that holds a quote.
+fn enter<'t, 'a>(
+    pending: &mut Vec<Visit<'t, 'a>>,
+    resource: &'t Resource<'a>,
+) -> Result<bool, AllocError>
+    ensures { IfOk result (λ found. Enters (looks_in pending.old.items)
+        (looks_in pending.new.items) (tree_of resource.now) found) }
+{
+    match resource {
+        Resource::String(text) => Ok(has_quote(text.as_str())),
+        Resource::Array(members) => {
+            pending.push(Visit::Members(members.as_slice(), 0))?;
+            Ok(false)
+        }
+        Resource::Table(table) => {
+            push_entries(pending, table)?;
+            Ok(false)
+        }
+        Resource::Binary(_) | Resource::Integer(_) | Resource::IntVector(_) => Ok(false),
+    }
+}
+
+/// Looks at one thing, and puts what it leaves. Answers whether the path now leads to the cause.
+fn look<'t, 'a>(
+    pending: &mut Vec<Visit<'t, 'a>>,
+    path: &mut Vec<PathStep<'t>>,
+    visit: Visit<'t, 'a>,
+) -> Result<bool, AllocError>
+    ensures { IfOk result (λ found. Goes (looks_in pending.old.items) (looks_in pending.new.items)
+        (steps_in path.old.items) (steps_in path.new.items) (look_of visit.entry) found) }
+{
+    match visit {
+        Visit::Leave => {
+            path.pop();
+            Ok(false)
+        }
+        Visit::Entry(key, resource) => {
+            path.push(PathStep::Key(key.as_str()))?;
+            if has_quote(key.as_str()) {
+                return Ok(true);
+            }
+            pending.push(Visit::Leave)?;
+            let found = enter(pending, resource)?;
+            Ok(found)
+        }
+        Visit::Members(members, number) => {
+            let Some(member) = members.get(number) else {
+                return Ok(false);
+            };
+            path.push(PathStep::Member(number))?;
+            pending.push(Visit::Members(members, number + 1))?;
+            pending.push(Visit::Leave)?;
+            let found = enter(pending, member)?;
+            Ok(found)
+        }
+    }
+}
+
+/// The path to the first cause among the entries of the root.
+fn path_in<'t>(alloc: Global, table: &'t Table<'_>) -> Result<Option<Vec<PathStep<'t>>>, AllocError>
+    ensures { IfOk result (λ found. path_found found
+        ≡ entry_path_else [] (entries_view table.now.entries) None) }
+{
+    let mut path = Vec::new(alloc);
+    let mut pending = Vec::new(alloc);
+    push_entries(&mut pending, table)?;
+    while let Some(visit) = pending.pop() {
+        if look(&mut pending, &mut path, visit)? {
+            return Ok(Some(path));
+        }
+    }
+    Ok(None)
+}
+
+/// The path to the first cause that keeps a bundle from having a text, in the order of the text, if
+/// there is one: a key that holds a `"`, or a string that does. Where the root is no table or the
+/// name is the cause, it has no steps. `print_text` answers which cause it is.
+pub fn cause_path<'t>(
+    alloc: Global,
+    bundle: &'t ResourceBundle<'_>,
+) -> Result<Option<Vec<PathStep<'t>>>, AllocError>
+    ensures { IfOk result (λ found. path_found found
+        ≡ paths.cause_path (name_of bundle.now) (root_of bundle.now)) }
+{
+    let Resource::Table(table) = bundle.root() else {
+        return Ok(Some(Vec::new(alloc)));
+    };
+    if has_quote(bundle.name()) {
+        return Ok(Some(Vec::new(alloc)));
+    }
+    path_in(alloc, table)
+}

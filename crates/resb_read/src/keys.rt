@@ -1,9 +1,9 @@
-//! Names beside keys: whether a key is a name, and which of both is the greater. Of a key no more is
-//! looked at than the name is long, and one byte.
+//! Names beside keys: whether a key is a name, and which of both is the greater. Of a key no more
+//! is looked at than the name is long, and one byte.
 //! Where in a table a name is looked for is said in `tables` and `sorted`.
-ghost use Rattle.std.specs.Prelude.{◌≡◌, ◌≢◌, ◌≤◌, ◌<◌, ◌+◌, ◌/◌, ◌==◌, ℕ, List, Some, length, take};
+ghost use Rattle.std.specs.Prelude.{◌≡◌, ◌≢◌, ◌≤◌, ◌<◌, ◌+◌, ◌/◌, ◌==◌, ℕ, List, Some, length};
 ghost use Rattle.std.specs.List.{position_or_len};
-ghost use Rattle.std.specs.Prelude.{slice_get, MatchOption, IfSome};
+ghost use Rattle.std.specs.Prelude.{slice_get, take, MatchOption, IfSome};
 ghost use Rattle.std.specs.Ordering.{nat_cmp};
 ghost use Rattle.std.specs.Cmp.Lexicographic.{slice_cmp};
 ghost use Rattle.resb_format.specs.Strings.{key_at};

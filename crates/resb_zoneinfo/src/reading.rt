@@ -13,10 +13,10 @@ use resb::fields::Fields;
 use std::alloc::Global;
 
 impl<'de> ZoneInfo<'de> {
-    /// Reads the values of the keys `TZVersion`, `Names`, `Zones`, `Rules` and `Regions` of the table
-    /// that stands here, which in a file is the root. Of equal keys the last stands; other keys are
-    /// not looked at. It takes one from the budget for the table, one for each of its entries, and
-    /// what the values take.
+    /// Reads the values of the keys `TZVersion`, `Names`, `Zones`, `Rules` and `Regions` of the
+    /// table that stands here, which in a file is the root. Of equal keys the last stands; what
+    /// stands at other keys isn't looked at. It takes one from the budget for the table, one for
+    /// each of its entries, and what the values take.
     pub fn read<'m>(
         alloc: Global,
         at: Cursor<'de>,

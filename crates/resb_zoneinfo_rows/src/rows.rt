@@ -1,6 +1,6 @@
-//! Offsets of a small made file, by hand from the rules: moments before, within and after the range
-//! of 32 bits, a link, a final rule of the last Sundays of March and October at 1:00, and one of the
-//! south; and a zone for each thing that a file may have wrong.
+//! Offsets of a small made file, by hand from the rules: moments before, within and after the
+//! range of 32 bits, a link, a final rule of the last Sundays of March and October at 1:00, and one
+//! of the south; and a zone for each thing that a file may have wrong.
 use resb::binary::Cursor;
 use resb::compile;
 use resb_zoneinfo::{RuleError, ZoneError, ZoneInfo};
@@ -11,8 +11,9 @@ use std::test::Fail;
 /// over the turn of the year from 2008 on; and zones that are refused, by their names.
 const MADE: &str = r#"zoneinfo64:table(nofallback){
   TZVersion{"made"}
-  Names{"A/Old","B/Link","C/Rule","D/South","Beyond","Before","Twice","Types","Half","Offsets","Type",
-    "NoRule","NoRaw","NoYear","Year","Length","Month","Weekday","Day","Time","Clock","Saving",}
+  Names{"A/Old","B/Link","C/Rule","D/South","Beyond","Before","Twice","Types","Half","Offsets",
+    "Type","NoRule","NoRaw","NoYear","Year","Length","Month","Weekday","Day","Time","Clock",
+    "Saving",}
   Zones:array{
     :table{
       transPre32:intvector{4294967295,2147483647}

@@ -10,11 +10,11 @@ use Rattle.resb_tree.specs.View.{tree_of, pairs_view}
 use Rattle.resb_tree.specs.declared.resource.Resource.{Resource}
 use Rattle.resb_print.specs.Quotes.{has_quote}
 use Rattle.resb_print.specs.Paths.{Step, by_key, by_number, path_if, path_else, entry_path_else}
-use Rattle.resb_print.specs.Paths.{member_path_else}
+use Rattle.resb_print.specs.Paths.{member_path_else, step_of, steps_in}
 use Rattle.resb_print.specs.Inner.Looks.{Look, entry_look, member_look, leave_look, fold_looks}
 use Rattle.resb_print.specs.Inner.Looks.{without_last, look_path, nowhere, looks_path}
 use Rattle.resb_print.specs.Inner.Looks.{add_look, looks_turns, Enters, Goes}
-use Rattle.resb_print.specs.Inner.Looks.{entry_looks, step_of, steps_in}
+use Rattle.resb_print.specs.Inner.Looks.{entry_looks}
 use Rattle.resb_print.specs.declared.path.PathStep.{PathStep}
 
 pub look_before : (ls ks : List Look) (l : Look)

@@ -1,15 +1,32 @@
 -- Where the first cause stands that keeps a bundle from having a text: the keys and numbers that
 -- lead there from the root.
 use Rattle.std.specs.Prelude.{ℕ, suc, List, [], ◌∷◌, ◌++◌, Option, Some, None}
-use Rattle.std.specs.Prelude.{if◌then◌else◌}
+use Rattle.std.specs.Prelude.{if◌then◌else◌, map, option_map}
+use Rattle.std.specs.declared.alloc.Global.{Global}
+use Rattle.std.specs.declared.vec.Vec.{Vec}
 use Rattle.resb_tree.specs.Tree.{Tree, string, array, table, binary, integer, int_vector, Trees}
 use Rattle.resb_tree.specs.Tree.{no_trees, more_trees, Entries, no_entries, entry}
 use Rattle.resb_print.specs.Quotes.{has_quote}
+use Rattle.resb_print.specs.declared.path.PathStep.{PathStep}
+use Rattle.resb_print.specs.declared.path.PathStep.TheVariants as step
 
 -- into a table by a key, or into an array by a number from 0
 pub data Step : Type 0 where
   by_key : List ℕ → Step
   by_number : ℕ → Step
+
+-- what a step of the code stands for
+abbrev pub step_of : PathStep → Step
+step_of (step.Key k) = by_key k.now
+step_of (step.Member n) = by_number n
+
+-- the same of the steps of a path
+abbrev pub steps_in : List PathStep → List Step
+steps_in ps = map step_of ps
+
+-- the path that was found, if there is one, as its steps
+abbrev pub path_found : Option (Vec PathStep Global) → Option (List Step)
+path_found found = option_map (λ v. steps_in v.items) found
 
 -- this path where the text holds a quote, and else what comes later
 abbrev pub path_if : List ℕ → List Step → Option (List Step) → Option (List Step)

@@ -4,9 +4,8 @@ ghost use Rattle.std.specs.Prelude.{◌≡◌, ◌++◌, [], reverse, IfOk, OnOk
 ghost use Rattle.resb_tree.specs.Bundle.{name_of, root_of};
 ghost use Rattle.resb_tree.specs.View.{tree_of, entries_view, pairs_view};
 ghost use Rattle.resb_print.specs.Paths as paths;
-ghost use Rattle.resb_print.specs.Paths.{entry_path_else};
-ghost use Rattle.resb_print.specs.Inner.Looks.{look_of, looks_in, steps_in, entry_looks};
-ghost use Rattle.resb_print.specs.Inner.Looks.{path_found, Enters, Goes};
+ghost use Rattle.resb_print.specs.Paths.{entry_path_else, steps_in, path_found};
+ghost use Rattle.resb_print.specs.Inner.Looks.{look_of, looks_in, entry_looks, Enters, Goes};
 
 use crate::pieces::has_quote;
 use resb_tree::{Key, Resource, ResourceBundle, Table};

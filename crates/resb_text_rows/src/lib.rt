@@ -4,6 +4,8 @@
 
 #[cfg(test)]
 mod print_rows;
+#[cfg(test)]
+mod report_rows;
 pub mod rows;
 #[cfg(test)]
 mod text_rows;

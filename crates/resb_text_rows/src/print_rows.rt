@@ -2,7 +2,7 @@
 //! bundle of `rows` is printed and read again.
 //! What texts are read as is in `text_rows`.
 use crate::rows::{BUNDLES, nested};
-use resb_print::{Cause, PrintError, print_text};
+use resb_print::{Cause, PathStep, PrintError, cause_path, print_text};
 use resb_text::Reader;
 use resb_tree::{Int28, Key, Resource, ResourceBundle};
 use std::alloc::Global;
@@ -101,6 +101,36 @@ fn quotes_have_no_text(rt: HostRuntime) -> Result<(), Fail> {
     let bundle = ResourceBundle::new(CowStr::Borrowed("b"), root, true);
     let answer = print_text(rt.alloc(), &bundle).err();
     assert!(rt; answer == Some(PrintError::NotPrintable(Cause::RootIsNoTable)));
+    Ok(())
+}
+
+/// A bundle with a string that holds a quote, in a table in an array.
+fn quote_inside<'a>(alloc: Global) -> Result<ResourceBundle<'a>, Fail> {
+    let mut inside = BTreeMap::new(alloc);
+    let text = Resource::String(CowStr::Borrowed("\"x"));
+    inside.insert(Key::from("note"), text)?;
+    let mut members = Vec::new(alloc);
+    members.push(Resource::Integer(Int28::from(1u32)))?;
+    members.push(Resource::Table(inside))?;
+    let mut root = BTreeMap::new(alloc);
+    root.insert(Key::from("zones"), Resource::Array(members))?;
+    Ok(ResourceBundle::new(CowStr::Borrowed("b"), Resource::Table(root), true))
+}
+
+#[test]
+fn the_path_of_a_cause_is_told(rt: HostRuntime) -> Result<(), Fail> {
+    let bundle = quote_inside(rt.alloc())?;
+    let path = cause_path(rt.alloc(), &bundle)?.ok_or("no path")?;
+    let wanted = [
+        PathStep::Key("zones"),
+        PathStep::Member(1),
+        PathStep::Key("note"),
+    ];
+    let is_told = path.as_slice() == wanted.as_slice();
+    assert!(rt; is_told);
+    let plain = entry(rt.alloc(), "b", "a", "x")?;
+    let none = cause_path(rt.alloc(), &plain)?;
+    assert!(rt; none.is_none());
     Ok(())
 }
 

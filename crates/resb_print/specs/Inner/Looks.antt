@@ -1,23 +1,12 @@
 -- What is still to be looked at for the first cause, and what is known of it. The last look comes
 -- first.
 use Rattle.std.specs.Prelude.{◌≡◌, ℕ, ◌+◌, ◌*◌, ◌<◌, ◌≤◌, Bool, true, false, List, [], ◌∷◌, ◌++◌}
-use Rattle.std.specs.Prelude.{map, drop, Option, Some, None, option_map}
-use Rattle.std.specs.declared.alloc.Global.{Global}
-use Rattle.std.specs.declared.vec.Vec.{Vec}
+use Rattle.std.specs.Prelude.{map, drop, Option, Some, None}
 use Rattle.resb_tree.specs.Tree.{Tree, Trees, tree_count, trees_count}
 use Rattle.resb_tree.specs.View.{tree_of, items_view}
-use Rattle.resb_print.specs.Paths.{Step, by_key, by_number, path_if, path_else, member_path_else}
-use Rattle.resb_print.specs.declared.path.PathStep.{PathStep}
-use Rattle.resb_print.specs.declared.path.PathStep.TheVariants as step
+use Rattle.resb_print.specs.Paths.{Step, by_key, path_if, path_else, member_path_else}
 use Rattle.resb_print.specs.declared.path.Visit.{Visit}
 use Rattle.resb_print.specs.declared.path.Visit.TheVariants as visit
-
-abbrev pub step_of : PathStep → Step
-step_of (step.Key k) = by_key k.now
-step_of (step.Member n) = by_number n
-
-abbrev pub steps_in : List PathStep → List Step
-steps_in ps = map step_of ps
 
 pub data Look : Type 0 where
   entry_look : List ℕ → Tree → Look
@@ -89,7 +78,3 @@ pub record Goes (before after : List Look) (path next : List Step) (l : Look) (f
 -- the looks at the entries of a table
 abbrev pub entry_looks : List (List ℕ × Tree) → List Look
 entry_looks ps = map (λ p. entry_look p.0 p.1) ps
-
--- the path that was found, as its steps
-abbrev pub path_found : Option (Vec PathStep Global) → Option (List Step)
-path_found found = option_map (λ v. steps_in v.items) found

@@ -3,10 +3,9 @@ use Rattle.std.proofs.lemmas.List.{map_push, drop_more}
 use Rattle.std.specs.Vec.{vec_len}
 use Rattle.resb_tree.specs.Tree.{more_trees}
 use Rattle.resb_tree.specs.View.{tree_of, items_view}
-use Rattle.resb_print.specs.Paths.{by_key, by_number}
+use Rattle.resb_print.specs.Paths.{by_key, by_number, step_of, steps_in}
 use Rattle.resb_print.specs.Quotes.{has_quote}
 use Rattle.resb_print.specs.Inner.Looks.{look_of, looks_in, member_look, leave_look}
-use Rattle.resb_print.specs.Inner.Looks.{step_of, steps_in}
 use Rattle.resb_print.specs.declared.path.PathStep.TheVariants.{Key, Member}
 use Rattle.resb_print.specs.declared.path.Visit.TheVariants.{Leave, Members}
 use Rattle.resb_print.proofs.Looking.{goes_back, popped_last, goes_entry, goes_member}

@@ -1,8 +1,8 @@
 use Rattle.std.proofs.Common.{◌≡◌, ◌∙◌, ◌++◌, ◌∷◌, [], None, ap, reverse}
 use Rattle.std.proofs.lemmas.List.{map_push}
 use Rattle.resb_tree.specs.View.{entries_view, pairs_view}
-use Rattle.resb_print.specs.Paths.{entry_path_else}
-use Rattle.resb_print.specs.Inner.Looks.{look_of, looks_in, steps_in, entry_looks}
+use Rattle.resb_print.specs.Paths.{entry_path_else, steps_in}
+use Rattle.resb_print.specs.Inner.Looks.{look_of, looks_in, entry_looks}
 use Rattle.resb_print.proofs.Looking.{path_begun, path_met, path_goes, path_fewer}
 use Rattle.resb_print.proofs.path.path_in.Goals as goal
 

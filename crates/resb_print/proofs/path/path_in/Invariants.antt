@@ -1,7 +1,7 @@
 use Rattle.std.proofs.Common.{◌≡◌, [], None}
 use Rattle.resb_tree.specs.View.{entries_view}
-use Rattle.resb_print.specs.Paths.{entry_path_else}
-use Rattle.resb_print.specs.Inner.Looks.{looks_in, steps_in, looks_path, looks_turns}
+use Rattle.resb_print.specs.Paths.{entry_path_else, steps_in}
+use Rattle.resb_print.specs.Inner.Looks.{looks_in, looks_path, looks_turns}
 use Rattle.resb_print.proofs.path.path_in.Given as goal
 
 abbrev pub invariant-loop-visit : goal.invariant-loop-visit

@@ -18,6 +18,7 @@ pub use Rattle.resb_grammar.specs.Group
 pub use Rattle.resb_grammar.specs.BundleText
 pub use Rattle.resb_grammar.specs.Machine
 pub use Rattle.resb_grammar.specs.Stuck
+pub use Rattle.resb_grammar.specs.Limit
 pub use Rattle.resb_grammar.specs.Expected
 pub use Rattle.resb_grammar.specs.Laws as GrammarLaws
 pub use Rattle.resb_text.specs.Answer
@@ -27,6 +28,7 @@ pub use Rattle.resb_text.specs.Turns
 pub use Rattle.resb_print.specs.Printed
 pub use Rattle.resb_print.specs.Held
 pub use Rattle.resb_print.specs.Quotes
+pub use Rattle.resb_print.specs.Paths
 pub use Rattle.resb_print.specs.Laws as PrintLaws
 pub use Rattle.resb_format.specs.Bytes
 pub use Rattle.resb_format.specs.Units

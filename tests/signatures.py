@@ -21,12 +21,14 @@ Most programs need these: `resb::compile`, `resb::text::Reader::read`, `resb::te
 
 
 def sources():
-    """The files of the library's crates, by crate."""
+    """The files of the library's crates, by crate, and `resb`'s own laws, of which the headline
+    passes some on."""
     for line in (TOP / "crates.txt").read_text().split("\n"):
         name = line.split(":")[0]
         if name in LIBRARIES:
             for path in sorted((CRATES / name / "src").rglob("*.rt")):
                 yield name, path
+    yield "resb", CRATES / "resb" / "src" / "laws.rt"
 
 
 LIBRARIES = ["resb_tree", "resb_grammar", "resb_text", "resb_format", "resb_head", "resb_pool",

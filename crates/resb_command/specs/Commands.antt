@@ -3,9 +3,11 @@ use Rattle.std.specs.Prelude.{◌≡◌, ◌≢◌, ℕ, List, [], ◌∷◌, Op
 use Rattle.resb_command.specs.declared.command.Command.{Command}
 use Rattle.resb_command.specs.declared.command.Command.TheVariants.{Stream, Compile, Check}
 
+-- the words `compile`, IN and OUT
 abbrev pub compile_words : List ℕ → List ℕ → List (List ℕ)
 compile_words input output = codes "compile" ∷ input ∷ output ∷ []
 
+-- the words `check` and IN
 abbrev pub check_words : List ℕ → List (List ℕ)
 check_words input = codes "check" ∷ input ∷ []
 

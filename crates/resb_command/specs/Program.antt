@@ -25,11 +25,13 @@ use Rattle.resb_command.specs.declared.fault.ToolError.{ToolError}
 use Rattle.resb_command.specs.declared.fault.ToolError.TheVariants.{Input, Output, NotUtf8}
 use Rattle.resb_command.specs.declared.fault.ToolError.TheVariants.{Compiling, Checking, Memory}
 
+-- the text has a file, and the writer gained the file's hex digits and a line feed
 pub record Writes (input : List ℕ) (old new : Option (List ℕ)) : Type 0 where
   pub file : List ℕ
   pub compiled : IsCompiled input file
   pub line : Appends old new (encode_lower file ++ 10 ∷ [])
 
+-- the bytes are no UTF-8, or the text has no file for this reason
 abbrev pub IsNoInput : List ℕ → ToolError → Type 0
 IsNoInput input NotUtf8 = IsUtf8 input → ⊥
 IsNoInput input (Compiling e) = IsUtf8 input × IsRefused input e
@@ -38,6 +40,7 @@ IsNoInput input Input = ⊥
 IsNoInput input Output = ⊥
 IsNoInput input Memory = ⊥
 
+-- the bytes have no file, for this reason; or a stream failed, or memory was wanted
 abbrev pub HasReason : List ℕ → ToolError → Type 0
 HasReason input NotUtf8 = IsUtf8 input → ⊥
 HasReason input (Compiling e) = IsUtf8 input × IsRefused input e
@@ -46,6 +49,7 @@ HasReason input Input = Unit {0}
 HasReason input Output = Unit {0}
 HasReason input Memory = Unit {0}
 
+-- a stream that fails ends the program with 2, anything else with 1
 abbrev pub status_of : ToolError → ℕ
 status_of Input = 2
 status_of Output = 2
@@ -54,6 +58,7 @@ status_of (Compiling e) = 1
 status_of (Checking e) = 1
 status_of Memory = 1
 
+-- the line that the program says of an error
 abbrev pub message_of : ToolError → List ℕ
 message_of Input = codes "cannot read standard input"
 message_of Output = codes "cannot write standard output"
@@ -72,6 +77,7 @@ CountsFile bytes (Err Input) = ⊥
 CountsFile bytes (Err Output) = ⊥
 CountsFile bytes (Err Memory) = ⊥
 
+-- a tree at the root, read with a count within the budget, or its refusal there
 abbrev pub ReadsCounted : List ℕ → Result (Resource × ℕ) ReadingError → Type 0
 ReadsCounted bytes (Ok r) =
     AtRoot (λ p. DenPlace p (tree_of r.0) r.1) bytes × (r.1 ≤ budget bytes)

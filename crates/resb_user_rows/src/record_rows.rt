@@ -64,7 +64,8 @@ names x yyyy y of 2000000b 7 a 12 12 4 0 b 7800ff 79797979 aaaa0000 200004 24002
 
 /// A map of a list of so many members, all of which are one table of so many entries with the key
 /// `x`; and a table of so many entries, whose keys are the ends of one key of so many characters,
-/// of which the last alone is `x`. The budget of 6 members and 20 entries is 134.
+/// of which the last alone is `x`. The budget of 6 members and 20 entries is 134; that of the long
+/// key doesn't pay for reading each of its ends.
 pub(crate) const SHARED: &str = "\
 lists of 6 members, 20 entries => 134 {\"x\": [Some(Point { x: 1, y: 0 }), \
   Some(Point { x: 1, y: 0 }), Some(Point { x: 1, y: 0 }), Some(Point { x: 1, y: 0 }), \
@@ -72,6 +73,8 @@ lists of 6 members, 20 entries => 134 {\"x\": [Some(Point { x: 1, y: 0 }), \
 lists of 7 members, 20 entries => Invalid resource bundle data: resource budget spent;
 lists of 125000 members, 62500 entries => Invalid resource bundle data: resource budget spent;
 point of 500000 letters, 62500 entries => 62502 Point { x: 1, y: 0 };
+names x of 500000 letters, 62500 entries
+  => 62500 Invalid resource bundle data: resource budget spent;
 ";
 
 /// The line of what a row asks for, of its file.
@@ -225,7 +228,11 @@ fn number_at(
 fn line_of_names(alloc: Global, file: &[u8], names: &str) -> Result<String, Fail> {
     let (root, mut walk) = Cursor::root(file)?;
     let table = root.read_table(&mut walk)?;
-    let (count, sorted) = (table.len(), table.sorted());
+    let count = table.len();
+    let sorted = match table.sorted_within(&mut walk) {
+        Ok(sorted) => sorted,
+        Err(error) => return Ok(format!(in alloc; "{count} {error}")?),
+    };
     let order = if sorted.is_some() {
         "ascending"
     } else {

@@ -14,6 +14,7 @@ pair_count z = length (pair_words z.pairs) / 2
 abbrev pub begins : Zone → ℕ → ℤ
 begins z k = cast_signed w32 (slice_index (pair_words z.pairs) (2 * k))
 
+-- the offset of the pair with this number, in seconds
 abbrev pub offset : Zone → ℕ → ℤ
 offset z k = cast_signed w32 (slice_index (pair_words z.pairs) (2 * k + 1))
 
@@ -27,6 +28,8 @@ pub record IsLastBegun (z : Zone) (moment : ℤ) (k : ℕ) : Type 0 where
   pub begun : begins z k ≤ℤ moment
   pub last : BeginLater z moment (k + 1)
 
+-- the offset of the last pair that begins at most at the moment, or the base where all pairs begin
+-- later
 abbrev pub IsOffset : Zone → ℤ → ℤ → Type 0
 IsOffset z moment result =
     ((k : ℕ) × IsLastBegun z moment k × (result ≡ offset z k))

@@ -20,10 +20,11 @@ use Rattle.resb.specs.Views.{pair_bytes}
 use Rattle.resb_zones.specs.declared.zone.Zone.{Zone}
 use Rattle.resb_zones.specs.declared.table.ZoneTable.{ZoneTable}
 
--- the names of the two entries that a zone needs
+-- the name of the entry that holds the offset before all pairs
 abbrev pub base_name : List ℕ
 base_name = codes "base"
 
+-- the name of the entry that holds the pairs
 abbrev pub pairs_name : List ℕ
 pairs_name = codes "pairs"
 
@@ -31,18 +32,22 @@ pairs_name = codes "pairs"
 abbrev pub ReadsNumber : Place → ℤ → ℕ → Type 0
 ReadsNumber = ReadsSigned (negsuc (2 ^ 31 - 1)) (pos (2 ^ 31 - 1))
 
+-- such a number takes so many resources
 abbrev pub CountsNumber : Place → ℕ → Type 0
 CountsNumber = CountsSigned (negsuc (2 ^ 31 - 1)) (pos (2 ^ 31 - 1))
 
+-- the entry's key is this text
 abbrev pub IsNamed : List ℕ → Place × Place → Type 0
 IsNamed name e = (n : ℕ) × ReadsKey e.0 name n
 
+-- the entry's key is a text, and its value is a number for `base`, and a view of pairs for `pairs`
 pub record IsReadable (e : Place × Place) : Type 0 where
   pub name : List ℕ
   pub named : IsNamed name e
   pub base : name ≡ base_name → (n : ℕ) × CountsNumber e.1 n
   pub pairs : name ≡ pairs_name → (n : ℕ) × CountsView 8 e.1 n
 
+-- of the entries with this name, the last one's value stands at this place
 pub record IsLastNamed (name : List ℕ) (places : List (Place × Place)) (value : Place)
     : Type 0 where
   pub before : List (Place × Place)
@@ -52,6 +57,8 @@ pub record IsLastNamed (name : List ℕ) (places : List (Place × Place)) (value
   pub named : IsNamed name (key, value)
   pub last : All (λ e. IsNamed name e → ⊥) after
 
+-- a table of readable entries, whose last `base` and last `pairs` are those of the zone; it takes a
+-- resource and one for each entry
 pub record ReadsZone (p : Place) (z : Zone) (n : ℕ) : Type 0 where
   pub places : List (Place × Place)
   pub are : entries p ≡ Some places
@@ -64,6 +71,7 @@ pub record ReadsZone (p : Place) (z : Zone) (n : ℕ) : Type 0 where
   pub pairs_read : (k : ℕ) × ReadsView 8 pairs (pair_bytes z.pairs) k
   pub count : n ≡ 1 + length places
 
+-- such a table takes so many resources
 pub record CountsZone (p : Place) (n : ℕ) : Type 0 where
   pub places : List (Place × Place)
   pub are : entries p ≡ Some places
@@ -74,11 +82,13 @@ pub record CountsZone (p : Place) (n : ℕ) : Type 0 where
   pub pairs_last : IsLastNamed pairs_name places pairs
   pub count : n ≡ 1 + length places
 
+-- a map of zones by name, in which the last zone of an equal name stands
 abbrev pub ReadsTable : Place → ZoneTable → ℕ → Type 0
 ReadsTable p t n =
     ReadsMap (λ x y. slice_cmp nat_cmp x.now y.now) (λ q s m. ReadsKey q s.now m) ReadsZone
     p t.zones.entries n
 
+-- such a map takes so many resources
 abbrev pub CountsTable : Place → ℕ → Type 0
 CountsTable = CountsMap CountsKey CountsZone
 

@@ -36,7 +36,8 @@ abbrev pub IsTree : Tree → Result Resource ReadingError → Type 0
 IsTree t (Ok r) = tree_of r ≡ t
 IsTree t (Err e) = IsWantOfMemory e
 
--- whoever wrote the file, and in whatever order its keys were listed
+-- what was written of a tree is read back as that tree, whoever wrote the file and in whatever
+-- order its keys were listed
 abbrev pub WrittenIsRead : Type 0
 WrittenIsRead =
     (bytes : List ℕ) (t : Tree) (fallback : Bool) (ks : List (List ℕ))

@@ -20,18 +20,23 @@ use Rattle.resb_tree.specs.WalkOrder.{members, values_of}
 use Rattle.resb_bodies.specs.declared.given.Sites.{Sites}
 use Rattle.resb_bodies.specs.declared.given.Bodies.{Bodies}
 
+-- the trees that resources stand for, in their order
 abbrev pub trees_in : List (Bor Resource) → List Tree
 trees_in rs = map (λ r. tree_of r.now) rs
 
+-- where the keys and the strings stand, for a tail that begins so many bytes into the body
 abbrev pub based : Sites → ℕ → Given
 based p n = record { position = at_text p.positions; offset = offset_of p.plan; base = n }
 
+-- the same with the place at which the tail begins
 abbrev pub given_by : Sites → Given
 given_by p = based p p.base
 
+-- the units and the bytes that are laid so far
 abbrev pub laid_of : Bodies → Laid
 laid_of b = record { units = b.units.items; tail = b.tail.items }
 
+-- the pool alone is laid, and no byte of the tail
 abbrev pub pool_laid : Sites → Laid
 pool_laid p = record { units = plan_units p.plan; tail = [] }
 
@@ -44,7 +49,8 @@ IsKnown g (binary s) = Unit {0}
 IsKnown g (integer n) = Unit {0}
 IsKnown g (int_vector ns) = Unit {0}
 
--- so many members, or pairs of numbers, or eights of bytes
+-- how many members a collection has, how many pairs of numbers a vector, and how many eights of
+-- bytes a binary
 abbrev pub own_size : Tree → ℕ
 own_size (string s) = 0
 own_size (array ts) = length (members ts)
@@ -53,10 +59,11 @@ own_size (binary s) = (length s + 7) / 8
 own_size (integer n) = 0
 own_size (int_vector ns) = (length ns + 1) / 2
 
--- a body takes at most so many units and bytes
+-- a body takes at most so many units of the 16-bit block
 abbrev pub most_units : Tree → ℕ
 most_units t = 2 * own_size t + 1
 
+-- a body takes at most so many bytes of the tail
 abbrev pub most_bytes : Tree → ℕ
 most_bytes t = 8 * own_size t + 32
 

@@ -39,6 +39,7 @@ module _ (counts : Place → ℕ → Type 0)
   maybe_one (Some p) m n h k = one p m n h k
   maybe_one None m n h k = h ∙ sym k
 
+-- where no field and no name is left there is one count
 pub none_one : (names : List (List ℕ)) (m n : ℕ) → ReadsNone names m → ReadsNone names n → m ≡ n
 none_one names m n h k = h.1 ∙ sym k.1
 
@@ -93,7 +94,7 @@ module _ (counts : List (List ℕ) → List Entry → ℕ → Type 0)
       let f : m ≡ 1 + length h.places + h.total = h.count in
       let g : n ≡ 1 + length k.places + k.total = k.count in omega arith
 
--- the laws of a chain of fields, to be put together from the laws of each
+-- whatever is read of a first field and of the others has its count, where each of them has one
 pub counted_next : {X Y : Type 0} {ra : Option Place → X → ℕ → Type 0}
     {rb : List (List ℕ) → List Entry → Y → ℕ → Type 0} {ca : Option Place → ℕ → Type 0}
     {cb : List (List ℕ) → List Entry → ℕ → Type 0}
@@ -105,10 +106,12 @@ pub counted_next : {X Y : Type 0} {ra : Option Place → X → ℕ → Type 0}
 counted_next {X} {Y} {ra} {rb} {ca} {cb} ha hb names es z n =
     next_counted ra rb ca cb ha hb names es z.0 z.1 n
 
+-- where no field is left, what is read of none has its count
 pub counted_end : (names : List (List ℕ)) (es : List Entry) (u : Unit {0}) (n : ℕ)
     → ReadsNone names n → ReadsNone names n
 counted_end names es u n h = h
 
+-- a first field and the others have one count, where each of them has one
 pub one_next : {ca : Option Place → ℕ → Type 0} {cb : List (List ℕ) → List Entry → ℕ → Type 0}
     → ((o : Option Place) (m n : ℕ) → ca o m → ca o n → m ≡ n)
     → ((names : List (List ℕ)) (es : List Entry) (m n : ℕ) → cb names es m → cb names es n
@@ -117,6 +120,7 @@ pub one_next : {ca : Option Place → ℕ → Type 0} {cb : List (List ℕ) → 
     → CountsNext ca cb names es m → CountsNext ca cb names es n → m ≡ n
 one_next {ca} {cb} oa ob = next_one ca cb oa ob
 
+-- where no field is left there is one count
 pub one_end : (names : List (List ℕ)) (es : List Entry) (m n : ℕ)
     → ReadsNone names m → ReadsNone names n → m ≡ n
 one_end names es = none_one names

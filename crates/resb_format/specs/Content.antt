@@ -41,39 +41,40 @@ abbrev pub paired : Option (List ℕ) → Option (List Member) → Option Conten
 paired positions members =
     option_and_then (λ ks. option_map (λ ms. pairs (zip ks ms)) members) positions
 
--- u32 n, n bytes
+-- a binary: a count of 32 bits, and behind it as many bytes
 abbrev pub binary_at : Parts → ℕ → Option Content
 binary_at p v =
     counted (words_of p.body) v
     (λ n. option_map (λ bytes. leaf (binary bytes)) (part p.body (4 * v + 4) n))
 
--- u32 n, n words
+-- a vector: a count of 32 bits, and behind it as many words
 abbrev pub int_vector_at : Parts → ℕ → Option Content
 int_vector_at p v =
     counted (words_of p.body) v
     (λ n. option_map (λ ns. leaf (int_vector ns)) (part (words_of p.body) (v + 1) n))
 
--- u32 n, n descriptors
+-- an array: a count of 32 bits, and behind it as many descriptors
 abbrev pub array_at : Parts → ℕ → Option Content
 array_at p v = counted (words_of p.body) v (λ n. option_map list (words_at p (v + 1) n))
 
--- unit n, n string offsets
+-- an array of strings in the 16-bit block: a count in one unit, and behind it as many offsets
 abbrev pub array16_at : Parts → ℕ → Option Content
 array16_at p u = counted p.block u (λ n. option_map list (offsets_at p (u + 1) n))
 
--- u16 n, n u16 key positions, a u16 of padding where n is even, n descriptors, which begin n / 2 +
--- 1 words on
+-- a table: a count of 16 bits and as many key positions of 16 bits, 16 bits of padding where the
+-- count is even, and as many descriptors, which begin n / 2 + 1 words on for a count of n
 abbrev pub table_at : Parts → ℕ → Option Content
 table_at p v =
     counted (units_of p.body) (2 * v)
     (λ n. paired (part (units_of p.body) (2 * v + 1) n) (words_at p (v + n / 2 + 1) n))
 
--- unit n, n key positions, n string offsets
+-- a table of strings in the 16-bit block: a count in one unit, as many key positions, and as many
+-- offsets
 abbrev pub table16_at : Parts → ℕ → Option Content
 table16_at p u =
     counted p.block u (λ n. paired (part p.block (u + 1) n) (offsets_at p (u + 1 + n) n))
 
--- u32 n, n u32 key positions, n descriptors
+-- a table: a count of 32 bits, as many key positions of 32 bits, and as many descriptors
 abbrev pub table32_at : Parts → ℕ → Option Content
 table32_at p v =
     counted (words_of p.body) v
@@ -106,7 +107,7 @@ empty type =
     else if type == types.int_vector then Some (leaf (int_vector []))
     else None
 
--- 4 bits of type, 28 bits of value
+-- what a word leads to, by the type in its upper 4 bits and the value in its lower 28
 unfoldable pub content : Parts → ℕ → Option Content
 content p w =
     let type = w / 2 ^ 28 in

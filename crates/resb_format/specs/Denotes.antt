@@ -10,7 +10,8 @@ use Rattle.resb_format.specs.Content.{Member, word, unit, leaf, list, pairs, con
 
 module _ (p : Parts) where
   mutual
-    -- The least relation, so that a cycle denotes nothing.
+    -- a word denotes a tree, with a count of resources; nothing else does, so that a cycle denotes
+    -- nothing
     pub data Den : ℕ → Tree → ℕ → Type 0 where
       den_leaf : {w : ℕ} {t : Tree} → content p w ≡ Some (leaf t) → Den w t 1
       den_list : {w n : ℕ} {ms : List Member} {ts : List Tree} → content p w ≡ Some (list ms)
@@ -50,14 +51,15 @@ module _ (p : Parts) where
       reaches_word : {w n : ℕ} → Reaches w n → ReachesMember (word w) n
       reaches_unit : {u : ℕ} → ReachesMember (unit u) 1
 
-    -- in one member, after members that denote
+    -- so many resources are reached in one of the members, behind members that denote trees
     pub data ReachesEach : List Member → ℕ → Type 0 where
       each_here : {m : Member} {n : ℕ} {ms : List Member} → ReachesMember m n
           → ReachesEach (m ∷ ms) n
       each_later : {m : Member} {j n : ℕ} {t : Tree} {ms : List Member} → DenMember m t j
           → ReachesEach ms n → ReachesEach (m ∷ ms) (j + n)
 
-    -- in one entry whose key stands, after entries that denote
+    -- so many resources are reached in one of the entries, whose key stands, behind entries that
+    -- denote
     pub data ReachesPairs : List (ℕ × Member) → ℕ → Type 0 where
       pairs_here : {m : Member} {at n : ℕ} {es : List (ℕ × Member)} {key : List ℕ}
           → key_at p.keys at ≡ Some key → ReachesMember m n → ReachesPairs ((at, m) ∷ es) n

@@ -12,7 +12,7 @@ pub record Parts : Type 0 where
   pub keys : List ℕ
   pub block : List ℕ
 
--- in bytes
+-- how many bytes the header has: the first number of 16 bits of the file
 abbrev pub header_size : List ℕ → ℕ
 header_size bytes = slice_index (units_of bytes) 0
 
@@ -20,7 +20,7 @@ header_size bytes = slice_index (units_of bytes) 0
 abbrev pub body_of : List ℕ → List ℕ
 body_of bytes = drop (header_size bytes) bytes
 
--- the words of the body: the root's descriptor, and then the index
+-- the body's first word: the root's descriptor
 abbrev pub root_word : List ℕ → ℕ
 root_word bytes = slice_index (words_of (body_of bytes)) 0
 
@@ -28,7 +28,7 @@ root_word bytes = slice_index (words_of (body_of bytes)) 0
 abbrev pub field_count : List ℕ → ℕ
 field_count bytes = slice_index (words_of (body_of bytes)) 1
 
--- ends, in words from the body's start
+-- the index's second word: where the key block ends, in words of the body
 abbrev pub keys_end : List ℕ → ℕ
 keys_end bytes = slice_index (words_of (body_of bytes)) 2
 

@@ -14,7 +14,7 @@ use Rattle.resb_format.specs.Bytes.{part}
 abbrev pub before_zero : List ℕ → Option (List ℕ)
 before_zero xs = option_map (λ n. take n xs) (position (λ x. x == 0) xs)
 
--- a unit that begins no marker
+-- the unit begins no marker
 abbrev pub is_no_marker : ℕ → Bool
 is_no_marker unit = nat_lt unit 0xdc00 || nat_lt 0xdfff unit
 

@@ -14,7 +14,8 @@ use Rattle.resb_head.specs.declared.head.BinHeader.{BinHeader}
 use Rattle.resb_head.specs.declared.repr_info.BinReprInfo.{BinReprInfo}
 use Rattle.resb_head.specs.declared.index.BinIndex.{BinIndex}
 
--- in the order that the info itself names
+-- representation info stands at the front of these bytes, its numbers in the order of bytes that it
+-- names itself
 pub record InfoAt (info : BinReprInfo) (bytes : List ℕ) : Type 0 where
   pub size : info.size ≡ unit_in (nat_eq (slice_index bytes 4) 1) bytes 0
   pub reserved_word : info.reserved_word ≡ unit_in (nat_eq (slice_index bytes 4) 1) bytes 1
@@ -26,7 +27,7 @@ pub record InfoAt (info : BinReprInfo) (bytes : List ℕ) : Type 0 where
   pub format_version : version_bytes info.format_version ≡ slice_range bytes 12 16
   pub data_version : info.data_version ≡ slice_range bytes 16 20
 
--- the size, the magic word and the info
+-- a header stands at the front of these bytes: its size, the magic word and the info
 pub record HeaderAt (header : BinHeader) (bytes : List ℕ) : Type 0 where
   pub size : header.size ≡ unit_in (nat_eq (slice_index bytes 8) 1) bytes 0
   pub magic : slice_range bytes 2 4 ≡ 0xda ∷ 0x27 ∷ []
@@ -61,7 +62,7 @@ info_bytes i =
 abbrev pub header_bytes : BinHeader → List ℕ
 header_bytes h = to_le_bytes w16 h.size ++ 0xda ∷ 0x27 ∷ [] ++ info_bytes h.repr_info
 
--- at most 8 words, whatever the count
+-- the words of an index: five, and those of the last three that it has
 abbrev pub index_words : BinIndex → List ℕ
 index_words i =
     i.field_count ∷ i.keys_end ∷ i.resources_end ∷ i.bundle_end ∷ i.largest_table_entry_count ∷ []

@@ -22,7 +22,7 @@ abbrev pub first_fault : List (Bool × Refusal) → Option Refusal
 first_fault [] = None
 first_fault ((holds, fault) ∷ checks) = if holds then first_fault checks else Some fault
 
--- one of the six spellings
+-- the bytes spell one of the six versions
 abbrev pub is_version : List ℕ → Bool
 is_version bytes =
     list_any (λ v. bytes_eq (version_bytes v) bytes) (V1_0 ∷ V1_1 ∷ V1_2 ∷ V1_3 ∷ V2_0 ∷ V3_0 ∷ [])
@@ -51,7 +51,8 @@ info_fault bytes =
     ((nat_le 20 (length bytes), invalid (codes "input is too short to contain representation info"))
     ∷ info_checks false bytes)
 
--- the size is the header's first unit; the byte of the order is its ninth
+-- the checks of a header, in their order, each with its refusal; the size is its first unit, the
+-- byte of the order its ninth
 unfoldable pub header_checks : Bool → List ℕ → List (Bool × Refusal)
 header_checks any bytes =
     (nat_le 24 (length bytes), invalid (codes "input is too short to contain file header"))
@@ -70,7 +71,8 @@ header_checks any bytes =
 unfoldable pub header_fault : Bool → List ℕ → Option Refusal
 header_fault any bytes = first_fault (header_checks any bytes)
 
--- the words behind the root's descriptor
+-- the checks of an index, which is the words behind the root's descriptor, in their order, each
+-- with its refusal
 unfoldable pub index_checks : List ℕ → List (Bool × Refusal)
 index_checks bytes =
     let count = slice_index (words_of bytes) 0 in
@@ -83,7 +85,7 @@ index_checks bytes =
 unfoldable pub index_fault : List ℕ → Option Refusal
 index_fault bytes = first_fault (index_checks bytes)
 
--- what an info may say in a file that is read
+-- the checks of what is supported, in their order: what the info of a file that is read may say
 unfoldable pub support_checks : List ℕ → List (Bool × Refusal)
 support_checks info = (
   nat_eq (slice_index info 5) 0,
@@ -99,7 +101,8 @@ support_checks info = (
     )
     ∷ []
 
--- the blocks lie inside the body, one behind the other; the ends are in words
+-- the checks of the blocks: they lie inside the body, one behind the other, by ends that are in
+-- words
 unfoldable pub block_checks : List ℕ → List (Bool × Refusal)
 block_checks body =
     let field : ℕ → ℕ = λ i. slice_index (words_of body) i in
@@ -108,12 +111,12 @@ block_checks body =
     ∷ (nat_le (field 2) (field 7) && nat_le (4 * field 7) (length body), end_of_input)
     ∷ []
 
--- the root's word, the index and the blocks
+-- the checks of a body: of its root's word, its index and its blocks
 unfoldable pub body_checks : List ℕ → List (Bool × Refusal)
 body_checks body =
     (nat_le 4 (length body), end_of_input) ∷ (index_checks (drop 4 body) ++ block_checks body)
 
--- all of them; a header that is longer than the file leaves no body
+-- all checks of a file, in their order; a header that is longer than the file leaves no body
 unfoldable pub file_checks : List ℕ → List (Bool × Refusal)
 file_checks bytes =
     header_checks false bytes ++ (support_checks (drop 4 bytes) ++ body_checks (body_of bytes))

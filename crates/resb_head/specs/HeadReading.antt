@@ -9,7 +9,8 @@ use Rattle.resb_head.specs.declared.head.BinHeader.{BinHeader}
 use Rattle.resb_head.specs.declared.repr_info.BinReprInfo.{BinReprInfo}
 use Rattle.resb_head.specs.declared.index.BinIndex.{BinIndex}
 
--- a foreign order of bytes is let through where `any` is true
+-- a header with the values that stand there, or the first check that fails; a foreign order of
+-- bytes is let through where `any` is true
 abbrev pub ReadsHeader : Bool → List ℕ → Result BinHeader ReadingError → Type 0
 ReadsHeader any bytes r =
     MatchResult r (λ h. (header_fault any bytes ≡ None) × HeaderAt h bytes)

@@ -8,8 +8,8 @@ use Rattle.resb_tree.specs.Tree.{Tree, array, table, binary, int_vector, Trees, 
 use Rattle.resb_layout.specs.Laid.{binary_body, words_body, near_table_body, wide_table_body}
 use Rattle.resb_layout.specs.Laid.{offsets_in}
 
--- all fillings are bytes 0xaa: up to the place of a binary's bytes, behind these, and behind an
--- even number of a table's 16-bit positions
+-- the body of a tree in the tail; all fillings are bytes 0xaa: up to the place of a binary's bytes,
+-- behind these, and behind an even number of a table's 16-bit positions
 pub data TailBody : ℕ → Tree → List ℕ → Type 0 where
   tail_bytes : {at : ℕ} {bytes : List ℕ} → 0 < length bytes
       → TailBody at (binary bytes) (binary_body at bytes)
@@ -22,7 +22,8 @@ pub data TailBody : ℕ → Tree → List ℕ → Type 0 where
   tail_wide_table : {at : ℕ} {es : Entries} (ps ws : List ℕ) → 0 < length ws
       → TailBody at (table es) (wide_table_body ps ws)
 
--- without a gap, each body from a word on; the others of the trees have none in the tail
+-- the bodies of the trees that have one in the tail are these bytes, without a gap, each from a
+-- word on
 pub data FillsTail : ℕ → List Tree → List ℕ → Type 0 where
   tail_ends : {at : ℕ} → FillsTail at [] []
   tail_without : {at : ℕ} {t : Tree} {ts : List Tree} {bytes : List ℕ} → FillsTail at ts bytes
@@ -31,14 +32,15 @@ pub data FillsTail : ℕ → List Tree → List ℕ → Type 0 where
       → TailBody at t body → FillsTail (at + length body) ts bytes
       → FillsTail at (t ∷ ts) (body ++ bytes)
 
--- a count, and the strings' offsets, behind a table's key positions
+-- the body of a tree in the 16-bit block: a count, a table's key positions, and the strings'
+-- offsets
 pub data BlockBody : Tree → List ℕ → Type 0 where
   block_array : {ts : Trees} (ws : List ℕ) → 0 < length ws
       → BlockBody (array ts) (length ws ∷ offsets_in ws)
   block_table : {es : Entries} (ps ws : List ℕ) → 0 < length ws
       → BlockBody (table es) (length ws ∷ (ps ++ offsets_in ws))
 
--- without a gap; the others of the trees have none in the block
+-- the bodies of the trees that have one in the 16-bit block are these units, without a gap
 pub data FillsBlock : List Tree → List ℕ → Type 0 where
   block_ends : FillsBlock [] []
   block_without : {t : Tree} {ts : List Tree} {us : List ℕ} → FillsBlock ts us

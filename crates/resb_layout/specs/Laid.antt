@@ -15,8 +15,8 @@ use Rattle.resb_tree.specs.Tree.{no_trees, more_trees, Entries, no_entries, entr
 use Rattle.resb_tree.specs.Maps.{text_cmp}
 use Rattle.resb_tree.specs.WalkOrder.{entry_keys}
 
--- Positions of keys are in bytes of the body, offsets of strings in units of the 16-bit block. The
--- tail begins so many bytes into the body.
+-- where keys and strings stand, and where the tail begins: positions of keys and that place are in
+-- bytes of the body, offsets of strings in units of the 16-bit block
 pub record Given : Type 0 where
   pub position : List ℕ → Option ℕ
   pub offset : List ℕ → Option ℕ
@@ -59,13 +59,14 @@ to_word n = (4 - n % 4) % 4
 abbrev pub to_data : ℕ → ℕ
 to_data n = (28 - n % 16) % 16
 
--- u32 n, n bytes, so that these begin at a multiple of 16, up to a word
+-- a binary's body: a count of 32 bits and as many bytes, which begin at a multiple of 16, filled up
+-- to a word
 abbrev pub binary_body : ℕ → List ℕ → List ℕ
 binary_body at bytes =
     fill (to_data at) ++ (to_le_bytes w32 (length bytes)
     ++ (bytes ++ fill (to_word (length bytes))))
 
--- u32 n, n words: numbers, or descriptors
+-- a body of words: a count of 32 bits, and as many numbers or descriptors
 abbrev pub words_body : List ℕ → List ℕ
 words_body ws = to_le_bytes w32 (length ws) ++ words ws
 
@@ -73,11 +74,11 @@ words_body ws = to_le_bytes w32 (length ws) ++ words ws
 abbrev pub pad : ℕ → List ℕ
 pad n = if nat_eq (n % 2) 0 then 0xaa ∷ 0xaa ∷ [] else []
 
--- u16 n, n positions, padding, n descriptors
+-- a table's body: a count of 16 bits, as many positions, padding, and as many descriptors
 abbrev pub near_table_body : List ℕ → List ℕ → List ℕ
 near_table_body ps ws = to_le_bytes w16 (length ps) ++ (halves ps ++ (pad (length ps) ++ words ws))
 
--- u32 n, n positions, n descriptors
+-- a table's body: a count of 32 bits, as many positions, and as many descriptors
 abbrev pub wide_table_body : List ℕ → List ℕ → List ℕ
 wide_table_body ps ws = to_le_bytes w32 (length ps) ++ (words ps ++ words ws)
 
@@ -85,11 +86,11 @@ wide_table_body ps ws = to_le_bytes w32 (length ps) ++ (words ps ++ words ws)
 abbrev pub is_short_string : ℕ → Bool
 is_short_string w = nat_le 0x6000_0000 w && nat_le w 0x6000_ffff
 
--- strings alone, as many as a unit can count
+-- all words are those of strings at offsets that a unit can hold, and a unit can count them
 abbrev pub are_short : List ℕ → Bool
 are_short ws = nat_le (length ws) 65535 && list_all is_short_string ws
 
--- positions that a unit can hold, as many as a unit can count
+-- a unit can hold each of the positions, and count them
 abbrev pub are_near : List ℕ → Bool
 are_near ps = nat_le (length ps) 65535 && list_all (λ p. nat_le p 65535) ps
 
@@ -105,7 +106,8 @@ pub data ClosesArray (g : Given) (s : Laid) (ws : List ℕ) : Laid → ℕ → T
       → length ws < 2 ^ 32
       → ClosesArray g s ws (more_bytes s (words_body ws)) (0x8000_0000 + at)
 
--- a table's, whose keys have the positions ps
+-- behind its members, whose words are ws: a table's further units or bytes, and its word; its keys
+-- have the positions ps
 pub data ClosesTable (g : Given) (s : Laid) (ps ws : List ℕ) : Laid → ℕ → Type 0 where
   short_table : are_near ps ≡ true → are_short ws ≡ true → length s.units < 2 ^ 28
       → ClosesTable g s ps ws (more_units s (length ws ∷ (ps ++ offsets_in ws))) (0x5000_0000
@@ -128,7 +130,7 @@ pub record ArePlaced (g : Given) (ks : List (List ℕ)) (ps : List ℕ) : Type 0
   pub positions : map g.position ks ≡ map Some ps
 
 mutual
-  -- an empty collection, binary or vector is its type with value 0
+  -- a tree is laid, with its word: an empty collection, binary or vector is its type with value 0
   pub data Lays (g : Given) : Laid → Tree → Laid → ℕ → Type 0 where
     lays_integer : {s : Laid} {n : ℕ} → n < 2 ^ 28 → Lays g s (integer n) s (0x7000_0000 + n)
     lays_string : {s : Laid} {text : List ℕ} {k : ℕ} → g.offset text ≡ Some k → k < 2 ^ 28

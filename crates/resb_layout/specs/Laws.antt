@@ -63,7 +63,7 @@ LaidInOrder =
 abbrev pub taken : Laid → ℕ
 taken s = 2 * length s.units + length s.tail
 
--- two bytes for each resource but the root
+-- a file has at least two bytes for each resource of its tree but the root
 abbrev pub LaidIsPaid : Type 0
 LaidIsPaid =
     (g : Given) (before after : Laid) (t : Tree) (w : ℕ) → Lays g before t after w

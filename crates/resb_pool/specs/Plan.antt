@@ -37,7 +37,7 @@ offset_of p s = option_and_then (slice_get p.offsets.items) (index_of_by (λ k. 
 -- it
 pub record IsPlan (S : List (List ℕ)) (us : List ℕ) (offset : List ℕ → Option ℕ) : Type 0 where
   pub texts : All IsUtf8 S
-  -- none is too long
+  -- no text is too long
   pub short : All (λ s. length (units s) ≤ 4294967295) S
   pub room : length us ≤ 2 ^ 28
   pub records : List (List ℕ)

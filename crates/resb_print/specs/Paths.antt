@@ -34,7 +34,8 @@ path_if s path later = if has_quote s then Some path else later
 
 -- the path to the first cause in the order of the text, and else what comes later
 abbrev mutual
-  -- in a tree that stands at a path: a string that holds a quote, or what is found inside
+  -- the path to the first cause in a tree that stands at a path, a string that holds a quote or
+  -- what is found inside, and else what comes later
   pub path_else : List Step → Tree → Option (List Step) → Option (List Step)
   path_else path (string s) later = path_if s path later
   path_else path (array ts) later = member_path_else path 0 ts later
@@ -43,13 +44,13 @@ abbrev mutual
   path_else path (integer n) later = later
   path_else path (int_vector ns) later = later
 
-  -- in the members of an array that stands at a path, the first of which has this number
+  -- the same in the members of an array that stands at a path, the first of which has this number
   pub member_path_else : List Step → ℕ → Trees → Option (List Step) → Option (List Step)
   member_path_else path n no_trees later = later
   member_path_else path n (more_trees t ts) later =
       path_else (path ++ by_number n ∷ []) t (member_path_else path (suc n) ts later)
 
-  -- in the entries of a table that stands at a path, each key before its tree
+  -- the same in the entries of a table that stands at a path, each key before its tree
   pub entry_path_else : List Step → Entries → Option (List Step) → Option (List Step)
   entry_path_else path no_entries later = later
   entry_path_else path (entry k t es) later =

@@ -18,12 +18,12 @@ use Rattle.resb_print.specs.declared.place.Place.TheVariants.{InTable, InArray}
 abbrev pub deeper : ℕ → ℕ
 deeper n = if nat_lt n 32 then n + 1 else n
 
--- four spaces a level
+-- the indentation: four spaces a level
 abbrev pub indent_on : ℕ → List ℕ → List ℕ
 indent_on zero rest = rest
 indent_on (suc n) rest = ascii.space ∷ ascii.space ∷ ascii.space ∷ ascii.space ∷ indent_on n rest
 
--- a new line
+-- a new line with its indentation
 abbrev pub line_on : ℕ → List ℕ → List ℕ
 line_on n rest = ascii.line_feed ∷ indent_on n rest
 
@@ -74,7 +74,7 @@ abbrev pub trees_end : Trees → ℕ → List ℕ → List ℕ
 trees_end no_trees n rest = ascii.right_brace ∷ rest
 trees_end (more_trees t ts) n rest = close_on n rest
 
--- the same of a table
+-- the end of a table, right behind its `{` where it is empty
 abbrev pub entries_end : Entries → ℕ → List ℕ → List ℕ
 entries_end no_entries n rest = ascii.right_brace ∷ rest
 entries_end (entry k t es) n rest = close_on n rest

@@ -18,7 +18,7 @@ NoQuote s = has_quote s ≡ false
 
 -- no string and no key holds one
 abbrev mutual
-  -- in a tree
+  -- no string and no key of a tree holds a quote
   pub IsFree : Tree → Type 0
   IsFree (string s) = NoQuote s
   IsFree (array ts) = AreFree ts
@@ -27,12 +27,12 @@ abbrev mutual
   IsFree (integer n) = Unit {0}
   IsFree (int_vector ns) = Unit {0}
 
-  -- so for trees
+  -- so for each of some trees
   pub AreFree : Trees → Type 0
   AreFree no_trees = Unit {0}
   AreFree (more_trees t ts) = IsFree t × AreFree ts
 
-  -- so for entries, their keys included
+  -- so for the keys and the trees of entries
   pub FreeIn : Entries → Type 0
   FreeIn no_entries = Unit {0}
   FreeIn (entry k t es) = NoQuote k × IsFree t × FreeIn es
@@ -43,7 +43,7 @@ quote_else x s later = if has_quote s then Some x else later
 
 -- the first cause in the order of the text, and else what comes later
 abbrev mutual
-  -- in a tree
+  -- the first cause in a tree, and else what comes later
   pub cause_else : Tree → Option Cause → Option Cause
   cause_else (string s) later = quote_else cause.QuoteInString s later
   cause_else (array ts) later = causes_else ts later
@@ -52,12 +52,12 @@ abbrev mutual
   cause_else (integer n) later = later
   cause_else (int_vector ns) later = later
 
-  -- in trees, in their order
+  -- the first cause in trees, in their order, and else what comes later
   pub causes_else : Trees → Option Cause → Option Cause
   causes_else no_trees later = later
   causes_else (more_trees t ts) later = cause_else t (causes_else ts later)
 
-  -- in entries, each key before its tree
+  -- the first cause in entries, each key before its tree, and else what comes later
   pub causes_in_else : Entries → Option Cause → Option Cause
   causes_in_else no_entries later = later
   causes_in_else (entry k t es) later =

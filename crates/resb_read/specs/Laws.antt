@@ -21,7 +21,8 @@ OneRefusalOfAFile = (bytes : List ℕ) (d e : ReadingError) → RefusesFile byte
 abbrev pub OneAtPlace : {X : Type 0} → (Place → X → ℕ → Type 0) → Type 0
 OneAtPlace {X} reads = (p : Place) (x y : X) (m n : ℕ) → reads p x m → reads p y n → x ≡ y
 
--- so it is for numbers of a range, bools, 28 bits, texts, keys, bytes, views and trees
+-- two values that are read at one place are equal: numbers of a range, bools, 28 bits, texts, keys,
+-- bytes, views and trees
 abbrev pub OneValue : Type 0
 OneValue = ((low high : ℤ) → OneAtPlace (ReadsSigned low high))
     × ((high : ℕ) → OneAtPlace (ReadsUnsigned high)) × OneAtPlace ReadsBool × OneAtPlace ReadsBits

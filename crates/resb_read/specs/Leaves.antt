@@ -33,7 +33,7 @@ signed_at (spot.Word w) = Some (cast_signed w32 w, 0)
 signed_at (spot.Unit u) = None
 signed_at (spot.Key k) = None
 
--- the same, from 0
+-- a number without a sign: the 28 bits of an Int, or a vector's word
 abbrev pub unsigned_at : Spot → Option (ℕ × ℕ)
 unsigned_at (spot.Descriptor w) = if type_in w == types.integer then Some (value_in w, 1) else None
 unsigned_at (spot.Word w) = Some (w, 0)
@@ -51,7 +51,7 @@ bool_at (spot.Word w) = None
 bool_at (spot.Unit u) = None
 bool_at (spot.Key k) = None
 
--- between two numbers
+-- a number lies between two others, or is one of them
 abbrev pub IsWithin : ℤ → ℤ → ℤ → Type 0
 IsWithin low high x = (low ≤ℤ x) × (x ≤ℤ high)
 
@@ -79,7 +79,7 @@ ReadsBool p x n = IsThere any (bool_at p.at) x n
 abbrev pub CountsBool : Place → ℕ → Type 0
 CountsBool p n = CountsThere any (bool_at p.at) n
 
--- an Int's 28 bits
+-- the 28 bits of an Int
 abbrev pub bits_at : Spot → Option (ℕ × ℕ)
 bits_at (spot.Descriptor w) = if type_in w == types.integer then Some (value_in w, 1) else None
 bits_at (spot.Word w) = None
@@ -94,7 +94,7 @@ ReadsBits p x n = IsThere any (bits_at p.at) x n
 abbrev pub CountsBits : Place → ℕ → Type 0
 CountsBits p n = CountsThere any (bits_at p.at) n
 
--- a text: the string of a descriptor or a unit, or a key
+-- the text of the string that a descriptor leads to; a descriptor of another type has none
 abbrev pub described_text : Parts → ℕ → Option (List ℕ)
 described_text p w =
     if type_in w == types.string then
@@ -115,7 +115,7 @@ ReadsText p x n = IsThere any (text_from p.parts p.at) x n
 abbrev pub CountsText : Place → ℕ → Type 0
 CountsText p n = CountsThere any (text_from p.parts p.at) n
 
--- a key
+-- the key at a spot, for no resource, if one stands there
 abbrev pub key_from : Parts → Spot → Option (List ℕ × ℕ)
 key_from p (spot.Descriptor w) = None
 key_from p (spot.Unit u) = None
@@ -130,7 +130,7 @@ ReadsKey p x n = IsThere any (key_from p.parts p.at) x n
 abbrev pub CountsKey : Place → ℕ → Type 0
 CountsKey p n = CountsThere any (key_from p.parts p.at) n
 
--- bytes: of a Binary, of a vector's words, of a string's units, which need be no text, or of a key
+-- the bytes under the units of a string, which need be no text
 abbrev pub units_as_bytes : List ℕ → List ℕ
 units_as_bytes us = flat_map (to_le_bytes w16) us
 

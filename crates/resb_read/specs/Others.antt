@@ -63,7 +63,7 @@ abbrev pub are_paid : Option (List ℕ × ℕ) → ℕ → Bool
 are_paid (Some r) left = nat_le r.1 left
 are_paid None left = false
 
--- bytes that are no whole items, or why there are none
+-- why no view is read: there are no bytes, or they are no whole items
 abbrev pub view_refusal : Place → ℕ → Refusal
 view_refusal p left =
     if are_paid (bytes_from p.parts p.at) left then (Unknown, codes "Wrong length")

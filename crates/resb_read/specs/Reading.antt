@@ -30,6 +30,6 @@ IsThere fits there x n = fits x × (there ≡ Some (x, n))
 abbrev pub CountsThere : {X : Type 0} → (X → Type 0) → Option (X × ℕ) → ℕ → Type 0
 CountsThere {X} fits there n = (x : X) × IsThere fits there x n
 
--- each value fits
+-- whatever the value is, it fits
 abbrev pub any : {X : Type 0} → X → Type 0
 any _ = Unit {0}

@@ -30,7 +30,7 @@ elsewhere = (Unknown, codes "value cannot be read here")
 abbrev pub mismatch : List ℕ → Refusal
 mismatch expected = (ResourceTypeMismatch, expected)
 
--- for a type that isn't read; else the other one
+-- the refusal of a type that is not read; of any other type it is the one that is given
 abbrev pub type_refusal : ℕ → Refusal → Refusal
 type_refusal type other =
     if types.is_read_type type then other else type_damage type
@@ -61,14 +61,15 @@ bool_refusal (spot.Unit u) left = paid left elsewhere
 bool_refusal (spot.Word w) left = elsewhere
 bool_refusal (spot.Key k) left = elsewhere
 
--- no value of a type that has none at resources, words or keys
+-- why nothing is read where no value of a type can stand: at a resource of another type, at a
+-- word, or at a key
 abbrev pub no_value : Spot → ℕ → Refusal
 no_value (spot.Descriptor w) left = paid left (type_refusal (type_in w) elsewhere)
 no_value (spot.Unit u) left = paid left elsewhere
 no_value (spot.Word w) left = elsewhere
 no_value (spot.Key k) left = elsewhere
 
--- each Int fits
+-- why no 28 bits are read at a spot with so much left; each Int has them
 abbrev pub bits_refusal : Spot → ℕ → Refusal
 bits_refusal (spot.Descriptor w) left =
     paid left (type_refusal (type_in w) (mismatch (codes "expected integer resource")))
@@ -76,7 +77,7 @@ bits_refusal (spot.Unit u) left = paid left elsewhere
 bits_refusal (spot.Word w) left = elsewhere
 bits_refusal (spot.Key k) left = elsewhere
 
--- another place, or a fault of the key itself
+-- why no key is read at a spot: it is another place, or the key's own fault
 abbrev pub key_refusal_from : Parts → Spot → ℕ → Refusal
 key_refusal_from p (spot.Key k) left = key_damage p.keys k
 key_refusal_from p (spot.Descriptor w) left = no_value (spot.Descriptor w) left
@@ -87,7 +88,7 @@ key_refusal_from p (spot.Word w) left = no_value (spot.Word w) left
 abbrev pub key_refusal : Place → ℕ → Refusal
 key_refusal p left = key_refusal_from p.parts p.at left
 
--- no string, or one that is no text; or another type
+-- why no text stands at a descriptor: no string, or one that is no text; or another type
 abbrev pub text_fault : Parts → ℕ → Refusal
 text_fault p w =
     if type_in w == types.string then text_damage p.block (value_in w)
@@ -104,7 +105,8 @@ text_refusal_from p (spot.Key k) left = key_damage p.keys k
 abbrev pub text_refusal : Place → ℕ → Refusal
 text_refusal p left = text_refusal_from p.parts p.at left
 
--- the string's own fault, a count or what is counted outside the body, or another type
+-- why no bytes stand at a descriptor: the string's own fault, a count or what is counted outside
+-- the body, or another type
 abbrev pub bytes_fault : Parts → ℕ → Refusal
 bytes_fault p w =
     if type_in w == types.string then invalid (string_fault p.block (value_in w))
@@ -122,13 +124,15 @@ bytes_refusal_from p (spot.Key k) left = key_damage p.keys k
 abbrev pub bytes_refusal : Place → ℕ → Refusal
 bytes_refusal p left = bytes_refusal_from p.parts p.at left
 
--- a count or the fields behind it outside their block, or another type
+-- why no members stand at a descriptor: a count or the fields behind it outside their block, or
+-- another type
 abbrev pub members_fault : ℕ → Refusal
 members_fault w =
     if types.is_array (type_in w) || type_in w == types.int_vector then end_of_input
     else type_refusal (type_in w) (mismatch (codes "expected array resource"))
 
--- a table's entries reach outside the body, or another type stands there
+-- why no entries stand at a descriptor: a table's entries reach outside the body, or another type
+-- stands there
 abbrev pub entries_fault : ℕ → Refusal
 entries_fault w =
     if types.is_table (type_in w) then end_of_input

@@ -24,35 +24,35 @@ use Rattle.resb_read.specs.declared.cursor.Spot.TheVariants as spot
 abbrev pub Takes : Spot → ℕ → ℕ → Type 0
 Takes s left left' = left' ≡ left - cost_at s
 
--- this kind and message, and what is taken
+-- a refusal has this kind and message, and takes what it takes
 abbrev pub RefusesAs : (Place → ℕ → Refusal) → Place → ℕ → ℕ → ReadingError → Type 0
 RefusesAs refusal p left left' e = Says (refusal p left) e × Takes p.at left left'
 
--- no number, or one that doesn't fit
+-- a number is refused: none stands there, or one that does not fit
 abbrev pub RefusesNumber : Place → ℕ → ℕ → ReadingError → Type 0
 RefusesNumber = RefusesAs (λ p left. number_refusal p.at left)
 
--- no Int that is 0 or 1
+-- a bool is refused: no Int that is 0 or 1 stands there
 abbrev pub RefusesBool : Place → ℕ → ℕ → ReadingError → Type 0
 RefusesBool = RefusesAs (λ p left. bool_refusal p.at left)
 
--- no Int
+-- 28 bits are refused: no Int stands there
 abbrev pub RefusesBits : Place → ℕ → ℕ → ReadingError → Type 0
 RefusesBits = RefusesAs (λ p left. bits_refusal p.at left)
 
--- no key
+-- a key is refused: none can be read there
 abbrev pub RefusesKey : Place → ℕ → ℕ → ReadingError → Type 0
 RefusesKey = RefusesAs key_refusal
 
--- no bytes
+-- bytes are refused: none can be read there
 abbrev pub RefusesBytes : Place → ℕ → ℕ → ReadingError → Type 0
 RefusesBytes = RefusesAs bytes_refusal
 
--- no bytes, or no whole items
+-- a view is refused: no bytes stand there, or no whole items
 abbrev pub RefusesView : Place → ℕ → ℕ → ReadingError → Type 0
 RefusesView = RefusesAs view_refusal
 
--- no text, or memory for it is wanted
+-- a text is refused: none can be read there, or memory for it is wanted
 abbrev pub RefusesText : Place → ℕ → ℕ → ReadingError → Type 0
 RefusesText p left left' e =
     (IsWantOfMemory e ⊎ Says (text_refusal p left) e) × Takes p.at left left'
@@ -65,17 +65,17 @@ TakesSome (spot.Unit u) left left' e = TakesOne left left' e
 TakesSome (spot.Word w) left left' e = Unit {0}
 TakesSome (spot.Key k) left left' e = Unit {0}
 
--- no tree within the budget
+-- a tree is refused: none is denoted there within the budget, or memory is wanted
 abbrev pub RefusesTree : Place → ℕ → ℕ → ReadingError → Type 0
 RefusesTree p left left' e =
     Refuses (DenPlace p) (ReachesPlace p) left e × Blames (MeetsPlace p) e
     × TakesSome p.at left left' e
 
--- no members
+-- members are refused: none can be read there
 abbrev pub RefusesMembers : Place → ℕ → ℕ → ReadingError → Type 0
 RefusesMembers = RefusesAs (λ p left. members_refusal p.at left)
 
--- no entries
+-- entries are refused: none can be read there
 abbrev pub RefusesEntries : Place → ℕ → ℕ → ReadingError → Type 0
 RefusesEntries = RefusesAs (λ p left. entries_refusal p.at left)
 

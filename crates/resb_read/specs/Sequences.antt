@@ -34,7 +34,7 @@ member_spots (Some (leaf t)) = numbers_in t
 member_spots (Some (pairs es)) = None
 member_spots None = None
 
--- of an Array, an Array16 or an IntVector
+-- the spots of the members of an Array, an Array16 or an IntVector
 abbrev pub items_in : Parts → ℕ → Option (List Spot)
 items_in p w =
     if types.is_array (type_in w) || type_in w == types.int_vector then member_spots (content p w)
@@ -58,7 +58,7 @@ entry_pairs (Some (list ms)) = None
 entry_pairs (Some (leaf t)) = None
 entry_pairs None = None
 
--- of a Table, a Table16 or a table of 32-bit positions
+-- the entries of a Table, a Table16 or a table of 32-bit positions
 abbrev pub entries_in : Parts → ℕ → Option (List (ℕ × Member))
 entries_in p w =
     if types.is_table (type_in w) then entry_pairs (content p w) else None

@@ -19,12 +19,12 @@ abbrev mutual
   is_key k (integer n) = false
   is_key k (int_vector s) = false
 
-  -- of a tree in the list
+  -- the text is a key of some table of one of these trees
   pub is_key_in : List ℕ → Trees → Bool
   is_key_in k no_trees = false
   is_key_in k (more_trees t ts) = is_key k t || is_key_in k ts
 
-  -- of these entries, or of a tree in them
+  -- the text is the key of one of these entries, or of some table of their trees
   pub is_key_of : List ℕ → Entries → Bool
   is_key_of k no_entries = false
   is_key_of k (entry l t es) = (same_text k l || is_key k t) || is_key_of k es

@@ -27,7 +27,7 @@ IsMap es = T (fin.is_sorted text_cmp (pairs_of es))
 
 -- each table in the tree is such a map
 abbrev mutual
-  -- in a tree
+  -- each table in a tree is a map
   pub AreMaps : Tree → Type 0
   AreMaps (array ts) = AreMapsIn ts
   AreMaps (table es) = IsMap es × AreMapsOf es
@@ -36,12 +36,12 @@ abbrev mutual
   AreMaps (integer n) = Unit {0}
   AreMaps (int_vector s) = Unit {0}
 
-  -- in each tree of the list
+  -- each table in each of these trees is a map
   pub AreMapsIn : Trees → Type 0
   AreMapsIn no_trees = Unit {0}
   AreMapsIn (more_trees t ts) = AreMaps t × AreMapsIn ts
 
-  -- in the tree of each entry
+  -- each table in the tree of each entry is a map
   pub AreMapsOf : Entries → Type 0
   AreMapsOf no_entries = Unit {0}
   AreMapsOf (entry k t es) = AreMaps t × AreMapsOf es

@@ -19,6 +19,7 @@ tree_step (Resource-F.IntVector v) = int_vector v.items
 abbrev pub tree_of : Resource → Tree
 tree_of = fold-Resource Tree tree_step
 
+-- the trees that a list of resources stands for
 abbrev pub items_view : List Resource → Trees
 items_view rs = trees_of (map tree_of rs)
 

@@ -16,13 +16,14 @@ use Rattle.resb_format.specs.declared.error.ReadingError.{ReadingError}
 abbrev pub Says : Refusal → ReadingError → Type 0
 Says f e = refusal_of e ≡ f
 
--- no string; or one whose surrogates have no partners
+-- why no text stands at a unit: no string, or one whose surrogates have no partners
 abbrev pub text_damage : List ℕ → ℕ → Refusal
 text_damage block u =
     if is_some (string_at block u) then invalid (codes "string resource is not valid UTF-16")
     else invalid (string_fault block u)
 
--- a position past the block; no zero byte behind it; or bytes before that one that are no text
+-- why no key stands at a position: it lies past the block, no zero byte is behind it, or the bytes
+-- before that one are no text
 abbrev pub key_damage : List ℕ → ℕ → Refusal
 key_damage keys k =
     if nat_lt (length keys) k then

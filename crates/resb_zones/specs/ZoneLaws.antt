@@ -12,6 +12,7 @@ use Rattle.resb_zones.specs.Zones.{ReadsZone, CountsZone, ReadsTable, CountsTabl
 use Rattle.resb_zones.specs.declared.zone.Zone.{Zone}
 use Rattle.resb_zones.specs.declared.table.ZoneTable.{ZoneTable}
 
+-- a zone that is read has its count
 pub zone_counted : (p : Place) (z : Zone) (n : ℕ) → ReadsZone p z n → CountsZone p n
 zone_counted p z n h =
     record {
@@ -25,17 +26,20 @@ zone_counted p z n h =
       count = h.count;
     }
 
+-- a zone has one count
 pub zone_one : (p : Place) (m n : ℕ) → CountsZone p m → CountsZone p n → m ≡ n
 zone_one p m n h k =
     let same : length h.places ≡ length k.places = ap length (same_Some _ _ (sym h.are ∙ k.are)) in
     let f : m ≡ 1 + length h.places = h.count in
     let g : n ≡ 1 + length k.places = k.count in omega arith
 
+-- a table of zones that is read has its count
 pub table_counted : (p : Place) (t : ZoneTable) (n : ℕ) → ReadsTable p t n → CountsTable p n
 table_counted p t n =
     map_counted (λ q s m. ReadsKey q s.now m) ReadsZone CountsKey CountsZone
     (λ q s m. key_counted q s.now m) zone_counted (λ x y. slice_cmp nat_cmp x.now y.now)
     p t.zones.entries n
 
+-- a table of zones has one count
 pub table_one : (p : Place) (m n : ℕ) → CountsTable p m → CountsTable p n → m ≡ n
 table_one = map_one CountsKey CountsZone key_one zone_one

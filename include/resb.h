@@ -27,12 +27,12 @@ extern "C" {
 #define RESB_OK 0u
 /* The buffer is too short: nothing was written to it, and *length is the length that is needed. */
 #define RESB_TOO_SHORT 1u
-/* The text is not UTF-8 from the error's place on. */
+/* The text, or the name of a dump, is not UTF-8 from the error's place on. */
 #define RESB_NOT_UTF8 2u
 /* The text is no bundle: it can't be read on at the error's place. */
 #define RESB_NOT_A_BUNDLE 3u
-/* The text is a bundle, but its tree has no file: a key or a count is over what the format
- * holds. */
+/* The text is a bundle, but its tree has no file: a key holds U+0000, or a key, a string or a count
+ * is over what the format holds. */
 #define RESB_NO_FILE 4u
 /* The bytes are no file of a bundle. */
 #define RESB_NOT_A_FILE 5u
@@ -49,7 +49,8 @@ extern "C" {
 typedef struct resb_error {
   /* what the call answered */
   uint32_t kind;
-  /* for RESB_NOT_UTF8 and RESB_NOT_A_BUNDLE a byte of the text, counted from 0; else 0 */
+  /* for RESB_NOT_UTF8 and RESB_NOT_A_BUNDLE a byte of the text, or of a dump's name, counted from
+   * 0; else 0 */
   size_t place;
   /* what went wrong, in English, cut at 255 bytes, and zero bytes behind it; empty where memory is
    * wanted for it */

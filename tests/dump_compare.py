@@ -82,7 +82,7 @@ def printed(program, files):
     """What files are printed as."""
     shown = []
     for file in files:
-        run = subprocess.run([program, 'dump', file], stdout=subprocess.PIPE, stderr=subprocess.PIPE)
+        run = subprocess.run([program, 'dump', file], capture_output=True)
         if run.returncode != 0 or run.stderr:
             sys.exit('not printed: %r\n%s' % (file.read_bytes(), run.stderr.decode()))
         shown.append(run.stdout)
@@ -117,7 +117,8 @@ def main():
     compare(program, known, False)
     for start in range(0, count, BATCH):
         is_sorted = start // BATCH % 4 != 3
-        compare(program, [text(rng, is_sorted) for _ in range(min(BATCH, count - start))], is_sorted)
+        texts = [text(rng, is_sorted) for _ in range(min(BATCH, count - start))]
+        compare(program, texts, is_sorted)
     print('%d texts and %d of the rows: no difference' % (count, len(known)))
 
 

@@ -33,8 +33,8 @@ same() {
 
 [ -x "$program" ] || { echo "$program isn't built"; echo '0 passed, 1 failed'; exit 1; }
 
-printf 'names {\n  b:bin{"00ff"} hi{"hello"} list:array{"a","c"}\n  n:int{-5} v:intvector{1,-2}\n}\n' \
-  > names.txt
+printf 'names {\n  b:bin{"00ff"} hi{"hello"} list:array{"a","c"}\n' > names.txt
+printf '  n:int{-5} v:intvector{1,-2}\n}\n' >> names.txt
 told 0 '' '' compile names.txt
 told 0 'names.res: 8 resources, format 2.0, fallback, largest table 5' '' check names.res
 printed='names{
@@ -79,7 +79,8 @@ told 1 '' $'type.txt:1:4: expected a type\nb{a:float{"x"}}\n   ^' compile type.t
 printf 'b{a:int{x}}' > number.txt
 told 1 '' $'number.txt:1:9: expected a number\nb{a:int{x}}\n        ^' compile number.txt
 printf 'b{a:bin{"0"}}' > digits.txt
-told 1 '' $'digits.txt:1:9: expected pairs of hex digits\nb{a:bin{"0"}}\n        ^' compile digits.txt
+told 1 '' $'digits.txt:1:9: expected pairs of hex digits\nb{a:bin{"0"}}\n        ^' \
+  compile digits.txt
 printf 'b{a{:int}}' > brace.txt
 told 1 '' $'brace.txt:1:9: expected \'{\'\nb{a{:int}}\n        ^' compile brace.txt
 printf 'b{a{,}}' > item.txt
@@ -180,8 +181,37 @@ than 2.0 are not supported at this time" check three.res
 told 1 '' 'uses_pool.res: this file uses the keys of a pool bundle' check uses_pool.res
 told 1 '' 'uses_pool.res: this file uses the keys of a pool bundle' dump uses_pool.res
 
+# a long line is cut round the place: 60 bytes before it, and 60 from it on
+letters=$(printf 'x%.0s' $(seq 200))
+printf 'b{a:int{%s}}' "$letters" > long.txt
+told 1 '' "long.txt:1:9: expected a number
+b{a:int{$(printf 'x%.0s' $(seq 60))
+        ^" compile long.txt
+printf 'b{k{"%s"}a:int{%s}}' "$letters" "$letters" > later.txt
+told 1 '' "later.txt:1:214: expected a number
+$(printf 'x%.0s' $(seq 52))\"}a:int{$(printf 'x%.0s' $(seq 60))
+$(printf ' %.0s' $(seq 60))^" compile later.txt
+
+# several texts, one of them refused, into a folder that holds none of their files yet
+mkdir fresh
+told 1 '' $'open.txt:1:2: expected \'}\' before the text ends inside this\nb{\n ^' \
+  compile open.txt names.txt -d fresh
+same names.res fresh/names.res
+[ "$(ls fresh)" = names.res ] && passed=$((passed + 1)) || { failed=$((failed + 1)); ls fresh; }
+
+# a write that fails leaves the old file, and nothing beside it
+cp names.res kept.res
+(trap '' XFSZ; ulimit -f 0; exec -a resb "$program" compile b.txt -o kept.res) > out 2> err
+[ $? = 2 ] && passed=$((passed + 1)) || { failed=$((failed + 1)); cat err; }
+same names.res kept.res
+
 told 0 'resb 0.2.0' '' --version
-(exec -a resb "$program" help compile) > help.txt && grep -q '^Example: resb compile' help.txt \
-  && passed=$((passed + 1)) || failed=$((failed + 1))
+for command in compile check dump get; do
+  (exec -a resb "$program" help "$command") > help.txt \
+    && grep -q "^Example: resb $command" help.txt \
+    && passed=$((passed + 1)) || { failed=$((failed + 1)); echo "help $command"; }
+done
+(exec -a resb "$program" --help) > help.txt && grep -q compile help.txt \
+  && passed=$((passed + 1)) || { failed=$((failed + 1)); echo '--help'; }
 echo "$passed passed, $failed failed"
 [ "$failed" = 0 ]

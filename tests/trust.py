@@ -17,7 +17,8 @@ PAGE = TOP / "docs" / "TRUST.md"
 
 # a claim, and its calls: file, function, and the clauses that are meant (none named: all)
 CLAIMS = [
-    ("a text is accepted only as the bundle that it is", [("resb/src/headline.rt", "read_text", ["ok"])]),
+    ("a text is accepted only as the bundle that it is",
+     [("resb/src/headline.rt", "read_text", ["ok"])]),
     ("why a text is refused, and that it is then no bundle",
      [("resb/src/headline.rt", "read_text", ["stuck", "no_bundle"])]),
     ("a tree is read exactly where the bytes denote it",
@@ -28,7 +29,8 @@ CLAIMS = [
 ]
 
 WORD = re.compile(r"[^\s(){}\[\],;.⟦⟧]+(?:\.[^\s(){}\[\],;.⟦⟧]+)*")
-ITEM = re.compile(r"^(\s*)(?:unfoldable )?(?:abbrev )?(?:unfoldable )?pub (?:unfoldable )?(?:(record|data|abbrev) )?"
+ITEM = re.compile(r"^(\s*)(?:unfoldable )?(?:abbrev )?(?:unfoldable )?pub (?:unfoldable )?"
+                  r"(?:(record|data|abbrev) )?"
                   r"([^\s:({]+)")
 USE = re.compile(r"^\s*(?:pub )?(?:ghost )?use ([\w.]+?)(?:\.\{([^}]*)\}| as (\w+))?;?\s*$")
 

@@ -56,7 +56,7 @@ tree_at (more_trees t ts) (suc n) = tree_at ts n
 abbrev pub member_said : Trees → List ℕ → Option Tree
 member_said ts name = option_and_then (tree_at ts) (number_said name)
 
--- and the number of a vector
+-- the number of a vector that has the number that a name says
 abbrev pub element_said : List ℕ → List ℕ → Option ℕ
 element_said ns name = option_and_then (slice_get ns) (number_said name)
 

@@ -44,6 +44,8 @@ extern "C" {
 #define RESB_NO_MEMORY 8u
 /* The file uses the keys of a pool bundle, and has none of its own. */
 #define RESB_USES_POOL 9u
+/* The file's tree would take more bytes than the limit. */
+#define RESB_OVER_LIMIT 10u
 
 /* Why a call failed. Each call writes all of it: after RESB_OK it holds zeros alone. */
 typedef struct resb_error {
@@ -97,7 +99,7 @@ uint32_t resb_measure(const uint8_t *file, size_t file_length, resb_measured *me
 
 /* Prints a file's tree as the text of a bundle of that name, which is UTF-8 of name_length bytes.
  * A tree that takes more bytes than the limit, as tree_bytes counts them, is refused before it is
- * made, by RESB_NOT_A_FILE. UINT64_MAX is no limit.
+ * made, by RESB_OVER_LIMIT. UINT64_MAX is no limit.
  *
  * RESB_OK: the text is the first *length bytes of out, with no zero behind it, and the bytes behind
  * it are as they were. RESB_TOO_SHORT: out is as it was, and *length is the length of the text.

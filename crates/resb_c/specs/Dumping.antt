@@ -10,14 +10,15 @@ use Rattle.resb_grammar.specs.BundleText.{BundleText}
 use Rattle.resb_print.specs.Laws.{HasNoText}
 use Rattle.resb_print.specs.declared.error.PrintError.{PrintError}
 use Rattle.resb_print.specs.declared.error.PrintError.TheVariants.{OutOfMemory}
-use Rattle.resb_read.specs.Measuring.{TreeWithin}
+use Rattle.resb_read.specs.Measuring.{TreeWithin, TakesMore}
+use Rattle.resb_read.specs.Roots.{TreeOf}
 use Rattle.resb_bundler.specs.Files.{HasNoKeys}
 use Rattle.resb_bundler.specs.Summary.{Summarizes, HasNoSummary}
 use Rattle.resb_bundler.specs.declared.summary.Summary.{Summary}
 use Rattle.resb_c.specs.Calls.{Fills, IsNotUtf8}
 use Rattle.resb_c.specs.declared.fault.Fault.{Fault}
 use Rattle.resb_c.specs.declared.fault.Fault.TheVariants.{TooShort, NotUtf8, Reading, UsesPool}
-use Rattle.resb_c.specs.declared.fault.Fault.TheVariants.{Printing}
+use Rattle.resb_c.specs.declared.fault.Fault.TheVariants.{Larger, Printing}
 
 -- the bundle has this name, the file's tree, which takes no more bytes than the limit, and the
 -- fallback flag of the file's head
@@ -31,11 +32,12 @@ pub record IsBundleOf (file name : List ℕ) (limit : ℕ) (b : ResourceBundle) 
   pub root : root_of b ≡ tree_of tree
   pub flag : b.is_locale_fallback_enabled ≡ summary.has_fallback
 
--- the file has no keys of its own, its head is refused, or the reader refuses it, as by a tree that
--- takes more bytes than the limit
+-- the file has no keys of its own, its head is refused, the reader refuses it, or its tree takes
+-- more bytes than the limit
 abbrev pub HasNoBundle : List ℕ → ℕ → Fault → Type 0
 HasNoBundle file limit UsesPool = HasNoKeys file
-HasNoBundle file limit (Reading e) = HasNoSummary file e ⊎ TreeWithin file limit (Err e)
+HasNoBundle file limit (Reading e) = HasNoSummary file e ⊎ TreeOf file (Err e)
+HasNoBundle file limit Larger = TakesMore file limit
 HasNoBundle file limit _ = ⊥
 
 -- the text is one of the file's bundle under this name

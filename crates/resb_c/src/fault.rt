@@ -20,6 +20,8 @@ pub enum Fault {
     Compiling(CompileError),
     /// The bytes are no file of a tree within its budget.
     Reading(BinaryDeserializerError),
+    /// The tree takes more bytes than the limit.
+    Larger,
     /// The file uses the keys of a pool bundle, and has none of its own.
     UsesPool,
     /// The tree has no text.
@@ -47,6 +49,7 @@ impl Fault {
                 _ => 5,
             },
             Fault::UsesPool => 9,
+            Fault::Larger => 10,
             Fault::Printing(PrintError::NotPrintable(_)) => 7,
             Fault::Printing(PrintError::OutOfMemory) => 8,
         }
@@ -81,6 +84,7 @@ impl fmt::Display for Fault {
                     "the file uses the keys of a pool bundle, and has none of its own"
                 )
             }
+            Fault::Larger => write!(f, "the tree takes more bytes than the limit"),
             Fault::Printing(e) => write!(f, "{e}"),
         }
     }

@@ -1,13 +1,15 @@
 //! What the calls for C do over bytes: their answers go to the front of the caller's buffer.
 //! What the caller is told beside that is in `report`.
-ghost use Rattle.std.specs.Prelude.{◌≡◌, ℕ, false, IfOk, IfErr, IsUtf8};
+ghost use Rattle.std.specs.Prelude.{◌≡◌, ℕ, false, Ok, Err, IfOk, IfErr, IsUtf8};
+ghost use Rattle.resb_format.specs.declared.error.ReadingError.{ReadingError};
+ghost use Rattle.resb_read.specs.Measuring.{MeasureOf};
 ghost use Rattle.resb_bundler.specs.Summary.{Summarizes};
 ghost use Rattle.resb_c.specs.Calls.{CompilesInto, CountsFile, Fills, HasNoOwnSummary, IsNotUtf8};
 ghost use Rattle.resb_c.specs.Dumping.{DumpsInto, HasNoBundle, IsBundleOf};
 ghost use Rattle.resb_c.specs.Measures.{MeasuresFile};
 
 use crate::fault::Fault;
-use resb::binary::{Measured, count_resources, measure, tree_from_bytes_within};
+use resb::binary::{Measured, count_resources, measure, tree_from_bytes};
 use resb::bundle::ResourceBundle;
 use resb::text::print_text;
 use resb_bundler::{Summary, summary_of};
@@ -76,15 +78,24 @@ pub(crate) fn count_file(alloc: Global, file: &[u8]) -> Result<usize, Fault>
     }
 }
 
+/// What the tree of a file adds up to that has keys of its own.
+fn measure_own(alloc: Global, file: &[u8]) -> Result<Measured, Fault>
+    ensures ok { IfOk result (λ m. MeasureOf file.now (Ok m)) }
+    ensures err { IfErr result (λ e. (d : ReadingError) × (e ≡ Fault.Reading d)
+        × MeasureOf file.now (Err d)) }
+{
+    match measure(alloc, file) {
+        Ok(measured) => Ok(measured),
+        Err(e) => Err(Fault::Reading(e)),
+    }
+}
+
 /// What a file's tree adds up to.
 pub(crate) fn measure_file(alloc: Global, file: &[u8]) -> Result<Measured, Fault>
     ensures { MeasuresFile file.now result }
 {
     own_summary(file)?;
-    match measure(alloc, file) {
-        Ok(measured) => Ok(measured),
-        Err(e) => Err(Fault::Reading(e)),
-    }
+    measure_own(alloc, file)
 }
 
 /// The tree of a file, which takes no more bytes than the limit, as a bundle of that name.
@@ -98,7 +109,10 @@ fn bundle_of<'a>(
     ensures err { IfErr result (HasNoBundle file.entry.now limit) }
 {
     let summary = own_summary(file)?;
-    match tree_from_bytes_within(alloc, file, limit) {
+    if !measure_own(alloc, file)?.is_within(limit) {
+        return Err(Fault::Larger);
+    }
+    match tree_from_bytes(alloc, file) {
         Ok(tree) => {
             let name = CowStr::Borrowed(name);
             Ok(ResourceBundle::new(name, tree, summary.has_fallback))

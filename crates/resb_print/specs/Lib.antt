@@ -1,5 +1,6 @@
 -- The words of the contracts: the text of a bundle, what keeps it from having one, and the laws.
 pub mod Printed
+pub mod Sizes
 pub mod Held
 pub mod Quotes
 pub mod Paths

@@ -1,7 +1,7 @@
 //! Laws of printed texts, each the contract of a function that does nothing.
 //! Their statements stand in `specs/Laws`.
 ghost use Rattle.resb_print.specs.Laws.{PrintedIsABundle, ABundleGivesNoCause};
-ghost use Rattle.resb_print.specs.Laws.{CausesHavePaths};
+ghost use Rattle.resb_print.specs.Laws.{CausesHavePaths, PrintedIsLinear};
 
 /// A tree in whose way nothing stands has a text.
 pub fn printed_is_a_bundle()
@@ -16,4 +16,10 @@ pub fn a_bundle_gives_no_cause()
 /// A bundle has a path to its first cause exactly where it has a cause.
 pub fn causes_have_paths()
     ensures { CausesHavePaths }
+{}
+
+/// The text of a bundle has at most 270 bytes for each resource, the bytes of the name, keys and
+/// strings, two for each byte of a binary, and eleven for each number of a vector.
+pub fn printed_is_linear()
+    ensures { PrintedIsLinear }
 {}

@@ -1,6 +1,7 @@
 //! Prints a bundle as a text: its name, its root's type and the lines of its entries.
 //! What one line is stands in `step`, what it is made of in `pieces`.
-ghost use Rattle.std.specs.Prelude.{◌≡◌, ◌⊎◌, ℕ, List, Bool, IfOk, IfErr, OnOk, None};
+ghost use Rattle.std.specs.Prelude.{◌≡◌, ◌≤◌, ◌⊎◌, ℕ, List, Bool, length};
+ghost use Rattle.std.specs.Prelude.{IfOk, IfErr, OnOk, None};
 ghost use Rattle.std.specs.String.{string_bytes};
 ghost use Rattle.resb_tree.specs.Bundle.{name_of, root_of};
 ghost use Rattle.resb_tree.specs.View.{entries_view};
@@ -8,6 +9,7 @@ ghost use Rattle.resb_grammar.specs.BundleText.{BundleText};
 ghost use Rattle.resb_print.specs.Quotes.{causes_in_else, first_cause};
 ghost use Rattle.resb_print.specs.Laws.{HasNoText};
 ghost use Rattle.resb_print.specs.Printed.{IsBundleText};
+ghost use Rattle.resb_print.specs.Sizes.{text_limit};
 ghost use Rattle.resb_print.specs.Inner.Jobs.{ArePrinted, Refused};
 
 use crate::cause::Cause;
@@ -35,11 +37,15 @@ fn push_lines(alloc: Global, out: &mut String, table: &Table<'_>) -> Result<(), 
 /// Names and keys stand without quotes where they may. No text is given where none has this name,
 /// flag and tree: where the root is no table, or the name, a key or a string holds a `"`; the first
 /// of these in the order of the text is answered. Want of memory may come before any of them.
+/// The text has at most 270 bytes for each resource, the bytes of the name, keys and strings, two
+/// for each byte of a binary, and eleven for each number of a vector.
 pub fn print_text(alloc: Global, bundle: &ResourceBundle<'_>) -> Result<String, PrintError>
     ensures text { IfOk result (λ text. (keys : List (List ℕ)) × BundleText (string_bytes text)
         (name_of bundle.now) bundle.now.is_locale_fallback_enabled (root_of bundle.now) keys) }
     ensures exact { IfOk result (λ text. IsBundleText (string_bytes text)
         (name_of bundle.now) bundle.now.is_locale_fallback_enabled (root_of bundle.now)) }
+    ensures size { IfOk result (λ text. length (string_bytes text)
+        ≤ text_limit (name_of bundle.now) (root_of bundle.now)) }
     ensures refusal { IfErr result (λ e.
         Refused e (first_cause (name_of bundle.now) (root_of bundle.now))) }
     ensures none { IfErr result (λ e. (e ≡ PrintError.OutOfMemory)

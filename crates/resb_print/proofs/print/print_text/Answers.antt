@@ -10,6 +10,7 @@ use Rattle.resb_print.specs.Inner.Jobs.{Refused}
 use Rattle.resb_print.specs.Quotes.{has_quote, first_cause}
 use Rattle.std.specs.String.{string_bytes}
 use Rattle.resb_print.proofs.Bundles.{written, whole, no_text, root_refused, name_refused}
+use Rattle.resb_print.proofs.Sizes.{printed_within}
 use Rattle.resb_print.proofs.print.print_text.Goals as goal
 
 pub returns-then-has_quote-clause-none : goal.returns-then-has_quote-clause-none
@@ -72,3 +73,17 @@ returns-clause-exact c =
           c.in_ok-push_name.ensures c.in_ok-push_root_type.ensures c.in_ok-push_str.ensures.bytes
           c.in_ok-push_lines.ensures.ok c.in_ok-push_str-2.ensures.bytes c.name-name.ensures;
     }
+
+pub returns-clause-size : goal.returns-clause-size
+returns-clause-size c =
+    let es = entries_view c.in-Table.table.entries in
+    let e : tree_of c.root.result.now ≡ table es = search (rules, the_lemmas) in
+    let own = name_of c.args.bundle.now in
+    let flag = c.args.bundle.now.is_locale_fallback_enabled in
+    let same = written c.new-out.result c.push_name.new.out c.push_root_type.new.out
+    c.push_str.new.self c.push_lines.new.out c.push_str-2.new.self c.name-name.result.now own flag
+    es c.new-out.ensures.bytes c.in_ok-push_name.ensures c.in_ok-push_root_type.ensures
+    c.in_ok-push_str.ensures.bytes c.in_ok-push_lines.ensures.ok c.in_ok-push_str-2.ensures.bytes
+    c.name-name.ensures in
+    printed_within (string_bytes c.push_str-2.new.self) own flag es (root_of c.args.bundle.now) same
+    c.in_ok-push_lines.ensures.ok.held (sym c.root.ensures.tree ∙ e)

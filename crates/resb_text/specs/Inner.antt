@@ -1,5 +1,6 @@
 -- Words of private functions.
 pub mod Runs
+pub mod Spent
 pub mod TypeNames
 pub mod Braces
 pub mod Leaf

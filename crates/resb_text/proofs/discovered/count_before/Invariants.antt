@@ -9,8 +9,7 @@ invariant-loop-count l = record {
       → left_of ds (map numbered (take l.count l.candidates))
       ≡ left_of ds (map numbered l.candidates);
   within : l.count ≤ length l.candidates;
-  text : l.turns.text ≡ l.fn.turns.text;
-  cost : l.turns.count + l.count ≡ l.fn.turns.count + length l.candidates;
+  cost : l.turns + l.count ≤ l.fn.turns + length l.candidates;
 }
 
 abbrev pub decreases-loop-count : goal.decreases-loop-count

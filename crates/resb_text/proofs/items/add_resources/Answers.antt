@@ -26,13 +26,11 @@ loop-item-preserved c =
     let one = ap length steps.0 in
     let item = c.in-Some.item in
     let tick = c.tick.ensures in
-    let counted = ap (λ w. w.count) tick in
+    let counted = tick.most in
     record {
       made = one_more shown_tree shown _ _ _ left rest item _ steps.0 made.trees
           (term_tree_shown item.term item.comma) i.made;
       borrowed = one_more shown_borrowed shown _ _ _ left rest item _ steps.0 made.borrowed
           (term_borrowed_shown item.term item.comma) i.borrowed;
-      text = ap (λ w. w.text) tick ∙ i.text;
-      grows = omega (arith, counted, i.grows);
       count = omega (arith, counted, i.count, one);
     }

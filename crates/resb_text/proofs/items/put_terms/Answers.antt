@@ -35,7 +35,7 @@ loop-item-preserved c =
     let steps = c.in-Some.ensures.steps.0 in
     let one = ap length steps in
     let tick = c.tick.ensures in
-    let counted = ap (λ w. w.count) tick in
+    let counted = tick.most in
     let put = c.in_ok-waiting.ensures in
     record {
       made = put.ok item.comma (map shown rest)
@@ -48,7 +48,5 @@ loop-item-preserved c =
             put.borrowed (term_borrowed_shown item.term item.comma ∙ parts.0) (i.borrowed h old).0,
             parts.1,
           );
-      text = ap (λ w. w.text) tick ∙ i.text;
-      grows = omega (arith, counted, i.grows);
       count = omega (arith, counted, i.count, one);
     }

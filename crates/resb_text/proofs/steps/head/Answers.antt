@@ -9,7 +9,6 @@ returns-in_default-clause-err c =
 pub returns-in_err-first-clause-err : goal.returns-in_err-first-clause-err
 returns-in_err-first-clause-err c =
     let p = err_from_is_err_and c.from_residual.result c.from_residual.ensures.1 in
-    let unopened = rw (c.skip-brace.ensures.text, c.group_type.ensures.text)
-    at c.in_err-first.ensures.err in
+    let unopened = c.in_err-first.ensures.err in
     rw (p.1, p.2, unopened.is) (no_type_brace _ _ _ _ _ c.in-Some.ensures.found
-    (rw c.group_type.ensures.text at c.skip-brace.ensures.skip) unopened.none)
+    c.skip-brace.ensures.skip unopened.none)

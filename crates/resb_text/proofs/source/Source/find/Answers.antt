@@ -1,0 +1,19 @@
+use Rattle.std.proofs.Common.{◌∙◌, arith}
+use Rattle.std.proofs.lemmas.Bool.{eqb-true, eq-eqb}
+use Rattle.resb_text.proofs.TokensLemmas.{rest_of, byte_found, byte_missing}
+use Rattle.resb_text.proofs.source.Source.find.Goals as goal
+
+pub returns-in-Some-clause-found : goal.returns-in-Some-clause-found
+returns-in-Some-clause-found c =
+    byte_found c.args.b c.args.self.now _ c.args.from c.in-Some.n
+    (rest_of c.args.self.now c.as_bytes.result.now c.args.from
+    (c.as_bytes.ensures.value ∙ c.self.view_is))
+    c.in-Some.ensures.0.high (eqb-true _ _ c.in-Some.ensures.1)
+    (λ k lt is. c.in-Some.ensures.0.before k (omega arith) lt (eq-eqb _ _ is))
+
+pub returns-in-None-clause-none : goal.returns-in-None-clause-none
+returns-in-None-clause-none c =
+    byte_missing c.args.b c.args.self.now _ c.args.from
+    (rest_of c.args.self.now c.as_bytes.result.now c.args.from
+    (c.as_bytes.ensures.value ∙ c.self.view_is))
+    (λ k lt is. c.in-None.ensures k (omega arith) lt (eq-eqb _ _ is))

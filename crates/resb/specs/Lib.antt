@@ -26,6 +26,7 @@ pub use Rattle.resb_text.specs.Borrowed
 pub use Rattle.resb_text.specs.Refusal
 pub use Rattle.resb_text.specs.Turns
 pub use Rattle.resb_print.specs.Printed
+pub use Rattle.resb_print.specs.Sizes
 pub use Rattle.resb_print.specs.Held
 pub use Rattle.resb_print.specs.Quotes
 pub use Rattle.resb_print.specs.Paths

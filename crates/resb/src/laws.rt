@@ -41,6 +41,8 @@ pub use resb_print::laws::printed_is_a_bundle;
 pub use resb_print::laws::a_bundle_gives_no_cause;
 // A bundle has a path to its first cause exactly where it has a cause.
 pub use resb_print::laws::causes_have_paths;
+// A printed text has at most 270 bytes a resource, and so much for each byte and number held.
+pub use resb_print::laws::printed_is_linear;
 
 // Files.
 

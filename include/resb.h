@@ -12,7 +12,10 @@
  *     initialized;
  *   - what a call writes overlaps nothing else that it is given: the buffer, the number and the
  *     error are apart from each other and from the input;
- *   - an input doesn't change while the call runs. */
+ *   - an input doesn't change while the call runs.
+ *
+ * To ask how long an answer is, pass a length of 0 with any pointer that isn't null: the call does
+ * its whole work, and answers RESB_TOO_SHORT. */
 #ifndef RESB_H
 #define RESB_H
 
@@ -36,7 +39,8 @@ extern "C" {
 #define RESB_NO_FILE 4u
 /* The bytes are no file of a bundle. */
 #define RESB_NOT_A_FILE 5u
-/* The file has another format or version, or another order of bytes. */
+/* The file has a version of the format that isn't read, another order of bytes, or EBCDIC. A
+ * version or a format that isn't known at all is RESB_NOT_A_FILE. */
 #define RESB_UNSUPPORTED 6u
 /* The file's tree has no text: its root is no table, or a name, key or string holds a '"'. */
 #define RESB_NOT_PRINTABLE 7u
@@ -54,8 +58,8 @@ typedef struct resb_error {
   /* for RESB_NOT_UTF8 and RESB_NOT_A_BUNDLE a byte of the text, or of a dump's name, counted from
    * 0; else 0 */
   size_t place;
-  /* what went wrong, in English, cut at 255 bytes, and zero bytes behind it; empty where memory is
-   * wanted for it */
+  /* what went wrong, in English, perhaps in several lines, cut at 255 bytes wherever that is, and
+   * zero bytes behind it; empty where memory is wanted for it */
   uint8_t message[256];
 } resb_error;
 
@@ -63,13 +67,15 @@ typedef struct resb_error {
  *
  * RESB_OK: the file is the first *length bytes of out, and the bytes behind it are as they were.
  * RESB_TOO_SHORT: out is as it was, and *length is the length of the file. Call again.
- * Else out is as it was, and *length is 0. */
+ * Else out is as it was, and *length is 0: RESB_NOT_UTF8, RESB_NOT_A_BUNDLE, RESB_NO_FILE,
+ * RESB_NO_MEMORY. */
 uint32_t resb_compile(const uint8_t *text, size_t text_length, uint8_t *out, size_t out_length,
                       size_t *length, resb_error *error);
 
 /* Checks a file as a whole, and makes no tree.
  *
- * RESB_OK: *count is the number of resources of its tree, the root included. Else *count is 0. */
+ * RESB_OK: *count is the number of resources of its tree, the root included. Else *count is 0:
+ * RESB_NOT_A_FILE, RESB_UNSUPPORTED, RESB_USES_POOL, RESB_NO_MEMORY. */
 uint32_t resb_check(const uint8_t *file, size_t file_length, size_t *count, resb_error *error);
 
 /* What a file's tree adds up to; entries that are replaced count too. A sum that does not fit is
@@ -93,7 +99,8 @@ typedef struct resb_measured {
 
 /* Measures a file, which checks it as a whole, and makes no tree.
  *
- * RESB_OK: measured has the sums of its tree. Else each of them is 0. */
+ * RESB_OK: measured has the sums of its tree. Else each of them is 0, for the reasons of
+ * resb_check. */
 uint32_t resb_measure(const uint8_t *file, size_t file_length, resb_measured *measured,
                       resb_error *error);
 
@@ -103,7 +110,9 @@ uint32_t resb_measure(const uint8_t *file, size_t file_length, resb_measured *me
  *
  * RESB_OK: the text is the first *length bytes of out, with no zero behind it, and the bytes behind
  * it are as they were. RESB_TOO_SHORT: out is as it was, and *length is the length of the text.
- * Else out is as it was, and *length is 0. */
+ * Else out is as it was, and *length is 0: RESB_NOT_UTF8 for the name, which is looked at first,
+ * the reasons of resb_check, RESB_OVER_LIMIT, RESB_NOT_PRINTABLE. The limit is for the tree; the
+ * text and what the call uses beside it are not within it. */
 uint32_t resb_dump(const uint8_t *file, size_t file_length, const uint8_t *name,
                    size_t name_length, uint64_t limit, uint8_t *out, size_t out_length,
                    size_t *length, resb_error *error);

@@ -199,6 +199,13 @@ told 1 '' $'open.txt:1:2: expected \'}\' before the text ends inside this\nb{\n 
 same names.res fresh/names.res
 [ "$(ls fresh)" = names.res ] && passed=$((passed + 1)) || { failed=$((failed + 1)); ls fresh; }
 
+# two texts that would have one file: the later one is refused
+mkdir -p one two into
+printf 'a{x{"first"}}' > one/a.txt
+printf 'a{x{"second"}}' > two/a.txt
+told 2 '' 'two/a.txt: another of these texts has its file' compile one/a.txt two/a.txt -d into
+told 0 'first' '' get into/a.res x
+
 # a write that fails leaves the old file, and nothing beside it
 cp names.res kept.res
 (trap '' XFSZ; ulimit -f 0; exec -a resb "$program" compile b.txt -o kept.res) > out 2> err

@@ -5,6 +5,7 @@ use crate::say::{complain, refuse, warn};
 use crate::streams::{is_same_file, read_input, write_output};
 use clap::ArgMatches;
 use resb_bundler::compile_source;
+use std::collections::BTreeSet;
 use std::path::Path;
 
 /// Compiles each text. One that fails doesn't stop the others; the status says whether one did.
@@ -22,22 +23,33 @@ pub(crate) fn compile(rt: &HostRuntime, matches: &ArgMatches<'_>) -> u8 {
         return 2;
     }
     let mut progress = Progress::new(rt, texts.len());
+    let mut taken = BTreeSet::new(rt.alloc());
     for text in texts.iter().copied() {
-        status = status.max(compile_one(rt, text, output, folder));
+        status = status.max(compile_one(rt, text, output, folder, &mut taken));
         progress.one_more(rt);
     }
     progress.end(rt);
     status
 }
 
-/// Compiles a text, and answers its status.
-fn compile_one(rt: &HostRuntime, name: &str, output: Option<&str>, folder: Option<&str>) -> u8 {
+/// Compiles a text, and answers its status. The files of the texts before it are taken.
+fn compile_one(
+    rt: &HostRuntime,
+    name: &str,
+    output: Option<&str>,
+    folder: Option<&str>,
+    taken: &mut BTreeSet<String>,
+) -> u8 {
     let Some(output) = output_of(rt, name, output, folder) else {
         complain(rt, name, "this has no name for a file; say one by --output");
         return 2;
     };
     if is_same_file(rt, name, output.as_str()) {
         complain(rt, name, "the file would take the place of its own text");
+        return 2;
+    }
+    if is_taken(rt, taken, output.as_str()) {
+        complain(rt, name, "another of these texts has its file");
         return 2;
     }
     let source = match read_input(rt, name) {
@@ -58,6 +70,17 @@ fn compile_one(rt: &HostRuntime, name: &str, output: Option<&str>, folder: Optio
             }
             write_one(rt, output.as_str(), file.as_slice())
         }
+    }
+}
+
+/// Whether a file is that of a text before, which it is from now on.
+fn is_taken(rt: &HostRuntime, taken: &mut BTreeSet<String>, output: &str) -> bool {
+    let Ok(output) = String::from_str(rt.alloc(), output) else {
+        return false;
+    };
+    match taken.insert(output) {
+        Ok(is_new) => !is_new,
+        Err(_) => false,
     }
 }
 

@@ -46,7 +46,7 @@ HasNoOwnSummary file _ = ⊥
 abbrev pub CountsFile : List ℕ → Result ℕ Fault → Type 0
 CountsFile file (Ok n) = CountOf file (Ok n)
 CountsFile file (Err UsesPool) = HasNoKeys file
-CountsFile file (Err (Reading e)) = HasNoSummary file e ⊎ CountOf file (Err e)
+CountsFile file (Err (Reading e)) = CountOf file (Err e)
 CountsFile file (Err _) = ⊥
 
 -- the length that a fault has for the caller: that of the answer which the buffer is too short for

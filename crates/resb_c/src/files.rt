@@ -9,10 +9,10 @@ ghost use Rattle.resb_c.specs.Dumping.{DumpsInto, HasNoBundle, IsBundleOf};
 ghost use Rattle.resb_c.specs.Measures.{MeasuresFile};
 
 use crate::fault::Fault;
-use resb::binary::{Measured, count_resources, measure, tree_from_bytes};
+use resb::binary::{Measured, measure, tree_from_bytes};
 use resb::bundle::ResourceBundle;
 use resb::text::print_text;
-use resb_bundler::{Summary, summary_of};
+use resb_bundler::{FileError, Summary, summary_of};
 use std::alloc::Global;
 use std::borrow::CowStr;
 
@@ -71,10 +71,10 @@ pub(crate) fn compile_into(alloc: Global, text: &[u8], out: &mut [u8]) -> Result
 pub(crate) fn count_file(alloc: Global, file: &[u8]) -> Result<usize, Fault>
     ensures { CountsFile file.now result }
 {
-    own_summary(file)?;
-    match count_resources(alloc, file) {
+    match resb_bundler::count_file(alloc, file) {
         Ok(count) => Ok(count),
-        Err(e) => Err(Fault::Reading(e)),
+        Err(FileError::UsesPool) => Err(Fault::UsesPool),
+        Err(FileError::Reading(e)) => Err(Fault::Reading(e)),
     }
 }
 

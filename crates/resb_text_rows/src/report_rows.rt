@@ -1,4 +1,5 @@
-//! What a person is told of short texts: lines and columns, open braces, lines with a mark, warnings.
+//! What a person is told of short texts: lines and columns, open braces, lines with a mark, and
+//! warnings.
 //! What texts are read as is in `text_rows`.
 use resb_report::{Location, Reason, Warning, innermost_open, location_of, pointed_line, warnings};
 use std::test::Fail;

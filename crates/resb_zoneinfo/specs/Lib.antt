@@ -1,5 +1,5 @@
--- The words of the contracts: civil dates, rules for when clocks change, a zone's moments and offsets,
--- links between zones, faults of records, and the whole file.
+-- The words of the contracts: civil dates, rules for when clocks change, a zone's moments and
+-- offsets, links between zones, faults of records, and the whole file.
 pub mod Civil
 pub mod RuleDays
 pub mod Numbers

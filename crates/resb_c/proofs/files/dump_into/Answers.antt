@@ -35,10 +35,11 @@ returns-in-Ok c =
 
 pub returns : goal.returns
 returns c =
-    let none : HasNoDump c.args.file.now c.args.name.now c.args.limit c.in-Err.e =
+    let file : List ℕ = c.args.file.now in
+    let none : HasNoDump file c.args.name.now c.args.limit c.in-Err.e =
     record {
       bundle = c.in_ok-bundle.bundle;
-      of_file = subst (λ (n : List ℕ). IsBundleOf c.args.file.now n c.args.limit c.in_ok-bundle.bundle)
+      of_file = subst (λ (n : List ℕ). IsBundleOf file n c.args.limit c.in_ok-bundle.bundle)
           c.in_ok-name.ensures.ok.0 c.in_ok-bundle.ensures.ok;
       none = c.in-Err.ensures.none;
     } in

@@ -48,7 +48,7 @@ extern "C" {
 #define RESB_NO_MEMORY 8u
 /* The file uses the keys of a pool bundle, and has none of its own. */
 #define RESB_USES_POOL 9u
-/* The file's tree would take more bytes than the limit. */
+/* The file's tree, or what reading the text makes, would take more bytes than the limit. */
 #define RESB_OVER_LIMIT 10u
 
 /* Why a call failed. Each call writes all of it: after RESB_OK it holds zeros alone. */
@@ -71,6 +71,19 @@ typedef struct resb_error {
  * RESB_NO_MEMORY. */
 uint32_t resb_compile(const uint8_t *text, size_t text_length, uint8_t *out, size_t out_length,
                       size_t *length, resb_error *error);
+
+/* Compiles a stranger's text: as resb_compile does, but a text is refused by RESB_OVER_LIMIT whose
+ * reading would take more bytes of memory than the limit. Counted are 72 for each group, 192 for
+ * each string among items, keys too, 1024 for each table that has entries, 3 for each byte of a
+ * string, 1 for each byte of a binary, 4 for each number of a vector. The reading stops before the
+ * token by which there would be more. What the file takes beside that is not within the limit. */
+uint32_t resb_compile_within(const uint8_t *text, size_t text_length, uint64_t limit, uint8_t *out,
+                             size_t out_length, size_t *length, resb_error *error);
+
+/* Writes the line and the column of a place of a text, such as that of a resb_error, or of the
+ * text's end if that comes first. Both count from 1; a column is a character of UTF-8. */
+void resb_location(const uint8_t *text, size_t text_length, size_t place, size_t *line,
+                   size_t *column);
 
 /* Checks a file as a whole, and makes no tree.
  *

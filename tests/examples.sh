@@ -1,6 +1,7 @@
 #!/usr/bin/env bash
 # The examples of the library for C, built and run: a bundle's text, a text that is none, bytes that
-# are no UTF-8. Where the library isn't built, `rt lib` builds it. A missing compiler is no failure.
+# are no UTF-8, a text over the limit. Where the library isn't built, `rt lib` builds it. A missing
+# compiler is no failure.
 # RATTLE_C is the folder of the toolchain's liblibc_c.a.
 set -uo pipefail
 top=$(cd "$(dirname "$(readlink -f "$0")")/.." && pwd)
@@ -33,9 +34,12 @@ rows() {
 bundle{
     b{"c"}
 }' 'a { b { "c" } }' "$@"
-  expect "$language: no bundle" 1 "fault 3 at byte 4: Parse error while reading text bundle:
-at byte 4: expected '}'" 'a { ' "$@"
-  expect "$language: no UTF-8" 1 'fault 2 at byte 1: not UTF-8 from byte 1 on' 'a\377' "$@"
+  expect "$language: no bundle" 1 "2:3: fault 3: Parse error while reading text bundle:
+at byte 6: expected '}'" 'a {\n  ' "$@"
+  expect "$language: no UTF-8" 1 '1:2: fault 2: not UTF-8 from byte 1 on' 'a\377' "$@"
+  expect "$language: over the limit" 1 \
+    '1:1: fault 10: reading the text takes more bytes than the limit' \
+    "a {$(printf 'k {%.0s' {1..9000})" "$@"
 }
 
 # built NAME COMMAND..: whether the example is built, which counts only where it fails

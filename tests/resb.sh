@@ -148,11 +148,20 @@ told 1 '' 'names.txt: Invalid resource bundle data: magic word does not match' c
 
 # a tree may be asked to take no more bytes than a limit
 told 0 'hello' '' get names.res hi --limit 100000
-told 1 '' 'names.res: Invalid resource bundle data: tree larger than the limit' \
-  get names.res hi --limit 10
-told 1 '' 'names.res: Invalid resource bundle data: tree larger than the limit' \
+told 0 'hello' '' get names.res hi --limit 2589
+told 1 '' 'names.res: the tree takes 2589 bytes, more than the limit of 2588' \
+  get names.res hi --limit 2588
+told 1 '' 'names.res: the tree takes 2589 bytes, more than the limit of 10' \
   dump --limit 10 names.res
 told 2 '' 'resb: --limit is a number of bytes' dump --limit ten names.res
+
+# so may the reading of a text
+printf 'b{k{v}}' > small.txt
+told 0 '' '' compile small.txt --limit 1558
+told 0 'v' '' get small.res k
+told 1 '' 'small.txt: reading this text takes more than the limit of 1557 bytes' \
+  compile --limit 1557 small.txt
+told 2 '' 'resb: --limit is a number of bytes' compile small.txt --limit ten
 
 # where no text holds a string, the path to it is said
 printf 'b{zones{Pole{list{"first","other"} note{"plain"}}}}' > path.txt

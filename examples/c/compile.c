@@ -4,13 +4,20 @@
 #include <stdio.h>
 #include <stdlib.h>
 
-/* the most bytes that a tree may take */
+/* the most bytes that reading a text may make, and that a tree may take */
 #define LIMIT 1000000u
 
 static int fail(const resb_error *error) {
-  fprintf(stderr, "fault %u at byte %zu: %s\n", (unsigned)error->kind, error->place,
-          (const char *)error->message);
+  fprintf(stderr, "fault %u: %s\n", (unsigned)error->kind, (const char *)error->message);
   return 1;
+}
+
+/* The same of a text, with the line and the column of the error's place. */
+static int fail_at(const uint8_t *text, size_t length, const resb_error *error) {
+  size_t line, column;
+  resb_location(text, length, error->place, &line, &column);
+  fprintf(stderr, "%zu:%zu: ", line, column);
+  return fail(error);
 }
 
 /* The text of a file, of *length bytes, or null. */
@@ -50,13 +57,14 @@ int main(void) {
   size_t text_length = fread(text, 1, sizeof text, stdin);
 
   /* the first call tells how much room the file needs */
-  if (resb_compile(text, text_length, &none, 0, &length, &error) != RESB_TOO_SHORT)
-    return fail(&error);
+  if (resb_compile_within(text, text_length, LIMIT, &none, 0, &length, &error) != RESB_TOO_SHORT)
+    return fail_at(text, text_length, &error);
   uint8_t *file = malloc(length);
   if (file == NULL) return 1;
-  int status = resb_compile(text, text_length, file, length, &length, &error) == RESB_OK
-                   ? show(file, length)
-                   : fail(&error);
+  int status =
+      resb_compile_within(text, text_length, LIMIT, file, length, &length, &error) == RESB_OK
+          ? show(file, length)
+          : fail_at(text, text_length, &error);
   free(file);
   return status;
 }

@@ -2,12 +2,14 @@
 --     IsCompiled text bytes   the bytes are a file of the bundle that the text is
 --     IsRefused text e        the error has its reason in the text
 --     message_of e            the text that it prints as
+--     IsRefusedWithin text limit e, within_message_of e   the same within a limit of bytes
 use Rattle.std.specs.Prelude.{◌≡◌, ◌≢◌, ◌⊎◌, ℕ, List, Bool, codes}
 use Rattle.resb_tree.specs.Tree.{Tree}
 use Rattle.resb_grammar.specs.BundleText.{BundleText}
 use Rattle.resb_text.specs.Answer.{Fails, IsNoBundle}
 use Rattle.resb_text.specs.Refusal as refusal
 use Rattle.resb_text.specs.declared.error.TextParserError.{TextParserError}
+use Rattle.resb_grammar.specs.Limit.{MadeWithin, MakesMore}
 use Rattle.resb_write.specs.Written.{Written}
 use Rattle.resb_write.specs.Faults.{Refused}
 use Rattle.resb_pool.specs.Fault as fault
@@ -15,6 +17,8 @@ use Rattle.resb_pool.specs.FaultOf.{fault_of}
 use Rattle.resb_pool.specs.declared.error.BinarySerializerError.{BinarySerializerError}
 use Rattle.resb.specs.declared.compiling.CompileError.{CompileError}
 use Rattle.resb.specs.declared.compiling.CompileError.TheVariants.{Reading, Writing}
+use Rattle.resb.specs.declared.compiling.CompileWithinError.{CompileWithinError}
+use Rattle.resb.specs.declared.compiling.CompileWithinError.TheVariants as within
 
 -- the bundle that a text is
 pub record IsBundle (text : List ℕ) : Type 0 where
@@ -49,3 +53,14 @@ IsRefused text (Writing e) = IsUnwritable text e
 abbrev pub message_of : CompileError → List ℕ
 message_of (Reading e) = refusal.message_of e
 message_of (Writing e) = fault.message_of (fault_of e)
+
+-- why a text isn't compiled within a limit: for what it is refused without one; or a reading comes
+-- to a token by which more bytes than the limit are made, and the whole reading is not within it
+abbrev pub IsRefusedWithin : List ℕ → ℕ → CompileWithinError → Type 0
+IsRefusedWithin text limit (within.Text e) = IsRefused text e
+IsRefusedWithin text limit within.Larger = MakesMore text limit × (MadeWithin text limit → ⊥)
+
+-- what that error prints
+abbrev pub within_message_of : CompileWithinError → List ℕ
+within_message_of (within.Text e) = message_of e
+within_message_of within.Larger = codes "text larger than the limit"

@@ -1,9 +1,11 @@
 //! From a text to the bytes of its file: the reader, and then the writer with the discovered keys.
 //! What a text and a file are, and each half of the way, is in the crates below.
 ghost use Rattle.std.specs.Prelude.{Some, IfOk, IfErr};
-ghost use Rattle.resb.specs.Compiling.{IsCompiled, IsRefused, message_of};
+ghost use Rattle.resb_grammar.specs.Limit.{MadeWithin};
+ghost use Rattle.resb.specs.Compiling.{IsCompiled, IsRefused, IsRefusedWithin, message_of};
+ghost use Rattle.resb.specs.Compiling.{within_message_of};
 
-use resb_text::{Reader, TextParserError};
+use resb_text::{LimitError, Reader, TextParserError};
 use resb_write::{BinarySerializerError, Serializer};
 use std::alloc::Global;
 use std::error::Error;
@@ -65,4 +67,46 @@ pub fn compile(alloc: Global, text: &str) -> Result<Vec<u8>, CompileError>
     let (bundle, keys) = Reader::read(alloc, text)?;
     let file = Serializer::to_bytes(alloc, &bundle, keys.as_slice())?;
     Ok(file)
+}
+
+/// Why a text has no file, where reading it may make no more bytes than a limit. It prints as the
+/// error inside, or as `text larger than the limit`.
+#[derive(Debug, Drop)]
+pub enum CompileWithinError {
+    /// What the text is refused for without a limit.
+    Text(CompileError),
+    /// Reading the text makes more bytes than the limit.
+    Larger,
+}
+
+impl fmt::Display for CompileWithinError {
+    ghost output = { λ e. Some (within_message_of e) };
+
+    fn fmt<W: fmt::Write>(&self, f: &mut fmt::Formatter<W>) -> fmt::Result {
+        match self {
+            CompileWithinError::Text(e) => write!(f, "{e}"),
+            CompileWithinError::Larger => write!(f, "text larger than the limit"),
+        }
+    }
+}
+
+impl Error for CompileWithinError {}
+
+/// The bytes of the `.res` file of a bundle's text, where reading the text makes no more bytes than
+/// the limit, as `Reader::read_within` counts them. The limit is for the reading: what the writer
+/// takes beside it is not within it.
+pub fn compile_within(alloc: Global, text: &str, limit: u64) -> Result<Vec<u8>, CompileWithinError>
+    ensures ok { IfOk result (λ file. IsCompiled text.now file.items) }
+    ensures within { IfOk result (λ file. MadeWithin text.now limit) }
+    ensures err { IfErr result (IsRefusedWithin text.now limit) }
+{
+    let (bundle, keys) = match Reader::read_within(alloc, text, limit) {
+        Ok(read) => read,
+        Err(LimitError::Text(e)) => return Err(CompileWithinError::Text(CompileError::Reading(e))),
+        Err(LimitError::Larger) => return Err(CompileWithinError::Larger),
+    };
+    match Serializer::to_bytes(alloc, &bundle, keys.as_slice()) {
+        Ok(file) => Ok(file),
+        Err(e) => Err(CompileWithinError::Text(CompileError::Writing(e))),
+    }
 }

@@ -1,6 +1,6 @@
 //! ICU resource bundles: the tree, its text form and its binary form, under the paths of the Rust
-//! crate `resb`. What is proved of each call stands with it in the crates below; only `compile` is
-//! made here.
+//! crate `resb`. What is proved of each call stands with it in the crates below; only `compile` and
+//! `compile_within` are made here.
 #![tactic(auto)]
 
 pub mod binary;
@@ -11,4 +11,4 @@ pub mod headline;
 pub mod laws;
 pub mod text;
 
-pub use compiling::{CompileError, compile};
+pub use compiling::{CompileError, CompileWithinError, compile, compile_within};

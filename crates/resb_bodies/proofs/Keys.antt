@@ -2,6 +2,7 @@
 use Rattle.std.proofs.Common.{◌≡◌, ℕ, List, [], ◌∷◌, ◌++◌, map, length, Option, Some, Bool, true}
 use Rattle.std.proofs.Common.{false, IsTrue, ◌<◌, zero, suc, refl, sym, ◌∙◌, ap, arith}
 use Rattle.std.specs.Map.{keys_of}
+use Rattle.resb_tree.specs.Tree.{Entries, no_entries, entry}
 use Rattle.resb_tree.specs.View.{entries_view}
 use Rattle.resb_tree.specs.declared.resource.Resource.{Resource}
 use Rattle.resb_layout.specs.Laid.{Given, ArePlaced}
@@ -20,6 +21,10 @@ keys_long (e ∷ es) = omega (arith, keys_long es)
 pub values_long : (es : List (List ℕ × Resource)) → length es ≡ length (values_of (entries_view es))
 values_long [] = refl
 values_long (e ∷ es) = omega (arith, values_long es)
+
+pub keys_values : (es : Entries) → length (entry_keys es) ≡ length (values_of es)
+keys_values no_entries = refl
+keys_values (entry k t es) = omega (arith, keys_values es)
 
 pub placed_long : (g : Given) (ks : List (List ℕ)) (ps : List ℕ) → ArePlaced g ks ps
     → length ps ≡ length ks

@@ -1,5 +1,10 @@
 -- For crates above: those that are `pub`.
 pub mod Walks
+mod Anywhere
+mod Numbers
+mod Pending
+mod Counting
+mod Marks
 mod Stacks
 mod Closings
 mod Each

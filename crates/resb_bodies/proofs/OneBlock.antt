@@ -24,10 +24,10 @@ pub data AlikeEach : List ℕ → List ℕ → Type 0 where
   alike_more : {v w : ℕ} {vs ws : List ℕ} → Alike v w → AlikeEach vs ws
       → AlikeEach (v ∷ vs) (w ∷ ws)
 
-low : (w : ℕ) → w < 0x6000_0000 → is_short_string w ≡ false
+pub low : (w : ℕ) → w < 0x6000_0000 → is_short_string w ≡ false
 low w h = and_left (nat_le 0x6000_0000 w) (nat_le w 0x6000_ffff) (lt-leb 0x6000_0000 w h)
 
-high : (w : ℕ) → 0x6000_ffff < w → is_short_string w ≡ false
+pub high : (w : ℕ) → 0x6000_ffff < w → is_short_string w ≡ false
 high w h = and_right (nat_le 0x6000_0000 w) (nat_le w 0x6000_ffff) (lt-leb w 0x6000_ffff h)
 
 alike_long : {vs ws : List ℕ} → AlikeEach vs ws → length vs ≡ length ws

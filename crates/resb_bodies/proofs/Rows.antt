@@ -3,15 +3,13 @@ use Rattle.std.proofs.Common.{◌≡◌, ℕ, ◌+◌, ◌-◌, List, [], ◌∷
 use Rattle.std.proofs.Common.{append_assoc, append-nil, length-append, arith, ◌<◌, ◌^◌}
 use Rattle.std.specs.List.{sum_by}
 use Rattle.std.proofs.lemmas.List.Sums.{sum_by-cons}
-use Rattle.std.proofs.lemmas.List.Elements.{All-tail}
 use Rattle.resb_tree.specs.Tree.{Tree, string, array, table, binary, integer, int_vector, Trees}
 use Rattle.resb_tree.specs.Tree.{no_trees, more_trees, Entries, no_entries, entry}
 use Rattle.resb_layout.specs.Laid.{Given, Laid}
 use Rattle.resb_tree.specs.WalkOrder.{members, values_of, children, walk, walk_each, walk_values}
 use Rattle.resb_bodies.specs.StackSteps.{LaysNext, LaysRow, row_none, row_more}
-use Rattle.resb_bodies.specs.Room.{given_by, own_size, most_units, most_bytes, IsKnown}
+use Rattle.resb_bodies.specs.Room.{own_size, most_units, most_bytes}
 use Rattle.resb_bodies.specs.Inner.Seen.{HasRoom, TakesNoMore, Suffices, CanLay}
-use Rattle.resb_bodies.specs.declared.given.Sites.{Sites}
 use Rattle.resb_bodies.specs.declared.given.Bodies.{Bodies}
 
 pub steps_push : (g : Given) (s m e : Laid) (ws xs ys : List ℕ) (ts : List Tree) (t : Tree)
@@ -76,14 +74,14 @@ suffices t = subst (Suffices 0) (append-nil (walk t)) (suffices_tree t 0 [] tt)
 fits : (a m r s k : ℕ) → s ≡ m + r → a + s < k → a + m < k
 fits a m r s k e h = omega (arith, e, h)
 
-module _ (p : Sites) (b : Bodies) (n : ℕ) (t : Tree) (ts : List Tree) (h : CanLay p b n (t ∷ ts))
+module _ (p : ℕ) (b : Bodies) (n : ℕ) (t : Tree) (ts : List Tree) (h : CanLay p b n (t ∷ ts))
   where
     pub has_room : HasRoom p b (own_size t)
     has_room = record {
       aligned = h.room.aligned;
       units = fits (length b.units.items) (most_units t) (sum_by most_units ts)
           (sum_by most_units (t ∷ ts)) (2 ^ 28) (sum_by-cons most_units t ts) h.room.units;
-      bytes = fits (p.base + length b.tail.items) (most_bytes t) (sum_by most_bytes ts)
+      bytes = fits (p + length b.tail.items) (most_bytes t) (sum_by most_bytes ts)
           (sum_by most_bytes (t ∷ ts)) (2 ^ 30) (sum_by-cons most_bytes t ts) h.room.bytes;
     }
 
@@ -98,5 +96,4 @@ module _ (p : Sites) (b : Bodies) (n : ℕ) (t : Tree) (ts : List Tree) (h : Can
             bytes = omega (arith, h.room.bytes, sum_by-cons most_bytes t ts, k.bytes);
           };
           enough = to ts (sym e) h.enough.1;
-          known = All-tail (IsKnown (given_by p)) t ts h.known;
         }

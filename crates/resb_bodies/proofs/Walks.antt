@@ -1,8 +1,9 @@
 -- A resource in walk order: what is inside it, and then itself.
 use Rattle.std.proofs.Common.{◌≡◌, ℕ, ◌+◌, ◌<◌, List, [], ◌∷◌, ◌++◌, Bor, map, length, reverse}
+use Rattle.std.proofs.Common.{get_or, take, drop}
 use Rattle.std.proofs.Common.{refl, sym, ◌∙◌, ap, append_assoc, append-nil, arith}
 use Rattle.std.specs.List.{flat_map, sum_by}
-use Rattle.std.proofs.lemmas.List.{reverse-append, map_push}
+use Rattle.std.proofs.lemmas.List.{reverse-append, map_push, map_more, at_drop_more}
 use Rattle.std.proofs.lemmas.List.Sums.{sum_by-cons, sum_by-append}
 use Rattle.resb_tree.specs.Tree.{Tree, string, array, table, binary, integer, int_vector, Trees}
 use Rattle.resb_tree.specs.Tree.{no_trees, more_trees, Entries, no_entries, entry, trees_of}
@@ -108,3 +109,14 @@ trees-reverse (r ∷ rs) =
 pub items_long : (rs : List Resource) → length rs ≡ length (members (items_view rs))
 items_long [] = refl
 items_long (r ∷ rs) = omega (arith, items_long rs)
+
+-- the resources from a place on, and those up to the one there
+module _ (rs : List (Bor Resource)) (i : ℕ) (r : Bor Resource) (at : r ≡ get_or rs i r)
+    (h : i < length rs) where
+  pub trees-drop : trees_in (drop i rs) ≡ tree_of r.now ∷ trees_in (drop (i + 1) rs)
+  trees-drop = at_drop_more trees_in rs i r h ∙ ap (λ (x : Bor Resource). tree_of x.now
+      ∷ trees_in (drop (i + 1) rs)) (sym at)
+
+  pub trees-take : trees_in (take (i + 1) rs) ≡ trees_in (take i rs) ++ tree_of r.now ∷ []
+  trees-take = map_more (λ (x : Bor Resource). tree_of x.now) rs i r h
+      ∙ ap (λ (x : Bor Resource). trees_in (take i rs) ++ tree_of x.now ∷ []) (sym at)

@@ -1,2 +1,3 @@
 -- Words of private functions.
 pub mod Seen
+pub mod Counted

@@ -3,7 +3,6 @@
 pub use Rattle.resb_tree.specs.Tree
 pub use Rattle.resb_tree.specs.View
 pub use Rattle.resb_tree.specs.WalkOrder
-pub use Rattle.resb_pool.specs.Plan
 pub use Rattle.resb_layout.specs.Laid
 pub mod Room
 pub mod StackSteps

@@ -1,27 +1,58 @@
 //! What is given to those who lay bodies, and what they have laid so far.
 //! Where keys and strings stand is found out elsewhere.
-ghost use Rattle.std.specs.Prelude.{◌≡◌, [], IfOk};
-ghost use Rattle.resb_pool.specs.Plan.{at_text};
+ghost use Rattle.std.specs.Prelude.{◌≡◌, ◌∷◌, ◌<◌, ◌≤◌, length, take, drop};
 
-use indexmap::IndexMap;
-use resb_pool::Plan;
-use std::alloc::{AllocError, Global};
-
-/// The position of each used key in bytes of the body, the plan of the strings, and how many bytes
-/// of the body stand before the tail, a multiple of 4.
+/// Where the keys and the strings of a tree stand, one for each in walk order.
 #[derive(Drop)]
-pub struct Sites<'p> {
-    pub positions: IndexMap<&'p str, u32>,
-    pub plan: Plan<'p>,
-    pub base: usize,
+pub struct Sites<'s> {
+    /// The positions of the tables' keys, in bytes of the body.
+    pub positions: &'s [u32],
+    /// The offsets of the strings, in units of the 16-bit block.
+    pub offsets: &'s [u32],
 }
 
-impl<'p> Sites<'p> {
-    /// The position of a key, if it is used.
-    pub(crate) fn position(&self, key: &str) -> Option<u32>
-        ensures { result ≡ at_text self.now.positions key.now }
+impl<'s> Sites<'s> {
+    /// Where the keys and strings stand of the resources that are laid first.
+    pub(crate) fn coming(&self) -> Coming<'s>
+        ensures positions { result.positions.now ≡ self.now.positions.now }
+        ensures offsets { result.offsets.now ≡ self.now.offsets.now }
     {
-        self.positions.get(key).copied()
+        Coming {
+            positions: self.positions,
+            offsets: self.offsets,
+        }
+    }
+}
+
+/// Where the keys and the strings stand of the resources that are still to be laid.
+#[derive(Drop)]
+pub(crate) struct Coming<'s> {
+    pub(crate) positions: &'s [u32],
+    pub(crate) offsets: &'s [u32],
+}
+
+impl<'s> Coming<'s> {
+    /// Takes the positions of the next keys.
+    pub(crate) fn take_positions(&mut self, count: usize) -> &'s [u32]
+        requires { count ≤ length self.old.positions.now }
+        ensures taken { result.now ≡ take count self.old.positions.now }
+        ensures left { self.new.positions.now ≡ drop count self.old.positions.now }
+        ensures keeps { self.new.offsets.now ≡ self.old.offsets.now }
+    {
+        let (taken, left) = self.positions.split_at(count);
+        self.positions = left;
+        taken
+    }
+
+    /// Takes the offset of the next string.
+    pub(crate) fn take_offset(&mut self) -> u32
+        requires { 0 < length self.old.offsets.now }
+        ensures taken { self.old.offsets.now ≡ result ∷ self.new.offsets.now }
+        ensures keeps { self.new.positions.now ≡ self.old.positions.now }
+    {
+        let offset = self.offsets[0];
+        self.offsets = &self.offsets[1..];
+        offset
     }
 }
 
@@ -30,17 +61,4 @@ impl<'p> Sites<'p> {
 pub struct Bodies {
     pub units: Vec<u16>,
     pub tail: Vec<u8>,
-}
-
-impl Bodies {
-    /// The pool of the strings, and nothing else.
-    pub(crate) fn new(alloc: Global, pool: &[u16]) -> Result<Bodies, AllocError>
-        ensures units { IfOk result (λ b. b.units.items ≡ pool.now) }
-        ensures tail { IfOk result (λ b. b.tail.items ≡ []) }
-    {
-        Ok(Bodies {
-            units: Vec::from_slice(alloc, pool)?,
-            tail: Vec::new(alloc),
-        })
-    }
 }

@@ -3,6 +3,7 @@
 #![tactic(auto)]
 
 mod bytes;
+mod count;
 mod given;
 pub mod laws;
 mod lay;
@@ -12,4 +13,4 @@ mod walk_order;
 
 pub use given::{Bodies, Sites};
 pub use tree::lay_bodies;
-pub use walk_order::in_walk_order;
+pub use walk_order::{WalkOrder, in_walk_order};

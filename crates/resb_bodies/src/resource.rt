@@ -6,16 +6,16 @@ ghost use Rattle.resb_tree.specs.Tree.{binary, int_vector};
 ghost use Rattle.resb_format.specs.Descriptor.{type_number};
 ghost use Rattle.resb_layout.specs.Laid.{Lays, ClosesArray, ClosesTable, are_short, are_near};
 ghost use Rattle.resb_layout.specs.Laid.{offsets_in};
-ghost use Rattle.resb_bodies.specs.Room.{given_by, laid_of};
+ghost use Rattle.resb_bodies.specs.Room.{at_base, laid_of};
 ghost use Rattle.resb_bodies.specs.Inner.Seen.{HasRoom, TakesNoMore};
 
 use crate::bytes::{put_counted, put_fill, put_short_table, put_wide_table, put_word};
-use crate::given::{Bodies, Sites};
+use crate::given::Bodies;
 use resb_format::{ResDescriptor, ResourceReprType};
 use std::alloc::AllocError;
 
 /// The greatest number that a 16-bit unit holds.
-const UNIT_MAX: usize = 65535;
+pub(crate) const UNIT_MAX: usize = 65535;
 
 /// The word of a type and a value.
 pub(crate) fn word(resource_type: ResourceReprType, value: u32) -> u32
@@ -33,13 +33,13 @@ fn first_string_word() -> u32
 }
 
 /// The word of the body at which the next byte of the tail stands.
-fn tail_value(sites: &Sites<'_>, tail: &[u8], skipped: usize) -> u32
-    requires aligned { (sites.now.base + length tail.now + skipped) % 4 ≡ 0 }
-    requires small { sites.now.base + length tail.now + skipped < 2 ^ 30 }
-    ensures at { sites.now.base + length tail.now + skipped ≡ 4 * result }
+fn tail_value(base: usize, tail: &[u8], skipped: usize) -> u32
+    requires aligned { (base + length tail.now + skipped) % 4 ≡ 0 }
+    requires small { base + length tail.now + skipped < 2 ^ 30 }
+    ensures at { base + length tail.now + skipped ≡ 4 * result }
     ensures fits { result < 2 ^ 28 }
 {
-    ((sites.base + tail.len() + skipped) / 4) as u32
+    ((base + tail.len() + skipped) / 4) as u32
 }
 
 /// Whether these are the words of at most 65535 strings at offsets of at most 65535.
@@ -59,7 +59,7 @@ fn are_short_strings(words: &[u32]) -> bool
 }
 
 /// Whether these are at most 65535 positions of at most 65535.
-fn are_near_positions(positions: &[u32]) -> bool
+pub(crate) fn are_near_positions(positions: &[u32]) -> bool
     ensures { result ≡ are_near positions.now }
 {
     if positions.len() > UNIT_MAX {
@@ -110,14 +110,14 @@ fn put_unit_table(units: &mut Vec<u16>, positions: &[u32], words: &[u32]) -> Res
 
 /// Lays an array that isn't empty.
 pub(crate) fn close_array(
-    sites: &Sites<'_>,
+    base: usize,
     bodies: &mut Bodies,
     words: &[u32],
 ) -> Result<u32, AllocError>
-    requires { HasRoom sites.now bodies.old (length words.now) }
-    ensures lays { IfOk result (λ w. ClosesArray (given_by sites.now) (laid_of bodies.old)
+    requires { HasRoom base bodies.old (length words.now) }
+    ensures lays { IfOk result (λ w. ClosesArray (at_base base) (laid_of bodies.old)
         words.now (laid_of bodies.new) w) }
-    ensures takes { OnOk result (TakesNoMore sites.now bodies.old bodies.new (length words.now)) }
+    ensures takes { OnOk result (TakesNoMore base bodies.old bodies.new (length words.now)) }
 {
     if are_short_strings(words) {
         let at = bodies.units.len() as u32;
@@ -125,26 +125,26 @@ pub(crate) fn close_array(
         put_offsets(&mut bodies.units, words)?;
         return Ok(word(ResourceReprType::Array16, at));
     }
-    let at = tail_value(sites, &bodies.tail, 0);
+    let at = tail_value(base, &bodies.tail, 0);
     put_counted(&mut bodies.tail, words)?;
     Ok(word(ResourceReprType::Array, at))
 }
 
 /// Lays a table that isn't empty.
 pub(crate) fn close_table(
-    sites: &Sites<'_>,
+    base: usize,
     bodies: &mut Bodies,
     positions: &[u32],
     words: &[u32],
 ) -> Result<u32, AllocError>
-    requires room { HasRoom sites.now bodies.old (length words.now) }
+    requires room { HasRoom base bodies.old (length words.now) }
     requires many { length positions.now ≡ length words.now }
-    ensures lays { IfOk result (λ w. ClosesTable (given_by sites.now) (laid_of bodies.old)
+    ensures lays { IfOk result (λ w. ClosesTable (at_base base) (laid_of bodies.old)
         positions.now words.now (laid_of bodies.new) w) }
-    ensures takes { OnOk result (TakesNoMore sites.now bodies.old bodies.new (length words.now)) }
+    ensures takes { OnOk result (TakesNoMore base bodies.old bodies.new (length words.now)) }
 {
     if !are_near_positions(positions) {
-        let at = tail_value(sites, &bodies.tail, 0);
+        let at = tail_value(base, &bodies.tail, 0);
         put_wide_table(&mut bodies.tail, positions, words)?;
         return Ok(word(ResourceReprType::_Table32, at));
     }
@@ -153,28 +153,24 @@ pub(crate) fn close_table(
         put_unit_table(&mut bodies.units, positions, words)?;
         return Ok(word(ResourceReprType::Table16, at));
     }
-    let at = tail_value(sites, &bodies.tail, 0);
+    let at = tail_value(base, &bodies.tail, 0);
     put_short_table(&mut bodies.tail, positions, words)?;
     Ok(word(ResourceReprType::Table, at))
 }
 
 /// Lays bytes, which begin at a multiple of 16 in the body.
-pub(crate) fn lay_bytes(
-    sites: &Sites<'_>,
-    bodies: &mut Bodies,
-    bytes: &[u8],
-) -> Result<u32, AllocError>
-    requires { HasRoom sites.now bodies.old ((length bytes.now + 7) / 8) }
-    ensures lays { IfOk result (λ w. Lays (given_by sites.now) (laid_of bodies.old)
+pub(crate) fn lay_bytes(base: usize, bodies: &mut Bodies, bytes: &[u8]) -> Result<u32, AllocError>
+    requires { HasRoom base bodies.old ((length bytes.now + 7) / 8) }
+    ensures lays { IfOk result (λ w. Lays (at_base base) (laid_of bodies.old)
         (binary bytes.now) (laid_of bodies.new) w) }
-    ensures takes { OnOk result (TakesNoMore sites.now bodies.old bodies.new
+    ensures takes { OnOk result (TakesNoMore base bodies.old bodies.new
         ((length bytes.now + 7) / 8)) }
 {
     if bytes.is_empty() {
         return Ok(word(ResourceReprType::Binary, 0));
     }
-    let skipped = (28 - (sites.base + bodies.tail.len()) % 16) % 16;
-    let at = tail_value(sites, &bodies.tail, skipped);
+    let skipped = (28 - (base + bodies.tail.len()) % 16) % 16;
+    let at = tail_value(base, &bodies.tail, skipped);
     put_fill(&mut bodies.tail, skipped)?;
     put_word(&mut bodies.tail, bytes.len() as u32)?;
     bodies.tail.extend_from_slice(bytes)?;
@@ -184,20 +180,20 @@ pub(crate) fn lay_bytes(
 
 /// Lays numbers.
 pub(crate) fn lay_numbers(
-    sites: &Sites<'_>,
+    base: usize,
     bodies: &mut Bodies,
     numbers: &[u32],
 ) -> Result<u32, AllocError>
-    requires { HasRoom sites.now bodies.old ((length numbers.now + 1) / 2) }
-    ensures lays { IfOk result (λ w. Lays (given_by sites.now) (laid_of bodies.old)
+    requires { HasRoom base bodies.old ((length numbers.now + 1) / 2) }
+    ensures lays { IfOk result (λ w. Lays (at_base base) (laid_of bodies.old)
         (int_vector numbers.now) (laid_of bodies.new) w) }
-    ensures takes { OnOk result (TakesNoMore sites.now bodies.old bodies.new
+    ensures takes { OnOk result (TakesNoMore base bodies.old bodies.new
         ((length numbers.now + 1) / 2)) }
 {
     if numbers.is_empty() {
         return Ok(word(ResourceReprType::IntVector, 0));
     }
-    let at = tail_value(sites, &bodies.tail, 0);
+    let at = tail_value(base, &bodies.tail, 0);
     put_counted(&mut bodies.tail, numbers)?;
     Ok(word(ResourceReprType::IntVector, at))
 }

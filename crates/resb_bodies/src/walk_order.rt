@@ -8,11 +8,14 @@ ghost use Rattle.resb_bodies.specs.Room.{trees_in};
 use resb_tree::{Resource, Table};
 use std::alloc::{AllocError, Global};
 
+/// The resources of a tree in walk order: members before their collection.
+pub type WalkOrder<'t, 'a> = Vec<&'t Resource<'a>>;
+
 /// The resources of a tree in walk order.
 pub fn in_walk_order<'t, 'a>(
     alloc: Global,
     root: &'t Resource<'a>,
-) -> Result<Vec<&'t Resource<'a>>, AllocError>
+) -> Result<WalkOrder<'t, 'a>, AllocError>
     ensures { IfOk result (λ v. trees_in v.items ≡ walk (tree_of root.now)) }
 {
     let mut order = Vec::new(alloc);
@@ -24,7 +27,7 @@ pub fn in_walk_order<'t, 'a>(
 /// Appends the resources of a tree, each behind its collection, to none.
 fn push_walk<'t, 'a>(
     alloc: Global,
-    order: &mut Vec<&'t Resource<'a>>,
+    order: &mut WalkOrder<'t, 'a>,
     root: &'t Resource<'a>,
 ) -> Result<(), AllocError>
     requires { order.old.items ≡ [] }

@@ -1,24 +1,34 @@
 -- Why the bytes of a text have no file.
-use Rattle.std.specs.Prelude.{List, ℕ, Bool, true, false, Option, Some, None, length, nat_lt}
+use Rattle.std.specs.Prelude.{◌≡◌, List, ℕ, Bool, true, false, Option, Some, None, length, nat_lt}
 use Rattle.std.specs.Prelude.{IsUtf8}
 use Rattle.std.specs.Prelude.{if◌then◌else◌}
 use Rattle.std.specs.Str.{IsValidUpTo}
 use Rattle.resb_report.specs.Braces.{innermost_open}
 use Rattle.resb_grammar.specs.declared.expected.Expected.{Expected}
 use Rattle.resb_grammar.specs.declared.expected.Expected.TheVariants.{Memory}
+use Rattle.resb_grammar.specs.Limit.{MadeWithin, MakesMore}
 use Rattle.resb_text.specs.declared.error.TextParserError.{TextParserError}
 use Rattle.resb.specs.Compiling.{IsRefused}
 use Rattle.resb.specs.declared.compiling.CompileError.TheVariants.{Reading, Writing}
 use Rattle.resb_bundler.specs.declared.compiling.Blame.{Blame}
 use Rattle.resb_bundler.specs.declared.compiling.Blame.TheVariants.{At, Open, Nowhere}
 use Rattle.resb_bundler.specs.declared.error.SourceError.{SourceError}
-use Rattle.resb_bundler.specs.declared.error.SourceError.TheVariants.{NotUtf8, Refused}
+use Rattle.resb_bundler.specs.declared.error.SourceError.TheVariants.{NotUtf8, Refused, Larger}
 
 -- these bytes have no file, for this reason: they are no UTF-8, and the place is the first that
 -- isn't; or they are, and the text is refused
 abbrev pub IsNoSource : List ℕ → SourceError → Type 0
 IsNoSource source (NotUtf8 place) = (IsUtf8 source → ⊥) × IsValidUpTo source place
 IsNoSource source (Refused e) = IsUtf8 source × IsRefused source e
+IsNoSource source (Larger limit) = ⊥
+
+-- the same, where reading the text may make no more bytes than a limit: more are made at some token
+-- of a reading, and the whole reading is not within it
+abbrev pub IsNoSourceWithin : List ℕ → ℕ → SourceError → Type 0
+IsNoSourceWithin source limit (NotUtf8 place) = IsNoSource source (NotUtf8 place)
+IsNoSourceWithin source limit (Refused e) = IsNoSource source (Refused e)
+IsNoSourceWithin source limit (Larger n) =
+    (n ≡ limit) × IsUtf8 source × MakesMore source limit × (MadeWithin source limit → ⊥)
 
 -- memory was wanted, and nothing of the text
 abbrev pub is_memory : Expected → Bool
@@ -42,4 +52,5 @@ stuck_at source e =
 abbrev pub blame_of : List ℕ → SourceError → Blame
 blame_of source (NotUtf8 place) = At place
 blame_of source (Refused (Writing e)) = Nowhere
+blame_of source (Larger limit) = Nowhere
 blame_of source (Refused (Reading e)) = stuck_at source e

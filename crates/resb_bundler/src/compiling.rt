@@ -1,11 +1,12 @@
 //! The file of a text that is given as bytes, and where a person is to look if there is none.
 ghost use Rattle.std.specs.Prelude.{◌≡◌, IsUtf8, IfOk, IfErr};
+ghost use Rattle.resb_grammar.specs.Limit.{MadeWithin};
 ghost use Rattle.resb.specs.Compiling.{IsCompiled};
-ghost use Rattle.resb_bundler.specs.Sources.{IsNoSource, blame_of};
+ghost use Rattle.resb_bundler.specs.Sources.{IsNoSource, IsNoSourceWithin, blame_of};
 
 use crate::error::SourceError;
-use resb::CompileError;
 use resb::text::Expected;
+use resb::{CompileError, CompileWithinError};
 use resb_report::innermost_open;
 use std::alloc::Global;
 
@@ -18,6 +19,26 @@ pub fn compile_source(alloc: Global, source: &[u8]) -> Result<Vec<u8>, SourceErr
         Ok(text) => match resb::compile(alloc, text) {
             Ok(file) => Ok(file),
             Err(e) => Err(SourceError::Refused(e)),
+        },
+        Err(e) => Err(SourceError::NotUtf8(e.valid_up_to())),
+    }
+}
+
+/// The same, where reading the text makes no more bytes than the limit. (`resb::compile_within`.)
+pub fn compile_source_within(
+    alloc: Global,
+    source: &[u8],
+    limit: u64,
+) -> Result<Vec<u8>, SourceError>
+    ensures ok { IfOk result (λ file. IsUtf8 source.now × IsCompiled source.now file.items) }
+    ensures within { IfOk result (λ file. MadeWithin source.now limit) }
+    ensures err { IfErr result (IsNoSourceWithin source.now limit) }
+{
+    match str::from_utf8(source) {
+        Ok(text) => match resb::compile_within(alloc, text, limit) {
+            Ok(file) => Ok(file),
+            Err(CompileWithinError::Text(e)) => Err(SourceError::Refused(e)),
+            Err(CompileWithinError::Larger) => Err(SourceError::Larger(limit)),
         },
         Err(e) => Err(SourceError::NotUtf8(e.valid_up_to())),
     }
@@ -42,6 +63,7 @@ pub fn where_to_look(source: &[u8], error: &SourceError) -> Blame
     match error {
         SourceError::NotUtf8(place) => Blame::At(*place),
         SourceError::Refused(CompileError::Writing(_)) => Blame::Nowhere,
+        SourceError::Larger(_) => Blame::Nowhere,
         SourceError::Refused(CompileError::Reading(e)) => {
             if e.expected() == Expected::Memory {
                 return Blame::Nowhere;

@@ -12,6 +12,8 @@ pub enum SourceError {
     NotUtf8(usize),
     /// The text is refused, or its tree, or memory was wanted.
     Refused(CompileError),
+    /// Reading the text makes more bytes than this limit.
+    Larger(u64),
 }
 
 impl fmt::Display for SourceError {
@@ -23,6 +25,10 @@ impl fmt::Display for SourceError {
                 write!(f, "expected {expected}")
             }
             SourceError::Refused(CompileError::Writing(e)) => write!(f, "{e}"),
+            SourceError::Larger(limit) => write!(
+                f,
+                "reading this text takes more than the limit of {limit} bytes"
+            ),
         }
     }
 }

@@ -1,10 +1,12 @@
 -- What the calls for C answer, and what the caller gets of it.
 --     CompilesInto text old new r    what compiling to a buffer answers, and leaves there
+--     CompilesWithin text limit old new r   the same of a text whose reading keeps within a limit
 --     CountsFile file r              what checking a file answers
 --     Reports r status n e           the status, number and error that the caller gets of an answer
 use Rattle.std.specs.Prelude.{◌≡◌, ◌≤◌, ◌<◌, ◌⊎◌, ℕ, List, ◌++◌, length, drop, take}
 use Rattle.std.specs.Prelude.{Result, Ok, Err, Option, Some, None, IsUtf8, replicate}
 use Rattle.std.specs.Str.Lossy.{utf8_valid_len}
+use Rattle.resb_grammar.specs.Limit.{MadeWithin, MakesMore}
 use Rattle.resb.specs.Compiling.{IsCompiled, IsRefused}
 use Rattle.resb_read.specs.Roots.{CountOf}
 use Rattle.resb_bundler.specs.Files.{HasNoKeys}
@@ -12,7 +14,7 @@ use Rattle.resb_bundler.specs.Summary.{HasNoSummary}
 use Rattle.resb_c.specs.Faults.{number_of, place_of, message_of}
 use Rattle.resb_c.specs.declared.fault.Fault.{Fault}
 use Rattle.resb_c.specs.declared.fault.Fault.TheVariants.{TooShort, NotUtf8, Compiling, Reading}
-use Rattle.resb_c.specs.declared.fault.Fault.TheVariants.{UsesPool}
+use Rattle.resb_c.specs.declared.fault.Fault.TheVariants.{UsesPool, LargerText}
 use Rattle.resb_c.specs.declared.report.ResbError.{ResbError}
 
 -- where the buffer has room, the answer stands at its front, what is behind stays, and its length
@@ -35,6 +37,15 @@ CompilesInto text old new (Err (TooShort n)) =
 CompilesInto text old new (Err (NotUtf8 n)) = IsNotUtf8 text n × (new ≡ old)
 CompilesInto text old new (Err (Compiling e)) = IsUtf8 text × IsRefused text e × (new ≡ old)
 CompilesInto text old new (Err _) = ⊥
+
+-- the same where reading the text makes no more bytes than a limit; or more are made at some token
+-- of a reading, and the whole reading is not within it
+abbrev pub CompilesWithin : List ℕ → ℕ → List ℕ → List ℕ → Result ℕ Fault → Type 0
+CompilesWithin text limit old new (Ok n) =
+    MadeWithin text limit × CompilesInto text old new (Ok n)
+CompilesWithin text limit old new (Err LargerText) =
+    IsUtf8 text × MakesMore text limit × (MadeWithin text limit → ⊥) × (new ≡ old)
+CompilesWithin text limit old new (Err fault) = CompilesInto text old new (Err fault)
 
 -- the file uses the keys of a pool bundle, or its head is refused
 abbrev pub HasNoOwnSummary : List ℕ → Fault → Type 0

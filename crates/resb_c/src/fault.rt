@@ -22,6 +22,8 @@ pub enum Fault {
     Reading(BinaryDeserializerError),
     /// The tree takes more bytes than the limit.
     Larger,
+    /// Reading the text makes more bytes than the limit.
+    LargerText,
     /// The file uses the keys of a pool bundle, and has none of its own.
     UsesPool,
     /// The tree has no text.
@@ -49,7 +51,7 @@ impl Fault {
                 _ => 5,
             },
             Fault::UsesPool => 9,
-            Fault::Larger => 10,
+            Fault::Larger | Fault::LargerText => 10,
             Fault::Printing(PrintError::NotPrintable(_)) => 7,
             Fault::Printing(PrintError::OutOfMemory) => 8,
         }
@@ -85,6 +87,7 @@ impl fmt::Display for Fault {
                 )
             }
             Fault::Larger => write!(f, "the tree takes more bytes than the limit"),
+            Fault::LargerText => write!(f, "reading the text takes more bytes than the limit"),
             Fault::Printing(e) => write!(f, "{e}"),
         }
     }

@@ -4,11 +4,13 @@ ghost use Rattle.std.specs.Prelude.{◌≡◌, ℕ, false, Ok, Err, IfOk, IfErr,
 ghost use Rattle.resb_format.specs.declared.error.ReadingError.{ReadingError};
 ghost use Rattle.resb_read.specs.Measuring.{MeasureOf};
 ghost use Rattle.resb_bundler.specs.Summary.{Summarizes};
-ghost use Rattle.resb_c.specs.Calls.{CompilesInto, CountsFile, Fills, HasNoOwnSummary, IsNotUtf8};
+ghost use Rattle.resb_c.specs.Calls.{CompilesInto, CompilesWithin, CountsFile, Fills};
+ghost use Rattle.resb_c.specs.Calls.{HasNoOwnSummary, IsNotUtf8};
 ghost use Rattle.resb_c.specs.Dumping.{DumpsInto, HasNoBundle, IsBundleOf};
 ghost use Rattle.resb_c.specs.Measures.{MeasuresFile};
 
 use crate::fault::Fault;
+use resb::CompileWithinError;
 use resb::binary::{Measured, measure, tree_from_bytes};
 use resb::bundle::ResourceBundle;
 use resb::text::print_text;
@@ -64,6 +66,26 @@ pub(crate) fn compile_into(alloc: Global, text: &[u8], out: &mut [u8]) -> Result
             Err(needed) => Err(Fault::TooShort(needed)),
         },
         Err(e) => Err(Fault::Compiling(e)),
+    }
+}
+
+/// Compiles a text to the front of the buffer, where reading it makes no more bytes than the limit.
+pub(crate) fn compile_within_into(
+    alloc: Global,
+    text: &[u8],
+    limit: u64,
+    out: &mut [u8],
+) -> Result<usize, Fault>
+    ensures { CompilesWithin text.now limit out.old out.new result }
+{
+    let text = text_of(text)?;
+    match resb::compile_within(alloc, text, limit) {
+        Ok(file) => match fill(&file, out) {
+            Ok(count) => Ok(count),
+            Err(needed) => Err(Fault::TooShort(needed)),
+        },
+        Err(CompileWithinError::Text(e)) => Err(Fault::Compiling(e)),
+        Err(CompileWithinError::Larger) => Err(Fault::LargerText),
     }
 }
 

@@ -3,9 +3,10 @@
 //! bytes is in `files`, why a call fails in `fault`.
 #![tactic(auto)]
 
-ghost use Rattle.std.specs.Prelude.{ℕ, Result};
+ghost use Rattle.std.specs.Prelude.{◌≡◌, ℕ, Result, length, min};
 ghost use Rattle.resb_read.specs.declared.measuring.Measured.{Measured};
-ghost use Rattle.resb_c.specs.Calls.{CompilesInto, CountsFile, Reports};
+ghost use Rattle.resb_report.specs.Location.{line_at, column_at};
+ghost use Rattle.resb_c.specs.Calls.{CompilesInto, CompilesWithin, CountsFile, Reports};
 ghost use Rattle.resb_c.specs.Dumping.{DumpsInto};
 ghost use Rattle.resb_c.specs.Measures.{MeasuresFile, Shows, resources_of};
 
@@ -14,11 +15,12 @@ mod files;
 mod measured;
 mod report;
 
-use crate::files::{compile_into, count_file, dump_into, measure_file};
+use crate::files::{compile_into, compile_within_into, count_file, dump_into, measure_file};
 use crate::report::report;
 pub use fault::Fault;
 pub use measured::ResbMeasured;
 pub use report::ResbError;
+use resb_report::location_of;
 use std::alloc::Global;
 
 /// Compiles a bundle's text to the front of `out`. `length` gets the file's length, for
@@ -36,6 +38,36 @@ pub extern "C" fn resb_compile(
 {
     let answer = compile_into(alloc, text, out);
     report(alloc, answer, length, error)
+}
+
+/// Compiles a bundle's text as `resb_compile` does, where reading it makes no more bytes than the
+/// limit. A text that makes more is refused at the token by which it does.
+#[unsafe(no_mangle)]
+pub extern "C" fn resb_compile_within(
+    alloc: Global,
+    text: &[u8],
+    limit: u64,
+    out: &mut [u8],
+    length: &mut usize,
+    error: &mut ResbError,
+) -> u32
+    ensures { (r : Result ℕ Fault) × CompilesWithin text.now limit out.old out.new r
+        × Reports r result length.new error.new }
+{
+    let answer = compile_within_into(alloc, text, limit, out);
+    report(alloc, answer, length, error)
+}
+
+/// Writes the line and the column of a place of a text, or of its end, if that comes first. Both
+/// count from 1, a column by characters. The text need not be UTF-8.
+#[unsafe(no_mangle)]
+pub extern "C" fn resb_location(text: &[u8], place: usize, line: &mut usize, column: &mut usize)
+    ensures line { line.new ≡ line_at text.now (min place (length text.now)) }
+    ensures column { column.new ≡ column_at text.now (min place (length text.now)) }
+{
+    let location = location_of(text, place);
+    *line = location.line;
+    *column = location.column;
 }
 
 /// Counts the resources of a file, which checks it as a whole. `count` gets their number, else 0.

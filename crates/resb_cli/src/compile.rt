@@ -3,18 +3,37 @@
 use crate::progress::Progress;
 use crate::say::{complain, refuse, warn};
 use crate::streams::{is_same_file, read_input, write_output};
+use crate::words::limit_of;
 use clap::ArgMatches;
-use resb_bundler::compile_source;
+use resb_bundler::{SourceError, compile_source, compile_source_within};
 use std::collections::BTreeSet;
 use std::path::Path;
+
+/// What the words ask of each text.
+#[derive(Clone, Copy)]
+struct Wanted<'w> {
+    /// The file of the one text.
+    output: Option<&'w str>,
+    /// The folder for the files.
+    folder: Option<&'w str>,
+    /// The most bytes that reading a text may make.
+    limit: Option<u64>,
+}
 
 /// Compiles each text. One that fails doesn't stop the others; the status says whether one did.
 pub(crate) fn compile(rt: &HostRuntime, matches: &ArgMatches<'_>) -> u8 {
     let mut status = 0;
-    let output = matches.get_str("OUT");
-    let folder = matches.get_str("DIR");
+    let limit = match limit_of(rt, matches) {
+        Ok(limit) => limit,
+        Err(status) => return status,
+    };
+    let wanted = Wanted {
+        output: matches.get_str("OUT"),
+        folder: matches.get_str("DIR"),
+        limit,
+    };
     let texts = matches.get_strs("FILE").unwrap_or(&[]);
-    if output.is_some() && texts.len() > 1 {
+    if wanted.output.is_some() && texts.len() > 1 {
         complain(
             rt,
             "resb",
@@ -25,7 +44,7 @@ pub(crate) fn compile(rt: &HostRuntime, matches: &ArgMatches<'_>) -> u8 {
     let mut progress = Progress::new(rt, texts.len());
     let mut taken = BTreeSet::new(rt.alloc());
     for text in texts.iter().copied() {
-        status = status.max(compile_one(rt, text, output, folder, &mut taken));
+        status = status.max(compile_one(rt, text, &wanted, &mut taken));
         progress.one_more(rt);
     }
     progress.end(rt);
@@ -36,11 +55,10 @@ pub(crate) fn compile(rt: &HostRuntime, matches: &ArgMatches<'_>) -> u8 {
 fn compile_one(
     rt: &HostRuntime,
     name: &str,
-    output: Option<&str>,
-    folder: Option<&str>,
+    wanted: &Wanted<'_>,
     taken: &mut BTreeSet<String>,
 ) -> u8 {
-    let Some(output) = output_of(rt, name, output, folder) else {
+    let Some(output) = output_of(rt, name, wanted.output, wanted.folder) else {
         complain(rt, name, "this has no name for a file; say one by --output");
         return 2;
     };
@@ -59,7 +77,7 @@ fn compile_one(
             return 2;
         }
     };
-    match compile_source(rt.alloc(), source.as_slice()) {
+    match file_of(rt, source.as_slice(), wanted.limit) {
         Err(e) => {
             refuse(rt, name, source.as_slice(), &e);
             1
@@ -70,6 +88,14 @@ fn compile_one(
             }
             write_one(rt, output.as_str(), file.as_slice())
         }
+    }
+}
+
+/// The bytes of a text's file, where reading the text keeps within the limit, if there is one.
+fn file_of(rt: &HostRuntime, source: &[u8], limit: Option<u64>) -> Result<Vec<u8>, SourceError> {
+    match limit {
+        Some(limit) => compile_source_within(rt.alloc(), source, limit),
+        None => compile_source(rt.alloc(), source),
     }
 }
 

@@ -3,8 +3,9 @@
 use crate::progress::Progress;
 use crate::say::{complain, say_no_text};
 use crate::streams::{read_input, write_output};
+use crate::words::limit_of;
 use clap::ArgMatches;
-use resb::binary::FormatVersion;
+use resb::binary::{FormatVersion, measure};
 use resb::bundle::{Resource, ResourceBundle};
 use resb::text::{PrintError, print_text};
 use resb_bundler::{
@@ -92,21 +93,6 @@ fn say_summary(rt: &HostRuntime, name: &str, count: usize, summary: &Summary) ->
     }
 }
 
-/// The most bytes that a tree may take, if the words say it; or the status, once it is said that
-/// they say no number.
-fn limit(rt: &HostRuntime, matches: &ArgMatches<'_>) -> Result<Option<u64>, u8> {
-    match matches.get_str("BYTES") {
-        None => Ok(None),
-        Some(text) => match text.parse::<u64>() {
-            Ok(limit) => Ok(Some(limit)),
-            Err(_) => {
-                complain(rt, "resb", "--limit is a number of bytes");
-                Err(2)
-            }
-        },
-    }
-}
-
 /// The tree of a file, or the status, once it is said why there is none.
 fn tree<'f>(
     rt: &HostRuntime,
@@ -119,9 +105,22 @@ fn tree<'f>(
         None => read_file(rt.alloc(), file),
     };
     read.map_err(|e| {
-        let _ = eprintln!(rt; "{name}: {e}");
+        let sizes = limit.and_then(|limit| larger(rt, file, limit));
+        let _ = match sizes {
+            Some((bytes, limit)) => eprintln!(rt;
+                "{name}: the tree takes {bytes} bytes, more than the limit of {limit}"
+            ),
+            None => eprintln!(rt; "{name}: {e}"),
+        };
         1
     })
+}
+
+/// The bytes that a file's tree takes, and the limit, where it takes more.
+fn larger(rt: &HostRuntime, file: &[u8], limit: u64) -> Option<(u64, u64)> {
+    let measured = measure(rt.alloc(), file).ok()?;
+    let bytes = measured.tree_bytes()?;
+    (bytes > limit).then_some((bytes, limit))
 }
 
 /// The status of what was done, or of what kept it from being done.
@@ -139,7 +138,7 @@ pub(crate) fn dump(rt: &HostRuntime, matches: &ArgMatches<'_>) -> u8 {
 /// The same: the status, or that of a file without a tree.
 fn dump_file(rt: &HostRuntime, matches: &ArgMatches<'_>) -> Result<u8, u8> {
     let name = matches.get_str("FILE").ok_or(2)?;
-    let limit = limit(rt, matches)?;
+    let limit = limit_of(rt, matches)?;
     let file = input(rt, name)?;
     let tree = tree(rt, name, file.as_slice(), limit)?;
     if matches.get_flag("json") {
@@ -190,7 +189,7 @@ pub(crate) fn get(rt: &HostRuntime, matches: &ArgMatches<'_>) -> u8 {
 fn get_found(rt: &HostRuntime, matches: &ArgMatches<'_>) -> Result<u8, u8> {
     let name = matches.get_str("FILE").ok_or(2)?;
     let path = matches.get_str("PATH").ok_or(2)?;
-    let limit = limit(rt, matches)?;
+    let limit = limit_of(rt, matches)?;
     let file = input(rt, name)?;
     let tree = tree(rt, name, file.as_slice(), limit)?;
     let Ok(names) = path.split('/').collect::<Vec<&str>>(rt.alloc()) else {

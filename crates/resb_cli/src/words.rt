@@ -1,6 +1,7 @@
 //! The words that the program is called with: its commands, their arguments and their help.
 //! What each command does stands in a module of its name.
-use clap::{Arg, ArgAction, Command, Error};
+use crate::say::complain;
+use clap::{Arg, ArgAction, ArgMatches, Command, Error};
 use std::alloc::Global;
 
 /// The program's words.
@@ -40,7 +41,10 @@ fn compile<'a>(alloc: Global) -> Result<Command<'a>, Error> {
             .after_help("Example: resb compile root.txt de.txt -d out")
             .arg(texts)?
             .arg(output)?
-            .arg(folder)?,
+            .arg(folder)?
+            .arg(limit(alloc).help(
+                "Refuses a text whose reading takes more bytes of memory than this",
+            ))?,
     )
 }
 
@@ -85,11 +89,26 @@ fn get<'a>(alloc: Global) -> Result<Command<'a>, Error> {
     )
 }
 
-/// The most that a tree may take.
+/// The most that a tree, or the reading of a text, may take.
 fn limit<'a>(alloc: Global) -> Arg<'a> {
     Arg::new(alloc, "BYTES").long("limit").help(
         "Refuses a file whose tree takes more bytes of memory than this",
     )
+}
+
+/// The bytes of `--limit`, if the words say it; or the status, once it is said that they say no
+/// number.
+pub(crate) fn limit_of(rt: &HostRuntime, matches: &ArgMatches<'_>) -> Result<Option<u64>, u8> {
+    match matches.get_str("BYTES") {
+        None => Ok(None),
+        Some(text) => match text.parse::<u64>() {
+            Ok(limit) => Ok(Some(limit)),
+            Err(_) => {
+                complain(rt, "resb", "--limit is a number of bytes");
+                Err(2)
+            }
+        },
+    }
 }
 
 /// The argument of several files.

@@ -1,15 +1,16 @@
 -- A cut moves.
-use Rattle.std.proofs.Common.{rules, ◌≡◌, ℕ, ◌≤◌, List, [], ◌∷◌, ◌++◌, length, take, drop, true}
-use Rattle.std.proofs.Common.{reverse, refl, sym, ◌∙◌, ap, subst, append-nil, append_assoc}
-use Rattle.std.proofs.Common.{length-append, arith, encode_utf8}
+use Rattle.std.proofs.Common.{rules, ◌≡◌, ℕ, List, [], ◌∷◌, ◌++◌, length, take, true}
+use Rattle.std.proofs.Common.{reverse, sym, ◌∙◌, ap, subst, append-nil, append_assoc}
+use Rattle.std.proofs.Common.{encode_utf8}
 use Rattle.std.specs.Char.{IsScalar}
 use Rattle.std.specs.Str.{IsUtf8, chars, all_scalars, encode_utf8_all as encodes}
-use Rattle.std.proofs.Math.Seq.{take-append_seam, drop-append_seam}
-use Rattle.std.proofs.lemmas.Str.{chars-nil, IsUtf8-encode, IsUtf8-append, IsUtf8-nil}
+use Rattle.std.proofs.Math.Seq.{take-append_seam}
+use Rattle.std.proofs.lemmas.Str.{IsUtf8-encode, IsUtf8-append, IsUtf8-nil}
 use Rattle.std.proofs.lemmas.Str.{encodes-chars, encodes-append, chars-append, chars-encodes}
 use Rattle.std.proofs.lemmas.List.{reverse-append, reverse-reverse}
 use Rattle.resb_pool.specs.Inner.Extends.{Extends}
-use Rattle.resb_pool.specs.Inner.Cuts.{key, IsCut}
+use Rattle.resb_pool.specs.Inner.Cuts.{key, IsCut, IsShared}
+use Rattle.resb_pool.specs.Records.{EndsWith}
 use Rattle.std.proofs.Math.Seq.{take-append_seam}
 use Rattle.std.proofs.lemmas.Str.{IsCharBoundary-at_seam, IsUtf8-take}
 
@@ -56,15 +57,6 @@ chars_encode c s =
 pub key_last : (x y : List ℕ) (c : ℕ) → IsCut x y (encode_utf8 c) → IsScalar c → key x ≡ c ∷ key y
 key_last x y c h s = key_cut x y (encode_utf8 c) h ∙ ap (λ l. reverse l ++ key y) (chars_encode c s)
 
--- the text goes on from its tail by the front's last character
-pub cut_on : (t x y s : List ℕ) (c : ℕ) → IsCut t x s → IsCut x y (encode_utf8 c) → IsScalar c
-    → Extends (key t) (key s ++ c ∷ [])
-cut_on t x y s c h k u = record {
-  rest = key y;
-  is = key_cut t x s h ∙ ap (λ l. key s ++ l) (key_last x y c k u)
-      ∙ sym (append_assoc (key s) (c ∷ []) (key y));
-}
-
 pub text_of_key : (t : List ℕ) → IsUtf8 t → t ≡ encodes (reverse (key t))
 text_of_key t u = sym (ap encodes (reverse-reverse (chars t)) ∙ encodes-chars t u)
 
@@ -83,36 +75,6 @@ cut_back t s u v h =
     ∙ ap (λ l. w ++ l) (sym (text_of_key s v)) in
     (w, record { is = e; front_utf8 = front_utf8 t w s e u v; tail_utf8 = v })
 
--- the same, and before the character c
-pub cut_from : (t s : List ℕ) (c : ℕ) → IsUtf8 t → IsUtf8 s → IsScalar c
-    → Extends (key t) (key s ++ c ∷ []) → (w : List ℕ) × IsCut t w (encode_utf8 c ++ s)
-cut_from t s c u v k h =
-    let x : IsUtf8 (encode_utf8 c ++ s) = IsUtf8-append (encode_utf8 c) s (IsUtf8-encode c k) v in
-    let e : key (encode_utf8 c ++ s) ≡ key s ++ c ∷ [] =
-    key_cut (encode_utf8 c ++ s) (encode_utf8 c) s (record {
-      is = refl;
-      front_utf8 =
-          IsUtf8-encode c k;
-      tail_utf8 = v;
-    })
-    ∙ ap (λ l. key s ++ reverse l) (chars_encode c k) in
-    cut_back t (encode_utf8 c ++ s) u x (subst (Extends (key t)) (sym e) h)
-
--- a cut at a length
-pub cut_at : (t w s : List ℕ) (n : ℕ) → IsCut t w s → n ≡ length w → (take n t ≡ w) × (drop n t ≡ s)
-    × (n ≤ length t)
-cut_at t w s n h e = (
-  ap (λ k. take k t) e ∙ ap (take (length w)) h.is ∙ take-append_seam w s,
-  ap (λ k. drop k t) e ∙ ap (drop (length w)) h.is ∙ drop-append_seam w s,
-  omega (arith, e, ap length h.is, length-append w s),
-)
-
-pub cut_taken : (t w s : List ℕ) (n : ℕ) → IsCut t w s → n ≡ length w
-    → IsCut t (take n t) (drop n t) × (n ≤ length t)
-cut_taken t w s n h e =
-    let k = cut_at t w s n h e in
-    (subst (λ z. IsCut t z (drop n t)) (sym k.0) (subst (IsCut t w) (sym k.1) h), k.2)
-
 -- the front is cut again
 pub cut_deeper : (t w s x z : List ℕ) → IsCut t w s → IsCut w x z → IsCut t x (z ++ s)
 cut_deeper t w s x z h k = record {
@@ -121,18 +83,21 @@ cut_deeper t w s x z h k = record {
   tail_utf8 = IsUtf8-append z s k.tail_utf8 h.tail_utf8;
 }
 
--- a text that is one character before s
-pub cut_whole_on : (t s : List ℕ) (c : ℕ) → IsCut t (encode_utf8 c) s → IsScalar c
-    → key t ≡ key s ++ c ∷ []
-cut_whole_on t s c h k = key_cut t (encode_utf8 c) s h
-    ∙ ap (λ l. key s ++ reverse l) (chars_encode c k)
+-- of what is left, an end that both share is left out too
+pub shared_deeper : (s t x y u v : List ℕ) → IsShared s t x y → IsShared x y u v → IsShared s t u v
+shared_deeper s t x y u v h k = record {
+  tail = k.tail ++ h.tail;
+  left = cut_deeper s x h.tail u k.tail h.left k.left;
+  right = cut_deeper t y h.tail v k.tail h.right k.right;
+}
 
--- at the root nothing has been read
-pub root_cut : (t s : List ℕ) → IsUtf8 t → IsUtf8 s → key s ≡ [] → IsCut t t s
-root_cut t s u v e =
-    let w : s ≡ [] = key_same s [] v IsUtf8-nil (e ∙ sym (ap reverse chars-nil)) in
-    subst (IsCut t t) (sym w) (cut_whole t t u refl)
+pub ends_extends : (t s : List ℕ) → IsUtf8 t → IsUtf8 s → EndsWith t s → Extends (key t) (key s)
+ends_extends t s u v h = cut_extends t h.front s (record {
+  is = h.is;
+  front_utf8 =
+      front_utf8 t h.front s h.is u v;
+  tail_utf8 = v;
+})
 
--- nothing is left to read
-pub text_is : (t f s : List ℕ) → IsCut t f s → f ≡ [] → s ≡ t
-text_is t f s h e = sym (h.is ∙ ap (λ l. l ++ s) e)
+pub extends_ends : (t s : List ℕ) → IsUtf8 t → IsUtf8 s → Extends (key t) (key s) → EndsWith t s
+extends_ends t s u v h = (let w = cut_back t s u v h in record { front = w.0; is = w.1.is })

@@ -19,7 +19,7 @@ use Rattle.resb_pool.specs.Plan.{nows, texts_size}
 use Rattle.resb_pool.specs.Inner.Placing.{text, IsMeasure, AreMeasures, AreTexts}
 use Rattle.resb_pool.specs.declared.measure.Measure.{Measure}
 use Rattle.resb_pool.proofs.TextLoops.{blank}
-use Rattle.resb_pool.proofs.NewNode.{old_or_new}
+use Rattle.resb_pool.proofs.Distinct.{old_or_new}
 use Rattle.resb_pool.proofs.FoundKeys.{same_key}
 use Rattle.resb_pool.proofs.Distinct.{one_index, distinct_push}
 use Rattle.resb_pool.proofs.Sizes.{copy_same, copy_other, copies-push, copies_none, copies_within}

@@ -12,8 +12,8 @@ use Rattle.resb_pool.specs.Records.{IsRecord}
 use Rattle.resb_pool.specs.Container.{IsContainer}
 use Rattle.resb_pool.specs.Pool.{record_units, ClosesAt, Off, off_empty, off_within}
 use Rattle.resb_pool.specs.Plan.{IsPlan}
-use Rattle.resb_pool.proofs.Best.{extends_not_after}
-use Rattle.resb_pool.proofs.Whole.{ends_extends}
+use Rattle.resb_pool.proofs.SuffixOrder.{extends_not_after}
+use Rattle.resb_pool.proofs.Cut.{ends_extends}
 use Rattle.resb_pool.proofs.Least.{units_end}
 use Rattle.resb_pool.proofs.Sharing.{one_container}
 use Rattle.resb_pool.proofs.InOrder.{length-records, texts_flat}

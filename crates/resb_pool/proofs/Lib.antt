@@ -18,11 +18,7 @@ pub mod IsRead
 pub mod OnePool
 pub mod Least
 mod SuffixOrder
-mod Extend
-mod NewNode
 mod Cut
-mod Slots
-mod Steps
-mod Down
-mod Best
-mod Whole
+mod Ends
+mod FrontKeys
+mod SuffixRuns

@@ -9,7 +9,7 @@ use Rattle.std.specs.declared.cmp.Ordering.TheVariants.{Less, Equal, Greater}
 use Rattle.std.proofs.lemmas.Cmp.{lists_total, then_total, on_total, nat_cmp_total, tied_itself}
 use Rattle.std.proofs.lemmas.Cmp.{ranked, by_ranked}
 use Rattle.resb_pool.specs.Order.{end_last_cmp}
-use Rattle.resb_pool.specs.Inner.Extends.{Extends, Before}
+use Rattle.resb_pool.specs.Inner.Extends.{Extends, Before, NotAfter}
 
 -- the letters and then the end, which is above each letter
 marked : List ℕ → List (ℕ × ℕ)
@@ -47,14 +47,22 @@ letters x y =
     (λ e _. inl (e, back x y Less e)) (λ e h. inr (inl (e, back x y Equal e, h)))
     (λ e _. inr (inr (e, back x y Greater e)))
 
-then_less : (o p : Ordering) → o ≡ Less → ordering_then o p ≡ Less
+pub then_less : (o p : Ordering) → o ≡ Less → ordering_then o p ≡ Less
 then_less o p e = rw e refl
 
 then_greater : (o p : Ordering) → o ≡ Greater → ordering_then o p ≡ Greater
 then_greater o p e = rw e refl
 
-then_equal : (o p : Ordering) → o ≡ Equal → ordering_then o p ≡ p
+pub then_equal : (o p : Ordering) → o ≡ Equal → ordering_then o p ≡ p
 then_equal o p e = rw e refl
+
+pub then_differs : (x y : ℕ) (o : Ordering) → (x ≡ y → ⊥)
+    → ordering_then (nat_cmp x y) o ≡ nat_cmp x y
+then_differs x y o ne = elim (letters x y) [
+  | inl h ↦ then_less (nat_cmp x y) o h.0 ∙ sym h.0
+  | inr (inl h) ↦ absurd (ne h.2)
+  | inr (inr h) ↦ then_greater (nat_cmp x y) o h.0 ∙ sym h.0
+]
 
 -- texts that tie are one text
 pub tied_same : (xs ys : List ℕ) → end_last_cmp xs ys ≡ Equal → xs ≡ ys
@@ -80,3 +88,35 @@ extends_before t s h ne = before s t h.rest h.is ne
     before : (s t r : List ℕ) → t ≡ s ++ r → (t ≡ s → ⊥) → Before t s
     before s t [] e ne = absurd (ne (e ∙ append-nil s))
     before s t (z ∷ r) e ne = ap (λ l. end_last_cmp l s) e ∙ longer_before s z r
+
+pub extends_not_after : (t s : List ℕ) → Extends t s → NotAfter t s
+extends_not_after t s h = by_rest t s h.rest h.is
+  where
+    by_rest : (t s r : List ℕ) → t ≡ s ++ r → NotAfter t s
+    by_rest t s [] e f = cc (tied_itself end_last_total s, e ∙ append-nil s, f)
+    by_rest t s (z ∷ r) e f =
+        let before : Before t s = ap (λ l. end_last_cmp l s) e ∙ longer_before s z r in cc
+
+-- what stands between a text and what ends with it ends with it too
+pub between : (t q s : List ℕ) → NotAfter t q → Before q s → Extends t s → Extends q s
+between t q s n b h = by_rest t q s h.rest h.is n b
+  where
+    by_rest : (t q s r : List ℕ) → t ≡ s ++ r → NotAfter t q → Before q s → Extends q s
+    by_rest t q [] r e n b = record { rest = q; is = refl }
+    by_rest t [] (x ∷ s) r e n b = cc
+    by_rest [] (y ∷ q) (x ∷ s) r e n b = cc
+    by_rest (z ∷ t) (y ∷ q) (x ∷ s) r e n b =
+        let zx : z ≡ x = cc in
+        let f : t ≡ s ++ r = cc in
+        elim (letters y x) [
+          | inl h ↦ absurd (n (ap (λ c. ordering_then (nat_cmp c y) (end_last_cmp t q)) zx
+              ∙ then_greater (nat_cmp x y) (end_last_cmp t q) h.1))
+          | inr (inl h) ↦
+              let k = by_rest t q s r f
+              (λ g. n (ap (λ c. ordering_then (nat_cmp c y) (end_last_cmp t q)) zx
+              ∙ then_equal (nat_cmp x y) (end_last_cmp t q) h.1 ∙ g))
+              (sym (then_equal (nat_cmp y x) (end_last_cmp q s) h.0) ∙ b) in
+              let g : y ∷ q ≡ x ∷ (s ++ k.rest) = cc in
+              record { rest = k.rest; is = g }
+          | inr (inr h) ↦ cc (then_greater (nat_cmp y x) (end_last_cmp q s) h.0)
+        ]

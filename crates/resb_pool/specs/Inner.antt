@@ -1,11 +1,6 @@
--- Words of private functions: the trie's shape, its nodes and their children, what a step changes.
+-- Words of private functions: texts in suffix order, in which record each lies, how records stand.
 pub mod Extends
-pub mod Shape
 pub mod Cuts
-pub mod Bounds
-pub mod Children
-pub mod Nodes
-pub mod Changes
-pub mod Greatest
 pub mod Placing
+pub mod Suffixes
 pub mod LaidRecords

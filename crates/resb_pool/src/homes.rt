@@ -2,12 +2,16 @@
 //! Where the records stand is said in `records`.
 ghost use Rattle.std.specs.Prelude.{◌≡◌, ◌+◌, ◌<◌, ◌^◌, ℕ, length, map, sum_by, slice_index};
 ghost use Rattle.std.specs.Prelude.{All, IfOk};
+ghost use Rattle.std.specs.Bool.{MatchBool};
+ghost use Rattle.std.specs.Str.{IsUtf8};
 ghost use Rattle.resb_pool.specs.Records.{EachOnce};
 ghost use Rattle.resb_pool.specs.Plan.{nows};
-ghost use Rattle.resb_pool.specs.Inner.Placing.{AreHomes, lying_in};
+ghost use Rattle.resb_pool.specs.Inner.Placing.{AreHomes, LiesAt, lying_in};
+ghost use Rattle.resb_pool.specs.Inner.Suffixes.{IsSharedEnd};
 
 use crate::measure::Measure;
-use crate::suffix_trie::SuffixTrie;
+use crate::suffix_order::in_suffix_order;
+use resb_format::is_unmarked;
 use std::alloc::{AllocError, Global};
 
 /// The index of the text in whose record a text lies, and the text's measure. The empty text, which
@@ -18,22 +22,56 @@ pub(crate) struct Home {
     pub(crate) measure: Measure,
 }
 
+/// Whether a text lies in the record of the text right before it in suffix order: it isn't empty,
+/// has no marker and ends that text.
+fn lies_with(text: &str, previous: &str) -> bool
+    ensures { MatchBool result (IsSharedEnd previous.now text.now)
+        (IsSharedEnd previous.now text.now → ⊥) }
+{
+    !text.is_empty() && previous.ends_with(text) && is_unmarked(text)
+}
+
+/// The index of the text in whose record each of distinct texts lies. What ends with a text stands
+/// in one run before it in suffix order, so the text lies where the one right before it lies, or
+/// is a record.
+fn find_containers(alloc: Global, texts: &[&str]) -> Result<Vec<usize>, AllocError>
+    requires utf8 { All IsUtf8 (nows texts.now) }
+    requires distinct { EachOnce (nows texts.now) }
+    ensures len { IfOk result (λ v. length v.items ≡ length texts.now) }
+    ensures lies { IfOk result (λ v. (i : ℕ) → i < length texts.now
+        → LiesAt (nows texts.now) i (slice_index v.items i)) }
+{
+    let rows = in_suffix_order(alloc, texts)?;
+    let mut containers = vec![in alloc; 0; texts.len()]?;
+    let mut previous = "";
+    let mut container = 0;
+    for row in &rows {
+        if !lies_with(row.text, previous) {
+            container = row.index;
+        }
+        containers[row.index] = container;
+        previous = row.text;
+    }
+    Ok(containers)
+}
+
 /// The homes of distinct texts.
 pub(crate) fn find_homes(
     alloc: Global,
     texts: &[&str],
     measures: &[Measure],
 ) -> Result<Vec<Home>, AllocError>
+    requires utf8 { All IsUtf8 (nows texts.now) }
     requires distinct { EachOnce (nows texts.now) }
     requires len { length measures.now ≡ length texts.now }
     ensures homes { IfOk result (λ v. AreHomes (nows texts.now) v.items) }
     ensures measures { IfOk result (λ v. map (λ p. p.measure) v.items ≡ measures.now) }
 {
-    let trie = SuffixTrie::of(alloc, texts)?;
+    let containers = find_containers(alloc, texts)?;
     let mut homes = Vec::with_capacity(alloc, texts.len())?;
     for (index, measure) in measures.iter().enumerate() {
         homes.push(Home {
-            record: trie.record_of(index),
+            record: containers[index],
             measure: *measure,
         })?;
     }

@@ -2,20 +2,15 @@
 //! Nothing here knows of trees, keys or files.
 #![tactic(auto)]
 
-mod children;
 mod error;
-mod grow;
 mod homes;
 pub mod laws;
 mod measure;
-mod node;
 mod offsets;
 pub mod pool;
 mod records;
-mod suffix_trie;
-mod text;
+mod suffix_order;
 mod texts;
-mod walk;
 
 pub use error::BinarySerializerError;
 pub use measure::utf16_len;

@@ -30,6 +30,13 @@ impl<'a> Plan<'a> {
         &self.units
     }
 
+    /// The same units, without the texts that lie in them.
+    pub fn into_units(self) -> Vec<u16>
+        ensures { result.items ≡ plan_units self.entry }
+    {
+        self.units
+    }
+
     /// The unit at which a text stands, its marker included, if it was given.
     pub fn offset(&self, text: &str) -> Option<u32>
         ensures { result ≡ offset_of self.now text.now }

@@ -32,7 +32,7 @@ not_so : (name : List ℕ) (e : Place × Place) → (IsNamed name e → ⊥) →
 not_so name e h = false_from_ne_true (is_named name e) (λ k. h (is_so name e k))
 
 -- entries of other names leave what was found
-skipped : (name : List ℕ) (found : Option Place) (es : List (Place × Place)) → NoneNamed name es
+pub skipped : (name : List ℕ) (found : Option Place) (es : List (Place × Place)) → NoneNamed name es
     → last_from name found es ≡ found
 skipped name found [] h = refl
 skipped name found (e ∷ es) (other, rest) =
@@ -107,7 +107,7 @@ last_found name es p h = by (look name es None)
     by (inr (q, is, last)) =
         let e : q ≡ p = same_Some _ _ (sym is ∙ h) in subst (IsLastNamed name es) e last
 
-none_found : (name : List ℕ) (es : List (Place × Place)) → last_named name es ≡ None
+pub none_found : (name : List ℕ) (es : List (Place × Place)) → last_named name es ≡ None
     → NoneNamed name es
 none_found name es h = by (look name es None)
   where

@@ -1,5 +1,6 @@
 -- For crates above: those that are `pub`.
 mod Ascending
+mod Backwards
 mod Lasts
 mod Naming
 mod Trees

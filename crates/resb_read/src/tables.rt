@@ -5,14 +5,15 @@ ghost use Rattle.std.specs.Prelude.{MatchResult, IfOk, IfErr};
 ghost use Rattle.resb_walk.specs.Refusals.{IsSpent};
 ghost use Rattle.resb_read.specs.Places.{place_of};
 ghost use Rattle.resb_read.specs.Sequences as sequences;
-ghost use Rattle.resb_read.specs.Inner.Items.{entry_places};
+ghost use Rattle.resb_read.specs.Inner.Items.{entry_places, near_entries};
 ghost use Rattle.resb_read.specs.Tables.{entries_of, last_named, RefusesTable};
 ghost use Rattle.resb_read.specs.Tables.{ReadsFound, RefusesFound};
 
-use crate::cursor::Cursor;
+use crate::cursor::{Cursor, Spot};
 use crate::deserialize::Deserialize;
 use crate::items::spot_of;
 use crate::keys::is_key;
+use resb_format::bytes::{unit_at, word_at};
 use resb_format::{BinaryDeserializerError, ReadingError};
 use resb_walk::{File, Members, Pairs, Positions, Walk};
 use std::alloc::Global;
@@ -35,17 +36,14 @@ impl<'de> TableView<'de> {
 
     /// Where the value of the last entry stands whose key is this name. A key that can't be read is
     /// no name. Of each key at most one byte more than the name has is looked at.
+    #[inline(always)]
     pub fn get(&self, name: &str) -> Option<Cursor<'de>>
         ensures { option_map place_of result ≡ last_named name.now (entries_of self.now) }
     {
         match (self.entries.keys, self.entries.members) {
-            // Most tables are so: then the search goes by these two alone.
-            (Positions::Halves(keys), Members::Words(members)) => {
-                let entries = Pairs {
-                    keys: Positions::Halves(keys),
-                    members: Members::Words(members),
-                };
-                last_of(self.file, entries, name)
+            // Most tables are so.
+            (Positions::Halves(positions), Members::Words(words)) => {
+                last_near(self.file, positions, words, name)
             }
             _ => last_of(self.file, self.entries, name),
         }
@@ -70,8 +68,30 @@ impl<'de> TableView<'de> {
     }
 }
 
+/// Where the value of the last of these entries stands whose key is this name: of each key's
+/// position two bytes are given, of each value's descriptor four. The last one is looked at first.
+fn last_near<'de>(
+    file: File<'de>,
+    positions: &'de [u8],
+    words: &'de [u8],
+    name: &str,
+) -> Option<Cursor<'de>>
+    ensures { option_map place_of result
+        ≡ last_named name.now (near_entries file.entry positions.now words.now) }
+{
+    let mut left = (positions.len() / 2).min(words.len() / 4);
+    'entries: while left > 0 {
+        left -= 1;
+        if is_key(file, usize::from(unit_at(positions, left)), name) {
+            let at = Spot::Descriptor(word_at(words, left));
+            return Some(Cursor { file, at });
+        }
+    }
+    None
+}
+
 /// Where the value of the last of these entries stands whose key is this name.
-#[inline(always)]
+#[inline(never)]
 fn last_of<'de>(file: File<'de>, entries: Pairs<'de>, name: &str) -> Option<Cursor<'de>>
     ensures { option_map place_of result
         ≡ last_named name.now (entry_places file.entry entries.entry) }

@@ -1,1 +1,3 @@
 -- Nothing is passed on.
+mod PiecesLemmas
+mod KeysLemmas

@@ -1,7 +1,12 @@
--- The backslashes that are warned of: the first one of each string in quotes.
-use Rattle.std.specs.Prelude.{◌≡◌, ℕ, zero, suc, Bool, true, false, ◌&&◌, ◌||◌, not, ◌==◌, List}
-use Rattle.std.specs.Prelude.{[], ◌∷◌, ◌++◌, slice_index, if◌then◌else◌}
-use Rattle.resb_report.specs.Braces.{mode_at}
+-- The warnings of a text: of backslashes, of strings in a row, and of keys that stand twice.
+--     warned text n   those of the first n bytes
+-- In a text that is a bundle, a group of pairs that is not `:array` is a table.
+use Rattle.std.specs.Prelude.{ℕ, zero, suc, Bool, true, false, ◌&&◌, ◌||◌, not, ◌==◌, List}
+use Rattle.std.specs.Prelude.{[], ◌∷◌, ◌++◌, slice_index, if◌then◌else◌, Option, Some, None, nat_eq}
+use Rattle.std.specs.Cmp.Lexicographic.{pointwise}
+use Rattle.resb_report.specs.Braces.{quote, mode_at}
+use Rattle.resb_report.specs.Pieces.{Words, Piece, a_string, closing, piece_at}
+use Rattle.resb_report.specs.Groups.{Group, Groups, is_string, keys_in, groups_at}
 use Rattle.resb_report.specs.declared.braces.Mode.{Mode}
 use Rattle.resb_report.specs.declared.braces.Mode.TheVariants as mode
 use Rattle.resb_report.specs.declared.warning.Reason.{Reason}
@@ -12,38 +17,72 @@ use Rattle.resb_report.specs.declared.warning.Warning.{Warning}
 abbrev pub backslash : ℕ
 backslash = 92
 
--- whether a string in quotes had a backslash, behind a byte in this mode: not where no string is
-abbrev pub told_behind : Mode → ℕ → Bool → Bool
-told_behind mode.Quotes b told = b == backslash || told
-told_behind _ b told = false
+-- a warning at a place
+abbrev pub warning : Reason → ℕ → Warning
+warning r n = record { place = n; reason = r }
 
--- whether the string at a place had a backslash before it
-abbrev pub is_told : List ℕ → ℕ → Bool
-is_told text zero = false
-is_told text (suc n) = told_behind (mode_at text n) (slice_index text n) (is_told text n)
+-- a backslash stands between the last quote before a place and that place
+abbrev pub has_backslash : List ℕ → ℕ → Bool
+has_backslash text zero = false
+has_backslash text (suc n) =
+    if slice_index text n == quote then false
+    else (slice_index text n == backslash || has_backslash text n)
 
--- a byte in this mode is the first backslash of a string in quotes
-abbrev pub is_first : Mode → ℕ → Bool → Bool
-is_first mode.Quotes b told = b == backslash && not told
-is_first _ b told = false
+-- what is in quotes
+abbrev pub is_quoted : Mode → Bool
+is_quoted mode.Quotes = true
+is_quoted _ = false
 
--- the warning of a backslash
-abbrev pub backslash_at : ℕ → Warning
-backslash_at n = record { place = n; reason = reason.Backslash }
+-- the first backslash of a string in quotes stands at this place
+abbrev pub is_first_backslash : List ℕ → ℕ → Bool
+is_first_backslash text n =
+    is_quoted (mode_at text n) && slice_index text n == backslash && not (has_backslash text n)
 
--- the warnings of the backslashes among so many bytes, in order
-abbrev pub backslashes : List ℕ → ℕ → List Warning
-backslashes text zero = []
-backslashes text (suc n) =
-    if is_first (mode_at text n) (slice_index text n) (is_told text n)
-    then backslashes text n ++ (backslash_at n ∷ [])
-    else backslashes text n
+-- the warning of a first backslash
+abbrev pub of_backslash : List ℕ → ℕ → List Warning
+of_backslash text n =
+    if is_first_backslash text n then warning reason.Backslash n ∷ [] else []
 
--- a reason is a backslash
-abbrev pub is_backslash : Reason → Bool
-is_backslash reason.Backslash = true
-is_backslash _ = false
+-- the place of the first of these keys that has these bytes
+abbrev pub first_place : List ℕ → List Words → Option ℕ
+first_place bytes [] = None
+first_place bytes (k ∷ ks) =
+    if pointwise nat_eq bytes k.bytes then Some k.place else first_place bytes ks
 
--- a warning of another reason
-abbrev pub IsOther : Warning → Type 0
-IsOther w = is_backslash w.reason ≡ false
+-- the warning of a key, where an equal one stands before it at this place
+abbrev pub of_key : ℕ → Option ℕ → List Warning
+of_key n None = []
+of_key n (Some first) = warning (reason.RepeatedKey first) n ∷ []
+
+-- the warnings of keys, in order, behind these that stand before them
+abbrev pub of_keys : List Words → List Words → List Warning
+of_keys before [] = []
+of_keys before (k ∷ ks) =
+    of_key k.place (first_place k.bytes before) ++ of_keys (before ++ k ∷ []) ks
+
+-- the warnings of the keys of a group, if it has some
+abbrev pub of_some_keys : Option (List Words) → List Warning
+of_some_keys None = []
+of_some_keys (Some keys) = of_keys [] keys
+
+-- the warnings of a group whose `}` stands: those of its keys, if it is a table
+abbrev pub of_group : Group → List Warning
+of_group g = if g.is_array then [] else of_some_keys (keys_in g.items)
+
+-- the warnings of a piece: of a string right behind another one, and of a group at its `}`
+abbrev pub of_piece : Piece → Groups → List Warning
+of_piece (a_string s) g =
+    if is_string g.last then warning reason.StringsInRow s.place ∷ [] else []
+of_piece closing g = of_group g.inner
+of_piece _ g = []
+
+-- the same of a place where a piece may end
+abbrev pub of_end : Option Piece → Groups → List Warning
+of_end None g = []
+of_end (Some p) g = of_piece p g
+
+-- the warnings of the first n bytes: at each of them of a backslash, and of the piece that ends
+abbrev pub warned : List ℕ → ℕ → List Warning
+warned text zero = []
+warned text (suc n) =
+    warned text n ++ (of_backslash text n ++ of_end (piece_at text n) (groups_at text n))

@@ -1,134 +1,112 @@
-//! The groups of a text that are open while warnings are looked for: their keys, and their strings
-//! in a row. Which bytes are strings and braces is found in `warning`.
-ghost use Rattle.std.specs.Prelude.{◌≡◌, All, OnOk};
-ghost use Rattle.resb_report.specs.Warnings.{IsOther};
+//! The groups of a text that are open while warnings are looked for, and their keys.
+//! Which bytes are strings and braces is found in `pieces`.
+ghost use Rattle.std.specs.Prelude.{◌≡◌, ◌++◌, OnOk, [], map, codes, nat_eq};
+ghost use Rattle.std.specs.Cmp.Lexicographic.{pointwise};
+ghost use Rattle.resb_report.specs.Groups as spec;
+ghost use Rattle.resb_report.specs.Groups.{with_item, string_item, group_item, comma_item, after};
+ghost use Rattle.resb_report.specs.Warnings.{of_keys, of_group, of_piece};
+ghost use Rattle.resb_report.specs.Inner.Looks.{words_of, piece_of, layer_of, layer};
+ghost use Rattle.resb_report.specs.Inner.Looks.{Shows, IsOpened, IsClosed};
 
+use crate::pieces::{Piece, StringAt};
 use crate::warning::{Reason, Warning};
 use indexmap::IndexMap;
 use std::alloc::{AllocError, Global};
+use std::mem;
 
-/// A string of a text.
+/// What the items of a group are so far.
 #[derive(Clone, Copy)]
-pub(crate) struct StringAt<'a> {
-    /// Its bytes, without quotes.
-    pub content: &'a [u8],
-    /// Where it begins, with its quote, in bytes from the text's start.
-    pub place: usize,
-}
-
-/// What a group is by its type.
-#[derive(Clone, Copy, PartialEq, Eq)]
-pub(crate) enum Kind {
-    Table,
-    Array,
-    /// A table, an array or a string, by its items.
-    Untyped,
-    /// A group that holds no items.
-    Leaf,
-}
-
-impl Kind {
-    /// The kind of this name; `nofallback` stands behind the name of the root's.
-    pub(crate) fn named(name: &[u8]) -> Kind {
-        match name {
-            b"table" | b"nofallback" => Kind::Table,
-            b"array" => Kind::Array,
-            _ => Kind::Leaf,
-        }
-    }
+enum Shape<'a> {
+    /// Pairs of a string and a group, without commas.
+    Pairs,
+    /// The same, and then a string.
+    Key(StringAt<'a>),
+    /// Anything else.
+    Other,
 }
 
 /// An open group.
 #[derive(Drop)]
-pub(crate) struct Group<'a> {
-    kind: Kind,
-    /// The strings before groups: keys, if this is a table.
+struct Group<'a> {
+    is_array: bool,
+    shape: Shape<'a>,
+    /// The strings of the pairs, in order.
     keys: Vec<StringAt<'a>>,
-    /// Where strings stand behind another one, without a comma.
-    in_row: Vec<usize>,
-    /// The string behind which nothing came yet.
-    waiting: Option<StringAt<'a>>,
-    /// Whether all items are pairs of a string and a group, without commas.
-    is_pairs: bool,
 }
 
 impl<'a> Group<'a> {
     /// A group without items.
-    pub(crate) fn new(alloc: Global, kind: Kind) -> Group<'a> {
+    fn new(alloc: Global, is_array: bool) -> Group<'a>
+        ensures { layer_of result ≡ layer (record { is_array = is_array; items = [] }) }
+    {
         Group {
-            kind,
+            is_array,
+            shape: Shape::Pairs,
             keys: Vec::new(alloc),
-            in_row: Vec::new(alloc),
-            waiting: None,
-            is_pairs: true,
         }
     }
 
     /// A string comes.
-    pub(crate) fn string(&mut self, string: StringAt<'a>) -> Result<(), AllocError> {
-        if self.waiting.is_some() {
-            self.is_pairs = false;
-            self.in_row.push(string.place)?;
-        }
-        self.waiting = Some(string);
-        Ok(())
+    fn string(&mut self, string: StringAt<'a>)
+        ensures { (g : spec.Group) → layer_of self.old ≡ layer g
+            → layer_of self.new ≡ layer (with_item (string_item (words_of string.entry)) g) }
+    {
+        self.shape = match self.shape {
+            Shape::Pairs => Shape::Key(string),
+            _ => Shape::Other,
+        };
     }
 
     /// A group comes.
-    pub(crate) fn group(&mut self) -> Result<(), AllocError> {
-        match self.waiting.take() {
-            Some(key) => self.keys.push(key)?,
-            None => self.is_pairs = false,
-        }
+    fn group(&mut self) -> Result<(), AllocError>
+        ensures { OnOk result ((g : spec.Group) → layer_of self.old ≡ layer g
+            → layer_of self.new ≡ layer (with_item group_item g)) }
+    {
+        let Shape::Key(key) = self.shape else {
+            self.shape = Shape::Other;
+            return Ok(());
+        };
+        self.keys.push(key)?;
+        self.shape = Shape::Pairs;
         Ok(())
     }
 
     /// A comma comes.
-    pub(crate) fn comma(&mut self) {
-        self.waiting = None;
-        self.is_pairs = false;
-    }
-
-    /// Whether the group, now closed, is a table.
-    fn is_table(&self) -> bool {
-        match self.kind {
-            Kind::Table => true,
-            Kind::Untyped => self.is_pairs && self.waiting.is_none(),
-            Kind::Array | Kind::Leaf => false,
-        }
+    fn comma(&mut self)
+        ensures { (g : spec.Group) → layer_of self.old ≡ layer g
+            → layer_of self.new ≡ layer (with_item comma_item g) }
+    {
+        self.shape = Shape::Other;
     }
 
     /// Adds the warnings of the group, now closed.
-    pub(crate) fn tell(self, alloc: Global, found: &mut Vec<Warning>) -> Result<(), AllocError>
-        ensures { OnOk result (All IsOther found.old.items → All IsOther found.new.items) }
+    fn tell(&self, alloc: Global, found: &mut Vec<Warning>) -> Result<(), AllocError>
+        ensures { OnOk result ((g : spec.Group) → layer_of self.now ≡ layer g
+            → found.new.items ≡ found.old.items ++ of_group g) }
     {
-        if self.is_table() {
-            return tell_repeated(alloc, self.keys.as_slice(), found);
+        if self.is_array {
+            return Ok(());
         }
-        for place in &self.in_row {
-            found.push(Warning {
-                place: *place,
-                reason: Reason::StringsInRow,
-            })?;
-        }
+        let Shape::Pairs = self.shape else {
+            return Ok(());
+        };
+        tell_keys(alloc, self.keys.as_slice(), found)?;
         Ok(())
     }
 }
 
 /// Adds a warning for each key that stands before.
-fn tell_repeated(
+fn tell_keys(
     alloc: Global,
     keys: &[StringAt<'_>],
     found: &mut Vec<Warning>,
 ) -> Result<(), AllocError>
-    ensures { OnOk result (All IsOther found.old.items → All IsOther found.new.items) }
+    ensures { OnOk result
+        (found.new.items ≡ found.old.items ++ of_keys [] (map words_of keys.now)) }
 {
-    if keys.len() < 2 {
-        return Ok(());
-    }
     let mut seen = IndexMap::new(alloc);
     for key in keys {
-        match seen.get(&key.content) {
+        match seen.get(key.content) {
             Some(first) => found.push(Warning {
                 place: key.place,
                 reason: Reason::RepeatedKey(*first),
@@ -139,4 +117,98 @@ fn tell_repeated(
         }
     }
     Ok(())
+}
+
+/// Whether this is the name of the type of arrays.
+fn is_array(name: &[u8]) -> bool
+    ensures { result ≡ pointwise nat_eq name.now (codes "array") }
+{
+    name == b"array".as_slice()
+}
+
+/// The last piece, and what is open behind it.
+#[derive(Drop)]
+pub(crate) struct Groups<'a> {
+    alloc: Global,
+    last: Option<Piece<'a>>,
+    /// The innermost group.
+    inner: Group<'a>,
+    /// The groups around it; the first one is the text itself.
+    around: Vec<Group<'a>>,
+}
+
+impl<'a> Groups<'a> {
+    /// No piece came.
+    pub(crate) fn new(alloc: Global) -> Groups<'a>
+        ensures { Shows result spec.outside }
+    {
+        Groups {
+            alloc,
+            last: None,
+            inner: Group::new(alloc, false),
+            around: Vec::new(alloc),
+        }
+    }
+
+    /// Adds the warnings of a piece that comes.
+    pub(crate) fn tell(&self, piece: Piece<'a>, found: &mut Vec<Warning>) -> Result<(), AllocError>
+        ensures { OnOk result ((g : spec.Groups) → Shows self.now g
+            → found.new.items ≡ found.old.items ++ of_piece (piece_of piece.entry) g) }
+    {
+        match (piece, self.last) {
+            (Piece::Close, _) => self.inner.tell(self.alloc, found),
+            (Piece::String(string), Some(Piece::String(_))) => {
+                found.push(Warning {
+                    place: string.place,
+                    reason: Reason::StringsInRow,
+                })?;
+                Ok(())
+            }
+            _ => Ok(()),
+        }
+    }
+
+    /// Goes on behind a piece.
+    pub(crate) fn take(&mut self, piece: Piece<'a>) -> Result<(), AllocError>
+        ensures { OnOk result ((g : spec.Groups) → Shows self.old g
+            → Shows self.new (after (piece_of piece.entry) g)) }
+    {
+        match piece {
+            Piece::String(string) => self.inner.string(string),
+            Piece::Comma => self.inner.comma(),
+            Piece::Open => self.open()?,
+            Piece::Close => self.close()?,
+            Piece::Type(_) => {}
+        }
+        self.last = Some(piece);
+        Ok(())
+    }
+
+    /// A group begins.
+    fn open(&mut self) -> Result<(), AllocError>
+        ensures { OnOk result ((g : spec.Groups) → Shows self.old g
+            → IsOpened self.new g) }
+    {
+        let is_array = match self.last {
+            Some(Piece::Type(name)) => is_array(name),
+            _ => false,
+        };
+        let inner = Group::new(self.alloc, is_array);
+        let outer = mem::replace(&mut self.inner, inner);
+        self.around.push(outer)?;
+        Ok(())
+    }
+
+    /// The innermost group is an item of the one around it.
+    fn close(&mut self) -> Result<(), AllocError>
+        ensures { OnOk result ((g : spec.Groups) → Shows self.old g
+            → IsClosed self.new g.inner g.around) }
+    {
+        let Some(mut outer) = self.around.pop() else {
+            return Ok(());
+        };
+        outer.group()?;
+        self.inner = outer;
+        Ok(())
+    }
 }

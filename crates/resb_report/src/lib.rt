@@ -6,6 +6,7 @@ mod braces;
 mod excerpt;
 mod groups;
 mod location;
+mod pieces;
 mod warning;
 
 pub use braces::innermost_open;

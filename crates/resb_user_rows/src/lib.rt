@@ -1,9 +1,12 @@
-//! The worked rows of what stands on `resb`: records, the zone table, the code of the pages, and
-//! what the program does over any reader and writer. Texts, files and streams, with the answers
-//! that the rules ask for.
-//! Only tests stand here, so that `resb_zones` and `resb_command` are not proved twice.
+//! The worked rows of what stands on `resb`: records, the zone table, ICU's time zones, the code of
+//! the pages, and what the programs do over bytes and over any reader and writer. Texts, files and
+//! streams, with the answers that the rules ask for.
+//! Only tests stand here, so that `resb_zones`, `resb_zoneinfo`, `resb_command` and `resb_bundler`
+//! are not proved twice.
 #![tactic(auto)]
 
+#[cfg(test)]
+mod bundle_rows;
 #[cfg(test)]
 mod page_rows;
 #[cfg(test)]
@@ -18,3 +21,5 @@ mod stream_rows;
 mod text_rows;
 #[cfg(test)]
 mod zone_rows;
+#[cfg(test)]
+mod zoneinfo_rows;

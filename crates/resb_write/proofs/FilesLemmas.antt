@@ -80,7 +80,7 @@ pub record Made (t : Tree) (ks js : List (List ℕ)) : Type 0 where
       (length laid.units + length laid.units % 2)
   pub lays : Lays (record { position = position_in js; offset = offset; base = base })
       (record { units = pool; tail = [] }) t laid root
-  pub room : HasRoomFor (record { position = position_in js; offset = offset; base = base }) laid []
+  pub room : HasRoomFor base laid []
   pub units_fit : (k : ℕ) → get_or laid.units k 0 < 2 ^ 16
   pub root_fits : root < 2 ^ 32
 

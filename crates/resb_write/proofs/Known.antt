@@ -2,7 +2,7 @@
 -- planned.
 use Rattle.std.proofs.Common.{◌≡◌, ℕ, zero, suc, ◌+◌, ◌^◌, ◌<◌, List, [], ◌∷◌, map, filter}
 use Rattle.std.proofs.Common.{Option, Some, None, option_map, MatchOption, All, Bool, true, false}
-use Rattle.std.proofs.Common.{cond, nat_lt, unwrap_or, refl, sym, ◌∙◌, ap, subst, arith}
+use Rattle.std.proofs.Common.{length, cond, nat_lt, unwrap_or, refl, sym, ◌∙◌, ap, subst, arith}
 use Rattle.std.specs.List.{list_any, flat_map, Contains}
 use Rattle.std.specs.Option.{is_none}
 use Rattle.std.specs.Cmp.Lexicographic.{bytes_decides}
@@ -11,18 +11,13 @@ use Rattle.std.proofs.lemmas.Bool.{both_ways, false_from_ne_true}
 use Rattle.std.proofs.lemmas.List.Elements.{All-nil, All-cons, Contains-append_left}
 use Rattle.std.proofs.lemmas.List.Elements.{Contains-append_right}
 use Rattle.std.proofs.lemmas.List.Folds.{Any-from_list_any, list_any-from_Any}
-use Rattle.resb_tree.specs.Tree.{Tree, string, array, table, binary, integer, int_vector}
+use Rattle.resb_tree.specs.Tree.{Tree}
 use Rattle.resb_tree.specs.Keys.{same_text}
 use Rattle.resb_pool.specs.Fault.{Fault}
 use Rattle.resb_pool.specs.Plan.{IsPlan}
 use Rattle.resb_pool.specs.Pool.{Off}
 use Rattle.resb_pool.proofs.IsRead.{pool_is_read}
-use Rattle.resb_layout.specs.Laid.{Given}
-use Rattle.resb_tree.specs.WalkOrder.{entry_keys}
-use Rattle.resb_tree.specs.WalkOrder.{text_in}
-use Rattle.resb_bodies.specs.Room.{IsKnown}
 use Rattle.resb_write.specs.KeyBlock.{used, is_among, last_of, position_in, keys_start}
-use Rattle.resb_tree.specs.WalkOrder.{own_keys}
 use Rattle.resb_write.specs.Faults.{has_nul, is_unlisted, is_far, key_fault}
 use Rattle.resb_write.specs.Inner.NearPositions.{near_position, near_position_in}
 use Rattle.resb_write.proofs.Keys.{place_contained}
@@ -137,21 +132,29 @@ module _ (S : List (List ℕ)) (us : List ℕ) (offset : List ℕ → Option ℕ
         by None e h = absurd (h c)
         by (Some k) e h = (k, e, omega (arith, (pool_is_read S us offset plan s k e).0, plan.room))
 
-module _ (ts : List Tree) (g : Given) (js : List (List ℕ)) (us : List ℕ)
-    (plan : IsPlan (flat_map text_in ts) us g.offset)
-    (faultless : key_fault (flat_map own_keys ts) js ≡ None) (positions : (k : List ℕ)
-    → g.position k ≡ position_in js k) where
-  known : (t : Tree) → Contains ts t → IsKnown g t
-  known (string s) c = offset_of_text (flat_map text_in ts) us g.offset plan s
-      (in_flat text_in ts (string s) s c (0, omega arith, refl))
-  known (table es) c =
-      let r = placed_each (flat_map own_keys ts) js faultless (entry_keys es)
-      (λ k h. in_flat own_keys ts (table es) k c h) in
-      (r.0, (λ i. map (λ k. positions k i) (entry_keys es)) ∙ r.1)
-  known (array us) c = tt
-  known (binary s) c = tt
-  known (integer n) c = tt
-  known (int_vector ns) c = tt
+-- the offsets of planned strings fit a descriptor
+pub near_offsets : (S : List (List ℕ)) (us : List ℕ) (offset : List ℕ → Option ℕ)
+    → IsPlan S us offset → (ss : List (List ℕ)) (os : List ℕ)
+    → ((s : List ℕ) → Contains ss s → Contains S s) → map offset ss ≡ map Some os
+    → All (λ k. k < 2 ^ 28) os
+near_offsets S us offset plan [] [] f e = All-nil (λ k. k < 2 ^ 28)
+near_offsets S us offset plan [] (k ∷ os) f e = absurd (omega (arith, ap length e))
+near_offsets S us offset plan (s ∷ ss) [] f e = absurd (omega (arith, ap length e))
+near_offsets S us offset plan (s ∷ ss) (k ∷ os) f e =
+    let h : offset s ≡ Some k = cc in
+    let t : map offset ss ≡ map Some os = cc in
+    let r = offset_of_text S us offset plan s (f s (0, omega arith, refl)) in
+    let same : k ≡ r.0 = (let i = sym h ∙ r.1 in cc) in
+    All-cons (λ k. k < 2 ^ 28) k os (subst (λ n. n < 2 ^ 28) (sym same) r.2)
+    (near_offsets S us offset plan ss os
+    (λ q c. f q (Contains-append_right (s ∷ []) ss q c)) t)
 
-  pub all_known : All (IsKnown g) ts
-  all_known = all_from (IsKnown g) ts known
+-- what is known of each of some texts is known in turn
+pub in_turn : (f : List ℕ → Option ℕ) (ks : List (List ℕ))
+    → ((k : List ℕ) → Contains ks k → (p : ℕ) × (f k ≡ Some p))
+    → map f ks ≡ map Some (map (λ k. unwrap_or (f k) 0) ks)
+in_turn f [] h = refl
+in_turn f (k ∷ ks) h =
+    let p = h k (0, omega arith, refl) in
+    let e : f k ≡ Some (unwrap_or (f k) 0) = p.1 ∙ ap (λ o. Some (unwrap_or o 0)) (sym p.1) in
+    (λ i. e i ∷ in_turn f ks (λ j c. h j (Contains-append_right (k ∷ []) ks j c)) i)

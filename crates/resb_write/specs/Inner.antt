@@ -3,4 +3,5 @@
 pub mod Gathered
 pub mod NearPositions
 pub mod Sizes
+pub mod Pooled
 pub mod Files

@@ -10,10 +10,10 @@ ghost use Rattle.resb_tree.specs.View.{tree_of, entries_view};
 ghost use Rattle.resb_format.specs.Units.{units};
 ghost use Rattle.resb_pool.specs.Plan.{nows, first_too_long};
 ghost use Rattle.resb_tree.specs.WalkOrder.{entry_keys};
-ghost use Rattle.resb_tree.specs.WalkOrder.{walk};
+ghost use Rattle.resb_bodies.specs.Room.{trees_in};
 ghost use Rattle.resb_write.specs.Inner.Gathered.{Gathered};
 
-use resb_bodies::in_walk_order;
+use resb_bodies::WalkOrder;
 use resb_pool::utf16_len;
 use resb_tree::{Resource, Table};
 use std::alloc::{AllocError, Global};
@@ -39,9 +39,12 @@ pub(crate) struct Contents<'t> {
 }
 
 impl<'t> Contents<'t> {
-    /// What the resources of a tree hold.
-    pub(crate) fn gather(alloc: Global, root: &'t Resource<'_>) -> Result<Contents<'t>, AllocError>
-        ensures { IfOk result (λ c. Gathered (walk (tree_of root.now)) c) }
+    /// What the resources of a tree hold, which are given in walk order.
+    pub(crate) fn gather<'a>(
+        alloc: Global,
+        order: &WalkOrder<'t, 'a>,
+    ) -> Result<Contents<'t>, AllocError>
+        ensures { IfOk result (λ c. Gathered (trees_in order.now.items) c) }
     {
         let mut contents = Contents {
             keys: Vec::new(alloc),
@@ -51,8 +54,8 @@ impl<'t> Contents<'t> {
             too_long: None,
             has_count_over_32_bits: false,
         };
-        for resource in in_walk_order(alloc, root)? {
-            contents.add(resource)?;
+        for at in 0..order.len() {
+            contents.add(&*order[at])?;
         }
         Ok(contents)
     }

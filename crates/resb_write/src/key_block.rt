@@ -1,7 +1,7 @@
 //! The key block: which listed keys are used, where each stands, and their bytes.
 //! The faults of keys are found here, in the order in which they are answered.
 ghost use Rattle.std.specs.Prelude.{◌≡◌, ◌++◌, ◌<◌, ◌+◌, ◌%◌, ◌^◌, ◌⊎◌, ℕ, List, Some, None};
-ghost use Rattle.std.specs.Prelude.{IfOk, IfErr, OnOk, All, length, filter, nat_lt, unwrap_or};
+ghost use Rattle.std.specs.Prelude.{IfOk, IfErr, OnOk, All, length, map, filter, nat_lt, unwrap_or};
 ghost use Rattle.std.specs.Str.{IsUtf8};
 ghost use Rattle.std.specs.List.{list_any};
 ghost use Rattle.std.specs.Option.{is_some, is_none};
@@ -24,12 +24,13 @@ pub(crate) const KEYS_START: usize = 32;
 /// The greatest position that a key may have.
 const GREATEST_POSITION: u32 = 2_147_483_647;
 
-/// The used keys of a list in its order, and the position of the last occurrence of each, in bytes
-/// of the body.
+/// The used keys of a list in its order, and where the keys of a tree's tables stand.
 #[derive(Drop)]
 pub(crate) struct KeyBlock<'k> {
     pub(crate) keys: Vec<&'k str>,
-    pub(crate) positions: IndexMap<&'k str, u32>,
+    /// The position of the last occurrence of each key of the tables, in walk order and in bytes of
+    /// the body.
+    pub(crate) positions: Vec<u32>,
 }
 
 impl<'k> KeyBlock<'k> {
@@ -41,15 +42,16 @@ impl<'k> KeyBlock<'k> {
         list: &'k [Key<'_>],
     ) -> Result<KeyBlock<'k>, BinarySerializerError>
         ensures ok { IfOk result (λ b. IsKeyBlock (nows tree_keys.now) list.now
-            (nows b.keys.items) (at_text b.positions)) }
+            (nows b.keys.items) b.positions.items) }
         ensures err { IfErr result (λ e. (fault_of e ≡ out_of_memory)
             ⊎ (key_fault (nows tree_keys.now) (used_of (nows tree_keys.now) list.now)
             ≡ Some (fault_of e))) }
     {
         let wanted = key_set(alloc, tree_keys)?;
         let keys = used_keys(alloc, &wanted, list)?;
-        let positions = last_positions(alloc, &keys)?;
-        check_keys(wanted.keys().as_slice(), &positions)?;
+        let last = last_positions(alloc, &keys)?;
+        check_keys(wanted.keys().as_slice(), &last)?;
+        let positions = positions_of(alloc, tree_keys, &last)?;
         Ok(KeyBlock { keys, positions })
     }
 }
@@ -151,6 +153,22 @@ fn last_positions<'k>(alloc: Global, keys: &[&'k str]) -> Result<IndexMap<&'k st
         position = position.saturating_add(key.len() + 1);
     }
     Ok(positions)
+}
+
+/// The position of each key, or 0 of one that isn't in the map.
+fn positions_of(
+    alloc: Global,
+    keys: &[&str],
+    positions: &IndexMap<&str, u32>,
+) -> Result<Vec<u32>, AllocError>
+    ensures { IfOk result (λ v. v.items
+        ≡ map (λ k. unwrap_or (at_text positions.now k) 0) (nows keys.now)) }
+{
+    let mut found = Vec::with_capacity(alloc, keys.len())?;
+    for key in keys {
+        found.push(positions.get(*key).copied().unwrap_or(0))?;
+    }
+    Ok(found)
 }
 
 /// Whether some key isn't in the map.

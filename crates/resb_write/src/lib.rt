@@ -8,6 +8,7 @@ mod key_block;
 pub mod laws;
 mod limits;
 mod serializer;
+mod strings;
 
 pub use resb_pool::{BinarySerializerError, pool};
 pub use serializer::Serializer;

@@ -10,8 +10,9 @@ use crate::contents::Contents;
 use crate::file::{Pieces, assemble};
 use crate::key_block::{KEYS_START, KeyBlock, block_length};
 use crate::limits::check_sizes;
-use resb_bodies::{Sites, lay_bodies};
-use resb_pool::{BinarySerializerError, pool};
+use crate::strings::Strings;
+use resb_bodies::{Sites, in_walk_order, lay_bodies};
+use resb_pool::BinarySerializerError;
 use resb_tree::{Key, ResourceBundle};
 use std::alloc::Global;
 
@@ -52,20 +53,19 @@ fn write<'a>(
         bundle.now.is_locale_fallback_enabled list.now) }
     ensures err { IfErr result (λ e. Refused (root_of bundle.now) list.now (fault_of e)) }
 {
-    let root = bundle.root();
-    let contents = Contents::gather(alloc, root)?;
+    let order = in_walk_order(alloc, bundle.root())?;
+    let contents = Contents::gather(alloc, &order)?;
     let KeyBlock { keys, positions } = KeyBlock::new(alloc, &contents.keys, list)?;
     check_sizes(&contents, list)?;
-    let mut sites = Sites {
-        positions,
-        plan: pool::plan(alloc, &contents.texts)?,
-        base: 0,
-    };
+    let Strings { pool, offsets } = Strings::plan(alloc, &contents.texts)?;
     let largest_table = contents.largest_table as u32;
     drop(contents);
     let keys_end = KEYS_START + block_length(&keys);
-    let (bodies, word) = lay_bodies(alloc, &mut sites, keys_end, root)?;
-    drop(sites);
+    let sites = Sites {
+        positions: &positions,
+        offsets: &offsets,
+    };
+    let (bodies, word) = lay_bodies(alloc, &sites, pool, keys_end, &order)?;
     let pieces = Pieces {
         root: word,
         largest_table,

@@ -4,11 +4,11 @@ mod resb;
 use std::io::Read;
 use std::process::ExitCode;
 
-/// The most bytes that a tree may take.
+/// The most bytes that reading a text may make, and that a tree may take.
 const LIMIT: u64 = 1_000_000;
 
 fn show(text: &[u8]) -> Result<(), resb::Error> {
-    let file = resb::compile(text)?;
+    let file = resb::compile_within(text, LIMIT)?;
     let count = resb::check(&file)?;
     let entries = resb::measure(&file)?.entries;
     println!("{} bytes, {count} resources, {entries} entries", file.len());
@@ -22,7 +22,8 @@ fn main() -> ExitCode {
     match show(&text) {
         Ok(()) => ExitCode::SUCCESS,
         Err(e) => {
-            eprintln!("{e}");
+            let (line, column) = resb::location(&text, e.place);
+            eprintln!("{line}:{column}: {e}");
             ExitCode::FAILURE
         }
     }

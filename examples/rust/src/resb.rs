@@ -19,7 +19,7 @@ impl fmt::Display for Error {
     fn fmt(&self, f: &mut fmt::Formatter<'_>) -> fmt::Result {
         let end = self.message.iter().position(|b| *b == 0).unwrap_or(256);
         let message = String::from_utf8_lossy(&self.message[..end]);
-        write!(f, "fault {} at byte {}: {message}", self.kind, self.place)
+        write!(f, "fault {}: {message}", self.kind)
     }
 }
 
@@ -41,14 +41,22 @@ const OK: u32 = 0;
 const TOO_SHORT: u32 = 1;
 
 extern "C" {
-    fn resb_compile(
+    fn resb_compile_within(
         text: *const u8,
         text_length: usize,
+        limit: u64,
         out: *mut u8,
         out_length: usize,
         length: *mut usize,
         error: *mut Error,
     ) -> u32;
+    fn resb_location(
+        text: *const u8,
+        text_length: usize,
+        place: usize,
+        line: *mut usize,
+        column: *mut usize,
+    );
     fn resb_check(
         file: *const u8,
         file_length: usize,
@@ -75,11 +83,19 @@ extern "C" {
 }
 
 /// Compiles to the buffer: the file's length, and whether it fitted.
-fn compile_to(text: &[u8], out: &mut [u8]) -> Result<(usize, bool), Error> {
+fn compile_to(text: &[u8], limit: u64, out: &mut [u8]) -> Result<(usize, bool), Error> {
     let (mut length, mut error) = (0, Error::none());
-    let (from, to) = (text.as_ptr(), out.as_mut_ptr());
-    let status =
-        unsafe { resb_compile(from, text.len(), to, out.len(), &mut length, &mut error) };
+    let status = unsafe {
+        resb_compile_within(
+            text.as_ptr(),
+            text.len(),
+            limit,
+            out.as_mut_ptr(),
+            out.len(),
+            &mut length,
+            &mut error,
+        )
+    };
     match status {
         OK => Ok((length, true)),
         TOO_SHORT => Ok((length, false)),
@@ -87,12 +103,20 @@ fn compile_to(text: &[u8], out: &mut [u8]) -> Result<(usize, bool), Error> {
     }
 }
 
-/// The file of a bundle's text, which is UTF-8.
-pub fn compile(text: &[u8]) -> Result<Vec<u8>, Error> {
-    let (length, _) = compile_to(text, &mut [])?;
+/// The file of a bundle's text, which is UTF-8. A text whose reading makes more bytes than the limit
+/// is refused.
+pub fn compile_within(text: &[u8], limit: u64) -> Result<Vec<u8>, Error> {
+    let (length, _) = compile_to(text, limit, &mut [])?;
     let mut file = vec![0; length];
-    compile_to(text, &mut file)?;
+    compile_to(text, limit, &mut file)?;
     Ok(file)
+}
+
+/// The line and the column of a place of a text, from 1.
+pub fn location(text: &[u8], place: usize) -> (usize, usize) {
+    let (mut line, mut column) = (0, 0);
+    unsafe { resb_location(text.as_ptr(), text.len(), place, &mut line, &mut column) };
+    (line, column)
 }
 
 /// The number of resources of a file.

@@ -1,6 +1,8 @@
 -- The places of the members and entries that are still to come.
-use Rattle.std.specs.Prelude.{List, map}
-use Rattle.resb_format.specs.Bytes.{words_of}
+use Rattle.std.specs.Prelude.{ℕ, List, map}
+use Rattle.std.specs.List.{zip}
+use Rattle.resb_format.specs.Bytes.{units_of, words_of}
+use Rattle.resb_format.specs.Content as member
 use Rattle.resb_walk.specs.Files.{parts_in}
 use Rattle.resb_walk.specs.Inner.Members.{members_of, keyed_members}
 use Rattle.resb_walk.specs.declared.file.File.{File}
@@ -24,3 +26,9 @@ places_of f i = map (at_spot (parts_in f)) (spots_of i)
 -- the places of each entry's key and value in the file
 abbrev pub entry_places : File → Pairs → List (Place × Place)
 entry_places f ps = map (at_entry (parts_in f)) (keyed_members ps)
+
+-- the places of the keys and values of entries that are given by bytes: of each key's position two,
+-- of each value's word four
+abbrev pub near_entries : File → List ℕ → List ℕ → List (Place × Place)
+near_entries f positions words =
+    map (at_entry (parts_in f)) (zip (units_of positions) (map member.word (words_of words)))

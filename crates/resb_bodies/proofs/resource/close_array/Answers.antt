@@ -1,13 +1,13 @@
 use Rattle.std.proofs.Common.{◌++◌, length, sym, ◌∙◌, ap, arith}
 use Rattle.resb_layout.specs.Laid.{offsets_in}
-use Rattle.resb_bodies.specs.Room.{given_by, laid_of}
+use Rattle.resb_bodies.specs.Room.{at_base, laid_of}
 use Rattle.resb_bodies.proofs.Closings.{array_in_units, array_in_tail, units_taken, tail_taken}
 use Rattle.resb_bodies.proofs.resource.close_array.Goals as goal
 
 pub returns-then-are_short_strings-clause-lays : goal.returns-then-are_short_strings-clause-lays
 returns-then-are_short_strings-clause-lays c =
     let at = c.len-at.ensures in
-    array_in_units (given_by c.args.sites.now) (laid_of c.args.bodies.now) c.args.words.now
+    array_in_units (at_base c.args.base) (laid_of c.args.bodies.now) c.args.words.now
     c.put_offsets.new.units.items c.word.result c.len-at.result
     (sym c.are_short_strings.ensures ∙ c.if-are_short_strings.true)
     (omega (arith, c.requires.units)) (c.in_ok-put_offsets.ensures
@@ -23,7 +23,7 @@ returns-then-are_short_strings-clause-takes c =
 
 pub returns-clause-lays : goal.returns-clause-lays
 returns-clause-lays c =
-    array_in_tail (given_by c.args.sites.now) (laid_of c.args.bodies.now) c.args.words.now
+    array_in_tail (at_base c.args.base) (laid_of c.args.bodies.now) c.args.words.now
     c.put_counted.new.tail.items c.word-2.result c.tail_value-at.result
     (sym c.are_short_strings.ensures ∙ c.if-are_short_strings.false)
     (omega (arith, c.tail_value-at.ensures.at, ap length c.deref.ensures.value))

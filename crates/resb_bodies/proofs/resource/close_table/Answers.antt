@@ -1,6 +1,6 @@
 use Rattle.std.proofs.Common.{◌<◌, ◌^◌, length, sym, ◌∙◌, ap, arith}
 use Rattle.std.proofs.lemmas.List.Elements.{All-from_get_or}
-use Rattle.resb_bodies.specs.Room.{given_by, laid_of}
+use Rattle.resb_bodies.specs.Room.{at_base, laid_of}
 use Rattle.resb_bodies.proofs.Closings.{table_in_units, table_in_tail, table_is_wide, wide_taken}
 use Rattle.resb_bodies.proofs.Closings.{table_taken}
 use Rattle.resb_bodies.proofs.resource.close_table.Goals as goal
@@ -9,7 +9,7 @@ pub returns-then-not-are_near_positions-clause-lays
     : goal.returns-then-not-are_near_positions-clause-lays
 returns-then-not-are_near_positions-clause-lays c =
     let h = c.if-not-are_near_positions.true in
-    table_is_wide (given_by c.args.sites.now) (laid_of c.args.bodies.now) c.args.positions.now
+    table_is_wide (at_base c.args.base) (laid_of c.args.bodies.now) c.args.positions.now
     c.args.words.now c.put_wide_table.new.tail.items c.word.result c.tail_value-at.result
     (sym c.are_near_positions.ensures
     ∙ h) (omega (arith, c.tail_value-at.ensures.at, ap length c.deref.ensures.value))
@@ -33,7 +33,7 @@ returns-then-not-are_near_positions-clause-takes c =
 pub returns-then-are_short_strings-clause-lays : goal.returns-then-are_short_strings-clause-lays
 returns-then-are_short_strings-clause-lays c =
     let h = c.if-not-are_near_positions.false in
-    table_in_units (given_by c.args.sites.now) (laid_of c.args.bodies.now) c.args.positions.now
+    table_in_units (at_base c.args.base) (laid_of c.args.bodies.now) c.args.positions.now
     c.args.words.now c.put_unit_table.new.units.items c.word-then-are_short_strings.result
     c.len-at.result
     (sym c.are_near_positions.ensures ∙ h) (sym c.are_short_strings.ensures
@@ -44,7 +44,7 @@ returns-then-are_short_strings-clause-lays c =
 pub returns-clause-lays : goal.returns-clause-lays
 returns-clause-lays c =
     let h = c.if-not-are_near_positions.false in
-    table_in_tail (given_by c.args.sites.now) (laid_of c.args.bodies.now) c.args.positions.now
+    table_in_tail (at_base c.args.base) (laid_of c.args.bodies.now) c.args.positions.now
     c.args.words.now c.put_short_table.new.tail.items c.word-2.result c.tail_value-at-2.result
     (sym c.are_near_positions.ensures ∙ h) (sym c.are_short_strings.ensures
     ∙ c.if-are_short_strings.false) (omega (

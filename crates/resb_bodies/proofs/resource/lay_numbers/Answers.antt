@@ -3,7 +3,7 @@ use Rattle.std.proofs.lemmas.Bool.{eqb-true, eqb-false}
 use Rattle.std.proofs.lemmas.List.Elements.{All-from_get_or}
 use Rattle.resb_tree.specs.Tree.{int_vector}
 use Rattle.resb_layout.specs.Laid.{Lays, lays_no_numbers}
-use Rattle.resb_bodies.specs.Room.{given_by, laid_of}
+use Rattle.resb_bodies.specs.Room.{at_base, laid_of}
 use Rattle.std.proofs.lemmas.List.{nil_from_length}
 use Rattle.resb_bodies.proofs.Closings.{numbers_laid, tail_taken}
 use Rattle.resb_bodies.proofs.resource.lay_numbers.Goals as goal
@@ -13,16 +13,16 @@ returns-then-is_empty-clause-lays c =
     let z : c.args.numbers.now ≡ [] =
     nil_from_length c.args.numbers.now (eqb-true (length c.args.numbers.now) 0
     (sym c.is_empty.ensures ∙ c.if-is_empty.true)) in
-    subst (λ ns. Lays (given_by c.args.sites.now) (laid_of c.args.bodies.now) (int_vector ns)
+    subst (λ ns. Lays (at_base c.args.base) (laid_of c.args.bodies.now) (int_vector ns)
     (laid_of c.args.bodies.now) c.word.result) (sym z)
-    (subst (Lays (given_by c.args.sites.now) (laid_of c.args.bodies.now) (int_vector [])
+    (subst (Lays (at_base c.args.base) (laid_of c.args.bodies.now) (int_vector [])
     (laid_of c.args.bodies.now)) (sym c.word.ensures) lays_no_numbers)
 
 pub returns-clause-lays : goal.returns-clause-lays
 returns-clause-lays c =
     let n = eqb-false (length c.args.numbers.now) 0 (sym c.is_empty.ensures
     ∙ c.if-is_empty.false) in
-    numbers_laid (given_by c.args.sites.now) (laid_of c.args.bodies.now) c.args.numbers.now
+    numbers_laid (at_base c.args.base) (laid_of c.args.bodies.now) c.args.numbers.now
     c.put_counted.new.tail.items c.word-2.result c.tail_value-at.result
     (omega (arith, n)) (omega (arith, c.requires.bytes))
     (All-from_get_or (λ p. p < 2 ^ 32) c.args.numbers.now 0 (λ i l. let f =

@@ -1,19 +1,21 @@
-use Rattle.std.proofs.Common.{◌≡◌, ◌++◌, ◌+◌, ◌≤◌, length}
+use Rattle.std.proofs.Common.{◌+◌, ◌≤◌, length, take, drop}
 use Rattle.std.specs.List.{sum_by}
-use Rattle.std.specs.Vec.Iter.{into_iter_items, into_iter_len}
+use Rattle.resb_layout.specs.Laid.{Given}
 use Rattle.resb_bodies.specs.StackSteps.{LaysRow}
-use Rattle.resb_bodies.specs.Room.{given_by, laid_of, trees_in, most_units}
-use Rattle.resb_bodies.specs.Inner.Seen.{CanLay}
+use Rattle.resb_bodies.specs.Room.{laid_of, trees_in, most_units, Numbered}
+use Rattle.resb_bodies.specs.Inner.Seen.{Anywhere, CanLay}
 use Rattle.resb_bodies.proofs.tree.steps.Given as goal
 
-abbrev pub invariant-loop-resource : goal.invariant-loop-resource
-invariant-loop-resource l =
-    (l.yielded ++ into_iter_items l.resource-iterator ≡ into_iter_items l.initial.resource-iterator)
-    × (into_iter_len l.resource-iterator ≡ length (into_iter_items l.resource-iterator))
-    × LaysRow (given_by l.sites) (laid_of l.fn.bodies) l.fn.words.items (trees_in l.yielded)
-    (laid_of l.bodies) l.words.items
-    × CanLay l.sites l.bodies (length l.words.items)
-    (trees_in (into_iter_items l.resource-iterator))
-    × (length l.bodies.units.items + sum_by most_units
-    (trees_in (into_iter_items l.resource-iterator)) ≤ length l.fn.bodies.units.items + sum_by
-    most_units (trees_in (into_iter_items l.initial.resource-iterator)))
+abbrev pub invariant-loop-at : goal.invariant-loop-at
+invariant-loop-at l = record {
+  left : (g : Given)
+      → Numbered g l.sites.positions.now l.sites.offsets.now (trees_in l.order.items)
+      → Numbered g l.coming.positions.now l.coming.offsets.now (trees_in (drop l.at l.order.items));
+  done : Anywhere l.base (λ g.
+      Numbered g l.sites.positions.now l.sites.offsets.now (trees_in l.order.items)
+      → LaysRow g (laid_of l.fn.bodies) l.fn.words.items (trees_in (take l.at l.order.items))
+      (laid_of l.bodies) l.words.items);
+  can : CanLay l.base l.bodies (length l.words.items) (trees_in (drop l.at l.order.items));
+  takes : length l.bodies.units.items + sum_by most_units (trees_in (drop l.at l.order.items))
+      ≤ length l.fn.bodies.units.items + sum_by most_units (trees_in l.order.items);
+}

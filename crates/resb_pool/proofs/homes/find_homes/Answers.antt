@@ -1,12 +1,12 @@
-use Rattle.std.proofs.Common.{◌++◌, ◌∷◌, [], List, length, map, get_or, inl, inr, sym, ◌∙◌, ap}
+use Rattle.std.proofs.Common.{◌<◌, ◌++◌, ◌∷◌, [], List, length, map, get_or, inl, inr, sym, ◌∙◌, ap}
 use Rattle.std.proofs.Common.{subst, arith}
 use Rattle.std.proofs.lemmas.List.{get_or_append_left, get_or_push, length_push, map_push}
-use Rattle.std.proofs.lemmas.List.{take_more}
+use Rattle.std.proofs.lemmas.List.{take_more, get_or_read}
 use Rattle.resb_pool.specs.Plan.{nows}
 use Rattle.resb_pool.specs.Inner.Placing.{LiesAt}
 use Rattle.resb_pool.specs.declared.homes.Home.{Home}
 use Rattle.resb_pool.specs.declared.measure.Measure.{Measure}
-use Rattle.resb_pool.proofs.NewNode.{old_or_new}
+use Rattle.resb_pool.proofs.Distinct.{old_or_new}
 use Rattle.resb_pool.proofs.homes.find_homes.Goals as goal
 
 abbrev no_measure : Measure
@@ -17,9 +17,17 @@ loop-index-preserved c =
     let i = c.loop-index.index in
     let v = c.loop-index.invariant in
     let e = c.in_ok-push.ensures.items in
+    let within : i < length c.args.texts.now =
+    omega (arith, c.loop-index-test.true, c.requires.len) in
+    let here : LiesAt (nows c.args.texts.now) i c.index.result.now =
+    subst (LiesAt (nows c.args.texts.now) i)
+    (sym (get_or_read c.in_ok-containers.containers.items i c.index.result.now
+    (omega (arith, within, c.in_ok-containers.ensures.len)) c.index.ensures 0))
+    (c.in_ok-containers.ensures.lies i within) in
     let ps = c.loop-index.homes.items in
+    let k = c.index.result.now in
     let p : Home = record {
-      «record» = c.record_of.result;
+      «record» = k;
       measure =
           get_or c.args.measures.now i no_measure;
     } in
@@ -32,8 +40,7 @@ loop-index-preserved c =
                 (sym (get_or_append_left ps (p ∷ []) d j (omega (arith, b, v.len)))) (v.lies j d b)
             | inr q ↦ subst (λ (z : Home). LiesAt (nows c.args.texts.now) j z.record)
                 (sym (get_or_push ps p d j (v.len ∙ sym q)))
-                (subst (λ k. LiesAt (nows c.args.texts.now) k c.record_of.result) (sym q)
-                (c.record_of.ensures (nows c.args.texts.now) c.in_ok-trie.ensures))
+                (subst (λ z. LiesAt (nows c.args.texts.now) z k) (sym q) here)
           ]);
       measures = ap (map (λ (z : Home). z.measure)) e ∙ map_push (λ (z : Home). z.measure) ps p
           ∙ ap (λ (z : List Measure). z ++ p.measure ∷ []) v.measures

@@ -1,11 +1,21 @@
-use Rattle.std.proofs.Common.{ℕ, List, map, sym, ◌∙◌, ap, subst}
+use Rattle.std.proofs.Common.{ℕ, List, get_or, map, sym, ◌∙◌, ap, subst}
 use Rattle.std.specs.List.{All}
+use Rattle.std.specs.Str.{IsUtf8}
+use Rattle.std.proofs.lemmas.List.{get_or_default}
+use Rattle.std.proofs.lemmas.List.Elements.{All-contains}
 use Rattle.resb_pool.specs.Plan.{nows}
 use Rattle.resb_pool.specs.Inner.Placing.{AreTexts, ClosesWithin, offset_by}
 use Rattle.resb_pool.specs.Inner.LaidRecords.{IsBlock}
 use Rattle.resb_pool.specs.declared.homes.Home.{Home}
 use Rattle.resb_pool.proofs.PlanLemmas.{all_close}
 use Rattle.resb_pool.proofs.pool.place.Goals as goal
+
+pub find_homes-requires-clause-utf8 : goal.find_homes-requires-clause-utf8
+find_homes-requires-clause-utf8 c =
+    let T = nows c.args.texts.now in
+    let g = c.requires.given.2 in
+    λ i d l. All-contains IsUtf8 c.requires.given.0 (get_or T i d) g.utf8
+    ((g.same (get_or T i d)).0 (i, l, get_or_default T i (get_or T i d) d l))
 
 pub lay_records-requires-clause-given : goal.lay_records-requires-clause-given
 lay_records-requires-clause-given c =

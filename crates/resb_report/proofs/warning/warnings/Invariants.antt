@@ -1,7 +1,6 @@
--- No backslash is told of while the groups are looked at.
-use Rattle.std.proofs.Common.{All}
-use Rattle.resb_report.specs.Warnings.{IsOther}
+-- The text was read up to the place.
+use Rattle.resb_report.specs.Inner.Looks.{Reads}
 use Rattle.resb_report.proofs.warning.warnings.Given as goal
 
 abbrev pub invariant-bytes : goal.invariant-bytes
-invariant-bytes l = All IsOther l.scan.found.items
+invariant-bytes l = Reads l.scan l.text l.at

@@ -1,11 +1,12 @@
--- The listed keys that are used, and what their positions say.
-use Rattle.std.proofs.Common.{◌≡◌, ℕ, List, filter, inr, sym, ◌∙◌, ap}
+-- The listed keys that are used, and where those of the tables stand.
+use Rattle.std.proofs.Common.{◌≡◌, ℕ, List, map, filter, Some, inr, sym, ◌∙◌, ap, unwrap_or}
 use Rattle.std.proofs.lemmas.Result.{err_from_is_err_and}
-use Rattle.resb_pool.specs.Plan.{nows}
+use Rattle.resb_pool.specs.Plan.{nows, at_text}
 use Rattle.indexmap.specs.IndexMap.{keys}
-use Rattle.resb_write.specs.KeyBlock.{used}
+use Rattle.resb_write.specs.KeyBlock.{used, position_in}
 use Rattle.resb_write.specs.Faults.{key_fault}
 use Rattle.resb_write.proofs.Distinct.{fault_same, same_keys}
+use Rattle.resb_write.proofs.Known.{exact, placed, in_turn}
 use Rattle.resb_write.specs.Inner.NearPositions.{near_position_in}
 use Rattle.resb_write.proofs.key_block.KeyBlock.new.Goals as goal
 
@@ -14,7 +15,7 @@ returns-in_err-check_keys-clause-err c =
     let us = nows c.args.tree_keys.now in
     let js = c.in_ok-keys.ensures.keys ∙ (λ i. filter (λ k. c.in_ok-wanted.ensures k i)
     c.args.list.now) in
-    let at = λ (q : List ℕ). c.in_ok-positions.ensures q ∙ ap (λ l. near_position_in (nows l) q)
+    let at = λ (q : List ℕ). c.in_ok-last.ensures q ∙ ap (λ l. near_position_in (nows l) q)
     c.deref.ensures.value ∙ ap (λ l. near_position_in l q) js in
     let p = err_from_is_err_and c.from_residual-in_err-check_keys.result
     c.from_residual-in_err-check_keys.ensures.1 in
@@ -31,18 +32,23 @@ pub returns-clause-ok : goal.returns-clause-ok
 returns-clause-ok c =
     let us = nows c.args.tree_keys.now in
     let ks = nows c.in_ok-keys.keys.items in
-    let js = c.in_ok-keys.ensures.keys ∙ (λ i. filter (λ k. c.in_ok-wanted.ensures k i)
-    c.args.list.now) in
-    let at = λ (q : List ℕ). c.in_ok-positions.ensures q ∙ ap (λ l. near_position_in (nows l) q)
+    let list = c.args.list.now in
+    let js = c.in_ok-keys.ensures.keys ∙ (λ i. filter (λ k. c.in_ok-wanted.ensures k i) list) in
+    let at = λ (q : List ℕ). c.in_ok-last.ensures q ∙ ap (λ l. near_position_in (nows l) q)
     c.deref.ensures.value in
     let ds : nows c.as_slice.result.now ≡ nows (keys c.in_ok-wanted.wanted) =
     ap nows (c.as_slice.ensures ∙ c.keys.ensures.rest) in
     let same = fault_same (nows (keys c.in_ok-wanted.wanted)) us
     (same_keys c.in_ok-wanted.wanted.entries us c.in_ok-wanted.ensures) ks in
+    let faultless = sym (ap (λ (l : List (List ℕ)). key_fault l ks) ds ∙ same)
+    ∙ c.in_ok-check_keys.ensures.ok ks at in
+    let is : (q : List ℕ) → at_text c.in_ok-last.last q ≡ position_in ks q =
+    (λ q. at q ∙ exact us ks faultless list js q) in
     record {
       keys = js;
-      positions = at;
+      positions = in_turn (position_in ks) us (placed us ks faultless)
+          ∙ ap (map Some) (sym (c.in_ok-positions.ensures
+          ∙ (λ i. map (λ k. unwrap_or (is k i) 0) us)));
       utf8 = c.in_ok-keys.ensures.utf8;
-      faultless = sym (ap (λ (l : List (List ℕ)). key_fault l ks) ds ∙ same)
-          ∙ c.in_ok-check_keys.ensures.ok ks at;
+      faultless = faultless;
     }

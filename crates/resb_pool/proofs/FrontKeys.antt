@@ -1,0 +1,168 @@
+-- Texts whose last characters differ compare as these do.
+use Rattle.std.proofs.Common.{◌≡◌, ℕ, zero, suc, ◌+◌, ◌-◌, ◌*◌, ◌<◌, ◌≤◌, List, [], ◌∷◌, get_or}
+use Rattle.std.proofs.Common.{true, false, refl, sym, ◌∙◌, ap, subst, arith, reverse}
+use Rattle.std.specs.List.{All}
+use Rattle.std.specs.List.Sorted.{IsSorted}
+use Rattle.std.specs.Cmp.{IsTotalOrder, IsStrictWeakOrder}
+use Rattle.std.proofs.lemmas.List.MinMax.{ranks_by}
+use Rattle.std.specs.Char.{IsScalar}
+use Rattle.std.specs.Str.{IsUtf8, all_scalars, chars}
+use Rattle.std.specs.Ordering.{nat_cmp, ordering_then, ordering_reverse, is_lt}
+use Rattle.std.specs.declared.cmp.Ordering.{Ordering}
+use Rattle.std.specs.declared.cmp.Ordering.TheVariants.{Less}
+use Rattle.std.proofs.lemmas.Bool.{and_parts}
+use Rattle.std.proofs.lemmas.Bool.Decides.{nat_tests}
+use Rattle.std.proofs.lemmas.Cmp.{ranked, by_ranked, then_total, on_total, nat_cmp_total}
+use Rattle.std.proofs.lemmas.Cmp.{tied_itself}
+use Rattle.std.proofs.lemmas.List.Elements.{All-nil, All-cons, All-tail}
+use Rattle.std.proofs.lemmas.List.Sorted.{All-permutation, IsPermutation-reverse}
+use Rattle.std.proofs.lemmas.Str.{scalars-chars}
+use Rattle.resb_pool.specs.Order.{end_last_cmp}
+use Rattle.resb_pool.specs.Inner.Cuts.{key}
+use Rattle.resb_pool.specs.Inner.Suffixes.{front_key, keyed_cmp, row_cmp, IsRowOf}
+use Rattle.resb_pool.specs.declared.suffix_order.Row.{Row}
+use Rattle.resb_pool.proofs.SuffixOrder.{end_last_total, then_less, then_equal}
+
+-- each digit is below the end's
+abbrev IsSmall : List ℕ → Type 0
+IsSmall cs = All (λ c. c < 0x1f_ffff) cs
+
+pub small_scalar : (c : ℕ) → IsScalar c → c < 0x1f_ffff
+small_scalar c s = grind (arith, nat_tests)
+
+small_chars : (cs : List ℕ) → all_scalars cs ≡ true → IsSmall cs
+small_chars [] e = All-nil (λ c. c < 0x1f_ffff)
+small_chars (c ∷ cs) e =
+    let b = and_parts _ _ e in
+    All-cons (λ c. c < 0x1f_ffff) c cs (small_scalar c b.0) (small_chars cs b.1)
+
+small_key : (t : List ℕ) → IsUtf8 t → IsSmall (key t)
+small_key t u = All-permutation (λ c. c < 0x1f_ffff) (chars t) (reverse (chars t))
+    (IsPermutation-reverse (chars t)) (small_chars (chars t) (scalars-chars t u))
+
+head_small : (x : ℕ) (xs : List ℕ) → IsSmall (x ∷ xs) → x < 0x1f_ffff
+head_small x xs h = h 0 x (omega arith)
+
+tail_small : (x : ℕ) (xs : List ℕ) → IsSmall (x ∷ xs) → IsSmall xs
+tail_small x xs h = All-tail (λ c. c < 0x1f_ffff) x xs h
+
+-- a smaller number in front stays smaller
+less_kept : (n a b : ℕ) (xs ys : List ℕ) → IsSmall xs → IsSmall ys → a < b
+    → front_key a n xs < front_key b n ys
+less_kept zero a b xs ys s t l = l
+less_kept (suc n) a b [] [] s t l =
+    less_kept n (a * 0x20_0000 + 0x1f_ffff) (b * 0x20_0000 + 0x1f_ffff) [] [] s t
+    (omega (arith, l))
+less_kept (suc n) a b [] (y ∷ ys) s t l =
+    less_kept n (a * 0x20_0000 + 0x1f_ffff) (b * 0x20_0000 + y) [] ys s (tail_small y ys t)
+    (omega (arith, l))
+less_kept (suc n) a b (x ∷ xs) [] s t l =
+    less_kept n (a * 0x20_0000 + x) (b * 0x20_0000 + 0x1f_ffff) xs [] (tail_small x xs s) t
+    (omega (arith, l, head_small x xs s))
+less_kept (suc n) a b (x ∷ xs) (y ∷ ys) s t l =
+    less_kept n (a * 0x20_0000 + x) (b * 0x20_0000 + y) xs ys (tail_small x xs s)
+    (tail_small y ys t) (omega (arith, l, head_small x xs s))
+
+-- what n digits stay below
+abbrev pub room : ℕ → ℕ
+room zero = 1
+room (suc n) = room n * 0x20_0000
+
+pub room_fits : (n : ℕ) → n < 6 → room n ≤ 0x200_0000_0000_0000_0000_0000_0000
+room_fits zero l = omega arith
+room_fits (suc zero) l = omega arith
+room_fits (suc (suc zero)) l = omega arith
+room_fits (suc (suc (suc zero))) l = omega arith
+room_fits (suc (suc (suc (suc zero)))) l = omega arith
+room_fits (suc (suc (suc (suc (suc zero))))) l = omega arith
+room_fits (suc (suc (suc (suc (suc (suc n)))))) l = absurd (omega (arith, l))
+
+pub room_more : (i a d : ℕ) → a < room i → d < 0x20_0000 → a * 0x20_0000 + d < room (i + 1)
+room_more i a d l m =
+    let n : i + 1 ≡ suc i = omega arith in
+    let e : room (i + 1) ≡ room i * 0x20_0000 = ap room n in
+    omega (arith, e, l, m)
+
+fewer : (i : ℕ) → i < 6 → 6 - i ≡ suc (6 - (i + 1))
+fewer i l = omega (arith, l)
+
+-- a digit more
+pub next_char : (a i : ℕ) (x z : List ℕ) (c whole : ℕ) → i < 6 → x ≡ c ∷ z
+    → front_key a (6 - i) x ≡ whole → front_key (a * 0x20_0000 + c) (6 - (i + 1)) z ≡ whole
+next_char a i x z c whole l e h =
+    ap (front_key a (suc (6 - (i + 1)))) (sym e) ∙ ap (λ n. front_key a n x) (sym (fewer i l)) ∙ h
+
+pub next_end : (a i : ℕ) (x : List ℕ) (whole : ℕ) → i < 6 → x ≡ [] → front_key a (6 - i) x ≡ whole
+    → front_key (a * 0x20_0000 + 0x1f_ffff) (6 - (i + 1)) x ≡ whole
+next_end a i x whole l e h =
+    ap (front_key (a * 0x20_0000 + 0x1f_ffff) (6 - (i + 1))) e
+    ∙ ap (front_key a (suc (6 - (i + 1)))) (sym e) ∙ ap (λ n. front_key a n x) (sym (fewer i l)) ∙ h
+
+three_ways : (P : Type 0) (x y : ℕ) → (nat_cmp x y ≡ Less → P) → (x ≡ y → P) → (y < x → P) → P
+three_ways P x y less same more = by_ranked (x < y) (x ≡ y) (y < x) (nat_cmp x y)
+    (ranked x y (nat_cmp x y) refl) (λ e h. less e) (λ e h. same h) (λ e h. more h)
+
+order_of : (n a : ℕ) (xs ys : List ℕ) → IsSmall xs → IsSmall ys
+    → front_key a n xs < front_key a n ys → end_last_cmp xs ys ≡ Less
+order_of zero a xs ys s t l = absurd (omega (arith, l))
+order_of (suc n) a [] [] s t l = order_of n (a * 0x20_0000 + 0x1f_ffff) [] [] s t l
+order_of (suc n) a [] (y ∷ ys) s t l =
+    absurd (omega (
+      arith,
+      l,
+      less_kept n (a * 0x20_0000 + y) (a * 0x20_0000 + 0x1f_ffff) ys []
+          (tail_small y ys t) s (omega (arith, head_small y ys t)),
+    ))
+order_of (suc n) a (x ∷ xs) [] s t l = refl
+order_of (suc n) a (x ∷ xs) (y ∷ ys) s t l =
+    three_ways (end_last_cmp (x ∷ xs) (y ∷ ys) ≡ Less) x y
+    (λ e. then_less (nat_cmp x y) (end_last_cmp xs ys) e)
+    (λ e. ap (λ z. ordering_then (nat_cmp x z) (end_last_cmp xs ys)) (sym e)
+    ∙ then_equal (nat_cmp x x) (end_last_cmp xs ys) (tied_itself nat_cmp_total x)
+    ∙ order_of n (a * 0x20_0000 + x) xs ys (tail_small x xs s) (tail_small y ys t)
+    (subst (λ z. front_key (a * 0x20_0000 + x) n xs < front_key (a * 0x20_0000 + z) n ys) (sym e)
+    l))
+    (λ m. absurd (omega (
+      arith,
+      l,
+      less_kept n (a * 0x20_0000 + y) (a * 0x20_0000 + x) ys xs
+          (tail_small y ys t) (tail_small x xs s) (omega (arith, m)),
+    )))
+
+keyed_total : IsTotalOrder keyed_cmp
+keyed_total = then_total (on_total (λ (r : Row). r.front) nat_cmp_total)
+    (on_total (λ (r : Row). key r.text.now) end_last_total)
+
+pub keyed_order : IsStrictWeakOrder (λ (x y : Row). is_lt (keyed_cmp x y))
+keyed_order = ranks_by keyed_total (λ (r : Row). r)
+
+-- the row has its text's last characters
+pub record IsKeyed (r : Row) : Type 0 where
+  pub utf8 : IsUtf8 r.text.now
+  pub front_is : r.front ≡ front_key 0 6 (key r.text.now)
+
+pub row_keyed : (T : List (List ℕ)) (r : Row) → All IsUtf8 T → IsRowOf T r → IsKeyed r
+row_keyed T r u h = record {
+  utf8 = subst IsUtf8 (sym h.text_is) (u r.index [] h.within);
+  front_is = h.front_is;
+}
+
+before_too : (x y : Row) → IsKeyed x → IsKeyed y → is_lt (keyed_cmp x y) ≡ false
+    → is_lt (row_cmp x y) ≡ false
+before_too x y h k e = three_ways (is_lt (row_cmp x y) ≡ false) x.front y.front
+    (λ f. absurd (less_not (nat_cmp x.front y.front) (row_cmp x y) f e))
+    (λ f. sym (ap is_lt (ap (λ z. ordering_then (nat_cmp x.front z) (row_cmp x y)) (sym f)
+    ∙ then_equal (nat_cmp x.front x.front) (row_cmp x y) (tied_itself nat_cmp_total x.front))) ∙ e)
+    (λ m. ap is_lt (end_last_total.antisymm (key x.text.now) (key y.text.now)
+    ∙ ap ordering_reverse (order_of 6 0 (key y.text.now) (key x.text.now)
+    (small_key y.text.now k.utf8) (small_key x.text.now h.utf8)
+    (omega (arith, m, h.front_is, k.front_is)))))
+  where
+    less_not : (o p : Ordering) → o ≡ Less → is_lt (ordering_then o p) ≡ false → ⊥
+    less_not o p f g = cc (ap is_lt (then_less o p f), g)
+
+pub in_suffix_order : (rows : List Row) → All IsKeyed rows → IsSorted keyed_cmp rows
+    → IsSorted row_cmp rows
+in_suffix_order rows keyed up k d l m =
+    before_too (get_or rows (k + 1) d) (get_or rows k d) (keyed (k + 1) d m)
+    (keyed k d (omega (arith, m))) (up k d l m)

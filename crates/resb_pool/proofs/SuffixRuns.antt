@@ -1,0 +1,300 @@
+-- Distinct texts in suffix order: what ends with a text stands in one run right before it.
+use Rattle.std.proofs.Common.{◌≡◌, ℕ, ◌+◌, ◌-◌, ◌<◌, ◌≤◌, List, [], ◌++◌, length, get_or, Bool}
+use Rattle.std.proofs.Common.{true, false, inl, inr, refl, sym, ◌∙◌, ap, subst, arith, append_assoc}
+use Rattle.std.proofs.Common.{true≢false, length-append}
+use Rattle.std.proofs.lemmas.Bool.{cases_lt}
+use Rattle.std.specs.List.{All, Contains}
+use Rattle.std.specs.Str.{IsUtf8}
+use Rattle.std.specs.Ordering.{is_lt, ordering_reverse}
+use Rattle.std.specs.declared.cmp.Ordering.{Ordering}
+use Rattle.std.specs.declared.cmp.Ordering.TheVariants.{Less, Equal, Greater}
+use Rattle.std.proofs.lemmas.List.{get_or-map, length-map}
+use Rattle.std.proofs.lemmas.List.Elements.{All-contains}
+use Rattle.std.proofs.lemmas.List.MinMax.{ranks_by}
+use Rattle.std.proofs.lemmas.List.Sorted.{Contains-permutation, length_permutation, sorted_far}
+use Rattle.resb_format.specs.Units.{is_unmarked}
+use Rattle.resb_pool.specs.Order.{end_last_cmp}
+use Rattle.resb_pool.specs.Records.{EachOnce, EndsWith, IsRecord}
+use Rattle.resb_pool.specs.Container.{IsContainer}
+use Rattle.resb_pool.specs.Inner.Cuts.{key}
+use Rattle.resb_pool.specs.Inner.Extends.{Extends, Before, NotAfter}
+use Rattle.resb_pool.specs.Inner.Placing.{text, LiesAt}
+use Rattle.resb_pool.specs.Inner.Suffixes.{AreInOrder, IsSharedEnd, row_texts, row_cmp}
+use Rattle.resb_pool.specs.declared.suffix_order.Row.{Row}
+use Rattle.resb_pool.proofs.Cut.{key_same, ends_extends, extends_ends}
+use Rattle.resb_pool.proofs.Distinct.{has_text, index_of, one_index}
+use Rattle.resb_pool.proofs.InOrder.{distinct_permutation}
+use Rattle.resb_pool.proofs.SuffixOrder.{end_last_total, tied_same, extends_not_after, between}
+use Rattle.resb_pool.proofs.TextLists.{TextList}
+
+-- how the order of two texts turns round
+turned : (t s : List ℕ) (o : Ordering) → end_last_cmp t s ≡ o
+    → end_last_cmp s t ≡ ordering_reverse o
+turned t s o e = end_last_total.antisymm s t ∙ ap ordering_reverse e
+
+-- what is not less comes not before
+not_less : (t s : List ℕ) → is_lt (end_last_cmp t s) ≡ false → NotAfter s t
+not_less t s h g = true≢false (sym (ap is_lt (turned s t Greater g)) ∙ h)
+
+-- two texts: one stands before the other, or they are the same
+two_texts : (P : Type 0) (t s : List ℕ) → IsUtf8 t → IsUtf8 s → (Before (key t) (key s) → P)
+    → (t ≡ s → P) → (Before (key s) (key t) → P) → P
+two_texts P t s u v less same more = by (end_last_cmp (key t) (key s)) refl
+  where
+    by : (o : Ordering) → end_last_cmp (key t) (key s) ≡ o → P
+    by Less e = less e
+    by Equal e = same (key_same t s u v (tied_same (key t) (key s) e))
+    by Greater e = more (turned (key t) (key s) Greater e)
+
+ends_trans : (t s r : List ℕ) → EndsWith t s → EndsWith s r → EndsWith t r
+ends_trans t s r h k = record {
+  front = h.front ++ k.front;
+  is = h.is ∙ ap (λ l. h.front ++ l) k.is
+      ∙ sym (append_assoc h.front k.front r);
+}
+
+module _ (T : TextList) (utf8 : All IsUtf8 T) (once : EachOnce T) (rows : List Row)
+    (o : AreInOrder T rows) where
+  abbrev at : ℕ → Row → List ℕ
+  at j d = (get_or rows j d).text.now
+
+  pub same_len : length rows ≡ length T
+  same_len = sym (length-map rows (λ (r : Row). r.text.now)) ∙ length_permutation T (row_texts rows)
+      o.all
+
+  pub row_text : (j : ℕ) (d : Row) → j < length rows → text (row_texts rows) j ≡ at j d
+  row_text j d l = get_or-map (λ (r : Row). r.text.now) rows j d _ l
+
+  in_texts : (j : ℕ) (d : Row) → j < length rows → Contains T (at j d)
+  in_texts j d l =
+      let r = o.each j d l in
+      subst (Contains T) (sym r.text_is) (has_text T (get_or rows j d).index r.within)
+
+  is_utf8 : (j : ℕ) (d : Row) → j < length rows → IsUtf8 (at j d)
+  is_utf8 j d l = All-contains IsUtf8 T (at j d) utf8 (in_texts j d l)
+
+  -- each text has a row
+  place_of : (t : List ℕ) (d : Row) → Contains T t → (j : ℕ) × (j < length rows) × (at j d ≡ t)
+  place_of t d h =
+      let p = index_of (row_texts rows) t (Contains-permutation T (row_texts rows) t o.all h) in
+      let l : p.0 < length rows = omega (arith, p.1, length-map rows (λ (r : Row). r.text.now)) in
+      (p.0, l, sym (row_text p.0 d l) ∙ p.2)
+
+  -- and one alone
+  one_place : (j k : ℕ) (d : Row) → j < length rows → k < length rows → at j d ≡ at k d → j ≡ k
+  one_place j k d l m e =
+      let n = length-map rows (λ (r : Row). r.text.now) in
+      one_index (row_texts rows) j k (distinct_permutation T (row_texts rows) o.all once)
+      (omega (arith, l, n)) (omega (arith, m, n)) (row_text j d l ∙ e ∙ sym (row_text k d m))
+
+  pub one_row : (j k : ℕ) (d : Row) → j < length rows → k < length rows
+      → (get_or rows j d).index ≡ (get_or rows k d).index → j ≡ k
+  one_row j k d l m e = one_place j k d l m ((o.each j d l).text_is ∙ ap (text T) e
+      ∙ sym (o.each k d m).text_is)
+
+  pub row_of : (i : ℕ) (d : Row) → i < length T → (j : ℕ) × (j < length rows)
+      × ((get_or rows j d).index ≡ i)
+  row_of i d l =
+      let p = place_of (text T i) d (has_text T i l) in
+      let r = o.each p.0 d p.1 in
+      (p.0, p.1, one_index T (get_or rows p.0 d).index i once r.within l (sym r.text_is ∙ p.2))
+
+  -- rows stand in suffix order
+  in_order : (i j : ℕ) (d : Row) → i ≤ j → j < length rows → NotAfter (key (at i d)) (key (at j d))
+  in_order i j d l m = not_less (key (at j d)) (key (at i d)) (sorted_far (λ (x y : Row). is_lt
+      (row_cmp x y)) (ranks_by end_last_total (λ (r : Row). key r.text.now)) rows o.ascend i j d
+      l m)
+
+  -- what stands before the text of row j stands in a row before it
+  row_before : (t : List ℕ) (j : ℕ) (d : Row) → j < length rows → Contains T t
+      → Before (key t) (key (at j d)) → (i : ℕ) × (i < j) × (at i d ≡ t)
+  row_before t j d l h b =
+      let p = place_of t d h in
+      elim (cases_lt p.0 j) [
+        | inl m ↦ (p.0, m, p.2)
+        | inr m ↦
+            let n : NotAfter (key (at j d)) (key t) =
+            subst (λ z. NotAfter (key (at j d)) (key z)) p.2 (in_order j p.0 d m p.1) in
+            absurd (n (turned (key t) (key (at j d)) Less b))
+      ]
+
+  -- nor after the row right before it
+  not_after : (t : List ℕ) (k : ℕ) (d : Row) → k + 1 < length rows → Contains T t
+      → Before (key t) (key (at (k + 1) d)) → NotAfter (key t) (key (at k d))
+  not_after t k d l h b =
+      let p = row_before t (k + 1) d l h b in
+      subst (λ z. NotAfter (key z) (key (at k d))) p.2 (in_order p.0 k d (omega (arith, p.1))
+      (omega (arith, l)))
+
+  -- a row stands before the next
+  right_before : (k : ℕ) (d : Row) → k + 1 < length rows
+      → Before (key (at k d)) (key (at (k + 1) d))
+  right_before k d l =
+      let m : k < length rows = omega (arith, l) in
+      two_texts (Before (key (at k d)) (key (at (k + 1) d))) (at k d) (at (k + 1) d)
+      (is_utf8 k d m) (is_utf8 (k + 1) d l) (λ b. b)
+      (λ e. absurd (omega (arith, one_place k (k + 1) d m l e)))
+      (λ b. absurd (in_order k (k + 1) d (omega arith) l
+      (turned (key (at (k + 1) d)) (key (at k d)) Less b)))
+
+  -- where the text right before it doesn't end with a text, no other one does
+  none_ends : (j : ℕ) (d : Row) → j < length rows
+      → ((k : ℕ) → j ≡ k + 1 → EndsWith (at k d) (at j d) → ⊥)
+      → (t : List ℕ) → Contains T t → EndsWith t (at j d) → t ≡ at j d
+  none_ends j d l none t h e =
+      let s = at j d in
+      let u = All-contains IsUtf8 T t utf8 h in
+      let v = is_utf8 j d l in
+      let x = ends_extends t s u v e in
+      two_texts (t ≡ s) t s u v (λ b. absurd (by_row (row_before t j d l h b) x b)) (λ q. q)
+      (λ b. absurd (extends_not_after (key t) (key s) x (turned (key s) (key t) Less b)))
+    where
+      by_row : {t : List ℕ} → (i : ℕ) × (i < j) × (at i d ≡ t) → Extends (key t) (key (at j d))
+          → Before (key t) (key (at j d)) → ⊥
+      by_row {t} (i, m, q) x b = previous (j - 1) (omega (arith, m))
+        where
+          previous : (k : ℕ) → j ≡ k + 1 → ⊥
+          previous k f =
+              let n : k + 1 < length rows = omega (arith, f, l) in
+              let lk : k < length rows = omega (arith, n) in
+              let h : Contains T t = subst (Contains T) q (in_texts i d (omega (arith, m, l))) in
+              let g : Before (key t) (key (at (k + 1) d)) =
+              subst (λ z. Before (key t) (key (at z d))) f b in
+              let y : Extends (key (at k d)) (key (at j d)) =
+              between (key t) (key (at k d)) (key (at j d)) (not_after t k d n h g)
+              (subst (λ z. Before (key (at k d)) (key (at z d))) (sym f) (right_before k d n)) x in
+              none k f (extends_ends (at k d) (at j d) (is_utf8 k d lk) (is_utf8 j d l) y)
+
+  -- a text that doesn't lie with the one right before it lies in itself
+  pub lies_alone : (j : ℕ) (d : Row) → j < length rows
+      → ((k : ℕ) → j ≡ k + 1 → IsSharedEnd (at k d) (at j d) → ⊥)
+      → LiesAt T (get_or rows j d).index (get_or rows j d).index
+  lies_alone j d l none =
+      let r = o.each j d l in
+      record {
+        within = r.within;
+        container = λ p. subst (λ z. IsContainer T z z) r.text_is
+            (own_container (own_record (subst (λ z. 0 < length z) (sym r.text_is) p)));
+        itself = λ h. refl;
+        empty = λ z. refl;
+      }
+    where
+      own_record : 0 < length (at j d) → IsRecord T (at j d)
+      own_record p = by (is_unmarked (at j d)) refl
+        where
+          by : (b : Bool) → is_unmarked (at j d) ≡ b → IsRecord T (at j d)
+          by false e = record { given = in_texts j d l; nonempty = p; alone = inl e }
+          by true e = record {
+            given = in_texts j d l;
+            nonempty = p;
+            alone = inr (none_ends j d l (λ k f x. none k f (record {
+              nonempty = p;
+              ends = x;
+              unmarked = e;
+            })));
+          }
+
+      own_container : IsRecord T (at j d) → IsContainer T (at j d) (at j d)
+      own_container w = record {
+        own = w;
+        ends = record { front = []; is = refl };
+        greatest = λ q x y. extends_not_after (key q) (key (at j d))
+            (ends_extends q (at j d) (All-contains IsUtf8 T q utf8 x.given) (is_utf8 j d l) y);
+      }
+
+  module _ (k : ℕ) (d : Row) (l : k + 1 < length rows)
+      (shared : IsSharedEnd (at k d) (at (k + 1) d)) where
+    abbrev p : List ℕ
+    p = at k d
+
+    abbrev s : List ℕ
+    s = at (k + 1) d
+
+    abbrev m : k < length rows
+    m = omega (arith, l)
+
+    no_record : IsRecord T s → ⊥
+    no_record h = elim h.alone [
+      | inl e ↦ true≢false (sym shared.unmarked ∙ e)
+      | inr only ↦ (let e = only p (in_texts k d m) shared.ends in
+          omega (arith, one_place k (k + 1) d m l e))
+    ]
+
+    -- a record that ends with s and stands after that of p ends with p
+    with_previous : (q h : List ℕ) → IsRecord T q → EndsWith q s → IsContainer T p h
+        → end_last_cmp (key q) (key h) ≡ Greater → ⊥
+    with_previous q h x y c g =
+        let u = All-contains IsUtf8 T q utf8 x.given in
+        let v = All-contains IsUtf8 T h utf8 c.own.given in
+        let w = is_utf8 k d m in
+        let a : NotAfter (key h) (key q) = (λ z. cc (turned (key q) (key h) Greater g, z)) in
+        let e = ends_extends h p v w c.ends in
+        two_texts ⊥ q s u (is_utf8 (k + 1) d l)
+        (λ b. two_texts ⊥ q p u w
+        (λ f. c.greatest q x (extends_ends q p u w
+        (between (key h) (key q) (key p) a f e)) g)
+        (λ f. c.greatest q x (record { front = []; is = f }) g)
+        (λ f. not_after q k d l x.given b (turned (key p) (key q) Less f)))
+        (λ f. no_record (subst (IsRecord T) f x))
+        (λ b. extends_not_after (key q) (key s) (ends_extends q s u (is_utf8 (k + 1) d l) y)
+        (turned (key s) (key q) Less b))
+
+    -- a text lies where the one right before it lies, which it ends
+    pub lies_shared : (h : ℕ) → LiesAt T (get_or rows k d).index h
+        → LiesAt T (get_or rows (k + 1) d).index h
+    lies_shared h lies =
+        let a = o.each k d m in
+        let b = o.each (k + 1) d l in
+        let pos : 0 < length p =
+        omega (
+          arith,
+          shared.nonempty,
+          ap length shared.ends.is,
+          length-append shared.ends.front s,
+        ) in
+        let c : IsContainer T p (text T h) = subst (λ z. IsContainer T z (text T h)) (sym a.text_is)
+        (lies.container (subst (λ z. 0 < length z) a.text_is pos)) in
+        record {
+          within = lies.within;
+          container = λ z. subst (λ z. IsContainer T z (text T h)) b.text_is (record {
+            own = c.own;
+            ends = ends_trans (text T h) p s c.ends shared.ends;
+            greatest = λ q x y. with_previous q (text T h) x y c;
+          });
+          itself = λ x. absurd (no_record (subst (IsRecord T) (sym b.text_is) x));
+          empty = λ z. absurd (omega (arith, z, ap length b.text_is, shared.nonempty));
+        }
+
+  -- p is the text right before row i, which lies in h
+  pub record IsPrevious (i : ℕ) (d : Row) (p : List ℕ) (h : ℕ) : Type 0 where
+    pub first : i ≡ 0 → p ≡ []
+    pub last : (k : ℕ) → i ≡ k + 1 → (p ≡ at k d) × LiesAt T (get_or rows k d).index h
+
+  module _ (i : ℕ) (d : Row) (l : i < length rows) (p : List ℕ) (h : ℕ)
+      (before : IsPrevious i d p h) where
+    pub step_alone : (IsSharedEnd p (at i d) → ⊥)
+        → LiesAt T (get_or rows i d).index (get_or rows i d).index
+    step_alone none = lies_alone i d l (λ k e x. none (subst (λ z. IsSharedEnd z (at i d))
+        (sym (before.last k e).0) x))
+
+    pub step_shared : IsSharedEnd p (at i d) → LiesAt T (get_or rows i d).index h
+    step_shared x = elim (cases_lt 0 i) [
+      | inl m ↦
+          let k = i - 1 in
+          let e : i ≡ k + 1 = omega (arith, m) in
+          let b = before.last k e in
+          let y : IsSharedEnd (at k d) (at (k + 1) d) =
+          subst (λ z. IsSharedEnd (at k d) (at z d)) e
+          (subst (λ z. IsSharedEnd z (at i d)) b.0 x) in
+          subst (λ z. LiesAt T (get_or rows z d).index h) (sym e)
+          (lies_shared k d (omega (arith, e, l)) y h b.1)
+      | inr m ↦
+          let e : p ≡ [] = before.first (omega (arith, m)) in
+          absurd (omega (
+            arith,
+            ap length x.ends.is,
+            ap length e,
+            x.nonempty,
+            length-append x.ends.front (at i d),
+          ))
+    ]

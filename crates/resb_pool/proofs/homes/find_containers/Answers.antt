@@ -1,0 +1,95 @@
+use Rattle.std.proofs.Common.{rules, ◌≡◌, ◌<◌, length, get_or, ap, subst}
+use Rattle.std.proofs.Common.{sym, ◌∙◌, arith, inl, inr, refl, get_or-set_other, get_or-set_same}
+use Rattle.std.proofs.lemmas.Bool.{MatchBool-at_true, MatchBool-at_false}
+use Rattle.std.specs.Prelude.{slice_set}
+use Rattle.std.proofs.lemmas.List.{length-set, get_or_default}
+use Rattle.resb_pool.specs.Plan.{nows}
+use Rattle.resb_pool.specs.Inner.Placing.{LiesAt}
+use Rattle.resb_pool.specs.Inner.Suffixes.{AreInOrder, IsSharedEnd}
+use Rattle.resb_pool.specs.declared.suffix_order.Row.{Row}
+use Rattle.resb_pool.proofs.Distinct.{old_or_new}
+use Rattle.resb_pool.proofs.TextLoops.{blank}
+use Rattle.resb_pool.proofs.Interning.{length-nows}
+use Rattle.resb_pool.proofs.SuffixRuns.{IsPrevious, step_alone, step_shared, one_row, row_of}
+use Rattle.resb_pool.proofs.homes.find_containers.Goals.{then-not-lies_with, else-not-lies_with}
+use Rattle.resb_pool.proofs.homes.find_containers.Goals as goal
+
+abbrev no_row : Row
+no_row = record { front = 0; text = blank; index = 0 }
+
+pub loop-row-init : goal.loop-row-init
+loop-row-init c = record {
+  len = search rules;
+  text = search rules;
+  first = λ e. refl;
+  last = λ k d e. absurd (omega (arith, e));
+  lies = λ j d l. absurd (omega (arith, l));
+}
+
+pub loop-row-preserved : goal.loop-row-preserved
+loop-row-preserved c =
+    let T = nows c.args.texts.now in
+    let rows = c.deref-row-items.result.now in
+    let i = c.loop-row.row-index in
+    let v = c.loop-row.invariant in
+    let l : i < length rows = c.loop-row-test.true in
+    let o : AreInOrder T rows = subst (AreInOrder T) (sym c.deref-row-items.ensures.value)
+    c.in_ok-rows.ensures in
+    let u = c.requires.utf8 in
+    let once = c.requires.distinct in
+    let r = get_or rows i no_row in
+    let h = c.loop-row.container in
+    let p = c.loop-row.previous.now in
+    let before : IsPrevious T u once rows o i no_row p h = record {
+      first = v.first;
+      last = λ k e. v.last k no_row e;
+    } in
+    let S : Type 0 = IsSharedEnd p r.text.now in
+    let lies : LiesAt T r.index c.if-not-lies_with.container =
+    elim c.if-not-lies_with.branch [
+      | then-not-lies_with w ↦ subst (LiesAt T r.index) (sym w.container-is)
+          (step_alone T u once rows o i no_row l p h before
+          (MatchBool-at_false S (S → ⊥) w.if-not-lies_with.true c.lies_with.ensures))
+      | else-not-lies_with w ↦ subst (LiesAt T r.index) (sym w.container-is)
+          (step_shared T u once rows o i no_row l p h before
+          (MatchBool-at_true S (S → ⊥) w.if-not-lies_with.false c.lies_with.ensures))
+    ] in
+    let es = c.loop-row.containers.items in
+    let new = c.if-not-lies_with.container in
+    let is_row : (d : Row) → r ≡ get_or rows i d = (λ d. get_or_default rows i no_row d l) in
+    let within : r.index < length es =
+    omega (arith, (o.each i no_row l).within, length-nows c.args.texts.now, v.len) in
+    record {
+      len = length-set es r.index new ∙ v.len;
+      text = search rules;
+      first = λ e. absurd (omega (arith, e));
+      last = λ k d e.
+          let q = is_row d ∙ ap (λ z. get_or rows z d) (omega (arith, e)) in
+          (ap (λ (z : Row). z.text.now) q, subst (λ (z : Row). LiesAt T z.index new) q lies);
+      lies = λ j d m. elim (old_or_new i j m) [
+        | inl b ↦
+            let k = (get_or rows j d).index in
+            let ne : k ≡ r.index → ⊥ = (λ e.
+            let f = one_row T u once rows o j i d (omega (arith, b, l)) l
+            (e ∙ ap (λ (z : Row). z.index) (is_row d)) in
+            omega (arith, b, f)) in
+            subst (LiesAt T k) (sym (get_or-set_other es r.index k new 0 ne)) (v.lies j d b)
+        | inr e ↦
+            let q = is_row d ∙ ap (λ z. get_or rows z d) (sym e) in
+            subst (λ (z : Row). LiesAt T z.index (get_or (slice_set es r.index new) z.index 0)) q
+            (subst (LiesAt T r.index) (sym (get_or-set_same es r.index new 0 within)) lies)
+      ];
+    }
+
+pub returns-clause-lies : goal.returns-clause-lies
+returns-clause-lies c =
+    let T = nows c.args.texts.now in
+    let rows = c.deref-row-items.result.now in
+    let o : AreInOrder T rows = subst (AreInOrder T) (sym c.deref-row-items.ensures.value)
+    c.in_ok-rows.ensures in
+    let es = c.loop-row.containers.items in
+    λ i l.
+    let r = row_of T c.requires.utf8 c.requires.distinct rows o i no_row
+    (omega (arith, l, length-nows c.args.texts.now)) in
+    subst (λ z. LiesAt T z (get_or es z 0)) r.2
+    (c.loop-row.invariant.lies r.0 no_row (omega (arith, r.1, c.loop-row-test.false)))

@@ -1,0 +1,4 @@
+-- Each text of ICU's form is one bundle.
+mod Lexical
+mod Groups
+mod Examples

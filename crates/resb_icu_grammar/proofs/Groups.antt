@@ -27,38 +27,38 @@ use Rattle.resb_icu_grammar.proofs.Lexical.{starts_string, key_string, Number-on
 use Rattle.resb_icu_grammar.proofs.Lexical.{GroupType-one, RootType-one, root_type_first, Name-one}
 
 -- a `}` stands there
-abbrev Closes : List ℕ → ℕ → Type 0
+abbrev pub Closes : List ℕ → ℕ → Type 0
 Closes text at = slice_index text at ≡ ascii.right_brace
 
 -- no string begins with this byte
-no_string : (text : List ℕ) (at to b : ℕ) (s : List ℕ) → String text at to s
+pub no_string : (text : List ℕ) (at to b : ℕ) (s : List ℕ) → String text at to s
     → slice_index text at ≡ b → starts_string b ≡ false → ⊥
 no_string text at to b s h e f =
     false≢true (sym f ∙ ap starts_string (sym e) ∙ string_first text at to s h)
 
 -- a group begins with a brace or a colon
-group_first : (text : List ℕ) (from to : ℕ) (t : Tree) (ks : List (List ℕ))
+pub group_first : (text : List ℕ) (from to : ℕ) (t : Tree) (ks : List (List ℕ))
     → Group text from to t ks
     → (slice_index text from ≡ ascii.left_brace) ⊎ (slice_index text from ≡ ascii.colon)
 group_first text from to t ks (untyped _ i k _ _ h s u c) = inl h
 group_first text from to t ks (typed _ i k kind _ _ h u c) = inr h.named.stands.colon
 
 -- no group begins with this byte
-no_group : (text : List ℕ) (from to b : ℕ) (t : Tree) (ks : List (List ℕ)) → Group text from to t ks
+pub no_group : (text : List ℕ) (from to b : ℕ) (t : Tree) (ks : List (List ℕ)) → Group text from to t ks
     → slice_index text from ≡ b → b ≢ ascii.left_brace → b ≢ ascii.colon → ⊥
 no_group text from to b t ks g e p q =
     ⊎_elim (λ (h : slice_index text from ≡ ascii.left_brace). p (sym e ∙ h))
     (λ (h : slice_index text from ≡ ascii.colon). q (sym e ∙ h)) (group_first text from to t ks g)
 
 -- where a group begins no string does
-no_both : (text : List ℕ) (from i to : ℕ) (s : List ℕ) (t : Tree) (ks : List (List ℕ))
+pub no_both : (text : List ℕ) (from i to : ℕ) (s : List ℕ) (t : Tree) (ks : List (List ℕ))
     → String text from i s → Group text from to t ks → ⊥
 no_both text from i to s t ks h g =
     ⊎_elim (λ (e : slice_index text from ≡ ascii.left_brace). no_string text from i _ s h e refl)
     (λ (e : slice_index text from ≡ ascii.colon). no_string text from i _ s h e refl)
     (group_first text from to t ks g)
 
-Head-one : (text : List ℕ) (from a b : ℕ) (k l : Kind) → Head text from k a → Head text from l b
+pub Head-one : (text : List ℕ) (from a b : ℕ) (k l : Kind) → Head text from k a → Head text from l b
     → (k ≡ l) × (a ≡ b)
 Head-one text from a b k l p q =
     let named = GroupType-one text from p.ends q.ends k l p.named q.named in
@@ -77,12 +77,12 @@ number_skipped text from i j a b v w p k q l =
     (Skip-one text i a b k (subst (λ n. Skip text n b) (sym both.0) l), both.1)
 
 -- behind a comma
-comma_skipped : (text : List ℕ) (i j a b : ℕ) → i ≡ j → Skip text (i + 1) a → Skip text (j + 1) b
+pub comma_skipped : (text : List ℕ) (i j a b : ℕ) → i ≡ j → Skip text (i + 1) a → Skip text (j + 1) b
     → a ≡ b
 comma_skipped text i j a b e k l =
     Skip-one text (i + 1) a b k (subst (λ n. Skip text (n + 1) b) (sym e) l)
 
-no_comma_closes : (text : List ℕ) (i j : ℕ) → slice_index text i ≡ ascii.comma → i ≡ j
+pub no_comma_closes : (text : List ℕ) (i j : ℕ) → slice_index text i ≡ ascii.comma → i ≡ j
     → Closes text j → ⊥
 no_comma_closes text i j h e c =
     let g : slice_index text i ≡ ascii.right_brace =
@@ -133,13 +133,13 @@ Numbers-one text from a b ns ms (one_more _ i m o _ v us p k h x r)
     (more.0, (λ u. both.1 u ∷ more.1 u))
 
 -- a string, and the blanks behind it
-string_skipped : (text : List ℕ) (from i j a b : ℕ) (s t : List ℕ) → String text from i s
+pub string_skipped : (text : List ℕ) (from i j a b : ℕ) (s t : List ℕ) → String text from i s
     → Skip text i a → String text from j t → Skip text j b → (a ≡ b) × (s ≡ t)
 string_skipped text from i j a b s t p k q l =
     let both = String-one text from i j s t p q in
     (Skip-one text i a b k (subst (λ n. Skip text n b) (sym both.0) l), both.1)
 
-LeafContent-one : (text : List ℕ) (from a b : ℕ) (kind : Kind) (t u : Tree)
+pub LeafContent-one : (text : List ℕ) (from a b : ℕ) (kind : Kind) (t u : Tree)
     → LeafContent text from a kind t → LeafContent text from b kind u → Closes text a
     → Closes text b → (a ≡ b) × (t ≡ u)
 LeafContent-one text from a b _ t u (string_content i s p k) (string_content j r q l) c d =
@@ -161,19 +161,19 @@ LeafContent-one text from a b _ t u (numbers ns p) (no_numbers e) c d =
 LeafContent-one text from a b _ t u (numbers ns p) (numbers ms q) c d =
     let both = Numbers-one text from a b ns ms p q c d in (both.0, ap int_vector both.1)
 
-no_brace_colon : (text : List ℕ) (from : ℕ) → slice_index text from ≡ ascii.left_brace
+pub no_brace_colon : (text : List ℕ) (from : ℕ) → slice_index text from ≡ ascii.left_brace
     → slice_index text from ≡ ascii.colon → ⊥
 no_brace_colon text from h g = omega arith
 
 -- what begins an array doesn't close a group
-no_array : (text : List ℕ) (at : ℕ) → BeginsArray text at → Closes text at → ⊥
+pub no_array : (text : List ℕ) (at : ℕ) → BeginsArray text at → Closes text at → ⊥
 no_array text at (with_a_group h) c =
     ⊎_elim (λ (e : slice_index text at ≡ ascii.left_brace). omega arith)
     (λ (e : slice_index text at ≡ ascii.colon). omega arith) h
 no_array text at (with_a_string i k s p l e) c = no_string text at i _ s p c refl
 
 -- where one string is closed no array begins
-no_string_array : (text : List ℕ) (from i a : ℕ) (s : List ℕ) → String text from i s
+pub no_string_array : (text : List ℕ) (from i a : ℕ) (s : List ℕ) → String text from i s
     → Skip text i a → Closes text a → BeginsArray text from → ⊥
 no_string_array text from i a s p k c (with_a_group h) =
     ⊎_elim (λ (e : slice_index text from ≡ ascii.left_brace). no_string text from i _ s p e refl)
@@ -182,7 +182,7 @@ no_string_array text from i a s p k c (with_a_string j m q x l e) =
     no_comma_closes text m a e (string_skipped text from j i m a q s x l p k).0 c
 
 -- where one string is closed no entry begins
-no_string_table : (text : List ℕ) (from i i' a j m : ℕ) (s q : List ℕ) (v : Tree)
+pub no_string_table : (text : List ℕ) (from i i' a j m : ℕ) (s q : List ℕ) (v : Tree)
     (zs : List (List ℕ)) → String text from i s → Skip text i a → KeyText text from i' q
     → Skip text i' j → Group text j m v zs → Closes text a → ⊥
 no_string_table text from i i' a j m s q v zs p k x l g c =
@@ -191,7 +191,7 @@ no_string_table text from i i' a j m s q v zs p k x l g c =
     (λ f. omega arith)
 
 -- where an array begins no entry does
-no_array_table : (text : List ℕ) (from i j m : ℕ) (q : List ℕ) (v : Tree) (zs : List (List ℕ))
+pub no_array_table : (text : List ℕ) (from i j m : ℕ) (q : List ℕ) (v : Tree) (zs : List (List ℕ))
     → KeyText text from i q → Skip text i j → Group text j m v zs → BeginsArray text from → ⊥
 no_array_table text from i j m q v zs x l g (with_a_group h) =
     ⊎_elim (λ (e : slice_index text from ≡ ascii.left_brace).
@@ -280,7 +280,7 @@ mutual
       (subst (λ u. Entries text u b fs' js') (sym e) r') c d in
       (more.0, (λ u. (key.1 u, value.1 u) ∷ more.1 u), (λ u. key.1 u ∷ value.2 u ++ more.2 u))
 
-  Untyped-one : (text : List ℕ) (from a b : ℕ) (t u : Tree) (ks js : List (List ℕ))
+  pub Untyped-one : (text : List ℕ) (from a b : ℕ) (t u : Tree) (ks js : List (List ℕ))
       → Untyped text from a t ks → Untyped text from b u js → Closes text a → Closes text b
       → (a ≡ b) × (t ≡ u) × (ks ≡ js)
   Untyped-one text from a b t u ks js (an_empty_array _) (an_empty_array _) c d = (refl, refl, refl)

@@ -1,4 +1,5 @@
 -- Each text of ICU's form is one bundle.
-mod Lexical
-mod Groups
+pub mod Lexical
+pub mod Groups
+pub mod Rest
 mod Examples

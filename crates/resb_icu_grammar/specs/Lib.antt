@@ -7,3 +7,4 @@ pub mod Words
 pub mod Groups
 pub mod Bundle
 pub mod Laws
+pub mod Inner

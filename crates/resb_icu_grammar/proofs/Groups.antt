@@ -44,7 +44,8 @@ group_first text from to t ks (untyped _ i k _ _ h s u c) = inl h
 group_first text from to t ks (typed _ i k kind _ _ h u c) = inr h.named.stands.colon
 
 -- no group begins with this byte
-pub no_group : (text : List ℕ) (from to b : ℕ) (t : Tree) (ks : List (List ℕ)) → Group text from to t ks
+pub no_group : (text : List ℕ) (from to b : ℕ) (t : Tree) (ks : List (List ℕ))
+    → Group text from to t ks
     → slice_index text from ≡ b → b ≢ ascii.left_brace → b ≢ ascii.colon → ⊥
 no_group text from to b t ks g e p q =
     ⊎_elim (λ (h : slice_index text from ≡ ascii.left_brace). p (sym e ∙ h))
@@ -77,7 +78,8 @@ number_skipped text from i j a b v w p k q l =
     (Skip-one text i a b k (subst (λ n. Skip text n b) (sym both.0) l), both.1)
 
 -- behind a comma
-pub comma_skipped : (text : List ℕ) (i j a b : ℕ) → i ≡ j → Skip text (i + 1) a → Skip text (j + 1) b
+pub comma_skipped : (text : List ℕ) (i j a b : ℕ) → i ≡ j → Skip text (i + 1) a
+    → Skip text (j + 1) b
     → a ≡ b
 comma_skipped text i j a b e k l =
     Skip-one text (i + 1) a b k (subst (λ n. Skip text (n + 1) b) (sym e) l)
@@ -372,7 +374,7 @@ Typing-one text from a b f g (with i _ p s) (with j _ q l) h k =
     let both = RootType-one text from i j f g p q in
     (Skip-one text i a b s (subst (λ n. Skip text n b) (sym both.0) l), both.1)
 
-Header-one : (text name other : List ℕ) (f g : Bool) (a b : ℕ) → Header text name f a
+pub Header-one : (text name other : List ℕ) (f g : Bool) (a b : ℕ) → Header text name f a
     → Header text other g b → (name ≡ other) × (f ≡ g) × (a ≡ b)
 Header-one text name other f g a b p q =
     let begins : p.begin ≡ q.begin = Begins-one text p.begin q.begin p.begins q.begins in

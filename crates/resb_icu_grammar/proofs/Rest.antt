@@ -1,73 +1,43 @@
 -- Each step of a reading: what the rest of the text has to be before it and behind it is the same.
-use Rattle.std.proofs.Common.{◌≡◌, ◌≢◌, ℕ, ◌+◌, Bool, true, false, List, [], ◌∷◌, ◌++◌, length}
-use Rattle.std.proofs.Common.{arith, subst, sym, refl, ◌∙◌, ap, ◌⊎◌, inl, inr, ⊎_elim}
+use Rattle.std.proofs.Common.{◌≡◌, ◌≢◌, ℕ, ◌+◌, Bool, true, false, List, [], ◌∷◌, ◌++◌}
+use Rattle.std.proofs.Common.{arith, subst, sym, refl, ◌∙◌, ap, ◌⊎◌, ⊎_elim}
 use Rattle.std.proofs.Common.{append_assoc, append-nil}
-use Rattle.std.specs.Prelude.{◌&&◌, ◌||◌, not, slice_index}
+use Rattle.std.specs.Prelude.{slice_index}
 use Rattle.std.proofs.lemmas.Bool.{false≢true}
 use Rattle.resb_grammar.specs.Ascii as ascii
 use Rattle.resb_grammar.specs.GroupTypes.{Kind, array_kind, table_kind}
 use Rattle.resb_tree.specs.Tree.{Tree, string, array, table, trees_of, map_of}
 use Rattle.resb_icu_grammar.specs.Blanks.{Skip}
-use Rattle.resb_icu_grammar.specs.Words.{String, KeyText, GroupType}
-use Rattle.resb_icu_grammar.specs.Groups.{Head, LeafContent, Last, nothing, a_string, a_group}
+use Rattle.resb_icu_grammar.specs.Words.{String, KeyText}
+use Rattle.resb_icu_grammar.specs.Groups.{Head, LeafContent, Last, nothing, a_string}
 use Rattle.resb_icu_grammar.specs.Groups.{a_comma, is_member, is_string, BeginsArray, with_a_group}
 use Rattle.resb_icu_grammar.specs.Groups.{with_a_string, Members, no_member, string_member}
 use Rattle.resb_icu_grammar.specs.Groups.{group_member, comma_behind, Entries, no_entry, one_entry}
 use Rattle.resb_icu_grammar.specs.Groups.{Untyped, an_empty_array, one_string, an_array, a_table}
 use Rattle.resb_icu_grammar.specs.Groups.{Typed, members, entries, leaf, Group, untyped, typed}
-use Rattle.resb_icu_grammar.specs.Groups.{is_new, is_collation, is_table}
-use Rattle.resb_icu_grammar.specs.Inner.Rest.{Meaning, Goal, AreNew, has_key, InMembers, InEntries}
-use Rattle.resb_icu_grammar.specs.Inner.Rest.{InGroup}
+use Rattle.resb_icu_grammar.specs.Inner.Rest.{Goal, AreDistinct, InMembers, InEntries}
+use Rattle.resb_grammar.specs.BundleText.{first_places}
+use Rattle.resb_icu_grammar.specs.Bundle.{Header, IcuText}
+use Rattle.resb_icu_grammar.specs.Inner.Rest.{InGroup, AtEnd}
 use Rattle.resb_icu_grammar.specs.Inner.Rest.{InUntyped, InTyped, AfterMember, AfterValue, Same}
 use Rattle.resb_icu_grammar.specs.Inner.Rest.{Never}
 use Rattle.resb_icu_grammar.proofs.Lexical.{Skip-one, String-one, key_string}
 use Rattle.resb_icu_grammar.proofs.Groups.{Closes, no_string, no_group, no_both, string_skipped}
 use Rattle.resb_icu_grammar.proofs.Groups.{no_brace_colon, group_first, Head-one, LeafContent-one}
 use Rattle.resb_icu_grammar.proofs.Groups.{no_array, no_string_array, no_string_table}
-use Rattle.resb_icu_grammar.proofs.Groups.{no_array_table}
+use Rattle.resb_icu_grammar.proofs.Groups.{no_array_table, Header-one}
 
--- neither holds where not one of them does
-neither : (a b : Bool) → not (a || b) ≡ true → (a ≡ false) × (not b ≡ true)
-neither false b h = (refl, h)
-neither true b h = absurd (false≢true h)
+-- the keys of the entries of a table are distinct
+pub entries_distinct : (text : List ℕ) (from to : ℕ) (es : List (List ℕ × Tree))
+    (ks : List (List ℕ)) → Entries text from to es ks → AreDistinct es
+entries_distinct text from to es ks (no_entry _) = tt
+entries_distinct text from to es ks (one_entry _ i j m n _ k t es' zs ks' p s g h s' r w) =
+    (w, entries_distinct text n to es' ks' r)
 
-not_either : (a b : Bool) → a ≡ false → not b ≡ true → not (a || b) ≡ true
-not_either false b e h = h
-not_either true b e h = absurd (false≢true (sym e))
-
--- an entry less
-new_rest : (es fs : List (List ℕ × Tree)) (k : List ℕ) (t : Tree) → AreNew es ((k, t) ∷ fs)
-    → AreNew es fs
-new_rest [] fs k t h = tt
-new_rest (e ∷ es) fs k t h = ((neither _ _ h.0).1, new_rest es fs k t h.1)
-
--- the first of the later entries has a key of its own
-new_first : (es fs : List (List ℕ × Tree)) (k : List ℕ) (t : Tree) → AreNew es ((k, t) ∷ fs)
-    → has_key k es ≡ false
-new_first [] fs k t h = refl
-new_first (e ∷ es) fs k t h = ap (λ b. b || has_key k es) (neither _ _ h.0).0 ∙ new_first es fs k t h.1
-
--- an entry more
-new_more : (es fs : List (List ℕ × Tree)) (k : List ℕ) (t : Tree) → has_key k es ≡ false
-    → AreNew es fs → AreNew es ((k, t) ∷ fs)
-new_more [] fs k t e h = tt
-new_more (x ∷ es) fs k t e h =
-    let both = or_parts _ _ e in (not_either _ _ both.0 h.0, new_more es fs k t both.1 h.1)
-  where
-    or_parts : (a b : Bool) → (a || b) ≡ false → (a ≡ false) × (b ≡ false)
-    or_parts false b h = (refl, h)
-    or_parts true b h = absurd (false≢true (sym h))
-
--- a key before the later entries
-new_behind : (es fs : List (List ℕ × Tree)) (k : List ℕ) (t : Tree) → AreNew es fs
-    → is_new k fs ≡ true → AreNew (es ++ (k, t) ∷ []) fs
-new_behind [] fs k t h n = (n, tt)
-new_behind (e ∷ es) fs k t h n = (h.0, new_behind es fs k t h.1 n)
-
-new_front : (es fs : List (List ℕ × Tree)) (k : List ℕ) (t : Tree)
-    → AreNew (es ++ (k, t) ∷ []) fs → AreNew es fs × (is_new k fs ≡ true)
-new_front [] fs k t h = (tt, h.0)
-new_front (e ∷ es) fs k t h = let both = new_front es fs k t h.1 in ((h.0, both.0), both.1)
+-- what is distinct stays so without those before
+behind_distinct : (es fs : List (List ℕ × Tree)) → AreDistinct (es ++ fs) → AreDistinct fs
+behind_distinct [] fs h = h
+behind_distinct (e ∷ es) fs h = behind_distinct es fs h.1
 
 module _ (text : List ℕ) (goal : Goal) where
   -- a `}` ends an array
@@ -128,7 +98,8 @@ module _ (text : List ℕ) (goal : Goal) where
                 closes = c;
                 then = subst (λ l. goal (to + 1) (array (trees_of l)) (ks ++ js) m)
                     (sym (append_assoc ts (string s ∷ []) vs))
-                    (subst (λ w. goal (to + 1) (array (trees_of (ts ++ string w ∷ vs))) (ks ++ js) m)
+                    (subst (λ w. goal (to
+                    + 1) (array (trees_of (ts ++ string w ∷ vs))) (ks ++ js) m)
                     both.1 g);
               }
           of_members to us js (group_member _ _ n o _ t zs _ _ x l r) c g =
@@ -301,14 +272,10 @@ module _ (text : List ℕ) (goal : Goal) where
           ⊎_elim d e (group_first text at n t zs x)
       of_members to us js (comma_behind _ _ o _ _ _ x y l r) c = b y
 
-  none_new : (es : List (List ℕ × Tree)) → AreNew es []
-  none_new [] = tt
-  none_new (e ∷ es) = (refl, none_new es)
-
-  -- a `}` ends a table
+  -- a `}` ends a table whose keys are distinct
   pub table_ends : (es : List (List ℕ × Tree)) (at : ℕ) (ks : List (List ℕ)) → Closes text at
-      → Same (InEntries text goal es at ks) (goal (at + 1) (table (map_of es)) ks)
-  table_ends es at ks c m = (there, back)
+      → AreDistinct es → Same (InEntries text goal es at ks) (goal (at + 1) (table (map_of es)) ks)
+  table_ends es at ks c d m = (there, back)
     where
       there : InEntries text goal es at ks m → goal (at + 1) (table (map_of es)) ks m
       there h = of_entries h.to h.more h.keys h.entries h.then
@@ -330,17 +297,28 @@ module _ (text : List ℕ) (goal : Goal) where
         keys = [];
         entries = no_entry at;
         closes = c;
-        new = none_new es;
+        distinct = subst AreDistinct (sym (append-nil es)) d;
         then = subst (λ l. goal (at + 1) (table (map_of l)) (ks ++ []) m) (sym (append-nil es))
             (subst (λ l. goal (at + 1) (table (map_of es)) l m) (sym (append-nil ks)) g);
       }
 
+  -- a table has each key once
+  pub no_key_twice : (es : List (List ℕ × Tree)) (at : ℕ) (ks : List (List ℕ)) → Closes text at
+      → (AreDistinct es → ⊥) → Never (InEntries text goal es at ks)
+  no_key_twice es at ks c d m h = of_entries h.to h.more h.keys h.entries h.distinct
+    where
+      of_entries : (to : ℕ) (fs : List (List ℕ × Tree)) (js : List (List ℕ))
+          → Entries text at to fs js → AreDistinct (es ++ fs) → ⊥
+      of_entries to fs js (no_entry _) w = d (subst AreDistinct (append-nil es) w)
+      of_entries to fs js (one_entry _ i j n o _ k t _ zs _ p l x h' y r z) w =
+          no_string text at i _ k (key_string text at i k p) c refl
+
   -- a key and its value are one entry more
   pub entry_begins : (es : List (List ℕ × Tree)) (at i j : ℕ) (k : List ℕ) (ks : List (List ℕ))
-      → KeyText text at i k → Skip text i j → has_key k es ≡ false
+      → KeyText text at i k → Skip text i j
       → Same (InEntries text goal es at ks)
       (InGroup text (AfterValue text goal es k) j (ks ++ k ∷ []))
-  entry_begins es at i j k ks p s n m = (there, back)
+  entry_begins es at i j k ks p s m = (there, back)
     where
       keys_are : (q : List ℕ) (zs js : List (List ℕ))
           → ((ks ++ q ∷ []) ++ zs) ++ js ≡ ks ++ (q ∷ zs ++ js)
@@ -349,10 +327,10 @@ module _ (text : List ℕ) (goal : Goal) where
 
       there : InEntries text goal es at ks m
           → InGroup text (AfterValue text goal es k) j (ks ++ k ∷ []) m
-      there h = of_entries h.to h.more h.keys h.entries h.closes h.new h.then
+      there h = of_entries h.to h.more h.keys h.entries h.closes h.distinct h.then
         where
           of_entries : (to : ℕ) (fs : List (List ℕ × Tree)) (js : List (List ℕ))
-              → Entries text at to fs js → Closes text to → AreNew es fs
+              → Entries text at to fs js → Closes text to → AreDistinct (es ++ fs)
               → goal (to + 1) (table (map_of (es ++ fs))) (ks ++ js) m
               → InGroup text (AfterValue text goal es k) j (ks ++ k ∷ []) m
           of_entries to fs js (no_entry _) c w g =
@@ -375,7 +353,7 @@ module _ (text : List ℕ) (goal : Goal) where
                     keys = js';
                     entries = r;
                     closes = c;
-                    new = new_behind es fs' k' t (new_rest es fs' k' t w) z;
+                    distinct = subst AreDistinct (sym (append_assoc es ((k', t) ∷ []) fs')) w;
                     then = subst
                         (λ l. goal (to + 1) (table (map_of l)) (((ks ++ k' ∷ []) ++ zs) ++ js') m)
                         (sym (append_assoc es ((k', t) ∷ []) fs'))
@@ -393,35 +371,24 @@ module _ (text : List ℕ) (goal : Goal) where
       back h =
           let v = h.then in
           let r = v.rest in
-          let new = new_front es r.more k h.tree r.new in
+          let distinct : AreDistinct (es ++ (k, h.tree) ∷ r.more) =
+          subst AreDistinct (append_assoc es ((k, h.tree) ∷ []) r.more) r.distinct in
           record {
             to = r.to;
             more = (k, h.tree) ∷ r.more;
             keys = k ∷ h.keys ++ r.keys;
             entries = one_entry at i j h.to v.next r.to k h.tree r.more h.keys r.keys p s h.group
-                v.taken v.after r.entries new.1;
+                v.taken v.after r.entries
+                (behind_distinct es ((k, h.tree) ∷ r.more) distinct).0;
             closes = r.closes;
-            new = new_more es r.more k h.tree n new.0;
+            distinct = distinct;
             then = subst
                 (λ l. goal (r.to + 1) (table (map_of l)) (ks ++ (k ∷ h.keys ++ r.keys)) m)
                 (append_assoc es ((k, h.tree) ∷ []) r.more)
-                (subst (λ l. goal (r.to + 1) (table (map_of ((es ++ (k, h.tree) ∷ []) ++ r.more))) l m)
+                (subst (λ l. goal (r.to
+                + 1) (table (map_of ((es ++ (k, h.tree) ∷ []) ++ r.more))) l m)
                 (keys_are k h.keys r.keys) r.then);
           }
-
-  -- a key stands once in its table
-  pub no_second_key : (es : List (List ℕ × Tree)) (at i : ℕ) (k : List ℕ) (ks : List (List ℕ))
-      → KeyText text at i k → has_key k es ≡ true → Never (InEntries text goal es at ks)
-  no_second_key es at i k ks p n m h = of_entries h.to h.more h.keys h.entries h.closes h.new
-    where
-      of_entries : (to : ℕ) (fs : List (List ℕ × Tree)) (js : List (List ℕ))
-          → Entries text at to fs js → Closes text to → AreNew es fs → ⊥
-      of_entries to fs js (no_entry _) c w =
-          no_string text at i _ k (key_string text at i k p) c refl
-      of_entries to fs js (one_entry _ i' j' n' o _ k' t fs' zs js' p' s' x h' y r z) c w =
-          let same : k' ≡ k = (String-one text at i' i k' k (key_string text at i' k' p')
-          (key_string text at i k p)).1 in
-          false≢true (sym (new_first es fs' k' t w) ∙ ap (λ q. has_key q es) same ∙ n)
 
   -- where neither a key nor a `}` stands, no entry does
   pub no_more_entries : (es : List (List ℕ × Tree)) (at : ℕ) (ks : List (List ℕ))
@@ -554,7 +521,7 @@ module _ (text : List ℕ) (goal : Goal) where
             keys = js;
             entries = p;
             closes = c;
-            new = tt;
+            distinct = entries_distinct text i to es js p;
             then = g;
           }
           of_typed to t js (leaf _ _ _ _ p) c g = elim p [ ]
@@ -750,7 +717,7 @@ module _ (text : List ℕ) (goal : Goal) where
             keys = js;
             entries = r;
             closes = d;
-            new = tt;
+            distinct = entries_distinct text i to (e ∷ es) js r;
             then = g;
           }
 
@@ -790,7 +757,8 @@ module _ (text : List ℕ) (goal : Goal) where
       of_untyped to _ js (an_array _ _ us _ (with_a_string n o q x y e) r) d =
           b (subst (λ w. slice_index text w ≡ ascii.comma)
           (string_skipped text i n j o k q s x y p l).0 e)
-      of_untyped to _ js (a_table _ _ _ _ _ (one_entry _ n o q r _ y v es zs js' x l' z h' u w c)) d =
+      of_untyped to _ js (a_table _ _ _ _ _ (one_entry _ n o q r _ y v es zs js' x l' z h' u w c)) d
+          =
           let x' : String text i n y = key_string text i n y x in
           let both = String-one text i n j y s x' p in
           let next : o ≡ k = (string_skipped text i n j o k y s x' l' p l).0 in
@@ -810,5 +778,47 @@ module _ (text : List ℕ) (goal : Goal) where
       of_untyped to _ js (one_string _ n _ q x o) c = f n q x
       of_untyped to _ js (an_array _ _ us _ (with_a_group g) r) c = ⊎_elim b d g
       of_untyped to _ js (an_array _ _ us _ (with_a_string n o q x y e) r) c = f n q x
-      of_untyped to _ js (a_table _ _ _ _ _ (one_entry _ n o q r _ y v es zs js' x l' z h' u w e)) c =
+      of_untyped to _ js (a_table _ _ _ _ _ (one_entry _ n o q r _ y v es zs js' x l' z h' u w e)) c
+          =
           f n y (key_string text i n y x)
+
+-- where a bundle's text has this header, its entries follow, and the end of the text
+pub root_follows : (text name : List ℕ) (f : Bool) (a : ℕ) (t : Tree) (ks : List (List ℕ))
+    → Header text name f a → InEntries text (AtEnd text) [] a [] (t, ks)
+    → IcuText text name f t (first_places ks)
+root_follows text name f a t ks head h = record {
+  first = a;
+  last = h.to;
+  entries = h.more;
+  places = h.keys;
+  header = head;
+  body = h.entries;
+  closes = h.closes;
+  after = h.then.after;
+  means = ap (λ m. m.0) h.then.means;
+  lists = ap (λ m. first_places m.1) h.then.means;
+}
+
+-- a bundle's text with this header is one of these entries
+pub follows_root : (text name other : List ℕ) (f g : Bool) (a : ℕ) (t : Tree)
+    (ks : List (List ℕ)) → Header text name f a → IcuText text other g t ks
+    → (other ≡ name) × (g ≡ f) × (places : List (List ℕ))
+    × InEntries text (AtEnd text) [] a [] (t, places) × (ks ≡ first_places places)
+follows_root text name other f g a t ks head h =
+    let same = Header-one text other name g f h.first a h.header head in
+    let body : Entries text a h.last h.entries h.places =
+    subst (λ n. Entries text n h.last h.entries h.places) same.2 h.body in (
+      same.0,
+      same.1,
+      h.places,
+      record {
+        to = h.last;
+        more = h.entries;
+        keys = h.places;
+        entries = body;
+        closes = h.closes;
+        distinct = entries_distinct text a h.last h.entries h.places body;
+        then = record { after = h.after; means = ap (λ r. (r, h.places)) h.means };
+      },
+      h.lists,
+    )

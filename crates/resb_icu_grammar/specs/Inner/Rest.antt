@@ -1,13 +1,12 @@
 -- What the rest of a text has to be at a place of a reading, by what is open there: the words in
 -- which each step of a reader says that it loses and adds no meaning.
---     Meaning                 the tree of the root, and the keys in order of place, with repetitions
+--     Meaning                 the tree of the root, and the keys in order of place, with
+-- repetitions
 --     After text ws           where a group has ended, inside these groups
 --     InMembers, InEntries, InGroup, InUntyped, InTyped
 --                             where members, entries, a group or what stands inside one follow
-use Rattle.std.specs.Prelude.{◌≡◌, ◌+◌, ◌&&◌, ℕ, Bool, true, false, List, [], ◌∷◌, ◌++◌, length}
-use Rattle.std.specs.Prelude.{slice_index, nat_eq}
-use Rattle.std.specs.List.{list_any}
-use Rattle.std.specs.Cmp.Lexicographic.{pointwise}
+use Rattle.std.specs.Prelude.{◌≡◌, ◌+◌, ◌&&◌, ℕ, true, false, List, [], ◌∷◌, ◌++◌, length}
+use Rattle.std.specs.Prelude.{slice_index}
 use Rattle.resb_grammar.specs.Ascii as ascii
 use Rattle.resb_grammar.specs.GroupTypes.{Kind}
 use Rattle.resb_tree.specs.Tree.{Tree, array, table, trees_of, map_of}
@@ -29,14 +28,10 @@ pub data Waiting : Type 0 where
 abbrev pub Goal : Type 1
 Goal = ℕ → Tree → List (List ℕ) → Meaning → Type 0
 
--- none of these entries has a key of those before
-abbrev pub AreNew : List (List ℕ × Tree) → List (List ℕ × Tree) → Type 0
-AreNew [] later = Unit {0}
-AreNew (e ∷ es) later = (is_new e.0 later ≡ true) × AreNew es later
-
--- one of these entries has this key
-abbrev pub has_key : List ℕ → List (List ℕ × Tree) → Bool
-has_key key entries = list_any (λ e. pointwise nat_eq e.0 key) entries
+-- each key stands once among these entries
+abbrev pub AreDistinct : List (List ℕ × Tree) → Type 0
+AreDistinct [] = Unit {0}
+AreDistinct (e ∷ es) = (is_new e.0 es ≡ true) × AreDistinct es
 
 -- members follow, and the `}` of their array
 pub record InMembers (text : List ℕ) (goal : Goal) (last : Last) (ts : List Tree) (at : ℕ)
@@ -56,7 +51,7 @@ pub record InEntries (text : List ℕ) (goal : Goal) (es : List (List ℕ × Tre
   pub keys : List (List ℕ)
   pub entries : Entries text at to more keys
   pub closes : slice_index text to ≡ ascii.right_brace
-  pub new : AreNew es more
+  pub distinct : AreDistinct (es ++ more)
   pub then : goal (to + 1) (table (map_of (es ++ more))) (ks ++ keys) m
 
 -- a group follows

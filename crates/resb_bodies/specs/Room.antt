@@ -1,4 +1,5 @@
--- What stands so far, as the definitions see it, the numbers that are given for a tree, and room for
+-- What stands so far, as the definitions see it, the numbers that are given for a tree, and room
+-- for
 -- its bodies.
 --     trees_in rs             resources as trees
 --     laid_of b               what stands so far

@@ -24,7 +24,7 @@ use Rattle.resb_grammar.proofs.LexLemmas.{lex_of}
 use Rattle.resb_grammar.proofs.ByteRunsLemmas.{Run-one}
 
 -- two places are equal if neither is below the other
-meet : (a b : ℕ) → (a < b → ⊥) → (b < a → ⊥) → a ≡ b
+pub meet : (a b : ℕ) → (a < b → ⊥) → (b < a → ⊥) → a ≡ b
 meet a b p q =
     ⊎_elim (λ (w : a < b). absurd (p w)) (λ (w : b ≤ a). ⊎_elim (λ (v : b < a). absurd (q v))
     (λ (v : a ≤ b). omega arith) (cases_lt b a)) (cases_lt a b)
@@ -34,7 +34,9 @@ pub FirstQuote-one : (text : List ℕ) (from a b : ℕ) → FirstQuote text from
 FirstQuote-one text from a b p q =
     meet a b (λ w. q.inner a p.order w p.closes) (λ w. p.inner b q.order w q.closes)
 
-FirstCloser-one : (text : List ℕ) (from a b : ℕ) → FirstCloser text from a → FirstCloser text from b
+-- the first `*/` from a place on is one
+pub FirstCloser-one : (text : List ℕ) (from a b : ℕ) → FirstCloser text from a
+    → FirstCloser text from b
     → a ≡ b
 FirstCloser-one text from a b p q =
     meet a b (λ w. q.first a p.order w p.closer) (λ w. p.first b q.order w q.closer)
@@ -104,7 +106,8 @@ Text-one text from a b s t (unquoted r some is) (unquoted r' some' is') =
     let k : a ≡ b = Run-one is_word text from a b r r' in
     (k, is ∙ ap (λ n. slice_range text from n) k ∙ sym is')
 
-Digits-one : (text : List ℕ) (from a b v w : ℕ) → Digits text from a v → Digits text from b w
+-- a longest run of digits has one end and value
+pub Digits-one : (text : List ℕ) (from a b v w : ℕ) → Digits text from a v → Digits text from b w
     → (a ≡ b) × (v ≡ w)
 Digits-one text from a b v w d d' =
     let k : a ≡ b = Run-one is_digit text from a b d.run d'.run in
@@ -165,7 +168,7 @@ names_it w integer_kind h =
 names_it w vector_kind h = ap named_kind h
 
 -- a name is of one type
-Names-one : (w : List ℕ) (k l : Kind) → Names w k → Names w l → k ≡ l
+pub Names-one : (w : List ℕ) (k l : Kind) → Names w k → Names w l → k ≡ l
 Names-one w k l p q = let e : Some k ≡ Some l = sym (names_it w k p) ∙ names_it w l q in cc
 
 pub GroupType-one : (text : List ℕ) (from a b : ℕ) (k l : Kind) → GroupType text from a k

@@ -1,0 +1,146 @@
+-- Accepted and refused texts of ICU's form, by the definitions alone.
+use Rattle.std.proofs.Common.{◌≡◌, ◌≢◌, ℕ, zero, suc, ◌+◌, ◌≤◌, true, false, List, []}
+use Rattle.std.proofs.Common.{◌∷◌, length, refl, sym, arith, lit≤, subst, encode_utf8}
+use Rattle.std.specs.Prelude.{slice_index, slice_range, codes}
+use Rattle.std.proofs.lemmas.Bool.{false≢true}
+use Rattle.resb_tree.specs.Tree.{string, array, table, trees_of, map_of}
+use Rattle.resb_grammar.specs.ByteRuns.{is_white}
+use Rattle.resb_icu_grammar.specs.Bytes.{is_word, is_key_byte}
+use Rattle.resb_icu_grammar.specs.Blanks.{Comment, line, block, none, white, Skip, without_a_mark}
+use Rattle.resb_icu_grammar.specs.Escapes.{Escape, itself, line_feed, carriage_return, tab}
+use Rattle.resb_icu_grammar.specs.Escapes.{four_digits, eight_digits}
+use Rattle.resb_icu_grammar.specs.Pieces.{ends, byte, escape, Joined, last_piece, one_more}
+use Rattle.resb_icu_grammar.specs.Words as words
+use Rattle.resb_icu_grammar.specs.Words.{Word, String, a_word, KeyText, Name, Number}
+use Rattle.resb_icu_grammar.specs.Groups.{Group, untyped, an_empty_array, one_string, no_entry}
+use Rattle.resb_icu_grammar.specs.Groups.{one_entry}
+use Rattle.resb_icu_grammar.specs.Bundle.{without, IcuText}
+
+-- nothing is skipped where a byte other than white and `/` stands
+stays : (text : List ℕ) (at : ℕ) → is_white (slice_index text at) ≡ false → slice_index text at ≢ 47
+    → Skip text at at
+stays text at h ne =
+    record { blanks = none at; solid = record { no_white = h; no_comment = never } }
+  where
+    never : (k : ℕ) → Comment text at k → ⊥
+    never k (line a b c) = ne a
+    never k (block i a b c d) = ne a
+
+-- words may have `_`, `.`, `%` and signs; keys no brackets
+byte_examples : (is_word 95 ≡ true) × (is_word 37 ≡ true) × (is_word 46 ≡ true)
+    × (is_word 43 ≡ true)
+    × (is_word 47 ≡ false) × (is_key_byte 47 ≡ true) × (is_key_byte 91 ≡ false)
+    × (is_key_byte 32 ≡ true) × (is_key_byte 127 ≡ false)
+byte_examples = (refl, refl, refl, refl, refl, refl, refl, refl, refl)
+
+-- two pieces in a row are one string, and an escape is one character of it
+joined : Joined (codes "\"a\\n\" \"b\"") 0 9 (97 ∷ 10 ∷ 98 ∷ [])
+joined =
+    one_more 0 5 6 9 (97 ∷ 10 ∷ []) (98 ∷ [])
+    (record {
+      last = 4;
+      opens = refl;
+      inside = byte 1 4 (10 ∷ []) (lit≤ tt) (λ h. absurd (omega arith)) (λ h. absurd (omega arith))
+          (escape 2 4 4 (10 ∷ []) [] refl (line_feed refl) (ends 4 refl));
+      ends = refl;
+    })
+    (record {
+      blanks = white 5 6 refl (none 6);
+      solid = (stays _ 6 refl (λ h. absurd (omega arith))).solid;
+    })
+    (last_piece 6 9 9 (98 ∷ [])
+    (record {
+      last = 8;
+      opens = refl;
+      inside = byte 7 8 [] (lit≤ tt) (λ h. absurd (omega arith)) (λ h. absurd (omega arith))
+          (ends 8 refl);
+      ends = refl;
+    })
+    (stays _ 9 refl (λ h. absurd (omega arith))) (λ h. absurd (omega arith)))
+
+-- `/**/` is still open
+comment_refused : (to : ℕ) → Comment (codes "/**/") 0 to → ⊥
+comment_refused to (line a b c) = absurd (omega arith)
+comment_refused to (block at a b f e) = never at f.order f.closer.star
+  where
+    never : (at : ℕ) → 3 ≤ at → slice_index (codes "/**/") at ≡ 42 → ⊥
+    never zero low h = absurd (omega arith)
+    never (suc zero) low h = absurd (omega arith)
+    never (suc (suc zero)) low h = absurd (omega arith)
+    never (suc (suc (suc zero))) low h = absurd (omega arith)
+    never (suc (suc (suc (suc n)))) low h = absurd (omega arith)
+
+-- `\u00e9` is é, in its two bytes
+escape_accepted : Escape (codes "u00e9") 0 5 (encode_utf8 0xe9)
+escape_accepted = four_digits 0xe9 refl refl refl refl (λ h. absurd (omega arith))
+
+-- `\u005C` would be a backslash, and is none; nor is `\x`
+escape_refused : (to : ℕ) (s : List ℕ) → Escape (codes "u005C") 0 to s → ⊥
+escape_refused to s (itself f h) = false≢true (sym h)
+escape_refused to s (line_feed h) = absurd (omega arith)
+escape_refused to s (carriage_return h) = absurd (omega arith)
+escape_refused to s (tab h) = absurd (omega arith)
+escape_refused to s (four_digits c h x e y z) = z e
+escape_refused to s (eight_digits c h x e y z) = absurd (omega arith)
+
+-- an empty group is an array
+empty_group : Group (codes "{}") 0 2 (array (trees_of [])) []
+empty_group =
+    untyped 0 1 1 _ [] refl (stays _ 1 refl (λ h. absurd (omega arith))) (an_empty_array 1) refl
+
+-- a word of one byte
+word_of_one : (text : List ℕ) (from : ℕ) → is_word (slice_index text from) ≡ true
+    → is_word (slice_index text (from + 1)) ≡ false → from + 1 ≤ length text
+    → Word text from (from + 1) (slice_range text from (from + 1))
+word_of_one text from h stop fits =
+    record {
+      run = record {
+        order = omega arith;
+        fits = fits;
+        each = λ k low high.
+            (let e : from ≡ k = omega arith in subst (λ i. is_word (slice_index text i)
+            ≡ true) e h);
+        longest = stop;
+      };
+      some = omega arith;
+      means = refl;
+    }
+
+-- a bundle named b with the string x at the key k
+bundle_accepted : IcuText (codes "b{k{x}}") (codes "b") true
+    (table (map_of ((codes "k", string (codes "x")) ∷ []))) (codes "k" ∷ [])
+bundle_accepted = record {
+  first = 2;
+  last = 6;
+  entries = (codes "k", string (codes "x")) ∷ [];
+  places = codes "k" ∷ [];
+  header = record {
+    begin = 0;
+    start = 0;
+    ends = 1;
+    place = 1;
+    brace = 1;
+    begins = without_a_mark (λ m. let h = m.first in absurd (omega arith)) refl;
+    before = stays _ 0 refl (λ h. absurd (omega arith));
+    named = record {
+      key = words.a_word (word_of_one _ 0 refl refl (lit≤ tt)) refl;
+      some = lit≤ tt;
+      word = (word_of_one (codes "b") 0 refl refl (lit≤ tt)).run;
+    };
+    between = stays _ 1 refl (λ h. absurd (omega arith));
+    typed = without refl;
+    opens = refl;
+    after = stays _ 2 refl (λ h. absurd (omega arith));
+  };
+  body = one_entry 2 3 3 6 6 6 (codes "k") (string (codes "x")) [] [] []
+      (words.a_word (word_of_one _ 2 refl refl (lit≤ tt)) refl)
+      (stays _ 3 refl (λ h. absurd (omega arith)))
+      (untyped 3 4 5 _ [] refl (stays _ 4 refl (λ h. absurd (omega arith)))
+      (one_string 4 5 5 (codes "x") (a_word (word_of_one _ 4 refl refl (lit≤ tt)))
+      (stays _ 5 refl (λ h. absurd (omega arith)))) refl)
+      refl (stays _ 6 refl (λ h. absurd (omega arith))) (no_entry 6) refl;
+  closes = refl;
+  after = stays _ 7 refl (λ h. absurd (omega arith));
+  means = refl;
+  lists = refl;
+}

@@ -1,0 +1,289 @@
+-- Blanks, escapes, strings, numbers and types each have one end and one meaning.
+use Rattle.std.proofs.Common.{◌≡◌, ◌≢◌, ℕ, ◌+◌, ◌<◌, ◌≤◌, Bool, true, false, List, ◌∷◌, ◌++◌}
+use Rattle.std.proofs.Common.{length, arith, subst, sym, refl, ◌∙◌, ap, ⊎_elim, encode_utf8}
+use Rattle.std.specs.Prelude.{◌==◌, ◌||◌, slice_index, slice_range}
+use Rattle.std.specs.Char.{is_ascii_alphanumeric}
+use Rattle.std.proofs.lemmas.Bool.{false≢true}
+use Rattle.std.proofs.lemmas.Bool.Decides.{nat_tests}
+use Rattle.resb_grammar.specs.Ascii as ascii
+use Rattle.resb_grammar.specs.ByteRuns.{is_white, is_digit}
+use Rattle.resb_grammar.specs.Tokens as plain
+use Rattle.resb_grammar.specs.GroupTypes.{Kind, Names, NoFallback}
+use Rattle.resb_grammar.proofs.ByteRunsLemmas.{Run-one}
+use Rattle.resb_grammar.proofs.Unique.{meet, FirstCloser-one, Digits-one, Names-one}
+use Rattle.resb_icu_grammar.specs.Bytes.{is_word}
+use Rattle.resb_icu_grammar.specs.Blanks.{Begins, behind_the_mark, without_a_mark}
+use Rattle.resb_icu_grammar.specs.Blanks.{ends_line, LineRest, Comment, line, block, Blanks, none}
+use Rattle.resb_icu_grammar.specs.Blanks.{white, comment, IsSolid, Skip}
+use Rattle.resb_icu_grammar.specs.Escapes.{Escape, itself, line_feed, carriage_return, tab}
+use Rattle.resb_icu_grammar.specs.Escapes.{four_digits, eight_digits}
+use Rattle.resb_icu_grammar.specs.Pieces.{Inside, ends, byte, escape, Piece, Joined, last_piece}
+use Rattle.resb_icu_grammar.specs.Pieces.{one_more}
+use Rattle.resb_icu_grammar.specs.Words as words
+use Rattle.resb_icu_grammar.specs.Words.{Word, String, a_word, quoted, KeyText, Name, Digits}
+use Rattle.resb_icu_grammar.specs.Words.{Number}
+use Rattle.resb_icu_grammar.specs.Words.{unsigned, plus, minus, TypeName, GroupType, RootType}
+use Rattle.resb_icu_grammar.specs.Words.{table_type, no_fallback_type}
+
+pub Begins-one : (text : List ℕ) (a b : ℕ) → Begins text a → Begins text b → a ≡ b
+Begins-one text a b (behind_the_mark m e) (behind_the_mark n f) = e ∙ sym f
+Begins-one text a b (behind_the_mark m e) (without_a_mark n f) = absurd (n m)
+Begins-one text a b (without_a_mark m e) (behind_the_mark n f) = absurd (m n)
+Begins-one text a b (without_a_mark m e) (without_a_mark n f) = e ∙ sym f
+
+line_stops : (text : List ℕ) (from a b : ℕ) → LineRest text from a → LineRest text from b → a < b
+    → ⊥
+line_stops text from a b p q w =
+    ⊎_elim (λ (e : a ≡ length text). let f : b ≤ length text = q.fits in omega arith)
+    (λ (e : ends_line (slice_index text a) ≡ true).
+    false≢true (sym (q.inner a p.order w) ∙ e)) p.ends
+
+LineRest-one : (text : List ℕ) (from a b : ℕ) → LineRest text from a → LineRest text from b → a ≡ b
+LineRest-one text from a b p q =
+    meet a b (line_stops text from a b p q) (line_stops text from b a q p)
+
+Comment-one : (text : List ℕ) (from a b : ℕ) → Comment text from a → Comment text from b → a ≡ b
+Comment-one text from a b (line h k r) (line h' k' r') = LineRest-one text (from + 2) a b r r'
+Comment-one text from a b (line h k r) (block at' h' k' f' e') = absurd (omega arith)
+Comment-one text from a b (block at h k f e) (line h' k' r') = absurd (omega arith)
+Comment-one text from a b (block at h k f e) (block at' h' k' f' e') =
+    e ∙ ap (λ n. n + 2) (FirstCloser-one text (from + 3) at at' f f') ∙ sym e'
+
+not_white : (text : List ℕ) (i to : ℕ) → is_white (slice_index text i) ≡ true → Comment text i to
+    → ⊥
+not_white text i to w (line h k r) = grind (arith, nat_tests)
+not_white text i to w (block at h k f e) = grind (arith, nat_tests)
+
+Blanks-one : (text : List ℕ) (i a b : ℕ) → Blanks text i a → Blanks text i b → IsSolid text a
+    → IsSolid text b → a ≡ b
+Blanks-one text i a b (none _) (none _) s t = refl
+Blanks-one text i a b (none _) (white _ _ w r) s t = absurd (false≢true (sym s.no_white ∙ w))
+Blanks-one text i a b (none _) (comment _ k _ c r) s t = absurd (s.no_comment k c)
+Blanks-one text i a b (white _ _ w r) (none _) s t = absurd (false≢true (sym t.no_white ∙ w))
+Blanks-one text i a b (white _ _ w r) (white _ _ w' r') s t = Blanks-one text (i + 1) a b r r' s t
+Blanks-one text i a b (white _ _ w r) (comment _ k _ c r') s t = absurd (not_white text i k w c)
+Blanks-one text i a b (comment _ k _ c r) (none _) s t = absurd (t.no_comment k c)
+Blanks-one text i a b (comment _ k _ c r) (white _ _ w' r') s t = absurd (not_white text i k w' c)
+Blanks-one text i a b (comment _ k _ c r) (comment _ k' _ c' r') s t =
+    let e : k' ≡ k = Comment-one text i k' k c' c in
+    Blanks-one text k a b r (subst (λ n. Blanks text n b) e r') s t
+
+pub Skip-one : (text : List ℕ) (i a b : ℕ) → Skip text i a → Skip text i b → a ≡ b
+Skip-one text i a b p q = Blanks-one text i a b p.blanks q.blanks p.solid q.solid
+
+-- no letter stands for itself
+no_letter : (b n : ℕ) → is_ascii_alphanumeric b ≡ false → b ≡ n → is_ascii_alphanumeric n ≡ true
+    → ⊥
+no_letter b n h e f = false≢true (sym h ∙ ap is_ascii_alphanumeric e ∙ f)
+
+Escape-one : (text : List ℕ) (at a b : ℕ) (s t : List ℕ) → Escape text at a s → Escape text at b t
+    → (a ≡ b) × (s ≡ t)
+Escape-one text at a b s t (itself f h) (itself g k) = (refl, refl)
+Escape-one text at a b s t (itself f h) (line_feed k) = absurd (no_letter _ 110 h k refl)
+Escape-one text at a b s t (itself f h) (carriage_return k) = absurd (no_letter _ 114 h k refl)
+Escape-one text at a b s t (itself f h) (tab k) = absurd (no_letter _ 116 h k refl)
+Escape-one text at a b s t (itself f h) (four_digits c k x e y z) =
+    absurd (no_letter _ 117 h k refl)
+Escape-one text at a b s t (itself f h) (eight_digits c k x e y z) =
+    absurd (no_letter _ 85 h k refl)
+Escape-one text at a b s t (line_feed h) (itself f k) = absurd (no_letter _ 110 k h refl)
+Escape-one text at a b s t (line_feed h) (line_feed k) = (refl, refl)
+Escape-one text at a b s t (line_feed h) (carriage_return k) = absurd (omega arith)
+Escape-one text at a b s t (line_feed h) (tab k) = absurd (omega arith)
+Escape-one text at a b s t (line_feed h) (four_digits c k x e y z) = absurd (omega arith)
+Escape-one text at a b s t (line_feed h) (eight_digits c k x e y z) = absurd (omega arith)
+Escape-one text at a b s t (carriage_return h) (itself f k) = absurd (no_letter _ 114 k h refl)
+Escape-one text at a b s t (carriage_return h) (line_feed k) = absurd (omega arith)
+Escape-one text at a b s t (carriage_return h) (carriage_return k) = (refl, refl)
+Escape-one text at a b s t (carriage_return h) (tab k) = absurd (omega arith)
+Escape-one text at a b s t (carriage_return h) (four_digits c k x e y z) = absurd (omega arith)
+Escape-one text at a b s t (carriage_return h) (eight_digits c k x e y z) = absurd (omega arith)
+Escape-one text at a b s t (tab h) (itself f k) = absurd (no_letter _ 116 k h refl)
+Escape-one text at a b s t (tab h) (line_feed k) = absurd (omega arith)
+Escape-one text at a b s t (tab h) (carriage_return k) = absurd (omega arith)
+Escape-one text at a b s t (tab h) (tab k) = (refl, refl)
+Escape-one text at a b s t (tab h) (four_digits c k x e y z) = absurd (omega arith)
+Escape-one text at a b s t (tab h) (eight_digits c k x e y z) = absurd (omega arith)
+Escape-one text at a b s t (four_digits c h x e y z) (itself f k) =
+    absurd (no_letter _ 117 k h refl)
+Escape-one text at a b s t (four_digits c h x e y z) (line_feed k) = absurd (omega arith)
+Escape-one text at a b s t (four_digits c h x e y z) (carriage_return k) = absurd (omega arith)
+Escape-one text at a b s t (four_digits c h x e y z) (tab k) = absurd (omega arith)
+Escape-one text at a b s t (four_digits c h x e y z) (four_digits d k x' e' y' z') =
+    (refl, ap encode_utf8 (e ∙ sym e'))
+Escape-one text at a b s t (four_digits c h x e y z) (eight_digits d k x' e' y' z') =
+    absurd (omega arith)
+Escape-one text at a b s t (eight_digits c h x e y z) (itself f k) =
+    absurd (no_letter _ 85 k h refl)
+Escape-one text at a b s t (eight_digits c h x e y z) (line_feed k) = absurd (omega arith)
+Escape-one text at a b s t (eight_digits c h x e y z) (carriage_return k) = absurd (omega arith)
+Escape-one text at a b s t (eight_digits c h x e y z) (tab k) = absurd (omega arith)
+Escape-one text at a b s t (eight_digits c h x e y z) (four_digits d k x' e' y' z') =
+    absurd (omega arith)
+Escape-one text at a b s t (eight_digits c h x e y z) (eight_digits d k x' e' y' z') =
+    (refl, ap encode_utf8 (e ∙ sym e'))
+
+Inside-one : (text : List ℕ) (at a b : ℕ) (s t : List ℕ) → Inside text at a s → Inside text at b t
+    → (a ≡ b) × (s ≡ t)
+Inside-one text at a b s t (ends _ h) (ends _ k) = (refl, refl)
+Inside-one text at a b s t (ends _ h) (byte _ _ us f k l r) = absurd (k h)
+Inside-one text at a b s t (ends _ h) (escape _ n _ vs us k e r) = absurd (omega arith)
+Inside-one text at a b s t (byte _ _ us f k l r) (ends _ h) = absurd (k h)
+Inside-one text at a b s t (byte _ _ us f k l r) (byte _ _ ws f' k' l' r') =
+    let both = Inside-one text (at + 1) a b us ws r r' in
+    (both.0, ap (λ bs. slice_index text at ∷ bs) both.1)
+Inside-one text at a b s t (byte _ _ us f k l r) (escape _ n _ vs ws h e r') = absurd (l h)
+Inside-one text at a b s t (escape _ n _ vs us k e r) (ends _ h) = absurd (omega arith)
+Inside-one text at a b s t (escape _ n _ vs us k e r) (byte _ _ ws f h l r') = absurd (l k)
+Inside-one text at a b s t (escape _ n _ vs us k e r) (escape _ m _ xs ws h f r') =
+    let first = Escape-one text (at + 1) n m vs xs e f in
+    let both = Inside-one text n a b us ws r (subst (λ i. Inside text i b ws) (sym first.0) r') in
+    (both.0, (λ i. first.1 i ++ both.1 i))
+
+pub Piece-one : (text : List ℕ) (from a b : ℕ) (s t : List ℕ) → Piece text from a s
+    → Piece text from b t → (a ≡ b) × (s ≡ t)
+Piece-one text from a b s t p q =
+    let both = Inside-one text (from + 1) p.last q.last s t p.inside q.inside in
+    (p.ends ∙ ap (λ n. n + 1) both.0 ∙ sym q.ends, both.1)
+
+-- joined pieces begin with a quote
+joined_first : (text : List ℕ) (from to : ℕ) (s : List ℕ) → Joined text from to s
+    → slice_index text from ≡ ascii.quote
+joined_first text from to s (last_piece _ _ n _ p k h) = p.opens
+joined_first text from to s (one_more _ m n _ us vs p k r) = p.opens
+
+Joined-one : (text : List ℕ) (from a b : ℕ) (s t : List ℕ) → Joined text from a s
+    → Joined text from b t → (a ≡ b) × (s ≡ t)
+Joined-one text from a b s t (last_piece _ _ n _ p k h) (last_piece _ _ m _ q l g) =
+    Piece-one text from a b s t p q
+Joined-one text from a b s t (last_piece _ _ n _ p k h) (one_more _ m i _ us vs q l r) =
+    let both = Piece-one text from a m s us p q in
+    let e : i ≡ n = Skip-one text a i n (subst (λ j. Skip text j i) (sym both.0) l) k in
+    absurd (h (subst (λ j. slice_index text j ≡ ascii.quote) e (joined_first text i b vs r)))
+Joined-one text from a b s t (one_more _ m i _ us vs q l r) (last_piece _ _ n _ p k h) =
+    let both = Piece-one text from b m t us p q in
+    let e : i ≡ n = Skip-one text b i n (subst (λ j. Skip text j i) (sym both.0) l) k in
+    absurd (h (subst (λ j. slice_index text j ≡ ascii.quote) e (joined_first text i a vs r)))
+Joined-one text from a b s t (one_more _ m i _ us vs p k r) (one_more _ n j _ ws xs q l z) =
+    let first = Piece-one text from m n us ws p q in
+    let e : i ≡ j = Skip-one text m i j k (subst (λ x. Skip text x j) (sym first.0) l) in
+    let both = Joined-one text i a b vs xs r (subst (λ x. Joined text x b xs) (sym e) z) in
+    (both.0, (λ x. first.1 x ++ both.1 x))
+
+Word-one : (text : List ℕ) (from a b : ℕ) (s t : List ℕ) → Word text from a s → Word text from b t
+    → (a ≡ b) × (s ≡ t)
+Word-one text from a b s t p q =
+    let k : a ≡ b = Run-one is_word text from a b p.run q.run in
+    (k, p.means ∙ ap (λ n. slice_range text from n) k ∙ sym q.means)
+
+word_first : (text : List ℕ) (from to : ℕ) (s : List ℕ) → Word text from to s
+    → is_word (slice_index text from) ≡ true
+word_first text from to s w = w.run.each from (omega arith) w.some
+
+no_quote_word : (text : List ℕ) (from to : ℕ) (s : List ℕ) → slice_index text from ≡ ascii.quote
+    → Word text from to s → ⊥
+no_quote_word text from to s h w =
+    false≢true (ap is_word (sym h) ∙ word_first text from to s w)
+
+pub String-one : (text : List ℕ) (from a b : ℕ) (s t : List ℕ) → String text from a s
+    → String text from b t → (a ≡ b) × (s ≡ t)
+String-one text from a b s t (a_word p) (a_word q) = Word-one text from a b s t p q
+String-one text from a b s t (a_word p) (quoted q) =
+    absurd (no_quote_word text from a s (joined_first text from b t q) p)
+String-one text from a b s t (quoted p) (a_word q) =
+    absurd (no_quote_word text from b t (joined_first text from a s p) q)
+String-one text from a b s t (quoted p) (quoted q) = Joined-one text from a b s t p q
+
+-- a string begins with a quote or a word character
+abbrev pub starts_string : ℕ → Bool
+starts_string b = b == ascii.quote || is_word b
+
+pub string_first : (text : List ℕ) (from to : ℕ) (s : List ℕ) → String text from to s
+    → starts_string (slice_index text from) ≡ true
+string_first text from to s (a_word w) =
+    ap (λ c. (slice_index text from == ascii.quote) || c) (word_first text from to s w) ∙ either _
+  where
+    either : (c : Bool) → (c || true) ≡ true
+    either true = refl
+    either false = refl
+string_first text from to s (quoted j) = ap starts_string (joined_first text from to s j)
+
+-- a key is a string
+pub key_string : (text : List ℕ) (from to : ℕ) (s : List ℕ) → KeyText text from to s
+    → String text from to s
+key_string text from to s (words.a_word w k) = a_word w
+key_string text from to s (words.quoted j p n k) = quoted j
+
+digits_one : (text : List ℕ) (from a b v w : ℕ) → Digits text from a v → Digits text from b w
+    → (a ≡ b) × (v ≡ w)
+digits_one text from a b v w d e = Digits-one text from a b v w d.digits e.digits
+
+digit_first : (text : List ℕ) (from to v : ℕ) → Digits text from to v → 48 ≤ slice_index text from
+digit_first text from to v d =
+    let k : is_digit (slice_index text from) ≡ true =
+    d.digits.run.each from (omega arith) d.digits.some in
+    grind (arith, nat_tests, k)
+
+pub Number-one : (text : List ℕ) (from a b v w : ℕ) → Number text from a v → Number text from b w
+    → (a ≡ b) × (v ≡ w)
+Number-one text from a b v w (unsigned _ r d low) (unsigned _ r' d' low') =
+    digits_one text from a b v w d d'
+Number-one text from a b v w (unsigned _ r d low) (plus _ r' h' d' low') =
+    absurd (omega (arith, digit_first text from a v d))
+Number-one text from a b v w (unsigned _ r d low) (minus n r' h' d' low') =
+    absurd (omega (arith, digit_first text from a v d))
+Number-one text from a b v w (plus _ r h d low) (unsigned _ r' d' low') =
+    absurd (omega (arith, digit_first text from b w d'))
+Number-one text from a b v w (plus _ r h d low) (plus _ r' h' d' low') =
+    digits_one text (from + 1) a b v w d d'
+Number-one text from a b v w (plus _ r h d low) (minus n r' h' d' low') = absurd (omega arith)
+Number-one text from a b v w (minus n r h d low) (unsigned _ r' d' low') =
+    absurd (omega (arith, digit_first text from b w d'))
+Number-one text from a b v w (minus n r h d low) (plus _ r' h' d' low') = absurd (omega arith)
+Number-one text from a b v w (minus n r h d low) (minus n' r' h' d' low') =
+    let both = digits_one text (from + 1) a b n n' d d' in (both.0, ap plain.negated both.1)
+
+-- a number begins with a sign or a digit
+pub number_first : (text : List ℕ) (from to v : ℕ) → Number text from to v
+    → slice_index text from ≢ ascii.right_brace
+number_first text from to v (unsigned _ r d low) e =
+    let k : is_digit (slice_index text from) ≡ true =
+    d.digits.run.each from (omega arith) d.digits.some in
+    false≢true (ap is_digit (sym e) ∙ k)
+number_first text from to v (plus _ r h d low) e = omega arith
+number_first text from to v (minus n r h d low) e = omega arith
+
+TypeName-one : (text : List ℕ) (from a b : ℕ) (v w : List ℕ) → TypeName text from a v
+    → TypeName text from b w → (a ≡ b) × (v ≡ w)
+TypeName-one text from a b v w p q = Word-one text (from + 1) a b v w p.word q.word
+
+pub GroupType-one : (text : List ℕ) (from a b : ℕ) (k l : Kind) → GroupType text from a k
+    → GroupType text from b l → (a ≡ b) × (k ≡ l)
+GroupType-one text from a b k l p q =
+    let both = TypeName-one text from a b p.name q.name p.stands q.stands in
+    (both.0, Names-one p.name k l p.names (subst (λ (w : List ℕ). Names w l) (sym both.1) q.names))
+
+pub RootType-one : (text : List ℕ) (from a b : ℕ) (f g : Bool) → RootType text from a f
+    → RootType text from b g → (a ≡ b) × (f ≡ g)
+RootType-one text from a b true true (table_type p never) (table_type q never') =
+    ((TypeName-one text from a b _ _ p q).0, refl)
+RootType-one text from a b true false (table_type p never) (no_fallback_type j q n e) =
+    let same : j ≡ a = (TypeName-one text from j a _ _ q p).0 in
+    absurd (never (subst (λ (i : ℕ). NoFallback text i) same n))
+RootType-one text from a b false true (no_fallback_type i p n e) (table_type q never) =
+    let same : i ≡ b = (TypeName-one text from i b _ _ p q).0 in
+    absurd (never (subst (λ (i : ℕ). NoFallback text i) same n))
+RootType-one text from a b false false (no_fallback_type i p n e) (no_fallback_type j q n' e') =
+    let same : i ≡ j = (TypeName-one text from i j _ _ p q).0 in
+    (e ∙ ap (λ k. k + 12) same ∙ sym e', refl)
+
+-- a type of the root begins with a colon
+pub root_type_first : (text : List ℕ) (from to : ℕ) (f : Bool) → RootType text from to f
+    → slice_index text from ≡ ascii.colon
+root_type_first text from to f (table_type p never) = p.colon
+root_type_first text from to f (no_fallback_type i p n e) = p.colon
+
+pub Name-one : (text : List ℕ) (from a b : ℕ) (s t : List ℕ) → Name text from a s
+    → Name text from b t → (a ≡ b) × (s ≡ t)
+Name-one text from a b s t p q =
+    String-one text from a b s t (key_string text from a s p.key) (key_string text from b t q.key)

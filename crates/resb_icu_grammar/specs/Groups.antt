@@ -1,0 +1,142 @@
+-- Groups of ICU's text form: what a group without a type is, the members of arrays and the entries
+-- of tables, as least relations on a text and two places.
+use Rattle.std.specs.Prelude.{◌≡◌, ◌⊎◌, ◌+◌, ◌%◌, ◌^◌, ◌&&◌, ◌||◌, not, ℕ, Bool, true, false}
+use Rattle.std.specs.Prelude.{List, [], ◌∷◌, ◌++◌, Some, slice_index, codes, nat_eq}
+use Rattle.std.specs.List.{list_any}
+use Rattle.std.specs.Cmp.Lexicographic.{pointwise}
+use Rattle.resb_grammar.specs.Ascii as ascii
+use Rattle.resb_grammar.specs.GroupTypes.{Kind, string_kind, array_kind, table_kind, binary_kind}
+use Rattle.resb_grammar.specs.GroupTypes.{integer_kind, vector_kind}
+use Rattle.resb_grammar.specs.Group.{hex_bytes}
+use Rattle.resb_tree.specs.Tree.{Tree, string, array, table, binary, integer, int_vector}
+use Rattle.resb_tree.specs.Tree.{trees_of, map_of}
+use Rattle.resb_icu_grammar.specs.Blanks.{Skip}
+use Rattle.resb_icu_grammar.specs.Words.{String, KeyText, Number, GroupType}
+
+-- a type, its `{`, and the blanks around that
+pub record Head (text : List ℕ) (from : ℕ) (kind : Kind) (to : ℕ) : Type 0 where
+  pub ends : ℕ
+  pub brace : ℕ
+  pub named : GroupType text from ends kind
+  pub between : Skip text ends brace
+  pub opens : slice_index text brace ≡ ascii.left_brace
+  pub after : Skip text (brace + 1) to
+
+-- numbers with one comma between two of them, and perhaps one behind the last
+pub data Numbers (text : List ℕ) : ℕ → ℕ → List ℕ → Type 0 where
+  last_number : (from i to v : ℕ) → Number text from i v → Skip text i to
+      → Numbers text from to (v ∷ [])
+  last_comma : (from i j to v : ℕ) → Number text from i v → Skip text i j
+      → slice_index text j ≡ ascii.comma → Skip text (j + 1) to → Numbers text from to (v ∷ [])
+  one_more : (from i j k to v : ℕ) (ns : List ℕ) → Number text from i v → Skip text i j
+      → slice_index text j ≡ ascii.comma → Skip text (j + 1) k → Numbers text k to ns
+      → Numbers text from to (v ∷ ns)
+
+-- the content of a group that holds neither members nor entries
+pub data LeafContent (text : List ℕ) (from to : ℕ) : Kind → Tree → Type 0 where
+  string_content : (i : ℕ) (s : List ℕ) → String text from i s → Skip text i to
+      → LeafContent text from to string_kind (string s)
+  binary_content : (i : ℕ) (s bytes : List ℕ) → String text from i s → hex_bytes s ≡ Some bytes
+      → Skip text i to → LeafContent text from to binary_kind (binary bytes)
+  integer_content : (i v : ℕ) → Number text from i v → Skip text i to
+      → LeafContent text from to integer_kind (integer (v % 2 ^ 28))
+  no_numbers : from ≡ to → LeafContent text from to vector_kind (int_vector [])
+  numbers : (ns : List ℕ) → Numbers text from to ns
+      → LeafContent text from to vector_kind (int_vector ns)
+
+-- what stands last among the members so far: nothing, a string, a group, or the comma behind one
+pub data Last : Type 0 where
+  nothing : Last
+  a_string : Last
+  a_group : Last
+  a_comma : Last
+
+-- a member stands last, with no comma behind it
+abbrev pub is_member : Last → Bool
+is_member nothing = false
+is_member a_string = true
+is_member a_group = true
+is_member a_comma = false
+
+-- a string stands last, with no comma behind it
+abbrev pub is_string : Last → Bool
+is_string a_string = true
+is_string _ = false
+
+-- a group without a type is an array by what it begins with: a group, or a string and a comma
+pub data BeginsArray (text : List ℕ) (at : ℕ) : Type 0 where
+  with_a_group : (slice_index text at ≡ ascii.left_brace) ⊎ (slice_index text at ≡ ascii.colon)
+      → BeginsArray text at
+  with_a_string : (i k : ℕ) (s : List ℕ) → String text at i s → Skip text i k
+      → slice_index text k ≡ ascii.comma → BeginsArray text at
+
+-- among these entries none has this key
+abbrev pub is_new : List ℕ → List (List ℕ × Tree) → Bool
+is_new key entries = not (list_any (λ e. pointwise nat_eq key e.0) entries)
+
+-- keys whose tables hold rules of collation, which are no part of this form
+abbrev pub is_collation : List ℕ → Bool
+is_collation key =
+    pointwise nat_eq key (codes "collations") || pointwise nat_eq key (codes "CollationElements")
+
+-- the tree is a table
+abbrev pub is_table : Tree → Bool
+is_table (table es) = true
+is_table _ = false
+
+mutual
+  -- the members of an array behind what stands last, and the keys of their tables in order of
+  -- place; no string stands right behind a string, and one comma may follow a member
+  pub data Members (text : List ℕ) : Last → ℕ → ℕ → List Tree → List (List ℕ) → Type 0 where
+    no_member : (last : Last) (at : ℕ) → Members text last at at [] []
+    string_member : (last : Last) (from i j to : ℕ) (s : List ℕ) (ts : List Tree)
+        (ks : List (List ℕ)) → is_string last ≡ false → String text from i s → Skip text i j
+        → Members text a_string j to ts ks → Members text last from to (string s ∷ ts) ks
+    group_member : (last : Last) (from i j to : ℕ) (t : Tree) (js ks : List (List ℕ))
+        (ts : List Tree) → Group text from i t js → Skip text i j → Members text a_group j to ts ks
+        → Members text last from to (t ∷ ts) (js ++ ks)
+    comma_behind : (last : Last) (from j to : ℕ) (ts : List Tree) (ks : List (List ℕ))
+        → is_member last ≡ true → slice_index text from ≡ ascii.comma → Skip text (from + 1) j
+        → Members text a_comma j to ts ks → Members text last from to ts ks
+
+  -- the entries of a table in order of place, each key once, and the keys in order of place. Under
+  -- the keys of collations stands no table
+  pub data Entries (text : List ℕ) : ℕ → ℕ → List (List ℕ × Tree) → List (List ℕ) → Type 0 where
+    no_entry : (at : ℕ) → Entries text at at [] []
+    one_entry : (from i j m n to : ℕ) (k : List ℕ) (t : Tree) (es : List (List ℕ × Tree))
+        (js ks : List (List ℕ)) → KeyText text from i k → Skip text i j → Group text j m t js
+        → (is_collation k && is_table t) ≡ false → Skip text m n → Entries text n to es ks
+        → is_new k es ≡ true → Entries text from to ((k, t) ∷ es) (k ∷ js ++ ks)
+
+  -- what stands in a group without a type
+  pub data Untyped (text : List ℕ) : ℕ → ℕ → Tree → List (List ℕ) → Type 0 where
+    -- nothing: an array
+    an_empty_array : (at : ℕ) → Untyped text at at (array (trees_of [])) []
+    -- one string
+    one_string : (from i to : ℕ) (s : List ℕ) → String text from i s → Skip text i to
+        → Untyped text from to (string s) []
+    -- an array, which begins with a group, or with a string and a comma
+    an_array : (from to : ℕ) (ts : List Tree) (ks : List (List ℕ)) → BeginsArray text from
+        → Members text nothing from to ts ks → Untyped text from to (array (trees_of ts)) ks
+    -- a table, which has an entry
+    a_table : (from to : ℕ) (e : List ℕ × Tree) (es : List (List ℕ × Tree)) (ks : List (List ℕ))
+        → Entries text from to (e ∷ es) ks → Untyped text from to (table (map_of (e ∷ es))) ks
+
+  -- what stands in a group with a type
+  pub data Typed (text : List ℕ) : Kind → ℕ → ℕ → Tree → List (List ℕ) → Type 0 where
+    members : (from to : ℕ) (ts : List Tree) (ks : List (List ℕ))
+        → Members text nothing from to ts ks
+        → Typed text array_kind from to (array (trees_of ts)) ks
+    entries : (from to : ℕ) (es : List (List ℕ × Tree)) (ks : List (List ℕ))
+        → Entries text from to es ks → Typed text table_kind from to (table (map_of es)) ks
+    leaf : (kind : Kind) (from to : ℕ) (t : Tree) → LeafContent text from to kind t
+        → Typed text kind from to t []
+
+  -- a group with its tree, and the keys of its tables in order of place
+  pub data Group (text : List ℕ) : ℕ → ℕ → Tree → List (List ℕ) → Type 0 where
+    untyped : (from i k : ℕ) (t : Tree) (ks : List (List ℕ))
+        → slice_index text from ≡ ascii.left_brace → Skip text (from + 1) i → Untyped text i k t ks
+        → slice_index text k ≡ ascii.right_brace → Group text from (k + 1) t ks
+    typed : (from i k : ℕ) (kind : Kind) (t : Tree) (ks : List (List ℕ)) → Head text from kind i
+        → Typed text kind i k t ks → slice_index text k ≡ ascii.right_brace
+        → Group text from (k + 1) t ks

@@ -1,0 +1,2 @@
+-- Words of proofs about readings of a text.
+pub mod Rest

@@ -1,0 +1,12 @@
+-- What the laws of ICU's text form say.
+use Rattle.std.specs.Prelude.{◌≡◌, ℕ, Bool, List}
+use Rattle.resb_tree.specs.Tree.{Tree}
+use Rattle.resb_icu_grammar.specs.Bundle.{IcuText}
+
+-- a text has at most one name, fallback, tree and list of keys
+abbrev pub OneIcuText : Type 0
+OneIcuText =
+    (text name other : List ℕ) (fallback enabled : Bool) (tree root : Tree)
+    (keys ks : List (List ℕ))
+    → IcuText text name fallback tree keys → IcuText text other enabled root ks
+    → (name ≡ other) × (fallback ≡ enabled) × (tree ≡ root) × (keys ≡ ks)

@@ -1,0 +1,10 @@
+-- ICU's text form as definitions: its bytes, blanks, strings, groups and bundles.
+pub mod Bytes
+pub mod Blanks
+pub mod Escapes
+pub mod Pieces
+pub mod Words
+pub mod Groups
+pub mod Bundle
+pub mod Laws
+pub mod Inner

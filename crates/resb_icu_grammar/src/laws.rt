@@ -1,0 +1,8 @@
+//! The laws of ICU's text form, each the contract of a function that does nothing.
+//! They speak of the definitions alone.
+ghost use Rattle.resb_icu_grammar.specs.Laws.{OneIcuText};
+
+/// A text of ICU's form has one name, fallback, tree and list of keys.
+pub fn one_icu_text()
+    ensures { OneIcuText }
+{}

@@ -1,5 +1,4 @@
 -- For crates above: those that are `pub`.
-pub mod Walks
 mod Anywhere
 mod Numbers
 mod Pending

@@ -1,6 +1,5 @@
 -- What stands so far, as the definitions see it, the numbers that are given for a tree, and room for
 -- its bodies.
---     trees_in rs             resources as trees
 --     laid_of b               what stands so far
 --     Numbered g ps os ts     ps and os are where the keys and the strings of ts stand, in turn
 --     HasRoomFor n s ts       there is room for the bodies of ts behind s
@@ -9,17 +8,10 @@
 use Rattle.std.specs.Prelude.{◌≡◌, ℕ, ◌+◌, ◌*◌, ◌/◌, ◌%◌, ◌^◌, ◌<◌, List, length, map, All}
 use Rattle.std.specs.Prelude.{Some, None}
 use Rattle.std.specs.List.{sum_by, flat_map}
-use Rattle.std.specs.Borrow.{Bor}
 use Rattle.resb_tree.specs.Tree.{Tree, string, array, table, binary, integer, int_vector}
-use Rattle.resb_tree.specs.View.{tree_of}
-use Rattle.resb_tree.specs.declared.resource.Resource.{Resource}
 use Rattle.resb_layout.specs.Laid.{Given, Laid}
 use Rattle.resb_tree.specs.WalkOrder.{members, values_of, own_keys, text_in}
 use Rattle.resb_bodies.specs.declared.given.Bodies.{Bodies}
-
--- the trees that resources stand for, in their order
-abbrev pub trees_in : List (Bor Resource) → List Tree
-trees_in rs = map (λ r. tree_of r.now) rs
 
 -- the units and the bytes that are laid so far
 abbrev pub laid_of : Bodies → Laid

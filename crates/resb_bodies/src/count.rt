@@ -5,16 +5,15 @@ ghost use Rattle.std.specs.Prelude.{length, map, take, nat_le, true, false, IfOk
 ghost use Rattle.std.specs.List.{sum_by, list_all};
 ghost use Rattle.resb_tree.specs.Tree.{Tree};
 ghost use Rattle.resb_tree.specs.View.{tree_of};
-ghost use Rattle.resb_tree.specs.WalkOrder.{walk, children};
+ghost use Rattle.resb_tree.specs.WalkOrder.{walk, children, trees_in};
 ghost use Rattle.resb_layout.specs.Laid.{Given, are_near};
-ghost use Rattle.resb_bodies.specs.Room.{trees_in, most_units, Numbered};
+ghost use Rattle.resb_bodies.specs.Room.{most_units, Numbered};
 ghost use Rattle.resb_bodies.specs.Inner.Counted.{is_near, own_units, short_units};
 ghost use Rattle.resb_bodies.specs.Inner.Counted.{are_set_behind, CountsOne};
 
 use crate::given::{Coming, Sites};
 use crate::resource::{UNIT_MAX, are_near_positions};
-use crate::walk_order::WalkOrder;
-use resb_tree::Resource;
+use resb_tree::{Resource, WalkOrder};
 use std::alloc::{AllocError, Global};
 
 /// The units of a collection of so many members, each of which takes some.

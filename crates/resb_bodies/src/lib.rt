@@ -9,8 +9,6 @@ pub mod laws;
 mod lay;
 mod resource;
 mod tree;
-mod walk_order;
 
 pub use given::{Bodies, Sites};
 pub use tree::lay_bodies;
-pub use walk_order::{WalkOrder, in_walk_order};

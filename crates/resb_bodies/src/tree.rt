@@ -5,17 +5,16 @@ ghost use Rattle.std.specs.List.{sum_by};
 ghost use Rattle.resb_tree.specs.Tree.{Tree};
 ghost use Rattle.resb_tree.specs.View.{tree_of};
 ghost use Rattle.resb_layout.specs.Laid.{Given, Lays};
-ghost use Rattle.resb_tree.specs.WalkOrder.{walk, children};
+ghost use Rattle.resb_tree.specs.WalkOrder.{walk, children, trees_in};
 ghost use Rattle.resb_bodies.specs.StackSteps.{LaysNext, LaysRow};
-ghost use Rattle.resb_bodies.specs.Room.{laid_of, trees_in, own_size, Numbered};
+ghost use Rattle.resb_bodies.specs.Room.{laid_of, own_size, Numbered};
 ghost use Rattle.resb_bodies.specs.Room.{HasRoomFor, HasRoomBehind, tail_base, most_units};
 ghost use Rattle.resb_bodies.specs.Inner.Seen.{Anywhere, HasRoom, TakesNoMore, CanLay};
 
 use crate::count::count_units;
 use crate::given::{Bodies, Coming, Sites};
 use crate::lay::{step_array, step_bytes, step_integer, step_numbers, step_string, step_table};
-use crate::walk_order::WalkOrder;
-use resb_tree::Resource;
+use resb_tree::{Resource, WalkOrder};
 use std::alloc::{AllocError, Global};
 
 /// Lays a resource behind its members, whose words it takes off the stack, and puts its own. Where

@@ -11,9 +11,9 @@ use crate::file::{Pieces, assemble};
 use crate::key_block::{KEYS_START, KeyBlock, block_length};
 use crate::limits::check_sizes;
 use crate::strings::Strings;
-use resb_bodies::{Sites, in_walk_order, lay_bodies};
+use resb_bodies::{Sites, lay_bodies};
 use resb_pool::BinarySerializerError;
-use resb_tree::{Key, ResourceBundle};
+use resb_tree::{Key, ResourceBundle, in_walk_order};
 use std::alloc::Global;
 
 /// Writes bundles as files. There are no values of this type.

@@ -8,7 +8,7 @@ use Rattle.resb_tree.specs.declared.resource.Resource.{the_lemmas}
 use Rattle.resb_tree.specs.WalkOrder.{children, entry_keys}
 use Rattle.resb_bodies.specs.Room.{Numbered}
 use Rattle.resb_bodies.specs.Inner.Counted.{is_near, CountsOne}
-use Rattle.resb_bodies.proofs.Walks.{items_long}
+use Rattle.resb_tree.proofs.WalkOrderLemmas.{items_long}
 use Rattle.resb_bodies.proofs.Keys.{keys_long, values_long}
 use Rattle.resb_bodies.proofs.Numbers.{behind_table}
 use Rattle.resb_bodies.proofs.Marks.{string_one, other_one, array_one, table_one}

@@ -4,13 +4,13 @@ use Rattle.std.specs.List.{sum_by}
 use Rattle.std.proofs.lemmas.List.{length-append, length-map}
 use Rattle.std.proofs.lemmas.List.Sums.{sum_by-cons, sum_by-append}
 use Rattle.resb_tree.specs.View.{tree_of}
-use Rattle.resb_tree.specs.WalkOrder.{children}
+use Rattle.resb_tree.specs.WalkOrder.{children, trees_in}
 use Rattle.resb_layout.specs.Laid.{Given}
-use Rattle.resb_bodies.specs.Room.{trees_in, most_units, Numbered}
+use Rattle.resb_bodies.specs.Room.{most_units, Numbered}
 use Rattle.resb_bodies.specs.Inner.Counted.{is_near, own_units, Pending, CountsOne}
 use Rattle.resb_bodies.proofs.Marks.{own_few}
 use Rattle.resb_bodies.proofs.Pending.{pending}
-use Rattle.resb_bodies.proofs.Walks.{trees-drop, trees-take}
+use Rattle.resb_tree.proofs.WalkOrderLemmas.{trees-drop, trees-take}
 use Rattle.resb_bodies.proofs.count.count_units.Goals as goal
 
 pub loop-at-init : goal.loop-at-init

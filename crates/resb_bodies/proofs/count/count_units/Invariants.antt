@@ -2,7 +2,8 @@ use Rattle.std.proofs.Common.{◌≡◌, ◌+◌, ◌≤◌, List, map, take, dr
 use Rattle.std.specs.List.{sum_by}
 use Rattle.resb_tree.specs.Tree.{Tree}
 use Rattle.resb_layout.specs.Laid.{Given}
-use Rattle.resb_bodies.specs.Room.{trees_in, most_units, Numbered}
+use Rattle.resb_bodies.specs.Room.{most_units, Numbered}
+use Rattle.resb_tree.specs.WalkOrder.{trees_in}
 use Rattle.resb_bodies.specs.Inner.Counted.{Pending, is_near, own_units}
 use Rattle.resb_bodies.proofs.count.count_units.Given as goal
 

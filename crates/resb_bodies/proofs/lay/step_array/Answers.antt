@@ -7,7 +7,7 @@ use Rattle.resb_bodies.specs.StackSteps.{LaysNext}
 use Rattle.resb_bodies.specs.Room.{laid_of}
 use Rattle.resb_bodies.specs.Inner.Seen.{TakesNoMore}
 use Rattle.std.proofs.lemmas.List.{nil_from_length}
-use Rattle.resb_bodies.proofs.Walks.{items_long}
+use Rattle.resb_tree.proofs.WalkOrderLemmas.{items_long}
 use Rattle.resb_bodies.proofs.Stacks.{split_stack, array_step, empty_array_step}
 use Rattle.resb_bodies.proofs.Anywhere.{array_anywhere}
 use Rattle.resb_bodies.proofs.lay.step_array.Goals as goal

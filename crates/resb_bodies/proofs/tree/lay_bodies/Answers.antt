@@ -2,8 +2,8 @@ use Rattle.std.proofs.Common.{◌≡◌, ◌+◌, ◌*◌, ◌%◌, ℕ, [], len
 use Rattle.std.specs.List.{sum_by}
 use Rattle.resb_tree.specs.Tree.{Tree}
 use Rattle.resb_layout.specs.Laid.{Given, Lays}
-use Rattle.resb_tree.specs.WalkOrder.{walk}
-use Rattle.resb_bodies.specs.Room.{laid_of, trees_in, HasRoomFor, Numbered}
+use Rattle.resb_tree.specs.WalkOrder.{walk, trees_in}
+use Rattle.resb_bodies.specs.Room.{laid_of, HasRoomFor, Numbered}
 use Rattle.resb_bodies.specs.Inner.Counted.{own_units}
 use Rattle.resb_bodies.proofs.Counting.{units}
 use Rattle.resb_bodies.proofs.Numbers.{based, moved}

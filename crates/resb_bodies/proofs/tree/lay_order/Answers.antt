@@ -1,9 +1,9 @@
 use Rattle.std.proofs.Common.{[], length, refl, sym, ◌∙◌, ap, subst, arith}
 use Rattle.std.proofs.lemmas.List.{same_from_push}
 use Rattle.resb_layout.specs.Laid.{Lays}
-use Rattle.resb_tree.specs.WalkOrder.{walk}
+use Rattle.resb_tree.specs.WalkOrder.{walk, trees_in}
 use Rattle.resb_bodies.specs.StackSteps.{LaysRow}
-use Rattle.resb_bodies.specs.Room.{laid_of, trees_in}
+use Rattle.resb_bodies.specs.Room.{laid_of}
 use Rattle.resb_bodies.specs.Inner.Seen.{Suffices}
 use Rattle.resb_bodies.proofs.Numbers.{based, moved}
 use Rattle.resb_bodies.proofs.Rows.{suffices}

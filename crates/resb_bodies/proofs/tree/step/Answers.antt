@@ -9,7 +9,7 @@ use Rattle.resb_tree.specs.WalkOrder.{children}
 use Rattle.resb_bodies.specs.StackSteps.{LaysNext}
 use Rattle.resb_bodies.specs.Room.{laid_of, own_size, Numbered}
 use Rattle.resb_bodies.specs.Inner.Seen.{HasRoom, TakesNoMore}
-use Rattle.resb_bodies.proofs.Walks.{items_long}
+use Rattle.resb_tree.proofs.WalkOrderLemmas.{items_long}
 use Rattle.resb_bodies.proofs.Keys.{keys_long, values_long}
 use Rattle.resb_bodies.proofs.Numbers.{string_left, behind_table, table_known, table_left}
 use Rattle.resb_bodies.proofs.tree.step.Goals as goal

@@ -3,11 +3,12 @@ use Rattle.std.specs.List.{sum_by}
 use Rattle.std.proofs.lemmas.List.Sums.{sum_by-cons}
 use Rattle.resb_tree.specs.View.{tree_of}
 use Rattle.resb_bodies.specs.StackSteps.{LaysRow, row_none}
-use Rattle.resb_bodies.specs.Room.{laid_of, trees_in, most_units, Numbered}
+use Rattle.resb_bodies.specs.Room.{laid_of, most_units, Numbered}
+use Rattle.resb_tree.specs.WalkOrder.{trees_in}
 use Rattle.resb_bodies.specs.Inner.Seen.{CanLay}
 use Rattle.resb_bodies.proofs.Numbers.{based, moved}
 use Rattle.resb_bodies.proofs.Rows.{steps_push, step_long, can_go_on}
-use Rattle.resb_bodies.proofs.Walks.{trees-drop, trees-take}
+use Rattle.resb_tree.proofs.WalkOrderLemmas.{trees-drop, trees-take}
 use Rattle.resb_bodies.proofs.tree.steps.Goals as goal
 
 pub loop-at-init : goal.loop-at-init

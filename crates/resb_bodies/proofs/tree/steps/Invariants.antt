@@ -2,7 +2,8 @@ use Rattle.std.proofs.Common.{◌+◌, ◌≤◌, length, take, drop}
 use Rattle.std.specs.List.{sum_by}
 use Rattle.resb_layout.specs.Laid.{Given}
 use Rattle.resb_bodies.specs.StackSteps.{LaysRow}
-use Rattle.resb_bodies.specs.Room.{laid_of, trees_in, most_units, Numbered}
+use Rattle.resb_bodies.specs.Room.{laid_of, most_units, Numbered}
+use Rattle.resb_tree.specs.WalkOrder.{trees_in}
 use Rattle.resb_bodies.specs.Inner.Seen.{Anywhere, CanLay}
 use Rattle.resb_bodies.proofs.tree.steps.Given as goal
 

@@ -1,11 +1,10 @@
 use Rattle.std.proofs.Common.{◌≡◌, ◌∙◌, ◌++◌, [], ◌∷◌, reverse, ap, sym, append-nil, arith}
 use Rattle.std.specs.List.{flat_map}
 use Rattle.resb_tree.specs.View.{tree_of}
-use Rattle.resb_tree.specs.WalkOrder.{walk}
-use Rattle.resb_bodies.specs.Room.{trees_in}
-use Rattle.resb_bodies.proofs.Walks.{trees-push, replaced, replaced_counts}
+use Rattle.resb_tree.specs.WalkOrder.{walk, trees_in}
+use Rattle.resb_tree.proofs.WalkOrderLemmas.{trees-push, replaced, replaced_counts}
 use Rattle.std.proofs.lemmas.List.{nil_from_length}
-use Rattle.resb_bodies.proofs.walk_order.push_walk.Goals as goal
+use Rattle.resb_tree.proofs.walk_order.push_walk.Goals as goal
 
 pub loop-resource-init : goal.loop-resource-init
 loop-resource-init c =

@@ -1,7 +1,7 @@
 use Rattle.std.proofs.Common.{◌∙◌, ap}
-use Rattle.resb_bodies.specs.Room.{trees_in}
-use Rattle.resb_bodies.proofs.Walks.{trees-reverse}
-use Rattle.resb_bodies.proofs.walk_order.in_walk_order.Goals as goal
+use Rattle.resb_tree.specs.WalkOrder.{trees_in}
+use Rattle.resb_tree.proofs.WalkOrderLemmas.{trees-reverse}
+use Rattle.resb_tree.proofs.walk_order.in_walk_order.Goals as goal
 
 pub returns : goal.returns
 returns c =

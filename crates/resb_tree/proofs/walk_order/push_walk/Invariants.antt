@@ -2,9 +2,8 @@ use Rattle.std.proofs.Common.{◌≡◌, ◌++◌, reverse}
 use Rattle.std.specs.List.{flat_map, sum_by}
 use Rattle.resb_tree.specs.Tree.{tree_count}
 use Rattle.resb_tree.specs.View.{tree_of}
-use Rattle.resb_tree.specs.WalkOrder.{walk}
-use Rattle.resb_bodies.specs.Room.{trees_in}
-use Rattle.resb_bodies.proofs.walk_order.push_walk.Given as goal
+use Rattle.resb_tree.specs.WalkOrder.{walk, trees_in}
+use Rattle.resb_tree.proofs.walk_order.push_walk.Given as goal
 
 abbrev pub invariant-loop-resource : goal.invariant-loop-resource
 invariant-loop-resource l = flat_map walk (trees_in l.pending.items) ++ reverse

@@ -2,10 +2,9 @@
 //! What is laid for each is not said here. No function calls itself, so that any depth is walked.
 ghost use Rattle.std.specs.Prelude.{◌≡◌, ◌++◌, [], map, reverse, IfOk, OnOk};
 ghost use Rattle.resb_tree.specs.View.{tree_of};
-ghost use Rattle.resb_tree.specs.WalkOrder.{walk, children};
-ghost use Rattle.resb_bodies.specs.Room.{trees_in};
+ghost use Rattle.resb_tree.specs.WalkOrder.{walk, children, trees_in};
 
-use resb_tree::{Resource, Table};
+use crate::resource::{Resource, Table};
 use std::alloc::{AllocError, Global};
 
 /// The resources of a tree in walk order: members before their collection.

@@ -11,7 +11,7 @@ use Rattle.resb_tree.specs.Tree.{tree_count, trees_count, entries_count}
 use Rattle.resb_tree.specs.View.{tree_of, items_view, entries_view}
 use Rattle.resb_tree.specs.declared.resource.Resource.{Resource}
 use Rattle.resb_tree.specs.WalkOrder.{members, values_of, children, walk, walk_each, walk_values}
-use Rattle.resb_bodies.specs.Room.{trees_in}
+use Rattle.resb_tree.specs.WalkOrder.{trees_in}
 use Rattle.std.proofs.lemmas.Grind.{flat_map-append}
 
 each_is : (ts : Trees) → walk_each ts ≡ flat_map walk (members ts)

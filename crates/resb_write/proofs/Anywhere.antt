@@ -26,7 +26,8 @@ module _ (g : Given) (n : ℕ) where
   bytes_with lays_no_bytes = lays_no_bytes
   bytes_with (lays_bytes at some m f l) = lays_bytes at some m f l
 
-  numbers_with : {s : Laid} {ns : List ℕ} {e : Laid} {w : ℕ} → Lays (at_base n) s (int_vector ns) e w
+  numbers_with : {s : Laid} {ns : List ℕ} {e : Laid} {w : ℕ}
+      → Lays (at_base n) s (int_vector ns) e w
       → Lays (with_base g n) s (int_vector ns) e w
   numbers_with lays_no_numbers = lays_no_numbers
   numbers_with (lays_numbers at some m a f l) = lays_numbers at some m a f l
@@ -35,20 +36,24 @@ module _ (g : Given) (n : ℕ) (e : g.base ≡ n) where
   there : (P : Given → Type 0) → P (with_base g n) → P g
   there P h = subst (λ k. P (with_base g k)) (sym e) h
 
-  pub array_anywhere : {s : Laid} {ws : List ℕ} {e : Laid} {w : ℕ} → ClosesArray (at_base n) s ws e w
+  pub array_anywhere : {s : Laid} {ws : List ℕ} {e : Laid} {w : ℕ}
+      → ClosesArray (at_base n) s ws e w
       → ClosesArray g s ws e w
   array_anywhere {s} {ws} {e} {w} h = there (λ k. ClosesArray k s ws e w) (array_with g n h)
 
-  pub table_anywhere : {s : Laid} {ps ws : List ℕ} {e : Laid} {w : ℕ} → ClosesTable (at_base n) s ps ws e w
+  pub table_anywhere : {s : Laid} {ps ws : List ℕ} {e : Laid} {w : ℕ}
+      → ClosesTable (at_base n) s ps ws e w
       → ClosesTable g s ps ws e w
   table_anywhere {s} {ps} {ws} {e} {w} h =
       there (λ k. ClosesTable k s ps ws e w) (table_with g n h)
 
-  pub bytes_anywhere : {s : Laid} {bs : List ℕ} {e : Laid} {w : ℕ} → Lays (at_base n) s (binary bs) e w
+  pub bytes_anywhere : {s : Laid} {bs : List ℕ} {e : Laid} {w : ℕ}
+      → Lays (at_base n) s (binary bs) e w
       → Lays g s (binary bs) e w
   bytes_anywhere {s} {bs} {e} {w} h = there (λ k. Lays k s (binary bs) e w) (bytes_with g n h)
 
-  pub numbers_anywhere : {s : Laid} {ns : List ℕ} {e : Laid} {w : ℕ} → Lays (at_base n) s (int_vector ns) e w
+  pub numbers_anywhere : {s : Laid} {ns : List ℕ} {e : Laid} {w : ℕ}
+      → Lays (at_base n) s (int_vector ns) e w
       → Lays g s (int_vector ns) e w
   numbers_anywhere {s} {ns} {e} {w} h =
       there (λ k. Lays k s (int_vector ns) e w) (numbers_with g n h)

@@ -1,6 +1,7 @@
 -- How many units what is laid takes, by the resources alone.
 use Rattle.std.proofs.Common.{◌≡◌, ℕ, ◌+◌, ◌*◌, ◌<◌, ◌&&◌, List, [], ◌∷◌, ◌++◌, length}
-use Rattle.std.proofs.Common.{map, Some, Bool, true, false, nat_le, nat_lt, refl, sym, ◌∙◌, ap, arith}
+use Rattle.std.proofs.Common.{map, Some, Bool, true, false, nat_le, nat_lt, refl, sym, ◌∙◌, ap}
+use Rattle.std.proofs.Common.{arith}
 use Rattle.std.proofs.Common.{if◌then◌else◌}
 use Rattle.std.specs.List.{sum_by, list_all}
 use Rattle.std.proofs.lemmas.Bool.{le-leb, lt-leb, leb-true, leb-false, lt-ltb, and_left}
@@ -162,7 +163,8 @@ module _ (g : Given) where
     units {s} {e} {t} (lays_items {mid = mid} {ts = ts} {ws = ws} k some c) =
         let r = units_each k in
         let o = array_units (members ts) r.1 r.2 some c in (
-          behind (length s.units) (length mid.units) (length e.units) 0 _ (walk_each ts) t r.0 o.0 refl,
+          behind (length s.units) (length mid.units) (length e.units) 0 _ (walk_each ts) t r.0 o.0
+              refl,
           o.1,
         )
     units {s} {e} {t} lays_no_entries = (leaf s t refl, refl)

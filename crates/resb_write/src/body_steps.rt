@@ -11,8 +11,8 @@ ghost use Rattle.resb_write.specs.Inner.StackSteps.{LaysNext};
 ghost use Rattle.resb_write.specs.Inner.Room.{laid_of};
 ghost use Rattle.resb_write.specs.Inner.Seen.{Anywhere, HasRoom, TakesNoMore};
 
-use crate::sites::Bodies;
 use crate::resource_bodies::{close_array, close_table, lay_bytes, lay_numbers, word};
+use crate::sites::Bodies;
 use resb_format::ResourceReprType;
 use resb_tree::{Resource, Table};
 use std::alloc::AllocError;

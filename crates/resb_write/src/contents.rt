@@ -12,7 +12,7 @@ ghost use Rattle.resb_pool.specs.Plan.{nows, first_too_long};
 ghost use Rattle.resb_tree.specs.WalkOrder.{entry_keys, trees_in};
 ghost use Rattle.resb_write.specs.Inner.Gathered.{Gathered};
 
-use resb_pool::utf16_len;
+use resb_format::utf16_len;
 use resb_tree::{Resource, Table, WalkOrder};
 use std::alloc::{AllocError, Global};
 

@@ -9,8 +9,8 @@ ghost use Rattle.resb_layout.specs.Laid.{offsets_in};
 ghost use Rattle.resb_write.specs.Inner.Room.{at_base, laid_of};
 ghost use Rattle.resb_write.specs.Inner.Seen.{HasRoom, TakesNoMore};
 
-use crate::tail_bytes::{put_counted, put_fill, put_short_table, put_wide_table, put_word};
 use crate::sites::Bodies;
+use crate::tail_bytes::{put_counted, put_fill, put_short_table, put_wide_table, put_word};
 use resb_format::{ResDescriptor, ResourceReprType};
 use std::alloc::AllocError;
 

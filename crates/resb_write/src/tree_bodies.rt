@@ -11,9 +11,11 @@ ghost use Rattle.resb_write.specs.Inner.Room.{laid_of, own_size, Numbered};
 ghost use Rattle.resb_write.specs.Inner.Room.{HasRoomFor, HasRoomBehind, tail_base, most_units};
 ghost use Rattle.resb_write.specs.Inner.Seen.{Anywhere, HasRoom, TakesNoMore, CanLay};
 
-use crate::unit_count::count_units;
+use crate::body_steps::{
+    step_array, step_bytes, step_integer, step_numbers, step_string, step_table,
+};
 use crate::sites::{Bodies, Coming, Sites};
-use crate::body_steps::{step_array, step_bytes, step_integer, step_numbers, step_string, step_table};
+use crate::unit_count::count_units;
 use resb_tree::{Resource, WalkOrder};
 use std::alloc::{AllocError, Global};
 

@@ -11,8 +11,8 @@ ghost use Rattle.resb_write.specs.Inner.Room.{most_units, Numbered};
 ghost use Rattle.resb_write.specs.Inner.Counted.{is_near, own_units, short_units};
 ghost use Rattle.resb_write.specs.Inner.Counted.{are_set_behind, CountsOne};
 
-use crate::sites::{Coming, Sites};
 use crate::resource_bodies::{UNIT_MAX, are_near_positions};
+use crate::sites::{Coming, Sites};
 use resb_tree::{Resource, WalkOrder};
 use std::alloc::{AllocError, Global};
 

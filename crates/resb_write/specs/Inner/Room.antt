@@ -1,5 +1,5 @@
--- What stands so far, as the definitions see it, the numbers that are given for a tree, and room for
--- its bodies.
+-- What stands so far, as the definitions see it, the numbers that are given for a tree, and room
+-- for its bodies.
 --     laid_of b               what stands so far
 --     Numbered g ps os ts     ps and os are where the keys and the strings of ts stand, in turn
 --     HasRoomFor n s ts       there is room for the bodies of ts behind s

@@ -31,7 +31,8 @@ loop-at-preserved c =
     let old = c.loop-at.words.items in
     let new = c.step.new.words.items in
     let v = c.loop-at.invariant in
-    let h : i < length order = omega (arith, c.loop-at-test.true, c.len-at-end.ensures, c.args.order.now.ok.0) in
+    let h : i < length order =
+    omega (arith, c.loop-at-test.true, c.len-at-end.ensures, c.args.order.now.ok.0) in
     let split = trees-drop order i d c.index.ensures h in
     let more = trees-take order i d c.index.ensures h in
     let rest = trees_in (drop (i + 1) order) in

@@ -115,7 +115,8 @@ returns-in-Table c =
       counts = IfOk-weaker c.count_table.result _ _ (λ n h g rest below m are.
           subst (λ t. CountsOne g t rest below n new out) (sym e)
           (table_one g rest below ps os new ms out n es qs k many long
-          c.take_positions.ensures.taken c.take_positions.ensures.left c.take_positions.ensures.keeps
+          c.take_positions.ensures.taken c.take_positions.ensures.left
+          c.take_positions.ensures.keeps
           (subst (λ t. Numbered g ps os (t ∷ rest)) e m)
           (subst (λ t. ms ≡ map (is_near g) (below ++ children t)) e are) h))
           c.count_table.ensures;
@@ -133,7 +134,8 @@ returns-in-Binary c =
       counts = IfOk-weaker c.count_other.result _ _ (λ n h g rest below m are.
           let k = subst (λ t. Numbered g ps os (t ∷ rest)) e m in
           subst (λ t. CountsOne g t rest below n c.args.coming.now out) (sym e)
-          (other_one g rest below ps os c.args.coming.now ms out n (binary (cow_slice_items c.in-Binary.field-0)) refl refl refl
+          (other_one g rest below ps os c.args.coming.now ms out n
+          (binary (cow_slice_items c.in-Binary.field-0)) refl refl refl
           (record { keys = k.keys; texts = k.texts; near = k.near })
           (subst (λ t. ms ≡ map (is_near g) (below ++ children t)) e are) h))
           c.count_other.ensures;
@@ -151,7 +153,8 @@ returns-in-Integer c =
       counts = IfOk-weaker c.count_other-in-Integer.result _ _ (λ n h g rest below m are.
           let k = subst (λ t. Numbered g ps os (t ∷ rest)) e m in
           subst (λ t. CountsOne g t rest below n c.args.coming.now out) (sym e)
-          (other_one g rest below ps os c.args.coming.now ms out n (integer c.in-Integer.field-0) refl refl refl
+          (other_one g rest below ps os c.args.coming.now ms out n
+          (integer c.in-Integer.field-0) refl refl refl
           (record { keys = k.keys; texts = k.texts; near = k.near })
           (subst (λ t. ms ≡ map (is_near g) (below ++ children t)) e are) h))
           c.count_other-in-Integer.ensures;
@@ -169,7 +172,8 @@ returns-in-IntVector c =
       counts = IfOk-weaker c.count_other-in-IntVector.result _ _ (λ n h g rest below m are.
           let k = subst (λ t. Numbered g ps os (t ∷ rest)) e m in
           subst (λ t. CountsOne g t rest below n c.args.coming.now out) (sym e)
-          (other_one g rest below ps os c.args.coming.now ms out n (int_vector c.in-IntVector.field-0.items) refl refl refl
+          (other_one g rest below ps os c.args.coming.now ms out n
+          (int_vector c.in-IntVector.field-0.items) refl refl refl
           (record { keys = k.keys; texts = k.texts; near = k.near })
           (subst (λ t. ms ≡ map (is_near g) (below ++ children t)) e are) h))
           c.count_other-in-IntVector.ensures;

@@ -4,7 +4,7 @@ use Rattle.std.specs.Char.Escape.{encode_utf16}
 use Rattle.std.specs.Str.{encode_utf8_all}
 use Rattle.std.specs.Str.Iter.{chars_rest}
 use Rattle.resb_format.specs.Units.{units}
-use Rattle.resb_pool.proofs.measure.utf16_len.Given as goal
+use Rattle.resb_format.proofs.units.utf16_len.Given as goal
 
 abbrev pub invariant-loop-c : goal.invariant-loop-c
 invariant-loop-c l =

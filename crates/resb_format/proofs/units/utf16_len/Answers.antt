@@ -5,9 +5,8 @@ use Rattle.std.specs.Str.Iter.{chars_rest}
 use Rattle.std.specs.List.{flat_map}
 use Rattle.std.specs.Char.Escape.{encode_utf16}
 use Rattle.std.proofs.lemmas.Str.{encodes-chars, cons_from_encodes}
-use Rattle.resb_format.proofs.TextUnits.{no_chars, unit_count}
-use Rattle.resb_pool.proofs.Utf16.{units_le, units_ascii}
-use Rattle.resb_pool.proofs.measure.utf16_len.Goals as goal
+use Rattle.resb_format.proofs.TextUnits.{no_chars, unit_count, units_le, units_ascii}
+use Rattle.resb_format.proofs.units.utf16_len.Goals as goal
 
 pub loop-c-init : goal.loop-c-init
 loop-c-init c = (

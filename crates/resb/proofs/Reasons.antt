@@ -5,7 +5,7 @@ use Rattle.std.specs.Prelude.{codes, Bool}
 use Rattle.resb_tree.specs.Tree.{Tree}
 use Rattle.resb_grammar.specs.BundleText.{BundleText}
 use Rattle.resb_pool.specs.Fault.{Fault, unexpected}
-use Rattle.resb_write.specs.Faults.{Refused, no_memory, at_the_first, too_large}
+use Rattle.resb_layout.specs.Faults.{Refused, no_memory, at_the_first, too_large}
 use Rattle.resb_write.proofs.Listed.{not_unlisted as no_fault, not_memory, not_large}
 use Rattle.resb_pool.specs.FaultOf.{fault_of}
 use Rattle.resb_pool.specs.declared.error.BinarySerializerError.{BinarySerializerError}

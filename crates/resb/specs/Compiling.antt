@@ -10,8 +10,8 @@ use Rattle.resb_text.specs.Answer.{Fails, IsNoBundle}
 use Rattle.resb_text.specs.Refusal as refusal
 use Rattle.resb_text.specs.declared.error.TextParserError.{TextParserError}
 use Rattle.resb_grammar.specs.Limit.{MadeWithin, MakesMore}
-use Rattle.resb_write.specs.Written.{Written}
-use Rattle.resb_write.specs.Faults.{Refused}
+use Rattle.resb_layout.specs.Written.{Written}
+use Rattle.resb_layout.specs.Faults.{Refused}
 use Rattle.resb_pool.specs.Fault as fault
 use Rattle.resb_pool.specs.FaultOf.{fault_of}
 use Rattle.resb_pool.specs.declared.error.BinarySerializerError.{BinarySerializerError}

@@ -22,7 +22,7 @@ use Rattle.resb_format.specs.declared.error.ReadingError.{ReadingError}
 use Rattle.resb_read.specs.Reading.{LacksOrMemory}
 use Rattle.resb_read.specs.Resources.{ReadsTree, CountsTree}
 use Rattle.resb_read.specs.Roots.{AtRoot}
-use Rattle.resb_write.specs.Written.{Written}
+use Rattle.resb_layout.specs.Written.{Written}
 use Rattle.resb.specs.Compiling.{IsCompiled}
 
 -- what reading a file as a tree promises: a tree at the root, paid for, or memory, or no such tree

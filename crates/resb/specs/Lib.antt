@@ -92,13 +92,11 @@ pub use Rattle.resb_pool.specs.Laws as PoolLaws
 pub use Rattle.resb_layout.specs.Laid
 pub use Rattle.resb_layout.specs.InOrder
 pub use Rattle.resb_layout.specs.Laws as LayoutLaws
-pub use Rattle.resb_bodies.specs.StackSteps
-pub use Rattle.resb_bodies.specs.Laws as BodiesLaws
-pub use Rattle.resb_write.specs.KeyBlock
-pub use Rattle.resb_write.specs.PlainSize
-pub use Rattle.resb_write.specs.Faults
-pub use Rattle.resb_write.specs.WrittenHead
-pub use Rattle.resb_write.specs.Written
+pub use Rattle.resb_layout.specs.KeyBlock
+pub use Rattle.resb_layout.specs.PlainSize
+pub use Rattle.resb_layout.specs.Faults
+pub use Rattle.resb_layout.specs.WrittenHead
+pub use Rattle.resb_layout.specs.Written
 pub use Rattle.resb_write.specs.Laws as WriteLaws
 pub mod Compiling
 pub mod Headline

@@ -9,8 +9,8 @@ ghost use Rattle.resb_text.specs.Answer.{Fails, IsNoBundle};
 ghost use Rattle.resb_text.specs.Refusal.{want_of_memory};
 ghost use Rattle.resb_format.specs.Error.{IsWantOfMemory};
 ghost use Rattle.resb_pool.specs.FaultOf.{fault_of};
-ghost use Rattle.resb_write.specs.Faults.{Refused};
-ghost use Rattle.resb_write.specs.Written.{Written};
+ghost use Rattle.resb_layout.specs.Faults.{Refused};
+ghost use Rattle.resb_layout.specs.Written.{Written};
 ghost use Rattle.resb.specs.Headline.{DenotesWithin, DenotesNone, OneTreeOfAFile};
 
 use resb_format::{Key, ReadingError, Resource, ResourceBundle};

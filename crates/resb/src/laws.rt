@@ -95,10 +95,8 @@ pub use resb_layout::laws::laid_in_order;
 pub use resb_layout::laws::laid_is_denoted;
 // What was laid out has two bytes for each resource but the root.
 pub use resb_layout::laws::laid_is_paid;
-// Laying the resources one by one, in walk order, lays the tree.
-pub use resb_bodies::laws::steps_lay_trees;
 // The units of a tree don't depend on where the tail begins.
-pub use resb_bodies::laws::one_block;
+pub use resb_write::laws::one_block;
 // So they stand in each written file.
 pub use resb_write::laws::written_in_order;
 // A bundle and a list of keys leave one file.

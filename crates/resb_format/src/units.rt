@@ -1,4 +1,4 @@
-//! Strings in the 16-bit block: where one stands, and what marks its length.
+//! Strings in the 16-bit block: where one stands, how many units it has, and what marks this.
 //! How strings share records of the block is the business of the writer.
 ghost use Rattle.std.specs.Prelude.{◌≡◌, ◌+◌, ◌-◌, ◌/◌, ◌<◌, ◌≤◌, ◌==◌, length, take, drop};
 ghost use Rattle.std.specs.Prelude.{slice_index, nat_le, Some, None, MatchResult, codes};
@@ -129,6 +129,21 @@ fn units_in(block: &[u8], from: usize, count: usize) -> Utf16View<'_>
     let (_, rest) = block.split_at(2 * from);
     let (bytes, _) = rest.split_at(2 * count);
     Utf16View::over(bytes)
+}
+
+/// The number of 16-bit units of a text in UTF-16: its bytes, where all of them are ASCII.
+pub fn utf16_len(text: &str) -> usize
+    ensures count { result ≡ length (text_units.units text.now) }
+    ensures small { result ≤ length text.now }
+{
+    if text.is_ascii() {
+        return text.len();
+    }
+    let mut count = 0;
+    for c in text.chars() {
+        count += c.len_utf16();
+    }
+    count
 }
 
 /// How many units the marker of a string of `n` units takes, where its length alone asks for one.

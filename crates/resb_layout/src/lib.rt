@@ -1,4 +1,5 @@
-//! How a tree is laid out in a file: the definition, and the laws that a writer stands on.
+//! How a tree is laid out in a file, what a written file is and why none is written: the
+//! definitions, and the laws that a writer stands on.
 //! Only definitions and laws stand here; the writer itself is in the crates above.
 #![tactic(auto)]
 

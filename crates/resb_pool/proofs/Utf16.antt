@@ -17,10 +17,8 @@ use Rattle.std.proofs.lemmas.Bool.{and_parts, cases_lt, or_parts, or_from, ne_eq
 use Rattle.std.proofs.lemmas.Bool.Decides.{nat_tests}
 use Rattle.resb_format.specs.Strings.{text_of_units}
 use Rattle.resb_format.specs.Units.{units}
+use Rattle.resb_format.proofs.TextUnits.{low_char}
 use Rattle.resb_pool.proofs.Zeros.{has_zero, has_zero-append}
-
-low_char : (c : ℕ) → c < 0x1_0000 → encode_utf16 c ≡ c ∷ []
-low_char c h = grind (arith, nat_tests)
 
 high_char : (c : ℕ) → 0x1_0000 ≤ c → encode_utf16 c ≡ (0xD800 + (c - 0x1_0000) / 0x400) ∷
     (0xDC00 + (c - 0x1_0000) % 0x400) ∷ []
@@ -138,32 +136,3 @@ first_unit (c ∷ cs) s =
 pub units-first : (s : List ℕ) → IsUtf8 s → (get_or (units s) 0 0 ≤ 0xdbff)
     ⊎ (0xdfff < get_or (units s) 0 0)
 units-first s u = first_unit (chars s) (scalars-chars s u)
-
--- how many units a character takes
-units_of_char : (c : ℕ) → length (encode_utf16 c) ≤ len_utf8 c
-units_of_char c = grind (arith, nat_tests)
-
-pub units_le : (cs : List ℕ) → length (flat_map encode_utf16 cs) ≤ length (encodes cs)
-units_le [] = omega arith
-units_le (c ∷ cs) = omega (
-  arith,
-  units_le cs,
-  units_of_char c,
-  length-encode c,
-  length-append
-      (encode_utf16 c) (flat_map encode_utf16 cs),
-  length-append (encode c) (encodes cs),
-)
-
--- a text has no more units than bytes
-pub units_within : (s : List ℕ) → IsUtf8 s → length (units s) ≤ length s
-units_within s u = omega (arith, units_le (chars s), ap length (encodes-chars s u))
-
--- ASCII
-bytes_ascii : (bs : List ℕ) → IsAscii bs → flat_map encode_utf16 bs ≡ bs
-bytes_ascii [] h = refl
-bytes_ascii (b ∷ bs) h = ap (λ l. l ++ flat_map encode_utf16 bs) (low_char b (omega (arith, h 0)))
-    ∙ ap (λ l. b ∷ l) (bytes_ascii bs (λ i. h (suc i)))
-
-pub units_ascii : (t : List ℕ) → IsAscii t → units t ≡ t
-units_ascii t h = ap (flat_map encode_utf16) (chars-IsAscii t h) ∙ bytes_ascii t h

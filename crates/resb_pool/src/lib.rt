@@ -13,5 +13,4 @@ mod suffix_order;
 mod texts;
 
 pub use error::BinarySerializerError;
-pub use measure::utf16_len;
 pub use offsets::Plan;

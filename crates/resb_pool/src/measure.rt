@@ -1,4 +1,4 @@
-//! How long texts are, in 16-bit units, and whether a string is too long to plan.
+//! How many units a text and its record take, and whether a string is too long to plan.
 //! Which texts get a record is not said here.
 ghost use Rattle.std.specs.Prelude.{◌≡◌, ◌+◌, ◌<◌, ◌≤◌, ◌^◌, None, MatchOption, length, nat_le};
 ghost use Rattle.std.specs.Prelude.{OnOk, IfErr};
@@ -7,28 +7,13 @@ ghost use Rattle.resb_pool.specs.FaultOf.{fault_of};
 ghost use Rattle.resb_pool.specs.Plan.{nows, first_too_long, NotPlanned};
 
 use crate::error::BinarySerializerError;
-use resb_format::{MAX_UNMARKED, marker_units};
+use resb_format::{MAX_UNMARKED, marker_units, utf16_len};
 
 /// The most units of a string, which its marker can say.
 const LONGEST: usize = 4_294_967_295;
 
 /// From this size of the strings on they are not planned.
 pub(crate) const SIZE_LIMIT: usize = 0x1000_0000;
-
-/// The number of 16-bit units of a text in UTF-16: its bytes, where all of them are ASCII.
-pub fn utf16_len(text: &str) -> usize
-    ensures count { result ≡ length (units text.now) }
-    ensures small { result ≤ length text.now }
-{
-    if text.is_ascii() {
-        return text.len();
-    }
-    let mut count = 0;
-    for c in text.chars() {
-        count += c.len_utf16();
-    }
-    count
-}
 
 /// How many units a text takes.
 #[derive(Clone, Copy)]

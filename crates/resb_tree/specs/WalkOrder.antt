@@ -4,10 +4,14 @@
 --     walk t                  all resources of t
 --     texts_of t              the texts of its strings, as often as each stands there
 --     keys_of t               the keys of its tables, as often as each stands there
-use Rattle.std.specs.Prelude.{ℕ, List, [], ◌∷◌, ◌++◌}
+--     trees_in rs             resources as trees
+use Rattle.std.specs.Prelude.{ℕ, List, [], ◌∷◌, ◌++◌, map}
 use Rattle.std.specs.List.{flat_map}
+use Rattle.std.specs.Borrow.{Bor}
 use Rattle.resb_tree.specs.Tree.{Tree, string, array, table, binary, integer, int_vector, Trees}
 use Rattle.resb_tree.specs.Tree.{no_trees, more_trees, Entries, no_entries, entry}
+use Rattle.resb_tree.specs.View.{tree_of}
+use Rattle.resb_tree.specs.declared.resource.Resource.{Resource}
 
 -- the members of an array, in their order
 abbrev pub members : Trees → List Tree
@@ -70,3 +74,7 @@ own_keys _ = []
 -- the keys of a tree's tables in walk order, as often as each stands there
 abbrev pub keys_of : Tree → List (List ℕ)
 keys_of t = flat_map own_keys (walk t)
+
+-- the trees that resources stand for, in their order
+abbrev pub trees_in : List (Bor Resource) → List Tree
+trees_in rs = map (λ r. tree_of r.now) rs

@@ -9,9 +9,11 @@ mod key;
 pub mod laws;
 mod no_memory;
 mod resource;
+mod walk_order;
 
 pub use bundle::ResourceBundle;
 pub use int28::Int28;
 pub use key::Key;
 pub use no_memory::NoMemory;
 pub use resource::{Resource, Table};
+pub use walk_order::{WalkOrder, in_walk_order};

@@ -13,9 +13,9 @@ use Rattle.resb_format.specs.Strings.{key_at, before_zero, if_utf8}
 use Rattle.resb_pool.proofs.Zeros.{has_zero, before_zero-found}
 use Rattle.resb_layout.proofs.Numbers.{EachBelow}
 use Rattle.resb_tree.specs.WalkOrder.{walk, walk_each, walk_values}
-use Rattle.resb_write.specs.KeyBlock.{key_bytes, last_of}
-use Rattle.resb_write.specs.Faults.{has_nul}
-use Rattle.resb_write.specs.Written.{even}
+use Rattle.resb_layout.specs.KeyBlock.{key_bytes, last_of}
+use Rattle.resb_layout.specs.Faults.{has_nul}
+use Rattle.resb_layout.specs.Written.{even}
 use Rattle.resb_write.specs.Inner.Gathered.{largest_of}
 use Rattle.resb_write.proofs.Keys.{last_of-stands}
 

@@ -12,8 +12,8 @@ use Rattle.resb_tree.specs.Keys.{same_text}
 use Rattle.resb_pool.specs.Plan.{nows}
 use Rattle.resb_pool.specs.Fault.{unexpected, limit}
 use Rattle.resb_pool.proofs.TextLists.{TextList}
-use Rattle.resb_write.specs.KeyBlock.{is_among}
-use Rattle.resb_write.specs.Faults.{is_unlisted, is_far, has_nul, key_fault}
+use Rattle.resb_layout.specs.KeyBlock.{is_among}
+use Rattle.resb_layout.specs.Faults.{is_unlisted, is_far, has_nul, key_fault}
 use Rattle.std.specs.Prelude.{codes}
 use Rattle.resb_write.proofs.Known.{any_member, member_any}
 

@@ -10,10 +10,10 @@ use Rattle.resb_format.specs.Bytes.{units_of, words_of}
 use Rattle.resb_pool.specs.Fault.{unexpected, limit, out_of_memory, message_of}
 use Rattle.resb_pool.specs.Records.{IsRecord, IsHeldBy}
 use Rattle.resb_layout.specs.Laid.{Lays, lays_integer, lays_items, each_none, each_more, long_array}
-use Rattle.resb_write.specs.KeyBlock.{key_block, key_position, key_bytes, padded}
-use Rattle.resb_write.specs.PlainSize.{plain_size}
-use Rattle.resb_write.specs.Faults.{fault}
-use Rattle.resb_write.specs.WrittenHead.{written_header, IndexOf}
+use Rattle.resb_layout.specs.KeyBlock.{key_block, key_position, key_bytes, padded}
+use Rattle.resb_layout.specs.PlainSize.{plain_size}
+use Rattle.resb_layout.specs.Faults.{fault}
+use Rattle.resb_layout.specs.WrittenHead.{written_header, IndexOf}
 use Rattle.resb_write.specs.Inner.Files.{file_of}
 
 -- The key block of the table with the keys a and c, for the list a, a, c: the last place of a

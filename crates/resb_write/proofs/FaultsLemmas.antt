@@ -9,9 +9,9 @@ use Rattle.resb_tree.specs.Tree.{Tree}
 use Rattle.resb_pool.specs.Fault.{string_too_long, unexpected, limit}
 use Rattle.resb_pool.specs.Plan.{nows, first_too_long}
 use Rattle.resb_tree.specs.WalkOrder.{text_in}
-use Rattle.resb_write.specs.KeyBlock.{last_of, keys_start}
-use Rattle.resb_write.specs.Faults.{has_nul, is_unlisted, is_far, key_fault, is_over_32_bits}
-use Rattle.resb_write.specs.Faults.{count_fault, first_of}
+use Rattle.resb_layout.specs.KeyBlock.{last_of, keys_start}
+use Rattle.resb_layout.specs.Faults.{has_nul, is_unlisted, is_far, key_fault, is_over_32_bits}
+use Rattle.resb_layout.specs.Faults.{count_fault, first_of}
 use Rattle.resb_write.specs.Inner.NearPositions.{near_position, near_position_in}
 use Rattle.resb_write.specs.Inner.Sizes.{size_fault}
 

@@ -23,14 +23,14 @@ use Rattle.resb_layout.proofs.Grows.{grows}
 use Rattle.resb_layout.proofs.Denoted.{laid_is_denoted}
 use Rattle.resb_layout.proofs.Paid.{laid_is_paid}
 use Rattle.resb_tree.specs.WalkOrder.{walk, texts_of, values_of}
-use Rattle.resb_bodies.specs.Room.{HasRoomFor}
-use Rattle.resb_write.specs.KeyBlock.{used, key_bytes, padded, key_block, last_of, position_in}
+use Rattle.resb_write.specs.Inner.Room.{HasRoomFor}
+use Rattle.resb_layout.specs.KeyBlock.{used, key_bytes, padded, key_block, last_of, position_in}
 use Rattle.resb_tree.specs.WalkOrder.{keys_of}
-use Rattle.resb_write.specs.KeyBlock.{key_position, keys_start}
-use Rattle.resb_write.specs.PlainSize.{held_size, resources_size, list_size}
-use Rattle.resb_write.specs.Faults.{key_fault, fault, first_of}
-use Rattle.resb_write.specs.WrittenHead.{written_header}
-use Rattle.resb_write.specs.Written.{even, tail_start, Blocks, Written}
+use Rattle.resb_layout.specs.KeyBlock.{key_position, keys_start}
+use Rattle.resb_layout.specs.PlainSize.{held_size, resources_size, list_size}
+use Rattle.resb_layout.specs.Faults.{key_fault, fault, first_of}
+use Rattle.resb_layout.specs.WrittenHead.{written_header}
+use Rattle.resb_layout.specs.Written.{even, tail_start, Blocks, Written}
 use Rattle.resb_write.specs.Inner.Gathered.{entry_count_of, largest_of}
 use Rattle.resb_write.specs.Inner.Files.{file_of, fields_of}
 use Rattle.resb_write.specs.Inner.Sizes.{size_fault}

@@ -9,8 +9,8 @@ use Rattle.resb_layout.specs.Laid.{Laid, Given, here, halves}
 use Rattle.resb_layout.specs.InOrder.{FillsTail}
 use Rattle.resb_layout.proofs.Numbers.{halves_len}
 use Rattle.resb_layout.proofs.InOrderLemmas.{laid_in_order}
-use Rattle.resb_write.specs.KeyBlock.{key_block, key_position, keys_start}
-use Rattle.resb_write.specs.Written.{even, tail_start}
+use Rattle.resb_layout.specs.KeyBlock.{key_block, key_position, keys_start}
+use Rattle.resb_layout.specs.Written.{even, tail_start}
 use Rattle.resb_write.specs.Laws.{WrittenInOrder}
 
 -- what stands behind two parts

@@ -10,7 +10,7 @@ use Rattle.resb_format.specs.Parts.{block_end, parts_of, IsBundleFile}
 use Rattle.resb_layout.specs.Laid.{words, halves}
 use Rattle.resb_layout.proofs.Numbers.{EachBelow, words_read, halves_read, halves_len}
 use Rattle.resb_format.proofs.WordsBack.{written_length}
-use Rattle.resb_write.specs.WrittenHead.{written_header}
+use Rattle.resb_layout.specs.WrittenHead.{written_header}
 use Rattle.resb_write.specs.Inner.Files.{fields_of, file_of}
 
 no_units : units_of [] ≡ []

@@ -14,7 +14,7 @@ use Rattle.std.proofs.lemmas.List.Concat.{flat_map-append}
 use Rattle.std.proofs.lemmas.List.Folds.{list_any-append}
 use Rattle.resb_tree.specs.Keys.{same_text}
 use Rattle.resb_pool.specs.Plan.{nows}
-use Rattle.resb_write.specs.KeyBlock.{is_among, key_bytes, last_of}
+use Rattle.resb_layout.specs.KeyBlock.{is_among, key_bytes, last_of}
 use Rattle.resb_write.specs.Inner.NearPositions.{near_position, near_position_in}
 use Rattle.std.proofs.lemmas.List.{map_push}
 

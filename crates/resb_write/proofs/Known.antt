@@ -17,8 +17,8 @@ use Rattle.resb_pool.specs.Fault.{Fault}
 use Rattle.resb_pool.specs.Plan.{IsPlan}
 use Rattle.resb_pool.specs.Pool.{Off}
 use Rattle.resb_pool.proofs.IsRead.{pool_is_read}
-use Rattle.resb_write.specs.KeyBlock.{used, is_among, last_of, position_in, keys_start}
-use Rattle.resb_write.specs.Faults.{has_nul, is_unlisted, is_far, key_fault}
+use Rattle.resb_layout.specs.KeyBlock.{used, is_among, last_of, position_in, keys_start}
+use Rattle.resb_layout.specs.Faults.{has_nul, is_unlisted, is_far, key_fault}
 use Rattle.resb_write.specs.Inner.NearPositions.{near_position, near_position_in}
 use Rattle.resb_write.proofs.Keys.{place_contained}
 

@@ -1,4 +1,15 @@
 -- For crates above: those that are `pub`.
+mod Anywhere
+mod Numbers
+mod Pending
+mod Counting
+mod Marks
+mod Stacks
+mod Closings
+mod Each
+mod KeyViews
+mod Rows
+mod OneBlock
 mod Keys
 mod Distinct
 mod FaultsLemmas

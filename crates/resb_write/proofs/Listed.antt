@@ -13,11 +13,11 @@ use Rattle.resb_pool.specs.Fault.{Fault, string_too_long, unexpected, limit, out
 use Rattle.resb_pool.specs.Plan.{first_too_long}
 use Rattle.resb_tree.specs.WalkOrder.{entry_keys}
 use Rattle.resb_tree.specs.WalkOrder.{walk, walk_each, walk_values, texts_of}
-use Rattle.resb_write.specs.KeyBlock.{is_among, used, last_of}
+use Rattle.resb_layout.specs.KeyBlock.{is_among, used, last_of}
 use Rattle.resb_tree.specs.WalkOrder.{own_keys, keys_of}
-use Rattle.resb_write.specs.KeyBlock.{keys_start}
-use Rattle.resb_write.specs.Faults.{has_nul, is_unlisted, is_far, is_over_32_bits}
-use Rattle.resb_write.specs.Faults.{fault, first_of}
+use Rattle.resb_layout.specs.KeyBlock.{keys_start}
+use Rattle.resb_layout.specs.Faults.{has_nul, is_unlisted, is_far, is_over_32_bits}
+use Rattle.resb_layout.specs.Faults.{fault, first_of}
 use Rattle.resb_write.proofs.Keys.{no_place}
 use Rattle.resb_write.proofs.Known.{any_member}
 use Rattle.resb_write.proofs.Distinct.{contains_among}

@@ -15,10 +15,10 @@ use Rattle.resb_pool.proofs.OnePool.{one_pool}
 use Rattle.resb_layout.specs.Laid.{Given, Laid, Lays, halves}
 use Rattle.resb_layout.proofs.Once.{one_layout}
 use Rattle.resb_tree.specs.WalkOrder.{texts_of}
-use Rattle.resb_bodies.proofs.OneBlock.{one_block}
-use Rattle.resb_write.specs.KeyBlock.{key_block, key_position, keys_start}
-use Rattle.resb_write.specs.WrittenHead.{written_header}
-use Rattle.resb_write.specs.Written.{even, tail_start, Blocks, bytes_of, Written}
+use Rattle.resb_write.proofs.OneBlock.{one_block}
+use Rattle.resb_layout.specs.KeyBlock.{key_block, key_position, keys_start}
+use Rattle.resb_layout.specs.WrittenHead.{written_header}
+use Rattle.resb_layout.specs.Written.{even, tail_start, Blocks, bytes_of, Written}
 use Rattle.resb_write.specs.Laws.{OneFile}
 use Rattle.resb_write.proofs.Heads.{body_behind}
 

@@ -7,11 +7,11 @@ use Rattle.resb_pool.specs.Fault.{Fault, out_of_memory}
 use Rattle.resb_pool.specs.Plan.{NotPlanned, no_memory as no_memory_to_plan, too_long}
 use Rattle.resb_pool.specs.Plan.{too_large as too_large_to_plan, texts_size, first_too_long}
 use Rattle.resb_tree.specs.WalkOrder.{walk, text_in, texts_of}
-use Rattle.resb_write.specs.KeyBlock.{used}
+use Rattle.resb_layout.specs.KeyBlock.{used}
 use Rattle.resb_tree.specs.WalkOrder.{keys_of}
-use Rattle.resb_write.specs.PlainSize.{list_size, resources_size}
-use Rattle.resb_write.specs.Faults.{key_fault, fault, first_of, Refused, no_memory, at_the_first}
-use Rattle.resb_write.specs.Faults.{too_large}
+use Rattle.resb_layout.specs.PlainSize.{list_size, resources_size}
+use Rattle.resb_layout.specs.Faults.{key_fault, fault, first_of, Refused, no_memory, at_the_first}
+use Rattle.resb_layout.specs.Faults.{too_large}
 use Rattle.resb_write.specs.Inner.Sizes.{size_fault, IsTooMuch, at_fault}
 use Rattle.resb_write.specs.Inner.Sizes.{too_large as too_large_sizes}
 use Rattle.resb_write.proofs.Room.{none_too_long, texts_within}

@@ -13,10 +13,10 @@ use Rattle.resb_pool.proofs.Least.{into_least}
 use Rattle.resb_pool.proofs.InOrder.{length-records}
 use Rattle.resb_pool.proofs.Sizes.{marker_le}
 use Rattle.resb_tree.specs.WalkOrder.{text_in, members}
-use Rattle.resb_bodies.specs.Room.{most_units, most_bytes}
-use Rattle.resb_write.specs.KeyBlock.{key_bytes, padded, used, is_among}
-use Rattle.resb_write.specs.PlainSize.{held_size, resources_size, list_size}
-use Rattle.resb_write.specs.Faults.{is_over_32_bits}
+use Rattle.resb_write.specs.Inner.Room.{most_units, most_bytes}
+use Rattle.resb_layout.specs.KeyBlock.{key_bytes, padded, used, is_among}
+use Rattle.resb_layout.specs.PlainSize.{held_size, resources_size, list_size}
+use Rattle.resb_layout.specs.Faults.{is_over_32_bits}
 use Rattle.resb_write.specs.Inner.Sizes.{size_fault}
 use Rattle.resb_write.proofs.FaultsLemmas.{no_size_fault}
 

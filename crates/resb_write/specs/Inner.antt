@@ -1,7 +1,12 @@
--- Words of private functions: what is gathered, where keys stand while they are placed, and
+-- Words of private functions: what is gathered, where keys stand while they are placed, laying
+-- resources one by one over a stack of words and the room for it, how many units they take, and
 -- what a file is put together from.
 pub mod Gathered
 pub mod NearPositions
 pub mod Sizes
 pub mod Pooled
+pub mod Room
+pub mod StackSteps
+pub mod Seen
+pub mod Counted
 pub mod Files

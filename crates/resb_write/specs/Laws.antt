@@ -1,4 +1,5 @@
 -- What the laws of written files say.
+--     OneBlock                the units that a tree takes don't depend on where the tail begins
 --     OneFile                 a bundle and a list of keys leave one file
 --     WrittenInOrder          its tail is the bodies of the tree's resources, without a gap
 use Rattle.std.specs.Prelude.{◌≡◌, ℕ, ◌*◌, List, ◌++◌, drop, Bool}
@@ -6,8 +7,15 @@ use Rattle.resb_tree.specs.Tree.{Tree}
 use Rattle.resb_tree.specs.WalkOrder.{walk}
 use Rattle.resb_format.specs.Parts.{body_of, block_end}
 use Rattle.resb_layout.specs.InOrder.{FillsTail, FillsBlock}
+use Rattle.resb_layout.specs.Laid.{Given, Laid, Lays}
 use Rattle.resb_format.specs.Laws.{EachFits}
-use Rattle.resb_write.specs.Written.{Written}
+use Rattle.resb_layout.specs.Written.{Written}
+
+-- where the units before a tree are the same, so are those behind it, wherever the tail begins
+abbrev pub OneBlock : Type 0
+OneBlock =
+    (g h : Given) (s u a b : Laid) (t : Tree) (v w : ℕ) → g.position ≡ h.position
+    → g.offset ≡ h.offset → s.units ≡ u.units → Lays g s t a v → Lays h u t b w → a.units ≡ b.units
 
 -- Behind the 16-bit block, and up to the file's end, the bodies of the tree's resources in walk
 -- order stand one right behind another, each from a word on; behind the pool of the strings the

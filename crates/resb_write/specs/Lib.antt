@@ -1,4 +1,5 @@
--- The words of the contracts: why a file isn't written, and what a written file is.
+-- The words of the contracts: what the laws of written files say, and, from the crates below, why
+-- a file isn't written and what a written file is.
 pub use Rattle.resb_tree.specs.Tree
 pub use Rattle.resb_tree.specs.View
 pub use Rattle.resb_tree.specs.Bundle
@@ -11,10 +12,10 @@ pub use Rattle.resb_pool.specs.FaultOf
 pub use Rattle.resb_pool.specs.Plan
 pub use Rattle.resb_layout.specs.Laid
 pub use Rattle.resb_tree.specs.WalkOrder
-pub mod KeyBlock
-pub mod PlainSize
-pub mod Faults
-pub mod WrittenHead
-pub mod Written
+pub use Rattle.resb_layout.specs.KeyBlock
+pub use Rattle.resb_layout.specs.PlainSize
+pub use Rattle.resb_layout.specs.Faults
+pub use Rattle.resb_layout.specs.WrittenHead
+pub use Rattle.resb_layout.specs.Written
 pub mod Laws
 pub mod Inner

@@ -9,13 +9,11 @@ ghost use Rattle.resb_tree.specs.Tree.{Tree};
 ghost use Rattle.resb_tree.specs.View.{tree_of, entries_view};
 ghost use Rattle.resb_format.specs.Units.{units};
 ghost use Rattle.resb_pool.specs.Plan.{nows, first_too_long};
-ghost use Rattle.resb_tree.specs.WalkOrder.{entry_keys};
-ghost use Rattle.resb_bodies.specs.Room.{trees_in};
+ghost use Rattle.resb_tree.specs.WalkOrder.{entry_keys, trees_in};
 ghost use Rattle.resb_write.specs.Inner.Gathered.{Gathered};
 
-use resb_bodies::WalkOrder;
-use resb_pool::utf16_len;
-use resb_tree::{Resource, Table};
+use resb_format::utf16_len;
+use resb_tree::{Resource, Table, WalkOrder};
 use std::alloc::{AllocError, Global};
 
 /// The greatest number of 32 bits: the most units of a string, and members of an array, binary or

@@ -3,12 +3,12 @@
 ghost use Rattle.std.specs.Prelude.{◌≡◌, ◌++◌, ◌^◌, ◌<◌, ℕ, slice_index, IfOk, OnOk};
 ghost use Rattle.resb_head.specs.Head.{index_words};
 ghost use Rattle.resb_layout.specs.Laid.{halves};
-ghost use Rattle.resb_write.specs.WrittenHead.{written_header};
-ghost use Rattle.resb_write.specs.Written.{even};
+ghost use Rattle.resb_layout.specs.WrittenHead.{written_header};
+ghost use Rattle.resb_layout.specs.Written.{even};
 ghost use Rattle.resb_write.specs.Inner.Files.{index_words_of, file_with, FitsFile};
 
 use crate::key_block::{KEYS_START, append_block, block_length};
-use resb_bodies::Bodies;
+use crate::sites::Bodies;
 use resb_head::{BinHeader, BinIndex, BinReprInfo, CharsetFamily, Endianness, FormatVersion};
 use resb_tree::NoMemory;
 use std::alloc::{AllocError, Global};

@@ -8,8 +8,8 @@ ghost use Rattle.std.specs.Option.{is_some, is_none};
 ghost use Rattle.resb_pool.specs.Plan.{nows, at_text};
 ghost use Rattle.resb_pool.specs.Fault.{out_of_memory};
 ghost use Rattle.resb_pool.specs.FaultOf.{fault_of};
-ghost use Rattle.resb_write.specs.KeyBlock.{is_among, used as used_of, key_bytes, padded};
-ghost use Rattle.resb_write.specs.Faults.{has_nul, key_fault};
+ghost use Rattle.resb_layout.specs.KeyBlock.{is_among, used as used_of, key_bytes, padded};
+ghost use Rattle.resb_layout.specs.Faults.{has_nul, key_fault};
 ghost use Rattle.resb_write.specs.Inner.NearPositions.{near_position_in, IsKeyBlock};
 
 use indexmap::IndexMap;

@@ -1,6 +1,12 @@
-//! The laws of written files, each the contract of a call that does nothing.
+//! The laws of written files and of their 16-bit block, each the contract of a call that does
+//! nothing.
 //! Their statements are in `specs/Laws.antt`.
-ghost use Rattle.resb_write.specs.Laws.{OneFile, WrittenInOrder};
+ghost use Rattle.resb_write.specs.Laws.{OneBlock, OneFile, WrittenInOrder};
+
+/// The units that a tree takes in the 16-bit block don't depend on where the tail begins.
+pub fn one_block()
+    ensures { OneBlock }
+{}
 
 /// A bundle and a list of keys leave one file.
 pub fn one_file()

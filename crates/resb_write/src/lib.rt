@@ -2,13 +2,19 @@
 //! Reading a file is not done here.
 #![tactic(auto)]
 
+mod body_steps;
 mod contents;
 mod file;
 mod key_block;
 pub mod laws;
 mod limits;
+mod resource_bodies;
 mod serializer;
+mod sites;
 mod strings;
+mod tail_bytes;
+mod tree_bodies;
+mod unit_count;
 
 pub use resb_pool::{BinarySerializerError, pool};
 pub use serializer::Serializer;

@@ -3,7 +3,7 @@
 ghost use Rattle.std.specs.Prelude.{◌≡◌, ◌+◌, ◌-◌, ◌^◌, ◌<◌, List, min, OnOk, IfErr};
 ghost use Rattle.resb_tree.specs.Tree.{Tree};
 ghost use Rattle.resb_pool.specs.FaultOf.{fault_of};
-ghost use Rattle.resb_write.specs.PlainSize.{list_size, resources_size};
+ghost use Rattle.resb_layout.specs.PlainSize.{list_size, resources_size};
 ghost use Rattle.resb_write.specs.Inner.Gathered.{Gathered};
 ghost use Rattle.resb_write.specs.Inner.Sizes.{IsTooMuch};
 

@@ -3,17 +3,18 @@
 ghost use Rattle.std.specs.Prelude.{IfOk, IfErr};
 ghost use Rattle.resb_tree.specs.Bundle.{root_of};
 ghost use Rattle.resb_pool.specs.FaultOf.{fault_of};
-ghost use Rattle.resb_write.specs.Faults.{Refused};
-ghost use Rattle.resb_write.specs.Written.{Written};
+ghost use Rattle.resb_layout.specs.Faults.{Refused};
+ghost use Rattle.resb_layout.specs.Written.{Written};
 
 use crate::contents::Contents;
 use crate::file::{Pieces, assemble};
 use crate::key_block::{KEYS_START, KeyBlock, block_length};
 use crate::limits::check_sizes;
+use crate::sites::Sites;
 use crate::strings::Strings;
-use resb_bodies::{Sites, in_walk_order, lay_bodies};
+use crate::tree_bodies::lay_bodies;
 use resb_pool::BinarySerializerError;
-use resb_tree::{Key, ResourceBundle};
+use resb_tree::{Key, ResourceBundle, in_walk_order};
 use std::alloc::Global;
 
 /// Writes bundles as files. There are no values of this type.

@@ -6,9 +6,9 @@ use Rattle.std.specs.Prelude.{◌≡◌, ℕ, ◌+◌, ◌%◌, ◌/◌, ◌<◌
 use Rattle.std.specs.Prelude.{Bool, if◌then◌else◌}
 use Rattle.resb_pool.specs.Plan.{nows}
 use Rattle.resb_layout.specs.Laid.{words, halves}
-use Rattle.resb_write.specs.KeyBlock.{key_bytes, padded}
-use Rattle.resb_write.specs.WrittenHead.{written_header}
-use Rattle.resb_write.specs.Written.{even}
+use Rattle.resb_layout.specs.KeyBlock.{key_bytes, padded}
+use Rattle.resb_layout.specs.WrittenHead.{written_header}
+use Rattle.resb_layout.specs.Written.{even}
 use Rattle.resb_write.specs.declared.file.Pieces.{Pieces}
 
 -- the 7 fields of the index, where the key block, the 16-bit block and the tail have k, b and d

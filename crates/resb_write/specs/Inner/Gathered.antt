@@ -7,8 +7,8 @@ use Rattle.resb_tree.specs.Tree.{Tree, table, entries_len}
 use Rattle.resb_pool.specs.Plan.{nows, first_too_long}
 use Rattle.resb_tree.specs.WalkOrder.{text_in}
 use Rattle.resb_tree.specs.WalkOrder.{own_keys}
-use Rattle.resb_write.specs.PlainSize.{resources_size}
-use Rattle.resb_write.specs.Faults.{is_over_32_bits}
+use Rattle.resb_layout.specs.PlainSize.{resources_size}
+use Rattle.resb_layout.specs.Faults.{is_over_32_bits}
 use Rattle.resb_write.specs.declared.contents.Contents.{Contents}
 
 abbrev pub entry_count_of : Tree → ℕ

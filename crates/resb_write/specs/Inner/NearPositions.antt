@@ -5,8 +5,8 @@
 use Rattle.std.specs.Prelude.{◌≡◌, ℕ, ◌+◌, ◌-◌, ◌^◌, min, List, map, Option, Some, None}
 use Rattle.std.specs.Prelude.{option_map, All}
 use Rattle.std.specs.Str.{IsUtf8}
-use Rattle.resb_write.specs.KeyBlock.{used, last_of, position_in, keys_start}
-use Rattle.resb_write.specs.Faults.{key_fault}
+use Rattle.resb_layout.specs.KeyBlock.{used, last_of, position_in, keys_start}
+use Rattle.resb_layout.specs.Faults.{key_fault}
 
 abbrev pub near_position : ℕ → ℕ
 near_position n = min (keys_start + n) (2 ^ 32 - 1)

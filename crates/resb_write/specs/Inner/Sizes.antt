@@ -5,8 +5,8 @@ use Rattle.resb_tree.specs.Tree.{Tree}
 use Rattle.resb_pool.specs.Fault.{Fault, string_too_long, limit}
 use Rattle.resb_pool.specs.Plan.{first_too_long}
 use Rattle.resb_tree.specs.WalkOrder.{text_in}
-use Rattle.resb_write.specs.PlainSize.{list_size, resources_size}
-use Rattle.resb_write.specs.Faults.{count_fault, first_of}
+use Rattle.resb_layout.specs.PlainSize.{list_size, resources_size}
+use Rattle.resb_layout.specs.Faults.{count_fault, first_of}
 
 -- the first fault of the resources' sizes
 abbrev pub size_fault : List Tree → Option Fault

@@ -1,5 +1,5 @@
 use Rattle.std.proofs.Common.{arith}
-use Rattle.resb_pool.proofs.Utf16.{units_within}
+use Rattle.resb_format.proofs.TextUnits.{units_within}
 use Rattle.resb_pool.proofs.measure.excessive_len.Goals as goal
 
 pub returns-then-text-le-LONGEST : goal.returns-then-text-le-LONGEST

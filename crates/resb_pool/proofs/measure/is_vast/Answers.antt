@@ -1,7 +1,7 @@
 use Rattle.std.proofs.Common.{◌≡◌, ◌<◌, ◌≤◌, ℕ, length, nat_le, arith}
 use Rattle.std.proofs.lemmas.Bool.Decides.{nat_tests}
 use Rattle.resb_format.specs.Units.{units}
-use Rattle.resb_pool.proofs.Utf16.{units_within}
+use Rattle.resb_format.proofs.TextUnits.{units_within}
 use Rattle.resb_pool.proofs.measure.is_vast.Goals as goal
 
 both_below : (m n : ℕ) → m < 268435456 → n ≤ m → nat_le 268435456 m ≡ nat_le 268435456 n

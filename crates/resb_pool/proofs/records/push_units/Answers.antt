@@ -6,8 +6,7 @@ use Rattle.std.specs.List.{flat_map}
 use Rattle.std.specs.Char.Escape.{encode_utf16}
 use Rattle.std.proofs.lemmas.Str.{encodes-chars, cons_from_encodes}
 use Rattle.std.proofs.Common.{List, ℕ, OnOk, length, refl, subst}
-use Rattle.resb_format.proofs.TextUnits.{no_chars}
-use Rattle.resb_pool.proofs.Utf16.{units_ascii}
+use Rattle.resb_format.proofs.TextUnits.{no_chars, units_ascii}
 use Rattle.resb_pool.proofs.records.push_units.Goals as goal
 
 pub loop-c-init : goal.loop-c-init

@@ -2,7 +2,7 @@
 use Rattle.std.proofs.Common.{rules, ◌≡◌, [], ◌∷◌, ◌++◌, sym, ◌∙◌, ap, append_assoc, append-nil}
 use Rattle.resb_pool.specs.Plan.{nows}
 use Rattle.resb_pool.proofs.TextLoops.{nows-push}
-use Rattle.resb_bodies.proofs.Keys.{keys_view}
+use Rattle.resb_write.proofs.KeyViews.{keys_view}
 use Rattle.resb_write.proofs.contents.push_keys.Goals as goal
 
 pub loop-key-preserved : goal.loop-key-preserved

@@ -1,5 +1,5 @@
 use Rattle.std.proofs.Common.{◌≡◌, ◌+◌, length, drop}
-use Rattle.resb_write.specs.KeyBlock.{key_bytes}
+use Rattle.resb_layout.specs.KeyBlock.{key_bytes}
 use Rattle.resb_pool.specs.Plan.{nows}
 use Rattle.resb_write.proofs.key_block.key_length.Given as goal
 

@@ -4,7 +4,7 @@ use Rattle.std.specs.Option.{is_some}
 use Rattle.std.proofs.lemmas.Map.Text.{hash_map_updates_str}
 use Rattle.resb_pool.specs.Plan.{nows, at_text}
 use Rattle.resb_pool.proofs.PlacingLemmas.{at_empty}
-use Rattle.resb_write.specs.KeyBlock.{is_among}
+use Rattle.resb_layout.specs.KeyBlock.{is_among}
 use Rattle.resb_pool.proofs.TextLoops.{nows-take}
 use Rattle.resb_write.proofs.Keys.{key_moves}
 use Rattle.resb_write.proofs.key_block.key_set.Goals as goal

@@ -1,7 +1,7 @@
 use Rattle.std.proofs.Common.{◌≡◌, ℕ, List, take}
 use Rattle.std.specs.Option.{is_some}
 use Rattle.resb_pool.specs.Plan.{nows, at_text}
-use Rattle.resb_write.specs.KeyBlock.{is_among}
+use Rattle.resb_layout.specs.KeyBlock.{is_among}
 use Rattle.resb_write.proofs.key_block.key_set.Given as goal
 
 abbrev pub invariant-loop-key : goal.invariant-loop-key

@@ -4,7 +4,7 @@ use Rattle.std.proofs.Common.{get_or, sym, ◌∙◌, ap, arith}
 use Rattle.std.proofs.lemmas.Map.Text.{hash_map_updates_str}
 use Rattle.resb_pool.specs.Plan.{nows, at_text}
 use Rattle.resb_pool.proofs.PlacingLemmas.{at_empty}
-use Rattle.resb_write.specs.KeyBlock.{key_bytes}
+use Rattle.resb_layout.specs.KeyBlock.{key_bytes}
 use Rattle.resb_write.specs.Inner.NearPositions.{near_position_in}
 use Rattle.resb_pool.proofs.TextLoops.{nows-take}
 use Rattle.resb_write.proofs.Keys.{place_moves, position_moves}

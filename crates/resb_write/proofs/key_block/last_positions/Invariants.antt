@@ -1,6 +1,6 @@
 use Rattle.std.proofs.Common.{◌≡◌, ◌+◌, ◌-◌, ◌^◌, min, ℕ, List, length, take}
 use Rattle.resb_pool.specs.Plan.{nows, at_text}
-use Rattle.resb_write.specs.KeyBlock.{key_bytes}
+use Rattle.resb_layout.specs.KeyBlock.{key_bytes}
 use Rattle.resb_write.specs.Inner.NearPositions.{near_position_in}
 use Rattle.resb_write.proofs.key_block.last_positions.Given as goal
 

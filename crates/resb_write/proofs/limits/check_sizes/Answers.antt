@@ -1,6 +1,6 @@
 -- The first fault of the sizes, or that there is none.
 use Rattle.std.proofs.Common.{◌+◌, ◌^◌, ◌≤◌, sym, ◌∙◌, subst, arith}
-use Rattle.resb_write.specs.PlainSize.{list_size, resources_size}
+use Rattle.resb_layout.specs.PlainSize.{list_size, resources_size}
 use Rattle.resb_write.specs.Inner.Sizes.{IsTooMuch, at_fault, too_large}
 use Rattle.resb_write.proofs.FaultsLemmas.{long_fault, over_fault, no_size_fault}
 use Rattle.resb_write.proofs.limits.check_sizes.Goals as goal

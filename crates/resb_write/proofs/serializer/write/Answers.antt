@@ -7,11 +7,11 @@ use Rattle.resb_tree.specs.View.{tree_of}
 use Rattle.resb_format.specs.Units.{size}
 use Rattle.resb_pool.specs.FaultOf.{fault_of}
 use Rattle.resb_pool.specs.Plan.{nows, IsPlan}
-use Rattle.resb_tree.specs.WalkOrder.{walk}
-use Rattle.resb_bodies.specs.Room.{laid_of, trees_in, Numbered, HasRoomBehind}
-use Rattle.resb_write.specs.KeyBlock.{used, key_bytes, padded, position_in}
-use Rattle.resb_write.specs.Faults.{Refused, no_memory, key_fault}
-use Rattle.resb_write.specs.Written.{Written, even}
+use Rattle.resb_tree.specs.WalkOrder.{walk, trees_in}
+use Rattle.resb_write.specs.Inner.Room.{laid_of, Numbered, HasRoomBehind}
+use Rattle.resb_layout.specs.KeyBlock.{used, key_bytes, padded, position_in}
+use Rattle.resb_layout.specs.Faults.{Refused, no_memory, key_fault}
+use Rattle.resb_layout.specs.Written.{Written, even}
 use Rattle.resb_write.specs.Inner.Files.{file_of}
 use Rattle.resb_write.specs.Inner.Gathered.{Gathered}
 use Rattle.resb_write.proofs.Room.{units_room, bytes_room, used_room, length-padded, pool_room}

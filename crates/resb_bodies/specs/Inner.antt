@@ -1,3 +1,0 @@
--- Words of private functions.
-pub mod Seen
-pub mod Counted

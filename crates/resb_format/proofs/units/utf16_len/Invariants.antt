@@ -1,0 +1,13 @@
+use Rattle.std.proofs.Common.{◌≡◌, ◌+◌, ◌≤◌, ℕ, List, length}
+use Rattle.std.specs.List.{flat_map}
+use Rattle.std.specs.Char.Escape.{encode_utf16}
+use Rattle.std.specs.Str.{encode_utf8_all}
+use Rattle.std.specs.Str.Iter.{chars_rest}
+use Rattle.resb_format.specs.Units.{units}
+use Rattle.resb_format.proofs.units.utf16_len.Given as goal
+
+abbrev pub invariant-loop-c : goal.invariant-loop-c
+invariant-loop-c l =
+    (cs : List ℕ) × (encode_utf8_all cs ≡ chars_rest l.c-iterator)
+    × (l.count + length (flat_map encode_utf16 cs) ≡ length (units l.text))
+    × (length (units l.text) ≤ length l.text)

@@ -1,0 +1,64 @@
+-- Why a tree isn't written with the keys of a list.
+--     fault t ks              the first fault, in the order in which they are answered
+--     Refused t ks f          f may be the answer
+use Rattle.std.specs.Prelude.{◌≡◌, ℕ, ◌^◌, ◌≤◌, List, length, Bool, false, nat_eq, nat_lt, codes}
+use Rattle.std.specs.Prelude.{Option, Some, None, option_map, unwrap_or, if◌then◌else◌}
+use Rattle.std.specs.List.{list_any}
+use Rattle.std.specs.Option.{is_none}
+use Rattle.resb_tree.specs.Tree.{Tree, array, binary, int_vector}
+use Rattle.resb_pool.specs.Fault.{Fault, string_too_long, unexpected, limit, out_of_memory}
+use Rattle.resb_pool.specs.Plan.{first_too_long}
+use Rattle.resb_tree.specs.WalkOrder.{walk, members, texts_of}
+use Rattle.resb_layout.specs.KeyBlock.{used, position_in}
+use Rattle.resb_tree.specs.WalkOrder.{keys_of}
+use Rattle.resb_layout.specs.PlainSize.{plain_size}
+
+-- the text holds U+0000, which alone has a byte 0
+abbrev pub has_nul : List ℕ → Bool
+has_nul text = list_any (λ b. nat_eq b 0) text
+
+-- among the listed keys that are used, the key has no place
+abbrev pub is_unlisted : List (List ℕ) → List ℕ → Bool
+is_unlisted js k = is_none (position_in js k)
+
+-- the key's place among the listed keys that are used is over 2147483647
+abbrev pub is_far : List (List ℕ) → List ℕ → Bool
+is_far js k = nat_lt 2147483647 (unwrap_or (position_in js k) 0)
+
+-- of used keys us, and of those that are listed
+abbrev pub key_fault : List (List ℕ) → List (List ℕ) → Option Fault
+key_fault us js =
+    if list_any (is_unlisted js) us then Some (unexpected (codes "key not present in position map"))
+    else if list_any has_nul us then Some (unexpected (codes "key contains U+0000"))
+    else if list_any (is_far js) us then Some (limit (codes "key position over 2147483647"))
+    else None
+
+-- an array, binary or vector whose count doesn't fit 32 bits
+abbrev pub is_over_32_bits : Tree → Bool
+is_over_32_bits (array ts) = nat_lt 4294967295 (length (members ts))
+is_over_32_bits (binary bytes) = nat_lt 4294967295 (length bytes)
+is_over_32_bits (int_vector ns) = nat_lt 4294967295 (length ns)
+is_over_32_bits _ = false
+
+-- the fault of trees of which one has a count over 32 bits
+abbrev pub count_fault : List Tree → Option Fault
+count_fault ts = if list_any is_over_32_bits ts then Some (limit (codes "count over 32 bits")) else
+    None
+
+-- the first of two faults
+abbrev pub first_of : Option Fault → Option Fault → Option Fault
+first_of (Some f) later = Some f
+first_of None later = later
+
+-- the first fault of a tree and a list of keys: of its keys, of a string's length, of a count
+abbrev pub fault : Tree → List (List ℕ) → Option Fault
+fault t ks =
+    first_of (key_fault (keys_of t) (used (keys_of t) ks))
+    (first_of (option_map string_too_long (first_too_long (texts_of t))) (count_fault (walk t)))
+
+-- want of memory, the first fault, or a plain size of 2^28 and more where there is no fault
+pub data Refused (t : Tree) (ks : List (List ℕ)) : Fault → Type 0 where
+  no_memory : Refused t ks out_of_memory
+  at_the_first : {f : Fault} → fault t ks ≡ Some f → Refused t ks f
+  too_large : fault t ks ≡ None → 2 ^ 28 ≤ plain_size t ks
+      → Refused t ks (limit (codes "file too large"))

@@ -1,0 +1,58 @@
+-- What a written file is.
+--     Blocks t ks             what a file of the tree t and the keys ks is made of
+--     Written bytes t f ks    the file of a bundle of t, with locale fallback or not
+use Rattle.std.specs.Prelude.{◌≡◌, ℕ, ◌+◌, ◌*◌, ◌%◌, ◌≤◌, ◌==◌, List, [], ◌∷◌, ◌++◌, length, drop}
+use Rattle.std.specs.Prelude.{Bool, Option, None, if◌then◌else◌}
+use Rattle.resb_tree.specs.Tree.{Tree, tree_count}
+use Rattle.resb_format.specs.Parts.{body_of, root_word, keys_end, block_end}
+use Rattle.resb_format.specs.File.{Denotes, budget}
+use Rattle.resb_pool.specs.Plan.{IsPlan}
+use Rattle.resb_layout.specs.Laid.{Laid, Lays, halves}
+use Rattle.resb_tree.specs.WalkOrder.{texts_of}
+use Rattle.resb_layout.specs.KeyBlock.{key_block, key_position, keys_start}
+use Rattle.resb_layout.specs.Faults.{fault}
+use Rattle.resb_layout.specs.WrittenHead.{IndexOf}
+
+-- a unit that fills the last word of the 16-bit block
+abbrev pub even : List ℕ → List ℕ
+even us = if length us % 2 == 1 then us ++ 0xaaaa ∷ [] else us
+
+-- where the tail begins, behind the key block and the 16-bit block
+abbrev pub tail_start : List ℕ → Laid → ℕ
+tail_start keys laid = keys_start + length keys + 2 * length (even laid.units)
+
+-- what a file is made of: the pool of the tree's strings, and its resources laid behind it
+pub record Blocks (t : Tree) (ks : List (List ℕ)) : Type 0 where
+  -- the pool of the tree's strings, and where each string stands in it
+  pub pool : List ℕ
+  pub offset : List ℕ → Option ℕ
+  -- the units of the 16-bit block and the bytes of the tail, with the bodies of all resources
+  pub laid : Laid
+  pub root : ℕ
+  pub is_pool : IsPlan (texts_of t) pool offset
+  pub lays : Lays
+      (record {
+        position = key_position t ks;
+        offset = offset;
+        base =
+            tail_start (key_block t ks) laid;
+      })
+      (record { units = pool; tail = [] }) t laid root
+
+-- the bytes behind the index
+abbrev pub bytes_of : {t : Tree} {ks : List (List ℕ)} → Blocks t ks → List ℕ
+bytes_of {t} {ks} b = key_block t ks ++ (halves (even b.laid.units) ++ b.laid.tail)
+
+-- a file that denotes the tree, with the bundle's index, whose bytes behind the index are just the
+-- blocks
+pub record Written (bytes : List ℕ) (t : Tree) (fallback : Bool) (ks : List (List ℕ)) : Type 0 where
+  pub faultless : fault t ks ≡ None
+  -- it denotes the tree, and holds each of its resources once
+  pub tree : Denotes bytes t (tree_count t)
+  pub within_budget : tree_count t ≤ budget bytes
+  pub index : IndexOf bytes t fallback
+  pub blocks : Blocks t ks
+  pub root : root_word bytes ≡ blocks.root
+  pub keys_end : 4 * keys_end bytes ≡ keys_start + length (key_block t ks)
+  pub block_end : 4 * block_end bytes ≡ tail_start (key_block t ks) blocks.laid
+  pub body : drop keys_start (body_of bytes) ≡ bytes_of blocks

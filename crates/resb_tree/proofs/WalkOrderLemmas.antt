@@ -1,0 +1,122 @@
+-- A resource in walk order: what is inside it, and then itself.
+use Rattle.std.proofs.Common.{◌≡◌, ℕ, ◌+◌, ◌<◌, List, [], ◌∷◌, ◌++◌, Bor, map, length, reverse}
+use Rattle.std.proofs.Common.{get_or, take, drop}
+use Rattle.std.proofs.Common.{refl, sym, ◌∙◌, ap, append_assoc, append-nil, arith}
+use Rattle.std.specs.List.{flat_map, sum_by}
+use Rattle.std.proofs.lemmas.List.{reverse-append, map_push, map_more, at_drop_more}
+use Rattle.std.proofs.lemmas.List.Sums.{sum_by-cons, sum_by-append}
+use Rattle.resb_tree.specs.Tree.{Tree, string, array, table, binary, integer, int_vector, Trees}
+use Rattle.resb_tree.specs.Tree.{no_trees, more_trees, Entries, no_entries, entry, trees_of}
+use Rattle.resb_tree.specs.Tree.{tree_count, trees_count, entries_count}
+use Rattle.resb_tree.specs.View.{tree_of, items_view, entries_view}
+use Rattle.resb_tree.specs.declared.resource.Resource.{Resource}
+use Rattle.resb_tree.specs.WalkOrder.{members, values_of, children, walk, walk_each, walk_values}
+use Rattle.resb_tree.specs.WalkOrder.{trees_in}
+use Rattle.std.proofs.lemmas.Grind.{flat_map-append}
+
+each_is : (ts : Trees) → walk_each ts ≡ flat_map walk (members ts)
+each_is no_trees = refl
+each_is (more_trees t ts) = ap (λ l. walk t ++ l) (each_is ts)
+
+values_is : (es : Entries) → walk_values es ≡ flat_map walk (values_of es)
+values_is no_entries = refl
+values_is (entry k t es) = ap (λ l. walk t ++ l) (values_is es)
+
+pub walk_is : (t : Tree) → walk t ≡ flat_map walk (children t) ++ t ∷ []
+walk_is (string s) = refl
+walk_is (array ts) = ap (λ l. l ++ array ts ∷ []) (each_is ts)
+walk_is (table es) = ap (λ l. l ++ table es ∷ []) (values_is es)
+walk_is (binary s) = refl
+walk_is (integer n) = refl
+walk_is (int_vector s) = refl
+
+members_count : (ts : Trees) → trees_count ts ≡ sum_by tree_count (members ts)
+members_count no_trees = refl
+members_count (more_trees t ts) =
+    omega (arith, members_count ts, sum_by-cons tree_count t (members ts))
+
+values_count : (es : Entries) → entries_count es ≡ sum_by tree_count (values_of es)
+values_count no_entries = refl
+values_count (entry k t es) = omega (
+  arith,
+  values_count es,
+  sum_by-cons tree_count t (values_of es),
+)
+
+none_counted : sum_by tree_count [] ≡ 0
+none_counted = refl
+
+pub count_is : (t : Tree) → tree_count t ≡ 1 + sum_by tree_count (children t)
+count_is (string s) = omega (arith, none_counted)
+count_is (array ts) = omega (arith, members_count ts)
+count_is (table es) = omega (arith, values_count es)
+count_is (binary s) = omega (arith, none_counted)
+count_is (integer n) = omega (arith, none_counted)
+count_is (int_vector s) = omega (arith, none_counted)
+
+pub members-trees_of : (ts : List Tree) → members (trees_of ts) ≡ ts
+members-trees_of [] = refl
+members-trees_of (t ∷ ts) = ap (λ l. t ∷ l) (members-trees_of ts)
+
+pub trees-push : (old new : List (Bor Resource)) (r : Bor Resource) → new ≡ old ++ r ∷ []
+    → trees_in new ≡ trees_in old ++ tree_of r.now ∷ []
+trees-push old new r e = ap trees_in e ∙ map_push (λ (x : Bor Resource). tree_of x.now) old r
+
+-- a resource is taken off, and what is inside it put on
+pub replaced : (front old new seen seen' : List Tree) (t : Tree) (all : List Tree)
+    → old ≡ front ++ t ∷ [] → new ≡ front ++ children t → seen' ≡ seen ++ t ∷ []
+    → flat_map walk old ++ reverse seen ≡ all → flat_map walk new ++ reverse seen' ≡ all
+replaced front old new seen seen' t all e f g h =
+    (λ i. flat_map walk (f i) ++ reverse (g i))
+    ∙ (λ i. flat_map-append walk front (children t) i ++ reverse-append seen (t ∷ []) i)
+    ∙ append_assoc (flat_map walk front) (flat_map walk (children t)) (t ∷ reverse seen)
+    ∙ ap (λ l. flat_map walk front ++ l)
+    (sym (append_assoc (flat_map walk (children t)) (t ∷ []) (reverse seen)))
+    ∙ ap (λ l. flat_map walk front ++ (l ++ reverse seen)) (sym (walk_is t))
+    ∙ sym (append_assoc (flat_map walk front) (walk t) (reverse seen))
+    ∙ ap (λ l. (flat_map walk front ++ l) ++ reverse seen) (sym (append-nil (walk t)))
+    ∙ ap (λ l. l ++ reverse seen) (sym (flat_map-append walk front (t ∷ [])))
+    ∙ ap (λ l. flat_map walk l ++ reverse seen) (sym e)
+    ∙ h
+
+pub replaced_counts : (front old new : List Tree) (t : Tree) → old ≡ front ++ t ∷ []
+    → new ≡ front ++ children t → sum_by tree_count new < sum_by tree_count old
+replaced_counts front old new t e f =
+    omega (
+      arith,
+      ap (sum_by tree_count) e,
+      ap (sum_by tree_count) f,
+      sum_by-append tree_count front (t ∷ []),
+      sum_by-append tree_count front (children t),
+      sum_by-cons tree_count t [],
+      none_counted,
+      count_is t,
+    )
+
+pub values_view : (es : List (List ℕ × Resource))
+    → values_of (entries_view es) ≡ map (λ e. tree_of e.1) es
+values_view [] = refl
+values_view (e ∷ es) = ap (λ l. tree_of e.1 ∷ l) (values_view es)
+
+pub trees-reverse : (rs : List (Bor Resource)) → trees_in (reverse rs) ≡ reverse (trees_in rs)
+trees-reverse [] = refl
+trees-reverse (r ∷ rs) =
+    ap trees_in (reverse-append (r ∷ []) rs)
+    ∙ map_push (λ (x : Bor Resource). tree_of x.now) (reverse rs) r
+    ∙ ap (λ l. l ++ tree_of r.now ∷ []) (trees-reverse rs)
+    ∙ sym (reverse-append (tree_of r.now ∷ []) (trees_in rs))
+
+pub items_long : (rs : List Resource) → length rs ≡ length (members (items_view rs))
+items_long [] = refl
+items_long (r ∷ rs) = omega (arith, items_long rs)
+
+-- the resources from a place on, and those up to the one there
+module _ (rs : List (Bor Resource)) (i : ℕ) (r : Bor Resource) (at : r ≡ get_or rs i r)
+    (h : i < length rs) where
+  pub trees-drop : trees_in (drop i rs) ≡ tree_of r.now ∷ trees_in (drop (i + 1) rs)
+  trees-drop = at_drop_more trees_in rs i r h ∙ ap (λ (x : Bor Resource). tree_of x.now
+      ∷ trees_in (drop (i + 1) rs)) (sym at)
+
+  pub trees-take : trees_in (take (i + 1) rs) ≡ trees_in (take i rs) ++ tree_of r.now ∷ []
+  trees-take = map_more (λ (x : Bor Resource). tree_of x.now) rs i r h
+      ∙ ap (λ (x : Bor Resource). trees_in (take i rs) ++ tree_of x.now ∷ []) (sym at)

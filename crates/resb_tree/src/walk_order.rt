@@ -1,0 +1,86 @@
+//! The resources of a tree in the order in which they are laid: members before their collection.
+//! What is laid for each is not said here. No function calls itself, so that any depth is walked.
+ghost use Rattle.std.specs.Prelude.{◌≡◌, ◌++◌, [], map, reverse, IfOk, OnOk};
+ghost use Rattle.resb_tree.specs.View.{tree_of};
+ghost use Rattle.resb_tree.specs.WalkOrder.{walk, children, trees_in};
+
+use crate::resource::{Resource, Table};
+use std::alloc::{AllocError, Global};
+
+/// The resources of a tree in walk order: members before their collection.
+pub type WalkOrder<'t, 'a> = Vec<&'t Resource<'a>>;
+
+/// The resources of a tree in walk order.
+pub fn in_walk_order<'t, 'a>(
+    alloc: Global,
+    root: &'t Resource<'a>,
+) -> Result<WalkOrder<'t, 'a>, AllocError>
+    ensures { IfOk result (λ v. trees_in v.items ≡ walk (tree_of root.now)) }
+{
+    let mut order = Vec::new(alloc);
+    push_walk(alloc, &mut order, root)?;
+    order.reverse();
+    Ok(order)
+}
+
+/// Appends the resources of a tree, each behind its collection, to none.
+fn push_walk<'t, 'a>(
+    alloc: Global,
+    order: &mut WalkOrder<'t, 'a>,
+    root: &'t Resource<'a>,
+) -> Result<(), AllocError>
+    requires { order.old.items ≡ [] }
+    ensures { OnOk result (reverse (trees_in order.new.items) ≡ walk (tree_of root.now)) }
+{
+    let mut pending = Vec::new(alloc);
+    pending.push(root)?;
+    while let Some(resource) = pending.pop() {
+        order.push(resource)?;
+        push_children(&mut pending, resource)?;
+    }
+    Ok(())
+}
+
+/// Appends the resources right inside a resource.
+fn push_children<'t, 'a>(
+    pending: &mut Vec<&'t Resource<'a>>,
+    resource: &'t Resource<'a>,
+) -> Result<(), AllocError>
+    ensures { OnOk result (trees_in pending.new.items
+        ≡ trees_in pending.old.items ++ children (tree_of resource.now)) }
+{
+    match resource {
+        Resource::Array(items) => push_items(pending, items),
+        Resource::Table(table) => push_values(pending, table),
+        Resource::String(_) | Resource::Binary(_) | Resource::Integer(_) | Resource::IntVector(_) =>
+            Ok(()),
+    }
+}
+
+/// Appends resources.
+fn push_items<'t, 'a>(
+    pending: &mut Vec<&'t Resource<'a>>,
+    items: &'t [Resource<'a>],
+) -> Result<(), AllocError>
+    ensures { OnOk result (trees_in pending.new.items
+        ≡ trees_in pending.old.items ++ map tree_of items.now) }
+{
+    for item in items {
+        pending.push(item)?;
+    }
+    Ok(())
+}
+
+/// Appends the values of a table.
+fn push_values<'t, 'a>(
+    pending: &mut Vec<&'t Resource<'a>>,
+    table: &'t Table<'a>,
+) -> Result<(), AllocError>
+    ensures { OnOk result (trees_in pending.new.items
+        ≡ trees_in pending.old.items ++ map (λ e. tree_of e.1) table.now.entries) }
+{
+    for (_key, value) in table.iter() {
+        pending.push(value)?;
+    }
+    Ok(())
+}

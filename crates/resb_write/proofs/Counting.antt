@@ -1,0 +1,198 @@
+-- How many units what is laid takes, by the resources alone.
+use Rattle.std.proofs.Common.{◌≡◌, ℕ, ◌+◌, ◌*◌, ◌<◌, ◌&&◌, List, [], ◌∷◌, ◌++◌, length}
+use Rattle.std.proofs.Common.{map, Some, Bool, true, false, nat_le, nat_lt, refl, sym, ◌∙◌, ap}
+use Rattle.std.proofs.Common.{arith}
+use Rattle.std.proofs.Common.{if◌then◌else◌}
+use Rattle.std.specs.List.{sum_by, list_all}
+use Rattle.std.proofs.lemmas.Bool.{le-leb, lt-leb, leb-true, leb-false, lt-ltb, and_left}
+use Rattle.std.proofs.lemmas.Bool.{and_right}
+use Rattle.std.proofs.lemmas.List.{length-append, length-map}
+use Rattle.std.proofs.lemmas.List.Folds.{list_all-map}
+use Rattle.std.proofs.lemmas.List.Sums.{sum_by-cons, sum_by-append}
+use Rattle.resb_tree.specs.Tree.{Tree, Trees, Entries}
+use Rattle.resb_tree.specs.Tree.{no_entries, entry}
+use Rattle.resb_tree.specs.WalkOrder.{members, values_of, walk, walk_each, walk_values, entry_keys}
+use Rattle.resb_layout.specs.Laid.{Given, Laid, is_short_string, are_short, are_near, offsets_in}
+use Rattle.resb_layout.specs.Laid.{ClosesArray, short_array, long_array, ClosesTable, short_table}
+use Rattle.resb_layout.specs.Laid.{long_table, wide_table, Lays, lays_integer}
+use Rattle.resb_layout.specs.Laid.{lays_string, lays_no_bytes, lays_bytes, lays_no_numbers}
+use Rattle.resb_layout.specs.Laid.{lays_numbers, lays_no_items, lays_items, lays_no_entries}
+use Rattle.resb_layout.specs.Laid.{lays_entries, LaysEach, each_none, each_more, members_in}
+use Rattle.resb_write.specs.Inner.Counted.{fits_unit, is_near, are_near_strings, are_near_keys}
+use Rattle.resb_write.specs.Inner.Counted.{short_units, own_units}
+use Rattle.resb_write.proofs.OneBlock.{low, high}
+use Rattle.resb_write.proofs.Closings.{offsets_long}
+use Rattle.resb_write.proofs.KeyViews.{placed_long, keys_values}
+
+-- the word of a string is short where a unit holds its offset
+short_offset : (k : ℕ) → is_short_string (0x6000_0000 + k) ≡ nat_le k 65535
+short_offset k = by (nat_le k 65535) refl
+  where
+    low_enough : nat_le 0x6000_0000 (0x6000_0000 + k) ≡ true
+    low_enough = le-leb 0x6000_0000 (0x6000_0000 + k) (omega arith)
+
+    by : (b : Bool) → nat_le k 65535 ≡ b → is_short_string (0x6000_0000 + k) ≡ nat_le k 65535
+    by true e = (λ i. low_enough i && le-leb (0x6000_0000 + k) 0x6000_ffff
+        (omega (arith, leb-true k 65535 e)) i) ∙ sym e
+    by false e = (λ i. low_enough i && lt-leb (0x6000_0000 + k) 0x6000_ffff
+        (omega (arith, leb-false k 65535 e)) i) ∙ sym e
+
+members_of : (es : Entries) → members (members_in es) ≡ values_of es
+members_of no_entries = refl
+members_of (entry k t es) = ap (λ l. t ∷ l) (members_of es)
+
+walk_of : (es : Entries) → walk_each (members_in es) ≡ walk_values es
+walk_of no_entries = refl
+walk_of (entry k t es) = ap (λ l. walk t ++ l) (walk_of es)
+
+-- a short collection that isn't empty has a count and its members' units
+short_is : (b : Bool) (n each : ℕ) → b ≡ true → 0 < n → short_units b n each ≡ each * n + 1
+short_is b n each e h = (λ i. if e i && lt-ltb 0 n h i then each * n + 1 else 0)
+
+long_is : (b : Bool) (n each : ℕ) → b ≡ false → short_units b n each ≡ 0
+long_is b n each e = (λ i. if e i && nat_lt 0 n then each * n + 1 else 0)
+
+module _ (g : Given) where
+  array_units : {s : Laid} {ws : List ℕ} {e : Laid} {w : ℕ} (ts : List Tree)
+      → length ws ≡ length ts → list_all is_short_string ws ≡ list_all (is_near g) ts
+      → 0 < length ws → ClosesArray g s ws e w
+      → (length e.units ≡ length s.units
+      + short_units (are_near_strings g ts) (length ts) 1) × (is_short_string w ≡ false)
+  array_units {s} {ws} ts n h some (short_array m l) =
+      let same : are_short ws ≡ are_near_strings g ts = (λ i. nat_le (n i) 65535 && h i) in (
+        omega (
+          arith,
+          length-append s.units (length ws ∷ offsets_in ws),
+          offsets_long ws,
+          n,
+          short_is (are_near_strings g ts) (length ts) 1 (sym same ∙ m) (omega (arith, some, n)),
+        ),
+        high (0x9000_0000 + length s.units) (omega arith),
+      )
+  array_units {s} {ws} ts n h some (long_array at m f p q) =
+      let same : are_short ws ≡ are_near_strings g ts = (λ i. nat_le (n i) 65535 && h i) in (
+        omega (arith, long_is (are_near_strings g ts) (length ts) 1 (sym same ∙ m)),
+        high (0x8000_0000 + at) (omega arith),
+      )
+
+  pub near_keys : (ks : List (List ℕ)) (ps : List ℕ) → map g.position ks ≡ map Some ps
+      → are_near_keys g ks ≡ are_near ps
+  near_keys ks ps e =
+      let n : length ks ≡ length ps = sym (length-map ks g.position) ∙ ap length e
+      ∙ length-map ps Some in
+      let h = sym (list_all-map fits_unit g.position ks) ∙ ap (list_all fits_unit) e
+      ∙ list_all-map fits_unit Some ps in
+      (λ i. nat_le (n i) 65535 && h i)
+
+  table_units : {s : Laid} {ps ws : List ℕ} {e : Laid} {w : ℕ} (ks : List (List ℕ))
+      (ts : List Tree) → length ws ≡ length ts → length ps ≡ length ws
+      → list_all is_short_string ws ≡ list_all (is_near g) ts → are_near_keys g ks ≡ are_near ps
+      → 0 < length ws → ClosesTable g s ps ws e w
+      → (length e.units ≡ length s.units
+      + short_units (are_near_strings g ts && are_near_keys g ks) (length ts) 2)
+      × (is_short_string w ≡ false)
+  table_units {s} {ps} {ws} ks ts n m h k some (short_table r q l) =
+      let same : are_short ws ≡ are_near_strings g ts = (λ i. nat_le (n i) 65535 && h i) in
+      let both : (are_near_strings g ts && are_near_keys g ks) ≡ true =
+      (λ i. (sym same ∙ q) i && (k ∙ r) i) in (
+        omega (
+          arith,
+          length-append s.units (length ws ∷ (ps ++ offsets_in ws)),
+          length-append ps (offsets_in ws),
+          offsets_long ws,
+          n,
+          m,
+          short_is (are_near_strings g ts && are_near_keys g ks) (length ts) 2 both
+              (omega (arith, some, n)),
+        ),
+        low (0x5000_0000 + length s.units) (omega (arith, l)),
+      )
+  table_units {s} {ps} {ws} ks ts n m h k some (long_table at r q f p) =
+      let same : are_short ws ≡ are_near_strings g ts = (λ i. nat_le (n i) 65535 && h i) in
+      let no : (are_near_strings g ts && are_near_keys g ks) ≡ false =
+      and_left (are_near_strings g ts) (are_near_keys g ks) (sym same ∙ q) in (
+        omega (arith, long_is (are_near_strings g ts && are_near_keys g ks) (length ts) 2 no),
+        low (0x2000_0000 + at) (omega (arith, p)),
+      )
+  table_units {s} {ps} {ws} ks ts n m h k some (wide_table at r f p q z) =
+      let no : (are_near_strings g ts && are_near_keys g ks) ≡ false =
+      and_right (are_near_strings g ts) (are_near_keys g ks) (k ∙ r) in (
+        omega (arith, long_is (are_near_strings g ts && are_near_keys g ks) (length ts) 2 no),
+        low (0x4000_0000 + at) (omega (arith, p)),
+      )
+
+  leaf : (s : Laid) (t : Tree) → own_units g t ≡ 0
+      → length s.units ≡ length s.units + sum_by (own_units g) (t ∷ [])
+  leaf s t e = omega (arith, e, sum_by-cons (own_units g) t [], none)
+    where
+      none : sum_by (own_units g) [] ≡ 0
+      none = refl
+
+  behind : (a b c n k : ℕ) (ts : List Tree) (t : Tree) → b ≡ a + sum_by (own_units g) ts
+      → c ≡ b + k → own_units g t ≡ k → c ≡ a + sum_by (own_units g) (ts ++ t ∷ [])
+  behind a b c n k ts t e f h = omega (
+    arith,
+    e,
+    f,
+    h,
+    sum_by-append (own_units g) ts (t ∷ []),
+    sum_by-cons (own_units g) t [],
+    none,
+  )
+    where
+      none : sum_by (own_units g) [] ≡ 0
+      none = refl
+
+  -- a resource that is laid takes the units that are counted, and its word is short where it is a
+  -- near string
+  mutual
+    pub units : {s e : Laid} {t : Tree} {w : ℕ} → Lays g s t e w
+        → (length e.units ≡ length s.units + sum_by (own_units g) (walk t))
+        × (is_short_string w ≡ is_near g t)
+    units {s} {e} {t} (lays_integer {n = n} k) =
+        (leaf s t refl, high (0x7000_0000 + n) (omega arith))
+    units {s} {e} {t} (lays_string {text = x} {k = m} k l) =
+        (leaf s t refl, short_offset m ∙ sym (ap fits_unit k))
+    units {s} {e} {t} lays_no_bytes = (leaf s t refl, refl)
+    units {s} {e} {t} (lays_bytes at some n f l) =
+        (leaf s t refl, low (0x1000_0000 + at) (omega (arith, l)))
+    units {s} {e} {t} lays_no_numbers = (leaf s t refl, refl)
+    units {s} {e} {t} (lays_numbers at some n a f l) =
+        (leaf s t refl, high (0xe000_0000 + at) (omega arith))
+    units {s} {e} {t} lays_no_items = (leaf s t refl, refl)
+    units {s} {e} {t} (lays_items {mid = mid} {ts = ts} {ws = ws} k some c) =
+        let r = units_each k in
+        let o = array_units (members ts) r.1 r.2 some c in (
+          behind (length s.units) (length mid.units) (length e.units) 0 _ (walk_each ts) t r.0 o.0
+              refl,
+          o.1,
+        )
+    units {s} {e} {t} lays_no_entries = (leaf s t refl, refl)
+    units {s} {e} {t} (lays_entries {mid = mid} {es = es} {ws = ws} ps p k some c) =
+        let r = units_each k in
+        let n = r.1 ∙ ap length (members_of es) in
+        let h = r.2 ∙ ap (list_all (is_near g)) (members_of es) in
+        let m : length ps ≡ length ws = placed_long g (entry_keys es) ps p ∙ keys_values es
+        ∙ sym n in
+        let o = table_units (entry_keys es) (values_of es) n m h
+        (near_keys (entry_keys es) ps p.positions) some c in (
+          behind (length s.units) (length mid.units) (length e.units) 0 _ (walk_values es) t
+              (r.0 ∙ ap (λ l. length s.units + sum_by (own_units g) l) (walk_of es)) o.0 refl,
+          o.1,
+        )
+
+    units_each : {s e : Laid} {ts : Trees} {ws : List ℕ} → LaysEach g s ts e ws
+        → (length e.units ≡ length s.units + sum_by (own_units g) (walk_each ts))
+        × (length ws ≡ length (members ts))
+        × (list_all is_short_string ws ≡ list_all (is_near g) (members ts))
+    units_each {s} each_none = (omega (arith, none), refl, refl)
+      where
+        none : sum_by (own_units g) [] ≡ 0
+        none = refl
+    units_each {s} {e} (each_more {t = t} {ts = ts} k ks) =
+        let r = units k in
+        let rest = units_each ks in (
+          omega (arith, r.0, rest.0, sum_by-append (own_units g) (walk t) (walk_each ts)),
+          omega (arith, rest.1),
+          (λ i. r.1 i && rest.2 i),
+        )

@@ -1,0 +1,7 @@
+use Rattle.std.proofs.Common.{◌≡◌, ◌++◌, take}
+use Rattle.resb_layout.specs.Laid.{halves}
+use Rattle.resb_write.proofs.tail_bytes.put_halves.Given as goal
+
+abbrev pub invariant-loop-position : goal.invariant-loop-position
+invariant-loop-position l = l.tail.items ≡ l.fn.tail.items ++ halves
+    (take l.position-index l.positions)

@@ -1,0 +1,156 @@
+//! Lays one resource over a stack of words, which holds those of its members.
+//! What is laid for a body is said in `resource_bodies`.
+ghost use Rattle.std.specs.Prelude.{◌≡◌, ◌++◌, ◌∷◌, ◌+◌, ◌-◌, ◌/◌, ◌^◌, ◌<◌, ◌≤◌};
+ghost use Rattle.std.specs.Prelude.{ℕ, List, Some, [], length, map, take, OnOk};
+ghost use Rattle.resb_tree.specs.Tree.{Entries, array, binary, int_vector, integer, string};
+ghost use Rattle.resb_tree.specs.Tree.{table as table_with};
+ghost use Rattle.resb_layout.specs.Laid.{Given, Laid, ArePlaced};
+ghost use Rattle.resb_tree.specs.WalkOrder.{entry_keys, values_of};
+ghost use Rattle.resb_tree.specs.View.{items_view, entries_view};
+ghost use Rattle.resb_write.specs.Inner.StackSteps.{LaysNext};
+ghost use Rattle.resb_write.specs.Inner.Room.{laid_of};
+ghost use Rattle.resb_write.specs.Inner.Seen.{Anywhere, HasRoom, TakesNoMore};
+
+use crate::resource_bodies::{close_array, close_table, lay_bytes, lay_numbers, word};
+use crate::sites::Bodies;
+use resb_format::ResourceReprType;
+use resb_tree::{Resource, Table};
+use std::alloc::AllocError;
+
+/// Puts a word in the place of the last words of a stack.
+fn replace(words: &mut Vec<u32>, count: usize, word: u32) -> Result<(), AllocError>
+    requires { count ≤ length words.old.items }
+    ensures { OnOk result (words.new.items
+        ≡ take (length words.old.items - count) words.old.items ++ word ∷ []) }
+{
+    words.truncate(words.len() - count);
+    words.push(word)?;
+    Ok(())
+}
+
+/// Lays an array behind its members, whose words it takes off the stack.
+pub(crate) fn step_array(
+    base: usize,
+    bodies: &mut Bodies,
+    words: &mut Vec<u32>,
+    items: &[Resource<'_>],
+) -> Result<(), AllocError>
+    requires room { HasRoom base bodies.old (length items.now) }
+    requires enough { length items.now ≤ length words.old.items }
+    ensures step { OnOk result (Anywhere base (λ g. LaysNext g (laid_of bodies.old)
+        words.old.items (array (items_view items.now)) (laid_of bodies.new) words.new.items)) }
+    ensures takes { OnOk result (TakesNoMore base bodies.old bodies.new (length items.now)) }
+{
+    if items.is_empty() {
+        return replace(words, 0, word(ResourceReprType::Array, 0));
+    }
+    let (_, members) = words.split_at(words.len() - items.len());
+    let word = close_array(base, bodies, members)?;
+    replace(words, items.len(), word)
+}
+
+/// Lays a table that isn't empty, whose keys have these positions, behind its values.
+fn step_full_table(
+    base: usize,
+    bodies: &mut Bodies,
+    words: &mut Vec<u32>,
+    positions: &[u32],
+) -> Result<(), AllocError>
+    requires room { HasRoom base bodies.old (length positions.now) }
+    requires enough { length positions.now ≤ length words.old.items }
+    requires full { 0 < length positions.now }
+    ensures step { OnOk result (Anywhere base (λ g. (entries : Entries)
+        → length (values_of entries) ≡ length positions.now
+        → ArePlaced g (entry_keys entries) positions.now
+        → LaysNext g (laid_of bodies.old) words.old.items
+        (table_with entries) (laid_of bodies.new) words.new.items)) }
+    ensures takes { OnOk result (TakesNoMore base bodies.old bodies.new
+        (length positions.now)) }
+{
+    let (_, members) = words.split_at(words.len() - positions.len());
+    let word = close_table(base, bodies, positions, members)?;
+    replace(words, positions.len(), word)
+}
+
+/// Lays a table behind its values, whose words it takes off the stack. Its keys have these
+/// positions.
+pub(crate) fn step_table(
+    base: usize,
+    bodies: &mut Bodies,
+    words: &mut Vec<u32>,
+    table: &Table<'_>,
+    positions: &[u32],
+) -> Result<(), AllocError>
+    requires room { HasRoom base bodies.old (length table.now.entries) }
+    requires enough { length table.now.entries ≤ length words.old.items }
+    requires many { length positions.now ≡ length table.now.entries }
+    ensures step { OnOk result (Anywhere base (λ g.
+        map g.position (entry_keys (entries_view table.now.entries)) ≡ map Some positions.now
+        → LaysNext g (laid_of bodies.old) words.old.items
+        (table_with (entries_view table.now.entries)) (laid_of bodies.new) words.new.items)) }
+    ensures takes { OnOk result (TakesNoMore base bodies.old bodies.new
+        (length table.now.entries)) }
+{
+    if table.is_empty() {
+        return replace(words, 0, word(ResourceReprType::Table, 0));
+    }
+    // `keys` is called for its clause that the keys ascend.
+    let _keys = table.keys();
+    step_full_table(base, bodies, words, positions)
+}
+
+/// Puts the word of a number of 28 bits, which has no body.
+pub(crate) fn step_integer(words: &mut Vec<u32>, number: u32) -> Result<(), AllocError>
+    requires { number < 2 ^ 28 }
+    ensures { OnOk result ((g : Given) (s : Laid)
+        → LaysNext g s words.old.items (integer number) s words.new.items) }
+{
+    words.push(word(ResourceReprType::Int, number))?;
+    Ok(())
+}
+
+/// Lays bytes, and puts their word.
+pub(crate) fn step_bytes(
+    base: usize,
+    bodies: &mut Bodies,
+    words: &mut Vec<u32>,
+    bytes: &[u8],
+) -> Result<(), AllocError>
+    requires { HasRoom base bodies.old ((length bytes.now + 7) / 8) }
+    ensures step { OnOk result (Anywhere base (λ g. LaysNext g (laid_of bodies.old)
+        words.old.items (binary bytes.now) (laid_of bodies.new) words.new.items)) }
+    ensures takes { OnOk result (TakesNoMore base bodies.old bodies.new
+        ((length bytes.now + 7) / 8)) }
+{
+    let word = lay_bytes(base, bodies, bytes)?;
+    words.push(word)?;
+    Ok(())
+}
+
+/// Lays numbers, and puts their word.
+pub(crate) fn step_numbers(
+    base: usize,
+    bodies: &mut Bodies,
+    words: &mut Vec<u32>,
+    numbers: &[u32],
+) -> Result<(), AllocError>
+    requires { HasRoom base bodies.old ((length numbers.now + 1) / 2) }
+    ensures step { OnOk result (Anywhere base (λ g. LaysNext g (laid_of bodies.old)
+        words.old.items (int_vector numbers.now) (laid_of bodies.new) words.new.items)) }
+    ensures takes { OnOk result (TakesNoMore base bodies.old bodies.new
+        ((length numbers.now + 1) / 2)) }
+{
+    let word = lay_numbers(base, bodies, numbers)?;
+    words.push(word)?;
+    Ok(())
+}
+
+/// Puts the word of a string at an offset, which has no body of its own.
+pub(crate) fn step_string(words: &mut Vec<u32>, offset: u32) -> Result<(), AllocError>
+    requires { offset < 2 ^ 28 }
+    ensures { OnOk result ((g : Given) (s : Laid) (text : List ℕ) → g.offset text ≡ Some offset
+        → LaysNext g s words.old.items (string text) s words.new.items) }
+{
+    words.push(word(ResourceReprType::StringV2, offset))?;
+    Ok(())
+}

@@ -1,0 +1,96 @@
+//! Appending numbers and fillings to a tail.
+//! Which numbers make a body is said in `resource_bodies`.
+ghost use Rattle.std.specs.Prelude.{◌≡◌, ◌++◌, ◌<◌, ◌^◌, length, true, OnOk};
+ghost use Rattle.std.specs.Int.{to_le_bytes, w32, w16};
+ghost use Rattle.resb_layout.specs.Laid.{words as words_bytes, fill, halves, words_body};
+ghost use Rattle.resb_layout.specs.Laid.{near_table_body, wide_table_body, are_near};
+
+use std::alloc::AllocError;
+
+/// Appends the 4 bytes of a word, the lowest first.
+pub(crate) fn put_word(tail: &mut Vec<u8>, word: u32) -> Result<(), AllocError>
+    ensures { OnOk result (tail.new.items ≡ tail.old.items ++ to_le_bytes w32 word) }
+{
+    tail.extend_from_slice(&word.to_le_bytes())
+}
+
+/// Appends the bytes of words, one behind the other.
+pub(crate) fn put_words(tail: &mut Vec<u8>, words: &[u32]) -> Result<(), AllocError>
+    ensures { OnOk result (tail.new.items ≡ tail.old.items ++ words_bytes words.now) }
+{
+    for word in words {
+        put_word(tail, *word)?;
+    }
+    Ok(())
+}
+
+/// Appends the 2 bytes of a 16-bit number, the lower one first.
+pub(crate) fn put_half(tail: &mut Vec<u8>, half: u16) -> Result<(), AllocError>
+    ensures { OnOk result (tail.new.items ≡ tail.old.items ++ to_le_bytes w16 half) }
+{
+    tail.extend_from_slice(&half.to_le_bytes())
+}
+
+/// Appends a count and so many words.
+pub(crate) fn put_counted(tail: &mut Vec<u8>, words: &[u32]) -> Result<(), AllocError>
+    requires { length words.now < 2 ^ 32 }
+    ensures { OnOk result (tail.new.items ≡ tail.old.items ++ words_body words.now) }
+{
+    put_word(tail, words.len() as u32)?;
+    put_words(tail, words)
+}
+
+/// Appends positions that units hold.
+fn put_halves(tail: &mut Vec<u8>, positions: &[u32]) -> Result<(), AllocError>
+    requires { are_near positions.now ≡ true }
+    ensures { OnOk result (tail.new.items ≡ tail.old.items ++ halves positions.now) }
+{
+    for position in positions {
+        put_half(tail, *position as u16)?;
+    }
+    Ok(())
+}
+
+/// Appends the body of a table whose count and positions units hold: these, a padding unit where
+/// their number is even, and the words.
+pub(crate) fn put_short_table(
+    tail: &mut Vec<u8>,
+    positions: &[u32],
+    words: &[u32],
+) -> Result<(), AllocError>
+    requires { are_near positions.now ≡ true }
+    ensures { OnOk result (tail.new.items
+        ≡ tail.old.items ++ near_table_body positions.now words.now) }
+{
+    put_half(tail, positions.len() as u16)?;
+    put_halves(tail, positions)?;
+    if positions.len() % 2 == 0 {
+        put_half(tail, 0xaaaa)?;
+    }
+    put_words(tail, words)
+}
+
+/// Appends the body of a table that has a position which no unit holds: their count, the positions
+/// and the words.
+pub(crate) fn put_wide_table(
+    tail: &mut Vec<u8>,
+    positions: &[u32],
+    words: &[u32],
+) -> Result<(), AllocError>
+    requires { length positions.now < 2 ^ 32 }
+    ensures { OnOk result (tail.new.items
+        ≡ tail.old.items ++ wide_table_body positions.now words.now) }
+{
+    put_counted(tail, positions)?;
+    put_words(tail, words)
+}
+
+/// Appends so many bytes 0xaa.
+pub(crate) fn put_fill(tail: &mut Vec<u8>, count: usize) -> Result<(), AllocError>
+    ensures { OnOk result (tail.new.items ≡ tail.old.items ++ fill count) }
+{
+    for _written in 0..count {
+        tail.push(0xaa)?;
+    }
+    Ok(())
+}

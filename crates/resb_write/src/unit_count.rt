@@ -1,0 +1,157 @@
+//! How many units of the 16-bit block the bodies of a tree take, found before any is laid.
+//! The bodies themselves are laid in `tree_bodies`. No function calls itself.
+ghost use Rattle.std.specs.Prelude.{ℕ, ◌≡◌, ◌+◌, ◌-◌, ◌<◌, ◌≤◌, ◌^◌, ◌++◌, ◌∷◌, ◌&&◌, [], List};
+ghost use Rattle.std.specs.Prelude.{length, map, take, nat_le, true, false, IfOk};
+ghost use Rattle.std.specs.List.{sum_by, list_all};
+ghost use Rattle.resb_tree.specs.Tree.{Tree};
+ghost use Rattle.resb_tree.specs.View.{tree_of};
+ghost use Rattle.resb_tree.specs.WalkOrder.{walk, children, trees_in};
+ghost use Rattle.resb_layout.specs.Laid.{Given, are_near};
+ghost use Rattle.resb_write.specs.Inner.Room.{most_units, Numbered};
+ghost use Rattle.resb_write.specs.Inner.Counted.{is_near, own_units, short_units};
+ghost use Rattle.resb_write.specs.Inner.Counted.{are_set_behind, CountsOne};
+
+use crate::resource_bodies::{UNIT_MAX, are_near_positions};
+use crate::sites::{Coming, Sites};
+use resb_tree::{Resource, WalkOrder};
+use std::alloc::{AllocError, Global};
+
+/// The units of a collection of so many members, each of which takes some.
+fn collection_units(is_short: bool, count: usize, each: usize) -> usize
+    requires counted { is_short ≡ true → count ≤ 65535 }
+    requires small { each ≤ 2 }
+    ensures { result ≡ short_units is_short count each }
+{
+    if is_short && count > 0 {
+        each * count + 1
+    } else {
+        0
+    }
+}
+
+/// Whether all marks are set.
+fn are_set(marks: &[bool]) -> bool
+    ensures { result ≡ list_all (λ mark. mark) marks.now }
+{
+    for mark in marks {
+        if !*mark {
+            return false;
+        }
+    }
+    true
+}
+
+/// Takes the last marks off a stack: whether all are set, and a unit can count them.
+fn take_marks(marks: &mut Vec<bool>, count: usize) -> bool
+    requires { count ≤ length marks.old.items }
+    ensures all { result ≡ are_set_behind count marks.old.items }
+    ensures left { marks.new.items ≡ take (length marks.old.items - count) marks.old.items }
+{
+    let from = marks.len() - count;
+    let (_, taken) = marks.split_at(from);
+    let all = count <= UNIT_MAX && are_set(taken);
+    marks.truncate(from);
+    all
+}
+
+/// The units of a string's body: none. Its mark is put.
+fn count_string(coming: &mut Coming<'_>, marks: &mut Vec<bool>) -> Result<usize, AllocError>
+    requires { 0 < length coming.old.offsets.now }
+    ensures counts { IfOk result (λ n. (n ≡ 0)
+        × ((k : ℕ) (ks : List ℕ) → coming.old.offsets.now ≡ k ∷ ks
+        → (marks.new.items ≡ marks.old.items ++ nat_le k 65535 ∷ [])
+        × (coming.new.offsets.now ≡ ks))) }
+    ensures keeps { coming.new.positions.now ≡ coming.old.positions.now }
+{
+    marks.push(coming.take_offset() <= 0xffff)?;
+    Ok(0)
+}
+
+/// The units of an array's body, whose members' marks are taken off the stack.
+fn count_array(marks: &mut Vec<bool>, count: usize) -> Result<usize, AllocError>
+    requires { count ≤ length marks.old.items }
+    ensures { IfOk result (λ n.
+        (n ≡ short_units (are_set_behind count marks.old.items) count 1)
+        × (marks.new.items
+        ≡ take (length marks.old.items - count) marks.old.items ++ false ∷ [])) }
+{
+    let is_short = take_marks(marks, count);
+    marks.push(false)?;
+    Ok(collection_units(is_short, count, 1))
+}
+
+/// The units of a table's body, whose keys have these positions, and whose values' marks are taken
+/// off the stack.
+fn count_table(marks: &mut Vec<bool>, positions: &[u32]) -> Result<usize, AllocError>
+    requires { length positions.now ≤ length marks.old.items }
+    ensures { IfOk result (λ n. (n ≡ short_units
+        (are_set_behind (length positions.now) marks.old.items && are_near positions.now)
+        (length positions.now) 2)
+        × (marks.new.items ≡ take (length marks.old.items - length positions.now) marks.old.items
+        ++ false ∷ [])) }
+{
+    let is_short = take_marks(marks, positions.len()) && are_near_positions(positions);
+    marks.push(false)?;
+    Ok(collection_units(is_short, positions.len(), 2))
+}
+
+/// The units of any other body: none. Its mark is put.
+fn count_other(marks: &mut Vec<bool>) -> Result<usize, AllocError>
+    ensures { IfOk result (λ n. (n ≡ 0) × (marks.new.items ≡ marks.old.items ++ false ∷ [])) }
+{
+    marks.push(false)?;
+    Ok(0)
+}
+
+/// The units that a resource's own body takes. The marks of its members, the last of a stack, say
+/// of each whether it is a string at an offset that a unit can hold; its own mark takes their
+/// place. Where its keys or its string stand is what comes next.
+fn count_own(
+    coming: &mut Coming<'_>,
+    marks: &mut Vec<bool>,
+    resource: &Resource<'_>,
+) -> Result<usize, AllocError>
+    requires enough { length (children (tree_of resource.now)) ≤ length marks.old.items }
+    requires numbered { (g : Given) × (rest : List Tree) × Numbered g coming.old.positions.now
+        coming.old.offsets.now (tree_of resource.now ∷ rest) }
+    ensures counts { IfOk result (λ n. (g : Given) (rest below : List Tree)
+        → Numbered g coming.old.positions.now coming.old.offsets.now (tree_of resource.now ∷ rest)
+        → marks.old.items ≡ map (is_near g) (below ++ children (tree_of resource.now))
+        → CountsOne g (tree_of resource.now) rest below n coming.new marks.new.items) }
+{
+    match resource {
+        Resource::String(_) => count_string(coming, marks),
+        Resource::Array(items) => count_array(marks, items.len()),
+        Resource::Table(table) => count_table(marks, coming.take_positions(table.len())),
+        Resource::Binary(_) => count_other(marks),
+        Resource::Integer(_) => count_other(marks),
+        Resource::IntVector(_) => count_other(marks),
+    }
+}
+
+/// The number of units of the 16-bit block: those of the pool of the strings, and what the bodies
+/// of a tree add, whose resources are given in walk order. It is the same wherever the tail begins.
+pub(crate) fn count_units(
+    alloc: Global,
+    sites: &Sites<'_>,
+    pool: usize,
+    order: &WalkOrder<'_, '_>,
+) -> Result<usize, AllocError>
+    requires tree { (t : Tree) × (trees_in order.now.items ≡ walk t) }
+    requires room { pool + sum_by most_units (trees_in order.now.items) < 2 ^ 28 }
+    requires numbered { (g : Given)
+        × Numbered g sites.now.positions.now sites.now.offsets.now (trees_in order.now.items) }
+    ensures counts { IfOk result (λ count. (g : Given)
+        → Numbered g sites.now.positions.now sites.now.offsets.now (trees_in order.now.items)
+        → count ≡ pool + sum_by (own_units g) (trees_in order.now.items)) }
+    ensures few { IfOk result (λ count. count
+        ≤ pool + sum_by most_units (trees_in order.now.items)) }
+{
+    let mut coming = sites.coming();
+    let mut marks = Vec::new(alloc);
+    let mut count = pool;
+    for at in 0..order.len() {
+        count += count_own(&mut coming, &mut marks, &*order[at])?;
+    }
+    Ok(count)
+}

@@ -16,25 +16,15 @@ use Rattle.resb_write.proofs.tree_bodies.step.Goals as goal
 
 pub returns-in-String-clause-left : goal.returns-in-String-clause-left
 returns-in-String-clause-left c =
-<<<<<<< HEAD:crates/resb_bodies/proofs/tree/step/Answers.antt
-    let e : tree_of c.args.resource.now
-        ≡ string (cow_str_bytes c.in-String.field-0) = search (rules, the_lemmas)
-=======
     let e : tree_of c.args.resource.now ≡ string (cow_str_bytes c.in-String.field-0) =
     search (rules, the_lemmas)
->>>>>>> 7cc7b3c659d33e83e82c52c8594b332ac9c19d59:crates/resb_write/proofs/tree_bodies/step/Answers.antt
     in
     on_ok_weaker c.step_string.result (λ h g rest n. string_left g c.args.coming.now.positions.now
     c.args.coming.now.offsets.now (cow_str_bytes c.in-String.field-0) rest c.take_offset.result
     c.take_offset.new.self.positions.now c.take_offset.new.self.offsets.now
     c.take_offset.ensures.taken c.take_offset.ensures.keeps
-<<<<<<< HEAD:crates/resb_bodies/proofs/tree/step/Answers.antt
-    (subst (λ t. Numbered g c.args.coming.now.positions.now c.args.coming.now.offsets.now (t ∷
-    rest))
-=======
     (subst
     (λ t. Numbered g c.args.coming.now.positions.now c.args.coming.now.offsets.now (t ∷ rest))
->>>>>>> 7cc7b3c659d33e83e82c52c8594b332ac9c19d59:crates/resb_write/proofs/tree_bodies/step/Answers.antt
     e n))
     c.step_string.ensures
 

@@ -31,13 +31,8 @@ loop-at-preserved c =
     let old = c.loop-at.words.items in
     let new = c.step.new.words.items in
     let v = c.loop-at.invariant in
-<<<<<<< HEAD:crates/resb_bodies/proofs/tree/steps/Answers.antt
-    let h : i < length order = omega (arith, c.loop-at-test.true, c.len-at-end.ensures,
-        c.args.order.now.ok.0) in
-=======
     let h : i < length order =
     omega (arith, c.loop-at-test.true, c.len-at-end.ensures, c.args.order.now.ok.0) in
->>>>>>> 7cc7b3c659d33e83e82c52c8594b332ac9c19d59:crates/resb_write/proofs/tree_bodies/steps/Answers.antt
     let split = trees-drop order i d c.index.ensures h in
     let more = trees-take order i d c.index.ensures h in
     let rest = trees_in (drop (i + 1) order) in

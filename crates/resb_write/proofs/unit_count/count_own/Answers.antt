@@ -116,11 +116,7 @@ returns-in-Table c =
           subst (λ t. CountsOne g t rest below n new out) (sym e)
           (table_one g rest below ps os new ms out n es qs k many long
           c.take_positions.ensures.taken c.take_positions.ensures.left
-<<<<<<< HEAD:crates/resb_bodies/proofs/count/count_own/Answers.antt
-              c.take_positions.ensures.keeps
-=======
           c.take_positions.ensures.keeps
->>>>>>> 7cc7b3c659d33e83e82c52c8594b332ac9c19d59:crates/resb_write/proofs/unit_count/count_own/Answers.antt
           (subst (λ t. Numbered g ps os (t ∷ rest)) e m)
           (subst (λ t. ms ≡ map (is_near g) (below ++ children t)) e are) h))
           c.count_table.ensures;
@@ -138,13 +134,8 @@ returns-in-Binary c =
       counts = IfOk-weaker c.count_other.result _ _ (λ n h g rest below m are.
           let k = subst (λ t. Numbered g ps os (t ∷ rest)) e m in
           subst (λ t. CountsOne g t rest below n c.args.coming.now out) (sym e)
-<<<<<<< HEAD:crates/resb_bodies/proofs/count/count_own/Answers.antt
-          (other_one g rest below ps os c.args.coming.now ms out n (binary (cow_slice_items
-          c.in-Binary.field-0)) refl refl refl
-=======
           (other_one g rest below ps os c.args.coming.now ms out n
           (binary (cow_slice_items c.in-Binary.field-0)) refl refl refl
->>>>>>> 7cc7b3c659d33e83e82c52c8594b332ac9c19d59:crates/resb_write/proofs/unit_count/count_own/Answers.antt
           (record { keys = k.keys; texts = k.texts; near = k.near })
           (subst (λ t. ms ≡ map (is_near g) (below ++ children t)) e are) h))
           c.count_other.ensures;
@@ -162,13 +153,8 @@ returns-in-Integer c =
       counts = IfOk-weaker c.count_other-in-Integer.result _ _ (λ n h g rest below m are.
           let k = subst (λ t. Numbered g ps os (t ∷ rest)) e m in
           subst (λ t. CountsOne g t rest below n c.args.coming.now out) (sym e)
-<<<<<<< HEAD:crates/resb_bodies/proofs/count/count_own/Answers.antt
-          (other_one g rest below ps os c.args.coming.now ms out n (integer c.in-Integer.field-0)
-          refl refl refl
-=======
           (other_one g rest below ps os c.args.coming.now ms out n
           (integer c.in-Integer.field-0) refl refl refl
->>>>>>> 7cc7b3c659d33e83e82c52c8594b332ac9c19d59:crates/resb_write/proofs/unit_count/count_own/Answers.antt
           (record { keys = k.keys; texts = k.texts; near = k.near })
           (subst (λ t. ms ≡ map (is_near g) (below ++ children t)) e are) h))
           c.count_other-in-Integer.ensures;
@@ -186,13 +172,8 @@ returns-in-IntVector c =
       counts = IfOk-weaker c.count_other-in-IntVector.result _ _ (λ n h g rest below m are.
           let k = subst (λ t. Numbered g ps os (t ∷ rest)) e m in
           subst (λ t. CountsOne g t rest below n c.args.coming.now out) (sym e)
-<<<<<<< HEAD:crates/resb_bodies/proofs/count/count_own/Answers.antt
-          (other_one g rest below ps os c.args.coming.now ms out n (int_vector
-          c.in-IntVector.field-0.items) refl refl refl
-=======
           (other_one g rest below ps os c.args.coming.now ms out n
           (int_vector c.in-IntVector.field-0.items) refl refl refl
->>>>>>> 7cc7b3c659d33e83e82c52c8594b332ac9c19d59:crates/resb_write/proofs/unit_count/count_own/Answers.antt
           (record { keys = k.keys; texts = k.texts; near = k.near })
           (subst (λ t. ms ≡ map (is_near g) (below ++ children t)) e are) h))
           c.count_other-in-IntVector.ensures;

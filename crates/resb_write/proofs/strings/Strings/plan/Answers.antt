@@ -13,13 +13,8 @@ pub returns-clause-ok : goal.returns-clause-ok
 returns-clause-ok c =
     let S = nows c.args.texts.now in
     let offset = offset_of c.in_ok-plan.plan in
-<<<<<<< HEAD
-    let plan = subst (λ us. IsPlan S us offset) (sym c.into_units.ensures) c.in_ok-plan.ensures.ok
-        in
-=======
     let plan = subst (λ us. IsPlan S us offset) (sym c.into_units.ensures)
     c.in_ok-plan.ensures.ok in
->>>>>>> 7cc7b3c659d33e83e82c52c8594b332ac9c19d59
     let known = in_turn offset S (λ s h. (let k = offset_of_text S _ offset plan s h in
     (k.0, k.1))) in
     record {

@@ -1,13 +1,14 @@
 #!/usr/bin/env python3
 """Compares readers of the text form on random texts.
 
-    text_compare.py OURS OTHER [COUNT [SEED]]
+    text_compare.py OURS OTHER [COUNT [SEED [tables]]]
 
 OURS and OTHER are commands as `answers.py` says. A text is answered by `ok NAME FLAG TREE KEYS` or
 `err PLACE ITEM`, where ITEM is what was expected, NAME and KEYS are in hex digits, FLAG is 1 where
 fallback is on, and TREE is `s HEX ;`, `a[` trees `]`, `t{` HEX `:` tree .. `}`, `b HEX ;`, `i N ,`
 or `v` N `,` .. `;` without blanks. OURS may add a word, the turns that it counted: they must be at
-most 8 n + 8 for n bytes. `dump texts` of `dump.rattle` is such a command.
+most 8 n + 8 for n bytes. `dump texts` of `dump.rattle` is such a command. With `tables` each text
+has a table of 9 to 60 entries, in the order of their keys or not, of which some stand twice.
 """
 import random
 import sys
@@ -94,13 +95,26 @@ def text(rng):
         rng.choice(PIECES) for _ in range(rng.randrange(16)))
 
 
+def large(rng):
+    """A text with a table of many entries."""
+    keys = ['%s%d' % (rng.choice('abAB'), rng.randrange(40)) for _ in range(rng.randrange(9, 61))]
+    if rng.random() < 0.5:
+        keys.sort()
+    said = blank(rng)
+    for key in keys:
+        value = '{%s}' % rng.choice(ATOMS) if rng.random() < 0.98 else group(rng, 1)
+        said += key + blank(rng) + value + blank(rng)
+    return rng.choice(['b{%s}', 'b{t{%s}}', 'b{a:table{%s}k{v}}', 'b{a:array{{%s}}}']) % said
+
+
 def main():
     if len(sys.argv) < 3:
         sys.exit(__doc__)
     count = int(sys.argv[3]) if len(sys.argv) > 3 else 200000
     rng = random.Random(int(sys.argv[4]) if len(sys.argv) > 4 else 1)
+    make = large if sys.argv[5:] == ['tables'] else text
     accepted = 0
-    for said, mine, theirs in answered(sys.argv[1], sys.argv[2], lambda: text(rng).encode(), count):
+    for said, mine, theirs in answered(sys.argv[1], sys.argv[2], lambda: make(rng).encode(), count):
         words, wanted = mine.split(' '), theirs.split(' ')
         turns = int(words.pop()) if len(words) > len(wanted) else 0
         accepted += words[0] == 'ok'

@@ -1,0 +1,51 @@
+use Rattle.std.proofs.Common.{◌++◌, sym, ◌∙◌, ap, arith, length}
+use Rattle.std.proofs.lemmas.Bool.{and_parts}
+use Rattle.std.specs.Prelude.{map}
+use Rattle.std.specs.Vec.Iter.{into_iter_items}
+use Rattle.resb_tree.specs.View.{pairs_view}
+use Rattle.resb_text.specs.Borrowed.{all_true}
+use Rattle.resb_text.specs.Inner.Shown.{shown, pairs_after, shown_pairs, shown_borrowed, key_of}
+use Rattle.resb_text.proofs.ShownLemmas.{no_pairs_left, term_borrowed_shown}
+use Rattle.resb_text.proofs.items.list_terms.Goals as goal
+
+pub returns-clause-ok : goal.returns-clause-ok
+returns-clause-ok c =
+    let left = no_pairs_left (key_of c.loop-item.waiting)
+    (into_iter_items c.loop-item.item-iterator) (pairs_view c.loop-item.pairs.items)
+    (let ok = c.loop-item.item-iterator.rest.ok in
+    omega (arith, ok, c.in-None.ensures.steps.0)) in
+    sym left ∙ c.loop-item.invariant.made
+    ∙ ap (λ xs. pairs_view c.args.pairs.now.items ++ shown_pairs (map shown xs))
+    c.into_iter-item-iterator.ensures.into_iter_gives.0
+
+pub returns-clause-borrowed : goal.returns-clause-borrowed
+returns-clause-borrowed c = λ h old.
+    (c.loop-item.invariant.borrowed (ap (λ xs. all_true (map shown_borrowed (map shown xs)))
+    c.into_iter-item-iterator.ensures.into_iter_gives.0 ∙ h) old).0
+
+pub loop-item-preserved : goal.loop-item-preserved
+loop-item-preserved c =
+    let i = c.loop-item.invariant in
+    let item = c.in-Some.item in
+    let rest = into_iter_items c.next.new.self in
+    let steps = c.in-Some.ensures.steps.0 in
+    let one = ap length steps in
+    let tick = c.tick.ensures in
+    let counted = ap (λ w. w.count) tick in
+    let listed = c.in_ok-waiting.ensures in
+    record {
+      made = listed.ok item.comma (map shown rest)
+          ∙ ap (λ xs. pairs_view c.loop-item.pairs.items
+          ++ pairs_after (key_of c.loop-item.waiting) (map shown xs)) (sym steps)
+          ∙ i.made;
+      borrowed = λ h old.
+          let left = rw steps at (i.borrowed h old).1 in
+          let parts = and_parts (shown_borrowed (shown item)) _ left in (
+            listed.borrowed (term_borrowed_shown item.term item.comma ∙ parts.0)
+                (i.borrowed h old).0,
+            parts.1,
+          );
+      text = ap (λ w. w.text) tick ∙ i.text;
+      grows = omega (arith, counted, i.grows);
+      count = omega (arith, counted, i.count, one);
+    }

@@ -1,7 +1,7 @@
 -- What the words behind the program's name ask for.
 use Rattle.std.specs.Prelude.{◌≡◌, ◌≢◌, ℕ, List, [], ◌∷◌, Option, Some, None, codes}
-use Rattle.resb_command.specs.declared.command.Command.{Command}
-use Rattle.resb_command.specs.declared.command.Command.TheVariants.{Stream, Compile, Check}
+use Rattle.resb_program.specs.declared.command.Command.{Command}
+use Rattle.resb_program.specs.declared.command.Command.TheVariants.{Stream, Compile, Check}
 
 -- the words `compile`, IN and OUT
 abbrev pub compile_words : List ℕ → List ℕ → List (List ℕ)

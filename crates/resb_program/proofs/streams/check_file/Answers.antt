@@ -1,5 +1,5 @@
-use Rattle.resb_command.proofs.Agreeing.{agree_ok, agree_err, match_ok, match_err}
-use Rattle.resb_command.proofs.streams.check_file.Goals as goal
+use Rattle.resb_program.proofs.Agreeing.{agree_ok, agree_err, match_ok, match_err}
+use Rattle.resb_program.proofs.streams.check_file.Goals as goal
 
 pub returns-in-Ok-clause-as_read : goal.returns-in-Ok-clause-as_read
 returns-in-Ok-clause-as_read c = agree_ok c.args.file.now c.in-Ok.count c.in-Ok.ensures

@@ -1,7 +1,7 @@
 use Rattle.std.proofs.Common.{sym, subst, ap, Ok, []}
 use Rattle.std.specs.Io.KnownBytes.{Consumes}
 use Rattle.std.proofs.KnownBytes.{Consumes-nil, Consumes-trans, Consumes-all}
-use Rattle.resb_command.proofs.streams.read_all.Goals as goal
+use Rattle.resb_program.proofs.streams.read_all.Goals as goal
 
 pub loop-init : goal.loop-init
 loop-init g c = subst (Consumes _ _) (sym c.new-bytes.ensures.items) (Consumes-nil _)

@@ -1,5 +1,5 @@
 use Rattle.std.specs.Io.KnownBytes.{Consumes}
-use Rattle.resb_command.proofs.streams.read_all.Given as goal
+use Rattle.resb_program.proofs.streams.read_all.Given as goal
 
 -- the bytes so far are what the reader gave so far
 abbrev pub invariant-loop : goal.invariant-loop

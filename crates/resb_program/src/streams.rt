@@ -5,10 +5,10 @@ ghost use Rattle.std.specs.Prelude.{Ok, true, IfOk, OnOk, IfErr, IfSome, IsUtf8,
 ghost use Rattle.std.specs.Io.KnownBytes.{Appends, Consumes, IsAtEnd, Keeps};
 ghost use Rattle.hex.specs.Hex.{encode_lower};
 ghost use Rattle.resb.specs.Compiling.{IsCompiled};
-ghost use Rattle.resb_command.specs.Program.{IsNoInput, Writes, HasReason};
+ghost use Rattle.resb_program.specs.Program.{IsNoInput, Writes, HasReason};
 ghost use Rattle.resb_read.specs.Roots.{TreeOf};
-ghost use Rattle.resb_command.specs.Program.{CountsFile, ReadsCounted, Agrees, HasCount};
-ghost use Rattle.resb_command.specs.Program.{IsCounted};
+ghost use Rattle.resb_program.specs.Program.{CountsFile, ReadsCounted, Agrees, HasCount};
+ghost use Rattle.resb_program.specs.Program.{IsCounted};
 
 use crate::fault::ToolError;
 use std::alloc::Global;

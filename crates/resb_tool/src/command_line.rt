@@ -1,9 +1,9 @@
 //! The command line: the process's words, and what is done with the files that they name.
-//! What the words ask for, and what is done with the bytes of files, is in `resb_command`.
+//! What the words ask for, and what is done with the bytes of files, is in `resb_program`.
 ghost use Rattle.std.specs.Prelude.{◌≡◌, ◌⊎◌, ◌≤◌, IfErr};
-ghost use Rattle.resb_command.specs.Program.{status_of};
+ghost use Rattle.resb_program.specs.Program.{status_of};
 
-use resb_command::{Command, ToolError, check_file, command_of, compile_text, read_all, run};
+use resb_program::{Command, ToolError, check_file, command_of, compile_text, read_all, run};
 use std::io::ErrorKind;
 use std::rt::{Env, Files};
 use std::{env, fs, io};

@@ -1,7 +1,7 @@
 //! Why the program fails, and the status that it ends with.
 //! What it does is in `streams` and `command`.
 ghost use Rattle.std.specs.Prelude.{◌≡◌, Some};
-ghost use Rattle.resb_command.specs.Program.{message_of, status_of};
+ghost use Rattle.resb_program.specs.Program.{message_of, status_of};
 
 use resb::CompileError;
 use resb::binary::BinaryDeserializerError;

@@ -1,7 +1,7 @@
 use Rattle.std.proofs.Common.{List, ℕ, ◌++◌, ◌≡◌, length}
 use Rattle.std.specs.Io.KnownBytes.{Appends}
 use Rattle.hex.specs.Hex.{encode_lower}
-use Rattle.resb_command.proofs.streams.write_line.Given as goal
+use Rattle.resb_program.proofs.streams.write_line.Given as goal
 
 -- the digits of the front are written
 abbrev pub invariant-pieces : goal.invariant-pieces

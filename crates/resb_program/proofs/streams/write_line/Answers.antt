@@ -5,8 +5,8 @@ use Rattle.std.proofs.lemmas.List.{nil_from_length}
 use Rattle.std.specs.Io.KnownBytes.{Appends}
 use Rattle.std.proofs.KnownBytes.{Appends-nil, Appends-trans}
 use Rattle.hex.specs.Hex.{lower_digits}
-use Rattle.resb_command.proofs.HexText.{encode_with-append, encode_with-nil}
-use Rattle.resb_command.proofs.streams.write_line.Goals as goal
+use Rattle.resb_program.proofs.HexText.{encode_with-append, encode_with-nil}
+use Rattle.resb_program.proofs.streams.write_line.Goals as goal
 
 pub pieces-init : goal.pieces-init
 pieces-init g c =

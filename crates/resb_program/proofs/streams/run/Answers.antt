@@ -6,7 +6,7 @@ use Rattle.std.proofs.lemmas.Result.{on_ok_weaker}
 use Rattle.std.proofs.lemmas.Option.{IfSome_then}
 use Rattle.hex.specs.Hex.{encode_lower}
 use Rattle.resb.specs.Compiling.{IsCompiled}
-use Rattle.resb_command.proofs.streams.run.Goals as goal
+use Rattle.resb_program.proofs.streams.run.Goals as goal
 
 pub returns-clause-ok : goal.returns-clause-ok
 returns-clause-ok c d =

@@ -13,8 +13,8 @@ use Rattle.resb_read.proofs.OneRefusal.{one_refusal}
 use Rattle.resb_read.proofs.Rooted.{no_bundle}
 use Rattle.resb.specs.View.{tree_of}
 use Rattle.resb.specs.declared.bundle.Resource.{Resource}
-use Rattle.resb_command.specs.Program.{ReadsCounted, Agrees, HasCount, IsCounted}
-use Rattle.resb_command.specs.declared.fault.ToolError.TheVariants.{Checking}
+use Rattle.resb_program.specs.Program.{ReadsCounted, Agrees, HasCount, IsCounted}
+use Rattle.resb_program.specs.declared.fault.ToolError.TheVariants.{Checking}
 
 -- what a type answers at the root, where it is a tree
 refused_tree : (bytes : List ℕ) (e : ReadingError) → RefusesRoot RefusesTree bytes e

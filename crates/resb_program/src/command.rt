@@ -1,7 +1,7 @@
 //! What the words behind the program's name ask for.
 //! How the words are had, and what is done with the files that they name, is in `resb_tool`.
 ghost use Rattle.std.specs.Prelude.{map, string_bytes};
-ghost use Rattle.resb_command.specs.Commands.{Asks};
+ghost use Rattle.resb_program.specs.Commands.{Asks};
 
 /// What the program is asked to do.
 #[derive(Clone, Copy)]

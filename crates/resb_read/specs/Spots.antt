@@ -1,17 +1,10 @@
--- What else a cursor answers: the cost of skipping, the type of what stands at a place, and views
--- of bytes.
-use Rattle.std.specs.Prelude.{◌≡◌, ◌+◌, ◌<◌, ◌%◌, nat_le, ℕ, List, length}
-use Rattle.std.specs.Prelude.{Bool, false, Option, Some, None, Result, MatchResult, codes}
+-- Spots: what one costs, the type of the resource that stands at one, and which kind it is.
+use Rattle.std.specs.Prelude.{◌≡◌, ◌+◌, ◌<◌, ℕ, Option, Some, None, Result, MatchResult}
 use Rattle.std.specs.Prelude.{if◌then◌else◌}
 use Rattle.resb_format.specs.declared.error.ReadingError.{ReadingError}
-use Rattle.resb_format.specs.Error.{Refusal}
 use Rattle.resb_format.specs.Types as types
-use Rattle.resb_format.specs.declared.error.ErrorKind.TheVariants.{Unknown}
 use Rattle.resb_walk.specs.Refusals.{IsSpent}
-use Rattle.resb_read.specs.Places.{Place}
-use Rattle.resb_read.specs.Reading.{IsThere, CountsThere}
-use Rattle.resb_read.specs.Leaves.{type_in, bytes_from}
-use Rattle.resb_read.specs.Refused.{bytes_refusal}
+use Rattle.resb_read.specs.Leaves.{type_in}
 use Rattle.resb_read.specs.declared.cursor.Spot.{Spot}
 use Rattle.resb_read.specs.declared.cursor.Spot.TheVariants as spot
 
@@ -49,22 +42,3 @@ IsWord s = ⊥
 abbrev pub IsKey : Spot → Type 0
 IsKey (spot.Key k) = Unit {0}
 IsKey s = ⊥
-
--- bytes that are whole items of so many bytes each
-abbrev pub ReadsView : ℕ → Place → List ℕ → ℕ → Type 0
-ReadsView each p b n = IsThere (λ b. length b % each ≡ 0) (bytes_from p.parts p.at) b n
-
--- some bytes stand there whose number is a multiple of an item's
-abbrev pub CountsView : ℕ → Place → ℕ → Type 0
-CountsView each p n = CountsThere (λ b. length b % each ≡ 0) (bytes_from p.parts p.at) n
-
--- bytes stand there, and what is left pays for them
-abbrev pub are_paid : Option (List ℕ × ℕ) → ℕ → Bool
-are_paid (Some r) left = nat_le r.1 left
-are_paid None left = false
-
--- why no view is read: there are no bytes, or they are no whole items
-abbrev pub view_refusal : Place → ℕ → Refusal
-view_refusal p left =
-    if are_paid (bytes_from p.parts p.at) left then (Unknown, codes "Wrong length")
-    else bytes_refusal p left

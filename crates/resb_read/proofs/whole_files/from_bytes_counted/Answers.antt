@@ -4,7 +4,7 @@ use Rattle.resb_format.specs.File.{budget}
 use Rattle.resb_format.specs.Error.{refusal_of}
 use Rattle.resb_read.specs.Places.{place_of}
 use Rattle.resb_read.proofs.Rooted.{no_bundle, at_root, refused_there}
-use Rattle.resb_read.proofs.entry.from_bytes_counted.Goals as goal
+use Rattle.resb_read.proofs.whole_files.from_bytes_counted.Goals as goal
 
 pub returns-in_err-root-clause-refused : goal.returns-in_err-root-clause-refused
 returns-in_err-root-clause-refused g c =

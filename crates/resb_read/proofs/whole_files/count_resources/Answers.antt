@@ -2,7 +2,7 @@ use Rattle.std.proofs.Common.{◌≡◌}
 use Rattle.std.proofs.lemmas.Result.{err_from_is_err_and}
 use Rattle.resb_read.specs.Places.{place_of}
 use Rattle.resb_read.proofs.Rooted.{refused_root, count_root}
-use Rattle.resb_read.proofs.entry.count_resources.Goals as goal
+use Rattle.resb_read.proofs.whole_files.count_resources.Goals as goal
 
 pub returns-in_err-count_resource : goal.returns-in_err-count_resource
 returns-in_err-count_resource c =

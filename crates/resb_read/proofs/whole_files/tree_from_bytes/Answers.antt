@@ -1,6 +1,6 @@
 use Rattle.resb_read.specs.Places.{place_of}
 use Rattle.resb_read.proofs.Rooted.{tree_root}
-use Rattle.resb_read.proofs.entry.tree_from_bytes.Goals as goal
+use Rattle.resb_read.proofs.whole_files.tree_from_bytes.Goals as goal
 
 pub returns : goal.returns
 returns c =

@@ -73,7 +73,7 @@ pub use Rattle.resb_read.specs.Refusing
 pub use Rattle.resb_read.specs.Resources
 pub use Rattle.resb_read.specs.Roots
 pub use Rattle.resb_read.specs.Measuring
-pub use Rattle.resb_read.specs.Others
+pub use Rattle.resb_read.specs.Spots
 pub use Rattle.resb_read.specs.Sequences
 pub use Rattle.resb_read.specs.Access
 pub use Rattle.resb_read.specs.Inner.Items as AccessItems

@@ -1,6 +1,6 @@
 //! Files and streams by their names: `-` is standard input or output.
 //! What is done with their bytes is in the modules of the commands.
-use resb_command::{ToolError, read_all};
+use resb_program::{ToolError, read_all};
 use std::io::{ErrorKind, Write};
 use std::path::Path;
 use std::{fs, io, process};

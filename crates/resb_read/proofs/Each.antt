@@ -8,7 +8,8 @@ use Rattle.resb_read.specs.Refusing.{RefusesThere, RefusesOne}
 use Rattle.resb_format.specs.declared.error.ReadingError.{ReadingError}
 use Rattle.resb_read.specs.Inner.Front.{Front}
 use Rattle.resb_read.specs.TypeLaws.{each_counted}
-use Rattle.resb_read.specs.Access.{Access, StepsOver, StepsAfter, Steps}
+use Rattle.resb_read.specs.Access.{AccessOver, Access, StepsOver, StepsAfter, Steps}
+use Rattle.resb_read.specs.Access.{TakesRead}
 
 module _ {X : Type 0} (reads : Place → X → ℕ → Type 0) where
   -- one more place and its value, at the end
@@ -44,38 +45,40 @@ module _ (counts : Place → ℕ → Type 0)
       inr (λ n all fits. let at = each_split ps p rest k n h all in let le : k + at.0 ≤ n = at.2 in
       none at.0 at.1 (omega arith))
 
-module _ {X : Type 0} (reads : Place → X → ℕ → Type 0) (counts : Place → ℕ → Type 0)
-    (refuses : Place → ℕ → ℕ → ReadingError → Type 0) where
-  pub over_some : (rest : List Place) (left : ℕ) (new : Access) (left' : ℕ) (x : X)
-      → StepsOver reads counts refuses rest left new left' (Ok (Some x))
-      → (p : Place) × (rest ≡ p ∷ new.rest) × (new.failed ≡ None) × (n : ℕ) × reads p x n
-      × (left' + n ≡ left)
+module _ {P X : Type 0} (reads : P → X → ℕ → Type 0) (counts : P → ℕ → Type 0)
+    (refuses : P → ℕ → ℕ → ReadingError → Type 0) where
+  pub over_some : (rest : List P) (left : ℕ) (new : AccessOver P) (left' : ℕ) (x : X)
+      → StepsOver (TakesRead reads) (RefusesThere counts refuses) rest left new left' (Ok (Some x))
+      → (p : P) × (rest ≡ p ∷ new.rest) × (new.failed ≡ None) × TakesRead reads p x left left'
   over_some [] left new left' x h = absurd h
-  over_some (p ∷ ps) left new left' x (e, n, r, s) =
-      (p, ap (λ a. p ∷ a.rest) (sym e), ap (λ a. a.failed) e, n, r, s)
+  over_some (p ∷ ps) left new left' x (e, taken) =
+      (p, ap (λ a. p ∷ a.rest) (sym e), ap (λ a. a.failed) e, taken)
 
-  pub over_err : (rest : List Place) (left : ℕ) (new : Access) (left' : ℕ) (d : ReadingError)
-      → StepsOver reads counts refuses rest left new left' (Err d)
-      → (p : Place) × (ps : List Place) × (rest ≡ p ∷ ps)
+  pub over_err : (rest : List P) (left : ℕ) (new : AccessOver P) (left' : ℕ) (d : ReadingError)
+      → StepsOver (TakesRead reads) (RefusesThere counts refuses) rest left new left' (Err d)
+      → (p : P) × (ps : List P) × (rest ≡ p ∷ ps)
       × RefusesThere counts refuses p left left' d
   over_err [] left new left' d h = absurd h
   over_err (p ∷ ps) left new left' d (e, r) = (p, ps, refl, r)
 
-  pub steps_some : (old : Access) (left : ℕ) (new : Access) (left' : ℕ) (x : X) → old.failed ≡ None
+  pub steps_some : (old : AccessOver P) (left : ℕ) (new : AccessOver P) (left' : ℕ) (x : X)
+      → old.failed ≡ None
       → Steps reads counts refuses old left new left' (Ok (Some x))
-      → (p : Place) × (old.rest ≡ p ∷ new.rest) × (new.failed ≡ None) × (n : ℕ) × reads p x n
-      × (left' + n ≡ left)
+      → (p : P) × (old.rest ≡ p ∷ new.rest) × (new.failed ≡ None) × TakesRead reads p x left left'
   steps_some old left new left' x none h =
       over_some old.rest left new left' x
-      (subst (λ f. StepsAfter reads counts refuses f old left new left' (Ok (Some x))) none h)
+      (subst (λ f. StepsAfter (TakesRead reads) (RefusesThere counts refuses) f old left new left'
+      (Ok (Some x))) none h)
 
-  pub steps_err : (old : Access) (left : ℕ) (new : Access) (left' : ℕ) (d : ReadingError)
+  pub steps_err : (old : AccessOver P) (left : ℕ) (new : AccessOver P) (left' : ℕ)
+      (d : ReadingError)
       → old.failed ≡ None → Steps reads counts refuses old left new left' (Err d)
-      → (p : Place) × (ps : List Place) × (old.rest ≡ p ∷ ps)
+      → (p : P) × (ps : List P) × (old.rest ≡ p ∷ ps)
       × RefusesThere counts refuses p left left' d
   steps_err old left new left' d none h =
       over_err old.rest left new left' d
-      (subst (λ f. StepsAfter reads counts refuses f old left new left' (Err d)) none h)
+      (subst (λ f. StepsAfter (TakesRead reads) (RefusesThere counts refuses) f old left new left'
+      (Err d)) none h)
 
 module _ {X : Type 0} (reads : Place → X → ℕ → Type 0) (counts : Place → ℕ → Type 0)
     (refuses : Place → ℕ → ℕ → ReadingError → Type 0) where
@@ -86,15 +89,16 @@ module _ {X : Type 0} (reads : Place → X → ℕ → Type 0) (counts : Place �
       → (new.failed ≡ None) × Front reads all new.rest (values ++ x ∷ []) before left'
   front_more all old values before left new left' x none f h =
       let step = steps_some reads counts refuses old left new left' x none h in
-      let (p, first, none', n, r, s) = step in
+      let (p, first, none', taken) = step in
+      let s : left' + taken.0 ≡ left = taken.2 in
       let paid : left + f.spent ≡ before = f.paid in (
         none',
         record {
           done = f.done ++ p ∷ [];
-          spent = f.spent + n;
+          spent = f.spent + taken.0;
           are = f.are ∙ ap (λ r. f.done ++ r) first
               ∙ sym (append_assoc f.done (p ∷ []) new.rest);
-          each = each_more reads f.done values f.spent p x n f.each r;
+          each = each_more reads f.done values f.spent p x taken.0 f.each taken.1;
           paid = omega arith;
         },
       )

@@ -7,8 +7,8 @@ use Rattle.resb_read.specs.Places.{Place}
 use Rattle.resb_read.specs.Sequences.{ReadsPairs, CountsPairs, put_each}
 use Rattle.resb_read.specs.Reading.{LacksOrMemory}
 use Rattle.resb_read.specs.Refusing.{RefusesPair, RefusesOneEntry}
-use Rattle.resb_read.specs.Access.{EntryAccess, EntersOver, EntersAfter, Enters, ReadsPair}
-use Rattle.resb_read.specs.Access.{CountsPair}
+use Rattle.resb_read.specs.Access.{EntryAccess, Enters, ReadsPair, CountsPair}
+use Rattle.resb_read.proofs.Each.{steps_some, steps_err}
 use Rattle.resb_read.specs.Inner.Front.{FrontPairs}
 use Rattle.resb_read.specs.TypeLaws.{pairs_counted}
 use Rattle.resb_format.specs.declared.error.ReadingError.{ReadingError}
@@ -58,39 +58,6 @@ module _ (ck cv : Place → ℕ → Type 0) (ok : (p : Place) (m n : ℕ) → ck
 module _ {K X : Type 0} (rk : Place → K → ℕ → Type 0) (ck : Place → ℕ → Type 0)
     (fk : Place → ℕ → ℕ → ReadingError → Type 0) (rv : Place → X → ℕ → Type 0)
     (cv : Place → ℕ → Type 0) (fv : Place → ℕ → ℕ → ReadingError → Type 0) where
-  enters_over_some : (rest : List (Place × Place)) (left : ℕ) (new : EntryAccess) (left' : ℕ)
-      (x : K × X)
-      → EntersOver rk ck fk rv cv fv rest left new left' (Ok (Some x))
-      → (p : Place × Place) × (rest ≡ p ∷ new.rest) × (new.failed ≡ None) × (n : ℕ)
-      × ReadsPair rk rv p x n × (left' + n ≡ left)
-  enters_over_some [] left new left' x h = absurd h
-  enters_over_some (p ∷ ps) left new left' x (e, n, r, s) =
-      (p, ap (λ a. p ∷ a.rest) (sym e), ap (λ a. a.failed) e, n, r, s)
-
-  enters_over_err : (rest : List (Place × Place)) (left : ℕ) (new : EntryAccess) (left' : ℕ)
-      (d : ReadingError)
-      → EntersOver rk ck fk rv cv fv rest left new left' (Err d)
-      → (p : Place × Place) × (ps : List (Place × Place)) × (rest ≡ p ∷ ps) × (left' ≤ left)
-      × LacksOrMemory (CountsPair ck cv p) left d × RefusesPair ck fk cv fv p left left' d
-  enters_over_err [] left new left' d h = absurd h
-  enters_over_err (p ∷ ps) left new left' d (e, s, l, r) = (p, ps, refl, s, l, r)
-
-  pub enters_some : (old : EntryAccess) (left : ℕ) (new : EntryAccess) (left' : ℕ) (x : K × X)
-      → old.failed ≡ None → Enters rk ck fk rv cv fv old left new left' (Ok (Some x))
-      → (p : Place × Place) × (old.rest ≡ p ∷ new.rest) × (new.failed ≡ None) × (n : ℕ)
-      × ReadsPair rk rv p x n × (left' + n ≡ left)
-  enters_some old left new left' x none h =
-      enters_over_some old.rest left new left' x
-      (subst (λ f. EntersAfter rk ck fk rv cv fv f old left new left' (Ok (Some x))) none h)
-
-  pub enters_err : (old : EntryAccess) (left : ℕ) (new : EntryAccess) (left' : ℕ) (d : ReadingError)
-      → old.failed ≡ None → Enters rk ck fk rv cv fv old left new left' (Err d)
-      → (p : Place × Place) × (ps : List (Place × Place)) × (old.rest ≡ p ∷ ps) × (left' ≤ left)
-      × LacksOrMemory (CountsPair ck cv p) left d × RefusesPair ck fk cv fv p left left' d
-  enters_err old left new left' d none h =
-      enters_over_err old.rest left new left' d
-      (subst (λ f. EntersAfter rk ck fk rv cv fv f old left new left' (Err d)) none h)
-
   module _ (cmp : K → K → Ordering) (all : List (Place × Place)) (old : EntryAccess)
       (m : List (K × X))
       (before left : ℕ) (new : EntryAccess) (left' : ℕ) (ok : old.failed ≡ None)
@@ -100,15 +67,18 @@ module _ {K X : Type 0} (rk : Place → K → ℕ → Type 0) (ck : Place → �
         → (new.failed ≡ None)
         × FrontPairs cmp rk rv all new.rest (insert_entry cmp m k x) before left'
     front_enters k x h =
-        let (p, first, none', n, r, s) = enters_some old left new left' (k, x) ok h in
+        let (p, first, none', taken) = steps_some (ReadsPair rk rv) (CountsPair ck cv)
+        (RefusesPair ck fk cv fv) old left new left' (k, x) ok h in
+        let s : left' + taken.0 ≡ left = taken.2 in
         let paid : left + f.spent ≡ before = f.paid in (
           none',
           record {
             done = f.done ++ p ∷ [];
             read = f.read ++ (k, x) ∷ [];
-            spent = f.spent + n;
+            spent = f.spent + taken.0;
             are = f.are ∙ ap (λ r. f.done ++ r) first ∙ sym (append_assoc f.done (p ∷ []) new.rest);
-            each = pairs_more rk rv f.done f.read f.spent p (k, x) n f.each r;
+            each = pairs_more rk rv f.done f.read f.spent p (k, x) taken.0 f.each
+                taken.1;
             map = ap (λ m. insert_entry cmp m k x) f.map ∙ sym (put_more cmp [] f.read (k, x));
             paid = omega arith;
           },
@@ -122,13 +92,15 @@ module _ {K X : Type 0} (rk : Place → K → ℕ → Type 0) (ck : Place → �
         → (left' ≤ before) × LacksOrMemory (CountsPairs ck cv all) before d
         × RefusesOneEntry ck fk cv fv all before left' d
     front_fails hk hv one_k one_v d h =
-        let (p, ps, first, s, lacks, refuses) = enters_err old left new left' d ok h in
+        let (p, ps, first, r) = steps_err (ReadsPair rk rv) (CountsPair ck cv)
+        (RefusesPair ck fk cv fv) old left new left' d ok h in
+        let s : left' ≤ left = r.0 in
         let paid : left + f.spent ≡ before = f.paid in
         let same : all ≡ f.done ++ p ∷ ps = f.are ∙ ap (λ r. f.done ++ r) first in (
           omega arith,
           subst (λ qs. LacksOrMemory (CountsPairs ck cv qs) before d) (sym same)
               (pairs_refused ck cv one_k one_v f.done p ps f.spent before left d paid
-              (pairs_counted rk rv ck cv hk hv f.done f.read f.spent f.each) lacks),
+              (pairs_counted rk rv ck cv hk hv f.done f.read f.spent f.each) r.1),
           record {
             done = f.done;
             at = p;
@@ -138,6 +110,6 @@ module _ {K X : Type 0} (rk : Place → K → ℕ → Type 0) (ck : Place → �
             are = same;
             counted = pairs_counted rk rv ck cv hk hv f.done f.read f.spent f.each;
             paid = paid;
-            refused = refuses;
+            refused = r.2;
           },
         )

@@ -5,7 +5,7 @@ use Rattle.std.proofs.lemmas.Option.{same_Some}
 use Rattle.resb_format.specs.Parts.{Parts}
 use Rattle.resb_read.specs.Places.{Place}
 use Rattle.resb_read.specs.Leaves.{bytes_from}
-use Rattle.resb_read.specs.Others.{cost_at}
+use Rattle.resb_read.specs.Spots.{cost_at}
 use Rattle.resb_read.specs.declared.cursor.Spot.{Spot}
 use Rattle.resb_read.specs.declared.cursor.Spot.TheVariants as spot
 

@@ -6,7 +6,7 @@ use Rattle.resb_format.specs.Error.{IsWantOfMemory, refusal_of}
 use Rattle.resb_format.specs.declared.error.ReadingError.{ReadingError}
 use Rattle.resb_read.specs.Leaves.{ReadsSigned, ReadsUnsigned, ReadsBool, ReadsBits, ReadsText}
 use Rattle.resb_read.specs.Leaves.{ReadsKey, ReadsBytes}
-use Rattle.resb_read.specs.Others.{ReadsView}
+use Rattle.resb_read.specs.Leaves.{ReadsView}
 use Rattle.resb_read.specs.Places.{Place}
 use Rattle.resb_read.specs.Resources.{DenPlace}
 use Rattle.resb_read.specs.Roots.{RefusesFile}

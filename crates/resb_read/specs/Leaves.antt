@@ -1,6 +1,6 @@
 -- What stands at a place for the types that have no parts, with its count: 1 at a descriptor or a
 -- unit, 0 at a word or a key.
-use Rattle.std.specs.Prelude.{ℕ, ℤ, ◌≤ℤ◌, ◌≤◌, ◌+◌, ◌*◌, ◌/◌, ◌%◌, ◌^◌, ◌==◌}
+use Rattle.std.specs.Prelude.{ℕ, ℤ, ◌≡◌, ◌≤ℤ◌, ◌≤◌, ◌+◌, ◌*◌, ◌/◌, ◌%◌, ◌^◌, ◌==◌, length}
 use Rattle.std.specs.Prelude.{List, [], Bool, true, false, Option, Some, None, option_map}
 use Rattle.std.specs.Prelude.{if◌then◌else◌}
 use Rattle.std.specs.List.{flat_map}
@@ -162,3 +162,11 @@ ReadsBytes p x n = IsThere any (bytes_from p.parts p.at) x n
 -- bytes stand there, and take n
 abbrev pub CountsBytes : Place → ℕ → Type 0
 CountsBytes p n = CountsThere any (bytes_from p.parts p.at) n
+
+-- bytes that are whole items of so many bytes each
+abbrev pub ReadsView : ℕ → Place → List ℕ → ℕ → Type 0
+ReadsView each p b n = IsThere (λ b. length b % each ≡ 0) (bytes_from p.parts p.at) b n
+
+-- some bytes stand there whose number is a multiple of an item's
+abbrev pub CountsView : ℕ → Place → ℕ → Type 0
+CountsView each p n = CountsThere (λ b. length b % each ≡ 0) (bytes_from p.parts p.at) n

@@ -34,7 +34,7 @@ pub mod Laws
 pub mod Sequences
 pub mod Access
 pub mod Tables
-pub mod Others
+pub mod Spots
 pub mod Refusing
 pub mod TypeLaws
 pub mod Inner

@@ -1,12 +1,13 @@
 -- Why readings of what has no parts are refused: a kind and a message.
 --     number_refusal s left, bool_refusal s left, bits_refusal s left
 --                             what is answered where no number, bool or Int is read
---     text_refusal p left, key_refusal p left, bytes_refusal p left
---                             the same for a text, where memory isn't what is wanted, for a key and
---                             for bytes
+--     text_refusal p left, key_refusal p left, bytes_refusal p left, view_refusal p left
+--                             the same for a text, where memory isn't what is wanted, for a key,
+--                             for bytes and for a view of them
 --     members_refusal s left, entries_refusal s left
 --                             the same for the members of a sequence, and the entries of a map
-use Rattle.std.specs.Prelude.{◌==◌, ◌||◌, ℕ, List, codes, if◌then◌else◌}
+use Rattle.std.specs.Prelude.{◌==◌, ◌||◌, nat_le, ℕ, List, Bool, false, Option, Some, None}
+use Rattle.std.specs.Prelude.{codes, if◌then◌else◌}
 use Rattle.resb_format.specs.Error.{Refusal, invalid, end_of_input}
 use Rattle.resb_format.specs.Parts.{Parts}
 use Rattle.resb_format.specs.StringFaults.{string_fault}
@@ -14,7 +15,7 @@ use Rattle.resb_format.specs.Types as types
 use Rattle.resb_format.specs.declared.error.ErrorKind.TheVariants.{ResourceTypeMismatch, Unknown}
 use Rattle.resb_walk.specs.Damage.{text_damage, key_damage, type_damage}
 use Rattle.resb_read.specs.Places.{Place}
-use Rattle.resb_read.specs.Leaves.{type_in, value_in}
+use Rattle.resb_read.specs.Leaves.{type_in, value_in, bytes_from}
 use Rattle.resb_read.specs.declared.cursor.Spot.{Spot}
 use Rattle.resb_read.specs.declared.cursor.Spot.TheVariants as spot
 
@@ -123,6 +124,17 @@ bytes_refusal_from p (spot.Key k) left = key_damage p.keys k
 -- why no bytes are read at a place with so much left
 abbrev pub bytes_refusal : Place → ℕ → Refusal
 bytes_refusal p left = bytes_refusal_from p.parts p.at left
+
+-- bytes stand there, and what is left pays for them
+abbrev pub are_paid : Option (List ℕ × ℕ) → ℕ → Bool
+are_paid (Some r) left = nat_le r.1 left
+are_paid None left = false
+
+-- why no view is read: there are no bytes, or they are no whole items
+abbrev pub view_refusal : Place → ℕ → Refusal
+view_refusal p left =
+    if are_paid (bytes_from p.parts p.at) left then (Unknown, codes "Wrong length")
+    else bytes_refusal p left
 
 -- why no members stand at a descriptor: a count or the fields behind it outside their block, or
 -- another type

@@ -12,9 +12,10 @@ use Rattle.resb_walk.specs.Meets.{Blames}
 use Rattle.resb_walk.specs.Refusals.{Refuses, TakesOne}
 use Rattle.resb_read.specs.Places.{Place}
 use Rattle.resb_read.specs.Reading.{LacksOrMemory}
-use Rattle.resb_read.specs.Others.{cost_at, view_refusal}
+use Rattle.resb_read.specs.Spots.{cost_at}
 use Rattle.resb_read.specs.Refused.{number_refusal, bool_refusal, bits_refusal, text_refusal}
-use Rattle.resb_read.specs.Refused.{key_refusal, bytes_refusal, members_refusal, entries_refusal}
+use Rattle.resb_read.specs.Refused.{key_refusal, bytes_refusal, view_refusal, members_refusal}
+use Rattle.resb_read.specs.Refused.{entries_refusal}
 use Rattle.resb_read.specs.Resources.{DenPlace, ReachesPlace, MeetsPlace}
 use Rattle.resb_read.specs.Sequences.{items, entries, CountsEach, CountsPairs}
 use Rattle.resb_read.specs.declared.cursor.Spot.{Spot}
@@ -79,9 +80,9 @@ RefusesMembers = RefusesAs (λ p left. members_refusal p.at left)
 abbrev pub RefusesEntries : Place → ℕ → ℕ → ReadingError → Type 0
 RefusesEntries = RefusesAs (λ p left. entries_refusal p.at left)
 
--- what is refused at a place by a type, whose counts are known
-abbrev pub RefusesThere : (Place → ℕ → Type 0) → (Place → ℕ → ℕ → ReadingError → Type 0) → Place → ℕ
-    → ℕ → ReadingError → Type 0
+-- what is refused at a place, or at the places of an entry, where the counts are known
+abbrev pub RefusesThere : {P : Type 0} → (P → ℕ → Type 0) → (P → ℕ → ℕ → ReadingError → Type 0) → P
+    → ℕ → ℕ → ReadingError → Type 0
 RefusesThere counts refuses p left left' e =
     (left' ≤ left) × LacksOrMemory (counts p) left e × refuses p left left' e
 

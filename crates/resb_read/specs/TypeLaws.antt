@@ -11,7 +11,7 @@ use Rattle.resb_read.specs.Leaves.{key_from, bytes_from, ReadsSigned, CountsSign
 use Rattle.resb_read.specs.Leaves.{CountsUnsigned, ReadsBool, CountsBool, ReadsBits, CountsBits}
 use Rattle.resb_read.specs.Leaves.{ReadsText, CountsText, ReadsKey, CountsKey, ReadsBytes}
 use Rattle.resb_read.specs.Leaves.{CountsBytes}
-use Rattle.resb_read.specs.Others.{ReadsView, CountsView}
+use Rattle.resb_read.specs.Leaves.{ReadsView, CountsView}
 use Rattle.std.specs.declared.cmp.Ordering.{Ordering}
 use Rattle.resb_read.specs.Sequences.{ReadsEach, CountsEach, ReadsSeq, CountsSeq, ReadsPairs}
 use Rattle.resb_read.specs.Sequences.{CountsPairs, ReadsMap, CountsMap}

@@ -5,7 +5,7 @@ ghost use Rattle.resb_format.specs.Views.{unit_bytes, word_bytes, number_bytes, 
 ghost use Rattle.resb_read.specs.Places.{place_of};
 ghost use Rattle.resb_read.specs.Reading.{Reads, LacksOrMemory};
 ghost use Rattle.resb_read.specs.Sequences.{ReadsSeq, CountsSeq};
-ghost use Rattle.resb_read.specs.Others.{ReadsView, CountsView};
+ghost use Rattle.resb_read.specs.Leaves.{ReadsView, CountsView};
 ghost use Rattle.resb_read.specs.Refusing.{RefusesView, RefusesSeq};
 
 use crate::cursor::Cursor;

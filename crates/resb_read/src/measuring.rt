@@ -10,7 +10,7 @@ ghost use Rattle.resb_read.specs.Places.{place_of};
 ghost use Rattle.resb_read.specs.Resources.{HoldsPlace};
 
 use crate::cursor::{Cursor, Spot};
-use crate::entry::tree_from_bytes;
+use crate::whole_files::tree_from_bytes;
 use resb_format::{BinaryDeserializerError, Resource};
 use resb_tree::NoMemory;
 use resb_walk::{Sums, weigh_word};

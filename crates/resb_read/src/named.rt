@@ -10,7 +10,7 @@ ghost use Rattle.resb_read.specs.Refusing.{RefusesNumber};
 ghost use Rattle.resb_read.specs.Leaves.{ReadsText, CountsText, ReadsKey, CountsKey, ReadsBytes};
 ghost use Rattle.resb_read.specs.Leaves.{CountsBytes, ReadsSigned, CountsSigned, ReadsUnsigned};
 ghost use Rattle.resb_read.specs.Leaves.{CountsUnsigned};
-ghost use Rattle.resb_read.specs.Others.{IsUnit, IsWord, IsKey};
+ghost use Rattle.resb_read.specs.Spots.{IsUnit, IsWord, IsKey};
 ghost use Rattle.resb_read.specs.Inner.Named as named;
 
 use crate::cursor::{Cursor, Spot};

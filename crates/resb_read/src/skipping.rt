@@ -2,7 +2,7 @@
 //! The places below a descriptor have deserializers of their own in `named`.
 ghost use Rattle.std.specs.Prelude.{◌≡◌, Some, None, MatchResult};
 ghost use Rattle.resb_format.specs.Descriptor.{type_number};
-ghost use Rattle.resb_read.specs.Others.{Skips, type_at};
+ghost use Rattle.resb_read.specs.Spots.{Skips, type_at};
 ghost use Rattle.resb_walk.specs.Damage.{Says};
 ghost use Rattle.resb_read.specs.Refused.{untold};
 

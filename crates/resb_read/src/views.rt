@@ -3,7 +3,7 @@
 ghost use Rattle.resb_format.specs.Views.{unit_bytes, word_bytes, number_bytes, pair_bytes};
 ghost use Rattle.resb_read.specs.Places.{place_of};
 ghost use Rattle.resb_read.specs.Reading.{Reads};
-ghost use Rattle.resb_read.specs.Others.{ReadsView, CountsView};
+ghost use Rattle.resb_read.specs.Leaves.{ReadsView, CountsView};
 ghost use Rattle.resb_read.specs.Refusing.{RefusesView};
 ghost use Rattle.resb_read.specs.TypeLaws.{view_counted, view_one};
 

@@ -15,7 +15,7 @@ ghost use Rattle.resb_read.specs.Reading.{LacksOrMemory};
 ghost use Rattle.resb_read.specs.Roots.{AtRoot, RefusesRoot};
 
 use crate::deserialize::Deserialize;
-use crate::entry::from_bytes;
+use crate::whole_files::from_bytes;
 use resb_format::{BinaryDeserializerError, ReadingError};
 use resb_head::{BinHeader, Endianness};
 use std::alloc::Global;

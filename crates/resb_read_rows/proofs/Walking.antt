@@ -5,7 +5,8 @@ use Rattle.std.specs.Prelude.{codes}
 use Rattle.resb_format.specs.declared.error.ReadingError.{ReadingError}
 use Rattle.resb_read.specs.Places.{Place, place_of}
 use Rattle.resb_read.specs.Reading.{LacksOrMemory}
-use Rattle.resb_read.specs.Access.{EntryAccess, EntersToFirst, EntersToAfter, EntersTo}
+use Rattle.resb_read.specs.Access.{EntryAccess, EntersTo, StepsOver, StepsAfter, HandsOnBoth}
+use Rattle.resb_read.specs.Access.{RefusesNone}
 use Rattle.resb_read.specs.Sequences.{entries}
 use Rattle.resb_read.specs.declared.cursor.Cursor.{Cursor}
 use Rattle.resb_read_rows.specs.Fields.{Entry, CountsField, CountsFirst, CountsBoth}
@@ -16,19 +17,20 @@ same_pair p x y a b = rw (a, b) refl
 
 -- the first of the entries is stepped over
 pub entered : (rest : List Entry) (new : EntryAccess) (k v : Cursor)
-    → EntersToFirst rest new (Ok (Some (k, v)))
+    → StepsOver HandsOnBoth RefusesNone rest 0 new 0 (Ok (Some (k, v)))
     → (rest ≡ (place_of k, place_of v) ∷ new.rest) × (new.failed ≡ None)
 entered [] new k v h = absurd h
-entered (p ∷ ps) new k v (e, a, b) =
+entered (p ∷ ps) new k v (e, at) =
     let later : ps ≡ new.rest = ap (λ s. s.rest) (sym e) in
-    let same = same_pair p (place_of k) (place_of v) a b in
+    let same = same_pair p (place_of k) (place_of v) at.0 at.1 in
     (ap (λ q. q ∷ ps) same ∙ ap (λ r. (place_of k, place_of v) ∷ r) later, ap (λ s. s.failed) e)
 
 pub entered_after : (old new : EntryAccess) (k v : Cursor) → old.failed ≡ None
     → EntersTo old new (Ok (Some (k, v)))
     → (old.rest ≡ (place_of k, place_of v) ∷ new.rest) × (new.failed ≡ None)
 entered_after old new k v none h =
-    entered old.rest new k v (subst (λ f. EntersToAfter f old new (Ok (Some (k, v)))) none h)
+    entered old.rest new k v
+    (subst (λ f. StepsAfter HandsOnBoth RefusesNone f old 0 new 0 (Ok (Some (k, v)))) none h)
 
 module _ (ci cv : Place → ℕ → Type 0) (p : Place) (left left1 : ℕ) (paid : left1 + 1 ≡ left)
     (e : ReadingError) where

@@ -1,13 +1,13 @@
 //! The program: `compile IN OUT`, `check IN`, and with no words a text on standard input to the hex
-//! digits of its file on standard output. What it does with their bytes is in `resb_command`.
+//! digits of its file on standard output. What it does with their bytes is in `resb_program`.
 #![tactic(auto)]
 
-mod command;
+mod command_line;
 
-pub use resb_command::{ToolError, check_file, compile_text, run};
+pub use resb_program::{ToolError, check_file, compile_text, run};
 use std::process::ExitCode;
 
 /// Ends the process with the status of what its words ask for.
 fn main(rt: HostRuntime) -> ExitCode {
-    ExitCode::from(command::perform(&rt))
+    ExitCode::from(command_line::perform(&rt))
 }

@@ -1,7 +1,7 @@
 //! What the program does over readers and writers that move one byte a call, are interrupted, fail,
 //! or take nothing, and how it ends.
 //! The process's own streams and files are tried by `tests/streams.sh`.
-use resb_command::{ToolError, compile_text, run};
+use resb_program::{ToolError, compile_text, run};
 use std::alloc::{AllocError, Global};
 use std::io;
 use std::io::{ErrorKind, Read, Write};

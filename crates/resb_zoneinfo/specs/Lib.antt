@@ -16,6 +16,6 @@ pub mod Leading
 pub mod Info
 pub mod Reading
 pub use Rattle.resb.specs.Leaves
-pub use Rattle.resb.specs.Others
+pub use Rattle.resb.specs.Spots
 pub use Rattle.resb.specs.Places
 pub use Rattle.resb.specs.Views

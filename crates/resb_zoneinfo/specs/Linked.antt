@@ -2,7 +2,7 @@
 use Rattle.std.specs.Prelude.{ℕ, ℤ, pos, negsuc, ◌≡◌, ◌≢◌, ◌-◌, ◌^◌, ◌⊎◌, Some}
 use Rattle.resb.specs.Places.{Place}
 use Rattle.resb.specs.Leaves.{ReadsSigned, CountsSigned}
-use Rattle.resb.specs.Others.{type_at}
+use Rattle.resb.specs.Spots.{type_at}
 use Rattle.resb_zoneinfo.specs.declared.linked.Linked.{Linked}
 use Rattle.resb_zoneinfo.specs.declared.linked.Linked.TheVariants.{Link, Value}
 

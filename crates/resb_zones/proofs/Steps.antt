@@ -1,22 +1,25 @@
 -- Steps of an access to the entries of a table.
 use Rattle.std.proofs.Common.{List, [], ◌∷◌, ◌≡◌, Some, None, Ok, Result, Option, ap, subst}
 use Rattle.resb.specs.Places.{Place, place_of}
-use Rattle.resb.specs.Access.{EntryAccess, EntersTo, EntersToFirst, EntersToAfter}
+use Rattle.resb.specs.Access.{EntryAccess, EntersTo, StepsOver, StepsAfter, HandsOnBoth}
+use Rattle.resb.specs.Access.{RefusesNone}
 use Rattle.resb.specs.declared.binary.Cursor.{Cursor}
 use Rattle.resb.specs.declared.binary.ReadingError.{ReadingError}
 
 some_first : (rest : List (Place × Place)) (new : EntryAccess) (c : Cursor × Cursor)
-    → EntersToFirst rest new (Ok (Some c))
+    → StepsOver HandsOnBoth RefusesNone rest 0 new 0 (Ok (Some c))
     → (rest ≡ (place_of c.0, place_of c.1) ∷ new.rest) × (new.failed ≡ None)
 some_first [] new c h = absurd h
-some_first ((a, b) ∷ ps) new c (e, k, v) =
+some_first ((a, b) ∷ ps) new c (e, at) =
+    let k : place_of c.0 ≡ a = at.0 in
+    let v : place_of c.1 ≡ b = at.1 in
     let r : new.rest ≡ ps = ap (λ n. n.rest) e in
     (cc, ap (λ n. n.failed) e)
 
 module _ (old new : EntryAccess) (fresh : old.failed ≡ None) where
   at_first : (r : Result (Option (Cursor × Cursor)) ReadingError) → EntersTo old new r
-      → EntersToFirst old.rest new r
-  at_first r h = subst (λ f. EntersToAfter f old new r) fresh h
+      → StepsOver HandsOnBoth RefusesNone old.rest 0 new 0 r
+  at_first r h = subst (λ f. StepsAfter HandsOnBoth RefusesNone f old 0 new 0 r) fresh h
 
   pub steps_some : (c : Cursor × Cursor) → EntersTo old new (Ok (Some c))
       → (old.rest ≡ (place_of c.0, place_of c.1) ∷ new.rest) × (new.failed ≡ None)

@@ -6,7 +6,7 @@ pub mod ZoneLaws
 pub mod Inner
 pub use Rattle.resb.specs.Error
 pub use Rattle.resb.specs.Leaves
-pub use Rattle.resb.specs.Others
+pub use Rattle.resb.specs.Spots
 pub use Rattle.resb.specs.Places
 pub use Rattle.resb.specs.Reading
 pub use Rattle.resb.specs.Sequences

@@ -14,7 +14,7 @@ use Rattle.std.specs.List.{All}
 use Rattle.std.specs.Cmp.Lexicographic.{slice_cmp}
 use Rattle.resb.specs.Places.{Place}
 use Rattle.resb.specs.Leaves.{ReadsSigned, CountsSigned, ReadsKey, CountsKey}
-use Rattle.resb.specs.Others.{ReadsView, CountsView}
+use Rattle.resb.specs.Leaves.{ReadsView, CountsView}
 use Rattle.resb.specs.Sequences.{entries, ReadsMap, CountsMap}
 use Rattle.resb.specs.Views.{pair_bytes}
 use Rattle.resb_zones.specs.declared.zone.Zone.{Zone}

@@ -2,7 +2,8 @@
 use Rattle.std.specs.Prelude.{◌≡◌, ◌+◌, ◌⊎◌, ◌++◌, ℕ, List, length, Option, Some, None}
 use Rattle.std.specs.List.{All}
 use Rattle.resb.specs.Places.{Place, place_of}
-use Rattle.resb.specs.Others.{ReadsView, cost_at}
+use Rattle.resb.specs.Leaves.{ReadsView}
+use Rattle.resb.specs.Spots.{cost_at}
 use Rattle.resb.specs.Views.{pair_bytes}
 use Rattle.resb.specs.declared.binary.Cursor.{Cursor}
 use Rattle.resb.specs.declared.binary.helpers.PairView.{PairView}

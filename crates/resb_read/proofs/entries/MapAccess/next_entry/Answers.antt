@@ -1,7 +1,8 @@
 use Rattle.std.proofs.Common.{◌≡◌, None, drop, ap, sym, ◌∙◌}
-use Rattle.resb_read.specs.Access.{EntryAccess}
+use Rattle.resb_read.specs.Access.{EntryAccess, ReadsPair, CountsPair}
 use Rattle.resb_read.specs.Places.{place_of}
-use Rattle.resb_read.proofs.Failing.{entries_stop, entry_fails}
+use Rattle.resb_read.specs.Refusing.{RefusesPair}
+use Rattle.resb_read.proofs.Failing.{stopped_at, first_fails}
 use Rattle.resb_read.proofs.entries.MapAccess.next_entry.Goals as goal
 
 pub returns-in-Err : goal.returns-in-Err
@@ -12,9 +13,11 @@ returns-in-Err g c =
     let h = c.in-Err.ensures.refused in
     let whole : old.failed ≡ None = sym (ap (λ (a : EntryAccess). a.failed) seen)
     ∙ c.in_default.is in
-    entry_fails g.K.Deserialize.reads g.K.Deserialize.counts g.K.Deserialize.refuses
-    g.T.Deserialize.reads g.T.Deserialize.counts g.T.Deserialize.refuses old _
+    first_fails (ReadsPair g.K.Deserialize.reads g.T.Deserialize.reads)
+    (CountsPair g.K.Deserialize.counts g.T.Deserialize.counts)
+    (RefusesPair g.K.Deserialize.counts g.K.Deserialize.refuses g.T.Deserialize.counts
+    g.T.Deserialize.refuses) old _
     (place_of c.in-Some-first.key_at, place_of c.in-Some-first.value_at) (drop 1 old.rest)
     c.args.walk.now c.read_pair.new.walk c.in-Err.error whole first
-    (ap (entries_stop c.in-Err.error) (ap (λ (a : EntryAccess). a.rest) seen ∙ first)) h.0 h.1
-    c.in-Err.ensures.says
+    (ap (stopped_at c.in-Err.error) (ap (λ (a : EntryAccess). a.rest) seen ∙ first))
+    (h.0, h.1, c.in-Err.ensures.says)

@@ -4,7 +4,7 @@ use Rattle.std.proofs.lemmas.Slice.Eq.{bytes_eq-Decides}
 use mir.Syntax.{w32}
 use mir.Val.{SFits}
 use Rattle.resb.specs.Places.{place_of}
-use Rattle.resb.specs.Others.{cost_at}
+use Rattle.resb.specs.Spots.{cost_at}
 use Rattle.resb.specs.Views.{pair_bytes}
 use Rattle.resb_zones.specs.Zones.{base_name, pairs_name, IsReadable}
 use Rattle.resb_zones.specs.Inner.Fields.{entry_of, ReadsPairView}

@@ -1,0 +1,44 @@
+-- Spots: what one costs, the type of the resource that stands at one, and which kind it is.
+use Rattle.std.specs.Prelude.{◌≡◌, ◌+◌, ◌<◌, ℕ, Option, Some, None, Result, MatchResult}
+use Rattle.std.specs.Prelude.{if◌then◌else◌}
+use Rattle.resb_format.specs.declared.error.ReadingError.{ReadingError}
+use Rattle.resb_format.specs.Types as types
+use Rattle.resb_walk.specs.Refusals.{IsSpent}
+use Rattle.resb_read.specs.Leaves.{type_in}
+use Rattle.resb_read.specs.declared.cursor.Spot.{Spot}
+use Rattle.resb_read.specs.declared.cursor.Spot.TheVariants as spot
+
+-- a resource, which costs one; a word or a key costs nothing
+abbrev pub cost_at : Spot → ℕ
+cost_at (spot.Descriptor w) = 1
+cost_at (spot.Unit u) = 1
+cost_at (spot.Word w) = 0
+cost_at (spot.Key k) = 0
+
+-- what stands there is passed over and paid; or less is left than it costs, and nothing is taken
+abbrev pub Skips : {A : Type 0} → Spot → ℕ → ℕ → Result A ReadingError → Type 0
+Skips s left left' r =
+    MatchResult r (λ _. left' + cost_at s ≡ left)
+    (λ e. IsSpent e × (left < cost_at s) × (left' ≡ left))
+
+-- the type of the resource that stands there, where it is one that a reader knows
+abbrev pub type_at : Spot → Option ℕ
+type_at (spot.Descriptor w) = if types.is_read_type (type_in w) then Some (type_in w) else None
+type_at (spot.Unit u) = Some types.string
+type_at (spot.Word w) = None
+type_at (spot.Key k) = None
+
+-- the spot is a member of 16 bits
+abbrev pub IsUnit : Spot → Type 0
+IsUnit (spot.Unit u) = Unit {0}
+IsUnit s = ⊥
+
+-- the spot is a number of a vector
+abbrev pub IsWord : Spot → Type 0
+IsWord (spot.Word w) = Unit {0}
+IsWord s = ⊥
+
+-- the spot is a key
+abbrev pub IsKey : Spot → Type 0
+IsKey (spot.Key k) = Unit {0}
+IsKey s = ⊥

@@ -8,7 +8,7 @@ use Rattle.resb_format.specs.File.{budget}
 use Rattle.resb_format.specs.declared.error.ReadingError.{ReadingError}
 use Rattle.resb_read.specs.Reading.{LacksOrMemory}
 use Rattle.resb_read.specs.Resources.{CountsTree}
-use Rattle.resb_read.specs.Roots.{AtRoot}
+use Rattle.resb_read.specs.Roots.{HoldsAtRoot}
 use Rattle.resb.specs.Headline.{DenotesNone}
 use Rattle.resb_tree.specs.Tree.{tree_count}
 use Rattle.resb_format.specs.Parts.{parts_of}
@@ -28,7 +28,7 @@ compiled_is_read text bytes c r h =
     written_is_read bytes c.bundle.tree c.bundle.fallback c.bundle.keys r c.file h
 
 pub tree_or_none : (bytes : List ℕ) (r : Result Resource ReadingError)
-    → IfErr r (LacksOrMemory (λ n. AtRoot (λ p. CountsTree p n) bytes) (budget bytes))
+    → IfErr r (LacksOrMemory (λ n. HoldsAtRoot (λ p. CountsTree p n) bytes) (budget bytes))
     → IfErr r (λ e. IsWantOfMemory e ⊎ DenotesNone bytes)
 tree_or_none bytes (Ok r) h = tt
 tree_or_none bytes (Err e) (inl m) = inl m

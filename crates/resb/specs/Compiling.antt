@@ -11,7 +11,7 @@ use Rattle.resb_text.specs.Refusal as refusal
 use Rattle.resb_text.specs.declared.error.TextParserError.{TextParserError}
 use Rattle.resb_grammar.specs.Limit.{MadeWithin, MakesMore}
 use Rattle.resb_layout.specs.Written.{Written}
-use Rattle.resb_layout.specs.Faults.{Refused}
+use Rattle.resb_layout.specs.Faults.{RefusesWriting}
 use Rattle.resb_pool.specs.Fault as fault
 use Rattle.resb_pool.specs.FaultOf.{fault_of}
 use Rattle.resb_pool.specs.declared.error.BinarySerializerError.{BinarySerializerError}
@@ -36,7 +36,7 @@ pub record IsCompiled (text bytes : List ℕ) : Type 0 where
 -- a bundle whose tree the writer refuses for this reason, which is no undiscovered key
 pub record IsUnwritable (text : List ℕ) (e : BinarySerializerError) : Type 0 where
   pub bundle : IsBundle text
-  pub refused : Refused bundle.tree bundle.keys (fault_of e)
+  pub refused : RefusesWriting bundle.tree bundle.keys (fault_of e)
   pub listed : fault_of e ≢ fault.unexpected (codes "key not present in position map")
 
 -- memory was wanted, or the text is no bundle, and a reading gets stuck at the error's place

@@ -21,15 +21,15 @@ use Rattle.resb_format.specs.File.{budget}
 use Rattle.resb_format.specs.declared.error.ReadingError.{ReadingError}
 use Rattle.resb_read.specs.Reading.{LacksOrMemory}
 use Rattle.resb_read.specs.Resources.{ReadsTree, CountsTree}
-use Rattle.resb_read.specs.Roots.{AtRoot}
+use Rattle.resb_read.specs.Roots.{HoldsAtRoot}
 use Rattle.resb_layout.specs.Written.{Written}
 use Rattle.resb.specs.Compiling.{IsCompiled}
 
 -- what reading a file as a tree promises: a tree at the root, paid for, or memory, or no such tree
 abbrev pub ReadsRoot : List ℕ → Result Resource ReadingError → Type 0
-ReadsRoot bytes (Ok r) = (n : ℕ) × AtRoot (λ p. ReadsTree p r n) bytes × (n ≤ budget bytes)
+ReadsRoot bytes (Ok r) = (n : ℕ) × HoldsAtRoot (λ p. ReadsTree p r n) bytes × (n ≤ budget bytes)
 ReadsRoot bytes (Err e) =
-    LacksOrMemory (λ n. AtRoot (λ p. CountsTree p n) bytes) (budget bytes) e
+    LacksOrMemory (λ n. HoldsAtRoot (λ p. CountsTree p n) bytes) (budget bytes) e
 
 -- the answer is this tree, or memory was wanted
 abbrev pub IsTree : Tree → Result Resource ReadingError → Type 0

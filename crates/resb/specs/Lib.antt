@@ -57,7 +57,7 @@ pub use Rattle.resb_shared.specs.Links
 pub use Rattle.resb_shared.specs.Wide
 pub use Rattle.resb_shared.specs.Laws as SharedLaws
 pub use Rattle.resb_walk.specs.Files
-pub use Rattle.resb_walk.specs.Damage
+pub use Rattle.resb_walk.specs.BlockRefusals
 pub use Rattle.resb_walk.specs.Meets
 pub use Rattle.resb_walk.specs.Refusals
 pub use Rattle.resb_walk.specs.Borrows

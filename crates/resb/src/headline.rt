@@ -9,7 +9,7 @@ ghost use Rattle.resb_text.specs.Answer.{Fails, IsNoBundle};
 ghost use Rattle.resb_text.specs.Refusal.{want_of_memory};
 ghost use Rattle.resb_format.specs.Error.{IsWantOfMemory};
 ghost use Rattle.resb_pool.specs.FaultOf.{fault_of};
-ghost use Rattle.resb_layout.specs.Faults.{Refused};
+ghost use Rattle.resb_layout.specs.Faults.{RefusesWriting};
 ghost use Rattle.resb_layout.specs.Written.{Written};
 ghost use Rattle.resb.specs.Headline.{DenotesWithin, DenotesNone, OneTreeOfAFile};
 
@@ -68,7 +68,8 @@ pub fn write_bundle(
 ) -> Result<Vec<u8>, BinarySerializerError>
     ensures ok { IfOk result (λ file. Written file.items (root_of bundle.now)
         bundle.now.is_locale_fallback_enabled keys.now) }
-    ensures refused { IfErr result (λ e. Refused (root_of bundle.now) keys.now (fault_of e)) }
+    ensures refused {
+        IfErr result (λ e. RefusesWriting (root_of bundle.now) keys.now (fault_of e)) }
 {
     Serializer::to_bytes(alloc, bundle, keys)
 }

@@ -1,7 +1,7 @@
 -- What reading a file answers that may use the keys of a pool bundle.
 use Rattle.std.specs.Prelude.{◌≡◌, ℕ, List, true, Result, Ok, Err}
 use Rattle.resb_tree.specs.declared.resource.Resource.{Resource}
-use Rattle.resb_read.specs.Roots.{TreeOf, CountOf}
+use Rattle.resb_read.specs.Roots.{AnswersTree, AnswersCount}
 use Rattle.resb_read.specs.Measuring.{TreeWithin}
 use Rattle.resb_bundler.specs.Summary.{Summarizes}
 use Rattle.resb_bundler.specs.declared.summary.Summary.{Summary}
@@ -14,15 +14,15 @@ HasNoKeys bytes = (s : Summary) × Summarizes bytes s × (s.uses_pool ≡ true)
 
 -- the number of resources, the reader's refusal, or that the file has no keys
 abbrev pub CountsOwn : List ℕ → Result ℕ FileError → Type 0
-CountsOwn bytes (Ok n) = CountOf bytes (Ok n)
+CountsOwn bytes (Ok n) = AnswersCount bytes (Ok n)
 CountsOwn bytes (Err UsesPool) = HasNoKeys bytes
-CountsOwn bytes (Err (Reading e)) = CountOf bytes (Err e)
+CountsOwn bytes (Err (Reading e)) = AnswersCount bytes (Err e)
 
 -- the tree, the reader's refusal, or that the file has no keys
 abbrev pub ReadsOwn : List ℕ → Result Resource FileError → Type 0
-ReadsOwn bytes (Ok r) = TreeOf bytes (Ok r)
+ReadsOwn bytes (Ok r) = AnswersTree bytes (Ok r)
 ReadsOwn bytes (Err UsesPool) = HasNoKeys bytes
-ReadsOwn bytes (Err (Reading e)) = TreeOf bytes (Err e)
+ReadsOwn bytes (Err (Reading e)) = AnswersTree bytes (Err e)
 
 -- the same of a tree that may take no more bytes than a limit
 abbrev pub ReadsOwnWithin : List ℕ → ℕ → Result Resource FileError → Type 0

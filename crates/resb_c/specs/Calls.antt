@@ -8,7 +8,7 @@ use Rattle.std.specs.Prelude.{Result, Ok, Err, Option, Some, None, IsUtf8, repli
 use Rattle.std.specs.Str.Lossy.{utf8_valid_len}
 use Rattle.resb_grammar.specs.Limit.{MadeWithin, MakesMore}
 use Rattle.resb.specs.Compiling.{IsCompiled, IsRefused}
-use Rattle.resb_read.specs.Roots.{CountOf}
+use Rattle.resb_read.specs.Roots.{AnswersCount}
 use Rattle.resb_bundler.specs.Files.{HasNoKeys}
 use Rattle.resb_bundler.specs.Summary.{HasNoSummary}
 use Rattle.resb_c.specs.Faults.{number_of, place_of, message_of}
@@ -55,9 +55,9 @@ HasNoOwnSummary file _ = ⊥
 
 -- the number of resources of the file's tree, the reader's refusal, or that the file has no keys
 abbrev pub CountsFile : List ℕ → Result ℕ Fault → Type 0
-CountsFile file (Ok n) = CountOf file (Ok n)
+CountsFile file (Ok n) = AnswersCount file (Ok n)
 CountsFile file (Err UsesPool) = HasNoKeys file
-CountsFile file (Err (Reading e)) = CountOf file (Err e)
+CountsFile file (Err (Reading e)) = AnswersCount file (Err e)
 CountsFile file (Err _) = ⊥
 
 -- the length that a fault has for the caller: that of the answer which the buffer is too short for

@@ -11,7 +11,7 @@ use Rattle.resb_print.specs.Laws.{HasNoText}
 use Rattle.resb_print.specs.declared.error.PrintError.{PrintError}
 use Rattle.resb_print.specs.declared.error.PrintError.TheVariants.{OutOfMemory}
 use Rattle.resb_read.specs.Measuring.{TreeWithin, TakesMore}
-use Rattle.resb_read.specs.Roots.{TreeOf}
+use Rattle.resb_read.specs.Roots.{AnswersTree}
 use Rattle.resb_bundler.specs.Files.{HasNoKeys}
 use Rattle.resb_bundler.specs.Summary.{Summarizes, HasNoSummary}
 use Rattle.resb_bundler.specs.declared.summary.Summary.{Summary}
@@ -36,7 +36,7 @@ pub record IsBundleOf (file name : List ℕ) (limit : ℕ) (b : ResourceBundle) 
 -- more bytes than the limit
 abbrev pub HasNoBundle : List ℕ → ℕ → Fault → Type 0
 HasNoBundle file limit UsesPool = HasNoKeys file
-HasNoBundle file limit (Reading e) = HasNoSummary file e ⊎ TreeOf file (Err e)
+HasNoBundle file limit (Reading e) = HasNoSummary file e ⊎ AnswersTree file (Err e)
 HasNoBundle file limit Larger = TakesMore file limit
 HasNoBundle file limit _ = ⊥
 

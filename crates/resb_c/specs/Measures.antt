@@ -5,7 +5,7 @@ use Rattle.std.specs.Prelude.{◌≡◌, ◌⊎◌, ◌-◌, ◌^◌, ℕ, List,
 use Rattle.resb_walk.specs.Pieces.{Piece}
 use Rattle.resb_walk.specs.Sums.{fitting}
 use Rattle.resb_walk.specs.TreeBytes.{tree_bytes}
-use Rattle.resb_read.specs.Measuring.{IsMeasured, MeasureOf}
+use Rattle.resb_read.specs.Measuring.{IsMeasured, AnswersMeasure}
 use Rattle.resb_read.specs.declared.measuring.Measured.{Measured}
 use Rattle.resb_bundler.specs.Files.{HasNoKeys}
 use Rattle.resb_bundler.specs.Summary.{HasNoSummary}
@@ -15,9 +15,9 @@ use Rattle.resb_c.specs.declared.measured.ResbMeasured.{ResbMeasured}
 
 -- what the file's tree adds up to, the reader's refusal, or that the file has no keys
 abbrev pub MeasuresFile : List ℕ → Result Measured Fault → Type 0
-MeasuresFile file (Ok m) = MeasureOf file (Ok m)
+MeasuresFile file (Ok m) = AnswersMeasure file (Ok m)
 MeasuresFile file (Err UsesPool) = HasNoKeys file
-MeasuresFile file (Err (Reading e)) = HasNoSummary file e ⊎ MeasureOf file (Err e)
+MeasuresFile file (Err (Reading e)) = HasNoSummary file e ⊎ AnswersMeasure file (Err e)
 MeasuresFile file (Err _) = ⊥
 
 -- a sum, or the greatest number of 64 bits where it doesn't fit

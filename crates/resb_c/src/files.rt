@@ -2,7 +2,7 @@
 //! What the caller is told beside that is in `report`.
 ghost use Rattle.std.specs.Prelude.{◌≡◌, ℕ, false, Ok, Err, IfOk, IfErr, IsUtf8};
 ghost use Rattle.resb_format.specs.declared.error.ReadingError.{ReadingError};
-ghost use Rattle.resb_read.specs.Measuring.{MeasureOf};
+ghost use Rattle.resb_read.specs.Measuring.{AnswersMeasure};
 ghost use Rattle.resb_bundler.specs.Summary.{Summarizes};
 ghost use Rattle.resb_c.specs.Calls.{CompilesInto, CompilesWithin, CountsFile, Fills};
 ghost use Rattle.resb_c.specs.Calls.{HasNoOwnSummary, IsNotUtf8};
@@ -102,9 +102,9 @@ pub(crate) fn count_file(alloc: Global, file: &[u8]) -> Result<usize, Fault>
 
 /// What the tree of a file adds up to that has keys of its own.
 fn measure_own(alloc: Global, file: &[u8]) -> Result<Measured, Fault>
-    ensures ok { IfOk result (λ m. MeasureOf file.now (Ok m)) }
+    ensures ok { IfOk result (λ m. AnswersMeasure file.now (Ok m)) }
     ensures err { IfErr result (λ e. (d : ReadingError) × (e ≡ Fault.Reading d)
-        × MeasureOf file.now (Err d)) }
+        × AnswersMeasure file.now (Err d)) }
 {
     match measure(alloc, file) {
         Ok(measured) => Ok(measured),

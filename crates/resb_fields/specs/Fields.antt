@@ -13,9 +13,9 @@ use Rattle.std.specs.Prelude.{◌≡◌, ◌+◌, ◌⊎◌, ℕ, List, [], ◌�
 use Rattle.resb_format.specs.Error.{Refusal}
 use Rattle.resb_format.specs.declared.error.ErrorKind.TheVariants.{Unknown}
 use Rattle.resb_format.specs.declared.error.ReadingError.{ReadingError}
-use Rattle.resb_walk.specs.Damage.{Says}
+use Rattle.resb_walk.specs.BlockRefusals.{Says}
 use Rattle.resb_read.specs.Places.{Place}
-use Rattle.resb_read.specs.Sequences.{entries}
+use Rattle.resb_read.specs.Sequences.{entries_at}
 use Rattle.resb_read.specs.Refusing.{RefusesThere}
 use Rattle.resb_read.specs.Tables.{last_named, RefusesTable}
 
@@ -94,7 +94,7 @@ pub record ReadsRecord {F R : Type 0} (reads : List (List ℕ) → List Entry �
   pub places : List Entry
   pub fields : F
   pub total : ℕ
-  pub are : entries p ≡ Some places
+  pub are : entries_at p ≡ Some places
   pub each : reads names places fields total
   pub is : r ≡ made fields
   pub count : n ≡ 1 + length places + total
@@ -104,7 +104,7 @@ pub record CountsRecord (counts : List (List ℕ) → List Entry → ℕ → Typ
     (names : List (List ℕ)) (p : Place) (n : ℕ) : Type 0 where
   pub places : List Entry
   pub total : ℕ
-  pub are : entries p ≡ Some places
+  pub are : entries_at p ≡ Some places
   pub each : counts names places total
   pub count : n ≡ 1 + length places + total
 
@@ -114,7 +114,7 @@ pub record RefusesField
     (names : List (List ℕ)) (p : Place) (left left' : ℕ) (e : ReadingError) : Type 0 where
   pub places : List Entry
   pub inside : ℕ
-  pub are : entries p ≡ Some places
+  pub are : entries_at p ≡ Some places
   pub paid : inside + 1 + length places ≡ left
   pub refused : refuses names places inside left' e
 

@@ -30,6 +30,7 @@ type_back-number kind.Array = refl
 type_back-number kind.Array16 = refl
 type_back-number kind.IntVector = refl
 
+-- types of one number are one type
 pub type_apart : (t u : ResourceReprType) → type_number t ≡ type_number u → t ≡ u
 type_apart t u e = sym (type_back-number t) ∙ ap type_back e ∙ type_back-number u
 

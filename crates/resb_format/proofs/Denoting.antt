@@ -1,5 +1,6 @@
 -- A word has at most one tree and count, and reaches no more resources than its tree has.
-use Rattle.std.proofs.Common.{ℕ, List, ◌∷◌, Option, Some, ◌≡◌, ◌≤◌, ◌<◌, ◌+◌, ◌-◌, ◌⊎◌, inl, inr}
+use Rattle.std.proofs.Common.{ℕ, List, ◌∷◌, Option, Some, None, ◌≡◌, ◌≤◌, ◌<◌, ◌+◌, ◌-◌, ◌⊎◌, inl}
+use Rattle.std.proofs.Common.{inr}
 use Rattle.std.proofs.Common.{refl, ap, subst, arith}
 use Rattle.std.proofs.lemmas.Bool.{cases_lt}
 use Rattle.resb_tree.specs.Tree.{Tree, string, array, table, trees_of, map_of}
@@ -12,34 +13,46 @@ use Rattle.resb_format.specs.Denotes.{pairs_more, Reaches, reaches_one, reaches_
 use Rattle.resb_format.specs.Denotes.{ReachesMember, reaches_word, reaches_unit, ReachesEach}
 use Rattle.resb_format.specs.Denotes.{each_here, each_later, ReachesPairs, pairs_here, pairs_later}
 
-same_some : {A : Type 0} {o : Option A} {x y : A} → o ≡ Some x → o ≡ Some y → x ≡ y
+-- what is there is one thing
+pub same_some : {A : Type 0} {o : Option A} {x y : A} → o ≡ Some x → o ≡ Some y → x ≡ y
 same_some e f = cc
 
-same_leaf : {o : Option Content} {t u : Tree} → o ≡ Some (leaf t) → o ≡ Some (leaf u) → t ≡ u
+-- nothing is not something
+pub some_none : {A : Type 0} {o : Option A} {x : A} → o ≡ None → o ≡ Some x → ⊥
+some_none e f = cc
+
+-- a content is one leaf at most
+pub same_leaf : {o : Option Content} {t u : Tree} → o ≡ Some (leaf t) → o ≡ Some (leaf u) → t ≡ u
 same_leaf e f = cc
 
+-- a content is one list at most
 pub same_list : {o : Option Content} {ms ns : List Member} → o ≡ Some (list ms) → o ≡ Some (list ns)
     → ms ≡ ns
 same_list e f = cc
 
+-- a content is the pairs of one table at most
 pub same_pairs : {o : Option Content} {es fs : List (ℕ × Member)} → o ≡ Some (pairs es)
     → o ≡ Some (pairs fs) → es ≡ fs
 same_pairs e f = cc
 
+-- a content is never both a leaf and a list
 pub leaf_list : {o : Option Content} {t : Tree} {ms : List Member} → o ≡ Some (leaf t)
     → o ≡ Some (list ms) → ⊥
 leaf_list e f = cc
 
+-- a content is never both a leaf and the pairs of a table
 pub leaf_pairs : {o : Option Content} {t : Tree} {es : List (ℕ × Member)} → o ≡ Some (leaf t)
     → o ≡ Some (pairs es) → ⊥
 leaf_pairs e f = cc
 
+-- a content is never both a list and the pairs of a table
 pub list_pairs : {o : Option Content} {ms : List Member} {es : List (ℕ × Member)}
     → o ≡ Some (list ms) → o ≡ Some (pairs es) → ⊥
 list_pairs e f = cc
 
 module _ (p : Parts) where
   mutual
+    -- a word denotes one tree at most, with one count
     pub unique : {w m n : ℕ} {t s : Tree} → Den p w t m → Den p w s n → (t ≡ s) × (m ≡ n)
     unique (den_leaf e) (den_leaf f) = (same_leaf e f, refl)
     unique (den_leaf e) (den_list f g) = absurd (leaf_list e f)
@@ -55,6 +68,7 @@ module _ (p : Parts) where
         let h = unique_pairs d (subst (λ es. DenPairs p es ts' n') (same_pairs f e) g) in
         (ap (λ ts. table (map_of ts)) h.0, ap (λ k. 1 + k) h.1)
 
+    -- a member denotes one tree at most, with one count
     pub unique_member : {x : Member} {m n : ℕ} {t s : Tree} → DenMember p x t m → DenMember p x s n
         → (t ≡ s) × (m ≡ n)
     unique_member (den_word d) (den_word e) = unique d e
@@ -78,6 +92,7 @@ module _ (p : Parts) where
         (λ i. (key i, h.0 i) ∷ rest.0 i, λ i. h.1 i + rest.1 i)
 
   mutual
+    -- what is reached from a word is at most the count of the tree there
     pub counted : {w m n : ℕ} {t : Tree} → Den p w t n → Reaches p w m → m ≤ n
     counted (den_leaf e) reaches_one = omega arith
     counted (den_leaf e) (reaches_list f r) = absurd (leaf_list e f)
@@ -92,6 +107,7 @@ module _ (p : Parts) where
         let h = counted_pairs d (subst (λ es. ReachesPairs p es n') (same_pairs f e) r) in
         omega arith
 
+    -- what is reached from a member is at most the count of the tree there
     pub counted_member : {x : Member} {m n : ℕ} {t : Tree} → DenMember p x t n → ReachesMember p x m
         → m ≤ n
     counted_member (den_word d) (reaches_word r) = counted d r

@@ -11,6 +11,7 @@ use Rattle.resb_format.proofs.Spelled.{units_length, units_part, words_length, w
 pub part_past : (xs : List ℕ) (i n : ℕ) → length xs < i + n → part xs i n ≡ None
 part_past xs i n h = grind (arith, nat_tests)
 
+-- a part that lies inside is cut out
 pub part_in : (xs : List ℕ) (i n : ℕ) → i + n ≤ length xs → part xs i n ≡ Some (take n (drop i xs))
 part_in xs i n h = grind (arith, nat_tests)
 

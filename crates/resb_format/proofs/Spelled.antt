@@ -3,6 +3,7 @@ use Rattle.std.proofs.Common.{ℕ, zero, suc, List, [], ◌∷◌, ◌≡◌, �
 use Rattle.std.proofs.Common.{get_or, take, drop, refl, ap, ◌∙◌, arith}
 use Rattle.resb_format.specs.Bytes.{units_of, words_of}
 
+-- bytes have half as many units
 pub units_length : (bs : List ℕ) → length (units_of bs) ≡ length bs / 2
 unfolding units_of
 units_length [] = omega arith
@@ -21,6 +22,7 @@ units_at (a ∷ b ∷ bs) (suc i) h =
     let k : i < length bs / 2 = omega arith in
     rw (f, e) (units_at bs i k)
 
+-- bytes have a fourth as many words
 pub words_length : (bs : List ℕ) → length (words_of bs) ≡ length bs / 4
 unfolding words_of
 words_length [] = omega arith

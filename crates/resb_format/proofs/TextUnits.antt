@@ -10,6 +10,7 @@ use Rattle.std.proofs.lemmas.Str.{length-encode, len_utf8_bounds, encodes-chars,
 use Rattle.std.proofs.lemmas.Bool.Decides.{nat_tests}
 use Rattle.resb_format.specs.Units.{units}
 
+-- only the empty text has no byte
 pub no_chars : (cs : List ℕ) → length (encode_utf8_all cs) ≡ 0 → cs ≡ []
 no_chars [] e = refl
 no_chars (c ∷ cs) e =
@@ -21,6 +22,7 @@ pub unit_count : (c n : ℕ) → (c < 0x10000 → n ≡ 1) → (0x10000 ≤ c �
     → length (encode_utf16 c) ≡ n
 unit_count c n h k = grind (arith, nat_tests)
 
+-- a character of 16 bits is one unit
 pub low_char : (c : ℕ) → c < 0x1_0000 → encode_utf16 c ≡ c ∷ []
 low_char c h = grind (arith, nat_tests)
 
@@ -50,5 +52,6 @@ bytes_ascii [] h = refl
 bytes_ascii (b ∷ bs) h = ap (λ l. l ++ flat_map encode_utf16 bs) (low_char b (omega (arith, h 0)))
     ∙ ap (λ l. b ∷ l) (bytes_ascii bs (λ i. h (suc i)))
 
+-- the units of ASCII are its bytes
 pub units_ascii : (t : List ℕ) → IsAscii t → units t ≡ t
 units_ascii t h = ap (flat_map encode_utf16) (chars-IsAscii t h) ∙ bytes_ascii t h

@@ -26,6 +26,7 @@ words_back (w ∷ ws) h =
 pub two_bytes : (n : ℕ) → n < 65536 → n % 256 + 256 * (n / 256 % 256) ≡ n
 two_bytes n h = omega arith
 
+-- words are written as four bytes each
 pub written_length : (ws : List ℕ) → length (flat_map (to_le_bytes w32) ws) ≡ 4 * length ws
 written_length [] = omega arith
 written_length (w ∷ ws) = let h = written_length ws in omega (arith, h)

@@ -7,9 +7,11 @@ use Rattle.std.proofs.lemmas.Bool.{cases_lt, false≢true}
 use Rattle.std.proofs.lemmas.Bool.Decides.{nat_tests}
 use Rattle.resb_grammar.specs.ByteRuns.{is_word, Each, Run}
 
+-- a byte of a word is ASCII
 pub word_ascii : (b : ℕ) → is_word b ≡ true → b < 128
 word_ascii b h = grind (arith, nat_tests)
 
+-- a byte of a word is not 0
 pub word_some : (b : ℕ) → is_word b ≡ true → 0 < b
 word_some b h = grind (arith, nat_tests)
 

@@ -60,6 +60,7 @@ opens_next title table_body xs around h =
 opens_next title array_body xs around h = refl
 opens_next title untyped_body xs around h = refl
 
+-- where a group may open, its type may stand first
 pub type_next : (title : Title) (body : Body) (xs : List Item) (around : List Frame) (kind : Kind)
     → MayOpen body xs
     → next (inside (open_at title body xs around)) (a_type kind) ≡ Some

@@ -18,6 +18,7 @@ use Rattle.resb_grammar.proofs.Unique.{Text-one, ends_once}
 use Rattle.resb_grammar.proofs.Complete.{complete}
 
 module _ (text : List ℕ) where
+  -- behind the end of the root no token may stand
   pub no_token_finished : (at : ℕ) (title : Title) (xs : List Item)
       → NoToken text at (finished title xs)
   no_token_finished at title xs to u x = none_some u x.moves

@@ -15,6 +15,7 @@ pairs_half (group_term t ks) (string_term s) true g xs h = absurd (false≢true 
 pairs_half (group_term t ks) (group_term u js) f g xs h = absurd (false≢true h)
 pairs_half (string_term s) k f g xs h = absurd (false≢true h)
 
+-- whole pairs may be followed by a key
 pub half-pairs : (xs : List Item) → is_pairs xs ≡ true → is_half xs ≡ true
 half-pairs [] h = refl
 half-pairs (x ∷ []) h = absurd (false≢true h)
@@ -38,6 +39,7 @@ pub pairs-half : (xs : List Item) → is_half xs ≡ true → is_key_place xs �
 pairs-half [] h k = refl
 pairs-half (x ∷ xs) h k = key_place_half x.term x.comma xs h k
 
+-- behind whole pairs is the place of a key
 pub key_place-pairs : (xs : List Item) → is_pairs xs ≡ true → is_key_place xs ≡ true
 key_place-pairs [] h = refl
 key_place-pairs (x ∷ []) h = absurd (false≢true h)
@@ -67,6 +69,7 @@ half_key (string_term s) false xs h k = h
 half_key (string_term s) true xs h k = absurd (false≢true h)
 half_key (group_term t ks) f xs h k = absurd (false≢true (sym k))
 
+-- items that end after a key, without its value, have a key first
 pub group-half : (xs : List Item) → is_half xs ≡ true → is_key_place xs ≡ false
     → key_first xs ≡ true
 group-half [] h k = absurd (false≢true (sym k))

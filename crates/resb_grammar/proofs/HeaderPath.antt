@@ -12,6 +12,7 @@ use Rattle.resb_grammar.proofs.Lex.{root_type_class}
 use Rattle.resb_grammar.proofs.Moves.{begin, further, byte_class, class_text, root_colon}
 
 module _ (text : List ℕ) where
+  -- a text begins with the name of its bundle
   pub name_read : (at ends to : ℕ) (name : List ℕ) → Skip text 0 at → Text text at ends name
       → Skip text ends to → At text to (named name)
   name_read at ends to name skip t skip' =

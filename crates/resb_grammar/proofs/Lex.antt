@@ -37,6 +37,7 @@ pub data Class : Type 0 where
   root_type_class : Class
   no_class : Class
 
+-- to which class of tokens the byte belongs with which one begins
 abbrev pub class_of : ℕ → Class
 class_of b =
     if b == ascii.quote || is_word b then text_class

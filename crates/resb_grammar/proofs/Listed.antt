@@ -276,6 +276,7 @@ contains k [] h = absurd h
 contains k (j ∷ js) (inl e) = (zero, omega arith, sym e)
 contains k (j ∷ js) (inr h) = let rest = contains k js h in (suc rest.0, omega arith, rest.2)
 
+-- each key of a bundle text is among those that its reader hands on
 pub listed : (text name : List ℕ) (fallback : Bool) (t : Tree) (ks : List (List ℕ))
     → BundleText text name fallback t ks → (k : List ℕ) → is_key k t ≡ true → Contains ks k
 listed text name fallback t ks b k e = subst (λ js. Contains js k) (sym b.lists)

@@ -120,6 +120,7 @@ bundle_made text name fallback tree keys b =
       },
     )
 
+-- a text that makes no more than the limit does not make more
 pub never_more : (text : List ℕ) (limit : ℕ) → MadeWithin text limit → MakesMore text limit → ⊥
 never_more text limit w x =
     let less = shorter text x.made.tokens w.made.tokens x.at (length text) x.ends x.state _ x.after

@@ -21,6 +21,7 @@ use Rattle.resb_grammar.specs.Limit.{made_by, leaf_bytes, begun_bytes, Makes, Ma
 pub reading_of : (text : List ℕ) (n at : ℕ) (s : State) → Makes text n at s → At text at s
 reading_of text n at s m = record { tokens = m.tokens; path = m.path }
 
+-- what takes nothing adds nothing
 pub free : (n : ℕ) → n ≡ n + 0
 free n = omega arith
 
@@ -124,6 +125,7 @@ module _ (text : List ℕ) where
   head_made n from to kind o h may made =
       makes_on n n from h.ends h.brace _ _ (a_type kind) made (free n) h.named may h.between
 
+  -- a group with a type is begun, and what it takes is counted
   pub begun_made : (n m from to : ℕ) (kind : Kind) (o : Open) → (h : Head text from kind to)
       → next (inside o) (a_type kind) ≡ Some (typed kind o) → Makes text n from (inside o)
       → m ≡ n + begun_bytes kind → Makes text m to (begun_as kind o)
@@ -170,6 +172,7 @@ module _ (text : List ℕ) where
       makes_on 0 72 h.brace (h.brace + 1) to _ _ opening b.made (omega (arith, adds))
       (h.opens, refl) b.moves h.after
 
+  -- a limit below the root's own 72 bytes is passed at once
   pub root_over : (name : List ℕ) (fallback : Bool) (to limit : ℕ) → Header text name fallback to
       → limit < 72 → MakesMore text limit
   root_over name fallback to limit h less =

@@ -29,6 +29,7 @@ class_comma neither b h = grind (arith, nat_tests)
 class_comma numbers b h = grind (arith, nat_tests)
 class_comma root_types b h = grind (arith, nat_tests)
 
+-- a type of the root begins with a colon
 pub root_colon : (text : List ℕ) (from to : ℕ) (fallback : Bool) → RootType text from to fallback
     → slice_index text from ≡ ascii.colon
 root_colon text from to true (table_type w never) = w.colon
@@ -74,6 +75,7 @@ pub no_text_colon : (text : List ℕ) (from to : ℕ) (s : List ℕ) → Text te
 no_text_colon text from to s t e =
     colon_class (slice_index text from) (class_text text from to s t) e
 
+-- nothing is no state
 pub none_some : {A : Type 0} (s : State) → None ≡ Some s → A
 none_some s e = absurd cc
 
@@ -103,6 +105,7 @@ module _ (text : List ℕ) where
       → Means text from to x.token
   move_means from to s u x = x.means
 
+  -- a path begins behind what is skipped first
   pub begin : (at : ℕ) → Skip text 0 at → At text at start
   begin at skip = record { tokens = 0; path = begun at skip }
 

@@ -84,6 +84,7 @@ Blanks-one text i a b (comment _ k _ c r) (comment _ k' _ c' r') s t =
     let e : k' ≡ k = Comment-one text i k' k c' c in
     Blanks-one text k a b r (subst (λ n. Blanks text n b) e r') s t
 
+-- what is skipped from a place has one end
 pub Skip-one : (text : List ℕ) (i a b : ℕ) → Skip text i a → Skip text i b → a ≡ b
 Skip-one text i a b p q = Blanks-one text i a b p.blanks q.blanks p.solid q.solid
 
@@ -93,6 +94,7 @@ no_quote_word text from to h r some =
     let k : is_word (slice_index text from) ≡ true = r.each from (omega arith) some in
     grind (arith, nat_tests)
 
+-- at a place stands one string at most, with one end
 pub Text-one : (text : List ℕ) (from a b : ℕ) (s t : List ℕ) → Text text from a s
     → Text text from b t → (a ≡ b) × (s ≡ t)
 Text-one text from a b s t (quoted last h q e is) (quoted last' h' q' e' is') =
@@ -171,12 +173,14 @@ names_it w vector_kind h = ap named_kind h
 pub Names-one : (w : List ℕ) (k l : Kind) → Names w k → Names w l → k ≡ l
 Names-one w k l p q = let e : Some k ≡ Some l = sym (names_it w k p) ∙ names_it w l q in cc
 
+-- at a place stands one type of a group at most, with one end
 pub GroupType-one : (text : List ℕ) (from a b : ℕ) (k l : Kind) → GroupType text from a k
     → GroupType text from b l → (a ≡ b) × (k ≡ l)
 GroupType-one text from a b k l p q =
     let both = TypeName-one text from a b p.name q.name p.stands q.stands in
     (both.0, Names-one p.name k l p.names (subst (λ (w : List ℕ). Names w l) (sym both.1) q.names))
 
+-- at a place stands one type of the root at most, with one end
 pub RootType-one : (text : List ℕ) (from a b : ℕ) (f g : Bool) → RootType text from a f
     → RootType text from b g → (a ≡ b) × (f ≡ g)
 RootType-one text from a b true true (table_type p never) (table_type q never') =

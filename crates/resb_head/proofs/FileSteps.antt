@@ -14,7 +14,7 @@ use Rattle.resb_head.specs.Laws.{IsHeader, BundleFilePasses}
 use Rattle.resb_head.specs.HeadChecks.{first_fault, header_checks, header_fault, index_checks}
 use Rattle.resb_head.specs.HeadChecks.{index_fault, support_checks, block_checks, body_checks}
 use Rattle.resb_head.specs.HeadChecks.{file_checks, file_fault}
-use Rattle.resb_head.proofs.HeadSteps.{le_true, le_false}
+use Rattle.resb_head.proofs.HeadSteps.{le_true, not_at_most}
 use Rattle.resb_head.proofs.HeaderSteps.{none_before, some_before}
 use Rattle.resb_head.proofs.IndexSteps.{index_holds}
 use Rattle.resb_head.proofs.SupportSteps.{support_holds}
@@ -48,7 +48,7 @@ pub keys_past : (body : List ℕ) (e : ReadingError) → length body < 4 * get_o
     → first_fault (block_checks body) ≡ Some (refusal_of e)
 unfolding block_checks
 keys_past body e h r =
-    rw (le_false (4 * get_or (words_of body) 2 0) (length body) h, r.kind_is, r.message_is) refl
+    rw (not_at_most (4 * get_or (words_of body) 2 0) (length body) h, r.kind_is, r.message_is) refl
 
 pub end_missing : (body : List ℕ) (e : ReadingError) → 4 * get_or (words_of body) 2 0 ≤ length body
     → get_or (words_of body) 1 0 < 7
@@ -58,13 +58,13 @@ unfolding block_checks
 end_missing body e h k r =
     rw (
       le_true (4 * get_or (words_of body) 2 0) (length body) h,
-      le_false 7 (get_or (words_of body) 1 0) k,
+      not_at_most 7 (get_or (words_of body) 1 0) k,
       r.kind_is,
       r.message_is,
     ) refl
 
 both_false : (a b c d : ℕ) → (b < a) ⊎ (d < c) → (nat_le a b && nat_le c d) ≡ false
-both_false a b c d (inl h) = rw (le_false a b h) refl
+both_false a b c d (inl h) = rw (not_at_most a b h) refl
 both_false a b c d (inr h) = grind (arith, nat_tests)
 
 both_true : (a b c d : ℕ) → a ≤ b → c ≤ d → (nat_le a b && nat_le c d) ≡ true
@@ -115,7 +115,7 @@ pub root_missing : (body : List ℕ) (e : ReadingError) → length body < 4
     → IsInvalid e (codes "unexpected end of input")
     → first_fault (body_checks body) ≡ Some (refusal_of e)
 unfolding body_checks
-root_missing body e h r = rw (le_false 4 (length body) h, r.kind_is, r.message_is) refl
+root_missing body e h r = rw (not_at_most 4 (length body) h, r.kind_is, r.message_is) refl
 
 pub index_answers : (body : List ℕ) (g : Refusal) → 4 ≤ length body
     → index_fault (drop 4 body) ≡ Some g → first_fault (body_checks body) ≡ Some g
@@ -292,5 +292,6 @@ is_passes bytes f =
       block_inside = f.block_inside;
     })
 
+-- a bundle file passes each check of the head
 pub bundle_file_passes : BundleFilePasses
 bundle_file_passes bytes = (passes_is bytes, is_passes bytes)

@@ -23,11 +23,11 @@ use Rattle.resb_head.specs.declared.version.FormatVersion.TheVariants.{V2_0, V3_
 pub le_true : (a b : ℕ) → a ≤ b → nat_le a b ≡ true
 le_true a b h = grind (arith, nat_tests)
 
-pub le_false : (a b : ℕ) → b < a → nat_le a b ≡ false
-le_false a b h = grind (arith, nat_tests)
+pub not_at_most : (a b : ℕ) → b < a → nat_le a b ≡ false
+not_at_most a b h = grind (arith, nat_tests)
 
-pub same_true : (a b : List ℕ) → a ≡ b → bytes_eq a b ≡ true
-same_true a b e = (bytes_eq-Decides a b).1 e
+pub equal_texts : (a b : List ℕ) → a ≡ b → bytes_eq a b ≡ true
+equal_texts a b e = (bytes_eq-Decides a b).1 e
 
 pub same_false : (a b : List ℕ) → a ≢ b → bytes_eq a b ≡ false
 same_false a b h =
@@ -105,7 +105,7 @@ pub endianness_fails : (any : Bool) (bs : List ℕ) (e : ReadingError)
     → first_fault (info_checks any bs) ≡ Some (refusal_of e)
 unfolding info_checks
 endianness_fails any bs e h r =
-    rw (le_false (get_or bs 4 0) 1 (no_order (get_or bs 4 0) h), r.kind_is, r.message_is) refl
+    rw (not_at_most (get_or bs 4 0) 1 (no_order (get_or bs 4 0) h), r.kind_is, r.message_is) refl
 
 pub order_fails : (any : Bool) (bs : List ℕ) (e : ReadingError) → get_or bs 4 0 ≡ 1 → any ≡ false
     → IsRefusal e UnsupportedFormat (codes "bundle endianness does not match platform endianness")
@@ -121,7 +121,7 @@ pub charset_fails : (any : Bool) (bs : List ℕ) (e : ReadingError) → Order an
 unfolding info_checks
 charset_fails any bs e o h r =
     let over = no_family (get_or bs 5 0) h in
-    rw (o.known, o.own, le_false (get_or bs 5 0) 1 over, r.kind_is, r.message_is) refl
+    rw (o.known, o.own, not_at_most (get_or bs 5 0) 1 over, r.kind_is, r.message_is) refl
 
 pub format_fails : (any : Bool) (bs : List ℕ) (e : ReadingError) → Families any bs
     → bytes_eq (slice_range bs 8 12) (codes "ResB") ≡ false

@@ -5,19 +5,19 @@ use Rattle.resb_format.specs.Bytes.{words_of}
 use Rattle.resb_format.specs.Error.{IsInvalid, refusal_of}
 use Rattle.resb_format.specs.declared.error.ReadingError.{ReadingError}
 use Rattle.resb_head.specs.HeadChecks.{index_fault, index_checks}
-use Rattle.resb_head.proofs.HeadSteps.{le_true, le_false}
+use Rattle.resb_head.proofs.HeadSteps.{le_true, not_at_most}
 
 pub no_count : (bs : List ℕ) (e : ReadingError) → length bs < 4
     → IsInvalid e (codes "unexpected end of input") → index_fault bs ≡ Some (refusal_of e)
 unfolding index_fault index_checks
-no_count bs e h r = rw (le_false 4 (length bs) h, r.kind_is, r.message_is) refl
+no_count bs e h r = rw (not_at_most 4 (length bs) h, r.kind_is, r.message_is) refl
 
 pub small_count : (bs : List ℕ) (n : ℕ) (e : ReadingError) → n ≡ get_or (words_of bs) 0 0
     → 4 ≤ length bs → n < 5 → IsInvalid e (codes "invalid index field count")
     → index_fault bs ≡ Some (refusal_of e)
 unfolding index_fault index_checks
 small_count bs n e w h k r =
-    rw (le_true 4 (length bs) h, ← w, le_false 5 n k, r.kind_is, r.message_is) refl
+    rw (le_true 4 (length bs) h, ← w, not_at_most 5 n k, r.kind_is, r.message_is) refl
 
 pub no_word : (bs : List ℕ) (n : ℕ) (e : ReadingError) → n ≡ get_or (words_of bs) 0 0
     → 4 ≤ length bs → 5 ≤ n → length bs < 4 * min n 8
@@ -28,7 +28,7 @@ no_word bs n e w h k l r =
       le_true 4 (length bs) h,
       ← w,
       le_true 5 n k,
-      le_false (4 * min n 8) (length bs) l,
+      not_at_most (4 * min n 8) (length bs) l,
       r.kind_is,
       r.message_is,
     ) refl

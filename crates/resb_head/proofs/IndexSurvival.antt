@@ -20,7 +20,7 @@ use Rattle.resb_head.specs.Head.{IndexAt, field, index_words, index_bytes}
 use Rattle.resb_head.specs.HeadChecks.{index_fault}
 use Rattle.resb_head.specs.HeadReading.{ReadsIndex}
 use Rattle.resb_head.specs.declared.index.BinIndex.{BinIndex}
-use Rattle.resb_head.proofs.HeadSteps.{le_true, le_false}
+use Rattle.resb_head.proofs.HeadSteps.{le_true, not_at_most}
 use Rattle.resb_head.proofs.IndexSteps.{index_holds}
 
 -- one field more, where the count asks for it
@@ -43,7 +43,7 @@ one_more : (ws : List ℕ) (n k : ℕ) → min n (k + 1) ≤ length ws
     ++ option_to_list (if nat_le (k + 1) n then Some (get_or ws k 0) else None)
 one_more ws n k l = elim (le_cases (k + 1) n) [
   | inl h ↦ rw (le_true (k + 1) n h) (more_yes ws n k h (omega arith))
-  | inr h ↦ rw (le_false (k + 1) n h) (more_no ws n k (omega arith))
+  | inr h ↦ rw (not_at_most (k + 1) n h) (more_no ws n k (omega arith))
 ]
   where
     le_cases : (a b : ℕ) → (a ≤ b) ⊎ (b < a)

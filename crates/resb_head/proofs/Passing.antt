@@ -11,7 +11,7 @@ use Rattle.resb_format.specs.Bytes.{unit_in}
 use Rattle.resb_head.specs.Laws.{IsHeader, HeaderPasses}
 use Rattle.resb_head.specs.HeadChecks.{first_fault, info_checks, header_checks, header_fault}
 use Rattle.resb_head.specs.HeadChecks.{is_version}
-use Rattle.resb_head.proofs.HeadSteps.{le_true, same_true}
+use Rattle.resb_head.proofs.HeadSteps.{le_true, equal_texts}
 use Rattle.resb_head.proofs.HeaderSteps.{header_holds}
 
 -- each test is true
@@ -78,10 +78,10 @@ passing any bs h =
       known = ap (λ k. nat_le k 1) f4 ∙ le_true (get_or bs 8 0) 1 h.known_endianness;
       own = ap (λ k. any || nat_eq k 0) f4 ∙ zero_or any (get_or bs 8 0) h.own_endianness;
       charset = ap (λ k. nat_le k 1) f5 ∙ le_true (get_or bs 9 0) 1 h.known_charset;
-      format = same_true _ _ (behind bs 8 12 ∙ h.format);
+      format = equal_texts _ _ (behind bs 8 12 ∙ h.format);
       version = ap is_version (behind bs 12 16) ∙ h.version;
     } in
-    header_holds any bs (record { long = h.long; magic = same_true _ _ h.magic })
+    header_holds any bs (record { long = h.long; magic = equal_texts _ _ h.magic })
     (tested any (drop 4 bs) t) h.size
 
 pub header_passes : HeaderPasses

@@ -346,5 +346,6 @@ module _ (p : Parts) (g : Given) (read : IsRead p g) where
         more_denoted (den_word (denoted u h (stood (grows_each k) i)))
         (denoted_each (units_stay (grows h) u) k i)
 
+-- a tree that is laid is what its word denotes
 pub laid_is_denoted : LaidIsDenoted
 laid_is_denoted p g before after t w read u h i = denoted p g read u h i

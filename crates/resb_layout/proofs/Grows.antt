@@ -62,6 +62,7 @@ table_grows (long_table at n h e l) = by_bytes _ _
 table_grows (wide_table at n e l q r) = by_bytes _ _
 
 mutual
+  -- laying a tree only appends
   pub grows : {g : Given} {s e : Laid} {t : Tree} {w : ℕ} → Lays g s t e w → Grows s e
   grows (lays_integer h) = stays _
   grows (lays_string h l) = stays _

@@ -8,7 +8,7 @@ use Rattle.std.specs.Int.{to_le_bytes, w16, w32}
 use Rattle.std.proofs.lemmas.List.{length-replicate}
 use Rattle.resb_tree.specs.Tree.{Tree, array, table, binary, int_vector, Trees, Entries}
 use Rattle.resb_tree.specs.Tree.{no_entries, entry}
-use Rattle.resb_tree.specs.WalkOrder.{walk, walk_each, walk_values}
+use Rattle.resb_tree.specs.WalkOrder.{walk_order, walk_each, walk_values}
 use Rattle.resb_format.proofs.WordsBack.{written_length}
 use Rattle.resb_layout.specs.Laid.{Given, Laid, more_units, more_bytes, here, words, halves, pad}
 use Rattle.resb_layout.specs.Laid.{to_data, to_word, fill, offsets_in, words_body, near_table_body}
@@ -208,11 +208,11 @@ module _ (g : Given) where
 -- the members of a table in walk order
 values_walked : (es : Entries) → walk_each (members_in es) ≡ walk_values es
 values_walked no_entries = refl
-values_walked (entry k t es) = ap (λ ts. walk t ++ ts) (values_walked es)
+values_walked (entry k t es) = ap (λ ts. walk_order t ++ ts) (values_walked es)
 
 mutual
   in_order : {g : Given} {s e : Laid} {t : Tree} {w : ℕ} → Lays g s t e w → here g s % 4 ≡ 0
-      → StandsInOrder g s e (walk t)
+      → StandsInOrder g s e (walk_order t)
   in_order {g = g} (lays_integer {s = s'} h) word = nothing g s' _ word
   in_order {g = g} (lays_string {s = s'} h l) word = nothing g s' _ word
   in_order {g = g} (lays_no_bytes {s = s'}) word = nothing g s' _ word
@@ -239,5 +239,6 @@ mutual
   each_in_order {g = g} (each_more h k) word =
       let first = in_order h word in behind g first (each_in_order k first.whole)
 
+-- the resources of a tree are laid in walk order
 pub laid_in_order : LaidInOrder
 laid_in_order g before after t w word h = in_order h word

@@ -25,18 +25,21 @@ pub unit_read : (u : ℕ) (rest : List ℕ) → u < 2 ^ 16
 unfolding units_of
 unit_read u rest h = λ i. two_bytes u h i ∷ units_of rest
 
+-- words that are written are read back
 pub words_read : (ws rest : List ℕ) → EachBelow (2 ^ 32) ws
     → words_of (words ws ++ rest) ≡ ws ++ words_of rest
 unfolding words_of
 words_read [] rest h = refl
 words_read (w ∷ ws) rest h = λ i. four_bytes w h.0 i ∷ words_read ws rest h.1 i
 
+-- units that are written are read back
 pub halves_read : (us rest : List ℕ) → EachBelow (2 ^ 16) us
     → units_of (halves us ++ rest) ≡ us ++ units_of rest
 unfolding units_of
 halves_read [] rest h = refl
 halves_read (u ∷ us) rest h = λ i. two_bytes u h.0 i ∷ halves_read us rest h.1 i
 
+-- units take two bytes each
 pub halves_len : (us : List ℕ) → length (halves us) ≡ 2 * length us
 halves_len [] = refl
 halves_len (u ∷ us) = omega (arith, halves_len us, length-append (to_le_bytes w16 u) (halves us))

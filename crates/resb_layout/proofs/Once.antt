@@ -11,6 +11,7 @@ use Rattle.resb_layout.specs.Laid.{lays_no_numbers, lays_numbers, lays_no_items,
 use Rattle.resb_layout.specs.Laid.{lays_no_entries, lays_entries, LaysEach, each_none, each_more}
 use Rattle.resb_layout.specs.Laws.{OneLayout}
 
+-- lists of which each number is there are equal where those numbers are
 pub same_somes : (ps qs : List ℕ) → map Some ps ≡ map Some qs → ps ≡ qs
 same_somes [] [] e = refl
 same_somes [] (q ∷ qs) e = cc
@@ -21,16 +22,19 @@ same_somes (p ∷ ps) (q ∷ qs) e =
     let r = same_somes ps qs t in
     cc
 
+-- no trees are laid to no words
 pub none_inside : {g : Given} {s mid : Laid} {ws : List ℕ} → LaysEach g s no_trees mid ws
     → 0 < length ws → ⊥
 none_inside each_none h = omega (arith, h)
 
+-- 0 is not positive
 pub nothing : {n : ℕ} → 0 < n → n ≡ 0 → ⊥
 nothing h e = omega (arith, h, e)
 
 same_at : (n at at' : ℕ) → n ≡ 4 * at → n ≡ 4 * at' → at ≡ at'
 same_at n at at' a b = omega (arith, a, b)
 
+-- nothing is both true and false
 pub not_both : {A : Type 0} (b : Bool) → b ≡ true → b ≡ false → A
 not_both b t f = cc
 
@@ -100,5 +104,6 @@ mutual
       let rest = once_each k (subst (λ m. LaysEach g m ts' b' ws') (sym r.0) k2) in
       (rest.0, λ i. r.1 i ∷ rest.1 i)
 
+-- a tree is laid in one way at most
 pub one_layout : OneLayout
 one_layout g s a b t v w h k = once h k

@@ -86,5 +86,6 @@ mutual
   paid_each (each_more h k) = let first = paid h in let rest =
       paid_each k in omega (arith, first, rest)
 
+-- a laid tree has a count that half its bytes pay
 pub laid_is_paid : LaidIsPaid
 laid_is_paid g before after t w h = paid h

@@ -1,6 +1,6 @@
 -- Why a tree isn't written with the keys of a list.
---     fault t ks              the first fault, in the order in which they are answered
---     Refused t ks f          f may be the answer
+--     tree_fault t ks         the first fault, in the order in which they are answered
+--     RefusesWriting t ks f          f may be the answer
 use Rattle.std.specs.Prelude.{◌≡◌, ℕ, ◌^◌, ◌≤◌, List, length, Bool, false, nat_eq, nat_lt, codes}
 use Rattle.std.specs.Prelude.{Option, Some, None, option_map, unwrap_or, if◌then◌else◌}
 use Rattle.std.specs.List.{list_any}
@@ -8,7 +8,7 @@ use Rattle.std.specs.Option.{is_none}
 use Rattle.resb_tree.specs.Tree.{Tree, array, binary, int_vector}
 use Rattle.resb_pool.specs.Fault.{Fault, string_too_long, unexpected, limit, out_of_memory}
 use Rattle.resb_pool.specs.Plan.{first_too_long}
-use Rattle.resb_tree.specs.WalkOrder.{walk, members, texts_of}
+use Rattle.resb_tree.specs.WalkOrder.{walk_order, members, texts_of}
 use Rattle.resb_layout.specs.KeyBlock.{used, position_in}
 use Rattle.resb_tree.specs.WalkOrder.{keys_of}
 use Rattle.resb_layout.specs.PlainSize.{plain_size}
@@ -51,14 +51,15 @@ first_of (Some f) later = Some f
 first_of None later = later
 
 -- the first fault of a tree and a list of keys: of its keys, of a string's length, of a count
-abbrev pub fault : Tree → List (List ℕ) → Option Fault
-fault t ks =
+abbrev pub tree_fault : Tree → List (List ℕ) → Option Fault
+tree_fault t ks =
     first_of (key_fault (keys_of t) (used (keys_of t) ks))
-    (first_of (option_map string_too_long (first_too_long (texts_of t))) (count_fault (walk t)))
+    (first_of (option_map string_too_long (first_too_long (texts_of t))) (count_fault (walk_order
+    t)))
 
 -- want of memory, the first fault, or a plain size of 2^28 and more where there is no fault
-pub data Refused (t : Tree) (ks : List (List ℕ)) : Fault → Type 0 where
-  no_memory : Refused t ks out_of_memory
-  at_the_first : {f : Fault} → fault t ks ≡ Some f → Refused t ks f
-  too_large : fault t ks ≡ None → 2 ^ 28 ≤ plain_size t ks
-      → Refused t ks (limit (codes "file too large"))
+pub data RefusesWriting (t : Tree) (ks : List (List ℕ)) : Fault → Type 0 where
+  no_memory : RefusesWriting t ks out_of_memory
+  at_the_first : {f : Fault} → tree_fault t ks ≡ Some f → RefusesWriting t ks f
+  too_large : tree_fault t ks ≡ None → 2 ^ 28 ≤ plain_size t ks
+      → RefusesWriting t ks (limit (codes "file too large"))

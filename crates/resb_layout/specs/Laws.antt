@@ -9,7 +9,7 @@ use Rattle.resb_tree.specs.Tree.{Tree, tree_count}
 use Rattle.resb_format.specs.Strings.{text_at, key_at}
 use Rattle.resb_format.specs.Parts.{Parts}
 use Rattle.resb_format.specs.Denotes.{Den}
-use Rattle.resb_tree.specs.WalkOrder.{walk}
+use Rattle.resb_tree.specs.WalkOrder.{walk_order}
 use Rattle.resb_layout.specs.Laid.{Given, Laid, Lays, here}
 use Rattle.resb_layout.specs.InOrder.{FillsTail, FillsBlock}
 
@@ -57,7 +57,7 @@ pub record StandsInOrder (g : Given) (before after : Laid) (ts : List Tree) : Ty
 abbrev pub LaidInOrder : Type 0
 LaidInOrder =
     (g : Given) (before after : Laid) (t : Tree) (w : ℕ) → here g before % 4 ≡ 0
-    → Lays g before t after w → StandsInOrder g before after (walk t)
+    → Lays g before t after w → StandsInOrder g before after (walk_order t)
 
 -- the bytes of what stands
 abbrev pub taken : Laid → ℕ

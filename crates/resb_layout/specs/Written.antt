@@ -10,7 +10,7 @@ use Rattle.resb_pool.specs.Plan.{IsPlan}
 use Rattle.resb_layout.specs.Laid.{Laid, Lays, halves}
 use Rattle.resb_tree.specs.WalkOrder.{texts_of}
 use Rattle.resb_layout.specs.KeyBlock.{key_block, key_position, keys_start}
-use Rattle.resb_layout.specs.Faults.{fault}
+use Rattle.resb_layout.specs.Faults.{tree_fault}
 use Rattle.resb_layout.specs.WrittenHead.{IndexOf}
 
 -- a unit that fills the last word of the 16-bit block
@@ -46,7 +46,7 @@ bytes_of {t} {ks} b = key_block t ks ++ (halves (even b.laid.units) ++ b.laid.ta
 -- a file that denotes the tree, with the bundle's index, whose bytes behind the index are just the
 -- blocks
 pub record Written (bytes : List ℕ) (t : Tree) (fallback : Bool) (ks : List (List ℕ)) : Type 0 where
-  pub faultless : fault t ks ≡ None
+  pub faultless : tree_fault t ks ≡ None
   -- it denotes the tree, and holds each of its resources once
   pub tree : Denotes bytes t (tree_count t)
   pub within_budget : tree_count t ≤ budget bytes

@@ -154,6 +154,7 @@ module _ (S : TextList) (x y : Record) (ux : x.unit_count ≡ length (units x.te
 one_long : length {A = ℕ} (0 ∷ []) ≡ 1
 one_long = refl
 
+-- records take as many units as their sizes add up to
 pub length-records : (qs : TextList) → length (flat_map record_units qs) ≡ sum_by size qs
 length-records [] = refl
 length-records (q ∷ qs) = omega (

@@ -137,6 +137,7 @@ module _ (S : TextList) (us : List ℕ) (offset : List ℕ → Option ℕ) (p : 
           ap (λ j. text_at (us ++ rest) j) here ∙ ap (λ x. text_at x (length first)) split
           ∙ text_at-found first s (behind rest) (All-contains IsUtf8 S s p.texts c) m
 
+-- each text of a pool is read at its offset, whatever follows the pool
 pub pool_is_read : (S : TextList) (us : List ℕ) (offset : List ℕ → Option ℕ) → IsPlan S us offset
     → (s : List ℕ) (k : ℕ) → offset s ≡ Some k
     → (k < length us) × ((rest : List ℕ) → text_at (us ++ rest) k ≡ Some s)

@@ -94,6 +94,7 @@ records_all S rs h = record {
       λ s. (λ x. (h.sound s x).0, λ x. h.complete s x x.given);
 }
 
+-- an empty map has no text
 pub at_empty : {V H : Type 0} (m : HashMap (Bor (List ℕ)) V H) (q : List ℕ) → m.entries ≡ []
     → at_text m q ≡ None
 at_empty m q e = ap (lookup (λ k. bytes_eq q k.now)) e

@@ -21,6 +21,7 @@ marked_le n = by (nat_le n 0x3ee) (nat_le n 0xf_ffff)
     by false true = omega arith
     by false false = omega arith
 
+-- a marker has three units at most
 pub marker_le : (s : List ℕ) → length (marker s) ≤ 3
 marker_le s = by (is_unmarked s)
   where

@@ -14,6 +14,7 @@ use Rattle.resb_pool.specs.Plan.{nows, first_too_long, texts_size}
 abbrev pub blank : Bor (List ℕ)
 blank = record { ref_ptr = (0, 0); now = [] }
 
+-- the texts behind one reference more
 pub nows-take : (xs : List (Bor (List ℕ))) (i : ℕ) (d : Bor (List ℕ)) → i < length xs
     → nows (take (i + 1) xs) ≡ nows (take i xs) ++ (get_or xs i d).now ∷ []
 nows-take xs i d h = map_more (λ (y : Bor (List ℕ)). y.now) xs i d h
@@ -86,6 +87,7 @@ nows-whole xs i h = ap nows (take-all xs i h)
     take-all (x ∷ xs) zero h = absurd (omega arith)
     take-all (x ∷ xs) (suc i) h = ap (λ l. x ∷ l) (take-all xs i (omega arith))
 
+-- the texts behind references of which one more was pushed
 pub nows-push : (old new : List (Bor (List ℕ))) (t : Bor (List ℕ)) → new ≡ old ++ t ∷ []
     → nows new ≡ nows old ++ t.now ∷ []
 nows-push old new t e = ap nows e ∙ map_push (λ (y : Bor (List ℕ)). y.now) old t

@@ -8,6 +8,7 @@ use Rattle.std.proofs.lemmas.List.Folds.{list_any-append}
 use Rattle.std.proofs.lemmas.List.{take_at}
 use Rattle.resb_format.specs.Strings.{before_zero}
 
+-- some unit is 0
 abbrev pub has_zero : List ℕ → Bool
 has_zero xs = list_any (λ b. nat_eq b 0) xs
 
@@ -20,6 +21,7 @@ up_to_zero (x ∷ xs) rest h =
     let e : t ≡ length xs = up_to_zero xs rest o.1 in
     ap (λ b. cond (not b) (1 + t) 0) o.0 ∙ omega (arith, e)
 
+-- the units before the first 0 are those that hold none
 pub before_zero-found : (xs rest : List ℕ) → has_zero xs ≡ false
     → before_zero (xs ++ 0 ∷ rest) ≡ Some xs
 before_zero-found xs rest h =

@@ -8,7 +8,7 @@ use Rattle.resb_format.proofs.Denoting.{unique, counted}
 use Rattle.resb_format.specs.declared.error.ReadingError.{ReadingError}
 use Rattle.resb_format.specs.Error.{refusal_of, IsWantOfMemory}
 use Rattle.resb_read.specs.Refusing.{RefusesTree}
-use Rattle.resb_read.specs.Roots.{CountOf, TreeOf, RefusesRoot, RefusesFile}
+use Rattle.resb_read.specs.Roots.{AnswersCount, AnswersTree, RefusesRoot, RefusesFile}
 use Rattle.resb_read.proofs.OneRefusal.{one_refusal}
 use Rattle.resb_read.proofs.Rooted.{no_bundle}
 use Rattle.resb.specs.View.{tree_of}
@@ -34,12 +34,12 @@ denoted_memory bytes t n e d fits (inr (is, inr (inr (fault, stuck)), _)) =
     absurd (stuck.0 t n d.root)
 
 -- beside the answer of `from_bytes_counted`
-pub agree_ok : (bytes : List ℕ) (n : ℕ) → CountOf bytes (Ok n)
+pub agree_ok : (bytes : List ℕ) (n : ℕ) → AnswersCount bytes (Ok n)
     → (r : Result (Resource × ℕ) ReadingError) → ReadsCounted bytes r → Agrees HasCount (Ok n) r
 agree_ok bytes n (t, d, fits) (Ok r) (h, _) = (unique (parts_of bytes) d.root h.root).1
 agree_ok bytes n (t, d, fits) (Err e) h = denoted_memory bytes t n e d fits (refused_tree bytes e h)
 
-pub agree_err : (bytes : List ℕ) (e : ReadingError) → CountOf bytes (Err e)
+pub agree_err : (bytes : List ℕ) (e : ReadingError) → AnswersCount bytes (Err e)
     → (r : Result (Resource × ℕ) ReadingError)
     → ReadsCounted bytes r → Agrees HasCount (Err (Checking e)) r
 agree_err bytes e c (Ok r) (h, fits) =
@@ -47,16 +47,17 @@ agree_err bytes e c (Ok r) (h, fits) =
 agree_err bytes e c (Err d) h = one_refusal bytes e d c (refused_tree bytes d h)
 
 -- beside the answer of `tree_from_bytes`
-pub match_ok : (bytes : List ℕ) (n : ℕ) → CountOf bytes (Ok n) → (r : Result Resource ReadingError)
-    → TreeOf bytes r → Agrees (IsCounted bytes) (Ok n) r
+pub match_ok : (bytes : List ℕ) (n : ℕ) → AnswersCount bytes (Ok n)
+    → (r : Result Resource ReadingError)
+    → AnswersTree bytes r → Agrees (IsCounted bytes) (Ok n) r
 match_ok bytes n (t, d, fits) (Ok r) (m, h, _, _) =
     let both = unique (parts_of bytes) d.root h.root in
     let same : n ≡ m = both.1 in
     subst (λ k. Denotes bytes (tree_of r) k) (sym same) h
 match_ok bytes n (t, d, fits) (Err e) h = denoted_memory bytes t n e d fits h
 
-pub match_err : (bytes : List ℕ) (e : ReadingError) → CountOf bytes (Err e)
+pub match_err : (bytes : List ℕ) (e : ReadingError) → AnswersCount bytes (Err e)
     → (r : Result Resource ReadingError)
-    → TreeOf bytes r → Agrees (IsCounted bytes) (Err (Checking e)) r
+    → AnswersTree bytes r → Agrees (IsCounted bytes) (Err (Checking e)) r
 match_err bytes e c (Ok r) (n, h, fits, _) = denoted_memory bytes (tree_of r) n e h fits c
 match_err bytes e c (Err d) h = one_refusal bytes e d c h

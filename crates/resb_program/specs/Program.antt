@@ -16,7 +16,7 @@ use Rattle.resb_format.specs.File.{Denotes, budget}
 use Rattle.resb_format.specs.declared.error.ReadingError.{ReadingError}
 use Rattle.resb_read.specs.Refusing.{RefusesTree}
 use Rattle.resb_read.specs.Resources.{DenPlace}
-use Rattle.resb_read.specs.Roots.{AtRoot, RefusesRoot, CountOf}
+use Rattle.resb_read.specs.Roots.{HoldsAtRoot, RefusesRoot, AnswersCount}
 use Rattle.resb.specs.View.{tree_of}
 use Rattle.resb.specs.declared.bundle.Resource.{Resource}
 use Rattle.resb.specs.Compiling as compiling
@@ -69,8 +69,8 @@ message_of Memory = codes "out of memory"
 
 -- the number of resources of the file's tree, or the reader's refusal
 abbrev pub CountsFile : List ℕ → Result ℕ ToolError → Type 0
-CountsFile bytes (Ok n) = CountOf bytes (Ok n)
-CountsFile bytes (Err (Checking e)) = CountOf bytes (Err e)
+CountsFile bytes (Ok n) = AnswersCount bytes (Ok n)
+CountsFile bytes (Err (Checking e)) = AnswersCount bytes (Err e)
 CountsFile bytes (Err NotUtf8) = ⊥
 CountsFile bytes (Err (Compiling e)) = ⊥
 CountsFile bytes (Err Input) = ⊥
@@ -80,7 +80,7 @@ CountsFile bytes (Err Memory) = ⊥
 -- a tree at the root, read with a count within the budget, or its refusal there
 abbrev pub ReadsCounted : List ℕ → Result (Resource × ℕ) ReadingError → Type 0
 ReadsCounted bytes (Ok r) =
-    AtRoot (λ p. DenPlace p (tree_of r.0) r.1) bytes × (r.1 ≤ budget bytes)
+    HoldsAtRoot (λ p. DenPlace p (tree_of r.0) r.1) bytes × (r.1 ≤ budget bytes)
 ReadsCounted bytes (Err e) = RefusesRoot RefusesTree bytes e
 
 -- where both are Ok, the value that is read has the count; where one is refused and the other

@@ -6,7 +6,7 @@ ghost use Rattle.std.specs.Io.KnownBytes.{Appends, Consumes, IsAtEnd, Keeps};
 ghost use Rattle.hex.specs.Hex.{encode_lower};
 ghost use Rattle.resb.specs.Compiling.{IsCompiled};
 ghost use Rattle.resb_program.specs.Program.{IsNoInput, Writes, HasReason};
-ghost use Rattle.resb_read.specs.Roots.{TreeOf};
+ghost use Rattle.resb_read.specs.Roots.{AnswersTree};
 ghost use Rattle.resb_program.specs.Program.{CountsFile, ReadsCounted, Agrees, HasCount};
 ghost use Rattle.resb_program.specs.Program.{IsCounted};
 
@@ -35,7 +35,7 @@ pub fn check_file(alloc: Global, file: &[u8]) -> Result<usize, ToolError>
     // aside.
     ensures as_read { (r : _) → ReadsCounted file.now r → Agrees HasCount result r }
     // It is that of `tree_from_bytes` in the same way.
-    ensures as_tree { (r : _) → TreeOf file.now r → Agrees (IsCounted file.now) result r }
+    ensures as_tree { (r : _) → AnswersTree file.now r → Agrees (IsCounted file.now) result r }
 {
     match resb::binary::count_resources(alloc, file) {
         Ok(count) => Ok(count),

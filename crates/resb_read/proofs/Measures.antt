@@ -17,7 +17,7 @@ use Rattle.resb_walk.specs.declared.sums.Sums.{Sums}
 use Rattle.resb_walk.proofs.Holding.{held, one_holding}
 use Rattle.resb_walk.proofs.TreePieces.{tree_within}
 use Rattle.resb_walk.proofs.SumsLemmas.{fits_some, fits_none}
-use Rattle.resb_read.specs.Measuring.{FileHolds, MeasureOf, OneWeight, TreesWeighNoMore}
+use Rattle.resb_read.specs.Measuring.{FileHolds, AnswersMeasure, OneWeight, TreesWeighNoMore}
 use Rattle.resb_read.specs.Places.{Place}
 use Rattle.resb_read.specs.Resources.{DenPlace, HoldsPlace}
 use Rattle.resb_read.specs.Roots.{root_place, RefusesFile}
@@ -41,7 +41,7 @@ pub measured_root : (bytes : List ℕ) (p : Place) (left left' : ℕ) (t : Tree)
     (xs : List Piece)
     → file_fault bytes ≡ None → p ≡ root_place bytes → left ≡ budget bytes → DenPlace p t n
     → left' + n ≡ left → HoldsPlace p xs → AddsUp s xs
-    → MeasureOf bytes (Ok (record { resources = left - left'; sums = s }))
+    → AnswersMeasure bytes (Ok (record { resources = left - left'; sums = s }))
 measured_root bytes p left left' t n s xs none same all d paid h adds =
     let there : FileHolds bytes xs = subst (λ q. HoldsPlace q xs) same h in
     let other = held_root bytes (root_place bytes) t n refl (subst (λ q. DenPlace q t n) same d) in

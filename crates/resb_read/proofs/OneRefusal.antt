@@ -15,6 +15,7 @@ both_spent d e h k =
     let messages = h.message_is ∙ sym k.message_is in
     cc
 
+-- a file is refused with one kind and message at most, memory aside
 pub one_refusal : OneRefusalOfAFile
 one_refusal bytes d e (inl h) (inl k) = inr (same_Some _ _ (sym h ∙ k))
 one_refusal bytes d e (inl h) (inr (is, _, _)) = absurd (no_bundle bytes (refusal_of d) h is)

@@ -16,7 +16,7 @@ use Rattle.resb_walk.specs.Meets.{Blames}
 use Rattle.resb_walk.specs.Refusals.{Refuses}
 use Rattle.resb_read.specs.Places.{Place}
 use Rattle.resb_read.specs.Resources.{DenPlace, ReachesPlace, ReadsTree, MeetsPlace}
-use Rattle.resb_read.specs.Roots.{root_place, AtRoot, RefusesRoot, RefusesFile, TreeOf}
+use Rattle.resb_read.specs.Roots.{root_place, HoldsAtRoot, RefusesRoot, RefusesFile, AnswersTree}
 
 -- a file with a fault is no bundle
 pub no_bundle : (bytes : List ℕ) (f : Refusal) → file_fault bytes ≡ Some f → IsBundleFile bytes → ⊥
@@ -27,7 +27,7 @@ no_bundle bytes f e h =
     apart a b = cc
 
 pub at_root : (P : Place → Type 0) (bytes : List ℕ) (p : Place) → file_fault bytes ≡ None
-    → p ≡ root_place bytes → P p → AtRoot P bytes
+    → p ≡ root_place bytes → P p → HoldsAtRoot P bytes
 at_root P bytes p e same h = record { head = (bundle_file_passes bytes).0 e; root = subst P same h }
 
 -- what a type answers at the root
@@ -57,7 +57,7 @@ pub tree_root : (bytes : List ℕ) (p : Place) (left left' : ℕ) (r : Result Re
     → file_fault bytes ≡ None → p ≡ root_place bytes → left ≡ budget bytes
     → IfOk r (λ x. (n : ℕ) × ReadsTree p x n × (left' + n ≡ left))
     → IfErr r (λ e. (left' ≤ left) × Refuses (DenPlace p) (ReachesPlace p) left e)
-    → IfErr r (Blames (MeetsPlace p)) → TreeOf bytes r
+    → IfErr r (Blames (MeetsPlace p)) → AnswersTree bytes r
 tree_root bytes p left left' (Ok x) none same all (n, (d, b), paid) h met = (
   n,
   record {

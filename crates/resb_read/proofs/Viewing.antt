@@ -8,7 +8,7 @@ use Rattle.resb_format.specs.Bytes.{words_of}
 use Rattle.resb_format.proofs.Spelled.{words_length}
 use Rattle.resb_format.specs.Error.{Refusal, IsWrongLength}
 use Rattle.resb_format.specs.declared.error.ReadingError.{ReadingError}
-use Rattle.resb_walk.specs.Damage.{Says}
+use Rattle.resb_walk.specs.BlockRefusals.{Says}
 use Rattle.resb_read.specs.Places.{Place}
 use Rattle.resb_read.specs.Reading.{Lacks, CountsThere}
 use Rattle.resb_read.specs.Reading.{any}

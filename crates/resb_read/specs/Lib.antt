@@ -16,7 +16,7 @@ pub use Rattle.resb_head.specs.Codes
 pub use Rattle.resb_tree.specs.Tree
 pub use Rattle.resb_tree.specs.View
 pub use Rattle.resb_walk.specs.Files
-pub use Rattle.resb_walk.specs.Damage
+pub use Rattle.resb_walk.specs.BlockRefusals
 pub use Rattle.resb_walk.specs.Meets
 pub use Rattle.resb_walk.specs.Refusals
 pub use Rattle.resb_walk.specs.Borrows

@@ -2,7 +2,7 @@
 --     FileHolds bytes xs      the pieces of the tree at the file's root
 --     IsMeasured m xs         how many resources these pieces are, and what they add up to
 --     OneWeight, TreesWeighNoMore     that a file's tree has one weight, and is no heavier
---     MeasureOf bytes r       what measuring a file's tree answers
+--     AnswersMeasure bytes r       what measuring a file's tree answers
 --     TreeWithin bytes limit r    what reading it within a limit answers
 use Rattle.std.specs.Prelude.{◌≡◌, ◌<◌, ◌≤◌, ◌⊎◌, ℕ, List, Result, Ok, Err, codes, sum_by}
 use Rattle.resb_tree.specs.Tree.{Tree, tree_count}
@@ -14,7 +14,7 @@ use Rattle.resb_format.specs.declared.error.ReadingError.{ReadingError}
 use Rattle.resb_walk.specs.Pieces.{Piece, Holds, pieces}
 use Rattle.resb_walk.specs.Sums.{AddsUp, count_of}
 use Rattle.resb_walk.specs.TreeBytes.{tree_bytes}
-use Rattle.resb_read.specs.Roots.{RefusesFile, TreeOf}
+use Rattle.resb_read.specs.Roots.{RefusesFile, AnswersTree}
 use Rattle.resb_read.specs.declared.measuring.Measured.{Measured}
 
 -- the pieces of a file's tree, in the order of the file
@@ -27,11 +27,11 @@ pub record IsMeasured (m : Measured) (xs : List Piece) : Type 0 where
   pub sums : AddsUp m.sums xs
 
 -- a tree within the budget, and what its pieces add up to; or the refusal of counting
-abbrev pub MeasureOf : List ℕ → Result Measured ReadingError → Type 0
-MeasureOf bytes (Ok m) =
+abbrev pub AnswersMeasure : List ℕ → Result Measured ReadingError → Type 0
+AnswersMeasure bytes (Ok m) =
     (t : Tree) × (xs : List Piece) × Denotes bytes t m.resources × (m.resources ≤ budget bytes)
     × FileHolds bytes xs × IsMeasured m xs
-MeasureOf bytes (Err e) = RefusesFile bytes e
+AnswersMeasure bytes (Err e) = RefusesFile bytes e
 
 -- a file's tree has one list of pieces, and so one of each sum
 abbrev pub OneWeight : Type 0
@@ -66,5 +66,5 @@ pub record TakesMore (bytes : List ℕ) (limit : ℕ) : Type 0 where
 -- takes more
 abbrev pub TreeWithin : List ℕ → ℕ → Result Resource ReadingError → Type 0
 TreeWithin bytes limit (Ok r) =
-    TreeOf bytes (Ok r) × ((xs : List Piece) × FileHolds bytes xs × (tree_bytes xs ≤ limit))
+    AnswersTree bytes (Ok r) × ((xs : List Piece) × FileHolds bytes xs × (tree_bytes xs ≤ limit))
 TreeWithin bytes limit (Err e) = RefusesFile bytes e ⊎ (IsLarger e × TakesMore bytes limit)

@@ -13,7 +13,8 @@ use Rattle.resb_format.specs.Parts.{Parts}
 use Rattle.resb_format.specs.StringFaults.{string_fault}
 use Rattle.resb_format.specs.Types as types
 use Rattle.resb_format.specs.declared.error.ErrorKind.TheVariants.{ResourceTypeMismatch, Unknown}
-use Rattle.resb_walk.specs.Damage.{text_damage, key_damage, type_damage}
+use Rattle.resb_walk.specs.BlockRefusals.{block_text_refusal, block_key_refusal}
+use Rattle.resb_walk.specs.BlockRefusals.{unread_type_refusal}
 use Rattle.resb_read.specs.Places.{Place}
 use Rattle.resb_read.specs.Leaves.{type_in, value_in, bytes_from}
 use Rattle.resb_read.specs.declared.cursor.Spot.{Spot}
@@ -34,7 +35,7 @@ mismatch expected = (ResourceTypeMismatch, expected)
 -- the refusal of a type that is not read; of any other type it is the one that is given
 abbrev pub type_refusal : ℕ → Refusal → Refusal
 type_refusal type other =
-    if types.is_read_type type then other else type_damage type
+    if types.is_read_type type then other else unread_type_refusal type
 
 -- one is paid before anything else is looked at
 abbrev pub paid : ℕ → Refusal → Refusal
@@ -80,7 +81,7 @@ bits_refusal (spot.Key k) left = elsewhere
 
 -- why no key is read at a spot: it is another place, or the key's own fault
 abbrev pub key_refusal_from : Parts → Spot → ℕ → Refusal
-key_refusal_from p (spot.Key k) left = key_damage p.keys k
+key_refusal_from p (spot.Key k) left = block_key_refusal p.keys k
 key_refusal_from p (spot.Descriptor w) left = no_value (spot.Descriptor w) left
 key_refusal_from p (spot.Unit u) left = no_value (spot.Unit u) left
 key_refusal_from p (spot.Word w) left = no_value (spot.Word w) left
@@ -90,17 +91,17 @@ abbrev pub key_refusal : Place → ℕ → Refusal
 key_refusal p left = key_refusal_from p.parts p.at left
 
 -- why no text stands at a descriptor: no string, or one that is no text; or another type
-abbrev pub text_fault : Parts → ℕ → Refusal
-text_fault p w =
-    if type_in w == types.string then text_damage p.block (value_in w)
+abbrev pub word_text_refusal : Parts → ℕ → Refusal
+word_text_refusal p w =
+    if type_in w == types.string then block_text_refusal p.block (value_in w)
     else type_refusal (type_in w) (mismatch (codes "expected string resource"))
 
 -- why no text is read at a spot with so much left
 abbrev pub text_refusal_from : Parts → Spot → ℕ → Refusal
-text_refusal_from p (spot.Descriptor w) left = paid left (text_fault p w)
-text_refusal_from p (spot.Unit u) left = paid left (text_damage p.block u)
+text_refusal_from p (spot.Descriptor w) left = paid left (word_text_refusal p w)
+text_refusal_from p (spot.Unit u) left = paid left (block_text_refusal p.block u)
 text_refusal_from p (spot.Word w) left = elsewhere
-text_refusal_from p (spot.Key k) left = key_damage p.keys k
+text_refusal_from p (spot.Key k) left = block_key_refusal p.keys k
 
 -- why no text is read at a place with so much left
 abbrev pub text_refusal : Place → ℕ → Refusal
@@ -108,18 +109,18 @@ text_refusal p left = text_refusal_from p.parts p.at left
 
 -- why no bytes stand at a descriptor: the string's own fault, a count or what is counted outside
 -- the body, or another type
-abbrev pub bytes_fault : Parts → ℕ → Refusal
-bytes_fault p w =
+abbrev pub word_bytes_refusal : Parts → ℕ → Refusal
+word_bytes_refusal p w =
     if type_in w == types.string then invalid (string_fault p.block (value_in w))
     else if type_in w == types.binary || type_in w == types.int_vector then end_of_input
     else type_refusal (type_in w) (mismatch (codes "expected binary data resource"))
 
 -- why no bytes are read at a spot with so much left
 abbrev pub bytes_refusal_from : Parts → Spot → ℕ → Refusal
-bytes_refusal_from p (spot.Descriptor w) left = paid left (bytes_fault p w)
+bytes_refusal_from p (spot.Descriptor w) left = paid left (word_bytes_refusal p w)
 bytes_refusal_from p (spot.Unit u) left = paid left (invalid (string_fault p.block u))
 bytes_refusal_from p (spot.Word w) left = elsewhere
-bytes_refusal_from p (spot.Key k) left = key_damage p.keys k
+bytes_refusal_from p (spot.Key k) left = block_key_refusal p.keys k
 
 -- why no bytes are read at a place with so much left
 abbrev pub bytes_refusal : Place → ℕ → Refusal
@@ -138,28 +139,28 @@ view_refusal p left =
 
 -- why no members stand at a descriptor: a count or the fields behind it outside their block, or
 -- another type
-abbrev pub members_fault : ℕ → Refusal
-members_fault w =
+abbrev pub word_members_refusal : ℕ → Refusal
+word_members_refusal w =
     if types.is_array (type_in w) || type_in w == types.int_vector then end_of_input
     else type_refusal (type_in w) (mismatch (codes "expected array resource"))
 
 -- why no entries stand at a descriptor: a table's entries reach outside the body, or another type
 -- stands there
-abbrev pub entries_fault : ℕ → Refusal
-entries_fault w =
+abbrev pub word_entries_refusal : ℕ → Refusal
+word_entries_refusal w =
     if types.is_table (type_in w) then end_of_input
     else type_refusal (type_in w) (mismatch (codes "expected table resource"))
 
 -- why no members are read at a spot with so much left
 abbrev pub members_refusal : Spot → ℕ → Refusal
-members_refusal (spot.Descriptor w) left = paid left (members_fault w)
+members_refusal (spot.Descriptor w) left = paid left (word_members_refusal w)
 members_refusal (spot.Unit u) left = no_value (spot.Unit u) left
 members_refusal (spot.Word w) left = no_value (spot.Word w) left
 members_refusal (spot.Key k) left = no_value (spot.Key k) left
 
 -- why no entries are read at a spot with so much left
 abbrev pub entries_refusal : Spot → ℕ → Refusal
-entries_refusal (spot.Descriptor w) left = paid left (entries_fault w)
+entries_refusal (spot.Descriptor w) left = paid left (word_entries_refusal w)
 entries_refusal (spot.Unit u) left = no_value (spot.Unit u) left
 entries_refusal (spot.Word w) left = no_value (spot.Word w) left
 entries_refusal (spot.Key k) left = no_value (spot.Key k) left

@@ -7,7 +7,7 @@
 use Rattle.std.specs.Prelude.{◌≡◌, ◌≤◌, ◌+◌, ◌-◌, ◌⊎◌, ℕ, List, ◌∷◌, ◌++◌, Some, None}
 use Rattle.resb_format.specs.Error.{IsWantOfMemory, Refusal}
 use Rattle.resb_format.specs.declared.error.ReadingError.{ReadingError}
-use Rattle.resb_walk.specs.Damage.{Says}
+use Rattle.resb_walk.specs.BlockRefusals.{Says}
 use Rattle.resb_walk.specs.Meets.{Blames}
 use Rattle.resb_walk.specs.Refusals.{Refuses, TakesOne}
 use Rattle.resb_read.specs.Places.{Place}
@@ -17,7 +17,7 @@ use Rattle.resb_read.specs.Refused.{number_refusal, bool_refusal, bits_refusal, 
 use Rattle.resb_read.specs.Refused.{key_refusal, bytes_refusal, view_refusal, members_refusal}
 use Rattle.resb_read.specs.Refused.{entries_refusal}
 use Rattle.resb_read.specs.Resources.{DenPlace, ReachesPlace, MeetsPlace}
-use Rattle.resb_read.specs.Sequences.{items, entries, CountsEach, CountsPairs}
+use Rattle.resb_read.specs.Sequences.{members_at, entries_at, CountsEach, CountsPairs}
 use Rattle.resb_read.specs.declared.cursor.Spot.{Spot}
 use Rattle.resb_read.specs.declared.cursor.Spot.TheVariants as spot
 
@@ -107,14 +107,15 @@ module _ (counts : Place → ℕ → Type 0) (refuses : Place → ℕ → ℕ �
   pub record RefusesMember (p : Place) (left left' : ℕ) (e : ReadingError) : Type 0 where
     pub places : List Place
     pub inside : ℕ
-    pub are : items p ≡ Some places
+    pub are : members_at p ≡ Some places
     pub paid : inside + 1 ≡ left
     pub refused : RefusesEach places inside left' e
 
   -- no members, or the budget is spent; or one of them is refused
   abbrev pub RefusesSeq : Place → ℕ → ℕ → ReadingError → Type 0
   RefusesSeq p left left' e =
-      ((items p ≡ None ⊎ left ≡ 0) × RefusesMembers p left left' e) ⊎ RefusesMember p left left' e
+      ((members_at p ≡ None ⊎ left ≡ 0)
+      × RefusesMembers p left left' e) ⊎ RefusesMember p left left' e
 
 module _ (ck : Place → ℕ → Type 0) (fk : Place → ℕ → ℕ → ReadingError → Type 0)
     (cv : Place → ℕ → Type 0) (fv : Place → ℕ → ℕ → ReadingError → Type 0) where
@@ -152,11 +153,12 @@ module _ (ck : Place → ℕ → Type 0) (fk : Place → ℕ → ℕ → Reading
   pub record RefusesEntry (p : Place) (left left' : ℕ) (e : ReadingError) : Type 0 where
     pub places : List (Place × Place)
     pub inside : ℕ
-    pub are : entries p ≡ Some places
+    pub are : entries_at p ≡ Some places
     pub paid : inside + 1 ≡ left
     pub refused : RefusesPairs places inside left' e
 
   -- no entries, or the budget is spent; or one of them is refused
   abbrev pub RefusesMap : Place → ℕ → ℕ → ReadingError → Type 0
   RefusesMap p left left' e =
-      ((entries p ≡ None ⊎ left ≡ 0) × RefusesEntries p left left' e) ⊎ RefusesEntry p left left' e
+      ((entries_at p ≡ None ⊎ left ≡ 0)
+      × RefusesEntries p left left' e) ⊎ RefusesEntry p left left' e

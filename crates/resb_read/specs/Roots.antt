@@ -1,8 +1,8 @@
 -- What is read at a file's root, with the whole budget.
 --     root_place bytes            the place of the root
---     AtRoot P bytes              the file is a bundle, and P holds of the place of its root
+--     HoldsAtRoot P bytes              the file is a bundle, and P holds of the place of its root
 --     RefusesRoot refuses bytes e     what a type that refuses so answers of the file
---     TreeOf, CountOf             what reading and counting the file's tree answer
+--     AnswersTree, AnswersCount             what reading and counting the file's tree answer
 use Rattle.std.specs.Prelude.{◌≡◌, ◌≤◌, ◌⊎◌, ℕ, List, Some, Result, Ok, Err}
 use Rattle.resb_tree.specs.Tree.{Tree}
 use Rattle.resb_tree.specs.View.{tree_of}
@@ -25,7 +25,7 @@ abbrev pub root_place : List ℕ → Place
 root_place bytes = record { parts = parts_of bytes; at = spot.Descriptor (root_word bytes) }
 
 -- the file is a bundle, and this holds of the place of its root
-pub record AtRoot (P : Place → Type 0) (bytes : List ℕ) : Type 0 where
+pub record HoldsAtRoot (P : Place → Type 0) (bytes : List ℕ) : Type 0 where
   pub head : IsBundleFile bytes
   pub root : P (root_place bytes)
 
@@ -34,7 +34,7 @@ pub record AtRoot (P : Place → Type 0) (bytes : List ℕ) : Type 0 where
 abbrev pub RefusesRoot : (Place → ℕ → ℕ → ReadingError → Type 0) → List ℕ → ReadingError → Type 0
 RefusesRoot refuses bytes e =
     (file_fault bytes ≡ Some (refusal_of e))
-    ⊎ ((left : ℕ) × AtRoot (λ p. refuses p (budget bytes) left e) bytes)
+    ⊎ ((left : ℕ) × HoldsAtRoot (λ p. refuses p (budget bytes) left e) bytes)
 
 -- the first check of the head that fails, or what is refused at the root, by the first fault there
 abbrev pub RefusesFile : List ℕ → ReadingError → Type 0
@@ -47,11 +47,11 @@ RefusesFile bytes e =
 
 -- what reading a file's tree answers: a tree that is denoted within the budget and borrows, or its
 -- refusal
-abbrev pub TreeOf : List ℕ → Result Resource ReadingError → Type 0
-TreeOf bytes (Ok r) = (n : ℕ) × Denotes bytes (tree_of r) n × (n ≤ budget bytes) × Borrows r
-TreeOf bytes (Err e) = RefusesFile bytes e
+abbrev pub AnswersTree : List ℕ → Result Resource ReadingError → Type 0
+AnswersTree bytes (Ok r) = (n : ℕ) × Denotes bytes (tree_of r) n × (n ≤ budget bytes) × Borrows r
+AnswersTree bytes (Err e) = RefusesFile bytes e
 
 -- what counting a file's tree answers: the count of a tree within the budget, or its refusal
-abbrev pub CountOf : List ℕ → Result ℕ ReadingError → Type 0
-CountOf bytes (Ok n) = (t : Tree) × Denotes bytes t n × (n ≤ budget bytes)
-CountOf bytes (Err e) = RefusesFile bytes e
+abbrev pub AnswersCount : List ℕ → Result ℕ ReadingError → Type 0
+AnswersCount bytes (Ok n) = (t : Tree) × Denotes bytes t n × (n ≤ budget bytes)
+AnswersCount bytes (Err e) = RefusesFile bytes e

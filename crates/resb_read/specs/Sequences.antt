@@ -1,6 +1,6 @@
 -- The members of sequences, the entries of maps, and what reading each of them gives.
---     items p                 the places of the members of an array or a vector
---     entries p               the places of the keys and values of a table
+--     members_at p            the places of the members of an array or a vector
+--     entries_at p            the places of the keys and values of a table
 use Rattle.std.specs.Prelude.{◌≡◌, ◌+◌, ◌==◌, ◌||◌, ℕ, List, [], ◌∷◌, map, Option, Some, None}
 use Rattle.std.specs.Prelude.{option_map, if◌then◌else◌}
 use Rattle.std.specs.BTreeMap.{insert_entry}
@@ -35,21 +35,21 @@ member_spots (Some (pairs es)) = None
 member_spots None = None
 
 -- the spots of the members of an Array, an Array16 or an IntVector
-abbrev pub items_in : Parts → ℕ → Option (List Spot)
-items_in p w =
+abbrev pub members_in : Parts → ℕ → Option (List Spot)
+members_in p w =
     if types.is_array (type_in w) || type_in w == types.int_vector then member_spots (content p w)
     else None
 
 -- the places of the members at a spot: only a descriptor has any
-abbrev pub items_from : Parts → Spot → Option (List Place)
-items_from p (spot.Descriptor w) = option_map (map (at_spot p)) (items_in p w)
-items_from p (spot.Unit u) = None
-items_from p (spot.Word w) = None
-items_from p (spot.Key k) = None
+abbrev pub members_from : Parts → Spot → Option (List Place)
+members_from p (spot.Descriptor w) = option_map (map (at_spot p)) (members_in p w)
+members_from p (spot.Unit u) = None
+members_from p (spot.Word w) = None
+members_from p (spot.Key k) = None
 
 -- the places of the members of the sequence at a place
-abbrev pub items : Place → Option (List Place)
-items p = items_from p.parts p.at
+abbrev pub members_at : Place → Option (List Place)
+members_at p = members_from p.parts p.at
 
 -- a table's entries: each a key's position and a member
 abbrev pub entry_pairs : Option Content → Option (List (ℕ × Member))
@@ -75,8 +75,8 @@ entries_from p (spot.Word w) = None
 entries_from p (spot.Key k) = None
 
 -- the places of the keys and values of the table at this place, if one stands there
-abbrev pub entries : Place → Option (List (Place × Place))
-entries p = entries_from p.parts p.at
+abbrev pub entries_at : Place → Option (List (Place × Place))
+entries_at p = entries_from p.parts p.at
 
 -- each place is read to the value beside it, and n is the sum of the counts
 abbrev pub ReadsEach : {X : Type 0} → (Place → X → ℕ → Type 0) → List Place → List X → ℕ → Type 0
@@ -96,7 +96,7 @@ pub record ReadsSeq {X : Type 0} (reads : Place → X → ℕ → Type 0) (p : P
     (n : ℕ) : Type 0 where
   pub places : List Place
   pub total : ℕ
-  pub are : items p ≡ Some places
+  pub are : members_at p ≡ Some places
   pub each : ReadsEach reads places xs total
   pub count : n ≡ 1 + total
 
@@ -104,7 +104,7 @@ pub record ReadsSeq {X : Type 0} (reads : Place → X → ℕ → Type 0) (p : P
 pub record CountsSeq (counts : Place → ℕ → Type 0) (p : Place) (n : ℕ) : Type 0 where
   pub places : List Place
   pub total : ℕ
-  pub are : items p ≡ Some places
+  pub are : members_at p ≡ Some places
   pub each : CountsEach counts places total
   pub count : n ≡ 1 + total
 
@@ -139,7 +139,7 @@ pub record ReadsMap {K X : Type 0} (cmp : K → K → Ordering) (key : Place →
   pub places : List (Place × Place)
   pub read : List (K × X)
   pub total : ℕ
-  pub are : entries p ≡ Some places
+  pub are : entries_at p ≡ Some places
   pub each : ReadsPairs key value places read total
   pub map : m ≡ put_each cmp [] read
   pub count : n ≡ 1 + total
@@ -149,7 +149,7 @@ pub record CountsMap (key : Place → ℕ → Type 0) (value : Place → ℕ →
     (n : ℕ) : Type 0 where
   pub places : List (Place × Place)
   pub total : ℕ
-  pub are : entries p ≡ Some places
+  pub are : entries_at p ≡ Some places
   pub each : CountsPairs key value places total
   pub count : n ≡ 1 + total
 

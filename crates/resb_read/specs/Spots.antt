@@ -29,16 +29,16 @@ type_at (spot.Word w) = None
 type_at (spot.Key k) = None
 
 -- the spot is a member of 16 bits
-abbrev pub IsUnit : Spot → Type 0
-IsUnit (spot.Unit u) = Unit {0}
-IsUnit s = ⊥
+abbrev pub IsUnitSpot : Spot → Type 0
+IsUnitSpot (spot.Unit u) = Unit {0}
+IsUnitSpot s = ⊥
 
 -- the spot is a number of a vector
-abbrev pub IsWord : Spot → Type 0
-IsWord (spot.Word w) = Unit {0}
-IsWord s = ⊥
+abbrev pub IsWordSpot : Spot → Type 0
+IsWordSpot (spot.Word w) = Unit {0}
+IsWordSpot s = ⊥
 
 -- the spot is a key
-abbrev pub IsKey : Spot → Type 0
-IsKey (spot.Key k) = Unit {0}
-IsKey s = ⊥
+abbrev pub IsKeySpot : Spot → Type 0
+IsKeySpot (spot.Key k) = Unit {0}
+IsKeySpot s = ⊥

@@ -21,7 +21,7 @@ use Rattle.resb_walk.specs.Refusals.{IsSpent}
 use Rattle.resb_read.specs.Places.{Place}
 use Rattle.resb_read.specs.Leaves.{key_from, ReadsKey}
 use Rattle.resb_read.specs.Refusing.{RefusesThere, RefusesEntries}
-use Rattle.resb_read.specs.Sequences.{entries}
+use Rattle.resb_read.specs.Sequences.{entries_at}
 use Rattle.resb_read.specs.Inner.Items.{entry_places}
 use Rattle.resb_read.specs.declared.cursor.Spot.{Spot}
 use Rattle.resb_read.specs.declared.cursor.Spot.TheVariants as spot
@@ -166,12 +166,12 @@ pub record RefusesPaying (es : List (Place × Place)) (left left' : ℕ) (e : Re
 pub record RefusesUnpaid (p : Place) (left left' : ℕ) (e : ReadingError) : Type 0 where
   pub places : List (Place × Place)
   pub inside : ℕ
-  pub are : entries p ≡ Some places
+  pub are : entries_at p ≡ Some places
   pub paid : inside + 1 ≡ left
   pub refused : RefusesPaying places inside left' e
 
 -- no entries stand there, or the budget is spent, before the entries or by them
 abbrev pub RefusesTable : Place → ℕ → ℕ → ReadingError → Type 0
 RefusesTable p left left' e =
-    ((entries p ≡ None ⊎ left ≡ 0) × RefusesEntries p left left' e)
+    ((entries_at p ≡ None ⊎ left ≡ 0) × RefusesEntries p left left' e)
     ⊎ RefusesUnpaid p left left' e

@@ -6,10 +6,10 @@ ghost use Rattle.resb_read.specs.Places.{place_of};
 ghost use Rattle.resb_read.specs.Sequences as sequences;
 ghost use Rattle.resb_read.specs.Access.{EntersTo, Enters, ReadsPair, CountsPair};
 ghost use Rattle.resb_read.specs.Reading.{LacksOrMemory};
-ghost use Rattle.resb_walk.specs.Damage.{Says};
+ghost use Rattle.resb_walk.specs.BlockRefusals.{Says};
 ghost use Rattle.resb_walk.specs.Files.{parts_in};
 ghost use Rattle.resb_walk.specs.Inner.Members.{keyed_members};
-ghost use Rattle.resb_read.specs.Refused.{entries_fault};
+ghost use Rattle.resb_read.specs.Refused.{word_entries_refusal};
 ghost use Rattle.resb_read.specs.Refusing.{RefusesEntries, RefusesPair};
 ghost use Rattle.resb_read.specs.Tables.{entries_of, RefusesPaying};
 
@@ -165,7 +165,7 @@ fn read_pair<'de, 'm, K: Deserialize<'de>, T: Deserialize<'de>>(
 fn entries_at<'de>(file: File<'de>, word: u32) -> Result<Pairs<'de>, BinaryDeserializerError>
     ensures { let entries = sequences.entries_in (parts_in file.entry) word in
         MatchResult result (λ r. entries ≡ Some (keyed_members r))
-        (λ e. (entries ≡ None) × Says (entries_fault word) e) }
+        (λ e. (entries ≡ None) × Says (word_entries_refusal word) e) }
 {
     match readable(word)?.0 {
         ResourceReprType::Table | ResourceReprType::_Table32 | ResourceReprType::Table16 => {}
@@ -185,10 +185,10 @@ impl<'de> Cursor<'de> {
     /// The entries of the table that stands here. The fields of all lie in the file, but where they
     /// lead isn't looked at yet.
     pub fn read_map<'m>(self, walk: &mut Walk) -> Result<MapAccess<'de, 'm>, ReadingError<'m>>
-        ensures read { IfOk result (λ s. (sequences.entries (place_of self.entry) ≡ Some s.rest)
+        ensures read { IfOk result (λ s. (sequences.entries_at (place_of self.entry) ≡ Some s.rest)
             × (s.failed ≡ None) × (walk.new + 1 ≡ walk.old)) }
         ensures refused { IfErr result (λ e. (walk.new ≤ walk.old)
-            × (sequences.entries (place_of self.entry) ≡ None ⊎ walk.old ≡ 0)
+            × (sequences.entries_at (place_of self.entry) ≡ None ⊎ walk.old ≡ 0)
             × RefusesEntries (place_of self.entry) walk.old walk.new e) }
     {
         let Spot::Descriptor(word) = self.at else {

@@ -3,7 +3,7 @@
 ghost use Rattle.std.specs.Prelude.{◌≡◌, ◌≢◌, ◌≤◌, IfOk, IfErr, true};
 ghost use Rattle.resb_format.specs.Descriptor.{type_number};
 ghost use Rattle.resb_format.specs.Types.{is_read_type};
-ghost use Rattle.resb_walk.specs.Damage.{Says};
+ghost use Rattle.resb_walk.specs.BlockRefusals.{Says};
 ghost use Rattle.resb_walk.specs.Refusals.{IsFault};
 ghost use Rattle.resb_read.specs.Leaves.{type_in, value_in};
 ghost use Rattle.resb_read.specs.Refused as refused;

@@ -5,7 +5,7 @@ ghost use Rattle.resb_walk.specs.Files.{parts_in};
 ghost use Rattle.resb_walk.specs.Pieces.{Piece, Holds};
 ghost use Rattle.resb_walk.specs.Sums.{AddsUp, count_of, fitting};
 ghost use Rattle.resb_walk.specs.TreeBytes.{tree_bytes};
-ghost use Rattle.resb_read.specs.Measuring.{IsMeasured, MeasureOf, TreeWithin, IsLarger};
+ghost use Rattle.resb_read.specs.Measuring.{IsMeasured, AnswersMeasure, TreeWithin, IsLarger};
 ghost use Rattle.resb_read.specs.Places.{place_of};
 ghost use Rattle.resb_read.specs.Resources.{HoldsPlace};
 
@@ -80,7 +80,7 @@ impl<'de> Cursor<'de> {
 /// Counts the resources of a file's tree, sums what they hold, and makes no tree. It is refused as
 /// `count_resources` is. No key and no string is looked at twice as a whole.
 pub fn measure(alloc: Global, bytes: &[u8]) -> Result<Measured, BinaryDeserializerError>
-    ensures { MeasureOf bytes.now result }
+    ensures { AnswersMeasure bytes.now result }
 {
     let (root, mut walk) = Cursor::root(bytes)?;
     let before = walk.left();

@@ -10,7 +10,7 @@ ghost use Rattle.resb_read.specs.Refusing.{RefusesNumber};
 ghost use Rattle.resb_read.specs.Leaves.{ReadsText, CountsText, ReadsKey, CountsKey, ReadsBytes};
 ghost use Rattle.resb_read.specs.Leaves.{CountsBytes, ReadsSigned, CountsSigned, ReadsUnsigned};
 ghost use Rattle.resb_read.specs.Leaves.{CountsUnsigned};
-ghost use Rattle.resb_read.specs.Spots.{IsUnit, IsWord, IsKey};
+ghost use Rattle.resb_read.specs.Spots.{IsUnitSpot, IsWordSpot, IsKeySpot};
 ghost use Rattle.resb_read.specs.Inner.Named as named;
 
 use crate::cursor::{Cursor, Spot};
@@ -42,8 +42,8 @@ pub struct KeyDeserializer<'de> {
 impl<'de> Cursor<'de> {
     /// The string's deserializer, at a unit of the 16-bit block.
     pub fn as_16_bit(self) -> Option<Resource16BitDeserializer<'de>>
-        ensures { MatchOption result (IsUnit self.entry.at → ⊥)
-            (λ d. IsUnit self.entry.at × (named.unit_place d ≡ place_of self.entry)) }
+        ensures { MatchOption result (IsUnitSpot self.entry.at → ⊥)
+            (λ d. IsUnitSpot self.entry.at × (named.unit_place d ≡ place_of self.entry)) }
     {
         match self.at {
             Spot::Unit(unit) => Some(Resource16BitDeserializer {
@@ -56,8 +56,8 @@ impl<'de> Cursor<'de> {
 
     /// The number's deserializer, at a vector's word.
     pub fn as_int_vector(self) -> Option<IntVectorDeserializer<'de>>
-        ensures { MatchOption result (IsWord self.entry.at → ⊥)
-            (λ d. IsWord self.entry.at × (named.word_place d ≡ place_of self.entry)) }
+        ensures { MatchOption result (IsWordSpot self.entry.at → ⊥)
+            (λ d. IsWordSpot self.entry.at × (named.word_place d ≡ place_of self.entry)) }
     {
         match self.at {
             Spot::Word(word) => Some(IntVectorDeserializer {
@@ -70,8 +70,8 @@ impl<'de> Cursor<'de> {
 
     /// The key's deserializer, at a key.
     pub fn as_key(self) -> Option<KeyDeserializer<'de>>
-        ensures { MatchOption result (IsKey self.entry.at → ⊥)
-            (λ d. IsKey self.entry.at × (named.key_place d ≡ place_of self.entry)) }
+        ensures { MatchOption result (IsKeySpot self.entry.at → ⊥)
+            (λ d. IsKeySpot self.entry.at × (named.key_place d ≡ place_of self.entry)) }
     {
         match self.at {
             Spot::Key(position) => Some(KeyDeserializer {

@@ -4,11 +4,11 @@ ghost use Rattle.std.specs.Prelude.{◌≡◌, ◌≤◌, ◌<◌, ◌+◌, ◌�
 ghost use Rattle.std.specs.Prelude.{MatchOption, MatchResult, IfOk, IfErr};
 ghost use Rattle.resb_read.specs.Places.{place_of};
 ghost use Rattle.resb_read.specs.Inner.Items.{spots_of};
-ghost use Rattle.resb_read.specs.Sequences.{items, items_in};
+ghost use Rattle.resb_read.specs.Sequences.{members_at, members_in};
 ghost use Rattle.resb_walk.specs.Files.{parts_in};
 ghost use Rattle.resb_read.specs.Access.{StepsTo, Steps};
-ghost use Rattle.resb_walk.specs.Damage.{Says};
-ghost use Rattle.resb_read.specs.Refused.{members_fault};
+ghost use Rattle.resb_walk.specs.BlockRefusals.{Says};
+ghost use Rattle.resb_read.specs.Refused.{word_members_refusal};
 ghost use Rattle.resb_read.specs.Refusing.{RefusesMembers};
 
 use crate::cursor::{Cursor, Spot};
@@ -117,9 +117,9 @@ impl<'de, 'm> SeqAccess<'de, 'm> {
 /// The members of the array or vector at a word.
 #[inline(always)]
 fn members_at<'de>(file: File<'de>, word: u32) -> Result<Items<'de>, BinaryDeserializerError>
-    ensures { let members = items_in (parts_in file.entry) word in
+    ensures { let members = members_in (parts_in file.entry) word in
         MatchResult result (λ r. members ≡ Some (spots_of r))
-        (λ e. (members ≡ None) × Says (members_fault word) e) }
+        (λ e. (members ≡ None) × Says (word_members_refusal word) e) }
 {
     match readable(word)?.0 {
         ResourceReprType::Array | ResourceReprType::Array16 | ResourceReprType::IntVector => {}
@@ -140,10 +140,10 @@ impl<'de> Cursor<'de> {
     /// The members of the array or vector that stands here. The fields of all lie in the file, but
     /// where they lead isn't looked at yet.
     pub fn read_seq<'m>(self, walk: &mut Walk) -> Result<SeqAccess<'de, 'm>, ReadingError<'m>>
-        ensures read { IfOk result (λ s. (items (place_of self.entry) ≡ Some s.rest)
+        ensures read { IfOk result (λ s. (members_at (place_of self.entry) ≡ Some s.rest)
             × (s.failed ≡ None) × (walk.new + 1 ≡ walk.old)) }
         ensures refused { IfErr result (λ e. (walk.new ≤ walk.old)
-            × (items (place_of self.entry) ≡ None ⊎ walk.old ≡ 0)
+            × (members_at (place_of self.entry) ≡ None ⊎ walk.old ≡ 0)
             × RefusesMembers (place_of self.entry) walk.old walk.new e) }
     {
         let Spot::Descriptor(word) = self.at else {

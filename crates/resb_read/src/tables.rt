@@ -129,7 +129,7 @@ impl<'de> Cursor<'de> {
     /// file, but where they lead isn't looked at yet.
     pub fn read_table<'m>(self, walk: &mut Walk) -> Result<TableView<'de>, ReadingError<'m>>
         ensures read { IfOk result (λ t.
-            (sequences.entries (place_of self.entry) ≡ Some (entries_of t))
+            (sequences.entries_at (place_of self.entry) ≡ Some (entries_of t))
             × (walk.new + 1 + length (entries_of t) ≡ walk.old)) }
         ensures refused { IfErr result (λ e.
             RefusesTable (place_of self.entry) walk.old walk.new e) }

@@ -7,11 +7,11 @@ ghost use Rattle.resb_format.specs.Bytes.{units_of};
 ghost use Rattle.resb_format.specs.Strings as strings;
 ghost use Rattle.resb_format.specs.Error.{end_of_input, invalid};
 ghost use Rattle.resb_format.specs.StringFaults.{string_fault};
-ghost use Rattle.resb_walk.specs.Damage.{Says};
+ghost use Rattle.resb_walk.specs.BlockRefusals.{Says};
 ghost use Rattle.resb_walk.specs.Files.{parts_in};
 ghost use Rattle.resb_read.specs.Places.{place_of};
 ghost use Rattle.resb_read.specs.Reading.{Reads, LacksOrMemory};
-ghost use Rattle.resb_read.specs.Refused.{bytes_fault};
+ghost use Rattle.resb_read.specs.Refused.{word_bytes_refusal};
 ghost use Rattle.resb_read.specs.Refusing.{RefusesText, RefusesKey, RefusesBytes};
 ghost use Rattle.resb_read.specs.Leaves.{type_in, value_in, units_as_bytes, counted_bytes};
 ghost use Rattle.resb_read.specs.Leaves.{bytes_of_type, ReadsText, CountsText, ReadsKey, CountsKey};
@@ -73,7 +73,7 @@ fn described(file: File<'_>, word: u32) -> Result<&[u8], BinaryDeserializerError
     ensures stands { let p = parts_in file.entry in
         let there = bytes_of_type p (type_in word) (value_in word) in
         MatchResult result (λ b. there ≡ Some b.now) (λ _. there ≡ None) }
-    ensures says { IfErr result (Says (bytes_fault (parts_in file.entry) word)) }
+    ensures says { IfErr result (Says (word_bytes_refusal (parts_in file.entry) word)) }
 {
     let (kind, value) = readable(word)?;
     let value = value as usize;

@@ -6,7 +6,7 @@ ghost use Rattle.resb_format.specs.Error.{refusal_of};
 ghost use Rattle.resb_format.specs.File.{budget};
 ghost use Rattle.resb_head.specs.HeadChecks.{file_fault};
 ghost use Rattle.resb_read.specs.Reading.{LacksOrMemory};
-ghost use Rattle.resb_read.specs.Roots.{AtRoot, RefusesRoot, TreeOf, CountOf};
+ghost use Rattle.resb_read.specs.Roots.{HoldsAtRoot, RefusesRoot, AnswersTree, AnswersCount};
 
 use crate::cursor::Cursor;
 use crate::deserialize::Deserialize;
@@ -18,10 +18,10 @@ pub fn from_bytes<'a, 'm, T: Deserialize<'a>>(
     alloc: Global,
     bytes: &'a [u8],
 ) -> Result<T, ReadingError<'m>>
-    ensures read { IfOk result (λ x. (n : ℕ) × AtRoot (λ p. T.reads p x n) bytes.entry.now
+    ensures read { IfOk result (λ x. (n : ℕ) × HoldsAtRoot (λ p. T.reads p x n) bytes.entry.now
         × (n ≤ budget bytes.entry.now)) }
     ensures refused { IfErr result (λ e. LacksOrMemory
-        (λ n. AtRoot (λ p. T.counts p n) bytes.entry.now) (budget bytes.entry.now) e) }
+        (λ n. HoldsAtRoot (λ p. T.counts p n) bytes.entry.now) (budget bytes.entry.now) e) }
     ensures head { IfErr result
         (λ e. (f : reading.Refusal) → file_fault bytes.entry.now ≡ Some f → refusal_of e ≡ f) }
     ensures says { IfErr result (RefusesRoot T.refuses bytes.entry.now) }
@@ -36,9 +36,10 @@ pub fn from_bytes_counted<'a, 'm, T: Deserialize<'a>>(
     bytes: &'a [u8],
 ) -> Result<(T, usize), ReadingError<'m>>
     ensures read { IfOk result
-        (λ r. AtRoot (λ p. T.reads p r.0 r.1) bytes.entry.now × (r.1 ≤ budget bytes.entry.now)) }
+        (λ r. HoldsAtRoot (λ p. T.reads p r.0 r.1) bytes.entry.now
+        × (r.1 ≤ budget bytes.entry.now)) }
     ensures refused { IfErr result (λ e. LacksOrMemory
-        (λ n. AtRoot (λ p. T.counts p n) bytes.entry.now) (budget bytes.entry.now) e) }
+        (λ n. HoldsAtRoot (λ p. T.counts p n) bytes.entry.now) (budget bytes.entry.now) e) }
     ensures head { IfErr result
         (λ e. (f : reading.Refusal) → file_fault bytes.entry.now ≡ Some f → refusal_of e ≡ f) }
     ensures says { IfErr result (RefusesRoot T.refuses bytes.entry.now) }
@@ -52,7 +53,7 @@ pub fn from_bytes_counted<'a, 'm, T: Deserialize<'a>>(
 /// Reads the tree of a file. It is `Ok` exactly where the bytes denote a tree of at most as many
 /// resources as the budget, memory aside.
 pub fn tree_from_bytes(alloc: Global, bytes: &[u8]) -> Result<Resource<'_>, BinaryDeserializerError>
-    ensures { TreeOf bytes.now result }
+    ensures { AnswersTree bytes.now result }
 {
     let (root, mut walk) = Cursor::root(bytes)?;
     root.read_resource(alloc, &mut walk)
@@ -61,7 +62,7 @@ pub fn tree_from_bytes(alloc: Global, bytes: &[u8]) -> Result<Resource<'_>, Bina
 /// Counts the resources of a file's tree, and makes no tree: the number that `from_bytes_counted`
 /// gives with the tree, or its refusal.
 pub fn count_resources(alloc: Global, bytes: &[u8]) -> Result<usize, BinaryDeserializerError>
-    ensures { CountOf bytes.now result }
+    ensures { AnswersCount bytes.now result }
 {
     let (root, mut walk) = Cursor::root(bytes)?;
     let before = walk.left();

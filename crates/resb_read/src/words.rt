@@ -12,7 +12,7 @@ ghost use Rattle.resb_format.specs.File.{budget};
 ghost use Rattle.resb_head.specs.Codes.{endianness_number};
 ghost use Rattle.resb_head.specs.HeadChecks.{file_fault, header_fault};
 ghost use Rattle.resb_read.specs.Reading.{LacksOrMemory};
-ghost use Rattle.resb_read.specs.Roots.{AtRoot, RefusesRoot};
+ghost use Rattle.resb_read.specs.Roots.{HoldsAtRoot, RefusesRoot};
 
 use crate::deserialize::Deserialize;
 use crate::whole_files::from_bytes;
@@ -56,9 +56,10 @@ pub fn from_words<'a, 'm, T: Deserialize<'a>>(
     buffer: &'a mut Vec<u8>,
 ) -> Result<T, ReadingError<'m>>
     ensures read { let bytes = flat_map (to_le_bytes w32) words.now in
-        IfOk result (λ x. (n : ℕ) × AtRoot (λ p. T.reads p x n) bytes × (n ≤ budget bytes)) }
+        IfOk result (λ x. (n : ℕ) × HoldsAtRoot (λ p. T.reads p x n) bytes × (n ≤ budget bytes)) }
     ensures refused { let bytes = flat_map (to_le_bytes w32) words.now in
-        IfErr result (λ e. LacksOrMemory (λ n. AtRoot (λ p. T.counts p n) bytes) (budget bytes) e) }
+        IfErr result (λ e. LacksOrMemory (λ n. HoldsAtRoot (λ p. T.counts p n) bytes) (budget bytes)
+            e) }
     ensures head { let bytes = flat_map (to_le_bytes w32) words.now in
         IfErr result (λ e. IsWantOfMemory e ⊎
         ((f : reading.Refusal) → file_fault bytes ≡ Some f → refusal_of e ≡ f)) }

@@ -7,7 +7,7 @@ use Rattle.resb_read.specs.Places.{Place, place_of}
 use Rattle.resb_read.specs.Reading.{LacksOrMemory}
 use Rattle.resb_read.specs.Access.{EntryAccess, EntersTo, StepsOver, StepsAfter, HandsOnBoth}
 use Rattle.resb_read.specs.Access.{RefusesNone}
-use Rattle.resb_read.specs.Sequences.{entries}
+use Rattle.resb_read.specs.Sequences.{entries_at}
 use Rattle.resb_read.specs.declared.cursor.Cursor.{Cursor}
 use Rattle.resb_read_rows.specs.Fields.{Entry, CountsField, CountsFirst, CountsBoth}
 use Rattle.resb_read_rows.specs.FieldLaws.{field_one}
@@ -35,7 +35,7 @@ entered_after old new k v none h =
 module _ (ci cv : Place → ℕ → Type 0) (p : Place) (left left1 : ℕ) (paid : left1 + 1 ≡ left)
     (e : ReadingError) where
   -- what is refused at the first field is refused of both
-  pub refused_i : (rest : List Entry) → entries p ≡ Some rest
+  pub refused_i : (rest : List Entry) → entries_at p ≡ Some rest
       → LacksOrMemory (CountsFirst (codes "i") ci rest) left1 e
       → LacksOrMemory (CountsBoth ci cv p) left e
   refused_i rest are (inl m) = inl m
@@ -49,7 +49,7 @@ module _ (ci cv : Place → ℕ → Type 0) (p : Place) (left left1 : ℕ) (paid
   -- what is refused at the second field is refused of both
   pub refused_v : (one : (p : Place) (m n : ℕ) → ci p m → ci p n → m ≡ n) (f : Entry)
       (rest : List Entry) (a left2 : ℕ)
-      → entries p ≡ Some (f ∷ rest) → CountsField (codes "i") ci f a → left2 + a ≡ left1
+      → entries_at p ≡ Some (f ∷ rest) → CountsField (codes "i") ci f a → left2 + a ≡ left1
       → LacksOrMemory (CountsFirst (codes "v") cv rest) left2 e
       → LacksOrMemory (CountsBoth ci cv p) left e
   refused_v one f rest a left2 are first paid2 (inl m) = inl m

@@ -5,7 +5,7 @@ use Rattle.std.specs.Prelude.{◌≡◌, ◌+◌, ◌-◌, ◌^◌, ℕ, ℤ, po
 use Rattle.std.specs.Prelude.{codes}
 use Rattle.resb_read.specs.Places.{Place}
 use Rattle.resb_read.specs.Leaves.{ReadsKey, ReadsSigned, CountsSigned}
-use Rattle.resb_read.specs.Sequences.{entries}
+use Rattle.resb_read.specs.Sequences.{entries_at}
 
 -- the place of a key, and of its value
 abbrev pub Entry : Type 0
@@ -28,7 +28,7 @@ pub record ReadsBoth {I V : Type 0} (ri : Place → I → ℕ → Type 0) (rv : 
   pub at_v : Entry
   pub of_i : ℕ
   pub of_v : ℕ
-  pub are : entries p ≡ Some (at_i ∷ at_v ∷ [])
+  pub are : entries_at p ≡ Some (at_i ∷ at_v ∷ [])
   pub read_i : ReadsField (codes "i") ri at_i i of_i
   pub read_v : ReadsField (codes "v") rv at_v v of_v
   pub count : n ≡ 1 + (of_i + of_v)
@@ -38,7 +38,7 @@ pub record CountsBoth (ci cv : Place → ℕ → Type 0) (p : Place) (n : ℕ) :
   pub at_v : Entry
   pub of_i : ℕ
   pub of_v : ℕ
-  pub are : entries p ≡ Some (at_i ∷ at_v ∷ [])
+  pub are : entries_at p ≡ Some (at_i ∷ at_v ∷ [])
   pub read_i : CountsField (codes "i") ci at_i of_i
   pub read_v : CountsField (codes "v") cv at_v of_v
   pub count : n ≡ 1 + (of_i + of_v)

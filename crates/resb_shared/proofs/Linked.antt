@@ -13,19 +13,23 @@ use Rattle.std.specs.Char.Utf16.{has_unpaired_surrogate}
 use Rattle.resb_shared.specs.Links.{AreLinked, AreCounted, break_at, breaks, IsLinkedText}
 use Rattle.resb_shared.specs.Links.{IsWellFormed}
 
+-- a unit that is no half of a pair is a character
 pub lone_some : (u : ℕ) → is_high_surrogate u ≡ false → is_low_surrogate u ≡ false
     → lone_unit_char u ≡ Some u
 lone_some u h l = grind (arith, nat_tests, h, l)
 
-low_none : (u : ℕ) → is_low_surrogate u ≡ true → lone_unit_char u ≡ None
+-- a second half of a pair alone is no character
+pub low_none : (u : ℕ) → is_low_surrogate u ≡ true → lone_unit_char u ≡ None
 low_none u l = grind (arith, nat_tests, l)
 
-high_none : (u : ℕ) → is_high_surrogate u ≡ true → lone_unit_char u ≡ None
+-- a first half of a pair alone is no character
+pub high_none : (u : ℕ) → is_high_surrogate u ≡ true → lone_unit_char u ≡ None
 high_none u h = grind (arith, nat_tests, h)
 
 low_is_not_high : (u : ℕ) → is_low_surrogate u ≡ true → is_high_surrogate u ≡ false
 low_is_not_high u l = grind (arith, nat_tests, l)
 
+-- before other units, one that is no half of a pair changes nothing
 pub plain_first : (u : ℕ) (us : List ℕ) → is_high_surrogate u ≡ false
     → is_low_surrogate u ≡ false → has_unpaired_surrogate (u ∷ us) ≡ has_unpaired_surrogate us
 unfolding utf16_chars

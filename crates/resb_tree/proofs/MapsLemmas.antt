@@ -15,6 +15,7 @@ use Rattle.resb_tree.specs.View.{entries_view}
 use Rattle.resb_tree.specs.Maps.{text_cmp, pairs_of, get, IsMap, AreMaps, AreMapsOf}
 use Rattle.resb_tree.specs.declared.resource.Resource.{Resource}
 
+-- entries taken apart to pairs are put together again
 pub entries_of-pairs_of : (es : Entries) → entries_of (pairs_of es) ≡ es
 entries_of-pairs_of no_entries = refl
 entries_of-pairs_of (entry k t es) = ap (entry k t) (entries_of-pairs_of es)

@@ -12,10 +12,12 @@ use Rattle.resb_tree.specs.declared.resource.Resource.{Resource, Array, Table, t
 pub tree_of_array : (v : Vec Resource Global) → tree_of (Array v) ≡ array (items_view v.items)
 tree_of_array v = search (rules, the_lemmas)
 
+-- the tree of a table has its map's entries
 pub tree_of_table : (m : BTreeMap (List ℕ) Resource)
     → tree_of (Table m) ≡ table (entries_view m.entries)
 tree_of_table m = search (rules, the_lemmas)
 
+-- a table's view has as many entries as its map
 pub entries_len_view : (es : List (List ℕ × Resource)) → entries_len (entries_view es) ≡ length es
 entries_len_view [] = refl
 entries_len_view (e ∷ es) = ap (λ n. n + 1) (entries_len_view es) ∙ add-one _

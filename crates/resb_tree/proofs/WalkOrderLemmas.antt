@@ -10,19 +10,20 @@ use Rattle.resb_tree.specs.Tree.{no_trees, more_trees, Entries, no_entries, entr
 use Rattle.resb_tree.specs.Tree.{tree_count, trees_count, entries_count}
 use Rattle.resb_tree.specs.View.{tree_of, items_view, entries_view}
 use Rattle.resb_tree.specs.declared.resource.Resource.{Resource}
-use Rattle.resb_tree.specs.WalkOrder.{members, values_of, children, walk, walk_each, walk_values}
+use Rattle.resb_tree.specs.WalkOrder.{members, values_of, children, walk_order, walk_each}
+use Rattle.resb_tree.specs.WalkOrder.{walk_values}
 use Rattle.resb_tree.specs.WalkOrder.{trees_in}
 use Rattle.std.proofs.lemmas.Grind.{flat_map-append}
 
-each_is : (ts : Trees) → walk_each ts ≡ flat_map walk (members ts)
+each_is : (ts : Trees) → walk_each ts ≡ flat_map walk_order (members ts)
 each_is no_trees = refl
-each_is (more_trees t ts) = ap (λ l. walk t ++ l) (each_is ts)
+each_is (more_trees t ts) = ap (λ l. walk_order t ++ l) (each_is ts)
 
-values_is : (es : Entries) → walk_values es ≡ flat_map walk (values_of es)
+values_is : (es : Entries) → walk_values es ≡ flat_map walk_order (values_of es)
 values_is no_entries = refl
-values_is (entry k t es) = ap (λ l. walk t ++ l) (values_is es)
+values_is (entry k t es) = ap (λ l. walk_order t ++ l) (values_is es)
 
-pub walk_is : (t : Tree) → walk t ≡ flat_map walk (children t) ++ t ∷ []
+pub walk_is : (t : Tree) → walk_order t ≡ flat_map walk_order (children t) ++ t ∷ []
 walk_is (string s) = refl
 walk_is (array ts) = ap (λ l. l ++ array ts ∷ []) (each_is ts)
 walk_is (table es) = ap (λ l. l ++ table es ∷ []) (values_is es)
@@ -65,18 +66,18 @@ trees-push old new r e = ap trees_in e ∙ map_push (λ (x : Bor Resource). tree
 -- a resource is taken off, and what is inside it put on
 pub replaced : (front old new seen seen' : List Tree) (t : Tree) (all : List Tree)
     → old ≡ front ++ t ∷ [] → new ≡ front ++ children t → seen' ≡ seen ++ t ∷ []
-    → flat_map walk old ++ reverse seen ≡ all → flat_map walk new ++ reverse seen' ≡ all
+    → flat_map walk_order old ++ reverse seen ≡ all → flat_map walk_order new ++ reverse seen' ≡ all
 replaced front old new seen seen' t all e f g h =
-    (λ i. flat_map walk (f i) ++ reverse (g i))
-    ∙ (λ i. flat_map-append walk front (children t) i ++ reverse-append seen (t ∷ []) i)
-    ∙ append_assoc (flat_map walk front) (flat_map walk (children t)) (t ∷ reverse seen)
-    ∙ ap (λ l. flat_map walk front ++ l)
-    (sym (append_assoc (flat_map walk (children t)) (t ∷ []) (reverse seen)))
-    ∙ ap (λ l. flat_map walk front ++ (l ++ reverse seen)) (sym (walk_is t))
-    ∙ sym (append_assoc (flat_map walk front) (walk t) (reverse seen))
-    ∙ ap (λ l. (flat_map walk front ++ l) ++ reverse seen) (sym (append-nil (walk t)))
-    ∙ ap (λ l. l ++ reverse seen) (sym (flat_map-append walk front (t ∷ [])))
-    ∙ ap (λ l. flat_map walk l ++ reverse seen) (sym e)
+    (λ i. flat_map walk_order (f i) ++ reverse (g i))
+    ∙ (λ i. flat_map-append walk_order front (children t) i ++ reverse-append seen (t ∷ []) i)
+    ∙ append_assoc (flat_map walk_order front) (flat_map walk_order (children t)) (t ∷ reverse seen)
+    ∙ ap (λ l. flat_map walk_order front ++ l)
+    (sym (append_assoc (flat_map walk_order (children t)) (t ∷ []) (reverse seen)))
+    ∙ ap (λ l. flat_map walk_order front ++ (l ++ reverse seen)) (sym (walk_is t))
+    ∙ sym (append_assoc (flat_map walk_order front) (walk_order t) (reverse seen))
+    ∙ ap (λ l. (flat_map walk_order front ++ l) ++ reverse seen) (sym (append-nil (walk_order t)))
+    ∙ ap (λ l. l ++ reverse seen) (sym (flat_map-append walk_order front (t ∷ [])))
+    ∙ ap (λ l. flat_map walk_order l ++ reverse seen) (sym e)
     ∙ h
 
 pub replaced_counts : (front old new : List Tree) (t : Tree) → old ≡ front ++ t ∷ []
@@ -106,6 +107,7 @@ trees-reverse (r ∷ rs) =
     ∙ ap (λ l. l ++ tree_of r.now ∷ []) (trees-reverse rs)
     ∙ sym (reverse-append (tree_of r.now ∷ []) (trees_in rs))
 
+-- an array has as many members as it had resources
 pub items_long : (rs : List Resource) → length rs ≡ length (members (items_view rs))
 items_long [] = refl
 items_long (r ∷ rs) = omega (arith, items_long rs)
@@ -113,10 +115,12 @@ items_long (r ∷ rs) = omega (arith, items_long rs)
 -- the resources from a place on, and those up to the one there
 module _ (rs : List (Bor Resource)) (i : ℕ) (r : Bor Resource) (at : r ≡ get_or rs i r)
     (h : i < length rs) where
+  -- the trees from one resource on are its own, and those behind it
   pub trees-drop : trees_in (drop i rs) ≡ tree_of r.now ∷ trees_in (drop (i + 1) rs)
   trees-drop = at_drop_more trees_in rs i r h ∙ ap (λ (x : Bor Resource). tree_of x.now
       ∷ trees_in (drop (i + 1) rs)) (sym at)
 
+  -- the trees of one resource more are those before it, and its own
   pub trees-take : trees_in (take (i + 1) rs) ≡ trees_in (take i rs) ++ tree_of r.now ∷ []
   trees-take = map_more (λ (x : Bor Resource). tree_of x.now) rs i r h
       ∙ ap (λ (x : Bor Resource). trees_in (take i rs) ++ tree_of x.now ∷ []) (sym at)

@@ -1,7 +1,7 @@
 -- The order in which a tree's resources are laid: members in order, a table's by their keys, each
 -- before its collection.
 --     children t              the resources right inside t
---     walk t                  all resources of t
+--     walk_order t            all resources of t
 --     texts_of t              the texts of its strings, as often as each stands there
 --     keys_of t               the keys of its tables, as often as each stands there
 --     trees_in rs             resources as trees
@@ -34,23 +34,23 @@ children (int_vector s) = []
 
 abbrev mutual
   -- the resources of a tree, members before their collection
-  pub walk : Tree → List Tree
-  walk (string s) = string s ∷ []
-  walk (array ts) = walk_each ts ++ array ts ∷ []
-  walk (table es) = walk_values es ++ table es ∷ []
-  walk (binary s) = binary s ∷ []
-  walk (integer n) = integer n ∷ []
-  walk (int_vector s) = int_vector s ∷ []
+  pub walk_order : Tree → List Tree
+  walk_order (string s) = string s ∷ []
+  walk_order (array ts) = walk_each ts ++ array ts ∷ []
+  walk_order (table es) = walk_values es ++ table es ∷ []
+  walk_order (binary s) = binary s ∷ []
+  walk_order (integer n) = integer n ∷ []
+  walk_order (int_vector s) = int_vector s ∷ []
 
   -- the resources of trees, one tree after another
   pub walk_each : Trees → List Tree
   walk_each no_trees = []
-  walk_each (more_trees t ts) = walk t ++ walk_each ts
+  walk_each (more_trees t ts) = walk_order t ++ walk_each ts
 
   -- the resources of the trees of entries, one after another
   pub walk_values : Entries → List Tree
   walk_values no_entries = []
-  walk_values (entry k t es) = walk t ++ walk_values es
+  walk_values (entry k t es) = walk_order t ++ walk_values es
 
 -- the text of a string; nothing of any other tree
 abbrev pub text_in : Tree → List (List ℕ)
@@ -59,7 +59,7 @@ text_in _ = []
 
 -- the texts of a tree's strings in walk order, as often as each stands there
 abbrev pub texts_of : Tree → List (List ℕ)
-texts_of t = flat_map text_in (walk t)
+texts_of t = flat_map text_in (walk_order t)
 
 -- the keys of entries, in their order
 abbrev pub entry_keys : Entries → List (List ℕ)
@@ -73,7 +73,7 @@ own_keys _ = []
 
 -- the keys of a tree's tables in walk order, as often as each stands there
 abbrev pub keys_of : Tree → List (List ℕ)
-keys_of t = flat_map own_keys (walk t)
+keys_of t = flat_map own_keys (walk_order t)
 
 -- the trees that resources stand for, in their order
 abbrev pub trees_in : List (Bor Resource) → List Tree

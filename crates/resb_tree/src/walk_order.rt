@@ -2,7 +2,7 @@
 //! What is laid for each is not said here. No function calls itself, so that any depth is walked.
 ghost use Rattle.std.specs.Prelude.{◌≡◌, ◌++◌, [], map, reverse, IfOk, OnOk};
 ghost use Rattle.resb_tree.specs.View.{tree_of};
-ghost use Rattle.resb_tree.specs.WalkOrder.{walk, children, trees_in};
+ghost use Rattle.resb_tree.specs.WalkOrder.{walk_order, children, trees_in};
 
 use crate::resource::{Resource, Table};
 use std::alloc::{AllocError, Global};
@@ -15,7 +15,7 @@ pub fn in_walk_order<'t, 'a>(
     alloc: Global,
     root: &'t Resource<'a>,
 ) -> Result<WalkOrder<'t, 'a>, AllocError>
-    ensures { IfOk result (λ v. trees_in v.items ≡ walk (tree_of root.now)) }
+    ensures { IfOk result (λ v. trees_in v.items ≡ walk_order (tree_of root.now)) }
 {
     let mut order = Vec::new(alloc);
     push_walk(alloc, &mut order, root)?;
@@ -30,7 +30,7 @@ fn push_walk<'t, 'a>(
     root: &'t Resource<'a>,
 ) -> Result<(), AllocError>
     requires { order.old.items ≡ [] }
-    ensures { OnOk result (reverse (trees_in order.new.items) ≡ walk (tree_of root.now)) }
+    ensures { OnOk result (reverse (trees_in order.new.items) ≡ walk_order (tree_of root.now)) }
 {
     let mut pending = Vec::new(alloc);
     pending.push(root)?;

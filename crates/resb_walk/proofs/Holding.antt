@@ -13,21 +13,13 @@ use Rattle.resb_format.specs.Denotes.{Den, den_leaf, den_list, den_pairs, DenMem
 use Rattle.resb_format.specs.Denotes.{den_unit, DenEach, each_none, each_more, DenPairs, pairs_none}
 use Rattle.resb_format.specs.Denotes.{pairs_more}
 use Rattle.resb_format.proofs.Denoting.{same_list, same_pairs, leaf_list, leaf_pairs, list_pairs}
+use Rattle.resb_format.proofs.Denoting.{same_leaf, same_some, some_none}
 use Rattle.resb_walk.specs.Pieces.{Piece, leaf_piece, array_piece, table_piece, key_piece}
 use Rattle.resb_walk.specs.Pieces.{Holds, holds_leaf, holds_list, holds_pairs, HoldsMember}
 use Rattle.resb_walk.specs.Pieces.{holds_word, holds_unit, HoldsEach, holds_none, holds_more}
 use Rattle.resb_walk.specs.Pieces.{HoldsPairs, holds_no_pair, holds_pair}
 use Rattle.resb_walk.specs.Sums.{resources_in}
 use Rattle.resb_walk.specs.Sums.{count_of}
-
-same_leaf : {o : Option Content} {t u : Tree} → o ≡ Some (leaf t) → o ≡ Some (leaf u) → t ≡ u
-same_leaf e f = cc
-
-same_some : {A : Type 0} {o : Option A} {x y : A} → o ≡ Some x → o ≡ Some y → x ≡ y
-same_some e f = cc
-
-some_none : {A : Type 0} {o : Option A} {x : A} → o ≡ None → o ≡ Some x → ⊥
-some_none e f = cc
 
 -- a table is one resource
 pub table_is_one : {A : Type 0} (es : List A) → resources_in (table_piece es) ≡ 1
@@ -125,6 +117,7 @@ module _ (p : Parts) where
 
   -- one list of pieces
   mutual
+    -- a word has one list of pieces at most
     pub one_holding : {w : ℕ} {xs ys : List Piece} → Holds p w xs → Holds p w ys → xs ≡ ys
     one_holding (holds_leaf e) h = sym (leaf_holds e h)
     one_holding (holds_list e g) h =
@@ -153,6 +146,7 @@ module _ (p : Parts) where
 
   -- what denotes a tree has pieces, of which as many are resources as are counted
   mutual
+    -- a denoted tree has its pieces, as many as its count
     pub held : {w n : ℕ} {t : Tree} → Den p w t n
         → (xs : List Piece) × Holds p w xs × (count_of xs ≡ n)
     held (den_leaf {t = t'} e) = (leaf_piece t' ∷ [], holds_leaf e, refl)

@@ -9,11 +9,9 @@ use Rattle.resb_format.specs.Denotes.{DenEach, DenPairs, Reaches, reaches_one, r
 use Rattle.resb_format.specs.Denotes.{reaches_pairs, ReachesMember, reaches_word, reaches_unit}
 use Rattle.resb_format.specs.Denotes.{ReachesEach, ReachesPairs}
 use Rattle.resb_format.proofs.Denoting.{same_list, same_pairs, leaf_list, leaf_pairs, list_pairs}
+use Rattle.resb_format.proofs.Denoting.{some_none}
 use Rattle.resb_walk.specs.Refusals.{DenotesNothing, Refuses}
 use Rattle.resb_format.specs.declared.error.ReadingError.{ReadingError}
-
-pub some_none : {A : Type 0} {o : Option A} {x : A} → o ≡ None → o ≡ Some x → ⊥
-some_none e f = cc
 
 module _ (p : Parts) where
   pub none_of_none : {w n : ℕ} {t : Tree} → content p w ≡ None → Den p w t n → ⊥
@@ -69,16 +67,16 @@ module _ (p : Parts) where
     (λ r. let g : before + 1 ≡ left + 1 + 1 = omega arith in few_of_pairs left e f.1 g r),
   )
 
+  pub word_den : {w n : ℕ} {t : Tree} → DenMember p (word w) t n → Den p w t n
+  word_den (den_word d) = d
+
+  word_reaches : {w n : ℕ} → ReachesMember p (word w) n → Reaches p w n
+  word_reaches (reaches_word r) = r
+
   -- a word as a member
   pub stuck_word : (w left : ℕ) → DenotesNothing (Den p w) (Reaches p w) left
       → DenotesNothing (DenMember p (word w)) (ReachesMember p (word w)) left
-  stuck_word w left s = ((λ t n d. s.0 t n (den_of d)), (λ r. s.1 (reaches_of r)))
-    where
-      den_of : {w n : ℕ} {t : Tree} → DenMember p (word w) t n → Den p w t n
-      den_of (den_word d) = d
-
-      reaches_of : {w n : ℕ} → ReachesMember p (word w) n → Reaches p w n
-      reaches_of (reaches_word r) = r
+  stuck_word w left s = ((λ t n d. s.0 t n (word_den d)), (λ r. s.1 (word_reaches r)))
 
   pub refused_word : (w left : ℕ) (e : ReadingError) → Refuses (Den p w) (Reaches p w) left e
       → Refuses (DenMember p (word w)) (ReachesMember p (word w)) left e
@@ -86,16 +84,10 @@ module _ (p : Parts) where
   refused_word w left e (inr (inl (s, r))) = inr (inl (s, reaches_word r))
   refused_word w left e (inr (inr (f, r))) = inr (inr (f, stuck_word w left r))
 
-  pub word_den : {w n : ℕ} {t : Tree} → DenMember p (word w) t n → Den p w t n
-  word_den (den_word d) = d
-
   pub word_stuck : (w left : ℕ)
       → DenotesNothing (DenMember p (word w)) (ReachesMember p (word w)) left
       → DenotesNothing (Den p w) (Reaches p w) left
   word_stuck w left s = ((λ t n d. s.0 t n (den_word d)), (λ r. s.1 (reaches_word r)))
-
-  word_reaches : {w n : ℕ} → ReachesMember p (word w) n → Reaches p w n
-  word_reaches (reaches_word r) = r
 
   pub word_refused : (w left : ℕ) (e : ReadingError)
       → Refuses (DenMember p (word w)) (ReachesMember p (word w)) left e

@@ -6,18 +6,16 @@ use Rattle.std.specs.Char.Utf16.{has_unpaired_surrogate, utf16_lossy_chars}
 use Rattle.resb_format.specs.Bytes.{part}
 use Rattle.resb_format.specs.Strings.{string_from, string_at, text_at, text_of_units}
 use Rattle.resb_format.proofs.StringsIn.{at_marker}
+use Rattle.resb_format.proofs.Inside.{part_in}
 use Rattle.resb_shared.specs.Wide.{text_width}
 use Rattle.resb_shared.proofs.WideLemmas.{text_is_wide}
-
-inside : (us : List ℕ) (i n : ℕ) → i + n ≤ length us → part us i n ≡ Some (take n (drop i us))
-inside us i n h = grind (arith, nat_tests)
 
 pub marked_by_one : (us : List ℕ) (u first : ℕ) → first ≡ get_or us u 0 → 0xdc00 ≤ first
     → first ≤ 0xdfee → u + 1 + (first - 0xdc00) ≤ length us
     → string_at us u ≡ Some (take (first - 0xdc00) (drop (u + 1) us))
 marked_by_one us u first e g h l =
     let f : string_from us u first ≡ part us (u + 1) (first - 0xdc00) = grind (arith, nat_tests) in
-    at_marker us u first e ∙ f ∙ inside us (u + 1) (first - 0xdc00) l
+    at_marker us u first e ∙ f ∙ part_in us (u + 1) (first - 0xdc00) l
 
 pub marked_by_two : (us : List ℕ) (u first second : ℕ) → first ≡ get_or us u 0
     → second ≡ get_or us (u + 1) 0 → 0xdfee < first → first ≤ 0xdffe
@@ -28,7 +26,7 @@ marked_by_two us u first second e s g h l =
     let f : string_from us u first ≡ part us (u + 2) (n + get_or us (u + 1) 0) =
     grind (arith, nat_tests) in
     at_marker us u first e ∙ f ∙ ap (λ m. part us (u + 2) (n + m)) (sym s)
-    ∙ inside us (u + 2) (n + second) l
+    ∙ part_in us (u + 2) (n + second) l
 
 pub marked_by_three : (us : List ℕ) (u first second third : ℕ) → first ≡ get_or us u 0
     → second ≡ get_or us (u + 1) 0 → third ≡ get_or us (u + 2) 0 → 0xdffe < first → first ≤ 0xdfff
@@ -41,7 +39,7 @@ marked_by_three us u first second third e s t g h l =
     at_marker us u first e ∙ f
     ∙ ap (λ m. part us (u + 3) (m * 0x1_0000 + get_or us (u + 2) 0)) (sym s)
     ∙ ap (λ m. part us (u + 3) (second * 0x1_0000 + m)) (sym t)
-    ∙ inside us (u + 3) (second * 0x1_0000 + third) l
+    ∙ part_in us (u + 3) (second * 0x1_0000 + third) l
 
 -- a string whose units are known to be well-formed
 pub known_is_text : (block : List ℕ) (u i n : ℕ) → i + n ≤ length block

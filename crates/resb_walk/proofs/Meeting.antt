@@ -8,7 +8,7 @@ use Rattle.resb_format.specs.Denotes.{DenPairs, pairs_none, pairs_more}
 use Rattle.resb_format.specs.Error.{Refusal}
 use Rattle.resb_format.specs.Parts.{Parts}
 use Rattle.resb_format.specs.Strings.{key_at}
-use Rattle.resb_walk.specs.Damage.{key_damage}
+use Rattle.resb_walk.specs.BlockRefusals.{block_key_refusal}
 use Rattle.resb_walk.specs.Meets.{Meets, meets_text, meets_word, meets_list, meets_key}
 use Rattle.resb_walk.specs.Meets.{meets_entry}
 use Rattle.resb_walk.specs.Inner.Frames.{Waits, OpenedTable}
@@ -21,7 +21,7 @@ use Rattle.resb_walk.proofs.Chain.{Chain, chain_none, chain_more, Round}
 use Rattle.resb_walk.proofs.Lists.{none_each}
 use Rattle.resb_walk.proofs.Entries.{none_pairs}
 use Rattle.resb_format.proofs.Denoting.{same_list, same_pairs, list_pairs}
-use Rattle.resb_walk.proofs.Lift.{some_none}
+use Rattle.resb_format.proofs.Denoting.{some_none}
 use Rattle.resb_walk.proofs.Lift.{none_of_none, none_of_list, none_of_pairs}
 
 module _ (p : Parts) where
@@ -81,6 +81,7 @@ module _ (p : Parts) where
   no_value : (k : ℕ) (m : Member) (f : Refusal) → Meets p m f → Lacks (k, m)
   no_value k m f h key t n e d = no_tree h t n d
 
+  -- at a member one refusal is met at most
   pub one_fault : {m : Member} {f g : Refusal} → Meets p m f → Meets p m g → f ≡ g
   one_fault (meets_text e) (meets_text d) = refl
   one_fault (meets_word e) (meets_word d) = refl
@@ -98,7 +99,7 @@ module _ (p : Parts) where
   one_fault (meets_key j x ms e c h) (meets_key k y ns d b i) =
       let same = same_entry (j, x) (k, y) ms ns c b (no_key j x h) (no_key k y i)
       (same_pairs e d) in
-      ap (λ z. key_damage p.keys z.0) same
+      ap (λ z. block_key_refusal p.keys z.0) same
   one_fault (meets_key j x ms e c h) (meets_entry {m = y} {f = g'} k ns d b a i) =
       let same = same_entry (j, x) (k, y) ms ns c b (no_key j x h) (no_value k y g' i)
       (same_pairs e d) in
@@ -138,7 +139,7 @@ module _ (p : Parts) where
       (tables : T → List (List ℕ × Tree) → Type 0) (rest later : Pairs) (k : ℕ) (x : Member)
       (made : T) (w n : ℕ)
       → OpenedTable lists tables p rest made w n → keyed_members rest ≡ (k, x) ∷ keyed_members later
-      → key_at p.keys k ≡ None → Meets p (word w) (key_damage p.keys k)
+      → key_at p.keys k ≡ None → Meets p (word w) (block_key_refusal p.keys k)
   table_meets lists tables rest later k x made w n h e none =
       let stands = h.stands ∙ ap (λ es. Some (pairs (h.done ++ es))) e in
       meets_key k x (keyed_members later) stands h.each none

@@ -20,7 +20,8 @@ use Rattle.resb_format.proofs.Spelled.{units_drop, units_length}
 use Rattle.resb_format.proofs.StringsIn.{ended}
 use Rattle.resb_walk.specs.Inner.Members.{text_of_bytes}
 use Rattle.resb_walk.proofs.Placed.{text_some}
-use Rattle.resb_walk.proofs.Surrogates.{char_alone, lone_some, no_chars, plain_first}
+use Rattle.resb_walk.proofs.Surrogates.{char_alone, no_chars, plain_first}
+use Rattle.resb_shared.proofs.Linked.{lone_some}
 use Rattle.resb_walk.proofs.Surrogates.{nothing}
 
 -- ASCII units are their characters

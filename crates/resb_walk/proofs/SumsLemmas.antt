@@ -52,6 +52,7 @@ fits_some n v e = cases (nat_lt n (2 ^ 64)) refl
     cases true h = (let f : Some v ≡ Some n = rw h at e in cc, grind (arith, nat_tests, h))
     cases false h = absurd (let f : Some v ≡ None = rw h at e in cc)
 
+-- a sum that is not kept does not fit 64 bits
 pub fits_none : (n : ℕ) → None ≡ fitting n → 2 ^ 64 ≤ n
 fits_none n e = cases (nat_lt n (2 ^ 64)) refl
   where
@@ -59,10 +60,12 @@ fits_none n e = cases (nat_lt n (2 ^ 64)) refl
     cases true h = absurd (let f : None ≡ Some n = rw h at e in cc)
     cases false h = grind (arith, nat_tests, h)
 
+-- a sum that fits 64 bits is kept
 pub fits : (n v : ℕ) → v ≡ n → v < 2 ^ 64 → Some v ≡ fitting n
 fits n v e h =
     let less : nat_lt n (2 ^ 64) ≡ true = grind (arith, nat_tests, e, h) in rw less (ap Some e)
 
+-- a sum that does not fit 64 bits is not kept
 pub fits_not : (n : ℕ) → 2 ^ 64 ≤ n → None ≡ fitting n
 fits_not n h =
     let more : nat_lt n (2 ^ 64) ≡ false = grind (arith, nat_tests, h) in rw more refl

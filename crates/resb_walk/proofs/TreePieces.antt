@@ -196,6 +196,8 @@ module _ (f : Piece → ℕ) where
         (same_within (sum_of (leaf_piece t ∷ [])) 1)
 
     mutual
+      -- the tree of a place has no more of anything than its pieces, with fewer entries where equal
+      -- keys were put over each other
       pub tree_within : {w n : ℕ} {t : Tree} {xs : List Piece} → Den p w t n → Holds p w xs
           → Within (sum_of (pieces t)) (sum_of xs) (tree_count t) n
       tree_within (den_leaf {t = t'} e) h = leaf_within t' e h

@@ -12,7 +12,7 @@ pub use Rattle.resb_format.specs.StringFaults
 pub use Rattle.resb_tree.specs.Tree
 pub use Rattle.resb_tree.specs.View
 pub mod Files
-pub mod Damage
+pub mod BlockRefusals
 pub mod Meets
 pub mod Refusals
 pub mod Borrows

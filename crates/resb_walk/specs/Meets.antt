@@ -9,7 +9,7 @@ use Rattle.resb_format.specs.Error.{Refusal, refusal_of}
 use Rattle.resb_format.specs.Parts.{Parts}
 use Rattle.resb_format.specs.Strings.{text_at, key_at}
 use Rattle.resb_format.specs.declared.error.ReadingError.{ReadingError}
-use Rattle.resb_walk.specs.Damage.{text_damage, key_damage, content_damage}
+use Rattle.resb_walk.specs.BlockRefusals.{block_text_refusal, block_key_refusal, word_refusal}
 use Rattle.resb_walk.specs.Refusals.{IsFault}
 
 module _ (p : Parts) where
@@ -17,8 +17,8 @@ module _ (p : Parts) where
   -- order
   pub data Meets : Member → Refusal → Type 0 where
     -- nothing stands there
-    meets_text : {u : ℕ} → text_at p.block u ≡ None → Meets (unit u) (text_damage p.block u)
-    meets_word : {w : ℕ} → content p w ≡ None → Meets (word w) (content_damage p w)
+    meets_text : {u : ℕ} → text_at p.block u ≡ None → Meets (unit u) (block_text_refusal p.block u)
+    meets_word : {w : ℕ} → content p w ≡ None → Meets (word w) (word_refusal p w)
     -- in a member of an array, behind members that denote
     meets_list : {w n : ℕ} {ms : List Member} {ts : List Tree} {m : Member} {f : Refusal}
         (ns : List Member)
@@ -28,7 +28,7 @@ module _ (p : Parts) where
     meets_key : {w n : ℕ} {es : List (ℕ × Member)} {ts : List (List ℕ × Tree)} (k : ℕ) (m : Member)
         (fs : List (ℕ × Member))
         → content p w ≡ Some (pairs (es ++ (k, m) ∷ fs)) → DenPairs p es ts n
-        → key_at p.keys k ≡ None → Meets (word w) (key_damage p.keys k)
+        → key_at p.keys k ≡ None → Meets (word w) (block_key_refusal p.keys k)
     -- in the member of an entry
     meets_entry : {w n : ℕ} {es : List (ℕ × Member)} {ts : List (List ℕ × Tree)} {m : Member}
         {key : List ℕ} {f : Refusal} (k : ℕ) (fs : List (ℕ × Member))

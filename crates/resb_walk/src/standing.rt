@@ -9,11 +9,12 @@ ghost use Rattle.resb_format.specs.Types.{is_read_type};
 ghost use Rattle.resb_format.specs.Content as at;
 ghost use Rattle.resb_format.specs.Content.{content};
 ghost use Rattle.resb_format.specs.Error as reading;
-ghost use Rattle.resb_walk.specs.Damage as damage;
-ghost use Rattle.resb_walk.specs.Damage.{Says, text_damage, key_damage, content_damage};
+ghost use Rattle.resb_walk.specs.BlockRefusals as refusals;
+ghost use Rattle.resb_walk.specs.BlockRefusals.{Says, block_text_refusal, block_key_refusal};
+ghost use Rattle.resb_walk.specs.BlockRefusals.{word_refusal};
 ghost use Rattle.resb_walk.specs.Files.{parts_in};
 ghost use Rattle.resb_walk.specs.Inner.Members.{content_of, text_of_bytes, member_of};
-ghost use Rattle.resb_walk.specs.Inner.MemberContent.{member_content, member_damage};
+ghost use Rattle.resb_walk.specs.Inner.MemberContent.{member_content, member_refusal};
 ghost use Rattle.resb_walk.specs.Refusals.{IsFault};
 
 use crate::faults::{key_not_utf8, key_past_end, key_unterminated, not_utf16, past_end};
@@ -60,7 +61,7 @@ impl<'a> File<'a> {
         ensures stands { let keys = self.entry.keys.now in
             MatchResult result (λ s. key_at keys at ≡ Some s.now)
             (λ e. (key_at keys at ≡ None) × IsFault e) }
-        ensures says { IfErr result (Says (key_damage self.entry.keys.now at)) }
+        ensures says { IfErr result (Says (block_key_refusal self.entry.keys.now at)) }
     {
         let Some((_, tail)) = cut_at(self.keys, at) else {
             return Err(key_past_end());
@@ -83,7 +84,8 @@ impl<'a> File<'a> {
         ensures stands { let block = units_of self.entry.block.now in
             MatchResult result (λ v. text_at block unit ≡ Some (text_of_bytes v.now))
             (λ e. (text_at block unit ≡ None) × IsFault e) }
-        ensures says { IfErr result (Says (text_damage (units_of self.entry.block.now) unit)) }
+        ensures says {
+            IfErr result (Says (block_text_refusal (units_of self.entry.block.now) unit)) }
     {
         if let Some(bytes) = plain_text(self.block, unit) {
             return Ok(bytes);
@@ -108,7 +110,7 @@ impl<'a> File<'a> {
         ensures stands { let p = parts_in self.entry in
             MatchResult result (λ s. content p word ≡ Some (content_of s))
             (λ e. (content p word ≡ None) × IsFault e) }
-        ensures says { IfErr result (Says (content_damage (parts_in self.entry) word)) }
+        ensures says { IfErr result (Says (word_refusal (parts_in self.entry) word)) }
     {
         match readable(word)? {
             (ResourceReprType::Int, _) => Ok(Standing::Leaf(Leaf::Integer(word))),
@@ -125,7 +127,7 @@ impl<'a> File<'a> {
             MatchResult result (λ s. member_content p m ≡ Some (content_of s))
             (λ e. (member_content p m ≡ None) × IsFault e) }
         ensures says { let p = parts_in self.entry in
-            IfErr result (Says (member_damage p (member_of member))) }
+            IfErr result (Says (member_refusal p (member_of member))) }
     {
         match member {
             Member::Word(word) => self.standing(word),
@@ -150,7 +152,7 @@ impl<'a> File<'a> {
             MatchResult result (λ s. found ≡ Some (content_of s))
             (λ e. (found ≡ None) × IsFault e) }
         ensures says { IfErr result
-            (Says (damage.placed_damage (parts_in self.entry) (type_number kind) value)) }
+            (Says (refusals.value_refusal (parts_in self.entry) (type_number kind) value)) }
     {
         match kind {
             ResourceReprType::Binary => self.binary(value),

@@ -3,7 +3,7 @@
 ghost use Rattle.std.specs.Prelude.{◌≡◌, ◌/◌, ◌%◌, ◌^◌, ◌<◌, IfOk, IfErr, true, false};
 ghost use Rattle.resb_format.specs.Descriptor.{type_number};
 ghost use Rattle.resb_format.specs.Types.{is_read_type};
-ghost use Rattle.resb_walk.specs.Damage.{Says, type_damage};
+ghost use Rattle.resb_walk.specs.BlockRefusals.{Says, unread_type_refusal};
 ghost use Rattle.resb_walk.specs.Refusals.{IsFault};
 
 use crate::faults::{unknown_type, unsupported_type};
@@ -17,7 +17,7 @@ pub fn readable(word: u32) -> Result<(ResourceReprType, u32), BinaryDeserializer
     ensures small { IfOk result (λ d. d.1 < 2 ^ 28) }
     ensures read { IfOk result (λ d. is_read_type (type_number d.0) ≡ true) }
     ensures unread { IfErr result (λ e. is_read_type (word / 2 ^ 28) ≡ false) }
-    ensures says { IfErr result (Says (type_damage (word / 2 ^ 28))) }
+    ensures says { IfErr result (Says (unread_type_refusal (word / 2 ^ 28))) }
     ensures fault { IfErr result IsFault }
 {
     let Ok(descriptor) = ResDescriptor::try_from(word) else {

@@ -12,7 +12,7 @@ use Rattle.resb_tree.specs.Tree.{trees_largest, entries_largest}
 use Rattle.resb_format.specs.Strings.{key_at, before_zero, if_utf8}
 use Rattle.resb_pool.proofs.Zeros.{has_zero, before_zero-found}
 use Rattle.resb_layout.proofs.Numbers.{EachBelow}
-use Rattle.resb_tree.specs.WalkOrder.{walk, walk_each, walk_values}
+use Rattle.resb_tree.specs.WalkOrder.{walk_order, walk_each, walk_values}
 use Rattle.resb_layout.specs.KeyBlock.{key_bytes, last_of}
 use Rattle.resb_layout.specs.Faults.{has_nul}
 use Rattle.resb_layout.specs.Written.{even}
@@ -80,7 +80,7 @@ largest-append (t ∷ ts) us = omega (arith, largest-append ts us)
 
 mutual
   -- the largest table of a tree is the largest of its walk
-  pub largest_walked : (t : Tree) → largest_of (walk t) ≡ largest_table t
+  pub largest_walked : (t : Tree) → largest_of (walk_order t) ≡ largest_table t
   largest_walked (string s) = refl
   largest_walked (array ts) = omega (
     arith,
@@ -100,7 +100,7 @@ mutual
   largest_each no_trees = refl
   largest_each (more_trees t ts) = omega (
     arith,
-    largest-append (walk t) (walk_each ts),
+    largest-append (walk_order t) (walk_each ts),
     largest_walked t,
     largest_each ts,
   )
@@ -109,12 +109,12 @@ mutual
   largest_values no_entries = refl
   largest_values (entry k t es) = omega (
     arith,
-    largest-append (walk t) (walk_values es),
+    largest-append (walk_order t) (walk_values es),
     largest_walked t,
     largest_values es,
   )
 
-pub walk_long : (t : Tree) → 0 < length (walk t)
+pub walk_long : (t : Tree) → 0 < length (walk_order t)
 walk_long (string s) = omega arith
 walk_long (array ts) = omega (arith, length-append (walk_each ts) (array ts ∷ []))
 walk_long (table es) = omega (arith, length-append (walk_values es) (table es ∷ []))

@@ -11,7 +11,8 @@ use Rattle.std.proofs.lemmas.List.Folds.{list_all-map}
 use Rattle.std.proofs.lemmas.List.Sums.{sum_by-cons, sum_by-append}
 use Rattle.resb_tree.specs.Tree.{Tree, Trees, Entries}
 use Rattle.resb_tree.specs.Tree.{no_entries, entry}
-use Rattle.resb_tree.specs.WalkOrder.{members, values_of, walk, walk_each, walk_values, entry_keys}
+use Rattle.resb_tree.specs.WalkOrder.{members, values_of, walk_order, walk_each, walk_values}
+use Rattle.resb_tree.specs.WalkOrder.{entry_keys}
 use Rattle.resb_layout.specs.Laid.{Given, Laid, is_short_string, are_short, are_near, offsets_in}
 use Rattle.resb_layout.specs.Laid.{ClosesArray, short_array, long_array, ClosesTable, short_table}
 use Rattle.resb_layout.specs.Laid.{long_table, wide_table, Lays, lays_integer}
@@ -43,7 +44,7 @@ members_of (entry k t es) = ap (λ l. t ∷ l) (members_of es)
 
 walk_of : (es : Entries) → walk_each (members_in es) ≡ walk_values es
 walk_of no_entries = refl
-walk_of (entry k t es) = ap (λ l. walk t ++ l) (walk_of es)
+walk_of (entry k t es) = ap (λ l. walk_order t ++ l) (walk_of es)
 
 -- a short collection that isn't empty has a count and its members' units
 short_is : (b : Bool) (n each : ℕ) → b ≡ true → 0 < n → short_units b n each ≡ each * n + 1
@@ -147,7 +148,7 @@ module _ (g : Given) where
   -- near string
   mutual
     pub units : {s e : Laid} {t : Tree} {w : ℕ} → Lays g s t e w
-        → (length e.units ≡ length s.units + sum_by (own_units g) (walk t))
+        → (length e.units ≡ length s.units + sum_by (own_units g) (walk_order t))
         × (is_short_string w ≡ is_near g t)
     units {s} {e} {t} (lays_integer {n = n} k) =
         (leaf s t refl, high (0x7000_0000 + n) (omega arith))
@@ -192,7 +193,7 @@ module _ (g : Given) where
     units_each {s} {e} (each_more {t = t} {ts = ts} k ks) =
         let r = units k in
         let rest = units_each ks in (
-          omega (arith, r.0, rest.0, sum_by-append (own_units g) (walk t) (walk_each ts)),
+          omega (arith, r.0, rest.0, sum_by-append (own_units g) (walk_order t) (walk_each ts)),
           omega (arith, rest.1),
           (λ i. r.1 i && rest.2 i),
         )

@@ -12,7 +12,7 @@ use Rattle.resb_pool.specs.Records.{IsRecord, IsHeldBy}
 use Rattle.resb_layout.specs.Laid.{Lays, lays_integer, lays_items, each_none, each_more, long_array}
 use Rattle.resb_layout.specs.KeyBlock.{key_block, key_position, key_bytes, padded}
 use Rattle.resb_layout.specs.PlainSize.{plain_size}
-use Rattle.resb_layout.specs.Faults.{fault}
+use Rattle.resb_layout.specs.Faults.{tree_fault}
 use Rattle.resb_layout.specs.WrittenHead.{written_header, IndexOf}
 use Rattle.resb_write.specs.Inner.Files.{file_of}
 
@@ -38,21 +38,21 @@ unused_key = refl
 
 -- Faults: a used key that isn't listed, also where it is read inside another; then U+0000 in a key.
 
-unlisted : fault two_keys ((97 ∷ []) ∷ []) ≡ Some
+unlisted : tree_fault two_keys ((97 ∷ []) ∷ []) ≡ Some
     (unexpected (codes "key not present in position map"))
 unfolding two_keys
 unlisted = refl
 
-inside_another : fault (table (entry (97 ∷ 98 ∷ []) (integer 1)
+inside_another : tree_fault (table (entry (97 ∷ 98 ∷ []) (integer 1)
     (entry (98 ∷ []) (integer 2) no_entries))) ((97 ∷ 98 ∷ []) ∷ []) ≡ Some
     (unexpected (codes "key not present in position map"))
 inside_another = refl
 
-key_with_nul : fault (table (entry (0 ∷ []) (integer 1) no_entries)) ((0 ∷ []) ∷ []) ≡ Some
+key_with_nul : tree_fault (table (entry (0 ∷ []) (integer 1) no_entries)) ((0 ∷ []) ∷ []) ≡ Some
     (unexpected (codes "key contains U+0000"))
 key_with_nul = refl
 
-without_fault : fault (table (entry (97 ∷ []) (integer 1) no_entries)) ((97 ∷ []) ∷ []) ≡ None
+without_fault : tree_fault (table (entry (97 ∷ []) (integer 1) no_entries)) ((97 ∷ []) ∷ []) ≡ None
 without_fault = refl
 
 -- a key of two bytes, an array of two children, an integer and three bytes

@@ -22,13 +22,13 @@ use Rattle.resb_layout.proofs.Numbers.{EachBelow, halves_len}
 use Rattle.resb_layout.proofs.Grows.{grows}
 use Rattle.resb_layout.proofs.Denoted.{laid_is_denoted}
 use Rattle.resb_layout.proofs.Paid.{laid_is_paid}
-use Rattle.resb_tree.specs.WalkOrder.{walk, texts_of, values_of}
+use Rattle.resb_tree.specs.WalkOrder.{walk_order, texts_of, values_of}
 use Rattle.resb_write.specs.Inner.Room.{HasRoomFor}
 use Rattle.resb_layout.specs.KeyBlock.{used, key_bytes, padded, key_block, last_of, position_in}
 use Rattle.resb_tree.specs.WalkOrder.{keys_of}
 use Rattle.resb_layout.specs.KeyBlock.{key_position, keys_start}
 use Rattle.resb_layout.specs.PlainSize.{held_size, resources_size, list_size}
-use Rattle.resb_layout.specs.Faults.{key_fault, fault, first_of}
+use Rattle.resb_layout.specs.Faults.{key_fault, tree_fault, first_of}
 use Rattle.resb_layout.specs.WrittenHead.{written_header}
 use Rattle.resb_layout.specs.Written.{even, tail_start, Blocks, Written}
 use Rattle.resb_write.specs.Inner.Gathered.{entry_count_of, largest_of}
@@ -73,7 +73,7 @@ pub record Made (t : Tree) (ks js : List (List ℕ)) : Type 0 where
   pub js_are : js ≡ used (keys_of t) ks
   pub utf8 : All IsUtf8 js
   pub faultless : key_fault (keys_of t) js ≡ None
-  pub small : list_size ks + resources_size (walk t) < 2 ^ 28
+  pub small : list_size ks + resources_size (walk_order t) < 2 ^ 28
   pub plan : IsPlan (texts_of t) pool offset
   pub base : ℕ
   pub base_is : base ≡ 32 + length (padded (key_bytes js)) + 2 *
@@ -85,7 +85,7 @@ pub record Made (t : Tree) (ks js : List (List ℕ)) : Type 0 where
   pub root_fits : root < 2 ^ 32
 
 module _ (t : Tree) (ks js : List (List ℕ)) (m : Made t ks js) (largest : ℕ) (fallback : Bool)
-    (largest_is : largest ≡ largest_of (walk t)) where
+    (largest_is : largest ≡ largest_of (walk_order t)) where
   abbrev g : Given
   g = record { position = position_in js; offset = m.offset; base = m.base }
 
@@ -133,7 +133,7 @@ module _ (t : Tree) (ks js : List (List ℕ)) (m : Made t ks js) (largest : ℕ)
               (
                 omega (arith, keys_small, k, b, m.room.units, m.room.bytes),
                 (
-                  omega (arith, largest_is, largest_room (walk t), m.small),
+                  omega (arith, largest_is, largest_room (walk_order t), m.small),
                   (flag_room fallback, (omega (arith, keys_small, k, b, m.room.units), tt)),
                 ),
               ),
@@ -272,11 +272,11 @@ module _ (t : Tree) (ks js : List (List ℕ)) (m : Made t ks js) (largest : ℕ)
         m.lays;
   }
 
-  no_fault : fault t ks ≡ None
+  no_fault : tree_fault t ks ≡ None
   no_fault =
-      ap (λ o. first_of o (size_fault (walk t))) (ap (key_fault (keys_of t)) (sym m.js_are)
+      ap (λ o. first_of o (size_fault (walk_order t))) (ap (key_fault (keys_of t)) (sym m.js_are)
       ∙ m.faultless)
-      ∙ small_sizes (walk t) (omega (arith, m.small))
+      ∙ small_sizes (walk_order t) (omega (arith, m.small))
 
   pub written : Written file t fallback ks
   unfolding blocks

@@ -10,6 +10,7 @@ use Rattle.std.proofs.lemmas.List.{length-map}
 use Rattle.resb_tree.specs.WalkOrder.{entry_keys}
 use Rattle.resb_tree.specs.WalkOrder.{values_of}
 
+-- the keys of a table, read off its view, are those of its map
 pub keys_view : (es : List (List ℕ × Resource)) → entry_keys (entries_view es) ≡ keys_of es
 keys_view [] = refl
 keys_view (e ∷ es) = ap (λ l. e.0 ∷ l) (keys_view es)

@@ -12,12 +12,12 @@ use Rattle.resb_tree.specs.Keys.{same_text, is_key, is_key_in, is_key_of}
 use Rattle.resb_pool.specs.Fault.{Fault, string_too_long, unexpected, limit, out_of_memory}
 use Rattle.resb_pool.specs.Plan.{first_too_long}
 use Rattle.resb_tree.specs.WalkOrder.{entry_keys}
-use Rattle.resb_tree.specs.WalkOrder.{walk, walk_each, walk_values, texts_of}
+use Rattle.resb_tree.specs.WalkOrder.{walk_order, walk_each, walk_values, texts_of}
 use Rattle.resb_layout.specs.KeyBlock.{is_among, used, last_of}
 use Rattle.resb_tree.specs.WalkOrder.{own_keys, keys_of}
 use Rattle.resb_layout.specs.KeyBlock.{keys_start}
 use Rattle.resb_layout.specs.Faults.{has_nul, is_unlisted, is_far, is_over_32_bits}
-use Rattle.resb_layout.specs.Faults.{fault, first_of}
+use Rattle.resb_layout.specs.Faults.{tree_fault, first_of}
 use Rattle.resb_write.proofs.Keys.{no_place}
 use Rattle.resb_write.proofs.Known.{any_member}
 use Rattle.resb_write.proofs.Distinct.{contains_among}
@@ -70,7 +70,7 @@ mutual
       ⊎_elim (λ g. or_left _ _ (contained_is_key k t g))
       (λ g. or_right _ _ (contained_each k ts g))
       (Contains-append_cases (keys_of t) (flat_map own_keys (walk_each ts)) k
-      (subst (λ l. Contains l k) (flat_map-append own_keys (walk t) (walk_each ts)) h))
+      (subst (λ l. Contains l k) (flat_map-append own_keys (walk_order t) (walk_each ts)) h))
 
   contained_values : (k : List ℕ) (es : Entries) → Contains (flat_map own_keys (walk_values es)) k
       → is_key_of k es ≡ true
@@ -79,7 +79,7 @@ mutual
       ⊎_elim (λ g. or_left _ _ (or_right (same_text k j) _ (contained_is_key k t g)))
       (λ g. or_right _ _ (contained_values k es g))
       (Contains-append_cases (keys_of t) (flat_map own_keys (walk_values es)) k
-      (subst (λ l. Contains l k) (flat_map-append own_keys (walk t) (walk_values es)) h))
+      (subst (λ l. Contains l k) (flat_map-append own_keys (walk_order t) (walk_values es)) h))
 
 -- the length of what is said, where a tree and keys don't belong together
 said : Fault → ℕ
@@ -135,17 +135,20 @@ module _ (t : Tree) (ks : List (List ℕ)) (listed : (k : List ℕ) → is_key k
       ap said (g ∙ q) in absurd (omega (arith, n)))
   later_faults false false false false None f e h q = (let g : None ≡ Some f = h in cc)
 
-  pub not_unlisted : (f : Fault) → fault t ks ≡ Some f
+  -- where each used key is listed, the first fault is no unlisted key
+  pub not_unlisted : (f : Fault) → tree_fault t ks ≡ Some f
       → f ≡ unexpected (codes "key not present in position map") → ⊥
   unfolding us js
   not_unlisted f h q =
       later_faults (list_any (is_unlisted js) us) (list_any has_nul us) (list_any (is_far js) us)
-      (list_any is_over_32_bits (walk t)) (first_too_long (texts_of t)) f all_listed h q
+      (list_any is_over_32_bits (walk_order t)) (first_too_long (texts_of t)) f all_listed h q
 
+  -- want of memory is another refusal than an unlisted key
   pub not_memory : out_of_memory ≡ unexpected (codes "key not present in position map") → ⊥
   unfolding said
   not_memory q = (let n : ◌≡◌ {A = ℕ} 0 31 = ap said q in absurd (omega (arith, n)))
 
+  -- a file too large is another refusal than an unlisted key
   pub not_large : limit (codes "file too large") ≡ unexpected
       (codes "key not present in position map") → ⊥
   unfolding said

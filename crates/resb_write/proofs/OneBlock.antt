@@ -156,5 +156,6 @@ module _ (g h : Given) (positions : g.position ≡ h.position) (offsets : g.offs
         let rest = block_each r.0 ks ls in
         (rest.0, alike_more r.1 rest.1)
 
+-- two layings of one tree from one place end with one block
 pub one_block : OneBlock
 one_block g h s u a b t v w p o e k l = (block g h p o e k l).0

@@ -2,12 +2,12 @@
 use Rattle.std.proofs.Common.{List, [], ◌∷◌, ◌++◌, refl, sym, subst, append_assoc, append-nil}
 use Rattle.resb_tree.specs.Tree.{Tree, string, array, table, binary, integer, int_vector, Trees}
 use Rattle.resb_tree.specs.Tree.{no_trees, more_trees, Entries, no_entries, entry}
-use Rattle.resb_tree.specs.WalkOrder.{members, values_of, walk, walk_each, walk_values}
+use Rattle.resb_tree.specs.WalkOrder.{members, values_of, walk_order, walk_each, walk_values}
 use Rattle.resb_write.specs.Inner.Counted.{Pending}
 
 mutual
   pending_tree : (t : Tree) (st rest : List Tree) → Pending (st ++ t ∷ []) rest
-      → Pending st (walk t ++ rest)
+      → Pending st (walk_order t ++ rest)
   pending_tree (string x) st rest h = (st, sym (append-nil st), h)
   pending_tree (binary x) st rest h = (st, sym (append-nil st), h)
   pending_tree (integer x) st rest h = (st, sym (append-nil st), h)
@@ -23,7 +23,7 @@ mutual
       → Pending st (walk_each ts ++ rest)
   pending_each no_trees st rest h = subst (λ l. Pending l rest) (append-nil st) h
   pending_each (more_trees t ts) st rest h =
-      subst (Pending st) (sym (append_assoc (walk t) (walk_each ts) rest))
+      subst (Pending st) (sym (append_assoc (walk_order t) (walk_each ts) rest))
       (pending_tree t st (walk_each ts ++ rest) (pending_each ts (st ++ t ∷ []) rest
       (subst (λ l. Pending l rest) (sym (append_assoc st (t ∷ []) (members ts))) h)))
 
@@ -31,10 +31,10 @@ mutual
       → Pending st (walk_values es ++ rest)
   pending_values no_entries st rest h = subst (λ l. Pending l rest) (append-nil st) h
   pending_values (entry k t es) st rest h =
-      subst (Pending st) (sym (append_assoc (walk t) (walk_values es) rest))
+      subst (Pending st) (sym (append_assoc (walk_order t) (walk_values es) rest))
       (pending_tree t st (walk_values es ++ rest) (pending_values es (st ++ t ∷ []) rest
       (subst (λ l. Pending l rest) (sym (append_assoc st (t ∷ []) (values_of es))) h)))
 
 -- at first nothing is passed
-pub pending : (t : Tree) → Pending [] (walk t)
-pending t = subst (Pending []) (append-nil (walk t)) (pending_tree t [] [] tt)
+pub pending : (t : Tree) → Pending [] (walk_order t)
+pending t = subst (Pending []) (append-nil (walk_order t)) (pending_tree t [] [] tt)

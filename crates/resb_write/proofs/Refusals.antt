@@ -6,11 +6,12 @@ use Rattle.resb_tree.specs.Tree.{Tree}
 use Rattle.resb_pool.specs.Fault.{Fault, out_of_memory}
 use Rattle.resb_pool.specs.Plan.{NotPlanned, no_memory as no_memory_to_plan, too_long}
 use Rattle.resb_pool.specs.Plan.{too_large as too_large_to_plan, texts_size, first_too_long}
-use Rattle.resb_tree.specs.WalkOrder.{walk, text_in, texts_of}
+use Rattle.resb_tree.specs.WalkOrder.{walk_order, text_in, texts_of}
 use Rattle.resb_layout.specs.KeyBlock.{used}
 use Rattle.resb_tree.specs.WalkOrder.{keys_of}
 use Rattle.resb_layout.specs.PlainSize.{list_size, resources_size}
-use Rattle.resb_layout.specs.Faults.{key_fault, fault, first_of, Refused, no_memory, at_the_first}
+use Rattle.resb_layout.specs.Faults.{key_fault, tree_fault, first_of, RefusesWriting, no_memory}
+use Rattle.resb_layout.specs.Faults.{at_the_first}
 use Rattle.resb_layout.specs.Faults.{too_large}
 use Rattle.resb_write.specs.Inner.Sizes.{size_fault, IsTooMuch, at_fault}
 use Rattle.resb_write.specs.Inner.Sizes.{too_large as too_large_sizes}
@@ -18,12 +19,12 @@ use Rattle.resb_write.proofs.Room.{none_too_long, texts_within}
 
 module _ (t : Tree) (ks : List (List ℕ)) where
   pub key_refused : (us : List (List ℕ)) (f : Fault) → us ≡ keys_of t → (f ≡ out_of_memory)
-      ⊎ (key_fault us (used us ks) ≡ Some f) → Refused t ks f
-  key_refused us f e (inl m) = subst (Refused t ks) (sym m) no_memory
+      ⊎ (key_fault us (used us ks) ≡ Some f) → RefusesWriting t ks f
+  key_refused us f e (inl m) = subst (RefusesWriting t ks) (sym m) no_memory
   key_refused us f e (inr h) =
       let k : key_fault (keys_of t) (used (keys_of t) ks) ≡ Some f =
       (λ i. key_fault (sym e i) (used (sym e i) ks)) ∙ h in
-      at_the_first (ap (λ o. first_of o (size_fault (walk t))) k)
+      at_the_first (ap (λ o. first_of o (size_fault (walk_order t))) k)
 
   module _ (us js : List (List ℕ)) (us_are : us ≡ keys_of t) (js_are : js ≡ used us ks)
       (no_key : key_fault us js ≡ None) where
@@ -31,24 +32,25 @@ module _ (t : Tree) (ks : List (List ℕ)) where
     no_key_fault = (λ i. key_fault (sym us_are i) (used (sym us_are i) ks))
         ∙ ap (key_fault us) (sym js_are) ∙ no_key
 
-    only_sizes : fault t ks ≡ size_fault (walk t)
-    only_sizes = ap (λ o. first_of o (size_fault (walk t))) no_key_fault
+    only_sizes : tree_fault t ks ≡ size_fault (walk_order t)
+    only_sizes = ap (λ o. first_of o (size_fault (walk_order t))) no_key_fault
 
-    pub size_refused : (f : Fault) → IsTooMuch (walk t) ks f → Refused t ks f
+    pub size_refused : (f : Fault) → IsTooMuch (walk_order t) ks f → RefusesWriting t ks f
     size_refused f (at_fault h) = at_the_first (only_sizes ∙ h)
     size_refused f (too_large_sizes h l) = too_large (only_sizes ∙ h) l
 
   -- what is small enough is planned, memory aside
   pub plan_refused : (S : List (List ℕ)) (f : Fault) → S ≡ texts_of t
-      → list_size ks + resources_size (walk t) < 2 ^ 28 → NotPlanned S f → Refused t ks f
+      → list_size ks + resources_size (walk_order t) < 2 ^ 28 → NotPlanned S f
+      → RefusesWriting t ks f
   plan_refused S f e small no_memory_to_plan = no_memory
   plan_refused S f e small (too_long {n} h) =
-      let none = none_too_long (flat_map text_in (walk t)) (omega (
+      let none = none_too_long (flat_map text_in (walk_order t)) (omega (
         arith,
-        texts_within (walk t),
+        texts_within (walk_order t),
         small,
       )) in
       let no : Some n ≡ None = sym h ∙ ap first_too_long e ∙ none in
       cc
   plan_refused S f e small (too_large_to_plan h l) =
-      absurd (omega (arith, texts_within (walk t), small, l, ap texts_size e))
+      absurd (omega (arith, texts_within (walk_order t), small, l, ap texts_size e))

@@ -8,7 +8,8 @@ use Rattle.resb_layout.specs.Laid.{Given, Laid, Lays, LaysEach, each_none, each_
 use Rattle.resb_layout.specs.Laid.{lays_no_items, lays_entries, lays_no_entries, ClosesArray}
 use Rattle.resb_layout.specs.Laid.{ClosesTable, ArePlaced, members_in}
 use Rattle.resb_tree.specs.WalkOrder.{entry_keys}
-use Rattle.resb_tree.specs.WalkOrder.{members, values_of, children, walk, walk_each, walk_values}
+use Rattle.resb_tree.specs.WalkOrder.{members, values_of, children, walk_order, walk_each}
+use Rattle.resb_tree.specs.WalkOrder.{walk_values}
 use Rattle.resb_write.specs.Inner.StackSteps.{LaysNext, LaysRow, row_none, row_more}
 use Rattle.std.proofs.lemmas.List.{nil_from_length, take-append-drop}
 
@@ -74,7 +75,7 @@ module _ (g : Given) where
 
   mutual
     steps_tree : (t : Tree) (s e : Laid) (ws ys : List ℕ) (rest : List Tree)
-        → LaysRow g s ws (walk t ++ rest) e ys → Split s ws t rest e ys
+        → LaysRow g s ws (walk_order t ++ rest) e ys → Split s ws t rest e ys
     steps_tree (string x) s e ws ys rest h = leaf s e ws ys (string x) rest refl h
     steps_tree (binary x) s e ws ys rest h = leaf s e ws ys (binary x) rest refl h
     steps_tree (integer n) s e ws ys rest h = leaf s e ws ys (integer n) rest refl h
@@ -102,7 +103,7 @@ module _ (g : Given) where
     }
     steps_each (more_trees t ts) s e ws ys rest h =
         let a = steps_tree t s e ws ys (walk_each ts ++ rest)
-        (subst (λ l. LaysRow g s ws l e ys) (append_assoc (walk t) (walk_each ts) rest) h) in
+        (subst (λ l. LaysRow g s ws l e ys) (append_assoc (walk_order t) (walk_each ts) rest) h) in
         let b = steps_each ts a.mid e (ws ++ a.word ∷ []) ys rest a.goes in
         record {
           mid = b.mid;
@@ -125,7 +126,8 @@ module _ (g : Given) where
     }
     steps_values (entry k t es) s e ws ys rest h =
         let a = steps_tree t s e ws ys (walk_values es ++ rest)
-        (subst (λ l. LaysRow g s ws l e ys) (append_assoc (walk t) (walk_values es) rest) h) in
+        (subst (λ l. LaysRow g s ws l e ys) (append_assoc (walk_order t) (walk_values es) rest) h)
+        in
         let b = steps_values es a.mid e (ws ++ a.word ∷ []) ys rest a.goes in
         record {
           mid = b.mid;
@@ -141,10 +143,10 @@ ended : (g : Given) (s e : Laid) (ws ys : List ℕ) → LaysRow g s ws [] e ys �
 ended g s e ws ys row_none = (refl, refl)
 
 pub steps_lay_trees : (g : Given) (s e : Laid) (t : Tree) (xs : List ℕ)
-    → LaysRow g s [] (walk t) e xs → (w : ℕ) × (xs ≡ w ∷ []) × Lays g s t e w
+    → LaysRow g s [] (walk_order t) e xs → (w : ℕ) × (xs ≡ w ∷ []) × Lays g s t e w
 steps_lay_trees g s e t xs h =
     let k = steps_tree g t s e [] xs []
-    (subst (λ l. LaysRow g s [] l e xs) (sym (append-nil (walk t))) h) in
+    (subst (λ l. LaysRow g s [] l e xs) (sym (append-nil (walk_order t))) h) in
     let z = ended g k.mid e (k.word ∷ []) xs k.goes in
     (k.word, sym z.1, subst (λ m. Lays g s t m k.word) z.0 k.lays)
 

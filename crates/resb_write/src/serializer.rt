@@ -3,7 +3,7 @@
 ghost use Rattle.std.specs.Prelude.{IfOk, IfErr};
 ghost use Rattle.resb_tree.specs.Bundle.{root_of};
 ghost use Rattle.resb_pool.specs.FaultOf.{fault_of};
-ghost use Rattle.resb_layout.specs.Faults.{Refused};
+ghost use Rattle.resb_layout.specs.Faults.{RefusesWriting};
 ghost use Rattle.resb_layout.specs.Written.{Written};
 
 use crate::contents::Contents;
@@ -37,7 +37,7 @@ impl Serializer {
     ) -> Result<Vec<u8>, BinarySerializerError>
         ensures ok { IfOk result (λ v. Written v.items (root_of bundle.now)
             bundle.now.is_locale_fallback_enabled keys_in_discovery_order.now) }
-        ensures err { IfErr result (λ e. Refused (root_of bundle.now)
+        ensures err { IfErr result (λ e. RefusesWriting (root_of bundle.now)
             keys_in_discovery_order.now (fault_of e)) }
     {
         write(alloc, bundle, keys_in_discovery_order)
@@ -52,7 +52,7 @@ fn write<'a>(
 ) -> Result<Vec<u8>, BinarySerializerError>
     ensures ok { IfOk result (λ v. Written v.items (root_of bundle.now)
         bundle.now.is_locale_fallback_enabled list.now) }
-    ensures err { IfErr result (λ e. Refused (root_of bundle.now) list.now (fault_of e)) }
+    ensures err { IfErr result (λ e. RefusesWriting (root_of bundle.now) list.now (fault_of e)) }
 {
     let order = in_walk_order(alloc, bundle.root())?;
     let contents = Contents::gather(alloc, &order)?;

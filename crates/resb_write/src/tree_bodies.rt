@@ -5,7 +5,7 @@ ghost use Rattle.std.specs.List.{sum_by};
 ghost use Rattle.resb_tree.specs.Tree.{Tree};
 ghost use Rattle.resb_tree.specs.View.{tree_of};
 ghost use Rattle.resb_layout.specs.Laid.{Given, Lays};
-ghost use Rattle.resb_tree.specs.WalkOrder.{walk, children, trees_in};
+ghost use Rattle.resb_tree.specs.WalkOrder.{walk_order, children, trees_in};
 ghost use Rattle.resb_write.specs.Inner.StackSteps.{LaysNext, LaysRow};
 ghost use Rattle.resb_write.specs.Inner.Room.{laid_of, own_size, Numbered};
 ghost use Rattle.resb_write.specs.Inner.Room.{HasRoomFor, HasRoomBehind, tail_base, most_units};
@@ -91,13 +91,13 @@ fn lay_order<'t, 'a>(
     bodies: &mut Bodies,
     order: &WalkOrder<'t, 'a>,
 ) -> Result<u32, AllocError>
-    requires tree { (t : Tree) × (trees_in order.now.items ≡ walk t) }
+    requires tree { (t : Tree) × (trees_in order.now.items ≡ walk_order t) }
     requires room { HasRoomFor base (laid_of bodies.old) (trees_in order.now.items) }
     requires numbered { (g : Given)
         × Numbered g sites.now.positions.now sites.now.offsets.now (trees_in order.now.items) }
     ensures lays { IfOk result (λ word. Anywhere base (λ g.
         Numbered g sites.now.positions.now sites.now.offsets.now (trees_in order.now.items)
-        → (t : Tree) → trees_in order.now.items ≡ walk t
+        → (t : Tree) → trees_in order.now.items ≡ walk_order t
         → Lays g (laid_of bodies.old) t (laid_of bodies.new) word)) }
     ensures fits { OnOk result (HasRoomFor base (laid_of bodies.new) []) }
 {
@@ -120,13 +120,13 @@ pub(crate) fn lay_bodies<'t, 'a>(
     order: &WalkOrder<'t, 'a>,
 ) -> Result<(Bodies, u32), AllocError>
     requires aligned { keys_end % 4 ≡ 0 }
-    requires tree { (t : Tree) × (trees_in order.now.items ≡ walk t) }
+    requires tree { (t : Tree) × (trees_in order.now.items ≡ walk_order t) }
     requires room { HasRoomBehind keys_end pool.items (trees_in order.now.items) }
     requires numbered { (g : Given)
         × Numbered g sites.now.positions.now sites.now.offsets.now (trees_in order.now.items) }
     ensures lays { IfOk result (λ laid. (g : Given) (t : Tree)
         → Numbered g sites.now.positions.now sites.now.offsets.now (trees_in order.now.items)
-        → trees_in order.now.items ≡ walk t → g.base ≡ tail_base keys_end laid.0
+        → trees_in order.now.items ≡ walk_order t → g.base ≡ tail_base keys_end laid.0
         → Lays g (record { units = pool.items; tail = [] }) t (laid_of laid.0) laid.1) }
     ensures fits { IfOk result (λ laid. HasRoomFor (tail_base keys_end laid.0)
         (laid_of laid.0) []) }

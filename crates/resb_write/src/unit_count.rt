@@ -5,7 +5,7 @@ ghost use Rattle.std.specs.Prelude.{length, map, take, nat_le, true, false, IfOk
 ghost use Rattle.std.specs.List.{sum_by, list_all};
 ghost use Rattle.resb_tree.specs.Tree.{Tree};
 ghost use Rattle.resb_tree.specs.View.{tree_of};
-ghost use Rattle.resb_tree.specs.WalkOrder.{walk, children, trees_in};
+ghost use Rattle.resb_tree.specs.WalkOrder.{walk_order, children, trees_in};
 ghost use Rattle.resb_layout.specs.Laid.{Given, are_near};
 ghost use Rattle.resb_write.specs.Inner.Room.{most_units, Numbered};
 ghost use Rattle.resb_write.specs.Inner.Counted.{is_near, own_units, short_units};
@@ -137,7 +137,7 @@ pub(crate) fn count_units(
     pool: usize,
     order: &WalkOrder<'_, '_>,
 ) -> Result<usize, AllocError>
-    requires tree { (t : Tree) × (trees_in order.now.items ≡ walk t) }
+    requires tree { (t : Tree) × (trees_in order.now.items ≡ walk_order t) }
     requires room { pool + sum_by most_units (trees_in order.now.items) < 2 ^ 28 }
     requires numbered { (g : Given)
         × Numbered g sites.now.positions.now sites.now.offsets.now (trees_in order.now.items) }

@@ -3,13 +3,13 @@ use Rattle.std.proofs.Common.{ℕ, List, ◌≡◌, ◌+◌, Some, length, sym, 
 use Rattle.std.proofs.Common.{arith}
 use Rattle.std.proofs.lemmas.Option.{same_Some}
 use Rattle.resb.specs.Places.{Place}
-use Rattle.resb.specs.Sequences.{entries}
+use Rattle.resb.specs.Sequences.{entries_at}
 use Rattle.resb.specs.Fields.{Entry, CountsRecord}
 use Rattle.resb.specs.Reading.{Lacks, LacksOrMemory}
 use Rattle.resb.specs.declared.binary.ReadingError.{ReadingError}
 
 lacks_record : (counts : List (List ℕ) → List Entry → ℕ → Type 0) (names : List (List ℕ))
-    (p : Place) (es : List Entry) (left inside : ℕ) → entries p ≡ Some es
+    (p : Place) (es : List Entry) (left inside : ℕ) → entries_at p ≡ Some es
     → inside + 1 + length es ≡ left → Lacks (counts names es) inside
     → Lacks (CountsRecord counts names p) left
 lacks_record counts names p es left inside are paid lacks n h small =
@@ -21,7 +21,7 @@ lacks_record counts names p es left inside are paid lacks n h small =
 
 pub record_refused : (counts : List (List ℕ) → List Entry → ℕ → Type 0)
     (names : List (List ℕ)) (p : Place) (es : List Entry) (left inside : ℕ) (e : ReadingError)
-    → entries p ≡ Some es → inside + 1 + length es ≡ left
+    → entries_at p ≡ Some es → inside + 1 + length es ≡ left
     → LacksOrMemory (counts names es) inside e → LacksOrMemory (CountsRecord counts names p) left e
 record_refused counts names p es left inside e are paid (inl memory) = inl memory
 record_refused counts names p es left inside e are paid (inr lacks) =

@@ -14,7 +14,7 @@ use Rattle.resb.specs.Reading.{Lacks}
 use Rattle.resb.specs.Leaves.{type_in, value_in, signed_at, key_from, bytes_from, bytes_of_type}
 use Rattle.resb.specs.Leaves.{units_as_bytes, ReadsKey, CountsKey, CountsView}
 use Rattle.resb.specs.Spots.{cost_at}
-use Rattle.resb.specs.Sequences.{at_entry, entries_in, entries_from, entries}
+use Rattle.resb.specs.Sequences.{at_entry, entries_in, entries_from, entries_at}
 use Rattle.resb.specs.declared.binary.Spot.{Spot}
 use Rattle.resb.specs.declared.binary.Spot.TheVariants as spot
 use Rattle.resb_zones.specs.Zones.{base_name, pairs_name, CountsNumber, IsReadable}
@@ -44,7 +44,7 @@ entries_at p (spot.Unit u) places e = cc
 entries_at p (spot.Word w) places e = cc
 entries_at p (spot.Key k) places e = cc
 
-pub entries_are : (p : Place) (places : List (Place × Place)) → entries p ≡ Some places
+pub entries_are : (p : Place) (places : List (Place × Place)) → entries_at p ≡ Some places
     → All IsEntry places
 entries_are p places e = entries_at p.parts p.at places e
 

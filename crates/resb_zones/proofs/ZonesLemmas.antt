@@ -4,7 +4,7 @@ use Rattle.std.proofs.Common.{subst, ◌∙◌}
 use Rattle.std.specs.List.{All}
 use Rattle.std.proofs.lemmas.Option.{same_Some}
 use Rattle.resb.specs.Places.{Place}
-use Rattle.resb.specs.Sequences.{entries}
+use Rattle.resb.specs.Sequences.{entries_at}
 use Rattle.resb_zones.specs.Zones.{base_name, pairs_name, ReadsNumber, IsNamed, ReadsZone}
 use Rattle.resb_zones.specs.Zones.{CountsZone}
 use Rattle.resb_zones.specs.Inner.Fields.{ReadsPairView, LastSoFar, HasSeen}
@@ -13,7 +13,7 @@ use Rattle.resb_zones.specs.declared.zone.Zone.{Zone}
 use Rattle.resb_zones.proofs.Fronts.{none_is_last}
 
 module _ (p : Place) (places : List (Place
-    × Place)) (are : entries p ≡ Some places) (f : Fields) (seen : HasSeen places f) where
+    × Place)) (are : entries_at p ≡ Some places) (f : Fields) (seen : HasSeen places f) where
   pub zone_is : (z : Zone) → f.base ≡ Some z.base → f.pairs ≡ Some z.pairs
       → ReadsZone p z (1 + length places)
   zone_is z base pairs =

@@ -15,7 +15,7 @@ use Rattle.std.specs.Cmp.Lexicographic.{slice_cmp}
 use Rattle.resb.specs.Places.{Place}
 use Rattle.resb.specs.Leaves.{ReadsSigned, CountsSigned, ReadsKey, CountsKey}
 use Rattle.resb.specs.Leaves.{ReadsView, CountsView}
-use Rattle.resb.specs.Sequences.{entries, ReadsMap, CountsMap}
+use Rattle.resb.specs.Sequences.{entries_at, ReadsMap, CountsMap}
 use Rattle.resb.specs.Views.{pair_bytes}
 use Rattle.resb_zones.specs.declared.zone.Zone.{Zone}
 use Rattle.resb_zones.specs.declared.table.ZoneTable.{ZoneTable}
@@ -61,7 +61,7 @@ pub record IsLastNamed (name : List ℕ) (places : List (Place × Place)) (value
 -- resource and one for each entry
 pub record ReadsZone (p : Place) (z : Zone) (n : ℕ) : Type 0 where
   pub places : List (Place × Place)
-  pub are : entries p ≡ Some places
+  pub are : entries_at p ≡ Some places
   pub each : All IsReadable places
   pub base : Place
   pub base_last : IsLastNamed base_name places base
@@ -74,7 +74,7 @@ pub record ReadsZone (p : Place) (z : Zone) (n : ℕ) : Type 0 where
 -- such a table takes so many resources
 pub record CountsZone (p : Place) (n : ℕ) : Type 0 where
   pub places : List (Place × Place)
-  pub are : entries p ≡ Some places
+  pub are : entries_at p ≡ Some places
   pub each : All IsReadable places
   pub base : Place
   pub base_last : IsLastNamed base_name places base
@@ -83,8 +83,8 @@ pub record CountsZone (p : Place) (n : ℕ) : Type 0 where
   pub count : n ≡ 1 + length places
 
 -- a map of zones by name, in which the last zone of an equal name stands
-abbrev pub ReadsTable : Place → ZoneTable → ℕ → Type 0
-ReadsTable p t n =
+abbrev pub ReadsZoneTable : Place → ZoneTable → ℕ → Type 0
+ReadsZoneTable p t n =
     ReadsMap (λ x y. slice_cmp nat_cmp x.now y.now) (λ q s m. ReadsKey q s.now m) ReadsZone
     p t.zones.entries n
 
@@ -95,7 +95,7 @@ CountsTable = CountsMap CountsKey CountsZone
 -- each entry can be read and paid for, but there is no `base`, or no `pairs`
 pub record LacksField (p : Place) (left : ℕ) : Type 0 where
   pub places : List (Place × Place)
-  pub are : entries p ≡ Some places
+  pub are : entries_at p ≡ Some places
   pub each : All IsReadable places
   pub paid : 1 + length places ≤ left
   pub lacks : All (λ e. IsNamed base_name e → ⊥) places ⊎ All (λ e. IsNamed pairs_name e → ⊥) places

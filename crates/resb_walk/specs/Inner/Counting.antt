@@ -13,9 +13,9 @@ use Rattle.resb_format.specs.Error.{IsWantOfMemory}
 use Rattle.resb_format.specs.Parts.{Parts}
 use Rattle.resb_format.specs.declared.error.ReadingError.{ReadingError}
 use Rattle.resb_format.specs.Strings.{text_at, key_at}
-use Rattle.resb_walk.specs.Damage.{Says, text_damage, key_damage}
+use Rattle.resb_walk.specs.BlockRefusals.{Says, block_text_refusal, block_key_refusal}
 use Rattle.resb_walk.specs.Inner.Frames.{OpenedList, OpenedTable, ListWaits, TableWaits}
-use Rattle.resb_walk.specs.Inner.MemberContent.{member_content, member_damage}
+use Rattle.resb_walk.specs.Inner.MemberContent.{member_content, member_refusal}
 use Rattle.resb_walk.specs.Inner.Members.{member_of, members_of, keyed_members, rest_length}
 use Rattle.resb_walk.specs.Refusals.{IsFault, DenotesNothing, Refuses}
 use Rattle.resb_walk.specs.declared.count.Inner.{Inner}
@@ -35,13 +35,13 @@ no_table _ _ = Unit {0}
 abbrev pub LooksKey : {A : Type 0} → List ℕ → ℕ → Result A ReadingError → Type 0
 LooksKey keys k (Ok _) = (key : List ℕ) × (key_at keys k ≡ Some key)
 LooksKey keys k (Err e) =
-    IsWantOfMemory e ⊎ ((key_at keys k ≡ None) × IsFault e × Says (key_damage keys k) e)
+    IsWantOfMemory e ⊎ ((key_at keys k ≡ None) × IsFault e × Says (block_key_refusal keys k) e)
 
 -- some text stands there, or the fault of it is said
 abbrev pub LooksText : {A : Type 0} → List ℕ → ℕ → Result A ReadingError → Type 0
 LooksText block u (Ok _) = (text : List ℕ) × (text_at block u ≡ Some text)
 LooksText block u (Err e) =
-    IsWantOfMemory e ⊎ ((text_at block u ≡ None) × IsFault e × Says (text_damage block u) e)
+    IsWantOfMemory e ⊎ ((text_at block u ≡ None) × IsFault e × Says (block_text_refusal block u) e)
 
 -- the collection waits, by its word and by how many members are still to come
 abbrev pub Keeps : Inner → Outer → Type 0
@@ -81,7 +81,7 @@ module _ (p : Parts) where
   Looks m (Ok (Some (rest.Table r))) = member_content p m ≡ Some (pairs (keyed_members r))
   Looks m (Err e) =
       IsWantOfMemory e
-      ⊎ ((member_content p m ≡ None) × IsFault e × Says (member_damage p m) e)
+      ⊎ ((member_content p m ≡ None) × IsFault e × Says (member_refusal p m) e)
 
   -- a member is paid for; one with members of its own has all of them to come
   abbrev pub Enters : Member → ℕ → ℕ → Result (Option Inner) ReadingError → Type 0

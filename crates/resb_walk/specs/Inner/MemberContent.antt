@@ -3,12 +3,12 @@ use Rattle.std.specs.Prelude.{Option}
 use Rattle.resb_format.specs.Content.{Member, word, unit, Content, content, text_leaf}
 use Rattle.resb_format.specs.Error.{Refusal}
 use Rattle.resb_format.specs.Parts.{Parts}
-use Rattle.resb_walk.specs.Damage.{text_damage, content_damage}
+use Rattle.resb_walk.specs.BlockRefusals.{block_text_refusal, word_refusal}
 
 abbrev pub member_content : Parts → Member → Option Content
 member_content p (word w) = content p w
 member_content p (unit u) = text_leaf p u
 
-abbrev pub member_damage : Parts → Member → Refusal
-member_damage p (word w) = content_damage p w
-member_damage p (unit u) = text_damage p.block u
+abbrev pub member_refusal : Parts → Member → Refusal
+member_refusal p (word w) = word_refusal p w
+member_refusal p (unit u) = block_text_refusal p.block u

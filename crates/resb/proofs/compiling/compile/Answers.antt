@@ -1,7 +1,7 @@
 use Rattle.std.proofs.Common.{subst}
 use Rattle.resb_tree.specs.Bundle.{name_of, root_of}
 use Rattle.resb_layout.specs.Written.{Written}
-use Rattle.resb_layout.specs.Faults.{Refused}
+use Rattle.resb_layout.specs.Faults.{RefusesWriting}
 use Rattle.resb_pool.specs.FaultOf.{fault_of}
 use Rattle.resb.proofs.Reasons.{writing_refused}
 use Rattle.resb.proofs.compiling.compile.Goals as goal
@@ -29,8 +29,9 @@ returns-in_err-file-clause-err c =
     let bundle = c.in_ok-bundle.bundle in
     let keys = c.in_ok-bundle.keys.items in
     let e = c.in_err-file.field-0.0 in
-    let h : Refused t keys (fault_of e) =
-    subst (λ ks. Refused t ks (fault_of e)) c.as_slice.ensures.value c.in_err-file.ensures.err in
+    let h : RefusesWriting t keys (fault_of e) =
+    subst (λ ks. RefusesWriting t ks (fault_of e)) c.as_slice.ensures.value
+        c.in_err-file.ensures.err in
     let r = c.from_residual-in_err-file in
     writing_refused c.args.text.now (name_of bundle) bundle.is_locale_fallback_enabled t keys e b h
     r.result r.ensures.1

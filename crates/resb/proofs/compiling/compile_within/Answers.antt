@@ -1,7 +1,7 @@
 use Rattle.std.proofs.Common.{subst}
 use Rattle.resb_tree.specs.Bundle.{name_of, root_of}
 use Rattle.resb_layout.specs.Written.{Written}
-use Rattle.resb_layout.specs.Faults.{Refused}
+use Rattle.resb_layout.specs.Faults.{RefusesWriting}
 use Rattle.resb_pool.specs.FaultOf.{fault_of}
 use Rattle.resb.proofs.Reasons.{unwritable}
 use Rattle.resb.proofs.compiling.compile_within.Goals as goal
@@ -29,4 +29,4 @@ returns-clause-err c =
     let e = c.in-Err.e in
     unwritable c.args.text.now (name_of b) b.is_locale_fallback_enabled t c.in-Ok.read.1.items e
     c.in-Ok.ensures.ok
-    (subst (λ ks. Refused t ks (fault_of e)) c.as_slice.ensures.value c.in-Err.ensures.err)
+    (subst (λ ks. RefusesWriting t ks (fault_of e)) c.as_slice.ensures.value c.in-Err.ensures.err)

@@ -7,10 +7,10 @@ use Rattle.resb_tree.specs.View.{tree_of}
 use Rattle.resb_format.specs.Units.{size}
 use Rattle.resb_pool.specs.FaultOf.{fault_of}
 use Rattle.resb_pool.specs.Plan.{nows, IsPlan}
-use Rattle.resb_tree.specs.WalkOrder.{walk, trees_in}
+use Rattle.resb_tree.specs.WalkOrder.{walk_order, trees_in}
 use Rattle.resb_write.specs.Inner.Room.{laid_of, Numbered, HasRoomBehind}
 use Rattle.resb_layout.specs.KeyBlock.{used, key_bytes, padded, position_in}
-use Rattle.resb_layout.specs.Faults.{Refused, no_memory, key_fault}
+use Rattle.resb_layout.specs.Faults.{RefusesWriting, no_memory, key_fault}
 use Rattle.resb_layout.specs.Written.{Written, even}
 use Rattle.resb_write.specs.Inner.Files.{file_of}
 use Rattle.resb_write.specs.Inner.Gathered.{Gathered}
@@ -25,13 +25,13 @@ use Rattle.resb_write.proofs.serializer.write.Goals.{After-deref-5}
 pub returns-in_err-order-clause-err : goal.returns-in_err-order-clause-err
 returns-in_err-order-clause-err c =
     let p = err_from_is_err_and c.from_residual.result c.from_residual.ensures.1 in
-    rw p.1 (subst (Refused _ c.args.list.now) (sym p.2) no_memory)
+    rw p.1 (subst (RefusesWriting _ c.args.list.now) (sym p.2) no_memory)
 
 pub returns-in_err-contents-clause-err : goal.returns-in_err-contents-clause-err
 returns-in_err-contents-clause-err c =
     let p = err_from_is_err_and c.from_residual-in_err-contents.result
     c.from_residual-in_err-contents.ensures.1 in
-    rw p.1 (subst (Refused _ c.args.list.now) (sym p.2) no_memory)
+    rw p.1 (subst (RefusesWriting _ c.args.list.now) (sym p.2) no_memory)
 
 pub returns-in_err-keys-clause-err : goal.returns-in_err-keys-clause-err
 returns-in_err-keys-clause-err c =
@@ -41,7 +41,7 @@ returns-in_err-keys-clause-err c =
     let us = ap nows c.deref.ensures.value ∙ gathered.keys_are in
     let p = err_from_is_err_and c.from_residual-in_err-keys.result
     c.from_residual-in_err-keys.ensures.1 in
-    rw (p.1, p.2) (subst (λ u. Refused u c.args.list.now (fault_of c.in_err-keys.field-0.0))
+    rw (p.1, p.2) (subst (λ u. RefusesWriting u c.args.list.now (fault_of c.in_err-keys.field-0.0))
     c.root.ensures.tree (key_refused t c.args.list.now (nows c.deref.result.now) _ us
     c.in_err-keys.ensures.err))
 
@@ -54,10 +54,11 @@ returns-in_err-check_sizes-clause-err c =
     let b = c.in_ok-keys.ensures.ok in
     let p = err_from_is_err_and c.from_residual-in_err-check_sizes.result
     c.from_residual-in_err-check_sizes.ensures.1 in
-    rw (p.1, p.2) (subst (λ u. Refused u c.args.list.now (fault_of c.in_err-check_sizes.field-0.0))
+    rw (p.1, p.2) (subst (λ u. RefusesWriting u c.args.list.now (fault_of
+        c.in_err-check_sizes.field-0.0))
     c.root.ensures.tree
     (size_refused t c.args.list.now (nows c.deref.result.now) _ us b.keys b.faultless _
-    (c.in_err-check_sizes.ensures.err (walk t) gathered)))
+    (c.in_err-check_sizes.ensures.err (walk_order t) gathered)))
 
 pub returns-in_err-pool-clause-err : goal.returns-in_err-pool-clause-err
 returns-in_err-pool-clause-err c =
@@ -65,10 +66,10 @@ returns-in_err-pool-clause-err c =
     let gathered = subst (λ ts. Gathered ts c.in_ok-contents.contents) c.in_ok-order.ensures
     c.in_ok-contents.ensures in
     let texts = ap nows c.deref-2.ensures.value ∙ gathered.texts_are in
-    let small = c.in_ok-check_sizes.ensures.ok (walk t) gathered in
+    let small = c.in_ok-check_sizes.ensures.ok (walk_order t) gathered in
     let p = err_from_is_err_and c.from_residual-in_err-pool.result
     c.from_residual-in_err-pool.ensures.1 in
-    rw (p.1, p.2) (subst (λ u. Refused u c.args.list.now (fault_of c.in_err-pool.field-0.0))
+    rw (p.1, p.2) (subst (λ u. RefusesWriting u c.args.list.now (fault_of c.in_err-pool.field-0.0))
     c.root.ensures.tree
     (plan_refused t c.args.list.now (nows c.deref-2.result.now) _ texts small
     c.in_err-pool.ensures.err))
@@ -78,7 +79,7 @@ block_length-keys_end-requires c =
     let t = tree_of c.root.result.now in
     let gathered = subst (λ ts. Gathered ts c.in_ok-contents.contents) c.in_ok-order.ensures
     c.in_ok-contents.ensures in
-    let small = c.in_ok-check_sizes.ensures.ok (walk t) gathered in
+    let small = c.in_ok-check_sizes.ensures.ok (walk_order t) gathered in
     let js = ap nows c.deref-3.ensures.value ∙ c.in_ok-keys.ensures.ok.keys in
     omega (
       arith,
@@ -93,7 +94,7 @@ overflow_add-keys_end c =
     let t = tree_of c.root.result.now in
     let gathered = subst (λ ts. Gathered ts c.in_ok-contents.contents) c.in_ok-order.ensures
     c.in_ok-contents.ensures in
-    let small = c.in_ok-check_sizes.ensures.ok (walk t) gathered in
+    let small = c.in_ok-check_sizes.ensures.ok (walk_order t) gathered in
     let js = ap nows c.deref-3.ensures.value ∙ c.in_ok-keys.ensures.ok.keys in
     omega (
       arith,
@@ -112,19 +113,19 @@ lay_bodies-requires-clause-room c =
     c.in_ok-contents.ensures in
     let us = c.in_ok-pool.field-0.pool.items in
     let pooled = c.in_ok-pool.ensures.ok in
-    let small = c.in_ok-check_sizes.ensures.ok (walk t) gathered in
+    let small = c.in_ok-check_sizes.ensures.ok (walk_order t) gathered in
     let js = ap nows c.deref-3.ensures.value ∙ c.in_ok-keys.ensures.ok.keys in
     let texts = ap nows c.deref-2.ensures.value ∙ gathered.texts_are in
     let pool = pool_room (nows c.deref-2.result.now) us pooled.offset pooled.plan in
     let same = ap (sum_by size) texts in
     subst (HasRoomBehind (32 + c.block_length-keys_end.result) us) (sym c.in_ok-order.ensures)
     (record {
-      units = omega (arith, pool, same, units_room (walk t), walk_long t, small);
+      units = omega (arith, pool, same, units_room (walk_order t), walk_long t, small);
       bytes = omega (
         arith,
         pool,
         same,
-        bytes_room (walk t),
+        bytes_room (walk_order t),
         small,
         ap (λ l. length (key_bytes l)) js,
         used_room (nows c.deref.result.now) c.args.list.now,
@@ -172,22 +173,22 @@ pub returns-in_err-bodies-clause-err : goal.returns-in_err-bodies-clause-err
 returns-in_err-bodies-clause-err c =
     let p = err_from_is_err_and c.from_residual-in_err-bodies.result
     c.from_residual-in_err-bodies.ensures.1 in
-    rw p.1 (subst (Refused _ c.args.list.now) (sym p.2) no_memory)
+    rw p.1 (subst (RefusesWriting _ c.args.list.now) (sym p.2) no_memory)
 
 pub overflow_cast-largest_table : goal.overflow_cast-largest_table
 overflow_cast-largest_table c =
     let t = tree_of c.root.result.now in
     let gathered = subst (λ ts. Gathered ts c.in_ok-contents.contents) c.in_ok-order.ensures
     c.in_ok-contents.ensures in
-    let small = c.in_ok-check_sizes.ensures.ok (walk t) gathered in
-    omega (arith, small, gathered.largest_is, largest_room (walk t))
+    let small = c.in_ok-check_sizes.ensures.ok (walk_order t) gathered in
+    omega (arith, small, gathered.largest_is, largest_room (walk_order t))
 
 pub assemble-requires : goal.assemble-requires
 assemble-requires c =
     let t = tree_of c.root.result.now in
     let gathered = subst (λ ts. Gathered ts c.in_ok-contents.contents) c.in_ok-order.ensures
     c.in_ok-contents.ensures in
-    let small = c.in_ok-check_sizes.ensures.ok (walk t) gathered in
+    let small = c.in_ok-check_sizes.ensures.ok (walk_order t) gathered in
     let js = ap nows c.deref-6.ensures.value ∙ c.in_ok-keys.ensures.ok.keys in
     let room = c.in_ok-bodies.ensures.fits in
     let k = length-padded (key_bytes (nows c.deref-3.result.now)) in
@@ -209,7 +210,7 @@ pub returns-in_err-assemble-clause-err : goal.returns-in_err-assemble-clause-err
 returns-in_err-assemble-clause-err c =
     let p = err_from_is_err_and c.from_residual-in_err-assemble.result
     c.from_residual-in_err-assemble.ensures.1 in
-    rw p.1 (subst (Refused _ c.args.list.now) (sym p.2) no_memory)
+    rw p.1 (subst (RefusesWriting _ c.args.list.now) (sym p.2) no_memory)
 
 pub returns-clause-ok : goal.returns-clause-ok
 returns-clause-ok c =
@@ -224,7 +225,7 @@ returns-clause-ok c =
     let laid = laid_of c.in_ok-bodies.bodies in
     let us = ap nows c.deref.ensures.value ∙ gathered.keys_are in
     let texts = ap nows c.deref-2.ensures.value ∙ gathered.texts_are in
-    let small = c.in_ok-check_sizes.ensures.ok (walk t) gathered in
+    let small = c.in_ok-check_sizes.ensures.ok (walk_order t) gathered in
     let end : ℕ = 32 + c.block_length-keys_end.result + 2 *
     (length c.in_ok-bodies.bodies.units.items + length c.in_ok-bodies.bodies.units.items % 2) in
     let room = c.in_ok-bodies.ensures.fits in

@@ -4,7 +4,7 @@ use Rattle.std.proofs.lemmas.Result.{err_from_is_err_and}
 use Rattle.std.specs.Int.{w16}
 use Rattle.std.proofs.lemmas.Int.{to_z-of_z}
 use Rattle.resb_read.specs.Places.{place_of}
-use Rattle.resb_read.specs.Sequences.{entries}
+use Rattle.resb_read.specs.Sequences.{entries_at}
 use Rattle.resb_read_rows.specs.FieldLaws.{i16_counted, i16_one}
 use Rattle.resb_read_rows.proofs.Walking.{refused_i, refused_v, none_left}
 use Rattle.resb_read_rows.proofs.both.BothDeserialize.deserialize.Goals as goal
@@ -28,7 +28,7 @@ returns-in_err-v-clause-refused c =
     let (are, none, paid) = c.in_ok-entries.ensures.read in
     let (f, a, first, still, (k, b, key, x, s), paid2) = c.in_ok-i.ensures.read in
     let (falls, lacks) = c.in_err-v.ensures.refused in
-    let all : entries (place_of c.args.at) ≡ Some (f ∷ c.field.new.entries.rest) = are
+    let all : entries_at (place_of c.args.at) ≡ Some (f ∷ c.field.new.entries.rest) = are
     ∙ ap Some first in
     rw (e.1, e.2) (
       omega (arith, falls, paid, paid2),
@@ -50,7 +50,7 @@ returns-clause-read c =
     let back = to_z-of_z w16 c.in_ok-i.i (search rules) in
     let none_more : length c.field-2.new.entries.rest ≤ 0 = search rules in
     let last = none_left c.field-2.new.entries.rest none_more in
-    let all : entries (place_of c.args.at) ≡ Some (f ∷ h ∷ []) = are
+    let all : entries_at (place_of c.args.at) ≡ Some (f ∷ h ∷ []) = are
     ∙ ap Some (first ∙ ap (λ r. f ∷ r) (second ∙ ap (λ r. h ∷ r) last)) in (
       1 + (a + b),
       record {

@@ -68,8 +68,8 @@ pub fn write_bundle(
 ) -> Result<Vec<u8>, BinarySerializerError>
     ensures ok { IfOk result (λ file. Written file.items (root_of bundle.now)
         bundle.now.is_locale_fallback_enabled keys.now) }
-    ensures refused {
-        IfErr result (λ e. RefusesWriting (root_of bundle.now) keys.now (fault_of e)) }
+    ensures refused { IfErr result
+        (λ e. RefusesWriting (root_of bundle.now) keys.now (fault_of e)) }
 {
     Serializer::to_bytes(alloc, bundle, keys)
 }

@@ -59,7 +59,7 @@ pub fn from_words<'a, 'm, T: Deserialize<'a>>(
         IfOk result (λ x. (n : ℕ) × HoldsAtRoot (λ p. T.reads p x n) bytes × (n ≤ budget bytes)) }
     ensures refused { let bytes = flat_map (to_le_bytes w32) words.now in
         IfErr result (λ e. LacksOrMemory (λ n. HoldsAtRoot (λ p. T.counts p n) bytes) (budget bytes)
-            e) }
+        e) }
     ensures head { let bytes = flat_map (to_le_bytes w32) words.now in
         IfErr result (λ e. IsWantOfMemory e ⊎
         ((f : reading.Refusal) → file_fault bytes ≡ Some f → refusal_of e ≡ f)) }

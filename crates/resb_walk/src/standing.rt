@@ -84,8 +84,8 @@ impl<'a> File<'a> {
         ensures stands { let block = units_of self.entry.block.now in
             MatchResult result (λ v. text_at block unit ≡ Some (text_of_bytes v.now))
             (λ e. (text_at block unit ≡ None) × IsFault e) }
-        ensures says {
-            IfErr result (Says (block_text_refusal (units_of self.entry.block.now) unit)) }
+        ensures says { IfErr result
+            (Says (block_text_refusal (units_of self.entry.block.now) unit)) }
     {
         if let Some(bytes) = plain_text(self.block, unit) {
             return Ok(bytes);

@@ -31,7 +31,7 @@ returns-in_err-file-clause-err c =
     let e = c.in_err-file.field-0.0 in
     let h : RefusesWriting t keys (fault_of e) =
     subst (λ ks. RefusesWriting t ks (fault_of e)) c.as_slice.ensures.value
-        c.in_err-file.ensures.err in
+    c.in_err-file.ensures.err in
     let r = c.from_residual-in_err-file in
     writing_refused c.args.text.now (name_of bundle) bundle.is_locale_fallback_enabled t keys e b h
     r.result r.ensures.1

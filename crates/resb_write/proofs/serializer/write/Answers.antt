@@ -55,7 +55,7 @@ returns-in_err-check_sizes-clause-err c =
     let p = err_from_is_err_and c.from_residual-in_err-check_sizes.result
     c.from_residual-in_err-check_sizes.ensures.1 in
     rw (p.1, p.2) (subst (λ u. RefusesWriting u c.args.list.now (fault_of
-        c.in_err-check_sizes.field-0.0))
+    c.in_err-check_sizes.field-0.0))
     c.root.ensures.tree
     (size_refused t c.args.list.now (nows c.deref.result.now) _ us b.keys b.faultless _
     (c.in_err-check_sizes.ensures.err (walk_order t) gathered)))

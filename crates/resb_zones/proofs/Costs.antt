@@ -35,18 +35,18 @@ entry_is p (e ∷ es) =
     member_costs (word w) = refl
     member_costs (unit u) = refl
 
-entries_at : (p : Parts) (s : Spot) (places : List (Place × Place)) → entries_from p s ≡ Some places
-    → All IsEntry places
-entries_at p (spot.Descriptor w) places e =
+entries_at_spot : (p : Parts) (s : Spot) (places : List (Place × Place))
+    → entries_from p s ≡ Some places → All IsEntry places
+entries_at_spot p (spot.Descriptor w) places e =
     let (es, _, same) = some_of (map (at_entry p)) (entries_in p w) places e in
     subst (All IsEntry) (sym same) (entry_is p es)
-entries_at p (spot.Unit u) places e = cc
-entries_at p (spot.Word w) places e = cc
-entries_at p (spot.Key k) places e = cc
+entries_at_spot p (spot.Unit u) places e = cc
+entries_at_spot p (spot.Word w) places e = cc
+entries_at_spot p (spot.Key k) places e = cc
 
 pub entries_are : (p : Place) (places : List (Place × Place)) → entries_at p ≡ Some places
     → All IsEntry places
-entries_are p places e = entries_at p.parts p.at places e
+entries_are p places e = entries_at_spot p.parts p.at places e
 
 -- what stands there has the count that it is given
 counted_as : {A B : Type 0} (f : A → B) (k : ℕ) (o : Option A) (q : B × ℕ)

@@ -1,0 +1,4 @@
+-- Laws of what is read of a text.
+mod BlanksLemmas
+mod WordsLemmas
+mod EscapesLemmas

@@ -37,9 +37,9 @@ pub(crate) fn string<'a>(
     text: &'a str,
     from: usize,
 ) -> Result<Option<Lexeme<'a>>, NoMemory>
-    requires within { from ≤ length text.entry }
-    ensures found { IfOk result (λ o. IfSome o (IsLexeme text.entry from)) }
-    ensures none { IfOk result (λ o. IfNone o (IsNoLexeme text.entry from)) }
+    requires within { from ≤ length text.now }
+    ensures found { IfOk result (λ o. IfSome o (IsLexeme text.now from)) }
+    ensures none { IfOk result (λ o. IfNone o (IsNoLexeme text.now from)) }
 {
     if byte(text, from) == b'"' {
         return quoted(alloc, text, from);
@@ -69,10 +69,10 @@ fn quoted<'a>(
     text: &'a str,
     from: usize,
 ) -> Result<Option<Lexeme<'a>>, NoMemory>
-    requires within { from < length text.entry }
-    requires opens { slice_index text.entry from ≡ ascii.quote }
-    ensures found { IfOk result (λ o. IfSome o (IsLexeme text.entry from)) }
-    ensures none { IfOk result (λ o. IfNone o (IsNoLexeme text.entry from)) }
+    requires within { from < length text.now }
+    requires opens { slice_index text.now from ≡ ascii.quote }
+    ensures found { IfOk result (λ o. IfSome o (IsLexeme text.now from)) }
+    ensures none { IfOk result (λ o. IfNone o (IsNoLexeme text.now from)) }
 {
     let Some((last, plain)) = piece_end(text, from + 1) else {
         return Ok(None);

@@ -2,3 +2,4 @@
 mod BlanksLemmas
 mod WordsLemmas
 mod EscapesLemmas
+mod PiecesLemmas

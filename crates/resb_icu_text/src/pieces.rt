@@ -7,6 +7,7 @@ ghost use Rattle.resb_grammar.specs.Ascii as ascii;
 ghost use Rattle.resb_icu_grammar.specs.Pieces.{Inside};
 ghost use Rattle.resb_icu_grammar.specs.Words.{HasNoEscape};
 
+use crate::blanks::byte;
 use crate::escapes::escape;
 use std::alloc::AllocError;
 
@@ -26,7 +27,7 @@ pub(crate) fn piece_end(text: &str, from: usize) -> Option<(usize, bool)>
         if at >= text.len() {
             return None;
         }
-        let b = text.as_bytes()[at];
+        let b = byte(text, at);
         if b == b'"' {
             return Some((at, plain));
         }
@@ -58,7 +59,7 @@ pub(crate) fn push_piece(
     let mut start = from;
     let mut at = from;
     'piece: while at < last {
-        if text.as_bytes()[at] == b'\\' {
+        if byte(text, at) == b'\\' {
             value.push_str(&text[start..at])?;
             match escape(text, at + 1) {
                 Some((to, Some(c))) => {

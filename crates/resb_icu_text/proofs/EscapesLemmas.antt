@@ -195,3 +195,24 @@ pub said_long : (text : List ℕ) (at n : ℕ) → slice_index text at ≡ 85
     → (to : ℕ) (s : List ℕ) → Escape text at to s → ⊥
 said_long text at n h e f =
     no_long text at h (λ x y z. f (omega (arith, e, y)) (omega (arith, e, z)))
+
+-- a hex digit is ASCII
+hex_ascii : (b : ℕ) → is_hex b ≡ true → (0 < b) × (b < 128)
+hex_ascii b h = (hex_some b h, grind (arith, nat_tests, h))
+
+ascii_moved : (text : List ℕ) (a b : ℕ) → a ≡ b → is_hex (slice_index text a) ≡ true
+    → (0 < slice_index text b) × (slice_index text b < 128)
+ascii_moved text a b e h = hex_ascii _ (digit_moved text a b e h)
+
+-- the last of four hex digits
+pub fourth_ascii : (text : List ℕ) (at : ℕ) → are_hex text (at + 1) 4 ≡ true
+    → (0 < slice_index text (at + 5 - 1)) × (slice_index text (at + 5 - 1) < 128)
+fourth_ascii text at h =
+    ascii_moved text (at + 1 + 3) (at + 5 - 1) (omega arith) (four_parts text (at + 1) h).3
+
+-- the last of eight
+pub eighth_ascii : (text : List ℕ) (at : ℕ) → are_hex text (at + 1) 8 ≡ true
+    → (0 < slice_index text (at + 9 - 1)) × (slice_index text (at + 9 - 1) < 128)
+eighth_ascii text at h =
+    ascii_moved text (at + 1 + 4 + 3) (at + 9 - 1) (omega arith)
+    (four_parts text (at + 1 + 4) (eight_parts text (at + 1) h).1).3

@@ -1,11 +1,12 @@
 //! Escapes: what a backslash and the bytes behind it stand for.
 //! Where quoted pieces end, and what they say, is in `pieces`.
-ghost use Rattle.std.specs.Prelude.{◌≡◌, ◌≢◌, ℕ, ◌+◌, ◌^◌, ◌<◌, ◌≤◌, true, false, List, length};
+ghost use Rattle.std.specs.Prelude.{◌≡◌, ◌≢◌, ℕ, ◌+◌, ◌-◌, ◌^◌, ◌<◌, ◌≤◌, true, false, List};
+ghost use Rattle.std.specs.Prelude.{length, Some, None};
 ghost use Rattle.std.specs.Prelude.{slice_index, IfSome, IfNone};
 ghost use Rattle.resb_grammar.specs.Group.{is_hex, hex_value};
 ghost use Rattle.resb_icu_grammar.specs.Bytes.{backslash};
 ghost use Rattle.resb_icu_grammar.specs.Escapes.{Escape, are_hex, hex_number, is_surrogate};
-ghost use Rattle.resb_icu_text.specs.Inner.Escaped.{bytes_of};
+ghost use Rattle.resb_icu_text.specs.Inner.Escaped.{bytes_of, IsAscii};
 
 use crate::blanks::byte;
 
@@ -83,6 +84,9 @@ pub(crate) fn escape(text: &str, at: usize) -> Option<(usize, Option<char>)>
         (bytes_of (slice_index text.now at) r.1)) }
     ensures none { IfNone result ((to : ℕ) (s : List ℕ) → Escape text.now at to s → ⊥) }
     ensures within { IfSome result (λ r. (at < r.0) × (r.0 ≤ length text.now)) }
+    ensures alone { IfSome result (λ r. r.1 ≡ None → r.0 ≡ at + 1) }
+    ensures ascii { IfSome result (λ r. (c : ℕ) → r.1 ≡ Some c
+        → IsAscii (slice_index text.now (r.0 - 1))) }
 {
     let b = byte(text, at);
     if at >= text.len() {

@@ -4,7 +4,7 @@ use Rattle.std.specs.Char.{is_ascii_alphanumeric}
 use Rattle.resb_icu_grammar.specs.Escapes.{itself, is_surrogate, hex_number}
 use Rattle.resb_icu_text.proofs.WordsLemmas.{if_none_by}
 use Rattle.resb_icu_text.proofs.EscapesLemmas.{no_short, no_long, is_feed, is_return, is_tab}
-use Rattle.resb_icu_text.proofs.EscapesLemmas.{is_short, is_long, said_short, said_long}
+use Rattle.resb_icu_text.proofs.EscapesLemmas.{is_short, is_long, said_short, said_long, fourth_ascii, eighth_ascii}
 use Rattle.resb_icu_text.proofs.escapes.escape.Goals as goal
 
 pub returns-in_err-c-clause-none : goal.returns-in_err-c-clause-none
@@ -57,3 +57,11 @@ returns-in_ok-c-2-clause-found c =
     let f = c.in_ok-c-2.ensures.found in
     is_long _ _ c.in_ok-number-2.number _ (sym c.byte-b.ensures.byte ∙ c.if-b-eq85.true) d.0 d.1 f.0
     f.1 f.2
+
+pub returns-in_ok-c-clause-ascii : goal.returns-in_ok-c-clause-ascii
+returns-in_ok-c-clause-ascii c =
+    λ _ _. fourth_ascii c.args.text.now c.args.at c.in_ok-number.ensures.found.0
+
+pub returns-in_ok-c-2-clause-ascii : goal.returns-in_ok-c-2-clause-ascii
+returns-in_ok-c-2-clause-ascii c =
+    λ _ _. eighth_ascii c.args.text.now c.args.at c.in_ok-number-2.ensures.found.0

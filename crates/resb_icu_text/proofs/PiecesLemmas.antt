@@ -1,6 +1,9 @@
 -- Laws of quoted pieces, as the reader's functions use them.
 use Rattle.std.proofs.Common.{◌≡◌, ◌≢◌, ℕ, ◌+◌, ◌-◌, ◌<◌, ◌≤◌, Bool, true, false, List, [], ◌∷◌}
-use Rattle.std.proofs.Common.{◌++◌, length, arith, subst, sym, refl, ap, ◌∙◌, get_or}
+use Rattle.std.proofs.Common.{◌++◌, length, arith, subst, sym, refl, ap, ◌∙◌, get_or, take, drop}
+use Rattle.std.proofs.Common.{append_assoc, append-nil, length-drop}
+use Rattle.std.specs.Prelude.{slice_range}
+use Rattle.std.proofs.lemmas.List.{take_more, get_or-drop}
 use Rattle.std.specs.Prelude.{slice_index, ◌==◌}
 use Rattle.std.proofs.lemmas.Bool.Decides.{nat_tests}
 use Rattle.std.proofs.lemmas.List.{get_or_past}
@@ -9,7 +12,7 @@ use Rattle.resb_icu_grammar.specs.Bytes.{backslash}
 use Rattle.resb_icu_grammar.specs.Escapes.{Escape}
 use Rattle.resb_icu_grammar.specs.Pieces.{Inside, ends, byte, escape}
 use Rattle.resb_icu_grammar.specs.Words.{HasNoEscape}
-use Rattle.resb_icu_grammar.proofs.Lexical.{Escape-one}
+use Rattle.resb_icu_grammar.proofs.Lexical.{Escape-one, Inside-one}
 
 -- some inside of a piece stands between these places
 abbrev pub SomeInside : List ℕ → ℕ → ℕ → Type 0
@@ -101,3 +104,130 @@ pub dirty_more : (text : List ℕ) (from at : ℕ)
     → (k : ℕ) × (from ≤ k) × (k < at) × (slice_index text k ≡ backslash)
     → (k : ℕ) × (from ≤ k) × (k < at + 1) × (slice_index text k ≡ backslash)
 dirty_more text from at h = (h.0, h.1, omega (arith, h.2), h.3)
+
+-- a slice of one byte more
+slice_more : (text : List ℕ) (start at : ℕ) → start ≤ at → at < length text
+    → slice_range text start (at + 1) ≡ slice_range text start at ++ slice_index text at ∷ []
+slice_more text start at low high =
+    let n : at + 1 - start ≡ (at - start) + 1 = omega arith in
+    let there : at - start < length (drop start text) =
+    omega (arith, length-drop start text) in
+    let same : start + (at - start) ≡ at = omega arith in
+    ap (λ k. take k (drop start text)) n ∙ take_more (drop start text) (at - start) 0 there
+    ∙ ap (λ b. take (at - start) (drop start text) ++ b ∷ [])
+    (get_or-drop start text (at - start) 0 ∙ ap (λ k. slice_index text k) same)
+
+-- a slice of no byte
+slice_none : (text : List ℕ) (at : ℕ) → slice_range text at at ≡ []
+slice_none text at =
+    let n : at - at ≡ 0 = omega arith in ap (λ k. take k (drop at text)) n
+
+-- the value, what is not yet added of it, and what follows are the whole
+pub record Adds (text : List ℕ) (from last start at : ℕ) (old value bytes : List ℕ) : Type 0 where
+  pub rest : List ℕ
+  pub inside : Inside text at last rest
+  pub whole : value ++ (slice_range text start at ++ rest) ≡ old ++ bytes
+
+pub adds_none : (text : List ℕ) (from last : ℕ) (old bytes : List ℕ) → Inside text from last bytes
+    → Adds text from last from from old old bytes
+adds_none text from last old bytes h = record {
+  rest = bytes;
+  inside = h;
+  whole = ap (λ s. old ++ (s ++ bytes)) (slice_none text from);
+}
+
+-- before the closing quote a byte that is no backslash stands for itself
+rest_byte : (text : List ℕ) (at last : ℕ) (rest : List ℕ) → at < last
+    → slice_index text at ≢ backslash → Inside text at last rest
+    → (more : List ℕ) × (rest ≡ slice_index text at ∷ more) × Inside text (at + 1) last more
+rest_byte text at last rest l s (ends _ k) = absurd (omega arith)
+rest_byte text at last rest l s (byte _ _ vs m k n r) = (vs, refl, r)
+rest_byte text at last rest l s (escape _ n _ xs vs k m r) = absurd (s k)
+
+pub adds_byte : (text : List ℕ) (from last start at : ℕ) (old value bytes : List ℕ) → start ≤ at
+    → at < last → last < length text → slice_index text at ≢ backslash
+    → Adds text from last start at old value bytes
+    → Adds text from last start (at + 1) old value bytes
+adds_byte text from last start at old value bytes o l f s a =
+    let r = rest_byte text at last a.rest l s a.inside in
+    record {
+      rest = r.0;
+      inside = r.2;
+      whole =
+          ap (λ x. value ++ (x ++ r.0)) (slice_more text start at o (omega arith))
+          ∙ ap (λ x. value ++ x)
+          (append_assoc (slice_range text start at) (slice_index text at ∷ []) r.0)
+          ∙ ap (λ x. value ++ (slice_range text start at ++ x)) (sym r.1)
+          ∙ a.whole;
+    }
+
+-- behind a backslash an escape stands for what it says
+rest_escape : (text : List ℕ) (at next last : ℕ) (first rest : List ℕ)
+    → slice_index text at ≡ backslash → Escape text (at + 1) next first → Inside text at last rest
+    → (more : List ℕ) × (rest ≡ first ++ more) × Inside text next last more
+rest_escape text at next last first rest s x (ends _ k) = absurd (omega arith)
+rest_escape text at next last first rest s x (byte _ _ vs m k n r) = absurd (n s)
+rest_escape text at next last first rest s x (escape _ n _ ys vs k m r) =
+    let same = Escape-one text (at + 1) n next ys first m x in
+    (vs, ap (λ l. l ++ vs) same.1, subst (λ i. Inside text i last vs) same.0 r)
+
+-- what was read and the character of an escape are added
+pub adds_character : (text : List ℕ) (from last start at next : ℕ)
+    (old value bytes first value1 value2 : List ℕ) → slice_index text at ≡ backslash
+    → Escape text (at + 1) next first → value1 ≡ value ++ slice_range text start at
+    → value2 ≡ value1 ++ first → Adds text from last start at old value bytes
+    → Adds text from last next next old value2 bytes
+adds_character text from last start at next old value bytes first value1 value2 s x e f a =
+    let r = rest_escape text at next last first a.rest s x a.inside in
+    record {
+      rest = r.0;
+      inside = r.2;
+      whole =
+          ap (λ l. value2 ++ (l ++ r.0)) (slice_none text next)
+          ∙ ap (λ l. l ++ r.0) (f ∙ ap (λ l. l ++ first) e)
+          ∙ append_assoc (value ++ slice_range text start at) first r.0
+          ∙ append_assoc value (slice_range text start at) (first ++ r.0)
+          ∙ ap (λ l. value ++ (slice_range text start at ++ l)) (sym r.1)
+          ∙ a.whole;
+    }
+
+-- what was read is added, and the byte behind the backslash begins what is read next
+pub adds_itself : (text : List ℕ) (from last start at next : ℕ) (old value bytes value1 : List ℕ)
+    → slice_index text at ≡ backslash → next ≡ at + 1 + 1 → at + 1 < length text
+    → Escape text (at + 1) next (slice_index text (at + 1) ∷ [])
+    → value1 ≡ value ++ slice_range text start at → Adds text from last start at old value bytes
+    → Adds text from last (at + 1) next old value1 bytes
+adds_itself text from last start at next old value bytes value1 s n l x e a =
+    let b = slice_index text (at + 1) in
+    let r = rest_escape text at next last (b ∷ []) a.rest s x a.inside in
+    let one : slice_range text (at + 1) next ≡ b ∷ [] =
+    ap (λ k. slice_range text (at + 1) k) n ∙ slice_more text (at + 1) (at + 1) (omega arith) l
+    ∙ ap (λ k. k ++ b ∷ []) (slice_none text (at + 1)) in
+    record {
+      rest = r.0;
+      inside = r.2;
+      whole =
+          ap (λ k. value1 ++ (k ++ r.0)) one
+          ∙ ap (λ k. k ++ (b ∷ r.0)) e
+          ∙ append_assoc value (slice_range text start at) (b ∷ r.0)
+          ∙ ap (λ k. value ++ (slice_range text start at ++ k)) (sym r.1)
+          ∙ a.whole;
+    }
+
+nothing_rests : (text : List ℕ) (last : ℕ) (rest : List ℕ) → slice_index text last ≡ ascii.quote
+    → Inside text last last rest → rest ≡ []
+nothing_rests text last rest q h =
+    (Inside-one text last last last rest [] h (ends last q)).1
+
+-- the last that was read is added
+pub adds_all : (text : List ℕ) (from last start at : ℕ) (old value bytes value1 : List ℕ)
+    → slice_index text last ≡ ascii.quote → at ≡ last
+    → value1 ≡ value ++ slice_range text start last
+    → Adds text from last start at old value bytes → value1 ≡ old ++ bytes
+adds_all text from last start at old value bytes value1 q e f a =
+    let h : Inside text last last a.rest =
+    subst (λ i. Inside text i last a.rest) e a.inside in
+    f ∙ sym (append-nil (value ++ slice_range text start last))
+    ∙ append_assoc value (slice_range text start last) []
+    ∙ ap (λ k. value ++ (slice_range text start last ++ k)) (sym (nothing_rests text last a.rest q h))
+    ∙ ap (λ k. value ++ (slice_range text start k ++ a.rest)) (sym e) ∙ a.whole

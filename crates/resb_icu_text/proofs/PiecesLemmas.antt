@@ -2,14 +2,18 @@
 use Rattle.std.proofs.Common.{◌≡◌, ◌≢◌, ℕ, ◌+◌, ◌-◌, ◌<◌, ◌≤◌, Bool, true, false, List, [], ◌∷◌}
 use Rattle.std.proofs.Common.{◌++◌, length, arith, subst, sym, refl, ap, ◌∙◌, get_or, take, drop}
 use Rattle.std.proofs.Common.{append_assoc, append-nil, length-drop}
+use Rattle.std.proofs.Common.{Result, Ok, Err, OnOk, is_ok, if◌then◌else◌}
 use Rattle.std.specs.Prelude.{slice_range}
+use Rattle.std.specs.Str.{IsUtf8, IsCharBoundary}
+use Rattle.std.proofs.lemmas.Str.{IsCharBoundary-after_ascii}
 use Rattle.std.proofs.lemmas.List.{take_more, get_or-drop}
 use Rattle.std.specs.Prelude.{slice_index, ◌==◌}
 use Rattle.std.proofs.lemmas.Bool.Decides.{nat_tests}
 use Rattle.std.proofs.lemmas.List.{get_or_past}
 use Rattle.resb_grammar.specs.Ascii as ascii
 use Rattle.resb_icu_grammar.specs.Bytes.{backslash}
-use Rattle.resb_icu_grammar.specs.Escapes.{Escape}
+use Rattle.resb_icu_grammar.specs.Escapes.{Escape, itself, line_feed, carriage_return, tab}
+use Rattle.resb_icu_grammar.specs.Escapes.{four_digits, eight_digits}
 use Rattle.resb_icu_grammar.specs.Pieces.{Inside, ends, byte, escape}
 use Rattle.resb_icu_grammar.specs.Words.{HasNoEscape}
 use Rattle.resb_icu_grammar.proofs.Lexical.{Escape-one, Inside-one}
@@ -59,7 +63,7 @@ pub back_escape : (text : List ℕ) (from at next b : ℕ) (xs : List ℕ) → b
 back_escape text from at next b xs e s x f to h =
     let g = f to h in inside_escape text at next to b xs g.0 e s x g.1
 
-inside_broken : (text : List ℕ) (at to b : ℕ) (us : List ℕ) → b ≡ slice_index text at
+pub inside_broken : (text : List ℕ) (at to b : ℕ) (us : List ℕ) → b ≡ slice_index text at
     → b ≡ backslash → ((to : ℕ) (s : List ℕ) → Escape text (at + 1) to s → ⊥)
     → Inside text at to us → ⊥
 inside_broken text at to b us e s f (ends _ k) = omega arith
@@ -231,3 +235,47 @@ adds_all text from last start at old value bytes value1 q e f a =
     ∙ append_assoc value (slice_range text start last) []
     ∙ ap (λ k. value ++ (slice_range text start last ++ k)) (sym (nothing_rests text last a.rest q h))
     ∙ ap (λ k. value ++ (slice_range text start k ++ a.rest)) (sym e) ∙ a.whole
+
+escape_order : (text : List ℕ) (at to : ℕ) (s : List ℕ) → Escape text at to s → at < to
+escape_order text at to s (itself f h) = omega arith
+escape_order text at to s (line_feed h) = omega arith
+escape_order text at to s (carriage_return h) = omega arith
+escape_order text at to s (tab h) = omega arith
+escape_order text at to s (four_digits c h k e f g) = omega arith
+escape_order text at to s (eight_digits c h k e f g) = omega arith
+
+-- a piece ends no earlier than it begins
+pub inside_order : (text : List ℕ) (at to : ℕ) (s : List ℕ) → Inside text at to s → at ≤ to
+inside_order text at to s (ends _ h) = omega arith
+inside_order text at to s (byte _ _ vs l q b r) =
+    omega (arith, inside_order text (at + 1) to vs r)
+inside_order text at to s (escape _ n _ xs vs b x r) =
+    omega (arith, escape_order text (at + 1) n xs x, inside_order text n to vs r)
+
+-- a piece ends with a quote
+pub inside_closes : (text : List ℕ) (at to : ℕ) (s : List ℕ) → Inside text at to s
+    → slice_index text to ≡ ascii.quote
+inside_closes text at to s (ends _ h) = h
+inside_closes text at to s (byte _ _ vs l q b r) = inside_closes text (at + 1) to vs r
+inside_closes text at to s (escape _ n _ xs vs b x r) = inside_closes text n to vs r
+
+-- an escape of a piece ends before the closing quote
+pub escape_fits : (text : List ℕ) (at next last : ℕ) (first rest : List ℕ)
+    → slice_index text at ≡ backslash → Escape text (at + 1) next first → Inside text at last rest
+    → next ≤ last
+escape_fits text at next last first rest s x h =
+    let r = rest_escape text at next last first rest s x h in inside_order text next last r.0 r.2
+
+-- a character begins behind a byte of ASCII
+pub begins_behind : (text : List ℕ) (at : ℕ) → IsUtf8 text → 0 < at → at ≤ length text
+    → slice_index text (at - 1) < 128 → IsCharBoundary text at
+begins_behind text at u some low h =
+    let e : at - 1 + 1 ≡ at = omega arith in
+    subst (λ i. IsCharBoundary text i) e
+    (IsCharBoundary-after_ascii text (at - 1) u (omega arith) h)
+
+-- what a call added, where it is one that had the memory
+pub on_ok_added : {E : Type 0} (r : Result (Unit {0}) E) (value more less : List ℕ) (P : Type 0)
+    → value ≡ if is_ok r then more else less → (value ≡ more → P) → OnOk r P
+on_ok_added (Ok x) value more less P e f = f e
+on_ok_added (Err x) value more less P e f = tt

@@ -3,3 +3,4 @@ mod BlanksLemmas
 mod WordsLemmas
 mod EscapesLemmas
 mod PiecesLemmas
+mod StringsLemmas

@@ -236,7 +236,7 @@ adds_all text from last start at old value bytes value1 q e f a =
     ∙ ap (λ k. value ++ (slice_range text start last ++ k)) (sym (nothing_rests text last a.rest q h))
     ∙ ap (λ k. value ++ (slice_range text start k ++ a.rest)) (sym e) ∙ a.whole
 
-escape_order : (text : List ℕ) (at to : ℕ) (s : List ℕ) → Escape text at to s → at < to
+pub escape_order : (text : List ℕ) (at to : ℕ) (s : List ℕ) → Escape text at to s → at < to
 escape_order text at to s (itself f h) = omega arith
 escape_order text at to s (line_feed h) = omega arith
 escape_order text at to s (carriage_return h) = omega arith

@@ -1,11 +1,12 @@
 //! Strings: a word, or all quoted pieces in a row.
 //! What stands in a piece is said in `pieces`.
-ghost use Rattle.std.specs.Prelude.{◌≡◌, ℕ, ◌+◌, ◌^◌, ◌<◌, ◌≤◌, true, false, List, length};
-ghost use Rattle.std.specs.Prelude.{slice_index, slice_range, IfSome, IfNone, IfOk, Option};
+ghost use Rattle.std.specs.Prelude.{◌≡◌, ℕ, ◌+◌, ◌<◌, ◌≤◌, ◌↔◌, ◌++◌, IsTrue, true, List, length};
+ghost use Rattle.std.specs.Prelude.{slice_index, IfSome, IfNone, IfOk};
+ghost use Rattle.std.specs.String.{string_bytes};
 ghost use Rattle.resb_grammar.specs.Ascii as ascii;
-ghost use Rattle.resb_icu_grammar.specs.Words as words;
-ghost use Rattle.resb_icu_grammar.specs.Words.{KeyText};
-ghost use Rattle.resb_icu_text.specs.Inner.Lexemes.{IsLexeme, IsNoLexeme};
+ghost use Rattle.resb_icu_grammar.specs.Blanks.{Skip};
+ghost use Rattle.resb_icu_grammar.specs.Bytes as bytes;
+ghost use Rattle.resb_icu_text.specs.Inner.Lexemes.{IsLexeme, IsNoLexeme, Ahead, bytes_said, is_key};
 
 use crate::blanks::{byte, skip};
 use crate::pieces::{piece_end, push_piece};
@@ -55,6 +56,8 @@ pub(crate) fn string<'a>(
 
 /// What a slice of the text says.
 fn said_of<'a>(slice: &'a str) -> Said<'a>
+    ensures bytes { bytes_said result ≡ slice.now }
+    ensures key { IsTrue (is_key result) ↔ (bytes.are_key_bytes slice.now ≡ true) }
 {
     if are_key_bytes(slice.as_bytes()) {
         Said::Key(slice)
@@ -103,16 +106,26 @@ fn push_pieces(
     end: usize,
     next: usize,
 ) -> Result<Option<usize>, NoMemory>
+    requires skip { Skip text.now end next }
+    requires within { (end ≤ length text.now) × (end ≤ next) × (next ≤ length text.now) }
+    ensures found { IfOk result (λ o. IfSome o (λ to. (later : List ℕ)
+        × Ahead text.now end next to later
+        × (string_bytes value.new ≡ string_bytes value.old ++ later))) }
+    ensures none { IfOk result (λ o. IfNone o ((to : ℕ) (later : List ℕ)
+        → Ahead text.now end next to later → ⊥)) }
+    ensures within { IfOk result (λ o. IfSome o (λ to. (end ≤ to) × (to ≤ length text.now))) }
+    ensures moves { IfOk result (λ o. IfSome o (λ to. slice_index text.now next ≡ ascii.quote
+        → end < to)) }
 {
-    let mut end = end;
-    let mut next = next;
-    'pieces: while byte(text, next) == b'"' {
-        let Some((last, _)) = piece_end(text, next + 1) else {
+    let mut at = end;
+    let mut coming = next;
+    'pieces: while byte(text, coming) == b'"' {
+        let Some((last, _)) = piece_end(text, coming + 1) else {
             return Ok(None);
         };
-        push_piece(value, text, next + 1, last)?;
-        end = last + 1;
-        next = skip(text, end);
+        push_piece(value, text, coming + 1, last)?;
+        at = last + 1;
+        coming = skip(text, at);
     }
-    Ok(Some(end))
+    Ok(Some(at))
 }

@@ -1,7 +1,7 @@
 -- Laws of strings and keys, as the reader's functions use them.
 use Rattle.std.proofs.Common.{◌≡◌, ◌≢◌, ℕ, suc, ◌+◌, ◌-◌, ◌<◌, ◌≤◌, Bool, true, false, List, []}
 use Rattle.std.proofs.Common.{◌∷◌, ◌++◌, length, arith, subst, sym, refl, ap, ◌∙◌, take, drop}
-use Rattle.std.proofs.Common.{append_assoc, append-nil, drop-cons, get_or}
+use Rattle.std.proofs.Common.{append_assoc, append-nil, drop-cons, get_or, ◌⊎◌, inl, inr}
 use Rattle.std.specs.Prelude.{slice_index, slice_range, ◌↔◌, IsTrue}
 use Rattle.std.proofs.lemmas.Bool.{false≢true}
 use Rattle.std.proofs.lemmas.Bool.Decides.{nat_tests}
@@ -12,8 +12,10 @@ use Rattle.resb_icu_grammar.specs.Pieces.{Inside, ends, byte, escape, Piece, Joi
 use Rattle.resb_icu_grammar.specs.Pieces.{one_more}
 use Rattle.resb_icu_grammar.specs.Words.{Word, String, KeyText, HasNoEscape}
 use Rattle.resb_icu_grammar.specs.Words as words
-use Rattle.resb_icu_grammar.proofs.Lexical.{Piece-one, Skip-one, word_first, key_string}
-use Rattle.resb_icu_text.specs.Inner.Lexemes.{Ahead, no_more, more, IsNoLexeme}
+use Rattle.resb_icu_grammar.proofs.Lexical.{Piece-one, Skip-one, word_first, joined_first}
+use Rattle.resb_icu_text.specs.declared.strings.Said.{Said}
+use Rattle.resb_icu_text.specs.Inner.Lexemes.{Ahead, no_more, more, IsNoLexeme, IsLexeme}
+use Rattle.resb_icu_text.specs.Inner.Lexemes.{bytes_said, is_key}
 use Rattle.resb_icu_text.proofs.PiecesLemmas.{inside_order, inside_closes, escape_order}
 
 quote_no_word : (b : ℕ) → b ≡ ascii.quote → is_word b ≡ true → ⊥
@@ -146,11 +148,11 @@ no_string_ahead text from last next first q h s never =
     never to r.0 r.1)
 
 -- a string put together is no key, if a piece follows its first one or an escape stands there
-pub no_key : (text : List ℕ) (from last next to : ℕ) (first s : List ℕ)
+pub no_key : (text : List ℕ) (from last to : ℕ) (first s : List ℕ)
     → slice_index text from ≡ ascii.quote → Inside text (from + 1) last first
     → (HasNoEscape text (from + 1) last → last + 1 ≢ to) → KeyText text from to s → ⊥
-no_key text from last next to first s q h f (words.a_word w k) = no_word text from to s q w
-no_key text from last next to first s q h f (words.quoted j p n k) =
+no_key text from last to first s q h f (words.a_word w k) = no_word text from to s q w
+no_key text from last to first s q h f (words.quoted j p n k) =
     let p' = piece_of text from last first q h in
     f (λ i low high. n i (omega arith)
     (omega (arith, high, (Piece-one text from to (last + 1) s first p p').0)))
@@ -220,3 +222,74 @@ pub key_bytes : (text : List ℕ) (from to : ℕ) (s : List ℕ) → KeyText tex
     → are_key_bytes s ≡ true
 key_bytes text from to s (words.a_word w k) = k
 key_bytes text from to s (words.quoted j p n k) = k
+
+module _ (text : List ℕ) (from last next : ℕ) (first : List ℕ) where
+  -- what one piece without escapes and with no other behind it answers
+  pub plain_lexeme : (said : Said) → slice_index text from ≡ ascii.quote
+      → Inside text (from + 1) last first → Skip text (last + 1) next
+      → slice_index text next ≢ ascii.quote → HasNoEscape text (from + 1) last
+      → bytes_said said ≡ slice_range text (from + 1) last
+      → (IsTrue (is_key said) ↔ (are_key_bytes (bytes_said said) ≡ true)) → last < length text
+      → IsLexeme text from (record { end = last + 1; said = said })
+  plain_lexeme said q h s n f e k low =
+      let b : first ≡ bytes_said said = plain_inside text (from + 1) last first h f ∙ sym e in
+      let h' : Inside text (from + 1) last (bytes_said said) =
+      subst (λ (l : List ℕ). Inside text (from + 1) last l) b h in
+      let order : from + 1 ≤ last = inside_order text (from + 1) last first h in
+      record {
+        string = plain_string text from last next (bytes_said said) q h' s n;
+        key = (λ t. plain_key text from last next (bytes_said said) q h' s n f (k.0 t),
+            λ t. k.1 (key_bytes text from (last + 1) (bytes_said said) t));
+        after = omega (arith, order);
+        fits = omega (arith, low);
+      }
+
+  -- what pieces that were put together answer
+  pub built_lexeme : (to : ℕ) (later : List ℕ) (said : Said)
+      → slice_index text from ≡ ascii.quote → Inside text (from + 1) last first
+      → Skip text (last + 1) next → Ahead text (last + 1) next to later
+      → bytes_said said ≡ first ++ later → is_key said ≡ false
+      → (HasNoEscape text (from + 1) last → last + 1 ≢ to) → last + 1 ≤ to → to ≤ length text
+      → IsLexeme text from (record { end = to; said = said })
+  built_lexeme to later said q h s a e k f low fits =
+      let j = join text from (last + 1) next to first later (piece_of text from last first q h) s
+      a in
+      let order : from + 1 ≤ last = inside_order text (from + 1) last first h in
+      record {
+        string = words.quoted (subst (λ (l : List ℕ). Joined text from to l) (sym e) j);
+        key = (λ t. absurd (false≢true (sym k ∙ t)),
+            λ t. absurd (no_key text from last to first (bytes_said said) q h f t));
+        after = omega (arith, order, low);
+        fits = fits;
+      }
+
+-- the lexeme of a word
+pub word_lexeme : (text : List ℕ) (from to : ℕ) (word : List ℕ) (said : Said)
+    → Word text from to word → bytes_said said ≡ word
+    → (IsTrue (is_key said) ↔ (are_key_bytes word ≡ true))
+    → IsLexeme text from (record { end = to; said = said })
+word_lexeme text from to word said w e k =
+    let v : Word text from to (bytes_said said) =
+    subst (λ (l : List ℕ). Word text from to l) (sym e) w in
+    record {
+      string = words.a_word v;
+      key = (λ t. words.a_word v (subst (λ (l : List ℕ). are_key_bytes l ≡ true) (sym e) (k.0 t)),
+          λ t. k.1 (subst (λ (l : List ℕ). are_key_bytes l ≡ true) e
+          (key_bytes text from to (bytes_said said) t)));
+      after = w.some;
+      fits = w.run.fits;
+    }
+
+-- where neither a quote nor a word stands, no string does
+pub no_lexeme : (text : List ℕ) (from : ℕ) → slice_index text from ≢ ascii.quote
+    → ((to : ℕ) (s : List ℕ) → Word text from to s → ⊥) → IsNoLexeme text from
+no_lexeme text from n never to s (words.a_word w) = never to s w
+no_lexeme text from n never to s (words.quoted j) = n (joined_first text from to s j)
+
+-- why one piece is not what was put together
+pub not_one : (text : List ℕ) (from last next to : ℕ)
+    → (slice_index text next ≡ ascii.quote) ⊎ (HasNoEscape text (from + 1) last → ⊥)
+    → (slice_index text next ≡ ascii.quote → last + 1 < to)
+    → HasNoEscape text (from + 1) last → last + 1 ≢ to
+not_one text from last next to (inl q) f n e = omega (arith, f q, e)
+not_one text from last next to (inr h) f n e = h n

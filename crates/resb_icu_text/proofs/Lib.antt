@@ -4,3 +4,4 @@ mod WordsLemmas
 mod EscapesLemmas
 mod PiecesLemmas
 mod StringsLemmas
+mod TypesLemmas

@@ -263,23 +263,6 @@ module _ (text : List ℕ) (from last next : ℕ) (first : List ℕ) where
         fits = fits;
       }
 
--- the lexeme of a word
-pub word_lexeme : (text : List ℕ) (from to : ℕ) (word : List ℕ) (said : Said)
-    → Word text from to word → bytes_said said ≡ word
-    → (IsTrue (is_key said) ↔ (are_key_bytes word ≡ true))
-    → IsLexeme text from (record { end = to; said = said })
-word_lexeme text from to word said w e k =
-    let v : Word text from to (bytes_said said) =
-    subst (λ (l : List ℕ). Word text from to l) (sym e) w in
-    record {
-      string = words.a_word v;
-      key = (λ t. words.a_word v (subst (λ (l : List ℕ). are_key_bytes l ≡ true) (sym e) (k.0 t)),
-          λ t. k.1 (subst (λ (l : List ℕ). are_key_bytes l ≡ true) e
-          (key_bytes text from to (bytes_said said) t)));
-      after = w.some;
-      fits = w.run.fits;
-    }
-
 -- where neither a quote nor a word stands, no string does
 pub no_lexeme : (text : List ℕ) (from : ℕ) → slice_index text from ≢ ascii.quote
     → ((to : ℕ) (s : List ℕ) → Word text from to s → ⊥) → IsNoLexeme text from

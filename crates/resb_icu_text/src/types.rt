@@ -50,14 +50,14 @@ pub(crate) fn group_type(text: &str, at: usize) -> Option<(usize, Kind)>
     Some((to, kind))
 }
 
-/// Whether `(nofallback)` stands there.
-fn is_no_fallback(text: &str, at: usize) -> bool
+/// Whether these bytes stand there.
+fn stands(text: &str, at: usize, bytes: &[u8]) -> bool
     requires within { at ≤ length text.now }
-    ensures stands { IsTrue result ↔ spec.NoFallback text.now at }
-    ensures inside { IsTrue result → at + 12 ≤ length text.now }
+    ensures stands { IsTrue result ↔ Stands text.now at bytes.now }
+    ensures inside { IsTrue result → at + length bytes.now ≤ length text.now }
 {
     let mut here = at;
-    for b in b"(nofallback)" {
+    for b in bytes {
         if here >= text.len() || text.as_bytes()[here] != *b {
             return false;
         }
@@ -77,7 +77,7 @@ pub(crate) fn root_type(text: &str, at: usize) -> Option<(usize, bool)>
     let (to, kind) = group_type(text, at)?;
     match kind {
         Kind::Table => {
-            if is_no_fallback(text, to) {
+            if stands(text, to, b"(nofallback)") {
                 Some((to + 12, false))
             } else {
                 Some((to, true))

@@ -1,6 +1,6 @@
 -- Laws of quoted pieces, as the reader's functions use them.
 use Rattle.std.proofs.Common.{◌≡◌, ◌≢◌, ℕ, ◌+◌, ◌-◌, ◌<◌, ◌≤◌, Bool, true, false, List, [], ◌∷◌}
-use Rattle.std.proofs.Common.{◌++◌, length, arith, subst, sym, refl, ap, ◌∙◌, get_or, take, drop}
+use Rattle.std.proofs.Common.{◌++◌, length, arith, subst, sym, refl, ap, ◌∙◌, take, drop}
 use Rattle.std.proofs.Common.{append_assoc, append-nil, length-drop}
 use Rattle.std.proofs.Common.{Result, Ok, Err, OnOk, is_ok, if◌then◌else◌}
 use Rattle.std.specs.Prelude.{slice_range}
@@ -63,6 +63,7 @@ pub back_escape : (text : List ℕ) (from at next b : ℕ) (xs : List ℕ) → b
 back_escape text from at next b xs e s x f to h =
     let g = f to h in inside_escape text at next to b xs g.0 e s x g.1
 
+-- a backslash with no escape behind it stands in no piece
 pub inside_broken : (text : List ℕ) (at to b : ℕ) (us : List ℕ) → b ≡ slice_index text at
     → b ≡ backslash → ((to : ℕ) (s : List ℕ) → Escape text (at + 1) to s → ⊥)
     → Inside text at to us → ⊥
@@ -100,7 +101,9 @@ pub no_escape_more : (text : List ℕ) (from at b : ℕ) → b ≡ slice_index t
 no_escape_more text from at b e s f k low high h = one (k == at) refl
   where
     one : (c : Bool) → (k == at) ≡ c → ⊥
-    one true i = let j : k ≡ at = grind (arith, nat_tests) in s (e ∙ ap (λ n. slice_index text n) (sym j) ∙ h)
+    one true i =
+        let j : k ≡ at = grind (arith, nat_tests) in
+        s (e ∙ ap (λ n. slice_index text n) (sym j) ∙ h)
     one false i = let j : k ≢ at = grind (arith, nat_tests) in f k low (omega arith) h
 
 -- a backslash that was passed stays passed
@@ -122,7 +125,7 @@ slice_more text start at low high =
     (get_or-drop start text (at - start) 0 ∙ ap (λ k. slice_index text k) same)
 
 -- a slice of no byte
-slice_none : (text : List ℕ) (at : ℕ) → slice_range text at at ≡ []
+pub slice_none : (text : List ℕ) (at : ℕ) → slice_range text at at ≡ []
 slice_none text at =
     let n : at - at ≡ 0 = omega arith in ap (λ k. take k (drop at text)) n
 
@@ -233,9 +236,11 @@ adds_all text from last start at old value bytes value1 q e f a =
     subst (λ i. Inside text i last a.rest) e a.inside in
     f ∙ sym (append-nil (value ++ slice_range text start last))
     ∙ append_assoc value (slice_range text start last) []
-    ∙ ap (λ k. value ++ (slice_range text start last ++ k)) (sym (nothing_rests text last a.rest q h))
+    ∙ ap (λ k. value ++ (slice_range text start last ++ k))
+    (sym (nothing_rests text last a.rest q h))
     ∙ ap (λ k. value ++ (slice_range text start k ++ a.rest)) (sym e) ∙ a.whole
 
+-- an escape has some byte behind its backslash
 pub escape_order : (text : List ℕ) (at to : ℕ) (s : List ℕ) → Escape text at to s → at < to
 escape_order text at to s (itself f h) = omega arith
 escape_order text at to s (line_feed h) = omega arith

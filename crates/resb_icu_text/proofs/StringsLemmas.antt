@@ -1,7 +1,7 @@
 -- Laws of strings and keys, as the reader's functions use them.
-use Rattle.std.proofs.Common.{◌≡◌, ◌≢◌, ℕ, suc, ◌+◌, ◌-◌, ◌<◌, ◌≤◌, Bool, true, false, List, []}
+use Rattle.std.proofs.Common.{◌≡◌, ◌≢◌, ℕ, suc, ◌+◌, ◌-◌, ◌<◌, ◌≤◌, true, false, List, []}
 use Rattle.std.proofs.Common.{◌∷◌, ◌++◌, length, arith, subst, sym, refl, ap, ◌∙◌, take, drop}
-use Rattle.std.proofs.Common.{append_assoc, append-nil, drop-cons, get_or, ◌⊎◌, inl, inr}
+use Rattle.std.proofs.Common.{append_assoc, append-nil, drop-cons, ◌⊎◌, inl, inr}
 use Rattle.std.specs.Prelude.{slice_index, slice_range, ◌↔◌, IsTrue}
 use Rattle.std.proofs.lemmas.Bool.{false≢true}
 use Rattle.std.proofs.lemmas.Bool.Decides.{nat_tests}
@@ -16,7 +16,7 @@ use Rattle.resb_icu_grammar.proofs.Lexical.{Piece-one, Skip-one, word_first, joi
 use Rattle.resb_icu_text.specs.declared.strings.Said.{Said}
 use Rattle.resb_icu_text.specs.Inner.Lexemes.{Ahead, no_more, more, IsNoLexeme, IsLexeme}
 use Rattle.resb_icu_text.specs.Inner.Lexemes.{bytes_said, is_key}
-use Rattle.resb_icu_text.proofs.PiecesLemmas.{inside_order, inside_closes, escape_order}
+use Rattle.resb_icu_text.proofs.PiecesLemmas.{inside_order, inside_closes, escape_order, slice_none}
 
 quote_no_word : (b : ℕ) → b ≡ ascii.quote → is_word b ≡ true → ⊥
 quote_no_word b e h = grind (arith, nat_tests, e, h)
@@ -26,6 +26,7 @@ pub no_word : (text : List ℕ) (from to : ℕ) (s : List ℕ) → slice_index t
     → Word text from to s → ⊥
 no_word text from to s q w = quote_no_word _ q (word_first text from to s w)
 
+-- a quoted piece by its inside
 pub piece_of : (text : List ℕ) (from last : ℕ) (bytes : List ℕ)
     → slice_index text from ≡ ascii.quote → Inside text (from + 1) last bytes
     → Piece text from (last + 1) bytes
@@ -66,6 +67,7 @@ pub record Added (text : List ℕ) (end next at coming : ℕ) (old value : List 
   pub back : (to : ℕ) (later : List ℕ) → Ahead text end next to later
       → (rest : List ℕ) × Ahead text at coming to rest
 
+-- nothing is added yet
 pub added_none : (text : List ℕ) (end next : ℕ) (old : List ℕ)
     → Added text end next end next old old
 added_none text end next old = record {
@@ -122,6 +124,7 @@ pub no_joined : (text : List ℕ) (from : ℕ)
 no_joined text from never to s j =
     let i = joined_inside text from to s j in never i.0 i.1 i.2
 
+-- where the piece that begins has no end, no pieces are ahead
 pub no_piece_ahead : (text : List ℕ) (end next at coming : ℕ) (old value : List ℕ)
     → slice_index text coming ≡ ascii.quote
     → ((to : ℕ) (s : List ℕ) → Inside text (coming + 1) to s → ⊥)
@@ -131,6 +134,7 @@ no_piece_ahead text end next at coming old value q never a to later b =
     let r = a.back to later b in
     no_joined text coming never to r.0 (ahead_joined text at coming to r.0 q r.1)
 
+-- where no pieces stand, a quote begins no string
 pub no_string : (text : List ℕ) (from : ℕ) → slice_index text from ≡ ascii.quote
     → ((to : ℕ) (s : List ℕ) → Joined text from to s → ⊥) → IsNoLexeme text from
 no_string text from q never to s (words.a_word w) = no_word text from to s q w
@@ -166,10 +170,6 @@ slice_cons text at to low fits =
     ap (λ k. take k (drop at text)) n
     ∙ ap (λ l. take (suc (to - (at + 1))) l) (drop-cons text at 0 fits)
     ∙ ap (λ k. slice_index text at ∷ take (to - (at + 1)) (drop k text)) m
-
-slice_none : (text : List ℕ) (at : ℕ) → slice_range text at at ≡ []
-slice_none text at =
-    let n : at - at ≡ 0 = omega arith in ap (λ k. take k (drop at text)) n
 
 -- what stands in a piece without escapes is what it stands for
 pub plain_inside : (text : List ℕ) (at to : ℕ) (s : List ℕ) → Inside text at to s
@@ -209,6 +209,7 @@ module _ (text : List ℕ) (from last next : ℕ) (bytes : List ℕ) where
   plain_string q h s n =
       words.quoted (last_piece from (last + 1) next bytes (piece_of text from last bytes q h) s n)
 
+  -- and it may be a key, if each of its bytes may stand in one
   pub plain_key : slice_index text from ≡ ascii.quote → Inside text (from + 1) last bytes
       → Skip text (last + 1) next → slice_index text next ≢ ascii.quote
       → HasNoEscape text (from + 1) last → are_key_bytes bytes ≡ true
@@ -218,6 +219,7 @@ module _ (text : List ℕ) (from last next : ℕ) (bytes : List ℕ) where
       (piece_of text from last bytes q h)
       (no_escape_quoted text from last q (inside_closes text (from + 1) last bytes h) f) k
 
+-- what each byte of a key is
 pub key_bytes : (text : List ℕ) (from to : ℕ) (s : List ℕ) → KeyText text from to s
     → are_key_bytes s ≡ true
 key_bytes text from to s (words.a_word w k) = k

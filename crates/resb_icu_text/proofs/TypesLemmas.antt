@@ -32,47 +32,35 @@ not_there text xs here i low never s =
     subst (λ (ys : List ℕ). Stands text here ys) (drop-cons xs i 0 low) s in
     never k.0
 
+-- behind the text's end stands no byte
 pub past_end : (text : List ℕ) (here b : ℕ) → length text ≤ here → slice_get text here ≡ Some b → ⊥
 past_end text here b l e =
     let low : here < length text = slice_get_within _ _ _ e in omega (arith, low)
 
+-- where another byte stands, this one does not
 pub another : (text : List ℕ) (here b : ℕ) → here < length text → slice_index text here ≢ b
     → slice_get text here ≡ Some b → ⊥
 another text here b l n e =
     n (same_Some (get_or text here 0) b (sym (slice_get-get_or text here 0 l) ∙ e))
 
+-- the byte that stands there
 pub there : (text : List ℕ) (here b : ℕ) → here < length text → slice_index text here ≡ b
     → slice_get text here ≡ Some b
 there text here b l e = slice_get-get_or text here 0 l ∙ ap Some e
 
 module _ (text : List ℕ) (at : ℕ) where
-  -- a colon and a word that names a type
-  pub group_of : (to : ℕ) (word : List ℕ) (kind : Kind) → slice_index text at ≡ ascii.colon
-      → Word text (at + 1) to word → Names word kind → GroupType text at to kind
-  group_of to word kind e w n = record {
-    name = word;
-    stands = record { colon = e; word = w };
-    names = n;
-  }
-
   -- where no word stands behind the colon, no type does
   pub no_word_no_group : ((to : ℕ) (s : List ℕ) → Word text (at + 1) to s → ⊥)
       → (to : ℕ) (kind : Kind) → GroupType text at to kind → ⊥
   no_word_no_group never to kind g = never to g.name g.stands.word
 
-  -- where the word behind the colon names no type, no type stands
-  pub no_name_no_group : (i : ℕ) (word : List ℕ) → Word text (at + 1) i word
-      → ((kind : Kind) → Names word kind → ⊥) → (to : ℕ) (kind : Kind)
-      → GroupType text at to kind → ⊥
-  no_name_no_group i word w never to kind g =
-      let e = (Word-one text (at + 1) to i g.name word g.stands.word w).1 in
-      never kind (subst (λ (s : List ℕ). Names s kind) e g.names)
-
+  -- a table with `(nofallback)` behind it
   pub root_off : (to : ℕ) → GroupType text at to table_kind → NoFallback text to
       → RootType text at (to + 12) false
   root_off to g n =
       no_fallback_type to (subst (λ (w : List ℕ). TypeName text at to w) g.names g.stands) n refl
 
+  -- a table without it
   pub root_on : (to : ℕ) → GroupType text at to table_kind → (NoFallback text to → ⊥)
       → RootType text at to true
   root_on to g never =
@@ -86,10 +74,12 @@ module _ (text : List ℕ) (at : ℕ) where
   root_group to false (no_fallback_type i w n e) =
       (i, record { name = codes "table"; stands = w; names = refl })
 
+  -- where no group's type stands, no root's does
   pub no_root : ((to : ℕ) (kind : Kind) → GroupType text at to kind → ⊥)
       → (to : ℕ) (fallback : Bool) → RootType text at to fallback → ⊥
   no_root never to fallback r = let g = root_group to fallback r in never g.0 table_kind g.1
 
+  -- where another type stands, no root's does
   pub other_root : (i : ℕ) (kind : Kind) → GroupType text at i kind → kind ≢ table_kind
       → (to : ℕ) (fallback : Bool) → RootType text at to fallback → ⊥
   other_root i kind g ne to fallback r =

@@ -6,7 +6,8 @@ ghost use Rattle.std.specs.String.{string_bytes};
 ghost use Rattle.resb_grammar.specs.Ascii as ascii;
 ghost use Rattle.resb_icu_grammar.specs.Blanks.{Skip};
 ghost use Rattle.resb_icu_grammar.specs.Bytes as bytes;
-ghost use Rattle.resb_icu_text.specs.Inner.Lexemes.{IsLexeme, IsNoLexeme, Ahead, bytes_said, is_key};
+ghost use Rattle.resb_icu_text.specs.Inner.Lexemes.{IsLexeme, IsNoLexeme, Ahead};
+ghost use Rattle.resb_icu_text.specs.Inner.Lexemes.{bytes_said, is_key};
 
 use crate::blanks::{byte, skip};
 use crate::pieces::{piece_end, push_piece};

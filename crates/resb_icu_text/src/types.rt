@@ -1,7 +1,7 @@
 //! The types that a group or the root may name, and where such a name stands in the text.
 //! What a type asks of a group's content is not said here.
-ghost use Rattle.std.specs.Prelude.{◌≡◌, ℕ, ◌+◌, ◌≤◌, ◌<◌, ◌^◌, ◌↔◌, Bool, IsTrue, length, slice_index};
-ghost use Rattle.std.specs.Prelude.{IfSome, IfNone};
+ghost use Rattle.std.specs.Prelude.{◌≡◌, ℕ, ◌+◌, ◌≤◌, ◌<◌, ◌↔◌, Bool, IsTrue, length};
+ghost use Rattle.std.specs.Prelude.{slice_index, IfSome, IfNone};
 ghost use Rattle.resb_grammar.specs.Ascii as ascii;
 ghost use Rattle.resb_grammar.specs.GroupTypes as spec;
 ghost use Rattle.resb_grammar.specs.GroupTypes.{Names, Stands};

@@ -1,5 +1,5 @@
 -- What a string's answer says.
-use Rattle.std.specs.Prelude.{◌≡◌, ◌≢◌, ◌<◌, ◌≤◌, ◌↔◌, ℕ, Bool, true, false, List, [], length}
+use Rattle.std.specs.Prelude.{◌≢◌, ◌<◌, ◌≤◌, ◌↔◌, ℕ, Bool, true, false, List, [], length}
 use Rattle.std.specs.Prelude.{IsTrue, slice_index}
 use Rattle.std.specs.String.{string_bytes}
 use Rattle.resb_grammar.specs.Ascii as ascii

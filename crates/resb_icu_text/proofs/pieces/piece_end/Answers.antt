@@ -1,4 +1,4 @@
-use Rattle.std.proofs.Common.{◌<◌, ◌≤◌, length, arith, rules, sym, ◌∙◌}
+use Rattle.std.proofs.Common.{◌<◌, length, arith, rules, sym, ◌∙◌}
 use Rattle.resb_icu_text.proofs.PiecesLemmas.{goes_byte, back_byte, goes_escape, back_escape}
 use Rattle.resb_icu_text.proofs.PiecesLemmas.{no_escape_inside, none_past, piece_closes}
 use Rattle.resb_icu_text.proofs.PiecesLemmas.{no_escape_more, dirty_more}

@@ -12,7 +12,8 @@ invariant-piece l = record {
   on : GoesOn l.text l.at l.from;
   back : GoesOn l.text l.from l.at;
   clean : l.plain ≡ true → HasNoEscape l.text l.from l.at;
-  dirty : l.plain ≡ false → (k : ℕ) × (l.from ≤ k) × (k < l.at) × (slice_index l.text k ≡ backslash);
+  dirty : l.plain ≡ false → (k : ℕ) × (l.from ≤ k) × (k < l.at)
+      × (slice_index l.text k ≡ backslash);
 }
 
 abbrev pub decreases-piece : goal.decreases-piece

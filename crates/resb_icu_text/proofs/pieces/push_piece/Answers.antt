@@ -1,5 +1,5 @@
-use Rattle.std.proofs.Common.{◌≡◌, ◌<◌, ◌≤◌, ◌+◌, length, arith, rules, refl, sym, ◌∙◌, ◌++◌, subst, ap}
-use Rattle.std.proofs.Common.{[], ◌∷◌, encode_utf8}
+use Rattle.std.proofs.Common.{◌≡◌, ◌<◌, ◌≤◌, ◌+◌, length, arith, rules, refl, sym, ◌∙◌, ◌++◌}
+use Rattle.std.proofs.Common.{[], ◌∷◌, encode_utf8, subst, ap}
 use Rattle.std.specs.Prelude.{slice_index, slice_range}
 use Rattle.std.specs.String.{string_bytes}
 use Rattle.std.proofs.lemmas.Str.{IsCharBoundary-before_ascii, IsCharBoundary-after_ascii}
@@ -7,8 +7,8 @@ use Rattle.resb_icu_grammar.specs.Bytes.{backslash}
 use Rattle.resb_icu_grammar.specs.Escapes.{Escape}
 use Rattle.resb_icu_text.specs.Inner.Escaped.{bytes_of}
 use Rattle.resb_icu_text.proofs.PiecesLemmas.{adds_none, adds_byte, adds_character, adds_itself}
-use Rattle.resb_icu_text.proofs.PiecesLemmas.{adds_all, inside_order, inside_closes, escape_fits, on_ok_added}
-use Rattle.resb_icu_text.proofs.PiecesLemmas.{inside_broken, begins_behind}
+use Rattle.resb_icu_text.proofs.PiecesLemmas.{adds_all, inside_order, inside_closes, escape_fits}
+use Rattle.resb_icu_text.proofs.PiecesLemmas.{inside_broken, begins_behind, on_ok_added}
 use Rattle.resb_icu_text.proofs.pieces.push_piece.Goals as goal
 
 pub piece-init : goal.piece-init

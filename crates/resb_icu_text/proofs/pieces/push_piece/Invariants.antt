@@ -1,4 +1,4 @@
-use Rattle.std.proofs.Common.{◌≡◌, ◌-◌, ◌≤◌, ◌<◌, ℕ, List, length}
+use Rattle.std.proofs.Common.{◌-◌, ◌≤◌, ℕ, List}
 use Rattle.std.specs.Str.{IsCharBoundary}
 use Rattle.std.specs.String.{string_bytes}
 use Rattle.resb_icu_grammar.specs.Pieces.{Inside}
@@ -11,7 +11,8 @@ invariant-piece l = record {
   fits : l.at ≤ l.last;
   begins : IsCharBoundary l.text l.start;
   adds : (bytes : List ℕ) → Inside l.text l.from l.last bytes
-      → Adds l.text l.from l.last l.start l.at (string_bytes l.fn.value) (string_bytes l.value) bytes;
+      → Adds l.text l.from l.last l.start l.at (string_bytes l.fn.value) (string_bytes l.value)
+      bytes;
 }
 
 abbrev pub decreases-piece : goal.decreases-piece

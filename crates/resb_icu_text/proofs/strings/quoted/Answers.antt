@@ -1,12 +1,12 @@
-use Rattle.std.proofs.Common.{◌≡◌, ◌≢◌, ◌+◌, ◌<◌, ◌≤◌, ◌++◌, ◌⊎◌, inl, inr, length, arith, rules}
+use Rattle.std.proofs.Common.{◌≡◌, ◌+◌, ◌++◌, ◌⊎◌, inl, inr, arith, rules}
 use Rattle.std.proofs.Common.{sym, ◌∙◌, ap, refl, ℕ, List, subst, true}
-use Rattle.std.specs.Prelude.{slice_index, slice_range, ◌↔◌, IsTrue}
+use Rattle.std.specs.Prelude.{slice_index, ◌↔◌, IsTrue}
 use Rattle.std.specs.String.{string_bytes}
 use Rattle.std.proofs.lemmas.Str.{IsCharBoundary-before_ascii, IsCharBoundary-after_ascii}
 use Rattle.resb_grammar.specs.Ascii as ascii
 use Rattle.resb_icu_grammar.specs.Bytes.{are_key_bytes}
 use Rattle.resb_icu_grammar.specs.Words.{HasNoEscape}
-use Rattle.resb_icu_text.specs.Inner.Lexemes.{Ahead, bytes_said, is_key}
+use Rattle.resb_icu_text.specs.Inner.Lexemes.{bytes_said, is_key}
 use Rattle.resb_icu_text.proofs.PiecesLemmas.{inside_closes}
 use Rattle.resb_icu_text.proofs.StringsLemmas.{plain_lexeme, built_lexeme, not_one}
 use Rattle.resb_icu_text.proofs.StringsLemmas.{no_string_ahead}
@@ -56,7 +56,8 @@ returns-clause-found c =
     let either : (slice_index text c.skip-next.result ≡ ascii.quote)
         ⊎ (HasNoEscape text (c.args.from + 1) last → ⊥) =
     elim c.else-byte-ne34.branch [
-      | else-byte-ne34-via-then-byte-ne34+else-plain w ↦ inr (c.in-Some.ensures.escaped w.if-plain.false)
+      | else-byte-ne34-via-then-byte-ne34+else-plain w ↦
+          inr (c.in-Some.ensures.escaped w.if-plain.false)
       | else-byte-ne34-via-else-byte-ne34 w ↦ inl (sym c.byte.ensures.byte ∙ w.if-byte-ne34.false)
     ] in
     built_lexeme text c.args.from last c.skip-next.result h.0 c.in-Some-2.end a.0 _

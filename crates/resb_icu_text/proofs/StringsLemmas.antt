@@ -49,9 +49,11 @@ pub unjoin : (text : List ℕ) (from mid next to : ℕ) (first all : List ℕ)
 unjoin text from mid next to first all p s (last_piece _ _ n _ q t h) =
     let same = (Piece-one text from to mid all first q p).0 in
     let t' : Skip text mid n = subst (λ i. Skip text i n) same t in
-    let e = Skip-one text mid n next t' s in
-    ([], subst (λ i. Ahead text mid next i []) (sym same)
-    (no_more (subst (λ i. slice_index text i ≢ ascii.quote) e h)))
+    let e = Skip-one text mid n next t' s in (
+      [],
+      subst (λ i. Ahead text mid next i []) (sym same)
+          (no_more (subst (λ i. slice_index text i ≢ ascii.quote) e h)),
+    )
 unjoin text from mid next to first all p s (one_more _ m n _ us vs q t j) =
     let same = (Piece-one text from m mid us first q p).0 in
     let t' : Skip text mid n = subst (λ i. Skip text i n) same t in
@@ -108,9 +110,11 @@ added_piece text end next at coming last behind old value bytes value1 q h s e a
 pub added_all : (text : List ℕ) (end next at coming : ℕ) (old value : List ℕ)
     → slice_index text coming ≢ ascii.quote → Added text end next at coming old value
     → (later : List ℕ) × Ahead text end next at later × (value ≡ old ++ later)
-added_all text end next at coming old value h a =
-    (a.middle ++ [], a.on at [] (no_more h),
-    a.whole ∙ ap (λ l. old ++ l) (sym (append-nil a.middle)))
+added_all text end next at coming old value h a = (
+  a.middle ++ [],
+  a.on at [] (no_more h),
+  a.whole ∙ ap (λ l. old ++ l) (sym (append-nil a.middle)),
+)
 
 joined_inside : (text : List ℕ) (from to : ℕ) (s : List ℕ) → Joined text from to s
     → (last : ℕ) × (bytes : List ℕ) × Inside text (from + 1) last bytes
@@ -181,8 +185,11 @@ plain_inside text at to s (byte _ _ vs l q b r) n =
     (plain_inside text (at + 1) to vs r (λ i o p. n i (omega (arith, o)) p))
     ∙ sym (slice_cons text at to (omega (arith, low)) l)
 plain_inside text at to s (escape _ m _ xs vs b x r) n =
-    absurd (n at (omega arith) (omega (arith, escape_order text (at + 1) m xs x,
-    inside_order text m to vs r)) b)
+    absurd (n at (omega arith) (omega (
+      arith,
+      escape_order text (at + 1) m xs x,
+      inside_order text m to vs r,
+    )) b)
 
 -- a piece without escapes has none from its first quote to its last
 no_escape_quoted : (text : List ℕ) (from last : ℕ) → slice_index text from ≡ ascii.quote
@@ -194,6 +201,7 @@ no_escape_quoted text from last q r n k low high b =
     at : (i : ℕ) → slice_index text i ≡ ascii.quote → (k : ℕ) → slice_index text k ≡ backslash
         → k ≢ i
     at i e k b s = absurd (omega (arith, e, b, ap (λ n. slice_index text n) s))
+
     between : (k : ℕ) → from ≤ k → k < last + 1 → slice_index text k ≡ backslash
         → (from + 1 ≤ k) × (k < last)
     between k low high b =
@@ -240,8 +248,10 @@ module _ (text : List ℕ) (from last next : ℕ) (first : List ℕ) where
       let order : from + 1 ≤ last = inside_order text (from + 1) last first h in
       record {
         string = plain_string text from last next (bytes_said said) q h' s n;
-        key = (λ t. plain_key text from last next (bytes_said said) q h' s n f (k.0 t),
-            λ t. k.1 (key_bytes text from (last + 1) (bytes_said said) t));
+        key = (
+          λ t. plain_key text from last next (bytes_said said) q h' s n f (k.0 t),
+          λ t. k.1 (key_bytes text from (last + 1) (bytes_said said) t),
+        );
         after = omega (arith, order);
         fits = omega (arith, low);
       }
@@ -259,8 +269,10 @@ module _ (text : List ℕ) (from last next : ℕ) (first : List ℕ) where
       let order : from + 1 ≤ last = inside_order text (from + 1) last first h in
       record {
         string = words.quoted (subst (λ (l : List ℕ). Joined text from to l) (sym e) j);
-        key = (λ t. absurd (false≢true (sym k ∙ t)),
-            λ t. absurd (no_key text from last to first (bytes_said said) q h f t));
+        key = (
+          λ t. absurd (false≢true (sym k ∙ t)),
+          λ t. absurd (no_key text from last to first (bytes_said said) q h f t),
+        );
         after = omega (arith, order, low);
         fits = fits;
       }

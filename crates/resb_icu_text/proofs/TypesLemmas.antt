@@ -4,11 +4,10 @@ use Rattle.std.proofs.Common.{arith, length, get_or, drop, refl, sym, ◌∙◌,
 use Rattle.std.proofs.Common.{drop-cons}
 use Rattle.std.specs.Prelude.{◌↔◌, slice_get, slice_index, codes}
 use Rattle.std.proofs.lemmas.Option.{slice_get_within, slice_get-get_or, same_Some}
-use Rattle.resb_grammar.specs.Ascii as ascii
-use Rattle.resb_grammar.specs.GroupTypes.{Kind, table_kind, Names, Stands, NoFallback}
+use Rattle.resb_grammar.specs.GroupTypes.{Kind, table_kind, Stands, NoFallback}
 use Rattle.resb_icu_grammar.specs.Words.{Word, TypeName, GroupType, RootType, table_type}
 use Rattle.resb_icu_grammar.specs.Words.{no_fallback_type}
-use Rattle.resb_icu_grammar.proofs.Lexical.{Word-one, GroupType-one}
+use Rattle.resb_icu_grammar.proofs.Lexical.{GroupType-one}
 use Rattle.resb_icu_text.specs.Inner.Kinds.{kind_of}
 use Rattle.resb_icu_text.specs.declared.types.Kind as code
 use Rattle.resb_icu_text.specs.declared.types.Kind.TheVariants as names

@@ -68,11 +68,7 @@ fn said_of<'a>(slice: &'a str) -> Said<'a>
 }
 
 /// The quoted pieces that begin here.
-fn quoted<'a>(
-    alloc: Global,
-    text: &'a str,
-    from: usize,
-) -> Result<Option<Lexeme<'a>>, NoMemory>
+fn quoted<'a>(alloc: Global, text: &'a str, from: usize) -> Result<Option<Lexeme<'a>>, NoMemory>
     requires within { from < length text.now }
     requires opens { slice_index text.now from ≡ ascii.quote }
     ensures found { IfOk result (λ o. IfSome o (IsLexeme text.now from)) }

@@ -31,8 +31,12 @@ piece-preserved-then-b-eq92 c =
       back = back_escape c.args.text.now c.args.from c.piece.at c.in-Some.to c.byte-b.result _ e s x
           c.piece.invariant.back;
       clean = λ h. absurd (search rules);
-      dirty = λ _. (c.piece.at, c.piece.invariant.order, omega (arith, c.in-Some.ensures.within.0),
-          sym e ∙ s);
+      dirty = λ _. (
+        c.piece.at,
+        c.piece.invariant.order,
+        omega (arith, c.in-Some.ensures.within.0),
+        sym e ∙ s,
+      );
     }
 
 pub piece-preserved : goal.piece-preserved

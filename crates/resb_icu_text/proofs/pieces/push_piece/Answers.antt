@@ -33,9 +33,9 @@ piece-preserved-in-Some-default-Some c =
     subst (λ o. Escape text (at + 1) next (bytes_of (slice_index text (at + 1)) o))
     c.in-Some-default-Some.field-0-1-is c.in-Some-default-Some.ensures.found in
     let e : string_bytes c.push_str.new.self ≡ string_bytes c.piece.value
-        ++ slice_range text c.piece.start at = search rules in
+    ++ slice_range text c.piece.start at = search rules in
     let f : string_bytes c.push.new.self ≡ string_bytes c.push_str.new.self
-        ++ encode_utf8 c.in-Some-default-Some.c = search rules in
+    ++ encode_utf8 c.in-Some-default-Some.c = search rules in
     let h = c.requires.inside in
     let a = c.piece.invariant.adds h.0 h.1 in
     record {
@@ -59,7 +59,7 @@ piece-preserved-in-Some-default-None c =
     subst (λ o. Escape text (at + 1) next (bytes_of (slice_index text (at + 1)) o))
     c.in-Some-default-None.field-0-1-is c.in-Some-default-None.ensures.found in
     let e : string_bytes c.push_str.new.self ≡ string_bytes c.piece.value
-        ++ slice_range text c.piece.start at = search rules in
+    ++ slice_range text c.piece.start at = search rules in
     let n : next ≡ at + 1 + 1 =
     c.in-Some-default-None.ensures.alone c.in-Some-default-None.field-0-1-is in
     let h = c.requires.inside in

@@ -54,7 +54,7 @@ returns-clause-found c =
     let m = rw c.in-Some-2.is at c.in_ok-end.ensures.moves in
     let e : string_bytes c.push_piece.new.value ≡ h.0 = search rules in
     let either : (slice_index text c.skip-next.result ≡ ascii.quote)
-        ⊎ (HasNoEscape text (c.args.from + 1) last → ⊥) =
+    ⊎ (HasNoEscape text (c.args.from + 1) last → ⊥) =
     elim c.else-byte-ne34.branch [
       | else-byte-ne34-via-then-byte-ne34+else-plain w ↦
           inr (c.in-Some.ensures.escaped w.if-plain.false)

@@ -17,9 +17,11 @@ returns-then-here-text-clause-stands c =
       | then-here-text-via-else-here-text+then-as_bytes-here w ↦
           another text here b w.if-here-text.false
           (λ e. w.if-as_bytes-here.true (ap (λ l. get_or l here 0) w.as_bytes.ensures.value ∙ e))
-    ] in
-    (λ t. absurd (false≢true t), λ s. absurd (not_there text c.args.bytes.now here c.loop-b.b-index
-    c.loop-b-test.true never (c.loop-b.invariant.rest.1 s)))
+    ] in (
+      λ t. absurd (false≢true t),
+      λ s. absurd (not_there text c.args.bytes.now here c.loop-b.b-index
+          c.loop-b-test.true never (c.loop-b.invariant.rest.1 s)),
+    )
 
 pub loop-b-preserved : goal.loop-b-preserved
 loop-b-preserved c =

@@ -56,9 +56,10 @@ fn stands(text: &str, at: usize, bytes: &[u8]) -> bool
     ensures stands { IsTrue result ↔ Stands text.now at bytes.now }
     ensures inside { IsTrue result → at + length bytes.now ≤ length text.now }
 {
+    let all = text.as_bytes();
     let mut here = at;
     for b in bytes {
-        if here >= text.len() || text.as_bytes()[here] != *b {
+        if here >= all.len() || all[here] != *b {
             return false;
         }
         here += 1;

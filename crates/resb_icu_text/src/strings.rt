@@ -1,6 +1,6 @@
 //! Strings: a word, or all quoted pieces in a row.
 //! What stands in a piece is said in `pieces`.
-ghost use Rattle.std.specs.Prelude.{◌≡◌, ℕ, ◌+◌, ◌<◌, ◌≤◌, ◌↔◌, ◌++◌, IsTrue, true, List, length};
+ghost use Rattle.std.specs.Prelude.{◌≡◌, ℕ, ◌<◌, ◌≤◌, ◌↔◌, ◌++◌, IsTrue, true, List, length};
 ghost use Rattle.std.specs.Prelude.{slice_index, IfSome, IfNone, IfOk};
 ghost use Rattle.std.specs.String.{string_bytes};
 ghost use Rattle.resb_grammar.specs.Ascii as ascii;

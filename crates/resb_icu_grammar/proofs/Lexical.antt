@@ -76,7 +76,7 @@ no_letter : (b n : ℕ) → is_ascii_alphanumeric b ≡ false → b ≡ n → is
     → ⊥
 no_letter b n h e f = false≢true (sym h ∙ ap is_ascii_alphanumeric e ∙ f)
 
-Escape-one : (text : List ℕ) (at a b : ℕ) (s t : List ℕ) → Escape text at a s → Escape text at b t
+pub Escape-one : (text : List ℕ) (at a b : ℕ) (s t : List ℕ) → Escape text at a s → Escape text at b t
     → (a ≡ b) × (s ≡ t)
 Escape-one text at a b s t (itself f h) (itself g k) = (refl, refl)
 Escape-one text at a b s t (itself f h) (line_feed k) = absurd (no_letter _ 110 h k refl)
@@ -123,7 +123,7 @@ Escape-one text at a b s t (eight_digits c h x e y z) (four_digits d k x' e' y' 
 Escape-one text at a b s t (eight_digits c h x e y z) (eight_digits d k x' e' y' z') =
     (refl, ap encode_utf8 (e ∙ sym e'))
 
-Inside-one : (text : List ℕ) (at a b : ℕ) (s t : List ℕ) → Inside text at a s → Inside text at b t
+pub Inside-one : (text : List ℕ) (at a b : ℕ) (s t : List ℕ) → Inside text at a s → Inside text at b t
     → (a ≡ b) × (s ≡ t)
 Inside-one text at a b s t (ends _ h) (ends _ k) = (refl, refl)
 Inside-one text at a b s t (ends _ h) (byte _ _ us f k l r) = absurd (k h)
@@ -147,12 +147,12 @@ Piece-one text from a b s t p q =
     (p.ends ∙ ap (λ n. n + 1) both.0 ∙ sym q.ends, both.1)
 
 -- joined pieces begin with a quote
-joined_first : (text : List ℕ) (from to : ℕ) (s : List ℕ) → Joined text from to s
+pub joined_first : (text : List ℕ) (from to : ℕ) (s : List ℕ) → Joined text from to s
     → slice_index text from ≡ ascii.quote
 joined_first text from to s (last_piece _ _ n _ p k h) = p.opens
 joined_first text from to s (one_more _ m n _ us vs p k r) = p.opens
 
-Joined-one : (text : List ℕ) (from a b : ℕ) (s t : List ℕ) → Joined text from a s
+pub Joined-one : (text : List ℕ) (from a b : ℕ) (s t : List ℕ) → Joined text from a s
     → Joined text from b t → (a ≡ b) × (s ≡ t)
 Joined-one text from a b s t (last_piece _ _ n _ p k h) (last_piece _ _ m _ q l g) =
     Piece-one text from a b s t p q
@@ -170,13 +170,13 @@ Joined-one text from a b s t (one_more _ m i _ us vs p k r) (one_more _ n j _ ws
     let both = Joined-one text i a b vs xs r (subst (λ x. Joined text x b xs) (sym e) z) in
     (both.0, (λ x. first.1 x ++ both.1 x))
 
-Word-one : (text : List ℕ) (from a b : ℕ) (s t : List ℕ) → Word text from a s → Word text from b t
+pub Word-one : (text : List ℕ) (from a b : ℕ) (s t : List ℕ) → Word text from a s → Word text from b t
     → (a ≡ b) × (s ≡ t)
 Word-one text from a b s t p q =
     let k : a ≡ b = Run-one is_word text from a b p.run q.run in
     (k, p.means ∙ ap (λ n. slice_range text from n) k ∙ sym q.means)
 
-word_first : (text : List ℕ) (from to : ℕ) (s : List ℕ) → Word text from to s
+pub word_first : (text : List ℕ) (from to : ℕ) (s : List ℕ) → Word text from to s
     → is_word (slice_index text from) ≡ true
 word_first text from to s w = w.run.each from (omega arith) w.some
 
@@ -218,7 +218,7 @@ digits_one : (text : List ℕ) (from a b v w : ℕ) → Digits text from a v →
     → (a ≡ b) × (v ≡ w)
 digits_one text from a b v w d e = Digits-one text from a b v w d.digits e.digits
 
-digit_first : (text : List ℕ) (from to v : ℕ) → Digits text from to v → 48 ≤ slice_index text from
+pub digit_first : (text : List ℕ) (from to v : ℕ) → Digits text from to v → 48 ≤ slice_index text from
 digit_first text from to v d =
     let k : is_digit (slice_index text from) ≡ true =
     d.digits.run.each from (omega arith) d.digits.some in

@@ -1,0 +1,74 @@
+-- Laws of comments and blanks, as the reader's functions use them.
+use Rattle.std.proofs.Common.{◌≡◌, ◌≢◌, ℕ, ◌+◌, ◌<◌, ◌≤◌, true, false, List, arith, subst, sym}
+use Rattle.std.proofs.Common.{◌∙◌}
+use Rattle.std.specs.Prelude.{Bool, Option, Some, None, IfNone, IfSome, slice_index}
+use Rattle.std.proofs.lemmas.Bool.Decides.{nat_tests}
+use Rattle.resb_grammar.specs.Ascii as ascii
+use Rattle.resb_grammar.specs.ByteRuns.{is_white}
+use Rattle.resb_grammar.specs.Tokens.{FirstCloser}
+use Rattle.resb_icu_grammar.specs.Blanks.{LineRest, Comment, line, block, Blanks, none, white}
+use Rattle.resb_icu_grammar.specs.Blanks.{comment, Skip}
+
+pub if_none : (o : Option ℕ) (P Q : Type 0) → (P → Q) → IfNone o P → IfNone o Q
+if_none None P Q f h = f h
+if_none (Some x) P Q f h = h
+
+pub if_some : (o : Option ℕ) (P Q : ℕ → Type 0) → ((x : ℕ) → P x → Q x) → IfSome o P → IfSome o Q
+if_some None P Q f h = h
+if_some (Some x) P Q f h = f x h
+
+three : (text : List ℕ) (from at : ℕ) → FirstCloser text (from + 2 + 1) at
+    → FirstCloser text (from + 3) at
+three text from at h =
+    let e : from + 2 + 1 ≡ from + 3 = omega arith in subst (λ n. FirstCloser text n at) e h
+
+two_and_one : (text : List ℕ) (from at : ℕ) → FirstCloser text (from + 3) at
+    → FirstCloser text (from + 2 + 1) at
+two_and_one text from at h =
+    let e : from + 3 ≡ from + 2 + 1 = omega arith in subst (λ n. FirstCloser text n at) e h
+
+pub no_line_comment : (text : List ℕ) (from : ℕ) → slice_index text (from + 1) ≡ ascii.slash
+    → ((to : ℕ) → LineRest text (from + 2) to → ⊥) → (to : ℕ) → Comment text from to → ⊥
+no_line_comment text from e never to (line h h' rest) = never to rest
+no_line_comment text from e never to (block at h h' first is) = omega arith
+
+pub no_block_comment : (text : List ℕ) (from : ℕ) → slice_index text (from + 1) ≡ ascii.star
+    → ((at : ℕ) → FirstCloser text (from + 2 + 1) at → ⊥) → (to : ℕ) → Comment text from to → ⊥
+no_block_comment text from e never to (line h h' rest) = omega arith
+no_block_comment text from e never to (block at h h' first is) =
+    never at (two_and_one text from at first)
+
+pub block_comment : (text : List ℕ) (from to : ℕ) → slice_index text from ≡ ascii.slash
+    → slice_index text (from + 1) ≡ ascii.star
+    → (at : ℕ) × FirstCloser text (from + 2 + 1) at × (to ≡ at + 2) → Comment text from to
+block_comment text from to h h' f = block f.0 h h' (three text from f.0 f.1) f.2
+
+pub no_comment_at : (text : List ℕ) (from : ℕ) → slice_index text from ≢ ascii.slash → (to : ℕ)
+    → Comment text from to → ⊥
+no_comment_at text from ne to (line h h' rest) = ne h
+no_comment_at text from ne to (block at h h' first is) = ne h
+
+pub white_some : (b : ℕ) → is_white b ≡ true → 0 < b
+white_some b h = grind (arith, nat_tests)
+
+-- one more white character
+pub white_more : (text : List ℕ) (from at b : ℕ) → b ≡ slice_index text at → is_white b ≡ true
+    → ((to : ℕ) → Blanks text at to → Blanks text from to) → (to : ℕ) → Blanks text (at + 1) to
+    → Blanks text from to
+white_more text from at b h w so_far to rest =
+    so_far to (white at to (subst (λ c. is_white c ≡ true) h w) rest)
+
+-- one more comment
+pub comment_more : (text : List ℕ) (from at next : ℕ) → Comment text at next
+    → ((to : ℕ) → Blanks text at to → Blanks text from to) → (to : ℕ) → Blanks text next to
+    → Blanks text from to
+comment_more text from at next h so_far to rest = so_far to (comment at next to h rest)
+
+-- the end of the blanks
+pub skip_ends : (text : List ℕ) (from at b : ℕ) → b ≡ slice_index text at → is_white b ≡ false
+    → ((to : ℕ) → Comment text at to → ⊥)
+    → ((to : ℕ) → Blanks text at to → Blanks text from to) → Skip text from at
+skip_ends text from at b h w never so_far = record {
+  blanks = so_far at (none at);
+  solid = record { no_white = subst (λ c. is_white c ≡ false) h w; no_comment = never };
+}

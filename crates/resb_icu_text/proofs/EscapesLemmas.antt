@@ -1,0 +1,219 @@
+-- Laws of hex digits and escapes, as the reader's functions use them.
+use Rattle.std.proofs.Common.{◌≡◌, ◌≢◌, ℕ, ◌+◌, ◌-◌, ◌*◌, ◌<◌, ◌≤◌, Bool, true, false, List, []}
+use Rattle.std.proofs.Common.{◌∷◌}
+use Rattle.std.proofs.Common.{length, arith, subst, sym, refl, ap, ◌∙◌, encode_utf8, lit≤}
+use Rattle.std.proofs.lemmas.Str.{encode_ascii}
+use Rattle.std.specs.Prelude.{◌&&◌, slice_index}
+use Rattle.std.proofs.lemmas.Bool.{false≢true, and_parts}
+use Rattle.std.proofs.lemmas.Bool.Decides.{nat_tests}
+use Rattle.std.specs.Char.{is_ascii_alphanumeric}
+use Rattle.resb_grammar.specs.Group.{is_hex, hex_value}
+use Rattle.resb_icu_grammar.specs.Bytes.{backslash}
+use Rattle.resb_icu_grammar.specs.Escapes.{Escape, itself, line_feed, carriage_return, tab}
+use Rattle.resb_icu_grammar.specs.Escapes.{four_digits, eight_digits, are_hex, hex_number}
+use Rattle.resb_icu_grammar.specs.Escapes.{is_surrogate}
+
+pub hex_some : (b : ℕ) → is_hex b ≡ true → 0 < b
+hex_some b h = grind (arith, nat_tests, h)
+
+both : (a b : Bool) → a ≡ true → b ≡ true → (a && b) ≡ true
+both true b e f = f
+both false b e f = absurd (false≢true e)
+
+module _ (text : List ℕ) (from : ℕ) where
+  -- four hex digits, and the number that they say
+  pub four_are : (a b c d v : ℕ) → is_hex (slice_index text from) ≡ true
+      → a ≡ hex_value (slice_index text from) → is_hex (slice_index text (from + 1)) ≡ true
+      → b ≡ hex_value (slice_index text (from + 1)) → is_hex (slice_index text (from + 2)) ≡ true
+      → c ≡ hex_value (slice_index text (from + 2)) → is_hex (slice_index text (from + 3)) ≡ true
+      → d ≡ hex_value (slice_index text (from + 3))
+      → v ≡ ((a * 16 + b) * 16 + c) * 16 + d
+      → (are_hex text from 4 ≡ true) × (v ≡ hex_number text from 4)
+  four_are a b c d v h e h1 e1 h2 e2 h3 e3 is =
+      let z : from + 0 ≡ from = omega arith in
+      let h0 : is_hex (slice_index text (from + 0)) ≡ true =
+      subst (λ n. is_hex (slice_index text n) ≡ true) (sym z) h in
+      let e0 : a ≡ hex_value (slice_index text (from + 0)) =
+      subst (λ n. a ≡ hex_value (slice_index text n)) (sym z) e in
+      (both _ _ (both _ _ (both _ _ h0 h1) h2) h3, omega (arith, is, e0, e1, e2, e3))
+
+  -- each of four hex digits is one
+  pub four_parts : are_hex text from 4 ≡ true → (is_hex (slice_index text from) ≡ true)
+      × (is_hex (slice_index text (from + 1)) ≡ true)
+      × (is_hex (slice_index text (from + 2)) ≡ true)
+      × (is_hex (slice_index text (from + 3)) ≡ true)
+  four_parts h =
+      let p = and_parts _ _ h in
+      let q = and_parts _ _ p.0 in
+      let r = and_parts _ _ q.0 in
+      let z : from + 0 ≡ from = omega arith in
+      (subst (λ n. is_hex (slice_index text n) ≡ true) z r.0, r.1, q.1, p.1)
+
+-- a hex digit of a place said otherwise
+digit_moved : (text : List ℕ) (a b : ℕ) → a ≡ b → is_hex (slice_index text a) ≡ true
+    → is_hex (slice_index text b) ≡ true
+digit_moved text a b e h = subst (λ n. is_hex (slice_index text n) ≡ true) e h
+
+value_moved : (text : List ℕ) (a b : ℕ) → a ≡ b
+    → hex_value (slice_index text a) ≡ hex_value (slice_index text b)
+value_moved text a b e = ap (λ n. hex_value (slice_index text n)) e
+
+-- eight hex digits, and the number that they say
+pub eight_are : (text : List ℕ) (from high low v : ℕ) → are_hex text from 4 ≡ true
+    → high ≡ hex_number text from 4 → are_hex text (from + 4) 4 ≡ true
+    → low ≡ hex_number text (from + 4) 4 → v ≡ high * 65536 + low
+    → (are_hex text from 8 ≡ true) × (v ≡ hex_number text from 8)
+eight_are text from high low v h e l f is =
+    let p = four_parts text (from + 4) l in
+    let d4 = p.0 in
+    let d5 = digit_moved text (from + 4 + 1) (from + 5) (omega arith) p.1 in
+    let d6 = digit_moved text (from + 4 + 2) (from + 6) (omega arith) p.2 in
+    let d7 = digit_moved text (from + 4 + 3) (from + 7) (omega arith) p.3 in
+    let v4 = value_moved text (from + 4 + 0) (from + 4) (omega arith) in
+    let v5 = value_moved text (from + 4 + 1) (from + 5) (omega arith) in
+    let v6 = value_moved text (from + 4 + 2) (from + 6) (omega arith) in
+    let v7 = value_moved text (from + 4 + 3) (from + 7) (omega arith) in
+    (both _ _ (both _ _ (both _ _ (both _ _ h d4) d5) d6) d7,
+    omega (arith, is, e, f, v4, v5, v6, v7))
+
+-- the first and the last four of eight hex digits
+pub eight_parts : (text : List ℕ) (from : ℕ) → are_hex text from 8 ≡ true
+    → (are_hex text from 4 ≡ true) × (are_hex text (from + 4) 4 ≡ true)
+eight_parts text from h =
+    let p7 = and_parts _ _ h in
+    let p6 = and_parts _ _ p7.0 in
+    let p5 = and_parts _ _ p6.0 in
+    let p4 = and_parts _ _ p5.0 in
+    let d4 = digit_moved text (from + 4) (from + 4 + 0) (omega arith) p4.1 in
+    let d5 = digit_moved text (from + 5) (from + 4 + 1) (omega arith) p5.1 in
+    let d6 = digit_moved text (from + 6) (from + 4 + 2) (omega arith) p6.1 in
+    let d7 = digit_moved text (from + 7) (from + 4 + 3) (omega arith) p7.1 in
+    (p4.0, both _ _ (both _ _ (both _ _ d4 d5) d6) d7)
+
+pub not_first : (text : List ℕ) (from : ℕ) → (are_hex text from 4 ≡ true → ⊥)
+    → are_hex text from 8 ≡ true → ⊥
+not_first text from f h = f (eight_parts text from h).0
+
+pub not_last : (text : List ℕ) (from : ℕ) → (are_hex text (from + 4) 4 ≡ true → ⊥)
+    → are_hex text from 8 ≡ true → ⊥
+not_last text from f h = f (eight_parts text from h).1
+
+-- no escape of digits stands where they say no character
+pub no_short : (text : List ℕ) (at : ℕ) → slice_index text at ≡ 117
+    → ((are_hex text (at + 1) 4 ≡ true) → is_surrogate (hex_number text (at + 1) 4) ≡ false
+    → hex_number text (at + 1) 4 ≢ backslash → ⊥)
+    → (to : ℕ) (s : List ℕ) → Escape text at to s → ⊥
+no_short text at e f to s (itself g h) = false≢true (sym h ∙ ap is_ascii_alphanumeric e)
+no_short text at e f to s (line_feed h) = absurd (omega arith)
+no_short text at e f to s (carriage_return h) = absurd (omega arith)
+no_short text at e f to s (tab h) = absurd (omega arith)
+no_short text at e f to s (four_digits c h x i y z) =
+    f x (subst (λ n. is_surrogate n ≡ false) i y) (λ g. z (i ∙ g))
+no_short text at e f to s (eight_digits c h x i y z) = absurd (omega arith)
+
+pub no_long : (text : List ℕ) (at : ℕ) → slice_index text at ≡ 85
+    → ((are_hex text (at + 1) 8 ≡ true) → 65536 ≤ hex_number text (at + 1) 8
+    → hex_number text (at + 1) 8 ≤ 0x10_ffff → ⊥)
+    → (to : ℕ) (s : List ℕ) → Escape text at to s → ⊥
+no_long text at e f to s (itself g h) = false≢true (sym h ∙ ap is_ascii_alphanumeric e)
+no_long text at e f to s (line_feed h) = absurd (omega arith)
+no_long text at e f to s (carriage_return h) = absurd (omega arith)
+no_long text at e f to s (tab h) = absurd (omega arith)
+no_long text at e f to s (four_digits c h x i y z) = absurd (omega arith)
+no_long text at e f to s (eight_digits c h x i y z) =
+    f x (omega (arith, i, y)) (omega (arith, i, z))
+
+-- no other letter or digit is an escape
+pub no_escape : (text : List ℕ) (at b : ℕ) → b ≡ slice_index text at
+    → is_ascii_alphanumeric b ≡ true → b ≢ 110 → b ≢ 114 → b ≢ 116 → b ≢ 117 → b ≢ 85
+    → (to : ℕ) (s : List ℕ) → Escape text at to s → ⊥
+no_escape text at b e a n r t u l to s (itself g h) =
+    false≢true (sym h ∙ ap is_ascii_alphanumeric (sym e) ∙ a)
+no_escape text at b e a n r t u l to s (line_feed h) = n (e ∙ h)
+no_escape text at b e a n r t u l to s (carriage_return h) = r (e ∙ h)
+no_escape text at b e a n r t u l to s (tab h) = t (e ∙ h)
+no_escape text at b e a n r t u l to s (four_digits c h x i y z) = u (e ∙ h)
+no_escape text at b e a n r t u l to s (eight_digits c h x i y z) = l (e ∙ h)
+
+-- behind the text's end stands no escape
+pub none_behind : (text : List ℕ) (at : ℕ) → length text ≤ at → slice_index text at ≡ 0
+    → (to : ℕ) (s : List ℕ) → Escape text at to s → ⊥
+none_behind text at l z to s (itself g h) = omega arith
+none_behind text at l z to s (line_feed h) = omega arith
+none_behind text at l z to s (carriage_return h) = omega arith
+none_behind text at l z to s (tab h) = omega arith
+none_behind text at l z to s (four_digits c h x i y v) = omega arith
+none_behind text at l z to s (eight_digits c h x i y v) = omega arith
+
+-- the bytes of the three characters that have a letter
+feed_bytes : encode_utf8 10 ≡ 10 ∷ []
+feed_bytes = encode_ascii 10 (lit≤ tt)
+
+return_bytes : encode_utf8 13 ≡ 13 ∷ []
+return_bytes = encode_ascii 13 (lit≤ tt)
+
+tab_bytes : encode_utf8 9 ≡ 9 ∷ []
+tab_bytes = encode_ascii 9 (lit≤ tt)
+
+pub is_feed : (text : List ℕ) (at : ℕ) → slice_index text at ≡ 110
+    → Escape text at (at + 1) (encode_utf8 10)
+is_feed text at e = subst (λ s. Escape text at (at + 1) s) (sym feed_bytes) (line_feed e)
+
+pub is_return : (text : List ℕ) (at : ℕ) → slice_index text at ≡ 114
+    → Escape text at (at + 1) (encode_utf8 13)
+is_return text at e = subst (λ s. Escape text at (at + 1) s) (sym return_bytes) (carriage_return e)
+
+pub is_tab : (text : List ℕ) (at : ℕ) → slice_index text at ≡ 116
+    → Escape text at (at + 1) (encode_utf8 9)
+is_tab text at e = subst (λ s. Escape text at (at + 1) s) (sym tab_bytes) (tab e)
+
+pub is_short : (text : List ℕ) (at n c : ℕ) → slice_index text at ≡ 117
+    → are_hex text (at + 1) 4 ≡ true → n ≡ hex_number text (at + 1) 4 → c ≡ n
+    → is_surrogate n ≡ false → n ≢ backslash → Escape text at (at + 5) (encode_utf8 c)
+is_short text at n c h x e is y z =
+    subst (λ k. Escape text at (at + 5) (encode_utf8 k)) (sym is)
+    (four_digits n h x e y z)
+
+pub is_long : (text : List ℕ) (at n c : ℕ) → slice_index text at ≡ 85
+    → are_hex text (at + 1) 8 ≡ true → n ≡ hex_number text (at + 1) 8 → c ≡ n
+    → 65536 ≤ n → n ≤ 0x10_ffff → Escape text at (at + 9) (encode_utf8 c)
+is_long text at n c h x e is y z =
+    subst (λ k. Escape text at (at + 9) (encode_utf8 k)) (sym is)
+    (eight_digits n h x e y z)
+
+-- four digits say no character that an escape may stand for
+pub said_short : (text : List ℕ) (at n : ℕ) → slice_index text at ≡ 117
+    → n ≡ hex_number text (at + 1) 4 → n < 65536
+    → (n < 65536 → is_surrogate n ≡ false → n ≢ backslash → ⊥)
+    → (to : ℕ) (s : List ℕ) → Escape text at to s → ⊥
+said_short text at n h e low f =
+    no_short text at h (λ x y z. f low (subst (λ k. is_surrogate k ≡ false) (sym e) y)
+    (λ g. z (sym e ∙ g)))
+
+-- nor do eight
+pub said_long : (text : List ℕ) (at n : ℕ) → slice_index text at ≡ 85
+    → n ≡ hex_number text (at + 1) 8 → (65536 ≤ n → n ≤ 0x10_ffff → ⊥)
+    → (to : ℕ) (s : List ℕ) → Escape text at to s → ⊥
+said_long text at n h e f =
+    no_long text at h (λ x y z. f (omega (arith, e, y)) (omega (arith, e, z)))
+
+-- a hex digit is ASCII
+hex_ascii : (b : ℕ) → is_hex b ≡ true → (0 < b) × (b < 128)
+hex_ascii b h = (hex_some b h, grind (arith, nat_tests, h))
+
+ascii_moved : (text : List ℕ) (a b : ℕ) → a ≡ b → is_hex (slice_index text a) ≡ true
+    → (0 < slice_index text b) × (slice_index text b < 128)
+ascii_moved text a b e h = hex_ascii _ (digit_moved text a b e h)
+
+-- the last of four hex digits
+pub fourth_ascii : (text : List ℕ) (at : ℕ) → are_hex text (at + 1) 4 ≡ true
+    → (0 < slice_index text (at + 5 - 1)) × (slice_index text (at + 5 - 1) < 128)
+fourth_ascii text at h =
+    ascii_moved text (at + 1 + 3) (at + 5 - 1) (omega arith) (four_parts text (at + 1) h).3
+
+-- the last of eight
+pub eighth_ascii : (text : List ℕ) (at : ℕ) → are_hex text (at + 1) 8 ≡ true
+    → (0 < slice_index text (at + 9 - 1)) × (slice_index text (at + 9 - 1) < 128)
+eighth_ascii text at h =
+    ascii_moved text (at + 1 + 4 + 3) (at + 9 - 1) (omega arith)
+    (four_parts text (at + 1 + 4) (eight_parts text (at + 1) h).1).3

@@ -1,0 +1,7 @@
+-- Laws of what is read of a text.
+mod BlanksLemmas
+mod WordsLemmas
+mod EscapesLemmas
+mod PiecesLemmas
+mod StringsLemmas
+mod TypesLemmas

@@ -1,0 +1,292 @@
+-- Laws of strings and keys, as the reader's functions use them.
+use Rattle.std.proofs.Common.{◌≡◌, ◌≢◌, ℕ, suc, ◌+◌, ◌-◌, ◌<◌, ◌≤◌, true, false, List, []}
+use Rattle.std.proofs.Common.{◌∷◌, ◌++◌, length, arith, subst, sym, refl, ap, ◌∙◌, take, drop}
+use Rattle.std.proofs.Common.{append_assoc, append-nil, drop-cons, ◌⊎◌, inl, inr}
+use Rattle.std.specs.Prelude.{slice_index, slice_range, ◌↔◌, IsTrue}
+use Rattle.std.proofs.lemmas.Bool.{false≢true}
+use Rattle.std.proofs.lemmas.Bool.Decides.{nat_tests}
+use Rattle.resb_grammar.specs.Ascii as ascii
+use Rattle.resb_icu_grammar.specs.Bytes.{backslash, is_word, are_key_bytes}
+use Rattle.resb_icu_grammar.specs.Blanks.{Skip}
+use Rattle.resb_icu_grammar.specs.Pieces.{Inside, ends, byte, escape, Piece, Joined, last_piece}
+use Rattle.resb_icu_grammar.specs.Pieces.{one_more}
+use Rattle.resb_icu_grammar.specs.Words.{Word, String, KeyText, HasNoEscape}
+use Rattle.resb_icu_grammar.specs.Words as words
+use Rattle.resb_icu_grammar.proofs.Lexical.{Piece-one, Skip-one, word_first, joined_first}
+use Rattle.resb_icu_text.specs.declared.strings.Said.{Said}
+use Rattle.resb_icu_text.specs.Inner.Lexemes.{Ahead, no_more, more, IsNoLexeme, IsLexeme}
+use Rattle.resb_icu_text.specs.Inner.Lexemes.{bytes_said, is_key}
+use Rattle.resb_icu_text.proofs.PiecesLemmas.{inside_order, inside_closes, escape_order, slice_none}
+
+quote_no_word : (b : ℕ) → b ≡ ascii.quote → is_word b ≡ true → ⊥
+quote_no_word b e h = grind (arith, nat_tests, e, h)
+
+-- where a quote stands, no word does
+pub no_word : (text : List ℕ) (from to : ℕ) (s : List ℕ) → slice_index text from ≡ ascii.quote
+    → Word text from to s → ⊥
+no_word text from to s q w = quote_no_word _ q (word_first text from to s w)
+
+-- a quoted piece by its inside
+pub piece_of : (text : List ℕ) (from last : ℕ) (bytes : List ℕ)
+    → slice_index text from ≡ ascii.quote → Inside text (from + 1) last bytes
+    → Piece text from (last + 1) bytes
+piece_of text from last bytes q h = record { last = last; opens = q; inside = h; ends = refl }
+
+-- a piece and those ahead of it
+pub join : (text : List ℕ) (from mid next to : ℕ) (first later : List ℕ)
+    → Piece text from mid first → Skip text mid next → Ahead text mid next to later
+    → Joined text from to (first ++ later)
+join text from mid next to first later p s (no_more h) =
+    subst (λ (l : List ℕ). Joined text from mid l) (sym (append-nil first))
+    (last_piece from mid next first p s h)
+join text from mid next to first later p s (more _ _ j) =
+    one_more from mid next to first later p s j
+
+-- behind its first piece stands the rest of a string
+pub unjoin : (text : List ℕ) (from mid next to : ℕ) (first all : List ℕ)
+    → Piece text from mid first → Skip text mid next → Joined text from to all
+    → (later : List ℕ) × Ahead text mid next to later
+unjoin text from mid next to first all p s (last_piece _ _ n _ q t h) =
+    let same = (Piece-one text from to mid all first q p).0 in
+    let t' : Skip text mid n = subst (λ i. Skip text i n) same t in
+    let e = Skip-one text mid n next t' s in (
+      [],
+      subst (λ i. Ahead text mid next i []) (sym same)
+          (no_more (subst (λ i. slice_index text i ≢ ascii.quote) e h)),
+    )
+unjoin text from mid next to first all p s (one_more _ m n _ us vs q t j) =
+    let same = (Piece-one text from m mid us first q p).0 in
+    let t' : Skip text mid n = subst (λ i. Skip text i n) same t in
+    let e = Skip-one text mid n next t' s in
+    (vs, more to vs (subst (λ i. Joined text i to vs) e j))
+
+-- what was added, and what is ahead now of what was ahead
+pub record Added (text : List ℕ) (end next at coming : ℕ) (old value : List ℕ) : Type 0 where
+  pub middle : List ℕ
+  pub whole : value ≡ old ++ middle
+  pub on : (to : ℕ) (later : List ℕ) → Ahead text at coming to later
+      → Ahead text end next to (middle ++ later)
+  pub back : (to : ℕ) (later : List ℕ) → Ahead text end next to later
+      → (rest : List ℕ) × Ahead text at coming to rest
+
+-- nothing is added yet
+pub added_none : (text : List ℕ) (end next : ℕ) (old : List ℕ)
+    → Added text end next end next old old
+added_none text end next old = record {
+  middle = [];
+  whole = sym (append-nil old);
+  on = λ to later a. a;
+  back = λ to later a. (later, a);
+}
+
+ahead_joined : (text : List ℕ) (at coming to : ℕ) (later : List ℕ)
+    → slice_index text coming ≡ ascii.quote → Ahead text at coming to later
+    → Joined text coming to later
+ahead_joined text at coming to later q (no_more h) = absurd (h q)
+ahead_joined text at coming to later q (more _ _ j) = j
+
+-- one piece more is added
+pub added_piece : (text : List ℕ) (end next at coming last behind : ℕ)
+    (old value bytes value1 : List ℕ) → slice_index text coming ≡ ascii.quote
+    → Inside text (coming + 1) last bytes → Skip text (last + 1) behind
+    → value1 ≡ value ++ bytes → Added text end next at coming old value
+    → Added text end next (last + 1) behind old value1
+added_piece text end next at coming last behind old value bytes value1 q h s e a =
+    let p = piece_of text coming last bytes q h in
+    record {
+      middle = a.middle ++ bytes;
+      whole = e ∙ ap (λ l. l ++ bytes) a.whole ∙ append_assoc old a.middle bytes;
+      on = λ to later b. subst (λ (l : List ℕ). Ahead text end next to l)
+          (sym (append_assoc a.middle bytes later))
+          (a.on to (bytes ++ later)
+          (more to (bytes ++ later) (join text coming (last + 1) behind to bytes later p s b)));
+      back = λ to later b.
+          let r = a.back to later b in
+          let j = ahead_joined text at coming to r.0 q r.1 in
+          unjoin text coming (last + 1) behind to bytes r.0 p s j;
+    }
+
+-- no piece is ahead any more
+pub added_all : (text : List ℕ) (end next at coming : ℕ) (old value : List ℕ)
+    → slice_index text coming ≢ ascii.quote → Added text end next at coming old value
+    → (later : List ℕ) × Ahead text end next at later × (value ≡ old ++ later)
+added_all text end next at coming old value h a = (
+  a.middle ++ [],
+  a.on at [] (no_more h),
+  a.whole ∙ ap (λ l. old ++ l) (sym (append-nil a.middle)),
+)
+
+joined_inside : (text : List ℕ) (from to : ℕ) (s : List ℕ) → Joined text from to s
+    → (last : ℕ) × (bytes : List ℕ) × Inside text (from + 1) last bytes
+joined_inside text from to s (last_piece _ _ n _ p t h) = (p.last, s, p.inside)
+joined_inside text from to s (one_more _ m n _ us vs p t j) = (p.last, us, p.inside)
+
+-- where no piece ends, no string stands
+pub no_joined : (text : List ℕ) (from : ℕ)
+    → ((to : ℕ) (s : List ℕ) → Inside text (from + 1) to s → ⊥)
+    → (to : ℕ) (s : List ℕ) → Joined text from to s → ⊥
+no_joined text from never to s j =
+    let i = joined_inside text from to s j in never i.0 i.1 i.2
+
+-- where the piece that begins has no end, no pieces are ahead
+pub no_piece_ahead : (text : List ℕ) (end next at coming : ℕ) (old value : List ℕ)
+    → slice_index text coming ≡ ascii.quote
+    → ((to : ℕ) (s : List ℕ) → Inside text (coming + 1) to s → ⊥)
+    → Added text end next at coming old value
+    → (to : ℕ) (later : List ℕ) → Ahead text end next to later → ⊥
+no_piece_ahead text end next at coming old value q never a to later b =
+    let r = a.back to later b in
+    no_joined text coming never to r.0 (ahead_joined text at coming to r.0 q r.1)
+
+-- where no pieces stand, a quote begins no string
+pub no_string : (text : List ℕ) (from : ℕ) → slice_index text from ≡ ascii.quote
+    → ((to : ℕ) (s : List ℕ) → Joined text from to s → ⊥) → IsNoLexeme text from
+no_string text from q never to s (words.a_word w) = no_word text from to s q w
+no_string text from q never to s (words.quoted j) = never to s j
+
+-- where what is ahead of a piece is nothing, no string stands
+pub no_string_ahead : (text : List ℕ) (from last next : ℕ) (first : List ℕ)
+    → slice_index text from ≡ ascii.quote → Inside text (from + 1) last first
+    → Skip text (last + 1) next
+    → ((to : ℕ) (later : List ℕ) → Ahead text (last + 1) next to later → ⊥)
+    → IsNoLexeme text from
+no_string_ahead text from last next first q h s never =
+    no_string text from q (λ to all j.
+    let r = unjoin text from (last + 1) next to first all (piece_of text from last first q h) s j in
+    never to r.0 r.1)
+
+-- a string put together is no key, if a piece follows its first one or an escape stands there
+pub no_key : (text : List ℕ) (from last to : ℕ) (first s : List ℕ)
+    → slice_index text from ≡ ascii.quote → Inside text (from + 1) last first
+    → (HasNoEscape text (from + 1) last → last + 1 ≢ to) → KeyText text from to s → ⊥
+no_key text from last to first s q h f (words.a_word w k) = no_word text from to s q w
+no_key text from last to first s q h f (words.quoted j p n k) =
+    let p' = piece_of text from last first q h in
+    f (λ i low high. n i (omega arith)
+    (omega (arith, high, (Piece-one text from to (last + 1) s first p p').0)))
+    (sym (Piece-one text from to (last + 1) s first p p').0)
+
+slice_cons : (text : List ℕ) (at to : ℕ) → at < to → at < length text
+    → slice_range text at to ≡ slice_index text at ∷ slice_range text (at + 1) to
+slice_cons text at to low fits =
+    let n : to - at ≡ suc (to - (at + 1)) = omega arith in
+    let m : suc at ≡ at + 1 = omega arith in
+    ap (λ k. take k (drop at text)) n
+    ∙ ap (λ l. take (suc (to - (at + 1))) l) (drop-cons text at 0 fits)
+    ∙ ap (λ k. slice_index text at ∷ take (to - (at + 1)) (drop k text)) m
+
+-- what stands in a piece without escapes is what it stands for
+pub plain_inside : (text : List ℕ) (at to : ℕ) (s : List ℕ) → Inside text at to s
+    → HasNoEscape text at to → s ≡ slice_range text at to
+plain_inside text at to s (ends _ h) n = sym (slice_none text at)
+plain_inside text at to s (byte _ _ vs l q b r) n =
+    let low : at + 1 ≤ to = inside_order text (at + 1) to vs r in
+    ap (λ k. slice_index text at ∷ k)
+    (plain_inside text (at + 1) to vs r (λ i o p. n i (omega (arith, o)) p))
+    ∙ sym (slice_cons text at to (omega (arith, low)) l)
+plain_inside text at to s (escape _ m _ xs vs b x r) n =
+    absurd (n at (omega arith) (omega (
+      arith,
+      escape_order text (at + 1) m xs x,
+      inside_order text m to vs r,
+    )) b)
+
+-- a piece without escapes has none from its first quote to its last
+no_escape_quoted : (text : List ℕ) (from last : ℕ) → slice_index text from ≡ ascii.quote
+    → slice_index text last ≡ ascii.quote → HasNoEscape text (from + 1) last
+    → HasNoEscape text from (last + 1)
+no_escape_quoted text from last q r n k low high b =
+    n k (between k low high b).0 (between k low high b).1 b
+  where
+    at : (i : ℕ) → slice_index text i ≡ ascii.quote → (k : ℕ) → slice_index text k ≡ backslash
+        → k ≢ i
+    at i e k b s = absurd (omega (arith, e, b, ap (λ n. slice_index text n) s))
+
+    between : (k : ℕ) → from ≤ k → k < last + 1 → slice_index text k ≡ backslash
+        → (from + 1 ≤ k) × (k < last)
+    between k low high b =
+        let u = at from q k b in
+        let v = at last r k b in
+        (omega (arith, low, u), omega (arith, high, v))
+
+module _ (text : List ℕ) (from last next : ℕ) (bytes : List ℕ) where
+  -- one piece without escapes and with no other behind it is a string
+  pub plain_string : slice_index text from ≡ ascii.quote → Inside text (from + 1) last bytes
+      → Skip text (last + 1) next → slice_index text next ≢ ascii.quote
+      → String text from (last + 1) bytes
+  plain_string q h s n =
+      words.quoted (last_piece from (last + 1) next bytes (piece_of text from last bytes q h) s n)
+
+  -- and it may be a key, if each of its bytes may stand in one
+  pub plain_key : slice_index text from ≡ ascii.quote → Inside text (from + 1) last bytes
+      → Skip text (last + 1) next → slice_index text next ≢ ascii.quote
+      → HasNoEscape text (from + 1) last → are_key_bytes bytes ≡ true
+      → KeyText text from (last + 1) bytes
+  plain_key q h s n f k =
+      words.quoted (last_piece from (last + 1) next bytes (piece_of text from last bytes q h) s n)
+      (piece_of text from last bytes q h)
+      (no_escape_quoted text from last q (inside_closes text (from + 1) last bytes h) f) k
+
+-- what each byte of a key is
+pub key_bytes : (text : List ℕ) (from to : ℕ) (s : List ℕ) → KeyText text from to s
+    → are_key_bytes s ≡ true
+key_bytes text from to s (words.a_word w k) = k
+key_bytes text from to s (words.quoted j p n k) = k
+
+module _ (text : List ℕ) (from last next : ℕ) (first : List ℕ) where
+  -- what one piece without escapes and with no other behind it answers
+  pub plain_lexeme : (said : Said) → slice_index text from ≡ ascii.quote
+      → Inside text (from + 1) last first → Skip text (last + 1) next
+      → slice_index text next ≢ ascii.quote → HasNoEscape text (from + 1) last
+      → bytes_said said ≡ slice_range text (from + 1) last
+      → (IsTrue (is_key said) ↔ (are_key_bytes (bytes_said said) ≡ true)) → last < length text
+      → IsLexeme text from (record { end = last + 1; said = said })
+  plain_lexeme said q h s n f e k low =
+      let b : first ≡ bytes_said said = plain_inside text (from + 1) last first h f ∙ sym e in
+      let h' : Inside text (from + 1) last (bytes_said said) =
+      subst (λ (l : List ℕ). Inside text (from + 1) last l) b h in
+      let order : from + 1 ≤ last = inside_order text (from + 1) last first h in
+      record {
+        string = plain_string text from last next (bytes_said said) q h' s n;
+        key = (
+          λ t. plain_key text from last next (bytes_said said) q h' s n f (k.0 t),
+          λ t. k.1 (key_bytes text from (last + 1) (bytes_said said) t),
+        );
+        after = omega (arith, order);
+        fits = omega (arith, low);
+      }
+
+  -- what pieces that were put together answer
+  pub built_lexeme : (to : ℕ) (later : List ℕ) (said : Said)
+      → slice_index text from ≡ ascii.quote → Inside text (from + 1) last first
+      → Skip text (last + 1) next → Ahead text (last + 1) next to later
+      → bytes_said said ≡ first ++ later → is_key said ≡ false
+      → (HasNoEscape text (from + 1) last → last + 1 ≢ to) → last + 1 ≤ to → to ≤ length text
+      → IsLexeme text from (record { end = to; said = said })
+  built_lexeme to later said q h s a e k f low fits =
+      let j = join text from (last + 1) next to first later (piece_of text from last first q h) s
+      a in
+      let order : from + 1 ≤ last = inside_order text (from + 1) last first h in
+      record {
+        string = words.quoted (subst (λ (l : List ℕ). Joined text from to l) (sym e) j);
+        key = (
+          λ t. absurd (false≢true (sym k ∙ t)),
+          λ t. absurd (no_key text from last to first (bytes_said said) q h f t),
+        );
+        after = omega (arith, order, low);
+        fits = fits;
+      }
+
+-- where neither a quote nor a word stands, no string does
+pub no_lexeme : (text : List ℕ) (from : ℕ) → slice_index text from ≢ ascii.quote
+    → ((to : ℕ) (s : List ℕ) → Word text from to s → ⊥) → IsNoLexeme text from
+no_lexeme text from n never to s (words.a_word w) = never to s w
+no_lexeme text from n never to s (words.quoted j) = n (joined_first text from to s j)
+
+-- why one piece is not what was put together
+pub not_one : (text : List ℕ) (from last next to : ℕ)
+    → (slice_index text next ≡ ascii.quote) ⊎ (HasNoEscape text (from + 1) last → ⊥)
+    → (slice_index text next ≡ ascii.quote → last + 1 < to)
+    → HasNoEscape text (from + 1) last → last + 1 ≢ to
+not_one text from last next to (inl q) f n e = omega (arith, f q, e)
+not_one text from last next to (inr h) f n e = h n

@@ -1,0 +1,95 @@
+-- Laws of types of groups and of the root, as the reader's functions use them.
+use Rattle.std.proofs.Common.{◌≡◌, ◌≢◌, ℕ, suc, ◌+◌, ◌<◌, ◌≤◌, Bool, true, false, List, ◌∷◌}
+use Rattle.std.proofs.Common.{arith, length, get_or, drop, refl, sym, ◌∙◌, ap, subst, Some, add-one}
+use Rattle.std.proofs.Common.{drop-cons}
+use Rattle.std.specs.Prelude.{◌↔◌, slice_get, slice_index, codes}
+use Rattle.std.proofs.lemmas.Option.{slice_get_within, slice_get-get_or, same_Some}
+use Rattle.resb_grammar.specs.GroupTypes.{Kind, table_kind, Stands, NoFallback}
+use Rattle.resb_icu_grammar.specs.Words.{Word, TypeName, GroupType, RootType, table_type}
+use Rattle.resb_icu_grammar.specs.Words.{no_fallback_type}
+use Rattle.resb_icu_grammar.proofs.Lexical.{GroupType-one}
+use Rattle.resb_icu_text.specs.Inner.Kinds.{kind_of}
+use Rattle.resb_icu_text.specs.declared.types.Kind as code
+use Rattle.resb_icu_text.specs.declared.types.Kind.TheVariants as names
+
+-- one byte more of those that stand here
+pub stands_next : (text xs : List ℕ) (here i b : ℕ) (Q : Type 0) → i < length xs → get_or xs i 0 ≡ b
+    → slice_get text here ≡ Some b → (Stands text here (drop i xs) ↔ Q)
+    → (Stands text (here + 1) (drop (i + 1) xs) ↔ Q)
+stands_next text xs here i b Q low is there h =
+    let e : drop i xs ≡ b ∷ drop (i + 1) xs = drop-cons xs i 0 low
+    ∙ ap (λ n. n ∷ drop (suc i) xs) is ∙ ap (λ n. b ∷ drop n xs) (sym (add-one i)) in
+    let k : Stands text here (b ∷ drop (i + 1) xs) ↔ Q = subst
+    (λ (ys : List ℕ). Stands text here ys ↔ Q) e h in
+    (λ s. k.0 (there, s), λ q. (k.1 q).1)
+
+-- where the byte is another, the bytes do not stand
+pub not_there : (text xs : List ℕ) (here i : ℕ) → i < length xs
+    → (slice_get text here ≡ Some (get_or xs i 0) → ⊥) → Stands text here (drop i xs) → ⊥
+not_there text xs here i low never s =
+    let k : Stands text here (get_or xs i 0 ∷ drop (suc i) xs) =
+    subst (λ (ys : List ℕ). Stands text here ys) (drop-cons xs i 0 low) s in
+    never k.0
+
+-- behind the text's end stands no byte
+pub past_end : (text : List ℕ) (here b : ℕ) → length text ≤ here → slice_get text here ≡ Some b → ⊥
+past_end text here b l e =
+    let low : here < length text = slice_get_within _ _ _ e in omega (arith, low)
+
+-- where another byte stands, this one does not
+pub another : (text : List ℕ) (here b : ℕ) → here < length text → slice_index text here ≢ b
+    → slice_get text here ≡ Some b → ⊥
+another text here b l n e =
+    n (same_Some (get_or text here 0) b (sym (slice_get-get_or text here 0 l) ∙ e))
+
+-- the byte that stands there
+pub there : (text : List ℕ) (here b : ℕ) → here < length text → slice_index text here ≡ b
+    → slice_get text here ≡ Some b
+there text here b l e = slice_get-get_or text here 0 l ∙ ap Some e
+
+module _ (text : List ℕ) (at : ℕ) where
+  -- where no word stands behind the colon, no type does
+  pub no_word_no_group : ((to : ℕ) (s : List ℕ) → Word text (at + 1) to s → ⊥)
+      → (to : ℕ) (kind : Kind) → GroupType text at to kind → ⊥
+  no_word_no_group never to kind g = never to g.name g.stands.word
+
+  -- a table with `(nofallback)` behind it
+  pub root_off : (to : ℕ) → GroupType text at to table_kind → NoFallback text to
+      → RootType text at (to + 12) false
+  root_off to g n =
+      no_fallback_type to (subst (λ (w : List ℕ). TypeName text at to w) g.names g.stands) n refl
+
+  -- a table without it
+  pub root_on : (to : ℕ) → GroupType text at to table_kind → (NoFallback text to → ⊥)
+      → RootType text at to true
+  root_on to g never =
+      table_type (subst (λ (w : List ℕ). TypeName text at to w) g.names g.stands) never
+
+  -- a root's type begins with a group's
+  root_group : (to : ℕ) (fallback : Bool) → RootType text at to fallback
+      → (i : ℕ) × GroupType text at i table_kind
+  root_group to true (table_type w never) =
+      (to, record { name = codes "table"; stands = w; names = refl })
+  root_group to false (no_fallback_type i w n e) =
+      (i, record { name = codes "table"; stands = w; names = refl })
+
+  -- where no group's type stands, no root's does
+  pub no_root : ((to : ℕ) (kind : Kind) → GroupType text at to kind → ⊥)
+      → (to : ℕ) (fallback : Bool) → RootType text at to fallback → ⊥
+  no_root never to fallback r = let g = root_group to fallback r in never g.0 table_kind g.1
+
+  -- where another type stands, no root's does
+  pub other_root : (i : ℕ) (kind : Kind) → GroupType text at i kind → kind ≢ table_kind
+      → (to : ℕ) (fallback : Bool) → RootType text at to fallback → ⊥
+  other_root i kind g ne to fallback r =
+      let h = root_group to fallback r in
+      ne (GroupType-one text at i h.0 kind table_kind g h.1).1
+
+-- the code's names differ where the types do
+pub not_table : (k : code.Kind) → (k ≡ names.Table → ⊥) → kind_of k ≢ table_kind
+not_table names.Table h e = h refl
+not_table names.String h e = absurd cc
+not_table names.Array h e = absurd cc
+not_table names.Binary h e = absurd cc
+not_table names.Integer h e = absurd cc
+not_table names.IntVector h e = absurd cc

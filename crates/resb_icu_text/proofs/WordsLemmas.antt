@@ -1,0 +1,132 @@
+-- Laws of words and numbers, as the reader's functions use them.
+use Rattle.std.proofs.Common.{◌≡◌, ◌≢◌, ℕ, suc, ◌+◌, ◌-◌, ◌*◌, ◌<◌, ◌≤◌, min, true, false, List}
+use Rattle.std.proofs.Common.{length, arith, subst, sym, ap, ◌∙◌, get_or}
+use Rattle.std.specs.Prelude.{Bool, Option, Some, None, IfNone, slice_index}
+use Rattle.std.proofs.lemmas.Bool.{false≢true}
+use Rattle.std.proofs.lemmas.Bool.Decides.{nat_tests}
+use Rattle.std.proofs.lemmas.Str.{IsCharBoundary-before_ascii, IsCharBoundary-after_ascii}
+use Rattle.std.specs.Str.{IsUtf8, IsCharBoundary}
+use Rattle.resb_grammar.specs.Ascii as ascii
+use Rattle.resb_grammar.specs.ByteRuns.{Run}
+use Rattle.resb_grammar.specs.Tokens as plain
+use Rattle.resb_grammar.specs.Tokens.{digits_value}
+use Rattle.resb_grammar.proofs.ByteRunsLemmas.{there}
+use Rattle.resb_grammar.proofs.ByteRunsLemmas.{Run-one}
+use Rattle.resb_icu_grammar.specs.Bytes.{is_word}
+use Rattle.resb_icu_grammar.specs.Words.{Digits, Number}
+use Rattle.resb_icu_grammar.specs.Words as words
+use Rattle.resb_icu_grammar.proofs.Lexical.{digit_first}
+use Rattle.resb_icu_text.specs.Inner.Numbers.{Signed, unsigned, plus, minus}
+
+pub if_none_by : {A : Type 0} (o : Option A) (P : Type 0) → P → IfNone o P
+if_none_by None P p = p
+if_none_by (Some x) P p = tt
+
+decimal_suc : (text : List ℕ) (from at n m : ℕ) → at ≡ from + n → m ≡ suc n
+    → digits_value text from m ≡ digits_value text from n * 10 +
+    (slice_index text at - ascii.digit_0)
+decimal_suc text from at n m e e' =
+    subst (λ k. digits_value text from k ≡ digits_value text from n * 10 +
+    (slice_index text at - ascii.digit_0)) (sym e')
+    (ap (λ k. digits_value text from n * 10 + (slice_index text k - ascii.digit_0)) (sym e))
+
+-- one more digit
+pub decimal_more : (text : List ℕ) (from at value b next : ℕ) → b ≡ slice_index text at
+    → from ≤ at → value ≡ min (digits_value text from (at - from)) 4294967296
+    → next ≡ min (value * 10 + (b - ascii.digit_0)) 4294967296
+    → next ≡ min (digits_value text from (at + 1 - from)) 4294967296
+decimal_more text from at value b next h order is more =
+    let d : digits_value text from (at + 1 - from) ≡ digits_value text from (at - from) * 10 +
+    (slice_index text at - ascii.digit_0) = decimal_suc text from at (at - from) (at + 1 - from)
+    (omega arith) (omega arith) in
+    omega (arith, d, h, is, more)
+
+-- behind a plus stand no digits of its range
+pub no_plus : (text : List ℕ) (from : ℕ) → slice_index text from ≡ ascii.plus
+    → ((to v : ℕ) → Digits text (from + 1) to v → v ≤ 2147483647 → ⊥)
+    → (to v : ℕ) → Signed text from to v → ⊥
+no_plus text from e f to v (unsigned _ d low) = absurd (omega (arith, digit_first text from to v d))
+no_plus text from e f to v (plus _ h d low) = f to v d low
+no_plus text from e f to v (minus n h d low) = absurd (omega arith)
+
+-- behind a minus stand no digits of its range
+pub no_minus : (text : List ℕ) (from : ℕ) → slice_index text from ≡ ascii.dash
+    → ((to v : ℕ) → Digits text (from + 1) to v → v ≤ 2147483648 → ⊥)
+    → (to v : ℕ) → Signed text from to v → ⊥
+no_minus text from e f to v (unsigned _ d low) =
+    absurd (omega (arith, digit_first text from to v d))
+no_minus text from e f to v (plus _ h d low) = absurd (omega arith)
+no_minus text from e f to v (minus n h d low) = f to n d low
+
+-- without a sign stand no digits of the range
+pub no_digits : (text : List ℕ) (from : ℕ) → slice_index text from ≢ ascii.plus
+    → slice_index text from ≢ ascii.dash
+    → ((to v : ℕ) → Digits text from to v → v ≤ 4294967295 → ⊥)
+    → (to v : ℕ) → Signed text from to v → ⊥
+no_digits text from e e' f to v (unsigned _ d low) = f to v d low
+no_digits text from e e' f to v (plus _ h d low) = e h
+no_digits text from e e' f to v (minus n h d low) = e' h
+
+pub is_minus : (text : List ℕ) (from to n v : ℕ) → slice_index text from ≡ ascii.dash
+    → Digits text (from + 1) to n → n ≤ 2147483648 → v ≡ plain.negated n → Signed text from to v
+is_minus text from to n v e d low is = subst (λ w. Signed text from to w) (sym is) (minus n e d low)
+
+-- a number is a word of a sign and digits
+pub signed_number : (text : List ℕ) (from to v : ℕ) → Run is_word text from to
+    → Signed text from to v → Number text from to v
+signed_number text from to v r (unsigned _ d low) = words.unsigned v r d low
+signed_number text from to v r (plus _ h d low) = words.plus v r h d low
+signed_number text from to v r (minus n h d low) = words.minus n r h d low
+
+pub number_signed : (text : List ℕ) (from to v : ℕ) → Number text from to v
+    → Run is_word text from to × Signed text from to v
+number_signed text from to v (words.unsigned _ r d low) = (r, unsigned v d low)
+number_signed text from to v (words.plus _ r h d low) = (r, plus v h d low)
+number_signed text from to v (words.minus n r h d low) = (r, minus n h d low)
+
+pub no_number : (text : List ℕ) (from : ℕ) → ((to v : ℕ) → Signed text from to v → ⊥)
+    → (to v : ℕ) → Number text from to v → ⊥
+no_number text from f to v n = f to v (number_signed text from to v n).1
+
+-- digits end in one place
+signed_ends : (text : List ℕ) (from a b v w : ℕ) → Signed text from a v → Signed text from b w
+    → a ≡ b
+signed_ends text from a b v w (unsigned _ d low) (unsigned _ e high) =
+    Run-one _ text from a b d.digits.run e.digits.run
+signed_ends text from a b v w (unsigned _ d low) (plus _ h e high) =
+    absurd (omega (arith, digit_first text from a v d))
+signed_ends text from a b v w (unsigned _ d low) (minus n h e high) =
+    absurd (omega (arith, digit_first text from a v d))
+signed_ends text from a b v w (plus _ h d low) (unsigned _ e high) =
+    absurd (omega (arith, digit_first text from b w e))
+signed_ends text from a b v w (plus _ h d low) (plus _ h' e high) =
+    Run-one _ text (from + 1) a b d.digits.run e.digits.run
+signed_ends text from a b v w (plus _ h d low) (minus n h' e high) = absurd (omega arith)
+signed_ends text from a b v w (minus n h d low) (unsigned _ e high) =
+    absurd (omega (arith, digit_first text from b w e))
+signed_ends text from a b v w (minus n h d low) (plus _ h' e high) = absurd (omega arith)
+signed_ends text from a b v w (minus n h d low) (minus n' h' e high) =
+    Run-one _ text (from + 1) a b d.digits.run e.digits.run
+
+-- digits that end before their word does are no number
+pub no_whole_number : (text : List ℕ) (from to end v : ℕ) → Run is_word text from end
+    → Signed text from to v → to ≢ end → (k w : ℕ) → Number text from k w → ⊥
+no_whole_number text from to end v r s ne k w n =
+    let both = number_signed text from k w n in
+    ne (signed_ends text from to k v w s both.1 ∙ Run-one is_word text from k end both.0 r)
+
+word_ascii : (b : ℕ) → is_word b ≡ true → b < 128
+word_ascii b h = grind (arith, nat_tests, h)
+
+word_some : (b : ℕ) → is_word b ≡ true → 0 < b
+word_some b h = grind (arith, nat_tests, h)
+
+-- a character begins behind a word
+pub behind_word : (text : List ℕ) (from to : ℕ) → IsUtf8 text → Run is_word text from to
+    → from < to → IsCharBoundary text to
+behind_word text from to u r w =
+    let h : is_word (get_or text (to - 1) 0) ≡ true = r.each (to - 1) (omega arith) (omega arith) in
+    let e : to - 1 + 1 ≡ to = omega arith in
+    subst (λ i. IsCharBoundary text i) e
+    (IsCharBoundary-after_ascii text (to - 1) u (there text (to - 1) (word_some _ h))
+    (word_ascii _ h))

@@ -1,0 +1,20 @@
+use Rattle.std.proofs.Common.{◌≡◌, ◌-◌, ◌≤◌, ◌<◌, ℕ, true, false, length}
+use Rattle.std.specs.Prelude.{slice_index}
+use Rattle.resb_icu_grammar.specs.Bytes.{backslash}
+use Rattle.resb_icu_grammar.specs.Words.{HasNoEscape}
+use Rattle.resb_icu_text.proofs.PiecesLemmas.{GoesOn}
+use Rattle.resb_icu_text.proofs.pieces.piece_end.Given as goal
+
+abbrev pub invariant-piece : goal.invariant-piece
+invariant-piece l = record {
+  order : l.from ≤ l.at;
+  fits : l.at ≤ length l.text;
+  on : GoesOn l.text l.at l.from;
+  back : GoesOn l.text l.from l.at;
+  clean : l.plain ≡ true → HasNoEscape l.text l.from l.at;
+  dirty : l.plain ≡ false → (k : ℕ) × (l.from ≤ k) × (k < l.at)
+      × (slice_index l.text k ≡ backslash);
+}
+
+abbrev pub decreases-piece : goal.decreases-piece
+decreases-piece l = length l.text - l.at

@@ -1,0 +1,35 @@
+use Rattle.std.proofs.Common.{◌≡◌, ◌+◌, ◌≤◌, ◌++◌, arith, sym, ◌∙◌, inr}
+use Rattle.std.specs.Prelude.{slice_index}
+use Rattle.std.specs.String.{string_bytes}
+use Rattle.resb_grammar.specs.Ascii as ascii
+use Rattle.resb_icu_text.proofs.StringsLemmas.{added_piece, added_all, no_piece_ahead}
+use Rattle.resb_icu_text.proofs.strings.push_pieces.Goals as goal
+
+pub returns-in_default-clause-none : goal.returns-in_default-clause-none
+returns-in_default-clause-none c =
+    no_piece_ahead c.args.text.now c.args.end c.args.next c.pieces.at c.pieces.coming _ _
+    (sym c.byte.ensures.byte ∙ c.pieces-test.true) c.in_default.ensures.none
+    c.pieces.invariant.added
+
+pub pieces-preserved : goal.pieces-preserved
+pieces-preserved c =
+    let q : slice_index c.args.text.now c.pieces.coming ≡ ascii.quote =
+    sym c.byte.ensures.byte ∙ c.pieces-test.true in
+    let h = c.in-Some.ensures.found in
+    let e : string_bytes c.push_piece.new.value ≡ string_bytes c.pieces.value ++ h.0 =
+    c.in_ok-push_piece.ensures.value h.0 h.1 in
+    let low : c.pieces.coming + 1 ≤ c.in-Some.last = c.in-Some.ensures.within.0 in
+    record {
+      order = omega (arith, low, c.pieces.invariant.order, c.pieces.invariant.between);
+      between = c.skip-coming.ensures.order;
+      fits = c.skip-coming.ensures.fits;
+      moved = inr (omega (arith, low, c.pieces.invariant.order, c.pieces.invariant.between));
+      added = added_piece c.args.text.now c.args.end c.args.next c.pieces.at c.pieces.coming
+          c.in-Some.last c.skip-coming.result _ _ h.0 _ q h.1 c.skip-coming.ensures.skip e
+          c.pieces.invariant.added;
+    }
+
+pub returns-clause-found : goal.returns-clause-found
+returns-clause-found c =
+    added_all c.args.text.now c.args.end c.args.next c.pieces.at c.pieces.coming _ _
+    (λ e. c.pieces-test.false (c.byte.ensures.byte ∙ e)) c.pieces.invariant.added

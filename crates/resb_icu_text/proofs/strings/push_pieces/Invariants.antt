@@ -1,0 +1,16 @@
+use Rattle.std.proofs.Common.{◌≡◌, ◌-◌, ◌≤◌, ◌<◌, ◌⊎◌, length}
+use Rattle.std.specs.String.{string_bytes}
+use Rattle.resb_icu_text.proofs.StringsLemmas.{Added}
+use Rattle.resb_icu_text.proofs.strings.push_pieces.Given as goal
+
+abbrev pub invariant-pieces : goal.invariant-pieces
+invariant-pieces l = record {
+  order : l.end ≤ l.at;
+  between : l.at ≤ l.coming;
+  fits : l.coming ≤ length l.text;
+  moved : (l.coming ≡ l.next) ⊎ (l.end < l.at);
+  added : Added l.text l.end l.next l.at l.coming (string_bytes l.fn.value) (string_bytes l.value);
+}
+
+abbrev pub decreases-pieces : goal.decreases-pieces
+decreases-pieces l = length l.text - l.coming

@@ -1,0 +1,65 @@
+use Rattle.std.proofs.Common.{◌≡◌, ◌+◌, ◌++◌, ◌⊎◌, inl, inr, arith, rules}
+use Rattle.std.proofs.Common.{sym, ◌∙◌, ap, refl, ℕ, List, subst, true}
+use Rattle.std.specs.Prelude.{slice_index, ◌↔◌, IsTrue}
+use Rattle.std.specs.String.{string_bytes}
+use Rattle.std.proofs.lemmas.Str.{IsCharBoundary-before_ascii, IsCharBoundary-after_ascii}
+use Rattle.resb_grammar.specs.Ascii as ascii
+use Rattle.resb_icu_grammar.specs.Bytes.{are_key_bytes}
+use Rattle.resb_icu_grammar.specs.Words.{HasNoEscape}
+use Rattle.resb_icu_text.specs.Inner.Lexemes.{bytes_said, is_key}
+use Rattle.resb_icu_text.proofs.PiecesLemmas.{inside_closes}
+use Rattle.resb_icu_text.proofs.StringsLemmas.{plain_lexeme, built_lexeme, not_one}
+use Rattle.resb_icu_text.proofs.StringsLemmas.{no_string_ahead}
+use Rattle.resb_icu_text.proofs.strings.quoted.Goals.{else-byte-ne34-via-then-byte-ne34+else-plain}
+use Rattle.resb_icu_text.proofs.strings.quoted.Goals.{else-byte-ne34-via-else-byte-ne34}
+use Rattle.resb_icu_text.proofs.strings.quoted.Goals as goal
+
+pub range-requires-clause-start_boundary : goal.range-requires-clause-start_boundary
+range-requires-clause-start_boundary c =
+    λ _. IsCharBoundary-after_ascii c.args.text.now c.args.from c.utf8.text c.requires.within
+    (omega (arith, c.requires.opens))
+
+pub range-requires-clause-end_boundary : goal.range-requires-clause-end_boundary
+range-requires-clause-end_boundary c =
+    let h = c.in-Some.ensures.found in
+    let q = inside_closes c.args.text.now (c.args.from + 1) c.in-Some.last h.0 h.1 in
+    IsCharBoundary-before_ascii c.args.text.now c.in-Some.last c.in-Some.ensures.within.1
+    (omega (arith, q))
+
+pub returns-then-plain-clause-found : goal.returns-then-plain-clause-found
+returns-then-plain-clause-found c =
+    let h = c.in-Some.ensures.found in
+    let k : IsTrue (is_key c.said_of.result) ↔ (are_key_bytes (bytes_said c.said_of.result) ≡ true)
+    = subst (λ (l : List ℕ). IsTrue (is_key c.said_of.result) ↔ (are_key_bytes l ≡ true))
+    (sym c.said_of.ensures.bytes) c.said_of.ensures.key in
+    plain_lexeme c.args.text.now c.args.from c.in-Some.last c.skip-next.result h.0 c.said_of.result
+    c.requires.opens h.1 c.skip-next.ensures.skip
+    (λ e. c.if-byte-ne34.true (c.byte.ensures.byte ∙ e)) (c.in-Some.ensures.plain c.if-plain.true)
+    (c.said_of.ensures.bytes ∙ c.range.ensures.value) k c.in-Some.ensures.within.1
+
+pub returns-in_default-2-clause-none : goal.returns-in_default-2-clause-none
+returns-in_default-2-clause-none c =
+    let h = c.in-Some.ensures.found in
+    no_string_ahead c.args.text.now c.args.from c.in-Some.last c.skip-next.result h.0
+    c.requires.opens h.1 c.skip-next.ensures.skip
+    (rw c.in_default-2.is at c.in_ok-end.ensures.none)
+
+pub returns-clause-found : goal.returns-clause-found
+returns-clause-found c =
+    let text = c.args.text.now in
+    let last = c.in-Some.last in
+    let h = c.in-Some.ensures.found in
+    let a = rw c.in-Some-2.is at c.in_ok-end.ensures.found in
+    let b = rw c.in-Some-2.is at c.in_ok-end.ensures.within in
+    let m = rw c.in-Some-2.is at c.in_ok-end.ensures.moves in
+    let e : string_bytes c.push_piece.new.value ≡ h.0 = search rules in
+    let either : (slice_index text c.skip-next.result ≡ ascii.quote)
+    ⊎ (HasNoEscape text (c.args.from + 1) last → ⊥) =
+    elim c.else-byte-ne34.branch [
+      | else-byte-ne34-via-then-byte-ne34+else-plain w ↦
+          inr (c.in-Some.ensures.escaped w.if-plain.false)
+      | else-byte-ne34-via-else-byte-ne34 w ↦ inl (sym c.byte.ensures.byte ∙ w.if-byte-ne34.false)
+    ] in
+    built_lexeme text c.args.from last c.skip-next.result h.0 c.in-Some-2.end a.0 _
+    c.requires.opens h.1 c.skip-next.ensures.skip a.1 (a.2 ∙ ap (λ l. l ++ a.0) e) refl
+    (not_one text c.args.from last c.skip-next.result c.in-Some-2.end either m) b.0 b.1

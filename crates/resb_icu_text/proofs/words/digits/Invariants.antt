@@ -1,0 +1,10 @@
+use Rattle.std.proofs.Common.{◌≡◌, ◌-◌, min}
+use Rattle.resb_grammar.specs.ByteRuns.{Each, is_digit}
+use Rattle.resb_grammar.specs.Tokens.{digits_value}
+use Rattle.resb_icu_text.proofs.words.digits.Given as goal
+
+abbrev pub invariant-loop-at : goal.invariant-loop-at
+invariant-loop-at l = record {
+  each : Each is_digit l.text l.from l.at;
+  value : l.value ≡ min (digits_value l.text l.from (l.at - l.from)) 4294967296;
+}

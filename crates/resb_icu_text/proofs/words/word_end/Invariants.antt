@@ -1,0 +1,8 @@
+use Rattle.resb_grammar.specs.ByteRuns.{Each}
+use Rattle.resb_icu_grammar.specs.Bytes.{is_word}
+use Rattle.resb_icu_text.proofs.words.word_end.Given as goal
+
+abbrev pub invariant-loop-at : goal.invariant-loop-at
+invariant-loop-at l = record {
+  each : Each is_word l.text l.from l.at;
+}

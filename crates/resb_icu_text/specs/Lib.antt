@@ -1,0 +1,2 @@
+-- The words of the reader's functions.
+pub mod Inner

@@ -1,0 +1,113 @@
+//! Escapes: what a backslash and the bytes behind it stand for.
+//! Where quoted pieces end, and what they say, is in `pieces`.
+ghost use Rattle.std.specs.Prelude.{◌≡◌, ◌≢◌, ℕ, ◌+◌, ◌-◌, ◌^◌, ◌<◌, ◌≤◌, true, false, List};
+ghost use Rattle.std.specs.Prelude.{length, Some, None};
+ghost use Rattle.std.specs.Prelude.{slice_index, IfSome, IfNone};
+ghost use Rattle.resb_grammar.specs.Group.{is_hex, hex_value};
+ghost use Rattle.resb_icu_grammar.specs.Bytes.{backslash};
+ghost use Rattle.resb_icu_grammar.specs.Escapes.{Escape, are_hex, hex_number, is_surrogate};
+ghost use Rattle.resb_icu_text.specs.Inner.Escaped.{bytes_of, IsAscii};
+
+use crate::blanks::byte;
+
+/// The value of a hex digit.
+fn hex_digit(b: u8) -> Option<u32>
+    ensures found { IfSome result (λ v. (is_hex b ≡ true) × (v ≡ hex_value b) × (v < 16)) }
+    ensures none { IfNone result (is_hex b ≡ false) }
+{
+    if b >= b'0' && b <= b'9' {
+        Some((b - b'0') as u32)
+    } else if b >= b'A' && b <= b'F' {
+        Some((b - b'A') as u32 + 10)
+    } else if b >= b'a' && b <= b'f' {
+        Some((b - b'a') as u32 + 10)
+    } else {
+        None
+    }
+}
+
+/// The number that four hex digits say.
+fn four_digits(text: &str, from: usize) -> Option<u32>
+    requires within { from ≤ length text.now }
+    ensures found { IfSome result (λ v. (are_hex text.now from 4 ≡ true)
+        × (v ≡ hex_number text.now from 4) × (v < 65536) × (from + 4 ≤ length text.now)) }
+    ensures none { IfNone result (are_hex text.now from 4 ≡ true → ⊥) }
+{
+    let first = hex_digit(byte(text, from))?;
+    let second = hex_digit(byte(text, from + 1))?;
+    let third = hex_digit(byte(text, from + 2))?;
+    let fourth = hex_digit(byte(text, from + 3))?;
+    Some(((first * 16 + second) * 16 + third) * 16 + fourth)
+}
+
+/// The number that eight hex digits say.
+fn eight_digits(text: &str, from: usize) -> Option<u32>
+    requires within { from ≤ length text.now }
+    ensures found { IfSome result (λ v. (are_hex text.now from 8 ≡ true)
+        × (v ≡ hex_number text.now from 8) × (from + 8 ≤ length text.now)) }
+    ensures none { IfNone result (are_hex text.now from 8 ≡ true → ⊥) }
+{
+    let high = four_digits(text, from)?;
+    let low = four_digits(text, from + 4)?;
+    Some(high * 65536 + low)
+}
+
+/// The character of a number of four digits, which is no backslash.
+fn short_character(number: u32) -> Option<char>
+    ensures found { IfSome result (λ c. (c ≡ number) × (is_surrogate number ≡ false)
+        × (number ≢ backslash)) }
+    ensures none { IfNone result (number < 65536 → is_surrogate number ≡ false
+        → number ≢ backslash → ⊥) }
+{
+    if number == 92 {
+        return None;
+    }
+    char::from_u32(number)
+}
+
+/// The character of a number of eight digits, which has more than 16 bits.
+fn long_character(number: u32) -> Option<char>
+    ensures found { IfSome result (λ c. (c ≡ number) × (65536 ≤ number) × (number ≤ 0x10_ffff)) }
+    ensures none { IfNone result (65536 ≤ number → number ≤ 0x10_ffff → ⊥) }
+{
+    if number < 65536 {
+        return None;
+    }
+    char::from_u32(number)
+}
+
+/// The escape whose backslash stands before this place: where it ends, and the character that it
+/// stands for, which is none where the byte there stands for itself.
+pub(crate) fn escape(text: &str, at: usize) -> Option<(usize, Option<char>)>
+    requires within { at ≤ length text.now }
+    ensures found { IfSome result (λ r. Escape text.now at r.0
+        (bytes_of (slice_index text.now at) r.1)) }
+    ensures none { IfNone result ((to : ℕ) (s : List ℕ) → Escape text.now at to s → ⊥) }
+    ensures within { IfSome result (λ r. (at < r.0) × (r.0 ≤ length text.now)) }
+    ensures alone { IfSome result (λ r. r.1 ≡ None → r.0 ≡ at + 1) }
+    ensures ascii { IfSome result (λ r. (c : ℕ) → r.1 ≡ Some c
+        → IsAscii (slice_index text.now (r.0 - 1))) }
+{
+    let b = byte(text, at);
+    if at >= text.len() {
+        None
+    } else if !b.is_ascii_alphanumeric() {
+        Some((at + 1, None))
+    } else if b == b'n' {
+        Some((at + 1, Some('\n')))
+    } else if b == b'r' {
+        Some((at + 1, Some('\r')))
+    } else if b == b't' {
+        Some((at + 1, Some('\t')))
+    } else if b == b'u' {
+        let number = four_digits(text, at + 1)?;
+        let c = short_character(number)?;
+        Some((at + 5, Some(c)))
+    } else if b == b'U' {
+        let number = eight_digits(text, at + 1)?;
+        let c = long_character(number)?;
+        Some((at + 9, Some(c)))
+    } else {
+        None
+    }
+}

@@ -1,0 +1,89 @@
+//! The types that a group or the root may name, and where such a name stands in the text.
+//! What a type asks of a group's content is not said here.
+ghost use Rattle.std.specs.Prelude.{◌≡◌, ℕ, ◌+◌, ◌≤◌, ◌<◌, ◌↔◌, Bool, IsTrue, length};
+ghost use Rattle.std.specs.Prelude.{slice_index, IfSome, IfNone};
+ghost use Rattle.resb_grammar.specs.Ascii as ascii;
+ghost use Rattle.resb_grammar.specs.GroupTypes as spec;
+ghost use Rattle.resb_grammar.specs.GroupTypes.{Names, Stands};
+ghost use Rattle.resb_icu_grammar.specs.Words.{GroupType, RootType};
+ghost use Rattle.resb_icu_text.specs.Inner.Kinds.{kind_of};
+
+use crate::words::word;
+
+/// The types that a group may name.
+#[derive(Clone, Copy, Debug, PartialEq, Eq)]
+pub(crate) enum Kind {
+    String,
+    Array,
+    Table,
+    Binary,
+    Integer,
+    IntVector,
+}
+
+/// The type that the word names, if it names one.
+fn kind_named(word: &str) -> Option<Kind>
+    ensures found { IfSome result (λ kind. Names word.now (kind_of kind)) }
+    ensures none { IfNone result ((kind : spec.Kind) → Names word.now kind → ⊥) }
+{
+    match word {
+        "string" => Some(Kind::String),
+        "array" => Some(Kind::Array),
+        "table" => Some(Kind::Table),
+        "binary" | "bin" => Some(Kind::Binary),
+        "integer" | "int" => Some(Kind::Integer),
+        "intvector" => Some(Kind::IntVector),
+        _ => None,
+    }
+}
+
+/// The type whose `:` stands here and the place behind it, if a type stands here.
+pub(crate) fn group_type(text: &str, at: usize) -> Option<(usize, Kind)>
+    requires within { at < length text.now }
+    requires colon { slice_index text.now at ≡ ascii.colon }
+    ensures found { IfSome result (λ r. GroupType text.now at r.0 (kind_of r.1)) }
+    ensures none { IfNone result ((to : ℕ) (k : spec.Kind) → GroupType text.now at to k → ⊥) }
+    ensures within { IfSome result (λ r. (at < r.0) × (r.0 ≤ length text.now)) }
+{
+    let (to, name) = word(text, at + 1)?;
+    let kind = kind_named(name)?;
+    Some((to, kind))
+}
+
+/// Whether these bytes stand there.
+fn stands(text: &str, at: usize, bytes: &[u8]) -> bool
+    requires within { at ≤ length text.now }
+    ensures stands { IsTrue result ↔ Stands text.now at bytes.now }
+    ensures inside { IsTrue result → at + length bytes.now ≤ length text.now }
+{
+    let all = text.as_bytes();
+    let mut here = at;
+    for b in bytes {
+        if here >= all.len() || all[here] != *b {
+            return false;
+        }
+        here += 1;
+    }
+    true
+}
+
+/// The root's type whose `:` stands here: the place behind it, and whether fallback stays on.
+pub(crate) fn root_type(text: &str, at: usize) -> Option<(usize, bool)>
+    requires within { at < length text.now }
+    requires colon { slice_index text.now at ≡ ascii.colon }
+    ensures found { IfSome result (λ r. RootType text.now at r.0 r.1) }
+    ensures none { IfNone result ((to : ℕ) (f : Bool) → RootType text.now at to f → ⊥) }
+    ensures within { IfSome result (λ r. (at < r.0) × (r.0 ≤ length text.now)) }
+{
+    let (to, kind) = group_type(text, at)?;
+    match kind {
+        Kind::Table => {
+            if stands(text, to, b"(nofallback)") {
+                Some((to + 12, false))
+            } else {
+                Some((to, true))
+            }
+        }
+        _ => None,
+    }
+}

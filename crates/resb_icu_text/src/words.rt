@@ -1,0 +1,158 @@
+//! Words: the numbers and types that they are, and what a key may hold.
+//! Quoted strings are read in `strings`. Places count bytes of the text from its start.
+ghost use Rattle.std.specs.Prelude.{◌≡◌, ◌≢◌, ℕ, ◌+◌, ◌-◌, ◌^◌, ◌<◌, ◌≤◌, ◌↔◌, Bool, IsTrue, min};
+ghost use Rattle.std.specs.Prelude.{List, length, slice_index, slice_range, IfSome, IfNone};
+ghost use Rattle.resb_grammar.specs.Ascii as ascii;
+ghost use Rattle.resb_grammar.specs.ByteRuns.{Run, is_digit};
+ghost use Rattle.resb_grammar.specs.Tokens as plain;
+ghost use Rattle.resb_grammar.specs.GroupTypes as types;
+ghost use Rattle.resb_grammar.specs.GroupTypes.{Names, Stands};
+ghost use Rattle.resb_icu_grammar.specs.Bytes as spec;
+ghost use Rattle.resb_icu_grammar.specs.Words.{Word, Digits, Number, GroupType, RootType};
+ghost use Rattle.resb_icu_text.specs.Inner.Numbers.{Signed};
+
+use crate::blanks::byte;
+
+/// Whether a byte may stand in a word.
+pub(crate) fn is_word(b: u8) -> bool
+    ensures { result ≡ spec.is_word b }
+{
+    b.is_ascii_alphanumeric() || b == b'_' || b == b'.' || b == b'%' || b == b'-' || b == b'+'
+}
+
+/// Where the run of word characters ends.
+fn word_end(text: &str, from: usize) -> usize
+    requires within { from ≤ length text.now }
+    ensures run { Run spec.is_word text.now from result }
+{
+    let end = text.len();
+    for at in from..end {
+        if !is_word(byte(text, at)) {
+            return at;
+        }
+    }
+    end
+}
+
+/// The word that begins here, and where it ends.
+pub(crate) fn word(text: &str, from: usize) -> Option<(usize, &str)>
+    requires within { from ≤ length text.now }
+    ensures found { IfSome result (λ r. Word text.now from r.0 r.1.now) }
+    ensures none { IfNone result ((to : ℕ) (s : List ℕ) → Word text.now from to s → ⊥) }
+{
+    let to = word_end(text, from);
+    if from < to {
+        Some((to, &text[from..to]))
+    } else {
+        None
+    }
+}
+
+/// Whether a byte may stand in a key.
+fn is_key_byte(b: u8) -> bool
+    ensures { result ≡ spec.is_key_byte b }
+{
+    match b {
+        b'!' | b'#' | b'$' | b'@' | b'[' | b'\\' | b']' | b'^' | b'`' | b'{' | b'|' | b'}'
+        | b'~' => false,
+        _ => b >= 32 && b <= 126,
+    }
+}
+
+/// Whether each byte may stand in a key.
+pub(crate) fn are_key_bytes(bytes: &[u8]) -> bool
+    ensures { result ≡ spec.are_key_bytes bytes.now }
+{
+    for b in bytes {
+        if !is_key_byte(*b) {
+            return false;
+        }
+    }
+    true
+}
+
+/// Where the run of digits ends, and their value, or 2 ^ 32 where it is larger.
+fn digits(text: &str, from: usize) -> (usize, u64)
+    requires within { from ≤ length text.now }
+    ensures run { Run is_digit text.now from result.0 }
+    ensures value { result.1
+        ≡ min (plain.digits_value text.now from (result.0 - from)) 4294967296 }
+{
+    let mut value = 0u64;
+    let end = text.len();
+    for at in from..end {
+        let b = byte(text, at);
+        if !b.is_ascii_digit() {
+            return (at, value);
+        }
+        value = (value * 10 + (b - b'0') as u64).min(1 << 32);
+    }
+    (end, value)
+}
+
+/// The end and the value of the digits that begin here, without a leading zero, of a value up to
+/// the limit.
+fn digits_up_to(text: &str, from: usize, limit: u64) -> Option<(usize, u64)>
+    requires within { from ≤ length text.now }
+    requires limit { limit < 4294967296 }
+    ensures found { IfSome result (λ r. Digits text.now from r.0 r.1) }
+    ensures limited { IfSome result (λ r. r.1 ≤ limit) }
+    ensures none { IfNone result ((to v : ℕ) → Digits text.now from to v → v ≤ limit → ⊥) }
+{
+    let (to, value) = digits(text, from);
+    if from < to && value <= limit && (byte(text, from) != b'0' || to == from + 1) {
+        Some((to, value))
+    } else {
+        None
+    }
+}
+
+/// What is minus a number, modulo 2 ^ 32.
+fn negated(value: u64) -> u32
+    requires { value ≤ 2147483648 }
+    ensures { result ≡ plain.negated value }
+{
+    if value == 0 {
+        0
+    } else {
+        4294967295 - (value - 1) as u32
+    }
+}
+
+/// The number that the digits behind a sign, or those of the whole word, say; and where they end.
+fn signed_digits(text: &str, from: usize) -> Option<(usize, u32)>
+    requires within { from < length text.now }
+    ensures found { IfSome result (λ r. Signed text.now from r.0 r.1) }
+    ensures none { IfNone result ((to value : ℕ) → Signed text.now from to value → ⊥) }
+{
+    let b = byte(text, from);
+    if b == b'+' {
+        let (to, value) = digits_up_to(text, from + 1, 2147483647)?;
+        Some((to, value as u32))
+    } else if b == b'-' {
+        let (to, value) = digits_up_to(text, from + 1, 2147483648)?;
+        Some((to, negated(value)))
+    } else {
+        let (to, value) = digits_up_to(text, from, 4294967295)?;
+        Some((to, value as u32))
+    }
+}
+
+/// The number that begins here, and where it ends. No word goes on behind it.
+pub(crate) fn number(text: &str, from: usize) -> Option<(usize, u32)>
+    requires within { from ≤ length text.now }
+    ensures found { IfSome result (λ r. Number text.now from r.0 r.1) }
+    ensures none { IfNone result ((to value : ℕ) → Number text.now from to value → ⊥) }
+    ensures within { IfSome result (λ r. (from < r.0) × (r.0 ≤ length text.now)) }
+{
+    let end = word_end(text, from);
+    if from == end {
+        return None;
+    }
+    let (to, value) = signed_digits(text, from)?;
+    if to == end {
+        Some((to, value))
+    } else {
+        None
+    }
+}

@@ -76,7 +76,8 @@ no_letter : (b n : ℕ) → is_ascii_alphanumeric b ≡ false → b ≡ n → is
     → ⊥
 no_letter b n h e f = false≢true (sym h ∙ ap is_ascii_alphanumeric e ∙ f)
 
-pub Escape-one : (text : List ℕ) (at a b : ℕ) (s t : List ℕ) → Escape text at a s → Escape text at b t
+pub Escape-one : (text : List ℕ) (at a b : ℕ) (s t : List ℕ) → Escape text at a s
+    → Escape text at b t
     → (a ≡ b) × (s ≡ t)
 Escape-one text at a b s t (itself f h) (itself g k) = (refl, refl)
 Escape-one text at a b s t (itself f h) (line_feed k) = absurd (no_letter _ 110 h k refl)
@@ -123,7 +124,8 @@ Escape-one text at a b s t (eight_digits c h x e y z) (four_digits d k x' e' y' 
 Escape-one text at a b s t (eight_digits c h x e y z) (eight_digits d k x' e' y' z') =
     (refl, ap encode_utf8 (e ∙ sym e'))
 
-pub Inside-one : (text : List ℕ) (at a b : ℕ) (s t : List ℕ) → Inside text at a s → Inside text at b t
+pub Inside-one : (text : List ℕ) (at a b : ℕ) (s t : List ℕ) → Inside text at a s
+    → Inside text at b t
     → (a ≡ b) × (s ≡ t)
 Inside-one text at a b s t (ends _ h) (ends _ k) = (refl, refl)
 Inside-one text at a b s t (ends _ h) (byte _ _ us f k l r) = absurd (k h)
@@ -170,7 +172,8 @@ Joined-one text from a b s t (one_more _ m i _ us vs p k r) (one_more _ n j _ ws
     let both = Joined-one text i a b vs xs r (subst (λ x. Joined text x b xs) (sym e) z) in
     (both.0, (λ x. first.1 x ++ both.1 x))
 
-pub Word-one : (text : List ℕ) (from a b : ℕ) (s t : List ℕ) → Word text from a s → Word text from b t
+pub Word-one : (text : List ℕ) (from a b : ℕ) (s t : List ℕ) → Word text from a s
+    → Word text from b t
     → (a ≡ b) × (s ≡ t)
 Word-one text from a b s t p q =
     let k : a ≡ b = Run-one is_word text from a b p.run q.run in
@@ -218,7 +221,8 @@ digits_one : (text : List ℕ) (from a b v w : ℕ) → Digits text from a v →
     → (a ≡ b) × (v ≡ w)
 digits_one text from a b v w d e = Digits-one text from a b v w d.digits e.digits
 
-pub digit_first : (text : List ℕ) (from to v : ℕ) → Digits text from to v → 48 ≤ slice_index text from
+pub digit_first : (text : List ℕ) (from to v : ℕ) → Digits text from to v
+    → 48 ≤ slice_index text from
 digit_first text from to v d =
     let k : is_digit (slice_index text from) ≡ true =
     d.digits.run.each from (omega arith) d.digits.some in

@@ -1,7 +1,7 @@
 -- Laws of hex digits and escapes, as the reader's functions use them.
 use Rattle.std.proofs.Common.{◌≡◌, ◌≢◌, ℕ, ◌+◌, ◌-◌, ◌*◌, ◌<◌, ◌≤◌, Bool, true, false, List, []}
 use Rattle.std.proofs.Common.{◌∷◌}
-use Rattle.std.proofs.Common.{length, arith, subst, sym, refl, ap, ◌∙◌, encode_utf8, lit≤}
+use Rattle.std.proofs.Common.{length, arith, subst, sym, ap, ◌∙◌, encode_utf8, lit≤}
 use Rattle.std.proofs.lemmas.Str.{encode_ascii}
 use Rattle.std.specs.Prelude.{◌&&◌, slice_index}
 use Rattle.std.proofs.lemmas.Bool.{false≢true, and_parts}
@@ -72,9 +72,10 @@ eight_are text from high low v h e l f is =
     let v4 = value_moved text (from + 4 + 0) (from + 4) (omega arith) in
     let v5 = value_moved text (from + 4 + 1) (from + 5) (omega arith) in
     let v6 = value_moved text (from + 4 + 2) (from + 6) (omega arith) in
-    let v7 = value_moved text (from + 4 + 3) (from + 7) (omega arith) in
-    (both _ _ (both _ _ (both _ _ (both _ _ h d4) d5) d6) d7,
-    omega (arith, is, e, f, v4, v5, v6, v7))
+    let v7 = value_moved text (from + 4 + 3) (from + 7) (omega arith) in (
+      both _ _ (both _ _ (both _ _ (both _ _ h d4) d5) d6) d7,
+      omega (arith, is, e, f, v4, v5, v6, v7),
+    )
 
 -- the first and the last four of eight hex digits
 pub eight_parts : (text : List ℕ) (from : ℕ) → are_hex text from 8 ≡ true

@@ -14,8 +14,9 @@ use Rattle.resb_icu_grammar.specs.Words.{Word, String, KeyText, HasNoEscape}
 use Rattle.resb_icu_grammar.specs.Words as words
 use Rattle.resb_icu_grammar.proofs.Lexical.{Piece-one, Skip-one, word_first, joined_first}
 use Rattle.resb_icu_text.specs.declared.strings.Said.{Said}
-use Rattle.resb_icu_text.specs.Inner.Lexemes.{Ahead, no_more, more, IsNoLexeme, IsLexeme}
-use Rattle.resb_icu_text.specs.Inner.Lexemes.{bytes_said, is_key}
+use Rattle.resb_icu_text.specs.Lexemes.{IsNoLexeme, IsLexeme}
+use Rattle.resb_icu_text.specs.Inner.Ahead.{Ahead, no_more, more}
+use Rattle.resb_icu_text.specs.Lexemes.{bytes_said, is_key}
 use Rattle.resb_icu_text.proofs.PiecesLemmas.{inside_order, inside_closes, escape_order, slice_none}
 
 quote_no_word : (b : ℕ) → b ≡ ascii.quote → is_word b ≡ true → ⊥

@@ -8,7 +8,7 @@ use Rattle.resb_grammar.specs.GroupTypes.{Kind, table_kind, Stands, NoFallback}
 use Rattle.resb_icu_grammar.specs.Words.{Word, TypeName, GroupType, RootType, table_type}
 use Rattle.resb_icu_grammar.specs.Words.{no_fallback_type}
 use Rattle.resb_icu_grammar.proofs.Lexical.{GroupType-one}
-use Rattle.resb_icu_text.specs.Inner.Kinds.{kind_of}
+use Rattle.resb_icu_text.specs.Kinds.{kind_of}
 use Rattle.resb_icu_text.specs.declared.types.Kind as code
 use Rattle.resb_icu_text.specs.declared.types.Kind.TheVariants as names
 

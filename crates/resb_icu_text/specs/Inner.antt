@@ -1,5 +1,4 @@
 -- Words of private functions.
+pub mod Ahead
 pub mod Escaped
-pub mod Kinds
-pub mod Lexemes
 pub mod Numbers

@@ -1,2 +1,4 @@
--- The words of the reader's functions.
+-- What the tokens of a text are, as the calls answer them.
+pub mod Kinds
+pub mod Lexemes
 pub mod Inner

@@ -104,7 +104,7 @@ fn block_end(text: &str, from: usize) -> Option<usize>
     }
 }
 
-/// Where the blanks end.
+/// Where the white characters and comments end that begin at a place of a text.
 pub fn skip(text: &str, from: usize) -> usize
     requires within { from ≤ length text.now }
     ensures skip { Skip text.now from result }

@@ -6,8 +6,9 @@ ghost use Rattle.std.specs.String.{string_bytes};
 ghost use Rattle.resb_grammar.specs.Ascii as ascii;
 ghost use Rattle.resb_icu_grammar.specs.Blanks.{Skip};
 ghost use Rattle.resb_icu_grammar.specs.Bytes as bytes;
-ghost use Rattle.resb_icu_text.specs.Inner.Lexemes.{IsLexeme, IsNoLexeme, Ahead};
-ghost use Rattle.resb_icu_text.specs.Inner.Lexemes.{bytes_said, is_key};
+ghost use Rattle.resb_icu_text.specs.Lexemes.{IsLexeme, IsNoLexeme};
+ghost use Rattle.resb_icu_text.specs.Inner.Ahead.{Ahead};
+ghost use Rattle.resb_icu_text.specs.Lexemes.{bytes_said, is_key};
 
 use crate::blanks::{byte, skip};
 use crate::pieces::{piece_end, push_piece};
@@ -17,7 +18,7 @@ use std::alloc::Global;
 
 /// What a string says.
 #[derive(Drop)]
-pub(crate) enum Said<'a> {
+pub enum Said<'a> {
     /// It stands in the text as it is, and may be a key.
     Key(&'a str),
     /// It stands in the text as it is, and may be no key.
@@ -28,17 +29,17 @@ pub(crate) enum Said<'a> {
 
 /// A string, and the place behind it.
 #[derive(Drop)]
-pub(crate) struct Lexeme<'a> {
+pub struct Lexeme<'a> {
+    /// The place behind it, in bytes from the text's start.
     pub end: usize,
+    /// What it says.
     pub said: Said<'a>,
 }
 
-/// The string that begins here.
-pub(crate) fn string<'a>(
-    alloc: Global,
-    text: &'a str,
-    from: usize,
-) -> Result<Option<Lexeme<'a>>, NoMemory>
+/// The string that begins at a place of a text: a word, or all quoted pieces that stand in a row
+/// with nothing but blanks between them. `None` where none does; refused is want of memory alone.
+/// A string that stands in the text as it is isn't copied.
+pub fn string<'a>(alloc: Global, text: &'a str, from: usize) -> Result<Option<Lexeme<'a>>, NoMemory>
     requires within { from ≤ length text.now }
     ensures found { IfOk result (λ o. IfSome o (IsLexeme text.now from)) }
     ensures none { IfOk result (λ o. IfNone o (IsNoLexeme text.now from)) }

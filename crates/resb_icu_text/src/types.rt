@@ -6,18 +6,24 @@ ghost use Rattle.resb_grammar.specs.Ascii as ascii;
 ghost use Rattle.resb_grammar.specs.GroupTypes as spec;
 ghost use Rattle.resb_grammar.specs.GroupTypes.{Names, Stands};
 ghost use Rattle.resb_icu_grammar.specs.Words.{GroupType, RootType};
-ghost use Rattle.resb_icu_text.specs.Inner.Kinds.{kind_of};
+ghost use Rattle.resb_icu_text.specs.Kinds.{kind_of};
 
 use crate::words::word;
 
 /// The types that a group may name.
 #[derive(Clone, Copy, Debug, PartialEq, Eq)]
-pub(crate) enum Kind {
+pub enum Kind {
+    /// `string`.
     String,
+    /// `array`.
     Array,
+    /// `table`.
     Table,
+    /// `binary` or `bin`.
     Binary,
+    /// `integer` or `int`.
     Integer,
+    /// `intvector`.
     IntVector,
 }
 
@@ -38,7 +44,7 @@ fn kind_named(word: &str) -> Option<Kind>
 }
 
 /// The type whose `:` stands here and the place behind it, if a type stands here.
-pub(crate) fn group_type(text: &str, at: usize) -> Option<(usize, Kind)>
+pub fn group_type(text: &str, at: usize) -> Option<(usize, Kind)>
     requires within { at < length text.now }
     requires colon { slice_index text.now at ≡ ascii.colon }
     ensures found { IfSome result (λ r. GroupType text.now at r.0 (kind_of r.1)) }
@@ -68,7 +74,7 @@ fn stands(text: &str, at: usize, bytes: &[u8]) -> bool
 }
 
 /// The root's type whose `:` stands here: the place behind it, and whether fallback stays on.
-pub(crate) fn root_type(text: &str, at: usize) -> Option<(usize, bool)>
+pub fn root_type(text: &str, at: usize) -> Option<(usize, bool)>
     requires within { at < length text.now }
     requires colon { slice_index text.now at ≡ ascii.colon }
     ensures found { IfSome result (λ r. RootType text.now at r.0 r.1) }

@@ -53,8 +53,8 @@ fn is_key_byte(b: u8) -> bool
     ensures { result ≡ spec.is_key_byte b }
 {
     match b {
-        b'!' | b'#' | b'$' | b'@' | b'[' | b'\\' | b']' | b'^' | b'`' | b'{' | b'|' | b'}'
-        | b'~' => false,
+        b'!' | b'#' | b'$' | b'@' | b'[' | b'\\' | b']' | b'^' | b'`' | b'{' | b'|' | b'}' | b'~' =>
+            false,
         _ => b >= 32 && b <= 126,
     }
 }
@@ -139,7 +139,7 @@ fn signed_digits(text: &str, from: usize) -> Option<(usize, u32)>
 }
 
 /// The number that begins here, and where it ends. No word goes on behind it.
-pub(crate) fn number(text: &str, from: usize) -> Option<(usize, u32)>
+pub fn number(text: &str, from: usize) -> Option<(usize, u32)>
     requires within { from ≤ length text.now }
     ensures found { IfSome result (λ r. Number text.now from r.0 r.1) }
     ensures none { IfNone result ((to value : ℕ) → Number text.now from to value → ⊥) }
@@ -150,9 +150,5 @@ pub(crate) fn number(text: &str, from: usize) -> Option<(usize, u32)>
         return None;
     }
     let (to, value) = signed_digits(text, from)?;
-    if to == end {
-        Some((to, value))
-    } else {
-        None
-    }
+    if to == end { Some((to, value)) } else { None }
 }

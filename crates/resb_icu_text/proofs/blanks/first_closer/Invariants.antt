@@ -1,4 +1,4 @@
-use Rattle.std.proofs.Common.{◌≡◌, ℕ, ◌<◌, ◌≤◌}
+use Rattle.std.proofs.Common.{ℕ, ◌<◌, ◌≤◌}
 use Rattle.resb_grammar.specs.Tokens.{Closer}
 use Rattle.resb_icu_text.proofs.blanks.first_closer.Given as goal
 

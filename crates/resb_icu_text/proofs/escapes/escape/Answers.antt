@@ -1,10 +1,11 @@
 use Rattle.std.proofs.Common.{◌≡◌, sym, ◌∙◌, subst, rules, false}
 use Rattle.std.specs.Prelude.{slice_index}
 use Rattle.std.specs.Char.{is_ascii_alphanumeric}
-use Rattle.resb_icu_grammar.specs.Escapes.{itself, is_surrogate, hex_number}
+use Rattle.resb_icu_grammar.specs.Escapes.{itself}
 use Rattle.resb_icu_text.proofs.WordsLemmas.{if_none_by}
-use Rattle.resb_icu_text.proofs.EscapesLemmas.{no_short, no_long, is_feed, is_return, is_tab}
-use Rattle.resb_icu_text.proofs.EscapesLemmas.{is_short, is_long, said_short, said_long, fourth_ascii, eighth_ascii}
+use Rattle.resb_icu_text.proofs.EscapesLemmas.{no_long, is_feed, is_return, is_tab}
+use Rattle.resb_icu_text.proofs.EscapesLemmas.{is_short, is_long, said_short, said_long}
+use Rattle.resb_icu_text.proofs.EscapesLemmas.{fourth_ascii, eighth_ascii}
 use Rattle.resb_icu_text.proofs.escapes.escape.Goals as goal
 
 pub returns-in_err-c-clause-none : goal.returns-in_err-c-clause-none

@@ -6,7 +6,7 @@ use Rattle.std.proofs.lemmas.Str.{IsCharBoundary-before_ascii, IsCharBoundary-af
 use Rattle.resb_grammar.specs.Ascii as ascii
 use Rattle.resb_icu_grammar.specs.Bytes.{are_key_bytes}
 use Rattle.resb_icu_grammar.specs.Words.{HasNoEscape}
-use Rattle.resb_icu_text.specs.Inner.Lexemes.{bytes_said, is_key}
+use Rattle.resb_icu_text.specs.Lexemes.{bytes_said, is_key}
 use Rattle.resb_icu_text.proofs.PiecesLemmas.{inside_closes}
 use Rattle.resb_icu_text.proofs.StringsLemmas.{plain_lexeme, built_lexeme, not_one}
 use Rattle.resb_icu_text.proofs.StringsLemmas.{no_string_ahead}

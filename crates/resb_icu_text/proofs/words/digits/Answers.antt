@@ -1,4 +1,4 @@
-use Rattle.std.proofs.Common.{arith, rules, sym}
+use Rattle.std.proofs.Common.{rules}
 use Rattle.resb_grammar.specs.ByteRuns.{is_digit}
 use Rattle.resb_grammar.proofs.ByteRunsLemmas.{each_more}
 use Rattle.resb_icu_text.proofs.WordsLemmas.{decimal_more}

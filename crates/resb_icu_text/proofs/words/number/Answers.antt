@@ -1,5 +1,4 @@
 use Rattle.std.proofs.Common.{◌≡◌, subst, rules}
-use Rattle.std.proofs.lemmas.Bool.Decides.{nat_tests}
 use Rattle.resb_grammar.specs.ByteRuns.{Run}
 use Rattle.resb_icu_grammar.specs.Bytes.{is_word}
 use Rattle.resb_icu_text.proofs.WordsLemmas.{if_none_by, no_number, signed_number, no_whole_number}

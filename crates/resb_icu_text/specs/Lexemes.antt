@@ -1,9 +1,7 @@
 -- What a string's answer says.
-use Rattle.std.specs.Prelude.{◌≢◌, ◌<◌, ◌≤◌, ◌↔◌, ℕ, Bool, true, false, List, [], length}
-use Rattle.std.specs.Prelude.{IsTrue, slice_index}
+use Rattle.std.specs.Prelude.{◌<◌, ◌≤◌, ◌↔◌, ℕ, Bool, true, false, List, length}
+use Rattle.std.specs.Prelude.{IsTrue}
 use Rattle.std.specs.String.{string_bytes}
-use Rattle.resb_grammar.specs.Ascii as ascii
-use Rattle.resb_icu_grammar.specs.Pieces.{Joined}
 use Rattle.resb_icu_grammar.specs.Words.{String, KeyText}
 use Rattle.resb_icu_text.specs.declared.strings.Said.{Said}
 use Rattle.resb_icu_text.specs.declared.strings.Said.TheVariants as the
@@ -31,9 +29,3 @@ pub record IsLexeme (text : List ℕ) (from : ℕ) (l : Lexeme) : Type 0 where
 -- no string stands there
 abbrev pub IsNoLexeme : List ℕ → ℕ → Type 0
 IsNoLexeme text from = (to : ℕ) (s : List ℕ) → String text from to s → ⊥
-
--- the pieces behind one that ends at this place, with the next place behind the blanks there: where
--- the last of them ends, and what they stand for
-pub data Ahead (text : List ℕ) (end next : ℕ) : ℕ → List ℕ → Type 0 where
-  no_more : slice_index text next ≢ ascii.quote → Ahead text end next end []
-  more : (to : ℕ) (bytes : List ℕ) → Joined text next to bytes → Ahead text end next to bytes

@@ -4,6 +4,7 @@ use Rattle.resb_grammar.specs.GroupTypes.{integer_kind, vector_kind}
 use Rattle.resb_icu_text.specs.declared.types.Kind as code
 use Rattle.resb_icu_text.specs.declared.types.Kind.TheVariants as names
 
+-- the type that the code's name stands for
 abbrev pub kind_of : code.Kind → Kind
 kind_of names.String = string_kind
 kind_of names.Array = array_kind

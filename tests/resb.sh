@@ -67,6 +67,33 @@ told 0 '' '' compile - -o stream.res
 same names.res stream.res
 input=
 
+# a file that fails doesn't stop the others; what else the line of a file says
+printf x > broken.res
+told 1 'names.res: 8 resources, format 2.0, fallback, largest table 5' \
+  'broken.res: Invalid resource bundle data: input is too short to contain file header' \
+  check names.res broken.res
+printf 'b:table(nofallback){a{"x"}}' > off.txt
+told 0 '' '' compile off.txt
+told 0 'off.res: 2 resources, format 2.0, no fallback, largest table 1' '' check off.res
+# the attributes are the sixth field of the index: bit 1 says that the file is a pool bundle
+cp names.res pool.res
+printf '\002' | dd of=pool.res bs=1 seek=56 conv=notrunc 2> /dev/null
+told 0 'pool.res: 8 resources, format 2.0, fallback, largest table 5, pool bundle' '' check pool.res
+
+# streams in the place of files
+input=names.res
+told 0 '-: 8 resources, format 2.0, fallback, largest table 5' '' check -
+told 0 "${printed/names/bundle}" '' dump -
+told 0 'hello' '' get - hi
+input=
+(exec -a resb "$program" compile -) < names.txt > stdout.res
+same names.res stdout.res
+told 2 '' "error: the argument '--output <OUT>' cannot be used with '--directory <DIR>'
+
+Usage: resb compile --output <OUT> <FILE>...
+
+For more information, try '--help'." compile names.txt -o a.res -d .
+
 # where a text is refused: line and column in characters, the line, and a mark
 printf 'b{\n\ta{"x"} \303\251{"y"}}' > bad.txt
 told 1 '' $'bad.txt:2:9: expected \'}\'\n a{"x"} \303\251{"y"}}\n        ^' compile bad.txt

@@ -1,5 +1,8 @@
 -- Each text of ICU's form is one bundle.
 pub mod Lexical
 pub mod Groups
-pub mod Rest
+pub mod RestLists
+pub mod RestGroups
+pub mod RestUntyped
+pub mod RestRoot
 mod Examples

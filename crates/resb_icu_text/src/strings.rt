@@ -38,7 +38,8 @@ pub struct Lexeme<'a> {
 
 /// The string that begins at a place of a text: a word, or all quoted pieces that stand in a row
 /// with nothing but blanks between them. `None` where none does; refused is want of memory alone.
-/// A string that stands in the text as it is isn't copied.
+/// One that may be a key is a slice of the text, by contract. Others that stand in the text as they
+/// are are slices too, which no clause says.
 pub fn string<'a>(alloc: Global, text: &'a str, from: usize) -> Result<Option<Lexeme<'a>>, NoMemory>
     requires within { from ≤ length text.now }
     ensures found { IfOk result (λ o. IfSome o (IsLexeme text.now from)) }

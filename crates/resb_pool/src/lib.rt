@@ -1,5 +1,6 @@
 //! Plans the strings of a bundle: which get a record in the 16-bit block, and where each text lies.
-//! Nothing here knows of trees, keys or files.
+//! No plan knows of trees, keys or files. The errors of writing stand here too, since a plan is
+//! refused by them.
 #![tactic(auto)]
 
 mod error;

@@ -29,10 +29,10 @@ borrows = fold-Resource Bool borrow_step
 abbrev pub Borrows : Resource → Type 0
 Borrows r = borrows r ≡ true
 
--- each of the resources borrows its texts and binaries
+-- each binary of each of the resources is borrowed
 abbrev pub all_borrow : List Resource → Bool
 all_borrow rs = list_all (λ b. b) (map borrows rs)
 
--- the resource of each entry borrows its texts and binaries
+-- each binary of the resource of each entry is borrowed
 abbrev pub entries_borrow : List (List ℕ × Resource) → Bool
 entries_borrow es = list_all (λ (e : List ℕ × Bool). e.1) (map (λ e. (e.0, borrows e.1)) es)

@@ -228,6 +228,27 @@ told 1 '' "later.txt:1:214: expected a number
 $(printf 'x%.0s' $(seq 52))\"}a:int{$(printf 'x%.0s' $(seq 60))
 $(printf ' %.0s' $(seq 60))^" compile later.txt
 
+# a text of ICU's own form, and the same in the other form; a text that isn't in ICU's form
+printf '\357\273\277en {\n a { "x\\u00e9" // one\n "y" }\n e {} p { 100%% }\n}\n' > icu.txt
+printf 'en{a{"x\303\251y"}e:array{}p{"100%%"}}' > plain.txt
+told 0 '' '' compile --icu icu.txt
+told 0 '' '' compile plain.txt
+same icu.res plain.res
+told 1 '' $'icu.txt:1:1: expected a string\n\357\273\277en {\n^' compile icu.txt
+printf 'b{a{x}\n a{y}}' > twice.txt
+told 1 '' $'twice.txt:2:6: expected each key once in the table that ends here\n a{y}}\n     ^' \
+  compile --icu twice.txt
+printf 'b{a{"\\q"}}' > escape.txt
+told 1 '' $'escape.txt:1:5: expected a quoted string that is closed, with known escapes\nb{a{"\\q"}}\n    ^' \
+  compile --icu escape.txt
+printf 'b{a{"x"}' > half.txt
+told 1 '' $'half.txt:1:9: expected a key or \'}\'\nb{a{"x"}\n        ^' compile --icu half.txt
+told 2 '' $'error: the argument \'--icu\' cannot be used with \'--limit <BYTES>\'
+
+Usage: resb compile --icu <FILE>...
+
+For more information, try \'--help\'.' compile --icu icu.txt --limit 1
+
 # several texts, one of them refused, into a folder that holds none of their files yet
 mkdir fresh
 told 1 '' $'open.txt:1:2: expected \'}\' before the text ends inside this\nb{\n ^' \

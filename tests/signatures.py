@@ -31,8 +31,9 @@ def sources():
     yield "resb", CRATES / "resb" / "src" / "laws.rt"
 
 
-LIBRARIES = ["resb_tree", "resb_grammar", "resb_text", "resb_format", "resb_head", "resb_pool",
-             "resb_print", "resb_walk", "resb_read", "resb_fields", "resb_write"]
+LIBRARIES = ["resb_tree", "resb_grammar", "resb_text", "resb_icu_text", "resb_format",
+             "resb_head", "resb_pool", "resb_print", "resb_walk", "resb_read", "resb_fields",
+             "resb_write"]
 
 
 def exports(path, crate="resb"):
@@ -195,7 +196,9 @@ def page():
     library = Library()
     text = HEAD
     top = CRATES / "resb" / "src"
-    modules = [("`resb`", top / "compiling.rt"), ("`resb::headline`", top / "headline.rt"),
+    modules = [("`resb`", top / "compiling.rt"),
+               ("`resb`, ICU's own texts", top / "compiling_icu.rt"),
+               ("`resb::headline`", top / "headline.rt"),
                ("`resb::bundle`", top / "bundle.rt"), ("`resb::text`", top / "text.rt"),
                ("`resb::binary`", top / "binary.rt")]
     modules += [(f"`resb::binary::{path.stem}`", path)

@@ -4,14 +4,13 @@ use Rattle.std.proofs.Common.{◌⊎◌, ℕ, List, Result, Ok, Err, inl, inr}
 use Rattle.std.specs.Result.{IfErr}
 use Rattle.resb_tree.specs.declared.resource.Resource.{Resource}
 use Rattle.resb_format.specs.Error.{IsWantOfMemory}
-use Rattle.resb_format.specs.File.{budget}
+use Rattle.resb_head.specs.File.{budget, parts_of}
 use Rattle.resb_format.specs.declared.error.ReadingError.{ReadingError}
 use Rattle.resb_read.specs.Reading.{LacksOrMemory}
 use Rattle.resb_read.specs.Resources.{CountsTree}
 use Rattle.resb_read.specs.Roots.{HoldsAtRoot}
 use Rattle.resb.specs.Headline.{DenotesNone}
 use Rattle.resb_tree.specs.Tree.{tree_count}
-use Rattle.resb_format.specs.Parts.{parts_of}
 use Rattle.resb_format.proofs.Denoting.{unique}
 use Rattle.resb_grammar.proofs.GrammarLaws.{one_bundle}
 use Rattle.resb.specs.Laws.{WrittenIsRead, CompiledIsRead, BundleTextIsRead}

@@ -12,9 +12,9 @@ use Rattle.resb_text.specs.declared.error.TextParserError.{TextParserError}
 use Rattle.resb_grammar.specs.Limit.{MadeWithin, MakesMore}
 use Rattle.resb_layout.specs.Written.{Written}
 use Rattle.resb_layout.specs.Faults.{RefusesWriting}
-use Rattle.resb_pool.specs.Fault as fault
-use Rattle.resb_pool.specs.FaultOf.{fault_of}
-use Rattle.resb_pool.specs.declared.error.BinarySerializerError.{BinarySerializerError}
+use Rattle.resb_layout.specs.Fault as fault
+use Rattle.resb_write.specs.FaultOf.{fault_of}
+use Rattle.resb_write.specs.declared.error.BinarySerializerError.{BinarySerializerError}
 use Rattle.resb.specs.declared.compiling.CompileError.{CompileError}
 use Rattle.resb.specs.declared.compiling.CompileError.TheVariants.{Reading, Writing}
 use Rattle.resb.specs.declared.compiling.CompileWithinError.{CompileWithinError}

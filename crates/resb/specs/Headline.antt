@@ -3,7 +3,7 @@
 --     DenotesNone bytes       it denotes no tree that its budget pays for
 use Rattle.std.specs.Prelude.{◌≡◌, ◌≤◌, ℕ, List}
 use Rattle.resb_tree.specs.Tree.{Tree}
-use Rattle.resb_format.specs.File.{Denotes, budget}
+use Rattle.resb_head.specs.File.{Denotes, budget}
 
 -- the file denotes the tree, with no more resources than the file's budget
 abbrev pub DenotesWithin : List ℕ → Tree → Type 0

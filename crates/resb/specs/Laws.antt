@@ -17,7 +17,7 @@ use Rattle.resb_text.specs.Answer.{IsNoBundle}
 use Rattle.resb_text.specs.Refusal.{want_of_memory}
 use Rattle.resb_text.specs.declared.error.TextParserError.{TextParserError}
 use Rattle.resb_format.specs.Error.{IsWantOfMemory}
-use Rattle.resb_format.specs.File.{budget}
+use Rattle.resb_head.specs.File.{budget}
 use Rattle.resb_format.specs.declared.error.ReadingError.{ReadingError}
 use Rattle.resb_read.specs.Reading.{LacksOrMemory}
 use Rattle.resb_read.specs.Resources.{ReadsTree, CountsTree}

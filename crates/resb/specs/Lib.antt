@@ -4,6 +4,7 @@ pub use Rattle.resb_tree.specs.Tree
 pub use Rattle.resb_tree.specs.View
 pub use Rattle.resb_tree.specs.Equality
 pub use Rattle.resb_tree.specs.Bundle
+pub use Rattle.resb_tree.specs.Borrowing
 pub use Rattle.resb_tree.specs.Maps
 pub use Rattle.resb_tree.specs.Keys
 pub use Rattle.resb_tree.specs.Int28
@@ -21,6 +22,17 @@ pub use Rattle.resb_grammar.specs.Stuck
 pub use Rattle.resb_grammar.specs.Limit
 pub use Rattle.resb_grammar.specs.Expected
 pub use Rattle.resb_grammar.specs.Laws as GrammarLaws
+pub use Rattle.resb_icu_grammar.specs.Bytes as IcuBytes
+pub use Rattle.resb_icu_grammar.specs.Blanks as IcuBlanks
+pub use Rattle.resb_icu_grammar.specs.Escapes as IcuEscapes
+pub use Rattle.resb_icu_grammar.specs.Pieces as IcuPieces
+pub use Rattle.resb_icu_grammar.specs.Words as IcuWords
+pub use Rattle.resb_icu_grammar.specs.Groups as IcuGroups
+pub use Rattle.resb_icu_grammar.specs.Bundle as IcuBundle
+pub use Rattle.resb_icu_grammar.specs.Laws as IcuGrammarLaws
+pub use Rattle.resb_icu_text.specs.Answer as IcuAnswer
+pub use Rattle.resb_icu_text.specs.Expected as IcuExpected
+pub use Rattle.resb_icu_text.specs.Refusal as IcuRefusal
 pub use Rattle.resb_text.specs.Answer
 pub use Rattle.resb_text.specs.Borrowed
 pub use Rattle.resb_text.specs.Refusal
@@ -44,19 +56,17 @@ pub use Rattle.resb_format.specs.Error
 pub use Rattle.resb_format.specs.Parts
 pub use Rattle.resb_format.specs.Content
 pub use Rattle.resb_format.specs.Denotes
-pub use Rattle.resb_format.specs.File
+pub use Rattle.resb_head.specs.File
 pub use Rattle.resb_format.specs.Laws as FormatLaws
 pub use Rattle.resb_head.specs.Codes
 pub use Rattle.resb_head.specs.CodeReading
 pub use Rattle.resb_head.specs.Head
 pub use Rattle.resb_head.specs.HeadChecks
 pub use Rattle.resb_head.specs.HeadReading
-pub use Rattle.resb_head.specs.PartsReading
 pub use Rattle.resb_head.specs.Laws as HeadLaws
 pub use Rattle.resb_shared.specs.Links
 pub use Rattle.resb_shared.specs.Wide
 pub use Rattle.resb_shared.specs.Laws as SharedLaws
-pub use Rattle.resb_walk.specs.Files
 pub use Rattle.resb_walk.specs.BlockRefusals
 pub use Rattle.resb_walk.specs.Meets
 pub use Rattle.resb_walk.specs.Refusals
@@ -86,18 +96,20 @@ pub use Rattle.resb_fields.specs.FieldLaws
 pub use Rattle.resb_pool.specs.Records
 pub use Rattle.resb_pool.specs.Pool
 pub use Rattle.resb_pool.specs.Plan
-pub use Rattle.resb_pool.specs.Fault
-pub use Rattle.resb_pool.specs.FaultOf
+pub use Rattle.resb_pool.specs.Refusal as PoolRefusal
 pub use Rattle.resb_pool.specs.Laws as PoolLaws
 pub use Rattle.resb_layout.specs.Laid
 pub use Rattle.resb_layout.specs.InOrder
 pub use Rattle.resb_layout.specs.Laws as LayoutLaws
 pub use Rattle.resb_layout.specs.KeyBlock
 pub use Rattle.resb_layout.specs.PlainSize
+pub use Rattle.resb_layout.specs.Fault
 pub use Rattle.resb_layout.specs.Faults
 pub use Rattle.resb_layout.specs.WrittenHead
 pub use Rattle.resb_layout.specs.Written
+pub use Rattle.resb_write.specs.FaultOf
 pub use Rattle.resb_write.specs.Laws as WriteLaws
 pub mod Compiling
+pub mod CompilingIcu
 pub mod Headline
 pub mod Laws

@@ -6,13 +6,13 @@ pub mod bytes;
 pub mod helpers;
 
 pub use resb_format::{
-    BinaryDeserializerError, ErrorKind, MAX_UNMARKED, ReadingError, ResDescriptor,
+    BinaryDeserializerError, ErrorKind, File, MAX_UNMARKED, ReadingError, ResDescriptor,
     ResourceReprType, is_unmarked, marker_units, string_at,
 };
 pub use resb_head::{
     BinHeader, BinIndex, BinReprInfo, CharsetFamily, Endianness, FileParts, FormatVersion,
 };
-pub use resb_pool::{Plan, pool};
+pub use resb_pool::{Plan, PlanError, pool};
 pub use resb_read::{
     Cursor, Deserialize, IntVectorDeserializer, KeyDeserializer, MapAccess, Measured,
     Resource16BitDeserializer, SeqAccess, SortedTable, Spot, Sums, TableView, Walk,

@@ -35,6 +35,11 @@ pub use resb_text::laws::bundles_are_made;
 // Where the whole reading of a text makes no more than a limit, no part of it makes more.
 pub use resb_text::laws::within_is_never_more;
 
+// A text in ICU's own form has at most one name, fallback flag, tree and list of keys.
+pub use resb_icu_grammar::laws::one_icu_text;
+// Its discovered keys hold each key of its tree.
+pub use resb_icu_grammar::laws::icu_keys_are_listed;
+
 // A tree in whose way nothing stands is printed as a bundle text.
 pub use resb_print::laws::printed_is_a_bundle;
 // Nothing stands in the way of a bundle text's tree.

@@ -8,25 +8,40 @@ use Rattle.resb_grammar.specs.declared.expected.Expected.{Expected}
 use Rattle.resb_grammar.specs.declared.expected.Expected.TheVariants.{Memory}
 use Rattle.resb_grammar.specs.Limit.{MadeWithin, MakesMore}
 use Rattle.resb_text.specs.declared.error.TextParserError.{TextParserError}
+use Rattle.resb_icu_text.specs.declared.expected.IcuExpected.{IcuExpected}
+use Rattle.resb_icu_text.specs.declared.expected.IcuExpected.TheVariants as icu_expect
+use Rattle.resb_icu_text.specs.declared.error.IcuTextError.{IcuTextError}
 use Rattle.resb.specs.Compiling.{IsRefused}
+use Rattle.resb.specs.CompilingIcu.{IsIcuRefused}
+use Rattle.resb.specs.declared.compiling_icu.IcuCompileError.TheVariants as icu
 use Rattle.resb.specs.declared.compiling.CompileError.TheVariants.{Reading, Writing}
 use Rattle.resb_bundler.specs.declared.compiling.Blame.{Blame}
 use Rattle.resb_bundler.specs.declared.compiling.Blame.TheVariants.{At, Open, Nowhere}
 use Rattle.resb_bundler.specs.declared.error.SourceError.{SourceError}
-use Rattle.resb_bundler.specs.declared.error.SourceError.TheVariants.{NotUtf8, Refused, Larger}
+use Rattle.resb_bundler.specs.declared.error.SourceError.TheVariants.{NotUtf8, Refused}
+use Rattle.resb_bundler.specs.declared.error.SourceError.TheVariants.{IcuRefused, Larger}
 
 -- these bytes have no file, for this reason: they are no UTF-8, and the place is the first that
 -- isn't; or they are, and the text is refused
 abbrev pub IsNoSource : List ℕ → SourceError → Type 0
 IsNoSource source (NotUtf8 place) = (IsUtf8 source → ⊥) × IsValidUpTo source place
 IsNoSource source (Refused e) = IsUtf8 source × IsRefused source e
+IsNoSource source (IcuRefused e) = ⊥
 IsNoSource source (Larger limit) = ⊥
+
+-- the same of bytes that have to be a text of ICU's form
+abbrev pub IsNoIcuSource : List ℕ → SourceError → Type 0
+IsNoIcuSource source (NotUtf8 place) = (IsUtf8 source → ⊥) × IsValidUpTo source place
+IsNoIcuSource source (Refused e) = ⊥
+IsNoIcuSource source (IcuRefused e) = IsUtf8 source × IsIcuRefused source e
+IsNoIcuSource source (Larger limit) = ⊥
 
 -- the same, where reading the text may make no more bytes than a limit: more are made at some token
 -- of a reading, and the whole reading is not within it
 abbrev pub IsNoSourceWithin : List ℕ → ℕ → SourceError → Type 0
 IsNoSourceWithin source limit (NotUtf8 place) = IsNoSource source (NotUtf8 place)
 IsNoSourceWithin source limit (Refused e) = IsNoSource source (Refused e)
+IsNoSourceWithin source limit (IcuRefused e) = ⊥
 IsNoSourceWithin source limit (Larger n) =
     (n ≡ limit) × IsUtf8 source × MakesMore source limit × (MadeWithin source limit → ⊥)
 
@@ -48,9 +63,20 @@ stuck_at source e =
     else (if nat_lt e.position (length source) then At e.position
     else at_end e.position (innermost_open source))
 
+-- memory was wanted, and nothing of a text of ICU's form
+abbrev pub is_icu_memory : IcuExpected → Bool
+is_icu_memory icu_expect.Memory = true
+is_icu_memory _ = false
+
+-- where a reading of ICU's form got stuck; memory is to blame for nothing in the text
+abbrev pub icu_stuck_at : IcuTextError → Blame
+icu_stuck_at e = if is_icu_memory e.expected then Nowhere else At e.position
+
 -- where to look for the cause of a refusal
 abbrev pub blame_of : List ℕ → SourceError → Blame
 blame_of source (NotUtf8 place) = At place
 blame_of source (Refused (Writing e)) = Nowhere
+blame_of source (IcuRefused (icu.Writing e)) = Nowhere
+blame_of source (IcuRefused (icu.Reading e)) = icu_stuck_at e
 blame_of source (Larger limit) = Nowhere
 blame_of source (Refused (Reading e)) = stuck_at source e

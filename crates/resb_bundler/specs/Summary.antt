@@ -1,11 +1,11 @@
 -- What a file's head says of the file, for people. (ICU's `uresdata.h`.)
 use Rattle.std.specs.Prelude.{◌≡◌, ◌⊎◌, ◌<◌, ℕ, ◌/◌, ◌%◌, Bool, not, nat_eq, List, drop, unwrap_or}
-use Rattle.std.specs.Prelude.{length, codes, Some, false}
+use Rattle.std.specs.Prelude.{length, Some, false}
 use Rattle.resb_head.specs.Head.{HeaderAt, IndexAt}
 use Rattle.resb_head.specs.HeadChecks.{header_fault, index_fault}
-use Rattle.resb_format.specs.Error.{refusal_of, IsInvalid}
+use Rattle.resb_format.specs.Error.{refusal_of, IsEndOfInput}
 use Rattle.resb_format.specs.declared.error.ReadingError.{ReadingError}
-use Rattle.resb_format.specs.Parts.{body_of}
+use Rattle.resb_head.specs.File.{body_of}
 use Rattle.resb_head.specs.declared.head.BinHeader.{BinHeader}
 use Rattle.resb_head.specs.declared.index.BinIndex.{BinIndex}
 use Rattle.resb_bundler.specs.declared.summary.Summary.{Summary}
@@ -36,5 +36,5 @@ pub record Summarizes (bytes : List ℕ) (s : Summary) : Type 0 where
 abbrev pub HasNoSummary : List ℕ → ReadingError → Type 0
 HasNoSummary bytes e =
     (header_fault false bytes ≡ Some (refusal_of e))
-    ⊎ (length (body_of bytes) < 4 × IsInvalid e (codes "unexpected end of input"))
+    ⊎ (length (body_of bytes) < 4 × IsEndOfInput e)
     ⊎ (index_fault (drop 4 (body_of bytes)) ≡ Some (refusal_of e))

@@ -2,11 +2,12 @@
 ghost use Rattle.std.specs.Prelude.{◌≡◌, IsUtf8, IfOk, IfErr};
 ghost use Rattle.resb_grammar.specs.Limit.{MadeWithin};
 ghost use Rattle.resb.specs.Compiling.{IsCompiled};
-ghost use Rattle.resb_bundler.specs.Sources.{IsNoSource, IsNoSourceWithin, blame_of};
+ghost use Rattle.resb.specs.CompilingIcu.{IsIcuCompiled};
+ghost use Rattle.resb_bundler.specs.Sources.{IsNoSource, IsNoIcuSource, IsNoSourceWithin, blame_of};
 
 use crate::error::SourceError;
-use resb::text::Expected;
-use resb::{CompileError, CompileWithinError};
+use resb::text::{Expected, IcuExpected};
+use resb::{CompileError, CompileWithinError, IcuCompileError};
 use resb_report::innermost_open;
 use std::alloc::Global;
 
@@ -44,6 +45,21 @@ pub fn compile_source_within(
     }
 }
 
+/// The bytes of the `.res` file of a bundle's text in ICU's own form, which is given as bytes.
+/// (`resb::compile_icu`.)
+pub fn compile_icu_source(alloc: Global, source: &[u8]) -> Result<Vec<u8>, SourceError>
+    ensures ok { IfOk result (λ file. IsUtf8 source.now × IsIcuCompiled source.now file.items) }
+    ensures err { IfErr result (IsNoIcuSource source.now) }
+{
+    match str::from_utf8(source) {
+        Ok(text) => match resb::compile_icu(alloc, text) {
+            Ok(file) => Ok(file),
+            Err(e) => Err(SourceError::IcuRefused(e)),
+        },
+        Err(e) => Err(SourceError::NotUtf8(e.valid_up_to())),
+    }
+}
+
 /// Where a person is to look for the cause of a refusal, in bytes from the text's start.
 #[derive(Clone, Copy, Debug, PartialEq, Eq)]
 pub enum Blame {
@@ -56,14 +72,23 @@ pub enum Blame {
 }
 
 /// Where to look in a text that was refused: where it is no UTF-8, where the reading got stuck, or,
-/// if that is the text's end, at the innermost `{` that is open there.
+/// if that is the text's end, at the innermost `{` that is open there. In a text of ICU's form it
+/// is the end itself.
 pub fn where_to_look(source: &[u8], error: &SourceError) -> Blame
     ensures { result ≡ blame_of source.now error.now }
 {
     match error {
         SourceError::NotUtf8(place) => Blame::At(*place),
         SourceError::Refused(CompileError::Writing(_)) => Blame::Nowhere,
+        SourceError::IcuRefused(IcuCompileError::Writing(_)) => Blame::Nowhere,
         SourceError::Larger(_) => Blame::Nowhere,
+        SourceError::IcuRefused(IcuCompileError::Reading(e)) => {
+            if e.expected() == IcuExpected::Memory {
+                Blame::Nowhere
+            } else {
+                Blame::At(e.position())
+            }
+        }
         SourceError::Refused(CompileError::Reading(e)) => {
             if e.expected() == Expected::Memory {
                 return Blame::Nowhere;

@@ -1,7 +1,7 @@
 //! Why a text has no file, and why a file isn't read.
 //! Where a text is to blame, and what a person is told of it, is in `compiling`.
-use resb::CompileError;
 use resb::binary::BinaryDeserializerError;
+use resb::{CompileError, IcuCompileError};
 use std::error::Error;
 use std::fmt;
 
@@ -12,6 +12,8 @@ pub enum SourceError {
     NotUtf8(usize),
     /// The text is refused, or its tree, or memory was wanted.
     Refused(CompileError),
+    /// The text of ICU's form is refused, or its tree, or memory was wanted.
+    IcuRefused(IcuCompileError),
     /// Reading the text makes more bytes than this limit.
     Larger(u64),
 }
@@ -25,6 +27,11 @@ impl fmt::Display for SourceError {
                 write!(f, "expected {expected}")
             }
             SourceError::Refused(CompileError::Writing(e)) => write!(f, "{e}"),
+            SourceError::IcuRefused(IcuCompileError::Reading(e)) => {
+                let expected = e.expected();
+                write!(f, "expected {expected}")
+            }
+            SourceError::IcuRefused(IcuCompileError::Writing(e)) => write!(f, "{e}"),
             SourceError::Larger(limit) => write!(
                 f,
                 "reading this text takes more than the limit of {limit} bytes"

@@ -9,7 +9,9 @@ mod json;
 mod path;
 mod summary;
 
-pub use compiling::{Blame, compile_source, compile_source_within, where_to_look};
+pub use compiling::{
+    Blame, compile_icu_source, compile_source, compile_source_within, where_to_look,
+};
 pub use error::{FileError, SourceError};
 pub use files::{count_file, read_file, read_file_within};
 pub use json::{JsonError, json_text};

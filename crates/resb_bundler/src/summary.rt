@@ -39,7 +39,7 @@ pub fn summary_of(file: &[u8]) -> Result<Summary, BinaryDeserializerError>
     let header = BinHeader::try_from(file)?;
     let (_, body) = file.split_at(file.len().min(usize::from(header.size)));
     if body.len() < 4 {
-        return Err(BinaryDeserializerError::invalid_data("unexpected end of input"));
+        return Err(BinaryDeserializerError::end_of_input());
     }
     let (_root, rest) = body.split_at(4);
     let index = BinIndex::try_from(rest)?;

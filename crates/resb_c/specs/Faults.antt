@@ -9,8 +9,8 @@ use Rattle.resb_format.specs.Error.{kind_of, description_of}
 use Rattle.resb_format.specs.Error as reading
 use Rattle.resb_format.specs.declared.error.ErrorKind.{ErrorKind}
 use Rattle.resb_format.specs.declared.error.ErrorKind.TheVariants as kind
-use Rattle.resb_pool.specs.Fault as fault
-use Rattle.resb_pool.specs.FaultOf.{fault_of}
+use Rattle.resb_layout.specs.Fault as fault
+use Rattle.resb_write.specs.FaultOf.{fault_of}
 use Rattle.resb_print.specs.declared.error.PrintError.{PrintError}
 use Rattle.resb_print.specs.declared.error.PrintError.TheVariants as print
 use Rattle.resb.specs.declared.compiling.CompileError.{CompileError}

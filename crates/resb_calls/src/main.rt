@@ -21,6 +21,7 @@ fn all_calls(alloc: Global) -> Outcome {
         outcome_of(texts::reads_within(alloc)),
         outcome_of(texts::writes(alloc)),
         outcome_of(texts::compiles(alloc)),
+        outcome_of(texts::compiles_icu(alloc)),
         outcome_of(texts::compiles_others(alloc)),
         outcome_of(texts::refuses(alloc)),
         outcome_of(texts::plans(alloc)),

@@ -1,10 +1,10 @@
 //! What comes of a call: whether its answer is right, or memory was wanted.
 //! The calls themselves are in `texts` and `files`.
 
-use resb::CompileError;
-use resb::binary::{BinarySerializerError, ReadingError};
+use resb::binary::{BinarySerializerError, PlanError, ReadingError};
 use resb::bundle::NoMemory;
-use resb::text::{Expected, LimitError, TextParserError};
+use resb::text::{Expected, IcuExpected, IcuTextError, LimitError, TextParserError};
+use resb::{CompileError, IcuCompileError};
 use std::alloc::AllocError;
 
 /// What comes of a call, the worst last.
@@ -53,6 +53,23 @@ impl From<TextParserError> for Refused {
     }
 }
 
+impl From<IcuTextError> for Refused {
+    fn from(e: IcuTextError) -> Refused {
+        Refused {
+            is_memory: e.expected() == IcuExpected::Memory,
+        }
+    }
+}
+
+impl From<IcuCompileError> for Refused {
+    fn from(e: IcuCompileError) -> Refused {
+        match e {
+            IcuCompileError::Reading(e) => Refused::from(e),
+            IcuCompileError::Writing(e) => Refused::from(e),
+        }
+    }
+}
+
 impl From<LimitError> for Refused {
     fn from(e: LimitError) -> Refused {
         match e {
@@ -66,6 +83,14 @@ impl From<BinarySerializerError> for Refused {
     fn from(e: BinarySerializerError) -> Refused {
         Refused {
             is_memory: e.is_out_of_memory(),
+        }
+    }
+}
+
+impl From<PlanError> for Refused {
+    fn from(e: PlanError) -> Refused {
+        Refused {
+            is_memory: e == PlanError::OutOfMemory,
         }
     }
 }

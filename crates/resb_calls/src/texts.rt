@@ -5,8 +5,8 @@ use crate::example::{FILE, OTHERS, TEXT};
 use crate::outcome::{Outcome, Refused};
 use resb::binary::{Serializer, pool, tree_from_bytes};
 use resb::bundle::Key;
-use resb::text::{Expected, Reader, Turns};
-use resb::{CompileError, compile};
+use resb::text::{Expected, IcuReader, Reader, Turns};
+use resb::{CompileError, compile, compile_icu};
 use std::alloc::Global;
 
 pub(crate) fn reads(alloc: Global) -> Result<bool, Refused> {
@@ -34,6 +34,15 @@ pub(crate) fn writes(alloc: Global) -> Result<bool, Refused> {
 pub(crate) fn compiles(alloc: Global) -> Result<bool, Refused> {
     let file = compile(alloc, TEXT)?;
     Ok(file.as_slice() == FILE.as_slice())
+}
+
+/// A text of ICU's form has the file of the text of the other form that says the same.
+pub(crate) fn compiles_icu(alloc: Global) -> Result<bool, Refused> {
+    let text = "\u{feff}b { a { \"x\\n\" \"y\" } e {} l { {\"z\"} } }";
+    let (bundle, keys) = IcuReader::read(alloc, text)?;
+    let file = compile_icu(alloc, text)?;
+    let other = compile(alloc, "b{a{\"x\ny\"}e:array{}l:array{{\"z\"}}}")?;
+    Ok(bundle.name() == "b" && keys.len() == 3 && file.as_slice() == other.as_slice())
 }
 
 /// Whether the text has a file that ends with this, and that is read back as the text's tree.

@@ -5,7 +5,7 @@ use crate::say::{complain, refuse, warn};
 use crate::streams::{is_same_file, read_input, write_output};
 use crate::words::limit_of;
 use clap::ArgMatches;
-use resb_bundler::{SourceError, compile_source, compile_source_within};
+use resb_bundler::{SourceError, compile_icu_source, compile_source, compile_source_within};
 use std::collections::BTreeSet;
 use std::path::Path;
 
@@ -16,6 +16,8 @@ struct Wanted<'w> {
     output: Option<&'w str>,
     /// The folder for the files.
     folder: Option<&'w str>,
+    /// Whether the texts are in ICU's own form.
+    icu: bool,
     /// The most bytes that reading a text may make.
     limit: Option<u64>,
 }
@@ -30,6 +32,7 @@ pub(crate) fn compile(rt: &HostRuntime, matches: &ArgMatches<'_>) -> u8 {
     let wanted = Wanted {
         output: matches.get_str("OUT"),
         folder: matches.get_str("DIR"),
+        icu: matches.get_flag("ICU"),
         limit,
     };
     let texts = matches.get_strs("FILE").unwrap_or(&[]);
@@ -77,13 +80,15 @@ fn compile_one(
             return 2;
         }
     };
-    match file_of(rt, source.as_slice(), wanted.limit) {
+    match file_of(rt, source.as_slice(), wanted) {
         Err(e) => {
             refuse(rt, name, source.as_slice(), &e);
             1
         }
         Ok(file) => {
-            if let Ok(text) = str::from_utf8(source.as_slice()) {
+            if !wanted.icu
+                && let Ok(text) = str::from_utf8(source.as_slice())
+            {
                 warn(rt, name, text);
             }
             write_one(rt, output.as_str(), file.as_slice())
@@ -92,8 +97,11 @@ fn compile_one(
 }
 
 /// The bytes of a text's file, where reading the text keeps within the limit, if there is one.
-fn file_of(rt: &HostRuntime, source: &[u8], limit: Option<u64>) -> Result<Vec<u8>, SourceError> {
-    match limit {
+fn file_of(rt: &HostRuntime, source: &[u8], wanted: &Wanted<'_>) -> Result<Vec<u8>, SourceError> {
+    if wanted.icu {
+        return compile_icu_source(rt.alloc(), source);
+    }
+    match wanted.limit {
         Some(limit) => compile_source_within(rt.alloc(), source, limit),
         None => compile_source(rt.alloc(), source),
     }

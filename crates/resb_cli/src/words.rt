@@ -35,6 +35,11 @@ fn compile<'a>(alloc: Global) -> Result<Command<'a>, Error> {
         .long("directory")
         .help("The folder for the files, in place of that of each text")
         .conflicts_with("OUT")?;
+    let icu = Arg::new(alloc, "ICU")
+        .long("icu")
+        .help("The texts are in ICU's own form, which genrb reads")
+        .action(ArgAction::SetTrue)
+        .conflicts_with("BYTES")?;
     Ok(
         Command::new(alloc, "compile")
             .about("Compiles texts of bundles into .res files")
@@ -42,6 +47,7 @@ fn compile<'a>(alloc: Global) -> Result<Command<'a>, Error> {
             .arg(texts)?
             .arg(output)?
             .arg(folder)?
+            .arg(icu)?
             .arg(limit(alloc).help(
                 "Refuses a text whose reading takes more bytes of memory than this",
             ))?,

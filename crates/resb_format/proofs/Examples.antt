@@ -1,5 +1,5 @@
 -- The definitions at worked examples: what they accept, and what they refuse.
-use Rattle.std.proofs.Common.{◌≡◌, ℕ, zero, suc, ◌+◌, ◌<◌, ◌≤◌, List, [], ◌∷◌, ◌++◌, Some, None}
+use Rattle.std.proofs.Common.{◌≡◌, ℕ, zero, suc, ◌+◌, ◌<◌, List, [], ◌∷◌, ◌++◌, Some, None}
 use Rattle.std.proofs.Common.{true, refl, ◌∙◌, ap, subst, arith}
 use Rattle.std.specs.Str.{is_utf8, IsAscii}
 use Rattle.std.proofs.lemmas.Str.{is_utf8-from_IsUtf8, IsUtf8-from_ascii}
@@ -9,11 +9,10 @@ use Rattle.resb_tree.specs.Tree.{no_entries, entry}
 use Rattle.resb_format.specs.Bytes.{units_of, words_of}
 use Rattle.resb_format.specs.Units.{length_marker}
 use Rattle.resb_format.specs.Strings.{string_at, text_at, key_at}
-use Rattle.resb_format.specs.Parts.{Parts, IsBundleFile, parts_of}
+use Rattle.resb_format.specs.Parts.{Parts}
 use Rattle.resb_format.specs.Content.{Member, word, unit, leaf, list, pairs, content}
 use Rattle.resb_format.specs.Denotes.{Den, den_leaf, den_list, den_pairs, den_word, den_unit}
 use Rattle.resb_format.specs.Denotes.{DenEach, each_none, each_more, pairs_none, pairs_more}
-use Rattle.resb_format.specs.File.{Denotes, budget}
 use Rattle.resb_format.proofs.Denoting.{unique}
 
 -- Strings at a unit: markers of one, two and three units, also on short strings, and every string's
@@ -104,7 +103,8 @@ one_ascii : (b : ℕ) → b < 128 → IsAscii (b ∷ [])
 one_ascii b h zero = h
 one_ascii b h (suc i) = omega arith
 
-ascii_key : (b : ℕ) → b < 128 → is_utf8 (b ∷ []) ≡ true
+-- a byte of ASCII alone is a text
+pub ascii_key : (b : ℕ) → b < 128 → is_utf8 (b ∷ []) ≡ true
 ascii_key b h = is_utf8-from_IsUtf8 (b ∷ []) (IsUtf8-from_ascii (b ∷ []) (one_ascii b h))
 
 key_found : key_at (97 ∷ 98 ∷ 0 ∷ 99 ∷ []) 1 ≡ Some (98 ∷ [])
@@ -215,81 +215,3 @@ loop_denotes_nothing t n d =
     let less : n ≡ 1 + h.0 = h.2 in
     let same : n ≡ h.0 = (unique looped d h.1.1).1 in
     absurd (omega arith)
-
--- The files of `b{}` and of `b{k{v}}`, whole.
-
-abbrev written_header : List ℕ
-written_header =
-    32 ∷ 0 ∷ 0xda ∷ 0x27 ∷ 20 ∷ 0 ∷ 0 ∷ 0 ∷ 0 ∷ 0 ∷ 2 ∷ 0 ∷ 0x52 ∷ 0x65 ∷ 0x73 ∷ 0x42
-    ∷ 2 ∷ 0 ∷ 0 ∷ 0 ∷ 1 ∷ 4 ∷ 0 ∷ 0 ∷ 0 ∷ 0 ∷ 0 ∷ 0 ∷ 0 ∷ 0 ∷ 0 ∷ 0 ∷ []
-
-empty_bundle : List ℕ
-empty_bundle = written_header ++ (
-    0 ∷ 0 ∷ 0 ∷ 0x20 ∷ 7 ∷ 0 ∷ 0 ∷ 0 ∷ 8 ∷ 0 ∷ 0 ∷ 0 ∷ 9 ∷ 0 ∷ 0 ∷ 0 ∷
-    9 ∷ 0 ∷ 0 ∷ 0 ∷ 0 ∷ 0 ∷ 0 ∷ 0 ∷ 0 ∷ 0 ∷ 0 ∷ 0 ∷ 9 ∷ 0 ∷ 0 ∷ 0
-    ∷ 0 ∷ 0 ∷ 0xaa ∷ 0xaa ∷ [])
-
-flat_bundle : List ℕ
-flat_bundle = written_header ++ (
-    3 ∷ 0 ∷ 0 ∷ 0x50 ∷ 7 ∷ 0 ∷ 0 ∷ 0 ∷ 9 ∷ 0 ∷ 0 ∷ 0 ∷ 12 ∷ 0 ∷ 0 ∷ 0 ∷
-    12 ∷ 0 ∷ 0 ∷ 0 ∷ 1 ∷ 0 ∷ 0 ∷ 0 ∷ 0 ∷ 0 ∷ 0 ∷ 0 ∷ 12 ∷ 0 ∷ 0 ∷ 0
-    ∷ 107 ∷ 0 ∷ 0xaa ∷ 0xaa ∷ 0 ∷ 0 ∷ 118 ∷ 0 ∷ 0 ∷ 0 ∷ 1 ∷ 0 ∷ 32 ∷ 0 ∷ 1 ∷ 0 ∷ [])
-
-empty_head : IsBundleFile empty_bundle
-unfolding empty_bundle units_of words_of
-empty_head = record {
-  magic = refl;
-  little_endian = refl;
-  ascii = refl;
-  two_byte_chars = refl;
-  format = refl;
-  version = refl;
-  header = omega arith;
-  header_inside = omega arith;
-  fields = omega arith;
-  index_inside = omega arith;
-  keys_inside = omega arith;
-  blocks_ordered = omega arith;
-  block_inside = omega arith;
-}
-
-empty_denotes : Denotes empty_bundle (table no_entries) 1
-unfolding empty_bundle units_of words_of parts_of content
-empty_denotes = record { head = empty_head; root = den_pairs refl pairs_none }
-
-flat_head : IsBundleFile flat_bundle
-unfolding flat_bundle units_of words_of
-flat_head = record {
-  magic = refl;
-  little_endian = refl;
-  ascii = refl;
-  two_byte_chars = refl;
-  format = refl;
-  version = refl;
-  header = omega arith;
-  header_inside = omega arith;
-  fields = omega arith;
-  index_inside = omega arith;
-  keys_inside = omega arith;
-  blocks_ordered = omega arith;
-  block_inside = omega arith;
-}
-
-flat_tree : Tree
-flat_tree = table (entry (107 ∷ []) (string (118 ∷ [])) no_entries)
-
-flat_denotes : Denotes flat_bundle flat_tree 2
-unfolding flat_bundle flat_tree units_of words_of parts_of content string_at text_at key_at
-    utf16_chars lib.Utf8.encode
-flat_denotes =
-    let key : key_at (parts_of flat_bundle).keys 32 ≡ Some (107 ∷ []) =
-    rw (ascii_key 107 (omega arith)) refl in
-    record { head = flat_head; root = den_pairs refl (pairs_more key (den_unit refl) pairs_none) }
-
-flat_budget : 2 ≤ budget flat_bundle
-unfolding flat_bundle
-flat_budget = omega arith
-
--- a file whose header names the other byte order
-foreign_order : IsBundleFile (0 ∷ 32 ∷ 0xda ∷ 0x27 ∷ 0 ∷ 20 ∷ 0 ∷ 0 ∷ 1 ∷ []) → ⊥
-foreign_order h = let e : 1 ≡ 0 = h.little_endian in absurd (omega (arith, e))

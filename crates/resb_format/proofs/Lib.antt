@@ -1,7 +1,7 @@
 -- For crates above: those that are `pub`.
 pub mod Denoting
 pub mod Mapped
-mod Examples
+pub mod Examples
 pub mod Spelled
 pub mod Inside
 pub mod StringsIn

@@ -7,6 +7,7 @@ use Rattle.std.proofs.lemmas.List.{get_or_past, drop_all}
 use Rattle.std.proofs.lemmas.Bool.Decides.{nat_tests}
 use Rattle.std.proofs.lemmas.Grind.{common_steps}
 use Rattle.resb_format.specs.Bytes.{units_of, part}
+use Rattle.resb_format.specs.Error.{end_message}
 use Rattle.resb_format.specs.Strings.{before_zero, string_from, string_at}
 use Rattle.resb_format.specs.StringFaults.{string_fault}
 use Rattle.resb_format.proofs.Inside.{units_outside}
@@ -29,14 +30,14 @@ pub no_third : (bs : List ℕ) (u first : ℕ) → 0xdffe < first → first ≤ 
 no_third bs u first g h k = grind (arith, nat_tests, units_length bs)
 
 -- a string that a 0 ends
-pub ended : (us : List ℕ) → position_or_len (λ x. nat_eq x 0) us < length us
+pub ends_at_zero : (us : List ℕ) → position_or_len (λ x. nat_eq x 0) us < length us
     → before_zero us ≡ Some (take (position_or_len (λ x. nat_eq x 0) us) us)
-ended us h = grind (arith, nat_tests)
+ends_at_zero us h = grind (arith, nat_tests)
 
 -- a string that no 0 ends
-pub not_ended : (us : List ℕ) → length us ≤ position_or_len (λ x. nat_eq x 0) us
+pub lacks_zero : (us : List ℕ) → length us ≤ position_or_len (λ x. nat_eq x 0) us
     → before_zero us ≡ None
-not_ended us h = grind (arith, nat_tests)
+lacks_zero us h = grind (arith, nat_tests)
 
 -- no more units than there are
 pub take_within : (us : List ℕ) (n : ℕ) → take (min (length us) n) us ≡ take n us
@@ -66,7 +67,7 @@ pub past_end : (bs : List ℕ) (u : ℕ) → length bs / 2 ≤ u → string_at (
 past_end bs u h = nothing_past (units_of bs) u (omega (arith, units_length bs))
 
 pub past_end_fault : (bs : List ℕ) (u : ℕ) → length bs / 2 ≤ u
-    → string_fault (units_of bs) u ≡ codes "unexpected end of input"
+    → string_fault (units_of bs) u ≡ end_message
 past_end_fault bs u h = grind (arith, nat_tests, units_length bs)
 
 -- with a marker
@@ -76,7 +77,7 @@ unfolding string_at
 at_marker us u first e = rw e refl
 
 pub marker_fault : (us : List ℕ) (u first : ℕ) → first ≡ get_or us u 0 → 0xdc00 ≤ first
-    → first ≤ 0xdfff → string_fault us u ≡ codes "unexpected end of input"
+    → first ≤ 0xdfff → string_fault us u ≡ end_message
 marker_fault us u first e g h = grind (arith, nat_tests)
 
 -- without one

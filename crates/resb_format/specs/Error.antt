@@ -1,6 +1,7 @@
 -- What a refusal of reading says.
 --     IsRefusal e kind m      the refusal e is of this kind and has the message m
 --     refusal_of e            its kind and its message
+--     end_message             what is said where a part of the file lies past its end
 use Rattle.std.specs.Prelude.{◌≡◌, ℕ, List, codes}
 use Rattle.resb_format.specs.declared.error.ErrorKind.{ErrorKind}
 use Rattle.resb_format.specs.declared.error.ErrorKind.TheVariants.{InvalidData}
@@ -30,6 +31,14 @@ IsInvalid e message = IsRefusal e InvalidData message
 abbrev pub IsWantOfMemory : ReadingError → Type 0
 IsWantOfMemory e = IsRefusal e OutOfMemory (codes "while reading")
 
+-- what is said where a part of the file lies past its end: the words `unexpected end of input`
+abbrev pub end_message : List ℕ
+end_message = codes "unexpected end of input"
+
+-- a part of the file lies past its end
+abbrev pub IsEndOfInput : ReadingError → Type 0
+IsEndOfInput e = IsInvalid e end_message
+
 -- bytes that are no whole number of items
 abbrev pub IsWrongLength : ReadingError → Type 0
 IsWrongLength e = IsRefusal e Unknown (codes "Wrong length")
@@ -46,9 +55,9 @@ invalid message = (InvalidData, message)
 abbrev pub unsupported : List ℕ → Refusal
 unsupported message = (UnsupportedFormat, message)
 
--- a part of the file lies past its end
+-- the refusal where a part of the file lies past its end
 abbrev pub end_of_input : Refusal
-end_of_input = invalid (codes "unexpected end of input")
+end_of_input = invalid end_message
 
 -- what an error tells
 abbrev pub refusal_of : ReadingError → Refusal

@@ -1,5 +1,5 @@
 -- The words of the contracts: bytes and their numbers, strings and keys in their blocks, the parts
--- of a file, what a word and a file denote.
+-- of a body, what a word of it denotes.
 pub use Rattle.resb_tree.specs.Tree
 pub use Rattle.resb_tree.specs.View
 pub use Rattle.resb_tree.specs.Bundle
@@ -12,7 +12,6 @@ pub mod Strings
 pub mod Parts
 pub mod Content
 pub mod Denotes
-pub mod File
 pub mod Error
 pub mod Types
 pub mod Descriptor

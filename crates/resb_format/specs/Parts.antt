@@ -1,10 +1,9 @@
--- The parts of a file, and which bytes are one. (ICU's `ucmndata.h`, `udata.h` and
--- `uresdata.h`.)
---     IsBundleFile bytes      the head names this format, and the blocks lie inside the file
---     parts_of bytes          its parts
-use Rattle.std.specs.Prelude.{◌≡◌, ℕ, ◌+◌, ◌-◌, ◌*◌, ◌≤◌, min, List, [], ◌∷◌, length, take, drop}
-use Rattle.std.specs.Prelude.{slice_index, slice_range, codes}
-use Rattle.resb_format.specs.Bytes.{units_of, words_of}
+-- The parts of a body. Which bytes of a file they are is said in `resb_head`. (ICU's `uresdata.h`.)
+--     Parts                   a body, its key block and its 16-bit block
+--     parts_in f              those that a value of the code shows
+use Rattle.std.specs.Prelude.{ℕ, List}
+use Rattle.resb_format.specs.Bytes.{units_of}
+use Rattle.resb_format.specs.declared.file.File.{File}
 
 -- The body is in bytes, as is the key block, its front. The 16-bit block is in units.
 pub record Parts : Type 0 where
@@ -12,73 +11,6 @@ pub record Parts : Type 0 where
   pub keys : List ℕ
   pub block : List ℕ
 
--- how many bytes the header has: the first number of 16 bits of the file
-abbrev pub header_size : List ℕ → ℕ
-header_size bytes = slice_index (units_of bytes) 0
-
--- the bytes behind the header
-abbrev pub body_of : List ℕ → List ℕ
-body_of bytes = drop (header_size bytes) bytes
-
--- the body's first word: the root's descriptor
-abbrev pub root_word : List ℕ → ℕ
-root_word bytes = slice_index (words_of (body_of bytes)) 0
-
--- the index's first word: how many words the index has
-abbrev pub field_count : List ℕ → ℕ
-field_count bytes = slice_index (words_of (body_of bytes)) 1
-
--- the index's second word: where the key block ends, in words of the body
-abbrev pub keys_end : List ℕ → ℕ
-keys_end bytes = slice_index (words_of (body_of bytes)) 2
-
--- the index's third word: where the resources end, in words of the body
-abbrev pub resources_end : List ℕ → ℕ
-resources_end bytes = slice_index (words_of (body_of bytes)) 3
-
--- the index's fourth word: where the bundle ends, in words of the body
-abbrev pub bundle_end : List ℕ → ℕ
-bundle_end bytes = slice_index (words_of (body_of bytes)) 4
-
--- the index's fifth word: the number of entries of the largest table
-abbrev pub largest_table_field : List ℕ → ℕ
-largest_table_field bytes = slice_index (words_of (body_of bytes)) 5
-
--- the index's sixth word: the attributes, whose lowest bit turns fallback off
-abbrev pub attributes : List ℕ → ℕ
-attributes bytes = slice_index (words_of (body_of bytes)) 6
-
--- the index's seventh word: where the 16-bit block ends, in words of the body
-abbrev pub block_end : List ℕ → ℕ
-block_end bytes = slice_index (words_of (body_of bytes)) 7
-
--- the parts of a body; ends in its index are in words
-abbrev pub parts_in_body : List ℕ → Parts
-parts_in_body body =
-    let keys_end = slice_index (words_of body) 2 in
-    let block_end = slice_index (words_of body) 7 in
-    record {
-      body = body;
-      keys = take (4 * keys_end) body;
-      block = units_of (take (4 * (block_end - keys_end)) (drop (4 * keys_end) body));
-    }
-
--- the parts of a file: those of its body
-unfoldable pub parts_of : List ℕ → Parts
-parts_of bytes = parts_in_body (body_of bytes)
-
--- the file's head says each of these things, and the parts lie inside the file
-pub record IsBundleFile (bytes : List ℕ) : Type 0 where
-  pub magic : slice_range bytes 2 4 ≡ 0xda ∷ 0x27 ∷ []
-  pub little_endian : slice_index bytes 8 ≡ 0
-  pub ascii : slice_index bytes 9 ≡ 0
-  pub two_byte_chars : slice_index bytes 10 ≡ 2
-  pub format : slice_range bytes 12 16 ≡ codes "ResB"
-  pub version : slice_range bytes 16 20 ≡ 2 ∷ 0 ∷ 0 ∷ 0 ∷ []
-  pub header : 24 ≤ header_size bytes
-  pub header_inside : header_size bytes ≤ length bytes
-  pub fields : 7 ≤ field_count bytes
-  pub index_inside : 4 * (1 + min (field_count bytes) 8) ≤ length (body_of bytes)
-  pub keys_inside : 4 * keys_end bytes ≤ length (body_of bytes)
-  pub blocks_ordered : keys_end bytes ≤ block_end bytes
-  pub block_inside : 4 * block_end bytes ≤ length (body_of bytes)
+-- the parts of a file as the definitions see them
+abbrev pub parts_in : File → Parts
+parts_in f = record { body = f.body.now; keys = f.keys.now; block = units_of f.block.now }

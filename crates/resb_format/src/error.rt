@@ -1,8 +1,8 @@
 //! Why reading is refused: a kind and a message, and the text that both print.
 //! Which fault gives which refusal is said where it is found.
 ghost use Rattle.std.specs.Prelude.{◌≡◌, ◌++◌, ◌↔◌, Some, IsTrue, codes};
-ghost use Rattle.resb_format.specs.Error.{IsRefusal, IsWantOfMemory, kind_of, message_of};
-ghost use Rattle.resb_format.specs.Error.{description_of};
+ghost use Rattle.resb_format.specs.Error.{IsRefusal, IsEndOfInput, IsWantOfMemory, kind_of};
+ghost use Rattle.resb_format.specs.Error.{message_of, description_of};
 
 use resb_tree::NoMemory;
 use std::alloc::{AllocError, AllocFailed};
@@ -45,6 +45,13 @@ impl BinaryDeserializerError {
             kind: ErrorKind::InvalidData,
             message,
         }
+    }
+
+    /// A part of the file lies past its end.
+    pub fn end_of_input() -> BinaryDeserializerError
+        ensures { IsEndOfInput result }
+    {
+        BinaryDeserializerError::invalid_data("unexpected end of input")
     }
 
     /// A resource of another type was asked for.

@@ -1,6 +1,6 @@
-//! The laws of the file's definitions, of types and of descriptors, each the contract of a call
-//! that does nothing. Their statements stand in `specs/Laws`; the laws of trees stand in
-//! `resb_tree`, those of a file's head in `resb_head`.
+//! The laws of what a word denotes, of types and of descriptors, each the contract of a call that
+//! does nothing. Their statements stand in `specs/Laws`; the laws of trees stand in `resb_tree`,
+//! those of a file's head in `resb_head`.
 ghost use Rattle.resb_format.specs.Descriptor.{type_number, word_of};
 ghost use Rattle.resb_format.specs.DescriptorReading.{ReadsType, ReadsDescriptor};
 ghost use Rattle.resb_format.specs.Laws.{OneTree, ReachedIsCounted, CountedIsReached};

@@ -1,12 +1,13 @@
-//! What a `.res` file is: its numbers, its descriptors, its strings and keys, and the tree that it
-//! denotes. No loop here goes over a whole file: its head, reading and writing are in the crates
-//! above.
+//! What the body of a `.res` file is: its numbers, its descriptors, its strings and keys, and the
+//! tree that a word of it denotes. No loop here goes over a whole file: what a file is, its head,
+//! reading and writing are in the crates above.
 #![tactic(auto)]
 
 pub mod bytes;
 mod casts;
 mod descriptor;
 mod error;
+mod file;
 pub mod laws;
 mod repr_type;
 mod units;
@@ -18,6 +19,7 @@ pub use casts::{
 };
 pub use descriptor::ResDescriptor;
 pub use error::{BinaryDeserializerError, ErrorKind, ReadingError};
+pub use file::File;
 pub use repr_type::ResourceReprType;
 pub use resb_tree::{Int28, Key, NoMemory, Resource, ResourceBundle, Table};
 pub use units::{MAX_UNMARKED, is_unmarked, marker_units, string_at, utf16_len};

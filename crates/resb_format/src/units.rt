@@ -4,7 +4,7 @@ ghost use Rattle.std.specs.Prelude.{◌≡◌, ◌+◌, ◌-◌, ◌/◌, ◌<�
 ghost use Rattle.std.specs.Prelude.{slice_index, nat_le, Some, None, MatchResult, codes};
 ghost use Rattle.std.specs.List.{position_or_len};
 ghost use Rattle.resb_format.specs.Bytes.{units_of, part};
-ghost use Rattle.resb_format.specs.Error.{IsInvalid};
+ghost use Rattle.resb_format.specs.Error.{IsEndOfInput, IsInvalid};
 ghost use Rattle.resb_format.specs.StringFaults as said;
 ghost use Rattle.resb_format.specs.Strings as strings;
 ghost use Rattle.resb_format.specs.Units as text_units;
@@ -46,7 +46,7 @@ fn marked(block: &[u8], unit: usize, first: u16) -> Result<Utf16View<'_>, Binary
     ensures { let us = units_of block.now in
         MatchResult result (λ v. strings.string_from us unit first ≡ Some (view_units v))
         (λ e. (strings.string_from us unit first ≡ None)
-        × IsInvalid e (codes "unexpected end of input")) }
+        × IsEndOfInput e) }
 {
     let first = usize::from(first);
     if first <= 0xdfee {
@@ -61,7 +61,7 @@ fn marked(block: &[u8], unit: usize, first: u16) -> Result<Utf16View<'_>, Binary
 }
 
 /// The string up to the first 0, which stands among its first 41 units.
-#[tactic(auto, using(crate::proofs::StringsIn::ended, crate::proofs::StringsIn::not_ended))]
+#[tactic(auto, using(crate::proofs::StringsIn::ends_at_zero, crate::proofs::StringsIn::lacks_zero))]
 fn unmarked(block: &[u8], unit: usize) -> Result<Utf16View<'_>, BinaryDeserializerError>
     requires { unit < length block.now / 2 }
     ensures { let us = take 41 (drop unit (units_of block.now)) in
@@ -98,10 +98,10 @@ fn first_zero(units: Utf16View<'_>) -> usize
 fn some_unit(block: &[u8], number: usize) -> Result<u16, BinaryDeserializerError>
     ensures { MatchResult result
         (λ x. (number < length block.now / 2) × (x ≡ slice_index (units_of block.now) number))
-        (λ e. (length block.now / 2 ≤ number) × IsInvalid e (codes "unexpected end of input")) }
+        (λ e. (length block.now / 2 ≤ number) × IsEndOfInput e) }
 {
     if number >= block.len() / 2 {
-        return Err(BinaryDeserializerError::invalid_data("unexpected end of input"));
+        return Err(BinaryDeserializerError::end_of_input());
     }
     Ok(unit_at(block, number))
 }
@@ -111,11 +111,11 @@ fn some_unit(block: &[u8], number: usize) -> Result<u16, BinaryDeserializerError
 fn cut(block: &[u8], from: usize, count: usize) -> Result<Utf16View<'_>, BinaryDeserializerError>
     ensures { let cut = part (units_of block.now) from count in
         MatchResult result (λ v. cut ≡ Some (view_units v))
-        (λ e. (cut ≡ None) × IsInvalid e (codes "unexpected end of input")) }
+        (λ e. (cut ≡ None) × IsEndOfInput e) }
 {
     let units = block.len() / 2;
     if from > units || count > units - from {
-        return Err(BinaryDeserializerError::invalid_data("unexpected end of input"));
+        return Err(BinaryDeserializerError::end_of_input());
     }
     Ok(units_in(block, from, count))
 }
@@ -167,10 +167,14 @@ pub fn is_unmarked(text: &str) -> bool
     has_at_most(text, MAX_UNMARKED) && !text.as_bytes().contains(&0)
 }
 
-/// Whether a text has at most so many units. No more of it is looked at than tells.
+/// Whether a text has at most so many units, which are no more than its bytes. No more of it is
+/// looked at than tells.
 fn has_at_most(text: &str, most: usize) -> bool
     ensures { result ≡ nat_le (length (text_units.units text.now)) most }
 {
+    if text.len() <= most {
+        return true;
+    }
     let mut left = most;
     for c in text.chars() {
         let taken = c.len_utf16();

@@ -88,9 +88,9 @@ fn has_its_parts() -> bool {
     match FileParts::read(FILE.as_slice()) {
         Ok(parts) => {
             parts.root == 0x6000_0001
-                && parts.body == &FILE[32..]
-                && parts.keys == &FILE[32..64]
-                && parts.block == &FILE[64..]
+                && parts.file.body == &FILE[32..]
+                && parts.file.keys == &FILE[32..64]
+                && parts.file.block == &FILE[64..]
         }
         Err(_) => false,
     }

@@ -11,6 +11,8 @@ pub mod Complete
 pub mod Sound
 pub mod GrammarLaws
 pub mod Listed
+pub mod KeyPlaces
 pub mod Making
 pub mod MadeOnce
 mod Examples
+mod HexPairs

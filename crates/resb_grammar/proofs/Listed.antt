@@ -21,26 +21,28 @@ use Rattle.resb_grammar.specs.GroupTypes.{Kind}
 use Rattle.resb_grammar.specs.BundleText.{BundleText, first_places}
 
 -- k is a term of the list
-abbrev In : List ℕ → List (List ℕ) → Type 0
+abbrev pub In : List ℕ → List (List ℕ) → Type 0
 In k [] = ⊥
 In k (j ∷ js) = (k ≡ j) ⊎ In k js
 
-in_left : (k : List ℕ) (xs ys : List (List ℕ)) → In k xs → In k (xs ++ ys)
+-- a term of the first list is one of both
+pub in_left : (k : List ℕ) (xs ys : List (List ℕ)) → In k xs → In k (xs ++ ys)
 in_left k [] ys h = absurd h
 in_left k (x ∷ xs) ys (inl e) = inl e
 in_left k (x ∷ xs) ys (inr h) = inr (in_left k xs ys h)
 
-in_right : (k : List ℕ) (xs ys : List (List ℕ)) → In k ys → In k (xs ++ ys)
+-- a term of the second list is one of both
+pub in_right : (k : List ℕ) (xs ys : List (List ℕ)) → In k ys → In k (xs ++ ys)
 in_right k [] ys h = h
 in_right k (x ∷ xs) ys h = inr (in_right k xs ys h)
 
-either : (a b : Bool) → (a || b) ≡ true → (a ≡ true) ⊎ (b ≡ true)
+-- where one of two holds, the first or the second does
+pub either : (a b : Bool) → (a || b) ≡ true → (a ≡ true) ⊎ (b ≡ true)
 either true b h = inl refl
 either false b h = inr h
 
--- keys of maps come from what was put
-
-abbrev KeyOf : List ℕ → List (List ℕ × Tree) → Type 0
+-- k is a key of one of the pairs, or of some table of their trees
+abbrev pub KeyOf : List ℕ → List (List ℕ × Tree) → Type 0
 KeyOf k [] = ⊥
 KeyOf k (p ∷ ps) = ((k ≡ p.0) ⊎ (is_key k p.1 ≡ true)) ⊎ KeyOf k ps
 
@@ -95,7 +97,8 @@ put_key k l t (entry m u es) h =
     kept f (inl e) = inr (or_left _ (is_key_of k es) e)
     kept f (inr e) = later (f e)
 
-put_all_key : (k : List ℕ) (ps : List (List ℕ × Tree)) (es : Entries)
+-- a key of a map comes from what was put into it
+pub put_all_key : (k : List ℕ) (ps : List (List ℕ × Tree)) (es : Entries)
     → is_key_of k (put_all es ps) ≡ true → KeyOf k ps ⊎ (is_key_of k es ≡ true)
 put_all_key k [] es h = inr h
 put_all_key k (p ∷ ps) es h = ⊎_elim
@@ -266,12 +269,14 @@ kept_by k j (x ∷ xs) (inl e) = by_test (pointwise nat_eq j x) k j x _ (bytes_d
 kept_by k j (x ∷ xs) (inr h) =
     by_test (pointwise nat_eq j x) k j x _ (bytes_decides j x).0 (inr (kept_by k j xs h))
 
-first_place : (k : List ℕ) (ks : List (List ℕ)) → In k ks → In k (first_places ks)
+-- a term of a list is one of those at their first places
+pub first_place : (k : List ℕ) (ks : List (List ℕ)) → In k ks → In k (first_places ks)
 first_place k [] h = absurd h
 first_place k (j ∷ js) (inl e) = inl e
 first_place k (j ∷ js) (inr h) = kept_by k j (first_places js) (first_place k js h)
 
-contains : (k : List ℕ) (ks : List (List ℕ)) → In k ks → Contains ks k
+-- a term of a list is contained in it
+pub contains : (k : List ℕ) (ks : List (List ℕ)) → In k ks → Contains ks k
 contains k [] h = absurd h
 contains k (j ∷ js) (inl e) = (zero, omega arith, sym e)
 contains k (j ∷ js) (inr h) = let rest = contains k js h in (suc rest.0, omega arith, rest.2)

@@ -7,8 +7,8 @@ use Rattle.std.proofs.lemmas.Bool.Decides.{nat_tests}
 use Rattle.std.proofs.lemmas.List.{get_or-drop, drop-take}
 use Rattle.std.proofs.lemmas.Slice.Eq.{bytes_eq-Decides}
 use Rattle.resb_format.specs.Bytes.{words_of, unit_in}
-use Rattle.resb_format.specs.Error.{IsInvalid, Refusal, refusal_of}
-use Rattle.resb_format.specs.Parts.{IsBundleFile, body_of, header_size}
+use Rattle.resb_format.specs.Error.{IsInvalid, IsEndOfInput, Refusal, refusal_of}
+use Rattle.resb_head.specs.File.{IsBundleFile, body_of, header_size}
 use Rattle.resb_format.specs.declared.error.ReadingError.{ReadingError}
 use Rattle.resb_head.specs.Laws.{IsHeader, BundleFilePasses}
 use Rattle.resb_head.specs.HeadChecks.{first_fault, header_checks, header_fault, index_checks}
@@ -18,7 +18,7 @@ use Rattle.resb_head.proofs.HeadSteps.{le_true, not_at_most}
 use Rattle.resb_head.proofs.HeaderSteps.{none_before, some_before}
 use Rattle.resb_head.proofs.IndexSteps.{index_holds}
 use Rattle.resb_head.proofs.SupportSteps.{support_holds}
-use Rattle.resb_head.proofs.Passing.{le_is, passed, header_passes, behind}
+use Rattle.resb_head.proofs.Passing.{le_is, passed, header_passes, range_behind_four}
 
 -- where none of all fails, none of the first ones does
 pub first_fault-both : (cs bs : List (Bool × Refusal)) → first_fault (cs ++ bs) ≡ None
@@ -44,7 +44,7 @@ field_behind body i =
 
 -- the checks of the blocks
 pub keys_past : (body : List ℕ) (e : ReadingError) → length body < 4 * get_or (words_of body) 2 0
-    → IsInvalid e (codes "unexpected end of input")
+    → IsEndOfInput e
     → first_fault (block_checks body) ≡ Some (refusal_of e)
 unfolding block_checks
 keys_past body e h r =
@@ -77,7 +77,7 @@ pub block_past : (body : List ℕ) (e : ReadingError) → 4 * get_or (words_of b
     → 7 ≤ get_or (words_of body) 1 0
     → (get_or (words_of body) 7 0 < get_or (words_of body) 2 0)
     ⊎ (length body < 4 * get_or (words_of body) 7 0)
-    → IsInvalid e (codes "unexpected end of input")
+    → IsEndOfInput e
     → first_fault (block_checks body) ≡ Some (refusal_of e)
 unfolding block_checks
 block_past body e h k l r =
@@ -112,7 +112,7 @@ some_field n v x e = (grind (arith, nat_tests), grind (arith, nat_tests))
 
 -- the checks of a body
 pub root_missing : (body : List ℕ) (e : ReadingError) → length body < 4
-    → IsInvalid e (codes "unexpected end of input")
+    → IsEndOfInput e
     → first_fault (body_checks body) ≡ Some (refusal_of e)
 unfolding body_checks
 root_missing body e h r = rw (not_at_most 4 (length body) h, r.kind_is, r.message_is) refl
@@ -254,7 +254,7 @@ passes_is bytes e =
       two_byte_chars = sym f6 ∙ eq_is (get_or (drop 4 bytes) 6 0) 2 p.1.0;
       format = h.format;
       version =
-          sym (behind bytes 12 16)
+          sym (range_behind_four bytes 12 16)
           ∙ (bytes_eq-Decides (slice_range (drop 4 bytes) 12 16) (2 ∷ 0 ∷ 0 ∷ 0 ∷ [])).0 p.1.1.0;
       header = s;
       header_inside = omega (arith, l, b.index_inside);
@@ -283,7 +283,7 @@ is_passes bytes f =
     let f6 : get_or (drop 4 bytes) 6 0 ≡ get_or bytes 10 0 = get_or-drop 4 bytes 6 0 in
     body_answers bytes ((header_passes false bytes).1 h)
     (support_holds (drop 4 bytes) (f5 ∙ f.ascii) (f6 ∙ f.two_byte_chars)
-    (behind bytes 12 16 ∙ f.version))
+    (range_behind_four bytes 12 16 ∙ f.version))
     ∙ body_holds (body_of bytes) (record {
       fields = f.fields;
       index_inside = f.index_inside;

@@ -19,7 +19,7 @@ use Rattle.resb_head.specs.declared.version.FormatVersion.TheVariants.{V2_0, V3_
 use Rattle.resb_format.proofs.WordsBack.{two_bytes}
 use Rattle.resb_head.proofs.Apart.{endianness_apart, charset_apart, version_apart}
 use Rattle.resb_head.proofs.HeadSteps.{a_version, charset_small}
-use Rattle.resb_head.proofs.Passing.{behind, header_passes}
+use Rattle.resb_head.proofs.Passing.{range_behind_four, header_passes}
 
 -- a unit of bytes has 16 bits
 unit_fits : (bs : List ℕ) (i : ℕ) → EachFits 8 bs → get_or (units_of bs) i 0 < 2 ^ 16
@@ -74,8 +74,8 @@ known bs h fits p a =
       info_fits = subst (λ n. n < 2 ^ 16) (sym i) (unit_fits (drop 4 bs) 0 (fits_drop 8 bs 4 fits));
       word_fits = subst (λ n. n < 2 ^ 16) (sym w) (unit_fits (drop 4 bs) 1 (fits_drop 8 bs 4 fits));
       little = a.info.endianness ∙ y;
-      format = a.info.data_format ∙ behind bs 8 12 ∙ p.format;
-      dates = ap length (a.info.data_version ∙ behind bs 16 20) ∙ l;
+      format = a.info.data_format ∙ range_behind_four bs 8 12 ∙ p.format;
+      dates = ap length (a.info.data_version ∙ range_behind_four bs 16 20) ∙ l;
     }
 
 -- four bytes, written out

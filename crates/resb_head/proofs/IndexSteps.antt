@@ -2,13 +2,13 @@
 use Rattle.std.proofs.Common.{ℕ, List, ◌≡◌, ◌*◌, ◌<◌, ◌≤◌, length, min, Some, None, refl, get_or}
 use Rattle.std.proofs.Common.{codes}
 use Rattle.resb_format.specs.Bytes.{words_of}
-use Rattle.resb_format.specs.Error.{IsInvalid, refusal_of}
+use Rattle.resb_format.specs.Error.{IsInvalid, IsEndOfInput, refusal_of}
 use Rattle.resb_format.specs.declared.error.ReadingError.{ReadingError}
 use Rattle.resb_head.specs.HeadChecks.{index_fault, index_checks}
 use Rattle.resb_head.proofs.HeadSteps.{le_true, not_at_most}
 
 pub no_count : (bs : List ℕ) (e : ReadingError) → length bs < 4
-    → IsInvalid e (codes "unexpected end of input") → index_fault bs ≡ Some (refusal_of e)
+    → IsEndOfInput e → index_fault bs ≡ Some (refusal_of e)
 unfolding index_fault index_checks
 no_count bs e h r = rw (not_at_most 4 (length bs) h, r.kind_is, r.message_is) refl
 
@@ -21,7 +21,7 @@ small_count bs n e w h k r =
 
 pub no_word : (bs : List ℕ) (n : ℕ) (e : ReadingError) → n ≡ get_or (words_of bs) 0 0
     → 4 ≤ length bs → 5 ≤ n → length bs < 4 * min n 8
-    → IsInvalid e (codes "unexpected end of input") → index_fault bs ≡ Some (refusal_of e)
+    → IsEndOfInput e → index_fault bs ≡ Some (refusal_of e)
 unfolding index_fault index_checks
 no_word bs n e w h k l r =
     rw (

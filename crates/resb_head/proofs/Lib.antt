@@ -1,4 +1,5 @@
 -- For crates above: those that are `pub`.
+mod Examples
 mod HeadSteps
 mod HeaderSteps
 mod IndexSteps

@@ -48,8 +48,9 @@ unfolding info_checks
 tested any bs t = rw (t.known, t.own, t.charset, t.format, t.version) refl
 
 -- parts of what stands behind the first four bytes
-pub behind : (bs : List ℕ) (i j : ℕ) → slice_range (drop 4 bs) i j ≡ take (j - i) (drop (4 + i) bs)
-behind bs i j = ap (take (j - i)) (drop-drop i 4 bs)
+pub range_behind_four : (bs : List ℕ) (i j : ℕ)
+    → slice_range (drop 4 bs) i j ≡ take (j - i) (drop (4 + i) bs)
+range_behind_four bs i j = ap (take (j - i)) (drop-drop i 4 bs)
 
 passes : (any : Bool) (bs : List ℕ) → header_fault any bs ≡ None → IsHeader any bs
 unfolding header_fault header_checks info_checks
@@ -64,9 +65,10 @@ passes any bs e =
       own_endianness = λ h. sym f4 ∙ zero_is any (get_or (drop 4 bs) 4 0) p.1.1.1.0 h;
       known_charset = subst (λ k. k ≤ 1) f5 (le_is (get_or (drop 4 bs) 5 0) 1 p.1.1.1.1.0);
       format =
-          sym (behind bs 8 12) ∙ (bytes_eq-Decides (slice_range (drop 4 bs) 8 12) (codes "ResB")).0
+          sym (range_behind_four bs 8 12)
+          ∙ (bytes_eq-Decides (slice_range (drop 4 bs) 8 12) (codes "ResB")).0
           p.1.1.1.1.1.0;
-      version = ap is_version (sym (behind bs 12 16)) ∙ p.1.1.1.1.1.1.0;
+      version = ap is_version (sym (range_behind_four bs 12 16)) ∙ p.1.1.1.1.1.1.0;
       size = le_is 24 (unit_in (nat_eq (get_or bs 8 0) 1) bs 0) p.1.1.1.1.1.1.1.0;
     }
 
@@ -78,8 +80,8 @@ passing any bs h =
       known = ap (λ k. nat_le k 1) f4 ∙ le_true (get_or bs 8 0) 1 h.known_endianness;
       own = ap (λ k. any || nat_eq k 0) f4 ∙ zero_or any (get_or bs 8 0) h.own_endianness;
       charset = ap (λ k. nat_le k 1) f5 ∙ le_true (get_or bs 9 0) 1 h.known_charset;
-      format = equal_texts _ _ (behind bs 8 12 ∙ h.format);
-      version = ap is_version (behind bs 12 16) ∙ h.version;
+      format = equal_texts _ _ (range_behind_four bs 8 12 ∙ h.format);
+      version = ap is_version (range_behind_four bs 12 16) ∙ h.version;
     } in
     header_holds any bs (record { long = h.long; magic = equal_texts _ _ h.magic })
     (tested any (drop 4 bs) t) h.size

@@ -11,7 +11,7 @@ use Rattle.std.specs.Prelude.{slice_range, codes, if◌then◌else◌}
 use Rattle.std.specs.List.{list_any}
 use Rattle.std.specs.Str.{bytes_eq}
 use Rattle.resb_format.specs.Bytes.{words_of, unit_in}
-use Rattle.resb_format.specs.Parts.{body_of}
+use Rattle.resb_head.specs.File.{body_of}
 use Rattle.resb_format.specs.Error.{Refusal, invalid, unsupported, end_of_input}
 use Rattle.resb_head.specs.Codes.{version_bytes}
 use Rattle.resb_head.specs.declared.version.FormatVersion.TheVariants.{V1_0, V1_1, V1_2, V1_3}

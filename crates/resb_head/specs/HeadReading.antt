@@ -1,13 +1,16 @@
--- What reading a head's parts answers: their values where no check fails, else the fault of the
--- first that does.
+-- What reading a head's parts answers, and cutting a file into its own: their values where no check
+-- fails, else the fault of the first that does.
 use Rattle.std.specs.Prelude.{◌≡◌, ℕ, List, Bool, Some, None, Result, MatchResult}
+use Rattle.resb_format.specs.Parts.{parts_in}
+use Rattle.resb_head.specs.File.{parts_of, root_word}
 use Rattle.resb_format.specs.Error.{refusal_of}
 use Rattle.resb_format.specs.declared.error.ReadingError.{ReadingError}
-use Rattle.resb_head.specs.HeadChecks.{header_fault, info_fault, index_fault}
+use Rattle.resb_head.specs.HeadChecks.{header_fault, info_fault, index_fault, file_fault}
 use Rattle.resb_head.specs.Head.{HeaderAt, InfoAt, IndexAt}
 use Rattle.resb_head.specs.declared.head.BinHeader.{BinHeader}
 use Rattle.resb_head.specs.declared.repr_info.BinReprInfo.{BinReprInfo}
 use Rattle.resb_head.specs.declared.index.BinIndex.{BinIndex}
+use Rattle.resb_head.specs.declared.file_parts.FileParts.{FileParts}
 
 -- a header with the values that stand there, or the first check that fails; a foreign order of
 -- bytes is let through where `any` is true
@@ -27,3 +30,11 @@ abbrev pub ReadsIndex : List ℕ → Result BinIndex ReadingError → Type 0
 ReadsIndex bytes r =
     MatchResult r (λ i. (index_fault bytes ≡ None) × IndexAt i bytes)
     (λ e. index_fault bytes ≡ Some (refusal_of e))
+
+-- the file's parts and its root's word where no check fails, else the fault of the first that does
+abbrev pub ReadsFile : List ℕ → Result FileParts ReadingError → Type 0
+ReadsFile bytes r =
+    MatchResult r
+    (λ f. (file_fault bytes ≡ None) × (parts_in f.file ≡ parts_of bytes)
+    × (f.root ≡ root_word bytes))
+    (λ e. file_fault bytes ≡ Some (refusal_of e))

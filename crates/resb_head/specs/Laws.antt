@@ -11,7 +11,7 @@ use Rattle.std.specs.Ordering.{nat_cmp}
 use Rattle.std.specs.Cmp.Lexicographic.{slice_cmp}
 use Rattle.std.specs.declared.cmp.Ordering.{Ordering}
 use Rattle.resb_format.specs.Bytes.{unit_in}
-use Rattle.resb_format.specs.Parts.{IsBundleFile}
+use Rattle.resb_head.specs.File.{IsBundleFile}
 use Rattle.resb_format.specs.Laws.{EachFits}
 use Rattle.resb_format.specs.declared.error.ReadingError.{ReadingError}
 use Rattle.resb_head.specs.Codes.{version_bytes}

@@ -1,5 +1,5 @@
 //! The family of character sets that a file names.
-//! Keys are read as UTF-8 by the reader, whatever the family.
+//! Which family is read is decided in `repr_info`.
 ghost use Rattle.std.specs.Prelude.{◌≡◌};
 ghost use Rattle.resb_head.specs.Codes.{charset_number};
 ghost use Rattle.resb_head.specs.CodeReading.{ReadsCharset};

@@ -2,23 +2,19 @@
 //! holds. What the root's word leads to is read in the crates above.
 ghost use Rattle.std.specs.Prelude.{drop, ◌≤◌, length};
 ghost use Rattle.resb_head.specs.Head.{IndexAt};
-ghost use Rattle.resb_head.specs.PartsReading.{ReadsFile};
+ghost use Rattle.resb_head.specs.HeadReading.{ReadsFile};
 ghost use Rattle.resb_head.specs.Inner.Checked.{ReadsBody, ReadsBlocks};
 
 use crate::head::BinHeader;
 use crate::index::BinIndex;
-use resb_format::BinaryDeserializerError;
 use resb_format::bytes::word_at;
+use resb_format::{BinaryDeserializerError, File};
 
 /// The parts of a file whose head passes every check. (ICU's `uresdata.h`.)
 #[derive(Clone, Copy)]
 pub struct FileParts<'de> {
-    /// The bytes behind the header. Words count from its start.
-    pub body: &'de [u8],
-    /// The body's front, up to the end of the keys. Key positions count bytes from its start.
-    pub keys: &'de [u8],
-    /// The 16-bit block behind the keys, two bytes for each unit.
-    pub block: &'de [u8],
+    /// The body and its two blocks.
+    pub file: File<'de>,
     /// The root's descriptor.
     pub root: u32,
 }
@@ -40,7 +36,7 @@ impl<'de> FileParts<'de> {
         ensures { ReadsBody body.now result }
     {
         if body.len() < 4 {
-            return Err(BinaryDeserializerError::invalid_data("unexpected end of input"));
+            return Err(BinaryDeserializerError::end_of_input());
         }
         let (_, rest) = body.split_at(4);
         let index = BinIndex::try_from(rest)?;
@@ -55,7 +51,7 @@ impl<'de> FileParts<'de> {
     {
         let keys_end = 4 * index.keys_end as usize;
         if keys_end > body.len() {
-            return Err(BinaryDeserializerError::invalid_data("unexpected end of input"));
+            return Err(BinaryDeserializerError::end_of_input());
         }
         let Some(block_end) = index.data_16_bit_end else {
             return Err(BinaryDeserializerError::invalid_data(
@@ -64,16 +60,12 @@ impl<'de> FileParts<'de> {
         };
         let block_end = 4 * block_end as usize;
         if block_end < keys_end || block_end > body.len() {
-            return Err(BinaryDeserializerError::invalid_data("unexpected end of input"));
+            return Err(BinaryDeserializerError::end_of_input());
         }
         let (front, _) = body.split_at(block_end);
         let (keys, block) = front.split_at(keys_end);
+        let file = File { body, keys, block };
         let root = word_at(body, 0);
-        Ok(FileParts {
-            body,
-            keys,
-            block,
-            root,
-        })
+        Ok(FileParts { file, root })
     }
 }

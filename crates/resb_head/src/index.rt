@@ -76,14 +76,14 @@ impl TryFrom<&[u8]> for BinIndex {
 
     fn try_from(bytes: &[u8]) -> Result<BinIndex, BinaryDeserializerError> {
         if bytes.len() < 4 {
-            return Err(BinaryDeserializerError::invalid_data("unexpected end of input"));
+            return Err(BinaryDeserializerError::end_of_input());
         }
         let field_count = word_at(bytes, 0);
         if field_count < 5 {
             return Err(BinaryDeserializerError::invalid_data("invalid index field count"));
         }
         if bytes.len() < 4 * field_count.min(8) as usize {
-            return Err(BinaryDeserializerError::invalid_data("unexpected end of input"));
+            return Err(BinaryDeserializerError::end_of_input());
         }
         Ok(BinIndex {
             field_count,

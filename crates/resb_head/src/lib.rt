@@ -1,5 +1,6 @@
-//! The head of a `.res` file: header, representation info and index, the checks that they pass, and
-//! the parts that they cut a file into. What the parts denote is said in `resb_format`.
+//! What a `.res` file is, and its head: header, representation info and index, the checks that they
+//! pass, and the parts that they cut a file into. What a word of the parts denotes is said in
+//! `resb_format`.
 #![tactic(auto)]
 
 mod charset;

@@ -1,5 +1,5 @@
 //! The representation info, behind the magic word of a header: order of bytes, format, versions.
-//! Which formats and versions are read beyond these checks is decided by the reader.
+//! The checks here decide which of them are read; what follows the header is read elsewhere.
 ghost use Rattle.std.specs.Prelude.{◌≡◌, ◌≤◌, ◌++◌, length, false, Some, None, MatchResult, OnOk};
 ghost use Rattle.std.specs.Prelude.{IfOk};
 ghost use Rattle.resb_format.specs.Error.{refusal_of};

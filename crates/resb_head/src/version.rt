@@ -1,5 +1,5 @@
 //! The versions of the format that have been written.
-//! Which of them is read is decided by the reader.
+//! Which of them is read is decided in `repr_info`.
 ghost use Rattle.std.specs.Prelude.{◌≡◌};
 ghost use Rattle.resb_head.specs.Codes.{version_bytes};
 ghost use Rattle.resb_head.specs.CodeReading.{ReadsVersion};

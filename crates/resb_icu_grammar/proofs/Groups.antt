@@ -163,6 +163,7 @@ LeafContent-one text from a b _ t u (numbers ns p) (no_numbers e) c d =
 LeafContent-one text from a b _ t u (numbers ns p) (numbers ms q) c d =
     let both = Numbers-one text from a b ns ms p q c d in (both.0, ap int_vector both.1)
 
+-- a byte is not both a brace and a colon
 pub no_brace_colon : (text : List ℕ) (from : ℕ) → slice_index text from ≡ ascii.left_brace
     → slice_index text from ≡ ascii.colon → ⊥
 no_brace_colon text from h g = omega arith

@@ -25,6 +25,7 @@ use Rattle.resb_icu_grammar.specs.Words.{Number}
 use Rattle.resb_icu_grammar.specs.Words.{unsigned, plus, minus, TypeName, GroupType, RootType}
 use Rattle.resb_icu_grammar.specs.Words.{table_type, no_fallback_type}
 
+-- a text begins at one place
 pub Begins-one : (text : List ℕ) (a b : ℕ) → Begins text a → Begins text b → a ≡ b
 Begins-one text a b (behind_the_mark m e) (behind_the_mark n f) = e ∙ sym f
 Begins-one text a b (behind_the_mark m e) (without_a_mark n f) = absurd (n m)
@@ -68,6 +69,7 @@ Blanks-one text i a b (comment _ k _ c r) (comment _ k' _ c' r') s t =
     let e : k' ≡ k = Comment-one text i k' k c' c in
     Blanks-one text k a b r (subst (λ n. Blanks text n b) e r') s t
 
+-- blanks end at one place
 pub Skip-one : (text : List ℕ) (i a b : ℕ) → Skip text i a → Skip text i b → a ≡ b
 Skip-one text i a b p q = Blanks-one text i a b p.blanks q.blanks p.solid q.solid
 
@@ -76,6 +78,7 @@ no_letter : (b n : ℕ) → is_ascii_alphanumeric b ≡ false → b ≡ n → is
     → ⊥
 no_letter b n h e f = false≢true (sym h ∙ ap is_ascii_alphanumeric e ∙ f)
 
+-- an escape has one end and stands for one thing
 pub Escape-one : (text : List ℕ) (at a b : ℕ) (s t : List ℕ) → Escape text at a s
     → Escape text at b t
     → (a ≡ b) × (s ≡ t)
@@ -124,6 +127,7 @@ Escape-one text at a b s t (eight_digits c h x e y z) (four_digits d k x' e' y' 
 Escape-one text at a b s t (eight_digits c h x e y z) (eight_digits d k x' e' y' z') =
     (refl, ap encode_utf8 (e ∙ sym e'))
 
+-- what stands inside quotes has one end and says one thing
 pub Inside-one : (text : List ℕ) (at a b : ℕ) (s t : List ℕ) → Inside text at a s
     → Inside text at b t
     → (a ≡ b) × (s ≡ t)
@@ -142,6 +146,7 @@ Inside-one text at a b s t (escape _ n _ vs us k e r) (escape _ m _ xs ws h f r'
     let both = Inside-one text n a b us ws r (subst (λ i. Inside text i b ws) (sym first.0) r') in
     (both.0, (λ i. first.1 i ++ both.1 i))
 
+-- so has a quoted piece
 pub Piece-one : (text : List ℕ) (from a b : ℕ) (s t : List ℕ) → Piece text from a s
     → Piece text from b t → (a ≡ b) × (s ≡ t)
 Piece-one text from a b s t p q =
@@ -179,6 +184,7 @@ Word-one text from a b s t p q =
     let k : a ≡ b = Run-one is_word text from a b p.run q.run in
     (k, p.means ∙ ap (λ n. slice_range text from n) k ∙ sym q.means)
 
+-- a word begins with a character of words
 pub word_first : (text : List ℕ) (from to : ℕ) (s : List ℕ) → Word text from to s
     → is_word (slice_index text from) ≡ true
 word_first text from to s w = w.run.each from (omega arith) w.some
@@ -188,6 +194,7 @@ no_quote_word : (text : List ℕ) (from to : ℕ) (s : List ℕ) → slice_index
 no_quote_word text from to s h w =
     false≢true (ap is_word (sym h) ∙ word_first text from to s w)
 
+-- a string has one end and says one thing
 pub String-one : (text : List ℕ) (from a b : ℕ) (s t : List ℕ) → String text from a s
     → String text from b t → (a ≡ b) × (s ≡ t)
 String-one text from a b s t (a_word p) (a_word q) = Word-one text from a b s t p q
@@ -221,6 +228,7 @@ digits_one : (text : List ℕ) (from a b v w : ℕ) → Digits text from a v →
     → (a ≡ b) × (v ≡ w)
 digits_one text from a b v w d e = Digits-one text from a b v w d.digits e.digits
 
+-- digits begin with a digit
 pub digit_first : (text : List ℕ) (from to v : ℕ) → Digits text from to v
     → 48 ≤ slice_index text from
 digit_first text from to v d =
@@ -228,6 +236,7 @@ digit_first text from to v d =
     d.digits.run.each from (omega arith) d.digits.some in
     grind (arith, nat_tests, k)
 
+-- a number has one end and one value
 pub Number-one : (text : List ℕ) (from a b v w : ℕ) → Number text from a v → Number text from b w
     → (a ≡ b) × (v ≡ w)
 Number-one text from a b v w (unsigned _ r d low) (unsigned _ r' d' low') =
@@ -261,12 +270,14 @@ TypeName-one : (text : List ℕ) (from a b : ℕ) (v w : List ℕ) → TypeName 
     → TypeName text from b w → (a ≡ b) × (v ≡ w)
 TypeName-one text from a b v w p q = Word-one text (from + 1) a b v w p.word q.word
 
+-- a type has one end and is one kind
 pub GroupType-one : (text : List ℕ) (from a b : ℕ) (k l : Kind) → GroupType text from a k
     → GroupType text from b l → (a ≡ b) × (k ≡ l)
 GroupType-one text from a b k l p q =
     let both = TypeName-one text from a b p.name q.name p.stands q.stands in
     (both.0, Names-one p.name k l p.names (subst (λ (w : List ℕ). Names w l) (sym both.1) q.names))
 
+-- the type of a root has one end and says one thing of fallback
 pub RootType-one : (text : List ℕ) (from a b : ℕ) (f g : Bool) → RootType text from a f
     → RootType text from b g → (a ≡ b) × (f ≡ g)
 RootType-one text from a b true true (table_type p never) (table_type q never') =

@@ -1,6 +1,7 @@
 -- What the laws of ICU's text form say.
-use Rattle.std.specs.Prelude.{◌≡◌, ℕ, Bool, List}
+use Rattle.std.specs.Prelude.{◌≡◌, ℕ, Bool, true, List, Contains}
 use Rattle.resb_tree.specs.Tree.{Tree}
+use Rattle.resb_tree.specs.Keys.{is_key}
 use Rattle.resb_icu_grammar.specs.Bundle.{IcuText}
 
 -- a text has at most one name, fallback, tree and list of keys
@@ -10,3 +11,10 @@ OneIcuText =
     (keys ks : List (List ℕ))
     → IcuText text name fallback tree keys → IcuText text other enabled root ks
     → (name ≡ other) × (fallback ≡ enabled) × (tree ≡ root) × (keys ≡ ks)
+
+-- each key of the tree of a text is among the text's keys
+abbrev pub IcuKeysAreListed : Type 0
+IcuKeysAreListed =
+    (text name : List ℕ) (fallback : Bool) (tree : Tree) (keys : List (List ℕ))
+    → IcuText text name fallback tree keys → (k : List ℕ) → is_key k tree ≡ true
+    → Contains keys k

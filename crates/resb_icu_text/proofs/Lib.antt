@@ -5,3 +5,7 @@ mod EscapesLemmas
 mod PiecesLemmas
 mod StringsLemmas
 mod TypesLemmas
+mod DistinctLemmas
+mod LeafLemmas
+mod ReadingLemmas
+mod StepsLemmas

@@ -1,4 +1,7 @@
 -- Words of private functions.
 pub mod Ahead
 pub mod Escaped
+pub mod Leaf
 pub mod Numbers
+pub mod Reading
+pub mod Steps

@@ -1,11 +1,17 @@
-//! The tokens of ICU's text form of resource bundles: where blanks end, and the strings, numbers
-//! and types that begin at a place of a text. Whole texts are not read here yet.
+//! Reads ICU's text form of resource bundles: whole texts, and their tokens, which are where blanks
+//! end, and the strings, numbers and types that begin at a place of a text.
 //! What the form is stands in `resb_icu_grammar`. Places count bytes of the text from its start.
 #![tactic(auto)]
 
 mod blanks;
+mod error;
 mod escapes;
+mod expected;
+mod leaf;
+mod open;
 mod pieces;
+mod reader;
+mod steps;
 mod strings;
 #[cfg(test)]
 mod token_rows;
@@ -13,6 +19,9 @@ mod types;
 mod words;
 
 pub use blanks::skip;
+pub use error::IcuTextError;
+pub use expected::IcuExpected;
+pub use reader::IcuReader;
 pub use strings::{Lexeme, Said, string};
 pub use types::{Kind, group_type, root_type};
 pub use words::number;

@@ -21,7 +21,7 @@ pub(crate) fn is_word(b: u8) -> bool
 }
 
 /// Where the run of word characters ends.
-fn word_end(text: &str, from: usize) -> usize
+pub(crate) fn word_end(text: &str, from: usize) -> usize
     requires within { from ≤ length text.now }
     ensures run { Run spec.is_word text.now from result }
 {

@@ -149,13 +149,13 @@ module _ (p : Parts) (g : Given) (read : IsRead p g) where
   keyed (entry k t es) (q ∷ ps) ms n e d =
       let first : g.position k ≡ Some q = cc in
       let rest : map g.position (entry_keys es) ≡ map Some ps = cc in
-      behind (read.keys k q first) (λ ms j h. keyed es ps ms j rest h) ms n d
+      one_more (read.keys k q first) (λ ms j h. keyed es ps ms j rest h) ms n d
     where
-      behind : key_at p.keys q ≡ Some k → ((ms : List Member) (j : ℕ)
+      one_more : key_at p.keys q ≡ Some k → ((ms : List Member) (j : ℕ)
           → DenEach p ms (list_of (members_in es)) j → DenPairs p (zip ps ms) (pairs_of es) j)
           → (ms : List Member) (n : ℕ) → DenEach p ms (t ∷ list_of (members_in es)) n
           → DenPairs p (zip (q ∷ ps) ms) ((k, t) ∷ pairs_of es) n
-      behind key later ms n (more_denoted {k = k'} {ms = ms'} a b) =
+      one_more key later ms n (more_denoted {k = k'} {ms = ms'} a b) =
           pairs_more key a (later ms' k' b)
 
 positions_many : (g : Given) (ks : List (List ℕ)) (ps : List ℕ) → map g.position ks ≡ map Some ps

@@ -100,9 +100,9 @@ module _ (g : Given) where
   }
 
   -- resources behind others
-  behind : {s m e : Laid} {ts us : List Tree} → StandsInOrder g s m ts → StandsInOrder g m e us
-      → StandsInOrder g s e (ts ++ us)
-  behind {s} {m} {e} {ts} {us} h k =
+  joined_in_order : {s m e : Laid} {ts us : List Tree} → StandsInOrder g s m ts
+      → StandsInOrder g m e us → StandsInOrder g s e (ts ++ us)
+  joined_in_order {s} {m} {e} {ts} {us} h k =
       let at : here g m ≡ here g s + length h.bytes =
       omega (arith, ap length h.bytes_are, length-append s.tail h.bytes) in
       record {
@@ -226,18 +226,18 @@ mutual
   in_order {g = g} (lays_no_items {s = s'}) word = nothing g s' _ word
   in_order {g = g} (lays_items {ts = ts'} h some c) word =
       let k = each_in_order h word in
-      behind g k (array_in_order g ts' k.whole some c)
+      joined_in_order g k (array_in_order g ts' k.whole some c)
   in_order {g = g} (lays_no_entries {s = s'}) word = nothing g s' _ word
   in_order {g = g} {s = s} (lays_entries {mid = m'} {es = es'} ps p h some c) word =
       let k = each_in_order h word in
-      behind g (subst (StandsInOrder g s m') (values_walked es') k)
+      joined_in_order g (subst (StandsInOrder g s m') (values_walked es') k)
       (table_in_order g es' k.whole some c)
 
   each_in_order : {g : Given} {s e : Laid} {ts : Trees} {ws : List ℕ} → LaysEach g s ts e ws
       → here g s % 4 ≡ 0 → StandsInOrder g s e (walk_each ts)
   each_in_order {g = g} (each_none {s = s'}) word = none g s' word
   each_in_order {g = g} (each_more h k) word =
-      let first = in_order h word in behind g first (each_in_order k first.whole)
+      let first = in_order h word in joined_in_order g first (each_in_order k first.whole)
 
 -- the resources of a tree are laid in walk order
 pub laid_in_order : LaidInOrder

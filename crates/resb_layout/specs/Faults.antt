@@ -1,12 +1,12 @@
 -- Why a tree isn't written with the keys of a list.
---     tree_fault t ks         the first fault, in the order in which they are answered
---     RefusesWriting t ks f          f may be the answer
+--     tree_fault t ks          the first fault, in the order in which they are answered
+--     RefusesWriting t ks f    f may be the answer
 use Rattle.std.specs.Prelude.{◌≡◌, ℕ, ◌^◌, ◌≤◌, List, length, Bool, false, nat_eq, nat_lt, codes}
 use Rattle.std.specs.Prelude.{Option, Some, None, option_map, unwrap_or, if◌then◌else◌}
 use Rattle.std.specs.List.{list_any}
 use Rattle.std.specs.Option.{is_none}
 use Rattle.resb_tree.specs.Tree.{Tree, array, binary, int_vector}
-use Rattle.resb_pool.specs.Fault.{Fault, string_too_long, unexpected, limit, out_of_memory}
+use Rattle.resb_layout.specs.Fault.{Fault, string_too_long, unexpected, limit, out_of_memory}
 use Rattle.resb_pool.specs.Plan.{first_too_long}
 use Rattle.resb_tree.specs.WalkOrder.{walk_order, members, texts_of}
 use Rattle.resb_layout.specs.KeyBlock.{used, position_in}

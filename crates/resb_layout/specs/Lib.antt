@@ -6,13 +6,13 @@ pub use Rattle.resb_format.specs.Strings
 pub use Rattle.resb_format.specs.Parts
 pub use Rattle.resb_format.specs.Content
 pub use Rattle.resb_format.specs.Denotes
-pub use Rattle.resb_format.specs.File
-pub use Rattle.resb_pool.specs.Fault
+pub use Rattle.resb_head.specs.File
 pub use Rattle.resb_pool.specs.Plan
 pub mod Laid
 pub mod InOrder
 pub mod KeyBlock
 pub mod PlainSize
+pub mod Fault
 pub mod Faults
 pub mod WrittenHead
 pub mod Written

@@ -4,8 +4,7 @@
 use Rattle.std.specs.Prelude.{◌≡◌, ℕ, ◌+◌, ◌*◌, ◌%◌, ◌≤◌, ◌==◌, List, [], ◌∷◌, ◌++◌, length, drop}
 use Rattle.std.specs.Prelude.{Bool, Option, None, if◌then◌else◌}
 use Rattle.resb_tree.specs.Tree.{Tree, tree_count}
-use Rattle.resb_format.specs.Parts.{body_of, root_word, keys_end, block_end}
-use Rattle.resb_format.specs.File.{Denotes, budget}
+use Rattle.resb_head.specs.File.{body_of, root_word, keys_end, block_end, Denotes, budget}
 use Rattle.resb_pool.specs.Plan.{IsPlan}
 use Rattle.resb_layout.specs.Laid.{Laid, Lays, halves}
 use Rattle.resb_tree.specs.WalkOrder.{texts_of}

@@ -4,8 +4,8 @@
 --                             not
 use Rattle.std.specs.Prelude.{◌≡◌, ℕ, ◌*◌, List, [], ◌∷◌, length, take, Bool, if◌then◌else◌}
 use Rattle.resb_tree.specs.Tree.{Tree, largest_table}
-use Rattle.resb_format.specs.Parts.{body_of, field_count, resources_end, bundle_end}
-use Rattle.resb_format.specs.Parts.{largest_table_field, attributes}
+use Rattle.resb_head.specs.File.{body_of, field_count, resources_end, bundle_end}
+use Rattle.resb_head.specs.File.{largest_table_field, attributes}
 
 -- 32 bytes of header, of which 20 are the info: little-endian, ASCII, two bytes a unit, `ResB`,
 -- format version 2.0, data version 1.4

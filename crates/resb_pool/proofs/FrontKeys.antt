@@ -98,7 +98,7 @@ next_end a i x whole l e h =
     ap (front_key (a * 0x20_0000 + 0x1f_ffff) (6 - (i + 1))) e
     ∙ ap (front_key a (suc (6 - (i + 1)))) (sym e) ∙ ap (λ n. front_key a n x) (sym (fewer i l)) ∙ h
 
-three_ways : (P : Type 0) (x y : ℕ) → (nat_cmp x y ≡ Less → P) → (x ≡ y → P) → (y < x → P) → P
+pub three_ways : (P : Type 0) (x y : ℕ) → (nat_cmp x y ≡ Less → P) → (x ≡ y → P) → (y < x → P) → P
 three_ways P x y less same more = by_ranked (x < y) (x ≡ y) (y < x) (nat_cmp x y)
     (ranked x y (nat_cmp x y) refl) (λ e h. less e) (λ e h. same h) (λ e h. more h)
 

@@ -21,4 +21,5 @@ mod SuffixOrder
 mod Cut
 mod Ends
 mod FrontKeys
+mod FrontBytes
 mod SuffixRuns

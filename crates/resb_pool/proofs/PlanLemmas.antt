@@ -43,7 +43,13 @@ texts_len [] = refl
 texts_len (r ∷ v) = omega (arith, texts_len v)
 
 no_record : Record
-no_record = record { unit_count = 0; saved = record { 0 = 0 }; text = blank; index = 0 }
+no_record = record {
+  unit_count = 0;
+  saved = record { 0 = 0 };
+  front = 0;
+  text = blank;
+  index = 0;
+}
 
 size_nil : size [] ≡ 1
 size_nil =

@@ -3,8 +3,7 @@
 pub use Rattle.resb_format.specs.Bytes
 pub use Rattle.resb_format.specs.Units
 pub use Rattle.resb_format.specs.Strings
-pub mod Fault
-pub mod FaultOf
+pub mod Refusal
 pub mod Records
 pub mod Order
 pub mod Container

@@ -2,9 +2,9 @@
 --     plan_units p            its units: unit 0 and the records
 --     offset_of p s           where the text s stands, if it was given
 --     IsPlan S us offset      these are the units and offsets of the strings S
---     NotPlanned S f          the fault f is the answer for the strings S
+--     NotPlanned S e          the error e is the answer for the strings S
 use Rattle.std.specs.Prelude.{◌≡◌, ℕ, ◌+◌, ◌^◌, ◌≤◌, List, [], ◌∷◌, length, Option, Some, None}
-use Rattle.std.specs.Prelude.{MatchOption, All, Contains, nat_le, sum_by, map, codes, slice_get}
+use Rattle.std.specs.Prelude.{MatchOption, All, Contains, nat_le, sum_by, map, slice_get}
 use Rattle.std.specs.Prelude.{if◌then◌else◌}
 use Rattle.std.specs.Borrow.{Bor}
 use Rattle.std.specs.Str.{bytes_eq, IsUtf8}
@@ -12,9 +12,11 @@ use Rattle.std.specs.Option.{option_and_then}
 use Rattle.indexmap.specs.IndexMap.{IndexMap, get_by}
 use Rattle.indexmap.specs.IndexSet.{index_of_by}
 use Rattle.resb_format.specs.Units.{units}
-use Rattle.resb_pool.specs.Fault.{Fault, string_too_long, limit, out_of_memory}
 use Rattle.resb_pool.specs.Pool.{IsPool, Off}
 use Rattle.resb_pool.specs.declared.offsets.Plan.{Plan}
+use Rattle.resb_pool.specs.declared.error.PlanError.{PlanError}
+use Rattle.resb_pool.specs.declared.error.PlanError.TheVariants.{StringTooLong, TooLarge}
+use Rattle.resb_pool.specs.declared.error.PlanError.TheVariants.{OutOfMemory}
 
 -- the texts that borrowed strings are
 abbrev pub nows : List (Bor (List ℕ)) → List (List ℕ)
@@ -58,8 +60,7 @@ texts_size ss = sum_by (λ s. 16 + length (units s)) ss
 
 -- why strings have no plan: want of memory, the first string that is too long, or a pool of
 -- 2^28 units and more
-pub data NotPlanned (S : List (List ℕ)) : Fault → Type 0 where
-  no_memory : NotPlanned S out_of_memory
-  too_long : {n : ℕ} → first_too_long S ≡ Some n → NotPlanned S (string_too_long n)
-  too_large : first_too_long S ≡ None → 2 ^ 28 ≤ texts_size S
-      → NotPlanned S (limit (codes "file too large"))
+pub data NotPlanned (S : List (List ℕ)) : PlanError → Type 0 where
+  no_memory : NotPlanned S OutOfMemory
+  too_long : {n : ℕ} → first_too_long S ≡ Some n → NotPlanned S (StringTooLong n)
+  too_large : first_too_long S ≡ None → 2 ^ 28 ≤ texts_size S → NotPlanned S TooLarge

@@ -1,128 +1,44 @@
-//! Why a file isn't written.
-//! When each fault comes is said by the contract of `Serializer::to_bytes`.
-ghost use Rattle.std.specs.Prelude.{◌≡◌, ◌↔◌, IsTrue};
-ghost use Rattle.resb_pool.specs.Fault as fault;
+//! Why strings aren't planned, and what that prints as.
+//! When each of these comes is said by the contract of `plan`.
+ghost use Rattle.std.specs.Prelude.{◌≡◌, Some};
+ghost use Rattle.resb_pool.specs.Refusal.{message_of};
+ghost use Rattle.resb_pool.specs.declared.error.PlanError.TheVariants.{OutOfMemory};
 
-use resb_tree::NoMemory;
-use std::alloc::{AllocError, AllocFailed};
+use std::alloc::AllocError;
 use std::error::Error;
 use std::fmt;
 
-/// A tree that can't be written, or want of memory.
-#[derive(Debug, Drop)]
-pub struct BinarySerializerError {
-    kind: Kind,
-}
-
-#[derive(Clone, Copy, Debug)]
-enum Kind {
+/// Why strings aren't planned.
+#[derive(Clone, Copy, Debug, PartialEq, Eq)]
+pub enum PlanError {
+    /// A string of so many 16-bit units, more than 4294967295.
     StringTooLong(usize),
-    Unexpected(&'static str),
-    Limit(&'static str),
+    /// The strings' 16-bit units, and 16 for each string, come to 2^28 or more.
+    TooLarge,
+    /// A request for memory was refused.
     OutOfMemory,
 }
 
-impl BinarySerializerError {
-    ghost use Rattle.resb_pool.specs.FaultOf.{fault_of};
-
-    /// A string of `length` 16-bit units, more than 4294967295.
-    pub fn string_too_long(length: usize) -> BinarySerializerError
-        ensures { fault_of result ≡ fault.string_too_long length }
-    {
-        BinarySerializerError {
-            kind: Kind::StringTooLong(length),
-        }
-    }
-
-    /// A tree and keys that don't belong together.
-    pub fn unexpected(message: &'static str) -> BinarySerializerError
-        ensures { fault_of result ≡ fault.unexpected message.entry.now }
-    {
-        BinarySerializerError {
-            kind: Kind::Unexpected(message),
-        }
-    }
-
-    /// A number that is over what the format can hold.
-    pub fn limit(message: &'static str) -> BinarySerializerError
-        ensures { fault_of result ≡ fault.limit message.entry.now }
-    {
-        BinarySerializerError {
-            kind: Kind::Limit(message),
-        }
-    }
-
-    /// A request for memory was refused.
-    pub fn out_of_memory() -> BinarySerializerError
-        ensures { fault_of result ≡ fault.out_of_memory }
-    {
-        BinarySerializerError {
-            kind: Kind::OutOfMemory,
-        }
-    }
-
-    /// Whether the error is want of memory.
-    pub fn is_out_of_memory(&self) -> bool
-        ensures { IsTrue result ↔ (fault_of self.now ≡ fault.out_of_memory) }
-    {
-        matches!(self.kind, Kind::OutOfMemory)
-    }
-}
-
-impl fmt::Display for BinarySerializerError {
-    ghost use Rattle.std.specs.Prelude.{Some};
-    ghost use Rattle.resb_pool.specs.Fault.{message_of};
-    ghost use Rattle.resb_pool.specs.FaultOf.{fault_of};
-
-    ghost output = { λ e. Some (message_of (fault_of e)) };
+impl fmt::Display for PlanError {
+    ghost output = { λ e. Some (message_of e) };
 
     fn fmt<W: fmt::Write>(&self, f: &mut fmt::Formatter<W>) -> fmt::Result {
-        match self.kind {
-            Kind::StringTooLong(length) => write!(
-                f,
-                "Cannot serialize string of length {length}, maximum is 4,294,967,295 characters"
-            ),
-            Kind::Unexpected(message) => write!(f, "Unexpected error: {message}"),
-            Kind::Limit(message) => write!(f, "Limit exceeded: {message}"),
-            Kind::OutOfMemory => write!(f, "Out of memory: while writing"),
+        match self {
+            PlanError::StringTooLong(length) => {
+                write!(f, "string of {length} units, more than 4294967295")
+            }
+            PlanError::TooLarge => write!(f, "strings too large"),
+            PlanError::OutOfMemory => write!(f, "out of memory"),
         }
     }
 }
 
-impl Error for BinarySerializerError {}
+impl Error for PlanError {}
 
-impl From<AllocError> for BinarySerializerError {
-    ghost use Rattle.std.specs.Prelude.{◌≡◌};
-    ghost use Rattle.resb_pool.specs.Fault.{out_of_memory};
-    ghost use Rattle.resb_pool.specs.FaultOf.{fault_of};
+impl From<AllocError> for PlanError {
+    ghost from_gives = { λ x y. y ≡ OutOfMemory };
 
-    ghost from_gives = { λ _ e. fault_of e ≡ out_of_memory };
-
-    fn from(_: AllocError) -> BinarySerializerError {
-        BinarySerializerError::out_of_memory()
-    }
-}
-
-impl From<NoMemory> for BinarySerializerError {
-    ghost use Rattle.std.specs.Prelude.{◌≡◌};
-    ghost use Rattle.resb_pool.specs.Fault.{out_of_memory};
-    ghost use Rattle.resb_pool.specs.FaultOf.{fault_of};
-
-    ghost from_gives = { λ _ e. fault_of e ≡ out_of_memory };
-
-    fn from(_: NoMemory) -> BinarySerializerError {
-        BinarySerializerError::out_of_memory()
-    }
-}
-
-impl<T: Drop> From<AllocFailed<T>> for BinarySerializerError {
-    ghost use Rattle.std.specs.Prelude.{◌≡◌};
-    ghost use Rattle.resb_pool.specs.Fault.{out_of_memory};
-    ghost use Rattle.resb_pool.specs.FaultOf.{fault_of};
-
-    ghost from_gives = { λ _ e. fault_of e ≡ out_of_memory };
-
-    fn from(_: AllocFailed<T>) -> BinarySerializerError {
-        BinarySerializerError::out_of_memory()
+    fn from(_: AllocError) -> PlanError {
+        PlanError::OutOfMemory
     }
 }

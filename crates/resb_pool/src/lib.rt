@@ -1,6 +1,5 @@
 //! Plans the strings of a bundle: which get a record in the 16-bit block, and where each text lies.
-//! No plan knows of trees, keys or files. The errors of writing stand here too, since a plan is
-//! refused by them.
+//! No plan knows of trees, keys or files.
 #![tactic(auto)]
 
 mod error;
@@ -13,5 +12,5 @@ mod records;
 mod suffix_order;
 mod texts;
 
-pub use error::BinarySerializerError;
+pub use error::PlanError;
 pub use offsets::Plan;

@@ -3,10 +3,9 @@
 ghost use Rattle.std.specs.Prelude.{◌≡◌, ◌+◌, ◌<◌, ◌≤◌, ◌^◌, None, MatchOption, length, nat_le};
 ghost use Rattle.std.specs.Prelude.{OnOk, IfErr};
 ghost use Rattle.resb_format.specs.Units.{units, size};
-ghost use Rattle.resb_pool.specs.FaultOf.{fault_of};
 ghost use Rattle.resb_pool.specs.Plan.{nows, first_too_long, NotPlanned};
 
-use crate::error::BinarySerializerError;
+use crate::error::PlanError;
 use resb_format::{MAX_UNMARKED, marker_units, utf16_len};
 
 /// The most units of a string, which its marker can say.
@@ -63,13 +62,13 @@ fn excessive_len(text: &str) -> Option<usize>
 }
 
 /// Refuses the first text of more than 4294967295 units.
-pub(crate) fn check_lengths(strings: &[&str]) -> Result<(), BinarySerializerError>
+pub(crate) fn check_lengths(strings: &[&str]) -> Result<(), PlanError>
     ensures ok { OnOk result (first_too_long (nows strings.now) ≡ None) }
-    ensures err { IfErr result (λ e. NotPlanned (nows strings.now) (fault_of e)) }
+    ensures err { IfErr result (NotPlanned (nows strings.now)) }
 {
     for text in strings {
         if let Some(count) = excessive_len(text) {
-            return Err(BinarySerializerError::string_too_long(count));
+            return Err(PlanError::StringTooLong(count));
         }
     }
     Ok(())

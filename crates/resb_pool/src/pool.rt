@@ -1,12 +1,11 @@
 //! The plan of a pool: strings in, the units of their records and their offsets out.
 //! Each step has a file of its own: `texts`, `homes`, `records`, `offsets`.
 ghost use Rattle.std.specs.Prelude.{ℕ, ◌<◌, ◌^◌, List, map, IfOk, IfErr};
-ghost use Rattle.resb_pool.specs.FaultOf.{fault_of};
 ghost use Rattle.resb_pool.specs.Plan.{nows, plan_units, offset_of, texts_size, IsPlan, NotPlanned};
 ghost use Rattle.resb_pool.specs.Inner.Placing.{AreTexts, AreHomes};
 ghost use Rattle.resb_pool.specs.Inner.LaidRecords.{IsBlock, HaveOffsets};
 
-use crate::error::BinarySerializerError;
+use crate::error::PlanError;
 use crate::homes::{Home, find_homes, find_sums};
 use crate::measure::{Measure, check_lengths};
 use crate::offsets::{Plan, find_offsets};
@@ -49,11 +48,11 @@ fn place(
 /// stands at the end of the greatest record, in the order of characters from the end, that ends
 /// with it. (ICU's `reslist.cpp`: shared suffixes.)
 ///
-/// Refused are a string of more than 4294967295 units, as too long, and strings whose units and 16
-/// for each come to 2^28 or more, as `file too large`.
-pub fn plan<'a>(alloc: Global, strings: &[&'a str]) -> Result<Plan<'a>, BinarySerializerError>
+/// Refused are a string of more than 4294967295 units, the first of them, and strings whose units
+/// and 16 for each come to 2^28 or more.
+pub fn plan<'a>(alloc: Global, strings: &[&'a str]) -> Result<Plan<'a>, PlanError>
     ensures ok { IfOk result (λ p. IsPlan (nows strings.now) (plan_units p) (offset_of p)) }
-    ensures err { IfErr result (λ e. NotPlanned (nows strings.now) (fault_of e)) }
+    ensures err { IfErr result (NotPlanned (nows strings.now)) }
 {
     check_lengths(strings)?;
     let texts = gather(alloc, strings)?;

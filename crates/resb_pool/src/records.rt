@@ -1,19 +1,21 @@
 //! The records in their order, and their units.
 //! Which texts are records is said in `homes`.
 ghost use Rattle.std.specs.Prelude.{◌≡◌, ◌++◌, ◌∷◌, ◌+◌, ◌<◌, ◌^◌, length, map};
-ghost use Rattle.std.specs.Prelude.{All, IfOk, OnOk, sum_by};
+ghost use Rattle.std.specs.Prelude.{All, IfOk, OnOk, sum_by, slice_index};
 ghost use Rattle.std.specs.Prelude.{nat_eq, not, ◌&&◌};
 ghost use Rattle.std.specs.List.{flat_map};
 ghost use Rattle.std.specs.List.Sorted.{IsSorted};
+ghost use Rattle.resb_format.specs.Units as text_units;
 ghost use Rattle.resb_format.specs.Units.{units as units_of, marker, size};
 ghost use Rattle.resb_pool.specs.Pool.{record_units};
 ghost use Rattle.resb_pool.specs.Plan.{nows};
 ghost use Rattle.resb_pool.specs.Records.{EachOnce, IsRecords};
 ghost use Rattle.resb_pool.specs.Inner.Placing.{AreHomes, AreSums, AreIndexed, AreEnds};
 ghost use Rattle.resb_pool.specs.Inner.Placing.{IsRecordOf, record_texts, record_cmp};
+ghost use Rattle.resb_pool.specs.Inner.Placing.{AreBytes, front_bytes};
 
 use crate::homes::Home;
-use resb_format::is_unmarked;
+use resb_format::MAX_UNMARKED;
 use std::alloc::{AllocError, Global};
 use std::cmp::Reverse;
 
@@ -23,6 +25,8 @@ use std::cmp::Reverse;
 pub(crate) struct Record<'a> {
     pub(crate) unit_count: u32,
     pub(crate) saved: Reverse<u32>,
+    /// The text's first eight bytes, which tell most texts apart.
+    pub(crate) front: u64,
     pub(crate) text: &'a str,
     /// The text's index.
     pub(crate) index: usize,
@@ -40,6 +44,31 @@ fn is_record(home: &Home, index: usize, text: &str) -> bool
     ensures { result ≡ (nat_eq home.now.record index && not (nat_eq (length text.now) 0)) }
 {
     home.record == index && !text.is_empty()
+}
+
+/// The byte at a place, or 0 behind the last.
+fn byte_or_0(bytes: &[u8], place: usize) -> u8
+    ensures { result ≡ slice_index bytes.now place }
+{
+    if place < bytes.len() { bytes[place] } else { 0 }
+}
+
+/// The first eight bytes as a number, the first one in the highest place. A byte that isn't there
+/// is 0.
+fn front_of(bytes: &[u8]) -> u64
+    ensures front { result ≡ front_bytes 0 8 bytes.now }
+    ensures bytes { AreBytes bytes.now }
+{
+    u64::from_be_bytes([
+        byte_or_0(bytes, 0),
+        byte_or_0(bytes, 1),
+        byte_or_0(bytes, 2),
+        byte_or_0(bytes, 3),
+        byte_or_0(bytes, 4),
+        byte_or_0(bytes, 5),
+        byte_or_0(bytes, 6),
+        byte_or_0(bytes, 7),
+    ])
 }
 
 /// The records among texts: those that aren't empty and lie in themselves.
@@ -63,6 +92,7 @@ fn find_records<'a>(
         records.push(Record {
             unit_count: home.measure.unit_count,
             saved: Reverse(sums[index] - home.measure.size),
+            front: front_of(texts[index].as_bytes()),
             text: texts[index],
             index,
         })?;
@@ -85,7 +115,7 @@ pub(crate) fn ordered<'a>(
     ensures ascend { IfOk result (λ v. IsSorted record_cmp v.items) }
 {
     let mut records = find_records(alloc, texts, homes, sums)?;
-    records.sort()?;
+    records.sort_unstable();
     Ok(records)
 }
 
@@ -110,6 +140,14 @@ fn push_units(units: &mut Vec<u16>, text: &str) -> Result<(), AllocError>
     Ok(())
 }
 
+/// Whether a text of so many units stands without a marker.
+fn is_unmarked(text: &str, count: u32) -> bool
+    requires { count ≡ length (units_of text.now) }
+    ensures { result ≡ text_units.is_unmarked text.now }
+{
+    count as usize <= MAX_UNMARKED && !text.as_bytes().contains(&0)
+}
+
 /// Appends the marker of a text of so many units. (ICU's `uresdata.h`, strings of format version
 /// 2.)
 fn push_marker(units: &mut Vec<u16>, text: &str, count: u32) -> Result<(), AllocError>
@@ -117,7 +155,7 @@ fn push_marker(units: &mut Vec<u16>, text: &str, count: u32) -> Result<(), Alloc
     requires short { count < 2 ^ 28 }
     ensures { OnOk result (units.new.items ≡ units.old.items ++ marker text.now) }
 {
-    if is_unmarked(text) {
+    if is_unmarked(text, count) {
         return Ok(());
     }
     if count <= 0x3ee {

@@ -3,11 +3,10 @@
 ghost use Rattle.std.specs.Prelude.{◌≡◌, ◌++◌, ◌∷◌, ◌<◌, ◌^◌, [], List, ℕ, IfOk, IfErr, OnOk, None};
 ghost use Rattle.std.specs.Prelude.{length};
 ghost use Rattle.resb_format.specs.Units.{units};
-ghost use Rattle.resb_pool.specs.FaultOf.{fault_of};
 ghost use Rattle.resb_pool.specs.Plan.{nows, first_too_long, texts_size, NotPlanned};
 ghost use Rattle.resb_pool.specs.Inner.Placing.{AreTexts};
 
-use crate::error::BinarySerializerError;
+use crate::error::PlanError;
 use crate::measure::{Measure, SIZE_LIMIT, is_vast};
 use indexmap::IndexSet;
 use std::alloc::{AllocError, Global};
@@ -58,22 +57,22 @@ fn add<'a>(texts: &mut Texts<'a>, text: &'a str) -> Result<usize, AllocError>
 }
 
 /// Adds strings to no texts. Refused are strings whose units and 16 for each come to 2^28 or more.
-fn add_all<'a>(texts: &mut Texts<'a>, strings: &[&'a str]) -> Result<(), BinarySerializerError>
+fn add_all<'a>(texts: &mut Texts<'a>, strings: &[&'a str]) -> Result<(), PlanError>
     requires short { first_too_long (nows strings.now) ≡ None }
     requires empty { AreTexts [] (nows texts.old.distinct.keys) texts.old.measures.items }
     ensures texts { OnOk result (AreTexts (nows strings.now) (nows texts.new.distinct.keys)
         texts.new.measures.items) }
     ensures small { OnOk result (texts_size (nows strings.now) < 2 ^ 28) }
-    ensures err { IfErr result (λ e. NotPlanned (nows strings.now) (fault_of e)) }
+    ensures err { IfErr result (NotPlanned (nows strings.now)) }
 {
     let mut size = 0;
     for text in strings {
         if is_vast(text) {
-            return Err(BinarySerializerError::limit("file too large"));
+            return Err(PlanError::TooLarge);
         }
         size += 16 + add(texts, text)?;
         if size >= SIZE_LIMIT {
-            return Err(BinarySerializerError::limit("file too large"));
+            return Err(PlanError::TooLarge);
         }
     }
     Ok(())
@@ -81,15 +80,12 @@ fn add_all<'a>(texts: &mut Texts<'a>, strings: &[&'a str]) -> Result<(), BinaryS
 
 /// The distinct texts of strings. Refused are strings whose units and 16 for each come to 2^28 or
 /// more.
-pub(crate) fn gather<'a>(
-    alloc: Global,
-    strings: &[&'a str],
-) -> Result<Texts<'a>, BinarySerializerError>
+pub(crate) fn gather<'a>(alloc: Global, strings: &[&'a str]) -> Result<Texts<'a>, PlanError>
     requires { first_too_long (nows strings.now) ≡ None }
     ensures texts { IfOk result (λ t.
         AreTexts (nows strings.now) (nows t.distinct.keys) t.measures.items) }
     ensures small { OnOk result (texts_size (nows strings.now) < 2 ^ 28) }
-    ensures err { IfErr result (λ e. NotPlanned (nows strings.now) (fault_of e)) }
+    ensures err { IfErr result (NotPlanned (nows strings.now)) }
 {
     let mut texts = Texts::with_capacity(alloc, strings.len())?;
     add_all(&mut texts, strings)?;

@@ -17,7 +17,7 @@ use Rattle.resb_grammar.specs.Tokens.{Skip, Blanks, none}
 use Rattle.resb_grammar.specs.Items.{a_table, keys_in}
 use Rattle.resb_grammar.specs.GroupTypes.{Stands, no_fallback_type}
 use Rattle.resb_grammar.specs.BundleText.{first_places, Typing, without, with, BundleText}
-use Rattle.resb_print.specs.Printed.{name_on, root_type_on, entries_on, bundle_text}
+use Rattle.resb_print.specs.Printed.{name_on, root_type_on, entries_on, printed_bundle}
 use Rattle.resb_print.specs.Held.{HeldIn}
 use Rattle.resb_print.specs.declared.cause.Cause.{Cause}
 use Rattle.resb_print.specs.declared.cause.Cause.TheVariants.{QuoteInName}
@@ -113,7 +113,7 @@ module _ (text : List ℕ) where
 
   bundle_read : (name : List ℕ) (fallback : Bool) (es : Entries) → NoQuote name
       → IsStrictlySortedBy text_cmp (entry_keys es) → HeldIn es → FreeIn es
-      → From text 0 (bundle_text name fallback es)
+      → From text 0 (printed_bundle name fallback es)
       → (keys : List (List ℕ)) × BundleText text name fallback (table es) keys
   bundle_read name fallback es free ascend held frees h =
       let last = ascii.line_feed ∷ ascii.right_brace ∷ ascii.line_feed ∷ [] in
@@ -156,9 +156,9 @@ module _ (text : List ℕ) where
 pub printed_is_bundle : (name : List ℕ) (fallback : Bool) (es : Entries) → NoQuote name
     → IsStrictlySortedBy text_cmp (entry_keys es) → HeldIn es → FreeIn es
     → (keys : List (List ℕ))
-    × BundleText (bundle_text name fallback es) name fallback (table es) keys
+    × BundleText (printed_bundle name fallback es) name fallback (table es) keys
 printed_is_bundle name fallback es free ascend held frees =
-    bundle_read (bundle_text name fallback es) name fallback es free ascend held frees
+    bundle_read (printed_bundle name fallback es) name fallback es free ascend held frees
     (record { is = refl })
 
 -- what is written in turn is the text of the bundle
@@ -166,7 +166,7 @@ pub written : (s0 s1 s2 s3 s4 s5 : String Global) (name own : List ℕ) (f : Boo
     → string_bytes s0 ≡ [] → Writes s0 s1 (name_on name) → Writes s1 s2 (root_type_on f)
     → string_bytes s3 ≡ string_bytes s2 ++ codes "{" → ArePrinted s3 s4 es
     → string_bytes s5 ≡ string_bytes s4 ++ (ascii.line_feed ∷ ascii.right_brace ∷ ascii.line_feed ∷
-    []) → name ≡ own → string_bytes s5 ≡ bundle_text own f es
+    []) → name ≡ own → string_bytes s5 ≡ printed_bundle own f es
 written s0 s1 s2 s3 s4 s5 name own f es e0 w1 w2 e3 w4 e5 e =
     let last = ascii.line_feed ∷ ascii.right_brace ∷ ascii.line_feed ∷ [] in
     let entries = entries_on 1 es last in
@@ -177,7 +177,7 @@ written s0 s1 s2 s3 s4 s5 name own f es e0 w1 w2 e3 w4 e5 e =
 
 -- and that is a bundle text
 pub whole : (text own : List ℕ) (f : Bool) (es : Entries) (t : Tree) (s3 s4 : String Global)
-    → text ≡ bundle_text own f es → ArePrinted s3 s4 es → NoQuote own → t ≡ table es
+    → text ≡ printed_bundle own f es → ArePrinted s3 s4 es → NoQuote own → t ≡ table es
     → (keys : List (List ℕ)) × BundleText text own f t keys
 whole text own f es t s3 s4 same w free r =
     let (keys, b) = printed_is_bundle own f es free w.ascend w.held

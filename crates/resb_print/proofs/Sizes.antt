@@ -16,7 +16,7 @@ use Rattle.resb_print.specs.Held.{AreBelow, IsHeld, AreHeld, HeldIn}
 use Rattle.resb_print.specs.Printed.{deeper, indent_on, line_on, quoted_on, is_bare, name_on}
 use Rattle.resb_print.specs.Printed.{more_numbers_on, numbers_on, end_on, string_on}
 use Rattle.resb_print.specs.Printed.{trees_end, entries_end, table_on, tree_on, trees_on}
-use Rattle.resb_print.specs.Printed.{entries_on, root_type_on, bundle_text}
+use Rattle.resb_print.specs.Printed.{entries_on, root_type_on, printed_bundle}
 use Rattle.resb_print.specs.Sizes.{data_length, data_lengths, data_length_in, text_limit}
 
 deeper_le : (n : ℕ) → n ≤ 32 → deeper n ≤ 32
@@ -153,7 +153,7 @@ root_type_length false rest = omega arith
 
 -- no text of a bundle is longer than its limit
 pub within_limit : (name : List ℕ) (fallback : Bool) (es : Entries) → HeldIn es
-    → length (bundle_text name fallback es) ≤ text_limit name (table es)
+    → length (printed_bundle name fallback es) ≤ text_limit name (table es)
 within_limit name fallback es held =
     let last = 10 ∷ 125 ∷ 10 ∷ [] in
     let body = entries_on 1 es last in
@@ -166,7 +166,7 @@ within_limit name fallback es held =
 
 -- so for what is printed
 pub printed_within : (text name : List ℕ) (fallback : Bool) (es : Entries) (t : Tree)
-    → text ≡ bundle_text name fallback es → HeldIn es → t ≡ table es
+    → text ≡ printed_bundle name fallback es → HeldIn es → t ≡ table es
     → length text ≤ text_limit name t
 printed_within text name fallback es t is held root =
     subst (λ (u : Tree). length text ≤ text_limit name u) (sym root)

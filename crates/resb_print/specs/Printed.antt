@@ -1,6 +1,6 @@
 -- The text that a bundle is printed as: one entry or item a line, indented by its level, up to 32
 -- levels. Each definition ends in `_on` that writes something before what follows it.
---     bundle_text name fallback es    the text of a bundle whose root has these entries
+--     printed_bundle name fallback es    the text of a bundle whose root has these entries
 --     IsBundleText text name fallback t
 --                                     the text is that of the bundle
 use Rattle.std.specs.Prelude.{◌≡◌, ℕ, zero, suc, ◌+◌, nat_lt, Bool, true, false, ◌&&◌}
@@ -116,8 +116,8 @@ root_type_on true rest = rest
 root_type_on false rest = codes ":table(nofallback)" ++ rest
 
 -- the name, the root's type, and the entries between braces, each on its line
-abbrev pub bundle_text : List ℕ → Bool → Entries → List ℕ
-bundle_text name fallback es =
+abbrev pub printed_bundle : List ℕ → Bool → Entries → List ℕ
+printed_bundle name fallback es =
     name_on name (root_type_on fallback (ascii.left_brace ∷ entries_on 1 es (ascii.line_feed ∷
     ascii.right_brace ∷ ascii.line_feed ∷ [])))
 
@@ -125,4 +125,4 @@ bundle_text name fallback es =
 pub record IsBundleText (text name : List ℕ) (fallback : Bool) (t : Tree) : Type 0 where
   pub entries : Entries
   pub root : t ≡ table entries
-  pub is : text ≡ bundle_text name fallback entries
+  pub is : text ≡ printed_bundle name fallback entries

@@ -2,8 +2,7 @@
 use Rattle.std.proofs.Common.{ℕ, List, ◌≡◌, ◌≤◌, ◌+◌, inl, inr, Result, Ok, Err}
 use Rattle.std.proofs.Common.{sym, subst, arith}
 use Rattle.resb.specs.Tree.{Tree}
-use Rattle.resb_format.specs.Parts.{parts_of}
-use Rattle.resb_format.specs.File.{Denotes, budget}
+use Rattle.resb_head.specs.File.{parts_of, Denotes, budget}
 use Rattle.resb_format.proofs.Denoting.{unique, counted}
 use Rattle.resb_format.specs.declared.error.ReadingError.{ReadingError}
 use Rattle.resb_format.specs.Error.{refusal_of, IsWantOfMemory}

@@ -4,7 +4,7 @@ pub use Rattle.hex.specs.Hex
 pub use Rattle.resb.specs.Compiling
 pub use Rattle.resb.specs.View
 pub use Rattle.resb_format.specs.Error
-pub use Rattle.resb_format.specs.File
+pub use Rattle.resb_head.specs.File
 pub use Rattle.resb_head.specs.HeadChecks
 pub use Rattle.resb_read.specs.Reading
 pub use Rattle.resb_read.specs.Resources

@@ -12,7 +12,7 @@ use Rattle.std.specs.Io.KnownBytes.{Appends}
 use Rattle.hex.specs.Hex.{encode_lower}
 use Rattle.resb_format.specs.Error as reading
 use Rattle.resb_format.specs.Error.{kind_of, description_of, IsWantOfMemory, refusal_of}
-use Rattle.resb_format.specs.File.{Denotes, budget}
+use Rattle.resb_head.specs.File.{Denotes, budget}
 use Rattle.resb_format.specs.declared.error.ReadingError.{ReadingError}
 use Rattle.resb_read.specs.Refusing.{RefusesTree}
 use Rattle.resb_read.specs.Resources.{DenPlace}

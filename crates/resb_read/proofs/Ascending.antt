@@ -11,7 +11,8 @@ use Rattle.std.proofs.lemmas.Option.{same_Some}
 use Rattle.std.proofs.lemmas.Bool.{true≢false, false≢true}
 use Rattle.resb_read.specs.Places.{Place}
 use Rattle.resb_read.specs.Tables.{is_text, last_from, key_of, IsBelow, AscendAbove, Ascend}
-use Rattle.resb_read.specs.Tables.{is_above, text_in, ascend_above, ascend_from, ascend}
+use Rattle.resb_read.specs.Tables.{is_above, text_in, keys_ascend_above, keys_ascend_from}
+use Rattle.resb_read.specs.Tables.{keys_ascend}
 use Rattle.std.specs.Ordering.{is_lt}
 use Rattle.std.specs.declared.cmp.Ordering.{Ordering}
 use Rattle.std.specs.List.{zip, take-map, drop-map}
@@ -138,26 +139,26 @@ less_of Greater h = absurd (false≢true h)
 
 -- the test says that they ascend
 sound_step : (low : List ℕ) (o : Option (List ℕ × ℕ)) (es : List (Place × Place))
-    (b : Bool) → b ≡ is_above low o → (if b then ascend_above (text_in o) es else false) ≡ true
-    → (t : List ℕ × ℕ) × (o ≡ Some t) × IsBelow low t.0 × (ascend_above t.0 es ≡ true)
+    (b : Bool) → b ≡ is_above low o → (if b then keys_ascend_above (text_in o) es else false) ≡ true
+    → (t : List ℕ × ℕ) × (o ≡ Some t) × IsBelow low t.0 × (keys_ascend_above t.0 es ≡ true)
 sound_step low None es true k h = absurd (true≢false k)
 sound_step low None es false k h = absurd (false≢true h)
 sound_step low (Some t) es true k h = (t, refl, less_of (slice_cmp nat_cmp low t.0) (sym k), h)
 sound_step low (Some t) es false k h = absurd (false≢true h)
 
-sound_above : (low : List ℕ) (es : List (Place × Place)) → ascend_above low es ≡ true
+sound_above : (low : List ℕ) (es : List (Place × Place)) → keys_ascend_above low es ≡ true
     → AscendAbove low es
 sound_above low [] h = tt
 sound_above low (e ∷ es) h =
     let (t, key, above, rest) = sound_step low (key_of e) es (is_above low (key_of e)) refl h in
     (t, key, above, sound_above t.0 es rest)
 
-sound_from : (o : Option (List ℕ × ℕ)) (es : List (Place × Place)) → ascend_from o es ≡ true
+sound_from : (o : Option (List ℕ × ℕ)) (es : List (Place × Place)) → keys_ascend_from o es ≡ true
     → (t : List ℕ × ℕ) × (o ≡ Some t) × AscendAbove t.0 es
 sound_from (Some t) es h = (t, refl, sound_above t.0 es h)
 sound_from None es h = absurd (false≢true h)
 
-pub sound : (es : List (Place × Place)) → ascend es ≡ true → Ascend es
+pub sound : (es : List (Place × Place)) → keys_ascend es ≡ true → Ascend es
 sound [] h = tt
 sound (e ∷ es) h = sound_from (key_of e) es h
 

@@ -5,15 +5,15 @@ use Rattle.std.proofs.Common.{if◌then◌else◌, min, ◌≤◌, ◌/◌, ◌-
 use Rattle.std.specs.List.{zip}
 use Rattle.std.proofs.lemmas.List.{take-append-drop}
 use Rattle.resb_format.specs.Content as at
-use Rattle.resb_walk.specs.declared.file.File.{File}
-use Rattle.resb_walk.specs.Files.{parts_in}
+use Rattle.resb_format.specs.declared.file.File.{File}
+use Rattle.resb_format.specs.Parts.{parts_in}
 use Rattle.resb_format.specs.Bytes.{units_of, words_of}
 use Rattle.resb_format.proofs.Spelled.{units_length, words_length}
 use Rattle.resb_read.specs.Places.{Place}
 use Rattle.resb_read.specs.Leaves.{key_from}
 use Rattle.resb_read.specs.Sequences.{at_entry, at_spot}
 use Rattle.resb_read.specs.declared.cursor.Spot.TheVariants as spot
-use Rattle.resb_read.specs.Tables.{is_text, is_named, last_from, last_named}
+use Rattle.resb_read.specs.Tables.{is_text, has_name, last_from, last_named}
 use Rattle.resb_read.specs.Inner.Items.{near_entries}
 use Rattle.resb_read.proofs.Ascending.{from_append}
 use Rattle.resb_read.proofs.Lasts.{skipped, none_found}
@@ -46,7 +46,7 @@ pairs_end f (u ∷ us) (w ∷ ws) (suc n) h = pairs_end f us ws n (omega arith)
 
 -- an entry that hasn't the name, before others that haven't it
 unnamed : (name : List ℕ) (es : List (Place × Place)) (e : Place × Place) (n : ℕ)
-    → drop n es ≡ e ∷ drop (suc n) es → is_named name e ≡ false
+    → drop n es ≡ e ∷ drop (suc n) es → has_name name e ≡ false
     → last_named name (drop (suc n) es) ≡ None → last_named name (drop n es) ≡ None
 unnamed name es e n is other rest =
     ap (last_named name) is
@@ -54,7 +54,7 @@ unnamed name es e n is other rest =
 
 -- an entry that has the name, before others that haven't it
 named : (name : List ℕ) (es : List (Place × Place)) (e : Place × Place) (n : ℕ)
-    → drop n es ≡ e ∷ drop (suc n) es → is_named name e ≡ true
+    → drop n es ≡ e ∷ drop (suc n) es → has_name name e ≡ true
     → last_named name (drop (suc n) es) ≡ None → last_named name es ≡ Some e.1
 named name es e n is here rest =
     let before : Option Place = last_from name None (take n es) in
@@ -101,7 +101,7 @@ module _ (name : List ℕ) (f : File) (positions words : List ℕ) where
         let same : suc n ≡ left = omega (arith, some) in
         ap (λ k. last_named name (drop k es)) same ∙ rest
 
-    test : is_text name (key_from (parts_in f) (spot.Key position)) ≡ is_named name e
+    test : is_text name (key_from (parts_in f) (spot.Key position)) ≡ has_name name e
     test = ap (λ k. is_text name (key_from (parts_in f) (spot.Key k))) at_position
 
     -- the last of those that are left hasn't the name

@@ -5,9 +5,10 @@ use Rattle.std.proofs.lemmas.Slice.Eq.{bytes_eq-Decides}
 use Rattle.std.proofs.lemmas.Bool.{false≢true, false_from_ne_true}
 use Rattle.std.proofs.lemmas.Option.{same_Some}
 use Rattle.resb_read.specs.Places.{Place}
-use Rattle.resb_read.specs.Tables.{key_of, is_text, is_named, last_from, last_named}
+use Rattle.resb_read.specs.Tables.{key_of, is_text, has_name, last_from, last_named}
 use Rattle.resb_read.specs.Tables.{IsNamed, NoneNamed, IsLastNamed, LastOfAName}
-use Rattle.resb_read.specs.Tables.{Ascend, AscendAbove, ascend_above, ascend, AscendIsTold}
+use Rattle.resb_read.specs.Tables.{Ascend, AscendAbove, keys_ascend_above, keys_ascend}
+use Rattle.resb_read.specs.Tables.{AscendIsTold}
 use Rattle.resb_read.proofs.Ascending.{from_append, sound}
 
 -- the test and the relation
@@ -22,14 +23,14 @@ named_test : (name : List ℕ) (o : Option (List ℕ × ℕ)) (n : ℕ) → o �
     → is_text name o ≡ true
 named_test name o n h = ap (is_text name) h ∙ (bytes_eq-Decides name name).1 refl
 
-is_so : (name : List ℕ) (e : Place × Place) → is_named name e ≡ true → IsNamed name e
+is_so : (name : List ℕ) (e : Place × Place) → has_name name e ≡ true → IsNamed name e
 is_so name e h = let (n, k) = named_so name (key_of e) h in (n, (tt, k))
 
-so_is : (name : List ℕ) (e : Place × Place) → IsNamed name e → is_named name e ≡ true
+so_is : (name : List ℕ) (e : Place × Place) → IsNamed name e → has_name name e ≡ true
 so_is name e (n, (u, h)) = named_test name (key_of e) n h
 
-not_so : (name : List ℕ) (e : Place × Place) → (IsNamed name e → ⊥) → is_named name e ≡ false
-not_so name e h = false_from_ne_true (is_named name e) (λ k. h (is_so name e k))
+not_so : (name : List ℕ) (e : Place × Place) → (IsNamed name e → ⊥) → has_name name e ≡ false
+not_so name e h = false_from_ne_true (has_name name e) (λ k. h (is_so name e k))
 
 -- entries of other names leave what was found
 pub skipped : (name : List ℕ) (found : Option Place) (es : List (Place × Place)) → NoneNamed name es
@@ -42,7 +43,7 @@ skipped name found (e ∷ es) (other, rest) =
 found_last : (name : List ℕ) (es : List (Place × Place)) (p : Place) → IsLastNamed name es p
     → last_named name es ≡ Some p
 found_last name es p h =
-    let yes : is_named name (h.key, p) ≡ true = so_is name (h.key, p) h.named in
+    let yes : has_name name (h.key, p) ≡ true = so_is name (h.key, p) h.named in
     let before : Option Place = last_from name None h.before in
     ap (last_from name None) h.are
     ∙ from_append name h.before None ((h.key, p) ∷ h.after)
@@ -54,9 +55,9 @@ abbrev Found : List ℕ → List (Place × Place) → Option Place → Option Pl
 Found name es found r =
     (NoneNamed name es × (r ≡ found)) ⊎ ((p : Place) × (r ≡ Some p) × IsLastNamed name es p)
 
-behind : (name : List ℕ) (e : Place × Place) (es : List (Place × Place)) (p : Place)
+last_of_more : (name : List ℕ) (e : Place × Place) (es : List (Place × Place)) (p : Place)
     → IsLastNamed name es p → IsLastNamed name (e ∷ es) p
-behind name e es p h =
+last_of_more name e es p h =
     record {
       before = e ∷ h.before;
       key = h.key;
@@ -69,16 +70,16 @@ behind name e es p h =
 look : (name : List ℕ) (es : List (Place × Place)) (found : Option Place)
     → Found name es found (last_from name found es)
 look name [] found = inl (tt, refl)
-look name (e ∷ es) found = by (look name es) (is_named name e) refl
+look name (e ∷ es) found = by (look name es) (has_name name e) refl
   where
     further : (now r : Option Place) → Found name es now r
         → (NoneNamed name es → r ≡ now → Found name (e ∷ es) found r)
         → Found name (e ∷ es) found r
     further now r (inl none) k = k none.0 none.1
-    further now r (inr (p, is, last)) k = inr (p, is, behind name e es p last)
+    further now r (inr (p, is, last)) k = inr (p, is, last_of_more name e es p last)
 
     by : ((now : Option Place) → Found name es now (last_from name now es)) → (b : Bool)
-        → is_named name e ≡ b
+        → has_name name e ≡ b
         → Found name (e ∷ es) found (last_from name (if b then Some e.1 else found) es)
     by rest true h =
         further (Some e.1) (last_from name (Some e.1) es) (rest (Some e.1))
@@ -123,11 +124,11 @@ last_of_a_name name es = (
 
 -- the test of what ascends
 told_above : (low : List ℕ) (es : List (Place × Place)) → AscendAbove low es
-    → ascend_above low es ≡ true
+    → keys_ascend_above low es ≡ true
 told_above low [] h = refl
 told_above low (e ∷ es) (t, key, above, rest) = rw (key, above) (told_above t.0 es rest)
 
-told : (es : List (Place × Place)) → Ascend es → ascend es ≡ true
+told : (es : List (Place × Place)) → Ascend es → keys_ascend es ≡ true
 told [] h = refl
 told (e ∷ es) (t, key, rest) = rw key (told_above t.0 es rest)
 

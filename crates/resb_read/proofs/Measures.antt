@@ -5,8 +5,7 @@ use Rattle.std.proofs.Common.{◌∙◌, ap, subst, arith, nat_le, ◌^◌, fals
 use Rattle.std.proofs.lemmas.Bool.Decides.{nat_tests}
 use Rattle.std.specs.Prelude.{sum_by}
 use Rattle.resb_tree.specs.Tree.{Tree, tree_count}
-use Rattle.resb_format.specs.Parts.{parts_of}
-use Rattle.resb_format.specs.File.{budget}
+use Rattle.resb_head.specs.File.{parts_of, budget}
 use Rattle.resb_format.specs.Error.{IsWantOfMemory}
 use Rattle.resb_format.specs.declared.error.ReadingError.{ReadingError}
 use Rattle.resb_head.specs.HeadChecks.{file_fault}

@@ -16,7 +16,7 @@ use Rattle.std.specs.Cmp.Lexicographic.{slice_cmp}
 use Rattle.std.specs.declared.cmp.Ordering.{Ordering}
 use Rattle.std.specs.declared.cmp.Ordering.TheVariants.{Less, Equal, Greater}
 use Rattle.resb_format.specs.Strings.{before_zero, if_utf8, key_at}
-use Rattle.resb_format.proofs.StringsIn.{ended, not_ended}
+use Rattle.resb_format.proofs.StringsIn.{ends_at_zero, lacks_zero}
 use Rattle.resb_read.specs.Tables.{is_text}
 use Rattle.resb_read.specs.Inner.Naming.{is_ended, is_plain, order_ended}
 
@@ -32,7 +32,7 @@ zero_in xs = position_or_len (λ x. nat_eq x 0) xs
 at_zero : (b : ℕ) (bs : List ℕ) → (b == 0) ≡ true → before_zero (b ∷ bs) ≡ Some []
 at_zero b bs h =
     let e : zero_in (b ∷ bs) ≡ 0 = ap (λ z. cond (not z) (1 + zero_in bs) 0) h in
-    ended (b ∷ bs) (omega (arith, e)) ∙ ap (λ k. Some (take k (b ∷ bs))) e
+    ends_at_zero (b ∷ bs) (omega (arith, e)) ∙ ap (λ k. Some (take k (b ∷ bs))) e
 
 past_first : (b : ℕ) (bs : List ℕ) → (b == 0) ≡ false
     → before_zero (b ∷ bs) ≡ option_map (λ t. b ∷ t) (before_zero bs)
@@ -47,11 +47,11 @@ past_first b bs h = by (cases_lt (zero_in bs) (length bs))
     by : (zero_in bs < length bs) ⊎ (length bs ≤ zero_in bs)
         → before_zero (b ∷ bs) ≡ option_map (λ t. b ∷ t) (before_zero bs)
     by (inl l) =
-        ended (b ∷ bs) (omega (arith, same, l)) ∙ ap (λ k. Some (take k (b ∷ bs))) same
-        ∙ sym (ap (option_map (λ t. b ∷ t)) (ended bs l))
+        ends_at_zero (b ∷ bs) (omega (arith, same, l)) ∙ ap (λ k. Some (take k (b ∷ bs))) same
+        ∙ sym (ap (option_map (λ t. b ∷ t)) (ends_at_zero bs l))
     by (inr g) =
-        not_ended (b ∷ bs) (omega (arith, same, g))
-        ∙ sym (ap (option_map (λ t. b ∷ t)) (not_ended bs g))
+        lacks_zero (b ∷ bs) (omega (arith, same, g))
+        ∙ sym (ap (option_map (λ t. b ∷ t)) (lacks_zero bs g))
 
 no_name : (b : ℕ) (o : Option (List ℕ)) → is_bytes [] (option_map (λ t. b ∷ t) o) ≡ false
 no_name b None = refl

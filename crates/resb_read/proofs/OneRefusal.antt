@@ -1,6 +1,6 @@
 -- A file is refused in one way.
 use Rattle.std.proofs.Common.{◌≡◌, inl, inr, sym, ◌∙◌}
-use Rattle.resb_format.specs.Parts.{parts_of}
+use Rattle.resb_head.specs.File.{parts_of}
 use Rattle.std.proofs.lemmas.Option.{same_Some}
 use Rattle.resb_format.specs.Error.{refusal_of}
 use Rattle.resb_format.specs.declared.error.ReadingError.{ReadingError}

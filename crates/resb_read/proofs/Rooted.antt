@@ -6,8 +6,7 @@ use Rattle.std.specs.Result.{IfOk, IfErr}
 use Rattle.resb_tree.specs.Tree.{Tree}
 use Rattle.resb_tree.specs.View.{tree_of}
 use Rattle.resb_tree.specs.declared.resource.Resource.{Resource}
-use Rattle.resb_format.specs.Parts.{IsBundleFile}
-use Rattle.resb_format.specs.File.{Denotes, budget}
+use Rattle.resb_head.specs.File.{IsBundleFile, Denotes, budget}
 use Rattle.resb_format.specs.Error.{Refusal}
 use Rattle.resb_format.specs.declared.error.ReadingError.{ReadingError}
 use Rattle.resb_head.specs.HeadChecks.{file_fault}

@@ -30,15 +30,13 @@ abbrev pub signed_at : Spot → Option (ℤ × ℕ)
 signed_at (spot.Descriptor w) =
     if type_in w == types.integer then Some (signed (value_in w), 1) else None
 signed_at (spot.Word w) = Some (cast_signed w32 w, 0)
-signed_at (spot.Unit u) = None
-signed_at (spot.Key k) = None
+signed_at s = None
 
 -- a number without a sign: the 28 bits of an Int, or a vector's word
 abbrev pub unsigned_at : Spot → Option (ℕ × ℕ)
 unsigned_at (spot.Descriptor w) = if type_in w == types.integer then Some (value_in w, 1) else None
 unsigned_at (spot.Word w) = Some (w, 0)
-unsigned_at (spot.Unit u) = None
-unsigned_at (spot.Key k) = None
+unsigned_at s = None
 
 -- 0 is false and 1 is true, for one resource
 abbrev pub bool_of : ℕ → Option (Bool × ℕ)
@@ -47,9 +45,7 @@ bool_of n = if n == 0 then Some (false, 1) else if n == 1 then Some (true, 1) el
 -- a bool stands at the descriptor of an integer, and nowhere else
 abbrev pub bool_at : Spot → Option (Bool × ℕ)
 bool_at (spot.Descriptor w) = if type_in w == types.integer then bool_of (value_in w) else None
-bool_at (spot.Word w) = None
-bool_at (spot.Unit u) = None
-bool_at (spot.Key k) = None
+bool_at s = None
 
 -- a number lies between two others, or is one of them
 abbrev pub IsWithin : ℤ → ℤ → ℤ → Type 0
@@ -82,9 +78,7 @@ CountsBool p n = CountsThere any (bool_at p.at) n
 -- the 28 bits of an Int
 abbrev pub bits_at : Spot → Option (ℕ × ℕ)
 bits_at (spot.Descriptor w) = if type_in w == types.integer then Some (value_in w, 1) else None
-bits_at (spot.Word w) = None
-bits_at (spot.Unit u) = None
-bits_at (spot.Key k) = None
+bits_at s = None
 
 -- these 28 bits stand there
 abbrev pub ReadsBits : Place → ℕ → ℕ → Type 0
@@ -117,10 +111,8 @@ CountsText p n = CountsThere any (text_from p.parts p.at) n
 
 -- the key at a spot, for no resource, if one stands there
 abbrev pub key_from : Parts → Spot → Option (List ℕ × ℕ)
-key_from p (spot.Descriptor w) = None
-key_from p (spot.Unit u) = None
-key_from p (spot.Word w) = None
 key_from p (spot.Key k) = option_map (λ s. (s, 0)) (key_at p.keys k)
+key_from p s = None
 
 -- this key stands there
 abbrev pub ReadsKey : Place → List ℕ → ℕ → Type 0

@@ -6,7 +6,7 @@ pub use Rattle.resb_format.specs.Parts
 pub use Rattle.resb_format.specs.Types
 pub use Rattle.resb_format.specs.Content
 pub use Rattle.resb_format.specs.Denotes
-pub use Rattle.resb_format.specs.File
+pub use Rattle.resb_head.specs.File
 pub use Rattle.resb_format.specs.Error
 pub use Rattle.resb_format.specs.StringFaults
 pub use Rattle.resb_format.specs.Descriptor
@@ -15,7 +15,6 @@ pub use Rattle.resb_head.specs.HeadChecks
 pub use Rattle.resb_head.specs.Codes
 pub use Rattle.resb_tree.specs.Tree
 pub use Rattle.resb_tree.specs.View
-pub use Rattle.resb_walk.specs.Files
 pub use Rattle.resb_walk.specs.BlockRefusals
 pub use Rattle.resb_walk.specs.Meets
 pub use Rattle.resb_walk.specs.Refusals

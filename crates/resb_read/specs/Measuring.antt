@@ -7,8 +7,7 @@
 use Rattle.std.specs.Prelude.{◌≡◌, ◌<◌, ◌≤◌, ◌⊎◌, ℕ, List, Result, Ok, Err, codes, sum_by}
 use Rattle.resb_tree.specs.Tree.{Tree, tree_count}
 use Rattle.resb_tree.specs.declared.resource.Resource.{Resource}
-use Rattle.resb_format.specs.Parts.{parts_of, root_word}
-use Rattle.resb_format.specs.File.{Denotes, budget}
+use Rattle.resb_head.specs.File.{parts_of, root_word, Denotes, budget}
 use Rattle.resb_format.specs.Error.{IsInvalid}
 use Rattle.resb_format.specs.declared.error.ReadingError.{ReadingError}
 use Rattle.resb_walk.specs.Pieces.{Piece, Holds, pieces}

@@ -1,7 +1,6 @@
 -- Places in a file, as contracts see them.
-use Rattle.resb_format.specs.Parts.{Parts}
+use Rattle.resb_format.specs.Parts.{Parts, parts_in}
 use Rattle.resb_format.specs.Content.{Member, word, unit}
-use Rattle.resb_walk.specs.Files.{parts_in}
 use Rattle.resb_read.specs.declared.cursor.Spot.{Spot}
 use Rattle.resb_read.specs.declared.cursor.Spot.TheVariants as spot
 use Rattle.resb_read.specs.declared.cursor.Cursor.{Cursor}

@@ -60,31 +60,26 @@ bool_refusal (spot.Descriptor w) left =
     paid left (integer_refusal (type_in w)
     (mismatch (codes "expected integer resource representable as boolean")))
 bool_refusal (spot.Unit u) left = paid left elsewhere
-bool_refusal (spot.Word w) left = elsewhere
-bool_refusal (spot.Key k) left = elsewhere
+bool_refusal s left = elsewhere
 
 -- why nothing is read where no value of a type can stand: at a resource of another type, at a
 -- word, or at a key
 abbrev pub no_value : Spot → ℕ → Refusal
 no_value (spot.Descriptor w) left = paid left (type_refusal (type_in w) elsewhere)
 no_value (spot.Unit u) left = paid left elsewhere
-no_value (spot.Word w) left = elsewhere
-no_value (spot.Key k) left = elsewhere
+no_value s left = elsewhere
 
 -- why no 28 bits are read at a spot with so much left; each Int has them
 abbrev pub bits_refusal : Spot → ℕ → Refusal
 bits_refusal (spot.Descriptor w) left =
     paid left (type_refusal (type_in w) (mismatch (codes "expected integer resource")))
 bits_refusal (spot.Unit u) left = paid left elsewhere
-bits_refusal (spot.Word w) left = elsewhere
-bits_refusal (spot.Key k) left = elsewhere
+bits_refusal s left = elsewhere
 
 -- why no key is read at a spot: it is another place, or the key's own fault
 abbrev pub key_refusal_from : Parts → Spot → ℕ → Refusal
 key_refusal_from p (spot.Key k) left = block_key_refusal p.keys k
-key_refusal_from p (spot.Descriptor w) left = no_value (spot.Descriptor w) left
-key_refusal_from p (spot.Unit u) left = no_value (spot.Unit u) left
-key_refusal_from p (spot.Word w) left = no_value (spot.Word w) left
+key_refusal_from p s left = no_value s left
 
 -- why no key is read at a place with so much left
 abbrev pub key_refusal : Place → ℕ → Refusal
@@ -154,20 +149,14 @@ word_entries_refusal w =
 -- why no members are read at a spot with so much left
 abbrev pub members_refusal : Spot → ℕ → Refusal
 members_refusal (spot.Descriptor w) left = paid left (word_members_refusal w)
-members_refusal (spot.Unit u) left = no_value (spot.Unit u) left
-members_refusal (spot.Word w) left = no_value (spot.Word w) left
-members_refusal (spot.Key k) left = no_value (spot.Key k) left
+members_refusal s left = no_value s left
 
 -- why no entries are read at a spot with so much left
 abbrev pub entries_refusal : Spot → ℕ → Refusal
 entries_refusal (spot.Descriptor w) left = paid left (word_entries_refusal w)
-entries_refusal (spot.Unit u) left = no_value (spot.Unit u) left
-entries_refusal (spot.Word w) left = no_value (spot.Word w) left
-entries_refusal (spot.Key k) left = no_value (spot.Key k) left
+entries_refusal s left = no_value s left
 
 -- the type of what stands at a place isn't told
 abbrev pub untold : Spot → Refusal
 untold (spot.Descriptor w) = type_refusal (type_in w) elsewhere
-untold (spot.Unit u) = elsewhere
-untold (spot.Word w) = elsewhere
-untold (spot.Key k) = elsewhere
+untold s = elsewhere

@@ -63,8 +63,7 @@ RefusesText p left left' e =
 abbrev pub TakesSome : Spot → ℕ → ℕ → ReadingError → Type 0
 TakesSome (spot.Descriptor w) left left' e = TakesOne left left' e
 TakesSome (spot.Unit u) left left' e = TakesOne left left' e
-TakesSome (spot.Word w) left left' e = Unit {0}
-TakesSome (spot.Key k) left left' e = Unit {0}
+TakesSome s left left' e = Unit {0}
 
 -- a tree is refused: none is denoted there within the budget, or memory is wanted
 abbrev pub RefusesTree : Place → ℕ → ℕ → ReadingError → Type 0

@@ -19,8 +19,7 @@ use Rattle.resb_read.specs.declared.cursor.Spot.TheVariants as spot
 abbrev pub DenSpot : Parts → Spot → Tree → ℕ → Type 0
 DenSpot p (spot.Descriptor w) t n = Den p w t n
 DenSpot p (spot.Unit u) t n = DenMember p (unit u) t n
-DenSpot p (spot.Word w) t n = ⊥
-DenSpot p (spot.Key k) t n = ⊥
+DenSpot p s t n = ⊥
 
 -- the tree that a place denotes, with its count
 abbrev pub DenPlace : Place → Tree → ℕ → Type 0
@@ -38,8 +37,7 @@ CountsTree p n = (t : Tree) × DenPlace p t n
 abbrev pub ReachesSpot : Parts → Spot → ℕ → Type 0
 ReachesSpot p (spot.Descriptor w) n = Reaches p w n
 ReachesSpot p (spot.Unit u) n = ReachesMember p (unit u) n
-ReachesSpot p (spot.Word w) n = ⊥
-ReachesSpot p (spot.Key k) n = ⊥
+ReachesSpot p s n = ⊥
 
 -- at least n resources stand at this place up to the first fault
 abbrev pub ReachesPlace : Place → ℕ → Type 0
@@ -49,8 +47,7 @@ ReachesPlace p n = ReachesSpot p.parts p.at n
 abbrev pub MeetsSpot : Parts → Spot → Refusal → Type 0
 MeetsSpot p (spot.Descriptor w) f = Meets p (word w) f
 MeetsSpot p (spot.Unit u) f = Meets p (unit u) f
-MeetsSpot p (spot.Word w) f = f ≡ elsewhere
-MeetsSpot p (spot.Key k) f = f ≡ elsewhere
+MeetsSpot p s f = f ≡ elsewhere
 
 -- the first fault that a reading of the tree at this place meets
 abbrev pub MeetsPlace : Place → Refusal → Type 0
@@ -59,9 +56,7 @@ MeetsPlace p f = MeetsSpot p.parts p.at f
 -- the pieces of the tree at a descriptor's place
 abbrev pub HoldsSpot : Parts → Spot → List Piece → Type 0
 HoldsSpot p (spot.Descriptor w) xs = Holds p w xs
-HoldsSpot p (spot.Unit u) xs = ⊥
-HoldsSpot p (spot.Word w) xs = ⊥
-HoldsSpot p (spot.Key k) xs = ⊥
+HoldsSpot p s xs = ⊥
 
 -- the same of a place
 abbrev pub HoldsPlace : Place → List Piece → Type 0

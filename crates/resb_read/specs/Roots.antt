@@ -1,16 +1,15 @@
 -- What is read at a file's root, with the whole budget.
---     root_place bytes            the place of the root
---     HoldsAtRoot P bytes              the file is a bundle, and P holds of the place of its root
+--     root_place bytes                the place of the root
+--     HoldsAtRoot P bytes             the file is a bundle, and P holds of the place of its root
 --     RefusesRoot refuses bytes e     what a type that refuses so answers of the file
---     AnswersTree, AnswersCount             what reading and counting the file's tree answer
+--     AnswersTree, AnswersCount       what reading and counting the file's tree answer
 use Rattle.std.specs.Prelude.{◌≡◌, ◌≤◌, ◌⊎◌, ℕ, List, Some, Result, Ok, Err}
 use Rattle.resb_tree.specs.Tree.{Tree}
 use Rattle.resb_tree.specs.View.{tree_of}
 use Rattle.resb_tree.specs.declared.resource.Resource.{Resource}
 use Rattle.resb_format.specs.Content.{word}
-use Rattle.resb_format.specs.Parts.{IsBundleFile, parts_of, root_word}
+use Rattle.resb_head.specs.File.{IsBundleFile, parts_of, root_word, Denotes, budget}
 use Rattle.resb_format.specs.Denotes.{Den, Reaches}
-use Rattle.resb_format.specs.File.{Denotes, budget}
 use Rattle.resb_format.specs.Error.{refusal_of}
 use Rattle.resb_format.specs.declared.error.ReadingError.{ReadingError}
 use Rattle.resb_head.specs.HeadChecks.{file_fault}

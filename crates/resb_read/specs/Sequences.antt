@@ -43,9 +43,7 @@ members_in p w =
 -- the places of the members at a spot: only a descriptor has any
 abbrev pub members_from : Parts → Spot → Option (List Place)
 members_from p (spot.Descriptor w) = option_map (map (at_spot p)) (members_in p w)
-members_from p (spot.Unit u) = None
-members_from p (spot.Word w) = None
-members_from p (spot.Key k) = None
+members_from p s = None
 
 -- the places of the members of the sequence at a place
 abbrev pub members_at : Place → Option (List Place)
@@ -70,9 +68,7 @@ at_entry p e = (at_spot p (spot.Key e.0), at_spot p (spot_of e.1))
 -- the places of the keys and values of the table at this spot, if one stands there
 abbrev pub entries_from : Parts → Spot → Option (List (Place × Place))
 entries_from p (spot.Descriptor w) = option_map (map (at_entry p)) (entries_in p w)
-entries_from p (spot.Unit u) = None
-entries_from p (spot.Word w) = None
-entries_from p (spot.Key k) = None
+entries_from p s = None
 
 -- the places of the keys and values of the table at this place, if one stands there
 abbrev pub entries_at : Place → Option (List (Place × Place))

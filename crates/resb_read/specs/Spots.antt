@@ -12,8 +12,7 @@ use Rattle.resb_read.specs.declared.cursor.Spot.TheVariants as spot
 abbrev pub cost_at : Spot → ℕ
 cost_at (spot.Descriptor w) = 1
 cost_at (spot.Unit u) = 1
-cost_at (spot.Word w) = 0
-cost_at (spot.Key k) = 0
+cost_at s = 0
 
 -- what stands there is passed over and paid; or less is left than it costs, and nothing is taken
 abbrev pub Skips : {A : Type 0} → Spot → ℕ → ℕ → Result A ReadingError → Type 0
@@ -25,8 +24,7 @@ Skips s left left' r =
 abbrev pub type_at : Spot → Option ℕ
 type_at (spot.Descriptor w) = if types.is_read_type (type_in w) then Some (type_in w) else None
 type_at (spot.Unit u) = Some types.string
-type_at (spot.Word w) = None
-type_at (spot.Key k) = None
+type_at s = None
 
 -- the spot is a member of 16 bits
 abbrev pub IsUnitSpot : Spot → Type 0

@@ -3,7 +3,7 @@
 --     last_named name es      where the value of the last entry of this name stands
 --     IsLastNamed name es p   the same as a relation; `LastOfAName` says that the two agree
 --     Ascend es               each key is a text, and above the one before
---     ascend es               the same as a test; `AscendIsTold` says that the two agree
+--     keys_ascend es          the same as a test; `AscendIsTold` says that the two agree
 --     price_of es             what is paid before all keys are read
 --     ReadsFound, CountsFound, RefusesFound
 --                             what is read of a value that may be missing
@@ -41,13 +41,13 @@ is_text name (Some t) = bytes_eq t.0 name
 is_text name None = false
 
 -- an entry's key is this text
-abbrev pub is_named : List ℕ → Place × Place → Bool
-is_named name e = is_text name (key_of e)
+abbrev pub has_name : List ℕ → Place × Place → Bool
+has_name name e = is_text name (key_of e)
 
 -- each entry of the name takes the place of what was found before
 abbrev pub last_from : List ℕ → Option Place → List (Place × Place) → Option Place
 last_from name found [] = found
-last_from name found (e ∷ es) = last_from name (if is_named name e then Some e.1 else found) es
+last_from name found (e ∷ es) = last_from name (if has_name name e then Some e.1 else found) es
 
 -- where the value of the last entry of this name stands, if there is one
 abbrev pub last_named : List ℕ → List (Place × Place) → Option Place
@@ -105,31 +105,29 @@ is_above low (Some t) = is_lt (slice_cmp nat_cmp low t.0)
 is_above low None = false
 
 -- `AscendAbove` as a test
-abbrev pub ascend_above : List ℕ → List (Place × Place) → Bool
-ascend_above low [] = true
-ascend_above low (e ∷ es) =
-    if is_above low (key_of e) then ascend_above (text_in (key_of e)) es else false
+abbrev pub keys_ascend_above : List ℕ → List (Place × Place) → Bool
+keys_ascend_above low [] = true
+keys_ascend_above low (e ∷ es) =
+    if is_above low (key_of e) then keys_ascend_above (text_in (key_of e)) es else false
 
 -- the first key is a text, and the others ascend from it on
-abbrev pub ascend_from : Option (List ℕ × ℕ) → List (Place × Place) → Bool
-ascend_from (Some t) es = ascend_above t.0 es
-ascend_from None es = false
+abbrev pub keys_ascend_from : Option (List ℕ × ℕ) → List (Place × Place) → Bool
+keys_ascend_from (Some t) es = keys_ascend_above t.0 es
+keys_ascend_from None es = false
 
 -- `Ascend` as a test
-abbrev pub ascend : List (Place × Place) → Bool
-ascend [] = true
-ascend (e ∷ es) = ascend_from (key_of e) es
+abbrev pub keys_ascend : List (Place × Place) → Bool
+keys_ascend [] = true
+keys_ascend (e ∷ es) = keys_ascend_from (key_of e) es
 
 -- the test is true exactly where the keys ascend
 abbrev pub AscendIsTold : Type 0
-AscendIsTold = (es : List (Place × Place)) → (ascend es ≡ true) ↔ Ascend es
+AscendIsTold = (es : List (Place × Place)) → (keys_ascend es ≡ true) ↔ Ascend es
 
 -- how many bytes stand from a key's place to the next zero byte, or to the key block's end
 abbrev pub size_at : List ℕ → Spot → ℕ
 size_at keys (spot.Key k) = position_or_len (λ b. b == 0) (drop k keys)
-size_at keys (spot.Descriptor w) = 0
-size_at keys (spot.Unit u) = 0
-size_at keys (spot.Word w) = 0
+size_at keys s = 0
 
 -- what is paid before all keys of entries are read: of each, one for each 16 of its bytes
 abbrev pub price_of : List (Place × Place) → ℕ

@@ -2,14 +2,14 @@
 //! What is read there is said in the modules of the types.
 ghost use Rattle.std.specs.Prelude.{◌≡◌, Some, None, MatchResult};
 ghost use Rattle.resb_format.specs.Error.{refusal_of};
-ghost use Rattle.resb_format.specs.File.{budget};
+ghost use Rattle.resb_head.specs.File.{budget};
 ghost use Rattle.resb_head.specs.HeadChecks.{file_fault};
 ghost use Rattle.resb_read.specs.Places.{place_of};
 ghost use Rattle.resb_read.specs.Roots.{root_place};
 
-use resb_format::BinaryDeserializerError;
+use resb_format::{BinaryDeserializerError, File};
 use resb_head::FileParts;
-use resb_walk::{File, Walk};
+use resb_walk::Walk;
 
 /// Where a cursor stands.
 #[derive(Clone, Copy)]
@@ -41,12 +41,10 @@ impl<'de> Cursor<'de> {
             (λ e. file_fault bytes.now ≡ Some (refusal_of e)) }
     {
         let parts = FileParts::read(bytes)?;
-        let file = File {
-            body: parts.body,
-            keys: parts.keys,
-            block: parts.block,
+        let cursor = Cursor {
+            file: parts.file,
+            at: Spot::Descriptor(parts.root),
         };
-        let at = Spot::Descriptor(parts.root);
-        Ok((Cursor { file, at }, Walk::new(bytes.len() / 2)))
+        Ok((cursor, Walk::new(bytes.len() / 2)))
     }
 }

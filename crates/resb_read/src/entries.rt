@@ -7,7 +7,7 @@ ghost use Rattle.resb_read.specs.Sequences as sequences;
 ghost use Rattle.resb_read.specs.Access.{EntersTo, Enters, ReadsPair, CountsPair};
 ghost use Rattle.resb_read.specs.Reading.{LacksOrMemory};
 ghost use Rattle.resb_walk.specs.BlockRefusals.{Says};
-ghost use Rattle.resb_walk.specs.Files.{parts_in};
+ghost use Rattle.resb_format.specs.Parts.{parts_in};
 ghost use Rattle.resb_walk.specs.Inner.Members.{keyed_members};
 ghost use Rattle.resb_read.specs.Refused.{word_entries_refusal};
 ghost use Rattle.resb_read.specs.Refusing.{RefusesEntries, RefusesPair};
@@ -18,10 +18,10 @@ use crate::deserialize::Deserialize;
 use crate::faults::refused_here;
 use crate::items::spot_of;
 use crate::tables::{TableView, pay_each};
-use resb_format::{BinaryDeserializerError, ReadingError, ResourceReprType};
+use resb_format::{BinaryDeserializerError, File, ReadingError, ResourceReprType};
 use resb_walk::faults::past_end;
 use resb_walk::types::readable;
-use resb_walk::{File, Pairs, Standing, Walk};
+use resb_walk::{Pairs, Standing, Walk, standing_at};
 use std::alloc::Global;
 use std::marker::Model;
 
@@ -173,7 +173,7 @@ fn entries_at<'de>(file: File<'de>, word: u32) -> Result<Pairs<'de>, BinaryDeser
             return Err(BinaryDeserializerError::resource_type_mismatch("expected table resource"));
         }
     }
-    match file.standing(word) {
+    match standing_at(file, word) {
         Ok(Standing::Table(rest)) => Ok(rest),
         // Nothing else stands at a word of these types.
         Ok(Standing::List(_) | Standing::Leaf(_)) => Err(past_end()),

@@ -7,14 +7,14 @@ ghost use Rattle.std.specs.Prelude.{slice_get, take, MatchOption, IfSome};
 ghost use Rattle.std.specs.Ordering.{nat_cmp};
 ghost use Rattle.std.specs.Cmp.Lexicographic.{slice_cmp};
 ghost use Rattle.resb_format.specs.Strings.{key_at};
-ghost use Rattle.resb_walk.specs.Files.{parts_in};
+ghost use Rattle.resb_format.specs.Parts.{parts_in};
 ghost use Rattle.resb_read.specs.Leaves.{key_from};
 ghost use Rattle.resb_read.specs.declared.cursor.Spot.TheVariants as spot;
 ghost use Rattle.resb_read.specs.Tables.{is_text, size_at};
 ghost use Rattle.resb_read.specs.Inner.Naming.{is_plain, order_ended};
 
+use resb_format::File;
 use resb_format::bytes::cut_at;
-use resb_walk::File;
 use std::cmp::Ordering;
 
 /// Whether the key at a position is this name.

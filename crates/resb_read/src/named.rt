@@ -14,8 +14,8 @@ ghost use Rattle.resb_read.specs.Spots.{IsUnitSpot, IsWordSpot, IsKeySpot};
 ghost use Rattle.resb_read.specs.Inner.Named as named;
 
 use crate::cursor::{Cursor, Spot};
-use resb_format::BinaryDeserializerError;
-use resb_walk::{File, Walk};
+use resb_format::{BinaryDeserializerError, File};
+use resb_walk::{Walk, key_at};
 use std::alloc::Global;
 
 /// A string of the 16-bit block.
@@ -126,7 +126,7 @@ impl<'de> KeyDeserializer<'de> {
             Reads (RefusesKey p) (λ s n. ReadsKey p s.now n)
             (CountsKey p) 0 0 result }
     {
-        match self.file.key(self.position) {
+        match key_at(self.file, self.position) {
             Ok(text) => Ok(text),
             Err(error) => Err(error),
         }

@@ -5,7 +5,7 @@ ghost use Rattle.std.specs.Prelude.{MatchOption, MatchResult, IfOk, IfErr};
 ghost use Rattle.resb_read.specs.Places.{place_of};
 ghost use Rattle.resb_read.specs.Inner.Items.{spots_of};
 ghost use Rattle.resb_read.specs.Sequences.{members_at, members_in};
-ghost use Rattle.resb_walk.specs.Files.{parts_in};
+ghost use Rattle.resb_format.specs.Parts.{parts_in};
 ghost use Rattle.resb_read.specs.Access.{StepsTo, Steps};
 ghost use Rattle.resb_walk.specs.BlockRefusals.{Says};
 ghost use Rattle.resb_read.specs.Refused.{word_members_refusal};
@@ -15,10 +15,10 @@ use crate::cursor::{Cursor, Spot};
 use crate::deserialize::Deserialize;
 use crate::faults::refused_here;
 use crate::items::Items;
-use resb_format::{BinaryDeserializerError, ReadingError, ResourceReprType};
+use resb_format::{BinaryDeserializerError, File, ReadingError, ResourceReprType};
 use resb_walk::faults::past_end;
 use resb_walk::types::readable;
-use resb_walk::{File, Leaf, Standing, Walk};
+use resb_walk::{Leaf, Standing, Walk, standing_at};
 use std::alloc::Global;
 use std::marker::Model;
 
@@ -127,7 +127,7 @@ fn members_at<'de>(file: File<'de>, word: u32) -> Result<Items<'de>, BinaryDeser
             return Err(BinaryDeserializerError::resource_type_mismatch("expected array resource"));
         }
     }
-    match file.standing(word) {
+    match standing_at(file, word) {
         Ok(Standing::List(members)) => Ok(Items::Members(members)),
         Ok(Standing::Leaf(Leaf::Numbers(numbers))) => Ok(Items::Numbers(numbers)),
         // Nothing else stands at a word of these types.

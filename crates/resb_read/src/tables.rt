@@ -14,8 +14,8 @@ use crate::deserialize::Deserialize;
 use crate::items::spot_of;
 use crate::keys::is_key;
 use resb_format::bytes::{unit_at, word_at};
-use resb_format::{BinaryDeserializerError, ReadingError};
-use resb_walk::{File, Members, Pairs, Positions, Walk};
+use resb_format::{BinaryDeserializerError, File, ReadingError};
+use resb_walk::{Members, Pairs, Positions, Walk};
 use std::alloc::Global;
 
 /// A table that stands in a file, with one paid of the budget for each of its entries.

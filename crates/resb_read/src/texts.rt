@@ -8,7 +8,7 @@ ghost use Rattle.resb_format.specs.Strings as strings;
 ghost use Rattle.resb_format.specs.Error.{end_of_input, invalid};
 ghost use Rattle.resb_format.specs.StringFaults.{string_fault};
 ghost use Rattle.resb_walk.specs.BlockRefusals.{Says};
-ghost use Rattle.resb_walk.specs.Files.{parts_in};
+ghost use Rattle.resb_format.specs.Parts.{parts_in};
 ghost use Rattle.resb_read.specs.Places.{place_of};
 ghost use Rattle.resb_read.specs.Reading.{Reads, LacksOrMemory};
 ghost use Rattle.resb_read.specs.Refused.{word_bytes_refusal};
@@ -23,10 +23,10 @@ use crate::cursor::{Cursor, Spot};
 use crate::deserialize::Deserialize;
 use crate::faults::{elsewhere, refused_here, value_of};
 use resb_format::bytes::{some_bytes, some_word};
-use resb_format::{BinaryDeserializerError, Key, ReadingError, ResourceReprType, string_at};
+use resb_format::{BinaryDeserializerError, File, Key, ReadingError, ResourceReprType, string_at};
 use resb_walk::faults::past_end;
 use resb_walk::types::readable;
-use resb_walk::{File, Walk, text_of_units};
+use resb_walk::{Walk, key_at, text_at, text_of_units};
 use std::alloc::Global;
 
 /// Bytes in pairs, which are those that their units are written as.
@@ -107,16 +107,16 @@ impl<'de> Cursor<'de> {
                 if unit == 0 {
                     return Ok(String::new(alloc));
                 }
-                let units = self.file.text(unit as usize)?;
+                let units = text_at(self.file, unit as usize)?;
                 Ok(text_of_units(alloc, units)?)
             }
             Spot::Unit(unit) => {
                 walk.pay()?;
-                let units = self.file.text(usize::from(unit))?;
+                let units = text_at(self.file, usize::from(unit))?;
                 Ok(text_of_units(alloc, units)?)
             }
             Spot::Key(position) => {
-                let key = self.file.key(position)?;
+                let key = key_at(self.file, position)?;
                 Ok(String::from_str(alloc, key)?)
             }
             Spot::Word(_) => Err(elsewhere()),
@@ -130,7 +130,7 @@ impl<'de> Cursor<'de> {
             walk.old walk.new result }
     {
         match self.at {
-            Spot::Key(position) => match self.file.key(position) {
+            Spot::Key(position) => match key_at(self.file, position) {
                 Ok(key) => Ok(key),
                 Err(error) => Err(error),
             },
@@ -166,7 +166,7 @@ impl<'de> Cursor<'de> {
                     Err(error) => Err(error),
                 }
             }
-            Spot::Key(position) => match self.file.key(position) {
+            Spot::Key(position) => match key_at(self.file, position) {
                 Ok(key) => Ok(key.as_bytes()),
                 Err(error) => Err(error),
             },

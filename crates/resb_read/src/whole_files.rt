@@ -3,7 +3,7 @@
 ghost use Rattle.std.specs.Prelude.{◌≡◌, ◌≤◌, ℕ, Some, IfOk, IfErr};
 ghost use Rattle.resb_format.specs.Error as reading;
 ghost use Rattle.resb_format.specs.Error.{refusal_of};
-ghost use Rattle.resb_format.specs.File.{budget};
+ghost use Rattle.resb_head.specs.File.{budget};
 ghost use Rattle.resb_head.specs.HeadChecks.{file_fault};
 ghost use Rattle.resb_read.specs.Reading.{LacksOrMemory};
 ghost use Rattle.resb_read.specs.Roots.{HoldsAtRoot, RefusesRoot, AnswersTree, AnswersCount};

@@ -1,5 +1,5 @@
 //! Files that are handed in as words, and the order of bytes that a file names.
-//! Files of bytes are read in `entry`.
+//! Files of bytes are read in `whole_files`.
 ghost use Rattle.std.specs.Prelude.{◌*◌, length, IsOk};
 ghost use Rattle.std.specs.Prelude.{◌≡◌, ◌≤◌, ◌⊎◌, true, ℕ, [], None, Some, slice_index};
 ghost use Rattle.std.specs.Prelude.{MatchResult, IfOk, IfErr};
@@ -8,7 +8,7 @@ ghost use Rattle.std.specs.Int.{to_le_bytes, w32};
 ghost use Rattle.std.specs.List.{flat_map};
 ghost use Rattle.resb_format.specs.Error as reading;
 ghost use Rattle.resb_format.specs.Error.{IsWantOfMemory, refusal_of};
-ghost use Rattle.resb_format.specs.File.{budget};
+ghost use Rattle.resb_head.specs.File.{budget};
 ghost use Rattle.resb_head.specs.Codes.{endianness_number};
 ghost use Rattle.resb_head.specs.HeadChecks.{file_fault, header_fault};
 ghost use Rattle.resb_read.specs.Reading.{LacksOrMemory};

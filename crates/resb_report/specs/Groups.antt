@@ -63,9 +63,9 @@ after a_comma g =
     record { last = Some a_comma; inner = with_item comma_item g.inner; around = g.around }
 
 -- the groups behind a place where a piece may end
-abbrev pub behind : Option Piece → Groups → Groups
-behind None g = g
-behind (Some p) g = after p g
+abbrev pub groups_behind : Option Piece → Groups → Groups
+groups_behind None g = g
+groups_behind (Some p) g = after p g
 
 -- a text begins without a piece, outside of all groups
 abbrev pub outside : Groups
@@ -74,7 +74,7 @@ outside = record { last = None; inner = record { is_array = false; items = [] };
 -- the groups that are open behind so many bytes
 abbrev pub groups_at : List ℕ → ℕ → Groups
 groups_at text zero = outside
-groups_at text (suc n) = behind (piece_at text n) (groups_at text n)
+groups_at text (suc n) = groups_behind (piece_at text n) (groups_at text n)
 
 -- the keys of a group's items in order, if these are pairs of a string and a group, without commas
 abbrev pub keys_in : List Item → Option (List Words)

@@ -5,7 +5,7 @@ ghost use Rattle.std.specs.Prelude.{IsPermutation};
 ghost use Rattle.std.specs.List.Sorted.{IsSortedByKey};
 ghost use Rattle.std.specs.Ordering.{nat_cmp};
 ghost use Rattle.resb_report.specs.Groups as spec;
-ghost use Rattle.resb_report.specs.Groups.{behind};
+ghost use Rattle.resb_report.specs.Groups.{groups_behind};
 ghost use Rattle.resb_report.specs.Warnings.{warned, of_backslash, of_end};
 ghost use Rattle.resb_report.specs.Inner.Looks.{piece_of, Passed, Shows, Reads};
 
@@ -105,7 +105,7 @@ impl<'a> Scan<'a> {
     fn take(&mut self, piece: Option<Piece<'a>>) -> Result<(), AllocError>
         ensures pieces { self.new.pieces ≡ self.old.pieces }
         ensures groups { OnOk result ((g : spec.Groups) → Shows self.old.groups g
-            → Shows self.new.groups (behind (option_map piece_of piece.entry) g)) }
+            → Shows self.new.groups (groups_behind (option_map piece_of piece.entry) g)) }
         ensures found { OnOk result ((g : spec.Groups) → Shows self.old.groups g
             → self.new.found.items
             ≡ self.old.found.items ++ of_end (option_map piece_of piece.entry) g) }

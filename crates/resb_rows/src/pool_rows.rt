@@ -1,8 +1,8 @@
 //! Pools of strings: the units and offsets that the rules of suffix sharing ask for.
 //! Expected values are worked out by hand from the rules of markers, records and their order.
-use crate::answers::same;
 use crate::write_rows::text_of;
-use resb_pool::{BinarySerializerError, Plan, pool};
+use resb_pool::{Plan, PlanError, pool};
+use resb_write::BinarySerializerError;
 use std::alloc::Global;
 use std::test::Fail;
 
@@ -178,32 +178,28 @@ fn push_offset(alloc: Global, line: &mut String, plan: &Plan<'_>, text: &str) ->
     Ok(())
 }
 
-/// Errors, what each prints, and whether it is want of memory.
-pub(crate) const ERRORS: &str = "\
-length =>
-    Cannot serialize string of length 5, maximum is 4,294,967,295 characters, false;
-unexpected => Unexpected error: a, false;
-limit => Limit exceeded: file too large, false;
-memory => Out of memory: while writing, true;
+/// Errors of a plan, what each prints, and what it prints as where a file is written.
+pub(crate) const PLAN_ERRORS: &str = "\
+length => string of 5 units, more than 4294967295|
+    Cannot serialize string of length 5, maximum is 4,294,967,295 characters;
+large => strings too large|Limit exceeded: file too large;
+memory => out of memory|Out of memory: while writing;
 ";
 
-/// The error that is named.
-fn error_named(name: &str) -> BinarySerializerError {
+/// The error of a plan that is named.
+fn error_named(name: &str) -> PlanError {
     match name {
-        "length" => BinarySerializerError::string_too_long(5),
-        "unexpected" => BinarySerializerError::unexpected("a"),
-        "limit" => BinarySerializerError::limit("file too large"),
-        _ => BinarySerializerError::out_of_memory(),
+        "length" => PlanError::StringTooLong(5),
+        "large" => PlanError::TooLarge,
+        _ => PlanError::OutOfMemory,
     }
 }
 
-/// What an error prints, which is also its text.
-pub(crate) fn line_of_error(alloc: Global, name: &str) -> Result<String, Fail> {
+/// What an error of a plan prints, and what it prints as where a file is written.
+pub(crate) fn line_of_plan_error(alloc: Global, name: &str) -> Result<String, Fail> {
     let error = error_named(name);
-    let printed = format!(in alloc; "{error}")?;
-    let line = same(printed, error.to_string(alloc)?)?;
-    let is_memory = error.is_out_of_memory();
-    Ok(format!(in alloc; "{line}, {is_memory}")?)
+    let written = BinarySerializerError::from(error);
+    Ok(format!(in alloc; "{error}|{written}")?)
 }
 
 /// The texts of 1 to so many letters, all ends of one text.

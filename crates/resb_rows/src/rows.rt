@@ -13,7 +13,7 @@ enum Kind {
     Pool,
     Marker,
     Plan,
-    Error,
+    PlanError,
     Text,
     Refusal,
     Closed,
@@ -22,6 +22,7 @@ enum Kind {
     Root,
     FarTable,
     KeyFault,
+    Error,
     Large,
     Deep,
 }
@@ -32,7 +33,7 @@ fn answered(alloc: Global, kind: Kind, input: &str) -> Result<String, Fail> {
         Kind::Pool => pool_rows::line_of_words(alloc, input),
         Kind::Marker => pool_rows::line_of_marker(alloc, input),
         Kind::Plan => pool_rows::line_of_plan(alloc, input),
-        Kind::Error => pool_rows::line_of_error(alloc, input),
+        Kind::PlanError => pool_rows::line_of_plan_error(alloc, input),
         Kind::Text => way_rows::line_of_file(alloc, input),
         Kind::Refusal => way_rows::line_of_refusal(alloc, input),
         Kind::Closed => way_rows::line_of_closed(alloc, input),
@@ -41,6 +42,7 @@ fn answered(alloc: Global, kind: Kind, input: &str) -> Result<String, Fail> {
         Kind::Root => write_rows::line_of_root(alloc, input),
         Kind::FarTable => write_rows::line_of_far(alloc, input),
         Kind::KeyFault => write_rows::line_of_keys(alloc, input),
+        Kind::Error => write_rows::line_of_error(alloc, input),
         Kind::Large => write_rows::line_of_large(alloc, input),
         Kind::Deep => write_rows::line_of_deep(alloc, input),
     }
@@ -71,7 +73,7 @@ fn strings_are_pooled(rt: HostRuntime) -> Result<(), Fail> {
     assert_ended(&rt, rt.alloc(), Kind::Pool, pool_rows::POOLS, "\n")?;
     assert_rows(&rt, rt.alloc(), Kind::Marker, pool_rows::MARKERS)?;
     assert_rows(&rt, rt.alloc(), Kind::Plan, pool_rows::PLANS)?;
-    assert_rows(&rt, rt.alloc(), Kind::Error, pool_rows::ERRORS)
+    assert_rows(&rt, rt.alloc(), Kind::PlanError, pool_rows::PLAN_ERRORS)
 }
 
 #[test]
@@ -91,7 +93,8 @@ fn trees_have_their_files(rt: HostRuntime) -> Result<(), Fail> {
     assert_rows(&rt, rt.alloc(), Kind::List, write_rows::LISTS)?;
     assert_rows(&rt, rt.alloc(), Kind::Root, write_rows::ROOTS)?;
     assert_rows(&rt, rt.alloc(), Kind::FarTable, write_rows::FAR_TABLES)?;
-    assert_rows(&rt, rt.alloc(), Kind::KeyFault, write_rows::KEY_FAULTS)
+    assert_rows(&rt, rt.alloc(), Kind::KeyFault, write_rows::KEY_FAULTS)?;
+    assert_rows(&rt, rt.alloc(), Kind::Error, write_rows::ERRORS)
 }
 
 #[test]

@@ -1,6 +1,6 @@
 //! Trees with lists of keys, and their files or refusals, as the format's rules ask for them. Each
 //! row is an input and its answer, in lines, up to a `;`: a row more costs no proof.
-use crate::answers::{assert_said, digits};
+use crate::answers::{assert_said, digits, same};
 use resb::compile;
 use resb_read::from_bytes;
 use resb_text::Reader;
@@ -424,4 +424,32 @@ fn file_named(alloc: Global, name: &str) -> Result<Vec<u8>, Fail> {
 pub(crate) fn line_of_large(alloc: Global, input: &str) -> Result<String, Fail> {
     let (name, numbers) = input.split_once(" | ").ok_or("a row without words")?;
     line_of_words(alloc, &file_named(alloc, name)?, numbers)
+}
+
+/// Errors, what each prints, and whether it is want of memory.
+pub(crate) const ERRORS: &str = "\
+length =>
+    Cannot serialize string of length 5, maximum is 4,294,967,295 characters, false;
+unexpected => Unexpected error: a, false;
+limit => Limit exceeded: file too large, false;
+memory => Out of memory: while writing, true;
+";
+
+/// The error that is named.
+fn error_named(name: &str) -> BinarySerializerError {
+    match name {
+        "length" => BinarySerializerError::string_too_long(5),
+        "unexpected" => BinarySerializerError::unexpected("a"),
+        "limit" => BinarySerializerError::limit("file too large"),
+        _ => BinarySerializerError::out_of_memory(),
+    }
+}
+
+/// What an error prints, which is also its text.
+pub(crate) fn line_of_error(alloc: Global, name: &str) -> Result<String, Fail> {
+    let error = error_named(name);
+    let printed = format!(in alloc; "{error}")?;
+    let line = same(printed, error.to_string(alloc)?)?;
+    let is_memory = error.is_out_of_memory();
+    Ok(format!(in alloc; "{line}, {is_memory}")?)
 }

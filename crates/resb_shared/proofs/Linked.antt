@@ -70,12 +70,12 @@ step u v us false b h one two =
 step u v us true b h one two =
     let link : is_high_surrogate u ≡ is_low_surrogate v = h.2 0 (omega arith) (omega arith) in
     let low : is_low_surrogate v ≡ true = sym link ∙ b in
-    pair_first u v us b low ∙ two (behind us low h)
+    pair_first u v us b low ∙ two (linked_behind us low h)
   where
-    behind : (ws : List ℕ) → is_low_surrogate v ≡ true → IsLinkedText (u ∷ v ∷ ws)
+    linked_behind : (ws : List ℕ) → is_low_surrogate v ≡ true → IsLinkedText (u ∷ v ∷ ws)
         → IsLinkedText ws
-    behind [] l g = (refl, refl, λ k _ m. absurd (omega (arith, m)))
-    behind (w ∷ ws) l g =
+    linked_behind [] l g = (refl, refl, λ k _ m. absurd (omega (arith, m)))
+    linked_behind (w ∷ ws) l g =
         let first : is_high_surrogate v ≡ is_low_surrogate w = g.2 1 (omega arith) (omega arith) in
         let none = low_is_not_high v l in
         let e : length (u ∷ v ∷ w ∷ ws) - 1 ≡ suc (suc (length ws)) = omega arith in

@@ -14,7 +14,7 @@ use Rattle.std.specs.List.{position_or_len, position}
 use Rattle.std.specs.Prelude.{Option, option_and_then}
 use Rattle.std.specs.Str.{IsUtf8, is_utf8, IsCharBoundary}
 use Rattle.resb_format.specs.Strings.{before_zero, if_utf8, key_at}
-use Rattle.resb_format.proofs.StringsIn.{ended, not_ended}
+use Rattle.resb_format.proofs.StringsIn.{ends_at_zero, lacks_zero}
 
 -- where the first zero byte is
 abbrev zero_at : List ℕ → ℕ
@@ -27,8 +27,8 @@ stood xs t e = cases (cases_lt (zero_at xs) (length xs))
   where
     cases : (zero_at xs < length xs) ⊎ (length xs ≤ zero_at xs)
         → (zero_at xs < length xs) × (t ≡ take (zero_at xs) xs)
-    cases (inl l) = let f = ended xs l in (l, cc)
-    cases (inr g) = let f = not_ended xs g in absurd cc
+    cases (inl l) = let f = ends_at_zero xs l in (l, cc)
+    cases (inr g) = let f = lacks_zero xs g in absurd cc
 
 -- the zero byte is the first one from any place before it on
 zero_later : (xs : List ℕ) (k : ℕ) → zero_at xs < length xs → k ≤ zero_at xs
@@ -55,7 +55,7 @@ later xs t k e h =
     let back : k + (n - k) ≡ n = omega (arith, within) in
     let cut : take (n - k) (drop k xs) ≡ drop k t =
     sym (drop-take k (n - k) xs) ∙ ap (λ m. drop k (take m xs)) back ∙ ap (drop k) (sym was.1) in
-    ended (drop k xs) less ∙ ap Some (ap (λ m. take m (drop k xs)) moved ∙ cut)
+    ends_at_zero (drop k xs) less ∙ ap Some (ap (λ m. take m (drop k xs)) moved ∙ cut)
 
 -- bytes without a zero have none further on
 tail_zero : (x : ℕ) (xs : List ℕ) (b : Bool) → nat_eq x 0 ≡ b

@@ -5,22 +5,24 @@ use Rattle.std.proofs.Common.{rules}
 use Rattle.std.specs.Prelude.{map, Result, Ok, Err, IfOk}
 use Rattle.std.proofs.lemmas.Bool.{and_from, and_parts}
 use Rattle.std.proofs.lemmas.List.{map_push}
-use Rattle.std.specs.BTreeMap.{insert_entry}
+use Rattle.std.specs.BTreeMap.{insert_entry, IsFromIterResult}
 use Rattle.std.specs.Cmp.Lexicographic.{slice_cmp}
 use Rattle.std.specs.Ordering.{match_ordering}
 use Rattle.resb_tree.specs.declared.resource.Resource.{Resource, Table}
 use Rattle.resb_tree.specs.declared.resource.Resource.{the_lemmas}
+use Rattle.resb_tree.proofs.AtOnce.{inserted, made}
 use Rattle.resb_grammar.specs.Items as spec
 use Rattle.resb_grammar.specs.Machine as machine
 use Rattle.resb_text.specs.Inner.Frames.{Look, looks, look_of, layer}
 use Rattle.resb_text.specs.declared.error.TextParserError.{TextParserError}
 use Rattle.resb_text.specs.declared.frames.Frame.{Frame}
-use Rattle.resb_text.specs.Borrowed.{all_true, is_borrowed}
+use Rattle.resb_tree.specs.Borrowing.{all_true}
+use Rattle.resb_text.specs.Borrowed.{borrows_strings}
 use Rattle.resb_text.specs.Inner.Shown.{shown, shows, shown_borrowed, entries_borrowed}
 use Rattle.resb_text.specs.Inner.Shown.{term_shown}
 
 pub borrowed_table : (m : BTreeMap (List ℕ) Resource)
-    → is_borrowed (Table m) ≡ entries_borrowed m.entries
+    → borrows_strings (Table m) ≡ entries_borrowed m.entries
 borrowed_table m = search (rules, the_lemmas)
 
 -- all of one more
@@ -38,13 +40,27 @@ at_ordering Greater a b c h k l = l
 
 -- an entry more in a table
 pub insert_borrowed : (es : List (List ℕ × Resource)) (k : List ℕ) (v : Resource)
-    → is_borrowed v ≡ true → entries_borrowed es ≡ true
+    → borrows_strings v ≡ true → entries_borrowed es ≡ true
     → entries_borrowed (insert_entry (slice_cmp nat_cmp) es k v) ≡ true
-insert_borrowed [] k v h all = and_from (is_borrowed v) true h refl
+insert_borrowed [] k v h all = and_from (borrows_strings v) true h refl
 insert_borrowed (e ∷ es) k v h all =
     at_ordering (slice_cmp nat_cmp k e.0) _ _ _ (and_from _ _ h all)
     (and_from _ _ h (and_parts _ _ all).1)
     (and_from _ _ (and_parts _ _ all).0 (insert_borrowed es k v h (and_parts _ _ all).1))
+
+inserted_borrowed : (es ps : List (List ℕ × Resource)) → entries_borrowed es ≡ true
+    → entries_borrowed ps ≡ true → entries_borrowed (inserted es ps) ≡ true
+inserted_borrowed es [] h k = h
+inserted_borrowed es (p ∷ ps) h k =
+    inserted_borrowed (insert_entry (slice_cmp nat_cmp) es p.0 p.1) ps
+    (insert_borrowed es p.0 p.1 (and_parts _ _ k).0 h) (and_parts _ _ k).1
+
+-- a table that is made at once of borrowed entries
+pub made_borrowed : (ps : List (List ℕ × Resource)) (m : BTreeMap (List ℕ) Resource)
+    → IsFromIterResult (slice_cmp nat_cmp) ps m → entries_borrowed ps ≡ true
+    → entries_borrowed m.entries ≡ true
+made_borrowed ps m h k =
+    ap entries_borrowed (made ps m h) ∙ inserted_borrowed [] ps refl k
 
 term_borrowed : (m : spec.Term) (f : Bool) → shown_borrowed (term_shown m f) ≡ true
 term_borrowed (spec.string_term s) f = refl
@@ -67,15 +83,15 @@ items_borrowed f n g e =
 -- a table or an array of what an open group holds
 pub closed_table : (r : Result Resource TextParserError) (f : Frame)
     → IfOk r (λ t. all_true (map shown_borrowed (map shown f.items.items)) ≡ true
-    → is_borrowed t ≡ true)
+    → borrows_strings t ≡ true)
     → IfOk r (λ t. (n : ℕ) (g : machine.Frame) → looks f ≡ look_of (layer n g)
-    → is_borrowed t ≡ true)
+    → borrows_strings t ≡ true)
 closed_table (Ok t) f h = λ n g e. h (items_borrowed f n g e)
 closed_table (Err e) f h = tt
 
 pub closed_array : (r : Result Resource TextParserError) (f : Frame)
-    → IfOk r (λ t. is_borrowed t ≡ all_true (map shown_borrowed (map shown f.items.items)))
+    → IfOk r (λ t. borrows_strings t ≡ all_true (map shown_borrowed (map shown f.items.items)))
     → IfOk r (λ t. (n : ℕ) (g : machine.Frame) → looks f ≡ look_of (layer n g)
-    → is_borrowed t ≡ true)
+    → borrows_strings t ≡ true)
 closed_array (Ok t) f h = λ n g e. h ∙ items_borrowed f n g e
 closed_array (Err e) f h = tt

@@ -1,6 +1,6 @@
--- The words of the contracts: trees, what a resource stands for, bundles, tables as finite maps,
--- the keys of a tree, 28-bit integers and the laws of these. `Inner` has words of private
--- functions.
+-- The words of the contracts: trees, what a resource stands for and whether it borrows, bundles,
+-- tables as finite maps, the keys of a tree, 28-bit integers and the laws of these. `Inner` has
+-- words of private functions.
 pub mod Tree
 pub mod Equality
 pub mod View
@@ -8,6 +8,7 @@ pub mod Maps
 pub mod Keys
 pub mod WalkOrder
 pub mod Bundle
+pub mod Borrowing
 pub mod Int28
 pub mod Laws
 pub mod Inner

@@ -15,5 +15,5 @@ pub use bundle::ResourceBundle;
 pub use int28::Int28;
 pub use key::Key;
 pub use no_memory::NoMemory;
-pub use resource::{Resource, Table};
+pub use resource::{Resource, Table, table_at_once};
 pub use walk_order::{WalkOrder, in_walk_order};

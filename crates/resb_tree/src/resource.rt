@@ -1,12 +1,17 @@
 //! Resources and tables, which stand for trees.
 //! How a text or a file spells them is not said here.
-ghost use Rattle.std.specs.Prelude.{◌≡◌};
+ghost use Rattle.std.specs.Prelude.{◌≡◌, IfOk};
+ghost use Rattle.std.specs.BTreeMap.{IsFromIterResult};
+ghost use Rattle.std.specs.Cmp.Lexicographic.{slice_cmp};
+ghost use Rattle.std.specs.Ordering.{nat_cmp};
 ghost use Rattle.resb_tree.specs.Equality as test;
 ghost use Rattle.resb_tree.specs.View.{tree_of, items_view, entries_view};
 
 use crate::dropping::{Inside, drop_all, has_leaves_alone, list_beside, set_aside};
 use crate::int28::Int28;
 use crate::key::Key;
+use crate::no_memory::NoMemory;
+use std::alloc::Global;
 use std::borrow::{CowSlice, CowStr};
 use std::collections::BTreeMap;
 
@@ -29,6 +34,19 @@ pub enum Resource<'a> {
 
 /// Resources by key, in the order of the keys' UTF-8 bytes.
 pub type Table<'a> = BTreeMap<Key<'a>, Resource<'a>>;
+
+/// The table of these entries, made at once. A later one of an equal key replaces the earlier one.
+/// Its sort stays out of a reader's loop.
+#[inline(never)]
+pub fn table_at_once<'a>(
+    alloc: Global,
+    entries: Vec<(Key<'a>, Resource<'a>)>,
+) -> Result<Table<'a>, NoMemory>
+    ensures { IfOk result (IsFromIterResult (slice_cmp nat_cmp) entries.entry.items) }
+{
+    let table = entries.into_iter().collect(alloc)?;
+    Ok(table)
+}
 
 impl<'a> Resource<'a> {
     ghost use Rattle.std.specs.Prelude.{◌≡◌, IsTrue, ◌↔◌};

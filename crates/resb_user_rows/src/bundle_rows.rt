@@ -2,13 +2,14 @@
 //! The tests are in `rows`.
 use resb::bundle::Resource;
 use resb_bundler::{
-    Blame, FileError, Found, SourceError, compile_source, compile_source_within, count_file, find,
-    json_text, read_file, read_file_within, summary_of, where_to_look,
+    Blame, FileError, Found, SourceError, compile_icu_source, compile_source,
+    compile_source_within, count_file, find, json_text, read_file, read_file_within, summary_of,
+    where_to_look,
 };
 use std::alloc::Global;
 use std::test::Fail;
 
-/// A path, a limit (0 for none), and a text; its resources, its largest table, whether fallback is
+/// A path, a limit (0 for none, `icu` for a text of ICU's form), and a text; its resources, its largest table, whether fallback is
 /// on, its JSON, and what stands at the path. Or why the text has no file, and where to look. The
 /// reading of `b{k{v}}` makes 72 for the root, 195 for `k`, 72 for its group, 195 for `v` and 1024
 /// for the root's table: 1558.
@@ -22,6 +23,14 @@ k 1558 b{k{v}} => 2 1 true {"k":"v"} "v";
 k 1557 b{k{v}} => reading this text takes more than the limit of 1557 bytes Nowhere;
 k 0 b{k{v} => expected '}' Open(1);
 k 0 b k => expected '{' At(2);
+a icu b{a{"x\t" "y"}} => 2 1 true {"a":"x\ty"} "x\ty";
+100% icu b:table(nofallback){100%{}} => 2 1 false {"100%":[]} [];
+a icu b{a{x}a{y}} => expected each key once in the table that ends here At(10);
+a icu b{a:alias{"x"}} => expected a type At(3);
+a icu b{a{"\x41"}} => expected a quoted string that is closed, with known escapes At(4);
+a icu b{a{"x","y" "z" w}} => expected a comma between two strings At(16);
+collations icu b{collations{a{"x"}}} => expected no table with rules of collation At(20);
+a icu b{a{"x"}} c => expected the end of the text At(10);
 "#;
 
 /// The file of a text.
@@ -44,8 +53,14 @@ fn tree_of<'f>(alloc: Global, file: &'f [u8], limit: u64) -> Result<Resource<'f>
 pub(crate) fn line_of_bundle(alloc: Global, input: &str) -> Result<String, Fail> {
     let (path, rest) = input.split_once(' ').ok_or("a row without a path")?;
     let (limit, text) = rest.split_once(' ').ok_or("a row without a limit")?;
-    let limit = limit.parse::<u64>()?;
-    match file_of(alloc, text, limit) {
+    let is_icu = limit == "icu";
+    let limit = if is_icu { 0 } else { limit.parse::<u64>()? };
+    let file = if is_icu {
+        compile_icu_source(alloc, text.as_bytes())
+    } else {
+        file_of(alloc, text, limit)
+    };
+    match file {
         Ok(file) => line_of_file(alloc, file.as_slice(), limit, path),
         Err(error) => line_of_refusal(alloc, text, error),
     }

@@ -1,5 +1,5 @@
 -- From the members of a word to the word.
-use Rattle.std.proofs.Common.{inl, inr, ℕ, List, ◌≡◌, ◌+◌, Option, Some, None}
+use Rattle.std.proofs.Common.{inl, inr, ℕ, List, ◌≡◌, ◌+◌, Some, None}
 use Rattle.std.proofs.Common.{subst, arith}
 use Rattle.resb_tree.specs.Tree.{Tree}
 use Rattle.resb_format.specs.Parts.{Parts}

@@ -13,7 +13,7 @@ use Rattle.resb_walk.specs.Meets.{Meets, meets_text, meets_word, meets_list, mee
 use Rattle.resb_walk.specs.Meets.{meets_entry}
 use Rattle.resb_walk.specs.Inner.Frames.{Waits, OpenedTable}
 use Rattle.resb_walk.specs.Inner.Members.{members_of, keyed_members}
-use Rattle.resb_walk.specs.declared.file.Pairs.{Pairs}
+use Rattle.resb_walk.specs.declared.members.Pairs.{Pairs}
 use Rattle.resb_walk.specs.declared.frame.Open.{Open}
 use Rattle.resb_walk.specs.declared.frame.Waiting.{Waiting}
 use Rattle.resb_walk.specs.declared.frame.Waiting.TheVariants as waiting

@@ -17,9 +17,9 @@ use Rattle.resb_walk.specs.Meets.{Meets, Blames, meets_list, meets_entry}
 use Rattle.resb_walk.specs.Refusals.{IsFault, DenotesNothing, Refuses}
 use Rattle.resb_walk.specs.declared.count.Inner.{Inner}
 use Rattle.resb_walk.specs.declared.count.Outer.{Outer}
-use Rattle.resb_walk.specs.declared.file.Pairs.{Pairs}
-use Rattle.resb_walk.specs.declared.file.Rest.{Rest}
-use Rattle.resb_walk.specs.declared.file.Rest.TheVariants as rest
+use Rattle.resb_walk.specs.declared.members.Pairs.{Pairs}
+use Rattle.resb_walk.specs.declared.members.Rest.{Rest}
+use Rattle.resb_walk.specs.declared.members.Rest.TheVariants as rest
 use Rattle.resb_walk.proofs.Lift.{refused_word}
 use Rattle.resb_walk.proofs.Meeting.{table_meets}
 use Rattle.resb_walk.proofs.Starts.{member_meets}

@@ -12,7 +12,7 @@ use Rattle.resb_format.specs.Bytes.{units_of}
 use Rattle.std.specs.Prelude.{nat_lt, ◌&&◌, slice_index, codes, if◌then◌else◌}
 use Rattle.resb_format.specs.StringFaults.{string_fault}
 use Rattle.resb_format.specs.Strings.{is_no_marker}
-use Rattle.resb_format.specs.Error.{IsInvalid}
+use Rattle.resb_format.specs.Error.{IsInvalid, end_message}
 use Rattle.resb_walk.specs.Refusals.{IsFault}
 use Rattle.resb_format.specs.declared.error.ReadingError.{ReadingError}
 use Rattle.resb_format.specs.Strings.{text_at, string_at}
@@ -40,8 +40,7 @@ pub string_fails : (block : List ℕ) (u : ℕ) (e : ReadingError) → IsInvalid
 string_fails block u e h = either (nat_lt u (length block) && is_no_marker (slice_index block u)) h
   where
     either : (b : Bool)
-        → IsInvalid e (if b then codes "unterminated string with implicit length" else codes
-        "unexpected end of input")
+        → IsInvalid e (if b then codes "unterminated string with implicit length" else end_message)
         → IsFault e
     either true i =
         record {
@@ -77,4 +76,4 @@ zip_behind {B = B} (suc n) (x ∷ xs) [] = zip_none {B = B} (drop n xs)
 zip_behind (suc n) (x ∷ xs) (y ∷ ys) = zip_behind n xs ys
 
 -- the words and units of bytes behind some
-pub ruleset behind = (drop-map, words_drop, units_drop)
+pub ruleset numbers_behind = (drop-map, words_drop, units_drop)

@@ -17,7 +17,7 @@ use Rattle.std.specs.List.{position_or_len}
 use Rattle.resb_format.specs.Bytes.{units_of, part}
 use Rattle.resb_format.specs.Strings.{text_at, string_at, before_zero, is_no_marker}
 use Rattle.resb_format.proofs.Spelled.{units_drop, units_length}
-use Rattle.resb_format.proofs.StringsIn.{ended}
+use Rattle.resb_format.proofs.StringsIn.{ends_at_zero}
 use Rattle.resb_walk.specs.Inner.Members.{text_of_bytes}
 use Rattle.resb_walk.proofs.Placed.{text_some}
 use Rattle.resb_walk.proofs.Surrogates.{char_alone, no_chars, plain_first}
@@ -94,7 +94,7 @@ before_first_zero us n few inside h e =
     position_or_len_is (λ x. nat_eq x 0) front n 0 within fails (λ l. passes) in
     let inner : position_or_len (λ x. nat_eq x 0) front < length front = rw place less in
     let most : n ≤ 41 = omega arith in
-    ended front inner ∙ rw (place, take-take n 41 us most) refl
+    ends_at_zero front inner ∙ rw (place, take-take n 41 us most) refl
 
 string_before : (us : List ℕ) (u n : ℕ) → n < 41 → n < length (drop u us)
     → ((k : ℕ) → k < n → 0 < get_or (drop u us) k 0)

@@ -1,11 +1,12 @@
 -- The rounds of the reader.
-use Rattle.std.proofs.Common.{inl, inr, ℕ, List, [], ◌∷◌, ◌++◌, ◌≡◌, ◌≤◌, ◌+◌, refl, sym}
+use Rattle.std.proofs.Common.{inl, inr, ◌⊎◌, ℕ, List, [], ◌∷◌, ◌++◌, ◌≡◌, ◌≤◌, ◌+◌, refl, sym}
 use Rattle.std.proofs.Common.{subst, arith, Result, Ok, Err, ◌*◌, ◌<◌, length, ap}
 use Rattle.std.proofs.lemmas.List.{length-append}
 use Rattle.resb_tree.specs.Tree.{Tree}
 use Rattle.resb_format.specs.Parts.{Parts}
 use Rattle.resb_format.specs.Content.{Member, word}
 use Rattle.resb_format.specs.Denotes.{Den, DenMember, Reaches, ReachesMember}
+use Rattle.resb_format.specs.Error.{IsWantOfMemory}
 use Rattle.resb_walk.specs.Inner.Frames.{Opened, Waits}
 use Rattle.resb_walk.specs.Inner.Rounds.{PutsOrOpens, Puts}
 use Rattle.resb_walk.specs.Refusals.{DenotesNothing, Refuses, IsFault}
@@ -63,12 +64,13 @@ module _ {L T : Type 0} (lists : L → List Tree → Type 0)
     round_takes =
         let paid : left + (round.outer + (1 + round.inner)) ≡ before = round.paid in omega arith
 
-    -- the innermost collection has a fault of its own
-    pub round_stuck : (d : ReadingError) → IsFault d
-        → ((k : ℕ)
-        → DenotesNothing (Den p round.place) (Reaches p round.place) (k + (1 + round.inner)))
+    -- memory is wanted, or the innermost collection has a fault of its own
+    pub round_stuck : (d : ReadingError)
+        → IsWantOfMemory d ⊎ (IsFault d × ((k : ℕ)
+        → DenotesNothing (Den p round.place) (Reaches p round.place) (k + (1 + round.inner))))
         → Refuses (Den p root) (Reaches p root) before d
-    round_stuck d is_fault s =
+    round_stuck d (inl memory) = inl memory
+    round_stuck d (inr (is_fault, s)) =
         let paid : left + (round.outer + (1 + round.inner)) ≡ before = round.paid in
         let sum : left + (1 + round.inner) + round.outer ≡ before = omega arith in
         chain_refused lists tables p (left + (1 + round.inner)) before d round.chain sum

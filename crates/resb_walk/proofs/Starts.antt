@@ -10,7 +10,7 @@ use Rattle.resb_walk.specs.Inner.MemberContent.{member_content, member_refusal}
 use Rattle.resb_walk.specs.Inner.Members.{content_of, leaf_tree}
 use Rattle.resb_walk.specs.Inner.Rounds.{Starts, ReadsMember}
 use Rattle.resb_walk.specs.Meets.{Meets, meets_text, meets_word}
-use Rattle.resb_walk.specs.declared.file.Standing.{Standing}
+use Rattle.resb_walk.specs.declared.members.Standing.{Standing}
 use Rattle.resb_walk.specs.declared.frame.Open.TheVariants as open_
 use Rattle.resb_walk.specs.declared.frame.Read.{Read}
 use Rattle.resb_walk.specs.declared.frame.Read.TheVariants.{Made, Begun}

@@ -13,8 +13,8 @@ use Rattle.resb_walk.specs.Inner.Members.{members_of, keyed_members}
 use Rattle.resb_walk.specs.Inner.Frames.{OpenedList, OpenedTable, ListWaits, TableWaits}
 use Rattle.resb_walk.specs.Inner.Frames.{Waits}
 use Rattle.resb_walk.specs.Refusals.{DenotesNothing, Refuses}
-use Rattle.resb_walk.specs.declared.file.Members.{Members}
-use Rattle.resb_walk.specs.declared.file.Pairs.{Pairs}
+use Rattle.resb_walk.specs.declared.members.Members.{Members}
+use Rattle.resb_walk.specs.declared.members.Pairs.{Pairs}
 use Rattle.resb_walk.specs.declared.frame.Waiting.{Waiting}
 use Rattle.resb_walk.specs.declared.frame.Waiting.TheVariants as waiting
 use Rattle.resb_format.specs.declared.error.ReadingError.{ReadingError}

@@ -1,8 +1,8 @@
 -- What is answered where nothing stands at a place of a file: a kind and a message.
---     Says f e                the error has this kind and message
---     block_text_refusal block u     where no text stands at unit u of the 16-bit block
---     block_key_refusal keys k       where no key stands at byte k of the key block
---     word_refusal p w      where nothing stands at the word w
+--     Says f e                      the error has this kind and message
+--     block_text_refusal block u    where no text stands at unit u of the 16-bit block
+--     block_key_refusal keys k      where no key stands at byte k of the key block
+--     word_refusal p w              where nothing stands at the word w
 use Rattle.std.specs.Prelude.{◌≡◌, ◌==◌, ◌||◌, ◌/◌, ◌%◌, ◌^◌, nat_lt, ℕ, List, length, drop, Bool}
 use Rattle.std.specs.Prelude.{is_some, codes, if◌then◌else◌}
 use Rattle.resb_format.specs.Error.{Refusal, invalid, unsupported, end_of_input, refusal_of}

@@ -11,7 +11,6 @@ pub use Rattle.resb_format.specs.Error
 pub use Rattle.resb_format.specs.StringFaults
 pub use Rattle.resb_tree.specs.Tree
 pub use Rattle.resb_tree.specs.View
-pub mod Files
 pub mod BlockRefusals
 pub mod Meets
 pub mod Refusals

@@ -3,15 +3,16 @@
 ghost use Rattle.std.specs.Prelude.{◌≡◌, ℕ, List, Some, IfOk, IfSome, IsTrue};
 ghost use Rattle.std.specs.Option.{ForSome};
 ghost use Rattle.resb_format.specs.Bytes.{units_of};
-ghost use Rattle.resb_format.specs.Strings.{text_at, key_at};
+ghost use Rattle.resb_format.specs.Strings as strings;
 ghost use Rattle.resb_shared.specs.Blocks.{breaks_block, tails_keys};
-ghost use Rattle.resb_walk.specs.Files.{parts_in};
+ghost use Rattle.resb_format.specs.Parts.{parts_in};
 ghost use Rattle.resb_walk.specs.Inner.Counting.{LooksKey, LooksText, Looks};
 ghost use Rattle.resb_walk.specs.Inner.Members.{member_of};
 
-use crate::file::{File, Member, Rest, Standing};
+use crate::members::{Member, Rest, Standing};
+use crate::standing::{key_at, member_at, text_at};
 use crate::strings::{marked, string_unit};
-use resb_format::BinaryDeserializerError;
+use resb_format::{BinaryDeserializerError, File};
 use resb_shared::{Breaks, LongTails, SHORT_TAIL};
 use resb_tree::NoMemory;
 use std::alloc::Global;
@@ -51,7 +52,7 @@ impl<'a> Checker<'a> {
     #[inline(always)]
     fn has_key(&self, at: usize) -> bool
         ensures { IsTrue result
-            → (key : List ℕ) × (key_at self.now.file.keys.now at ≡ Some key) }
+            → (key : List ℕ) × (strings.key_at self.now.file.keys.now at ≡ Some key) }
     {
         match &self.tails {
             Some(tails) => tails.key(at).is_some(),
@@ -82,7 +83,7 @@ impl<'a> Checker<'a> {
         if self.has_key(at) {
             return Ok(());
         }
-        let key = self.file.key(at)?;
+        let key = key_at(self.file, at)?;
         self.note_key(alloc, key.len())?;
         Ok(())
     }
@@ -91,7 +92,8 @@ impl<'a> Checker<'a> {
     #[inline(always)]
     fn has_text(&self, unit: usize) -> bool
         ensures { IsTrue result
-            → (text : List ℕ) × (text_at (units_of self.now.file.block.now) unit ≡ Some text) }
+            → (text : List ℕ)
+            × (strings.text_at (units_of self.now.file.block.now) unit ≡ Some text) }
     {
         let Some(breaks) = &self.breaks else {
             return false;
@@ -129,7 +131,7 @@ impl<'a> Checker<'a> {
         if self.has_text(unit) {
             return Ok(());
         }
-        let units = self.file.text(unit)?;
+        let units = text_at(self.file, unit)?;
         self.note_string(alloc, units.len())?;
         Ok(())
     }
@@ -148,7 +150,7 @@ impl<'a> Checker<'a> {
             self.text(alloc, unit)?;
             return Ok(None);
         }
-        Ok(match self.file.member(member)? {
+        Ok(match member_at(self.file, member)? {
             Standing::Leaf(_) => None,
             Standing::List(members) => Some(Rest::List(members)),
             Standing::Table(pairs) => Some(Rest::Table(pairs)),

@@ -4,7 +4,7 @@
 ghost use Rattle.std.specs.Prelude.{◌≡◌, ℕ, IfOk, IfErr};
 ghost use Rattle.resb_format.specs.Content as at;
 ghost use Rattle.resb_format.specs.Denotes.{Den, Reaches, DenMember, ReachesMember};
-ghost use Rattle.resb_walk.specs.Files.{parts_in};
+ghost use Rattle.resb_format.specs.Parts.{parts_in};
 ghost use Rattle.resb_walk.specs.Inner.Counting.{IsOpen, Awaits, Rests, HasLast, Keeps};
 ghost use Rattle.resb_walk.specs.Inner.Counting.{Enters, Takes, Entered};
 ghost use Rattle.resb_walk.specs.Inner.Members.{member_of};
@@ -12,9 +12,10 @@ ghost use Rattle.resb_walk.specs.Meets.{Meets, Blames};
 ghost use Rattle.resb_walk.specs.Refusals.{Answers};
 
 use crate::checker::Checker;
-use crate::file::{File, Member, Rest, Standing};
+use crate::members::{Member, Rest, Standing};
+use crate::standing::{standing_at, text_at};
 use crate::walk::Walk;
-use resb_format::ReadingError;
+use resb_format::{File, ReadingError};
 use resb_tree::NoMemory;
 use std::alloc::Global;
 
@@ -52,7 +53,7 @@ pub(crate) fn again<'a>(file: File<'a>, outer: Outer) -> Rest<'a>
     ensures { Rests (parts_in file.entry) outer.word outer.left result }
 {
     let left = outer.left as usize;
-    match file.standing(outer.word) {
+    match standing_at(file, outer.word) {
         Ok(Standing::List(members)) => Rest::List(members.behind(members.len() - left)),
         Ok(Standing::Table(pairs)) => Rest::Table(pairs.behind(pairs.len() - left)),
         Ok(Standing::Leaf(_)) | Err(_) => unreachable!(),
@@ -147,7 +148,7 @@ pub fn count_string_at<'m>(
     ensures meets { IfErr result (Blames (Meets (parts_in file.entry) (at.unit unit))) }
 {
     walk.pay()?;
-    file.text(usize::from(unit))?;
+    text_at(file, usize::from(unit))?;
     Ok(())
 }
 

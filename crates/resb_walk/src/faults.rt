@@ -1,7 +1,7 @@
 //! What is said of bytes that are no readable resource, and of a budget that is spent.
-//! Where each is found is said in `standing`, `file` and `walk`.
+//! Where each is found is said in `standing`, `types` and `walk`.
 ghost use Rattle.std.specs.Prelude.{codes};
-ghost use Rattle.resb_format.specs.Error.{IsInvalid, IsRefusal};
+ghost use Rattle.resb_format.specs.Error.{IsEndOfInput, IsInvalid, IsRefusal};
 ghost use Rattle.resb_format.specs.declared.error.ErrorKind.TheVariants.{UnsupportedFormat};
 ghost use Rattle.resb_walk.specs.Refusals.{IsFault, IsSpent};
 
@@ -9,10 +9,10 @@ use resb_format::BinaryDeserializerError;
 
 /// A count, an item or a place lies outside its block.
 pub fn past_end() -> BinaryDeserializerError
-    ensures says { IsInvalid result (codes "unexpected end of input") }
+    ensures says { IsEndOfInput result }
     ensures fault { IsFault result }
 {
-    BinaryDeserializerError::invalid_data("unexpected end of input")
+    BinaryDeserializerError::end_of_input()
 }
 
 /// The upper 4 bits of a descriptor name no type.

@@ -2,18 +2,19 @@
 //! In which order they are open is the business of `read`.
 ghost use Rattle.std.specs.Prelude.{ℕ, ◌+◌, IfErr};
 ghost use Rattle.resb_tree.specs.Tree.{Tree};
-ghost use Rattle.resb_format.specs.Parts.{Parts};
+ghost use Rattle.resb_format.specs.Parts.{Parts, parts_in};
 ghost use Rattle.resb_format.specs.Content as at;
 ghost use Rattle.resb_format.specs.Denotes.{DenMember};
 ghost use Rattle.resb_format.specs.Error.{refusal_of};
-ghost use Rattle.resb_walk.specs.Files.{parts_in};
 ghost use Rattle.resb_walk.specs.Inner.Frames.{Opened, Waits};
-ghost use Rattle.resb_walk.specs.Meets.{Meets};
+ghost use Rattle.resb_walk.specs.Meets.{Meets, Blames};
 ghost use Rattle.resb_walk.specs.Inner.Rounds.{Progresses, Puts};
 
-use crate::file::{File, Member, Members, Pairs};
 use crate::make::Make;
-use resb_format::ReadingError;
+use crate::members::{Member, Members, Pairs};
+use crate::standing::key_at;
+use resb_format::{File, ReadingError};
+use std::alloc::Global;
 
 /// A collection whose members are read one by one: those still to come, and what is made of the
 /// others.
@@ -48,13 +49,14 @@ pub enum Read<'a, X, L, T> {
 
 /// Takes the next member of an open collection, or closes it where none is left.
 pub fn advance<'a, 'm, M: Make<'a>>(
+    alloc: Global,
     file: File<'a>,
     frame: Open<'a, M::List, M::Table>,
 ) -> Result<Progress<'a, M, M::List, M::Table>, ReadingError<'m>>
     ensures steps { (w n : ℕ) → Opened M.lists M.tables (parts_in file.entry) frame.entry w n
         → Progresses M.is M.lists M.tables (parts_in file.entry) w n result }
     ensures meets { (w n : ℕ) → Opened M.lists M.tables (parts_in file.entry) frame.entry w n
-        → IfErr result (λ e. Meets (parts_in file.entry) (at.word w) (refusal_of e)) }
+        → IfErr result (Blames (Meets (parts_in file.entry) (at.word w))) }
 {
     match frame {
         Open::List(rest, made) => match rest.split() {
@@ -62,11 +64,11 @@ pub fn advance<'a, 'm, M: Make<'a>>(
             None => Ok(Progress::Done(M::end_list(made))),
         },
         Open::Table(rest, made) => match rest.split() {
-            Some((position, member, rest)) => match file.key(position) {
+            Some((position, member, rest)) => match key_at(file, position) {
                 Ok(key) => Ok(Progress::Wants(member, Waiting::Table(rest, made, key))),
                 Err(error) => Err(error),
             },
-            None => Ok(Progress::Done(M::end_table(made))),
+            None => Ok(Progress::Done(M::end_table(alloc, made)?)),
         },
     }
 }
@@ -82,7 +84,13 @@ pub fn put<'a, 'm, M: Make<'a>>(
         → Puts M.lists M.tables p w (n + k) result }
 {
     match waiting {
-        Waiting::List(rest, made) => Ok(Open::List(rest, M::add(made, item)?)),
-        Waiting::Table(rest, made, key) => Ok(Open::Table(rest, M::put(made, key, item)?)),
+        Waiting::List(rest, mut made) => {
+            M::add(&mut made, item)?;
+            Ok(Open::List(rest, made))
+        }
+        Waiting::Table(rest, mut made, key) => {
+            M::put(&mut made, key, item)?;
+            Ok(Open::Table(rest, made))
+        }
     }
 }

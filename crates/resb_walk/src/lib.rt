@@ -5,9 +5,10 @@
 mod checker;
 mod count;
 pub mod faults;
-mod file;
+mod filling;
 mod frame;
 mod make;
+mod members;
 mod read;
 mod room;
 mod scale;
@@ -21,9 +22,10 @@ mod walk;
 mod weigh;
 
 pub use count::{count_string_at, count_word};
-pub use file::{File, Leaf, Member, Members, Pairs, Positions, Rest, Standing};
 pub use make::Make;
+pub use members::{Leaf, Member, Members, Pairs, Positions, Rest, Standing};
 pub use read::{read_checked, read_string_at, read_word};
+pub use standing::{key_at, standing_at, text_at};
 pub use sums::Sums;
 pub use units::text_of_units;
 pub use walk::Walk;

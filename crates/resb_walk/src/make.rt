@@ -1,11 +1,11 @@
 //! What a reader makes of the resources that it reads.
 //! Trees are made in `tree`. Where only their number is wanted nothing is made: see `count`.
-ghost use Rattle.std.specs.Prelude.{ℕ, List, [], ◌∷◌, ◌++◌, IfOk};
+ghost use Rattle.std.specs.Prelude.{ℕ, List, [], ◌∷◌, ◌++◌, IfOk, OnOk};
 ghost use Rattle.resb_tree.specs.Tree as tree;
 ghost use Rattle.resb_tree.specs.Tree.{Tree};
 ghost use Rattle.resb_walk.specs.Inner.Members.{leaf_tree};
 
-use crate::file::Leaf;
+use crate::members::Leaf;
 use resb_tree::NoMemory;
 use std::alloc::Global;
 
@@ -33,26 +33,26 @@ pub trait Make<'de>: Sized + Drop {
     fn begin_list(alloc: Global, room: usize) -> Result<Self::List, NoMemory>
         ensures { IfOk result (λ l. lists l []) };
 
-    /// The array with one member more, behind the others.
-    fn add(list: Self::List, item: Self) -> Result<Self::List, NoMemory>
-        ensures { (ts : List Tree) (t : Tree) → lists list ts → is item t
-            → IfOk result (λ l. lists l (ts ++ t ∷ [])) };
+    /// Adds a member behind the others.
+    fn add(list: &mut Self::List, item: Self) -> Result<(), NoMemory>
+        ensures { OnOk result ((ts : List Tree) (t : Tree) → lists list.old ts → is item t
+            → lists list.new (ts ++ t ∷ [])) };
 
     /// The array, once all its members are there.
     fn end_list(list: Self::List) -> Self
         ensures { (ts : List Tree) → lists list ts → is result (tree.array (tree.trees_of ts)) };
 
-    /// A table without entries yet.
-    fn begin_table(alloc: Global) -> Self::Table
-        ensures { tables result [] };
+    /// A table without entries yet, of which so many will come.
+    fn begin_table(alloc: Global, room: usize) -> Result<Self::Table, NoMemory>
+        ensures { IfOk result (λ m. tables m []) };
 
-    /// The table with one entry more; the last one of a key stays.
-    fn put(table: Self::Table, key: &'de str, item: Self) -> Result<Self::Table, NoMemory>
-        ensures { (es : List (List ℕ × Tree)) (t : Tree) → tables table es → is item t
-            → IfOk result (λ m. tables m (es ++ (key.now, t) ∷ [])) };
+    /// Adds an entry; the last one of a key stays.
+    fn put(table: &mut Self::Table, key: &'de str, item: Self) -> Result<(), NoMemory>
+        ensures { OnOk result ((es : List (List ℕ × Tree)) (t : Tree) → tables table.old es
+            → is item t → tables table.new (es ++ (key.now, t) ∷ [])) };
 
     /// The table, once all its entries are there.
-    fn end_table(table: Self::Table) -> Self
+    fn end_table(alloc: Global, table: Self::Table) -> Result<Self, NoMemory>
         ensures { (es : List (List ℕ × Tree)) → tables table es
-            → is result (tree.table (tree.map_of es)) };
+            → IfOk result (λ x. is x (tree.table (tree.map_of es))) };
 }

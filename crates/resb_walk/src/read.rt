@@ -5,7 +5,7 @@
 ghost use Rattle.std.specs.Prelude.{ℕ, IfOk, IfErr};
 ghost use Rattle.resb_format.specs.Content as at;
 ghost use Rattle.resb_format.specs.Denotes.{Den, Reaches, DenMember, ReachesMember};
-ghost use Rattle.resb_walk.specs.Files.{parts_in};
+ghost use Rattle.resb_format.specs.Parts.{parts_in};
 ghost use Rattle.resb_walk.specs.Inner.Members.{member_of};
 ghost use Rattle.resb_walk.specs.Meets.{Meets, Blames};
 ghost use Rattle.resb_walk.specs.Refusals.{Answers, TakesOne};
@@ -13,12 +13,13 @@ ghost use Rattle.resb_walk.specs.Inner.Frames.{Waits};
 ghost use Rattle.resb_walk.specs.Inner.Rounds.{Starts, ReadsMember, PutsOrOpens};
 
 use crate::count::count_word;
-use crate::file::{File, Member, Standing};
 use crate::frame::{Open, Progress, Read, Waiting, advance, put};
 use crate::make::Make;
+use crate::members::{Member, Standing};
 use crate::room::can_be_paid;
+use crate::standing::member_at;
 use crate::walk::Walk;
-use resb_format::ReadingError;
+use resb_format::{File, ReadingError};
 use resb_tree::NoMemory;
 use std::alloc::Global;
 
@@ -33,7 +34,7 @@ fn start<'a, M: Make<'a>>(
     Ok(match standing {
         Standing::Leaf(leaf) => Read::Made(M::leaf(alloc, leaf)?),
         Standing::List(rest) => Read::Begun(Open::List(rest, M::begin_list(alloc, rest.len())?)),
-        Standing::Table(rest) => Read::Begun(Open::Table(rest, M::begin_table(alloc))),
+        Standing::Table(rest) => Read::Begun(Open::Table(rest, M::begin_table(alloc, rest.len())?)),
     })
 }
 
@@ -51,7 +52,7 @@ fn begin<'a, 'm, M: Make<'a>>(
     ensures takes { IfErr result (TakesOne walk.old walk.new) }
 {
     walk.pay()?;
-    let standing = file.member(member)?;
+    let standing = member_at(file, member)?;
     Ok(start::<M>(alloc, standing)?)
 }
 
@@ -120,7 +121,7 @@ pub fn read_word<'a, 'm, M: Make<'a>>(
     let mut frames = Vec::new(alloc);
     // twice what is left, plus the number of frames, falls in each round
     'rounds: loop {
-        frame = match advance::<M>(file, frame)? {
+        frame = match advance::<M>(alloc, file, frame)? {
             Progress::Wants(member, waiting) => {
                 enter::<M>(alloc, file, member, waiting, &mut frames, walk)?
             }

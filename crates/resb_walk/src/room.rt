@@ -1,8 +1,9 @@
 //! Whether all counts of a file can be paid for, before any of them asks for room.
 //! Texts and keys are not looked at here: whether a tree stands at a word is found in `read`.
-use crate::file::{File, Member, Members, Standing};
+use crate::members::{Member, Members, Standing};
+use crate::standing::standing_at;
 use crate::types::readable;
-use resb_format::ResourceReprType;
+use resb_format::{File, ResourceReprType};
 use resb_tree::NoMemory;
 use std::alloc::Global;
 
@@ -17,7 +18,7 @@ fn members_at(file: File<'_>, word: u32) -> Option<Members<'_>> {
         // Leaves have none, and needn't be looked at.
         _ => return None,
     }
-    match file.standing(word) {
+    match standing_at(file, word) {
         Ok(Standing::List(members)) => Some(members),
         Ok(Standing::Table(pairs)) => Some(pairs.members),
         Ok(Standing::Leaf(_)) | Err(_) => None,

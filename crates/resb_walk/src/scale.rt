@@ -2,14 +2,16 @@
 //! no string is looked at twice as a whole. Going from member to member is the business of `weigh`.
 ghost use Rattle.std.specs.Prelude.{◌≡◌, ℕ, List, length, Some, IfOk};
 ghost use Rattle.resb_format.specs.Bytes.{units_of};
-ghost use Rattle.resb_format.specs.Strings.{text_at, key_at};
+ghost use Rattle.resb_format.specs.Strings as strings;
 ghost use Rattle.resb_shared.specs.Blocks.{widths_block, tails_keys};
 
 use crate::count::Inner;
-use crate::file::{File, Member, Rest, Standing};
+use crate::members::{Member, Rest, Standing};
+use crate::standing::{key_at, standing_at, text_at};
 use crate::strings::{marked, string_unit};
 use crate::sums::Sums;
 use crate::units::text_len;
+use resb_format::File;
 use resb_shared::{LongTails, Widths};
 use resb_tree::NoMemory;
 use std::alloc::Global;
@@ -27,8 +29,8 @@ pub struct Scale<'a> {
 impl<'a> Scale<'a> {
     ghost use Rattle.std.specs.Prelude.{◌≡◌, ℕ, List, length, Some, IfOk};
     ghost use Rattle.resb_format.specs.Bytes.{units_of};
-    ghost use Rattle.resb_format.specs.Strings.{text_at, key_at};
-    ghost use Rattle.resb_walk.specs.Files.{parts_in};
+    ghost use Rattle.resb_format.specs.Strings as strings;
+    ghost use Rattle.resb_format.specs.Parts.{parts_in};
     ghost use Rattle.resb_walk.specs.Inner.Members.{member_of};
     ghost use Rattle.resb_walk.specs.Inner.Weighing.{Looked, Nexts, ToCome};
     ghost use Rattle.resb_walk.specs.Pieces.{Piece, Holds, HoldsMember};
@@ -49,12 +51,13 @@ impl<'a> Scale<'a> {
 
     /// How many bytes the key at a position has.
     fn key_len(&self, at: usize) -> usize
-        ensures { (k : List ℕ) → key_at self.now.file.keys.now at ≡ Some k → length k ≡ result }
+        ensures { let keys = self.now.file.keys.now in
+            (k : List ℕ) → strings.key_at keys at ≡ Some k → length k ≡ result }
     {
         if let Some(key) = self.tails.key(at) {
             return key.len();
         }
-        match self.file.key(at) {
+        match key_at(self.file, at) {
             Ok(key) => key.len(),
             Err(_) => 0,
         }
@@ -62,7 +65,7 @@ impl<'a> Scale<'a> {
 
     /// How many bytes the text at a unit of the 16-bit block has.
     fn text_len(&self, unit: usize) -> usize
-        ensures { (s : List ℕ) → text_at (units_of self.now.file.block.now) unit ≡ Some s
+        ensures { (s : List ℕ) → strings.text_at (units_of self.now.file.block.now) unit ≡ Some s
             → length s ≡ result }
     {
         let units = self.file.block.len() / 2;
@@ -71,7 +74,7 @@ impl<'a> Scale<'a> {
                 return self.widths.utf8_len(from, count);
             }
         }
-        match self.file.text(unit) {
+        match text_at(self.file, unit) {
             Ok(text) => text_len(text),
             Err(_) => 0,
         }
@@ -86,7 +89,7 @@ impl<'a> Scale<'a> {
             *sums = sums.with_text(self.text_len(unit));
             return None;
         }
-        match self.file.standing(word) {
+        match standing_at(self.file, word) {
             Ok(Standing::Leaf(leaf)) => {
                 *sums = sums.with_leaf(leaf);
                 None

@@ -3,7 +3,7 @@
 ghost use Rattle.std.specs.Prelude.{◌≡◌, ◌≢◌, ◌<◌, ◌^◌, position, ◌==◌, Some, None, true};
 ghost use Rattle.std.specs.Prelude.{MatchResult, IfErr, IfSome};
 ghost use Rattle.resb_format.specs.Bytes.{units_of};
-ghost use Rattle.resb_format.specs.Strings.{text_at, key_at};
+ghost use Rattle.resb_format.specs.Strings as strings;
 ghost use Rattle.resb_format.specs.Descriptor.{type_number};
 ghost use Rattle.resb_format.specs.Types.{is_read_type};
 ghost use Rattle.resb_format.specs.Content as at;
@@ -12,17 +12,17 @@ ghost use Rattle.resb_format.specs.Error as reading;
 ghost use Rattle.resb_walk.specs.BlockRefusals as refusals;
 ghost use Rattle.resb_walk.specs.BlockRefusals.{Says, block_text_refusal, block_key_refusal};
 ghost use Rattle.resb_walk.specs.BlockRefusals.{word_refusal};
-ghost use Rattle.resb_walk.specs.Files.{parts_in};
+ghost use Rattle.resb_format.specs.Parts.{parts_in};
 ghost use Rattle.resb_walk.specs.Inner.Members.{content_of, text_of_bytes, member_of};
 ghost use Rattle.resb_walk.specs.Inner.MemberContent.{member_content, member_refusal};
 ghost use Rattle.resb_walk.specs.Refusals.{IsFault};
 
 use crate::faults::{key_not_utf8, key_past_end, key_unterminated, not_utf16, past_end};
-use crate::file::{File, Leaf, Member, Members, Pairs, Positions, Standing};
+use crate::members::{Leaf, Member, Members, Pairs, Positions, Standing};
 use crate::types::readable;
 use crate::units::is_well_formed;
 use resb_format::bytes::{cut_at, some_bytes, some_unit, some_units, some_word, some_words};
-use resb_format::{BinaryDeserializerError, MAX_UNMARKED, ResourceReprType, string_at};
+use resb_format::{BinaryDeserializerError, File, MAX_UNMARKED, ResourceReprType, string_at};
 
 /// The number of the first zero byte.
 fn first_zero(bytes: &[u8]) -> Option<usize>
@@ -34,7 +34,8 @@ fn first_zero(bytes: &[u8]) -> Option<usize>
 /// The units of the string at a unit of the block, where it has no marker and no surrogate, as most
 /// have: one look at each unit finds the 0 behind it and that it is a text.
 fn plain_text(block: &[u8], unit: usize) -> Option<&[u8]>
-    ensures { IfSome result (λ v. text_at (units_of block.now) unit ≡ Some (text_of_bytes v.now)) }
+    ensures { let units = units_of block.now in
+        IfSome result (λ v. strings.text_at units unit ≡ Some (text_of_bytes v.now)) }
 {
     if unit > block.len() / 2 {
         return None;
@@ -53,261 +54,258 @@ fn plain_text(block: &[u8], unit: usize) -> Option<&[u8]>
     None
 }
 
-impl<'a> File<'a> {
-    /// The key at a position, in bytes from the body's start: what stands before the next zero
-    /// byte.
-    #[tactic(auto, using(crate::proofs::Keys::at), unfolding(resb_format::specs::Strings::key_at))]
-    pub fn key(self, at: usize) -> Result<&'a str, BinaryDeserializerError>
-        ensures stands { let keys = self.entry.keys.now in
-            MatchResult result (λ s. key_at keys at ≡ Some s.now)
-            (λ e. (key_at keys at ≡ None) × IsFault e) }
-        ensures says { IfErr result (Says (block_key_refusal self.entry.keys.now at)) }
-    {
-        let Some((_, tail)) = cut_at(self.keys, at) else {
-            return Err(key_past_end());
-        };
-        let Some(end) = first_zero(tail) else {
-            return Err(key_unterminated());
-        };
-        let Some((front, _)) = cut_at(tail, end) else {
-            return Err(key_unterminated());
-        };
-        match str::from_utf8(front) {
-            Ok(text) => Ok(text),
-            Err(_) => Err(key_not_utf8()),
-        }
+/// The key at a position, in bytes from the body's start: what stands before the next zero byte.
+#[tactic(auto, using(crate::proofs::Keys::at), unfolding(resb_format::specs::Strings::key_at))]
+pub fn key_at(file: File<'_>, at: usize) -> Result<&str, BinaryDeserializerError>
+    ensures stands { let keys = file.entry.keys.now in
+        MatchResult result (λ s. strings.key_at keys at ≡ Some s.now)
+        (λ e. (strings.key_at keys at ≡ None) × IsFault e) }
+    ensures says { IfErr result (Says (block_key_refusal file.entry.keys.now at)) }
+{
+    let Some((_, tail)) = cut_at(file.keys, at) else {
+        return Err(key_past_end());
+    };
+    let Some(end) = first_zero(tail) else {
+        return Err(key_unterminated());
+    };
+    let Some((front, _)) = cut_at(tail, end) else {
+        return Err(key_unterminated());
+    };
+    match str::from_utf8(front) {
+        Ok(text) => Ok(text),
+        Err(_) => Err(key_not_utf8()),
     }
+}
 
-    /// The units of the string at a unit of the 16-bit block, two bytes for each, which are a text.
-    #[tactic(auto, using(crate::proofs::Placed::text_some, crate::proofs::Placed::text_unpaired))]
-    pub fn text(self, unit: usize) -> Result<&'a [u8], BinaryDeserializerError>
-        ensures stands { let block = units_of self.entry.block.now in
-            MatchResult result (λ v. text_at block unit ≡ Some (text_of_bytes v.now))
-            (λ e. (text_at block unit ≡ None) × IsFault e) }
-        ensures says { IfErr result
-            (Says (block_text_refusal (units_of self.entry.block.now) unit)) }
-    {
-        if let Some(bytes) = plain_text(self.block, unit) {
-            return Ok(bytes);
-        }
-        match string_at(self.block, unit) {
-            Ok(view) => {
-                let bytes = view.as_bytes();
-                if is_well_formed(bytes) {
-                    Ok(bytes)
-                } else {
-                    Err(not_utf16())
-                }
+/// The units of the string at a unit of the 16-bit block, two bytes for each, which are a text.
+#[tactic(auto, using(crate::proofs::Placed::text_some, crate::proofs::Placed::text_unpaired))]
+pub fn text_at(file: File<'_>, unit: usize) -> Result<&[u8], BinaryDeserializerError>
+    ensures stands { let block = units_of file.entry.block.now in
+        MatchResult result (λ v. strings.text_at block unit ≡ Some (text_of_bytes v.now))
+        (λ e. (strings.text_at block unit ≡ None) × IsFault e) }
+    ensures says { IfErr result
+        (Says (block_text_refusal (units_of file.entry.block.now) unit)) }
+{
+    if let Some(bytes) = plain_text(file.block, unit) {
+        return Ok(bytes);
+    }
+    match string_at(file.block, unit) {
+        Ok(view) => {
+            let bytes = view.as_bytes();
+            if is_well_formed(bytes) {
+                Ok(bytes)
+            } else {
+                Err(not_utf16())
             }
+        }
+        Err(error) => Err(error),
+    }
+}
+
+/// What stands at a word.
+#[inline(always)]
+#[tactic(auto, unfolding(resb_format::specs::Content::content))]
+pub fn standing_at(file: File<'_>, word: u32) -> Result<Standing<'_>, BinaryDeserializerError>
+    ensures stands { let p = parts_in file.entry in
+        MatchResult result (λ s. content p word ≡ Some (content_of s))
+        (λ e. (content p word ≡ None) × IsFault e) }
+    ensures says { IfErr result (Says (word_refusal (parts_in file.entry) word)) }
+{
+    match readable(word)? {
+        (ResourceReprType::Int, _) => Ok(Standing::Leaf(Leaf::Integer(word))),
+        (kind, 0) => Ok(empty(kind)),
+        (kind, value) => placed(file, kind, value as usize),
+    }
+}
+
+/// What stands at a member.
+#[inline(always)]
+#[tactic(auto, unfolding(crate::specs::Inner::MemberContent::member_content))]
+pub fn member_at(file: File<'_>, member: Member) -> Result<Standing<'_>, BinaryDeserializerError>
+    ensures stands { let p = parts_in file.entry in let m = member_of member in
+        MatchResult result (λ s. member_content p m ≡ Some (content_of s))
+        (λ e. (member_content p m ≡ None) × IsFault e) }
+    ensures says { let p = parts_in file.entry in
+        IfErr result (Says (member_refusal p (member_of member))) }
+{
+    match member {
+        Member::Word(word) => standing_at(file, word),
+        Member::Unit(unit) => match text_at(file, usize::from(unit)) {
+            Ok(text) => Ok(Standing::Leaf(Leaf::Text(text))),
             Err(error) => Err(error),
+        },
+    }
+}
+
+/// What a type with a value other than 0 leads to.
+#[inline(always)]
+fn placed(
+    file: File<'_>,
+    kind: ResourceReprType,
+    value: usize,
+) -> Result<Standing<'_>, BinaryDeserializerError>
+    requires read { is_read_type (type_number kind) ≡ true }
+    requires no_number { kind ≢ ResourceReprType.Int }
+    requires small { value < 2 ^ 28 }
+    ensures stands { let found = at.placed (parts_in file.entry) (type_number kind) value in
+        MatchResult result (λ s. found ≡ Some (content_of s))
+        (λ e. (found ≡ None) × IsFault e) }
+    ensures says { IfErr result
+        (Says (refusals.value_refusal (parts_in file.entry) (type_number kind) value)) }
+{
+    match kind {
+        ResourceReprType::Binary => binary_at(file, value),
+        ResourceReprType::Table => table_at(file, value),
+        ResourceReprType::_Table32 => table32_at(file, value),
+        ResourceReprType::Table16 => table16_at(file, value),
+        ResourceReprType::StringV2 => Ok(Standing::Leaf(Leaf::Text(text_at(file, value)?))),
+        ResourceReprType::Array => array_at(file, value),
+        ResourceReprType::Array16 => array16_at(file, value),
+        ResourceReprType::IntVector => int_vector_at(file, value),
+        ResourceReprType::_String | ResourceReprType::_Alias | ResourceReprType::Int => {
+            unreachable!()
         }
     }
+}
 
-    /// What stands at a word.
-    #[inline(always)]
-    #[tactic(auto, unfolding(resb_format::specs::Content::content))]
-    pub fn standing(self, word: u32) -> Result<Standing<'a>, BinaryDeserializerError>
-        ensures stands { let p = parts_in self.entry in
-            MatchResult result (λ s. content p word ≡ Some (content_of s))
-            (λ e. (content p word ≡ None) × IsFault e) }
-        ensures says { IfErr result (Says (word_refusal (parts_in self.entry) word)) }
-    {
-        match readable(word)? {
-            (ResourceReprType::Int, _) => Ok(Standing::Leaf(Leaf::Integer(word))),
-            (kind, 0) => Ok(empty(kind)),
-            (kind, value) => self.placed(kind, value as usize),
-        }
-    }
+/// A count of bytes, and the bytes.
+fn binary_at(file: File<'_>, value: usize) -> Result<Standing<'_>, BinaryDeserializerError>
+    requires { value < 2 ^ 28 }
+    ensures stands { let p = parts_in file.entry in
+        MatchResult result (λ s. at.binary_at p value ≡ Some (content_of s))
+        (λ e. (at.binary_at p value ≡ None) × IsFault e) }
+    ensures says { IfErr result (Says reading.end_of_input) }
+{
+    let Some(count) = some_word(file.body, value) else {
+        return Err(past_end());
+    };
+    let Some(bytes) = some_bytes(file.body, 4 * value + 4, count as usize) else {
+        return Err(past_end());
+    };
+    Ok(Standing::Leaf(Leaf::Binary(bytes)))
+}
 
-    /// What stands at a member.
-    #[inline(always)]
-    #[tactic(auto, unfolding(crate::specs::Inner::MemberContent::member_content))]
-    pub fn member(self, member: Member) -> Result<Standing<'a>, BinaryDeserializerError>
-        ensures stands { let p = parts_in self.entry in let m = member_of member in
-            MatchResult result (λ s. member_content p m ≡ Some (content_of s))
-            (λ e. (member_content p m ≡ None) × IsFault e) }
-        ensures says { let p = parts_in self.entry in
-            IfErr result (Says (member_refusal p (member_of member))) }
-    {
-        match member {
-            Member::Word(word) => self.standing(word),
-            Member::Unit(unit) => match self.text(usize::from(unit)) {
-                Ok(text) => Ok(Standing::Leaf(Leaf::Text(text))),
-                Err(error) => Err(error),
-            },
-        }
-    }
+/// A count of numbers, and the numbers.
+fn int_vector_at(file: File<'_>, value: usize) -> Result<Standing<'_>, BinaryDeserializerError>
+    requires { value < 2 ^ 28 }
+    ensures stands { let p = parts_in file.entry in
+        MatchResult result (λ s. at.int_vector_at p value ≡ Some (content_of s))
+        (λ e. (at.int_vector_at p value ≡ None) × IsFault e) }
+    ensures says { IfErr result (Says reading.end_of_input) }
+{
+    let Some(count) = some_word(file.body, value) else {
+        return Err(past_end());
+    };
+    let Some(numbers) = some_words(file.body, value + 1, count as usize) else {
+        return Err(past_end());
+    };
+    Ok(Standing::Leaf(Leaf::Numbers(numbers)))
+}
 
-    /// What a type with a value other than 0 leads to.
-    #[inline(always)]
-    fn placed(
-        self,
-        kind: ResourceReprType,
-        value: usize,
-    ) -> Result<Standing<'a>, BinaryDeserializerError>
-        requires read { is_read_type (type_number kind) ≡ true }
-        requires no_number { kind ≢ ResourceReprType.Int }
-        requires small { value < 2 ^ 28 }
-        ensures stands { let found = at.placed (parts_in self.entry) (type_number kind) value in
-            MatchResult result (λ s. found ≡ Some (content_of s))
-            (λ e. (found ≡ None) × IsFault e) }
-        ensures says { IfErr result
-            (Says (refusals.value_refusal (parts_in self.entry) (type_number kind) value)) }
-    {
-        match kind {
-            ResourceReprType::Binary => self.binary(value),
-            ResourceReprType::Table => self.table(value),
-            ResourceReprType::_Table32 => self.table32(value),
-            ResourceReprType::Table16 => self.table16(value),
-            ResourceReprType::StringV2 => Ok(Standing::Leaf(Leaf::Text(self.text(value)?))),
-            ResourceReprType::Array => self.array(value),
-            ResourceReprType::Array16 => self.array16(value),
-            ResourceReprType::IntVector => self.int_vector(value),
-            ResourceReprType::_String | ResourceReprType::_Alias | ResourceReprType::Int => {
-                unreachable!()
-            }
-        }
-    }
+/// A count of descriptors, and the descriptors.
+fn array_at(file: File<'_>, value: usize) -> Result<Standing<'_>, BinaryDeserializerError>
+    requires { value < 2 ^ 28 }
+    ensures stands { let p = parts_in file.entry in
+        MatchResult result (λ s. at.array_at p value ≡ Some (content_of s))
+        (λ e. (at.array_at p value ≡ None) × IsFault e) }
+    ensures says { IfErr result (Says reading.end_of_input) }
+{
+    let Some(count) = some_word(file.body, value) else {
+        return Err(past_end());
+    };
+    let Some(members) = some_words(file.body, value + 1, count as usize) else {
+        return Err(past_end());
+    };
+    Ok(Standing::List(Members::Words(members)))
+}
 
-    /// A count of bytes, and the bytes.
-    fn binary(self, value: usize) -> Result<Standing<'a>, BinaryDeserializerError>
-        requires { value < 2 ^ 28 }
-        ensures stands { let p = parts_in self.entry in
-            MatchResult result (λ s. at.binary_at p value ≡ Some (content_of s))
-            (λ e. (at.binary_at p value ≡ None) × IsFault e) }
-        ensures says { IfErr result (Says reading.end_of_input) }
-    {
-        let Some(count) = some_word(self.body, value) else {
-            return Err(past_end());
-        };
-        let Some(bytes) = some_bytes(self.body, 4 * value + 4, count as usize) else {
-            return Err(past_end());
-        };
-        Ok(Standing::Leaf(Leaf::Binary(bytes)))
-    }
+/// A count of offsets, and the offsets.
+fn array16_at(file: File<'_>, value: usize) -> Result<Standing<'_>, BinaryDeserializerError>
+    requires { value < 2 ^ 28 }
+    ensures stands { let p = parts_in file.entry in
+        MatchResult result (λ s. at.array16_at p value ≡ Some (content_of s))
+        (λ e. (at.array16_at p value ≡ None) × IsFault e) }
+    ensures says { IfErr result (Says reading.end_of_input) }
+{
+    let Some(count) = some_unit(file.block, value) else {
+        return Err(past_end());
+    };
+    let Some(members) = some_units(file.block, value + 1, usize::from(count)) else {
+        return Err(past_end());
+    };
+    Ok(Standing::List(Members::Units(members)))
+}
 
-    /// A count of numbers, and the numbers.
-    fn int_vector(self, value: usize) -> Result<Standing<'a>, BinaryDeserializerError>
-        requires { value < 2 ^ 28 }
-        ensures stands { let p = parts_in self.entry in
-            MatchResult result (λ s. at.int_vector_at p value ≡ Some (content_of s))
-            (λ e. (at.int_vector_at p value ≡ None) × IsFault e) }
-        ensures says { IfErr result (Says reading.end_of_input) }
-    {
-        let Some(count) = some_word(self.body, value) else {
-            return Err(past_end());
-        };
-        let Some(numbers) = some_words(self.body, value + 1, count as usize) else {
-            return Err(past_end());
-        };
-        Ok(Standing::Leaf(Leaf::Numbers(numbers)))
-    }
+/// A 16-bit count of entries, 16-bit key positions, padding up to a word, and descriptors.
+fn table_at(file: File<'_>, value: usize) -> Result<Standing<'_>, BinaryDeserializerError>
+    requires { value < 2 ^ 28 }
+    ensures stands { let p = parts_in file.entry in
+        MatchResult result (λ s. at.table_at p value ≡ Some (content_of s))
+        (λ e. (at.table_at p value ≡ None) × IsFault e) }
+    ensures says { IfErr result (Says reading.end_of_input) }
+{
+    let Some(count) = some_unit(file.body, 2 * value) else {
+        return Err(past_end());
+    };
+    let count = usize::from(count);
+    let Some(keys) = some_units(file.body, 2 * value + 1, count) else {
+        return Err(past_end());
+    };
+    let Some(members) = some_words(file.body, value + count / 2 + 1, count) else {
+        return Err(past_end());
+    };
+    Ok(Standing::Table(Pairs {
+        keys: Positions::Halves(keys),
+        members: Members::Words(members),
+    }))
+}
 
-    /// A count of descriptors, and the descriptors.
-    fn array(self, value: usize) -> Result<Standing<'a>, BinaryDeserializerError>
-        requires { value < 2 ^ 28 }
-        ensures stands { let p = parts_in self.entry in
-            MatchResult result (λ s. at.array_at p value ≡ Some (content_of s))
-            (λ e. (at.array_at p value ≡ None) × IsFault e) }
-        ensures says { IfErr result (Says reading.end_of_input) }
-    {
-        let Some(count) = some_word(self.body, value) else {
-            return Err(past_end());
-        };
-        let Some(members) = some_words(self.body, value + 1, count as usize) else {
-            return Err(past_end());
-        };
-        Ok(Standing::List(Members::Words(members)))
-    }
+/// A count of entries, key positions and offsets, all of 16 bits.
+fn table16_at(file: File<'_>, value: usize) -> Result<Standing<'_>, BinaryDeserializerError>
+    requires { value < 2 ^ 28 }
+    ensures stands { let p = parts_in file.entry in
+        MatchResult result (λ s. at.table16_at p value ≡ Some (content_of s))
+        (λ e. (at.table16_at p value ≡ None) × IsFault e) }
+    ensures says { IfErr result (Says reading.end_of_input) }
+{
+    let Some(count) = some_unit(file.block, value) else {
+        return Err(past_end());
+    };
+    let count = usize::from(count);
+    let Some(keys) = some_units(file.block, value + 1, count) else {
+        return Err(past_end());
+    };
+    let Some(members) = some_units(file.block, value + 1 + count, count) else {
+        return Err(past_end());
+    };
+    Ok(Standing::Table(Pairs {
+        keys: Positions::Halves(keys),
+        members: Members::Units(members),
+    }))
+}
 
-    /// A count of offsets, and the offsets.
-    fn array16(self, value: usize) -> Result<Standing<'a>, BinaryDeserializerError>
-        requires { value < 2 ^ 28 }
-        ensures stands { let p = parts_in self.entry in
-            MatchResult result (λ s. at.array16_at p value ≡ Some (content_of s))
-            (λ e. (at.array16_at p value ≡ None) × IsFault e) }
-        ensures says { IfErr result (Says reading.end_of_input) }
-    {
-        let Some(count) = some_unit(self.block, value) else {
-            return Err(past_end());
-        };
-        let Some(members) = some_units(self.block, value + 1, usize::from(count)) else {
-            return Err(past_end());
-        };
-        Ok(Standing::List(Members::Units(members)))
-    }
-
-    /// A 16-bit count of entries, 16-bit key positions, padding up to a word, and descriptors.
-    fn table(self, value: usize) -> Result<Standing<'a>, BinaryDeserializerError>
-        requires { value < 2 ^ 28 }
-        ensures stands { let p = parts_in self.entry in
-            MatchResult result (λ s. at.table_at p value ≡ Some (content_of s))
-            (λ e. (at.table_at p value ≡ None) × IsFault e) }
-        ensures says { IfErr result (Says reading.end_of_input) }
-    {
-        let Some(count) = some_unit(self.body, 2 * value) else {
-            return Err(past_end());
-        };
-        let count = usize::from(count);
-        let Some(keys) = some_units(self.body, 2 * value + 1, count) else {
-            return Err(past_end());
-        };
-        let Some(members) = some_words(self.body, value + count / 2 + 1, count) else {
-            return Err(past_end());
-        };
-        Ok(Standing::Table(Pairs {
-            keys: Positions::Halves(keys),
-            members: Members::Words(members),
-        }))
-    }
-
-    /// A count of entries, key positions and offsets, all of 16 bits.
-    fn table16(self, value: usize) -> Result<Standing<'a>, BinaryDeserializerError>
-        requires { value < 2 ^ 28 }
-        ensures stands { let p = parts_in self.entry in
-            MatchResult result (λ s. at.table16_at p value ≡ Some (content_of s))
-            (λ e. (at.table16_at p value ≡ None) × IsFault e) }
-        ensures says { IfErr result (Says reading.end_of_input) }
-    {
-        let Some(count) = some_unit(self.block, value) else {
-            return Err(past_end());
-        };
-        let count = usize::from(count);
-        let Some(keys) = some_units(self.block, value + 1, count) else {
-            return Err(past_end());
-        };
-        let Some(members) = some_units(self.block, value + 1 + count, count) else {
-            return Err(past_end());
-        };
-        Ok(Standing::Table(Pairs {
-            keys: Positions::Halves(keys),
-            members: Members::Units(members),
-        }))
-    }
-
-    /// A count of entries, key positions and descriptors, all of 32 bits, without padding.
-    fn table32(self, value: usize) -> Result<Standing<'a>, BinaryDeserializerError>
-        requires { value < 2 ^ 28 }
-        ensures stands { let p = parts_in self.entry in
-            MatchResult result (λ s. at.table32_at p value ≡ Some (content_of s))
-            (λ e. (at.table32_at p value ≡ None) × IsFault e) }
-        ensures says { IfErr result (Says reading.end_of_input) }
-    {
-        let Some(count) = some_word(self.body, value) else {
-            return Err(past_end());
-        };
-        let count = count as usize;
-        let Some(keys) = some_words(self.body, value + 1, count) else {
-            return Err(past_end());
-        };
-        let Some(members) = some_words(self.body, value + 1 + count, count) else {
-            return Err(past_end());
-        };
-        Ok(Standing::Table(Pairs {
-            keys: Positions::Wholes(keys),
-            members: Members::Words(members),
-        }))
-    }
+/// A count of entries, key positions and descriptors, all of 32 bits, without padding.
+fn table32_at(file: File<'_>, value: usize) -> Result<Standing<'_>, BinaryDeserializerError>
+    requires { value < 2 ^ 28 }
+    ensures stands { let p = parts_in file.entry in
+        MatchResult result (λ s. at.table32_at p value ≡ Some (content_of s))
+        (λ e. (at.table32_at p value ≡ None) × IsFault e) }
+    ensures says { IfErr result (Says reading.end_of_input) }
+{
+    let Some(count) = some_word(file.body, value) else {
+        return Err(past_end());
+    };
+    let count = count as usize;
+    let Some(keys) = some_words(file.body, value + 1, count) else {
+        return Err(past_end());
+    };
+    let Some(members) = some_words(file.body, value + 1 + count, count) else {
+        return Err(past_end());
+    };
+    Ok(Standing::Table(Pairs {
+        keys: Positions::Wholes(keys),
+        members: Members::Words(members),
+    }))
 }
 
 /// The empty resource of a type.

@@ -9,7 +9,7 @@ ghost use Rattle.resb_walk.specs.BlockRefusals.{block_text_refusal};
 ghost use Rattle.resb_walk.specs.Inner.MemberContent.{member_content, member_refusal};
 ghost use Rattle.resb_walk.specs.Inner.Members.{member_of};
 
-use crate::file::Member;
+use crate::members::Member;
 use crate::types::readable;
 use resb_format::ResourceReprType;
 use resb_format::bytes::unit_at;

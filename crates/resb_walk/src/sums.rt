@@ -3,7 +3,7 @@
 ghost use Rattle.std.specs.Prelude.{◌≡◌, ℕ, ◌+◌};
 ghost use Rattle.resb_walk.specs.Sums.{fitting};
 
-use crate::file::Leaf;
+use crate::members::Leaf;
 use crate::units::text_len;
 
 /// What stands in a file's tree, summed; entries that are replaced count too. A sum is none where

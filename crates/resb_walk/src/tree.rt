@@ -2,18 +2,15 @@
 //! Which bytes they are made of is found in `standing`.
 ghost use Rattle.std.specs.Prelude.{◌≡◌, List, IfOk};
 ghost use Rattle.resb_format.specs.Bytes.{words_of};
-ghost use Rattle.std.specs.BTreeMap.{insert_entry};
-ghost use Rattle.std.specs.Cmp.Lexicographic.{slice_cmp};
-ghost use Rattle.std.specs.Ordering.{nat_cmp};
 
-use crate::file::Leaf;
+use crate::filling::Filling;
 use crate::make::Make;
+use crate::members::Leaf;
 use crate::units::text_of_units;
 use resb_format::bytes::first_word;
-use resb_tree::{Int28, Key, NoMemory, Resource, Table};
+use resb_tree::{Int28, NoMemory, Resource};
 use std::alloc::Global;
 use std::borrow::{CowSlice, CowStr};
-use std::collections::BTreeMap;
 
 /// The numbers of some bytes.
 fn numbers(alloc: Global, bytes: &[u8]) -> Result<Vec<u32>, NoMemory>
@@ -28,36 +25,21 @@ fn numbers(alloc: Global, bytes: &[u8]) -> Result<Vec<u32>, NoMemory>
     Ok(numbers)
 }
 
-/// The table with one entry more; the last value of a key stands.
-fn with_entry<'de>(
-    mut table: Table<'de>,
-    key: &'de str,
-    item: Resource<'de>,
-) -> Result<Table<'de>, NoMemory>
-    ensures { let old = table.entry.entries in
-        IfOk result (λ m. m.entries
-        ≡ insert_entry (slice_cmp nat_cmp) old key.entry.now item.entry) }
-{
-    table.insert(Key::from(key), item)?;
-    Ok(table)
-}
-
 impl<'de> Make<'de> for Resource<'de> {
     ghost use Rattle.std.specs.Prelude.{◌≡◌, map, true};
-    ghost use Rattle.resb_tree.specs.Tree.{map_of};
-    ghost use Rattle.resb_tree.specs.View.{tree_of, entries_view};
-    ghost use Rattle.resb_walk.specs.Borrows.{Borrows, all_borrow, entries_borrow};
+    ghost use Rattle.resb_tree.specs.View.{tree_of};
+    ghost use Rattle.resb_walk.specs.Borrows.{Borrows, all_borrow};
+    ghost use Rattle.resb_walk.specs.Inner.Filling.{Gathers};
 
     type List = Vec<Resource<'de>>;
 
-    type Table = Table<'de>;
+    type Table = Filling<'de>;
 
     ghost is = { λ r t. (tree_of r ≡ t) × Borrows r };
 
     ghost lists = { λ v ts. (map tree_of v.items ≡ ts) × (all_borrow v.items ≡ true) };
 
-    ghost tables = { λ m es. (entries_view m.entries ≡ map_of es) ×
-        (entries_borrow m.entries ≡ true) };
+    ghost tables = { Gathers };
 
     fn leaf(alloc: Global, leaf: Leaf<'de>) -> Result<Resource<'de>, NoMemory> {
         Ok(match leaf {
@@ -74,28 +56,24 @@ impl<'de> Make<'de> for Resource<'de> {
     }
 
     #[tactic(auto, using(std::proofs::lemmas::List::map_push, crate::proofs::Made::borrow_snoc))]
-    fn add(
-        mut list: Vec<Resource<'de>>,
-        item: Resource<'de>,
-    ) -> Result<Vec<Resource<'de>>, NoMemory> {
+    fn add(list: &mut Vec<Resource<'de>>, item: Resource<'de>) -> Result<(), NoMemory> {
         list.push(item)?;
-        Ok(list)
+        Ok(())
     }
 
     fn end_list(list: Vec<Resource<'de>>) -> Resource<'de> {
         Resource::Array(list)
     }
 
-    fn begin_table(alloc: Global) -> Table<'de> {
-        BTreeMap::new(alloc)
+    fn begin_table(alloc: Global, room: usize) -> Result<Filling<'de>, NoMemory> {
+        Filling::new(alloc, room)
     }
 
-    #[tactic(auto, using(crate::proofs::Made::put_made))]
-    fn put(table: Table<'de>, key: &'de str, item: Resource<'de>) -> Result<Table<'de>, NoMemory> {
-        with_entry(table, key, item)
+    fn put(table: &mut Filling<'de>, key: &'de str, item: Resource<'de>) -> Result<(), NoMemory> {
+        table.put(key, item)
     }
 
-    fn end_table(table: Table<'de>) -> Resource<'de> {
-        Resource::Table(table)
+    fn end_table(alloc: Global, table: Filling<'de>) -> Result<Resource<'de>, NoMemory> {
+        Ok(Resource::Table(table.end(alloc)?))
     }
 }

@@ -2,16 +2,17 @@
 //! What is summed of each resource and key is found in `scale`.
 //! A round takes the next member of the innermost collection, or goes back to the one around it.
 ghost use Rattle.std.specs.Prelude.{◌≡◌, ℕ, ◌++◌, List, IfOk};
-ghost use Rattle.resb_walk.specs.Files.{parts_in};
+ghost use Rattle.resb_format.specs.Parts.{parts_in};
 ghost use Rattle.resb_walk.specs.Inner.Members.{member_of};
 ghost use Rattle.resb_walk.specs.Inner.Weighing.{ToCome, Waiting, Entered};
 ghost use Rattle.resb_walk.specs.Pieces.{Piece, Holds, HoldsMember};
 ghost use Rattle.resb_walk.specs.Sums.{AddsUp, count_of};
 
 use crate::count::{Inner, Outer, again, keep};
-use crate::file::{File, Member};
+use crate::members::Member;
 use crate::scale::Scale;
 use crate::sums::Sums;
+use resb_format::File;
 use resb_tree::NoMemory;
 use std::alloc::Global;
 

@@ -129,9 +129,9 @@ module _ (g : Given) where
       none : sum_by (own_units g) [] ≡ 0
       none = refl
 
-  behind : (a b c n k : ℕ) (ts : List Tree) (t : Tree) → b ≡ a + sum_by (own_units g) ts
+  one_more_counted : (a b c n k : ℕ) (ts : List Tree) (t : Tree) → b ≡ a + sum_by (own_units g) ts
       → c ≡ b + k → own_units g t ≡ k → c ≡ a + sum_by (own_units g) (ts ++ t ∷ [])
-  behind a b c n k ts t e f h = omega (
+  one_more_counted a b c n k ts t e f h = omega (
     arith,
     e,
     f,
@@ -164,7 +164,8 @@ module _ (g : Given) where
     units {s} {e} {t} (lays_items {mid = mid} {ts = ts} {ws = ws} k some c) =
         let r = units_each k in
         let o = array_units (members ts) r.1 r.2 some c in (
-          behind (length s.units) (length mid.units) (length e.units) 0 _ (walk_each ts) t r.0 o.0
+          one_more_counted (length s.units) (length mid.units) (length e.units) 0 _ (walk_each ts)
+              t r.0 o.0
               refl,
           o.1,
         )
@@ -177,7 +178,8 @@ module _ (g : Given) where
         ∙ sym n in
         let o = table_units (entry_keys es) (values_of es) n m h
         (near_keys (entry_keys es) ps p.positions) some c in (
-          behind (length s.units) (length mid.units) (length e.units) 0 _ (walk_values es) t
+          one_more_counted (length s.units) (length mid.units) (length e.units) 0 _
+              (walk_values es) t
               (r.0 ∙ ap (λ l. length s.units + sum_by (own_units g) l) (walk_of es)) o.0 refl,
           o.1,
         )

@@ -10,7 +10,7 @@ use Rattle.std.specs.Str.{bytes_eq}
 use Rattle.std.specs.Cmp.Lexicographic.{bytes_decides}
 use Rattle.resb_tree.specs.Keys.{same_text}
 use Rattle.resb_pool.specs.Plan.{nows}
-use Rattle.resb_pool.specs.Fault.{unexpected, limit}
+use Rattle.resb_layout.specs.Fault.{unexpected, limit}
 use Rattle.resb_pool.proofs.TextLists.{TextList}
 use Rattle.resb_layout.specs.KeyBlock.{is_among}
 use Rattle.resb_layout.specs.Faults.{is_unlisted, is_far, has_nul, key_fault}

@@ -6,7 +6,7 @@ use Rattle.std.specs.List.{list_any, flat_map}
 use Rattle.std.specs.Option.{is_none}
 use Rattle.std.proofs.lemmas.Bool.Decides.{nat_tests}
 use Rattle.resb_tree.specs.Tree.{Tree}
-use Rattle.resb_pool.specs.Fault.{string_too_long, unexpected, limit}
+use Rattle.resb_layout.specs.Fault.{string_too_long, unexpected, limit}
 use Rattle.resb_pool.specs.Plan.{nows, first_too_long}
 use Rattle.resb_tree.specs.WalkOrder.{text_in}
 use Rattle.resb_layout.specs.KeyBlock.{last_of, keys_start}

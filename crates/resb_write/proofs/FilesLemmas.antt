@@ -11,7 +11,8 @@ use Rattle.std.proofs.lemmas.List.Sums.{sum_by-cons}
 use Rattle.resb_tree.specs.Tree.{Tree, string, array, table, binary, integer, int_vector, Entries}
 use Rattle.resb_tree.specs.Tree.{no_entries, entry, entries_len, tree_count}
 use Rattle.resb_format.specs.Strings.{text_at, key_at}
-use Rattle.resb_format.specs.Parts.{Parts, root_word}
+use Rattle.resb_format.specs.Parts.{Parts}
+use Rattle.resb_head.specs.File.{root_word}
 use Rattle.resb_format.specs.Denotes.{Den}
 use Rattle.resb_pool.specs.Plan.{IsPlan}
 use Rattle.resb_pool.proofs.IsRead.{pool_is_read}

@@ -4,7 +4,7 @@ use Rattle.std.proofs.Common.{subst, arith}
 use Rattle.std.proofs.lemmas.List.{drop-drop}
 use Rattle.std.proofs.Math.Seq.{drop-append_seam}
 use Rattle.resb_tree.specs.WalkOrder.{walk_order}
-use Rattle.resb_format.specs.Parts.{body_of, block_end}
+use Rattle.resb_head.specs.File.{body_of, block_end}
 use Rattle.resb_layout.specs.Laid.{Laid, Given, here, halves}
 use Rattle.resb_layout.specs.InOrder.{FillsTail}
 use Rattle.resb_layout.proofs.Numbers.{halves_len}

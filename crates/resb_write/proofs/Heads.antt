@@ -4,9 +4,10 @@ use Rattle.std.proofs.Common.{get_or, take, drop, Bool, cond, refl, sym, ◌∙�
 use Rattle.std.proofs.Common.{append-nil, length-append, arith}
 use Rattle.std.proofs.lemmas.List.{take_at, drop_at}
 use Rattle.resb_format.specs.Bytes.{units_of, words_of}
-use Rattle.resb_format.specs.Parts.{Parts, header_size, body_of, root_word, field_count, keys_end}
-use Rattle.resb_format.specs.Parts.{resources_end, bundle_end, largest_table_field, attributes}
-use Rattle.resb_format.specs.Parts.{block_end, parts_of, IsBundleFile}
+use Rattle.resb_format.specs.Parts.{Parts}
+use Rattle.resb_head.specs.File.{header_size, body_of, root_word, field_count, keys_end}
+use Rattle.resb_head.specs.File.{resources_end, bundle_end, largest_table_field, attributes}
+use Rattle.resb_head.specs.File.{block_end, parts_of, IsBundleFile}
 use Rattle.resb_layout.specs.Laid.{words, halves}
 use Rattle.resb_layout.proofs.Numbers.{EachBelow, words_read, halves_read, halves_len}
 use Rattle.resb_format.proofs.WordsBack.{written_length}

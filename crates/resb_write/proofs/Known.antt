@@ -13,7 +13,7 @@ use Rattle.std.proofs.lemmas.List.Elements.{Contains-append_right}
 use Rattle.std.proofs.lemmas.List.Folds.{Any-from_list_any, list_any-from_Any}
 use Rattle.resb_tree.specs.Tree.{Tree}
 use Rattle.resb_tree.specs.Keys.{same_text}
-use Rattle.resb_pool.specs.Fault.{Fault}
+use Rattle.resb_layout.specs.Fault.{Fault}
 use Rattle.resb_pool.specs.Plan.{IsPlan}
 use Rattle.resb_pool.specs.Pool.{Off}
 use Rattle.resb_pool.proofs.IsRead.{pool_is_read}

@@ -8,7 +8,7 @@ use Rattle.std.proofs.lemmas.List.{take-append-drop, length-take-le}
 use Rattle.resb_tree.specs.Tree.{Tree}
 use Rattle.resb_format.specs.Bytes.{words_of}
 use Rattle.resb_format.specs.Laws.{EachFits}
-use Rattle.resb_format.specs.Parts.{body_of}
+use Rattle.resb_head.specs.File.{body_of}
 use Rattle.resb_format.proofs.WordsBack.{bytes_back, fits_drop}
 use Rattle.resb_format.proofs.Spelled.{words_length}
 use Rattle.resb_pool.proofs.OnePool.{one_pool}

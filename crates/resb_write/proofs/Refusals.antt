@@ -3,7 +3,8 @@ use Rattle.std.proofs.Common.{◌≡◌, ℕ, ◌+◌, ◌^◌, ◌<◌, List, S
 use Rattle.std.proofs.Common.{subst, arith}
 use Rattle.std.specs.List.{flat_map}
 use Rattle.resb_tree.specs.Tree.{Tree}
-use Rattle.resb_pool.specs.Fault.{Fault, out_of_memory}
+use Rattle.resb_layout.specs.Fault.{Fault, out_of_memory}
+use Rattle.resb_pool.specs.declared.error.PlanError.{PlanError}
 use Rattle.resb_pool.specs.Plan.{NotPlanned, no_memory as no_memory_to_plan, too_long}
 use Rattle.resb_pool.specs.Plan.{too_large as too_large_to_plan, texts_size, first_too_long}
 use Rattle.resb_tree.specs.WalkOrder.{walk_order, text_in, texts_of}
@@ -13,6 +14,7 @@ use Rattle.resb_layout.specs.PlainSize.{list_size, resources_size}
 use Rattle.resb_layout.specs.Faults.{key_fault, tree_fault, first_of, RefusesWriting, no_memory}
 use Rattle.resb_layout.specs.Faults.{at_the_first}
 use Rattle.resb_layout.specs.Faults.{too_large}
+use Rattle.resb_write.specs.FaultOf.{plan_fault}
 use Rattle.resb_write.specs.Inner.Sizes.{size_fault, IsTooMuch, at_fault}
 use Rattle.resb_write.specs.Inner.Sizes.{too_large as too_large_sizes}
 use Rattle.resb_write.proofs.Room.{none_too_long, texts_within}
@@ -40,17 +42,17 @@ module _ (t : Tree) (ks : List (List ℕ)) where
     size_refused f (too_large_sizes h l) = too_large (only_sizes ∙ h) l
 
   -- what is small enough is planned, memory aside
-  pub plan_refused : (S : List (List ℕ)) (f : Fault) → S ≡ texts_of t
-      → list_size ks + resources_size (walk_order t) < 2 ^ 28 → NotPlanned S f
-      → RefusesWriting t ks f
-  plan_refused S f e small no_memory_to_plan = no_memory
-  plan_refused S f e small (too_long {n} h) =
+  pub plan_refused : (S : List (List ℕ)) (e : PlanError) → S ≡ texts_of t
+      → list_size ks + resources_size (walk_order t) < 2 ^ 28 → NotPlanned S e
+      → RefusesWriting t ks (plan_fault e)
+  plan_refused S e is small no_memory_to_plan = no_memory
+  plan_refused S e is small (too_long {n} h) =
       let none = none_too_long (flat_map text_in (walk_order t)) (omega (
         arith,
         texts_within (walk_order t),
         small,
       )) in
-      let no : Some n ≡ None = sym h ∙ ap first_too_long e ∙ none in
+      let no : Some n ≡ None = sym h ∙ ap first_too_long is ∙ none in
       cc
-  plan_refused S f e small (too_large_to_plan h l) =
-      absurd (omega (arith, texts_within (walk_order t), small, l, ap texts_size e))
+  plan_refused S e is small (too_large_to_plan h l) =
+      absurd (omega (arith, texts_within (walk_order t), small, l, ap texts_size is))

@@ -139,15 +139,15 @@ module _ (g : Given) where
         }
 
 -- nothing is left
-ended : (g : Given) (s e : Laid) (ws ys : List ℕ) → LaysRow g s ws [] e ys → (s ≡ e) × (ws ≡ ys)
-ended g s e ws ys row_none = (refl, refl)
+none_laid : (g : Given) (s e : Laid) (ws ys : List ℕ) → LaysRow g s ws [] e ys → (s ≡ e) × (ws ≡ ys)
+none_laid g s e ws ys row_none = (refl, refl)
 
 pub steps_lay_trees : (g : Given) (s e : Laid) (t : Tree) (xs : List ℕ)
     → LaysRow g s [] (walk_order t) e xs → (w : ℕ) × (xs ≡ w ∷ []) × Lays g s t e w
 steps_lay_trees g s e t xs h =
     let k = steps_tree g t s e [] xs []
     (subst (λ l. LaysRow g s [] l e xs) (sym (append-nil (walk_order t))) h) in
-    let z = ended g k.mid e (k.word ∷ []) xs k.goes in
+    let z = none_laid g k.mid e (k.word ∷ []) xs k.goes in
     (k.word, sym z.1, subst (λ m. Lays g s t m k.word) z.0 k.lays)
 
 -- the last words of a stack, and those below them

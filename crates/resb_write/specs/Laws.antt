@@ -5,7 +5,7 @@
 use Rattle.std.specs.Prelude.{◌≡◌, ℕ, ◌*◌, List, ◌++◌, drop, Bool}
 use Rattle.resb_tree.specs.Tree.{Tree}
 use Rattle.resb_tree.specs.WalkOrder.{walk_order}
-use Rattle.resb_format.specs.Parts.{body_of, block_end}
+use Rattle.resb_head.specs.File.{body_of, block_end}
 use Rattle.resb_layout.specs.InOrder.{FillsTail, FillsBlock}
 use Rattle.resb_layout.specs.Laid.{Given, Laid, Lays}
 use Rattle.resb_format.specs.Laws.{EachFits}

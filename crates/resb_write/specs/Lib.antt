@@ -5,17 +5,17 @@ pub use Rattle.resb_tree.specs.View
 pub use Rattle.resb_tree.specs.Bundle
 pub use Rattle.resb_format.specs.Parts
 pub use Rattle.resb_format.specs.Denotes
-pub use Rattle.resb_format.specs.File
+pub use Rattle.resb_head.specs.File
 pub use Rattle.resb_format.specs.Laws as FormatLaws
-pub use Rattle.resb_pool.specs.Fault
-pub use Rattle.resb_pool.specs.FaultOf
 pub use Rattle.resb_pool.specs.Plan
 pub use Rattle.resb_layout.specs.Laid
 pub use Rattle.resb_tree.specs.WalkOrder
 pub use Rattle.resb_layout.specs.KeyBlock
 pub use Rattle.resb_layout.specs.PlainSize
+pub use Rattle.resb_layout.specs.Fault
 pub use Rattle.resb_layout.specs.Faults
 pub use Rattle.resb_layout.specs.WrittenHead
 pub use Rattle.resb_layout.specs.Written
+pub mod FaultOf
 pub mod Laws
 pub mod Inner

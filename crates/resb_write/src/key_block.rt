@@ -6,14 +6,14 @@ ghost use Rattle.std.specs.Str.{IsUtf8};
 ghost use Rattle.std.specs.List.{list_any};
 ghost use Rattle.std.specs.Option.{is_some, is_none};
 ghost use Rattle.resb_pool.specs.Plan.{nows, at_text};
-ghost use Rattle.resb_pool.specs.Fault.{out_of_memory};
-ghost use Rattle.resb_pool.specs.FaultOf.{fault_of};
+ghost use Rattle.resb_layout.specs.Fault.{out_of_memory};
+ghost use Rattle.resb_write.specs.FaultOf.{fault_of};
 ghost use Rattle.resb_layout.specs.KeyBlock.{is_among, used as used_of, key_bytes, padded};
 ghost use Rattle.resb_layout.specs.Faults.{has_nul, key_fault};
 ghost use Rattle.resb_write.specs.Inner.NearPositions.{near_position_in, IsKeyBlock};
 
+use crate::error::BinarySerializerError;
 use indexmap::IndexMap;
-use resb_pool::BinarySerializerError;
 use resb_tree::Key;
 use std::alloc::{AllocError, Global};
 

@@ -4,6 +4,7 @@
 
 mod body_steps;
 mod contents;
+mod error;
 mod file;
 mod key_block;
 pub mod laws;
@@ -16,5 +17,6 @@ mod tail_bytes;
 mod tree_bodies;
 mod unit_count;
 
-pub use resb_pool::{BinarySerializerError, pool};
+pub use error::BinarySerializerError;
+pub use resb_pool::pool;
 pub use serializer::Serializer;

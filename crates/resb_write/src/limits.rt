@@ -2,13 +2,13 @@
 //! file can't hold. The faults of keys are found in `key_block`.
 ghost use Rattle.std.specs.Prelude.{◌≡◌, ◌+◌, ◌-◌, ◌^◌, ◌<◌, List, min, OnOk, IfErr};
 ghost use Rattle.resb_tree.specs.Tree.{Tree};
-ghost use Rattle.resb_pool.specs.FaultOf.{fault_of};
+ghost use Rattle.resb_write.specs.FaultOf.{fault_of};
 ghost use Rattle.resb_layout.specs.PlainSize.{list_size, resources_size};
 ghost use Rattle.resb_write.specs.Inner.Gathered.{Gathered};
 ghost use Rattle.resb_write.specs.Inner.Sizes.{IsTooMuch};
 
 use crate::contents::Contents;
-use resb_pool::BinarySerializerError;
+use crate::error::BinarySerializerError;
 use resb_tree::Key;
 
 /// From this plain size on a file is refused, so that the place of every part of a file that is

@@ -2,18 +2,18 @@
 //! Each part is made in a module or crate of its own.
 ghost use Rattle.std.specs.Prelude.{IfOk, IfErr};
 ghost use Rattle.resb_tree.specs.Bundle.{root_of};
-ghost use Rattle.resb_pool.specs.FaultOf.{fault_of};
+ghost use Rattle.resb_write.specs.FaultOf.{fault_of};
 ghost use Rattle.resb_layout.specs.Faults.{RefusesWriting};
 ghost use Rattle.resb_layout.specs.Written.{Written};
 
 use crate::contents::Contents;
+use crate::error::BinarySerializerError;
 use crate::file::{Pieces, assemble};
 use crate::key_block::{KEYS_START, KeyBlock, block_length};
 use crate::limits::check_sizes;
 use crate::sites::Sites;
 use crate::strings::Strings;
 use crate::tree_bodies::lay_bodies;
-use resb_pool::BinarySerializerError;
 use resb_tree::{Key, ResourceBundle, in_walk_order};
 use std::alloc::Global;
 

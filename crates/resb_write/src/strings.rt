@@ -1,11 +1,10 @@
 //! Where the strings of a tree stand in the pool at the front of the 16-bit block.
 //! Which strings get a record is decided in `resb_pool`.
 ghost use Rattle.std.specs.Prelude.{◌≡◌, map, unwrap_or, IfOk, IfErr};
-ghost use Rattle.resb_pool.specs.FaultOf.{fault_of};
 ghost use Rattle.resb_pool.specs.Plan.{nows, offset_of, NotPlanned};
 ghost use Rattle.resb_write.specs.Inner.Pooled.{Pooled};
 
-use resb_pool::{BinarySerializerError, Plan, pool};
+use resb_pool::{Plan, PlanError, pool};
 use std::alloc::{AllocError, Global};
 
 /// The units of a pool, and the offset of each string in it, in the order in which they were given.
@@ -18,9 +17,9 @@ pub(crate) struct Strings {
 impl Strings {
     /// The pool of the strings of a tree, which are given in walk order. Refused is a string that
     /// is too long, and strings that are too large for a pool.
-    pub(crate) fn plan(alloc: Global, texts: &[&str]) -> Result<Strings, BinarySerializerError>
+    pub(crate) fn plan(alloc: Global, texts: &[&str]) -> Result<Strings, PlanError>
         ensures ok { IfOk result (λ s. Pooled (nows texts.now) s.pool.items s.offsets.items) }
-        ensures err { IfErr result (λ e. NotPlanned (nows texts.now) (fault_of e)) }
+        ensures err { IfErr result (NotPlanned (nows texts.now)) }
     {
         let plan = pool::plan(alloc, texts)?;
         let offsets = offsets_in_turn(alloc, &plan, texts)?;

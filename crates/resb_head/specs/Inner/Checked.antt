@@ -1,10 +1,10 @@
 -- What some of a file's checks answer, each a step of cutting the file into its parts.
 use Rattle.std.specs.Prelude.{◌≡◌, ℕ, List, Some, None, Result, MatchResult, slice_index}
 use Rattle.resb_format.specs.Bytes.{words_of}
-use Rattle.resb_format.specs.Parts.{parts_in_body}
+use Rattle.resb_format.specs.Parts.{parts_in}
+use Rattle.resb_head.specs.File.{parts_in_body}
 use Rattle.resb_format.specs.Error.{refusal_of}
 use Rattle.resb_format.specs.declared.error.ReadingError.{ReadingError}
-use Rattle.resb_head.specs.PartsReading.{parts_shown}
 use Rattle.resb_head.specs.HeadChecks.{first_fault, support_checks, block_checks, body_checks}
 use Rattle.resb_head.specs.Head.{InfoAt}
 use Rattle.resb_head.specs.declared.repr_info.BinReprInfo.{BinReprInfo}
@@ -14,7 +14,7 @@ use Rattle.resb_head.specs.declared.file_parts.FileParts.{FileParts}
 abbrev pub ReadsBody : List ℕ → Result FileParts ReadingError → Type 0
 ReadsBody body r =
     MatchResult r
-    (λ f. (first_fault (body_checks body) ≡ None) × (parts_shown f ≡ parts_in_body body)
+    (λ f. (first_fault (body_checks body) ≡ None) × (parts_in f.file ≡ parts_in_body body)
     × (f.root ≡ slice_index (words_of body) 0))
     (λ e. first_fault (body_checks body) ≡ Some (refusal_of e))
 
@@ -22,7 +22,7 @@ ReadsBody body r =
 abbrev pub ReadsBlocks : List ℕ → Result FileParts ReadingError → Type 0
 ReadsBlocks body r =
     MatchResult r
-    (λ f. (first_fault (block_checks body) ≡ None) × (parts_shown f ≡ parts_in_body body)
+    (λ f. (first_fault (block_checks body) ≡ None) × (parts_in f.file ≡ parts_in_body body)
     × (f.root ≡ slice_index (words_of body) 0))
     (λ e. first_fault (block_checks body) ≡ Some (refusal_of e))
 

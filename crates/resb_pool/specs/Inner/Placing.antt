@@ -3,7 +3,9 @@
 --     LiesAt T i r            the text i lies in the text r
 --     lying_in ps q           what all copies that lie in the text q would take
 --     AreEnds rs done es      es says where each record done closes
-use Rattle.std.specs.Prelude.{◌≡◌, ℕ, ◌+◌, ◌-◌, ◌^◌, ◌<◌, ◌≤◌, List, [], length, map, All, Contains}
+use Rattle.std.specs.Prelude.{◌≡◌, ℕ, zero, suc, ◌+◌, ◌-◌, ◌*◌, ◌^◌, ◌<◌, ◌≤◌, List, []}
+use Rattle.std.specs.Prelude.{◌∷◌, length}
+use Rattle.std.specs.Prelude.{map, All, Contains}
 use Rattle.std.specs.Prelude.{◌↔◌, sum_by, nat_eq, slice_index, slice_index_or, if◌then◌else◌}
 use Rattle.std.specs.Cmp.Lexicographic.{slice_cmp}
 use Rattle.std.specs.Ordering.{nat_cmp, ordering_then}
@@ -73,18 +75,36 @@ pub record AreSums (T : List (List ℕ)) (ps : List Home) (sums : List ℕ) : Ty
       → (slice_index_or ps i d).measure.size ≡ size (text T i)
   pub own : (i : ℕ) → i < length T → IsRecord T (text T i) → size (text T i) ≤ slice_index sums i
 
+-- bytes
+abbrev pub AreBytes : List ℕ → Type 0
+AreBytes bs = (i : ℕ) → slice_index bs i < 256
+
+-- a number in front of the first n bytes; 0 stands in the place of those that aren't there
+abbrev pub front_bytes : ℕ → ℕ → List ℕ → ℕ
+front_bytes number zero bs = number
+front_bytes number (suc n) [] = front_bytes (number * 256) n []
+front_bytes number (suc n) (b ∷ bs) = front_bytes (number * 256 + b) n bs
+
 -- the record of a text with its units, and with what it saves
 pub record IsRecordOf (T : List (List ℕ)) (sums : List ℕ) (r : Record) : Type 0 where
   pub within : r.index < length T
   pub text_is : r.text.now ≡ text T r.index
   pub units_is : r.unit_count ≡ length (units r.text.now)
   pub saved_is : r.saved.0 + size r.text.now ≡ slice_index sums r.index
+  pub front_is : r.front ≡ front_bytes 0 8 r.text.now
+  pub bytes : AreBytes r.text.now
 
 -- the order of records
 abbrev pub record_cmp : Record → Record → Ordering
 record_cmp x y = ordering_then (nat_cmp x.unit_count y.unit_count)
     (ordering_then (nat_cmp y.saved.0 x.saved.0)
     (ordering_then (slice_cmp nat_cmp x.text.now y.text.now) (nat_cmp x.index y.index)))
+
+-- the same, with the first bytes before the texts
+abbrev pub fronted_cmp : Record → Record → Ordering
+fronted_cmp x y = ordering_then (nat_cmp x.unit_count y.unit_count)
+    (ordering_then (nat_cmp y.saved.0 x.saved.0) (ordering_then (nat_cmp x.front y.front)
+    (ordering_then (slice_cmp nat_cmp x.text.now y.text.now) (nat_cmp x.index y.index))))
 
 -- records of one index are of one text
 pub record AreIndexed (rs : List Record) (count : ℕ) : Type 0 where

@@ -3,10 +3,10 @@ use Rattle.std.specs.Prelude.{ℕ, List, map}
 use Rattle.std.specs.List.{zip}
 use Rattle.resb_format.specs.Bytes.{units_of, words_of}
 use Rattle.resb_format.specs.Content as member
-use Rattle.resb_walk.specs.Files.{parts_in}
+use Rattle.resb_format.specs.Parts.{parts_in}
 use Rattle.resb_walk.specs.Inner.Members.{members_of, keyed_members}
-use Rattle.resb_walk.specs.declared.file.File.{File}
-use Rattle.resb_walk.specs.declared.file.Pairs.{Pairs}
+use Rattle.resb_format.specs.declared.file.File.{File}
+use Rattle.resb_walk.specs.declared.members.Pairs.{Pairs}
 use Rattle.resb_read.specs.Places.{Place, spot_of}
 use Rattle.resb_read.specs.Sequences.{at_spot, at_entry}
 use Rattle.resb_read.specs.declared.cursor.Spot.{Spot}

@@ -1,5 +1,5 @@
 -- The places of the named deserializers.
-use Rattle.resb_walk.specs.Files.{parts_in}
+use Rattle.resb_format.specs.Parts.{parts_in}
 use Rattle.resb_read.specs.Places.{Place}
 use Rattle.resb_read.specs.declared.cursor.Spot.TheVariants as spot
 use Rattle.resb_read.specs.declared.named.Resource16BitDeserializer.{Resource16BitDeserializer}

@@ -5,7 +5,8 @@ use Rattle.std.specs.Option.{option_map}
 use Rattle.resb_tree.specs.Tree.{Tree, string}
 use Rattle.resb_tree.specs.View.{tree_of}
 use Rattle.resb_tree.specs.declared.resource.Resource.{Resource}
-use Rattle.resb_text.specs.Borrowed.{all_true, is_borrowed}
+use Rattle.resb_tree.specs.Borrowing.{all_true}
+use Rattle.resb_text.specs.Borrowed.{borrows_strings}
 use Rattle.resb_grammar.specs.Items as spec
 use Rattle.resb_text.specs.declared.items.Item.{Item}
 use Rattle.resb_text.specs.declared.items.Term.{Term}
@@ -23,7 +24,7 @@ tree_of_term (variant.Group r) = tree_of r
 
 abbrev pub shown_term : Term → Bool → Shown
 shown_term (variant.String s) f = string_shown s.now f
-shown_term (variant.Group r) f = group_shown (tree_of r) (is_borrowed r) f
+shown_term (variant.Group r) f = group_shown (tree_of r) (borrows_strings r) f
 
 -- what an item of the code shows
 abbrev pub shown : Item → Shown
@@ -45,10 +46,10 @@ shown_borrowed (group_shown t b f) = b
 -- whether the strings of a term of the code are borrowed
 abbrev pub term_borrowed : Term → Bool
 term_borrowed (variant.String s) = true
-term_borrowed (variant.Group r) = is_borrowed r
+term_borrowed (variant.Group r) = borrows_strings r
 
 abbrev pub each_borrowed : List (List ℕ × Resource) → List (List ℕ × Bool)
-each_borrowed es = map (λ e. (e.0, is_borrowed e.1)) es
+each_borrowed es = map (λ e. (e.0, borrows_strings e.1)) es
 
 -- whether the strings of a table's entries are borrowed
 abbrev pub entries_borrowed : List (List ℕ × Resource) → Bool

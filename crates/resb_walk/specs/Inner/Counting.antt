@@ -20,9 +20,9 @@ use Rattle.resb_walk.specs.Inner.Members.{member_of, members_of, keyed_members, 
 use Rattle.resb_walk.specs.Refusals.{IsFault, DenotesNothing, Refuses}
 use Rattle.resb_walk.specs.declared.count.Inner.{Inner}
 use Rattle.resb_walk.specs.declared.count.Outer.{Outer}
-use Rattle.resb_walk.specs.declared.file.Member.{Member as Stood}
-use Rattle.resb_walk.specs.declared.file.Rest.{Rest}
-use Rattle.resb_walk.specs.declared.file.Rest.TheVariants as rest
+use Rattle.resb_walk.specs.declared.members.Member.{Member as Stood}
+use Rattle.resb_walk.specs.declared.members.Rest.{Rest}
+use Rattle.resb_walk.specs.declared.members.Rest.TheVariants as rest
 
 -- nothing is made of members or entries
 abbrev pub no_list : ℕ → List Tree → Type 0

@@ -9,8 +9,8 @@ use Rattle.resb_format.specs.Parts.{Parts}
 use Rattle.resb_format.specs.Content.{Member, list, pairs, content}
 use Rattle.resb_format.specs.Denotes.{DenEach, DenPairs}
 use Rattle.resb_walk.specs.Inner.Members.{members_of, keyed_members}
-use Rattle.resb_walk.specs.declared.file.Members.{Members}
-use Rattle.resb_walk.specs.declared.file.Pairs.{Pairs}
+use Rattle.resb_walk.specs.declared.members.Members.{Members}
+use Rattle.resb_walk.specs.declared.members.Pairs.{Pairs}
 use Rattle.resb_walk.specs.declared.frame.Open.{Open}
 use Rattle.resb_walk.specs.declared.frame.Open.TheVariants as open_
 use Rattle.resb_walk.specs.declared.frame.Waiting.{Waiting}

@@ -5,19 +5,19 @@ use Rattle.std.specs.Char.Utf16.{utf16_lossy_chars}
 use Rattle.resb_tree.specs.Tree.{Tree, string, binary, integer, int_vector}
 use Rattle.resb_format.specs.Bytes.{units_of, words_of}
 use Rattle.resb_format.specs.Content as at
-use Rattle.resb_walk.specs.declared.file.Leaf.{Leaf}
-use Rattle.resb_walk.specs.declared.file.Leaf.TheVariants.{Text, Empty, Binary, Integer, Numbers}
-use Rattle.resb_walk.specs.declared.file.Member.{Member}
-use Rattle.resb_walk.specs.declared.file.Member.TheVariants as one
-use Rattle.resb_walk.specs.declared.file.Members.{Members}
-use Rattle.resb_walk.specs.declared.file.Members.TheVariants as some
-use Rattle.resb_walk.specs.declared.file.Positions.{Positions}
-use Rattle.resb_walk.specs.declared.file.Positions.TheVariants.{Halves, Wholes}
-use Rattle.resb_walk.specs.declared.file.Pairs.{Pairs}
-use Rattle.resb_walk.specs.declared.file.Rest.{Rest}
-use Rattle.resb_walk.specs.declared.file.Rest.TheVariants as rest
-use Rattle.resb_walk.specs.declared.file.Standing.{Standing}
-use Rattle.resb_walk.specs.declared.file.Standing.TheVariants as kind
+use Rattle.resb_walk.specs.declared.members.Leaf.{Leaf}
+use Rattle.resb_walk.specs.declared.members.Leaf.TheVariants.{Text, Empty, Binary, Integer, Numbers}
+use Rattle.resb_walk.specs.declared.members.Member.{Member}
+use Rattle.resb_walk.specs.declared.members.Member.TheVariants as one
+use Rattle.resb_walk.specs.declared.members.Members.{Members}
+use Rattle.resb_walk.specs.declared.members.Members.TheVariants as some
+use Rattle.resb_walk.specs.declared.members.Positions.{Positions}
+use Rattle.resb_walk.specs.declared.members.Positions.TheVariants.{Halves, Wholes}
+use Rattle.resb_walk.specs.declared.members.Pairs.{Pairs}
+use Rattle.resb_walk.specs.declared.members.Rest.{Rest}
+use Rattle.resb_walk.specs.declared.members.Rest.TheVariants as rest
+use Rattle.resb_walk.specs.declared.members.Standing.{Standing}
+use Rattle.resb_walk.specs.declared.members.Standing.TheVariants as kind
 
 -- the text of a string's bytes, which are well-formed UTF-16
 abbrev pub text_of_bytes : List ℕ → List ℕ

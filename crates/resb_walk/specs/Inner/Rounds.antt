@@ -9,9 +9,9 @@ use Rattle.resb_walk.specs.Inner.Frames.{Opened, Waits}
 use Rattle.resb_walk.specs.Refusals.{IsFault, DenotesNothing, Refuses}
 use Rattle.resb_format.specs.Error.{IsWantOfMemory}
 use Rattle.resb_format.specs.declared.error.ReadingError.{ReadingError}
-use Rattle.resb_walk.specs.declared.file.Leaf.{Leaf}
-use Rattle.resb_walk.specs.declared.file.Standing.{Standing}
-use Rattle.resb_walk.specs.declared.file.Standing.TheVariants as stands
+use Rattle.resb_walk.specs.declared.members.Leaf.{Leaf}
+use Rattle.resb_walk.specs.declared.members.Standing.{Standing}
+use Rattle.resb_walk.specs.declared.members.Standing.TheVariants as stands
 use Rattle.resb_walk.specs.declared.frame.Open.{Open}
 use Rattle.resb_walk.specs.declared.frame.Open.TheVariants as open_
 use Rattle.resb_walk.specs.declared.frame.Progress.{Progress}
@@ -35,7 +35,8 @@ module _ {X L T : Type 0} (is : X → Tree → Type 0) (lists : L → List Tree 
   Progresses w n (Ok (Wants m f)) = Waits lists tables p f w (member_of m) n
   Progresses w n (Ok (Done x)) = (t : Tree) × Den p w t (1 + n) × is x t
   Progresses w n (Err e) =
-      IsFault e × ((k : ℕ) → DenotesNothing (Den p w) (Reaches p w) (k + (1 + n)))
+      IsWantOfMemory e
+      ⊎ (IsFault e × ((k : ℕ) → DenotesNothing (Den p w) (Reaches p w) (k + (1 + n))))
 
   -- a member is read, up to its own members, and paid for
   abbrev pub ReadsMember : at.Member → ℕ → ℕ → Result (Read X L T) ReadingError → Type 0

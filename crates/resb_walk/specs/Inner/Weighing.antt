@@ -11,9 +11,9 @@ use Rattle.resb_walk.specs.Pieces.{Piece, Holds, HoldsMember, HoldsEach, HoldsPa
 use Rattle.resb_walk.specs.Sums.{AddsUp, resources_in, count_of}
 use Rattle.resb_walk.specs.declared.count.Inner.{Inner}
 use Rattle.resb_walk.specs.declared.count.Outer.{Outer}
-use Rattle.resb_walk.specs.declared.file.Member.{Member as Stood}
-use Rattle.resb_walk.specs.declared.file.Rest.{Rest}
-use Rattle.resb_walk.specs.declared.file.Rest.TheVariants as rest
+use Rattle.resb_walk.specs.declared.members.Member.{Member as Stood}
+use Rattle.resb_walk.specs.declared.members.Rest.{Rest}
+use Rattle.resb_walk.specs.declared.members.Rest.TheVariants as rest
 use Rattle.resb_walk.specs.declared.sums.Sums.{Sums}
 
 module _ (p : Parts) where

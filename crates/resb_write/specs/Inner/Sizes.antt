@@ -2,7 +2,7 @@
 use Rattle.std.specs.Prelude.{◌≡◌, ℕ, ◌+◌, ◌^◌, ◌≤◌, List, Option, Some, None, option_map, codes}
 use Rattle.std.specs.List.{flat_map}
 use Rattle.resb_tree.specs.Tree.{Tree}
-use Rattle.resb_pool.specs.Fault.{Fault, string_too_long, limit}
+use Rattle.resb_layout.specs.Fault.{Fault, string_too_long, limit}
 use Rattle.resb_pool.specs.Plan.{first_too_long}
 use Rattle.resb_tree.specs.WalkOrder.{text_in}
 use Rattle.resb_layout.specs.PlainSize.{list_size, resources_size}

@@ -1,4 +1,4 @@
-use Rattle.resb_format.specs.Parts.{parts_of}
+use Rattle.resb_head.specs.File.{parts_of}
 use Rattle.resb_format.proofs.Denoting.{unique}
 use Rattle.resb.proofs.headline.one_tree_of_a_file.Goals as goal
 

@@ -2,7 +2,7 @@
 use Rattle.std.proofs.Common.{ℕ, List, ◌≡◌, ◌∙◌, ◌<◌, min, length, drop, ap, subst, refl, not}
 use Rattle.std.proofs.Common.{inl, inr, sym}
 use Rattle.std.proofs.lemmas.Result.{err_from_is_err_and}
-use Rattle.resb_format.specs.Parts.{body_of, header_size}
+use Rattle.resb_head.specs.File.{body_of, header_size}
 use Rattle.resb_head.specs.Head.{IndexAt}
 use Rattle.resb_head.specs.HeadChecks.{index_fault}
 use Rattle.resb_head.proofs.FileSteps.{size_is, drop_min}
@@ -23,7 +23,7 @@ returns-then-body-lt4-clause-err c =
     let size = c.in_ok-header.ensures.1.size ∙ size_is bytes c.in_ok-header.ensures.0 in
     let body = body_is bytes c.split_at.result.1.now c.min.result c.from.result
     c.in_ok-header.header.size c.split_at.ensures.back c.min.ensures c.from.ensures size in
-    inr (inl (subst (λ b. length b < 4) body c.if-body-lt4.true, c.invalid_data.ensures))
+    inr (inl (subst (λ b. length b < 4) body c.if-body-lt4.true, c.end_of_input.ensures))
 
 pub returns-in_err-index-clause-err : goal.returns-in_err-index-clause-err
 returns-in_err-index-clause-err c =

@@ -7,7 +7,7 @@ use Rattle.std.specs.Char.Escape.{encode_utf16}
 use Rattle.std.proofs.lemmas.Bool.{le-leb, lt-leb}
 use Rattle.std.proofs.lemmas.Str.{encodes-chars, cons_from_encodes}
 use Rattle.resb_format.specs.Units.{units}
-use Rattle.resb_format.proofs.TextUnits.{no_chars, unit_count}
+use Rattle.resb_format.proofs.TextUnits.{no_chars, unit_count, units_within}
 use Rattle.resb_format.proofs.units.has_at_most.Goals as goal
 
 pub loop-c-init : goal.loop-c-init
@@ -39,6 +39,14 @@ loop-c-preserved c =
         length-append (encode_utf16 c.in-Some.c) (flat_map encode_utf16 s.0),
       ),
     )
+
+pub returns-then-text-most : goal.returns-then-text-most
+returns-then-text-most c =
+    sym (le-leb (length (units c.args.text.now)) c.args.most (omega (
+      arith,
+      units_within c.args.text.now c.utf8.text,
+      c.if-text-most.true,
+    )))
 
 pub returns-then-taken-left : goal.returns-then-taken-left
 returns-then-taken-left c =

@@ -5,7 +5,7 @@ use Rattle.std.specs.List.{position_or_len}
 use Rattle.resb_format.specs.Bytes.{units_of}
 use Rattle.resb_format.specs.Strings.{before_zero}
 use Rattle.resb_format.specs.Views.{view_units}
-use Rattle.resb_format.proofs.StringsIn.{window_is, ended, not_ended}
+use Rattle.resb_format.proofs.StringsIn.{window_is, ends_at_zero, lacks_zero}
 use Rattle.resb_format.proofs.units.unmarked.Goals as goal
 
 pub returns-then-end-len : goal.returns-then-end-len
@@ -17,7 +17,7 @@ returns-then-end-len c =
     c.min.ensures) in
     let p : length us ≤ position_or_len (λ x. nat_eq x 0) us =
     omega (arith, c.first_zero-end.ensures.value, c.len.ensures) in
-    (ap before_zero (sym e) ∙ not_ended us p, c.invalid_data.ensures)
+    (ap before_zero (sym e) ∙ lacks_zero us p, c.invalid_data.ensures)
 
 pub returns : goal.returns
 returns c =
@@ -36,4 +36,4 @@ returns c =
     let f : view_units c.units_in.result ≡ take (position_or_len (λ x. nat_eq x 0) us) us =
     c.units_in.ensures ∙ ap (λ bs. take c.first_zero-end.result (units_of bs))
     c.as_bytes.ensures.bytes ∙ ap (λ n. take n us) c.first_zero-end.ensures.value in
-    ap before_zero (sym e) ∙ ended us p ∙ ap Some (sym f)
+    ap before_zero (sym e) ∙ ends_at_zero us p ∙ ap Some (sym f)

@@ -1,7 +1,7 @@
-use Rattle.std.proofs.Common.{◌≡◌, Some, suc, take, drop, length, get_or, sym, ◌∙◌, ap, subst}
+use Rattle.std.proofs.Common.{◌≡◌, Some, suc, take, drop, length, get_or, sym, ◌∙◌, ap}
 use Rattle.std.proofs.Common.{arith}
 use Rattle.resb_format.specs.Units.{units}
-use Rattle.resb_pool.specs.Plan.{nows, first_too_long, NotPlanned, too_long}
+use Rattle.resb_pool.specs.Plan.{nows, first_too_long, too_long}
 use Rattle.resb_pool.proofs.TextLoops.{blank, nows-take, nows-split, first_push, first_found}
 use Rattle.resb_pool.proofs.measure.check_lengths.Goals as goal
 
@@ -13,8 +13,7 @@ returns-in-Some-clause-err c =
     ap first_too_long (nows-split xs i blank c.loop-text-test.true)
     ∙ first_found (nows (take i xs)) (get_or xs i blank).now (nows (drop (suc i) xs))
     c.loop-text.invariant (omega (arith, c.in-Some.ensures.0, c.in-Some.ensures.1)) in
-    subst (NotPlanned (nows xs)) (sym c.string_too_long.ensures) (too_long {n = c.in-Some.count} (e
-    ∙ ap Some (sym c.in-Some.ensures.0)))
+    too_long {n = c.in-Some.count} (e ∙ ap Some (sym c.in-Some.ensures.0))
 
 pub loop-text-preserved : goal.loop-text-preserved
 loop-text-preserved c =

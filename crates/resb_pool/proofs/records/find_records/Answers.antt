@@ -9,6 +9,7 @@ use Rattle.resb_format.specs.Units.{units, size}
 use Rattle.resb_pool.specs.Plan.{nows}
 use Rattle.resb_pool.specs.Records.{IsRecord}
 use Rattle.resb_pool.specs.Inner.Placing.{text, AreHomes, AreRecordsAmong, IsRecordOf}
+use Rattle.resb_pool.specs.Inner.Placing.{AreBytes, front_bytes}
 use Rattle.resb_pool.specs.Inner.Placing.{record_texts}
 use Rattle.resb_pool.specs.declared.homes.Home.{Home}
 use Rattle.resb_pool.specs.declared.records.Record.{Record}
@@ -99,6 +100,7 @@ loop-index-preserved c =
       unit_count = p.measure.unit_count;
       saved =
           record { 0 = get_or c.args.sums.now i 0 - p.measure.size };
+      front = c.front_of.result;
       text = get_or xs i blank;
       index = i;
     } in
@@ -130,6 +132,8 @@ loop-index-preserved c =
                   c.requires.sums.size_is i no_home l,
                   c.requires.sums.own i l own,
                 );
+            front_is = c.front_of.ensures.front ∙ ap (front_bytes 0 8) c.as_bytes.ensures.value;
+            bytes = subst AreBytes c.as_bytes.ensures.value c.front_of.ensures.bytes;
           }));
     }
 

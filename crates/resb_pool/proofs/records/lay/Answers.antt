@@ -12,7 +12,13 @@ use Rattle.resb_pool.proofs.InOrder.{records-push}
 use Rattle.resb_pool.proofs.records.lay.Goals as goal
 
 abbrev no_record : Record
-no_record = record { unit_count = 0; saved = record { 0 = 0 }; text = blank; index = 0 }
+no_record = record {
+  unit_count = 0;
+  saved = record { 0 = 0 };
+  front = 0;
+  text = blank;
+  index = 0;
+}
 
 pub push_record-requires-clause-short : goal.push_record-requires-clause-short
 push_record-requires-clause-short c =

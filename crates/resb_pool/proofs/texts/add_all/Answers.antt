@@ -2,7 +2,7 @@ use Rattle.std.proofs.Common.{◌≤◌, suc, length, take, drop, get_or, sym, �
 use Rattle.std.proofs.lemmas.Bool.{leb-true}
 use Rattle.std.proofs.lemmas.Result.{err_from_is_err_and}
 use Rattle.resb_format.specs.Units.{units}
-use Rattle.resb_pool.specs.Plan.{nows, texts_size, NotPlanned, too_large, no_memory}
+use Rattle.resb_pool.specs.Plan.{nows, texts_size, too_large, no_memory}
 use Rattle.resb_pool.specs.Inner.Placing.{AreTexts}
 use Rattle.resb_pool.proofs.TextLoops.{blank, nows-take, nows-split, texts_size-push}
 use Rattle.resb_pool.proofs.TextLoops.{texts_size-most}
@@ -17,8 +17,7 @@ returns-then-is_vast-clause-err c =
     let f = texts_size-most (nows (take i xs)) t (nows (drop (suc i) xs)) in
     let g : 268435456 ≤ length (units t) =
     leb-true 268435456 (length (units t)) (sym c.is_vast.ensures ∙ c.if-is_vast.true) in
-    subst (NotPlanned (nows xs)) (sym c.limit.ensures)
-    (too_large c.requires.short (omega (arith, e, f, g)))
+    too_large c.requires.short (omega (arith, e, f, g))
 
 pub returns-in_err-size-clause-err : goal.returns-in_err-size-clause-err
 returns-in_err-size-clause-err c = let p =
@@ -32,15 +31,14 @@ returns-then-size-ge-SIZE_LIMIT-clause-err c =
     let t = (get_or xs i blank).now in
     let e = ap texts_size (nows-split xs i blank c.loop-text-test.true) in
     let f = texts_size-most (nows (take i xs)) t (nows (drop (suc i) xs)) in
-    subst (NotPlanned (nows xs)) (sym c.limit-then-size-ge-SIZE_LIMIT.ensures)
-    (too_large c.requires.short (omega (
+    too_large c.requires.short (omega (
       arith,
       e,
       f,
       c.in_ok-size.ensures.count,
       c.loop-text.invariant.size,
       c.if-size-ge-SIZE_LIMIT.true,
-    )))
+    ))
 
 pub loop-text-preserved : goal.loop-text-preserved
 loop-text-preserved c =

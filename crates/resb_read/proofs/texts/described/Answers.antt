@@ -1,5 +1,5 @@
 use Rattle.std.proofs.Common.{rules, ◌≡◌}
-use Rattle.resb_walk.specs.Files.{parts_in}
+use Rattle.resb_format.specs.Parts.{parts_in}
 use Rattle.resb_read.specs.Leaves.{type_in, value_in, bytes_of_type, counted_bytes}
 use Rattle.resb_read.proofs.texts.described.Goals as goal
 

@@ -1,6 +1,6 @@
 use Rattle.std.proofs.Common.{◌≡◌, ◌-◌, inr, subst, arith}
 use Rattle.std.proofs.lemmas.Result.{err_from_is_err_and}
-use Rattle.resb_format.specs.File.{budget}
+use Rattle.resb_head.specs.File.{budget}
 use Rattle.resb_format.specs.Error.{refusal_of}
 use Rattle.resb_read.specs.Places.{place_of}
 use Rattle.resb_read.proofs.Rooted.{no_bundle, at_root, refused_there}

@@ -2,7 +2,7 @@ use Rattle.std.proofs.Common.{ap, ◌∙◌}
 use Rattle.resb_text.specs.Inner.Discovered.{left, without}
 use Rattle.resb_text.specs.Inner.Frames.{Look, left_after}
 use Rattle.resb_text.proofs.FramesLemmas.{closed_ok, closed_string}
-use Rattle.resb_text.proofs.LeafTrees.{tree_of_string}
+use Rattle.resb_tree.proofs.ViewLemmas.{tree_of_string}
 use Rattle.resb_text.proofs.BorrowedLemmas.{closed_table, closed_array}
 use Rattle.resb_text.proofs.frames.closed.Goals as goal
 

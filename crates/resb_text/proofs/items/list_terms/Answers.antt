@@ -3,7 +3,7 @@ use Rattle.std.proofs.lemmas.Bool.{and_parts}
 use Rattle.std.specs.Prelude.{map}
 use Rattle.std.specs.Vec.Iter.{into_iter_items}
 use Rattle.resb_tree.specs.View.{pairs_view}
-use Rattle.resb_text.specs.Borrowed.{all_true}
+use Rattle.resb_tree.specs.Borrowing.{all_true}
 use Rattle.resb_text.specs.Inner.Shown.{shown, pairs_after, shown_pairs, shown_borrowed, key_of}
 use Rattle.resb_text.proofs.ShownLemmas.{no_pairs_left, term_borrowed_shown}
 use Rattle.resb_text.proofs.items.list_terms.Goals as goal

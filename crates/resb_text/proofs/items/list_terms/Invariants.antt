@@ -4,7 +4,7 @@ use Rattle.std.specs.Vec.Iter.{into_iter_items}
 use Rattle.resb_tree.specs.View.{pairs_view}
 use Rattle.resb_text.specs.Inner.Shown.{shown, pairs_after, shown_pairs, key_of}
 use Rattle.resb_text.specs.Inner.Shown.{shown_borrowed, entries_borrowed}
-use Rattle.resb_text.specs.Borrowed.{all_true}
+use Rattle.resb_tree.specs.Borrowing.{all_true}
 use Rattle.resb_text.proofs.items.list_terms.Given as goal
 
 abbrev pub invariant-loop-item : goal.invariant-loop-item

@@ -4,7 +4,7 @@ use Rattle.std.specs.Prelude.{map}
 use Rattle.std.specs.Vec.Iter.{into_iter_items}
 use Rattle.resb_tree.specs.View.{entries_view}
 use Rattle.resb_tree.specs.Tree.{put_all}
-use Rattle.resb_text.specs.Borrowed.{all_true}
+use Rattle.resb_tree.specs.Borrowing.{all_true}
 use Rattle.resb_text.specs.Inner.Shown.{shown, pairs_after, shown_pairs, shown_borrowed, key_of}
 use Rattle.resb_text.proofs.ShownLemmas.{none_left, term_borrowed_shown}
 use Rattle.resb_text.proofs.items.put_terms.Goals as goal

@@ -3,7 +3,7 @@ use Rattle.std.proofs.lemmas.Result.{err_from_is_err_and}
 use Rattle.resb_format.specs.Content.{unit}
 use Rattle.resb_format.specs.Denotes.{ReachesMember, den_unit}
 use Rattle.resb_tree.specs.Tree.{string}
-use Rattle.resb_walk.specs.Files.{parts_in}
+use Rattle.resb_format.specs.Parts.{parts_in}
 use Rattle.resb_walk.specs.Inner.Members.{text_of_bytes}
 use Rattle.resb_walk.specs.Meets.{meets_text}
 use Rattle.resb_walk.proofs.Lift.{reaches_any}
@@ -20,14 +20,14 @@ returns-in_err-pay-clause-answers c =
     (reaches_any (parts_in c.args.file) (unit c.args.unit)) in
     rw (p.1, p.2) (omega arith, inr (inl (spent, reach)))
 
-pub returns-in_err-text-clause-meets : goal.returns-in_err-text-clause-meets
-returns-in_err-text-clause-meets c =
-    let p = err_from_is_err_and c.from_residual-in_err-text.result
-    c.from_residual-in_err-text.ensures.1 in
-    let h = c.in_err-text.ensures in
+pub returns-in_err-text_at-clause-meets : goal.returns-in_err-text_at-clause-meets
+returns-in_err-text_at-clause-meets c =
+    let p = err_from_is_err_and c.from_residual-in_err-text_at.result
+    c.from_residual-in_err-text_at.ensures.1 in
+    let h = c.in_err-text_at.ensures in
     rw (p.1, p.2) (λ _. rw (h.says, c.from.ensures) (meets_text (rw c.from.ensures at h.stands.0)))
 
 pub returns-clause-answers : goal.returns-clause-answers
 returns-clause-answers c =
-    let t = rw c.from.ensures at c.in_ok-text.ensures.stands in
-    (string (text_of_bytes c.in_ok-text.field-0.now), 1, den_unit t, tt, c.in_ok-pay.ensures)
+    let t = rw c.from.ensures at c.in_ok-text_at.ensures.stands in
+    (string (text_of_bytes c.in_ok-text_at.field-0.now), 1, den_unit t, tt, c.in_ok-pay.ensures)

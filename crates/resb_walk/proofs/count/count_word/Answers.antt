@@ -1,7 +1,7 @@
 use Rattle.std.proofs.Common.{◌≡◌, ◌≤◌, ℕ, [], Ok, Err, Some, None, subst, arith, ◌∙◌, refl}
 use Rattle.std.proofs.lemmas.Result.{err_from_is_err_and}
 use Rattle.resb_format.specs.Content.{word}
-use Rattle.resb_walk.specs.Files.{parts_in}
+use Rattle.resb_format.specs.Parts.{parts_in}
 use Rattle.resb_walk.specs.Inner.Counting.{IsOpen, Takes, Awaits, Entered, Enters}
 use Rattle.resb_walk.specs.Inner.Members.{member_of}
 use Rattle.resb_walk.specs.Meets.{Meets, Blames}

@@ -1,5 +1,6 @@
+use Rattle.std.proofs.Common.{inr}
 use Rattle.resb_tree.specs.Tree.{array, table, trees_of, map_of}
-use Rattle.resb_walk.specs.Files.{parts_in}
+use Rattle.resb_format.specs.Parts.{parts_in}
 use Rattle.resb_walk.proofs.Meeting.{table_meets}
 use Rattle.resb_walk.proofs.Waits.{list_ends, table_ends, table_no_key}
 use Rattle.resb_walk.proofs.frame.advance.Goals as goal
@@ -15,24 +16,25 @@ returns-in-None-clause-steps g c = λ w n h.
 
 pub returns-in-Err-clause-steps : goal.returns-in-Err-clause-steps
 returns-in-Err-clause-steps g c = λ w n h.
-    let o = rw c.in-Table.is at h in (
+    let o = rw c.in-Table.is at h in
+    inr (
       c.in-Err.ensures.stands.1,
       table_no_key g.M.Make.lists g.M.Make.tables (parts_in c.args.file) c.in-Table.rest
           c.in-Some-split.rest c.in-Some-split.position _ c.in-Table.made w n o
           c.in-Some-split.ensures c.in-Err.ensures.stands.0,
     )
 
-pub returns-in-None-split-clause-steps : goal.returns-in-None-split-clause-steps
-returns-in-None-split-clause-steps g c = λ w n h.
+pub returns-in_ok-end_table-in-None-split-clause-steps : goal.returns-in_ok-end_table-in-None-split-clause-steps
+returns-in_ok-end_table-in-None-split-clause-steps g c = λ w n h.
     let o = rw c.in-Table.is at h in (
       table (map_of o.entries),
       table_ends g.M.Make.lists g.M.Make.tables
           (parts_in c.args.file) c.in-Table.rest c.in-Table.made w n o c.in-None-split.ensures,
-      c.end_table.ensures o.entries o.is_made,
+      c.in_ok-end_table-in-None-split.ensures o.entries o.is_made,
     )
 
 pub returns-in-Err-clause-meets : goal.returns-in-Err-clause-meets
-returns-in-Err-clause-meets g c = λ w n h.
+returns-in-Err-clause-meets g c = λ w n h f.
     let o = rw c.in-Table.is at h in
     rw c.in-Err.ensures.says (table_meets (parts_in c.args.file) g.M.Make.lists g.M.Make.tables
     c.in-Table.rest c.in-Some-split.rest c.in-Some-split.position _ c.in-Table.made w n o

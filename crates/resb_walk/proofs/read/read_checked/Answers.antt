@@ -1,7 +1,7 @@
 use Rattle.std.proofs.Common.{inl, inr, ◌≡◌, ◌+◌, subst, arith}
 use Rattle.std.proofs.lemmas.Result.{err_from_is_err_and}
 use Rattle.resb_format.specs.Denotes.{Reaches, reaches_one}
-use Rattle.resb_walk.specs.Files.{parts_in}
+use Rattle.resb_format.specs.Parts.{parts_in}
 use Rattle.resb_walk.proofs.read.read_checked.Goals as goal
 
 pub returns-in_err-pay-clause-answers : goal.returns-in_err-pay-clause-answers

@@ -3,7 +3,7 @@ use Rattle.std.proofs.Common.{arith}
 use Rattle.std.proofs.lemmas.Result.{err_from_is_err_and}
 use Rattle.resb_format.specs.Content.{word}
 use Rattle.resb_format.specs.Denotes.{den_word}
-use Rattle.resb_walk.specs.Files.{parts_in}
+use Rattle.resb_format.specs.Parts.{parts_in}
 use Rattle.resb_walk.specs.Inner.Members.{member_of}
 use Rattle.resb_walk.proofs.Lift.{word_den, word_refused}
 use Rattle.resb_walk.proofs.Meeting.{waits_meets, round_meets}
@@ -43,7 +43,7 @@ returns-in_err-member-clause-answers g c =
       round_falls g.M.Make.lists g.M.Make.tables (parts_in c.args.file) c.args.word c.args.walk.now
           c.rounds.frames.items c.rounds.frame c.rounds.walk i,
       round_stuck g.M.Make.lists g.M.Make.tables (parts_in c.args.file) c.args.word c.args.walk.now
-          c.rounds.frames.items c.rounds.frame c.rounds.walk i c.in_err-member.field-0.0 h.0 h.1,
+          c.rounds.frames.items c.rounds.frame c.rounds.walk i c.in_err-member.field-0.0 h,
     )
 
 pub returns-in_err-frame-in-Wants-clause-answers : goal.returns-in_err-frame-in-Wants-clause-answers
@@ -136,8 +136,8 @@ returns-in_err-member-clause-meets g c =
     c.from_residual-in_err-member.ensures.1 in
     let i = c.rounds.invariant in
     let met = c.in_err-member.ensures.meets i.place i.inner i.opened in
-    rw (e.1, e.2) (λ _. round_meets (parts_in c.args.file) g.M.Make.lists g.M.Make.tables
-    c.args.word c.args.walk.now c.rounds.frames.items c.rounds.frame c.rounds.walk i _ met)
+    rw (e.1, e.2) (λ f. round_meets (parts_in c.args.file) g.M.Make.lists g.M.Make.tables
+    c.args.word c.args.walk.now c.rounds.frames.items c.rounds.frame c.rounds.walk i _ (met f))
 
 pub returns-in_err-frame-in-Wants-clause-meets : goal.returns-in_err-frame-in-Wants-clause-meets
 returns-in_err-frame-in-Wants-clause-meets g c =

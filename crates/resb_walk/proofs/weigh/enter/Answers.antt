@@ -1,5 +1,5 @@
 use Rattle.std.proofs.Common.{subst}
-use Rattle.resb_walk.specs.Files.{parts_in}
+use Rattle.resb_format.specs.Parts.{parts_in}
 use Rattle.resb_walk.specs.Inner.Weighing.{Looked}
 use Rattle.resb_walk.proofs.Weighed.{enters_leaf, enters_collection}
 use Rattle.resb_walk.proofs.weigh.enter.Goals as goal

@@ -1,7 +1,7 @@
 use Rattle.std.proofs.Common.{◌≡◌, ◌+◌, ◌*◌, ◌<◌, ◌≤◌, subst, [], arith, length}
 use Rattle.std.proofs.Common.{◌-◌, ◌++◌}
 use Rattle.resb_format.specs.Content.{word}
-use Rattle.resb_walk.specs.Files.{parts_in}
+use Rattle.resb_format.specs.Parts.{parts_in}
 use Rattle.resb_walk.specs.Inner.Members.{member_of}
 use Rattle.resb_walk.specs.Inner.Weighing.{Looked, Nexts, ToCome, Waiting, Entered}
 use Rattle.resb_walk.specs.Pieces.{HoldsMember, holds_word}

@@ -5,7 +5,7 @@ use Rattle.std.specs.List.{sum_by}
 use Rattle.std.proofs.lemmas.Result.{err_from_is_err_and}
 use Rattle.resb_tree.specs.View.{tree_of}
 use Rattle.resb_format.specs.Units.{size}
-use Rattle.resb_pool.specs.FaultOf.{fault_of}
+use Rattle.resb_write.specs.FaultOf.{fault_of, plan_fault}
 use Rattle.resb_pool.specs.Plan.{nows, IsPlan}
 use Rattle.resb_tree.specs.WalkOrder.{walk_order, trees_in}
 use Rattle.resb_write.specs.Inner.Room.{laid_of, Numbered, HasRoomBehind}
@@ -69,10 +69,11 @@ returns-in_err-pool-clause-err c =
     let small = c.in_ok-check_sizes.ensures.ok (walk_order t) gathered in
     let p = err_from_is_err_and c.from_residual-in_err-pool.result
     c.from_residual-in_err-pool.ensures.1 in
-    rw (p.1, p.2) (subst (λ u. RefusesWriting u c.args.list.now (fault_of c.in_err-pool.field-0.0))
+    rw p.1 (subst (RefusesWriting _ c.args.list.now) (sym p.2)
+    (subst (λ u. RefusesWriting u c.args.list.now (plan_fault c.in_err-pool.field-0.0))
     c.root.ensures.tree
     (plan_refused t c.args.list.now (nows c.deref-2.result.now) _ texts small
-    c.in_err-pool.ensures.err))
+    c.in_err-pool.ensures.err)))
 
 pub block_length-keys_end-requires : goal.block_length-keys_end-requires
 block_length-keys_end-requires c =

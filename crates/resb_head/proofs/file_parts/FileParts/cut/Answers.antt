@@ -12,8 +12,8 @@ returns-then-keys_end-body c =
     let body : List ℕ = c.args.body.now in
     let k : c.args.index.now.keys_end ≡ get_or (words_of body) 2 0 =
     c.requires.indexed.keys_end ∙ field_behind body 1 in
-    keys_past body c.invalid_data.result (omega (arith, k, c.if-keys_end-body.true))
-    c.invalid_data.ensures
+    keys_past body c.end_of_input.result (omega (arith, k, c.if-keys_end-body.true))
+    c.end_of_input.ensures
 
 pub returns-in_default : goal.returns-in_default
 returns-in_default c =
@@ -25,8 +25,8 @@ returns-in_default c =
     let few : c.args.index.now.field_count < 7 =
     no_field c.args.index.now.field_count (get_or (words_of (drop 4 body)) 6 0)
     (sym c.requires.indexed.data_16_bit_end ∙ c.in_default.is) in
-    end_missing body c.invalid_data-in_default.result (omega (arith, k, c.if-keys_end-body.false))
-    (omega (arith, n, few)) c.invalid_data-in_default.ensures
+    end_missing body c.invalid_data.result (omega (arith, k, c.if-keys_end-body.false))
+    (omega (arith, n, few)) c.invalid_data.ensures
 
 pub returns-then-block_end-keys_end : goal.returns-then-block_end-keys_end
 returns-then-block_end-keys_end c =
@@ -46,9 +46,9 @@ returns-then-block_end-keys_end c =
       | goal.then-block_end-keys_end-via-else-block_end-keys_end+then-block_end-body w ↦
           inr (omega (arith, b, w.if-block_end-body))
     ] in
-    block_past body c.invalid_data-then-block_end-keys_end.result
+    block_past body c.end_of_input-then-block_end-keys_end.result
     (omega (arith, k, c.if-keys_end-body.false)) (omega (arith, n, there.0)) outside
-    c.invalid_data-then-block_end-keys_end.ensures
+    c.end_of_input-then-block_end-keys_end.ensures
 
 pub returns : goal.returns
 returns c =

@@ -4,15 +4,15 @@ use Rattle.std.proofs.Common.{◌∙◌, rules}
 use Rattle.std.specs.Prelude.{slice_index}
 use Rattle.resb_format.specs.Bytes.{words_of}
 use Rattle.resb_format.specs.Error.{refusal_of}
-use Rattle.resb_format.specs.Parts.{parts_in_body}
+use Rattle.resb_format.specs.Parts.{parts_in}
+use Rattle.resb_head.specs.File.{parts_in_body}
 use Rattle.resb_head.specs.HeadChecks.{index_fault}
-use Rattle.resb_head.specs.PartsReading.{parts_shown}
 use Rattle.resb_head.proofs.FileSteps.{root_missing, index_answers, blocks_answer}
 use Rattle.resb_head.proofs.file_parts.FileParts.of_body.Goals as goal
 
 pub returns-then-body-lt4 : goal.returns-then-body-lt4
 returns-then-body-lt4 c =
-    root_missing c.args.body.now c.invalid_data.result c.if-body-lt4.true c.invalid_data.ensures
+    root_missing c.args.body.now c.end_of_input.result c.if-body-lt4.true c.end_of_input.ensures
 
 pub returns-in_err-index : goal.returns-in_err-index
 returns-in_err-index c =
@@ -29,7 +29,7 @@ returns c =
     ap index_fault (sym c.split_at.ensures.back) ∙ c.in_ok-index.ensures.0 in
     subst
     (λ o. MatchResult c.cut.result
-    (λ f. (o ≡ None) × (parts_shown f ≡ parts_in_body body)
+    (λ f. (o ≡ None) × (parts_in f.file ≡ parts_in_body body)
     × (f.root ≡ slice_index (words_of body) 0)) (λ x. o ≡ Some (refusal_of x)))
     (sym (blocks_answer body c.if-body-lt4.false e))
     c.cut.ensures

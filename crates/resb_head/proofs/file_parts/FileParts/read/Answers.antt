@@ -2,9 +2,9 @@
 use Rattle.std.proofs.Common.{ℕ, List, ◌≡◌, min, length, drop, Some, None, MatchResult, sym}
 use Rattle.std.proofs.Common.{ap, subst, ◌∙◌, rules, false}
 use Rattle.resb_format.specs.Error.{refusal_of}
-use Rattle.resb_format.specs.Parts.{parts_of, parts_in_body, body_of, root_word, header_size}
+use Rattle.resb_format.specs.Parts.{parts_in}
+use Rattle.resb_head.specs.File.{parts_of, parts_in_body, body_of, root_word, header_size}
 use Rattle.resb_head.specs.HeadChecks.{header_fault, first_fault, support_checks}
-use Rattle.resb_head.specs.PartsReading.{parts_shown}
 use Rattle.resb_head.specs.Inner.Checked.{ReadsBody}
 use Rattle.resb_head.proofs.FileSteps.{header_answers, support_answers, body_answers, size_is}
 use Rattle.resb_head.proofs.FileSteps.{drop_min}
@@ -41,7 +41,7 @@ returns c =
     subst (λ b. ReadsBody b c.of_body.result) body c.of_body.ensures in
     subst
     (λ o. MatchResult c.of_body.result
-    (λ f. (o ≡ None) × (parts_shown f ≡ parts_in_body (body_of bytes))
+    (λ f. (o ≡ None) × (parts_in f.file ≡ parts_in_body (body_of bytes))
     × (f.root ≡ root_word bytes)) (λ x. o ≡ Some (refusal_of x)))
     (sym (body_answers bytes head support))
     read

@@ -6,8 +6,8 @@ use Rattle.std.specs.Option.{option_to_list}
 use Rattle.std.proofs.lemmas.Grind.{flat_map-append}
 use Rattle.resb_head.proofs.index.BinIndex.append_to.Goals as goal
 
-behind : (o p xs ys q : List ℕ) → p ≡ o ++ xs → q ≡ p ++ ys → q ≡ o ++ (xs ++ ys)
-behind o p xs ys q e f = f ∙ ap (λ l. l ++ ys) e ∙ append_assoc o xs ys
+appended_twice : (o p xs ys q : List ℕ) → p ≡ o ++ xs → q ≡ p ++ ys → q ≡ o ++ (xs ++ ys)
+appended_twice o p xs ys q e f = f ∙ ap (λ l. l ++ ys) e ∙ append_assoc o xs ys
 
 abbrev bytes : Option ℕ → List ℕ
 bytes o = flat_map (to_le_bytes w32) (option_to_list o)
@@ -26,13 +26,13 @@ returns c =
     let o = c.args.bytes.now.items in
     let i = c.args.self.now in
     let e1 = c.in_ok-append_word.ensures in
-    let e2 = behind o _ _ _ _ e1 c.in_ok-append_word-2.ensures in
-    let e3 = behind o _ _ _ _ e2 c.in_ok-append_word-3.ensures in
-    let e4 = behind o _ _ _ _ e3 c.in_ok-append_word-4.ensures in
-    let e5 = behind o _ _ _ _ e4 c.in_ok-append_word-5.ensures in
-    let e6 = behind o _ _ _ _ e5 c.in_ok-append_field.ensures in
-    let e7 = behind o _ _ _ _ e6 c.in_ok-append_field-2.ensures in
-    let e8 = behind o _ _ _ _ e7 c.in_ok-append_field-3.ensures in
+    let e2 = appended_twice o _ _ _ _ e1 c.in_ok-append_word-2.ensures in
+    let e3 = appended_twice o _ _ _ _ e2 c.in_ok-append_word-3.ensures in
+    let e4 = appended_twice o _ _ _ _ e3 c.in_ok-append_word-4.ensures in
+    let e5 = appended_twice o _ _ _ _ e4 c.in_ok-append_word-5.ensures in
+    let e6 = appended_twice o _ _ _ _ e5 c.in_ok-append_field.ensures in
+    let e7 = appended_twice o _ _ _ _ e6 c.in_ok-append_field-2.ensures in
+    let e8 = appended_twice o _ _ _ _ e7 c.in_ok-append_field-3.ensures in
     e8 ∙ ap (λ l.
     o ++ (to_le_bytes w32 i.field_count
     ++ (to_le_bytes w32 i.keys_end

@@ -5,21 +5,21 @@ use Rattle.resb_head.proofs.index.BinIndexTryFromRefSliceU8.try_from.Goals as go
 
 pub returns-then-bytes-lt4 : goal.returns-then-bytes-lt4
 returns-then-bytes-lt4 c =
-    no_count c.args.bytes.now c.invalid_data.result c.if-bytes-lt4.true c.invalid_data.ensures
+    no_count c.args.bytes.now c.end_of_input.result c.if-bytes-lt4.true c.end_of_input.ensures
 
 pub returns-then-field_count-lt5 : goal.returns-then-field_count-lt5
 returns-then-field_count-lt5 c =
     small_count c.args.bytes.now c.word_at-field_count.result
-    c.invalid_data-then-field_count-lt5.result c.word_at-field_count.ensures
-    c.if-bytes-lt4.false c.if-field_count-lt5.true c.invalid_data-then-field_count-lt5.ensures
+    c.invalid_data.result c.word_at-field_count.ensures
+    c.if-bytes-lt4.false c.if-field_count-lt5.true c.invalid_data.ensures
 
 pub returns-then-bytes-min : goal.returns-then-bytes-min
 returns-then-bytes-min c =
     let l : length c.args.bytes.now < 4 * min c.word_at-field_count.result 8 =
     omega (arith, c.min.ensures, c.if-bytes-min.true) in
-    no_word c.args.bytes.now c.word_at-field_count.result c.invalid_data-then-bytes-min.result
+    no_word c.args.bytes.now c.word_at-field_count.result c.end_of_input-then-bytes-min.result
     c.word_at-field_count.ensures c.if-bytes-lt4.false c.if-field_count-lt5.false l
-    c.invalid_data-then-bytes-min.ensures
+    c.end_of_input-then-bytes-min.ensures
 
 pub returns : goal.returns
 returns c =

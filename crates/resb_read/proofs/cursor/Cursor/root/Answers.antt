@@ -1,5 +1,5 @@
 use Rattle.std.proofs.Common.{ap, ◌∙◌}
-use Rattle.resb_format.specs.Parts.{parts_of}
+use Rattle.resb_head.specs.File.{parts_of}
 use Rattle.resb_read.specs.declared.cursor.Spot.TheVariants as spot
 use Rattle.resb_read.proofs.cursor.Cursor.root.Goals as goal
 

@@ -1,5 +1,5 @@
 use Rattle.std.proofs.Common.{◌≡◌, ◌∷◌, map, ap, sym, ◌∙◌}
-use Rattle.resb_walk.specs.Files.{parts_in}
+use Rattle.resb_format.specs.Parts.{parts_in}
 use Rattle.resb_walk.specs.Inner.Members.{member_of, keyed_members}
 use Rattle.resb_read.specs.Access.{EntryAccess}
 use Rattle.resb_read.specs.Sequences.{at_spot, at_entry}

@@ -1,5 +1,5 @@
 use Rattle.std.proofs.Common.{ℕ, Some, refl, sym, ap, subst, ◌∙◌}
-use Rattle.resb_walk.specs.Files.{parts_in}
+use Rattle.resb_format.specs.Parts.{parts_in}
 use Rattle.resb_walk.specs.Inner.Members.{keyed_members, member_of}
 use Rattle.resb_format.specs.Content.{Member}
 use Rattle.resb_read.specs.Sequences.{at_entry, at_spot}

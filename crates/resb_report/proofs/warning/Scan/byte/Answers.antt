@@ -3,7 +3,7 @@ use Rattle.std.proofs.Common.{◌≡◌, ◌∙◌, ◌++◌, ap, sym, subst, ap
 use Rattle.std.proofs.Common.{◌+◌, arith}
 use Rattle.std.specs.Option.{option_map}
 use Rattle.resb_report.specs.Pieces.{piece_at}
-use Rattle.resb_report.specs.Groups.{groups_at, behind}
+use Rattle.resb_report.specs.Groups.{groups_at, groups_behind}
 use Rattle.resb_report.specs.Warnings.{of_backslash, of_end, warned}
 use Rattle.resb_report.specs.Inner.Looks.{piece_of, Shows}
 use Rattle.resb_report.specs.declared.pieces.Pieces.{Pieces}
@@ -26,7 +26,7 @@ returns c =
           ∙ ap (λ (p : Pieces). p.text.now) (c.in_ok-take.ensures.pieces ∙ told.pieces);
       passed = c.pass.ensures.passed;
       shows = subst (λ n. Shows c.take.new.self.groups (groups_at text n)) next
-          (subst (λ o. Shows c.take.new.self.groups (behind o g)) q
+          (subst (λ o. Shows c.take.new.self.groups (groups_behind o g)) q
           (c.in_ok-take.ensures.groups g shows));
       found = c.in_ok-take.ensures.found g shows
           ∙ ap (λ l. l ++ of_end (option_map piece_of c.piece-piece.result) g)

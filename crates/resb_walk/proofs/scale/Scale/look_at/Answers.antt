@@ -1,6 +1,6 @@
 use Rattle.std.proofs.Common.{refl, sym, [], ◌≡◌, Some}
 use Rattle.resb_format.specs.Content.{content, leaf, list, pairs}
-use Rattle.resb_walk.specs.Files.{parts_in}
+use Rattle.resb_format.specs.Parts.{parts_in}
 use Rattle.resb_walk.specs.Inner.Members.{leaf_tree, members_of, keyed_members}
 use Rattle.resb_walk.specs.Pieces.{array_piece, table_piece}
 use Rattle.resb_walk.proofs.Holding.{text_holds, leaf_holds, list_holds, pairs_holds, none_holds}

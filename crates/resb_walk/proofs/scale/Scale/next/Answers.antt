@@ -1,7 +1,7 @@
 use Rattle.std.proofs.Common.{refl, subst, [], ◌∷◌, ◌++◌, ap, ◌∙◌, sym, append_assoc, Some}
 use Rattle.std.proofs.Common.{append-nil}
 use Rattle.resb_format.specs.Content.{list, pairs}
-use Rattle.resb_walk.specs.Files.{parts_in}
+use Rattle.resb_format.specs.Parts.{parts_in}
 use Rattle.resb_walk.specs.Inner.Members.{member_of, members_of, keyed_members}
 use Rattle.resb_walk.specs.Inner.Weighing.{IsEnd, RestHolds}
 use Rattle.resb_walk.specs.Pieces.{key_piece}

@@ -1,0 +1,159 @@
+-- A map that is made of pairs at once has as many entries as there are pairs exactly where the keys
+-- of the pairs are distinct.
+use Rattle.std.proofs.Common.{◌≡◌, ◌≢◌, ℕ, ◌+◌, ◌≤◌, ◌<◌, Bool, true, false, List, [], ◌∷◌, length}
+use Rattle.std.proofs.Common.{BTreeMap, Ordering, Less, Equal, Greater, refl, sym, ap, ◌∙◌, subst}
+use Rattle.std.proofs.Common.{arith, cond, T}
+use Rattle.std.specs.Prelude.{Option, Some, None, nat_eq, not, ◌||◌}
+use Rattle.std.specs.BTreeMap.{insert_entry, IsFromIterResult}
+use Rattle.std.specs.Cmp.Lexicographic.{nat_list_cmp_total, pointwise, texts_ties}
+use Rattle.std.specs.FinMap.{slice_cmp-IsAntisymmetric, nat_cmp-IsAntisymmetric}
+use Rattle.std.specs.FinMap.Entries as fin
+use Rattle.std.specs.List.{list_any}
+use Rattle.std.specs.Option.{is_some}
+use Rattle.std.specs.Ordering.{eq_by_cmp, is_eq}
+use Rattle.std.proofs.lemmas.Bool.{false≢true}
+use Rattle.resb_tree.specs.Maps.{text_cmp}
+use Rattle.resb_tree.specs.Tree.{Tree}
+use Rattle.resb_tree.specs.View.{tree_of, pairs_view}
+use Rattle.resb_tree.specs.declared.resource.Resource.{Resource}
+use Rattle.resb_tree.proofs.AtOnce.{inserted, insert_is_put, made, turned}
+use Rattle.resb_icu_grammar.specs.Groups.{is_new}
+use Rattle.resb_icu_grammar.specs.Inner.Rest.{AreDistinct}
+
+-- none of the pairs has a key of these entries
+abbrev AreNewTo : List (List ℕ × Resource) → List (List ℕ × Resource) → Type 0
+AreNewTo es [] = Unit {0}
+AreNewTo es (p ∷ ps) = (fin.find text_cmp p.0 es ≡ None) × AreNewTo es ps
+
+-- whether a key is new among the entries behind it, by the order of texts
+is_new-cons : (k : List ℕ) (e : List ℕ × Tree) (es : List (List ℕ × Tree))
+    → is_new k (e ∷ es)
+    ≡ not (eq_by_cmp text_cmp k e.0 || list_any (λ f. pointwise nat_eq k f.0) es)
+is_new-cons k e es =
+    ap (λ b. not (b || list_any (λ f. pointwise nat_eq k f.0) es)) (texts_ties k e.0)
+
+put_found : (b : Bool) (o v : Option Resource) → is_some v ≡ true → cond b v o ≡ None
+    → (b ≡ false) × (o ≡ None)
+put_found true o v s h = absurd (false≢true (sym (ap is_some h) ∙ s))
+put_found false o v s h = (refl, h)
+
+neither : (a b : Bool) → not (a || b) ≡ true → (a ≡ false) × (not b ≡ true)
+neither true b h = absurd (false≢true h)
+neither false b h = (refl, h)
+
+-- where the key of an entry is new, each key of the later ones is another and stays new to a map
+-- that has it
+put_new : (es ps : List (List ℕ × Resource)) (k : List ℕ) (v : Resource)
+    → is_new k (pairs_view ps) ≡ true → AreNewTo es ps → AreNewTo (fin.put text_cmp k v es) ps
+put_new es [] k v h n = tt
+put_new es (p ∷ ps) k v h n =
+    let two = neither _ _ (sym (is_new-cons k (p.0, tree_of p.1) (pairs_view ps)) ∙ h) in (
+      fin.find-put text_cmp nat_list_cmp_total p.0 k v es
+          ∙ ap (λ b. cond b (Some v) (fin.find text_cmp p.0 es)) (turned p.0 k ∙ two.0) ∙ n.0,
+      put_new es ps k v two.1 n.1,
+    )
+
+-- and the other way round
+new_put : (es ps : List (List ℕ × Resource)) (k : List ℕ) (v : Resource)
+    → AreNewTo (fin.put text_cmp k v es) ps
+    → (is_new k (pairs_view ps) ≡ true) × AreNewTo es ps
+new_put es [] k v n = (refl, tt)
+new_put es (p ∷ ps) k v n =
+    let q = put_found (eq_by_cmp text_cmp p.0 k) (fin.find text_cmp p.0 es) (Some v) refl
+    (sym (fin.find-put text_cmp nat_list_cmp_total p.0 k v es) ∙ n.0) in
+    let more = new_put es ps k v n.1 in (
+      is_new-cons k (p.0, tree_of p.1) (pairs_view ps)
+          ∙ ap (λ b. not (b || list_any (λ f. pointwise nat_eq k f.0) (pairs_view ps)))
+          (turned k p.0 ∙ q.0) ∙ more.0,
+      (q.1, more.1),
+    )
+
+length_put : (es : List (List ℕ × Resource)) (k : List ℕ) (v : Resource)
+    → T (fin.is_sorted text_cmp es)
+    → length (fin.put text_cmp k v es)
+    ≡ cond (is_some (fin.find text_cmp k es)) (length es) (length es + 1)
+length_put es k v s = fin.length-put text_cmp nat_list_cmp_total k v es s
+
+sorted_insert : (es : List (List ℕ × Resource)) (k : List ℕ) (v : Resource)
+    → T (fin.is_sorted text_cmp es) → T (fin.is_sorted text_cmp (insert_entry text_cmp es k v))
+sorted_insert es k v s = subst (λ xs. T (fin.is_sorted text_cmp xs)) (sym (insert_is_put es k v))
+    (fin.is_sorted-put text_cmp nat_list_cmp_total k v es s)
+
+-- pairs with distinct new keys are as many more entries
+count_distinct : (es ps : List (List ℕ × Resource)) → T (fin.is_sorted text_cmp es)
+    → AreDistinct (pairs_view ps) → AreNewTo es ps
+    → length (inserted es ps) ≡ length es + length ps
+count_distinct es [] s d n = omega arith
+count_distinct es (p ∷ ps) s d n =
+    let e = insert_is_put es p.0 p.1 in
+    let more = count_distinct (insert_entry text_cmp es p.0 p.1) ps (sorted_insert es p.0 p.1 s) d.1
+    (subst (λ xs. AreNewTo xs ps) (sym e) (put_new es ps p.0 p.1 d.0 n.1)) in
+    let one : length (insert_entry text_cmp es p.0 p.1) ≡ length es + 1 =
+    ap length e ∙ length_put es p.0 p.1 s
+    ∙ ap (λ o. cond (is_some o) (length es) (length es + 1)) n.0 in
+    omega (arith, more, one)
+
+at_most_one : (b : Bool) (n : ℕ) → cond b n (n + 1) ≤ n + 1
+at_most_one true n = omega arith
+at_most_one false n = omega arith
+
+-- pairs are at most as many more entries
+count_most : (es ps : List (List ℕ × Resource)) → T (fin.is_sorted text_cmp es)
+    → length (inserted es ps) ≤ length es + length ps
+count_most es [] s = omega arith
+count_most es (p ∷ ps) s =
+    let more = count_most (insert_entry text_cmp es p.0 p.1) ps (sorted_insert es p.0 p.1 s) in
+    let one : length (insert_entry text_cmp es p.0 p.1)
+    ≡ cond (is_some (fin.find text_cmp p.0 es)) (length es) (length es + 1) =
+    ap length (insert_is_put es p.0 p.1) ∙ length_put es p.0 p.1 s in
+    let most = at_most_one (is_some (fin.find text_cmp p.0 es)) (length es) in
+    omega (arith, more, one, most)
+
+is_none : {A : Type 0} (o : Option A) → is_some o ≡ false → o ≡ None
+is_none None h = refl
+is_none (Some a) h = absurd (false≢true (sym h))
+
+one_more : (b : Bool) (n m : ℕ) → m ≡ cond b n (n + 1) → m ≡ n + 1 → b ≡ false
+one_more true n m h g = absurd (omega (arith, h, g))
+one_more false n m h g = refl
+
+-- where pairs are as many more entries, their keys are distinct and new
+distinct_count : (es ps : List (List ℕ × Resource)) → T (fin.is_sorted text_cmp es)
+    → length (inserted es ps) ≡ length es + length ps
+    → AreDistinct (pairs_view ps) × AreNewTo es ps
+distinct_count es [] s h = (tt, tt)
+distinct_count es (p ∷ ps) s h =
+    let e = insert_is_put es p.0 p.1 in
+    let now = insert_entry text_cmp es p.0 p.1 in
+    let sorted = sorted_insert es p.0 p.1 s in
+    let one : length now
+    ≡ cond (is_some (fin.find text_cmp p.0 es)) (length es) (length es + 1) =
+    ap length e ∙ length_put es p.0 p.1 s in
+    let most = count_most now ps sorted in
+    let low = at_most_one (is_some (fin.find text_cmp p.0 es)) (length es) in
+    let exact : length now ≡ length es + 1 = omega (arith, h, most, one, low) in
+    let found : fin.find text_cmp p.0 es ≡ None =
+    is_none _ (one_more _ (length es) (length now) one exact) in
+    let more = distinct_count now ps sorted (omega (arith, h, exact)) in
+    let behind = new_put es ps p.0 p.1 (subst (λ xs. AreNewTo xs ps) e more.1) in
+    ((behind.0, more.0), (found, behind.1))
+
+all_new : (ps : List (List ℕ × Resource)) → AreNewTo [] ps
+all_new [] = tt
+all_new (p ∷ ps) = (refl, all_new ps)
+
+-- a map made of pairs at once has all of them where their keys are distinct
+pub all_kept : (ps : List (List ℕ × Resource)) (m : BTreeMap (List ℕ) Resource)
+    → IsFromIterResult text_cmp ps m → AreDistinct (pairs_view ps)
+    → length m.entries ≡ length ps
+all_kept ps m h d =
+    omega (arith, ap length (made ps m h), count_distinct [] ps tt d (all_new ps))
+
+-- and the keys are distinct where it has all of them
+pub kept_distinct : (ps : List (List ℕ × Resource)) (m : BTreeMap (List ℕ) Resource)
+    → IsFromIterResult text_cmp ps m → length m.entries ≡ length ps
+    → AreDistinct (pairs_view ps)
+kept_distinct ps m h e =
+    let count : length (inserted [] ps) ≡ 0 + length ps =
+    omega (arith, ap length (made ps m h), e) in
+    (distinct_count [] ps tt count).0

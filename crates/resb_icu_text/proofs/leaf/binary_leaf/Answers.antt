@@ -1,0 +1,45 @@
+use Rattle.std.proofs.Common.{ap, subst, sym, ◌∙◌, inr, arith, ◌≡◌, ℕ, List}
+use Rattle.std.proofs.lemmas.Result.{err_from_is_err_and}
+use Rattle.resb_tree.specs.Tree.{Tree, binary}
+use Rattle.resb_grammar.specs.Group.{hex_bytes}
+use Rattle.resb_grammar.specs.GroupTypes.{binary_kind}
+use Rattle.resb_tree.proofs.ViewLemmas.{tree_of_binary}
+use Rattle.resb_icu_text.specs.Lexemes.{bytes_said}
+use Rattle.resb_icu_text.specs.Inner.Leaf.{Leaf}
+use Rattle.resb_icu_text.proofs.LeafLemmas.{no_binary_leaf, no_digits, open_binary}
+use Rattle.resb_icu_text.proofs.LeafLemmas.{binary_stands}
+use Rattle.resb_icu_text.proofs.leaf.binary_leaf.Goals as goal
+
+pub returns-in_default-clause-err : goal.returns-in_default-clause-err
+returns-in_default-clause-err c =
+    inr (no_binary_leaf _ _ (rw c.in_default.is at c.in_ok-lexeme.ensures.none))
+
+pub returns-in_default-2-clause-err : goal.returns-in_default-2-clause-err
+returns-in_default-2-clause-err c =
+    let found = rw c.in-Some.is at c.in_ok-lexeme.ensures.found in
+    let none = rw c.in_default-2.is at c.in_ok-bytes.ensures.none in
+    inr (no_digits _ _ _ _ found.string
+    (sym (ap hex_bytes (c.deref.ensures.value ∙ c.text_of-digits.ensures)) ∙ none))
+
+pub returns-in_err-to-clause-err : goal.returns-in_err-to-clause-err
+returns-in_err-to-clause-err c =
+    let p = err_from_is_err_and c.from_residual-in_err-to.result
+    c.from_residual-in_err-to.ensures.1 in
+    let found = rw c.in-Some.is at c.in_ok-lexeme.ensures.found in
+    rw (p.1, p.2) (inr (open_binary _ _ _ _ found.string c.in_err-to.ensures.err))
+
+pub returns-clause-ok : goal.returns-clause-ok
+returns-clause-ok c =
+    let found = rw c.in-Some.is at c.in_ok-lexeme.ensures.found in
+    let bytes = rw c.in-Some-2.is at c.in_ok-bytes.ensures.found in
+    subst (λ (t : Tree). Leaf c.args.text.now c.args.at binary_kind c.in_ok-to.to t)
+    (sym (tree_of_binary _))
+    (binary_stands _ _ _ _ _ _ found.string
+    (sym (ap hex_bytes (c.deref.ensures.value ∙ c.text_of-digits.ensures)) ∙ bytes)
+    c.in_ok-to.ensures.ok)
+
+pub returns-clause-within : goal.returns-clause-within
+returns-clause-within c =
+    let found = rw c.in-Some.is at c.in_ok-lexeme.ensures.found in
+    let within = c.in_ok-to.ensures.within in
+    (omega (arith, found.after, within.0), within.1)

@@ -1,0 +1,49 @@
+use Rattle.std.proofs.Common.{ap, subst, sym, ◌∙◌, inr, arith, refl, []}
+use Rattle.std.proofs.lemmas.Result.{err_from_is_err_and}
+use Rattle.resb_icu_text.proofs.LeafLemmas.{Continues, continues_first, continues_end}
+use Rattle.resb_icu_text.proofs.LeafLemmas.{continues_more, no_vector, unended_vector}
+use Rattle.resb_icu_text.proofs.leaf.numbers.Goals as goal
+
+pub numbers-init : goal.numbers-init
+numbers-init c = record {
+  order = omega arith;
+  fits = c.requires.within;
+  continues = rw c.new-numbers.ensures.items (continues_first _ _);
+}
+
+pub returns-in_default-clause-err : goal.returns-in_default-clause-err
+returns-in_default-clause-err c =
+    inr (λ w. no_vector _ _ c.in_default.ensures.none (c.numbers.invariant.continues.back w))
+
+pub returns-in_err-here-clause-err : goal.returns-in_err-here-clause-err
+returns-in_err-here-clause-err c =
+    let p = err_from_is_err_and c.from_residual-in_err-here.result
+    c.from_residual-in_err-here.ensures.1 in
+    let e = c.in_err-here.ensures.err in
+    rw (p.1, p.2) (inr (λ w. unended_vector _ _ _ _ _ c.in-Some.ensures.found
+    c.skip-place.ensures.skip e.0 e.1 (c.numbers.invariant.continues.back w)))
+
+pub returns-then-byte-eq125-clause-ok : goal.returns-then-byte-eq125-clause-ok
+returns-then-byte-eq125-clause-ok c =
+    rw c.in_ok-push.ensures.items
+    (continues_end _ _ _ _ _ _ _ _ c.in-Some.ensures.found c.skip-place.ensures.skip
+    c.in_ok-here.ensures.ok (sym c.byte.ensures.byte ∙ c.if-byte-eq125.true)
+    c.numbers.invariant.continues)
+
+pub numbers-preserved : goal.numbers-preserved
+numbers-preserved c = record {
+  order =
+      omega (
+        arith,
+        c.numbers.invariant.order,
+        c.in-Some.ensures.within.0,
+        c.skip-place.ensures.order,
+        c.in_ok-here.ensures.within.0,
+      );
+  fits = c.in_ok-here.ensures.within.1;
+  continues =
+      rw c.in_ok-push.ensures.items
+      (continues_more _ _ _ _ _ _ _ _ c.in-Some.ensures.found c.skip-place.ensures.skip
+      c.in_ok-here.ensures.ok (λ e. c.if-byte-eq125.false (c.byte.ensures.byte ∙ e))
+      c.numbers.invariant.continues);
+}

@@ -1,0 +1,14 @@
+use Rattle.std.proofs.Common.{◌≤◌, ◌+◌, ◌*◌, ◌-◌, length}
+use Rattle.resb_icu_grammar.specs.Inner.Rest.{Same}
+use Rattle.resb_icu_text.specs.Inner.Steps.{Rest, place, progress}
+use Rattle.resb_icu_text.specs.Inner.Reading.{RootThere, groups, keys}
+use Rattle.resb_icu_text.proofs.reader.read_root.Given as goal
+
+abbrev pub invariant-steps : goal.invariant-steps
+invariant-steps l = record {
+  within : place l.step ≤ length l.text;
+  same : Same (RootThere l.text l.first) (Rest l.text (groups l.open) (keys l.open) l.step);
+}
+
+abbrev pub decreases-steps : goal.decreases-steps
+decreases-steps l = 3 * length l.text + 3 - progress l.step

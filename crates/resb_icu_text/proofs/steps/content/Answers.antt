@@ -1,0 +1,20 @@
+use Rattle.std.proofs.Common.{sym, ◌∙◌, arith}
+use Rattle.resb_icu_text.proofs.StepsLemmas.{array_content, table_content, leaf_content}
+use Rattle.resb_icu_text.proofs.StepsLemmas.{no_leaf_content}
+use Rattle.resb_icu_text.proofs.steps.content.Goals as goal
+
+pub returns-in-Array-clause-ok : goal.returns-in-Array-clause-ok
+returns-in-Array-clause-ok c = rw c.in-Array.is (array_content _ c.new.result _ c.new.ensures.items)
+
+pub returns-in-Table-clause-ok : goal.returns-in-Table-clause-ok
+returns-in-Table-clause-ok c =
+    rw c.in-Table.is (table_content _ c.new-in-Table.result _ c.new-in-Table.ensures.items)
+
+pub returns-in_ok-to-in_default : goal.returns-in_ok-to-in_default
+returns-in_ok-to-in_default c =
+    let within = c.in_ok-to-in_default.ensures.within in
+    record {
+      ok = leaf_content _ _ _ _ c.in_ok-to-in_default.resource c.in_ok-to-in_default.ensures.ok;
+      err = tt;
+      goes = (omega (arith, within.1), omega (arith, within.0));
+    }

@@ -1,0 +1,17 @@
+use Rattle.std.proofs.Common.{sym, ◌∙◌, inl, inr}
+use Rattle.resb_icu_text.proofs.StepsLemmas.{members_end, member_group}
+use Rattle.resb_icu_text.proofs.steps.member.Goals.{then-b-eq123-via-then-b-eq123}
+use Rattle.resb_icu_text.proofs.steps.member.Goals.{then-b-eq123-via-else-b-eq123+then-b-eq58}
+use Rattle.resb_icu_text.proofs.steps.member.Goals as goal
+
+pub returns-then-b-eq125-clause-ok : goal.returns-then-b-eq125-clause-ok
+returns-then-b-eq125-clause-ok c =
+    members_end _ c.args.members _ _ (sym c.byte-b.ensures.byte ∙ c.if-b-eq125.true)
+
+pub returns-then-b-eq123-clause-ok : goal.returns-then-b-eq123-clause-ok
+returns-then-b-eq123-clause-ok c =
+    member_group _ c.args.members _ _ (elim c.then-b-eq123.branch [
+      | then-b-eq123-via-then-b-eq123 w ↦ inl (sym c.byte-b.ensures.byte ∙ w.if-b-eq123.true)
+      | then-b-eq123-via-else-b-eq123+then-b-eq58 w ↦
+          inr (sym c.byte-b.ensures.byte ∙ w.if-b-eq58.true)
+    ])

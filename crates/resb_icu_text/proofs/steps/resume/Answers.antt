@@ -1,0 +1,31 @@
+use Rattle.std.proofs.Common.{sym, ◌∙◌, ap, ◌++◌, ◌∷◌, []}
+use Rattle.resb_icu_text.proofs.StepsLemmas.{behind_member, behind_value, no_collation}
+use Rattle.resb_icu_text.proofs.StepsLemmas.{both_hold, first_fails, second_fails}
+use Rattle.resb_icu_text.proofs.steps.resume.Goals.{else-is_collation-via-then-is_collation+else-is_table}
+use Rattle.resb_icu_text.proofs.steps.resume.Goals.{else-is_collation-via-else-is_collation}
+use Rattle.resb_icu_text.proofs.steps.resume.Goals as goal
+
+pub returns-then-is_table-clause-err : goal.returns-then-is_table-clause-err
+returns-then-is_table-clause-err c =
+    rw c.in-Table.is (no_collation _ c.in-Table.entries c.in-Table.key c.args.resource _ _
+    (both_hold _ _ (sym c.is_collation.ensures ∙ c.if-is_collation.true)
+    (sym c.is_table.ensures ∙ c.if-is_table.true)))
+
+pub returns-in_ok-push-in-Array-clause-ok : goal.returns-in_ok-push-in-Array-clause-ok
+returns-in_ok-push-in-Array-clause-ok c =
+    rw c.in-Array.is (behind_member _ c.in-Array.members c.push.new.self c.args.resource _ _
+    c.skip.ensures.skip c.in_ok-push-in-Array.ensures.items)
+
+pub returns-in_ok-push-in-Table-clause-ok : goal.returns-in_ok-push-in-Table-clause-ok
+returns-in_ok-push-in-Table-clause-ok c =
+    rw c.in-Table.is (behind_value _ c.in-Table.entries c.push-in-Table.new.self c.in-Table.key
+    c.args.resource _ _
+    (elim c.else-is_collation.branch [
+      | else-is_collation-via-then-is_collation+else-is_table w ↦
+          second_fails _ _ (sym w.is_table.ensures ∙ w.if-is_table.false)
+      | else-is_collation-via-else-is_collation w ↦
+          first_fails _ _ (sym c.is_collation.ensures ∙ w.if-is_collation.false)
+    ])
+    c.skip-in-Table.ensures.skip
+    (c.in_ok-push-in-Table.ensures.items
+    ∙ ap (λ k. c.in-Table.entries.items ++ (k, c.args.resource) ∷ []) c.from.ensures))

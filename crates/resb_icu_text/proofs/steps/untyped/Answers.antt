@@ -1,0 +1,18 @@
+use Rattle.std.proofs.Common.{sym, ◌∙◌, inl, inr}
+use Rattle.resb_icu_text.proofs.StepsLemmas.{untyped_empty, untyped_group}
+use Rattle.resb_icu_text.proofs.steps.untyped.Goals.{then-b-eq123-via-then-b-eq123}
+use Rattle.resb_icu_text.proofs.steps.untyped.Goals.{then-b-eq123-via-else-b-eq123+then-b-eq58}
+use Rattle.resb_icu_text.proofs.steps.untyped.Goals as goal
+
+pub returns-then-b-eq125-clause-ok : goal.returns-then-b-eq125-clause-ok
+returns-then-b-eq125-clause-ok c =
+    untyped_empty _ c.new.result _ (sym c.byte-b.ensures.byte ∙ c.if-b-eq125.true)
+    c.new.ensures.items
+
+pub returns-then-b-eq123-clause-ok : goal.returns-then-b-eq123-clause-ok
+returns-then-b-eq123-clause-ok c =
+    untyped_group _ c.new-then-b-eq123.result _ (elim c.then-b-eq123.branch [
+      | then-b-eq123-via-then-b-eq123 w ↦ inl (sym c.byte-b.ensures.byte ∙ w.if-b-eq123.true)
+      | then-b-eq123-via-else-b-eq123+then-b-eq58 w ↦
+          inr (sym c.byte-b.ensures.byte ∙ w.if-b-eq58.true)
+    ]) c.new-then-b-eq123.ensures.items

@@ -1,0 +1,26 @@
+-- The words for what a reading of ICU's text form expects.
+use Rattle.std.specs.Prelude.{ℕ, List, codes}
+use Rattle.resb_icu_text.specs.declared.expected.IcuExpected.{IcuExpected}
+use Rattle.resb_icu_text.specs.declared.expected.IcuExpected.TheVariants as expect
+
+-- the words for what was expected
+abbrev pub item_of : IcuExpected → List ℕ
+item_of expect.Name = codes "the name of the bundle"
+item_of expect.RootType = codes "'table' or 'table(nofallback)'"
+item_of expect.GroupType = codes "a type"
+item_of expect.LeftBrace = codes "'{'"
+item_of expect.RightBrace = codes "'}'"
+item_of expect.Group = codes "'{' or a type"
+item_of expect.String = codes "a string"
+item_of expect.Quoted = codes "a quoted string that is closed, with known escapes"
+item_of expect.Key = codes "a string that may be a key"
+item_of expect.HexPairs = codes "pairs of hex digits"
+item_of expect.Number = codes "a number"
+item_of expect.Member = codes "a resource or '}'"
+item_of expect.Entry = codes "a key or '}'"
+item_of expect.Comma = codes "a comma between two strings"
+item_of expect.AfterString = codes "'}', a comma, '{' or a type"
+item_of expect.KeysOnce = codes "each key once in the table that ends here"
+item_of expect.NoCollation = codes "no table with rules of collation"
+item_of expect.EndOfText = codes "the end of the text"
+item_of expect.Memory = codes "memory"

@@ -1,0 +1,17 @@
+-- What a refusal prints, and the refusal for want of memory.
+use Rattle.std.specs.Prelude.{ℕ, List, ◌∷◌, ◌++◌, codes, decimal}
+use Rattle.resb_grammar.specs.Ascii as ascii
+use Rattle.resb_icu_text.specs.Expected.{item_of}
+use Rattle.resb_icu_text.specs.declared.expected.IcuExpected.TheVariants as expect
+use Rattle.resb_icu_text.specs.declared.error.IcuTextError.{IcuTextError}
+
+-- two lines: what failed, then where and what was expected
+abbrev pub message_of : IcuTextError → List ℕ
+message_of e =
+    codes "Parse error while reading ICU text:"
+    ++ (ascii.line_feed ∷ codes "at byte "
+    ++ (decimal e.position ++ (codes ": expected " ++ item_of e.expected)))
+
+-- no place of the text is to blame
+abbrev pub want_of_memory : IcuTextError
+want_of_memory = record { position = 0; expected = expect.Memory }

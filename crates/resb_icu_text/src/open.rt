@@ -1,0 +1,91 @@
+//! The groups that are open around the place where a reading stands, and the keys before it.
+//! What one step does inside them is said in `steps`.
+ghost use Rattle.std.specs.Prelude.{◌≡◌, ◌⊎◌, ◌≤◌, [], ◌∷◌, length, map, IfOk, IfErr, OnOk};
+ghost use Rattle.resb_icu_grammar.specs.Inner.Rest.{Same, Never};
+ghost use Rattle.resb_icu_text.specs.Refusal.{want_of_memory};
+ghost use Rattle.resb_icu_text.specs.Inner.Steps.{shown, with_key, Rest, place};
+ghost use Rattle.resb_icu_text.specs.Inner.Reading.{groups, keys, Coming, Advances};
+
+use crate::error::IcuTextError;
+use crate::steps::{Step, Waiting, entry, group, member, resume};
+use resb_tree::{NoMemory, Resource};
+use std::alloc::Global;
+
+/// The groups that are open, the innermost last, and the keys so far in order of place.
+#[derive(Drop)]
+pub(crate) struct OpenGroups<'a> {
+    waiting: Vec<Waiting<'a>>,
+    pub(crate) keys: Vec<&'a str>,
+}
+
+/// Where a reading goes on, or the root with the place behind it.
+#[derive(Drop)]
+pub(crate) enum Next<'a> {
+    Step(Step<'a>),
+    Root(Resource<'a>, usize),
+}
+
+/// Lists the key that a group stands under, if it stands under one.
+fn list_key<'a>(keys: &mut Vec<&'a str>, waiting: &Waiting<'a>) -> Result<(), NoMemory>
+    ensures { OnOk result (map (λ k. k.now) keys.new.items
+        ≡ with_key (map (λ k. k.now) keys.old.items) waiting.now) }
+{
+    if let Waiting::Table(_, key) = waiting {
+        keys.push(*key)?;
+    }
+    Ok(())
+}
+
+impl<'a> OpenGroups<'a> {
+    /// Nothing is open yet, and there are no keys.
+    pub(crate) fn new(alloc: Global) -> OpenGroups<'a>
+        ensures groups { groups result ≡ [] }
+        ensures keys { keys result ≡ [] }
+    {
+        OpenGroups {
+            waiting: Vec::new(alloc),
+            keys: Vec::new(alloc),
+        }
+    }
+
+    /// One group more is open; the key that it stands under is one key more.
+    fn open(&mut self, waiting: Waiting<'a>) -> Result<(), NoMemory>
+        ensures groups { OnOk result (groups self.new ≡ shown waiting.entry ∷ groups self.old) }
+        ensures keys { OnOk result (keys self.new ≡ with_key (keys self.old) waiting.entry) }
+    {
+        list_key(&mut self.keys, &waiting)?;
+        self.waiting.push(waiting)?;
+        Ok(())
+    }
+
+    /// One step further.
+    pub(crate) fn advance(
+        &mut self,
+        alloc: Global,
+        text: &'a str,
+        step: Step<'a>,
+    ) -> Result<Next<'a>, IcuTextError>
+        requires within { place step ≤ length text.now }
+        ensures ok { IfOk result (λ next. Same
+            (Rest text.now (groups self.old) (keys self.old) step.entry)
+            (Coming text.now self.new next)) }
+        ensures err { IfErr result (λ e. (e ≡ want_of_memory)
+            ⊎ Never (Rest text.now (groups self.old) (keys self.old) step.entry)) }
+        ensures goes { IfOk result (Advances text.now step.entry) }
+    {
+        match step {
+            Step::Members(members, last, at) => {
+                Ok(Next::Step(member(alloc, text, members, last, at)?))
+            }
+            Step::Entries(entries, at) => Ok(Next::Step(entry(alloc, text, entries, at)?)),
+            Step::Group(waiting, at) => {
+                self.open(waiting)?;
+                Ok(Next::Step(group(alloc, text, at)?))
+            }
+            Step::Ended(resource, at) => match self.waiting.pop() {
+                Some(waiting) => Ok(Next::Step(resume(text, waiting, resource, at)?)),
+                None => Ok(Next::Root(resource, at)),
+            },
+        }
+    }
+}

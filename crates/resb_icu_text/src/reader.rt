@@ -1,0 +1,189 @@
+//! From a text of ICU's form to a bundle and its keys, in one pass and without recursion.
+//! What stands before the first entry of the root and behind the last is read here; what is open in
+//! between is kept in `open`.
+ghost use Rattle.std.specs.Prelude.{◌≡◌, ◌⊎◌, ℕ, ◌+◌, ◌<◌, ◌≤◌, Bool, [], List, length, map};
+ghost use Rattle.std.specs.Prelude.{IfOk, IfErr, slice_index};
+ghost use Rattle.resb_grammar.specs.BundleText.{first_places};
+ghost use Rattle.resb_tree.specs.Bundle.{name_of, root_of};
+ghost use Rattle.resb_tree.specs.View.{tree_of};
+ghost use Rattle.resb_icu_grammar.specs.Blanks.{Begins};
+ghost use Rattle.resb_icu_grammar.specs.Bundle.{Header, Typing, IcuText};
+ghost use Rattle.resb_icu_grammar.specs.Words.{Name};
+ghost use Rattle.resb_icu_grammar.specs.Inner.Rest.{Never};
+ghost use Rattle.resb_icu_text.specs.Answer.{IsNoIcuText};
+ghost use Rattle.resb_icu_text.specs.Refusal.{want_of_memory};
+ghost use Rattle.resb_icu_text.specs.Inner.Leaf.{Refuses};
+ghost use Rattle.resb_icu_text.specs.Inner.Reading.{AnyHeader, AnyName, Opening, RootThere};
+
+use crate::blanks::{byte, skip};
+use crate::error::IcuTextError;
+use crate::expected::IcuExpected;
+use crate::open::{Next, OpenGroups};
+use crate::steps::{Step, key_at};
+use crate::types::root_type;
+use crate::words::word_end;
+use indexmap::IndexSet;
+use resb_grammar::list_once;
+use resb_tree::{Key, NoMemory, Resource, ResourceBundle};
+use std::alloc::Global;
+use std::borrow::CowStr;
+
+/// Reads texts of bundles in ICU's form. There are no values of this type.
+pub enum IcuReader {}
+
+impl IcuReader {
+    /// The bundle that the text is, and the keys of its tables in order of place, each once.
+    /// The name and the strings of one piece without escapes are slices of the text, which no
+    /// clause says; other strings and the bytes of binaries are owned.
+    pub fn read<'a>(
+        alloc: Global,
+        input: &'a str,
+    ) -> Result<(ResourceBundle<'a>, Vec<Key<'a>>), IcuTextError>
+        ensures ok { IfOk result (λ r. IcuText input.now
+            (name_of r.0) r.0.is_locale_fallback_enabled (root_of r.0) r.1.items) }
+        ensures err { IfErr result (λ e. (e ≡ want_of_memory) ⊎ IsNoIcuText input.now) }
+    {
+        let Head {
+            name,
+            fallback,
+            first,
+        } = read_head(alloc, input)?;
+        let (root, keys) = read_root(alloc, input, first)?;
+        let keys = each_once(alloc, &keys)?;
+        Ok((
+            ResourceBundle::new(CowStr::Borrowed(name), root, fallback),
+            keys,
+        ))
+    }
+}
+
+/// What stands before the root's entries: the bundle's name, and whether fallback is on. And the
+/// place of the first entry.
+struct Head<'a> {
+    name: &'a str,
+    fallback: bool,
+    first: usize,
+}
+
+/// Where a text begins: behind its byte order mark, or with its first byte where it has none.
+fn begin(text: &str) -> usize
+    ensures begins { Begins text.now result }
+    ensures within { result ≤ length text.now }
+{
+    if byte(text, 0) == 0xef && byte(text, 1) == 0xbb && byte(text, 2) == 0xbf {
+        3
+    } else {
+        0
+    }
+}
+
+/// The bundle's name that must begin here, and the place behind it.
+fn name<'a>(alloc: Global, text: &'a str, at: usize) -> Result<(usize, &'a str), IcuTextError>
+    requires within { at ≤ length text.now }
+    ensures ok { IfOk result (λ r. Name text.now at r.0 r.1.now) }
+    ensures err { IfErr result (Refuses (AnyName text.now at)) }
+    ensures within { IfOk result (λ r. r.0 ≤ length text.now) }
+{
+    let Some((end, key)) = key_at(alloc, text, at)? else {
+        return Err(IcuTextError::new(at, IcuExpected::Name));
+    };
+    if key.is_empty() {
+        return Err(IcuTextError::new(at, IcuExpected::Name));
+    }
+    if word_end(key, 0) < key.len() {
+        return Err(IcuTextError::new(at, IcuExpected::Name));
+    }
+    Ok((end, key))
+}
+
+/// The place behind the root's type and the blanks there, if it has one, and whether fallback stays
+/// on. The root's `{` can stand nowhere else.
+fn typing(text: &str, at: usize) -> Result<(usize, bool), IcuTextError>
+    requires within { at ≤ length text.now }
+    ensures ok { IfOk result (λ r. Typing text.now at r.0 r.1) }
+    ensures only { IfOk result
+        (λ r. (brace : ℕ) (fallback : Bool) → Opening text.now at brace fallback → brace ≡ r.0) }
+    ensures err { IfErr result
+        (λ e. (brace : ℕ) (fallback : Bool) → Opening text.now at brace fallback → ⊥) }
+    ensures within { IfOk result (λ r. r.0 ≤ length text.now) }
+{
+    if byte(text, at) != b':' {
+        return Ok((at, true));
+    }
+    match root_type(text, at) {
+        Some((end, fallback)) => Ok((skip(text, end), fallback)),
+        None => Err(IcuTextError::new(at, IcuExpected::RootType)),
+    }
+}
+
+/// The place of the root's `{` behind its type, if it has one, and whether fallback stays on.
+fn opening(text: &str, at: usize) -> Result<(usize, bool), IcuTextError>
+    requires within { at ≤ length text.now }
+    ensures ok { IfOk result (λ r. Opening text.now at r.0 r.1) }
+    ensures err { IfErr result
+        (λ e. (brace : ℕ) (fallback : Bool) → Opening text.now at brace fallback → ⊥) }
+    ensures within { IfOk result (λ r. r.0 < length text.now) }
+{
+    let (brace, fallback) = typing(text, at)?;
+    if byte(text, brace) == b'{' {
+        Ok((brace, fallback))
+    } else {
+        Err(IcuTextError::new(brace, IcuExpected::LeftBrace))
+    }
+}
+
+/// What stands before the root's entries.
+fn read_head<'a>(alloc: Global, text: &'a str) -> Result<Head<'a>, IcuTextError>
+    ensures ok { IfOk result (λ h. Header text.now h.name.now h.fallback h.first) }
+    ensures err { IfErr result (Refuses (AnyHeader text.now)) }
+    ensures within { IfOk result (λ h. h.first ≤ length text.now) }
+{
+    let start = skip(text, begin(text));
+    let (end, name) = name(alloc, text, start)?;
+    let (brace, fallback) = opening(text, skip(text, end))?;
+    let first = skip(text, brace + 1);
+    Ok(Head {
+        name,
+        fallback,
+        first,
+    })
+}
+
+/// The root whose entries begin here, and the keys of its tables in order of place.
+fn read_root<'a>(
+    alloc: Global,
+    text: &'a str,
+    first: usize,
+) -> Result<(Resource<'a>, Vec<&'a str>), IcuTextError>
+    requires within { first ≤ length text.now }
+    ensures ok { IfOk result
+        (λ r. RootThere text.now first (tree_of r.0, map (λ k. k.now) r.1.items)) }
+    ensures err { IfErr result (λ e. (e ≡ want_of_memory) ⊎ Never (RootThere text.now first)) }
+{
+    let mut open = OpenGroups::new(alloc);
+    let mut step = Step::Entries(Vec::new(alloc), first);
+    'steps: loop {
+        match open.advance(alloc, text, step)? {
+            Next::Step(next) => step = next,
+            Next::Root(root, at) => {
+                let end = skip(text, at);
+                if end < text.len() {
+                    return Err(IcuTextError::new(end, IcuExpected::EndOfText));
+                }
+                return Ok((root, open.keys));
+            }
+        }
+    }
+}
+
+/// The keys, each at its first place alone.
+fn each_once<'a>(alloc: Global, keys: &[&'a str]) -> Result<Vec<Key<'a>>, NoMemory>
+    ensures { IfOk result (λ once. once.items ≡ first_places (map (λ k. k.now) keys.now)) }
+{
+    let mut seen = IndexSet::new(alloc);
+    let mut once = Vec::new(alloc);
+    for key in keys {
+        list_once(&mut seen, &mut once, *key)?;
+    }
+    Ok(once)
+}

@@ -1,0 +1,362 @@
+//! One step of a reading: from where it stands to behind the next member, entry, brace or group.
+//! What is open around that place is kept in `open`; groups without items are read in `leaf`.
+ghost use Rattle.std.specs.Prelude.{◌≡◌, ◌≢◌, ℕ, ◌+◌, ◌*◌, ◌<◌, ◌≤◌, ◌↔◌, Bool, IsTrue, length};
+ghost use Rattle.std.specs.Prelude.{IfOk, IfErr, IfSome, IfNone, List, map, slice_index};
+ghost use Rattle.resb_grammar.specs.Ascii as ascii;
+ghost use Rattle.resb_tree.specs.Tree.{map_of};
+ghost use Rattle.resb_tree.specs.View.{tree_of, pairs_view, entries_view};
+ghost use Rattle.resb_icu_grammar.specs.Groups as spec;
+ghost use Rattle.resb_icu_grammar.specs.Words.{KeyText};
+ghost use Rattle.resb_icu_grammar.specs.Inner.Rest.{AreDistinct};
+ghost use Rattle.resb_icu_text.specs.Kinds.{kind_of};
+ghost use Rattle.resb_icu_text.specs.Inner.Steps.{last_of, Steps, Stops, Goes};
+ghost use Rattle.resb_icu_text.specs.Inner.Steps.{MembersThere, EntriesThere, GroupThere};
+ghost use Rattle.resb_icu_text.specs.Inner.Steps.{UntypedThere, TypedThere, EndedThere};
+
+use crate::blanks::{byte, skip};
+use crate::error::IcuTextError;
+use crate::expected::IcuExpected;
+use crate::leaf::{leaf, text_of};
+use crate::strings::{Said, string};
+use crate::types::{Kind, group_type};
+use resb_tree::{Key, NoMemory, Resource, Table, table_at_once};
+use std::alloc::Global;
+
+/// What stands last among the members of an array so far.
+#[derive(Clone, Copy, Debug, PartialEq, Eq)]
+pub(crate) enum Last {
+    Nothing,
+    String,
+    Group,
+    Comma,
+}
+
+impl Last {
+    /// Whether a member stands last, with no comma behind it.
+    fn is_member(self) -> bool
+        ensures { result ≡ spec.is_member (last_of self) }
+    {
+        match self {
+            Last::String | Last::Group => true,
+            Last::Nothing | Last::Comma => false,
+        }
+    }
+
+    /// Whether a string stands last, with no comma behind it.
+    fn is_string(self) -> bool
+        ensures { result ≡ spec.is_string (last_of self) }
+    {
+        match self {
+            Last::String => true,
+            _ => false,
+        }
+    }
+}
+
+/// An entry of a table that is not finished yet.
+pub(crate) type Entry<'a> = (Key<'a>, Resource<'a>);
+
+/// What is open around a group: an array with the members before it, or a table with the entries
+/// before it and its key.
+#[derive(Drop)]
+pub(crate) enum Waiting<'a> {
+    Array(Vec<Resource<'a>>),
+    Table(Vec<Entry<'a>>, &'a str),
+}
+
+/// Where a reading stands: among members, among entries, before a group, or behind one.
+#[derive(Drop)]
+pub(crate) enum Step<'a> {
+    Members(Vec<Resource<'a>>, Last, usize),
+    Entries(Vec<Entry<'a>>, usize),
+    Group(Waiting<'a>, usize),
+    Ended(Resource<'a>, usize),
+}
+
+/// From among members to behind the next one, before the next group, or behind the array.
+pub(crate) fn member<'a>(
+    alloc: Global,
+    text: &'a str,
+    members: Vec<Resource<'a>>,
+    last: Last,
+    at: usize,
+) -> Result<Step<'a>, IcuTextError>
+    requires within { at ≤ length text.now }
+    ensures ok { IfOk result (Steps text.now (MembersThere text.now members.entry.items last at)) }
+    ensures err { IfErr result (Stops (MembersThere text.now members.entry.items last at)) }
+    ensures goes { IfOk result (Goes text.now (3 * at + 1)) }
+{
+    let b = byte(text, at);
+    if b == b'}' {
+        return Ok(Step::Ended(Resource::Array(members), at + 1));
+    }
+    if b == b',' {
+        return comma(text, members, last, at);
+    }
+    if b == b'{' || b == b':' {
+        return Ok(Step::Group(Waiting::Array(members), at));
+    }
+    string_member(alloc, text, members, last, at)
+}
+
+/// From a comma to behind it and the blanks there.
+fn comma<'a>(
+    text: &'a str,
+    members: Vec<Resource<'a>>,
+    last: Last,
+    at: usize,
+) -> Result<Step<'a>, IcuTextError>
+    requires within { at < length text.now }
+    requires comma { slice_index text.now at ≡ ascii.comma }
+    ensures ok { IfOk result (Steps text.now (MembersThere text.now members.entry.items last at)) }
+    ensures err { IfErr result (Stops (MembersThere text.now members.entry.items last at)) }
+    ensures goes { IfOk result (Goes text.now (3 * at + 1)) }
+{
+    if last.is_member() {
+        Ok(Step::Members(members, Last::Comma, skip(text, at + 1)))
+    } else {
+        Err(IcuTextError::new(at, IcuExpected::Member))
+    }
+}
+
+/// From the string that must stand here to behind it and the blanks there.
+fn string_member<'a>(
+    alloc: Global,
+    text: &'a str,
+    mut members: Vec<Resource<'a>>,
+    last: Last,
+    at: usize,
+) -> Result<Step<'a>, IcuTextError>
+    requires within { at ≤ length text.now }
+    requires no_brace { slice_index text.now at ≢ ascii.right_brace }
+    requires no_comma { slice_index text.now at ≢ ascii.comma }
+    requires no_group { slice_index text.now at ≢ ascii.left_brace }
+    requires no_type { slice_index text.now at ≢ ascii.colon }
+    ensures ok { IfOk result (Steps text.now (MembersThere text.now members.entry.items last at)) }
+    ensures err { IfErr result (Stops (MembersThere text.now members.entry.items last at)) }
+    ensures goes { IfOk result (Goes text.now (3 * at + 1)) }
+{
+    let Some(lexeme) = string(alloc, text, at)? else {
+        return Err(IcuTextError::no_string(text, at, IcuExpected::Member));
+    };
+    if last.is_string() {
+        return Err(IcuTextError::new(at, IcuExpected::Comma));
+    }
+    let next = skip(text, lexeme.end);
+    members.push(Resource::String(text_of(lexeme.said)))?;
+    Ok(Step::Members(members, Last::String, next))
+}
+
+/// The key that stands here and the place behind it, if one does.
+pub(crate) fn key_at<'a>(
+    alloc: Global,
+    text: &'a str,
+    at: usize,
+) -> Result<Option<(usize, &'a str)>, NoMemory>
+    requires within { at ≤ length text.now }
+    ensures found { IfOk result (λ o. IfSome o (λ r. KeyText text.now at r.0 r.1.now)) }
+    ensures none { IfOk result
+        (λ o. IfNone o ((to : ℕ) (k : List ℕ) → KeyText text.now at to k → ⊥)) }
+    ensures within { IfOk result (λ o. IfSome o (λ r. (at < r.0) × (r.0 ≤ length text.now))) }
+{
+    let Some(lexeme) = string(alloc, text, at)? else {
+        return Ok(None);
+    };
+    match lexeme.said {
+        Said::Key(key) => Ok(Some((lexeme.end, key))),
+        _ => Ok(None),
+    }
+}
+
+/// From among entries to before the value of the next one, or behind the table.
+pub(crate) fn entry<'a>(
+    alloc: Global,
+    text: &'a str,
+    entries: Vec<Entry<'a>>,
+    at: usize,
+) -> Result<Step<'a>, IcuTextError>
+    requires within { at ≤ length text.now }
+    ensures ok { IfOk result (Steps text.now (EntriesThere text.now entries.entry.items at)) }
+    ensures err { IfErr result (Stops (EntriesThere text.now entries.entry.items at)) }
+    ensures goes { IfOk result (Goes text.now (3 * at + 1)) }
+{
+    if byte(text, at) == b'}' {
+        let Some(table) = table_of(alloc, entries)? else {
+            return Err(IcuTextError::new(at, IcuExpected::KeysOnce));
+        };
+        return Ok(Step::Ended(Resource::Table(table), at + 1));
+    }
+    match key_at(alloc, text, at)? {
+        Some((end, key)) => Ok(Step::Group(Waiting::Table(entries, key), skip(text, end))),
+        None => Err(IcuTextError::new(at, IcuExpected::Entry)),
+    }
+}
+
+/// The map of these entries, made at once, if each key stands once among them.
+fn table_of<'a>(alloc: Global, entries: Vec<Entry<'a>>) -> Result<Option<Table<'a>>, NoMemory>
+    ensures found { IfOk result (λ o. IfSome o (λ m. AreDistinct (pairs_view entries.entry.items)
+        × (entries_view m.entries ≡ map_of (pairs_view entries.entry.items)))) }
+    ensures none { IfOk result (λ o. IfNone o (AreDistinct (pairs_view entries.entry.items) → ⊥)) }
+{
+    let count = entries.len();
+    let table = table_at_once(alloc, entries)?;
+    if table.len() == count {
+        Ok(Some(table))
+    } else {
+        Ok(None)
+    }
+}
+
+/// From before a group to among its members or entries, or behind it.
+pub(crate) fn group<'a>(alloc: Global, text: &'a str, at: usize) -> Result<Step<'a>, IcuTextError>
+    requires within { at ≤ length text.now }
+    ensures ok { IfOk result (Steps text.now (GroupThere text.now at)) }
+    ensures err { IfErr result (Stops (GroupThere text.now at)) }
+    ensures goes { IfOk result (Goes text.now (3 * at + 2)) }
+{
+    let b = byte(text, at);
+    if b == b'{' {
+        return untyped(alloc, text, skip(text, at + 1));
+    }
+    if b == b':' {
+        return typed(alloc, text, at);
+    }
+    Err(IcuTextError::new(at, IcuExpected::Group))
+}
+
+/// From a type to among the members or entries of its group, or behind that.
+fn typed<'a>(alloc: Global, text: &'a str, at: usize) -> Result<Step<'a>, IcuTextError>
+    requires within { at < length text.now }
+    requires colon { slice_index text.now at ≡ ascii.colon }
+    ensures ok { IfOk result (Steps text.now (GroupThere text.now at)) }
+    ensures err { IfErr result (Stops (GroupThere text.now at)) }
+    ensures goes { IfOk result (Goes text.now (3 * at + 2)) }
+{
+    let Some((end, kind)) = group_type(text, at) else {
+        return Err(IcuTextError::new(at, IcuExpected::GroupType));
+    };
+    let brace = skip(text, end);
+    if byte(text, brace) != b'{' {
+        return Err(IcuTextError::new(brace, IcuExpected::LeftBrace));
+    }
+    content(alloc, text, kind, skip(text, brace + 1))
+}
+
+/// From behind the `{` of a group with a type to among its members or entries, or behind it.
+fn content<'a>(
+    alloc: Global,
+    text: &'a str,
+    kind: Kind,
+    at: usize,
+) -> Result<Step<'a>, IcuTextError>
+    requires within { at ≤ length text.now }
+    ensures ok { IfOk result (Steps text.now (TypedThere text.now (kind_of kind) at)) }
+    ensures err { IfErr result (Stops (TypedThere text.now (kind_of kind) at)) }
+    ensures goes { IfOk result (Goes text.now (3 * at)) }
+{
+    match kind {
+        Kind::Array => Ok(Step::Members(Vec::new(alloc), Last::Nothing, at)),
+        Kind::Table => Ok(Step::Entries(Vec::new(alloc), at)),
+        _ => {
+            let (to, resource) = leaf(alloc, text, kind, at)?;
+            Ok(Step::Ended(resource, to + 1))
+        }
+    }
+}
+
+/// From behind the `{` of a group without a type to among its members or entries, or behind it.
+fn untyped<'a>(alloc: Global, text: &'a str, at: usize) -> Result<Step<'a>, IcuTextError>
+    requires within { at ≤ length text.now }
+    ensures ok { IfOk result (Steps text.now (UntypedThere text.now at)) }
+    ensures err { IfErr result (Stops (UntypedThere text.now at)) }
+    ensures goes { IfOk result (Goes text.now (3 * at)) }
+{
+    let b = byte(text, at);
+    if b == b'}' {
+        return Ok(Step::Ended(Resource::Array(Vec::new(alloc)), at + 1));
+    }
+    if b == b'{' || b == b':' {
+        return Ok(Step::Members(Vec::new(alloc), Last::Nothing, at));
+    }
+    untyped_string(alloc, text, at)
+}
+
+/// From the string that must stand first in a group without a type to what the group is by what
+/// follows: a string, an array, or a table.
+fn untyped_string<'a>(alloc: Global, text: &'a str, at: usize) -> Result<Step<'a>, IcuTextError>
+    requires within { at ≤ length text.now }
+    requires no_brace { slice_index text.now at ≢ ascii.right_brace }
+    requires no_group { slice_index text.now at ≢ ascii.left_brace }
+    requires no_type { slice_index text.now at ≢ ascii.colon }
+    ensures ok { IfOk result (Steps text.now (UntypedThere text.now at)) }
+    ensures err { IfErr result (Stops (UntypedThere text.now at)) }
+    ensures goes { IfOk result (Goes text.now (3 * at)) }
+{
+    let Some(lexeme) = string(alloc, text, at)? else {
+        return Err(IcuTextError::no_string(text, at, IcuExpected::Member));
+    };
+    let next = skip(text, lexeme.end);
+    let b = byte(text, next);
+    if b == b'}' {
+        return Ok(Step::Ended(Resource::String(text_of(lexeme.said)), next + 1));
+    }
+    if b == b',' {
+        let mut members = Vec::new(alloc);
+        members.push(Resource::String(text_of(lexeme.said)))?;
+        return Ok(Step::Members(members, Last::String, next));
+    }
+    if b != b'{' && b != b':' {
+        return Err(IcuTextError::new(next, IcuExpected::AfterString));
+    }
+    let Said::Key(key) = lexeme.said else {
+        return Err(IcuTextError::new(at, IcuExpected::Key));
+    };
+    Ok(Step::Group(Waiting::Table(Vec::new(alloc), key), next))
+}
+
+/// Whether a key's table holds rules of collation.
+fn is_collation(key: &str) -> bool
+    ensures { result ≡ spec.is_collation key.now }
+{
+    key == "collations" || key == "CollationElements"
+}
+
+/// Whether a resource is a table.
+fn is_table(resource: &Resource<'_>) -> bool
+    ensures { result ≡ spec.is_table (tree_of resource.now) }
+{
+    match resource {
+        Resource::Table(_) => true,
+        _ => false,
+    }
+}
+
+/// From behind a group to behind the blanks there, among what it stands in.
+pub(crate) fn resume<'a>(
+    text: &'a str,
+    waiting: Waiting<'a>,
+    resource: Resource<'a>,
+    at: usize,
+) -> Result<Step<'a>, IcuTextError>
+    requires within { at ≤ length text.now }
+    ensures ok { IfOk result
+        (Steps text.now (EndedThere text.now waiting.entry resource.entry at)) }
+    ensures err { IfErr result (Stops (EndedThere text.now waiting.entry resource.entry at)) }
+    ensures goes { IfOk result (Goes text.now (3 * at)) }
+{
+    match waiting {
+        Waiting::Array(members) => {
+            let mut members = members;
+            members.push(resource)?;
+            Ok(Step::Members(members, Last::Group, skip(text, at)))
+        }
+        Waiting::Table(entries, key) => {
+            if is_collation(key) && is_table(&resource) {
+                return Err(IcuTextError::new(at, IcuExpected::NoCollation));
+            }
+            let mut entries = entries;
+            entries.push((Key::from(key), resource))?;
+            Ok(Step::Entries(entries, skip(text, at)))
+        }
+    }
+}

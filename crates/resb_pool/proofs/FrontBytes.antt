@@ -1,0 +1,122 @@
+-- Texts whose first bytes differ compare as these do.
+use Rattle.std.proofs.Common.{◌≡◌, ℕ, zero, suc, ◌+◌, ◌*◌, ◌<◌, ◌≤◌, List, [], ◌∷◌, get_or, false}
+use Rattle.std.proofs.Common.{refl, sym, ◌∙◌, ap, subst, arith}
+use Rattle.std.specs.List.{All}
+use Rattle.std.specs.List.Sorted.{IsSorted}
+use Rattle.std.specs.Cmp.Lexicographic.{slice_cmp, nat_list_cmp_total}
+use Rattle.std.specs.Ordering.{nat_cmp, ordering_then, ordering_reverse, is_lt}
+use Rattle.std.specs.declared.cmp.Ordering.{Ordering}
+use Rattle.std.specs.declared.cmp.Ordering.TheVariants.{Less, Equal, Greater}
+use Rattle.std.proofs.lemmas.Cmp.{nat_cmp_total, tied_itself}
+use Rattle.resb_pool.specs.Inner.Placing.{AreBytes, front_bytes, record_cmp, fronted_cmp}
+use Rattle.resb_pool.specs.Inner.Placing.{IsRecordOf}
+use Rattle.resb_pool.specs.declared.records.Record.{Record}
+use Rattle.resb_pool.proofs.FrontKeys.{three_ways}
+use Rattle.resb_pool.proofs.SuffixOrder.{then_less, then_equal}
+
+head_small : (x : ℕ) (xs : List ℕ) → AreBytes (x ∷ xs) → x < 256
+head_small x xs h = h 0
+
+tail_small : (x : ℕ) (xs : List ℕ) → AreBytes (x ∷ xs) → AreBytes xs
+tail_small x xs h = λ i. h (suc i)
+
+-- a smaller number in front stays smaller
+less_kept : (n a b : ℕ) (xs ys : List ℕ) → AreBytes xs → a < b
+    → front_bytes a n xs < front_bytes b n ys
+less_kept zero a b xs ys s l = l
+less_kept (suc n) a b [] [] s l = less_kept n (a * 256) (b * 256) [] [] s (omega (arith, l))
+less_kept (suc n) a b [] (y ∷ ys) s l =
+    less_kept n (a * 256) (b * 256 + y) [] ys s (omega (arith, l))
+less_kept (suc n) a b (x ∷ xs) [] s l =
+    less_kept n (a * 256 + x) (b * 256) xs [] (tail_small x xs s)
+    (omega (arith, l, head_small x xs s))
+less_kept (suc n) a b (x ∷ xs) (y ∷ ys) s l =
+    less_kept n (a * 256 + x) (b * 256 + y) xs ys (tail_small x xs s)
+    (omega (arith, l, head_small x xs s))
+
+-- no bytes are the least
+least : (n a b : ℕ) (ys : List ℕ) → a ≤ b → front_bytes a n [] ≤ front_bytes b n ys
+least zero a b ys l = l
+least (suc n) a b [] l = least n (a * 256) (b * 256) [] (omega (arith, l))
+least (suc n) a b (y ∷ ys) l = least n (a * 256) (b * 256 + y) ys (omega (arith, l))
+
+order_of : (n a : ℕ) (xs ys : List ℕ) → AreBytes xs → AreBytes ys
+    → front_bytes a n xs < front_bytes a n ys → slice_cmp nat_cmp xs ys ≡ Less
+order_of zero a xs ys s t l = absurd (omega (arith, l))
+order_of (suc n) a [] [] s t l = order_of n (a * 256) [] [] s t l
+order_of (suc n) a [] (y ∷ ys) s t l = refl
+order_of (suc n) a (x ∷ xs) [] s t l =
+    absurd (omega (arith, l, least n (a * 256) (a * 256 + x) xs (omega arith)))
+order_of (suc n) a (x ∷ xs) (y ∷ ys) s t l =
+    three_ways (slice_cmp nat_cmp (x ∷ xs) (y ∷ ys) ≡ Less) x y
+    (λ e. then_less (nat_cmp x y) (slice_cmp nat_cmp xs ys) e)
+    (λ e. ap (λ z. ordering_then (nat_cmp x z) (slice_cmp nat_cmp xs ys)) (sym e)
+    ∙ then_equal (nat_cmp x x) (slice_cmp nat_cmp xs ys) (tied_itself nat_cmp_total x)
+    ∙ order_of n (a * 256 + x) xs ys (tail_small x xs s) (tail_small y ys t)
+    (subst (λ z. front_bytes (a * 256 + x) n xs < front_bytes (a * 256 + z) n ys) (sym e) l))
+    (λ m. absurd (omega (
+      arith,
+      l,
+      less_kept n (a * 256 + y) (a * 256 + x) ys xs (tail_small y ys t) (omega (arith, m)),
+    )))
+
+-- the first eight bytes one by one
+pub front_is : (bs : List ℕ) → front_bytes 0 8 bs
+    ≡ get_or bs 0 0 * 0x100_0000_0000_0000 + get_or bs 1 0 * 0x1_0000_0000_0000
+    + get_or bs 2 0 * 0x100_0000_0000 + get_or bs 3 0 * 0x1_0000_0000
+    + get_or bs 4 0 * 0x100_0000 + get_or bs 5 0 * 0x1_0000 + get_or bs 6 0 * 0x100
+    + get_or bs 7 0
+front_is [] = omega arith
+front_is (a ∷ []) = omega arith
+front_is (a ∷ b ∷ []) = omega arith
+front_is (a ∷ b ∷ c ∷ []) = omega arith
+front_is (a ∷ b ∷ c ∷ d ∷ []) = omega arith
+front_is (a ∷ b ∷ c ∷ d ∷ e ∷ []) = omega arith
+front_is (a ∷ b ∷ c ∷ d ∷ e ∷ f ∷ []) = omega arith
+front_is (a ∷ b ∷ c ∷ d ∷ e ∷ f ∷ g ∷ []) = omega arith
+front_is (a ∷ b ∷ c ∷ d ∷ e ∷ f ∷ g ∷ h ∷ bs) = omega arith
+
+-- the record has its text's first bytes
+pub record IsFronted (r : Record) : Type 0 where
+  pub front_is : r.front ≡ front_bytes 0 8 r.text.now
+  pub bytes : AreBytes r.text.now
+
+pub record_fronted : (T : List (List ℕ)) (sums : List ℕ) (r : Record) → IsRecordOf T sums r
+    → IsFronted r
+record_fronted T sums r h = record { front_is = h.front_is; bytes = h.bytes }
+
+-- by texts and indexes alone
+abbrev text_cmp : Record → Record → Ordering
+text_cmp x y =
+    ordering_then (slice_cmp nat_cmp x.text.now y.text.now) (nat_cmp x.index y.index)
+
+less_not : (o p : Ordering) → o ≡ Less → is_lt (ordering_then o p) ≡ false → ⊥
+less_not o p f g = cc (ap is_lt (then_less o p f), g)
+
+more_not : (o p : Ordering) → o ≡ Greater → is_lt (ordering_then o p) ≡ false
+more_not o p f = rw f refl
+
+not_before : (x y : Record) → IsFronted x → IsFronted y
+    → is_lt (ordering_then (nat_cmp x.front y.front) (text_cmp x y)) ≡ false
+    → is_lt (text_cmp x y) ≡ false
+not_before x y h k e = three_ways (is_lt (text_cmp x y) ≡ false) x.front y.front
+    (λ f. absurd (less_not (nat_cmp x.front y.front) (text_cmp x y) f e))
+    (λ f. sym (ap is_lt (ap (λ z. ordering_then (nat_cmp x.front z) (text_cmp x y)) (sym f)
+    ∙ then_equal (nat_cmp x.front x.front) (text_cmp x y) (tied_itself nat_cmp_total x.front))) ∙ e)
+    (λ m. more_not (slice_cmp nat_cmp x.text.now y.text.now) (nat_cmp x.index y.index)
+    (nat_list_cmp_total.antisymm x.text.now y.text.now
+    ∙ ap ordering_reverse (order_of 8 0 y.text.now x.text.now k.bytes h.bytes
+    (omega (arith, m, h.front_is, k.front_is)))))
+
+then_not : (o p q : Ordering) → (is_lt p ≡ false → is_lt q ≡ false)
+    → is_lt (ordering_then o p) ≡ false → is_lt (ordering_then o q) ≡ false
+then_not Less p q f h = h
+then_not Equal p q f h = f h
+then_not Greater p q f h = h
+
+pub in_order : (rs : List Record) → All IsFronted rs → IsSorted fronted_cmp rs
+    → IsSorted record_cmp rs
+in_order rs fronted up k d l m =
+    let x = get_or rs (k + 1) d in let y = get_or rs k d in
+    then_not (nat_cmp x.unit_count y.unit_count) _ _ (then_not (nat_cmp y.saved.0 x.saved.0) _ _
+    (not_before x y (fronted (k + 1) d m) (fronted k d (omega (arith, m))))) (up k d l m)

@@ -40,7 +40,7 @@ module _ (text : List ℕ) where
   get_at (x ∷ l) zero b rest e = let f : x ≡ b = cc in ap Some f
   get_at (x ∷ l) (suc n) b rest e = get_at l n b rest e
 
-  stands : (w : List ℕ) {at : ℕ} (rest : List ℕ) → From text at (w ++ rest) → Stands text at w
+  pub stands : (w : List ℕ) {at : ℕ} (rest : List ℕ) → From text at (w ++ rest) → Stands text at w
   stands [] rest h = tt
   stands (b ∷ w) {at} rest h =
       (get_at text at b (w ++ rest) h.is, stands w rest (next text h))
@@ -92,7 +92,7 @@ module _ (text : List ℕ) where
         solid = solid_byte text (length text) 0 z refl refl;
       }
 
-  root_starts : (fallback : Bool) (rest : List ℕ)
+  pub root_starts : (fallback : Bool) (rest : List ℕ)
       → Starts (root_type_on fallback (ascii.left_brace ∷ rest))
   root_starts true rest = record {
     b = _;

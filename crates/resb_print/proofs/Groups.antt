@@ -49,7 +49,7 @@ own_map es h =
     map_of-sorted (pairs_of es) (subst (IsStrictlySortedBy text_cmp) (sym (same_keys es)) h)
     ∙ entries_of-pairs_of es
 
-own_trees : (ts : Trees) → trees_of (members ts) ≡ ts
+pub own_trees : (ts : Trees) → trees_of (members ts) ≡ ts
 own_trees no_trees = refl
 own_trees (more_trees t ts) = ap (more_trees t) (own_trees ts)
 
@@ -127,11 +127,11 @@ starts n (int_vector ns) rest = record {
 }
 
 -- each number below passes a test
-all_below : (ℕ → Bool) → ℕ → Bool
+unfoldable pub all_below : (ℕ → Bool) → ℕ → Bool
 all_below p zero = true
 all_below p (suc n) = p n && all_below p n
 
-below_passes : (p : ℕ → Bool) (n d : ℕ) → all_below p n ≡ true → d < n → p d ≡ true
+pub below_passes : (p : ℕ → Bool) (n d : ℕ) → all_below p n ≡ true → d < n → p d ≡ true
 unfolding all_below
 below_passes p zero d h l = absurd (omega arith)
 below_passes p (suc n) d h l =
@@ -142,7 +142,7 @@ below_passes p (suc n) d h l =
     by false e f = f (grind (arith, nat_tests))
 
 -- the hex digit of a number below 16
-abbrev digit_of : ℕ → ℕ
+abbrev pub digit_of : ℕ → ℕ
 digit_of d = slice_index lower_digits d
 
 is_read_back : ℕ → Bool
@@ -154,12 +154,12 @@ all_read_back : all_below is_read_back 16 ≡ true
 unfolding all_below is_read_back
 all_read_back = refl
 
-record ReadsBack (d : ℕ) : Type 0 where
-  hex : is_hex (digit_of d) ≡ true
-  value : hex_value (digit_of d) ≡ d
-  no_quote : (digit_of d == ascii.quote) ≡ false
+pub record ReadsBack (d : ℕ) : Type 0 where
+  pub hex : is_hex (digit_of d) ≡ true
+  pub value : hex_value (digit_of d) ≡ d
+  pub no_quote : (digit_of d == ascii.quote) ≡ false
 
-reads_back : (d : ℕ) → d < 16 → ReadsBack d
+pub reads_back : (d : ℕ) → d < 16 → ReadsBack d
 unfolding is_read_back
 reads_back d l =
     let h = below_passes is_read_back 16 d all_read_back l in
@@ -175,7 +175,7 @@ reads_back d l =
     flip true e = absurd (false≢true e)
     flip false e = refl
 
-hex_free : (bs : List ℕ) → AreBelow 256 bs → NoQuote (encode_lower bs)
+pub hex_free : (bs : List ℕ) → AreBelow 256 bs → NoQuote (encode_lower bs)
 unfolding encode_with
 hex_free [] low = refl
 hex_free (b ∷ bs) low =
@@ -186,7 +186,7 @@ hex_free (b ∷ bs) low =
     (or_from (digit_of (b % 16) == ascii.quote) _ y.no_quote
     (hex_free bs (λ k i. low (suc k) (omega arith))))
 
-hex_read : (bs : List ℕ) → AreBelow 256 bs → hex_bytes (encode_lower bs) ≡ Some bs
+pub hex_read : (bs : List ℕ) → AreBelow 256 bs → hex_bytes (encode_lower bs) ≡ Some bs
 unfolding encode_with
 hex_read [] low = refl
 hex_read (b ∷ bs) low =
@@ -201,7 +201,7 @@ hex_read (b ∷ bs) low =
     (and_from (is_hex (digit_of (b / 16))) (is_hex (digit_of (b % 16))) x.hex y.hex)
     ∙ (λ i. byte_before true (e i) (r i))
 
-mod_same : (v : ℕ) → v < 2 ^ 28 → v % 2 ^ 28 ≡ v
+pub mod_same : (v : ℕ) → v < 2 ^ 28 → v % 2 ^ 28 ≡ v
 mod_same v h = omega arith
 
 module _ (text : List ℕ) where

@@ -64,21 +64,21 @@ reverse_more : (js ks : List Job) (j : Job)
 reverse_more js ks j =
     ap (λ l. js ++ l) (reverse-append (j ∷ []) ks) ∙ sym (append_assoc js (reverse ks) (j ∷ []))
 
-fold_more : {X : Type 0} (f : Job → X → X) (js ks : List Job) (j : Job) (x : X)
+pub fold_more : {X : Type 0} (f : Job → X → X) (js ks : List Job) (j : Job) (x : X)
     → fold_jobs f (js ++ reverse (j ∷ ks)) x ≡ f j (fold_jobs f (js ++ reverse ks) x)
 fold_more f js ks j x =
     ap (λ l. fold_jobs f l x) (reverse_more js ks j) ∙ fold_push f (js ++ reverse ks) j x
 
-fold_none : {X : Type 0} (f : Job → X → X) (js : List Job) (x : X)
+pub fold_none : {X : Type 0} (f : Job → X → X) (js : List Job) (x : X)
     → fold_jobs f (js ++ reverse []) x ≡ fold_jobs f js x
 fold_none f js x = ap (λ l. fold_jobs f l x) (append-nil js)
 
-held_push : (js : List Job) (j : Job) → AreHeldJobs (js ++ j ∷ [])
+pub held_push : (js : List Job) (j : Job) → AreHeldJobs (js ++ j ∷ [])
     → AreHeldJobs js × IsHeldJob j
 held_push [] j h = (tt, h.0)
 held_push (i ∷ js) j h = let r = held_push js j h.1 in ((h.0, r.0), r.1)
 
-held_more : (js ks : List Job) (j : Job) → AreHeldJobs (js ++ reverse (j ∷ ks))
+pub held_more : (js ks : List Job) (j : Job) → AreHeldJobs (js ++ reverse (j ∷ ks))
     → AreHeldJobs (js ++ reverse ks) × IsHeldJob j
 held_more js ks j h = held_push (js ++ reverse ks) j (subst AreHeldJobs (reverse_more js ks j) h)
 
@@ -131,7 +131,7 @@ items_cause n js (t ∷ ts) later =
     fold_more job_cause js (item_jobs n ts) (item_job n t) later
     ∙ ap (job_cause (item_job n t)) (items_cause n js ts later)
 
-items_held : (n : ℕ) (js : List Job) (ts : List Tree)
+pub items_held : (n : ℕ) (js : List Job) (ts : List Tree)
     → AreHeldJobs (js ++ reverse (item_jobs n ts)) → AreHeldJobs js × AreHeld (trees_of ts)
 items_held n js [] h = (subst AreHeldJobs (append-nil js) h, tt)
 items_held n js (t ∷ ts) h =
@@ -139,7 +139,7 @@ items_held n js (t ∷ ts) h =
     let b = items_held n js ts a.0 in
     (b.0, (a.1, b.1))
 
-items_turns : (n : ℕ) (js : List Job) (ts : List Tree)
+pub items_turns : (n : ℕ) (js : List Job) (ts : List Tree)
     → jobs_turns (js ++ reverse (item_jobs n ts)) ≡ jobs_turns js + 2 * trees_count (trees_of ts)
 items_turns n js [] = fold_none add_turns js 0 ∙ omega arith
 items_turns n js (t ∷ ts) =
@@ -235,7 +235,7 @@ does_line old line new js ks j write p n t w d same causes held turns = record {
   fewer = omega (arith, d.fewer);
 }
 
-held_both : (js : List Job) (j : Job) → AreHeldJobs js × IsHeldJob j → AreHeldJobs (js ++ j ∷ [])
+pub held_both : (js : List Job) (j : Job) → AreHeldJobs js × IsHeldJob j → AreHeldJobs (js ++ j ∷ [])
 held_both [] j h = (h.1, tt)
 held_both (i ∷ js) j h = ((h.0).0, held_both js j ((h.0).1, h.1))
 
@@ -312,7 +312,7 @@ pub refuses_quote : (e : PrintError) (x : Cause) (s : List ℕ) (g : Option Caus
 refuses_quote e x s g h q same =
     inr (x, h, λ later. (same later).1 ∙ quote_found x s (same later).0 q)
 
-sorted_none : IsStrictlySortedBy text_cmp []
+pub sorted_none : IsStrictlySortedBy text_cmp []
 unfolding IsStrictlySortedBy
 sorted_none = tt
 

@@ -107,10 +107,10 @@ module _ (text : List ℕ) where
       )
 
 -- the digits of a number, wherever they stand
-record AreDigitsOf (n : ℕ) (ds : List ℕ) : Type 0 where
-  some : 0 < length ds
-  each : (k : ℕ) → k < length ds → is_digit (slice_index ds k) ≡ true
-  value : (text : List ℕ) (at : ℕ) (rest : List ℕ) → From text at (ds ++ rest)
+pub record AreDigitsOf (n : ℕ) (ds : List ℕ) : Type 0 where
+  pub some : 0 < length ds
+  pub each : (k : ℕ) → k < length ds → is_digit (slice_index ds k) ≡ true
+  pub value : (text : List ℕ) (at : ℕ) (rest : List ℕ) → From text at (ds ++ rest)
       → digits_value text at (length ds) ≡ n
 
 digit_is : (n : ℕ) → n < 10 → is_digit (48 + n) ≡ true
@@ -163,7 +163,7 @@ more_digits n ds l h = record {
         ap (digits_value text at) (length_push ds (48 + n % 10) ∙ add-one (length ds))
         ∙ omega (arith, r, b)
 
-decimal_digits : (n : ℕ) → n < 2 ^ 64 → AreDigitsOf n (decimal n)
+pub decimal_digits : (n : ℕ) → n < 2 ^ 64 → AreDigitsOf n (decimal n)
 decimal_digits = decimal_by_steps AreDigitsOf one_digit more_digits
 
 digit_solid : (b : ℕ) → is_digit b ≡ true → (is_white b ≡ false) × ((b == ascii.slash) ≡ false)

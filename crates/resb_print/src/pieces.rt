@@ -51,7 +51,7 @@ fn is_bare(text: &str) -> bool
 }
 
 /// Writes a string in quotes.
-pub(crate) fn push_quoted(out: &mut String, text: &str) -> Result<(), AllocError>
+pub fn push_quoted(out: &mut String, text: &str) -> Result<(), AllocError>
     ensures { OnOk result (Writes out.old out.new (quoted_on text.now)) }
 {
     out.push_str("\"")?;
@@ -71,7 +71,7 @@ pub(crate) fn push_name(out: &mut String, text: &str) -> Result<(), AllocError>
 }
 
 /// Begins a line.
-pub(crate) fn push_line(out: &mut String, level: usize) -> Result<(), AllocError>
+pub fn push_line(out: &mut String, level: usize) -> Result<(), AllocError>
     ensures { OnOk result (Writes out.old out.new (line_on level)) }
 {
     out.push_str("\n")?;
@@ -82,7 +82,7 @@ pub(crate) fn push_line(out: &mut String, level: usize) -> Result<(), AllocError
 }
 
 /// Writes what follows a resource.
-pub(crate) fn push_end(out: &mut String, place: Place) -> Result<(), AllocError>
+pub fn push_end(out: &mut String, place: Place) -> Result<(), AllocError>
     ensures { OnOk result (Writes out.old out.new (end_on place)) }
 {
     match place {
@@ -92,7 +92,7 @@ pub(crate) fn push_end(out: &mut String, place: Place) -> Result<(), AllocError>
 }
 
 /// Writes the root's type.
-pub(crate) fn push_root_type(out: &mut String, fallback: bool) -> Result<(), AllocError>
+pub fn push_root_type(out: &mut String, fallback: bool) -> Result<(), AllocError>
     ensures { OnOk result (Writes out.old out.new (root_type_on fallback)) }
 {
     if fallback {

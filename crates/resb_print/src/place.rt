@@ -3,7 +3,9 @@
 
 /// Whether a resource stands behind its key or in an array, where a comma follows it.
 #[derive(Clone, Copy)]
-pub(crate) enum Place {
+pub enum Place {
+    /// Behind its key.
     InTable,
+    /// In an array.
     InArray,
 }

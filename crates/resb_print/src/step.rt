@@ -26,14 +26,14 @@ use std::alloc::{AllocError, Global};
 
 /// The level inside a collection. Indentation ends at 32 levels, so that a text is not longer than
 /// some multiple of what it holds, however deep the tree is.
-fn deeper(level: usize) -> usize
+pub fn deeper(level: usize) -> usize
     ensures { result ≡ printed.deeper level }
 {
     if level < 32 { level + 1 } else { level }
 }
 
 /// Puts the entries of a table, the last one first.
-pub(crate) fn push_entries<'t, 'a>(
+pub fn push_entries<'t, 'a>(
     pending: &mut Vec<Task<'t, 'a>>,
     level: usize,
     table: &'t Table<'a>,
@@ -49,7 +49,7 @@ pub(crate) fn push_entries<'t, 'a>(
 }
 
 /// Puts the items of an array, the last one first.
-fn push_items<'t, 'a>(
+pub fn push_items<'t, 'a>(
     pending: &mut Vec<Task<'t, 'a>>,
     level: usize,
     items: &'t [Resource<'a>],
@@ -78,7 +78,7 @@ fn push_string(out: &mut String, place: Place, text: &str) -> Result<(), AllocEr
 }
 
 /// Writes bytes as hex digits.
-fn push_bytes(alloc: Global, out: &mut String, place: Place, bytes: &[u8]) -> Result<(), AllocError>
+pub fn push_bytes(alloc: Global, out: &mut String, place: Place, bytes: &[u8]) -> Result<(), AllocError>
     ensures written { OnOk result (Writes out.old out.new (tree_on place 0 (binary bytes.now))) }
     ensures held { OnOk result (IsHeld (binary bytes.now)) }
 {
@@ -90,7 +90,7 @@ fn push_bytes(alloc: Global, out: &mut String, place: Place, bytes: &[u8]) -> Re
 }
 
 /// Writes an integer.
-fn push_integer(out: &mut String, place: Place, number: u32) -> Result<(), AllocError>
+pub fn push_integer(out: &mut String, place: Place, number: u32) -> Result<(), AllocError>
     ensures { OnOk result (Writes out.old out.new (tree_on place 0 (integer number))) }
 {
     out.push_str(":int{")?;
@@ -100,7 +100,7 @@ fn push_integer(out: &mut String, place: Place, number: u32) -> Result<(), Alloc
 }
 
 /// Writes a vector.
-fn push_vector(out: &mut String, place: Place, numbers: &[u32]) -> Result<(), AllocError>
+pub fn push_vector(out: &mut String, place: Place, numbers: &[u32]) -> Result<(), AllocError>
     ensures written { OnOk result
         (Writes out.old out.new (tree_on place 0 (int_vector numbers.now))) }
     ensures held { OnOk result (IsHeld (int_vector numbers.now)) }

@@ -5,7 +5,7 @@ use resb_tree::{Key, Resource};
 
 /// A line, or more, that is still to be printed. Each is given its level.
 #[derive(Clone, Copy)]
-pub(crate) enum Task<'t, 'a> {
+pub enum Task<'t, 'a> {
     /// A key and its resource.
     Entry(usize, &'t Key<'a>, &'t Resource<'a>),
     /// An item of an array.

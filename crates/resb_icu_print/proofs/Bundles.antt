@@ -1,0 +1,150 @@
+-- The text of ICU's form that a bundle is printed as is one of its name, flag and tree.
+use Rattle.std.proofs.Common.{◌≡◌, ℕ, zero, suc, ◌+◌, ◌<◌, Bool, true, false, List, [], ◌∷◌, ◌++◌}
+use Rattle.std.proofs.Common.{length, refl, sym, ◌∙◌, ap, subst, arith, Some, None, inl, inr}
+use Rattle.std.proofs.lemmas.List.{get_or_past}
+use Rattle.std.proofs.lemmas.Bool.{false≢true, and_parts}
+use Rattle.std.proofs.lemmas.Bool.Decides.{nat_tests}
+use Rattle.std.specs.Prelude.{slice_index, codes, ◌==◌}
+use Rattle.std.specs.List.Sorted.{IsStrictlySortedBy}
+use Rattle.resb_tree.specs.Tree.{Tree, table, Entries, map_of}
+use Rattle.resb_tree.specs.Maps.{text_cmp, pairs_of}
+use Rattle.resb_tree.specs.WalkOrder.{entry_keys}
+use Rattle.resb_grammar.specs.Ascii as ascii
+use Rattle.resb_grammar.specs.ByteRuns.{Run}
+use Rattle.resb_grammar.specs.BundleText.{first_places}
+use Rattle.resb_icu_grammar.specs.Bytes.{is_word}
+use Rattle.resb_icu_grammar.specs.Blanks.{Blanks, none, Skip, Begins, HasMark, without_a_mark}
+use Rattle.resb_icu_grammar.specs.Words.{Name, a_word, no_fallback_type}
+use Rattle.resb_icu_grammar.specs.Bundle.{Typing, without, with, IcuText}
+use Rattle.resb_print.specs.Printed.{root_type_on}
+use Rattle.resb_print.specs.Held.{HeldIn}
+use Rattle.resb_print.proofs.Places.{From, byte_at, over, next, at_end, inside}
+use Rattle.resb_print.proofs.Bundles.{stands}
+use Rattle.resb_print.proofs.Groups.{own_map}
+use Rattle.resb_icu_print.specs.Printed.{is_bare, are_words, entries_on, printed_icu_bundle}
+use Rattle.resb_icu_print.specs.Causes.{TakenIn}
+use Rattle.resb_icu_print.proofs.Places.{solid_byte, solid_at, no_skip, white_on}
+use Rattle.resb_icu_print.proofs.Strings.{word_read, word_each, bare_words, bare_some, words_key}
+use Rattle.resb_icu_print.proofs.Groups.{root_starts, entries_at, close_line}
+
+no_mark : (b : ℕ) → is_word b ≡ true → b ≡ 0xef → ⊥
+no_mark b h e = false≢true (sym (ap is_word e) ∙ h)
+
+bare_first : (name : List ℕ) → is_bare name ≡ true → is_word (slice_index name 0) ≡ true
+bare_first name h = word_each name (bare_words name h) 0 (bare_some name h)
+
+module _ (text : List ℕ) where
+  -- what stands between the name and the `{`
+  record TypedAt (place : ℕ) (fallback : Bool) (rest : List ℕ) : Type 0 where
+    brace : ℕ
+    typing : Typing text place brace fallback
+    opens : slice_index text brace ≡ ascii.left_brace
+    after : From text (brace + 1) rest
+
+  typed_at : (fallback : Bool) {place : ℕ} {rest : List ℕ}
+      → From text place (root_type_on fallback (ascii.left_brace ∷ rest))
+      → TypedAt place fallback rest
+  typed_at true {place} {rest} h = record {
+    brace = place;
+    typing = without refl;
+    opens = byte_at text h;
+    after = next text h;
+  }
+  typed_at false {place} {rest} h =
+      let open_brace = ascii.left_brace ∷ rest in
+      let a : From text (place + 1) (codes "table" ++ (codes "(nofallback)" ++ open_brace)) =
+      next text h in
+      let (solid, word, b) = word_read text (codes "table") 40 _ refl refl a in
+      let c : From text (place + 1 + 5 + 12) open_brace =
+      over text (codes "(nofallback)") open_brace b in
+      record {
+        brace = place + 1 + 5 + 12;
+        typing = with (place + 1 + 5 + 12) false (no_fallback_type (place + 1 + 5) (record {
+          colon = byte_at text h;
+          word = word;
+        }) (stands text (codes "(nofallback)") open_brace b) refl)
+            (no_skip text (solid_at text c refl refl));
+        opens = byte_at text c;
+        after = next text c;
+      }
+
+  -- the text of a bundle ends behind its `}`
+  end_skip : {at : ℕ} → From text at (ascii.line_feed ∷ []) → Skip text at (length text)
+  end_skip {at} h =
+      let f = next text h in
+      let e : at + 1 ≡ length text = omega (arith, at_end text f, inside text h) in
+      let z : slice_index text (length text) ≡ 0 = get_or_past text (length text) 0 (omega arith) in
+      record {
+        blanks = white_on text h refl (subst (Blanks text (at + 1)) e (none (at + 1)));
+        solid = solid_byte text (length text) 0 z refl refl;
+      }
+
+  name_run : (name : List ℕ) → is_bare name ≡ true → Run is_word name 0 (length name)
+  name_run name h = record {
+    order = omega arith;
+    fits = omega arith;
+    each = λ k low high. word_each name (bare_words name h) k high;
+    longest = ap is_word (get_or_past name (length name) 0 (omega arith));
+  }
+
+  bundle_read : (name : List ℕ) (fallback : Bool) (es : Entries) → is_bare name ≡ true
+      → IsStrictlySortedBy text_cmp (entry_keys es) → HeldIn es → TakenIn es
+      → From text 0 (printed_icu_bundle name fallback es)
+      → (keys : List (List ℕ)) × IcuText text name fallback (table es) keys
+  bundle_read name fallback es bare ascend held taken h =
+      let last = ascii.line_feed ∷ ascii.right_brace ∷ ascii.line_feed ∷ [] in
+      let s = root_starts fallback (entries_on 1 es last) in
+      let f : From text 0 (name ++ s.b ∷ s.more) =
+      subst (λ l. From text 0 (name ++ l)) s.is h in
+      let (solid, word, g) = word_read text name s.b s.more bare s.stop.no_word f in
+      let first : slice_index text 0 ≡ slice_index name 0 = name_first name (s.b ∷ s.more) f (bare_some name bare)
+      in
+      let t = typed_at fallback (subst (From text (0 + length name)) (sym s.is) g) in
+      let r = entries_at text 1 es last (t.brace + 1) (ascii.line_feed ∷ []) ascend held taken
+      (λ p e. close_line text 0 e) t.after in (
+        first_places r.keys,
+        record {
+          first = r.first;
+          last = r.to;
+          entries = pairs_of es;
+          places = r.keys;
+          header = record {
+            begin = 0;
+            start = 0;
+            ends = 0 + length name;
+            place = 0 + length name;
+            brace = t.brace;
+            begins = without_a_mark
+                (λ m. no_mark (slice_index name 0) (bare_first name bare) (sym first ∙ m.first)) refl;
+            before = no_skip text solid;
+            named = record {
+              key = a_word word (words_key name (bare_words name bare));
+              some = bare_some name bare;
+              word = name_run name bare;
+            };
+            between = no_skip text (solid_at text g s.stop.no_white s.stop.no_slash);
+            typed = t.typing;
+            opens = t.opens;
+            after = r.skip;
+          };
+          body = r.entries;
+          closes = r.brace;
+          after = end_skip r.after;
+          means = ap table (sym (own_map es ascend));
+          lists = refl;
+        },
+      )
+    where
+      name_first : (name rest : List ℕ) → From text 0 (name ++ rest) → 0 < length name
+          → slice_index text 0 ≡ slice_index name 0
+      name_first [] rest f l = absurd (omega (arith, l))
+      name_first (b ∷ name) rest f l = byte_at text f
+
+-- the text that a bundle is printed as is a text of ICU's form
+pub printed_is_icu : (name : List ℕ) (fallback : Bool) (es : Entries) → is_bare name ≡ true
+    → IsStrictlySortedBy text_cmp (entry_keys es) → HeldIn es → TakenIn es
+    → (keys : List (List ℕ))
+    × IcuText (printed_icu_bundle name fallback es) name fallback (table es) keys
+printed_is_icu name fallback es bare ascend held taken =
+    bundle_read (printed_icu_bundle name fallback es) name fallback es bare ascend held taken
+    (record { is = refl })

@@ -1,0 +1,6 @@
+pub mod Places
+pub mod Strings
+pub mod Numbers
+pub mod Groups
+pub mod Bundles
+pub mod Taken

@@ -1,0 +1,155 @@
+-- Numbers and types, as they are printed and as ICU's form reads them.
+use Rattle.std.proofs.Common.{◌≡◌, ◌≢◌, ℕ, zero, suc, ◌+◌, ◌-◌, ◌/◌, ◌%◌, ◌^◌, ◌<◌, ◌≤◌, Bool, true}
+use Rattle.std.proofs.Common.{false, List, [], ◌∷◌, ◌++◌, length, refl, sym, ◌∙◌, ap, arith}
+use Rattle.std.specs.Prelude.{slice_index, ◌==◌, decimal}
+use Rattle.std.proofs.lemmas.List.{get_or_append_left, length_push}
+use Rattle.std.proofs.lemmas.Bool.Decides.{nat_tests}
+use Rattle.std.proofs.lemmas.Fmt.{decimal_by_steps}
+use Rattle.resb_grammar.specs.Ascii as ascii
+use Rattle.resb_grammar.specs.ByteRuns.{is_white, is_digit}
+use Rattle.resb_grammar.specs.Tokens.{digits_value}
+use Rattle.resb_grammar.specs.GroupTypes.{Kind, Names}
+use Rattle.resb_icu_grammar.specs.Bytes.{is_word}
+use Rattle.resb_icu_grammar.specs.Blanks.{IsSolid, Skip}
+use Rattle.resb_icu_grammar.specs.Words.{Number, unsigned, GroupType}
+use Rattle.resb_icu_grammar.specs.Groups.{Head, Numbers, last_number, one_more, LeafContent}
+use Rattle.resb_icu_grammar.specs.Groups.{no_numbers, numbers}
+use Rattle.resb_grammar.specs.GroupTypes.{vector_kind}
+use Rattle.resb_tree.specs.Tree.{int_vector}
+use Rattle.resb_print.specs.Printed.{numbers_on, more_numbers_on}
+use Rattle.resb_print.specs.Held.{AreBelow}
+use Rattle.resb_print.proofs.Places.{From, byte_at, next, over, among, run_at}
+use Rattle.resb_print.proofs.Words.{decimal_digits}
+use Rattle.resb_icu_print.specs.Printed.{is_bare}
+use Rattle.resb_icu_print.proofs.Places.{solid_byte, solid_at, no_skip}
+use Rattle.resb_icu_print.proofs.Strings.{word_read}
+
+-- the digits of a number begin with 0 only where it is 0
+record HasNoZero (n : ℕ) (ds : List ℕ) : Type 0 where
+  some : 0 < length ds
+  low : n < 10 → length ds ≡ 1
+  first : 1 ≤ n → slice_index ds 0 ≢ 48
+
+one_digit : (n : ℕ) → n < 10 → HasNoZero n ((48 + n) ∷ [])
+one_digit n l = record {
+  some = omega arith;
+  low = λ h. refl;
+  first = λ h e. absurd (omega (arith, h, e));
+}
+
+more_digits : (n : ℕ) (ds : List ℕ) → 10 ≤ n → HasNoZero (n / 10) ds
+    → HasNoZero n (ds ++ ((48 + n % 10) ∷ []))
+more_digits n ds l h = record {
+  some = omega (arith, length_push ds (48 + n % 10));
+  low = λ i. absurd (omega (arith, i));
+  first = λ i e. h.first (omega arith)
+      (sym (get_or_append_left ds ((48 + n % 10) ∷ []) 0 0 h.some) ∙ e);
+}
+
+no_zero : (n : ℕ) → n < 2 ^ 64 → HasNoZero n (decimal n)
+no_zero = decimal_by_steps HasNoZero one_digit more_digits
+
+digit_solid : (b : ℕ) → is_digit b ≡ true → (is_white b ≡ false) × ((b == ascii.slash) ≡ false)
+digit_solid b h = (grind (arith, nat_tests), grind (arith, nat_tests))
+
+digit_word : (b : ℕ) → is_digit b ≡ true → is_word b ≡ true
+digit_word b h = grind (arith, nat_tests)
+
+no_digit : (b : ℕ) → is_word b ≡ false → is_digit b ≡ false
+no_digit b h = by (is_digit b) refl
+  where
+    by : (t : Bool) → is_digit b ≡ t → is_digit b ≡ false
+    by false e = e
+    by true e = absurd (grind (arith, nat_tests))
+
+module _ (text : List ℕ) where
+  -- a number, where no word character follows
+  pub number_read : (n : ℕ) {at : ℕ} (b : ℕ) (rest : List ℕ) → n < 2 ^ 32
+      → From text at (decimal n ++ b ∷ rest) → is_word b ≡ false
+      → IsSolid text at × ((to : ℕ) × Number text at to n × From text to (b ∷ rest))
+  number_read n {at} b rest l h other =
+      let d = decimal_digits n (omega arith) in
+      let z = no_zero n (omega arith) in
+      let s = d.some in
+      let e : at + length (decimal n) - at ≡ length (decimal n) = omega arith in
+      let o : at - at ≡ 0 = omega arith in
+      let first : slice_index text at ≡ slice_index (decimal n) 0 =
+      among text (decimal n) (b ∷ rest) at h (omega arith) (omega arith)
+      ∙ ap (slice_index (decimal n)) o in
+      let solid = digit_solid (slice_index (decimal n) 0) (d.each 0 s) in (
+        solid_byte text at (slice_index (decimal n) 0) first solid.0 solid.1,
+        (
+          at + length (decimal n),
+          unsigned n
+              (run_at text is_word (decimal n) b rest h (λ k i. digit_word (slice_index (decimal n) k) (d.each k i)) other)
+              (record {
+                digits = record {
+                  run = run_at text is_digit (decimal n) b rest h d.each (no_digit b other);
+                  some = omega arith;
+                  means = sym (d.value text at (b ∷ rest) h) ∙ ap (digits_value text at) (sym e);
+                };
+                no_zero = λ w. ap (λ k. at + k) (only n z (sym first ∙ w));
+              }) (omega arith),
+          over text (decimal n) (b ∷ rest) h,
+        ),
+      )
+    where
+      only : (n : ℕ) → HasNoZero n (decimal n) → slice_index (decimal n) 0 ≡ 48
+          → length (decimal n) ≡ 1
+      only zero z w = z.low (omega arith)
+      only (suc n) z w = absurd (z.first (omega arith) w)
+
+  -- numbers with commas between them, up to a `}`
+  numbers_read : (n : ℕ) (ns : List ℕ) {at : ℕ} (rest : List ℕ) → AreBelow (2 ^ 32) (n ∷ ns)
+      → From text at (decimal n ++ more_numbers_on ns (ascii.right_brace ∷ rest))
+      → IsSolid text at × ((to : ℕ) × Numbers text at to (n ∷ ns)
+      × From text to (ascii.right_brace ∷ rest))
+  numbers_read n [] {at} rest low h =
+      let (solid, (to, number, f)) =
+      number_read n ascii.right_brace rest (low 0 (omega arith)) h refl in
+      (solid, (to, last_number at to to n number (no_skip text (solid_at text f refl refl)), f))
+  numbers_read n (m ∷ ns) {at} rest low h =
+      let (solid, (to, number, f)) = number_read n ascii.comma _ (low 0 (omega arith)) h refl in
+      let (start, (last, more, g)) =
+      numbers_read m ns rest (λ k i. low (suc k) (omega arith)) (next text f) in (
+        solid,
+        (
+          last,
+          one_more at to to (to + 1) last n (m ∷ ns) number
+              (no_skip text (solid_at text f refl refl)) (byte_at text f) (no_skip text start) more,
+          g,
+        ),
+      )
+
+  pub vector_read : (ns : List ℕ) {at : ℕ} (rest : List ℕ) → AreBelow (2 ^ 32) ns
+      → From text at (numbers_on ns (ascii.right_brace ∷ rest))
+      → IsSolid text at
+      × ((to : ℕ) × LeafContent text at to vector_kind (int_vector ns)
+      × From text to (ascii.right_brace ∷ rest))
+  vector_read [] {at} rest low h = (solid_at text h refl refl, (at, no_numbers refl, h))
+  vector_read (n ∷ ns) {at} rest low h =
+      let (solid, (to, all, f)) = numbers_read n ns rest low h in
+      (solid, (to, numbers (n ∷ ns) all, f))
+
+  -- a type, its `{` and what is skipped behind that
+  pub head_at : (kind : Kind) (w : List ℕ) {at : ℕ} {rest : List ℕ} → Names w kind
+      → is_bare w ≡ true → From text at (ascii.colon ∷ (w ++ (ascii.left_brace ∷ rest)))
+      → (brace : ℕ) × From text (brace + 1) rest
+      × ((to : ℕ) → Skip text (brace + 1) to → Head text at kind to)
+  head_at kind w {at} {rest} names words h =
+      let (solid, word, f) = word_read text w ascii.left_brace rest words refl (next text h) in (
+        at + 1 + length w,
+        next text f,
+        λ to after. record {
+          ends = at + 1 + length w;
+          brace = at + 1 + length w;
+          named = record {
+            name = w;
+            stands = record { colon = byte_at text h; word = word };
+            names = names;
+          };
+          between = no_skip text (solid_at text f refl refl);
+          opens = byte_at text f;
+          after = after;
+        },
+      )

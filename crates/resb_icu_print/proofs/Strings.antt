@@ -1,0 +1,319 @@
+-- Strings and keys, as they are printed and as ICU's form reads them.
+use Rattle.std.proofs.Common.{◌≡◌, ◌≢◌, ℕ, zero, suc, ◌+◌, ◌-◌, ◌*◌, ◌/◌, ◌%◌, ◌<◌, ◌≤◌, Bool, true}
+use Rattle.std.proofs.Common.{false, List, [], ◌∷◌, ◌++◌, length, refl, sym, ◌∙◌, ap, arith, subst}
+use Rattle.std.proofs.Common.{append_assoc, encode_utf8}
+use Rattle.std.specs.Prelude.{slice_index, ◌==◌, cond, codes, not, ◌&&◌, ◌||◌, nat_le}
+use Rattle.std.specs.Char.{is_ascii_alphanumeric}
+use Rattle.std.specs.List.{list_any}
+use Rattle.std.proofs.lemmas.Bool.{false≢true, and_parts, and_from, or_from}
+use Rattle.std.proofs.lemmas.Bool.Decides.{nat_tests}
+use Rattle.std.proofs.lemmas.Str.{encode_ascii}
+use Rattle.hex.specs.Hex.{encode_lower, encode_with}
+use Rattle.resb_grammar.specs.Ascii as ascii
+use Rattle.resb_grammar.specs.ByteRuns.{is_white}
+use Rattle.resb_grammar.specs.Group.{is_hex, hex_value}
+use Rattle.resb_icu_grammar.specs.Bytes.{backslash, is_word, is_key_byte, are_key_bytes}
+use Rattle.resb_icu_grammar.specs.Blanks.{IsSolid}
+use Rattle.resb_icu_grammar.specs.Escapes.{Escape, itself, four_digits, are_hex, hex_number}
+use Rattle.resb_icu_grammar.specs.Escapes.{is_surrogate}
+use Rattle.resb_icu_grammar.specs.Pieces.{Inside, ends, byte, escape, Piece, Joined, last_piece}
+use Rattle.resb_icu_grammar.specs.Words.{Word, HasNoEscape, KeyText, a_word, quoted}
+use Rattle.resb_print.specs.Printed.{quoted_on}
+use Rattle.resb_print.specs.Held.{AreBelow}
+use Rattle.resb_print.specs.Quotes.{has_quote, NoQuote}
+use Rattle.resb_print.proofs.Places.{From, byte_at, next, over, inside, among, range_is, run_at}
+use Rattle.resb_print.proofs.Groups.{digit_of, reads_back, all_below, below_passes}
+use Rattle.resb_icu_print.specs.Printed.{is_control, is_marked, escaped_on, inside_on, piece_on}
+use Rattle.resb_icu_print.specs.Printed.{are_words, is_bare, key_on}
+use Rattle.resb_icu_print.proofs.Places.{byte_near, same_place, solid_at, no_skip}
+
+-- a byte behind which a string or key ends
+pub record IsStop (b : ℕ) : Type 0 where
+  pub no_word : is_word b ≡ false
+  pub no_white : is_white b ≡ false
+  pub no_slash : (b == ascii.slash) ≡ false
+  pub no_quote : b ≢ ascii.quote
+
+-- word characters may stand in keys
+word_is_key : ℕ → Bool
+word_is_key b = not (is_word b) || is_key_byte b
+
+words_are_keys : all_below word_is_key 128 ≡ true
+unfolding all_below word_is_key
+words_are_keys = refl
+
+pub word_key : (b : ℕ) → is_word b ≡ true → is_key_byte b ≡ true
+unfolding word_is_key
+word_key b h =
+    let l : b < 128 = grind (arith, nat_tests) in
+    let e = below_passes word_is_key 128 b words_are_keys l in
+    sym (ap (λ t. not t || is_key_byte b) h) ∙ e
+
+key_parts : (a b : Bool) → not (not a || b) ≡ true → (a ≡ true) × (not b ≡ true)
+key_parts true b h = (refl, h)
+key_parts false b h = absurd (false≢true h)
+
+pub key_more : (b : ℕ) (k : List ℕ) → is_key_byte b ≡ true → are_key_bytes k ≡ true
+    → are_key_bytes (b ∷ k) ≡ true
+key_more b k h t = ap (λ a. not (not a || list_any (λ b. not (is_key_byte b)) k)) h ∙ t
+
+pub words_key : (w : List ℕ) → are_words w ≡ true → are_key_bytes w ≡ true
+words_key [] h = refl
+words_key (b ∷ w) h =
+    let p = and_parts (is_word b) (are_words w) h in
+    key_more b w (word_key b p.0) (words_key w p.1)
+
+pub word_each : (s : List ℕ) → are_words s ≡ true → (k : ℕ) → k < length s
+    → is_word (slice_index s k) ≡ true
+word_each [] h k l = absurd (omega arith)
+word_each (b ∷ s) h zero l = (and_parts (is_word b) (are_words s) h).0
+word_each (b ∷ s) h (suc k) l =
+    word_each s (and_parts (is_word b) (are_words s) h).1 k (omega arith)
+
+word_solid : (b : ℕ) → is_word b ≡ true → (is_white b ≡ false) × ((b == ascii.slash) ≡ false)
+word_solid b h = (grind (arith, nat_tests), grind (arith, nat_tests))
+
+pub bare_words : (s : List ℕ) → is_bare s ≡ true → are_words s ≡ true
+bare_words [] h = refl
+bare_words (b ∷ s) h = h
+
+pub bare_some : (s : List ℕ) → is_bare s ≡ true → 0 < length s
+bare_some [] h = absurd (false≢true h)
+bare_some (b ∷ s) h = omega arith
+
+hex_word : (b : ℕ) → is_hex b ≡ true → is_word b ≡ true
+hex_word b h = grind (arith, nat_tests)
+
+-- hex digits may stand in keys
+pub hex_key : (bs : List ℕ) → AreBelow 256 bs → are_key_bytes (encode_lower bs) ≡ true
+unfolding encode_with
+hex_key [] low = refl
+hex_key (b ∷ bs) low =
+    let l : b < 256 = low 0 (omega arith) in
+    let x = reads_back (b / 16) (omega arith) in
+    let y = reads_back (b % 16) (omega arith) in
+    let high = digit_of (b / 16) in
+    let last = digit_of (b % 16) in
+    key_more high (last ∷ encode_lower bs) (word_key high (hex_word high x.hex))
+    (key_more last (encode_lower bs) (word_key last (hex_word last y.hex))
+    (hex_key bs (λ k i. low (suc k) (omega arith))))
+
+-- what may stand in a key needs no escape
+key_is_plain : ℕ → Bool
+key_is_plain b =
+    not (is_key_byte b) || ((b == ascii.quote) || (not (is_marked b) && not (is_control b)))
+
+keys_are_plain : all_below key_is_plain 128 ≡ true
+unfolding all_below key_is_plain
+keys_are_plain = refl
+
+or_parts : (a b : Bool) → (a || b) ≡ false → (a ≡ false) × (b ≡ false)
+or_parts true b h = absurd (false≢true (sym h))
+or_parts false b h = (refl, h)
+
+pub flip : (b : Bool) → not b ≡ true → b ≡ false
+flip true e = absurd (false≢true e)
+flip false e = refl
+
+key_byte_low : (b : ℕ) → is_key_byte b ≡ true → b < 128
+key_byte_low b h =
+    let p = and_parts (nat_le 32 b && nat_le b 126) _ h in
+    let q : nat_le b 126 ≡ true = (and_parts (nat_le 32 b) (nat_le b 126) p.0).1 in
+    grind (arith, nat_tests)
+
+key_byte_plain : (b : ℕ) → is_key_byte b ≡ true → (b == ascii.quote) ≡ false
+    → (is_marked b ≡ false) × (is_control b ≡ false)
+unfolding key_is_plain
+key_byte_plain b h q =
+    let e = below_passes key_is_plain 128 b keys_are_plain (key_byte_low b h) in
+    let f : not (is_marked b) && not (is_control b) ≡ true =
+    sym (ap (λ t. not t || ((b == ascii.quote) || (not (is_marked b) && not (is_control b)))) h
+    ∙ ap (λ t. t || (not (is_marked b) && not (is_control b))) q) ∙ e in
+    let p = and_parts (not (is_marked b)) (not (is_control b)) f in
+    (flip (is_marked b) p.0, flip (is_control b) p.1)
+
+pub key_plain : (k rest : List ℕ) → are_key_bytes k ≡ true → NoQuote k
+    → inside_on k rest ≡ k ++ rest
+key_plain [] rest h free = refl
+key_plain (b ∷ k) rest h free =
+    let p = key_parts (is_key_byte b) _ h in
+    let f = or_parts (b == ascii.quote) (has_quote k) free in
+    let q = key_byte_plain b p.0 f.0 in
+    rw (q.0, q.1) (ap (λ l. b ∷ l) (key_plain k rest p.1 f.1))
+
+key_no_escape : (k : List ℕ) → are_key_bytes k ≡ true → (i : ℕ)
+    → slice_index (k ++ ascii.quote ∷ []) i ≡ backslash → ⊥
+key_no_escape [] h zero e = absurd (omega (arith, e))
+key_no_escape [] h (suc i) e = absurd (omega (arith, e))
+key_no_escape (b ∷ k) h zero e =
+    false≢true (sym (ap is_key_byte e) ∙ (key_parts (is_key_byte b) _ h).0)
+key_no_escape (b ∷ k) h (suc i) e = key_no_escape k (key_parts (is_key_byte b) _ h).1 i e
+
+module _ (text : List ℕ) where
+  -- a control character by its number
+  control_read : (b : ℕ) {at : ℕ} (rest : List ℕ) → is_control b ≡ true
+      → From text at (codes "\\u00" ++ (encode_lower (b ∷ []) ++ rest))
+      → Escape text (at + 1) (at + 1 + 5) (b ∷ []) × From text (at + 1 + 5) rest
+  unfolding encode_with
+  control_read b {at} rest c h =
+      let low : b < 128 = grind (arith, nat_tests) in
+      let x = reads_back (b / 16) (omega arith) in
+      let y = reads_back (b % 16) (omega arith) in
+      let f = next text h in
+      let g = next text f in
+      let p = at + 1 in
+      let e0 : slice_index text (p + 1 + 0) ≡ 48 = byte_near text 0 g in
+      let e1 : slice_index text (p + 1 + 1) ≡ 48 = byte_near text 1 g in
+      let e2 = byte_near text 2 g in
+      let e3 = byte_near text 3 g in
+      let v0 : hex_value (slice_index text (p + 1 + 0)) ≡ 0 = ap hex_value e0 in
+      let v1 : hex_value (slice_index text (p + 1 + 1)) ≡ 0 = ap hex_value e1 in
+      let v2 : hex_value (slice_index text (p + 1 + 2)) ≡ b / 16 = ap hex_value e2 ∙ x.value in
+      let v3 : hex_value (slice_index text (p + 1 + 3)) ≡ b % 16 = ap hex_value e3 ∙ y.value in
+      let hex : are_hex text (p + 1) 4 ≡ true =
+      and_from _ _ (and_from _ _ (and_from _ _ (ap is_hex e0) (ap is_hex e1))
+      (ap is_hex e2 ∙ x.hex)) (ap is_hex e3 ∙ y.hex) in
+      let n : b ≡ hex_number text (p + 1) 4 = omega (arith, v0, v1, v2, v3) in (
+        subst (Escape text p (p + 5)) (encode_ascii b low)
+            (four_digits b (byte_at text f) hex n (grind (arith, nat_tests))
+            (λ e. false≢true (sym (ap is_control e) ∙ c))),
+        over text (117 ∷ 48 ∷ 48 ∷ slice_index (encode_lower (b ∷ [])) 0
+            ∷ slice_index (encode_lower (b ∷ [])) 1 ∷ []) rest f,
+      )
+
+  -- what stands in quotes, up to the closing one
+  pub inside_read : (s : List ℕ) {at : ℕ} {rest : List ℕ}
+      → From text at (inside_on s (ascii.quote ∷ rest))
+      → (last : ℕ) × Inside text at last s × From text last (ascii.quote ∷ rest)
+  inside_read [] {at} {rest} h = (at, ends at (byte_at text h), h)
+  inside_read (b ∷ s) {at} {rest} h =
+      by (is_marked b) (is_control b) refl refl (λ p f. inside_read s f) h
+    where
+      by : (m c : Bool) → is_marked b ≡ m → is_control b ≡ c
+          → ((p : ℕ) → From text p (inside_on s (ascii.quote ∷ rest))
+          → (last : ℕ) × Inside text p last s × From text last (ascii.quote ∷ rest))
+          → From text at (cond m (backslash ∷ b ∷ inside_on s (ascii.quote ∷ rest))
+          (cond c (codes "\\u00" ++ (encode_lower (b ∷ []) ++ inside_on s (ascii.quote ∷ rest)))
+          (b ∷ inside_on s (ascii.quote ∷ rest))))
+          → (last : ℕ) × Inside text at last (b ∷ s) × From text last (ascii.quote ∷ rest)
+      by true c m k more f =
+          let g = next text f in
+          let (last, r, q) = more (at + 1 + 1) (next text g) in
+          let e : slice_index text (at + 1) ≡ b = byte_at text g in
+          let plain : is_ascii_alphanumeric b ≡ false = grind (arith, nat_tests) in (
+            last,
+            subst (λ n. Inside text at last (n ∷ s)) e
+                (escape at (at + 1 + 1) last (slice_index text (at + 1) ∷ []) s (byte_at text f)
+                (itself (inside text g) (ap is_ascii_alphanumeric e ∙ plain)) r),
+            q,
+          )
+      by false true m k more f =
+          let (x, g) = control_read b (inside_on s (ascii.quote ∷ rest)) k f in
+          let (last, r, q) = more (at + 1 + 5) g in
+          (last, escape at (at + 1 + 5) last (b ∷ []) s (byte_at text f) x r, q)
+      by false false m k more f =
+          let (last, r, q) = more (at + 1) (next text f) in
+          let e : slice_index text at ≡ b = byte_at text f in
+          let no_quote : b ≢ ascii.quote = λ e. false≢true (sym m ∙ ap is_marked e) in
+          let no_backslash : b ≢ backslash = λ e. false≢true (sym m ∙ ap is_marked e) in (
+            last,
+            subst (λ n. Inside text at last (n ∷ s)) e
+                (byte at last s (inside text f) (λ w. no_quote (sym e ∙ w))
+                (λ w. no_backslash (sym e ∙ w)) r),
+            q,
+          )
+
+  -- a piece with no other behind it
+  pub piece_read : (s : List ℕ) {at : ℕ} (b : ℕ) (rest : List ℕ) → IsStop b
+      → From text at (piece_on s (b ∷ rest))
+      → (to : ℕ) × Joined text at to s × Piece text at to s × From text to (b ∷ rest)
+  piece_read s {at} b rest stop h =
+      let (last, r, f) = inside_read s (next text h) in
+      let g = next text f in
+      let piece : Piece text at (last + 1) s = record {
+        last = last;
+        opens = byte_at text h;
+        inside = r;
+        ends = refl;
+      } in (
+        last + 1,
+        last_piece at (last + 1) (last + 1) s piece
+            (no_skip text (solid_at text g stop.no_white stop.no_slash))
+            (λ e. stop.no_quote (sym (byte_at text g) ∙ e)),
+        piece,
+        g,
+      )
+
+  -- a piece of bytes that may stand in keys
+  pub quoted_read : (k : List ℕ) {at : ℕ} (b : ℕ) (rest : List ℕ) → IsStop b
+      → are_key_bytes k ≡ true → NoQuote k → From text at (quoted_on k (b ∷ rest))
+      → (to : ℕ) × Joined text at to k × Piece text at to k × HasNoEscape text at to
+      × From text to (b ∷ rest)
+  quoted_read k {at} b rest stop key free h =
+      let e : piece_on k (b ∷ rest) ≡ quoted_on k (b ∷ rest) =
+      ap (λ l. ascii.quote ∷ l) (key_plain k (ascii.quote ∷ b ∷ rest) key free) in
+      let (to, joined, piece, f) = piece_read k b rest stop (subst (From text at) (sym e) h) in
+      let w = k ++ ascii.quote ∷ [] in
+      let g : From text (at + 1) (w ++ (b ∷ rest)) = record {
+        is = (next text h).is ∙ sym (append_assoc k (ascii.quote ∷ []) (b ∷ rest));
+      } in
+      let same : to ≡ at + 1 + length w = same_place text f (over text w (b ∷ rest) g) in (
+        to,
+        joined,
+        piece,
+        λ j low high c.
+            no_escape w (key_no_escape k key) (b ∷ rest) g (byte_at text h) j low
+            (omega (arith, same)) c,
+        f,
+      )
+    where
+      no_escape : (w : List ℕ) → ((i : ℕ) → slice_index w i ≡ backslash → ⊥) → (more : List ℕ)
+          → From text (at + 1) (w ++ more) → slice_index text at ≡ ascii.quote → (j : ℕ) → at ≤ j
+          → j < at + 1 + length w → slice_index text j ≡ backslash → ⊥
+      no_escape w none more g first j low high c = by (j == at) refl
+        where
+          by : (t : Bool) → (j == at) ≡ t → ⊥
+          by true e =
+              let s : j ≡ at = grind (arith, nat_tests) in
+              let d : slice_index text j ≡ ascii.quote = ap (slice_index text) s ∙ first in
+              absurd (omega (arith, c, d))
+          by false e =
+              let s : at + 1 ≤ j = grind (arith, nat_tests) in
+              none (j - (at + 1)) (sym (among text w more j g s high) ∙ c)
+
+  bare_solid : (w : List ℕ) {at : ℕ} (rest : List ℕ) → is_bare w ≡ true
+      → From text at (w ++ rest) → IsSolid text at
+  bare_solid [] rest e f = absurd (false≢true e)
+  bare_solid (c ∷ w) rest e f =
+      let g = word_solid c (and_parts (is_word c) (are_words w) e).0 in
+      solid_at text f g.0 g.1
+
+  -- word characters where none follows
+  pub word_read : (w : List ℕ) {at : ℕ} (b : ℕ) (rest : List ℕ) → is_bare w ≡ true
+      → is_word b ≡ false → From text at (w ++ b ∷ rest)
+      → IsSolid text at × Word text at (at + length w) w × From text (at + length w) (b ∷ rest)
+  word_read w {at} b rest e other f = (
+    bare_solid w (b ∷ rest) e f,
+    record {
+      run = run_at text is_word w b rest f (word_each w (bare_words w e)) other;
+      some = (let l = bare_some w e in omega arith);
+      means = sym (range_is text w (b ∷ rest) f);
+    },
+    over text w (b ∷ rest) f,
+  )
+
+  -- a key
+  pub key_read : (k : List ℕ) {at : ℕ} (b : ℕ) (rest : List ℕ) → IsStop b
+      → are_key_bytes k ≡ true → NoQuote k → From text at (key_on k (b ∷ rest))
+      → IsSolid text at × ((to : ℕ) × KeyText text at to k × From text to (b ∷ rest))
+  key_read k {at} b rest stop key free h = go (is_bare k) refl h
+    where
+      go : (t : Bool) → is_bare k ≡ t
+          → From text at (cond t (k ++ b ∷ rest) (quoted_on k (b ∷ rest)))
+          → IsSolid text at × ((to : ℕ) × KeyText text at to k × From text to (b ∷ rest))
+      go true e f =
+          let (solid, word, g) = word_read k b rest e stop.no_word f in
+          (solid, (at + length k, a_word word key, g))
+      go false e f =
+          let (to, joined, piece, no_escape, g) = quoted_read k b rest stop key free f in
+          (solid_at text f refl refl, (to, quoted joined piece no_escape key, g))

@@ -1,0 +1,26 @@
+-- What the laws of printing in ICU's form say.
+use Rattle.std.specs.Prelude.{◌≡◌, ℕ, Bool, List, None}
+use Rattle.resb_tree.specs.Tree.{Tree, Entries, table}
+use Rattle.resb_icu_grammar.specs.Bundle.{IcuText}
+use Rattle.resb_print.specs.Held.{IsHeld}
+use Rattle.resb_icu_print.specs.Printed.{printed_icu_bundle}
+use Rattle.resb_icu_print.specs.Causes.{first_cause}
+
+-- no text of ICU's form has this name, flag and tree
+abbrev pub HasNoIcuText : List ℕ → Bool → Tree → Type 0
+HasNoIcuText name fallback t =
+    (text : List ℕ) (keys : List (List ℕ)) → IcuText text name fallback t keys → ⊥
+
+-- where there is no cause, the printed text is a bundle of that name, flag and tree
+abbrev pub PrintedIcuIsABundle : Type 0
+PrintedIcuIsABundle =
+    (name : List ℕ) (fallback : Bool) (es : Entries)
+    → IsHeld (table es) → first_cause name (table es) ≡ None
+    → (keys : List (List ℕ))
+    × IcuText (printed_icu_bundle name fallback es) name fallback (table es) keys
+
+-- a text of ICU's form gives no cause
+abbrev pub AnIcuTextGivesNoCause : Type 0
+AnIcuTextGivesNoCause =
+    (text name : List ℕ) (fallback : Bool) (t : Tree) (keys : List (List ℕ))
+    → IcuText text name fallback t keys → first_cause name t ≡ None

@@ -1,0 +1,16 @@
+//! Why a bundle has no text of ICU's form, whoever prints it.
+//! Where the cause stands in the bundle isn't said here.
+
+/// What keeps a bundle from having a text of ICU's form. No string does.
+#[derive(Clone, Copy, Debug, PartialEq, Eq)]
+pub enum IcuCause {
+    /// The root is no table.
+    RootIsNoTable,
+    /// The name isn't one or more ASCII letters, digits and `_ - . % +`.
+    NameIsNoWord,
+    /// A key has a byte that may not stand in one: it isn't of the printable characters of ASCII,
+    /// or is one of ``! " # $ @ [ \ ] ^ ` { | } ~``.
+    KeyHasOtherBytes,
+    /// A table stands under the key `collations` or `CollationElements`.
+    TableOfCollations,
+}

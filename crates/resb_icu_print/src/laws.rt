@@ -1,0 +1,13 @@
+//! Laws of texts printed in ICU's form, each the contract of a function that does nothing.
+//! Their statements stand in `specs/Laws`.
+ghost use Rattle.resb_icu_print.specs.Laws.{PrintedIcuIsABundle, AnIcuTextGivesNoCause};
+
+/// A tree in whose way nothing stands has a text of ICU's form.
+pub fn printed_icu_is_a_bundle()
+    ensures { PrintedIcuIsABundle }
+{}
+
+/// Nothing stands in the way of the tree of a text of ICU's form.
+pub fn an_icu_text_gives_no_cause()
+    ensures { AnIcuTextGivesNoCause }
+{}

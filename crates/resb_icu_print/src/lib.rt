@@ -1,0 +1,8 @@
+//! Prints a bundle as a text of ICU's form, which `genrb` reads too: one entry or item a line, four
+//! blanks a level. What a text is stands in `resb_icu_grammar`, and its reader in `resb_icu_text`.
+#![tactic(auto)]
+
+mod cause;
+pub mod laws;
+
+pub use cause::IcuCause;

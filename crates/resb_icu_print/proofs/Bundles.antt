@@ -1,28 +1,41 @@
 -- The text of ICU's form that a bundle is printed as is one of its name, flag and tree.
-use Rattle.std.proofs.Common.{◌≡◌, ℕ, zero, suc, ◌+◌, ◌<◌, Bool, true, false, List, [], ◌∷◌, ◌++◌}
+use Rattle.std.proofs.Common.{◌≡◌, ℕ, ◌+◌, ◌<◌, Bool, true, false, List, [], ◌∷◌, ◌++◌}
 use Rattle.std.proofs.Common.{length, refl, sym, ◌∙◌, ap, subst, arith, Some, None, inl, inr}
 use Rattle.std.proofs.lemmas.List.{get_or_past}
-use Rattle.std.proofs.lemmas.Bool.{false≢true, and_parts}
-use Rattle.std.proofs.lemmas.Bool.Decides.{nat_tests}
-use Rattle.std.specs.Prelude.{slice_index, codes, ◌==◌}
+use Rattle.std.proofs.lemmas.Bool.{false≢true}
+use Rattle.std.specs.Prelude.{slice_index, codes, not, ◌⊎◌}
+use Rattle.std.specs.String.{string_bytes}
+use Rattle.std.specs.declared.alloc.Global.{Global}
+use Rattle.std.specs.declared.string.String.{String}
 use Rattle.std.specs.List.Sorted.{IsStrictlySortedBy}
-use Rattle.resb_tree.specs.Tree.{Tree, table, Entries, map_of}
+use Rattle.resb_tree.specs.Tree.{Tree, table, Entries}
 use Rattle.resb_tree.specs.Maps.{text_cmp, pairs_of}
 use Rattle.resb_tree.specs.WalkOrder.{entry_keys}
 use Rattle.resb_grammar.specs.Ascii as ascii
 use Rattle.resb_grammar.specs.ByteRuns.{Run}
 use Rattle.resb_grammar.specs.BundleText.{first_places}
 use Rattle.resb_icu_grammar.specs.Bytes.{is_word}
-use Rattle.resb_icu_grammar.specs.Blanks.{Blanks, none, Skip, Begins, HasMark, without_a_mark}
-use Rattle.resb_icu_grammar.specs.Words.{Name, a_word, no_fallback_type}
+use Rattle.resb_icu_grammar.specs.Blanks.{Blanks, none, Skip, without_a_mark}
+use Rattle.resb_icu_grammar.specs.Words.{a_word, no_fallback_type}
 use Rattle.resb_icu_grammar.specs.Bundle.{Typing, without, with, IcuText}
 use Rattle.resb_print.specs.Printed.{root_type_on}
 use Rattle.resb_print.specs.Held.{HeldIn}
+use Rattle.resb_print.specs.Inner.Jobs.{Writes}
+use Rattle.resb_print.proofs.Steps.{writes_bytes}
 use Rattle.resb_print.proofs.Places.{From, byte_at, over, next, at_end, inside}
 use Rattle.resb_print.proofs.Bundles.{stands}
 use Rattle.resb_print.proofs.Groups.{own_map}
-use Rattle.resb_icu_print.specs.Printed.{is_bare, are_words, entries_on, printed_icu_bundle}
-use Rattle.resb_icu_print.specs.Causes.{TakenIn}
+use Rattle.resb_icu_print.specs.Printed.{is_bare, entries_on, printed_icu_bundle}
+use Rattle.resb_icu_print.specs.Causes.{TakenIn, causes_in_else, first_cause}
+use Rattle.resb_icu_print.specs.Laws.{HasNoIcuText}
+use Rattle.resb_icu_print.specs.Inner.Jobs.{ArePrinted, Refused}
+use Rattle.resb_icu_print.specs.declared.cause.IcuCause.{IcuCause}
+use Rattle.resb_icu_print.specs.declared.cause.IcuCause.TheVariants.{NameIsNoWord}
+use Rattle.resb_icu_print.specs.declared.error.IcuPrintError.{IcuPrintError}
+use Rattle.resb_icu_print.specs.declared.error.IcuPrintError.TheVariants.{OutOfMemory}
+use Rattle.resb_icu_print.specs.declared.error.IcuPrintError.TheVariants.{NotPrintable}
+use Rattle.resb_icu_print.proofs.Taken.{none_in_taken, no_cause}
+use Rattle.resb_icu_print.proofs.Steps.{missed_if, found_if}
 use Rattle.resb_icu_print.proofs.Places.{solid_byte, solid_at, no_skip, white_on}
 use Rattle.resb_icu_print.proofs.Strings.{word_read, word_each, bare_words, bare_some, words_key}
 use Rattle.resb_icu_print.proofs.Groups.{root_starts, entries_at, close_line}
@@ -148,3 +161,61 @@ pub printed_is_icu : (name : List ℕ) (fallback : Bool) (es : Entries) → is_b
 printed_is_icu name fallback es bare ascend held taken =
     bundle_read (printed_icu_bundle name fallback es) name fallback es bare ascend held taken
     (record { is = refl })
+
+-- what is written in turn is the text of the bundle
+pub written : (s0 s1 s2 s3 s4 s5 : String Global) (name own : List ℕ) (f : Bool) (es : Entries)
+    → string_bytes s0 ≡ [] → string_bytes s1 ≡ string_bytes s0 ++ name
+    → Writes s1 s2 (root_type_on f)
+    → string_bytes s3 ≡ string_bytes s2 ++ codes "{" → ArePrinted s3 s4 es
+    → string_bytes s5 ≡ string_bytes s4 ++ (ascii.line_feed ∷ ascii.right_brace ∷ ascii.line_feed ∷
+    []) → name ≡ own → string_bytes s5 ≡ printed_icu_bundle own f es
+written s0 s1 s2 s3 s4 s5 name own f es e0 e1 w2 e3 w4 e5 e =
+    let last = ascii.line_feed ∷ ascii.right_brace ∷ ascii.line_feed ∷ [] in
+    let entries = entries_on 1 es last in
+    let typed = root_type_on f (ascii.left_brace ∷ entries) in
+    e5 ∙ w4.text last ∙ writes_bytes s2 s3 (codes "{") e3 entries ∙ w2 (ascii.left_brace ∷ entries)
+    ∙ writes_bytes s0 s1 name e1 typed
+    ∙ ap (λ l. l ++ (name ++ typed)) e0
+    ∙ ap (λ n. n ++ typed) e
+
+-- and that is a text of ICU's form
+pub whole : (text own : List ℕ) (f : Bool) (es : Entries) (t : Tree) (s3 s4 : String Global)
+    → text ≡ printed_icu_bundle own f es → ArePrinted s3 s4 es → is_bare own ≡ true → t ≡ table es
+    → (keys : List (List ℕ)) × IcuText text own f t keys
+whole text own f es t s3 s4 same w bare r =
+    let (keys, b) = printed_is_icu own f es bare w.ascend w.held
+    (none_in_taken es None w.no_cause).0 in (
+      keys,
+      subst (λ (u : Tree). IcuText text own f u keys) (sym r)
+          (subst (λ w. IcuText w own f (table es) keys) (sym same) b),
+    )
+
+-- a cause is in the way of each text
+pub no_text : (name : List ℕ) (f : Bool) (t : Tree) (e : IcuPrintError)
+    → Refused e (first_cause name t) → (e ≡ OutOfMemory) ⊎ HasNoIcuText name f t
+no_text name f t e (inl h) = inl h
+no_text name f t e (inr (x, h, found)) =
+    inr (λ text keys b. none_some x (sym (no_cause text name f t keys b) ∙ found))
+  where
+    none_some : (x : IcuCause) → None ≡ Some x → ⊥
+    none_some x e = cc
+
+-- a cause in the entries is one of the bundle
+pub root_refused : (name : List ℕ) (es : Entries) (e : IcuPrintError) → is_bare name ≡ true
+    → Refused e (causes_in_else es None) → Refused e (first_cause name (table es))
+root_refused name es e bare (inl h) = inl h
+root_refused name es e bare (inr (x, h, found)) =
+    inr (
+      x,
+      h,
+      missed_if (not (is_bare name)) NameIsNoWord (causes_in_else es None) (ap not bare) ∙ found,
+    )
+
+pub name_refused : (name : List ℕ) (es : Entries) → is_bare name ≡ false
+    → Refused (NotPrintable NameIsNoWord) (first_cause name (table es))
+name_refused name es h =
+    inr (
+      NameIsNoWord,
+      refl,
+      found_if (not (is_bare name)) NameIsNoWord (causes_in_else es None) (ap not h),
+    )

@@ -4,3 +4,5 @@ pub mod Numbers
 pub mod Groups
 pub mod Bundles
 pub mod Taken
+pub mod Steps
+mod Examples

@@ -11,7 +11,7 @@ use Rattle.resb_grammar.specs.Tokens.{digits_value}
 use Rattle.resb_grammar.specs.GroupTypes.{Kind, Names}
 use Rattle.resb_icu_grammar.specs.Bytes.{is_word}
 use Rattle.resb_icu_grammar.specs.Blanks.{IsSolid, Skip}
-use Rattle.resb_icu_grammar.specs.Words.{Number, unsigned, GroupType}
+use Rattle.resb_icu_grammar.specs.Words.{Number, unsigned}
 use Rattle.resb_icu_grammar.specs.Groups.{Head, Numbers, last_number, one_more, LeafContent}
 use Rattle.resb_icu_grammar.specs.Groups.{no_numbers, numbers}
 use Rattle.resb_grammar.specs.GroupTypes.{vector_kind}

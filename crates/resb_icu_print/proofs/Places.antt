@@ -1,5 +1,5 @@
 -- What stands at a place of a text of ICU's form: blanks, and where none begin.
-use Rattle.std.proofs.Common.{◌≡◌, ℕ, zero, suc, ◌+◌, ◌<◌, ◌≤◌, true, false, List, [], ◌∷◌, length}
+use Rattle.std.proofs.Common.{◌≡◌, ℕ, zero, suc, ◌+◌, true, false, List, ◌∷◌, length}
 use Rattle.std.proofs.Common.{sym, ◌∙◌, ap, arith, refl, get_or}
 use Rattle.std.specs.Prelude.{slice_index, ◌==◌}
 use Rattle.std.proofs.lemmas.List.{get_or-drop, length-drop}
@@ -8,7 +8,7 @@ use Rattle.resb_grammar.specs.Ascii as ascii
 use Rattle.resb_grammar.specs.ByteRuns.{is_white}
 use Rattle.resb_icu_grammar.specs.Blanks.{Comment, line, block, Blanks, none, white, IsSolid, Skip}
 use Rattle.resb_print.specs.Printed.{indent_on, line_on}
-use Rattle.resb_print.proofs.Places.{From, byte_at, next, inside}
+use Rattle.resb_print.proofs.Places.{From, byte_at, next}
 
 module _ (text : List ℕ) where
   -- a byte some way behind a place

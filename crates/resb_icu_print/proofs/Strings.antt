@@ -1,13 +1,13 @@
 -- Strings and keys, as they are printed and as ICU's form reads them.
-use Rattle.std.proofs.Common.{◌≡◌, ◌≢◌, ℕ, zero, suc, ◌+◌, ◌-◌, ◌*◌, ◌/◌, ◌%◌, ◌<◌, ◌≤◌, Bool, true}
+use Rattle.std.proofs.Common.{◌≡◌, ◌≢◌, ℕ, zero, suc, ◌+◌, ◌-◌, ◌/◌, ◌%◌, ◌<◌, ◌≤◌, Bool, true}
 use Rattle.std.proofs.Common.{false, List, [], ◌∷◌, ◌++◌, length, refl, sym, ◌∙◌, ap, arith, subst}
-use Rattle.std.proofs.Common.{append_assoc, encode_utf8}
-use Rattle.std.specs.Prelude.{slice_index, ◌==◌, cond, codes, not, ◌&&◌, ◌||◌, nat_le}
+use Rattle.std.proofs.Common.{append_assoc, append-nil, encode_utf8, inl, inr}
+use Rattle.std.specs.Prelude.{slice_index, ◌==◌, cond, codes, not, ◌&&◌, ◌||◌, nat_le, nat_lt}
 use Rattle.std.specs.Char.{is_ascii_alphanumeric}
 use Rattle.std.specs.List.{list_any}
-use Rattle.std.proofs.lemmas.Bool.{false≢true, and_parts, and_from, or_from}
+use Rattle.std.proofs.lemmas.Bool.{false≢true, and_parts, and_from, or_from, cases_lt}
 use Rattle.std.proofs.lemmas.Bool.Decides.{nat_tests}
-use Rattle.std.proofs.lemmas.Str.{encode_ascii}
+use Rattle.std.proofs.lemmas.Str.{encode_ascii, inside_one}
 use Rattle.hex.specs.Hex.{encode_lower, encode_with}
 use Rattle.resb_grammar.specs.Ascii as ascii
 use Rattle.resb_grammar.specs.ByteRuns.{is_white}
@@ -15,7 +15,6 @@ use Rattle.resb_grammar.specs.Group.{is_hex, hex_value}
 use Rattle.resb_icu_grammar.specs.Bytes.{backslash, is_word, is_key_byte, are_key_bytes}
 use Rattle.resb_icu_grammar.specs.Blanks.{IsSolid}
 use Rattle.resb_icu_grammar.specs.Escapes.{Escape, itself, four_digits, are_hex, hex_number}
-use Rattle.resb_icu_grammar.specs.Escapes.{is_surrogate}
 use Rattle.resb_icu_grammar.specs.Pieces.{Inside, ends, byte, escape, Piece, Joined, last_piece}
 use Rattle.resb_icu_grammar.specs.Words.{Word, HasNoEscape, KeyText, a_word, quoted}
 use Rattle.resb_print.specs.Printed.{quoted_on}
@@ -317,3 +316,59 @@ module _ (text : List ℕ) where
       go false e f =
           let (to, joined, piece, no_escape, g) = quoted_read k b rest stop key free f in
           (solid_at text f refl refl, (to, quoted joined piece no_escape key, g))
+
+-- what is written of a text in two parts
+pub inside_append : (s t rest : List ℕ) → inside_on (s ++ t) rest ≡ inside_on s (inside_on t rest)
+inside_append [] t rest = refl
+inside_append (b ∷ s) t rest = ap (escaped_on b) (inside_append s t rest)
+
+-- a byte that is neither marked nor a control character is written as it is
+pub escaped_plain : (b : ℕ) (rest : List ℕ) → is_marked b ≡ false → is_control b ≡ false
+    → escaped_on b rest ≡ b ∷ rest
+escaped_plain b rest m c = rw (m, c) refl
+
+-- bytes that are no ASCII need no escape
+high_plain : (b : ℕ) (rest : List ℕ) → 128 ≤ b → escaped_on b rest ≡ b ∷ rest
+high_plain b rest h =
+    escaped_plain b rest
+    (or_from (b == ascii.quote) (b == backslash) (unequal 34 (omega arith)) (unequal 92 (omega arith)))
+    (grind (arith, nat_tests))
+  where
+    unequal : (n : ℕ) → n < b → (b == n) ≡ false
+    unequal n l = grind (arith, nat_tests)
+
+all_high : (w rest : List ℕ) → ((k : ℕ) → k < length w → 128 ≤ slice_index w k)
+    → inside_on w rest ≡ w ++ rest
+all_high [] rest h = refl
+all_high (b ∷ w) rest h =
+    high_plain b (inside_on w rest) (h 0 (omega arith))
+    ∙ ap (λ l. b ∷ l) (all_high w rest (λ k l. h (suc k) (omega arith)))
+
+-- a character that needs no escape
+pub plain_character : (c : ℕ) (rest : List ℕ) → is_marked c ≡ false → is_control c ≡ false
+    → inside_on (encode_utf8 c) rest ≡ encode_utf8 c ++ rest
+plain_character c rest m k = elim (cases_lt c 128) [
+  | inl small ↦
+      ap (λ l. inside_on l rest) (encode_ascii c small) ∙ escaped_plain c rest m k
+      ∙ ap (λ l. l ++ rest) (sym (encode_ascii c small))
+  | inr big ↦ all_high (encode_utf8 c) rest (high big)
+]
+  where
+    high : 128 ≤ c → (k : ℕ) → k < length (encode_utf8 c) → 128 ≤ slice_index (encode_utf8 c) k
+    high big k below = elim (cases_lt (slice_index (encode_utf8 c) k) 128) [
+      | inl low ↦
+          let e = inside_one c [] (encode_utf8 c) k (sym (append-nil (encode_utf8 c))) below low in
+          absurd (omega (arith, big, low, e))
+      | inr h ↦ h
+    ]
+
+-- what tests of a character told
+pub unequal_to : (b n : ℕ) → (b ≡ n → ⊥) → (b == n) ≡ false
+unequal_to b n h = by (b == n) refl
+  where
+    by : (t : Bool) → (b == n) ≡ t → (b == n) ≡ false
+    by false e = e
+    by true e = let f : b ≡ n = grind (arith, nat_tests) in absurd (h f)
+
+pub no_control : (b : ℕ) → 32 ≤ b → (b ≡ 127 → ⊥) → is_control b ≡ false
+no_control b l h = or_from (nat_lt b 32) (b == 127) (grind (arith, nat_tests)) (unequal_to b 127 h)

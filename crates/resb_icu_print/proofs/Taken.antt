@@ -1,11 +1,11 @@
 -- The keys that a text of ICU's form gives may be keys, and no table stands under one of collations.
-use Rattle.std.proofs.Common.{◌≡◌, ◌≢◌, ℕ, ◌+◌, ◌-◌, ◌≤◌, ◌<◌, Bool, true, false, List, [], ◌∷◌, ◌++◌}
-use Rattle.std.proofs.Common.{refl, sym, ◌∙◌, ap, length, arith, zero, suc, subst}
-use Rattle.std.proofs.Common.{Ordering, Less, Equal, Greater, Option, Some, None, drop}
-use Rattle.std.specs.Prelude.{slice_index, slice_range, cond, not, ◌&&◌, ◌||◌, ◌==◌}
+use Rattle.std.proofs.Common.{◌≡◌, ◌≢◌, ℕ, ◌+◌, ◌-◌, ◌≤◌, ◌<◌, Bool, true, false, List, [], ◌∷◌}
+use Rattle.std.proofs.Common.{refl, sym, ◌∙◌, ap, length, arith, suc, subst}
+use Rattle.std.proofs.Common.{Ordering, Less, Equal, Greater, Option, None, drop}
+use Rattle.std.specs.Prelude.{slice_index, slice_range, not, ◌==◌}
 use Rattle.std.specs.Cmp.Lexicographic.{same_text, texts_ties}
 use Rattle.std.specs.Ordering.{match_ordering, is_eq}
-use Rattle.std.proofs.lemmas.Bool.{false≢true, and_from, or_from, and_parts}
+use Rattle.std.proofs.lemmas.Bool.{false≢true, and_from, or_from}
 use Rattle.std.proofs.lemmas.Bool.Decides.{nat_tests}
 use Rattle.std.proofs.lemmas.List.{length-take, get_or-take, get_or-drop}
 use Rattle.resb_tree.specs.Tree.{Tree, string, array, table, binary, integer, int_vector, Trees}
@@ -13,7 +13,6 @@ use Rattle.resb_tree.specs.Tree.{no_trees, more_trees, Entries, no_entries, entr
 use Rattle.resb_tree.specs.Tree.{put_all, map_of}
 use Rattle.resb_tree.specs.Maps.{text_cmp}
 use Rattle.resb_grammar.specs.Ascii as ascii
-use Rattle.resb_grammar.specs.ByteRuns.{Run}
 use Rattle.resb_grammar.specs.GroupTypes.{Kind}
 use Rattle.resb_icu_grammar.specs.Bytes.{is_word, are_key_bytes, backslash}
 use Rattle.resb_icu_grammar.specs.Escapes.{Escape, itself, line_feed, carriage_return, tab}
@@ -87,8 +86,11 @@ inside_free text at to s (byte _ _ bytes l q b r) none =
     free_more (slice_index text at) bytes q
     (inside_free text (at + 1) to bytes r (λ k low high. none k (omega (arith, low)) high))
 inside_free text at to s (escape _ next _ first bytes e x r) none =
-    absurd (none at (omega arith) (omega (arith, escape_order text (at + 1) next first x,
-    inside_order text next to bytes r)) e)
+    absurd (none at (omega arith) (omega (
+      arith,
+      escape_order text (at + 1) next first x,
+      inside_order text next to bytes r,
+    )) e)
 
 key_taken : (text : List ℕ) (from to : ℕ) (k : List ℕ) → KeyText text from to k
     → is_icu_key k ≡ true

@@ -3,3 +3,4 @@
 pub mod Printed
 pub mod Causes
 pub mod Laws
+pub mod Inner

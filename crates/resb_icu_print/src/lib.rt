@@ -3,6 +3,13 @@
 #![tactic(auto)]
 
 mod cause;
+mod error;
+mod keys;
 pub mod laws;
+mod pieces;
+mod print;
+mod step;
 
 pub use cause::IcuCause;
+pub use error::IcuPrintError;
+pub use print::print_icu_text;

@@ -13,7 +13,7 @@ use crate::place::Place;
 use std::alloc::AllocError;
 
 /// Whether the text holds a quote.
-pub(crate) fn has_quote(text: &str) -> bool
+pub fn has_quote(text: &str) -> bool
     ensures { result ≡ quotes.has_quote text.now }
 {
     for byte in text.as_bytes() {

@@ -78,7 +78,12 @@ fn push_string(out: &mut String, place: Place, text: &str) -> Result<(), AllocEr
 }
 
 /// Writes bytes as hex digits.
-pub fn push_bytes(alloc: Global, out: &mut String, place: Place, bytes: &[u8]) -> Result<(), AllocError>
+pub fn push_bytes(
+    alloc: Global,
+    out: &mut String,
+    place: Place,
+    bytes: &[u8],
+) -> Result<(), AllocError>
     ensures written { OnOk result (Writes out.old out.new (tree_on place 0 (binary bytes.now))) }
     ensures held { OnOk result (IsHeld (binary bytes.now)) }
 {

@@ -1,0 +1,76 @@
+use Rattle.std.proofs.Common.{rules, ◌≡◌, ◌∙◌, true, false, sym, ap, subst}
+use Rattle.std.specs.String.{string_bytes}
+use Rattle.std.proofs.lemmas.Result.{err_from_is_err_and}
+use Rattle.resb_tree.specs.Tree.{Tree, table}
+use Rattle.resb_tree.specs.Bundle.{name_of, root_of}
+use Rattle.resb_tree.specs.View.{tree_of, entries_view}
+use Rattle.resb_tree.specs.declared.resource.Resource.{the_lemmas}
+use Rattle.resb_icu_print.specs.declared.cause.IcuCause.TheVariants.{NameIsNoWord}
+use Rattle.resb_icu_print.specs.declared.error.IcuPrintError.TheVariants.{NotPrintable}
+use Rattle.resb_icu_print.specs.Printed.{is_bare}
+use Rattle.resb_icu_print.specs.Causes.{first_cause}
+use Rattle.resb_icu_print.specs.Inner.Jobs.{Refused}
+use Rattle.resb_icu_print.proofs.Bundles.{written, whole, no_text, root_refused, name_refused}
+use Rattle.resb_icu_print.proofs.print.print_icu_text.Goals as goal
+
+pub returns-then-not-is_bare-clause-none : goal.returns-then-not-is_bare-clause-none
+returns-then-not-is_bare-clause-none c =
+    let es = entries_view c.in-Table.table.entries in
+    let e : tree_of c.root.result.now ≡ table es = search (rules, the_lemmas) in
+    let r : root_of c.args.bundle.now ≡ table es = sym c.root.ensures.tree ∙ e in
+    let own = name_of c.args.bundle.now in
+    let q : is_bare own ≡ false =
+    ap is_bare (sym c.name-name.ensures) ∙ sym c.is_bare.ensures ∙ c.if-not-is_bare.true in
+    no_text own c.args.bundle.now.is_locale_fallback_enabled (root_of c.args.bundle.now)
+    (NotPrintable NameIsNoWord)
+    (subst (λ (t : Tree). Refused (NotPrintable NameIsNoWord) (first_cause own t)) (sym r)
+    (name_refused own es q))
+
+pub returns-in_err-push_lines-clause-none : goal.returns-in_err-push_lines-clause-none
+returns-in_err-push_lines-clause-none c =
+    let es = entries_view c.in-Table.table.entries in
+    let e : tree_of c.root.result.now ≡ table es = search (rules, the_lemmas) in
+    let r : root_of c.args.bundle.now ≡ table es = sym c.root.ensures.tree ∙ e in
+    let own = name_of c.args.bundle.now in
+    let q : is_bare own ≡ true =
+    ap is_bare (sym c.name-name.ensures) ∙ sym c.is_bare.ensures ∙ c.if-not-is_bare.false in
+    let x = c.in_err-push_lines.field-0.0 in
+    let p = err_from_is_err_and c.from_residual-in_err-push_lines.result
+    c.from_residual-in_err-push_lines.ensures.1 in
+    rw (p.1, p.2)
+    (no_text own c.args.bundle.now.is_locale_fallback_enabled (root_of c.args.bundle.now) x
+    (subst (λ (t : Tree). Refused x (first_cause own t)) (sym r)
+    (root_refused own es x q c.in_err-push_lines.ensures.err)))
+
+pub returns-clause-text : goal.returns-clause-text
+returns-clause-text c =
+    let es = entries_view c.in-Table.table.entries in
+    let e : tree_of c.root.result.now ≡ table es = search (rules, the_lemmas) in
+    let r : root_of c.args.bundle.now ≡ table es = sym c.root.ensures.tree ∙ e in
+    let own = name_of c.args.bundle.now in
+    let q : is_bare own ≡ true =
+    ap is_bare (sym c.name-name.ensures) ∙ sym c.is_bare.ensures ∙ c.if-not-is_bare.false in
+    let flag = c.args.bundle.now.is_locale_fallback_enabled in
+    let same = written c.new-out.result c.push_str.new.self c.push_root_type.new.out
+    c.push_str-2.new.self c.push_lines.new.out c.push_str-3.new.self c.name-name.result.now own flag
+    es c.new-out.ensures.bytes c.in_ok-push_str.ensures.bytes c.in_ok-push_root_type.ensures
+    c.in_ok-push_str-2.ensures.bytes c.in_ok-push_lines.ensures.ok c.in_ok-push_str-3.ensures.bytes
+    c.name-name.ensures in
+    whole (string_bytes c.push_str-3.new.self) own flag es (root_of c.args.bundle.now)
+    c.push_str-2.new.self c.push_lines.new.out same c.in_ok-push_lines.ensures.ok q r
+
+pub returns-clause-exact : goal.returns-clause-exact
+returns-clause-exact c =
+    let es = entries_view c.in-Table.table.entries in
+    let e : tree_of c.root.result.now ≡ table es = search (rules, the_lemmas) in
+    let own = name_of c.args.bundle.now in
+    record {
+      entries = es;
+      root = sym c.root.ensures.tree ∙ e;
+      is = written c.new-out.result c.push_str.new.self c.push_root_type.new.out
+          c.push_str-2.new.self c.push_lines.new.out c.push_str-3.new.self c.name-name.result.now
+          own c.args.bundle.now.is_locale_fallback_enabled es c.new-out.ensures.bytes
+          c.in_ok-push_str.ensures.bytes c.in_ok-push_root_type.ensures
+          c.in_ok-push_str-2.ensures.bytes c.in_ok-push_lines.ensures.ok
+          c.in_ok-push_str-3.ensures.bytes c.name-name.ensures;
+    }

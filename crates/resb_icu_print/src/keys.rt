@@ -1,0 +1,91 @@
+//! What may be a name or a key of ICU's form, and what may not stand under a key.
+//! How a key is printed stands in `pieces`.
+ghost use Rattle.std.specs.Prelude.{◌≡◌};
+ghost use Rattle.resb_tree.specs.View.{tree_of};
+ghost use Rattle.resb_icu_grammar.specs.Bytes as bytes;
+ghost use Rattle.resb_icu_grammar.specs.Groups as groups;
+ghost use Rattle.resb_icu_print.specs.Printed as printed;
+ghost use Rattle.resb_icu_print.specs.Causes as causes;
+
+use resb_print::has_quote;
+use resb_tree::Resource;
+
+/// Whether a byte may stand in a word.
+fn is_word(b: u8) -> bool
+    ensures { result ≡ bytes.is_word b }
+{
+    b.is_ascii_alphanumeric() || b == b'_' || b == b'.' || b == b'%' || b == b'-' || b == b'+'
+}
+
+/// Whether the bytes are word characters.
+fn are_words(bytes: &[u8]) -> bool
+    ensures { result ≡ printed.are_words bytes.now }
+{
+    for byte in bytes {
+        if !is_word(*byte) {
+            return false;
+        }
+    }
+    true
+}
+
+/// Whether a text is a word.
+pub(crate) fn is_bare(text: &str) -> bool
+    ensures { result ≡ printed.is_bare text.now }
+{
+    !text.is_empty() && are_words(text.as_bytes())
+}
+
+/// Whether a byte may stand in a key.
+fn is_key_byte(b: u8) -> bool
+    ensures { result ≡ bytes.is_key_byte b }
+{
+    match b {
+        b'!' | b'#' | b'$' | b'@' | b'[' | b'\\' | b']' | b'^' | b'`' | b'{' | b'|' | b'}' | b'~' =>
+            false,
+        _ => b >= 32 && b <= 126,
+    }
+}
+
+/// Whether each byte may stand in a key.
+fn are_key_bytes(text: &[u8]) -> bool
+    ensures { result ≡ bytes.are_key_bytes text.now }
+{
+    for b in text {
+        if !is_key_byte(*b) {
+            return false;
+        }
+    }
+    true
+}
+
+/// Whether a text may be a key.
+pub(crate) fn is_key(text: &str) -> bool
+    ensures { result ≡ causes.is_icu_key text.now }
+{
+    are_key_bytes(text.as_bytes()) && !has_quote(text)
+}
+
+/// Whether a key's table holds rules of collation.
+fn is_collation(key: &str) -> bool
+    ensures { result ≡ groups.is_collation key.now }
+{
+    key == "collations" || key == "CollationElements"
+}
+
+/// Whether a resource is a table.
+fn is_table(resource: &Resource<'_>) -> bool
+    ensures { result ≡ groups.is_table (tree_of resource.now) }
+{
+    match resource {
+        Resource::Table(_) => true,
+        _ => false,
+    }
+}
+
+/// Whether a table stands under a key whose tables hold rules of collation.
+pub(crate) fn has_collation(key: &str, resource: &Resource<'_>) -> bool
+    ensures { result ≡ causes.has_collation key.now (tree_of resource.now) }
+{
+    is_collation(key) && is_table(resource)
+}

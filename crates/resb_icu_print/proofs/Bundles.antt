@@ -110,7 +110,8 @@ module _ (text : List ℕ) where
       let f : From text 0 (name ++ s.b ∷ s.more) =
       subst (λ l. From text 0 (name ++ l)) s.is h in
       let (solid, word, g) = word_read text name s.b s.more bare s.stop.no_word f in
-      let first : slice_index text 0 ≡ slice_index name 0 = name_first name (s.b ∷ s.more) f (bare_some name bare)
+      let first : slice_index text 0 ≡ slice_index name 0 =
+      name_first name (s.b ∷ s.more) f (bare_some name bare)
       in
       let t = typed_at fallback (subst (From text (0 + length name)) (sym s.is) g) in
       let r = entries_at text 1 es last (t.brace + 1) (ascii.line_feed ∷ []) ascend held taken
@@ -128,7 +129,8 @@ module _ (text : List ℕ) where
             place = 0 + length name;
             brace = t.brace;
             begins = without_a_mark
-                (λ m. no_mark (slice_index name 0) (bare_first name bare) (sym first ∙ m.first)) refl;
+                (λ m. no_mark (slice_index name 0) (bare_first name bare) (sym first ∙ m.first))
+                refl;
             before = no_skip text solid;
             named = record {
               key = a_word word (words_key name (bare_words name bare));

@@ -81,7 +81,8 @@ module _ (text : List ℕ) where
         (
           at + length (decimal n),
           unsigned n
-              (run_at text is_word (decimal n) b rest h (λ k i. digit_word (slice_index (decimal n) k) (d.each k i)) other)
+              (run_at text is_word (decimal n) b rest h
+              (λ k i. digit_word (slice_index (decimal n) k) (d.each k i)) other)
               (record {
                 digits = record {
                   run = run_at text is_digit (decimal n) b rest h d.each (no_digit b other);

@@ -177,7 +177,8 @@ pub fewer_left : (now new : String Global) (js ks ls : List Job) (j : Job) → l
 fewer_left now new js ks ls j e d =
     omega (arith, d.fewer, ap jobs_turns e, fold_push add_turns js j 0)
 
-pub refused : (js ls : List Job) (j : Job) (es : Entries) (old now : String Global) (e : IcuPrintError)
+pub refused : (js ls : List Job) (j : Job) (es : Entries) (old now : String Global)
+    (e : IcuPrintError)
     → ls ≡ js ++ j ∷ [] → IsUnderWay old now ls es → Refuses e (job_cause j)
     → Refused e (causes_in_else es None)
 refused js ls j es old now e f u (inl h) = inl h

@@ -331,7 +331,8 @@ escaped_plain b rest m c = rw (m, c) refl
 high_plain : (b : ℕ) (rest : List ℕ) → 128 ≤ b → escaped_on b rest ≡ b ∷ rest
 high_plain b rest h =
     escaped_plain b rest
-    (or_from (b == ascii.quote) (b == backslash) (unequal 34 (omega arith)) (unequal 92 (omega arith)))
+    (or_from (b == ascii.quote) (b == backslash) (unequal 34 (omega arith))
+    (unequal 92 (omega arith)))
     (grind (arith, nat_tests))
   where
     unequal : (n : ℕ) → n < b → (b == n) ≡ false

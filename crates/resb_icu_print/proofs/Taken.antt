@@ -1,4 +1,5 @@
--- The keys that a text of ICU's form gives may be keys, and no table stands under one of collations.
+-- What a text of ICU's form gives as keys may be keys, and no table stands under one of
+-- collations.
 use Rattle.std.proofs.Common.{◌≡◌, ◌≢◌, ℕ, ◌+◌, ◌-◌, ◌≤◌, ◌<◌, Bool, true, false, List, [], ◌∷◌}
 use Rattle.std.proofs.Common.{refl, sym, ◌∙◌, ap, length, arith, suc, subst}
 use Rattle.std.proofs.Common.{Ordering, Less, Equal, Greater, Option, None, drop}

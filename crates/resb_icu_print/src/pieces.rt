@@ -1,5 +1,5 @@
 //! Keys and strings of a text printed in ICU's form.
-//! What a resource is made of stands in `step`; numbers and ends of lines are those of `resb_print`.
+//! What a resource is made of stands in `step`. Numbers are those of `resb_print`.
 ghost use Rattle.std.specs.Prelude.{◌≡◌, ◌++◌, ◌∷◌, [], OnOk, codes, encode_utf8};
 ghost use Rattle.hex.specs.Hex.{encode_lower};
 ghost use Rattle.resb_print.specs.Inner.Jobs.{Writes};

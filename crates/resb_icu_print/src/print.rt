@@ -36,8 +36,8 @@ fn push_lines(alloc: Global, out: &mut String, table: &Table<'_>) -> Result<(), 
 /// by four blanks a level up to 32 levels. Keys stand without quotes where they may, strings always
 /// in quotes, `"` and `\` in them behind a backslash, and control characters as `\u00` and two hex
 /// digits. No text is given where none of this form has the name, flag and tree: where the root is
-/// no table, the name is no word, a key has a character that may not stand in one, or a table stands
-/// under `collations` or `CollationElements`; the first of these in the order of the text is
+/// no table, the name is no word, a key has a character that may not stand in one, or a table
+/// stands under `collations` or `CollationElements`; the first of these in the order of the text is
 /// answered. Want of memory may come before any of them.
 pub fn print_icu_text(alloc: Global, bundle: &ResourceBundle<'_>) -> Result<String, IcuPrintError>
     ensures text { IfOk result (λ text. (keys : List (List ℕ)) × IcuText (string_bytes text)

@@ -1,5 +1,5 @@
-//! One line of a text printed in ICU's form, and the lines that it leaves to be printed. No function
-//! calls itself. The tasks are those of `resb_print`.
+//! One line of a text printed in ICU's form, and the lines that it leaves to be printed. The tasks
+//! are those of `resb_print`. No function calls itself.
 ghost use Rattle.std.specs.Prelude.{◌≡◌, ◌++◌, ◌*◌, map, reverse, OnOk, IfErr, ℕ, List};
 ghost use Rattle.resb_tree.specs.Tree.{array, table as table_with};
 ghost use Rattle.resb_tree.specs.View.{tree_of, items_view, entries_view};

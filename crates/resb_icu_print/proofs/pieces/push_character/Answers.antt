@@ -15,5 +15,5 @@ returns c =
     let k : is_control c.args.c ≡ false =
     no_control c.args.c (omega (arith, c.if-code-lt32.false)) c.if-code-eq127.false in
     λ rest.
-    writes_bytes c.args.out.now c.push-2.new.self (encode_utf8 c.args.c) c.in_ok-push-2.ensures.bytes
-    rest ∙ ap (λ l. string_bytes c.args.out.now ++ l) (sym (plain_character c.args.c rest m k))
+    writes_bytes c.args.out.now c.push-2.new.self (encode_utf8 c.args.c)
+    c.in_ok-push-2.ensures.bytes rest ∙ ap (λ l. string_bytes c.args.out.now ++ l) (sym (plain_character c.args.c rest m k))

@@ -5,4 +5,5 @@ pub mod Groups
 pub mod Bundles
 pub mod Taken
 pub mod Steps
+pub mod Sizes
 mod Examples

@@ -1,10 +1,11 @@
 -- What the laws of printing in ICU's form say.
-use Rattle.std.specs.Prelude.{◌≡◌, ℕ, Bool, List, None}
+use Rattle.std.specs.Prelude.{◌≡◌, ◌≤◌, ℕ, Bool, List, None, length}
 use Rattle.resb_tree.specs.Tree.{Tree, Entries, table}
 use Rattle.resb_icu_grammar.specs.Bundle.{IcuText}
 use Rattle.resb_print.specs.Held.{IsHeld}
 use Rattle.resb_icu_print.specs.Printed.{printed_icu_bundle}
 use Rattle.resb_icu_print.specs.Causes.{first_cause}
+use Rattle.resb_icu_print.specs.Sizes.{icu_text_limit}
 
 -- no text of ICU's form has this name, flag and tree
 abbrev pub HasNoIcuText : List ℕ → Bool → Tree → Type 0
@@ -24,3 +25,10 @@ abbrev pub AnIcuTextGivesNoCause : Type 0
 AnIcuTextGivesNoCause =
     (text name : List ℕ) (fallback : Bool) (t : Tree) (keys : List (List ℕ))
     → IcuText text name fallback t keys → first_cause name t ≡ None
+
+-- the printed text of a bundle is not longer than its limit, which is linear in what the bundle
+-- holds
+abbrev pub PrintedIcuIsLinear : Type 0
+PrintedIcuIsLinear =
+    (name : List ℕ) (fallback : Bool) (es : Entries) → IsHeld (table es)
+    → length (printed_icu_bundle name fallback es) ≤ icu_text_limit name (table es)

@@ -2,5 +2,6 @@
 -- and the laws.
 pub mod Printed
 pub mod Causes
+pub mod Sizes
 pub mod Laws
 pub mod Inner

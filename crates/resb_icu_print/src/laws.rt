@@ -1,6 +1,7 @@
 //! Laws of texts printed in ICU's form, each the contract of a function that does nothing.
 //! Their statements stand in `specs/Laws`.
 ghost use Rattle.resb_icu_print.specs.Laws.{PrintedIcuIsABundle, AnIcuTextGivesNoCause};
+ghost use Rattle.resb_icu_print.specs.Laws.{PrintedIcuIsLinear};
 
 /// A tree in whose way nothing stands has a text of ICU's form.
 pub fn printed_icu_is_a_bundle()
@@ -10,4 +11,10 @@ pub fn printed_icu_is_a_bundle()
 /// Nothing stands in the way of the tree of a text of ICU's form.
 pub fn an_icu_text_gives_no_cause()
     ensures { AnIcuTextGivesNoCause }
+{}
+
+/// The text of a bundle has at most 270 bytes for each resource, the bytes of the name and keys, six
+/// for each byte of a string, two for each byte of a binary, and eleven for each number of a vector.
+pub fn printed_icu_is_linear()
+    ensures { PrintedIcuIsLinear }
 {}

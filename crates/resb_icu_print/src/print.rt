@@ -1,6 +1,6 @@
 //! Prints a bundle as a text of ICU's form: its name, its root's type and the lines of its entries.
 //! What one line is stands in `step`, what it is made of in `pieces`.
-ghost use Rattle.std.specs.Prelude.{◌≡◌, ◌⊎◌, ℕ, List, Bool, IfOk, IfErr, OnOk, None};
+ghost use Rattle.std.specs.Prelude.{◌≡◌, ◌≤◌, ◌⊎◌, ℕ, List, Bool, IfOk, IfErr, OnOk, None, length};
 ghost use Rattle.std.specs.String.{string_bytes};
 ghost use Rattle.resb_tree.specs.Bundle.{name_of, root_of};
 ghost use Rattle.resb_tree.specs.View.{entries_view};
@@ -8,6 +8,7 @@ ghost use Rattle.resb_icu_grammar.specs.Bundle.{IcuText};
 ghost use Rattle.resb_icu_print.specs.Causes.{causes_in_else, first_cause};
 ghost use Rattle.resb_icu_print.specs.Laws.{HasNoIcuText};
 ghost use Rattle.resb_icu_print.specs.Printed.{IsIcuBundleText};
+ghost use Rattle.resb_icu_print.specs.Sizes.{icu_text_limit};
 ghost use Rattle.resb_icu_print.specs.Inner.Jobs.{ArePrinted, Refused};
 
 use crate::cause::IcuCause;
@@ -39,11 +40,15 @@ fn push_lines(alloc: Global, out: &mut String, table: &Table<'_>) -> Result<(), 
 /// no table, the name is no word, a key has a character that may not stand in one, or a table
 /// stands under `collations` or `CollationElements`; the first of these in the order of the text is
 /// answered. Want of memory may come before any of them.
+/// The text has at most 270 bytes for each resource, the bytes of the name and keys, six for each
+/// byte of a string, two for each byte of a binary, and eleven for each number of a vector.
 pub fn print_icu_text(alloc: Global, bundle: &ResourceBundle<'_>) -> Result<String, IcuPrintError>
     ensures text { IfOk result (λ text. (keys : List (List ℕ)) × IcuText (string_bytes text)
         (name_of bundle.now) bundle.now.is_locale_fallback_enabled (root_of bundle.now) keys) }
     ensures exact { IfOk result (λ text. IsIcuBundleText (string_bytes text)
         (name_of bundle.now) bundle.now.is_locale_fallback_enabled (root_of bundle.now)) }
+    ensures size { IfOk result (λ text. length (string_bytes text)
+        ≤ icu_text_limit (name_of bundle.now) (root_of bundle.now)) }
     ensures refusal { IfErr result (λ e.
         Refused e (first_cause (name_of bundle.now) (root_of bundle.now))) }
     ensures none { IfErr result (λ e. (e ≡ IcuPrintError.OutOfMemory)

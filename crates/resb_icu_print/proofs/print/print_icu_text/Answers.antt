@@ -11,6 +11,7 @@ use Rattle.resb_icu_print.specs.Printed.{is_bare}
 use Rattle.resb_icu_print.specs.Causes.{first_cause}
 use Rattle.resb_icu_print.specs.Inner.Jobs.{Refused}
 use Rattle.resb_icu_print.proofs.Bundles.{written, whole, no_text, root_refused, name_refused}
+use Rattle.resb_icu_print.proofs.Sizes.{printed_within}
 use Rattle.resb_icu_print.proofs.print.print_icu_text.Goals as goal
 
 pub returns-then-not-is_bare-clause-none : goal.returns-then-not-is_bare-clause-none
@@ -74,3 +75,17 @@ returns-clause-exact c =
           c.in_ok-push_str-2.ensures.bytes c.in_ok-push_lines.ensures.ok
           c.in_ok-push_str-3.ensures.bytes c.name-name.ensures;
     }
+
+pub returns-clause-size : goal.returns-clause-size
+returns-clause-size c =
+    let es = entries_view c.in-Table.table.entries in
+    let e : tree_of c.root.result.now ≡ table es = search (rules, the_lemmas) in
+    let own = name_of c.args.bundle.now in
+    let flag = c.args.bundle.now.is_locale_fallback_enabled in
+    let same = written c.new-out.result c.push_str.new.self c.push_root_type.new.out
+    c.push_str-2.new.self c.push_lines.new.out c.push_str-3.new.self c.name-name.result.now own flag
+    es c.new-out.ensures.bytes c.in_ok-push_str.ensures.bytes c.in_ok-push_root_type.ensures
+    c.in_ok-push_str-2.ensures.bytes c.in_ok-push_lines.ensures.ok c.in_ok-push_str-3.ensures.bytes
+    c.name-name.ensures in
+    printed_within (string_bytes c.push_str-3.new.self) own flag es (root_of c.args.bundle.now) same
+    c.in_ok-push_lines.ensures.ok.held (sym c.root.ensures.tree ∙ e)

@@ -26,9 +26,9 @@ use Rattle.resb_print.proofs.Places.{From, byte_at, over, next, at_end, inside}
 use Rattle.resb_print.proofs.Bundles.{stands}
 use Rattle.resb_print.proofs.Groups.{own_map}
 use Rattle.resb_icu_print.specs.Printed.{is_bare, entries_on, printed_icu_bundle}
-use Rattle.resb_icu_print.specs.Causes.{TakenIn, causes_in_else, first_cause}
+use Rattle.resb_icu_print.specs.Causes.{TakenIn, causes_in_else, first_cause, Refused}
 use Rattle.resb_icu_print.specs.Laws.{HasNoIcuText}
-use Rattle.resb_icu_print.specs.Inner.Jobs.{ArePrinted, Refused}
+use Rattle.resb_icu_print.specs.Inner.Jobs.{ArePrinted}
 use Rattle.resb_icu_print.specs.declared.cause.IcuCause.{IcuCause}
 use Rattle.resb_icu_print.specs.declared.cause.IcuCause.TheVariants.{NameIsNoWord}
 use Rattle.resb_icu_print.specs.declared.error.IcuPrintError.{IcuPrintError}

@@ -27,9 +27,9 @@ use Rattle.resb_icu_print.specs.declared.error.IcuPrintError.{IcuPrintError}
 use Rattle.resb_icu_print.specs.declared.error.IcuPrintError.TheVariants.{NotPrintable}
 use Rattle.resb_icu_print.specs.Printed.{tree_on, trees_on, entries_on}
 use Rattle.resb_icu_print.specs.Causes.{is_icu_key, has_collation, cause_if, key_cause_else}
-use Rattle.resb_icu_print.specs.Causes.{cause_else, causes_else, causes_in_else}
+use Rattle.resb_icu_print.specs.Causes.{cause_else, causes_else, causes_in_else, Refused}
 use Rattle.resb_icu_print.specs.Inner.Jobs.{job_on, jobs_on, job_cause, jobs_cause, DoesTree}
-use Rattle.resb_icu_print.specs.Inner.Jobs.{DoesJob, IsUnderWay, Refuses, Refused}
+use Rattle.resb_icu_print.specs.Inner.Jobs.{DoesJob, IsUnderWay, Refuses}
 
 -- the entries of a table
 pub entries_text : (n : ℕ) (js : List Job) (ps : List (List ℕ × Tree)) (rest : List ℕ)

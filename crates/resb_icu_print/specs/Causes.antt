@@ -1,6 +1,6 @@
 -- What keeps a bundle from having a text of ICU's form: its root, its name, a key, or a table under
 -- a key of collations. No string does.
-use Rattle.std.specs.Prelude.{◌≡◌, ◌&&◌, not, ℕ, Bool, true, false, List, Option, Some}
+use Rattle.std.specs.Prelude.{◌≡◌, ◌⊎◌, ◌&&◌, not, ℕ, Bool, true, false, List, Option, Some}
 use Rattle.std.specs.Prelude.{None, if◌then◌else◌}
 use Rattle.resb_tree.specs.Tree.{Tree, string, array, table, binary, integer, int_vector, Trees}
 use Rattle.resb_tree.specs.Tree.{no_trees, more_trees, Entries, no_entries, entry}
@@ -9,6 +9,9 @@ use Rattle.resb_icu_grammar.specs.Groups.{is_collation, is_table}
 use Rattle.resb_print.specs.Quotes.{has_quote}
 use Rattle.resb_icu_print.specs.Printed.{is_bare}
 use Rattle.resb_icu_print.specs.declared.cause.IcuCause.{IcuCause}
+use Rattle.resb_icu_print.specs.declared.error.IcuPrintError.{IcuPrintError}
+use Rattle.resb_icu_print.specs.declared.error.IcuPrintError.TheVariants.{OutOfMemory}
+use Rattle.resb_icu_print.specs.declared.error.IcuPrintError.TheVariants.{NotPrintable}
 use Rattle.resb_icu_print.specs.declared.cause.IcuCause.TheVariants as cause
 
 -- each byte may stand in a key, and none is a quote, which would end it
@@ -78,3 +81,7 @@ abbrev pub first_cause : List ℕ → Tree → Option IcuCause
 first_cause name (table es) =
     cause_if (not (is_bare name)) cause.NameIsNoWord (causes_in_else es None)
 first_cause name _ = Some cause.RootIsNoTable
+
+-- the answer is want of memory, or the cause that was found
+abbrev pub Refused : IcuPrintError → Option IcuCause → Type 0
+Refused e found = (e ≡ OutOfMemory) ⊎ ((x : IcuCause) × (e ≡ NotPrintable x) × (found ≡ Some x))

@@ -5,11 +5,11 @@ ghost use Rattle.std.specs.String.{string_bytes};
 ghost use Rattle.resb_tree.specs.Bundle.{name_of, root_of};
 ghost use Rattle.resb_tree.specs.View.{entries_view};
 ghost use Rattle.resb_icu_grammar.specs.Bundle.{IcuText};
-ghost use Rattle.resb_icu_print.specs.Causes.{causes_in_else, first_cause};
+ghost use Rattle.resb_icu_print.specs.Causes.{causes_in_else, first_cause, Refused};
 ghost use Rattle.resb_icu_print.specs.Laws.{HasNoIcuText};
 ghost use Rattle.resb_icu_print.specs.Printed.{IsIcuBundleText};
 ghost use Rattle.resb_icu_print.specs.Sizes.{icu_text_limit};
-ghost use Rattle.resb_icu_print.specs.Inner.Jobs.{ArePrinted, Refused};
+ghost use Rattle.resb_icu_print.specs.Inner.Jobs.{ArePrinted};
 
 use crate::cause::IcuCause;
 use crate::error::IcuPrintError;

@@ -235,7 +235,8 @@ does_line old line new js ks j write p n t w d same causes held turns = record {
   fewer = omega (arith, d.fewer);
 }
 
-pub held_both : (js : List Job) (j : Job) → AreHeldJobs js × IsHeldJob j → AreHeldJobs (js ++ j ∷ [])
+pub held_both : (js : List Job) (j : Job) → AreHeldJobs js × IsHeldJob j
+    → AreHeldJobs (js ++ j ∷ [])
 held_both [] j h = (h.1, tt)
 held_both (i ∷ js) j h = ((h.0).0, held_both js j ((h.0).1, h.1))
 

@@ -64,10 +64,6 @@ Refuses e causes =
     (e ≡ OutOfMemory)
     ⊎ ((x : IcuCause) × (e ≡ NotPrintable x) × ((later : Option IcuCause) → causes later ≡ Some x))
 
--- the same where the causes are known
-abbrev pub Refused : IcuPrintError → Option IcuCause → Type 0
-Refused e found = (e ≡ OutOfMemory) ⊎ ((x : IcuCause) × (e ≡ NotPrintable x) × (found ≡ Some x))
-
 -- the entries of the root are printed as far as the jobs that are left
 pub record IsUnderWay (old now : String Global) (left : List Job) (es : Entries) : Type 0 where
   pub text : (rest : List ℕ)

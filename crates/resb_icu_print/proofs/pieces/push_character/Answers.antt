@@ -14,6 +14,8 @@ returns c =
     (unequal_to c.args.c 92 c.if-c-eq92.false) in
     let k : is_control c.args.c ≡ false =
     no_control c.args.c (omega (arith, c.if-code-lt32.false)) c.if-code-eq127.false in
+    let old = string_bytes c.args.out.now in
+    let w = encode_utf8 c.args.c in
     λ rest.
-    writes_bytes c.args.out.now c.push-2.new.self (encode_utf8 c.args.c)
-    c.in_ok-push-2.ensures.bytes rest ∙ ap (λ l. string_bytes c.args.out.now ++ l) (sym (plain_character c.args.c rest m k))
+    writes_bytes c.args.out.now c.push-2.new.self w c.in_ok-push-2.ensures.bytes rest
+    ∙ ap (λ l. old ++ l) (sym (plain_character c.args.c rest m k))

@@ -8,8 +8,7 @@ use Rattle.resb_tree.specs.declared.resource.Resource.{the_lemmas}
 use Rattle.resb_icu_print.specs.declared.cause.IcuCause.TheVariants.{NameIsNoWord}
 use Rattle.resb_icu_print.specs.declared.error.IcuPrintError.TheVariants.{NotPrintable}
 use Rattle.resb_icu_print.specs.Printed.{is_bare}
-use Rattle.resb_icu_print.specs.Causes.{first_cause}
-use Rattle.resb_icu_print.specs.Inner.Jobs.{Refused}
+use Rattle.resb_icu_print.specs.Causes.{first_cause, Refused}
 use Rattle.resb_icu_print.proofs.Bundles.{written, whole, no_text, root_refused, name_refused}
 use Rattle.resb_icu_print.proofs.Sizes.{printed_within}
 use Rattle.resb_icu_print.proofs.print.print_icu_text.Goals as goal

@@ -10,7 +10,7 @@ use Rattle.std.specs.declared.string.String.{String}
 use Rattle.std.specs.List.Sorted.{IsStrictlySortedBy}
 use Rattle.resb_tree.specs.Tree.{Tree, table, Entries}
 use Rattle.resb_tree.specs.Maps.{text_cmp, pairs_of}
-use Rattle.resb_tree.specs.WalkOrder.{entry_keys}
+use Rattle.resb_tree.specs.LayingOrder.{entry_keys}
 use Rattle.resb_grammar.specs.Ascii as ascii
 use Rattle.resb_grammar.specs.ByteRuns.{Run}
 use Rattle.resb_grammar.specs.BundleText.{first_places}
@@ -20,9 +20,9 @@ use Rattle.resb_icu_grammar.specs.Words.{a_word, no_fallback_type}
 use Rattle.resb_icu_grammar.specs.Bundle.{Typing, without, with, IcuText}
 use Rattle.resb_print.specs.Printed.{root_type_on}
 use Rattle.resb_print.specs.Held.{HeldIn}
-use Rattle.resb_print.specs.Inner.Jobs.{Writes}
+use Rattle.resb_print.specs.Inner.Jobs.{Appends}
 use Rattle.resb_print.proofs.Steps.{writes_bytes}
-use Rattle.resb_print.proofs.Places.{From, byte_at, over, next, at_end, inside}
+use Rattle.resb_print.proofs.Places.{From, byte_at, from_behind, from_next, at_end, from_inside}
 use Rattle.resb_print.proofs.Bundles.{stands}
 use Rattle.resb_print.proofs.Groups.{own_map}
 use Rattle.resb_icu_print.specs.Printed.{is_bare, entries_on, printed_icu_bundle}
@@ -61,15 +61,15 @@ module _ (text : List ℕ) where
     brace = place;
     typing = without refl;
     opens = byte_at text h;
-    after = next text h;
+    after = from_next text h;
   }
   typed_at false {place} {rest} h =
       let open_brace = ascii.left_brace ∷ rest in
       let a : From text (place + 1) (codes "table" ++ (codes "(nofallback)" ++ open_brace)) =
-      next text h in
+      from_next text h in
       let (solid, word, b) = word_read text (codes "table") 40 _ refl refl a in
       let c : From text (place + 1 + 5 + 12) open_brace =
-      over text (codes "(nofallback)") open_brace b in
+      from_behind text (codes "(nofallback)") open_brace b in
       record {
         brace = place + 1 + 5 + 12;
         typing = with (place + 1 + 5 + 12) false (no_fallback_type (place + 1 + 5) (record {
@@ -78,14 +78,14 @@ module _ (text : List ℕ) where
         }) (stands text (codes "(nofallback)") open_brace b) refl)
             (no_skip text (solid_at text c refl refl));
         opens = byte_at text c;
-        after = next text c;
+        after = from_next text c;
       }
 
   -- the text of a bundle ends behind its `}`
   end_skip : {at : ℕ} → From text at (ascii.line_feed ∷ []) → Skip text at (length text)
   end_skip {at} h =
-      let f = next text h in
-      let e : at + 1 ≡ length text = omega (arith, at_end text f, inside text h) in
+      let f = from_next text h in
+      let e : at + 1 ≡ length text = omega (arith, at_end text f, from_inside text h) in
       let z : slice_index text (length text) ≡ 0 = get_or_past text (length text) 0 (omega arith) in
       record {
         blanks = white_on text h refl (subst (Blanks text (at + 1)) e (none (at + 1)));
@@ -167,7 +167,7 @@ printed_is_icu name fallback es bare ascend held taken =
 -- what is written in turn is the text of the bundle
 pub written : (s0 s1 s2 s3 s4 s5 : String Global) (name own : List ℕ) (f : Bool) (es : Entries)
     → string_bytes s0 ≡ [] → string_bytes s1 ≡ string_bytes s0 ++ name
-    → Writes s1 s2 (root_type_on f)
+    → Appends s1 s2 (root_type_on f)
     → string_bytes s3 ≡ string_bytes s2 ++ codes "{" → ArePrinted s3 s4 es
     → string_bytes s5 ≡ string_bytes s4 ++ (ascii.line_feed ∷ ascii.right_brace ∷ ascii.line_feed ∷
     []) → name ≡ own → string_bytes s5 ≡ printed_icu_bundle own f es

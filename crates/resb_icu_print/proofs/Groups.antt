@@ -13,14 +13,15 @@ use Rattle.std.proofs.lemmas.Bool.Decides.{nat_tests}
 use Rattle.resb_tree.specs.Tree.{Tree, string, array, table, binary, integer, int_vector, Trees}
 use Rattle.resb_tree.specs.Tree.{no_trees, more_trees, Entries, no_entries, entry}
 use Rattle.resb_tree.specs.Maps.{text_cmp, pairs_of}
-use Rattle.resb_tree.specs.WalkOrder.{members as members_in, entry_keys}
+use Rattle.resb_tree.specs.LayingOrder.{array_members as members_in, entry_keys}
 use Rattle.resb_grammar.specs.Ascii as ascii
 use Rattle.resb_grammar.specs.GroupTypes.{Kind, array_kind, table_kind, binary_kind}
 use Rattle.resb_grammar.specs.GroupTypes.{integer_kind, vector_kind}
 use Rattle.resb_icu_grammar.specs.Blanks.{Blanks, Skip, IsSolid}
 use Rattle.resb_icu_grammar.specs.Words as words
-use Rattle.resb_icu_grammar.specs.Groups.{Head, LeafContent, binary_content, integer_content}
-use Rattle.resb_icu_grammar.specs.Groups.{Last, nothing, a_string, a_group, a_comma, is_string}
+use Rattle.resb_icu_grammar.specs.Groups.{TypedOpening, LeafContent, binary_content}
+use Rattle.resb_icu_grammar.specs.Groups.{integer_content}
+use Rattle.resb_icu_grammar.specs.Groups.{Last, nothing, a_string, a_group, a_comma, ends_in_string}
 use Rattle.resb_icu_grammar.specs.Groups.{is_new, Members, no_member, string_member, group_member}
 use Rattle.resb_icu_grammar.specs.Groups.{comma_behind, no_entry, one_entry}
 use Rattle.resb_icu_grammar.specs.Groups as groups
@@ -29,7 +30,7 @@ use Rattle.resb_icu_grammar.specs.Groups.{typed}
 use Rattle.resb_print.specs.declared.place.Place.TheVariants.{InTable, InArray}
 use Rattle.resb_print.specs.Printed.{deeper, line_on, trees_end, entries_end, root_type_on}
 use Rattle.resb_print.specs.Held.{IsHeld, AreHeld, HeldIn}
-use Rattle.resb_print.proofs.Places.{From, byte_at, next}
+use Rattle.resb_print.proofs.Places.{From, byte_at, from_next}
 use Rattle.resb_print.proofs.Groups.{own_map, own_trees, mod_same, hex_read, hex_free}
 use Rattle.resb_icu_print.specs.Printed.{piece_on, key_on, tree_on, trees_on, entries_on}
 use Rattle.resb_icu_print.specs.Causes.{IsTaken, AreTaken, TakenIn, has_collation, is_icu_key}
@@ -155,7 +156,7 @@ module _ (text : List ℕ) where
     place = at;
     skip = no_skip text (solid_at text h refl refl);
     brace = byte_at text h;
-    after = next text h;
+    after = from_next text h;
   }
 
   pub close_line : (n : ℕ) {at : ℕ} {rest : List ℕ}
@@ -166,7 +167,7 @@ module _ (text : List ℕ) where
         place = p;
         skip = record { blanks = blanks; solid = solid_at text f refl refl };
         brace = byte_at text f;
-        after = next text f;
+        after = from_next text f;
       }
 
   close_trees : (ts : Trees) (n : ℕ) {at : ℕ} {rest : List ℕ} → From text at (trees_end ts n rest)
@@ -195,7 +196,7 @@ module _ (text : List ℕ) where
     pub to : ℕ
     pub keys : List (List ℕ)
     pub skip : Skip text at first
-    pub members : (last : Last) → is_string last ≡ false
+    pub members : (last : Last) → ends_in_string last ≡ false
         → Members text last first to (members_in ts) keys
     pub brace : slice_index text to ≡ ascii.right_brace
     pub after : From text (to + 1) rest
@@ -234,7 +235,7 @@ module _ (text : List ℕ) where
       → Blanks text at p → IsSolid text p → GroupAt p t (ascii.comma ∷ tail)
       → ((p : ℕ) → From text p tail → TreesAt p ts rest) → TreesAt at (more_trees t ts) rest
   group_done t ts tail {at} {p} {rest} blanks solid own more =
-      let others = more (own.to + 1) (next text own.after) in
+      let others = more (own.to + 1) (from_next text own.after) in
       let there : IsSolid text own.to = solid_at text own.after refl refl in
       record {
         first = p;
@@ -256,7 +257,7 @@ module _ (text : List ℕ) where
       → TreesAt at (more_trees (string s) ts) rest
   string_done s ts tail {at} {p} {rest} blanks f more =
       let (q, joined, piece, g) = piece_read text s ascii.comma tail comma_stop f in
-      let others = more (q + 1) (next text g) in
+      let others = more (q + 1) (from_next text g) in
       let there : IsSolid text q = solid_at text g refl refl in
       record {
         first = p;
@@ -299,21 +300,22 @@ module _ (text : List ℕ) where
       let (p, blanks, f) = line_blanks text n h in
       group_done (int_vector ns) ts tail blanks (solid_at text f refl refl) (group p f) more
 
-  leaf_done : (kind : Kind) (t : Tree) {at first k : ℕ} {rest : List ℕ} → Head text at kind first
+  leaf_done : (kind : Kind) (t : Tree) {at first k : ℕ} {rest : List ℕ}
+      → TypedOpening text at kind first
       → LeafContent text first k kind t → From text k (ascii.right_brace ∷ rest)
       → GroupAt at t rest
   leaf_done kind t {at} {first} {k} {rest} head content h = record {
     to = k + 1;
     keys = [];
     group = typed at first k kind t [] head (leaf kind first k t content) (byte_at text h);
-    after = next text h;
+    after = from_next text h;
   }
 
   string_group : (s : List ℕ) {at : ℕ} {rest : List ℕ}
       → From text at (ascii.left_brace ∷ piece_on s (ascii.right_brace ∷ rest))
       → GroupAt at (string s) rest
   string_group s {at} {rest} h =
-      let f = next text h in
+      let f = from_next text h in
       let (q, joined, piece, g) = piece_read text s ascii.right_brace rest brace_stop f in
       let i = at + 1 in
       record {
@@ -323,7 +325,7 @@ module _ (text : List ℕ) where
             (no_skip text (solid_at text f refl refl))
             (one_string i q q s (words.quoted joined) (no_skip text (solid_at text g refl refl)))
             (byte_at text g);
-        after = next text g;
+        after = from_next text g;
       }
 
   table_group : (n : ℕ) (es : Entries) (at : ℕ) (rest : List ℕ)
@@ -342,7 +344,7 @@ module _ (text : List ℕ) where
         after = c.after;
       }
   table_group n (entry k t es) at rest ascend inner h =
-      let r = inner (at + 1) (next text h) in
+      let r = inner (at + 1) (from_next text h) in
       record {
         to = r.to + 1;
         keys = r.keys;

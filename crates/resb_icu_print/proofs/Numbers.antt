@@ -7,18 +7,18 @@ use Rattle.std.proofs.lemmas.Bool.Decides.{nat_tests}
 use Rattle.std.proofs.lemmas.Fmt.{decimal_by_steps}
 use Rattle.resb_grammar.specs.Ascii as ascii
 use Rattle.resb_grammar.specs.ByteRuns.{is_white, is_digit}
-use Rattle.resb_grammar.specs.Tokens.{digits_value}
+use Rattle.resb_grammar.specs.Lexical.{digits_value}
 use Rattle.resb_grammar.specs.GroupTypes.{Kind, Names}
 use Rattle.resb_icu_grammar.specs.Bytes.{is_word}
 use Rattle.resb_icu_grammar.specs.Blanks.{IsSolid, Skip}
 use Rattle.resb_icu_grammar.specs.Words.{Number, unsigned}
-use Rattle.resb_icu_grammar.specs.Groups.{Head, Numbers, last_number, one_more, LeafContent}
+use Rattle.resb_icu_grammar.specs.Groups.{TypedOpening, Numbers, last_number, one_more, LeafContent}
 use Rattle.resb_icu_grammar.specs.Groups.{no_numbers, numbers}
 use Rattle.resb_grammar.specs.GroupTypes.{vector_kind}
 use Rattle.resb_tree.specs.Tree.{int_vector}
 use Rattle.resb_print.specs.Printed.{numbers_on, more_numbers_on}
 use Rattle.resb_print.specs.Held.{AreBelow}
-use Rattle.resb_print.proofs.Places.{From, byte_at, next, over, among, run_at}
+use Rattle.resb_print.proofs.Places.{From, byte_at, from_next, from_behind, from_among, run_at}
 use Rattle.resb_print.proofs.Words.{decimal_digits}
 use Rattle.resb_icu_print.specs.Printed.{is_bare}
 use Rattle.resb_icu_print.proofs.Places.{solid_byte, solid_at, no_skip}
@@ -74,7 +74,7 @@ module _ (text : List ℕ) where
       let e : at + length (decimal n) - at ≡ length (decimal n) = omega arith in
       let o : at - at ≡ 0 = omega arith in
       let first : slice_index text at ≡ slice_index (decimal n) 0 =
-      among text (decimal n) (b ∷ rest) at h (omega arith) (omega arith)
+      from_among text (decimal n) (b ∷ rest) at h (omega arith) (omega arith)
       ∙ ap (slice_index (decimal n)) o in
       let solid = digit_solid (slice_index (decimal n) 0) (d.each 0 s) in (
         solid_byte text at (slice_index (decimal n) 0) first solid.0 solid.1,
@@ -91,7 +91,7 @@ module _ (text : List ℕ) where
                 };
                 no_zero = λ w. ap (λ k. at + k) (only n z (sym first ∙ w));
               }) (omega arith),
-          over text (decimal n) (b ∷ rest) h,
+          from_behind text (decimal n) (b ∷ rest) h,
         ),
       )
     where
@@ -112,7 +112,7 @@ module _ (text : List ℕ) where
   numbers_read n (m ∷ ns) {at} rest low h =
       let (solid, (to, number, f)) = number_read n ascii.comma _ (low 0 (omega arith)) h refl in
       let (start, (last, more, g)) =
-      numbers_read m ns rest (λ k i. low (suc k) (omega arith)) (next text f) in (
+      numbers_read m ns rest (λ k i. low (suc k) (omega arith)) (from_next text f) in (
         solid,
         (
           last,
@@ -136,11 +136,12 @@ module _ (text : List ℕ) where
   pub head_at : (kind : Kind) (w : List ℕ) {at : ℕ} {rest : List ℕ} → Names w kind
       → is_bare w ≡ true → From text at (ascii.colon ∷ (w ++ (ascii.left_brace ∷ rest)))
       → (brace : ℕ) × From text (brace + 1) rest
-      × ((to : ℕ) → Skip text (brace + 1) to → Head text at kind to)
+      × ((to : ℕ) → Skip text (brace + 1) to → TypedOpening text at kind to)
   head_at kind w {at} {rest} names words h =
-      let (solid, word, f) = word_read text w ascii.left_brace rest words refl (next text h) in (
+      let (solid, word, f) = word_read text w ascii.left_brace rest words refl
+      (from_next text h) in (
         at + 1 + length w,
-        next text f,
+        from_next text f,
         λ to after. record {
           ends = at + 1 + length w;
           brace = at + 1 + length w;

@@ -8,7 +8,7 @@ use Rattle.resb_grammar.specs.Ascii as ascii
 use Rattle.resb_grammar.specs.ByteRuns.{is_white}
 use Rattle.resb_icu_grammar.specs.Blanks.{Comment, line, block, Blanks, none, white, IsSolid, Skip}
 use Rattle.resb_print.specs.Printed.{indent_on, line_on}
-use Rattle.resb_print.proofs.Places.{From, byte_at, next}
+use Rattle.resb_print.proofs.Places.{From, byte_at, from_next}
 
 module _ (text : List ℕ) where
   -- a byte some way behind a place
@@ -52,15 +52,15 @@ module _ (text : List ℕ) where
       → (to : ℕ) × Blanks text at to × From text to rest
   indent_blanks zero {at} {rest} h = (at, none at, h)
   indent_blanks (suc n) {at} {rest} h =
-      let a = next text h in
-      let b = next text a in
-      let c = next text b in
-      let (to, bs, r) = indent_blanks n (next text c) in
+      let a = from_next text h in
+      let b = from_next text a in
+      let c = from_next text b in
+      let (to, bs, r) = indent_blanks n (from_next text c) in
       (to, white_on h refl (white_on a refl (white_on b refl (white_on c refl bs))), r)
 
   -- a new line, and its indentation
   pub line_blanks : (n : ℕ) {at : ℕ} {rest : List ℕ} → From text at (line_on n rest)
       → (to : ℕ) × Blanks text at to × From text to rest
   line_blanks n {at} {rest} h =
-      let (to, bs, r) = indent_blanks n (next text h) in
+      let (to, bs, r) = indent_blanks n (from_next text h) in
       (to, white_on h refl bs, r)

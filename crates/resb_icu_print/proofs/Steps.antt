@@ -9,13 +9,13 @@ use Rattle.std.specs.List.Sorted.{IsStrictlySortedBy}
 use Rattle.resb_tree.specs.Tree.{Tree, array, table, Entries, trees_of, entries_of, tree_count}
 use Rattle.resb_tree.specs.View.{entries_view}
 use Rattle.resb_tree.specs.Maps.{text_cmp}
-use Rattle.resb_tree.specs.WalkOrder.{entry_keys}
+use Rattle.resb_tree.specs.LayingOrder.{entry_keys}
 use Rattle.resb_tree.specs.declared.resource.Resource.{Resource}
 use Rattle.resb_print.specs.declared.place.Place.{Place}
 use Rattle.resb_print.specs.Printed.{deeper, end_on, close_on}
 use Rattle.resb_print.specs.Held.{IsHeld}
 use Rattle.resb_print.specs.Inner.Jobs.{Job, entry_job, item_job, close_job, IsHeldJob}
-use Rattle.resb_print.specs.Inner.Jobs.{AreHeldJobs, job_turns, add_turns, jobs_turns, Writes}
+use Rattle.resb_print.specs.Inner.Jobs.{AreHeldJobs, job_turns, add_turns, jobs_turns, Appends}
 use Rattle.resb_print.specs.Inner.Jobs.{entry_jobs, item_jobs}
 use Rattle.resb_print.proofs.Steps.{fold_push, fold_more, fold_none, held_push, held_both}
 use Rattle.resb_print.proofs.Steps.{entries_held, entries_turns, items_held, items_turns}
@@ -66,7 +66,7 @@ items_cause n js (t ∷ ts) later =
 
 -- a resource that leaves nothing to be done
 pub does_leaf : (old new : String Global) (js : List Job) (p : Place) (n : ℕ) (t : Tree)
-    → Writes old new (tree_on p n t) → ((later : Option IcuCause) → cause_else t later ≡ later)
+    → Appends old new (tree_on p n t) → ((later : Option IcuCause) → cause_else t later ≡ later)
     → IsHeld t → 0 < tree_count t → DoesTree old new js js p n t
 does_leaf old new js p n t w free held some = record {
   text = λ rest. w (jobs_on js rest);
@@ -138,7 +138,7 @@ module _ (old new : String Global) (before after : List Job) (p : Place) (n : �
 -- a line begins, and the resource on it is done
 pub does_line : (old line new : String Global) (js ks : List Job) (j : Job)
     (write : List ℕ → List ℕ) (p : Place) (n : ℕ) (t : Tree)
-    → Writes old line write → DoesTree line new js ks p n t
+    → Appends old line write → DoesTree line new js ks p n t
     → ((rest : List ℕ) → job_on j rest ≡ write (tree_on p n t rest))
     → ((later : Option IcuCause) → job_cause j later ≡ cause_else t later)
     → (IsHeld t → IsHeldJob j) → job_turns j ≡ 2 * tree_count t → DoesJob old new js ks j
@@ -193,7 +193,7 @@ refused js ls j es old now e f u (inr (x, h, g)) =
 -- an empty table
 pub empty_table : (old new : String Global) (js : List Job) (p : Place) (n : ℕ)
     (es : List (List ℕ × Resource))
-    → Writes old new (λ rest. codes ":table{}" ++ end_on p rest) → length es ≡ 0
+    → Appends old new (λ rest. codes ":table{}" ++ end_on p rest) → length es ≡ 0
     → DoesTree old new js js p n (table (entries_view es))
 empty_table old new js p n [] w e = record {
   text = λ rest. w (jobs_on js rest);

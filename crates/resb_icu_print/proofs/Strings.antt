@@ -15,12 +15,14 @@ use Rattle.resb_grammar.specs.Group.{is_hex, hex_value}
 use Rattle.resb_icu_grammar.specs.Bytes.{backslash, is_word, is_key_byte, are_key_bytes}
 use Rattle.resb_icu_grammar.specs.Blanks.{IsSolid}
 use Rattle.resb_icu_grammar.specs.Escapes.{Escape, itself, four_digits, are_hex, hex_number}
-use Rattle.resb_icu_grammar.specs.Pieces.{Inside, ends, byte, escape, Piece, Joined, last_piece}
+use Rattle.resb_icu_grammar.specs.Pieces.{QuotedBytes, ends, byte, escape, QuotedPiece, Joined}
+use Rattle.resb_icu_grammar.specs.Pieces.{last_piece}
 use Rattle.resb_icu_grammar.specs.Words.{Word, HasNoEscape, KeyText, a_word, quoted}
 use Rattle.resb_print.specs.Printed.{quoted_on}
 use Rattle.resb_print.specs.Held.{AreBelow}
 use Rattle.resb_print.specs.Quotes.{has_quote, NoQuote}
-use Rattle.resb_print.proofs.Places.{From, byte_at, next, over, inside, among, range_is, run_at}
+use Rattle.resb_print.proofs.Places.{From, byte_at, from_next, from_behind, from_inside, from_among}
+use Rattle.resb_print.proofs.Places.{range_is, run_at}
 use Rattle.resb_print.proofs.Groups.{digit_of, reads_back, all_below, below_passes}
 use Rattle.resb_icu_print.specs.Printed.{is_control, is_marked, escaped_on, inside_on, piece_on}
 use Rattle.resb_icu_print.specs.Printed.{are_words, is_bare, key_on}
@@ -158,8 +160,8 @@ module _ (text : List ℕ) where
       let low : b < 128 = grind (arith, nat_tests) in
       let x = reads_back (b / 16) (omega arith) in
       let y = reads_back (b % 16) (omega arith) in
-      let f = next text h in
-      let g = next text f in
+      let f = from_next text h in
+      let g = from_next text f in
       let p = at + 1 in
       let e0 : slice_index text (p + 1 + 0) ≡ 48 = byte_near text 0 g in
       let e1 : slice_index text (p + 1 + 1) ≡ 48 = byte_near text 1 g in
@@ -176,34 +178,34 @@ module _ (text : List ℕ) where
         subst (Escape text p (p + 5)) (encode_ascii b low)
             (four_digits b (byte_at text f) hex n (grind (arith, nat_tests))
             (λ e. false≢true (sym (ap is_control e) ∙ c))),
-        over text (117 ∷ 48 ∷ 48 ∷ slice_index (encode_lower (b ∷ [])) 0
+        from_behind text (117 ∷ 48 ∷ 48 ∷ slice_index (encode_lower (b ∷ [])) 0
             ∷ slice_index (encode_lower (b ∷ [])) 1 ∷ []) rest f,
       )
 
   -- what stands in quotes, up to the closing one
   pub inside_read : (s : List ℕ) {at : ℕ} {rest : List ℕ}
       → From text at (inside_on s (ascii.quote ∷ rest))
-      → (last : ℕ) × Inside text at last s × From text last (ascii.quote ∷ rest)
+      → (last : ℕ) × QuotedBytes text at last s × From text last (ascii.quote ∷ rest)
   inside_read [] {at} {rest} h = (at, ends at (byte_at text h), h)
   inside_read (b ∷ s) {at} {rest} h =
       by (is_marked b) (is_control b) refl refl (λ p f. inside_read s f) h
     where
       by : (m c : Bool) → is_marked b ≡ m → is_control b ≡ c
           → ((p : ℕ) → From text p (inside_on s (ascii.quote ∷ rest))
-          → (last : ℕ) × Inside text p last s × From text last (ascii.quote ∷ rest))
+          → (last : ℕ) × QuotedBytes text p last s × From text last (ascii.quote ∷ rest))
           → From text at (cond m (backslash ∷ b ∷ inside_on s (ascii.quote ∷ rest))
           (cond c (codes "\\u00" ++ (encode_lower (b ∷ []) ++ inside_on s (ascii.quote ∷ rest)))
           (b ∷ inside_on s (ascii.quote ∷ rest))))
-          → (last : ℕ) × Inside text at last (b ∷ s) × From text last (ascii.quote ∷ rest)
+          → (last : ℕ) × QuotedBytes text at last (b ∷ s) × From text last (ascii.quote ∷ rest)
       by true c m k more f =
-          let g = next text f in
-          let (last, r, q) = more (at + 1 + 1) (next text g) in
+          let g = from_next text f in
+          let (last, r, q) = more (at + 1 + 1) (from_next text g) in
           let e : slice_index text (at + 1) ≡ b = byte_at text g in
           let plain : is_ascii_alphanumeric b ≡ false = grind (arith, nat_tests) in (
             last,
-            subst (λ n. Inside text at last (n ∷ s)) e
+            subst (λ n. QuotedBytes text at last (n ∷ s)) e
                 (escape at (at + 1 + 1) last (slice_index text (at + 1) ∷ []) s (byte_at text f)
-                (itself (inside text g) (ap is_ascii_alphanumeric e ∙ plain)) r),
+                (itself (from_inside text g) (ap is_ascii_alphanumeric e ∙ plain)) r),
             q,
           )
       by false true m k more f =
@@ -211,13 +213,13 @@ module _ (text : List ℕ) where
           let (last, r, q) = more (at + 1 + 5) g in
           (last, escape at (at + 1 + 5) last (b ∷ []) s (byte_at text f) x r, q)
       by false false m k more f =
-          let (last, r, q) = more (at + 1) (next text f) in
+          let (last, r, q) = more (at + 1) (from_next text f) in
           let e : slice_index text at ≡ b = byte_at text f in
           let no_quote : b ≢ ascii.quote = λ e. false≢true (sym m ∙ ap is_marked e) in
           let no_backslash : b ≢ backslash = λ e. false≢true (sym m ∙ ap is_marked e) in (
             last,
-            subst (λ n. Inside text at last (n ∷ s)) e
-                (byte at last s (inside text f) (λ w. no_quote (sym e ∙ w))
+            subst (λ n. QuotedBytes text at last (n ∷ s)) e
+                (byte at last s (from_inside text f) (λ w. no_quote (sym e ∙ w))
                 (λ w. no_backslash (sym e ∙ w)) r),
             q,
           )
@@ -225,11 +227,11 @@ module _ (text : List ℕ) where
   -- a piece with no other behind it
   pub piece_read : (s : List ℕ) {at : ℕ} (b : ℕ) (rest : List ℕ) → IsStop b
       → From text at (piece_on s (b ∷ rest))
-      → (to : ℕ) × Joined text at to s × Piece text at to s × From text to (b ∷ rest)
+      → (to : ℕ) × Joined text at to s × QuotedPiece text at to s × From text to (b ∷ rest)
   piece_read s {at} b rest stop h =
-      let (last, r, f) = inside_read s (next text h) in
-      let g = next text f in
-      let piece : Piece text at (last + 1) s = record {
+      let (last, r, f) = inside_read s (from_next text h) in
+      let g = from_next text f in
+      let piece : QuotedPiece text at (last + 1) s = record {
         last = last;
         opens = byte_at text h;
         inside = r;
@@ -246,7 +248,7 @@ module _ (text : List ℕ) where
   -- a piece of bytes that may stand in keys
   pub quoted_read : (k : List ℕ) {at : ℕ} (b : ℕ) (rest : List ℕ) → IsStop b
       → are_key_bytes k ≡ true → NoQuote k → From text at (quoted_on k (b ∷ rest))
-      → (to : ℕ) × Joined text at to k × Piece text at to k × HasNoEscape text at to
+      → (to : ℕ) × Joined text at to k × QuotedPiece text at to k × HasNoEscape text at to
       × From text to (b ∷ rest)
   quoted_read k {at} b rest stop key free h =
       let e : piece_on k (b ∷ rest) ≡ quoted_on k (b ∷ rest) =
@@ -254,9 +256,9 @@ module _ (text : List ℕ) where
       let (to, joined, piece, f) = piece_read k b rest stop (subst (From text at) (sym e) h) in
       let w = k ++ ascii.quote ∷ [] in
       let g : From text (at + 1) (w ++ (b ∷ rest)) = record {
-        is = (next text h).is ∙ sym (append_assoc k (ascii.quote ∷ []) (b ∷ rest));
+        is = (from_next text h).is ∙ sym (append_assoc k (ascii.quote ∷ []) (b ∷ rest));
       } in
-      let same : to ≡ at + 1 + length w = same_place text f (over text w (b ∷ rest) g) in (
+      let same : to ≡ at + 1 + length w = same_place text f (from_behind text w (b ∷ rest) g) in (
         to,
         joined,
         piece,
@@ -278,7 +280,7 @@ module _ (text : List ℕ) where
               absurd (omega (arith, c, d))
           by false e =
               let s : at + 1 ≤ j = grind (arith, nat_tests) in
-              none (j - (at + 1)) (sym (among text w more j g s high) ∙ c)
+              none (j - (at + 1)) (sym (from_among text w more j g s high) ∙ c)
 
   bare_solid : (w : List ℕ) {at : ℕ} (rest : List ℕ) → is_bare w ≡ true
       → From text at (w ++ rest) → IsSolid text at
@@ -298,7 +300,7 @@ module _ (text : List ℕ) where
       some = (let l = bare_some w e in omega arith);
       means = sym (range_is text w (b ∷ rest) f);
     },
-    over text w (b ∷ rest) f,
+    from_behind text w (b ∷ rest) f,
   )
 
   -- a key

@@ -18,7 +18,7 @@ use Rattle.resb_grammar.specs.GroupTypes.{Kind}
 use Rattle.resb_icu_grammar.specs.Bytes.{is_word, are_key_bytes, backslash}
 use Rattle.resb_icu_grammar.specs.Escapes.{Escape, itself, line_feed, carriage_return, tab}
 use Rattle.resb_icu_grammar.specs.Escapes.{four_digits, eight_digits}
-use Rattle.resb_icu_grammar.specs.Pieces.{Inside, ends, byte, escape}
+use Rattle.resb_icu_grammar.specs.Pieces.{QuotedBytes, ends, byte, escape}
 use Rattle.resb_icu_grammar.specs.Words.{Word, KeyText, a_word, quoted}
 use Rattle.resb_icu_grammar.specs.Groups as groups
 use Rattle.resb_icu_grammar.specs.Groups.{LeafContent, string_content, binary_content}
@@ -26,7 +26,7 @@ use Rattle.resb_icu_grammar.specs.Groups.{integer_content, no_numbers, numbers, 
 use Rattle.resb_icu_grammar.specs.Groups.{no_member, string_member, group_member, comma_behind}
 use Rattle.resb_icu_grammar.specs.Groups.{no_entry, one_entry, Untyped, an_empty_array, one_string}
 use Rattle.resb_icu_grammar.specs.Groups.{an_array, a_table, Typed, members, entries, leaf, Group}
-use Rattle.resb_icu_grammar.specs.Groups.{untyped, typed, is_collation, is_table}
+use Rattle.resb_icu_grammar.specs.Groups.{untyped, typed, is_collation, holds_entries}
 use Rattle.resb_icu_grammar.specs.Bundle.{IcuText}
 use Rattle.resb_print.specs.Quotes.{has_quote, NoQuote}
 use Rattle.resb_icu_print.specs.declared.cause.IcuCause.{IcuCause}
@@ -72,7 +72,7 @@ escape_order text at to s (tab _) = omega arith
 escape_order text at to s (four_digits _ _ _ _ _ _) = omega arith
 escape_order text at to s (eight_digits _ _ _ _ _ _) = omega arith
 
-inside_order : (text : List ℕ) (at to : ℕ) (s : List ℕ) → Inside text at to s → at ≤ to
+inside_order : (text : List ℕ) (at to : ℕ) (s : List ℕ) → QuotedBytes text at to s → at ≤ to
 inside_order text at to s (ends _ h) = omega arith
 inside_order text at to s (byte _ _ bytes l q b r) =
     omega (arith, inside_order text (at + 1) to bytes r)
@@ -80,7 +80,7 @@ inside_order text at to s (escape _ next _ first bytes b x r) =
     omega (arith, escape_order text (at + 1) next first x, inside_order text next to bytes r)
 
 -- where no escape stands, a piece gives no quote
-inside_free : (text : List ℕ) (at to : ℕ) (s : List ℕ) → Inside text at to s
+inside_free : (text : List ℕ) (at to : ℕ) (s : List ℕ) → QuotedBytes text at to s
     → ((k : ℕ) → at ≤ k → k < to + 1 → slice_index text k ≢ backslash) → NoQuote s
 inside_free text at to s (ends _ e) none = refl
 inside_free text at to s (byte _ _ bytes l q b r) none =

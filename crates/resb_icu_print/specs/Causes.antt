@@ -5,7 +5,7 @@ use Rattle.std.specs.Prelude.{None, if◌then◌else◌}
 use Rattle.resb_tree.specs.Tree.{Tree, string, array, table, binary, integer, int_vector, Trees}
 use Rattle.resb_tree.specs.Tree.{no_trees, more_trees, Entries, no_entries, entry}
 use Rattle.resb_icu_grammar.specs.Bytes.{are_key_bytes}
-use Rattle.resb_icu_grammar.specs.Groups.{is_collation, is_table}
+use Rattle.resb_icu_grammar.specs.Groups.{is_collation, holds_entries}
 use Rattle.resb_print.specs.Quotes.{has_quote}
 use Rattle.resb_icu_print.specs.Printed.{is_bare}
 use Rattle.resb_icu_print.specs.declared.cause.IcuCause.{IcuCause}
@@ -20,7 +20,7 @@ is_icu_key k = are_key_bytes k && not (has_quote k)
 
 -- a table stands under a key whose tables hold rules of collation
 abbrev pub has_collation : List ℕ → Tree → Bool
-has_collation k t = is_collation k && is_table t
+has_collation k t = is_collation k && holds_entries t
 
 -- each key may be one, and no table stands under a key of collations
 abbrev mutual

@@ -75,7 +75,7 @@ fn is_collation(key: &str) -> bool
 
 /// Whether a resource is a table.
 fn is_table(resource: &Resource<'_>) -> bool
-    ensures { result ≡ groups.is_table (tree_of resource.now) }
+    ensures { result ≡ groups.holds_entries (tree_of resource.now) }
 {
     match resource {
         Resource::Table(_) => true,

@@ -2,7 +2,7 @@
 //! What a resource is made of stands in `step`. Numbers are those of `resb_print`.
 ghost use Rattle.std.specs.Prelude.{◌≡◌, ◌++◌, ◌∷◌, [], OnOk, codes, encode_utf8};
 ghost use Rattle.hex.specs.Hex.{encode_lower};
-ghost use Rattle.resb_print.specs.Inner.Jobs.{Writes};
+ghost use Rattle.resb_print.specs.Inner.Jobs.{Appends};
 ghost use Rattle.resb_icu_print.specs.Printed.{inside_on, piece_on, key_on};
 
 use crate::keys::is_bare;
@@ -11,7 +11,7 @@ use std::alloc::{AllocError, Global};
 
 /// Writes a byte by its number.
 fn push_number(alloc: Global, out: &mut String, byte: u8) -> Result<(), AllocError>
-    ensures { OnOk result (Writes out.old out.new
+    ensures { OnOk result (Appends out.old out.new
         (λ rest. codes "\\u00" ++ (encode_lower (byte ∷ []) ++ rest))) }
 {
     let digits = hex::encode(alloc, &[byte])?;
@@ -22,7 +22,7 @@ fn push_number(alloc: Global, out: &mut String, byte: u8) -> Result<(), AllocErr
 
 /// Writes a character of a string.
 fn push_character(alloc: Global, out: &mut String, c: char) -> Result<(), AllocError>
-    ensures { OnOk result (Writes out.old out.new (inside_on (encode_utf8 c))) }
+    ensures { OnOk result (Appends out.old out.new (inside_on (encode_utf8 c))) }
 {
     if c == '"' || c == '\\' {
         out.push_str("\\")?;
@@ -40,7 +40,7 @@ fn push_character(alloc: Global, out: &mut String, c: char) -> Result<(), AllocE
 
 /// Writes what stands between the quotes of a string.
 fn push_inside(alloc: Global, out: &mut String, text: &str) -> Result<(), AllocError>
-    ensures { OnOk result (Writes out.old out.new (inside_on text.now)) }
+    ensures { OnOk result (Appends out.old out.new (inside_on text.now)) }
 {
     for c in text.chars() {
         push_character(alloc, out, c)?;
@@ -50,7 +50,7 @@ fn push_inside(alloc: Global, out: &mut String, text: &str) -> Result<(), AllocE
 
 /// Writes a string in quotes.
 pub(crate) fn push_piece(alloc: Global, out: &mut String, text: &str) -> Result<(), AllocError>
-    ensures { OnOk result (Writes out.old out.new (piece_on text.now)) }
+    ensures { OnOk result (Appends out.old out.new (piece_on text.now)) }
 {
     out.push_str("\"")?;
     push_inside(alloc, out, text)?;
@@ -59,7 +59,7 @@ pub(crate) fn push_piece(alloc: Global, out: &mut String, text: &str) -> Result<
 
 /// Writes a key.
 pub(crate) fn push_key(out: &mut String, text: &str) -> Result<(), AllocError>
-    ensures { OnOk result (Writes out.old out.new (key_on text.now)) }
+    ensures { OnOk result (Appends out.old out.new (key_on text.now)) }
 {
     if is_bare(text) {
         out.push_str(text)

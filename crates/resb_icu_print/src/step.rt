@@ -3,7 +3,7 @@
 ghost use Rattle.std.specs.Prelude.{◌≡◌, ◌++◌, ◌*◌, map, reverse, OnOk, IfErr, ℕ, List};
 ghost use Rattle.resb_tree.specs.Tree.{array, table as table_with};
 ghost use Rattle.resb_tree.specs.View.{tree_of, items_view, entries_view};
-ghost use Rattle.resb_print.specs.Inner.Jobs.{jobs_in, job_of, Writes};
+ghost use Rattle.resb_print.specs.Inner.Jobs.{jobs_in, job_of, Appends};
 ghost use Rattle.resb_icu_print.specs.Causes.{cause_else};
 ghost use Rattle.resb_icu_print.specs.Printed.{string_on};
 ghost use Rattle.resb_icu_print.specs.Inner.Jobs.{job_cause, DoesJob, DoesTree, Refuses};
@@ -21,7 +21,7 @@ use std::alloc::{AllocError, Global};
 
 /// Writes a string, in braces where it stands behind a key.
 fn push_string(alloc: Global, out: &mut String, place: Place, text: &str) -> Result<(), AllocError>
-    ensures { OnOk result (Writes out.old out.new (string_on place text.now)) }
+    ensures { OnOk result (Appends out.old out.new (string_on place text.now)) }
 {
     if let Place::InTable = place {
         out.push_str("{")?;

@@ -7,14 +7,14 @@ use Rattle.std.specs.declared.alloc.Global.{Global}
 use Rattle.std.specs.declared.string.String.{String}
 use Rattle.std.specs.List.Sorted.{IsStrictlySortedBy}
 use Rattle.resb_tree.specs.Maps.{text_cmp}
-use Rattle.resb_tree.specs.WalkOrder.{entry_keys}
+use Rattle.resb_tree.specs.LayingOrder.{entry_keys}
 use Rattle.resb_tree.specs.Tree.{Tree, Entries, tree_count}
 use Rattle.resb_print.specs.declared.place.Place.{Place}
 use Rattle.resb_print.specs.declared.place.Place.TheVariants.{InTable, InArray}
 use Rattle.resb_print.specs.Printed.{line_on, close_on, end_on}
 use Rattle.resb_print.specs.Held.{IsHeld, HeldIn}
 use Rattle.resb_print.specs.Inner.Jobs.{Job, entry_job, item_job, close_job, fold_jobs}
-use Rattle.resb_print.specs.Inner.Jobs.{IsHeldJob, AreHeldJobs, job_turns, jobs_turns, Writes}
+use Rattle.resb_print.specs.Inner.Jobs.{IsHeldJob, AreHeldJobs, job_turns, jobs_turns, Appends}
 use Rattle.resb_icu_print.specs.declared.cause.IcuCause.{IcuCause}
 use Rattle.resb_icu_print.specs.declared.error.IcuPrintError.{IcuPrintError}
 use Rattle.resb_icu_print.specs.declared.error.IcuPrintError.TheVariants.{OutOfMemory}
@@ -73,7 +73,7 @@ pub record IsUnderWay (old now : String Global) (left : List Job) (es : Entries)
 
 -- the entries of the root are printed
 pub record ArePrinted (old new : String Global) (es : Entries) : Type 0 where
-  pub text : Writes old new (entries_on 1 es)
+  pub text : Appends old new (entries_on 1 es)
   pub no_cause : causes_in_else es None ≡ None
   pub ascend : IsStrictlySortedBy text_cmp (entry_keys es)
   pub held : HeldIn es

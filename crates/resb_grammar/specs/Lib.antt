@@ -4,7 +4,7 @@ pub use Rattle.resb_tree.specs.Tree
 pub use Rattle.resb_tree.specs.Keys
 pub mod Ascii
 pub mod ByteRuns
-pub mod Tokens
+pub mod Lexical
 pub mod Items
 pub mod GroupTypes
 pub mod Group

@@ -4,7 +4,7 @@ use Rattle.std.specs.Prelude.{Option, Some, None, IfNone, IfSome, slice_index}
 use Rattle.std.proofs.lemmas.Bool.Decides.{nat_tests}
 use Rattle.resb_grammar.specs.Ascii as ascii
 use Rattle.resb_grammar.specs.ByteRuns.{is_white}
-use Rattle.resb_grammar.specs.Tokens.{FirstCloser}
+use Rattle.resb_grammar.specs.Lexical.{FirstCloser}
 use Rattle.resb_icu_grammar.specs.Blanks.{LineRest, Comment, line, block, Blanks, none, white}
 use Rattle.resb_icu_grammar.specs.Blanks.{comment, Skip}
 

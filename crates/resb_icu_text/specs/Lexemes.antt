@@ -2,7 +2,7 @@
 use Rattle.std.specs.Prelude.{◌<◌, ◌≤◌, ◌↔◌, ℕ, Bool, true, false, List, length}
 use Rattle.std.specs.Prelude.{IsTrue}
 use Rattle.std.specs.String.{string_bytes}
-use Rattle.resb_icu_grammar.specs.Words.{String, KeyText}
+use Rattle.resb_icu_grammar.specs.Words.{Text, KeyText}
 use Rattle.resb_icu_text.specs.declared.strings.Said.{Said}
 use Rattle.resb_icu_text.specs.declared.strings.Said.TheVariants as the
 use Rattle.resb_icu_text.specs.declared.strings.Lexeme.{Lexeme}
@@ -21,11 +21,11 @@ is_key (the.Built s) = false
 
 -- a string stands there, with what it says, and whether it may be a key
 pub record IsLexeme (text : List ℕ) (from : ℕ) (l : Lexeme) : Type 0 where
-  pub string : String text from l.end (bytes_said l.said)
+  pub string : Text text from l.end (bytes_said l.said)
   pub key : IsTrue (is_key l.said) ↔ KeyText text from l.end (bytes_said l.said)
   pub after : from < l.end
   pub fits : l.end ≤ length text
 
 -- no string stands there
 abbrev pub IsNoLexeme : List ℕ → ℕ → Type 0
-IsNoLexeme text from = (to : ℕ) (s : List ℕ) → String text from to s → ⊥
+IsNoLexeme text from = (to : ℕ) (s : List ℕ) → Text text from to s → ⊥

@@ -13,16 +13,16 @@ use Rattle.std.proofs.lemmas.Bool.Decides.{nat_tests}
 use Rattle.resb_tree.specs.Tree.{Tree, string, array, table, binary, integer, int_vector, Trees}
 use Rattle.resb_tree.specs.Tree.{no_trees, more_trees, Entries, no_entries, entry, trees_of, map_of}
 use Rattle.resb_tree.specs.Maps.{text_cmp, pairs_of}
-use Rattle.resb_tree.specs.WalkOrder.{members, entry_keys}
+use Rattle.resb_tree.specs.LayingOrder.{array_members, entry_keys}
 use Rattle.resb_tree.proofs.MapsLemmas.{map_of-sorted, entries_of-pairs_of}
 use Rattle.resb_grammar.specs.Ascii as ascii
 use Rattle.resb_grammar.specs.ByteRuns.{is_white, is_word}
-use Rattle.resb_grammar.specs.Tokens.{Blanks, Skip, IsSolid, Number}
+use Rattle.resb_grammar.specs.Lexical.{Blanks, Skip, IsSolid, Number}
 use Rattle.resb_grammar.specs.Items.{Item, Term, string_term, group_term, plain, before_comma}
 use Rattle.resb_grammar.specs.Items.{is_pairs, pairs_in, item_trees, term_tree, keys_in}
 use Rattle.resb_grammar.specs.Items.{a_table, an_array, Shape, shape_of, table_if, tree_in}
 use Rattle.resb_grammar.specs.GroupTypes.{Kind, array_kind, table_kind, binary_kind}
-use Rattle.resb_grammar.specs.GroupTypes.{integer_kind, vector_kind, Head}
+use Rattle.resb_grammar.specs.GroupTypes.{integer_kind, vector_kind, TypedOpening}
 use Rattle.resb_grammar.specs.Group.{is_hex, hex_value, byte_before}
 use Rattle.resb_grammar.specs.Group.{hex_bytes, Numbers, first_number, next_number, Vector, empty}
 use Rattle.resb_grammar.specs.Group.{numbers, LeafContent, binary_content, integer_content}
@@ -34,7 +34,7 @@ use Rattle.resb_print.specs.Printed.{more_numbers_on, trees_end, entries_end, tr
 use Rattle.resb_print.specs.Printed.{entries_on}
 use Rattle.resb_print.specs.Held.{IsHeld, AreHeld, HeldIn, AreBelow}
 use Rattle.resb_print.specs.Quotes.{NoQuote, IsFree, AreFree, FreeIn}
-use Rattle.resb_print.proofs.Places.{From, byte_at, next, solid_at, no_skip, line_blanks}
+use Rattle.resb_print.proofs.Places.{From, byte_at, from_next, solid_at, no_skip, line_blanks}
 use Rattle.resb_print.proofs.Places.{quoted_text}
 use Rattle.resb_print.proofs.Words.{name_text, head_at, number_at}
 
@@ -49,7 +49,7 @@ own_map es h =
     map_of-sorted (pairs_of es) (subst (IsStrictlySortedBy text_cmp) (sym (same_keys es)) h)
     ∙ entries_of-pairs_of es
 
-own_trees : (ts : Trees) → trees_of (members ts) ≡ ts
+own_trees : (ts : Trees) → trees_of (array_members ts) ≡ ts
 own_trees no_trees = refl
 own_trees (more_trees t ts) = ap (more_trees t) (own_trees ts)
 
@@ -231,7 +231,7 @@ module _ (text : List ℕ) where
     pub at : ℕ
     pub items : List Item
     pub gathered : Gathered b at items
-    pub means : item_trees items ≡ item_trees xs ++ members ts
+    pub means : item_trees items ≡ item_trees xs ++ array_members ts
     pub after : From text at rest
 
   -- a `}`, perhaps on a line of its own
@@ -246,7 +246,7 @@ module _ (text : List ℕ) where
     place = at;
     skip = no_skip text (solid_at text h refl refl);
     brace = byte_at text h;
-    after = next text h;
+    after = from_next text h;
   }
 
   pub close_line : (n : ℕ) {at : ℕ} {rest : List ℕ}
@@ -257,7 +257,7 @@ module _ (text : List ℕ) where
         place = p;
         skip = record { blanks = blanks; solid = solid_at text f refl refl };
         brace = byte_at text f;
-        after = next text f;
+        after = from_next text f;
       }
 
   close_trees : (ts : Trees) (n : ℕ) {at : ℕ} {rest : List ℕ} → From text at (trees_end ts n rest)
@@ -290,7 +290,7 @@ module _ (text : List ℕ) where
   more_read [] {from} {at} {seen} rest low read h =
       (at, subst (Numbers text from at) (sym (append-nil seen)) read, h)
   more_read (n ∷ ns) {from} {at} {seen} rest low read h =
-      let f = next text h in
+      let f = from_next text h in
       let (solid, (to, number, skip, f2)) = number_read n ns rest (low 0 (omega arith)) f in
       let (end, all, f3) = more_read ns rest (λ k i. low (suc k) (omega arith))
       (next_number at (at + 1) to to n seen read (byte_at text h) (no_skip text solid) number skip)
@@ -350,7 +350,7 @@ module _ (text : List ℕ) where
       read = λ to after. (first, skip, comma first q to xs m items (byte_at text h) after);
     };
     means = refl;
-    after = next text h;
+    after = from_next text h;
   }
 
   group_done : (t : Tree) {b at p : ℕ} {xs : List Item} {rest : List ℕ} → Gathered b at xs
@@ -396,21 +396,22 @@ module _ (text : List ℕ) where
       let (p, blanks, f) = line_blanks text n h in
       group_done (int_vector ns) g blanks (solid_at text f refl refl) (group p f)
 
-  leaf_done : (kind : Kind) (t : Tree) {at first k : ℕ} {rest : List ℕ} → Head text at kind first
+  leaf_done : (kind : Kind) (t : Tree) {at first k : ℕ} {rest : List ℕ}
+      → TypedOpening text at kind first
       → LeafContent text first k kind t → From text k (ascii.right_brace ∷ rest)
       → GroupAt at t rest
   leaf_done kind t {at} {first} {k} {rest} head content h = record {
     to = k + 1;
     keys = [];
     group = typed_leaf at first k kind t head content (byte_at text h);
-    after = next text h;
+    after = from_next text h;
   }
 
   string_group : (s : List ℕ) {at : ℕ} {rest : List ℕ} → NoQuote s
       → From text at (ascii.left_brace ∷ quoted_on s (ascii.right_brace ∷ rest))
       → GroupAt at (string s) rest
   string_group s {at} {rest} free h =
-      let f = next text h in
+      let f = from_next text h in
       let (q, named, f2) = quoted_text text s free f in
       let i = at + 1 in
       record {
@@ -420,7 +421,7 @@ module _ (text : List ℕ) where
             (no_skip text (solid_at text f refl refl))
             (string_item i i q q [] s (nothing i) named (no_skip text (solid_at text f2 refl refl)))
             (byte_at text f2);
-        after = next text f2;
+        after = from_next text f2;
       }
 
   table_group : (n : ℕ) (es : Entries) (at : ℕ) (rest : List ℕ)
@@ -439,7 +440,7 @@ module _ (text : List ℕ) where
         after = c.after;
       }
   table_group n (entry k t es) at rest ascend inner h =
-      let r = inner (at + 1) (next text h) in
+      let r = inner (at + 1) (from_next text h) in
       let c = close_entries (entry k t es) n r.after in
       let (first, skip, items) = r.gathered.read c.place c.skip in
       let e : tree_in (shape_of r.items) r.items ≡ table (entry k t es) =
@@ -513,8 +514,8 @@ module _ (text : List ℕ) where
           at = r.at;
           items = r.items;
           gathered = r.gathered;
-          means = r.means ∙ ap (λ l. l ++ members ts) one.means
-              ∙ append_assoc (item_trees xs) (t ∷ []) (members ts);
+          means = r.means ∙ ap (λ l. l ++ array_members ts) one.means
+              ∙ append_assoc (item_trees xs) (t ∷ []) (array_members ts);
           after = r.after;
         }
 

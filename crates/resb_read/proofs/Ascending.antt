@@ -11,7 +11,7 @@ use Rattle.std.proofs.lemmas.Option.{same_Some}
 use Rattle.std.proofs.lemmas.Bool.{true≢false, false≢true}
 use Rattle.resb_read.specs.Places.{Place}
 use Rattle.resb_read.specs.Tables.{is_text, last_from, key_of, IsBelow, AscendAbove, Ascend}
-use Rattle.resb_read.specs.Tables.{is_above, text_in, keys_ascend_above, keys_ascend_from}
+use Rattle.resb_read.specs.Tables.{is_above, text_or_empty, keys_ascend_above, keys_ascend_from}
 use Rattle.resb_read.specs.Tables.{keys_ascend}
 use Rattle.std.specs.Ordering.{is_lt}
 use Rattle.std.specs.declared.cmp.Ordering.{Ordering}
@@ -139,7 +139,8 @@ less_of Greater h = absurd (false≢true h)
 
 -- the test says that they ascend
 sound_step : (low : List ℕ) (o : Option (List ℕ × ℕ)) (es : List (Place × Place))
-    (b : Bool) → b ≡ is_above low o → (if b then keys_ascend_above (text_in o) es else false) ≡ true
+    (b : Bool) → b ≡ is_above low o
+    → (if b then keys_ascend_above (text_or_empty o) es else false) ≡ true
     → (t : List ℕ × ℕ) × (o ≡ Some t) × IsBelow low t.0 × (keys_ascend_above t.0 es ≡ true)
 sound_step low None es true k h = absurd (true≢false k)
 sound_step low None es false k h = absurd (false≢true h)

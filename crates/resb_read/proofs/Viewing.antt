@@ -13,8 +13,8 @@ use Rattle.resb_read.specs.Places.{Place}
 use Rattle.resb_read.specs.Reading.{Lacks, CountsThere}
 use Rattle.resb_read.specs.Reading.{any}
 use Rattle.resb_read.specs.Leaves.{CountsBytes, bytes_from}
-use Rattle.resb_read.specs.Refused.{bytes_refusal}
-use Rattle.resb_read.specs.Refused.{are_paid, view_refusal}
+use Rattle.resb_read.specs.PlaceRefusals.{bytes_refusal}
+use Rattle.resb_read.specs.PlaceRefusals.{are_paid, view_refusal}
 
 unpaid : (there : Option (List ℕ × ℕ)) (left : ℕ) (wrong other : Refusal)
     → Lacks (CountsThere any there) left

@@ -9,7 +9,7 @@ use Rattle.resb_tree.specs.Int28.{signed}
 use Rattle.resb_format.specs.Bytes.{words_of, part}
 use Rattle.resb_format.specs.Strings.{string_at, text_at, key_at}
 use Rattle.resb_format.specs.Parts.{Parts}
-use Rattle.resb_format.specs.Content.{counted}
+use Rattle.resb_format.specs.Content.{behind_count}
 use Rattle.resb_format.specs.Types as types
 use Rattle.resb_read.specs.Places.{Place}
 use Rattle.resb_read.specs.Reading.{IsThere, CountsThere}
@@ -48,16 +48,16 @@ bool_at (spot.Descriptor w) = if type_in w == types.integer then bool_of (value_
 bool_at s = None
 
 -- a number lies between two others, or is one of them
-abbrev pub IsWithin : ℤ → ℤ → ℤ → Type 0
-IsWithin low high x = (low ≤ℤ x) × (x ≤ℤ high)
+abbrev pub LiesInRange : ℤ → ℤ → ℤ → Type 0
+LiesInRange low high x = (low ≤ℤ x) × (x ≤ℤ high)
 
 -- a number with a sign stands there, and lies in the range
 abbrev pub ReadsSigned : ℤ → ℤ → Place → ℤ → ℕ → Type 0
-ReadsSigned low high p x n = IsThere (IsWithin low high) (signed_at p.at) x n
+ReadsSigned low high p x n = IsThere (LiesInRange low high) (signed_at p.at) x n
 
 -- a number with a sign stands there that is within the bounds of its type, and takes n
 abbrev pub CountsSigned : ℤ → ℤ → Place → ℕ → Type 0
-CountsSigned low high p n = CountsThere (IsWithin low high) (signed_at p.at) n
+CountsSigned low high p n = CountsThere (LiesInRange low high) (signed_at p.at) n
 
 -- a number without a sign stands there, and is at most the greatest of its type
 abbrev pub ReadsUnsigned : ℕ → Place → ℕ → ℕ → Type 0
@@ -128,7 +128,7 @@ units_as_bytes us = flat_map (to_le_bytes w16) us
 
 -- n items of so many bytes each, where word v is n and they follow it
 abbrev pub counted_bytes : Parts → ℕ → ℕ → Option (List ℕ)
-counted_bytes p each v = counted (words_of p.body) v (λ n. part p.body (4 * v + 4) (each * n))
+counted_bytes p each v = behind_count (words_of p.body) v (λ n. part p.body (4 * v + 4) (each * n))
 
 -- the bytes of a binary, of a string's units or of a vector's numbers, none at value 0
 abbrev pub bytes_of_type : Parts → ℕ → ℕ → Option (List ℕ)

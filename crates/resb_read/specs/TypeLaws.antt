@@ -6,7 +6,7 @@ use Rattle.std.proofs.Common.{sym, ap, ◌∙◌, subst, arith}
 use Rattle.std.proofs.lemmas.Option.{same_Some}
 use Rattle.resb_read.specs.Places.{Place}
 use Rattle.resb_read.specs.Reading.{any, IsThere, CountsThere}
-use Rattle.resb_read.specs.Leaves.{IsWithin, signed_at, unsigned_at, bool_at, bits_at, text_from}
+use Rattle.resb_read.specs.Leaves.{LiesInRange, signed_at, unsigned_at, bool_at, bits_at, text_from}
 use Rattle.resb_read.specs.Leaves.{key_from, bytes_from, ReadsSigned, CountsSigned, ReadsUnsigned}
 use Rattle.resb_read.specs.Leaves.{CountsUnsigned, ReadsBool, CountsBool, ReadsBits, CountsBits}
 use Rattle.resb_read.specs.Leaves.{ReadsText, CountsText, ReadsKey, CountsKey, ReadsBytes}
@@ -39,11 +39,11 @@ module _ {X : Type 0} (fits : X → Type 0) (there : Option (X × ℕ)) where
 
 pub signed_counted : (low high : ℤ) (p : Place) (x : ℤ) (n : ℕ) → ReadsSigned low high p x n
     → CountsSigned low high p n
-signed_counted low high p = there_counted (IsWithin low high) (signed_at p.at)
+signed_counted low high p = there_counted (LiesInRange low high) (signed_at p.at)
 
 pub signed_one : (low high : ℤ) (p : Place) (m n : ℕ) → CountsSigned low high p m
     → CountsSigned low high p n → m ≡ n
-signed_one low high p = there_one (IsWithin low high) (signed_at p.at)
+signed_one low high p = there_one (LiesInRange low high) (signed_at p.at)
 
 pub unsigned_counted : (high : ℕ) (p : Place) (x : ℕ) (n : ℕ) → ReadsUnsigned high p x n
     → CountsUnsigned high p n

@@ -30,17 +30,17 @@ abbrev pub is_word : ℕ → Bool
 is_word b = is_ascii_alphanumeric b || b == dash
 
 -- a string with its bytes, without quotes, and where it begins, with its quote
-pub record Words : Type 0 where
+pub record PlacedText : Type 0 where
   pub bytes : List ℕ
   pub place : ℕ
 
 -- a string, the name of a type, `{`, `}` or `,`
-pub data Piece : Type 0 where
-  a_string : Words → Piece
-  a_type : List ℕ → Piece
-  opening : Piece
-  closing : Piece
-  a_comma : Piece
+pub data TextPiece : Type 0 where
+  a_string : PlacedText → TextPiece
+  a_type : List ℕ → TextPiece
+  opening : TextPiece
+  closing : TextPiece
+  a_comma : TextPiece
 
 -- where the run of word characters before a place begins: at the place itself if there is none
 abbrev pub word_start : List ℕ → ℕ → ℕ
@@ -58,24 +58,24 @@ is_behind_colon text zero = false
 is_behind_colon text (suc n) = slice_index text n == colon || slice_index text n == left_parenthesis
 
 -- a string with these bytes
-abbrev pub words : List ℕ → ℕ → Words
-words bytes place = record { bytes = bytes; place = place }
+abbrev pub bytes_placed : List ℕ → ℕ → PlacedText
+bytes_placed bytes place = record { bytes = bytes; place = place }
 
 -- a word is the name of a type right behind a `:`, or `nofallback` right behind a `(`; else it is a
 -- string
-abbrev pub word_from : List ℕ → ℕ → ℕ → Piece
+abbrev pub word_from : List ℕ → ℕ → ℕ → TextPiece
 word_from text from to =
     if is_behind_colon text from then a_type (slice_range text from to)
-    else a_string (words (slice_range text from to) from)
+    else a_string (bytes_placed (slice_range text from to) from)
 
 -- the word whose last byte stands at a place: none where a word character follows
-abbrev pub word_at : List ℕ → ℕ → Option Piece
+abbrev pub word_at : List ℕ → ℕ → Option TextPiece
 word_at text n =
     if is_word (slice_index text (n + 1)) then None
     else Some (word_from text (word_start text n) (n + 1))
 
 -- among tokens: each piece but a word is one byte
-abbrev pub token_at : List ℕ → ℕ → ℕ → Option Piece
+abbrev pub token_at : List ℕ → ℕ → ℕ → Option TextPiece
 token_at text n b =
     if is_word b then word_at text n
     else (if b == left_brace then Some opening
@@ -83,12 +83,12 @@ token_at text n b =
     else (if b == comma then Some a_comma else None)))
 
 -- the string between the last quote before a place and that place
-abbrev pub quoted_at : List ℕ → ℕ → Piece
+abbrev pub quoted_at : List ℕ → ℕ → TextPiece
 quoted_at text n =
-    a_string (words (slice_range text (quote_before text n + 1) n) (quote_before text n))
+    a_string (bytes_placed (slice_range text (quote_before text n + 1) n) (quote_before text n))
 
 -- the piece whose last byte stands at a place, by what that byte stands in
-abbrev pub piece_in : Mode → List ℕ → ℕ → Option Piece
+abbrev pub piece_in : Mode → List ℕ → ℕ → Option TextPiece
 piece_in mode.Tokens text n = token_at text n (slice_index text n)
 piece_in mode.Slash text n = token_at text n (slice_index text n)
 piece_in mode.Quotes text n =
@@ -96,5 +96,5 @@ piece_in mode.Quotes text n =
 piece_in _ text n = None
 
 -- the piece whose last byte stands at a place
-abbrev pub piece_at : List ℕ → ℕ → Option Piece
+abbrev pub piece_at : List ℕ → ℕ → Option TextPiece
 piece_at text n = piece_in (mode_at text n) text n

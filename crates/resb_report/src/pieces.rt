@@ -6,7 +6,7 @@ ghost use Rattle.std.specs.Prelude.{length, option_map, slice_index};
 ghost use Rattle.resb_report.specs.Pieces as spec;
 ghost use Rattle.resb_report.specs.Pieces.{piece_at, token_at, word_at, is_behind_colon};
 ghost use Rattle.resb_report.specs.Warnings.{is_first_backslash};
-ghost use Rattle.resb_report.specs.Inner.Looks.{piece_of, Passed};
+ghost use Rattle.resb_report.specs.Inner.Looks.{text_piece_of, Passed};
 
 use crate::braces::Mode;
 
@@ -113,7 +113,7 @@ impl<'a> Pieces<'a> {
     pub(crate) fn piece(&self, at: usize) -> Option<Piece<'a>>
         requires passed { Passed self.now at }
         requires fits { at < length self.now.text.now }
-        ensures { option_map piece_of result ≡ piece_at self.now.text.now at }
+        ensures { option_map text_piece_of result ≡ piece_at self.now.text.now at }
     {
         match self.mode {
             Mode::Tokens | Mode::Slash => self.token(at),
@@ -129,7 +129,7 @@ impl<'a> Pieces<'a> {
     fn token(&self, at: usize) -> Option<Piece<'a>>
         requires passed { Passed self.now at }
         requires fits { at < length self.now.text.now }
-        ensures { option_map piece_of result
+        ensures { option_map text_piece_of result
             ≡ token_at self.now.text.now at (slice_index self.now.text.now at) }
     {
         let byte = self.text[at];
@@ -148,7 +148,7 @@ impl<'a> Pieces<'a> {
     fn word(&self, at: usize) -> Option<Piece<'a>>
         requires passed { Passed self.now at }
         requires fits { at < length self.now.text.now }
-        ensures { option_map piece_of result
+        ensures { option_map text_piece_of result
             ≡ word_at self.now.text.now at }
     {
         let to = at + 1;

@@ -3,7 +3,7 @@ use Rattle.std.proofs.Common.{◌≡◌, ℕ, ◌+◌, ◌*◌, ◌%◌, List, [
 use Rattle.std.proofs.Common.{subst, arith}
 use Rattle.std.proofs.lemmas.List.{drop-drop}
 use Rattle.std.proofs.Math.Seq.{drop-append_seam}
-use Rattle.resb_tree.specs.WalkOrder.{walk_order}
+use Rattle.resb_tree.specs.LayingOrder.{laying_order}
 use Rattle.resb_head.specs.File.{body_of, block_end}
 use Rattle.resb_layout.specs.Laid.{Laid, Given, here, halves}
 use Rattle.resb_layout.specs.InOrder.{FillsTail}
@@ -39,9 +39,9 @@ written_in_order bytes t f ks w =
     ap (λ n. drop n (body_of bytes)) (ends ∙ long)
     ∙ drop_two keys_start (body_of bytes) keys (halves (even b.laid.units)) b.laid.tail w.body in
     record {
-      tail = subst (λ n. FillsTail n (walk_order t) (drop (4 * block_end bytes) (body_of bytes)))
+      tail = subst (λ n. FillsTail n (laying_order t) (drop (4 * block_end bytes) (body_of bytes)))
           begins
-          (subst (λ bs. FillsTail (here g s) (walk_order t) bs) (sym (behind
+          (subst (λ bs. FillsTail (here g s) (laying_order t) bs) (sym (behind
           ∙ h.bytes_are)) h.tail);
       short = h.units;
       units = h.units_are;

@@ -52,14 +52,14 @@ module _ (x : Whole) where
   abbrev pub file : List ℕ
   file = file_of x.root x.largest x.fallback x.keys x.us x.tail
 
-  abbrev pub k : ℕ
-  k = length x.keys / 4
+  abbrev pub key_words : ℕ
+  key_words = length x.keys / 4
 
-  abbrev pub b : ℕ
-  b = length x.us / 2
+  abbrev pub block_words : ℕ
+  block_words = length x.us / 2
 
-  abbrev pub d : ℕ
-  d = length x.tail / 4
+  abbrev pub tail_words : ℕ
+  tail_words = length x.tail / 4
 
   pub body_is : body_of file ≡ body
   body_is = body_behind body
@@ -78,13 +78,13 @@ module _ (x : Whole) where
   pub fields_are : field_count file ≡ 7
   fields_are = word_is 1
 
-  pub keys_end_is : keys_end file ≡ 8 + k
+  pub keys_end_is : keys_end file ≡ 8 + key_words
   keys_end_is = word_is 2
 
-  pub resources_end_is : resources_end file ≡ 8 + k + b + d
+  pub resources_end_is : resources_end file ≡ 8 + key_words + block_words + tail_words
   resources_end_is = word_is 3
 
-  pub bundle_end_is : bundle_end file ≡ 8 + k + b + d
+  pub bundle_end_is : bundle_end file ≡ 8 + key_words + block_words + tail_words
   bundle_end_is = word_is 4
 
   pub largest_is : largest_table_field file ≡ x.largest
@@ -93,22 +93,22 @@ module _ (x : Whole) where
   pub flag_is : attributes file ≡ cond x.fallback 0 1
   flag_is = word_is 6
 
-  pub block_end_is : block_end file ≡ 8 + k + b
+  pub block_end_is : block_end file ≡ 8 + key_words + block_words
   block_end_is = word_is 7
 
-  key_length : length x.keys ≡ 4 * k
+  key_length : length x.keys ≡ 4 * key_words
   key_length = omega (arith, x.keys_whole)
 
-  unit_length : length x.us ≡ 2 * b
+  unit_length : length x.us ≡ 2 * block_words
   unit_length = omega (arith, x.units_whole)
 
-  tail_length : length x.tail ≡ 4 * d
+  tail_length : length x.tail ≡ 4 * tail_words
   tail_length = omega (arith, x.tail_whole)
 
   pub head_length : length head ≡ 32
   head_length = written_length head_words
 
-  pub body_length : length (body_of file) ≡ 4 * (8 + k + b + d)
+  pub body_length : length (body_of file) ≡ 4 * (8 + key_words + block_words + tail_words)
   body_length =
       ap length body_is
       ∙ omega (
@@ -123,10 +123,10 @@ module _ (x : Whole) where
         halves_len x.us,
       )
 
-  pub file_length : length file ≡ 32 + 4 * (8 + k + b + d)
+  pub file_length : length file ≡ 32 + 4 * (8 + key_words + block_words + tail_words)
   file_length = omega (arith, length-append written_header body, ap length body_is, body_length)
 
-  front_length : length (head ++ x.keys) ≡ 4 * (8 + k)
+  front_length : length (head ++ x.keys) ≡ 4 * (8 + key_words)
   front_length = omega (arith, key_length, length-append head x.keys, head_length)
 
   body_split : body ≡ (head ++ x.keys) ++ (halves x.us ++ x.tail)
@@ -134,7 +134,7 @@ module _ (x : Whole) where
 
   pub keys_are : take (4 * keys_end file) (body_of file) ≡ head ++ x.keys
   keys_are = (λ i. take (4 * keys_end_is i) ((body_is ∙ body_split) i))
-      ∙ take_at (head ++ x.keys) (halves x.us ++ x.tail) (4 * (8 + k)) front_length
+      ∙ take_at (head ++ x.keys) (halves x.us ++ x.tail) (4 * (8 + key_words)) front_length
 
   pub behind_head : drop 32 (body_of file) ≡ x.keys ++ (halves x.us ++ x.tail)
   behind_head = ap (drop 32) body_is
@@ -142,16 +142,17 @@ module _ (x : Whole) where
 
   rest_is : drop (4 * keys_end file) (body_of file) ≡ halves x.us ++ x.tail
   rest_is = (λ i. drop (4 * keys_end_is i) ((body_is ∙ body_split) i))
-      ∙ drop_at (head ++ x.keys) (halves x.us ++ x.tail) (4 * (8 + k)) front_length
+      ∙ drop_at (head ++ x.keys) (halves x.us ++ x.tail) (4 * (8 + key_words)) front_length
 
-  halves_long : length (halves x.us) ≡ 4 * (8 + k + b - (8 + k))
+  halves_long : length (halves x.us) ≡ 4 * (8 + key_words + block_words - (8 + key_words))
   halves_long = omega (arith, halves_len x.us, unit_length)
 
   block_is : units_of (take (4 * (block_end file - keys_end file))
       (drop (4 * keys_end file) (body_of file))) ≡ x.us
   block_is =
       (λ i. units_of (take (4 * (block_end_is i - keys_end_is i)) (rest_is i)))
-      ∙ ap units_of (take_at (halves x.us) x.tail (4 * (8 + k + b - (8 + k))) halves_long)
+      ∙ ap units_of (take_at (halves x.us) x.tail
+      (4 * (8 + key_words + block_words - (8 + key_words))) halves_long)
       ∙ ap units_of (sym (append-nil (halves x.us)))
       ∙ halves_read x.us [] x.units_fit
       ∙ ap (λ l. x.us ++ l) no_units ∙ append-nil x.us

@@ -7,8 +7,8 @@ use Rattle.resb_tree.specs.View.{entries_view}
 use Rattle.resb_tree.specs.declared.resource.Resource.{Resource}
 use Rattle.resb_layout.specs.Laid.{Given, ArePlaced}
 use Rattle.std.proofs.lemmas.List.{length-map}
-use Rattle.resb_tree.specs.WalkOrder.{entry_keys}
-use Rattle.resb_tree.specs.WalkOrder.{values_of}
+use Rattle.resb_tree.specs.LayingOrder.{entry_keys}
+use Rattle.resb_tree.specs.LayingOrder.{values_of}
 
 -- the keys of a table, read off its view, are those of its map
 pub keys_view : (es : List (List ℕ × Resource)) → entry_keys (entries_view es) ≡ keys_of es

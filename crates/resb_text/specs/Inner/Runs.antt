@@ -18,5 +18,5 @@ abbrev pub NoByte : ℕ → List ℕ → ℕ → Type 0
 NoByte b text from = (k : ℕ) → from ≤ k → k < length text → slice_index text k ≡ b → ⊥
 
 -- a line feed or a carriage return
-abbrev pub ends_line : ℕ → Bool
-ends_line b = b == ascii.line_feed || b == ascii.carriage_return
+abbrev pub is_line_end : ℕ → Bool
+is_line_end b = b == ascii.line_feed || b == ascii.carriage_return

@@ -1,5 +1,5 @@
-use Rattle.resb_tree.proofs.Int28Lemmas.{kept, signed_back}
+use Rattle.resb_tree.proofs.Int28Lemmas.{low_bits_kept, signed_back}
 use Rattle.resb_tree.proofs.laws.integers_survive.Goals as goal
 
 pub returns : goal.returns
-returns c = λ n h. (kept n h, signed_back n h)
+returns c = λ n h. (low_bits_kept n h, signed_back n h)

@@ -55,25 +55,25 @@ key_len : (j : List ℕ) (js : List (List ℕ))
 key_len j js = omega (arith, length-append (j ++ 0 ∷ []) (key_bytes js), length-append j (0 ∷ []))
 
 -- one more key at the end
-pub last_of-same : (k j : List ℕ) (js : List (List ℕ)) → same_text k j ≡ true
+pub last_place-same : (k j : List ℕ) (js : List (List ℕ)) → same_text k j ≡ true
     → last_place k (js ++ j ∷ []) ≡ Some (length (key_bytes js))
-last_of-same k j [] e = same_none k j [] refl ∙ ap (λ b. cond b (Some 0) None) e
-last_of-same k j (i ∷ js) e = same_found k i (js ++ j ∷ []) _ (last_of-same k j js e)
+last_place-same k j [] e = same_none k j [] refl ∙ ap (λ b. cond b (Some 0) None) e
+last_place-same k j (i ∷ js) e = same_found k i (js ++ j ∷ []) _ (last_place-same k j js e)
     ∙ ap Some (sym (key_len i js))
 
-pub last_of-other : (k j : List ℕ) (js : List (List ℕ)) → same_text k j ≡ false
+pub last_place-other : (k j : List ℕ) (js : List (List ℕ)) → same_text k j ≡ false
     → last_place k (js ++ j ∷ []) ≡ last_place k js
-last_of-other k j [] e = same_none k j [] refl ∙ ap (λ b. cond b (Some 0) None) e
-last_of-other k j (i ∷ js) e = same_rest k i (js ++ j ∷ []) js (last_of-other k j js e)
+last_place-other k j [] e = same_none k j [] refl ∙ ap (λ b. cond b (Some 0) None) e
+last_place-other k j (i ∷ js) e = same_rest k i (js ++ j ∷ []) js (last_place-other k j js e)
 
-pub last_of-push : (k j : List ℕ) (js : List (List ℕ))
+pub last_place-push : (k j : List ℕ) (js : List (List ℕ))
     → last_place k (js ++ j ∷ [])
     ≡ cond (same_text k j) (Some (length (key_bytes js))) (last_place k js)
-last_of-push k j js = elim (cases_Bool (same_text k j)) [
-  | inl e ↦ last_of-same k j js e ∙ ap (λ b. cond b (Some (length (key_bytes js))) (last_place k js))
-      (sym e)
-  | inr e ↦ last_of-other k j js e ∙ ap (λ b. cond b (Some (length (key_bytes js))) (last_place k js))
-      (sym e)
+last_place-push k j js = elim (cases_Bool (same_text k j)) [
+  | inl e ↦ last_place-same k j js e
+      ∙ ap (λ b. cond b (Some (length (key_bytes js))) (last_place k js)) (sym e)
+  | inr e ↦ last_place-other k j js e
+      ∙ ap (λ b. cond b (Some (length (key_bytes js))) (last_place k js)) (sym e)
 ]
 
 pub key_bytes-push : (j : List ℕ) (js : List (List ℕ))
@@ -172,7 +172,7 @@ place_moves a q js at old new e p o =
     e ∙ ap (λ s. cond s (Some at) old) (same_either_way a q)
     ∙ (λ i. cond (same_text q a) (Some (p i)) (o i))
     ∙ sym (map_cond (same_text q a) (length (key_bytes js)) (last_place q js))
-    ∙ ap (option_map near_position) (sym (last_of-push q a js))
+    ∙ ap (option_map near_position) (sym (last_place-push q a js))
 
 pub position_moves : (a : List ℕ) (js : List (List ℕ)) (at next : ℕ)
     → next ≡ min (at + (length a + 1)) (2 ^ 64 - 1)
@@ -219,8 +219,9 @@ no_place k (j ∷ js) e (zero, lt, is) =
     let f : Some 0 ≡ None = sym (same_none k j js o
     ∙ ap (λ t. cond t (Some 0) None) ((bytes_decides k j).1 (sym is))) ∙ e in
     none-some 0 (sym f)
-no_place k (j ∷ js) e (suc i, lt, is) = no_place k js (some_placed k j js (last_place k js) refl e) (
-  i,
-  omega arith,
-  is,
-)
+no_place k (j ∷ js) e (suc i, lt, is) =
+    no_place k js (some_placed k j js (last_place k js) refl e) (
+      i,
+      omega arith,
+      is,
+    )

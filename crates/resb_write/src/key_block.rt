@@ -28,8 +28,8 @@ const GREATEST_POSITION: u32 = 2_147_483_647;
 #[derive(Drop)]
 pub(crate) struct KeyBlock<'k> {
     pub(crate) keys: Vec<&'k str>,
-    /// The position of the last occurrence of each key of the tables, in laying order and in bytes of
-    /// the body.
+    /// The position of the last occurrence of each key of the tables, in laying order and in bytes
+    /// of the body.
     pub(crate) positions: Vec<u32>,
 }
 

@@ -83,9 +83,9 @@ fn steps<'t, 'a>(
     Ok(())
 }
 
-/// Lays a tree, whose resources are given in laying order, behind the pool of its strings, and gives
-/// its word. There is room for the bodies of its resources. `Err` is for want of memory alone;
-/// what stands then is of no use.
+/// Lays a tree, whose resources are given in laying order, behind the pool of its strings, and
+/// gives its word. There is room for the bodies of its resources. `Err` is for want of memory
+/// alone; what stands then is of no use.
 fn lay_order<'t, 'a>(
     alloc: Global,
     base: usize,
@@ -111,8 +111,8 @@ fn lay_order<'t, 'a>(
     Ok(word)
 }
 
-/// Lays a tree, whose resources are given in laying order, behind the pool of its strings, where the
-/// key block ends at a byte of the body. Gives what is laid, and the tree's word. The tail begins
+/// Lays a tree, whose resources are given in laying order, behind the pool of its strings, where
+/// the key block ends at a byte of the body. Gives what is laid, and the tree's word. The tail begins
 /// behind the 16-bit block, at a multiple of 4. `Err` is for want of memory alone.
 pub(crate) fn lay_bodies<'t, 'a>(
     alloc: Global,

@@ -131,7 +131,8 @@ fn count_own(
 }
 
 /// The number of units of the 16-bit block: those of the pool of the strings, and what the bodies
-/// of a tree add, whose resources are given in laying order. It is the same wherever the tail begins.
+/// of a tree add, whose resources are given in laying order. It is the same wherever the tail
+/// begins.
 pub(crate) fn count_units(
     alloc: Global,
     sites: &Sites<'_>,

@@ -1,10 +1,6 @@
 use Rattle.std.proofs.Common.{sym, ◌∙◌, ap, ◌++◌, ◌∷◌, []}
 use Rattle.resb_icu_text.proofs.StepsLemmas.{behind_member, behind_value, no_collation}
 use Rattle.resb_icu_text.proofs.StepsLemmas.{both_hold, first_fails, second_fails}
-use Rattle.resb_icu_text.proofs.steps.resume.Goals.{}
-use Rattle.resb_icu_text.proofs.steps.resume.Goals.{}
-use Rattle.resb_icu_text.proofs.steps.resume.Goals.{}
-use Rattle.resb_icu_text.proofs.steps.resume.Goals.{}
 use Rattle.resb_icu_text.proofs.steps.resume.Goals.{else-is_collation-via-then-is_collation+else-is_table}
 use Rattle.resb_icu_text.proofs.steps.resume.Goals.{else-is_collation-via-else-is_collation}
 use Rattle.resb_icu_text.proofs.steps.resume.Goals as goal

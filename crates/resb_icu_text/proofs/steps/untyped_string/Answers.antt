@@ -4,10 +4,6 @@ use Rattle.resb_grammar.specs.Ascii as ascii
 use Rattle.resb_tree.specs.declared.resource.Resource.{String}
 use Rattle.resb_icu_text.proofs.StepsLemmas.{untyped_one, untyped_comma, untyped_key}
 use Rattle.resb_icu_text.proofs.StepsLemmas.{no_untyped, no_untyped_string, no_key, is_a_key}
-use Rattle.resb_icu_text.proofs.steps.untyped_string.Goals.{}
-use Rattle.resb_icu_text.proofs.steps.untyped_string.Goals.{}
-use Rattle.resb_icu_text.proofs.steps.untyped_string.Goals.{}
-use Rattle.resb_icu_text.proofs.steps.untyped_string.Goals.{}
 use Rattle.resb_icu_text.proofs.steps.untyped_string.Goals.{else-b-ne123-via-then-b-ne123+else-b-ne58}
 use Rattle.resb_icu_text.proofs.steps.untyped_string.Goals.{else-b-ne123-via-else-b-ne123}
 use Rattle.resb_icu_text.proofs.steps.untyped_string.Goals as goal

@@ -44,7 +44,8 @@ returns-in_err-member-clause-answers c =
     let p = parts_in c.args.file in
     let i = c.rounds.invariant in
     let taken = subst (λ f. (w n : ℕ) → IsOpenedAt (parts_in f) c.rounds.inner.rest w n
-    → TakesNext (parts_in f) w n (Err c.in_err-member.field-0.0)) i.0 c.in_err-member.ensures.takes in
+    → TakesNext (parts_in f) w n (Err c.in_err-member.field-0.0)) i.0
+    c.in_err-member.ensures.takes in
     rw (e.1, e.2) (
       round_falls p c.args.word c.args.walk.now c.rounds.outer.items c.rounds.inner c.rounds.walk
           i.1,

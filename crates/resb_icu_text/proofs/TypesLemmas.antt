@@ -8,9 +8,9 @@ use Rattle.resb_grammar.specs.GroupTypes.{Kind, table_kind, Stands, NoFallback}
 use Rattle.resb_icu_grammar.specs.Words.{Word, TypeName, GroupType, RootType, table_type}
 use Rattle.resb_icu_grammar.specs.Words.{no_fallback_type}
 use Rattle.resb_icu_grammar.proofs.Lexical.{GroupType-one}
-use Rattle.resb_icu_text.specs.Kinds.{kind_of}
-use Rattle.resb_icu_text.specs.declared.types.Kind as code
-use Rattle.resb_icu_text.specs.declared.types.Kind.TheVariants as names
+use Rattle.resb_grammar.specs.Kinds.{group_kind_of}
+use Rattle.resb_grammar.specs.declared.group_kind.Kind as code
+use Rattle.resb_grammar.specs.declared.group_kind.Kind.TheVariants as names
 
 -- one byte more of those that stand here
 pub stands_next : (text xs : List ℕ) (here i b : ℕ) (Q : Type 0) → i < length xs → get_or xs i 0 ≡ b
@@ -86,7 +86,7 @@ module _ (text : List ℕ) (at : ℕ) where
       ne (GroupType-one text at i h.0 kind table_kind g h.1).1
 
 -- the code's names differ where the types do
-pub not_table : (k : code.Kind) → (k ≡ names.Table → ⊥) → kind_of k ≢ table_kind
+pub not_table : (k : code.Kind) → (k ≡ names.Table → ⊥) → group_kind_of k ≢ table_kind
 not_table names.Table h e = h refl
 not_table names.String h e = absurd cc
 not_table names.Array h e = absurd cc

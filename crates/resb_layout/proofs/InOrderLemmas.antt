@@ -138,7 +138,8 @@ wide_whole at ps ws word =
       length-append (words ps) (words ws),
     )
 
-pad_long : (n : ℕ) → ((n % 2 ≡ 0) × (length (pad n) ≡ 2)) ⊎ ((n % 2 ≡ 1) × (length (pad n) ≡ 0))
+-- the padding behind n positions: none where they are odd in number
+pub pad_long : (n : ℕ) → ((n % 2 ≡ 0) × (length (pad n) ≡ 2)) ⊎ ((n % 2 ≡ 1) × (length (pad n) ≡ 0))
 pad_long n = by (nat_eq (n % 2) 0) refl
   where
     by : (b : Bool) → nat_eq (n % 2) 0 ≡ b → ((n % 2 ≡ 0) × (length (pad n) ≡ 2))
@@ -206,9 +207,9 @@ module _ (g : Given) where
       (wide_whole (here g s) ps ws word)
 
 -- the members of a table in laying order
-values_walked : (es : Entries) → laying_each (entry_trees es) ≡ laying_values es
-values_walked no_entries = refl
-values_walked (entry k t es) = ap (λ ts. laying_order t ++ ts) (values_walked es)
+pub laying_each-entry_trees : (es : Entries) → laying_each (entry_trees es) ≡ laying_values es
+laying_each-entry_trees no_entries = refl
+laying_each-entry_trees (entry k t es) = ap (λ ts. laying_order t ++ ts) (laying_each-entry_trees es)
 
 mutual
   in_order : {g : Given} {s e : Laid} {t : Tree} {w : ℕ} → Lays g s t e w → here g s % 4 ≡ 0
@@ -230,7 +231,7 @@ mutual
   in_order {g = g} (lays_no_entries {s = s'}) word = nothing g s' _ word
   in_order {g = g} {s = s} (lays_entries {mid = m'} {es = es'} ps p h some c) word =
       let k = each_in_order h word in
-      joined_in_order g (subst (StandsInOrder g s m') (values_walked es') k)
+      joined_in_order g (subst (StandsInOrder g s m') (laying_each-entry_trees es') k)
       (table_in_order g es' k.whole some c)
 
   each_in_order : {g : Given} {s e : Laid} {ts : Trees} {ws : List ℕ} → LaysEach g s ts e ws

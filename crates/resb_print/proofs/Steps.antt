@@ -32,10 +32,8 @@ use Rattle.resb_print.specs.declared.error.PrintError.TheVariants.{NotPrintable}
 use Rattle.resb_tree.specs.Maps.{text_cmp}
 use Rattle.std.specs.List.Sorted.{IsStrictlySortedBy}
 use Rattle.std.proofs.Common.{inl, inr}
-
-pub keys_view : (es : List (List ℕ × Resource)) → entry_keys (entries_view es) ≡ keys_of es
-keys_view [] = refl
-keys_view (e ∷ es) = ap (λ l. e.0 ∷ l) (keys_view es)
+use Rattle.resb_tree.proofs.MapsLemmas.{entry_keys-entries_view}
+use Rattle.resb_tree.proofs.Numbers.{positive_where_false}
 
 -- a job is put, where those before it come later
 pub put_before : (js ks : List Job) (j : Job)
@@ -278,10 +276,6 @@ refused js ls j es old now e f u (inr (x, h, g)) =
       sym u.causes ∙ ap (λ l. jobs_cause l None) f ∙ fold_push job_cause js j None
           ∙ g (jobs_cause js None),
     )
-
-pub not_none : (n : ℕ) (b : Bool) → (n ≡ 0 → IsTrue b) → b ≡ false → 0 < n
-not_none zero b h e = absurd (false≢true (sym e ∙ h refl))
-not_none (suc n) b h e = omega arith
 
 pub not_empty : (n : ℕ) → (n == 0) ≡ false → 0 < n
 not_empty n h = grind (arith, nat_tests)

@@ -166,28 +166,6 @@ sound (e ∷ es) h = sound_from (key_of e) es h
 -- parts of pairs
 pub ruleset maps = (take-map, drop-map)
 
-zip_none : {A B : Type 0} (xs : List A) → zip {K = A} {X = B} xs [] ≡ []
-zip_none [] = refl
-zip_none (x ∷ xs) = refl
-
-zip_take : {A B : Type 0} (n : ℕ) (xs : List A) (ys : List B)
-    → zip (take n xs) (take n ys) ≡ take n (zip xs ys)
-zip_take zero xs ys = refl
-zip_take (suc n) [] ys = refl
-zip_take (suc n) (x ∷ xs) [] = refl
-zip_take (suc n) (x ∷ xs) (y ∷ ys) = ap (λ r. (x, y) ∷ r) (zip_take n xs ys)
-
-zip_drop : {A B : Type 0} (n : ℕ) (xs : List A) (ys : List B)
-    → zip (drop n xs) (drop n ys) ≡ drop n (zip xs ys)
-zip_drop zero xs ys = refl
-zip_drop (suc n) [] ys = refl
-zip_drop (suc n) (x ∷ xs) [] = zip_none (drop n xs)
-zip_drop (suc n) (x ∷ xs) (y ∷ ys) = zip_drop n xs ys
-
-pub zip_cut : {A B : Type 0} (k n : ℕ) (xs : List A) (ys : List B)
-    → zip (take n (drop k xs)) (take n (drop k ys)) ≡ take n (drop k (zip xs ys))
-zip_cut k n xs ys = zip_take n (drop k xs) (drop k ys) ∙ ap (take n) (zip_drop k xs ys)
-
 map_append : {A B : Type 0} (f : A → B) (xs ys : List A) → map f (xs ++ ys) ≡ map f xs ++ map f ys
 map_append f [] ys = refl
 map_append f (x ∷ xs) ys = ap (λ r. f x ∷ r) (map_append f xs ys)

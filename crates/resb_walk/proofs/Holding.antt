@@ -27,13 +27,6 @@ pub table_is_one : {A : Type 0} (es : List A) → resource_count_in (table_piece
 table_is_one [] = refl
 table_is_one (e ∷ es) = refl
 
--- what a leaf of a text is
-text_of_leaf : {o : Option (List ℕ)} {c : Content}
-    → option_map (λ s. leaf (string s)) o ≡ Some c
-    → (s : List ℕ) × (o ≡ Some s) × (c ≡ leaf (string s))
-text_of_leaf {o = None} e = absurd cc
-text_of_leaf {o = Some s} e = (s, refl, cc)
-
 module _ (p : Parts) where
   -- by what stands at the word
   pub leaf_holds : {w : ℕ} {t : Tree} {xs : List Piece} → content_at p w ≡ Some (leaf t)

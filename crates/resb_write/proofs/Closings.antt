@@ -14,6 +14,7 @@ use Rattle.resb_layout.specs.Laid.{are_short, more_bytes}
 use Rattle.resb_layout.specs.Laid.{are_near, offsets_in}
 use Rattle.resb_layout.proofs.Numbers.{halves_len}
 use Rattle.resb_format.proofs.WordsBack.{written_length}
+use Rattle.resb_layout.proofs.InOrderLemmas.{pad_long}
 
 pub body_long : (ws : List ℕ) → length (words_body ws) ≡ 4 + 4 * length ws
 body_long ws = omega (
@@ -117,19 +118,6 @@ wide_taken bs cs ps ws n e =
       written_length ps,
       written_length ws,
     )
-
-pad_long : (n : ℕ) → ((n % 2 ≡ 0) × (length (pad n) ≡ 2)) ⊎ ((n % 2 ≡ 1) × (length (pad n) ≡ 0))
-pad_long n = by (nat_eq (n % 2) 0) refl
-  where
-    by : (b : Bool) → nat_eq (n % 2) 0 ≡ b → ((n % 2 ≡ 0) × (length (pad n) ≡ 2))
-        ⊎ ((n % 2 ≡ 1) × (length (pad n) ≡ 0))
-    by true e = inl (
-      eqb-true (n % 2) 0 e,
-      ap (λ b. length {A = ℕ} (cond b (0xaa ∷ 0xaa ∷ []) []))
-          e,
-    )
-    by false e = (let ne = eqb-false (n % 2) 0 e in
-        inr (omega (arith, ne), ap (λ b. length {A = ℕ} (cond b (0xaa ∷ 0xaa ∷ []) [])) e))
 
 -- an even number of positions is padded, so that whole words are taken
 pub table_taken : (bs cs ps ws : List ℕ) → length ps ≡ length ws → cs ≡ bs ++ near_table_body ps ws

@@ -209,7 +209,8 @@ module _ (g : Given) where
 -- the members of a table in laying order
 pub laying_each-entry_trees : (es : Entries) → laying_each (entry_trees es) ≡ laying_values es
 laying_each-entry_trees no_entries = refl
-laying_each-entry_trees (entry k t es) = ap (λ ts. laying_order t ++ ts) (laying_each-entry_trees es)
+laying_each-entry_trees (entry k t es) = ap (λ ts. laying_order t
+    ++ ts) (laying_each-entry_trees es)
 
 mutual
   in_order : {g : Given} {s e : Laid} {t : Tree} {w : ℕ} → Lays g s t e w → here g s % 4 ≡ 0

@@ -149,7 +149,8 @@ module _ (text : List ℕ) where
           pairs = r.pairs;
           closes = c.brace;
           after = end_skip c.after;
-          means = ap table (sym (map_of-pairs_of es ascend)) ∙ ap (λ l. table (map_of l)) (sym r.means);
+          means = ap table (sym (map_of-pairs_of es ascend))
+              ∙ ap (λ l. table (map_of l)) (sym r.means);
           lists = refl;
         },
       )

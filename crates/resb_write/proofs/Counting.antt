@@ -178,7 +178,8 @@ module _ (g : Given) where
         (near_keys (entry_keys es) ps p.positions) some c in (
           one_more_counted (length s.units) (length mid.units) (length e.units) 0 _
               (laying_values es) t
-              (r.0 ∙ ap (λ l. length s.units + sum_by (own_units g) l) (laying_each-entry_trees es)) o.0 refl,
+              (r.0 ∙ ap (λ l. length s.units + sum_by (own_units g) l)
+              (laying_each-entry_trees es)) o.0 refl,
           o.1,
         )
 

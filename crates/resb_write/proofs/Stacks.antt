@@ -172,7 +172,8 @@ array_step g s e ws xs vs ts w n c h v some k p =
       taken = q.0 ∙ ap (λ l. take (length ws - n) ws ++ l) (sym v);
       many = ap length v ∙ q.1 ∙ c;
       put = p;
-      closes = λ before l. lays_items (subst (λ us. LaysEach g before us s vs) (trees_of-array_members ts) l)
+      closes = λ before l. lays_items
+          (subst (λ us. LaysEach g before us s vs) (trees_of-array_members ts) l)
           (omega (arith, ap length v, q.1)) k;
     }
 

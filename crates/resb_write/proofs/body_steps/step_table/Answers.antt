@@ -44,7 +44,8 @@ returns-clause-step c =
     on_ok_weaker c.step_full_table.result
     (λ h g at placed. h g at (entries_view es) (sym (values_long es) ∙ sym c.requires.many)
     (record {
-      ascend = subst (IsStrictlySortedBy text_cmp) (sym (entry_keys-entries_view es)) c.keys-keys.ensures.ordered;
+      ascend = subst (IsStrictlySortedBy text_cmp)
+          (sym (entry_keys-entries_view es)) c.keys-keys.ensures.ordered;
       positions = placed;
     }))
     c.step_full_table.ensures.step

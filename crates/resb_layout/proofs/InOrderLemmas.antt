@@ -10,7 +10,8 @@ use Rattle.resb_tree.specs.Tree.{Tree, array, table, binary, int_vector, Trees, 
 use Rattle.resb_tree.specs.Tree.{no_entries, entry}
 use Rattle.resb_tree.specs.LayingOrder.{laying_order, laying_each, laying_values}
 use Rattle.resb_format.proofs.WordsBack.{written_length}
-use Rattle.resb_layout.specs.Laid.{Given, Laid, more_units, more_bytes, here, words, halves, pad}
+use Rattle.resb_layout.specs.Laid.{Given, Laid, more_units, more_bytes, here, words, pad}
+use Rattle.resb_format.specs.Bytes.{units_as_bytes}
 use Rattle.resb_layout.specs.Laid.{to_data, to_word, fill, offsets_in, words_body, near_table_body}
 use Rattle.resb_layout.specs.Laid.{wide_table_body, binary_body, entry_trees}
 use Rattle.resb_layout.specs.Laid.{ClosesArray, short_array, long_array, ClosesTable}
@@ -159,8 +160,9 @@ near_long ps ws =
       arith,
       written_length ws,
       halves_len ps,
-      length-append (to_le_bytes w16 (length ps)) (halves ps ++ (pad (length ps) ++ words ws)),
-      length-append (halves ps) (pad (length ps) ++ words ws),
+      length-append (to_le_bytes w16 (length ps)) (units_as_bytes ps
+          ++ (pad (length ps) ++ words ws)),
+      length-append (units_as_bytes ps) (pad (length ps) ++ words ws),
       length-append (pad (length ps)) (words ws),
     )
 

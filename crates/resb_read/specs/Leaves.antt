@@ -16,6 +16,7 @@ use Rattle.resb_read.specs.Reading.{IsThere, CountsThere}
 use Rattle.resb_read.specs.Reading.{any}
 use Rattle.resb_read.specs.declared.cursor.Spot.{Spot}
 use Rattle.resb_read.specs.declared.cursor.Spot.TheVariants as spot
+use Rattle.resb_format.specs.Bytes.{units_as_bytes}
 
 -- the type and the value of a descriptor
 abbrev pub type_in : ℕ → ℕ
@@ -121,10 +122,6 @@ ReadsKey p x n = IsThere any (key_from p.parts p.at) x n
 -- a key that is a text stands there, and takes n
 abbrev pub CountsKey : Place → ℕ → Type 0
 CountsKey p n = CountsThere any (key_from p.parts p.at) n
-
--- the bytes under the units of a string, which need be no text
-abbrev pub units_as_bytes : List ℕ → List ℕ
-units_as_bytes us = flat_map (to_le_bytes w16) us
 
 -- n items of so many bytes each, where word v is n and they follow it
 abbrev pub counted_bytes : Parts → ℕ → ℕ → Option (List ℕ)

@@ -9,7 +9,8 @@ use Rattle.resb_tree.specs.Tree.{binary, int_vector}
 use Rattle.resb_layout.specs.Laid.{Lays, lays_bytes, lays_numbers, fill, to_word, to_data}
 use Rattle.resb_layout.specs.Laid.{binary_body, Given, Laid, ClosesArray, short_array, long_array}
 use Rattle.resb_layout.specs.Laid.{ClosesTable, short_table, long_table, wide_table, here, words}
-use Rattle.resb_layout.specs.Laid.{halves, words_body, near_table_body, wide_table_body, pad}
+use Rattle.resb_layout.specs.Laid.{words_body, near_table_body, wide_table_body, pad}
+use Rattle.resb_format.specs.Bytes.{units_as_bytes}
 use Rattle.resb_layout.specs.Laid.{are_short, more_bytes}
 use Rattle.resb_layout.specs.Laid.{are_near, offsets_in}
 use Rattle.resb_layout.proofs.Numbers.{halves_len}
@@ -125,8 +126,8 @@ pub table_taken : (bs cs ps ws : List ℕ) → length ps ≡ length ws → cs �
 table_taken bs cs ps ws n e =
     let a = length-append bs (near_table_body ps ws) in
     let b = length-append (to_le_bytes w16 (length ps))
-    (halves ps ++ (pad (length ps) ++ words ws)) in
-    let d = length-append (halves ps) (pad (length ps) ++ words ws) in
+    (units_as_bytes ps ++ (pad (length ps) ++ words ws)) in
+    let d = length-append (units_as_bytes ps) (pad (length ps) ++ words ws) in
     let f = length-append (pad (length ps)) (words ws) in
     let two : length (to_le_bytes w16 (length ps)) ≡ 2 = refl in
     elim (pad_long (length ps)) [

@@ -16,7 +16,3 @@ pub record FirstByte (b : ℕ) (text : List ℕ) (from to : ℕ) : Type 0 where
 -- this byte stands nowhere from here on
 abbrev pub NoByte : ℕ → List ℕ → ℕ → Type 0
 NoByte b text from = (k : ℕ) → from ≤ k → k < length text → slice_index text k ≡ b → ⊥
-
--- a line feed or a carriage return
-abbrev pub is_line_end : ℕ → Bool
-is_line_end b = b == ascii.line_feed || b == ascii.carriage_return

@@ -52,7 +52,7 @@ fn is_bare(text: &str) -> bool
 
 /// Writes a string in quotes.
 pub(crate) fn push_quoted(out: &mut String, text: &str) -> Result<(), AllocError>
-    ensures { OnOk result (Writes out.old out.new (quoted_on text.now)) }
+    ensures { OnOk result (Appends out.old out.new (quoted_on text.now)) }
 {
     out.push_str("\"")?;
     out.push_str(text)?;

@@ -47,7 +47,7 @@ pub fn print_text(alloc: Global, bundle: &ResourceBundle<'_>) -> Result<String, 
     ensures size { IfOk result (λ text. length (string_bytes text)
         ≤ text_limit (name_of bundle.now) (root_of bundle.now)) }
     ensures refusal { IfErr result (λ e.
-        Refused e (first_cause (name_of bundle.now) (root_of bundle.now))) }
+        SaysCause e (first_cause (name_of bundle.now) (root_of bundle.now))) }
     ensures none { IfErr result (λ e. (e ≡ PrintError.OutOfMemory)
         ⊎ HasNoText (name_of bundle.now) bundle.now.is_locale_fallback_enabled
         (root_of bundle.now)) }

@@ -1,16 +1,13 @@
 -- Laws of types of groups and of the root, as the reader's functions use them.
 use Rattle.std.proofs.Common.{◌≡◌, ◌≢◌, ℕ, suc, ◌+◌, ◌<◌, ◌≤◌, Bool, true, false, List, ◌∷◌}
-use Rattle.std.proofs.Common.{arith, length, get_or, drop, refl, sym, ◌∙◌, ap, subst, Some, add-one}
+use Rattle.std.proofs.Common.{arith, length, get_or, drop, refl, sym, ◌∙◌, ap, subst, Some}
 use Rattle.std.proofs.Common.{drop-cons}
-use Rattle.std.specs.Prelude.{◌↔◌, slice_get, slice_index, codes}
+use Rattle.std.specs.Prelude.{slice_get, slice_index, codes}
 use Rattle.std.proofs.lemmas.Option.{slice_get_within, slice_get-get_or, same_Some}
 use Rattle.resb_grammar.specs.GroupTypes.{Kind, table_kind, Stands, NoFallback}
 use Rattle.resb_icu_grammar.specs.Words.{Word, TypeName, GroupType, RootType, table_type}
 use Rattle.resb_icu_grammar.specs.Words.{no_fallback_type}
 use Rattle.resb_icu_grammar.proofs.Lexical.{GroupType-one}
-use Rattle.resb_grammar.specs.Kinds.{group_kind_of}
-use Rattle.resb_grammar.specs.declared.group_kind.Kind as code
-use Rattle.resb_grammar.specs.declared.group_kind.Kind.TheVariants as names
 
 -- where the byte is another, the bytes do not stand
 pub not_there : (text xs : List ℕ) (here i : ℕ) → i < length xs

@@ -1,6 +1,6 @@
 -- Laws of words and numbers, as the reader's functions use them.
-use Rattle.std.proofs.Common.{◌≡◌, ◌≢◌, ℕ, suc, ◌+◌, ◌-◌, ◌*◌, ◌<◌, ◌≤◌, min, true, List}
-use Rattle.std.proofs.Common.{arith, subst, sym, ap, ◌∙◌, get_or}
+use Rattle.std.proofs.Common.{◌≡◌, ◌≢◌, ℕ, ◌+◌, ◌-◌, ◌*◌, ◌<◌, ◌≤◌, min, true, List}
+use Rattle.std.proofs.Common.{arith, subst, sym, ◌∙◌, get_or}
 use Rattle.std.specs.Prelude.{Option, Some, None, IfNone, slice_index}
 use Rattle.std.proofs.lemmas.Bool.Decides.{nat_tests}
 use Rattle.std.proofs.lemmas.Str.{IsCharBoundary-after_ascii}

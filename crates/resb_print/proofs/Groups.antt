@@ -6,7 +6,6 @@ use Rattle.std.proofs.Common.{Some, inr, zero, suc}
 use Rattle.std.specs.Prelude.{slice_index, codes, decimal, ◌==◌, ◌&&◌, not, nat_eq}
 use Rattle.std.proofs.Common.{eqb-true}
 use Rattle.std.specs.List.Sorted.{IsStrictlySortedBy}
-use Rattle.std.specs.Map.{keys_of}
 use Rattle.hex.specs.Hex.{encode_lower, encode_with, lower_digits}
 use Rattle.std.proofs.lemmas.Bool.{false≢true, and_parts, and_from, or_from}
 use Rattle.std.proofs.lemmas.Bool.Decides.{nat_tests}
@@ -14,13 +13,12 @@ use Rattle.resb_tree.specs.Tree.{Tree, string, array, table, binary, integer, in
 use Rattle.resb_tree.specs.Tree.{no_trees, more_trees, Entries, no_entries, entry, trees_of, map_of}
 use Rattle.resb_tree.specs.Maps.{text_cmp, pairs_of}
 use Rattle.resb_tree.specs.LayingOrder.{array_members, entry_keys}
-use Rattle.resb_tree.proofs.MapsLemmas.{map_of-sorted, entries_of-pairs_of}
 use Rattle.resb_grammar.specs.Ascii as ascii
 use Rattle.resb_grammar.specs.ByteRuns.{is_white, is_word}
 use Rattle.resb_grammar.specs.Lexical.{Blanks, Skip, IsSolid, Number}
 use Rattle.resb_grammar.specs.Items.{Item, Term, string_term, group_term, plain, before_comma}
 use Rattle.resb_grammar.specs.Items.{is_pairs, pairs_in, item_trees, term_tree, keys_in}
-use Rattle.resb_grammar.specs.Items.{a_table, an_array, Shape, shape_of, table_if, tree_in}
+use Rattle.resb_grammar.specs.Items.{an_array, Shape, shape_of, tree_in}
 use Rattle.resb_grammar.specs.GroupTypes.{Kind, array_kind, table_kind, binary_kind}
 use Rattle.resb_grammar.specs.GroupTypes.{integer_kind, vector_kind, TypedOpening}
 use Rattle.resb_grammar.specs.Group.{is_hex, hex_value, byte_before}

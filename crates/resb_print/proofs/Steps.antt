@@ -1,12 +1,10 @@
 -- What a job leaves to be done, together with what it writes, is the job.
-use Rattle.std.proofs.Common.{◌≡◌, ℕ, zero, suc, ◌+◌, ◌*◌, ◌<◌, Bool, true, false, List}
+use Rattle.std.proofs.Common.{◌≡◌, ℕ, ◌+◌, ◌*◌, ◌<◌, true, false, List}
 use Rattle.std.proofs.Common.{[], ◌∷◌, ◌++◌}
 use Rattle.std.proofs.Common.{map, reverse, length, refl, sym, ◌∙◌, ap, subst, arith, append_assoc}
 use Rattle.std.proofs.Common.{Option, Some, None}
-use Rattle.std.specs.Prelude.{codes, IsTrue, ◌==◌}
-use Rattle.std.proofs.lemmas.Bool.{false≢true}
+use Rattle.std.specs.Prelude.{codes, ◌==◌}
 use Rattle.std.proofs.lemmas.Bool.Decides.{nat_tests}
-use Rattle.std.specs.Map.{keys_of}
 use Rattle.std.specs.String.{string_bytes}
 use Rattle.std.specs.declared.alloc.Global.{Global}
 use Rattle.std.specs.declared.string.String.{String}
@@ -32,8 +30,6 @@ use Rattle.resb_print.specs.declared.error.PrintError.TheVariants.{NotPrintable}
 use Rattle.resb_tree.specs.Maps.{text_cmp}
 use Rattle.std.specs.List.Sorted.{IsStrictlySortedBy}
 use Rattle.std.proofs.Common.{inl, inr}
-use Rattle.resb_tree.proofs.MapsLemmas.{entry_keys-entries_view}
-use Rattle.resb_tree.proofs.Numbers.{positive_where_false}
 
 -- a job is put, where those before it come later
 pub put_before : (js ks : List Job) (j : Job)

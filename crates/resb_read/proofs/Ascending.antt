@@ -15,9 +15,9 @@ use Rattle.resb_read.specs.Tables.{is_above, text_or_empty, keys_ascend_above, k
 use Rattle.resb_read.specs.Tables.{keys_ascend}
 use Rattle.std.specs.Ordering.{is_lt}
 use Rattle.std.specs.declared.cmp.Ordering.{Ordering}
-use Rattle.std.specs.List.{zip, take-map, drop-map}
+use Rattle.std.specs.List.{take-map, drop-map}
 use Rattle.std.proofs.lemmas.Map.Lookups.{exact_bytes}
-use Rattle.std.proofs.Common.{take, drop, map, suc, zero, if◌then◌else◌}
+use Rattle.std.proofs.Common.{map, if◌then◌else◌}
 
 below_not : (s t : List ℕ) → IsBelow s t → bytes_eq s t ≡ false
 below_not s t h = sym (is_eq-slice_cmp s t) ∙ ap is_eq h

@@ -3,8 +3,7 @@
 use Rattle.std.specs.Prelude.{ℕ, ℤ, ◌≡◌, ◌≤ℤ◌, ◌≤◌, ◌+◌, ◌*◌, ◌/◌, ◌%◌, ◌^◌, ◌==◌, length}
 use Rattle.std.specs.Prelude.{List, [], Bool, true, false, Option, Some, None, option_map}
 use Rattle.std.specs.Prelude.{if◌then◌else◌}
-use Rattle.std.specs.List.{flat_map}
-use Rattle.std.specs.Int.{cast_signed, to_le_bytes, w16, w32}
+use Rattle.std.specs.Int.{cast_signed, w32}
 use Rattle.resb_tree.specs.Int28.{signed}
 use Rattle.resb_format.specs.Bytes.{words_of, part}
 use Rattle.resb_format.specs.Strings.{string_at, text_at, key_at}

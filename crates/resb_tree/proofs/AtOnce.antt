@@ -1,7 +1,7 @@
 -- A map that is made at once has the entries of one into which the pairs are put in turn.
-use Rattle.std.proofs.Common.{◌≡◌, ℕ, Bool, true, false, List, [], ◌∷◌, BTreeMap, Ordering}
+use Rattle.std.proofs.Common.{◌≡◌, ℕ, List, [], ◌∷◌, BTreeMap, Ordering}
 use Rattle.std.proofs.Common.{Less, Equal, Greater, refl, sym, ap, ◌∙◌, subst}
-use Rattle.std.specs.Prelude.{cond, Option, Some, None, T, ◌&&◌}
+use Rattle.std.specs.Prelude.{cond, Option, Some, None, T}
 use Rattle.std.specs.BTreeMap.{insert_entry, is_at, IsFromIterResult}
 use Rattle.std.specs.Cmp.Lexicographic.{nat_list_cmp_total}
 use Rattle.std.specs.FinMap.{slice_cmp-IsAntisymmetric, nat_cmp-IsAntisymmetric}

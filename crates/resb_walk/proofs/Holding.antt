@@ -7,7 +7,7 @@ use Rattle.std.proofs.lemmas.List.Sums.{sum_by-cons, sum_by-append}
 use Rattle.resb_tree.specs.Tree.{Tree, string}
 use Rattle.resb_format.specs.Strings.{text_at, key_at}
 use Rattle.resb_format.specs.Parts.{Parts}
-use Rattle.resb_format.specs.Content.{Member, Content, word, unit, leaf, list, entry_list}
+use Rattle.resb_format.specs.Content.{Member, word, unit, leaf, list, entry_list}
 use Rattle.resb_format.specs.Content.{content_at}
 use Rattle.resb_format.specs.Content.{text_leaf}
 use Rattle.resb_format.specs.Denotes.{Den, den_leaf, den_list, den_pairs, DenMember, den_word}

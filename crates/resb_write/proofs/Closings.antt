@@ -1,9 +1,8 @@
 -- What was appended closes an array or a table, and takes no more than there is room for.
 use Rattle.std.proofs.Common.{◌≡◌, ℕ, zero, suc, ◌+◌, ◌*◌, ◌%◌, ◌^◌, ◌<◌, ◌≤◌, List, [], ◌∷◌, ◌++◌}
-use Rattle.std.proofs.Common.{length, Bool, true, false, cond, nat_eq, ◌⊎◌, inl, inr, refl, sym}
+use Rattle.std.proofs.Common.{length, true, false, inl, inr, refl, sym}
 use Rattle.std.proofs.Common.{◌∙◌, ap, subst, append_assoc, length-append, arith}
 use Rattle.std.specs.Int.{to_le_bytes, w16, w32}
-use Rattle.std.proofs.lemmas.Bool.{eqb-true, eqb-false}
 use Rattle.std.specs.List.{All}
 use Rattle.resb_tree.specs.Tree.{binary, int_vector}
 use Rattle.resb_layout.specs.Laid.{Lays, lays_bytes, lays_numbers, fill, to_word, to_data}

@@ -1,7 +1,6 @@
 -- The keys of a table, and what a map has at each.
-use Rattle.std.proofs.Common.{◌≡◌, ℕ, List, [], ◌∷◌, ◌++◌, map, length, Option, Some, Bool, true}
-use Rattle.std.proofs.Common.{false, IsTrue, ◌<◌, zero, suc, refl, sym, ◌∙◌, ap, arith}
-use Rattle.std.specs.Map.{keys_of}
+use Rattle.std.proofs.Common.{◌≡◌, ℕ, List, [], ◌∷◌, ◌++◌, map, length, Option, Some}
+use Rattle.std.proofs.Common.{refl, sym, ◌∙◌, ap, arith}
 use Rattle.resb_tree.specs.Tree.{Entries, no_entries, entry}
 use Rattle.resb_tree.specs.View.{entries_view}
 use Rattle.resb_tree.specs.declared.resource.Resource.{Resource}
@@ -9,8 +8,6 @@ use Rattle.resb_layout.specs.Laid.{Given, ArePlaced}
 use Rattle.std.proofs.lemmas.List.{length-map}
 use Rattle.resb_tree.specs.LayingOrder.{entry_keys}
 use Rattle.resb_tree.specs.LayingOrder.{values_of}
-use Rattle.resb_tree.proofs.MapsLemmas.{entry_keys-entries_view}
-use Rattle.resb_tree.proofs.Numbers.{positive_where_false}
 
 pub keys_long : (es : List (List ℕ × Resource)) → length (entry_keys (entries_view es)) ≡ length es
 keys_long [] = refl

@@ -1,5 +1,5 @@
 -- What stands at a place, or nowhere from it on.
-use Rattle.std.specs.Prelude.{◌≡◌, ◌==◌, ◌||◌, Bool, ℕ, ◌<◌, ◌≤◌, List, length, slice_index}
+use Rattle.std.specs.Prelude.{◌≡◌, ℕ, ◌<◌, ◌≤◌, List, length, slice_index}
 use Rattle.resb_grammar.specs.Ascii as ascii
 
 -- a comment may begin here

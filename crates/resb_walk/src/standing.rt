@@ -104,7 +104,7 @@ pub fn text_at(file: BodyParts<'_>, unit: usize) -> Result<&[u8], BinaryDeserial
 
 /// What stands at a word.
 #[inline(always)]
-#[tactic(auto, unfolding(resb_format::specs::Content::content))]
+#[tactic(auto, unfolding(resb_format::specs::Content::content_at))]
 pub fn standing_at(file: BodyParts<'_>, word: u32) -> Result<Standing<'_>, BinaryDeserializerError>
     ensures stands { let p = parts_in file.entry in
         MatchResult result (λ s. content_at p word ≡ Some (content_of s))

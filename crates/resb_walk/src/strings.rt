@@ -39,7 +39,7 @@ pub fn marked(block: &[u8], unit: usize) -> Option<(usize, usize)>
 }
 
 /// The unit of the 16-bit block to which a member leads, if that is what it does.
-#[tactic(auto, unfolding(resb_format::specs::Content::content))]
+#[tactic(auto, unfolding(resb_format::specs::Content::content_at))]
 #[inline(always)]
 pub fn string_unit(member: Member) -> Option<usize>
     ensures { let m = member_of member in IfSome result (λ u. (p : Parts)

@@ -17,5 +17,6 @@ pub mod Machine
 pub mod Stuck
 pub mod Limit
 pub mod Expected
+pub mod Kinds
 pub mod Laws
 pub mod Inner

@@ -14,11 +14,18 @@ use Rattle.resb_head.specs.Laws.{IsHeader, BundleFilePasses}
 use Rattle.resb_head.specs.HeadChecks.{first_fault, header_checks, header_fault, index_checks}
 use Rattle.resb_head.specs.HeadChecks.{index_fault, support_checks, block_checks, body_checks}
 use Rattle.resb_head.specs.HeadChecks.{file_checks, file_fault}
-use Rattle.resb_head.proofs.HeadSteps.{nat_le_holds, not_at_most}
 use Rattle.resb_head.proofs.HeaderSteps.{none_before, some_before}
 use Rattle.resb_head.proofs.IndexSteps.{index_holds}
 use Rattle.resb_head.proofs.SupportSteps.{support_holds}
-use Rattle.resb_head.proofs.Passing.{le_is, passed, header_passes, range_behind_four}
+use Rattle.resb_head.proofs.Passing.{passed, header_passes}
+use Rattle.resb_head.proofs.Numbers.{two_tests_fail}
+use Rattle.resb_head.proofs.Numbers.{two_tests_hold}
+use Rattle.resb_head.proofs.Numbers.{two_tests_tell}
+use Rattle.resb_head.proofs.Numbers.{nat_eq_tells}
+use Rattle.resb_head.proofs.Numbers.{nat_le_holds}
+use Rattle.resb_head.proofs.Numbers.{nat_le_fails}
+use Rattle.resb_head.proofs.Numbers.{nat_le_tells}
+use Rattle.resb_head.proofs.Lists.{range_behind_four}
 
 -- where none of all fails, none of the first ones does
 pub first_fault-both : (cs bs : List (Bool × Refusal)) → first_fault (cs ++ bs) ≡ None
@@ -48,7 +55,7 @@ pub keys_past : (body : List ℕ) (e : ReadingError) → length body < 4 * get_o
     → first_fault (block_checks body) ≡ Some (refusal_of e)
 unfolding block_checks
 keys_past body e h r =
-    rw (not_at_most (4 * get_or (words_of body) 2 0) (length body) h, r.kind_is, r.message_is) refl
+    rw (nat_le_fails (4 * get_or (words_of body) 2 0) (length body) h, r.kind_is, r.message_is) refl
 
 pub end_missing : (body : List ℕ) (e : ReadingError) → 4 * get_or (words_of body) 2 0 ≤ length body
     → get_or (words_of body) 1 0 < 7
@@ -58,20 +65,10 @@ unfolding block_checks
 end_missing body e h k r =
     rw (
       nat_le_holds (4 * get_or (words_of body) 2 0) (length body) h,
-      not_at_most 7 (get_or (words_of body) 1 0) k,
+      nat_le_fails 7 (get_or (words_of body) 1 0) k,
       r.kind_is,
       r.message_is,
     ) refl
-
-both_false : (a b c d : ℕ) → (b < a) ⊎ (d < c) → (nat_le a b && nat_le c d) ≡ false
-both_false a b c d (inl h) = rw (not_at_most a b h) refl
-both_false a b c d (inr h) = grind (arith, nat_tests)
-
-both_true : (a b c d : ℕ) → a ≤ b → c ≤ d → (nat_le a b && nat_le c d) ≡ true
-both_true a b c d h k = rw (nat_le_holds a b h, nat_le_holds c d k) refl
-
-both_are : (a b c d : ℕ) → (nat_le a b && nat_le c d) ≡ true → (a ≤ b) × (c ≤ d)
-both_are a b c d e = (grind (arith, nat_tests), grind (arith, nat_tests))
 
 pub block_past : (body : List ℕ) (e : ReadingError) → 4 * get_or (words_of body) 2 0 ≤ length body
     → 7 ≤ get_or (words_of body) 1 0
@@ -84,7 +81,7 @@ block_past body e h k l r =
     rw (
       nat_le_holds (4 * get_or (words_of body) 2 0) (length body) h,
       nat_le_holds 7 (get_or (words_of body) 1 0) k,
-      both_false (get_or (words_of body) 2 0) (get_or (words_of body) 7 0)
+      two_tests_fail (get_or (words_of body) 2 0) (get_or (words_of body) 7 0)
           (4 * get_or (words_of body) 7 0) (length body) l,
       r.kind_is,
       r.message_is,
@@ -99,23 +96,16 @@ blocks_hold body h k l m =
     rw (
       nat_le_holds (4 * get_or (words_of body) 2 0) (length body) h,
       nat_le_holds 7 (get_or (words_of body) 1 0) k,
-      both_true (get_or (words_of body) 2 0) (get_or (words_of body) 7 0)
+      two_tests_hold (get_or (words_of body) 2 0) (get_or (words_of body) 7 0)
           (4 * get_or (words_of body) 7 0) (length body) l m,
     ) refl
-
--- an optional word is there exactly where the count asks for it
-pub no_field : (n x : ℕ) → (if nat_le 7 n then Some x else None) ≡ None → n < 7
-no_field n x e = grind (arith, nat_tests)
-
-pub some_field : (n v x : ℕ) → (if nat_le 7 n then Some v else None) ≡ Some x → (7 ≤ n) × (v ≡ x)
-some_field n v x e = (grind (arith, nat_tests), grind (arith, nat_tests))
 
 -- the checks of a body
 pub root_missing : (body : List ℕ) (e : ReadingError) → length body < 4
     → IsEndOfInput e
     → first_fault (body_checks body) ≡ Some (refusal_of e)
 unfolding body_checks
-root_missing body e h r = rw (not_at_most 4 (length body) h, r.kind_is, r.message_is) refl
+root_missing body e h r = rw (nat_le_fails 4 (length body) h, r.kind_is, r.message_is) refl
 
 pub index_answers : (body : List ℕ) (g : Refusal) → 4 ≤ length body
     → index_fault (drop 4 body) ≡ Some g → first_fault (body_checks body) ≡ Some g
@@ -130,19 +120,6 @@ unfolding body_checks index_fault
 blocks_answer body h e =
     rw (nat_le_holds 4 (length body) h)
     (none_before (index_checks (drop 4 body)) (block_checks body) e)
-
--- the parts of a body, cut out of it
-pub take_inside : (body : List ℕ) (k b : ℕ) → k ≤ b → take k (take b body) ≡ take k body
-take_inside body zero b h = refl
-take_inside body (suc k) zero h = absurd (omega arith)
-take_inside [] (suc k) (suc b) h = refl
-take_inside (x ∷ body) (suc k) (suc b) h = ap (λ xs. x ∷ xs) (take_inside body k b (omega arith))
-
-pub drop_inside : (body : List ℕ) (k b : ℕ) → k ≤ b
-    → drop (4 * k) (take (4 * b) body) ≡ take (4 * (b - k)) (drop (4 * k) body)
-drop_inside body k b h =
-    let e : 4 * b ≡ 4 * k + 4 * (b - k) = omega arith in
-    ap (λ n. drop (4 * k) (take n body)) e ∙ drop-take (4 * k) (4 * (b - k)) body
 
 -- no more bytes than there are
 pub drop_min : (xs : List ℕ) (n : ℕ) → drop (min (length xs) n) xs ≡ drop n xs
@@ -190,9 +167,6 @@ size_is bytes e =
     let z : get_or bytes 8 0 ≡ 0 = ((header_passes false bytes).0 e).own_endianness refl in
     rw z refl
 
-eq_is : (a b : ℕ) → nat_eq a b ≡ true → a ≡ b
-eq_is a b h = grind (arith, nat_tests)
-
 record IsBody (body : List ℕ) : Type 0 where
   fields : 7 ≤ get_or (words_of body) 1 0
   index_inside : 4 * (1 + min (get_or (words_of body) 1 0) 8) ≤ length body
@@ -207,15 +181,16 @@ a_body body e =
     let c : get_or (words_of (drop 4 body)) 0 0 ≡ get_or (words_of body) 1 0 =
     field_behind body 0 in
     let l : length (drop 4 body) ≡ length body - 4 = length-drop 4 body in
-    let inside = le_is (4 * min (get_or (words_of (drop 4 body)) 0 0) 8) (length (drop 4 body))
+    let inside = nat_le_tells (4 * min (get_or (words_of (drop 4 body)) 0 0) 8)
+    (length (drop 4 body))
     p.1.1.1.0 in
-    let few = le_is 5 (get_or (words_of (drop 4 body)) 0 0) p.1.1.0 in
-    let ends = both_are (get_or (words_of body) 2 0) (get_or (words_of body) 7 0)
+    let few = nat_le_tells 5 (get_or (words_of (drop 4 body)) 0 0) p.1.1.0 in
+    let ends = two_tests_tell (get_or (words_of body) 2 0) (get_or (words_of body) 7 0)
     (4 * get_or (words_of body) 7 0) (length body) p.1.1.1.1.1.1.0 in
     record {
-      fields = le_is 7 (get_or (words_of body) 1 0) p.1.1.1.1.1.0;
+      fields = nat_le_tells 7 (get_or (words_of body) 1 0) p.1.1.1.1.1.0;
       index_inside = omega (arith, c, l, inside, few);
-      keys_inside = le_is (4 * get_or (words_of body) 2 0) (length body) p.1.1.1.1.0;
+      keys_inside = nat_le_tells (4 * get_or (words_of body) 2 0) (length body) p.1.1.1.1.0;
       blocks_ordered = ends.0;
       block_inside = ends.1;
     }
@@ -250,8 +225,8 @@ passes_is bytes e =
     record {
       magic = h.magic;
       little_endian = h.own_endianness refl;
-      ascii = sym f5 ∙ eq_is (get_or (drop 4 bytes) 5 0) 0 p.0;
-      two_byte_chars = sym f6 ∙ eq_is (get_or (drop 4 bytes) 6 0) 2 p.1.0;
+      ascii = sym f5 ∙ nat_eq_tells (get_or (drop 4 bytes) 5 0) 0 p.0;
+      two_byte_chars = sym f6 ∙ nat_eq_tells (get_or (drop 4 bytes) 6 0) 2 p.1.0;
       format = h.format;
       version =
           sym (range_behind_four bytes 12 16)

@@ -18,21 +18,9 @@ use Rattle.resb_head.specs.declared.endianness.Endianness.TheVariants.{Little, B
 use Rattle.resb_head.specs.declared.version.FormatVersion.{FormatVersion}
 use Rattle.resb_head.specs.declared.version.FormatVersion.TheVariants.{V1_0, V1_1, V1_2, V1_3}
 use Rattle.resb_head.specs.declared.version.FormatVersion.TheVariants.{V2_0, V3_0}
-
--- tests of numbers and bytes
-pub nat_le_holds : (a b : ℕ) → a ≤ b → nat_le a b ≡ true
-nat_le_holds a b h = grind (arith, nat_tests)
-
-pub not_at_most : (a b : ℕ) → b < a → nat_le a b ≡ false
-not_at_most a b h = grind (arith, nat_tests)
-
-pub equal_texts : (a b : List ℕ) → a ≡ b → bytes_eq a b ≡ true
-equal_texts a b e = (bytes_eq-Decides a b).1 e
-
-pub bytes_eq_fails : (a b : List ℕ) → a ≢ b → bytes_eq a b ≡ false
-bytes_eq_fails a b h =
-    elim (bytes_eq a b) as (λ t. bytes_eq a b ≡ t → t ≡ false)
-    [ true ↦ (λ e. absurd (h ((bytes_eq-Decides a b).0 e))) | false ↦ (λ e. refl) ] refl
+use Rattle.resb_head.proofs.Numbers.{nat_le_holds}
+use Rattle.resb_head.proofs.Numbers.{nat_le_fails}
+use Rattle.resb_head.proofs.Lists.{bytes_eq_fails}
 
 pub a_version : (v : FormatVersion) (bs : List ℕ) → version_bytes v ≡ bs → is_version bs ≡ true
 a_version v bs e = rw (← e) (each v)
@@ -105,7 +93,7 @@ pub endianness_fails : (any : Bool) (bs : List ℕ) (e : ReadingError)
     → first_fault (info_checks any bs) ≡ Some (refusal_of e)
 unfolding info_checks
 endianness_fails any bs e h r =
-    rw (not_at_most (get_or bs 4 0) 1 (no_order (get_or bs 4 0) h), r.kind_is, r.message_is) refl
+    rw (nat_le_fails (get_or bs 4 0) 1 (no_order (get_or bs 4 0) h), r.kind_is, r.message_is) refl
 
 pub order_fails : (any : Bool) (bs : List ℕ) (e : ReadingError) → get_or bs 4 0 ≡ 1 → any ≡ false
     → IsRefusal e UnsupportedFormat (codes "bundle endianness does not match platform endianness")
@@ -121,7 +109,7 @@ pub charset_fails : (any : Bool) (bs : List ℕ) (e : ReadingError) → Order an
 unfolding info_checks
 charset_fails any bs e o h r =
     let over = no_family (get_or bs 5 0) h in
-    rw (o.known, o.own, not_at_most (get_or bs 5 0) 1 over, r.kind_is, r.message_is) refl
+    rw (o.known, o.own, nat_le_fails (get_or bs 5 0) 1 over, r.kind_is, r.message_is) refl
 
 pub format_fails : (any : Bool) (bs : List ℕ) (e : ReadingError) → Families any bs
     → bytes_eq (slice_range bs 8 12) (codes "ResB") ≡ false
@@ -158,10 +146,3 @@ all_hold any bs v f h =
       f.format,
       a_version v (slice_range bs 12 16) h,
     ) refl
-
--- the number of an order of bytes, from whether it is big
-pub not_big : (n : ℕ) (b : Bool) → n ≤ 1 → b ≡ nat_eq n 1 → b ≡ false → n ≡ 0
-not_big n b h e f = grind (arith, nat_tests)
-
-pub is_big : (n : ℕ) (b : Bool) → b ≡ nat_eq n 1 → b ≡ true → n ≡ 1
-is_big n b e f = grind (arith, nat_tests)

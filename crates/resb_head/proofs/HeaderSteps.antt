@@ -7,13 +7,14 @@ use Rattle.resb_format.specs.Bytes.{unit_in}
 use Rattle.resb_format.specs.declared.error.ReadingError.{ReadingError}
 use Rattle.resb_head.specs.HeadChecks.{first_fault, info_checks, info_fault, header_checks}
 use Rattle.resb_head.specs.HeadChecks.{header_fault}
-use Rattle.resb_head.proofs.HeadSteps.{nat_le_holds, not_at_most}
+use Rattle.resb_head.proofs.Numbers.{nat_le_holds}
+use Rattle.resb_head.proofs.Numbers.{nat_le_fails}
 
 pub short_info : (bs : List ℕ) (e : ReadingError) → length bs < 20
     → IsInvalid e (codes "input is too short to contain representation info")
     → info_fault bs ≡ Some (refusal_of e)
 unfolding info_fault
-short_info bs e h r = rw (not_at_most 20 (length bs) h, r.kind_is, r.message_is) refl
+short_info bs e h r = rw (nat_le_fails 20 (length bs) h, r.kind_is, r.message_is) refl
 
 pub long_info : (bs : List ℕ) → 20 ≤ length bs → info_fault bs ≡ first_fault (info_checks false bs)
 unfolding info_fault
@@ -41,7 +42,7 @@ pub short_header : (any : Bool) (bs : List ℕ) (e : ReadingError) → length bs
     → IsInvalid e (codes "input is too short to contain file header")
     → header_fault any bs ≡ Some (refusal_of e)
 unfolding header_fault header_checks
-short_header any bs e h r = rw (not_at_most 24 (length bs) h, r.kind_is, r.message_is) refl
+short_header any bs e h r = rw (nat_le_fails 24 (length bs) h, r.kind_is, r.message_is) refl
 
 pub magic_fails : (any : Bool) (bs : List ℕ) (e : ReadingError) → 24 ≤ length bs
     → bytes_eq (slice_range bs 2 4) (0xda ∷ 0x27 ∷ []) ≡ false
@@ -64,7 +65,12 @@ pub size_fails : (any : Bool) (bs : List ℕ) (e : ReadingError) → Begun bs
 unfolding header_fault header_checks
 size_fails any bs e b h k r =
     rw (nat_le_holds 24 (length bs) b.long, b.magic) (none_before (info_checks any (drop 4 bs)) _ h
-    ∙ rw (not_at_most 24 (unit_in (nat_eq (get_or bs 8 0) 1) bs 0) k, r.kind_is, r.message_is) refl)
+    ∙ rw (
+      nat_le_fails 24 (unit_in
+          (nat_eq (get_or bs 8 0) 1) bs 0) k,
+      r.kind_is,
+      r.message_is,
+    ) refl)
 
 pub header_holds : (any : Bool) (bs : List ℕ) → Begun bs
     → first_fault (info_checks any (drop 4 bs)) ≡ None

@@ -19,7 +19,9 @@ use Rattle.resb_head.specs.declared.version.FormatVersion.TheVariants.{V2_0, V3_
 use Rattle.resb_format.proofs.WordsBack.{two_bytes}
 use Rattle.resb_head.proofs.Apart.{endianness_apart, charset_apart, version_apart}
 use Rattle.resb_head.proofs.HeadSteps.{a_version, charset_small}
-use Rattle.resb_head.proofs.Passing.{range_behind_four, header_passes}
+use Rattle.resb_head.proofs.Passing.{header_passes}
+use Rattle.resb_head.proofs.Lists.{four_elements}
+use Rattle.resb_head.proofs.Lists.{range_behind_four}
 
 -- a unit of bytes has 16 bits
 unit_fits : (bs : List ℕ) (i : ℕ) → EachFits 8 bs → get_or (units_of bs) i 0 < 2 ^ 16
@@ -28,16 +30,6 @@ unit_fits [] i h = omega arith
 unit_fits (a ∷ []) i h = omega arith
 unit_fits (a ∷ b ∷ bs) zero h = let f = h.0 in let g = h.1.0 in omega arith
 unit_fits (a ∷ b ∷ bs) (suc i) h = unit_fits bs i h.1.1
-
--- four bytes, one by one
-four : (xs : List ℕ) → length xs ≡ 4
-    → xs ≡ get_or xs 0 0 ∷ get_or xs 1 0 ∷ get_or xs 2 0 ∷ get_or xs 3 0 ∷ []
-four [] h = absurd (omega arith)
-four (a ∷ []) h = absurd (omega arith)
-four (a ∷ b ∷ []) h = absurd (omega arith)
-four (a ∷ b ∷ c ∷ []) h = absurd (omega arith)
-four (a ∷ b ∷ c ∷ d ∷ []) h = refl
-four (a ∷ b ∷ c ∷ d ∷ e ∷ xs) h = absurd (omega arith)
 
 version_length : (v : FormatVersion) → length (version_bytes v) ≡ 4
 version_length V1_0 = refl
@@ -94,9 +86,9 @@ laid h =
 
 header_laid : (h : BinHeader) → Known h → header_bytes h ≡ laid h
 header_laid h k =
-    let f = four (version_bytes h.repr_info.format_version)
+    let f = four_elements (version_bytes h.repr_info.format_version)
     (version_length h.repr_info.format_version) in
-    let g = four h.repr_info.data_version k.dates in
+    let g = four_elements h.repr_info.data_version k.dates in
     let start : List ℕ → List ℕ → List ℕ
     → List ℕ =
     λ x y z. to_le_bytes w16 h.size ++ 0xda ∷ 0x27 ∷ []
@@ -118,7 +110,8 @@ laid_passes h k = record {
   format = refl;
   version =
       a_version h.repr_info.format_version _
-      (four (version_bytes h.repr_info.format_version) (version_length h.repr_info.format_version));
+      (four_elements (version_bytes h.repr_info.format_version)
+      (version_length h.repr_info.format_version));
   size = rw k.little (subst (λ n. 24 ≤ n) (sym (two_bytes h.size k.size_fits)) k.size_enough);
 }
 
@@ -142,10 +135,10 @@ same_header h j k a =
     let v : j.repr_info.format_version ≡ h.repr_info.format_version =
     version_apart _ _
     (a.info.format_version
-    ∙ sym (four (version_bytes h.repr_info.format_version)
+    ∙ sym (four_elements (version_bytes h.repr_info.format_version)
     (version_length h.repr_info.format_version))) in
     let d : j.repr_info.data_version ≡ h.repr_info.data_version =
-    a.info.data_version ∙ sym (four h.repr_info.data_version k.dates) in
+    a.info.data_version ∙ sym (four_elements h.repr_info.data_version k.dates) in
     λ t. record {
       size = s t;
       repr_info = record {

@@ -5,19 +5,20 @@ use Rattle.resb_format.specs.Bytes.{words_of}
 use Rattle.resb_format.specs.Error.{IsInvalid, IsEndOfInput, refusal_of}
 use Rattle.resb_format.specs.declared.error.ReadingError.{ReadingError}
 use Rattle.resb_head.specs.HeadChecks.{index_fault, index_checks}
-use Rattle.resb_head.proofs.HeadSteps.{nat_le_holds, not_at_most}
+use Rattle.resb_head.proofs.Numbers.{nat_le_holds}
+use Rattle.resb_head.proofs.Numbers.{nat_le_fails}
 
 pub no_count : (bs : List ℕ) (e : ReadingError) → length bs < 4
     → IsEndOfInput e → index_fault bs ≡ Some (refusal_of e)
 unfolding index_fault index_checks
-no_count bs e h r = rw (not_at_most 4 (length bs) h, r.kind_is, r.message_is) refl
+no_count bs e h r = rw (nat_le_fails 4 (length bs) h, r.kind_is, r.message_is) refl
 
 pub small_count : (bs : List ℕ) (n : ℕ) (e : ReadingError) → n ≡ get_or (words_of bs) 0 0
     → 4 ≤ length bs → n < 5 → IsInvalid e (codes "invalid index field count")
     → index_fault bs ≡ Some (refusal_of e)
 unfolding index_fault index_checks
 small_count bs n e w h k r =
-    rw (nat_le_holds 4 (length bs) h, ← w, not_at_most 5 n k, r.kind_is, r.message_is) refl
+    rw (nat_le_holds 4 (length bs) h, ← w, nat_le_fails 5 n k, r.kind_is, r.message_is) refl
 
 pub no_word : (bs : List ℕ) (n : ℕ) (e : ReadingError) → n ≡ get_or (words_of bs) 0 0
     → 4 ≤ length bs → 5 ≤ n → length bs < 4 * min n 8
@@ -28,7 +29,7 @@ no_word bs n e w h k l r =
       nat_le_holds 4 (length bs) h,
       ← w,
       nat_le_holds 5 n k,
-      not_at_most (4 * min n 8) (length bs) l,
+      nat_le_fails (4 * min n 8) (length bs) l,
       r.kind_is,
       r.message_is,
     ) refl

@@ -20,63 +20,11 @@ use Rattle.resb_head.specs.Head.{IndexAt, field, index_words, index_bytes}
 use Rattle.resb_head.specs.HeadChecks.{index_fault}
 use Rattle.resb_head.specs.HeadReading.{ReadsIndex}
 use Rattle.resb_head.specs.declared.index.BinIndex.{BinIndex}
-use Rattle.resb_head.proofs.HeadSteps.{nat_le_holds, not_at_most}
 use Rattle.resb_head.proofs.IndexSteps.{index_holds}
-
--- one field more, where the count asks for it
-more_yes : (ws : List ℕ) (n k : ℕ) → k + 1 ≤ n → k + 1 ≤ length ws
-    → take (min n (k + 1)) ws ≡ take (min n k) ws ++ get_or ws k 0 ∷ []
-more_yes ws n k h l =
-    let e : min n (k + 1) ≡ suc k = omega arith in
-    let f : min n k ≡ k = omega arith in
-    let g : k < length ws = omega arith in
-    rw (e, f) (take-suc ws k 0 g)
-
-more_no : (ws : List ℕ) (n k : ℕ) → n ≤ k → take (min n (k + 1)) ws ≡ take (min n k) ws ++ []
-more_no ws n k h =
-    let e : min n (k + 1) ≡ n = omega arith in
-    let f : min n k ≡ n = omega arith in
-    rw (e, f) (sym (append-nil (take n ws)))
-
-one_more : (ws : List ℕ) (n k : ℕ) → min n (k + 1) ≤ length ws
-    → take (min n (k + 1)) ws ≡ take (min n k) ws
-    ++ option_to_list (if nat_le (k + 1) n then Some (get_or ws k 0) else None)
-one_more ws n k l = elim (le_cases (k + 1) n) [
-  | inl h ↦ rw (nat_le_holds (k + 1) n h) (more_yes ws n k h (omega arith))
-  | inr h ↦ rw (not_at_most (k + 1) n h) (more_no ws n k (omega arith))
-]
-  where
-    le_cases : (a b : ℕ) → (a ≤ b) ⊎ (b < a)
-    le_cases a b =
-        elim (nat_le a b) as (λ t. nat_le a b ≡ t → (a ≤ b) ⊎ (b < a)) [
-          | true ↦ (λ e. inl (grind (arith, nat_tests)))
-          | false ↦ (λ e. inr (grind (arith, nat_tests)))
-        ] refl
-
--- the five fields that are always there
-five : (ws : List ℕ) (n : ℕ) → n ≡ get_or ws 0 0 → 5 ≤ length ws
-    → take 5 ws ≡ n ∷ get_or ws 1 0 ∷ get_or ws 2 0 ∷ get_or ws 3 0 ∷ get_or ws 4 0 ∷ []
-five [] n q h = absurd (omega arith)
-five (a ∷ []) n q h = absurd (omega arith)
-five (a ∷ b ∷ []) n q h = absurd (omega arith)
-five (a ∷ b ∷ c ∷ []) n q h = absurd (omega arith)
-five (a ∷ b ∷ c ∷ d ∷ []) n q h = absurd (omega arith)
-five (a ∷ b ∷ c ∷ d ∷ e ∷ ws) n q h = ap (λ m. m ∷ b ∷ c ∷ d ∷ e ∷ []) (sym q)
-
-all_words : (ws : List ℕ) (n : ℕ) → n ≡ get_or ws 0 0 → 5 ≤ n → min n 8 ≤ length ws
-    → take (min n 8) ws ≡ n ∷ get_or ws 1 0 ∷ get_or ws 2 0 ∷ get_or ws 3 0 ∷ get_or ws 4 0 ∷ []
-    ++ option_to_list (if nat_le 6 n then Some (get_or ws 5 0) else None)
-    ++ option_to_list (if nat_le 7 n then Some (get_or ws 6 0) else None)
-    ++ option_to_list (if nat_le 8 n then Some (get_or ws 7 0) else None)
-all_words ws n q h l =
-    let e : min n 5 ≡ 5 = omega arith in
-    one_more ws n 7 (omega arith)
-    ∙ ap (λ xs. xs ++ option_to_list (if nat_le 8 n then Some (get_or ws 7 0) else None))
-    (one_more ws n 6 (omega arith)
-    ∙ ap (λ xs. xs ++ option_to_list (if nat_le 7 n then Some (get_or ws 6 0) else None))
-    (one_more ws n 5 (omega arith)
-    ∙ ap (λ xs. xs ++ option_to_list (if nat_le 6 n then Some (get_or ws 5 0) else None))
-    (ap (λ k. take k ws) e ∙ five ws n q (omega arith))))
+use Rattle.resb_head.proofs.Numbers.{nat_le_holds}
+use Rattle.resb_head.proofs.Numbers.{nat_le_fails}
+use Rattle.resb_head.proofs.Lists.{all_words}
+use Rattle.resb_head.proofs.Lists.{one_count}
 
 -- what was read is written as it stood
 same_words : (bs : List ℕ) (i : BinIndex) → IndexAt i bs
@@ -99,12 +47,6 @@ written_back : (bs : List ℕ) (i : BinIndex) → EachFits 8 bs → ReadsIndex b
 written_back bs i fits h =
     ap (flat_map (to_le_bytes w32)) (same_words bs i h.1)
     ∙ bytes_back bs (min i.field_count 8) fits h.1.inside
-
--- what was written has as many words as the count asks for
-one_count : (o : Option ℕ) (n k : ℕ) → is_some o ≡ nat_le (k + 1) n
-    → length (option_to_list o) + min n k ≡ min n (k + 1)
-one_count None n k e = grind (arith, nat_tests)
-one_count (Some x) n k e = grind (arith, nat_tests)
 
 words_count : (i : BinIndex) → length (index_words i) ≡ min i.field_count 8
 words_count i =

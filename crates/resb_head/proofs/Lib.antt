@@ -10,3 +10,5 @@ mod Passing
 pub mod FileSteps
 mod IndexSurvival
 mod HeaderSurvival
+mod Numbers
+mod Lists

@@ -11,8 +11,13 @@ use Rattle.resb_format.specs.Bytes.{unit_in}
 use Rattle.resb_head.specs.Laws.{IsHeader, HeaderPasses}
 use Rattle.resb_head.specs.HeadChecks.{first_fault, info_checks, header_checks, header_fault}
 use Rattle.resb_head.specs.HeadChecks.{is_version}
-use Rattle.resb_head.proofs.HeadSteps.{nat_le_holds, equal_texts}
 use Rattle.resb_head.proofs.HeaderSteps.{header_holds}
+use Rattle.resb_head.proofs.Numbers.{nat_le_holds}
+use Rattle.resb_head.proofs.Lists.{bytes_eq_holds}
+use Rattle.resb_head.proofs.Numbers.{nat_le_tells}
+use Rattle.resb_head.proofs.Numbers.{zero_is}
+use Rattle.resb_head.proofs.Numbers.{zero_or}
+use Rattle.resb_head.proofs.Lists.{range_behind_four}
 
 -- each test is true
 abbrev pub EachHolds : List (Bool × Refusal) → Type 0
@@ -23,17 +28,6 @@ pub passed : (checks : List (Bool × Refusal)) → first_fault checks ≡ None �
 passed [] e = tt
 passed ((true, f) ∷ checks) e = (refl, passed checks e)
 passed ((false, f) ∷ checks) e = cc
-
-pub le_is : (a b : ℕ) → nat_le a b ≡ true → a ≤ b
-le_is a b h = grind (arith, nat_tests)
-
-zero_is : (any : Bool) (n : ℕ) → (any || nat_eq n 0) ≡ true → any ≡ false → n ≡ 0
-zero_is true n h e = cc
-zero_is false n h e = grind (arith, nat_tests)
-
-zero_or : (any : Bool) (n : ℕ) → (any ≡ false → n ≡ 0) → (any || nat_eq n 0) ≡ true
-zero_or true n h = refl
-zero_or false n h = rw (h refl) refl
 
 -- the tests of the info
 record Tests (any : Bool) (bs : List ℕ) : Type 0 where
@@ -47,11 +41,6 @@ tested : (any : Bool) (bs : List ℕ) → Tests any bs → first_fault (info_che
 unfolding info_checks
 tested any bs t = rw (t.known, t.own, t.charset, t.format, t.version) refl
 
--- parts of what stands behind the first four bytes
-pub range_behind_four : (bs : List ℕ) (i j : ℕ)
-    → slice_range (drop 4 bs) i j ≡ take (j - i) (drop (4 + i) bs)
-range_behind_four bs i j = ap (take (j - i)) (drop-drop i 4 bs)
-
 passes : (any : Bool) (bs : List ℕ) → header_fault any bs ≡ None → IsHeader any bs
 unfolding header_fault header_checks info_checks
 passes any bs e =
@@ -59,17 +48,17 @@ passes any bs e =
     let f4 : get_or (drop 4 bs) 4 0 ≡ get_or bs 8 0 = get_or-drop 4 bs 4 0 in
     let f5 : get_or (drop 4 bs) 5 0 ≡ get_or bs 9 0 = get_or-drop 4 bs 5 0 in
     record {
-      long = le_is 24 (length bs) p.0;
+      long = nat_le_tells 24 (length bs) p.0;
       magic = (bytes_eq-Decides (slice_range bs 2 4) (0xda ∷ 0x27 ∷ [])).0 p.1.0;
-      known_endianness = subst (λ k. k ≤ 1) f4 (le_is (get_or (drop 4 bs) 4 0) 1 p.1.1.0);
+      known_endianness = subst (λ k. k ≤ 1) f4 (nat_le_tells (get_or (drop 4 bs) 4 0) 1 p.1.1.0);
       own_endianness = λ h. sym f4 ∙ zero_is any (get_or (drop 4 bs) 4 0) p.1.1.1.0 h;
-      known_charset = subst (λ k. k ≤ 1) f5 (le_is (get_or (drop 4 bs) 5 0) 1 p.1.1.1.1.0);
+      known_charset = subst (λ k. k ≤ 1) f5 (nat_le_tells (get_or (drop 4 bs) 5 0) 1 p.1.1.1.1.0);
       format =
           sym (range_behind_four bs 8 12)
           ∙ (bytes_eq-Decides (slice_range (drop 4 bs) 8 12) (codes "ResB")).0
           p.1.1.1.1.1.0;
       version = ap is_version (sym (range_behind_four bs 12 16)) ∙ p.1.1.1.1.1.1.0;
-      size = le_is 24 (unit_in (nat_eq (get_or bs 8 0) 1) bs 0) p.1.1.1.1.1.1.1.0;
+      size = nat_le_tells 24 (unit_in (nat_eq (get_or bs 8 0) 1) bs 0) p.1.1.1.1.1.1.1.0;
     }
 
 passing : (any : Bool) (bs : List ℕ) → IsHeader any bs → header_fault any bs ≡ None
@@ -80,10 +69,10 @@ passing any bs h =
       known = ap (λ k. nat_le k 1) f4 ∙ nat_le_holds (get_or bs 8 0) 1 h.known_endianness;
       own = ap (λ k. any || nat_eq k 0) f4 ∙ zero_or any (get_or bs 8 0) h.own_endianness;
       charset = ap (λ k. nat_le k 1) f5 ∙ nat_le_holds (get_or bs 9 0) 1 h.known_charset;
-      format = equal_texts _ _ (range_behind_four bs 8 12 ∙ h.format);
+      format = bytes_eq_holds _ _ (range_behind_four bs 8 12 ∙ h.format);
       version = ap is_version (range_behind_four bs 12 16) ∙ h.version;
     } in
-    header_holds any bs (record { long = h.long; magic = equal_texts _ _ h.magic })
+    header_holds any bs (record { long = h.long; magic = bytes_eq_holds _ _ h.magic })
     (tested any (drop 4 bs) t) h.size
 
 pub header_passes : HeaderPasses

@@ -13,7 +13,8 @@ use Rattle.resb_grammar.proofs.ByteRunsLemmas.{Run-one}
 use Rattle.resb_grammar.proofs.Unique.{places_meet, FirstCloser-one, Digits-one, Names-one}
 use Rattle.resb_icu_grammar.specs.Bytes.{is_word}
 use Rattle.resb_icu_grammar.specs.Blanks.{Begins, behind_the_mark, without_a_mark}
-use Rattle.resb_icu_grammar.specs.Blanks.{is_line_end, LineRest, Comment, line, block, Blanks, none}
+use Rattle.resb_icu_grammar.specs.Blanks.{LineRest, Comment, line, block, Blanks, none}
+use Rattle.resb_grammar.specs.ByteRuns.{is_line_end}
 use Rattle.resb_icu_grammar.specs.Blanks.{white, comment, IsSolid, Skip}
 use Rattle.resb_icu_grammar.specs.Escapes.{Escape, itself, line_feed, carriage_return, tab}
 use Rattle.resb_icu_grammar.specs.Escapes.{four_digits, eight_digits}

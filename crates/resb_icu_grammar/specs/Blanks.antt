@@ -1,10 +1,11 @@
 -- What stands between the tokens of ICU's text form: white characters and comments.
 -- A mark may stand at a text's start, before all else.
-use Rattle.std.specs.Prelude.{◌≡◌, ◌≤◌, ◌<◌, ◌+◌, ◌⊎◌, ◌||◌, ◌==◌, ℕ, Bool, true, false, List}
+use Rattle.std.specs.Prelude.{◌≡◌, ◌≤◌, ◌<◌, ◌+◌, ◌⊎◌, ℕ, true, false, List}
 use Rattle.std.specs.Prelude.{length, slice_index}
 use Rattle.resb_grammar.specs.Ascii as ascii
 use Rattle.resb_grammar.specs.ByteRuns.{is_white}
 use Rattle.resb_grammar.specs.Lexical.{FirstCloser}
+use Rattle.resb_grammar.specs.ByteRuns.{is_line_end}
 
 -- the byte order mark, EF BB BF
 pub record HasMark (text : List ℕ) : Type 0 where
@@ -22,10 +23,6 @@ pub record IsParagraphEnd (text : List ℕ) (at : ℕ) : Type 0 where
   pub first : slice_index text at ≡ 0xe2
   pub second : slice_index text (at + 1) ≡ 0x80
   pub third : slice_index text (at + 2) ≡ 0xa9
-
--- LF or CR
-abbrev pub is_line_end : ℕ → Bool
-is_line_end b = b == ascii.line_feed || b == ascii.carriage_return
 
 -- what follows `//` up to the first LF or CR, or to the text's end
 pub record LineRest (text : List ℕ) (from to : ℕ) : Type 0 where

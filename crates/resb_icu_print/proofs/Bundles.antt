@@ -24,7 +24,7 @@ use Rattle.resb_print.specs.Inner.Jobs.{Appends}
 use Rattle.resb_print.proofs.Steps.{writes_bytes}
 use Rattle.resb_print.proofs.Places.{From, byte_at, from_behind, from_next, at_end, from_inside}
 use Rattle.resb_print.proofs.Bundles.{stands}
-use Rattle.resb_print.proofs.Groups.{own_map}
+use Rattle.resb_tree.proofs.MapsLemmas.{map_of-pairs_of}
 use Rattle.resb_icu_print.specs.Printed.{is_bare, entries_on, printed_icu_bundle}
 use Rattle.resb_icu_print.specs.Causes.{TakenIn, causes_in_else, first_cause, Refused}
 use Rattle.resb_icu_print.specs.Laws.{HasNoIcuText}
@@ -145,7 +145,7 @@ module _ (text : List ℕ) where
           body = r.entries;
           closes = r.brace;
           after = end_skip r.after;
-          means = ap table (sym (own_map es ascend));
+          means = ap table (sym (map_of-pairs_of es ascend));
           lists = refl;
         },
       )

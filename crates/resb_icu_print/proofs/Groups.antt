@@ -31,7 +31,10 @@ use Rattle.resb_print.specs.declared.place.Place.TheVariants.{InTable, InArray}
 use Rattle.resb_print.specs.Printed.{deeper, line_on, trees_end, entries_end, root_type_on}
 use Rattle.resb_print.specs.Held.{IsHeld, AreHeld, HeldIn}
 use Rattle.resb_print.proofs.Places.{From, byte_at, from_next}
-use Rattle.resb_print.proofs.Groups.{own_map, own_trees, mod_same, hex_read, hex_free}
+use Rattle.resb_print.proofs.Groups.{hex_read, hex_free}
+use Rattle.resb_tree.proofs.MapsLemmas.{map_of-pairs_of}
+use Rattle.resb_tree.proofs.LayingOrderLemmas.{trees_of-array_members}
+use Rattle.resb_tree.proofs.Numbers.{low_bits_kept}
 use Rattle.resb_icu_print.specs.Printed.{piece_on, key_on, tree_on, trees_on, entries_on}
 use Rattle.resb_icu_print.specs.Causes.{IsTaken, AreTaken, TakenIn, has_collation, is_icu_key}
 use Rattle.resb_icu_grammar.specs.Bytes.{are_key_bytes}
@@ -350,7 +353,7 @@ module _ (text : List ℕ) where
         keys = r.keys;
         group = untyped at r.first r.to (table (entry k t es)) r.keys (byte_at text h) r.skip
             (subst (λ (m : Entries). Untyped text r.first r.to (table m) r.keys)
-            (own_map (entry k t es) ascend)
+            (map_of-pairs_of (entry k t es) ascend)
             (a_table r.first r.to (k, t) (pairs_of es) r.keys r.entries)) r.brace;
         after = r.after;
       }
@@ -368,7 +371,7 @@ module _ (text : List ℕ) where
           keys = r.keys;
           group = typed at r.first r.to array_kind (array ts) r.keys (head r.first r.skip)
               (subst (λ (m : Trees). Typed text array_kind r.first r.to (array m) r.keys)
-              (own_trees ts)
+              (trees_of-array_members ts)
               (groups.members r.first r.to (members_in ts) r.keys (r.members nothing refl)))
               r.brace;
           after = r.after;
@@ -390,7 +393,7 @@ module _ (text : List ℕ) where
         let (solid, (q, number, g)) =
         number_read text v ascii.right_brace rest (omega arith) f refl in
         let content : LeafContent text (brace + 1) q integer_kind (integer v) =
-        subst (λ n. LeafContent text (brace + 1) q integer_kind (integer n)) (mod_same v held)
+        subst (λ n. LeafContent text (brace + 1) q integer_kind (integer n)) (low_bits_kept v held)
         (integer_content q v number (no_skip text (solid_at text g refl refl))) in
         leaf_done integer_kind (integer v) (head (brace + 1) (no_skip text solid)) content g
     group_at n (int_vector ns) at rest held taken h =

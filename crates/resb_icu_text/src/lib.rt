@@ -23,5 +23,5 @@ pub use error::IcuTextError;
 pub use expected::IcuExpected;
 pub use reader::IcuReader;
 pub use strings::{Lexeme, Said, string};
-pub use types::{Kind, group_type, root_type};
+pub use types::{group_type, root_type};
 pub use words::number;

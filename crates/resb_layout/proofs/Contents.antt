@@ -17,7 +17,8 @@ use Rattle.resb_format.specs.Content.{content_at, placed, empty, paired, words_a
 use Rattle.resb_format.specs.Content.{binary_at, int_vector_at, array_at, array16_at, table_at}
 use Rattle.resb_format.specs.Content.{table16_at, table32_at}
 use Rattle.resb_format.proofs.Spelled.{words_length, units_length}
-use Rattle.resb_layout.specs.Laid.{Given, Laid, here, more_units, more_bytes, words, halves, fill}
+use Rattle.resb_layout.specs.Laid.{Given, Laid, here, more_units, more_bytes, words, fill}
+use Rattle.resb_format.specs.Bytes.{units_as_bytes}
 use Rattle.resb_layout.specs.Laid.{to_data, to_word, pad, binary_body, words_body, near_table_body}
 use Rattle.resb_layout.specs.Laid.{wide_table_body}
 use Rattle.resb_layout.specs.Laws.{StandsIn}
@@ -199,17 +200,18 @@ module _ (p : Parts) (g : Given) (s : Laid) (ps ws : List ℕ) (at : ℕ) (e : h
   table_units =
       units_are p g s (near_table_body ps ws) stands at e
       ∙ ap (λ l. units_of (before p g s (near_table_body ps ws) stands) ++ l) (
-      ap units_of (append_assoc (to_le_bytes w16 n) (halves ps
+      ap units_of (append_assoc (to_le_bytes w16 n) (units_as_bytes ps
       ++ (pad n ++ words ws)) stands.bytes_behind)
-      ∙ unit_read n ((halves ps ++ (pad n ++ words ws)) ++ stands.bytes_behind) few
-      ∙ ap (λ l. n ∷ units_of l) (append_assoc (halves ps) (pad n
+      ∙ unit_read n ((units_as_bytes ps ++ (pad n ++ words ws)) ++ stands.bytes_behind) few
+      ∙ ap (λ l. n ∷ units_of l) (append_assoc (units_as_bytes ps) (pad n
       ++ words ws) stands.bytes_behind)
       ∙ ap (λ l. n ∷ l) (halves_read ps ((pad n ++ words ws) ++ stands.bytes_behind) near)
       )
 
   -- the bytes before the descriptors
   abbrev ahead : List ℕ
-  ahead = before p g s (near_table_body ps ws) stands ++ (to_le_bytes w16 n ++ (halves ps ++ pad n))
+  ahead = before p g s (near_table_body ps ws) stands
+      ++ (to_le_bytes w16 n ++ (units_as_bytes ps ++ pad n))
 
   ahead_len : length ahead ≡ 4 * (at + n / 2 + 1)
   ahead_len =
@@ -220,26 +222,27 @@ module _ (p : Parts) (g : Given) (s : Laid) (ps ws : List ℕ) (at : ℕ) (e : h
         pad_even n,
         halves_len ps,
         length-append (before p g s (near_table_body ps ws) stands) (to_le_bytes w16 n
-            ++ (halves ps ++ pad n)),
-        length-append (to_le_bytes w16 n) (halves ps ++ pad n),
-        length-append (halves ps) (pad n),
+            ++ (units_as_bytes ps ++ pad n)),
+        length-append (to_le_bytes w16 n) (units_as_bytes ps ++ pad n),
+        length-append (units_as_bytes ps) (pad n),
       )
 
   ahead_is : p.body ≡ ahead ++ (words ws ++ stands.bytes_behind)
   ahead_is =
       body_is p g s (near_table_body ps ws) stands
       ∙ ap (λ l. before p g s (near_table_body ps ws) stands ++ l) (
-      append_assoc (to_le_bytes w16 n) (halves ps ++ (pad n ++ words ws)) stands.bytes_behind
+      append_assoc (to_le_bytes w16 n) (units_as_bytes ps
+      ++ (pad n ++ words ws)) stands.bytes_behind
       ∙ ap (λ l. to_le_bytes w16 n ++ l) (
-      append_assoc (halves ps) (pad n ++ words ws) stands.bytes_behind
-      ∙ ap (λ l. halves ps ++ l) (append_assoc (pad n) (words ws) stands.bytes_behind)
-      ∙ sym (append_assoc (halves ps) (pad n) (words ws ++ stands.bytes_behind))
+      append_assoc (units_as_bytes ps) (pad n ++ words ws) stands.bytes_behind
+      ∙ ap (λ l. units_as_bytes ps ++ l) (append_assoc (pad n) (words ws) stands.bytes_behind)
+      ∙ sym (append_assoc (units_as_bytes ps) (pad n) (words ws ++ stands.bytes_behind))
       )
-      ∙ sym (append_assoc (to_le_bytes w16 n) (halves ps ++ pad n) (words ws
+      ∙ sym (append_assoc (to_le_bytes w16 n) (units_as_bytes ps ++ pad n) (words ws
       ++ stands.bytes_behind))
       )
       ∙ sym (append_assoc (before p g s (near_table_body ps ws) stands) (to_le_bytes w16 n
-      ++ (halves ps ++ pad n)) (words ws ++ stands.bytes_behind))
+      ++ (units_as_bytes ps ++ pad n)) (words ws ++ stands.bytes_behind))
 
   table_words : words_of p.body ≡ words_of ahead ++ (ws ++ words_of stands.bytes_behind)
   table_words =

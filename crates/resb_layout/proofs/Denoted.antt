@@ -5,14 +5,12 @@ use Rattle.std.proofs.Common.{◌==◌, option_map, nat_le, refl, sym, ◌∙◌
 use Rattle.std.specs.Prelude.{All}
 use Rattle.std.specs.List.{zip, list_all}
 use Rattle.std.specs.List.Sorted.{IsStrictlySortedBy}
-use Rattle.std.specs.Map.{keys_of}
 use Rattle.std.proofs.lemmas.Bool.{and_parts, leb-true, ne_eqb}
 use Rattle.std.proofs.lemmas.List.{length-map}
 use Rattle.resb_tree.specs.Tree.{Tree, string, array, table, binary, integer, int_vector, Trees}
 use Rattle.resb_tree.specs.Tree.{no_trees, more_trees, Entries, no_entries, entry, trees_of}
 use Rattle.resb_tree.specs.Tree.{map_of, tree_count, trees_count, entries_count}
-use Rattle.resb_tree.specs.Maps.{text_cmp, pairs_of}
-use Rattle.resb_tree.proofs.MapsLemmas.{map_of-sorted, entries_of-pairs_of}
+use Rattle.resb_tree.specs.Maps.{pairs_of}
 use Rattle.resb_format.specs.Strings.{key_at}
 use Rattle.resb_format.specs.Parts.{Parts}
 use Rattle.resb_format.specs.Content.{Member, word, unit, leaf, list, entry_list, content_at}
@@ -37,6 +35,7 @@ use Rattle.resb_layout.proofs.Contents.{array_found, vector_found, wide_found, t
 use Rattle.resb_layout.proofs.Contents.{binary_found, array16_found, table16_found, word_of_array}
 use Rattle.resb_layout.proofs.Contents.{word_of_array16, word_of_table, word_of_table16}
 use Rattle.resb_layout.proofs.Contents.{word_of_table32, word_of_binary, word_of_vector}
+use Rattle.resb_tree.proofs.MapsLemmas.{map_of-pairs_of}
 
 abbrev list_of : Trees → List Tree
 list_of no_trees = []
@@ -174,16 +173,6 @@ pub members_count : (es : Entries) → trees_count (entry_trees es) ≡ entries_
 members_count no_entries = refl
 members_count (entry k t es) = ap (λ n. tree_count t + n) (members_count es)
 
--- entries that ascend are their own map
-same_keys : (es : Entries) → keys_of (pairs_of es) ≡ entry_keys es
-same_keys no_entries = refl
-same_keys (entry k t es) = ap (λ ks. k ∷ ks) (same_keys es)
-
-own_map : (es : Entries) → IsStrictlySortedBy text_cmp (entry_keys es) → map_of (pairs_of es) ≡ es
-own_map es h =
-    map_of-sorted (pairs_of es) (subst (IsStrictlySortedBy text_cmp) (sym (same_keys es)) h)
-    ∙ entries_of-pairs_of es
-
 module _ (p : Parts) (g : Given) (read : IsRead p g) where
   some_here : (s : Laid) (at : ℕ) → here g s ≡ 4 * at → 0 < at
   some_here s at e = omega (arith, e, read.base)
@@ -210,7 +199,7 @@ module _ (p : Parts) (g : Given) (read : IsRead p g) where
       let ds : DenPairs p (zip ps ms) (pairs_of es) (entries_count es) =
       subst (λ n. DenPairs p (zip ps ms) (pairs_of es) n) (members_count es)
       (keyed p g read es ps ms (trees_count (entry_trees es)) placed.positions d) in
-      subst (λ fs. Den p w (table fs) (entries_count es + 1)) (own_map es placed.ascend)
+      subst (λ fs. Den p w (table fs) (entries_count es + 1)) (map_of-pairs_of es placed.ascend)
       (subst (λ n. Den p w (table (map_of (pairs_of es))) n) (one_more (entries_count es))
       (den_pairs e ds))
 

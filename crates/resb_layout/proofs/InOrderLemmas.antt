@@ -10,7 +10,8 @@ use Rattle.resb_tree.specs.Tree.{Tree, array, table, binary, int_vector, Trees, 
 use Rattle.resb_tree.specs.Tree.{no_entries, entry}
 use Rattle.resb_tree.specs.LayingOrder.{laying_order, laying_each, laying_values}
 use Rattle.resb_format.proofs.WordsBack.{written_length}
-use Rattle.resb_layout.specs.Laid.{Given, Laid, more_units, more_bytes, here, words, halves, pad}
+use Rattle.resb_layout.specs.Laid.{Given, Laid, more_units, more_bytes, here, words, pad}
+use Rattle.resb_format.specs.Bytes.{units_as_bytes}
 use Rattle.resb_layout.specs.Laid.{to_data, to_word, fill, offsets_in, words_body, near_table_body}
 use Rattle.resb_layout.specs.Laid.{wide_table_body, binary_body, entry_trees}
 use Rattle.resb_layout.specs.Laid.{ClosesArray, short_array, long_array, ClosesTable}
@@ -138,7 +139,8 @@ wide_whole at ps ws word =
       length-append (words ps) (words ws),
     )
 
-pad_long : (n : ℕ) → ((n % 2 ≡ 0) × (length (pad n) ≡ 2)) ⊎ ((n % 2 ≡ 1) × (length (pad n) ≡ 0))
+-- the padding behind n positions: none where they are odd in number
+pub pad_long : (n : ℕ) → ((n % 2 ≡ 0) × (length (pad n) ≡ 2)) ⊎ ((n % 2 ≡ 1) × (length (pad n) ≡ 0))
 pad_long n = by (nat_eq (n % 2) 0) refl
   where
     by : (b : Bool) → nat_eq (n % 2) 0 ≡ b → ((n % 2 ≡ 0) × (length (pad n) ≡ 2))
@@ -158,8 +160,9 @@ near_long ps ws =
       arith,
       written_length ws,
       halves_len ps,
-      length-append (to_le_bytes w16 (length ps)) (halves ps ++ (pad (length ps) ++ words ws)),
-      length-append (halves ps) (pad (length ps) ++ words ws),
+      length-append (to_le_bytes w16 (length ps)) (units_as_bytes ps
+          ++ (pad (length ps) ++ words ws)),
+      length-append (units_as_bytes ps) (pad (length ps) ++ words ws),
       length-append (pad (length ps)) (words ws),
     )
 
@@ -206,9 +209,10 @@ module _ (g : Given) where
       (wide_whole (here g s) ps ws word)
 
 -- the members of a table in laying order
-values_walked : (es : Entries) → laying_each (entry_trees es) ≡ laying_values es
-values_walked no_entries = refl
-values_walked (entry k t es) = ap (λ ts. laying_order t ++ ts) (values_walked es)
+pub laying_each-entry_trees : (es : Entries) → laying_each (entry_trees es) ≡ laying_values es
+laying_each-entry_trees no_entries = refl
+laying_each-entry_trees (entry k t es) = ap (λ ts. laying_order t
+    ++ ts) (laying_each-entry_trees es)
 
 mutual
   in_order : {g : Given} {s e : Laid} {t : Tree} {w : ℕ} → Lays g s t e w → here g s % 4 ≡ 0
@@ -230,7 +234,7 @@ mutual
   in_order {g = g} (lays_no_entries {s = s'}) word = nothing g s' _ word
   in_order {g = g} {s = s} (lays_entries {mid = m'} {es = es'} ps p h some c) word =
       let k = each_in_order h word in
-      joined_in_order g (subst (StandsInOrder g s m') (values_walked es') k)
+      joined_in_order g (subst (StandsInOrder g s m') (laying_each-entry_trees es') k)
       (table_in_order g es' k.whole some c)
 
   each_in_order : {g : Given} {s e : Laid} {ts : Trees} {ws : List ℕ} → LaysEach g s ts e ws

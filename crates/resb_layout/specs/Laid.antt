@@ -14,6 +14,7 @@ use Rattle.resb_tree.specs.Tree.{Tree, string, array, table, binary, integer, in
 use Rattle.resb_tree.specs.Tree.{no_trees, more_trees, Entries, no_entries, entry}
 use Rattle.resb_tree.specs.Maps.{text_cmp}
 use Rattle.resb_tree.specs.LayingOrder.{entry_keys}
+use Rattle.resb_format.specs.Bytes.{units_as_bytes}
 
 -- where keys and strings stand, and where the tail begins: positions of keys and that place are in
 -- bytes of the body, offsets of strings in units of the 16-bit block
@@ -42,10 +43,6 @@ more_bytes s bs = record { units = s.units; tail = s.tail ++ bs }
 -- numbers of 32 bits as bytes, the lowest byte first
 abbrev pub words : List ℕ → List ℕ
 words ws = flat_map (to_le_bytes w32) ws
-
--- numbers of 16 bits as bytes, the lowest byte first
-abbrev pub halves : List ℕ → List ℕ
-halves us = flat_map (to_le_bytes w16) us
 
 -- n filling bytes
 abbrev pub fill : ℕ → List ℕ
@@ -76,7 +73,8 @@ pad n = if nat_eq (n % 2) 0 then 0xaa ∷ 0xaa ∷ [] else []
 
 -- a table's body: a count of 16 bits, as many positions, padding, and as many descriptors
 abbrev pub near_table_body : List ℕ → List ℕ → List ℕ
-near_table_body ps ws = to_le_bytes w16 (length ps) ++ (halves ps ++ (pad (length ps) ++ words ws))
+near_table_body ps ws = to_le_bytes w16 (length ps)
+    ++ (units_as_bytes ps ++ (pad (length ps) ++ words ws))
 
 -- a table's body: a count of 32 bits, as many positions, and as many descriptors
 abbrev pub wide_table_body : List ℕ → List ℕ → List ℕ

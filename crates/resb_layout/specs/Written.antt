@@ -6,7 +6,8 @@ use Rattle.std.specs.Prelude.{Bool, Option, None, if◌then◌else◌}
 use Rattle.resb_tree.specs.Tree.{Tree, tree_count}
 use Rattle.resb_head.specs.File.{body_of, root_word, keys_end, block_end, Denotes, budget}
 use Rattle.resb_pool.specs.Plan.{IsPlan}
-use Rattle.resb_layout.specs.Laid.{Laid, Lays, halves}
+use Rattle.resb_layout.specs.Laid.{Laid, Lays}
+use Rattle.resb_format.specs.Bytes.{units_as_bytes}
 use Rattle.resb_tree.specs.LayingOrder.{texts_of}
 use Rattle.resb_layout.specs.KeyBlock.{key_block, key_position, keys_start}
 use Rattle.resb_layout.specs.TreeFaults.{tree_fault}
@@ -40,7 +41,7 @@ pub record Blocks (t : Tree) (ks : List (List ℕ)) : Type 0 where
 
 -- the bytes behind the index
 abbrev pub block_bytes : {t : Tree} {ks : List (List ℕ)} → Blocks t ks → List ℕ
-block_bytes {t} {ks} b = key_block t ks ++ (halves (even b.laid.units) ++ b.laid.tail)
+block_bytes {t} {ks} b = key_block t ks ++ (units_as_bytes (even b.laid.units) ++ b.laid.tail)
 
 -- a file that denotes the tree, with the bundle's index, whose bytes behind the index are just the
 -- blocks

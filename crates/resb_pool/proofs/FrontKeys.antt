@@ -147,10 +147,14 @@ row_keyed T r u h = record {
   front_is = h.front_is;
 }
 
+-- where the first of two comparisons says that one thing stands before another, so do both
+pub less_is_first : (o p : Ordering) → o ≡ Less → is_lt (ordering_then o p) ≡ false → ⊥
+less_is_first o p f g = cc (ap is_lt (then_less o p f), g)
+
 before_too : (x y : Row) → IsKeyed x → IsKeyed y → is_lt (keyed_cmp x y) ≡ false
     → is_lt (row_cmp x y) ≡ false
 before_too x y h k e = three_ways (is_lt (row_cmp x y) ≡ false) x.front y.front
-    (λ f. absurd (less_not (nat_cmp x.front y.front) (row_cmp x y) f e))
+    (λ f. absurd (less_is_first (nat_cmp x.front y.front) (row_cmp x y) f e))
     (λ f. sym (ap is_lt (ap (λ z. ordering_then (nat_cmp x.front z) (row_cmp x y)) (sym f)
     ∙ then_equal (nat_cmp x.front x.front) (row_cmp x y) (tied_itself nat_cmp_total x.front))) ∙ e)
     (λ m. ap is_lt (end_last_total.antisymm (chars_backwards x.text.now)
@@ -158,9 +162,6 @@ before_too x y h k e = three_ways (is_lt (row_cmp x y) ≡ false) x.front y.fron
     ∙ ap ordering_reverse (order_of 6 0 (chars_backwards y.text.now) (chars_backwards x.text.now)
     (small_key y.text.now k.utf8) (small_key x.text.now h.utf8)
     (omega (arith, m, h.front_is, k.front_is)))))
-  where
-    less_not : (o p : Ordering) → o ≡ Less → is_lt (ordering_then o p) ≡ false → ⊥
-    less_not o p f g = cc (ap is_lt (then_less o p f), g)
 
 pub in_suffix_order : (rows : List Row) → All IsKeyed rows → IsSorted keyed_cmp rows
     → IsSorted row_cmp rows

@@ -32,7 +32,8 @@ use Rattle.resb_print.proofs.Places.{From, byte_at, from_behind, from_next, soli
 use Rattle.resb_print.proofs.Places.{at_end, from_inside}
 use Rattle.resb_print.proofs.Places.{run_at, range_is, white_on, solid_byte}
 use Rattle.resb_print.proofs.Words.{name_text, word_each}
-use Rattle.resb_print.proofs.Groups.{Starts, own_map, entries_at, none_yet, close_line}
+use Rattle.resb_print.proofs.Groups.{Starts, entries_at, none_yet, close_line}
+use Rattle.resb_tree.proofs.MapsLemmas.{map_of-pairs_of}
 
 module _ (text : List ℕ) where
   get_at : (l : List ℕ) (at b : ℕ) (rest : List ℕ) → drop at l ≡ b ∷ rest → slice_get l at ≡ Some b
@@ -148,7 +149,8 @@ module _ (text : List ℕ) where
           pairs = r.pairs;
           closes = c.brace;
           after = end_skip c.after;
-          means = ap table (sym (own_map es ascend)) ∙ ap (λ l. table (map_of l)) (sym r.means);
+          means = ap table (sym (map_of-pairs_of es ascend))
+              ∙ ap (λ l. table (map_of l)) (sym r.means);
           lists = refl;
         },
       )

@@ -6,7 +6,6 @@ use Rattle.std.proofs.Common.{Some, inr, zero, suc}
 use Rattle.std.specs.Prelude.{slice_index, codes, decimal, ◌==◌, ◌&&◌, not, nat_eq}
 use Rattle.std.proofs.Common.{eqb-true}
 use Rattle.std.specs.List.Sorted.{IsStrictlySortedBy}
-use Rattle.std.specs.Map.{keys_of}
 use Rattle.hex.specs.Hex.{encode_lower, encode_with, lower_digits}
 use Rattle.std.proofs.lemmas.Bool.{false≢true, and_parts, and_from, or_from}
 use Rattle.std.proofs.lemmas.Bool.Decides.{nat_tests}
@@ -14,13 +13,12 @@ use Rattle.resb_tree.specs.Tree.{Tree, string, array, table, binary, integer, in
 use Rattle.resb_tree.specs.Tree.{no_trees, more_trees, Entries, no_entries, entry, trees_of, map_of}
 use Rattle.resb_tree.specs.Maps.{text_cmp, pairs_of}
 use Rattle.resb_tree.specs.LayingOrder.{array_members, entry_keys}
-use Rattle.resb_tree.proofs.MapsLemmas.{map_of-sorted, entries_of-pairs_of}
 use Rattle.resb_grammar.specs.Ascii as ascii
 use Rattle.resb_grammar.specs.ByteRuns.{is_white, is_word}
 use Rattle.resb_grammar.specs.Lexical.{Blanks, Skip, IsSolid, Number}
 use Rattle.resb_grammar.specs.Items.{Item, Term, string_term, group_term, plain, before_comma}
 use Rattle.resb_grammar.specs.Items.{is_pairs, pairs_in, item_trees, term_tree, keys_in}
-use Rattle.resb_grammar.specs.Items.{a_table, an_array, Shape, shape_of, table_if, tree_in}
+use Rattle.resb_grammar.specs.Items.{an_array, Shape, shape_of, tree_in}
 use Rattle.resb_grammar.specs.GroupTypes.{Kind, array_kind, table_kind, binary_kind}
 use Rattle.resb_grammar.specs.GroupTypes.{integer_kind, vector_kind, TypedOpening}
 use Rattle.resb_grammar.specs.Group.{is_hex, hex_value, byte_before}
@@ -37,27 +35,10 @@ use Rattle.resb_print.specs.Quotes.{NoQuote, IsFree, AreFree, FreeIn}
 use Rattle.resb_print.proofs.Places.{From, byte_at, from_next, solid_at, no_skip, line_blanks}
 use Rattle.resb_print.proofs.Places.{quoted_text}
 use Rattle.resb_print.proofs.Words.{name_text, head_at, number_at}
-
--- entries that ascend are their own map
-same_keys : (es : Entries) → keys_of (pairs_of es) ≡ entry_keys es
-same_keys no_entries = refl
-same_keys (entry k t es) = ap (λ ks. k ∷ ks) (same_keys es)
-
-pub own_map : (es : Entries) → IsStrictlySortedBy text_cmp (entry_keys es)
-    → map_of (pairs_of es) ≡ es
-own_map es h =
-    map_of-sorted (pairs_of es) (subst (IsStrictlySortedBy text_cmp) (sym (same_keys es)) h)
-    ∙ entries_of-pairs_of es
-
-pub own_trees : (ts : Trees) → trees_of (array_members ts) ≡ ts
-own_trees no_trees = refl
-own_trees (more_trees t ts) = ap (more_trees t) (own_trees ts)
-
--- entries are a table
-shape_pairs : (xs : List Item) → is_pairs xs ≡ true → shape_of xs ≡ a_table
-shape_pairs [] h = refl
-shape_pairs (x ∷ []) h = absurd (false≢true h)
-shape_pairs (x ∷ y ∷ xs) h = ap table_if h
+use Rattle.resb_tree.proofs.MapsLemmas.{map_of-pairs_of}
+use Rattle.resb_tree.proofs.LayingOrderLemmas.{trees_of-array_members}
+use Rattle.resb_tree.proofs.Numbers.{low_bits_kept}
+use Rattle.resb_grammar.proofs.ReaderLemmas.{pairs_are_table}
 
 -- the first byte of a resource behind its key
 pub record Starts (bytes : List ℕ) : Type 0 where
@@ -200,9 +181,6 @@ hex_read (b ∷ bs) low =
     (hex_bytes (encode_lower bs)))
     (and_from (is_hex (digit_of (b / 16))) (is_hex (digit_of (b % 16))) x.hex y.hex)
     ∙ (λ i. byte_before true (e i) (r i))
-
-pub mod_same : (v : ℕ) → v < 2 ^ 28 → v % 2 ^ 28 ≡ v
-mod_same v h = omega arith
 
 module _ (text : List ℕ) where
   -- items behind a `{`, whose content begins at `b`, as far as they are printed
@@ -444,8 +422,8 @@ module _ (text : List ℕ) where
       let c = close_entries (entry k t es) n r.after in
       let (first, skip, items) = r.gathered.read c.place c.skip in
       let e : tree_in (shape_of r.items) r.items ≡ table (entry k t es) =
-      ap (λ (s : Shape). tree_in s r.items) (shape_pairs r.items r.pairs)
-      ∙ ap (λ l. table (map_of l)) r.means ∙ ap table (own_map (entry k t es) ascend) in
+      ap (λ (s : Shape). tree_in s r.items) (pairs_are_table r.items r.pairs)
+      ∙ ap (λ l. table (map_of l)) r.means ∙ ap table (map_of-pairs_of (entry k t es) ascend) in
       record {
         to = c.place + 1;
         keys = keys_in (shape_of r.items) r.items;
@@ -466,7 +444,7 @@ module _ (text : List ℕ) where
         let c = close_trees ts n r.after in
         let (first, skip, items) = r.gathered.read c.place c.skip in
         let e : array (trees_of (item_trees r.items)) ≡ array ts =
-        ap (λ l. array (trees_of l)) r.means ∙ ap array (own_trees ts) in
+        ap (λ l. array (trees_of l)) r.means ∙ ap array (trees_of-array_members ts) in
         record {
           to = c.place + 1;
           keys = keys_in an_array r.items;
@@ -489,7 +467,7 @@ module _ (text : List ℕ) where
         let (solid, (q, number, f2)) = number_at text v ascii.right_brace rest (omega arith) f refl
         in
         let content : LeafContent text (brace + 1) q integer_kind (integer v) =
-        subst (λ n. LeafContent text (brace + 1) q integer_kind (integer n)) (mod_same v held)
+        subst (λ n. LeafContent text (brace + 1) q integer_kind (integer n)) (low_bits_kept v held)
         (integer_content q v number (no_skip text (solid_at text f2 refl refl))) in
         leaf_done integer_kind (integer v) (head (brace + 1) (no_skip text solid)) content f2
     group_at n (int_vector ns) at rest held free h =

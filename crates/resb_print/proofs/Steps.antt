@@ -1,12 +1,10 @@
 -- What a job leaves to be done, together with what it writes, is the job.
-use Rattle.std.proofs.Common.{◌≡◌, ℕ, zero, suc, ◌+◌, ◌*◌, ◌<◌, Bool, true, false, List}
+use Rattle.std.proofs.Common.{◌≡◌, ℕ, ◌+◌, ◌*◌, ◌<◌, true, false, List}
 use Rattle.std.proofs.Common.{[], ◌∷◌, ◌++◌}
 use Rattle.std.proofs.Common.{map, reverse, length, refl, sym, ◌∙◌, ap, subst, arith, append_assoc}
 use Rattle.std.proofs.Common.{Option, Some, None}
-use Rattle.std.specs.Prelude.{codes, IsTrue, ◌==◌}
-use Rattle.std.proofs.lemmas.Bool.{false≢true}
+use Rattle.std.specs.Prelude.{codes, ◌==◌}
 use Rattle.std.proofs.lemmas.Bool.Decides.{nat_tests}
-use Rattle.std.specs.Map.{keys_of}
 use Rattle.std.specs.String.{string_bytes}
 use Rattle.std.specs.declared.alloc.Global.{Global}
 use Rattle.std.specs.declared.string.String.{String}
@@ -32,10 +30,6 @@ use Rattle.resb_print.specs.declared.error.PrintError.TheVariants.{NotPrintable}
 use Rattle.resb_tree.specs.Maps.{text_cmp}
 use Rattle.std.specs.List.Sorted.{IsStrictlySortedBy}
 use Rattle.std.proofs.Common.{inl, inr}
-
-pub keys_view : (es : List (List ℕ × Resource)) → entry_keys (entries_view es) ≡ keys_of es
-keys_view [] = refl
-keys_view (e ∷ es) = ap (λ l. e.0 ∷ l) (keys_view es)
 
 -- a job is put, where those before it come later
 pub put_before : (js ks : List Job) (j : Job)
@@ -279,10 +273,6 @@ refused js ls j es old now e f u (inr (x, h, g)) =
       sym u.causes ∙ ap (λ l. jobs_cause l None) f ∙ fold_push job_cause js j None
           ∙ g (jobs_cause js None),
     )
-
-pub not_none : (n : ℕ) (b : Bool) → (n ≡ 0 → IsTrue b) → b ≡ false → 0 < n
-not_none zero b h e = absurd (false≢true (sym e ∙ h refl))
-not_none (suc n) b h e = omega arith
 
 pub not_empty : (n : ℕ) → (n == 0) ≡ false → 0 < n
 not_empty n h = grind (arith, nat_tests)

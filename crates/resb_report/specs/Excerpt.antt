@@ -2,7 +2,8 @@
 use Rattle.std.specs.Prelude.{◌≡◌, ◌⊎◌, ℕ, zero, suc, ◌+◌, ◌≤◌, ◌<◌, Bool, true, ◌==◌, List, length}
 use Rattle.std.specs.Prelude.{slice_index, nat_lt, not, ◌||◌, ◌&&◌, if◌then◌else◌}
 use Rattle.std.specs.Prelude.{◌-◌, ◌++◌, ◌∷◌, [], map, replicate, slice_range, IsTrue, IsUtf8, ◌↔◌}
-use Rattle.resb_report.specs.Location.{line_feed, begins_character}
+use Rattle.resb_report.specs.Location.{begins_character}
+use Rattle.resb_grammar.specs.Ascii.{line_feed}
 
 -- a line begins at a place: at the text's start, or behind a line feed
 abbrev pub begins_line : List ℕ → ℕ → Bool

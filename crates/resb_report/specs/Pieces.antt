@@ -4,30 +4,16 @@
 -- type and of the parentheses of `(nofallback)` no piece is made.
 use Rattle.std.specs.Prelude.{ℕ, zero, suc, ◌+◌, Bool, false, ◌||◌, ◌==◌, List}
 use Rattle.std.specs.Prelude.{slice_index, slice_range, if◌then◌else◌, Option, Some, None}
-use Rattle.std.specs.Char.{is_ascii_alphanumeric}
-use Rattle.resb_report.specs.Braces.{quote, left_brace, right_brace, mode_at}
+use Rattle.resb_grammar.specs.ByteRuns.{is_word}
+use Rattle.resb_report.specs.Braces.{mode_at}
 use Rattle.resb_report.specs.declared.braces.Mode.{Mode}
 use Rattle.resb_report.specs.declared.braces.Mode.TheVariants as mode
+use Rattle.resb_grammar.specs.Ascii.{left_brace, quote, right_brace}
+use Rattle.resb_grammar.specs.Ascii.{comma, colon}
 
 -- the character ( by its number in ASCII
 abbrev pub left_parenthesis : ℕ
 left_parenthesis = 40
-
--- the character , by its number in ASCII
-abbrev pub comma : ℕ
-comma = 44
-
--- the character - by its number in ASCII
-abbrev pub dash : ℕ
-dash = 45
-
--- the character : by its number in ASCII
-abbrev pub colon : ℕ
-colon = 58
-
--- ASCII letters and digits, and the dash
-abbrev pub is_word : ℕ → Bool
-is_word b = is_ascii_alphanumeric b || b == dash
 
 -- a string with its bytes, without quotes, and where it begins, with its quote
 pub record PlacedText : Type 0 where

@@ -3,7 +3,7 @@
 ghost use Rattle.std.specs.Prelude.{◌≡◌, ◌+◌, ◌<◌, ◌^◌, ◌==◌, ◌||◌};
 ghost use Rattle.std.specs.Prelude.{if◌then◌else◌, false};
 ghost use Rattle.std.specs.Prelude.{length, option_map, slice_index};
-ghost use Rattle.resb_report.specs.Pieces as spec;
+ghost use Rattle.resb_grammar.specs.ByteRuns as bytes;
 ghost use Rattle.resb_report.specs.Pieces.{piece_at, token_at, word_at, is_behind_colon};
 ghost use Rattle.resb_report.specs.Warnings.{is_first_backslash};
 ghost use Rattle.resb_report.specs.Inner.Looks.{text_piece_of, Passed};
@@ -50,7 +50,7 @@ pub(crate) struct Pieces<'a> {
 
 /// Whether a byte is a letter, a digit or a dash.
 fn is_word(byte: u8) -> bool
-    ensures { result ≡ spec.is_word byte }
+    ensures { result ≡ bytes.is_word byte }
 {
     byte.is_ascii_alphanumeric() || byte == b'-'
 }
@@ -66,7 +66,7 @@ fn is_behind(text: &[u8], place: usize) -> bool
 /// Where the run of word characters begins that ends behind the byte at a place.
 fn word_behind(word: usize, at: usize, byte: u8) -> usize
     requires { at < 2 ^ 63 }
-    ensures { result ≡ (if spec.is_word byte then word else at + 1) }
+    ensures { result ≡ (if bytes.is_word byte then word else at + 1) }
 {
     if is_word(byte) { word } else { at + 1 }
 }

@@ -128,3 +128,8 @@ module _ (rs : List (Bor Resource)) (i : ℕ) (r : Bor Resource) (at : r ≡ get
   pub trees-take : trees_in (take (i + 1) rs) ≡ trees_in (take i rs) ++ tree_of r.now ∷ []
   trees-take = map_more (λ (x : Bor Resource). tree_of x.now) rs i r h
       ∙ ap (λ (x : Bor Resource). trees_in (take i rs) ++ tree_of x.now ∷ []) (sym at)
+
+-- the members of an array, put together again
+pub trees_of-array_members : (ts : Trees) → trees_of (array_members ts) ≡ ts
+trees_of-array_members no_trees = refl
+trees_of-array_members (more_trees t ts) = ap (more_trees t) (trees_of-array_members ts)

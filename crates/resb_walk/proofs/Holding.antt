@@ -7,7 +7,7 @@ use Rattle.std.proofs.lemmas.List.Sums.{sum_by-cons, sum_by-append}
 use Rattle.resb_tree.specs.Tree.{Tree, string}
 use Rattle.resb_format.specs.Strings.{text_at, key_at}
 use Rattle.resb_format.specs.Parts.{Parts}
-use Rattle.resb_format.specs.Content.{Member, Content, word, unit, leaf, list, entry_list}
+use Rattle.resb_format.specs.Content.{Member, word, unit, leaf, list, entry_list}
 use Rattle.resb_format.specs.Content.{content_at}
 use Rattle.resb_format.specs.Content.{text_leaf}
 use Rattle.resb_format.specs.Denotes.{Den, den_leaf, den_list, den_pairs, DenMember, den_word}
@@ -26,13 +26,6 @@ use Rattle.resb_walk.specs.Sums.{count_of}
 pub table_is_one : {A : Type 0} (es : List A) → resource_count_in (table_piece es) ≡ 1
 table_is_one [] = refl
 table_is_one (e ∷ es) = refl
-
--- what a leaf of a text is
-text_of_leaf : {o : Option (List ℕ)} {c : Content}
-    → option_map (λ s. leaf (string s)) o ≡ Some c
-    → (s : List ℕ) × (o ≡ Some s) × (c ≡ leaf (string s))
-text_of_leaf {o = None} e = absurd cc
-text_of_leaf {o = Some s} e = (s, refl, cc)
 
 module _ (p : Parts) where
   -- by what stands at the word

@@ -26,6 +26,7 @@ use Rattle.resb_walk.proofs.Starts.{member_meets}
 use Rattle.resb_walk.proofs.Waits.{list_begins, table_begins, table_no_key, list_puts, table_puts}
 use Rattle.resb_walk.proofs.Waits.{list_stuck, list_reaches, table_stuck}
 use Rattle.resb_walk.proofs.Waits.{table_reaches}
+use Rattle.resb_walk.proofs.RoundsLemmas.{same_word}
 
 -- the end of a list, by its length
 pub last_of : {A : Type 0} (xs ys zs : List A) (k : ℕ) → k ≡ length ys → zs ≡ xs ++ ys
@@ -212,9 +213,6 @@ module _ (p : Parts) where
     pub path : Path p root cs i.word outer
     pub opened : IsOpenedAt p i.rest i.word inner
     pub paid : left + (outer + (1 + inner)) ≡ before
-
-  same_word : {w v : ℕ} → word w ≡ word v → w ≡ v
-  same_word e = cc
 
   -- the root is a collection
   pub round_first : (root before left : ℕ) (i : Inner) (cs : List Outer) → cs ≡ []

@@ -25,6 +25,7 @@ use Rattle.resb_write.specs.Inner.Counted.{short_units, own_units}
 use Rattle.resb_write.proofs.OneBlock.{below_strings, above_short_strings}
 use Rattle.resb_write.proofs.Closings.{offsets_long}
 use Rattle.resb_write.proofs.KeyViews.{placed_long, keys_values}
+use Rattle.resb_layout.proofs.InOrderLemmas.{laying_each-entry_trees}
 
 -- the word of a string is short where a unit holds its offset
 short_offset : (k : ℕ) → is_short_string (0x6000_0000 + k) ≡ nat_le k 65535
@@ -42,10 +43,6 @@ short_offset k = by (nat_le k 65535) refl
 members_of : (es : Entries) → array_members (entry_trees es) ≡ values_of es
 members_of no_entries = refl
 members_of (entry k t es) = ap (λ l. t ∷ l) (members_of es)
-
-walk_of : (es : Entries) → laying_each (entry_trees es) ≡ laying_values es
-walk_of no_entries = refl
-walk_of (entry k t es) = ap (λ l. laying_order t ++ l) (walk_of es)
 
 -- a short collection that isn't empty has a count and its members' units
 short_is : (b : Bool) (n each : ℕ) → b ≡ true → 0 < n → short_units b n each ≡ each * n + 1
@@ -181,7 +178,8 @@ module _ (g : Given) where
         (near_keys (entry_keys es) ps p.positions) some c in (
           one_more_counted (length s.units) (length mid.units) (length e.units) 0 _
               (laying_values es) t
-              (r.0 ∙ ap (λ l. length s.units + sum_by (own_units g) l) (walk_of es)) o.0 refl,
+              (r.0 ∙ ap (λ l. length s.units + sum_by (own_units g) l)
+              (laying_each-entry_trees es)) o.0 refl,
           o.1,
         )
 

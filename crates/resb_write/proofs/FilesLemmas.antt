@@ -17,7 +17,8 @@ use Rattle.resb_format.specs.Denotes.{Den}
 use Rattle.resb_pool.specs.Plan.{IsPlan}
 use Rattle.resb_pool.proofs.IsRead.{pool_is_read}
 use Rattle.resb_pool.proofs.ReadBack.{text_at-zero}
-use Rattle.resb_layout.specs.Laid.{Given, Laid, Lays, halves, fill}
+use Rattle.resb_layout.specs.Laid.{Given, Laid, Lays, fill}
+use Rattle.resb_format.specs.Bytes.{units_as_bytes}
 use Rattle.resb_layout.specs.Laws.{IsRead, StandsIn}
 use Rattle.resb_layout.proofs.Numbers.{EachBelow, halves_len}
 use Rattle.resb_layout.proofs.Grows.{grows}
@@ -206,7 +207,7 @@ module _ (t : Tree) (ks js : List (List ℕ)) (m : Made t ks js) (largest : ℕ)
   }
 
   front : List ℕ
-  front = (heads.head whole ++ block) ++ halves us
+  front = (heads.head whole ++ block) ++ units_as_bytes us
 
   stands : StandsIn parts given m.laid
   unfolding front
@@ -216,7 +217,7 @@ module _ (t : Tree) (ks js : List (List ℕ)) (m : Made t ks js) (largest : ℕ)
     bytes_behind = [];
     front_is = omega (
       arith,
-      length-append (heads.head whole ++ block) (halves us),
+      length-append (heads.head whole ++ block) (units_as_bytes us),
       length-append (heads.head whole) block,
       heads.head_length whole,
       halves_len us,
@@ -224,9 +225,10 @@ module _ (t : Tree) (ks js : List (List ℕ)) (m : Made t ks js) (largest : ℕ)
       m.base_is,
     );
     block_is = more.1;
-    body_is = sym (append_assoc (heads.head whole) block (halves us ++ m.laid.tail))
-        ∙ sym (append_assoc (heads.head whole ++ block) (halves us) m.laid.tail)
-        ∙ ap (λ l. ((heads.head whole ++ block) ++ halves us) ++ l) (sym (append-nil m.laid.tail));
+    body_is = sym (append_assoc (heads.head whole) block (units_as_bytes us ++ m.laid.tail))
+        ∙ sym (append_assoc (heads.head whole ++ block) (units_as_bytes us) m.laid.tail)
+        ∙ ap (λ l. ((heads.head whole ++ block) ++ units_as_bytes us)
+        ++ l) (sym (append-nil m.laid.tail));
   }
 
   pool_long : 0 < length m.pool
@@ -314,5 +316,5 @@ module _ (t : Tree) (ks js : List (List ℕ)) (m : Made t ks js) (largest : ℕ)
       units_whole,
       ap length same_block,
     );
-    body = heads.behind_head whole ∙ ap (λ l. l ++ (halves us ++ m.laid.tail)) same_block;
+    body = heads.behind_head whole ∙ ap (λ l. l ++ (units_as_bytes us ++ m.laid.tail)) same_block;
   }

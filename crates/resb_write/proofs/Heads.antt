@@ -8,7 +8,8 @@ use Rattle.resb_format.specs.Parts.{Parts}
 use Rattle.resb_head.specs.File.{header_size, body_of, root_word, field_count, keys_end}
 use Rattle.resb_head.specs.File.{resources_end, bundle_end, largest_table_field, attributes}
 use Rattle.resb_head.specs.File.{block_end, parts_of, IsBundleFile}
-use Rattle.resb_layout.specs.Laid.{words, halves}
+use Rattle.resb_layout.specs.Laid.{words}
+use Rattle.resb_format.specs.Bytes.{units_as_bytes}
 use Rattle.resb_layout.proofs.Numbers.{EachBelow, words_read, halves_read, halves_len}
 use Rattle.resb_format.proofs.WordsBack.{written_length}
 use Rattle.resb_layout.specs.WrittenHead.{written_header}
@@ -47,7 +48,7 @@ module _ (x : Whole) where
   head = words head_words
 
   abbrev pub body : List ℕ
-  body = head ++ (x.keys ++ (halves x.us ++ x.tail))
+  body = head ++ (x.keys ++ (units_as_bytes x.us ++ x.tail))
 
   abbrev pub file : List ℕ
   file = file_of x.root x.largest x.fallback x.keys x.us x.tail
@@ -64,12 +65,14 @@ module _ (x : Whole) where
   pub body_is : body_of file ≡ body
   body_is = body_behind body
 
-  words_are : words_of (body_of file) ≡ head_words ++ words_of (x.keys ++ (halves x.us ++ x.tail))
-  words_are = ap words_of body_is ∙ words_read head_words (x.keys ++ (halves x.us ++ x.tail))
+  words_are : words_of (body_of file)
+      ≡ head_words ++ words_of (x.keys ++ (units_as_bytes x.us ++ x.tail))
+  words_are = ap words_of body_is
+      ∙ words_read head_words (x.keys ++ (units_as_bytes x.us ++ x.tail))
       x.words_fit
 
   word_is : (i : ℕ) → get_or (words_of (body_of file)) i 0 ≡ get_or
-      (head_words ++ words_of (x.keys ++ (halves x.us ++ x.tail))) i 0
+      (head_words ++ words_of (x.keys ++ (units_as_bytes x.us ++ x.tail))) i 0
   word_is i = ap (λ ws. get_or ws i 0) words_are
 
   pub root_is : root_word file ≡ x.root
@@ -116,9 +119,9 @@ module _ (x : Whole) where
         key_length,
         unit_length,
         tail_length,
-        length-append head (x.keys ++ (halves x.us ++ x.tail)),
-        length-append x.keys (halves x.us ++ x.tail),
-        length-append (halves x.us) x.tail,
+        length-append head (x.keys ++ (units_as_bytes x.us ++ x.tail)),
+        length-append x.keys (units_as_bytes x.us ++ x.tail),
+        length-append (units_as_bytes x.us) x.tail,
         head_length,
         halves_len x.us,
       )
@@ -129,31 +132,31 @@ module _ (x : Whole) where
   front_length : length (head ++ x.keys) ≡ 4 * (8 + key_words)
   front_length = omega (arith, key_length, length-append head x.keys, head_length)
 
-  body_split : body ≡ (head ++ x.keys) ++ (halves x.us ++ x.tail)
-  body_split = sym (append_assoc head x.keys (halves x.us ++ x.tail))
+  body_split : body ≡ (head ++ x.keys) ++ (units_as_bytes x.us ++ x.tail)
+  body_split = sym (append_assoc head x.keys (units_as_bytes x.us ++ x.tail))
 
   pub keys_are : take (4 * keys_end file) (body_of file) ≡ head ++ x.keys
   keys_are = (λ i. take (4 * keys_end_is i) ((body_is ∙ body_split) i))
-      ∙ take_at (head ++ x.keys) (halves x.us ++ x.tail) (4 * (8 + key_words)) front_length
+      ∙ take_at (head ++ x.keys) (units_as_bytes x.us ++ x.tail) (4 * (8 + key_words)) front_length
 
-  pub behind_head : drop 32 (body_of file) ≡ x.keys ++ (halves x.us ++ x.tail)
+  pub behind_head : drop 32 (body_of file) ≡ x.keys ++ (units_as_bytes x.us ++ x.tail)
   behind_head = ap (drop 32) body_is
-      ∙ drop_at head (x.keys ++ (halves x.us ++ x.tail)) 32 head_length
+      ∙ drop_at head (x.keys ++ (units_as_bytes x.us ++ x.tail)) 32 head_length
 
-  rest_is : drop (4 * keys_end file) (body_of file) ≡ halves x.us ++ x.tail
+  rest_is : drop (4 * keys_end file) (body_of file) ≡ units_as_bytes x.us ++ x.tail
   rest_is = (λ i. drop (4 * keys_end_is i) ((body_is ∙ body_split) i))
-      ∙ drop_at (head ++ x.keys) (halves x.us ++ x.tail) (4 * (8 + key_words)) front_length
+      ∙ drop_at (head ++ x.keys) (units_as_bytes x.us ++ x.tail) (4 * (8 + key_words)) front_length
 
-  halves_long : length (halves x.us) ≡ 4 * (8 + key_words + block_words - (8 + key_words))
+  halves_long : length (units_as_bytes x.us) ≡ 4 * (8 + key_words + block_words - (8 + key_words))
   halves_long = omega (arith, halves_len x.us, unit_length)
 
   block_is : units_of (take (4 * (block_end file - keys_end file))
       (drop (4 * keys_end file) (body_of file))) ≡ x.us
   block_is =
       (λ i. units_of (take (4 * (block_end_is i - keys_end_is i)) (rest_is i)))
-      ∙ ap units_of (take_at (halves x.us) x.tail
+      ∙ ap units_of (take_at (units_as_bytes x.us) x.tail
       (4 * (8 + key_words + block_words - (8 + key_words))) halves_long)
-      ∙ ap units_of (sym (append-nil (halves x.us)))
+      ∙ ap units_of (sym (append-nil (units_as_bytes x.us)))
       ∙ halves_read x.us [] x.units_fit
       ∙ ap (λ l. x.us ++ l) no_units ∙ append-nil x.us
 

@@ -12,7 +12,8 @@ use Rattle.resb_head.specs.File.{body_of}
 use Rattle.resb_format.proofs.WordsBack.{bytes_back, fits_drop}
 use Rattle.resb_format.proofs.Spelled.{words_length}
 use Rattle.resb_pool.proofs.OnePool.{one_pool}
-use Rattle.resb_layout.specs.Laid.{Given, Laid, Lays, halves}
+use Rattle.resb_layout.specs.Laid.{Given, Laid, Lays}
+use Rattle.resb_format.specs.Bytes.{units_as_bytes}
 use Rattle.resb_layout.proofs.Once.{one_layout}
 use Rattle.resb_tree.specs.LayingOrder.{texts_of}
 use Rattle.resb_write.proofs.OneBlock.{one_block}
@@ -78,7 +79,7 @@ module _ (t : Tree) (ks : List (List ℕ)) (x y : Blocks t ks) where
   start_same = base_is
 
   pub bytes_same : block_bytes x ≡ block_bytes y
-  bytes_same = ap (λ s. key_block t ks ++ (halves (even s.units) ++ s.tail)) laid_is
+  bytes_same = ap (λ s. key_block t ks ++ (units_as_bytes (even s.units) ++ s.tail)) laid_is
 
 module _ (a : List ℕ) (t : Tree) (fallback : Bool) (ks : List (List ℕ))
     (w : Written a t fallback ks) where

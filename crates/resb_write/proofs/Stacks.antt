@@ -13,6 +13,7 @@ use Rattle.resb_tree.specs.LayingOrder.{laying_each}
 use Rattle.resb_tree.specs.LayingOrder.{laying_values}
 use Rattle.resb_write.specs.Inner.StackSteps.{LaysNext, LaysRow, row_none, row_more}
 use Rattle.std.proofs.lemmas.List.{nil_from_length, take-append-drop}
+use Rattle.resb_tree.proofs.LayingOrderLemmas.{trees_of-array_members}
 
 -- of two lists in two parts, the parts are the same where the last ones have one length
 same_parts : (a b c d : List ℕ) → a ++ b ≡ c ++ d → length b ≡ length d → (a ≡ c) × (b ≡ d)
@@ -32,10 +33,6 @@ same_parts (x ∷ a) b (y ∷ c) d e l =
     let g : a ++ b ≡ c ++ d = cc in
     let r = same_parts a b c d g l in
     ((λ i. f i ∷ r.0 i), r.1)
-
-members_back : (ts : Trees) → trees_of (array_members ts) ≡ ts
-members_back no_trees = refl
-members_back (more_trees t ts) = ap (more_trees t) (members_back ts)
 
 module _ (g : Given) where
   pub record Split (s : Laid) (ws : List ℕ) (t : Tree) (rest : List Tree) (e : Laid)
@@ -175,7 +172,8 @@ array_step g s e ws xs vs ts w n c h v some k p =
       taken = q.0 ∙ ap (λ l. take (length ws - n) ws ++ l) (sym v);
       many = ap length v ∙ q.1 ∙ c;
       put = p;
-      closes = λ before l. lays_items (subst (λ us. LaysEach g before us s vs) (members_back ts) l)
+      closes = λ before l. lays_items
+          (subst (λ us. LaysEach g before us s vs) (trees_of-array_members ts) l)
           (omega (arith, ap length v, q.1)) k;
     }
 

@@ -112,8 +112,8 @@ fn lay_order<'t, 'a>(
 }
 
 /// Lays a tree, whose resources are given in laying order, behind the pool of its strings, where
-/// the key block ends at a byte of the body. Gives what is laid, and the tree's word. The tail begins
-/// behind the 16-bit block, at a multiple of 4. `Err` is for want of memory alone.
+/// the key block ends at a byte of the body. Gives what is laid, and the tree's word. The tail
+/// begins behind the 16-bit block, at a multiple of 4. `Err` is for want of memory alone.
 pub(crate) fn lay_bodies<'t, 'a>(
     alloc: Global,
     sites: &Sites<'_>,

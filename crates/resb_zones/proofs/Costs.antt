@@ -12,7 +12,8 @@ use Rattle.resb.specs.Strings.{string_at, key_at}
 use Rattle.resb.specs.Int28.{signed}
 use Rattle.resb.specs.Reading.{Lacks}
 use Rattle.resb.specs.Leaves.{type_in, value_in, signed_at, key_from, bytes_from, bytes_of_type}
-use Rattle.resb.specs.Leaves.{units_as_bytes, ReadsKey, CountsKey, CountsView}
+use Rattle.resb.specs.Leaves.{ReadsKey, CountsKey, CountsView}
+use Rattle.resb.specs.Bytes.{units_as_bytes}
 use Rattle.resb.specs.Spots.{cost_at}
 use Rattle.resb.specs.Sequences.{at_entry, entries_in, entries_from, entries_at}
 use Rattle.resb.specs.declared.binary.Spot.{Spot}

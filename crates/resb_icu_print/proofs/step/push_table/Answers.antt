@@ -5,7 +5,8 @@ use Rattle.resb_tree.specs.View.{pairs_view}
 use Rattle.resb_print.specs.Printed.{end_on}
 use Rattle.resb_print.specs.declared.task.Task.TheVariants.{Close}
 use Rattle.resb_print.specs.Inner.Jobs.{close_job, entry_jobs, job_of, jobs_in}
-use Rattle.resb_print.proofs.Steps.{many_entries, not_none, writes_bytes}
+use Rattle.resb_print.proofs.Steps.{many_entries, writes_bytes}
+use Rattle.resb_tree.proofs.Numbers.{positive_where_false}
 use Rattle.resb_icu_print.proofs.Steps.{does_table, empty_table}
 use Rattle.resb_icu_print.proofs.step.push_table.Goals as goal
 
@@ -22,7 +23,7 @@ returns-in_ok-push c =
     (jobs_in c.push_entries.new.pending.items) c.args.place c.args.level ps
     c.in_ok-push_str-2.ensures.bytes
     (many_entries c.args.table.now.entries
-    (not_none _ c.is_empty.result c.is_empty.ensures.1 c.if-is_empty.false))
+    (positive_where_false _ c.is_empty.result c.is_empty.ensures.1 c.if-is_empty.false))
     c.push_entries.ensures.ascend
     (h ∙ (λ i. pushed i ++ reverse (entry_jobs (c.deeper.ensures i) ps))))
     c.push_entries.ensures.jobs

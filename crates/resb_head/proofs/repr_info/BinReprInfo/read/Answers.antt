@@ -7,11 +7,12 @@ use Rattle.resb_format.specs.Bytes.{unit_in}
 use Rattle.resb_head.specs.Codes.{endianness_number, charset_number, version_bytes}
 use Rattle.resb_head.proofs.HeadSteps.{Order, Families, Formats, order_stands, endianness_fails}
 use Rattle.resb_head.proofs.HeadSteps.{order_fails, charset_fails, format_fails, version_fails}
-use Rattle.resb_head.proofs.HeadSteps.{all_hold, nat_le_holds, endianness_small, charset_small}
-use Rattle.resb_head.proofs.HeadSteps.{not_big}
-use Rattle.resb_head.proofs.HeadSteps.{is_big}
+use Rattle.resb_head.proofs.HeadSteps.{all_hold, endianness_small, charset_small}
 use Rattle.resb_head.proofs.repr_info.BinReprInfo.read.Goals as goal
 use Rattle.resb_head.proofs.repr_info.BinReprInfo.read.Goals.{else-is_big-via-else-is_big}
+use Rattle.resb_head.proofs.Numbers.{nat_le_holds}
+use Rattle.resb_head.proofs.Numbers.{not_big}
+use Rattle.resb_head.proofs.Numbers.{is_big}
 
 pub returns-in_err-endianness : goal.returns-in_err-endianness
 returns-in_err-endianness c =

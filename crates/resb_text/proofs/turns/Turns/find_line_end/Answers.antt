@@ -1,6 +1,6 @@
 use Rattle.std.proofs.Common.{◌∙◌, ap, arith}
 use Rattle.resb_text.specs.Turns.{Counted}
-use Rattle.resb_text.specs.Inner.Runs.{is_line_end}
+use Rattle.resb_grammar.specs.ByteRuns.{is_line_end}
 use Rattle.resb_text.proofs.TokensLemmas.{rest_of, test_found, none_before}
 use Rattle.resb_text.proofs.turns.Turns.find_line_end.Goals as goal
 

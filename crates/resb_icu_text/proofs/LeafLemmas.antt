@@ -18,7 +18,7 @@ use Rattle.resb_icu_grammar.proofs.Lexical.{Skip-one, String-one, Number-one, nu
 use Rattle.resb_icu_grammar.proofs.Groups.{no_string}
 use Rattle.resb_icu_text.specs.Refusal.{want_of_memory}
 use Rattle.resb_icu_text.specs.declared.error.IcuTextError.{IcuTextError}
-use Rattle.resb_icu_text.specs.Inner.Leaf.{Leaf, SomeLeaf, Vector, SomeVector, Closing}
+use Rattle.resb_icu_text.specs.Inner.Leaf.{Leaf, SomeLeaf, Vector, SomeVector}
 use Rattle.resb_icu_text.specs.Inner.Leaf.{Refuses}
 use Rattle.resb_icu_text.specs.Inner.Leaf.{IsBehindNumber, at_brace, at_comma}
 
@@ -26,6 +26,17 @@ use Rattle.resb_icu_text.specs.Inner.Leaf.{IsBehindNumber, at_brace, at_comma}
 pub refuses_more : (P Q : Type 0) (e : IcuTextError) → ((P → ⊥) → Q → ⊥) → Refuses P e
     → Refuses Q e
 refuses_more P Q e f r = ⊎_elim (λ (m : e ≡ want_of_memory). inl m) (λ (n : P → ⊥). inr (f n)) r
+
+-- a `}` stands there behind blanks
+pub record Closing (text : List ℕ) (from to : ℕ) : Type 0 where
+  pub blanks : Skip text from to
+  pub closes : slice_index text to ≡ ascii.right_brace
+
+-- the `}` that stands where blanks end
+pub closing_at : (text : List ℕ) (at brace to : ℕ) → Skip text at brace
+    → (to ≡ brace) × (slice_index text brace ≡ ascii.right_brace) → Closing text at to
+closing_at text at brace to k c =
+    subst (λ i. Closing text at i) (sym c.0) (record { blanks = k; closes = c.1 })
 
 -- where blanks end and no `}` stands, none stands behind blanks
 pub no_closing : (text : List ℕ) (at brace : ℕ) → Skip text at brace

@@ -15,6 +15,7 @@ mod steps;
 mod strings;
 #[cfg(test)]
 mod token_rows;
+mod turns;
 mod types;
 mod words;
 
@@ -23,5 +24,6 @@ pub use error::IcuTextError;
 pub use expected::IcuExpected;
 pub use reader::IcuReader;
 pub use strings::{Lexeme, Said, string};
+pub use turns::IcuTurns;
 pub use types::{Kind, group_type, root_type};
 pub use words::number;

@@ -1,12 +1,13 @@
 //! The groups that are open around the place where a reading stands, and the keys before it.
 //! What one step does inside them is said in `steps`.
-ghost use Rattle.std.specs.Prelude.{◌≡◌, ◌⊎◌, ◌≤◌, [], ◌∷◌, length, map, IfOk, IfErr, OnOk};
+ghost use Rattle.std.specs.Prelude.{◌≡◌, ◌⊎◌, ◌+◌, ◌*◌, ◌≤◌, [], ◌∷◌, length, map, IfOk, IfErr, OnOk};
 ghost use Rattle.resb_icu_grammar.specs.Inner.Rest.{Same, Never};
 ghost use Rattle.resb_icu_text.specs.Refusal.{want_of_memory};
-ghost use Rattle.resb_icu_text.specs.Inner.Steps.{shown, with_key, Rest, place};
-ghost use Rattle.resb_icu_text.specs.Inner.Reading.{groups, keys, Coming, Advances};
+ghost use Rattle.resb_icu_text.specs.Inner.Steps.{shown, with_key, Rest, place, spent};
+ghost use Rattle.resb_icu_text.specs.Inner.Reading.{groups, keys, Coming, Advances, spent_before};
 
 use crate::error::IcuTextError;
+use crate::turns::IcuTurns;
 use crate::steps::{Step, Waiting, entry, group, member, resume};
 use resb_tree::{NoMemory, Resource};
 use std::alloc::Global;
@@ -64,6 +65,7 @@ impl<'a> OpenGroups<'a> {
         alloc: Global,
         text: &'a str,
         step: Step<'a>,
+        turns: &mut IcuTurns,
     ) -> Result<Next<'a>, IcuTextError>
         requires within { place step ≤ length text.now }
         ensures ok { IfOk result (λ next. Same
@@ -72,18 +74,24 @@ impl<'a> OpenGroups<'a> {
         ensures err { IfErr result (λ e. (e ≡ want_of_memory)
             ⊎ Never (Rest text.now (groups self.old) (keys self.old) step.entry)) }
         ensures goes { IfOk result (Advances text.now step.entry) }
+        ensures cost { IfOk result (λ next. turns.new.count + spent text.now step.entry
+            + length (keys self.new)
+            ≤ turns.old.count + spent_before text.now next + length (keys self.old)) }
+        ensures most { turns.new.count + spent text.now step.entry
+            ≤ turns.old.count + 8 * length text.now + 8 }
     {
+        turns.add(1);
         match step {
             Step::Members(members, last, at) => {
-                Ok(Next::Step(member(alloc, text, members, last, at)?))
+                Ok(Next::Step(member(alloc, text, members, last, at, turns)?))
             }
-            Step::Entries(entries, at) => Ok(Next::Step(entry(alloc, text, entries, at)?)),
+            Step::Entries(entries, at) => Ok(Next::Step(entry(alloc, text, entries, at, turns)?)),
             Step::Group(waiting, at) => {
                 self.open(waiting)?;
-                Ok(Next::Step(group(alloc, text, at)?))
+                Ok(Next::Step(group(alloc, text, at, turns)?))
             }
             Step::Ended(resource, at) => match self.waiting.pop() {
-                Some(waiting) => Ok(Next::Step(resume(text, waiting, resource, at)?)),
+                Some(waiting) => Ok(Next::Step(resume(text, waiting, resource, at, turns)?)),
                 None => Ok(Next::Root(resource, at)),
             },
         }

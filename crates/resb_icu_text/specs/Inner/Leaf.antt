@@ -34,11 +34,6 @@ pub record SomeVector (text : List ℕ) (from : ℕ) : Type 0 where
   pub items : List ℕ
   pub vector : Vector text from to items
 
--- a `}` stands there behind blanks
-pub record Closing (text : List ℕ) (from to : ℕ) : Type 0 where
-  pub blanks : Skip text from to
-  pub closes : slice_index text to ≡ ascii.right_brace
-
 -- the `}`, or the place behind one comma and blanks
 pub data IsBehindNumber (text : List ℕ) (at to : ℕ) : Type 0 where
   at_brace : slice_index text at ≡ ascii.right_brace → to ≡ at → IsBehindNumber text at to

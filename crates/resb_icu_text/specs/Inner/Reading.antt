@@ -1,8 +1,9 @@
 -- What is open where a reading stands, and what a bundle's text is up to its root.
-use Rattle.std.specs.Prelude.{◌≡◌, ◌≤◌, ◌<◌, ℕ, Bool, List, [], ◌∷◌, length, slice_index, map}
+use Rattle.std.specs.Prelude.{◌≡◌, ◌≤◌, ◌<◌, ◌+◌, ◌*◌, ℕ, Bool, List, [], ◌∷◌, length, slice_index, map}
 use Rattle.resb_grammar.specs.Ascii as ascii
 use Rattle.resb_tree.specs.Tree.{Tree}
 use Rattle.resb_tree.specs.View.{tree_of}
+use Rattle.resb_icu_grammar.specs.Blanks.{Skip}
 use Rattle.resb_icu_grammar.specs.Bundle.{Header, Typing}
 use Rattle.resb_icu_grammar.specs.Words.{Name}
 use Rattle.resb_icu_grammar.specs.Inner.Rest.{Meaning, Waiting, AtEnd, InEntries, Same, Never}
@@ -13,7 +14,7 @@ use Rattle.resb_icu_text.specs.declared.steps.Step.{Step}
 use Rattle.resb_icu_text.specs.declared.open.OpenGroups.{OpenGroups}
 use Rattle.resb_icu_text.specs.declared.open.Next.{Next}
 use Rattle.resb_icu_text.specs.declared.open.Next.TheVariants as next
-use Rattle.resb_icu_text.specs.Inner.Steps.{shown, Rest, There, place, progress}
+use Rattle.resb_icu_text.specs.Inner.Steps.{shown, Rest, There, place, progress, spent}
 
 -- what is open, the innermost first, around what is open already
 abbrev pub around : List Waiting → List Open → List Waiting
@@ -37,6 +38,17 @@ Coming text g (next.Root r at) = AtEnd text at (tree_of r) (keys g)
 abbrev pub Advances : List ℕ → Step → Next → Type 0
 Advances text before (next.Step s) = (place s ≤ length text) × (progress before < progress s)
 Advances text before (next.Root r at) = at ≤ length text
+
+-- how far a reading has looked where it goes on, or behind its root
+abbrev pub spent_before : List ℕ → Next → ℕ
+spent_before text (next.Step s) = spent text s
+spent_before text (next.Root r at) = 8 * at + 1
+
+-- a bundle's name stands there, and blanks up to the next place
+pub record NameAhead (text : List ℕ) (from next : ℕ) (name : List ℕ) : Type 0 where
+  pub to : ℕ
+  pub stands : Name text from to name
+  pub after : Skip text to next
 
 -- a bundle's name stands there
 pub record AnyName (text : List ℕ) (from : ℕ) : Type 0 where

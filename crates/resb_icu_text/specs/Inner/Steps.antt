@@ -3,10 +3,13 @@ use Rattle.std.specs.Prelude.{◌≡◌, ◌⊎◌, ◌≤◌, ◌<◌, ◌+◌,
 use Rattle.resb_grammar.specs.GroupTypes.{Kind}
 use Rattle.resb_tree.specs.Tree.{Tree}
 use Rattle.resb_tree.specs.View.{tree_of, pairs_view}
+use Rattle.resb_icu_grammar.specs.Blanks.{Skip}
 use Rattle.resb_icu_grammar.specs.Groups as spec
+use Rattle.resb_icu_grammar.specs.Words.{KeyText}
 use Rattle.resb_icu_grammar.specs.Inner.Rest.{Meaning, Waiting, in_array, in_table, After}
 use Rattle.resb_icu_grammar.specs.Inner.Rest.{InMembers, InEntries, InGroup, InUntyped, InTyped}
 use Rattle.resb_icu_grammar.specs.Inner.Rest.{Same, Never}
+use Rattle.resb_icu_text.specs.Inner.Reach.{reach}
 use Rattle.resb_icu_text.specs.Refusal.{want_of_memory}
 use Rattle.resb_icu_text.specs.declared.error.IcuTextError.{IcuTextError}
 use Rattle.resb_icu_text.specs.declared.steps.Last.{Last}
@@ -101,3 +104,16 @@ place (step.Ended resource at) = at
 -- a reading stands in the text, and further than it was
 abbrev pub Goes : List ℕ → ℕ → Step → Type 0
 Goes text before s = (place s ≤ length text) × (before < progress s)
+
+-- how far a reading has looked, eight for each byte, and up to three for what follows there
+abbrev pub spent : List ℕ → Step → ℕ
+spent text (step.Members members last at) = 8 * reach text at + 2
+spent text (step.Entries entries at) = 8 * reach text at + 2
+spent text (step.Group w at) = 8 * reach text at + 3
+spent text (step.Ended resource at) = 8 * at
+
+-- a string that may be a key stands there, and blanks up to the next place
+pub record KeyAhead (text : List ℕ) (from next : ℕ) (key : List ℕ) : Type 0 where
+  pub to : ℕ
+  pub stands : KeyText text from to key
+  pub after : Skip text to next

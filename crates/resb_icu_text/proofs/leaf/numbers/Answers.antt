@@ -2,12 +2,14 @@ use Rattle.std.proofs.Common.{ap, subst, sym, ◌∙◌, inr, arith, refl, []}
 use Rattle.std.proofs.lemmas.Result.{err_from_is_err_and}
 use Rattle.resb_icu_text.proofs.LeafLemmas.{Continues, continues_first, continues_end}
 use Rattle.resb_icu_text.proofs.LeafLemmas.{continues_more, no_vector, unended_vector}
+use Rattle.resb_icu_text.proofs.ReachLemmas.{reach_number, reach_low, reach_right}
 use Rattle.resb_icu_text.proofs.leaf.numbers.Goals as goal
 
 pub numbers-init : goal.numbers-init
 numbers-init c = record {
   order = omega arith;
   fits = c.requires.within;
+  cost = omega arith;
   continues = rw c.new-numbers.ensures.items (continues_first _ _);
 }
 
@@ -46,4 +48,41 @@ numbers-preserved c = record {
       (continues_more _ _ _ _ _ _ _ _ c.in-Some.ensures.found c.skip-place.ensures.skip
       c.in_ok-here.ensures.ok (λ e. c.if-byte-eq125.false (c.byte.ensures.byte ∙ e))
       c.numbers.invariant.continues);
+  cost = omega (arith, c.numbers.invariant.cost, c.in-Some.ensures.cost, c.in-Some.ensures.within.0,
+      reach_number c.args.text.now c.numbers.here _ _ c.in-Some.ensures.within.0
+      c.in-Some.ensures.found, c.skip-place.ensures.cost, c.skip-place.ensures.order,
+      c.in_ok-here.ensures.cost, c.in_ok-here.ensures.within.0,
+      reach_low c.args.text.now c.in_ok-here.here c.in_ok-here.ensures.within.1);
 }
+
+pub returns-in_default-clause-most : goal.returns-in_default-clause-most
+returns-in_default-clause-most c = omega (arith, c.numbers.invariant.cost, c.number.ensures.most)
+
+pub returns-in_err-push-clause-most : goal.returns-in_err-push-clause-most
+returns-in_err-push-clause-most c =
+    omega (arith, c.numbers.invariant.cost, c.in-Some.ensures.cost, c.in-Some.ensures.within.0,
+    reach_number c.args.text.now c.numbers.here _ _ c.in-Some.ensures.within.0
+    c.in-Some.ensures.found, c.in-Some.ensures.within.1)
+
+pub returns-in_err-here-clause-most : goal.returns-in_err-here-clause-most
+returns-in_err-here-clause-most c =
+    omega (arith, c.numbers.invariant.cost, c.in-Some.ensures.cost, c.in-Some.ensures.within.0,
+    reach_number c.args.text.now c.numbers.here _ _ c.in-Some.ensures.within.0
+    c.in-Some.ensures.found, c.skip-place.ensures.cost, c.skip-place.ensures.order,
+    c.skip-place.ensures.fits, c.behind_number.ensures.most)
+
+pub returns-then-byte-eq125-clause-cost : goal.returns-then-byte-eq125-clause-cost
+returns-then-byte-eq125-clause-cost c =
+    omega (arith, c.numbers.invariant.cost, c.in-Some.ensures.cost, c.in-Some.ensures.within.0,
+    reach_number c.args.text.now c.numbers.here _ _ c.in-Some.ensures.within.0
+    c.in-Some.ensures.found, c.skip-place.ensures.cost, c.skip-place.ensures.order,
+    c.in_ok-here.ensures.cost, c.in_ok-here.ensures.within.0,
+    reach_right c.args.text.now c.in_ok-here.here (sym c.byte.ensures.byte ∙ c.if-byte-eq125.true))
+
+pub returns-then-byte-eq125-clause-most : goal.returns-then-byte-eq125-clause-most
+returns-then-byte-eq125-clause-most c =
+    omega (arith, c.numbers.invariant.cost, c.in-Some.ensures.cost, c.in-Some.ensures.within.0,
+    reach_number c.args.text.now c.numbers.here _ _ c.in-Some.ensures.within.0
+    c.in-Some.ensures.found, c.skip-place.ensures.cost, c.skip-place.ensures.order,
+    c.in_ok-here.ensures.cost, c.in_ok-here.ensures.within,
+    reach_right c.args.text.now c.in_ok-here.here (sym c.byte.ensures.byte ∙ c.if-byte-eq125.true))

@@ -1,5 +1,5 @@
-use Rattle.std.proofs.Common.{◌-◌, ◌≤◌, ◌≢◌, length, slice_index}
-use Rattle.resb_grammar.specs.Ascii as ascii
+use Rattle.std.proofs.Common.{◌+◌, ◌*◌, ◌-◌, ◌≤◌, length}
+use Rattle.resb_icu_text.specs.Inner.Reach.{reach}
 use Rattle.resb_icu_text.proofs.LeafLemmas.{Continues}
 use Rattle.resb_icu_text.proofs.leaf.numbers.Given as goal
 
@@ -8,6 +8,7 @@ invariant-numbers l = record {
   order : l.at ≤ l.here;
   fits : l.here ≤ length l.text;
   continues : Continues l.text l.at l.here l.numbers.items;
+  cost : l.turns.count + 8 * reach l.text l.at ≤ l.fn.turns.count + 8 * reach l.text l.here;
 }
 
 abbrev pub decreases-numbers : goal.decreases-numbers

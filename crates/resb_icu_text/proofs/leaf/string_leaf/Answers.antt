@@ -5,6 +5,8 @@ use Rattle.resb_grammar.specs.GroupTypes.{string_kind}
 use Rattle.resb_tree.proofs.ViewLemmas.{tree_of_string}
 use Rattle.resb_icu_text.specs.Inner.Leaf.{Leaf}
 use Rattle.resb_icu_text.proofs.LeafLemmas.{no_string_leaf, open_string, string_stands}
+use Rattle.resb_icu_text.proofs.LeafLemmas.{no_closing, closing_at}
+use Rattle.resb_icu_text.proofs.ReachLemmas.{reach_right, reach_string}
 use Rattle.resb_icu_text.proofs.leaf.string_leaf.Goals as goal
 
 pub returns-in_default-clause-err : goal.returns-in_default-clause-err
@@ -16,17 +18,27 @@ returns-in_err-to-clause-err c =
     let p = err_from_is_err_and c.from_residual-in_err-to.result
     c.from_residual-in_err-to.ensures.1 in
     let found = rw c.in-Some.is at c.in_ok-lexeme.ensures.found in
-    rw (p.1, p.2) (inr (open_string _ _ _ _ found.string c.in_err-to.ensures.err))
+    rw (p.1, p.2) (inr (open_string _ _ _ _ found.string
+    (no_closing _ _ _ found.blanks c.in_err-to.ensures.err)))
 
 pub returns-clause-ok : goal.returns-clause-ok
 returns-clause-ok c =
     let found = rw c.in-Some.is at c.in_ok-lexeme.ensures.found in
     subst (λ (t : Tree). Leaf c.args.text.now c.args.at string_kind c.in_ok-to.to t)
     (sym (tree_of_string c.text_of.result ∙ ap string c.text_of.ensures))
-    (string_stands _ _ _ _ _ found.string c.in_ok-to.ensures.ok)
+    (string_stands _ _ _ _ _ found.string
+    (closing_at _ _ _ _ found.blanks c.in_ok-to.ensures.ok))
 
 pub returns-clause-within : goal.returns-clause-within
 returns-clause-within c =
     let found = rw c.in-Some.is at c.in_ok-lexeme.ensures.found in
-    let within = c.in_ok-to.ensures.within in
-    (omega (arith, found.after, within.0), within.1)
+    let ok = c.in_ok-to.ensures.ok in
+    (omega (arith, found.after, found.order, ok.0), c.in_ok-to.ensures.within)
+
+pub returns-clause-cost : goal.returns-clause-cost
+returns-clause-cost c =
+    let found = rw c.in-Some.is at c.in_ok-lexeme.ensures.found in
+    let cost = rw c.in-Some.is at c.in_ok-lexeme.ensures.cost in
+    let ok = c.in_ok-to.ensures.ok in
+    omega (arith, cost, ok.0, reach_right c.args.text.now _ ok.1,
+    reach_string c.args.text.now c.args.at _ _ found.string, found.after, found.order)

@@ -1,5 +1,5 @@
 -- Laws of how far a reading has looked.
-use Rattle.std.proofs.Common.{◌≡◌, ◌≢◌, ℕ, ◌+◌, ◌<◌, ◌≤◌, ◌⊎◌, inl, inr, Bool, true, false, List, length, arith, refl, sym, ◌∙◌}
+use Rattle.std.proofs.Common.{◌≡◌, ◌≢◌, ℕ, ◌+◌, ◌*◌, ◌<◌, ◌≤◌, ◌⊎◌, inl, inr, Bool, true, false, List, length, arith, refl, sym, ◌∙◌}
 use Rattle.std.specs.Prelude.{slice_index, ◌==◌, if◌then◌else◌}
 use Rattle.std.proofs.lemmas.Bool.{false≢true}
 use Rattle.std.proofs.lemmas.Bool.Decides.{nat_tests}
@@ -9,7 +9,10 @@ use Rattle.resb_icu_grammar.specs.Bytes.{is_word}
 use Rattle.resb_icu_grammar.specs.Words.{Word, String, a_word, quoted, Number, unsigned}
 use Rattle.resb_icu_grammar.specs.Words.{plus, minus}
 use Rattle.resb_icu_grammar.proofs.Lexical.{word_first, joined_first}
+use Rattle.resb_icu_text.specs.declared.steps.Step.{Step}
+use Rattle.resb_icu_text.specs.declared.steps.Step.TheVariants as step
 use Rattle.resb_icu_text.specs.Inner.Reach.{reach}
+use Rattle.resb_icu_text.specs.Inner.Steps.{place, spent}
 
 chosen_low : (b : Bool) (n at : ℕ) → at ≤ n → at ≤ (if b then n else at)
 chosen_low true n at l = l
@@ -131,3 +134,11 @@ reach_number text from to v low n = by n
     by (unsigned _ r d l) = run r
     by (plus _ r h d l) = run r
     by (minus m r h d l) = run r
+
+-- a reading that stands in the text has looked no further than the text goes
+pub spent_most : (text : List ℕ) (s : Step) → place s ≤ length text
+    → spent text s ≤ 8 * length text + 3
+spent_most text (step.Members members last at) l = omega (arith, reach_high text at l)
+spent_most text (step.Entries entries at) l = omega (arith, reach_high text at l)
+spent_most text (step.Group w at) l = omega (arith, reach_high text at l)
+spent_most text (step.Ended resource at) l = omega (arith, l)

@@ -30,8 +30,6 @@ use Rattle.resb_icu_grammar.proofs.RestGroups as groups
 use Rattle.resb_icu_grammar.proofs.RestUntyped as untyped
 use Rattle.resb_icu_text.specs.Lexemes.{IsLexeme, bytes_said, is_key}
 use Rattle.resb_icu_text.specs.Refusal.{want_of_memory}
-use Rattle.resb_icu_text.specs.declared.strings.Said.{Said}
-use Rattle.resb_icu_text.specs.declared.strings.Said.TheVariants as the
 use Rattle.resb_icu_text.specs.declared.strings.Lexeme.{Lexeme}
 use Rattle.resb_icu_text.specs.declared.error.IcuTextError.{IcuTextError}
 use Rattle.resb_icu_text.specs.declared.steps.Last.{Last}
@@ -42,7 +40,7 @@ use Rattle.resb_icu_text.specs.declared.steps.Step.TheVariants as step
 use Rattle.resb_icu_text.specs.Inner.Leaf.{Leaf, SomeLeaf, Refuses}
 use Rattle.resb_icu_text.specs.Inner.Steps.{last_of, shown, with_key, Rest, There, Steps, Stops}
 use Rattle.resb_icu_text.specs.Inner.Steps.{MembersThere, EntriesThere, GroupThere}
-use Rattle.resb_icu_text.specs.Inner.Steps.{UntypedThere, TypedThere, EndedThere}
+use Rattle.resb_icu_text.specs.Inner.Steps.{UntypedThere, TypedThere, EndedThere, KeyAhead}
 
 pub both_hold : (a b : Bool) → a ≡ true → b ≡ true → (a && b) ≡ true
 both_hold true true h k = refl
@@ -56,27 +54,25 @@ second_fails false b k = refl
 pub first_fails : (a b : Bool) → a ≡ false → (a && b) ≡ false
 first_fails a b h = ap (λ x. x && b) h
 
--- a string that the code doesn't call a key is none
-pub not_a_key : (s : Said) → ((x : Bor (List ℕ)) → s ≡ the.Key x → ⊥) → IsTrue (is_key s) → ⊥
-not_a_key (the.Key x) f h = f x refl
-not_a_key (the.Slice x) f h = false≢true h
-not_a_key (the.Built x) f h = false≢true h
+-- what a string says that may be a key
+pub is_a_key : (text : List ℕ) (at : ℕ) (l : Lexeme) (k : List ℕ) → IsLexeme text at l
+    → (k ≡ bytes_said l.said) × (is_key l.said ≡ true) → KeyText text at l.end k
+is_a_key text at l k is e =
+    subst (λ (s : List ℕ). KeyText text at l.end s) (sym e.0) (is.key.0 e.1)
 
--- one that it calls a key is that key
-pub is_a_key : (text : List ℕ) (at : ℕ) (l : Lexeme) (x : Bor (List ℕ)) → IsLexeme text at l
-    → l.said ≡ the.Key x → KeyText text at l.end x.now
-is_a_key text at l x is e =
-    subst (λ s. KeyText text at l.end (bytes_said s)) e
-    (is.key.0 (subst (λ s. IsTrue (is_key s)) (sym e) refl))
+-- and the blanks behind it
+pub key_ahead : (text : List ℕ) (at : ℕ) (l : Lexeme) (k : List ℕ) → IsLexeme text at l
+    → (k ≡ bytes_said l.said) × (is_key l.said ≡ true) → KeyAhead text at l.next k
+key_ahead text at l k is e =
+    record { to = l.end; stands = is_a_key text at l k is e; after = is.blanks }
 
--- then no key stands there
-pub no_key : (text : List ℕ) (at : ℕ) (l : Lexeme) → IsLexeme text at l
-    → ((x : Bor (List ℕ)) → l.said ≡ the.Key x → ⊥) → (to : ℕ) (k : List ℕ)
-    → KeyText text at to k → ⊥
-no_key text at l is f to k p =
+-- where a string may be no key, no key stands
+pub no_key : (text : List ℕ) (at : ℕ) (l : Lexeme) → IsLexeme text at l → is_key l.said ≡ false
+    → (to : ℕ) (k : List ℕ) → KeyText text at to k → ⊥
+no_key text at l is n to k p =
     let same = String-one text at to l.end k (bytes_said l.said) (key_string text at to k p)
     is.string in
-    not_a_key l.said f (is.key.1 (subst (λ i. KeyText text at i (bytes_said l.said)) same.0
+    false≢true (sym n ∙ is.key.1 (subst (λ i. KeyText text at i (bytes_said l.said)) same.0
     (subst (λ s. KeyText text at to s) same.1 p)))
 
 -- what holds of an answer holds by another word

@@ -1,6 +1,7 @@
 use Rattle.std.proofs.Common.{sym, ◌∙◌, arith}
 use Rattle.resb_icu_text.proofs.StepsLemmas.{array_content, table_content, leaf_content}
 use Rattle.resb_icu_text.proofs.StepsLemmas.{no_leaf_content}
+use Rattle.resb_icu_text.proofs.ReachLemmas.{reach_high}
 use Rattle.resb_icu_text.proofs.steps.content.Goals as goal
 
 pub returns-in-Array-clause-ok : goal.returns-in-Array-clause-ok
@@ -17,4 +18,14 @@ returns-in_ok-to-in_default c =
       ok = leaf_content _ _ _ _ c.in_ok-to-in_default.resource c.in_ok-to-in_default.ensures.ok;
       err = tt;
       goes = (omega (arith, within.1), omega (arith, within.0));
+      cost = omega (arith, c.in_ok-to-in_default.ensures.cost);
+      most = c.leaf.ensures.most;
     }
+
+pub returns-in-Array-clause-most : goal.returns-in-Array-clause-most
+returns-in-Array-clause-most c =
+    omega (arith, reach_high c.args.text.now c.args.at c.requires.within)
+
+pub returns-in-Table-clause-most : goal.returns-in-Table-clause-most
+returns-in-Table-clause-most c =
+    omega (arith, reach_high c.args.text.now c.args.at c.requires.within)

@@ -15,7 +15,8 @@ comment_order : (text : List ℕ) (from to : ℕ) → Comment text from to → f
 comment_order text from to (line h k r) = omega (arith, r.order)
 comment_order text from to (block at h k f e) = omega (arith, f.order, e)
 
-blanks_order : (text : List ℕ) (from to : ℕ) → Blanks text from to → from ≤ to
+-- blanks end no earlier than they begin
+pub blanks_order : (text : List ℕ) (from to : ℕ) → Blanks text from to → from ≤ to
 blanks_order text from to (none _) = omega arith
 blanks_order text from to (white _ _ w r) = omega (arith, blanks_order text (from + 1) to r)
 blanks_order text from to (comment _ k _ c r) =

@@ -1,7 +1,9 @@
 use Rattle.std.proofs.Common.{sym, ◌∙◌, inr, arith, ◌<◌, ◌≤◌, ◌+◌, ◌*◌, length}
+use Rattle.std.proofs.lemmas.List.{length-map}
 use Rattle.std.proofs.lemmas.Result.{err_from_is_err_and}
 use Rattle.resb_icu_text.proofs.ReadingLemmas.{stops_before, text_goes_on, text_ends}
 use Rattle.resb_icu_text.proofs.StepsLemmas.{same_by}
+use Rattle.resb_icu_text.proofs.ReachLemmas.{reach_high}
 use Rattle.resb_icu_text.proofs.reader.read_root.Goals as goal
 
 pub returns-in_err-next-clause-err : goal.returns-in_err-next-clause-err
@@ -15,6 +17,8 @@ steps-preserved c =
     record {
       within = goes.0;
       same = same_by _ _ _ c.steps.invariant.same (rw c.in-Step.is at c.in_ok-next.ensures.ok);
+      cost = omega (arith, c.steps.invariant.cost,
+          rw c.in-Step.is at c.in_ok-next.ensures.cost);
     }
 
 pub returns-then-end-text-clause-err : goal.returns-then-end-text-clause-err
@@ -28,3 +32,22 @@ returns-in-Root-clause-ok c =
     text_ends _ _ _ _ _ _
     (same_by _ _ _ c.steps.invariant.same (rw c.in-Root.is at c.in_ok-next.ensures.ok))
     c.skip-end.ensures.skip c.if-end-text.false c.skip-end.ensures.fits
+
+pub returns-then-end-text-clause-most : goal.returns-then-end-text-clause-most
+returns-then-end-text-clause-most c =
+    omega (arith, c.steps.invariant.cost, rw c.in-Root.is at c.in_ok-next.ensures.cost,
+    c.skip-end.ensures.cost, c.skip-end.ensures.order, c.skip-end.ensures.fits,
+    reach_high c.args.text.now c.skip-end.result c.skip-end.ensures.fits)
+
+pub returns-in-Root-clause-cost : goal.returns-in-Root-clause-cost
+returns-in-Root-clause-cost c =
+    omega (arith, c.steps.invariant.cost, rw c.in-Root.is at c.in_ok-next.ensures.cost,
+    c.skip-end.ensures.cost, c.skip-end.ensures.order, c.skip-end.ensures.fits,
+    length-map c.advance.new.self.keys.items (λ k. k.now),
+    reach_high c.args.text.now c.skip-end.result c.skip-end.ensures.fits)
+
+pub returns-in-Root-clause-most : goal.returns-in-Root-clause-most
+returns-in-Root-clause-most c =
+    omega (arith, c.steps.invariant.cost, rw c.in-Root.is at c.in_ok-next.ensures.cost,
+    c.skip-end.ensures.cost, c.skip-end.ensures.order, c.skip-end.ensures.fits,
+    reach_high c.args.text.now c.skip-end.result c.skip-end.ensures.fits)

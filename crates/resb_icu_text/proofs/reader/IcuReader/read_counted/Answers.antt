@@ -1,7 +1,7 @@
 use Rattle.std.proofs.lemmas.Result.{err_from_is_err_and}
 use Rattle.resb_icu_grammar.proofs.RestRoot.{root_follows}
 use Rattle.resb_icu_text.proofs.ReadingLemmas.{root_refused}
-use Rattle.resb_icu_text.proofs.reader.IcuReader.read.Goals as goal
+use Rattle.resb_icu_text.proofs.reader.IcuReader.read_counted.Goals as goal
 
 pub returns-in_err-root-clause-err : goal.returns-in_err-root-clause-err
 returns-in_err-root-clause-err c =
@@ -16,6 +16,6 @@ returns-clause-ok c =
       c.new.ensures.name,
       c.new.ensures.fallback,
       c.new.ensures.root,
-      c.in_ok-keys.ensures,
+      c.in_ok-keys.ensures.once,
       c.deref.ensures.value,
     ) whole

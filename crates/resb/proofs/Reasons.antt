@@ -5,8 +5,8 @@ use Rattle.std.specs.Prelude.{codes, Bool, true, Contains}
 use Rattle.resb_tree.specs.Tree.{Tree}
 use Rattle.resb_tree.specs.Keys.{is_key}
 use Rattle.resb_grammar.specs.BundleText.{BundleText}
-use Rattle.resb_layout.specs.Fault.{Fault, unexpected}
-use Rattle.resb_layout.specs.Faults.{RefusesWriting, no_memory, at_the_first, too_large}
+use Rattle.resb_layout.specs.WritingFault.{WritingFault, unexpected}
+use Rattle.resb_layout.specs.TreeFaults.{RefusesWriting, no_memory, at_the_first, too_large}
 use Rattle.resb_write.proofs.Listed.{not_unlisted as no_fault, not_memory, not_large}
 use Rattle.resb_write.specs.FaultOf.{fault_of}
 use Rattle.resb_write.specs.declared.error.BinarySerializerError.{BinarySerializerError}
@@ -22,7 +22,8 @@ use Rattle.resb.specs.declared.compiling_icu.IcuCompileError.TheVariants as icu
 
 -- a tree whose keys are listed is not refused for one that isn't
 pub never_unlisted : (t : Tree) (ks : List (List ℕ))
-    → ((k : List ℕ) → is_key k t ≡ true → Contains ks k) → (f : Fault) → RefusesWriting t ks f
+    → ((k : List ℕ) → is_key k t ≡ true → Contains ks k) → (f : WritingFault)
+    → RefusesWriting t ks f
     → f ≡ unexpected (codes "key not present in position map") → ⊥
 never_unlisted t ks l f no_memory e = not_memory t ks l e
 never_unlisted t ks l f (at_the_first h) e = no_fault t ks l f h e

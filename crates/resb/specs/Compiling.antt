@@ -11,8 +11,8 @@ use Rattle.resb_text.specs.Refusal as refusal
 use Rattle.resb_text.specs.declared.error.TextParserError.{TextParserError}
 use Rattle.resb_grammar.specs.Limit.{MadeWithin, MakesMore}
 use Rattle.resb_layout.specs.Written.{Written}
-use Rattle.resb_layout.specs.Faults.{RefusesWriting}
-use Rattle.resb_layout.specs.Fault as fault
+use Rattle.resb_layout.specs.TreeFaults.{RefusesWriting}
+use Rattle.resb_layout.specs.WritingFault as fault
 use Rattle.resb_write.specs.FaultOf.{fault_of}
 use Rattle.resb_write.specs.declared.error.BinarySerializerError.{BinarySerializerError}
 use Rattle.resb.specs.declared.compiling.CompileError.{CompileError}

@@ -8,11 +8,11 @@ pub use Rattle.resb_tree.specs.Borrowing
 pub use Rattle.resb_tree.specs.Maps
 pub use Rattle.resb_tree.specs.Keys
 pub use Rattle.resb_tree.specs.Int28
-pub use Rattle.resb_tree.specs.WalkOrder
+pub use Rattle.resb_tree.specs.LayingOrder
 pub use Rattle.resb_tree.specs.Laws as TreeLaws
 pub use Rattle.resb_grammar.specs.Ascii
 pub use Rattle.resb_grammar.specs.ByteRuns
-pub use Rattle.resb_grammar.specs.Tokens
+pub use Rattle.resb_grammar.specs.Lexical
 pub use Rattle.resb_grammar.specs.Items
 pub use Rattle.resb_grammar.specs.GroupTypes
 pub use Rattle.resb_grammar.specs.Group
@@ -78,15 +78,15 @@ pub use Rattle.resb_walk.specs.Inner.Members
 pub use Rattle.resb_read.specs.Places
 pub use Rattle.resb_read.specs.Reading
 pub use Rattle.resb_read.specs.Leaves
-pub use Rattle.resb_read.specs.Refused
-pub use Rattle.resb_read.specs.Refusing
+pub use Rattle.resb_read.specs.PlaceRefusals
+pub use Rattle.resb_read.specs.RefusedReadings
 pub use Rattle.resb_read.specs.Resources
 pub use Rattle.resb_read.specs.Roots
 pub use Rattle.resb_read.specs.Measuring
 pub use Rattle.resb_read.specs.Spots
 pub use Rattle.resb_read.specs.Sequences
 pub use Rattle.resb_read.specs.Access
-pub use Rattle.resb_read.specs.Inner.Items as AccessItems
+pub use Rattle.resb_read.specs.Inner.Elements as AccessElements
 pub use Rattle.resb_read.specs.Inner.Named
 pub use Rattle.resb_read.specs.TypeLaws
 pub use Rattle.resb_read.specs.Laws as ReadLaws
@@ -103,8 +103,8 @@ pub use Rattle.resb_layout.specs.InOrder
 pub use Rattle.resb_layout.specs.Laws as LayoutLaws
 pub use Rattle.resb_layout.specs.KeyBlock
 pub use Rattle.resb_layout.specs.PlainSize
-pub use Rattle.resb_layout.specs.Fault
-pub use Rattle.resb_layout.specs.Faults
+pub use Rattle.resb_layout.specs.WritingFault
+pub use Rattle.resb_layout.specs.TreeFaults
 pub use Rattle.resb_layout.specs.WrittenHead
 pub use Rattle.resb_layout.specs.Written
 pub use Rattle.resb_write.specs.FaultOf

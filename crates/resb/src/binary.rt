@@ -6,7 +6,7 @@ pub mod bytes;
 pub mod helpers;
 
 pub use resb_format::{
-    BinaryDeserializerError, ErrorKind, File, MAX_UNMARKED, ReadingError, ResDescriptor,
+    BinaryDeserializerError, BodyParts, ErrorKind, MAX_UNMARKED, ReadingError, ResDescriptor,
     ResourceReprType, is_unmarked, marker_units, string_at,
 };
 pub use resb_head::{

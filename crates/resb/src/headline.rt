@@ -9,7 +9,7 @@ ghost use Rattle.resb_text.specs.Answer.{Fails, IsNoBundle};
 ghost use Rattle.resb_text.specs.Refusal.{want_of_memory};
 ghost use Rattle.resb_format.specs.Error.{IsWantOfMemory};
 ghost use Rattle.resb_write.specs.FaultOf.{fault_of};
-ghost use Rattle.resb_layout.specs.Faults.{RefusesWriting};
+ghost use Rattle.resb_layout.specs.TreeFaults.{RefusesWriting};
 ghost use Rattle.resb_layout.specs.Written.{Written};
 ghost use Rattle.resb.specs.Headline.{DenotesWithin, DenotesNone, OneTreeOfAFile};
 

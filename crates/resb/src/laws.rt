@@ -94,7 +94,7 @@ pub use resb_pool::laws::pool_is_read;
 pub use resb_pool::laws::records_cost_least;
 // From where it begins a tree is laid out in one way.
 pub use resb_layout::laws::one_layout;
-// The bodies stand in walk order, without a gap but for filling bytes.
+// The bodies stand in laying order, without a gap but for filling bytes.
 pub use resb_layout::laws::laid_in_order;
 // In a file that holds what was laid out for a tree, its word denotes the tree.
 pub use resb_layout::laws::laid_is_denoted;

@@ -10,6 +10,7 @@ use Rattle.std.proofs.lemmas.Bool.Decides.{Decides-ltb}
 use Rattle.resb_tree.specs.View.{tree_of, items_view}
 use Rattle.resb_tree.specs.declared.resource.Resource.{Resource}
 use Rattle.resb_bundler.specs.Finding.{are_digits, number_written, number_said, tree_at}
+use Rattle.std.proofs.lemmas.Option.{slice_get_past}
 
 digits_test : (bs : List ℕ) → AllDigits 10 bs → are_digits bs ≡ true
 digits_test [] h = refl
@@ -77,11 +78,6 @@ tree_found rs n None h = sym (past_trees rs n h.3)
 tree_found rs n (Some x) h =
     ap (λ y. Some (tree_of y)) h.1 ∙ sym (tree_there rs n x.now h.3.0)
 
-past_numbers : (ns : List ℕ) (n : ℕ) → length ns ≤ n → slice_get ns n ≡ None
-past_numbers [] n h = refl
-past_numbers (m ∷ ns) zero h = absurd (omega arith)
-past_numbers (m ∷ ns) (suc n) h = past_numbers ns n (omega arith)
-
 number_there : (ns : List ℕ) (n d : ℕ) → n < length ns
     → slice_get ns n ≡ Some (slice_index_or ns n d)
 number_there [] n d h = absurd (omega arith)
@@ -90,5 +86,5 @@ number_there (m ∷ ns) (suc n) d h = number_there ns n d (omega arith)
 
 pub number_found : (ns : List ℕ) (n : ℕ) (r : Option (Bor ℕ)) → IsItemAt ns n r
     → option_map (λ x. x.now) r ≡ slice_get ns n
-number_found ns n None h = sym (past_numbers ns n h.3)
+number_found ns n None h = sym (slice_get_past ns n h.3)
 number_found ns n (Some x) h = ap Some h.1 ∙ sym (number_there ns n x.now h.3.0)

@@ -1,6 +1,6 @@
 -- What stands at a path of names in a tree.
 --     number_said name     the number that a name says, if it says one
---     inside s name        what stands inside, under one name
+--     found_inside s name  what stands inside, under one name
 --     found_at s names     what stands at a path of names
 use Rattle.std.specs.Prelude.{ℕ, zero, suc, ◌^◌, nat_lt, Bool, true, ◌&&◌, List, [], ◌∷◌}
 use Rattle.std.specs.Prelude.{Option, Some, None, option_map, slice_get, if◌then◌else◌}
@@ -62,16 +62,16 @@ element_said ns name = option_and_then (slice_get ns) (number_said name)
 
 -- what stands inside a tree under one name: in a table the tree of the entry of this name, in an
 -- array or a vector what has this number; and nothing inside all else
-abbrev pub inside : Spot → List ℕ → Option Spot
-inside (tree_spot (table es)) name = option_map tree_spot (value_named name es)
-inside (tree_spot (array ts)) name = option_map tree_spot (member_said ts name)
-inside (tree_spot (int_vector ns)) name = option_map number_spot (element_said ns name)
-inside (tree_spot (string s)) name = None
-inside (tree_spot (binary bs)) name = None
-inside (tree_spot (integer n)) name = None
-inside (number_spot n) name = None
+abbrev pub found_inside : Spot → List ℕ → Option Spot
+found_inside (tree_spot (table es)) name = option_map tree_spot (value_named name es)
+found_inside (tree_spot (array ts)) name = option_map tree_spot (member_said ts name)
+found_inside (tree_spot (int_vector ns)) name = option_map number_spot (element_said ns name)
+found_inside (tree_spot (string s)) name = None
+found_inside (tree_spot (binary bs)) name = None
+found_inside (tree_spot (integer n)) name = None
+found_inside (number_spot n) name = None
 
 -- what stands at a path of names, one inside the other
 abbrev pub found_at : Spot → List (List ℕ) → Option Spot
 found_at s [] = Some s
-found_at s (name ∷ names) = option_and_then (λ t. found_at t names) (inside s name)
+found_at s (name ∷ names) = option_and_then (λ t. found_at t names) (found_inside s name)

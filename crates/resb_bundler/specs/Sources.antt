@@ -51,9 +51,9 @@ is_memory Memory = true
 is_memory _ = false
 
 -- the innermost brace that is open where the text ends, or else that place
-abbrev pub at_end : ℕ → Option ℕ → Blame
-at_end place (Some brace) = Open brace
-at_end place None = At place
+abbrev pub brace_or_end : ℕ → Option ℕ → Blame
+brace_or_end place (Some brace) = Open brace
+brace_or_end place None = At place
 
 -- where a reading got stuck: memory is to blame for nothing in the text, and the end of the text
 -- only where no brace is open
@@ -61,7 +61,7 @@ abbrev pub stuck_at : List ℕ → TextParserError → Blame
 stuck_at source e =
     if is_memory e.expected then Nowhere
     else (if nat_lt e.position (length source) then At e.position
-    else at_end e.position (innermost_open source))
+    else brace_or_end e.position (innermost_open source))
 
 -- memory was wanted, and nothing of a text of ICU's form
 abbrev pub is_icu_memory : IcuExpected → Bool

@@ -3,7 +3,8 @@
 ghost use Rattle.std.specs.Prelude.{◌≡◌, map, option_map};
 ghost use Rattle.resb_tree.specs.View.{tree_of, items_view, entries_view};
 ghost use Rattle.resb_bundler.specs.Finding as finding;
-ghost use Rattle.resb_bundler.specs.Finding.{spot_of, number_said, value_named, found_at, inside};
+ghost use Rattle.resb_bundler.specs.Finding.{spot_of, number_said, value_named, found_at};
+ghost use Rattle.resb_bundler.specs.Finding.{found_inside};
 ghost use Rattle.resb_bundler.specs.Finding.{member_said, element_said, tree_spot};
 
 use resb::bundle::{Resource, Table};
@@ -32,7 +33,7 @@ pub fn find<'t, 'a>(root: &'t Resource<'a>, path: &[&str]) -> Option<Found<'t, '
 
 /// What stands inside, under one name.
 fn step<'t, 'a>(found: Found<'t, 'a>, name: &str) -> Option<Found<'t, 'a>>
-    ensures { option_map spot_of result ≡ inside (spot_of found.entry) name.now }
+    ensures { option_map spot_of result ≡ found_inside (spot_of found.entry) name.now }
 {
     match found {
         Found::Resource(Resource::Table(entries)) => {

@@ -1,5 +1,5 @@
 -- What printing a file's tree to a buffer answers.
---     IsBundleOf file name limit b   the bundle is the file's tree, under that name
+--     IsBundleToDump file name limit b  the bundle is the file's tree, under that name
 --     DumpsInto file name limit old new r    what printing it to a buffer answers, and leaves there
 use Rattle.std.specs.Prelude.{◌≡◌, ◌⊎◌, ℕ, List, false, Result, Ok, Err}
 use Rattle.resb_tree.specs.Bundle.{name_of, root_of}
@@ -22,7 +22,7 @@ use Rattle.resb_c.specs.declared.fault.Fault.TheVariants.{Larger, Printing}
 
 -- the bundle has this name, the file's tree, which takes no more bytes than the limit, and the
 -- fallback flag of the file's head
-pub record IsBundleOf (file name : List ℕ) (limit : ℕ) (b : ResourceBundle) : Type 0 where
+pub record IsBundleToDump (file name : List ℕ) (limit : ℕ) (b : ResourceBundle) : Type 0 where
   pub tree : Resource
   pub summary : Summary
   pub reads : TreeWithin file limit (Ok tree)
@@ -44,14 +44,14 @@ HasNoBundle file limit _ = ⊥
 pub record IsDump (file name : List ℕ) (limit : ℕ) (text : List ℕ) : Type 0 where
   pub bundle : ResourceBundle
   pub keys : List (List ℕ)
-  pub of_file : IsBundleOf file name limit bundle
+  pub of_file : IsBundleToDump file name limit bundle
   pub texts : BundleText text (name_of bundle) bundle.is_locale_fallback_enabled (root_of bundle)
       keys
 
 -- memory was wanted, or no text is that of the file's bundle under this name
 pub record HasNoDump (file name : List ℕ) (limit : ℕ) (e : PrintError) : Type 0 where
   pub bundle : ResourceBundle
-  pub of_file : IsBundleOf file name limit bundle
+  pub of_file : IsBundleToDump file name limit bundle
   pub none : (e ≡ OutOfMemory)
       ⊎ HasNoText (name_of bundle) bundle.is_locale_fallback_enabled (root_of bundle)
 

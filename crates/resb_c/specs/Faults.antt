@@ -9,7 +9,7 @@ use Rattle.resb_format.specs.Error.{kind_of, description_of}
 use Rattle.resb_format.specs.Error as reading
 use Rattle.resb_format.specs.declared.error.ErrorKind.{ErrorKind}
 use Rattle.resb_format.specs.declared.error.ErrorKind.TheVariants as kind
-use Rattle.resb_layout.specs.Fault as fault
+use Rattle.resb_layout.specs.WritingFault as fault
 use Rattle.resb_write.specs.FaultOf.{fault_of}
 use Rattle.resb_print.specs.declared.error.PrintError.{PrintError}
 use Rattle.resb_print.specs.declared.error.PrintError.TheVariants as print
@@ -26,7 +26,7 @@ text_number expect.Memory = 8
 text_number _ = 3
 
 -- a tree that isn't written is 4, want of memory 8
-abbrev pub tree_number : fault.Fault → ℕ
+abbrev pub tree_number : fault.WritingFault → ℕ
 tree_number fault.out_of_memory = 8
 tree_number _ = 4
 

@@ -1,6 +1,6 @@
 -- What measuring a file answers, and the numbers that the caller gets of it.
 --     MeasuresFile file r     what measuring a file answers
---     Shows r c               the numbers that the caller gets of an answer
+--     ShowsSums r c           the numbers that the caller gets of an answer
 use Rattle.std.specs.Prelude.{◌≡◌, ◌⊎◌, ◌-◌, ◌^◌, ℕ, List, Option, unwrap_or, Result, Ok, Err}
 use Rattle.resb_walk.specs.Pieces.{Piece}
 use Rattle.resb_walk.specs.Sums.{fitting}
@@ -48,9 +48,9 @@ pub record IsNothing (c : ResbMeasured) : Type 0 where
   pub tree_bytes : c.tree_bytes ≡ 0
 
 -- the sums of an answer, or zeros
-abbrev pub Shows : Result Measured Fault → ResbMeasured → Type 0
-Shows (Ok m) c = IsShown m c
-Shows (Err fault) c = IsNothing c
+abbrev pub ShowsSums : Result Measured Fault → ResbMeasured → Type 0
+ShowsSums (Ok m) c = IsShown m c
+ShowsSums (Err fault) c = IsNothing c
 
 -- an answer's number of resources
 abbrev pub resources_of : Result Measured Fault → Result ℕ Fault

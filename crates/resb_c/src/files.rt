@@ -6,7 +6,7 @@ ghost use Rattle.resb_read.specs.Measuring.{AnswersMeasure};
 ghost use Rattle.resb_bundler.specs.Summary.{Summarizes};
 ghost use Rattle.resb_c.specs.Calls.{CompilesInto, CompilesWithin, CountsFile, Fills};
 ghost use Rattle.resb_c.specs.Calls.{HasNoOwnSummary, IsNotUtf8};
-ghost use Rattle.resb_c.specs.Dumping.{DumpsInto, HasNoBundle, IsBundleOf};
+ghost use Rattle.resb_c.specs.Dumping.{DumpsInto, HasNoBundle, IsBundleToDump};
 ghost use Rattle.resb_c.specs.Measures.{MeasuresFile};
 
 use crate::fault::Fault;
@@ -127,7 +127,7 @@ fn bundle_of<'a>(
     name: &'a str,
     limit: u64,
 ) -> Result<ResourceBundle<'a>, Fault>
-    ensures ok { IfOk result (IsBundleOf file.entry.now name.entry.now limit) }
+    ensures ok { IfOk result (IsBundleToDump file.entry.now name.entry.now limit) }
     ensures err { IfErr result (HasNoBundle file.entry.now limit) }
 {
     let summary = own_summary(file)?;

@@ -8,7 +8,7 @@ ghost use Rattle.resb_read.specs.declared.measuring.Measured.{Measured};
 ghost use Rattle.resb_report.specs.Location.{line_at, column_at};
 ghost use Rattle.resb_c.specs.Calls.{CompilesInto, CompilesWithin, CountsFile, Reports};
 ghost use Rattle.resb_c.specs.Dumping.{DumpsInto};
-ghost use Rattle.resb_c.specs.Measures.{MeasuresFile, Shows, resources_of};
+ghost use Rattle.resb_c.specs.Measures.{MeasuresFile, ShowsSums, resources_of};
 
 mod fault;
 mod files;
@@ -95,7 +95,7 @@ pub extern "C" fn resb_measure(
     error: &mut ResbError,
 ) -> u32
     ensures { (r : Result Measured Fault) × (n : ℕ) × MeasuresFile file.now r
-        × Shows r measured.new × Reports (resources_of r) result n error.new }
+        × ShowsSums r measured.new × Reports (resources_of r) result n error.new }
 {
     let answer = measure_file(alloc, file);
     *measured = ResbMeasured::of(&answer);

@@ -1,7 +1,7 @@
 //! The sums of a file's tree, as the caller in C gets them.
 //! How they are found is in `files`.
 ghost use Rattle.std.specs.Prelude.{◌≡◌};
-ghost use Rattle.resb_c.specs.Measures.{Shows, shown_sum};
+ghost use Rattle.resb_c.specs.Measures.{ShowsSums, shown_sum};
 
 use crate::fault::Fault;
 use resb::binary::Measured;
@@ -39,7 +39,7 @@ fn sum_or_most(sum: Option<u64>) -> u64
 impl ResbMeasured {
     /// The numbers of an answer; each is 0 where there is none.
     pub(crate) fn of(answer: &Result<Measured, Fault>) -> ResbMeasured
-        ensures { Shows answer.now result }
+        ensures { ShowsSums answer.now result }
     {
         match answer {
             Ok(measured) => ResbMeasured {

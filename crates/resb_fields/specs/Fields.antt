@@ -16,7 +16,7 @@ use Rattle.resb_format.specs.declared.error.ReadingError.{ReadingError}
 use Rattle.resb_walk.specs.BlockRefusals.{Says}
 use Rattle.resb_read.specs.Places.{Place}
 use Rattle.resb_read.specs.Sequences.{entries_at}
-use Rattle.resb_read.specs.Refusing.{RefusesThere}
+use Rattle.resb_read.specs.RefusedReadings.{RefusesThere}
 use Rattle.resb_read.specs.Tables.{last_named, RefusesTable}
 
 -- the places of a key and its value

@@ -4,7 +4,7 @@ ghost use Rattle.std.specs.Prelude.{◌≡◌, ◌≤◌, ◌+◌, ℕ, List, ma
 ghost use Rattle.resb_format.specs.declared.error.ReadingError.{ReadingError};
 ghost use Rattle.resb_read.specs.Places.{Place};
 ghost use Rattle.resb_read.specs.Reading.{LacksOrMemory};
-ghost use Rattle.resb_read.specs.Tables.{entries_of};
+ghost use Rattle.resb_read.specs.Tables.{view_entries};
 ghost use Rattle.resb_fields.specs.Fields.{ReadsNone, ReadsNext, CountsNext, RefusesNext};
 ghost use Rattle.resb_fields.specs.FieldLaws.{none_one, next_counted, next_one};
 
@@ -37,13 +37,13 @@ pub trait Chain<'de>: Sized + Drop {
     ) -> Result<Self, ReadingError<'m>>
         requires { length names.now ≡ size }
         ensures read { IfOk result (λ x. (n : ℕ)
-            × reads (map (λ s. s.now) names.now) (entries_of table.entry) x n
+            × reads (map (λ s. s.now) names.now) (view_entries table.entry) x n
             × (walk.new + n ≡ walk.old)) }
         ensures refused { IfErr result (λ e. (walk.new ≤ walk.old)
-            × LacksOrMemory (counts (map (λ s. s.now) names.now) (entries_of table.entry))
+            × LacksOrMemory (counts (map (λ s. s.now) names.now) (view_entries table.entry))
             walk.old e) }
         ensures says { IfErr result
-            (refuses (map (λ s. s.now) names.now) (entries_of table.entry) walk.old walk.new) };
+            (refuses (map (λ s. s.now) names.now) (view_entries table.entry) walk.old walk.new) };
 
     /// The count of every reading is a count.
     ghost counted: { (names : List (List ℕ)) (es : List (Place × Place)) (x : Self) (n : ℕ)

@@ -5,7 +5,7 @@ ghost use Rattle.resb_read.specs.Reading.{LacksOrMemory};
 ghost use Rattle.resb_fields.specs.Fields.{ReadsRecord, CountsRecord, RefusesRecord};
 ghost use Rattle.resb_fields.specs.FieldLaws.{record_counted, record_one};
 
-use crate::fields::Fields;
+use crate::tuples::Fields;
 use resb_format::ReadingError;
 use resb_read::{Cursor, Deserialize, Walk};
 use std::alloc::Global;

@@ -6,7 +6,7 @@ use Rattle.std.proofs.lemmas.Bool.{cases_lt}
 use Rattle.resb_tree.specs.Tree.{Tree, string, array, table, trees_of, map_of}
 use Rattle.resb_format.specs.Strings.{key_at}
 use Rattle.resb_format.specs.Parts.{Parts}
-use Rattle.resb_format.specs.Content.{Member, Content, leaf, list, pairs}
+use Rattle.resb_format.specs.Content.{Member, Content, leaf, list, entry_list}
 use Rattle.resb_format.specs.Denotes.{Den, den_leaf, den_list, den_pairs, DenMember, den_word}
 use Rattle.resb_format.specs.Denotes.{den_unit, DenEach, each_none, each_more, DenPairs, pairs_none}
 use Rattle.resb_format.specs.Denotes.{pairs_more, Reaches, reaches_one, reaches_list, reaches_pairs}
@@ -31,8 +31,8 @@ pub same_list : {o : Option Content} {ms ns : List Member} → o ≡ Some (list 
 same_list e f = cc
 
 -- a content is the pairs of one table at most
-pub same_pairs : {o : Option Content} {es fs : List (ℕ × Member)} → o ≡ Some (pairs es)
-    → o ≡ Some (pairs fs) → es ≡ fs
+pub same_pairs : {o : Option Content} {es fs : List (ℕ × Member)} → o ≡ Some (entry_list es)
+    → o ≡ Some (entry_list fs) → es ≡ fs
 same_pairs e f = cc
 
 -- a content is never both a leaf and a list
@@ -42,12 +42,12 @@ leaf_list e f = cc
 
 -- a content is never both a leaf and the pairs of a table
 pub leaf_pairs : {o : Option Content} {t : Tree} {es : List (ℕ × Member)} → o ≡ Some (leaf t)
-    → o ≡ Some (pairs es) → ⊥
+    → o ≡ Some (entry_list es) → ⊥
 leaf_pairs e f = cc
 
 -- a content is never both a list and the pairs of a table
 pub list_pairs : {o : Option Content} {ms : List Member} {es : List (ℕ × Member)}
-    → o ≡ Some (list ms) → o ≡ Some (pairs es) → ⊥
+    → o ≡ Some (list ms) → o ≡ Some (entry_list es) → ⊥
 list_pairs e f = cc
 
 module _ (p : Parts) where

@@ -10,7 +10,7 @@ use Rattle.resb_format.specs.Bytes.{units_of, words_of}
 use Rattle.resb_format.specs.Units.{length_marker}
 use Rattle.resb_format.specs.Strings.{string_at, text_at, key_at}
 use Rattle.resb_format.specs.Parts.{Parts}
-use Rattle.resb_format.specs.Content.{Member, word, unit, leaf, list, pairs, content}
+use Rattle.resb_format.specs.Content.{Member, word, unit, leaf, list, entry_list, content_at}
 use Rattle.resb_format.specs.Denotes.{Den, den_leaf, den_list, den_pairs, den_word, den_unit}
 use Rattle.resb_format.specs.Denotes.{DenEach, each_none, each_more, pairs_none, pairs_more}
 use Rattle.resb_format.proofs.Denoting.{unique}
@@ -131,43 +131,43 @@ small = record {
   block = 0 ∷ 120 ∷ 0 ∷ 1 ∷ 0 ∷ 1 ∷ [];
 }
 
-an_integer : content small 0x7fff_ffff ≡ Some (leaf (integer 0xfff_ffff))
-unfolding content small
+an_integer : content_at small 0x7fff_ffff ≡ Some (leaf (integer 0xfff_ffff))
+unfolding content_at small
 an_integer = refl
 
-an_array : content small 0x8000_0001 ≡ Some (list (word 0x7000_0005 ∷ word 0x6000_0001 ∷ []))
-unfolding content small words_of units_of
+an_array : content_at small 0x8000_0001 ≡ Some (list (word 0x7000_0005 ∷ word 0x6000_0001 ∷ []))
+unfolding content_at small words_of units_of
 an_array = refl
 
-an_array_cut : content small 0x8000_0005 ≡ None
-unfolding content small words_of units_of
+an_array_cut : content_at small 0x8000_0005 ≡ None
+unfolding content_at small words_of units_of
 an_array_cut = refl
 
-a_table : content small 0x2000_0004 ≡ Some (pairs ((0, word 0x7000_0007) ∷ []))
-unfolding content small words_of units_of
+a_table : content_at small 0x2000_0004 ≡ Some (entry_list ((0, word 0x7000_0007) ∷ []))
+unfolding content_at small words_of units_of
 a_table = refl
 
-a_short_table : content small 0x5000_0003 ≡ Some (pairs ((0, unit 1) ∷ []))
-unfolding content small words_of units_of
+a_short_table : content_at small 0x5000_0003 ≡ Some (entry_list ((0, unit 1) ∷ []))
+unfolding content_at small words_of units_of
 a_short_table = refl
 
-an_old_string : content small 0x0000_0001 ≡ None
-unfolding content small words_of units_of
+an_old_string : content_at small 0x0000_0001 ≡ None
+unfolding content_at small words_of units_of
 an_old_string = refl
 
-an_unknown_type : content small 0xa000_0000 ≡ None
-unfolding content small words_of units_of
+an_unknown_type : content_at small 0xa000_0000 ≡ None
+unfolding content_at small words_of units_of
 an_unknown_type = refl
 
 -- The array holds the integer 5 and the string "x": three resources.
 array_denotes : Den small 0x8000_0001 (array (trees_of (integer 5 ∷ string (120 ∷ []) ∷ []))) 3
-unfolding content small words_of units_of text_at string_at utf16_chars lib.Utf8.encode
+unfolding content_at small words_of units_of text_at string_at utf16_chars lib.Utf8.encode
 array_denotes =
     den_list refl
     (each_more (den_word (den_leaf refl)) (each_more (den_word (den_leaf refl)) each_none))
 
 table_denotes : Den small 0x5000_0003 (table (entry (97 ∷ []) (string (120 ∷ [])) no_entries)) 2
-unfolding content small words_of units_of text_at string_at utf16_chars key_at lib.Utf8.encode
+unfolding content_at small words_of units_of text_at string_at utf16_chars key_at lib.Utf8.encode
 table_denotes =
     let key : key_at small.keys 0 ≡ Some (97 ∷ []) = rw (ascii_key 97 (omega arith)) refl in
     den_pairs refl (pairs_more key (den_unit refl) pairs_none)
@@ -180,8 +180,8 @@ looped = record {
   block = [];
 }
 
-loop_content : content looped 0x8000_0001 ≡ Some (list (word 0x8000_0001 ∷ []))
-unfolding content looped words_of units_of
+loop_content : content_at looped 0x8000_0001 ≡ Some (list (word 0x8000_0001 ∷ []))
+unfolding content_at looped words_of units_of
 loop_content = refl
 
 -- its one member would have one resource less
@@ -198,14 +198,14 @@ loop_member (each_more (den_word {w = w} {n = n} {t = t} d) each_none) e =
 loop_step : {w n : ℕ} {t : Tree} → Den looped w t n → w ≡ 0x8000_0001
     → (k : ℕ) × ((u : Tree) × Den looped 0x8000_0001 u k) × (n ≡ 1 + k)
 loop_step (den_leaf {w = w} f) e =
-    let g : content looped w ≡ Some (list (word 0x8000_0001 ∷ [])) =
-    ap (content looped) e ∙ loop_content in absurd (cc)
+    let g : content_at looped w ≡ Some (list (word 0x8000_0001 ∷ [])) =
+    ap (content_at looped) e ∙ loop_content in absurd (cc)
 loop_step (den_pairs {w = w} f ds) e =
-    let g : content looped w ≡ Some (list (word 0x8000_0001 ∷ [])) =
-    ap (content looped) e ∙ loop_content in absurd (cc)
+    let g : content_at looped w ≡ Some (list (word 0x8000_0001 ∷ [])) =
+    ap (content_at looped) e ∙ loop_content in absurd (cc)
 loop_step (den_list {w = w} {n = n} {ms = ms} f ds) e =
-    let g : content looped w ≡ Some (list (word 0x8000_0001 ∷ [])) =
-    ap (content looped) e ∙ loop_content in
+    let g : content_at looped w ≡ Some (list (word 0x8000_0001 ∷ [])) =
+    ap (content_at looped) e ∙ loop_content in
     let one : ms ≡ word 0x8000_0001 ∷ [] = cc in
     (n, loop_member ds one, refl)
 

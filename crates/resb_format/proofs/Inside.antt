@@ -18,11 +18,8 @@ part_in xs i n h = grind (arith, nat_tests)
 pub ruleset part_cut = (part_in, part_past)
 
 -- a number that lies inside, and one that doesn't
-pub there : (xs : List ℕ) (i : ℕ) → i < length xs → slice_get xs i ≡ Some (slice_index xs i)
-there xs i h = slice_get-get_or xs i 0 h
-
-pub not_there : (xs : List ℕ) (i : ℕ) → length xs ≤ i → slice_get xs i ≡ None
-not_there xs i h = slice_get_past xs i h
+pub get_inside : (xs : List ℕ) (i : ℕ) → i < length xs → slice_get xs i ≡ Some (slice_index xs i)
+get_inside xs i h = slice_get-get_or xs i 0 h
 
 pub words_inside : (bs : List ℕ) (i n : ℕ) → i + n ≤ length bs / 4
     → part (words_of bs) i n ≡ Some (words_of (take (4 * n) (drop (4 * i) bs)))
@@ -41,9 +38,9 @@ pub units_outside : (bs : List ℕ) (i n : ℕ) → length bs / 2 < i + n → pa
 units_outside bs i n h = part_past (units_of bs) i n (omega (arith, units_length bs))
 
 -- what one number asked for by its place is
-pub ruleset one_unit = (units_length, there, not_there)
+pub ruleset one_unit = (units_length, get_inside, slice_get_past)
 
-pub ruleset one_word = (words_length, there, not_there)
+pub ruleset one_word = (words_length, get_inside, slice_get_past)
 
 -- what a part is
 pub ruleset units_cut = (units_inside, units_outside, units_length)

@@ -10,7 +10,8 @@ use Rattle.resb_format.specs.Bytes.{units_of, words_of, part}
 use Rattle.resb_format.specs.Strings.{text_at}
 use Rattle.resb_format.specs.Parts.{Parts}
 use Rattle.resb_format.specs.Types as types
-use Rattle.resb_format.specs.Content.{Member, Content, leaf, list, pairs, content, counted, paired}
+use Rattle.resb_format.specs.Content.{Member, Content, leaf, list, entry_list, content_at}
+use Rattle.resb_format.specs.Content.{behind_count, paired}
 use Rattle.resb_format.specs.Content.{words_at, offsets_at, placed, empty}
 use Rattle.resb_format.specs.Denotes.{Den, den_leaf, den_list, den_pairs, DenMember, den_word}
 use Rattle.resb_format.specs.Denotes.{den_unit, DenEach, each_none, each_more, DenPairs, pairs_none}
@@ -29,7 +30,7 @@ IsLeaf (int_vector ns) = Unit {0}
 abbrev IsPlain : Option Content → Type 0
 IsPlain (Some (leaf t)) = AreMaps t × IsLeaf t
 IsPlain (Some (list ms)) = Unit {0}
-IsPlain (Some (pairs es)) = Unit {0}
+IsPlain (Some (entry_list es)) = Unit {0}
 IsPlain None = Unit {0}
 
 plain_if : (b : Bool) (x y : Option Content) → IsPlain x → IsPlain y
@@ -43,7 +44,7 @@ plain_map f (Some a) h = h a
 plain_map f None h = tt
 
 plain_counted : (ns : List ℕ) (i : ℕ) (behind : ℕ → Option Content)
-    → ((n : ℕ) → IsPlain (behind n)) → IsPlain (counted ns i behind)
+    → ((n : ℕ) → IsPlain (behind n)) → IsPlain (behind_count ns i behind)
 plain_counted ns i behind h = at (slice_get ns i)
   where
     at : (o : Option ℕ) → IsPlain (option_and_then behind o)
@@ -83,8 +84,8 @@ plain_placed p type v =
     (λ n. plain_map (λ x. leaf (int_vector x)) (part (words_of p.body) (v + 1) n) (λ ns. (tt, tt))))
     tt)))))))
 
-plain_content : (p : Parts) (w : ℕ) → IsPlain (content p w)
-unfolding content
+plain_content : (p : Parts) (w : ℕ) → IsPlain (content_at p w)
+unfolding content_at
 plain_content p w =
     plain_if (w / 2 ^ 28 == types.integer) _ _ (tt, tt)
     (plain_if (w % 2 ^ 28 == 0) _ _ (plain_empty (w / 2 ^ 28))
@@ -95,7 +96,7 @@ leaf_maps : {o : Option Content} {t : Tree} → o ≡ Some (leaf t)
 leaf_maps e h = subst IsPlain e h
 
 -- what stands at a word without members is a leaf
-pub content_leaf : (p : Parts) (w : ℕ) (t : Tree) → content p w ≡ Some (leaf t) → IsLeaf t
+pub content_leaf : (p : Parts) (w : ℕ) (t : Tree) → content_at p w ≡ Some (leaf t) → IsLeaf t
 content_leaf p w t e = (leaf_maps e (plain_content p w)).1
 
 module _ (p : Parts) where

@@ -5,6 +5,8 @@
 --     part xs i n             n members of xs from place i on, if they lie inside
 use Rattle.std.specs.Prelude.{ℕ, ◌+◌, ◌*◌, List, [], ◌∷◌, length, take, drop, Option, Some, None}
 use Rattle.std.specs.Prelude.{Bool, nat_le, slice_index, if◌then◌else◌}
+use Rattle.std.specs.List.{flat_map}
+use Rattle.std.specs.Int.{to_le_bytes, w16}
 
 -- an odd byte at the end spells nothing
 unfoldable pub units_of : List ℕ → List ℕ
@@ -29,3 +31,7 @@ abbrev pub unit_in : Bool → List ℕ → ℕ → ℕ
 unit_in big bytes i =
     if big then slice_index bytes (2 * i + 1) + 256 * slice_index bytes (2 * i)
     else slice_index (units_of bytes) i
+
+-- the bytes under units of 16 bits, the lower byte of each first
+abbrev pub units_as_bytes : List ℕ → List ℕ
+units_as_bytes us = flat_map (to_le_bytes w16) us

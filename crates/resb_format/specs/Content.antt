@@ -1,6 +1,6 @@
 -- What stands at a descriptor's word, as far as its own place shows. (ICU's `uresdata.h`: resource
 -- types.)
---     content p w             a finished tree, or the members of a collection; none where the type
+--     content_at p w          a finished tree, or the members of a collection; none where the type
 --                             isn't read or a field lies outside
 use Rattle.std.specs.Prelude.{ℕ, ◌+◌, ◌*◌, ◌/◌, ◌%◌, ◌^◌, List, [], map, Option, Some, None}
 use Rattle.std.specs.Prelude.{option_map, option_and_then, ◌==◌, slice_get, if◌then◌else◌}
@@ -22,11 +22,11 @@ pub data Content : Type 0 where
   leaf : Tree → Content
   list : List Member → Content
   -- the key's position, and the member
-  pairs : List (ℕ × Member) → Content
+  entry_list : List (ℕ × Member) → Content
 
 -- what stands behind the count that is the number at place i, if there is one
-abbrev pub counted : {A : Type 0} → List ℕ → ℕ → (ℕ → Option A) → Option A
-counted numbers i behind = option_and_then behind (slice_get numbers i)
+abbrev pub behind_count : {A : Type 0} → List ℕ → ℕ → (ℕ → Option A) → Option A
+behind_count numbers i behind = option_and_then behind (slice_get numbers i)
 
 -- the n words of the body from word v on, as members
 abbrev pub words_at : Parts → ℕ → ℕ → Option (List Member)
@@ -39,45 +39,45 @@ offsets_at p u n = option_map (map unit) (part p.block u n)
 -- the positions and the members, both of which lie inside
 abbrev pub paired : Option (List ℕ) → Option (List Member) → Option Content
 paired positions members =
-    option_and_then (λ ks. option_map (λ ms. pairs (zip ks ms)) members) positions
+    option_and_then (λ ks. option_map (λ ms. entry_list (zip ks ms)) members) positions
 
 -- a binary: a count of 32 bits, and behind it as many bytes
 abbrev pub binary_at : Parts → ℕ → Option Content
 binary_at p v =
-    counted (words_of p.body) v
+    behind_count (words_of p.body) v
     (λ n. option_map (λ bytes. leaf (binary bytes)) (part p.body (4 * v + 4) n))
 
 -- a vector: a count of 32 bits, and behind it as many words
 abbrev pub int_vector_at : Parts → ℕ → Option Content
 int_vector_at p v =
-    counted (words_of p.body) v
+    behind_count (words_of p.body) v
     (λ n. option_map (λ ns. leaf (int_vector ns)) (part (words_of p.body) (v + 1) n))
 
 -- an array: a count of 32 bits, and behind it as many descriptors
 abbrev pub array_at : Parts → ℕ → Option Content
-array_at p v = counted (words_of p.body) v (λ n. option_map list (words_at p (v + 1) n))
+array_at p v = behind_count (words_of p.body) v (λ n. option_map list (words_at p (v + 1) n))
 
 -- an array of strings in the 16-bit block: a count in one unit, and behind it as many offsets
 abbrev pub array16_at : Parts → ℕ → Option Content
-array16_at p u = counted p.block u (λ n. option_map list (offsets_at p (u + 1) n))
+array16_at p u = behind_count p.block u (λ n. option_map list (offsets_at p (u + 1) n))
 
 -- a table: a count of 16 bits and as many key positions of 16 bits, 16 bits of padding where the
 -- count is even, and as many descriptors, which begin n / 2 + 1 words on for a count of n
 abbrev pub table_at : Parts → ℕ → Option Content
 table_at p v =
-    counted (units_of p.body) (2 * v)
+    behind_count (units_of p.body) (2 * v)
     (λ n. paired (part (units_of p.body) (2 * v + 1) n) (words_at p (v + n / 2 + 1) n))
 
 -- a table of strings in the 16-bit block: a count in one unit, as many key positions, and as many
 -- offsets
 abbrev pub table16_at : Parts → ℕ → Option Content
 table16_at p u =
-    counted p.block u (λ n. paired (part p.block (u + 1) n) (offsets_at p (u + 1 + n) n))
+    behind_count p.block u (λ n. paired (part p.block (u + 1) n) (offsets_at p (u + 1 + n) n))
 
 -- a table: a count of 32 bits, as many key positions of 32 bits, and as many descriptors
 abbrev pub table32_at : Parts → ℕ → Option Content
 table32_at p v =
-    counted (words_of p.body) v
+    behind_count (words_of p.body) v
     (λ n. paired (part (words_of p.body) (v + 1) n) (words_at p (v + 1 + n) n))
 
 -- the string that stands at a unit of the 16-bit block, if it is a text
@@ -101,15 +101,15 @@ placed p type v =
 abbrev pub empty : ℕ → Option Content
 empty type =
     if type == types.binary then Some (leaf (binary []))
-    else if types.is_table type then Some (pairs [])
+    else if types.is_table type then Some (entry_list [])
     else if type == types.string then Some (leaf (string []))
     else if types.is_array type then Some (list [])
     else if type == types.int_vector then Some (leaf (int_vector []))
     else None
 
 -- what a word leads to, by the type in its upper 4 bits and the value in its lower 28
-unfoldable pub content : Parts → ℕ → Option Content
-content p w =
+unfoldable pub content_at : Parts → ℕ → Option Content
+content_at p w =
     let type = w / 2 ^ 28 in
     let value = w % 2 ^ 28 in
     if type == types.integer then Some (leaf (integer value))

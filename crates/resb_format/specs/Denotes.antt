@@ -6,18 +6,19 @@ use Rattle.std.specs.Prelude.{◌≡◌, ℕ, ◌+◌, List, [], ◌∷◌, Some
 use Rattle.resb_tree.specs.Tree.{Tree, string, array, table, trees_of, map_of}
 use Rattle.resb_format.specs.Strings.{text_at, key_at}
 use Rattle.resb_format.specs.Parts.{Parts}
-use Rattle.resb_format.specs.Content.{Member, word, unit, leaf, list, pairs, content}
+use Rattle.resb_format.specs.Content.{Member, word, unit, leaf, list, entry_list, content_at}
 
 module _ (p : Parts) where
   mutual
     -- a word denotes a tree, with a count of resources; nothing else does, so that a cycle denotes
     -- nothing
     pub data Den : ℕ → Tree → ℕ → Type 0 where
-      den_leaf : {w : ℕ} {t : Tree} → content p w ≡ Some (leaf t) → Den w t 1
-      den_list : {w n : ℕ} {ms : List Member} {ts : List Tree} → content p w ≡ Some (list ms)
+      den_leaf : {w : ℕ} {t : Tree} → content_at p w ≡ Some (leaf t) → Den w t 1
+      den_list : {w n : ℕ} {ms : List Member} {ts : List Tree} → content_at p w ≡ Some (list ms)
           → DenEach ms ts n → Den w (array (trees_of ts)) (1 + n)
       den_pairs : {w n : ℕ} {es : List (ℕ × Member)} {ts : List (List ℕ × Tree)}
-          → content p w ≡ Some (pairs es) → DenPairs es ts n → Den w (table (map_of ts)) (1 + n)
+          → content_at p w ≡ Some (entry_list es) → DenPairs es ts n
+          → Den w (table (map_of ts)) (1 + n)
 
     -- a member, which is a resource too
     pub data DenMember : Member → Tree → ℕ → Type 0 where
@@ -41,9 +42,10 @@ module _ (p : Parts) where
     -- a word reaches one resource, its own; and one more than is reached in its members or entries
     pub data Reaches : ℕ → ℕ → Type 0 where
       reaches_one : {w : ℕ} → Reaches w 1
-      reaches_list : {w n : ℕ} {ms : List Member} → content p w ≡ Some (list ms) → ReachesEach ms n
+      reaches_list : {w n : ℕ} {ms : List Member} → content_at p w ≡ Some (list ms)
+          → ReachesEach ms n
           → Reaches w (1 + n)
-      reaches_pairs : {w n : ℕ} {es : List (ℕ × Member)} → content p w ≡ Some (pairs es)
+      reaches_pairs : {w n : ℕ} {es : List (ℕ × Member)} → content_at p w ≡ Some (entry_list es)
           → ReachesPairs es n → Reaches w (1 + n)
 
     -- a member that is a word reaches what the word does, a string of a short collection one

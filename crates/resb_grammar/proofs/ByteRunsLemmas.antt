@@ -16,8 +16,8 @@ pub word_some : (b : ℕ) → is_word b ≡ true → 0 < b
 word_some b h = grind (arith, nat_tests)
 
 -- a byte other than 0 stands inside the text
-pub there : (text : List ℕ) (i : ℕ) → 0 < get_or text i 0 → i < length text
-there text i h =
+pub nonzero_inside : (text : List ℕ) (i : ℕ) → 0 < get_or text i 0 → i < length text
+nonzero_inside text i h =
     ⊎_elim (λ (w : i < length text). w)
     (λ (w : length text ≤ i). absurd (omega (arith, get_or_past text i 0 w)))
     (cases_lt i (length text))

@@ -5,10 +5,10 @@ use Rattle.std.specs.Prelude.{slice_index}
 use Rattle.std.specs.Option.{option_map}
 use Rattle.resb_grammar.specs.Ascii as ascii
 use Rattle.resb_tree.specs.Tree.{Tree, string, binary, integer, int_vector}
-use Rattle.resb_grammar.specs.Tokens.{Skip}
+use Rattle.resb_grammar.specs.Lexical.{Skip}
 use Rattle.resb_grammar.specs.Items as items
 use Rattle.resb_grammar.specs.Items.{Item, Term, before_comma}
-use Rattle.resb_grammar.specs.GroupTypes.{Kind, array_kind, table_kind, Head}
+use Rattle.resb_grammar.specs.GroupTypes.{Kind, array_kind, table_kind, TypedOpening}
 use Rattle.resb_grammar.specs.Group.{Numbers, first_number, next_number, Vector, empty, lone_comma}
 use Rattle.resb_grammar.specs.Group.{numbers, numbers_comma, LeafContent, string_content}
 use Rattle.resb_grammar.specs.Group.{binary_content, integer_content, vector_content, Items}
@@ -155,7 +155,7 @@ module _ (text : List ℕ) where
   -- a type and its `{`
   pub run_head : (from to : ℕ) (kind : Kind) (title : Title) (body : Body) (xs : List Item)
       (around : List Frame)
-      → Head text from kind to → MayOpen body xs
+      → TypedOpening text from kind to → MayOpen body xs
       → At text from (inside (open_at title body xs around))
       → At text to (begun_as kind (open_at title body xs around))
   run_head from to kind title body xs around head may at =

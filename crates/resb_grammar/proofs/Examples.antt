@@ -6,8 +6,8 @@ use Rattle.std.proofs.lemmas.Bool.{false≢true, and_parts}
 use Rattle.std.proofs.lemmas.Bool.Decides.{nat_tests}
 use Rattle.resb_tree.specs.Tree.{Tree, string, array, table, binary, integer, trees_of, map_of}
 use Rattle.resb_grammar.specs.ByteRuns.{is_white, is_word, is_digit, Run}
-use Rattle.resb_grammar.specs.Tokens.{Comment, line, block, none, comment, Skip, Text, quoted}
-use Rattle.resb_grammar.specs.Tokens.{unquoted, Number, unsigned, plus, minus}
+use Rattle.resb_grammar.specs.Lexical.{Comment, line, block, none, comment, Skip, Text, quoted}
+use Rattle.resb_grammar.specs.Lexical.{unquoted, Number, unsigned, plus, minus}
 use Rattle.resb_grammar.specs.Items as items
 use Rattle.resb_grammar.specs.GroupTypes.{string_kind, integer_kind, vector_kind, GroupType}
 use Rattle.resb_grammar.specs.GroupTypes.{RootType}

@@ -3,7 +3,7 @@ use Rattle.std.proofs.Common.{◌≡◌, ℕ, Bool, List, length, refl, sym, ◌
 use Rattle.std.specs.Prelude.{slice_index}
 use Rattle.std.specs.Option.{option_map}
 use Rattle.resb_tree.specs.Tree.{Tree, binary}
-use Rattle.resb_grammar.specs.Tokens.{Text}
+use Rattle.resb_grammar.specs.Lexical.{Text}
 use Rattle.resb_grammar.specs.Items.{Item, a_table, tree_in, keys_in}
 use Rattle.resb_grammar.specs.Group.{hex_bytes}
 use Rattle.resb_grammar.specs.BundleText.{first_places, BundleText}

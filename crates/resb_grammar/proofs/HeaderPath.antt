@@ -2,7 +2,7 @@
 use Rattle.std.proofs.Common.{◌≡◌, ℕ, ◌+◌, Bool, true, List, refl, subst}
 use Rattle.std.specs.Prelude.{slice_index}
 use Rattle.resb_grammar.specs.Ascii as ascii
-use Rattle.resb_grammar.specs.Tokens.{Skip, Text}
+use Rattle.resb_grammar.specs.Lexical.{Skip, Text}
 use Rattle.resb_grammar.specs.GroupTypes.{RootType}
 use Rattle.resb_grammar.specs.BundleText.{Typing, without, with, Header}
 use Rattle.resb_grammar.specs.Machine.{a_text, opening, a_root_type, start, named, inside, titled}

@@ -2,7 +2,7 @@
 use Rattle.std.specs.Prelude.{◌≡◌, ℕ, ◌+◌, Bool, ◌||◌, ◌==◌, List, if◌then◌else◌}
 use Rattle.resb_grammar.specs.Ascii as ascii
 use Rattle.resb_grammar.specs.ByteRuns.{is_word, is_number_start}
-use Rattle.resb_grammar.specs.Tokens.{Text, Number}
+use Rattle.resb_grammar.specs.Lexical.{Text, Number}
 use Rattle.resb_grammar.specs.GroupTypes.{Kind, GroupType, RootType}
 use Rattle.resb_grammar.specs.Token.{Token, a_text, a_number, opening, closing, a_comma, a_type}
 use Rattle.resb_grammar.specs.Token.{a_root_type}

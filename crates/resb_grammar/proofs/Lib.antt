@@ -14,5 +14,6 @@ pub mod Listed
 pub mod KeyPlaces
 pub mod Making
 pub mod MadeOnce
+pub mod ReaderLemmas
 mod Examples
 mod HexPairs

@@ -37,9 +37,9 @@ in_right k [] ys h = h
 in_right k (x ∷ xs) ys h = inr (in_right k xs ys h)
 
 -- where one of two holds, the first or the second does
-pub either : (a b : Bool) → (a || b) ≡ true → (a ≡ true) ⊎ (b ≡ true)
-either true b h = inl refl
-either false b h = inr h
+pub one_of_or : (a b : Bool) → (a || b) ≡ true → (a ≡ true) ⊎ (b ≡ true)
+one_of_or true b h = inl refl
+one_of_or false b h = inr h
 
 -- k is a key of one of the pairs, or of some table of their trees
 abbrev pub KeyOf : List ℕ → List (List ℕ × Tree) → Type 0
@@ -60,9 +60,9 @@ here_or k l t es h = ⊎_elim
     (λ (w : (same_text k l || is_key k t) ≡ true). inl (⊎_elim
     (λ (v : same_text k l ≡ true). inl ((bytes_decides k l).0 v))
     (λ (v : is_key k t ≡ true). inr v)
-    (either (same_text k l) (is_key k t) w)))
+    (one_of_or (same_text k l) (is_key k t) w)))
     (λ (w : is_key_of k es ≡ true). inr w)
-    (either (same_text k l || is_key k t) (is_key_of k es) h)
+    (one_of_or (same_text k l || is_key k t) (is_key_of k es) h)
 
 -- a key of the map after a put is the key put, a key of its tree, or was one before
 abbrev AfterPut : List ℕ → List ℕ → Tree → Entries → Type 0
@@ -76,7 +76,7 @@ put_key k l t (entry m u es) h =
     (here_or k l t (entry m u es))
     (λ w. replaced (here_or k m t es w))
     (λ w. kept (put_key k l t es)
-    (either (same_text k m || is_key k u) (is_key_of k (put l t es)) w))
+    (one_of_or (same_text k m || is_key k u) (is_key_of k (put l t es)) w))
     h
   where
     replaced : ((k ≡ m) ⊎ (is_key k t ≡ true)) ⊎ (is_key_of k es ≡ true)
@@ -161,14 +161,14 @@ trees_listed k (x ∷ xs) l e = ⊎_elim
         → (is_key_in k (trees_of ts) ≡ true) ⊎ (is_key k t ≡ true)
     last_tree k [] t e =
         ⊎_elim (λ (w : is_key k t ≡ true). inr w) (λ (w : false ≡ true). absurd (false≢true w))
-        (either (is_key k t) false e)
+        (one_of_or (is_key k t) false e)
     last_tree k (u ∷ ts) t e = ⊎_elim
         (λ (w : is_key k u ≡ true). inl (or_left _ (is_key_in k (trees_of ts)) w))
         (λ (w : is_key_in k (trees_of (ts ++ t ∷ [])) ≡ true). ⊎_elim
         (λ (v : is_key_in k (trees_of ts) ≡ true). inl (or_right (is_key k u) _ v))
         (λ (v : is_key k t ≡ true). inr v)
         (last_tree k ts t w))
-        (either (is_key k u) (is_key_in k (trees_of (ts ++ t ∷ []))) e)
+        (one_of_or (is_key k u) (is_key_in k (trees_of (ts ++ t ∷ []))) e)
 
 -- a table's keys, from its pairs
 rest_pairs : (a b : Bool) → and_then a b ≡ true → b ≡ true

@@ -8,7 +8,7 @@ use Rattle.resb_grammar.specs.Items.{Item}
 use Rattle.resb_grammar.specs.BundleText.{BundleText}
 use Rattle.resb_grammar.specs.Machine.{Title, State, finished, Move, Path, begun, went}
 use Rattle.resb_grammar.specs.Stuck.{NoToken}
-use Rattle.resb_grammar.specs.Limit.{made_by, bytes_of, Makes, MadeWithin, MakesMore}
+use Rattle.resb_grammar.specs.Limit.{made_by, path_bytes, Makes, MadeWithin, MakesMore}
 use Rattle.resb_grammar.proofs.Lex.{mode, class_in, Lex}
 use Rattle.resb_grammar.proofs.LexLemmas.{lex_of}
 use Rattle.resb_grammar.proofs.Unique.{Lex-one, Path-one, Path-front}
@@ -34,7 +34,7 @@ adds_same text i j a b u v s t ei eu x y =
 
 -- paths of as many tokens make the same
 bytes_one : (text : List ℕ) (n m a b : ℕ) (s t : State) → (p : Path text n a s)
-    → (q : Path text m b t) → n ≡ m → bytes_of text n a s p ≡ bytes_of text m b t q
+    → (q : Path text m b t) → n ≡ m → path_bytes text n a s p ≡ path_bytes text m b t q
 bytes_one text zero zero a b s t (begun _ h) (begun _ k) e = refl
 bytes_one text zero (suc m) a b s t (begun _ h) (went _ j _ v _ q y) e = absurd (omega (arith, e))
 bytes_one text (suc n) zero a b s t (went _ i _ u _ p x) (begun _ k) e = absurd (omega (arith, e))
@@ -47,7 +47,7 @@ bytes_one text (suc n) (suc m) a b s t (went _ i _ u _ p x) (went _ j _ v _ q y)
 
 -- a longer path makes no less
 bytes_front : (text : List ℕ) (n m a b : ℕ) (s t : State) → (p : Path text n a s)
-    → (q : Path text m b t) → n ≤ m → bytes_of text n a s p ≤ bytes_of text m b t q
+    → (q : Path text m b t) → n ≤ m → path_bytes text n a s p ≤ path_bytes text m b t q
 bytes_front text n zero a b s t p (begun _ k) le =
     let same = bytes_one text n zero a b s t p (begun _ k) (omega (arith, le)) in
     omega (arith, same)
@@ -62,7 +62,7 @@ bytes_front text n (suc m) a b s t p (went _ j _ v _ q y) le = ⊎_elim
 -- a longer path makes no less than a shorter one with the token behind it
 bytes_behind : (text : List ℕ) (n m a b e : ℕ) (s t v : State) → (p : Path text n a s)
     → (x : Move text a s e v) → (q : Path text m b t) → n < m
-    → bytes_of text n a s p + made_by s x.token ≤ bytes_of text m b t q
+    → path_bytes text n a s p + made_by s x.token ≤ path_bytes text m b t q
 bytes_behind text n zero a b e s t v p x (begun _ k) less = absurd (omega (arith, less))
 bytes_behind text n (suc m) a b e s t v p x (went _ j _ u _ q y) less = ⊎_elim
     (λ (w : n < m).
@@ -112,7 +112,7 @@ pub bundle_made : (text name : List ℕ) (fallback : Bool) (tree : Tree) (keys :
 bundle_made text name fallback tree keys b =
     let p = complete text name fallback tree keys b in (
       b.items,
-      bytes_of text p.tokens (length text) _ p.path,
+      path_bytes text p.tokens (length text) _ p.path,
       record {
         tokens = p.tokens;
         path = p.path;

@@ -3,8 +3,8 @@ use Rattle.std.proofs.Common.{◌≡◌, ℕ, suc, ◌+◌, ◌<◌, Bool, true,
 use Rattle.std.proofs.Common.{subst, arith, Some}
 use Rattle.std.specs.Option.{option_map}
 use Rattle.resb_tree.specs.Tree.{Tree, int_vector, binary}
-use Rattle.resb_grammar.specs.Tokens.{Skip}
-use Rattle.resb_grammar.specs.GroupTypes.{Kind, Head}
+use Rattle.resb_grammar.specs.Lexical.{Skip}
+use Rattle.resb_grammar.specs.GroupTypes.{Kind, TypedOpening}
 use Rattle.resb_grammar.specs.Group.{Numbers, first_number, next_number, Vector, empty, lone_comma}
 use Rattle.resb_grammar.specs.Group.{numbers, numbers_comma, LeafContent, string_content}
 use Rattle.resb_grammar.specs.Group.{binary_content, integer_content, vector_content}
@@ -22,8 +22,8 @@ pub reading_of : (text : List ℕ) (n at : ℕ) (s : State) → Makes text n at 
 reading_of text n at s m = record { tokens = m.tokens; path = m.path }
 
 -- what takes nothing adds nothing
-pub free : (n : ℕ) → n ≡ n + 0
-free n = omega arith
+pub plus_no_bytes : (n : ℕ) → n ≡ n + 0
+plus_no_bytes n = omega arith
 
 module _ (text : List ℕ) where
   makes_none : (at : ℕ) → Skip text 0 at → Makes text 0 at start
@@ -61,13 +61,13 @@ module _ (text : List ℕ) where
   makes_numbers : (n from to : ℕ) (ns : List ℕ) (o : Open) → Numbers text from to ns
       → Makes text n from (in_vector at_start [] o) → Makes text n to (in_vector after_number ns o)
   makes_numbers n from to ns o (first_number i _ v number skip) made =
-      makes_on n n from i to _ _ (a_number v) made (free n) number refl skip
+      makes_on n n from i to _ _ (a_number v) made (plus_no_bytes n) number refl skip
   makes_numbers n from to ns o (next_number i j k _ v ms rest h skip number skip') made =
       let here : Makes text n i (in_vector after_number ms o) =
       makes_numbers n from i ms o rest made in
       let comma : Makes text n j (in_vector after_comma ms o) = makes_on n n i (i + 1) j _ _ a_comma
-      here (free n) (h, refl) refl skip in
-      makes_on n n j k to _ _ (a_number v) comma (free n) number refl skip'
+      here (plus_no_bytes n) (h, refl) refl skip in
+      makes_on n n j k to _ _ (a_number v) comma (plus_no_bytes n) number refl skip'
 
   -- before the `}` of a group that holds no items
   pub record BeforeBrace (n to : ℕ) (t : Tree) (o : Open) : Type 0 where
@@ -87,7 +87,7 @@ module _ (text : List ℕ) where
       record { state = in_vector at_start [] o; made = made; moves = refl; adds = refl }
   vector_made n from to ns o (lone_comma _ c skip) made = record {
     state = in_vector after_lone_comma [] o;
-    made = makes_on n n from (from + 1) to _ _ a_comma made (free n) (c, refl) refl skip;
+    made = makes_on n n from (from + 1) to _ _ a_comma made (plus_no_bytes n) (c, refl) refl skip;
     moves = refl;
     adds = refl;
   }
@@ -99,7 +99,8 @@ module _ (text : List ℕ) where
   }
   vector_made n from to ns o (numbers_comma i _ _ rest c skip) made = record {
     state = in_vector after_comma ns o;
-    made = makes_on n n i (i + 1) to _ _ a_comma (makes_numbers n from i ns o rest made) (free n)
+    made = makes_on n n i (i + 1) to _ _ a_comma (makes_numbers n from i ns o rest made)
+        (plus_no_bytes n)
         (c, refl) refl skip;
     moves = refl;
     adds = refl;
@@ -110,23 +111,26 @@ module _ (text : List ℕ) where
       → LeafContent text from to kind t → Makes text n from (begun_as kind o)
       → BeforeBrace n to t o
   content_made n from to kind t o (string_content i s w skip) made =
-      filled_made n to t o (makes_on n n from i to _ _ (a_text s) made (free n) w refl skip)
+      filled_made n to t o (makes_on n n from i to _ _ (a_text s) made
+      (plus_no_bytes n) w refl skip)
   content_made n from to kind t o (binary_content i s bytes w e skip) made =
       filled_made n to t o (makes_on n n from i to (in_binary o) (filled (binary bytes) o)
-      (a_text s) made (free n) w (ap (option_map (λ bs. filled (binary bs) o)) e) skip)
+      (a_text s) made (plus_no_bytes n) w (ap (option_map (λ bs. filled (binary bs) o)) e) skip)
   content_made n from to kind t o (integer_content i v w skip) made =
-      filled_made n to t o (makes_on n n from i to _ _ (a_number v) made (free n) w refl skip)
+      filled_made n to t o (makes_on n n from i to _ _ (a_number v) made
+      (plus_no_bytes n) w refl skip)
   content_made n from to kind t o (vector_content ns v) made = vector_made n from to ns o v made
 
   -- a type and its `{`: up to the `{`, and what it leads to
-  pub head_made : (n from to : ℕ) (kind : Kind) (o : Open) → (h : Head text from kind to)
+  pub head_made : (n from to : ℕ) (kind : Kind) (o : Open) → (h : TypedOpening text from kind to)
       → next (inside o) (a_type kind) ≡ Some (typed kind o) → Makes text n from (inside o)
       → Makes text n h.brace (typed kind o)
   head_made n from to kind o h may made =
-      makes_on n n from h.ends h.brace _ _ (a_type kind) made (free n) h.named may h.between
+      makes_on n n from h.ends h.brace _ _ (a_type kind) made
+      (plus_no_bytes n) h.named may h.between
 
   -- a group with a type is begun, and what it takes is counted
-  pub begun_made : (n m from to : ℕ) (kind : Kind) (o : Open) → (h : Head text from kind to)
+  pub begun_made : (n m from to : ℕ) (kind : Kind) (o : Open) → (h : TypedOpening text from kind to)
       → next (inside o) (a_type kind) ≡ Some (typed kind o) → Makes text n from (inside o)
       → m ≡ n + begun_bytes kind → Makes text m to (begun_as kind o)
   begun_made n m from to kind o h may made e =

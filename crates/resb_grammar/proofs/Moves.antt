@@ -6,7 +6,7 @@ use Rattle.std.proofs.lemmas.Bool.{false≢true, or_right}
 use Rattle.std.proofs.lemmas.Bool.Decides.{nat_tests}
 use Rattle.resb_grammar.specs.Ascii as ascii
 use Rattle.resb_grammar.specs.ByteRuns.{is_word, is_digit, is_number_start}
-use Rattle.resb_grammar.specs.Tokens.{Skip, Text, quoted, unquoted, Number, unsigned, plus, minus}
+use Rattle.resb_grammar.specs.Lexical.{Skip, Text, quoted, unquoted, Number, unsigned, plus, minus}
 use Rattle.resb_grammar.specs.GroupTypes.{RootType, table_type, no_fallback_type}
 use Rattle.resb_grammar.specs.Machine.{Token, Means, State, start, next, Move, begun, went, At}
 use Rattle.resb_grammar.proofs.Lex.{Mode, neither, numbers, root_types, mode, Class}

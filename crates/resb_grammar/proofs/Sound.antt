@@ -5,11 +5,12 @@ use Rattle.std.specs.Prelude.{slice_index, IfSome}
 use Rattle.std.specs.Option.{option_map}
 use Rattle.resb_grammar.specs.Ascii as ascii
 use Rattle.resb_tree.specs.Tree.{Tree, binary, int_vector}
-use Rattle.resb_grammar.specs.Tokens.{Skip, Text, Number}
+use Rattle.resb_grammar.specs.Lexical.{Skip, Text, Number}
 use Rattle.resb_grammar.specs.Items as items
 use Rattle.resb_grammar.specs.Items.{Item, Term, before_comma, is_pairs, a_table, tree_in, keys_in}
 use Rattle.resb_grammar.specs.GroupTypes.{Kind, string_kind, array_kind, table_kind, binary_kind}
-use Rattle.resb_grammar.specs.GroupTypes.{integer_kind, vector_kind, GroupType, Head, RootType}
+use Rattle.resb_grammar.specs.GroupTypes.{integer_kind, vector_kind, GroupType, TypedOpening}
+use Rattle.resb_grammar.specs.GroupTypes.{RootType}
 use Rattle.resb_grammar.specs.Group.{hex_bytes, Numbers, first_number, next_number, Vector, empty}
 use Rattle.resb_grammar.specs.Group.{lone_comma, numbers, numbers_comma, LeafContent}
 use Rattle.resb_grammar.specs.Group.{string_content, binary_content, integer_content}
@@ -34,8 +35,8 @@ use Rattle.resb_grammar.proofs.Complete.{MayOpen, open_at}
 module _ (text : List ℕ) where
   -- a group of this body begins, and its first item may stand at `first`
   abbrev Begins : Body → ℕ → ℕ → Type 0
-  Begins table_body from first = Head text from table_kind first
-  Begins array_body from first = Head text from array_kind first
+  Begins table_body from first = TypedOpening text from table_kind first
+  Begins array_body from first = TypedOpening text from array_kind first
   Begins untyped_body from first =
       (slice_index text from ≡ ascii.left_brace) × Skip text (from + 1) first
 
@@ -70,7 +71,8 @@ module _ (text : List ℕ) where
   -- a typed group has begun here
   abbrev Began : Kind → Open → ℕ → Type 0
   Began kind o first =
-      (from : ℕ) × IsOpen o from × MayOpen o.frame.body o.frame.items × Head text from kind first
+      (from : ℕ) × IsOpen o from × MayOpen o.frame.body o.frame.items
+      × TypedOpening text from kind first
 
   -- what a state says of the text before its place
   abbrev Good : State → ℕ → Type 0
@@ -306,7 +308,7 @@ module _ (text : List ℕ) where
 
   head_of : (kind : Kind) (from ends brace end to : ℕ) → GroupType text from ends kind
       → Skip text ends brace → slice_index text brace ≡ ascii.left_brace → end ≡ brace + 1
-      → Skip text end to → Head text from kind to
+      → Skip text end to → TypedOpening text from kind to
   head_of kind from ends brace end to type between b e skip =
       record {
         ends = ends;

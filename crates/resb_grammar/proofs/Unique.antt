@@ -8,9 +8,10 @@ use Rattle.std.proofs.lemmas.Bool.{cases_lt, false≢true}
 use Rattle.std.proofs.lemmas.Bool.Decides.{nat_tests}
 use Rattle.resb_grammar.specs.Ascii as ascii
 use Rattle.resb_grammar.specs.ByteRuns.{is_word, is_white, is_digit, Run, FirstQuote}
-use Rattle.resb_grammar.specs.Tokens.{EndsLine, LineRest, FirstCloser, Comment, line, block, Blanks}
-use Rattle.resb_grammar.specs.Tokens.{none, white, comment, IsSolid, Skip, Text, quoted, unquoted}
-use Rattle.resb_grammar.specs.Tokens.{digits_value, Digits, negated, Number, unsigned, plus, minus}
+use Rattle.resb_grammar.specs.Lexical.{EndsLine, LineRest, FirstCloser, Comment, line, block}
+use Rattle.resb_grammar.specs.Lexical.{Blanks}
+use Rattle.resb_grammar.specs.Lexical.{none, white, comment, IsSolid, Skip, Text, quoted, unquoted}
+use Rattle.resb_grammar.specs.Lexical.{digits_value, Digits, negated, Number, unsigned, plus, minus}
 use Rattle.resb_grammar.specs.GroupTypes.{Kind, string_kind, array_kind, table_kind, binary_kind}
 use Rattle.resb_grammar.specs.GroupTypes.{integer_kind, vector_kind, Names, TypeName, GroupType}
 use Rattle.resb_grammar.specs.GroupTypes.{NoFallback, RootType, table_type, no_fallback_type}
@@ -24,22 +25,22 @@ use Rattle.resb_grammar.proofs.LexLemmas.{lex_of}
 use Rattle.resb_grammar.proofs.ByteRunsLemmas.{Run-one}
 
 -- two places are equal if neither is below the other
-pub meet : (a b : ℕ) → (a < b → ⊥) → (b < a → ⊥) → a ≡ b
-meet a b p q =
+pub places_meet : (a b : ℕ) → (a < b → ⊥) → (b < a → ⊥) → a ≡ b
+places_meet a b p q =
     ⊎_elim (λ (w : a < b). absurd (p w)) (λ (w : b ≤ a). ⊎_elim (λ (v : b < a). absurd (q v))
     (λ (v : a ≤ b). omega arith) (cases_lt b a)) (cases_lt a b)
 
 pub FirstQuote-one : (text : List ℕ) (from a b : ℕ) → FirstQuote text from a
     → FirstQuote text from b → a ≡ b
 FirstQuote-one text from a b p q =
-    meet a b (λ w. q.inner a p.order w p.closes) (λ w. p.inner b q.order w q.closes)
+    places_meet a b (λ w. q.inner a p.order w p.closes) (λ w. p.inner b q.order w q.closes)
 
 -- the first `*/` from a place on is one
 pub FirstCloser-one : (text : List ℕ) (from a b : ℕ) → FirstCloser text from a
     → FirstCloser text from b
     → a ≡ b
 FirstCloser-one text from a b p q =
-    meet a b (λ w. q.first a p.order w p.closer) (λ w. p.first b q.order w q.closer)
+    places_meet a b (λ w. q.first a p.order w p.closer) (λ w. p.first b q.order w q.closer)
 
 line_stops : (text : List ℕ) (at to : ℕ) → EndsLine text at → at < to → to ≤ length text
     → (slice_index text at == ascii.line_feed || slice_index text at == ascii.carriage_return) ≡
@@ -54,7 +55,7 @@ line_stops text at to e low high h =
     grind (arith, nat_tests))) e
 
 LineRest-one : (text : List ℕ) (from a b : ℕ) → LineRest text from a → LineRest text from b → a ≡ b
-LineRest-one text from a b p q = meet a b
+LineRest-one text from a b p q = places_meet a b
     (λ w. line_stops text a b p.ends w q.fits (q.body a p.order w))
     (λ w. line_stops text b a q.ends w p.fits (p.body b q.order w))
 
@@ -255,6 +256,6 @@ Path-front text n (suc m) a b s t p stop (went _ i _ u _ q x) low = ⊎_elim
 pub ends_once : (text : List ℕ) (n m a b : ℕ) (s t : State) → Path text n a s → NoToken text a s
     → Path text m b t → NoToken text b t → (a ≡ b) × (s ≡ t)
 ends_once text n m a b s t p stop q stop' =
-    let e : n ≡ m = meet n m (Path-front text n m a b s t p stop q)
+    let e : n ≡ m = places_meet n m (Path-front text n m a b s t p stop q)
     (Path-front text m n b a t s q stop' p) in
     Path-one text m a b s t (subst (λ k. Path text k a s) e p) q

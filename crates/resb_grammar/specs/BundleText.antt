@@ -4,7 +4,7 @@ use Rattle.std.specs.Prelude.{slice_index, nat_eq}
 use Rattle.std.specs.Cmp.Lexicographic.{pointwise}
 use Rattle.resb_grammar.specs.Ascii as ascii
 use Rattle.resb_tree.specs.Tree.{Tree}
-use Rattle.resb_grammar.specs.Tokens.{Skip, Text}
+use Rattle.resb_grammar.specs.Lexical.{Skip, Text}
 use Rattle.resb_grammar.specs.Items.{Item, is_pairs, a_table, tree_in, keys_in}
 use Rattle.resb_grammar.specs.GroupTypes.{RootType}
 use Rattle.resb_grammar.specs.Group.{Items}

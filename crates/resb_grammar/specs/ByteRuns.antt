@@ -9,6 +9,10 @@ abbrev pub is_white : ℕ → Bool
 is_white b =
     (b == ascii.space || b == ascii.tab) || (b == ascii.carriage_return || b == ascii.line_feed)
 
+-- LF or CR
+abbrev pub is_line_end : ℕ → Bool
+is_line_end b = b == ascii.line_feed || b == ascii.carriage_return
+
 -- word characters: ASCII letters and digits, and the dash
 abbrev pub is_word : ℕ → Bool
 is_word b = is_ascii_alphanumeric b || b == ascii.dash

@@ -4,11 +4,11 @@ use Rattle.std.specs.Prelude.{[], ◌∷◌, ◌++◌, Option, Some, None, slice
 use Rattle.std.specs.Option.{option_map}
 use Rattle.resb_grammar.specs.Ascii as ascii
 use Rattle.resb_tree.specs.Tree.{Tree, string, binary, integer, int_vector}
-use Rattle.resb_grammar.specs.Tokens.{Skip, Text, Number}
+use Rattle.resb_grammar.specs.Lexical.{Skip, Text, Number}
 use Rattle.resb_grammar.specs.Items.{Term, string_term, group_term, Item, plain, before_comma}
 use Rattle.resb_grammar.specs.Items.{is_pairs, a_table, an_array, shape_of, tree_in, keys_in}
 use Rattle.resb_grammar.specs.GroupTypes.{Kind, string_kind, array_kind, table_kind, binary_kind}
-use Rattle.resb_grammar.specs.GroupTypes.{integer_kind, vector_kind, Head}
+use Rattle.resb_grammar.specs.GroupTypes.{integer_kind, vector_kind, TypedOpening}
 
 -- the bytes from one byte to another
 abbrev pub is_between : ℕ → ℕ → ℕ → Bool
@@ -85,12 +85,14 @@ mutual
     untyped : (from i k : ℕ) (xs : List Item) → slice_index text from ≡ ascii.left_brace
         → Skip text (from + 1) i → Items text i k xs → slice_index text k ≡ ascii.right_brace
         → Group text from (k + 1) (tree_in (shape_of xs) xs) (keys_in (shape_of xs) xs)
-    typed_table : (from i k : ℕ) (xs : List Item) → Head text from table_kind i → Items text i k xs
+    typed_table : (from i k : ℕ) (xs : List Item) → TypedOpening text from table_kind i
+        → Items text i k xs
         → is_pairs xs ≡ true → slice_index text k ≡ ascii.right_brace
         → Group text from (k + 1) (tree_in a_table xs) (keys_in a_table xs)
-    typed_array : (from i k : ℕ) (xs : List Item) → Head text from array_kind i → Items text i k xs
+    typed_array : (from i k : ℕ) (xs : List Item) → TypedOpening text from array_kind i
+        → Items text i k xs
         → slice_index text k ≡ ascii.right_brace
         → Group text from (k + 1) (tree_in an_array xs) (keys_in an_array xs)
-    typed_leaf : (from i k : ℕ) (kind : Kind) (t : Tree) → Head text from kind i
+    typed_leaf : (from i k : ℕ) (kind : Kind) (t : Tree) → TypedOpening text from kind i
         → LeafContent text i k kind t → slice_index text k ≡ ascii.right_brace
         → Group text from (k + 1) t []

@@ -3,7 +3,7 @@ use Rattle.std.specs.Prelude.{◌≡◌, ℕ, ◌+◌, ◌⊎◌, Bool, true, fa
 use Rattle.std.specs.Prelude.{slice_index, slice_range, codes}
 use Rattle.resb_grammar.specs.Ascii as ascii
 use Rattle.resb_grammar.specs.ByteRuns.{is_word, Run}
-use Rattle.resb_grammar.specs.Tokens.{Skip}
+use Rattle.resb_grammar.specs.Lexical.{Skip}
 
 -- the types that a group may name
 pub data Kind : Type 0 where
@@ -36,7 +36,7 @@ pub record GroupType (text : List ℕ) (from to : ℕ) (kind : Kind) : Type 0 wh
   pub names : Names name kind
 
 -- a type, its `{`, and the discardable text around that
-pub record Head (text : List ℕ) (from : ℕ) (kind : Kind) (to : ℕ) : Type 0 where
+pub record TypedOpening (text : List ℕ) (from : ℕ) (kind : Kind) (to : ℕ) : Type 0 where
   pub ends : ℕ
   pub brace : ℕ
   pub named : GroupType text from ends kind

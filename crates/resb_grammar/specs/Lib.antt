@@ -4,7 +4,7 @@ pub use Rattle.resb_tree.specs.Tree
 pub use Rattle.resb_tree.specs.Keys
 pub mod Ascii
 pub mod ByteRuns
-pub mod Tokens
+pub mod Lexical
 pub mod Items
 pub mod GroupTypes
 pub mod Group
@@ -17,5 +17,6 @@ pub mod Machine
 pub mod Stuck
 pub mod Limit
 pub mod Expected
+pub mod Kinds
 pub mod Laws
 pub mod Inner

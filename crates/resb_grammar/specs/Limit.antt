@@ -51,16 +51,16 @@ made_by (in_vector place ns o) closing = leaf_bytes (int_vector ns)
 made_by _ _ = 0
 
 -- what the tokens of a path add up to
-abbrev pub bytes_of : (text : List ℕ) (n at : ℕ) (s : State) → Path text n at s → ℕ
-bytes_of text _ _ _ (begun at skip) = 0
-bytes_of text _ _ _ (went n from to s u path step) =
-    bytes_of text n from s path + made_by s step.move.token
+abbrev pub path_bytes : (text : List ℕ) (n at : ℕ) (s : State) → Path text n at s → ℕ
+path_bytes text _ _ _ (begun at skip) = 0
+path_bytes text _ _ _ (went n from to s u path step) =
+    path_bytes text n from s path + made_by s step.move.token
 
 -- a reading that has made so many bytes comes to this place in this state
 pub record Makes (text : List ℕ) (bytes at : ℕ) (s : State) : Type 0 where
   pub tokens : ℕ
   pub path : Path text tokens at s
-  pub sum : bytes ≡ bytes_of text tokens at s path
+  pub sum : bytes ≡ path_bytes text tokens at s path
 
 -- the text is read to its end, and no more bytes than the limit are made
 pub record MadeWithin (text : List ℕ) (limit : ℕ) : Type 0 where

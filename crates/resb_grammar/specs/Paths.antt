@@ -1,6 +1,6 @@
 -- The readings of a text, token by token.
 use Rattle.std.specs.Prelude.{◌≡◌, ℕ, suc, List, Some}
-use Rattle.resb_grammar.specs.Tokens.{Skip}
+use Rattle.resb_grammar.specs.Lexical.{Skip}
 use Rattle.resb_grammar.specs.Token.{Token, Means}
 use Rattle.resb_grammar.specs.State.{State, start}
 use Rattle.resb_grammar.specs.Next.{next}

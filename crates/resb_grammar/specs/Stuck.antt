@@ -1,7 +1,7 @@
 -- Where a reading cannot go on, and what is expected there.
 use Rattle.std.specs.Prelude.{◌≡◌, ℕ, Bool, true, false, ◌==◌, List, length, None, slice_index}
 use Rattle.resb_grammar.specs.Ascii as ascii
-use Rattle.resb_grammar.specs.Tokens.{Text}
+use Rattle.resb_grammar.specs.Lexical.{Text}
 use Rattle.resb_grammar.specs.Group.{hex_bytes}
 use Rattle.resb_grammar.specs.Machine.{Body, table_body, array_body, untyped_body, Open}
 use Rattle.resb_grammar.specs.Machine.{VectorStage, at_start, after_comma, State, start, named}

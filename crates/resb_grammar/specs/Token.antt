@@ -1,7 +1,7 @@
 -- The tokens of a text, and what each means in it.
 use Rattle.std.specs.Prelude.{◌≡◌, ℕ, ◌+◌, Bool, List, slice_index}
 use Rattle.resb_grammar.specs.Ascii as ascii
-use Rattle.resb_grammar.specs.Tokens.{Text, Number}
+use Rattle.resb_grammar.specs.Lexical.{Text, Number}
 use Rattle.resb_grammar.specs.GroupTypes.{Kind, GroupType, RootType}
 
 -- a string, a number, a brace, a comma, a type, or a type of the root

@@ -1,13 +1,15 @@
 //! The text form of resource bundles as definitions: its grammar, the readings of a text token by
-//! token, and the laws of both. What both text forms need beside stands here too: the bytes of hex
-//! digits, and lists of keys.
+//! token, and the laws of both. What both text forms need beside stands here too: the types that a
+//! group may name, the bytes of hex digits, and lists of keys.
 #![tactic(auto)]
 
 mod expected;
+mod group_kind;
 mod hex_pairs;
 mod key_list;
 pub mod laws;
 
 pub use expected::Expected;
+pub use group_kind::{Kind, kind_named};
 pub use hex_pairs::bytes_of_hex;
 pub use key_list::list_once;

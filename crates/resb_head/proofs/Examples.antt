@@ -4,7 +4,7 @@ use Rattle.std.specs.Char.Utf16.{utf16_chars}
 use Rattle.resb_tree.specs.Tree.{Tree, string, table, no_entries, entry}
 use Rattle.resb_format.specs.Bytes.{units_of, words_of}
 use Rattle.resb_format.specs.Strings.{string_at, text_at, key_at}
-use Rattle.resb_format.specs.Content.{content}
+use Rattle.resb_format.specs.Content.{content_at}
 use Rattle.resb_format.specs.Denotes.{den_pairs, den_unit, pairs_none, pairs_more}
 use Rattle.resb_format.proofs.Examples.{ascii_key}
 use Rattle.resb_head.specs.File.{IsBundleFile, parts_of, Denotes, budget}
@@ -47,7 +47,7 @@ empty_head = record {
 }
 
 empty_denotes : Denotes empty_bundle (table no_entries) 1
-unfolding empty_bundle units_of words_of parts_of content
+unfolding empty_bundle units_of words_of parts_of content_at
 empty_denotes = record { head = empty_head; root = den_pairs refl pairs_none }
 
 flat_head : IsBundleFile flat_bundle
@@ -72,7 +72,7 @@ flat_tree : Tree
 flat_tree = table (entry (107 ∷ []) (string (118 ∷ [])) no_entries)
 
 flat_denotes : Denotes flat_bundle flat_tree 2
-unfolding flat_bundle flat_tree units_of words_of parts_of content string_at text_at key_at
+unfolding flat_bundle flat_tree units_of words_of parts_of content_at string_at text_at key_at
     utf16_chars lib.Utf8.encode
 flat_denotes =
     let key : key_at (parts_of flat_bundle).keys 32 ≡ Some (107 ∷ []) =

@@ -14,7 +14,7 @@ use Rattle.resb_head.specs.Laws.{IsHeader, BundleFilePasses}
 use Rattle.resb_head.specs.HeadChecks.{first_fault, header_checks, header_fault, index_checks}
 use Rattle.resb_head.specs.HeadChecks.{index_fault, support_checks, block_checks, body_checks}
 use Rattle.resb_head.specs.HeadChecks.{file_checks, file_fault}
-use Rattle.resb_head.proofs.HeadSteps.{le_true, not_at_most}
+use Rattle.resb_head.proofs.HeadSteps.{nat_le_holds, not_at_most}
 use Rattle.resb_head.proofs.HeaderSteps.{none_before, some_before}
 use Rattle.resb_head.proofs.IndexSteps.{index_holds}
 use Rattle.resb_head.proofs.SupportSteps.{support_holds}
@@ -57,7 +57,7 @@ pub end_missing : (body : List ℕ) (e : ReadingError) → 4 * get_or (words_of 
 unfolding block_checks
 end_missing body e h k r =
     rw (
-      le_true (4 * get_or (words_of body) 2 0) (length body) h,
+      nat_le_holds (4 * get_or (words_of body) 2 0) (length body) h,
       not_at_most 7 (get_or (words_of body) 1 0) k,
       r.kind_is,
       r.message_is,
@@ -68,7 +68,7 @@ both_false a b c d (inl h) = rw (not_at_most a b h) refl
 both_false a b c d (inr h) = grind (arith, nat_tests)
 
 both_true : (a b c d : ℕ) → a ≤ b → c ≤ d → (nat_le a b && nat_le c d) ≡ true
-both_true a b c d h k = rw (le_true a b h, le_true c d k) refl
+both_true a b c d h k = rw (nat_le_holds a b h, nat_le_holds c d k) refl
 
 both_are : (a b c d : ℕ) → (nat_le a b && nat_le c d) ≡ true → (a ≤ b) × (c ≤ d)
 both_are a b c d e = (grind (arith, nat_tests), grind (arith, nat_tests))
@@ -82,8 +82,8 @@ pub block_past : (body : List ℕ) (e : ReadingError) → 4 * get_or (words_of b
 unfolding block_checks
 block_past body e h k l r =
     rw (
-      le_true (4 * get_or (words_of body) 2 0) (length body) h,
-      le_true 7 (get_or (words_of body) 1 0) k,
+      nat_le_holds (4 * get_or (words_of body) 2 0) (length body) h,
+      nat_le_holds 7 (get_or (words_of body) 1 0) k,
       both_false (get_or (words_of body) 2 0) (get_or (words_of body) 7 0)
           (4 * get_or (words_of body) 7 0) (length body) l,
       r.kind_is,
@@ -97,8 +97,8 @@ pub blocks_hold : (body : List ℕ) → 4 * get_or (words_of body) 2 0 ≤ lengt
 unfolding block_checks
 blocks_hold body h k l m =
     rw (
-      le_true (4 * get_or (words_of body) 2 0) (length body) h,
-      le_true 7 (get_or (words_of body) 1 0) k,
+      nat_le_holds (4 * get_or (words_of body) 2 0) (length body) h,
+      nat_le_holds 7 (get_or (words_of body) 1 0) k,
       both_true (get_or (words_of body) 2 0) (get_or (words_of body) 7 0)
           (4 * get_or (words_of body) 7 0) (length body) l m,
     ) refl
@@ -121,14 +121,14 @@ pub index_answers : (body : List ℕ) (g : Refusal) → 4 ≤ length body
     → index_fault (drop 4 body) ≡ Some g → first_fault (body_checks body) ≡ Some g
 unfolding body_checks index_fault
 index_answers body g h e =
-    rw (le_true 4 (length body) h)
+    rw (nat_le_holds 4 (length body) h)
     (some_before (index_checks (drop 4 body)) (block_checks body) g e)
 
 pub blocks_answer : (body : List ℕ) → 4 ≤ length body → index_fault (drop 4 body) ≡ None
     → first_fault (body_checks body) ≡ first_fault (block_checks body)
 unfolding body_checks index_fault
 blocks_answer body h e =
-    rw (le_true 4 (length body) h)
+    rw (nat_le_holds 4 (length body) h)
     (none_before (index_checks (drop 4 body)) (block_checks body) e)
 
 -- the parts of a body, cut out of it

@@ -20,8 +20,8 @@ use Rattle.resb_head.specs.declared.version.FormatVersion.TheVariants.{V1_0, V1_
 use Rattle.resb_head.specs.declared.version.FormatVersion.TheVariants.{V2_0, V3_0}
 
 -- tests of numbers and bytes
-pub le_true : (a b : ℕ) → a ≤ b → nat_le a b ≡ true
-le_true a b h = grind (arith, nat_tests)
+pub nat_le_holds : (a b : ℕ) → a ≤ b → nat_le a b ≡ true
+nat_le_holds a b h = grind (arith, nat_tests)
 
 pub not_at_most : (a b : ℕ) → b < a → nat_le a b ≡ false
 not_at_most a b h = grind (arith, nat_tests)
@@ -29,8 +29,8 @@ not_at_most a b h = grind (arith, nat_tests)
 pub equal_texts : (a b : List ℕ) → a ≡ b → bytes_eq a b ≡ true
 equal_texts a b e = (bytes_eq-Decides a b).1 e
 
-pub same_false : (a b : List ℕ) → a ≢ b → bytes_eq a b ≡ false
-same_false a b h =
+pub bytes_eq_fails : (a b : List ℕ) → a ≢ b → bytes_eq a b ≡ false
+bytes_eq_fails a b h =
     elim (bytes_eq a b) as (λ t. bytes_eq a b ≡ t → t ≡ false)
     [ true ↦ (λ e. absurd (h ((bytes_eq-Decides a b).0 e))) | false ↦ (λ e. refl) ] refl
 
@@ -48,12 +48,12 @@ a_version v bs e = rw (← e) (each v)
 pub no_version : (bs : List ℕ) → ((v : FormatVersion) → version_bytes v ≢ bs)
     → is_version bs ≡ false
 no_version bs h = rw (
-  same_false (version_bytes V1_0) bs (h V1_0),
-  same_false (version_bytes V1_1) bs (h V1_1),
-  same_false (version_bytes V1_2) bs (h V1_2),
-  same_false (version_bytes V1_3) bs (h V1_3),
-  same_false (version_bytes V2_0) bs (h V2_0),
-  same_false (version_bytes V3_0) bs (h V3_0),
+  bytes_eq_fails (version_bytes V1_0) bs (h V1_0),
+  bytes_eq_fails (version_bytes V1_1) bs (h V1_1),
+  bytes_eq_fails (version_bytes V1_2) bs (h V1_2),
+  bytes_eq_fails (version_bytes V1_3) bs (h V1_3),
+  bytes_eq_fails (version_bytes V2_0) bs (h V2_0),
+  bytes_eq_fails (version_bytes V3_0) bs (h V3_0),
 ) refl
 
 pub endianness_small : (x : Endianness) → endianness_number x ≤ 1
@@ -82,12 +82,12 @@ pub order_stands : (any : Bool) (bs : List ℕ) (x : Endianness) → endianness_
     → (any ≡ true) ⊎ (get_or bs 4 0 ≡ 0) → Order any bs
 order_stands any bs x e (inl a) =
     record {
-      known = le_true (get_or bs 4 0) 1 (omega (arith, endianness_small x));
+      known = nat_le_holds (get_or bs 4 0) 1 (omega (arith, endianness_small x));
       own = rw a refl;
     }
 order_stands any bs x e (inr z) =
     record {
-      known = le_true (get_or bs 4 0) 1 (omega arith);
+      known = nat_le_holds (get_or bs 4 0) 1 (omega arith);
       own = or_right any (nat_eq (get_or bs 4 0) 0) (rw z refl);
     }
 
@@ -112,7 +112,7 @@ pub order_fails : (any : Bool) (bs : List ℕ) (e : ReadingError) → get_or bs 
     → first_fault (info_checks any bs) ≡ Some (refusal_of e)
 unfolding info_checks
 order_fails any bs e h a r =
-    rw (le_true (get_or bs 4 0) 1 (omega arith), a, h, r.kind_is, r.message_is) refl
+    rw (nat_le_holds (get_or bs 4 0) 1 (omega arith), a, h, r.kind_is, r.message_is) refl
 
 pub charset_fails : (any : Bool) (bs : List ℕ) (e : ReadingError) → Order any bs
     → ((x : CharsetFamily) → charset_number x ≢ get_or bs 5 0)

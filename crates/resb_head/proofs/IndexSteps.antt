@@ -5,7 +5,7 @@ use Rattle.resb_format.specs.Bytes.{words_of}
 use Rattle.resb_format.specs.Error.{IsInvalid, IsEndOfInput, refusal_of}
 use Rattle.resb_format.specs.declared.error.ReadingError.{ReadingError}
 use Rattle.resb_head.specs.HeadChecks.{index_fault, index_checks}
-use Rattle.resb_head.proofs.HeadSteps.{le_true, not_at_most}
+use Rattle.resb_head.proofs.HeadSteps.{nat_le_holds, not_at_most}
 
 pub no_count : (bs : List ℕ) (e : ReadingError) → length bs < 4
     → IsEndOfInput e → index_fault bs ≡ Some (refusal_of e)
@@ -17,7 +17,7 @@ pub small_count : (bs : List ℕ) (n : ℕ) (e : ReadingError) → n ≡ get_or 
     → index_fault bs ≡ Some (refusal_of e)
 unfolding index_fault index_checks
 small_count bs n e w h k r =
-    rw (le_true 4 (length bs) h, ← w, not_at_most 5 n k, r.kind_is, r.message_is) refl
+    rw (nat_le_holds 4 (length bs) h, ← w, not_at_most 5 n k, r.kind_is, r.message_is) refl
 
 pub no_word : (bs : List ℕ) (n : ℕ) (e : ReadingError) → n ≡ get_or (words_of bs) 0 0
     → 4 ≤ length bs → 5 ≤ n → length bs < 4 * min n 8
@@ -25,9 +25,9 @@ pub no_word : (bs : List ℕ) (n : ℕ) (e : ReadingError) → n ≡ get_or (wor
 unfolding index_fault index_checks
 no_word bs n e w h k l r =
     rw (
-      le_true 4 (length bs) h,
+      nat_le_holds 4 (length bs) h,
       ← w,
-      le_true 5 n k,
+      nat_le_holds 5 n k,
       not_at_most (4 * min n 8) (length bs) l,
       r.kind_is,
       r.message_is,
@@ -37,4 +37,10 @@ pub index_holds : (bs : List ℕ) (n : ℕ) → n ≡ get_or (words_of bs) 0 0 �
     → 4 * min n 8 ≤ length bs → index_fault bs ≡ None
 unfolding index_fault index_checks
 index_holds bs n w h k l =
-    rw (le_true 4 (length bs) h, ← w, le_true 5 n k, le_true (4 * min n 8) (length bs) l) refl
+    rw (
+      nat_le_holds 4 (length bs) h,
+      ← w,
+      nat_le_holds 5 n k,
+      nat_le_holds (4 * min n 8)
+          (length bs) l,
+    ) refl

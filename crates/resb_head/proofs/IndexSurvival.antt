@@ -20,7 +20,7 @@ use Rattle.resb_head.specs.Head.{IndexAt, field, index_words, index_bytes}
 use Rattle.resb_head.specs.HeadChecks.{index_fault}
 use Rattle.resb_head.specs.HeadReading.{ReadsIndex}
 use Rattle.resb_head.specs.declared.index.BinIndex.{BinIndex}
-use Rattle.resb_head.proofs.HeadSteps.{le_true, not_at_most}
+use Rattle.resb_head.proofs.HeadSteps.{nat_le_holds, not_at_most}
 use Rattle.resb_head.proofs.IndexSteps.{index_holds}
 
 -- one field more, where the count asks for it
@@ -42,7 +42,7 @@ one_more : (ws : List ℕ) (n k : ℕ) → min n (k + 1) ≤ length ws
     → take (min n (k + 1)) ws ≡ take (min n k) ws
     ++ option_to_list (if nat_le (k + 1) n then Some (get_or ws k 0) else None)
 one_more ws n k l = elim (le_cases (k + 1) n) [
-  | inl h ↦ rw (le_true (k + 1) n h) (more_yes ws n k h (omega arith))
+  | inl h ↦ rw (nat_le_holds (k + 1) n h) (more_yes ws n k h (omega arith))
   | inr h ↦ rw (not_at_most (k + 1) n h) (more_no ws n k (omega arith))
 ]
   where

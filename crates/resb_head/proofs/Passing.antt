@@ -11,7 +11,7 @@ use Rattle.resb_format.specs.Bytes.{unit_in}
 use Rattle.resb_head.specs.Laws.{IsHeader, HeaderPasses}
 use Rattle.resb_head.specs.HeadChecks.{first_fault, info_checks, header_checks, header_fault}
 use Rattle.resb_head.specs.HeadChecks.{is_version}
-use Rattle.resb_head.proofs.HeadSteps.{le_true, equal_texts}
+use Rattle.resb_head.proofs.HeadSteps.{nat_le_holds, equal_texts}
 use Rattle.resb_head.proofs.HeaderSteps.{header_holds}
 
 -- each test is true
@@ -77,9 +77,9 @@ passing any bs h =
     let f4 : get_or (drop 4 bs) 4 0 ≡ get_or bs 8 0 = get_or-drop 4 bs 4 0 in
     let f5 : get_or (drop 4 bs) 5 0 ≡ get_or bs 9 0 = get_or-drop 4 bs 5 0 in
     let t : Tests any (drop 4 bs) = record {
-      known = ap (λ k. nat_le k 1) f4 ∙ le_true (get_or bs 8 0) 1 h.known_endianness;
+      known = ap (λ k. nat_le k 1) f4 ∙ nat_le_holds (get_or bs 8 0) 1 h.known_endianness;
       own = ap (λ k. any || nat_eq k 0) f4 ∙ zero_or any (get_or bs 8 0) h.own_endianness;
-      charset = ap (λ k. nat_le k 1) f5 ∙ le_true (get_or bs 9 0) 1 h.known_charset;
+      charset = ap (λ k. nat_le k 1) f5 ∙ nat_le_holds (get_or bs 9 0) 1 h.known_charset;
       format = equal_texts _ _ (range_behind_four bs 8 12 ∙ h.format);
       version = ap is_version (range_behind_four bs 12 16) ∙ h.version;
     } in

@@ -6,7 +6,7 @@ use Rattle.resb_format.specs.Error.{IsRefusal, refusal_of}
 use Rattle.resb_format.specs.declared.error.ReadingError.{ReadingError}
 use Rattle.resb_format.specs.declared.error.ErrorKind.TheVariants.{UnsupportedFormat}
 use Rattle.resb_head.specs.HeadChecks.{first_fault, support_checks}
-use Rattle.resb_head.proofs.HeadSteps.{same_false}
+use Rattle.resb_head.proofs.HeadSteps.{bytes_eq_fails}
 
 eq_false : (a b : ℕ) → a ≢ b → nat_eq a b ≡ false
 eq_false a b h = grind (arith, nat_tests, h)
@@ -30,7 +30,14 @@ pub version_fails : (info : List ℕ) (e : ReadingError) → get_or info 5 0 ≡
     → first_fault (support_checks info) ≡ Some (refusal_of e)
 unfolding support_checks
 version_fails info e a b h r =
-    rw (a, b, same_false (slice_range info 12 16) (2 ∷ 0 ∷ 0 ∷ 0 ∷ []) h, r.kind_is, r.message_is)
+    rw (
+      a,
+      b,
+      bytes_eq_fails (slice_range info 12 16) (2 ∷ 0 ∷ 0 ∷ 0
+          ∷ []) h,
+      r.kind_is,
+      r.message_is,
+    )
     refl
 
 pub support_holds : (info : List ℕ) → get_or info 5 0 ≡ 0 → get_or info 6 0 ≡ 2

@@ -8,13 +8,13 @@ ghost use Rattle.resb_head.specs.Inner.Checked.{ReadsBody, ReadsBlocks};
 use crate::head::BinHeader;
 use crate::index::BinIndex;
 use resb_format::bytes::word_at;
-use resb_format::{BinaryDeserializerError, File};
+use resb_format::{BinaryDeserializerError, BodyParts};
 
 /// The parts of a file whose head passes every check. (ICU's `uresdata.h`.)
 #[derive(Clone, Copy)]
 pub struct FileParts<'de> {
     /// The body and its two blocks.
-    pub file: File<'de>,
+    pub file: BodyParts<'de>,
     /// The root's descriptor.
     pub root: u32,
 }
@@ -64,7 +64,7 @@ impl<'de> FileParts<'de> {
         }
         let (front, _) = body.split_at(block_end);
         let (keys, block) = front.split_at(keys_end);
-        let file = File { body, keys, block };
+        let file = BodyParts { body, keys, block };
         let root = word_at(body, 0);
         Ok(FileParts { file, root })
     }

@@ -11,7 +11,7 @@ use Rattle.resb_icu_grammar.specs.Escapes.{Escape, itself, line_feed, carriage_r
 use Rattle.resb_icu_grammar.specs.Escapes.{four_digits, eight_digits}
 use Rattle.resb_icu_grammar.specs.Pieces.{ends, byte, escape, Joined, last_piece, one_more}
 use Rattle.resb_icu_grammar.specs.Words as words
-use Rattle.resb_icu_grammar.specs.Words.{Word, String, a_word, KeyText, Name, Number}
+use Rattle.resb_icu_grammar.specs.Words.{Word, Text, a_word, KeyText, Name, Number}
 use Rattle.resb_icu_grammar.specs.Groups.{Group, untyped, an_empty_array, one_string, no_entry}
 use Rattle.resb_icu_grammar.specs.Groups.{one_entry}
 use Rattle.resb_icu_grammar.specs.Bundle.{without, IcuText}

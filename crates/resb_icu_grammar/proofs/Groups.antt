@@ -10,8 +10,8 @@ use Rattle.resb_grammar.specs.BundleText.{first_places}
 use Rattle.resb_tree.specs.Tree.{Tree, string, array, table, binary, integer, int_vector}
 use Rattle.resb_tree.specs.Tree.{trees_of, map_of}
 use Rattle.resb_icu_grammar.specs.Blanks.{Skip}
-use Rattle.resb_icu_grammar.specs.Words.{String, KeyText, Name, Number}
-use Rattle.resb_icu_grammar.specs.Groups.{Head, Numbers, last_number, last_comma, one_more}
+use Rattle.resb_icu_grammar.specs.Words.{Text, KeyText, Name, Number}
+use Rattle.resb_icu_grammar.specs.Groups.{TypedOpening, Numbers, last_number, last_comma, one_more}
 use Rattle.resb_icu_grammar.specs.Groups.{LeafContent, string_content, binary_content}
 use Rattle.resb_icu_grammar.specs.Groups.{integer_content, no_numbers, numbers, Last, nothing}
 use Rattle.resb_icu_grammar.specs.Groups.{a_string, a_group, a_comma}
@@ -31,7 +31,7 @@ abbrev pub Closes : List ℕ → ℕ → Type 0
 Closes text at = slice_index text at ≡ ascii.right_brace
 
 -- no string begins with this byte
-pub no_string : (text : List ℕ) (at to b : ℕ) (s : List ℕ) → String text at to s
+pub no_string : (text : List ℕ) (at to b : ℕ) (s : List ℕ) → Text text at to s
     → slice_index text at ≡ b → starts_string b ≡ false → ⊥
 no_string text at to b s h e f =
     false≢true (sym f ∙ ap starts_string (sym e) ∙ string_first text at to s h)
@@ -53,13 +53,14 @@ no_group text from to b t ks g e p q =
 
 -- where a group begins no string does
 pub no_both : (text : List ℕ) (from i to : ℕ) (s : List ℕ) (t : Tree) (ks : List (List ℕ))
-    → String text from i s → Group text from to t ks → ⊥
+    → Text text from i s → Group text from to t ks → ⊥
 no_both text from i to s t ks h g =
     ⊎_elim (λ (e : slice_index text from ≡ ascii.left_brace). no_string text from i _ s h e refl)
     (λ (e : slice_index text from ≡ ascii.colon). no_string text from i _ s h e refl)
     (group_first text from to t ks g)
 
-pub Head-one : (text : List ℕ) (from a b : ℕ) (k l : Kind) → Head text from k a → Head text from l b
+pub Head-one : (text : List ℕ) (from a b : ℕ) (k l : Kind) → TypedOpening text from k a
+    → TypedOpening text from l b
     → (k ≡ l) × (a ≡ b)
 Head-one text from a b k l p q =
     let named = GroupType-one text from p.ends q.ends k l p.named q.named in
@@ -135,8 +136,8 @@ Numbers-one text from a b ns ms (one_more _ i m o _ v us p k h x r)
     (more.0, (λ u. both.1 u ∷ more.1 u))
 
 -- a string, and the blanks behind it
-pub string_skipped : (text : List ℕ) (from i j a b : ℕ) (s t : List ℕ) → String text from i s
-    → Skip text i a → String text from j t → Skip text j b → (a ≡ b) × (s ≡ t)
+pub string_skipped : (text : List ℕ) (from i j a b : ℕ) (s t : List ℕ) → Text text from i s
+    → Skip text i a → Text text from j t → Skip text j b → (a ≡ b) × (s ≡ t)
 string_skipped text from i j a b s t p k q l =
     let both = String-one text from i j s t p q in
     (Skip-one text i a b k (subst (λ n. Skip text n b) (sym both.0) l), both.1)
@@ -176,7 +177,7 @@ no_array text at (with_a_group h) c =
 no_array text at (with_a_string i k s p l e) c = no_string text at i _ s p c refl
 
 -- where one string is closed no array begins
-pub no_string_array : (text : List ℕ) (from i a : ℕ) (s : List ℕ) → String text from i s
+pub no_string_array : (text : List ℕ) (from i a : ℕ) (s : List ℕ) → Text text from i s
     → Skip text i a → Closes text a → BeginsArray text from → ⊥
 no_string_array text from i a s p k c (with_a_group h) =
     ⊎_elim (λ (e : slice_index text from ≡ ascii.left_brace). no_string text from i _ s p e refl)
@@ -186,7 +187,7 @@ no_string_array text from i a s p k c (with_a_string j m q x l e) =
 
 -- where one string is closed no entry begins
 pub no_string_table : (text : List ℕ) (from i i' a j m : ℕ) (s q : List ℕ) (v : Tree)
-    (zs : List (List ℕ)) → String text from i s → Skip text i a → KeyText text from i' q
+    (zs : List (List ℕ)) → Text text from i s → Skip text i a → KeyText text from i' q
     → Skip text i' j → Group text j m v zs → Closes text a → ⊥
 no_string_table text from i i' a j m s q v zs p k x l g c =
     let e : a ≡ j = (string_skipped text from i i' a j s q p k (key_string text from i' q x) l).0 in

@@ -7,20 +7,22 @@ use Rattle.std.proofs.lemmas.Bool.{false≢true}
 use Rattle.std.proofs.lemmas.Bool.Decides.{nat_tests}
 use Rattle.resb_grammar.specs.Ascii as ascii
 use Rattle.resb_grammar.specs.ByteRuns.{is_white, is_digit}
-use Rattle.resb_grammar.specs.Tokens as plain
+use Rattle.resb_grammar.specs.Lexical as plain
 use Rattle.resb_grammar.specs.GroupTypes.{Kind, Names, NoFallback}
 use Rattle.resb_grammar.proofs.ByteRunsLemmas.{Run-one}
-use Rattle.resb_grammar.proofs.Unique.{meet, FirstCloser-one, Digits-one, Names-one}
+use Rattle.resb_grammar.proofs.Unique.{places_meet, FirstCloser-one, Digits-one, Names-one}
 use Rattle.resb_icu_grammar.specs.Bytes.{is_word}
 use Rattle.resb_icu_grammar.specs.Blanks.{Begins, behind_the_mark, without_a_mark}
-use Rattle.resb_icu_grammar.specs.Blanks.{ends_line, LineRest, Comment, line, block, Blanks, none}
+use Rattle.resb_icu_grammar.specs.Blanks.{LineRest, Comment, line, block, Blanks, none}
+use Rattle.resb_grammar.specs.ByteRuns.{is_line_end}
 use Rattle.resb_icu_grammar.specs.Blanks.{white, comment, IsSolid, Skip}
 use Rattle.resb_icu_grammar.specs.Escapes.{Escape, itself, line_feed, carriage_return, tab}
 use Rattle.resb_icu_grammar.specs.Escapes.{four_digits, eight_digits}
-use Rattle.resb_icu_grammar.specs.Pieces.{Inside, ends, byte, escape, Piece, Joined, last_piece}
+use Rattle.resb_icu_grammar.specs.Pieces.{QuotedBytes, ends, byte, escape, QuotedPiece, Joined}
+use Rattle.resb_icu_grammar.specs.Pieces.{last_piece}
 use Rattle.resb_icu_grammar.specs.Pieces.{one_more}
 use Rattle.resb_icu_grammar.specs.Words as words
-use Rattle.resb_icu_grammar.specs.Words.{Word, String, a_word, quoted, KeyText, Name, Digits}
+use Rattle.resb_icu_grammar.specs.Words.{Word, Text, a_word, quoted, KeyText, Name, Digits}
 use Rattle.resb_icu_grammar.specs.Words.{Number}
 use Rattle.resb_icu_grammar.specs.Words.{unsigned, plus, minus, TypeName, GroupType, RootType}
 use Rattle.resb_icu_grammar.specs.Words.{table_type, no_fallback_type}
@@ -36,12 +38,12 @@ line_stops : (text : List ℕ) (from a b : ℕ) → LineRest text from a → Lin
     → ⊥
 line_stops text from a b p q w =
     ⊎_elim (λ (e : a ≡ length text). let f : b ≤ length text = q.fits in omega arith)
-    (λ (e : ends_line (slice_index text a) ≡ true).
+    (λ (e : is_line_end (slice_index text a) ≡ true).
     false≢true (sym (q.inner a p.order w) ∙ e)) p.ends
 
 LineRest-one : (text : List ℕ) (from a b : ℕ) → LineRest text from a → LineRest text from b → a ≡ b
 LineRest-one text from a b p q =
-    meet a b (line_stops text from a b p q) (line_stops text from b a q p)
+    places_meet a b (line_stops text from a b p q) (line_stops text from b a q p)
 
 Comment-one : (text : List ℕ) (from a b : ℕ) → Comment text from a → Comment text from b → a ≡ b
 Comment-one text from a b (line h k r) (line h' k' r') = LineRest-one text (from + 2) a b r r'
@@ -128,8 +130,8 @@ Escape-one text at a b s t (eight_digits c h x e y z) (eight_digits d k x' e' y'
     (refl, ap encode_utf8 (e ∙ sym e'))
 
 -- what stands inside quotes has one end and says one thing
-pub Inside-one : (text : List ℕ) (at a b : ℕ) (s t : List ℕ) → Inside text at a s
-    → Inside text at b t
+pub Inside-one : (text : List ℕ) (at a b : ℕ) (s t : List ℕ) → QuotedBytes text at a s
+    → QuotedBytes text at b t
     → (a ≡ b) × (s ≡ t)
 Inside-one text at a b s t (ends _ h) (ends _ k) = (refl, refl)
 Inside-one text at a b s t (ends _ h) (byte _ _ us f k l r) = absurd (k h)
@@ -143,12 +145,13 @@ Inside-one text at a b s t (escape _ n _ vs us k e r) (ends _ h) = absurd (omega
 Inside-one text at a b s t (escape _ n _ vs us k e r) (byte _ _ ws f h l r') = absurd (l k)
 Inside-one text at a b s t (escape _ n _ vs us k e r) (escape _ m _ xs ws h f r') =
     let first = Escape-one text (at + 1) n m vs xs e f in
-    let both = Inside-one text n a b us ws r (subst (λ i. Inside text i b ws) (sym first.0) r') in
+    let both = Inside-one text n a b us ws r
+    (subst (λ i. QuotedBytes text i b ws) (sym first.0) r') in
     (both.0, (λ i. first.1 i ++ both.1 i))
 
 -- so has a quoted piece
-pub Piece-one : (text : List ℕ) (from a b : ℕ) (s t : List ℕ) → Piece text from a s
-    → Piece text from b t → (a ≡ b) × (s ≡ t)
+pub Piece-one : (text : List ℕ) (from a b : ℕ) (s t : List ℕ) → QuotedPiece text from a s
+    → QuotedPiece text from b t → (a ≡ b) × (s ≡ t)
 Piece-one text from a b s t p q =
     let both = Inside-one text (from + 1) p.last q.last s t p.inside q.inside in
     (p.ends ∙ ap (λ n. n + 1) both.0 ∙ sym q.ends, both.1)
@@ -195,8 +198,8 @@ no_quote_word text from to s h w =
     false≢true (ap is_word (sym h) ∙ word_first text from to s w)
 
 -- a string has one end and says one thing
-pub String-one : (text : List ℕ) (from a b : ℕ) (s t : List ℕ) → String text from a s
-    → String text from b t → (a ≡ b) × (s ≡ t)
+pub String-one : (text : List ℕ) (from a b : ℕ) (s t : List ℕ) → Text text from a s
+    → Text text from b t → (a ≡ b) × (s ≡ t)
 String-one text from a b s t (a_word p) (a_word q) = Word-one text from a b s t p q
 String-one text from a b s t (a_word p) (quoted q) =
     absurd (no_quote_word text from a s (joined_first text from b t q) p)
@@ -208,7 +211,7 @@ String-one text from a b s t (quoted p) (quoted q) = Joined-one text from a b s 
 abbrev pub starts_string : ℕ → Bool
 starts_string b = b == ascii.quote || is_word b
 
-pub string_first : (text : List ℕ) (from to : ℕ) (s : List ℕ) → String text from to s
+pub string_first : (text : List ℕ) (from to : ℕ) (s : List ℕ) → Text text from to s
     → starts_string (slice_index text from) ≡ true
 string_first text from to s (a_word w) =
     ap (λ c. (slice_index text from == ascii.quote) || c) (word_first text from to s w) ∙ either _
@@ -220,7 +223,7 @@ string_first text from to s (quoted j) = ap starts_string (joined_first text fro
 
 -- a key is a string
 pub key_string : (text : List ℕ) (from to : ℕ) (s : List ℕ) → KeyText text from to s
-    → String text from to s
+    → Text text from to s
 key_string text from to s (words.a_word w k) = a_word w
 key_string text from to s (words.quoted j p n k) = quoted j
 

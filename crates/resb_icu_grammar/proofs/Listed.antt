@@ -6,7 +6,7 @@ use Rattle.std.specs.Prelude.{Contains}
 use Rattle.resb_tree.specs.Tree.{Tree, no_entries, trees_of, table, map_of}
 use Rattle.resb_tree.specs.Keys.{is_key, is_key_in}
 use Rattle.resb_grammar.specs.GroupTypes.{Kind}
-use Rattle.resb_grammar.proofs.Listed.{In, in_left, in_right, either, KeyOf, put_all_key}
+use Rattle.resb_grammar.proofs.Listed.{In, in_left, in_right, one_of_or, KeyOf, put_all_key}
 use Rattle.resb_grammar.proofs.Listed.{first_place, contains}
 use Rattle.resb_icu_grammar.specs.Groups.{Last, Members, no_member, string_member, group_member}
 use Rattle.resb_icu_grammar.specs.Groups.{comma_behind, Entries, no_entry, one_entry, Untyped}
@@ -41,7 +41,7 @@ mutual
       ⊎_elim (λ (w : is_key k t ≡ true). in_left k js ls (group_lists text from i t js g k w))
       (λ (w : is_key_in k (trees_of us) ≡ true).
       in_right k js ls (members_list text _ j to us ls r k w))
-      (either (is_key k t) (is_key_in k (trees_of us)) e)
+      (one_of_or (is_key k t) (is_key_in k (trees_of us)) e)
   members_list text last from to ts ks (comma_behind _ _ j _ _ _ x y z r) k e =
       members_list text _ j to ts ks r k e
 

@@ -8,7 +8,7 @@ use Rattle.resb_grammar.specs.Ascii as ascii
 use Rattle.resb_grammar.specs.GroupTypes.{Kind, array_kind, table_kind}
 use Rattle.resb_tree.specs.Tree.{Tree, array, table, trees_of, map_of}
 use Rattle.resb_icu_grammar.specs.Blanks.{Skip}
-use Rattle.resb_icu_grammar.specs.Groups.{Head, LeafContent, nothing}
+use Rattle.resb_icu_grammar.specs.Groups.{TypedOpening, LeafContent, nothing}
 use Rattle.resb_icu_grammar.specs.Groups.{Untyped}
 use Rattle.resb_icu_grammar.specs.Groups.{Typed, members, entries, leaf, Group, untyped, typed}
 use Rattle.resb_icu_grammar.specs.Inner.Rest.{Goal, InMembers, InEntries}
@@ -53,7 +53,7 @@ module _ (text : List ℕ) (goal : Goal) where
       }
 
   -- a type, its `{` and blanks begin a group of that type
-  pub typed_begins : (at i : ℕ) (kind : Kind) (ks : List (List ℕ)) → Head text at kind i
+  pub typed_begins : (at i : ℕ) (kind : Kind) (ks : List (List ℕ)) → TypedOpening text at kind i
       → Same (InGroup text goal at ks) (InTyped text goal kind i ks)
   typed_begins at i kind ks d m = (there, back)
     where
@@ -87,7 +87,7 @@ module _ (text : List ℕ) (goal : Goal) where
 
   -- where neither a brace nor a type with its brace stands, no group does
   pub no_group_begins : (at : ℕ) (ks : List (List ℕ)) → slice_index text at ≢ ascii.left_brace
-      → ((kind : Kind) (i : ℕ) → Head text at kind i → ⊥) → Never (InGroup text goal at ks)
+      → ((kind : Kind) (i : ℕ) → TypedOpening text at kind i → ⊥) → Never (InGroup text goal at ks)
   no_group_begins at ks e f m h = of_group h.to h.tree h.keys h.group
     where
       of_group : (to : ℕ) (t : Tree) (js : List (List ℕ)) → Group text at to t js → ⊥

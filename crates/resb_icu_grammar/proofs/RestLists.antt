@@ -8,9 +8,9 @@ use Rattle.std.proofs.lemmas.Bool.{false≢true}
 use Rattle.resb_grammar.specs.Ascii as ascii
 use Rattle.resb_tree.specs.Tree.{Tree, string, array, table, trees_of, map_of}
 use Rattle.resb_icu_grammar.specs.Blanks.{Skip}
-use Rattle.resb_icu_grammar.specs.Words.{String, KeyText}
+use Rattle.resb_icu_grammar.specs.Words.{Text, KeyText}
 use Rattle.resb_icu_grammar.specs.Groups.{Last, a_string}
-use Rattle.resb_icu_grammar.specs.Groups.{a_comma, is_member, is_string}
+use Rattle.resb_icu_grammar.specs.Groups.{a_comma, is_member, ends_in_string}
 use Rattle.resb_icu_grammar.specs.Groups.{Members, no_member, string_member}
 use Rattle.resb_icu_grammar.specs.Groups.{group_member, comma_behind, Entries, no_entry, one_entry}
 use Rattle.resb_icu_grammar.specs.Inner.Rest.{Goal, AreDistinct, InMembers, InEntries}
@@ -68,7 +68,7 @@ module _ (text : List ℕ) (goal : Goal) where
 
   -- a string is one member more
   pub string_is_member : (last : Last) (ts : List Tree) (at i j : ℕ) (s : List ℕ)
-      (ks : List (List ℕ)) → is_string last ≡ false → String text at i s → Skip text i j
+      (ks : List (List ℕ)) → ends_in_string last ≡ false → Text text at i s → Skip text i j
       → Same (InMembers text goal last ts at ks)
       (InMembers text goal a_string (ts ++ string s ∷ []) j ks)
   string_is_member last ts at i j s ks e p k m = (there, back)
@@ -115,7 +115,7 @@ module _ (text : List ℕ) (goal : Goal) where
 
   -- no string stands right behind a string
   pub no_second_string : (last : Last) (ts : List Tree) (at i : ℕ) (s : List ℕ)
-      (ks : List (List ℕ)) → is_string last ≡ true → String text at i s
+      (ks : List (List ℕ)) → ends_in_string last ≡ true → Text text at i s
       → Never (InMembers text goal last ts at ks)
   no_second_string last ts at i s ks e p m h = of_members h.to h.more h.keys h.members h.closes
     where
@@ -192,7 +192,7 @@ module _ (text : List ℕ) (goal : Goal) where
       other b e x y = ⊎_elim (λ (w : slice_index text at ≡ ascii.left_brace). x (sym e ∙ w))
           (λ (w : slice_index text at ≡ ascii.colon). y (sym e ∙ w)) f
 
-      no_text : (i : ℕ) (s : List ℕ) → String text at i s → ⊥
+      no_text : (i : ℕ) (s : List ℕ) → Text text at i s → ⊥
       no_text i s p = ⊎_elim
           (λ (w : slice_index text at ≡ ascii.left_brace). no_string text at i _ s p w refl)
           (λ (w : slice_index text at ≡ ascii.colon). no_string text at i _ s p w refl) f
@@ -254,7 +254,7 @@ module _ (text : List ℕ) (goal : Goal) where
   pub no_more_members : (last : Last) (ts : List Tree) (at : ℕ) (ks : List (List ℕ))
       → (Closes text at → ⊥) → slice_index text at ≢ ascii.comma
       → slice_index text at ≢ ascii.left_brace → slice_index text at ≢ ascii.colon
-      → ((i : ℕ) (s : List ℕ) → String text at i s → ⊥)
+      → ((i : ℕ) (s : List ℕ) → Text text at i s → ⊥)
       → Never (InMembers text goal last ts at ks)
   no_more_members last ts at ks a b d e f m h = of_members h.to h.more h.keys h.members h.closes
     where

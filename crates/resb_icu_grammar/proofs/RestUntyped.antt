@@ -7,7 +7,7 @@ use Rattle.std.specs.Prelude.{slice_index}
 use Rattle.resb_grammar.specs.Ascii as ascii
 use Rattle.resb_tree.specs.Tree.{Tree, string, array, table, trees_of, map_of}
 use Rattle.resb_icu_grammar.specs.Blanks.{Skip}
-use Rattle.resb_icu_grammar.specs.Words.{String, KeyText}
+use Rattle.resb_icu_grammar.specs.Words.{Text, KeyText}
 use Rattle.resb_icu_grammar.specs.Groups.{nothing}
 use Rattle.resb_icu_grammar.specs.Groups.{BeginsArray, with_a_group}
 use Rattle.resb_icu_grammar.specs.Groups.{with_a_string}
@@ -89,7 +89,7 @@ module _ (text : List ℕ) (goal : Goal) where
       }
 
   -- one string and a `}` are a String
-  pub untyped_string : (i j k : ℕ) (s : List ℕ) (ks : List (List ℕ)) → String text i j s
+  pub untyped_string : (i j k : ℕ) (s : List ℕ) (ks : List (List ℕ)) → Text text i j s
       → Skip text j k → Closes text k
       → Same (InUntyped text goal i ks) (goal (k + 1) (string s) ks)
   untyped_string i j k s ks p l c m = (there, back)
@@ -127,7 +127,7 @@ module _ (text : List ℕ) (goal : Goal) where
       → Same (InUntyped text goal i ks) (InEntries text goal [] i ks)
   untyped_table i j k s ks p l f m = (there, back)
     where
-      p' : String text i j s
+      p' : Text text i j s
       p' = key_string text i j s p
 
       other : (at b : ℕ) → at ≡ k → slice_index text at ≡ b → b ≢ ascii.left_brace
@@ -184,7 +184,7 @@ module _ (text : List ℕ) (goal : Goal) where
           }
 
   -- a string and neither a `}`, a comma nor a group behind it; or a group behind what is no key
-  pub no_untyped_string : (i j k : ℕ) (s : List ℕ) (ks : List (List ℕ)) → String text i j s
+  pub no_untyped_string : (i j k : ℕ) (s : List ℕ) (ks : List (List ℕ)) → Text text i j s
       → Skip text j k → (Closes text k → ⊥) → slice_index text k ≢ ascii.comma
       → ((slice_index text k ≡ ascii.left_brace) ⊎ (slice_index text k ≡ ascii.colon)
       → KeyText text i j s → ⊥)
@@ -204,7 +204,7 @@ module _ (text : List ℕ) (goal : Goal) where
           (string_skipped text i n j o k q s x y p l).0 e)
       of_untyped to _ js (a_table _ _ _ _ _ (one_entry _ n o q r _ y v es zs js' x l' z h' u w c)) d
           =
-          let x' : String text i n y = key_string text i n y x in
+          let x' : Text text i n y = key_string text i n y x in
           let both = String-one text i n j y s x' p in
           let next : o ≡ k = (string_skipped text i n j o k y s x' l' p l).0 in
           f (subst (λ w. (slice_index text w ≡ ascii.left_brace)
@@ -214,7 +214,7 @@ module _ (text : List ℕ) (goal : Goal) where
   -- nothing that may stand in a group without a type stands there
   pub no_untyped : (i : ℕ) (ks : List (List ℕ)) → (Closes text i → ⊥)
       → slice_index text i ≢ ascii.left_brace → slice_index text i ≢ ascii.colon
-      → ((j : ℕ) (s : List ℕ) → String text i j s → ⊥) → Never (InUntyped text goal i ks)
+      → ((j : ℕ) (s : List ℕ) → Text text i j s → ⊥) → Never (InUntyped text goal i ks)
   no_untyped i ks a b d f m h = of_untyped h.to h.tree h.keys h.content h.closes
     where
       of_untyped : (to : ℕ) (t : Tree) (js : List (List ℕ)) → Untyped text i to t js

@@ -1,10 +1,11 @@
 -- What stands between the tokens of ICU's text form: white characters and comments.
 -- A mark may stand at a text's start, before all else.
-use Rattle.std.specs.Prelude.{◌≡◌, ◌≤◌, ◌<◌, ◌+◌, ◌⊎◌, ◌||◌, ◌==◌, ℕ, Bool, true, false, List}
+use Rattle.std.specs.Prelude.{◌≡◌, ◌≤◌, ◌<◌, ◌+◌, ◌⊎◌, ℕ, true, false, List}
 use Rattle.std.specs.Prelude.{length, slice_index}
 use Rattle.resb_grammar.specs.Ascii as ascii
 use Rattle.resb_grammar.specs.ByteRuns.{is_white}
-use Rattle.resb_grammar.specs.Tokens.{FirstCloser}
+use Rattle.resb_grammar.specs.Lexical.{FirstCloser}
+use Rattle.resb_grammar.specs.ByteRuns.{is_line_end}
 
 -- the byte order mark, EF BB BF
 pub record HasMark (text : List ℕ) : Type 0 where
@@ -23,17 +24,13 @@ pub record IsParagraphEnd (text : List ℕ) (at : ℕ) : Type 0 where
   pub second : slice_index text (at + 1) ≡ 0x80
   pub third : slice_index text (at + 2) ≡ 0xa9
 
--- LF or CR
-abbrev pub ends_line : ℕ → Bool
-ends_line b = b == ascii.line_feed || b == ascii.carriage_return
-
 -- what follows `//` up to the first LF or CR, or to the text's end
 pub record LineRest (text : List ℕ) (from to : ℕ) : Type 0 where
   pub order : from ≤ to
   pub fits : to ≤ length text
-  pub inner : (k : ℕ) → from ≤ k → k < to → ends_line (slice_index text k) ≡ false
+  pub inner : (k : ℕ) → from ≤ k → k < to → is_line_end (slice_index text k) ≡ false
   pub plain : (k : ℕ) → from ≤ k → k < to → IsParagraphEnd text k → ⊥
-  pub ends : (to ≡ length text) ⊎ (ends_line (slice_index text to) ≡ true)
+  pub ends : (to ≡ length text) ⊎ (is_line_end (slice_index text to) ≡ true)
 
 -- a comment: `//` and the rest of the line; or `/*` and the first `*/` that begins at least one
 -- character behind it, so that `/**/` is still open

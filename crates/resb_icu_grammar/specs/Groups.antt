@@ -11,10 +11,10 @@ use Rattle.resb_grammar.specs.Group.{hex_bytes}
 use Rattle.resb_tree.specs.Tree.{Tree, string, array, table, binary, integer, int_vector}
 use Rattle.resb_tree.specs.Tree.{trees_of, map_of}
 use Rattle.resb_icu_grammar.specs.Blanks.{Skip}
-use Rattle.resb_icu_grammar.specs.Words.{String, KeyText, Number, GroupType}
+use Rattle.resb_icu_grammar.specs.Words.{Text, KeyText, Number, GroupType}
 
 -- a type, its `{`, and the blanks around that
-pub record Head (text : List ℕ) (from : ℕ) (kind : Kind) (to : ℕ) : Type 0 where
+pub record TypedOpening (text : List ℕ) (from : ℕ) (kind : Kind) (to : ℕ) : Type 0 where
   pub ends : ℕ
   pub brace : ℕ
   pub named : GroupType text from ends kind
@@ -34,9 +34,9 @@ pub data Numbers (text : List ℕ) : ℕ → ℕ → List ℕ → Type 0 where
 
 -- the content of a group that holds neither members nor entries
 pub data LeafContent (text : List ℕ) (from to : ℕ) : Kind → Tree → Type 0 where
-  string_content : (i : ℕ) (s : List ℕ) → String text from i s → Skip text i to
+  string_content : (i : ℕ) (s : List ℕ) → Text text from i s → Skip text i to
       → LeafContent text from to string_kind (string s)
-  binary_content : (i : ℕ) (s bytes : List ℕ) → String text from i s → hex_bytes s ≡ Some bytes
+  binary_content : (i : ℕ) (s bytes : List ℕ) → Text text from i s → hex_bytes s ≡ Some bytes
       → Skip text i to → LeafContent text from to binary_kind (binary bytes)
   integer_content : (i v : ℕ) → Number text from i v → Skip text i to
       → LeafContent text from to integer_kind (integer (v % 2 ^ 28))
@@ -59,15 +59,15 @@ is_member a_group = true
 is_member a_comma = false
 
 -- a string stands last, with no comma behind it
-abbrev pub is_string : Last → Bool
-is_string a_string = true
-is_string _ = false
+abbrev pub ends_in_string : Last → Bool
+ends_in_string a_string = true
+ends_in_string _ = false
 
 -- a group without a type is an array by what it begins with: a group, or a string and a comma
 pub data BeginsArray (text : List ℕ) (at : ℕ) : Type 0 where
   with_a_group : (slice_index text at ≡ ascii.left_brace) ⊎ (slice_index text at ≡ ascii.colon)
       → BeginsArray text at
-  with_a_string : (i k : ℕ) (s : List ℕ) → String text at i s → Skip text i k
+  with_a_string : (i k : ℕ) (s : List ℕ) → Text text at i s → Skip text i k
       → slice_index text k ≡ ascii.comma → BeginsArray text at
 
 -- among these entries none has this key
@@ -80,9 +80,9 @@ is_collation key =
     pointwise nat_eq key (codes "collations") || pointwise nat_eq key (codes "CollationElements")
 
 -- the tree is a table
-abbrev pub is_table : Tree → Bool
-is_table (table es) = true
-is_table _ = false
+abbrev pub holds_entries : Tree → Bool
+holds_entries (table es) = true
+holds_entries _ = false
 
 mutual
   -- the members of an array behind what stands last, and the keys of their tables in order of
@@ -90,7 +90,7 @@ mutual
   pub data Members (text : List ℕ) : Last → ℕ → ℕ → List Tree → List (List ℕ) → Type 0 where
     no_member : (last : Last) (at : ℕ) → Members text last at at [] []
     string_member : (last : Last) (from i j to : ℕ) (s : List ℕ) (ts : List Tree)
-        (ks : List (List ℕ)) → is_string last ≡ false → String text from i s → Skip text i j
+        (ks : List (List ℕ)) → ends_in_string last ≡ false → Text text from i s → Skip text i j
         → Members text a_string j to ts ks → Members text last from to (string s ∷ ts) ks
     group_member : (last : Last) (from i j to : ℕ) (t : Tree) (js ks : List (List ℕ))
         (ts : List Tree) → Group text from i t js → Skip text i j → Members text a_group j to ts ks
@@ -105,7 +105,7 @@ mutual
     no_entry : (at : ℕ) → Entries text at at [] []
     one_entry : (from i j m n to : ℕ) (k : List ℕ) (t : Tree) (es : List (List ℕ × Tree))
         (js ks : List (List ℕ)) → KeyText text from i k → Skip text i j → Group text j m t js
-        → (is_collation k && is_table t) ≡ false → Skip text m n → Entries text n to es ks
+        → (is_collation k && holds_entries t) ≡ false → Skip text m n → Entries text n to es ks
         → is_new k es ≡ true → Entries text from to ((k, t) ∷ es) (k ∷ js ++ ks)
 
   -- what stands in a group without a type
@@ -113,7 +113,7 @@ mutual
     -- nothing: an array
     an_empty_array : (at : ℕ) → Untyped text at at (array (trees_of [])) []
     -- one string
-    one_string : (from i to : ℕ) (s : List ℕ) → String text from i s → Skip text i to
+    one_string : (from i to : ℕ) (s : List ℕ) → Text text from i s → Skip text i to
         → Untyped text from to (string s) []
     -- an array, which begins with a group, or with a string and a comma
     an_array : (from to : ℕ) (ts : List Tree) (ks : List (List ℕ)) → BeginsArray text from
@@ -137,6 +137,7 @@ mutual
     untyped : (from i k : ℕ) (t : Tree) (ks : List (List ℕ))
         → slice_index text from ≡ ascii.left_brace → Skip text (from + 1) i → Untyped text i k t ks
         → slice_index text k ≡ ascii.right_brace → Group text from (k + 1) t ks
-    typed : (from i k : ℕ) (kind : Kind) (t : Tree) (ks : List (List ℕ)) → Head text from kind i
+    typed : (from i k : ℕ) (kind : Kind) (t : Tree) (ks : List (List ℕ))
+        → TypedOpening text from kind i
         → Typed text kind i k t ks → slice_index text k ≡ ascii.right_brace
         → Group text from (k + 1) t ks

@@ -5,10 +5,11 @@ use Rattle.resb_grammar.specs.Ascii as ascii
 use Rattle.resb_grammar.specs.GroupTypes.{Kind, array_kind, table_kind}
 use Rattle.resb_tree.specs.Tree.{Tree, string, array, table, trees_of, map_of}
 use Rattle.resb_icu_grammar.specs.Blanks.{Skip}
-use Rattle.resb_icu_grammar.specs.Words.{String, KeyText}
-use Rattle.resb_icu_grammar.specs.Groups.{Last, nothing, a_string, a_group, a_comma, Head}
-use Rattle.resb_icu_grammar.specs.Groups.{LeafContent, is_member, is_string, is_new, is_collation}
-use Rattle.resb_icu_grammar.specs.Groups.{is_table}
+use Rattle.resb_icu_grammar.specs.Words.{Text, KeyText}
+use Rattle.resb_icu_grammar.specs.Groups.{Last, nothing, a_string, a_group, a_comma, TypedOpening}
+use Rattle.resb_icu_grammar.specs.Groups.{LeafContent, is_member, ends_in_string, is_new}
+use Rattle.resb_icu_grammar.specs.Groups.{is_collation}
+use Rattle.resb_icu_grammar.specs.Groups.{holds_entries}
 
 -- what is open around a group: an array with the members before it, or a table with the entries
 -- before it and its key
@@ -65,7 +66,7 @@ pub data Move (text : List ℕ) (ws : List Waiting) (ks : List (List ℕ))
       → Move text ws ks (among_members last ts) at (reading ws ks (among_members a_comma ts) j)
   -- a string that is a member
   string_member : (last : Last) (ts : List Tree) (at i j : ℕ) (s : List ℕ)
-      → is_string last ≡ false → String text at i s → Skip text i j
+      → ends_in_string last ≡ false → Text text at i s → Skip text i j
       → Move text ws ks (among_members last ts) at
       (reading ws ks (among_members a_string (ts ++ string s ∷ [])) j)
   -- a group that is a member begins
@@ -85,7 +86,7 @@ pub data Move (text : List ℕ) (ws : List Waiting) (ks : List (List ℕ))
   group_opens : (at i : ℕ) → slice_index text at ≡ ascii.left_brace → Skip text (at + 1) i
       → Move text ws ks before_group at (reading ws ks in_untyped i)
   -- a type and its `{`
-  type_opens : (at i : ℕ) (kind : Kind) → Head text at kind i
+  type_opens : (at i : ℕ) (kind : Kind) → TypedOpening text at kind i
       → Move text ws ks before_group at (reading ws ks (in_typed kind) i)
   -- a group without a type that holds nothing is an array
   holds_nothing : (at : ℕ) → slice_index text at ≡ ascii.right_brace
@@ -95,11 +96,11 @@ pub data Move (text : List ℕ) (ws : List Waiting) (ks : List (List ℕ))
   begins_with_group : (at : ℕ) → BeginsGroup text at
       → Move text ws ks in_untyped at (reading ws ks (among_members nothing []) at)
   -- one that is a string
-  holds_string : (at i j : ℕ) (s : List ℕ) → String text at i s → Skip text i j
+  holds_string : (at i j : ℕ) (s : List ℕ) → Text text at i s → Skip text i j
       → slice_index text j ≡ ascii.right_brace
       → Move text ws ks in_untyped at (reading ws ks (behind_group (string s)) (j + 1))
   -- one that begins with a string and a comma is an array
-  begins_with_string : (at i j : ℕ) (s : List ℕ) → String text at i s → Skip text i j
+  begins_with_string : (at i j : ℕ) (s : List ℕ) → Text text at i s → Skip text i j
       → slice_index text j ≡ ascii.comma
       → Move text ws ks in_untyped at (reading ws ks (among_members a_string (string s ∷ [])) j)
   -- one that begins with a key and a group is a table
@@ -127,7 +128,7 @@ pub data Leave (text : List ℕ) (ks : List (List ℕ)) (t : Tree) (at : ℕ)
       (reading ws ks (among_members a_group (ts ++ t ∷ [])) j)
   -- it was the value of an entry, and holds no rules of collation
   was_value : (ws : List Waiting) (es : List (List ℕ × Tree)) (k : List ℕ) (j : ℕ)
-      → (is_collation k && is_table t) ≡ false → Skip text at j
+      → (is_collation k && holds_entries t) ≡ false → Skip text at j
       → Leave text ks t at (in_table es k ∷ ws)
       (reading ws ks (among_entries (es ++ (k, t) ∷ [])) j)
 

@@ -3,10 +3,10 @@ use Rattle.std.specs.Prelude.{◌≡◌, ◌≢◌, ◌≤◌, ◌<◌, ◌+◌,
 use Rattle.std.specs.Prelude.{slice_index, slice_range, codes}
 use Rattle.resb_grammar.specs.Ascii as ascii
 use Rattle.resb_grammar.specs.ByteRuns.{Run}
-use Rattle.resb_grammar.specs.Tokens as plain
+use Rattle.resb_grammar.specs.Lexical as plain
 use Rattle.resb_grammar.specs.GroupTypes.{Kind, Names, NoFallback}
 use Rattle.resb_icu_grammar.specs.Bytes.{is_word, are_key_bytes, backslash}
-use Rattle.resb_icu_grammar.specs.Pieces.{Joined, Piece}
+use Rattle.resb_icu_grammar.specs.Pieces.{Joined, QuotedPiece}
 
 -- a longest run of at least one word character
 pub record Word (text : List ℕ) (from to : ℕ) (bytes : List ℕ) : Type 0 where
@@ -15,9 +15,9 @@ pub record Word (text : List ℕ) (from to : ℕ) (bytes : List ℕ) : Type 0 wh
   pub means : bytes ≡ slice_range text from to
 
 -- a string: a word, or all quoted pieces in a row
-pub data String (text : List ℕ) (from to : ℕ) (bytes : List ℕ) : Type 0 where
-  a_word : Word text from to bytes → String text from to bytes
-  quoted : Joined text from to bytes → String text from to bytes
+pub data Text (text : List ℕ) (from to : ℕ) (bytes : List ℕ) : Type 0 where
+  a_word : Word text from to bytes → Text text from to bytes
+  quoted : Joined text from to bytes → Text text from to bytes
 
 -- between these places stands no backslash
 abbrev pub HasNoEscape : List ℕ → ℕ → ℕ → Type 0
@@ -27,7 +27,7 @@ HasNoEscape text from to = (k : ℕ) → from ≤ k → k < to → slice_index t
 -- each of its bytes may stand in a key
 pub data KeyText (text : List ℕ) (from to : ℕ) (bytes : List ℕ) : Type 0 where
   a_word : Word text from to bytes → are_key_bytes bytes ≡ true → KeyText text from to bytes
-  quoted : Joined text from to bytes → Piece text from to bytes → HasNoEscape text from to
+  quoted : Joined text from to bytes → QuotedPiece text from to bytes → HasNoEscape text from to
       → are_key_bytes bytes ≡ true → KeyText text from to bytes
 
 -- the name of a bundle: a word, or one quoted piece of word characters, of which there are some

@@ -3,7 +3,7 @@ use Rattle.std.proofs.Common.{◌≡◌, ◌≢◌, ℕ, zero, suc, ◌+◌, ◌
 use Rattle.std.specs.Prelude.{Option, Some, None, IfNone, IfSome, slice_index}
 use Rattle.resb_grammar.specs.Ascii as ascii
 use Rattle.resb_grammar.specs.ByteRuns.{is_white, Each, Run}
-use Rattle.resb_grammar.specs.Tokens.{FirstCloser}
+use Rattle.resb_grammar.specs.Lexical.{FirstCloser}
 use Rattle.resb_icu_grammar.specs.Blanks.{LineRest, Comment, line, block, Blanks, none, white}
 use Rattle.resb_icu_grammar.specs.Blanks.{comment, Skip}
 

@@ -10,7 +10,7 @@ use Rattle.resb_grammar.specs.GroupTypes.{Kind, string_kind, binary_kind, intege
 use Rattle.resb_grammar.specs.GroupTypes.{vector_kind, array_kind, table_kind}
 use Rattle.resb_tree.specs.Tree.{Tree, string, binary, integer, int_vector}
 use Rattle.resb_icu_grammar.specs.Blanks.{Skip}
-use Rattle.resb_icu_grammar.specs.Words.{String, Number}
+use Rattle.resb_icu_grammar.specs.Words.{Text, Number}
 use Rattle.resb_icu_grammar.specs.Groups.{Numbers, last_number, last_comma, one_more, LeafContent}
 use Rattle.resb_icu_grammar.specs.Groups.{string_content, binary_content, integer_content}
 use Rattle.resb_icu_grammar.specs.Groups.{no_numbers, numbers}
@@ -45,7 +45,7 @@ no_closing text at brace k ne to c =
     ne (ap (λ i. slice_index text i) (Skip-one text at brace to k c.blanks) ∙ c.closes)
 
 -- no content of a string stands where no string does
-pub no_string_leaf : (text : List ℕ) (at : ℕ) → ((to : ℕ) (s : List ℕ) → String text at to s → ⊥)
+pub no_string_leaf : (text : List ℕ) (at : ℕ) → ((to : ℕ) (s : List ℕ) → Text text at to s → ⊥)
     → SomeLeaf text at string_kind → ⊥
 no_string_leaf text at f l = by l.to l.tree l.leaf.content
   where
@@ -53,7 +53,7 @@ no_string_leaf text at f l = by l.to l.tree l.leaf.content
     by to _ (string_content i s p k) = f i s p
 
 -- nor where no `}` stands behind it
-pub open_string : (text : List ℕ) (at i : ℕ) (s : List ℕ) → String text at i s
+pub open_string : (text : List ℕ) (at i : ℕ) (s : List ℕ) → Text text at i s
     → ((to : ℕ) → Closing text i to → ⊥) → SomeLeaf text at string_kind → ⊥
 open_string text at i s p f l = by l.to l.tree l.leaf.content l.leaf.closes
   where
@@ -66,13 +66,13 @@ open_string text at i s p f l = by l.to l.tree l.leaf.content l.leaf.closes
         })
 
 -- the content of a string
-pub string_stands : (text : List ℕ) (at i to : ℕ) (s : List ℕ) → String text at i s
+pub string_stands : (text : List ℕ) (at i to : ℕ) (s : List ℕ) → Text text at i s
     → Closing text i to → Leaf text at string_kind to (string s)
 string_stands text at i to s p c =
     record { content = string_content i s p c.blanks; closes = c.closes }
 
 -- no content of a binary stands where no string does
-pub no_binary_leaf : (text : List ℕ) (at : ℕ) → ((to : ℕ) (s : List ℕ) → String text at to s → ⊥)
+pub no_binary_leaf : (text : List ℕ) (at : ℕ) → ((to : ℕ) (s : List ℕ) → Text text at to s → ⊥)
     → SomeLeaf text at binary_kind → ⊥
 no_binary_leaf text at f l = by l.to l.tree l.leaf.content
   where
@@ -83,7 +83,7 @@ none_some : (o : Option (List ℕ)) (bytes : List ℕ) → o ≡ None → o ≡ 
 none_some o bytes h g = false≢true (ap is_some (sym h ∙ g))
 
 -- nor where the string says no hex digits
-pub no_digits : (text : List ℕ) (at i : ℕ) (s : List ℕ) → String text at i s
+pub no_digits : (text : List ℕ) (at i : ℕ) (s : List ℕ) → Text text at i s
     → hex_bytes s ≡ None → SomeLeaf text at binary_kind → ⊥
 no_digits text at i s p e l = by l.to l.tree l.leaf.content
   where
@@ -92,7 +92,7 @@ no_digits text at i s p e l = by l.to l.tree l.leaf.content
         none_some (hex_bytes s) bytes e (ap hex_bytes (sym (String-one text at j i q s r p).1) ∙ g)
 
 -- nor where no `}` stands behind it
-pub open_binary : (text : List ℕ) (at i : ℕ) (s : List ℕ) → String text at i s
+pub open_binary : (text : List ℕ) (at i : ℕ) (s : List ℕ) → Text text at i s
     → ((to : ℕ) → Closing text i to → ⊥) → SomeLeaf text at binary_kind → ⊥
 open_binary text at i s p f l = by l.to l.tree l.leaf.content l.leaf.closes
   where
@@ -105,7 +105,7 @@ open_binary text at i s p f l = by l.to l.tree l.leaf.content l.leaf.closes
         })
 
 -- the content of a binary
-pub binary_stands : (text : List ℕ) (at i to : ℕ) (s bytes : List ℕ) → String text at i s
+pub binary_stands : (text : List ℕ) (at i to : ℕ) (s bytes : List ℕ) → Text text at i s
     → hex_bytes s ≡ Some bytes → Closing text i to → Leaf text at binary_kind to (binary bytes)
 binary_stands text at i to s bytes p e c =
     record { content = binary_content i s bytes p e c.blanks; closes = c.closes }

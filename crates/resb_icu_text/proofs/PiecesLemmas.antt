@@ -1,5 +1,6 @@
 -- Laws of quoted pieces, as the reader's functions use them.
-use Rattle.std.proofs.Common.{◌≡◌, ◌≢◌, ℕ, zero, suc, ◌+◌, ◌-◌, ◌<◌, ◌≤◌, Bool, true, false, List, [], ◌∷◌}
+use Rattle.std.proofs.Common.{◌≡◌, ◌≢◌, ℕ, zero, suc, ◌+◌, ◌-◌, ◌<◌, ◌≤◌, Bool, true, false, List}
+use Rattle.std.proofs.Common.{[], ◌∷◌}
 use Rattle.std.proofs.Common.{◌++◌, length, arith, subst, sym, refl, ap, ◌∙◌, take, drop}
 use Rattle.std.proofs.Common.{append_assoc, append-nil, length-drop}
 use Rattle.std.proofs.Common.{Result, Ok, Err, OnOk, is_ok, if◌then◌else◌}
@@ -14,14 +15,14 @@ use Rattle.resb_grammar.specs.Ascii as ascii
 use Rattle.resb_icu_grammar.specs.Bytes.{backslash}
 use Rattle.resb_icu_grammar.specs.Escapes.{Escape, itself, line_feed, carriage_return, tab}
 use Rattle.resb_icu_grammar.specs.Escapes.{four_digits, eight_digits}
-use Rattle.resb_icu_grammar.specs.Pieces.{Inside, ends, byte, escape}
+use Rattle.resb_icu_grammar.specs.Pieces.{QuotedBytes, ends, byte, escape}
 use Rattle.resb_icu_grammar.specs.Words.{HasNoEscape}
 use Rattle.resb_icu_text.specs.Inner.Stops.{HasNoStop}
 use Rattle.resb_icu_grammar.proofs.Lexical.{Escape-one, Inside-one}
 
 -- some inside of a piece stands between these places
 abbrev pub SomeInside : List ℕ → ℕ → ℕ → Type 0
-SomeInside text from to = (s : List ℕ) × Inside text from to s
+SomeInside text from to = (s : List ℕ) × QuotedBytes text from to s
 
 -- what goes on from one place goes on from the other
 abbrev pub GoesOn : List ℕ → ℕ → ℕ → Type 0
@@ -32,7 +33,7 @@ goes_byte : (text : List ℕ) (from at : ℕ) → at < length text → slice_ind
 goes_byte text from at l q s f to h = f to (_, byte at to h.0 l q s h.1)
 
 inside_byte : (text : List ℕ) (at to : ℕ) (us : List ℕ) → slice_index text at ≢ ascii.quote
-    → slice_index text at ≢ backslash → Inside text at to us → SomeInside text (at + 1) to
+    → slice_index text at ≢ backslash → QuotedBytes text at to us → SomeInside text (at + 1) to
 inside_byte text at to us q s (ends _ k) = absurd (q k)
 inside_byte text at to us q s (byte _ _ vs l k m r) = (vs, r)
 inside_byte text at to us q s (escape _ n _ xs vs k m r) = absurd (s k)
@@ -88,13 +89,13 @@ goes_escape text from at next b xs e s x f to h =
     f to (_, escape at next to xs h.0 (sym e ∙ s) x h.1)
 
 inside_escape : (text : List ℕ) (at next to b : ℕ) (xs us : List ℕ) → b ≡ slice_index text at
-    → b ≡ backslash → Escape text (at + 1) next xs → Inside text at to us
+    → b ≡ backslash → Escape text (at + 1) next xs → QuotedBytes text at to us
     → SomeInside text next to
 inside_escape text at next to b xs us e s x (ends _ k) = absurd (omega arith)
 inside_escape text at next to b xs us e s x (byte _ _ vs l k m r) = absurd (m (sym e ∙ s))
 inside_escape text at next to b xs us e s x (escape _ n _ ys vs k m r) =
     let same = Escape-one text (at + 1) n next ys xs m x in
-    (vs, subst (λ i. Inside text i to vs) same.0 r)
+    (vs, subst (λ i. QuotedBytes text i to vs) same.0 r)
 
 pub back_escape : (text : List ℕ) (from at next b : ℕ) (xs : List ℕ) → b ≡ slice_index text at
     → b ≡ backslash → Escape text (at + 1) next xs → GoesOn text from at
@@ -105,7 +106,7 @@ back_escape text from at next b xs e s x f to h =
 -- a backslash with no escape behind it stands in no piece
 pub inside_broken : (text : List ℕ) (at to b : ℕ) (us : List ℕ) → b ≡ slice_index text at
     → b ≡ backslash → ((to : ℕ) (s : List ℕ) → Escape text (at + 1) to s → ⊥)
-    → Inside text at to us → ⊥
+    → QuotedBytes text at to us → ⊥
 inside_broken text at to b us e s f (ends _ k) = omega arith
 inside_broken text at to b us e s f (byte _ _ ws l k m r) = m (sym e ∙ s)
 inside_broken text at to b us e s f (escape _ n _ ys ws k m r) = f n ys m
@@ -113,12 +114,12 @@ inside_broken text at to b us e s f (escape _ n _ ys ws k m r) = f n ys m
 -- where no escape stands behind a backslash, no piece ends
 pub no_escape_inside : (text : List ℕ) (from at b : ℕ) → b ≡ slice_index text at → b ≡ backslash
     → ((to : ℕ) (s : List ℕ) → Escape text (at + 1) to s → ⊥) → GoesOn text from at → (to : ℕ)
-    (s : List ℕ) → Inside text from to s → ⊥
+    (s : List ℕ) → QuotedBytes text from to s → ⊥
 no_escape_inside text from at b e s f g to us h =
     let k = g to (us, h) in inside_broken text at to b k.0 e s f k.1
 
 inside_past : (text : List ℕ) (at to : ℕ) (us : List ℕ) → length text ≤ at
-    → slice_index text at ≡ 0 → Inside text at to us → ⊥
+    → slice_index text at ≡ 0 → QuotedBytes text at to us → ⊥
 inside_past text at to us l z (ends _ k) = omega (arith, z, k)
 inside_past text at to us l z (byte _ _ ws m k n r) = omega arith
 inside_past text at to us l z (escape _ n _ ys ws k m r) = omega (arith, z, k)
@@ -126,7 +127,7 @@ inside_past text at to us l z (escape _ n _ ys ws k m r) = omega (arith, z, k)
 -- where neither a quote nor a backslash follows, no piece ends
 pub none_past : (text : List ℕ) (from at : ℕ) → at ≤ length text
     → HasNoStop text at (length text) → GoesOn text from at → (to : ℕ) (s : List ℕ)
-    → Inside text from to s → ⊥
+    → QuotedBytes text from to s → ⊥
 none_past text from at l h g to us i =
     let k = back_bytes text from at (length text) l h g to (us, i) in
     inside_past text (length text) to k.0 (omega arith)
@@ -166,10 +167,11 @@ slice_none text at =
 -- the value, what is not yet added of it, and what follows are the whole
 pub record Adds (text : List ℕ) (from last start at : ℕ) (old value bytes : List ℕ) : Type 0 where
   pub rest : List ℕ
-  pub inside : Inside text at last rest
+  pub inside : QuotedBytes text at last rest
   pub whole : value ++ (slice_range text start at ++ rest) ≡ old ++ bytes
 
-pub adds_none : (text : List ℕ) (from last : ℕ) (old bytes : List ℕ) → Inside text from last bytes
+pub adds_none : (text : List ℕ) (from last : ℕ) (old bytes : List ℕ)
+    → QuotedBytes text from last bytes
     → Adds text from last from from old old bytes
 adds_none text from last old bytes h = record {
   rest = bytes;
@@ -179,8 +181,8 @@ adds_none text from last old bytes h = record {
 
 -- before the closing quote a byte that is no backslash stands for itself
 rest_byte : (text : List ℕ) (at last : ℕ) (rest : List ℕ) → at < last
-    → slice_index text at ≢ backslash → Inside text at last rest
-    → (more : List ℕ) × (rest ≡ slice_index text at ∷ more) × Inside text (at + 1) last more
+    → slice_index text at ≢ backslash → QuotedBytes text at last rest
+    → (more : List ℕ) × (rest ≡ slice_index text at ∷ more) × QuotedBytes text (at + 1) last more
 rest_byte text at last rest l s (ends _ k) = absurd (omega arith)
 rest_byte text at last rest l s (byte _ _ vs m k n r) = (vs, refl, r)
 rest_byte text at last rest l s (escape _ n _ xs vs k m r) = absurd (s k)
@@ -204,13 +206,14 @@ adds_byte text from last start at old value bytes o l f s a =
 
 -- behind a backslash an escape stands for what it says
 rest_escape : (text : List ℕ) (at next last : ℕ) (first rest : List ℕ)
-    → slice_index text at ≡ backslash → Escape text (at + 1) next first → Inside text at last rest
-    → (more : List ℕ) × (rest ≡ first ++ more) × Inside text next last more
+    → slice_index text at ≡ backslash → Escape text (at + 1) next first
+    → QuotedBytes text at last rest
+    → (more : List ℕ) × (rest ≡ first ++ more) × QuotedBytes text next last more
 rest_escape text at next last first rest s x (ends _ k) = absurd (omega arith)
 rest_escape text at next last first rest s x (byte _ _ vs m k n r) = absurd (n s)
 rest_escape text at next last first rest s x (escape _ n _ ys vs k m r) =
     let same = Escape-one text (at + 1) n next ys first m x in
-    (vs, ap (λ l. l ++ vs) same.1, subst (λ i. Inside text i last vs) same.0 r)
+    (vs, ap (λ l. l ++ vs) same.1, subst (λ i. QuotedBytes text i last vs) same.0 r)
 
 -- what was read and the character of an escape are added
 pub adds_character : (text : List ℕ) (from last start at next : ℕ)
@@ -256,7 +259,7 @@ adds_itself text from last start at next old value bytes value1 s n l x e a =
     }
 
 nothing_rests : (text : List ℕ) (last : ℕ) (rest : List ℕ) → slice_index text last ≡ ascii.quote
-    → Inside text last last rest → rest ≡ []
+    → QuotedBytes text last last rest → rest ≡ []
 nothing_rests text last rest q h =
     (Inside-one text last last last rest [] h (ends last q)).1
 
@@ -266,8 +269,8 @@ pub adds_all : (text : List ℕ) (from last start at : ℕ) (old value bytes val
     → value1 ≡ value ++ slice_range text start last
     → Adds text from last start at old value bytes → value1 ≡ old ++ bytes
 adds_all text from last start at old value bytes value1 q e f a =
-    let h : Inside text last last a.rest =
-    subst (λ i. Inside text i last a.rest) e a.inside in
+    let h : QuotedBytes text last last a.rest =
+    subst (λ i. QuotedBytes text i last a.rest) e a.inside in
     f ∙ sym (append-nil (value ++ slice_range text start last))
     ∙ append_assoc value (slice_range text start last) []
     ∙ ap (λ k. value ++ (slice_range text start last ++ k))
@@ -284,7 +287,7 @@ escape_order text at to s (four_digits c h k e f g) = omega arith
 escape_order text at to s (eight_digits c h k e f g) = omega arith
 
 -- a piece ends no earlier than it begins
-pub inside_order : (text : List ℕ) (at to : ℕ) (s : List ℕ) → Inside text at to s → at ≤ to
+pub inside_order : (text : List ℕ) (at to : ℕ) (s : List ℕ) → QuotedBytes text at to s → at ≤ to
 inside_order text at to s (ends _ h) = omega arith
 inside_order text at to s (byte _ _ vs l q b r) =
     omega (arith, inside_order text (at + 1) to vs r)
@@ -292,7 +295,7 @@ inside_order text at to s (escape _ n _ xs vs b x r) =
     omega (arith, escape_order text (at + 1) n xs x, inside_order text n to vs r)
 
 -- a piece ends with a quote
-pub inside_closes : (text : List ℕ) (at to : ℕ) (s : List ℕ) → Inside text at to s
+pub inside_closes : (text : List ℕ) (at to : ℕ) (s : List ℕ) → QuotedBytes text at to s
     → slice_index text to ≡ ascii.quote
 inside_closes text at to s (ends _ h) = h
 inside_closes text at to s (byte _ _ vs l q b r) = inside_closes text (at + 1) to vs r
@@ -300,7 +303,8 @@ inside_closes text at to s (escape _ n _ xs vs b x r) = inside_closes text n to 
 
 -- an escape of a piece ends before the closing quote
 pub escape_fits : (text : List ℕ) (at next last : ℕ) (first rest : List ℕ)
-    → slice_index text at ≡ backslash → Escape text (at + 1) next first → Inside text at last rest
+    → slice_index text at ≡ backslash → Escape text (at + 1) next first
+    → QuotedBytes text at last rest
     → next ≤ last
 escape_fits text at next last first rest s x h =
     let r = rest_escape text at next last first rest s x h in inside_order text next last r.0 r.2

@@ -1,12 +1,13 @@
 -- Laws of how far a reading has looked.
-use Rattle.std.proofs.Common.{◌≡◌, ◌≢◌, ℕ, ◌+◌, ◌*◌, ◌<◌, ◌≤◌, ◌⊎◌, inl, inr, Bool, true, false, List, length, arith, refl, sym, ◌∙◌}
+use Rattle.std.proofs.Common.{◌≡◌, ◌≢◌, ℕ, ◌+◌, ◌*◌, ◌<◌, ◌≤◌, ◌⊎◌, inl, inr, Bool, true, false}
+use Rattle.std.proofs.Common.{List, length, arith, refl, sym, ◌∙◌}
 use Rattle.std.specs.Prelude.{slice_index, ◌==◌, if◌then◌else◌}
 use Rattle.std.proofs.lemmas.Bool.{false≢true}
 use Rattle.std.proofs.lemmas.Bool.Decides.{nat_tests}
 use Rattle.resb_grammar.specs.Ascii as ascii
 use Rattle.resb_grammar.specs.ByteRuns.{Run}
 use Rattle.resb_icu_grammar.specs.Bytes.{is_word}
-use Rattle.resb_icu_grammar.specs.Words.{Word, String, a_word, quoted, Number, unsigned}
+use Rattle.resb_icu_grammar.specs.Words.{Word, Text, a_word, quoted, Number, unsigned}
 use Rattle.resb_icu_grammar.specs.Words.{plus, minus}
 use Rattle.resb_icu_grammar.proofs.Lexical.{word_first, joined_first}
 use Rattle.resb_icu_text.specs.declared.steps.Step.{Step}
@@ -116,7 +117,7 @@ pub word_no_slash : (text : List ℕ) (from to : ℕ) (s : List ℕ) → Word te
 word_no_slash text from to s w e = slash_no_word _ e (word_first text from to s w)
 
 -- where a string begins, a reading has looked up to its place
-pub reach_string : (text : List ℕ) (from to : ℕ) (s : List ℕ) → String text from to s
+pub reach_string : (text : List ℕ) (from to : ℕ) (s : List ℕ) → Text text from to s
     → reach text from ≡ from
 reach_string text from to s (a_word w) =
     reach_here text from (word_no_slash text from to s w)

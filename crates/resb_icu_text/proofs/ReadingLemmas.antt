@@ -148,7 +148,8 @@ no_header_opening text a start end place name b k n l none h =
     let p = h.header in
     let there : KeyText text start p.ends h.name =
     subst (λ i. KeyText text i p.ends h.name) (starts text a start b k h) p.named.key in
-    let same = String-one text start p.ends end h.name name (key_string text start p.ends h.name there)
+    let same = String-one text start p.ends end h.name name
+    (key_string text start p.ends h.name there)
     (key_string text start end name n.key) in
     let here : p.place ≡ place = Skip-one text end p.place place
     (subst (λ i. Skip text i p.place) same.0 p.between) l in

@@ -17,8 +17,8 @@ use Rattle.resb_icu_grammar.specs.Blanks.{Skip}
 use Rattle.resb_icu_grammar.specs.Words as words
 use Rattle.resb_icu_grammar.specs.Words.{KeyText, GroupType}
 use Rattle.resb_icu_grammar.specs.Groups as spec
-use Rattle.resb_icu_grammar.specs.Groups.{Head, LeafContent, nothing, a_string, a_group}
-use Rattle.resb_icu_grammar.specs.Groups.{is_member, is_string, is_collation, is_table}
+use Rattle.resb_icu_grammar.specs.Groups.{TypedOpening, LeafContent, nothing, a_string, a_group}
+use Rattle.resb_icu_grammar.specs.Groups.{is_member, ends_in_string, is_collation, holds_entries}
 use Rattle.resb_icu_grammar.specs.Groups.{with_a_group, with_a_string}
 use Rattle.resb_icu_grammar.specs.Inner.Rest.{Meaning, Waiting, After, AreDistinct, InMembers}
 use Rattle.resb_icu_grammar.specs.Inner.Rest.{InEntries, InGroup, AfterMember, AfterValue}
@@ -150,8 +150,8 @@ module _ (text : List ℕ) where
 
   -- a string that is a member
   pub member_string : (old : List Resource) (v : Vec Resource Global) (l : Last) (at i j : ℕ)
-      (s : List ℕ) (x : CowStr Global) → is_string (last_of l) ≡ false
-      → words.String text at i s → Skip text i j → cow_str_bytes x ≡ s
+      (s : List ℕ) (x : CowStr Global) → ends_in_string (last_of l) ≡ false
+      → words.Text text at i s → Skip text i j → cow_str_bytes x ≡ s
       → v.items ≡ old ++ String x ∷ []
       → Steps text (MembersThere text old l at) (step.Members v last.String j)
   member_string old v l at i j s x e p k h g ws ks =
@@ -163,7 +163,7 @@ module _ (text : List ℕ) where
 
   -- a string right behind a string
   pub no_member_string : (es : List Resource) (l : Last) (at i : ℕ) (s : List ℕ)
-      (e : IcuTextError) → is_string (last_of l) ≡ true → words.String text at i s
+      (e : IcuTextError) → ends_in_string (last_of l) ≡ true → words.Text text at i s
       → Stops (MembersThere text es l at) e
   no_member_string es l at i s e h p = inr (λ ws ks.
       lists.no_second_string text (After text ws) (last_of l) (map tree_of es) at i s ks h p)
@@ -172,7 +172,7 @@ module _ (text : List ℕ) where
   pub no_member : (es : List Resource) (l : Last) (at : ℕ) (e : IcuTextError)
       → slice_index text at ≢ ascii.right_brace → slice_index text at ≢ ascii.comma
       → slice_index text at ≢ ascii.left_brace → slice_index text at ≢ ascii.colon
-      → ((i : ℕ) (s : List ℕ) → words.String text at i s → ⊥)
+      → ((i : ℕ) (s : List ℕ) → words.Text text at i s → ⊥)
       → Stops (MembersThere text es l at) e
   no_member es l at e a b d f g = inr (λ ws ks.
       lists.no_more_members text (After text ws) (last_of l) (map tree_of es) at ks a b d f g)
@@ -247,7 +247,7 @@ module _ (text : List ℕ) where
       inr (λ ws ks. groups.no_group_begins text (After text ws) at ks
       (λ b. no_brace_colon text at b h) (λ other i d. by other i d))
     where
-      by : (other : Kind) (i : ℕ) → Head text at other i → ⊥
+      by : (other : Kind) (i : ℕ) → TypedOpening text at other i → ⊥
       by other i d =
           let same = GroupType-one text at end d.ends kind other g d.named in
           ne (ap (λ n. slice_index text n)
@@ -302,7 +302,7 @@ module _ (text : List ℕ) where
       (untyped.untyped_array text (After text ws) at ks (with_a_group f))
 
   -- one string in a group without a type
-  pub untyped_one : (at i k : ℕ) (s : List ℕ) (x : CowStr Global) → words.String text at i s
+  pub untyped_one : (at i k : ℕ) (s : List ℕ) (x : CowStr Global) → words.Text text at i s
       → Skip text i k → Closes text k → cow_str_bytes x ≡ s
       → Steps text (UntypedThere text at) (step.Ended (String x) (k + 1))
   untyped_one at i k s x p l c h ws ks =
@@ -312,7 +312,7 @@ module _ (text : List ℕ) where
 
   -- a string and a comma in a group without a type
   pub untyped_comma : (v : Vec Resource Global) (at i k : ℕ) (s : List ℕ) (x : CowStr Global)
-      → words.String text at i s → Skip text i k → slice_index text k ≡ ascii.comma
+      → words.Text text at i s → Skip text i k → slice_index text k ≡ ascii.comma
       → cow_str_bytes x ≡ s → v.items ≡ String x ∷ []
       → Steps text (UntypedThere text at) (step.Members v last.String k)
   untyped_comma v at i k s x p l c h e =
@@ -336,7 +336,7 @@ module _ (text : List ℕ) where
       (entry_key v key at i k p l)
 
   -- a string and nothing that may stand behind it in a group without a type
-  pub no_untyped_string : (at i k : ℕ) (s : List ℕ) (e : IcuTextError) → words.String text at i s
+  pub no_untyped_string : (at i k : ℕ) (s : List ℕ) (e : IcuTextError) → words.Text text at i s
       → Skip text i k → slice_index text k ≢ ascii.right_brace
       → slice_index text k ≢ ascii.comma
       → ((slice_index text k ≡ ascii.left_brace) ⊎ (slice_index text k ≡ ascii.colon)
@@ -348,7 +348,7 @@ module _ (text : List ℕ) where
   -- nothing that may stand in a group without a type
   pub no_untyped : (at : ℕ) (e : IcuTextError) → slice_index text at ≢ ascii.right_brace
       → slice_index text at ≢ ascii.left_brace → slice_index text at ≢ ascii.colon
-      → ((j : ℕ) (s : List ℕ) → words.String text at j s → ⊥) → Stops (UntypedThere text at) e
+      → ((j : ℕ) (s : List ℕ) → words.Text text at j s → ⊥) → Stops (UntypedThere text at) e
   no_untyped at e a b d f =
       inr (λ ws ks. untyped.no_untyped text (After text ws) at ks a b d f)
 
@@ -378,7 +378,7 @@ module _ (text : List ℕ) where
 
   -- behind a group that is the value of an entry
   pub behind_value : (old v : Vec (List ℕ × Resource) Global) (key : Bor (List ℕ)) (r : Resource)
-      (at next : ℕ) → (is_collation key.now && is_table (tree_of r)) ≡ false
+      (at next : ℕ) → (is_collation key.now && holds_entries (tree_of r)) ≡ false
       → Skip text at next → v.items ≡ old.items ++ (key.now, r) ∷ []
       → Steps text (EndedThere text (waiting.Table old key) r at) (step.Entries v next)
   behind_value old v key r at next f k e ws ks =
@@ -403,6 +403,6 @@ module _ (text : List ℕ) where
 
   -- rules of collation
   pub no_collation : (old : Vec (List ℕ × Resource) Global) (key : Bor (List ℕ)) (r : Resource)
-      (at : ℕ) (e : IcuTextError) → (is_collation key.now && is_table (tree_of r)) ≡ true
+      (at : ℕ) (e : IcuTextError) → (is_collation key.now && holds_entries (tree_of r)) ≡ true
       → Stops (EndedThere text (waiting.Table old key) r at) e
   no_collation old key r at e h = inr (λ ws ks m p. false≢true (sym p.taken ∙ h))

@@ -9,9 +9,10 @@ use Rattle.std.proofs.lemmas.Bool.Decides.{nat_tests}
 use Rattle.resb_grammar.specs.Ascii as ascii
 use Rattle.resb_icu_grammar.specs.Bytes.{backslash, is_word, are_key_bytes}
 use Rattle.resb_icu_grammar.specs.Blanks.{Skip}
-use Rattle.resb_icu_grammar.specs.Pieces.{Inside, ends, byte, escape, Piece, Joined, last_piece}
+use Rattle.resb_icu_grammar.specs.Pieces.{QuotedBytes, ends, byte, escape, QuotedPiece, Joined}
+use Rattle.resb_icu_grammar.specs.Pieces.{last_piece}
 use Rattle.resb_icu_grammar.specs.Pieces.{one_more}
-use Rattle.resb_icu_grammar.specs.Words.{Word, String, KeyText, HasNoEscape}
+use Rattle.resb_icu_grammar.specs.Words.{Word, Text, KeyText, HasNoEscape}
 use Rattle.resb_icu_grammar.specs.Words as words
 use Rattle.resb_icu_grammar.proofs.Lexical.{Piece-one, Skip-one, word_first, joined_first}
 use Rattle.resb_icu_text.specs.declared.strings.Said.{Said}
@@ -31,13 +32,13 @@ no_word text from to s q w = quote_no_word _ q (word_first text from to s w)
 
 -- a quoted piece by its inside
 pub piece_of : (text : List ℕ) (from last : ℕ) (bytes : List ℕ)
-    → slice_index text from ≡ ascii.quote → Inside text (from + 1) last bytes
-    → Piece text from (last + 1) bytes
+    → slice_index text from ≡ ascii.quote → QuotedBytes text (from + 1) last bytes
+    → QuotedPiece text from (last + 1) bytes
 piece_of text from last bytes q h = record { last = last; opens = q; inside = h; ends = refl }
 
 -- a piece and those ahead of it
 pub join : (text : List ℕ) (from mid next to : ℕ) (first later : List ℕ)
-    → Piece text from mid first → Skip text mid next → Ahead text mid next to later
+    → QuotedPiece text from mid first → Skip text mid next → Ahead text mid next to later
     → Joined text from to (first ++ later)
 join text from mid next to first later p s (no_more h) =
     subst (λ (l : List ℕ). Joined text from mid l) (sym (append-nil first))
@@ -47,7 +48,7 @@ join text from mid next to first later p s (more _ _ j) =
 
 -- behind its first piece stands the rest of a string
 pub unjoin : (text : List ℕ) (from mid next to : ℕ) (first all : List ℕ)
-    → Piece text from mid first → Skip text mid next → Joined text from to all
+    → QuotedPiece text from mid first → Skip text mid next → Joined text from to all
     → (later : List ℕ) × Ahead text mid next to later
 unjoin text from mid next to first all p s (last_piece _ _ n _ q t h) =
     let same = (Piece-one text from to mid all first q p).0 in
@@ -91,7 +92,7 @@ ahead_joined text at coming to later q (more _ _ j) = j
 -- one piece more is added
 pub added_piece : (text : List ℕ) (end next at coming last behind : ℕ)
     (old value bytes value1 : List ℕ) → slice_index text coming ≡ ascii.quote
-    → Inside text (coming + 1) last bytes → Skip text (last + 1) behind
+    → QuotedBytes text (coming + 1) last bytes → Skip text (last + 1) behind
     → value1 ≡ value ++ bytes → Added text end next at coming old value
     → Added text end next (last + 1) behind old value1
 added_piece text end next at coming last behind old value bytes value1 q h s e a =
@@ -120,13 +121,13 @@ added_all text end next at coming old value h a = (
 )
 
 joined_inside : (text : List ℕ) (from to : ℕ) (s : List ℕ) → Joined text from to s
-    → (last : ℕ) × (bytes : List ℕ) × Inside text (from + 1) last bytes
+    → (last : ℕ) × (bytes : List ℕ) × QuotedBytes text (from + 1) last bytes
 joined_inside text from to s (last_piece _ _ n _ p t h) = (p.last, s, p.inside)
 joined_inside text from to s (one_more _ m n _ us vs p t j) = (p.last, us, p.inside)
 
 -- where no piece ends, no string stands
 pub no_joined : (text : List ℕ) (from : ℕ)
-    → ((to : ℕ) (s : List ℕ) → Inside text (from + 1) to s → ⊥)
+    → ((to : ℕ) (s : List ℕ) → QuotedBytes text (from + 1) to s → ⊥)
     → (to : ℕ) (s : List ℕ) → Joined text from to s → ⊥
 no_joined text from never to s j =
     let i = joined_inside text from to s j in never i.0 i.1 i.2
@@ -134,7 +135,7 @@ no_joined text from never to s j =
 -- where the piece that begins has no end, no pieces are ahead
 pub no_piece_ahead : (text : List ℕ) (end next at coming : ℕ) (old value : List ℕ)
     → slice_index text coming ≡ ascii.quote
-    → ((to : ℕ) (s : List ℕ) → Inside text (coming + 1) to s → ⊥)
+    → ((to : ℕ) (s : List ℕ) → QuotedBytes text (coming + 1) to s → ⊥)
     → Added text end next at coming old value
     → (to : ℕ) (later : List ℕ) → Ahead text end next to later → ⊥
 no_piece_ahead text end next at coming old value q never a to later b =
@@ -149,7 +150,7 @@ no_string text from q never to s (words.quoted j) = never to s j
 
 -- where what is ahead of a piece is nothing, no string stands
 pub no_string_ahead : (text : List ℕ) (from last next : ℕ) (first : List ℕ)
-    → slice_index text from ≡ ascii.quote → Inside text (from + 1) last first
+    → slice_index text from ≡ ascii.quote → QuotedBytes text (from + 1) last first
     → Skip text (last + 1) next
     → ((to : ℕ) (later : List ℕ) → Ahead text (last + 1) next to later → ⊥)
     → IsNoLexeme text from
@@ -160,7 +161,7 @@ no_string_ahead text from last next first q h s never =
 
 -- a string put together isn't plain, if a piece follows its first one or an escape stands there
 pub not_plain : (text : List ℕ) (from last to : ℕ) (first s : List ℕ)
-    → slice_index text from ≡ ascii.quote → Inside text (from + 1) last first
+    → slice_index text from ≡ ascii.quote → QuotedBytes text (from + 1) last first
     → (HasNoEscape text (from + 1) last → last + 1 ≢ to) → Plain text from to s → ⊥
 not_plain text from last to first s q h f (a_word w) = no_word text from to s q w
 not_plain text from last to first s q h f (a_piece j p n) =
@@ -179,7 +180,7 @@ slice_cons text at to low fits =
     ∙ ap (λ k. slice_index text at ∷ take (to - (at + 1)) (drop k text)) m
 
 -- what stands in a piece without escapes is what it stands for
-pub plain_inside : (text : List ℕ) (at to : ℕ) (s : List ℕ) → Inside text at to s
+pub plain_inside : (text : List ℕ) (at to : ℕ) (s : List ℕ) → QuotedBytes text at to s
     → HasNoEscape text at to → s ≡ slice_range text at to
 plain_inside text at to s (ends _ h) n = sym (slice_none text at)
 plain_inside text at to s (byte _ _ vs l q b r) n =
@@ -214,14 +215,14 @@ no_escape_quoted text from last q r n k low high b =
 
 module _ (text : List ℕ) (from last next : ℕ) (bytes : List ℕ) where
   -- one piece without escapes and with no other behind it is a string
-  pub plain_string : slice_index text from ≡ ascii.quote → Inside text (from + 1) last bytes
+  pub plain_string : slice_index text from ≡ ascii.quote → QuotedBytes text (from + 1) last bytes
       → Skip text (last + 1) next → slice_index text next ≢ ascii.quote
-      → String text from (last + 1) bytes
+      → Text text from (last + 1) bytes
   plain_string q h s n =
       words.quoted (last_piece from (last + 1) next bytes (piece_of text from last bytes q h) s n)
 
   -- and it stands in the text as it is
-  pub plain_piece : slice_index text from ≡ ascii.quote → Inside text (from + 1) last bytes
+  pub plain_piece : slice_index text from ≡ ascii.quote → QuotedBytes text (from + 1) last bytes
       → Skip text (last + 1) next → slice_index text next ≢ ascii.quote
       → HasNoEscape text (from + 1) last → Plain text from (last + 1) bytes
   plain_piece q h s n f =
@@ -241,7 +242,7 @@ plain_key text from to s (a_word w) k = words.a_word w k
 plain_key text from to s (a_piece j p n) k = words.quoted j p n k
 
 plain_is_string : (text : List ℕ) (from to : ℕ) (s : List ℕ) → Plain text from to s
-    → String text from to s
+    → Text text from to s
 plain_is_string text from to s (a_word w) = words.a_word w
 plain_is_string text from to s (a_piece j p n) = words.quoted j
 
@@ -273,21 +274,21 @@ word_lexeme text from end next slice w s order fits =
 module _ (text : List ℕ) (from last next : ℕ) (first : List ℕ) where
   -- what one piece without escapes and with no other behind it answers
   pub piece_lexeme : (slice : Bor (List ℕ)) → slice_index text from ≡ ascii.quote
-      → Inside text (from + 1) last first → Skip text (last + 1) next
+      → QuotedBytes text (from + 1) last first → Skip text (last + 1) next
       → slice_index text next ≢ ascii.quote → HasNoEscape text (from + 1) last
       → slice.now ≡ slice_range text (from + 1) last → last + 1 ≤ next → next ≤ length text
       → IsLexeme text from (record { end = last + 1; next = next; said = the.Slice slice })
   piece_lexeme slice q h s n f e order fits =
       let b : first ≡ slice.now = plain_inside text (from + 1) last first h f ∙ sym e in
-      let h' : Inside text (from + 1) last slice.now =
-      subst (λ (l : List ℕ). Inside text (from + 1) last l) b h in
+      let h' : QuotedBytes text (from + 1) last slice.now =
+      subst (λ (l : List ℕ). QuotedBytes text (from + 1) last l) b h in
       plain_lexeme text from (last + 1) next slice
       (plain_piece text from last next slice.now q h' s n f) s
       (omega (arith, inside_order text (from + 1) last first h)) order fits
 
   -- what pieces that were put together answer
   pub built_lexeme : (to behind : ℕ) (later : List ℕ) (said : Said)
-      → slice_index text from ≡ ascii.quote → Inside text (from + 1) last first
+      → slice_index text from ≡ ascii.quote → QuotedBytes text (from + 1) last first
       → Skip text (last + 1) next → Ahead text (last + 1) next to later → Skip text to behind
       → bytes_said said ≡ first ++ later → is_key said ≡ false → is_slice said ≡ false
       → (HasNoEscape text (from + 1) last → last + 1 ≢ to) → last + 1 ≤ to → to ≤ behind

@@ -7,9 +7,9 @@ use Rattle.std.proofs.lemmas.Str.{IsCharBoundary-after_ascii}
 use Rattle.std.specs.Str.{IsUtf8, IsCharBoundary}
 use Rattle.resb_grammar.specs.Ascii as ascii
 use Rattle.resb_grammar.specs.ByteRuns.{Run}
-use Rattle.resb_grammar.specs.Tokens as plain
-use Rattle.resb_grammar.specs.Tokens.{digits_value}
-use Rattle.resb_grammar.proofs.ByteRunsLemmas.{there}
+use Rattle.resb_grammar.specs.Lexical as plain
+use Rattle.resb_grammar.specs.Lexical.{digits_value}
+use Rattle.resb_grammar.proofs.ByteRunsLemmas.{nonzero_inside}
 use Rattle.resb_grammar.proofs.ByteRunsLemmas.{Run-one}
 use Rattle.resb_icu_grammar.specs.Bytes.{is_word}
 use Rattle.resb_icu_grammar.specs.Words.{Digits, Number}
@@ -127,5 +127,5 @@ behind_word text from to u r w =
     let h : is_word (get_or text (to - 1) 0) ≡ true = r.each (to - 1) (omega arith) (omega arith) in
     let e : to - 1 + 1 ≡ to = omega arith in
     subst (λ i. IsCharBoundary text i) e
-    (IsCharBoundary-after_ascii text (to - 1) u (there text (to - 1) (word_some _ h))
+    (IsCharBoundary-after_ascii text (to - 1) u (nonzero_inside text (to - 1) (word_some _ h))
     (word_ascii _ h))

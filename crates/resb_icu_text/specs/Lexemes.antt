@@ -4,8 +4,8 @@ use Rattle.std.specs.Prelude.{IsTrue}
 use Rattle.std.specs.String.{string_bytes}
 use Rattle.resb_icu_grammar.specs.Bytes.{are_key_bytes}
 use Rattle.resb_icu_grammar.specs.Blanks.{Skip}
-use Rattle.resb_icu_grammar.specs.Pieces.{Joined, Piece}
-use Rattle.resb_icu_grammar.specs.Words.{Word, String, KeyText, HasNoEscape}
+use Rattle.resb_icu_grammar.specs.Pieces.{Joined, QuotedPiece}
+use Rattle.resb_icu_grammar.specs.Words.{Word, Text, KeyText, HasNoEscape}
 use Rattle.resb_icu_text.specs.declared.strings.Said.{Said}
 use Rattle.resb_icu_text.specs.declared.strings.Said.TheVariants as the
 use Rattle.resb_icu_text.specs.declared.strings.Lexeme.{Lexeme}
@@ -29,12 +29,12 @@ is_slice (the.Built s) = false
 -- in the text as it is
 pub data Plain (text : List ℕ) (from to : ℕ) (bytes : List ℕ) : Type 0 where
   a_word : Word text from to bytes → Plain text from to bytes
-  a_piece : Joined text from to bytes → Piece text from to bytes → HasNoEscape text from to
+  a_piece : Joined text from to bytes → QuotedPiece text from to bytes → HasNoEscape text from to
       → Plain text from to bytes
 
 -- a string stands there, with what it says, whether it may be a key, and blanks behind it
 pub record IsLexeme (text : List ℕ) (from : ℕ) (l : Lexeme) : Type 0 where
-  pub string : String text from l.end (bytes_said l.said)
+  pub string : Text text from l.end (bytes_said l.said)
   pub key : IsTrue (is_key l.said) ↔ KeyText text from l.end (bytes_said l.said)
   pub slice : IsTrue (is_slice l.said) ↔ Plain text from l.end (bytes_said l.said)
   pub blanks : Skip text l.end l.next
@@ -44,4 +44,4 @@ pub record IsLexeme (text : List ℕ) (from : ℕ) (l : Lexeme) : Type 0 where
 
 -- no string stands there
 abbrev pub IsNoLexeme : List ℕ → ℕ → Type 0
-IsNoLexeme text from = (to : ℕ) (s : List ℕ) → String text from to s → ⊥
+IsNoLexeme text from = (to : ℕ) (s : List ℕ) → Text text from to s → ⊥

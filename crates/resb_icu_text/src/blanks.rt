@@ -1,11 +1,12 @@
 //! What stands between the tokens: white characters and comments.
 //! Places count bytes of the text from its start.
-ghost use Rattle.std.specs.Prelude.{◌≡◌, ℕ, ◌+◌, ◌*◌, ◌^◌, ◌<◌, ◌≤◌, true, false, length, slice_index};
+ghost use Rattle.std.specs.Prelude.{◌≡◌, ℕ, ◌+◌, ◌*◌, ◌^◌, ◌<◌, ◌≤◌, true, false, length};
+ghost use Rattle.std.specs.Prelude.{slice_index};
 ghost use Rattle.std.specs.Prelude.{IfSome, IfNone};
 ghost use Rattle.resb_grammar.specs.Ascii as ascii;
 ghost use Rattle.resb_grammar.specs.ByteRuns as spec;
 ghost use Rattle.resb_grammar.specs.ByteRuns.{Run};
-ghost use Rattle.resb_grammar.specs.Tokens.{FirstCloser};
+ghost use Rattle.resb_grammar.specs.Lexical.{FirstCloser};
 ghost use Rattle.resb_icu_grammar.specs.Blanks.{LineRest, Comment, Skip};
 ghost use Rattle.resb_icu_grammar.specs.Blanks.{IsParagraphEnd};
 ghost use Rattle.resb_icu_text.specs.Inner.Reach.{reach};

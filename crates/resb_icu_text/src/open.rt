@@ -1,14 +1,15 @@
 //! The groups that are open around the place where a reading stands, and the keys before it.
 //! What one step does inside them is said in `steps`.
-ghost use Rattle.std.specs.Prelude.{◌≡◌, ◌⊎◌, ◌+◌, ◌*◌, ◌≤◌, [], ◌∷◌, length, map, IfOk, IfErr, OnOk};
+ghost use Rattle.std.specs.Prelude.{◌≡◌, ◌⊎◌, ◌+◌, ◌*◌, ◌≤◌, [], ◌∷◌, length, map, IfOk, IfErr};
+ghost use Rattle.std.specs.Prelude.{OnOk};
 ghost use Rattle.resb_icu_grammar.specs.Inner.Rest.{Same, Never};
 ghost use Rattle.resb_icu_text.specs.Refusal.{want_of_memory};
 ghost use Rattle.resb_icu_text.specs.Inner.Steps.{shown, with_key, Rest, place, spent};
 ghost use Rattle.resb_icu_text.specs.Inner.Reading.{groups, keys, Coming, Advances, spent_before};
 
 use crate::error::IcuTextError;
-use crate::turns::IcuTurns;
 use crate::steps::{Step, Waiting, entry, group, member, resume};
+use crate::turns::IcuTurns;
 use resb_tree::{NoMemory, Resource};
 use std::alloc::Global;
 

@@ -4,7 +4,7 @@ ghost use Rattle.std.specs.Prelude.{◌≡◌, ℕ, ◌+◌, ◌-◌, ◌<◌, �
 ghost use Rattle.std.specs.Prelude.{length, slice_index, slice_range, IfSome, IfNone, OnOk};
 ghost use Rattle.std.specs.String.{string_bytes};
 ghost use Rattle.resb_grammar.specs.Ascii as ascii;
-ghost use Rattle.resb_icu_grammar.specs.Pieces.{Inside};
+ghost use Rattle.resb_icu_grammar.specs.Pieces.{QuotedBytes};
 ghost use Rattle.resb_icu_grammar.specs.Words.{HasNoEscape};
 ghost use Rattle.resb_icu_text.specs.Inner.Stops.{FirstStop, HasNoStop};
 
@@ -30,11 +30,11 @@ fn first_stop(text: &str, from: usize) -> Option<usize>
 /// no escape stands in it. Counts a turn for each byte up to there, and one for that place.
 pub(crate) fn piece_end(text: &str, from: usize, turns: &mut IcuTurns) -> Option<(usize, bool)>
     requires within { from ≤ length text.now }
-    ensures found { IfSome result (λ r. (bytes : List ℕ) × Inside text.now from r.0 bytes) }
+    ensures found { IfSome result (λ r. (bytes : List ℕ) × QuotedBytes text.now from r.0 bytes) }
     ensures plain { IfSome result (λ r. r.1 ≡ true → HasNoEscape text.now from r.0) }
     ensures escaped { IfSome result (λ r. r.1 ≡ false → HasNoEscape text.now from r.0 → ⊥) }
     ensures within { IfSome result (λ r. (from ≤ r.0) × (r.0 < length text.now)) }
-    ensures none { IfNone result ((to : ℕ) (s : List ℕ) → Inside text.now from to s → ⊥) }
+    ensures none { IfNone result ((to : ℕ) (s : List ℕ) → QuotedBytes text.now from to s → ⊥) }
     ensures cost { IfSome result (λ r. turns.new.count + from ≤ turns.old.count + r.0 + 1) }
     ensures most { turns.new.count + from ≤ turns.old.count + length text.now }
 {
@@ -69,10 +69,10 @@ pub(crate) fn push_piece(
     last: usize,
     turns: &mut IcuTurns,
 ) -> Result<(), AllocError>
-    requires inside { (bytes : List ℕ) × Inside text.now from last bytes }
+    requires inside { (bytes : List ℕ) × QuotedBytes text.now from last bytes }
     requires opens { (0 < from) × (slice_index text.now (from - 1) ≡ ascii.quote) }
     requires within { (from ≤ last) × (last < length text.now) }
-    ensures value { OnOk result ((bytes : List ℕ) → Inside text.now from last bytes
+    ensures value { OnOk result ((bytes : List ℕ) → QuotedBytes text.now from last bytes
         → string_bytes value.new ≡ string_bytes value.old ++ bytes) }
     ensures cost { turns.new.count + from ≤ turns.old.count + last }
 {

@@ -126,11 +126,7 @@ fn name<'a>(
 
 /// The place behind the root's type and the blanks there, if it has one, and whether fallback stays
 /// on. The root's `{` can stand nowhere else.
-fn typing(
-    text: &str,
-    at: usize,
-    turns: &mut IcuTurns,
-) -> Result<(usize, bool), IcuTextError>
+fn typing(text: &str, at: usize, turns: &mut IcuTurns) -> Result<(usize, bool), IcuTextError>
     requires within { at ≤ length text.now }
     ensures ok { IfOk result (λ r. Typing text.now at r.0 r.1) }
     ensures only { IfOk result
@@ -153,11 +149,7 @@ fn typing(
 }
 
 /// The place of the root's `{` behind its type, if it has one, and whether fallback stays on.
-fn opening(
-    text: &str,
-    at: usize,
-    turns: &mut IcuTurns,
-) -> Result<(usize, bool), IcuTextError>
+fn opening(text: &str, at: usize, turns: &mut IcuTurns) -> Result<(usize, bool), IcuTextError>
     requires within { at ≤ length text.now }
     ensures ok { IfOk result (λ r. Opening text.now at r.0 r.1) }
     ensures err { IfErr result

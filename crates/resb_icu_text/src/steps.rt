@@ -47,7 +47,7 @@ impl Last {
 
     /// Whether a string stands last, with no comma behind it.
     fn is_string(self) -> bool
-        ensures { result ≡ spec.is_string (last_of self) }
+        ensures { result ≡ spec.ends_in_string (last_of self) }
     {
         match self {
             Last::String => true,
@@ -393,7 +393,7 @@ fn is_collation(key: &str) -> bool
 
 /// Whether a resource is a table.
 fn is_table(resource: &Resource<'_>) -> bool
-    ensures { result ≡ spec.is_table (tree_of resource.now) }
+    ensures { result ≡ spec.holds_entries (tree_of resource.now) }
 {
     match resource {
         Resource::Table(_) => true,

@@ -1,10 +1,11 @@
 //! Words: the numbers and types that they are, and what a key may hold.
 //! Quoted strings are read in `strings`. Places count bytes of the text from its start.
-ghost use Rattle.std.specs.Prelude.{◌≡◌, ◌≢◌, ℕ, ◌+◌, ◌-◌, ◌*◌, ◌^◌, ◌<◌, ◌≤◌, ◌↔◌, Bool, IsTrue, min};
+ghost use Rattle.std.specs.Prelude.{◌≡◌, ◌≢◌, ℕ, ◌+◌, ◌-◌, ◌*◌, ◌^◌, ◌<◌, ◌≤◌, ◌↔◌, Bool, IsTrue};
+ghost use Rattle.std.specs.Prelude.{min};
 ghost use Rattle.std.specs.Prelude.{List, length, slice_index, slice_range, IfSome, IfNone};
 ghost use Rattle.resb_grammar.specs.Ascii as ascii;
 ghost use Rattle.resb_grammar.specs.ByteRuns.{Run, is_digit};
-ghost use Rattle.resb_grammar.specs.Tokens as plain;
+ghost use Rattle.resb_grammar.specs.Lexical as plain;
 ghost use Rattle.resb_grammar.specs.GroupTypes as types;
 ghost use Rattle.resb_grammar.specs.GroupTypes.{Names, Stands};
 ghost use Rattle.resb_icu_grammar.specs.Bytes as spec;
@@ -38,11 +39,7 @@ pub(crate) fn word_end(text: &str, from: usize) -> usize
 
 /// The word that begins here, and where it ends. Counts a turn for each of its bytes and one for
 /// the byte behind it.
-pub(crate) fn word<'a>(
-    text: &'a str,
-    from: usize,
-    turns: &mut IcuTurns,
-) -> Option<(usize, &'a str)>
+pub(crate) fn word<'a>(text: &'a str, from: usize, turns: &mut IcuTurns) -> Option<(usize, &'a str)>
     requires within { from ≤ length text.now }
     ensures found { IfSome result (λ r. Word text.now from r.0 r.1.now) }
     ensures none { IfNone result ((to : ℕ) (s : List ℕ) → Word text.now from to s → ⊥) }

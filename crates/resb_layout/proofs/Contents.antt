@@ -12,12 +12,13 @@ use Rattle.std.proofs.lemmas.List.{take_at, drop_at}
 use Rattle.resb_tree.specs.Tree.{binary, integer, int_vector}
 use Rattle.resb_format.specs.Bytes.{units_of, words_of, part}
 use Rattle.resb_format.specs.Parts.{Parts}
-use Rattle.resb_format.specs.Content.{word, unit, leaf, list, pairs, counted}
-use Rattle.resb_format.specs.Content.{content, placed, empty, paired, words_at, offsets_at}
+use Rattle.resb_format.specs.Content.{word, unit, leaf, list, entry_list, behind_count}
+use Rattle.resb_format.specs.Content.{content_at, placed, empty, paired, words_at, offsets_at}
 use Rattle.resb_format.specs.Content.{binary_at, int_vector_at, array_at, array16_at, table_at}
 use Rattle.resb_format.specs.Content.{table16_at, table32_at}
 use Rattle.resb_format.proofs.Spelled.{words_length, units_length}
-use Rattle.resb_layout.specs.Laid.{Given, Laid, here, more_units, more_bytes, words, halves, fill}
+use Rattle.resb_layout.specs.Laid.{Given, Laid, here, more_units, more_bytes, words, fill}
+use Rattle.resb_format.specs.Bytes.{units_as_bytes}
 use Rattle.resb_layout.specs.Laid.{to_data, to_word, pad, binary_body, words_body, near_table_body}
 use Rattle.resb_layout.specs.Laid.{wide_table_body}
 use Rattle.resb_layout.specs.Laws.{StandsIn}
@@ -50,9 +51,10 @@ slice_get_at (x ∷ front) n back (suc at) e = slice_get_at front n back at (ome
 
 -- a count that stands behind a front
 pub counted_found : {A : Type 0} (xs front : List ℕ) (n : ℕ) (back : List ℕ) (at : ℕ) (behind : ℕ
-    → Option A) → xs ≡ front ++ n ∷ back → at ≡ length front → counted xs at behind ≡ behind n
+    → Option A) → xs ≡ front ++ n ∷ back → at ≡ length front → behind_count xs at behind ≡ behind n
 counted_found xs front n back at behind s e =
-    ap (λ l. counted l at behind) s ∙ ap (option_and_then behind) (slice_get_at front n back at e)
+    ap (λ l. behind_count l at behind) s
+    ∙ ap (option_and_then behind) (slice_get_at front n back at e)
 
 -- behind the count
 pub first_part : (xs front ys back : List ℕ) (n at : ℕ) → xs ≡ front ++ n ∷ (ys ++ back)
@@ -78,8 +80,8 @@ second_part xs front ps ys back n at s e f g =
 
 -- the content of a word of a type with a value that isn't 0
 content_placed : (p : Parts) (type value : ℕ) → type < 16 → (type == 7) ≡ false → 0 < value
-    → value < 2 ^ 28 → content p (type * 2 ^ 28 + value) ≡ placed p type value
-unfolding content
+    → value < 2 ^ 28 → content_at p (type * 2 ^ 28 + value) ≡ placed p type value
+unfolding content_at
 content_placed p type value t s h l =
     let w : ℕ = type * 2 ^ 28 + value in
     let e : w / 2 ^ 28 ≡ type = omega arith in
@@ -172,7 +174,7 @@ module _ (p : Parts) (g : Given) (s : Laid) (ps ws : List ℕ) (at : ℕ) (e : h
       ∙ ap (λ l. length ps ∷ (ps ++ l)) (words_read ws stands.bytes_behind small)
       )
 
-  pub wide_found : table32_at p at ≡ Some (pairs (zip ps (map word ws)))
+  pub wide_found : table32_at p at ≡ Some (entry_list (zip ps (map word ws)))
   wide_found =
       let f = front_words p g s (wide_table_body ps ws) stands at e in
       let a = first_part (words_of p.body) _ ps _ (length ps) at wide_words f refl in
@@ -198,17 +200,18 @@ module _ (p : Parts) (g : Given) (s : Laid) (ps ws : List ℕ) (at : ℕ) (e : h
   table_units =
       units_are p g s (near_table_body ps ws) stands at e
       ∙ ap (λ l. units_of (before p g s (near_table_body ps ws) stands) ++ l) (
-      ap units_of (append_assoc (to_le_bytes w16 n) (halves ps
+      ap units_of (append_assoc (to_le_bytes w16 n) (units_as_bytes ps
       ++ (pad n ++ words ws)) stands.bytes_behind)
-      ∙ unit_read n ((halves ps ++ (pad n ++ words ws)) ++ stands.bytes_behind) few
-      ∙ ap (λ l. n ∷ units_of l) (append_assoc (halves ps) (pad n
+      ∙ unit_read n ((units_as_bytes ps ++ (pad n ++ words ws)) ++ stands.bytes_behind) few
+      ∙ ap (λ l. n ∷ units_of l) (append_assoc (units_as_bytes ps) (pad n
       ++ words ws) stands.bytes_behind)
       ∙ ap (λ l. n ∷ l) (halves_read ps ((pad n ++ words ws) ++ stands.bytes_behind) near)
       )
 
   -- the bytes before the descriptors
   abbrev ahead : List ℕ
-  ahead = before p g s (near_table_body ps ws) stands ++ (to_le_bytes w16 n ++ (halves ps ++ pad n))
+  ahead = before p g s (near_table_body ps ws) stands
+      ++ (to_le_bytes w16 n ++ (units_as_bytes ps ++ pad n))
 
   ahead_len : length ahead ≡ 4 * (at + n / 2 + 1)
   ahead_len =
@@ -219,26 +222,27 @@ module _ (p : Parts) (g : Given) (s : Laid) (ps ws : List ℕ) (at : ℕ) (e : h
         pad_even n,
         halves_len ps,
         length-append (before p g s (near_table_body ps ws) stands) (to_le_bytes w16 n
-            ++ (halves ps ++ pad n)),
-        length-append (to_le_bytes w16 n) (halves ps ++ pad n),
-        length-append (halves ps) (pad n),
+            ++ (units_as_bytes ps ++ pad n)),
+        length-append (to_le_bytes w16 n) (units_as_bytes ps ++ pad n),
+        length-append (units_as_bytes ps) (pad n),
       )
 
   ahead_is : p.body ≡ ahead ++ (words ws ++ stands.bytes_behind)
   ahead_is =
       body_is p g s (near_table_body ps ws) stands
       ∙ ap (λ l. before p g s (near_table_body ps ws) stands ++ l) (
-      append_assoc (to_le_bytes w16 n) (halves ps ++ (pad n ++ words ws)) stands.bytes_behind
+      append_assoc (to_le_bytes w16 n) (units_as_bytes ps
+      ++ (pad n ++ words ws)) stands.bytes_behind
       ∙ ap (λ l. to_le_bytes w16 n ++ l) (
-      append_assoc (halves ps) (pad n ++ words ws) stands.bytes_behind
-      ∙ ap (λ l. halves ps ++ l) (append_assoc (pad n) (words ws) stands.bytes_behind)
-      ∙ sym (append_assoc (halves ps) (pad n) (words ws ++ stands.bytes_behind))
+      append_assoc (units_as_bytes ps) (pad n ++ words ws) stands.bytes_behind
+      ∙ ap (λ l. units_as_bytes ps ++ l) (append_assoc (pad n) (words ws) stands.bytes_behind)
+      ∙ sym (append_assoc (units_as_bytes ps) (pad n) (words ws ++ stands.bytes_behind))
       )
-      ∙ sym (append_assoc (to_le_bytes w16 n) (halves ps ++ pad n) (words ws
+      ∙ sym (append_assoc (to_le_bytes w16 n) (units_as_bytes ps ++ pad n) (words ws
       ++ stands.bytes_behind))
       )
       ∙ sym (append_assoc (before p g s (near_table_body ps ws) stands) (to_le_bytes w16 n
-      ++ (halves ps ++ pad n)) (words ws ++ stands.bytes_behind))
+      ++ (units_as_bytes ps ++ pad n)) (words ws ++ stands.bytes_behind))
 
   table_words : words_of p.body ≡ words_of ahead ++ (ws ++ words_of stands.bytes_behind)
   table_words =
@@ -246,7 +250,7 @@ module _ (p : Parts) (g : Given) (s : Laid) (ps ws : List ℕ) (at : ℕ) (e : h
       ++ stands.bytes_behind) ahead_len
       ∙ ap (λ l. words_of ahead ++ l) (words_read ws stands.bytes_behind small)
 
-  pub table_found : table_at p at ≡ Some (pairs (zip ps (map word ws)))
+  pub table_found : table_at p at ≡ Some (entry_list (zip ps (map word ws)))
   table_found =
       let f = front_units p g s (near_table_body ps ws) stands at e in
       let a = first_part (units_of p.body) _ ps _ n (2 * at) table_units f refl in
@@ -356,7 +360,7 @@ module _ (p : Parts) (g : Given) (s : Laid) (ps os : List ℕ) (same : length os
       stands.block_is ∙ append_assoc s.units (length os ∷ (ps ++ os)) stands.units_behind
       ∙ ap (λ l. s.units ++ length os ∷ l) (append_assoc ps os stands.units_behind)
 
-  pub table16_found : table16_at p (length s.units) ≡ Some (pairs (zip ps (map unit os)))
+  pub table16_found : table16_at p (length s.units) ≡ Some (entry_list (zip ps (map unit os)))
   table16_found =
       let a = first_part p.block s.units ps (os
       ++ stands.units_behind) (length os) (length s.units) table16_units refl same in
@@ -369,29 +373,29 @@ module _ (p : Parts) (g : Given) (s : Laid) (ps os : List ℕ) (same : length os
 
 -- the words of these
 pub word_of_array : (p : Parts) (at : ℕ) → 0 < at → at < 2 ^ 28
-    → content p (0x8000_0000 + at) ≡ array_at p at
+    → content_at p (0x8000_0000 + at) ≡ array_at p at
 word_of_array p at h l = content_placed p 8 at (omega arith) refl h l
 
 pub word_of_array16 : (p : Parts) (at : ℕ) → 0 < at → at < 2 ^ 28
-    → content p (0x9000_0000 + at) ≡ array16_at p at
+    → content_at p (0x9000_0000 + at) ≡ array16_at p at
 word_of_array16 p at h l = content_placed p 9 at (omega arith) refl h l
 
 pub word_of_table : (p : Parts) (at : ℕ) → 0 < at → at < 2 ^ 28
-    → content p (0x2000_0000 + at) ≡ table_at p at
+    → content_at p (0x2000_0000 + at) ≡ table_at p at
 word_of_table p at h l = content_placed p 2 at (omega arith) refl h l
 
 pub word_of_table16 : (p : Parts) (at : ℕ) → 0 < at → at < 2 ^ 28
-    → content p (0x5000_0000 + at) ≡ table16_at p at
+    → content_at p (0x5000_0000 + at) ≡ table16_at p at
 word_of_table16 p at h l = content_placed p 5 at (omega arith) refl h l
 
 pub word_of_table32 : (p : Parts) (at : ℕ) → 0 < at → at < 2 ^ 28
-    → content p (0x4000_0000 + at) ≡ table32_at p at
+    → content_at p (0x4000_0000 + at) ≡ table32_at p at
 word_of_table32 p at h l = content_placed p 4 at (omega arith) refl h l
 
 pub word_of_binary : (p : Parts) (at : ℕ) → 0 < at → at < 2 ^ 28
-    → content p (0x1000_0000 + at) ≡ binary_at p at
+    → content_at p (0x1000_0000 + at) ≡ binary_at p at
 word_of_binary p at h l = content_placed p 1 at (omega arith) refl h l
 
 pub word_of_vector : (p : Parts) (at : ℕ) → 0 < at → at < 2 ^ 28
-    → content p (0xe000_0000 + at) ≡ int_vector_at p at
+    → content_at p (0xe000_0000 + at) ≡ int_vector_at p at
 word_of_vector p at h l = content_placed p 14 at (omega arith) refl h l

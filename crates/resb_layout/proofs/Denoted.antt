@@ -5,17 +5,15 @@ use Rattle.std.proofs.Common.{◌==◌, option_map, nat_le, refl, sym, ◌∙◌
 use Rattle.std.specs.Prelude.{All}
 use Rattle.std.specs.List.{zip, list_all}
 use Rattle.std.specs.List.Sorted.{IsStrictlySortedBy}
-use Rattle.std.specs.Map.{keys_of}
 use Rattle.std.proofs.lemmas.Bool.{and_parts, leb-true, ne_eqb}
 use Rattle.std.proofs.lemmas.List.{length-map}
 use Rattle.resb_tree.specs.Tree.{Tree, string, array, table, binary, integer, int_vector, Trees}
 use Rattle.resb_tree.specs.Tree.{no_trees, more_trees, Entries, no_entries, entry, trees_of}
 use Rattle.resb_tree.specs.Tree.{map_of, tree_count, trees_count, entries_count}
-use Rattle.resb_tree.specs.Maps.{text_cmp, pairs_of}
-use Rattle.resb_tree.proofs.MapsLemmas.{map_of-sorted, entries_of-pairs_of}
+use Rattle.resb_tree.specs.Maps.{pairs_of}
 use Rattle.resb_format.specs.Strings.{key_at}
 use Rattle.resb_format.specs.Parts.{Parts}
-use Rattle.resb_format.specs.Content.{Member, word, unit, leaf, list, pairs, content}
+use Rattle.resb_format.specs.Content.{Member, word, unit, leaf, list, entry_list, content_at}
 use Rattle.resb_format.specs.Content.{placed, empty}
 use Rattle.resb_format.specs.Denotes.{Den, den_leaf, den_list, den_pairs, DenMember, den_word}
 use Rattle.resb_format.specs.Denotes.{den_unit, DenEach, each_none as none_denoted}
@@ -24,19 +22,20 @@ use Rattle.resb_layout.specs.Laid.{Given, Laid, here, more_units, to_data, words
 use Rattle.resb_layout.specs.Laid.{near_table_body}
 use Rattle.resb_layout.specs.Laid.{wide_table_body, is_short_string}
 use Rattle.resb_layout.specs.Laid.{offsets_in, ClosesArray, short_array, long_array, ClosesTable}
-use Rattle.resb_layout.specs.Laid.{short_table, long_table, wide_table, members_in}
-use Rattle.resb_tree.specs.WalkOrder.{entry_keys}
+use Rattle.resb_layout.specs.Laid.{short_table, long_table, wide_table, entry_trees}
+use Rattle.resb_tree.specs.LayingOrder.{entry_keys}
 use Rattle.resb_layout.specs.Laid.{ArePlaced, Lays, lays_integer, lays_string, lays_no_bytes}
 use Rattle.resb_layout.specs.Laid.{lays_bytes, lays_no_numbers, lays_numbers, lays_no_items}
 use Rattle.resb_layout.specs.Laid.{lays_items, lays_no_entries, lays_entries, LaysEach, each_none}
 use Rattle.resb_layout.specs.Laid.{each_more}
 use Rattle.resb_layout.specs.Laws.{IsRead, StandsIn, LaidIsDenoted}
 use Rattle.resb_layout.proofs.Numbers.{EachBelow}
-use Rattle.resb_layout.proofs.Grows.{grows, grows_each, by_bytes, stood, units_stay}
+use Rattle.resb_layout.proofs.Grows.{grows, grows_each, by_bytes, parts_stood, units_stay}
 use Rattle.resb_layout.proofs.Contents.{array_found, vector_found, wide_found, table_found}
 use Rattle.resb_layout.proofs.Contents.{binary_found, array16_found, table16_found, word_of_array}
 use Rattle.resb_layout.proofs.Contents.{word_of_array16, word_of_table, word_of_table16}
 use Rattle.resb_layout.proofs.Contents.{word_of_table32, word_of_binary, word_of_vector}
+use Rattle.resb_tree.proofs.MapsLemmas.{map_of-pairs_of}
 
 abbrev list_of : Trees → List Tree
 list_of no_trees = []
@@ -141,7 +140,7 @@ module _ (p : Parts) (g : Given) (read : IsRead p g) where
 
   -- the texts of the keys at these positions
   keyed : (es : Entries) (ps : List ℕ) (ms : List Member) (n : ℕ)
-      → map g.position (entry_keys es) ≡ map Some ps → DenEach p ms (list_of (members_in es)) n
+      → map g.position (entry_keys es) ≡ map Some ps → DenEach p ms (list_of (entry_trees es)) n
       → DenPairs p (zip ps ms) (pairs_of es) n
   keyed no_entries [] ms n e d = none_keyed ms n d
   keyed no_entries (q ∷ ps) ms n e d = absurd (let no : ⊥ = cc in no)
@@ -152,8 +151,8 @@ module _ (p : Parts) (g : Given) (read : IsRead p g) where
       one_more (read.keys k q first) (λ ms j h. keyed es ps ms j rest h) ms n d
     where
       one_more : key_at p.keys q ≡ Some k → ((ms : List Member) (j : ℕ)
-          → DenEach p ms (list_of (members_in es)) j → DenPairs p (zip ps ms) (pairs_of es) j)
-          → (ms : List Member) (n : ℕ) → DenEach p ms (t ∷ list_of (members_in es)) n
+          → DenEach p ms (list_of (entry_trees es)) j → DenPairs p (zip ps ms) (pairs_of es) j)
+          → (ms : List Member) (n : ℕ) → DenEach p ms (t ∷ list_of (entry_trees es)) n
           → DenPairs p (zip (q ∷ ps) ms) ((k, t) ∷ pairs_of es) n
       one_more key later ms n (more_denoted {k = k'} {ms = ms'} a b) =
           pairs_more key a (later ms' k' b)
@@ -166,23 +165,13 @@ none_placed : (g : Given) → ArePlaced g [] []
 unfolding IsStrictlySortedBy
 none_placed g = record { ascend = tt; positions = refl }
 
-members_many : (es : Entries) → length (entry_keys es) ≡ length (list_of (members_in es))
+members_many : (es : Entries) → length (entry_keys es) ≡ length (list_of (entry_trees es))
 members_many no_entries = refl
 members_many (entry k t es) = ap suc (members_many es)
 
-pub members_count : (es : Entries) → trees_count (members_in es) ≡ entries_count es
+pub members_count : (es : Entries) → trees_count (entry_trees es) ≡ entries_count es
 members_count no_entries = refl
 members_count (entry k t es) = ap (λ n. tree_count t + n) (members_count es)
-
--- entries that ascend are their own map
-same_keys : (es : Entries) → keys_of (pairs_of es) ≡ entry_keys es
-same_keys no_entries = refl
-same_keys (entry k t es) = ap (λ ks. k ∷ ks) (same_keys es)
-
-own_map : (es : Entries) → IsStrictlySortedBy text_cmp (entry_keys es) → map_of (pairs_of es) ≡ es
-own_map es h =
-    map_of-sorted (pairs_of es) (subst (IsStrictlySortedBy text_cmp) (sym (same_keys es)) h)
-    ∙ entries_of-pairs_of es
 
 module _ (p : Parts) (g : Given) (read : IsRead p g) where
   some_here : (s : Laid) (at : ℕ) → here g s ≡ 4 * at → 0 < at
@@ -194,7 +183,7 @@ module _ (p : Parts) (g : Given) (read : IsRead p g) where
   one_more : (n : ℕ) → 1 + n ≡ n + 1
   one_more n = omega arith
 
-  as_array : (w : ℕ) (ms : List Member) (ts : Trees) → content p w ≡ Some (list ms)
+  as_array : (w : ℕ) (ms : List Member) (ts : Trees) → content_at p w ≡ Some (list ms)
       → DenEach p ms (list_of ts) (trees_count ts) → Den p w (array ts) (trees_count ts + 1)
   as_array w ms ts e d =
       subst (λ us. Den p w (array us) (trees_count ts + 1)) (trees_back ts)
@@ -203,14 +192,14 @@ module _ (p : Parts) (g : Given) (read : IsRead p g) where
 
   as_table : (w : ℕ) (ps : List ℕ) (ms : List Member) (es : Entries)
       → ArePlaced g (entry_keys es) ps
-      → content p w ≡ Some (pairs (zip ps ms))
-      → DenEach p ms (list_of (members_in es)) (trees_count (members_in es))
+      → content_at p w ≡ Some (entry_list (zip ps ms))
+      → DenEach p ms (list_of (entry_trees es)) (trees_count (entry_trees es))
       → Den p w (table es) (entries_count es + 1)
   as_table w ps ms es placed e d =
       let ds : DenPairs p (zip ps ms) (pairs_of es) (entries_count es) =
       subst (λ n. DenPairs p (zip ps ms) (pairs_of es) n) (members_count es)
-      (keyed p g read es ps ms (trees_count (members_in es)) placed.positions d) in
-      subst (λ fs. Den p w (table fs) (entries_count es + 1)) (own_map es placed.ascend)
+      (keyed p g read es ps ms (trees_count (entry_trees es)) placed.positions d) in
+      subst (λ fs. Den p w (table fs) (entries_count es + 1)) (map_of-pairs_of es placed.ascend)
       (subst (λ n. Den p w (table (map_of (pairs_of es))) n) (one_more (entries_count es))
       (den_pairs e ds))
 
@@ -220,34 +209,34 @@ module _ (p : Parts) (g : Given) (read : IsRead p g) where
   some_base : (s : Laid) → 0 < here g s
   some_base s = omega (arith, read.base)
 
-  integer_word : (n : ℕ) → n < 2 ^ 28 → content p (0x7000_0000 + n) ≡ Some (leaf (integer n))
-  unfolding content
+  integer_word : (n : ℕ) → n < 2 ^ 28 → content_at p (0x7000_0000 + n) ≡ Some (leaf (integer n))
+  unfolding content_at
   integer_word n h =
       let e : (0x7000_0000 + n) / 2 ^ 28 ≡ 7 = omega arith in
       let f : (0x7000_0000 + n) % 2 ^ 28 ≡ n = omega arith in
       λ i. cond (e i == 7) (Some (leaf (integer (f i))))
       (cond (f i == 0) (empty (e i)) (placed p (e i) (f i)))
 
-  no_bytes : content p 0x1000_0000 ≡ Some (leaf (binary []))
-  unfolding content
+  no_bytes : content_at p 0x1000_0000 ≡ Some (leaf (binary []))
+  unfolding content_at
   no_bytes = refl
 
-  no_numbers : content p 0xe000_0000 ≡ Some (leaf (int_vector []))
-  unfolding content
+  no_numbers : content_at p 0xe000_0000 ≡ Some (leaf (int_vector []))
+  unfolding content_at
   no_numbers = refl
 
-  no_items : content p 0x8000_0000 ≡ Some (list [])
-  unfolding content
+  no_items : content_at p 0x8000_0000 ≡ Some (list [])
+  unfolding content_at
   no_items = refl
 
-  no_pairs : content p 0x2000_0000 ≡ Some (pairs [])
-  unfolding content
+  no_pairs : content_at p 0x2000_0000 ≡ Some (entry_list [])
+  unfolding content_at
   no_pairs = refl
 
   -- the empty text alone stands at unit 0
   string_leaf : (text : List ℕ) (k : ℕ) → g.offset text ≡ Some k → k < 2 ^ 28
-      → content p (0x6000_0000 + k) ≡ Some (leaf (string text))
-  unfolding content
+      → content_at p (0x6000_0000 + k) ≡ Some (leaf (string text))
+  unfolding content_at
   string_leaf text zero h l = let same : Some text ≡ Some [] =
       sym (read.texts text 0 h) ∙ read.empty in let e : text ≡ [] =
       cc in ap (λ s. Some (leaf (string s))) (sym e)
@@ -278,16 +267,16 @@ module _ (p : Parts) (g : Given) (read : IsRead p g) where
   array_denoted s ts ws e w u (long_array at h f l n) i small long short =
       as_array (0x8000_0000 + at) (map word ws) ts
       (word_of_array p at (some_here s at f) l ∙ array_found p g s ws at f small n i)
-      (long (stood (by_bytes s (words_body ws)) i))
+      (long (parts_stood (by_bytes s (words_body ws)) i))
 
   table_denoted : (s : Laid) (es : Entries) (ps ws : List ℕ) (e : Laid) (w : ℕ)
       → 0 < length s.units → ClosesTable g s ps ws e w → StandsIn p g e
       → ArePlaced g (entry_keys es) ps → length ps ≡ length ws → EachBelow (2 ^ 32) ws
       → (StandsIn p g s
-      → DenEach p (map word ws) (list_of (members_in es)) (trees_count (members_in es)))
+      → DenEach p (map word ws) (list_of (entry_trees es)) (trees_count (entry_trees es)))
       → (list_all is_short_string ws ≡ true
-      → DenEach p (map unit (offsets_in ws)) (list_of (members_in es))
-      (trees_count (members_in es)))
+      → DenEach p (map unit (offsets_in ws)) (list_of (entry_trees es))
+      (trees_count (entry_trees es)))
       → Den p w (table es) (entries_count es + 1)
   table_denoted s es ps ws e w u (short_table near h l) i q same small long short =
       let both = and_parts _ _ h in
@@ -305,12 +294,12 @@ module _ (p : Parts) (g : Given) (read : IsRead p g) where
       (word_of_table p at (some_here s at f) l
       ∙ table_found p g s ps ws at f (near_below (2 ^ 16) ps (omega arith) both.1) small few
       same i)
-      (long (stood (by_bytes s (near_table_body ps ws)) i))
+      (long (parts_stood (by_bytes s (near_table_body ps ws)) i))
   table_denoted s es ps ws e w u (wide_table at near f l n a) i q same small long short =
       as_table (0x4000_0000 + at) ps (map word ws) es q
       (word_of_table32 p at (some_here s at f) l
       ∙ wide_found p g s ps ws at f (each_below (2 ^ 32) ps a) small n same i)
-      (long (stood (by_bytes s (wide_table_body ps ws)) i))
+      (long (parts_stood (by_bytes s (wide_table_body ps ws)) i))
 
   mutual
     pub denoted : {s e : Laid} {t : Tree} {w : ℕ} → 0 < length s.units → Lays g s t e w
@@ -343,7 +332,7 @@ module _ (p : Parts) (g : Given) (read : IsRead p g) where
         → DenEach p (map word ws) (list_of ts) (trees_count ts)
     denoted_each u each_none i = none_denoted
     denoted_each u (each_more h k) i =
-        more_denoted (den_word (denoted u h (stood (grows_each k) i)))
+        more_denoted (den_word (denoted u h (parts_stood (grows_each k) i)))
         (denoted_each (units_stay (grows h) u) k i)
 
 -- a tree that is laid is what its word denotes

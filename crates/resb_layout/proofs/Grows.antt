@@ -16,16 +16,16 @@ pub record Grows (a b : Laid) : Type 0 where
   pub units_are : b.units ≡ a.units ++ units
   pub bytes_are : b.tail ≡ a.tail ++ bytes
 
-pub stays : (s : Laid) → Grows s s
-stays s = record {
+pub grows_by_nothing : (s : Laid) → Grows s s
+grows_by_nothing s = record {
   units = [];
   bytes = [];
   units_are = sym (append-nil s.units);
   bytes_are = sym (append-nil s.tail);
 }
 
-pub onward : {a b c : Laid} → Grows a b → Grows b c → Grows a c
-onward {a} {b} {c} g h = record {
+pub grows_onward : {a b c : Laid} → Grows a b → Grows b c → Grows a c
+grows_onward {a} {b} {c} g h = record {
   units = g.units ++ h.units;
   bytes = g.bytes ++ h.bytes;
   units_are = h.units_are ∙ ap (λ us. us ++ h.units) g.units_are
@@ -64,25 +64,25 @@ table_grows (wide_table at n e l q r) = by_bytes _ _
 mutual
   -- laying a tree only appends
   pub grows : {g : Given} {s e : Laid} {t : Tree} {w : ℕ} → Lays g s t e w → Grows s e
-  grows (lays_integer h) = stays _
-  grows (lays_string h l) = stays _
-  grows lays_no_bytes = stays _
+  grows (lays_integer h) = grows_by_nothing _
+  grows (lays_string h l) = grows_by_nothing _
+  grows lays_no_bytes = grows_by_nothing _
   grows (lays_bytes at some n e l) = by_bytes _ _
-  grows lays_no_numbers = stays _
+  grows lays_no_numbers = grows_by_nothing _
   grows (lays_numbers at some n a e l) = by_bytes _ _
-  grows lays_no_items = stays _
-  grows (lays_items h some c) = onward (grows_each h) (array_grows c)
-  grows lays_no_entries = stays _
-  grows (lays_entries ps p h some c) = onward (grows_each h) (table_grows c)
+  grows lays_no_items = grows_by_nothing _
+  grows (lays_items h some c) = grows_onward (grows_each h) (array_grows c)
+  grows lays_no_entries = grows_by_nothing _
+  grows (lays_entries ps p h some c) = grows_onward (grows_each h) (table_grows c)
 
   pub grows_each : {g : Given} {s e : Laid} {ts : Trees} {ws : List ℕ} → LaysEach g s ts e ws
       → Grows s e
-  grows_each each_none = stays _
-  grows_each (each_more h k) = onward (grows h) (grows_each k)
+  grows_each each_none = grows_by_nothing _
+  grows_each (each_more h k) = grows_onward (grows h) (grows_each k)
 
 -- what stands in the parts later stood in them before
-pub stood : {p : Parts} {g : Given} {a b : Laid} → Grows a b → StandsIn p g b → StandsIn p g a
-stood {p} {g} {a} {b} h s = record {
+pub parts_stood : {p : Parts} {g : Given} {a b : Laid} → Grows a b → StandsIn p g b → StandsIn p g a
+parts_stood {p} {g} {a} {b} h s = record {
   front = s.front;
   units_behind = h.units ++ s.units_behind;
   bytes_behind = h.bytes ++ s.bytes_behind;

@@ -8,11 +8,12 @@ use Rattle.std.specs.Int.{to_le_bytes, w16, w32}
 use Rattle.std.proofs.lemmas.List.{length-replicate}
 use Rattle.resb_tree.specs.Tree.{Tree, array, table, binary, int_vector, Trees, Entries}
 use Rattle.resb_tree.specs.Tree.{no_entries, entry}
-use Rattle.resb_tree.specs.WalkOrder.{walk_order, walk_each, walk_values}
+use Rattle.resb_tree.specs.LayingOrder.{laying_order, laying_each, laying_values}
 use Rattle.resb_format.proofs.WordsBack.{written_length}
-use Rattle.resb_layout.specs.Laid.{Given, Laid, more_units, more_bytes, here, words, halves, pad}
+use Rattle.resb_layout.specs.Laid.{Given, Laid, more_units, more_bytes, here, words, pad}
+use Rattle.resb_format.specs.Bytes.{units_as_bytes}
 use Rattle.resb_layout.specs.Laid.{to_data, to_word, fill, offsets_in, words_body, near_table_body}
-use Rattle.resb_layout.specs.Laid.{wide_table_body, binary_body, members_in}
+use Rattle.resb_layout.specs.Laid.{wide_table_body, binary_body, entry_trees}
 use Rattle.resb_layout.specs.Laid.{ClosesArray, short_array, long_array, ClosesTable}
 use Rattle.resb_layout.specs.Laid.{short_table, long_table, wide_table, Lays, lays_integer}
 use Rattle.resb_layout.specs.Laid.{lays_string, lays_no_bytes, lays_bytes, lays_no_numbers}
@@ -138,7 +139,8 @@ wide_whole at ps ws word =
       length-append (words ps) (words ws),
     )
 
-pad_long : (n : ℕ) → ((n % 2 ≡ 0) × (length (pad n) ≡ 2)) ⊎ ((n % 2 ≡ 1) × (length (pad n) ≡ 0))
+-- the padding behind n positions: none where they are odd in number
+pub pad_long : (n : ℕ) → ((n % 2 ≡ 0) × (length (pad n) ≡ 2)) ⊎ ((n % 2 ≡ 1) × (length (pad n) ≡ 0))
 pad_long n = by (nat_eq (n % 2) 0) refl
   where
     by : (b : Bool) → nat_eq (n % 2) 0 ≡ b → ((n % 2 ≡ 0) × (length (pad n) ≡ 2))
@@ -158,8 +160,9 @@ near_long ps ws =
       arith,
       written_length ws,
       halves_len ps,
-      length-append (to_le_bytes w16 (length ps)) (halves ps ++ (pad (length ps) ++ words ws)),
-      length-append (halves ps) (pad (length ps) ++ words ws),
+      length-append (to_le_bytes w16 (length ps)) (units_as_bytes ps
+          ++ (pad (length ps) ++ words ws)),
+      length-append (units_as_bytes ps) (pad (length ps) ++ words ws),
       length-append (pad (length ps)) (words ws),
     )
 
@@ -205,14 +208,15 @@ module _ (g : Given) where
       in_tail g s (table es) (wide_table_body ps ws) word (tail_wide_table ps ws some)
       (wide_whole (here g s) ps ws word)
 
--- the members of a table in walk order
-values_walked : (es : Entries) → walk_each (members_in es) ≡ walk_values es
-values_walked no_entries = refl
-values_walked (entry k t es) = ap (λ ts. walk_order t ++ ts) (values_walked es)
+-- the members of a table in laying order
+pub laying_each-entry_trees : (es : Entries) → laying_each (entry_trees es) ≡ laying_values es
+laying_each-entry_trees no_entries = refl
+laying_each-entry_trees (entry k t es) = ap (λ ts. laying_order t
+    ++ ts) (laying_each-entry_trees es)
 
 mutual
   in_order : {g : Given} {s e : Laid} {t : Tree} {w : ℕ} → Lays g s t e w → here g s % 4 ≡ 0
-      → StandsInOrder g s e (walk_order t)
+      → StandsInOrder g s e (laying_order t)
   in_order {g = g} (lays_integer {s = s'} h) word = nothing g s' _ word
   in_order {g = g} (lays_string {s = s'} h l) word = nothing g s' _ word
   in_order {g = g} (lays_no_bytes {s = s'}) word = nothing g s' _ word
@@ -230,15 +234,15 @@ mutual
   in_order {g = g} (lays_no_entries {s = s'}) word = nothing g s' _ word
   in_order {g = g} {s = s} (lays_entries {mid = m'} {es = es'} ps p h some c) word =
       let k = each_in_order h word in
-      joined_in_order g (subst (StandsInOrder g s m') (values_walked es') k)
+      joined_in_order g (subst (StandsInOrder g s m') (laying_each-entry_trees es') k)
       (table_in_order g es' k.whole some c)
 
   each_in_order : {g : Given} {s e : Laid} {ts : Trees} {ws : List ℕ} → LaysEach g s ts e ws
-      → here g s % 4 ≡ 0 → StandsInOrder g s e (walk_each ts)
+      → here g s % 4 ≡ 0 → StandsInOrder g s e (laying_each ts)
   each_in_order {g = g} (each_none {s = s'}) word = none g s' word
   each_in_order {g = g} (each_more h k) word =
       let first = in_order h word in joined_in_order g first (each_in_order k first.whole)
 
--- the resources of a tree are laid in walk order
+-- the resources of a tree are laid in laying order
 pub laid_in_order : LaidInOrder
 laid_in_order g before after t w word h = in_order h word

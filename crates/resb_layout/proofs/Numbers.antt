@@ -4,7 +4,8 @@ use Rattle.std.proofs.Common.{length, refl, ap, length-append, arith}
 use Rattle.std.specs.Int.{to_le_bytes, w16, w32}
 use Rattle.resb_format.specs.Bytes.{units_of, words_of}
 use Rattle.resb_format.proofs.WordsBack.{two_bytes}
-use Rattle.resb_layout.specs.Laid.{words, halves}
+use Rattle.resb_layout.specs.Laid.{words}
+use Rattle.resb_format.specs.Bytes.{units_as_bytes}
 
 -- each number is below a bound
 abbrev pub EachBelow : ℕ → List ℕ → Type 0
@@ -34,15 +35,20 @@ words_read (w ∷ ws) rest h = λ i. four_bytes w h.0 i ∷ words_read ws rest h
 
 -- units that are written are read back
 pub halves_read : (us rest : List ℕ) → EachBelow (2 ^ 16) us
-    → units_of (halves us ++ rest) ≡ us ++ units_of rest
+    → units_of (units_as_bytes us ++ rest) ≡ us ++ units_of rest
 unfolding units_of
 halves_read [] rest h = refl
 halves_read (u ∷ us) rest h = λ i. two_bytes u h.0 i ∷ halves_read us rest h.1 i
 
 -- units take two bytes each
-pub halves_len : (us : List ℕ) → length (halves us) ≡ 2 * length us
+pub halves_len : (us : List ℕ) → length (units_as_bytes us) ≡ 2 * length us
 halves_len [] = refl
-halves_len (u ∷ us) = omega (arith, halves_len us, length-append (to_le_bytes w16 u) (halves us))
+halves_len (u ∷ us) = omega (
+  arith,
+  halves_len us,
+  length-append (to_le_bytes w16 u)
+      (units_as_bytes us),
+)
 
 -- whole words, and then others
 pub words_behind : (at : ℕ) (front rest : List ℕ) → length front ≡ 4 * at

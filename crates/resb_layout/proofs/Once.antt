@@ -28,8 +28,8 @@ pub none_inside : {g : Given} {s mid : Laid} {ws : List ℕ} → LaysEach g s no
 none_inside each_none h = omega (arith, h)
 
 -- 0 is not positive
-pub nothing : {n : ℕ} → 0 < n → n ≡ 0 → ⊥
-nothing h e = omega (arith, h, e)
+pub zero_not_positive : {n : ℕ} → 0 < n → n ≡ 0 → ⊥
+zero_not_positive h e = omega (arith, h, e)
 
 same_at : (n at at' : ℕ) → n ≡ 4 * at → n ≡ 4 * at' → at ≡ at'
 same_at n at at' a b = omega (arith, a, b)
@@ -67,13 +67,13 @@ mutual
   once (lays_string {k = m} h l) (lays_string {k = n} k o) = let e : m ≡ n =
       cc in (refl, ap (λ i. 0x6000_0000 + i) e)
   once lays_no_bytes lays_no_bytes = (refl, refl)
-  once lays_no_bytes (lays_bytes at some n e l) = absurd (nothing some refl)
-  once (lays_bytes at some n e l) lays_no_bytes = absurd (nothing some refl)
+  once lays_no_bytes (lays_bytes at some n e l) = absurd (zero_not_positive some refl)
+  once (lays_bytes at some n e l) lays_no_bytes = absurd (zero_not_positive some refl)
   once {g = g} {s = s} (lays_bytes at some n e l) (lays_bytes at2 some2 n2 f l2) =
       (refl, ap (λ i. 0x1000_0000 + i) (same_at (here g s + to_data (here g s)) at at2 e f))
   once lays_no_numbers lays_no_numbers = (refl, refl)
-  once lays_no_numbers (lays_numbers at some n a e l) = absurd (nothing some refl)
-  once (lays_numbers at some n a e l) lays_no_numbers = absurd (nothing some refl)
+  once lays_no_numbers (lays_numbers at some n a e l) = absurd (zero_not_positive some refl)
+  once (lays_numbers at some n a e l) lays_no_numbers = absurd (zero_not_positive some refl)
   once {g = g} {s = s} (lays_numbers at some n a e l) (lays_numbers at2 some2 n2 a2 f l2) =
       (refl, ap (λ i. 0xe000_0000 + i) (same_at (here g s) at at2 e f))
   once lays_no_items lays_no_items = (refl, refl)

@@ -4,7 +4,8 @@ use Rattle.std.proofs.Common.{length-append, arith}
 use Rattle.std.specs.Int.{to_le_bytes, w16, w32}
 use Rattle.std.proofs.lemmas.List.{length-map}
 use Rattle.resb_tree.specs.Tree.{Tree, Trees, tree_count, trees_count}
-use Rattle.resb_layout.specs.Laid.{Given, Laid, more_units, more_bytes, here, words, halves, pad}
+use Rattle.resb_layout.specs.Laid.{Given, Laid, more_units, more_bytes, here, words, pad}
+use Rattle.resb_format.specs.Bytes.{units_as_bytes}
 use Rattle.resb_layout.specs.Laid.{offsets_in, words_body, near_table_body, wide_table_body}
 use Rattle.resb_layout.specs.Laid.{binary_body}
 use Rattle.resb_layout.specs.Laid.{ClosesArray, short_array, long_array, ClosesTable}
@@ -49,8 +50,9 @@ table_room {s = s} {ps = ps} {ws = ws} (long_table at n h e l) =
       arith,
       bytes_taken s (near_table_body ps ws),
       written_length ws,
-      length-append (to_le_bytes w16 (length ps)) (halves ps ++ (pad (length ps) ++ words ws)),
-      length-append (halves ps) (pad (length ps) ++ words ws),
+      length-append (to_le_bytes w16 (length ps)) (units_as_bytes ps
+          ++ (pad (length ps) ++ words ws)),
+      length-append (units_as_bytes ps) (pad (length ps) ++ words ws),
       length-append (pad (length ps)) (words ws),
     )
 table_room {s = s} {ps = ps} {ws = ws} (wide_table at n e l q r) =

@@ -1,4 +1,4 @@
--- The bodies of a written file, one right behind another in walk order: what a layout implies of
+-- The bodies of a written file, one right behind another in laying order: what a layout implies of
 -- the bytes of its tail and the units of its block.
 --     TailBody at t body      the body of t in the tail, from byte `at` of the file's body
 --     FillsTail at ts bytes   those bodies of the trees ts that stand in the tail are these bytes

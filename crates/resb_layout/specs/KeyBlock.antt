@@ -8,7 +8,7 @@ use Rattle.std.specs.List.{flat_map, list_any}
 use Rattle.resb_tree.specs.Tree.{Tree}
 use Rattle.resb_tree.specs.Keys.{same_text}
 use Rattle.resb_layout.specs.Laid.{fill, to_word}
-use Rattle.resb_tree.specs.WalkOrder.{keys_of}
+use Rattle.resb_tree.specs.LayingOrder.{keys_of}
 
 -- the key is one of these
 abbrev pub is_among : List (List ℕ) → List ℕ → Bool
@@ -31,9 +31,9 @@ abbrev pub key_block : Tree → List (List ℕ) → List ℕ
 key_block t ks = padded (key_bytes (used (keys_of t) ks))
 
 -- how many bytes stand before the last occurrence of k among keys that stand one behind the other
-abbrev pub last_of : List ℕ → List (List ℕ) → Option ℕ
-last_of k [] = None
-last_of k (j ∷ js) = or_here (last_of k js)
+abbrev pub last_place : List ℕ → List (List ℕ) → Option ℕ
+last_place k [] = None
+last_place k (j ∷ js) = or_here (last_place k js)
   where
     or_here : Option ℕ → Option ℕ
     or_here (Some n) = Some (length j + 1 + n)
@@ -45,7 +45,7 @@ keys_start = 32
 
 -- the position of the last occurrence of k among keys that begin there
 abbrev pub position_in : List (List ℕ) → List ℕ → Option ℕ
-position_in js k = option_map (λ n. keys_start + n) (last_of k js)
+position_in js k = option_map (λ n. keys_start + n) (last_place k js)
 
 -- where a key stands in the file, in bytes from the body's start
 abbrev pub key_position : Tree → List (List ℕ) → List ℕ → Option ℕ

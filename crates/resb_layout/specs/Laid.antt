@@ -13,7 +13,8 @@ use Rattle.std.specs.Int.{to_le_bytes, w16, w32}
 use Rattle.resb_tree.specs.Tree.{Tree, string, array, table, binary, integer, int_vector, Trees}
 use Rattle.resb_tree.specs.Tree.{no_trees, more_trees, Entries, no_entries, entry}
 use Rattle.resb_tree.specs.Maps.{text_cmp}
-use Rattle.resb_tree.specs.WalkOrder.{entry_keys}
+use Rattle.resb_tree.specs.LayingOrder.{entry_keys}
+use Rattle.resb_format.specs.Bytes.{units_as_bytes}
 
 -- where keys and strings stand, and where the tail begins: positions of keys and that place are in
 -- bytes of the body, offsets of strings in units of the 16-bit block
@@ -42,10 +43,6 @@ more_bytes s bs = record { units = s.units; tail = s.tail ++ bs }
 -- numbers of 32 bits as bytes, the lowest byte first
 abbrev pub words : List ℕ → List ℕ
 words ws = flat_map (to_le_bytes w32) ws
-
--- numbers of 16 bits as bytes, the lowest byte first
-abbrev pub halves : List ℕ → List ℕ
-halves us = flat_map (to_le_bytes w16) us
 
 -- n filling bytes
 abbrev pub fill : ℕ → List ℕ
@@ -76,7 +73,8 @@ pad n = if nat_eq (n % 2) 0 then 0xaa ∷ 0xaa ∷ [] else []
 
 -- a table's body: a count of 16 bits, as many positions, padding, and as many descriptors
 abbrev pub near_table_body : List ℕ → List ℕ → List ℕ
-near_table_body ps ws = to_le_bytes w16 (length ps) ++ (halves ps ++ (pad (length ps) ++ words ws))
+near_table_body ps ws = to_le_bytes w16 (length ps)
+    ++ (units_as_bytes ps ++ (pad (length ps) ++ words ws))
 
 -- a table's body: a count of 32 bits, as many positions, and as many descriptors
 abbrev pub wide_table_body : List ℕ → List ℕ → List ℕ
@@ -120,9 +118,9 @@ pub data ClosesTable (g : Given) (s : Laid) (ps ws : List ℕ) : Laid → ℕ �
       → ClosesTable g s ps ws (more_bytes s (wide_table_body ps ws)) (0x4000_0000 + at)
 
 -- the trees of entries, in their order
-abbrev pub members_in : Entries → Trees
-members_in no_entries = no_trees
-members_in (entry k t es) = more_trees t (members_in es)
+abbrev pub entry_trees : Entries → Trees
+entry_trees no_entries = no_trees
+entry_trees (entry k t es) = more_trees t (entry_trees es)
 
 -- the keys strictly ascend by their bytes, and have these positions
 pub record ArePlaced (g : Given) (ks : List (List ℕ)) (ps : List ℕ) : Type 0 where
@@ -148,7 +146,7 @@ mutual
         → 0 < length ws → ClosesArray g mid ws end w → Lays g s (array ts) end w
     lays_no_entries : {s : Laid} → Lays g s (table no_entries) s 0x2000_0000
     lays_entries : {s mid end : Laid} {es : Entries} {ws : List ℕ} {w : ℕ} (ps : List ℕ)
-        → ArePlaced g (entry_keys es) ps → LaysEach g s (members_in es) mid ws → 0 < length ws
+        → ArePlaced g (entry_keys es) ps → LaysEach g s (entry_trees es) mid ws → 0 < length ws
         → ClosesTable g mid ps ws end w → Lays g s (table es) end w
 
   -- trees are laid one after another, each with its word

@@ -1,7 +1,7 @@
 -- What the laws of layouts say.
 --     OneLayout               behind what is laid a tree has one end and one word
 --     LaidIsDenoted           in a file whose blocks hold what was laid, its word denotes the tree
---     LaidInOrder             what is laid are the bodies of the tree's resources in walk order,
+--     LaidInOrder             what is laid are the bodies of the tree's resources in laying order,
 --                             without a gap
 --     LaidIsPaid              what was laid has two bytes for each resource but the root
 use Rattle.std.specs.Prelude.{◌≡◌, ℕ, ◌+◌, ◌*◌, ◌%◌, ◌<◌, ◌≤◌, List, [], ◌++◌, length, Some}
@@ -9,7 +9,7 @@ use Rattle.resb_tree.specs.Tree.{Tree, tree_count}
 use Rattle.resb_format.specs.Strings.{text_at, key_at}
 use Rattle.resb_format.specs.Parts.{Parts}
 use Rattle.resb_format.specs.Denotes.{Den}
-use Rattle.resb_tree.specs.WalkOrder.{walk_order}
+use Rattle.resb_tree.specs.LayingOrder.{laying_order}
 use Rattle.resb_layout.specs.Laid.{Given, Laid, Lays, here}
 use Rattle.resb_layout.specs.InOrder.{FillsTail, FillsBlock}
 
@@ -53,11 +53,11 @@ pub record StandsInOrder (g : Given) (before after : Laid) (ts : List Tree) : Ty
   pub block : FillsBlock ts units
   pub whole : here g after % 4 ≡ 0
 
--- a tail that begins at a word is filled in walk order
+-- a tail that begins at a word is filled in laying order
 abbrev pub LaidInOrder : Type 0
 LaidInOrder =
     (g : Given) (before after : Laid) (t : Tree) (w : ℕ) → here g before % 4 ≡ 0
-    → Lays g before t after w → StandsInOrder g before after (walk_order t)
+    → Lays g before t after w → StandsInOrder g before after (laying_order t)
 
 -- the bytes of what stands
 abbrev pub taken : Laid → ℕ

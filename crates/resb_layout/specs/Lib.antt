@@ -12,8 +12,8 @@ pub mod Laid
 pub mod InOrder
 pub mod KeyBlock
 pub mod PlainSize
-pub mod Fault
-pub mod Faults
+pub mod WritingFault
+pub mod TreeFaults
 pub mod WrittenHead
 pub mod Written
 pub mod Laws

@@ -5,12 +5,12 @@ use Rattle.std.specs.Prelude.{ℕ, ◌+◌, ◌*◌, ◌/◌, List, length}
 use Rattle.std.specs.List.{sum_by}
 use Rattle.resb_tree.specs.Tree.{Tree, string, array, table, binary, integer, int_vector}
 use Rattle.resb_format.specs.Units.{units}
-use Rattle.resb_tree.specs.WalkOrder.{walk_order, members, values_of}
+use Rattle.resb_tree.specs.LayingOrder.{laying_order, array_members, values_of}
 
 -- a string's units, 4 for each child, half the bytes, 2 for each number
 abbrev pub held_size : Tree → ℕ
 held_size (string s) = length (units s)
-held_size (array ts) = 4 * length (members ts)
+held_size (array ts) = 4 * length (array_members ts)
 held_size (table es) = 4 * length (values_of es)
 held_size (binary s) = (length s + 1) / 2
 held_size (integer n) = 0
@@ -26,4 +26,4 @@ list_size ks = sum_by (λ k. length k + 1) ks
 
 -- the size that is compared with 2^28: the listed keys', and that of each resource
 abbrev pub plain_size : Tree → List (List ℕ) → ℕ
-plain_size t ks = list_size ks + resources_size (walk_order t)
+plain_size t ks = list_size ks + resources_size (laying_order t)

@@ -6,10 +6,11 @@ use Rattle.std.specs.Prelude.{Bool, Option, None, if◌then◌else◌}
 use Rattle.resb_tree.specs.Tree.{Tree, tree_count}
 use Rattle.resb_head.specs.File.{body_of, root_word, keys_end, block_end, Denotes, budget}
 use Rattle.resb_pool.specs.Plan.{IsPlan}
-use Rattle.resb_layout.specs.Laid.{Laid, Lays, halves}
-use Rattle.resb_tree.specs.WalkOrder.{texts_of}
+use Rattle.resb_layout.specs.Laid.{Laid, Lays}
+use Rattle.resb_format.specs.Bytes.{units_as_bytes}
+use Rattle.resb_tree.specs.LayingOrder.{texts_of}
 use Rattle.resb_layout.specs.KeyBlock.{key_block, key_position, keys_start}
-use Rattle.resb_layout.specs.Faults.{tree_fault}
+use Rattle.resb_layout.specs.TreeFaults.{tree_fault}
 use Rattle.resb_layout.specs.WrittenHead.{IndexOf}
 
 -- a unit that fills the last word of the 16-bit block
@@ -39,8 +40,8 @@ pub record Blocks (t : Tree) (ks : List (List ℕ)) : Type 0 where
       (record { units = pool; tail = [] }) t laid root
 
 -- the bytes behind the index
-abbrev pub bytes_of : {t : Tree} {ks : List (List ℕ)} → Blocks t ks → List ℕ
-bytes_of {t} {ks} b = key_block t ks ++ (halves (even b.laid.units) ++ b.laid.tail)
+abbrev pub block_bytes : {t : Tree} {ks : List (List ℕ)} → Blocks t ks → List ℕ
+block_bytes {t} {ks} b = key_block t ks ++ (units_as_bytes (even b.laid.units) ++ b.laid.tail)
 
 -- a file that denotes the tree, with the bundle's index, whose bytes behind the index are just the
 -- blocks
@@ -54,4 +55,4 @@ pub record Written (bytes : List ℕ) (t : Tree) (fallback : Bool) (ks : List (L
   pub root : root_word bytes ≡ blocks.root
   pub keys_end : 4 * keys_end bytes ≡ keys_start + length (key_block t ks)
   pub block_end : 4 * block_end bytes ≡ tail_start (key_block t ks) blocks.laid
-  pub body : drop keys_start (body_of bytes) ≡ bytes_of blocks
+  pub body : drop keys_start (body_of bytes) ≡ block_bytes blocks

@@ -12,7 +12,7 @@ pub fn laid_is_denoted()
     ensures { LaidIsDenoted }
 {}
 
-/// What was laid out for a tree are the bodies of its resources in walk order, one right behind
+/// What was laid out for a tree are the bodies of its resources in laying order, one right behind
 /// another, each in the tail from a word on.
 pub fn laid_in_order()
     ensures { LaidInOrder }

@@ -9,7 +9,7 @@ use Rattle.std.proofs.lemmas.Str.{IsUtf8-encode, IsUtf8-append, IsUtf8-nil}
 use Rattle.std.proofs.lemmas.Str.{encodes-chars, encodes-append, chars-append, chars-encodes}
 use Rattle.std.proofs.lemmas.List.{reverse-append, reverse-reverse}
 use Rattle.resb_pool.specs.Inner.Extends.{Extends}
-use Rattle.resb_pool.specs.Inner.Cuts.{key, IsCut, IsShared}
+use Rattle.resb_pool.specs.Inner.Cuts.{chars_backwards, IsCut, IsShared}
 use Rattle.resb_pool.specs.Records.{EndsWith}
 use Rattle.std.proofs.Math.Seq.{take-append_seam}
 use Rattle.std.proofs.lemmas.Str.{IsCharBoundary-at_seam, IsUtf8-take}
@@ -39,12 +39,13 @@ cut_more t x y tail c h e s = record {
   tail_utf8 = IsUtf8-append (encode_utf8 c) tail (IsUtf8-encode c s) h.tail_utf8;
 }
 
-pub key_cut : (t f s : List ℕ) → IsCut t f s → key t ≡ key s ++ key f
-key_cut t f s h = ap key h.is ∙ ap reverse (chars-append f s h.front_utf8)
+pub key_cut : (t f s : List ℕ) → IsCut t f s
+    → chars_backwards t ≡ chars_backwards s ++ chars_backwards f
+key_cut t f s h = ap chars_backwards h.is ∙ ap reverse (chars-append f s h.front_utf8)
     ∙ reverse-append (chars f) (chars s)
 
-pub cut_extends : (t f s : List ℕ) → IsCut t f s → Extends (key t) (key s)
-cut_extends t f s h = record { rest = key f; is = key_cut t f s h }
+pub cut_extends : (t f s : List ℕ) → IsCut t f s → Extends (chars_backwards t) (chars_backwards s)
+cut_extends t f s h = record { rest = chars_backwards f; is = key_cut t f s h }
 
 chars_encode : (c : ℕ) → IsScalar c → chars (encode_utf8 c) ≡ c ∷ []
 chars_encode c s =
@@ -54,24 +55,27 @@ chars_encode c s =
     one_scalar : (c : ℕ) → IsScalar c → all_scalars (c ∷ []) ≡ true
     one_scalar c s = search rules
 
-pub key_last : (x y : List ℕ) (c : ℕ) → IsCut x y (encode_utf8 c) → IsScalar c → key x ≡ c ∷ key y
-key_last x y c h s = key_cut x y (encode_utf8 c) h ∙ ap (λ l. reverse l ++ key y) (chars_encode c s)
+pub key_last : (x y : List ℕ) (c : ℕ) → IsCut x y (encode_utf8 c) → IsScalar c
+    → chars_backwards x ≡ c ∷ chars_backwards y
+key_last x y c h s = key_cut x y (encode_utf8 c) h
+    ∙ ap (λ l. reverse l ++ chars_backwards y) (chars_encode c s)
 
-pub text_of_key : (t : List ℕ) → IsUtf8 t → t ≡ encodes (reverse (key t))
+pub text_of_key : (t : List ℕ) → IsUtf8 t → t ≡ encodes (reverse (chars_backwards t))
 text_of_key t u = sym (ap encodes (reverse-reverse (chars t)) ∙ encodes-chars t u)
 
-pub key_same : (s t : List ℕ) → IsUtf8 s → IsUtf8 t → key s ≡ key t → s ≡ t
+pub key_same : (s t : List ℕ) → IsUtf8 s → IsUtf8 t → chars_backwards s ≡ chars_backwards t → s ≡ t
 key_same s t u v e = text_of_key s u ∙ ap (λ l. encodes (reverse l)) e ∙ sym (text_of_key t v)
 
 -- where a text's characters go on from those of s, the text is cut before s
-pub cut_back : (t s : List ℕ) → IsUtf8 t → IsUtf8 s → Extends (key t) (key s) → (w : List ℕ)
+pub cut_back : (t s : List ℕ) → IsUtf8 t → IsUtf8 s
+    → Extends (chars_backwards t) (chars_backwards s) → (w : List ℕ)
     × IsCut t w s
 cut_back t s u v h =
     let w = encodes (reverse h.rest) in
     let e : t ≡ w ++ s =
     text_of_key t u ∙ ap (λ l. encodes (reverse l)) h.is
-    ∙ ap encodes (reverse-append (key s) h.rest)
-    ∙ encodes-append (reverse h.rest) (reverse (key s))
+    ∙ ap encodes (reverse-append (chars_backwards s) h.rest)
+    ∙ encodes-append (reverse h.rest) (reverse (chars_backwards s))
     ∙ ap (λ l. w ++ l) (sym (text_of_key s v)) in
     (w, record { is = e; front_utf8 = front_utf8 t w s e u v; tail_utf8 = v })
 
@@ -91,7 +95,8 @@ shared_deeper s t x y u v h k = record {
   right = cut_deeper t y h.tail v k.tail h.right k.right;
 }
 
-pub ends_extends : (t s : List ℕ) → IsUtf8 t → IsUtf8 s → EndsWith t s → Extends (key t) (key s)
+pub ends_extends : (t s : List ℕ) → IsUtf8 t → IsUtf8 s → EndsWith t s
+    → Extends (chars_backwards t) (chars_backwards s)
 ends_extends t s u v h = cut_extends t h.front s (record {
   is = h.is;
   front_utf8 =
@@ -99,5 +104,6 @@ ends_extends t s u v h = cut_extends t h.front s (record {
   tail_utf8 = v;
 })
 
-pub extends_ends : (t s : List ℕ) → IsUtf8 t → IsUtf8 s → Extends (key t) (key s) → EndsWith t s
+pub extends_ends : (t s : List ℕ) → IsUtf8 t → IsUtf8 s
+    → Extends (chars_backwards t) (chars_backwards s) → EndsWith t s
 extends_ends t s u v h = (let w = cut_back t s u v h in record { front = w.0; is = w.1.is })

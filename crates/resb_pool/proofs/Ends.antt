@@ -9,7 +9,7 @@ use Rattle.std.specs.declared.cmp.Ordering.TheVariants.{Less, Equal, Greater}
 use Rattle.std.proofs.lemmas.Cmp.{nat_cmp_total, tied_itself}
 use Rattle.std.proofs.lemmas.Str.{chars-nil, IsUtf8-encode}
 use Rattle.resb_pool.specs.Order.{suffix_cmp, end_last_cmp}
-use Rattle.resb_pool.specs.Inner.Cuts.{key, IsCut, IsShared}
+use Rattle.resb_pool.specs.Inner.Cuts.{chars_backwards, IsCut, IsShared}
 use Rattle.resb_pool.proofs.Cut.{front_utf8, key_cut, key_last, cut_whole}
 use Rattle.resb_pool.proofs.SuffixOrder.{then_equal, then_differs}
 
@@ -20,7 +20,7 @@ same_front (z ∷ a) x y = then_equal (nat_cmp z z) (end_last_cmp (a ++ x) (a ++
 
 -- the last character comes first in the key
 last_of : (t x tail z : List ℕ) (c : ℕ) → IsCut t x tail → x ≡ z ++ encode_utf8 c → IsScalar c
-    → key x ≡ c ∷ key z
+    → chars_backwards x ≡ c ∷ chars_backwards z
 last_of t x tail z c h e s = key_last x z c (record {
   is = e;
   front_utf8 = front_utf8 x z (encode_utf8 c) e h.front_utf8 (IsUtf8-encode c s);
@@ -29,39 +29,41 @@ last_of t x tail z c h e s = key_last x z c (record {
 
 -- the same of any text
 pub last_taken : (x z : List ℕ) (c : ℕ) → IsUtf8 x → x ≡ z ++ encode_utf8 c → IsScalar c
-    → IsUtf8 z × (key x ≡ c ∷ key z)
+    → IsUtf8 z × (chars_backwards x ≡ c ∷ chars_backwards z)
 last_taken x z c u e s = (
   front_utf8 x z (encode_utf8 c) e u (IsUtf8-encode c s),
   last_of x x [] z c (cut_whole x x u refl) e s,
 )
 
-pub none_left : (x : List ℕ) → length x ≡ 0 → key x ≡ []
-none_left x z = ap key (nil_from_length x z) ∙ ap reverse chars-nil
+pub none_left : (x : List ℕ) → length x ≡ 0 → chars_backwards x ≡ []
+none_left x z = ap chars_backwards (nil_from_length x z) ∙ ap reverse chars-nil
 
 module _ (s t x y : List ℕ) (h : IsShared s t x y) where
-  pub without_end : suffix_cmp s t ≡ end_last_cmp (key x) (key y)
-  without_end = ap (λ l. end_last_cmp l (key t)) (key_cut s x h.tail h.left)
-      ∙ ap (end_last_cmp (key h.tail ++ key x)) (key_cut t y h.tail h.right)
-      ∙ same_front (key h.tail) (key x) (key y)
+  pub without_end : suffix_cmp s t ≡ end_last_cmp (chars_backwards x) (chars_backwards y)
+  without_end = ap (λ l. end_last_cmp l (chars_backwards t)) (key_cut s x h.tail h.left)
+      ∙ ap (end_last_cmp (chars_backwards h.tail ++ chars_backwards x)) (key_cut t y h.tail h.right)
+      ∙ same_front (chars_backwards h.tail) (chars_backwards x) (chars_backwards y)
 
-  compared : (a b : List ℕ) → key x ≡ a → key y ≡ b → suffix_cmp s t ≡ end_last_cmp a b
-  compared a b e f = without_end ∙ ap (λ l. end_last_cmp l (key y)) e ∙ ap (end_last_cmp a) f
+  compared : (a b : List ℕ) → chars_backwards x ≡ a → chars_backwards y ≡ b
+      → suffix_cmp s t ≡ end_last_cmp a b
+  compared a b e f = without_end ∙ ap (λ l. end_last_cmp l (chars_backwards y)) e
+      ∙ ap (end_last_cmp a) f
 
   pub by_last : (u v : List ℕ) (c d : ℕ) → x ≡ u ++ encode_utf8 c → y ≡ v ++ encode_utf8 d
       → IsScalar c → IsScalar d → (c ≡ d → ⊥) → suffix_cmp s t ≡ nat_cmp c d
   by_last u v c d e f p q ne =
-      compared (c ∷ key u) (d ∷ key v) (last_of s x h.tail u c h.left e p)
+      compared (c ∷ chars_backwards u) (d ∷ chars_backwards v) (last_of s x h.tail u c h.left e p)
       (last_of t y h.tail v d h.right f q)
-      ∙ then_differs c d (end_last_cmp (key u) (key v)) ne
+      ∙ then_differs c d (end_last_cmp (chars_backwards u) (chars_backwards v)) ne
 
   pub left_longer : (u : List ℕ) (c : ℕ) → x ≡ u ++ encode_utf8 c → IsScalar c → length y ≡ 0
       → suffix_cmp s t ≡ Less
-  left_longer u c e p z = compared (c ∷ key u) [] (last_of s x h.tail u c h.left e p)
+  left_longer u c e p z = compared (c ∷ chars_backwards u) [] (last_of s x h.tail u c h.left e p)
       (none_left y z)
 
   pub right_longer : (v : List ℕ) (d : ℕ) → y ≡ v ++ encode_utf8 d → IsScalar d → length x ≡ 0
       → suffix_cmp s t ≡ Greater
-  right_longer v d f q z = compared [] (d ∷ key v) (none_left x z)
+  right_longer v d f q z = compared [] (d ∷ chars_backwards v) (none_left x z)
       (last_of t y h.tail v d h.right f q)
 
   pub both_end : length x ≡ 0 → length y ≡ 0 → suffix_cmp s t ≡ Equal

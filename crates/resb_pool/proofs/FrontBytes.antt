@@ -13,6 +13,7 @@ use Rattle.resb_pool.specs.Inner.Placing.{IsRecordOf}
 use Rattle.resb_pool.specs.declared.records.Record.{Record}
 use Rattle.resb_pool.proofs.FrontKeys.{three_ways}
 use Rattle.resb_pool.proofs.SuffixOrder.{then_less, then_equal}
+use Rattle.resb_pool.proofs.FrontKeys.{less_is_first}
 
 head_small : (x : ℕ) (xs : List ℕ) → AreBytes (x ∷ xs) → x < 256
 head_small x xs h = h 0
@@ -90,9 +91,6 @@ abbrev text_cmp : Record → Record → Ordering
 text_cmp x y =
     ordering_then (slice_cmp nat_cmp x.text.now y.text.now) (nat_cmp x.index y.index)
 
-less_not : (o p : Ordering) → o ≡ Less → is_lt (ordering_then o p) ≡ false → ⊥
-less_not o p f g = cc (ap is_lt (then_less o p f), g)
-
 more_not : (o p : Ordering) → o ≡ Greater → is_lt (ordering_then o p) ≡ false
 more_not o p f = rw f refl
 
@@ -100,7 +98,7 @@ not_before : (x y : Record) → IsFronted x → IsFronted y
     → is_lt (ordering_then (nat_cmp x.front y.front) (text_cmp x y)) ≡ false
     → is_lt (text_cmp x y) ≡ false
 not_before x y h k e = three_ways (is_lt (text_cmp x y) ≡ false) x.front y.front
-    (λ f. absurd (less_not (nat_cmp x.front y.front) (text_cmp x y) f e))
+    (λ f. absurd (less_is_first (nat_cmp x.front y.front) (text_cmp x y) f e))
     (λ f. sym (ap is_lt (ap (λ z. ordering_then (nat_cmp x.front z) (text_cmp x y)) (sym f)
     ∙ then_equal (nat_cmp x.front x.front) (text_cmp x y) (tied_itself nat_cmp_total x.front))) ∙ e)
     (λ m. more_not (slice_cmp nat_cmp x.text.now y.text.now) (nat_cmp x.index y.index)

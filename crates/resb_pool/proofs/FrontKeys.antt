@@ -18,7 +18,7 @@ use Rattle.std.proofs.lemmas.List.Elements.{All-nil, All-cons, All-tail}
 use Rattle.std.proofs.lemmas.List.Sorted.{All-permutation, IsPermutation-reverse}
 use Rattle.std.proofs.lemmas.Str.{scalars-chars}
 use Rattle.resb_pool.specs.Order.{end_last_cmp}
-use Rattle.resb_pool.specs.Inner.Cuts.{key}
+use Rattle.resb_pool.specs.Inner.Cuts.{chars_backwards}
 use Rattle.resb_pool.specs.Inner.Suffixes.{front_key, keyed_cmp, row_cmp, IsRowOf}
 use Rattle.resb_pool.specs.declared.suffix_order.Row.{Row}
 use Rattle.resb_pool.proofs.SuffixOrder.{end_last_total, then_less, then_equal}
@@ -36,7 +36,7 @@ small_chars (c ∷ cs) e =
     let b = and_parts _ _ e in
     All-cons (λ c. c < 0x1f_ffff) c cs (small_scalar c b.0) (small_chars cs b.1)
 
-small_key : (t : List ℕ) → IsUtf8 t → IsSmall (key t)
+small_key : (t : List ℕ) → IsUtf8 t → IsSmall (chars_backwards t)
 small_key t u = All-permutation (λ c. c < 0x1f_ffff) (chars t) (reverse (chars t))
     (IsPermutation-reverse (chars t)) (small_chars (chars t) (scalars-chars t u))
 
@@ -131,7 +131,7 @@ order_of (suc n) a (x ∷ xs) (y ∷ ys) s t l =
 
 keyed_total : IsTotalOrder keyed_cmp
 keyed_total = then_total (on_total (λ (r : Row). r.front) nat_cmp_total)
-    (on_total (λ (r : Row). key r.text.now) end_last_total)
+    (on_total (λ (r : Row). chars_backwards r.text.now) end_last_total)
 
 pub keyed_order : IsStrictWeakOrder (λ (x y : Row). is_lt (keyed_cmp x y))
 keyed_order = ranks_by keyed_total (λ (r : Row). r)
@@ -139,7 +139,7 @@ keyed_order = ranks_by keyed_total (λ (r : Row). r)
 -- the row has its text's last characters
 pub record IsKeyed (r : Row) : Type 0 where
   pub utf8 : IsUtf8 r.text.now
-  pub front_is : r.front ≡ front_key 0 6 (key r.text.now)
+  pub front_is : r.front ≡ front_key 0 6 (chars_backwards r.text.now)
 
 pub row_keyed : (T : List (List ℕ)) (r : Row) → All IsUtf8 T → IsRowOf T r → IsKeyed r
 row_keyed T r u h = record {
@@ -147,19 +147,21 @@ row_keyed T r u h = record {
   front_is = h.front_is;
 }
 
+-- where the first of two comparisons says that one thing stands before another, so do both
+pub less_is_first : (o p : Ordering) → o ≡ Less → is_lt (ordering_then o p) ≡ false → ⊥
+less_is_first o p f g = cc (ap is_lt (then_less o p f), g)
+
 before_too : (x y : Row) → IsKeyed x → IsKeyed y → is_lt (keyed_cmp x y) ≡ false
     → is_lt (row_cmp x y) ≡ false
 before_too x y h k e = three_ways (is_lt (row_cmp x y) ≡ false) x.front y.front
-    (λ f. absurd (less_not (nat_cmp x.front y.front) (row_cmp x y) f e))
+    (λ f. absurd (less_is_first (nat_cmp x.front y.front) (row_cmp x y) f e))
     (λ f. sym (ap is_lt (ap (λ z. ordering_then (nat_cmp x.front z) (row_cmp x y)) (sym f)
     ∙ then_equal (nat_cmp x.front x.front) (row_cmp x y) (tied_itself nat_cmp_total x.front))) ∙ e)
-    (λ m. ap is_lt (end_last_total.antisymm (key x.text.now) (key y.text.now)
-    ∙ ap ordering_reverse (order_of 6 0 (key y.text.now) (key x.text.now)
+    (λ m. ap is_lt (end_last_total.antisymm (chars_backwards x.text.now)
+    (chars_backwards y.text.now)
+    ∙ ap ordering_reverse (order_of 6 0 (chars_backwards y.text.now) (chars_backwards x.text.now)
     (small_key y.text.now k.utf8) (small_key x.text.now h.utf8)
     (omega (arith, m, h.front_is, k.front_is)))))
-  where
-    less_not : (o p : Ordering) → o ≡ Less → is_lt (ordering_then o p) ≡ false → ⊥
-    less_not o p f g = cc (ap is_lt (then_less o p f), g)
 
 pub in_suffix_order : (rows : List Row) → All IsKeyed rows → IsSorted keyed_cmp rows
     → IsSorted row_cmp rows

@@ -11,7 +11,7 @@ use Rattle.std.proofs.lemmas.List.Elements.{Contains-append_left, Contains-push}
 use Rattle.std.proofs.lemmas.List.Elements.{Contains-push_cases}
 use Rattle.resb_pool.specs.Records.{IsRecord, IsRecords}
 use Rattle.resb_pool.specs.Container.{IsContainer}
-use Rattle.resb_pool.specs.Inner.Placing.{text, LiesAt, AreRecordsAmong}
+use Rattle.resb_pool.specs.Inner.Placing.{text_numbered, LiesAt, AreRecordsAmong}
 use Rattle.std.proofs.lemmas.Bool.{cases_lt}
 use Rattle.resb_pool.proofs.Distinct.{distinct_push}
 use Rattle.resb_pool.proofs.TextLists.{TextList}
@@ -100,12 +100,13 @@ pub at_empty : {V H : Type 0} (m : HashMap (Bor (List ℕ)) V H) (q : List ℕ) 
 at_empty m q e = ap (lookup (λ k. bytes_eq q k.now)) e
 
 -- a text that isn't empty and lies in itself is a record
-pub lies_in_itself : (T : TextList) (i r : ℕ) → LiesAt T i r → r ≡ i → (length (text T i) ≡ 0 → ⊥)
-    → IsRecord T (text T i)
+pub lies_in_itself : (T : TextList) (i r : ℕ) → LiesAt T i r → r ≡ i
+    → (length (text_numbered T i) ≡ 0 → ⊥)
+    → IsRecord T (text_numbered T i)
 lies_in_itself T i r at e full =
-    let pos : 0 < length (text T i) = elim (cases_lt 0 (length (text T i))) [
+    let pos : 0 < length (text_numbered T i) = elim (cases_lt 0 (length (text_numbered T i))) [
       | inl p ↦ p
       | inr z ↦
           absurd (full (omega (arith, z)))
     ] in
-    subst (λ n. IsRecord T (text T n)) e (at.container pos).own
+    subst (λ n. IsRecord T (text_numbered T n)) e (at.container pos).own

@@ -21,7 +21,8 @@ use Rattle.resb_pool.specs.Container.{IsContainer}
 use Rattle.resb_pool.specs.Pool.{LiesIn, SizeIn, Saved, Precedes, record_units, ClosesAt, Off}
 use Rattle.resb_pool.specs.Pool.{off_empty, off_within}
 use Rattle.resb_pool.specs.Plan.{nows, texts_size, IsPlan}
-use Rattle.resb_pool.specs.Inner.Placing.{text, copies, AreTexts, AreHomes, AreSums, lying_in}
+use Rattle.resb_pool.specs.Inner.Placing.{text_numbered, copies, AreTexts, AreHomes, AreSums}
+use Rattle.resb_pool.specs.Inner.Placing.{lying_in}
 use Rattle.resb_pool.specs.Inner.Placing.{IsRecordOf, AreEnds, record_texts, record_cmp}
 use Rattle.resb_pool.specs.Inner.Placing.{offset_by, ClosesWithin}
 use Rattle.resb_pool.specs.declared.measure.Measure.{Measure}
@@ -65,7 +66,7 @@ module _ (S T : TextList) (ms : List Measure) (given : AreTexts S T ms)
     back s = ((given.same s).1, (given.same s).0)
 
     total_is : (i : ℕ) (d : Home) → i < length T
-        → (get_or ps i d).measure.total ≡ copies S (text T i)
+        → (get_or ps i d).measure.total ≡ copies S (text_numbered T i)
     total_is i d l = sym (ap (λ m. m.total) (measure_at i d l))
         ∙ (given.measured i d.measure l).total_is
       where
@@ -75,7 +76,7 @@ module _ (S T : TextList) (ms : List Measure) (given : AreTexts S T ms)
             ∙ get_or-map (λ (p : Home). p.measure) ps i d d.measure (omega (arith, l, placed.len))
 
     pub unit_count_is : (i : ℕ) (d : Home) → i < length T
-        → (get_or ps i d).measure.unit_count ≡ length (units (text T i))
+        → (get_or ps i d).measure.unit_count ≡ length (units (text_numbered T i))
     unit_count_is i d l = sym (ap (λ m. m.unit_count) (measure_at i d l))
         ∙ (given.measured i d.measure l).units_is
       where
@@ -85,7 +86,7 @@ module _ (S T : TextList) (ms : List Measure) (given : AreTexts S T ms)
             ∙ get_or-map (λ (p : Home). p.measure) ps i d d.measure (omega (arith, l, placed.len))
 
     pub size_is : (i : ℕ) (d : Home) → i < length T
-        → (get_or ps i d).measure.size ≡ size (text T i)
+        → (get_or ps i d).measure.size ≡ size (text_numbered T i)
     size_is i d l = sym (ap (λ m. m.size) (measure_at i d l))
         ∙ (given.measured i d.measure l).size_is
       where
@@ -108,17 +109,18 @@ module _ (S T : TextList) (ms : List Measure) (given : AreTexts S T ms)
     no_home : Home
     no_home = record { «record» = 0; measure = record { unit_count = 0; size = 0; total = 0 } }
 
-    record_in : (q : ℕ) → q < length T → IsRecord T (text T q)
-        → SizeIn S (text T q) S (lying_in ps q)
+    record_in : (q : ℕ) → q < length T → IsRecord T (text_numbered T q)
+        → SizeIn S (text_numbered T q) S (lying_in ps q)
     record_in q l r = sized S T given.utf8 given.once given.same ps placed total_is q l r no_home
 
     -- a record lies in itself
-    own_container : (q : ℕ) → q < length T → IsRecord T (text T q)
-        → IsContainer S (text T q) (text T q)
+    own_container : (q : ℕ) → q < length T → IsRecord T (text_numbered T q)
+        → IsContainer S (text_numbered T q) (text_numbered T q)
     own_container q l r =
         let at = placed.lies q no_home l in
-        container_from T S given.same (text T q) (text T q)
-        (subst (λ n. IsContainer T (text T q) (text T n)) (at.itself r) (at.container r.nonempty))
+        container_from T S given.same (text_numbered T q) (text_numbered T q)
+        (subst (λ n. IsContainer T (text_numbered T q) (text_numbered T n)) (at.itself r)
+        (at.container r.nonempty))
 
     module _ (sums : List ℕ) (len : length sums ≡ length ps) (sum_is : (q : ℕ) → q < length ps
         → get_or sums q 0 ≡ lying_in ps q) where
@@ -129,7 +131,8 @@ module _ (S T : TextList) (ms : List Measure) (given : AreTexts S T ms)
         size_is = size_is;
         own = λ q l r.
             let c = own_container q l r in
-            let o = own_size S (text T q) (record { nonempty = r.nonempty; container = c }) S
+            let o = own_size S (text_numbered T q)
+            (record { nonempty = r.nonempty; container = c }) S
             (lying_in ps q) (record_in q l r) c.own.given in
             omega (arith, o, sum_is q (omega (arith, l, placed.len)));
       }
@@ -151,12 +154,13 @@ module _ (S T : TextList) (ms : List Measure) (given : AreTexts S T ms)
         saved_at i d l =
             let r = get_or v i d in
             let e = each i d l in
-            let own : IsRecord T (text T r.index) =
+            let own : IsRecord T (text_numbered T r.index) =
             subst (IsRecord T) e.text_is ((records.just r.text.now).0 (contains_text v i d l)) in
             let n : lying_in ps r.index ≡ r.saved.0 + size r.text.now =
             sym (sum_is r.index (omega (arith, e.within, placed.len))) ∙ sym e.saved_is in
             subst (λ z. SizeIn S z S (r.saved.0 + size z)) (sym e.text_is)
-            (subst (SizeIn S (text T r.index) S) (n ∙ ap (λ z. r.saved.0 + size z) e.text_is)
+            (subst (SizeIn S (text_numbered T r.index) S) (n
+            ∙ ap (λ z. r.saved.0 + size z) e.text_is)
             (record_in r.index e.within own))
           where
             contains_text : (v : List Record) (i : ℕ) (d : Record) → i < length v
@@ -169,19 +173,20 @@ module _ (S T : TextList) (ms : List Measure) (given : AreTexts S T ms)
             )
 
         module _ (es : List ℕ) (count : length es ≡ length ps) (ends : AreEnds v v es) where
-          closed : (q : ℕ) → q < length T → IsRecord T (text T q)
-              → ClosesAt (record_texts v) (text T q) (get_or es q 0)
-          closed q l r = at (index_of (record_texts v) (text T q) ((records.just (text T q)).1 r))
+          closed : (q : ℕ) → q < length T → IsRecord T (text_numbered T q)
+              → ClosesAt (record_texts v) (text_numbered T q) (get_or es q 0)
+          closed q l r = at (index_of (record_texts v) (text_numbered T q)
+              ((records.just (text_numbered T q)).1 r))
             where
               at : (f : (i : ℕ) × (i < length (record_texts v))
-                  × (text (record_texts v) i ≡ text T q))
-                  → ClosesAt (record_texts v) (text T q) (get_or es q 0)
+                  × (text_numbered (record_texts v) i ≡ text_numbered T q))
+                  → ClosesAt (record_texts v) (text_numbered T q) (get_or es q 0)
               at f =
                   let i : ℕ = f.0 in
                   let k : i < length v = omega (arith, f.1, texts_len v) in
                   let x : Record = get_or v i no_record in
                   let e = each i no_record k in
-                  let t : x.text.now ≡ text T q =
+                  let t : x.text.now ≡ text_numbered T q =
                   sym (get_or-map (λ (r : Record). r.text.now) v i no_record [] k) ∙ f.2 in
                   let n : x.index ≡ q = one_index T x.index q given.once e.within l (sym e.text_is
                   ∙ t) in
@@ -200,7 +205,7 @@ module _ (S T : TextList) (ms : List Measure) (given : AreTexts S T ms)
           )
 
           -- the empty text is no record
-          empty_zero : (q : ℕ) → q < length T → length (text T q) ≡ 0 → get_or es q 0 ≡ 0
+          empty_zero : (q : ℕ) → q < length T → length (text_numbered T q) ≡ 0 → get_or es q 0 ≡ 0
           empty_zero q l z = ends.others q (λ i d k e.
               let o = each i d k in
               let c : Contains (record_texts v) (get_or v i d).text.now = (
@@ -210,22 +215,24 @@ module _ (S T : TextList) (ms : List Measure) (given : AreTexts S T ms)
                     (get_or v i d).text.now k,
               ) in
               let n = ((records.just (get_or v i d).text.now).0 c).nonempty in
-              omega (arith, n, z, ap length (o.text_is ∙ ap (text T) e)))
+              omega (arith, n, z, ap length (o.text_is ∙ ap (text_numbered T) e)))
 
           -- where the record of a text closes
-          record_end : (i : ℕ) (d : Home) → i < length T → 0 < length (text T i)
-              → LiesIn S (text T i) (text T (get_or ps i d).record)
-              × ClosesAt (record_texts v) (text T (get_or ps i d).record)
+          record_end : (i : ℕ) (d : Home) → i < length T → 0 < length (text_numbered T i)
+              → LiesIn S (text_numbered T i) (text_numbered T (get_or ps i d).record)
+              × ClosesAt (record_texts v) (text_numbered T (get_or ps i d).record)
               (get_or es (get_or ps i d).record 0)
-              × (size (text T i) ≤ size (text T (get_or ps i d).record))
+              × (size (text_numbered T i) ≤ size (text_numbered T (get_or ps i d).record))
           record_end i d l pos =
               let at = placed.lies i d l in
               let c = at.container pos in
-              let own = container_from T S given.same (text T i)
-              (text T (get_or ps i d).record) c in
-              let w = size_within S given.utf8 (text T i) (text T (get_or ps i d).record)
-              ((given.same (text T i)).0 (has_text T i l)) own
-              (λ r. ap (text T) (at.itself (record_from S T back (text T i) r))) pos in (
+              let own = container_from T S given.same (text_numbered T i)
+              (text_numbered T (get_or ps i d).record) c in
+              let w = size_within S given.utf8 (text_numbered T i)
+              (text_numbered T (get_or ps i d).record)
+              ((given.same (text_numbered T i)).0 (has_text T i l)) own
+              (λ r. ap (text_numbered T) (at.itself
+              (record_from S T back (text_numbered T i) r))) pos in (
                 record { nonempty = pos; container = own },
                 closed (get_or ps i d).record at.within
                     c.own,
@@ -233,11 +240,11 @@ module _ (S T : TextList) (ms : List Measure) (given : AreTexts S T ms)
               )
 
           -- the empty text closes at unit 0
-          empty_end : (i : ℕ) (d : Home) → i < length T → length (text T i) ≡ 0
-              → (get_or es (get_or ps i d).record 0 ≡ 0) × (size (text T i) ≡ 1)
+          empty_end : (i : ℕ) (d : Home) → i < length T → length (text_numbered T i) ≡ 0
+              → (get_or es (get_or ps i d).record 0 ≡ 0) × (size (text_numbered T i) ≡ 1)
           empty_end i d l z = (
             ap (λ n. get_or es n 0) ((placed.lies i d l).empty z) ∙ empty_zero i l z,
-            ap size (nil_from_length (text T i) z) ∙ size_nil,
+            ap size (nil_from_length (text_numbered T i) z) ∙ size_nil,
           )
 
           pub all_close : All (ClosesWithin es) ps
@@ -245,7 +252,7 @@ module _ (S T : TextList) (ms : List Measure) (given : AreTexts S T ms)
               let m : i < length T = omega (arith, l, placed.len) in
               let at = placed.lies i d m in
               let w : get_or ps i d ≡ get_or ps i d = refl in
-              elim (cases_lt 0 (length (text T i))) [
+              elim (cases_lt 0 (length (text_numbered T i))) [
                 | inl pos ↦
                     let e = record_end i d m pos in
                     record {
@@ -253,7 +260,7 @@ module _ (S T : TextList) (ms : List Measure) (given : AreTexts S T ms)
                       reaches = omega (arith, size_is i d m, e.2, e.1.place);
                       small = omega (
                         arith,
-                        closes_within (text T (get_or ps i d).record)
+                        closes_within (text_numbered T (get_or ps i d).record)
                             (get_or es (get_or ps i d).record 0) e.1,
                         laid_small,
                       );
@@ -268,26 +275,27 @@ module _ (S T : TextList) (ms : List Measure) (given : AreTexts S T ms)
               ]
 
           stands : (i : ℕ) (d : Home) → i < length T
-              → Off S (record_texts v) (text T i) (offset_by es (get_or ps i d))
-          stands i d l = elim (cases_lt 0 (length (text T i))) [
+              → Off S (record_texts v) (text_numbered T i) (offset_by es (get_or ps i d))
+          stands i d l = elim (cases_lt 0 (length (text_numbered T i))) [
             | inl pos ↦
                 let e = record_end i d l pos in
-                off_within {s = text T i} {r = text T (get_or ps i d).record} {k =
+                off_within {s = text_numbered T i} {r = text_numbered T (get_or ps i d).record} {k =
                 offset_by es (get_or ps i d)} {c = get_or es (get_or ps i d).record 0} e.0 e.1
                 (omega (arith, size_is i d l, e.2, e.1.place))
             | inr z ↦
                 let e = empty_end i d l (omega (arith, z)) in
                 let k : offset_by es (get_or ps i d) ≡ 0 = omega (arith, size_is i d l, e.0, e.1) in
-                subst (Off S (record_texts v) (text T i)) (sym k)
+                subst (Off S (record_texts v) (text_numbered T i)) (sym k)
                 (subst (λ s. Off S (record_texts v) s 0)
-                (sym (nil_from_length (text T i) (omega (arith, z)))) off_empty)
+                (sym (nil_from_length (text_numbered T i) (omega (arith, z)))) off_empty)
           ]
 
           pub planned : IsSorted record_cmp v → All (λ s. length (units s) ≤ 4294967295) S
               → (us : List ℕ) (offset : List ℕ → Option ℕ)
               → us ≡ 0 ∷ flat_map record_units (record_texts v)
               → ((s : List ℕ) → MatchOption (offset s) (Contains T s → ⊥) (λ k. (i : ℕ)
-              × (i < length T) × (text T i ≡ s) × (k ≡ get_or (map (offset_by es) ps) i 0)))
+              × (i < length T) × (text_numbered T i ≡ s)
+              × (k ≡ get_or (map (offset_by es) ps) i 0)))
               → IsPlan S us offset
           planned sorted short us offset u f = record {
             texts = given.utf8;
@@ -303,7 +311,8 @@ module _ (S T : TextList) (ms : List Measure) (given : AreTexts S T ms)
           }
             where
               by : (s : List ℕ) (o : Option ℕ) → MatchOption o (Contains T s → ⊥) (λ k. (i : ℕ)
-                  × (i < length T) × (text T i ≡ s) × (k ≡ get_or (map (offset_by es) ps) i 0))
+                  × (i < length T) × (text_numbered T i ≡ s)
+                  × (k ≡ get_or (map (offset_by es) ps) i 0))
                   → MatchOption o (Contains S s → ⊥) (λ k. Contains S s
                   × Off S (record_texts v) s k)
               by s None h = λ c. h ((given.same s).1 c)
@@ -312,7 +321,8 @@ module _ (S T : TextList) (ms : List Measure) (given : AreTexts S T ms)
                   ∙ get_or-map (offset_by es) ps i no_home 0 (omega (arith, l, placed.len)) in (
                     (given.same s).0 (subst (Contains T) e (has_text T i l)),
                     subst (λ z. Off S (record_texts v) z k) e
-                        (subst (Off S (record_texts v) (text T i)) (sym n) (stands i no_home l)),
+                        (subst (Off S (record_texts v) (text_numbered T i)) (sym n)
+                        (stands i no_home l)),
                   )
 
               precedes : (k : ℕ) → k + 1 < length (record_texts v)
@@ -342,18 +352,19 @@ module _ (s : List ℕ) where
   is_it k = bytes_eq s k.now
 
   found_at : (ks : List (Bor (List ℕ))) → position_or_len is_it ks < length ks
-      → text (nows ks) (position_or_len is_it ks) ≡ s
+      → text_numbered (nows ks) (position_or_len is_it ks) ≡ s
   found_at [] l = absurd (omega (arith, l))
   found_at (k ∷ ks) l = by (found_at ks) (bytes_eq s k.now) refl l
     where
-      by : (position_or_len is_it ks < length ks → text (nows ks) (position_or_len is_it ks) ≡ s)
+      by : (position_or_len is_it ks < length ks
+          → text_numbered (nows ks) (position_or_len is_it ks) ≡ s)
           → (b : Bool) → bytes_eq s k.now ≡ b
           → cond (not b) (1 + position_or_len is_it ks) 0 < length (k ∷ ks)
-          → text (nows (k ∷ ks)) (cond (not b) (1 + position_or_len is_it ks) 0) ≡ s
+          → text_numbered (nows (k ∷ ks)) (cond (not b) (1 + position_or_len is_it ks) 0) ≡ s
       by rest true e m = sym ((bytes_decides s k.now).0 e)
       by rest false e m =
           let n : 1 + position_or_len is_it ks ≡ suc (position_or_len is_it ks) = omega arith in
-          ap (text (nows (k ∷ ks))) n ∙ rest (omega (arith, m))
+          ap (text_numbered (nows (k ∷ ks))) n ∙ rest (omega (arith, m))
 
   nowhere : (ks : List (Bor (List ℕ))) → length ks ≤ position_or_len is_it ks → Contains (nows ks) s
       → ⊥
@@ -369,7 +380,7 @@ module _ (s : List ℕ) where
 
   pub offset_at : (ks : List (Bor (List ℕ))) (os : List ℕ) → length os ≡ length ks
       → MatchOption (option_and_then (slice_get os) (position is_it ks)) (Contains (nows ks) s
-      → ⊥) (λ k. (i : ℕ) × (i < length (nows ks)) × (text (nows ks) i ≡ s)
+      → ⊥) (λ k. (i : ℕ) × (i < length (nows ks)) × (text_numbered (nows ks) i ≡ s)
       × (k ≡ get_or os i 0))
   offset_at ks os e = by (nat_lt (position_or_len is_it ks) (length ks)) refl
     where
@@ -379,11 +390,11 @@ module _ (s : List ℕ) where
       by : (b : Bool) → nat_lt n (length ks) ≡ b
           → MatchOption (option_and_then (slice_get os) (cond b (Some n) None))
           (Contains (nows ks) s → ⊥) (λ k. (i : ℕ) × (i < length (nows ks))
-          × (text (nows ks) i ≡ s) × (k ≡ get_or os i 0))
+          × (text_numbered (nows ks) i ≡ s) × (k ≡ get_or os i 0))
       by true f =
           let l : n < length ks = ltb-true n (length ks) f in
           subst (λ o. MatchOption o (Contains (nows ks) s → ⊥) (λ k. (i : ℕ)
-          × (i < length (nows ks)) × (text (nows ks) i ≡ s) × (k ≡ get_or os i 0)))
+          × (i < length (nows ks)) × (text_numbered (nows ks) i ≡ s) × (k ≡ get_or os i 0)))
           (sym (slice_get-get_or os n 0 (omega (arith, l, e))))
           (n, omega (arith, l, length-map ks (λ (k : Bor (List ℕ)). k.now)), found_at ks l, refl)
       by false f = nowhere ks (ltb-false n (length ks) f)

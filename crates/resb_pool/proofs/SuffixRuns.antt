@@ -16,9 +16,9 @@ use Rattle.resb_format.specs.Units.{is_unmarked}
 use Rattle.resb_pool.specs.Order.{end_last_cmp}
 use Rattle.resb_pool.specs.Records.{EachOnce, EndsWith, IsRecord}
 use Rattle.resb_pool.specs.Container.{IsContainer}
-use Rattle.resb_pool.specs.Inner.Cuts.{key}
+use Rattle.resb_pool.specs.Inner.Cuts.{chars_backwards}
 use Rattle.resb_pool.specs.Inner.Extends.{Extends, Before, NotAfter}
-use Rattle.resb_pool.specs.Inner.Placing.{text, LiesAt}
+use Rattle.resb_pool.specs.Inner.Placing.{text_numbered, LiesAt}
 use Rattle.resb_pool.specs.Inner.Suffixes.{AreInOrder, IsSharedEnd, row_texts, row_cmp}
 use Rattle.resb_pool.specs.declared.suffix_order.Row.{Row}
 use Rattle.resb_pool.proofs.Cut.{key_same, ends_extends, extends_ends}
@@ -37,14 +37,15 @@ not_less : (t s : List ℕ) → is_lt (end_last_cmp t s) ≡ false → NotAfter 
 not_less t s h g = true≢false (sym (ap is_lt (turned s t Greater g)) ∙ h)
 
 -- two texts: one stands before the other, or they are the same
-two_texts : (P : Type 0) (t s : List ℕ) → IsUtf8 t → IsUtf8 s → (Before (key t) (key s) → P)
-    → (t ≡ s → P) → (Before (key s) (key t) → P) → P
-two_texts P t s u v less same more = by (end_last_cmp (key t) (key s)) refl
+two_texts : (P : Type 0) (t s : List ℕ) → IsUtf8 t → IsUtf8 s
+    → (Before (chars_backwards t) (chars_backwards s) → P)
+    → (t ≡ s → P) → (Before (chars_backwards s) (chars_backwards t) → P) → P
+two_texts P t s u v less same more = by (end_last_cmp (chars_backwards t) (chars_backwards s)) refl
   where
-    by : (o : Ordering) → end_last_cmp (key t) (key s) ≡ o → P
+    by : (o : Ordering) → end_last_cmp (chars_backwards t) (chars_backwards s) ≡ o → P
     by Less e = less e
-    by Equal e = same (key_same t s u v (tied_same (key t) (key s) e))
-    by Greater e = more (turned (key t) (key s) Greater e)
+    by Equal e = same (key_same t s u v (tied_same (chars_backwards t) (chars_backwards s) e))
+    by Greater e = more (turned (chars_backwards t) (chars_backwards s) Greater e)
 
 ends_trans : (t s r : List ℕ) → EndsWith t s → EndsWith s r → EndsWith t r
 ends_trans t s r h k = record {
@@ -62,7 +63,7 @@ module _ (T : TextList) (utf8 : All IsUtf8 T) (once : EachOnce T) (rows : List R
   same_len = sym (length-map rows (λ (r : Row). r.text.now)) ∙ length_permutation T (row_texts rows)
       o.all
 
-  pub row_text : (j : ℕ) (d : Row) → j < length rows → text (row_texts rows) j ≡ at j d
+  pub row_text : (j : ℕ) (d : Row) → j < length rows → text_numbered (row_texts rows) j ≡ at j d
   row_text j d l = get_or-map (λ (r : Row). r.text.now) rows j d _ l
 
   in_texts : (j : ℕ) (d : Row) → j < length rows → Contains T (at j d)
@@ -89,53 +90,60 @@ module _ (T : TextList) (utf8 : All IsUtf8 T) (once : EachOnce T) (rows : List R
 
   pub one_row : (j k : ℕ) (d : Row) → j < length rows → k < length rows
       → (get_or rows j d).index ≡ (get_or rows k d).index → j ≡ k
-  one_row j k d l m e = one_place j k d l m ((o.each j d l).text_is ∙ ap (text T) e
+  one_row j k d l m e = one_place j k d l m ((o.each j d l).text_is ∙ ap (text_numbered T) e
       ∙ sym (o.each k d m).text_is)
 
   pub row_of : (i : ℕ) (d : Row) → i < length T → (j : ℕ) × (j < length rows)
       × ((get_or rows j d).index ≡ i)
   row_of i d l =
-      let p = place_of (text T i) d (has_text T i l) in
+      let p = place_of (text_numbered T i) d (has_text T i l) in
       let r = o.each p.0 d p.1 in
       (p.0, p.1, one_index T (get_or rows p.0 d).index i once r.within l (sym r.text_is ∙ p.2))
 
   -- rows stand in suffix order
-  in_order : (i j : ℕ) (d : Row) → i ≤ j → j < length rows → NotAfter (key (at i d)) (key (at j d))
-  in_order i j d l m = not_less (key (at j d)) (key (at i d)) (sorted_far (λ (x y : Row). is_lt
-      (row_cmp x y)) (ranks_by end_last_total (λ (r : Row). key r.text.now)) rows o.ascend i j d
+  in_order : (i j : ℕ) (d : Row) → i ≤ j → j < length rows
+      → NotAfter (chars_backwards (at i d)) (chars_backwards (at j d))
+  in_order i j d l m = not_less (chars_backwards (at j d)) (chars_backwards (at i d))
+      (sorted_far (λ (x y : Row). is_lt
+      (row_cmp x y)) (ranks_by end_last_total
+      (λ (r : Row). chars_backwards r.text.now)) rows o.ascend i j d
       l m)
 
   -- what stands before the text of row j stands in a row before it
   row_before : (t : List ℕ) (j : ℕ) (d : Row) → j < length rows → Contains T t
-      → Before (key t) (key (at j d)) → (i : ℕ) × (i < j) × (at i d ≡ t)
+      → Before (chars_backwards t) (chars_backwards (at j d)) → (i : ℕ) × (i < j) × (at i d ≡ t)
   row_before t j d l h b =
       let p = place_of t d h in
       elim (cases_lt p.0 j) [
         | inl m ↦ (p.0, m, p.2)
         | inr m ↦
-            let n : NotAfter (key (at j d)) (key t) =
-            subst (λ z. NotAfter (key (at j d)) (key z)) p.2 (in_order j p.0 d m p.1) in
-            absurd (n (turned (key t) (key (at j d)) Less b))
+            let n : NotAfter (chars_backwards (at j d)) (chars_backwards t) =
+            subst (λ z. NotAfter (chars_backwards (at j d)) (chars_backwards z)) p.2
+            (in_order j p.0 d m p.1) in
+            absurd (n (turned (chars_backwards t) (chars_backwards (at j d)) Less b))
       ]
 
   -- nor after the row right before it
   not_after : (t : List ℕ) (k : ℕ) (d : Row) → k + 1 < length rows → Contains T t
-      → Before (key t) (key (at (k + 1) d)) → NotAfter (key t) (key (at k d))
+      → Before (chars_backwards t) (chars_backwards (at (k + 1) d))
+      → NotAfter (chars_backwards t) (chars_backwards (at k d))
   not_after t k d l h b =
       let p = row_before t (k + 1) d l h b in
-      subst (λ z. NotAfter (key z) (key (at k d))) p.2 (in_order p.0 k d (omega (arith, p.1))
+      subst (λ z. NotAfter (chars_backwards z) (chars_backwards (at k d))) p.2
+      (in_order p.0 k d (omega (arith, p.1))
       (omega (arith, l)))
 
   -- a row stands before the next
   right_before : (k : ℕ) (d : Row) → k + 1 < length rows
-      → Before (key (at k d)) (key (at (k + 1) d))
+      → Before (chars_backwards (at k d)) (chars_backwards (at (k + 1) d))
   right_before k d l =
       let m : k < length rows = omega (arith, l) in
-      two_texts (Before (key (at k d)) (key (at (k + 1) d))) (at k d) (at (k + 1) d)
+      two_texts (Before (chars_backwards (at k d)) (chars_backwards (at (k + 1) d))) (at k d)
+      (at (k + 1) d)
       (is_utf8 k d m) (is_utf8 (k + 1) d l) (λ b. b)
       (λ e. absurd (omega (arith, one_place k (k + 1) d m l e)))
       (λ b. absurd (in_order k (k + 1) d (omega arith) l
-      (turned (key (at (k + 1) d)) (key (at k d)) Less b)))
+      (turned (chars_backwards (at (k + 1) d)) (chars_backwards (at k d)) Less b)))
 
   -- where the text right before it doesn't end with a text, no other one does
   none_ends : (j : ℕ) (d : Row) → j < length rows
@@ -147,10 +155,12 @@ module _ (T : TextList) (utf8 : All IsUtf8 T) (once : EachOnce T) (rows : List R
       let v = is_utf8 j d l in
       let x = ends_extends t s u v e in
       two_texts (t ≡ s) t s u v (λ b. absurd (by_row (row_before t j d l h b) x b)) (λ q. q)
-      (λ b. absurd (extends_not_after (key t) (key s) x (turned (key s) (key t) Less b)))
+      (λ b. absurd (extends_not_after (chars_backwards t) (chars_backwards s) x
+      (turned (chars_backwards s) (chars_backwards t) Less b)))
     where
-      by_row : {t : List ℕ} → (i : ℕ) × (i < j) × (at i d ≡ t) → Extends (key t) (key (at j d))
-          → Before (key t) (key (at j d)) → ⊥
+      by_row : {t : List ℕ} → (i : ℕ) × (i < j) × (at i d ≡ t)
+          → Extends (chars_backwards t) (chars_backwards (at j d))
+          → Before (chars_backwards t) (chars_backwards (at j d)) → ⊥
       by_row {t} (i, m, q) x b = previous (j - 1) (omega (arith, m))
         where
           previous : (k : ℕ) → j ≡ k + 1 → ⊥
@@ -158,11 +168,13 @@ module _ (T : TextList) (utf8 : All IsUtf8 T) (once : EachOnce T) (rows : List R
               let n : k + 1 < length rows = omega (arith, f, l) in
               let lk : k < length rows = omega (arith, n) in
               let h : Contains T t = subst (Contains T) q (in_texts i d (omega (arith, m, l))) in
-              let g : Before (key t) (key (at (k + 1) d)) =
-              subst (λ z. Before (key t) (key (at z d))) f b in
-              let y : Extends (key (at k d)) (key (at j d)) =
-              between (key t) (key (at k d)) (key (at j d)) (not_after t k d n h g)
-              (subst (λ z. Before (key (at k d)) (key (at z d))) (sym f) (right_before k d n)) x in
+              let g : Before (chars_backwards t) (chars_backwards (at (k + 1) d)) =
+              subst (λ z. Before (chars_backwards t) (chars_backwards (at z d))) f b in
+              let y : Extends (chars_backwards (at k d)) (chars_backwards (at j d)) =
+              between (chars_backwards t) (chars_backwards (at k d)) (chars_backwards (at j d))
+              (not_after t k d n h g)
+              (subst (λ z. Before (chars_backwards (at k d)) (chars_backwards (at z d))) (sym f)
+              (right_before k d n)) x in
               none k f (extends_ends (at k d) (at j d) (is_utf8 k d lk) (is_utf8 j d l) y)
 
   -- a text that doesn't lie with the one right before it lies in itself
@@ -198,7 +210,7 @@ module _ (T : TextList) (utf8 : All IsUtf8 T) (once : EachOnce T) (rows : List R
       own_container w = record {
         own = w;
         ends = record { front = []; is = refl };
-        greatest = λ q x y. extends_not_after (key q) (key (at j d))
+        greatest = λ q x y. extends_not_after (chars_backwards q) (chars_backwards (at j d))
             (ends_extends q (at j d) (All-contains IsUtf8 T q utf8 x.given) (is_utf8 j d l) y);
       }
 
@@ -222,22 +234,24 @@ module _ (T : TextList) (utf8 : All IsUtf8 T) (once : EachOnce T) (rows : List R
 
     -- a record that ends with s and stands after that of p ends with p
     with_previous : (q h : List ℕ) → IsRecord T q → EndsWith q s → IsContainer T p h
-        → end_last_cmp (key q) (key h) ≡ Greater → ⊥
+        → end_last_cmp (chars_backwards q) (chars_backwards h) ≡ Greater → ⊥
     with_previous q h x y c g =
         let u = All-contains IsUtf8 T q utf8 x.given in
         let v = All-contains IsUtf8 T h utf8 c.own.given in
         let w = is_utf8 k d m in
-        let a : NotAfter (key h) (key q) = (λ z. cc (turned (key q) (key h) Greater g, z)) in
+        let a : NotAfter (chars_backwards h) (chars_backwards q) =
+        (λ z. cc (turned (chars_backwards q) (chars_backwards h) Greater g, z)) in
         let e = ends_extends h p v w c.ends in
         two_texts ⊥ q s u (is_utf8 (k + 1) d l)
         (λ b. two_texts ⊥ q p u w
         (λ f. c.greatest q x (extends_ends q p u w
-        (between (key h) (key q) (key p) a f e)) g)
+        (between (chars_backwards h) (chars_backwards q) (chars_backwards p) a f e)) g)
         (λ f. c.greatest q x (record { front = []; is = f }) g)
-        (λ f. not_after q k d l x.given b (turned (key p) (key q) Less f)))
+        (λ f. not_after q k d l x.given b (turned (chars_backwards p) (chars_backwards q) Less f)))
         (λ f. no_record (subst (IsRecord T) f x))
-        (λ b. extends_not_after (key q) (key s) (ends_extends q s u (is_utf8 (k + 1) d l) y)
-        (turned (key s) (key q) Less b))
+        (λ b. extends_not_after (chars_backwards q) (chars_backwards s)
+        (ends_extends q s u (is_utf8 (k + 1) d l) y)
+        (turned (chars_backwards s) (chars_backwards q) Less b))
 
     -- a text lies where the one right before it lies, which it ends
     pub lies_shared : (h : ℕ) → LiesAt T (get_or rows k d).index h
@@ -252,14 +266,15 @@ module _ (T : TextList) (utf8 : All IsUtf8 T) (once : EachOnce T) (rows : List R
           ap length shared.ends.is,
           length-append shared.ends.front s,
         ) in
-        let c : IsContainer T p (text T h) = subst (λ z. IsContainer T z (text T h)) (sym a.text_is)
+        let c : IsContainer T p (text_numbered T h) = subst
+        (λ z. IsContainer T z (text_numbered T h)) (sym a.text_is)
         (lies.container (subst (λ z. 0 < length z) a.text_is pos)) in
         record {
           within = lies.within;
-          container = λ z. subst (λ z. IsContainer T z (text T h)) b.text_is (record {
+          container = λ z. subst (λ z. IsContainer T z (text_numbered T h)) b.text_is (record {
             own = c.own;
-            ends = ends_trans (text T h) p s c.ends shared.ends;
-            greatest = λ q x y. with_previous q (text T h) x y c;
+            ends = ends_trans (text_numbered T h) p s c.ends shared.ends;
+            greatest = λ q x y. with_previous q (text_numbered T h) x y c;
           });
           itself = λ x. absurd (no_record (subst (IsRecord T) (sym b.text_is) x));
           empty = λ z. absurd (omega (arith, z, ap length b.text_is, shared.nonempty));

@@ -15,7 +15,7 @@ use Rattle.resb_format.specs.Units.{size}
 use Rattle.resb_pool.specs.Records.{IsRecord, EachOnce}
 use Rattle.resb_pool.specs.Container.{IsContainer}
 use Rattle.resb_pool.specs.Pool.{SizeIn, size_none, size_here, size_elsewhere}
-use Rattle.resb_pool.specs.Inner.Placing.{text, copies, AreHomes, LiesAt, lying_in}
+use Rattle.resb_pool.specs.Inner.Placing.{text_numbered, copies, AreHomes, LiesAt, lying_in}
 use Rattle.resb_pool.specs.declared.homes.Home.{Home}
 use Rattle.resb_pool.proofs.Distinct.{has_text, index_of, one_index}
 use Rattle.resb_pool.proofs.Sizes.{copy, copy_same, copy_other, copies-cons}
@@ -61,7 +61,8 @@ part q (p ∷ ps) [] s = 0
 part q (p ∷ ps) (t ∷ T) s = if_in p q (copy t s) + part q ps T s
 
 share_all : (q : ℕ) (S : TextList) (ps : List Home) (T : TextList) → length ps ≡ length T
-    → ((i : ℕ) (d : Home) → i < length T → (get_or ps i d).measure.total ≡ copies S (text T i))
+    → ((i : ℕ) (d : Home) → i < length T
+    → (get_or ps i d).measure.total ≡ copies S (text_numbered T i))
     → lying_in ps q ≡ share q ps T S
 share_all q S [] T e h = refl
 share_all q S (p ∷ ps) [] e h = absurd (omega (arith, e))
@@ -100,7 +101,7 @@ part_none q (p ∷ ps) (t ∷ T) s f =
 
 -- a text takes part in the record in which it lies
 part_at : (q : ℕ) (ps : List Home) (T : TextList) (s : List ℕ) (j : ℕ) (d : Home)
-    → length ps ≡ length T → EachOnce T → j < length T → text T j ≡ s
+    → length ps ≡ length T → EachOnce T → j < length T → text_numbered T j ≡ s
     → part q ps T s ≡ if_in (get_or ps j d) q (size s)
 part_at q [] T s j d e u l h = absurd (omega (arith, e, l))
 part_at q (p ∷ ps) [] s j d e u l h = absurd (omega (arith, l))
@@ -123,11 +124,11 @@ more_than_zero (suc n) f = omega arith
 module _ (S T : TextList) (texts : All IsUtf8 S) (once : EachOnce T) (same : (s : List ℕ)
     → Contains T s ↔ Contains S s) (ps : List Home) (placed : AreHomes T ps)
     (totals : (i : ℕ) (d : Home) → i < length T
-    → (get_or ps i d).measure.total ≡ copies S (text T i)) where
-  module _ (q : ℕ) (l : q < length T) (r : IsRecord T (text T q)) (d : Home) where
+    → (get_or ps i d).measure.total ≡ copies S (text_numbered T i)) where
+  module _ (q : ℕ) (l : q < length T) (r : IsRecord T (text_numbered T q)) (d : Home) where
     shares : (ss : TextList) → ((s : List ℕ) → Contains ss s → Contains T s)
-        → SizeIn S (text T q) ss (share q ps T ss)
-    shares [] h = subst (SizeIn S (text T q) []) (sym (share_none q ps T)) size_none
+        → SizeIn S (text_numbered T q) ss (share q ps T ss)
+    shares [] h = subst (SizeIn S (text_numbered T q) []) (sym (share_none q ps T)) size_none
     shares (s ∷ ss) h =
         let f = index_of T s (h s (0, omega arith, refl)) in
         let j : ℕ = f.0 in
@@ -135,43 +136,50 @@ module _ (S T : TextList) (texts : All IsUtf8 S) (once : EachOnce T) (same : (s 
         let rest = shares ss (λ z c. h z (suc c.0, omega (arith, c.1), c.2)) in
         let e : share q ps T (s ∷ ss) ≡ if_in (get_or ps j d) q (size s) + share q ps T ss =
         omega (arith, share-cons q ps T s ss, part_at q ps T s j d placed.len once f.1 f.2) in
-        subst (SizeIn S (text T q) (s ∷ ss)) (sym e) (by f at rest (nat_eq (get_or ps j d).record q)
+        subst (SizeIn S (text_numbered T q) (s
+        ∷ ss)) (sym e) (by f at rest (nat_eq (get_or ps j d).record q)
         refl)
       where
-        by : (f : (i : ℕ) × (i < length T) × (text T i ≡ s)) → LiesAt T f.0 (get_or ps f.0 d).record
-            → SizeIn S (text T q) ss (share q ps T ss)
+        by : (f : (i : ℕ) × (i < length T) × (text_numbered T i ≡ s))
+            → LiesAt T f.0 (get_or ps f.0 d).record
+            → SizeIn S (text_numbered T q) ss (share q ps T ss)
             → (b : Bool) → nat_eq (get_or ps f.0 d).record q ≡ b
-            → SizeIn S (text T q) (s ∷ ss) (cond b (size s) 0 + share q ps T ss)
+            → SizeIn S (text_numbered T q) (s ∷ ss) (cond b (size s) 0 + share q ps T ss)
         by f at rest true g =
             let k : (get_or ps f.0 d).record ≡ q = eqb-true (get_or ps f.0 d).record q g in
-            let full : (length (text T f.0) ≡ 0 → ⊥) = λ z. (let i : f.0 ≡ q = sym (at.empty z)
-            ∙ k in omega (arith, r.nonempty, z, ap (λ n. length (text T n)) i)) in
-            let pos : 0 < length (text T f.0) = more_than_zero (length (text T f.0)) full in
-            let c : IsContainer T s (text T q) =
-            subst (λ z. IsContainer T z (text T q)) f.2
-            (subst (λ n. IsContainer T (text T f.0) (text T n)) k (at.container pos)) in
+            let full : (length (text_numbered T f.0) ≡ 0
+            → ⊥) = λ z. (let i : f.0 ≡ q = sym (at.empty z)
+            ∙ k in omega (arith, r.nonempty, z, ap (λ n. length (text_numbered T n)) i)) in
+            let pos : 0 < length (text_numbered T f.0) = more_than_zero
+            (length (text_numbered T f.0)) full in
+            let c : IsContainer T s (text_numbered T q) =
+            subst (λ z. IsContainer T z (text_numbered T q)) f.2
+            (subst (λ n. IsContainer T (text_numbered T f.0) (text_numbered T n)) k
+            (at.container pos)) in
             size_here (record {
               nonempty = subst (λ (z : List ℕ). 0 < length z) f.2 pos;
               container =
-                  container_from T S same s (text T q) c;
+                  container_from T S same s (text_numbered T q) c;
             }) rest
-        by f at rest false g = subst (SizeIn S (text T q) (s ∷ ss)) (omega arith) (size_elsewhere
+        by f at rest false g = subst (SizeIn S (text_numbered T q) (s
+            ∷ ss)) (omega arith) (size_elsewhere
             (λ m.
-            let pos : 0 < length (text T f.0) =
+            let pos : 0 < length (text_numbered T f.0) =
             subst (λ (z : List ℕ). 0 < length z) (sym f.2) m.nonempty in
-            let c : IsContainer S s (text T (get_or ps f.0 d).record) =
-            container_from T S same s (text T (get_or ps f.0 d).record)
-            (subst (λ z. IsContainer T z (text T (get_or ps f.0 d).record)) f.2
+            let c : IsContainer S s (text_numbered T (get_or ps f.0 d).record) =
+            container_from T S same s (text_numbered T (get_or ps f.0 d).record)
+            (subst (λ z. IsContainer T z (text_numbered T (get_or ps f.0 d).record)) f.2
             (at.container pos)) in
             let k : (get_or ps f.0 d).record ≡ q =
             one_index T (get_or ps f.0 d).record q once at.within l
-            (one_container S texts s (text T (get_or ps f.0 d).record) (text T q) c
+            (one_container S texts s (text_numbered T (get_or ps f.0 d).record)
+            (text_numbered T q) c
             m.container) in
             true≢false (sym (eq-eqb (get_or ps f.0 d).record q k) ∙ g))
             rest)
 
-    pub sized : SizeIn S (text T q) S (lying_in ps q)
-    sized = subst (SizeIn S (text T q) S) (sym (share_all q S ps T placed.len totals))
+    pub sized : SizeIn S (text_numbered T q) S (lying_in ps q)
+    sized = subst (SizeIn S (text_numbered T q) S) (sym (share_all q S ps T placed.len totals))
         (shares S (λ s c. (same s).1 c))
 
 -- distinct texts have no more copies than there are strings
@@ -240,7 +248,8 @@ copies_of_all T (s ∷ ss) u = omega (
 )
 
 pub totals_of : (S : TextList) (ps : List Home) (T : TextList) → length ps ≡ length T
-    → ((i : ℕ) (d : Home) → i < length T → (get_or ps i d).measure.total ≡ copies S (text T i))
+    → ((i : ℕ) (d : Home) → i < length T
+    → (get_or ps i d).measure.total ≡ copies S (text_numbered T i))
     → sum_by (λ (p : Home). p.measure.total) ps ≡ sum_by (copies S) T
 totals_of S [] [] e h = refl
 totals_of S [] (t ∷ T) e h = absurd (omega (arith, e))

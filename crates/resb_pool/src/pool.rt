@@ -43,7 +43,7 @@ fn place(
     Ok((block.units, offsets))
 }
 
-/// Plans strings, given in walk order and as often as each stands in the tree. Each non-empty one
+/// Plans strings, given in laying order and as often as each stands in the tree. Each non-empty one
 /// that is not, without a marker, the end of another gets a record: marker, units, 0. Any other
 /// stands at the end of the greatest record, in the order of characters from the end, that ends
 /// with it. (ICU's `reslist.cpp`: shared suffixes.)

@@ -4,7 +4,7 @@ ghost use Rattle.std.specs.Prelude.{◌≡◌, ◌<◌, length, All, IfOk, IfSom
 ghost use Rattle.std.specs.Str.{IsUtf8};
 ghost use Rattle.resb_pool.specs.Order.{suffix_cmp};
 ghost use Rattle.resb_pool.specs.Plan.{nows};
-ghost use Rattle.resb_pool.specs.Inner.Cuts.{key, IsCut, IsShared};
+ghost use Rattle.resb_pool.specs.Inner.Cuts.{chars_backwards, IsCut, IsShared};
 ghost use Rattle.resb_pool.specs.Inner.Suffixes.{AreInOrder, IsRowOf, row_texts};
 ghost use Rattle.resb_pool.specs.Inner.Suffixes.{front_key, keyed_cmp};
 
@@ -30,7 +30,7 @@ pub(crate) struct Row<'a> {
 
 /// A text's last six characters as a number, of 21 bits each, the last one in the highest place.
 fn front_of(text: &str) -> u128
-    ensures { result ≡ front_key 0 6 (key text.now) }
+    ensures { result ≡ front_key 0 6 (chars_backwards text.now) }
 {
     let mut chars = text.chars();
     let mut front = 0;

@@ -10,10 +10,10 @@ use Rattle.std.specs.declared.string.String.{String}
 use Rattle.std.specs.List.Sorted.{IsStrictlySortedBy}
 use Rattle.resb_tree.specs.Tree.{Tree, table, Entries, map_of}
 use Rattle.resb_tree.specs.Maps.{text_cmp}
-use Rattle.resb_tree.specs.WalkOrder.{entry_keys}
+use Rattle.resb_tree.specs.LayingOrder.{entry_keys}
 use Rattle.resb_grammar.specs.Ascii as ascii
 use Rattle.resb_grammar.specs.ByteRuns.{is_word}
-use Rattle.resb_grammar.specs.Tokens.{Skip, Blanks, none}
+use Rattle.resb_grammar.specs.Lexical.{Skip, Blanks, none}
 use Rattle.resb_grammar.specs.Items.{a_table, keys_in}
 use Rattle.resb_grammar.specs.GroupTypes.{Stands, no_fallback_type}
 use Rattle.resb_grammar.specs.BundleText.{first_places, Typing, without, with, BundleText}
@@ -24,14 +24,16 @@ use Rattle.resb_print.specs.declared.cause.Cause.TheVariants.{QuoteInName}
 use Rattle.resb_print.specs.declared.error.PrintError.{PrintError}
 use Rattle.resb_print.specs.declared.error.PrintError.TheVariants.{NotPrintable, OutOfMemory}
 use Rattle.resb_print.specs.Laws.{HasNoText}
-use Rattle.resb_print.specs.Inner.Jobs.{Writes, ArePrinted, Refused}
+use Rattle.resb_print.specs.Inner.Jobs.{Appends, ArePrinted, SaysCause}
 use Rattle.resb_print.specs.Quotes.{NoQuote, FreeIn, has_quote, causes_in_else, first_cause}
 use Rattle.resb_print.proofs.Steps.{writes_bytes, quote_found, quote_missed}
 use Rattle.resb_print.proofs.Free.{none_in_free, no_cause}
-use Rattle.resb_print.proofs.Places.{From, byte_at, over, next, solid_at, no_skip, at_end, inside}
+use Rattle.resb_print.proofs.Places.{From, byte_at, from_behind, from_next, solid_at, no_skip}
+use Rattle.resb_print.proofs.Places.{at_end, from_inside}
 use Rattle.resb_print.proofs.Places.{run_at, range_is, white_on, solid_byte}
 use Rattle.resb_print.proofs.Words.{name_text, word_each}
-use Rattle.resb_print.proofs.Groups.{Starts, own_map, entries_at, none_yet, close_line}
+use Rattle.resb_print.proofs.Groups.{Starts, entries_at, none_yet, close_line}
+use Rattle.resb_tree.proofs.MapsLemmas.{map_of-pairs_of}
 
 module _ (text : List ℕ) where
   get_at : (l : List ℕ) (at b : ℕ) (rest : List ℕ) → drop at l ≡ b ∷ rest → slice_get l at ≡ Some b
@@ -43,7 +45,7 @@ module _ (text : List ℕ) where
   stands : (w : List ℕ) {at : ℕ} (rest : List ℕ) → From text at (w ++ rest) → Stands text at w
   stands [] rest h = tt
   stands (b ∷ w) {at} rest h =
-      (get_at text at b (w ++ rest) h.is, stands w rest (next text h))
+      (get_at text at b (w ++ rest) h.is, stands w rest (from_next text h))
 
   -- what stands between the name and the `{`
   record Typed (place : ℕ) (fallback : Bool) (rest : List ℕ) : Type 0 where
@@ -59,16 +61,16 @@ module _ (text : List ℕ) where
     brace = place;
     typing = without refl;
     opens = byte_at text h;
-    after = next text h;
+    after = from_next text h;
   }
   typed_at false {place} {rest} h =
       let open_brace = ascii.left_brace ∷ rest in
       let a : From text (place + 1) (codes "table" ++ (codes "(nofallback)" ++ open_brace)) =
-      next text h in
+      from_next text h in
       let b : From text (place + 1 + 5) (codes "(nofallback)" ++ open_brace) =
-      over text (codes "table") (codes "(nofallback)" ++ open_brace) a in
+      from_behind text (codes "table") (codes "(nofallback)" ++ open_brace) a in
       let c : From text (place + 1 + 5 + 12) open_brace =
-      over text (codes "(nofallback)") open_brace b in
+      from_behind text (codes "(nofallback)") open_brace b in
       record {
         brace = place + 1 + 5 + 12;
         typing = with (place + 1 + 5 + 12) false (no_fallback_type (place + 1 + 5) (record {
@@ -78,14 +80,14 @@ module _ (text : List ℕ) where
         }) (stands (codes "(nofallback)") open_brace b) refl)
             (no_skip text (solid_at text c refl refl));
         opens = byte_at text c;
-        after = next text c;
+        after = from_next text c;
       }
 
   -- the text of a bundle ends behind its `}`
   end_skip : {at : ℕ} → From text at (ascii.line_feed ∷ []) → Skip text at (length text)
   end_skip {at} h =
-      let f = next text h in
-      let e : at + 1 ≡ length text = omega (arith, at_end text f, inside text h) in
+      let f = from_next text h in
+      let e : at + 1 ≡ length text = omega (arith, at_end text f, from_inside text h) in
       let z : slice_index text (length text) ≡ 0 = get_or_past text (length text) 0 (omega arith) in
       record {
         blanks = white_on text h refl (subst (Blanks text (at + 1)) e (none (at + 1)));
@@ -147,7 +149,8 @@ module _ (text : List ℕ) where
           pairs = r.pairs;
           closes = c.brace;
           after = end_skip c.after;
-          means = ap table (sym (own_map es ascend)) ∙ ap (λ l. table (map_of l)) (sym r.means);
+          means = ap table (sym (map_of-pairs_of es ascend))
+              ∙ ap (λ l. table (map_of l)) (sym r.means);
           lists = refl;
         },
       )
@@ -163,7 +166,7 @@ printed_is_bundle name fallback es free ascend held frees =
 
 -- what is written in turn is the text of the bundle
 pub written : (s0 s1 s2 s3 s4 s5 : String Global) (name own : List ℕ) (f : Bool) (es : Entries)
-    → string_bytes s0 ≡ [] → Writes s0 s1 (name_on name) → Writes s1 s2 (root_type_on f)
+    → string_bytes s0 ≡ [] → Appends s0 s1 (name_on name) → Appends s1 s2 (root_type_on f)
     → string_bytes s3 ≡ string_bytes s2 ++ codes "{" → ArePrinted s3 s4 es
     → string_bytes s5 ≡ string_bytes s4 ++ (ascii.line_feed ∷ ascii.right_brace ∷ ascii.line_feed ∷
     []) → name ≡ own → string_bytes s5 ≡ printed_bundle own f es
@@ -189,7 +192,7 @@ whole text own f es t s3 s4 same w free r =
 
 -- a cause is in the way of each text
 pub no_text : (name : List ℕ) (f : Bool) (t : Tree) (e : PrintError)
-    → Refused e (first_cause name t) → (e ≡ OutOfMemory) ⊎ HasNoText name f t
+    → SaysCause e (first_cause name t) → (e ≡ OutOfMemory) ⊎ HasNoText name f t
 no_text name f t e (inl h) = inl h
 no_text name f t e (inr (x, h, found)) =
     inr (λ text keys b. none_some x (sym (no_cause text name f t keys b) ∙ found))
@@ -199,12 +202,12 @@ no_text name f t e (inr (x, h, found)) =
 
 -- a cause in the entries is one of the bundle
 pub root_refused : (name : List ℕ) (es : Entries) (e : PrintError) → NoQuote name
-    → Refused e (causes_in_else es None) → Refused e (first_cause name (table es))
+    → SaysCause e (causes_in_else es None) → SaysCause e (first_cause name (table es))
 root_refused name es e free (inl h) = inl h
 root_refused name es e free (inr (x, h, found)) =
     inr (x, h, quote_missed QuoteInName name (causes_in_else es None) free ∙ found)
 
 pub name_refused : (name : List ℕ) (es : Entries) → has_quote name ≡ true
-    → Refused (NotPrintable QuoteInName) (first_cause name (table es))
+    → SaysCause (NotPrintable QuoteInName) (first_cause name (table es))
 name_refused name es h =
     inr (QuoteInName, refl, quote_found QuoteInName name (causes_in_else es None) h)

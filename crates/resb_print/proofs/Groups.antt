@@ -6,23 +6,21 @@ use Rattle.std.proofs.Common.{Some, inr, zero, suc}
 use Rattle.std.specs.Prelude.{slice_index, codes, decimal, ◌==◌, ◌&&◌, not, nat_eq}
 use Rattle.std.proofs.Common.{eqb-true}
 use Rattle.std.specs.List.Sorted.{IsStrictlySortedBy}
-use Rattle.std.specs.Map.{keys_of}
 use Rattle.hex.specs.Hex.{encode_lower, encode_with, lower_digits}
 use Rattle.std.proofs.lemmas.Bool.{false≢true, and_parts, and_from, or_from}
 use Rattle.std.proofs.lemmas.Bool.Decides.{nat_tests}
 use Rattle.resb_tree.specs.Tree.{Tree, string, array, table, binary, integer, int_vector, Trees}
 use Rattle.resb_tree.specs.Tree.{no_trees, more_trees, Entries, no_entries, entry, trees_of, map_of}
 use Rattle.resb_tree.specs.Maps.{text_cmp, pairs_of}
-use Rattle.resb_tree.specs.WalkOrder.{members, entry_keys}
-use Rattle.resb_tree.proofs.MapsLemmas.{map_of-sorted, entries_of-pairs_of}
+use Rattle.resb_tree.specs.LayingOrder.{array_members, entry_keys}
 use Rattle.resb_grammar.specs.Ascii as ascii
 use Rattle.resb_grammar.specs.ByteRuns.{is_white, is_word}
-use Rattle.resb_grammar.specs.Tokens.{Blanks, Skip, IsSolid, Number}
+use Rattle.resb_grammar.specs.Lexical.{Blanks, Skip, IsSolid, Number}
 use Rattle.resb_grammar.specs.Items.{Item, Term, string_term, group_term, plain, before_comma}
 use Rattle.resb_grammar.specs.Items.{is_pairs, pairs_in, item_trees, term_tree, keys_in}
-use Rattle.resb_grammar.specs.Items.{a_table, an_array, Shape, shape_of, table_if, tree_in}
+use Rattle.resb_grammar.specs.Items.{an_array, Shape, shape_of, tree_in}
 use Rattle.resb_grammar.specs.GroupTypes.{Kind, array_kind, table_kind, binary_kind}
-use Rattle.resb_grammar.specs.GroupTypes.{integer_kind, vector_kind, Head}
+use Rattle.resb_grammar.specs.GroupTypes.{integer_kind, vector_kind, TypedOpening}
 use Rattle.resb_grammar.specs.Group.{is_hex, hex_value, byte_before}
 use Rattle.resb_grammar.specs.Group.{hex_bytes, Numbers, first_number, next_number, Vector, empty}
 use Rattle.resb_grammar.specs.Group.{numbers, LeafContent, binary_content, integer_content}
@@ -34,30 +32,13 @@ use Rattle.resb_print.specs.Printed.{more_numbers_on, trees_end, entries_end, tr
 use Rattle.resb_print.specs.Printed.{entries_on}
 use Rattle.resb_print.specs.Held.{IsHeld, AreHeld, HeldIn, AreBelow}
 use Rattle.resb_print.specs.Quotes.{NoQuote, IsFree, AreFree, FreeIn}
-use Rattle.resb_print.proofs.Places.{From, byte_at, next, solid_at, no_skip, line_blanks}
+use Rattle.resb_print.proofs.Places.{From, byte_at, from_next, solid_at, no_skip, line_blanks}
 use Rattle.resb_print.proofs.Places.{quoted_text}
 use Rattle.resb_print.proofs.Words.{name_text, head_at, number_at}
-
--- entries that ascend are their own map
-same_keys : (es : Entries) → keys_of (pairs_of es) ≡ entry_keys es
-same_keys no_entries = refl
-same_keys (entry k t es) = ap (λ ks. k ∷ ks) (same_keys es)
-
-pub own_map : (es : Entries) → IsStrictlySortedBy text_cmp (entry_keys es)
-    → map_of (pairs_of es) ≡ es
-own_map es h =
-    map_of-sorted (pairs_of es) (subst (IsStrictlySortedBy text_cmp) (sym (same_keys es)) h)
-    ∙ entries_of-pairs_of es
-
-own_trees : (ts : Trees) → trees_of (members ts) ≡ ts
-own_trees no_trees = refl
-own_trees (more_trees t ts) = ap (more_trees t) (own_trees ts)
-
--- entries are a table
-shape_pairs : (xs : List Item) → is_pairs xs ≡ true → shape_of xs ≡ a_table
-shape_pairs [] h = refl
-shape_pairs (x ∷ []) h = absurd (false≢true h)
-shape_pairs (x ∷ y ∷ xs) h = ap table_if h
+use Rattle.resb_tree.proofs.MapsLemmas.{map_of-pairs_of}
+use Rattle.resb_tree.proofs.LayingOrderLemmas.{trees_of-array_members}
+use Rattle.resb_tree.proofs.Numbers.{low_bits_kept}
+use Rattle.resb_grammar.proofs.ReaderLemmas.{pairs_are_table}
 
 -- the first byte of a resource behind its key
 pub record Starts (bytes : List ℕ) : Type 0 where
@@ -201,9 +182,6 @@ hex_read (b ∷ bs) low =
     (and_from (is_hex (digit_of (b / 16))) (is_hex (digit_of (b % 16))) x.hex y.hex)
     ∙ (λ i. byte_before true (e i) (r i))
 
-mod_same : (v : ℕ) → v < 2 ^ 28 → v % 2 ^ 28 ≡ v
-mod_same v h = omega arith
-
 module _ (text : List ℕ) where
   -- items behind a `{`, whose content begins at `b`, as far as they are printed
   pub record Gathered (b at : ℕ) (xs : List Item) : Type 0 where
@@ -231,7 +209,7 @@ module _ (text : List ℕ) where
     pub at : ℕ
     pub items : List Item
     pub gathered : Gathered b at items
-    pub means : item_trees items ≡ item_trees xs ++ members ts
+    pub means : item_trees items ≡ item_trees xs ++ array_members ts
     pub after : From text at rest
 
   -- a `}`, perhaps on a line of its own
@@ -246,7 +224,7 @@ module _ (text : List ℕ) where
     place = at;
     skip = no_skip text (solid_at text h refl refl);
     brace = byte_at text h;
-    after = next text h;
+    after = from_next text h;
   }
 
   pub close_line : (n : ℕ) {at : ℕ} {rest : List ℕ}
@@ -257,7 +235,7 @@ module _ (text : List ℕ) where
         place = p;
         skip = record { blanks = blanks; solid = solid_at text f refl refl };
         brace = byte_at text f;
-        after = next text f;
+        after = from_next text f;
       }
 
   close_trees : (ts : Trees) (n : ℕ) {at : ℕ} {rest : List ℕ} → From text at (trees_end ts n rest)
@@ -290,7 +268,7 @@ module _ (text : List ℕ) where
   more_read [] {from} {at} {seen} rest low read h =
       (at, subst (Numbers text from at) (sym (append-nil seen)) read, h)
   more_read (n ∷ ns) {from} {at} {seen} rest low read h =
-      let f = next text h in
+      let f = from_next text h in
       let (solid, (to, number, skip, f2)) = number_read n ns rest (low 0 (omega arith)) f in
       let (end, all, f3) = more_read ns rest (λ k i. low (suc k) (omega arith))
       (next_number at (at + 1) to to n seen read (byte_at text h) (no_skip text solid) number skip)
@@ -350,7 +328,7 @@ module _ (text : List ℕ) where
       read = λ to after. (first, skip, comma first q to xs m items (byte_at text h) after);
     };
     means = refl;
-    after = next text h;
+    after = from_next text h;
   }
 
   group_done : (t : Tree) {b at p : ℕ} {xs : List Item} {rest : List ℕ} → Gathered b at xs
@@ -396,21 +374,22 @@ module _ (text : List ℕ) where
       let (p, blanks, f) = line_blanks text n h in
       group_done (int_vector ns) g blanks (solid_at text f refl refl) (group p f)
 
-  leaf_done : (kind : Kind) (t : Tree) {at first k : ℕ} {rest : List ℕ} → Head text at kind first
+  leaf_done : (kind : Kind) (t : Tree) {at first k : ℕ} {rest : List ℕ}
+      → TypedOpening text at kind first
       → LeafContent text first k kind t → From text k (ascii.right_brace ∷ rest)
       → GroupAt at t rest
   leaf_done kind t {at} {first} {k} {rest} head content h = record {
     to = k + 1;
     keys = [];
     group = typed_leaf at first k kind t head content (byte_at text h);
-    after = next text h;
+    after = from_next text h;
   }
 
   string_group : (s : List ℕ) {at : ℕ} {rest : List ℕ} → NoQuote s
       → From text at (ascii.left_brace ∷ quoted_on s (ascii.right_brace ∷ rest))
       → GroupAt at (string s) rest
   string_group s {at} {rest} free h =
-      let f = next text h in
+      let f = from_next text h in
       let (q, named, f2) = quoted_text text s free f in
       let i = at + 1 in
       record {
@@ -420,7 +399,7 @@ module _ (text : List ℕ) where
             (no_skip text (solid_at text f refl refl))
             (string_item i i q q [] s (nothing i) named (no_skip text (solid_at text f2 refl refl)))
             (byte_at text f2);
-        after = next text f2;
+        after = from_next text f2;
       }
 
   table_group : (n : ℕ) (es : Entries) (at : ℕ) (rest : List ℕ)
@@ -439,12 +418,12 @@ module _ (text : List ℕ) where
         after = c.after;
       }
   table_group n (entry k t es) at rest ascend inner h =
-      let r = inner (at + 1) (next text h) in
+      let r = inner (at + 1) (from_next text h) in
       let c = close_entries (entry k t es) n r.after in
       let (first, skip, items) = r.gathered.read c.place c.skip in
       let e : tree_in (shape_of r.items) r.items ≡ table (entry k t es) =
-      ap (λ (s : Shape). tree_in s r.items) (shape_pairs r.items r.pairs)
-      ∙ ap (λ l. table (map_of l)) r.means ∙ ap table (own_map (entry k t es) ascend) in
+      ap (λ (s : Shape). tree_in s r.items) (pairs_are_table r.items r.pairs)
+      ∙ ap (λ l. table (map_of l)) r.means ∙ ap table (map_of-pairs_of (entry k t es) ascend) in
       record {
         to = c.place + 1;
         keys = keys_in (shape_of r.items) r.items;
@@ -465,7 +444,7 @@ module _ (text : List ℕ) where
         let c = close_trees ts n r.after in
         let (first, skip, items) = r.gathered.read c.place c.skip in
         let e : array (trees_of (item_trees r.items)) ≡ array ts =
-        ap (λ l. array (trees_of l)) r.means ∙ ap array (own_trees ts) in
+        ap (λ l. array (trees_of l)) r.means ∙ ap array (trees_of-array_members ts) in
         record {
           to = c.place + 1;
           keys = keys_in an_array r.items;
@@ -488,7 +467,7 @@ module _ (text : List ℕ) where
         let (solid, (q, number, f2)) = number_at text v ascii.right_brace rest (omega arith) f refl
         in
         let content : LeafContent text (brace + 1) q integer_kind (integer v) =
-        subst (λ n. LeafContent text (brace + 1) q integer_kind (integer n)) (mod_same v held)
+        subst (λ n. LeafContent text (brace + 1) q integer_kind (integer n)) (low_bits_kept v held)
         (integer_content q v number (no_skip text (solid_at text f2 refl refl))) in
         leaf_done integer_kind (integer v) (head (brace + 1) (no_skip text solid)) content f2
     group_at n (int_vector ns) at rest held free h =
@@ -513,8 +492,8 @@ module _ (text : List ℕ) where
           at = r.at;
           items = r.items;
           gathered = r.gathered;
-          means = r.means ∙ ap (λ l. l ++ members ts) one.means
-              ∙ append_assoc (item_trees xs) (t ∷ []) (members ts);
+          means = r.means ∙ ap (λ l. l ++ array_members ts) one.means
+              ∙ append_assoc (item_trees xs) (t ∷ []) (array_members ts);
           after = r.after;
         }
 

@@ -11,13 +11,13 @@ use Rattle.resb_tree.specs.declared.resource.Resource.{Resource}
 use Rattle.resb_print.specs.Quotes.{has_quote}
 use Rattle.resb_print.specs.Paths.{Step, by_key, by_number, path_if, path_else, entry_path_else}
 use Rattle.resb_print.specs.Paths.{member_path_else, step_of, steps_in}
-use Rattle.resb_print.specs.Inner.Looks.{Look, entry_look, member_look, leave_look, fold_looks}
+use Rattle.resb_print.specs.Inner.Looks.{ToLookAt, entry_look, member_look, leave_look, fold_looks}
 use Rattle.resb_print.specs.Inner.Looks.{without_last, look_path, nowhere, looks_path}
-use Rattle.resb_print.specs.Inner.Looks.{add_look, looks_turns, Enters, Goes}
+use Rattle.resb_print.specs.Inner.Looks.{add_look, looks_turns, EntersTree, LooksOnce}
 use Rattle.resb_print.specs.Inner.Looks.{entry_looks}
 use Rattle.resb_print.specs.declared.path.PathStep.{PathStep}
 
-pub look_before : (ls ks : List Look) (l : Look)
+pub look_before : (ls ks : List ToLookAt) (l : ToLookAt)
     → (ls ++ l ∷ []) ++ reverse ks ≡ ls ++ reverse (ks ++ l ∷ [])
 look_before ls ks l =
     append_assoc ls (l ∷ []) (reverse ks) ∙ ap (λ m. ls ++ m) (sym (reverse-append ks (l ∷ [])))
@@ -28,27 +28,27 @@ pub entry_look_last : (es : List (List ℕ × Resource)) (e : List ℕ × Resour
 entry_look_last [] e = refl
 entry_look_last (f ∷ es) e = ap (λ l. entry_look f.0 (tree_of f.1) ∷ l) (entry_look_last es e)
 
-pub fold_look : {X : Type 0} (f : Look → X → X) (ls : List Look) (l : Look) (x : X)
+pub fold_look : {X : Type 0} (f : ToLookAt → X → X) (ls : List ToLookAt) (l : ToLookAt) (x : X)
     → fold_looks f (ls ++ l ∷ []) x ≡ f l (fold_looks f ls x)
 fold_look f [] l x = refl
 fold_look f (i ∷ ls) l x = fold_look f ls l (f i x)
 
-looks_more : (ls ks : List Look) (l : Look)
+looks_more : (ls ks : List ToLookAt) (l : ToLookAt)
     → ls ++ reverse (l ∷ ks) ≡ (ls ++ reverse ks) ++ l ∷ []
 looks_more ls ks l =
     ap (λ m. ls ++ m) (reverse-append (l ∷ []) ks) ∙ sym (append_assoc ls (reverse ks) (l ∷ []))
 
-fold_more : {X : Type 0} (f : Look → X → X) (ls ks : List Look) (l : Look) (x : X)
+fold_more : {X : Type 0} (f : ToLookAt → X → X) (ls ks : List ToLookAt) (l : ToLookAt) (x : X)
     → fold_looks f (ls ++ reverse (l ∷ ks)) x ≡ f l (fold_looks f (ls ++ reverse ks) x)
 fold_more f ls ks l x =
     ap (λ m. fold_looks f m x) (looks_more ls ks l) ∙ fold_look f (ls ++ reverse ks) l x
 
-fold_none : {X : Type 0} (f : Look → X → X) (ls : List Look) (x : X)
+fold_none : {X : Type 0} (f : ToLookAt → X → X) (ls : List ToLookAt) (x : X)
     → fold_looks f (ls ++ reverse []) x ≡ fold_looks f ls x
 fold_none f ls x = ap (λ m. fold_looks f m x) (append-nil ls)
 
 -- the entries of a table
-pub entries_path : (ls : List Look) (ps : List (List ℕ × Tree)) (path : List Step)
+pub entries_path : (ls : List ToLookAt) (ps : List (List ℕ × Tree)) (path : List Step)
     → looks_path (ls ++ reverse (entry_looks ps)) path
     ≡ entry_path_else path (entries_of ps) (looks_path ls path)
 entries_path ls [] path = ap (λ f. f path) (fold_none look_path ls nowhere)
@@ -57,7 +57,7 @@ entries_path ls (p ∷ ps) path =
     ap (λ f. f path) (fold_more look_path ls (entry_looks ps) (entry_look p.0 p.1) nowhere)
     ∙ ap (λ later. path_if p.0 here (path_else here p.1 later)) (entries_path ls ps path)
 
-entries_turns : (ls : List Look) (ps : List (List ℕ × Tree))
+entries_turns : (ls : List ToLookAt) (ps : List (List ℕ × Tree))
     → looks_turns (ls ++ reverse (entry_looks ps))
     ≡ looks_turns ls + 3 * entries_count (entries_of ps)
 entries_turns ls [] = fold_none add_look ls 0 ∙ omega arith
@@ -77,16 +77,16 @@ not_both : (b : Bool) → b ≡ true → b ≡ false → ⊥
 not_both b h e = false≢true (sym e ∙ h)
 
 -- what is inside a resource
-pub enters_string : (ls : List Look) (s : List ℕ) (b : Bool) → b ≡ has_quote s
-    → Enters ls ls (string s) b
+pub enters_string : (ls : List ToLookAt) (s : List ℕ) (b : Bool) → b ≡ has_quote s
+    → EntersTree ls ls (string s) b
 enters_string ls s b e = record {
   met = λ h path later. found_here s path later (sym e ∙ h);
   passed = λ h path. sym (passed_here s path (looks_path ls path) (sym e ∙ h));
   fewer = omega arith;
 }
 
-pub enters_array : (ls ks : List Look) (ts : Trees) → ks ≡ ls ++ member_look 0 ts ∷ []
-    → Enters ls ks (array ts) false
+pub enters_array : (ls ks : List ToLookAt) (ts : Trees) → ks ≡ ls ++ member_look 0 ts ∷ []
+    → EntersTree ls ks (array ts) false
 enters_array ls ks ts e = record {
   met = λ h path later. absurd (false≢true h);
   passed = λ h path. ap (λ m. looks_path m path) e
@@ -94,17 +94,17 @@ enters_array ls ks ts e = record {
   fewer = omega (arith, ap looks_turns e, fold_look add_look ls (member_look 0 ts) 0);
 }
 
-pub enters_table : (ls ks : List Look) (ps : List (List ℕ × Tree))
-    → ks ≡ ls ++ reverse (entry_looks ps) → Enters ls ks (table (entries_of ps)) false
+pub enters_table : (ls ks : List ToLookAt) (ps : List (List ℕ × Tree))
+    → ks ≡ ls ++ reverse (entry_looks ps) → EntersTree ls ks (table (entries_of ps)) false
 enters_table ls ks ps e = record {
   met = λ h path later. absurd (false≢true h);
   passed = λ h path. ap (λ m. looks_path m path) e ∙ entries_path ls ps path;
   fewer = omega (arith, ap looks_turns e, entries_turns ls ps);
 }
 
-pub enters_leaf : (ls : List Look) (t : Tree)
+pub enters_leaf : (ls : List ToLookAt) (t : Tree)
     → ((path : List Step) (later : Option (List Step)) → path_else path t later ≡ later)
-    → 0 < tree_count t → Enters ls ls t false
+    → 0 < tree_count t → EntersTree ls ls t false
 enters_leaf ls t same some = record {
   met = λ h path later. absurd (false≢true h);
   passed = λ h path. sym (same path (looks_path ls path));
@@ -127,16 +127,17 @@ popped_last (p ∷ q ∷ ps) zero e = absurd (omega arith)
 popped_last (p ∷ q ∷ ps) (suc m) e =
     ap (λ l. step_of p ∷ l) (popped_last (q ∷ ps) m (omega arith))
 
-pub goes_back : (ls : List Look) (path next : List Step) → without_last path ≡ next
-    → Goes ls ls path next leave_look false
+pub goes_back : (ls : List ToLookAt) (path next : List Step) → without_last path ≡ next
+    → LooksOnce ls ls path next leave_look false
 goes_back ls path next e = record {
   met = λ h later. absurd (false≢true h);
   passed = λ h. ap (looks_path ls) (sym e);
   fewer = λ h. omega arith;
 }
 
-pub goes_quote : (ls : List Look) (path next : List Step) (k : List ℕ) (t : Tree)
-    → has_quote k ≡ true → next ≡ path ++ by_key k ∷ [] → Goes ls ls path next (entry_look k t) true
+pub goes_quote : (ls : List ToLookAt) (path next : List Step) (k : List ℕ) (t : Tree)
+    → has_quote k ≡ true → next ≡ path ++ by_key k ∷ []
+    → LooksOnce ls ls path next (entry_look k t) true
 goes_quote ls path next k t q e = record {
   met = λ h later. found_here k (path ++ by_key k ∷ [])
       (path_else (path ++ by_key k ∷ []) t (later path)) q ∙ ap Some (sym e);
@@ -144,15 +145,16 @@ goes_quote ls path next k t q e = record {
   fewer = λ h. absurd (false≢true (sym h));
 }
 
-leaving : (ls : List Look) (path : List Step) (p : Step)
+leaving : (ls : List ToLookAt) (path : List Step) (p : Step)
     → looks_path (ls ++ leave_look ∷ []) (path ++ p ∷ []) ≡ looks_path ls path
 leaving ls path p =
     ap (λ f. f (path ++ p ∷ [])) (fold_look look_path ls leave_look nowhere)
     ∙ ap (looks_path ls) (last_off path p)
 
-pub goes_entry : (ls ms ks : List Look) (path next : List Step) (k : List ℕ) (t : Tree) (b : Bool)
+pub goes_entry : (ls ms ks : List ToLookAt) (path next : List Step) (k : List ℕ) (t : Tree)
+    (b : Bool)
     → has_quote k ≡ false → next ≡ path ++ by_key k ∷ [] → ms ≡ ls ++ leave_look ∷ []
-    → Enters ms ks t b → Goes ls ks path next (entry_look k t) b
+    → EntersTree ms ks t b → LooksOnce ls ks path next (entry_look k t) b
 goes_entry ls ms ks path next k t b q e f d =
     let here = path ++ by_key k ∷ [] in
     record {
@@ -165,18 +167,18 @@ goes_entry ls ms ks path next k t b q e f d =
       fewer = λ h. omega (arith, d.fewer, ap looks_turns f, fold_look add_look ls leave_look 0);
     }
 
-pub goes_end : (ls : List Look) (path : List Step) (n : ℕ)
-    → Goes ls ls path path (member_look n no_trees) false
+pub goes_end : (ls : List ToLookAt) (path : List Step) (n : ℕ)
+    → LooksOnce ls ls path path (member_look n no_trees) false
 goes_end ls path n = record {
   met = λ h later. absurd (false≢true h);
   passed = λ h. refl;
   fewer = λ h. omega arith;
 }
 
-pub goes_member : (ls ms ks : List Look) (path next : List Step) (n : ℕ) (t : Tree) (ts : Trees)
+pub goes_member : (ls ms ks : List ToLookAt) (path next : List Step) (n : ℕ) (t : Tree) (ts : Trees)
     (b : Bool) → next ≡ path ++ by_number n ∷ []
     → ms ≡ (ls ++ member_look (suc n) ts ∷ []) ++ leave_look ∷ []
-    → Enters ms ks t b → Goes ls ks path next (member_look n (more_trees t ts)) b
+    → EntersTree ms ks t b → LooksOnce ls ks path next (member_look n (more_trees t ts)) b
 goes_member ls ms ks path next n t ts b e f d =
     let here = path ++ by_number n ∷ [] in
     let more = ls ++ member_look (suc n) ts ∷ [] in
@@ -198,7 +200,7 @@ goes_member ls ms ks path next n t ts b e f d =
     }
 
 -- the whole walk
-pub path_begun : (ls : List Look) (path : List Step) (ps : List (List ℕ × Tree))
+pub path_begun : (ls : List ToLookAt) (path : List Step) (ps : List (List ℕ × Tree))
     → ls ≡ reverse (entry_looks ps) → path ≡ []
     → looks_path ls path ≡ entry_path_else [] (entries_of ps) None
 path_begun ls path ps e f =
@@ -206,19 +208,20 @@ path_begun ls path ps e f =
     ∙ entries_path [] ps []
 
 -- from the looks before the last one on
-module _ (ls ms ks : List Look) (l : Look) (path next : List Step) (e : ls ≡ ms ++ l ∷ []) where
+module _ (ls ms ks : List ToLookAt) (l : ToLookAt) (path next : List Step) (e : ls
+    ≡ ms ++ l ∷ []) where
   last_look : looks_path ls path ≡ look_path l (looks_path ms) path
   last_look =
       ap (λ m. looks_path m path) e ∙ ap (λ f. f path) (fold_look look_path ms l nowhere)
 
   pub path_met : (found : Option (List Step)) (b : Bool) → looks_path ls path ≡ found
-      → Goes ms ks path next l b → b ≡ true → Some next ≡ found
+      → LooksOnce ms ks path next l b → b ≡ true → Some next ≡ found
   path_met found b under g h = sym (g.met h (looks_path ms)) ∙ sym last_look ∙ under
 
   pub path_goes : (found : Option (List Step)) (b : Bool) → looks_path ls path ≡ found
-      → Goes ms ks path next l b → b ≡ false → looks_path ks next ≡ found
+      → LooksOnce ms ks path next l b → b ≡ false → looks_path ks next ≡ found
   path_goes found b under g h = g.passed h ∙ sym last_look ∙ under
 
-  pub path_fewer : (b : Bool) → Goes ms ks path next l b → b ≡ false
+  pub path_fewer : (b : Bool) → LooksOnce ms ks path next l b → b ≡ false
       → looks_turns ks < looks_turns ls
   path_fewer b g h = omega (arith, g.fewer h, ap looks_turns e, fold_look add_look ms l 0)

@@ -8,9 +8,9 @@ use Rattle.std.proofs.lemmas.List.{length-drop}
 use Rattle.std.proofs.lemmas.Bool.{false≢true}
 use Rattle.resb_grammar.specs.Ascii as ascii
 use Rattle.resb_grammar.specs.ByteRuns.{is_white, Run}
-use Rattle.resb_grammar.specs.Tokens.{Comment, line, block, Blanks, none, white}
-use Rattle.resb_grammar.specs.Tokens.{IsSolid, Skip, Text}
-use Rattle.resb_grammar.specs.Tokens.{quoted}
+use Rattle.resb_grammar.specs.Lexical.{Comment, line, block, Blanks, none, white}
+use Rattle.resb_grammar.specs.Lexical.{IsSolid, Skip, Text}
+use Rattle.resb_grammar.specs.Lexical.{quoted}
 use Rattle.resb_print.specs.Printed.{indent_on, line_on, quoted_on}
 use Rattle.resb_print.specs.Quotes.{has_quote, NoQuote}
 
@@ -32,26 +32,26 @@ module _ (text : List ℕ) where
       ap (λ n. get_or text n 0) (sym (add-zero at)) ∙ sym (get_or-drop at text 0 0)
       ∙ ap (λ l. get_or l 0 0) h.is
 
-  pub over : (w : List ℕ) {at : ℕ} (rest : List ℕ) → From text at (w ++ rest)
+  pub from_behind : (w : List ℕ) {at : ℕ} (rest : List ℕ) → From text at (w ++ rest)
       → From text (at + length w) rest
-  over w {at} rest h = record {
+  from_behind w {at} rest h = record {
     is = sym (drop-drop (length w) at text) ∙ ap (drop (length w)) h.is
         ∙ drop_at w rest (length w) refl;
   }
 
-  pub next : {at b : ℕ} {rest : List ℕ} → From text at (b ∷ rest) → From text (at + 1) rest
-  next {at} {b} {rest} h = over (b ∷ []) rest h
+  pub from_next : {at b : ℕ} {rest : List ℕ} → From text at (b ∷ rest) → From text (at + 1) rest
+  from_next {at} {b} {rest} h = from_behind (b ∷ []) rest h
 
-  pub inside : {at b : ℕ} {rest : List ℕ} → From text at (b ∷ rest) → at < length text
-  inside {at} {b} {rest} h = omega (arith, length-drop at text, ap length h.is)
+  pub from_inside : {at b : ℕ} {rest : List ℕ} → From text at (b ∷ rest) → at < length text
+  from_inside {at} {b} {rest} h = omega (arith, length-drop at text, ap length h.is)
 
   pub at_end : {at : ℕ} → From text at [] → length text ≤ at
   at_end {at} h = omega (arith, length-drop at text, ap length h.is)
 
   -- a byte among those that stand here
-  pub among : (w : List ℕ) {at : ℕ} (rest : List ℕ) (k : ℕ) → From text at (w ++ rest) → at ≤ k
+  pub from_among : (w : List ℕ) {at : ℕ} (rest : List ℕ) (k : ℕ) → From text at (w ++ rest) → at ≤ k
       → k < at + length w → slice_index text k ≡ slice_index w (k - at)
-  among w {at} rest k h low high =
+  from_among w {at} rest k h low high =
       let e : at + (k - at) ≡ k = omega arith in
       let l : k - at < length w = omega arith in
       ap (λ n. get_or text n 0) (sym e) ∙ sym (get_or-drop at text (k - at) 0)
@@ -94,17 +94,17 @@ module _ (text : List ℕ) where
       → (to : ℕ) × Blanks text at to × From text to rest
   indent_blanks zero {at} {rest} h = (at, none at, h)
   indent_blanks (suc n) {at} {rest} h =
-      let a = next h in
-      let b = next a in
-      let c = next b in
-      let (to, bs, r) = indent_blanks n (next c) in
+      let a = from_next h in
+      let b = from_next a in
+      let c = from_next b in
+      let (to, bs, r) = indent_blanks n (from_next c) in
       (to, white_on h refl (white_on a refl (white_on b refl (white_on c refl bs))), r)
 
   -- a new line, and its indentation
   pub line_blanks : (n : ℕ) {at : ℕ} {rest : List ℕ} → From text at (line_on n rest)
       → (to : ℕ) × Blanks text at to × From text to rest
   line_blanks n {at} {rest} h =
-      let (to, bs, r) = indent_blanks n (next h) in
+      let (to, bs, r) = indent_blanks n (from_next h) in
       (to, white_on h refl bs, r)
 
   -- a longest run
@@ -112,27 +112,28 @@ module _ (text : List ℕ) where
       → From text at (w ++ b ∷ rest) → ((k : ℕ) → k < length w → p (slice_index w k) ≡ true)
       → p b ≡ false → Run p text at (at + length w)
   run_at p w {at} b rest h each other =
-      let r : From text (at + length w) (b ∷ rest) = over w (b ∷ rest) h in
-      let i : at + length w < length text = inside r in
+      let r : From text (at + length w) (b ∷ rest) = from_behind w (b ∷ rest) h in
+      let i : at + length w < length text = from_inside r in
       record {
         order = omega arith;
         fits = omega arith;
-        each = λ k low high. ap p (among w (b ∷ rest) k h low high) ∙ each (k - at) (omega arith);
+        each = λ k low high. ap p (from_among w (b ∷ rest) k h low high)
+            ∙ each (k - at) (omega arith);
         longest = ap p (byte_at r) ∙ other;
       }
 
   pub quoted_text : (s : List ℕ) {at : ℕ} {rest : List ℕ} → NoQuote s
       → From text at (quoted_on s rest) → (to : ℕ) × Text text at to s × From text to rest
   quoted_text s {at} {rest} free h =
-      let a = next h in
-      let b = over s (ascii.quote ∷ rest) a in
+      let a = from_next h in
+      let b = from_behind s (ascii.quote ∷ rest) a in
       let last = at + 1 + length s in (
         last + 1,
         quoted last (byte_at h) (record {
           order = omega arith;
           closes = byte_at b;
           inner = λ k low high e. no_quote s free (k - (at + 1)) (omega arith)
-              (sym (among s (ascii.quote ∷ rest) k a low high) ∙ e);
+              (sym (from_among s (ascii.quote ∷ rest) k a low high) ∙ e);
         }) refl (sym (range_is s (ascii.quote ∷ rest) a)),
-        next b,
+        from_next b,
       )

@@ -1,12 +1,10 @@
 -- What a job leaves to be done, together with what it writes, is the job.
-use Rattle.std.proofs.Common.{◌≡◌, ℕ, zero, suc, ◌+◌, ◌*◌, ◌<◌, Bool, true, false, List}
+use Rattle.std.proofs.Common.{◌≡◌, ℕ, ◌+◌, ◌*◌, ◌<◌, true, false, List}
 use Rattle.std.proofs.Common.{[], ◌∷◌, ◌++◌}
 use Rattle.std.proofs.Common.{map, reverse, length, refl, sym, ◌∙◌, ap, subst, arith, append_assoc}
 use Rattle.std.proofs.Common.{Option, Some, None}
-use Rattle.std.specs.Prelude.{codes, IsTrue, ◌==◌}
-use Rattle.std.proofs.lemmas.Bool.{false≢true}
+use Rattle.std.specs.Prelude.{codes, ◌==◌}
 use Rattle.std.proofs.lemmas.Bool.Decides.{nat_tests}
-use Rattle.std.specs.Map.{keys_of}
 use Rattle.std.specs.String.{string_bytes}
 use Rattle.std.specs.declared.alloc.Global.{Global}
 use Rattle.std.specs.declared.string.String.{String}
@@ -14,7 +12,7 @@ use Rattle.std.proofs.lemmas.List.{reverse-append, append-nil}
 use Rattle.resb_tree.specs.Tree.{Tree, array, table, Entries, trees_of, entries_of, tree_count}
 use Rattle.resb_tree.specs.Tree.{trees_count, entries_count}
 use Rattle.resb_tree.specs.View.{tree_of, pairs_view, entries_view}
-use Rattle.resb_tree.specs.WalkOrder.{entry_keys}
+use Rattle.resb_tree.specs.LayingOrder.{entry_keys}
 use Rattle.resb_tree.specs.declared.resource.Resource.{Resource}
 use Rattle.resb_print.specs.declared.cause.Cause.{Cause}
 use Rattle.resb_print.specs.declared.place.Place.{Place}
@@ -24,17 +22,14 @@ use Rattle.resb_print.specs.Quotes.{has_quote, quote_else, cause_else, causes_el
 use Rattle.resb_print.specs.Held.{IsHeld, AreHeld, HeldIn}
 use Rattle.resb_print.specs.Inner.Jobs.{Job, entry_job, item_job, close_job, job_on, fold_jobs}
 use Rattle.resb_print.specs.Inner.Jobs.{jobs_on, job_cause, jobs_cause, IsHeldJob, AreHeldJobs}
-use Rattle.resb_print.specs.Inner.Jobs.{job_turns, add_turns, jobs_turns, Writes, entry_jobs}
-use Rattle.resb_print.specs.Inner.Jobs.{item_jobs, DoesTree, DoesJob, IsUnderWay, Refuses, Refused}
+use Rattle.resb_print.specs.Inner.Jobs.{job_turns, add_turns, jobs_turns, Appends, entry_jobs}
+use Rattle.resb_print.specs.Inner.Jobs.{item_jobs, DoesTree, DoesJob, IsUnderWay, SaysFirstCause}
+use Rattle.resb_print.specs.Inner.Jobs.{SaysCause}
 use Rattle.resb_print.specs.declared.error.PrintError.{PrintError}
 use Rattle.resb_print.specs.declared.error.PrintError.TheVariants.{NotPrintable}
 use Rattle.resb_tree.specs.Maps.{text_cmp}
 use Rattle.std.specs.List.Sorted.{IsStrictlySortedBy}
 use Rattle.std.proofs.Common.{inl, inr}
-
-pub keys_view : (es : List (List ℕ × Resource)) → entry_keys (entries_view es) ≡ keys_of es
-keys_view [] = refl
-keys_view (e ∷ es) = ap (λ l. e.0 ∷ l) (keys_view es)
 
 -- a job is put, where those before it come later
 pub put_before : (js ks : List Job) (j : Job)
@@ -147,7 +142,7 @@ items_turns n js (t ∷ ts) =
 
 -- a resource that leaves nothing to be done
 pub does_leaf : (old new : String Global) (js : List Job) (p : Place) (n : ℕ) (t : Tree)
-    → Writes old new (tree_on p n t) → ((later : Option Cause) → cause_else t later ≡ later)
+    → Appends old new (tree_on p n t) → ((later : Option Cause) → cause_else t later ≡ later)
     → IsHeld t → 0 < tree_count t → DoesTree old new js js p n t
 does_leaf old new js p n t w free held some = record {
   text = λ rest. w (jobs_on js rest);
@@ -223,7 +218,7 @@ module _ (old new : String Global) (before after : List Job) (p : Place) (n : �
 -- a line begins, and the resource on it is done
 pub does_line : (old line new : String Global) (js ks : List Job) (j : Job)
     (write : List ℕ → List ℕ) (p : Place) (n : ℕ) (t : Tree)
-    → Writes old line write → DoesTree line new js ks p n t
+    → Appends old line write → DoesTree line new js ks p n t
     → ((rest : List ℕ) → job_on j rest ≡ write (tree_on p n t rest))
     → ((later : Option Cause) → job_cause j later ≡ cause_else t later)
     → (IsHeld t → IsHeldJob j) → job_turns j ≡ 2 * tree_count t → DoesJob old new js ks j
@@ -267,8 +262,8 @@ fewer_left now new js ks ls j e d =
     omega (arith, d.fewer, ap jobs_turns e, fold_push add_turns js j 0)
 
 pub refused : (js ls : List Job) (j : Job) (es : Entries) (old now : String Global) (e : PrintError)
-    → ls ≡ js ++ j ∷ [] → IsUnderWay old now ls es → Refuses e (job_cause j)
-    → Refused e (causes_in_else es None)
+    → ls ≡ js ++ j ∷ [] → IsUnderWay old now ls es → SaysFirstCause e (job_cause j)
+    → SaysCause e (causes_in_else es None)
 refused js ls j es old now e f u (inl h) = inl h
 refused js ls j es old now e f u (inr (x, h, g)) =
     inr (
@@ -277,10 +272,6 @@ refused js ls j es old now e f u (inr (x, h, g)) =
       sym u.causes ∙ ap (λ l. jobs_cause l None) f ∙ fold_push job_cause js j None
           ∙ g (jobs_cause js None),
     )
-
-pub not_none : (n : ℕ) (b : Bool) → (n ≡ 0 → IsTrue b) → b ≡ false → 0 < n
-not_none zero b h e = absurd (false≢true (sym e ∙ h refl))
-not_none (suc n) b h e = omega arith
 
 pub not_empty : (n : ℕ) → (n == 0) ≡ false → 0 < n
 not_empty n h = grind (arith, nat_tests)
@@ -301,14 +292,15 @@ pub quote_missed : (x : Cause) (s : List ℕ) (later : Option Cause) → has_quo
     → quote_else x s later ≡ later
 quote_missed x s later h = rw h refl
 
-pub refuses_more : (e : PrintError) (f g : Option Cause → Option Cause) → Refuses e f
-    → ((later : Option Cause) → g later ≡ f later) → Refuses e g
+pub refuses_more : (e : PrintError) (f g : Option Cause → Option Cause) → SaysFirstCause e f
+    → ((later : Option Cause) → g later ≡ f later) → SaysFirstCause e g
 refuses_more e f g (inl h) same = inl h
 refuses_more e f g (inr (x, h, found)) same = inr (x, h, λ later. same later ∙ found later)
 
 pub refuses_quote : (e : PrintError) (x : Cause) (s : List ℕ) (g : Option Cause → Option Cause)
     → e ≡ NotPrintable x → has_quote s ≡ true
-    → ((later : Option Cause) → (m : Option Cause) × (g later ≡ quote_else x s m)) → Refuses e g
+    → ((later : Option Cause) → (m : Option Cause) × (g later ≡ quote_else x s m))
+    → SaysFirstCause e g
 refuses_quote e x s g h q same =
     inr (x, h, λ later. (same later).1 ∙ quote_found x s (same later).0 q)
 
@@ -319,7 +311,7 @@ sorted_none = tt
 -- an empty table
 pub empty_table : (old new : String Global) (js : List Job) (p : Place) (n : ℕ)
     (es : List (List ℕ × Resource))
-    → Writes old new (λ rest. codes ":table{}" ++ end_on p rest) → length es ≡ 0
+    → Appends old new (λ rest. codes ":table{}" ++ end_on p rest) → length es ≡ 0
     → DoesTree old new js js p n (table (entries_view es))
 empty_table old new js p n [] w e = record {
   text = λ rest. w (jobs_on js rest);

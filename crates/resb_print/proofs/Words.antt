@@ -9,12 +9,13 @@ use Rattle.std.proofs.lemmas.Bool.Decides.{nat_tests}
 use Rattle.std.proofs.lemmas.Fmt.{decimal_by_steps}
 use Rattle.resb_grammar.specs.Ascii as ascii
 use Rattle.resb_grammar.specs.ByteRuns.{is_white, is_word, is_digit}
-use Rattle.resb_grammar.specs.Tokens.{IsSolid, Skip, Text, unquoted, digits_value, Number}
-use Rattle.resb_grammar.specs.Tokens.{unsigned}
-use Rattle.resb_grammar.specs.GroupTypes.{Kind, Names, GroupType, Head}
+use Rattle.resb_grammar.specs.Lexical.{IsSolid, Skip, Text, unquoted, digits_value, Number}
+use Rattle.resb_grammar.specs.Lexical.{unsigned}
+use Rattle.resb_grammar.specs.GroupTypes.{Kind, Names, GroupType, TypedOpening}
 use Rattle.resb_print.specs.Printed.{quoted_on, are_words, is_bare, name_on}
 use Rattle.resb_print.specs.Quotes.{NoQuote}
-use Rattle.resb_print.proofs.Places.{From, byte_at, over, next, among, range_is, solid_at, no_skip}
+use Rattle.resb_print.proofs.Places.{From, byte_at, from_behind, from_next, from_among, range_is}
+use Rattle.resb_print.proofs.Places.{solid_at, no_skip}
 use Rattle.resb_print.proofs.Places.{solid_byte}
 use Rattle.resb_print.proofs.Places.{run_at, quoted_text}
 
@@ -59,7 +60,7 @@ module _ (text : List ℕ) where
           at + length s,
           unquoted (run_at text is_word s b rest f (word_each s (bare_words s e)) other)
               (let l = bare_some s e in omega arith) (sym (range_is text s (b ∷ rest) f)),
-          over text s (b ∷ rest) f,
+          from_behind text s (b ∷ rest) f,
         ),
       )
       go false e f = (solid_at text f refl refl, quoted_text text s free f)
@@ -70,8 +71,8 @@ module _ (text : List ℕ) where
       → (ends : ℕ) × GroupType text at ends kind × Skip text ends ends
       × (slice_index text ends ≡ ascii.left_brace) × From text (ends + 1) rest
   type_at kind w {at} {rest} names words h =
-      let a = next text h in
-      let b = over text w (ascii.left_brace ∷ rest) a in (
+      let a = from_next text h in
+      let b = from_behind text w (ascii.left_brace ∷ rest) a in (
         at + 1 + length w,
         record {
           name = w;
@@ -84,14 +85,14 @@ module _ (text : List ℕ) where
         },
         no_skip text (solid_at text b refl refl),
         byte_at text b,
-        next text b,
+        from_next text b,
       )
 
   -- a type, its `{` and what is skipped behind that
   pub head_at : (kind : Kind) (w : List ℕ) {at : ℕ} {rest : List ℕ} → Names w kind
       → are_words w ≡ true → From text at (ascii.colon ∷ (w ++ (ascii.left_brace ∷ rest)))
       → (brace : ℕ) × From text (brace + 1) rest
-      × ((to : ℕ) → Skip text (brace + 1) to → Head text at kind to)
+      × ((to : ℕ) → Skip text (brace + 1) to → TypedOpening text at kind to)
   head_at kind w {at} {rest} names words h =
       let (ends, type, skip, opens, r) = type_at kind w names words h in (
         ends,
@@ -159,7 +160,7 @@ more_digits n ds l h = record {
         let g : From text at (ds ++ ((48 + n % 10) ∷ rest)) =
         record { is = f.is ∙ append_assoc ds ((48 + n % 10) ∷ []) rest } in
         let r = h.value text at ((48 + n % 10) ∷ rest) g in
-        let b = byte_at text (over text ds ((48 + n % 10) ∷ rest) g) in
+        let b = byte_at text (from_behind text ds ((48 + n % 10) ∷ rest) g) in
         ap (digits_value text at) (length_push ds (48 + n % 10) ∙ add-one (length ds))
         ∙ omega (arith, r, b)
 
@@ -178,7 +179,7 @@ number_at text n {at} b rest l h other =
     let s = d.some in
     let e : at + length (decimal n) - at ≡ length (decimal n) = omega arith in
     let z : at - at ≡ 0 = omega arith in
-    let first = among text (decimal n) (b ∷ rest) at h (omega arith) (omega arith)
+    let first = from_among text (decimal n) (b ∷ rest) at h (omega arith) (omega arith)
     ∙ ap (slice_index (decimal n)) z in
     let solid = digit_solid (slice_index (decimal n) 0) (d.each 0 s) in (
       solid_byte text at (slice_index (decimal n) 0) first solid.0 solid.1,
@@ -189,6 +190,6 @@ number_at text n {at} b rest l h other =
           some = omega arith;
           means = sym (d.value text at (b ∷ rest) h) ∙ ap (digits_value text at) (sym e);
         }) (omega arith),
-        over text (decimal n) (b ∷ rest) h,
+        from_behind text (decimal n) (b ∷ rest) h,
       ),
     )

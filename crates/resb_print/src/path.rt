@@ -5,7 +5,8 @@ ghost use Rattle.resb_tree.specs.Bundle.{name_of, root_of};
 ghost use Rattle.resb_tree.specs.View.{tree_of, entries_view, pairs_view};
 ghost use Rattle.resb_print.specs.Paths as paths;
 ghost use Rattle.resb_print.specs.Paths.{entry_path_else, steps_in, path_found};
-ghost use Rattle.resb_print.specs.Inner.Looks.{look_of, looks_in, entry_looks, Enters, Goes};
+ghost use Rattle.resb_print.specs.Inner.Looks.{look_of, looks_in, entry_looks, EntersTree};
+ghost use Rattle.resb_print.specs.Inner.Looks.{LooksOnce};
 
 use crate::pieces::has_quote;
 use resb_tree::{Key, Resource, ResourceBundle, Table};
@@ -50,7 +51,7 @@ fn enter<'t, 'a>(
     pending: &mut Vec<Visit<'t, 'a>>,
     resource: &'t Resource<'a>,
 ) -> Result<bool, AllocError>
-    ensures { IfOk result (λ found. Enters (looks_in pending.old.items)
+    ensures { IfOk result (λ found. EntersTree (looks_in pending.old.items)
         (looks_in pending.new.items) (tree_of resource.now) found) }
 {
     match resource {
@@ -73,7 +74,8 @@ fn look<'t, 'a>(
     path: &mut Vec<PathStep<'t>>,
     visit: Visit<'t, 'a>,
 ) -> Result<bool, AllocError>
-    ensures { IfOk result (λ found. Goes (looks_in pending.old.items) (looks_in pending.new.items)
+    ensures { IfOk result (λ found. LooksOnce (looks_in pending.old.items)
+        (looks_in pending.new.items)
         (steps_in path.old.items) (steps_in path.new.items) (look_of visit.entry) found) }
 {
     match visit {

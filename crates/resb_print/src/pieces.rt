@@ -6,7 +6,7 @@ ghost use Rattle.resb_print.specs.Quotes as quotes;
 ghost use Rattle.resb_print.specs.Printed as printed;
 ghost use Rattle.resb_print.specs.Printed.{indent_on, line_on, quoted_on, name_on, numbers_on};
 ghost use Rattle.resb_print.specs.Printed.{end_on, root_type_on};
-ghost use Rattle.resb_print.specs.Inner.Jobs.{Writes};
+ghost use Rattle.resb_print.specs.Inner.Jobs.{Appends};
 ghost use Rattle.resb_grammar.specs.ByteRuns as bytes;
 
 use crate::place::Place;
@@ -52,7 +52,7 @@ fn is_bare(text: &str) -> bool
 
 /// Writes a string in quotes.
 pub(crate) fn push_quoted(out: &mut String, text: &str) -> Result<(), AllocError>
-    ensures { OnOk result (Writes out.old out.new (quoted_on text.now)) }
+    ensures { OnOk result (Appends out.old out.new (quoted_on text.now)) }
 {
     out.push_str("\"")?;
     out.push_str(text)?;
@@ -61,7 +61,7 @@ pub(crate) fn push_quoted(out: &mut String, text: &str) -> Result<(), AllocError
 
 /// Writes a name or key.
 pub(crate) fn push_name(out: &mut String, text: &str) -> Result<(), AllocError>
-    ensures { OnOk result (Writes out.old out.new (name_on text.now)) }
+    ensures { OnOk result (Appends out.old out.new (name_on text.now)) }
 {
     if is_bare(text) {
         out.push_str(text)
@@ -72,7 +72,7 @@ pub(crate) fn push_name(out: &mut String, text: &str) -> Result<(), AllocError>
 
 /// Begins a line.
 pub(crate) fn push_line(out: &mut String, level: usize) -> Result<(), AllocError>
-    ensures { OnOk result (Writes out.old out.new (line_on level)) }
+    ensures { OnOk result (Appends out.old out.new (line_on level)) }
 {
     out.push_str("\n")?;
     for line in 0..level {
@@ -83,7 +83,7 @@ pub(crate) fn push_line(out: &mut String, level: usize) -> Result<(), AllocError
 
 /// Writes what follows a resource.
 pub(crate) fn push_end(out: &mut String, place: Place) -> Result<(), AllocError>
-    ensures { OnOk result (Writes out.old out.new (end_on place)) }
+    ensures { OnOk result (Appends out.old out.new (end_on place)) }
 {
     match place {
         Place::InTable => Ok(()),
@@ -93,7 +93,7 @@ pub(crate) fn push_end(out: &mut String, place: Place) -> Result<(), AllocError>
 
 /// Writes the root's type.
 pub(crate) fn push_root_type(out: &mut String, fallback: bool) -> Result<(), AllocError>
-    ensures { OnOk result (Writes out.old out.new (root_type_on fallback)) }
+    ensures { OnOk result (Appends out.old out.new (root_type_on fallback)) }
 {
     if fallback {
         Ok(())
@@ -104,14 +104,14 @@ pub(crate) fn push_root_type(out: &mut String, fallback: bool) -> Result<(), All
 
 /// Writes a number.
 pub(crate) fn push_number(out: &mut String, number: u32) -> Result<(), AllocError>
-    ensures { OnOk result (Writes out.old out.new (λ rest. decimal number ++ rest)) }
+    ensures { OnOk result (Appends out.old out.new (λ rest. decimal number ++ rest)) }
 {
     write!(out, "{number}")
 }
 
 /// Writes numbers with commas.
 pub(crate) fn push_numbers(out: &mut String, numbers: &[u32]) -> Result<(), AllocError>
-    ensures { OnOk result (Writes out.old out.new (numbers_on numbers.now)) }
+    ensures { OnOk result (Appends out.old out.new (numbers_on numbers.now)) }
 {
     let Some((first, more)) = numbers.split_first() else {
         return Ok(());
@@ -122,7 +122,7 @@ pub(crate) fn push_numbers(out: &mut String, numbers: &[u32]) -> Result<(), Allo
 
 /// Writes numbers, each behind a comma.
 fn push_more(out: &mut String, numbers: &[u32]) -> Result<(), AllocError>
-    ensures { OnOk result (Writes out.old out.new (printed.more_numbers_on numbers.now)) }
+    ensures { OnOk result (Appends out.old out.new (printed.more_numbers_on numbers.now)) }
 {
     for number in numbers {
         out.push_str(",")?;

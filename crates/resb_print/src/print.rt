@@ -10,7 +10,7 @@ ghost use Rattle.resb_print.specs.Quotes.{causes_in_else, first_cause};
 ghost use Rattle.resb_print.specs.Laws.{HasNoText};
 ghost use Rattle.resb_print.specs.Printed.{IsBundleText};
 ghost use Rattle.resb_print.specs.Sizes.{text_limit};
-ghost use Rattle.resb_print.specs.Inner.Jobs.{ArePrinted, Refused};
+ghost use Rattle.resb_print.specs.Inner.Jobs.{ArePrinted, SaysCause};
 
 use crate::cause::Cause;
 use crate::error::PrintError;
@@ -23,7 +23,7 @@ use std::alloc::Global;
 fn push_lines(alloc: Global, out: &mut String, table: &Table<'_>) -> Result<(), PrintError>
     ensures ok { OnOk result (ArePrinted out.old out.new (entries_view table.now.entries)) }
     ensures err { IfErr result (λ e.
-        Refused e (causes_in_else (entries_view table.now.entries) None)) }
+        SaysCause e (causes_in_else (entries_view table.now.entries) None)) }
 {
     let mut pending = Vec::new(alloc);
     push_entries(&mut pending, 1, table)?;
@@ -47,7 +47,7 @@ pub fn print_text(alloc: Global, bundle: &ResourceBundle<'_>) -> Result<String, 
     ensures size { IfOk result (λ text. length (string_bytes text)
         ≤ text_limit (name_of bundle.now) (root_of bundle.now)) }
     ensures refusal { IfErr result (λ e.
-        Refused e (first_cause (name_of bundle.now) (root_of bundle.now))) }
+        SaysCause e (first_cause (name_of bundle.now) (root_of bundle.now))) }
     ensures none { IfErr result (λ e. (e ≡ PrintError.OutOfMemory)
         ⊎ HasNoText (name_of bundle.now) bundle.now.is_locale_fallback_enabled
         (root_of bundle.now)) }

@@ -6,13 +6,13 @@ ghost use Rattle.resb_tree.specs.Tree.{array, table as table_with, binary, int_v
 ghost use Rattle.resb_tree.specs.Tree.{string, integer};
 ghost use Rattle.resb_tree.specs.Maps.{text_cmp};
 ghost use Rattle.resb_tree.specs.View.{tree_of, items_view, entries_view, pairs_view};
-ghost use Rattle.resb_tree.specs.WalkOrder.{entry_keys};
+ghost use Rattle.resb_tree.specs.LayingOrder.{entry_keys};
 ghost use Rattle.resb_print.specs.Held.{IsHeld};
 ghost use Rattle.resb_print.specs.Quotes.{cause_else};
 ghost use Rattle.resb_print.specs.Printed as printed;
 ghost use Rattle.resb_print.specs.Printed.{string_on, tree_on};
 ghost use Rattle.resb_print.specs.Inner.Jobs.{jobs_in, job_of, job_cause, entry_jobs, item_jobs};
-ghost use Rattle.resb_print.specs.Inner.Jobs.{Writes, DoesJob, DoesTree, Refuses};
+ghost use Rattle.resb_print.specs.Inner.Jobs.{Appends, DoesJob, DoesTree, SaysFirstCause};
 
 use crate::cause::Cause;
 use crate::error::PrintError;
@@ -65,7 +65,7 @@ fn push_items<'t, 'a>(
 
 /// Writes a string, in braces where it stands behind a key.
 fn push_string(out: &mut String, place: Place, text: &str) -> Result<(), AllocError>
-    ensures { OnOk result (Writes out.old out.new (string_on place text.now)) }
+    ensures { OnOk result (Appends out.old out.new (string_on place text.now)) }
 {
     if let Place::InTable = place {
         out.push_str("{")?;
@@ -79,7 +79,7 @@ fn push_string(out: &mut String, place: Place, text: &str) -> Result<(), AllocEr
 
 /// Writes bytes as hex digits.
 fn push_bytes(alloc: Global, out: &mut String, place: Place, bytes: &[u8]) -> Result<(), AllocError>
-    ensures written { OnOk result (Writes out.old out.new (tree_on place 0 (binary bytes.now))) }
+    ensures written { OnOk result (Appends out.old out.new (tree_on place 0 (binary bytes.now))) }
     ensures held { OnOk result (IsHeld (binary bytes.now)) }
 {
     let digits = hex::encode(alloc, bytes)?;
@@ -91,7 +91,7 @@ fn push_bytes(alloc: Global, out: &mut String, place: Place, bytes: &[u8]) -> Re
 
 /// Writes an integer.
 fn push_integer(out: &mut String, place: Place, number: u32) -> Result<(), AllocError>
-    ensures { OnOk result (Writes out.old out.new (tree_on place 0 (integer number))) }
+    ensures { OnOk result (Appends out.old out.new (tree_on place 0 (integer number))) }
 {
     out.push_str(":int{")?;
     push_number(out, number)?;
@@ -102,7 +102,7 @@ fn push_integer(out: &mut String, place: Place, number: u32) -> Result<(), Alloc
 /// Writes a vector.
 fn push_vector(out: &mut String, place: Place, numbers: &[u32]) -> Result<(), AllocError>
     ensures written { OnOk result
-        (Writes out.old out.new (tree_on place 0 (int_vector numbers.now))) }
+        (Appends out.old out.new (tree_on place 0 (int_vector numbers.now))) }
     ensures held { OnOk result (IsHeld (int_vector numbers.now)) }
 {
     out.push_str(":intvector{")?;
@@ -164,7 +164,7 @@ fn push_resource<'t, 'a>(
 ) -> Result<(), PrintError>
     ensures ok { OnOk result (DoesTree out.old out.new (jobs_in pending.old.items)
         (jobs_in pending.new.items) place level (tree_of resource.now)) }
-    ensures err { IfErr result (λ e. Refuses e (cause_else (tree_of resource.now))) }
+    ensures err { IfErr result (λ e. SaysFirstCause e (cause_else (tree_of resource.now))) }
 {
     match resource {
         Resource::String(text) => {
@@ -206,7 +206,7 @@ pub(crate) fn step<'t, 'a>(
 ) -> Result<(), PrintError>
     ensures ok { OnOk result (DoesJob out.old out.new (jobs_in pending.old.items)
         (jobs_in pending.new.items) (job_of task.entry)) }
-    ensures err { IfErr result (λ e. Refuses e (job_cause (job_of task.entry))) }
+    ensures err { IfErr result (λ e. SaysFirstCause e (job_cause (job_of task.entry))) }
 {
     match task {
         Task::Entry(level, key, resource) => {

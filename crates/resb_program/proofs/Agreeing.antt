@@ -6,7 +6,7 @@ use Rattle.resb_head.specs.File.{parts_of, Denotes, budget}
 use Rattle.resb_format.proofs.Denoting.{unique, counted}
 use Rattle.resb_format.specs.declared.error.ReadingError.{ReadingError}
 use Rattle.resb_format.specs.Error.{refusal_of, IsWantOfMemory}
-use Rattle.resb_read.specs.Refusing.{RefusesTree}
+use Rattle.resb_read.specs.RefusedReadings.{RefusesTree}
 use Rattle.resb_read.specs.Roots.{AnswersCount, AnswersTree, RefusesRoot, RefusesFile}
 use Rattle.resb_read.proofs.OneRefusal.{one_refusal}
 use Rattle.resb_read.proofs.Rooted.{no_bundle}

@@ -14,7 +14,7 @@ use Rattle.resb_format.specs.Error as reading
 use Rattle.resb_format.specs.Error.{kind_of, description_of, IsWantOfMemory, refusal_of}
 use Rattle.resb_head.specs.File.{Denotes, budget}
 use Rattle.resb_format.specs.declared.error.ReadingError.{ReadingError}
-use Rattle.resb_read.specs.Refusing.{RefusesTree}
+use Rattle.resb_read.specs.RefusedReadings.{RefusesTree}
 use Rattle.resb_read.specs.Resources.{DenPlace}
 use Rattle.resb_read.specs.Roots.{HoldsAtRoot, RefusesRoot, AnswersCount}
 use Rattle.resb.specs.View.{tree_of}

@@ -11,13 +11,13 @@ use Rattle.std.proofs.lemmas.Option.{same_Some}
 use Rattle.std.proofs.lemmas.Bool.{true≢false, false≢true}
 use Rattle.resb_read.specs.Places.{Place}
 use Rattle.resb_read.specs.Tables.{is_text, last_from, key_of, IsBelow, AscendAbove, Ascend}
-use Rattle.resb_read.specs.Tables.{is_above, text_in, keys_ascend_above, keys_ascend_from}
+use Rattle.resb_read.specs.Tables.{is_above, text_or_empty, keys_ascend_above, keys_ascend_from}
 use Rattle.resb_read.specs.Tables.{keys_ascend}
 use Rattle.std.specs.Ordering.{is_lt}
 use Rattle.std.specs.declared.cmp.Ordering.{Ordering}
-use Rattle.std.specs.List.{zip, take-map, drop-map}
+use Rattle.std.specs.List.{take-map, drop-map}
 use Rattle.std.proofs.lemmas.Map.Lookups.{exact_bytes}
-use Rattle.std.proofs.Common.{take, drop, map, suc, zero, if◌then◌else◌}
+use Rattle.std.proofs.Common.{map, if◌then◌else◌}
 
 below_not : (s t : List ℕ) → IsBelow s t → bytes_eq s t ≡ false
 below_not s t h = sym (is_eq-slice_cmp s t) ∙ ap is_eq h
@@ -139,7 +139,8 @@ less_of Greater h = absurd (false≢true h)
 
 -- the test says that they ascend
 sound_step : (low : List ℕ) (o : Option (List ℕ × ℕ)) (es : List (Place × Place))
-    (b : Bool) → b ≡ is_above low o → (if b then keys_ascend_above (text_in o) es else false) ≡ true
+    (b : Bool) → b ≡ is_above low o
+    → (if b then keys_ascend_above (text_or_empty o) es else false) ≡ true
     → (t : List ℕ × ℕ) × (o ≡ Some t) × IsBelow low t.0 × (keys_ascend_above t.0 es ≡ true)
 sound_step low None es true k h = absurd (true≢false k)
 sound_step low None es false k h = absurd (false≢true h)
@@ -164,28 +165,6 @@ sound (e ∷ es) h = sound_from (key_of e) es h
 
 -- parts of pairs
 pub ruleset maps = (take-map, drop-map)
-
-zip_none : {A B : Type 0} (xs : List A) → zip {K = A} {X = B} xs [] ≡ []
-zip_none [] = refl
-zip_none (x ∷ xs) = refl
-
-zip_take : {A B : Type 0} (n : ℕ) (xs : List A) (ys : List B)
-    → zip (take n xs) (take n ys) ≡ take n (zip xs ys)
-zip_take zero xs ys = refl
-zip_take (suc n) [] ys = refl
-zip_take (suc n) (x ∷ xs) [] = refl
-zip_take (suc n) (x ∷ xs) (y ∷ ys) = ap (λ r. (x, y) ∷ r) (zip_take n xs ys)
-
-zip_drop : {A B : Type 0} (n : ℕ) (xs : List A) (ys : List B)
-    → zip (drop n xs) (drop n ys) ≡ drop n (zip xs ys)
-zip_drop zero xs ys = refl
-zip_drop (suc n) [] ys = refl
-zip_drop (suc n) (x ∷ xs) [] = zip_none (drop n xs)
-zip_drop (suc n) (x ∷ xs) (y ∷ ys) = zip_drop n xs ys
-
-pub zip_cut : {A B : Type 0} (k n : ℕ) (xs : List A) (ys : List B)
-    → zip (take n (drop k xs)) (take n (drop k ys)) ≡ take n (drop k (zip xs ys))
-zip_cut k n xs ys = zip_take n (drop k xs) (drop k ys) ∙ ap (take n) (zip_drop k xs ys)
 
 map_append : {A B : Type 0} (f : A → B) (xs ys : List A) → map f (xs ++ ys) ≡ map f xs ++ map f ys
 map_append f [] ys = refl

@@ -5,7 +5,7 @@ use Rattle.std.proofs.Common.{if◌then◌else◌, min, ◌≤◌, ◌/◌, ◌-
 use Rattle.std.specs.List.{zip}
 use Rattle.std.proofs.lemmas.List.{take-append-drop}
 use Rattle.resb_format.specs.Content as at
-use Rattle.resb_format.specs.declared.file.File.{File}
+use Rattle.resb_format.specs.declared.body_parts.BodyParts.{BodyParts}
 use Rattle.resb_format.specs.Parts.{parts_in}
 use Rattle.resb_format.specs.Bytes.{units_of, words_of}
 use Rattle.resb_format.proofs.Spelled.{units_length, words_length}
@@ -14,14 +14,14 @@ use Rattle.resb_read.specs.Leaves.{key_from}
 use Rattle.resb_read.specs.Sequences.{at_entry, at_spot}
 use Rattle.resb_read.specs.declared.cursor.Spot.TheVariants as spot
 use Rattle.resb_read.specs.Tables.{is_text, has_name, last_from, last_named}
-use Rattle.resb_read.specs.Inner.Items.{near_entries}
+use Rattle.resb_read.specs.Inner.Elements.{near_entries}
 use Rattle.resb_read.proofs.Ascending.{from_append}
 use Rattle.resb_read.proofs.Lasts.{skipped, none_found}
 
 -- where no entry has the name, what was found stays
-kept : (name : List ℕ) (found : Option Place) (es : List (Place × Place))
+found_stays : (name : List ℕ) (found : Option Place) (es : List (Place × Place))
     → last_named name es ≡ None → last_from name found es ≡ found
-kept name found es h = skipped name found es (none_found name es h)
+found_stays name found es h = skipped name found es (none_found name es h)
 
 nth_pair : {C : Type 0} (f : ℕ × at.Member → C) (us ws : List ℕ) (n : ℕ) → n < length us
     → n < length ws
@@ -53,19 +53,19 @@ unnamed name es e n is other rest =
     ∙ ap (λ b. last_from name (if b then Some e.1 else None) (drop (suc n) es)) other ∙ rest
 
 -- an entry that has the name, before others that haven't it
-named : (name : List ℕ) (es : List (Place × Place)) (e : Place × Place) (n : ℕ)
+named_is_last : (name : List ℕ) (es : List (Place × Place)) (e : Place × Place) (n : ℕ)
     → drop n es ≡ e ∷ drop (suc n) es → has_name name e ≡ true
     → last_named name (drop (suc n) es) ≡ None → last_named name es ≡ Some e.1
-named name es e n is here rest =
+named_is_last name es e n is here rest =
     let before : Option Place = last_from name None (take n es) in
     sym (ap (last_named name) (take-append-drop n es))
     ∙ from_append name (take n es) None (drop n es)
     ∙ ap (last_from name before) is
     ∙ ap (λ b. last_from name (if b then Some e.1 else before) (drop (suc n) es)) here
-    ∙ kept name (Some e.1) (drop (suc n) es) rest
+    ∙ found_stays name (Some e.1) (drop (suc n) es) rest
 
 -- entries whose keys' positions and values' words are given by bytes
-module _ (name : List ℕ) (f : File) (positions words : List ℕ) where
+module _ (name : List ℕ) (f : BodyParts) (positions words : List ℕ) where
   abbrev es : List (Place × Place)
   es = near_entries f positions words
 
@@ -105,9 +105,9 @@ module _ (name : List ℕ) (f : File) (positions words : List ℕ) where
     test = ap (λ k. is_text name (key_from (parts_in f) (spot.Key k))) at_position
 
     -- the last of those that are left hasn't the name
-    pub passed : is_text name (key_from (parts_in f) (spot.Key position)) ≡ false
+    pub last_unnamed : is_text name (key_from (parts_in f) (spot.Key position)) ≡ false
         → last_named name (drop (left - 1) es) ≡ None
-    passed other = unnamed name es e n is (sym test ∙ other) later
+    last_unnamed other = unnamed name es e n is (sym test ∙ other) later
 
     -- the last of those that are left has the name
     pub found : (word : ℕ) → word ≡ get_or (words_of words) (left - 1) 0
@@ -115,4 +115,4 @@ module _ (name : List ℕ) (f : File) (positions words : List ℕ) where
         → Some (at_spot (parts_in f) (spot.Descriptor word)) ≡ last_named name es
     found word at_word here =
         ap (λ w. Some (at_spot (parts_in f) (spot.Descriptor w))) at_word
-        ∙ sym (named name es e n is (sym test ∙ here) later)
+        ∙ sym (named_is_last name es e n is (sym test ∙ here) later)

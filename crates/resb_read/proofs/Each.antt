@@ -4,7 +4,7 @@ use Rattle.std.proofs.Common.{arith, inl, inr, append_assoc, Ok, Err, Some, None
 use Rattle.resb_read.specs.Places.{Place}
 use Rattle.resb_read.specs.Sequences.{ReadsEach, CountsEach}
 use Rattle.resb_read.specs.Reading.{LacksOrMemory}
-use Rattle.resb_read.specs.Refusing.{RefusesThere, RefusesOne}
+use Rattle.resb_read.specs.RefusedReadings.{RefusesThere, RefusesOne}
 use Rattle.resb_format.specs.declared.error.ReadingError.{ReadingError}
 use Rattle.resb_read.specs.Inner.Front.{Front}
 use Rattle.resb_read.specs.TypeLaws.{each_counted}

@@ -6,7 +6,7 @@ use Rattle.std.specs.declared.cmp.Ordering.{Ordering}
 use Rattle.resb_read.specs.Places.{Place}
 use Rattle.resb_read.specs.Sequences.{ReadsPairs, CountsPairs, put_each}
 use Rattle.resb_read.specs.Reading.{LacksOrMemory}
-use Rattle.resb_read.specs.Refusing.{RefusesPair, RefusesOneEntry}
+use Rattle.resb_read.specs.RefusedReadings.{RefusesPair, RefusesOneEntry}
 use Rattle.resb_read.specs.Access.{EntryAccess, Enters, ReadsPair, CountsPair}
 use Rattle.resb_read.proofs.Each.{steps_some, steps_err}
 use Rattle.resb_read.specs.Inner.Front.{FrontPairs}

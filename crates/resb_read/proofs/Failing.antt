@@ -1,7 +1,7 @@
 -- What an access answers where its first place is refused: it stands there, and has failed.
 use Rattle.std.proofs.Common.{ℕ, ◌≡◌, ◌∷◌, List, Some, None, Err}
 use Rattle.resb_format.specs.declared.error.ReadingError.{ReadingError}
-use Rattle.resb_read.specs.Refusing.{RefusesThere}
+use Rattle.resb_read.specs.RefusedReadings.{RefusesThere}
 use Rattle.resb_read.specs.Access.{AccessOver, Steps}
 
 abbrev pub stopped_at : {P : Type 0} → ReadingError → List P → AccessOver P

@@ -3,7 +3,7 @@ use Rattle.std.proofs.Common.{ℕ, ◌≡◌, ◌≤◌, Option, sym, ap, ◌∙
 use Rattle.std.specs.Prelude.{◌%◌, length}
 use Rattle.std.proofs.lemmas.Option.{same_Some}
 use Rattle.resb_read.specs.Laws.{OneValue}
-use Rattle.resb_read.specs.Leaves.{IsWithin, signed_at, unsigned_at, bool_at, bits_at, text_from}
+use Rattle.resb_read.specs.Leaves.{LiesInRange, signed_at, unsigned_at, bool_at, bits_at, text_from}
 use Rattle.resb_read.specs.Leaves.{key_from, bytes_from}
 use Rattle.resb_read.specs.Reading.{any, IsThere}
 use Rattle.resb_read.specs.TypeLaws.{one_tree_at}
@@ -14,7 +14,7 @@ there_same fits there x y m n h k = ap (λ r. r.0) (same_Some _ _ (sym h.1 ∙ k
 
 pub one_value : OneValue
 one_value = (
-  λ low high p. there_same (IsWithin low high) (signed_at p.at),
+  λ low high p. there_same (LiesInRange low high) (signed_at p.at),
   λ high p. there_same (λ x. x ≤ high) (unsigned_at p.at),
   λ p. there_same any (bool_at p.at),
   λ p. there_same any (bits_at p.at),

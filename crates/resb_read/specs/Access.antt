@@ -4,7 +4,7 @@
 use Rattle.std.specs.Prelude.{ℕ, List, [], ◌∷◌, Option, Some, None, Result, Ok, Err, ◌≡◌, ◌+◌}
 use Rattle.resb_read.specs.Places.{Place, place_of}
 use Rattle.resb_read.specs.declared.cursor.Cursor.{Cursor}
-use Rattle.resb_read.specs.Refusing.{RefusesThere, RefusesPair}
+use Rattle.resb_read.specs.RefusedReadings.{RefusesThere, RefusesPair}
 use Rattle.resb_format.specs.declared.error.ReadingError.{ReadingError}
 
 -- what is still to come, and the error that it stopped at

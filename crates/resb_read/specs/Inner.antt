@@ -1,6 +1,6 @@
 -- Words of private steps. Public clauses cite those of `Items` and `Named`; the others have not to
 -- be trusted.
 pub mod Front
-pub mod Items
+pub mod Elements
 pub mod Named
 pub mod Naming

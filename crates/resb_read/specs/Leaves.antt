@@ -3,19 +3,19 @@
 use Rattle.std.specs.Prelude.{ℕ, ℤ, ◌≡◌, ◌≤ℤ◌, ◌≤◌, ◌+◌, ◌*◌, ◌/◌, ◌%◌, ◌^◌, ◌==◌, length}
 use Rattle.std.specs.Prelude.{List, [], Bool, true, false, Option, Some, None, option_map}
 use Rattle.std.specs.Prelude.{if◌then◌else◌}
-use Rattle.std.specs.List.{flat_map}
-use Rattle.std.specs.Int.{cast_signed, to_le_bytes, w16, w32}
+use Rattle.std.specs.Int.{cast_signed, w32}
 use Rattle.resb_tree.specs.Int28.{signed}
 use Rattle.resb_format.specs.Bytes.{words_of, part}
 use Rattle.resb_format.specs.Strings.{string_at, text_at, key_at}
 use Rattle.resb_format.specs.Parts.{Parts}
-use Rattle.resb_format.specs.Content.{counted}
+use Rattle.resb_format.specs.Content.{behind_count}
 use Rattle.resb_format.specs.Types as types
 use Rattle.resb_read.specs.Places.{Place}
-use Rattle.resb_read.specs.Reading.{IsThere, CountsThere}
+use Rattle.resb_read.specs.Reading.{IsThere, SomeRead}
 use Rattle.resb_read.specs.Reading.{any}
 use Rattle.resb_read.specs.declared.cursor.Spot.{Spot}
 use Rattle.resb_read.specs.declared.cursor.Spot.TheVariants as spot
+use Rattle.resb_format.specs.Bytes.{units_as_bytes}
 
 -- the type and the value of a descriptor
 abbrev pub type_in : ℕ → ℕ
@@ -48,16 +48,16 @@ bool_at (spot.Descriptor w) = if type_in w == types.integer then bool_of (value_
 bool_at s = None
 
 -- a number lies between two others, or is one of them
-abbrev pub IsWithin : ℤ → ℤ → ℤ → Type 0
-IsWithin low high x = (low ≤ℤ x) × (x ≤ℤ high)
+abbrev pub LiesInRange : ℤ → ℤ → ℤ → Type 0
+LiesInRange low high x = (low ≤ℤ x) × (x ≤ℤ high)
 
 -- a number with a sign stands there, and lies in the range
 abbrev pub ReadsSigned : ℤ → ℤ → Place → ℤ → ℕ → Type 0
-ReadsSigned low high p x n = IsThere (IsWithin low high) (signed_at p.at) x n
+ReadsSigned low high p x n = IsThere (LiesInRange low high) (signed_at p.at) x n
 
 -- a number with a sign stands there that is within the bounds of its type, and takes n
 abbrev pub CountsSigned : ℤ → ℤ → Place → ℕ → Type 0
-CountsSigned low high p n = CountsThere (IsWithin low high) (signed_at p.at) n
+CountsSigned low high p n = SomeRead (ReadsSigned low high p) n
 
 -- a number without a sign stands there, and is at most the greatest of its type
 abbrev pub ReadsUnsigned : ℕ → Place → ℕ → ℕ → Type 0
@@ -65,7 +65,7 @@ ReadsUnsigned high p x n = IsThere (λ x. x ≤ high) (unsigned_at p.at) x n
 
 -- a number without a sign stands there that is at most the greatest of its type, and takes n
 abbrev pub CountsUnsigned : ℕ → Place → ℕ → Type 0
-CountsUnsigned high p n = CountsThere (λ x. x ≤ high) (unsigned_at p.at) n
+CountsUnsigned high p n = SomeRead (ReadsUnsigned high p) n
 
 -- this bool stands there
 abbrev pub ReadsBool : Place → Bool → ℕ → Type 0
@@ -73,7 +73,7 @@ ReadsBool p x n = IsThere any (bool_at p.at) x n
 
 -- a bool stands there, and takes n
 abbrev pub CountsBool : Place → ℕ → Type 0
-CountsBool p n = CountsThere any (bool_at p.at) n
+CountsBool p n = SomeRead (ReadsBool p) n
 
 -- the 28 bits of an Int
 abbrev pub bits_at : Spot → Option (ℕ × ℕ)
@@ -86,7 +86,7 @@ ReadsBits p x n = IsThere any (bits_at p.at) x n
 
 -- some 28 bits stand there
 abbrev pub CountsBits : Place → ℕ → Type 0
-CountsBits p n = CountsThere any (bits_at p.at) n
+CountsBits p n = SomeRead (ReadsBits p) n
 
 -- the text of the string that a descriptor leads to; a descriptor of another type has none
 abbrev pub described_text : Parts → ℕ → Option (List ℕ)
@@ -107,7 +107,7 @@ ReadsText p x n = IsThere any (text_from p.parts p.at) x n
 
 -- a text stands there, and takes n
 abbrev pub CountsText : Place → ℕ → Type 0
-CountsText p n = CountsThere any (text_from p.parts p.at) n
+CountsText p n = SomeRead (ReadsText p) n
 
 -- the key at a spot, for no resource, if one stands there
 abbrev pub key_from : Parts → Spot → Option (List ℕ × ℕ)
@@ -120,15 +120,11 @@ ReadsKey p x n = IsThere any (key_from p.parts p.at) x n
 
 -- a key that is a text stands there, and takes n
 abbrev pub CountsKey : Place → ℕ → Type 0
-CountsKey p n = CountsThere any (key_from p.parts p.at) n
-
--- the bytes under the units of a string, which need be no text
-abbrev pub units_as_bytes : List ℕ → List ℕ
-units_as_bytes us = flat_map (to_le_bytes w16) us
+CountsKey p n = SomeRead (ReadsKey p) n
 
 -- n items of so many bytes each, where word v is n and they follow it
 abbrev pub counted_bytes : Parts → ℕ → ℕ → Option (List ℕ)
-counted_bytes p each v = counted (words_of p.body) v (λ n. part p.body (4 * v + 4) (each * n))
+counted_bytes p each v = behind_count (words_of p.body) v (λ n. part p.body (4 * v + 4) (each * n))
 
 -- the bytes of a binary, of a string's units or of a vector's numbers, none at value 0
 abbrev pub bytes_of_type : Parts → ℕ → ℕ → Option (List ℕ)
@@ -153,7 +149,7 @@ ReadsBytes p x n = IsThere any (bytes_from p.parts p.at) x n
 
 -- bytes stand there, and take n
 abbrev pub CountsBytes : Place → ℕ → Type 0
-CountsBytes p n = CountsThere any (bytes_from p.parts p.at) n
+CountsBytes p n = SomeRead (ReadsBytes p) n
 
 -- bytes that are whole items of so many bytes each
 abbrev pub ReadsView : ℕ → Place → List ℕ → ℕ → Type 0
@@ -161,4 +157,4 @@ ReadsView each p b n = IsThere (λ b. length b % each ≡ 0) (bytes_from p.parts
 
 -- some bytes stand there whose number is a multiple of an item's
 abbrev pub CountsView : ℕ → Place → ℕ → Type 0
-CountsView each p n = CountsThere (λ b. length b % each ≡ 0) (bytes_from p.parts p.at) n
+CountsView each p n = SomeRead (ReadsView each p) n

@@ -25,7 +25,7 @@ pub use Rattle.resb_walk.specs.TreeBytes
 pub mod Places
 pub mod Reading
 pub mod Leaves
-pub mod Refused
+pub mod PlaceRefusals
 pub mod Resources
 pub mod Roots
 pub mod Measuring
@@ -34,6 +34,6 @@ pub mod Sequences
 pub mod Access
 pub mod Tables
 pub mod Spots
-pub mod Refusing
+pub mod RefusedReadings
 pub mod TypeLaws
 pub mod Inner

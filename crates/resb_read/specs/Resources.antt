@@ -11,7 +11,7 @@ use Rattle.resb_format.specs.Parts.{Parts}
 use Rattle.resb_format.specs.Denotes.{Den, DenMember, Reaches, ReachesMember}
 use Rattle.resb_format.specs.Error.{Refusal}
 use Rattle.resb_read.specs.Places.{Place}
-use Rattle.resb_read.specs.Refused.{elsewhere}
+use Rattle.resb_read.specs.PlaceRefusals.{elsewhere}
 use Rattle.resb_read.specs.declared.cursor.Spot.{Spot}
 use Rattle.resb_read.specs.declared.cursor.Spot.TheVariants as spot
 

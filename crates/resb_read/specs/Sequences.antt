@@ -8,7 +8,7 @@ use Rattle.std.specs.declared.cmp.Ordering.{Ordering}
 use Rattle.resb_tree.specs.Tree.{Tree, string, array, table, binary, integer, int_vector}
 use Rattle.resb_format.specs.Parts.{Parts}
 use Rattle.resb_format.specs.Types as types
-use Rattle.resb_format.specs.Content.{Content, Member, leaf, list, pairs, content}
+use Rattle.resb_format.specs.Content.{Content, Member, leaf, list, entry_list, content_at}
 use Rattle.resb_read.specs.Places.{Place, spot_of}
 use Rattle.resb_read.specs.Leaves.{type_in}
 use Rattle.resb_read.specs.declared.cursor.Spot.{Spot}
@@ -31,13 +31,14 @@ numbers_in (integer n) = None
 abbrev pub member_spots : Option Content → Option (List Spot)
 member_spots (Some (list ms)) = Some (map spot_of ms)
 member_spots (Some (leaf t)) = numbers_in t
-member_spots (Some (pairs es)) = None
+member_spots (Some (entry_list es)) = None
 member_spots None = None
 
 -- the spots of the members of an Array, an Array16 or an IntVector
 abbrev pub members_in : Parts → ℕ → Option (List Spot)
 members_in p w =
-    if types.is_array (type_in w) || type_in w == types.int_vector then member_spots (content p w)
+    if types.is_array (type_in w) || type_in w == types.int_vector then member_spots
+    (content_at p w)
     else None
 
 -- the places of the members at a spot: only a descriptor has any
@@ -51,7 +52,7 @@ members_at p = members_from p.parts p.at
 
 -- a table's entries: each a key's position and a member
 abbrev pub entry_pairs : Option Content → Option (List (ℕ × Member))
-entry_pairs (Some (pairs es)) = Some es
+entry_pairs (Some (entry_list es)) = Some es
 entry_pairs (Some (list ms)) = None
 entry_pairs (Some (leaf t)) = None
 entry_pairs None = None
@@ -59,7 +60,7 @@ entry_pairs None = None
 -- the entries of a Table, a Table16 or a table of 32-bit positions
 abbrev pub entries_in : Parts → ℕ → Option (List (ℕ × Member))
 entries_in p w =
-    if types.is_table (type_in w) then entry_pairs (content p w) else None
+    if types.is_table (type_in w) then entry_pairs (content_at p w) else None
 
 -- the places of a key and its value
 abbrev pub at_entry : Parts → ℕ × Member → Place × Place

@@ -20,16 +20,16 @@ use Rattle.resb_format.specs.declared.error.ReadingError.{ReadingError}
 use Rattle.resb_walk.specs.Refusals.{IsSpent}
 use Rattle.resb_read.specs.Places.{Place}
 use Rattle.resb_read.specs.Leaves.{key_from, ReadsKey}
-use Rattle.resb_read.specs.Refusing.{RefusesThere, RefusesEntries}
+use Rattle.resb_read.specs.RefusedReadings.{RefusesThere, RefusesEntries}
 use Rattle.resb_read.specs.Sequences.{entries_at}
-use Rattle.resb_read.specs.Inner.Items.{entry_places}
+use Rattle.resb_read.specs.Inner.Elements.{entry_places}
 use Rattle.resb_read.specs.declared.cursor.Spot.{Spot}
 use Rattle.resb_read.specs.declared.cursor.Spot.TheVariants as spot
 use Rattle.resb_read.specs.declared.tables.TableView.{TableView}
 
 -- the places of a table's keys and values
-abbrev pub entries_of : TableView → List (Place × Place)
-entries_of t = entry_places t.file t.entries
+abbrev pub view_entries : TableView → List (Place × Place)
+view_entries t = entry_places t.file t.entries
 
 -- what is read of an entry's key, and takes nothing; nothing, if it is no text
 abbrev pub key_of : Place × Place → Option (List ℕ × ℕ)
@@ -95,9 +95,9 @@ Ascend [] = Unit {0}
 Ascend (e ∷ es) = (t : List ℕ × ℕ) × (key_of e ≡ Some t) × AscendAbove t.0 es
 
 -- the text of a key, if there is one
-abbrev pub text_in : Option (List ℕ × ℕ) → List ℕ
-text_in (Some t) = t.0
-text_in None = []
+abbrev pub text_or_empty : Option (List ℕ × ℕ) → List ℕ
+text_or_empty (Some t) = t.0
+text_or_empty None = []
 
 -- a key is a text, and above this one
 abbrev pub is_above : List ℕ → Option (List ℕ × ℕ) → Bool
@@ -108,7 +108,7 @@ is_above low None = false
 abbrev pub keys_ascend_above : List ℕ → List (Place × Place) → Bool
 keys_ascend_above low [] = true
 keys_ascend_above low (e ∷ es) =
-    if is_above low (key_of e) then keys_ascend_above (text_in (key_of e)) es else false
+    if is_above low (key_of e) then keys_ascend_above (text_or_empty (key_of e)) es else false
 
 -- the first key is a text, and the others ascend from it on
 abbrev pub keys_ascend_from : Option (List ℕ × ℕ) → List (Place × Place) → Bool

@@ -7,7 +7,7 @@ ghost use Rattle.resb_head.specs.HeadChecks.{file_fault};
 ghost use Rattle.resb_read.specs.Places.{place_of};
 ghost use Rattle.resb_read.specs.Roots.{root_place};
 
-use resb_format::{BinaryDeserializerError, File};
+use resb_format::{BinaryDeserializerError, BodyParts};
 use resb_head::FileParts;
 use resb_walk::Walk;
 
@@ -27,7 +27,7 @@ pub enum Spot {
 /// A view of a file and a place in it.
 #[derive(Clone, Copy)]
 pub struct Cursor<'de> {
-    pub(crate) file: File<'de>,
+    pub(crate) file: BodyParts<'de>,
     pub(crate) at: Spot,
 }
 

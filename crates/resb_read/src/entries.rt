@@ -9,19 +9,19 @@ ghost use Rattle.resb_read.specs.Reading.{LacksOrMemory};
 ghost use Rattle.resb_walk.specs.BlockRefusals.{Says};
 ghost use Rattle.resb_format.specs.Parts.{parts_in};
 ghost use Rattle.resb_walk.specs.Inner.Members.{keyed_members};
-ghost use Rattle.resb_read.specs.Refused.{word_entries_refusal};
-ghost use Rattle.resb_read.specs.Refusing.{RefusesEntries, RefusesPair};
-ghost use Rattle.resb_read.specs.Tables.{entries_of, RefusesPaying};
+ghost use Rattle.resb_read.specs.PlaceRefusals.{word_entries_refusal};
+ghost use Rattle.resb_read.specs.RefusedReadings.{RefusesEntries, RefusesPair};
+ghost use Rattle.resb_read.specs.Tables.{view_entries, RefusesPaying};
 
 use crate::cursor::{Cursor, Spot};
 use crate::deserialize::Deserialize;
+use crate::elements::spot_of;
 use crate::faults::refused_here;
-use crate::items::spot_of;
 use crate::tables::{TableView, pay_each};
-use resb_format::{BinaryDeserializerError, File, ReadingError, ResourceReprType};
+use resb_format::{BinaryDeserializerError, BodyParts, ReadingError, ResourceReprType};
 use resb_walk::faults::past_end;
 use resb_walk::types::readable;
-use resb_walk::{Pairs, Standing, Walk, standing_at};
+use resb_walk::{Standing, TableParts, Walk, standing_at};
 use std::alloc::Global;
 use std::marker::Model;
 
@@ -29,14 +29,14 @@ use std::marker::Model;
 /// After an `Err` it stands where it stood, and answers that error from then on.
 #[derive(Drop)]
 pub struct MapAccess<'de, 'm> {
-    file: File<'de>,
-    rest: Pairs<'de>,
+    file: BodyParts<'de>,
+    rest: TableParts<'de>,
     failed: Option<ReadingError<'m>>,
 }
 
 impl<'de, 'm> Model for MapAccess<'de, 'm> {
     ghost use Rattle.resb_read.specs.Access.{EntryAccess};
-    ghost use Rattle.resb_read.specs.Inner.Items.{entry_places};
+    ghost use Rattle.resb_read.specs.Inner.Elements.{entry_places};
 
     ghost Value = { EntryAccess };
 
@@ -55,7 +55,7 @@ impl<'de, 'm> MapAccess<'de, 'm> {
     /// The entries that are still to come, for look-ups by key. It takes one from the budget for
     /// each of them, or nothing where not so many are left.
     pub fn table(&self, walk: &mut Walk) -> Result<TableView<'de>, ReadingError<'m>>
-        ensures read { IfOk result (λ t. (entries_of t ≡ self.now.rest)
+        ensures read { IfOk result (λ t. (view_entries t ≡ self.now.rest)
             × (walk.new + length self.now.rest ≡ walk.old)) }
         ensures refused { IfErr result (RefusesPaying self.now.rest walk.old walk.new) }
     {
@@ -162,7 +162,10 @@ fn read_pair<'de, 'm, K: Deserialize<'de>, T: Deserialize<'de>>(
 
 /// The entries of the table at a word.
 #[inline(always)]
-fn entries_at<'de>(file: File<'de>, word: u32) -> Result<Pairs<'de>, BinaryDeserializerError>
+fn entries_at<'de>(
+    file: BodyParts<'de>,
+    word: u32,
+) -> Result<TableParts<'de>, BinaryDeserializerError>
     ensures { let entries = sequences.entries_in (parts_in file.entry) word in
         MatchResult result (λ r. entries ≡ Some (keyed_members r))
         (λ e. (entries ≡ None) × Says (word_entries_refusal word) e) }

@@ -6,8 +6,8 @@ ghost use Rattle.resb_format.specs.Types.{is_read_type};
 ghost use Rattle.resb_walk.specs.BlockRefusals.{Says};
 ghost use Rattle.resb_walk.specs.Refusals.{IsFault};
 ghost use Rattle.resb_read.specs.Leaves.{type_in, value_in};
-ghost use Rattle.resb_read.specs.Refused as refused;
-ghost use Rattle.resb_read.specs.Refusing.{Takes};
+ghost use Rattle.resb_read.specs.PlaceRefusals as refused;
+ghost use Rattle.resb_read.specs.RefusedReadings.{Takes};
 
 use crate::cursor::Spot;
 use resb_format::{BinaryDeserializerError, ResourceReprType};

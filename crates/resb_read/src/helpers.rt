@@ -6,7 +6,7 @@ ghost use Rattle.resb_read.specs.Places.{place_of};
 ghost use Rattle.resb_read.specs.Reading.{Reads, LacksOrMemory};
 ghost use Rattle.resb_read.specs.Sequences.{ReadsSeq, CountsSeq};
 ghost use Rattle.resb_read.specs.Leaves.{ReadsView, CountsView};
-ghost use Rattle.resb_read.specs.Refusing.{RefusesView, RefusesSeq};
+ghost use Rattle.resb_read.specs.RefusedReadings.{RefusesView, RefusesSeq};
 
 use crate::cursor::Cursor;
 use crate::deserialize::Deserialize;

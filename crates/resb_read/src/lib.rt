@@ -4,10 +4,10 @@
 
 mod cursor;
 mod deserialize;
+mod elements;
 mod entries;
 mod faults;
 pub mod helpers;
-mod items;
 mod keys;
 pub mod laws;
 mod lists;

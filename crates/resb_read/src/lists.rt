@@ -3,7 +3,7 @@
 ghost use Rattle.std.specs.Prelude.{◌≡◌, ◌≤◌, ◌+◌, ℕ, None, IfOk, IfErr, IsSomeAnd};
 ghost use Rattle.resb_read.specs.Reading.{LacksOrMemory};
 ghost use Rattle.resb_read.specs.Sequences.{ReadsEach, CountsEach, ReadsSeq, CountsSeq};
-ghost use Rattle.resb_read.specs.Refusing.{RefusesEach, RefusesSeq};
+ghost use Rattle.resb_read.specs.RefusedReadings.{RefusesEach, RefusesSeq};
 ghost use Rattle.resb_read.specs.TypeLaws.{option_counted, seq_counted, seq_one};
 
 use crate::cursor::Cursor;

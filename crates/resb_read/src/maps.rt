@@ -3,7 +3,7 @@
 ghost use Rattle.std.specs.Prelude.{◌≡◌, ◌≤◌, ◌+◌, ℕ, None, IfOk, IfErr};
 ghost use Rattle.resb_read.specs.Reading.{LacksOrMemory};
 ghost use Rattle.resb_read.specs.Sequences.{ReadsAll, CountsPairs, ReadsMap, CountsMap};
-ghost use Rattle.resb_read.specs.Refusing.{RefusesPairs, RefusesMap};
+ghost use Rattle.resb_read.specs.RefusedReadings.{RefusesPairs, RefusesMap};
 ghost use Rattle.resb_read.specs.TypeLaws.{map_counted, map_one};
 
 use crate::cursor::Cursor;

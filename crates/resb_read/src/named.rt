@@ -5,8 +5,8 @@ ghost use Rattle.std.specs.Prelude.{MatchOption};
 ghost use Rattle.std.specs.String.{string_bytes};
 ghost use Rattle.resb_read.specs.Places.{place_of};
 ghost use Rattle.resb_read.specs.Reading.{Reads, LacksOrMemory};
-ghost use Rattle.resb_read.specs.Refusing.{RefusesText, RefusesKey, RefusesBytes};
-ghost use Rattle.resb_read.specs.Refusing.{RefusesNumber};
+ghost use Rattle.resb_read.specs.RefusedReadings.{RefusesText, RefusesKey, RefusesBytes};
+ghost use Rattle.resb_read.specs.RefusedReadings.{RefusesNumber};
 ghost use Rattle.resb_read.specs.Leaves.{ReadsText, CountsText, ReadsKey, CountsKey, ReadsBytes};
 ghost use Rattle.resb_read.specs.Leaves.{CountsBytes, ReadsSigned, CountsSigned, ReadsUnsigned};
 ghost use Rattle.resb_read.specs.Leaves.{CountsUnsigned};
@@ -14,28 +14,28 @@ ghost use Rattle.resb_read.specs.Spots.{IsUnitSpot, IsWordSpot, IsKeySpot};
 ghost use Rattle.resb_read.specs.Inner.Named as named;
 
 use crate::cursor::{Cursor, Spot};
-use resb_format::{BinaryDeserializerError, File};
+use resb_format::{BinaryDeserializerError, BodyParts};
 use resb_walk::{Walk, key_at};
 use std::alloc::Global;
 
 /// A string of the 16-bit block.
 #[derive(Clone, Copy)]
 pub struct Resource16BitDeserializer<'de> {
-    file: File<'de>,
+    file: BodyParts<'de>,
     unit: u16,
 }
 
 /// A number of a vector.
 #[derive(Clone, Copy)]
 pub struct IntVectorDeserializer<'de> {
-    file: File<'de>,
+    file: BodyParts<'de>,
     word: u32,
 }
 
 /// A key.
 #[derive(Clone, Copy)]
 pub struct KeyDeserializer<'de> {
-    file: File<'de>,
+    file: BodyParts<'de>,
     position: usize,
 }
 

@@ -3,7 +3,7 @@
 ghost use Rattle.std.specs.Prelude.{◌-◌, ◌^◌, pos, negsuc};
 ghost use Rattle.resb_read.specs.Leaves.{ReadsSigned, CountsSigned, ReadsUnsigned, CountsUnsigned};
 ghost use Rattle.resb_read.specs.Leaves.{ReadsBool, CountsBool, ReadsBits, CountsBits};
-ghost use Rattle.resb_read.specs.Refusing.{RefusesNumber, RefusesBool, RefusesBits};
+ghost use Rattle.resb_read.specs.RefusedReadings.{RefusesNumber, RefusesBool, RefusesBits};
 ghost use Rattle.resb_read.specs.TypeLaws.{signed_counted, signed_one, unsigned_counted};
 ghost use Rattle.resb_read.specs.TypeLaws.{unsigned_one, bool_counted, bool_one, bits_counted};
 ghost use Rattle.resb_read.specs.TypeLaws.{bits_one};

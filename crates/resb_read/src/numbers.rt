@@ -3,7 +3,7 @@
 ghost use Rattle.std.specs.Prelude.{◌≡◌, ◌-◌, ◌^◌, ℕ, ℤ, pos, negsuc, Some};
 ghost use Rattle.resb_read.specs.Places.{place_of};
 ghost use Rattle.resb_read.specs.Reading.{Reads};
-ghost use Rattle.resb_read.specs.Refusing.{RefusesNumber, RefusesBool, RefusesBits};
+ghost use Rattle.resb_read.specs.RefusedReadings.{RefusesNumber, RefusesBool, RefusesBits};
 ghost use Rattle.resb_read.specs.Leaves.{signed_at, unsigned_at, ReadsSigned, CountsSigned};
 ghost use Rattle.resb_read.specs.Leaves.{ReadsUnsigned, CountsUnsigned, ReadsBool, CountsBool};
 ghost use Rattle.resb_read.specs.Leaves.{ReadsBits, CountsBits};

@@ -3,19 +3,19 @@
 ghost use Rattle.std.specs.Prelude.{◌≡◌, ◌≤◌, ◌<◌, ◌+◌, ◌⊎◌, Some, None, [], ◌∷◌, drop, length};
 ghost use Rattle.std.specs.Prelude.{MatchOption, MatchResult, IfOk, IfErr};
 ghost use Rattle.resb_read.specs.Places.{place_of};
-ghost use Rattle.resb_read.specs.Inner.Items.{spots_of};
+ghost use Rattle.resb_read.specs.Inner.Elements.{spots_to_come};
 ghost use Rattle.resb_read.specs.Sequences.{members_at, members_in};
 ghost use Rattle.resb_format.specs.Parts.{parts_in};
 ghost use Rattle.resb_read.specs.Access.{StepsTo, Steps};
 ghost use Rattle.resb_walk.specs.BlockRefusals.{Says};
-ghost use Rattle.resb_read.specs.Refused.{word_members_refusal};
-ghost use Rattle.resb_read.specs.Refusing.{RefusesMembers};
+ghost use Rattle.resb_read.specs.PlaceRefusals.{word_members_refusal};
+ghost use Rattle.resb_read.specs.RefusedReadings.{RefusesMembers};
 
 use crate::cursor::{Cursor, Spot};
 use crate::deserialize::Deserialize;
+use crate::elements::Elements;
 use crate::faults::refused_here;
-use crate::items::Items;
-use resb_format::{BinaryDeserializerError, File, ReadingError, ResourceReprType};
+use resb_format::{BinaryDeserializerError, BodyParts, ReadingError, ResourceReprType};
 use resb_walk::faults::past_end;
 use resb_walk::types::readable;
 use resb_walk::{Leaf, Standing, Walk, standing_at};
@@ -26,18 +26,18 @@ use std::marker::Model;
 /// After an `Err` it stands where it stood, and answers that error from then on.
 #[derive(Drop)]
 pub struct SeqAccess<'de, 'm> {
-    file: File<'de>,
-    rest: Items<'de>,
+    file: BodyParts<'de>,
+    rest: Elements<'de>,
     failed: Option<ReadingError<'m>>,
 }
 
 impl<'de, 'm> Model for SeqAccess<'de, 'm> {
     ghost use Rattle.resb_read.specs.Access.{Access};
-    ghost use Rattle.resb_read.specs.Inner.Items.{places_of};
+    ghost use Rattle.resb_read.specs.Inner.Elements.{places_to_come};
 
     ghost Value = { Access };
 
-    ghost view = { λ s. record { rest = places_of s.file s.rest; failed = s.failed } };
+    ghost view = { λ s. record { rest = places_to_come s.file s.rest; failed = s.failed } };
 }
 
 impl<'de, 'm> SeqAccess<'de, 'm> {
@@ -116,9 +116,12 @@ impl<'de, 'm> SeqAccess<'de, 'm> {
 
 /// The members of the array or vector at a word.
 #[inline(always)]
-fn members_at<'de>(file: File<'de>, word: u32) -> Result<Items<'de>, BinaryDeserializerError>
+fn members_at<'de>(
+    file: BodyParts<'de>,
+    word: u32,
+) -> Result<Elements<'de>, BinaryDeserializerError>
     ensures { let members = members_in (parts_in file.entry) word in
-        MatchResult result (λ r. members ≡ Some (spots_of r))
+        MatchResult result (λ r. members ≡ Some (spots_to_come r))
         (λ e. (members ≡ None) × Says (word_members_refusal word) e) }
 {
     match readable(word)?.0 {
@@ -128,8 +131,8 @@ fn members_at<'de>(file: File<'de>, word: u32) -> Result<Items<'de>, BinaryDeser
         }
     }
     match standing_at(file, word) {
-        Ok(Standing::List(members)) => Ok(Items::Members(members)),
-        Ok(Standing::Leaf(Leaf::Numbers(numbers))) => Ok(Items::Numbers(numbers)),
+        Ok(Standing::List(members)) => Ok(Elements::Members(members)),
+        Ok(Standing::Leaf(Leaf::Numbers(numbers))) => Ok(Elements::Numbers(numbers)),
         // Nothing else stands at a word of these types.
         Ok(Standing::Table(_) | Standing::Leaf(_)) => Err(past_end()),
         Err(error) => Err(error),

@@ -4,7 +4,7 @@ ghost use Rattle.std.specs.Prelude.{◌≡◌, Some, None, MatchResult};
 ghost use Rattle.resb_format.specs.Descriptor.{type_number};
 ghost use Rattle.resb_read.specs.Spots.{Skips, type_at};
 ghost use Rattle.resb_walk.specs.BlockRefusals.{Says};
-ghost use Rattle.resb_read.specs.Refused.{untold};
+ghost use Rattle.resb_read.specs.PlaceRefusals.{untold};
 
 use crate::cursor::{Cursor, Spot};
 use crate::faults::elsewhere;

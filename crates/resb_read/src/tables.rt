@@ -5,31 +5,31 @@ ghost use Rattle.std.specs.Prelude.{MatchResult, IfOk, IfErr};
 ghost use Rattle.resb_walk.specs.Refusals.{IsSpent};
 ghost use Rattle.resb_read.specs.Places.{place_of};
 ghost use Rattle.resb_read.specs.Sequences as sequences;
-ghost use Rattle.resb_read.specs.Inner.Items.{entry_places, near_entries};
-ghost use Rattle.resb_read.specs.Tables.{entries_of, last_named, RefusesTable};
+ghost use Rattle.resb_read.specs.Inner.Elements.{entry_places, near_entries};
+ghost use Rattle.resb_read.specs.Tables.{view_entries, last_named, RefusesTable};
 ghost use Rattle.resb_read.specs.Tables.{ReadsFound, RefusesFound};
 
 use crate::cursor::{Cursor, Spot};
 use crate::deserialize::Deserialize;
-use crate::items::spot_of;
+use crate::elements::spot_of;
 use crate::keys::is_key;
 use resb_format::bytes::{unit_at, word_at};
-use resb_format::{BinaryDeserializerError, File, ReadingError};
-use resb_walk::{Members, Pairs, Positions, Walk};
+use resb_format::{BinaryDeserializerError, BodyParts, ReadingError};
+use resb_walk::{Members, Positions, TableParts, Walk};
 use std::alloc::Global;
 
 /// A table that stands in a file, with one paid of the budget for each of its entries.
 #[derive(Clone, Copy)]
 pub struct TableView<'de> {
-    pub(crate) file: File<'de>,
-    pub(crate) entries: Pairs<'de>,
+    pub(crate) file: BodyParts<'de>,
+    pub(crate) entries: TableParts<'de>,
 }
 
 impl<'de> TableView<'de> {
     /// How many entries there are.
     #[tactic(auto, using(crate::proofs::Singly::lengths))]
     pub fn len(&self) -> usize
-        ensures { result ≡ length (entries_of self.now) }
+        ensures { result ≡ length (view_entries self.now) }
     {
         self.entries.len()
     }
@@ -38,7 +38,7 @@ impl<'de> TableView<'de> {
     /// no name. Of each key at most one byte more than the name has is looked at.
     #[inline(always)]
     pub fn get(&self, name: &str) -> Option<Cursor<'de>>
-        ensures { option_map place_of result ≡ last_named name.now (entries_of self.now) }
+        ensures { option_map place_of result ≡ last_named name.now (view_entries self.now) }
     {
         match (self.entries.keys, self.entries.members) {
             // Most tables are so.
@@ -56,9 +56,9 @@ impl<'de> TableView<'de> {
         name: &str,
         walk: &mut Walk,
     ) -> Result<Option<T>, ReadingError<'m>>
-        ensures read { let found = last_named name.now (entries_of self.now) in
+        ensures read { let found = last_named name.now (view_entries self.now) in
             IfOk result (λ x. (n : ℕ) × ReadsFound T.reads found x n × (walk.new + n ≡ walk.old)) }
-        ensures refused { let found = last_named name.now (entries_of self.now) in
+        ensures refused { let found = last_named name.now (view_entries self.now) in
             IfErr result (RefusesFound T.counts T.refuses found walk.old walk.new) }
     {
         let Some(at) = self.get(name) else {
@@ -71,7 +71,7 @@ impl<'de> TableView<'de> {
 /// Where the value of the last of these entries stands whose key is this name: of each key's
 /// position two bytes are given, of each value's descriptor four. The last one is looked at first.
 fn last_near<'de>(
-    file: File<'de>,
+    file: BodyParts<'de>,
     positions: &'de [u8],
     words: &'de [u8],
     name: &str,
@@ -92,7 +92,7 @@ fn last_near<'de>(
 
 /// Where the value of the last of these entries stands whose key is this name.
 #[inline(never)]
-fn last_of<'de>(file: File<'de>, entries: Pairs<'de>, name: &str) -> Option<Cursor<'de>>
+fn last_of<'de>(file: BodyParts<'de>, entries: TableParts<'de>, name: &str) -> Option<Cursor<'de>>
     ensures { option_map place_of result
         ≡ last_named name.now (entry_places file.entry entries.entry) }
 {
@@ -129,8 +129,8 @@ impl<'de> Cursor<'de> {
     /// file, but where they lead isn't looked at yet.
     pub fn read_table<'m>(self, walk: &mut Walk) -> Result<TableView<'de>, ReadingError<'m>>
         ensures read { IfOk result (λ t.
-            (sequences.entries_at (place_of self.entry) ≡ Some (entries_of t))
-            × (walk.new + 1 + length (entries_of t) ≡ walk.old)) }
+            (sequences.entries_at (place_of self.entry) ≡ Some (view_entries t))
+            × (walk.new + 1 + length (view_entries t) ≡ walk.old)) }
         ensures refused { IfErr result (λ e.
             RefusesTable (place_of self.entry) walk.old walk.new e) }
     {

@@ -11,9 +11,10 @@ ghost use Rattle.resb_walk.specs.BlockRefusals.{Says};
 ghost use Rattle.resb_format.specs.Parts.{parts_in};
 ghost use Rattle.resb_read.specs.Places.{place_of};
 ghost use Rattle.resb_read.specs.Reading.{Reads, LacksOrMemory};
-ghost use Rattle.resb_read.specs.Refused.{word_bytes_refusal};
-ghost use Rattle.resb_read.specs.Refusing.{RefusesText, RefusesKey, RefusesBytes};
-ghost use Rattle.resb_read.specs.Leaves.{type_in, value_in, units_as_bytes, counted_bytes};
+ghost use Rattle.resb_read.specs.PlaceRefusals.{word_bytes_refusal};
+ghost use Rattle.resb_read.specs.RefusedReadings.{RefusesText, RefusesKey, RefusesBytes};
+ghost use Rattle.resb_read.specs.Leaves.{type_in, value_in, counted_bytes};
+ghost use Rattle.resb_format.specs.Bytes.{units_as_bytes};
 ghost use Rattle.resb_read.specs.Leaves.{bytes_of_type, ReadsText, CountsText, ReadsKey, CountsKey};
 ghost use Rattle.resb_read.specs.Leaves.{ReadsBytes, CountsBytes};
 ghost use Rattle.resb_read.specs.TypeLaws.{text_counted, text_one, key_counted, key_one};
@@ -23,7 +24,9 @@ use crate::cursor::{Cursor, Spot};
 use crate::deserialize::Deserialize;
 use crate::faults::{elsewhere, refused_here, value_of};
 use resb_format::bytes::{some_bytes, some_word};
-use resb_format::{BinaryDeserializerError, File, Key, ReadingError, ResourceReprType, string_at};
+use resb_format::{
+    BinaryDeserializerError, BodyParts, Key, ReadingError, ResourceReprType, string_at,
+};
 use resb_walk::faults::past_end;
 use resb_walk::types::readable;
 use resb_walk::{Walk, key_at, text_at, text_of_units};
@@ -52,7 +55,11 @@ fn units_at(block: &[u8], unit: usize) -> Result<&[u8], BinaryDeserializerError>
 }
 
 /// The bytes of items of so many bytes each, behind their count.
-fn counted_at(file: File<'_>, each: usize, value: usize) -> Result<&[u8], BinaryDeserializerError>
+fn counted_at(
+    file: BodyParts<'_>,
+    each: usize,
+    value: usize,
+) -> Result<&[u8], BinaryDeserializerError>
     requires small { value < 2 ^ 28 }
     requires few { each ≤ 4 }
     ensures stands { let there = counted_bytes (parts_in file.entry) each value in
@@ -69,7 +76,7 @@ fn counted_at(file: File<'_>, each: usize, value: usize) -> Result<&[u8], Binary
 }
 
 /// The bytes of what stands at a descriptor.
-fn described(file: File<'_>, word: u32) -> Result<&[u8], BinaryDeserializerError>
+fn described(file: BodyParts<'_>, word: u32) -> Result<&[u8], BinaryDeserializerError>
     ensures stands { let p = parts_in file.entry in
         let there = bytes_of_type p (type_in word) (value_in word) in
         MatchResult result (λ b. there ≡ Some b.now) (λ _. there ≡ None) }

@@ -4,7 +4,7 @@ ghost use Rattle.resb_format.specs.Views.{unit_bytes, word_bytes, number_bytes, 
 ghost use Rattle.resb_read.specs.Places.{place_of};
 ghost use Rattle.resb_read.specs.Reading.{Reads};
 ghost use Rattle.resb_read.specs.Leaves.{ReadsView, CountsView};
-ghost use Rattle.resb_read.specs.Refusing.{RefusesView};
+ghost use Rattle.resb_read.specs.RefusedReadings.{RefusesView};
 ghost use Rattle.resb_read.specs.TypeLaws.{view_counted, view_one};
 
 use crate::cursor::Cursor;

@@ -6,74 +6,78 @@ use Rattle.std.specs.Option.{option_map}
 use Rattle.std.specs.Cmp.Lexicographic.{pointwise, bytes_decides}
 use Rattle.std.proofs.lemmas.Option.{none-some}
 use Rattle.std.proofs.lemmas.Bool.Decides.{same_from_decides, Decides-like}
-use Rattle.resb_report.specs.Pieces.{Words}
-use Rattle.resb_report.specs.Groups.{Item, string_item, group_item, comma_item, Group, keys_in}
+use Rattle.resb_report.specs.Pieces.{PlacedText}
+use Rattle.resb_report.specs.Groups.{GroupItem, string_item, group_item, comma_item, OpenGroup}
+use Rattle.resb_report.specs.Groups.{pair_keys}
 use Rattle.resb_report.specs.Warnings.{first_place, of_key, of_keys, of_some_keys, of_group}
-use Rattle.resb_report.specs.Inner.Looks.{Look, pairs, key, other, look, look_behind, Layer, layer}
-use Rattle.resb_report.specs.Inner.Looks.{look_in, words_of, layer_of}
+use Rattle.resb_report.specs.Inner.Looks.{Pairing, pairs, key, other, pairing_of, pairing_behind}
+use Rattle.resb_report.specs.Inner.Looks.{Level, level_of}
+use Rattle.resb_report.specs.Inner.Looks.{pairing_in, placed_text_of, level_of_code}
 use Rattle.resb_report.specs.declared.warning.Warning.{Warning}
 use Rattle.resb_report.specs.declared.groups.Shape.{Shape}
 use Rattle.resb_report.specs.declared.groups.Shape.TheVariants as shape
 use Rattle.resb_report.specs.declared.groups.Group.{Group as CodeGroup}
 
-abbrev keys_if : Look → Option (List Words)
+abbrev keys_if : Pairing → Option (List PlacedText)
 keys_if (pairs ks) = Some ks
 keys_if (key ks s) = None
 keys_if other = None
 
-group_after_string : (s : Words) (l : Look)
+group_after_string : (s : PlacedText) (l : Pairing)
     → option_map (λ ks. ks ++ s ∷ []) (keys_if l)
-    ≡ keys_if (look_behind group_item (look_behind (string_item s) l))
+    ≡ keys_if (pairing_behind group_item (pairing_behind (string_item s) l))
 group_after_string s (pairs ks) = refl
 group_after_string s (key ks t) = refl
 group_after_string s other = refl
 
-group_after_group : (l : Look) → None ≡ keys_if (look_behind group_item (look_behind group_item l))
+group_after_group : (l : Pairing)
+    → None ≡ keys_if (pairing_behind group_item (pairing_behind group_item l))
 group_after_group (pairs ks) = refl
 group_after_group (key ks t) = refl
 group_after_group other = refl
 
-string_last : (s : Words) (l : Look) → None ≡ keys_if (look_behind (string_item s) l)
+string_last : (s : PlacedText) (l : Pairing) → None ≡ keys_if (pairing_behind (string_item s) l)
 string_last s (pairs ks) = refl
 string_last s (key ks t) = refl
 string_last s other = refl
 
-pub keys_by_look : (xs : List Item) → keys_in xs ≡ keys_if (look xs)
-keys_by_look [] = refl
-keys_by_look (string_item s ∷ xs) = string_last s (look xs)
-keys_by_look (comma_item ∷ xs) = refl
-keys_by_look (group_item ∷ []) = refl
-keys_by_look (group_item ∷ comma_item ∷ xs) = refl
-keys_by_look (group_item ∷ group_item ∷ xs) = group_after_group (look xs)
-keys_by_look (group_item ∷ string_item s ∷ xs) =
-    ap (option_map (λ ks. ks ++ s ∷ [])) (keys_by_look xs) ∙ group_after_string s (look xs)
+pub keys_by_pairing : (xs : List GroupItem) → pair_keys xs ≡ keys_if (pairing_of xs)
+keys_by_pairing [] = refl
+keys_by_pairing (string_item s ∷ xs) = string_last s (pairing_of xs)
+keys_by_pairing (comma_item ∷ xs) = refl
+keys_by_pairing (group_item ∷ []) = refl
+keys_by_pairing (group_item ∷ comma_item ∷ xs) = refl
+keys_by_pairing (group_item ∷ group_item ∷ xs) = group_after_group (pairing_of xs)
+keys_by_pairing (group_item ∷ string_item s ∷ xs) =
+    ap (option_map (λ ks. ks ++ s ∷ [])) (keys_by_pairing xs) ∙ group_after_string s (pairing_of xs)
 
 -- the warnings of a group by what the code keeps of it
-abbrev pub of_layer : Layer → List Warning
-of_layer l = cond l.is_array [] (of_some_keys (keys_if l.look))
+abbrev pub of_level : Level → List Warning
+of_level l = cond l.is_array [] (of_some_keys (keys_if l.pairing))
 
-pub group_by_layer : (l : Layer) (g : Group) → l ≡ layer g → of_layer l ≡ of_group g
-group_by_layer l g e =
-    ap of_layer e ∙ ap (λ ks. cond g.is_array [] (of_some_keys ks)) (sym (keys_by_look g.items))
+pub group_by_level : (l : Level) (g : OpenGroup) → l ≡ level_of g → of_level l ≡ of_group g
+group_by_level l g e =
+    ap of_level e ∙ ap (λ ks. cond g.is_array [] (of_some_keys ks)) (sym (keys_by_pairing g.items))
 
-pub tells_pairs : (c : CodeGroup) (g : Group) → layer_of c ≡ layer g → c.is_array ≡ false
-    → c.shape ≡ shape.Pairs → of_keys [] (map words_of c.keys.items) ≡ of_group g
+pub tells_pairs : (c : CodeGroup) (g : OpenGroup) → level_of_code c ≡ level_of g
+    → c.is_array ≡ false
+    → c.shape ≡ shape.Pairs → of_keys [] (map placed_text_of c.keys.items) ≡ of_group g
 tells_pairs c g e a s =
-    let ks = map words_of c.keys.items in
-    sym (ap (λ b. cond b [] (of_some_keys (keys_if (look_in c.shape ks)))) a
-    ∙ ap (λ sh. of_some_keys (keys_if (look_in sh ks))) s)
-    ∙ group_by_layer (layer_of c) g e
+    let ks = map placed_text_of c.keys.items in
+    sym (ap (λ b. cond b [] (of_some_keys (keys_if (pairing_in c.shape ks)))) a
+    ∙ ap (λ sh. of_some_keys (keys_if (pairing_in sh ks))) s)
+    ∙ group_by_level (level_of_code c) g e
 
-pub tells_others : (c : CodeGroup) (g : Group) → layer_of c ≡ layer g
+pub tells_others : (c : CodeGroup) (g : OpenGroup) → level_of_code c ≡ level_of g
     → (c.shape ≡ shape.Pairs → ⊥) → [] ≡ of_group g
 tells_others c g e s =
     sym (ap (λ ks. cond c.is_array [] (of_some_keys ks))
-    (none c.shape s) ∙ all_none c.is_array) ∙ group_by_layer (layer_of c) g e
+    (none c.shape s) ∙ all_none c.is_array) ∙ group_by_level (level_of_code c) g e
   where
-    ks : List Words
-    ks = map words_of c.keys.items
+    ks : List PlacedText
+    ks = map placed_text_of c.keys.items
 
-    none : (sh : Shape) → (sh ≡ shape.Pairs → ⊥) → keys_if (look_in sh ks) ≡ None
+    none : (sh : Shape) → (sh ≡ shape.Pairs → ⊥) → keys_if (pairing_in sh ks) ≡ None
     none shape.Pairs f = absurd (f refl)
     none (shape.Key k) f = refl
     none shape.Other f = refl
@@ -87,7 +91,7 @@ place_if b n (Some m) = Some m
 place_if true n None = Some n
 place_if false n None = None
 
-first_place-snoc : (q : List ℕ) (ks : List Words) (k : Words)
+first_place-snoc : (q : List ℕ) (ks : List PlacedText) (k : PlacedText)
     → first_place q (ks ++ k ∷ [])
     ≡ place_if (pointwise nat_eq q k.bytes) k.place (first_place q ks)
 first_place-snoc q [] k = by (pointwise nat_eq q k.bytes)
@@ -111,7 +115,7 @@ either_way a b = same_from_decides _ _ (Decides-like _ (λ e. sym e) (λ e. sym 
     (bytes_decides a b)) (bytes_decides b a)
 
 -- a key that stands before has its first place there
-pub first_stays : (q : List ℕ) (ks : List Words) (k : Words) (n : ℕ)
+pub first_stays : (q : List ℕ) (ks : List PlacedText) (k : PlacedText) (n : ℕ)
     → first_place k.bytes ks ≡ Some n → first_place q (ks ++ k ∷ []) ≡ first_place q ks
 first_stays q ks k n h =
     first_place-snoc q ks k ∙ by (pointwise nat_eq q k.bytes) refl (first_place q ks) refl
@@ -125,7 +129,7 @@ first_stays q ks k n h =
         ∙ ap (λ s. first_place s ks) ((bytes_decides q k.bytes).0 e) ∙ h))
 
 -- a key that doesn't stand before has its first place here
-pub first_moves : (q : List ℕ) (ks : List Words) (k : Words)
+pub first_moves : (q : List ℕ) (ks : List PlacedText) (k : PlacedText)
     → first_place k.bytes ks ≡ None
     → first_place q (ks ++ k ∷ [])
     ≡ cond (pointwise nat_eq k.bytes q) (Some k.place) (first_place q ks)
@@ -144,7 +148,7 @@ first_moves q ks k h =
         ∙ ap (λ s. first_place s ks) (sym ((bytes_decides q k.bytes).0 e)) ∙ f))
 
 -- one key more is told of
-pub keys_told : (found more all : List Warning) (before ks : List Words) (k : Words)
+pub keys_told : (found more all : List Warning) (before ks : List PlacedText) (k : PlacedText)
     → found ++ of_keys before (k ∷ ks) ≡ all
     → more ≡ found ++ of_key k.place (first_place k.bytes before)
     → more ++ of_keys (before ++ k ∷ []) ks ≡ all

@@ -2,11 +2,12 @@
 use Rattle.std.proofs.Common.{◌≡◌, ℕ, ◌+◌, ◌<◌, ◌≤◌, arith, Bool, true, false, ◌==◌, cond}
 use Rattle.std.proofs.Common.{refl, sym, ap, ◌∙◌}
 use Rattle.std.proofs.lemmas.Bool.{false≢true}
-use Rattle.resb_report.specs.Braces.{quote, slash, star, line_feed, mode_behind, behind_token}
+use Rattle.resb_report.specs.Braces.{mode_behind, behind_token}
 use Rattle.resb_report.specs.Braces.{behind_block}
 use Rattle.resb_report.specs.Warnings.{is_quoted}
 use Rattle.resb_report.specs.declared.braces.Mode.{Mode}
 use Rattle.resb_report.specs.declared.braces.Mode.TheVariants as modes
+use Rattle.resb_grammar.specs.Ascii.{line_feed, quote, slash, star}
 
 no_quote : (m : Mode) → is_quoted m ≡ false → m ≡ modes.Quotes → ⊥
 no_quote m e h = false≢true (sym e ∙ ap is_quoted h)

@@ -6,30 +6,7 @@ use Rattle.std.specs.Prelude.{ℕ, zero, suc, pred, Bool, true, false, ◌&&◌,
 use Rattle.std.specs.Prelude.{slice_index, if◌then◌else◌, Option, Some, None}
 use Rattle.resb_report.specs.declared.braces.Mode.{Mode}
 use Rattle.resb_report.specs.declared.braces.Mode.TheVariants as mode
-
--- the character " by its number in ASCII
-abbrev pub quote : ℕ
-quote = 34
-
--- the character * by its number in ASCII
-abbrev pub star : ℕ
-star = 42
-
--- the character / by its number in ASCII
-abbrev pub slash : ℕ
-slash = 47
-
--- the character { by its number in ASCII
-abbrev pub left_brace : ℕ
-left_brace = 123
-
--- the character } by its number in ASCII
-abbrev pub right_brace : ℕ
-right_brace = 125
-
--- the line feed by its number in ASCII
-abbrev pub line_feed : ℕ
-line_feed = 10
+use Rattle.resb_grammar.specs.Ascii.{quote, star, slash, left_brace, right_brace, line_feed}
 
 -- among tokens: a quote begins a string, a slash may begin a comment
 abbrev pub behind_token : ℕ → Mode

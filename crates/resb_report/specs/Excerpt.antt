@@ -2,7 +2,8 @@
 use Rattle.std.specs.Prelude.{◌≡◌, ◌⊎◌, ℕ, zero, suc, ◌+◌, ◌≤◌, ◌<◌, Bool, true, ◌==◌, List, length}
 use Rattle.std.specs.Prelude.{slice_index, nat_lt, not, ◌||◌, ◌&&◌, if◌then◌else◌}
 use Rattle.std.specs.Prelude.{◌-◌, ◌++◌, ◌∷◌, [], map, replicate, slice_range, IsTrue, IsUtf8, ◌↔◌}
-use Rattle.resb_report.specs.Location.{line_feed, begins_character}
+use Rattle.resb_report.specs.Location.{begins_character}
+use Rattle.resb_grammar.specs.Ascii.{line_feed}
 
 -- a line begins at a place: at the text's start, or behind a line feed
 abbrev pub begins_line : List ℕ → ℕ → Bool
@@ -30,8 +31,8 @@ pub record EndsExcerpt (text : List ℕ) (place to : ℕ) : Type 0 where
 
 -- what is shown of a byte: a blank for a character of control, and `?` for what is no ASCII in a
 -- text that is no UTF-8
-abbrev pub shown : Bool → ℕ → ℕ
-shown is_utf8 b =
+abbrev pub excerpt_byte : Bool → ℕ → ℕ
+excerpt_byte is_utf8 b =
     if nat_lt b 32 || b == 127 then 32 else (if nat_lt 127 b && not is_utf8 then 63 else b)
 
 -- how many of the n bytes from a place on begin a character
@@ -50,5 +51,5 @@ pub record PointsAt (text : List ℕ) (place : ℕ) (bytes : List ℕ) : Type 0 
   pub ends : EndsExcerpt text place to
   pub is_utf8 : Bool
   pub decides : IsTrue is_utf8 ↔ IsUtf8 (slice_range text from to)
-  pub says : bytes ≡ map (shown is_utf8) (slice_range text from to) ++ (10 ∷ [])
+  pub says : bytes ≡ map (excerpt_byte is_utf8) (slice_range text from to) ++ (10 ∷ [])
       ++ replicate (characters text from (place - from)) 32 ++ (94 ∷ [])

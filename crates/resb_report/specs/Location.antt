@@ -1,10 +1,7 @@
 -- Where a place of a text is, as a person counts: lines, and characters of a line.
 use Rattle.std.specs.Prelude.{ℕ, zero, suc, Bool, true, false, ◌||◌, ◌==◌, nat_lt, List}
 use Rattle.std.specs.Prelude.{slice_index}
-
--- the byte of a line feed
-abbrev pub line_feed : ℕ
-line_feed = 10
+use Rattle.resb_grammar.specs.Ascii.{line_feed}
 
 -- each byte begins a character but those from 128 to 191, which go on with one
 abbrev pub begins_character : ℕ → Bool

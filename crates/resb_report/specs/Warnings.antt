@@ -4,14 +4,15 @@
 use Rattle.std.specs.Prelude.{ℕ, zero, suc, Bool, true, false, ◌&&◌, ◌||◌, not, ◌==◌, List}
 use Rattle.std.specs.Prelude.{[], ◌∷◌, ◌++◌, slice_index, if◌then◌else◌, Option, Some, None, nat_eq}
 use Rattle.std.specs.Cmp.Lexicographic.{pointwise}
-use Rattle.resb_report.specs.Braces.{quote, mode_at}
-use Rattle.resb_report.specs.Pieces.{Words, Piece, a_string, closing, piece_at}
-use Rattle.resb_report.specs.Groups.{Group, Groups, is_string, keys_in, groups_at}
+use Rattle.resb_report.specs.Braces.{mode_at}
+use Rattle.resb_report.specs.Pieces.{PlacedText, TextPiece, a_string, closing, piece_at}
+use Rattle.resb_report.specs.Groups.{OpenGroup, Nesting, is_string_piece, pair_keys, groups_at}
 use Rattle.resb_report.specs.declared.braces.Mode.{Mode}
 use Rattle.resb_report.specs.declared.braces.Mode.TheVariants as mode
 use Rattle.resb_report.specs.declared.warning.Reason.{Reason}
 use Rattle.resb_report.specs.declared.warning.Reason.TheVariants as reason
 use Rattle.resb_report.specs.declared.warning.Warning.{Warning}
+use Rattle.resb_grammar.specs.Ascii.{quote}
 
 -- the character \ by its number in ASCII
 abbrev pub backslash : ℕ
@@ -44,7 +45,7 @@ of_backslash text n =
     if is_first_backslash text n then warning reason.Backslash n ∷ [] else []
 
 -- the place of the first of these keys that has these bytes
-abbrev pub first_place : List ℕ → List Words → Option ℕ
+abbrev pub first_place : List ℕ → List PlacedText → Option ℕ
 first_place bytes [] = None
 first_place bytes (k ∷ ks) =
     if pointwise nat_eq bytes k.bytes then Some k.place else first_place bytes ks
@@ -55,29 +56,29 @@ of_key n None = []
 of_key n (Some first) = warning (reason.RepeatedKey first) n ∷ []
 
 -- the warnings of keys, in order, behind these that stand before them
-abbrev pub of_keys : List Words → List Words → List Warning
+abbrev pub of_keys : List PlacedText → List PlacedText → List Warning
 of_keys before [] = []
 of_keys before (k ∷ ks) =
     of_key k.place (first_place k.bytes before) ++ of_keys (before ++ k ∷ []) ks
 
 -- the warnings of the keys of a group, if it has some
-abbrev pub of_some_keys : Option (List Words) → List Warning
+abbrev pub of_some_keys : Option (List PlacedText) → List Warning
 of_some_keys None = []
 of_some_keys (Some keys) = of_keys [] keys
 
 -- the warnings of a group whose `}` stands: those of its keys, if it is a table
-abbrev pub of_group : Group → List Warning
-of_group g = if g.is_array then [] else of_some_keys (keys_in g.items)
+abbrev pub of_group : OpenGroup → List Warning
+of_group g = if g.is_array then [] else of_some_keys (pair_keys g.items)
 
 -- the warnings of a piece: of a string right behind another one, and of a group at its `}`
-abbrev pub of_piece : Piece → Groups → List Warning
+abbrev pub of_piece : TextPiece → Nesting → List Warning
 of_piece (a_string s) g =
-    if is_string g.last then warning reason.StringsInRow s.place ∷ [] else []
+    if is_string_piece g.last then warning reason.StringsInRow s.place ∷ [] else []
 of_piece closing g = of_group g.inner
 of_piece _ g = []
 
 -- the same of a place where a piece may end
-abbrev pub of_end : Option Piece → Groups → List Warning
+abbrev pub of_end : Option TextPiece → Nesting → List Warning
 of_end None g = []
 of_end (Some p) g = of_piece p g
 

@@ -67,7 +67,7 @@ fn excerpt_end(text: &[u8], place: usize) -> usize
 /// What is shown of a byte: a blank for a character of control, and `?` for what is no ASCII, where
 /// the text is no UTF-8.
 fn shown(byte: u8, is_utf8: bool) -> u8
-    ensures { result ≡ excerpt.shown is_utf8 byte }
+    ensures { result ≡ excerpt.excerpt_byte is_utf8 byte }
 {
     if byte < 32 || byte == 127 {
         b' '
@@ -81,7 +81,7 @@ fn shown(byte: u8, is_utf8: bool) -> u8
 /// Appends what is shown of these bytes.
 fn push_shown(out: &mut Vec<u8>, bytes: &[u8], is_utf8: bool) -> Result<(), AllocError>
     ensures { OnOk result (vec_items out.new ≡ vec_items out.old
-        ++ map (excerpt.shown is_utf8) bytes.now) }
+        ++ map (excerpt.excerpt_byte is_utf8) bytes.now) }
 {
     for byte in bytes {
         out.push(shown(*byte, is_utf8))?;

@@ -3,10 +3,12 @@
 ghost use Rattle.std.specs.Prelude.{◌≡◌, ◌++◌, OnOk, [], map, codes, nat_eq};
 ghost use Rattle.std.specs.Cmp.Lexicographic.{pointwise};
 ghost use Rattle.resb_report.specs.Groups as spec;
-ghost use Rattle.resb_report.specs.Groups.{with_item, string_item, group_item, comma_item, after};
+ghost use Rattle.resb_report.specs.Groups.{with_one_more, string_item, group_item, comma_item};
+ghost use Rattle.resb_report.specs.Groups.{behind_piece};
 ghost use Rattle.resb_report.specs.Warnings.{of_keys, of_group, of_piece};
-ghost use Rattle.resb_report.specs.Inner.Looks.{words_of, piece_of, layer_of, layer};
-ghost use Rattle.resb_report.specs.Inner.Looks.{Shows, IsOpened, IsClosed};
+ghost use Rattle.resb_report.specs.Inner.Looks.{placed_text_of, text_piece_of, level_of_code};
+ghost use Rattle.resb_report.specs.Inner.Looks.{level_of};
+ghost use Rattle.resb_report.specs.Inner.Looks.{ShowsNesting, IsOpened, IsClosed};
 
 use crate::pieces::{Piece, StringAt};
 use crate::warning::{Reason, Warning};
@@ -37,7 +39,7 @@ struct Group<'a> {
 impl<'a> Group<'a> {
     /// A group without items.
     fn new(alloc: Global, is_array: bool) -> Group<'a>
-        ensures { layer_of result ≡ layer (record { is_array = is_array; items = [] }) }
+        ensures { level_of_code result ≡ level_of (record { is_array = is_array; items = [] }) }
     {
         Group {
             is_array,
@@ -48,8 +50,9 @@ impl<'a> Group<'a> {
 
     /// A string comes.
     fn string(&mut self, string: StringAt<'a>)
-        ensures { (g : spec.Group) → layer_of self.old ≡ layer g
-            → layer_of self.new ≡ layer (with_item (string_item (words_of string.entry)) g) }
+        ensures { (g : spec.OpenGroup) → level_of_code self.old ≡ level_of g
+            → level_of_code self.new
+            ≡ level_of (with_one_more (string_item (placed_text_of string.entry)) g) }
     {
         self.shape = match self.shape {
             Shape::Pairs => Shape::Key(string),
@@ -59,8 +62,8 @@ impl<'a> Group<'a> {
 
     /// A group comes.
     fn group(&mut self) -> Result<(), AllocError>
-        ensures { OnOk result ((g : spec.Group) → layer_of self.old ≡ layer g
-            → layer_of self.new ≡ layer (with_item group_item g)) }
+        ensures { OnOk result ((g : spec.OpenGroup) → level_of_code self.old ≡ level_of g
+            → level_of_code self.new ≡ level_of (with_one_more group_item g)) }
     {
         let Shape::Key(key) = self.shape else {
             self.shape = Shape::Other;
@@ -73,15 +76,15 @@ impl<'a> Group<'a> {
 
     /// A comma comes.
     fn comma(&mut self)
-        ensures { (g : spec.Group) → layer_of self.old ≡ layer g
-            → layer_of self.new ≡ layer (with_item comma_item g) }
+        ensures { (g : spec.OpenGroup) → level_of_code self.old ≡ level_of g
+            → level_of_code self.new ≡ level_of (with_one_more comma_item g) }
     {
         self.shape = Shape::Other;
     }
 
     /// Adds the warnings of the group, now closed.
     fn tell(&self, alloc: Global, found: &mut Vec<Warning>) -> Result<(), AllocError>
-        ensures { OnOk result ((g : spec.Group) → layer_of self.now ≡ layer g
+        ensures { OnOk result ((g : spec.OpenGroup) → level_of_code self.now ≡ level_of g
             → found.new.items ≡ found.old.items ++ of_group g) }
     {
         if self.is_array {
@@ -102,7 +105,7 @@ fn tell_keys(
     found: &mut Vec<Warning>,
 ) -> Result<(), AllocError>
     ensures { OnOk result
-        (found.new.items ≡ found.old.items ++ of_keys [] (map words_of keys.now)) }
+        (found.new.items ≡ found.old.items ++ of_keys [] (map placed_text_of keys.now)) }
 {
     let mut seen = IndexMap::new(alloc);
     for key in keys {
@@ -140,7 +143,7 @@ pub(crate) struct Groups<'a> {
 impl<'a> Groups<'a> {
     /// No piece came.
     pub(crate) fn new(alloc: Global) -> Groups<'a>
-        ensures { Shows result spec.outside }
+        ensures { ShowsNesting result spec.outside }
     {
         Groups {
             alloc,
@@ -152,8 +155,8 @@ impl<'a> Groups<'a> {
 
     /// Adds the warnings of a piece that comes.
     pub(crate) fn tell(&self, piece: Piece<'a>, found: &mut Vec<Warning>) -> Result<(), AllocError>
-        ensures { OnOk result ((g : spec.Groups) → Shows self.now g
-            → found.new.items ≡ found.old.items ++ of_piece (piece_of piece.entry) g) }
+        ensures { OnOk result ((g : spec.Nesting) → ShowsNesting self.now g
+            → found.new.items ≡ found.old.items ++ of_piece (text_piece_of piece.entry) g) }
     {
         match (piece, self.last) {
             (Piece::Close, _) => self.inner.tell(self.alloc, found),
@@ -170,8 +173,8 @@ impl<'a> Groups<'a> {
 
     /// Goes on behind a piece.
     pub(crate) fn take(&mut self, piece: Piece<'a>) -> Result<(), AllocError>
-        ensures { OnOk result ((g : spec.Groups) → Shows self.old g
-            → Shows self.new (after (piece_of piece.entry) g)) }
+        ensures { OnOk result ((g : spec.Nesting) → ShowsNesting self.old g
+            → ShowsNesting self.new (behind_piece (text_piece_of piece.entry) g)) }
     {
         match piece {
             Piece::String(string) => self.inner.string(string),
@@ -186,7 +189,7 @@ impl<'a> Groups<'a> {
 
     /// A group begins.
     fn open(&mut self) -> Result<(), AllocError>
-        ensures { OnOk result ((g : spec.Groups) → Shows self.old g
+        ensures { OnOk result ((g : spec.Nesting) → ShowsNesting self.old g
             → IsOpened self.new g) }
     {
         let is_array = match self.last {
@@ -201,7 +204,7 @@ impl<'a> Groups<'a> {
 
     /// The innermost group is an item of the one around it.
     fn close(&mut self) -> Result<(), AllocError>
-        ensures { OnOk result ((g : spec.Groups) → Shows self.old g
+        ensures { OnOk result ((g : spec.Nesting) → ShowsNesting self.old g
             → IsClosed self.new g.inner g.around) }
     {
         let Some(mut outer) = self.around.pop() else {

@@ -3,10 +3,10 @@
 ghost use Rattle.std.specs.Prelude.{◌≡◌, ◌+◌, ◌<◌, ◌^◌, ◌==◌, ◌||◌};
 ghost use Rattle.std.specs.Prelude.{if◌then◌else◌, false};
 ghost use Rattle.std.specs.Prelude.{length, option_map, slice_index};
-ghost use Rattle.resb_report.specs.Pieces as spec;
+ghost use Rattle.resb_grammar.specs.ByteRuns as bytes;
 ghost use Rattle.resb_report.specs.Pieces.{piece_at, token_at, word_at, is_behind_colon};
 ghost use Rattle.resb_report.specs.Warnings.{is_first_backslash};
-ghost use Rattle.resb_report.specs.Inner.Looks.{piece_of, Passed};
+ghost use Rattle.resb_report.specs.Inner.Looks.{text_piece_of, Passed};
 
 use crate::braces::Mode;
 
@@ -50,7 +50,7 @@ pub(crate) struct Pieces<'a> {
 
 /// Whether a byte is a letter, a digit or a dash.
 fn is_word(byte: u8) -> bool
-    ensures { result ≡ spec.is_word byte }
+    ensures { result ≡ bytes.is_word byte }
 {
     byte.is_ascii_alphanumeric() || byte == b'-'
 }
@@ -66,7 +66,7 @@ fn is_behind(text: &[u8], place: usize) -> bool
 /// Where the run of word characters begins that ends behind the byte at a place.
 fn word_behind(word: usize, at: usize, byte: u8) -> usize
     requires { at < 2 ^ 63 }
-    ensures { result ≡ (if spec.is_word byte then word else at + 1) }
+    ensures { result ≡ (if bytes.is_word byte then word else at + 1) }
 {
     if is_word(byte) { word } else { at + 1 }
 }
@@ -113,7 +113,7 @@ impl<'a> Pieces<'a> {
     pub(crate) fn piece(&self, at: usize) -> Option<Piece<'a>>
         requires passed { Passed self.now at }
         requires fits { at < length self.now.text.now }
-        ensures { option_map piece_of result ≡ piece_at self.now.text.now at }
+        ensures { option_map text_piece_of result ≡ piece_at self.now.text.now at }
     {
         match self.mode {
             Mode::Tokens | Mode::Slash => self.token(at),
@@ -129,7 +129,7 @@ impl<'a> Pieces<'a> {
     fn token(&self, at: usize) -> Option<Piece<'a>>
         requires passed { Passed self.now at }
         requires fits { at < length self.now.text.now }
-        ensures { option_map piece_of result
+        ensures { option_map text_piece_of result
             ≡ token_at self.now.text.now at (slice_index self.now.text.now at) }
     {
         let byte = self.text[at];
@@ -148,7 +148,7 @@ impl<'a> Pieces<'a> {
     fn word(&self, at: usize) -> Option<Piece<'a>>
         requires passed { Passed self.now at }
         requires fits { at < length self.now.text.now }
-        ensures { option_map piece_of result
+        ensures { option_map text_piece_of result
             ≡ word_at self.now.text.now at }
     {
         let to = at + 1;

@@ -7,7 +7,7 @@ ghost use Rattle.std.specs.Ordering.{nat_cmp};
 ghost use Rattle.resb_report.specs.Groups as spec;
 ghost use Rattle.resb_report.specs.Groups.{groups_behind};
 ghost use Rattle.resb_report.specs.Warnings.{warned, of_backslash, of_end};
-ghost use Rattle.resb_report.specs.Inner.Looks.{piece_of, Passed, Shows, Reads};
+ghost use Rattle.resb_report.specs.Inner.Looks.{text_piece_of, Passed, ShowsNesting, HasScanned};
 
 use crate::groups::Groups;
 use crate::pieces::{Piece, Pieces};
@@ -61,7 +61,7 @@ struct Scan<'a> {
 impl<'a> Scan<'a> {
     /// Nothing was looked at.
     fn new(alloc: Global, text: &'a [u8]) -> Scan<'a>
-        ensures { Reads result text.now 0 }
+        ensures { HasScanned result text.now 0 }
     {
         Scan {
             pieces: Pieces::new(text),
@@ -73,8 +73,8 @@ impl<'a> Scan<'a> {
     /// Looks at the byte at a place.
     fn byte(&mut self, at: usize) -> Result<(), AllocError>
         requires fits { at < length self.old.pieces.text.now }
-        requires reads { Reads self.old self.old.pieces.text.now at }
-        ensures { OnOk result (Reads self.new self.old.pieces.text.now (at + 1)) }
+        requires reads { HasScanned self.old self.old.pieces.text.now at }
+        ensures { OnOk result (HasScanned self.new self.old.pieces.text.now (at + 1)) }
     {
         self.tell_backslash(at)?;
         let piece = self.pieces.piece(at);
@@ -104,11 +104,12 @@ impl<'a> Scan<'a> {
     /// Adds the warnings of a piece, if one comes, and goes on behind it.
     fn take(&mut self, piece: Option<Piece<'a>>) -> Result<(), AllocError>
         ensures pieces { self.new.pieces ≡ self.old.pieces }
-        ensures groups { OnOk result ((g : spec.Groups) → Shows self.old.groups g
-            → Shows self.new.groups (groups_behind (option_map piece_of piece.entry) g)) }
-        ensures found { OnOk result ((g : spec.Groups) → Shows self.old.groups g
+        ensures groups { OnOk result ((g : spec.Nesting) → ShowsNesting self.old.groups g
+            → ShowsNesting self.new.groups
+            (groups_behind (option_map text_piece_of piece.entry) g)) }
+        ensures found { OnOk result ((g : spec.Nesting) → ShowsNesting self.old.groups g
             → self.new.found.items
-            ≡ self.old.found.items ++ of_end (option_map piece_of piece.entry) g) }
+            ≡ self.old.found.items ++ of_end (option_map text_piece_of piece.entry) g) }
     {
         let Some(piece) = piece else {
             return Ok(());

@@ -41,9 +41,9 @@ pub pair_first : (u v : ℕ) (us : List ℕ) → is_high_surrogate u ≡ true �
 unfolding utf16_chars
 pair_first u v us h l = rw (h, l) refl
 
-nothing : has_unpaired_surrogate [] ≡ false
+empty_is_paired : has_unpaired_surrogate [] ≡ false
 unfolding utf16_chars
-nothing = refl
+empty_is_paired = refl
 
 -- the same of a list without its first unit, where its first is then no second of a pair
 without_first : (u : ℕ) (us : List ℕ) → is_low_surrogate (get_or us 0 0) ≡ false
@@ -60,14 +60,15 @@ without_first u (v ∷ us) s h =
           rw g at (h.2 (suc k) (omega arith) (omega (arith, m)))),
     )
 
-step : (u v : ℕ) (us : List ℕ) (b : Bool) → is_high_surrogate u ≡ b → IsLinkedText (u ∷ v ∷ us)
+linked_step : (u v : ℕ) (us : List ℕ) (b : Bool) → is_high_surrogate u ≡ b
+    → IsLinkedText (u ∷ v ∷ us)
     → (IsLinkedText (v ∷ us) → IsWellFormed (v ∷ us)) → (IsLinkedText us → IsWellFormed us)
     → IsWellFormed (u ∷ v ∷ us)
-step u v us false b h one two =
+linked_step u v us false b h one two =
     let link : is_high_surrogate u ≡ is_low_surrogate v = h.2 0 (omega arith) (omega arith) in
     let low : is_low_surrogate v ≡ false = sym link ∙ b in
     plain_first u (v ∷ us) b h.0 ∙ one (without_first u (v ∷ us) low h)
-step u v us true b h one two =
+linked_step u v us true b h one two =
     let link : is_high_surrogate u ≡ is_low_surrogate v = h.2 0 (omega arith) (omega arith) in
     let low : is_low_surrogate v ≡ true = sym link ∙ b in
     pair_first u v us b low ∙ two (linked_behind us low h)
@@ -89,10 +90,10 @@ step u v us true b h one two =
         )
 
 pub text_is_well_formed : (us : List ℕ) → IsLinkedText us → IsWellFormed us
-text_is_well_formed [] h = nothing
-text_is_well_formed (u ∷ []) h = plain_first u [] h.1 h.0 ∙ nothing
+text_is_well_formed [] h = empty_is_paired
+text_is_well_formed (u ∷ []) h = plain_first u [] h.1 h.0 ∙ empty_is_paired
 text_is_well_formed (u ∷ v ∷ us) h =
-    step u v us (is_high_surrogate u) refl h
+    linked_step u v us (is_high_surrogate u) refl h
     (λ g. text_is_well_formed (v ∷ us) g) (λ g. text_is_well_formed us g)
 
 -- a part of a run
@@ -143,11 +144,11 @@ unfolding utf16_chars
 high_last u h = rw (high_none u h) refl
 
 -- a unit before a linked text
-front : (u : ℕ) (us : List ℕ)
+linked_behind_unit : (u : ℕ) (us : List ℕ)
     → is_high_surrogate u ≡ is_low_surrogate (get_or us 0 0)
     → AreLinked us 0 (length us) → AreLinked (u ∷ us) 0 (length (u ∷ us))
-front u us link h zero l m = link
-front u us link h (suc k) l m =
+linked_behind_unit u us link h zero l m = link
+linked_behind_unit u us link h (suc k) l m =
     let e : suc k + 1 ≡ suc (k + 1) = omega arith in
     rw e (h k (omega arith) (omega (arith, m)))
 
@@ -161,7 +162,7 @@ behind_first u v us low link last h =
     let g : is_high_surrogate (get_or (v ∷ us) (length us) 0) ≡ false = rw f at last in (
       low,
       rw e g,
-      front u (v ∷ us) link h,
+      linked_behind_unit u (v ∷ us) link h,
     )
 
 pair_ends : (v : ℕ) (us : List ℕ) → is_low_surrogate v ≡ true → IsLinkedText us
@@ -172,7 +173,7 @@ pair_ends v (w ∷ ws) l t =
     let e : length (v ∷ w ∷ ws) - 1 ≡ suc (length ws) = omega arith in
     let f : length (w ∷ ws) - 1 ≡ length ws = omega arith in
     let g : is_high_surrogate (get_or (w ∷ ws) (length ws) 0) ≡ false = rw f at t.1 in
-    (rw e g, front v (w ∷ ws) (low_is_not_high v l ∙ sym t.0) t.2)
+    (rw e g, linked_behind_unit v (w ∷ ws) (low_is_not_high v l ∙ sym t.0) t.2)
 
 split : (u v : ℕ) (us : List ℕ) (a b c : Bool) → is_high_surrogate u ≡ a → is_low_surrogate v ≡ b
     → is_low_surrogate u ≡ c → IsWellFormed (u ∷ v ∷ us)
@@ -405,7 +406,7 @@ counted_none us k l = absurd (omega (arith, l))
 
 -- no units are a text
 pub no_units : (us : List ℕ) (from count : ℕ) → count ≡ 0 → IsWellFormed (take count (drop from us))
-no_units us from count e = rw e nothing
+no_units us from count e = rw e empty_is_paired
 
 pub any_default : (xs : List ℕ) (k d e : ℕ) → k < length xs → get_or xs k d ≡ get_or xs k e
 any_default [] k d e l = absurd (omega (arith, l))

@@ -21,9 +21,9 @@ abbrev zero_at : List ℕ → ℕ
 zero_at xs = position_or_len (λ x. nat_eq x 0) xs
 
 -- what stands before a zero byte
-stood : (xs t : List ℕ) → before_zero xs ≡ Some t
+no_zero_before : (xs t : List ℕ) → before_zero xs ≡ Some t
     → (zero_at xs < length xs) × (t ≡ take (zero_at xs) xs)
-stood xs t e = cases (cases_lt (zero_at xs) (length xs))
+no_zero_before xs t e = cases (cases_lt (zero_at xs) (length xs))
   where
     cases : (zero_at xs < length xs) ⊎ (length xs ≤ zero_at xs)
         → (zero_at xs < length xs) × (t ≡ take (zero_at xs) xs)
@@ -42,10 +42,10 @@ zero_later xs k l h =
     (λ m. (let e : k + (zero_at xs - k) ≡ zero_at xs = omega arith in
     rw (get_or-drop k xs (zero_at xs - k) 0, e) is.1))
 
-pub later : (xs t : List ℕ) (k : ℕ) → before_zero xs ≡ Some t → k ≤ length t
+pub key_from_later : (xs t : List ℕ) (k : ℕ) → before_zero xs ≡ Some t → k ≤ length t
     → before_zero (drop k xs) ≡ Some (drop k t)
-later xs t k e h =
-    let was = stood xs t e in
+key_from_later xs t k e h =
+    let was = no_zero_before xs t e in
     let n = zero_at xs in
     let many : length t ≡ n = ap length was.1 ∙ length-take-le n xs (omega (arith, was.0)) in
     let within : k ≤ n = omega (arith, many, h) in
@@ -91,7 +91,7 @@ unfolding key_at
 no_key_behind keys s start at none le e =
     let rest = drop start keys in
     let k = at - start in
-    let its = stood (drop at keys) s (parts (before_zero (drop at keys)) s e).0 in
+    let its = no_zero_before (drop at keys) s (parts (before_zero (drop at keys)) s e).0 in
     let f : length rest ≤ zero_at rest = grind (arith, nat_tests, none) in
     let g = no_zero_later rest k f in
     let i : start + k ≡ at = omega (arith, le) in
@@ -103,7 +103,7 @@ no_key_behind keys s start at none le e =
 pub no_key_past : (keys s : List ℕ) (at : ℕ) → length keys ≤ at → key_at keys at ≡ Some s → ⊥
 unfolding key_at
 no_key_past keys s at le e =
-    let its = stood (drop at keys) s (parts (before_zero (drop at keys)) s e).0 in
+    let its = no_zero_before (drop at keys) s (parts (before_zero (drop at keys)) s e).0 in
     omega (arith, its.0, le, length-drop at keys)
 
 -- the law: a key cut between two characters is a key
@@ -113,7 +113,7 @@ unfolding key_at
 end_of_tail keys t from k e b =
     let is = parts (before_zero (drop from keys)) t e in
     let same : drop (from + k) keys ≡ drop k (drop from keys) = sym (drop-drop k from keys) in
-    let f = later (drop from keys) t k is.0 b.0 in
+    let f = key_from_later (drop from keys) t k is.0 b.0 in
     let u = IsUtf8-drop t k (IsUtf8-from_is_utf8 t is.1) b in
     let v : is_utf8 (drop k t) ≡ true = is_utf8-from_IsUtf8 (drop k t) u in
     rw (same, f, v) refl
@@ -128,7 +128,7 @@ tail_stands keys rest key text start end before r p k b t u =
     let same : drop (start + before) keys ≡ drop before rest =
     sym (drop-drop before start keys) ∙ ap (drop before) (sym r) in
     let stands : before_zero (drop (start + before) keys) ≡ Some text =
-    rw (same, t) (later rest key before found b) in
+    rw (same, t) (key_from_later rest key before found b) in
     let v : is_utf8 text ≡ true = is_utf8-from_IsUtf8 text u in
     rw (stands, v) refl
 
@@ -140,7 +140,7 @@ cut_of_tail keys t s from k e l g =
     let is = parts (before_zero (drop from keys)) t e in
     let same : drop (from + k) keys ≡ drop k (drop from keys) = sym (drop-drop k from keys) in
     let f : before_zero (drop (from + k) keys) ≡ Some (drop k t) =
-    rw same (later (drop from keys) t k is.0 l) in
+    rw same (key_from_later (drop from keys) t k is.0 l) in
     let its = parts (before_zero (drop (from + k) keys)) s g in
     let here : s ≡ drop k t = cc in
     let u : is_utf8 (drop k t) ≡ true = ap is_utf8 (sym here) ∙ its.1 in

@@ -13,13 +13,13 @@ use Rattle.resb_tree.specs.declared.resource.Resource.{the_lemmas}
 use Rattle.resb_tree.proofs.AtOnce.{inserted, made}
 use Rattle.resb_grammar.specs.Items as spec
 use Rattle.resb_grammar.specs.Machine as machine
-use Rattle.resb_text.specs.Inner.Frames.{Look, looks, look_of, layer}
+use Rattle.resb_text.specs.Inner.Frames.{FrameView, view_of_code, view_of_frame, with_number}
 use Rattle.resb_text.specs.declared.error.TextParserError.{TextParserError}
 use Rattle.resb_text.specs.declared.frames.Frame.{Frame}
 use Rattle.resb_tree.specs.Borrowing.{all_true}
 use Rattle.resb_text.specs.Borrowed.{borrows_strings}
-use Rattle.resb_text.specs.Inner.Shown.{shown, shows, shown_borrowed, entries_borrowed}
-use Rattle.resb_text.specs.Inner.Shown.{term_shown}
+use Rattle.resb_text.specs.Inner.Shown.{seen_in_code, items_seen, shown_borrowed, entries_borrowed}
+use Rattle.resb_text.specs.Inner.Shown.{term_seen}
 
 pub borrowed_table : (m : BTreeMap (List ℕ) Resource)
     → borrows_strings (Table m) ≡ entries_borrowed m.entries
@@ -62,36 +62,38 @@ pub made_borrowed : (ps : List (List ℕ × Resource)) (m : BTreeMap (List ℕ) 
 made_borrowed ps m h k =
     ap entries_borrowed (made ps m h) ∙ inserted_borrowed [] ps refl k
 
-term_borrowed : (m : spec.Term) (f : Bool) → shown_borrowed (term_shown m f) ≡ true
+term_borrowed : (m : spec.Term) (f : Bool) → shown_borrowed (term_seen m f) ≡ true
 term_borrowed (spec.string_term s) f = refl
 term_borrowed (spec.group_term t ks) f = refl
 
 -- what the machine's items show is borrowed
-pub shows_borrowed : (xs : List spec.Item) → all_true (map shown_borrowed (shows xs)) ≡ true
+pub shows_borrowed : (xs : List spec.Item) → all_true (map shown_borrowed (items_seen xs)) ≡ true
 shows_borrowed [] = refl
 shows_borrowed (x ∷ xs) =
-    ap all_true (map_push shown_borrowed (shows xs) (term_shown x.term x.comma))
-    ∙ all_snoc (map shown_borrowed (shows xs)) (shown_borrowed (term_shown x.term x.comma))
+    ap all_true (map_push shown_borrowed (items_seen xs) (term_seen x.term x.comma))
+    ∙ all_snoc (map shown_borrowed (items_seen xs)) (shown_borrowed (term_seen x.term x.comma))
     (shows_borrowed xs) (term_borrowed x.term x.comma)
 
 -- what an open group of the code holds is borrowed
-pub items_borrowed : (f : Frame) (n : ℕ) (g : machine.Frame) → looks f ≡ look_of (layer n g)
-    → all_true (map shown_borrowed (map shown f.items.items)) ≡ true
+pub items_borrowed : (f : Frame) (n : ℕ) (g : machine.Frame)
+    → view_of_code f ≡ view_of_frame (with_number n g)
+    → all_true (map shown_borrowed (map seen_in_code f.items.items)) ≡ true
 items_borrowed f n g e =
-    ap (λ (l : Look). all_true (map shown_borrowed l.items)) e ∙ shows_borrowed g.items
+    ap (λ (l : FrameView). all_true (map shown_borrowed l.items)) e ∙ shows_borrowed g.items
 
 -- a table or an array of what an open group holds
 pub closed_table : (r : Result Resource TextParserError) (f : Frame)
-    → IfOk r (λ t. all_true (map shown_borrowed (map shown f.items.items)) ≡ true
+    → IfOk r (λ t. all_true (map shown_borrowed (map seen_in_code f.items.items)) ≡ true
     → borrows_strings t ≡ true)
-    → IfOk r (λ t. (n : ℕ) (g : machine.Frame) → looks f ≡ look_of (layer n g)
+    → IfOk r (λ t. (n : ℕ) (g : machine.Frame) → view_of_code f ≡ view_of_frame (with_number n g)
     → borrows_strings t ≡ true)
 closed_table (Ok t) f h = λ n g e. h (items_borrowed f n g e)
 closed_table (Err e) f h = tt
 
 pub closed_array : (r : Result Resource TextParserError) (f : Frame)
-    → IfOk r (λ t. borrows_strings t ≡ all_true (map shown_borrowed (map shown f.items.items)))
-    → IfOk r (λ t. (n : ℕ) (g : machine.Frame) → looks f ≡ look_of (layer n g)
+    → IfOk r (λ t. borrows_strings t
+    ≡ all_true (map shown_borrowed (map seen_in_code f.items.items)))
+    → IfOk r (λ t. (n : ℕ) (g : machine.Frame) → view_of_code f ≡ view_of_frame (with_number n g)
     → borrows_strings t ≡ true)
 closed_array (Ok t) f h = λ n g e. h ∙ items_borrowed f n g e
 closed_array (Err e) f h = tt

@@ -9,18 +9,18 @@ use Rattle.resb_grammar.specs.Items.{Shape, a_string, a_table, an_array, shape_o
 use Rattle.resb_grammar.specs.Items.{table_keys, array_keys, table_if, is_pairs}
 use Rattle.resb_grammar.specs.Machine.{Body, table_body, array_body, untyped_body, Frame, with_item}
 use Rattle.resb_grammar.specs.Machine.{new_frame, shape_in, closed}
-use Rattle.resb_text.specs.Inner.Discovered.{Numbered, without, texts}
+use Rattle.resb_text.specs.Inner.Discovered.{GroupText, without, texts}
 use Rattle.resb_text.specs.Inner.Frames.{lists}
-use Rattle.resb_text.specs.Inner.Frames.{left_after, Layer, layer, frame_keys}
-use Rattle.resb_text.specs.Inner.Frames.{IsFrom, Holds, none, one_more}
+use Rattle.resb_text.specs.Inner.Frames.{left_after, NumberedFrame, with_number, frame_keys}
+use Rattle.resb_text.specs.Inner.Frames.{IsFrom, HoldsCandidates, none, one_more}
 use Rattle.resb_text.proofs.DiscoveredLemmas.{without-append, without-own, without-other}
 use Rattle.resb_text.proofs.DiscoveredLemmas.{without-without}
 use Rattle.resb_text.proofs.DiscoveredLemmas.{texts_snoc}
 
-texts-append : (xs ys : List Numbered) → texts (xs ++ ys) ≡ texts xs ++ texts ys
+texts-append : (xs ys : List GroupText) → texts (xs ++ ys) ≡ texts xs ++ texts ys
 texts-append xs ys = map-append (λ c. c.text) xs ys
 
-abbrev pub cand : List ℕ → ℕ → Numbered
+abbrev pub cand : List ℕ → ℕ → GroupText
 cand s n = record { text = s; group = n }
 
 frame_string : (b : Body) → lists b ≡ true → (xs : List Item) (s : List ℕ)
@@ -29,9 +29,9 @@ frame_string table_body h xs s = refl
 frame_string untyped_body h xs s = refl
 frame_string array_body h xs s = absurd (false≢true h)
 
-from_string : (n : ℕ) (f : Frame) (s : List ℕ) (own : List Numbered) → lists f.body ≡ true
-    → IsFrom (layer n f) own
-    → IsFrom (layer n (with_item (string_term s) f)) (own ++ cand s n ∷ [])
+from_string : (n : ℕ) (f : Frame) (s : List ℕ) (own : List GroupText) → lists f.body ≡ true
+    → IsFrom (with_number n f) own
+    → IsFrom (with_number n (with_item (string_term s) f)) (own ++ cand s n ∷ [])
 from_string n f s own h x = record {
   whole =
       texts_snoc own (cand s n) ∙ ap (λ ks. ks ++ s ∷ []) x.whole
@@ -47,20 +47,20 @@ from_string n f s own h x = record {
 }
 
 -- a string in a table's or an untyped group's body
-pub holds_string : (n : ℕ) (f : Frame) (gs : List Layer) (s : List ℕ) (cs : List Numbered)
-    → lists f.body ≡ true → Holds (layer n f ∷ gs) cs
-    → Holds (layer n (with_item (string_term s) f) ∷ gs) (cs ++ cand s n ∷ [])
+pub holds_string : (n : ℕ) (f : Frame) (gs : List NumberedFrame) (s : List ℕ) (cs : List GroupText)
+    → lists f.body ≡ true → HoldsCandidates (with_number n f ∷ gs) cs
+    → HoldsCandidates (with_number n (with_item (string_term s) f) ∷ gs) (cs ++ cand s n ∷ [])
 holds_string n f gs s cs h (one_more _ _ before own _ outer apart x e) =
-    one_more (layer n (with_item (string_term s) f)) gs before (own ++ cand s n ∷ [])
+    one_more (with_number n (with_item (string_term s) f)) gs before (own ++ cand s n ∷ [])
     (cs ++ cand s n ∷ []) outer apart (from_string n f s own h x)
     (ap (λ ds. ds ++ cand s n ∷ []) e ∙ append_assoc before own (cand s n ∷ []))
 
 -- a string in an array's body
-pub holds_item : (n : ℕ) (f : Frame) (gs : List Layer) (s : List ℕ) (cs : List Numbered)
-    → f.body ≡ array_body → Holds (layer n f ∷ gs) cs
-    → Holds (layer n (with_item (string_term s) f) ∷ gs) cs
+pub holds_item : (n : ℕ) (f : Frame) (gs : List NumberedFrame) (s : List ℕ) (cs : List GroupText)
+    → f.body ≡ array_body → HoldsCandidates (with_number n f ∷ gs) cs
+    → HoldsCandidates (with_number n (with_item (string_term s) f) ∷ gs) cs
 holds_item n f gs s cs h (one_more _ _ before own _ outer apart x e) =
-    one_more (layer n (with_item (string_term s) f)) gs before own cs outer apart
+    one_more (with_number n (with_item (string_term s) f)) gs before own cs outer apart
     (record {
       whole =
           x.whole ∙ ap (λ b. frame_keys b f.items) h ∙ sym (append-nil (array_keys f.items))
@@ -76,12 +76,13 @@ frame_group untyped_body xs t ks = refl
 frame_group array_body xs t ks = refl
 
 -- a group with its candidates, all of greater numbers
-pub holds_group : (n m : ℕ) (f : Frame) (gs : List Layer) (t : Tree) (ks : List (List ℕ))
-    (cs own : List Numbered)
-    → Holds (layer n f ∷ gs) cs → n < m → ((h : ℕ) → h < m → without h own ≡ own) → texts own ≡ ks
-    → Holds (layer n (with_item (group_term t ks) f) ∷ gs) (cs ++ own)
+pub holds_group : (n m : ℕ) (f : Frame) (gs : List NumberedFrame) (t : Tree) (ks : List (List ℕ))
+    (cs own : List GroupText)
+    → HoldsCandidates (with_number n f ∷ gs) cs → n < m → ((h : ℕ) → h < m → without h own ≡ own)
+    → texts own ≡ ks
+    → HoldsCandidates (with_number n (with_item (group_term t ks) f) ∷ gs) (cs ++ own)
 holds_group n m f gs t ks cs own (one_more _ _ before mine _ outer apart x e) lt later is =
-    one_more (layer n (with_item (group_term t ks) f)) gs before (mine ++ own)
+    one_more (with_number n (with_item (group_term t ks) f)) gs before (mine ++ own)
     (cs ++ own) outer apart
     (record {
       whole =
@@ -98,10 +99,12 @@ holds_group n m f gs t ks cs own (one_more _ _ before mine _ outer apart x e) lt
     (ap (λ ds. ds ++ own) e ∙ append_assoc before mine own)
 
 -- a group without keys
-pub holds_leaf : (n : ℕ) (f : Frame) (gs : List Layer) (t : Tree) (cs : List Numbered)
-    → Holds (layer n f ∷ gs) cs → Holds (layer n (with_item (group_term t []) f) ∷ gs) cs
+pub holds_leaf : (n : ℕ) (f : Frame) (gs : List NumberedFrame) (t : Tree) (cs : List GroupText)
+    → HoldsCandidates (with_number n f ∷ gs) cs
+    → HoldsCandidates (with_number n (with_item (group_term t []) f) ∷ gs) cs
 holds_leaf n f gs t cs x =
-    subst (λ (ds : List Numbered). Holds (layer n (with_item (group_term t []) f) ∷ gs) ds)
+    subst (λ (ds : List GroupText). HoldsCandidates (with_number n (with_item (group_term t []) f)
+    ∷ gs) ds)
     (append-nil cs) (holds_group n (n + 1) f gs t [] cs [] x (omega arith) (λ h l. refl) refl)
 
 frame_new : (b : Body) → frame_keys b [] ≡ []
@@ -110,10 +113,11 @@ frame_new untyped_body = refl
 frame_new array_body = refl
 
 -- a group is opened
-pub holds_new : (n : ℕ) (b : Body) (gs : List Layer) (cs : List Numbered) → Holds gs cs
-    → ((h : ℕ) → n ≤ h → without h cs ≡ cs) → Holds (layer n (new_frame b) ∷ gs) cs
+pub holds_new : (n : ℕ) (b : Body) (gs : List NumberedFrame) (cs : List GroupText)
+    → HoldsCandidates gs cs
+    → ((h : ℕ) → n ≤ h → without h cs ≡ cs) → HoldsCandidates (with_number n (new_frame b) ∷ gs) cs
 holds_new n b gs cs x apart =
-    one_more (layer n (new_frame b)) gs cs [] cs x apart
+    one_more (with_number n (new_frame b)) gs cs [] cs x apart
     (record { whole = sym (frame_new b); rest = refl; later = λ h l. refl }) (sym (append-nil cs))
 
 one_string : (xs : List Item) (s : List ℕ) → shape_of xs ≡ a_string s → array_keys xs ≡ []
@@ -132,7 +136,7 @@ one_string (x ∷ y ∷ xs) s e = no (is_pairs (x ∷ y ∷ xs)) e
     no false e = cc
 
 -- the keys of a closed group
-keys_closed : (b : Body) (xs : List Item) (n : ℕ) (own : List Numbered) (sh : Shape)
+keys_closed : (b : Body) (xs : List Item) (n : ℕ) (own : List GroupText) (sh : Shape)
     → shape_in b xs ≡ sh → texts own ≡ frame_keys b xs → texts (without n own) ≡ array_keys xs
     → texts (left_after sh n own) ≡ keys_in sh xs
 keys_closed b xs n own an_array e whole rest = rest
@@ -143,24 +147,27 @@ keys_closed table_body xs n own (a_string s) e whole rest = cc
 keys_closed array_body xs n own (a_string s) e whole rest = cc
 keys_closed untyped_body xs n own (a_string s) e whole rest = rest ∙ one_string xs s e
 
-after-append : (sh : Shape) (n : ℕ) (xs ys : List Numbered) → without n xs ≡ xs
+after-append : (sh : Shape) (n : ℕ) (xs ys : List GroupText) → without n xs ≡ xs
     → left_after sh n (xs ++ ys) ≡ xs ++ left_after sh n ys
 after-append a_table n xs ys h = refl
 after-append an_array n xs ys h = without-append n xs ys ∙ ap (λ zs. zs ++ without n ys) h
 after-append (a_string s) n xs ys h = without-append n xs ys ∙ ap (λ zs. zs ++ without n ys) h
 
-pub after_keeps : (sh : Shape) (n h : ℕ) (xs : List Numbered) → without h xs ≡ xs
+pub after_keeps : (sh : Shape) (n h : ℕ) (xs : List GroupText) → without h xs ≡ xs
     → without h (left_after sh n xs) ≡ left_after sh n xs
 after_keeps a_table n h xs e = e
 after_keeps an_array n h xs e = without-without h n xs ∙ ap (without n) e
 after_keeps (a_string s) n h xs e = without-without h n xs ∙ ap (without n) e
 
 -- the innermost group is closed
-pub holds_closed : (n m : ℕ) (f outer : Frame) (gs : List Layer) (cs : List Numbered) → m < n
-    → Holds (layer n f ∷ layer m outer ∷ gs) cs
-    → Holds (layer m (with_item (closed f) outer) ∷ gs) (left_after (shape_in f.body f.items) n cs)
+pub holds_closed : (n m : ℕ) (f outer : Frame) (gs : List NumberedFrame) (cs : List GroupText)
+    → m < n
+    → HoldsCandidates (with_number n f ∷ with_number m outer ∷ gs) cs
+    → HoldsCandidates (with_number m (with_item (closed f) outer)
+    ∷ gs) (left_after (shape_in f.body f.items) n cs)
 holds_closed n m f outer gs cs lt (one_more _ _ before own _ around apart x e) =
-    subst (λ (ds : List Numbered). Holds (layer m (with_item (closed f) outer) ∷ gs) ds)
+    subst (λ (ds : List GroupText). HoldsCandidates (with_number m (with_item (closed f) outer)
+    ∷ gs) ds)
     (sym (ap (left_after (shape_in f.body f.items) n) e
     ∙ after-append (shape_in f.body f.items) n before own (apart n (omega arith))))
     (holds_group m n outer gs (tree_in (shape_in f.body f.items) f.items)
@@ -170,8 +177,8 @@ holds_closed n m f outer gs cs lt (one_more _ _ before own _ around apart x e) =
     (keys_closed f.body f.items n own (shape_in f.body f.items) refl x.whole x.rest))
 
 -- the keys of the root
-pub holds_root : (n : ℕ) (f : Frame) (cs : List Numbered) → f.body ≡ table_body
-    → Holds (layer n f ∷ []) cs → texts cs ≡ table_keys f.items
+pub holds_root : (n : ℕ) (f : Frame) (cs : List GroupText) → f.body ≡ table_body
+    → HoldsCandidates (with_number n f ∷ []) cs → texts cs ≡ table_keys f.items
 holds_root n f cs b (one_more _ _ _ own _ none apart x e) =
     ap texts e ∙ x.whole ∙ ap (λ k. frame_keys k f.items) b
 
@@ -184,12 +191,13 @@ frame_comma untyped_body m f ys = refl
 abbrev pub comma_frame : Frame → Term → List Item → Frame
 comma_frame f m ys = record { body = f.body; items = before_comma m ∷ ys }
 
-pub holds_comma : (n : ℕ) (f : Frame) (gs : List Layer) (cs : List Numbered) (m : Term) (k : Bool)
+pub holds_comma : (n : ℕ) (f : Frame) (gs : List NumberedFrame) (cs : List GroupText) (m : Term)
+    (k : Bool)
     (ys : List Item)
-    → f.items ≡ record { term = m; comma = k } ∷ ys → Holds (layer n f ∷ gs) cs
-    → Holds (layer n (comma_frame f m ys) ∷ gs) cs
+    → f.items ≡ record { term = m; comma = k } ∷ ys → HoldsCandidates (with_number n f ∷ gs) cs
+    → HoldsCandidates (with_number n (comma_frame f m ys) ∷ gs) cs
 holds_comma n f gs cs m k ys i (one_more _ _ before own _ outer apart x e) =
-    one_more (layer n (comma_frame f m ys)) gs before own cs outer apart
+    one_more (with_number n (comma_frame f m ys)) gs before own cs outer apart
     (record {
       whole = x.whole ∙ ap (frame_keys f.body) i ∙ frame_comma f.body m k ys;
       rest = x.rest ∙ ap array_keys i;

@@ -4,7 +4,7 @@ use Rattle.std.proofs.Common.{arith, Some, inl, inr, ⊎_elim}
 use Rattle.std.specs.Prelude.{◌⊎◌, ◌==◌, slice_index}
 use Rattle.std.proofs.lemmas.Bool.Decides.{nat_tests}
 use Rattle.resb_grammar.specs.Ascii as ascii
-use Rattle.resb_grammar.specs.Tokens.{Skip, Text}
+use Rattle.resb_grammar.specs.Lexical.{Skip, Text}
 use Rattle.resb_grammar.specs.GroupTypes.{RootType}
 use Rattle.resb_grammar.specs.BundleText.{Typing, without, with}
 use Rattle.resb_grammar.specs.Machine.{Token, a_text, a_number, opening, closing, a_comma, a_type}

@@ -8,7 +8,7 @@ use Rattle.std.proofs.Common.{get_or, ◌-◌, length-append}
 use Rattle.resb_text.specs.declared.frames.Body as bodies
 use Rattle.resb_text.specs.declared.items.Term.{Term as CodeTerm}
 use Rattle.std.specs.Prelude.{slice_set, Some}
-use Rattle.resb_text.specs.Inner.Shown.{shown_term}
+use Rattle.resb_text.specs.Inner.Shown.{code_term_seen}
 use Rattle.resb_text.specs.Inner.Frames.{TakesComma}
 use Rattle.resb_tree.specs.Tree.{Tree, table, map_of}
 use Rattle.resb_grammar.specs.Items.{Term, string_term, group_term, Item, before_comma}
@@ -16,54 +16,59 @@ use Rattle.resb_grammar.specs.Items.{a_table, tree_in, keys_in}
 use Rattle.resb_grammar.specs.Items.{table_keys, is_pairs}
 use Rattle.resb_grammar.specs.Machine.{Body, table_body, array_body, untyped_body, Frame, with_item}
 use Rattle.resb_grammar.specs.Machine.{new_frame, shape_in, closed}
-use Rattle.resb_text.specs.Inner.Shown.{shown_pairs, shown, string_shown, group_shown, shows}
-use Rattle.resb_text.specs.Inner.Shown.{term_shown}
+use Rattle.resb_text.specs.Inner.Shown.{shown_pairs, seen_in_code, string_shown, group_shown}
+use Rattle.resb_text.specs.Inner.Shown.{items_seen}
+use Rattle.resb_text.specs.Inner.Shown.{term_seen}
 use Rattle.resb_grammar.specs.Machine as machine
 use Rattle.resb_grammar.specs.Machine.{with_term}
-use Rattle.resb_text.specs.Inner.Discovered.{Numbered, without, texts, left, groups, is_dropped_in}
+use Rattle.resb_text.specs.Inner.Discovered.{GroupText, without, texts, left, group_count}
+use Rattle.resb_text.specs.Inner.Discovered.{is_dropped_in}
 use Rattle.resb_text.specs.declared.discovered.Keys.{Keys}
 use Rattle.resb_text.specs.declared.items.Item as code
 use Rattle.resb_text.specs.declared.frames.Frame as frames
 use Rattle.resb_text.specs.declared.frames.Open as opens
 use Rattle.resb_grammar.specs.Inner.Half.{is_half}
 use Rattle.resb_text.specs.Inner.Frames.{IsTableWhole, ClosesTo, group_body_of, lists}
-use Rattle.resb_text.specs.Inner.Frames.{looks, look_of, looks_of, frames_in, Look, Shows, AreOpen}
-use Rattle.resb_text.specs.Inner.Frames.{tree_shown_in, left_after, Layer, layer}
-use Rattle.resb_text.specs.Inner.Frames.{Holds, none}
+use Rattle.resb_text.specs.Inner.Frames.{view_of_code, view_of_frame, views_of_frames, frames_in}
+use Rattle.resb_text.specs.Inner.Frames.{FrameView, StandsFor, AreOpen}
+use Rattle.resb_text.specs.Inner.Frames.{tree_shown_in, left_after, NumberedFrame, with_number}
+use Rattle.resb_text.specs.Inner.Frames.{HoldsCandidates, none}
 use Rattle.resb_text.proofs.DiscoveredLemmas.{without-append, without-other}
 use Rattle.resb_text.proofs.ShownLemmas.{pairs_shown}
 use Rattle.resb_text.proofs.Candidates.{cand, holds_string, holds_item, holds_leaf, holds_new}
 use Rattle.resb_text.proofs.Candidates.{after_keeps, holds_closed, holds_root, comma_frame}
 use Rattle.resb_text.proofs.Candidates.{holds_comma}
-use Rattle.resb_text.proofs.FramesLemmas.{same_look, Pushes, whole, tree_same, last_shown, comma_of}
+use Rattle.resb_text.proofs.FramesLemmas.{same_view, Pushes, table_is_pairs, tree_same, last_shown}
+use Rattle.resb_text.proofs.FramesLemmas.{comma_of}
 use Rattle.resb_text.proofs.FramesLemmas.{comma_code, comma_item, set_comma, with_code}
 use Rattle.resb_text.proofs.FramesLemmas.{set_comma_term, map_set_shown, set_last, shown_len}
 
-pub open_same : (k l : Keys) (limit : ℕ) (gs : List Layer)
+pub open_same : (k l : Keys) (limit : ℕ) (gs : List NumberedFrame)
     → ((g : ℕ) → is_dropped_in l g ≡ is_dropped_in k g) → AreOpen k limit gs → AreOpen l limit gs
 open_same k l limit [] e x = tt
 open_same k l limit (g ∷ gs) e x = (x.0, e g.number ∙ x.1, open_same k l g.number gs e x.2)
 
 -- one item more
 pub shows_term : (c d : opens.Open) (o : machine.Open) (m : Term) (term : CodeTerm)
-    → (x : Shows c o) → shown_term term false ≡ term_shown m false
+    → (x : StandsFor c o) → code_term_seen term false ≡ term_seen m false
     → Pushes c.frame d.frame term → d.around.items ≡ c.around.items
-    → Holds (layer x.number (with_item m o.frame) ∷ x.around) (left d.keys)
-    → ((h : ℕ) → groups d.keys ≤ h → without h (left d.keys) ≡ left d.keys)
-    → groups d.keys ≡ groups c.keys → ((g : ℕ) → is_dropped_in d.keys g ≡ is_dropped_in c.keys g)
-    → Shows d (with_term m o)
+    → HoldsCandidates (with_number x.number (with_item m o.frame) ∷ x.around) (left d.keys)
+    → ((h : ℕ) → group_count d.keys ≤ h → without h (left d.keys) ≡ left d.keys)
+    → group_count d.keys ≡ group_count c.keys
+    → ((g : ℕ) → is_dropped_in d.keys g ≡ is_dropped_in c.keys g)
+    → StandsFor d (with_term m o)
 shows_term c d o m term x is push a holds within gs ds = record {
   number = x.number;
   around = x.around;
   frame = push x.number o.frame m x.frame is;
-  outer = ap (map looks) a ∙ x.outer;
+  outer = ap (map view_of_code) a ∙ x.outer;
   frames = x.frames;
   holds = holds;
   within = within;
   are_open =
-      subst (λ k. AreOpen d.keys k (layer x.number (with_item m o.frame) ∷ x.around)) (sym gs)
-      (let y = open_same c.keys d.keys (groups c.keys)
-      (layer x.number o.frame ∷ x.around) ds x.are_open in
+      subst (λ k. AreOpen d.keys k (with_number x.number (with_item m o.frame) ∷ x.around)) (sym gs)
+      (let y = open_same c.keys d.keys (group_count c.keys)
+      (with_number x.number o.frame ∷ x.around) ds x.are_open in
       (y.0, y.1, y.2));
 }
 
@@ -72,22 +77,23 @@ dropped_same : (k l : Keys) → l.is_dropped ≡ k.is_dropped → (g : ℕ)
 dropped_same k l e g = ap (λ ds. slice_index_or ds.items g false) e
 
 pub shows_string : (c d : opens.Open) (o : machine.Open) (term : CodeTerm) (s : List ℕ)
-    → (x : Shows c o) → shown_term term false ≡ string_shown s false
+    → (x : StandsFor c o) → code_term_seen term false ≡ string_shown s false
     → Pushes c.frame d.frame term → d.around.items ≡ c.around.items
     → lists (group_body_of c.frame.body) ≡ true
     → left d.keys ≡ left c.keys ++ cand s c.frame.number ∷ []
-    → d.keys.is_dropped ≡ c.keys.is_dropped → Shows d (with_term (string_term s) o)
+    → d.keys.is_dropped ≡ c.keys.is_dropped → StandsFor d (with_term (string_term s) o)
 shows_string c d o term s x is push a ls e ds =
-    let number : c.frame.number ≡ x.number = ap (λ (l : Look). l.number) x.frame in
-    let lists_keys : lists o.frame.body ≡ true = ap lists (sym (ap (λ (l : Look). l.body) x.frame))
+    let number : c.frame.number ≡ x.number = ap (λ (l : FrameView). l.number) x.frame in
+    let lists_keys : lists o.frame.body
+    ≡ true = ap lists (sym (ap (λ (l : FrameView). l.body) x.frame))
     ∙ ls in
     let now : left d.keys ≡ left c.keys ++ cand s x.number ∷ [] = e
     ∙ ap (λ k. left c.keys ++ cand s k ∷ []) number in
-    let same : groups d.keys ≡ groups c.keys = ap (λ v. length v.items) ds in
+    let same : group_count d.keys ≡ group_count c.keys = ap (λ v. length v.items) ds in
     shows_term c d o (string_term s) term x is push a
     (subst
-    (λ (cs : List Numbered). Holds
-    (layer x.number (with_item (string_term s) o.frame) ∷ x.around) cs)
+    (λ (cs : List GroupText). HoldsCandidates
+    (with_number x.number (with_item (string_term s) o.frame) ∷ x.around) cs)
     (sym now) (holds_string x.number o.frame x.around s (left c.keys) lists_keys x.holds))
     (λ h le. ap (without h) now ∙ without-append h (left c.keys) (cand s x.number ∷ [])
     ∙ ap (λ cs. cs ++ without h (cand s x.number ∷ []))
@@ -98,18 +104,20 @@ shows_string c d o term s x is push a ls e ds =
     same (dropped_same c.keys d.keys ds)
 
 pub shows_item : (c d : opens.Open) (o : machine.Open) (term : CodeTerm) (s : List ℕ)
-    → (x : Shows c o) → shown_term term false ≡ string_shown s false
+    → (x : StandsFor c o) → code_term_seen term false ≡ string_shown s false
     → Pushes c.frame d.frame term → d.around.items ≡ c.around.items
     → lists (group_body_of c.frame.body) ≡ false → d.keys ≡ c.keys
-    → Shows d (with_term (string_term s) o)
+    → StandsFor d (with_term (string_term s) o)
 shows_item c d o term s x is push a ls e =
     shows_term c d o (string_term s) term x is push a
-    (subst (λ (k : Keys). Holds (layer x.number (with_item (string_term s) o.frame) ∷ x.around)
+    (subst (λ (k : Keys). HoldsCandidates (with_number x.number (with_item (string_term s) o.frame)
+    ∷ x.around)
     (left k)) (sym e)
     (holds_item x.number o.frame x.around s (left c.keys) (array_alone o.frame.body
-    (ap lists (sym (ap (λ (l : Look). l.body) x.frame)) ∙ ls)) x.holds))
-    (subst (λ (k : Keys). (h : ℕ) → groups k ≤ h → without h (left k) ≡ left k) (sym e) x.within)
-    (ap groups e) (λ g. ap (λ k. is_dropped_in k g) e)
+    (ap lists (sym (ap (λ (l : FrameView). l.body) x.frame)) ∙ ls)) x.holds))
+    (subst (λ (k : Keys). (h : ℕ) → group_count k ≤ h
+    → without h (left k) ≡ left k) (sym e) x.within)
+    (ap group_count e) (λ g. ap (λ k. is_dropped_in k g) e)
   where
     array_alone : (k : Body) → lists k ≡ false → k ≡ array_body
     array_alone array_body h = refl
@@ -118,65 +126,74 @@ shows_item c d o term s x is push a ls e =
 
 -- a group without keys
 pub shows_leaf : (c d : opens.Open) (o : machine.Open) (term : CodeTerm) (t : Tree)
-    → (x : Shows c o) → shown_term term false ≡ group_shown t true false
+    → (x : StandsFor c o) → code_term_seen term false ≡ group_shown t true false
     → Pushes c.frame d.frame term → d.around.items ≡ c.around.items → d.keys ≡ c.keys
-    → Shows d (with_term (group_term t []) o)
+    → StandsFor d (with_term (group_term t []) o)
 shows_leaf c d o term t x is push a e =
     shows_term c d o (group_term t []) term x is push a
-    (subst (λ (k : Keys). Holds (layer x.number (with_item (group_term t []) o.frame) ∷ x.around)
+    (subst (λ (k : Keys). HoldsCandidates
+    (with_number x.number (with_item (group_term t []) o.frame) ∷ x.around)
     (left k)) (sym e) (holds_leaf x.number o.frame x.around t (left c.keys) x.holds))
-    (subst (λ (k : Keys). (h : ℕ) → groups k ≤ h → without h (left k) ≡ left k) (sym e) x.within)
-    (ap groups e) (λ g. ap (λ k. is_dropped_in k g) e)
+    (subst (λ (k : Keys). (h : ℕ) → group_count k ≤ h
+    → without h (left k) ≡ left k) (sym e) x.within)
+    (ap group_count e) (λ g. ap (λ k. is_dropped_in k g) e)
 
 -- the root, without items yet
 pub shows_root : (c : opens.Open) (title : machine.Title)
-    → looks c.frame ≡ look_of (layer c.frame.number (new_frame table_body))
-    → c.frame.number < groups c.keys → is_dropped_in c.keys c.frame.number ≡ false
-    → c.around.items ≡ [] → left c.keys ≡ [] → Shows c (machine.at_root title)
+    → view_of_code c.frame ≡ view_of_frame (with_number c.frame.number (new_frame table_body))
+    → c.frame.number < group_count c.keys → is_dropped_in c.keys c.frame.number ≡ false
+    → c.around.items ≡ [] → left c.keys ≡ [] → StandsFor c (machine.at_root title)
 shows_root c title e n d a l = record {
   number = c.frame.number;
   around = [];
   frame = e;
-  outer = ap (map looks) a;
+  outer = ap (map view_of_code) a;
   frames = refl;
   holds =
-      subst (λ (cs : List Numbered). Holds (layer c.frame.number (new_frame table_body) ∷ []) cs)
+      subst (λ (cs : List GroupText). HoldsCandidates
+      (with_number c.frame.number (new_frame table_body) ∷ []) cs)
       (sym l) (holds_new c.frame.number table_body [] [] none (λ h lt. refl));
   within = λ h lt. ap (without h) l ∙ sym l;
   are_open = (n, d, tt);
 }
 
 -- an open group within
-pub shows_open : (c d : opens.Open) (o : machine.Open) (b : bodies.Body) → (x : Shows c o)
-    → looks d.frame ≡ look_of (layer (groups c.keys) (new_frame (group_body_of b)))
+pub shows_open : (c d : opens.Open) (o : machine.Open) (b : bodies.Body) → (x : StandsFor c o)
+    → view_of_code d.frame
+    ≡ view_of_frame (with_number (group_count c.keys) (new_frame (group_body_of b)))
     → d.around.items ≡ c.around.items ++ c.frame ∷ []
-    → left d.keys ≡ left c.keys → groups d.keys ≡ groups c.keys + 1
+    → left d.keys ≡ left c.keys → group_count d.keys ≡ group_count c.keys + 1
     → ((g : ℕ) → is_dropped_in d.keys g ≡ is_dropped_in c.keys g)
-    → is_dropped_in c.keys (groups c.keys) ≡ false → Shows d (machine.within (group_body_of b) o)
+    → is_dropped_in c.keys (group_count c.keys) ≡ false
+    → StandsFor d (machine.within (group_body_of b) o)
 shows_open c d o b x e a l g ds fresh = record {
-  number = groups c.keys;
-  around = layer x.number o.frame ∷ x.around;
+  number = group_count c.keys;
+  around = with_number x.number o.frame ∷ x.around;
   frame = e;
   outer =
-      ap (map looks) a ∙ map-append looks c.around.items (c.frame ∷ [])
-      ∙ ap (λ ls. ls ++ looks c.frame ∷ []) x.outer ∙ ap (λ e. looks_of x.around ++ e ∷ []) x.frame;
+      ap (map view_of_code) a ∙ map-append view_of_code c.around.items (c.frame ∷ [])
+      ∙ ap (λ ls. ls ++ view_of_code c.frame ∷ []) x.outer
+      ∙ ap (λ e. views_of_frames x.around ++ e ∷ []) x.frame;
   frames = ap (λ fs. o.frame ∷ fs) x.frames;
   holds =
       subst
-      (λ (cs : List Numbered). Holds
-      (layer (groups c.keys) (new_frame (group_body_of b)) ∷ layer x.number o.frame ∷ x.around) cs)
+      (λ (cs : List GroupText). HoldsCandidates
+      (with_number (group_count c.keys) (new_frame (group_body_of b))
+      ∷ with_number x.number o.frame ∷ x.around) cs)
       (sym l)
-      (holds_new (groups c.keys) (group_body_of b) (layer x.number o.frame ∷ x.around)
+      (holds_new (group_count c.keys) (group_body_of b) (with_number x.number o.frame ∷ x.around)
       (left c.keys) x.holds x.within);
   within = λ h le. ap (without h) l ∙ x.within h (omega (arith, g)) ∙ sym l;
   are_open = (
     omega (arith, g),
-    ds (groups c.keys) ∙ fresh,
-    open_same c.keys d.keys (groups c.keys) (layer x.number o.frame ∷ x.around) ds x.are_open,
+    ds (group_count c.keys) ∙ fresh,
+    open_same c.keys d.keys (group_count c.keys) (with_number x.number o.frame
+        ∷ x.around) ds x.are_open,
   );
 }
 
-snoc_same : (xs ys : List Look) (x y : Look) → xs ++ x ∷ [] ≡ ys ++ y ∷ [] → (xs ≡ ys) × (x ≡ y)
+snoc_same : (xs ys : List FrameView) (x y : FrameView) → xs ++ x ∷ [] ≡ ys ++ y ∷ []
+    → (xs ≡ ys) × (x ≡ y)
 snoc_same [] [] x y e = (refl, cc)
 snoc_same [] (b ∷ []) x y e = cc
 snoc_same [] (b ∷ c ∷ ys) x y e = cc
@@ -191,33 +208,34 @@ snoc_same (a ∷ xs) (b ∷ ys) x y e =
 -- the innermost group is closed
 pub shows_close : (c d : opens.Open) (o : machine.Open) (outer : frames.Frame) (term : CodeTerm)
     (t : Tree)
-    → (x : Shows c o) → IsTableWhole o.frame
+    → (x : StandsFor c o) → IsTableWhole o.frame
     → c.around.items ≡ d.around.items ++ outer ∷ [] → Pushes outer d.frame term
-    → shown_term term false ≡ group_shown t true false
-    → ((n : ℕ) (f : Frame) → looks c.frame ≡ look_of (layer n f)
-    → t ≡ tree_shown_in (shape_in f.body f.items) (map shown c.frame.items.items))
-    → ((n : ℕ) (f : Frame) → looks c.frame ≡ look_of (layer n f)
+    → code_term_seen term false ≡ group_shown t true false
+    → ((n : ℕ) (f : Frame) → view_of_code c.frame ≡ view_of_frame (with_number n f)
+    → t ≡ tree_shown_in (shape_in f.body f.items) (map seen_in_code c.frame.items.items))
+    → ((n : ℕ) (f : Frame) → view_of_code c.frame ≡ view_of_frame (with_number n f)
     → left d.keys ≡ left_after (shape_in f.body f.items) n (left c.keys))
-    → groups d.keys ≡ groups c.keys
+    → group_count d.keys ≡ group_count c.keys
     → ((g : ℕ) → g ≢ c.frame.number → is_dropped_in d.keys g ≡ is_dropped_in c.keys g)
     → ClosesTo d o o.around
-shows_close c d o outer term t x whole a push is tree l g ds =
+shows_close c d o outer term t x table_is_pairs a push is tree l g ds =
     subst (λ (fs : List Frame). ClosesTo d o fs) x.frames (go x.around x.outer x.holds x.are_open)
   where
     number_same : c.frame.number ≡ x.number
-    number_same = ap (λ (k : Look). k.number) x.frame
+    number_same = ap (λ (k : FrameView). k.number) x.frame
 
     tree_is : t ≡ tree_in (shape_in o.frame.body o.frame.items) o.frame.items
     tree_is =
         tree x.number o.frame x.frame
         ∙ ap (tree_shown_in (shape_in o.frame.body o.frame.items))
-        (ap (λ (k : Look). k.items) x.frame)
-        ∙ tree_same o.frame.body o.frame.items (shape_in o.frame.body o.frame.items) refl whole
+        (ap (λ (k : FrameView). k.items) x.frame)
+        ∙ tree_same o.frame.body o.frame.items
+        (shape_in o.frame.body o.frame.items) refl table_is_pairs
 
     left_is : left d.keys ≡ left_after (shape_in o.frame.body o.frame.items) x.number (left c.keys)
     left_is = l x.number o.frame x.frame
 
-    open_outer : (limit : ℕ) (gs : List Layer) → limit ≤ x.number → AreOpen c.keys limit gs
+    open_outer : (limit : ℕ) (gs : List NumberedFrame) → limit ≤ x.number → AreOpen c.keys limit gs
         → AreOpen d.keys limit gs
     open_outer limit [] lt k = tt
     open_outer limit (h ∷ gs) lt k = (
@@ -226,13 +244,15 @@ shows_close c d o outer term t x whole a push is tree l g ds =
       open_outer h.number gs (let m = k.0 in omega (arith, m)) k.2,
     )
 
-    go : (gs : List Layer) → map looks c.around.items ≡ looks_of gs
-        → Holds (layer x.number o.frame ∷ gs) (left c.keys)
-        → AreOpen c.keys (groups c.keys) (layer x.number o.frame ∷ gs) → ClosesTo d o (frames_in gs)
+    go : (gs : List NumberedFrame) → map view_of_code c.around.items ≡ views_of_frames gs
+        → HoldsCandidates (with_number x.number o.frame ∷ gs) (left c.keys)
+        → AreOpen c.keys (group_count c.keys) (with_number x.number o.frame ∷ gs)
+        → ClosesTo d o (frames_in gs)
     go [] e holds open_now = tt
     go (h ∷ gs) e holds open_now =
-        let parts = snoc_same (map looks d.around.items) (looks_of gs) (looks outer) (look_of h)
-        (sym (ap (map looks) a ∙ map-append looks d.around.items (outer ∷ [])) ∙ e) in
+        let parts = snoc_same (map view_of_code d.around.items) (views_of_frames gs)
+        (view_of_code outer) (view_of_frame h)
+        (sym (ap (map view_of_code) a ∙ map-append view_of_code d.around.items (outer ∷ [])) ∙ e) in
         let inner = open_now.2 in
         let m = inner.0 in
         let top = open_now.0 in
@@ -247,8 +267,8 @@ shows_close c d o outer term t x whole a push is tree l g ds =
           frames = refl;
           holds =
               subst
-              (λ (cs : List Numbered). Holds
-              (layer h.number (with_item (closed o.frame) h.frame) ∷ gs) cs)
+              (λ (cs : List GroupText). HoldsCandidates
+              (with_number h.number (with_item (closed o.frame) h.frame) ∷ gs) cs)
               (sym left_is)
               (holds_closed x.number h.number o.frame h.frame gs (left c.keys) m holds);
           within =
@@ -260,17 +280,19 @@ shows_close c d o outer term t x whole a push is tree l g ds =
         }
 
 -- the root is closed
-pub root_tree : (c : opens.Open) (o : machine.Open) → Shows c o → is_pairs o.frame.items ≡ true
-    → table (map_of (shown_pairs (map shown c.frame.items.items))) ≡ tree_in a_table o.frame.items
+pub root_tree : (c : opens.Open) (o : machine.Open) → StandsFor c o → is_pairs o.frame.items ≡ true
+    → table (map_of (shown_pairs (map seen_in_code c.frame.items.items)))
+    ≡ tree_in a_table o.frame.items
 root_tree c o x h =
-    ap (λ ys. table (map_of (shown_pairs ys))) (ap (λ (k : Look). k.items) x.frame)
+    ap (λ ys. table (map_of (shown_pairs ys))) (ap (λ (k : FrameView). k.items) x.frame)
     ∙ ap (λ ps. table (map_of ps)) (pairs_shown o.frame.items h)
 
-pub root_keys : (c : opens.Open) (o : machine.Open) → Shows c o → o.around ≡ []
+pub root_keys : (c : opens.Open) (o : machine.Open) → StandsFor c o → o.around ≡ []
     → o.frame.body ≡ table_body → texts (left c.keys) ≡ keys_in a_table o.frame.items
 root_keys c o x e b = go x.around (x.frames ∙ e) x.holds
   where
-    go : (gs : List Layer) → frames_in gs ≡ [] → Holds (layer x.number o.frame ∷ gs) (left c.keys)
+    go : (gs : List NumberedFrame) → frames_in gs ≡ []
+        → HoldsCandidates (with_number x.number o.frame ∷ gs) (left c.keys)
         → texts (left c.keys) ≡ table_keys o.frame.items
     go [] h holds = holds_root x.number o.frame (left c.keys) b holds
     go (g ∷ gs) h holds = cc
@@ -279,7 +301,8 @@ not_alternating : (m : Term) (xs : List Item) → is_half (before_comma m ∷ xs
 not_alternating (string_term s) xs = refl
 not_alternating (group_term t ks) xs = refl
 
-pub shows_comma : (c d : opens.Open) (o : machine.Open) (x y : code.Item) (k : ℕ) → (s : Shows c o)
+pub shows_comma : (c d : opens.Open) (o : machine.Open) (x y : code.Item) (k : ℕ)
+    → (s : StandsFor c o)
     → 0 < length c.frame.items.items → k ≡ length c.frame.items.items - 1
     → x ≡ get_or c.frame.items.items k x → x.comma ≡ false → y ≡ get_or c.frame.items.items k y
     → d.frame.body ≡ c.frame.body → d.frame.number ≡ c.frame.number
@@ -289,40 +312,40 @@ pub shows_comma : (c d : opens.Open) (o : machine.Open) (x y : code.Item) (k : �
     → TakesComma d o
 shows_comma c d o x y k s lt last xs no_comma ys b n i t a e = go o.frame.items refl
   where
-    items_same : map shown c.frame.items.items ≡ shows o.frame.items
-    items_same = ap (λ (l : Look). l.items) s.frame
+    items_same : map seen_in_code c.frame.items.items ≡ items_seen o.frame.items
+    items_same = ap (λ (l : FrameView). l.items) s.frame
 
     go : (ws : List Item) → o.frame.items ≡ ws
-        → (u : machine.Open) × (machine.with_comma o ws ≡ Some (machine.inside u)) × Shows d u
-    go [] w = absurd (empty c.frame.items.items lt (items_same ∙ ap shows w))
+        → (u : machine.Open) × (machine.with_comma o ws ≡ Some (machine.inside u)) × StandsFor d u
+    go [] w = absurd (empty c.frame.items.items lt (items_same ∙ ap items_seen w))
       where
-        empty : (zs : List code.Item) → 0 < length zs → map shown zs ≡ [] → ⊥
+        empty : (zs : List code.Item) → 0 < length zs → map seen_in_code zs ≡ [] → ⊥
         empty [] p q = omega arith
         empty (z ∷ zs) p q = cc
     go (v ∷ vs) w =
-        let seen : map shown c.frame.items.items ≡ shows
+        let seen : map seen_in_code c.frame.items.items ≡ items_seen
         (record { term = v.term; comma = v.comma } ∷ vs) = items_same
-        ∙ ap shows w in
-        let is_x : shown x ≡ term_shown v.term v.comma = last_shown c.frame.items.items vs
+        ∙ ap items_seen w in
+        let is_x : seen_in_code x ≡ term_seen v.term v.comma = last_shown c.frame.items.items vs
         v.term v.comma x seen (xs
         ∙ ap (λ j. get_or c.frame.items.items j x) last) in
-        let is_y : shown y ≡ term_shown v.term v.comma = last_shown c.frame.items.items vs
+        let is_y : seen_in_code y ≡ term_seen v.term v.comma = last_shown c.frame.items.items vs
         v.term v.comma y seen (ys
         ∙ ap (λ j. get_or c.frame.items.items j y) last) in
         let no_comma_yet : v.comma ≡ false =
         sym (comma_item v.term v.comma) ∙ ap comma_of (sym is_x)
         ∙ comma_code x.term x.comma ∙ no_comma in
-        let made : shown
-        (record { term = y.term; comma = true }) ≡ term_shown v.term true = sym
+        let made : seen_in_code
+        (record { term = y.term; comma = true }) ≡ term_seen v.term true = sym
         (with_code y.term y.comma)
         ∙ ap set_comma is_y ∙ set_comma_term v.term v.comma in
-        let long : length (shows vs ++ term_shown v.term v.comma ∷ []) ≡ length
-        (shows vs) + 1 = length-append (shows vs) (term_shown v.term v.comma ∷ []) in
+        let long : length (items_seen vs ++ term_seen v.term v.comma ∷ []) ≡ length
+        (items_seen vs) + 1 = length-append (items_seen vs) (term_seen v.term v.comma ∷ []) in
         let size : length c.frame.items.items ≡ length
-        (shows vs ++ term_shown v.term v.comma ∷ []) = sym
+        (items_seen vs ++ term_seen v.term v.comma ∷ []) = sym
         (shown_len c.frame.items.items)
         ∙ ap length seen in
-        let at : k ≡ length (shows vs) = omega (arith, last, long, size) in (
+        let at : k ≡ length (items_seen vs) = omega (arith, last, long, size) in (
           record { title = o.title; frame = comma_frame o.frame v.term vs; around = o.around },
           ap (λ f. machine.unless f (machine.inside (record {
             title = o.title;
@@ -333,33 +356,33 @@ shows_comma c d o x y k s lt last xs no_comma ys b n i t a e = go o.frame.items 
             number = s.number;
             around = s.around;
             frame =
-                same_look (looks d.frame)
-                (look_of (layer s.number (comma_frame o.frame v.term vs)))
-                (ap group_body_of b ∙ ap (λ (l : Look). l.body) s.frame)
-                (ap (map shown) i
+                same_view (view_of_code d.frame)
+                (view_of_frame (with_number s.number (comma_frame o.frame v.term vs)))
+                (ap group_body_of b ∙ ap (λ (l : FrameView). l.body) s.frame)
+                (ap (map seen_in_code) i
                 ∙ map_set_shown c.frame.items.items k
                 (record { term = y.term; comma = true })
                 ∙ ap (λ zs. slice_set zs k
-                (shown (record { term = y.term; comma = true }))) seen
-                ∙ ap (λ j. slice_set (shows vs ++ term_shown v.term v.comma ∷ []) j
-                (shown (record { term = y.term; comma = true }))) at
-                ∙ set_last (shows vs) (term_shown v.term v.comma)
-                (shown (record { term = y.term; comma = true }))
-                ∙ ap (λ z. shows vs ++ z ∷ []) made)
+                (seen_in_code (record { term = y.term; comma = true }))) seen
+                ∙ ap (λ j. slice_set (items_seen vs ++ term_seen v.term v.comma ∷ []) j
+                (seen_in_code (record { term = y.term; comma = true }))) at
+                ∙ set_last (items_seen vs) (term_seen v.term v.comma)
+                (seen_in_code (record { term = y.term; comma = true }))
+                ∙ ap (λ z. items_seen vs ++ z ∷ []) made)
                 (t ∙ sym (not_alternating v.term vs))
-                (n ∙ ap (λ (l : Look). l.number) s.frame);
-            outer = ap (map looks) a ∙ s.outer;
+                (n ∙ ap (λ (l : FrameView). l.number) s.frame);
+            outer = ap (map view_of_code) a ∙ s.outer;
             frames = s.frames;
             holds =
-                subst (λ (q : Keys). Holds
-                (layer s.number (comma_frame o.frame v.term vs) ∷ s.around)
+                subst (λ (q : Keys). HoldsCandidates
+                (with_number s.number (comma_frame o.frame v.term vs) ∷ s.around)
                 (left q)) (sym e) (holds_comma s.number o.frame s.around
                 (left c.keys) v.term v.comma vs w s.holds);
             within =
-                subst (λ (q : Keys). (h : ℕ) → groups q ≤ h → without h (left q) ≡ left q)
+                subst (λ (q : Keys). (h : ℕ) → group_count q ≤ h → without h (left q) ≡ left q)
                 (sym e) s.within;
             are_open =
-                subst (λ (q : Keys). AreOpen q (groups q) (layer s.number
+                subst (λ (q : Keys). AreOpen q (group_count q) (with_number s.number
                 (comma_frame o.frame v.term vs) ∷ s.around)) (sym e) (let z = s.are_open in
                 (z.0, z.1, z.2));
           },

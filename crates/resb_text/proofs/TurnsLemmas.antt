@@ -4,7 +4,7 @@ use Rattle.std.proofs.lemmas.Str.{IsCharBoundary-before_ascii, IsCharBoundary-af
 use Rattle.std.specs.Str.{IsUtf8, IsCharBoundary}
 use Rattle.resb_grammar.specs.ByteRuns.{is_word}
 use Rattle.resb_text.specs.Turns.{IsPiece, IsWordPiece, IsQuotedPiece}
-use Rattle.resb_grammar.proofs.ByteRunsLemmas.{word_ascii, word_some, there}
+use Rattle.resb_grammar.proofs.ByteRunsLemmas.{word_ascii, word_some, nonzero_inside}
 
 -- a place after an ASCII byte
 after_byte : (text : List ℕ) (from : ℕ) → IsUtf8 text → 0 < from → 0 < get_or text (from - 1) 0
@@ -12,7 +12,7 @@ after_byte : (text : List ℕ) (from : ℕ) → IsUtf8 text → 0 < from → 0 <
 after_byte text from u p h l =
     let e : from - 1 + 1 ≡ from = omega arith in
     subst (λ i. IsCharBoundary text i) e
-    (IsCharBoundary-after_ascii text (from - 1) u (there text (from - 1) h) l)
+    (IsCharBoundary-after_ascii text (from - 1) u (nonzero_inside text (from - 1) h) l)
 
 pub start_boundary : (text : List ℕ) (from to : ℕ) → IsUtf8 text → IsPiece text from to
     → IsCharBoundary text from
@@ -30,4 +30,4 @@ end_boundary text from to u = ⊎_elim
     let h : is_word (get_or text (to - 1) 0) ≡ true = w.each (to - 1) (omega arith) (omega arith) in
     after_byte text to u (omega arith) (word_some _ h) (word_ascii _ h))
     (λ (q : IsQuotedPiece text from to).
-    IsCharBoundary-before_ascii text to (there text to (omega arith)) (omega arith))
+    IsCharBoundary-before_ascii text to (nonzero_inside text to (omega arith)) (omega arith))

@@ -5,13 +5,13 @@ use Rattle.std.specs.Prelude.{◌⊎◌, not, slice_index}
 use Rattle.std.proofs.lemmas.Bool.{false≢true}
 use Rattle.resb_grammar.specs.Ascii as ascii
 use Rattle.resb_tree.specs.Tree.{Tree}
-use Rattle.resb_grammar.specs.Tokens.{Skip}
+use Rattle.resb_grammar.specs.Lexical.{Skip}
 use Rattle.resb_grammar.specs.GroupTypes.{Kind, string_kind, array_kind, table_kind, binary_kind}
-use Rattle.resb_grammar.specs.GroupTypes.{integer_kind, vector_kind, GroupType, Head}
+use Rattle.resb_grammar.specs.GroupTypes.{integer_kind, vector_kind, GroupType, TypedOpening}
 use Rattle.resb_grammar.specs.Group.{LeafContent, string_content, binary_content, integer_content}
 use Rattle.resb_grammar.specs.Group.{vector_content}
 use Rattle.resb_grammar.specs.Limit.{begun_bytes, leaf_bytes, Makes, MakesMore}
-use Rattle.resb_grammar.proofs.Making.{reading_of, free, makes_on, makes_more, head_made}
+use Rattle.resb_grammar.proofs.Making.{reading_of, plus_no_bytes, makes_on, makes_more, head_made}
 use Rattle.resb_grammar.proofs.Making.{begun_made, content_made, BeforeBrace}
 use Rattle.resb_grammar.specs.Items.{Item, group_term}
 use Rattle.resb_grammar.specs.Machine as machine
@@ -21,8 +21,8 @@ use Rattle.resb_grammar.specs.Machine.{State, inside, typed, with_term, within, 
 use Rattle.resb_grammar.specs.Machine.{in_body, next, At}
 use Rattle.resb_grammar.proofs.Lex.{neither, type_class}
 use Rattle.resb_grammar.specs.Stuck.{expected, expected_in, Stuck, blocked}
-use Rattle.resb_text.specs.Inner.Leaf.{Leaf, LeafFails}
-use Rattle.resb_text.specs.Inner.Frames.{group_body_of, Shows}
+use Rattle.resb_text.specs.Inner.Leaf.{LeafGroup, LeafFails}
+use Rattle.resb_text.specs.Inner.Frames.{group_body_of, StandsFor}
 use Rattle.resb_text.specs.Answer.{Fails}
 use Rattle.resb_text.specs.Refusal.{want_of_memory}
 use Rattle.resb_text.specs.Inner.Steps.{takes_group, Among, HeadFails}
@@ -128,7 +128,7 @@ module _ (text : List ℕ) where
 
   -- a typed group may stand here
   pub may_stand : {n : ℕ} (c : Open) (at : ℕ) (key b : Bool) → (x : Among text at c n)
-      → ((o : machine.Open) → Shows c o → key ≡ is_key_place o.frame.items)
+      → ((o : machine.Open) → StandsFor c o → key ≡ is_key_place o.frame.items)
       → b ≡ takes_group (group_body_of c.frame.body) key → b ≡ true
       → takes_group x.open_groups.frame.body (is_key_place x.open_groups.frame.items) ≡ true
   may_stand c at key b x place takes is =
@@ -141,7 +141,7 @@ module _ (text : List ℕ) where
   -- no type may stand here
   pub type_refused : {n : ℕ} (c : Open) (at b : ℕ) (key may : Bool) (e : Expected)
       → (x : Among text at c n)
-      → ((o : machine.Open) → Shows c o → key ≡ is_key_place o.frame.items)
+      → ((o : machine.Open) → StandsFor c o → key ≡ is_key_place o.frame.items)
       → b ≡ slice_index text at → b ≡ ascii.colon
       → e ≡ expected_in (group_body_of c.frame.body) key b
       → may ≡ takes_group (group_body_of c.frame.body) key → may ≡ false
@@ -162,7 +162,7 @@ module _ (text : List ℕ) where
 
   begun : (o : machine.Open) (at first : ℕ) (kind : Kind)
       → takes_group o.frame.body (is_key_place o.frame.items) ≡ true → At text at (inside o)
-      → Head text at kind first → At text first (machine.begun_as kind o)
+      → TypedOpening text at kind first → At text first (machine.begun_as kind o)
   begun o at first kind may reached head =
       run_head text at first kind o.title o.frame.body o.frame.items o.around head
       (may_open o.frame.body o.frame.items may) reached
@@ -195,9 +195,9 @@ module _ (text : List ℕ) where
   pub group_opened : {n : ℕ} (m : ℕ) (c d : Open) (at first : ℕ) (kind : Kind) (body : Body)
       → (x : Among text at c n)
       → takes_group x.open_groups.frame.body (is_key_place x.open_groups.frame.items) ≡ true
-      → Head text at kind first
+      → TypedOpening text at kind first
       → ((o : machine.Open) → machine.begun_as kind o ≡ inside (within body o))
-      → ((o : machine.Open) → Shows c o → Shows d (within body o)) → m ≡ n + 72
+      → ((o : machine.Open) → StandsFor c o → StandsFor d (within body o)) → m ≡ n + 72
       → Among text first d m
   group_opened {n} m c d at first kind body x may head opens then sum =
       let adds = begins kind body opens x.open_groups in
@@ -216,7 +216,7 @@ module _ (text : List ℕ) where
   pub opened_over : {n : ℕ} (limit : ℕ) (c : Open) (at first : ℕ) (kind : Kind) (body : Body)
       → (x : Among text at c n)
       → takes_group x.open_groups.frame.body (is_key_place x.open_groups.frame.items) ≡ true
-      → Head text at kind first
+      → TypedOpening text at kind first
       → ((o : machine.Open) → machine.begun_as kind o ≡ inside (within body o)) → limit < n + 72
       → MakesMore text limit
   opened_over {n} limit c at first kind body x may head opens more =
@@ -228,7 +228,7 @@ module _ (text : List ℕ) where
   pub leaf_refused : {n : ℕ} (c : Open) (at first : ℕ) (kind : Kind) (e : TextParserError)
       → (x : Among text at c n)
       → takes_group x.open_groups.frame.body (is_key_place x.open_groups.frame.items) ≡ true
-      → Head text at kind first
+      → TypedOpening text at kind first
       → (e ≡ want_of_memory) ⊎ LeafFails text first kind e → Fails text e
   leaf_refused c at first kind e x may head fails =
       ⊎_elim (λ (h : e ≡ want_of_memory). inl h) (λ (h : LeafFails text first kind e). inr
@@ -237,16 +237,16 @@ module _ (text : List ℕ) where
   -- a type that holds no items begins none
   leaf_kind : (from to : ℕ) (kind : Kind) (t : Tree) (n : ℕ) → LeafContent text from to kind t
       → n ≡ n + begun_bytes kind
-  leaf_kind from to kind t n (string_content i s w skip) = free n
-  leaf_kind from to kind t n (binary_content i s bytes w e skip) = free n
-  leaf_kind from to kind t n (integer_content i v w skip) = free n
-  leaf_kind from to kind t n (vector_content ns v) = free n
+  leaf_kind from to kind t n (string_content i s w skip) = plus_no_bytes n
+  leaf_kind from to kind t n (binary_content i s bytes w e skip) = plus_no_bytes n
+  leaf_kind from to kind t n (integer_content i v w skip) = plus_no_bytes n
+  leaf_kind from to kind t n (vector_content ns v) = plus_no_bytes n
 
   -- a group that holds no items, up to its `}`
   before_brace : {n : ℕ} (c : Open) (at first next : ℕ) (kind : Kind) (t : Tree)
       → (x : Among text at c n)
       → takes_group x.open_groups.frame.body (is_key_place x.open_groups.frame.items) ≡ true
-      → Head text at kind first → (leaf : Leaf text first next kind t)
+      → TypedOpening text at kind first → (leaf : LeafGroup text first next kind t)
       → BeforeBrace text n leaf.ends t x.open_groups
   before_brace {n} c at first next kind t x may head leaf =
       content_made text n first leaf.ends kind t x.open_groups leaf.content
@@ -257,8 +257,8 @@ module _ (text : List ℕ) where
   pub leaf_added : {n : ℕ} (m : ℕ) (c d : Open) (at first to : ℕ) (kind : Kind) (t : Tree)
       → (x : Among text at c n)
       → takes_group x.open_groups.frame.body (is_key_place x.open_groups.frame.items) ≡ true
-      → Head text at kind first → Leaf text first to kind t
-      → ((o : machine.Open) → Shows c o → Shows d (with_term (group_term t []) o))
+      → TypedOpening text at kind first → LeafGroup text first to kind t
+      → ((o : machine.Open) → StandsFor c o → StandsFor d (with_term (group_term t []) o))
       → m ≡ n + leaf_bytes t → Among text to d m
   leaf_added {n} m c d at first to kind t x may head leaf then sum =
       let b = before_brace c at first to kind t x may head leaf in
@@ -276,7 +276,7 @@ module _ (text : List ℕ) where
   pub leaf_over : {n : ℕ} (limit : ℕ) (c : Open) (at first to : ℕ) (kind : Kind) (t : Tree)
       → (x : Among text at c n)
       → takes_group x.open_groups.frame.body (is_key_place x.open_groups.frame.items) ≡ true
-      → Head text at kind first → Leaf text first to kind t → limit < n + leaf_bytes t
+      → TypedOpening text at kind first → LeafGroup text first to kind t → limit < n + leaf_bytes t
       → MakesMore text limit
   leaf_over {n} limit c at first to kind t x may head leaf more =
       let b = before_brace c at first to kind t x may head leaf in

@@ -1,6 +1,5 @@
 -- Words of private functions.
 pub mod Runs
-pub mod TypeNames
 pub mod Braces
 pub mod Leaf
 pub mod Shown

@@ -4,7 +4,7 @@ ghost use Rattle.std.specs.Prelude.{◌≡◌, ℕ, ◌+◌, ◌<◌, ◌≤◌,
 ghost use Rattle.resb_tree.specs.View.{tree_of};
 ghost use Rattle.resb_grammar.specs.Limit as limit;
 ghost use Rattle.resb_grammar.specs.Limit.{MakesMore};
-ghost use Rattle.resb_text.specs.Inner.Quota.{Keeps};
+ghost use Rattle.resb_text.specs.Inner.Quota.{KeepsQuota};
 ghost use Rattle.resb_text.specs.Refusal.{want_of_memory};
 
 use crate::error::TextParserError;
@@ -39,9 +39,9 @@ impl Quota {
         requires { self.old.made ≤ self.old.limit }
         ensures made { OnOk result (self.new.made ≡ self.old.made + bytes) }
         ensures limit { self.new.limit ≡ self.old.limit }
-        ensures keeps { (text : List ℕ) → Keeps text self.old
+        ensures keeps { (text : List ℕ) → KeepsQuota text self.old
             → (self.old.limit < self.old.made + bytes → MakesMore text self.old.limit)
-            → Keeps text self.new }
+            → KeepsQuota text self.new }
         ensures err { IfErr result (λ e. e ≡ want_of_memory) }
     {
         if bytes > u128::from(self.limit - self.made) {

@@ -3,7 +3,7 @@
 ghost use Rattle.std.specs.Prelude.{◌≡◌, ◌-◌, ◌≤◌, min, length};
 ghost use Rattle.resb_grammar.specs.ByteRuns as spec;
 ghost use Rattle.resb_grammar.specs.ByteRuns.{Run, is_digit};
-ghost use Rattle.resb_grammar.specs.Tokens.{digits_value};
+ghost use Rattle.resb_grammar.specs.Lexical.{digits_value};
 
 /// Whether a byte is blank: a space, a tab or the end of a line.
 fn is_white(b: u8) -> bool

@@ -1,7 +1,7 @@
 -- A map that is made at once has the entries of one into which the pairs are put in turn.
-use Rattle.std.proofs.Common.{◌≡◌, ℕ, Bool, true, false, List, [], ◌∷◌, BTreeMap, Ordering}
+use Rattle.std.proofs.Common.{◌≡◌, ℕ, List, [], ◌∷◌, BTreeMap, Ordering}
 use Rattle.std.proofs.Common.{Less, Equal, Greater, refl, sym, ap, ◌∙◌, subst}
-use Rattle.std.specs.Prelude.{cond, Option, Some, None, T, ◌&&◌}
+use Rattle.std.specs.Prelude.{cond, Option, Some, None, T}
 use Rattle.std.specs.BTreeMap.{insert_entry, is_at, IsFromIterResult}
 use Rattle.std.specs.Cmp.Lexicographic.{nat_list_cmp_total}
 use Rattle.std.specs.FinMap.{slice_cmp-IsAntisymmetric, nat_cmp-IsAntisymmetric}
@@ -15,6 +15,7 @@ use Rattle.resb_tree.specs.Tree.{put_all, map_of}
 use Rattle.resb_tree.specs.View.{entries_view, pairs_view}
 use Rattle.resb_tree.proofs.ViewLemmas.{entries_view_insert}
 use Rattle.resb_tree.specs.declared.resource.Resource.{Resource}
+use Rattle.resb_tree.proofs.MapsLemmas.{both_true}
 
 -- the entries with the pairs put in turn
 abbrev pub inserted : List (List ℕ × Resource) → List (List ℕ × Resource) → List (List ℕ × Resource)
@@ -67,10 +68,6 @@ inserted_ascend es (p ∷ ps) h =
     inserted_ascend (insert_entry text_cmp es p.0 p.1) ps
     (subst (λ xs. T (fin.is_sorted text_cmp xs)) (sym (insert_is_put es p.0 p.1))
     (fin.is_sorted-put text_cmp nat_list_cmp_total p.0 p.1 es h))
-
-both_true : (a b : Bool) → T a → T b → T (a && b)
-both_true true b h k = k
-both_true false b h k = absurd h
 
 below : (k : List ℕ) (es : List (List ℕ × Resource))
     → AllByRecursion (λ y. text_cmp k y ≡ Less) (keys_of es) → T (fin.below_all text_cmp k es)

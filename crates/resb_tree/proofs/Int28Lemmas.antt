@@ -4,9 +4,6 @@ use Rattle.std.specs.Int.{cast_unsigned, w32}
 use Rattle.std.proofs.lemmas.Int.{ints}
 use Rattle.resb_tree.specs.Int28.{signed}
 
-pub kept : (n : ℕ) → n < 2 ^ 28 → n % 2 ^ 28 ≡ n
-kept n h = omega arith
-
 -- a 28-bit number is kept by its signed reading
 pub signed_back : (n : ℕ) → n < 2 ^ 28 → cast_unsigned w32 (signed n) % 2 ^ 28 ≡ n
 signed_back n h = grind (arith, ints)

@@ -14,6 +14,7 @@ use Rattle.resb_tree.specs.Tree.{map_of}
 use Rattle.resb_tree.specs.View.{entries_view}
 use Rattle.resb_tree.specs.Maps.{text_cmp, pairs_of, get, IsMap, AreMaps, AreMapsOf}
 use Rattle.resb_tree.specs.declared.resource.Resource.{Resource}
+use Rattle.resb_tree.specs.LayingOrder.{entry_keys}
 
 -- entries taken apart to pairs are put together again
 pub entries_of-pairs_of : (es : Entries) → entries_of (pairs_of es) ≡ es
@@ -89,7 +90,8 @@ pub map_of-sorted : (ps : List (List ℕ × Tree)) → IsStrictlySortedBy text_c
     → map_of ps ≡ entries_of ps
 map_of-sorted ps h = put_all_after [] ps h
 
-both_true : (a b : Bool) → T a → T b → T (a && b)
+-- both tests hold
+pub both_true : (a b : Bool) → T a → T b → T (a && b)
 both_true true b h k = k
 both_true false b h k = absurd h
 
@@ -138,3 +140,21 @@ put_all_maps es (p ∷ ps) is all h =
 -- a table of trees of maps
 pub AreMaps-map_of : (ps : List (List ℕ × Tree)) → AllAreMaps ps → AreMaps (table (map_of ps))
 AreMaps-map_of ps h = put_all_maps no_entries ps tt tt h
+
+-- the keys of entries taken apart to pairs
+keys_of-pairs_of : (es : Entries) → keys_of (pairs_of es) ≡ entry_keys es
+keys_of-pairs_of no_entries = refl
+keys_of-pairs_of (entry k t es) = ap (λ ks. k ∷ ks) (keys_of-pairs_of es)
+
+-- entries that ascend are their own map
+pub map_of-pairs_of : (es : Entries) → IsStrictlySortedBy text_cmp (entry_keys es)
+    → map_of (pairs_of es) ≡ es
+map_of-pairs_of es h =
+    map_of-sorted (pairs_of es) (subst (IsStrictlySortedBy text_cmp) (sym (keys_of-pairs_of es)) h)
+    ∙ entries_of-pairs_of es
+
+-- the keys of a table, read off its view, are those of its map
+pub entry_keys-entries_view : (es : List (List ℕ × Resource))
+    → entry_keys (entries_view es) ≡ keys_of es
+entry_keys-entries_view [] = refl
+entry_keys-entries_view (e ∷ es) = ap (λ l. e.0 ∷ l) (entry_keys-entries_view es)

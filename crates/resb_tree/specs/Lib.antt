@@ -6,7 +6,7 @@ pub mod Equality
 pub mod View
 pub mod Maps
 pub mod Keys
-pub mod WalkOrder
+pub mod LayingOrder
 pub mod Bundle
 pub mod Borrowing
 pub mod Int28

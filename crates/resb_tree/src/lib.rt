@@ -7,13 +7,13 @@ mod dropping;
 mod int28;
 mod key;
 pub mod laws;
+mod laying_order;
 mod no_memory;
 mod resource;
-mod walk_order;
 
 pub use bundle::ResourceBundle;
 pub use int28::Int28;
 pub use key::Key;
+pub use laying_order::{LayingOrder, in_laying_order};
 pub use no_memory::NoMemory;
 pub use resource::{Resource, Table, table_at_once};
-pub use walk_order::{WalkOrder, in_walk_order};

@@ -7,7 +7,8 @@ use Rattle.std.proofs.lemmas.List.Sums.{sum_by-cons, sum_by-append}
 use Rattle.resb_tree.specs.Tree.{Tree, string}
 use Rattle.resb_format.specs.Strings.{text_at, key_at}
 use Rattle.resb_format.specs.Parts.{Parts}
-use Rattle.resb_format.specs.Content.{Member, Content, word, unit, leaf, list, pairs, content}
+use Rattle.resb_format.specs.Content.{Member, word, unit, leaf, list, entry_list}
+use Rattle.resb_format.specs.Content.{content_at}
 use Rattle.resb_format.specs.Content.{text_leaf}
 use Rattle.resb_format.specs.Denotes.{Den, den_leaf, den_list, den_pairs, DenMember, den_word}
 use Rattle.resb_format.specs.Denotes.{den_unit, DenEach, each_none, each_more, DenPairs, pairs_none}
@@ -18,30 +19,23 @@ use Rattle.resb_walk.specs.Pieces.{Piece, leaf_piece, array_piece, table_piece, 
 use Rattle.resb_walk.specs.Pieces.{Holds, holds_leaf, holds_list, holds_pairs, HoldsMember}
 use Rattle.resb_walk.specs.Pieces.{holds_word, holds_unit, HoldsEach, holds_none, holds_more}
 use Rattle.resb_walk.specs.Pieces.{HoldsPairs, holds_no_pair, holds_pair}
-use Rattle.resb_walk.specs.Sums.{resources_in}
+use Rattle.resb_walk.specs.Sums.{resource_count_in}
 use Rattle.resb_walk.specs.Sums.{count_of}
 
 -- a table is one resource
-pub table_is_one : {A : Type 0} (es : List A) → resources_in (table_piece es) ≡ 1
+pub table_is_one : {A : Type 0} (es : List A) → resource_count_in (table_piece es) ≡ 1
 table_is_one [] = refl
 table_is_one (e ∷ es) = refl
 
--- what a leaf of a text is
-text_of_leaf : {o : Option (List ℕ)} {c : Content}
-    → option_map (λ s. leaf (string s)) o ≡ Some c
-    → (s : List ℕ) × (o ≡ Some s) × (c ≡ leaf (string s))
-text_of_leaf {o = None} e = absurd cc
-text_of_leaf {o = Some s} e = (s, refl, cc)
-
 module _ (p : Parts) where
   -- by what stands at the word
-  pub leaf_holds : {w : ℕ} {t : Tree} {xs : List Piece} → content p w ≡ Some (leaf t)
+  pub leaf_holds : {w : ℕ} {t : Tree} {xs : List Piece} → content_at p w ≡ Some (leaf t)
       → Holds p w xs → xs ≡ leaf_piece t ∷ []
   leaf_holds e (holds_leaf f) = ap (λ t. leaf_piece t ∷ []) (same_leaf f e)
   leaf_holds e (holds_list f h) = absurd (leaf_list e f)
   leaf_holds e (holds_pairs f h) = absurd (leaf_pairs e f)
 
-  pub list_holds : {w : ℕ} {ms : List Member} {xs : List Piece} → content p w ≡ Some (list ms)
+  pub list_holds : {w : ℕ} {ms : List Member} {xs : List Piece} → content_at p w ≡ Some (list ms)
       → Holds p w xs → (ys : List Piece) × (xs ≡ array_piece ∷ ys) × HoldsEach p ms ys
   list_holds e (holds_leaf f) = absurd (leaf_list f e)
   list_holds e (holds_list {xs = ys} f h) =
@@ -49,7 +43,7 @@ module _ (p : Parts) where
   list_holds e (holds_pairs f h) = absurd (list_pairs e f)
 
   pub pairs_holds : {w : ℕ} {es : List (ℕ × Member)} {xs : List Piece}
-      → content p w ≡ Some (pairs es) → Holds p w xs
+      → content_at p w ≡ Some (entry_list es) → Holds p w xs
       → (ys : List Piece) × (xs ≡ table_piece es ∷ ys) × HoldsPairs p es ys
   pairs_holds e (holds_leaf f) = absurd (leaf_pairs f e)
   pairs_holds e (holds_list f h) = absurd (list_pairs f e)
@@ -59,12 +53,12 @@ module _ (p : Parts) where
     subst (λ es. HoldsPairs p es ys) (same_pairs f e) h,
   )
 
-  pub none_holds : {w : ℕ} {xs : List Piece} → content p w ≡ None → Holds p w xs → ⊥
+  pub none_holds : {w : ℕ} {xs : List Piece} → content_at p w ≡ None → Holds p w xs → ⊥
   none_holds e (holds_leaf f) = some_none e f
   none_holds e (holds_list f h) = some_none e f
   none_holds e (holds_pairs f h) = some_none e f
 
-  pub text_holds : (w u : ℕ) (xs : List Piece) → content p w ≡ text_leaf p u → Holds p w xs
+  pub text_holds : (w u : ℕ) (xs : List Piece) → content_at p w ≡ text_leaf p u → Holds p w xs
       → (s : List ℕ) × (text_at p.block u ≡ Some s) × (xs ≡ leaf_piece (string s) ∷ [])
   text_holds w u xs e h = at h (text_at p.block u) refl
     where
@@ -154,14 +148,14 @@ module _ (p : Parts) where
         let h = held_each d in (
           array_piece ∷ h.0,
           holds_list e h.1,
-          omega (arith, sum_by-cons resources_in array_piece h.0, h.2),
+          omega (arith, sum_by-cons resource_count_in array_piece h.0, h.2),
         )
     held (den_pairs {es = es'} e d) =
         let h = held_pairs d in (
           table_piece es' ∷ h.0,
           holds_pairs e h.1,
           omega
-              (arith, sum_by-cons resources_in (table_piece es') h.0, h.2, table_is_one es'),
+              (arith, sum_by-cons resource_count_in (table_piece es') h.0, h.2, table_is_one es'),
         )
 
     held_member : {m : Member} {n : ℕ} {t : Tree} → DenMember p m t n
@@ -176,7 +170,7 @@ module _ (p : Parts) where
         let h = held_member d in let i = held_each ds in (
           h.0 ++ i.0,
           holds_more h.1 i.1,
-          omega (arith, sum_by-append resources_in h.0 i.0, h.2, i.2),
+          omega (arith, sum_by-append resource_count_in h.0 i.0, h.2, i.2),
         )
 
     held_pairs : {es : List (ℕ × Member)} {ts : List (List ℕ × Tree)} {n : ℕ}
@@ -188,8 +182,8 @@ module _ (p : Parts) where
           holds_pair e h.1 i.1,
           omega (
             arith,
-            sum_by-cons resources_in (key_piece key') (h.0 ++ i.0),
-            sum_by-append resources_in h.0 i.0,
+            sum_by-cons resource_count_in (key_piece key') (h.0 ++ i.0),
+            sum_by-append resource_count_in h.0 i.0,
             h.2,
             i.2,
           ),
@@ -202,7 +196,7 @@ module _ (p : Parts) where
       word_some : {w : ℕ} {xs : List Piece} → Holds p w xs → 1 ≤ count_of xs
       word_some (holds_leaf e) = omega arith
       word_some (holds_list {xs = ys} e g) =
-          omega (arith, sum_by-cons resources_in array_piece ys)
+          omega (arith, sum_by-cons resource_count_in array_piece ys)
       word_some (holds_pairs {es = es'} {xs = ys} e g) =
-          omega (arith, sum_by-cons resources_in (table_piece es') ys, table_is_one es')
+          omega (arith, sum_by-cons resource_count_in (table_piece es') ys, table_is_one es')
   member_some (holds_unit e) = omega arith

@@ -8,6 +8,7 @@ mod Starts
 mod Chain
 mod RoundsLemmas
 mod Placed
+pub mod Zips
 mod Made
 mod Surrogates
 mod Keys

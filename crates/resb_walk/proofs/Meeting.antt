@@ -2,7 +2,7 @@
 use Rattle.std.proofs.Common.{ℕ, List, ◌∷◌, ◌++◌, ◌≡◌, Some, None, refl, sym, ◌∙◌}
 use Rattle.std.proofs.Common.{subst, ap}
 use Rattle.resb_tree.specs.Tree.{Tree}
-use Rattle.resb_format.specs.Content.{Member, word, pairs}
+use Rattle.resb_format.specs.Content.{Member, word, entry_list}
 use Rattle.resb_format.specs.Denotes.{DenMember, den_word, den_unit, DenEach, each_none, each_more}
 use Rattle.resb_format.specs.Denotes.{DenPairs, pairs_none, pairs_more}
 use Rattle.resb_format.specs.Error.{Refusal}
@@ -13,7 +13,7 @@ use Rattle.resb_walk.specs.Meets.{Meets, meets_text, meets_word, meets_list, mee
 use Rattle.resb_walk.specs.Meets.{meets_entry}
 use Rattle.resb_walk.specs.Inner.Frames.{Waits, OpenedTable}
 use Rattle.resb_walk.specs.Inner.Members.{members_of, keyed_members}
-use Rattle.resb_walk.specs.declared.members.Pairs.{Pairs}
+use Rattle.resb_walk.specs.declared.members.TableParts.{TableParts}
 use Rattle.resb_walk.specs.declared.frame.Open.{Open}
 use Rattle.resb_walk.specs.declared.frame.Waiting.{Waiting}
 use Rattle.resb_walk.specs.declared.frame.Waiting.TheVariants as waiting
@@ -136,12 +136,12 @@ module _ (p : Parts) where
 
   -- the key of the next entry is at fault
   pub table_meets : {L T : Type 0} (lists : L → List Tree → Type 0)
-      (tables : T → List (List ℕ × Tree) → Type 0) (rest later : Pairs) (k : ℕ) (x : Member)
+      (tables : T → List (List ℕ × Tree) → Type 0) (rest later : TableParts) (k : ℕ) (x : Member)
       (made : T) (w n : ℕ)
       → OpenedTable lists tables p rest made w n → keyed_members rest ≡ (k, x) ∷ keyed_members later
       → key_at p.keys k ≡ None → Meets p (word w) (block_key_refusal p.keys k)
   table_meets lists tables rest later k x made w n h e none =
-      let stands = h.stands ∙ ap (λ es. Some (pairs (h.done ++ es))) e in
+      let stands = h.stands ∙ ap (λ es. Some (entry_list (h.done ++ es))) e in
       meets_key k x (keyed_members later) stands h.each none
 
   pub round_meets : {L T : Type 0} (lists : L → List Tree → Type 0)

@@ -5,19 +5,19 @@ use Rattle.std.proofs.Common.{refl, sym, ◌∙◌, ap, subst, arith, length, dr
 use Rattle.std.proofs.Math.Seq.{drop-append_seam}
 use Rattle.resb_tree.specs.Tree.{Tree}
 use Rattle.resb_format.specs.Parts.{Parts}
-use Rattle.resb_format.specs.Content.{Member, word, list, pairs}
+use Rattle.resb_format.specs.Content.{Member, word, list, entry_list}
 use Rattle.resb_format.specs.Denotes.{Den, DenMember, den_word, Reaches, ReachesMember}
 use Rattle.resb_format.specs.Error.{Refusal}
 use Rattle.resb_format.specs.declared.error.ReadingError.{ReadingError}
 use Rattle.resb_format.proofs.Denoting.{same_list, same_pairs, list_pairs}
-use Rattle.resb_walk.specs.Inner.Counting.{no_list, no_table, IsOpen, Awaits, Rests}
-use Rattle.resb_walk.specs.Inner.Counting.{HasLast, Entered, Looks, LooksKey, Takes}
+use Rattle.resb_walk.specs.Inner.Counting.{no_list, no_table, IsOpenedAt, Awaits, Rests}
+use Rattle.resb_walk.specs.Inner.Counting.{HasLast, EnteredMember, LooksAt, LooksKey, TakesNext}
 use Rattle.resb_walk.specs.Inner.Members.{members_of, keyed_members, rest_length}
 use Rattle.resb_walk.specs.Meets.{Meets, Blames, meets_list, meets_entry}
 use Rattle.resb_walk.specs.Refusals.{IsFault, DenotesNothing, Refuses}
 use Rattle.resb_walk.specs.declared.count.Inner.{Inner}
 use Rattle.resb_walk.specs.declared.count.Outer.{Outer}
-use Rattle.resb_walk.specs.declared.members.Pairs.{Pairs}
+use Rattle.resb_walk.specs.declared.members.TableParts.{TableParts}
 use Rattle.resb_walk.specs.declared.members.Rest.{Rest}
 use Rattle.resb_walk.specs.declared.members.Rest.TheVariants as rest
 use Rattle.resb_walk.proofs.Lift.{refused_word}
@@ -26,6 +26,7 @@ use Rattle.resb_walk.proofs.Starts.{member_meets}
 use Rattle.resb_walk.proofs.Waits.{list_begins, table_begins, table_no_key, list_puts, table_puts}
 use Rattle.resb_walk.proofs.Waits.{list_stuck, list_reaches, table_stuck}
 use Rattle.resb_walk.proofs.Waits.{table_reaches}
+use Rattle.resb_walk.proofs.RoundsLemmas.{same_word}
 
 -- the end of a list, by its length
 pub last_of : {A : Type 0} (xs ys zs : List A) (k : ℕ) → k ≡ length ys → zs ≡ xs ++ ys
@@ -45,25 +46,25 @@ module _ (p : Parts) where
 
 module _ (p : Parts) where
   -- a collection whose members are all still to come
-  pub rest_begins : (r : Rest) (w : ℕ) → Looks p (word w) (Ok (Some r)) → IsOpen p r w 0
+  pub rest_begins : (r : Rest) (w : ℕ) → LooksAt p (word w) (Ok (Some r)) → IsOpenedAt p r w 0
   rest_begins (rest.List ms) w e = list_begins no_list no_table p ms 0 w e tt
   rest_begins (rest.Table es) w e = table_begins no_list no_table p es 0 w e tt
 
   -- the fault of a member is the one that is met
-  pub looked_meets : (m : Member) (e : ReadingError) → Looks p m (Err e) → Blames (Meets p m) e
+  pub looked_meets : (m : Member) (e : ReadingError) → LooksAt p m (Err e) → Blames (Meets p m) e
   looked_meets m e (inl memory) f = absurd (f.not_memory memory.kind_is)
   looked_meets m e (inr (none, is_fault, says)) f = rw says (member_meets p m none)
 
   -- the next entry has no key
-  pub key_stuck : (es fs : Pairs) (k : ℕ) (x : Member) (w n : ℕ) (e : ReadingError)
-      → IsOpen p (rest.Table es) w n → keyed_members es ≡ (k, x) ∷ keyed_members fs
-      → LooksKey {A = ℕ} p.keys k (Err e) → Takes p w n (Err e)
+  pub key_stuck : (es fs : TableParts) (k : ℕ) (x : Member) (w n : ℕ) (e : ReadingError)
+      → IsOpenedAt p (rest.Table es) w n → keyed_members es ≡ (k, x) ∷ keyed_members fs
+      → LooksKey {A = ℕ} p.keys k (Err e) → TakesNext p w n (Err e)
   key_stuck es fs k x w n e h split (inl memory) = inl memory
   key_stuck es fs k x w n e h split (inr (none, is_fault, says)) =
       inr (is_fault, table_no_key no_list no_table p es fs k x 0 w n h split none)
 
-  pub key_meets : (es fs : Pairs) (k : ℕ) (x : Member) (w n : ℕ) (e : ReadingError)
-      → IsOpen p (rest.Table es) w n → keyed_members es ≡ (k, x) ∷ keyed_members fs
+  pub key_meets : (es fs : TableParts) (k : ℕ) (x : Member) (w n : ℕ) (e : ReadingError)
+      → IsOpenedAt p (rest.Table es) w n → keyed_members es ≡ (k, x) ∷ keyed_members fs
       → LooksKey {A = ℕ} p.keys k (Err e) → Blames (Meets p (word w)) e
   key_meets es fs k x w n e h split (inl memory) f = absurd (f.not_memory memory.kind_is)
   key_meets es fs k x w n e h split (inr (none, is_fault, says)) f =
@@ -71,14 +72,14 @@ module _ (p : Parts) where
 
   -- the member that was waited for is counted
   pub awaits_puts : (r : Rest) (w n k : ℕ) (x : Member) (t : Tree) → Awaits p r w x n
-      → DenMember p x t k → IsOpen p r w (n + k)
+      → DenMember p x t k → IsOpenedAt p r w (n + k)
   awaits_puts (rest.List ms) w n k x t h d =
       list_puts no_list no_table p ms 0 0 w n k x t h d (λ ts m. tt)
   awaits_puts (rest.Table es) w n k x t h d =
       table_puts no_list no_table p es 0 0 h.0 w n k x t h.1 d (λ ts m. tt)
 
   -- a collection has as many members as are to come of it
-  pub open_has : (r : Rest) (w n k : ℕ) → k ≡ rest_length r → IsOpen p r w n → HasLast p w k
+  pub open_has : (r : Rest) (w n k : ℕ) → k ≡ rest_length r → IsOpenedAt p r w n → HasLast p w k
   open_has (rest.List ms) w n k e h =
       inl (
         h.done ++ members_of ms,
@@ -93,8 +94,8 @@ module _ (p : Parts) where
       )
 
   -- what is still to come of it, found anew
-  pub open_again : (r r' : Rest) (w n k : ℕ) → k ≡ rest_length r → IsOpen p r w n
-      → Rests p w k r' → IsOpen p r' w n
+  pub open_again : (r r' : Rest) (w n k : ℕ) → k ≡ rest_length r → IsOpenedAt p r w n
+      → Rests p w k r' → IsOpenedAt p r' w n
   open_again (rest.List ms) (rest.List ns) w n k e h f =
       let same : f.0 ≡ h.done ++ members_of ms = same_list f.1 h.stands in
       let last : members_of ns ≡ members_of ms =
@@ -111,7 +112,7 @@ module _ (p : Parts) where
       f.2 ∙ last_of h.done (keyed_members es) f.0 k e same in record {
         done = h.done;
         entries = h.entries;
-        stands = h.stands ∙ ap (λ ls. Some (pairs (h.done ++ ls))) (sym last);
+        stands = h.stands ∙ ap (λ ls. Some (entry_list (h.done ++ ls))) (sym last);
         each = h.each;
         is_made = tt;
       }
@@ -210,15 +211,12 @@ module _ (p : Parts) where
     pub outer : ℕ
     pub inner : ℕ
     pub path : Path p root cs i.word outer
-    pub opened : IsOpen p i.rest i.word inner
+    pub opened : IsOpenedAt p i.rest i.word inner
     pub paid : left + (outer + (1 + inner)) ≡ before
-
-  same_word : {w v : ℕ} → word w ≡ word v → w ≡ v
-  same_word e = cc
 
   -- the root is a collection
   pub round_first : (root before left : ℕ) (i : Inner) (cs : List Outer) → cs ≡ []
-      → word root ≡ word i.word → IsOpen p i.rest i.word 0 → left + 1 ≡ before
+      → word root ≡ word i.word → IsOpenedAt p i.rest i.word 0 → left + 1 ≡ before
       → Round root before cs i left
   round_first root before left i cs none e h s =
       subst (λ ds. Round root before ds i left) (sym none) (record {
@@ -231,7 +229,7 @@ module _ (p : Parts) where
 
   -- to enter a member is a step towards the end
   pub enters_falls : (i j : Inner) (x : Member) (n : ℕ) (cs ds : List Outer) (left left' : ℕ)
-      → Entered p i x n cs ds left left' (Ok j)
+      → EnteredMember p i x n cs ds left left' (Ok j)
       → 2 * left' + length ds < 2 * left + length cs
   enters_falls i j x n cs ds left left' (s, inl (same, at, put)) =
       let long = ap length same in omega (arith, s, long)
@@ -256,7 +254,7 @@ module _ (p : Parts) where
         (inr (inr (is_fault, s left)))
 
     -- its next entry has no key
-    pub round_taken : (d : ReadingError) → Takes p i.word round.inner (Err d)
+    pub round_taken : (d : ReadingError) → TakesNext p i.word round.inner (Err d)
         → Refuses (Den p root) (Reaches p root) before d
     round_taken d (inl memory) = inl memory
     round_taken d (inr (is_fault, s)) = round_stuck d is_fault s
@@ -274,7 +272,7 @@ module _ (p : Parts) where
     -- its member is entered
     pub round_enters : (k j : Inner) (x : Member) (ds : List Outer) (left' : ℕ)
         → k.word ≡ i.word → Awaits p k.rest i.word x round.inner
-        → Entered p k x round.inner cs ds left left' (Ok j) → Round root before ds j left'
+        → EnteredMember p k x round.inner cs ds left left' (Ok j) → Round root before ds j left'
     round_enters k j x ds left' at h (s, inl (same, here, put)) =
         let paid : left + (round.outer + (1 + round.inner)) ≡ before = round.paid in
         subst (λ es. Round root before es j left') (sym same) (record {
@@ -309,7 +307,7 @@ module _ (p : Parts) where
     pub round_outer : (c : Outer) (ds : List Outer) (t : Tree) → cs ≡ ds ++ c ∷ []
         → Den p i.word t (1 + round.inner)
         → (o : Popped root ds c i.word round.outer)
-        × IsOpen p o.still c.word (o.inner + (1 + round.inner)) × HasLast p c.word c.left
+        × IsOpenedAt p o.still c.word (o.inner + (1 + round.inner)) × HasLast p c.word c.left
     round_outer c ds t e d =
         let o = path_pop root i.word round.outer ds c
         (subst (λ es. Path p root es i.word round.outer) e round.path) in
@@ -331,7 +329,7 @@ module _ (p : Parts) where
           outer = o.outer;
           inner = o.inner + (1 + round.inner);
           path = subst (λ v. Path p root ds v o.outer) (sym at) o.path;
-          opened = subst (λ v. IsOpen p j.rest v (o.inner + (1 + round.inner))) (sym at)
+          opened = subst (λ v. IsOpenedAt p j.rest v (o.inner + (1 + round.inner))) (sym at)
               (open_again o.still j.rest c.word (o.inner + (1 + round.inner)) c.left o.left_is
               r.1 h);
           paid = omega arith;

@@ -22,7 +22,7 @@ use Rattle.resb_walk.specs.Inner.Members.{text_of_bytes}
 use Rattle.resb_walk.proofs.Placed.{text_some}
 use Rattle.resb_walk.proofs.Surrogates.{char_alone, no_chars, plain_first}
 use Rattle.resb_shared.proofs.Linked.{lone_some}
-use Rattle.resb_walk.proofs.Surrogates.{nothing}
+use Rattle.resb_walk.proofs.Surrogates.{empty_is_paired}
 
 -- ASCII units are their characters
 ascii_chars : (us : List ℕ) → IsAscii us → utf16_lossy_chars us ≡ us
@@ -64,7 +64,7 @@ ascii_all bs text n same most e =
 -- units below surrogates
 below_paired : (us : List ℕ) → ((k : ℕ) → get_or us k 0 < 0xd800)
     → has_unpaired_surrogate us ≡ false
-below_paired [] h = nothing [] refl
+below_paired [] h = empty_is_paired [] refl
 below_paired (u ∷ us) h = plain_first u us (h 0) ∙ below_paired us (λ k. h (suc k))
 
 front_below : (us : List ℕ) (n : ℕ) → ((k : ℕ) → k < n → get_or us k 0 < 0xd800)

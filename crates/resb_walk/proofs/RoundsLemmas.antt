@@ -17,7 +17,8 @@ use Rattle.resb_walk.proofs.Waits.{waits_refused}
 use Rattle.resb_walk.proofs.Chain.{Chain, chain_none, chain_push, chain_pop, chain_empty}
 use Rattle.resb_walk.proofs.Chain.{chain_refused, Round, Popped}
 
-same_word : {v w : ℕ} → word v ≡ word w → v ≡ w
+-- a word is said by the member that it is
+pub same_word : {v w : ℕ} → word v ≡ word w → v ≡ w
 same_word e = cc
 
 module _ {L T : Type 0} (lists : L → List Tree → Type 0)

@@ -3,7 +3,8 @@ use Rattle.std.proofs.Common.{ℕ, List, ◌≡◌, ◌+◌, Option, Some, None,
 use Rattle.std.specs.Prelude.{option_map}
 use Rattle.resb_tree.specs.Tree.{Tree, string}
 use Rattle.resb_format.specs.Parts.{Parts}
-use Rattle.resb_format.specs.Content.{Member, word, unit, Content, leaf, list, pairs, content}
+use Rattle.resb_format.specs.Content.{Member, word, unit, Content, leaf, list, entry_list}
+use Rattle.resb_format.specs.Content.{content_at}
 use Rattle.resb_format.specs.Denotes.{DenMember, den_word, den_unit, den_leaf}
 use Rattle.resb_format.specs.Strings.{text_at}
 use Rattle.resb_walk.specs.Inner.MemberContent.{member_content, member_refusal}
@@ -28,7 +29,7 @@ same_leaf e = cc
 no_list : {t : Tree} {ms : List Member} → list ms ≡ leaf t → ⊥
 no_list e = cc
 
-no_pairs : {t : Tree} {es : List (ℕ × Member)} → pairs es ≡ leaf t → ⊥
+no_pairs : {t : Tree} {es : List (ℕ × Member)} → entry_list es ≡ leaf t → ⊥
 no_pairs e = cc
 
 no_text : (o : Option (List ℕ)) → option_map (λ t. leaf (string t)) o ≡ None → o ≡ None
@@ -41,13 +42,13 @@ module _ {X L T : Type 0} (is : X → Tree → Type 0) (lists : L → List Tree 
       → member_content p m ≡ Some (content_of s) → Starts is lists tables s r → left' + 1 ≡ left
       → ReadsMember is lists tables p m left left' (Ok r)
   started (word w) s (Made x) left left' e h paid =
-      let stands = subst (λ v. content p w ≡ Some (content_of v)) h.1 e in
+      let stands = subst (λ v. content_at p w ≡ Some (content_of v)) h.1 e in
       (leaf_tree h.0, den_word (den_leaf stands), h.2, paid)
   started (word w) s (Begun (open_.List rest made)) left left' e h paid =
-      let stands = subst (λ v. content p w ≡ Some (content_of v)) h.0 e in
+      let stands = subst (λ v. content_at p w ≡ Some (content_of v)) h.0 e in
       (w, refl, list_begins lists tables p rest made w stands h.1, paid)
   started (word w) s (Begun (open_.Table rest made)) left left' e h paid =
-      let stands = subst (λ v. content p w ≡ Some (content_of v)) h.0 e in
+      let stands = subst (λ v. content_at p w ≡ Some (content_of v)) h.0 e in
       (w, refl, table_begins lists tables p rest made w stands h.1, paid)
   started (unit u) s (Made x) left left' e h paid =
       let r = unit_text (text_at p.block u) (content_of s) e in

@@ -7,8 +7,8 @@ use Rattle.std.specs.Prelude.{sum_by}
 use Rattle.resb_tree.specs.Tree.{string, array, table, binary, integer, int_vector}
 use Rattle.resb_walk.specs.Pieces.{Piece, leaf_piece, array_piece, empty_table, filled_table}
 use Rattle.resb_walk.specs.Pieces.{key_piece}
-use Rattle.resb_walk.specs.Sums.{AddsUp, fitting, tables_in, entries_in, key_bytes_in}
-use Rattle.resb_walk.specs.Sums.{text_bytes_in, binary_bytes_in, numbers_in, resources_in}
+use Rattle.resb_walk.specs.Sums.{AddsUp, fitting, table_count_in, entry_count_in, key_bytes_in}
+use Rattle.resb_walk.specs.Sums.{text_bytes_in, binary_bytes_in, number_count_in, resource_count_in}
 use Rattle.resb_walk.specs.TreeBytes.{piece_bytes, tree_bytes}
 use Rattle.resb_walk.specs.declared.sums.Sums.{Sums}
 
@@ -28,16 +28,16 @@ same_sum f xs x o e h =
 
 module _ (s : Sums) (xs : List Piece) (h : AddsUp s xs) where
   -- a piece that has nothing to sum
-  pub nothing_more : (x : Piece) → tables_in x ≡ 0 → entries_in x ≡ 0 → key_bytes_in x ≡ 0
-      → text_bytes_in x ≡ 0 → binary_bytes_in x ≡ 0 → numbers_in x ≡ 0
+  pub nothing_more : (x : Piece) → table_count_in x ≡ 0 → entry_count_in x ≡ 0 → key_bytes_in x ≡ 0
+      → text_bytes_in x ≡ 0 → binary_bytes_in x ≡ 0 → number_count_in x ≡ 0
       → AddsUp s (xs ++ x ∷ [])
   nothing_more x t e k u b n = record {
-    tables = same_sum tables_in xs x _ t h.tables;
-    entries = same_sum entries_in xs x _ e h.entries;
+    tables = same_sum table_count_in xs x _ t h.tables;
+    entries = same_sum entry_count_in xs x _ e h.entries;
     key_bytes = same_sum key_bytes_in xs x _ k h.key_bytes;
     text_bytes = same_sum text_bytes_in xs x _ u h.text_bytes;
     binary_bytes = same_sum binary_bytes_in xs x _ b h.binary_bytes;
-    numbers = same_sum numbers_in xs x _ n h.numbers;
+    numbers = same_sum number_count_in xs x _ n h.numbers;
   }
 
   -- an array
@@ -72,8 +72,8 @@ fits_not n h =
 
 -- the bytes of one piece, by what it adds to each sum
 one_piece : (x : Piece)
-    → piece_bytes x ≡ 72 * resources_in x + 1024 * tables_in x + 192 * entries_in x
-    + 3 * text_bytes_in x + 4 * numbers_in x
+    → piece_bytes x ≡ 72 * resource_count_in x + 1024 * table_count_in x + 192 * entry_count_in x
+    + 3 * text_bytes_in x + 4 * number_count_in x
 one_piece (leaf_piece (string s)) = omega arith
 one_piece (leaf_piece (array ts)) = omega arith
 one_piece (leaf_piece (table es)) = omega arith
@@ -87,17 +87,17 @@ one_piece (key_piece k) = omega arith
 
 -- the bytes of a tree, by its sums
 pub bytes_by_sums : (xs : List Piece)
-    → tree_bytes xs ≡ 72 * sum_by resources_in xs + 1024 * sum_by tables_in xs
-    + 192 * sum_by entries_in xs + 3 * sum_by text_bytes_in xs + 4 * sum_by numbers_in xs
+    → tree_bytes xs ≡ 72 * sum_by resource_count_in xs + 1024 * sum_by table_count_in xs
+    + 192 * sum_by entry_count_in xs + 3 * sum_by text_bytes_in xs + 4 * sum_by number_count_in xs
 bytes_by_sums [] = omega arith
 bytes_by_sums (x ∷ xs) = omega (
   arith,
   one_piece x,
   bytes_by_sums xs,
   sum_by-cons piece_bytes x xs,
-  sum_by-cons resources_in x xs,
-  sum_by-cons tables_in x xs,
-  sum_by-cons entries_in x xs,
+  sum_by-cons resource_count_in x xs,
+  sum_by-cons table_count_in x xs,
+  sum_by-cons entry_count_in x xs,
   sum_by-cons text_bytes_in x xs,
-  sum_by-cons numbers_in x xs,
+  sum_by-cons number_count_in x xs,
 )

@@ -10,7 +10,7 @@ use Rattle.resb_tree.specs.Tree.{Tree, string, array, table, binary, integer, in
 use Rattle.resb_tree.specs.Tree.{Entries, no_entries, entry, trees_of, map_of, put, put_all}
 use Rattle.resb_tree.specs.Tree.{tree_count, trees_count, entries_count}
 use Rattle.resb_format.specs.Parts.{Parts}
-use Rattle.resb_format.specs.Content.{Member, leaf, content}
+use Rattle.resb_format.specs.Content.{Member, leaf, content_at}
 use Rattle.resb_format.specs.Denotes.{Den, den_leaf, den_list, den_pairs, DenMember, den_word}
 use Rattle.resb_format.specs.Denotes.{den_unit, DenEach, each_none, each_more, DenPairs, pairs_none}
 use Rattle.resb_format.specs.Denotes.{pairs_more}
@@ -188,7 +188,7 @@ module _ (f : Piece → ℕ) where
         all_fill (put k' t' no_entries) ts' (put_fills k' t' no_entries)
 
     -- what has no members by its type
-    leaf_within : {w : ℕ} {xs : List Piece} (t : Tree) → content p w ≡ Some (leaf t)
+    leaf_within : {w : ℕ} {xs : List Piece} (t : Tree) → content_at p w ≡ Some (leaf t)
         → Holds p w xs → Within (sum_of (pieces t)) (sum_of xs) (tree_count t) 1
     leaf_within {w} t e h =
         let one = leaf_piece_of t (content_leaf p w t e) in

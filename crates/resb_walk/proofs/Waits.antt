@@ -4,7 +4,7 @@ use Rattle.std.proofs.Common.{None, refl, sym, ◌∙◌, ap, subst, arith, appe
 use Rattle.resb_tree.specs.Tree.{Tree, array, table, trees_of, map_of}
 use Rattle.resb_format.specs.Parts.{Parts}
 use Rattle.resb_format.specs.Strings.{key_at}
-use Rattle.resb_format.specs.Content.{Member, list, pairs, content}
+use Rattle.resb_format.specs.Content.{Member, list, entry_list, content_at}
 use Rattle.resb_format.specs.Denotes.{Den, den_list, den_pairs, DenMember, each_none}
 use Rattle.resb_format.specs.Denotes.{pairs_none, Reaches, reaches_list, reaches_pairs}
 use Rattle.resb_format.specs.Denotes.{ReachesMember, each_here}
@@ -14,7 +14,7 @@ use Rattle.resb_walk.specs.Inner.Frames.{OpenedList, OpenedTable, ListWaits, Tab
 use Rattle.resb_walk.specs.Inner.Frames.{Waits}
 use Rattle.resb_walk.specs.Refusals.{DenotesNothing, Refuses}
 use Rattle.resb_walk.specs.declared.members.Members.{Members}
-use Rattle.resb_walk.specs.declared.members.Pairs.{Pairs}
+use Rattle.resb_walk.specs.declared.members.TableParts.{TableParts}
 use Rattle.resb_walk.specs.declared.frame.Waiting.{Waiting}
 use Rattle.resb_walk.specs.declared.frame.Waiting.TheVariants as waiting
 use Rattle.resb_format.specs.declared.error.ReadingError.{ReadingError}
@@ -27,13 +27,13 @@ module _ {L T : Type 0} (lists : L → List Tree → Type 0)
     (tables : T → List (List ℕ × Tree) → Type 0) (p : Parts) where
   -- begun
   pub list_begins : (rest : Members) (made : L) (w : ℕ)
-      → content p w ≡ Some (list (members_of rest)) → lists made []
+      → content_at p w ≡ Some (list (members_of rest)) → lists made []
       → OpenedList lists tables p rest made w 0
   list_begins rest made w e h =
       record { done = []; trees = []; stands = e; each = each_none; is_made = h }
 
-  pub table_begins : (rest : Pairs) (made : T) (w : ℕ)
-      → content p w ≡ Some (pairs (keyed_members rest))
+  pub table_begins : (rest : TableParts) (made : T) (w : ℕ)
+      → content_at p w ≡ Some (entry_list (keyed_members rest))
       → tables made [] → OpenedTable lists tables p rest made w 0
   table_begins rest made w e h =
       record { done = []; entries = []; stands = e; each = pairs_none; is_made = h }
@@ -52,7 +52,7 @@ module _ {L T : Type 0} (lists : L → List Tree → Type 0)
     is_made = f h.trees h.is_made;
   }
 
-  pub table_puts : (rest : Pairs) (made made' : T) (key : List ℕ) (w n k : ℕ) (x : Member)
+  pub table_puts : (rest : TableParts) (made made' : T) (key : List ℕ) (w n k : ℕ) (x : Member)
       (t : Tree)
       → (h : TableWaits lists tables p rest made key w x n) → DenMember p x t k
       → ((es : List (List ℕ × Tree)) → tables made es → tables made' (es ++ (key, t) ∷ []))
@@ -62,7 +62,7 @@ module _ {L T : Type 0} (lists : L → List Tree → Type 0)
     entries = h.entries ++ (key, t) ∷ [];
     stands =
         h.stands
-        ∙ ap (λ es. Some (pairs es))
+        ∙ ap (λ es. Some (entry_list es))
         (sym (append_assoc h.done ((h.position, x) ∷ []) (keyed_members rest)));
     each = pairs_snoc p h.position x key t k h.each h.keyed d;
     is_made = f h.entries h.is_made;
@@ -76,21 +76,21 @@ module _ {L T : Type 0} (lists : L → List Tree → Type 0)
       den_list (h.stands ∙ ap (λ ms. Some (list (h.done ++ ms))) e
       ∙ ap (λ ms. Some (list ms)) (append-nil h.done)) h.each
 
-  pub table_ends : (rest : Pairs) (made : T) (w n : ℕ)
+  pub table_ends : (rest : TableParts) (made : T) (w n : ℕ)
       (h : OpenedTable lists tables p rest made w n)
       → keyed_members rest ≡ [] → Den p w (table (map_of h.entries)) (1 + n)
   table_ends rest made w n h e =
-      den_pairs (h.stands ∙ ap (λ es. Some (pairs (h.done ++ es))) e
-      ∙ ap (λ es. Some (pairs es)) (append-nil h.done)) h.each
+      den_pairs (h.stands ∙ ap (λ es. Some (entry_list (h.done ++ es))) e
+      ∙ ap (λ es. Some (entry_list es)) (append-nil h.done)) h.each
 
   -- an entry has no key
-  pub table_no_key : (rest later : Pairs) (place : ℕ) (x : Member) (made : T) (w n : ℕ)
+  pub table_no_key : (rest later : TableParts) (place : ℕ) (x : Member) (made : T) (w n : ℕ)
       → OpenedTable lists tables p rest made w n
       → keyed_members rest ≡ (place, x) ∷ keyed_members later
       → key_at p.keys place ≡ None → (left : ℕ)
       → DenotesNothing (Den p w) (Reaches p w) (left + (1 + n))
   table_no_key rest later place x made w n h e k left =
-      let stands = h.stands ∙ ap (λ es. Some (pairs (h.done ++ es))) e in
+      let stands = h.stands ∙ ap (λ es. Some (entry_list (h.done ++ es))) e in
       let sum : n + left + 1 ≡ left + (1 + n) = omega arith in
       stuck_pairs_of p w (n + left) (left + (1 + n))
       (h.done ++ (place, x) ∷ keyed_members later) stands sum (
@@ -120,7 +120,7 @@ module _ {L T : Type 0} (lists : L → List Tree → Type 0)
       subst (λ i. Reaches p w i) sum (reaches_list h.stands
       (reach_after p (x ∷ members_of rest) (left + 1) h.each (each_here r)))
 
-  pub table_stuck : (rest : Pairs) (made : T) (key : List ℕ) (w n left before : ℕ) (x : Member)
+  pub table_stuck : (rest : TableParts) (made : T) (key : List ℕ) (w n left before : ℕ) (x : Member)
       → TableWaits lists tables p rest made key w x n → left + (1 + n) ≡ before
       → DenotesNothing (DenMember p x) (ReachesMember p x) left
       → DenotesNothing (Den p w) (Reaches p w) before
@@ -135,7 +135,8 @@ module _ {L T : Type 0} (lists : L → List Tree → Type 0)
             (λ k g m. s.1 m) h.each refl r),
       )
 
-  pub table_reaches : (rest : Pairs) (made : T) (key : List ℕ) (w n left before : ℕ) (x : Member)
+  pub table_reaches : (rest : TableParts) (made : T) (key : List ℕ) (w n left before : ℕ)
+      (x : Member)
       → TableWaits lists tables p rest made key w x n → left + (1 + n) ≡ before
       → ReachesMember p x (left + 1) → Reaches p w (before + 1)
   table_reaches rest made key w n left before x h e r =

@@ -4,14 +4,14 @@ use Rattle.std.proofs.Common.{refl, sym, ap, ◌∙◌, subst, arith, length, le
 use Rattle.std.proofs.Common.{append_assoc, append-nil}
 use Rattle.std.proofs.lemmas.List.Sums.{sum_by-cons, sum_by-append}
 use Rattle.resb_format.specs.Parts.{Parts}
-use Rattle.resb_format.specs.Content.{Member, list, pairs}
+use Rattle.resb_format.specs.Content.{Member, list, entry_list}
 use Rattle.resb_format.proofs.Denoting.{same_list, same_pairs, list_pairs}
-use Rattle.resb_walk.specs.Inner.Counting.{Rests, HasLast, Keeps}
+use Rattle.resb_walk.specs.Inner.Counting.{Rests, HasLast, KeepsOuter}
 use Rattle.resb_walk.specs.Inner.Members.{members_of, keyed_members, rest_length, member_of}
-use Rattle.resb_walk.specs.Inner.Weighing.{RestHolds, IsEnd, ToCome, Waiting, waits_none}
-use Rattle.resb_walk.specs.Inner.Weighing.{waits_more, Looked, Nexts, Entered, Weighing}
+use Rattle.resb_walk.specs.Inner.Weighing.{RestHolds, IsEndOf, ToCome, WaitingPieces, waits_none}
+use Rattle.resb_walk.specs.Inner.Weighing.{waits_more, Looked, Nexts, EnteredPieces, Weighing}
 use Rattle.resb_walk.specs.Pieces.{Piece, Holds, HoldsMember}
-use Rattle.resb_walk.specs.Sums.{AddsUp, resources_in, count_of}
+use Rattle.resb_walk.specs.Sums.{AddsUp, resource_count_in, count_of}
 use Rattle.resb_walk.specs.declared.count.Inner.{Inner}
 use Rattle.resb_walk.specs.declared.count.Outer.{Outer}
 use Rattle.resb_walk.specs.declared.members.Member.{Member as Stood}
@@ -22,11 +22,11 @@ use Rattle.resb_walk.proofs.Paths.{last_of}
 
 -- resources of two lists
 count_both : (xs ys : List Piece) → count_of (xs ++ ys) ≡ count_of xs + count_of ys
-count_both xs ys = sum_by-append resources_in xs ys
+count_both xs ys = sum_by-append resource_count_in xs ys
 
 module _ (p : Parts) where
   -- a collection has as many members as are to come of it
-  pub end_has : (r : Rest) (w k : ℕ) → k ≡ rest_length r → IsEnd p r w → HasLast p w k
+  pub end_has : (r : Rest) (w k : ℕ) → k ≡ rest_length r → IsEndOf p r w → HasLast p w k
   end_has (rest.List ms) w k e h =
       inl (
         h.0 ++ members_of ms,
@@ -41,8 +41,8 @@ module _ (p : Parts) where
       )
 
   -- what is still to come of it, found anew
-  pub end_again : (r s : Rest) (w k : ℕ) (xs : List Piece) → k ≡ rest_length r → IsEnd p r w
-      → RestHolds p r xs → Rests p w k s → IsEnd p s w × RestHolds p s xs
+  pub end_again : (r s : Rest) (w k : ℕ) (xs : List Piece) → k ≡ rest_length r → IsEndOf p r w
+      → RestHolds p r xs → Rests p w k s → IsEndOf p s w × RestHolds p s xs
   end_again (rest.List ms) (rest.List ns) w k xs e h g f =
       let same : f.0 ≡ h.0 ++ members_of ms = same_list f.1 h.1 in
       let last : members_of ns ≡ members_of ms =
@@ -54,7 +54,7 @@ module _ (p : Parts) where
       let same : f.0 ≡ h.0 ++ keyed_members es = same_pairs f.1 h.1 in
       let last : keyed_members fs ≡ keyed_members es =
       f.2 ∙ last_of h.0 (keyed_members es) f.0 k e same in (
-        (h.0, h.1 ∙ ap (λ ls. Some (pairs (h.0 ++ ls))) (sym last)),
+        (h.0, h.1 ∙ ap (λ ls. Some (entry_list (h.0 ++ ls))) (sym last)),
         rw (← last) at g,
       )
   end_again (rest.List ms) (rest.Table es) w k xs e h g f = absurd (list_pairs h.1 f.1)
@@ -62,12 +62,13 @@ module _ (p : Parts) where
 
   -- one more collection that waits, at the inner end
   pub waits_push : (c : Outer) (r : Rest) (xs : List Piece) {cs : List Outer} {ys : List Piece}
-      → c.left ≡ rest_length r → IsEnd p r c.word → RestHolds p r xs → Waiting p cs ys
-      → Waiting p (cs ++ c ∷ []) (xs ++ ys)
+      → c.left ≡ rest_length r → IsEndOf p r c.word → RestHolds p r xs → WaitingPieces p cs ys
+      → WaitingPieces p (cs ++ c ∷ []) (xs ++ ys)
   waits_push c r xs e h g waits_none =
-      subst (λ zs. Waiting p (c ∷ []) zs) (sym (append-nil xs)) (waits_more xs r e h g waits_none)
+      subst (λ zs. WaitingPieces p (c
+      ∷ []) zs) (sym (append-nil xs)) (waits_more xs r e h g waits_none)
   waits_push c r xs e h g (waits_more {c = d} {cs = ds} {ys = zs} ys s f i j w) =
-      subst (λ us. Waiting p (d ∷ (ds ++ c ∷ [])) us) (append_assoc xs zs ys)
+      subst (λ us. WaitingPieces p (d ∷ (ds ++ c ∷ [])) us) (append_assoc xs zs ys)
       (waits_more ys s f i j (waits_push c r xs e h g w))
 
   pub record Popped (cs : List Outer) (c : Outer) (zs : List Piece) : Type 0 where
@@ -76,12 +77,13 @@ module _ (p : Parts) where
     pub outer : List Piece
     pub split : zs ≡ inner ++ outer
     pub left_is : c.left ≡ rest_length still
-    pub ends : IsEnd p still c.word
+    pub ends : IsEndOf p still c.word
     pub holds : RestHolds p still inner
-    pub waiting : Waiting p cs outer
+    pub waiting : WaitingPieces p cs outer
 
   -- the innermost one
-  pub waits_pop : (cs : List Outer) (c : Outer) (zs : List Piece) → Waiting p (cs ++ c ∷ []) zs
+  pub waits_pop : (cs : List Outer) (c : Outer) (zs : List Piece)
+      → WaitingPieces p (cs ++ c ∷ []) zs
       → Popped cs c zs
   waits_pop [] c zs (waits_more xs r e h g waits_none) = record {
     still = r;
@@ -105,13 +107,13 @@ module _ (p : Parts) where
         waiting = waits_more xs r e h g i.waiting;
       }
 
-  pub waits_empty : (zs : List Piece) → Waiting p [] zs → zs ≡ []
+  pub waits_empty : (zs : List Piece) → WaitingPieces p [] zs → zs ≡ []
   waits_empty zs waits_none = refl
 
   -- a member without members is summed
   pub enters_leaf : (ys ts us zs : List Piece) (cs : List Outer) (i : Inner) (s : Sums)
-      → Looked p ys zs None s → ToCome p i ts → Waiting p cs us
-      → Entered p (ys ++ (ts ++ us)) zs cs cs i s
+      → Looked p ys zs None s → ToCome p i ts → WaitingPieces p cs us
+      → EnteredPieces p (ys ++ (ts ++ us)) zs cs cs i s
   enters_leaf ys ts us zs cs i s h come w = record {
     new = ys;
     inner = ts;
@@ -127,8 +129,8 @@ module _ (p : Parts) where
   -- one with members is the innermost collection
   pub enters_collection : (ys ts us zs : List Piece) (cs ds : List Outer) (i j : Inner) (c : Outer)
       (s : Sums)
-      → Looked p ys zs (Some j) s → ToCome p i ts → Waiting p cs us
-      → Keeps i c → ds ≡ cs ++ c ∷ [] → Entered p (ys ++ (ts ++ us)) zs cs ds j s
+      → Looked p ys zs (Some j) s → ToCome p i ts → WaitingPieces p cs us
+      → KeepsOuter i c → ds ≡ cs ++ c ∷ [] → EnteredPieces p (ys ++ (ts ++ us)) zs cs ds j s
   enters_collection ys ts us zs cs ds i j c s h come w keeps more =
       let x = h.0 in
       let rest = h.1 in
@@ -140,13 +142,13 @@ module _ (p : Parts) where
         inner = rest;
         outer = ts ++ us;
         split = whole;
-        paid = omega (arith, paid, sum_by-cons resources_in x (rest ++ (ts ++ us)), h.3);
+        paid = omega (arith, paid, sum_by-cons resource_count_in x (rest ++ (ts ++ us)), h.3);
         sums = h.4;
         to_come = h.5;
         waiting =
-            subst (λ es. Waiting p es (ts ++ us)) (sym more)
+            subst (λ es. WaitingPieces p es (ts ++ us)) (sym more)
             (waits_push c i.rest ts keeps.1
-            (subst (λ v. IsEnd p i.rest v) (sym keeps.0) come.ends) come.holds w);
+            (subst (λ v. IsEndOf p i.rest v) (sym keeps.0) come.ends) come.holds w);
         one_more = omega (arith, ap length more, length-append cs (c ∷ []));
       }
 
@@ -165,7 +167,14 @@ module _ (p : Parts) where
         to_come = l.5;
         waiting = waits_none;
         left_is =
-            omega (arith, many, ap count_of whole, sum_by-cons resources_in l.0 (l.1 ++ []), l.3);
+            omega (
+              arith,
+              many,
+              ap count_of whole,
+              sum_by-cons resource_count_in l.0 (l.1
+                  ++ []),
+              l.3,
+            );
       })
 
   module _ (root : ℕ) (cs : List Outer) (i : Inner) (s : Sums) (left : ℕ)
@@ -180,7 +189,7 @@ module _ (p : Parts) where
       pub sums : AddsUp t done
       pub holds : HoldsMember p m member
       pub to_come : ToCome p j inner
-      pub waiting : Waiting p cs outer
+      pub waiting : WaitingPieces p cs outer
       pub left_is : left ≡ count_of (member ++ (inner ++ outer)) + 1
       pub one : 1 ≤ left
 
@@ -213,7 +222,7 @@ module _ (p : Parts) where
 
     pub weighing_enters : (m : Member) (j k : Inner) (t u : Sums) (ds : List Outer)
         → (took : Took m j t)
-        → Entered p (took.member ++ (took.inner ++ took.outer)) took.done cs ds k u
+        → EnteredPieces p (took.member ++ (took.inner ++ took.outer)) took.done cs ds k u
         → Weighing p root ds k u (left - 1)
     weighing_enters m j k t u ds took e =
         let whole : took.done ++ (took.member ++ (took.inner ++ took.outer))
@@ -236,7 +245,8 @@ module _ (p : Parts) where
 
     -- no member is left, and a collection waits
     pub weighing_waits : (c : Outer) (ds : List Outer) → cs ≡ ds ++ c ∷ [] → Popped ds c h.outer
-    weighing_waits c ds e = waits_pop ds c h.outer (subst (λ es. Waiting p es h.outer) e h.waiting)
+    weighing_waits c ds e = waits_pop ds c h.outer
+        (subst (λ es. WaitingPieces p es h.outer) e h.waiting)
 
     pub weighing_again : (t : Sums) (c : Outer) (ds : List Outer) (r : Rest)
         → Nexts p h.inner h.done None t → cs ≡ ds ++ c ∷ [] → Rests p c.word c.left r
@@ -262,7 +272,7 @@ module _ (p : Parts) where
     pub weighing_ends : (t : Sums) → Nexts p h.inner h.done None t → cs ≡ []
         → (xs : List Piece) × Holds p root xs × AddsUp t xs
     weighing_ends t n e =
-        let none = waits_empty h.outer (subst (λ es. Waiting p es h.outer) e h.waiting) in
+        let none = waits_empty h.outer (subst (λ es. WaitingPieces p es h.outer) e h.waiting) in
         let same : h.done ++ (h.inner ++ h.outer) ≡ h.done =
         ap (λ vs. h.done ++ vs) (ap (λ vs. vs ++ h.outer) n.0 ∙ none) ∙ append-nil h.done in
         (h.done, subst (Holds p root) same h.whole, n.1)

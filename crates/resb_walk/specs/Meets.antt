@@ -3,7 +3,7 @@
 --     Blames meets e          an error that is a fault says the one that is met
 use Rattle.std.specs.Prelude.{◌≡◌, ℕ, List, ◌∷◌, ◌++◌, Some, None}
 use Rattle.resb_tree.specs.Tree.{Tree}
-use Rattle.resb_format.specs.Content.{Member, word, unit, list, pairs, content}
+use Rattle.resb_format.specs.Content.{Member, word, unit, list, entry_list, content_at}
 use Rattle.resb_format.specs.Denotes.{DenEach, DenPairs}
 use Rattle.resb_format.specs.Error.{Refusal, refusal_of}
 use Rattle.resb_format.specs.Parts.{Parts}
@@ -18,21 +18,21 @@ module _ (p : Parts) where
   pub data Meets : Member → Refusal → Type 0 where
     -- nothing stands there
     meets_text : {u : ℕ} → text_at p.block u ≡ None → Meets (unit u) (block_text_refusal p.block u)
-    meets_word : {w : ℕ} → content p w ≡ None → Meets (word w) (word_refusal p w)
+    meets_word : {w : ℕ} → content_at p w ≡ None → Meets (word w) (word_refusal p w)
     -- in a member of an array, behind members that denote
     meets_list : {w n : ℕ} {ms : List Member} {ts : List Tree} {m : Member} {f : Refusal}
         (ns : List Member)
-        → content p w ≡ Some (list (ms ++ m ∷ ns)) → DenEach p ms ts n → Meets m f
+        → content_at p w ≡ Some (list (ms ++ m ∷ ns)) → DenEach p ms ts n → Meets m f
         → Meets (word w) f
     -- in the key of an entry, behind entries that denote
     meets_key : {w n : ℕ} {es : List (ℕ × Member)} {ts : List (List ℕ × Tree)} (k : ℕ) (m : Member)
         (fs : List (ℕ × Member))
-        → content p w ≡ Some (pairs (es ++ (k, m) ∷ fs)) → DenPairs p es ts n
+        → content_at p w ≡ Some (entry_list (es ++ (k, m) ∷ fs)) → DenPairs p es ts n
         → key_at p.keys k ≡ None → Meets (word w) (block_key_refusal p.keys k)
     -- in the member of an entry
     meets_entry : {w n : ℕ} {es : List (ℕ × Member)} {ts : List (List ℕ × Tree)} {m : Member}
         {key : List ℕ} {f : Refusal} (k : ℕ) (fs : List (ℕ × Member))
-        → content p w ≡ Some (pairs (es ++ (k, m) ∷ fs)) → DenPairs p es ts n
+        → content_at p w ≡ Some (entry_list (es ++ (k, m) ∷ fs)) → DenPairs p es ts n
         → key_at p.keys k ≡ Some key → Meets m f → Meets (word w) f
 
 -- the error is a fault that is met, if it is one

@@ -7,7 +7,7 @@ use Rattle.resb_tree.specs.Tree.{Tree, string, array, table, binary, integer, in
 use Rattle.resb_tree.specs.Tree.{no_trees, more_trees, Entries, no_entries, entry}
 use Rattle.resb_format.specs.Strings.{text_at, key_at}
 use Rattle.resb_format.specs.Parts.{Parts}
-use Rattle.resb_format.specs.Content.{Member, word, unit, leaf, list, pairs, content}
+use Rattle.resb_format.specs.Content.{Member, word, unit, leaf, list, entry_list, content_at}
 
 -- a resource, without its members, or a key
 pub data Piece : Type 0 where
@@ -29,11 +29,11 @@ module _ (p : Parts) where
   mutual
     -- a resource, and behind it what its members hold
     pub data Holds : ℕ → List Piece → Type 0 where
-      holds_leaf : {w : ℕ} {t : Tree} → content p w ≡ Some (leaf t) → Holds w (leaf_piece t ∷ [])
-      holds_list : {w : ℕ} {ms : List Member} {xs : List Piece} → content p w ≡ Some (list ms)
+      holds_leaf : {w : ℕ} {t : Tree} → content_at p w ≡ Some (leaf t) → Holds w (leaf_piece t ∷ [])
+      holds_list : {w : ℕ} {ms : List Member} {xs : List Piece} → content_at p w ≡ Some (list ms)
           → HoldsEach ms xs → Holds w (array_piece ∷ xs)
       holds_pairs : {w : ℕ} {es : List (ℕ × Member)} {xs : List Piece}
-          → content p w ≡ Some (pairs es) → HoldsPairs es xs → Holds w (table_piece es ∷ xs)
+          → content_at p w ≡ Some (entry_list es) → HoldsPairs es xs → Holds w (table_piece es ∷ xs)
 
     -- a member: a word, or a string of a short collection
     pub data HoldsMember : Member → List Piece → Type 0 where

@@ -6,13 +6,13 @@ ghost use Rattle.resb_format.specs.Bytes.{units_of};
 ghost use Rattle.resb_format.specs.Strings as strings;
 ghost use Rattle.resb_shared.specs.Blocks.{breaks_block, tails_keys};
 ghost use Rattle.resb_format.specs.Parts.{parts_in};
-ghost use Rattle.resb_walk.specs.Inner.Counting.{LooksKey, LooksText, Looks};
+ghost use Rattle.resb_walk.specs.Inner.Counting.{LooksKey, LooksText, LooksAt};
 ghost use Rattle.resb_walk.specs.Inner.Members.{member_of};
 
 use crate::members::{Member, Rest, Standing};
 use crate::standing::{key_at, member_at, text_at};
 use crate::strings::{marked, string_unit};
-use resb_format::{BinaryDeserializerError, File};
+use resb_format::{BinaryDeserializerError, BodyParts};
 use resb_shared::{Breaks, LongTails, SHORT_TAIL};
 use resb_tree::NoMemory;
 use std::alloc::Global;
@@ -25,7 +25,7 @@ const SHORT_STRING: usize = 512;
 /// some of them were looked at twice.
 #[derive(Drop)]
 pub struct Checker<'a> {
-    pub file: File<'a>,
+    pub file: BodyParts<'a>,
     breaks: Option<Breaks<'a>>,
     tails: Option<LongTails<'a>>,
     strings_looked: usize,
@@ -36,7 +36,7 @@ pub struct Checker<'a> {
 
 impl<'a> Checker<'a> {
     /// A file of which nothing is looked at yet.
-    pub fn new(file: File<'a>) -> Checker<'a>
+    pub fn new(file: BodyParts<'a>) -> Checker<'a>
         ensures { result.file ≡ file.entry }
     {
         Checker {
@@ -143,7 +143,7 @@ impl<'a> Checker<'a> {
         alloc: Global,
         member: Member,
     ) -> Result<Option<Rest<'a>>, BinaryDeserializerError>
-        ensures looks { Looks (parts_in self.old.file) (member_of member) result }
+        ensures looks { LooksAt (parts_in self.old.file) (member_of member) result }
         ensures file { self.new.file ≡ self.old.file }
     {
         if let Some(unit) = string_unit(member) {

@@ -5,8 +5,8 @@ ghost use Rattle.std.specs.Prelude.{◌≡◌, ℕ, IfOk, IfErr};
 ghost use Rattle.resb_format.specs.Content as at;
 ghost use Rattle.resb_format.specs.Denotes.{Den, Reaches, DenMember, ReachesMember};
 ghost use Rattle.resb_format.specs.Parts.{parts_in};
-ghost use Rattle.resb_walk.specs.Inner.Counting.{IsOpen, Awaits, Rests, HasLast, Keeps};
-ghost use Rattle.resb_walk.specs.Inner.Counting.{Enters, Takes, Entered};
+ghost use Rattle.resb_walk.specs.Inner.Counting.{IsOpenedAt, Awaits, Rests, HasLast, KeepsOuter};
+ghost use Rattle.resb_walk.specs.Inner.Counting.{EntersMember, TakesNext, EnteredMember};
 ghost use Rattle.resb_walk.specs.Inner.Members.{member_of};
 ghost use Rattle.resb_walk.specs.Meets.{Meets, Blames};
 ghost use Rattle.resb_walk.specs.Refusals.{Answers};
@@ -15,7 +15,7 @@ use crate::checker::Checker;
 use crate::members::{Member, Rest, Standing};
 use crate::standing::{standing_at, text_at};
 use crate::walk::Walk;
-use resb_format::{File, ReadingError};
+use resb_format::{BodyParts, ReadingError};
 use resb_tree::NoMemory;
 use std::alloc::Global;
 
@@ -36,7 +36,7 @@ pub struct Outer {
 
 /// The collection as it waits. No collection of a file has more members than a word tells.
 pub(crate) fn keep(inner: Inner<'_>) -> Result<Outer, NoMemory>
-    ensures { IfOk result (Keeps inner.entry) }
+    ensures { IfOk result (KeepsOuter inner.entry) }
 {
     let Ok(left) = u32::try_from(inner.rest.len()) else {
         return Err(NoMemory);
@@ -48,7 +48,7 @@ pub(crate) fn keep(inner: Inner<'_>) -> Result<Outer, NoMemory>
 }
 
 /// What is still to come of a collection that waited.
-pub(crate) fn again<'a>(file: File<'a>, outer: Outer) -> Rest<'a>
+pub(crate) fn again<'a>(file: BodyParts<'a>, outer: Outer) -> Rest<'a>
     requires { HasLast (parts_in file) outer.word outer.left }
     ensures { Rests (parts_in file.entry) outer.word outer.left result }
 {
@@ -68,7 +68,7 @@ fn begin<'a, 'm>(
     member: Member,
     walk: &mut Walk,
 ) -> Result<Option<Inner<'a>>, ReadingError<'m>>
-    ensures enters { Enters (parts_in checker.old.file) (member_of member) walk.old walk.new
+    ensures enters { EntersMember (parts_in checker.old.file) (member_of member) walk.old walk.new
         result }
     ensures meets { IfErr result (Blames (Meets (parts_in checker.old.file) (member_of member))) }
     ensures file { checker.new.file ≡ checker.old.file }
@@ -92,9 +92,9 @@ fn next<'a, 'm>(
     rest: Rest<'a>,
 ) -> Result<Option<(Member, Rest<'a>)>, ReadingError<'m>>
     ensures takes { let p = parts_in checker.old.file in
-        (w n : ℕ) → IsOpen p rest.entry w n → Takes p w n result }
+        (w n : ℕ) → IsOpenedAt p rest.entry w n → TakesNext p w n result }
     ensures meets { let p = parts_in checker.old.file in
-        (w n : ℕ) → IsOpen p rest.entry w n → IfErr result (Blames (Meets p (at.word w))) }
+        (w n : ℕ) → IsOpenedAt p rest.entry w n → IfErr result (Blames (Meets p (at.word w))) }
     ensures file { checker.new.file ≡ checker.old.file }
 {
     match rest {
@@ -125,7 +125,7 @@ fn enter<'a, 'm>(
 ) -> Result<Inner<'a>, ReadingError<'m>>
     ensures enters { let p = parts_in checker.old.file in let i = inner.entry in
         let m = member_of member in (n : ℕ) → Awaits p i.rest i.word m n
-        → Entered p i m n outer.old.items outer.new.items walk.old walk.new result }
+        → EnteredMember p i m n outer.old.items outer.new.items walk.old walk.new result }
     ensures meets { IfErr result (Blames (Meets (parts_in checker.old.file) (member_of member))) }
     ensures file { checker.new.file ≡ checker.old.file }
 {
@@ -138,7 +138,7 @@ fn enter<'a, 'm>(
 
 /// Counts the string at a unit of the 16-bit block.
 pub fn count_string_at<'m>(
-    file: File<'_>,
+    file: BodyParts<'_>,
     unit: u16,
     walk: &mut Walk,
 ) -> Result<(), ReadingError<'m>>
@@ -155,7 +155,7 @@ pub fn count_string_at<'m>(
 /// Counts the resources at a word. No key and no string is looked at twice as a whole.
 pub fn count_word<'m>(
     alloc: Global,
-    file: File<'_>,
+    file: BodyParts<'_>,
     word: u32,
     walk: &mut Walk,
 ) -> Result<(), ReadingError<'m>>

@@ -11,9 +11,9 @@ ghost use Rattle.resb_walk.specs.Meets.{Meets, Blames};
 ghost use Rattle.resb_walk.specs.Inner.Rounds.{Progresses, Puts};
 
 use crate::make::Make;
-use crate::members::{Member, Members, Pairs};
+use crate::members::{Member, Members, TableParts};
 use crate::standing::key_at;
-use resb_format::{File, ReadingError};
+use resb_format::{BodyParts, ReadingError};
 use std::alloc::Global;
 
 /// A collection whose members are read one by one: those still to come, and what is made of the
@@ -21,14 +21,14 @@ use std::alloc::Global;
 #[derive(Drop)]
 pub enum Open<'a, L, T> {
     List(Members<'a>, L),
-    Table(Pairs<'a>, T),
+    Table(TableParts<'a>, T),
 }
 
 /// An open collection of which a member is being read: for a table also its key.
 #[derive(Drop)]
 pub enum Waiting<'a, L, T> {
     List(Members<'a>, L),
-    Table(Pairs<'a>, T, &'a str),
+    Table(TableParts<'a>, T, &'a str),
 }
 
 /// How an open collection goes on.
@@ -50,7 +50,7 @@ pub enum Read<'a, X, L, T> {
 /// Takes the next member of an open collection, or closes it where none is left.
 pub fn advance<'a, 'm, M: Make<'a>>(
     alloc: Global,
-    file: File<'a>,
+    file: BodyParts<'a>,
     frame: Open<'a, M::List, M::Table>,
 ) -> Result<Progress<'a, M, M::List, M::Table>, ReadingError<'m>>
     ensures steps { (w n : ℕ) → Opened M.lists M.tables (parts_in file.entry) frame.entry w n

@@ -50,7 +50,7 @@ pub enum Positions<'a> {
 
 /// Entries that are still to come.
 #[derive(Clone, Copy)]
-pub struct Pairs<'a> {
+pub struct TableParts<'a> {
     pub keys: Positions<'a>,
     pub members: Members<'a>,
 }
@@ -61,7 +61,7 @@ pub enum Rest<'a> {
     /// Members of an array.
     List(Members<'a>),
     /// Entries of a table.
-    Table(Pairs<'a>),
+    Table(TableParts<'a>),
 }
 
 /// What stands at a word.
@@ -72,7 +72,7 @@ pub enum Standing<'a> {
     /// An array.
     List(Members<'a>),
     /// A table.
-    Table(Pairs<'a>),
+    Table(TableParts<'a>),
 }
 
 impl<'a> Members<'a> {
@@ -171,9 +171,9 @@ impl<'a> Positions<'a> {
     }
 }
 
-impl<'a> Pairs<'a> {
+impl<'a> TableParts<'a> {
     /// How many entries are still to come.
-    #[tactic(auto, using(crate::proofs::Placed::zip_length))]
+    #[tactic(auto, using(crate::proofs::Zips::zip_length))]
     pub fn len(self) -> usize
         ensures { result ≡ length (keyed_members self.entry) }
     {
@@ -181,25 +181,25 @@ impl<'a> Pairs<'a> {
     }
 
     /// The entries behind so many.
-    #[tactic(auto, using(crate::proofs::Placed::zip_length, crate::proofs::Placed::zip_behind))]
-    pub fn behind(self, count: usize) -> Pairs<'a>
+    #[tactic(auto, using(crate::proofs::Zips::zip_length, crate::proofs::Zips::zip_drop))]
+    pub fn behind(self, count: usize) -> TableParts<'a>
         requires { count ≤ length (keyed_members self) }
         ensures { keyed_members result ≡ drop count (keyed_members self.entry) }
     {
-        Pairs {
+        TableParts {
             keys: self.keys.behind(count),
             members: self.members.behind(count),
         }
     }
 
     /// The first entry, and those after it.
-    pub fn split(self) -> Option<(usize, Member, Pairs<'a>)>
+    pub fn split(self) -> Option<(usize, Member, TableParts<'a>)>
         ensures { MatchOption result (keyed_members self.entry ≡ [])
             (λ r. keyed_members self.entry ≡ (r.0, member_of r.1) ∷ keyed_members r.2) }
     {
         let (position, keys) = self.keys.split()?;
         let (member, members) = self.members.split()?;
-        Some((position, member, Pairs { keys, members }))
+        Some((position, member, TableParts { keys, members }))
     }
 }
 

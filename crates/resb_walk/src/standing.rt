@@ -7,7 +7,7 @@ ghost use Rattle.resb_format.specs.Strings as strings;
 ghost use Rattle.resb_format.specs.Descriptor.{type_number};
 ghost use Rattle.resb_format.specs.Types.{is_read_type};
 ghost use Rattle.resb_format.specs.Content as at;
-ghost use Rattle.resb_format.specs.Content.{content};
+ghost use Rattle.resb_format.specs.Content.{content_at};
 ghost use Rattle.resb_format.specs.Error as reading;
 ghost use Rattle.resb_walk.specs.BlockRefusals as refusals;
 ghost use Rattle.resb_walk.specs.BlockRefusals.{Says, block_text_refusal, block_key_refusal};
@@ -18,11 +18,11 @@ ghost use Rattle.resb_walk.specs.Inner.MemberContent.{member_content, member_ref
 ghost use Rattle.resb_walk.specs.Refusals.{IsFault};
 
 use crate::faults::{key_not_utf8, key_past_end, key_unterminated, not_utf16, past_end};
-use crate::members::{Leaf, Member, Members, Pairs, Positions, Standing};
+use crate::members::{Leaf, Member, Members, Positions, Standing, TableParts};
 use crate::types::readable;
 use crate::units::is_well_formed;
 use resb_format::bytes::{cut_at, some_bytes, some_unit, some_units, some_word, some_words};
-use resb_format::{BinaryDeserializerError, File, MAX_UNMARKED, ResourceReprType, string_at};
+use resb_format::{BinaryDeserializerError, BodyParts, MAX_UNMARKED, ResourceReprType, string_at};
 
 /// The number of the first zero byte.
 fn first_zero(bytes: &[u8]) -> Option<usize>
@@ -56,7 +56,7 @@ fn plain_text(block: &[u8], unit: usize) -> Option<&[u8]>
 
 /// The key at a position, in bytes from the body's start: what stands before the next zero byte.
 #[tactic(auto, using(crate::proofs::Keys::at), unfolding(resb_format::specs::Strings::key_at))]
-pub fn key_at(file: File<'_>, at: usize) -> Result<&str, BinaryDeserializerError>
+pub fn key_at(file: BodyParts<'_>, at: usize) -> Result<&str, BinaryDeserializerError>
     ensures stands { let keys = file.entry.keys.now in
         MatchResult result (λ s. strings.key_at keys at ≡ Some s.now)
         (λ e. (strings.key_at keys at ≡ None) × IsFault e) }
@@ -79,7 +79,7 @@ pub fn key_at(file: File<'_>, at: usize) -> Result<&str, BinaryDeserializerError
 
 /// The units of the string at a unit of the 16-bit block, two bytes for each, which are a text.
 #[tactic(auto, using(crate::proofs::Placed::text_some, crate::proofs::Placed::text_unpaired))]
-pub fn text_at(file: File<'_>, unit: usize) -> Result<&[u8], BinaryDeserializerError>
+pub fn text_at(file: BodyParts<'_>, unit: usize) -> Result<&[u8], BinaryDeserializerError>
     ensures stands { let block = units_of file.entry.block.now in
         MatchResult result (λ v. strings.text_at block unit ≡ Some (text_of_bytes v.now))
         (λ e. (strings.text_at block unit ≡ None) × IsFault e) }
@@ -105,10 +105,10 @@ pub fn text_at(file: File<'_>, unit: usize) -> Result<&[u8], BinaryDeserializerE
 /// What stands at a word.
 #[inline(always)]
 #[tactic(auto, unfolding(resb_format::specs::Content::content))]
-pub fn standing_at(file: File<'_>, word: u32) -> Result<Standing<'_>, BinaryDeserializerError>
+pub fn standing_at(file: BodyParts<'_>, word: u32) -> Result<Standing<'_>, BinaryDeserializerError>
     ensures stands { let p = parts_in file.entry in
-        MatchResult result (λ s. content p word ≡ Some (content_of s))
-        (λ e. (content p word ≡ None) × IsFault e) }
+        MatchResult result (λ s. content_at p word ≡ Some (content_of s))
+        (λ e. (content_at p word ≡ None) × IsFault e) }
     ensures says { IfErr result (Says (word_refusal (parts_in file.entry) word)) }
 {
     match readable(word)? {
@@ -121,7 +121,10 @@ pub fn standing_at(file: File<'_>, word: u32) -> Result<Standing<'_>, BinaryDese
 /// What stands at a member.
 #[inline(always)]
 #[tactic(auto, unfolding(crate::specs::Inner::MemberContent::member_content))]
-pub fn member_at(file: File<'_>, member: Member) -> Result<Standing<'_>, BinaryDeserializerError>
+pub fn member_at(
+    file: BodyParts<'_>,
+    member: Member,
+) -> Result<Standing<'_>, BinaryDeserializerError>
     ensures stands { let p = parts_in file.entry in let m = member_of member in
         MatchResult result (λ s. member_content p m ≡ Some (content_of s))
         (λ e. (member_content p m ≡ None) × IsFault e) }
@@ -140,7 +143,7 @@ pub fn member_at(file: File<'_>, member: Member) -> Result<Standing<'_>, BinaryD
 /// What a type with a value other than 0 leads to.
 #[inline(always)]
 fn placed(
-    file: File<'_>,
+    file: BodyParts<'_>,
     kind: ResourceReprType,
     value: usize,
 ) -> Result<Standing<'_>, BinaryDeserializerError>
@@ -169,7 +172,7 @@ fn placed(
 }
 
 /// A count of bytes, and the bytes.
-fn binary_at(file: File<'_>, value: usize) -> Result<Standing<'_>, BinaryDeserializerError>
+fn binary_at(file: BodyParts<'_>, value: usize) -> Result<Standing<'_>, BinaryDeserializerError>
     requires { value < 2 ^ 28 }
     ensures stands { let p = parts_in file.entry in
         MatchResult result (λ s. at.binary_at p value ≡ Some (content_of s))
@@ -186,7 +189,7 @@ fn binary_at(file: File<'_>, value: usize) -> Result<Standing<'_>, BinaryDeseria
 }
 
 /// A count of numbers, and the numbers.
-fn int_vector_at(file: File<'_>, value: usize) -> Result<Standing<'_>, BinaryDeserializerError>
+fn int_vector_at(file: BodyParts<'_>, value: usize) -> Result<Standing<'_>, BinaryDeserializerError>
     requires { value < 2 ^ 28 }
     ensures stands { let p = parts_in file.entry in
         MatchResult result (λ s. at.int_vector_at p value ≡ Some (content_of s))
@@ -203,7 +206,7 @@ fn int_vector_at(file: File<'_>, value: usize) -> Result<Standing<'_>, BinaryDes
 }
 
 /// A count of descriptors, and the descriptors.
-fn array_at(file: File<'_>, value: usize) -> Result<Standing<'_>, BinaryDeserializerError>
+fn array_at(file: BodyParts<'_>, value: usize) -> Result<Standing<'_>, BinaryDeserializerError>
     requires { value < 2 ^ 28 }
     ensures stands { let p = parts_in file.entry in
         MatchResult result (λ s. at.array_at p value ≡ Some (content_of s))
@@ -220,7 +223,7 @@ fn array_at(file: File<'_>, value: usize) -> Result<Standing<'_>, BinaryDeserial
 }
 
 /// A count of offsets, and the offsets.
-fn array16_at(file: File<'_>, value: usize) -> Result<Standing<'_>, BinaryDeserializerError>
+fn array16_at(file: BodyParts<'_>, value: usize) -> Result<Standing<'_>, BinaryDeserializerError>
     requires { value < 2 ^ 28 }
     ensures stands { let p = parts_in file.entry in
         MatchResult result (λ s. at.array16_at p value ≡ Some (content_of s))
@@ -237,7 +240,7 @@ fn array16_at(file: File<'_>, value: usize) -> Result<Standing<'_>, BinaryDeseri
 }
 
 /// A 16-bit count of entries, 16-bit key positions, padding up to a word, and descriptors.
-fn table_at(file: File<'_>, value: usize) -> Result<Standing<'_>, BinaryDeserializerError>
+fn table_at(file: BodyParts<'_>, value: usize) -> Result<Standing<'_>, BinaryDeserializerError>
     requires { value < 2 ^ 28 }
     ensures stands { let p = parts_in file.entry in
         MatchResult result (λ s. at.table_at p value ≡ Some (content_of s))
@@ -254,14 +257,14 @@ fn table_at(file: File<'_>, value: usize) -> Result<Standing<'_>, BinaryDeserial
     let Some(members) = some_words(file.body, value + count / 2 + 1, count) else {
         return Err(past_end());
     };
-    Ok(Standing::Table(Pairs {
+    Ok(Standing::Table(TableParts {
         keys: Positions::Halves(keys),
         members: Members::Words(members),
     }))
 }
 
 /// A count of entries, key positions and offsets, all of 16 bits.
-fn table16_at(file: File<'_>, value: usize) -> Result<Standing<'_>, BinaryDeserializerError>
+fn table16_at(file: BodyParts<'_>, value: usize) -> Result<Standing<'_>, BinaryDeserializerError>
     requires { value < 2 ^ 28 }
     ensures stands { let p = parts_in file.entry in
         MatchResult result (λ s. at.table16_at p value ≡ Some (content_of s))
@@ -278,14 +281,14 @@ fn table16_at(file: File<'_>, value: usize) -> Result<Standing<'_>, BinaryDeseri
     let Some(members) = some_units(file.block, value + 1 + count, count) else {
         return Err(past_end());
     };
-    Ok(Standing::Table(Pairs {
+    Ok(Standing::Table(TableParts {
         keys: Positions::Halves(keys),
         members: Members::Units(members),
     }))
 }
 
 /// A count of entries, key positions and descriptors, all of 32 bits, without padding.
-fn table32_at(file: File<'_>, value: usize) -> Result<Standing<'_>, BinaryDeserializerError>
+fn table32_at(file: BodyParts<'_>, value: usize) -> Result<Standing<'_>, BinaryDeserializerError>
     requires { value < 2 ^ 28 }
     ensures stands { let p = parts_in file.entry in
         MatchResult result (λ s. at.table32_at p value ≡ Some (content_of s))
@@ -302,7 +305,7 @@ fn table32_at(file: File<'_>, value: usize) -> Result<Standing<'_>, BinaryDeseri
     let Some(members) = some_words(file.body, value + 1 + count, count) else {
         return Err(past_end());
     };
-    Ok(Standing::Table(Pairs {
+    Ok(Standing::Table(TableParts {
         keys: Positions::Wholes(keys),
         members: Members::Words(members),
     }))
@@ -318,7 +321,7 @@ fn empty<'a>(kind: ResourceReprType) -> Standing<'a>
     match kind {
         ResourceReprType::Binary => Standing::Leaf(Leaf::Binary(&[])),
         ResourceReprType::Table | ResourceReprType::_Table32 | ResourceReprType::Table16 => {
-            Standing::Table(Pairs {
+            Standing::Table(TableParts {
                 keys: Positions::Halves(&[]),
                 members: Members::Words(&[]),
             })

@@ -4,7 +4,7 @@
 ghost use Rattle.std.specs.Prelude.{◌≡◌, ℕ, ◌++◌, List, IfOk};
 ghost use Rattle.resb_format.specs.Parts.{parts_in};
 ghost use Rattle.resb_walk.specs.Inner.Members.{member_of};
-ghost use Rattle.resb_walk.specs.Inner.Weighing.{ToCome, Waiting, Entered};
+ghost use Rattle.resb_walk.specs.Inner.Weighing.{ToCome, WaitingPieces, EnteredPieces};
 ghost use Rattle.resb_walk.specs.Pieces.{Piece, Holds, HoldsMember};
 ghost use Rattle.resb_walk.specs.Sums.{AddsUp, count_of};
 
@@ -12,7 +12,7 @@ use crate::count::{Inner, Outer, again, keep};
 use crate::members::Member;
 use crate::scale::Scale;
 use crate::sums::Sums;
-use resb_format::File;
+use resb_format::BodyParts;
 use resb_tree::NoMemory;
 use std::alloc::Global;
 
@@ -27,8 +27,8 @@ fn enter<'a>(
 ) -> Result<Inner<'a>, NoMemory>
     ensures { let p = parts_in scale.now.file in (ys ts us zs : List Piece)
         → HoldsMember p (member_of member) ys → ToCome p inner.entry ts
-        → Waiting p outer.old.items us → AddsUp sums.old zs
-        → IfOk result (λ i. Entered p (ys ++ (ts ++ us)) zs outer.old.items outer.new.items i
+        → WaitingPieces p outer.old.items us → AddsUp sums.old zs
+        → IfOk result (λ i. EnteredPieces p (ys ++ (ts ++ us)) zs outer.old.items outer.new.items i
         sums.new) }
 {
     let Some(its) = scale.look(member, sums) else {
@@ -41,7 +41,7 @@ fn enter<'a>(
 /// The sums of the tree at a word, which has so many resources.
 pub fn weigh_word(
     alloc: Global,
-    file: File<'_>,
+    file: BodyParts<'_>,
     word: u32,
     resources: usize,
 ) -> Result<Sums, NoMemory>

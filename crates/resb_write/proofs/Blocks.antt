@@ -12,9 +12,9 @@ use Rattle.resb_tree.specs.Tree.{trees_largest, entries_largest}
 use Rattle.resb_format.specs.Strings.{key_at, before_zero, if_utf8}
 use Rattle.resb_pool.proofs.Zeros.{has_zero, before_zero-found}
 use Rattle.resb_layout.proofs.Numbers.{EachBelow}
-use Rattle.resb_tree.specs.WalkOrder.{walk_order, walk_each, walk_values}
-use Rattle.resb_layout.specs.KeyBlock.{key_bytes, last_of}
-use Rattle.resb_layout.specs.Faults.{has_nul}
+use Rattle.resb_tree.specs.LayingOrder.{laying_order, laying_each, laying_values}
+use Rattle.resb_layout.specs.KeyBlock.{key_bytes, last_place}
+use Rattle.resb_layout.specs.TreeFaults.{has_nul}
 use Rattle.resb_layout.specs.Written.{even}
 use Rattle.resb_write.specs.Inner.Gathered.{largest_of}
 use Rattle.resb_write.proofs.Keys.{last_of-stands}
@@ -30,7 +30,7 @@ key_at-found front k rest u z =
 
 -- a key is read at its position
 pub key_read : (head pad : List ℕ) (js : List (List ℕ)) → length head ≡ 32 → (k : List ℕ) (n : ℕ)
-    → last_of k js ≡ Some n → IsUtf8 k → has_nul k ≡ false
+    → last_place k js ≡ Some n → IsUtf8 k → has_nul k ≡ false
     → key_at (head ++ (key_bytes js ++ pad)) (32 + n) ≡ Some k
 key_read head pad js front k n e u z =
     let s = last_of-stands k js n e in
@@ -80,44 +80,44 @@ largest-append (t ∷ ts) us = omega (arith, largest-append ts us)
 
 mutual
   -- the largest table of a tree is the largest of its walk
-  pub largest_walked : (t : Tree) → largest_of (walk_order t) ≡ largest_table t
+  pub largest_walked : (t : Tree) → largest_of (laying_order t) ≡ largest_table t
   largest_walked (string s) = refl
   largest_walked (array ts) = omega (
     arith,
-    largest-append (walk_each ts) (array ts ∷ []),
+    largest-append (laying_each ts) (array ts ∷ []),
     largest_each ts,
   )
   largest_walked (table es) = omega (
     arith,
-    largest-append (walk_values es) (table es ∷ []),
+    largest-append (laying_values es) (table es ∷ []),
     largest_values es,
   )
   largest_walked (binary s) = refl
   largest_walked (integer n) = refl
   largest_walked (int_vector s) = refl
 
-  largest_each : (ts : Trees) → largest_of (walk_each ts) ≡ trees_largest ts
+  largest_each : (ts : Trees) → largest_of (laying_each ts) ≡ trees_largest ts
   largest_each no_trees = refl
   largest_each (more_trees t ts) = omega (
     arith,
-    largest-append (walk_order t) (walk_each ts),
+    largest-append (laying_order t) (laying_each ts),
     largest_walked t,
     largest_each ts,
   )
 
-  largest_values : (es : Entries) → largest_of (walk_values es) ≡ entries_largest es
+  largest_values : (es : Entries) → largest_of (laying_values es) ≡ entries_largest es
   largest_values no_entries = refl
   largest_values (entry k t es) = omega (
     arith,
-    largest-append (walk_order t) (walk_values es),
+    largest-append (laying_order t) (laying_values es),
     largest_walked t,
     largest_values es,
   )
 
-pub walk_long : (t : Tree) → 0 < length (walk_order t)
+pub walk_long : (t : Tree) → 0 < length (laying_order t)
 walk_long (string s) = omega arith
-walk_long (array ts) = omega (arith, length-append (walk_each ts) (array ts ∷ []))
-walk_long (table es) = omega (arith, length-append (walk_values es) (table es ∷ []))
+walk_long (array ts) = omega (arith, length-append (laying_each ts) (array ts ∷ []))
+walk_long (table es) = omega (arith, length-append (laying_values es) (table es ∷ []))
 walk_long (binary s) = omega arith
 walk_long (integer n) = omega arith
 walk_long (int_vector s) = omega arith

@@ -1,19 +1,20 @@
 -- What was appended closes an array or a table, and takes no more than there is room for.
 use Rattle.std.proofs.Common.{◌≡◌, ℕ, zero, suc, ◌+◌, ◌*◌, ◌%◌, ◌^◌, ◌<◌, ◌≤◌, List, [], ◌∷◌, ◌++◌}
-use Rattle.std.proofs.Common.{length, Bool, true, false, cond, nat_eq, ◌⊎◌, inl, inr, refl, sym}
+use Rattle.std.proofs.Common.{length, true, false, inl, inr, refl, sym}
 use Rattle.std.proofs.Common.{◌∙◌, ap, subst, append_assoc, length-append, arith}
 use Rattle.std.specs.Int.{to_le_bytes, w16, w32}
-use Rattle.std.proofs.lemmas.Bool.{eqb-true, eqb-false}
 use Rattle.std.specs.List.{All}
 use Rattle.resb_tree.specs.Tree.{binary, int_vector}
 use Rattle.resb_layout.specs.Laid.{Lays, lays_bytes, lays_numbers, fill, to_word, to_data}
 use Rattle.resb_layout.specs.Laid.{binary_body, Given, Laid, ClosesArray, short_array, long_array}
 use Rattle.resb_layout.specs.Laid.{ClosesTable, short_table, long_table, wide_table, here, words}
-use Rattle.resb_layout.specs.Laid.{halves, words_body, near_table_body, wide_table_body, pad}
+use Rattle.resb_layout.specs.Laid.{words_body, near_table_body, wide_table_body, pad}
+use Rattle.resb_format.specs.Bytes.{units_as_bytes}
 use Rattle.resb_layout.specs.Laid.{are_short, more_bytes}
 use Rattle.resb_layout.specs.Laid.{are_near, offsets_in}
 use Rattle.resb_layout.proofs.Numbers.{halves_len}
 use Rattle.resb_format.proofs.WordsBack.{written_length}
+use Rattle.resb_layout.proofs.InOrderLemmas.{pad_long}
 
 pub body_long : (ws : List ℕ) → length (words_body ws) ≡ 4 + 4 * length ws
 body_long ws = omega (
@@ -118,27 +119,14 @@ wide_taken bs cs ps ws n e =
       written_length ws,
     )
 
-pad_long : (n : ℕ) → ((n % 2 ≡ 0) × (length (pad n) ≡ 2)) ⊎ ((n % 2 ≡ 1) × (length (pad n) ≡ 0))
-pad_long n = by (nat_eq (n % 2) 0) refl
-  where
-    by : (b : Bool) → nat_eq (n % 2) 0 ≡ b → ((n % 2 ≡ 0) × (length (pad n) ≡ 2))
-        ⊎ ((n % 2 ≡ 1) × (length (pad n) ≡ 0))
-    by true e = inl (
-      eqb-true (n % 2) 0 e,
-      ap (λ b. length {A = ℕ} (cond b (0xaa ∷ 0xaa ∷ []) []))
-          e,
-    )
-    by false e = (let ne = eqb-false (n % 2) 0 e in
-        inr (omega (arith, ne), ap (λ b. length {A = ℕ} (cond b (0xaa ∷ 0xaa ∷ []) [])) e))
-
 -- an even number of positions is padded, so that whole words are taken
 pub table_taken : (bs cs ps ws : List ℕ) → length ps ≡ length ws → cs ≡ bs ++ near_table_body ps ws
     → (length cs ≤ length bs + (8 * length ws + 32)) × (length cs % 4 ≡ length bs % 4)
 table_taken bs cs ps ws n e =
     let a = length-append bs (near_table_body ps ws) in
     let b = length-append (to_le_bytes w16 (length ps))
-    (halves ps ++ (pad (length ps) ++ words ws)) in
-    let d = length-append (halves ps) (pad (length ps) ++ words ws) in
+    (units_as_bytes ps ++ (pad (length ps) ++ words ws)) in
+    let d = length-append (units_as_bytes ps) (pad (length ps) ++ words ws) in
     let f = length-append (pad (length ps)) (words ws) in
     let two : length (to_le_bytes w16 (length ps)) ≡ 2 = refl in
     elim (pad_long (length ps)) [

@@ -11,19 +11,21 @@ use Rattle.std.proofs.lemmas.List.Folds.{list_all-map}
 use Rattle.std.proofs.lemmas.List.Sums.{sum_by-cons, sum_by-append}
 use Rattle.resb_tree.specs.Tree.{Tree, Trees, Entries}
 use Rattle.resb_tree.specs.Tree.{no_entries, entry}
-use Rattle.resb_tree.specs.WalkOrder.{members, values_of, walk_order, walk_each, walk_values}
-use Rattle.resb_tree.specs.WalkOrder.{entry_keys}
+use Rattle.resb_tree.specs.LayingOrder.{array_members, values_of, laying_order, laying_each}
+use Rattle.resb_tree.specs.LayingOrder.{laying_values}
+use Rattle.resb_tree.specs.LayingOrder.{entry_keys}
 use Rattle.resb_layout.specs.Laid.{Given, Laid, is_short_string, are_short, are_near, offsets_in}
 use Rattle.resb_layout.specs.Laid.{ClosesArray, short_array, long_array, ClosesTable, short_table}
 use Rattle.resb_layout.specs.Laid.{long_table, wide_table, Lays, lays_integer}
 use Rattle.resb_layout.specs.Laid.{lays_string, lays_no_bytes, lays_bytes, lays_no_numbers}
 use Rattle.resb_layout.specs.Laid.{lays_numbers, lays_no_items, lays_items, lays_no_entries}
-use Rattle.resb_layout.specs.Laid.{lays_entries, LaysEach, each_none, each_more, members_in}
+use Rattle.resb_layout.specs.Laid.{lays_entries, LaysEach, each_none, each_more, entry_trees}
 use Rattle.resb_write.specs.Inner.Counted.{fits_unit, is_near, are_near_strings, are_near_keys}
 use Rattle.resb_write.specs.Inner.Counted.{short_units, own_units}
-use Rattle.resb_write.proofs.OneBlock.{low, high}
+use Rattle.resb_write.proofs.OneBlock.{below_strings, above_short_strings}
 use Rattle.resb_write.proofs.Closings.{offsets_long}
 use Rattle.resb_write.proofs.KeyViews.{placed_long, keys_values}
+use Rattle.resb_layout.proofs.InOrderLemmas.{laying_each-entry_trees}
 
 -- the word of a string is short where a unit holds its offset
 short_offset : (k : ℕ) → is_short_string (0x6000_0000 + k) ≡ nat_le k 65535
@@ -38,13 +40,9 @@ short_offset k = by (nat_le k 65535) refl
     by false e = (λ i. low_enough i && lt-leb (0x6000_0000 + k) 0x6000_ffff
         (omega (arith, leb-false k 65535 e)) i) ∙ sym e
 
-members_of : (es : Entries) → members (members_in es) ≡ values_of es
+members_of : (es : Entries) → array_members (entry_trees es) ≡ values_of es
 members_of no_entries = refl
 members_of (entry k t es) = ap (λ l. t ∷ l) (members_of es)
-
-walk_of : (es : Entries) → walk_each (members_in es) ≡ walk_values es
-walk_of no_entries = refl
-walk_of (entry k t es) = ap (λ l. walk_order t ++ l) (walk_of es)
 
 -- a short collection that isn't empty has a count and its members' units
 short_is : (b : Bool) (n each : ℕ) → b ≡ true → 0 < n → short_units b n each ≡ each * n + 1
@@ -68,12 +66,12 @@ module _ (g : Given) where
           n,
           short_is (are_near_strings g ts) (length ts) 1 (sym same ∙ m) (omega (arith, some, n)),
         ),
-        high (0x9000_0000 + length s.units) (omega arith),
+        above_short_strings (0x9000_0000 + length s.units) (omega arith),
       )
   array_units {s} {ws} ts n h some (long_array at m f p q) =
       let same : are_short ws ≡ are_near_strings g ts = (λ i. nat_le (n i) 65535 && h i) in (
         omega (arith, long_is (are_near_strings g ts) (length ts) 1 (sym same ∙ m)),
-        high (0x8000_0000 + at) (omega arith),
+        above_short_strings (0x8000_0000 + at) (omega arith),
       )
 
   pub near_keys : (ks : List (List ℕ)) (ps : List ℕ) → map g.position ks ≡ map Some ps
@@ -106,20 +104,20 @@ module _ (g : Given) where
           short_is (are_near_strings g ts && are_near_keys g ks) (length ts) 2 both
               (omega (arith, some, n)),
         ),
-        low (0x5000_0000 + length s.units) (omega (arith, l)),
+        below_strings (0x5000_0000 + length s.units) (omega (arith, l)),
       )
   table_units {s} {ps} {ws} ks ts n m h k some (long_table at r q f p) =
       let same : are_short ws ≡ are_near_strings g ts = (λ i. nat_le (n i) 65535 && h i) in
       let no : (are_near_strings g ts && are_near_keys g ks) ≡ false =
       and_left (are_near_strings g ts) (are_near_keys g ks) (sym same ∙ q) in (
         omega (arith, long_is (are_near_strings g ts && are_near_keys g ks) (length ts) 2 no),
-        low (0x2000_0000 + at) (omega (arith, p)),
+        below_strings (0x2000_0000 + at) (omega (arith, p)),
       )
   table_units {s} {ps} {ws} ks ts n m h k some (wide_table at r f p q z) =
       let no : (are_near_strings g ts && are_near_keys g ks) ≡ false =
       and_right (are_near_strings g ts) (are_near_keys g ks) (k ∙ r) in (
         omega (arith, long_is (are_near_strings g ts && are_near_keys g ks) (length ts) 2 no),
-        low (0x4000_0000 + at) (omega (arith, p)),
+        below_strings (0x4000_0000 + at) (omega (arith, p)),
       )
 
   leaf : (s : Laid) (t : Tree) → own_units g t ≡ 0
@@ -148,23 +146,23 @@ module _ (g : Given) where
   -- near string
   mutual
     pub units : {s e : Laid} {t : Tree} {w : ℕ} → Lays g s t e w
-        → (length e.units ≡ length s.units + sum_by (own_units g) (walk_order t))
+        → (length e.units ≡ length s.units + sum_by (own_units g) (laying_order t))
         × (is_short_string w ≡ is_near g t)
     units {s} {e} {t} (lays_integer {n = n} k) =
-        (leaf s t refl, high (0x7000_0000 + n) (omega arith))
+        (leaf s t refl, above_short_strings (0x7000_0000 + n) (omega arith))
     units {s} {e} {t} (lays_string {text = x} {k = m} k l) =
         (leaf s t refl, short_offset m ∙ sym (ap fits_unit k))
     units {s} {e} {t} lays_no_bytes = (leaf s t refl, refl)
     units {s} {e} {t} (lays_bytes at some n f l) =
-        (leaf s t refl, low (0x1000_0000 + at) (omega (arith, l)))
+        (leaf s t refl, below_strings (0x1000_0000 + at) (omega (arith, l)))
     units {s} {e} {t} lays_no_numbers = (leaf s t refl, refl)
     units {s} {e} {t} (lays_numbers at some n a f l) =
-        (leaf s t refl, high (0xe000_0000 + at) (omega arith))
+        (leaf s t refl, above_short_strings (0xe000_0000 + at) (omega arith))
     units {s} {e} {t} lays_no_items = (leaf s t refl, refl)
     units {s} {e} {t} (lays_items {mid = mid} {ts = ts} {ws = ws} k some c) =
         let r = units_each k in
-        let o = array_units (members ts) r.1 r.2 some c in (
-          one_more_counted (length s.units) (length mid.units) (length e.units) 0 _ (walk_each ts)
+        let o = array_units (array_members ts) r.1 r.2 some c in (
+          one_more_counted (length s.units) (length mid.units) (length e.units) 0 _ (laying_each ts)
               t r.0 o.0
               refl,
           o.1,
@@ -179,15 +177,16 @@ module _ (g : Given) where
         let o = table_units (entry_keys es) (values_of es) n m h
         (near_keys (entry_keys es) ps p.positions) some c in (
           one_more_counted (length s.units) (length mid.units) (length e.units) 0 _
-              (walk_values es) t
-              (r.0 ∙ ap (λ l. length s.units + sum_by (own_units g) l) (walk_of es)) o.0 refl,
+              (laying_values es) t
+              (r.0 ∙ ap (λ l. length s.units + sum_by (own_units g) l)
+              (laying_each-entry_trees es)) o.0 refl,
           o.1,
         )
 
     units_each : {s e : Laid} {ts : Trees} {ws : List ℕ} → LaysEach g s ts e ws
-        → (length e.units ≡ length s.units + sum_by (own_units g) (walk_each ts))
-        × (length ws ≡ length (members ts))
-        × (list_all is_short_string ws ≡ list_all (is_near g) (members ts))
+        → (length e.units ≡ length s.units + sum_by (own_units g) (laying_each ts))
+        × (length ws ≡ length (array_members ts))
+        × (list_all is_short_string ws ≡ list_all (is_near g) (array_members ts))
     units_each {s} each_none = (omega (arith, none), refl, refl)
       where
         none : sum_by (own_units g) [] ≡ 0
@@ -195,7 +194,7 @@ module _ (g : Given) where
     units_each {s} {e} (each_more {t = t} {ts = ts} k ks) =
         let r = units k in
         let rest = units_each ks in (
-          omega (arith, r.0, rest.0, sum_by-append (own_units g) (walk_order t) (walk_each ts)),
+          omega (arith, r.0, rest.0, sum_by-append (own_units g) (laying_order t) (laying_each ts)),
           omega (arith, rest.1),
           (λ i. r.1 i && rest.2 i),
         )

@@ -10,10 +10,10 @@ use Rattle.std.specs.Str.{bytes_eq}
 use Rattle.std.specs.Cmp.Lexicographic.{bytes_decides}
 use Rattle.resb_tree.specs.Keys.{same_text}
 use Rattle.resb_pool.specs.Plan.{nows}
-use Rattle.resb_layout.specs.Fault.{unexpected, limit}
+use Rattle.resb_layout.specs.WritingFault.{unexpected, limit}
 use Rattle.resb_pool.proofs.TextLists.{TextList}
 use Rattle.resb_layout.specs.KeyBlock.{is_among}
-use Rattle.resb_layout.specs.Faults.{is_unlisted, is_far, has_nul, key_fault}
+use Rattle.resb_layout.specs.TreeFaults.{is_unlisted, is_far, has_nul, key_fault}
 use Rattle.std.specs.Prelude.{codes}
 use Rattle.resb_write.proofs.Known.{any_member, member_any}
 

@@ -7,12 +7,12 @@ use Rattle.resb_tree.specs.Tree.{Tree, string, array, table, binary, integer, no
 use Rattle.resb_tree.specs.Tree.{no_entries, entry}
 use Rattle.resb_format.specs.Units.{size}
 use Rattle.resb_format.specs.Bytes.{units_of, words_of}
-use Rattle.resb_layout.specs.Fault.{unexpected, limit, out_of_memory, message_of}
+use Rattle.resb_layout.specs.WritingFault.{unexpected, limit, out_of_memory, message_of}
 use Rattle.resb_pool.specs.Records.{IsRecord, IsHeldBy}
 use Rattle.resb_layout.specs.Laid.{Lays, lays_integer, lays_items, each_none, each_more, long_array}
 use Rattle.resb_layout.specs.KeyBlock.{key_block, key_position, key_bytes, padded}
 use Rattle.resb_layout.specs.PlainSize.{plain_size}
-use Rattle.resb_layout.specs.Faults.{tree_fault}
+use Rattle.resb_layout.specs.TreeFaults.{tree_fault}
 use Rattle.resb_layout.specs.WrittenHead.{written_header, IndexOf}
 use Rattle.resb_write.specs.Inner.Files.{file_of}
 

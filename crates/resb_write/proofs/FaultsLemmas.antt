@@ -6,12 +6,12 @@ use Rattle.std.specs.List.{list_any, flat_map}
 use Rattle.std.specs.Option.{is_none}
 use Rattle.std.proofs.lemmas.Bool.Decides.{nat_tests}
 use Rattle.resb_tree.specs.Tree.{Tree}
-use Rattle.resb_layout.specs.Fault.{string_too_long, unexpected, limit}
+use Rattle.resb_layout.specs.WritingFault.{string_too_long, unexpected, limit}
 use Rattle.resb_pool.specs.Plan.{nows, first_too_long}
-use Rattle.resb_tree.specs.WalkOrder.{text_in}
-use Rattle.resb_layout.specs.KeyBlock.{last_of, keys_start}
-use Rattle.resb_layout.specs.Faults.{has_nul, is_unlisted, is_far, key_fault, is_over_32_bits}
-use Rattle.resb_layout.specs.Faults.{count_fault, first_of}
+use Rattle.resb_tree.specs.LayingOrder.{text_in}
+use Rattle.resb_layout.specs.KeyBlock.{last_place, keys_start}
+use Rattle.resb_layout.specs.TreeFaults.{has_nul, is_unlisted, is_far, key_fault, is_over_32_bits}
+use Rattle.resb_layout.specs.TreeFaults.{count_fault, first_of}
 use Rattle.resb_write.specs.Inner.NearPositions.{near_position, near_position_in}
 use Rattle.resb_write.specs.Inner.Sizes.{size_fault}
 
@@ -38,11 +38,11 @@ far_near (Some n) = same (nat_le (2 ^ 32) (32 + n)) refl
 
 module _ (us js : List (List ℕ)) where
   unlisted_is : list_any (λ k. is_none (near_position_in js k)) us ≡ list_any (is_unlisted js) us
-  unlisted_is = λ i. list_any (λ k. unlisted_near (last_of k js) i) us
+  unlisted_is = λ i. list_any (λ k. unlisted_near (last_place k js) i) us
 
   far_is : list_any (λ k. nat_lt 2147483647 (unwrap_or (near_position_in js k) 0)) us ≡ list_any
       (is_far js) us
-  far_is = λ i. list_any (λ k. far_near (last_of k js) i) us
+  far_is = λ i. list_any (λ k. far_near (last_place k js) i) us
 
   pub unlisted_fault : list_any (λ k. is_none (near_position_in js k)) us ≡ true
       → key_fault us js ≡ Some (unexpected (codes "key not present in position map"))

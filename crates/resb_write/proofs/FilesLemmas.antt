@@ -17,19 +17,20 @@ use Rattle.resb_format.specs.Denotes.{Den}
 use Rattle.resb_pool.specs.Plan.{IsPlan}
 use Rattle.resb_pool.proofs.IsRead.{pool_is_read}
 use Rattle.resb_pool.proofs.ReadBack.{text_at-zero}
-use Rattle.resb_layout.specs.Laid.{Given, Laid, Lays, halves, fill}
+use Rattle.resb_layout.specs.Laid.{Given, Laid, Lays, fill}
+use Rattle.resb_format.specs.Bytes.{units_as_bytes}
 use Rattle.resb_layout.specs.Laws.{IsRead, StandsIn}
 use Rattle.resb_layout.proofs.Numbers.{EachBelow, halves_len}
 use Rattle.resb_layout.proofs.Grows.{grows}
 use Rattle.resb_layout.proofs.Denoted.{laid_is_denoted}
 use Rattle.resb_layout.proofs.Paid.{laid_is_paid}
-use Rattle.resb_tree.specs.WalkOrder.{walk_order, texts_of, values_of}
+use Rattle.resb_tree.specs.LayingOrder.{laying_order, texts_of, values_of}
 use Rattle.resb_write.specs.Inner.Room.{HasRoomFor}
-use Rattle.resb_layout.specs.KeyBlock.{used, key_bytes, padded, key_block, last_of, position_in}
-use Rattle.resb_tree.specs.WalkOrder.{keys_of}
+use Rattle.resb_layout.specs.KeyBlock.{used, key_bytes, padded, key_block, last_place, position_in}
+use Rattle.resb_tree.specs.LayingOrder.{keys_of}
 use Rattle.resb_layout.specs.KeyBlock.{key_position, keys_start}
 use Rattle.resb_layout.specs.PlainSize.{held_size, resources_size, list_size}
-use Rattle.resb_layout.specs.Faults.{key_fault, tree_fault, first_of}
+use Rattle.resb_layout.specs.TreeFaults.{key_fault, tree_fault, first_of}
 use Rattle.resb_layout.specs.WrittenHead.{written_header}
 use Rattle.resb_layout.specs.Written.{even, tail_start, Blocks, Written}
 use Rattle.resb_write.specs.Inner.Gathered.{entry_count_of, largest_of}
@@ -74,7 +75,7 @@ pub record Made (t : Tree) (ks js : List (List ℕ)) : Type 0 where
   pub js_are : js ≡ used (keys_of t) ks
   pub utf8 : All IsUtf8 js
   pub faultless : key_fault (keys_of t) js ≡ None
-  pub small : list_size ks + resources_size (walk_order t) < 2 ^ 28
+  pub small : list_size ks + resources_size (laying_order t) < 2 ^ 28
   pub plan : IsPlan (texts_of t) pool offset
   pub base : ℕ
   pub base_is : base ≡ 32 + length (padded (key_bytes js)) + 2 *
@@ -86,9 +87,9 @@ pub record Made (t : Tree) (ks js : List (List ℕ)) : Type 0 where
   pub root_fits : root < 2 ^ 32
 
 module _ (t : Tree) (ks js : List (List ℕ)) (m : Made t ks js) (largest : ℕ) (fallback : Bool)
-    (largest_is : largest ≡ largest_of (walk_order t)) where
-  abbrev g : Given
-  g = record { position = position_in js; offset = m.offset; base = m.base }
+    (largest_is : largest ≡ largest_of (laying_order t)) where
+  abbrev given : Given
+  given = record { position = position_in js; offset = m.offset; base = m.base }
 
   abbrev block : List ℕ
   block = padded (key_bytes js)
@@ -134,7 +135,7 @@ module _ (t : Tree) (ks js : List (List ℕ)) (m : Made t ks js) (largest : ℕ)
               (
                 omega (arith, keys_small, k, b, m.room.units, m.room.bytes),
                 (
-                  omega (arith, largest_is, largest_room (walk_order t), m.small),
+                  omega (arith, largest_is, largest_room (laying_order t), m.small),
                   (flag_room fallback, (omega (arith, keys_small, k, b, m.room.units), tt)),
                 ),
               ),
@@ -178,9 +179,9 @@ module _ (t : Tree) (ks js : List (List ℕ)) (m : Made t ks js) (largest : ℕ)
   pool_first = (_, m.plan.pool.units)
 
   key_is_read : (k : List ℕ) (at : ℕ) → position_in js k ≡ Some at → key_at parts.keys at ≡ Some k
-  key_is_read k at e = by (last_of k js) refl e
+  key_is_read k at e = by (last_place k js) refl e
     where
-      by : (o : Option ℕ) → last_of k js ≡ o → option_map (λ n. keys_start + n) o ≡ Some at
+      by : (o : Option ℕ) → last_place k js ≡ o → option_map (λ n. keys_start + n) o ≡ Some at
           → key_at parts.keys at ≡ Some k
       by None h f = (let n : None ≡ Some at = f in cc)
       by (Some n) h f =
@@ -192,7 +193,7 @@ module _ (t : Tree) (ks js : List (List ℕ)) (m : Made t ks js) (largest : ℕ)
           (no_nul (keys_of t) js m.faultless k (is_used (keys_of t) js m.faultless ks m.js_are k n
           h))
 
-  is_read : IsRead parts g
+  is_read : IsRead parts given
   is_read = record {
     keys = key_is_read;
     texts = λ s k e. ap (λ l. text_at l k) block_begins
@@ -206,9 +207,9 @@ module _ (t : Tree) (ks js : List (List ℕ)) (m : Made t ks js) (largest : ℕ)
   }
 
   front : List ℕ
-  front = (heads.head whole ++ block) ++ halves us
+  front = (heads.head whole ++ block) ++ units_as_bytes us
 
-  stands : StandsIn parts g m.laid
+  stands : StandsIn parts given m.laid
   unfolding front
   stands = record {
     front = front;
@@ -216,7 +217,7 @@ module _ (t : Tree) (ks js : List (List ℕ)) (m : Made t ks js) (largest : ℕ)
     bytes_behind = [];
     front_is = omega (
       arith,
-      length-append (heads.head whole ++ block) (halves us),
+      length-append (heads.head whole ++ block) (units_as_bytes us),
       length-append (heads.head whole) block,
       heads.head_length whole,
       halves_len us,
@@ -224,22 +225,23 @@ module _ (t : Tree) (ks js : List (List ℕ)) (m : Made t ks js) (largest : ℕ)
       m.base_is,
     );
     block_is = more.1;
-    body_is = sym (append_assoc (heads.head whole) block (halves us ++ m.laid.tail))
-        ∙ sym (append_assoc (heads.head whole ++ block) (halves us) m.laid.tail)
-        ∙ ap (λ l. ((heads.head whole ++ block) ++ halves us) ++ l) (sym (append-nil m.laid.tail));
+    body_is = sym (append_assoc (heads.head whole) block (units_as_bytes us ++ m.laid.tail))
+        ∙ sym (append_assoc (heads.head whole ++ block) (units_as_bytes us) m.laid.tail)
+        ∙ ap (λ l. ((heads.head whole ++ block) ++ units_as_bytes us)
+        ++ l) (sym (append-nil m.laid.tail));
   }
 
   pool_long : 0 < length m.pool
   pool_long = omega (arith, ap length pool_first.1)
 
   den : Den parts m.root t (tree_count t)
-  den = laid_is_denoted parts g (record { units = m.pool; tail = [] }) m.laid t m.root is_read
+  den = laid_is_denoted parts given (record { units = m.pool; tail = [] }) m.laid t m.root is_read
       pool_long m.lays stands
 
   few : 2 * tree_count t ≤ 2 * length m.laid.units + length m.laid.tail
   few = omega (
     arith,
-    laid_is_paid g (record { units = m.pool; tail = [] }) m.laid t m.root m.lays,
+    laid_is_paid given (record { units = m.pool; tail = [] }) m.laid t m.root m.lays,
     pool_long,
   )
 
@@ -249,7 +251,7 @@ module _ (t : Tree) (ks js : List (List ℕ)) (m : Made t ks js) (largest : ℕ)
   start : tail_start (key_block t ks) m.laid ≡ m.base
   start = omega (arith, ap length same_block, even_long m.laid.units, m.base_is)
 
-  given_is : ◌≡◌ {A = Given} g (record {
+  given_is : ◌≡◌ {A = Given} given (record {
     position = key_position t ks;
     offset = m.offset;
     base =
@@ -275,9 +277,9 @@ module _ (t : Tree) (ks js : List (List ℕ)) (m : Made t ks js) (largest : ℕ)
 
   no_fault : tree_fault t ks ≡ None
   no_fault =
-      ap (λ o. first_of o (size_fault (walk_order t))) (ap (key_fault (keys_of t)) (sym m.js_are)
+      ap (λ o. first_of o (size_fault (laying_order t))) (ap (key_fault (keys_of t)) (sym m.js_are)
       ∙ m.faultless)
-      ∙ small_sizes (walk_order t) (omega (arith, m.small))
+      ∙ small_sizes (laying_order t) (omega (arith, m.small))
 
   pub written : Written file t fallback ks
   unfolding blocks
@@ -314,5 +316,5 @@ module _ (t : Tree) (ks js : List (List ℕ)) (m : Made t ks js) (largest : ℕ)
       units_whole,
       ap length same_block,
     );
-    body = heads.behind_head whole ∙ ap (λ l. l ++ (halves us ++ m.laid.tail)) same_block;
+    body = heads.behind_head whole ∙ ap (λ l. l ++ (units_as_bytes us ++ m.laid.tail)) same_block;
   }

@@ -3,9 +3,10 @@ use Rattle.std.proofs.Common.{◌≡◌, ℕ, ◌+◌, ◌*◌, ◌%◌, List, [
 use Rattle.std.proofs.Common.{subst, arith}
 use Rattle.std.proofs.lemmas.List.{drop-drop}
 use Rattle.std.proofs.Math.Seq.{drop-append_seam}
-use Rattle.resb_tree.specs.WalkOrder.{walk_order}
+use Rattle.resb_tree.specs.LayingOrder.{laying_order}
 use Rattle.resb_head.specs.File.{body_of, block_end}
-use Rattle.resb_layout.specs.Laid.{Laid, Given, here, halves}
+use Rattle.resb_layout.specs.Laid.{Laid, Given, here}
+use Rattle.resb_format.specs.Bytes.{units_as_bytes}
 use Rattle.resb_layout.specs.InOrder.{FillsTail}
 use Rattle.resb_layout.proofs.Numbers.{halves_len}
 use Rattle.resb_layout.proofs.InOrderLemmas.{laid_in_order}
@@ -33,15 +34,16 @@ written_in_order bytes t f ks w =
     let begins : here g s ≡ 4 * block_end bytes = omega (arith, ends) in
     let word : here g s % 4 ≡ 0 = omega (arith, begins) in
     let h = laid_in_order g s b.laid t b.root word b.lays in
-    let long : base ≡ keys_start + length keys + length (halves (even b.laid.units)) =
+    let long : base ≡ keys_start + length keys + length (units_as_bytes (even b.laid.units)) =
     omega (arith, halves_len (even b.laid.units)) in
     let behind : drop (4 * block_end bytes) (body_of bytes) ≡ b.laid.tail =
     ap (λ n. drop n (body_of bytes)) (ends ∙ long)
-    ∙ drop_two keys_start (body_of bytes) keys (halves (even b.laid.units)) b.laid.tail w.body in
+    ∙ drop_two keys_start (body_of bytes) keys
+    (units_as_bytes (even b.laid.units)) b.laid.tail w.body in
     record {
-      tail = subst (λ n. FillsTail n (walk_order t) (drop (4 * block_end bytes) (body_of bytes)))
+      tail = subst (λ n. FillsTail n (laying_order t) (drop (4 * block_end bytes) (body_of bytes)))
           begins
-          (subst (λ bs. FillsTail (here g s) (walk_order t) bs) (sym (behind
+          (subst (λ bs. FillsTail (here g s) (laying_order t) bs) (sym (behind
           ∙ h.bytes_are)) h.tail);
       short = h.units;
       units = h.units_are;

@@ -13,10 +13,10 @@ use Rattle.resb_tree.specs.View.{entries_view}
 use Rattle.resb_tree.specs.declared.resource.Resource.{Resource}
 use Rattle.resb_format.specs.Units.{units}
 use Rattle.resb_pool.specs.Plan.{nows, first_too_long}
-use Rattle.resb_tree.specs.WalkOrder.{text_in, values_of}
-use Rattle.resb_tree.specs.WalkOrder.{own_keys}
+use Rattle.resb_tree.specs.LayingOrder.{text_in, values_of}
+use Rattle.resb_tree.specs.LayingOrder.{own_keys}
 use Rattle.resb_layout.specs.PlainSize.{held_size, resources_size}
-use Rattle.resb_layout.specs.Faults.{is_over_32_bits}
+use Rattle.resb_layout.specs.TreeFaults.{is_over_32_bits}
 use Rattle.resb_write.specs.Inner.Gathered.{entry_count_of, largest_of, Gathered}
 use Rattle.resb_write.specs.declared.contents.Contents.{Contents}
 

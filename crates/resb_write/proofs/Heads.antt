@@ -8,7 +8,8 @@ use Rattle.resb_format.specs.Parts.{Parts}
 use Rattle.resb_head.specs.File.{header_size, body_of, root_word, field_count, keys_end}
 use Rattle.resb_head.specs.File.{resources_end, bundle_end, largest_table_field, attributes}
 use Rattle.resb_head.specs.File.{block_end, parts_of, IsBundleFile}
-use Rattle.resb_layout.specs.Laid.{words, halves}
+use Rattle.resb_layout.specs.Laid.{words}
+use Rattle.resb_format.specs.Bytes.{units_as_bytes}
 use Rattle.resb_layout.proofs.Numbers.{EachBelow, words_read, halves_read, halves_len}
 use Rattle.resb_format.proofs.WordsBack.{written_length}
 use Rattle.resb_layout.specs.WrittenHead.{written_header}
@@ -47,29 +48,31 @@ module _ (x : Whole) where
   head = words head_words
 
   abbrev pub body : List ℕ
-  body = head ++ (x.keys ++ (halves x.us ++ x.tail))
+  body = head ++ (x.keys ++ (units_as_bytes x.us ++ x.tail))
 
   abbrev pub file : List ℕ
   file = file_of x.root x.largest x.fallback x.keys x.us x.tail
 
-  abbrev pub k : ℕ
-  k = length x.keys / 4
+  abbrev pub key_words : ℕ
+  key_words = length x.keys / 4
 
-  abbrev pub b : ℕ
-  b = length x.us / 2
+  abbrev pub block_words : ℕ
+  block_words = length x.us / 2
 
-  abbrev pub d : ℕ
-  d = length x.tail / 4
+  abbrev pub tail_words : ℕ
+  tail_words = length x.tail / 4
 
   pub body_is : body_of file ≡ body
   body_is = body_behind body
 
-  words_are : words_of (body_of file) ≡ head_words ++ words_of (x.keys ++ (halves x.us ++ x.tail))
-  words_are = ap words_of body_is ∙ words_read head_words (x.keys ++ (halves x.us ++ x.tail))
+  words_are : words_of (body_of file)
+      ≡ head_words ++ words_of (x.keys ++ (units_as_bytes x.us ++ x.tail))
+  words_are = ap words_of body_is
+      ∙ words_read head_words (x.keys ++ (units_as_bytes x.us ++ x.tail))
       x.words_fit
 
   word_is : (i : ℕ) → get_or (words_of (body_of file)) i 0 ≡ get_or
-      (head_words ++ words_of (x.keys ++ (halves x.us ++ x.tail))) i 0
+      (head_words ++ words_of (x.keys ++ (units_as_bytes x.us ++ x.tail))) i 0
   word_is i = ap (λ ws. get_or ws i 0) words_are
 
   pub root_is : root_word file ≡ x.root
@@ -78,13 +81,13 @@ module _ (x : Whole) where
   pub fields_are : field_count file ≡ 7
   fields_are = word_is 1
 
-  pub keys_end_is : keys_end file ≡ 8 + k
+  pub keys_end_is : keys_end file ≡ 8 + key_words
   keys_end_is = word_is 2
 
-  pub resources_end_is : resources_end file ≡ 8 + k + b + d
+  pub resources_end_is : resources_end file ≡ 8 + key_words + block_words + tail_words
   resources_end_is = word_is 3
 
-  pub bundle_end_is : bundle_end file ≡ 8 + k + b + d
+  pub bundle_end_is : bundle_end file ≡ 8 + key_words + block_words + tail_words
   bundle_end_is = word_is 4
 
   pub largest_is : largest_table_field file ≡ x.largest
@@ -93,22 +96,22 @@ module _ (x : Whole) where
   pub flag_is : attributes file ≡ cond x.fallback 0 1
   flag_is = word_is 6
 
-  pub block_end_is : block_end file ≡ 8 + k + b
+  pub block_end_is : block_end file ≡ 8 + key_words + block_words
   block_end_is = word_is 7
 
-  key_length : length x.keys ≡ 4 * k
+  key_length : length x.keys ≡ 4 * key_words
   key_length = omega (arith, x.keys_whole)
 
-  unit_length : length x.us ≡ 2 * b
+  unit_length : length x.us ≡ 2 * block_words
   unit_length = omega (arith, x.units_whole)
 
-  tail_length : length x.tail ≡ 4 * d
+  tail_length : length x.tail ≡ 4 * tail_words
   tail_length = omega (arith, x.tail_whole)
 
   pub head_length : length head ≡ 32
   head_length = written_length head_words
 
-  pub body_length : length (body_of file) ≡ 4 * (8 + k + b + d)
+  pub body_length : length (body_of file) ≡ 4 * (8 + key_words + block_words + tail_words)
   body_length =
       ap length body_is
       ∙ omega (
@@ -116,43 +119,44 @@ module _ (x : Whole) where
         key_length,
         unit_length,
         tail_length,
-        length-append head (x.keys ++ (halves x.us ++ x.tail)),
-        length-append x.keys (halves x.us ++ x.tail),
-        length-append (halves x.us) x.tail,
+        length-append head (x.keys ++ (units_as_bytes x.us ++ x.tail)),
+        length-append x.keys (units_as_bytes x.us ++ x.tail),
+        length-append (units_as_bytes x.us) x.tail,
         head_length,
         halves_len x.us,
       )
 
-  pub file_length : length file ≡ 32 + 4 * (8 + k + b + d)
+  pub file_length : length file ≡ 32 + 4 * (8 + key_words + block_words + tail_words)
   file_length = omega (arith, length-append written_header body, ap length body_is, body_length)
 
-  front_length : length (head ++ x.keys) ≡ 4 * (8 + k)
+  front_length : length (head ++ x.keys) ≡ 4 * (8 + key_words)
   front_length = omega (arith, key_length, length-append head x.keys, head_length)
 
-  body_split : body ≡ (head ++ x.keys) ++ (halves x.us ++ x.tail)
-  body_split = sym (append_assoc head x.keys (halves x.us ++ x.tail))
+  body_split : body ≡ (head ++ x.keys) ++ (units_as_bytes x.us ++ x.tail)
+  body_split = sym (append_assoc head x.keys (units_as_bytes x.us ++ x.tail))
 
   pub keys_are : take (4 * keys_end file) (body_of file) ≡ head ++ x.keys
   keys_are = (λ i. take (4 * keys_end_is i) ((body_is ∙ body_split) i))
-      ∙ take_at (head ++ x.keys) (halves x.us ++ x.tail) (4 * (8 + k)) front_length
+      ∙ take_at (head ++ x.keys) (units_as_bytes x.us ++ x.tail) (4 * (8 + key_words)) front_length
 
-  pub behind_head : drop 32 (body_of file) ≡ x.keys ++ (halves x.us ++ x.tail)
+  pub behind_head : drop 32 (body_of file) ≡ x.keys ++ (units_as_bytes x.us ++ x.tail)
   behind_head = ap (drop 32) body_is
-      ∙ drop_at head (x.keys ++ (halves x.us ++ x.tail)) 32 head_length
+      ∙ drop_at head (x.keys ++ (units_as_bytes x.us ++ x.tail)) 32 head_length
 
-  rest_is : drop (4 * keys_end file) (body_of file) ≡ halves x.us ++ x.tail
+  rest_is : drop (4 * keys_end file) (body_of file) ≡ units_as_bytes x.us ++ x.tail
   rest_is = (λ i. drop (4 * keys_end_is i) ((body_is ∙ body_split) i))
-      ∙ drop_at (head ++ x.keys) (halves x.us ++ x.tail) (4 * (8 + k)) front_length
+      ∙ drop_at (head ++ x.keys) (units_as_bytes x.us ++ x.tail) (4 * (8 + key_words)) front_length
 
-  halves_long : length (halves x.us) ≡ 4 * (8 + k + b - (8 + k))
+  halves_long : length (units_as_bytes x.us) ≡ 4 * (8 + key_words + block_words - (8 + key_words))
   halves_long = omega (arith, halves_len x.us, unit_length)
 
   block_is : units_of (take (4 * (block_end file - keys_end file))
       (drop (4 * keys_end file) (body_of file))) ≡ x.us
   block_is =
       (λ i. units_of (take (4 * (block_end_is i - keys_end_is i)) (rest_is i)))
-      ∙ ap units_of (take_at (halves x.us) x.tail (4 * (8 + k + b - (8 + k))) halves_long)
-      ∙ ap units_of (sym (append-nil (halves x.us)))
+      ∙ ap units_of (take_at (units_as_bytes x.us) x.tail
+      (4 * (8 + key_words + block_words - (8 + key_words))) halves_long)
+      ∙ ap units_of (sym (append-nil (units_as_bytes x.us)))
       ∙ halves_read x.us [] x.units_fit
       ∙ ap (λ l. x.us ++ l) no_units ∙ append-nil x.us
 

@@ -1,19 +1,13 @@
 -- The keys of a table, and what a map has at each.
-use Rattle.std.proofs.Common.{◌≡◌, ℕ, List, [], ◌∷◌, ◌++◌, map, length, Option, Some, Bool, true}
-use Rattle.std.proofs.Common.{false, IsTrue, ◌<◌, zero, suc, refl, sym, ◌∙◌, ap, arith}
-use Rattle.std.specs.Map.{keys_of}
+use Rattle.std.proofs.Common.{◌≡◌, ℕ, List, [], ◌∷◌, ◌++◌, map, length, Option, Some}
+use Rattle.std.proofs.Common.{refl, sym, ◌∙◌, ap, arith}
 use Rattle.resb_tree.specs.Tree.{Entries, no_entries, entry}
 use Rattle.resb_tree.specs.View.{entries_view}
 use Rattle.resb_tree.specs.declared.resource.Resource.{Resource}
 use Rattle.resb_layout.specs.Laid.{Given, ArePlaced}
 use Rattle.std.proofs.lemmas.List.{length-map}
-use Rattle.resb_tree.specs.WalkOrder.{entry_keys}
-use Rattle.resb_tree.specs.WalkOrder.{values_of}
-
--- the keys of a table, read off its view, are those of its map
-pub keys_view : (es : List (List ℕ × Resource)) → entry_keys (entries_view es) ≡ keys_of es
-keys_view [] = refl
-keys_view (e ∷ es) = ap (λ l. e.0 ∷ l) (keys_view es)
+use Rattle.resb_tree.specs.LayingOrder.{entry_keys}
+use Rattle.resb_tree.specs.LayingOrder.{values_of}
 
 pub keys_long : (es : List (List ℕ × Resource)) → length (entry_keys (entries_view es)) ≡ length es
 keys_long [] = refl
@@ -43,11 +37,3 @@ next_known (a ∷ known) o rest [] e = absurd (omega (arith, ap length e))
 next_known (a ∷ known) o rest (p ∷ ps) e =
     let f : map Some known ++ o ∷ rest ≡ map Some ps = cc in
     next_known known o rest ps f
-
-pub not_none : (n : ℕ) (b : Bool) → (n ≡ 0 → IsTrue b) → b ≡ false → 0 < n
-not_none zero b h e =
-    let t : b ≡ true = h refl in
-    let r : true ≡ false = sym t ∙ e in
-    let bad : 0 < 0 = cc in
-    bad
-not_none (suc n) b h e = omega arith

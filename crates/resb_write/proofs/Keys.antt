@@ -14,7 +14,7 @@ use Rattle.std.proofs.lemmas.List.Concat.{flat_map-append}
 use Rattle.std.proofs.lemmas.List.Folds.{list_any-append}
 use Rattle.resb_tree.specs.Keys.{same_text}
 use Rattle.resb_pool.specs.Plan.{nows}
-use Rattle.resb_layout.specs.KeyBlock.{is_among, key_bytes, last_of}
+use Rattle.resb_layout.specs.KeyBlock.{is_among, key_bytes, last_place}
 use Rattle.resb_write.specs.Inner.NearPositions.{near_position, near_position_in}
 use Rattle.std.proofs.lemmas.List.{map_push}
 
@@ -38,16 +38,16 @@ key_moves a q old new js e h =
     moved false None = refl
     moved false (Some x) = refl
 
-same_found : (k j : List ℕ) (js : List (List ℕ)) (n : ℕ) → last_of k js ≡ Some n
-    → last_of k (j ∷ js) ≡ Some (length j + 1 + n)
+same_found : (k j : List ℕ) (js : List (List ℕ)) (n : ℕ) → last_place k js ≡ Some n
+    → last_place k (j ∷ js) ≡ Some (length j + 1 + n)
 same_found k j js n e = rw e refl
 
-same_none : (k j : List ℕ) (js : List (List ℕ)) → last_of k js ≡ None
-    → last_of k (j ∷ js) ≡ cond (same_text k j) (Some 0) None
+same_none : (k j : List ℕ) (js : List (List ℕ)) → last_place k js ≡ None
+    → last_place k (j ∷ js) ≡ cond (same_text k j) (Some 0) None
 same_none k j js e = rw e refl
 
-same_rest : (k j : List ℕ) (is js : List (List ℕ)) → last_of k is ≡ last_of k js
-    → last_of k (j ∷ is) ≡ last_of k (j ∷ js)
+same_rest : (k j : List ℕ) (is js : List (List ℕ)) → last_place k is ≡ last_place k js
+    → last_place k (j ∷ is) ≡ last_place k (j ∷ js)
 same_rest k j is js e = rw e refl
 
 key_len : (j : List ℕ) (js : List (List ℕ))
@@ -55,24 +55,25 @@ key_len : (j : List ℕ) (js : List (List ℕ))
 key_len j js = omega (arith, length-append (j ++ 0 ∷ []) (key_bytes js), length-append j (0 ∷ []))
 
 -- one more key at the end
-pub last_of-same : (k j : List ℕ) (js : List (List ℕ)) → same_text k j ≡ true
-    → last_of k (js ++ j ∷ []) ≡ Some (length (key_bytes js))
-last_of-same k j [] e = same_none k j [] refl ∙ ap (λ b. cond b (Some 0) None) e
-last_of-same k j (i ∷ js) e = same_found k i (js ++ j ∷ []) _ (last_of-same k j js e)
+pub last_place-same : (k j : List ℕ) (js : List (List ℕ)) → same_text k j ≡ true
+    → last_place k (js ++ j ∷ []) ≡ Some (length (key_bytes js))
+last_place-same k j [] e = same_none k j [] refl ∙ ap (λ b. cond b (Some 0) None) e
+last_place-same k j (i ∷ js) e = same_found k i (js ++ j ∷ []) _ (last_place-same k j js e)
     ∙ ap Some (sym (key_len i js))
 
-pub last_of-other : (k j : List ℕ) (js : List (List ℕ)) → same_text k j ≡ false
-    → last_of k (js ++ j ∷ []) ≡ last_of k js
-last_of-other k j [] e = same_none k j [] refl ∙ ap (λ b. cond b (Some 0) None) e
-last_of-other k j (i ∷ js) e = same_rest k i (js ++ j ∷ []) js (last_of-other k j js e)
+pub last_place-other : (k j : List ℕ) (js : List (List ℕ)) → same_text k j ≡ false
+    → last_place k (js ++ j ∷ []) ≡ last_place k js
+last_place-other k j [] e = same_none k j [] refl ∙ ap (λ b. cond b (Some 0) None) e
+last_place-other k j (i ∷ js) e = same_rest k i (js ++ j ∷ []) js (last_place-other k j js e)
 
-pub last_of-push : (k j : List ℕ) (js : List (List ℕ))
-    → last_of k (js ++ j ∷ []) ≡ cond (same_text k j) (Some (length (key_bytes js))) (last_of k js)
-last_of-push k j js = elim (cases_Bool (same_text k j)) [
-  | inl e ↦ last_of-same k j js e ∙ ap (λ b. cond b (Some (length (key_bytes js))) (last_of k js))
-      (sym e)
-  | inr e ↦ last_of-other k j js e ∙ ap (λ b. cond b (Some (length (key_bytes js))) (last_of k js))
-      (sym e)
+pub last_place-push : (k j : List ℕ) (js : List (List ℕ))
+    → last_place k (js ++ j ∷ [])
+    ≡ cond (same_text k j) (Some (length (key_bytes js))) (last_place k js)
+last_place-push k j js = elim (cases_Bool (same_text k j)) [
+  | inl e ↦ last_place-same k j js e
+      ∙ ap (λ b. cond b (Some (length (key_bytes js))) (last_place k js)) (sym e)
+  | inr e ↦ last_place-other k j js e
+      ∙ ap (λ b. cond b (Some (length (key_bytes js))) (last_place k js)) (sym e)
 ]
 
 pub key_bytes-push : (j : List ℕ) (js : List (List ℕ))
@@ -100,9 +101,9 @@ stands_first k j js n true b e =
     }
 stands_first k j js n false b e = absurd (none-some n (sym (ap (λ t. cond t (Some 0) None) b) ∙ e))
 
-stands_in : (k j : List ℕ) (js : List (List ℕ)) (n : ℕ) (o : Option ℕ) → last_of k js ≡ o
-    → ((m : ℕ) → last_of k js ≡ Some m → StandsAt (key_bytes js) k m)
-    → last_of k (j ∷ js) ≡ Some n → StandsAt (key_bytes (j ∷ js)) k n
+stands_in : (k j : List ℕ) (js : List (List ℕ)) (n : ℕ) (o : Option ℕ) → last_place k js ≡ o
+    → ((m : ℕ) → last_place k js ≡ Some m → StandsAt (key_bytes js) k m)
+    → last_place k (j ∷ js) ≡ Some n → StandsAt (key_bytes (j ∷ js)) k n
 stands_in k j js n (Some m) o later e =
     let s = later m o in
     let f : Some (length j + 1 + m) ≡ Some n = sym (same_found k j js m o) ∙ e in
@@ -124,11 +125,11 @@ stands_in k j js n None o later e =
     stands_first k j js n (same_text k j) refl (sym (same_none k j js o) ∙ e)
 
 -- a key stands at the place of its last occurrence
-pub last_of-stands : (k : List ℕ) (js : List (List ℕ)) (n : ℕ) → last_of k js ≡ Some n
+pub last_of-stands : (k : List ℕ) (js : List (List ℕ)) (n : ℕ) → last_place k js ≡ Some n
     → StandsAt (key_bytes js) k n
 last_of-stands k [] n e = absurd (none-some n e)
 last_of-stands k (j ∷ js) n e =
-    stands_in k j js n (last_of k js) refl (λ m h. last_of-stands k js m h) e
+    stands_in k j js n (last_place k js) refl (λ m h. last_of-stands k js m h) e
 
 filter_yes : (p : List ℕ → Bool) (done rest : List (List ℕ)) (x : List ℕ) → p x ≡ true
     → (done ++ x ∷ []) ++ filter p rest ≡ done ++ filter p (x ∷ rest)
@@ -170,8 +171,8 @@ pub place_moves : (a q : List ℕ) (js : List (List ℕ)) (at : ℕ) (old new : 
 place_moves a q js at old new e p o =
     e ∙ ap (λ s. cond s (Some at) old) (same_either_way a q)
     ∙ (λ i. cond (same_text q a) (Some (p i)) (o i))
-    ∙ sym (map_cond (same_text q a) (length (key_bytes js)) (last_of q js))
-    ∙ ap (option_map near_position) (sym (last_of-push q a js))
+    ∙ sym (map_cond (same_text q a) (length (key_bytes js)) (last_place q js))
+    ∙ ap (option_map near_position) (sym (last_place-push q a js))
 
 pub position_moves : (a : List ℕ) (js : List (List ℕ)) (at next : ℕ)
     → next ≡ min (at + (length a + 1)) (2 ^ 64 - 1)
@@ -185,15 +186,15 @@ position_moves a js at next e p =
     omega (arith, e, p, f, g, h, k)
 
 -- a key that has a place is in the list
-pub place_contained : (k : List ℕ) (js : List (List ℕ)) (n : ℕ) → last_of k js ≡ Some n
+pub place_contained : (k : List ℕ) (js : List (List ℕ)) (n : ℕ) → last_place k js ≡ Some n
     → Contains js k
 place_contained k [] n e = absurd (none-some n e)
 place_contained k (j ∷ js) n e =
-    contained_in k j js n (last_of k js) refl (λ m h. place_contained k js m h) e
+    contained_in k j js n (last_place k js) refl (λ m h. place_contained k js m h) e
   where
-    contained_in : (k j : List ℕ) (js : List (List ℕ)) (n : ℕ) (o : Option ℕ) → last_of k js ≡ o
-        → ((m : ℕ) → last_of k js ≡ Some m → Contains js k)
-        → last_of k (j ∷ js) ≡ Some n → Contains (j ∷ js) k
+    contained_in : (k j : List ℕ) (js : List (List ℕ)) (n : ℕ) (o : Option ℕ) → last_place k js ≡ o
+        → ((m : ℕ) → last_place k js ≡ Some m → Contains js k)
+        → last_place k (j ∷ js) ≡ Some n → Contains (j ∷ js) k
     contained_in k j js n (Some m) o later e = let h = later m o in (suc h.0, omega arith, h.2)
     contained_in k j js n None o later e =
         first_contained k j js n (same_text k j) refl (sym (same_none k j js o) ∙ e)
@@ -204,22 +205,23 @@ place_contained k (j ∷ js) n e =
         first_contained k j js n false b e =
             absurd (none-some n (sym (ap (λ t. cond t (Some 0) None) b) ∙ e))
 
-some_placed : (k j : List ℕ) (js : List (List ℕ)) (o : Option ℕ) → last_of k js ≡ o
-    → last_of k (j ∷ js) ≡ None → last_of k js ≡ None
+some_placed : (k j : List ℕ) (js : List (List ℕ)) (o : Option ℕ) → last_place k js ≡ o
+    → last_place k (j ∷ js) ≡ None → last_place k js ≡ None
 some_placed k j js (Some m) o e =
     absurd (none-some (length j + 1 + m) (sym e ∙ same_found k j js m o))
 some_placed k j js None o e = o
 
 -- a key with no place isn't in the list
-pub no_place : (k : List ℕ) (js : List (List ℕ)) → last_of k js ≡ None → Contains js k → ⊥
+pub no_place : (k : List ℕ) (js : List (List ℕ)) → last_place k js ≡ None → Contains js k → ⊥
 no_place k [] e h = absurd (omega (arith, h.1))
 no_place k (j ∷ js) e (zero, lt, is) =
-    let o = some_placed k j js (last_of k js) refl e in
+    let o = some_placed k j js (last_place k js) refl e in
     let f : Some 0 ≡ None = sym (same_none k j js o
     ∙ ap (λ t. cond t (Some 0) None) ((bytes_decides k j).1 (sym is))) ∙ e in
     none-some 0 (sym f)
-no_place k (j ∷ js) e (suc i, lt, is) = no_place k js (some_placed k j js (last_of k js) refl e) (
-  i,
-  omega arith,
-  is,
-)
+no_place k (j ∷ js) e (suc i, lt, is) =
+    no_place k js (some_placed k j js (last_place k js) refl e) (
+      i,
+      omega arith,
+      is,
+    )

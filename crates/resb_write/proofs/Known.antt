@@ -13,12 +13,12 @@ use Rattle.std.proofs.lemmas.List.Elements.{Contains-append_right}
 use Rattle.std.proofs.lemmas.List.Folds.{Any-from_list_any, list_any-from_Any}
 use Rattle.resb_tree.specs.Tree.{Tree}
 use Rattle.resb_tree.specs.Keys.{same_text}
-use Rattle.resb_layout.specs.Fault.{Fault}
+use Rattle.resb_layout.specs.WritingFault.{WritingFault}
 use Rattle.resb_pool.specs.Plan.{IsPlan}
 use Rattle.resb_pool.specs.Pool.{Off}
 use Rattle.resb_pool.proofs.IsRead.{pool_is_read}
-use Rattle.resb_layout.specs.KeyBlock.{used, is_among, last_of, position_in, keys_start}
-use Rattle.resb_layout.specs.Faults.{has_nul, is_unlisted, is_far, key_fault}
+use Rattle.resb_layout.specs.KeyBlock.{used, is_among, last_place, position_in, keys_start}
+use Rattle.resb_layout.specs.TreeFaults.{has_nul, is_unlisted, is_far, key_fault}
 use Rattle.resb_write.specs.Inner.NearPositions.{near_position, near_position_in}
 use Rattle.resb_write.proofs.Keys.{place_contained}
 
@@ -47,10 +47,10 @@ module _ {X : Type 0} where
   kept_by p y ys x f false e h = (let k = f h in (k.0, Contains-append_right (y ∷ []) ys x k.1))
 
   -- what a filter keeps passes its test, and was there
-  pub kept : (p : X → Bool) (xs : List X) (x : X) → Contains (filter p xs) x → (p x ≡ true)
+  pub filter_passes : (p : X → Bool) (xs : List X) (x : X) → Contains (filter p xs) x → (p x ≡ true)
       × Contains xs x
-  kept p [] x h = absurd (omega (arith, h.1))
-  kept p (y ∷ ys) x h = kept_by p y ys x (kept p ys x) (p y) refl h
+  filter_passes p [] x h = absurd (omega (arith, h.1))
+  filter_passes p (y ∷ ys) x h = kept_by p y ys x (filter_passes p ys x) (p y) refl h
 
   pub all_from : (P : X → Type 0) (xs : List X) → ((x : X) → Contains xs x → P x) → All P xs
   all_from P [] f = All-nil P
@@ -68,7 +68,8 @@ module _ {A : Type 0} where
 
 -- where keys us with those that are listed js have no fault
 module _ (us js : List (List ℕ)) (faultless : key_fault us js ≡ None) where
-  parts : (a b c : Bool) (x y z : Fault) → cond a (Some x) (cond b (Some y) (cond c (Some z) None))
+  parts : (a b c : Bool) (x y z : WritingFault)
+      → cond a (Some x) (cond b (Some y) (cond c (Some z) None))
       ≡ None → (a ≡ false) × (b ≡ false) × (c ≡ false)
   parts true b c x y z e = (let n : Some x ≡ None = e in cc)
   parts false true c x y z e = (let n : Some y ≡ None = e in cc)
@@ -100,15 +101,15 @@ module _ (us js : List (List ℕ)) (faultless : key_fault us js ≡ None) where
 
   module _ (ks : List (List ℕ)) (js_are : js ≡ used us ks) where
     -- a listed key that has a place is used
-    pub is_used : (k : List ℕ) (n : ℕ) → last_of k js ≡ Some n → Contains us k
+    pub is_used : (k : List ℕ) (n : ℕ) → last_place k js ≡ Some n → Contains us k
     is_used k n e =
-        let c = kept (is_among us) ks k
+        let c = filter_passes (is_among us) ks k
         (subst (λ l. Contains l k) js_are (place_contained k js n e)) in
         let m = any_member (same_text k) us c.0 in
         subst (Contains us) (sym ((bytes_decides k m.0).0 m.2)) m.1
 
     -- no position is cut
-    near_is : (k : List ℕ) (o : Option ℕ) → last_of k js ≡ o
+    near_is : (k : List ℕ) (o : Option ℕ) → last_place k js ≡ o
         → option_map near_position o ≡ option_map (λ n. keys_start + n) o
     near_is k None e = refl
     near_is k (Some n) e =
@@ -119,7 +120,7 @@ module _ (us js : List (List ℕ)) (faultless : key_fault us js ≡ None) where
         ap Some (omega (arith, ltb-false 2147483647 (32 + n) l))
 
     pub exact : (k : List ℕ) → near_position_in js k ≡ position_in js k
-    exact k = near_is k (last_of k js) refl
+    exact k = near_is k (last_place k js) refl
 
 -- where the texts S are planned
 module _ (S : List (List ℕ)) (us : List ℕ) (offset : List ℕ → Option ℕ) (plan : IsPlan S us offset)

@@ -9,15 +9,16 @@ use Rattle.std.proofs.lemmas.Bool.{or_left, or_right, true≢false}
 use Rattle.resb_tree.specs.Tree.{Tree, string, array, table, binary, integer, int_vector, Trees}
 use Rattle.resb_tree.specs.Tree.{no_trees, more_trees, Entries, no_entries, entry}
 use Rattle.resb_tree.specs.Keys.{same_text, is_key, is_key_in, is_key_of}
-use Rattle.resb_layout.specs.Fault.{Fault, string_too_long, unexpected, limit, out_of_memory}
+use Rattle.resb_layout.specs.WritingFault.{WritingFault, string_too_long, unexpected, limit}
+use Rattle.resb_layout.specs.WritingFault.{out_of_memory}
 use Rattle.resb_pool.specs.Plan.{first_too_long}
-use Rattle.resb_tree.specs.WalkOrder.{entry_keys}
-use Rattle.resb_tree.specs.WalkOrder.{walk_order, walk_each, walk_values, texts_of}
-use Rattle.resb_layout.specs.KeyBlock.{is_among, used, last_of}
-use Rattle.resb_tree.specs.WalkOrder.{own_keys, keys_of}
+use Rattle.resb_tree.specs.LayingOrder.{entry_keys}
+use Rattle.resb_tree.specs.LayingOrder.{laying_order, laying_each, laying_values, texts_of}
+use Rattle.resb_layout.specs.KeyBlock.{is_among, used, last_place}
+use Rattle.resb_tree.specs.LayingOrder.{own_keys, keys_of}
 use Rattle.resb_layout.specs.KeyBlock.{keys_start}
-use Rattle.resb_layout.specs.Faults.{has_nul, is_unlisted, is_far, is_over_32_bits}
-use Rattle.resb_layout.specs.Faults.{tree_fault, first_of}
+use Rattle.resb_layout.specs.TreeFaults.{has_nul, is_unlisted, is_far, is_over_32_bits}
+use Rattle.resb_layout.specs.TreeFaults.{tree_fault, first_of}
 use Rattle.resb_write.proofs.Keys.{no_place}
 use Rattle.resb_write.proofs.Known.{any_member}
 use Rattle.resb_write.proofs.Distinct.{contains_among}
@@ -52,37 +53,37 @@ mutual
   contained_is_key k (string s) h = absurd (omega (arith, h.1))
   contained_is_key k (array ts) h =
       ⊎_elim (λ g. contained_each k ts g) (λ g. absurd (omega (arith, g.1)))
-      (Contains-append_cases (flat_map own_keys (walk_each ts)) [] k
-      (subst (λ l. Contains l k) (flat_map-append own_keys (walk_each ts) (array ts ∷ [])) h))
+      (Contains-append_cases (flat_map own_keys (laying_each ts)) [] k
+      (subst (λ l. Contains l k) (flat_map-append own_keys (laying_each ts) (array ts ∷ [])) h))
   contained_is_key k (table es) h =
       ⊎_elim (λ g. contained_values k es g)
       (λ g. contained_own k es (subst (λ l. Contains l k) (append-nil (entry_keys es)) g))
-      (Contains-append_cases (flat_map own_keys (walk_values es)) (entry_keys es ++ []) k
-      (subst (λ l. Contains l k) (flat_map-append own_keys (walk_values es) (table es ∷ [])) h))
+      (Contains-append_cases (flat_map own_keys (laying_values es)) (entry_keys es ++ []) k
+      (subst (λ l. Contains l k) (flat_map-append own_keys (laying_values es) (table es ∷ [])) h))
   contained_is_key k (binary s) h = absurd (omega (arith, h.1))
   contained_is_key k (integer n) h = absurd (omega (arith, h.1))
   contained_is_key k (int_vector s) h = absurd (omega (arith, h.1))
 
-  contained_each : (k : List ℕ) (ts : Trees) → Contains (flat_map own_keys (walk_each ts)) k
+  contained_each : (k : List ℕ) (ts : Trees) → Contains (flat_map own_keys (laying_each ts)) k
       → is_key_in k ts ≡ true
   contained_each k no_trees h = absurd (omega (arith, h.1))
   contained_each k (more_trees t ts) h =
       ⊎_elim (λ g. or_left _ _ (contained_is_key k t g))
       (λ g. or_right _ _ (contained_each k ts g))
-      (Contains-append_cases (keys_of t) (flat_map own_keys (walk_each ts)) k
-      (subst (λ l. Contains l k) (flat_map-append own_keys (walk_order t) (walk_each ts)) h))
+      (Contains-append_cases (keys_of t) (flat_map own_keys (laying_each ts)) k
+      (subst (λ l. Contains l k) (flat_map-append own_keys (laying_order t) (laying_each ts)) h))
 
-  contained_values : (k : List ℕ) (es : Entries) → Contains (flat_map own_keys (walk_values es)) k
+  contained_values : (k : List ℕ) (es : Entries) → Contains (flat_map own_keys (laying_values es)) k
       → is_key_of k es ≡ true
   contained_values k no_entries h = absurd (omega (arith, h.1))
   contained_values k (entry j t es) h =
       ⊎_elim (λ g. or_left _ _ (or_right (same_text k j) _ (contained_is_key k t g)))
       (λ g. or_right _ _ (contained_values k es g))
-      (Contains-append_cases (keys_of t) (flat_map own_keys (walk_values es)) k
-      (subst (λ l. Contains l k) (flat_map-append own_keys (walk_order t) (walk_values es)) h))
+      (Contains-append_cases (keys_of t) (flat_map own_keys (laying_values es)) k
+      (subst (λ l. Contains l k) (flat_map-append own_keys (laying_order t) (laying_values es)) h))
 
 -- the length of what is said, where a tree and keys don't belong together
-said : Fault → ℕ
+said : WritingFault → ℕ
 said (unexpected message) = length message
 said (string_too_long n) = 0
 said (limit message) = 0
@@ -98,9 +99,9 @@ module _ (t : Tree) (ks : List (List ℕ)) (listed : (k : List ℕ) → is_key k
 
   placed : (k : List ℕ) → Contains us k → is_unlisted js k ≡ true → ⊥
   unfolding us js
-  placed k c e = by (last_of k js) refl e
+  placed k c e = by (last_place k js) refl e
     where
-      by : (o : Option ℕ) → last_of k (used (keys_of t) ks) ≡ o
+      by : (o : Option ℕ) → last_place k (used (keys_of t) ks) ≡ o
           → is_none (option_map (λ n. keys_start + n) o) ≡ true → ⊥
       by None h e = no_place k (used (keys_of t) ks) h (contained-filter (is_among (keys_of t)) ks k
           (contains_among (keys_of t) k c) (listed k (contained_is_key k t c)))
@@ -114,7 +115,7 @@ module _ (t : Tree) (ks : List (List ℕ)) (listed : (k : List ℕ) → is_key k
       by true e = (let m = any_member (is_unlisted js) us e in absurd (placed m.0 m.1 m.2))
 
   -- what the fault says, if it is none of that a key isn't listed
-  later_faults : (a b c d : Bool) (long : Option ℕ) (f : Fault) → a ≡ false
+  later_faults : (a b c d : Bool) (long : Option ℕ) (f : WritingFault) → a ≡ false
       → first_of (cond a (Some (unexpected (codes "key not present in position map")))
       (cond b (Some (unexpected (codes "key contains U+0000")))
       (cond c (Some (limit (codes "key position over 2147483647"))) None)))
@@ -136,12 +137,12 @@ module _ (t : Tree) (ks : List (List ℕ)) (listed : (k : List ℕ) → is_key k
   later_faults false false false false None f e h q = (let g : None ≡ Some f = h in cc)
 
   -- where each used key is listed, the first fault is no unlisted key
-  pub not_unlisted : (f : Fault) → tree_fault t ks ≡ Some f
+  pub not_unlisted : (f : WritingFault) → tree_fault t ks ≡ Some f
       → f ≡ unexpected (codes "key not present in position map") → ⊥
   unfolding us js
   not_unlisted f h q =
       later_faults (list_any (is_unlisted js) us) (list_any has_nul us) (list_any (is_far js) us)
-      (list_any is_over_32_bits (walk_order t)) (first_too_long (texts_of t)) f all_listed h q
+      (list_any is_over_32_bits (laying_order t)) (first_too_long (texts_of t)) f all_listed h q
 
   -- want of memory is another refusal than an unlisted key
   pub not_memory : out_of_memory ≡ unexpected (codes "key not present in position map") → ⊥

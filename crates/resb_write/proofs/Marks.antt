@@ -9,9 +9,9 @@ use Rattle.std.proofs.lemmas.List.{length-append, length-map, map-append, map_pu
 use Rattle.std.proofs.lemmas.List.Folds.{list_all-map}
 use Rattle.resb_tree.specs.Tree.{Tree, string, array, table, binary, integer, int_vector, Trees}
 use Rattle.resb_tree.specs.Tree.{Entries}
-use Rattle.resb_tree.specs.WalkOrder.{members, values_of, children, entry_keys}
+use Rattle.resb_tree.specs.LayingOrder.{array_members, values_of, children, entry_keys}
 use Rattle.resb_layout.specs.Laid.{Given, are_near}
-use Rattle.resb_write.specs.Inner.Room.{Numbered, most_units}
+use Rattle.resb_write.specs.Inner.Room.{GivesInTurn, most_units}
 use Rattle.resb_write.specs.Inner.Counted.{fits_unit, is_near, are_near_strings, short_units}
 use Rattle.resb_write.specs.Inner.Counted.{own_units, are_set_behind, CountsOne}
 use Rattle.resb_write.specs.declared.sites.Coming.{Coming}
@@ -54,7 +54,7 @@ put g below t b e = ap (λ k. map (is_near g) below ++ k ∷ []) (sym e)
 
 module _ (g : Given) (rest below : List Tree) (ps os : List ℕ) (new : Coming)
     (marks out : List Bool) (n : ℕ) where
-  pub string_one : (s : List ℕ) → Numbered g ps os (string s ∷ rest)
+  pub string_one : (s : List ℕ) → GivesInTurn g ps os (string s ∷ rest)
       → marks ≡ map (is_near g) (below ++ []) → n ≡ 0 → new.positions.now ≡ ps
       → ((k : ℕ) (ks : List ℕ) → os ≡ k ∷ ks → (out ≡ marks ++ nat_le k 65535 ∷ [])
       × (new.offsets.now ≡ ks)) → CountsOne g (string s) rest below n new out
@@ -71,7 +71,7 @@ module _ (g : Given) (rest below : List Tree) (ps os : List ℕ) (new : Coming)
       }
 
   pub other_one : (t : Tree) → children t ≡ [] → own_units g t ≡ 0 → is_near g t ≡ false
-      → Numbered g new.positions.now new.offsets.now rest
+      → GivesInTurn g new.positions.now new.offsets.now rest
       → marks ≡ map (is_near g) (below ++ children t)
       → (n ≡ 0) × (out ≡ marks ++ false ∷ []) → CountsOne g t rest below n new out
   other_one t none zero far left e r = record {
@@ -81,23 +81,23 @@ module _ (g : Given) (rest below : List Tree) (ps os : List ℕ) (new : Coming)
     left = left;
   }
 
-  pub array_one : (ts : Trees) (k : ℕ) → length (members ts) ≡ k
-      → Numbered g new.positions.now new.offsets.now rest
-      → marks ≡ map (is_near g) (below ++ members ts)
+  pub array_one : (ts : Trees) (k : ℕ) → length (array_members ts) ≡ k
+      → GivesInTurn g new.positions.now new.offsets.now rest
+      → marks ≡ map (is_near g) (below ++ array_members ts)
       → (n ≡ short_units (are_set_behind k marks) k 1)
       × (out ≡ take (length marks - k) marks ++ false ∷ [])
       → CountsOne g (array ts) rest below n new out
   array_one ts k many left e r = record {
-    units = r.0 ∙ (λ i. short_units (all_near g below (members ts) k marks many e i)
+    units = r.0 ∙ (λ i. short_units (all_near g below (array_members ts) k marks many e i)
         (sym many i) 1);
-    stack = r.1 ∙ ap (λ l. l ++ false ∷ []) (under g below (members ts) k marks many e)
+    stack = r.1 ∙ ap (λ l. l ++ false ∷ []) (under g below (array_members ts) k marks many e)
         ∙ put g below (array ts) false refl;
     left = left;
   }
 
   pub table_one : (es : Entries) (qs : List ℕ) (k : ℕ) → length (entry_keys es) ≡ k
       → length qs ≡ k → qs ≡ take k ps → new.positions.now ≡ drop k ps → new.offsets.now ≡ os
-      → Numbered g ps os (table es ∷ rest)
+      → GivesInTurn g ps os (table es ∷ rest)
       → marks ≡ map (is_near g) (below ++ values_of es)
       → (n ≡ short_units (are_set_behind (length qs) marks && are_near qs) (length qs) 2)
       × (out ≡ take (length marks - length qs) marks ++ false ∷ [])
@@ -123,7 +123,8 @@ few b n each h = by (b && nat_lt 0 n) refl
 -- no body takes more units than there is room for
 pub own_few : (g : Given) (t : Tree) → own_units g t ≤ most_units t
 own_few g (string s) = omega arith
-own_few g (array ts) = few (are_near_strings g (members ts)) (length (members ts)) 1 (omega arith)
+own_few g (array ts) = few (are_near_strings g (array_members ts)) (length (array_members ts)) 1
+    (omega arith)
 own_few g (table es) = few _ (length (values_of es)) 2 (omega arith)
 own_few g (binary s) = omega arith
 own_few g (integer n) = omega arith

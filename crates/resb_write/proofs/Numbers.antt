@@ -4,9 +4,9 @@ use Rattle.std.proofs.Common.{drop, Option, Some, refl, sym, ◌∙◌, ap, subs
 use Rattle.std.specs.List.{flat_map}
 use Rattle.std.proofs.lemmas.List.Elements.{All-head, All-tail}
 use Rattle.resb_tree.specs.Tree.{Tree, Entries, string, table}
-use Rattle.resb_tree.specs.WalkOrder.{entry_keys, own_keys, text_in}
+use Rattle.resb_tree.specs.LayingOrder.{entry_keys, own_keys, text_in}
 use Rattle.resb_layout.specs.Laid.{Given}
-use Rattle.resb_write.specs.Inner.Room.{Numbered}
+use Rattle.resb_write.specs.Inner.Room.{GivesInTurn}
 
 -- of places that are known for two lists in a row, the first ones are those of the first list
 record Parts (f : List ℕ → Option ℕ) (xs ys : List (List ℕ)) (ps : List ℕ) : Type 0 where
@@ -35,10 +35,10 @@ pub record BehindString (g : Given) (ps os : List ℕ) (s : List ℕ) (rest : Li
   pub is : os ≡ first ∷ more
   pub known : g.offset s ≡ Some first
   pub near : first < 2 ^ 28
-  pub left : Numbered g ps more rest
+  pub left : GivesInTurn g ps more rest
 
 pub behind_string : (g : Given) (ps os : List ℕ) (s : List ℕ) (rest : List Tree)
-    → Numbered g ps os (string s ∷ rest) → BehindString g ps os s rest
+    → GivesInTurn g ps os (string s ∷ rest) → BehindString g ps os s rest
 behind_string g ps [] s rest n = absurd (omega (arith, ap length n.texts))
 behind_string g ps (k ∷ os) s rest n =
     let h : g.offset s ≡ Some k = cc in
@@ -57,10 +57,10 @@ pub record BehindTable (g : Given) (ps os : List ℕ) (es : Entries) (rest : Lis
     : Type 0 where
   pub enough : n ≤ length ps
   pub known : map g.position (entry_keys es) ≡ map Some (take n ps)
-  pub left : Numbered g (drop n ps) os rest
+  pub left : GivesInTurn g (drop n ps) os rest
 
 pub behind_table : (g : Given) (ps os : List ℕ) (es : Entries) (rest : List Tree) (n : ℕ)
-    → length (entry_keys es) ≡ n → Numbered g ps os (table es ∷ rest)
+    → length (entry_keys es) ≡ n → GivesInTurn g ps os (table es ∷ rest)
     → BehindTable g ps os es rest n
 behind_table g ps os es rest n e h =
     let r = parts g.position (entry_keys es) (flat_map own_keys rest) ps h.keys in
@@ -71,30 +71,31 @@ behind_table g ps os es rest n e h =
     })
 
 pub string_left : (g : Given) (ps os : List ℕ) (s : List ℕ) (rest : List Tree) (k : ℕ)
-    (qs more : List ℕ) → os ≡ k ∷ more → qs ≡ ps → Numbered g ps os (string s ∷ rest)
-    → Numbered g qs more rest
+    (qs more : List ℕ) → os ≡ k ∷ more → qs ≡ ps → GivesInTurn g ps os (string s ∷ rest)
+    → GivesInTurn g qs more rest
 string_left g ps os s rest k qs more e f n =
     let b = behind_string g ps os s rest n in
     let h : b.more ≡ more = (let i = sym b.is ∙ e in cc) in
-    subst (λ l. Numbered g l more rest) (sym f) (subst (λ l. Numbered g ps l rest) h b.left)
+    subst (λ l. GivesInTurn g l more rest) (sym f) (subst (λ l. GivesInTurn g ps l rest) h b.left)
 
 pub table_known : (g : Given) (ps os : List ℕ) (es : Entries) (rest : List Tree) (n : ℕ)
     → length (entry_keys es) ≡ n → (qs : List ℕ) → qs ≡ take n ps
-    → Numbered g ps os (table es ∷ rest) → map g.position (entry_keys es) ≡ map Some qs
+    → GivesInTurn g ps os (table es ∷ rest) → map g.position (entry_keys es) ≡ map Some qs
 table_known g ps os es rest n e qs f h =
     (behind_table g ps os es rest n e h).known ∙ ap (map Some) (sym f)
 
 pub table_left : (g : Given) (ps os : List ℕ) (es : Entries) (rest : List Tree) (n : ℕ)
     → length (entry_keys es) ≡ n → (qs rs : List ℕ) → qs ≡ drop n ps → rs ≡ os
-    → Numbered g ps os (table es ∷ rest) → Numbered g qs rs rest
+    → GivesInTurn g ps os (table es ∷ rest) → GivesInTurn g qs rs rest
 table_left g ps os es rest n e qs rs f k h =
-    subst (λ l. Numbered g l rs rest) (sym f) (subst (λ l. Numbered g (drop n ps) l rest) (sym k)
+    subst (λ l. GivesInTurn g l rs rest) (sym f)
+    (subst (λ l. GivesInTurn g (drop n ps) l rest) (sym k)
     (behind_table g ps os es rest n e h).left)
 
 -- the same places, where the tail begins at byte n
 abbrev pub based : Given → ℕ → Given
 based g n = record { position = g.position; offset = g.offset; base = n }
 
-pub moved : {g : Given} {ps os : List ℕ} {ts : List Tree} {n : ℕ} → Numbered g ps os ts
-    → Numbered (based g n) ps os ts
+pub moved : {g : Given} {ps os : List ℕ} {ts : List Tree} {n : ℕ} → GivesInTurn g ps os ts
+    → GivesInTurn (based g n) ps os ts
 moved h = record { keys = h.keys; texts = h.texts; near = h.near }

@@ -7,11 +7,11 @@ use Rattle.resb_tree.specs.Tree.{Tree, Trees}
 use Rattle.resb_layout.specs.Laid.{Given, Laid, is_short_string, are_short, are_near, offsets_in}
 use Rattle.resb_layout.specs.Laid.{ClosesArray, short_array, long_array, ClosesTable, short_table}
 use Rattle.resb_layout.specs.Laid.{long_table, wide_table, ArePlaced, Lays, lays_integer}
-use Rattle.resb_tree.specs.WalkOrder.{entry_keys}
+use Rattle.resb_tree.specs.LayingOrder.{entry_keys}
 use Rattle.resb_layout.specs.Laid.{lays_string, lays_no_bytes, lays_bytes, lays_no_numbers}
 use Rattle.resb_layout.specs.Laid.{lays_numbers, lays_no_items, lays_items, lays_no_entries}
 use Rattle.resb_layout.specs.Laid.{lays_entries, LaysEach, each_none, each_more}
-use Rattle.resb_layout.proofs.Once.{same_somes, none_inside, nothing, not_both}
+use Rattle.resb_layout.proofs.Once.{same_somes, none_inside, zero_not_positive, not_both}
 use Rattle.resb_write.specs.Laws.{OneBlock}
 
 -- words that are the same, or neither a short string's
@@ -24,11 +24,12 @@ pub data AlikeEach : List ℕ → List ℕ → Type 0 where
   alike_more : {v w : ℕ} {vs ws : List ℕ} → Alike v w → AlikeEach vs ws
       → AlikeEach (v ∷ vs) (w ∷ ws)
 
-pub low : (w : ℕ) → w < 0x6000_0000 → is_short_string w ≡ false
-low w h = and_left (nat_le 0x6000_0000 w) (nat_le w 0x6000_ffff) (lt-leb 0x6000_0000 w h)
+pub below_strings : (w : ℕ) → w < 0x6000_0000 → is_short_string w ≡ false
+below_strings w h = and_left (nat_le 0x6000_0000 w) (nat_le w 0x6000_ffff) (lt-leb 0x6000_0000 w h)
 
-pub high : (w : ℕ) → 0x6000_ffff < w → is_short_string w ≡ false
-high w h = and_right (nat_le 0x6000_0000 w) (nat_le w 0x6000_ffff) (lt-leb w 0x6000_ffff h)
+pub above_short_strings : (w : ℕ) → 0x6000_ffff < w → is_short_string w ≡ false
+above_short_strings w h = and_right (nat_le 0x6000_0000 w) (nat_le w 0x6000_ffff)
+    (lt-leb w 0x6000_ffff h)
 
 alike_long : {vs ws : List ℕ} → AlikeEach vs ws → length vs ≡ length ws
 alike_long alike_none = refl
@@ -70,8 +71,11 @@ array_block {vs = vs} {ws = ws} e k (short_array m l) (long_array at n f p q) =
     not_both (are_short vs) m (as_short vs ws k ∙ n)
 array_block {vs = vs} {ws = ws} e k (long_array at n f p q) (short_array m l) =
     not_both (are_short vs) (as_short vs ws k ∙ m) n
-array_block e k (long_array at n f p q) (long_array at2 n2 f2 p2 q2) =
-    (e, apart (high (0x8000_0000 + at) (omega arith)) (high (0x8000_0000 + at2) (omega arith)))
+array_block e k (long_array at n f p q) (long_array at2 n2 f2 p2 q2) = (
+  e,
+  apart (above_short_strings (0x8000_0000 + at) (omega arith))
+      (above_short_strings (0x8000_0000 + at2) (omega arith)),
+)
 
 table_block : {g h : Given} {ps vs ws : List ℕ} {s u a b : Laid} {v w : ℕ} → s.units ≡ u.units
     → AlikeEach vs ws → ClosesTable g s ps vs a v → ClosesTable h u ps ws b w → (a.units ≡ b.units)
@@ -88,8 +92,8 @@ table_block {vs = vs} {ws = ws} e k (long_table at r n f p) (short_table t m l) 
     not_both (are_short vs) (as_short vs ws k ∙ m) n
 table_block e k (long_table at r n f p) (long_table at2 t n2 f2 p2) = (
   e,
-  apart (low (0x2000_0000 + at) (omega (arith, p)))
-      (low (0x2000_0000 + at2) (omega (arith, p2))),
+  apart (below_strings (0x2000_0000 + at) (omega (arith, p)))
+      (below_strings (0x2000_0000 + at2) (omega (arith, p2))),
 )
 table_block {ps = ps} e k (long_table at r n f p) (wide_table at2 t f2 p2 q z) =
     not_both (are_near ps) r t
@@ -98,8 +102,8 @@ table_block {ps = ps} e k (wide_table at t f p q z) (long_table at2 r n f2 p2) =
     not_both (are_near ps) r t
 table_block e k (wide_table at t f p q z) (wide_table at2 t2 f2 p2 q2 z2) = (
   e,
-  apart (low (0x4000_0000 + at) (omega (arith, p)))
-      (low (0x4000_0000 + at2) (omega (arith, p2))),
+  apart (below_strings (0x4000_0000 + at) (omega (arith, p)))
+      (below_strings (0x4000_0000 + at2) (omega (arith, p2))),
 )
 
 module _ (g h : Given) (positions : g.position ≡ h.position) (offsets : g.offset ≡ h.offset) where
@@ -121,18 +125,21 @@ module _ (g h : Given) (positions : g.position ≡ h.position) (offsets : g.offs
     block e (lays_string {text = x} {k = m} k l) (lays_string {k = n} o p) =
         (e, same (ap (λ i. 0x6000_0000 + i) (same_offset x m n k o)))
     block e lays_no_bytes lays_no_bytes = (e, same refl)
-    block e lays_no_bytes (lays_bytes at some n f l) = absurd (nothing some refl)
-    block e (lays_bytes at some n f l) lays_no_bytes = absurd (nothing some refl)
+    block e lays_no_bytes (lays_bytes at some n f l) = absurd (zero_not_positive some refl)
+    block e (lays_bytes at some n f l) lays_no_bytes = absurd (zero_not_positive some refl)
     block e (lays_bytes at some n f l) (lays_bytes at2 some2 n2 f2 l2) = (
       e,
-      apart (low (0x1000_0000 + at) (omega (arith, l)))
-          (low (0x1000_0000 + at2) (omega (arith, l2))),
+      apart (below_strings (0x1000_0000 + at) (omega (arith, l)))
+          (below_strings (0x1000_0000 + at2) (omega (arith, l2))),
     )
     block e lays_no_numbers lays_no_numbers = (e, same refl)
-    block e lays_no_numbers (lays_numbers at some n a f l) = absurd (nothing some refl)
-    block e (lays_numbers at some n a f l) lays_no_numbers = absurd (nothing some refl)
-    block e (lays_numbers at some n a f l) (lays_numbers at2 some2 n2 a2 f2 l2) =
-        (e, apart (high (0xe000_0000 + at) (omega arith)) (high (0xe000_0000 + at2) (omega arith)))
+    block e lays_no_numbers (lays_numbers at some n a f l) = absurd (zero_not_positive some refl)
+    block e (lays_numbers at some n a f l) lays_no_numbers = absurd (zero_not_positive some refl)
+    block e (lays_numbers at some n a f l) (lays_numbers at2 some2 n2 a2 f2 l2) = (
+      e,
+      apart (above_short_strings (0xe000_0000 + at) (omega arith))
+          (above_short_strings (0xe000_0000 + at2) (omega arith)),
+    )
     block e lays_no_items lays_no_items = (e, same refl)
     block e lays_no_items (lays_items k some c) = absurd (none_inside k some)
     block e (lays_items k some c) lays_no_items = absurd (none_inside k some)

@@ -12,13 +12,14 @@ use Rattle.resb_head.specs.File.{body_of}
 use Rattle.resb_format.proofs.WordsBack.{bytes_back, fits_drop}
 use Rattle.resb_format.proofs.Spelled.{words_length}
 use Rattle.resb_pool.proofs.OnePool.{one_pool}
-use Rattle.resb_layout.specs.Laid.{Given, Laid, Lays, halves}
+use Rattle.resb_layout.specs.Laid.{Given, Laid, Lays}
+use Rattle.resb_format.specs.Bytes.{units_as_bytes}
 use Rattle.resb_layout.proofs.Once.{one_layout}
-use Rattle.resb_tree.specs.WalkOrder.{texts_of}
+use Rattle.resb_tree.specs.LayingOrder.{texts_of}
 use Rattle.resb_write.proofs.OneBlock.{one_block}
 use Rattle.resb_layout.specs.KeyBlock.{key_block, key_position, keys_start}
 use Rattle.resb_layout.specs.WrittenHead.{written_header}
-use Rattle.resb_layout.specs.Written.{even, tail_start, Blocks, bytes_of, Written}
+use Rattle.resb_layout.specs.Written.{even, tail_start, Blocks, block_bytes, Written}
 use Rattle.resb_write.specs.Laws.{OneFile}
 use Rattle.resb_write.proofs.Heads.{body_behind}
 
@@ -77,8 +78,8 @@ module _ (t : Tree) (ks : List (List ℕ)) (x y : Blocks t ks) where
   pub start_same : tail_start (key_block t ks) x.laid ≡ tail_start (key_block t ks) y.laid
   start_same = base_is
 
-  pub bytes_same : bytes_of x ≡ bytes_of y
-  bytes_same = ap (λ s. key_block t ks ++ (halves (even s.units) ++ s.tail)) laid_is
+  pub bytes_same : block_bytes x ≡ block_bytes y
+  bytes_same = ap (λ s. key_block t ks ++ (units_as_bytes (even s.units) ++ s.tail)) laid_is
 
 module _ (a : List ℕ) (t : Tree) (fallback : Bool) (ks : List (List ℕ))
     (w : Written a t fallback ks) where
@@ -91,10 +92,10 @@ module _ (a : List ℕ) (t : Tree) (fallback : Bool) (ks : List (List ℕ))
   long : 32 ≤ length (body_of a)
   long = omega (arith, w.keys_end, w.tree.head.keys_inside)
 
-  split : body_of a ≡ take 32 (body_of a) ++ bytes_of w.blocks
+  split : body_of a ≡ take 32 (body_of a) ++ block_bytes w.blocks
   split = sym (take-append-drop 32 (body_of a)) ∙ ap (λ l. take 32 (body_of a) ++ l) w.body
 
-  body_long : length (body_of a) ≡ 32 + length (bytes_of w.blocks)
+  body_long : length (body_of a) ≡ 32 + length (block_bytes w.blocks)
   body_long =
       let e = ap length (take-append-drop 32 (body_of a)) in
       omega (
@@ -108,7 +109,7 @@ module _ (a : List ℕ) (t : Tree) (fallback : Bool) (ks : List (List ℕ))
 
 module _ (a b : List ℕ) (t : Tree) (fallback : Bool) (ks : List (List ℕ)) (fa : EachFits 8 a)
     (fb : EachFits 8 b) (x : Written a t fallback ks) (y : Written b t fallback ks) where
-  bytes_are : bytes_of x.blocks ≡ bytes_of y.blocks
+  bytes_are : block_bytes x.blocks ≡ block_bytes y.blocks
   bytes_are = bytes_same t ks x.blocks y.blocks
 
   long_same : length (body_of a) ≡ length (body_of b)

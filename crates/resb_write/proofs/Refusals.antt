@@ -3,30 +3,30 @@ use Rattle.std.proofs.Common.{◌≡◌, ℕ, ◌+◌, ◌^◌, ◌<◌, List, S
 use Rattle.std.proofs.Common.{subst, arith}
 use Rattle.std.specs.List.{flat_map}
 use Rattle.resb_tree.specs.Tree.{Tree}
-use Rattle.resb_layout.specs.Fault.{Fault, out_of_memory}
+use Rattle.resb_layout.specs.WritingFault.{WritingFault, out_of_memory}
 use Rattle.resb_pool.specs.declared.error.PlanError.{PlanError}
 use Rattle.resb_pool.specs.Plan.{NotPlanned, no_memory as no_memory_to_plan, too_long}
 use Rattle.resb_pool.specs.Plan.{too_large as too_large_to_plan, texts_size, first_too_long}
-use Rattle.resb_tree.specs.WalkOrder.{walk_order, text_in, texts_of}
+use Rattle.resb_tree.specs.LayingOrder.{laying_order, text_in, texts_of}
 use Rattle.resb_layout.specs.KeyBlock.{used}
-use Rattle.resb_tree.specs.WalkOrder.{keys_of}
+use Rattle.resb_tree.specs.LayingOrder.{keys_of}
 use Rattle.resb_layout.specs.PlainSize.{list_size, resources_size}
-use Rattle.resb_layout.specs.Faults.{key_fault, tree_fault, first_of, RefusesWriting, no_memory}
-use Rattle.resb_layout.specs.Faults.{at_the_first}
-use Rattle.resb_layout.specs.Faults.{too_large}
+use Rattle.resb_layout.specs.TreeFaults.{key_fault, tree_fault, first_of, RefusesWriting, no_memory}
+use Rattle.resb_layout.specs.TreeFaults.{at_the_first}
+use Rattle.resb_layout.specs.TreeFaults.{too_large}
 use Rattle.resb_write.specs.FaultOf.{plan_fault}
 use Rattle.resb_write.specs.Inner.Sizes.{size_fault, IsTooMuch, at_fault}
 use Rattle.resb_write.specs.Inner.Sizes.{too_large as too_large_sizes}
 use Rattle.resb_write.proofs.Room.{none_too_long, texts_within}
 
 module _ (t : Tree) (ks : List (List ℕ)) where
-  pub key_refused : (us : List (List ℕ)) (f : Fault) → us ≡ keys_of t → (f ≡ out_of_memory)
+  pub key_refused : (us : List (List ℕ)) (f : WritingFault) → us ≡ keys_of t → (f ≡ out_of_memory)
       ⊎ (key_fault us (used us ks) ≡ Some f) → RefusesWriting t ks f
   key_refused us f e (inl m) = subst (RefusesWriting t ks) (sym m) no_memory
   key_refused us f e (inr h) =
       let k : key_fault (keys_of t) (used (keys_of t) ks) ≡ Some f =
       (λ i. key_fault (sym e i) (used (sym e i) ks)) ∙ h in
-      at_the_first (ap (λ o. first_of o (size_fault (walk_order t))) k)
+      at_the_first (ap (λ o. first_of o (size_fault (laying_order t))) k)
 
   module _ (us js : List (List ℕ)) (us_are : us ≡ keys_of t) (js_are : js ≡ used us ks)
       (no_key : key_fault us js ≡ None) where
@@ -34,25 +34,25 @@ module _ (t : Tree) (ks : List (List ℕ)) where
     no_key_fault = (λ i. key_fault (sym us_are i) (used (sym us_are i) ks))
         ∙ ap (key_fault us) (sym js_are) ∙ no_key
 
-    only_sizes : tree_fault t ks ≡ size_fault (walk_order t)
-    only_sizes = ap (λ o. first_of o (size_fault (walk_order t))) no_key_fault
+    only_sizes : tree_fault t ks ≡ size_fault (laying_order t)
+    only_sizes = ap (λ o. first_of o (size_fault (laying_order t))) no_key_fault
 
-    pub size_refused : (f : Fault) → IsTooMuch (walk_order t) ks f → RefusesWriting t ks f
+    pub size_refused : (f : WritingFault) → IsTooMuch (laying_order t) ks f → RefusesWriting t ks f
     size_refused f (at_fault h) = at_the_first (only_sizes ∙ h)
     size_refused f (too_large_sizes h l) = too_large (only_sizes ∙ h) l
 
   -- what is small enough is planned, memory aside
   pub plan_refused : (S : List (List ℕ)) (e : PlanError) → S ≡ texts_of t
-      → list_size ks + resources_size (walk_order t) < 2 ^ 28 → NotPlanned S e
+      → list_size ks + resources_size (laying_order t) < 2 ^ 28 → NotPlanned S e
       → RefusesWriting t ks (plan_fault e)
   plan_refused S e is small no_memory_to_plan = no_memory
   plan_refused S e is small (too_long {n} h) =
-      let none = none_too_long (flat_map text_in (walk_order t)) (omega (
+      let none = none_too_long (flat_map text_in (laying_order t)) (omega (
         arith,
-        texts_within (walk_order t),
+        texts_within (laying_order t),
         small,
       )) in
       let no : Some n ≡ None = sym h ∙ ap first_too_long is ∙ none in
       cc
   plan_refused S e is small (too_large_to_plan h l) =
-      absurd (omega (arith, texts_within (walk_order t), small, l, ap texts_size is))
+      absurd (omega (arith, texts_within (laying_order t), small, l, ap texts_size is))

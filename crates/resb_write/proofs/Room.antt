@@ -12,11 +12,11 @@ use Rattle.resb_pool.specs.Plan.{first_too_long, texts_size, IsPlan}
 use Rattle.resb_pool.proofs.Least.{into_least}
 use Rattle.resb_pool.proofs.InOrder.{length-records}
 use Rattle.resb_pool.proofs.Sizes.{marker_le}
-use Rattle.resb_tree.specs.WalkOrder.{text_in, members}
+use Rattle.resb_tree.specs.LayingOrder.{text_in, array_members}
 use Rattle.resb_write.specs.Inner.Room.{most_units, most_bytes}
 use Rattle.resb_layout.specs.KeyBlock.{key_bytes, padded, used, is_among}
 use Rattle.resb_layout.specs.PlainSize.{held_size, resources_size, list_size}
-use Rattle.resb_layout.specs.Faults.{is_over_32_bits}
+use Rattle.resb_layout.specs.TreeFaults.{is_over_32_bits}
 use Rattle.resb_write.specs.Inner.Sizes.{size_fault}
 use Rattle.resb_write.proofs.FaultsLemmas.{no_size_fault}
 
@@ -59,7 +59,7 @@ none_over (t ∷ ts) h =
   where
     by : (u : Tree) → held_size u < 2 ^ 28 → is_over_32_bits u ≡ false
     by (string s) l = refl
-    by (array us) l = le-ltb 4294967295 (length (members us)) (omega (arith, l))
+    by (array us) l = le-ltb 4294967295 (length (array_members us)) (omega (arith, l))
     by (table es) l = refl
     by (binary s) l = le-ltb 4294967295 (length s) (omega (arith, l))
     by (integer n) l = refl

@@ -6,8 +6,9 @@ use Rattle.std.proofs.lemmas.List.Sums.{sum_by-cons}
 use Rattle.resb_tree.specs.Tree.{Tree, string, array, table, binary, integer, int_vector, Trees}
 use Rattle.resb_tree.specs.Tree.{no_trees, more_trees, Entries, no_entries, entry}
 use Rattle.resb_layout.specs.Laid.{Given, Laid}
-use Rattle.resb_tree.specs.WalkOrder.{members, values_of, children, walk_order, walk_each}
-use Rattle.resb_tree.specs.WalkOrder.{walk_values}
+use Rattle.resb_tree.specs.LayingOrder.{array_members, values_of, children, laying_order}
+use Rattle.resb_tree.specs.LayingOrder.{laying_each}
+use Rattle.resb_tree.specs.LayingOrder.{laying_values}
 use Rattle.resb_write.specs.Inner.StackSteps.{LaysNext, LaysRow, row_none, row_more}
 use Rattle.resb_write.specs.Inner.Room.{own_size, most_units, most_bytes}
 use Rattle.resb_write.specs.Inner.Seen.{HasRoom, TakesNoMore, Suffices, CanLay}
@@ -40,37 +41,38 @@ to ts e h = subst (λ k. Suffices k ts) e h
 
 mutual
   suffices_tree : (t : Tree) (n : ℕ) (rest : List Tree) → Suffices (n + 1) rest
-      → Suffices n (walk_order t ++ rest)
+      → Suffices n (laying_order t ++ rest)
   suffices_tree (string x) n rest h = (omega arith, to rest (omega arith) h)
   suffices_tree (binary x) n rest h = (omega arith, to rest (omega arith) h)
   suffices_tree (integer x) n rest h = (omega arith, to rest (omega arith) h)
   suffices_tree (int_vector x) n rest h = (omega arith, to rest (omega arith) h)
   suffices_tree (array ts) n rest h =
-      subst (Suffices n) (sym (append_assoc (walk_each ts) (array ts ∷ []) rest))
+      subst (Suffices n) (sym (append_assoc (laying_each ts) (array ts ∷ []) rest))
       (suffices_each ts n (array ts ∷ rest) (omega arith, to rest (omega arith) h))
   suffices_tree (table es) n rest h =
-      subst (Suffices n) (sym (append_assoc (walk_values es) (table es ∷ []) rest))
+      subst (Suffices n) (sym (append_assoc (laying_values es) (table es ∷ []) rest))
       (suffices_values es n (table es ∷ rest) (omega arith, to rest (omega arith) h))
 
-  suffices_each : (ts : Trees) (n : ℕ) (rest : List Tree) → Suffices (n + length (members ts)) rest
-      → Suffices n (walk_each ts ++ rest)
+  suffices_each : (ts : Trees) (n : ℕ) (rest : List Tree)
+      → Suffices (n + length (array_members ts)) rest
+      → Suffices n (laying_each ts ++ rest)
   suffices_each no_trees n rest h = to rest (omega arith) h
   suffices_each (more_trees t ts) n rest h =
-      subst (Suffices n) (sym (append_assoc (walk_order t) (walk_each ts) rest))
-      (suffices_tree t n (walk_each ts ++ rest)
+      subst (Suffices n) (sym (append_assoc (laying_order t) (laying_each ts) rest))
+      (suffices_tree t n (laying_each ts ++ rest)
       (suffices_each ts (n + 1) rest (to rest (omega arith) h)))
 
   suffices_values : (es : Entries) (n : ℕ) (rest : List Tree)
-      → Suffices (n + length (values_of es)) rest → Suffices n (walk_values es ++ rest)
+      → Suffices (n + length (values_of es)) rest → Suffices n (laying_values es ++ rest)
   suffices_values no_entries n rest h = to rest (omega arith) h
   suffices_values (entry k t es) n rest h =
-      subst (Suffices n) (sym (append_assoc (walk_order t) (walk_values es) rest))
-      (suffices_tree t n (walk_values es ++ rest)
+      subst (Suffices n) (sym (append_assoc (laying_order t) (laying_values es) rest))
+      (suffices_tree t n (laying_values es ++ rest)
       (suffices_values es (n + 1) rest (to rest (omega arith) h)))
 
 -- an empty stack suffices for a tree
-pub suffices : (t : Tree) → Suffices 0 (walk_order t)
-suffices t = subst (Suffices 0) (append-nil (walk_order t)) (suffices_tree t 0 [] tt)
+pub suffices : (t : Tree) → Suffices 0 (laying_order t)
+suffices t = subst (Suffices 0) (append-nil (laying_order t)) (suffices_tree t 0 [] tt)
 
 fits : (a m r s k : ℕ) → s ≡ m + r → a + s < k → a + m < k
 fits a m r s k e h = omega (arith, e, h)

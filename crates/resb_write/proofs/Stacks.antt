@@ -1,4 +1,4 @@
--- Steps in walk order lay a tree.
+-- Steps in laying order lay a tree.
 use Rattle.std.proofs.Common.{◌≡◌, ℕ, ◌+◌, ◌-◌, ◌<◌, ◌≤◌, take, drop, length-drop, List}
 use Rattle.std.proofs.Common.{[], ◌∷◌, ◌++◌, length, refl, sym, ◌∙◌, ap, subst, append_assoc}
 use Rattle.std.proofs.Common.{append-nil, length-append, arith}
@@ -6,12 +6,14 @@ use Rattle.resb_tree.specs.Tree.{Tree, string, array, table, binary, integer, in
 use Rattle.resb_tree.specs.Tree.{no_trees, more_trees, Entries, no_entries, entry, trees_of}
 use Rattle.resb_layout.specs.Laid.{Given, Laid, Lays, LaysEach, each_none, each_more, lays_items}
 use Rattle.resb_layout.specs.Laid.{lays_no_items, lays_entries, lays_no_entries, ClosesArray}
-use Rattle.resb_layout.specs.Laid.{ClosesTable, ArePlaced, members_in}
-use Rattle.resb_tree.specs.WalkOrder.{entry_keys}
-use Rattle.resb_tree.specs.WalkOrder.{members, values_of, children, walk_order, walk_each}
-use Rattle.resb_tree.specs.WalkOrder.{walk_values}
+use Rattle.resb_layout.specs.Laid.{ClosesTable, ArePlaced, entry_trees}
+use Rattle.resb_tree.specs.LayingOrder.{entry_keys}
+use Rattle.resb_tree.specs.LayingOrder.{array_members, values_of, children, laying_order}
+use Rattle.resb_tree.specs.LayingOrder.{laying_each}
+use Rattle.resb_tree.specs.LayingOrder.{laying_values}
 use Rattle.resb_write.specs.Inner.StackSteps.{LaysNext, LaysRow, row_none, row_more}
 use Rattle.std.proofs.lemmas.List.{nil_from_length, take-append-drop}
+use Rattle.resb_tree.proofs.LayingOrderLemmas.{trees_of-array_members}
 
 -- of two lists in two parts, the parts are the same where the last ones have one length
 same_parts : (a b c d : List ℕ) → a ++ b ≡ c ++ d → length b ≡ length d → (a ≡ c) × (b ≡ d)
@@ -31,10 +33,6 @@ same_parts (x ∷ a) b (y ∷ c) d e l =
     let g : a ++ b ≡ c ++ d = cc in
     let r = same_parts a b c d g l in
     ((λ i. f i ∷ r.0 i), r.1)
-
-members_back : (ts : Trees) → trees_of (members ts) ≡ ts
-members_back no_trees = refl
-members_back (more_trees t ts) = ap (more_trees t) (members_back ts)
 
 module _ (g : Given) where
   pub record Split (s : Laid) (ws : List ℕ) (t : Tree) (rest : List Tree) (e : Laid)
@@ -75,24 +73,24 @@ module _ (g : Given) where
 
   mutual
     steps_tree : (t : Tree) (s e : Laid) (ws ys : List ℕ) (rest : List Tree)
-        → LaysRow g s ws (walk_order t ++ rest) e ys → Split s ws t rest e ys
+        → LaysRow g s ws (laying_order t ++ rest) e ys → Split s ws t rest e ys
     steps_tree (string x) s e ws ys rest h = leaf s e ws ys (string x) rest refl h
     steps_tree (binary x) s e ws ys rest h = leaf s e ws ys (binary x) rest refl h
     steps_tree (integer n) s e ws ys rest h = leaf s e ws ys (integer n) rest refl h
     steps_tree (int_vector x) s e ws ys rest h = leaf s e ws ys (int_vector x) rest refl h
     steps_tree (array ts) s e ws ys rest h =
         let k = steps_each ts s e ws ys (array ts ∷ rest)
-        (subst (λ l. LaysRow g s ws l e ys) (append_assoc (walk_each ts) (array ts ∷ []) rest)
+        (subst (λ l. LaysRow g s ws l e ys) (append_assoc (laying_each ts) (array ts ∷ []) rest)
         h) in
         last_step s k.mid e ws k.words ys (array ts) rest k.lays k.many k.goes
     steps_tree (table es) s e ws ys rest h =
         let k = steps_values es s e ws ys (table es ∷ rest)
-        (subst (λ l. LaysRow g s ws l e ys) (append_assoc (walk_values es) (table es ∷ []) rest)
+        (subst (λ l. LaysRow g s ws l e ys) (append_assoc (laying_values es) (table es ∷ []) rest)
         h) in
         last_step s k.mid e ws k.words ys (table es) rest k.lays k.many k.goes
 
     steps_each : (ts : Trees) (s e : Laid) (ws ys : List ℕ) (rest : List Tree)
-        → LaysRow g s ws (walk_each ts ++ rest) e ys → SplitEach s ws (members ts) rest e ys
+        → LaysRow g s ws (laying_each ts ++ rest) e ys → SplitEach s ws (array_members ts) rest e ys
     steps_each no_trees s e ws ys rest h = record {
       mid = s;
       words = [];
@@ -102,8 +100,9 @@ module _ (g : Given) where
       goes = subst (λ l. LaysRow g s l rest e ys) (sym (append-nil ws)) h;
     }
     steps_each (more_trees t ts) s e ws ys rest h =
-        let a = steps_tree t s e ws ys (walk_each ts ++ rest)
-        (subst (λ l. LaysRow g s ws l e ys) (append_assoc (walk_order t) (walk_each ts) rest) h) in
+        let a = steps_tree t s e ws ys (laying_each ts ++ rest)
+        (subst (λ l. LaysRow g s ws l e ys)
+        (append_assoc (laying_order t) (laying_each ts) rest) h) in
         let b = steps_each ts a.mid e (ws ++ a.word ∷ []) ys rest a.goes in
         record {
           mid = b.mid;
@@ -115,7 +114,7 @@ module _ (g : Given) where
         }
 
     steps_values : (es : Entries) (s e : Laid) (ws ys : List ℕ) (rest : List Tree)
-        → LaysRow g s ws (walk_values es ++ rest) e ys → SplitEach s ws (values_of es) rest e ys
+        → LaysRow g s ws (laying_values es ++ rest) e ys → SplitEach s ws (values_of es) rest e ys
     steps_values no_entries s e ws ys rest h = record {
       mid = s;
       words = [];
@@ -125,8 +124,9 @@ module _ (g : Given) where
       goes = subst (λ l. LaysRow g s l rest e ys) (sym (append-nil ws)) h;
     }
     steps_values (entry k t es) s e ws ys rest h =
-        let a = steps_tree t s e ws ys (walk_values es ++ rest)
-        (subst (λ l. LaysRow g s ws l e ys) (append_assoc (walk_order t) (walk_values es) rest) h)
+        let a = steps_tree t s e ws ys (laying_values es ++ rest)
+        (subst (λ l. LaysRow g s ws l e ys)
+        (append_assoc (laying_order t) (laying_values es) rest) h)
         in
         let b = steps_values es a.mid e (ws ++ a.word ∷ []) ys rest a.goes in
         record {
@@ -143,10 +143,10 @@ none_laid : (g : Given) (s e : Laid) (ws ys : List ℕ) → LaysRow g s ws [] e 
 none_laid g s e ws ys row_none = (refl, refl)
 
 pub steps_lay_trees : (g : Given) (s e : Laid) (t : Tree) (xs : List ℕ)
-    → LaysRow g s [] (walk_order t) e xs → (w : ℕ) × (xs ≡ w ∷ []) × Lays g s t e w
+    → LaysRow g s [] (laying_order t) e xs → (w : ℕ) × (xs ≡ w ∷ []) × Lays g s t e w
 steps_lay_trees g s e t xs h =
     let k = steps_tree g t s e [] xs []
-    (subst (λ l. LaysRow g s [] l e xs) (sym (append-nil (walk_order t))) h) in
+    (subst (λ l. LaysRow g s [] l e xs) (sym (append-nil (laying_order t))) h) in
     let z = none_laid g k.mid e (k.word ∷ []) xs k.goes in
     (k.word, sym z.1, subst (λ m. Lays g s t m k.word) z.0 k.lays)
 
@@ -160,7 +160,7 @@ split_stack ws n h = (
 )
 
 pub array_step : (g : Given) (s e : Laid) (ws xs vs : List ℕ) (ts : Trees) (w n : ℕ)
-    → n ≡ length (members ts) → n ≤ length ws → vs ≡ drop (length ws - n) ws → 0 < n
+    → n ≡ length (array_members ts) → n ≤ length ws → vs ≡ drop (length ws - n) ws → 0 < n
     → ClosesArray g s vs e w → xs ≡ take (length ws - n) ws ++ w ∷ []
     → LaysNext g s ws (array ts) e xs
 array_step g s e ws xs vs ts w n c h v some k p =
@@ -172,7 +172,8 @@ array_step g s e ws xs vs ts w n c h v some k p =
       taken = q.0 ∙ ap (λ l. take (length ws - n) ws ++ l) (sym v);
       many = ap length v ∙ q.1 ∙ c;
       put = p;
-      closes = λ before l. lays_items (subst (λ us. LaysEach g before us s vs) (members_back ts) l)
+      closes = λ before l. lays_items
+          (subst (λ us. LaysEach g before us s vs) (trees_of-array_members ts) l)
           (omega (arith, ap length v, q.1)) k;
     }
 
@@ -195,7 +196,7 @@ empty_array_step g s ws xs w e p =
     none_back : {before : Laid} → LaysEach g before no_trees s [] → before ≡ s
     none_back each_none = refl
 
-values_back : (es : Entries) → trees_of (values_of es) ≡ members_in es
+values_back : (es : Entries) → trees_of (values_of es) ≡ entry_trees es
 values_back no_entries = refl
 values_back (entry k t es) = ap (more_trees t) (values_back es)
 

@@ -4,7 +4,7 @@
 --     WrittenInOrder          its tail is the bodies of the tree's resources, without a gap
 use Rattle.std.specs.Prelude.{◌≡◌, ℕ, ◌*◌, List, ◌++◌, drop, Bool}
 use Rattle.resb_tree.specs.Tree.{Tree}
-use Rattle.resb_tree.specs.WalkOrder.{walk_order}
+use Rattle.resb_tree.specs.LayingOrder.{laying_order}
 use Rattle.resb_head.specs.File.{body_of, block_end}
 use Rattle.resb_layout.specs.InOrder.{FillsTail, FillsBlock}
 use Rattle.resb_layout.specs.Laid.{Given, Laid, Lays}
@@ -22,11 +22,11 @@ OneBlock =
 -- 16-bit block has the short ones.
 pub record IsInOrder {bytes : List ℕ} {t : Tree} {fallback : Bool} {ks : List (List ℕ)}
     (w : Written bytes t fallback ks) : Type 0 where
-  pub tail : FillsTail (4 * block_end bytes) (walk_order t) (drop (4 * block_end bytes) (body_of
+  pub tail : FillsTail (4 * block_end bytes) (laying_order t) (drop (4 * block_end bytes) (body_of
       bytes))
   pub short : List ℕ
   pub units : w.blocks.laid.units ≡ w.blocks.pool ++ short
-  pub block : FillsBlock (walk_order t) short
+  pub block : FillsBlock (laying_order t) short
 
 -- in each written file the bodies stand in order
 abbrev pub WrittenInOrder : Type 0

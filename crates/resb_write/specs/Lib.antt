@@ -9,11 +9,11 @@ pub use Rattle.resb_head.specs.File
 pub use Rattle.resb_format.specs.Laws as FormatLaws
 pub use Rattle.resb_pool.specs.Plan
 pub use Rattle.resb_layout.specs.Laid
-pub use Rattle.resb_tree.specs.WalkOrder
+pub use Rattle.resb_tree.specs.LayingOrder
 pub use Rattle.resb_layout.specs.KeyBlock
 pub use Rattle.resb_layout.specs.PlainSize
-pub use Rattle.resb_layout.specs.Fault
-pub use Rattle.resb_layout.specs.Faults
+pub use Rattle.resb_layout.specs.WritingFault
+pub use Rattle.resb_layout.specs.TreeFaults
 pub use Rattle.resb_layout.specs.WrittenHead
 pub use Rattle.resb_layout.specs.Written
 pub mod FaultOf

@@ -5,7 +5,7 @@ ghost use Rattle.std.specs.Prelude.{ℕ, List, Some, [], length, map, take, OnOk
 ghost use Rattle.resb_tree.specs.Tree.{Entries, array, binary, int_vector, integer, string};
 ghost use Rattle.resb_tree.specs.Tree.{table as table_with};
 ghost use Rattle.resb_layout.specs.Laid.{Given, Laid, ArePlaced};
-ghost use Rattle.resb_tree.specs.WalkOrder.{entry_keys, values_of};
+ghost use Rattle.resb_tree.specs.LayingOrder.{entry_keys, values_of};
 ghost use Rattle.resb_tree.specs.View.{items_view, entries_view};
 ghost use Rattle.resb_write.specs.Inner.StackSteps.{LaysNext};
 ghost use Rattle.resb_write.specs.Inner.Room.{laid_of};

@@ -9,11 +9,11 @@ ghost use Rattle.resb_tree.specs.Tree.{Tree};
 ghost use Rattle.resb_tree.specs.View.{tree_of, entries_view};
 ghost use Rattle.resb_format.specs.Units.{units};
 ghost use Rattle.resb_pool.specs.Plan.{nows, first_too_long};
-ghost use Rattle.resb_tree.specs.WalkOrder.{entry_keys, trees_in};
+ghost use Rattle.resb_tree.specs.LayingOrder.{entry_keys, trees_in};
 ghost use Rattle.resb_write.specs.Inner.Gathered.{Gathered};
 
 use resb_format::utf16_len;
-use resb_tree::{Resource, Table, WalkOrder};
+use resb_tree::{LayingOrder, Resource, Table};
 use std::alloc::{AllocError, Global};
 
 /// The greatest number of 32 bits: the most units of a string, and members of an array, binary or
@@ -37,10 +37,10 @@ pub(crate) struct Contents<'t> {
 }
 
 impl<'t> Contents<'t> {
-    /// What the resources of a tree hold, which are given in walk order.
+    /// What the resources of a tree hold, which are given in laying order.
     pub(crate) fn gather<'a>(
         alloc: Global,
-        order: &WalkOrder<'t, 'a>,
+        order: &LayingOrder<'t, 'a>,
     ) -> Result<Contents<'t>, AllocError>
         ensures { IfOk result (λ c. Gathered (trees_in order.now.items) c) }
     {

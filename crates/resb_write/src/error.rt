@@ -1,7 +1,7 @@
 //! Why a file isn't written.
 //! When each fault comes is said by the contract of `Serializer::to_bytes`.
 ghost use Rattle.std.specs.Prelude.{◌≡◌, ◌↔◌, IsTrue};
-ghost use Rattle.resb_layout.specs.Fault as fault;
+ghost use Rattle.resb_layout.specs.WritingFault as fault;
 
 use resb_pool::PlanError;
 use resb_tree::NoMemory;
@@ -72,7 +72,7 @@ impl BinarySerializerError {
 
 impl fmt::Display for BinarySerializerError {
     ghost use Rattle.std.specs.Prelude.{Some};
-    ghost use Rattle.resb_layout.specs.Fault.{message_of};
+    ghost use Rattle.resb_layout.specs.WritingFault.{message_of};
     ghost use Rattle.resb_write.specs.FaultOf.{fault_of};
 
     ghost output = { λ e. Some (message_of (fault_of e)) };
@@ -94,7 +94,7 @@ impl Error for BinarySerializerError {}
 
 impl From<AllocError> for BinarySerializerError {
     ghost use Rattle.std.specs.Prelude.{◌≡◌};
-    ghost use Rattle.resb_layout.specs.Fault.{out_of_memory};
+    ghost use Rattle.resb_layout.specs.WritingFault.{out_of_memory};
     ghost use Rattle.resb_write.specs.FaultOf.{fault_of};
 
     ghost from_gives = { λ _ e. fault_of e ≡ out_of_memory };
@@ -106,7 +106,7 @@ impl From<AllocError> for BinarySerializerError {
 
 impl From<NoMemory> for BinarySerializerError {
     ghost use Rattle.std.specs.Prelude.{◌≡◌};
-    ghost use Rattle.resb_layout.specs.Fault.{out_of_memory};
+    ghost use Rattle.resb_layout.specs.WritingFault.{out_of_memory};
     ghost use Rattle.resb_write.specs.FaultOf.{fault_of};
 
     ghost from_gives = { λ _ e. fault_of e ≡ out_of_memory };
@@ -118,7 +118,7 @@ impl From<NoMemory> for BinarySerializerError {
 
 impl<T: Drop> From<AllocFailed<T>> for BinarySerializerError {
     ghost use Rattle.std.specs.Prelude.{◌≡◌};
-    ghost use Rattle.resb_layout.specs.Fault.{out_of_memory};
+    ghost use Rattle.resb_layout.specs.WritingFault.{out_of_memory};
     ghost use Rattle.resb_write.specs.FaultOf.{fault_of};
 
     ghost from_gives = { λ _ e. fault_of e ≡ out_of_memory };

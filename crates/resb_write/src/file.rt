@@ -2,7 +2,7 @@
 //! What the blocks hold is said in `key_block` and by those who plan and lay.
 ghost use Rattle.std.specs.Prelude.{◌≡◌, ◌++◌, ◌^◌, ◌<◌, ℕ, slice_index, IfOk, OnOk};
 ghost use Rattle.resb_head.specs.Head.{index_words};
-ghost use Rattle.resb_layout.specs.Laid.{halves};
+ghost use Rattle.resb_format.specs.Bytes.{units_as_bytes};
 ghost use Rattle.resb_layout.specs.WrittenHead.{written_header};
 ghost use Rattle.resb_layout.specs.Written.{even};
 ghost use Rattle.resb_write.specs.Inner.Files.{index_words_of, file_with, FitsFile};
@@ -51,7 +51,8 @@ fn append_header(file: &mut Vec<u8>) -> Result<(), NoMemory>
 
 /// Appends the 16-bit block, with a unit that fills its last word.
 fn append_units(file: &mut Vec<u8>, units: &[u16]) -> Result<(), AllocError>
-    ensures appends { OnOk result (file.new.items ≡ file.old.items ++ halves (even units.now)) }
+    ensures appends { OnOk result (file.new.items
+        ≡ file.old.items ++ units_as_bytes (even units.now)) }
     ensures fits { (k : ℕ) → slice_index units.now k < 2 ^ 16 }
 {
     for unit in units {

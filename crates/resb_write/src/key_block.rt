@@ -6,10 +6,10 @@ ghost use Rattle.std.specs.Str.{IsUtf8};
 ghost use Rattle.std.specs.List.{list_any};
 ghost use Rattle.std.specs.Option.{is_some, is_none};
 ghost use Rattle.resb_pool.specs.Plan.{nows, at_text};
-ghost use Rattle.resb_layout.specs.Fault.{out_of_memory};
+ghost use Rattle.resb_layout.specs.WritingFault.{out_of_memory};
 ghost use Rattle.resb_write.specs.FaultOf.{fault_of};
 ghost use Rattle.resb_layout.specs.KeyBlock.{is_among, used as used_of, key_bytes, padded};
-ghost use Rattle.resb_layout.specs.Faults.{has_nul, key_fault};
+ghost use Rattle.resb_layout.specs.TreeFaults.{has_nul, key_fault};
 ghost use Rattle.resb_write.specs.Inner.NearPositions.{near_position_in, IsKeyBlock};
 
 use crate::error::BinarySerializerError;
@@ -28,8 +28,8 @@ const GREATEST_POSITION: u32 = 2_147_483_647;
 #[derive(Drop)]
 pub(crate) struct KeyBlock<'k> {
     pub(crate) keys: Vec<&'k str>,
-    /// The position of the last occurrence of each key of the tables, in walk order and in bytes of
-    /// the body.
+    /// The position of the last occurrence of each key of the tables, in laying order and in bytes
+    /// of the body.
     pub(crate) positions: Vec<u32>,
 }
 

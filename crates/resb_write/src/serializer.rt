@@ -3,7 +3,7 @@
 ghost use Rattle.std.specs.Prelude.{IfOk, IfErr};
 ghost use Rattle.resb_tree.specs.Bundle.{root_of};
 ghost use Rattle.resb_write.specs.FaultOf.{fault_of};
-ghost use Rattle.resb_layout.specs.Faults.{RefusesWriting};
+ghost use Rattle.resb_layout.specs.TreeFaults.{RefusesWriting};
 ghost use Rattle.resb_layout.specs.Written.{Written};
 
 use crate::contents::Contents;
@@ -14,7 +14,7 @@ use crate::limits::check_sizes;
 use crate::sites::Sites;
 use crate::strings::Strings;
 use crate::tree_bodies::lay_bodies;
-use resb_tree::{Key, ResourceBundle, in_walk_order};
+use resb_tree::{Key, ResourceBundle, in_laying_order};
 use std::alloc::Global;
 
 /// Writes bundles as files. There are no values of this type.
@@ -54,7 +54,7 @@ fn write<'a>(
         bundle.now.is_locale_fallback_enabled list.now) }
     ensures err { IfErr result (λ e. RefusesWriting (root_of bundle.now) list.now (fault_of e)) }
 {
-    let order = in_walk_order(alloc, bundle.root())?;
+    let order = in_laying_order(alloc, bundle.root())?;
     let contents = Contents::gather(alloc, &order)?;
     let KeyBlock { keys, positions } = KeyBlock::new(alloc, &contents.keys, list)?;
     check_sizes(&contents, list)?;

@@ -2,7 +2,7 @@
 //! Where keys and strings stand is found out elsewhere.
 ghost use Rattle.std.specs.Prelude.{◌≡◌, ◌∷◌, ◌<◌, ◌≤◌, length, take, drop};
 
-/// Where the keys and the strings of a tree stand, one for each in walk order.
+/// Where the keys and the strings of a tree stand, one for each in laying order.
 #[derive(Drop)]
 pub(crate) struct Sites<'s> {
     /// The positions of the tables' keys, in bytes of the body.

@@ -15,7 +15,7 @@ pub(crate) struct Strings {
 }
 
 impl Strings {
-    /// The pool of the strings of a tree, which are given in walk order. Refused is a string that
+    /// The pool of the strings of a tree, which are given in laying order. Refused is a string that
     /// is too long, and strings that are too large for a pool.
     pub(crate) fn plan(alloc: Global, texts: &[&str]) -> Result<Strings, PlanError>
         ensures ok { IfOk result (λ s. Pooled (nows texts.now) s.pool.items s.offsets.items) }

@@ -2,7 +2,8 @@
 //! Which numbers make a body is said in `resource_bodies`.
 ghost use Rattle.std.specs.Prelude.{◌≡◌, ◌++◌, ◌<◌, ◌^◌, length, true, OnOk};
 ghost use Rattle.std.specs.Int.{to_le_bytes, w32, w16};
-ghost use Rattle.resb_layout.specs.Laid.{words as words_bytes, fill, halves, words_body};
+ghost use Rattle.resb_layout.specs.Laid.{words as words_bytes, fill, words_body};
+ghost use Rattle.resb_format.specs.Bytes.{units_as_bytes};
 ghost use Rattle.resb_layout.specs.Laid.{near_table_body, wide_table_body, are_near};
 
 use std::alloc::AllocError;
@@ -43,7 +44,7 @@ pub(crate) fn put_counted(tail: &mut Vec<u8>, words: &[u32]) -> Result<(), Alloc
 /// Appends positions that units hold.
 fn put_halves(tail: &mut Vec<u8>, positions: &[u32]) -> Result<(), AllocError>
     requires { are_near positions.now ≡ true }
-    ensures { OnOk result (tail.new.items ≡ tail.old.items ++ halves positions.now) }
+    ensures { OnOk result (tail.new.items ≡ tail.old.items ++ units_as_bytes positions.now) }
 {
     for position in positions {
         put_half(tail, *position as u16)?;

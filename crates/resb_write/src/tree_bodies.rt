@@ -1,13 +1,13 @@
-//! Lays a whole tree, its resources in walk order over a stack of words.
+//! Lays a whole tree, its resources in laying order over a stack of words.
 //! What is laid for one resource is said in `body_steps`. No function calls itself.
 ghost use Rattle.std.specs.Prelude.{ℕ, ◌≡◌, ◌+◌, ◌%◌, ◌≤◌, [], ◌∷◌, List, All, length, IfOk, OnOk};
 ghost use Rattle.std.specs.List.{sum_by};
 ghost use Rattle.resb_tree.specs.Tree.{Tree};
 ghost use Rattle.resb_tree.specs.View.{tree_of};
 ghost use Rattle.resb_layout.specs.Laid.{Given, Lays};
-ghost use Rattle.resb_tree.specs.WalkOrder.{walk_order, children, trees_in};
+ghost use Rattle.resb_tree.specs.LayingOrder.{laying_order, children, trees_in};
 ghost use Rattle.resb_write.specs.Inner.StackSteps.{LaysNext, LaysRow};
-ghost use Rattle.resb_write.specs.Inner.Room.{laid_of, own_size, Numbered};
+ghost use Rattle.resb_write.specs.Inner.Room.{laid_of, own_size, GivesInTurn};
 ghost use Rattle.resb_write.specs.Inner.Room.{HasRoomFor, HasRoomBehind, tail_base, most_units};
 ghost use Rattle.resb_write.specs.Inner.Seen.{Anywhere, HasRoom, TakesNoMore, CanLay};
 
@@ -16,7 +16,7 @@ use crate::body_steps::{
 };
 use crate::sites::{Bodies, Coming, Sites};
 use crate::unit_count::count_units;
-use resb_tree::{Resource, WalkOrder};
+use resb_tree::{LayingOrder, Resource};
 use std::alloc::{AllocError, Global};
 
 /// Lays a resource behind its members, whose words it takes off the stack, and puts its own. Where
@@ -30,15 +30,17 @@ fn step(
 ) -> Result<(), AllocError>
     requires room { HasRoom base bodies.old (own_size (tree_of resource.now)) }
     requires enough { length (children (tree_of resource.now)) ≤ length words.old.items }
-    requires numbered { (g : Given) × (rest : List Tree) × Numbered g coming.old.positions.now
+    requires numbered { (g : Given) × (rest : List Tree) × GivesInTurn g coming.old.positions.now
         coming.old.offsets.now (tree_of resource.now ∷ rest) }
     ensures step { OnOk result (Anywhere base (λ g. (rest : List Tree)
-        → Numbered g coming.old.positions.now coming.old.offsets.now (tree_of resource.now ∷ rest)
+        → GivesInTurn g coming.old.positions.now coming.old.offsets.now (tree_of resource.now
+        ∷ rest)
         → LaysNext g (laid_of bodies.old) words.old.items (tree_of resource.now)
         (laid_of bodies.new) words.new.items)) }
     ensures left { OnOk result ((g : Given) (rest : List Tree)
-        → Numbered g coming.old.positions.now coming.old.offsets.now (tree_of resource.now ∷ rest)
-        → Numbered g coming.new.positions.now coming.new.offsets.now rest) }
+        → GivesInTurn g coming.old.positions.now coming.old.offsets.now (tree_of resource.now
+        ∷ rest)
+        → GivesInTurn g coming.new.positions.now coming.new.offsets.now rest) }
     ensures takes { OnOk result (TakesNoMore base bodies.old bodies.new
         (own_size (tree_of resource.now))) }
 {
@@ -61,13 +63,13 @@ fn steps<'t, 'a>(
     sites: &Sites<'_>,
     bodies: &mut Bodies,
     words: &mut Vec<u32>,
-    order: &WalkOrder<'t, 'a>,
+    order: &LayingOrder<'t, 'a>,
 ) -> Result<(), AllocError>
     requires can { CanLay base bodies.old (length words.old.items) (trees_in order.now.items) }
     requires numbered { (g : Given)
-        × Numbered g sites.now.positions.now sites.now.offsets.now (trees_in order.now.items) }
+        × GivesInTurn g sites.now.positions.now sites.now.offsets.now (trees_in order.now.items) }
     ensures lays { OnOk result (Anywhere base (λ g.
-        Numbered g sites.now.positions.now sites.now.offsets.now (trees_in order.now.items)
+        GivesInTurn g sites.now.positions.now sites.now.offsets.now (trees_in order.now.items)
         → LaysRow g (laid_of bodies.old) words.old.items (trees_in order.now.items)
         (laid_of bodies.new) words.new.items)) }
     ensures takes { OnOk result (length bodies.new.units.items
@@ -81,23 +83,23 @@ fn steps<'t, 'a>(
     Ok(())
 }
 
-/// Lays a tree, whose resources are given in walk order, behind the pool of its strings, and gives
-/// its word. There is room for the bodies of its resources. `Err` is for want of memory alone;
-/// what stands then is of no use.
+/// Lays a tree, whose resources are given in laying order, behind the pool of its strings, and
+/// gives its word. There is room for the bodies of its resources. `Err` is for want of memory
+/// alone; what stands then is of no use.
 fn lay_order<'t, 'a>(
     alloc: Global,
     base: usize,
     sites: &Sites<'_>,
     bodies: &mut Bodies,
-    order: &WalkOrder<'t, 'a>,
+    order: &LayingOrder<'t, 'a>,
 ) -> Result<u32, AllocError>
-    requires tree { (t : Tree) × (trees_in order.now.items ≡ walk_order t) }
+    requires tree { (t : Tree) × (trees_in order.now.items ≡ laying_order t) }
     requires room { HasRoomFor base (laid_of bodies.old) (trees_in order.now.items) }
     requires numbered { (g : Given)
-        × Numbered g sites.now.positions.now sites.now.offsets.now (trees_in order.now.items) }
+        × GivesInTurn g sites.now.positions.now sites.now.offsets.now (trees_in order.now.items) }
     ensures lays { IfOk result (λ word. Anywhere base (λ g.
-        Numbered g sites.now.positions.now sites.now.offsets.now (trees_in order.now.items)
-        → (t : Tree) → trees_in order.now.items ≡ walk_order t
+        GivesInTurn g sites.now.positions.now sites.now.offsets.now (trees_in order.now.items)
+        → (t : Tree) → trees_in order.now.items ≡ laying_order t
         → Lays g (laid_of bodies.old) t (laid_of bodies.new) word)) }
     ensures fits { OnOk result (HasRoomFor base (laid_of bodies.new) []) }
 {
@@ -109,24 +111,24 @@ fn lay_order<'t, 'a>(
     Ok(word)
 }
 
-/// Lays a tree, whose resources are given in walk order, behind the pool of its strings, where the
-/// key block ends at a byte of the body. Gives what is laid, and the tree's word. The tail begins
-/// behind the 16-bit block, at a multiple of 4. `Err` is for want of memory alone.
+/// Lays a tree, whose resources are given in laying order, behind the pool of its strings, where
+/// the key block ends at a byte of the body. Gives what is laid, and the tree's word. The tail
+/// begins behind the 16-bit block, at a multiple of 4. `Err` is for want of memory alone.
 pub(crate) fn lay_bodies<'t, 'a>(
     alloc: Global,
     sites: &Sites<'_>,
     pool: Vec<u16>,
     keys_end: usize,
-    order: &WalkOrder<'t, 'a>,
+    order: &LayingOrder<'t, 'a>,
 ) -> Result<(Bodies, u32), AllocError>
     requires aligned { keys_end % 4 ≡ 0 }
-    requires tree { (t : Tree) × (trees_in order.now.items ≡ walk_order t) }
+    requires tree { (t : Tree) × (trees_in order.now.items ≡ laying_order t) }
     requires room { HasRoomBehind keys_end pool.items (trees_in order.now.items) }
     requires numbered { (g : Given)
-        × Numbered g sites.now.positions.now sites.now.offsets.now (trees_in order.now.items) }
+        × GivesInTurn g sites.now.positions.now sites.now.offsets.now (trees_in order.now.items) }
     ensures lays { IfOk result (λ laid. (g : Given) (t : Tree)
-        → Numbered g sites.now.positions.now sites.now.offsets.now (trees_in order.now.items)
-        → trees_in order.now.items ≡ walk_order t → g.base ≡ tail_base keys_end laid.0
+        → GivesInTurn g sites.now.positions.now sites.now.offsets.now (trees_in order.now.items)
+        → trees_in order.now.items ≡ laying_order t → g.base ≡ tail_base keys_end laid.0
         → Lays g (record { units = pool.items; tail = [] }) t (laid_of laid.0) laid.1) }
     ensures fits { IfOk result (λ laid. HasRoomFor (tail_base keys_end laid.0)
         (laid_of laid.0) []) }

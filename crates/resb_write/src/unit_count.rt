@@ -5,15 +5,15 @@ ghost use Rattle.std.specs.Prelude.{length, map, take, nat_le, true, false, IfOk
 ghost use Rattle.std.specs.List.{sum_by, list_all};
 ghost use Rattle.resb_tree.specs.Tree.{Tree};
 ghost use Rattle.resb_tree.specs.View.{tree_of};
-ghost use Rattle.resb_tree.specs.WalkOrder.{walk_order, children, trees_in};
+ghost use Rattle.resb_tree.specs.LayingOrder.{laying_order, children, trees_in};
 ghost use Rattle.resb_layout.specs.Laid.{Given, are_near};
-ghost use Rattle.resb_write.specs.Inner.Room.{most_units, Numbered};
+ghost use Rattle.resb_write.specs.Inner.Room.{most_units, GivesInTurn};
 ghost use Rattle.resb_write.specs.Inner.Counted.{is_near, own_units, short_units};
 ghost use Rattle.resb_write.specs.Inner.Counted.{are_set_behind, CountsOne};
 
 use crate::resource_bodies::{UNIT_MAX, are_near_positions};
 use crate::sites::{Coming, Sites};
-use resb_tree::{Resource, WalkOrder};
+use resb_tree::{LayingOrder, Resource};
 use std::alloc::{AllocError, Global};
 
 /// The units of a collection of so many members, each of which takes some.
@@ -112,10 +112,11 @@ fn count_own(
     resource: &Resource<'_>,
 ) -> Result<usize, AllocError>
     requires enough { length (children (tree_of resource.now)) ≤ length marks.old.items }
-    requires numbered { (g : Given) × (rest : List Tree) × Numbered g coming.old.positions.now
+    requires numbered { (g : Given) × (rest : List Tree) × GivesInTurn g coming.old.positions.now
         coming.old.offsets.now (tree_of resource.now ∷ rest) }
     ensures counts { IfOk result (λ n. (g : Given) (rest below : List Tree)
-        → Numbered g coming.old.positions.now coming.old.offsets.now (tree_of resource.now ∷ rest)
+        → GivesInTurn g coming.old.positions.now coming.old.offsets.now (tree_of resource.now
+        ∷ rest)
         → marks.old.items ≡ map (is_near g) (below ++ children (tree_of resource.now))
         → CountsOne g (tree_of resource.now) rest below n coming.new marks.new.items) }
 {
@@ -130,19 +131,20 @@ fn count_own(
 }
 
 /// The number of units of the 16-bit block: those of the pool of the strings, and what the bodies
-/// of a tree add, whose resources are given in walk order. It is the same wherever the tail begins.
+/// of a tree add, whose resources are given in laying order. It is the same wherever the tail
+/// begins.
 pub(crate) fn count_units(
     alloc: Global,
     sites: &Sites<'_>,
     pool: usize,
-    order: &WalkOrder<'_, '_>,
+    order: &LayingOrder<'_, '_>,
 ) -> Result<usize, AllocError>
-    requires tree { (t : Tree) × (trees_in order.now.items ≡ walk_order t) }
+    requires tree { (t : Tree) × (trees_in order.now.items ≡ laying_order t) }
     requires room { pool + sum_by most_units (trees_in order.now.items) < 2 ^ 28 }
     requires numbered { (g : Given)
-        × Numbered g sites.now.positions.now sites.now.offsets.now (trees_in order.now.items) }
+        × GivesInTurn g sites.now.positions.now sites.now.offsets.now (trees_in order.now.items) }
     ensures counts { IfOk result (λ count. (g : Given)
-        → Numbered g sites.now.positions.now sites.now.offsets.now (trees_in order.now.items)
+        → GivesInTurn g sites.now.positions.now sites.now.offsets.now (trees_in order.now.items)
         → count ≡ pool + sum_by (own_units g) (trees_in order.now.items)) }
     ensures few { IfOk result (λ count. count
         ≤ pool + sum_by most_units (trees_in order.now.items)) }

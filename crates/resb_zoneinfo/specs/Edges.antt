@@ -45,26 +45,28 @@ DayIsNone month day weekday e = (m : ℕ) × (month ≡ pos m) × IsDayFault m d
 
 -- five numbers say no change: the month is beyond 11, the time beyond a day, the clock beyond 2, or
 -- the day or weekday is none
-abbrev pub IsFault : ℤ → ℤ → ℤ → ℤ → ℤ → RuleError → Type 0
-IsFault month day weekday time clock error.Month = IsBeyond 11 month
-IsFault month day weekday time clock error.Time = IsBeyond 86400 time
-IsFault month day weekday time clock error.Clock = IsBeyond 2 clock
-IsFault month day weekday time clock error.Day = DayIsNone month day weekday error.Day
-IsFault month day weekday time clock error.Weekday = DayIsNone month day weekday error.Weekday
-IsFault month day weekday time clock error.Length = ⊥
-IsFault month day weekday time clock error.Saving = ⊥
+abbrev pub IsEdgeFault : ℤ → ℤ → ℤ → ℤ → ℤ → RuleError → Type 0
+IsEdgeFault month day weekday time clock error.Month = IsBeyond 11 month
+IsEdgeFault month day weekday time clock error.Time = IsBeyond 86400 time
+IsEdgeFault month day weekday time clock error.Clock = IsBeyond 2 clock
+IsEdgeFault month day weekday time clock error.Day = DayIsNone month day weekday error.Day
+IsEdgeFault month day weekday time clock error.Weekday = DayIsNone month day weekday error.Weekday
+IsEdgeFault month day weekday time clock error.Length = ⊥
+IsEdgeFault month day weekday time clock error.Saving = ⊥
 
 -- the number at a place among words
-abbrev pub number : List ℕ → ℕ → ℤ
-number words k = cast_signed w32 (slice_index words k)
+abbrev pub signed_word : List ℕ → ℕ → ℤ
+signed_word words k = cast_signed w32 (slice_index words k)
 
 -- five numbers from a place on say a change
 abbrev pub SaysEdgeAt : List ℕ → ℕ → Edge → Type 0
 SaysEdgeAt v k =
-    SaysEdge (number v k) (number v (k + 1)) (number v (k + 2)) (number v (k + 3))
-    (number v (k + 4))
+    SaysEdge (signed_word v k) (signed_word v (k + 1)) (signed_word v (k + 2))
+    (signed_word v (k + 3))
+    (signed_word v (k + 4))
 
 -- five numbers from a place on have a fault
-abbrev pub IsFaultAt : List ℕ → ℕ → RuleError → Type 0
-IsFaultAt v k =
-    IsFault (number v k) (number v (k + 1)) (number v (k + 2)) (number v (k + 3)) (number v (k + 4))
+abbrev pub IsEdgeFaultAt : List ℕ → ℕ → RuleError → Type 0
+IsEdgeFaultAt v k =
+    IsEdgeFault (signed_word v k) (signed_word v (k + 1)) (signed_word v (k + 2))
+    (signed_word v (k + 3)) (signed_word v (k + 4))

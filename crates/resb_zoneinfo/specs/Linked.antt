@@ -7,16 +7,16 @@ use Rattle.resb_zoneinfo.specs.declared.linked.Linked.{Linked}
 use Rattle.resb_zoneinfo.specs.declared.linked.Linked.TheVariants.{Link, Value}
 
 -- the type of an integer of 28 bits
-abbrev pub integer : ℕ
-integer = 7
+abbrev pub integer_type : ℕ
+integer_type = 7
 
 -- an integer stands at a place
 abbrev pub IsInteger : Place → Type 0
-IsInteger p = type_at p.at ≡ Some integer
+IsInteger p = type_at p.at ≡ Some integer_type
 
 -- something stands at a place that is no integer
 abbrev pub IsOther : Place → Type 0
-IsOther p = (t : ℕ) × (type_at p.at ≡ Some t) × (t ≢ integer)
+IsOther p = (t : ℕ) × (type_at p.at ≡ Some t) × (t ≢ integer_type)
 
 -- a number of 32 bits with a sign is read
 abbrev pub ReadsNumber : Place → ℤ → ℕ → Type 0

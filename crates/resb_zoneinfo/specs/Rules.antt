@@ -4,7 +4,7 @@ use Rattle.std.specs.Prelude.{ℕ, ℤ, pos, ◌≡◌, ◌≢◌, ◌+◌, ◌/
 use Rattle.std.specs.Prelude.{if◌then◌else◌, nat_le, length, List}
 use Rattle.resb_zoneinfo.specs.Civil.{IsInYear}
 use Rattle.resb_zoneinfo.specs.Edges.{IsTimeIn, IsStandard, clock_reading}
-use Rattle.resb_zoneinfo.specs.Edges.{number, SaysEdgeAt, IsFaultAt}
+use Rattle.resb_zoneinfo.specs.Edges.{signed_word, SaysEdgeAt, IsEdgeFaultAt}
 use Rattle.resb_zoneinfo.specs.declared.edge.Edge.{Edge}
 use Rattle.resb_zoneinfo.specs.declared.rule.FinalRule.{FinalRule}
 use Rattle.resb_zoneinfo.specs.declared.numbers.RuleError.{RuleError}
@@ -51,14 +51,14 @@ pub record SaysRule (v : List ℕ) (r : FinalRule) : Type 0 where
   pub eleven : length v ≡ 11
   pub starts : SaysEdgeAt v 0 r.start
   pub ends : SaysEdgeAt v 5 r.end
-  pub saved : number v 10 ≡ pos r.saving
+  pub saved : signed_word v 10 ≡ pos r.saving
 
 -- numbers are not eleven, or they save nothing
 abbrev pub IsWholeFault : List ℕ → RuleError → Type 0
 IsWholeFault v error.Length = length v ≢ 11
-IsWholeFault v error.Saving = number v 10 ≤ℤ pos 0
+IsWholeFault v error.Saving = signed_word v 10 ≤ℤ pos 0
 IsWholeFault v _ = ⊥
 
 -- numbers say no rule: they have a fault as a whole, or those of the start or of the end have one
 abbrev pub IsRuleFault : List ℕ → RuleError → Type 0
-IsRuleFault v e = IsWholeFault v e ⊎ IsFaultAt v 0 e ⊎ IsFaultAt v 5 e
+IsRuleFault v e = IsWholeFault v e ⊎ IsEdgeFaultAt v 0 e ⊎ IsEdgeFaultAt v 5 e

@@ -11,8 +11,8 @@ abbrev pub early : Transitions → List ℕ
 early t = words_or_none (option_map view_words t.before32)
 
 -- the words of the moments within the range of 32 bits
-abbrev pub within : Transitions → List ℕ
-within t = words_or_none (option_map number_words t.within32)
+abbrev pub middle : Transitions → List ℕ
+middle t = words_or_none (option_map number_words t.within32)
 
 -- the words of the moments after the range of 32 bits
 abbrev pub late : Transitions → List ℕ
@@ -20,7 +20,7 @@ late t = words_or_none (option_map view_words t.after32)
 
 -- how many moments there are: two words for each outside of the range of 32 bits, one within
 abbrev pub transition_count : Transitions → ℕ
-transition_count t = length (early t) / 2 + length (within t) + length (late t) / 2
+transition_count t = length (early t) / 2 + length (middle t) + length (late t) / 2
 
 -- there are so many moments, and no word is left over
 pub record HasCount (t : Transitions) (count : ℕ) : Type 0 where
@@ -31,8 +31,8 @@ pub record HasCount (t : Transitions) (count : ℕ) : Type 0 where
 -- the moment with this number behind those before the range of 32 bits
 abbrev pub later_transition : Transitions → ℕ → ℤ
 later_transition t k =
-    if nat_lt k (length (within t)) then cast_signed w32 (slice_index (within t) k)
-    else long_moment (late t) (k - length (within t))
+    if nat_lt k (length (middle t)) then cast_signed w32 (slice_index (middle t) k)
+    else long_moment (late t) (k - length (middle t))
 
 -- the moment with this number, in seconds since 1970
 unfoldable pub transition : Transitions → ℕ → ℤ

@@ -34,7 +34,7 @@ pub struct Edge {
 }
 
 impl Edge {
-    ghost use Rattle.resb_zoneinfo.specs.Edges.{IsTimeIn, SaysEdge, IsFault};
+    ghost use Rattle.resb_zoneinfo.specs.Edges.{IsTimeIn, SaysEdge, IsEdgeFault};
 
     /// What the clock shows then in a year: the seconds since the year 0 began.
     pub fn time_in(&self, year: u64) -> u64
@@ -57,7 +57,7 @@ impl Edge {
         clock: i32,
     ) -> Result<Edge, RuleError>
         ensures said { IfOk result (SaysEdge month day weekday time clock) }
-        ensures refused { IfErr result (IsFault month day weekday time clock) }
+        ensures refused { IfErr result (IsEdgeFault month day weekday time clock) }
     {
         let Some(month) = natural(month, 11) else {
             return Err(RuleError::Month);

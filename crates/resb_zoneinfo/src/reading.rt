@@ -4,7 +4,7 @@ ghost use Rattle.std.specs.Prelude.{◌≡◌, ◌≤◌, ◌+◌, ℕ, IfOk, If
 ghost use Rattle.resb.specs.Fields.{ReadsRecord, CountsRecord, RefusesRecord};
 ghost use Rattle.resb.specs.Places.{place_of};
 ghost use Rattle.resb.specs.Reading.{LacksOrMemory};
-ghost use Rattle.resb.specs.Tables.{entries_of};
+ghost use Rattle.resb.specs.Tables.{view_entries};
 ghost use Rattle.resb_zoneinfo.specs.Reading.{info_names};
 
 use crate::data::{InfoFields, ZoneInfo};
@@ -47,13 +47,13 @@ impl<'de> ZoneInfo<'de> {
         walk: &mut Walk,
     ) -> Result<ZoneInfo<'de>, ReadingError<'m>>
         ensures read { IfOk result (λ i. (n : ℕ)
-            × ⟦<InfoFields<'de> as Fields<'de>>⟧.reads info_names (entries_of table.entry)
+            × ⟦<InfoFields<'de> as Fields<'de>>⟧.reads info_names (view_entries table.entry)
             (i.version, i.names, i.zones, i.rules, i.regions) n × (walk.new + n ≡ walk.old)) }
         ensures refused { IfErr result (λ e. (walk.new ≤ walk.old)
             × LacksOrMemory (⟦<InfoFields<'de> as Fields<'de>>⟧.counts info_names
-            (entries_of table.entry)) walk.old e) }
+            (view_entries table.entry)) walk.old e) }
         ensures says { IfErr result (⟦<InfoFields<'de> as Fields<'de>>⟧.refuses info_names
-            (entries_of table.entry) walk.old walk.new) }
+            (view_entries table.entry) walk.old walk.new) }
     {
         let keys = ["TZVersion", "Names", "Zones", "Rules", "Regions"];
         let (version, names, zones, rules, regions) = <InfoFields<'de> as Fields<'de>>::read_fields(

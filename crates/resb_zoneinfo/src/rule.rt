@@ -2,7 +2,7 @@
 //! When in a year they do is said in `edge`, and what stood before the final year in `zone`.
 ghost use Rattle.std.specs.Prelude.{◌≡◌, ◌+◌, ◌<◌, ◌≤◌, ◌^◌, IfOk, IfErr, length};
 ghost use Rattle.resb.specs.Views.{number_words};
-ghost use Rattle.resb_zoneinfo.specs.Edges.{IsStandard, clock_reading, SaysEdgeAt, IsFaultAt};
+ghost use Rattle.resb_zoneinfo.specs.Edges.{IsStandard, clock_reading, SaysEdgeAt, IsEdgeFaultAt};
 
 use crate::civil::year_of;
 use crate::edge::{Clock, Edge};
@@ -89,7 +89,7 @@ fn edge_at(numbers: I32View<'_>, from: usize) -> Result<Edge, RuleError>
     requires small { from ≤ 5 }
     requires there { from + 5 ≤ length (number_words numbers) }
     ensures said { IfOk result (SaysEdgeAt (number_words numbers.entry) from) }
-    ensures refused { IfErr result (IsFaultAt (number_words numbers.entry) from) }
+    ensures refused { IfErr result (IsEdgeFaultAt (number_words numbers.entry) from) }
 {
     Edge::from_numbers(
         numbers.item(from),

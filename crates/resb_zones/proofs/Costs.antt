@@ -12,13 +12,14 @@ use Rattle.resb.specs.Strings.{string_at, key_at}
 use Rattle.resb.specs.Int28.{signed}
 use Rattle.resb.specs.Reading.{Lacks}
 use Rattle.resb.specs.Leaves.{type_in, value_in, signed_at, key_from, bytes_from, bytes_of_type}
-use Rattle.resb.specs.Leaves.{units_as_bytes, ReadsKey, CountsKey, CountsView}
+use Rattle.resb.specs.Leaves.{ReadsKey, CountsKey, CountsView}
+use Rattle.resb.specs.Bytes.{units_as_bytes}
 use Rattle.resb.specs.Spots.{cost_at}
 use Rattle.resb.specs.Sequences.{at_entry, entries_in, entries_from, entries_at}
 use Rattle.resb.specs.declared.binary.Spot.{Spot}
 use Rattle.resb.specs.declared.binary.Spot.TheVariants as spot
 use Rattle.resb_zones.specs.Zones.{base_name, pairs_name, CountsNumber, IsReadable}
-use Rattle.resb_zones.specs.Inner.Fields.{IsEntry}
+use Rattle.resb_zones.specs.Inner.Fields.{CostsAsEntry}
 
 some_of : {A B : Type 0} (f : A → B) (o : Option A) (y : B) → option_map f o ≡ Some y
     → (x : A) × (o ≡ Some x) × (y ≡ f x)
@@ -26,26 +27,27 @@ some_of f (Some x) y e = (x, refl, cc)
 some_of f None y e = cc
 
 -- the place of a key and that of a resource
-entry_is : (p : Parts) (es : List (ℕ × Member)) → All IsEntry (map (at_entry p) es)
-entry_is p [] = All-nil IsEntry
+entry_is : (p : Parts) (es : List (ℕ × Member)) → All CostsAsEntry (map (at_entry p) es)
+entry_is p [] = All-nil CostsAsEntry
 entry_is p (e ∷ es) =
-    All-cons IsEntry (at_entry p e) (map (at_entry p) es) (refl, member_costs e.1) (entry_is p es)
+    All-cons CostsAsEntry (at_entry p e) (map (at_entry p) es) (refl, member_costs e.1)
+    (entry_is p es)
   where
     member_costs : (m : Member) → cost_at (spot_of m) ≡ 1
     member_costs (word w) = refl
     member_costs (unit u) = refl
 
 entries_at_spot : (p : Parts) (s : Spot) (places : List (Place × Place))
-    → entries_from p s ≡ Some places → All IsEntry places
+    → entries_from p s ≡ Some places → All CostsAsEntry places
 entries_at_spot p (spot.Descriptor w) places e =
     let (es, _, same) = some_of (map (at_entry p)) (entries_in p w) places e in
-    subst (All IsEntry) (sym same) (entry_is p es)
+    subst (All CostsAsEntry) (sym same) (entry_is p es)
 entries_at_spot p (spot.Unit u) places e = cc
 entries_at_spot p (spot.Word w) places e = cc
 entries_at_spot p (spot.Key k) places e = cc
 
 pub entries_are : (p : Place) (places : List (Place × Place)) → entries_at p ≡ Some places
-    → All IsEntry places
+    → All CostsAsEntry places
 entries_are p places e = entries_at_spot p.parts p.at places e
 
 -- what stands there has the count that it is given
@@ -102,7 +104,8 @@ lacks_one counts left n h one lacks =
     let none : 1 ≤ left → ⊥ = λ le. lacks n h (omega arith) in omega arith
 
 module _ (e : Place
-    × Place) (left : ℕ) (name : List ℕ) (k : ℕ) (is : IsEntry e) (named : ReadsKey e.0 name k) where
+    × Place) (left : ℕ) (name : List ℕ) (k : ℕ) (is : CostsAsEntry e)
+    (named : ReadsKey e.0 name k) where
   pub lacks_base : name ≡ base_name → Lacks (CountsNumber e.1) left → IsReadable e → left ≡ 0
   lacks_base same lacks h =
       let (n, there) = h.named in

@@ -8,7 +8,7 @@ use Rattle.std.proofs.lemmas.List.{get_or-append-add}
 use Rattle.std.proofs.lemmas.List.Elements.{All-append, All-cons, All-nil}
 use Rattle.resb.specs.Places.{Place}
 use Rattle.resb_zones.specs.Zones.{IsNamed, IsReadable, IsLastNamed}
-use Rattle.resb_zones.specs.Inner.Fields.{Takes, LastSoFar, HasTaken, FieldsFront}
+use Rattle.resb_zones.specs.Inner.Fields.{TakesNamed, LastSoFar, HasTaken, FieldsFront}
 use Rattle.resb_zones.specs.declared.fields.Fields.{Fields}
 
 one : {A : Type 0} (P : A → Type 0) (x : A) → P x → All P (x ∷ [])
@@ -68,7 +68,8 @@ module _ (name : List ℕ) where
         }
 
     -- the last one so far, with one entry more
-    pub last_more : (old new : Option X) → LastSoFar name reads ps old → Takes name reads e old new
+    pub last_more : (old new : Option X) → LastSoFar name reads ps old
+        → TakesNamed name reads e old new
         → LastSoFar name reads (ps ++ e ∷ []) new
     last_more old new h (inl (named, x, k, r, same)) =
         subst (LastSoFar name reads (ps ++ e ∷ [])) (sym same)

@@ -11,8 +11,8 @@ abbrev pub pair_count : Zone → ℕ
 pair_count z = length (pair_words z.pairs) / 2
 
 -- from which moment the pair with this number holds, and its offset
-abbrev pub begins : Zone → ℕ → ℤ
-begins z k = cast_signed w32 (slice_index (pair_words z.pairs) (2 * k))
+abbrev pub pair_start : Zone → ℕ → ℤ
+pair_start z k = cast_signed w32 (slice_index (pair_words z.pairs) (2 * k))
 
 -- the offset of the pair with this number, in seconds
 abbrev pub offset : Zone → ℕ → ℤ
@@ -20,12 +20,12 @@ offset z k = cast_signed w32 (slice_index (pair_words z.pairs) (2 * k + 1))
 
 -- the pairs from this number on begin later
 abbrev pub BeginLater : Zone → ℤ → ℕ → Type 0
-BeginLater z moment from = (k : ℕ) → from ≤ k → k < pair_count z → moment <ℤ begins z k
+BeginLater z moment from = (k : ℕ) → from ≤ k → k < pair_count z → moment <ℤ pair_start z k
 
 -- the last pair that begins at most at the moment
 pub record IsLastBegun (z : Zone) (moment : ℤ) (k : ℕ) : Type 0 where
   pub there : k < pair_count z
-  pub begun : begins z k ≤ℤ moment
+  pub begun : pair_start z k ≤ℤ moment
   pub last : BeginLater z moment (k + 1)
 
 -- the offset of the last pair that begins at most at the moment, or the base where all pairs begin

@@ -3,7 +3,7 @@
 ghost use Rattle.std.specs.Prelude.{◌≡◌, ◌≤◌, ◌<◌, ◌+◌, None, length, IfOk, OnOk, OnErr};
 ghost use Rattle.std.specs.List.{All};
 ghost use Rattle.resb_zones.specs.Zones.{IsReadable};
-ghost use Rattle.resb_zones.specs.Inner.Fields.{entry_of, IsEntry, HasTaken, HasSeen};
+ghost use Rattle.resb_zones.specs.Inner.Fields.{entry_of, CostsAsEntry, HasTaken, HasSeen};
 
 use resb::binary::helpers::{PairView, i32_tuple};
 use resb::binary::{BinaryDeserializerError, Cursor, MapAccess, ReadingError, Walk};
@@ -23,7 +23,7 @@ impl<'de> Fields<'de> {
         value: Cursor<'de>,
         walk: &mut Walk,
     ) -> Result<(), BinaryDeserializerError>
-        requires { IsEntry (entry_of key value) }
+        requires { CostsAsEntry (entry_of key value) }
         ensures read { let e = entry_of key.entry value.entry in
             OnOk result (HasTaken e self.old self.new × (walk.new + 1 ≡ walk.old)) }
         ensures refused { let e = entry_of key.entry value.entry in
@@ -49,7 +49,7 @@ pub(crate) fn read_fields<'de, 'm>(
     walk: &mut Walk,
 ) -> Result<Fields<'de>, ReadingError<'m>>
     requires fresh { entries.failed ≡ None }
-    requires places { All IsEntry entries.rest }
+    requires places { All CostsAsEntry entries.rest }
     ensures read { let all = entries.entry.rest in
         IfOk result (λ f. HasSeen all f × (walk.new + length all ≡ walk.old)) }
     ensures refused { let all = entries.entry.rest in

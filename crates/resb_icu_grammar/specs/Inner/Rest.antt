@@ -12,7 +12,7 @@ use Rattle.resb_grammar.specs.GroupTypes.{Kind}
 use Rattle.resb_tree.specs.Tree.{Tree, array, table, trees_of, map_of}
 use Rattle.resb_icu_grammar.specs.Blanks.{Skip}
 use Rattle.resb_icu_grammar.specs.Groups.{Last, a_group, Members, Entries, Untyped, Typed, Group}
-use Rattle.resb_icu_grammar.specs.Groups.{is_new, is_collation, is_table}
+use Rattle.resb_icu_grammar.specs.Groups.{is_new, is_collation, holds_entries}
 
 -- the tree of the root, and the keys in order of place, with repetitions
 abbrev pub Meaning : Type 0
@@ -100,7 +100,7 @@ pub record AfterMember (text : List ℕ) (goal : Goal) (ts : List Tree) (at : �
 pub record AfterValue (text : List ℕ) (goal : Goal) (es : List (List ℕ × Tree)) (key : List ℕ)
     (at : ℕ) (t : Tree) (ks : List (List ℕ)) (m : Meaning) : Type 0 where
   pub next : ℕ
-  pub taken : (is_collation key && is_table t) ≡ false
+  pub taken : (is_collation key && holds_entries t) ≡ false
   pub after : Skip text at next
   pub rest : InEntries text goal (es ++ (key, t) ∷ []) next ks m
 

@@ -1,7 +1,7 @@
 -- Numbers, but for the word that they are.
 use Rattle.std.specs.Prelude.{◌≡◌, ◌+◌, ◌≤◌, ℕ, List, slice_index}
 use Rattle.resb_grammar.specs.Ascii as ascii
-use Rattle.resb_grammar.specs.Tokens as plain
+use Rattle.resb_grammar.specs.Lexical as plain
 use Rattle.resb_icu_grammar.specs.Words.{Digits}
 
 -- digits with or without a sign, in their range

@@ -20,8 +20,8 @@ use Rattle.resb_pool.specs.declared.homes.Home.{Home}
 use Rattle.resb_pool.specs.declared.records.Record.{Record}
 
 -- the text of index i
-abbrev pub text : List (List ℕ) → ℕ → List ℕ
-text T i = slice_index_or T i []
+abbrev pub text_numbered : List (List ℕ) → ℕ → List ℕ
+text_numbered T i = slice_index_or T i []
 
 -- what the copies of t in S would take as records of their own
 abbrev pub copies : List (List ℕ) → List ℕ → ℕ
@@ -34,7 +34,7 @@ pub record IsMeasure (S : List (List ℕ)) (t : List ℕ) (m : Measure) : Type 0
 
 abbrev pub AreMeasures : List (List ℕ) → List (List ℕ) → List Measure → Type 0
 AreMeasures S T ms = (i : ℕ) (d : Measure) → i < length T
-    → IsMeasure S (text T i) (slice_index_or ms i d)
+    → IsMeasure S (text_numbered T i) (slice_index_or ms i d)
 
 pub record AreTexts (S T : List (List ℕ)) (ms : List Measure) : Type 0 where
   pub utf8 : All IsUtf8 S
@@ -46,9 +46,10 @@ pub record AreTexts (S T : List (List ℕ)) (ms : List Measure) : Type 0 where
 -- in its container; the empty text lies in itself
 pub record LiesAt (T : List (List ℕ)) (i r : ℕ) : Type 0 where
   pub within : r < length T
-  pub container : 0 < length (text T i) → IsContainer T (text T i) (text T r)
-  pub itself : IsRecord T (text T i) → r ≡ i
-  pub empty : length (text T i) ≡ 0 → r ≡ i
+  pub container : 0 < length (text_numbered T i)
+      → IsContainer T (text_numbered T i) (text_numbered T r)
+  pub itself : IsRecord T (text_numbered T i) → r ≡ i
+  pub empty : length (text_numbered T i) ≡ 0 → r ≡ i
 
 pub record AreHomes (T : List (List ℕ)) (ps : List Home) : Type 0 where
   pub len : length ps ≡ length T
@@ -70,10 +71,11 @@ record_texts rs = map (λ r. r.text.now) rs
 pub record AreSums (T : List (List ℕ)) (ps : List Home) (sums : List ℕ) : Type 0 where
   pub len : length sums ≡ length T
   pub units_is : (i : ℕ) (d : Home) → i < length T
-      → (slice_index_or ps i d).measure.unit_count ≡ length (units (text T i))
+      → (slice_index_or ps i d).measure.unit_count ≡ length (units (text_numbered T i))
   pub size_is : (i : ℕ) (d : Home) → i < length T
-      → (slice_index_or ps i d).measure.size ≡ size (text T i)
-  pub own : (i : ℕ) → i < length T → IsRecord T (text T i) → size (text T i) ≤ slice_index sums i
+      → (slice_index_or ps i d).measure.size ≡ size (text_numbered T i)
+  pub own : (i : ℕ) → i < length T → IsRecord T (text_numbered T i)
+      → size (text_numbered T i) ≤ slice_index sums i
 
 -- bytes
 abbrev pub AreBytes : List ℕ → Type 0
@@ -88,7 +90,7 @@ front_bytes number (suc n) (b ∷ bs) = front_bytes (number * 256 + b) n bs
 -- the record of a text with its units, and with what it saves
 pub record IsRecordOf (T : List (List ℕ)) (sums : List ℕ) (r : Record) : Type 0 where
   pub within : r.index < length T
-  pub text_is : r.text.now ≡ text T r.index
+  pub text_is : r.text.now ≡ text_numbered T r.index
   pub units_is : r.unit_count ≡ length (units r.text.now)
   pub saved_is : r.saved.0 + size r.text.now ≡ slice_index sums r.index
   pub front_is : r.front ≡ front_bytes 0 8 r.text.now

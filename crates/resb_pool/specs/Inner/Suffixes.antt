@@ -9,8 +9,8 @@ use Rattle.std.specs.declared.cmp.Ordering.{Ordering}
 use Rattle.resb_format.specs.Units.{is_unmarked}
 use Rattle.resb_pool.specs.Order.{suffix_cmp}
 use Rattle.resb_pool.specs.Records.{EndsWith}
-use Rattle.resb_pool.specs.Inner.Cuts.{key}
-use Rattle.resb_pool.specs.Inner.Placing.{text}
+use Rattle.resb_pool.specs.Inner.Cuts.{chars_backwards}
+use Rattle.resb_pool.specs.Inner.Placing.{text_numbered}
 use Rattle.resb_pool.specs.declared.suffix_order.Row.{Row}
 
 -- a number in front of the first n characters, each a digit of 21 bits; the end of the characters,
@@ -23,9 +23,9 @@ front_key number (suc n) (c ∷ cs) = front_key (number * 0x20_0000 + c) n cs
 -- the row of a text
 pub record IsRowOf (T : List (List ℕ)) (r : Row) : Type 0 where
   pub within : r.index < length T
-  pub text_is : r.text.now ≡ text T r.index
+  pub text_is : r.text.now ≡ text_numbered T r.index
   -- the last six characters, last first
-  pub front_is : r.front ≡ front_key 0 6 (key r.text.now)
+  pub front_is : r.front ≡ front_key 0 6 (chars_backwards r.text.now)
 
 abbrev pub row_texts : List Row → List (List ℕ)
 row_texts rows = map (λ r. r.text.now) rows

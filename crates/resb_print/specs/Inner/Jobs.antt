@@ -6,7 +6,7 @@ use Rattle.std.specs.declared.alloc.Global.{Global}
 use Rattle.std.specs.declared.string.String.{String}
 use Rattle.std.specs.List.Sorted.{IsStrictlySortedBy}
 use Rattle.resb_tree.specs.Maps.{text_cmp}
-use Rattle.resb_tree.specs.WalkOrder.{entry_keys}
+use Rattle.resb_tree.specs.LayingOrder.{entry_keys}
 use Rattle.resb_tree.specs.Tree.{Tree, Entries, tree_count}
 use Rattle.resb_tree.specs.View.{tree_of}
 use Rattle.resb_print.specs.declared.cause.Cause.{Cause}
@@ -77,8 +77,8 @@ abbrev pub jobs_turns : List Job → ℕ
 jobs_turns js = fold_jobs add_turns js 0
 
 -- this is written behind what stands
-abbrev pub Writes : String Global → String Global → (List ℕ → List ℕ) → Type 0
-Writes old new f = (rest : List ℕ) → string_bytes new ++ rest ≡ string_bytes old ++ f rest
+abbrev pub Appends : String Global → String Global → (List ℕ → List ℕ) → Type 0
+Appends old new f = (rest : List ℕ) → string_bytes new ++ rest ≡ string_bytes old ++ f rest
 
 -- a job is done, as far as it is not among the jobs that are left
 pub record Does (old new : String Global) (before after : List Job) (write : List ℕ → List ℕ)
@@ -108,14 +108,14 @@ DoesTree old new before after p n t =
     Does old new before after (tree_on p n t) (cause_else t) (IsHeld t) (2 * tree_count t)
 
 -- want of memory, or the first cause
-abbrev pub Refuses : PrintError → (Option Cause → Option Cause) → Type 0
-Refuses e causes =
+abbrev pub SaysFirstCause : PrintError → (Option Cause → Option Cause) → Type 0
+SaysFirstCause e causes =
     (e ≡ OutOfMemory)
     ⊎ ((x : Cause) × (e ≡ NotPrintable x) × ((later : Option Cause) → causes later ≡ Some x))
 
 -- the same where the causes are known
-abbrev pub Refused : PrintError → Option Cause → Type 0
-Refused e found = (e ≡ OutOfMemory) ⊎ ((x : Cause) × (e ≡ NotPrintable x) × (found ≡ Some x))
+abbrev pub SaysCause : PrintError → Option Cause → Type 0
+SaysCause e found = (e ≡ OutOfMemory) ⊎ ((x : Cause) × (e ≡ NotPrintable x) × (found ≡ Some x))
 
 -- the entries of the root are printed as far as the jobs that are left
 pub record IsUnderWay (old now : String Global) (left : List Job) (es : Entries) : Type 0 where
@@ -126,7 +126,7 @@ pub record IsUnderWay (old now : String Global) (left : List Job) (es : Entries)
 
 -- the entries of the root are printed
 pub record ArePrinted (old new : String Global) (es : Entries) : Type 0 where
-  pub text : Writes old new (entries_on 1 es)
+  pub text : Appends old new (entries_on 1 es)
   pub no_cause : causes_in_else es None ≡ None
   pub ascend : IsStrictlySortedBy text_cmp (entry_keys es)
   pub held : HeldIn es

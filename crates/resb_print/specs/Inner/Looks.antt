@@ -8,21 +8,21 @@ use Rattle.resb_print.specs.Paths.{Step, by_key, path_if, path_else, member_path
 use Rattle.resb_print.specs.declared.path.Visit.{Visit}
 use Rattle.resb_print.specs.declared.path.Visit.TheVariants as visit
 
-pub data Look : Type 0 where
-  entry_look : List ℕ → Tree → Look
-  member_look : ℕ → Trees → Look
-  leave_look : Look
+pub data ToLookAt : Type 0 where
+  entry_look : List ℕ → Tree → ToLookAt
+  member_look : ℕ → Trees → ToLookAt
+  leave_look : ToLookAt
 
-abbrev pub look_of : Visit → Look
+abbrev pub look_of : Visit → ToLookAt
 look_of (visit.Entry k r) = entry_look k.now (tree_of r.now)
 look_of (visit.Members rs n) = member_look n (items_view (drop n rs.now))
 look_of visit.Leave = leave_look
 
-abbrev pub looks_in : List Visit → List Look
+abbrev pub looks_in : List Visit → List ToLookAt
 looks_in vs = map look_of vs
 
 -- the looks in turn, the last one outermost
-abbrev pub fold_looks : {X : Type 0} → (Look → X → X) → List Look → X → X
+abbrev pub fold_looks : {X : Type 0} → (ToLookAt → X → X) → List ToLookAt → X → X
 fold_looks f [] x = x
 fold_looks f (l ∷ ls) x = fold_looks f ls (f l x)
 
@@ -36,7 +36,7 @@ without_last (p ∷ q ∷ ps) = p ∷ without_last (q ∷ ps)
 abbrev pub Finding : Type 0
 Finding = List Step → Option (List Step)
 
-abbrev pub look_path : Look → Finding → Finding
+abbrev pub look_path : ToLookAt → Finding → Finding
 look_path (entry_look k t) later path =
     path_if k (path ++ by_key k ∷ []) (path_else (path ++ by_key k ∷ []) t (later path))
 look_path (member_look n ts) later path = member_path_else path n ts (later path)
@@ -45,23 +45,23 @@ look_path leave_look later path = later (without_last path)
 abbrev pub nowhere : Finding
 nowhere path = None
 
-abbrev pub looks_path : List Look → Finding
+abbrev pub looks_path : List ToLookAt → Finding
 looks_path ls = fold_looks look_path ls nowhere
 
 -- a bound on the turns that are left
-abbrev pub look_turns : Look → ℕ
+abbrev pub look_turns : ToLookAt → ℕ
 look_turns (entry_look k t) = 3 * tree_count t
 look_turns (member_look n ts) = 3 * trees_count ts + 1
 look_turns leave_look = 1
 
-abbrev pub add_look : Look → ℕ → ℕ
+abbrev pub add_look : ToLookAt → ℕ → ℕ
 add_look l n = n + look_turns l
 
-abbrev pub looks_turns : List Look → ℕ
+abbrev pub looks_turns : List ToLookAt → ℕ
 looks_turns ls = fold_looks add_look ls 0
 
 -- a tree at a path is the cause, or what is inside it is to be looked at
-pub record Enters (before after : List Look) (t : Tree) (found : Bool) : Type 0 where
+pub record EntersTree (before after : List ToLookAt) (t : Tree) (found : Bool) : Type 0 where
   pub met : found ≡ true → (path : List Step) (later : Option (List Step))
       → path_else path t later ≡ Some path
   pub passed : found ≡ false → (path : List Step)
@@ -69,12 +69,13 @@ pub record Enters (before after : List Look) (t : Tree) (found : Bool) : Type 0 
   pub fewer : looks_turns after + 2 ≤ looks_turns before + 3 * tree_count t
 
 -- a look finds the cause, whose path stands then, or leaves what is still to be looked at
-pub record Goes (before after : List Look) (path next : List Step) (l : Look) (found : Bool)
+pub record LooksOnce (before after : List ToLookAt) (path next : List Step) (l : ToLookAt)
+    (found : Bool)
     : Type 0 where
   pub met : found ≡ true → (later : Finding) → look_path l later path ≡ Some next
   pub passed : found ≡ false → looks_path after next ≡ look_path l (looks_path before) path
   pub fewer : found ≡ false → looks_turns after < looks_turns before + look_turns l
 
 -- the looks at the entries of a table
-abbrev pub entry_looks : List (List ℕ × Tree) → List Look
+abbrev pub entry_looks : List (List ℕ × Tree) → List ToLookAt
 entry_looks ps = map (λ p. entry_look p.0 p.1) ps

@@ -1,7 +1,7 @@
 -- A brace that must stand at a place, and the refusal where it does not.
 use Rattle.std.specs.Prelude.{◌≡◌, ◌≢◌, ℕ, ◌+◌, List, slice_index}
 use Rattle.resb_grammar.specs.Ascii as ascii
-use Rattle.resb_grammar.specs.Tokens.{Skip}
+use Rattle.resb_grammar.specs.Lexical.{Skip}
 use Rattle.resb_grammar.specs.declared.expected.Expected.TheVariants as expect
 use Rattle.resb_text.specs.declared.error.TextParserError.{TextParserError}
 

@@ -8,9 +8,11 @@ use Rattle.resb_grammar.specs.Items as spec
 use Rattle.resb_grammar.specs.Items.{is_pairs, table_keys, array_keys}
 use Rattle.resb_grammar.specs.Inner.Half.{is_half}
 use Rattle.resb_grammar.specs.Machine as machine
-use Rattle.resb_text.specs.Inner.Shown.{Shown, string_shown, group_shown, shown, shows, shown_tree}
+use Rattle.resb_text.specs.Inner.Shown.{SeenItem, string_shown, group_shown, seen_in_code}
+use Rattle.resb_text.specs.Inner.Shown.{items_seen, shown_tree}
 use Rattle.resb_text.specs.Inner.Shown.{shown_pairs}
-use Rattle.resb_text.specs.Inner.Discovered.{Numbered, without, texts, left, groups, candidates}
+use Rattle.resb_text.specs.Inner.Discovered.{GroupText, without, texts, left, group_count}
+use Rattle.resb_text.specs.Inner.Discovered.{candidate_count}
 use Rattle.resb_text.specs.Inner.Discovered.{is_dropped_in}
 use Rattle.resb_text.specs.declared.discovered.Keys.{Keys}
 use Rattle.resb_text.specs.declared.frames.Body.{Body}
@@ -32,51 +34,51 @@ lists machine.array_body = false
 lists machine.untyped_body = true
 
 -- what a group of this shape is
-abbrev pub tree_shown_in : spec.Shape → List Shown → Tree
+abbrev pub tree_shown_in : spec.Shape → List SeenItem → Tree
 tree_shown_in (spec.a_string s) xs = string s
 tree_shown_in spec.a_table xs = table (map_of (shown_pairs xs))
 tree_shown_in spec.an_array xs = array (trees_of (map shown_tree xs))
 
 -- the candidates that are left once a group of this shape is closed
-abbrev pub left_after : spec.Shape → ℕ → List Numbered → List Numbered
+abbrev pub left_after : spec.Shape → ℕ → List GroupText → List GroupText
 left_after spec.a_table n cs = cs
 left_after spec.an_array n cs = without n cs
 left_after (spec.a_string s) n cs = without n cs
 
 -- an open group, and the number that its candidates have
-pub record Layer : Type 0 where
+pub record NumberedFrame : Type 0 where
   pub frame : machine.Frame
   pub number : ℕ
 
 -- what the code shows of an open group
-pub record Look : Type 0 where
+pub record FrameView : Type 0 where
   pub body : machine.Body
-  pub items : List Shown
+  pub items : List SeenItem
   pub alternates : Bool
   pub number : ℕ
 
-abbrev pub looks : Frame → Look
-looks f =
+abbrev pub view_of_code : Frame → FrameView
+view_of_code f =
     record {
       body = group_body_of f.body;
-      items = map shown f.items.items;
+      items = map seen_in_code f.items.items;
       alternates = f.alternates;
       number = f.number;
     }
 
-abbrev pub look_of : Layer → Look
-look_of g =
+abbrev pub view_of_frame : NumberedFrame → FrameView
+view_of_frame g =
     record {
       body = g.frame.body;
-      items = shows g.frame.items;
+      items = items_seen g.frame.items;
       alternates = is_half g.frame.items;
       number = g.number;
     }
 
 -- groups from the innermost on, as the code lists them: the innermost last
-abbrev pub looks_of : List Layer → List Look
-looks_of [] = []
-looks_of (g ∷ gs) = looks_of gs ++ look_of g ∷ []
+abbrev pub views_of_frames : List NumberedFrame → List FrameView
+views_of_frames [] = []
+views_of_frames (g ∷ gs) = views_of_frames gs ++ view_of_frame g ∷ []
 
 -- the keys of an open group, if it turns out to be a table, and those of its groups otherwise
 abbrev pub frame_keys : machine.Body → List spec.Item → List (List ℕ)
@@ -85,52 +87,53 @@ frame_keys machine.table_body items = table_keys items
 frame_keys machine.untyped_body items = table_keys items
 
 -- a group's candidates: its own strings have its number, and all others greater ones
-pub record IsFrom (g : Layer) (own : List Numbered) : Type 0 where
+pub record IsFrom (g : NumberedFrame) (own : List GroupText) : Type 0 where
   pub whole : texts own ≡ frame_keys g.frame.body g.frame.items
   pub rest : texts (without g.number own) ≡ array_keys g.frame.items
   pub later : (h : ℕ) → h < g.number → without h own ≡ own
 
 -- the candidates of the open groups, the innermost one's last
-pub data Holds : List Layer → List Numbered → Type 0 where
-  none : Holds [] []
-  one_more : (g : Layer) (gs : List Layer) (before own cs : List Numbered) → Holds gs before
+pub data HoldsCandidates : List NumberedFrame → List GroupText → Type 0 where
+  none : HoldsCandidates [] []
+  one_more : (g : NumberedFrame) (gs : List NumberedFrame) (before own cs : List GroupText)
+      → HoldsCandidates gs before
       → ((h : ℕ) → g.number ≤ h → without h before ≡ before) → IsFrom g own → cs ≡ before ++ own
-      → Holds (g ∷ gs) cs
+      → HoldsCandidates (g ∷ gs) cs
 
 -- numbers fall from the innermost group on, and none was dropped
-abbrev pub AreOpen : Keys → ℕ → List Layer → Type 0
+abbrev pub AreOpen : Keys → ℕ → List NumberedFrame → Type 0
 AreOpen k limit [] = Unit {0}
 AreOpen k limit (g ∷ gs) =
     (g.number < limit) × (is_dropped_in k g.number ≡ false) × AreOpen k g.number gs
 
-abbrev pub frames_in : List Layer → List machine.Frame
+abbrev pub frames_in : List NumberedFrame → List machine.Frame
 frames_in gs = map (λ g. g.frame) gs
 
-abbrev pub layer : ℕ → machine.Frame → Layer
-layer n f = record { frame = f; number = n }
+abbrev pub with_number : ℕ → machine.Frame → NumberedFrame
+with_number n f = record { frame = f; number = n }
 
 -- the code's open groups are the machine's
-pub record Shows (c : Open) (o : machine.Open) : Type 0 where
+pub record StandsFor (c : Open) (o : machine.Open) : Type 0 where
   pub number : ℕ
-  pub around : List Layer
-  pub frame : looks c.frame ≡ look_of (layer number o.frame)
-  pub outer : map looks c.around.items ≡ looks_of around
+  pub around : List NumberedFrame
+  pub frame : view_of_code c.frame ≡ view_of_frame (with_number number o.frame)
+  pub outer : map view_of_code c.around.items ≡ views_of_frames around
   pub frames : frames_in around ≡ o.around
-  pub holds : Holds (layer number o.frame ∷ around) (left c.keys)
-  pub within : (h : ℕ) → groups c.keys ≤ h → without h (left c.keys) ≡ left c.keys
-  pub are_open : AreOpen c.keys (groups c.keys) (layer number o.frame ∷ around)
+  pub holds : HoldsCandidates (with_number number o.frame ∷ around) (left c.keys)
+  pub within : (h : ℕ) → group_count c.keys ≤ h → without h (left c.keys) ≡ left c.keys
+  pub are_open : AreOpen c.keys (group_count c.keys) (with_number number o.frame ∷ around)
 
 -- the code's open groups are some machine's
 abbrev pub IsOpen : Open → Type 0
-IsOpen c = (o : machine.Open) × Shows c o
+IsOpen c = (o : machine.Open) × StandsFor c o
 
 -- the turns that are still owed: one for each item of an open group, and one for each candidate
 abbrev pub owed : Open → ℕ
 owed c =
     length c.frame.items.items + sum_by
-    (λ f. length f.items.items) c.around.items + candidates c.keys
+    (λ f. length f.items.items) c.around.items + candidate_count c.keys
 
-abbrev pub is_string_shown : Shown → Bool
+abbrev pub is_string_shown : SeenItem → Bool
 is_string_shown (string_shown s f) = true
 is_string_shown (group_shown t b f) = false
 
@@ -147,13 +150,14 @@ IsTableWhole f = f.body ≡ machine.table_body → is_pairs f.items ≡ true
 abbrev pub ClosesTo : Open → machine.Open → List machine.Frame → Type 0
 ClosesTo c o [] = Unit {0}
 ClosesTo c o (outer ∷ around) =
-    Shows c (record
+    StandsFor c (record
     { title = o.title; frame = machine.with_item (machine.closed o.frame) outer; around = around })
 
 -- a comma follows the last item now
 abbrev pub TakesComma : Open → machine.Open → Type 0
 TakesComma c o =
-    (u : machine.Open) × (machine.with_comma o o.frame.items ≡ Some (machine.inside u)) × Shows c u
+    (u : machine.Open) × (machine.with_comma o o.frame.items ≡ Some (machine.inside u))
+    × StandsFor c u
 
 -- no other group than this one is dropped now
 abbrev pub OthersStay : ℕ → Keys → Keys → Type 0

@@ -2,7 +2,7 @@
 use Rattle.std.specs.Prelude.{◌≡◌, ◌≢◌, ◌⊎◌, ℕ, ◌+◌, List, slice_index, None}
 use Rattle.resb_grammar.specs.Ascii as ascii
 use Rattle.resb_tree.specs.Tree.{Tree}
-use Rattle.resb_grammar.specs.Tokens.{Skip}
+use Rattle.resb_grammar.specs.Lexical.{Skip}
 use Rattle.resb_grammar.specs.GroupTypes.{Kind}
 use Rattle.resb_grammar.specs.Group.{LeafContent, hex_bytes}
 use Rattle.resb_grammar.specs.Machine.{Open, begun_as, At}
@@ -30,7 +30,7 @@ pub record IsUnpaired (digits : List ℕ) (at : ℕ) (e : TextParserError) : Typ
   pub is : e ≡ record { position = at; expected = expect.HexPairs }
 
 -- the content of a group of this type, and its `}`
-pub record Leaf (text : List ℕ) (at to : ℕ) (kind : Kind) (tree : Tree) : Type 0 where
+pub record LeafGroup (text : List ℕ) (at to : ℕ) (kind : Kind) (tree : Tree) : Type 0 where
   pub ends : ℕ
   pub content : LeafContent text at ends kind tree
   pub closes : Closes text ends to

@@ -1,5 +1,5 @@
 -- What stands at a place, or nowhere from it on.
-use Rattle.std.specs.Prelude.{◌≡◌, ◌==◌, ◌||◌, Bool, ℕ, ◌<◌, ◌≤◌, List, length, slice_index}
+use Rattle.std.specs.Prelude.{◌≡◌, ℕ, ◌<◌, ◌≤◌, List, length, slice_index}
 use Rattle.resb_grammar.specs.Ascii as ascii
 
 -- a comment may begin here
@@ -16,7 +16,3 @@ pub record FirstByte (b : ℕ) (text : List ℕ) (from to : ℕ) : Type 0 where
 -- this byte stands nowhere from here on
 abbrev pub NoByte : ℕ → List ℕ → ℕ → Type 0
 NoByte b text from = (k : ℕ) → from ≤ k → k < length text → slice_index text k ≡ b → ⊥
-
--- a line feed or a carriage return
-abbrev pub ends_line : ℕ → Bool
-ends_line b = b == ascii.line_feed || b == ascii.carriage_return

@@ -13,33 +13,33 @@ use Rattle.resb_text.specs.declared.items.Term.{Term}
 use Rattle.resb_text.specs.declared.items.Term.TheVariants as variant
 
 -- a string; or a tree of a group, and whether its strings are borrowed
-pub data Shown : Type 0 where
-  string_shown : List ℕ → Bool → Shown
-  group_shown : Tree → Bool → Bool → Shown
+pub data SeenItem : Type 0 where
+  string_shown : List ℕ → Bool → SeenItem
+  group_shown : Tree → Bool → Bool → SeenItem
 
 -- what a term of the code is as a resource
 abbrev pub tree_of_term : Term → Tree
 tree_of_term (variant.String s) = string s.now
 tree_of_term (variant.Group r) = tree_of r
 
-abbrev pub shown_term : Term → Bool → Shown
-shown_term (variant.String s) f = string_shown s.now f
-shown_term (variant.Group r) f = group_shown (tree_of r) (borrows_strings r) f
+abbrev pub code_term_seen : Term → Bool → SeenItem
+code_term_seen (variant.String s) f = string_shown s.now f
+code_term_seen (variant.Group r) f = group_shown (tree_of r) (borrows_strings r) f
 
 -- what an item of the code shows
-abbrev pub shown : Item → Shown
-shown x = shown_term x.term x.comma
+abbrev pub seen_in_code : Item → SeenItem
+seen_in_code x = code_term_seen x.term x.comma
 
-abbrev pub term_shown : spec.Term → Bool → Shown
-term_shown (spec.string_term s) f = string_shown s f
-term_shown (spec.group_term t ks) f = group_shown t true f
+abbrev pub term_seen : spec.Term → Bool → SeenItem
+term_seen (spec.string_term s) f = string_shown s f
+term_seen (spec.group_term t ks) f = group_shown t true f
 
 -- what the grammar's items show, in order of place
-abbrev pub shows : List spec.Item → List Shown
-shows [] = []
-shows (x ∷ xs) = shows xs ++ term_shown x.term x.comma ∷ []
+abbrev pub items_seen : List spec.Item → List SeenItem
+items_seen [] = []
+items_seen (x ∷ xs) = items_seen xs ++ term_seen x.term x.comma ∷ []
 
-abbrev pub shown_borrowed : Shown → Bool
+abbrev pub shown_borrowed : SeenItem → Bool
 shown_borrowed (string_shown s f) = true
 shown_borrowed (group_shown t b f) = b
 
@@ -55,20 +55,20 @@ each_borrowed es = map (λ e. (e.0, borrows_strings e.1)) es
 abbrev pub entries_borrowed : List (List ℕ × Resource) → Bool
 entries_borrowed es = all_true (map (λ e. e.1) (each_borrowed es))
 
-abbrev pub shown_tree : Shown → Tree
+abbrev pub shown_tree : SeenItem → Tree
 shown_tree (string_shown s f) = string s
 shown_tree (group_shown t b f) = t
 
 -- the pairs of a key and the group that follows it; a key may wait at the front
-abbrev pub pairs_after : Option (List ℕ) → List Shown → List (List ℕ × Tree)
+abbrev pub pairs_after : Option (List ℕ) → List SeenItem → List (List ℕ × Tree)
 pairs_after waiting [] = []
 pairs_after waiting (string_shown s f ∷ xs) = pairs_after (Some s) xs
 pairs_after (Some k) (group_shown t b f ∷ xs) = (k, t) ∷ pairs_after None xs
 pairs_after None (group_shown t b f ∷ xs) = pairs_after None xs
 
 -- the text of a key that waits, if one does
-abbrev pub key_of : Option (Bor (List ℕ)) → Option (List ℕ)
-key_of waiting = option_map (λ k. k.now) waiting
+abbrev pub waiting_key : Option (Bor (List ℕ)) → Option (List ℕ)
+waiting_key waiting = option_map (λ k. k.now) waiting
 
-abbrev pub shown_pairs : List Shown → List (List ℕ × Tree)
+abbrev pub shown_pairs : List SeenItem → List (List ℕ × Tree)
 shown_pairs xs = pairs_after None xs

@@ -6,8 +6,8 @@ use Rattle.resb_grammar.specs.Machine.{Body, table_body, array_body, untyped_bod
 use Rattle.resb_grammar.specs.Machine.{At}
 use Rattle.resb_grammar.specs.Stuck.{Stuck}
 use Rattle.resb_grammar.specs.Limit.{Makes, closing_bytes}
-use Rattle.resb_grammar.specs.Tokens.{Skip, Text}
-use Rattle.resb_text.specs.Inner.Frames.{Shows}
+use Rattle.resb_grammar.specs.Lexical.{Skip, Text}
+use Rattle.resb_text.specs.Inner.Frames.{StandsFor}
 use Rattle.resb_text.specs.declared.frames.Open.{Open}
 use Rattle.resb_text.specs.declared.error.TextParserError.{TextParserError}
 
@@ -26,7 +26,7 @@ takes_group untyped_body key = true
 -- a reading that has made so many bytes stands here, among the items of these groups
 pub record Among (text : List ℕ) (at : ℕ) (c : Open) (bytes : ℕ) : Type 0 where
   pub open_groups : machine.Open
-  pub shows : Shows c open_groups
+  pub shows : StandsFor c open_groups
   pub reached : At text at (inside open_groups)
   pub made : Makes text bytes at (inside open_groups)
 
@@ -49,9 +49,9 @@ abbrev pub TypingFails : List ℕ → ℕ → TextParserError → Type 0
 TypingFails text at e = (name : List ℕ) → At text at (named name) → Stuck text e.position e.expected
 
 -- the root may be closed here, by which so many bytes will be made
-pub record IsLast (text : List ℕ) (at : ℕ) (c : Open) (bytes : ℕ) : Type 0 where
+pub record ClosesRoot (text : List ℕ) (at : ℕ) (c : Open) (bytes : ℕ) : Type 0 where
   pub open_groups : machine.Open
-  pub shows : Shows c open_groups
+  pub shows : StandsFor c open_groups
   pub reached : At text at (inside open_groups)
   pub before : ℕ
   pub made : Makes text before at (inside open_groups)

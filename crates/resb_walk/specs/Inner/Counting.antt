@@ -1,5 +1,5 @@
 -- Collections whose members are counted, and those that wait until a member is.
---     IsOpen p o w n          o is to come of the collection at the word w, and what was before
+--     IsOpenedAt p o w n      o is to come of the collection at the word w, and what was before
 --                             denotes n resources
 --     Awaits p o w x n        the same, where the member x stands before o
 --     Rests p w k o           o is the last k members of the collection at the word w
@@ -7,7 +7,7 @@ use Rattle.std.specs.Prelude.{ℕ, List, [], ◌∷◌, ◌++◌, ◌≡◌, ◌
 use Rattle.std.specs.Prelude.{None}
 use Rattle.std.specs.Prelude.{Option, Result, Ok, Err}
 use Rattle.resb_tree.specs.Tree.{Tree}
-use Rattle.resb_format.specs.Content.{Member, word, leaf, list, pairs, content}
+use Rattle.resb_format.specs.Content.{Member, word, leaf, list, entry_list, content_at}
 use Rattle.resb_format.specs.Denotes.{Den, DenMember, Reaches, ReachesMember}
 use Rattle.resb_format.specs.Error.{IsWantOfMemory}
 use Rattle.resb_format.specs.Parts.{Parts}
@@ -44,14 +44,14 @@ LooksText block u (Err e) =
     IsWantOfMemory e ⊎ ((text_at block u ≡ None) × IsFault e × Says (block_text_refusal block u) e)
 
 -- the collection waits, by its word and by how many members are still to come
-abbrev pub Keeps : Inner → Outer → Type 0
-Keeps i c = (c.word ≡ i.word) × (c.left ≡ rest_length i.rest)
+abbrev pub KeepsOuter : Inner → Outer → Type 0
+KeepsOuter i c = (c.word ≡ i.word) × (c.left ≡ rest_length i.rest)
 
 module _ (p : Parts) where
   -- what is still to come stands at the end of the collection, and what was before is denoted
-  abbrev pub IsOpen : Rest → ℕ → ℕ → Type 0
-  IsOpen (rest.List ms) w n = OpenedList no_list no_table p ms 0 w n
-  IsOpen (rest.Table es) w n = OpenedTable no_list no_table p es 0 w n
+  abbrev pub IsOpenedAt : Rest → ℕ → ℕ → Type 0
+  IsOpenedAt (rest.List ms) w n = OpenedList no_list no_table p ms 0 w n
+  IsOpenedAt (rest.Table es) w n = OpenedTable no_list no_table p es 0 w n
 
   -- the same, with one member between that is being counted
   abbrev pub Awaits : Rest → ℕ → Member → ℕ → Type 0
@@ -62,49 +62,50 @@ module _ (p : Parts) where
   -- the last k members of the collection
   abbrev pub Rests : ℕ → ℕ → Rest → Type 0
   Rests w k (rest.List r) =
-      (ms : List Member) × (content p w ≡ Some (list ms))
+      (ms : List Member) × (content_at p w ≡ Some (list ms))
       × (members_of r ≡ drop (length ms - k) ms)
   Rests w k (rest.Table r) =
-      (es : List (ℕ × Member)) × (content p w ≡ Some (pairs es))
+      (es : List (ℕ × Member)) × (content_at p w ≡ Some (entry_list es))
       × (keyed_members r ≡ drop (length es - k) es)
 
   -- a collection of at least k members stands there
   abbrev pub HasLast : ℕ → ℕ → Type 0
   HasLast w k =
-      ((ms : List Member) × (content p w ≡ Some (list ms)) × (k ≤ length ms))
-      ⊎ ((es : List (ℕ × Member)) × (content p w ≡ Some (pairs es)) × (k ≤ length es))
+      ((ms : List Member) × (content_at p w ≡ Some (list ms)) × (k ≤ length ms))
+      ⊎ ((es : List (ℕ × Member)) × (content_at p w ≡ Some (entry_list es)) × (k ≤ length es))
 
   -- what stands at a member: a leaf, or the members of a collection
-  abbrev pub Looks : Member → Result (Option Rest) ReadingError → Type 0
-  Looks m (Ok None) = (t : Tree) × (member_content p m ≡ Some (leaf t))
-  Looks m (Ok (Some (rest.List r))) = member_content p m ≡ Some (list (members_of r))
-  Looks m (Ok (Some (rest.Table r))) = member_content p m ≡ Some (pairs (keyed_members r))
-  Looks m (Err e) =
+  abbrev pub LooksAt : Member → Result (Option Rest) ReadingError → Type 0
+  LooksAt m (Ok None) = (t : Tree) × (member_content p m ≡ Some (leaf t))
+  LooksAt m (Ok (Some (rest.List r))) = member_content p m ≡ Some (list (members_of r))
+  LooksAt m (Ok (Some (rest.Table r))) = member_content p m ≡ Some (entry_list (keyed_members r))
+  LooksAt m (Err e) =
       IsWantOfMemory e
       ⊎ ((member_content p m ≡ None) × IsFault e × Says (member_refusal p m) e)
 
   -- a member is paid for; one with members of its own has all of them to come
-  abbrev pub Enters : Member → ℕ → ℕ → Result (Option Inner) ReadingError → Type 0
-  Enters m left left' (Ok None) = (t : Tree) × DenMember p m t 1 × (left' + 1 ≡ left)
-  Enters m left left' (Ok (Some i)) =
-      (m ≡ word i.word) × IsOpen i.rest i.word 0 × (left' + 1 ≡ left)
-  Enters m left left' (Err e) = (left' ≤ left) × Refuses (DenMember p m) (ReachesMember p m) left e
+  abbrev pub EntersMember : Member → ℕ → ℕ → Result (Option Inner) ReadingError → Type 0
+  EntersMember m left left' (Ok None) = (t : Tree) × DenMember p m t 1 × (left' + 1 ≡ left)
+  EntersMember m left left' (Ok (Some i)) =
+      (m ≡ word i.word) × IsOpenedAt i.rest i.word 0 × (left' + 1 ≡ left)
+  EntersMember m left left' (Err e) = (left' ≤ left)
+      × Refuses (DenMember p m) (ReachesMember p m) left e
 
   -- the next member of a collection, of which n resources are counted
-  abbrev pub Takes : ℕ → ℕ → Result (Option (Stood × Rest)) ReadingError → Type 0
-  Takes w n (Ok None) = (t : Tree) × Den p w t (1 + n)
-  Takes w n (Ok (Some r)) = Awaits r.1 w (member_of r.0) n
-  Takes w n (Err e) =
+  abbrev pub TakesNext : ℕ → ℕ → Result (Option (Stood × Rest)) ReadingError → Type 0
+  TakesNext w n (Ok None) = (t : Tree) × Den p w t (1 + n)
+  TakesNext w n (Ok (Some r)) = Awaits r.1 w (member_of r.0) n
+  TakesNext w n (Err e) =
       IsWantOfMemory e
       ⊎ (IsFault e × ((k : ℕ) → DenotesNothing (Den p w) (Reaches p w) (k + (1 + n))))
 
   -- a member is paid for: it is counted, or its members are counted next
-  abbrev pub Entered : Inner → Member → ℕ → List Outer → List Outer → ℕ → ℕ
+  abbrev pub EnteredMember : Inner → Member → ℕ → List Outer → List Outer → ℕ → ℕ
       → Result Inner ReadingError → Type 0
-  Entered i m n cs cs' left left' (Ok j) =
+  EnteredMember i m n cs cs' left left' (Ok j) =
       (left' + 1 ≡ left)
-      × ((cs' ≡ cs) × (j.word ≡ i.word) × IsOpen j.rest j.word (n + 1)
-      ⊎ (c : Outer) × Keeps i c × (cs' ≡ cs ++ c ∷ []) × (m ≡ word j.word)
-      × IsOpen j.rest j.word 0)
-  Entered i m n cs cs' left left' (Err e) =
+      × ((cs' ≡ cs) × (j.word ≡ i.word) × IsOpenedAt j.rest j.word (n + 1)
+      ⊎ (c : Outer) × KeepsOuter i c × (cs' ≡ cs ++ c ∷ []) × (m ≡ word j.word)
+      × IsOpenedAt j.rest j.word 0)
+  EnteredMember i m n cs cs' left left' (Err e) =
       (left' ≤ left) × Refuses (DenMember p m) (ReachesMember p m) left e

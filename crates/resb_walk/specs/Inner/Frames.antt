@@ -6,11 +6,11 @@ use Rattle.std.specs.Prelude.{ℕ, List, ◌∷◌, ◌++◌, Some, ◌≡◌}
 use Rattle.resb_tree.specs.Tree.{Tree}
 use Rattle.resb_format.specs.Strings.{key_at}
 use Rattle.resb_format.specs.Parts.{Parts}
-use Rattle.resb_format.specs.Content.{Member, list, pairs, content}
+use Rattle.resb_format.specs.Content.{Member, list, entry_list, content_at}
 use Rattle.resb_format.specs.Denotes.{DenEach, DenPairs}
 use Rattle.resb_walk.specs.Inner.Members.{members_of, keyed_members}
 use Rattle.resb_walk.specs.declared.members.Members.{Members}
-use Rattle.resb_walk.specs.declared.members.Pairs.{Pairs}
+use Rattle.resb_walk.specs.declared.members.TableParts.{TableParts}
 use Rattle.resb_walk.specs.declared.frame.Open.{Open}
 use Rattle.resb_walk.specs.declared.frame.Open.TheVariants as open_
 use Rattle.resb_walk.specs.declared.frame.Waiting.{Waiting}
@@ -21,30 +21,30 @@ module _ {L T : Type 0} (lists : L → List Tree → Type 0)
   pub record OpenedList (rest : Members) (made : L) (w n : ℕ) : Type 0 where
     pub done : List Member
     pub trees : List Tree
-    pub stands : content p w ≡ Some (list (done ++ members_of rest))
+    pub stands : content_at p w ≡ Some (list (done ++ members_of rest))
     pub each : DenEach p done trees n
     pub is_made : lists made trees
 
-  pub record OpenedTable (rest : Pairs) (made : T) (w n : ℕ) : Type 0 where
+  pub record OpenedTable (rest : TableParts) (made : T) (w n : ℕ) : Type 0 where
     pub done : List (ℕ × Member)
     pub entries : List (List ℕ × Tree)
-    pub stands : content p w ≡ Some (pairs (done ++ keyed_members rest))
+    pub stands : content_at p w ≡ Some (entry_list (done ++ keyed_members rest))
     pub each : DenPairs p done entries n
     pub is_made : tables made entries
 
   pub record ListWaits (rest : Members) (made : L) (w : ℕ) (x : Member) (n : ℕ) : Type 0 where
     pub done : List Member
     pub trees : List Tree
-    pub stands : content p w ≡ Some (list (done ++ x ∷ members_of rest))
+    pub stands : content_at p w ≡ Some (list (done ++ x ∷ members_of rest))
     pub each : DenEach p done trees n
     pub is_made : lists made trees
 
-  pub record TableWaits (rest : Pairs) (made : T) (key : List ℕ) (w : ℕ) (x : Member)
+  pub record TableWaits (rest : TableParts) (made : T) (key : List ℕ) (w : ℕ) (x : Member)
       (n : ℕ) : Type 0 where
     pub done : List (ℕ × Member)
     pub entries : List (List ℕ × Tree)
     pub position : ℕ
-    pub stands : content p w ≡ Some (pairs (done ++ (position, x) ∷ keyed_members rest))
+    pub stands : content_at p w ≡ Some (entry_list (done ++ (position, x) ∷ keyed_members rest))
     pub keyed : key_at p.keys position ≡ Some key
     pub each : DenPairs p done entries n
     pub is_made : tables made entries

@@ -1,12 +1,12 @@
 -- What stands at a member, and what is said where nothing does.
 use Rattle.std.specs.Prelude.{Option}
-use Rattle.resb_format.specs.Content.{Member, word, unit, Content, content, text_leaf}
+use Rattle.resb_format.specs.Content.{Member, word, unit, Content, content_at, text_leaf}
 use Rattle.resb_format.specs.Error.{Refusal}
 use Rattle.resb_format.specs.Parts.{Parts}
 use Rattle.resb_walk.specs.BlockRefusals.{block_text_refusal, word_refusal}
 
 abbrev pub member_content : Parts → Member → Option Content
-member_content p (word w) = content p w
+member_content p (word w) = content_at p w
 member_content p (unit u) = text_leaf p u
 
 abbrev pub member_refusal : Parts → Member → Refusal

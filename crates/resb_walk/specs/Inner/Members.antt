@@ -13,7 +13,7 @@ use Rattle.resb_walk.specs.declared.members.Members.{Members}
 use Rattle.resb_walk.specs.declared.members.Members.TheVariants as some
 use Rattle.resb_walk.specs.declared.members.Positions.{Positions}
 use Rattle.resb_walk.specs.declared.members.Positions.TheVariants.{Halves, Wholes}
-use Rattle.resb_walk.specs.declared.members.Pairs.{Pairs}
+use Rattle.resb_walk.specs.declared.members.TableParts.{TableParts}
 use Rattle.resb_walk.specs.declared.members.Rest.{Rest}
 use Rattle.resb_walk.specs.declared.members.Rest.TheVariants as rest
 use Rattle.resb_walk.specs.declared.members.Standing.{Standing}
@@ -46,13 +46,13 @@ positions_of (Halves b) = units_of b.now
 positions_of (Wholes b) = words_of b.now
 
 -- each member with the position of its key
-abbrev pub keyed_members : Pairs → List (ℕ × at.Member)
+abbrev pub keyed_members : TableParts → List (ℕ × at.Member)
 keyed_members s = zip (positions_of s.keys) (members_of s.members)
 
 abbrev pub content_of : Standing → at.Content
 content_of (kind.Leaf l) = at.leaf (leaf_tree l)
 content_of (kind.List ms) = at.list (members_of ms)
-content_of (kind.Table ps) = at.pairs (keyed_members ps)
+content_of (kind.Table ps) = at.entry_list (keyed_members ps)
 
 -- how many members are still to come
 abbrev pub rest_length : Rest → ℕ

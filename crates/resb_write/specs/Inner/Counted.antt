@@ -4,9 +4,9 @@ use Rattle.std.specs.Prelude.{Some, None}
 use Rattle.std.specs.Prelude.{Bool, false, ◌&&◌, nat_le, nat_lt, if◌then◌else◌}
 use Rattle.std.specs.List.{list_all}
 use Rattle.resb_tree.specs.Tree.{Tree, string, array, table}
-use Rattle.resb_tree.specs.WalkOrder.{members, values_of, children, entry_keys}
+use Rattle.resb_tree.specs.LayingOrder.{array_members, values_of, children, entry_keys}
 use Rattle.resb_layout.specs.Laid.{Given}
-use Rattle.resb_write.specs.Inner.Room.{Numbered}
+use Rattle.resb_write.specs.Inner.Room.{GivesInTurn}
 use Rattle.resb_write.specs.declared.sites.Coming.{Coming}
 
 -- a unit can hold the number
@@ -33,7 +33,8 @@ short_units is_short count each = if is_short && nat_lt 0 count then each * coun
 
 -- the units that the body of a resource takes, without its members'
 abbrev pub own_units : Given → Tree → ℕ
-own_units g (array ts) = short_units (are_near_strings g (members ts)) (length (members ts)) 1
+own_units g (array ts) = short_units (are_near_strings g (array_members ts))
+    (length (array_members ts)) 1
 own_units g (table es) = short_units
     (are_near_strings g (values_of es) && are_near_keys g (entry_keys es)) (length (values_of es)) 2
 own_units g _ = 0
@@ -55,4 +56,4 @@ pub record CountsOne (g : Given) (t : Tree) (rest below : List Tree) (n : ℕ) (
     (marks : List Bool) : Type 0 where
   pub units : n ≡ own_units g t
   pub stack : marks ≡ map (is_near g) (below ++ t ∷ [])
-  pub left : Numbered g coming.positions.now coming.offsets.now rest
+  pub left : GivesInTurn g coming.positions.now coming.offsets.now rest

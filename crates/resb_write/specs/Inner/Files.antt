@@ -5,7 +5,8 @@
 use Rattle.std.specs.Prelude.{◌≡◌, ℕ, ◌+◌, ◌%◌, ◌/◌, ◌<◌, ◌^◌, List, [], ◌∷◌, ◌++◌, length}
 use Rattle.std.specs.Prelude.{Bool, if◌then◌else◌}
 use Rattle.resb_pool.specs.Plan.{nows}
-use Rattle.resb_layout.specs.Laid.{words, halves}
+use Rattle.resb_layout.specs.Laid.{words}
+use Rattle.resb_format.specs.Bytes.{units_as_bytes}
 use Rattle.resb_layout.specs.KeyBlock.{key_bytes, padded}
 use Rattle.resb_layout.specs.WrittenHead.{written_header}
 use Rattle.resb_layout.specs.Written.{even}
@@ -25,7 +26,7 @@ fields_of largest fallback keys us tail =
 abbrev pub file_of : ℕ → ℕ → Bool → List ℕ → List ℕ → List ℕ → List ℕ
 file_of root largest fallback keys us tail =
     written_header ++ (words (root ∷ fields_of largest fallback keys us tail)
-    ++ (keys ++ (halves us ++ tail)))
+    ++ (keys ++ (units_as_bytes us ++ tail)))
 
 abbrev pub keys_in_file : Pieces → List ℕ
 keys_in_file c = padded (key_bytes (nows c.keys.now))

@@ -5,10 +5,10 @@ use Rattle.std.specs.Prelude.{◌≡◌, ℕ, ◌-◌, ◌^◌, List, [], ◌∷
 use Rattle.std.specs.List.{list_any, flat_map}
 use Rattle.resb_tree.specs.Tree.{Tree, table, entries_len}
 use Rattle.resb_pool.specs.Plan.{nows, first_too_long}
-use Rattle.resb_tree.specs.WalkOrder.{text_in}
-use Rattle.resb_tree.specs.WalkOrder.{own_keys}
+use Rattle.resb_tree.specs.LayingOrder.{text_in}
+use Rattle.resb_tree.specs.LayingOrder.{own_keys}
 use Rattle.resb_layout.specs.PlainSize.{resources_size}
-use Rattle.resb_layout.specs.Faults.{is_over_32_bits}
+use Rattle.resb_layout.specs.TreeFaults.{is_over_32_bits}
 use Rattle.resb_write.specs.declared.contents.Contents.{Contents}
 
 abbrev pub entry_count_of : Tree → ℕ

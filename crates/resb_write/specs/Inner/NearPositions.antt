@@ -5,14 +5,14 @@
 use Rattle.std.specs.Prelude.{◌≡◌, ℕ, ◌+◌, ◌-◌, ◌^◌, min, List, map, Option, Some, None}
 use Rattle.std.specs.Prelude.{option_map, All}
 use Rattle.std.specs.Str.{IsUtf8}
-use Rattle.resb_layout.specs.KeyBlock.{used, last_of, position_in, keys_start}
-use Rattle.resb_layout.specs.Faults.{key_fault}
+use Rattle.resb_layout.specs.KeyBlock.{used, last_place, position_in, keys_start}
+use Rattle.resb_layout.specs.TreeFaults.{key_fault}
 
 abbrev pub near_position : ℕ → ℕ
 near_position n = min (keys_start + n) (2 ^ 32 - 1)
 
 abbrev pub near_position_in : List (List ℕ) → List ℕ → Option ℕ
-near_position_in js k = option_map near_position (last_of k js)
+near_position_in js k = option_map near_position (last_place k js)
 
 pub record IsKeyBlock (us ks js : List (List ℕ)) (ps : List ℕ) : Type 0 where
   pub keys : js ≡ used us ks

@@ -1,7 +1,7 @@
 -- What stands so far, as the definitions see it, the numbers that are given for a tree, and room
 -- for its bodies.
 --     laid_of b               what stands so far
---     Numbered g ps os ts     ps and os are where the keys and the strings of ts stand, in turn
+--     GivesInTurn g ps os ts  ps and os are where the keys and the strings of ts stand, in turn
 --     HasRoomFor n s ts       there is room for the bodies of ts behind s
 --     tail_base n b           where the 16-bit block ends, if it begins at byte n
 --     HasRoomBehind n p ts    there is room for the pool p and the bodies of ts from byte n
@@ -10,7 +10,7 @@ use Rattle.std.specs.Prelude.{Some, None}
 use Rattle.std.specs.List.{sum_by, flat_map}
 use Rattle.resb_tree.specs.Tree.{Tree, string, array, table, binary, integer, int_vector}
 use Rattle.resb_layout.specs.Laid.{Given, Laid}
-use Rattle.resb_tree.specs.WalkOrder.{members, values_of, own_keys, text_in}
+use Rattle.resb_tree.specs.LayingOrder.{array_members, values_of, own_keys, text_in}
 use Rattle.resb_write.specs.declared.sites.Bodies.{Bodies}
 
 -- the units and the bytes that are laid so far
@@ -23,7 +23,7 @@ at_base n = record { position = λ k. None; offset = λ s. None; base = n }
 
 -- ps are the positions of the keys of these resources, in their order, and os the offsets of their
 -- strings
-pub record Numbered (g : Given) (ps os : List ℕ) (ts : List Tree) : Type 0 where
+pub record GivesInTurn (g : Given) (ps os : List ℕ) (ts : List Tree) : Type 0 where
   pub keys : map g.position (flat_map own_keys ts) ≡ map Some ps
   pub texts : map g.offset (flat_map text_in ts) ≡ map Some os
   pub near : All (λ k. k < 2 ^ 28) os
@@ -32,7 +32,7 @@ pub record Numbered (g : Given) (ps os : List ℕ) (ts : List Tree) : Type 0 whe
 -- bytes a binary
 abbrev pub own_size : Tree → ℕ
 own_size (string s) = 0
-own_size (array ts) = length (members ts)
+own_size (array ts) = length (array_members ts)
 own_size (table es) = length (values_of es)
 own_size (binary s) = (length s + 7) / 8
 own_size (integer n) = 0

@@ -1,7 +1,7 @@
 -- Words of the steps: room for one body, and what it takes of it.
 use Rattle.std.specs.Prelude.{◌≡◌, ℕ, ◌+◌, ◌-◌, ◌*◌, ◌%◌, ◌^◌, ◌<◌, ◌≤◌, List, [], ◌∷◌, length}
 use Rattle.resb_tree.specs.Tree.{Tree}
-use Rattle.resb_tree.specs.WalkOrder.{children}
+use Rattle.resb_tree.specs.LayingOrder.{children}
 use Rattle.resb_layout.specs.Laid.{Given}
 use Rattle.resb_write.specs.Inner.Room.{laid_of, HasRoomFor}
 use Rattle.resb_write.specs.declared.sites.Bodies.{Bodies}

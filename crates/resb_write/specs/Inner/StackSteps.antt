@@ -5,7 +5,7 @@
 use Rattle.std.specs.Prelude.{◌≡◌, ℕ, List, [], ◌∷◌, ◌++◌, length}
 use Rattle.resb_tree.specs.Tree.{Tree, trees_of}
 use Rattle.resb_layout.specs.Laid.{Given, Laid, Lays, LaysEach}
-use Rattle.resb_tree.specs.WalkOrder.{children}
+use Rattle.resb_tree.specs.LayingOrder.{children}
 
 -- where t's members are laid, with the words vs, its body makes it laid, with the word w
 abbrev pub ClosesTree : Given → Laid → Tree → List ℕ → Laid → ℕ → Type 0

@@ -16,16 +16,16 @@ abbrev pub entry_of : Cursor → Cursor → Place × Place
 entry_of key value = (place_of key, place_of value)
 
 -- a key, which costs nothing, and a resource, which costs one
-abbrev pub IsEntry : Place × Place → Type 0
-IsEntry e = (cost_at e.0.at ≡ 0) × (cost_at e.1.at ≡ 1)
+abbrev pub CostsAsEntry : Place × Place → Type 0
+CostsAsEntry e = (cost_at e.0.at ≡ 0) × (cost_at e.1.at ≡ 1)
 
 abbrev pub ReadsPairView : Place → PairView → ℕ → Type 0
 ReadsPairView q v k = ReadsView 8 q (pair_bytes v) k
 
 module _ {X : Type 0} (name : List ℕ) (reads : Place → X → ℕ → Type 0) where
   -- an entry of this name is read, and any other changes nothing
-  abbrev pub Takes : Place × Place → Option X → Option X → Type 0
-  Takes e old new =
+  abbrev pub TakesNamed : Place × Place → Option X → Option X → Type 0
+  TakesNamed e old new =
       (IsNamed name e × (x : X) × (k : ℕ) × reads e.1 x k × (new ≡ Some x))
       ⊎ ((IsNamed name e → ⊥) × (new ≡ old))
 
@@ -36,8 +36,8 @@ module _ {X : Type 0} (name : List ℕ) (reads : Place → X → ℕ → Type 0)
 
 pub record HasTaken (e : Place × Place) (old new : Fields) : Type 0 where
   pub readable : IsReadable e
-  pub base : Takes base_name ReadsNumber e old.base new.base
-  pub pairs : Takes pairs_name ReadsPairView e old.pairs new.pairs
+  pub base : TakesNamed base_name ReadsNumber e old.base new.base
+  pub pairs : TakesNamed pairs_name ReadsPairView e old.pairs new.pairs
 
 pub record HasSeen (places : List (Place × Place)) (f : Fields) : Type 0 where
   pub each : All IsReadable places

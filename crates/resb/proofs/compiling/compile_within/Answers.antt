@@ -1,7 +1,7 @@
 use Rattle.std.proofs.Common.{subst}
 use Rattle.resb_tree.specs.Bundle.{name_of, root_of}
 use Rattle.resb_layout.specs.Written.{Written}
-use Rattle.resb_layout.specs.Faults.{RefusesWriting}
+use Rattle.resb_layout.specs.TreeFaults.{RefusesWriting}
 use Rattle.resb_write.specs.FaultOf.{fault_of}
 use Rattle.resb.proofs.Reasons.{unwritable}
 use Rattle.resb.proofs.compiling.compile_within.Goals as goal

@@ -1,7 +1,7 @@
 use Rattle.std.proofs.Common.{subst}
 use Rattle.resb_tree.specs.Bundle.{name_of, root_of}
 use Rattle.resb_layout.specs.Written.{Written}
-use Rattle.resb_layout.specs.Faults.{RefusesWriting}
+use Rattle.resb_layout.specs.TreeFaults.{RefusesWriting}
 use Rattle.resb_write.specs.FaultOf.{fault_of}
 use Rattle.resb.proofs.Reasons.{icu_writing_refused}
 use Rattle.resb.proofs.compiling_icu.compile_icu.Goals as goal
@@ -33,5 +33,6 @@ returns-in_err-file-clause-err c =
     subst (λ ks. RefusesWriting t ks (fault_of e)) c.as_slice.ensures.value
     c.in_err-file.ensures.err in
     let r = c.from_residual-in_err-file in
-    icu_writing_refused c.args.text.now (name_of bundle) bundle.is_locale_fallback_enabled t keys e b
+    icu_writing_refused c.args.text.now
+    (name_of bundle) bundle.is_locale_fallback_enabled t keys e b
     h r.result r.ensures.1

@@ -1,6 +1,6 @@
 -- The text that was printed is that of the file's bundle.
 use Rattle.std.proofs.Common.{ℕ, List, refl, subst, sym}
-use Rattle.resb_c.specs.Dumping.{IsBundleOf, IsDump, HasNoDump}
+use Rattle.resb_c.specs.Dumping.{IsBundleToDump, IsDump, HasNoDump}
 use Rattle.resb_c.proofs.files.dump_into.Goals as goal
 
 pub returns-in-Ok-fill : goal.returns-in-Ok-fill
@@ -12,7 +12,7 @@ returns-in-Ok-fill c =
     record {
       bundle = c.in_ok-bundle.bundle;
       keys = c.in-Ok.ensures.text.0;
-      of_file = subst (λ (n : List ℕ). IsBundleOf file n c.args.limit c.in_ok-bundle.bundle)
+      of_file = subst (λ (n : List ℕ). IsBundleToDump file n c.args.limit c.in_ok-bundle.bundle)
           c.in_ok-name.ensures.ok.0 c.in_ok-bundle.ensures.ok;
       texts = c.in-Ok.ensures.text.1;
     } in
@@ -27,7 +27,7 @@ returns-in-Ok c =
     record {
       bundle = c.in_ok-bundle.bundle;
       keys = c.in-Ok.ensures.text.0;
-      of_file = subst (λ (n : List ℕ). IsBundleOf file n c.args.limit c.in_ok-bundle.bundle)
+      of_file = subst (λ (n : List ℕ). IsBundleToDump file n c.args.limit c.in_ok-bundle.bundle)
           c.in_ok-name.ensures.ok.0 c.in_ok-bundle.ensures.ok;
       texts = c.in-Ok.ensures.text.1;
     } in
@@ -39,7 +39,7 @@ returns c =
     let none : HasNoDump file c.args.name.now c.args.limit c.in-Err.e =
     record {
       bundle = c.in_ok-bundle.bundle;
-      of_file = subst (λ (n : List ℕ). IsBundleOf file n c.args.limit c.in_ok-bundle.bundle)
+      of_file = subst (λ (n : List ℕ). IsBundleToDump file n c.args.limit c.in_ok-bundle.bundle)
           c.in_ok-name.ensures.ok.0 c.in_ok-bundle.ensures.ok;
       none = c.in-Err.ensures.none;
     } in

@@ -1,5 +1,5 @@
 use Rattle.std.proofs.Common.{ℕ, ◌<◌, ◌≤◌}
-use Rattle.resb_grammar.specs.Tokens.{Closer}
+use Rattle.resb_grammar.specs.Lexical.{Closer}
 use Rattle.resb_icu_text.proofs.blanks.first_closer.Given as goal
 
 abbrev pub invariant-loop-at : goal.invariant-loop-at

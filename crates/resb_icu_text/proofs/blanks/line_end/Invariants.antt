@@ -1,10 +1,10 @@
 use Rattle.std.proofs.Common.{◌≡◌, ℕ, ◌<◌, ◌≤◌, false}
 use Rattle.std.specs.Prelude.{slice_index}
-use Rattle.resb_icu_grammar.specs.Blanks.{ends_line, IsParagraphEnd}
+use Rattle.resb_icu_grammar.specs.Blanks.{is_line_end, IsParagraphEnd}
 use Rattle.resb_icu_text.proofs.blanks.line_end.Given as goal
 
 abbrev pub invariant-loop-at : goal.invariant-loop-at
 invariant-loop-at l = record {
-  inner : (k : ℕ) → l.from ≤ k → k < l.at → ends_line (slice_index l.text k) ≡ false;
+  inner : (k : ℕ) → l.from ≤ k → k < l.at → is_line_end (slice_index l.text k) ≡ false;
   plain : (k : ℕ) → l.from ≤ k → k < l.at → IsParagraphEnd l.text k → ⊥;
 }

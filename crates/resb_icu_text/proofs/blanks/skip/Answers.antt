@@ -10,9 +10,15 @@ skip-preserved c = record {
   fits = c.in-Some.ensures.within.1;
   so_far = comment_more _ _ _ _ c.in-Some.ensures.found
       (white_more _ _ _ _ c.white_end-white.ensures.run c.skip.invariant.so_far);
-  cost = omega (arith, c.in-Some.ensures.within.0, c.white_end-white.ensures.run.order,
-      c.skip.invariant.cost, c.add.ensures.most, c.add-in-skip.ensures.most,
-      c.add-in-Some.ensures.most);
+  cost = omega (
+    arith,
+    c.in-Some.ensures.within.0,
+    c.white_end-white.ensures.run.order,
+    c.skip.invariant.cost,
+    c.add.ensures.most,
+    c.add-in-skip.ensures.most,
+    c.add-in-Some.ensures.most,
+  );
 }
 
 pub returns-in-None-clause-skip : goal.returns-in-None-clause-skip
@@ -21,11 +27,17 @@ returns-in-None-clause-skip c =
 
 pub returns-in-None-clause-cost : goal.returns-in-None-clause-cost
 returns-in-None-clause-cost c =
-    omega (arith, c.white_end-white.ensures.run.order, c.white_end-white.ensures.run.fits,
-    c.skip.invariant.cost, c.add.ensures.most, c.add-in-skip.ensures.most,
-    c.add-in-None.ensures.most,
-    reach_slash c.args.text.now c.white_end-white.result
-    (sym c.byte.ensures.byte ∙ c.if-byte-ne47.false))
+    omega (
+      arith,
+      c.white_end-white.ensures.run.order,
+      c.white_end-white.ensures.run.fits,
+      c.skip.invariant.cost,
+      c.add.ensures.most,
+      c.add-in-skip.ensures.most,
+      c.add-in-None.ensures.most,
+      reach_slash c.args.text.now c.white_end-white.result
+          (sym c.byte.ensures.byte ∙ c.if-byte-ne47.false),
+    )
 
 pub returns-then-byte-ne47-clause-skip : goal.returns-then-byte-ne47-clause-skip
 returns-then-byte-ne47-clause-skip c =
@@ -35,7 +47,12 @@ returns-then-byte-ne47-clause-skip c =
 
 pub returns-then-byte-ne47-clause-cost : goal.returns-then-byte-ne47-clause-cost
 returns-then-byte-ne47-clause-cost c =
-    omega (arith, c.white_end-white.ensures.run.order, c.skip.invariant.cost, c.add.ensures.most,
-    c.add-in-skip.ensures.most,
-    reach_here c.args.text.now c.white_end-white.result
-    (λ e. c.if-byte-ne47.true (c.byte.ensures.byte ∙ e)))
+    omega (
+      arith,
+      c.white_end-white.ensures.run.order,
+      c.skip.invariant.cost,
+      c.add.ensures.most,
+      c.add-in-skip.ensures.most,
+      reach_here c.args.text.now c.white_end-white.result
+          (λ e. c.if-byte-ne47.true (c.byte.ensures.byte ∙ e)),
+    )

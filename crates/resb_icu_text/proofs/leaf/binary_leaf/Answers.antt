@@ -54,9 +54,17 @@ returns-in_err-bytes-clause-most c =
     let found = rw c.in-Some.is at c.in_ok-lexeme.ensures.found in
     let short = string_short _ _ _ _ found.string in
     let same = ap length (c.deref.ensures.value ∙ c.text_of-digits.ensures) in
-    omega (arith, cost, short, same, c.add.ensures.most, found.order,
-    reach_string c.args.text.now c.args.at _ _ found.string,
-    reach_low c.args.text.now _ found.fits, reach_high c.args.text.now _ found.fits)
+    omega (
+      arith,
+      cost,
+      short,
+      same,
+      c.add.ensures.most,
+      found.order,
+      reach_string c.args.text.now c.args.at _ _ found.string,
+      reach_low c.args.text.now _ found.fits,
+      reach_high c.args.text.now _ found.fits,
+    )
 
 pub returns-in_default-2-clause-most : goal.returns-in_default-2-clause-most
 returns-in_default-2-clause-most c =
@@ -64,9 +72,17 @@ returns-in_default-2-clause-most c =
     let found = rw c.in-Some.is at c.in_ok-lexeme.ensures.found in
     let short = string_short _ _ _ _ found.string in
     let same = ap length (c.deref.ensures.value ∙ c.text_of-digits.ensures) in
-    omega (arith, cost, short, same, c.add.ensures.most, found.order,
-    reach_string c.args.text.now c.args.at _ _ found.string,
-    reach_low c.args.text.now _ found.fits, reach_high c.args.text.now _ found.fits)
+    omega (
+      arith,
+      cost,
+      short,
+      same,
+      c.add.ensures.most,
+      found.order,
+      reach_string c.args.text.now c.args.at _ _ found.string,
+      reach_low c.args.text.now _ found.fits,
+      reach_high c.args.text.now _ found.fits,
+    )
 
 pub returns-in_err-to-clause-most : goal.returns-in_err-to-clause-most
 returns-in_err-to-clause-most c =
@@ -74,9 +90,17 @@ returns-in_err-to-clause-most c =
     let found = rw c.in-Some.is at c.in_ok-lexeme.ensures.found in
     let short = string_short _ _ _ _ found.string in
     let same = ap length (c.deref.ensures.value ∙ c.text_of-digits.ensures) in
-    omega (arith, cost, short, same, c.add.ensures.most, found.order,
-    reach_string c.args.text.now c.args.at _ _ found.string,
-    reach_low c.args.text.now _ found.fits, reach_high c.args.text.now _ found.fits)
+    omega (
+      arith,
+      cost,
+      short,
+      same,
+      c.add.ensures.most,
+      found.order,
+      reach_string c.args.text.now c.args.at _ _ found.string,
+      reach_low c.args.text.now _ found.fits,
+      reach_high c.args.text.now _ found.fits,
+    )
 
 pub returns-clause-cost : goal.returns-clause-cost
 returns-clause-cost c =
@@ -84,10 +108,18 @@ returns-clause-cost c =
     let found = rw c.in-Some.is at c.in_ok-lexeme.ensures.found in
     let short = string_short _ _ _ _ found.string in
     let same = ap length (c.deref.ensures.value ∙ c.text_of-digits.ensures) in
-    omega (arith, cost, short, same, c.add.ensures.most, found.order,
-    reach_string c.args.text.now c.args.at _ _ found.string,
-    reach_low c.args.text.now _ found.fits, c.in_ok-to.ensures.ok.0,
-    reach_right c.args.text.now _ c.in_ok-to.ensures.ok.1)
+    omega (
+      arith,
+      cost,
+      short,
+      same,
+      c.add.ensures.most,
+      found.order,
+      reach_string c.args.text.now c.args.at _ _ found.string,
+      reach_low c.args.text.now _ found.fits,
+      c.in_ok-to.ensures.ok.0,
+      reach_right c.args.text.now _ c.in_ok-to.ensures.ok.1,
+    )
 
 pub returns-clause-most : goal.returns-clause-most
 returns-clause-most c =
@@ -95,6 +127,14 @@ returns-clause-most c =
     let found = rw c.in-Some.is at c.in_ok-lexeme.ensures.found in
     let short = string_short _ _ _ _ found.string in
     let same = ap length (c.deref.ensures.value ∙ c.text_of-digits.ensures) in
-    omega (arith, cost, short, same, c.add.ensures.most, found.order,
-    reach_string c.args.text.now c.args.at _ _ found.string,
-    reach_low c.args.text.now _ found.fits, reach_high c.args.text.now _ found.fits)
+    omega (
+      arith,
+      cost,
+      short,
+      same,
+      c.add.ensures.most,
+      found.order,
+      reach_string c.args.text.now c.args.at _ _ found.string,
+      reach_low c.args.text.now _ found.fits,
+      reach_high c.args.text.now _ found.fits,
+    )

@@ -38,25 +38,43 @@ returns-clause-within c = (
 
 pub returns-in_err-to-clause-most : goal.returns-in_err-to-clause-most
 returns-in_err-to-clause-most c =
-    omega (arith, c.in-Some.ensures.cost, c.in-Some.ensures.within.0, c.skip-next.ensures.cost,
-    c.skip-next.ensures.order,
-    reach_number c.args.text.now c.args.at _ _ c.in-Some.ensures.within.0
-    c.in-Some.ensures.found,
-    reach_low c.args.text.now c.skip-next.result c.skip-next.ensures.fits, reach_high c.args.text.now c.skip-next.result c.skip-next.ensures.fits)
+    omega (
+      arith,
+      c.in-Some.ensures.cost,
+      c.in-Some.ensures.within.0,
+      c.skip-next.ensures.cost,
+      c.skip-next.ensures.order,
+      reach_number c.args.text.now c.args.at _ _ c.in-Some.ensures.within.0
+          c.in-Some.ensures.found,
+      reach_low c.args.text.now c.skip-next.result c.skip-next.ensures.fits,
+      reach_high c.args.text.now c.skip-next.result c.skip-next.ensures.fits,
+    )
 
 pub returns-clause-cost : goal.returns-clause-cost
 returns-clause-cost c =
-    omega (arith, c.in-Some.ensures.cost, c.in-Some.ensures.within.0, c.skip-next.ensures.cost,
-    c.skip-next.ensures.order,
-    reach_number c.args.text.now c.args.at _ _ c.in-Some.ensures.within.0
-    c.in-Some.ensures.found,
-    reach_low c.args.text.now c.skip-next.result c.skip-next.ensures.fits, c.in_ok-to.ensures.ok.0,
-    reach_right c.args.text.now _ c.in_ok-to.ensures.ok.1)
+    omega (
+      arith,
+      c.in-Some.ensures.cost,
+      c.in-Some.ensures.within.0,
+      c.skip-next.ensures.cost,
+      c.skip-next.ensures.order,
+      reach_number c.args.text.now c.args.at _ _ c.in-Some.ensures.within.0
+          c.in-Some.ensures.found,
+      reach_low c.args.text.now c.skip-next.result c.skip-next.ensures.fits,
+      c.in_ok-to.ensures.ok.0,
+      reach_right c.args.text.now _ c.in_ok-to.ensures.ok.1,
+    )
 
 pub returns-clause-most : goal.returns-clause-most
 returns-clause-most c =
-    omega (arith, c.in-Some.ensures.cost, c.in-Some.ensures.within.0, c.skip-next.ensures.cost,
-    c.skip-next.ensures.order,
-    reach_number c.args.text.now c.args.at _ _ c.in-Some.ensures.within.0
-    c.in-Some.ensures.found,
-    reach_low c.args.text.now c.skip-next.result c.skip-next.ensures.fits, reach_high c.args.text.now c.skip-next.result c.skip-next.ensures.fits)
+    omega (
+      arith,
+      c.in-Some.ensures.cost,
+      c.in-Some.ensures.within.0,
+      c.skip-next.ensures.cost,
+      c.skip-next.ensures.order,
+      reach_number c.args.text.now c.args.at _ _ c.in-Some.ensures.within.0
+          c.in-Some.ensures.found,
+      reach_low c.args.text.now c.skip-next.result c.skip-next.ensures.fits,
+      reach_high c.args.text.now c.skip-next.result c.skip-next.ensures.fits,
+    )

@@ -48,11 +48,19 @@ numbers-preserved c = record {
       (continues_more _ _ _ _ _ _ _ _ c.in-Some.ensures.found c.skip-place.ensures.skip
       c.in_ok-here.ensures.ok (λ e. c.if-byte-eq125.false (c.byte.ensures.byte ∙ e))
       c.numbers.invariant.continues);
-  cost = omega (arith, c.numbers.invariant.cost, c.in-Some.ensures.cost, c.in-Some.ensures.within.0,
-      reach_number c.args.text.now c.numbers.here _ _ c.in-Some.ensures.within.0
-      c.in-Some.ensures.found, c.skip-place.ensures.cost, c.skip-place.ensures.order,
-      c.in_ok-here.ensures.cost, c.in_ok-here.ensures.within.0,
-      reach_low c.args.text.now c.in_ok-here.here c.in_ok-here.ensures.within.1);
+  cost = omega (
+    arith,
+    c.numbers.invariant.cost,
+    c.in-Some.ensures.cost,
+    c.in-Some.ensures.within.0,
+    reach_number c.args.text.now c.numbers.here _ _ c.in-Some.ensures.within.0
+        c.in-Some.ensures.found,
+    c.skip-place.ensures.cost,
+    c.skip-place.ensures.order,
+    c.in_ok-here.ensures.cost,
+    c.in_ok-here.ensures.within.0,
+    reach_low c.args.text.now c.in_ok-here.here c.in_ok-here.ensures.within.1,
+  );
 }
 
 pub returns-in_default-clause-most : goal.returns-in_default-clause-most
@@ -60,29 +68,59 @@ returns-in_default-clause-most c = omega (arith, c.numbers.invariant.cost, c.num
 
 pub returns-in_err-push-clause-most : goal.returns-in_err-push-clause-most
 returns-in_err-push-clause-most c =
-    omega (arith, c.numbers.invariant.cost, c.in-Some.ensures.cost, c.in-Some.ensures.within.0,
-    reach_number c.args.text.now c.numbers.here _ _ c.in-Some.ensures.within.0
-    c.in-Some.ensures.found, c.in-Some.ensures.within.1)
+    omega (
+      arith,
+      c.numbers.invariant.cost,
+      c.in-Some.ensures.cost,
+      c.in-Some.ensures.within.0,
+      reach_number c.args.text.now c.numbers.here _ _ c.in-Some.ensures.within.0
+          c.in-Some.ensures.found,
+      c.in-Some.ensures.within.1,
+    )
 
 pub returns-in_err-here-clause-most : goal.returns-in_err-here-clause-most
 returns-in_err-here-clause-most c =
-    omega (arith, c.numbers.invariant.cost, c.in-Some.ensures.cost, c.in-Some.ensures.within.0,
-    reach_number c.args.text.now c.numbers.here _ _ c.in-Some.ensures.within.0
-    c.in-Some.ensures.found, c.skip-place.ensures.cost, c.skip-place.ensures.order,
-    c.skip-place.ensures.fits, c.behind_number.ensures.most)
+    omega (
+      arith,
+      c.numbers.invariant.cost,
+      c.in-Some.ensures.cost,
+      c.in-Some.ensures.within.0,
+      reach_number c.args.text.now c.numbers.here _ _ c.in-Some.ensures.within.0
+          c.in-Some.ensures.found,
+      c.skip-place.ensures.cost,
+      c.skip-place.ensures.order,
+      c.skip-place.ensures.fits,
+      c.behind_number.ensures.most,
+    )
 
 pub returns-then-byte-eq125-clause-cost : goal.returns-then-byte-eq125-clause-cost
 returns-then-byte-eq125-clause-cost c =
-    omega (arith, c.numbers.invariant.cost, c.in-Some.ensures.cost, c.in-Some.ensures.within.0,
-    reach_number c.args.text.now c.numbers.here _ _ c.in-Some.ensures.within.0
-    c.in-Some.ensures.found, c.skip-place.ensures.cost, c.skip-place.ensures.order,
-    c.in_ok-here.ensures.cost, c.in_ok-here.ensures.within.0,
-    reach_right c.args.text.now c.in_ok-here.here (sym c.byte.ensures.byte ∙ c.if-byte-eq125.true))
+    omega (
+      arith,
+      c.numbers.invariant.cost,
+      c.in-Some.ensures.cost,
+      c.in-Some.ensures.within.0,
+      reach_number c.args.text.now c.numbers.here _ _ c.in-Some.ensures.within.0
+          c.in-Some.ensures.found,
+      c.skip-place.ensures.cost,
+      c.skip-place.ensures.order,
+      c.in_ok-here.ensures.cost,
+      c.in_ok-here.ensures.within.0,
+      reach_right c.args.text.now c.in_ok-here.here (sym c.byte.ensures.byte ∙ c.if-byte-eq125.true),
+    )
 
 pub returns-then-byte-eq125-clause-most : goal.returns-then-byte-eq125-clause-most
 returns-then-byte-eq125-clause-most c =
-    omega (arith, c.numbers.invariant.cost, c.in-Some.ensures.cost, c.in-Some.ensures.within.0,
-    reach_number c.args.text.now c.numbers.here _ _ c.in-Some.ensures.within.0
-    c.in-Some.ensures.found, c.skip-place.ensures.cost, c.skip-place.ensures.order,
-    c.in_ok-here.ensures.cost, c.in_ok-here.ensures.within,
-    reach_right c.args.text.now c.in_ok-here.here (sym c.byte.ensures.byte ∙ c.if-byte-eq125.true))
+    omega (
+      arith,
+      c.numbers.invariant.cost,
+      c.in-Some.ensures.cost,
+      c.in-Some.ensures.within.0,
+      reach_number c.args.text.now c.numbers.here _ _ c.in-Some.ensures.within.0
+          c.in-Some.ensures.found,
+      c.skip-place.ensures.cost,
+      c.skip-place.ensures.order,
+      c.in_ok-here.ensures.cost,
+      c.in_ok-here.ensures.within,
+      reach_right c.args.text.now c.in_ok-here.here (sym c.byte.ensures.byte ∙ c.if-byte-eq125.true),
+    )

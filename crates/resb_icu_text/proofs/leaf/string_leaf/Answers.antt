@@ -40,5 +40,12 @@ returns-clause-cost c =
     let found = rw c.in-Some.is at c.in_ok-lexeme.ensures.found in
     let cost = rw c.in-Some.is at c.in_ok-lexeme.ensures.cost in
     let ok = c.in_ok-to.ensures.ok in
-    omega (arith, cost, ok.0, reach_right c.args.text.now _ ok.1,
-    reach_string c.args.text.now c.args.at _ _ found.string, found.after, found.order)
+    omega (
+      arith,
+      cost,
+      ok.0,
+      reach_right c.args.text.now _ ok.1,
+      reach_string c.args.text.now c.args.at _ _ found.string,
+      found.after,
+      found.order,
+    )

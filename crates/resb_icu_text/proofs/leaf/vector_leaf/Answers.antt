@@ -28,8 +28,10 @@ returns-clause-ok c =
 
 pub returns-then-byte-eq125-clause-cost : goal.returns-then-byte-eq125-clause-cost
 returns-then-byte-eq125-clause-cost c =
-    omega (arith,
-    reach_right c.args.text.now c.args.at (sym c.byte.ensures.byte ∙ c.if-byte-eq125.true))
+    omega (
+      arith,
+      reach_right c.args.text.now c.args.at (sym c.byte.ensures.byte ∙ c.if-byte-eq125.true),
+    )
 
 pub returns-then-byte-eq125-clause-most : goal.returns-then-byte-eq125-clause-most
 returns-then-byte-eq125-clause-most c =

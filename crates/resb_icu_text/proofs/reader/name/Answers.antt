@@ -35,10 +35,17 @@ returns-then-word_end-key-clause-most c =
     let cost = rw c.in-Some.is at c.in_ok-next.ensures.cost in
     let within = rw c.in-Some.is at c.in_ok-next.ensures.within in
     let string = key_string _ _ _ _ found.stands in
-    omega (arith, cost, c.add.ensures.most, c.add-2.ensures.most,
-    string_short _ _ _ _ string, blanks_order _ _ _ found.after.blanks,
-    reach_string c.args.text.now c.args.at _ _ string,
-    reach_low c.args.text.now _ within.1, reach_high c.args.text.now _ within.1)
+    omega (
+      arith,
+      cost,
+      c.add.ensures.most,
+      c.add-2.ensures.most,
+      string_short _ _ _ _ string,
+      blanks_order _ _ _ found.after.blanks,
+      reach_string c.args.text.now c.args.at _ _ string,
+      reach_low c.args.text.now _ within.1,
+      reach_high c.args.text.now _ within.1,
+    )
 
 pub returns-clause-cost : goal.returns-clause-cost
 returns-clause-cost c =
@@ -46,10 +53,16 @@ returns-clause-cost c =
     let cost = rw c.in-Some.is at c.in_ok-next.ensures.cost in
     let within = rw c.in-Some.is at c.in_ok-next.ensures.within in
     let string = key_string _ _ _ _ found.stands in
-    omega (arith, cost, c.add.ensures.most, c.add-2.ensures.most,
-    string_short _ _ _ _ string, blanks_order _ _ _ found.after.blanks,
-    reach_string c.args.text.now c.args.at _ _ string,
-    reach_low c.args.text.now _ within.1)
+    omega (
+      arith,
+      cost,
+      c.add.ensures.most,
+      c.add-2.ensures.most,
+      string_short _ _ _ _ string,
+      blanks_order _ _ _ found.after.blanks,
+      reach_string c.args.text.now c.args.at _ _ string,
+      reach_low c.args.text.now _ within.1,
+    )
 
 pub returns-clause-most : goal.returns-clause-most
 returns-clause-most c =
@@ -57,7 +70,14 @@ returns-clause-most c =
     let cost = rw c.in-Some.is at c.in_ok-next.ensures.cost in
     let within = rw c.in-Some.is at c.in_ok-next.ensures.within in
     let string = key_string _ _ _ _ found.stands in
-    omega (arith, cost, c.add.ensures.most, c.add-2.ensures.most,
-    string_short _ _ _ _ string, blanks_order _ _ _ found.after.blanks,
-    reach_string c.args.text.now c.args.at _ _ string,
-    reach_low c.args.text.now _ within.1, reach_high c.args.text.now _ within.1)
+    omega (
+      arith,
+      cost,
+      c.add.ensures.most,
+      c.add-2.ensures.most,
+      string_short _ _ _ _ string,
+      blanks_order _ _ _ found.after.blanks,
+      reach_string c.args.text.now c.args.at _ _ string,
+      reach_low c.args.text.now _ within.1,
+      reach_high c.args.text.now _ within.1,
+    )

@@ -10,5 +10,8 @@ returns-else-byte-eq123-clause-err c =
 
 pub returns-then-byte-eq123-clause-cost : goal.returns-then-byte-eq123-clause-cost
 returns-then-byte-eq123-clause-cost c =
-    omega (arith, c.in_ok-brace.ensures.cost,
-    reach_left c.args.text.now c.in_ok-brace.brace (sym c.byte.ensures.byte ∙ c.if-byte-eq123.true))
+    omega (
+      arith,
+      c.in_ok-brace.ensures.cost,
+      reach_left c.args.text.now c.in_ok-brace.brace (sym c.byte.ensures.byte ∙ c.if-byte-eq123.true),
+    )

@@ -37,13 +37,25 @@ returns-clause-ok c = record {
 
 pub returns-clause-cost : goal.returns-clause-cost
 returns-clause-cost c =
-    omega (arith, c.skip-start.ensures.cost, c.in_ok-next.ensures.cost,
-    c.in_ok-brace.ensures.cost, c.skip-first.ensures.cost, c.skip-first.ensures.order,
-    reach_low c.args.text.now c.skip-first.result c.skip-first.ensures.fits)
+    omega (
+      arith,
+      c.skip-start.ensures.cost,
+      c.in_ok-next.ensures.cost,
+      c.in_ok-brace.ensures.cost,
+      c.skip-first.ensures.cost,
+      c.skip-first.ensures.order,
+      reach_low c.args.text.now c.skip-first.result c.skip-first.ensures.fits,
+    )
 
 pub returns-clause-most : goal.returns-clause-most
 returns-clause-most c =
-    omega (arith, c.skip-start.ensures.cost, c.in_ok-next.ensures.cost,
-    c.in_ok-brace.ensures.cost, c.skip-first.ensures.cost, c.skip-first.ensures.order,
-    reach_low c.args.text.now c.skip-first.result c.skip-first.ensures.fits,
-    reach_high c.args.text.now c.skip-first.result c.skip-first.ensures.fits)
+    omega (
+      arith,
+      c.skip-start.ensures.cost,
+      c.in_ok-next.ensures.cost,
+      c.in_ok-brace.ensures.cost,
+      c.skip-first.ensures.cost,
+      c.skip-first.ensures.order,
+      reach_low c.args.text.now c.skip-first.result c.skip-first.ensures.fits,
+      reach_high c.args.text.now c.skip-first.result c.skip-first.ensures.fits,
+    )

@@ -17,8 +17,11 @@ steps-preserved c =
     record {
       within = goes.0;
       same = same_by _ _ _ c.steps.invariant.same (rw c.in-Step.is at c.in_ok-next.ensures.ok);
-      cost = omega (arith, c.steps.invariant.cost,
-          rw c.in-Step.is at c.in_ok-next.ensures.cost);
+      cost = omega (
+        arith,
+        c.steps.invariant.cost,
+        rw c.in-Step.is at c.in_ok-next.ensures.cost,
+      );
     }
 
 pub returns-then-end-text-clause-err : goal.returns-then-end-text-clause-err
@@ -35,19 +38,37 @@ returns-in-Root-clause-ok c =
 
 pub returns-then-end-text-clause-most : goal.returns-then-end-text-clause-most
 returns-then-end-text-clause-most c =
-    omega (arith, c.steps.invariant.cost, rw c.in-Root.is at c.in_ok-next.ensures.cost,
-    c.skip-end.ensures.cost, c.skip-end.ensures.order, c.skip-end.ensures.fits,
-    reach_high c.args.text.now c.skip-end.result c.skip-end.ensures.fits)
+    omega (
+      arith,
+      c.steps.invariant.cost,
+      rw c.in-Root.is at c.in_ok-next.ensures.cost,
+      c.skip-end.ensures.cost,
+      c.skip-end.ensures.order,
+      c.skip-end.ensures.fits,
+      reach_high c.args.text.now c.skip-end.result c.skip-end.ensures.fits,
+    )
 
 pub returns-in-Root-clause-cost : goal.returns-in-Root-clause-cost
 returns-in-Root-clause-cost c =
-    omega (arith, c.steps.invariant.cost, rw c.in-Root.is at c.in_ok-next.ensures.cost,
-    c.skip-end.ensures.cost, c.skip-end.ensures.order, c.skip-end.ensures.fits,
-    length-map c.advance.new.self.keys.items (λ k. k.now),
-    reach_high c.args.text.now c.skip-end.result c.skip-end.ensures.fits)
+    omega (
+      arith,
+      c.steps.invariant.cost,
+      rw c.in-Root.is at c.in_ok-next.ensures.cost,
+      c.skip-end.ensures.cost,
+      c.skip-end.ensures.order,
+      c.skip-end.ensures.fits,
+      length-map c.advance.new.self.keys.items (λ k. k.now),
+      reach_high c.args.text.now c.skip-end.result c.skip-end.ensures.fits,
+    )
 
 pub returns-in-Root-clause-most : goal.returns-in-Root-clause-most
 returns-in-Root-clause-most c =
-    omega (arith, c.steps.invariant.cost, rw c.in-Root.is at c.in_ok-next.ensures.cost,
-    c.skip-end.ensures.cost, c.skip-end.ensures.order, c.skip-end.ensures.fits,
-    reach_high c.args.text.now c.skip-end.result c.skip-end.ensures.fits)
+    omega (
+      arith,
+      c.steps.invariant.cost,
+      rw c.in-Root.is at c.in_ok-next.ensures.cost,
+      c.skip-end.ensures.cost,
+      c.skip-end.ensures.order,
+      c.skip-end.ensures.fits,
+      reach_high c.args.text.now c.skip-end.result c.skip-end.ensures.fits,
+    )

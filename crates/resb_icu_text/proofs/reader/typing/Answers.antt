@@ -27,18 +27,34 @@ returns-then-byte-ne58-clause-most c =
 
 pub returns-in-Some-clause-cost : goal.returns-in-Some-clause-cost
 returns-in-Some-clause-cost c =
-    omega (arith, c.in-Some.ensures.cost, c.in-Some.ensures.within.0, c.skip.ensures.cost,
-    c.skip.ensures.order, reach_low c.args.text.now c.skip.result c.skip.ensures.fits,
-    reach_colon c.args.text.now c.args.at (sym c.byte.ensures.byte ∙ c.if-byte-ne58.false))
+    omega (
+      arith,
+      c.in-Some.ensures.cost,
+      c.in-Some.ensures.within.0,
+      c.skip.ensures.cost,
+      c.skip.ensures.order,
+      reach_low c.args.text.now c.skip.result c.skip.ensures.fits,
+      reach_colon c.args.text.now c.args.at (sym c.byte.ensures.byte ∙ c.if-byte-ne58.false),
+    )
 
 pub returns-in-Some-clause-most : goal.returns-in-Some-clause-most
 returns-in-Some-clause-most c =
-    omega (arith, c.in-Some.ensures.cost, c.in-Some.ensures.within.0, c.skip.ensures.cost,
-    c.skip.ensures.order, reach_low c.args.text.now c.skip.result c.skip.ensures.fits,
-    reach_high c.args.text.now c.skip.result c.skip.ensures.fits,
-    reach_colon c.args.text.now c.args.at (sym c.byte.ensures.byte ∙ c.if-byte-ne58.false))
+    omega (
+      arith,
+      c.in-Some.ensures.cost,
+      c.in-Some.ensures.within.0,
+      c.skip.ensures.cost,
+      c.skip.ensures.order,
+      reach_low c.args.text.now c.skip.result c.skip.ensures.fits,
+      reach_high c.args.text.now c.skip.result c.skip.ensures.fits,
+      reach_colon c.args.text.now c.args.at (sym c.byte.ensures.byte ∙ c.if-byte-ne58.false),
+    )
 
 pub returns-in-None-clause-most : goal.returns-in-None-clause-most
 returns-in-None-clause-most c =
-    omega (arith, c.in-None.ensures.most, c.requires.within,
-    reach_colon c.args.text.now c.args.at (sym c.byte.ensures.byte ∙ c.if-byte-ne58.false))
+    omega (
+      arith,
+      c.in-None.ensures.most,
+      c.requires.within,
+      reach_colon c.args.text.now c.args.at (sym c.byte.ensures.byte ∙ c.if-byte-ne58.false),
+    )

@@ -14,15 +14,23 @@ returns-clause-err c =
 
 pub returns-then-is_member-clause-cost : goal.returns-then-is_member-clause-cost
 returns-then-is_member-clause-cost c =
-    omega (arith, c.skip.ensures.cost, c.skip.ensures.order,
-    reach_comma c.args.text.now c.args.at c.requires.comma,
-    reach_low c.args.text.now c.skip.result c.skip.ensures.fits)
+    omega (
+      arith,
+      c.skip.ensures.cost,
+      c.skip.ensures.order,
+      reach_comma c.args.text.now c.args.at c.requires.comma,
+      reach_low c.args.text.now c.skip.result c.skip.ensures.fits,
+    )
 
 pub returns-then-is_member-clause-most : goal.returns-then-is_member-clause-most
 returns-then-is_member-clause-most c =
-    omega (arith, c.skip.ensures.cost, c.skip.ensures.order,
-    reach_comma c.args.text.now c.args.at c.requires.comma,
-    reach_high c.args.text.now c.skip.result c.skip.ensures.fits)
+    omega (
+      arith,
+      c.skip.ensures.cost,
+      c.skip.ensures.order,
+      reach_comma c.args.text.now c.args.at c.requires.comma,
+      reach_high c.args.text.now c.skip.result c.skip.ensures.fits,
+    )
 
 pub returns-clause-most : goal.returns-clause-most
 returns-clause-most c =

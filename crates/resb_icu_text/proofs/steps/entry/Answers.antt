@@ -27,8 +27,10 @@ returns-clause-err c =
 
 pub returns-then-byte-eq125-clause-cost : goal.returns-then-byte-eq125-clause-cost
 returns-then-byte-eq125-clause-cost c =
-    omega (arith,
-    reach_right c.args.text.now c.args.at (sym c.byte.ensures.byte ∙ c.if-byte-eq125.true))
+    omega (
+      arith,
+      reach_right c.args.text.now c.args.at (sym c.byte.ensures.byte ∙ c.if-byte-eq125.true),
+    )
 
 pub returns-then-byte-eq125-clause-most : goal.returns-then-byte-eq125-clause-most
 returns-then-byte-eq125-clause-most c =
@@ -43,9 +45,13 @@ returns-in-Some-2-clause-cost c =
     let found = rw c.in-Some-2.is at c.in_ok-next.ensures.found in
     let cost = rw c.in-Some-2.is at c.in_ok-next.ensures.cost in
     let within = rw c.in-Some-2.is at c.in_ok-next.ensures.within in
-    omega (arith, cost, within.0,
-    reach_string c.args.text.now c.args.at _ _ (key_string _ _ _ _ found.stands),
-    reach_low c.args.text.now _ within.1)
+    omega (
+      arith,
+      cost,
+      within.0,
+      reach_string c.args.text.now c.args.at _ _ (key_string _ _ _ _ found.stands),
+      reach_low c.args.text.now _ within.1,
+    )
 
 pub returns-in_err-table-clause-most : goal.returns-in_err-table-clause-most
 returns-in_err-table-clause-most c =

@@ -27,15 +27,26 @@ returns-then-b-eq123-clause-cost c =
     ok_by _ (λ s. c.untyped.new.turns.count + 8 * reach text c.skip-next.result
     ≤ c.skip-next.new.turns.count + spent text s)
     (λ s. c.untyped.new.turns.count + 8 * reach text c.args.at + 5
-    ≤ c.args.turns.now.count + spent text s) (λ s h. omega (arith, h, c.skip-next.ensures.cost, c.skip-next.ensures.order,
-    reach_left c.args.text.now c.args.at (sym c.byte-b.ensures.byte ∙ c.if-b-eq123.true),
-    reach_low c.args.text.now c.skip-next.result c.skip-next.ensures.fits)) c.untyped.ensures.cost
+    ≤ c.args.turns.now.count + spent text s)
+    (λ s h. omega (
+      arith,
+      h,
+      c.skip-next.ensures.cost,
+      c.skip-next.ensures.order,
+      reach_left c.args.text.now c.args.at (sym c.byte-b.ensures.byte ∙ c.if-b-eq123.true),
+      reach_low c.args.text.now c.skip-next.result c.skip-next.ensures.fits,
+    )) c.untyped.ensures.cost
 
 pub returns-then-b-eq123-clause-most : goal.returns-then-b-eq123-clause-most
 returns-then-b-eq123-clause-most c =
-    omega (arith, c.untyped.ensures.most, c.skip-next.ensures.cost, c.skip-next.ensures.order,
-    reach_left c.args.text.now c.args.at (sym c.byte-b.ensures.byte ∙ c.if-b-eq123.true),
-    reach_low c.args.text.now c.skip-next.result c.skip-next.ensures.fits)
+    omega (
+      arith,
+      c.untyped.ensures.most,
+      c.skip-next.ensures.cost,
+      c.skip-next.ensures.order,
+      reach_left c.args.text.now c.args.at (sym c.byte-b.ensures.byte ∙ c.if-b-eq123.true),
+      reach_low c.args.text.now c.skip-next.result c.skip-next.ensures.fits,
+    )
 
 pub returns-clause-most : goal.returns-clause-most
 returns-clause-most c =

@@ -18,9 +18,15 @@ pub returns-in-Some-key-clause-cost : goal.returns-in-Some-key-clause-cost
 returns-in-Some-key-clause-cost c =
     let found = rw c.in-Some.is at c.in_ok-lexeme.ensures.found in
     let cost = rw c.in-Some.is at c.in_ok-lexeme.ensures.cost in
-    omega (arith, cost, c.key.ensures.cost, string_short _ _ _ _ found.string, found.order,
-    reach_string c.args.text.now c.args.at _ _ found.string,
-    reach_low c.args.text.now _ found.fits)
+    omega (
+      arith,
+      cost,
+      c.key.ensures.cost,
+      string_short _ _ _ _ found.string,
+      found.order,
+      reach_string c.args.text.now c.args.at _ _ found.string,
+      reach_low c.args.text.now _ found.fits,
+    )
 
 pub returns-clause-none : goal.returns-clause-none
 returns-clause-none c =
@@ -30,14 +36,28 @@ pub returns-in-Some-key-clause-most : goal.returns-in-Some-key-clause-most
 returns-in-Some-key-clause-most c =
     let found = rw c.in-Some.is at c.in_ok-lexeme.ensures.found in
     let cost = rw c.in-Some.is at c.in_ok-lexeme.ensures.cost in
-    omega (arith, cost, c.key.ensures.cost, string_short _ _ _ _ found.string, found.order,
-    reach_string c.args.text.now c.args.at _ _ found.string,
-    reach_low c.args.text.now _ found.fits, reach_high c.args.text.now _ found.fits)
+    omega (
+      arith,
+      cost,
+      c.key.ensures.cost,
+      string_short _ _ _ _ found.string,
+      found.order,
+      reach_string c.args.text.now c.args.at _ _ found.string,
+      reach_low c.args.text.now _ found.fits,
+      reach_high c.args.text.now _ found.fits,
+    )
 
 pub returns-clause-most : goal.returns-clause-most
 returns-clause-most c =
     let found = rw c.in-Some.is at c.in_ok-lexeme.ensures.found in
     let cost = rw c.in-Some.is at c.in_ok-lexeme.ensures.cost in
-    omega (arith, cost, c.key.ensures.cost, string_short _ _ _ _ found.string, found.order,
-    reach_string c.args.text.now c.args.at _ _ found.string,
-    reach_low c.args.text.now _ found.fits, reach_high c.args.text.now _ found.fits)
+    omega (
+      arith,
+      cost,
+      c.key.ensures.cost,
+      string_short _ _ _ _ found.string,
+      found.order,
+      reach_string c.args.text.now c.args.at _ _ found.string,
+      reach_low c.args.text.now _ found.fits,
+      reach_high c.args.text.now _ found.fits,
+    )

@@ -33,10 +33,18 @@ returns-in_ok-push-in-Table-clause-ok c =
 
 pub returns-in_ok-push-in-Array-clause-cost : goal.returns-in_ok-push-in-Array-clause-cost
 returns-in_ok-push-in-Array-clause-cost c =
-    omega (arith, c.skip.ensures.cost, c.skip.ensures.order,
-    reach_low c.args.text.now c.skip.result c.skip.ensures.fits)
+    omega (
+      arith,
+      c.skip.ensures.cost,
+      c.skip.ensures.order,
+      reach_low c.args.text.now c.skip.result c.skip.ensures.fits,
+    )
 
 pub returns-in_ok-push-in-Table-clause-cost : goal.returns-in_ok-push-in-Table-clause-cost
 returns-in_ok-push-in-Table-clause-cost c =
-    omega (arith, c.skip-in-Table.ensures.cost, c.skip-in-Table.ensures.order,
-    reach_low c.args.text.now c.skip-in-Table.result c.skip-in-Table.ensures.fits)
+    omega (
+      arith,
+      c.skip-in-Table.ensures.cost,
+      c.skip-in-Table.ensures.order,
+      reach_low c.args.text.now c.skip-in-Table.result c.skip-in-Table.ensures.fits,
+    )

@@ -24,6 +24,11 @@ pub returns-clause-cost : goal.returns-clause-cost
 returns-clause-cost c =
     let found = rw c.in-Some.is at c.in_ok-lexeme.ensures.found in
     let cost = rw c.in-Some.is at c.in_ok-lexeme.ensures.cost in
-    omega (arith, cost, found.after, found.order,
-    reach_string c.args.text.now c.args.at _ _ found.string,
-    reach_low c.args.text.now _ found.fits)
+    omega (
+      arith,
+      cost,
+      found.after,
+      found.order,
+      reach_string c.args.text.now c.args.at _ _ found.string,
+      reach_low c.args.text.now _ found.fits,
+    )

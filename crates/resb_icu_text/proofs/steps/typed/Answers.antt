@@ -29,14 +29,24 @@ returns-clause-err c =
 
 pub returns-in_default-clause-most : goal.returns-in_default-clause-most
 returns-in_default-clause-most c =
-    omega (arith, c.in_default.ensures.most,
-    reach_colon c.args.text.now c.args.at c.requires.colon, c.requires.within)
+    omega (
+      arith,
+      c.in_default.ensures.most,
+      reach_colon c.args.text.now c.args.at c.requires.colon,
+      c.requires.within,
+    )
 
 pub returns-then-byte-ne123-clause-most : goal.returns-then-byte-ne123-clause-most
 returns-then-byte-ne123-clause-most c =
-    omega (arith, c.in-Some.ensures.cost, c.in-Some.ensures.within, c.skip-brace.ensures.cost,
-    c.skip-brace.ensures.order, reach_colon c.args.text.now c.args.at c.requires.colon,
-    reach_high c.args.text.now c.skip-brace.result c.skip-brace.ensures.fits)
+    omega (
+      arith,
+      c.in-Some.ensures.cost,
+      c.in-Some.ensures.within,
+      c.skip-brace.ensures.cost,
+      c.skip-brace.ensures.order,
+      reach_colon c.args.text.now c.args.at c.requires.colon,
+      reach_high c.args.text.now c.skip-brace.result c.skip-brace.ensures.fits,
+    )
 
 pub returns-clause-cost : goal.returns-clause-cost
 returns-clause-cost c =
@@ -44,16 +54,37 @@ returns-clause-cost c =
     ok_by _ (λ s. c.content.new.turns.count + 8 * reach text c.skip-first.result
     ≤ c.skip-first.new.turns.count + spent text s)
     (λ s. c.content.new.turns.count + 8 * reach text c.args.at + 5
-    ≤ c.args.turns.now.count + spent text s) (λ s h. omega (arith, h, c.in-Some.ensures.cost, c.in-Some.ensures.within, c.skip-brace.ensures.cost,
-    c.skip-brace.ensures.order, reach_colon c.args.text.now c.args.at c.requires.colon,
-    reach_left c.args.text.now c.skip-brace.result
-    (sym c.byte.ensures.byte ∙ c.if-byte-ne123.false), c.skip-first.ensures.cost, c.skip-first.ensures.order,
-    reach_low c.args.text.now c.skip-first.result c.skip-first.ensures.fits)) c.content.ensures.cost
+    ≤ c.args.turns.now.count + spent text s)
+    (λ s h. omega (
+      arith,
+      h,
+      c.in-Some.ensures.cost,
+      c.in-Some.ensures.within,
+      c.skip-brace.ensures.cost,
+      c.skip-brace.ensures.order,
+      reach_colon c.args.text.now c.args.at c.requires.colon,
+      reach_left c.args.text.now c.skip-brace.result
+          (sym c.byte.ensures.byte
+          ∙ c.if-byte-ne123.false),
+      c.skip-first.ensures.cost,
+      c.skip-first.ensures.order,
+      reach_low c.args.text.now c.skip-first.result c.skip-first.ensures.fits,
+    )) c.content.ensures.cost
 
 pub returns-clause-most : goal.returns-clause-most
 returns-clause-most c =
-    omega (arith, c.content.ensures.most, c.in-Some.ensures.cost, c.in-Some.ensures.within, c.skip-brace.ensures.cost,
-    c.skip-brace.ensures.order, reach_colon c.args.text.now c.args.at c.requires.colon,
-    reach_left c.args.text.now c.skip-brace.result
-    (sym c.byte.ensures.byte ∙ c.if-byte-ne123.false), c.skip-first.ensures.cost, c.skip-first.ensures.order,
-    reach_low c.args.text.now c.skip-first.result c.skip-first.ensures.fits)
+    omega (
+      arith,
+      c.content.ensures.most,
+      c.in-Some.ensures.cost,
+      c.in-Some.ensures.within,
+      c.skip-brace.ensures.cost,
+      c.skip-brace.ensures.order,
+      reach_colon c.args.text.now c.args.at c.requires.colon,
+      reach_left c.args.text.now c.skip-brace.result
+          (sym c.byte.ensures.byte
+          ∙ c.if-byte-ne123.false),
+      c.skip-first.ensures.cost,
+      c.skip-first.ensures.order,
+      reach_low c.args.text.now c.skip-first.result c.skip-first.ensures.fits,
+    )

@@ -20,8 +20,10 @@ returns-then-b-eq123-clause-ok c =
 
 pub returns-then-b-eq125-clause-cost : goal.returns-then-b-eq125-clause-cost
 returns-then-b-eq125-clause-cost c =
-    omega (arith,
-    reach_right c.args.text.now c.args.at (sym c.byte-b.ensures.byte ∙ c.if-b-eq125.true))
+    omega (
+      arith,
+      reach_right c.args.text.now c.args.at (sym c.byte-b.ensures.byte ∙ c.if-b-eq125.true),
+    )
 
 pub returns-then-b-eq125-clause-most : goal.returns-then-b-eq125-clause-most
 returns-then-b-eq125-clause-most c =

@@ -66,41 +66,72 @@ pub returns-then-b-eq125-clause-cost : goal.returns-then-b-eq125-clause-cost
 returns-then-b-eq125-clause-cost c =
     let found = rw c.in-Some.is at c.in_ok-lexeme.ensures.found in
     let cost = rw c.in-Some.is at c.in_ok-lexeme.ensures.cost in
-    omega (arith, cost, found.after, found.order,
-    reach_string c.args.text.now c.args.at _ _ found.string,
-    reach_low c.args.text.now _ found.fits,
-    reach_right c.args.text.now _ (sym c.byte-b.ensures.byte ∙ c.if-b-eq125.true))
+    omega (
+      arith,
+      cost,
+      found.after,
+      found.order,
+      reach_string c.args.text.now c.args.at _ _ found.string,
+      reach_low c.args.text.now _ found.fits,
+      reach_right c.args.text.now _ (sym c.byte-b.ensures.byte ∙ c.if-b-eq125.true),
+    )
 
 pub returns-then-b-eq44-clause-cost : goal.returns-then-b-eq44-clause-cost
 returns-then-b-eq44-clause-cost c =
     let found = rw c.in-Some.is at c.in_ok-lexeme.ensures.found in
     let cost = rw c.in-Some.is at c.in_ok-lexeme.ensures.cost in
-    omega (arith, cost, found.after, found.order,
-    reach_string c.args.text.now c.args.at _ _ found.string,
-    reach_low c.args.text.now _ found.fits)
+    omega (
+      arith,
+      cost,
+      found.after,
+      found.order,
+      reach_string c.args.text.now c.args.at _ _ found.string,
+      reach_low c.args.text.now _ found.fits,
+    )
 
 pub returns-in_default-key-clause-most : goal.returns-in_default-key-clause-most
 returns-in_default-key-clause-most c =
     let found = rw c.in-Some.is at c.in_ok-lexeme.ensures.found in
     let cost = rw c.in-Some.is at c.in_ok-lexeme.ensures.cost in
-    omega (arith, cost, found.after, found.order,
-    reach_string c.args.text.now c.args.at _ _ found.string,
-    reach_low c.args.text.now _ found.fits, c.key.ensures.cost, string_short _ _ _ _ found.string,
-    reach_high c.args.text.now _ found.fits)
+    omega (
+      arith,
+      cost,
+      found.after,
+      found.order,
+      reach_string c.args.text.now c.args.at _ _ found.string,
+      reach_low c.args.text.now _ found.fits,
+      c.key.ensures.cost,
+      string_short _ _ _ _ found.string,
+      reach_high c.args.text.now _ found.fits,
+    )
 
 pub returns-clause-cost : goal.returns-clause-cost
 returns-clause-cost c =
     let found = rw c.in-Some.is at c.in_ok-lexeme.ensures.found in
     let cost = rw c.in-Some.is at c.in_ok-lexeme.ensures.cost in
-    omega (arith, cost, found.after, found.order,
-    reach_string c.args.text.now c.args.at _ _ found.string,
-    reach_low c.args.text.now _ found.fits, c.key.ensures.cost, string_short _ _ _ _ found.string)
+    omega (
+      arith,
+      cost,
+      found.after,
+      found.order,
+      reach_string c.args.text.now c.args.at _ _ found.string,
+      reach_low c.args.text.now _ found.fits,
+      c.key.ensures.cost,
+      string_short _ _ _ _ found.string,
+    )
 
 pub returns-clause-most : goal.returns-clause-most
 returns-clause-most c =
     let found = rw c.in-Some.is at c.in_ok-lexeme.ensures.found in
     let cost = rw c.in-Some.is at c.in_ok-lexeme.ensures.cost in
-    omega (arith, cost, found.after, found.order,
-    reach_string c.args.text.now c.args.at _ _ found.string,
-    reach_low c.args.text.now _ found.fits, c.key.ensures.cost, string_short _ _ _ _ found.string,
-    reach_high c.args.text.now _ found.fits)
+    omega (
+      arith,
+      cost,
+      found.after,
+      found.order,
+      reach_string c.args.text.now c.args.at _ _ found.string,
+      reach_low c.args.text.now _ found.fits,
+      c.key.ensures.cost,
+      string_short _ _ _ _ found.string,
+      reach_high c.args.text.now _ found.fits,
+    )

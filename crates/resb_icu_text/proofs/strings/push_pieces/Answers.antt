@@ -29,10 +29,17 @@ pieces-preserved c =
           c.in-Some.last c.skip-coming.result _ _ h.0 _ q h.1 c.skip-coming.ensures.skip e
           c.pieces.invariant.added;
       blanks = c.skip-coming.ensures.skip;
-      cost = omega (arith, c.pieces.invariant.cost, reach_quote c.args.text.now c.pieces.coming q,
-          c.in-Some.ensures.cost,
-          c.push_piece.ensures.cost, c.skip-coming.ensures.cost, low, c.skip-coming.ensures.order,
-          reach_low c.args.text.now c.skip-coming.result c.skip-coming.ensures.fits);
+      cost = omega (
+        arith,
+        c.pieces.invariant.cost,
+        reach_quote c.args.text.now c.pieces.coming q,
+        c.in-Some.ensures.cost,
+        c.push_piece.ensures.cost,
+        c.skip-coming.ensures.cost,
+        low,
+        c.skip-coming.ensures.order,
+        reach_low c.args.text.now c.skip-coming.result c.skip-coming.ensures.fits,
+      );
     }
 
 pub returns-clause-found : goal.returns-clause-found
@@ -42,17 +49,29 @@ returns-clause-found c =
 
 pub returns-in_default-clause-most : goal.returns-in_default-clause-most
 returns-in_default-clause-most c =
-    omega (arith, c.pieces.invariant.cost, c.piece_end.ensures.most,
-    reach_quote c.args.text.now c.pieces.coming (sym c.byte.ensures.byte ∙ c.pieces-test.true),
-    c.pieces.invariant.fits)
+    omega (
+      arith,
+      c.pieces.invariant.cost,
+      c.piece_end.ensures.most,
+      reach_quote c.args.text.now c.pieces.coming (sym c.byte.ensures.byte ∙ c.pieces-test.true),
+      c.pieces.invariant.fits,
+    )
 
 pub returns-in_err-push_piece-clause-most : goal.returns-in_err-push_piece-clause-most
 returns-in_err-push_piece-clause-most c =
-    omega (arith, c.pieces.invariant.cost, c.in-Some.ensures.cost, c.push_piece.ensures.cost,
-    reach_quote c.args.text.now c.pieces.coming (sym c.byte.ensures.byte ∙ c.pieces-test.true),
-    c.in-Some.ensures.within)
+    omega (
+      arith,
+      c.pieces.invariant.cost,
+      c.in-Some.ensures.cost,
+      c.push_piece.ensures.cost,
+      reach_quote c.args.text.now c.pieces.coming (sym c.byte.ensures.byte ∙ c.pieces-test.true),
+      c.in-Some.ensures.within,
+    )
 
 pub returns-clause-most : goal.returns-clause-most
 returns-clause-most c =
-    omega (arith, c.pieces.invariant.cost,
-    reach_high c.args.text.now c.pieces.coming c.pieces.invariant.fits)
+    omega (
+      arith,
+      c.pieces.invariant.cost,
+      reach_high c.args.text.now c.pieces.coming c.pieces.invariant.fits,
+    )

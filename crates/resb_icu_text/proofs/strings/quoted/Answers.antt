@@ -65,54 +65,104 @@ returns-clause-found c =
 
 pub returns-in_default-clause-most : goal.returns-in_default-clause-most
 returns-in_default-clause-most c =
-    omega (arith, c.piece_end.ensures.most,
-    reach_quote c.args.text.now c.args.from c.requires.opens, c.requires.within)
+    omega (
+      arith,
+      c.piece_end.ensures.most,
+      reach_quote c.args.text.now c.args.from c.requires.opens,
+      c.requires.within,
+    )
 
 pub returns-then-plain-clause-cost : goal.returns-then-plain-clause-cost
 returns-then-plain-clause-cost c =
-    omega (arith, c.in-Some.ensures.cost, c.skip-next.ensures.cost, c.in-Some.ensures.within,
-    c.skip-next.ensures.order, reach_quote c.args.text.now c.args.from c.requires.opens,
-    reach_low c.args.text.now c.skip-next.result c.skip-next.ensures.fits)
+    omega (
+      arith,
+      c.in-Some.ensures.cost,
+      c.skip-next.ensures.cost,
+      c.in-Some.ensures.within,
+      c.skip-next.ensures.order,
+      reach_quote c.args.text.now c.args.from c.requires.opens,
+      reach_low c.args.text.now c.skip-next.result c.skip-next.ensures.fits,
+    )
 
 pub returns-then-plain-clause-most : goal.returns-then-plain-clause-most
 returns-then-plain-clause-most c =
-    omega (arith, c.in-Some.ensures.cost, c.skip-next.ensures.cost, c.in-Some.ensures.within,
-    c.skip-next.ensures.order, reach_quote c.args.text.now c.args.from c.requires.opens,
-    reach_low c.args.text.now c.skip-next.result c.skip-next.ensures.fits,
-    reach_high c.args.text.now c.skip-next.result c.skip-next.ensures.fits)
+    omega (
+      arith,
+      c.in-Some.ensures.cost,
+      c.skip-next.ensures.cost,
+      c.in-Some.ensures.within,
+      c.skip-next.ensures.order,
+      reach_quote c.args.text.now c.args.from c.requires.opens,
+      reach_low c.args.text.now c.skip-next.result c.skip-next.ensures.fits,
+      reach_high c.args.text.now c.skip-next.result c.skip-next.ensures.fits,
+    )
 
 pub returns-in_err-push_piece-clause-most : goal.returns-in_err-push_piece-clause-most
 returns-in_err-push_piece-clause-most c =
-    omega (arith, c.in-Some.ensures.cost, c.skip-next.ensures.cost, c.in-Some.ensures.within,
-    c.push_piece.ensures.cost, c.skip-next.ensures.order,
-    reach_quote c.args.text.now c.args.from c.requires.opens,
-    reach_high c.args.text.now c.skip-next.result c.skip-next.ensures.fits)
+    omega (
+      arith,
+      c.in-Some.ensures.cost,
+      c.skip-next.ensures.cost,
+      c.in-Some.ensures.within,
+      c.push_piece.ensures.cost,
+      c.skip-next.ensures.order,
+      reach_quote c.args.text.now c.args.from c.requires.opens,
+      reach_high c.args.text.now c.skip-next.result c.skip-next.ensures.fits,
+    )
 
 pub returns-in_err-end-clause-most : goal.returns-in_err-end-clause-most
 returns-in_err-end-clause-most c =
-    omega (arith, c.in-Some.ensures.cost, c.skip-next.ensures.cost, c.in-Some.ensures.within,
-    c.push_piece.ensures.cost, c.push_pieces.ensures.most, c.skip-next.ensures.order,
-    reach_quote c.args.text.now c.args.from c.requires.opens,
-    reach_low c.args.text.now c.skip-next.result c.skip-next.ensures.fits)
+    omega (
+      arith,
+      c.in-Some.ensures.cost,
+      c.skip-next.ensures.cost,
+      c.in-Some.ensures.within,
+      c.push_piece.ensures.cost,
+      c.push_pieces.ensures.most,
+      c.skip-next.ensures.order,
+      reach_quote c.args.text.now c.args.from c.requires.opens,
+      reach_low c.args.text.now c.skip-next.result c.skip-next.ensures.fits,
+    )
 
 pub returns-in_default-2-clause-most : goal.returns-in_default-2-clause-most
 returns-in_default-2-clause-most c =
-    omega (arith, c.in-Some.ensures.cost, c.skip-next.ensures.cost, c.in-Some.ensures.within,
-    c.push_piece.ensures.cost, c.push_pieces.ensures.most, c.skip-next.ensures.order,
-    reach_quote c.args.text.now c.args.from c.requires.opens,
-    reach_low c.args.text.now c.skip-next.result c.skip-next.ensures.fits)
+    omega (
+      arith,
+      c.in-Some.ensures.cost,
+      c.skip-next.ensures.cost,
+      c.in-Some.ensures.within,
+      c.push_piece.ensures.cost,
+      c.push_pieces.ensures.most,
+      c.skip-next.ensures.order,
+      reach_quote c.args.text.now c.args.from c.requires.opens,
+      reach_low c.args.text.now c.skip-next.result c.skip-next.ensures.fits,
+    )
 
 pub returns-clause-cost : goal.returns-clause-cost
 returns-clause-cost c =
     let more = rw c.in-Some-2.is at c.in_ok-end.ensures.cost in
-    omega (arith, c.in-Some.ensures.cost, c.skip-next.ensures.cost, c.in-Some.ensures.within,
-    c.push_piece.ensures.cost, more, c.skip-next.ensures.order,
-    reach_quote c.args.text.now c.args.from c.requires.opens,
-    reach_low c.args.text.now c.skip-next.result c.skip-next.ensures.fits)
+    omega (
+      arith,
+      c.in-Some.ensures.cost,
+      c.skip-next.ensures.cost,
+      c.in-Some.ensures.within,
+      c.push_piece.ensures.cost,
+      more,
+      c.skip-next.ensures.order,
+      reach_quote c.args.text.now c.args.from c.requires.opens,
+      reach_low c.args.text.now c.skip-next.result c.skip-next.ensures.fits,
+    )
 
 pub returns-clause-most : goal.returns-clause-most
 returns-clause-most c =
-    omega (arith, c.in-Some.ensures.cost, c.skip-next.ensures.cost, c.in-Some.ensures.within,
-    c.push_piece.ensures.cost, c.push_pieces.ensures.most, c.skip-next.ensures.order,
-    reach_quote c.args.text.now c.args.from c.requires.opens,
-    reach_low c.args.text.now c.skip-next.result c.skip-next.ensures.fits)
+    omega (
+      arith,
+      c.in-Some.ensures.cost,
+      c.skip-next.ensures.cost,
+      c.in-Some.ensures.within,
+      c.push_piece.ensures.cost,
+      c.push_pieces.ensures.most,
+      c.skip-next.ensures.order,
+      reach_quote c.args.text.now c.args.from c.requires.opens,
+      reach_low c.args.text.now c.skip-next.result c.skip-next.ensures.fits,
+    )

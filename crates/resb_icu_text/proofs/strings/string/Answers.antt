@@ -11,8 +11,11 @@ returns-in_default-clause-none c =
 
 pub returns-in_default-clause-most : goal.returns-in_default-clause-most
 returns-in_default-clause-most c =
-    omega (arith, c.in_default.ensures.one,
-    reach_high c.args.text.now c.args.from c.requires.within)
+    omega (
+      arith,
+      c.in_default.ensures.one,
+      reach_high c.args.text.now c.args.from c.requires.within,
+    )
 
 pub returns-clause-found : goal.returns-clause-found
 returns-clause-found c =
@@ -21,14 +24,26 @@ returns-clause-found c =
 
 pub returns-clause-cost : goal.returns-clause-cost
 returns-clause-cost c =
-    omega (arith, c.in-Some.ensures.cost, c.in-Some.ensures.found.some, c.skip.ensures.cost,
-    reach_here c.args.text.now c.args.from (word_no_slash _ _ _ _ c.in-Some.ensures.found),
-    reach_low c.args.text.now c.skip.result c.skip.ensures.fits, c.skip.ensures.order)
+    omega (
+      arith,
+      c.in-Some.ensures.cost,
+      c.in-Some.ensures.found.some,
+      c.skip.ensures.cost,
+      reach_here c.args.text.now c.args.from (word_no_slash _ _ _ _ c.in-Some.ensures.found),
+      reach_low c.args.text.now c.skip.result c.skip.ensures.fits,
+      c.skip.ensures.order,
+    )
 
 pub returns-clause-most : goal.returns-clause-most
 returns-clause-most c =
-    omega (arith, c.in-Some.ensures.cost, c.in-Some.ensures.found.some, c.skip.ensures.cost,
-    reach_here c.args.text.now c.args.from (word_no_slash _ _ _ _ c.in-Some.ensures.found),
-    reach_low c.args.text.now c.skip.result c.skip.ensures.fits,
-    reach_high c.args.text.now c.skip.result c.skip.ensures.fits, c.skip.ensures.order,
-    c.skip.ensures.fits)
+    omega (
+      arith,
+      c.in-Some.ensures.cost,
+      c.in-Some.ensures.found.some,
+      c.skip.ensures.cost,
+      reach_here c.args.text.now c.args.from (word_no_slash _ _ _ _ c.in-Some.ensures.found),
+      reach_low c.args.text.now c.skip.result c.skip.ensures.fits,
+      reach_high c.args.text.now c.skip.result c.skip.ensures.fits,
+      c.skip.ensures.order,
+      c.skip.ensures.fits,
+    )

@@ -1,6 +1,6 @@
 use Rattle.std.proofs.Common.{◌≡◌, ◌-◌, min}
 use Rattle.resb_grammar.specs.ByteRuns.{Each, is_digit}
-use Rattle.resb_grammar.specs.Tokens.{digits_value}
+use Rattle.resb_grammar.specs.Lexical.{digits_value}
 use Rattle.resb_icu_text.proofs.words.digits.Given as goal
 
 abbrev pub invariant-loop-at : goal.invariant-loop-at

@@ -21,20 +21,44 @@ returns-else-to-end-clause-none c =
 
 pub returns-then-from-end-clause-most : goal.returns-then-from-end-clause-most
 returns-then-from-end-clause-most c =
-    omega (arith, reach_word _ _ _ c.word_end-end.ensures.run, c.word_end-end.ensures.run.order,
-    c.add.ensures.most, c.add-2.ensures.most, c.add-3.ensures.most)
+    omega (
+      arith,
+      reach_word _ _ _ c.word_end-end.ensures.run,
+      c.word_end-end.ensures.run.order,
+      c.add.ensures.most,
+      c.add-2.ensures.most,
+      c.add-3.ensures.most,
+    )
 
 pub returns-in_err-to-clause-most : goal.returns-in_err-to-clause-most
 returns-in_err-to-clause-most c =
-    omega (arith, reach_word _ _ _ c.word_end-end.ensures.run, c.word_end-end.ensures.run.order,
-    c.add.ensures.most, c.add-2.ensures.most, c.add-3.ensures.most)
+    omega (
+      arith,
+      reach_word _ _ _ c.word_end-end.ensures.run,
+      c.word_end-end.ensures.run.order,
+      c.add.ensures.most,
+      c.add-2.ensures.most,
+      c.add-3.ensures.most,
+    )
 
 pub returns-then-to-end-clause-most : goal.returns-then-to-end-clause-most
 returns-then-to-end-clause-most c =
-    omega (arith, reach_word _ _ _ c.word_end-end.ensures.run, c.word_end-end.ensures.run.order,
-    c.add.ensures.most, c.add-2.ensures.most, c.add-3.ensures.most)
+    omega (
+      arith,
+      reach_word _ _ _ c.word_end-end.ensures.run,
+      c.word_end-end.ensures.run.order,
+      c.add.ensures.most,
+      c.add-2.ensures.most,
+      c.add-3.ensures.most,
+    )
 
 pub returns-else-to-end-clause-most : goal.returns-else-to-end-clause-most
 returns-else-to-end-clause-most c =
-    omega (arith, reach_word _ _ _ c.word_end-end.ensures.run, c.word_end-end.ensures.run.order,
-    c.add.ensures.most, c.add-2.ensures.most, c.add-3.ensures.most)
+    omega (
+      arith,
+      reach_word _ _ _ c.word_end-end.ensures.run,
+      c.word_end-end.ensures.run.order,
+      c.add.ensures.most,
+      c.add-2.ensures.most,
+      c.add-3.ensures.most,
+    )

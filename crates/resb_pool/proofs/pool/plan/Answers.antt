@@ -7,7 +7,7 @@ use Rattle.std.specs.Str.{bytes_eq}
 use Rattle.std.proofs.lemmas.Result.{err_from_is_err_and}
 use Rattle.std.proofs.lemmas.List.{length-map}
 use Rattle.resb_pool.specs.Plan.{nows, no_memory}
-use Rattle.resb_pool.specs.Inner.Placing.{text, AreTexts, offset_by}
+use Rattle.resb_pool.specs.Inner.Placing.{text_numbered, AreTexts, offset_by}
 use Rattle.resb_pool.specs.Inner.LaidRecords.{HaveOffsets}
 use Rattle.resb_pool.proofs.Interning.{length-nows}
 use Rattle.resb_pool.proofs.TextLoops.{none_too_long}
@@ -58,5 +58,6 @@ returns-clause-ok c =
     (λ s. subst (λ (o : List ℕ). MatchOption
     (option_and_then (slice_get o) (position (λ (k : Bor (List ℕ)). bytes_eq s k.now) keys))
     (Contains T s → ⊥)
-    (λ k. (i : ℕ) × (i < length T) × (text T i ≡ s) × (k ≡ get_or laid i 0))) (sym p.offsets_are)
+    (λ k. (i : ℕ) × (i < length T) × (text_numbered T i ≡ s)
+    × (k ≡ get_or laid i 0))) (sym p.offsets_are)
     (offset_at s keys laid fits))

@@ -8,7 +8,7 @@ use Rattle.std.proofs.lemmas.List.Elements.{All-push}
 use Rattle.resb_format.specs.Units.{units, size}
 use Rattle.resb_pool.specs.Plan.{nows}
 use Rattle.resb_pool.specs.Records.{IsRecord}
-use Rattle.resb_pool.specs.Inner.Placing.{text, AreHomes, AreRecordsAmong, IsRecordOf}
+use Rattle.resb_pool.specs.Inner.Placing.{text_numbered, AreHomes, AreRecordsAmong, IsRecordOf}
 use Rattle.resb_pool.specs.Inner.Placing.{AreBytes, front_bytes}
 use Rattle.resb_pool.specs.Inner.Placing.{record_texts}
 use Rattle.resb_pool.specs.declared.homes.Home.{Home}
@@ -26,7 +26,7 @@ no_home = record { «record» = 0; measure = record { unit_count = 0; size = 0; 
 own_record : (xs : List (Bor (List ℕ))) (ps : List Home) (i : ℕ) → AreHomes (nows xs) ps
     → i < length ps → (nat_eq (get_or ps i no_home).record i
     && not (nat_eq (length (get_or xs i blank).now) 0)) ≡ true
-    → IsRecord (nows xs) (text (nows xs) i)
+    → IsRecord (nows xs) (text_numbered (nows xs) i)
 own_record xs ps i homes l h =
     let k : i < length xs = omega (arith, l, homes.len, length-nows xs) in
     let both = and_parts (nat_eq (get_or ps i no_home).record i)
@@ -42,7 +42,7 @@ own_record xs ps i homes l h =
 no_record : (xs : List (Bor (List ℕ))) (ps : List Home) (i : ℕ) → AreHomes (nows xs) ps
     → i < length ps → (nat_eq (get_or ps i no_home).record i
     && not (nat_eq (length (get_or xs i blank).now) 0)) ≡ false
-    → IsRecord (nows xs) (text (nows xs) i) → ⊥
+    → IsRecord (nows xs) (text_numbered (nows xs) i) → ⊥
 no_record xs ps i homes l h r =
     let k : i < length xs = omega (arith, l, homes.len, length-nows xs) in
     let at = homes.lies i no_home (omega (arith, l, homes.len)) in
@@ -114,7 +114,7 @@ loop-index-preserved c =
           (nows-take xs i blank k) (record_texts c.loop-index.records.items)
           c.loop-index.invariant.records
           (λ x. not_before (nows xs) i c.requires.distinct l
-          (subst (λ (z : List (List ℕ)). Contains z (text (nows xs) i))
+          (subst (λ (z : List (List ℕ)). Contains z (text_numbered (nows xs) i))
           (sym (take-map (λ (y : Bor (List ℕ)). y.now) i xs))
           (subst (Contains (nows (take i xs))) t x))) (subst (IsRecord (nows xs)) (sym t) own));
       each = subst (All (IsRecordOf (nows xs) c.args.sums.now)) (sym e)

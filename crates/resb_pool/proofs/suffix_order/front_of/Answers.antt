@@ -3,7 +3,7 @@ use Rattle.std.specs.Char.{IsScalar}
 use Rattle.std.specs.Str.{IsUtf8}
 use Rattle.std.specs.Str.Iter.{chars_rest}
 use Rattle.std.proofs.lemmas.Option.{MatchOption-at_none}
-use Rattle.resb_pool.specs.Inner.Cuts.{key}
+use Rattle.resb_pool.specs.Inner.Cuts.{chars_backwards}
 use Rattle.resb_pool.specs.Inner.Suffixes.{front_key}
 use Rattle.resb_pool.proofs.Ends.{last_taken, none_left}
 use Rattle.resb_pool.proofs.FrontKeys.{room_fits, room_more, small_scalar, next_char, next_end}
@@ -14,7 +14,7 @@ pub loop-place-init : goal.loop-place-init
 loop-place-init c = record {
   utf8 = subst IsUtf8 (sym c.chars-chars.ensures.rest) c.utf8.text;
   small = omega arith;
-  same = ap (λ t. front_key 0 6 (key t)) c.chars-chars.ensures.rest;
+  same = ap (λ t. front_key 0 6 (chars_backwards t)) c.chars-chars.ensures.rest;
 }
 
 pub overflow_mul-front : goal.overflow_mul-front
@@ -48,7 +48,7 @@ loop-place-preserved c =
     let x = chars_rest c.loop-place.chars in
     let z = chars_rest c.next_back.new.self in
     let digit = c.match-next_back.digit in
-    let whole = front_key 0 6 (key c.args.text.now) in
+    let whole = front_key 0 6 (chars_backwards c.args.text.now) in
     elim c.match-next_back.branch [
       | in-Some w ↦
           let s : IsScalar w.in-Some.c = search rules in
@@ -59,8 +59,8 @@ loop-place-preserved c =
             utf8 = t.0;
             small = room_more i a digit v.small
                 (omega (arith, is, small_scalar w.in-Some.c s));
-            same = next_char a i (key x) (key z) digit whole l
-                (t.1 ∙ ap (λ d. d ∷ key z) (sym is)) v.same;
+            same = next_char a i (chars_backwards x) (chars_backwards z) digit whole l
+                (t.1 ∙ ap (λ d. d ∷ chars_backwards z) (sym is)) v.same;
           }
       | in-None w ↦
           let none = MatchOption-at_none _ _ w.in-None.is c.next_back.ensures.steps in
@@ -69,9 +69,10 @@ loop-place-preserved c =
           record {
             utf8 = subst IsUtf8 (sym rest) v.utf8;
             small = room_more i a digit v.small (omega (arith, is));
-            same = ap (λ t. front_key (a * 0x20_0000 + digit) (6 - (i + 1)) (key t)) rest
-                ∙ ap (λ d. front_key (a * 0x20_0000 + d) (6 - (i + 1)) (key x)) is
-                ∙ next_end a i (key x) whole l (none_left x none.0) v.same;
+            same = ap (λ t. front_key (a * 0x20_0000 + digit) (6 - (i + 1))
+                (chars_backwards t)) rest
+                ∙ ap (λ d. front_key (a * 0x20_0000 + d) (6 - (i + 1)) (chars_backwards x)) is
+                ∙ next_end a i (chars_backwards x) whole l (none_left x none.0) v.same;
           }
     ]
 
@@ -80,4 +81,5 @@ returns c =
     let i = c.loop-place._place in
     let x = chars_rest c.loop-place.chars in
     let e : 6 - i ≡ 0 = omega (arith, c.loop-place-test.false) in
-    ap (λ n. front_key c.loop-place.front n (key x)) (sym e) ∙ c.loop-place.invariant.same
+    ap (λ n. front_key c.loop-place.front n (chars_backwards x)) (sym e)
+    ∙ c.loop-place.invariant.same

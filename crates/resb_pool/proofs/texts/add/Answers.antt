@@ -1,7 +1,7 @@
 use Rattle.std.proofs.Common.{◌≡◌, ◌<◌, ℕ, List, Bor, length, sym, ◌∙◌, ap, subst, arith, refl}
 use Rattle.std.specs.Cmp.Lexicographic.{bytes_decides}
 use Rattle.resb_pool.specs.Plan.{nows}
-use Rattle.resb_pool.specs.Inner.Placing.{text, AreTexts}
+use Rattle.resb_pool.specs.Inner.Placing.{text_numbered, AreTexts}
 use Rattle.resb_pool.specs.declared.texts.Texts.{Texts}
 use Rattle.resb_pool.proofs.Interning.{IsReady, taken_known, taken_new, count_is, count_fits}
 use Rattle.resb_pool.proofs.Interning.{counted, stored_at, length-nows}
@@ -46,10 +46,10 @@ within c = omega (
 )
 
 stands : (c : After-index_mut-measure)
-    → text (nows c.if-is_new.texts.distinct.keys) c.in_ok-index.index ≡ c.args.text.now
+    → text_numbered (nows c.if-is_new.texts.distinct.keys) c.in_ok-index.index ≡ c.args.text.now
 stands c =
     let k = c.in_ok-index.ensures.stored in
-    ap (λ (z : List (Bor (List ℕ))). text (nows z) c.in_ok-index.index) (set_is c)
+    ap (λ (z : List (Bor (List ℕ))). text_numbered (nows z) c.in_ok-index.index) (set_is c)
     ∙ stored_at c.insert_full.new.self.keys c.in_ok-index.index k.0 k.1
     ∙ sym ((bytes_decides c.args.text.now k.0.now).0 k.2)
 

@@ -3,7 +3,7 @@ use Rattle.std.proofs.lemmas.List.{map_push}
 use Rattle.resb_tree.specs.Tree.{Tree, array, table}
 use Rattle.resb_tree.specs.View.{tree_of, entries_view, items_view, pairs_view}
 use Rattle.resb_tree.specs.declared.resource.Resource.{the_lemmas}
-use Rattle.resb_print.specs.Inner.Looks.{look_of, looks_in, member_look, Enters}
+use Rattle.resb_print.specs.Inner.Looks.{look_of, looks_in, member_look, EntersTree}
 use Rattle.resb_print.specs.declared.path.Visit.TheVariants.{Members}
 use Rattle.resb_print.proofs.Looking.{enters_array, enters_table}
 use Rattle.resb_print.proofs.path.enter.Goals as goal
@@ -17,7 +17,7 @@ returns-in_ok-push-in-Array c =
     ≡ looks_in old ++ member_look 0 (items_view c.as_slice.result.now) ∷ [] =
     ap looks_in c.in_ok-push-in-Array.ensures.items
     ∙ map_push look_of old (Members c.as_slice.result 0) in
-    subst (λ (t : Tree). Enters (looks_in old) (looks_in c.push.new.self.items) t false) (sym e)
+    subst (λ (t : Tree). EntersTree (looks_in old) (looks_in c.push.new.self.items) t false) (sym e)
     (enters_array (looks_in old) (looks_in c.push.new.self.items) ts
     (pushed ∙ ap (λ rs. looks_in old ++ member_look 0 (items_view rs) ∷ [])
     c.as_slice.ensures.value))
@@ -27,7 +27,8 @@ returns-in_ok-push_entries-in-Table c =
     let old = c.args.pending.now.items in
     let es = c.in-Table.table.entries in
     let e : tree_of c.args.resource.now ≡ table (entries_view es) = search (rules, the_lemmas) in
-    subst (λ (t : Tree). Enters (looks_in old) (looks_in c.push_entries.new.pending.items) t false)
+    subst (λ (t : Tree). EntersTree (looks_in old)
+    (looks_in c.push_entries.new.pending.items) t false)
     (sym e)
     (enters_table (looks_in old) (looks_in c.push_entries.new.pending.items) (pairs_view es)
     c.in_ok-push_entries-in-Table.ensures)

@@ -6,7 +6,7 @@ use Rattle.resb_tree.specs.View.{tree_of, entries_view}
 use Rattle.resb_tree.specs.declared.resource.Resource.{the_lemmas}
 use Rattle.resb_print.specs.declared.cause.Cause.TheVariants.{QuoteInName}
 use Rattle.resb_print.specs.declared.error.PrintError.TheVariants.{NotPrintable}
-use Rattle.resb_print.specs.Inner.Jobs.{Refused}
+use Rattle.resb_print.specs.Inner.Jobs.{SaysCause}
 use Rattle.resb_print.specs.Quotes.{has_quote, first_cause}
 use Rattle.std.specs.String.{string_bytes}
 use Rattle.resb_print.proofs.Bundles.{written, whole, no_text, root_refused, name_refused}
@@ -23,7 +23,7 @@ returns-then-has_quote-clause-none c =
     ∙ c.if-has_quote.true in
     no_text own c.args.bundle.now.is_locale_fallback_enabled (root_of c.args.bundle.now)
     (NotPrintable QuoteInName)
-    (subst (λ (t : Tree). Refused (NotPrintable QuoteInName) (first_cause own t)) (sym r)
+    (subst (λ (t : Tree). SaysCause (NotPrintable QuoteInName) (first_cause own t)) (sym r)
     (name_refused own es q))
 
 pub returns-in_err-push_lines-clause-none : goal.returns-in_err-push_lines-clause-none
@@ -39,7 +39,7 @@ returns-in_err-push_lines-clause-none c =
     c.from_residual-in_err-push_lines.ensures.1 in
     rw (p.1, p.2)
     (no_text own c.args.bundle.now.is_locale_fallback_enabled (root_of c.args.bundle.now) x
-    (subst (λ (t : Tree). Refused x (first_cause own t)) (sym r)
+    (subst (λ (t : Tree). SaysCause x (first_cause own t)) (sym r)
     (root_refused own es x q c.in_err-push_lines.ensures.err)))
 
 pub returns-clause-text : goal.returns-clause-text

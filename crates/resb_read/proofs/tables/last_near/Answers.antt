@@ -1,5 +1,5 @@
 use Rattle.std.proofs.Common.{◌∙◌, sym, arith}
-use Rattle.resb_read.proofs.Backwards.{none_behind, passed, found}
+use Rattle.resb_read.proofs.Backwards.{none_behind, last_unnamed, found}
 use Rattle.resb_read.proofs.tables.last_near.Goals as goal
 
 pub entries-init : goal.entries-init
@@ -23,7 +23,7 @@ entries-preserved c =
     let (inside, within, rest) = c.entries.invariant in (
       omega (arith, inside),
       omega (arith, within),
-      passed c.args.name.now c.args.file c.args.positions.now c.args.words.now c.entries.left
+      last_unnamed c.args.name.now c.args.file c.args.positions.now c.args.words.now c.entries.left
           c.from.result c.entries-test.true inside within rest (c.from.ensures ∙ c.unit_at.ensures)
           (sym c.is_key.ensures ∙ c.if-is_key.false),
     )

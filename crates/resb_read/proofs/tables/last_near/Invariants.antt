@@ -1,6 +1,6 @@
 -- No entry behind those that are left has the name.
 use Rattle.std.proofs.Common.{◌≡◌, ◌≤◌, ◌/◌, None, length, drop}
-use Rattle.resb_read.specs.Inner.Items.{near_entries}
+use Rattle.resb_read.specs.Inner.Elements.{near_entries}
 use Rattle.resb_read.specs.Tables.{last_named}
 use Rattle.resb_read.proofs.tables.last_near.Given as goal
 

@@ -1,7 +1,7 @@
 use Rattle.std.proofs.Common.{Some, ap, ◌∙◌, sym}
 use Rattle.std.specs.Prelude.{option_map}
 use Rattle.resb_format.specs.Bytes.{units_of}
-use Rattle.resb_read.specs.Leaves.{units_as_bytes}
+use Rattle.resb_format.specs.Bytes.{units_as_bytes}
 use Rattle.resb_read.proofs.texts.units_at.Goals as goal
 
 pub returns-in-Ok-clause-stands : goal.returns-in-Ok-clause-stands

@@ -7,7 +7,7 @@ use Rattle.std.proofs.lemmas.List.{map-append, take_more, drop_more}
 use Rattle.std.proofs.lemmas.Map.Text.{hash_map_updates_str}
 use Rattle.indexmap.specs.IndexMap.{get_by}
 use Rattle.resb_report.specs.Warnings.{of_key, of_keys, first_place}
-use Rattle.resb_report.specs.Inner.Looks.{words_of}
+use Rattle.resb_report.specs.Inner.Looks.{placed_text_of}
 use Rattle.resb_report.specs.declared.pieces.StringAt.{StringAt}
 use Rattle.resb_report.proofs.KeysLemmas.{keys_told, first_stays, first_moves}
 use Rattle.resb_report.proofs.groups.tell_keys.Goals as goal
@@ -20,15 +20,15 @@ loop-key-preserved c =
     let i = c.loop-key.key-index in
     let d : StringAt = record { content = record { ref_ptr = (0, 0); now = [] }; place = 0 } in
     let x = get_or xs i d in
-    let k = words_of x in
-    let before = map words_of (take i xs) in
-    let after = map words_of (drop (i + 1) xs) in
+    let k = placed_text_of x in
+    let before = map placed_text_of (take i xs) in
+    let after = map placed_text_of (drop (i + 1) xs) in
     let found = c.loop-key.found.items in
-    let t : map words_of (take (i + 1) xs) ≡ before ++ k ∷ [] =
-    ap (map words_of) (take_more xs i d (omega arith))
-    ∙ map-append words_of (take i xs) (x ∷ []) in
-    let r : map words_of (drop i xs) ≡ k ∷ after =
-    ap (map words_of) (drop_more xs i d (omega arith)) in
+    let t : map placed_text_of (take (i + 1) xs) ≡ before ++ k ∷ [] =
+    ap (map placed_text_of) (take_more xs i d (omega arith))
+    ∙ map-append placed_text_of (take i xs) (x ∷ []) in
+    let r : map placed_text_of (drop i xs) ≡ k ∷ after =
+    ap (map placed_text_of) (drop_more xs i d (omega arith)) in
     let told = ap (λ l. found ++ of_keys before l) (sym r) ∙ c.loop-key.invariant.found in
     elim c.match-get.branch [
       | in-Some+in_ok-push-in-Some w ↦

@@ -1,13 +1,13 @@
 use Rattle.std.proofs.Common.{◌≡◌, ◌+◌, ◌≤◌, List, Bool, true, false, length}
 use Rattle.std.specs.Prelude.{map, take, slice_index_or}
-use Rattle.resb_text.specs.Inner.Discovered.{numbered, left_of}
+use Rattle.resb_text.specs.Inner.Discovered.{text_in_group, left_of}
 use Rattle.resb_text.proofs.discovered.count_before.Given as goal
 
 abbrev pub invariant-loop-count : goal.invariant-loop-count
 invariant-loop-count l = record {
   left : (ds : List Bool) → slice_index_or ds l.group false ≡ true
-      → left_of ds (map numbered (take l.count l.candidates))
-      ≡ left_of ds (map numbered l.candidates);
+      → left_of ds (map text_in_group (take l.count l.candidates))
+      ≡ left_of ds (map text_in_group l.candidates);
   within : l.count ≤ length l.candidates;
   text : l.turns.text ≡ l.fn.turns.text;
   cost : l.turns.count + l.count ≡ l.fn.turns.count + length l.candidates;

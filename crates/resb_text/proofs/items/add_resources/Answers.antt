@@ -2,7 +2,7 @@ use Rattle.std.proofs.Common.{◌≡◌, List, [], ◌∷◌, ◌++◌, length, 
 use Rattle.std.proofs.Common.{append_assoc}
 use Rattle.std.specs.Prelude.{map}
 use Rattle.std.specs.Vec.Iter.{into_iter_items}
-use Rattle.resb_text.specs.Inner.Shown.{shown, shown_tree, shown_borrowed}
+use Rattle.resb_text.specs.Inner.Shown.{seen_in_code, shown_tree, shown_borrowed}
 use Rattle.resb_text.proofs.ShownLemmas.{term_tree_shown, term_borrowed_shown}
 use Rattle.resb_text.proofs.items.add_resources.Goals as goal
 
@@ -28,9 +28,9 @@ loop-item-preserved c =
     let tick = c.tick.ensures in
     let counted = ap (λ w. w.count) tick in
     record {
-      made = one_more shown_tree shown _ _ _ left rest item _ steps.0 made.trees
+      made = one_more shown_tree seen_in_code _ _ _ left rest item _ steps.0 made.trees
           (term_tree_shown item.term item.comma) i.made;
-      borrowed = one_more shown_borrowed shown _ _ _ left rest item _ steps.0 made.borrowed
+      borrowed = one_more shown_borrowed seen_in_code _ _ _ left rest item _ steps.0 made.borrowed
           (term_borrowed_shown item.term item.comma) i.borrowed;
       text = ap (λ w. w.text) tick ∙ i.text;
       grows = omega (arith, counted, i.grows);

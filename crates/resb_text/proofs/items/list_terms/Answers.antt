@@ -4,23 +4,24 @@ use Rattle.std.specs.Prelude.{map}
 use Rattle.std.specs.Vec.Iter.{into_iter_items}
 use Rattle.resb_tree.specs.View.{pairs_view}
 use Rattle.resb_tree.specs.Borrowing.{all_true}
-use Rattle.resb_text.specs.Inner.Shown.{shown, pairs_after, shown_pairs, shown_borrowed, key_of}
+use Rattle.resb_text.specs.Inner.Shown.{seen_in_code, pairs_after, shown_pairs, shown_borrowed}
+use Rattle.resb_text.specs.Inner.Shown.{waiting_key}
 use Rattle.resb_text.proofs.ShownLemmas.{no_pairs_left, term_borrowed_shown}
 use Rattle.resb_text.proofs.items.list_terms.Goals as goal
 
 pub returns-clause-ok : goal.returns-clause-ok
 returns-clause-ok c =
-    let left = no_pairs_left (key_of c.loop-item.waiting)
+    let left = no_pairs_left (waiting_key c.loop-item.waiting)
     (into_iter_items c.loop-item.item-iterator) (pairs_view c.loop-item.pairs.items)
     (let ok = c.loop-item.item-iterator.rest.ok in
     omega (arith, ok, c.in-None.ensures.steps.0)) in
     sym left ∙ c.loop-item.invariant.made
-    ∙ ap (λ xs. pairs_view c.args.pairs.now.items ++ shown_pairs (map shown xs))
+    ∙ ap (λ xs. pairs_view c.args.pairs.now.items ++ shown_pairs (map seen_in_code xs))
     c.into_iter-item-iterator.ensures.into_iter_gives.0
 
 pub returns-clause-borrowed : goal.returns-clause-borrowed
 returns-clause-borrowed c = λ h old.
-    (c.loop-item.invariant.borrowed (ap (λ xs. all_true (map shown_borrowed (map shown xs)))
+    (c.loop-item.invariant.borrowed (ap (λ xs. all_true (map shown_borrowed (map seen_in_code xs)))
     c.into_iter-item-iterator.ensures.into_iter_gives.0 ∙ h) old).0
 
 pub loop-item-preserved : goal.loop-item-preserved
@@ -34,13 +35,13 @@ loop-item-preserved c =
     let counted = ap (λ w. w.count) tick in
     let listed = c.in_ok-waiting.ensures in
     record {
-      made = listed.ok item.comma (map shown rest)
+      made = listed.ok item.comma (map seen_in_code rest)
           ∙ ap (λ xs. pairs_view c.loop-item.pairs.items
-          ++ pairs_after (key_of c.loop-item.waiting) (map shown xs)) (sym steps)
+          ++ pairs_after (waiting_key c.loop-item.waiting) (map seen_in_code xs)) (sym steps)
           ∙ i.made;
       borrowed = λ h old.
           let left = rw steps at (i.borrowed h old).1 in
-          let parts = and_parts (shown_borrowed (shown item)) _ left in (
+          let parts = and_parts (shown_borrowed (seen_in_code item)) _ left in (
             listed.borrowed (term_borrowed_shown item.term item.comma ∙ parts.0)
                 (i.borrowed h old).0,
             parts.1,

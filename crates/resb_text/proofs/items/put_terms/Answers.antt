@@ -5,26 +5,27 @@ use Rattle.std.specs.Vec.Iter.{into_iter_items}
 use Rattle.resb_tree.specs.View.{entries_view}
 use Rattle.resb_tree.specs.Tree.{put_all}
 use Rattle.resb_tree.specs.Borrowing.{all_true}
-use Rattle.resb_text.specs.Inner.Shown.{shown, pairs_after, shown_pairs, shown_borrowed, key_of}
+use Rattle.resb_text.specs.Inner.Shown.{seen_in_code, pairs_after, shown_pairs, shown_borrowed}
+use Rattle.resb_text.specs.Inner.Shown.{waiting_key}
 use Rattle.resb_text.proofs.ShownLemmas.{none_left, term_borrowed_shown}
 use Rattle.resb_text.proofs.items.put_terms.Goals as goal
 
 pub returns-clause-ok : goal.returns-clause-ok
 returns-clause-ok c =
     let left : put_all (entries_view c.loop-item.table.entries)
-    (pairs_after (key_of c.loop-item.waiting) (map shown
+    (pairs_after (waiting_key c.loop-item.waiting) (map seen_in_code
     (into_iter_items c.loop-item.item-iterator))) ≡ entries_view c.loop-item.table.entries
-    = none_left (key_of c.loop-item.waiting)
+    = none_left (waiting_key c.loop-item.waiting)
     (into_iter_items c.loop-item.item-iterator) (entries_view c.loop-item.table.entries)
     (let ok = c.loop-item.item-iterator.rest.ok in
     omega (arith, ok, c.in-None.ensures.steps.0)) in
     sym left ∙ c.loop-item.invariant.made
-    ∙ ap (λ xs. put_all (entries_view c.args.table.now.entries) (shown_pairs (map shown xs)))
+    ∙ ap (λ xs. put_all (entries_view c.args.table.now.entries) (shown_pairs (map seen_in_code xs)))
     c.into_iter-item-iterator.ensures.into_iter_gives.0
 
 pub returns-clause-borrowed : goal.returns-clause-borrowed
 returns-clause-borrowed c = λ h old.
-    (c.loop-item.invariant.borrowed (ap (λ xs. all_true (map shown_borrowed (map shown xs)))
+    (c.loop-item.invariant.borrowed (ap (λ xs. all_true (map shown_borrowed (map seen_in_code xs)))
     c.into_iter-item-iterator.ensures.into_iter_gives.0 ∙ h) old).0
 
 pub loop-item-preserved : goal.loop-item-preserved
@@ -38,13 +39,13 @@ loop-item-preserved c =
     let counted = ap (λ w. w.count) tick in
     let put = c.in_ok-waiting.ensures in
     record {
-      made = put.ok item.comma (map shown rest)
+      made = put.ok item.comma (map seen_in_code rest)
           ∙ ap (λ xs. put_all (entries_view c.loop-item.table.entries)
-          (pairs_after (key_of c.loop-item.waiting) (map shown xs))) (sym steps)
+          (pairs_after (waiting_key c.loop-item.waiting) (map seen_in_code xs))) (sym steps)
           ∙ i.made;
       borrowed = λ h old.
           let left = rw steps at (i.borrowed h old).1 in
-          let parts = and_parts (shown_borrowed (shown item)) _ left in (
+          let parts = and_parts (shown_borrowed (seen_in_code item)) _ left in (
             put.borrowed (term_borrowed_shown item.term item.comma ∙ parts.0) (i.borrowed h old).0,
             parts.1,
           );

@@ -4,7 +4,7 @@ use Rattle.resb_tree.specs.Tree.{table, map_of}
 use Rattle.resb_tree.specs.View.{pairs_view}
 use Rattle.resb_tree.proofs.AtOnce.{made_view}
 use Rattle.resb_tree.proofs.ViewLemmas.{tree_of_table}
-use Rattle.resb_text.specs.Inner.Shown.{shown, shown_pairs, entries_borrowed}
+use Rattle.resb_text.specs.Inner.Shown.{seen_in_code, shown_pairs, entries_borrowed}
 use Rattle.resb_text.proofs.BorrowedLemmas.{borrowed_table, made_borrowed}
 use Rattle.resb_text.proofs.items.table_of_list.Goals as goal
 
@@ -13,7 +13,7 @@ returns-clause-ok c =
     tree_of_table _
     ∙ ap table (made_view c.list_terms.new.pairs.items c.in_ok-table.table c.in_ok-table.ensures
     ∙ ap map_of (c.in_ok-list_terms.ensures.ok
-    ∙ ap (λ ps. pairs_view ps ++ shown_pairs (map shown c.args.items.items))
+    ∙ ap (λ ps. pairs_view ps ++ shown_pairs (map seen_in_code c.args.items.items))
     c.in_ok-pairs.ensures.items))
 
 pub returns-clause-borrowed : goal.returns-clause-borrowed

@@ -3,7 +3,7 @@ use Rattle.std.proofs.lemmas.Result.{err_from_is_err_and}
 use Rattle.resb_grammar.specs.Ascii as ascii
 use Rattle.resb_text.proofs.TypedGroups.{may_stand, type_refused, head_refused, group_opened}
 use Rattle.resb_text.proofs.TypedGroups.{opened_over, leaf_refused, leaf_added, leaf_over}
-use Rattle.resb_text.proofs.QuotaLemmas.{kept}
+use Rattle.resb_text.proofs.QuotaLemmas.{quota_kept}
 use Rattle.resb_text.proofs.steps.typed.Goals as goal
 
 pub returns-then-not-takes_group-clause-err : goal.returns-then-not-takes_group-clause-err
@@ -83,7 +83,7 @@ returns-in_err-take-2-clause-quota c =
     let may = may_stand c.args.turns.now.text c.args.groups.now c.args.at
     c.is_key_place-key_place.result c.takes_group.result c.requires.among
     c.is_key_place-key_place.ensures c.takes_group.ensures c.if-not-takes_group.false in
-    kept _ _ _ _ _ c.leaf_bytes.ensures c.requires.quota c.take-2.ensures.keeps
+    quota_kept _ _ _ _ _ c.leaf_bytes.ensures c.requires.quota c.take-2.ensures.keeps
     (λ more. leaf_over c.args.turns.now.text _ c.args.groups.now c.args.at c.in_ok-first.first _ _ _
     c.requires.among may c.in_ok-first.ensures.ok
     (rw c.head.ensures.text at c.in_ok-next.ensures.ok) more)
@@ -93,7 +93,7 @@ returns-in_err-add_leaf-clause-quota c =
     let may = may_stand c.args.turns.now.text c.args.groups.now c.args.at
     c.is_key_place-key_place.result c.takes_group.result c.requires.among
     c.is_key_place-key_place.ensures c.takes_group.ensures c.if-not-takes_group.false in
-    kept _ _ _ _ _ c.leaf_bytes.ensures c.requires.quota c.take-2.ensures.keeps
+    quota_kept _ _ _ _ _ c.leaf_bytes.ensures c.requires.quota c.take-2.ensures.keeps
     (λ more. leaf_over c.args.turns.now.text _ c.args.groups.now c.args.at c.in_ok-first.first _ _ _
     c.requires.among may c.in_ok-first.ensures.ok
     (rw c.head.ensures.text at c.in_ok-next.ensures.ok) more)
@@ -103,7 +103,7 @@ returns-clause-quota c =
     let may = may_stand c.args.turns.now.text c.args.groups.now c.args.at
     c.is_key_place-key_place.result c.takes_group.result c.requires.among
     c.is_key_place-key_place.ensures c.takes_group.ensures c.if-not-takes_group.false in
-    kept _ _ _ _ _ c.leaf_bytes.ensures c.requires.quota c.take-2.ensures.keeps
+    quota_kept _ _ _ _ _ c.leaf_bytes.ensures c.requires.quota c.take-2.ensures.keeps
     (λ more. leaf_over c.args.turns.now.text _ c.args.groups.now c.args.at c.in_ok-first.first _ _ _
     c.requires.among may c.in_ok-first.ensures.ok
     (rw c.head.ensures.text at c.in_ok-next.ensures.ok) more)

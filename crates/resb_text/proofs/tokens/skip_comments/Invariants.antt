@@ -1,7 +1,7 @@
 use Rattle.std.proofs.Common.{◌≡◌, ℕ, ◌+◌, ◌-◌, ◌*◌, ◌≤◌, length}
 use Rattle.std.specs.Prelude.{slice_index}
 use Rattle.resb_grammar.specs.Ascii as ascii
-use Rattle.resb_grammar.specs.Tokens.{Blanks}
+use Rattle.resb_grammar.specs.Lexical.{Blanks}
 use Rattle.resb_text.proofs.tokens.skip_comments.Given as goal
 
 abbrev pub invariant-comments : goal.invariant-comments

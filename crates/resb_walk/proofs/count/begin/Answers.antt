@@ -2,7 +2,7 @@ use Rattle.std.proofs.Common.{inl, inr, ◌≡◌, ◌+◌, subst, ap, arith, Ok
 use Rattle.std.proofs.lemmas.Result.{err_from_is_err_and}
 use Rattle.resb_format.specs.Denotes.{ReachesMember}
 use Rattle.resb_format.specs.Parts.{parts_in}
-use Rattle.resb_walk.specs.Inner.Counting.{Looks}
+use Rattle.resb_walk.specs.Inner.Counting.{LooksAt}
 use Rattle.resb_walk.specs.Inner.Members.{member_of}
 use Rattle.resb_walk.proofs.Lift.{reaches_any}
 use Rattle.resb_walk.proofs.Paths.{looked_meets, rest_begins}
@@ -39,9 +39,9 @@ returns-in_default-clause-enters c =
 pub returns-clause-enters : goal.returns-clause-enters
 returns-clause-enters c =
     let p = parts_in c.args.checker.now.file in
-    let h = subst (λ o. Looks p (member_of c.args.member) (Ok o)) c.in-Some.is
+    let h = subst (λ o. LooksAt p (member_of c.args.member) (Ok o)) c.in-Some.is
     c.in_ok-rest.ensures.looks in
-    let at = subst (λ m. Looks p (member_of m) (Ok (Some c.in-Some.rest))) c.in-Word.is h in (
+    let at = subst (λ m. LooksAt p (member_of m) (Ok (Some c.in-Some.rest))) c.in-Word.is h in (
       ap member_of c.in-Word.is,
       rest_begins p c.in-Some.rest c.in-Word.word at,
       c.in_ok-pay.ensures,

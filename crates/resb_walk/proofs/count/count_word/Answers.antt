@@ -2,7 +2,8 @@ use Rattle.std.proofs.Common.{◌≡◌, ◌≤◌, ℕ, [], Ok, Err, Some, None
 use Rattle.std.proofs.lemmas.Result.{err_from_is_err_and}
 use Rattle.resb_format.specs.Content.{word}
 use Rattle.resb_format.specs.Parts.{parts_in}
-use Rattle.resb_walk.specs.Inner.Counting.{IsOpen, Takes, Awaits, Entered, Enters}
+use Rattle.resb_walk.specs.Inner.Counting.{IsOpenedAt, TakesNext, Awaits, EnteredMember}
+use Rattle.resb_walk.specs.Inner.Counting.{EntersMember}
 use Rattle.resb_walk.specs.Inner.Members.{member_of}
 use Rattle.resb_walk.specs.Meets.{Meets, Blames}
 use Rattle.resb_walk.specs.declared.count.Inner.{Inner}
@@ -15,7 +16,8 @@ use Rattle.resb_walk.proofs.count.count_word.Goals as goal
 pub returns-in_err-inner-clause-answers : goal.returns-in_err-inner-clause-answers
 returns-in_err-inner-clause-answers c =
     let e = err_from_is_err_and c.from_residual.result c.from_residual.ensures.1 in
-    let h = subst (λ f. Enters (parts_in f) (word c.args.word) c.args.walk.now c.begin.new.walk
+    let h = subst (λ f. EntersMember (parts_in f)
+    (word c.args.word) c.args.walk.now c.begin.new.walk
     (Err c.in_err-inner.field-0.0)) c.new-checker.ensures c.in_err-inner.ensures.enters in
     rw (e.1, e.2) (
       h.0,
@@ -25,9 +27,10 @@ returns-in_err-inner-clause-answers c =
 pub rounds-init : goal.rounds-init
 rounds-init c =
     let p = parts_in c.args.file in
-    let all = subst (λ o. Enters (parts_in c.new-checker.result.file) (word c.args.word)
+    let all = subst (λ o. EntersMember (parts_in c.new-checker.result.file) (word c.args.word)
     c.args.walk.now c.begin.new.walk (Ok o)) c.in-Some.is c.in_ok-inner.ensures.enters in
-    let h = subst (λ f. Enters (parts_in f) (word c.args.word) c.args.walk.now c.begin.new.walk
+    let h = subst (λ f. EntersMember (parts_in f)
+    (word c.args.word) c.args.walk.now c.begin.new.walk
     (Ok (Some c.in-Some.inner))) c.new-checker.ensures all in (
       c.in_ok-inner.ensures.file ∙ c.new-checker.ensures,
       round_first p c.args.word c.args.walk.now c.begin.new.walk c.in-Some.inner
@@ -40,8 +43,9 @@ returns-in_err-member-clause-answers c =
     c.from_residual-in_err-member.ensures.1 in
     let p = parts_in c.args.file in
     let i = c.rounds.invariant in
-    let taken = subst (λ f. (w n : ℕ) → IsOpen (parts_in f) c.rounds.inner.rest w n
-    → Takes (parts_in f) w n (Err c.in_err-member.field-0.0)) i.0 c.in_err-member.ensures.takes in
+    let taken = subst (λ f. (w n : ℕ) → IsOpenedAt (parts_in f) c.rounds.inner.rest w n
+    → TakesNext (parts_in f) w n (Err c.in_err-member.field-0.0)) i.0
+    c.in_err-member.ensures.takes in
     rw (e.1, e.2) (
       round_falls p c.args.word c.args.walk.now c.rounds.outer.items c.rounds.inner c.rounds.walk
           i.1,
@@ -55,7 +59,7 @@ returns-in_err-member-clause-meets c =
     c.from_residual-in_err-member.ensures.1 in
     let p = parts_in c.args.file in
     let i = c.rounds.invariant in
-    let met = subst (λ f. (w n : ℕ) → IsOpen (parts_in f) c.rounds.inner.rest w n
+    let met = subst (λ f. (w n : ℕ) → IsOpenedAt (parts_in f) c.rounds.inner.rest w n
     → Blames (Meets (parts_in f) (word w)) c.in_err-member.field-0.0) i.0
     c.in_err-member.ensures.meets in
     rw (e.1, e.2) (λ f. round_meets p c.args.word c.args.walk.now c.rounds.outer.items
@@ -71,15 +75,15 @@ returns-in_err-inner-in-Some-2-clause-answers c =
     let same = c.in_ok-member.ensures.file ∙ i.0 in
     let m = member_of c.in-Some-2.member in
     let all = subst (λ o. (w n : ℕ)
-    → IsOpen (parts_in c.rounds.checker.file) c.rounds.inner.rest w n
-    → Takes (parts_in c.rounds.checker.file) w n (Ok o)) c.in-Some-2.is
+    → IsOpenedAt (parts_in c.rounds.checker.file) c.rounds.inner.rest w n
+    → TakesNext (parts_in c.rounds.checker.file) w n (Ok o)) c.in-Some-2.is
     c.in_ok-member.ensures.takes in
-    let taken = subst (λ f. (w n : ℕ) → IsOpen (parts_in f) c.rounds.inner.rest w n
+    let taken = subst (λ f. (w n : ℕ) → IsOpenedAt (parts_in f) c.rounds.inner.rest w n
     → Awaits (parts_in f) c.in-Some-2.rest w m n) i.0 all in
     let awaits = taken c.rounds.inner.word i.1.inner i.1.opened in
     let k : Inner = record { word = c.rounds.inner.word; rest = c.in-Some-2.rest } in
     let entered = subst (λ f. (n : ℕ) → Awaits (parts_in f) k.rest k.word m n
-    → Entered (parts_in f) k m n c.rounds.outer.items c.enter.new.outer.items c.rounds.walk
+    → EnteredMember (parts_in f) k m n c.rounds.outer.items c.enter.new.outer.items c.rounds.walk
     c.enter.new.walk (Err c.in_err-inner-in-Some-2.field-0.0)) same
     c.in_err-inner-in-Some-2.ensures.enters in
     let h = entered i.1.inner awaits in
@@ -101,10 +105,10 @@ returns-in_err-inner-in-Some-2-clause-meets c =
     let same = c.in_ok-member.ensures.file ∙ i.0 in
     let m = member_of c.in-Some-2.member in
     let all = subst (λ o. (w n : ℕ)
-    → IsOpen (parts_in c.rounds.checker.file) c.rounds.inner.rest w n
-    → Takes (parts_in c.rounds.checker.file) w n (Ok o)) c.in-Some-2.is
+    → IsOpenedAt (parts_in c.rounds.checker.file) c.rounds.inner.rest w n
+    → TakesNext (parts_in c.rounds.checker.file) w n (Ok o)) c.in-Some-2.is
     c.in_ok-member.ensures.takes in
-    let taken = subst (λ f. (w n : ℕ) → IsOpen (parts_in f) c.rounds.inner.rest w n
+    let taken = subst (λ f. (w n : ℕ) → IsOpenedAt (parts_in f) c.rounds.inner.rest w n
     → Awaits (parts_in f) c.in-Some-2.rest w m n) i.0 all in
     let awaits = taken c.rounds.inner.word i.1.inner i.1.opened in
     let met = subst (λ f. Blames (Meets (parts_in f) m) c.in_err-inner-in-Some-2.field-0.0) same
@@ -118,11 +122,11 @@ again-requires c =
     let p = parts_in c.args.file in
     let i = c.rounds.invariant in
     let all = subst (λ o. (w n : ℕ)
-    → IsOpen (parts_in c.rounds.checker.file) c.rounds.inner.rest w n
-    → Takes (parts_in c.rounds.checker.file) w n (Ok o)) c.in-None.is
+    → IsOpenedAt (parts_in c.rounds.checker.file) c.rounds.inner.rest w n
+    → TakesNext (parts_in c.rounds.checker.file) w n (Ok o)) c.in-None.is
     c.in_ok-member.ensures.takes in
-    let taken = subst (λ f. (w n : ℕ) → IsOpen (parts_in f) c.rounds.inner.rest w n
-    → Takes (parts_in f) w n (Ok None)) i.0 all in
+    let taken = subst (λ f. (w n : ℕ) → IsOpenedAt (parts_in f) c.rounds.inner.rest w n
+    → TakesNext (parts_in f) w n (Ok None)) i.0 all in
     let t = taken c.rounds.inner.word i.1.inner i.1.opened in
     (round_outer p c.args.word c.args.walk.now c.rounds.outer.items c.rounds.inner c.rounds.walk
     i.1 c.in-Some-pop.waiting c.pop.new.self.items t.0 c.in-Some-pop.ensures.items t.1).2
@@ -132,11 +136,11 @@ returns-in-None-pop-clause-answers c =
     let p = parts_in c.args.file in
     let i = c.rounds.invariant in
     let all = subst (λ o. (w n : ℕ)
-    → IsOpen (parts_in c.rounds.checker.file) c.rounds.inner.rest w n
-    → Takes (parts_in c.rounds.checker.file) w n (Ok o)) c.in-None.is
+    → IsOpenedAt (parts_in c.rounds.checker.file) c.rounds.inner.rest w n
+    → TakesNext (parts_in c.rounds.checker.file) w n (Ok o)) c.in-None.is
     c.in_ok-member.ensures.takes in
-    let taken = subst (λ f. (w n : ℕ) → IsOpen (parts_in f) c.rounds.inner.rest w n
-    → Takes (parts_in f) w n (Ok None)) i.0 all in
+    let taken = subst (λ f. (w n : ℕ) → IsOpenedAt (parts_in f) c.rounds.inner.rest w n
+    → TakesNext (parts_in f) w n (Ok None)) i.0 all in
     let t = taken c.rounds.inner.word i.1.inner i.1.opened in
     let empty : c.rounds.outer.items ≡ [] = grind (arith, c.in-None-pop.ensures.cases) in
     let r = round_last p c.args.word c.args.walk.now c.rounds.outer.items c.rounds.inner
@@ -150,15 +154,15 @@ rounds-smaller-in_ok-inner-in-Some-2 c =
     let same = c.in_ok-member.ensures.file ∙ i.0 in
     let m = member_of c.in-Some-2.member in
     let all = subst (λ o. (w n : ℕ)
-    → IsOpen (parts_in c.rounds.checker.file) c.rounds.inner.rest w n
-    → Takes (parts_in c.rounds.checker.file) w n (Ok o)) c.in-Some-2.is
+    → IsOpenedAt (parts_in c.rounds.checker.file) c.rounds.inner.rest w n
+    → TakesNext (parts_in c.rounds.checker.file) w n (Ok o)) c.in-Some-2.is
     c.in_ok-member.ensures.takes in
-    let taken = subst (λ f. (w n : ℕ) → IsOpen (parts_in f) c.rounds.inner.rest w n
+    let taken = subst (λ f. (w n : ℕ) → IsOpenedAt (parts_in f) c.rounds.inner.rest w n
     → Awaits (parts_in f) c.in-Some-2.rest w m n) i.0 all in
     let awaits = taken c.rounds.inner.word i.1.inner i.1.opened in
     let k : Inner = record { word = c.rounds.inner.word; rest = c.in-Some-2.rest } in
     let entered = subst (λ f. (n : ℕ) → Awaits (parts_in f) k.rest k.word m n
-    → Entered (parts_in f) k m n c.rounds.outer.items c.enter.new.outer.items c.rounds.walk
+    → EnteredMember (parts_in f) k m n c.rounds.outer.items c.enter.new.outer.items c.rounds.walk
     c.enter.new.walk (Ok c.in_ok-inner-in-Some-2.inner)) same
     c.in_ok-inner-in-Some-2.ensures.enters in
     enters_falls p k c.in_ok-inner-in-Some-2.inner m i.1.inner c.rounds.outer.items
@@ -171,15 +175,15 @@ rounds-preserved-in_ok-inner-in-Some-2 c =
     let same = c.in_ok-member.ensures.file ∙ i.0 in
     let m = member_of c.in-Some-2.member in
     let all = subst (λ o. (w n : ℕ)
-    → IsOpen (parts_in c.rounds.checker.file) c.rounds.inner.rest w n
-    → Takes (parts_in c.rounds.checker.file) w n (Ok o)) c.in-Some-2.is
+    → IsOpenedAt (parts_in c.rounds.checker.file) c.rounds.inner.rest w n
+    → TakesNext (parts_in c.rounds.checker.file) w n (Ok o)) c.in-Some-2.is
     c.in_ok-member.ensures.takes in
-    let taken = subst (λ f. (w n : ℕ) → IsOpen (parts_in f) c.rounds.inner.rest w n
+    let taken = subst (λ f. (w n : ℕ) → IsOpenedAt (parts_in f) c.rounds.inner.rest w n
     → Awaits (parts_in f) c.in-Some-2.rest w m n) i.0 all in
     let awaits = taken c.rounds.inner.word i.1.inner i.1.opened in
     let k : Inner = record { word = c.rounds.inner.word; rest = c.in-Some-2.rest } in
     let entered = subst (λ f. (n : ℕ) → Awaits (parts_in f) k.rest k.word m n
-    → Entered (parts_in f) k m n c.rounds.outer.items c.enter.new.outer.items c.rounds.walk
+    → EnteredMember (parts_in f) k m n c.rounds.outer.items c.enter.new.outer.items c.rounds.walk
     c.enter.new.walk (Ok c.in_ok-inner-in-Some-2.inner)) same
     c.in_ok-inner-in-Some-2.ensures.enters in (
       c.in_ok-inner-in-Some-2.ensures.file ∙ same,
@@ -193,11 +197,11 @@ rounds-preserved c =
     let p = parts_in c.args.file in
     let i = c.rounds.invariant in
     let all = subst (λ o. (w n : ℕ)
-    → IsOpen (parts_in c.rounds.checker.file) c.rounds.inner.rest w n
-    → Takes (parts_in c.rounds.checker.file) w n (Ok o)) c.in-None.is
+    → IsOpenedAt (parts_in c.rounds.checker.file) c.rounds.inner.rest w n
+    → TakesNext (parts_in c.rounds.checker.file) w n (Ok o)) c.in-None.is
     c.in_ok-member.ensures.takes in
-    let taken = subst (λ f. (w n : ℕ) → IsOpen (parts_in f) c.rounds.inner.rest w n
-    → Takes (parts_in f) w n (Ok None)) i.0 all in
+    let taken = subst (λ f. (w n : ℕ) → IsOpenedAt (parts_in f) c.rounds.inner.rest w n
+    → TakesNext (parts_in f) w n (Ok None)) i.0 all in
     let t = taken c.rounds.inner.word i.1.inner i.1.opened in
     let next : Inner = record { word = c.in-Some-pop.waiting.word; rest = c.again.result } in (
       c.in_ok-member.ensures.file ∙ i.0,

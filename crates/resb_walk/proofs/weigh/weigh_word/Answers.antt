@@ -3,7 +3,7 @@ use Rattle.std.proofs.Common.{◌-◌, ◌++◌}
 use Rattle.resb_format.specs.Content.{word}
 use Rattle.resb_format.specs.Parts.{parts_in}
 use Rattle.resb_walk.specs.Inner.Members.{member_of}
-use Rattle.resb_walk.specs.Inner.Weighing.{Looked, Nexts, ToCome, Waiting, Entered}
+use Rattle.resb_walk.specs.Inner.Weighing.{Looked, Nexts, ToCome, WaitingPieces, EnteredPieces}
 use Rattle.resb_walk.specs.Pieces.{HoldsMember, holds_word}
 use Rattle.resb_walk.proofs.Weighed.{weighing_first, weighing_takes, weighing_enters, end_has}
 use Rattle.resb_walk.proofs.Weighed.{weighing_waits, weighing_again, weighing_ends}
@@ -89,8 +89,8 @@ rounds-smaller-in_ok-inner-in-Some-next c =
     let took = weighing_takes p c.args.word c.rounds.outer.items c.rounds.inner c.rounds.sums
     c.rounds.left i.1 c.in-Some-next.member j c.next.new.sums nexts in
     let enters = subst (λ f. HoldsMember (parts_in f) m took.member
-    → ToCome (parts_in f) j took.inner → Waiting (parts_in f) c.rounds.outer.items took.outer
-    → Entered (parts_in f) (took.member ++ (took.inner ++ took.outer)) took.done
+    → ToCome (parts_in f) j took.inner → WaitingPieces (parts_in f) c.rounds.outer.items took.outer
+    → EnteredPieces (parts_in f) (took.member ++ (took.inner ++ took.outer)) took.done
     c.rounds.outer.items c.enter.new.outer.items c.in_ok-inner-in-Some-next.inner
     c.enter.new.sums) i.0
     (λ g h w. c.in_ok-inner-in-Some-next.ensures took.member took.inner took.outer took.done g h w
@@ -118,8 +118,8 @@ rounds-preserved-in_ok-inner-in-Some-next c =
     let took = weighing_takes p c.args.word c.rounds.outer.items c.rounds.inner c.rounds.sums
     c.rounds.left i.1 c.in-Some-next.member j c.next.new.sums nexts in
     let enters = subst (λ f. HoldsMember (parts_in f) m took.member
-    → ToCome (parts_in f) j took.inner → Waiting (parts_in f) c.rounds.outer.items took.outer
-    → Entered (parts_in f) (took.member ++ (took.inner ++ took.outer)) took.done
+    → ToCome (parts_in f) j took.inner → WaitingPieces (parts_in f) c.rounds.outer.items took.outer
+    → EnteredPieces (parts_in f) (took.member ++ (took.inner ++ took.outer)) took.done
     c.rounds.outer.items c.enter.new.outer.items c.in_ok-inner-in-Some-next.inner
     c.enter.new.sums) i.0
     (λ g h w. c.in_ok-inner-in-Some-next.ensures took.member took.inner took.outer took.done g h w

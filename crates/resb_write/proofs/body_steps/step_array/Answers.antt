@@ -7,7 +7,7 @@ use Rattle.resb_write.specs.Inner.StackSteps.{LaysNext}
 use Rattle.resb_write.specs.Inner.Room.{laid_of}
 use Rattle.resb_write.specs.Inner.Seen.{TakesNoMore}
 use Rattle.std.proofs.lemmas.List.{nil_from_length}
-use Rattle.resb_tree.proofs.WalkOrderLemmas.{items_long}
+use Rattle.resb_tree.proofs.LayingOrderLemmas.{items_long}
 use Rattle.resb_write.proofs.Stacks.{split_stack, array_step, empty_array_step}
 use Rattle.resb_write.proofs.Anywhere.{array_anywhere}
 use Rattle.resb_write.proofs.body_steps.step_array.Goals as goal

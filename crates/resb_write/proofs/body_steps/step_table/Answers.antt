@@ -8,9 +8,11 @@ use Rattle.resb_write.specs.Inner.StackSteps.{LaysNext}
 use Rattle.resb_write.specs.Inner.Room.{laid_of}
 use Rattle.resb_write.specs.Inner.Seen.{HasRoom, TakesNoMore}
 use Rattle.std.proofs.lemmas.List.{nil_from_length}
-use Rattle.resb_write.proofs.KeyViews.{keys_view, values_long, not_none}
+use Rattle.resb_write.proofs.KeyViews.{values_long}
 use Rattle.resb_write.proofs.Stacks.{empty_table_step}
 use Rattle.resb_write.proofs.body_steps.step_table.Goals as goal
+use Rattle.resb_tree.proofs.MapsLemmas.{entry_keys-entries_view}
+use Rattle.resb_tree.proofs.Numbers.{positive_where_false}
 
 pub returns-then-is_empty-clause-step : goal.returns-then-is_empty-clause-step
 returns-then-is_empty-clause-step c =
@@ -33,7 +35,7 @@ step_full_table-requires-clause-enough c =
 
 pub step_full_table-requires-clause-full : goal.step_full_table-requires-clause-full
 step_full_table-requires-clause-full c =
-    subst (λ n. 0 < n) (sym c.requires.many) (not_none (length c.args.table.now.entries)
+    subst (λ n. 0 < n) (sym c.requires.many) (positive_where_false (length c.args.table.now.entries)
     c.is_empty.result c.is_empty.ensures.1 c.if-is_empty.false)
 
 pub returns-clause-step : goal.returns-clause-step
@@ -42,7 +44,8 @@ returns-clause-step c =
     on_ok_weaker c.step_full_table.result
     (λ h g at placed. h g at (entries_view es) (sym (values_long es) ∙ sym c.requires.many)
     (record {
-      ascend = subst (IsStrictlySortedBy text_cmp) (sym (keys_view es)) c.keys-keys.ensures.ordered;
+      ascend = subst (IsStrictlySortedBy text_cmp)
+          (sym (entry_keys-entries_view es)) c.keys-keys.ensures.ordered;
       positions = placed;
     }))
     c.step_full_table.ensures.step

@@ -2,8 +2,8 @@
 use Rattle.std.proofs.Common.{rules, ◌≡◌, [], ◌∷◌, ◌++◌, sym, ◌∙◌, ap, append_assoc, append-nil}
 use Rattle.resb_pool.specs.Plan.{nows}
 use Rattle.resb_pool.proofs.TextLoops.{nows-push}
-use Rattle.resb_write.proofs.KeyViews.{keys_view}
 use Rattle.resb_write.proofs.contents.push_keys.Goals as goal
+use Rattle.resb_tree.proofs.MapsLemmas.{entry_keys-entries_view}
 
 pub loop-key-preserved : goal.loop-key-preserved
 loop-key-preserved c =
@@ -23,4 +23,4 @@ returns c =
     sym (append-nil (nows c.loop-key.keys.items))
     ∙ ap (λ l. nows c.loop-key.keys.items ++ l) (sym none)
     ∙ c.loop-key.invariant ∙ ap (λ l. nows c.args.keys.now.items ++ l)
-    (sym (keys_view c.args.table.now.entries))
+    (sym (entry_keys-entries_view c.args.table.now.entries))

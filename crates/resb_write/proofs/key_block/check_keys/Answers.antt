@@ -4,7 +4,7 @@ use Rattle.std.proofs.Common.{◌∙◌, ap}
 use Rattle.std.specs.List.{list_any}
 use Rattle.std.specs.Option.{is_none}
 use Rattle.resb_pool.specs.Plan.{nows, at_text}
-use Rattle.resb_layout.specs.Faults.{has_nul}
+use Rattle.resb_layout.specs.TreeFaults.{has_nul}
 use Rattle.resb_write.specs.Inner.NearPositions.{near_position_in}
 use Rattle.resb_write.proofs.FaultsLemmas.{any_now, unlisted_fault, nul_fault, far_fault}
 use Rattle.resb_write.proofs.FaultsLemmas.{no_key_fault}

@@ -7,10 +7,10 @@ use Rattle.resb_tree.specs.View.{tree_of}
 use Rattle.resb_format.specs.Units.{size}
 use Rattle.resb_write.specs.FaultOf.{fault_of, plan_fault}
 use Rattle.resb_pool.specs.Plan.{nows, IsPlan}
-use Rattle.resb_tree.specs.WalkOrder.{walk_order, trees_in}
-use Rattle.resb_write.specs.Inner.Room.{laid_of, Numbered, HasRoomBehind}
+use Rattle.resb_tree.specs.LayingOrder.{laying_order, trees_in}
+use Rattle.resb_write.specs.Inner.Room.{laid_of, GivesInTurn, HasRoomBehind}
 use Rattle.resb_layout.specs.KeyBlock.{used, key_bytes, padded, position_in}
-use Rattle.resb_layout.specs.Faults.{RefusesWriting, no_memory, key_fault}
+use Rattle.resb_layout.specs.TreeFaults.{RefusesWriting, no_memory, key_fault}
 use Rattle.resb_layout.specs.Written.{Written, even}
 use Rattle.resb_write.specs.Inner.Files.{file_of}
 use Rattle.resb_write.specs.Inner.Gathered.{Gathered}
@@ -58,7 +58,7 @@ returns-in_err-check_sizes-clause-err c =
     c.in_err-check_sizes.field-0.0))
     c.root.ensures.tree
     (size_refused t c.args.list.now (nows c.deref.result.now) _ us b.keys b.faultless _
-    (c.in_err-check_sizes.ensures.err (walk_order t) gathered)))
+    (c.in_err-check_sizes.ensures.err (laying_order t) gathered)))
 
 pub returns-in_err-pool-clause-err : goal.returns-in_err-pool-clause-err
 returns-in_err-pool-clause-err c =
@@ -66,7 +66,7 @@ returns-in_err-pool-clause-err c =
     let gathered = subst (λ ts. Gathered ts c.in_ok-contents.contents) c.in_ok-order.ensures
     c.in_ok-contents.ensures in
     let texts = ap nows c.deref-2.ensures.value ∙ gathered.texts_are in
-    let small = c.in_ok-check_sizes.ensures.ok (walk_order t) gathered in
+    let small = c.in_ok-check_sizes.ensures.ok (laying_order t) gathered in
     let p = err_from_is_err_and c.from_residual-in_err-pool.result
     c.from_residual-in_err-pool.ensures.1 in
     rw p.1 (subst (RefusesWriting _ c.args.list.now) (sym p.2)
@@ -80,7 +80,7 @@ block_length-keys_end-requires c =
     let t = tree_of c.root.result.now in
     let gathered = subst (λ ts. Gathered ts c.in_ok-contents.contents) c.in_ok-order.ensures
     c.in_ok-contents.ensures in
-    let small = c.in_ok-check_sizes.ensures.ok (walk_order t) gathered in
+    let small = c.in_ok-check_sizes.ensures.ok (laying_order t) gathered in
     let js = ap nows c.deref-3.ensures.value ∙ c.in_ok-keys.ensures.ok.keys in
     omega (
       arith,
@@ -95,7 +95,7 @@ overflow_add-keys_end c =
     let t = tree_of c.root.result.now in
     let gathered = subst (λ ts. Gathered ts c.in_ok-contents.contents) c.in_ok-order.ensures
     c.in_ok-contents.ensures in
-    let small = c.in_ok-check_sizes.ensures.ok (walk_order t) gathered in
+    let small = c.in_ok-check_sizes.ensures.ok (laying_order t) gathered in
     let js = ap nows c.deref-3.ensures.value ∙ c.in_ok-keys.ensures.ok.keys in
     omega (
       arith,
@@ -114,19 +114,19 @@ lay_bodies-requires-clause-room c =
     c.in_ok-contents.ensures in
     let us = c.in_ok-pool.field-0.pool.items in
     let pooled = c.in_ok-pool.ensures.ok in
-    let small = c.in_ok-check_sizes.ensures.ok (walk_order t) gathered in
+    let small = c.in_ok-check_sizes.ensures.ok (laying_order t) gathered in
     let js = ap nows c.deref-3.ensures.value ∙ c.in_ok-keys.ensures.ok.keys in
     let texts = ap nows c.deref-2.ensures.value ∙ gathered.texts_are in
     let pool = pool_room (nows c.deref-2.result.now) us pooled.offset pooled.plan in
     let same = ap (sum_by size) texts in
     subst (HasRoomBehind (32 + c.block_length-keys_end.result) us) (sym c.in_ok-order.ensures)
     (record {
-      units = omega (arith, pool, same, units_room (walk_order t), walk_long t, small);
+      units = omega (arith, pool, same, units_room (laying_order t), walk_long t, small);
       bytes = omega (
         arith,
         pool,
         same,
-        bytes_room (walk_order t),
+        bytes_room (laying_order t),
         small,
         ap (λ l. length (key_bytes l)) js,
         used_room (nows c.deref.result.now) c.args.list.now,
@@ -136,7 +136,7 @@ lay_bodies-requires-clause-room c =
     })
 
 -- where the keys and the strings of the tree stand, for a tail that begins at a byte of the body
-numbered : (c : After-deref-5) (base : ℕ) → Numbered (record {
+numbered : (c : After-deref-5) (base : ℕ) → GivesInTurn (record {
   position = position_in (nows c.in_ok-keys.field-0.keys.items);
   offset = c.in_ok-pool.ensures.ok.offset;
   base = base;
@@ -151,7 +151,7 @@ numbered c base =
     let us = ap nows c.deref.ensures.value ∙ gathered.keys_are in
     let texts = ap nows c.deref-2.ensures.value ∙ gathered.texts_are in
     let offsets = pooled.offsets ∙ ap (map Some) (sym c.deref-5.ensures.value) in
-    subst (Numbered (record { position = position_in js; offset = pooled.offset; base = base })
+    subst (GivesInTurn (record { position = position_in js; offset = pooled.offset; base = base })
     c.deref-4.result.now c.deref-5.result.now) (sym c.in_ok-order.ensures) (record {
       keys = ap (map (position_in js)) (sym us) ∙ b.positions
           ∙ ap (map Some) (sym c.deref-4.ensures.value);
@@ -181,15 +181,15 @@ overflow_cast-largest_table c =
     let t = tree_of c.root.result.now in
     let gathered = subst (λ ts. Gathered ts c.in_ok-contents.contents) c.in_ok-order.ensures
     c.in_ok-contents.ensures in
-    let small = c.in_ok-check_sizes.ensures.ok (walk_order t) gathered in
-    omega (arith, small, gathered.largest_is, largest_room (walk_order t))
+    let small = c.in_ok-check_sizes.ensures.ok (laying_order t) gathered in
+    omega (arith, small, gathered.largest_is, largest_room (laying_order t))
 
 pub assemble-requires : goal.assemble-requires
 assemble-requires c =
     let t = tree_of c.root.result.now in
     let gathered = subst (λ ts. Gathered ts c.in_ok-contents.contents) c.in_ok-order.ensures
     c.in_ok-contents.ensures in
-    let small = c.in_ok-check_sizes.ensures.ok (walk_order t) gathered in
+    let small = c.in_ok-check_sizes.ensures.ok (laying_order t) gathered in
     let js = ap nows c.deref-6.ensures.value ∙ c.in_ok-keys.ensures.ok.keys in
     let room = c.in_ok-bodies.ensures.fits in
     let k = length-padded (key_bytes (nows c.deref-3.result.now)) in
@@ -226,7 +226,7 @@ returns-clause-ok c =
     let laid = laid_of c.in_ok-bodies.bodies in
     let us = ap nows c.deref.ensures.value ∙ gathered.keys_are in
     let texts = ap nows c.deref-2.ensures.value ∙ gathered.texts_are in
-    let small = c.in_ok-check_sizes.ensures.ok (walk_order t) gathered in
+    let small = c.in_ok-check_sizes.ensures.ok (laying_order t) gathered in
     let end : ℕ = 32 + c.block_length-keys_end.result + 2 *
     (length c.in_ok-bodies.bodies.units.items + length c.in_ok-bodies.bodies.units.items % 2) in
     let room = c.in_ok-bodies.ensures.fits in

@@ -1,7 +1,7 @@
 use Rattle.std.proofs.Common.{◌++◌, sym, ◌∙◌, ap, take, get_or, arith}
 use Rattle.std.specs.Int.{to_le_bytes, w16}
 use Rattle.std.proofs.lemmas.List.{take_more, flat_map_more}
-use Rattle.resb_layout.specs.Laid.{halves}
+use Rattle.resb_format.specs.Bytes.{units_as_bytes}
 use Rattle.resb_write.proofs.Each.{near_at}
 use Rattle.resb_write.proofs.tail_bytes.put_halves.Goals as goal
 
@@ -19,4 +19,4 @@ loop-position-preserved c =
     c.in_ok-put_half.ensures
     ∙ ap (λ l. l ++ to_le_bytes w16 (get_or ps i 0)) c.loop-position.invariant
     ∙ flat_map_more (to_le_bytes w16) bs (take i ps) (get_or ps i 0)
-    ∙ ap (λ l. bs ++ halves l) (sym (take_more ps i 0 c.loop-position-test.true))
+    ∙ ap (λ l. bs ++ units_as_bytes l) (sym (take_more ps i 0 c.loop-position-test.true))

@@ -2,8 +2,8 @@ use Rattle.std.proofs.Common.{◌≡◌, ◌+◌, ◌*◌, ◌%◌, ℕ, [], len
 use Rattle.std.specs.List.{sum_by}
 use Rattle.resb_tree.specs.Tree.{Tree}
 use Rattle.resb_layout.specs.Laid.{Given, Lays}
-use Rattle.resb_tree.specs.WalkOrder.{walk_order, trees_in}
-use Rattle.resb_write.specs.Inner.Room.{laid_of, HasRoomFor, Numbered}
+use Rattle.resb_tree.specs.LayingOrder.{laying_order, trees_in}
+use Rattle.resb_write.specs.Inner.Room.{laid_of, HasRoomFor, GivesInTurn}
 use Rattle.resb_write.specs.Inner.Counted.{own_units}
 use Rattle.resb_write.proofs.Counting.{units}
 use Rattle.resb_write.proofs.Numbers.{based, moved}
@@ -12,8 +12,8 @@ use Rattle.resb_write.proofs.tree_bodies.lay_bodies.Goals.{In_ok-word}
 
 -- what is laid has as many units as were counted
 count_is : (c : In_ok-word) (g : Given) (t : Tree)
-    → Numbered g c.args.sites.now.positions.now c.args.sites.now.offsets.now
-    (trees_in c.args.order.now.items) → trees_in c.args.order.now.items ≡ walk_order t
+    → GivesInTurn g c.args.sites.now.positions.now c.args.sites.now.offsets.now
+    (trees_in c.args.order.now.items) → trees_in c.args.order.now.items ≡ laying_order t
     → length c.lay_order.new.bodies.units.items ≡ c.in_ok-count.count
 count_is c g t n same =
     let base = c.args.keys_end + 2 * (c.in_ok-count.count + c.in_ok-count.count % 2) in

@@ -1,7 +1,7 @@
 use Rattle.std.proofs.Common.{[], length, refl, sym, ◌∙◌, ap, subst, arith}
 use Rattle.std.proofs.lemmas.List.{same_from_push}
 use Rattle.resb_layout.specs.Laid.{Lays}
-use Rattle.resb_tree.specs.WalkOrder.{walk_order, trees_in}
+use Rattle.resb_tree.specs.LayingOrder.{laying_order, trees_in}
 use Rattle.resb_write.specs.Inner.StackSteps.{LaysRow}
 use Rattle.resb_write.specs.Inner.Room.{laid_of}
 use Rattle.resb_write.specs.Inner.Seen.{Suffices}
@@ -26,7 +26,7 @@ unreachable-requires c =
     let s = laid_of c.args.bodies.now in
     let e = laid_of c.steps.new.bodies in
     let ws = c.steps.new.words.items in
-    let h = subst (λ l. LaysRow g s l (walk_order t) e ws) c.new-words.ensures.items
+    let h = subst (λ l. LaysRow g s l (laying_order t) e ws) c.new-words.ensures.items
     (subst (λ ts. LaysRow g s c.new-words.result.items ts e ws) c.requires.tree.1
     (c.in_ok-steps.ensures.lays g refl (moved c.requires.numbered.1))) in
     let r = steps_lay_trees g s e t ws h in
@@ -37,7 +37,7 @@ returns-clause-lays c = λ g at n t same.
     let s = laid_of c.args.bodies.now in
     let e = laid_of c.steps.new.bodies in
     let ws = c.steps.new.words.items in
-    let h = subst (λ l. LaysRow g s l (walk_order t) e ws) c.new-words.ensures.items
+    let h = subst (λ l. LaysRow g s l (laying_order t) e ws) c.new-words.ensures.items
     (subst (λ ts. LaysRow g s c.new-words.result.items ts e ws) same
     (c.in_ok-steps.ensures.lays g at n)) in
     let r = steps_lay_trees g s e t ws h in

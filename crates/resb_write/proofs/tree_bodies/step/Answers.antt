@@ -5,11 +5,11 @@ use Rattle.std.proofs.lemmas.Result.{on_ok_weaker}
 use Rattle.resb_tree.specs.Tree.{array, string, table}
 use Rattle.resb_tree.specs.View.{tree_of, items_view, entries_view}
 use Rattle.resb_tree.specs.declared.resource.Resource.{the_lemmas}
-use Rattle.resb_tree.specs.WalkOrder.{children}
+use Rattle.resb_tree.specs.LayingOrder.{children}
 use Rattle.resb_write.specs.Inner.StackSteps.{LaysNext}
-use Rattle.resb_write.specs.Inner.Room.{laid_of, own_size, Numbered}
+use Rattle.resb_write.specs.Inner.Room.{laid_of, own_size, GivesInTurn}
 use Rattle.resb_write.specs.Inner.Seen.{HasRoom, TakesNoMore}
-use Rattle.resb_tree.proofs.WalkOrderLemmas.{items_long}
+use Rattle.resb_tree.proofs.LayingOrderLemmas.{items_long}
 use Rattle.resb_write.proofs.KeyViews.{keys_long, values_long}
 use Rattle.resb_write.proofs.Numbers.{string_left, behind_table, table_known, table_left}
 use Rattle.resb_write.proofs.tree_bodies.step.Goals as goal
@@ -24,7 +24,7 @@ returns-in-String-clause-left c =
     c.take_offset.new.self.positions.now c.take_offset.new.self.offsets.now
     c.take_offset.ensures.taken c.take_offset.ensures.keeps
     (subst
-    (λ t. Numbered g c.args.coming.now.positions.now c.args.coming.now.offsets.now (t ∷ rest))
+    (λ t. GivesInTurn g c.args.coming.now.positions.now c.args.coming.now.offsets.now (t ∷ rest))
     e n))
     c.step_string.ensures
 
@@ -75,7 +75,7 @@ take_positions-positions-requires c =
     let ps = c.args.coming.now.positions.now in
     let os = c.args.coming.now.offsets.now in
     let b = behind_table n.0 ps os (entries_view es) n.1 (length es) (keys_long es)
-    (subst (λ t. Numbered n.0 ps os (t ∷ n.1)) e n.2) in
+    (subst (λ t. GivesInTurn n.0 ps os (t ∷ n.1)) e n.2) in
     omega (arith, c.len.ensures.len, b.enough)
 
 pub step_table-requires-clause-room : goal.step_table-requires-clause-room
@@ -104,7 +104,7 @@ step_table-requires-clause-many c =
     let ps = c.args.coming.now.positions.now in
     let os = c.args.coming.now.offsets.now in
     let b = behind_table n.0 ps os (entries_view es) n.1 (length es) (keys_long es)
-    (subst (λ t. Numbered n.0 ps os (t ∷ n.1)) e n.2) in
+    (subst (λ t. GivesInTurn n.0 ps os (t ∷ n.1)) e n.2) in
     omega (
       arith,
       c.len.ensures.len,
@@ -124,7 +124,7 @@ returns-in-Table-clause-step c =
     c.step_table.new.words.items) (sym e) (h g at (table_known g ps os (entries_view es) rest
     c.len.result (keys_long es ∙ sym c.len.ensures.len) c.take_positions-positions.result.now
     c.take_positions-positions.ensures.taken
-    (subst (λ t. Numbered g ps os (t ∷ rest)) e n)))) c.step_table.ensures.step
+    (subst (λ t. GivesInTurn g ps os (t ∷ rest)) e n)))) c.step_table.ensures.step
 
 pub returns-in-Table-clause-left : goal.returns-in-Table-clause-left
 returns-in-Table-clause-left c =
@@ -137,7 +137,7 @@ returns-in-Table-clause-left c =
     c.take_positions-positions.new.self.positions.now
     c.take_positions-positions.new.self.offsets.now
     c.take_positions-positions.ensures.left c.take_positions-positions.ensures.keeps
-    (subst (λ t. Numbered g ps os (t ∷ rest)) e n)) c.step_table.ensures.step
+    (subst (λ t. GivesInTurn g ps os (t ∷ rest)) e n)) c.step_table.ensures.step
 
 pub returns-in-Table-clause-takes : goal.returns-in-Table-clause-takes
 returns-in-Table-clause-takes c =

@@ -3,19 +3,19 @@ use Rattle.std.specs.List.{sum_by}
 use Rattle.std.proofs.lemmas.List.Sums.{sum_by-cons}
 use Rattle.resb_tree.specs.View.{tree_of}
 use Rattle.resb_write.specs.Inner.StackSteps.{LaysRow, row_none}
-use Rattle.resb_write.specs.Inner.Room.{laid_of, most_units, Numbered}
-use Rattle.resb_tree.specs.WalkOrder.{trees_in}
+use Rattle.resb_write.specs.Inner.Room.{laid_of, most_units, GivesInTurn}
+use Rattle.resb_tree.specs.LayingOrder.{trees_in}
 use Rattle.resb_write.specs.Inner.Seen.{CanLay}
 use Rattle.resb_write.proofs.Numbers.{based, moved}
 use Rattle.resb_write.proofs.Rows.{steps_push, step_long, can_go_on}
-use Rattle.resb_tree.proofs.WalkOrderLemmas.{trees-drop, trees-take}
+use Rattle.resb_tree.proofs.LayingOrderLemmas.{trees-drop, trees-take}
 use Rattle.resb_write.proofs.tree_bodies.steps.Goals as goal
 
 pub loop-at-init : goal.loop-at-init
 loop-at-init c = record {
-  left = λ g n. subst (λ l. Numbered g l c.coming-coming.result.offsets.now
+  left = λ g n. subst (λ l. GivesInTurn g l c.coming-coming.result.offsets.now
       (trees_in c.args.order.now.items)) (sym c.coming-coming.ensures.positions)
-      (subst (λ l. Numbered g c.args.sites.now.positions.now l (trees_in c.args.order.now.items))
+      (subst (λ l. GivesInTurn g c.args.sites.now.positions.now l (trees_in c.args.order.now.items))
       (sym c.coming-coming.ensures.offsets) n);
   done = λ g e n. row_none;
   can = c.requires.can;
@@ -39,11 +39,11 @@ loop-at-preserved c =
     let can = subst (CanLay c.args.base c.loop-at.bodies (length old)) split v.can in
     record {
       left = λ g n. c.in_ok-step.ensures.left g rest
-          (subst (Numbered g c.loop-at.coming.positions.now c.loop-at.coming.offsets.now) split
+          (subst (GivesInTurn g c.loop-at.coming.positions.now c.loop-at.coming.offsets.now) split
           (v.left g n));
       done = λ g e n.
           let k = c.in_ok-step.ensures.step g e rest
-          (subst (Numbered g c.loop-at.coming.positions.now c.loop-at.coming.offsets.now) split
+          (subst (GivesInTurn g c.loop-at.coming.positions.now c.loop-at.coming.offsets.now) split
           (v.left g n)) in
           subst (λ ts. LaysRow g (laid_of c.args.bodies.now) c.args.words.now.items ts
           (laid_of c.step.new.bodies) new) (sym more)
@@ -55,7 +55,7 @@ loop-at-preserved c =
           (length new) c.in_ok-step.ensures.takes (step_long (based g.0 c.args.base)
           (laid_of c.loop-at.bodies) (laid_of c.step.new.bodies) old new t
           (c.in_ok-step.ensures.step (based g.0 c.args.base) refl rest
-          (subst (Numbered (based g.0 c.args.base) c.loop-at.coming.positions.now
+          (subst (GivesInTurn (based g.0 c.args.base) c.loop-at.coming.positions.now
           c.loop-at.coming.offsets.now) split (v.left (based g.0 c.args.base) (moved g.1)))));
       takes = omega (
         arith,

@@ -5,10 +5,10 @@ use Rattle.std.proofs.lemmas.Result.{IfOk-weaker}
 use Rattle.resb_tree.specs.Tree.{array, string, table, binary, integer, int_vector}
 use Rattle.resb_tree.specs.View.{tree_of, items_view, entries_view}
 use Rattle.resb_tree.specs.declared.resource.Resource.{the_lemmas}
-use Rattle.resb_tree.specs.WalkOrder.{children, entry_keys}
-use Rattle.resb_write.specs.Inner.Room.{Numbered}
+use Rattle.resb_tree.specs.LayingOrder.{children, entry_keys}
+use Rattle.resb_write.specs.Inner.Room.{GivesInTurn}
 use Rattle.resb_write.specs.Inner.Counted.{is_near, CountsOne}
-use Rattle.resb_tree.proofs.WalkOrderLemmas.{items_long}
+use Rattle.resb_tree.proofs.LayingOrderLemmas.{items_long}
 use Rattle.resb_write.proofs.KeyViews.{keys_long, values_long}
 use Rattle.resb_write.proofs.Numbers.{behind_table}
 use Rattle.resb_write.proofs.Marks.{string_one, other_one, array_one, table_one}
@@ -35,7 +35,7 @@ take_positions-requires c =
     let ps = c.args.coming.now.positions.now in
     let os = c.args.coming.now.offsets.now in
     let b = behind_table n.0 ps os (entries_view es) n.1 (length es) (keys_long es)
-    (subst (λ t. Numbered n.0 ps os (t ∷ n.1)) e n.2) in
+    (subst (λ t. GivesInTurn n.0 ps os (t ∷ n.1)) e n.2) in
     omega (arith, c.len-in-Table.ensures.len, b.enough)
 
 pub count_table-requires : goal.count_table-requires
@@ -65,7 +65,7 @@ returns-in-String c =
       counts = IfOk-weaker c.count_string.result _ _ (λ n h g rest below m are.
           subst (λ t. CountsOne g t rest below n new out) (sym e)
           (string_one g rest below ps os new ms out n s
-          (subst (λ t. Numbered g ps os (t ∷ rest)) e m)
+          (subst (λ t. GivesInTurn g ps os (t ∷ rest)) e m)
           (subst (λ t. ms ≡ map (is_near g) (below ++ children t)) e are) h.0
           c.count_string.ensures.keeps h.1)) c.count_string.ensures.counts;
     }
@@ -80,7 +80,7 @@ returns-in-Array c =
     let out = c.count_array.new.marks.items in
     record {
       counts = IfOk-weaker c.count_array.result _ _ (λ n h g rest below m are.
-          let k = subst (λ t. Numbered g ps os (t ∷ rest)) e m in
+          let k = subst (λ t. GivesInTurn g ps os (t ∷ rest)) e m in
           subst (λ t. CountsOne g t rest below n c.args.coming.now out) (sym e)
           (array_one g rest below ps os c.args.coming.now ms out n ts c.len.result
           (omega (arith, items_long c.in-Array.items.items, c.len.ensures, c.in-Array.items.ok.0))
@@ -104,7 +104,7 @@ returns-in-Table c =
     let many : length (entry_keys es) ≡ k = keys_long rs ∙ sym c.len-in-Table.ensures.len in
     let m = c.requires.numbered in
     let enough = (behind_table m.0 ps os es m.1 k many
-    (subst (λ t. Numbered m.0 ps os (t ∷ m.1)) e m.2)).enough in
+    (subst (λ t. GivesInTurn m.0 ps os (t ∷ m.1)) e m.2)).enough in
     let long : length qs ≡ k = omega (
       arith,
       enough,
@@ -117,7 +117,7 @@ returns-in-Table c =
           (table_one g rest below ps os new ms out n es qs k many long
           c.take_positions.ensures.taken c.take_positions.ensures.left
           c.take_positions.ensures.keeps
-          (subst (λ t. Numbered g ps os (t ∷ rest)) e m)
+          (subst (λ t. GivesInTurn g ps os (t ∷ rest)) e m)
           (subst (λ t. ms ≡ map (is_near g) (below ++ children t)) e are) h))
           c.count_table.ensures;
     }
@@ -132,7 +132,7 @@ returns-in-Binary c =
     let out = c.count_other.new.marks.items in
     record {
       counts = IfOk-weaker c.count_other.result _ _ (λ n h g rest below m are.
-          let k = subst (λ t. Numbered g ps os (t ∷ rest)) e m in
+          let k = subst (λ t. GivesInTurn g ps os (t ∷ rest)) e m in
           subst (λ t. CountsOne g t rest below n c.args.coming.now out) (sym e)
           (other_one g rest below ps os c.args.coming.now ms out n
           (binary (cow_slice_items c.in-Binary.field-0)) refl refl refl
@@ -151,7 +151,7 @@ returns-in-Integer c =
     let out = c.count_other-in-Integer.new.marks.items in
     record {
       counts = IfOk-weaker c.count_other-in-Integer.result _ _ (λ n h g rest below m are.
-          let k = subst (λ t. Numbered g ps os (t ∷ rest)) e m in
+          let k = subst (λ t. GivesInTurn g ps os (t ∷ rest)) e m in
           subst (λ t. CountsOne g t rest below n c.args.coming.now out) (sym e)
           (other_one g rest below ps os c.args.coming.now ms out n
           (integer c.in-Integer.field-0) refl refl refl
@@ -170,7 +170,7 @@ returns-in-IntVector c =
     let out = c.count_other-in-IntVector.new.marks.items in
     record {
       counts = IfOk-weaker c.count_other-in-IntVector.result _ _ (λ n h g rest below m are.
-          let k = subst (λ t. Numbered g ps os (t ∷ rest)) e m in
+          let k = subst (λ t. GivesInTurn g ps os (t ∷ rest)) e m in
           subst (λ t. CountsOne g t rest below n c.args.coming.now out) (sym e)
           (other_one g rest below ps os c.args.coming.now ms out n
           (int_vector c.in-IntVector.field-0.items) refl refl refl

@@ -5,13 +5,13 @@ use Rattle.std.specs.List.{sum_by}
 use Rattle.std.proofs.lemmas.List.{length-append, length-map}
 use Rattle.std.proofs.lemmas.List.Sums.{sum_by-cons, sum_by-append}
 use Rattle.resb_tree.specs.View.{tree_of}
-use Rattle.resb_tree.specs.WalkOrder.{children, trees_in}
+use Rattle.resb_tree.specs.LayingOrder.{children, trees_in}
 use Rattle.resb_layout.specs.Laid.{Given}
-use Rattle.resb_write.specs.Inner.Room.{most_units, Numbered}
+use Rattle.resb_write.specs.Inner.Room.{most_units, GivesInTurn}
 use Rattle.resb_write.specs.Inner.Counted.{is_near, own_units, Pending, CountsOne}
 use Rattle.resb_write.proofs.Marks.{own_few}
 use Rattle.resb_write.proofs.Pending.{pending}
-use Rattle.resb_tree.proofs.WalkOrderLemmas.{trees-drop, trees-take}
+use Rattle.resb_tree.proofs.LayingOrderLemmas.{trees-drop, trees-take}
 use Rattle.resb_write.proofs.unit_count.count_units.Goals as goal
 
 pub loop-at-init : goal.loop-at-init
@@ -19,9 +19,11 @@ loop-at-init c = (
   [],
   subst (Pending []) (sym c.requires.tree.1) (pending c.requires.tree.0),
   λ g n. (
-    subst (λ l. Numbered g l c.coming-coming.result.offsets.now (trees_in c.args.order.now.items))
+    subst (λ l. GivesInTurn g l c.coming-coming.result.offsets.now
+        (trees_in c.args.order.now.items))
         (sym c.coming-coming.ensures.positions)
-        (subst (λ l. Numbered g c.args.sites.now.positions.now l (trees_in c.args.order.now.items))
+        (subst (λ l. GivesInTurn g c.args.sites.now.positions.now l
+        (trees_in c.args.order.now.items))
         (sym c.coming-coming.ensures.offsets) n),
     c.new-marks.ensures.items,
     omega (arith, none g),
@@ -69,7 +71,7 @@ count_own-requires-clause-numbered c =
     let n = c.requires.numbered in (
       n.0,
       trees_in (drop (i + 1) order),
-      subst (Numbered n.0 c.loop-at.coming.positions.now c.loop-at.coming.offsets.now)
+      subst (GivesInTurn n.0 c.loop-at.coming.positions.now c.loop-at.coming.offsets.now)
           (trees-drop order i d c.index.ensures h) (c.loop-at.invariant.2 n.0 n.1).0,
     )
 
@@ -92,7 +94,7 @@ overflow_add-count c =
     let n = c.requires.numbered in
     let g = n.0 in
     let k = c.in_ok-count.ensures.counts g rest p.0
-    (subst (Numbered g c.loop-at.coming.positions.now c.loop-at.coming.offsets.now) split
+    (subst (GivesInTurn g c.loop-at.coming.positions.now c.loop-at.coming.offsets.now) split
     (v.2 g n.1).0) ((v.2 g n.1).1 ∙ ap (map (is_near g)) p.1) in
     omega (
       arith,
@@ -123,10 +125,11 @@ loop-at-preserved c =
     let v = c.loop-at.invariant in
     let p = subst (Pending v.0) split v.1 in
     let n = c.requires.numbered in
-    let one : (g : Given) → Numbered g c.args.sites.now.positions.now c.args.sites.now.offsets.now
+    let one : (g : Given)
+    → GivesInTurn g c.args.sites.now.positions.now c.args.sites.now.offsets.now
     (trees_in order) → CountsOne g t rest p.0 c.in_ok-count.field-0 c.count_own.new.coming
     c.count_own.new.marks.items = (λ g m. c.in_ok-count.ensures.counts g rest p.0
-    (subst (Numbered g c.loop-at.coming.positions.now c.loop-at.coming.offsets.now) split
+    (subst (GivesInTurn g c.loop-at.coming.positions.now c.loop-at.coming.offsets.now) split
     (v.2 g m).0) ((v.2 g m).1 ∙ ap (map (is_near g)) p.1)) in (
       p.0 ++ t ∷ [],
       p.2,

@@ -1,5 +1,5 @@
 use Rattle.std.proofs.Common.{subst}
-use Rattle.resb_zones.specs.Inner.Fields.{entry_of, IsEntry, FieldsFront}
+use Rattle.resb_zones.specs.Inner.Fields.{entry_of, CostsAsEntry, FieldsFront}
 use Rattle.resb_zones.proofs.Steps.{steps_some}
 use Rattle.resb_zones.proofs.Fronts.{here, front_takes, front_fails}
 use Rattle.resb_zones.proofs.Takings.{on_err}
@@ -15,7 +15,7 @@ take-requires c =
     let h = rw c.in-Some.is at c.in_ok-key.ensures in
     let step = steps_some l.entries new l.invariant.0 (c.in-Some.key, c.in-Some.value) h in
     let front = subst (λ r. FieldsFront all r l.fields before l.walk) step.0 l.invariant.1 in
-    here all entry new.rest l.fields before l.walk front IsEntry c.requires.places
+    here all entry new.rest l.fields before l.walk front CostsAsEntry c.requires.places
 
 pub entries-preserved : goal.entries-preserved
 entries-preserved c =

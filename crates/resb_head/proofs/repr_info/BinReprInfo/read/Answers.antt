@@ -7,7 +7,8 @@ use Rattle.resb_format.specs.Bytes.{unit_in}
 use Rattle.resb_head.specs.Codes.{endianness_number, charset_number, version_bytes}
 use Rattle.resb_head.proofs.HeadSteps.{Order, Families, Formats, order_stands, endianness_fails}
 use Rattle.resb_head.proofs.HeadSteps.{order_fails, charset_fails, format_fails, version_fails}
-use Rattle.resb_head.proofs.HeadSteps.{all_hold, le_true, endianness_small, charset_small, not_big}
+use Rattle.resb_head.proofs.HeadSteps.{all_hold, nat_le_holds, endianness_small, charset_small}
+use Rattle.resb_head.proofs.HeadSteps.{not_big}
 use Rattle.resb_head.proofs.HeadSteps.{is_big}
 use Rattle.resb_head.proofs.repr_info.BinReprInfo.read.Goals as goal
 use Rattle.resb_head.proofs.repr_info.BinReprInfo.read.Goals.{else-is_big-via-else-is_big}
@@ -73,7 +74,7 @@ returns-then-ne c =
     record {
       order = o;
       charset =
-          le_true (get_or bs 5 0) 1
+          nat_le_holds (get_or bs 5 0) 1
           (subst (λ k. k ≤ 1) m (charset_small c.in_ok-charset_family.charset_family));
     } in
     format_fails c.args.any_order bs c.invalid_data.result f
@@ -103,7 +104,7 @@ returns-in_err-format_version c =
     record {
       order = o;
       charset =
-          le_true (get_or bs 5 0) 1
+          nat_le_holds (get_or bs 5 0) 1
           (subst (λ k. k ≤ 1) m (charset_small c.in_ok-charset_family.charset_family));
     } in
     let g : Formats c.args.any_order bs =
@@ -142,7 +143,7 @@ returns c =
     record {
       order = o;
       charset =
-          le_true (get_or bs 5 0) 1
+          nat_le_holds (get_or bs 5 0) 1
           (subst (λ k. k ≤ 1) m (charset_small c.in_ok-charset_family.charset_family));
     } in
     let g : Formats c.args.any_order bs =

@@ -78,11 +78,18 @@ returns-in_ok-entry-in-Entries-clause-cost c =
 
 pub returns-in_err-open-in-Group-clause-most : goal.returns-in_err-open-in-Group-clause-most
 returns-in_err-open-in-Group-clause-most c =
-    rw c.in-Group.is (omega (arith, c.add.ensures.most,
-    reach_high c.args.text.now c.in-Group.at (rw c.in-Group.is at c.requires.within)))
+    rw c.in-Group.is (omega (
+      arith,
+      c.add.ensures.most,
+      reach_high c.args.text.now c.in-Group.at (rw c.in-Group.is at c.requires.within),
+    ))
 
 pub returns-in_ok-resume-in-Some-clause-most : goal.returns-in_ok-resume-in-Some-clause-most
 returns-in_ok-resume-in-Some-clause-most c =
-    rw c.in-Ended.is (omega (arith, c.in_ok-resume-in-Some.ensures.cost, c.add.ensures.most,
-    spent_most c.args.text.now c.in_ok-resume-in-Some.field-0
-    c.in_ok-resume-in-Some.ensures.goes.0))
+    rw c.in-Ended.is (omega (
+      arith,
+      c.in_ok-resume-in-Some.ensures.cost,
+      c.add.ensures.most,
+      spent_most c.args.text.now c.in_ok-resume-in-Some.field-0
+          c.in_ok-resume-in-Some.ensures.goes.0,
+    ))

@@ -1,7 +1,7 @@
 use Rattle.std.proofs.Common.{◌≡◌, None, drop, ap, sym, ◌∙◌}
 use Rattle.resb_read.specs.Access.{EntryAccess, ReadsPair, CountsPair}
 use Rattle.resb_read.specs.Places.{place_of}
-use Rattle.resb_read.specs.Refusing.{RefusesPair}
+use Rattle.resb_read.specs.RefusedReadings.{RefusesPair}
 use Rattle.resb_read.proofs.Failing.{stopped_at, first_fails}
 use Rattle.resb_read.proofs.entries.MapAccess.next_entry.Goals as goal
 

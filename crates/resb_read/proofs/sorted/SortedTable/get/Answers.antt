@@ -3,8 +3,8 @@ use Rattle.resb_format.specs.Parts.{parts_in}
 use Rattle.resb_walk.specs.Inner.Members.{keyed_members, member_of}
 use Rattle.resb_format.specs.Content.{Member}
 use Rattle.resb_read.specs.Sequences.{at_entry, at_spot}
-use Rattle.resb_read.specs.Inner.Items.{entry_places}
-use Rattle.resb_read.specs.Tables.{entries_of, last_named, Ascend}
+use Rattle.resb_read.specs.Inner.Elements.{entry_places}
+use Rattle.resb_read.specs.Tables.{view_entries, last_named, Ascend}
 use Rattle.resb_read.proofs.Ascending.{sound, window_is, key_in, half_less, half_greater}
 use Rattle.resb_read.proofs.Ascending.{half_equal}
 use Rattle.resb_read.proofs.Naming.{text_there}
@@ -12,7 +12,7 @@ use Rattle.resb_format.specs.Strings.{key_at}
 use Rattle.resb_read.proofs.sorted.SortedTable.get.Goals as goal
 
 pub halves-init : goal.halves-init
-halves-init c = (sound (entries_of c.args.self.now.table) c.args.self.now.ascend, refl)
+halves-init c = (sound (view_entries c.args.self.now.table) c.args.self.now.ascend, refl)
 
 pub returns-in-Equal : goal.returns-in-Equal
 returns-in-Equal c =
@@ -26,7 +26,7 @@ returns-in-Equal c =
     let (t, key) = key_in (entry_places file c.in-Some.front) (at_entry (parts_in file) e)
     (entry_places file c.in-Some-split.later) (subst Ascend is c.halves.invariant.0) in
     ap (λ s. Some (at_spot (parts_in file) s)) c.spot_of.ensures
-    ∙ half_equal name (last_named name (entries_of c.args.self.now.table))
+    ∙ half_equal name (last_named name (view_entries c.args.self.now.table))
     (entry_places file c.halves.window) (entry_places file c.in-Some.front)
     (entry_places file c.in-Some-split.later) (at_entry (parts_in file) e) t is
     c.halves.invariant key
@@ -44,7 +44,7 @@ halves-preserved-in-Less c =
     (keyed_members c.in-Some.back) later e c.in-Some.ensures.all c.in-Some-split.ensures in
     let (t, key) = key_in (entry_places file c.in-Some.front) (at_entry (parts_in file) e)
     (entry_places file c.in-Some-split.later) (subst Ascend is c.halves.invariant.0) in
-    half_less name (last_named name (entries_of c.args.self.now.table))
+    half_less name (last_named name (view_entries c.args.self.now.table))
     (entry_places file c.halves.window) (entry_places file c.in-Some.front)
     (entry_places file c.in-Some-split.later) (at_entry (parts_in file) e) t is
     c.halves.invariant key
@@ -62,7 +62,7 @@ halves-preserved c =
     (keyed_members c.in-Some.back) later e c.in-Some.ensures.all c.in-Some-split.ensures in
     let (t, key) = key_in (entry_places file c.in-Some.front) (at_entry (parts_in file) e)
     (entry_places file c.in-Some-split.later) (subst Ascend is c.halves.invariant.0) in
-    half_greater name (last_named name (entries_of c.args.self.now.table))
+    half_greater name (last_named name (view_entries c.args.self.now.table))
     (entry_places file c.halves.window) (entry_places file c.in-Some.front)
     (entry_places file c.in-Some-split.later) (at_entry (parts_in file) e) t is
     c.halves.invariant key

@@ -2,7 +2,7 @@
 use Rattle.std.proofs.Common.{◌∙◌, ◌++◌, [], ap, sym, append-nil}
 use Rattle.std.specs.Prelude.{map}
 use Rattle.resb_report.specs.Warnings.{of_keys}
-use Rattle.resb_report.specs.Inner.Looks.{words_of}
+use Rattle.resb_report.specs.Inner.Looks.{placed_text_of}
 use Rattle.resb_report.proofs.KeysLemmas.{tells_pairs, tells_others}
 use Rattle.resb_report.proofs.groups.Group.tell.Goals as goal
 
@@ -10,7 +10,7 @@ pub returns : goal.returns
 returns c = λ g e.
     let found = c.args.found.now.items in
     c.in_ok-tell_keys.ensures
-    ∙ ap (λ ks. found ++ of_keys [] (map words_of ks)) c.as_slice.ensures.value
+    ∙ ap (λ ks. found ++ of_keys [] (map placed_text_of ks)) c.as_slice.ensures.value
     ∙ ap (λ l. found ++ l) (tells_pairs c.args.self.now g e c.if-self.false c.in-Pairs.is)
 
 pub returns-in_default : goal.returns-in_default

@@ -1,9 +1,9 @@
 use Rattle.std.proofs.Common.{ap}
-use Rattle.resb_text.specs.Inner.Frames.{Look}
+use Rattle.resb_text.specs.Inner.Frames.{FrameView}
 use Rattle.resb_text.proofs.FramesLemmas.{pairs_then}
 use Rattle.resb_text.proofs.frames.Frame.is_pairs.Goals as goal
 
 pub returns-then-self : goal.returns-then-self
 returns-then-self c =
-    λ n f x. pairs_then f.items _ _ (ap (λ (l : Look). l.alternates) x) c.if-self.true
+    λ n f x. pairs_then f.items _ _ (ap (λ (l : FrameView). l.alternates) x) c.if-self.true
     (c.is_key_place.ensures n f x)

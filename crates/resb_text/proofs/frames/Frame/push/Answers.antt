@@ -1,6 +1,6 @@
 use Rattle.std.proofs.Common.{refl}
 use Rattle.resb_text.specs.declared.frames.Frame.{Frame}
-use Rattle.resb_text.proofs.FramesLemmas.{look_more}
+use Rattle.resb_text.proofs.FramesLemmas.{view_more}
 use Rattle.resb_text.proofs.frames.Frame.push.Goals as goal
 
 pub returns-clause-looks : goal.returns-clause-looks
@@ -11,5 +11,5 @@ returns-clause-looks c = λ n f m e is.
       alternates = c.goes_on-alternates.result;
       number = c.args.self.now.number;
     } in
-    look_more c.args.self.now after n f m _ is e refl refl c.in_ok-push.ensures.items
+    view_more c.args.self.now after n f m _ is e refl refl c.in_ok-push.ensures.items
     (c.goes_on-alternates.ensures n f m e is)

@@ -1,28 +1,28 @@
 use Rattle.std.proofs.Common.{ℕ, List, [], ◌∷◌, ◌++◌, sym, ◌∙◌, ap, refl}
-use Rattle.resb_text.specs.Inner.Discovered.{Numbered, left, is_dropped_in}
+use Rattle.resb_text.specs.Inner.Discovered.{GroupText, left, is_dropped_in}
 use Rattle.resb_grammar.specs.Items as spec
 use Rattle.resb_grammar.specs.Machine as machine
 use Rattle.resb_grammar.specs.Machine.{with_term}
-use Rattle.resb_text.specs.Inner.Frames.{Look, lists, group_body_of, Shows}
+use Rattle.resb_text.specs.Inner.Frames.{FrameView, lists, group_body_of, StandsFor}
 use Rattle.resb_text.specs.declared.items.Term.TheVariants as terms
 use Rattle.resb_text.proofs.OpenGroups.{shows_string, shows_item}
 use Rattle.resb_text.proofs.Outcomes.{on_ok_from}
 use Rattle.resb_text.proofs.frames.Open.add_string.Goals as goal
 
-abbrev one : List ℕ → ℕ → Numbered
+abbrev one : List ℕ → ℕ → GroupText
 one s n = record { text = s; group = n }
 
 pub add-requires : goal.add-requires
 add-requires c =
     let x = c.requires.1 in
     ap (λ n. is_dropped_in c.args.self.now.keys n)
-    (c.in_ok-push.ensures.number ∙ ap (λ (l : Look). l.number) x.frame)
+    (c.in_ok-push.ensures.number ∙ ap (λ (l : FrameView). l.number) x.frame)
     ∙ x.are_open.1
 
 pub returns-then-lists_keys-clause-shows : goal.returns-then-lists_keys-clause-shows
 returns-then-lists_keys-clause-shows c =
-    on_ok_from {Q = (o : machine.Open) → Shows c.args.self.now o
-    → Shows _ (with_term (spec.string_term c.args.text.now) o)} _
+    on_ok_from {Q = (o : machine.Open) → StandsFor c.args.self.now o
+    → StandsFor _ (with_term (spec.string_term c.args.text.now) o)} _
     (λ added. λ o x. shows_string c.args.self.now _ o
     (terms.String c.args.text) c.args.text.now x refl c.in_ok-push.ensures.looks refl
     (ap (λ b. lists (group_body_of b)) (sym c.in_ok-push.ensures.body) ∙ sym c.lists_keys.ensures

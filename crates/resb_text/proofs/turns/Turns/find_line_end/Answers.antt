@@ -1,26 +1,26 @@
 use Rattle.std.proofs.Common.{◌∙◌, ap, arith}
 use Rattle.resb_text.specs.Turns.{Counted}
-use Rattle.resb_text.specs.Inner.Runs.{ends_line}
+use Rattle.resb_grammar.specs.ByteRuns.{is_line_end}
 use Rattle.resb_text.proofs.TokensLemmas.{rest_of, test_found, none_before}
 use Rattle.resb_text.proofs.turns.Turns.find_line_end.Goals as goal
 
 pub returns-in-Some-clause-line : goal.returns-in-Some-clause-line
 returns-in-Some-clause-line c =
-    none_before ends_line c.args.self.now.text _ c.args.from c.in-Some.n
+    none_before is_line_end c.args.self.now.text _ c.args.from c.in-Some.n
     (rest_of c.args.self.now.text c.as_bytes.result.now c.args.from
     (c.as_bytes.ensures.value ∙ ap (λ (t : Counted). t.text) c.self.view_is))
     (λ k lt is. c.in-Some.ensures.0.before k (omega arith) lt is)
 
 pub returns-in-Some-clause-ends : goal.returns-in-Some-clause-ends
 returns-in-Some-clause-ends c = λ lt.
-    test_found ends_line c.args.self.now.text _ c.args.from c.in-Some.n
+    test_found is_line_end c.args.self.now.text _ c.args.from c.in-Some.n
     (rest_of c.args.self.now.text c.as_bytes.result.now c.args.from
     (c.as_bytes.ensures.value ∙ ap (λ (t : Counted). t.text) c.self.view_is))
     c.in-Some.ensures.1
 
 pub returns-in-None-clause-line : goal.returns-in-None-clause-line
 returns-in-None-clause-line c =
-    none_before ends_line c.args.self.now.text _ c.args.from _
+    none_before is_line_end c.args.self.now.text _ c.args.from _
     (rest_of c.args.self.now.text c.as_bytes.result.now c.args.from
     (c.as_bytes.ensures.value ∙ ap (λ (t : Counted). t.text) c.self.view_is))
     (λ k lt is. c.in-None.ensures k (omega arith) lt is)

@@ -1,5 +1,5 @@
 use Rattle.std.proofs.Common.{refl, sym, [], ◌≡◌, Some}
-use Rattle.resb_format.specs.Content.{content, leaf, list, pairs}
+use Rattle.resb_format.specs.Content.{content_at, leaf, list, entry_list}
 use Rattle.resb_format.specs.Parts.{parts_in}
 use Rattle.resb_walk.specs.Inner.Members.{leaf_tree, members_of, keyed_members}
 use Rattle.resb_walk.specs.Pieces.{array_piece, table_piece}
@@ -17,14 +17,14 @@ returns-in-Some c xs zs h adds =
 pub returns-in-Ok-Leaf : goal.returns-in-Ok-Leaf
 returns-in-Ok-Leaf c xs zs h adds =
     let p = parts_in c.args.self.now.file in
-    let stands : content p c.args.word ≡ Some (leaf (leaf_tree c.in-Ok-Leaf.leaf)) =
+    let stands : content_at p c.args.word ≡ Some (leaf (leaf_tree c.in-Ok-Leaf.leaf)) =
     rw c.in-Ok-Leaf.field-0-is at c.in-Ok-Leaf.ensures.stands in
     rw (leaf_holds p stands h) (refl, c.with_leaf.ensures zs adds)
 
 pub returns-in-Ok-List : goal.returns-in-Ok-List
 returns-in-Ok-List c xs zs h adds =
     let p = parts_in c.args.self.now.file in
-    let stands : content p c.args.word ≡ Some (list (members_of c.in-Ok-List.members)) =
+    let stands : content_at p c.args.word ≡ Some (list (members_of c.in-Ok-List.members)) =
     rw c.in-Ok-List.field-0-is at c.in-Ok-List.ensures.stands in
     let i = list_holds p stands h in (
       array_piece,
@@ -39,7 +39,7 @@ pub returns-in-Ok-Table : goal.returns-in-Ok-Table
 returns-in-Ok-Table c xs zs h adds =
     let p = parts_in c.args.self.now.file in
     let es = keyed_members c.in-Ok-Table.pairs in
-    let stands : content p c.args.word ≡ Some (pairs es) =
+    let stands : content_at p c.args.word ≡ Some (entry_list es) =
     rw c.in-Ok-Table.field-0-is at c.in-Ok-Table.ensures.stands in
     let i = pairs_holds p stands h in (
       table_piece es,

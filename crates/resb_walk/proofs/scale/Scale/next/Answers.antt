@@ -1,9 +1,9 @@
 use Rattle.std.proofs.Common.{refl, subst, [], ◌∷◌, ◌++◌, ap, ◌∙◌, sym, append_assoc, Some}
 use Rattle.std.proofs.Common.{append-nil}
-use Rattle.resb_format.specs.Content.{list, pairs}
+use Rattle.resb_format.specs.Content.{list, entry_list}
 use Rattle.resb_format.specs.Parts.{parts_in}
 use Rattle.resb_walk.specs.Inner.Members.{member_of, members_of, keyed_members}
-use Rattle.resb_walk.specs.Inner.Weighing.{IsEnd, RestHolds}
+use Rattle.resb_walk.specs.Inner.Weighing.{IsEndOf, RestHolds}
 use Rattle.resb_walk.specs.Pieces.{key_piece}
 use Rattle.resb_walk.specs.Sums.{AddsUp}
 use Rattle.resb_walk.proofs.Holding.{each_first, pair_first}
@@ -15,7 +15,7 @@ returns-in_ok-member-in-List c xs zs h adds =
     let ms = members_of c.in-List.members in
     let ns = members_of c.in_ok-member-in-List.later in
     let m = member_of c.in_ok-member-in-List.member in
-    let ends = subst (λ r. IsEnd p r c.args.inner.word) c.in-List.is h.ends in
+    let ends = subst (λ r. IsEndOf p r c.args.inner.word) c.in-List.is h.ends in
     let holds = subst (λ r. RestHolds p r xs) c.in-List.is h.holds in
     let split = c.in_ok-member-in-List.ensures in
     let f = each_first p ms ns m xs split holds in (
@@ -43,7 +43,7 @@ returns-in_ok-position-in-Table c xs zs h adds =
     let fs = keyed_members c.in_ok-position-in-Table.later in
     let place = c.in_ok-position-in-Table.position in
     let m = member_of c.in_ok-position-in-Table.member in
-    let ends = subst (λ r. IsEnd p r c.args.inner.word) c.in-Table.is h.ends in
+    let ends = subst (λ r. IsEndOf p r c.args.inner.word) c.in-Table.is h.ends in
     let holds = subst (λ r. RestHolds p r xs) c.in-Table.is h.holds in
     let split = c.in_ok-position-in-Table.ensures in
     let f = pair_first p es fs place m xs split holds in (
@@ -57,8 +57,8 @@ returns-in_ok-position-in-Table c xs zs h adds =
       record {
         ends = (
           ends.0 ++ (place, m) ∷ [],
-          ends.1 ∙ ap (λ ls. Some (pairs (ends.0 ++ ls))) split
-              ∙ ap (λ ls. Some (pairs ls)) (sym (append_assoc ends.0 ((place, m) ∷ []) fs)),
+          ends.1 ∙ ap (λ ls. Some (entry_list (ends.0 ++ ls))) split
+              ∙ ap (λ ls. Some (entry_list ls)) (sym (append_assoc ends.0 ((place, m) ∷ []) fs)),
         );
         holds = f.6;
       },

@@ -10,7 +10,7 @@ use Rattle.resb_write.specs.Inner.Gathered.{Gathered}
 use Rattle.resb_write.proofs.Gathering.{added, adds_plain, plain_integer, entries_long}
 use Rattle.resb_tree.proofs.ViewLemmas.{entries_len_view}
 use Rattle.std.proofs.Math.Bool.{or-false}
-use Rattle.resb_tree.proofs.WalkOrderLemmas.{items_long}
+use Rattle.resb_tree.proofs.LayingOrderLemmas.{items_long}
 use Rattle.resb_write.proofs.Gathering.{or_none}
 use Rattle.resb_write.proofs.contents.Contents.add.Goals as goal
 

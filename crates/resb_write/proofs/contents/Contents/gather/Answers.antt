@@ -1,8 +1,8 @@
 -- An iteration adds the next resource.
 use Rattle.std.proofs.Common.{◌<◌, length, take, refl, sym, ap, subst, arith}
 use Rattle.resb_pool.specs.Plan.{nows}
-use Rattle.resb_tree.specs.WalkOrder.{trees_in}
-use Rattle.resb_tree.proofs.WalkOrderLemmas.{trees-take}
+use Rattle.resb_tree.specs.LayingOrder.{trees_in}
+use Rattle.resb_tree.proofs.LayingOrderLemmas.{trees-take}
 use Rattle.resb_write.specs.Inner.Gathered.{Gathered}
 use Rattle.resb_write.proofs.contents.Contents.gather.Goals as goal
 

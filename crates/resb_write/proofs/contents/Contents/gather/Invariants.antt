@@ -1,5 +1,5 @@
 use Rattle.std.proofs.Common.{take}
-use Rattle.resb_tree.specs.WalkOrder.{trees_in}
+use Rattle.resb_tree.specs.LayingOrder.{trees_in}
 use Rattle.resb_write.specs.Inner.Gathered.{Gathered}
 use Rattle.resb_write.proofs.contents.Contents.gather.Given as goal
 

@@ -4,7 +4,7 @@ use Rattle.std.proofs.lemmas.Result.{err_from_is_err_and}
 use Rattle.resb_pool.specs.Plan.{nows, at_text}
 use Rattle.indexmap.specs.IndexMap.{keys}
 use Rattle.resb_layout.specs.KeyBlock.{used, position_in}
-use Rattle.resb_layout.specs.Faults.{key_fault}
+use Rattle.resb_layout.specs.TreeFaults.{key_fault}
 use Rattle.resb_write.proofs.Distinct.{fault_same, same_keys}
 use Rattle.resb_write.proofs.Known.{exact, placed, in_turn}
 use Rattle.resb_write.specs.Inner.NearPositions.{near_position_in}

@@ -1,5 +1,5 @@
 use Rattle.std.proofs.Common.{◌+◌, length, refl, arith, inr}
-use Rattle.resb.specs.Tables.{entries_of}
+use Rattle.resb.specs.Tables.{view_entries}
 use Rattle.resb.specs.Places.{place_of}
 use Rattle.resb_zoneinfo.proofs.Whole.{record_refused}
 use Rattle.resb_zoneinfo.proofs.data.ZoneInfo.read.Goals as goal
@@ -9,7 +9,7 @@ returns-in-Ok-clause-read c =
     let (are, paid) = c.in_ok-table.ensures.read in
     let (n, each, later) = c.in-Ok.ensures.read in
     let i = c.in-Ok.info in
-    let es = entries_of c.in_ok-table.table in (
+    let es = view_entries c.in_ok-table.table in (
       1 + length es + n,
       record {
         places = es;
@@ -28,7 +28,7 @@ returns-in-Err-clause-refused c =
     let (are, paid) = c.in_ok-table.ensures.read in
     let (less, lacks) = c.in-Err.ensures.refused in (
       omega (arith, paid, less),
-      record_refused _ _ (place_of c.args.at) (entries_of c.in_ok-table.table) c.args.walk.now _
+      record_refused _ _ (place_of c.args.at) (view_entries c.in_ok-table.table) c.args.walk.now _
           c.in-Err.error are paid lacks,
     )
 
@@ -36,7 +36,7 @@ pub returns-in-Err-clause-says : goal.returns-in-Err-clause-says
 returns-in-Err-clause-says c =
     let (are, paid) = c.in_ok-table.ensures.read in
     inr (record {
-      places = entries_of c.in_ok-table.table;
+      places = view_entries c.in_ok-table.table;
       inside = _;
       are = are;
       paid = paid;

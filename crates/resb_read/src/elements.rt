@@ -2,7 +2,7 @@
 //! An access that goes from one to the next is in `sequences`.
 ghost use Rattle.std.specs.Prelude.{◌≡◌, [], ◌∷◌, length, MatchOption};
 ghost use Rattle.resb_walk.specs.Inner.Members.{member_of};
-ghost use Rattle.resb_read.specs.Inner.Items.{spots_of};
+ghost use Rattle.resb_read.specs.Inner.Elements.{spots_to_come};
 ghost use Rattle.resb_read.specs.Places as places;
 
 use crate::cursor::Spot;
@@ -11,38 +11,38 @@ use resb_walk::{Member, Members};
 
 /// Members that are still to come.
 #[derive(Clone, Copy)]
-pub(crate) enum Items<'de> {
+pub(crate) enum Elements<'de> {
     /// Descriptors, or offsets of strings.
     Members(Members<'de>),
     /// Four bytes for each number.
     Numbers(&'de [u8]),
 }
 
-impl<'de> Items<'de> {
+impl<'de> Elements<'de> {
     /// How many members are still to come.
     #[tactic(auto, using(crate::proofs::Singly::lengths))]
     pub(crate) fn len(self) -> usize
-        ensures { result ≡ length (spots_of self.entry) }
+        ensures { result ≡ length (spots_to_come self.entry) }
     {
         match self {
-            Items::Members(members) => members.len(),
-            Items::Numbers(bytes) => bytes.len() / 4,
+            Elements::Members(members) => members.len(),
+            Elements::Numbers(bytes) => bytes.len() / 4,
         }
     }
 
     /// The first member, and those after it.
-    pub(crate) fn split(self) -> Option<(Spot, Items<'de>)>
-        ensures { MatchOption result (spots_of self.entry ≡ [])
-            (λ r. spots_of self.entry ≡ r.0 ∷ spots_of r.1) }
+    pub(crate) fn split(self) -> Option<(Spot, Elements<'de>)>
+        ensures { MatchOption result (spots_to_come self.entry ≡ [])
+            (λ r. spots_to_come self.entry ≡ r.0 ∷ spots_to_come r.1) }
     {
         match self {
-            Items::Members(members) => {
+            Elements::Members(members) => {
                 let (member, rest) = members.split()?;
-                Some((spot_of(member), Items::Members(rest)))
+                Some((spot_of(member), Elements::Members(rest)))
             }
-            Items::Numbers(bytes) => {
+            Elements::Numbers(bytes) => {
                 let (number, rest) = first_word(bytes)?;
-                Some((Spot::Word(number), Items::Numbers(rest)))
+                Some((Spot::Word(number), Elements::Numbers(rest)))
             }
         }
     }

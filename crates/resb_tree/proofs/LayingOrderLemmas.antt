@@ -1,4 +1,4 @@
--- A resource in walk order: what is inside it, and then itself.
+-- A resource in laying order: what is inside it, and then itself.
 use Rattle.std.proofs.Common.{◌≡◌, ℕ, ◌+◌, ◌<◌, List, [], ◌∷◌, ◌++◌, Bor, map, length, reverse}
 use Rattle.std.proofs.Common.{get_or, take, drop}
 use Rattle.std.proofs.Common.{refl, sym, ◌∙◌, ap, append_assoc, append-nil, arith}
@@ -10,20 +10,21 @@ use Rattle.resb_tree.specs.Tree.{no_trees, more_trees, Entries, no_entries, entr
 use Rattle.resb_tree.specs.Tree.{tree_count, trees_count, entries_count}
 use Rattle.resb_tree.specs.View.{tree_of, items_view, entries_view}
 use Rattle.resb_tree.specs.declared.resource.Resource.{Resource}
-use Rattle.resb_tree.specs.WalkOrder.{members, values_of, children, walk_order, walk_each}
-use Rattle.resb_tree.specs.WalkOrder.{walk_values}
-use Rattle.resb_tree.specs.WalkOrder.{trees_in}
+use Rattle.resb_tree.specs.LayingOrder.{array_members, values_of, children, laying_order}
+use Rattle.resb_tree.specs.LayingOrder.{laying_each}
+use Rattle.resb_tree.specs.LayingOrder.{laying_values}
+use Rattle.resb_tree.specs.LayingOrder.{trees_in}
 use Rattle.std.proofs.lemmas.Grind.{flat_map-append}
 
-each_is : (ts : Trees) → walk_each ts ≡ flat_map walk_order (members ts)
+each_is : (ts : Trees) → laying_each ts ≡ flat_map laying_order (array_members ts)
 each_is no_trees = refl
-each_is (more_trees t ts) = ap (λ l. walk_order t ++ l) (each_is ts)
+each_is (more_trees t ts) = ap (λ l. laying_order t ++ l) (each_is ts)
 
-values_is : (es : Entries) → walk_values es ≡ flat_map walk_order (values_of es)
+values_is : (es : Entries) → laying_values es ≡ flat_map laying_order (values_of es)
 values_is no_entries = refl
-values_is (entry k t es) = ap (λ l. walk_order t ++ l) (values_is es)
+values_is (entry k t es) = ap (λ l. laying_order t ++ l) (values_is es)
 
-pub walk_is : (t : Tree) → walk_order t ≡ flat_map walk_order (children t) ++ t ∷ []
+pub walk_is : (t : Tree) → laying_order t ≡ flat_map laying_order (children t) ++ t ∷ []
 walk_is (string s) = refl
 walk_is (array ts) = ap (λ l. l ++ array ts ∷ []) (each_is ts)
 walk_is (table es) = ap (λ l. l ++ table es ∷ []) (values_is es)
@@ -31,10 +32,10 @@ walk_is (binary s) = refl
 walk_is (integer n) = refl
 walk_is (int_vector s) = refl
 
-members_count : (ts : Trees) → trees_count ts ≡ sum_by tree_count (members ts)
+members_count : (ts : Trees) → trees_count ts ≡ sum_by tree_count (array_members ts)
 members_count no_trees = refl
 members_count (more_trees t ts) =
-    omega (arith, members_count ts, sum_by-cons tree_count t (members ts))
+    omega (arith, members_count ts, sum_by-cons tree_count t (array_members ts))
 
 values_count : (es : Entries) → entries_count es ≡ sum_by tree_count (values_of es)
 values_count no_entries = refl
@@ -55,7 +56,7 @@ count_is (binary s) = omega (arith, none_counted)
 count_is (integer n) = omega (arith, none_counted)
 count_is (int_vector s) = omega (arith, none_counted)
 
-pub members-trees_of : (ts : List Tree) → members (trees_of ts) ≡ ts
+pub members-trees_of : (ts : List Tree) → array_members (trees_of ts) ≡ ts
 members-trees_of [] = refl
 members-trees_of (t ∷ ts) = ap (λ l. t ∷ l) (members-trees_of ts)
 
@@ -66,18 +67,21 @@ trees-push old new r e = ap trees_in e ∙ map_push (λ (x : Bor Resource). tree
 -- a resource is taken off, and what is inside it put on
 pub replaced : (front old new seen seen' : List Tree) (t : Tree) (all : List Tree)
     → old ≡ front ++ t ∷ [] → new ≡ front ++ children t → seen' ≡ seen ++ t ∷ []
-    → flat_map walk_order old ++ reverse seen ≡ all → flat_map walk_order new ++ reverse seen' ≡ all
+    → flat_map laying_order old ++ reverse seen ≡ all
+    → flat_map laying_order new ++ reverse seen' ≡ all
 replaced front old new seen seen' t all e f g h =
-    (λ i. flat_map walk_order (f i) ++ reverse (g i))
-    ∙ (λ i. flat_map-append walk_order front (children t) i ++ reverse-append seen (t ∷ []) i)
-    ∙ append_assoc (flat_map walk_order front) (flat_map walk_order (children t)) (t ∷ reverse seen)
-    ∙ ap (λ l. flat_map walk_order front ++ l)
-    (sym (append_assoc (flat_map walk_order (children t)) (t ∷ []) (reverse seen)))
-    ∙ ap (λ l. flat_map walk_order front ++ (l ++ reverse seen)) (sym (walk_is t))
-    ∙ sym (append_assoc (flat_map walk_order front) (walk_order t) (reverse seen))
-    ∙ ap (λ l. (flat_map walk_order front ++ l) ++ reverse seen) (sym (append-nil (walk_order t)))
-    ∙ ap (λ l. l ++ reverse seen) (sym (flat_map-append walk_order front (t ∷ [])))
-    ∙ ap (λ l. flat_map walk_order l ++ reverse seen) (sym e)
+    (λ i. flat_map laying_order (f i) ++ reverse (g i))
+    ∙ (λ i. flat_map-append laying_order front (children t) i ++ reverse-append seen (t ∷ []) i)
+    ∙ append_assoc (flat_map laying_order front) (flat_map laying_order (children t)) (t
+    ∷ reverse seen)
+    ∙ ap (λ l. flat_map laying_order front ++ l)
+    (sym (append_assoc (flat_map laying_order (children t)) (t ∷ []) (reverse seen)))
+    ∙ ap (λ l. flat_map laying_order front ++ (l ++ reverse seen)) (sym (walk_is t))
+    ∙ sym (append_assoc (flat_map laying_order front) (laying_order t) (reverse seen))
+    ∙ ap (λ l. (flat_map laying_order front ++ l)
+    ++ reverse seen) (sym (append-nil (laying_order t)))
+    ∙ ap (λ l. l ++ reverse seen) (sym (flat_map-append laying_order front (t ∷ [])))
+    ∙ ap (λ l. flat_map laying_order l ++ reverse seen) (sym e)
     ∙ h
 
 pub replaced_counts : (front old new : List Tree) (t : Tree) → old ≡ front ++ t ∷ []
@@ -108,7 +112,7 @@ trees-reverse (r ∷ rs) =
     ∙ sym (reverse-append (tree_of r.now ∷ []) (trees_in rs))
 
 -- an array has as many members as it had resources
-pub items_long : (rs : List Resource) → length rs ≡ length (members (items_view rs))
+pub items_long : (rs : List Resource) → length rs ≡ length (array_members (items_view rs))
 items_long [] = refl
 items_long (r ∷ rs) = omega (arith, items_long rs)
 
@@ -124,3 +128,8 @@ module _ (rs : List (Bor Resource)) (i : ℕ) (r : Bor Resource) (at : r ≡ get
   pub trees-take : trees_in (take (i + 1) rs) ≡ trees_in (take i rs) ++ tree_of r.now ∷ []
   trees-take = map_more (λ (x : Bor Resource). tree_of x.now) rs i r h
       ∙ ap (λ (x : Bor Resource). trees_in (take i rs) ++ tree_of x.now ∷ []) (sym at)
+
+-- the members of an array, put together again
+pub trees_of-array_members : (ts : Trees) → trees_of (array_members ts) ≡ ts
+trees_of-array_members no_trees = refl
+trees_of-array_members (more_trees t ts) = ap (more_trees t) (trees_of-array_members ts)

@@ -13,9 +13,9 @@ use Rattle.resb_walk.specs.Refusals.{Refuses, TakesOne}
 use Rattle.resb_read.specs.Places.{Place}
 use Rattle.resb_read.specs.Reading.{LacksOrMemory}
 use Rattle.resb_read.specs.Spots.{cost_at}
-use Rattle.resb_read.specs.Refused.{number_refusal, bool_refusal, bits_refusal, text_refusal}
-use Rattle.resb_read.specs.Refused.{key_refusal, bytes_refusal, view_refusal, members_refusal}
-use Rattle.resb_read.specs.Refused.{entries_refusal}
+use Rattle.resb_read.specs.PlaceRefusals.{number_refusal, bool_refusal, bits_refusal, text_refusal}
+use Rattle.resb_read.specs.PlaceRefusals.{key_refusal, bytes_refusal, view_refusal, members_refusal}
+use Rattle.resb_read.specs.PlaceRefusals.{entries_refusal}
 use Rattle.resb_read.specs.Resources.{DenPlace, ReachesPlace, MeetsPlace}
 use Rattle.resb_read.specs.Sequences.{members_at, entries_at, CountsEach, CountsPairs}
 use Rattle.resb_read.specs.declared.cursor.Spot.{Spot}

@@ -1,7 +1,7 @@
 -- The order in which a tree's resources are laid: members in order, a table's by their keys, each
 -- before its collection.
 --     children t              the resources right inside t
---     walk_order t            all resources of t
+--     laying_order t          all resources of t
 --     texts_of t              the texts of its strings, as often as each stands there
 --     keys_of t               the keys of its tables, as often as each stands there
 --     trees_in rs             resources as trees
@@ -14,9 +14,9 @@ use Rattle.resb_tree.specs.View.{tree_of}
 use Rattle.resb_tree.specs.declared.resource.Resource.{Resource}
 
 -- the members of an array, in their order
-abbrev pub members : Trees → List Tree
-members no_trees = []
-members (more_trees t ts) = t ∷ members ts
+abbrev pub array_members : Trees → List Tree
+array_members no_trees = []
+array_members (more_trees t ts) = t ∷ array_members ts
 
 -- the values of a table, in the order of its keys
 abbrev pub values_of : Entries → List Tree
@@ -26,7 +26,7 @@ values_of (entry k t es) = t ∷ values_of es
 -- the trees right inside a tree
 abbrev pub children : Tree → List Tree
 children (string s) = []
-children (array ts) = members ts
+children (array ts) = array_members ts
 children (table es) = values_of es
 children (binary s) = []
 children (integer n) = []
@@ -34,32 +34,32 @@ children (int_vector s) = []
 
 abbrev mutual
   -- the resources of a tree, members before their collection
-  pub walk_order : Tree → List Tree
-  walk_order (string s) = string s ∷ []
-  walk_order (array ts) = walk_each ts ++ array ts ∷ []
-  walk_order (table es) = walk_values es ++ table es ∷ []
-  walk_order (binary s) = binary s ∷ []
-  walk_order (integer n) = integer n ∷ []
-  walk_order (int_vector s) = int_vector s ∷ []
+  pub laying_order : Tree → List Tree
+  laying_order (string s) = string s ∷ []
+  laying_order (array ts) = laying_each ts ++ array ts ∷ []
+  laying_order (table es) = laying_values es ++ table es ∷ []
+  laying_order (binary s) = binary s ∷ []
+  laying_order (integer n) = integer n ∷ []
+  laying_order (int_vector s) = int_vector s ∷ []
 
   -- the resources of trees, one tree after another
-  pub walk_each : Trees → List Tree
-  walk_each no_trees = []
-  walk_each (more_trees t ts) = walk_order t ++ walk_each ts
+  pub laying_each : Trees → List Tree
+  laying_each no_trees = []
+  laying_each (more_trees t ts) = laying_order t ++ laying_each ts
 
   -- the resources of the trees of entries, one after another
-  pub walk_values : Entries → List Tree
-  walk_values no_entries = []
-  walk_values (entry k t es) = walk_order t ++ walk_values es
+  pub laying_values : Entries → List Tree
+  laying_values no_entries = []
+  laying_values (entry k t es) = laying_order t ++ laying_values es
 
 -- the text of a string; nothing of any other tree
 abbrev pub text_in : Tree → List (List ℕ)
 text_in (string s) = s ∷ []
 text_in _ = []
 
--- the texts of a tree's strings in walk order, as often as each stands there
+-- the texts of a tree's strings in laying order, as often as each stands there
 abbrev pub texts_of : Tree → List (List ℕ)
-texts_of t = flat_map text_in (walk_order t)
+texts_of t = flat_map text_in (laying_order t)
 
 -- the keys of entries, in their order
 abbrev pub entry_keys : Entries → List (List ℕ)
@@ -71,9 +71,9 @@ abbrev pub own_keys : Tree → List (List ℕ)
 own_keys (table es) = entry_keys es
 own_keys _ = []
 
--- the keys of a tree's tables in walk order, as often as each stands there
+-- the keys of a tree's tables in laying order, as often as each stands there
 abbrev pub keys_of : Tree → List (List ℕ)
-keys_of t = flat_map own_keys (walk_order t)
+keys_of t = flat_map own_keys (laying_order t)
 
 -- the trees that resources stand for, in their order
 abbrev pub trees_in : List (Bor Resource) → List Tree

@@ -1,8 +1,8 @@
 -- The code's names of the types of groups.
 use Rattle.resb_grammar.specs.GroupTypes.{Kind, string_kind, array_kind, table_kind, binary_kind}
 use Rattle.resb_grammar.specs.GroupTypes.{integer_kind, vector_kind}
-use Rattle.resb_text.specs.declared.types.Kind as code
-use Rattle.resb_text.specs.declared.types.Kind.TheVariants as names
+use Rattle.resb_grammar.specs.declared.group_kind.Kind as code
+use Rattle.resb_grammar.specs.declared.group_kind.Kind.TheVariants as names
 
 -- the type that the code names so
 abbrev pub group_kind_of : code.Kind → Kind

@@ -4,15 +4,15 @@ use Rattle.std.specs.Prelude.{ℕ, List, ◌++◌, codes}
 use Rattle.std.specs.Fmt.{decimal}
 
 -- a string too long, something that can't be written, a limit passed, or want of memory
-pub data Fault : Type 0 where
+pub data WritingFault : Type 0 where
   -- a string of so many 16-bit units
-  string_too_long : ℕ → Fault
-  unexpected : List ℕ → Fault
-  limit : List ℕ → Fault
-  out_of_memory : Fault
+  string_too_long : ℕ → WritingFault
+  unexpected : List ℕ → WritingFault
+  limit : List ℕ → WritingFault
+  out_of_memory : WritingFault
 
 -- what each fault prints
-abbrev pub message_of : Fault → List ℕ
+abbrev pub message_of : WritingFault → List ℕ
 message_of (string_too_long n) =
     codes "Cannot serialize string of length " ++
     (decimal n ++ codes ", maximum is 4,294,967,295 characters")

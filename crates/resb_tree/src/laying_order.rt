@@ -2,35 +2,35 @@
 //! What is laid for each is not said here. No function calls itself, so that any depth is walked.
 ghost use Rattle.std.specs.Prelude.{◌≡◌, ◌++◌, [], map, reverse, IfOk, OnOk};
 ghost use Rattle.resb_tree.specs.View.{tree_of};
-ghost use Rattle.resb_tree.specs.WalkOrder.{walk_order, children, trees_in};
+ghost use Rattle.resb_tree.specs.LayingOrder.{laying_order, children, trees_in};
 
 use crate::resource::{Resource, Table};
 use std::alloc::{AllocError, Global};
 
-/// The resources of a tree in walk order: members before their collection.
-pub type WalkOrder<'t, 'a> = Vec<&'t Resource<'a>>;
+/// The resources of a tree in laying order: members before their collection.
+pub type LayingOrder<'t, 'a> = Vec<&'t Resource<'a>>;
 
-/// The resources of a tree in walk order.
-pub fn in_walk_order<'t, 'a>(
+/// The resources of a tree in laying order.
+pub fn in_laying_order<'t, 'a>(
     alloc: Global,
     root: &'t Resource<'a>,
-) -> Result<WalkOrder<'t, 'a>, AllocError>
-    ensures { IfOk result (λ v. trees_in v.items ≡ walk_order (tree_of root.now)) }
+) -> Result<LayingOrder<'t, 'a>, AllocError>
+    ensures { IfOk result (λ v. trees_in v.items ≡ laying_order (tree_of root.now)) }
 {
     let mut order = Vec::new(alloc);
-    push_walk(alloc, &mut order, root)?;
+    push_laid(alloc, &mut order, root)?;
     order.reverse();
     Ok(order)
 }
 
 /// Appends the resources of a tree, each behind its collection, to none.
-fn push_walk<'t, 'a>(
+fn push_laid<'t, 'a>(
     alloc: Global,
-    order: &mut WalkOrder<'t, 'a>,
+    order: &mut LayingOrder<'t, 'a>,
     root: &'t Resource<'a>,
 ) -> Result<(), AllocError>
     requires { order.old.items ≡ [] }
-    ensures { OnOk result (reverse (trees_in order.new.items) ≡ walk_order (tree_of root.now)) }
+    ensures { OnOk result (reverse (trees_in order.new.items) ≡ laying_order (tree_of root.now)) }
 {
     let mut pending = Vec::new(alloc);
     pending.push(root)?;

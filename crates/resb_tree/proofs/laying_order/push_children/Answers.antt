@@ -3,9 +3,9 @@ use Rattle.std.proofs.lemmas.Result.{on_ok_weaker}
 use Rattle.resb_tree.specs.Tree.{array, table}
 use Rattle.resb_tree.specs.View.{tree_of, items_view, entries_view}
 use Rattle.resb_tree.specs.declared.resource.Resource.{the_lemmas}
-use Rattle.resb_tree.specs.WalkOrder.{children, trees_in}
-use Rattle.resb_tree.proofs.WalkOrderLemmas.{members-trees_of, values_view}
-use Rattle.resb_tree.proofs.walk_order.push_children.Goals as goal
+use Rattle.resb_tree.specs.LayingOrder.{children, trees_in}
+use Rattle.resb_tree.proofs.LayingOrderLemmas.{members-trees_of, values_view}
+use Rattle.resb_tree.proofs.laying_order.push_children.Goals as goal
 
 pub returns-in-Array : goal.returns-in-Array
 returns-in-Array c =

@@ -6,11 +6,12 @@ use Rattle.std.specs.Prelude.{Option, Some, None, option_map, unwrap_or, if◌th
 use Rattle.std.specs.List.{list_any}
 use Rattle.std.specs.Option.{is_none}
 use Rattle.resb_tree.specs.Tree.{Tree, array, binary, int_vector}
-use Rattle.resb_layout.specs.Fault.{Fault, string_too_long, unexpected, limit, out_of_memory}
+use Rattle.resb_layout.specs.WritingFault.{WritingFault, string_too_long, unexpected, limit}
+use Rattle.resb_layout.specs.WritingFault.{out_of_memory}
 use Rattle.resb_pool.specs.Plan.{first_too_long}
-use Rattle.resb_tree.specs.WalkOrder.{walk_order, members, texts_of}
+use Rattle.resb_tree.specs.LayingOrder.{laying_order, array_members, texts_of}
 use Rattle.resb_layout.specs.KeyBlock.{used, position_in}
-use Rattle.resb_tree.specs.WalkOrder.{keys_of}
+use Rattle.resb_tree.specs.LayingOrder.{keys_of}
 use Rattle.resb_layout.specs.PlainSize.{plain_size}
 
 -- the text holds U+0000, which alone has a byte 0
@@ -26,7 +27,7 @@ abbrev pub is_far : List (List ℕ) → List ℕ → Bool
 is_far js k = nat_lt 2147483647 (unwrap_or (position_in js k) 0)
 
 -- of used keys us, and of those that are listed
-abbrev pub key_fault : List (List ℕ) → List (List ℕ) → Option Fault
+abbrev pub key_fault : List (List ℕ) → List (List ℕ) → Option WritingFault
 key_fault us js =
     if list_any (is_unlisted js) us then Some (unexpected (codes "key not present in position map"))
     else if list_any has_nul us then Some (unexpected (codes "key contains U+0000"))
@@ -35,31 +36,31 @@ key_fault us js =
 
 -- an array, binary or vector whose count doesn't fit 32 bits
 abbrev pub is_over_32_bits : Tree → Bool
-is_over_32_bits (array ts) = nat_lt 4294967295 (length (members ts))
+is_over_32_bits (array ts) = nat_lt 4294967295 (length (array_members ts))
 is_over_32_bits (binary bytes) = nat_lt 4294967295 (length bytes)
 is_over_32_bits (int_vector ns) = nat_lt 4294967295 (length ns)
 is_over_32_bits _ = false
 
 -- the fault of trees of which one has a count over 32 bits
-abbrev pub count_fault : List Tree → Option Fault
+abbrev pub count_fault : List Tree → Option WritingFault
 count_fault ts = if list_any is_over_32_bits ts then Some (limit (codes "count over 32 bits")) else
     None
 
 -- the first of two faults
-abbrev pub first_of : Option Fault → Option Fault → Option Fault
+abbrev pub first_of : Option WritingFault → Option WritingFault → Option WritingFault
 first_of (Some f) later = Some f
 first_of None later = later
 
 -- the first fault of a tree and a list of keys: of its keys, of a string's length, of a count
-abbrev pub tree_fault : Tree → List (List ℕ) → Option Fault
+abbrev pub tree_fault : Tree → List (List ℕ) → Option WritingFault
 tree_fault t ks =
     first_of (key_fault (keys_of t) (used (keys_of t) ks))
-    (first_of (option_map string_too_long (first_too_long (texts_of t))) (count_fault (walk_order
+    (first_of (option_map string_too_long (first_too_long (texts_of t))) (count_fault (laying_order
     t)))
 
 -- want of memory, the first fault, or a plain size of 2^28 and more where there is no fault
-pub data RefusesWriting (t : Tree) (ks : List (List ℕ)) : Fault → Type 0 where
+pub data RefusesWriting (t : Tree) (ks : List (List ℕ)) : WritingFault → Type 0 where
   no_memory : RefusesWriting t ks out_of_memory
-  at_the_first : {f : Fault} → tree_fault t ks ≡ Some f → RefusesWriting t ks f
+  at_the_first : {f : WritingFault} → tree_fault t ks ≡ Some f → RefusesWriting t ks f
   too_large : tree_fault t ks ≡ None → 2 ^ 28 ≤ plain_size t ks
       → RefusesWriting t ks (limit (codes "file too large"))

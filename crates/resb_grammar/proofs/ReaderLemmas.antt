@@ -1,0 +1,61 @@
+-- What the proofs of both readers of texts and of the printer need beside the grammar.
+use Rattle.std.proofs.Common.{◌≡◌, ◌≢◌, ℕ, suc, ◌+◌, ◌*◌, ◌-◌, ◌<◌, ◌≤◌, arith, true, List}
+use Rattle.std.proofs.Common.{[]}
+use Rattle.std.proofs.Common.{◌∷◌, length, get_or, drop, refl, sym, ◌∙◌, ap, subst, Option, Some}
+use Rattle.std.proofs.Common.{None, add-one, drop-cons}
+use Rattle.std.proofs.lemmas.Bool.{false≢true}
+use Rattle.std.proofs.lemmas.List.{length-take}
+use Rattle.std.specs.Prelude.{◌↔◌, slice_get, slice_index, slice_range, IfNone}
+use Rattle.resb_grammar.specs.Ascii as ascii
+use Rattle.resb_grammar.specs.Lexical.{digits_value}
+use Rattle.resb_grammar.specs.GroupTypes.{table_kind, Stands}
+use Rattle.resb_grammar.specs.Items.{Item, is_pairs, shape_of, a_table, table_if}
+use Rattle.resb_grammar.specs.Kinds.{group_kind_of}
+use Rattle.resb_grammar.specs.declared.group_kind.Kind as code
+use Rattle.resb_grammar.specs.declared.group_kind.Kind.TheVariants as names
+
+-- where nothing is found, what follows from the reason
+pub if_none : (o : Option ℕ) (P Q : Type 0) → (P → Q) → IfNone o P → IfNone o Q
+if_none None P Q f h = f h
+if_none (Some x) P Q f h = h
+
+-- one byte more of those that stand here
+pub stands_next : (text xs : List ℕ) (here i b : ℕ) (Q : Type 0) → i < length xs → get_or xs i 0 ≡ b
+    → slice_get text here ≡ Some b → (Stands text here (drop i xs) ↔ Q)
+    → (Stands text (here + 1) (drop (i + 1) xs) ↔ Q)
+stands_next text xs here i b Q low is there h =
+    let e : drop i xs ≡ b ∷ drop (i + 1) xs = drop-cons xs i 0 low
+    ∙ ap (λ n. n ∷ drop (suc i) xs) is ∙ ap (λ n. b ∷ drop n xs) (sym (add-one i)) in
+    let k : Stands text here (b ∷ drop (i + 1) xs) ↔ Q = subst
+    (λ (ys : List ℕ). Stands text here ys ↔ Q) e h in
+    (λ s. k.0 (there, s), λ q. (k.1 q).1)
+
+-- the code's names differ where the types do
+pub not_table : (k : code.Kind) → (k ≡ names.Table → ⊥) → group_kind_of k ≢ table_kind
+not_table names.Table h e = h refl
+not_table names.String h e = absurd cc
+not_table names.Array h e = absurd cc
+not_table names.Binary h e = absurd cc
+not_table names.Integer h e = absurd cc
+not_table names.IntVector h e = absurd cc
+
+-- the number that one digit more says
+pub digits_value-suc : (text : List ℕ) (from at n m : ℕ) → at ≡ from + n → m ≡ suc n
+    → digits_value text from m ≡ digits_value text from n * 10 +
+    (slice_index text at - ascii.digit_0)
+digits_value-suc text from at n m e e' =
+    subst (λ k. digits_value text from k ≡ digits_value text from n * 10 +
+    (slice_index text at - ascii.digit_0)) (sym e')
+    (ap (λ k. digits_value text from n * 10 + (slice_index text k - ascii.digit_0)) (sym e))
+
+-- a part of a text is no longer than its places are apart
+pub length-slice_range : (text : List ℕ) (from to : ℕ)
+    → length (slice_range text from to) ≤ to - from
+length-slice_range text from to =
+    let e = length-take (to - from) (drop from text) in omega (arith, e)
+
+-- keys and groups in turn are a table
+pub pairs_are_table : (xs : List Item) → is_pairs xs ≡ true → shape_of xs ≡ a_table
+pairs_are_table [] e = refl
+pairs_are_table (x ∷ []) e = absurd (false≢true e)
+pairs_are_table (x ∷ y ∷ xs) e = ap table_if e

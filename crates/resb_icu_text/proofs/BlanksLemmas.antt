@@ -7,10 +7,6 @@ use Rattle.resb_grammar.specs.Lexical.{FirstCloser}
 use Rattle.resb_icu_grammar.specs.Blanks.{LineRest, Comment, line, block, Blanks, none, white}
 use Rattle.resb_icu_grammar.specs.Blanks.{comment, Skip}
 
-pub if_none : (o : Option ℕ) (P Q : Type 0) → (P → Q) → IfNone o P → IfNone o Q
-if_none None P Q f h = f h
-if_none (Some x) P Q f h = h
-
 pub if_some : (o : Option ℕ) (P Q : ℕ → Type 0) → ((x : ℕ) → P x → Q x) → IfSome o P → IfSome o Q
 if_some None P Q f h = h
 if_some (Some x) P Q f h = f x h

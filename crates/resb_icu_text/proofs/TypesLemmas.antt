@@ -1,27 +1,13 @@
 -- Laws of types of groups and of the root, as the reader's functions use them.
 use Rattle.std.proofs.Common.{◌≡◌, ◌≢◌, ℕ, suc, ◌+◌, ◌<◌, ◌≤◌, Bool, true, false, List, ◌∷◌}
-use Rattle.std.proofs.Common.{arith, length, get_or, drop, refl, sym, ◌∙◌, ap, subst, Some, add-one}
+use Rattle.std.proofs.Common.{arith, length, get_or, drop, refl, sym, ◌∙◌, ap, subst, Some}
 use Rattle.std.proofs.Common.{drop-cons}
-use Rattle.std.specs.Prelude.{◌↔◌, slice_get, slice_index, codes}
+use Rattle.std.specs.Prelude.{slice_get, slice_index, codes}
 use Rattle.std.proofs.lemmas.Option.{slice_get_within, slice_get-get_or, same_Some}
 use Rattle.resb_grammar.specs.GroupTypes.{Kind, table_kind, Stands, NoFallback}
 use Rattle.resb_icu_grammar.specs.Words.{Word, TypeName, GroupType, RootType, table_type}
 use Rattle.resb_icu_grammar.specs.Words.{no_fallback_type}
 use Rattle.resb_icu_grammar.proofs.Lexical.{GroupType-one}
-use Rattle.resb_icu_text.specs.Kinds.{kind_of}
-use Rattle.resb_icu_text.specs.declared.types.Kind as code
-use Rattle.resb_icu_text.specs.declared.types.Kind.TheVariants as names
-
--- one byte more of those that stand here
-pub stands_next : (text xs : List ℕ) (here i b : ℕ) (Q : Type 0) → i < length xs → get_or xs i 0 ≡ b
-    → slice_get text here ≡ Some b → (Stands text here (drop i xs) ↔ Q)
-    → (Stands text (here + 1) (drop (i + 1) xs) ↔ Q)
-stands_next text xs here i b Q low is there h =
-    let e : drop i xs ≡ b ∷ drop (i + 1) xs = drop-cons xs i 0 low
-    ∙ ap (λ n. n ∷ drop (suc i) xs) is ∙ ap (λ n. b ∷ drop n xs) (sym (add-one i)) in
-    let k : Stands text here (b ∷ drop (i + 1) xs) ↔ Q = subst
-    (λ (ys : List ℕ). Stands text here ys ↔ Q) e h in
-    (λ s. k.0 (there, s), λ q. (k.1 q).1)
 
 -- where the byte is another, the bytes do not stand
 pub not_there : (text xs : List ℕ) (here i : ℕ) → i < length xs
@@ -84,12 +70,3 @@ module _ (text : List ℕ) (at : ℕ) where
   other_root i kind g ne to fallback r =
       let h = root_group to fallback r in
       ne (GroupType-one text at i h.0 kind table_kind g h.1).1
-
--- the code's names differ where the types do
-pub not_table : (k : code.Kind) → (k ≡ names.Table → ⊥) → kind_of k ≢ table_kind
-not_table names.Table h e = h refl
-not_table names.String h e = absurd cc
-not_table names.Array h e = absurd cc
-not_table names.Binary h e = absurd cc
-not_table names.Integer h e = absurd cc
-not_table names.IntVector h e = absurd cc

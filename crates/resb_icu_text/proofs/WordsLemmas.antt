@@ -1,6 +1,6 @@
 -- Laws of words and numbers, as the reader's functions use them.
-use Rattle.std.proofs.Common.{◌≡◌, ◌≢◌, ℕ, suc, ◌+◌, ◌-◌, ◌*◌, ◌<◌, ◌≤◌, min, true, List}
-use Rattle.std.proofs.Common.{arith, subst, sym, ap, ◌∙◌, get_or}
+use Rattle.std.proofs.Common.{◌≡◌, ◌≢◌, ℕ, ◌+◌, ◌-◌, ◌*◌, ◌<◌, ◌≤◌, min, true, List}
+use Rattle.std.proofs.Common.{arith, subst, sym, ◌∙◌, get_or}
 use Rattle.std.specs.Prelude.{Option, Some, None, IfNone, slice_index}
 use Rattle.std.proofs.lemmas.Bool.Decides.{nat_tests}
 use Rattle.std.proofs.lemmas.Str.{IsCharBoundary-after_ascii}
@@ -16,18 +16,11 @@ use Rattle.resb_icu_grammar.specs.Words.{Digits, Number}
 use Rattle.resb_icu_grammar.specs.Words as words
 use Rattle.resb_icu_grammar.proofs.Lexical.{digit_first}
 use Rattle.resb_icu_text.specs.Inner.Numbers.{Signed, unsigned, plus, minus}
+use Rattle.resb_grammar.proofs.ReaderLemmas.{digits_value-suc}
 
 pub if_none_by : {A : Type 0} (o : Option A) (P : Type 0) → P → IfNone o P
 if_none_by None P p = p
 if_none_by (Some x) P p = tt
-
-decimal_suc : (text : List ℕ) (from at n m : ℕ) → at ≡ from + n → m ≡ suc n
-    → digits_value text from m ≡ digits_value text from n * 10 +
-    (slice_index text at - ascii.digit_0)
-decimal_suc text from at n m e e' =
-    subst (λ k. digits_value text from k ≡ digits_value text from n * 10 +
-    (slice_index text at - ascii.digit_0)) (sym e')
-    (ap (λ k. digits_value text from n * 10 + (slice_index text k - ascii.digit_0)) (sym e))
 
 -- one more digit
 pub decimal_more : (text : List ℕ) (from at value b next : ℕ) → b ≡ slice_index text at
@@ -36,7 +29,7 @@ pub decimal_more : (text : List ℕ) (from at value b next : ℕ) → b ≡ slic
     → next ≡ min (digits_value text from (at + 1 - from)) 4294967296
 decimal_more text from at value b next h order is more =
     let d : digits_value text from (at + 1 - from) ≡ digits_value text from (at - from) * 10 +
-    (slice_index text at - ascii.digit_0) = decimal_suc text from at (at - from) (at + 1 - from)
+    (slice_index text at - ascii.digit_0) = digits_value-suc text from at (at - from) (at + 1 - from)
     (omega arith) (omega arith) in
     omega (arith, d, h, is, more)
 

@@ -7,7 +7,7 @@ ghost use Rattle.resb_grammar.specs.Ascii as ascii;
 ghost use Rattle.resb_grammar.specs.GroupTypes.{string_kind, binary_kind, integer_kind};
 ghost use Rattle.resb_grammar.specs.GroupTypes.{vector_kind, array_kind, table_kind};
 ghost use Rattle.resb_tree.specs.View.{tree_of};
-ghost use Rattle.resb_icu_text.specs.Kinds.{kind_of};
+ghost use Rattle.resb_grammar.specs.Kinds.{group_kind_of};
 ghost use Rattle.resb_icu_text.specs.Lexemes.{bytes_said};
 ghost use Rattle.resb_icu_text.specs.Inner.Leaf.{Refuses, Leaf, SomeLeaf, Vector, SomeVector};
 ghost use Rattle.resb_icu_text.specs.Inner.Leaf.{IsBehindNumber};
@@ -18,9 +18,8 @@ use crate::error::IcuTextError;
 use crate::expected::IcuExpected;
 use crate::strings::{Said, string};
 use crate::turns::IcuTurns;
-use crate::types::Kind;
 use crate::words::number;
-use resb_grammar::bytes_of_hex;
+use resb_grammar::{Kind, bytes_of_hex};
 use resb_tree::{Int28, Resource};
 use std::alloc::Global;
 use std::borrow::{CowSlice, CowStr};
@@ -205,8 +204,8 @@ pub(crate) fn leaf<'a>(
     turns: &mut IcuTurns,
 ) -> Result<(usize, Resource<'a>), IcuTextError>
     requires within { at ≤ length text.now }
-    ensures ok { IfOk result (λ r. Leaf text.now at (kind_of kind) r.0 (tree_of r.1)) }
-    ensures err { IfErr result (Refuses (SomeLeaf text.now at (kind_of kind))) }
+    ensures ok { IfOk result (λ r. Leaf text.now at (group_kind_of kind) r.0 (tree_of r.1)) }
+    ensures err { IfErr result (Refuses (SomeLeaf text.now at (group_kind_of kind))) }
     ensures within { IfOk result (λ r. (at ≤ r.0) × (r.0 < length text.now)) }
     ensures cost { IfOk result (λ r. turns.new.count + 8 * reach text.now at
         ≤ turns.old.count + 8 * r.0) }

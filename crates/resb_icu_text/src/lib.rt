@@ -25,5 +25,5 @@ pub use expected::IcuExpected;
 pub use reader::IcuReader;
 pub use strings::{Lexeme, Said, string};
 pub use turns::IcuTurns;
-pub use types::{Kind, group_type, root_type};
+pub use types::{group_type, root_type};
 pub use words::number;

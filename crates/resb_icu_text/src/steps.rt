@@ -8,7 +8,7 @@ ghost use Rattle.resb_tree.specs.View.{tree_of, pairs_view, entries_view};
 ghost use Rattle.resb_icu_grammar.specs.Groups as spec;
 ghost use Rattle.resb_icu_grammar.specs.Words.{KeyText};
 ghost use Rattle.resb_icu_grammar.specs.Inner.Rest.{AreDistinct};
-ghost use Rattle.resb_icu_text.specs.Kinds.{kind_of};
+ghost use Rattle.resb_grammar.specs.Kinds.{group_kind_of};
 ghost use Rattle.resb_icu_text.specs.Inner.Steps.{last_of, Steps, Stops, Goes};
 ghost use Rattle.resb_icu_text.specs.Inner.Steps.{MembersThere, EntriesThere, GroupThere};
 ghost use Rattle.resb_icu_text.specs.Inner.Steps.{UntypedThere, TypedThere, EndedThere};
@@ -21,7 +21,8 @@ use crate::expected::IcuExpected;
 use crate::leaf::{leaf, text_of};
 use crate::strings::string;
 use crate::turns::IcuTurns;
-use crate::types::{Kind, group_type};
+use crate::types::group_type;
+use resb_grammar::Kind;
 use resb_tree::{Key, NoMemory, Resource, Table, table_at_once};
 use std::alloc::Global;
 
@@ -298,8 +299,8 @@ fn content<'a>(
     turns: &mut IcuTurns,
 ) -> Result<Step<'a>, IcuTextError>
     requires within { at ≤ length text.now }
-    ensures ok { IfOk result (Steps text.now (TypedThere text.now (kind_of kind) at)) }
-    ensures err { IfErr result (Stops (TypedThere text.now (kind_of kind) at)) }
+    ensures ok { IfOk result (Steps text.now (TypedThere text.now (group_kind_of kind) at)) }
+    ensures err { IfErr result (Stops (TypedThere text.now (group_kind_of kind) at)) }
     ensures goes { IfOk result (Goes text.now (3 * at)) }
     ensures cost { IfOk result (λ s. turns.new.count + 8 * reach text.now at
         ≤ turns.old.count + spent text.now s) }

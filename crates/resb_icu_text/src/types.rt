@@ -1,55 +1,23 @@
-//! The types that a group or the root may name, and where such a name stands in the text.
+//! Where the name of the type of a group or of the root stands in the text.
 //! What a type asks of a group's content is not said here.
 ghost use Rattle.std.specs.Prelude.{◌≡◌, ℕ, ◌+◌, ◌≤◌, ◌<◌, ◌↔◌, Bool, IsTrue, length};
 ghost use Rattle.std.specs.Prelude.{slice_index, IfSome, IfNone};
 ghost use Rattle.resb_grammar.specs.Ascii as ascii;
 ghost use Rattle.resb_grammar.specs.GroupTypes as spec;
-ghost use Rattle.resb_grammar.specs.GroupTypes.{Names, Stands};
+ghost use Rattle.resb_grammar.specs.GroupTypes.{Stands};
 ghost use Rattle.resb_icu_grammar.specs.Words.{GroupType, RootType};
-ghost use Rattle.resb_icu_text.specs.Kinds.{kind_of};
+ghost use Rattle.resb_grammar.specs.Kinds.{group_kind_of};
 
 use crate::turns::IcuTurns;
 use crate::words::word;
-
-/// The types that a group may name.
-#[derive(Clone, Copy, Debug, PartialEq, Eq)]
-pub enum Kind {
-    /// `string`.
-    String,
-    /// `array`.
-    Array,
-    /// `table`.
-    Table,
-    /// `binary` or `bin`.
-    Binary,
-    /// `integer` or `int`.
-    Integer,
-    /// `intvector`.
-    IntVector,
-}
-
-/// The type that the word names, if it names one.
-fn kind_named(word: &str) -> Option<Kind>
-    ensures found { IfSome result (λ kind. Names word.now (kind_of kind)) }
-    ensures none { IfNone result ((kind : spec.Kind) → Names word.now kind → ⊥) }
-{
-    match word {
-        "string" => Some(Kind::String),
-        "array" => Some(Kind::Array),
-        "table" => Some(Kind::Table),
-        "binary" | "bin" => Some(Kind::Binary),
-        "integer" | "int" => Some(Kind::Integer),
-        "intvector" => Some(Kind::IntVector),
-        _ => None,
-    }
-}
+use resb_grammar::{Kind, kind_named};
 
 /// The type whose `:` stands here and the place behind it, if a type stands here. Counts a turn for
 /// each byte up to there, and one for that place.
 pub fn group_type(text: &str, at: usize, turns: &mut IcuTurns) -> Option<(usize, Kind)>
     requires within { at < length text.now }
     requires colon { slice_index text.now at ≡ ascii.colon }
-    ensures found { IfSome result (λ r. GroupType text.now at r.0 (kind_of r.1)) }
+    ensures found { IfSome result (λ r. GroupType text.now at r.0 (group_kind_of r.1)) }
     ensures none { IfNone result ((to : ℕ) (k : spec.Kind) → GroupType text.now at to k → ⊥) }
     ensures within { IfSome result (λ r. (at < r.0) × (r.0 ≤ length text.now)) }
     ensures cost { IfSome result (λ r. turns.new.count + at ≤ turns.old.count + r.0) }

@@ -1,6 +1,7 @@
-use Rattle.resb_icu_text.proofs.BlanksLemmas.{if_none, if_some, no_line_comment, no_block_comment}
+use Rattle.resb_icu_text.proofs.BlanksLemmas.{if_some, no_line_comment, no_block_comment}
 use Rattle.resb_icu_text.proofs.BlanksLemmas.{block_comment}
 use Rattle.resb_icu_text.proofs.blanks.comment_end.Goals as goal
+use Rattle.resb_grammar.proofs.ReaderLemmas.{if_none}
 
 pub returns-in-47-clause-none : goal.returns-in-47-clause-none
 returns-in-47-clause-none c =

@@ -1,6 +1,7 @@
 use Rattle.std.proofs.Common.{◌≡◌, ℕ, ◌<◌, ◌≤◌, false}
 use Rattle.std.specs.Prelude.{slice_index}
-use Rattle.resb_icu_grammar.specs.Blanks.{is_line_end, IsParagraphEnd}
+use Rattle.resb_icu_grammar.specs.Blanks.{IsParagraphEnd}
+use Rattle.resb_grammar.specs.ByteRuns.{is_line_end}
 use Rattle.resb_icu_text.proofs.blanks.line_end.Given as goal
 
 abbrev pub invariant-loop-at : goal.invariant-loop-at

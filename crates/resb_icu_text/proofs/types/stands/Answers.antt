@@ -2,10 +2,11 @@ use Rattle.std.proofs.Common.{◌≡◌, ◌<◌, ◌≤◌, length, arith, refl
 use Rattle.std.proofs.Common.{ap, Some}
 use Rattle.std.specs.Prelude.{slice_get}
 use Rattle.std.proofs.lemmas.Bool.{false≢true}
-use Rattle.resb_icu_text.proofs.TypesLemmas.{stands_next, not_there, past_end, another, there}
+use Rattle.resb_icu_text.proofs.TypesLemmas.{not_there, past_end, another, there}
 use Rattle.resb_icu_text.proofs.types.stands.Goals.{then-here-all-via-then-here-all}
 use Rattle.resb_icu_text.proofs.types.stands.Goals.{then-here-all-via-else-here-all+then-all-here}
 use Rattle.resb_icu_text.proofs.types.stands.Goals as goal
+use Rattle.resb_grammar.proofs.ReaderLemmas.{stands_next}
 
 pub returns-then-here-all-clause-stands : goal.returns-then-here-all-clause-stands
 returns-then-here-all-clause-stands c =

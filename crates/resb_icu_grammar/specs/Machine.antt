@@ -89,14 +89,14 @@ pub data Move (text : List ℕ) (ws : List Waiting) (ks : List (List ℕ))
   type_opens : (at i : ℕ) (kind : Kind) → TypedOpening text at kind i
       → Move text ws ks before_group at (reading ws ks (in_typed kind) i)
   -- a group without a type that holds nothing is an array
-  holds_nothing : (at : ℕ) → slice_index text at ≡ ascii.right_brace
+  untyped_nothing : (at : ℕ) → slice_index text at ≡ ascii.right_brace
       → Move text ws ks in_untyped at
       (reading ws ks (behind_group (array (trees_of []))) (at + 1))
   -- one that begins with a group is an array
   begins_with_group : (at : ℕ) → BeginsGroup text at
       → Move text ws ks in_untyped at (reading ws ks (among_members nothing []) at)
   -- one that is a string
-  holds_string : (at i j : ℕ) (s : List ℕ) → Text text at i s → Skip text i j
+  untyped_string : (at i j : ℕ) (s : List ℕ) → Text text at i s → Skip text i j
       → slice_index text j ≡ ascii.right_brace
       → Move text ws ks in_untyped at (reading ws ks (behind_group (string s)) (j + 1))
   -- one that begins with a string and a comma is an array
@@ -109,13 +109,13 @@ pub data Move (text : List ℕ) (ws : List Waiting) (ks : List (List ℕ))
       → Move text ws ks in_untyped at
       (reading (in_table [] k ∷ ws) (ks ++ k ∷ []) before_group j)
   -- in `:array{..}` stand members
-  holds_members : (at : ℕ)
+  members_follow : (at : ℕ)
       → Move text ws ks (in_typed array_kind) at (reading ws ks (among_members nothing []) at)
   -- in `:table{..}` stand entries
-  holds_entries : (at : ℕ)
+  entries_follow : (at : ℕ)
       → Move text ws ks (in_typed table_kind) at (reading ws ks (among_entries []) at)
   -- the content of a group of another type, and its `}`
-  holds_leaf : (kind : Kind) (at to : ℕ) (t : Tree) → LeafContent text at to kind t
+  leaf_follows : (kind : Kind) (at to : ℕ) (t : Tree) → LeafContent text at to kind t
       → slice_index text to ≡ ascii.right_brace
       → Move text ws ks (in_typed kind) at (reading ws ks (behind_group t) (to + 1))
 

@@ -18,7 +18,7 @@ use Rattle.resb_tree.specs.View.{tree_of, pairs_view}
 use Rattle.resb_tree.specs.declared.resource.Resource.{Resource}
 use Rattle.resb_tree.proofs.AtOnce.{inserted, insert_is_put, made, turned}
 use Rattle.resb_icu_grammar.specs.Groups.{is_new}
-use Rattle.resb_icu_grammar.specs.Inner.Rest.{AreDistinct}
+use Rattle.resb_icu_grammar.specs.Machine.{AreDistinct}
 
 -- none of the pairs has a key of these entries
 abbrev AreNewTo : List (List ℕ × Resource) → List (List ℕ × Resource) → Type 0

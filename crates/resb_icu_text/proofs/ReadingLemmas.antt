@@ -19,7 +19,8 @@ use Rattle.resb_icu_grammar.specs.Bytes.{is_word}
 use Rattle.resb_icu_grammar.specs.Blanks.{Begins, Skip}
 use Rattle.resb_icu_grammar.specs.Bundle.{Header, Typing, without, with, IcuText}
 use Rattle.resb_icu_grammar.specs.Words.{KeyText, Name, RootType}
-use Rattle.resb_icu_grammar.specs.Inner.Rest.{Meaning, Waiting, After, AtEnd, Same, Never}
+use Rattle.resb_icu_grammar.specs.Inner.Rest.{Meaning, After, AtEnd, Same, Never}
+use Rattle.resb_icu_grammar.specs.Machine.{Waiting}
 use Rattle.resb_icu_grammar.proofs.Lexical.{Begins-one, Skip-one, String-one, key_string}
 use Rattle.resb_icu_grammar.proofs.Lexical.{RootType-one, root_type_first}
 use Rattle.resb_icu_grammar.proofs.RestRoot.{root_follows, follows_root}

@@ -20,7 +20,8 @@ use Rattle.resb_icu_grammar.specs.Groups as spec
 use Rattle.resb_icu_grammar.specs.Groups.{TypedOpening, LeafContent, nothing, a_string, a_group}
 use Rattle.resb_icu_grammar.specs.Groups.{is_member, ends_in_string, is_collation, holds_entries}
 use Rattle.resb_icu_grammar.specs.Groups.{with_a_group, with_a_string}
-use Rattle.resb_icu_grammar.specs.Inner.Rest.{Meaning, Waiting, After, AreDistinct, InMembers}
+use Rattle.resb_icu_grammar.specs.Inner.Rest.{Meaning, After, InMembers}
+use Rattle.resb_icu_grammar.specs.Machine.{Waiting, AreDistinct}
 use Rattle.resb_icu_grammar.specs.Inner.Rest.{InEntries, InGroup, AfterMember, AfterValue}
 use Rattle.resb_icu_grammar.specs.Inner.Rest.{Goal, Same, Never}
 use Rattle.resb_icu_grammar.proofs.Lexical.{Skip-one, GroupType-one, String-one, key_string}

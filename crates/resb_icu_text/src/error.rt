@@ -4,7 +4,7 @@ ghost use Rattle.std.specs.Prelude.{◌≡◌, Some};
 ghost use Rattle.resb_icu_text.specs.Refusal.{message_of, want_of_memory};
 
 use crate::blanks::byte;
-use crate::expected::IcuExpected;
+use resb_icu_grammar::IcuExpected;
 use resb_tree::NoMemory;
 use std::alloc::{AllocError, AllocFailed};
 use std::error::Error;

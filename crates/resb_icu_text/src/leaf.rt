@@ -15,11 +15,11 @@ ghost use Rattle.resb_icu_text.specs.Inner.Reach.{reach};
 
 use crate::blanks::{byte, skip};
 use crate::error::IcuTextError;
-use crate::expected::IcuExpected;
 use crate::strings::{Said, string};
 use crate::turns::IcuTurns;
 use crate::words::number;
 use resb_grammar::{Kind, bytes_of_hex};
+use resb_icu_grammar::IcuExpected;
 use resb_tree::{Int28, Resource};
 use std::alloc::Global;
 use std::borrow::{CowSlice, CowStr};

@@ -6,7 +6,6 @@
 mod blanks;
 mod error;
 mod escapes;
-mod expected;
 mod leaf;
 mod open;
 mod pieces;
@@ -21,7 +20,6 @@ mod words;
 
 pub use blanks::skip;
 pub use error::IcuTextError;
-pub use expected::IcuExpected;
 pub use reader::IcuReader;
 pub use strings::{Lexeme, Said, string};
 pub use turns::IcuTurns;

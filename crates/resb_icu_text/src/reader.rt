@@ -18,7 +18,6 @@ ghost use Rattle.resb_icu_text.specs.Inner.Reach.{reach};
 
 use crate::blanks::{byte, skip};
 use crate::error::IcuTextError;
-use crate::expected::IcuExpected;
 use crate::open::{Next, OpenGroups};
 use crate::steps::{Step, key_at};
 use crate::turns::IcuTurns;
@@ -26,6 +25,7 @@ use crate::types::root_type;
 use crate::words::word_end;
 use indexmap::IndexSet;
 use resb_grammar::list_once;
+use resb_icu_grammar::IcuExpected;
 use resb_tree::{Key, NoMemory, Resource, ResourceBundle};
 use std::alloc::Global;
 use std::borrow::CowStr;

@@ -7,7 +7,7 @@ ghost use Rattle.resb_tree.specs.Tree.{map_of};
 ghost use Rattle.resb_tree.specs.View.{tree_of, pairs_view, entries_view};
 ghost use Rattle.resb_icu_grammar.specs.Groups as spec;
 ghost use Rattle.resb_icu_grammar.specs.Words.{KeyText};
-ghost use Rattle.resb_icu_grammar.specs.Inner.Rest.{AreDistinct};
+ghost use Rattle.resb_icu_grammar.specs.Machine.{AreDistinct};
 ghost use Rattle.resb_grammar.specs.Kinds.{group_kind_of};
 ghost use Rattle.resb_icu_text.specs.Inner.Steps.{last_of, Steps, Stops, Goes};
 ghost use Rattle.resb_icu_text.specs.Inner.Steps.{MembersThere, EntriesThere, GroupThere};
@@ -17,12 +17,12 @@ ghost use Rattle.resb_icu_text.specs.Inner.Reach.{reach};
 
 use crate::blanks::{byte, skip};
 use crate::error::IcuTextError;
-use crate::expected::IcuExpected;
 use crate::leaf::{leaf, text_of};
 use crate::strings::string;
 use crate::turns::IcuTurns;
 use crate::types::group_type;
 use resb_grammar::Kind;
+use resb_icu_grammar::IcuExpected;
 use resb_tree::{Key, NoMemory, Resource, Table, table_at_once};
 use std::alloc::Global;
 

@@ -7,7 +7,8 @@ use Rattle.resb_tree.specs.View.{tree_of}
 use Rattle.resb_icu_grammar.specs.Blanks.{Skip}
 use Rattle.resb_icu_grammar.specs.Bundle.{Header, Typing}
 use Rattle.resb_icu_grammar.specs.Words.{Name}
-use Rattle.resb_icu_grammar.specs.Inner.Rest.{Meaning, Waiting, AtEnd, InEntries, Same, Never}
+use Rattle.resb_icu_grammar.specs.Inner.Rest.{Meaning, AtEnd, InEntries, Same, Never}
+use Rattle.resb_icu_grammar.specs.Machine.{Waiting}
 use Rattle.resb_icu_text.specs.Refusal.{want_of_memory}
 use Rattle.resb_icu_text.specs.declared.error.IcuTextError.{IcuTextError}
 use Rattle.resb_icu_text.specs.declared.steps.Waiting.{Waiting as Open}

@@ -6,7 +6,8 @@ use Rattle.resb_tree.specs.View.{tree_of, pairs_view}
 use Rattle.resb_icu_grammar.specs.Blanks.{Skip}
 use Rattle.resb_icu_grammar.specs.Groups as spec
 use Rattle.resb_icu_grammar.specs.Words.{KeyText}
-use Rattle.resb_icu_grammar.specs.Inner.Rest.{Meaning, Waiting, in_array, in_table, After}
+use Rattle.resb_icu_grammar.specs.Inner.Rest.{Meaning, After}
+use Rattle.resb_icu_grammar.specs.Machine.{Waiting, in_array, in_table}
 use Rattle.resb_icu_grammar.specs.Inner.Rest.{InMembers, InEntries, InGroup, InUntyped, InTyped}
 use Rattle.resb_icu_grammar.specs.Inner.Rest.{Same, Never}
 use Rattle.resb_icu_text.specs.Inner.Reach.{reach}

@@ -120,3 +120,25 @@ comes_same text from r (moves _ _ ws ks s at c v) =
 comes_same text from r (leaves _ _ ws ks t at c v) =
     same_by _ _ _ (comes_same text from (reading ws ks (behind_group t) at) c)
     (leave_same text ws ks t at r v)
+
+-- steps behind steps
+pub comes_by : (text : List ℕ) (from mid r : Reading) → Comes text from mid → Comes text mid r
+    → Comes text from r
+comes_by text from mid _ c (here _) = c
+comes_by text from mid r c (moves _ _ ws ks s at d v) =
+    moves from r ws ks s at (comes_by text from mid (reading ws ks s at) c d) v
+comes_by text from mid r c (leaves _ _ ws ks t at d v) =
+    leaves from r ws ks t at (comes_by text from mid (reading ws ks (behind_group t) at) c d) v
+
+-- one step
+pub one_move : (text : List ℕ) (ws : List Waiting) (ks : List (List ℕ)) (s : Standing) (at : ℕ)
+    (r : Reading) → Move text ws ks s at r → Comes text (reading ws ks s at) r
+one_move text ws ks s at r v =
+    moves (reading ws ks s at) r ws ks s at (here (reading ws ks s at)) v
+
+-- one step out of a group
+pub one_leave : (text : List ℕ) (ws : List Waiting) (ks : List (List ℕ)) (t : Tree) (at : ℕ)
+    (r : Reading) → Leave text ks t at ws r → Comes text (reading ws ks (behind_group t) at) r
+one_leave text ws ks t at r v =
+    leaves (reading ws ks (behind_group t) at) r ws ks t at
+    (here (reading ws ks (behind_group t) at)) v

@@ -11,8 +11,8 @@ use Rattle.resb_icu_grammar.specs.Words.{KeyText, Name, GroupType, RootType}
 use Rattle.resb_icu_grammar.specs.Bundle.{Header, Typing, without, with, IcuText}
 use Rattle.resb_icu_grammar.specs.Groups.{TypedOpening}
 use Rattle.resb_icu_grammar.specs.Laws.{IcuStuckIsNoText}
-use Rattle.resb_icu_grammar.specs.Machine.{Waiting, Standing, Reading, BeginsGroup, Comes}
-use Rattle.resb_icu_grammar.specs.Stuck.{Blocked, EndBlocked, HeadStuck, Halts, Stuck, at_root}
+use Rattle.resb_icu_grammar.specs.Machine.{Waiting, Standing, Reading, BeginsGroup}
+use Rattle.resb_icu_grammar.specs.Stuck.{Blocked, EndBlocked, HeadStuck, Halts, StuckFrom, Stuck, at_root}
 use Rattle.resb_icu_grammar.specs.Stuck.{a_collation, more_text, no_name, no_root_type}
 use Rattle.resb_icu_grammar.specs.Stuck.{no_root_brace, no_typed_brace, in_head, in_root, inside, behind}
 use Rattle.resb_icu_grammar.specs.Stuck as stuck
@@ -94,11 +94,10 @@ halts_never text _ to x (inside ws ks s at _ _ b) = blocked_never text ws ks s a
 halts_never text _ to x (behind ws ks t at _ _ b) = end_never text ws ks t at to x b
 
 -- no bundle whose root's entries begin there
-root_never : (text : List ℕ) (first : ℕ) (r : Reading) (to : ℕ) (x : IcuExpected)
-    → Comes text (at_root first) r → Halts text r to x
-    → Never (InEntries text (AtEnd text) [] first [])
-root_never text first r to x c h m p =
-    halts_never text r to x h m ((comes_same text (at_root first) r c m).0 p)
+root_never : (text : List ℕ) (first to : ℕ) (x : IcuExpected)
+    → StuckFrom text (at_root first) to x → Never (InEntries text (AtEnd text) [] first [])
+root_never text first to x s m p =
+    halts_never text s.last to x s.halts m ((comes_same text (at_root first) s.last s.comes m).0 p)
 
 starts : (text name : List ℕ) (f : Bool) (to a start : ℕ) → Begins text a → Skip text a start
     → (h : Header text name f to) → h.start ≡ start
@@ -161,6 +160,6 @@ head_never text to x (no_typed_brace a start end at i _ other g b k n l r m d) n
 pub stuck_is_no_text : IcuStuckIsNoText
 stuck_is_no_text text to x (in_head s) name f tree keys p =
     head_never text to x s name f p.first p.header
-stuck_is_no_text text to x (in_root other g first r h c s) name f tree keys p =
+stuck_is_no_text text to x (in_root other g first h s) name f tree keys p =
     let body = follows_root text other name g f first tree keys h p in
-    root_never text first r to x c s (tree, body.2) body.3
+    root_never text first to x s (tree, body.2) body.3

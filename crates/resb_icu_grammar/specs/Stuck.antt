@@ -157,9 +157,15 @@ pub data Halts (text : List ℕ) : Reading → ℕ → IcuExpected → Type 0 wh
 abbrev pub at_root : ℕ → Reading
 at_root first = reading [] [] (among_entries []) first
 
--- a reading of the text gets stuck at this place, where this was expected
+-- from one place on a reading comes to a place where it cannot go on
+pub record StuckFrom (text : List ℕ) (from : Reading) (to : ℕ) (x : IcuExpected) : Type 0 where
+  pub last : Reading
+  pub comes : Comes text from last
+  pub halts : Halts text last to x
+
+-- a reading of the text gets stuck at this place, where this was expected: before the first entry
+-- of the root, or behind it
 pub data Stuck (text : List ℕ) (to : ℕ) (x : IcuExpected) : Type 0 where
   in_head : HeadStuck text to x → Stuck text to x
-  in_root : (name : List ℕ) (fallback : Bool) (first : ℕ) (r : Reading)
-      → Header text name fallback first → Comes text (at_root first) r → Halts text r to x
-      → Stuck text to x
+  in_root : (name : List ℕ) (fallback : Bool) (first : ℕ) → Header text name fallback first
+      → StuckFrom text (at_root first) to x → Stuck text to x

@@ -9,7 +9,7 @@ ghost use Rattle.resb_grammar.specs.GroupTypes.{vector_kind, array_kind, table_k
 ghost use Rattle.resb_tree.specs.View.{tree_of};
 ghost use Rattle.resb_grammar.specs.Kinds.{group_kind_of};
 ghost use Rattle.resb_icu_text.specs.Lexemes.{bytes_said};
-ghost use Rattle.resb_icu_text.specs.Inner.Leaf.{Refuses, Leaf, SomeLeaf, Vector, SomeVector};
+ghost use Rattle.resb_icu_text.specs.Inner.Leaf.{Leaf, LeafRefuses, Vector, WantsBrace};
 ghost use Rattle.resb_icu_text.specs.Inner.Leaf.{IsBehindNumber};
 ghost use Rattle.resb_icu_text.specs.Inner.Reach.{reach};
 
@@ -38,7 +38,8 @@ pub(crate) fn text_of<'a>(said: Said<'a>) -> CowStr<'a>
 fn closing(text: &str, at: usize) -> Result<usize, IcuTextError>
     requires within { at ≤ length text.now }
     ensures ok { IfOk result (λ to. (to ≡ at) × (slice_index text.now at ≡ ascii.right_brace)) }
-    ensures err { IfErr result (λ e. slice_index text.now at ≢ ascii.right_brace) }
+    ensures err { IfErr result (λ e. (slice_index text.now at ≢ ascii.right_brace)
+        × WantsBrace at e) }
     ensures within { IfOk result (λ to. to < length text.now) }
 {
     if byte(text, at) == b'}' {
@@ -57,7 +58,7 @@ fn string_leaf<'a>(
 ) -> Result<(usize, Resource<'a>), IcuTextError>
     requires within { at ≤ length text.now }
     ensures ok { IfOk result (λ r. Leaf text.now at string_kind r.0 (tree_of r.1)) }
-    ensures err { IfErr result (Refuses (SomeLeaf text.now at string_kind)) }
+    ensures err { IfErr result (LeafRefuses text.now at string_kind) }
     ensures within { IfOk result (λ r. (at ≤ r.0) × (r.0 < length text.now)) }
     ensures cost { IfOk result (λ r. turns.new.count + 8 * reach text.now at
         ≤ turns.old.count + 8 * r.0) }
@@ -80,7 +81,7 @@ fn binary_leaf<'a>(
 ) -> Result<(usize, Resource<'a>), IcuTextError>
     requires within { at ≤ length text.now }
     ensures ok { IfOk result (λ r. Leaf text.now at binary_kind r.0 (tree_of r.1)) }
-    ensures err { IfErr result (Refuses (SomeLeaf text.now at binary_kind)) }
+    ensures err { IfErr result (LeafRefuses text.now at binary_kind) }
     ensures within { IfOk result (λ r. (at ≤ r.0) × (r.0 < length text.now)) }
     ensures cost { IfOk result (λ r. turns.new.count + 8 * reach text.now at
         ≤ turns.old.count + 8 * r.0) }
@@ -107,7 +108,7 @@ fn integer_leaf<'a>(
 ) -> Result<(usize, Resource<'a>), IcuTextError>
     requires within { at ≤ length text.now }
     ensures ok { IfOk result (λ r. Leaf text.now at integer_kind r.0 (tree_of r.1)) }
-    ensures err { IfErr result (Refuses (SomeLeaf text.now at integer_kind)) }
+    ensures err { IfErr result (LeafRefuses text.now at integer_kind) }
     ensures within { IfOk result (λ r. (at ≤ r.0) × (r.0 < length text.now)) }
     ensures cost { IfOk result (λ r. turns.new.count + 8 * reach text.now at
         ≤ turns.old.count + 8 * r.0) }
@@ -127,7 +128,7 @@ fn behind_number(text: &str, at: usize, turns: &mut IcuTurns) -> Result<usize, I
     requires within { at ≤ length text.now }
     ensures ok { IfOk result (IsBehindNumber text.now at) }
     ensures err { IfErr result (λ e. (slice_index text.now at ≢ ascii.comma)
-        × (slice_index text.now at ≢ ascii.right_brace)) }
+        × (slice_index text.now at ≢ ascii.right_brace) × WantsBrace at e) }
     ensures within { IfOk result (λ to. (at ≤ to) × (to ≤ length text.now)) }
     ensures cost { IfOk result (λ to. turns.new.count + 2 * reach text.now at
         ≤ turns.old.count + 2 * reach text.now to) }
@@ -149,8 +150,9 @@ fn numbers(
     turns: &mut IcuTurns,
 ) -> Result<(usize, Vec<u32>), IcuTextError>
     requires within { at ≤ length text.now }
+    requires some { slice_index text.now at ≢ ascii.right_brace }
     ensures ok { IfOk result (λ r. Vector text.now at r.0 r.1.items) }
-    ensures err { IfErr result (Refuses (SomeVector text.now at)) }
+    ensures err { IfErr result (LeafRefuses text.now at vector_kind) }
     ensures within { IfOk result (λ r. (at ≤ r.0) × (r.0 < length text.now)) }
     ensures cost { IfOk result (λ r. turns.new.count + 8 * reach text.now at
         ≤ turns.old.count + 8 * r.0) }
@@ -181,7 +183,7 @@ fn vector_leaf<'a>(
 ) -> Result<(usize, Resource<'a>), IcuTextError>
     requires within { at ≤ length text.now }
     ensures ok { IfOk result (λ r. Leaf text.now at vector_kind r.0 (tree_of r.1)) }
-    ensures err { IfErr result (Refuses (SomeLeaf text.now at vector_kind)) }
+    ensures err { IfErr result (LeafRefuses text.now at vector_kind) }
     ensures within { IfOk result (λ r. (at ≤ r.0) × (r.0 < length text.now)) }
     ensures cost { IfOk result (λ r. turns.new.count + 8 * reach text.now at
         ≤ turns.old.count + 8 * r.0) }
@@ -204,8 +206,9 @@ pub(crate) fn leaf<'a>(
     turns: &mut IcuTurns,
 ) -> Result<(usize, Resource<'a>), IcuTextError>
     requires within { at ≤ length text.now }
+    requires leaf { (group_kind_of kind ≢ array_kind) × (group_kind_of kind ≢ table_kind) }
     ensures ok { IfOk result (λ r. Leaf text.now at (group_kind_of kind) r.0 (tree_of r.1)) }
-    ensures err { IfErr result (Refuses (SomeLeaf text.now at (group_kind_of kind))) }
+    ensures err { IfErr result (LeafRefuses text.now at (group_kind_of kind)) }
     ensures within { IfOk result (λ r. (at ≤ r.0) × (r.0 < length text.now)) }
     ensures cost { IfOk result (λ r. turns.new.count + 8 * reach text.now at
         ≤ turns.old.count + 8 * r.0) }
@@ -217,6 +220,6 @@ pub(crate) fn leaf<'a>(
         Kind::Binary => binary_leaf(alloc, text, at, turns),
         Kind::Integer => integer_leaf(text, at, turns),
         Kind::IntVector => vector_leaf(alloc, text, at, turns),
-        Kind::Array | Kind::Table => Err(IcuTextError::new(at, IcuExpected::GroupType)),
+        Kind::Array | Kind::Table => unreachable!(),
     }
 }

@@ -2,10 +2,11 @@
 //! What one step does inside them is said in `steps`.
 ghost use Rattle.std.specs.Prelude.{◌≡◌, ◌⊎◌, ◌+◌, ◌*◌, ◌≤◌, [], ◌∷◌, length, map, IfOk, IfErr};
 ghost use Rattle.std.specs.Prelude.{OnOk};
-ghost use Rattle.resb_icu_grammar.specs.Inner.Rest.{Same, Never};
+ghost use Rattle.resb_icu_grammar.specs.Machine.{Comes};
+ghost use Rattle.resb_icu_grammar.specs.Stuck.{StuckFrom};
 ghost use Rattle.resb_icu_text.specs.Refusal.{want_of_memory};
-ghost use Rattle.resb_icu_text.specs.Inner.Steps.{shown, with_key, Rest, place, spent};
-ghost use Rattle.resb_icu_text.specs.Inner.Reading.{groups, keys, Coming, Advances, spent_before};
+ghost use Rattle.resb_icu_text.specs.Inner.Steps.{shown, with_key, now, place, spent};
+ghost use Rattle.resb_icu_text.specs.Inner.Reading.{groups, keys, coming, Advances, spent_before};
 
 use crate::error::IcuTextError;
 use crate::steps::{Step, Waiting, entry, group, member, resume};
@@ -69,11 +70,10 @@ impl<'a> OpenGroups<'a> {
         turns: &mut IcuTurns,
     ) -> Result<Next<'a>, IcuTextError>
         requires within { place step ≤ length text.now }
-        ensures ok { IfOk result (λ next. Same
-            (Rest text.now (groups self.old) (keys self.old) step.entry)
-            (Coming text.now self.new next)) }
-        ensures err { IfErr result (λ e. (e ≡ want_of_memory)
-            ⊎ Never (Rest text.now (groups self.old) (keys self.old) step.entry)) }
+        ensures ok { IfOk result (λ next. Comes text.now
+            (now (groups self.old) (keys self.old) step.entry) (coming self.new next)) }
+        ensures err { IfErr result (λ e. (e ≡ want_of_memory) ⊎ StuckFrom text.now
+            (now (groups self.old) (keys self.old) step.entry) e.position e.expected) }
         ensures goes { IfOk result (Advances text.now step.entry) }
         ensures cost { IfOk result (λ next. turns.new.count + spent text.now step.entry
             + length (keys self.new)

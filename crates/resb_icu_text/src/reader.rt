@@ -7,13 +7,12 @@ ghost use Rattle.resb_grammar.specs.BundleText.{first_places};
 ghost use Rattle.resb_tree.specs.Bundle.{name_of, root_of};
 ghost use Rattle.resb_tree.specs.View.{tree_of};
 ghost use Rattle.resb_icu_grammar.specs.Blanks.{Begins};
-ghost use Rattle.resb_icu_grammar.specs.Bundle.{Header, Typing, IcuText};
-ghost use Rattle.resb_icu_grammar.specs.Inner.Rest.{Never};
-ghost use Rattle.resb_icu_text.specs.Answer.{IsNoIcuText};
+ghost use Rattle.resb_icu_grammar.specs.Bundle.{Header, IcuText};
+ghost use Rattle.resb_icu_text.specs.Answer.{IcuFails, IsNoIcuText};
 ghost use Rattle.resb_icu_text.specs.Refusal.{want_of_memory};
-ghost use Rattle.resb_icu_text.specs.Inner.Leaf.{Refuses};
-ghost use Rattle.resb_icu_text.specs.Inner.Reading.{AnyHeader, AnyName, NameAhead, Opening};
-ghost use Rattle.resb_icu_text.specs.Inner.Reading.{RootThere};
+ghost use Rattle.resb_icu_text.specs.Inner.Reading.{NameAhead, NameFails, TypingThere};
+ghost use Rattle.resb_icu_text.specs.Inner.Reading.{Opening, OpeningFails, HeadFails};
+ghost use Rattle.resb_icu_text.specs.Inner.Reading.{RootThere, RootFails};
 ghost use Rattle.resb_icu_text.specs.Inner.Reach.{reach};
 
 use crate::blanks::{byte, skip};
@@ -43,7 +42,8 @@ impl IcuReader {
     ) -> Result<(ResourceBundle<'a>, Vec<Key<'a>>), IcuTextError>
         ensures ok { IfOk result (λ r. IcuText input.now
             (name_of r.0) r.0.is_locale_fallback_enabled (root_of r.0) r.1.items) }
-        ensures err { IfErr result (λ e. (e ≡ want_of_memory) ⊎ IsNoIcuText input.now) }
+        ensures err { IfErr result (IcuFails input.now) }
+        ensures no_text { IfErr result (λ e. (e ≡ want_of_memory) ⊎ IsNoIcuText input.now) }
     {
         IcuReader::read_counted(alloc, input, &mut IcuTurns::new())
     }
@@ -57,7 +57,8 @@ impl IcuReader {
     ) -> Result<(ResourceBundle<'a>, Vec<Key<'a>>), IcuTextError>
         ensures ok { IfOk result (λ r. IcuText input.now
             (name_of r.0) r.0.is_locale_fallback_enabled (root_of r.0) r.1.items) }
-        ensures err { IfErr result (λ e. (e ≡ want_of_memory) ⊎ IsNoIcuText input.now) }
+        ensures err { IfErr result (IcuFails input.now) }
+        ensures no_text { IfErr result (λ e. (e ≡ want_of_memory) ⊎ IsNoIcuText input.now) }
         ensures cost { turns.new.count ≤ turns.old.count + 8 * length input.now + 24 }
     {
         let Head {
@@ -103,7 +104,7 @@ fn name<'a>(
 ) -> Result<(usize, &'a str), IcuTextError>
     requires within { at ≤ length text.now }
     ensures ok { IfOk result (λ r. NameAhead text.now at r.0 r.1.now) }
-    ensures err { IfErr result (Refuses (AnyName text.now at)) }
+    ensures err { IfErr result (NameFails text.now at) }
     ensures within { IfOk result (λ r. r.0 ≤ length text.now) }
     ensures cost { IfOk result (λ r. turns.new.count + 8 * reach text.now at + 2
         ≤ turns.old.count + 8 * reach text.now r.0) }
@@ -125,14 +126,11 @@ fn name<'a>(
 }
 
 /// The place behind the root's type and the blanks there, if it has one, and whether fallback stays
-/// on. The root's `{` can stand nowhere else.
+/// on.
 fn typing(text: &str, at: usize, turns: &mut IcuTurns) -> Result<(usize, bool), IcuTextError>
     requires within { at ≤ length text.now }
-    ensures ok { IfOk result (λ r. Typing text.now at r.0 r.1) }
-    ensures only { IfOk result
-        (λ r. (brace : ℕ) (fallback : Bool) → Opening text.now at brace fallback → brace ≡ r.0) }
-    ensures err { IfErr result
-        (λ e. (brace : ℕ) (fallback : Bool) → Opening text.now at brace fallback → ⊥) }
+    ensures ok { IfOk result (λ r. TypingThere text.now at r.0 r.1) }
+    ensures err { IfErr result (OpeningFails text.now at) }
     ensures within { IfOk result (λ r. r.0 ≤ length text.now) }
     ensures cost { IfOk result (λ r. turns.new.count + 8 * reach text.now at
         ≤ turns.old.count + 8 * reach text.now r.0 + 12) }
@@ -152,8 +150,7 @@ fn typing(text: &str, at: usize, turns: &mut IcuTurns) -> Result<(usize, bool), 
 fn opening(text: &str, at: usize, turns: &mut IcuTurns) -> Result<(usize, bool), IcuTextError>
     requires within { at ≤ length text.now }
     ensures ok { IfOk result (λ r. Opening text.now at r.0 r.1) }
-    ensures err { IfErr result
-        (λ e. (brace : ℕ) (fallback : Bool) → Opening text.now at brace fallback → ⊥) }
+    ensures err { IfErr result (OpeningFails text.now at) }
     ensures within { IfOk result (λ r. r.0 < length text.now) }
     ensures cost { IfOk result (λ r. turns.new.count + 8 * reach text.now at
         ≤ turns.old.count + 8 * r.0 + 12) }
@@ -175,7 +172,7 @@ fn read_head<'a>(
     turns: &mut IcuTurns,
 ) -> Result<Head<'a>, IcuTextError>
     ensures ok { IfOk result (λ h. Header text.now h.name.now h.fallback h.first) }
-    ensures err { IfErr result (Refuses (AnyHeader text.now)) }
+    ensures err { IfErr result (HeadFails text.now) }
     ensures within { IfOk result (λ h. h.first ≤ length text.now) }
     ensures cost { IfOk result (λ h. turns.new.count
         ≤ turns.old.count + 8 * reach text.now h.first + 12) }
@@ -203,7 +200,7 @@ fn read_root<'a>(
     requires within { first ≤ length text.now }
     ensures ok { IfOk result
         (λ r. RootThere text.now first (tree_of r.0, map (λ k. k.now) r.1.items)) }
-    ensures err { IfErr result (λ e. (e ≡ want_of_memory) ⊎ Never (RootThere text.now first)) }
+    ensures err { IfErr result (RootFails text.now first) }
     ensures cost { IfOk result (λ r. turns.new.count + 8 * reach text.now first + length r.1.items
         ≤ turns.old.count + 8 * length text.now + 8) }
     ensures most { turns.new.count + 8 * reach text.now first

@@ -87,8 +87,8 @@ pub(crate) fn member<'a>(
     turns: &mut IcuTurns,
 ) -> Result<Step<'a>, IcuTextError>
     requires within { at ≤ length text.now }
-    ensures ok { IfOk result (Steps text.now (MembersThere text.now members.entry.items last at)) }
-    ensures err { IfErr result (Stops (MembersThere text.now members.entry.items last at)) }
+    ensures ok { IfOk result (Steps text.now (MembersThere members.entry.items last at)) }
+    ensures err { IfErr result (Stops text.now (MembersThere members.entry.items last at)) }
     ensures goes { IfOk result (Goes text.now (3 * at + 1)) }
     ensures cost { IfOk result (λ s. turns.new.count + 8 * reach text.now at + 3
         ≤ turns.old.count + spent text.now s) }
@@ -118,8 +118,8 @@ fn comma<'a>(
 ) -> Result<Step<'a>, IcuTextError>
     requires within { at < length text.now }
     requires comma { slice_index text.now at ≡ ascii.comma }
-    ensures ok { IfOk result (Steps text.now (MembersThere text.now members.entry.items last at)) }
-    ensures err { IfErr result (Stops (MembersThere text.now members.entry.items last at)) }
+    ensures ok { IfOk result (Steps text.now (MembersThere members.entry.items last at)) }
+    ensures err { IfErr result (Stops text.now (MembersThere members.entry.items last at)) }
     ensures goes { IfOk result (Goes text.now (3 * at + 1)) }
     ensures cost { IfOk result (λ s. turns.new.count + 8 * reach text.now at + 3
         ≤ turns.old.count + spent text.now s) }
@@ -147,8 +147,8 @@ fn string_member<'a>(
     requires no_comma { slice_index text.now at ≢ ascii.comma }
     requires no_group { slice_index text.now at ≢ ascii.left_brace }
     requires no_type { slice_index text.now at ≢ ascii.colon }
-    ensures ok { IfOk result (Steps text.now (MembersThere text.now members.entry.items last at)) }
-    ensures err { IfErr result (Stops (MembersThere text.now members.entry.items last at)) }
+    ensures ok { IfOk result (Steps text.now (MembersThere members.entry.items last at)) }
+    ensures err { IfErr result (Stops text.now (MembersThere members.entry.items last at)) }
     ensures goes { IfOk result (Goes text.now (3 * at + 1)) }
     ensures cost { IfOk result (λ s. turns.new.count + 8 * reach text.now at + 3
         ≤ turns.old.count + spent text.now s) }
@@ -200,8 +200,8 @@ pub(crate) fn entry<'a>(
     turns: &mut IcuTurns,
 ) -> Result<Step<'a>, IcuTextError>
     requires within { at ≤ length text.now }
-    ensures ok { IfOk result (Steps text.now (EntriesThere text.now entries.entry.items at)) }
-    ensures err { IfErr result (Stops (EntriesThere text.now entries.entry.items at)) }
+    ensures ok { IfOk result (Steps text.now (EntriesThere entries.entry.items at)) }
+    ensures err { IfErr result (Stops text.now (EntriesThere entries.entry.items at)) }
     ensures goes { IfOk result (Goes text.now (3 * at + 1)) }
     ensures cost { IfOk result (λ s. turns.new.count + 8 * reach text.now at + 3
         ≤ turns.old.count + spent text.now s) }
@@ -243,8 +243,8 @@ pub(crate) fn group<'a>(
     turns: &mut IcuTurns,
 ) -> Result<Step<'a>, IcuTextError>
     requires within { at ≤ length text.now }
-    ensures ok { IfOk result (Steps text.now (GroupThere text.now at)) }
-    ensures err { IfErr result (Stops (GroupThere text.now at)) }
+    ensures ok { IfOk result (Steps text.now (GroupThere at)) }
+    ensures err { IfErr result (Stops text.now (GroupThere at)) }
     ensures goes { IfOk result (Goes text.now (3 * at + 2)) }
     ensures cost { IfOk result (λ s. turns.new.count + 8 * reach text.now at + 5
         ≤ turns.old.count + spent text.now s) }
@@ -271,8 +271,8 @@ fn typed<'a>(
 ) -> Result<Step<'a>, IcuTextError>
     requires within { at < length text.now }
     requires colon { slice_index text.now at ≡ ascii.colon }
-    ensures ok { IfOk result (Steps text.now (GroupThere text.now at)) }
-    ensures err { IfErr result (Stops (GroupThere text.now at)) }
+    ensures ok { IfOk result (Steps text.now (GroupThere at)) }
+    ensures err { IfErr result (Stops text.now (GroupThere at)) }
     ensures goes { IfOk result (Goes text.now (3 * at + 2)) }
     ensures cost { IfOk result (λ s. turns.new.count + 8 * reach text.now at + 5
         ≤ turns.old.count + spent text.now s) }
@@ -299,8 +299,8 @@ fn content<'a>(
     turns: &mut IcuTurns,
 ) -> Result<Step<'a>, IcuTextError>
     requires within { at ≤ length text.now }
-    ensures ok { IfOk result (Steps text.now (TypedThere text.now (group_kind_of kind) at)) }
-    ensures err { IfErr result (Stops (TypedThere text.now (group_kind_of kind) at)) }
+    ensures ok { IfOk result (Steps text.now (TypedThere (group_kind_of kind) at)) }
+    ensures err { IfErr result (Stops text.now (TypedThere (group_kind_of kind) at)) }
     ensures goes { IfOk result (Goes text.now (3 * at)) }
     ensures cost { IfOk result (λ s. turns.new.count + 8 * reach text.now at
         ≤ turns.old.count + spent text.now s) }
@@ -325,8 +325,8 @@ fn untyped<'a>(
     turns: &mut IcuTurns,
 ) -> Result<Step<'a>, IcuTextError>
     requires within { at ≤ length text.now }
-    ensures ok { IfOk result (Steps text.now (UntypedThere text.now at)) }
-    ensures err { IfErr result (Stops (UntypedThere text.now at)) }
+    ensures ok { IfOk result (Steps text.now (UntypedThere at)) }
+    ensures err { IfErr result (Stops text.now (UntypedThere at)) }
     ensures goes { IfOk result (Goes text.now (3 * at)) }
     ensures cost { IfOk result (λ s. turns.new.count + 8 * reach text.now at
         ≤ turns.old.count + spent text.now s) }
@@ -355,8 +355,8 @@ fn untyped_string<'a>(
     requires no_brace { slice_index text.now at ≢ ascii.right_brace }
     requires no_group { slice_index text.now at ≢ ascii.left_brace }
     requires no_type { slice_index text.now at ≢ ascii.colon }
-    ensures ok { IfOk result (Steps text.now (UntypedThere text.now at)) }
-    ensures err { IfErr result (Stops (UntypedThere text.now at)) }
+    ensures ok { IfOk result (Steps text.now (UntypedThere at)) }
+    ensures err { IfErr result (Stops text.now (UntypedThere at)) }
     ensures goes { IfOk result (Goes text.now (3 * at)) }
     ensures cost { IfOk result (λ s. turns.new.count + 8 * reach text.now at
         ≤ turns.old.count + spent text.now s) }
@@ -412,8 +412,8 @@ pub(crate) fn resume<'a>(
 ) -> Result<Step<'a>, IcuTextError>
     requires within { at ≤ length text.now }
     ensures ok { IfOk result
-        (Steps text.now (EndedThere text.now waiting.entry resource.entry at)) }
-    ensures err { IfErr result (Stops (EndedThere text.now waiting.entry resource.entry at)) }
+        (Steps text.now (EndedThere waiting.entry resource.entry at)) }
+    ensures err { IfErr result (Stops text.now (EndedThere waiting.entry resource.entry at)) }
     ensures goes { IfOk result (Goes text.now (3 * at)) }
     ensures cost { IfOk result (λ s. turns.new.count + 8 * at + 1
         ≤ turns.old.count + spent text.now s) }

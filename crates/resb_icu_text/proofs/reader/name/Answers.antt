@@ -7,17 +7,19 @@ use Rattle.resb_icu_text.proofs.reader.name.Goals as goal
 
 pub returns-in_default-clause-err : goal.returns-in_default-clause-err
 returns-in_default-clause-err c =
-    inr (no_name _ _ (rw c.in_default.is at c.in_ok-next.ensures.none))
+    inr (no_name _ _ (rw c.in_default.is at c.in_ok-next.ensures.none), c.new.ensures)
 
 pub returns-then-is_empty-clause-err : goal.returns-then-is_empty-clause-err
 returns-then-is_empty-clause-err c =
     let found = rw c.in-Some.is at c.in_ok-next.ensures.found in
-    inr (empty_name _ _ _ _ found.stands (sym c.is_empty.ensures ∙ c.if-is_empty.true))
+    inr (empty_name _ _ _ _ found.stands (sym c.is_empty.ensures ∙ c.if-is_empty.true),
+    c.new-then-is_empty.ensures)
 
 pub returns-then-word_end-key-clause-err : goal.returns-then-word_end-key-clause-err
 returns-then-word_end-key-clause-err c =
     let found = rw c.in-Some.is at c.in_ok-next.ensures.found in
-    inr (broken_name _ _ _ _ _ found.stands c.word_end.ensures.run c.if-word_end-key.true)
+    inr (broken_name _ _ _ _ _ found.stands c.word_end.ensures.run c.if-word_end-key.true,
+    c.new-then-word_end-key.ensures)
 
 pub returns-clause-ok : goal.returns-clause-ok
 returns-clause-ok c =

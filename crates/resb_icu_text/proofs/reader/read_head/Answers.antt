@@ -1,23 +1,22 @@
 use Rattle.std.proofs.Common.{arith, sym, ◌∙◌, inr}
 use Rattle.std.proofs.lemmas.Result.{err_from_is_err_and}
-use Rattle.resb_icu_text.proofs.LeafLemmas.{refuses_more}
-use Rattle.resb_icu_text.proofs.ReadingLemmas.{no_header_name, no_header_opening}
+use Rattle.resb_icu_text.proofs.ReadingLemmas.{no_head_name, no_head_opening, typing_of}
 use Rattle.resb_icu_text.proofs.ReachLemmas.{reach_low, reach_high}
 use Rattle.resb_icu_text.proofs.reader.read_head.Goals as goal
 
 pub returns-in_err-next-clause-err : goal.returns-in_err-next-clause-err
 returns-in_err-next-clause-err c =
     let p = err_from_is_err_and c.from_residual.result c.from_residual.ensures.1 in
-    rw (p.1, p.2) (refuses_more _ _ _ (no_header_name _ _ _ c.begin.ensures.begins
-    c.skip-start.ensures.skip) c.in_err-next.ensures.err)
+    rw (p.1, p.2) (no_head_name _ _ _ _ c.begin.ensures.begins c.skip-start.ensures.skip
+    c.in_err-next.ensures.err)
 
 pub returns-in_err-brace-clause-err : goal.returns-in_err-brace-clause-err
 returns-in_err-brace-clause-err c =
     let p = err_from_is_err_and c.from_residual-in_err-brace.result
     c.from_residual-in_err-brace.ensures.1 in
-    rw (p.1, p.2) (inr (no_header_opening _ _ _ _ _ _ c.begin.ensures.begins
+    rw (p.1, p.2) (no_head_opening _ _ _ _ _ _ _ c.begin.ensures.begins
     c.skip-start.ensures.skip c.in_ok-next.ensures.ok.stands c.in_ok-next.ensures.ok.after
-    c.in_err-brace.ensures.err))
+    c.in_err-brace.ensures.err)
 
 pub returns-clause-ok : goal.returns-clause-ok
 returns-clause-ok c = record {
@@ -30,7 +29,7 @@ returns-clause-ok c = record {
   before = c.skip-start.ensures.skip;
   named = c.in_ok-next.ensures.ok.stands;
   between = c.in_ok-next.ensures.ok.after;
-  typed = c.in_ok-brace.ensures.ok.typed;
+  typed = typing_of _ _ _ _ c.in_ok-brace.ensures.ok.typed;
   opens = c.in_ok-brace.ensures.ok.opens;
   after = c.skip-first.ensures.skip;
 }

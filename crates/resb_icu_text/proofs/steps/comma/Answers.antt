@@ -10,7 +10,8 @@ returns-then-is_member-clause-ok c =
 
 pub returns-clause-err : goal.returns-clause-err
 returns-clause-err c =
-    no_member_comma _ _ _ _ _ (sym c.is_member.ensures ∙ c.if-is_member.false) c.requires.comma
+    no_member_comma _ _ _ _ _ c.new.ensures (sym c.is_member.ensures ∙ c.if-is_member.false)
+    c.requires.comma
 
 pub returns-then-is_member-clause-cost : goal.returns-then-is_member-clause-cost
 returns-then-is_member-clause-cost c =

@@ -1,4 +1,5 @@
 use Rattle.std.proofs.Common.{sym, ◌∙◌, arith}
+use Rattle.std.proofs.lemmas.Result.{err_from_is_err_and}
 use Rattle.resb_icu_text.proofs.StepsLemmas.{array_content, table_content, leaf_content}
 use Rattle.resb_icu_text.proofs.StepsLemmas.{no_leaf_content}
 use Rattle.resb_icu_text.proofs.ReachLemmas.{reach_high}
@@ -29,3 +30,8 @@ returns-in-Array-clause-most c =
 pub returns-in-Table-clause-most : goal.returns-in-Table-clause-most
 returns-in-Table-clause-most c =
     omega (arith, reach_high c.args.text.now c.args.at c.requires.within)
+
+pub returns-in_err-to-in_default-clause-err : goal.returns-in_err-to-in_default-clause-err
+returns-in_err-to-in_default-clause-err c =
+    let p = err_from_is_err_and c.from_residual.result c.from_residual.ensures.1 in
+    rw (p.1, p.2) (no_leaf_content _ _ _ _ c.in_err-to-in_default.ensures.err)

@@ -12,7 +12,7 @@ returns-then-byte-eq125-clause-ok c =
 
 pub returns-in_default-clause-err : goal.returns-in_default-clause-err
 returns-in_default-clause-err c =
-    a_key_twice _ _ _ _ (sym c.byte.ensures.byte ∙ c.if-byte-eq125.true)
+    a_key_twice _ _ _ _ c.new.ensures (sym c.byte.ensures.byte ∙ c.if-byte-eq125.true)
     (rw c.in_default.is at c.in_ok-table.ensures.none)
 
 pub returns-in-Some-2-clause-ok : goal.returns-in-Some-2-clause-ok
@@ -22,7 +22,7 @@ returns-in-Some-2-clause-ok c =
 
 pub returns-clause-err : goal.returns-clause-err
 returns-clause-err c =
-    no_entry _ _ _ _ (λ e. c.if-byte-eq125.false (c.byte.ensures.byte ∙ e))
+    no_entry _ _ _ _ c.new-in-None.ensures (λ e. c.if-byte-eq125.false (c.byte.ensures.byte ∙ e))
     (rw c.in-None.is at c.in_ok-next.ensures.none)
 
 pub returns-then-byte-eq125-clause-cost : goal.returns-then-byte-eq125-clause-cost

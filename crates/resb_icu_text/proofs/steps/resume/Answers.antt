@@ -9,7 +9,7 @@ use Rattle.resb_icu_text.proofs.steps.resume.Goals as goal
 pub returns-then-is_table-clause-err : goal.returns-then-is_table-clause-err
 returns-then-is_table-clause-err c =
     rw c.in-Table.is (no_collation _ c.in-Table.entries c.in-Table.key c.args.resource _ _
-    (both_hold _ _ (sym c.is_collation.ensures ∙ c.if-is_collation.true)
+    c.new.ensures (both_hold _ _ (sym c.is_collation.ensures ∙ c.if-is_collation.true)
     (sym c.is_table.ensures ∙ c.if-is_table.true)))
 
 pub returns-in_ok-push-in-Array-clause-ok : goal.returns-in_ok-push-in-Array-clause-ok

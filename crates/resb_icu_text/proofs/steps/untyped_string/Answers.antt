@@ -3,7 +3,7 @@ use Rattle.std.specs.Prelude.{slice_index}
 use Rattle.resb_grammar.specs.Ascii as ascii
 use Rattle.resb_tree.specs.declared.resource.Resource.{String}
 use Rattle.resb_icu_text.proofs.StepsLemmas.{untyped_one, untyped_comma, untyped_key}
-use Rattle.resb_icu_text.proofs.StepsLemmas.{no_untyped, no_untyped_string, no_key, is_a_key}
+use Rattle.resb_icu_text.proofs.StepsLemmas.{no_untyped, no_untyped_string, no_untyped_key, no_key, is_a_key}
 use Rattle.resb_icu_text.proofs.LengthLemmas.{string_short}
 use Rattle.resb_icu_text.proofs.ReachLemmas.{reach_right, reach_string, reach_low, reach_high}
 use Rattle.resb_icu_text.proofs.steps.untyped_string.Goals.{else-b-ne123-via-then-b-ne123+else-b-ne58}
@@ -12,7 +12,7 @@ use Rattle.resb_icu_text.proofs.steps.untyped_string.Goals as goal
 
 pub returns-in_default-clause-err : goal.returns-in_default-clause-err
 returns-in_default-clause-err c =
-    no_untyped _ _ _ c.requires.no_brace c.requires.no_group c.requires.no_type
+    no_untyped _ _ _ c.no_string.ensures c.requires.no_brace c.requires.no_group c.requires.no_type
     (rw c.in_default.is at c.in_ok-lexeme.ensures.none)
 
 pub returns-then-b-eq125-clause-ok : goal.returns-then-b-eq125-clause-ok
@@ -33,22 +33,21 @@ returns-then-b-eq44-clause-ok c =
 pub returns-then-b-ne58-clause-err : goal.returns-then-b-ne58-clause-err
 returns-then-b-ne58-clause-err c =
     let found = rw c.in-Some.is at c.in_ok-lexeme.ensures.found in
-    no_untyped_string _ _ _ _ _ _ found.string found.blanks
+    no_untyped_string _ _ _ _ _ _ c.new.ensures found.string found.blanks
     (λ e. c.if-b-eq125.false (c.byte-b.ensures.byte ∙ e))
     (λ e. c.if-b-eq44.false (c.byte-b.ensures.byte ∙ e))
-    (λ f. ⊎_elim
-    (λ (e : slice_index c.args.text.now c.in-Some.lexeme.next ≡ ascii.left_brace).
-    absurd (c.if-b-ne123.true (c.byte-b.ensures.byte ∙ e)))
-    (λ (e : slice_index c.args.text.now c.in-Some.lexeme.next ≡ ascii.colon).
-    absurd (c.if-b-ne58.true (c.byte-b.ensures.byte ∙ e))) f)
+    (λ e. c.if-b-ne123.true (c.byte-b.ensures.byte ∙ e))
+    (λ e. c.if-b-ne58.true (c.byte-b.ensures.byte ∙ e))
 
 pub returns-in_default-key-clause-err : goal.returns-in_default-key-clause-err
 returns-in_default-key-clause-err c =
     let found = rw c.in-Some.is at c.in_ok-lexeme.ensures.found in
-    no_untyped_string _ _ _ _ _ _ found.string found.blanks
-    (λ e. c.if-b-eq125.false (c.byte-b.ensures.byte ∙ e))
-    (λ e. c.if-b-eq44.false (c.byte-b.ensures.byte ∙ e))
-    (λ f. no_key _ _ _ found c.in_default-key.ensures.none _ _)
+    no_untyped_key _ _ _ _ _ _ c.new-in_default-key.ensures found.string found.blanks
+    (elim c.else-b-ne123.branch [
+      | else-b-ne123-via-then-b-ne123+else-b-ne58 w ↦
+          inr (sym c.byte-b.ensures.byte ∙ w.if-b-ne58.false)
+      | else-b-ne123-via-else-b-ne123 w ↦ inl (sym c.byte-b.ensures.byte ∙ w.if-b-ne123.false)
+    ]) (no_key _ _ _ found c.in_default-key.ensures.none)
 
 pub returns-clause-ok : goal.returns-clause-ok
 returns-clause-ok c =

@@ -1,6 +1,6 @@
 use Rattle.std.proofs.Common.{arith, sym, ◌∙◌, ◌∷◌}
 use Rattle.std.proofs.lemmas.Result.{err_from_is_err_and}
-use Rattle.resb_icu_text.proofs.ReadingLemmas.{stops_at, pushed, in_opened, nothing_open}
+use Rattle.resb_icu_text.proofs.ReadingLemmas.{stops_there, pushed, in_opened, nothing_open}
 use Rattle.resb_icu_text.proofs.ReadingLemmas.{behind_ended, stops_ended, root_ended}
 use Rattle.resb_icu_text.specs.Inner.Steps.{shown}
 use Rattle.resb_icu_text.specs.Inner.Reading.{groups}
@@ -10,19 +10,19 @@ use Rattle.resb_icu_text.proofs.open.OpenGroups.advance.Goals as goal
 pub returns-in_err-member-in-Members-clause-err : goal.returns-in_err-member-in-Members-clause-err
 returns-in_err-member-in-Members-clause-err c =
     let p = err_from_is_err_and c.from_residual.result c.from_residual.ensures.1 in
-    rw (p.1, p.2, c.in-Members.is) (stops_at _ _ c.in_err-member-in-Members.ensures.err _ _)
+    rw (p.1, p.2, c.in-Members.is) (stops_there _ _ _ c.in_err-member-in-Members.ensures.err _ _)
 
 pub returns-in_err-entry-in-Entries-clause-err : goal.returns-in_err-entry-in-Entries-clause-err
 returns-in_err-entry-in-Entries-clause-err c =
     let p = err_from_is_err_and c.from_residual-in_err-entry-in-Entries.result
     c.from_residual-in_err-entry-in-Entries.ensures.1 in
-    rw (p.1, p.2, c.in-Entries.is) (stops_at _ _ c.in_err-entry-in-Entries.ensures.err _ _)
+    rw (p.1, p.2, c.in-Entries.is) (stops_there _ _ _ c.in_err-entry-in-Entries.ensures.err _ _)
 
 pub returns-in_err-group-in-Group-clause-err : goal.returns-in_err-group-in-Group-clause-err
 returns-in_err-group-in-Group-clause-err c =
     let p = err_from_is_err_and c.from_residual-in_err-group-in-Group.result
     c.from_residual-in_err-group-in-Group.ensures.1 in
-    rw (p.1, p.2, c.in-Group.is) (stops_at _ _ c.in_err-group-in-Group.ensures.err
+    rw (p.1, p.2, c.in-Group.is) (stops_there _ _ _ c.in_err-group-in-Group.ensures.err
     (shown c.in-Group.waiting ∷ groups c.args.self.now) _)
 
 pub returns-in_err-resume-in-Some-clause-err : goal.returns-in_err-resume-in-Some-clause-err

@@ -1,6 +1,6 @@
 -- What a reading's steps keep: the meanings that the rest of the text has.
-use Rattle.std.proofs.Common.{◌≡◌, ℕ, ◌+◌, ◌&&◌, false, List, [], ◌∷◌, ◌++◌, refl, sym, subst}
-use Rattle.resb_tree.specs.Tree.{Tree, string}
+use Rattle.std.proofs.Common.{◌≡◌, ℕ, ◌&&◌, false, List, [], ◌∷◌, ◌++◌, refl, subst}
+use Rattle.resb_tree.specs.Tree.{Tree}
 use Rattle.resb_icu_grammar.specs.Blanks.{Skip}
 use Rattle.resb_icu_grammar.specs.Groups.{nothing, a_group, is_collation, holds_entries}
 use Rattle.resb_icu_grammar.specs.Groups.{with_a_group, with_a_string}

@@ -1,6 +1,6 @@
 -- A text in which a reading gets stuck is no bundle.
-use Rattle.std.proofs.Common.{◌≡◌, ◌≢◌, ℕ, ◌+◌, ◌<◌, ◌&&◌, true, Bool, List, [], refl, sym, ◌∙◌}
-use Rattle.std.proofs.Common.{ap, subst, arith, length, inl, inr, ◌⊎◌}
+use Rattle.std.proofs.Common.{◌≡◌, ◌≢◌, ℕ, Bool, List, [], sym, ◌∙◌}
+use Rattle.std.proofs.Common.{ap, subst, arith, length, inl, inr}
 use Rattle.std.specs.Prelude.{slice_index}
 use Rattle.std.proofs.lemmas.Bool.{false≢true}
 use Rattle.resb_grammar.specs.Ascii as ascii
@@ -8,7 +8,7 @@ use Rattle.resb_grammar.specs.GroupTypes.{Kind}
 use Rattle.resb_tree.specs.Tree.{Tree}
 use Rattle.resb_icu_grammar.specs.Blanks.{Begins, Skip}
 use Rattle.resb_icu_grammar.specs.Words.{KeyText, Name, GroupType, RootType}
-use Rattle.resb_icu_grammar.specs.Bundle.{Header, Typing, without, with, IcuText}
+use Rattle.resb_icu_grammar.specs.Bundle.{Header, Typing, without, with}
 use Rattle.resb_icu_grammar.specs.Groups.{TypedOpening}
 use Rattle.resb_icu_grammar.specs.Laws.{IcuStuckIsNoText}
 use Rattle.resb_icu_grammar.specs.Machine.{Waiting, Standing, Reading, BeginsGroup}
@@ -17,7 +17,7 @@ use Rattle.resb_icu_grammar.specs.Stuck.{a_collation, more_text, no_name, no_roo
 use Rattle.resb_icu_grammar.specs.Stuck.{no_root_brace, no_typed_brace, in_head, in_root, inside, behind}
 use Rattle.resb_icu_grammar.specs.Stuck as stuck
 use Rattle.resb_icu_grammar.specs.declared.expected.IcuExpected.{IcuExpected}
-use Rattle.resb_icu_grammar.specs.Inner.Rest.{Meaning, After, AtEnd, InEntries, Never}
+use Rattle.resb_icu_grammar.specs.Inner.Rest.{After, AtEnd, InEntries, Never}
 use Rattle.resb_icu_grammar.proofs.Lexical.{Begins-one, Skip-one, String-one, key_string}
 use Rattle.resb_icu_grammar.proofs.Lexical.{RootType-one, root_type_first, GroupType-one}
 use Rattle.resb_icu_grammar.proofs.Groups.{Closes, no_brace_colon}

@@ -5,7 +5,7 @@
 --     After text ws           where a group has ended, inside these groups
 --     InMembers, InEntries, InGroup, InUntyped, InTyped
 --                             where members, entries, a group or what stands inside one follow
-use Rattle.std.specs.Prelude.{◌≡◌, ◌+◌, ◌&&◌, ℕ, true, false, List, [], ◌∷◌, ◌++◌, length}
+use Rattle.std.specs.Prelude.{◌≡◌, ◌+◌, ◌&&◌, ℕ, false, List, [], ◌∷◌, ◌++◌, length}
 use Rattle.std.specs.Prelude.{slice_index}
 use Rattle.resb_grammar.specs.Ascii as ascii
 use Rattle.resb_grammar.specs.GroupTypes.{Kind}
@@ -13,7 +13,7 @@ use Rattle.resb_tree.specs.Tree.{Tree, array, table, trees_of, map_of}
 use Rattle.resb_icu_grammar.specs.Blanks.{Skip}
 use Rattle.resb_icu_grammar.specs.Machine.{Waiting, in_array, in_table, AreDistinct}
 use Rattle.resb_icu_grammar.specs.Groups.{Last, a_group, Members, Entries, Untyped, Typed, Group}
-use Rattle.resb_icu_grammar.specs.Groups.{is_new, is_collation, holds_entries}
+use Rattle.resb_icu_grammar.specs.Groups.{is_collation, holds_entries}
 
 -- the tree of the root, and the keys in order of place, with repetitions
 abbrev pub Meaning : Type 0

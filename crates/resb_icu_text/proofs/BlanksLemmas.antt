@@ -1,6 +1,6 @@
 -- Laws of comments and blanks, as the reader's functions use them.
 use Rattle.std.proofs.Common.{◌≡◌, ◌≢◌, ℕ, zero, suc, ◌+◌, ◌-◌, List, arith, subst, sym}
-use Rattle.std.specs.Prelude.{Option, Some, None, IfNone, IfSome, slice_index}
+use Rattle.std.specs.Prelude.{Option, Some, None, IfSome, slice_index}
 use Rattle.resb_grammar.specs.Ascii as ascii
 use Rattle.resb_grammar.specs.ByteRuns.{is_white, Each, Run}
 use Rattle.resb_grammar.specs.Lexical.{FirstCloser}

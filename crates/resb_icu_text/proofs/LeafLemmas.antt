@@ -1,5 +1,5 @@
 -- The content of groups without items: what stands there, and where it is stuck.
-use Rattle.std.proofs.Common.{◌≡◌, ◌≢◌, ℕ, ◌+◌, ◌%◌, ◌^◌, List, [], ◌∷◌, ◌++◌, Option, Some, None}
+use Rattle.std.proofs.Common.{◌≡◌, ◌≢◌, ℕ, ◌%◌, ◌^◌, List, [], ◌∷◌, ◌++◌, Option, Some, None}
 use Rattle.std.proofs.Common.{inr, refl, sym, ◌∙◌, ap, subst, append_assoc}
 use Rattle.std.specs.Prelude.{slice_index, is_some}
 use Rattle.std.proofs.lemmas.Bool.{false≢true}
@@ -7,10 +7,10 @@ use Rattle.resb_grammar.specs.Ascii as ascii
 use Rattle.resb_grammar.specs.Group.{hex_bytes}
 use Rattle.resb_grammar.specs.GroupTypes.{Kind, string_kind, binary_kind, integer_kind}
 use Rattle.resb_grammar.specs.GroupTypes.{vector_kind}
-use Rattle.resb_tree.specs.Tree.{Tree, string, binary, integer, int_vector}
+use Rattle.resb_tree.specs.Tree.{string, binary, integer, int_vector}
 use Rattle.resb_icu_grammar.specs.Blanks.{Skip}
 use Rattle.resb_icu_grammar.specs.Words.{Text, Number}
-use Rattle.resb_icu_grammar.specs.Groups.{Numbers, last_number, last_comma, one_more}
+use Rattle.resb_icu_grammar.specs.Groups.{last_number, last_comma, one_more}
 use Rattle.resb_icu_grammar.specs.Groups.{string_content, binary_content, integer_content}
 use Rattle.resb_icu_grammar.specs.Groups.{no_numbers, numbers}
 use Rattle.resb_icu_grammar.specs.Stuck.{Counted, one_number, LeafStuck}

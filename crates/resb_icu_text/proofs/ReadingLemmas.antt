@@ -18,7 +18,7 @@ use Rattle.resb_tree.specs.declared.resource.Resource.{Resource}
 use Rattle.resb_icu_grammar.specs.Bytes.{is_word}
 use Rattle.resb_icu_grammar.specs.Blanks.{Begins, Skip}
 use Rattle.resb_icu_grammar.specs.Bundle.{Header, Typing, without, with}
-use Rattle.resb_icu_grammar.specs.Words.{KeyText, Name, RootType}
+use Rattle.resb_icu_grammar.specs.Words.{KeyText, Name}
 use Rattle.resb_icu_grammar.specs.Machine.{Waiting, Reading, reading, behind_group, Comes, here}
 use Rattle.resb_icu_grammar.specs.Stuck.{HeadStuck, StuckFrom, Stuck, in_head, in_root, at_root}
 use Rattle.resb_icu_grammar.specs.Stuck.{no_root_type, no_root_brace, no_typed_brace, behind}

@@ -9,7 +9,7 @@ use Rattle.std.specs.Prelude.{slice_index, map, IfOk, IfErr, Result, Ok, Err}
 use Rattle.std.specs.declared.borrow.CowStr.{CowStr}
 use Rattle.resb_grammar.specs.Ascii as ascii
 use Rattle.resb_grammar.specs.GroupTypes.{Kind, array_kind, table_kind}
-use Rattle.resb_tree.specs.Tree.{Tree, string, array, table, trees_of, map_of}
+use Rattle.resb_tree.specs.Tree.{Tree, string, array, table, map_of}
 use Rattle.resb_tree.specs.View.{tree_of, pairs_view, entries_view, items_view}
 use Rattle.resb_tree.specs.declared.resource.Resource.{Resource, String, Array, Table}
 use Rattle.resb_tree.proofs.ViewLemmas.{tree_of_string, tree_of_array, tree_of_table}
@@ -40,7 +40,7 @@ use Rattle.resb_icu_text.specs.declared.steps.Waiting.TheVariants as waiting
 use Rattle.resb_icu_text.specs.declared.steps.Step.{Step}
 use Rattle.resb_icu_text.specs.declared.steps.Step.TheVariants as step
 use Rattle.resb_icu_text.specs.Inner.Leaf.{Leaf, LeafRefuses}
-use Rattle.resb_icu_text.specs.Inner.Steps.{last_of, shown, with_key, now, There, Steps, Stops}
+use Rattle.resb_icu_text.specs.Inner.Steps.{last_of, now, There, Steps, Stops}
 use Rattle.resb_icu_text.specs.Inner.Steps.{MembersThere, EntriesThere, GroupThere}
 use Rattle.resb_icu_text.specs.Inner.Steps.{UntypedThere, TypedThere, EndedThere, KeyAhead}
 

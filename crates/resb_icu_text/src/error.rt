@@ -32,8 +32,8 @@ impl IcuTextError {
     /// string isn't closed, or has an escape that this form doesn't have.
     pub(crate) fn no_string(text: &str, position: usize, expected: IcuExpected) -> IcuTextError
         ensures { result ≡ record {
-            position = position;
-            expected = string_or (slice_index text.now position) expected;
+          position = position;
+          expected = string_or (slice_index text.now position) expected;
         } }
     {
         if byte(text, position) == b'"' {

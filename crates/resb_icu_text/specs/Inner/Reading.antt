@@ -2,14 +2,13 @@
 use Rattle.std.specs.Prelude.{◌≡◌, ◌≢◌, ◌⊎◌, ◌≤◌, ◌<◌, ◌+◌, ◌*◌, ℕ, Bool, true, List, [], ◌∷◌, length, slice_index}
 use Rattle.std.specs.Prelude.{map}
 use Rattle.resb_grammar.specs.Ascii as ascii
-use Rattle.resb_tree.specs.Tree.{Tree}
 use Rattle.resb_tree.specs.View.{tree_of}
 use Rattle.resb_icu_grammar.specs.Blanks.{Skip}
 use Rattle.resb_icu_grammar.specs.Machine.{Reading, reading, behind_group}
 use Rattle.resb_icu_grammar.specs.Stuck.{HeadStuck, StuckFrom, at_root}
 use Rattle.resb_icu_grammar.specs.declared.expected.IcuExpected.TheVariants as expect
 use Rattle.resb_icu_grammar.specs.Words.{Name, RootType}
-use Rattle.resb_icu_grammar.specs.Inner.Rest.{Meaning, AtEnd, InEntries, Same, Never}
+use Rattle.resb_icu_grammar.specs.Inner.Rest.{Meaning, AtEnd, InEntries}
 use Rattle.resb_icu_grammar.specs.Machine.{Waiting}
 use Rattle.resb_icu_text.specs.Refusal.{want_of_memory}
 use Rattle.resb_icu_text.specs.declared.error.IcuTextError.{IcuTextError}

@@ -1,6 +1,6 @@
-use Rattle.std.proofs.Common.{ap, subst, sym, ◌∙◌, inr, arith, refl, []}
+use Rattle.std.proofs.Common.{sym, ◌∙◌, arith}
 use Rattle.std.proofs.lemmas.Result.{err_from_is_err_and}
-use Rattle.resb_icu_text.proofs.LeafLemmas.{leaf_refuses, Continues, continues_first, continues_end}
+use Rattle.resb_icu_text.proofs.LeafLemmas.{leaf_refuses, continues_first, continues_end}
 use Rattle.resb_icu_text.proofs.LeafLemmas.{continues_more, counted_more}
 use Rattle.resb_icu_text.proofs.ReachLemmas.{reach_number, reach_low, reach_right}
 use Rattle.resb_icu_grammar.specs.Stuck.{none_yet, no_number, open_vector}

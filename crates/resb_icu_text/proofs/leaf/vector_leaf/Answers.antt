@@ -1,5 +1,4 @@
 use Rattle.std.proofs.Common.{ap, subst, sym, ◌∙◌, arith}
-use Rattle.std.proofs.lemmas.Result.{err_from_is_err_and}
 use Rattle.resb_tree.specs.Tree.{Tree, int_vector}
 use Rattle.resb_grammar.specs.GroupTypes.{vector_kind}
 use Rattle.resb_tree.proofs.ViewLemmas.{tree_of_vector}

@@ -12,14 +12,18 @@ returns-in_default-clause-err c =
 pub returns-then-is_empty-clause-err : goal.returns-then-is_empty-clause-err
 returns-then-is_empty-clause-err c =
     let found = rw c.in-Some.is at c.in_ok-next.ensures.found in
-    inr (empty_name _ _ _ _ found.stands (sym c.is_empty.ensures ∙ c.if-is_empty.true),
-    c.new-then-is_empty.ensures)
+    inr (
+      empty_name _ _ _ _ found.stands (sym c.is_empty.ensures ∙ c.if-is_empty.true),
+      c.new-then-is_empty.ensures,
+    )
 
 pub returns-then-word_end-key-clause-err : goal.returns-then-word_end-key-clause-err
 returns-then-word_end-key-clause-err c =
     let found = rw c.in-Some.is at c.in_ok-next.ensures.found in
-    inr (broken_name _ _ _ _ _ found.stands c.word_end.ensures.run c.if-word_end-key.true,
-    c.new-then-word_end-key.ensures)
+    inr (
+      broken_name _ _ _ _ _ found.stands c.word_end.ensures.run c.if-word_end-key.true,
+      c.new-then-word_end-key.ensures,
+    )
 
 pub returns-clause-ok : goal.returns-clause-ok
 returns-clause-ok c =

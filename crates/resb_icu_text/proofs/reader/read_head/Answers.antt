@@ -1,4 +1,4 @@
-use Rattle.std.proofs.Common.{arith, sym, ◌∙◌, inr}
+use Rattle.std.proofs.Common.{arith}
 use Rattle.std.proofs.lemmas.Result.{err_from_is_err_and}
 use Rattle.resb_icu_text.proofs.ReadingLemmas.{no_head_name, no_head_opening, typing_of}
 use Rattle.resb_icu_text.proofs.ReachLemmas.{reach_low, reach_high}

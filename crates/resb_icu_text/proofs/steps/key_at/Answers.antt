@@ -1,4 +1,4 @@
-use Rattle.std.proofs.Common.{arith, ap, length}
+use Rattle.std.proofs.Common.{arith}
 use Rattle.resb_icu_grammar.proofs.Lexical.{key_string}
 use Rattle.resb_icu_text.proofs.LengthLemmas.{string_short}
 use Rattle.resb_icu_text.proofs.ReachLemmas.{reach_string, reach_low, reach_high}

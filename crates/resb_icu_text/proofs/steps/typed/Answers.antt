@@ -1,4 +1,4 @@
-use Rattle.std.proofs.Common.{◌+◌, ◌*◌, ◌≤◌, sym, ◌∙◌, ◌≡◌, arith}
+use Rattle.std.proofs.Common.{◌+◌, ◌*◌, ◌≤◌, sym, ◌∙◌, arith}
 use Rattle.resb_icu_text.proofs.StepsLemmas.{as_typed, no_type, no_group_brace, steps_by}
 use Rattle.resb_icu_text.proofs.StepsLemmas.{stops_by, ok_by, err_by}
 use Rattle.resb_icu_text.specs.Inner.Reach.{reach}

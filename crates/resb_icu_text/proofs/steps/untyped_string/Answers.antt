@@ -1,6 +1,4 @@
-use Rattle.std.proofs.Common.{arith, sym, ◌∙◌, inl, inr, ap, ⊎_elim, ◌≡◌, ◌++◌, ◌∷◌, []}
-use Rattle.std.specs.Prelude.{slice_index}
-use Rattle.resb_grammar.specs.Ascii as ascii
+use Rattle.std.proofs.Common.{arith, sym, ◌∙◌, inl, inr, ap, ◌++◌, ◌∷◌, []}
 use Rattle.resb_tree.specs.declared.resource.Resource.{String}
 use Rattle.resb_icu_text.proofs.StepsLemmas.{untyped_one, untyped_comma, untyped_key}
 use Rattle.resb_icu_text.proofs.StepsLemmas.{no_untyped, no_untyped_string, no_untyped_key, no_key, is_a_key}

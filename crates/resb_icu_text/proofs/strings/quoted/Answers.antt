@@ -1,12 +1,10 @@
 use Rattle.std.proofs.Common.{◌≡◌, ◌+◌, ◌++◌, ◌⊎◌, inl, inr, arith, rules}
-use Rattle.std.proofs.Common.{sym, ◌∙◌, ap, refl, ℕ, List, subst, true}
-use Rattle.std.specs.Prelude.{slice_index, ◌↔◌, IsTrue}
+use Rattle.std.proofs.Common.{sym, ◌∙◌, ap, refl}
+use Rattle.std.specs.Prelude.{slice_index}
 use Rattle.std.specs.String.{string_bytes}
 use Rattle.std.proofs.lemmas.Str.{IsCharBoundary-before_ascii, IsCharBoundary-after_ascii}
 use Rattle.resb_grammar.specs.Ascii as ascii
-use Rattle.resb_icu_grammar.specs.Bytes.{are_key_bytes}
 use Rattle.resb_icu_grammar.specs.Words.{HasNoEscape}
-use Rattle.resb_icu_text.specs.Lexemes.{bytes_said, is_key}
 use Rattle.resb_icu_text.proofs.ReachLemmas.{reach_low, reach_high, reach_quote}
 use Rattle.resb_icu_text.proofs.PiecesLemmas.{inside_closes}
 use Rattle.resb_icu_text.proofs.StringsLemmas.{piece_lexeme, built_lexeme, not_one}

@@ -5,7 +5,7 @@
 use Rattle.std.specs.Prelude.{◌≡◌, ◌≢◌, ◌⊎◌, ℕ, List, Bool, codes}
 use Rattle.resb_tree.specs.Tree.{Tree}
 use Rattle.resb_icu_grammar.specs.Bundle.{IcuText}
-use Rattle.resb_icu_text.specs.Answer.{IsNoIcuText}
+use Rattle.resb_icu_text.specs.Answer.{IcuFails, IsNoIcuText}
 use Rattle.resb_icu_text.specs.Refusal as refusal
 use Rattle.resb_icu_text.specs.declared.error.IcuTextError.{IcuTextError}
 use Rattle.resb_layout.specs.Written.{Written}
@@ -35,10 +35,15 @@ pub record IsIcuUnwritable (text : List ℕ) (e : BinarySerializerError) : Type 
   pub refused : RefusesWriting bundle.tree bundle.keys (fault_of e)
   pub listed : fault_of e ≢ fault.unexpected (codes "key not present in position map")
 
--- why a text isn't compiled: memory was wanted, or it is no bundle in ICU's form; or the writer
--- refuses its tree
+-- memory was wanted, or the text is no bundle in ICU's form, and a reading gets stuck at the
+-- error's place
+pub record IsIcuUnreadable (text : List ℕ) (e : IcuTextError) : Type 0 where
+  pub fails : IcuFails text e
+  pub no_bundle : (e ≡ refusal.want_of_memory) ⊎ IsNoIcuText text
+
+-- why a text isn't compiled: the reader refuses it, or the writer refuses its tree
 abbrev pub IsIcuRefused : List ℕ → IcuCompileError → Type 0
-IsIcuRefused text (Reading e) = (e ≡ refusal.want_of_memory) ⊎ IsNoIcuText text
+IsIcuRefused text (Reading e) = IsIcuUnreadable text e
 IsIcuRefused text (Writing e) = IsIcuUnwritable text e
 
 -- what the error prints: the text of the error inside

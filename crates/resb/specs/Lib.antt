@@ -31,7 +31,7 @@ pub use Rattle.resb_icu_grammar.specs.Groups as IcuGroups
 pub use Rattle.resb_icu_grammar.specs.Bundle as IcuBundle
 pub use Rattle.resb_icu_grammar.specs.Laws as IcuGrammarLaws
 pub use Rattle.resb_icu_text.specs.Answer as IcuAnswer
-pub use Rattle.resb_icu_text.specs.Expected as IcuExpected
+pub use Rattle.resb_icu_grammar.specs.Expected as IcuExpected
 pub use Rattle.resb_icu_text.specs.Refusal as IcuRefusal
 pub use Rattle.resb_text.specs.Answer
 pub use Rattle.resb_text.specs.Borrowed

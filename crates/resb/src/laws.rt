@@ -39,6 +39,8 @@ pub use resb_text::laws::within_is_never_more;
 pub use resb_icu_grammar::laws::one_icu_text;
 // Its discovered keys hold each key of its tree.
 pub use resb_icu_grammar::laws::icu_keys_are_listed;
+// A text in which a reading gets stuck is no bundle in that form.
+pub use resb_icu_grammar::laws::icu_stuck_is_no_text;
 
 // A tree in whose way nothing stands is printed as a bundle text.
 pub use resb_print::laws::printed_is_a_bundle;

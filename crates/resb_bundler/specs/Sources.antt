@@ -8,8 +8,8 @@ use Rattle.resb_grammar.specs.declared.expected.Expected.{Expected}
 use Rattle.resb_grammar.specs.declared.expected.Expected.TheVariants.{Memory}
 use Rattle.resb_grammar.specs.Limit.{MadeWithin, MakesMore}
 use Rattle.resb_text.specs.declared.error.TextParserError.{TextParserError}
-use Rattle.resb_icu_text.specs.declared.expected.IcuExpected.{IcuExpected}
-use Rattle.resb_icu_text.specs.declared.expected.IcuExpected.TheVariants as icu_expect
+use Rattle.resb_icu_grammar.specs.declared.expected.IcuExpected.{IcuExpected}
+use Rattle.resb_icu_grammar.specs.declared.expected.IcuExpected.TheVariants as icu_expect
 use Rattle.resb_icu_text.specs.declared.error.IcuTextError.{IcuTextError}
 use Rattle.resb.specs.Compiling.{IsRefused}
 use Rattle.resb.specs.CompilingIcu.{IsIcuRefused}

@@ -6,4 +6,7 @@ pub mod RestLists
 pub mod RestGroups
 pub mod RestUntyped
 pub mod RestRoot
+pub mod Leaves
+pub mod Moves
+pub mod Refused
 mod Examples

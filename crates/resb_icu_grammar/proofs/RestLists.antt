@@ -13,7 +13,8 @@ use Rattle.resb_icu_grammar.specs.Groups.{Last, a_string}
 use Rattle.resb_icu_grammar.specs.Groups.{a_comma, is_member, ends_in_string}
 use Rattle.resb_icu_grammar.specs.Groups.{Members, no_member, string_member}
 use Rattle.resb_icu_grammar.specs.Groups.{group_member, comma_behind, Entries, no_entry, one_entry}
-use Rattle.resb_icu_grammar.specs.Inner.Rest.{Goal, AreDistinct, InMembers, InEntries}
+use Rattle.resb_icu_grammar.specs.Inner.Rest.{Goal, InMembers, InEntries}
+use Rattle.resb_icu_grammar.specs.Machine.{AreDistinct}
 use Rattle.resb_icu_grammar.specs.Inner.Rest.{InGroup}
 use Rattle.resb_icu_grammar.specs.Inner.Rest.{AfterMember, AfterValue, Same}
 use Rattle.resb_icu_grammar.specs.Inner.Rest.{Never}

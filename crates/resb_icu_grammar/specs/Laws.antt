@@ -3,6 +3,8 @@ use Rattle.std.specs.Prelude.{◌≡◌, ℕ, Bool, true, List, Contains}
 use Rattle.resb_tree.specs.Tree.{Tree}
 use Rattle.resb_tree.specs.Keys.{is_key}
 use Rattle.resb_icu_grammar.specs.Bundle.{IcuText}
+use Rattle.resb_icu_grammar.specs.Stuck.{Stuck}
+use Rattle.resb_icu_grammar.specs.declared.expected.IcuExpected.{IcuExpected}
 
 -- a text has at most one name, fallback, tree and list of keys
 abbrev pub OneIcuText : Type 0
@@ -18,3 +20,10 @@ IcuKeysAreListed =
     (text name : List ℕ) (fallback : Bool) (tree : Tree) (keys : List (List ℕ))
     → IcuText text name fallback tree keys → (k : List ℕ) → is_key k tree ≡ true
     → Contains keys k
+
+-- a text in which a reading gets stuck is no bundle
+abbrev pub IcuStuckIsNoText : Type 0
+IcuStuckIsNoText =
+    (text : List ℕ) (at : ℕ) (x : IcuExpected) → Stuck text at x
+    → (name : List ℕ) (fallback : Bool) (tree : Tree) (keys : List (List ℕ))
+    → IcuText text name fallback tree keys → ⊥

@@ -6,5 +6,8 @@ pub mod Pieces
 pub mod Words
 pub mod Groups
 pub mod Bundle
+pub mod Machine
+pub mod Expected
+pub mod Stuck
 pub mod Laws
 pub mod Inner

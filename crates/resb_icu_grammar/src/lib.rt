@@ -3,4 +3,7 @@
 //! key of its tree. No text is read here.
 #![tactic(auto)]
 
+mod expected;
 pub mod laws;
+
+pub use expected::IcuExpected;

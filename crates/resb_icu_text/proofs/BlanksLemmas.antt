@@ -1,9 +1,8 @@
 -- Laws of comments and blanks, as the reader's functions use them.
-use Rattle.std.proofs.Common.{◌≡◌, ◌≢◌, ℕ, ◌+◌, ◌<◌, true, false, List, arith, subst}
+use Rattle.std.proofs.Common.{◌≡◌, ◌≢◌, ℕ, zero, suc, ◌+◌, ◌-◌, List, arith, subst, sym}
 use Rattle.std.specs.Prelude.{Option, Some, None, IfSome, slice_index}
-use Rattle.std.proofs.lemmas.Bool.Decides.{nat_tests}
 use Rattle.resb_grammar.specs.Ascii as ascii
-use Rattle.resb_grammar.specs.ByteRuns.{is_white}
+use Rattle.resb_grammar.specs.ByteRuns.{is_white, Each, Run}
 use Rattle.resb_grammar.specs.Lexical.{FirstCloser}
 use Rattle.resb_icu_grammar.specs.Blanks.{LineRest, Comment, line, block, Blanks, none, white}
 use Rattle.resb_icu_grammar.specs.Blanks.{comment, Skip}
@@ -43,15 +42,26 @@ pub no_comment_at : (text : List ℕ) (from : ℕ) → slice_index text from ≢
 no_comment_at text from ne to (line h h' rest) = ne h
 no_comment_at text from ne to (block at h h' first is) = ne h
 
-pub white_some : (b : ℕ) → is_white b ≡ true → 0 < b
-white_some b h = grind (arith, nat_tests)
+-- a run of white characters before blanks
+blanks_run : (text : List ℕ) (n at to : ℕ) → Each is_white text at (at + n)
+    → Blanks text (at + n) to → Blanks text at to
+blanks_run text zero at to each rest =
+    let e : at + 0 ≡ at = omega arith in subst (λ i. Blanks text i to) e rest
+blanks_run text (suc n) at to each rest =
+    let e : at + suc n ≡ at + 1 + n = omega arith in
+    white at to (each at (omega arith) (omega arith))
+    (blanks_run text n (at + 1) to (λ k low high. each k (omega (arith, low))
+    (omega (arith, high))) (subst (λ i. Blanks text i to) e rest))
 
--- one more white character
-pub white_more : (text : List ℕ) (from at b : ℕ) → b ≡ slice_index text at → is_white b ≡ true
-    → ((to : ℕ) → Blanks text at to → Blanks text from to) → (to : ℕ) → Blanks text (at + 1) to
+-- a run of white characters more
+pub white_more : (text : List ℕ) (from at next : ℕ) → Run is_white text at next
+    → ((to : ℕ) → Blanks text at to → Blanks text from to) → (to : ℕ) → Blanks text next to
     → Blanks text from to
-white_more text from at b h w so_far to rest =
-    so_far to (white at to (subst (λ c. is_white c ≡ true) h w) rest)
+white_more text from at next run so_far to rest =
+    let e : at + (next - at) ≡ next = omega (arith, run.order) in
+    so_far to (blanks_run text (next - at) at to
+    (subst (λ i. Each is_white text at i) (sym e) run.each)
+    (subst (λ i. Blanks text i to) (sym e) rest))
 
 -- one more comment
 pub comment_more : (text : List ℕ) (from at next : ℕ) → Comment text at next
@@ -60,10 +70,10 @@ pub comment_more : (text : List ℕ) (from at next : ℕ) → Comment text at ne
 comment_more text from at next h so_far to rest = so_far to (comment at next to h rest)
 
 -- the end of the blanks
-pub skip_ends : (text : List ℕ) (from at b : ℕ) → b ≡ slice_index text at → is_white b ≡ false
-    → ((to : ℕ) → Comment text at to → ⊥)
-    → ((to : ℕ) → Blanks text at to → Blanks text from to) → Skip text from at
-skip_ends text from at b h w never so_far = record {
-  blanks = so_far at (none at);
-  solid = record { no_white = subst (λ c. is_white c ≡ false) h w; no_comment = never };
+pub skip_ends : (text : List ℕ) (from at next : ℕ) → Run is_white text at next
+    → ((to : ℕ) → Comment text next to → ⊥)
+    → ((to : ℕ) → Blanks text at to → Blanks text from to) → Skip text from next
+skip_ends text from at next run never so_far = record {
+  blanks = white_more text from at next run so_far next (none next);
+  solid = record { no_white = run.longest; no_comment = never };
 }

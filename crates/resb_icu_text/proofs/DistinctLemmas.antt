@@ -1,16 +1,15 @@
 -- A map that is made of pairs at once has as many entries as there are pairs exactly where the keys
 -- of the pairs are distinct.
-use Rattle.std.proofs.Common.{◌≡◌, ◌≢◌, ℕ, ◌+◌, ◌≤◌, ◌<◌, Bool, true, false, List, [], ◌∷◌, length}
-use Rattle.std.proofs.Common.{BTreeMap, Ordering, Less, Equal, Greater, refl, sym, ap, ◌∙◌, subst}
+use Rattle.std.proofs.Common.{◌≡◌, ℕ, ◌+◌, ◌≤◌, Bool, true, false, List, [], ◌∷◌, length}
+use Rattle.std.proofs.Common.{BTreeMap, refl, sym, ap, ◌∙◌, subst}
 use Rattle.std.proofs.Common.{arith, cond, T}
 use Rattle.std.specs.Prelude.{Option, Some, None, nat_eq, not, ◌||◌}
 use Rattle.std.specs.BTreeMap.{insert_entry, IsFromIterResult}
 use Rattle.std.specs.Cmp.Lexicographic.{nat_list_cmp_total, pointwise, texts_ties}
-use Rattle.std.specs.FinMap.{slice_cmp-IsAntisymmetric, nat_cmp-IsAntisymmetric}
 use Rattle.std.specs.FinMap.Entries as fin
 use Rattle.std.specs.List.{list_any}
 use Rattle.std.specs.Option.{is_some}
-use Rattle.std.specs.Ordering.{eq_by_cmp, is_eq}
+use Rattle.std.specs.Ordering.{eq_by_cmp}
 use Rattle.std.proofs.lemmas.Bool.{false≢true}
 use Rattle.resb_tree.specs.Maps.{text_cmp}
 use Rattle.resb_tree.specs.Tree.{Tree}
@@ -18,7 +17,7 @@ use Rattle.resb_tree.specs.View.{tree_of, pairs_view}
 use Rattle.resb_tree.specs.declared.resource.Resource.{Resource}
 use Rattle.resb_tree.proofs.AtOnce.{inserted, insert_is_put, made, turned}
 use Rattle.resb_icu_grammar.specs.Groups.{is_new}
-use Rattle.resb_icu_grammar.specs.Inner.Rest.{AreDistinct}
+use Rattle.resb_icu_grammar.specs.Machine.{AreDistinct}
 
 -- none of the pairs has a key of these entries
 abbrev AreNewTo : List (List ℕ × Resource) → List (List ℕ × Resource) → Type 0

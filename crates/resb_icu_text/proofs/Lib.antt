@@ -1,9 +1,12 @@
 -- Laws of what is read of a text.
+mod ReachLemmas
 mod BlanksLemmas
 mod WordsLemmas
 mod EscapesLemmas
+mod StopsLemmas
 mod PiecesLemmas
 mod StringsLemmas
+mod LengthLemmas
 mod TypesLemmas
 mod DistinctLemmas
 mod LeafLemmas

@@ -1,5 +1,6 @@
 -- Laws of quoted pieces, as the reader's functions use them.
-use Rattle.std.proofs.Common.{◌≡◌, ◌≢◌, ℕ, ◌+◌, ◌-◌, ◌<◌, ◌≤◌, Bool, true, false, List, [], ◌∷◌}
+use Rattle.std.proofs.Common.{◌≡◌, ◌≢◌, ℕ, zero, suc, ◌+◌, ◌-◌, ◌<◌, ◌≤◌, Bool, true, false, List}
+use Rattle.std.proofs.Common.{[], ◌∷◌}
 use Rattle.std.proofs.Common.{◌++◌, length, arith, subst, sym, refl, ap, ◌∙◌, take, drop}
 use Rattle.std.proofs.Common.{append_assoc, append-nil, length-drop}
 use Rattle.std.proofs.Common.{Result, Ok, Err, OnOk, is_ok, if◌then◌else◌}
@@ -7,7 +8,7 @@ use Rattle.std.specs.Prelude.{slice_range}
 use Rattle.std.specs.Str.{IsUtf8, IsCharBoundary}
 use Rattle.std.proofs.lemmas.Str.{IsCharBoundary-after_ascii}
 use Rattle.std.proofs.lemmas.List.{take_more, get_or-drop}
-use Rattle.std.specs.Prelude.{slice_index, ◌==◌}
+use Rattle.std.specs.Prelude.{slice_index, nat_lt}
 use Rattle.std.proofs.lemmas.Bool.Decides.{nat_tests}
 use Rattle.std.proofs.lemmas.List.{get_or_past}
 use Rattle.resb_grammar.specs.Ascii as ascii
@@ -16,6 +17,7 @@ use Rattle.resb_icu_grammar.specs.Escapes.{Escape, itself, line_feed, carriage_r
 use Rattle.resb_icu_grammar.specs.Escapes.{four_digits, eight_digits}
 use Rattle.resb_icu_grammar.specs.Pieces.{QuotedBytes, ends, byte, escape}
 use Rattle.resb_icu_grammar.specs.Words.{HasNoEscape}
+use Rattle.resb_icu_text.specs.Inner.Stops.{HasNoStop}
 use Rattle.resb_icu_grammar.proofs.Lexical.{Escape-one, Inside-one}
 
 -- some inside of a piece stands between these places
@@ -26,21 +28,59 @@ SomeInside text from to = (s : List ℕ) × QuotedBytes text from to s
 abbrev pub GoesOn : List ℕ → ℕ → ℕ → Type 0
 GoesOn text at from = (to : ℕ) → SomeInside text at to → SomeInside text from to
 
-pub goes_byte : (text : List ℕ) (from at b : ℕ) → at < length text → b ≡ slice_index text at
-    → b ≢ ascii.quote → b ≢ backslash → GoesOn text at from → GoesOn text (at + 1) from
-goes_byte text from at b l e q s f to h =
-    f to (_, byte at to h.0 l (λ w. q (e ∙ w)) (λ w. s (e ∙ w)) h.1)
+goes_byte : (text : List ℕ) (from at : ℕ) → at < length text → slice_index text at ≢ ascii.quote
+    → slice_index text at ≢ backslash → GoesOn text at from → GoesOn text (at + 1) from
+goes_byte text from at l q s f to h = f to (_, byte at to h.0 l q s h.1)
 
-inside_byte : (text : List ℕ) (at to b : ℕ) (us : List ℕ) → b ≡ slice_index text at
-    → b ≢ ascii.quote → b ≢ backslash → QuotedBytes text at to us → SomeInside text (at + 1) to
-inside_byte text at to b us e q s (ends _ k) = absurd (q (e ∙ k))
-inside_byte text at to b us e q s (byte _ _ vs l k m r) = (vs, r)
-inside_byte text at to b us e q s (escape _ n _ xs vs k m r) = absurd (s (e ∙ k))
+inside_byte : (text : List ℕ) (at to : ℕ) (us : List ℕ) → slice_index text at ≢ ascii.quote
+    → slice_index text at ≢ backslash → QuotedBytes text at to us → SomeInside text (at + 1) to
+inside_byte text at to us q s (ends _ k) = absurd (q k)
+inside_byte text at to us q s (byte _ _ vs l k m r) = (vs, r)
+inside_byte text at to us q s (escape _ n _ xs vs k m r) = absurd (s k)
 
-pub back_byte : (text : List ℕ) (from at b : ℕ) → b ≡ slice_index text at → b ≢ ascii.quote
-    → b ≢ backslash → GoesOn text from at → GoesOn text from (at + 1)
-back_byte text from at b e q s f to h =
-    let g = f to h in inside_byte text at to b g.0 e q s g.1
+back_byte : (text : List ℕ) (from at : ℕ) → slice_index text at ≢ ascii.quote
+    → slice_index text at ≢ backslash → GoesOn text from at → GoesOn text from (at + 1)
+back_byte text from at q s f to h = let g = f to h in inside_byte text at to g.0 q s g.1
+
+goes_run : (text : List ℕ) (from at n : ℕ) → at + n ≤ length text → HasNoStop text at (at + n)
+    → GoesOn text at from → GoesOn text (at + n) from
+goes_run text from at zero l h f =
+    let e : at ≡ at + 0 = omega arith in subst (λ i. GoesOn text i from) e f
+goes_run text from at (suc n) l h f =
+    let e : at + 1 + n ≡ at + suc n = omega arith in
+    let b = h at (omega arith) (omega arith) in
+    subst (λ i. GoesOn text i from) e
+    (goes_run text from (at + 1) n (omega (arith, l))
+    (λ k low high. h k (omega (arith, low)) (omega (arith, high)))
+    (goes_byte text from at (omega (arith, l)) b.0 b.1 f))
+
+back_run : (text : List ℕ) (from at n : ℕ) → HasNoStop text at (at + n) → GoesOn text from at
+    → GoesOn text from (at + n)
+back_run text from at zero h f =
+    let e : at ≡ at + 0 = omega arith in subst (λ i. GoesOn text from i) e f
+back_run text from at (suc n) h f =
+    let e : at + 1 + n ≡ at + suc n = omega arith in
+    let b = h at (omega arith) (omega arith) in
+    subst (λ i. GoesOn text from i) e
+    (back_run text from (at + 1) n (λ k low high. h k (omega (arith, low)) (omega (arith, high)))
+    (back_byte text from at b.0 b.1 f))
+
+-- bytes that stand for themselves, up to the first quote or backslash
+pub goes_bytes : (text : List ℕ) (from at stop : ℕ) → at ≤ stop → stop ≤ length text
+    → HasNoStop text at stop → GoesOn text at from → GoesOn text stop from
+goes_bytes text from at stop o l h f =
+    let e : at + (stop - at) ≡ stop = omega arith in
+    subst (λ i. GoesOn text i from) e
+    (goes_run text from at (stop - at) (omega (arith, e))
+    (subst (λ i. HasNoStop text at i) (sym e) h) f)
+
+-- and back
+pub back_bytes : (text : List ℕ) (from at stop : ℕ) → at ≤ stop → HasNoStop text at stop
+    → GoesOn text from at → GoesOn text from stop
+back_bytes text from at stop o h f =
+    let e : at + (stop - at) ≡ stop = omega arith in
+    subst (λ i. GoesOn text from i) e
+    (back_run text from at (stop - at) (subst (λ i. HasNoStop text at i) (sym e) h) f)
 
 pub goes_escape : (text : List ℕ) (from at next b : ℕ) (xs : List ℕ) → b ≡ slice_index text at
     → b ≡ backslash → Escape text (at + 1) next xs → GoesOn text at from
@@ -84,33 +124,28 @@ inside_past text at to us l z (ends _ k) = omega (arith, z, k)
 inside_past text at to us l z (byte _ _ ws m k n r) = omega arith
 inside_past text at to us l z (escape _ n _ ys ws k m r) = omega (arith, z, k)
 
--- behind the text's end no piece ends
-pub none_past : (text : List ℕ) (from at : ℕ) → length text ≤ at → GoesOn text from at → (to : ℕ)
-    (s : List ℕ) → QuotedBytes text from to s → ⊥
-none_past text from at l g to us h =
-    let k = g to (us, h) in inside_past text at to k.0 l (get_or_past text at 0 l) k.1
+-- where neither a quote nor a backslash follows, no piece ends
+pub none_past : (text : List ℕ) (from at : ℕ) → at ≤ length text
+    → HasNoStop text at (length text) → GoesOn text from at → (to : ℕ) (s : List ℕ)
+    → QuotedBytes text from to s → ⊥
+none_past text from at l h g to us i =
+    let k = back_bytes text from at (length text) l h g to (us, i) in
+    inside_past text (length text) to k.0 (omega arith)
+    (get_or_past text (length text) 0 (omega arith)) k.1
 
 -- a closing quote
-pub piece_closes : (text : List ℕ) (from at b : ℕ) → b ≡ slice_index text at → b ≡ ascii.quote
+pub piece_closes : (text : List ℕ) (from at : ℕ) → slice_index text at ≡ ascii.quote
     → GoesOn text at from → SomeInside text from at
-piece_closes text from at b e q f = f at ([], ends at (sym e ∙ q))
+piece_closes text from at q f = f at ([], ends at q)
 
--- one byte more without a backslash
-pub no_escape_more : (text : List ℕ) (from at b : ℕ) → b ≡ slice_index text at → b ≢ backslash
-    → HasNoEscape text from at → HasNoEscape text from (at + 1)
-no_escape_more text from at b e s f k low high h = one (k == at) refl
+-- bytes more without a backslash
+pub no_escape_more : (text : List ℕ) (from at stop : ℕ) → HasNoStop text at stop
+    → HasNoEscape text from at → HasNoEscape text from stop
+no_escape_more text from at stop h f k low high = pick (nat_lt k at) refl
   where
-    one : (c : Bool) → (k == at) ≡ c → ⊥
-    one true i =
-        let j : k ≡ at = grind (arith, nat_tests) in
-        s (e ∙ ap (λ n. slice_index text n) (sym j) ∙ h)
-    one false i = let j : k ≢ at = grind (arith, nat_tests) in f k low (omega arith) h
-
--- a backslash that was passed stays passed
-pub dirty_more : (text : List ℕ) (from at : ℕ)
-    → (k : ℕ) × (from ≤ k) × (k < at) × (slice_index text k ≡ backslash)
-    → (k : ℕ) × (from ≤ k) × (k < at + 1) × (slice_index text k ≡ backslash)
-dirty_more text from at h = (h.0, h.1, omega (arith, h.2), h.3)
+    pick : (c : Bool) → nat_lt k at ≡ c → slice_index text k ≢ backslash
+    pick true e = f k low (grind (arith, nat_tests, e))
+    pick false e = (h k (grind (arith, nat_tests, e)) high).1
 
 -- a slice of one byte more
 slice_more : (text : List ℕ) (start at : ℕ) → start ≤ at → at < length text

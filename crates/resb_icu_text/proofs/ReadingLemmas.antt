@@ -1,4 +1,4 @@
--- What is open around a place, what stands before the root, and why a text is no bundle.
+-- What is open around a place, what stands before the root, and where a reading of a text stops.
 use Rattle.std.proofs.Common.{◌≡◌, ◌≢◌, ℕ, ◌+◌, ◌≤◌, ◌<◌, Bool, true, false, List, [], ◌∷◌, ◌++◌}
 use Rattle.std.proofs.Common.{refl, sym, ◌∙◌, ap, subst, arith, length, get_or, Bor}
 use Rattle.std.proofs.Common.{◌⊎◌, inl, inr, ⊎_elim}
@@ -17,21 +17,29 @@ use Rattle.resb_tree.specs.View.{tree_of}
 use Rattle.resb_tree.specs.declared.resource.Resource.{Resource}
 use Rattle.resb_icu_grammar.specs.Bytes.{is_word}
 use Rattle.resb_icu_grammar.specs.Blanks.{Begins, Skip}
-use Rattle.resb_icu_grammar.specs.Bundle.{Header, Typing, without, with, IcuText}
-use Rattle.resb_icu_grammar.specs.Words.{KeyText, Name, RootType}
-use Rattle.resb_icu_grammar.specs.Inner.Rest.{Meaning, Waiting, After, AtEnd, Same, Never}
-use Rattle.resb_icu_grammar.proofs.Lexical.{Begins-one, Skip-one, String-one, key_string}
-use Rattle.resb_icu_grammar.proofs.Lexical.{RootType-one, root_type_first}
-use Rattle.resb_icu_grammar.proofs.RestRoot.{root_follows, follows_root}
-use Rattle.resb_icu_text.specs.Answer.{IsNoIcuText}
+use Rattle.resb_icu_grammar.specs.Bundle.{Header, Typing, without, with}
+use Rattle.resb_icu_grammar.specs.Words.{KeyText, Name}
+use Rattle.resb_icu_grammar.specs.Machine.{Waiting, Reading, reading, behind_group, Comes, here}
+use Rattle.resb_icu_grammar.specs.Stuck.{HeadStuck, StuckFrom, Stuck, in_head, in_root, at_root}
+use Rattle.resb_icu_grammar.specs.Stuck.{no_root_type, no_root_brace, no_typed_brace, behind}
+use Rattle.resb_icu_grammar.specs.Stuck.{more_text}
+use Rattle.resb_icu_grammar.specs.Stuck as stuck
+use Rattle.resb_icu_grammar.specs.declared.expected.IcuExpected.{IcuExpected}
+use Rattle.resb_icu_grammar.specs.declared.expected.IcuExpected.TheVariants as expect
+use Rattle.resb_icu_grammar.proofs.Lexical.{String-one, key_string}
+use Rattle.resb_icu_grammar.proofs.Moves.{comes_by, comes_same}
+use Rattle.resb_icu_grammar.proofs.Refused.{stuck_is_no_text}
+use Rattle.resb_icu_text.specs.Answer.{IcuFails, IsNoIcuText}
 use Rattle.resb_icu_text.specs.Refusal.{want_of_memory}
 use Rattle.resb_icu_text.specs.declared.error.IcuTextError.{IcuTextError}
-use Rattle.resb_icu_text.specs.Inner.Steps.{shown, with_key, Rest, GroupThere, EndedThere}
+use Rattle.resb_icu_text.specs.Inner.Steps.{shown, with_key, now, GroupThere, EndedThere}
 use Rattle.resb_icu_text.specs.Inner.Steps.{There, Steps, Stops}
 use Rattle.resb_icu_text.specs.declared.steps.Waiting.{Waiting as Open}
 use Rattle.resb_icu_text.specs.declared.steps.Step.{Step}
 use Rattle.resb_icu_text.specs.declared.steps.Step.TheVariants as step
-use Rattle.resb_icu_text.specs.Inner.Reading.{around, AnyName, AnyHeader, Opening, RootThere}
+use Rattle.resb_icu_text.specs.Inner.Reading.{around, NameFails, TypingThere, no_colon, a_type}
+use Rattle.resb_icu_text.specs.Inner.Reading.{OpeningFails, no_type, no_brace, HeadFails}
+use Rattle.resb_icu_text.specs.Inner.Reading.{RootThere, RootFails}
 
 -- one group more is the innermost
 pub around_push : (ws : List Waiting) (os : List Open) (o : Open)
@@ -39,32 +47,33 @@ pub around_push : (ws : List Waiting) (os : List Open) (o : Open)
 around_push ws [] o = refl
 around_push ws (p ∷ os) o = around_push (shown p ∷ ws) os o
 
+name_is : (text : List ℕ) (at to end : ℕ) (k name : List ℕ) → KeyText text at to k
+    → Name text at end name → name ≡ k
+name_is text at to end k name p n =
+    (String-one text at end to name k (key_string text at end name n.key)
+    (key_string text at to k p)).1
+
 -- no name stands where no key does
 pub no_name : (text : List ℕ) (at : ℕ) → ((to : ℕ) (k : List ℕ) → KeyText text at to k → ⊥)
-    → AnyName text at → ⊥
-no_name text at f n = f n.to n.name n.stands.key
-
-name_is : (text : List ℕ) (at to : ℕ) (k : List ℕ) → KeyText text at to k → (n : AnyName text at)
-    → n.name ≡ k
-name_is text at to k p n =
-    (String-one text at n.to to n.name k (key_string text at n.to n.name n.stands.key)
-    (key_string text at to k p)).1
+    → (end : ℕ) (name : List ℕ) → Name text at end name → ⊥
+no_name text at f end name n = f end name n.key
 
 -- an empty key is no name
 pub empty_name : (text : List ℕ) (at to : ℕ) (k : List ℕ) → KeyText text at to k
-    → (length k == 0) ≡ true → AnyName text at → ⊥
-empty_name text at to k p e n =
+    → (length k == 0) ≡ true → (end : ℕ) (name : List ℕ) → Name text at end name → ⊥
+empty_name text at to k p e end name n =
     let none : length k ≡ 0 = grind (arith, nat_tests) in
-    let same : length n.name ≡ length k = ap length (name_is text at to k p n) in
-    absurd (omega (arith, n.stands.some, none, same))
+    let same : length name ≡ length k = ap length (name_is text at to end k name p n) in
+    absurd (omega (arith, n.some, none, same))
 
 -- nor is one with other bytes than those of words
-pub broken_name : (text : List ℕ) (at to end : ℕ) (k : List ℕ) → KeyText text at to k
-    → Run is_word k 0 end → end < length k → AnyName text at → ⊥
-broken_name text at to end k p r w n =
+pub broken_name : (text : List ℕ) (at to stop : ℕ) (k : List ℕ) → KeyText text at to k
+    → Run is_word k 0 stop → stop < length k → (end : ℕ) (name : List ℕ)
+    → Name text at end name → ⊥
+broken_name text at to stop k p r w end name n =
     let whole : Run is_word k 0 (length k) =
-    subst (λ s. Run is_word s 0 (length s)) (name_is text at to k p n) n.stands.word in
-    let same : end ≡ length k = Run-one is_word k 0 end (length k) r whole in
+    subst (λ s. Run is_word s 0 (length s)) (name_is text at to end k name p n) n.word in
+    let same : stop ≡ length k = Run-one is_word k 0 stop (length k) r whole in
     absurd (omega (arith, w, same))
 
 -- a key of bytes of words is a name
@@ -78,102 +87,53 @@ whole_name text at to end k p e r w =
       word = subst (λ n. Run is_word k 0 n) (omega (arith, w, r.fits)) r;
     }
 
--- where no colon stands, the root has no type
-pub untyped_root : (text : List ℕ) (at : ℕ) → slice_index text at ≢ ascii.colon
-    → (brace : ℕ) (f : Bool) → Opening text at brace f → brace ≡ at
-untyped_root text at ne brace f o = by f o.typed
-  where
-    by : (f : Bool) → Typing text at brace f → brace ≡ at
-    by f (without e) = sym e
-    by f (with i g r k) = absurd (ne (root_type_first text at i g r))
+-- what the form says of the root's type
+pub typing_of : (text : List ℕ) (from to : ℕ) (f : Bool) → TypingThere text from to f
+    → Typing text from to f
+typing_of text from to _ (no_colon n e) = without (sym e)
+typing_of text from to f (a_type i _ r k) = with i f r k
 
--- behind a type of the root its brace stands at one place
-pub typed_root : (text : List ℕ) (at end to : ℕ) (g : Bool) → RootType text at end g
-    → Skip text end to → (brace : ℕ) (f : Bool) → Opening text at brace f → brace ≡ to
-typed_root text at end to g r k brace f o = by f o.typed o.opens
-  where
-    by : (f : Bool) → Typing text at brace f → slice_index text brace ≡ ascii.left_brace
-        → brace ≡ to
-    by f (without e) b =
-        let colon : slice_index text brace ≡ ascii.colon =
-        ap (λ i. slice_index text i) (sym e) ∙ root_type_first text at end g r in
-        absurd (omega (arith, b, colon))
-    by f (with i h q l) b =
-        Skip-one text end brace to (subst (λ n. Skip text n brace)
-        (RootType-one text at i end h g q r).0 l) k
+head_says : (text : List ℕ) (to : ℕ) (x : IcuExpected) (e : IcuTextError)
+    → e ≡ record { position = to; expected = x } → HeadStuck text to x
+    → HeadFails text e
+head_says text to x e h s =
+    inr (subst (λ (g : IcuTextError). HeadStuck text g.position g.expected) (sym h) s)
 
--- where a colon stands and no type of a root, no root begins
-pub no_root_type : (text : List ℕ) (at : ℕ) → slice_index text at ≡ ascii.colon
-    → ((to : ℕ) (f : Bool) → RootType text at to f → ⊥) → (brace : ℕ) (f : Bool)
-    → Opening text at brace f → ⊥
-no_root_type text at c none brace f o = by f o.typed o.opens
-  where
-    by : (f : Bool) → Typing text at brace f → slice_index text brace ≡ ascii.left_brace → ⊥
-    by f (without e) b =
-        let colon : slice_index text brace ≡ ascii.colon = ap (λ i. slice_index text i) (sym e) ∙ c
-        in absurd (omega (arith, b, colon))
-    by f (with i h q l) b = none i h q
+-- where no name stands, a reading stops before the first entry
+pub no_head_name : (text : List ℕ) (a start : ℕ) (e : IcuTextError) → Begins text a
+    → Skip text a start → NameFails text start e → HeadFails text e
+no_head_name text a start e b k (inl m) = inl m
+no_head_name text a start e b k (inr n) =
+    head_says text start expect.Name e n.1 (stuck.no_name a start b k n.0)
 
--- where the root's brace could stand alone, none stands
-pub no_opening : (text : List ℕ) (at to : ℕ)
-    → ((brace : ℕ) (f : Bool) → Opening text at brace f → brace ≡ to)
-    → slice_index text to ≢ ascii.left_brace → (brace : ℕ) (f : Bool) → Opening text at brace f
-    → ⊥
-no_opening text at to only ne brace f o =
-    ne (ap (λ i. slice_index text i) (sym (only brace f o)) ∙ o.opens)
+no_opening_brace : (text : List ℕ) (a start end at brace : ℕ) (name : List ℕ) (f : Bool)
+    → Begins text a → Skip text a start → Name text start end name → Skip text end at
+    → TypingThere text at brace f → slice_index text brace ≢ ascii.left_brace
+    → HeadStuck text brace expect.LeftBrace
+no_opening_brace text a start end at brace name _ b k n l (no_colon c e) d =
+    subst (λ i. HeadStuck text i expect.LeftBrace) (sym e)
+    (no_root_brace a start end at name b k n l c
+    (λ h. d (ap (λ i. slice_index text i) e ∙ h)))
+no_opening_brace text a start end at brace name f b k n l (a_type i _ r m) d =
+    no_typed_brace a start end at i brace name f b k n l r m d
 
-starts : (text : List ℕ) (a start : ℕ) → Begins text a → Skip text a start
-    → (h : AnyHeader text) → h.header.start ≡ start
-starts text a start b k h =
-    Skip-one text a h.header.start start
-    (subst (λ n. Skip text n h.header.start) (Begins-one text h.header.begin a h.header.begins b)
-    h.header.before) k
-
--- without a name there is no header
-pub no_header_name : (text : List ℕ) (a start : ℕ) → Begins text a → Skip text a start
-    → (AnyName text start → ⊥) → AnyHeader text → ⊥
-no_header_name text a start b k f h =
-    f (record {
-      to = h.header.ends;
-      name = h.name;
-      stands = subst (λ n. Name text n h.header.ends h.name) (starts text a start b k h)
-          h.header.named;
-    })
-
--- nor without the root's brace
-pub no_header_opening : (text : List ℕ) (a start end place : ℕ) (name : List ℕ) → Begins text a
-    → Skip text a start → Name text start end name → Skip text end place
-    → ((brace : ℕ) (f : Bool) → Opening text place brace f → ⊥) → AnyHeader text → ⊥
-no_header_opening text a start end place name b k n l none h =
-    let p = h.header in
-    let there : KeyText text start p.ends h.name =
-    subst (λ i. KeyText text i p.ends h.name) (starts text a start b k h) p.named.key in
-    let same = String-one text start p.ends end h.name name
-    (key_string text start p.ends h.name there)
-    (key_string text start end name n.key) in
-    let here : p.place ≡ place = Skip-one text end p.place place
-    (subst (λ i. Skip text i p.place) same.0 p.between) l in
-    none p.brace h.fallback (record {
-      typed = subst (λ i. Typing text i p.brace h.fallback) here p.typed;
-      opens = p.opens;
-    })
-
--- a text without a header is no bundle
-pub no_header_no_text : (text : List ℕ) → (AnyHeader text → ⊥) → IsNoIcuText text
-no_header_no_text text f name fallback tree keys p =
-    f (record { name = name; fallback = fallback; to = p.first; header = p.header })
-
--- nor is one whose root has no meaning
-pub no_root_no_text : (text name : List ℕ) (f : Bool) (a : ℕ) → Header text name f a
-    → Never (RootThere text a) → IsNoIcuText text
-no_root_no_text text name f a h never other g tree keys p =
-    let r = follows_root text name other f g a tree keys h p in never (tree, r.2) r.3
+-- nor where the root doesn't begin
+pub no_head_opening : (text : List ℕ) (a start end at : ℕ) (name : List ℕ) (e : IcuTextError)
+    → Begins text a → Skip text a start → Name text start end name → Skip text end at
+    → OpeningFails text at e → HeadFails text e
+no_head_opening text a start end at name e b k n l (no_type c f h) =
+    head_says text at expect.RootType e h (no_root_type a start end at name b k n l c f)
+no_head_opening text a start end at name e b k n l (no_brace brace f t d h) =
+    head_says text brace expect.LeftBrace e h
+    (no_opening_brace text a start end at brace name f b k n l t d)
 
 -- a refusal inside these groups and with these keys
-pub stops_at : (there : There) (e : IcuTextError) → Stops there e → (ws : List Waiting)
-    (ks : List (List ℕ)) → (e ≡ want_of_memory) ⊎ Never (there ws ks)
-stops_at there e r ws ks = ⊎_elim (λ (m : e ≡ want_of_memory). inl m)
-    (λ (n : (ws : List Waiting) (ks : List (List ℕ)) → Never (there ws ks)). inr (n ws ks)) r
+pub stops_there : (text : List ℕ) (there : There) (e : IcuTextError) → Stops text there e
+    → (ws : List Waiting) (ks : List (List ℕ))
+    → (e ≡ want_of_memory) ⊎ StuckFrom text (there ws ks) e.position e.expected
+stops_there text there e r ws ks = ⊎_elim (λ (m : e ≡ want_of_memory). inl m)
+    (λ (n : (ws : List Waiting) (ks : List (List ℕ))
+    → StuckFrom text (there ws ks) e.position e.expected). inr (n ws ks)) r
 
 -- what is open after a push
 pub pushed : (old new : List Open) (o : Open) → new ≡ old ++ o ∷ []
@@ -181,13 +141,12 @@ pub pushed : (old new : List Open) (o : Open) → new ≡ old ++ o ∷ []
 pushed old new o e = ap (λ os. around [] os) e ∙ around_push [] old o
 
 -- a step inside a group that was just opened
-pub in_opened : (text : List ℕ) (at : ℕ) (s : Step) (w : Open) (os ws : List Waiting)
+pub in_opened : (text : List ℕ) (at : ℕ) (r : Reading) (w : Open) (os ws : List Waiting)
     (js ks : List (List ℕ)) → os ≡ shown w ∷ ws → js ≡ with_key ks w
-    → Same (GroupThere text at os js) (Rest text os js s)
-    → Same (Rest text ws ks (step.Group w at)) (Rest text os js s)
-in_opened text at s w os ws js ks e f h =
-    subst (λ vs. Same (GroupThere text at vs (with_key ks w)) (Rest text os js s)) e
-    (subst (λ is. Same (GroupThere text at os is) (Rest text os js s)) f h)
+    → Comes text (GroupThere at os js) r → Comes text (now ws ks (step.Group w at)) r
+in_opened text at r w os ws js ks e f h =
+    subst (λ vs. Comes text (GroupThere at vs (with_key ks w)) r) e
+    (subst (λ is. Comes text (GroupThere at os is) r) f h)
 
 -- one key more in the list of those that stand once
 pub more_keys : (ks : List (Bor (List ℕ))) (i : ℕ) (d : Bor (List ℕ)) (old new : List (List ℕ))
@@ -208,52 +167,79 @@ nothing_open (o ∷ os) e = absurd (omega arith)
 -- a step behind a group, inside what was open around it
 pub behind_ended : (text : List ℕ) (w : Open) (r : Resource) (at : ℕ) (s : Step)
     (os ws : List Waiting) (ks : List (List ℕ)) → os ≡ shown w ∷ ws
-    → Steps text (EndedThere text w r at) s
-    → Same (Rest text os ks (step.Ended r at)) (Rest text ws ks s)
+    → Steps text (EndedThere w r at) s
+    → Comes text (now os ks (step.Ended r at)) (now ws ks s)
 behind_ended text w r at s os ws ks e h =
-    subst (λ vs. Same (After text vs at (tree_of r) ks) (Rest text ws ks s)) (sym e) (h ws ks)
+    subst (λ vs. Comes text (reading vs ks (behind_group (tree_of r)) at) (now ws ks s)) (sym e)
+    (h ws ks)
 
 -- a refusal there
 pub stops_ended : (text : List ℕ) (w : Open) (r : Resource) (at : ℕ) (e : IcuTextError)
     (os ws : List Waiting) (ks : List (List ℕ)) → os ≡ shown w ∷ ws
-    → Stops (EndedThere text w r at) e
-    → (e ≡ want_of_memory) ⊎ Never (Rest text os ks (step.Ended r at))
+    → Stops text (EndedThere w r at) e
+    → (e ≡ want_of_memory)
+    ⊎ StuckFrom text (now os ks (step.Ended r at)) e.position e.expected
 stops_ended text w r at e os ws ks f h =
-    subst (λ vs. (e ≡ want_of_memory) ⊎ Never (After text vs at (tree_of r) ks)) (sym f)
-    (stops_at (EndedThere text w r at) e h ws ks)
+    subst (λ vs. (e ≡ want_of_memory)
+    ⊎ StuckFrom text (reading vs ks (behind_group (tree_of r)) at) e.position e.expected) (sym f)
+    (stops_there text (EndedThere w r at) e h ws ks)
 
 -- where nothing is open, the root has ended
 pub root_ended : (text : List ℕ) (r : Resource) (at : ℕ) (os : List Waiting) (ks : List (List ℕ))
-    → os ≡ [] → Same (Rest text os ks (step.Ended r at)) (AtEnd text at (tree_of r) ks)
+    → os ≡ []
+    → Comes text (now os ks (step.Ended r at)) (reading [] ks (behind_group (tree_of r)) at)
 root_ended text r at os ks e =
-    subst (λ vs. Same (After text vs at (tree_of r) ks) (AtEnd text at (tree_of r) ks)) (sym e)
-    (λ m. (λ h. h, λ h. h))
+    subst (λ vs. Comes text (reading vs ks (behind_group (tree_of r)) at)
+    (reading [] ks (behind_group (tree_of r)) at)) (sym e) (here _)
 
--- a refusal where the rest is the same
-pub stops_before : (P Q : Meaning → Type 0) (e : IcuTextError) → Same P Q
-    → (e ≡ want_of_memory) ⊎ Never Q → (e ≡ want_of_memory) ⊎ Never P
-stops_before P Q e f r = ⊎_elim (λ (m : e ≡ want_of_memory). inl m)
-    (λ (n : Never Q). inr (λ m p. n m ((f m).0 p))) r
+-- where a reading stops that came from the root's first entry
+pub stops_root : (text : List ℕ) (first : ℕ) (r : Reading) (e : IcuTextError)
+    → Comes text (at_root first) r
+    → (e ≡ want_of_memory) ⊎ StuckFrom text r e.position e.expected → RootFails text first e
+stops_root text first r e c f = ⊎_elim (λ (m : e ≡ want_of_memory). inl m)
+    (λ (n : StuckFrom text r e.position e.expected). inr (record {
+      last = n.last;
+      comes = comes_by text (at_root first) r n.last c n.comes;
+      halts = n.halts;
+    })) f
 
--- where more than blanks stands behind the root, the text doesn't end
-pub text_goes_on : (text : List ℕ) (at end : ℕ) (t : Tree) (ks : List (List ℕ))
-    → Skip text at end → end < length text → Never (AtEnd text at t ks)
-text_goes_on text at end t ks k w m h =
-    let same : end ≡ length text = Skip-one text at end (length text) k h.after in
-    absurd (omega (arith, w, same))
+-- where more than blanks stands behind the root
+pub text_goes_on : (text : List ℕ) (first at end : ℕ) (t : Tree) (ks : List (List ℕ))
+    (e : IcuTextError) → Comes text (at_root first) (reading [] ks (behind_group t) at)
+    → Skip text at end → end < length text
+    → e ≡ record { position = end; expected = expect.EndOfText } → RootFails text first e
+text_goes_on text first at end t ks e c k w h =
+    inr (subst (λ (g : IcuTextError). StuckFrom text (at_root first) g.position g.expected) (sym h)
+    (record {
+      last = reading [] ks (behind_group t) at;
+      comes = c;
+      halts = behind [] ks t at end expect.EndOfText (more_text end k w);
+    }))
 
 -- where nothing but blanks does, the root has this meaning
 pub text_ends : (text : List ℕ) (first at end : ℕ) (t : Tree) (ks : List (List ℕ))
-    → Same (RootThere text first) (AtEnd text at t ks) → Skip text at end → length text ≤ end
-    → end ≤ length text → RootThere text first (t, ks)
-text_ends text first at end t ks f k w v =
+    → Comes text (at_root first) (reading [] ks (behind_group t) at) → Skip text at end
+    → length text ≤ end → end ≤ length text → RootThere text first (t, ks)
+text_ends text first at end t ks c k w v =
     let whole : Skip text at (length text) =
     subst (λ n. Skip text at n) (omega (arith, w, v)) k in
-    (f (t, ks)).1 (record { after = whole; means = refl })
+    (comes_same text (at_root first) (reading [] ks (behind_group t) at) c (t, ks)).1
+    (record { after = whole; means = refl })
 
--- where its root is refused, a text is no bundle
+-- a refusal of the head is one of the text
+pub head_refused : (text : List ℕ) (e : IcuTextError) → HeadFails text e → IcuFails text e
+head_refused text e r = ⊎_elim (λ (m : e ≡ want_of_memory). inl m)
+    (λ (n : HeadStuck text e.position e.expected). inr (in_head n)) r
+
+-- and so is one of the root
 pub root_refused : (text name : List ℕ) (f : Bool) (a : ℕ) (e : IcuTextError)
-    → Header text name f a → (e ≡ want_of_memory) ⊎ Never (RootThere text a)
-    → (e ≡ want_of_memory) ⊎ IsNoIcuText text
+    → Header text name f a → RootFails text a e → IcuFails text e
 root_refused text name f a e h r = ⊎_elim (λ (m : e ≡ want_of_memory). inl m)
-    (λ (n : Never (RootThere text a)). inr (no_root_no_text text name f a h n)) r
+    (λ (n : StuckFrom text (at_root a) e.position e.expected). inr (in_root name f a h n)) r
+
+-- a text that is refused is no bundle
+pub refused_is_no_text : (text : List ℕ) (e : IcuTextError) → IcuFails text e
+    → (e ≡ want_of_memory) ⊎ IsNoIcuText text
+refused_is_no_text text e r = ⊎_elim (λ (m : e ≡ want_of_memory). inl m)
+    (λ (n : Stuck text e.position e.expected).
+    inr (stuck_is_no_text text e.position e.expected n)) r

@@ -2,7 +2,8 @@
 use Rattle.std.proofs.Common.{◌≡◌, ◌≢◌, ℕ, suc, ◌+◌, ◌-◌, ◌<◌, ◌≤◌, true, false, List, []}
 use Rattle.std.proofs.Common.{◌∷◌, ◌++◌, length, arith, subst, sym, refl, ap, ◌∙◌, take, drop}
 use Rattle.std.proofs.Common.{append_assoc, append-nil, drop-cons, ◌⊎◌, inl, inr}
-use Rattle.std.specs.Prelude.{slice_index, slice_range, ◌↔◌, IsTrue}
+use Rattle.std.specs.Prelude.{slice_index, slice_range}
+use Rattle.std.specs.Borrow.{Bor}
 use Rattle.std.proofs.lemmas.Bool.{false≢true}
 use Rattle.std.proofs.lemmas.Bool.Decides.{nat_tests}
 use Rattle.resb_grammar.specs.Ascii as ascii
@@ -15,9 +16,10 @@ use Rattle.resb_icu_grammar.specs.Words.{Word, Text, KeyText, HasNoEscape}
 use Rattle.resb_icu_grammar.specs.Words as words
 use Rattle.resb_icu_grammar.proofs.Lexical.{Piece-one, Skip-one, word_first, joined_first}
 use Rattle.resb_icu_text.specs.declared.strings.Said.{Said}
-use Rattle.resb_icu_text.specs.Lexemes.{IsNoLexeme, IsLexeme}
+use Rattle.resb_icu_text.specs.declared.strings.Said.TheVariants as the
+use Rattle.resb_icu_text.specs.Lexemes.{IsNoLexeme, IsLexeme, Plain, a_word, a_piece}
 use Rattle.resb_icu_text.specs.Inner.Ahead.{Ahead, no_more, more}
-use Rattle.resb_icu_text.specs.Lexemes.{bytes_said, is_key}
+use Rattle.resb_icu_text.specs.Lexemes.{bytes_said, is_key, is_slice}
 use Rattle.resb_icu_text.proofs.PiecesLemmas.{inside_order, inside_closes, escape_order, slice_none}
 
 quote_no_word : (b : ℕ) → b ≡ ascii.quote → is_word b ≡ true → ⊥
@@ -157,12 +159,12 @@ no_string_ahead text from last next first q h s never =
     let r = unjoin text from (last + 1) next to first all (piece_of text from last first q h) s j in
     never to r.0 r.1)
 
--- a string put together is no key, if a piece follows its first one or an escape stands there
-pub no_key : (text : List ℕ) (from last to : ℕ) (first s : List ℕ)
+-- a string put together isn't plain, if a piece follows its first one or an escape stands there
+pub not_plain : (text : List ℕ) (from last to : ℕ) (first s : List ℕ)
     → slice_index text from ≡ ascii.quote → QuotedBytes text (from + 1) last first
-    → (HasNoEscape text (from + 1) last → last + 1 ≢ to) → KeyText text from to s → ⊥
-no_key text from last to first s q h f (words.a_word w k) = no_word text from to s q w
-no_key text from last to first s q h f (words.quoted j p n k) =
+    → (HasNoEscape text (from + 1) last → last + 1 ≢ to) → Plain text from to s → ⊥
+not_plain text from last to first s q h f (a_word w) = no_word text from to s q w
+not_plain text from last to first s q h f (a_piece j p n) =
     let p' = piece_of text from last first q h in
     f (λ i low high. n i (omega arith)
     (omega (arith, high, (Piece-one text from to (last + 1) s first p p').0)))
@@ -219,63 +221,93 @@ module _ (text : List ℕ) (from last next : ℕ) (bytes : List ℕ) where
   plain_string q h s n =
       words.quoted (last_piece from (last + 1) next bytes (piece_of text from last bytes q h) s n)
 
-  -- and it may be a key, if each of its bytes may stand in one
-  pub plain_key : slice_index text from ≡ ascii.quote → QuotedBytes text (from + 1) last bytes
+  -- and it stands in the text as it is
+  pub plain_piece : slice_index text from ≡ ascii.quote → QuotedBytes text (from + 1) last bytes
       → Skip text (last + 1) next → slice_index text next ≢ ascii.quote
-      → HasNoEscape text (from + 1) last → are_key_bytes bytes ≡ true
-      → KeyText text from (last + 1) bytes
-  plain_key q h s n f k =
-      words.quoted (last_piece from (last + 1) next bytes (piece_of text from last bytes q h) s n)
+      → HasNoEscape text (from + 1) last → Plain text from (last + 1) bytes
+  plain_piece q h s n f =
+      a_piece (last_piece from (last + 1) next bytes (piece_of text from last bytes q h) s n)
       (piece_of text from last bytes q h)
-      (no_escape_quoted text from last q (inside_closes text (from + 1) last bytes h) f) k
+      (no_escape_quoted text from last q (inside_closes text (from + 1) last bytes h) f)
 
--- what each byte of a key is
-pub key_bytes : (text : List ℕ) (from to : ℕ) (s : List ℕ) → KeyText text from to s
-    → are_key_bytes s ≡ true
-key_bytes text from to s (words.a_word w k) = k
-key_bytes text from to s (words.quoted j p n k) = k
+-- what may be a key is what stands in the text as it is, with bytes that a key may have
+pub key_plain : (text : List ℕ) (from to : ℕ) (s : List ℕ) → KeyText text from to s
+    → Plain text from to s × (are_key_bytes s ≡ true)
+key_plain text from to s (words.a_word w k) = (a_word w, k)
+key_plain text from to s (words.quoted j p n k) = (a_piece j p n, k)
+
+plain_key : (text : List ℕ) (from to : ℕ) (s : List ℕ) → Plain text from to s
+    → are_key_bytes s ≡ true → KeyText text from to s
+plain_key text from to s (a_word w) k = words.a_word w k
+plain_key text from to s (a_piece j p n) k = words.quoted j p n k
+
+plain_is_string : (text : List ℕ) (from to : ℕ) (s : List ℕ) → Plain text from to s
+    → Text text from to s
+plain_is_string text from to s (a_word w) = words.a_word w
+plain_is_string text from to s (a_piece j p n) = words.quoted j
+
+-- what a string that stands in the text as it is answers
+pub plain_lexeme : (text : List ℕ) (from end next : ℕ) (slice : Bor (List ℕ))
+    → Plain text from end slice.now → Skip text end next → from < end → end ≤ next
+    → next ≤ length text
+    → IsLexeme text from (record { end = end; next = next; said = the.Slice slice })
+plain_lexeme text from end next slice p s low order fits = record {
+  string = plain_is_string text from end slice.now p;
+  key = (
+    λ t. plain_key text from end slice.now p t,
+    λ k. (key_plain text from end slice.now k).1,
+  );
+  slice = (λ _. p, λ _. refl);
+  blanks = s;
+  after = low;
+  order = order;
+  fits = fits;
+}
+
+-- what a word answers
+pub word_lexeme : (text : List ℕ) (from end next : ℕ) (slice : Bor (List ℕ))
+    → Word text from end slice.now → Skip text end next → end ≤ next → next ≤ length text
+    → IsLexeme text from (record { end = end; next = next; said = the.Slice slice })
+word_lexeme text from end next slice w s order fits =
+    plain_lexeme text from end next slice (a_word w) s w.some order fits
 
 module _ (text : List ℕ) (from last next : ℕ) (first : List ℕ) where
   -- what one piece without escapes and with no other behind it answers
-  pub plain_lexeme : (said : Said) → slice_index text from ≡ ascii.quote
+  pub piece_lexeme : (slice : Bor (List ℕ)) → slice_index text from ≡ ascii.quote
       → QuotedBytes text (from + 1) last first → Skip text (last + 1) next
       → slice_index text next ≢ ascii.quote → HasNoEscape text (from + 1) last
-      → bytes_said said ≡ slice_range text (from + 1) last
-      → (IsTrue (is_key said) ↔ (are_key_bytes (bytes_said said) ≡ true)) → last < length text
-      → IsLexeme text from (record { end = last + 1; said = said })
-  plain_lexeme said q h s n f e k low =
-      let b : first ≡ bytes_said said = plain_inside text (from + 1) last first h f ∙ sym e in
-      let h' : QuotedBytes text (from + 1) last (bytes_said said) =
+      → slice.now ≡ slice_range text (from + 1) last → last + 1 ≤ next → next ≤ length text
+      → IsLexeme text from (record { end = last + 1; next = next; said = the.Slice slice })
+  piece_lexeme slice q h s n f e order fits =
+      let b : first ≡ slice.now = plain_inside text (from + 1) last first h f ∙ sym e in
+      let h' : QuotedBytes text (from + 1) last slice.now =
       subst (λ (l : List ℕ). QuotedBytes text (from + 1) last l) b h in
-      let order : from + 1 ≤ last = inside_order text (from + 1) last first h in
-      record {
-        string = plain_string text from last next (bytes_said said) q h' s n;
-        key = (
-          λ t. plain_key text from last next (bytes_said said) q h' s n f (k.0 t),
-          λ t. k.1 (key_bytes text from (last + 1) (bytes_said said) t),
-        );
-        after = omega (arith, order);
-        fits = omega (arith, low);
-      }
+      plain_lexeme text from (last + 1) next slice
+      (plain_piece text from last next slice.now q h' s n f) s
+      (omega (arith, inside_order text (from + 1) last first h)) order fits
 
   -- what pieces that were put together answer
-  pub built_lexeme : (to : ℕ) (later : List ℕ) (said : Said)
+  pub built_lexeme : (to behind : ℕ) (later : List ℕ) (said : Said)
       → slice_index text from ≡ ascii.quote → QuotedBytes text (from + 1) last first
-      → Skip text (last + 1) next → Ahead text (last + 1) next to later
-      → bytes_said said ≡ first ++ later → is_key said ≡ false
-      → (HasNoEscape text (from + 1) last → last + 1 ≢ to) → last + 1 ≤ to → to ≤ length text
-      → IsLexeme text from (record { end = to; said = said })
-  built_lexeme to later said q h s a e k f low fits =
+      → Skip text (last + 1) next → Ahead text (last + 1) next to later → Skip text to behind
+      → bytes_said said ≡ first ++ later → is_key said ≡ false → is_slice said ≡ false
+      → (HasNoEscape text (from + 1) last → last + 1 ≢ to) → last + 1 ≤ to → to ≤ behind
+      → behind ≤ length text
+      → IsLexeme text from (record { end = to; next = behind; said = said })
+  built_lexeme to behind later said q h s a t e k l f low order fits =
       let j = join text from (last + 1) next to first later (piece_of text from last first q h) s
       a in
-      let order : from + 1 ≤ last = inside_order text (from + 1) last first h in
+      let never = not_plain text from last to first (bytes_said said) q h f in
       record {
         string = words.quoted (subst (λ (l : List ℕ). Joined text from to l) (sym e) j);
         key = (
-          λ t. absurd (false≢true (sym k ∙ t)),
-          λ t. absurd (no_key text from last to first (bytes_said said) q h f t),
+          λ b. absurd (false≢true (sym k ∙ b)),
+          λ b. absurd (never (key_plain text from to (bytes_said said) b).0),
         );
-        after = omega (arith, order, low);
+        slice = (λ b. absurd (false≢true (sym l ∙ b)), λ b. absurd (never b));
+        blanks = t;
+        after = omega (arith, inside_order text (from + 1) last first h, low);
+        order = order;
         fits = fits;
       }
 

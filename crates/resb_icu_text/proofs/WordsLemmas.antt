@@ -29,8 +29,7 @@ pub decimal_more : (text : List ℕ) (from at value b next : ℕ) → b ≡ slic
     → next ≡ min (digits_value text from (at + 1 - from)) 4294967296
 decimal_more text from at value b next h order is more =
     let d : digits_value text from (at + 1 - from) ≡ digits_value text from (at - from) * 10 +
-    (slice_index text at - ascii.digit_0) = digits_value-suc text from at (at - from)
-    (at + 1 - from)
+    (slice_index text at - ascii.digit_0) = digits_value-suc text from at (at - from) (at + 1 - from)
     (omega arith) (omega arith) in
     omega (arith, d, h, is, more)
 

@@ -3,5 +3,7 @@ pub mod Ahead
 pub mod Escaped
 pub mod Leaf
 pub mod Numbers
+pub mod Reach
 pub mod Reading
 pub mod Steps
+pub mod Stops

@@ -2,29 +2,45 @@
 use Rattle.std.specs.Prelude.{◌<◌, ◌≤◌, ◌↔◌, ℕ, Bool, true, false, List, length}
 use Rattle.std.specs.Prelude.{IsTrue}
 use Rattle.std.specs.String.{string_bytes}
-use Rattle.resb_icu_grammar.specs.Words.{Text, KeyText}
+use Rattle.resb_icu_grammar.specs.Bytes.{are_key_bytes}
+use Rattle.resb_icu_grammar.specs.Blanks.{Skip}
+use Rattle.resb_icu_grammar.specs.Pieces.{Joined, QuotedPiece}
+use Rattle.resb_icu_grammar.specs.Words.{Word, Text, KeyText, HasNoEscape}
 use Rattle.resb_icu_text.specs.declared.strings.Said.{Said}
 use Rattle.resb_icu_text.specs.declared.strings.Said.TheVariants as the
 use Rattle.resb_icu_text.specs.declared.strings.Lexeme.{Lexeme}
 
 -- the bytes that it says
 abbrev pub bytes_said : Said → List ℕ
-bytes_said (the.Key s) = s.now
 bytes_said (the.Slice s) = s.now
 bytes_said (the.Built s) = string_bytes s
 
 -- it may be a key
 abbrev pub is_key : Said → Bool
-is_key (the.Key s) = true
-is_key (the.Slice s) = false
+is_key (the.Slice s) = are_key_bytes s.now
 is_key (the.Built s) = false
 
--- a string stands there, with what it says, and whether it may be a key
+-- it is a slice of the text
+abbrev pub is_slice : Said → Bool
+is_slice (the.Slice s) = true
+is_slice (the.Built s) = false
+
+-- a word, or one quoted piece without a backslash and with no other behind it: what it says stands
+-- in the text as it is
+pub data Plain (text : List ℕ) (from to : ℕ) (bytes : List ℕ) : Type 0 where
+  a_word : Word text from to bytes → Plain text from to bytes
+  a_piece : Joined text from to bytes → QuotedPiece text from to bytes → HasNoEscape text from to
+      → Plain text from to bytes
+
+-- a string stands there, with what it says, whether it may be a key, and blanks behind it
 pub record IsLexeme (text : List ℕ) (from : ℕ) (l : Lexeme) : Type 0 where
   pub string : Text text from l.end (bytes_said l.said)
   pub key : IsTrue (is_key l.said) ↔ KeyText text from l.end (bytes_said l.said)
+  pub slice : IsTrue (is_slice l.said) ↔ Plain text from l.end (bytes_said l.said)
+  pub blanks : Skip text l.end l.next
   pub after : from < l.end
-  pub fits : l.end ≤ length text
+  pub order : l.end ≤ l.next
+  pub fits : l.next ≤ length text
 
 -- no string stands there
 abbrev pub IsNoLexeme : List ℕ → ℕ → Type 0

@@ -1,6 +1,5 @@
 -- What the tokens of a text are, as the calls answer them.
 pub mod Answer
-pub mod Expected
 pub mod Lexemes
 pub mod Refusal
 pub mod Inner

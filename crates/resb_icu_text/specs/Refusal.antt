@@ -1,8 +1,8 @@
 -- What a refusal prints, and the refusal for want of memory.
 use Rattle.std.specs.Prelude.{ℕ, List, ◌∷◌, ◌++◌, codes, decimal}
 use Rattle.resb_grammar.specs.Ascii as ascii
-use Rattle.resb_icu_text.specs.Expected.{item_of}
-use Rattle.resb_icu_text.specs.declared.expected.IcuExpected.TheVariants as expect
+use Rattle.resb_icu_grammar.specs.Expected.{item_of}
+use Rattle.resb_icu_grammar.specs.declared.expected.IcuExpected.TheVariants as expect
 use Rattle.resb_icu_text.specs.declared.error.IcuTextError.{IcuTextError}
 
 -- two lines: what failed, then where and what was expected

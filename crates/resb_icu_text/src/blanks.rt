@@ -1,12 +1,17 @@
 //! What stands between the tokens: white characters and comments.
 //! Places count bytes of the text from its start.
-ghost use Rattle.std.specs.Prelude.{◌≡◌, ℕ, ◌+◌, ◌^◌, ◌<◌, ◌≤◌, true, false, length, slice_index};
+ghost use Rattle.std.specs.Prelude.{◌≡◌, ℕ, ◌+◌, ◌*◌, ◌^◌, ◌<◌, ◌≤◌, true, false, length};
+ghost use Rattle.std.specs.Prelude.{slice_index};
 ghost use Rattle.std.specs.Prelude.{IfSome, IfNone};
 ghost use Rattle.resb_grammar.specs.Ascii as ascii;
 ghost use Rattle.resb_grammar.specs.ByteRuns as spec;
+ghost use Rattle.resb_grammar.specs.ByteRuns.{Run};
 ghost use Rattle.resb_grammar.specs.Lexical.{FirstCloser};
 ghost use Rattle.resb_icu_grammar.specs.Blanks.{LineRest, Comment, Skip};
 ghost use Rattle.resb_icu_grammar.specs.Blanks.{IsParagraphEnd};
+ghost use Rattle.resb_icu_text.specs.Inner.Reach.{reach};
+
+use crate::turns::IcuTurns;
 
 /// The byte there, or 0 past the end.
 pub(crate) fn byte(text: &str, at: usize) -> u8
@@ -104,25 +109,48 @@ fn block_end(text: &str, from: usize) -> Option<usize>
     }
 }
 
-/// Where the white characters and comments end that begin at a place of a text.
-pub fn skip(text: &str, from: usize) -> usize
+/// Where the run of white characters ends.
+fn white_end(text: &str, from: usize) -> usize
+    requires within { from ≤ length text.now }
+    ensures run { Run spec.is_white text.now from result }
+{
+    let end = text.len();
+    for at in from..end {
+        if !is_white(byte(text, at)) {
+            return at;
+        }
+    }
+    end
+}
+
+/// Where the white characters and comments end that begin at a place of a text. Counts a turn for
+/// each byte up to there, one for each run of white characters, and one for each byte of the text
+/// behind a comment that has no end.
+pub fn skip(text: &str, from: usize, turns: &mut IcuTurns) -> usize
     requires within { from ≤ length text.now }
     ensures skip { Skip text.now from result }
     ensures order { from ≤ result }
     ensures fits { result ≤ length text.now }
+    ensures cost { turns.new.count + 2 * from ≤ turns.old.count + 2 * reach text.now result + 1 }
 {
     let mut at = from;
     'skip: loop {
-        let b = byte(text, at);
-        if is_white(b) {
-            at += 1;
-        } else if b == b'/' {
-            match comment_end(text, at) {
-                Some(to) => at = to,
-                None => return at,
-            }
-        } else {
+        let white = white_end(text, at);
+        turns.add(white - at);
+        turns.add(1);
+        at = white;
+        if byte(text, at) != b'/' {
             return at;
+        }
+        match comment_end(text, at) {
+            Some(to) => {
+                turns.add(to - at);
+                at = to;
+            }
+            None => {
+                turns.add(text.len() - at);
+                return at;
+            }
         }
     }
 }

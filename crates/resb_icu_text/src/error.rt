@@ -1,10 +1,11 @@
 //! Why a text of ICU's form is refused: the place, and what was expected there.
 //! What may be expected is listed in `expected`.
-ghost use Rattle.std.specs.Prelude.{◌≡◌, Some};
+ghost use Rattle.std.specs.Prelude.{◌≡◌, Some, slice_index};
+ghost use Rattle.resb_icu_grammar.specs.Stuck.{string_or};
 ghost use Rattle.resb_icu_text.specs.Refusal.{message_of, want_of_memory};
 
 use crate::blanks::byte;
-use crate::expected::IcuExpected;
+use resb_icu_grammar::IcuExpected;
 use resb_tree::NoMemory;
 use std::alloc::{AllocError, AllocFailed};
 use std::error::Error;
@@ -30,7 +31,10 @@ impl IcuTextError {
     /// A refusal where something was expected that may be a string: where a quote stands, the
     /// string isn't closed, or has an escape that this form doesn't have.
     pub(crate) fn no_string(text: &str, position: usize, expected: IcuExpected) -> IcuTextError
-        ensures { result.position ≡ position }
+        ensures { result ≡ record {
+          position = position;
+          expected = string_or (slice_index text.now position) expected;
+        } }
     {
         if byte(text, position) == b'"' {
             IcuTextError::new(position, IcuExpected::Quoted)

@@ -1,6 +1,6 @@
 //! Groups that hold no items: one string, hex digits, one number, or numbers.
 //! Each is read from behind its `{` on, up to its `}`. Which type a group names is read in `types`.
-ghost use Rattle.std.specs.Prelude.{◌≡◌, ◌≢◌, ℕ, ◌<◌, ◌≤◌, length};
+ghost use Rattle.std.specs.Prelude.{◌≡◌, ◌≢◌, ◌+◌, ◌*◌, ◌<◌, ◌≤◌, length};
 ghost use Rattle.std.specs.Prelude.{slice_index, IfOk, IfErr};
 ghost use Rattle.std.specs.Cow.{cow_str_bytes};
 ghost use Rattle.resb_grammar.specs.Ascii as ascii;
@@ -9,15 +9,17 @@ ghost use Rattle.resb_grammar.specs.GroupTypes.{vector_kind, array_kind, table_k
 ghost use Rattle.resb_tree.specs.View.{tree_of};
 ghost use Rattle.resb_grammar.specs.Kinds.{group_kind_of};
 ghost use Rattle.resb_icu_text.specs.Lexemes.{bytes_said};
-ghost use Rattle.resb_icu_text.specs.Inner.Leaf.{Refuses, Leaf, SomeLeaf, Vector, SomeVector};
-ghost use Rattle.resb_icu_text.specs.Inner.Leaf.{IsBehindNumber, Closing};
+ghost use Rattle.resb_icu_text.specs.Inner.Leaf.{Leaf, LeafRefuses, Vector, WantsBrace};
+ghost use Rattle.resb_icu_text.specs.Inner.Leaf.{IsBehindNumber};
+ghost use Rattle.resb_icu_text.specs.Inner.Reach.{reach};
 
 use crate::blanks::{byte, skip};
 use crate::error::IcuTextError;
-use crate::expected::IcuExpected;
 use crate::strings::{Said, string};
+use crate::turns::IcuTurns;
 use crate::words::number;
 use resb_grammar::{Kind, bytes_of_hex};
+use resb_icu_grammar::IcuExpected;
 use resb_tree::{Int28, Resource};
 use std::alloc::Global;
 use std::borrow::{CowSlice, CowStr};
@@ -27,24 +29,23 @@ pub(crate) fn text_of<'a>(said: Said<'a>) -> CowStr<'a>
     ensures { cow_str_bytes result ≡ bytes_said said.entry }
 {
     match said {
-        Said::Key(slice) => CowStr::Borrowed(slice),
         Said::Slice(slice) => CowStr::Borrowed(slice),
         Said::Built(built) => CowStr::Owned(built),
     }
 }
 
-/// The place of the `}` that must stand here behind blanks.
+/// The place of the `}` that must stand here.
 fn closing(text: &str, at: usize) -> Result<usize, IcuTextError>
     requires within { at ≤ length text.now }
-    ensures ok { IfOk result (Closing text.now at) }
-    ensures err { IfErr result (λ e. (to : ℕ) → Closing text.now at to → ⊥) }
-    ensures within { IfOk result (λ to. (at ≤ to) × (to < length text.now)) }
+    ensures ok { IfOk result (λ to. (to ≡ at) × (slice_index text.now at ≡ ascii.right_brace)) }
+    ensures err { IfErr result (λ e. (slice_index text.now at ≢ ascii.right_brace)
+        × WantsBrace at e) }
+    ensures within { IfOk result (λ to. to < length text.now) }
 {
-    let brace = skip(text, at);
-    if byte(text, brace) == b'}' {
-        Ok(brace)
+    if byte(text, at) == b'}' {
+        Ok(at)
     } else {
-        Err(IcuTextError::new(brace, IcuExpected::RightBrace))
+        Err(IcuTextError::new(at, IcuExpected::RightBrace))
     }
 }
 
@@ -53,16 +54,21 @@ fn string_leaf<'a>(
     alloc: Global,
     text: &'a str,
     at: usize,
+    turns: &mut IcuTurns,
 ) -> Result<(usize, Resource<'a>), IcuTextError>
     requires within { at ≤ length text.now }
     ensures ok { IfOk result (λ r. Leaf text.now at string_kind r.0 (tree_of r.1)) }
-    ensures err { IfErr result (Refuses (SomeLeaf text.now at string_kind)) }
+    ensures err { IfErr result (LeafRefuses text.now at string_kind) }
     ensures within { IfOk result (λ r. (at ≤ r.0) × (r.0 < length text.now)) }
+    ensures cost { IfOk result (λ r. turns.new.count + 8 * reach text.now at
+        ≤ turns.old.count + 8 * r.0) }
+    ensures most { turns.new.count + 8 * reach text.now at
+        ≤ turns.old.count + 8 * length text.now + 4 }
 {
-    let Some(lexeme) = string(alloc, text, at)? else {
+    let Some(lexeme) = string(alloc, text, at, turns)? else {
         return Err(IcuTextError::no_string(text, at, IcuExpected::String));
     };
-    let to = closing(text, lexeme.end)?;
+    let to = closing(text, lexeme.next)?;
     Ok((to, Resource::String(text_of(lexeme.said))))
 }
 
@@ -71,68 +77,97 @@ fn binary_leaf<'a>(
     alloc: Global,
     text: &'a str,
     at: usize,
+    turns: &mut IcuTurns,
 ) -> Result<(usize, Resource<'a>), IcuTextError>
     requires within { at ≤ length text.now }
     ensures ok { IfOk result (λ r. Leaf text.now at binary_kind r.0 (tree_of r.1)) }
-    ensures err { IfErr result (Refuses (SomeLeaf text.now at binary_kind)) }
+    ensures err { IfErr result (LeafRefuses text.now at binary_kind) }
     ensures within { IfOk result (λ r. (at ≤ r.0) × (r.0 < length text.now)) }
+    ensures cost { IfOk result (λ r. turns.new.count + 8 * reach text.now at
+        ≤ turns.old.count + 8 * r.0) }
+    ensures most { turns.new.count + 8 * reach text.now at
+        ≤ turns.old.count + 8 * length text.now + 4 }
 {
-    let Some(lexeme) = string(alloc, text, at)? else {
+    let Some(lexeme) = string(alloc, text, at, turns)? else {
         return Err(IcuTextError::no_string(text, at, IcuExpected::String));
     };
     let digits = text_of(lexeme.said);
+    turns.add(digits.len());
     let Some(bytes) = bytes_of_hex(alloc, &digits)? else {
         return Err(IcuTextError::new(at, IcuExpected::HexPairs));
     };
-    let to = closing(text, lexeme.end)?;
+    let to = closing(text, lexeme.next)?;
     Ok((to, Resource::Binary(CowSlice::Owned(bytes))))
 }
 
 /// The place of the `}` of an `:int` group, and its number, which the bundle holds modulo 2^28.
-fn integer_leaf<'a>(text: &'a str, at: usize) -> Result<(usize, Resource<'a>), IcuTextError>
+fn integer_leaf<'a>(
+    text: &'a str,
+    at: usize,
+    turns: &mut IcuTurns,
+) -> Result<(usize, Resource<'a>), IcuTextError>
     requires within { at ≤ length text.now }
     ensures ok { IfOk result (λ r. Leaf text.now at integer_kind r.0 (tree_of r.1)) }
-    ensures err { IfErr result (Refuses (SomeLeaf text.now at integer_kind)) }
+    ensures err { IfErr result (LeafRefuses text.now at integer_kind) }
     ensures within { IfOk result (λ r. (at ≤ r.0) × (r.0 < length text.now)) }
+    ensures cost { IfOk result (λ r. turns.new.count + 8 * reach text.now at
+        ≤ turns.old.count + 8 * r.0) }
+    ensures most { turns.new.count + 8 * reach text.now at
+        ≤ turns.old.count + 8 * length text.now + 4 }
 {
-    let Some((end, value)) = number(text, at) else {
+    let Some((end, value)) = number(text, at, turns) else {
         return Err(IcuTextError::new(at, IcuExpected::Number));
     };
-    let to = closing(text, end)?;
+    let next = skip(text, end, turns);
+    let to = closing(text, next)?;
     Ok((to, Resource::Integer(Int28::from(value))))
 }
 
 /// Where the next number stands, or the `}`: behind one comma, or right here where no comma stands.
-fn behind_number(text: &str, at: usize) -> Result<usize, IcuTextError>
+fn behind_number(text: &str, at: usize, turns: &mut IcuTurns) -> Result<usize, IcuTextError>
     requires within { at ≤ length text.now }
     ensures ok { IfOk result (IsBehindNumber text.now at) }
     ensures err { IfErr result (λ e. (slice_index text.now at ≢ ascii.comma)
-        × (slice_index text.now at ≢ ascii.right_brace)) }
+        × (slice_index text.now at ≢ ascii.right_brace) × WantsBrace at e) }
     ensures within { IfOk result (λ to. (at ≤ to) × (to ≤ length text.now)) }
+    ensures cost { IfOk result (λ to. turns.new.count + 2 * reach text.now at
+        ≤ turns.old.count + 2 * reach text.now to) }
+    ensures most { turns.new.count + 2 * reach text.now at
+        ≤ turns.old.count + 2 * length text.now }
 {
     match byte(text, at) {
         b'}' => Ok(at),
-        b',' => Ok(skip(text, at + 1)),
+        b',' => Ok(skip(text, at + 1, turns)),
         _ => Err(IcuTextError::new(at, IcuExpected::RightBrace)),
     }
 }
 
 /// The place of the `}` behind numbers, and these: at least one, with a comma between two.
-fn numbers(alloc: Global, text: &str, at: usize) -> Result<(usize, Vec<u32>), IcuTextError>
+fn numbers(
+    alloc: Global,
+    text: &str,
+    at: usize,
+    turns: &mut IcuTurns,
+) -> Result<(usize, Vec<u32>), IcuTextError>
     requires within { at ≤ length text.now }
+    requires some { slice_index text.now at ≢ ascii.right_brace }
     ensures ok { IfOk result (λ r. Vector text.now at r.0 r.1.items) }
-    ensures err { IfErr result (Refuses (SomeVector text.now at)) }
+    ensures err { IfErr result (LeafRefuses text.now at vector_kind) }
     ensures within { IfOk result (λ r. (at ≤ r.0) × (r.0 < length text.now)) }
+    ensures cost { IfOk result (λ r. turns.new.count + 8 * reach text.now at
+        ≤ turns.old.count + 8 * r.0) }
+    ensures most { turns.new.count + 8 * reach text.now at
+        ≤ turns.old.count + 8 * length text.now + 4 }
 {
     let mut numbers = Vec::new(alloc);
     let mut here = at;
     'numbers: loop {
-        let Some((end, value)) = number(text, here) else {
+        let Some((end, value)) = number(text, here, turns) else {
             return Err(IcuTextError::new(here, IcuExpected::Number));
         };
         numbers.push(value)?;
-        let place = skip(text, end);
-        here = behind_number(text, place)?;
+        let place = skip(text, end, turns);
+        here = behind_number(text, place, turns)?;
         if byte(text, here) == b'}' {
             return Ok((here, numbers));
         }
@@ -144,16 +179,21 @@ fn vector_leaf<'a>(
     alloc: Global,
     text: &'a str,
     at: usize,
+    turns: &mut IcuTurns,
 ) -> Result<(usize, Resource<'a>), IcuTextError>
     requires within { at ≤ length text.now }
     ensures ok { IfOk result (λ r. Leaf text.now at vector_kind r.0 (tree_of r.1)) }
-    ensures err { IfErr result (Refuses (SomeLeaf text.now at vector_kind)) }
+    ensures err { IfErr result (LeafRefuses text.now at vector_kind) }
     ensures within { IfOk result (λ r. (at ≤ r.0) × (r.0 < length text.now)) }
+    ensures cost { IfOk result (λ r. turns.new.count + 8 * reach text.now at
+        ≤ turns.old.count + 8 * r.0) }
+    ensures most { turns.new.count + 8 * reach text.now at
+        ≤ turns.old.count + 8 * length text.now + 4 }
 {
     if byte(text, at) == b'}' {
         return Ok((at, Resource::IntVector(Vec::new(alloc))));
     }
-    let (to, numbers) = numbers(alloc, text, at)?;
+    let (to, numbers) = numbers(alloc, text, at, turns)?;
     Ok((to, Resource::IntVector(numbers)))
 }
 
@@ -163,17 +203,23 @@ pub(crate) fn leaf<'a>(
     text: &'a str,
     kind: Kind,
     at: usize,
+    turns: &mut IcuTurns,
 ) -> Result<(usize, Resource<'a>), IcuTextError>
     requires within { at ≤ length text.now }
+    requires leaf { (group_kind_of kind ≢ array_kind) × (group_kind_of kind ≢ table_kind) }
     ensures ok { IfOk result (λ r. Leaf text.now at (group_kind_of kind) r.0 (tree_of r.1)) }
-    ensures err { IfErr result (Refuses (SomeLeaf text.now at (group_kind_of kind))) }
+    ensures err { IfErr result (LeafRefuses text.now at (group_kind_of kind)) }
     ensures within { IfOk result (λ r. (at ≤ r.0) × (r.0 < length text.now)) }
+    ensures cost { IfOk result (λ r. turns.new.count + 8 * reach text.now at
+        ≤ turns.old.count + 8 * r.0) }
+    ensures most { turns.new.count + 8 * reach text.now at
+        ≤ turns.old.count + 8 * length text.now + 4 }
 {
     match kind {
-        Kind::String => string_leaf(alloc, text, at),
-        Kind::Binary => binary_leaf(alloc, text, at),
-        Kind::Integer => integer_leaf(text, at),
-        Kind::IntVector => vector_leaf(alloc, text, at),
-        Kind::Array | Kind::Table => Err(IcuTextError::new(at, IcuExpected::GroupType)),
+        Kind::String => string_leaf(alloc, text, at, turns),
+        Kind::Binary => binary_leaf(alloc, text, at, turns),
+        Kind::Integer => integer_leaf(text, at, turns),
+        Kind::IntVector => vector_leaf(alloc, text, at, turns),
+        Kind::Array | Kind::Table => unreachable!(),
     }
 }

@@ -6,7 +6,6 @@
 mod blanks;
 mod error;
 mod escapes;
-mod expected;
 mod leaf;
 mod open;
 mod pieces;
@@ -15,13 +14,14 @@ mod steps;
 mod strings;
 #[cfg(test)]
 mod token_rows;
+mod turns;
 mod types;
 mod words;
 
 pub use blanks::skip;
 pub use error::IcuTextError;
-pub use expected::IcuExpected;
 pub use reader::IcuReader;
 pub use strings::{Lexeme, Said, string};
+pub use turns::IcuTurns;
 pub use types::{group_type, root_type};
 pub use words::number;

@@ -1,13 +1,16 @@
 //! The groups that are open around the place where a reading stands, and the keys before it.
 //! What one step does inside them is said in `steps`.
-ghost use Rattle.std.specs.Prelude.{◌≡◌, ◌⊎◌, ◌≤◌, [], ◌∷◌, length, map, IfOk, IfErr, OnOk};
-ghost use Rattle.resb_icu_grammar.specs.Inner.Rest.{Same, Never};
+ghost use Rattle.std.specs.Prelude.{◌≡◌, ◌⊎◌, ◌+◌, ◌*◌, ◌≤◌, [], ◌∷◌, length, map, IfOk, IfErr};
+ghost use Rattle.std.specs.Prelude.{OnOk};
+ghost use Rattle.resb_icu_grammar.specs.Machine.{Comes};
+ghost use Rattle.resb_icu_grammar.specs.Stuck.{StuckFrom};
 ghost use Rattle.resb_icu_text.specs.Refusal.{want_of_memory};
-ghost use Rattle.resb_icu_text.specs.Inner.Steps.{shown, with_key, Rest, place};
-ghost use Rattle.resb_icu_text.specs.Inner.Reading.{groups, keys, Coming, Advances};
+ghost use Rattle.resb_icu_text.specs.Inner.Steps.{shown, with_key, now, place, spent};
+ghost use Rattle.resb_icu_text.specs.Inner.Reading.{groups, keys, coming, Advances, spent_before};
 
 use crate::error::IcuTextError;
 use crate::steps::{Step, Waiting, entry, group, member, resume};
+use crate::turns::IcuTurns;
 use resb_tree::{NoMemory, Resource};
 use std::alloc::Global;
 
@@ -64,26 +67,32 @@ impl<'a> OpenGroups<'a> {
         alloc: Global,
         text: &'a str,
         step: Step<'a>,
+        turns: &mut IcuTurns,
     ) -> Result<Next<'a>, IcuTextError>
         requires within { place step ≤ length text.now }
-        ensures ok { IfOk result (λ next. Same
-            (Rest text.now (groups self.old) (keys self.old) step.entry)
-            (Coming text.now self.new next)) }
-        ensures err { IfErr result (λ e. (e ≡ want_of_memory)
-            ⊎ Never (Rest text.now (groups self.old) (keys self.old) step.entry)) }
+        ensures ok { IfOk result (λ next. Comes text.now
+            (now (groups self.old) (keys self.old) step.entry) (coming self.new next)) }
+        ensures err { IfErr result (λ e. (e ≡ want_of_memory) ⊎ StuckFrom text.now
+            (now (groups self.old) (keys self.old) step.entry) e.position e.expected) }
         ensures goes { IfOk result (Advances text.now step.entry) }
+        ensures cost { IfOk result (λ next. turns.new.count + spent text.now step.entry
+            + length (keys self.new)
+            ≤ turns.old.count + spent_before text.now next + length (keys self.old)) }
+        ensures most { turns.new.count + spent text.now step.entry
+            ≤ turns.old.count + 8 * length text.now + 8 }
     {
+        turns.add(1);
         match step {
             Step::Members(members, last, at) => {
-                Ok(Next::Step(member(alloc, text, members, last, at)?))
+                Ok(Next::Step(member(alloc, text, members, last, at, turns)?))
             }
-            Step::Entries(entries, at) => Ok(Next::Step(entry(alloc, text, entries, at)?)),
+            Step::Entries(entries, at) => Ok(Next::Step(entry(alloc, text, entries, at, turns)?)),
             Step::Group(waiting, at) => {
                 self.open(waiting)?;
-                Ok(Next::Step(group(alloc, text, at)?))
+                Ok(Next::Step(group(alloc, text, at, turns)?))
             }
             Step::Ended(resource, at) => match self.waiting.pop() {
-                Some(waiting) => Ok(Next::Step(resume(text, waiting, resource, at)?)),
+                Some(waiting) => Ok(Next::Step(resume(text, waiting, resource, at, turns)?)),
                 None => Ok(Next::Root(resource, at)),
             },
         }

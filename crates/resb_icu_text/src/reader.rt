@@ -1,29 +1,30 @@
 //! From a text of ICU's form to a bundle and its keys, in one pass and without recursion.
 //! What stands before the first entry of the root and behind the last is read here; what is open in
 //! between is kept in `open`.
-ghost use Rattle.std.specs.Prelude.{◌≡◌, ◌⊎◌, ℕ, ◌+◌, ◌<◌, ◌≤◌, Bool, [], List, length, map};
+ghost use Rattle.std.specs.Prelude.{◌≡◌, ◌⊎◌, ℕ, ◌+◌, ◌*◌, ◌<◌, ◌≤◌, Bool, [], List, length, map};
 ghost use Rattle.std.specs.Prelude.{IfOk, IfErr, slice_index};
 ghost use Rattle.resb_grammar.specs.BundleText.{first_places};
 ghost use Rattle.resb_tree.specs.Bundle.{name_of, root_of};
 ghost use Rattle.resb_tree.specs.View.{tree_of};
 ghost use Rattle.resb_icu_grammar.specs.Blanks.{Begins};
-ghost use Rattle.resb_icu_grammar.specs.Bundle.{Header, Typing, IcuText};
-ghost use Rattle.resb_icu_grammar.specs.Words.{Name};
-ghost use Rattle.resb_icu_grammar.specs.Inner.Rest.{Never};
-ghost use Rattle.resb_icu_text.specs.Answer.{IsNoIcuText};
+ghost use Rattle.resb_icu_grammar.specs.Bundle.{Header, IcuText};
+ghost use Rattle.resb_icu_text.specs.Answer.{IcuFails, IsNoIcuText};
 ghost use Rattle.resb_icu_text.specs.Refusal.{want_of_memory};
-ghost use Rattle.resb_icu_text.specs.Inner.Leaf.{Refuses};
-ghost use Rattle.resb_icu_text.specs.Inner.Reading.{AnyHeader, AnyName, Opening, RootThere};
+ghost use Rattle.resb_icu_text.specs.Inner.Reading.{NameAhead, NameFails, TypingThere};
+ghost use Rattle.resb_icu_text.specs.Inner.Reading.{Opening, OpeningFails, HeadFails};
+ghost use Rattle.resb_icu_text.specs.Inner.Reading.{RootThere, RootFails};
+ghost use Rattle.resb_icu_text.specs.Inner.Reach.{reach};
 
 use crate::blanks::{byte, skip};
 use crate::error::IcuTextError;
-use crate::expected::IcuExpected;
 use crate::open::{Next, OpenGroups};
 use crate::steps::{Step, key_at};
+use crate::turns::IcuTurns;
 use crate::types::root_type;
 use crate::words::word_end;
 use indexmap::IndexSet;
 use resb_grammar::list_once;
+use resb_icu_grammar::IcuExpected;
 use resb_tree::{Key, NoMemory, Resource, ResourceBundle};
 use std::alloc::Global;
 use std::borrow::CowStr;
@@ -41,15 +42,32 @@ impl IcuReader {
     ) -> Result<(ResourceBundle<'a>, Vec<Key<'a>>), IcuTextError>
         ensures ok { IfOk result (λ r. IcuText input.now
             (name_of r.0) r.0.is_locale_fallback_enabled (root_of r.0) r.1.items) }
-        ensures err { IfErr result (λ e. (e ≡ want_of_memory) ⊎ IsNoIcuText input.now) }
+        ensures err { IfErr result (IcuFails input.now) }
+        ensures no_text { IfErr result (λ e. (e ≡ want_of_memory) ⊎ IsNoIcuText input.now) }
+    {
+        IcuReader::read_counted(alloc, input, &mut IcuTurns::new())
+    }
+
+    /// The same answer. The count rises by at most `8 n + 24` for a text of n bytes, whatever the
+    /// answer: the reading takes linearly many turns.
+    pub fn read_counted<'a>(
+        alloc: Global,
+        input: &'a str,
+        turns: &mut IcuTurns,
+    ) -> Result<(ResourceBundle<'a>, Vec<Key<'a>>), IcuTextError>
+        ensures ok { IfOk result (λ r. IcuText input.now
+            (name_of r.0) r.0.is_locale_fallback_enabled (root_of r.0) r.1.items) }
+        ensures err { IfErr result (IcuFails input.now) }
+        ensures no_text { IfErr result (λ e. (e ≡ want_of_memory) ⊎ IsNoIcuText input.now) }
+        ensures cost { turns.new.count ≤ turns.old.count + 8 * length input.now + 24 }
     {
         let Head {
             name,
             fallback,
             first,
-        } = read_head(alloc, input)?;
-        let (root, keys) = read_root(alloc, input, first)?;
-        let keys = each_once(alloc, &keys)?;
+        } = read_head(alloc, input, turns)?;
+        let (root, keys) = read_root(alloc, input, first, turns)?;
+        let keys = each_once(alloc, &keys, turns)?;
         Ok((
             ResourceBundle::new(CowStr::Borrowed(name), root, fallback),
             keys,
@@ -77,54 +95,69 @@ fn begin(text: &str) -> usize
     }
 }
 
-/// The bundle's name that must begin here, and the place behind it.
-fn name<'a>(alloc: Global, text: &'a str, at: usize) -> Result<(usize, &'a str), IcuTextError>
+/// The bundle's name that must begin here, and the place behind the blanks that follow it.
+fn name<'a>(
+    alloc: Global,
+    text: &'a str,
+    at: usize,
+    turns: &mut IcuTurns,
+) -> Result<(usize, &'a str), IcuTextError>
     requires within { at ≤ length text.now }
-    ensures ok { IfOk result (λ r. Name text.now at r.0 r.1.now) }
-    ensures err { IfErr result (Refuses (AnyName text.now at)) }
+    ensures ok { IfOk result (λ r. NameAhead text.now at r.0 r.1.now) }
+    ensures err { IfErr result (NameFails text.now at) }
     ensures within { IfOk result (λ r. r.0 ≤ length text.now) }
+    ensures cost { IfOk result (λ r. turns.new.count + 8 * reach text.now at + 2
+        ≤ turns.old.count + 8 * reach text.now r.0) }
+    ensures most { turns.new.count + 8 * reach text.now at
+        ≤ turns.old.count + 8 * length text.now + 4 }
 {
-    let Some((end, key)) = key_at(alloc, text, at)? else {
+    let Some((next, key)) = key_at(alloc, text, at, turns)? else {
         return Err(IcuTextError::new(at, IcuExpected::Name));
     };
     if key.is_empty() {
         return Err(IcuTextError::new(at, IcuExpected::Name));
     }
+    turns.add(key.len());
+    turns.add(1);
     if word_end(key, 0) < key.len() {
         return Err(IcuTextError::new(at, IcuExpected::Name));
     }
-    Ok((end, key))
+    Ok((next, key))
 }
 
 /// The place behind the root's type and the blanks there, if it has one, and whether fallback stays
-/// on. The root's `{` can stand nowhere else.
-fn typing(text: &str, at: usize) -> Result<(usize, bool), IcuTextError>
+/// on.
+fn typing(text: &str, at: usize, turns: &mut IcuTurns) -> Result<(usize, bool), IcuTextError>
     requires within { at ≤ length text.now }
-    ensures ok { IfOk result (λ r. Typing text.now at r.0 r.1) }
-    ensures only { IfOk result
-        (λ r. (brace : ℕ) (fallback : Bool) → Opening text.now at brace fallback → brace ≡ r.0) }
-    ensures err { IfErr result
-        (λ e. (brace : ℕ) (fallback : Bool) → Opening text.now at brace fallback → ⊥) }
+    ensures ok { IfOk result (λ r. TypingThere text.now at r.0 r.1) }
+    ensures err { IfErr result (OpeningFails text.now at) }
     ensures within { IfOk result (λ r. r.0 ≤ length text.now) }
+    ensures cost { IfOk result (λ r. turns.new.count + 8 * reach text.now at
+        ≤ turns.old.count + 8 * reach text.now r.0 + 12) }
+    ensures most { turns.new.count + 8 * reach text.now at
+        ≤ turns.old.count + 8 * length text.now + 12 }
 {
     if byte(text, at) != b':' {
         return Ok((at, true));
     }
-    match root_type(text, at) {
-        Some((end, fallback)) => Ok((skip(text, end), fallback)),
+    match root_type(text, at, turns) {
+        Some((end, fallback)) => Ok((skip(text, end, turns), fallback)),
         None => Err(IcuTextError::new(at, IcuExpected::RootType)),
     }
 }
 
 /// The place of the root's `{` behind its type, if it has one, and whether fallback stays on.
-fn opening(text: &str, at: usize) -> Result<(usize, bool), IcuTextError>
+fn opening(text: &str, at: usize, turns: &mut IcuTurns) -> Result<(usize, bool), IcuTextError>
     requires within { at ≤ length text.now }
     ensures ok { IfOk result (λ r. Opening text.now at r.0 r.1) }
-    ensures err { IfErr result
-        (λ e. (brace : ℕ) (fallback : Bool) → Opening text.now at brace fallback → ⊥) }
+    ensures err { IfErr result (OpeningFails text.now at) }
     ensures within { IfOk result (λ r. r.0 < length text.now) }
+    ensures cost { IfOk result (λ r. turns.new.count + 8 * reach text.now at
+        ≤ turns.old.count + 8 * r.0 + 12) }
+    ensures most { turns.new.count + 8 * reach text.now at
+        ≤ turns.old.count + 8 * length text.now + 12 }
 {
-    let (brace, fallback) = typing(text, at)?;
+    let (brace, fallback) = typing(text, at, turns)?;
     if byte(text, brace) == b'{' {
         Ok((brace, fallback))
     } else {
@@ -133,15 +166,23 @@ fn opening(text: &str, at: usize) -> Result<(usize, bool), IcuTextError>
 }
 
 /// What stands before the root's entries.
-fn read_head<'a>(alloc: Global, text: &'a str) -> Result<Head<'a>, IcuTextError>
+fn read_head<'a>(
+    alloc: Global,
+    text: &'a str,
+    turns: &mut IcuTurns,
+) -> Result<Head<'a>, IcuTextError>
     ensures ok { IfOk result (λ h. Header text.now h.name.now h.fallback h.first) }
-    ensures err { IfErr result (Refuses (AnyHeader text.now)) }
+    ensures err { IfErr result (HeadFails text.now) }
     ensures within { IfOk result (λ h. h.first ≤ length text.now) }
+    ensures cost { IfOk result (λ h. turns.new.count
+        ≤ turns.old.count + 8 * reach text.now h.first + 12) }
+    ensures most { turns.new.count
+        ≤ turns.old.count + 8 * length text.now + 20 }
 {
-    let start = skip(text, begin(text));
-    let (end, name) = name(alloc, text, start)?;
-    let (brace, fallback) = opening(text, skip(text, end))?;
-    let first = skip(text, brace + 1);
+    let start = skip(text, begin(text), turns);
+    let (next, name) = name(alloc, text, start, turns)?;
+    let (brace, fallback) = opening(text, next, turns)?;
+    let first = skip(text, brace + 1, turns);
     Ok(Head {
         name,
         fallback,
@@ -154,19 +195,24 @@ fn read_root<'a>(
     alloc: Global,
     text: &'a str,
     first: usize,
+    turns: &mut IcuTurns,
 ) -> Result<(Resource<'a>, Vec<&'a str>), IcuTextError>
     requires within { first ≤ length text.now }
     ensures ok { IfOk result
         (λ r. RootThere text.now first (tree_of r.0, map (λ k. k.now) r.1.items)) }
-    ensures err { IfErr result (λ e. (e ≡ want_of_memory) ⊎ Never (RootThere text.now first)) }
+    ensures err { IfErr result (RootFails text.now first) }
+    ensures cost { IfOk result (λ r. turns.new.count + 8 * reach text.now first + length r.1.items
+        ≤ turns.old.count + 8 * length text.now + 8) }
+    ensures most { turns.new.count + 8 * reach text.now first
+        ≤ turns.old.count + 8 * length text.now + 8 }
 {
     let mut open = OpenGroups::new(alloc);
     let mut step = Step::Entries(Vec::new(alloc), first);
     'steps: loop {
-        match open.advance(alloc, text, step)? {
+        match open.advance(alloc, text, step, turns)? {
             Next::Step(next) => step = next,
             Next::Root(root, at) => {
-                let end = skip(text, at);
+                let end = skip(text, at, turns);
                 if end < text.len() {
                     return Err(IcuTextError::new(end, IcuExpected::EndOfText));
                 }
@@ -176,10 +222,17 @@ fn read_root<'a>(
     }
 }
 
-/// The keys, each at its first place alone.
-fn each_once<'a>(alloc: Global, keys: &[&'a str]) -> Result<Vec<Key<'a>>, NoMemory>
-    ensures { IfOk result (λ once. once.items ≡ first_places (map (λ k. k.now) keys.now)) }
+/// The keys, each at its first place alone. Counts a turn for each.
+fn each_once<'a>(
+    alloc: Global,
+    keys: &[&'a str],
+    turns: &mut IcuTurns,
+) -> Result<Vec<Key<'a>>, NoMemory>
+    ensures once { IfOk result
+        (λ once. once.items ≡ first_places (map (λ k. k.now) keys.now)) }
+    ensures cost { turns.new.count ≤ turns.old.count + length keys.now }
 {
+    turns.add(keys.len());
     let mut seen = IndexSet::new(alloc);
     let mut once = Vec::new(alloc);
     for key in keys {

@@ -7,19 +7,22 @@ ghost use Rattle.resb_tree.specs.Tree.{map_of};
 ghost use Rattle.resb_tree.specs.View.{tree_of, pairs_view, entries_view};
 ghost use Rattle.resb_icu_grammar.specs.Groups as spec;
 ghost use Rattle.resb_icu_grammar.specs.Words.{KeyText};
-ghost use Rattle.resb_icu_grammar.specs.Inner.Rest.{AreDistinct};
+ghost use Rattle.resb_icu_grammar.specs.Machine.{AreDistinct};
 ghost use Rattle.resb_grammar.specs.Kinds.{group_kind_of};
 ghost use Rattle.resb_icu_text.specs.Inner.Steps.{last_of, Steps, Stops, Goes};
 ghost use Rattle.resb_icu_text.specs.Inner.Steps.{MembersThere, EntriesThere, GroupThere};
 ghost use Rattle.resb_icu_text.specs.Inner.Steps.{UntypedThere, TypedThere, EndedThere};
+ghost use Rattle.resb_icu_text.specs.Inner.Steps.{KeyAhead, spent};
+ghost use Rattle.resb_icu_text.specs.Inner.Reach.{reach};
 
 use crate::blanks::{byte, skip};
 use crate::error::IcuTextError;
-use crate::expected::IcuExpected;
 use crate::leaf::{leaf, text_of};
-use crate::strings::{Said, string};
+use crate::strings::string;
+use crate::turns::IcuTurns;
 use crate::types::group_type;
 use resb_grammar::Kind;
+use resb_icu_grammar::IcuExpected;
 use resb_tree::{Key, NoMemory, Resource, Table, table_at_once};
 use std::alloc::Global;
 
@@ -81,23 +84,28 @@ pub(crate) fn member<'a>(
     members: Vec<Resource<'a>>,
     last: Last,
     at: usize,
+    turns: &mut IcuTurns,
 ) -> Result<Step<'a>, IcuTextError>
     requires within { at ≤ length text.now }
-    ensures ok { IfOk result (Steps text.now (MembersThere text.now members.entry.items last at)) }
-    ensures err { IfErr result (Stops (MembersThere text.now members.entry.items last at)) }
+    ensures ok { IfOk result (Steps text.now (MembersThere members.entry.items last at)) }
+    ensures err { IfErr result (Stops text.now (MembersThere members.entry.items last at)) }
     ensures goes { IfOk result (Goes text.now (3 * at + 1)) }
+    ensures cost { IfOk result (λ s. turns.new.count + 8 * reach text.now at + 3
+        ≤ turns.old.count + spent text.now s) }
+    ensures most { turns.new.count + 8 * reach text.now at
+        ≤ turns.old.count + 8 * length text.now + 4 }
 {
     let b = byte(text, at);
     if b == b'}' {
         return Ok(Step::Ended(Resource::Array(members), at + 1));
     }
     if b == b',' {
-        return comma(text, members, last, at);
+        return comma(text, members, last, at, turns);
     }
     if b == b'{' || b == b':' {
         return Ok(Step::Group(Waiting::Array(members), at));
     }
-    string_member(alloc, text, members, last, at)
+    string_member(alloc, text, members, last, at, turns)
 }
 
 /// From a comma to behind it and the blanks there.
@@ -106,15 +114,20 @@ fn comma<'a>(
     members: Vec<Resource<'a>>,
     last: Last,
     at: usize,
+    turns: &mut IcuTurns,
 ) -> Result<Step<'a>, IcuTextError>
     requires within { at < length text.now }
     requires comma { slice_index text.now at ≡ ascii.comma }
-    ensures ok { IfOk result (Steps text.now (MembersThere text.now members.entry.items last at)) }
-    ensures err { IfErr result (Stops (MembersThere text.now members.entry.items last at)) }
+    ensures ok { IfOk result (Steps text.now (MembersThere members.entry.items last at)) }
+    ensures err { IfErr result (Stops text.now (MembersThere members.entry.items last at)) }
     ensures goes { IfOk result (Goes text.now (3 * at + 1)) }
+    ensures cost { IfOk result (λ s. turns.new.count + 8 * reach text.now at + 3
+        ≤ turns.old.count + spent text.now s) }
+    ensures most { turns.new.count + 8 * reach text.now at
+        ≤ turns.old.count + 8 * length text.now + 4 }
 {
     if last.is_member() {
-        Ok(Step::Members(members, Last::Comma, skip(text, at + 1)))
+        Ok(Step::Members(members, Last::Comma, skip(text, at + 1, turns)))
     } else {
         Err(IcuTextError::new(at, IcuExpected::Member))
     }
@@ -127,45 +140,54 @@ fn string_member<'a>(
     mut members: Vec<Resource<'a>>,
     last: Last,
     at: usize,
+    turns: &mut IcuTurns,
 ) -> Result<Step<'a>, IcuTextError>
     requires within { at ≤ length text.now }
     requires no_brace { slice_index text.now at ≢ ascii.right_brace }
     requires no_comma { slice_index text.now at ≢ ascii.comma }
     requires no_group { slice_index text.now at ≢ ascii.left_brace }
     requires no_type { slice_index text.now at ≢ ascii.colon }
-    ensures ok { IfOk result (Steps text.now (MembersThere text.now members.entry.items last at)) }
-    ensures err { IfErr result (Stops (MembersThere text.now members.entry.items last at)) }
+    ensures ok { IfOk result (Steps text.now (MembersThere members.entry.items last at)) }
+    ensures err { IfErr result (Stops text.now (MembersThere members.entry.items last at)) }
     ensures goes { IfOk result (Goes text.now (3 * at + 1)) }
+    ensures cost { IfOk result (λ s. turns.new.count + 8 * reach text.now at + 3
+        ≤ turns.old.count + spent text.now s) }
+    ensures most { turns.new.count + 8 * reach text.now at
+        ≤ turns.old.count + 8 * length text.now + 4 }
 {
-    let Some(lexeme) = string(alloc, text, at)? else {
+    let Some(lexeme) = string(alloc, text, at, turns)? else {
         return Err(IcuTextError::no_string(text, at, IcuExpected::Member));
     };
     if last.is_string() {
         return Err(IcuTextError::new(at, IcuExpected::Comma));
     }
-    let next = skip(text, lexeme.end);
     members.push(Resource::String(text_of(lexeme.said)))?;
-    Ok(Step::Members(members, Last::String, next))
+    Ok(Step::Members(members, Last::String, lexeme.next))
 }
 
-/// The key that stands here and the place behind it, if one does.
+/// The key that stands here and the place behind the blanks that follow it, if one does.
 pub(crate) fn key_at<'a>(
     alloc: Global,
     text: &'a str,
     at: usize,
+    turns: &mut IcuTurns,
 ) -> Result<Option<(usize, &'a str)>, NoMemory>
     requires within { at ≤ length text.now }
-    ensures found { IfOk result (λ o. IfSome o (λ r. KeyText text.now at r.0 r.1.now)) }
+    ensures found { IfOk result (λ o. IfSome o (λ r. KeyAhead text.now at r.0 r.1.now)) }
     ensures none { IfOk result
         (λ o. IfNone o ((to : ℕ) (k : List ℕ) → KeyText text.now at to k → ⊥)) }
     ensures within { IfOk result (λ o. IfSome o (λ r. (at < r.0) × (r.0 ≤ length text.now))) }
+    ensures cost { IfOk result (λ o. IfSome o (λ r. turns.new.count + 7 * reach text.now at + 3
+        ≤ turns.old.count + 7 * reach text.now r.0)) }
+    ensures most { turns.new.count + 8 * reach text.now at
+        ≤ turns.old.count + 8 * length text.now + 4 }
 {
-    let Some(lexeme) = string(alloc, text, at)? else {
+    let Some(lexeme) = string(alloc, text, at, turns)? else {
         return Ok(None);
     };
-    match lexeme.said {
-        Said::Key(key) => Ok(Some((lexeme.end, key))),
-        _ => Ok(None),
+    match lexeme.said.key(turns) {
+        Some(key) => Ok(Some((lexeme.next, key))),
+        None => Ok(None),
     }
 }
 
@@ -175,11 +197,16 @@ pub(crate) fn entry<'a>(
     text: &'a str,
     entries: Vec<Entry<'a>>,
     at: usize,
+    turns: &mut IcuTurns,
 ) -> Result<Step<'a>, IcuTextError>
     requires within { at ≤ length text.now }
-    ensures ok { IfOk result (Steps text.now (EntriesThere text.now entries.entry.items at)) }
-    ensures err { IfErr result (Stops (EntriesThere text.now entries.entry.items at)) }
+    ensures ok { IfOk result (Steps text.now (EntriesThere entries.entry.items at)) }
+    ensures err { IfErr result (Stops text.now (EntriesThere entries.entry.items at)) }
     ensures goes { IfOk result (Goes text.now (3 * at + 1)) }
+    ensures cost { IfOk result (λ s. turns.new.count + 8 * reach text.now at + 3
+        ≤ turns.old.count + spent text.now s) }
+    ensures most { turns.new.count + 8 * reach text.now at
+        ≤ turns.old.count + 8 * length text.now + 4 }
 {
     if byte(text, at) == b'}' {
         let Some(table) = table_of(alloc, entries)? else {
@@ -187,8 +214,8 @@ pub(crate) fn entry<'a>(
         };
         return Ok(Step::Ended(Resource::Table(table), at + 1));
     }
-    match key_at(alloc, text, at)? {
-        Some((end, key)) => Ok(Step::Group(Waiting::Table(entries, key), skip(text, end))),
+    match key_at(alloc, text, at, turns)? {
+        Some((next, key)) => Ok(Step::Group(Waiting::Table(entries, key), next)),
         None => Err(IcuTextError::new(at, IcuExpected::Entry)),
     }
 }
@@ -209,38 +236,58 @@ fn table_of<'a>(alloc: Global, entries: Vec<Entry<'a>>) -> Result<Option<Table<'
 }
 
 /// From before a group to among its members or entries, or behind it.
-pub(crate) fn group<'a>(alloc: Global, text: &'a str, at: usize) -> Result<Step<'a>, IcuTextError>
+pub(crate) fn group<'a>(
+    alloc: Global,
+    text: &'a str,
+    at: usize,
+    turns: &mut IcuTurns,
+) -> Result<Step<'a>, IcuTextError>
     requires within { at ≤ length text.now }
-    ensures ok { IfOk result (Steps text.now (GroupThere text.now at)) }
-    ensures err { IfErr result (Stops (GroupThere text.now at)) }
+    ensures ok { IfOk result (Steps text.now (GroupThere at)) }
+    ensures err { IfErr result (Stops text.now (GroupThere at)) }
     ensures goes { IfOk result (Goes text.now (3 * at + 2)) }
+    ensures cost { IfOk result (λ s. turns.new.count + 8 * reach text.now at + 5
+        ≤ turns.old.count + spent text.now s) }
+    ensures most { turns.new.count + 8 * reach text.now at
+        ≤ turns.old.count + 8 * length text.now + 4 }
 {
     let b = byte(text, at);
     if b == b'{' {
-        return untyped(alloc, text, skip(text, at + 1));
+        let next = skip(text, at + 1, turns);
+        return untyped(alloc, text, next, turns);
     }
     if b == b':' {
-        return typed(alloc, text, at);
+        return typed(alloc, text, at, turns);
     }
     Err(IcuTextError::new(at, IcuExpected::Group))
 }
 
 /// From a type to among the members or entries of its group, or behind that.
-fn typed<'a>(alloc: Global, text: &'a str, at: usize) -> Result<Step<'a>, IcuTextError>
+fn typed<'a>(
+    alloc: Global,
+    text: &'a str,
+    at: usize,
+    turns: &mut IcuTurns,
+) -> Result<Step<'a>, IcuTextError>
     requires within { at < length text.now }
     requires colon { slice_index text.now at ≡ ascii.colon }
-    ensures ok { IfOk result (Steps text.now (GroupThere text.now at)) }
-    ensures err { IfErr result (Stops (GroupThere text.now at)) }
+    ensures ok { IfOk result (Steps text.now (GroupThere at)) }
+    ensures err { IfErr result (Stops text.now (GroupThere at)) }
     ensures goes { IfOk result (Goes text.now (3 * at + 2)) }
+    ensures cost { IfOk result (λ s. turns.new.count + 8 * reach text.now at + 5
+        ≤ turns.old.count + spent text.now s) }
+    ensures most { turns.new.count + 8 * reach text.now at
+        ≤ turns.old.count + 8 * length text.now + 4 }
 {
-    let Some((end, kind)) = group_type(text, at) else {
+    let Some((end, kind)) = group_type(text, at, turns) else {
         return Err(IcuTextError::new(at, IcuExpected::GroupType));
     };
-    let brace = skip(text, end);
+    let brace = skip(text, end, turns);
     if byte(text, brace) != b'{' {
         return Err(IcuTextError::new(brace, IcuExpected::LeftBrace));
     }
-    content(alloc, text, kind, skip(text, brace + 1))
+    let first = skip(text, brace + 1, turns);
+    content(alloc, text, kind, first, turns)
 }
 
 /// From behind the `{` of a group with a type to among its members or entries, or behind it.
@@ -249,28 +296,42 @@ fn content<'a>(
     text: &'a str,
     kind: Kind,
     at: usize,
+    turns: &mut IcuTurns,
 ) -> Result<Step<'a>, IcuTextError>
     requires within { at ≤ length text.now }
-    ensures ok { IfOk result (Steps text.now (TypedThere text.now (group_kind_of kind) at)) }
-    ensures err { IfErr result (Stops (TypedThere text.now (group_kind_of kind) at)) }
+    ensures ok { IfOk result (Steps text.now (TypedThere (group_kind_of kind) at)) }
+    ensures err { IfErr result (Stops text.now (TypedThere (group_kind_of kind) at)) }
     ensures goes { IfOk result (Goes text.now (3 * at)) }
+    ensures cost { IfOk result (λ s. turns.new.count + 8 * reach text.now at
+        ≤ turns.old.count + spent text.now s) }
+    ensures most { turns.new.count + 8 * reach text.now at
+        ≤ turns.old.count + 8 * length text.now + 4 }
 {
     match kind {
         Kind::Array => Ok(Step::Members(Vec::new(alloc), Last::Nothing, at)),
         Kind::Table => Ok(Step::Entries(Vec::new(alloc), at)),
         _ => {
-            let (to, resource) = leaf(alloc, text, kind, at)?;
+            let (to, resource) = leaf(alloc, text, kind, at, turns)?;
             Ok(Step::Ended(resource, to + 1))
         }
     }
 }
 
 /// From behind the `{` of a group without a type to among its members or entries, or behind it.
-fn untyped<'a>(alloc: Global, text: &'a str, at: usize) -> Result<Step<'a>, IcuTextError>
+fn untyped<'a>(
+    alloc: Global,
+    text: &'a str,
+    at: usize,
+    turns: &mut IcuTurns,
+) -> Result<Step<'a>, IcuTextError>
     requires within { at ≤ length text.now }
-    ensures ok { IfOk result (Steps text.now (UntypedThere text.now at)) }
-    ensures err { IfErr result (Stops (UntypedThere text.now at)) }
+    ensures ok { IfOk result (Steps text.now (UntypedThere at)) }
+    ensures err { IfErr result (Stops text.now (UntypedThere at)) }
     ensures goes { IfOk result (Goes text.now (3 * at)) }
+    ensures cost { IfOk result (λ s. turns.new.count + 8 * reach text.now at
+        ≤ turns.old.count + spent text.now s) }
+    ensures most { turns.new.count + 8 * reach text.now at
+        ≤ turns.old.count + 8 * length text.now + 4 }
 {
     let b = byte(text, at);
     if b == b'}' {
@@ -279,24 +340,33 @@ fn untyped<'a>(alloc: Global, text: &'a str, at: usize) -> Result<Step<'a>, IcuT
     if b == b'{' || b == b':' {
         return Ok(Step::Members(Vec::new(alloc), Last::Nothing, at));
     }
-    untyped_string(alloc, text, at)
+    untyped_string(alloc, text, at, turns)
 }
 
 /// From the string that must stand first in a group without a type to what the group is by what
 /// follows: a string, an array, or a table.
-fn untyped_string<'a>(alloc: Global, text: &'a str, at: usize) -> Result<Step<'a>, IcuTextError>
+fn untyped_string<'a>(
+    alloc: Global,
+    text: &'a str,
+    at: usize,
+    turns: &mut IcuTurns,
+) -> Result<Step<'a>, IcuTextError>
     requires within { at ≤ length text.now }
     requires no_brace { slice_index text.now at ≢ ascii.right_brace }
     requires no_group { slice_index text.now at ≢ ascii.left_brace }
     requires no_type { slice_index text.now at ≢ ascii.colon }
-    ensures ok { IfOk result (Steps text.now (UntypedThere text.now at)) }
-    ensures err { IfErr result (Stops (UntypedThere text.now at)) }
+    ensures ok { IfOk result (Steps text.now (UntypedThere at)) }
+    ensures err { IfErr result (Stops text.now (UntypedThere at)) }
     ensures goes { IfOk result (Goes text.now (3 * at)) }
+    ensures cost { IfOk result (λ s. turns.new.count + 8 * reach text.now at
+        ≤ turns.old.count + spent text.now s) }
+    ensures most { turns.new.count + 8 * reach text.now at
+        ≤ turns.old.count + 8 * length text.now + 4 }
 {
-    let Some(lexeme) = string(alloc, text, at)? else {
+    let Some(lexeme) = string(alloc, text, at, turns)? else {
         return Err(IcuTextError::no_string(text, at, IcuExpected::Member));
     };
-    let next = skip(text, lexeme.end);
+    let next = lexeme.next;
     let b = byte(text, next);
     if b == b'}' {
         return Ok(Step::Ended(Resource::String(text_of(lexeme.said)), next + 1));
@@ -309,7 +379,7 @@ fn untyped_string<'a>(alloc: Global, text: &'a str, at: usize) -> Result<Step<'a
     if b != b'{' && b != b':' {
         return Err(IcuTextError::new(next, IcuExpected::AfterString));
     }
-    let Said::Key(key) = lexeme.said else {
+    let Some(key) = lexeme.said.key(turns) else {
         return Err(IcuTextError::new(at, IcuExpected::Key));
     };
     Ok(Step::Group(Waiting::Table(Vec::new(alloc), key), next))
@@ -338,18 +408,22 @@ pub(crate) fn resume<'a>(
     waiting: Waiting<'a>,
     resource: Resource<'a>,
     at: usize,
+    turns: &mut IcuTurns,
 ) -> Result<Step<'a>, IcuTextError>
     requires within { at ≤ length text.now }
     ensures ok { IfOk result
-        (Steps text.now (EndedThere text.now waiting.entry resource.entry at)) }
-    ensures err { IfErr result (Stops (EndedThere text.now waiting.entry resource.entry at)) }
+        (Steps text.now (EndedThere waiting.entry resource.entry at)) }
+    ensures err { IfErr result (Stops text.now (EndedThere waiting.entry resource.entry at)) }
     ensures goes { IfOk result (Goes text.now (3 * at)) }
+    ensures cost { IfOk result (λ s. turns.new.count + 8 * at + 1
+        ≤ turns.old.count + spent text.now s) }
+    ensures most { IfErr result (λ e. turns.new.count ≡ turns.old.count) }
 {
     match waiting {
         Waiting::Array(members) => {
             let mut members = members;
             members.push(resource)?;
-            Ok(Step::Members(members, Last::Group, skip(text, at)))
+            Ok(Step::Members(members, Last::Group, skip(text, at, turns)))
         }
         Waiting::Table(entries, key) => {
             if is_collation(key) && is_table(&resource) {
@@ -357,7 +431,7 @@ pub(crate) fn resume<'a>(
             }
             let mut entries = entries;
             entries.push((Key::from(key), resource))?;
-            Ok(Step::Entries(entries, skip(text, at)))
+            Ok(Step::Entries(entries, skip(text, at, turns)))
         }
     }
 }

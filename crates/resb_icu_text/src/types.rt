@@ -8,18 +8,22 @@ ghost use Rattle.resb_grammar.specs.GroupTypes.{Stands};
 ghost use Rattle.resb_icu_grammar.specs.Words.{GroupType, RootType};
 ghost use Rattle.resb_grammar.specs.Kinds.{group_kind_of};
 
+use crate::turns::IcuTurns;
 use crate::words::word;
 use resb_grammar::{Kind, kind_named};
 
-/// The type whose `:` stands here and the place behind it, if a type stands here.
-pub fn group_type(text: &str, at: usize) -> Option<(usize, Kind)>
+/// The type whose `:` stands here and the place behind it, if a type stands here. Counts a turn for
+/// each byte up to there, and one for that place.
+pub fn group_type(text: &str, at: usize, turns: &mut IcuTurns) -> Option<(usize, Kind)>
     requires within { at < length text.now }
     requires colon { slice_index text.now at ≡ ascii.colon }
     ensures found { IfSome result (λ r. GroupType text.now at r.0 (group_kind_of r.1)) }
     ensures none { IfNone result ((to : ℕ) (k : spec.Kind) → GroupType text.now at to k → ⊥) }
     ensures within { IfSome result (λ r. (at < r.0) × (r.0 ≤ length text.now)) }
+    ensures cost { IfSome result (λ r. turns.new.count + at ≤ turns.old.count + r.0) }
+    ensures most { IfNone result (turns.new.count + at ≤ turns.old.count + length text.now) }
 {
-    let (to, name) = word(text, at + 1)?;
+    let (to, name) = word(text, at + 1, turns)?;
     let kind = kind_named(name)?;
     Some((to, kind))
 }
@@ -42,16 +46,20 @@ fn stands(text: &str, at: usize, bytes: &[u8]) -> bool
 }
 
 /// The root's type whose `:` stands here: the place behind it, and whether fallback stays on.
-pub fn root_type(text: &str, at: usize) -> Option<(usize, bool)>
+/// Counts a turn for each byte up to there, and twelve for what may stand behind `table`.
+pub fn root_type(text: &str, at: usize, turns: &mut IcuTurns) -> Option<(usize, bool)>
     requires within { at < length text.now }
     requires colon { slice_index text.now at ≡ ascii.colon }
     ensures found { IfSome result (λ r. RootType text.now at r.0 r.1) }
     ensures none { IfNone result ((to : ℕ) (f : Bool) → RootType text.now at to f → ⊥) }
     ensures within { IfSome result (λ r. (at < r.0) × (r.0 ≤ length text.now)) }
+    ensures cost { IfSome result (λ r. turns.new.count + at ≤ turns.old.count + r.0 + 12) }
+    ensures most { IfNone result (turns.new.count + at ≤ turns.old.count + length text.now + 12) }
 {
-    let (to, kind) = group_type(text, at)?;
+    let (to, kind) = group_type(text, at, turns)?;
     match kind {
         Kind::Table => {
+            turns.add(12);
             if stands(text, to, b"(nofallback)") {
                 Some((to + 12, false))
             } else {

@@ -1,6 +1,7 @@
 //! Words: the numbers and types that they are, and what a key may hold.
 //! Quoted strings are read in `strings`. Places count bytes of the text from its start.
-ghost use Rattle.std.specs.Prelude.{◌≡◌, ◌≢◌, ℕ, ◌+◌, ◌-◌, ◌^◌, ◌<◌, ◌≤◌, ◌↔◌, Bool, IsTrue, min};
+ghost use Rattle.std.specs.Prelude.{◌≡◌, ◌≢◌, ℕ, ◌+◌, ◌-◌, ◌*◌, ◌^◌, ◌<◌, ◌≤◌, ◌↔◌, Bool, IsTrue};
+ghost use Rattle.std.specs.Prelude.{min};
 ghost use Rattle.std.specs.Prelude.{List, length, slice_index, slice_range, IfSome, IfNone};
 ghost use Rattle.resb_grammar.specs.Ascii as ascii;
 ghost use Rattle.resb_grammar.specs.ByteRuns.{Run, is_digit};
@@ -10,8 +11,10 @@ ghost use Rattle.resb_grammar.specs.GroupTypes.{Names, Stands};
 ghost use Rattle.resb_icu_grammar.specs.Bytes as spec;
 ghost use Rattle.resb_icu_grammar.specs.Words.{Word, Digits, Number, GroupType, RootType};
 ghost use Rattle.resb_icu_text.specs.Inner.Numbers.{Signed};
+ghost use Rattle.resb_icu_text.specs.Inner.Reach.{reach};
 
 use crate::blanks::byte;
+use crate::turns::IcuTurns;
 
 /// Whether a byte may stand in a word.
 pub(crate) fn is_word(b: u8) -> bool
@@ -34,13 +37,19 @@ pub(crate) fn word_end(text: &str, from: usize) -> usize
     end
 }
 
-/// The word that begins here, and where it ends.
-pub(crate) fn word(text: &str, from: usize) -> Option<(usize, &str)>
+/// The word that begins here, and where it ends. Counts a turn for each of its bytes and one for
+/// the byte behind it.
+pub(crate) fn word<'a>(text: &'a str, from: usize, turns: &mut IcuTurns) -> Option<(usize, &'a str)>
     requires within { from ≤ length text.now }
     ensures found { IfSome result (λ r. Word text.now from r.0 r.1.now) }
     ensures none { IfNone result ((to : ℕ) (s : List ℕ) → Word text.now from to s → ⊥) }
+    ensures cost { IfSome result
+        (λ r. turns.new.count + from ≤ turns.old.count + r.0 + 1) }
+    ensures one { IfNone result (turns.new.count ≤ turns.old.count + 1) }
 {
     let to = word_end(text, from);
+    turns.add(to - from);
+    turns.add(1);
     if from < to {
         Some((to, &text[from..to]))
     } else {
@@ -138,14 +147,22 @@ fn signed_digits(text: &str, from: usize) -> Option<(usize, u32)>
     }
 }
 
-/// The number that begins here, and where it ends. No word goes on behind it.
-pub fn number(text: &str, from: usize) -> Option<(usize, u32)>
+/// The number that begins here, and where it ends. No word goes on behind it. Counts two turns for
+/// each byte of the word, and two for the byte behind it.
+pub fn number(text: &str, from: usize, turns: &mut IcuTurns) -> Option<(usize, u32)>
     requires within { from ≤ length text.now }
     ensures found { IfSome result (λ r. Number text.now from r.0 r.1) }
     ensures none { IfNone result ((to value : ℕ) → Number text.now from to value → ⊥) }
     ensures within { IfSome result (λ r. (from < r.0) × (r.0 ≤ length text.now)) }
+    ensures cost { IfSome result
+        (λ r. turns.new.count + 2 * from ≤ turns.old.count + 2 * r.0 + 2) }
+    ensures most { turns.new.count + 8 * reach text.now from
+        ≤ turns.old.count + 8 * length text.now + 2 }
 {
     let end = word_end(text, from);
+    turns.add(end - from);
+    turns.add(end - from);
+    turns.add(2);
     if from == end {
         return None;
     }

@@ -5,33 +5,23 @@
 --     After text ws           where a group has ended, inside these groups
 --     InMembers, InEntries, InGroup, InUntyped, InTyped
 --                             where members, entries, a group or what stands inside one follow
-use Rattle.std.specs.Prelude.{◌≡◌, ◌+◌, ◌&&◌, ℕ, true, false, List, [], ◌∷◌, ◌++◌, length}
+use Rattle.std.specs.Prelude.{◌≡◌, ◌+◌, ◌&&◌, ℕ, false, List, [], ◌∷◌, ◌++◌, length}
 use Rattle.std.specs.Prelude.{slice_index}
 use Rattle.resb_grammar.specs.Ascii as ascii
 use Rattle.resb_grammar.specs.GroupTypes.{Kind}
 use Rattle.resb_tree.specs.Tree.{Tree, array, table, trees_of, map_of}
 use Rattle.resb_icu_grammar.specs.Blanks.{Skip}
+use Rattle.resb_icu_grammar.specs.Machine.{Waiting, in_array, in_table, AreDistinct}
 use Rattle.resb_icu_grammar.specs.Groups.{Last, a_group, Members, Entries, Untyped, Typed, Group}
-use Rattle.resb_icu_grammar.specs.Groups.{is_new, is_collation, holds_entries}
+use Rattle.resb_icu_grammar.specs.Groups.{is_collation, holds_entries}
 
 -- the tree of the root, and the keys in order of place, with repetitions
 abbrev pub Meaning : Type 0
 Meaning = Tree × List (List ℕ)
 
--- what is open around a group: an array with the members before it, or a table with the entries
--- before it and its key
-pub data Waiting : Type 0 where
-  in_array : List Tree → Waiting
-  in_table : List (List ℕ × Tree) → List ℕ → Waiting
-
 -- what follows where a group with this tree has ended, with the keys so far
 abbrev pub Goal : Type 1
 Goal = ℕ → Tree → List (List ℕ) → Meaning → Type 0
-
--- each key stands once among these entries
-abbrev pub AreDistinct : List (List ℕ × Tree) → Type 0
-AreDistinct [] = Unit {0}
-AreDistinct (e ∷ es) = (is_new e.0 es ≡ true) × AreDistinct es
 
 -- members follow, and the `}` of their array
 pub record InMembers (text : List ℕ) (goal : Goal) (last : Last) (ts : List Tree) (at : ℕ)

@@ -5,38 +5,28 @@ use Rattle.resb_grammar.specs.GroupTypes.{Kind}
 use Rattle.resb_tree.specs.Tree.{Tree}
 use Rattle.resb_icu_grammar.specs.Blanks.{Skip}
 use Rattle.resb_icu_grammar.specs.Groups.{LeafContent, Numbers}
+use Rattle.resb_icu_grammar.specs.Stuck.{LeafStuck}
+use Rattle.resb_icu_grammar.specs.declared.expected.IcuExpected.TheVariants as expect
 use Rattle.resb_icu_text.specs.Refusal.{want_of_memory}
 use Rattle.resb_icu_text.specs.declared.error.IcuTextError.{IcuTextError}
 
--- memory was wanted, or something is not so
-abbrev pub Refuses : Type 0 → IcuTextError → Type 0
-Refuses P e = (e ≡ want_of_memory) ⊎ (P → ⊥)
+-- memory was wanted, or the content of a group of this type is stuck where the error says
+abbrev pub LeafRefuses : List ℕ → ℕ → Kind → IcuTextError → Type 0
+LeafRefuses text from kind e =
+    (e ≡ want_of_memory) ⊎ LeafStuck text from kind e.position e.expected
+
+-- the error says that a `}` was expected at this place
+abbrev pub WantsBrace : ℕ → IcuTextError → Type 0
+WantsBrace at e = e ≡ record { position = at; expected = expect.RightBrace }
 
 -- content of this type stands there up to a `}`
 pub record Leaf (text : List ℕ) (from : ℕ) (kind : Kind) (to : ℕ) (t : Tree) : Type 0 where
   pub content : LeafContent text from to kind t
   pub closes : slice_index text to ≡ ascii.right_brace
 
--- some content of this type stands there
-pub record SomeLeaf (text : List ℕ) (from : ℕ) (kind : Kind) : Type 0 where
-  pub to : ℕ
-  pub tree : Tree
-  pub leaf : Leaf text from kind to tree
-
 -- numbers stand there up to a `}`
 pub record Vector (text : List ℕ) (from to : ℕ) (ns : List ℕ) : Type 0 where
   pub numbers : Numbers text from to ns
-  pub closes : slice_index text to ≡ ascii.right_brace
-
--- some numbers stand there up to a `}`
-pub record SomeVector (text : List ℕ) (from : ℕ) : Type 0 where
-  pub to : ℕ
-  pub items : List ℕ
-  pub vector : Vector text from to items
-
--- a `}` stands there behind blanks
-pub record Closing (text : List ℕ) (from to : ℕ) : Type 0 where
-  pub blanks : Skip text from to
   pub closes : slice_index text to ≡ ascii.right_brace
 
 -- the `}`, or the place behind one comma and blanks

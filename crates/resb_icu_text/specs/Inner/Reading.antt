@@ -1,11 +1,15 @@
 -- What is open where a reading stands, and what a bundle's text is up to its root.
-use Rattle.std.specs.Prelude.{◌≡◌, ◌≤◌, ◌<◌, ℕ, Bool, List, [], ◌∷◌, length, slice_index, map}
+use Rattle.std.specs.Prelude.{◌≡◌, ◌≢◌, ◌⊎◌, ◌≤◌, ◌<◌, ◌+◌, ◌*◌, ℕ, Bool, true, List, [], ◌∷◌, length, slice_index}
+use Rattle.std.specs.Prelude.{map}
 use Rattle.resb_grammar.specs.Ascii as ascii
-use Rattle.resb_tree.specs.Tree.{Tree}
 use Rattle.resb_tree.specs.View.{tree_of}
-use Rattle.resb_icu_grammar.specs.Bundle.{Header, Typing}
-use Rattle.resb_icu_grammar.specs.Words.{Name}
-use Rattle.resb_icu_grammar.specs.Inner.Rest.{Meaning, Waiting, AtEnd, InEntries, Same, Never}
+use Rattle.resb_icu_grammar.specs.Blanks.{Skip}
+use Rattle.resb_icu_grammar.specs.Machine.{Reading, reading, behind_group}
+use Rattle.resb_icu_grammar.specs.Stuck.{HeadStuck, StuckFrom, at_root}
+use Rattle.resb_icu_grammar.specs.declared.expected.IcuExpected.TheVariants as expect
+use Rattle.resb_icu_grammar.specs.Words.{Name, RootType}
+use Rattle.resb_icu_grammar.specs.Inner.Rest.{Meaning, AtEnd, InEntries}
+use Rattle.resb_icu_grammar.specs.Machine.{Waiting}
 use Rattle.resb_icu_text.specs.Refusal.{want_of_memory}
 use Rattle.resb_icu_text.specs.declared.error.IcuTextError.{IcuTextError}
 use Rattle.resb_icu_text.specs.declared.steps.Waiting.{Waiting as Open}
@@ -13,7 +17,7 @@ use Rattle.resb_icu_text.specs.declared.steps.Step.{Step}
 use Rattle.resb_icu_text.specs.declared.open.OpenGroups.{OpenGroups}
 use Rattle.resb_icu_text.specs.declared.open.Next.{Next}
 use Rattle.resb_icu_text.specs.declared.open.Next.TheVariants as next
-use Rattle.resb_icu_text.specs.Inner.Steps.{shown, Rest, There, place, progress}
+use Rattle.resb_icu_text.specs.Inner.Steps.{shown, now, place, progress, spent}
 
 -- what is open, the innermost first, around what is open already
 abbrev pub around : List Waiting → List Open → List Waiting
@@ -28,33 +32,62 @@ groups g = around [] g.waiting.items
 abbrev pub keys : OpenGroups → List (List ℕ)
 keys g = map (λ k. k.now) g.keys.items
 
--- what the rest of a text has to be where a reading goes on, or behind its root
-abbrev pub Coming : List ℕ → OpenGroups → Next → Meaning → Type 0
-Coming text g (next.Step s) = Rest text (groups g) (keys g) s
-Coming text g (next.Root r at) = AtEnd text at (tree_of r) (keys g)
+-- where a reading goes on, or behind its root
+abbrev pub coming : OpenGroups → Next → Reading
+coming g (next.Step s) = now (groups g) (keys g) s
+coming g (next.Root r at) = reading [] (keys g) (behind_group (tree_of r)) at
 
 -- a reading stands in the text and further than it was, or behind its root
 abbrev pub Advances : List ℕ → Step → Next → Type 0
 Advances text before (next.Step s) = (place s ≤ length text) × (progress before < progress s)
 Advances text before (next.Root r at) = at ≤ length text
 
--- a bundle's name stands there
-pub record AnyName (text : List ℕ) (from : ℕ) : Type 0 where
+-- how far a reading has looked where it goes on, or behind its root
+abbrev pub spent_before : List ℕ → Next → ℕ
+spent_before text (next.Step s) = spent text s
+spent_before text (next.Root r at) = 8 * at + 1
+
+-- a bundle's name stands there, and blanks up to the next place
+pub record NameAhead (text : List ℕ) (from next : ℕ) (name : List ℕ) : Type 0 where
   pub to : ℕ
-  pub name : List ℕ
   pub stands : Name text from to name
+  pub after : Skip text to next
+
+-- memory was wanted, or no bundle's name stands there, where the error says
+abbrev pub NameFails : List ℕ → ℕ → IcuTextError → Type 0
+NameFails text at e =
+    (e ≡ want_of_memory)
+    ⊎ (((to : ℕ) (name : List ℕ) → Name text at to name → ⊥)
+    × (e ≡ record { position = at; expected = expect.Name }))
+
+-- the root's type and the blanks behind it, or no `:`
+pub data TypingThere (text : List ℕ) (from to : ℕ) : Bool → Type 0 where
+  no_colon : slice_index text from ≢ ascii.colon → to ≡ from → TypingThere text from to true
+  a_type : (i : ℕ) (fallback : Bool) → RootType text from i fallback → Skip text i to
+      → TypingThere text from to fallback
+
+-- where the error says, no type of a root stands, or no `{` does
+pub data OpeningFails (text : List ℕ) (from : ℕ) (e : IcuTextError) : Type 0 where
+  no_type : slice_index text from ≡ ascii.colon
+      → ((to : ℕ) (fallback : Bool) → RootType text from to fallback → ⊥)
+      → e ≡ record { position = from; expected = expect.RootType } → OpeningFails text from e
+  no_brace : (brace : ℕ) (fallback : Bool) → TypingThere text from brace fallback
+      → slice_index text brace ≢ ascii.left_brace
+      → e ≡ record { position = brace; expected = expect.LeftBrace } → OpeningFails text from e
 
 -- perhaps a type, and the `{` of the root
 pub record Opening (text : List ℕ) (from brace : ℕ) (fallback : Bool) : Type 0 where
-  pub typed : Typing text from brace fallback
+  pub typed : TypingThere text from brace fallback
   pub opens : slice_index text brace ≡ ascii.left_brace
 
--- what stands before the first entry of some bundle's text
-pub record AnyHeader (text : List ℕ) : Type 0 where
-  pub name : List ℕ
-  pub fallback : Bool
-  pub to : ℕ
-  pub header : Header text name fallback to
+-- memory was wanted, or a reading gets stuck before the first entry where the error says
+abbrev pub HeadFails : List ℕ → IcuTextError → Type 0
+HeadFails text e = (e ≡ want_of_memory) ⊎ HeadStuck text e.position e.expected
+
+-- memory was wanted, or a reading from the root's first entry on gets stuck where the error says
+abbrev pub RootFails : List ℕ → ℕ → IcuTextError → Type 0
+RootFails text first e =
+    (e ≡ want_of_memory) ⊎ StuckFrom text (at_root first) e.position e.expected
 
 -- the entries of the root stand there, with this meaning
 abbrev pub RootThere : List ℕ → ℕ → Meaning → Type 0

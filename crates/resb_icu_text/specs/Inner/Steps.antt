@@ -1,12 +1,15 @@
--- Where a reading of a text stands, and what the rest of the text has to be there.
+-- Where a reading of a text stands, and how it goes on from there.
 use Rattle.std.specs.Prelude.{◌≡◌, ◌⊎◌, ◌≤◌, ◌<◌, ◌+◌, ◌*◌, ℕ, List, [], ◌∷◌, ◌++◌, length, map}
 use Rattle.resb_grammar.specs.GroupTypes.{Kind}
-use Rattle.resb_tree.specs.Tree.{Tree}
 use Rattle.resb_tree.specs.View.{tree_of, pairs_view}
+use Rattle.resb_icu_grammar.specs.Blanks.{Skip}
 use Rattle.resb_icu_grammar.specs.Groups as spec
-use Rattle.resb_icu_grammar.specs.Inner.Rest.{Meaning, Waiting, in_array, in_table, After}
-use Rattle.resb_icu_grammar.specs.Inner.Rest.{InMembers, InEntries, InGroup, InUntyped, InTyped}
-use Rattle.resb_icu_grammar.specs.Inner.Rest.{Same, Never}
+use Rattle.resb_icu_grammar.specs.Words.{KeyText}
+use Rattle.resb_icu_grammar.specs.Machine.{Waiting, in_array, in_table, Reading, reading, Comes}
+use Rattle.resb_icu_grammar.specs.Machine.{among_members, among_entries, before_group, in_untyped}
+use Rattle.resb_icu_grammar.specs.Machine.{in_typed, behind_group}
+use Rattle.resb_icu_grammar.specs.Stuck.{StuckFrom}
+use Rattle.resb_icu_text.specs.Inner.Reach.{reach}
 use Rattle.resb_icu_text.specs.Refusal.{want_of_memory}
 use Rattle.resb_icu_text.specs.declared.error.IcuTextError.{IcuTextError}
 use Rattle.resb_icu_text.specs.declared.steps.Last.{Last}
@@ -34,55 +37,56 @@ abbrev pub with_key : List (List ℕ) → Open → List (List ℕ)
 with_key ks (waiting.Array members) = ks
 with_key ks (waiting.Table entries key) = ks ++ key.now ∷ []
 
--- what the rest of the text has to be where a reading stands, inside these groups and with these
--- keys so far
-abbrev pub Rest : List ℕ → List Waiting → List (List ℕ) → Step → Meaning → Type 0
-Rest text ws ks (step.Members members last at) =
-    InMembers text (After text ws) (last_of last) (map tree_of members.items) at ks
-Rest text ws ks (step.Entries entries at) =
-    InEntries text (After text ws) (pairs_view entries.items) at ks
-Rest text ws ks (step.Group w at) = InGroup text (After text (shown w ∷ ws)) at (with_key ks w)
-Rest text ws ks (step.Ended resource at) = After text ws at (tree_of resource) ks
+-- where a reading stands, inside these groups and with these keys before it
+abbrev pub now : List Waiting → List (List ℕ) → Step → Reading
+now ws ks (step.Members members last at) =
+    reading ws ks (among_members (last_of last) (map tree_of members.items)) at
+now ws ks (step.Entries entries at) =
+    reading ws ks (among_entries (pairs_view entries.items)) at
+now ws ks (step.Group w at) = reading (shown w ∷ ws) (with_key ks w) before_group at
+now ws ks (step.Ended resource at) = reading ws ks (behind_group (tree_of resource)) at
 
--- what the rest has to be, inside some groups and with some keys so far
-abbrev pub There : Type 1
-There = List Waiting → List (List ℕ) → Meaning → Type 0
+-- a place of a reading, inside some groups and with some keys before it
+abbrev pub There : Type 0
+There = List Waiting → List (List ℕ) → Reading
 
--- what follows is the same before a step and behind it
+-- a reading comes from one place to another
 abbrev pub Steps : List ℕ → There → Step → Type 0
 Steps text there s =
-    (ws : List Waiting) (ks : List (List ℕ)) → Same (there ws ks) (Rest text ws ks s)
+    (ws : List Waiting) (ks : List (List ℕ)) → Comes text (there ws ks) (now ws ks s)
 
--- memory was wanted, or the rest has no meaning
-abbrev pub Stops : There → IcuTextError → Type 0
-Stops there e =
+-- memory was wanted, or a reading from there on gets stuck where the error says
+abbrev pub Stops : List ℕ → There → IcuTextError → Type 0
+Stops text there e =
     (e ≡ want_of_memory)
-    ⊎ ((ws : List Waiting) (ks : List (List ℕ)) → Never (there ws ks))
+    ⊎ ((ws : List Waiting) (ks : List (List ℕ))
+    → StuckFrom text (there ws ks) e.position e.expected)
 
--- members follow
-abbrev pub MembersThere : List ℕ → List Resource → Last → ℕ → There
-MembersThere text members last at ws ks =
-    InMembers text (After text ws) (last_of last) (map tree_of members) at ks
+-- among members
+abbrev pub MembersThere : List Resource → Last → ℕ → There
+MembersThere members last at ws ks =
+    reading ws ks (among_members (last_of last) (map tree_of members)) at
 
--- entries follow
-abbrev pub EntriesThere : List ℕ → List (List ℕ × Resource) → ℕ → There
-EntriesThere text entries at ws ks = InEntries text (After text ws) (pairs_view entries) at ks
+-- among entries
+abbrev pub EntriesThere : List (List ℕ × Resource) → ℕ → There
+EntriesThere entries at ws ks = reading ws ks (among_entries (pairs_view entries)) at
 
--- a group follows
-abbrev pub GroupThere : List ℕ → ℕ → There
-GroupThere text at ws ks = InGroup text (After text ws) at ks
+-- before a group
+abbrev pub GroupThere : ℕ → There
+GroupThere at ws ks = reading ws ks before_group at
 
--- what stands in a group without a type follows
-abbrev pub UntypedThere : List ℕ → ℕ → There
-UntypedThere text at ws ks = InUntyped text (After text ws) at ks
+-- behind the `{` of a group without a type
+abbrev pub UntypedThere : ℕ → There
+UntypedThere at ws ks = reading ws ks in_untyped at
 
--- what stands in a group of this type follows
-abbrev pub TypedThere : List ℕ → Kind → ℕ → There
-TypedThere text kind at ws ks = InTyped text (After text ws) kind at ks
+-- behind the `{` of a group of this type
+abbrev pub TypedThere : Kind → ℕ → There
+TypedThere kind at ws ks = reading ws ks (in_typed kind) at
 
--- a group with this resource has ended, inside what was open around it and more
-abbrev pub EndedThere : List ℕ → Open → Resource → ℕ → There
-EndedThere text w resource at ws ks = After text (shown w ∷ ws) at (tree_of resource) ks
+-- behind a group with this resource, inside what was open around it and more
+abbrev pub EndedThere : Open → Resource → ℕ → There
+EndedThere w resource at ws ks =
+    reading (shown w ∷ ws) ks (behind_group (tree_of resource)) at
 
 -- how far a reading is: three for each byte before its place, and up to two for what follows there
 abbrev pub progress : Step → ℕ
@@ -101,3 +105,16 @@ place (step.Ended resource at) = at
 -- a reading stands in the text, and further than it was
 abbrev pub Goes : List ℕ → ℕ → Step → Type 0
 Goes text before s = (place s ≤ length text) × (before < progress s)
+
+-- how far a reading has looked, eight for each byte, and up to three for what follows there
+abbrev pub spent : List ℕ → Step → ℕ
+spent text (step.Members members last at) = 8 * reach text at + 2
+spent text (step.Entries entries at) = 8 * reach text at + 2
+spent text (step.Group w at) = 8 * reach text at + 3
+spent text (step.Ended resource at) = 8 * at
+
+-- a string that may be a key stands there, and blanks up to the next place
+pub record KeyAhead (text : List ℕ) (from next : ℕ) (key : List ℕ) : Type 0 where
+  pub to : ℕ
+  pub stands : KeyText text from to key
+  pub after : Skip text to next

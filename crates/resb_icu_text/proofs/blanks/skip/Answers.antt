@@ -1,33 +1,58 @@
-use Rattle.std.proofs.Common.{◌<◌, arith, sym, ◌∙◌}
-use Rattle.resb_icu_text.proofs.BlanksLemmas.{white_some, white_more, comment_more, skip_ends}
+use Rattle.std.proofs.Common.{arith, sym, ◌∙◌}
+use Rattle.resb_icu_text.proofs.ReachLemmas.{reach_here, reach_slash}
+use Rattle.resb_icu_text.proofs.BlanksLemmas.{white_more, comment_more, skip_ends}
 use Rattle.resb_icu_text.proofs.BlanksLemmas.{no_comment_at}
 use Rattle.resb_icu_text.proofs.blanks.skip.Goals as goal
 
-pub skip-preserved-then-is_white : goal.skip-preserved-then-is_white
-skip-preserved-then-is_white c =
-    let w = sym c.is_white.ensures ∙ c.if-is_white.true in
-    let some : 0 < c.byte-b.result = white_some _ w in
-    record {
-      order = omega arith;
-      fits = omega (arith, c.byte-b.ensures.inside some);
-      so_far = white_more _ _ _ _ c.byte-b.ensures.byte w c.skip.invariant.so_far;
-    }
-
 pub skip-preserved : goal.skip-preserved
 skip-preserved c = record {
-  order = omega (arith, c.in-Some.ensures.within.0);
+  order = omega (arith, c.in-Some.ensures.within.0, c.white_end-white.ensures.run.order);
   fits = c.in-Some.ensures.within.1;
-  so_far = comment_more _ _ _ _ c.in-Some.ensures.found c.skip.invariant.so_far;
+  so_far = comment_more _ _ _ _ c.in-Some.ensures.found
+      (white_more _ _ _ _ c.white_end-white.ensures.run c.skip.invariant.so_far);
+  cost = omega (
+    arith,
+    c.in-Some.ensures.within.0,
+    c.white_end-white.ensures.run.order,
+    c.skip.invariant.cost,
+    c.add.ensures.most,
+    c.add-in-skip.ensures.most,
+    c.add-in-Some.ensures.most,
+  );
 }
 
 pub returns-in-None-clause-skip : goal.returns-in-None-clause-skip
 returns-in-None-clause-skip c =
-    skip_ends _ _ _ c.byte-b.result c.byte-b.ensures.byte
-    (sym c.is_white.ensures ∙ c.if-is_white.false) c.in-None.ensures.none
+    skip_ends _ _ _ _ c.white_end-white.ensures.run c.in-None.ensures.none c.skip.invariant.so_far
+
+pub returns-in-None-clause-cost : goal.returns-in-None-clause-cost
+returns-in-None-clause-cost c =
+    omega (
+      arith,
+      c.white_end-white.ensures.run.order,
+      c.white_end-white.ensures.run.fits,
+      c.skip.invariant.cost,
+      c.add.ensures.most,
+      c.add-in-skip.ensures.most,
+      c.add-in-None.ensures.most,
+      reach_slash c.args.text.now c.white_end-white.result
+          (sym c.byte.ensures.byte ∙ c.if-byte-ne47.false),
+    )
+
+pub returns-then-byte-ne47-clause-skip : goal.returns-then-byte-ne47-clause-skip
+returns-then-byte-ne47-clause-skip c =
+    skip_ends _ _ _ _ c.white_end-white.ensures.run
+    (no_comment_at _ _ (λ e. c.if-byte-ne47.true (c.byte.ensures.byte ∙ e)))
     c.skip.invariant.so_far
 
-pub returns-else-b-eq47-clause-skip : goal.returns-else-b-eq47-clause-skip
-returns-else-b-eq47-clause-skip c =
-    skip_ends _ _ _ c.byte-b.result c.byte-b.ensures.byte
-    (sym c.is_white.ensures ∙ c.if-is_white.false)
-    (no_comment_at _ _ (rw (← c.byte-b.ensures.byte) c.if-b-eq47.false)) c.skip.invariant.so_far
+pub returns-then-byte-ne47-clause-cost : goal.returns-then-byte-ne47-clause-cost
+returns-then-byte-ne47-clause-cost c =
+    omega (
+      arith,
+      c.white_end-white.ensures.run.order,
+      c.skip.invariant.cost,
+      c.add.ensures.most,
+      c.add-in-skip.ensures.most,
+      reach_here c.args.text.now c.white_end-white.result
+          (λ e. c.if-byte-ne47.true (c.byte.ensures.byte ∙ e)),
+    )

@@ -1,32 +1,53 @@
-use Rattle.std.proofs.Common.{ap, subst, sym, ◌∙◌, inr, arith}
+use Rattle.std.proofs.Common.{ap, subst, sym, ◌∙◌, arith}
 use Rattle.std.proofs.lemmas.Result.{err_from_is_err_and}
 use Rattle.resb_tree.specs.Tree.{Tree, string}
 use Rattle.resb_grammar.specs.GroupTypes.{string_kind}
 use Rattle.resb_tree.proofs.ViewLemmas.{tree_of_string}
 use Rattle.resb_icu_text.specs.Inner.Leaf.{Leaf}
-use Rattle.resb_icu_text.proofs.LeafLemmas.{no_string_leaf, open_string, string_stands}
+use Rattle.resb_icu_text.proofs.LeafLemmas.{leaf_refuses, string_stands}
+use Rattle.resb_icu_text.proofs.LeafLemmas.{closing_at}
+use Rattle.resb_icu_text.proofs.ReachLemmas.{reach_right, reach_string}
+use Rattle.resb_icu_grammar.specs.Stuck.{no_string, open_string}
 use Rattle.resb_icu_text.proofs.leaf.string_leaf.Goals as goal
 
 pub returns-in_default-clause-err : goal.returns-in_default-clause-err
 returns-in_default-clause-err c =
-    inr (no_string_leaf _ _ (rw c.in_default.is at c.in_ok-lexeme.ensures.none))
+    leaf_refuses _ _ _ _ _ _ c.no_string.ensures
+    (no_string (rw c.in_default.is at c.in_ok-lexeme.ensures.none))
 
 pub returns-in_err-to-clause-err : goal.returns-in_err-to-clause-err
 returns-in_err-to-clause-err c =
     let p = err_from_is_err_and c.from_residual-in_err-to.result
     c.from_residual-in_err-to.ensures.1 in
     let found = rw c.in-Some.is at c.in_ok-lexeme.ensures.found in
-    rw (p.1, p.2) (inr (open_string _ _ _ _ found.string c.in_err-to.ensures.err))
+    let e = c.in_err-to.ensures.err in
+    rw (p.1, p.2) (leaf_refuses _ _ _ _ _ _ e.1 (open_string _ _ _ found.string found.blanks e.0))
 
 pub returns-clause-ok : goal.returns-clause-ok
 returns-clause-ok c =
     let found = rw c.in-Some.is at c.in_ok-lexeme.ensures.found in
     subst (λ (t : Tree). Leaf c.args.text.now c.args.at string_kind c.in_ok-to.to t)
     (sym (tree_of_string c.text_of.result ∙ ap string c.text_of.ensures))
-    (string_stands _ _ _ _ _ found.string c.in_ok-to.ensures.ok)
+    (string_stands _ _ _ _ _ found.string
+    (closing_at _ _ _ _ found.blanks c.in_ok-to.ensures.ok))
 
 pub returns-clause-within : goal.returns-clause-within
 returns-clause-within c =
     let found = rw c.in-Some.is at c.in_ok-lexeme.ensures.found in
-    let within = c.in_ok-to.ensures.within in
-    (omega (arith, found.after, within.0), within.1)
+    let ok = c.in_ok-to.ensures.ok in
+    (omega (arith, found.after, found.order, ok.0), c.in_ok-to.ensures.within)
+
+pub returns-clause-cost : goal.returns-clause-cost
+returns-clause-cost c =
+    let found = rw c.in-Some.is at c.in_ok-lexeme.ensures.found in
+    let cost = rw c.in-Some.is at c.in_ok-lexeme.ensures.cost in
+    let ok = c.in_ok-to.ensures.ok in
+    omega (
+      arith,
+      cost,
+      ok.0,
+      reach_right c.args.text.now _ ok.1,
+      reach_string c.args.text.now c.args.at _ _ found.string,
+      found.after,
+      found.order,
+    )

@@ -1,56 +1,67 @@
-use Rattle.std.proofs.Common.{◌<◌, length, arith, rules, sym, ◌∙◌}
-use Rattle.resb_icu_text.proofs.PiecesLemmas.{goes_byte, back_byte, goes_escape, back_escape}
+use Rattle.std.proofs.Common.{◌≡◌, arith, rules, refl, sym, ◌∙◌}
+use Rattle.std.specs.Prelude.{slice_index}
+use Rattle.resb_icu_grammar.specs.Bytes.{backslash}
+use Rattle.resb_icu_text.proofs.PiecesLemmas.{goes_bytes, back_bytes, goes_escape, back_escape}
 use Rattle.resb_icu_text.proofs.PiecesLemmas.{no_escape_inside, none_past, piece_closes}
-use Rattle.resb_icu_text.proofs.PiecesLemmas.{no_escape_more, dirty_more}
+use Rattle.resb_icu_text.proofs.PiecesLemmas.{no_escape_more}
+use Rattle.resb_icu_text.proofs.StopsLemmas.{is_backslash}
 use Rattle.resb_icu_text.proofs.pieces.piece_end.Goals as goal
 
-pub returns-then-at-text-clause-none : goal.returns-then-at-text-clause-none
-returns-then-at-text-clause-none c =
-    none_past c.args.text.now c.args.from c.piece.at (search rules) c.piece.invariant.back
+pub returns-in_default-clause-none : goal.returns-in_default-clause-none
+returns-in_default-clause-none c =
+    none_past c.args.text.now c.args.from c.piece.at c.piece.invariant.fits
+    c.in_default.ensures.none c.piece.invariant.back
 
-pub returns-then-b-eq34-clause-found : goal.returns-then-b-eq34-clause-found
-returns-then-b-eq34-clause-found c =
-    piece_closes c.args.text.now c.args.from c.piece.at c.byte-b.result c.byte-b.ensures.byte
-    c.if-b-eq34.true c.piece.invariant.on
+pub returns-in_default-clause-most : goal.returns-in_default-clause-most
+returns-in_default-clause-most c =
+    omega (arith, c.add.ensures.most, c.piece.invariant.cost, c.piece.invariant.fits)
 
-pub returns-in-None-clause-none : goal.returns-in-None-clause-none
-returns-in-None-clause-none c =
-    no_escape_inside c.args.text.now c.args.from c.piece.at c.byte-b.result c.byte-b.ensures.byte
-    c.if-b-eq92.true c.in-None.ensures.none c.piece.invariant.back
+pub returns-then-byte-eq34-clause-found : goal.returns-then-byte-eq34-clause-found
+returns-then-byte-eq34-clause-found c =
+    let f = c.in-Some.ensures.found in
+    piece_closes c.args.text.now c.args.from c.in-Some.stop
+    (sym c.byte.ensures.byte ∙ c.if-byte-eq34.true)
+    (goes_bytes c.args.text.now c.args.from c.piece.at c.in-Some.stop f.order
+    (omega (arith, f.fits)) f.before c.piece.invariant.on)
 
-pub piece-preserved-then-b-eq92 : goal.piece-preserved-then-b-eq92
-piece-preserved-then-b-eq92 c =
-    let e = c.byte-b.ensures.byte in
-    let s = c.if-b-eq92.true in
-    let x = c.in-Some.ensures.found in
-    record {
-      order = omega (arith, c.piece.invariant.order, c.in-Some.ensures.within.0);
-      fits = c.in-Some.ensures.within.1;
-      on = goes_escape c.args.text.now c.args.from c.piece.at c.in-Some.to c.byte-b.result _ e s x
-          c.piece.invariant.on;
-      back = back_escape c.args.text.now c.args.from c.piece.at c.in-Some.to c.byte-b.result _ e s x
-          c.piece.invariant.back;
-      clean = λ h. absurd (search rules);
-      dirty = λ _. (
-        c.piece.at,
-        c.piece.invariant.order,
-        omega (arith, c.in-Some.ensures.within.0),
-        sym e ∙ s,
-      );
-    }
+pub returns-then-byte-eq34-clause-plain : goal.returns-then-byte-eq34-clause-plain
+returns-then-byte-eq34-clause-plain c = λ h.
+    no_escape_more c.args.text.now c.args.from c.piece.at c.in-Some.stop
+    c.in-Some.ensures.found.before (c.piece.invariant.clean h)
+
+pub returns-in_default-escape-clause-none : goal.returns-in_default-escape-clause-none
+returns-in_default-escape-clause-none c =
+    let f = c.in-Some.ensures.found in
+    let s : slice_index c.args.text.now c.in-Some.stop ≡ backslash =
+    is_backslash _ _ _ f (λ e. c.if-byte-eq34.false (c.byte.ensures.byte ∙ e)) in
+    no_escape_inside c.args.text.now c.args.from c.in-Some.stop _ refl s
+    c.in_default-escape.ensures.none
+    (back_bytes c.args.text.now c.args.from c.piece.at c.in-Some.stop f.order f.before
+    c.piece.invariant.back)
 
 pub piece-preserved : goal.piece-preserved
 piece-preserved c =
-    let e = c.byte-b.ensures.byte in
-    let inside : c.piece.at < length c.args.text.now = search rules in
+    let text = c.args.text.now in
+    let f = c.in-Some.ensures.found in
+    let s : slice_index text c.in-Some.stop ≡ backslash =
+    is_backslash _ _ _ f (λ e. c.if-byte-eq34.false (c.byte.ensures.byte ∙ e)) in
+    let x = c.in-Some-escape.ensures.found in
+    let w = c.in-Some-escape.ensures.within in
+    let on = goes_bytes text c.args.from c.piece.at c.in-Some.stop f.order (omega (arith, f.fits))
+    f.before c.piece.invariant.on in
+    let back = back_bytes text c.args.from c.piece.at c.in-Some.stop f.order f.before
+    c.piece.invariant.back in
     record {
-      order = omega (arith, c.piece.invariant.order);
-      fits = omega (arith, inside);
-      on = goes_byte c.args.text.now c.args.from c.piece.at c.byte-b.result inside e
-          c.if-b-eq34.false c.if-b-eq92.false c.piece.invariant.on;
-      back = back_byte c.args.text.now c.args.from c.piece.at c.byte-b.result e c.if-b-eq34.false
-          c.if-b-eq92.false c.piece.invariant.back;
-      clean = λ h. no_escape_more c.args.text.now c.args.from c.piece.at c.byte-b.result e
-          c.if-b-eq92.false (c.piece.invariant.clean h);
-      dirty = λ h. dirty_more c.args.text.now c.args.from c.piece.at (c.piece.invariant.dirty h);
+      order = omega (arith, c.piece.invariant.order, f.order, w.0);
+      fits = w.1;
+      on = goes_escape text c.args.from c.in-Some.stop c.in-Some-escape.to _ _ refl s x on;
+      back = back_escape text c.args.from c.in-Some.stop c.in-Some-escape.to _ _ refl s x back;
+      clean = λ h. absurd (search rules);
+      dirty = λ _. (
+        c.in-Some.stop,
+        omega (arith, c.piece.invariant.order, f.order),
+        omega (arith, w.0),
+        s,
+      );
+      cost = omega (arith, c.add-in-piece.ensures.most, c.piece.invariant.cost, f.order, w.0);
     }

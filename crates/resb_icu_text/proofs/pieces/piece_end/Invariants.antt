@@ -1,4 +1,4 @@
-use Rattle.std.proofs.Common.{◌≡◌, ◌-◌, ◌≤◌, ◌<◌, ℕ, true, false, length}
+use Rattle.std.proofs.Common.{◌≡◌, ◌+◌, ◌-◌, ◌≤◌, ◌<◌, ℕ, true, false, length}
 use Rattle.std.specs.Prelude.{slice_index}
 use Rattle.resb_icu_grammar.specs.Bytes.{backslash}
 use Rattle.resb_icu_grammar.specs.Words.{HasNoEscape}
@@ -14,6 +14,7 @@ invariant-piece l = record {
   clean : l.plain ≡ true → HasNoEscape l.text l.from l.at;
   dirty : l.plain ≡ false → (k : ℕ) × (l.from ≤ k) × (k < l.at)
       × (slice_index l.text k ≡ backslash);
+  cost : l.turns.count + l.from ≤ l.fn.turns.count + l.at;
 }
 
 abbrev pub decreases-piece : goal.decreases-piece

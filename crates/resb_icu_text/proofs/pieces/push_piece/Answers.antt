@@ -19,7 +19,7 @@ piece-init c =
       order = omega arith;
       fits = order;
       begins = begins_behind c.args.text.now c.args.from c.utf8.text c.requires.opens.0
-          (omega (arith, order, c.requires.within)) (omega (arith, c.requires.opens.1));
+          (omega (arith, order, c.requires.within.1)) (omega (arith, c.requires.opens.1));
       adds = λ bytes h. adds_none c.args.text.now _ _ _ _ h;
     }
 
@@ -65,7 +65,7 @@ piece-preserved-in-Some-default-None c =
     let h = c.requires.inside in
     let a = c.piece.invariant.adds h.0 h.1 in
     let fits : next ≤ c.args.last = escape_fits text at next c.args.last _ a.rest s x a.inside in
-    let low : at + 1 < length text = omega (arith, n, fits, c.requires.within) in
+    let low : at + 1 < length text = omega (arith, n, fits, c.requires.within.1) in
     record {
       order = omega (arith, n);
       fits = fits;
@@ -92,7 +92,7 @@ piece-preserved c =
       fits = omega (arith, low);
       begins = c.piece.invariant.begins;
       adds = λ bytes h. adds_byte c.args.text.now c.args.from c.args.last c.piece.start c.piece.at _
-          _ bytes c.piece.invariant.order low c.requires.within
+          _ bytes c.piece.invariant.order low c.requires.within.1
           (λ e. c.if-byte-eq92.false (c.byte.ensures.byte ∙ e)) (c.piece.invariant.adds bytes h);
     }
 
@@ -100,18 +100,16 @@ pub range-requires-2-clause-end_boundary : goal.range-requires-2-clause-end_boun
 range-requires-2-clause-end_boundary c =
     let h = c.requires.inside in
     let q = inside_closes c.args.text.now c.args.from c.args.last h.0 h.1 in
-    IsCharBoundary-before_ascii c.args.text.now c.args.last c.requires.within (omega (arith, q))
+    IsCharBoundary-before_ascii c.args.text.now c.args.last c.requires.within.1 (omega (arith, q))
 
-pub returns : goal.returns
-returns c =
+pub returns-clause-value : goal.returns-clause-value
+returns-clause-value c =
     let text = c.args.text.now in
     let h = c.requires.inside in
     let q = inside_closes text c.args.from c.args.last h.0 h.1 in
     let same : c.piece.at ≡ c.args.last =
     omega (arith, c.piece.invariant.fits, c.piece-test.false) in
-    record {
-      value = on_ok_added c.push_str-2.result _ _ _ _ c.push_str-2.ensures.bytes
-          (λ e bytes h. adds_all text c.args.from c.args.last c.piece.start c.piece.at _ _ bytes _ q
-          same (e ∙ ap (λ l. string_bytes c.piece.value ++ l) c.range-2.ensures.value)
-          (c.piece.invariant.adds bytes h));
-    }
+    on_ok_added c.push_str-2.result _ _ _ _ c.push_str-2.ensures.bytes
+    (λ e bytes h. adds_all text c.args.from c.args.last c.piece.start c.piece.at _ _ bytes _ q same
+    (e ∙ ap (λ l. string_bytes c.piece.value ++ l) c.range-2.ensures.value)
+    (c.piece.invariant.adds bytes h))

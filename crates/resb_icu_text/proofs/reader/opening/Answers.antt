@@ -1,8 +1,17 @@
-use Rattle.std.proofs.Common.{sym, ◌∙◌}
-use Rattle.resb_icu_text.proofs.ReadingLemmas.{no_opening}
+use Rattle.std.proofs.Common.{arith, sym, ◌∙◌}
+use Rattle.resb_icu_text.specs.Inner.Reading.{no_brace}
+use Rattle.resb_icu_text.proofs.ReachLemmas.{reach_left}
 use Rattle.resb_icu_text.proofs.reader.opening.Goals as goal
 
 pub returns-else-byte-eq123-clause-err : goal.returns-else-byte-eq123-clause-err
 returns-else-byte-eq123-clause-err c =
-    no_opening _ _ _ c.in_ok-brace.ensures.only
-    (λ e. c.if-byte-eq123.false (c.byte.ensures.byte ∙ e))
+    no_brace _ _ c.in_ok-brace.ensures.ok (λ e. c.if-byte-eq123.false (c.byte.ensures.byte ∙ e))
+    c.new.ensures
+
+pub returns-then-byte-eq123-clause-cost : goal.returns-then-byte-eq123-clause-cost
+returns-then-byte-eq123-clause-cost c =
+    omega (
+      arith,
+      c.in_ok-brace.ensures.cost,
+      reach_left c.args.text.now c.in_ok-brace.brace (sym c.byte.ensures.byte ∙ c.if-byte-eq123.true),
+    )

@@ -1,30 +1,86 @@
-use Rattle.std.proofs.Common.{sym, ◌∙◌, inr, arith, ◌<◌, ◌≤◌, ◌+◌, ◌*◌, length}
+use Rattle.std.proofs.Common.{arith}
+use Rattle.std.proofs.lemmas.List.{length-map}
 use Rattle.std.proofs.lemmas.Result.{err_from_is_err_and}
-use Rattle.resb_icu_text.proofs.ReadingLemmas.{stops_before, text_goes_on, text_ends}
-use Rattle.resb_icu_text.proofs.StepsLemmas.{same_by}
+use Rattle.resb_icu_text.proofs.ReadingLemmas.{stops_root, text_goes_on, text_ends}
+use Rattle.resb_icu_grammar.specs.Machine.{here}
+use Rattle.resb_icu_grammar.specs.Stuck.{at_root}
+use Rattle.resb_icu_grammar.proofs.Moves.{comes_by}
+use Rattle.resb_icu_text.proofs.ReachLemmas.{reach_high}
 use Rattle.resb_icu_text.proofs.reader.read_root.Goals as goal
 
 pub returns-in_err-next-clause-err : goal.returns-in_err-next-clause-err
 returns-in_err-next-clause-err c =
     let p = err_from_is_err_and c.from_residual.result c.from_residual.ensures.1 in
-    rw (p.1, p.2) (stops_before _ _ _ c.steps.invariant.same c.in_err-next.ensures.err)
+    rw (p.1, p.2) (stops_root _ _ _ _ c.steps.invariant.comes c.in_err-next.ensures.err)
 
 pub steps-preserved : goal.steps-preserved
 steps-preserved c =
     let goes = rw c.in-Step.is at c.in_ok-next.ensures.goes in
     record {
       within = goes.0;
-      same = same_by _ _ _ c.steps.invariant.same (rw c.in-Step.is at c.in_ok-next.ensures.ok);
+      comes = comes_by _ _ _ _ c.steps.invariant.comes
+          (rw c.in-Step.is at c.in_ok-next.ensures.ok);
+      cost = omega (
+        arith,
+        c.steps.invariant.cost,
+        rw c.in-Step.is at c.in_ok-next.ensures.cost,
+      );
     }
 
 pub returns-then-end-text-clause-err : goal.returns-then-end-text-clause-err
 returns-then-end-text-clause-err c =
-    let same = same_by _ _ _ c.steps.invariant.same (rw c.in-Root.is at c.in_ok-next.ensures.ok)
-    in inr (λ m h. text_goes_on _ _ _ _ _ c.skip-end.ensures.skip c.if-end-text.true m
-    ((same m).0 h))
+    let comes = comes_by _ _ _ _ c.steps.invariant.comes
+    (rw c.in-Root.is at c.in_ok-next.ensures.ok) in
+    text_goes_on _ _ _ _ _ _ _ comes c.skip-end.ensures.skip c.if-end-text.true
+    c.new-then-end-text.ensures
 
 pub returns-in-Root-clause-ok : goal.returns-in-Root-clause-ok
 returns-in-Root-clause-ok c =
     text_ends _ _ _ _ _ _
-    (same_by _ _ _ c.steps.invariant.same (rw c.in-Root.is at c.in_ok-next.ensures.ok))
+    (comes_by _ _ _ _ c.steps.invariant.comes (rw c.in-Root.is at c.in_ok-next.ensures.ok))
     c.skip-end.ensures.skip c.if-end-text.false c.skip-end.ensures.fits
+
+pub returns-then-end-text-clause-most : goal.returns-then-end-text-clause-most
+returns-then-end-text-clause-most c =
+    omega (
+      arith,
+      c.steps.invariant.cost,
+      rw c.in-Root.is at c.in_ok-next.ensures.cost,
+      c.skip-end.ensures.cost,
+      c.skip-end.ensures.order,
+      c.skip-end.ensures.fits,
+      reach_high c.args.text.now c.skip-end.result c.skip-end.ensures.fits,
+    )
+
+pub returns-in-Root-clause-cost : goal.returns-in-Root-clause-cost
+returns-in-Root-clause-cost c =
+    omega (
+      arith,
+      c.steps.invariant.cost,
+      rw c.in-Root.is at c.in_ok-next.ensures.cost,
+      c.skip-end.ensures.cost,
+      c.skip-end.ensures.order,
+      c.skip-end.ensures.fits,
+      length-map c.advance.new.self.keys.items (λ k. k.now),
+      reach_high c.args.text.now c.skip-end.result c.skip-end.ensures.fits,
+    )
+
+pub returns-in-Root-clause-most : goal.returns-in-Root-clause-most
+returns-in-Root-clause-most c =
+    omega (
+      arith,
+      c.steps.invariant.cost,
+      rw c.in-Root.is at c.in_ok-next.ensures.cost,
+      c.skip-end.ensures.cost,
+      c.skip-end.ensures.order,
+      c.skip-end.ensures.fits,
+      reach_high c.args.text.now c.skip-end.result c.skip-end.ensures.fits,
+    )
+
+pub steps-init : goal.steps-init
+steps-init c = record {
+  within = c.requires.within;
+  comes = rw (c.new-open.ensures.groups, c.new-open.ensures.keys, c.new.ensures.items)
+      (here (at_root c.args.first));
+  cost = rw c.new-open.ensures.keys (omega arith);
+}

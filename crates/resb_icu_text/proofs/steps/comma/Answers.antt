@@ -1,5 +1,6 @@
-use Rattle.std.proofs.Common.{sym, ◌∙◌}
+use Rattle.std.proofs.Common.{arith, sym, ◌∙◌}
 use Rattle.resb_icu_text.proofs.StepsLemmas.{member_comma, no_member_comma}
+use Rattle.resb_icu_text.proofs.ReachLemmas.{reach_comma, reach_low, reach_high}
 use Rattle.resb_icu_text.proofs.steps.comma.Goals as goal
 
 pub returns-then-is_member-clause-ok : goal.returns-then-is_member-clause-ok
@@ -9,4 +10,29 @@ returns-then-is_member-clause-ok c =
 
 pub returns-clause-err : goal.returns-clause-err
 returns-clause-err c =
-    no_member_comma _ _ _ _ _ (sym c.is_member.ensures ∙ c.if-is_member.false) c.requires.comma
+    no_member_comma _ _ _ _ _ c.new.ensures (sym c.is_member.ensures ∙ c.if-is_member.false)
+    c.requires.comma
+
+pub returns-then-is_member-clause-cost : goal.returns-then-is_member-clause-cost
+returns-then-is_member-clause-cost c =
+    omega (
+      arith,
+      c.skip.ensures.cost,
+      c.skip.ensures.order,
+      reach_comma c.args.text.now c.args.at c.requires.comma,
+      reach_low c.args.text.now c.skip.result c.skip.ensures.fits,
+    )
+
+pub returns-then-is_member-clause-most : goal.returns-then-is_member-clause-most
+returns-then-is_member-clause-most c =
+    omega (
+      arith,
+      c.skip.ensures.cost,
+      c.skip.ensures.order,
+      reach_comma c.args.text.now c.args.at c.requires.comma,
+      reach_high c.args.text.now c.skip.result c.skip.ensures.fits,
+    )
+
+pub returns-clause-most : goal.returns-clause-most
+returns-clause-most c =
+    omega (arith, reach_comma c.args.text.now c.args.at c.requires.comma, c.requires.within)

@@ -1,5 +1,7 @@
-use Rattle.std.proofs.Common.{sym, ◌∙◌}
+use Rattle.std.proofs.Common.{arith, sym, ◌∙◌}
 use Rattle.resb_icu_text.proofs.StepsLemmas.{entries_end, a_key_twice, entry_key, no_entry}
+use Rattle.resb_icu_grammar.proofs.Lexical.{key_string}
+use Rattle.resb_icu_text.proofs.ReachLemmas.{reach_right, reach_low, reach_high, reach_string}
 use Rattle.resb_icu_text.proofs.steps.entry.Goals as goal
 
 pub returns-then-byte-eq125-clause-ok : goal.returns-then-byte-eq125-clause-ok
@@ -10,15 +12,47 @@ returns-then-byte-eq125-clause-ok c =
 
 pub returns-in_default-clause-err : goal.returns-in_default-clause-err
 returns-in_default-clause-err c =
-    a_key_twice _ _ _ _ (sym c.byte.ensures.byte ∙ c.if-byte-eq125.true)
+    a_key_twice _ _ _ _ c.new.ensures (sym c.byte.ensures.byte ∙ c.if-byte-eq125.true)
     (rw c.in_default.is at c.in_ok-table.ensures.none)
 
 pub returns-in-Some-2-clause-ok : goal.returns-in-Some-2-clause-ok
 returns-in-Some-2-clause-ok c =
-    entry_key _ c.args.entries c.in-Some-2.key _ _ _
-    (rw c.in-Some-2.is at c.in_ok-end.ensures.found) c.skip.ensures.skip
+    let found = rw c.in-Some-2.is at c.in_ok-next.ensures.found in
+    entry_key _ c.args.entries c.in-Some-2.key _ _ _ found.stands found.after
 
 pub returns-clause-err : goal.returns-clause-err
 returns-clause-err c =
-    no_entry _ _ _ _ (λ e. c.if-byte-eq125.false (c.byte.ensures.byte ∙ e))
-    (rw c.in-None.is at c.in_ok-end.ensures.none)
+    no_entry _ _ _ _ c.new-in-None.ensures (λ e. c.if-byte-eq125.false (c.byte.ensures.byte ∙ e))
+    (rw c.in-None.is at c.in_ok-next.ensures.none)
+
+pub returns-then-byte-eq125-clause-cost : goal.returns-then-byte-eq125-clause-cost
+returns-then-byte-eq125-clause-cost c =
+    omega (
+      arith,
+      reach_right c.args.text.now c.args.at (sym c.byte.ensures.byte ∙ c.if-byte-eq125.true),
+    )
+
+pub returns-then-byte-eq125-clause-most : goal.returns-then-byte-eq125-clause-most
+returns-then-byte-eq125-clause-most c =
+    omega (arith, reach_high c.args.text.now c.args.at c.requires.within)
+
+pub returns-in_default-clause-most : goal.returns-in_default-clause-most
+returns-in_default-clause-most c =
+    omega (arith, reach_high c.args.text.now c.args.at c.requires.within)
+
+pub returns-in-Some-2-clause-cost : goal.returns-in-Some-2-clause-cost
+returns-in-Some-2-clause-cost c =
+    let found = rw c.in-Some-2.is at c.in_ok-next.ensures.found in
+    let cost = rw c.in-Some-2.is at c.in_ok-next.ensures.cost in
+    let within = rw c.in-Some-2.is at c.in_ok-next.ensures.within in
+    omega (
+      arith,
+      cost,
+      within.0,
+      reach_string c.args.text.now c.args.at _ _ (key_string _ _ _ _ found.stands),
+      reach_low c.args.text.now _ within.1,
+    )
+
+pub returns-in_err-table-clause-most : goal.returns-in_err-table-clause-most
+returns-in_err-table-clause-most c =
+    omega (arith, reach_high c.args.text.now c.args.at c.requires.within)

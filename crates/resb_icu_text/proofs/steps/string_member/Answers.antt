@@ -1,20 +1,35 @@
-use Rattle.std.proofs.Common.{sym, ◌∙◌}
+use Rattle.std.proofs.Common.{arith, sym, ◌∙◌}
 use Rattle.resb_icu_text.proofs.StepsLemmas.{member_string, no_member_string, no_member}
+use Rattle.resb_icu_text.proofs.ReachLemmas.{reach_string, reach_low}
 use Rattle.resb_icu_text.proofs.steps.string_member.Goals as goal
 
 pub returns-in_default-clause-err : goal.returns-in_default-clause-err
 returns-in_default-clause-err c =
-    no_member _ _ _ _ _ c.requires.no_brace c.requires.no_comma c.requires.no_group
-    c.requires.no_type (rw c.in_default.is at c.in_ok-lexeme.ensures.none)
+    no_member _ _ _ _ _ c.no_string.ensures c.requires.no_brace c.requires.no_comma
+    c.requires.no_group c.requires.no_type (rw c.in_default.is at c.in_ok-lexeme.ensures.none)
 
 pub returns-then-is_string-clause-err : goal.returns-then-is_string-clause-err
 returns-then-is_string-clause-err c =
     let found = rw c.in-Some.is at c.in_ok-lexeme.ensures.found in
-    no_member_string _ _ _ _ _ _ _ (sym c.is_string.ensures ∙ c.if-is_string.true) found.string
+    no_member_string _ _ _ _ _ _ _ c.new.ensures
+    (sym c.is_string.ensures ∙ c.if-is_string.true) found.string
 
 pub returns-clause-ok : goal.returns-clause-ok
 returns-clause-ok c =
     let found = rw c.in-Some.is at c.in_ok-lexeme.ensures.found in
     member_string _ _ c.push.new.self _ _ _ _ _ c.text_of.result
-    (sym c.is_string.ensures ∙ c.if-is_string.false) found.string c.skip-next.ensures.skip
+    (sym c.is_string.ensures ∙ c.if-is_string.false) found.string found.blanks
     c.text_of.ensures c.in_ok-push.ensures.items
+
+pub returns-clause-cost : goal.returns-clause-cost
+returns-clause-cost c =
+    let found = rw c.in-Some.is at c.in_ok-lexeme.ensures.found in
+    let cost = rw c.in-Some.is at c.in_ok-lexeme.ensures.cost in
+    omega (
+      arith,
+      cost,
+      found.after,
+      found.order,
+      reach_string c.args.text.now c.args.at _ _ found.string,
+      reach_low c.args.text.now _ found.fits,
+    )

@@ -1,4 +1,4 @@
-use Rattle.std.proofs.Common.{sym, ◌∙◌, ap}
+use Rattle.std.proofs.Common.{sym, ◌∙◌}
 use Rattle.resb_tree.proofs.AtOnce.{made_view}
 use Rattle.resb_icu_text.proofs.DistinctLemmas.{all_kept, kept_distinct}
 use Rattle.resb_icu_text.proofs.steps.table_of.Goals as goal

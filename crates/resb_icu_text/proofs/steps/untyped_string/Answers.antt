@@ -1,29 +1,29 @@
-use Rattle.std.proofs.Common.{sym, ◌∙◌, inl, inr, ap, ⊎_elim, ◌≡◌, ◌++◌, ◌∷◌, []}
-use Rattle.std.specs.Prelude.{slice_index}
-use Rattle.resb_grammar.specs.Ascii as ascii
+use Rattle.std.proofs.Common.{arith, sym, ◌∙◌, inl, inr, ap, ◌++◌, ◌∷◌, []}
 use Rattle.resb_tree.specs.declared.resource.Resource.{String}
 use Rattle.resb_icu_text.proofs.StepsLemmas.{untyped_one, untyped_comma, untyped_key}
-use Rattle.resb_icu_text.proofs.StepsLemmas.{no_untyped, no_untyped_string, no_key, is_a_key}
+use Rattle.resb_icu_text.proofs.StepsLemmas.{no_untyped, no_untyped_string, no_untyped_key, no_key, is_a_key}
+use Rattle.resb_icu_text.proofs.LengthLemmas.{string_short}
+use Rattle.resb_icu_text.proofs.ReachLemmas.{reach_right, reach_string, reach_low, reach_high}
 use Rattle.resb_icu_text.proofs.steps.untyped_string.Goals.{else-b-ne123-via-then-b-ne123+else-b-ne58}
 use Rattle.resb_icu_text.proofs.steps.untyped_string.Goals.{else-b-ne123-via-else-b-ne123}
 use Rattle.resb_icu_text.proofs.steps.untyped_string.Goals as goal
 
 pub returns-in_default-clause-err : goal.returns-in_default-clause-err
 returns-in_default-clause-err c =
-    no_untyped _ _ _ c.requires.no_brace c.requires.no_group c.requires.no_type
+    no_untyped _ _ _ c.no_string.ensures c.requires.no_brace c.requires.no_group c.requires.no_type
     (rw c.in_default.is at c.in_ok-lexeme.ensures.none)
 
 pub returns-then-b-eq125-clause-ok : goal.returns-then-b-eq125-clause-ok
 returns-then-b-eq125-clause-ok c =
     let found = rw c.in-Some.is at c.in_ok-lexeme.ensures.found in
-    untyped_one _ _ _ _ _ c.text_of.result found.string c.skip-next.ensures.skip
+    untyped_one _ _ _ _ _ c.text_of.result found.string found.blanks
     (sym c.byte-b.ensures.byte ∙ c.if-b-eq125.true) c.text_of.ensures
 
 pub returns-then-b-eq44-clause-ok : goal.returns-then-b-eq44-clause-ok
 returns-then-b-eq44-clause-ok c =
     let found = rw c.in-Some.is at c.in_ok-lexeme.ensures.found in
     untyped_comma _ c.push.new.self _ _ _ _ c.text_of-then-b-eq44.result found.string
-    c.skip-next.ensures.skip (sym c.byte-b.ensures.byte ∙ c.if-b-eq44.true)
+    found.blanks (sym c.byte-b.ensures.byte ∙ c.if-b-eq44.true)
     c.text_of-then-b-eq44.ensures
     (c.in_ok-push.ensures.items ∙ ap (λ l. l ++ String c.text_of-then-b-eq44.result ∷ [])
     c.new-members.ensures.items)
@@ -31,34 +31,104 @@ returns-then-b-eq44-clause-ok c =
 pub returns-then-b-ne58-clause-err : goal.returns-then-b-ne58-clause-err
 returns-then-b-ne58-clause-err c =
     let found = rw c.in-Some.is at c.in_ok-lexeme.ensures.found in
-    no_untyped_string _ _ _ _ _ _ found.string c.skip-next.ensures.skip
+    no_untyped_string _ _ _ _ _ _ c.new.ensures found.string found.blanks
     (λ e. c.if-b-eq125.false (c.byte-b.ensures.byte ∙ e))
     (λ e. c.if-b-eq44.false (c.byte-b.ensures.byte ∙ e))
-    (λ f. ⊎_elim
-    (λ (e : slice_index c.args.text.now c.skip-next.result ≡ ascii.left_brace).
-    absurd (c.if-b-ne123.true (c.byte-b.ensures.byte ∙ e)))
-    (λ (e : slice_index c.args.text.now c.skip-next.result ≡ ascii.colon).
-    absurd (c.if-b-ne58.true (c.byte-b.ensures.byte ∙ e))) f)
+    (λ e. c.if-b-ne123.true (c.byte-b.ensures.byte ∙ e))
+    (λ e. c.if-b-ne58.true (c.byte-b.ensures.byte ∙ e))
 
-pub returns-in_default-said : goal.returns-in_default-said
-returns-in_default-said c =
+pub returns-in_default-key-clause-err : goal.returns-in_default-key-clause-err
+returns-in_default-key-clause-err c =
     let found = rw c.in-Some.is at c.in_ok-lexeme.ensures.found in
-    record {
-      ok = tt;
-      err = no_untyped_string _ _ _ _ _ _ found.string c.skip-next.ensures.skip
-          (λ e. c.if-b-eq125.false (c.byte-b.ensures.byte ∙ e))
-          (λ e. c.if-b-eq44.false (c.byte-b.ensures.byte ∙ e))
-          (λ f. no_key _ _ _ found c.in_default-said.not-Key _ _);
-      goes = tt;
-    }
+    no_untyped_key _ _ _ _ _ _ c.new-in_default-key.ensures found.string found.blanks
+    (elim c.else-b-ne123.branch [
+      | else-b-ne123-via-then-b-ne123+else-b-ne58 w ↦
+          inr (sym c.byte-b.ensures.byte ∙ w.if-b-ne58.false)
+      | else-b-ne123-via-else-b-ne123 w ↦ inl (sym c.byte-b.ensures.byte ∙ w.if-b-ne123.false)
+    ]) (no_key _ _ _ found c.in_default-key.ensures.none)
 
 pub returns-clause-ok : goal.returns-clause-ok
 returns-clause-ok c =
     let found = rw c.in-Some.is at c.in_ok-lexeme.ensures.found in
-    untyped_key _ c.new-2.result c.in-Key.key _ _ _ (is_a_key _ _ _ _ found c.in-Key.is)
-    c.skip-next.ensures.skip
+    untyped_key _ c.new-2.result c.in-Some-key.key _ _ _
+    (is_a_key _ _ _ _ found c.in-Some-key.ensures.found)
+    found.blanks
     (elim c.else-b-ne123.branch [
       | else-b-ne123-via-then-b-ne123+else-b-ne58 w ↦
           inr (sym c.byte-b.ensures.byte ∙ w.if-b-ne58.false)
       | else-b-ne123-via-else-b-ne123 w ↦ inl (sym c.byte-b.ensures.byte ∙ w.if-b-ne123.false)
     ]) c.new-2.ensures.items
+
+pub returns-then-b-eq125-clause-cost : goal.returns-then-b-eq125-clause-cost
+returns-then-b-eq125-clause-cost c =
+    let found = rw c.in-Some.is at c.in_ok-lexeme.ensures.found in
+    let cost = rw c.in-Some.is at c.in_ok-lexeme.ensures.cost in
+    omega (
+      arith,
+      cost,
+      found.after,
+      found.order,
+      reach_string c.args.text.now c.args.at _ _ found.string,
+      reach_low c.args.text.now _ found.fits,
+      reach_right c.args.text.now _ (sym c.byte-b.ensures.byte ∙ c.if-b-eq125.true),
+    )
+
+pub returns-then-b-eq44-clause-cost : goal.returns-then-b-eq44-clause-cost
+returns-then-b-eq44-clause-cost c =
+    let found = rw c.in-Some.is at c.in_ok-lexeme.ensures.found in
+    let cost = rw c.in-Some.is at c.in_ok-lexeme.ensures.cost in
+    omega (
+      arith,
+      cost,
+      found.after,
+      found.order,
+      reach_string c.args.text.now c.args.at _ _ found.string,
+      reach_low c.args.text.now _ found.fits,
+    )
+
+pub returns-in_default-key-clause-most : goal.returns-in_default-key-clause-most
+returns-in_default-key-clause-most c =
+    let found = rw c.in-Some.is at c.in_ok-lexeme.ensures.found in
+    let cost = rw c.in-Some.is at c.in_ok-lexeme.ensures.cost in
+    omega (
+      arith,
+      cost,
+      found.after,
+      found.order,
+      reach_string c.args.text.now c.args.at _ _ found.string,
+      reach_low c.args.text.now _ found.fits,
+      c.key.ensures.cost,
+      string_short _ _ _ _ found.string,
+      reach_high c.args.text.now _ found.fits,
+    )
+
+pub returns-clause-cost : goal.returns-clause-cost
+returns-clause-cost c =
+    let found = rw c.in-Some.is at c.in_ok-lexeme.ensures.found in
+    let cost = rw c.in-Some.is at c.in_ok-lexeme.ensures.cost in
+    omega (
+      arith,
+      cost,
+      found.after,
+      found.order,
+      reach_string c.args.text.now c.args.at _ _ found.string,
+      reach_low c.args.text.now _ found.fits,
+      c.key.ensures.cost,
+      string_short _ _ _ _ found.string,
+    )
+
+pub returns-clause-most : goal.returns-clause-most
+returns-clause-most c =
+    let found = rw c.in-Some.is at c.in_ok-lexeme.ensures.found in
+    let cost = rw c.in-Some.is at c.in_ok-lexeme.ensures.cost in
+    omega (
+      arith,
+      cost,
+      found.after,
+      found.order,
+      reach_string c.args.text.now c.args.at _ _ found.string,
+      reach_low c.args.text.now _ found.fits,
+      c.key.ensures.cost,
+      string_short _ _ _ _ found.string,
+      reach_high c.args.text.now _ found.fits,
+    )

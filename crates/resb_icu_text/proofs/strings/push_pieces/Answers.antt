@@ -2,6 +2,7 @@ use Rattle.std.proofs.Common.{◌≡◌, ◌+◌, ◌≤◌, ◌++◌, arith, sy
 use Rattle.std.specs.Prelude.{slice_index}
 use Rattle.std.specs.String.{string_bytes}
 use Rattle.resb_grammar.specs.Ascii as ascii
+use Rattle.resb_icu_text.proofs.ReachLemmas.{reach_quote, reach_low, reach_high}
 use Rattle.resb_icu_text.proofs.StringsLemmas.{added_piece, added_all, no_piece_ahead}
 use Rattle.resb_icu_text.proofs.strings.push_pieces.Goals as goal
 
@@ -27,9 +28,50 @@ pieces-preserved c =
       added = added_piece c.args.text.now c.args.end c.args.next c.pieces.at c.pieces.coming
           c.in-Some.last c.skip-coming.result _ _ h.0 _ q h.1 c.skip-coming.ensures.skip e
           c.pieces.invariant.added;
+      blanks = c.skip-coming.ensures.skip;
+      cost = omega (
+        arith,
+        c.pieces.invariant.cost,
+        reach_quote c.args.text.now c.pieces.coming q,
+        c.in-Some.ensures.cost,
+        c.push_piece.ensures.cost,
+        c.skip-coming.ensures.cost,
+        low,
+        c.skip-coming.ensures.order,
+        reach_low c.args.text.now c.skip-coming.result c.skip-coming.ensures.fits,
+      );
     }
 
 pub returns-clause-found : goal.returns-clause-found
 returns-clause-found c =
     added_all c.args.text.now c.args.end c.args.next c.pieces.at c.pieces.coming _ _
     (λ e. c.pieces-test.false (c.byte.ensures.byte ∙ e)) c.pieces.invariant.added
+
+pub returns-in_default-clause-most : goal.returns-in_default-clause-most
+returns-in_default-clause-most c =
+    omega (
+      arith,
+      c.pieces.invariant.cost,
+      c.piece_end.ensures.most,
+      reach_quote c.args.text.now c.pieces.coming (sym c.byte.ensures.byte ∙ c.pieces-test.true),
+      c.pieces.invariant.fits,
+    )
+
+pub returns-in_err-push_piece-clause-most : goal.returns-in_err-push_piece-clause-most
+returns-in_err-push_piece-clause-most c =
+    omega (
+      arith,
+      c.pieces.invariant.cost,
+      c.in-Some.ensures.cost,
+      c.push_piece.ensures.cost,
+      reach_quote c.args.text.now c.pieces.coming (sym c.byte.ensures.byte ∙ c.pieces-test.true),
+      c.in-Some.ensures.within,
+    )
+
+pub returns-clause-most : goal.returns-clause-most
+returns-clause-most c =
+    omega (
+      arith,
+      c.pieces.invariant.cost,
+      reach_high c.args.text.now c.pieces.coming c.pieces.invariant.fits,
+    )

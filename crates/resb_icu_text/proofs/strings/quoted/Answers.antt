@@ -1,14 +1,13 @@
 use Rattle.std.proofs.Common.{◌≡◌, ◌+◌, ◌++◌, ◌⊎◌, inl, inr, arith, rules}
-use Rattle.std.proofs.Common.{sym, ◌∙◌, ap, refl, ℕ, List, subst, true}
-use Rattle.std.specs.Prelude.{slice_index, ◌↔◌, IsTrue}
+use Rattle.std.proofs.Common.{sym, ◌∙◌, ap, refl}
+use Rattle.std.specs.Prelude.{slice_index}
 use Rattle.std.specs.String.{string_bytes}
 use Rattle.std.proofs.lemmas.Str.{IsCharBoundary-before_ascii, IsCharBoundary-after_ascii}
 use Rattle.resb_grammar.specs.Ascii as ascii
-use Rattle.resb_icu_grammar.specs.Bytes.{are_key_bytes}
 use Rattle.resb_icu_grammar.specs.Words.{HasNoEscape}
-use Rattle.resb_icu_text.specs.Lexemes.{bytes_said, is_key}
+use Rattle.resb_icu_text.proofs.ReachLemmas.{reach_low, reach_high, reach_quote}
 use Rattle.resb_icu_text.proofs.PiecesLemmas.{inside_closes}
-use Rattle.resb_icu_text.proofs.StringsLemmas.{plain_lexeme, built_lexeme, not_one}
+use Rattle.resb_icu_text.proofs.StringsLemmas.{piece_lexeme, built_lexeme, not_one}
 use Rattle.resb_icu_text.proofs.StringsLemmas.{no_string_ahead}
 use Rattle.resb_icu_text.proofs.strings.quoted.Goals.{else-byte-ne34-via-then-byte-ne34+else-plain}
 use Rattle.resb_icu_text.proofs.strings.quoted.Goals.{else-byte-ne34-via-else-byte-ne34}
@@ -29,13 +28,10 @@ range-requires-clause-end_boundary c =
 pub returns-then-plain-clause-found : goal.returns-then-plain-clause-found
 returns-then-plain-clause-found c =
     let h = c.in-Some.ensures.found in
-    let k : IsTrue (is_key c.said_of.result) ↔ (are_key_bytes (bytes_said c.said_of.result) ≡ true)
-    = subst (λ (l : List ℕ). IsTrue (is_key c.said_of.result) ↔ (are_key_bytes l ≡ true))
-    (sym c.said_of.ensures.bytes) c.said_of.ensures.key in
-    plain_lexeme c.args.text.now c.args.from c.in-Some.last c.skip-next.result h.0 c.said_of.result
+    piece_lexeme c.args.text.now c.args.from c.in-Some.last c.skip-next.result h.0 _
     c.requires.opens h.1 c.skip-next.ensures.skip
     (λ e. c.if-byte-ne34.true (c.byte.ensures.byte ∙ e)) (c.in-Some.ensures.plain c.if-plain.true)
-    (c.said_of.ensures.bytes ∙ c.range.ensures.value) k c.in-Some.ensures.within.1
+    c.range.ensures.value c.skip-next.ensures.order c.skip-next.ensures.fits
 
 pub returns-in_default-2-clause-none : goal.returns-in_default-2-clause-none
 returns-in_default-2-clause-none c =
@@ -60,6 +56,111 @@ returns-clause-found c =
           inr (c.in-Some.ensures.escaped w.if-plain.false)
       | else-byte-ne34-via-else-byte-ne34 w ↦ inl (sym c.byte.ensures.byte ∙ w.if-byte-ne34.false)
     ] in
-    built_lexeme text c.args.from last c.skip-next.result h.0 c.in-Some-2.end a.0 _
-    c.requires.opens h.1 c.skip-next.ensures.skip a.1 (a.2 ∙ ap (λ l. l ++ a.0) e) refl
-    (not_one text c.args.from last c.skip-next.result c.in-Some-2.end either m) b.0 b.1
+    let t = rw c.in-Some-2.is at c.in_ok-end.ensures.blanks in
+    built_lexeme text c.args.from last c.skip-next.result h.0 c.in-Some-2.end c.in-Some-2.next a.0 _
+    c.requires.opens h.1 c.skip-next.ensures.skip a.1 t (a.2 ∙ ap (λ l. l ++ a.0) e) refl refl
+    (not_one text c.args.from last c.skip-next.result c.in-Some-2.end either m) b.0 b.1 b.2
+
+pub returns-in_default-clause-most : goal.returns-in_default-clause-most
+returns-in_default-clause-most c =
+    omega (
+      arith,
+      c.piece_end.ensures.most,
+      reach_quote c.args.text.now c.args.from c.requires.opens,
+      c.requires.within,
+    )
+
+pub returns-then-plain-clause-cost : goal.returns-then-plain-clause-cost
+returns-then-plain-clause-cost c =
+    omega (
+      arith,
+      c.in-Some.ensures.cost,
+      c.skip-next.ensures.cost,
+      c.in-Some.ensures.within,
+      c.skip-next.ensures.order,
+      reach_quote c.args.text.now c.args.from c.requires.opens,
+      reach_low c.args.text.now c.skip-next.result c.skip-next.ensures.fits,
+    )
+
+pub returns-then-plain-clause-most : goal.returns-then-plain-clause-most
+returns-then-plain-clause-most c =
+    omega (
+      arith,
+      c.in-Some.ensures.cost,
+      c.skip-next.ensures.cost,
+      c.in-Some.ensures.within,
+      c.skip-next.ensures.order,
+      reach_quote c.args.text.now c.args.from c.requires.opens,
+      reach_low c.args.text.now c.skip-next.result c.skip-next.ensures.fits,
+      reach_high c.args.text.now c.skip-next.result c.skip-next.ensures.fits,
+    )
+
+pub returns-in_err-push_piece-clause-most : goal.returns-in_err-push_piece-clause-most
+returns-in_err-push_piece-clause-most c =
+    omega (
+      arith,
+      c.in-Some.ensures.cost,
+      c.skip-next.ensures.cost,
+      c.in-Some.ensures.within,
+      c.push_piece.ensures.cost,
+      c.skip-next.ensures.order,
+      reach_quote c.args.text.now c.args.from c.requires.opens,
+      reach_high c.args.text.now c.skip-next.result c.skip-next.ensures.fits,
+    )
+
+pub returns-in_err-end-clause-most : goal.returns-in_err-end-clause-most
+returns-in_err-end-clause-most c =
+    omega (
+      arith,
+      c.in-Some.ensures.cost,
+      c.skip-next.ensures.cost,
+      c.in-Some.ensures.within,
+      c.push_piece.ensures.cost,
+      c.push_pieces.ensures.most,
+      c.skip-next.ensures.order,
+      reach_quote c.args.text.now c.args.from c.requires.opens,
+      reach_low c.args.text.now c.skip-next.result c.skip-next.ensures.fits,
+    )
+
+pub returns-in_default-2-clause-most : goal.returns-in_default-2-clause-most
+returns-in_default-2-clause-most c =
+    omega (
+      arith,
+      c.in-Some.ensures.cost,
+      c.skip-next.ensures.cost,
+      c.in-Some.ensures.within,
+      c.push_piece.ensures.cost,
+      c.push_pieces.ensures.most,
+      c.skip-next.ensures.order,
+      reach_quote c.args.text.now c.args.from c.requires.opens,
+      reach_low c.args.text.now c.skip-next.result c.skip-next.ensures.fits,
+    )
+
+pub returns-clause-cost : goal.returns-clause-cost
+returns-clause-cost c =
+    let more = rw c.in-Some-2.is at c.in_ok-end.ensures.cost in
+    omega (
+      arith,
+      c.in-Some.ensures.cost,
+      c.skip-next.ensures.cost,
+      c.in-Some.ensures.within,
+      c.push_piece.ensures.cost,
+      more,
+      c.skip-next.ensures.order,
+      reach_quote c.args.text.now c.args.from c.requires.opens,
+      reach_low c.args.text.now c.skip-next.result c.skip-next.ensures.fits,
+    )
+
+pub returns-clause-most : goal.returns-clause-most
+returns-clause-most c =
+    omega (
+      arith,
+      c.in-Some.ensures.cost,
+      c.skip-next.ensures.cost,
+      c.in-Some.ensures.within,
+      c.push_piece.ensures.cost,
+      c.push_pieces.ensures.most,
+      c.skip-next.ensures.order,
+      reach_quote c.args.text.now c.args.from c.requires.opens,
+      reach_low c.args.text.now c.skip-next.result c.skip-next.ensures.fits,
+    )

@@ -1,8 +1,49 @@
-use Rattle.std.proofs.Common.{◌∙◌}
-use Rattle.resb_icu_text.proofs.StringsLemmas.{no_lexeme}
+use Rattle.std.proofs.Common.{◌∙◌, arith}
+use Rattle.resb_icu_text.proofs.ReachLemmas.{reach_low, reach_high, reach_here}
+use Rattle.resb_icu_text.proofs.ReachLemmas.{word_no_slash}
+use Rattle.resb_icu_text.proofs.StringsLemmas.{no_lexeme, word_lexeme}
 use Rattle.resb_icu_text.proofs.strings.string.Goals as goal
 
-pub returns-in-None-clause-none : goal.returns-in-None-clause-none
-returns-in-None-clause-none c =
+pub returns-in_default-clause-none : goal.returns-in_default-clause-none
+returns-in_default-clause-none c =
     no_lexeme c.args.text.now c.args.from (λ e. c.if-byte-eq34.false (c.byte.ensures.byte ∙ e))
-    c.in-None.ensures.none
+    c.in_default.ensures.none
+
+pub returns-in_default-clause-most : goal.returns-in_default-clause-most
+returns-in_default-clause-most c =
+    omega (
+      arith,
+      c.in_default.ensures.one,
+      reach_high c.args.text.now c.args.from c.requires.within,
+    )
+
+pub returns-clause-found : goal.returns-clause-found
+returns-clause-found c =
+    word_lexeme c.args.text.now c.args.from c.in-Some.end c.skip.result _ c.in-Some.ensures.found
+    c.skip.ensures.skip c.skip.ensures.order c.skip.ensures.fits
+
+pub returns-clause-cost : goal.returns-clause-cost
+returns-clause-cost c =
+    omega (
+      arith,
+      c.in-Some.ensures.cost,
+      c.in-Some.ensures.found.some,
+      c.skip.ensures.cost,
+      reach_here c.args.text.now c.args.from (word_no_slash _ _ _ _ c.in-Some.ensures.found),
+      reach_low c.args.text.now c.skip.result c.skip.ensures.fits,
+      c.skip.ensures.order,
+    )
+
+pub returns-clause-most : goal.returns-clause-most
+returns-clause-most c =
+    omega (
+      arith,
+      c.in-Some.ensures.cost,
+      c.in-Some.ensures.found.some,
+      c.skip.ensures.cost,
+      reach_here c.args.text.now c.args.from (word_no_slash _ _ _ _ c.in-Some.ensures.found),
+      reach_low c.args.text.now c.skip.result c.skip.ensures.fits,
+      reach_high c.args.text.now c.skip.result c.skip.ensures.fits,
+      c.skip.ensures.order,
+      c.skip.ensures.fits,
+    )

@@ -1,9 +1,9 @@
-use Rattle.std.proofs.Common.{sym, ◌∙◌}
+use Rattle.std.proofs.Common.{sym, ◌∙◌, arith}
 use Rattle.std.proofs.lemmas.Bool.{false≢true}
 use Rattle.resb_icu_text.proofs.WordsLemmas.{if_none_by}
 use Rattle.resb_icu_text.proofs.TypesLemmas.{root_off, root_on, no_root, other_root}
-use Rattle.resb_icu_text.proofs.types.root_type.Goals as goal
 use Rattle.resb_grammar.proofs.ReaderLemmas.{not_table}
+use Rattle.resb_icu_text.proofs.types.root_type.Goals as goal
 
 pub returns-in_err-to-clause-none : goal.returns-in_err-to-clause-none
 returns-in_err-to-clause-none c =
@@ -27,4 +27,6 @@ returns-in_default c = record {
   none = other_root c.args.text.now c.args.at c.in_ok-to.to _ c.in_ok-to.ensures.found
       (not_table c.in_ok-to.kind c.in_default.not-Table);
   within = tt;
+  cost = tt;
+  most = omega (arith, c.in_ok-to.ensures.cost, c.in_ok-to.ensures.within.1);
 }

@@ -1,4 +1,5 @@
-use Rattle.std.proofs.Common.{◌≡◌, subst, rules}
+use Rattle.std.proofs.Common.{◌≡◌, subst, rules, arith}
+use Rattle.resb_icu_text.proofs.ReachLemmas.{reach_word}
 use Rattle.resb_grammar.specs.ByteRuns.{Run}
 use Rattle.resb_icu_grammar.specs.Bytes.{is_word}
 use Rattle.resb_icu_text.proofs.WordsLemmas.{if_none_by, no_number, signed_number, no_whole_number}
@@ -17,3 +18,47 @@ returns-then-to-end-clause-found c =
 pub returns-else-to-end-clause-none : goal.returns-else-to-end-clause-none
 returns-else-to-end-clause-none c =
     no_whole_number _ _ _ _ _ c.word_end-end.ensures.run c.in_ok-to.ensures.found (search rules)
+
+pub returns-then-from-end-clause-most : goal.returns-then-from-end-clause-most
+returns-then-from-end-clause-most c =
+    omega (
+      arith,
+      reach_word _ _ _ c.word_end-end.ensures.run,
+      c.word_end-end.ensures.run.order,
+      c.add.ensures.most,
+      c.add-2.ensures.most,
+      c.add-3.ensures.most,
+    )
+
+pub returns-in_err-to-clause-most : goal.returns-in_err-to-clause-most
+returns-in_err-to-clause-most c =
+    omega (
+      arith,
+      reach_word _ _ _ c.word_end-end.ensures.run,
+      c.word_end-end.ensures.run.order,
+      c.add.ensures.most,
+      c.add-2.ensures.most,
+      c.add-3.ensures.most,
+    )
+
+pub returns-then-to-end-clause-most : goal.returns-then-to-end-clause-most
+returns-then-to-end-clause-most c =
+    omega (
+      arith,
+      reach_word _ _ _ c.word_end-end.ensures.run,
+      c.word_end-end.ensures.run.order,
+      c.add.ensures.most,
+      c.add-2.ensures.most,
+      c.add-3.ensures.most,
+    )
+
+pub returns-else-to-end-clause-most : goal.returns-else-to-end-clause-most
+returns-else-to-end-clause-most c =
+    omega (
+      arith,
+      reach_word _ _ _ c.word_end-end.ensures.run,
+      c.word_end-end.ensures.run.order,
+      c.add.ensures.most,
+      c.add-2.ensures.most,
+      c.add-3.ensures.most,
+    )

@@ -1,7 +1,7 @@
 //! What a reading of ICU's text form expects at the place where it gets stuck.
 //! Where each is expected is said beside the code that expects it.
 ghost use Rattle.std.specs.Prelude.{Some};
-ghost use Rattle.resb_icu_text.specs.Expected.{item_of};
+ghost use Rattle.resb_icu_grammar.specs.Expected.{item_of};
 
 use std::fmt;
 

@@ -1,7 +1,7 @@
 -- The words for what a reading of ICU's text form expects.
 use Rattle.std.specs.Prelude.{ℕ, List, codes}
-use Rattle.resb_icu_text.specs.declared.expected.IcuExpected.{IcuExpected}
-use Rattle.resb_icu_text.specs.declared.expected.IcuExpected.TheVariants as expect
+use Rattle.resb_icu_grammar.specs.declared.expected.IcuExpected.{IcuExpected}
+use Rattle.resb_icu_grammar.specs.declared.expected.IcuExpected.TheVariants as expect
 
 -- the words for what was expected
 abbrev pub item_of : IcuExpected → List ℕ

@@ -1,0 +1,171 @@
+-- Where a reading of a text in ICU's form cannot go on, and what was expected there.
+use Rattle.std.specs.Prelude.{◌≡◌, ◌≢◌, ◌+◌, ◌<◌, ◌&&◌, ◌==◌, ℕ, Bool, true, false, None, List, []}
+use Rattle.std.specs.Prelude.{◌∷◌, length, slice_index}
+use Rattle.resb_grammar.specs.Ascii as ascii
+use Rattle.resb_grammar.specs.Group.{hex_bytes}
+use Rattle.resb_grammar.specs.GroupTypes.{Kind, string_kind, binary_kind, integer_kind}
+use Rattle.resb_grammar.specs.GroupTypes.{vector_kind}
+use Rattle.resb_tree.specs.Tree.{Tree}
+use Rattle.resb_icu_grammar.specs.Blanks.{Begins, Skip}
+use Rattle.resb_icu_grammar.specs.Words.{Text, KeyText, Name, Number, GroupType, RootType}
+use Rattle.resb_icu_grammar.specs.Bundle.{Header}
+use Rattle.resb_icu_grammar.specs.Groups.{Last, is_member, ends_in_string, is_collation}
+use Rattle.resb_icu_grammar.specs.Groups.{holds_entries}
+use Rattle.resb_icu_grammar.specs.Machine.{Waiting, in_table, AreDistinct, Standing, among_members}
+use Rattle.resb_icu_grammar.specs.Machine.{among_entries, before_group, in_untyped, in_typed}
+use Rattle.resb_icu_grammar.specs.Machine.{behind_group, Reading, reading, BeginsGroup, Comes}
+use Rattle.resb_icu_grammar.specs.declared.expected.IcuExpected.{IcuExpected}
+use Rattle.resb_icu_grammar.specs.declared.expected.IcuExpected.TheVariants as expect
+
+-- no string stands there
+abbrev pub NoText : List ℕ → ℕ → Type 0
+NoText text at = (to : ℕ) (s : List ℕ) → Text text at to s → ⊥
+
+-- no string that may be a key stands there
+abbrev pub NoKey : List ℕ → ℕ → Type 0
+NoKey text at = (to : ℕ) (k : List ℕ) → KeyText text at to k → ⊥
+
+-- no number stands there
+abbrev pub NoNumber : List ℕ → ℕ → Type 0
+NoNumber text at = (to v : ℕ) → Number text at to v → ⊥
+
+-- what was expected where no string stands: behind a quote, that it is closed and has known escapes
+abbrev pub choose : Bool → IcuExpected → IcuExpected
+choose true x = expect.Quoted
+choose false x = x
+
+-- a string or this was expected, by the byte that stands there
+abbrev pub string_or : ℕ → IcuExpected → IcuExpected
+string_or b x = choose (b == ascii.quote) x
+
+-- some numbers, with a comma behind each
+pub data Counted (text : List ℕ) : ℕ → ℕ → Type 0 where
+  none_yet : (at : ℕ) → Counted text at at
+  one_number : (from at i j to v : ℕ) → Counted text from at → Number text at i v → Skip text i j
+      → slice_index text j ≡ ascii.comma → Skip text (j + 1) to → Counted text from to
+
+-- in the content of a group with this type, from one place on, a reading cannot go on at another,
+-- where this was expected
+pub data LeafStuck (text : List ℕ) (from : ℕ) : Kind → ℕ → IcuExpected → Type 0 where
+  -- a string must stand in `:string{..}`, and a `}` behind it
+  no_string : NoText text from
+      → LeafStuck text from string_kind from (string_or (slice_index text from) expect.String)
+  open_string : (i j : ℕ) (s : List ℕ) → Text text from i s → Skip text i j
+      → slice_index text j ≢ ascii.right_brace
+      → LeafStuck text from string_kind j expect.RightBrace
+  -- in `:bin{..}` a string of pairs of hex digits, and a `}` behind it
+  no_digits : NoText text from
+      → LeafStuck text from binary_kind from (string_or (slice_index text from) expect.String)
+  odd_digits : (i : ℕ) (s : List ℕ) → Text text from i s → hex_bytes s ≡ None
+      → LeafStuck text from binary_kind from expect.HexPairs
+  open_binary : (i j : ℕ) (s : List ℕ) → Text text from i s → (hex_bytes s ≢ None) → Skip text i j
+      → slice_index text j ≢ ascii.right_brace
+      → LeafStuck text from binary_kind j expect.RightBrace
+  -- in `:int{..}` a number, and a `}` behind it
+  no_integer : NoNumber text from → LeafStuck text from integer_kind from expect.Number
+  open_integer : (i j v : ℕ) → Number text from i v → Skip text i j
+      → slice_index text j ≢ ascii.right_brace
+      → LeafStuck text from integer_kind j expect.RightBrace
+  -- in `:intvector{..}` a number or `}`, and behind a number a comma or `}`
+  no_number : (at : ℕ) → Counted text from at → slice_index text at ≢ ascii.right_brace
+      → NoNumber text at → LeafStuck text from vector_kind at expect.Number
+  open_vector : (at i j v : ℕ) → Counted text from at → Number text at i v → Skip text i j
+      → slice_index text j ≢ ascii.comma → slice_index text j ≢ ascii.right_brace
+      → LeafStuck text from vector_kind j expect.RightBrace
+
+-- a reading that stands somewhere cannot go on at a place, where this was expected
+pub data Blocked (text : List ℕ) : Standing → ℕ → ℕ → IcuExpected → Type 0 where
+  -- no member, comma or `}` stands among the members of an array
+  no_member : (last : Last) (ts : List Tree) (at : ℕ) → slice_index text at ≢ ascii.right_brace
+      → slice_index text at ≢ ascii.comma → (BeginsGroup text at → ⊥) → NoText text at
+      → Blocked text (among_members last ts) at at
+      (string_or (slice_index text at) expect.Member)
+  -- a string right behind a string
+  two_strings : (last : Last) (ts : List Tree) (at i : ℕ) (s : List ℕ) → ends_in_string last ≡ true
+      → Text text at i s → Blocked text (among_members last ts) at at expect.Comma
+  -- a comma behind no member
+  lone_comma : (last : Last) (ts : List Tree) (at : ℕ) → is_member last ≡ false
+      → slice_index text at ≡ ascii.comma
+      → Blocked text (among_members last ts) at at expect.Member
+  -- a `}` behind entries among which a key stands twice
+  key_twice : (es : List (List ℕ × Tree)) (at : ℕ) → slice_index text at ≡ ascii.right_brace
+      → (AreDistinct es → ⊥) → Blocked text (among_entries es) at at expect.KeysOnce
+  -- neither a key nor a `}` among entries
+  no_entry : (es : List (List ℕ × Tree)) (at : ℕ) → slice_index text at ≢ ascii.right_brace
+      → NoKey text at → Blocked text (among_entries es) at at expect.Entry
+  -- neither `{` nor `:` where a group must stand
+  no_group : (at : ℕ) → (BeginsGroup text at → ⊥) → Blocked text before_group at at expect.Group
+  -- a `:` that begins no type
+  no_type : (at : ℕ) → slice_index text at ≡ ascii.colon
+      → ((to : ℕ) (kind : Kind) → GroupType text at to kind → ⊥)
+      → Blocked text before_group at at expect.GroupType
+  -- a type without a `{`
+  no_brace : (at i j : ℕ) (kind : Kind) → GroupType text at i kind → Skip text i j
+      → slice_index text j ≢ ascii.left_brace
+      → Blocked text before_group at j expect.LeftBrace
+  -- nothing that a group without a type may hold
+  no_content : (at : ℕ) → slice_index text at ≢ ascii.right_brace → (BeginsGroup text at → ⊥)
+      → NoText text at
+      → Blocked text in_untyped at at (string_or (slice_index text at) expect.Member)
+  -- a string first in a group without a type, and nothing behind it that may stand there
+  no_further : (at i j : ℕ) (s : List ℕ) → Text text at i s → Skip text i j
+      → slice_index text j ≢ ascii.right_brace → slice_index text j ≢ ascii.comma
+      → (BeginsGroup text j → ⊥) → Blocked text in_untyped at j expect.AfterString
+  -- a string that may be no key, and a group behind it
+  no_key : (at i j : ℕ) (s : List ℕ) → Text text at i s → Skip text i j → BeginsGroup text j
+      → NoKey text at → Blocked text in_untyped at at expect.Key
+  -- the content of a group with a type
+  in_leaf : (kind : Kind) (at to : ℕ) (x : IcuExpected) → LeafStuck text at kind to x
+      → Blocked text (in_typed kind) at to x
+
+-- a group has ended, and a reading cannot go on at a place, where this was expected
+pub data EndBlocked (text : List ℕ) (t : Tree) (at : ℕ)
+    : List Waiting → ℕ → IcuExpected → Type 0 where
+  -- rules of collation
+  a_collation : (ws : List Waiting) (es : List (List ℕ × Tree)) (k : List ℕ)
+      → (is_collation k && holds_entries t) ≡ true
+      → EndBlocked text t at (in_table es k ∷ ws) at expect.NoCollation
+  -- more than blanks behind the root
+  more_text : (end : ℕ) → Skip text at end → end < length text
+      → EndBlocked text t at [] end expect.EndOfText
+
+-- a reading cannot go on before the first entry, at this place, where this was expected
+pub data HeadStuck (text : List ℕ) : ℕ → IcuExpected → Type 0 where
+  no_name : (a start : ℕ) → Begins text a → Skip text a start
+      → ((to : ℕ) (name : List ℕ) → Name text start to name → ⊥)
+      → HeadStuck text start expect.Name
+  no_root_type : (a start end at : ℕ) (name : List ℕ) → Begins text a → Skip text a start
+      → Name text start end name → Skip text end at → slice_index text at ≡ ascii.colon
+      → ((to : ℕ) (fallback : Bool) → RootType text at to fallback → ⊥)
+      → HeadStuck text at expect.RootType
+  no_root_brace : (a start end at : ℕ) (name : List ℕ) → Begins text a → Skip text a start
+      → Name text start end name → Skip text end at → slice_index text at ≢ ascii.colon
+      → slice_index text at ≢ ascii.left_brace → HeadStuck text at expect.LeftBrace
+  no_typed_brace : (a start end at i brace : ℕ) (name : List ℕ) (fallback : Bool) → Begins text a
+      → Skip text a start → Name text start end name → Skip text end at
+      → RootType text at i fallback → Skip text i brace
+      → slice_index text brace ≢ ascii.left_brace → HeadStuck text brace expect.LeftBrace
+
+-- a reading cannot go on at a place, where this was expected
+pub data Halts (text : List ℕ) : Reading → ℕ → IcuExpected → Type 0 where
+  inside : (ws : List Waiting) (ks : List (List ℕ)) (s : Standing) (at to : ℕ) (x : IcuExpected)
+      → Blocked text s at to x → Halts text (reading ws ks s at) to x
+  behind : (ws : List Waiting) (ks : List (List ℕ)) (t : Tree) (at to : ℕ) (x : IcuExpected)
+      → EndBlocked text t at ws to x → Halts text (reading ws ks (behind_group t) at) to x
+
+-- a reading among the entries of the root, of which there are none yet
+abbrev pub at_root : ℕ → Reading
+at_root first = reading [] [] (among_entries []) first
+
+-- from one place on a reading comes to a place where it cannot go on
+pub record StuckFrom (text : List ℕ) (from : Reading) (to : ℕ) (x : IcuExpected) : Type 0 where
+  pub last : Reading
+  pub comes : Comes text from last
+  pub halts : Halts text last to x
+
+-- a reading of the text gets stuck at this place, where this was expected: before the first entry
+-- of the root, or behind it
+pub data Stuck (text : List ℕ) (to : ℕ) (x : IcuExpected) : Type 0 where
+  in_head : HeadStuck text to x → Stuck text to x
+  in_root : (name : List ℕ) (fallback : Bool) (first : ℕ) → Header text name fallback first
+      → StuckFrom text (at_root first) to x → Stuck text to x

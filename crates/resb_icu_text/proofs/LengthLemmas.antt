@@ -1,0 +1,79 @@
+-- What a string stands for isn't longer than its text.
+use Rattle.std.proofs.Common.{ℕ, ◌+◌, ◌-◌, ◌≤◌, List, length, arith, ap}
+use Rattle.std.proofs.Common.{◌∙◌}
+use Rattle.std.proofs.Common.{encode_utf8, length-drop}
+use Rattle.std.proofs.lemmas.List.{length-append, length-take-le}
+use Rattle.std.proofs.lemmas.Str.{length-encode, len_utf8_bounds}
+use Rattle.resb_icu_grammar.specs.Escapes.{Escape, itself, line_feed, carriage_return, tab}
+use Rattle.resb_icu_grammar.specs.Escapes.{four_digits, eight_digits}
+use Rattle.resb_icu_grammar.specs.Pieces.{QuotedBytes, ends, byte, escape, Joined}
+use Rattle.resb_icu_grammar.specs.Pieces.{last_piece}
+use Rattle.resb_icu_grammar.specs.Pieces.{one_more}
+use Rattle.resb_icu_grammar.specs.Blanks.{Comment, line, block, Blanks, none, white, comment}
+use Rattle.resb_icu_grammar.specs.Words.{Word, Text, a_word, quoted}
+
+comment_order : (text : List ℕ) (from to : ℕ) → Comment text from to → from ≤ to
+comment_order text from to (line h k r) = omega (arith, r.order)
+comment_order text from to (block at h k f e) = omega (arith, f.order, e)
+
+-- blanks end no earlier than they begin
+pub blanks_order : (text : List ℕ) (from to : ℕ) → Blanks text from to → from ≤ to
+blanks_order text from to (none _) = omega arith
+blanks_order text from to (white _ _ w r) = omega (arith, blanks_order text (from + 1) to r)
+blanks_order text from to (comment _ k _ c r) =
+    omega (arith, comment_order text from k c, blanks_order text k to r)
+
+encoded : (c : ℕ) → length (encode_utf8 c) ≤ 4
+encoded c = omega (arith, length-encode c, (len_utf8_bounds c).1)
+
+escape_short : (text : List ℕ) (at to : ℕ) (s : List ℕ) → Escape text at to s
+    → length s + at ≤ to
+escape_short text at to s (itself f h) = omega arith
+escape_short text at to s (line_feed h) = omega arith
+escape_short text at to s (carriage_return h) = omega arith
+escape_short text at to s (tab h) = omega arith
+escape_short text at to s (four_digits c h k e f g) = omega (arith, encoded c)
+escape_short text at to s (eight_digits c h k e f g) = omega (arith, encoded c)
+
+inside_short : (text : List ℕ) (at to : ℕ) (s : List ℕ) → QuotedBytes text at to s
+    → length s + at ≤ to
+inside_short text at to s (ends _ h) = omega arith
+inside_short text at to s (byte _ _ vs l q b r) =
+    omega (arith, inside_short text (at + 1) to vs r)
+inside_short text at to s (escape _ n _ xs vs b x r) =
+    omega (
+      arith,
+      escape_short text (at + 1) n xs x,
+      inside_short text n to vs r,
+      length-append xs vs,
+    )
+
+joined_short : (text : List ℕ) (from to : ℕ) (s : List ℕ) → Joined text from to s
+    → length s + from ≤ to
+joined_short text from to s (last_piece _ _ n _ p t h) =
+    omega (arith, inside_short text (from + 1) p.last s p.inside, p.ends)
+joined_short text from to s (one_more _ m n _ us vs p t j) =
+    omega (
+      arith,
+      inside_short text (from + 1) p.last us p.inside,
+      p.ends,
+      blanks_order text m n t.blanks,
+      joined_short text n to vs j,
+      length-append us vs,
+    )
+
+word_short : (text : List ℕ) (from to : ℕ) (s : List ℕ) → Word text from to s
+    → length s + from ≤ to
+word_short text from to s w =
+    omega (
+      arith,
+      w.some,
+      ap length w.means ∙ length-take-le (to - from) _
+          (omega (arith, length-drop from text, w.run.fits)),
+    )
+
+-- what a string stands for has at most as many bytes as its text
+pub string_short : (text : List ℕ) (from to : ℕ) (s : List ℕ) → Text text from to s
+    → length s + from ≤ to
+string_short text from to s (a_word w) = word_short text from to s w
+string_short text from to s (quoted j) = joined_short text from to s j

@@ -1,0 +1,145 @@
+-- Laws of how far a reading has looked.
+use Rattle.std.proofs.Common.{◌≡◌, ◌≢◌, ℕ, ◌+◌, ◌*◌, ◌<◌, ◌≤◌, ◌⊎◌, inl, inr, Bool, true, false}
+use Rattle.std.proofs.Common.{List, length, arith, refl, sym, ◌∙◌}
+use Rattle.std.specs.Prelude.{slice_index, ◌==◌, if◌then◌else◌}
+use Rattle.std.proofs.lemmas.Bool.{false≢true}
+use Rattle.std.proofs.lemmas.Bool.Decides.{nat_tests}
+use Rattle.resb_grammar.specs.Ascii as ascii
+use Rattle.resb_grammar.specs.ByteRuns.{Run}
+use Rattle.resb_icu_grammar.specs.Bytes.{is_word}
+use Rattle.resb_icu_grammar.specs.Words.{Word, Text, a_word, quoted, Number, unsigned}
+use Rattle.resb_icu_grammar.specs.Words.{plus, minus}
+use Rattle.resb_icu_grammar.proofs.Lexical.{word_first, joined_first}
+use Rattle.resb_icu_text.specs.declared.steps.Step.{Step}
+use Rattle.resb_icu_text.specs.declared.steps.Step.TheVariants as step
+use Rattle.resb_icu_text.specs.Inner.Reach.{reach}
+use Rattle.resb_icu_text.specs.Inner.Steps.{place, spent}
+
+chosen_low : (b : Bool) (n at : ℕ) → at ≤ n → at ≤ (if b then n else at)
+chosen_low true n at l = l
+chosen_low false n at l = omega arith
+
+chosen_high : (b : Bool) (n at : ℕ) → at ≤ n → (if b then n else at) ≤ n
+chosen_high true n at l = omega arith
+chosen_high false n at l = l
+
+chosen_here : (b : Bool) (n at : ℕ) → (b ≡ true → ⊥) → (if b then n else at) ≡ at
+chosen_here true n at f = absurd (f refl)
+chosen_here false n at f = refl
+
+chosen_end : (b : Bool) (n at : ℕ) → b ≡ true → (if b then n else at) ≡ n
+chosen_end true n at e = refl
+chosen_end false n at e = absurd (false≢true e)
+
+-- a reading has looked at least up to its place
+pub reach_low : (text : List ℕ) (at : ℕ) → at ≤ length text → at ≤ reach text at
+unfolding reach
+reach_low text at l = chosen_low (slice_index text at == ascii.slash) (length text) at l
+
+-- and at most up to the text's end
+pub reach_high : (text : List ℕ) (at : ℕ) → at ≤ length text → reach text at ≤ length text
+unfolding reach
+reach_high text at l = chosen_high (slice_index text at == ascii.slash) (length text) at l
+
+-- where no slash stands, up to its place
+pub reach_here : (text : List ℕ) (at : ℕ) → slice_index text at ≢ ascii.slash
+    → reach text at ≡ at
+unfolding reach
+reach_here text at n =
+    chosen_here (slice_index text at == ascii.slash) (length text) at
+    (λ e. n (grind (arith, nat_tests, e)))
+
+-- where a slash stands, up to the text's end
+pub reach_slash : (text : List ℕ) (at : ℕ) → slice_index text at ≡ ascii.slash
+    → reach text at ≡ length text
+unfolding reach
+reach_slash text at e =
+    chosen_end (slice_index text at == ascii.slash) (length text) at (grind (arith, nat_tests, e))
+
+slash_no_word : (b : ℕ) → b ≡ ascii.slash → is_word b ≡ true → ⊥
+slash_no_word b e h = grind (arith, nat_tests, e, h)
+
+is_slash : (b : ℕ) → (b ≡ ascii.slash) ⊎ (b ≢ ascii.slash)
+is_slash b = pick (b == ascii.slash) refl
+  where
+    pick : (t : Bool) → (b == ascii.slash) ≡ t → (b ≡ ascii.slash) ⊎ (b ≢ ascii.slash)
+    pick true e = inl (grind (arith, nat_tests, e))
+    pick false e = inr (λ s. grind (arith, nat_tests, e, s))
+
+-- where a word ends that begins at a place, a reading has looked no further than that word
+pub reach_word : (text : List ℕ) (from to : ℕ) → Run is_word text from to
+    → reach text from + to ≤ length text + from
+reach_word text from to run = pick (is_slash (slice_index text from)) (from == to) refl
+  where
+    pick : (slice_index text from ≡ ascii.slash) ⊎ (slice_index text from ≢ ascii.slash)
+        → (t : Bool) → (from == to) ≡ t → reach text from + to ≤ length text + from
+    pick (inr n) t e = omega (arith, reach_here text from n, run.fits)
+    pick (inl s) true e =
+        let same : from ≡ to = grind (arith, nat_tests, e) in
+        omega (arith, reach_slash text from s, same)
+    pick (inl s) false e =
+        let other : from ≢ to = grind (arith, nat_tests, e) in
+        absurd (slash_no_word _ s (run.each from (omega arith) (omega (arith, other, run.order))))
+
+-- where a byte stands that is no slash, a reading has looked up to its place
+pub reach_byte : (text : List ℕ) (at b : ℕ) → slice_index text at ≡ b → b ≢ ascii.slash
+    → reach text at ≡ at
+reach_byte text at b e n = reach_here text at (λ s. n (sym e ∙ s))
+
+-- so it is at a quote
+pub reach_quote : (text : List ℕ) (at : ℕ) → slice_index text at ≡ ascii.quote
+    → reach text at ≡ at
+reach_quote text at e = reach_byte text at ascii.quote e (λ s. omega (arith, s))
+
+-- at a right brace
+pub reach_right : (text : List ℕ) (at : ℕ) → slice_index text at ≡ ascii.right_brace
+    → reach text at ≡ at
+reach_right text at e = reach_byte text at ascii.right_brace e (λ s. omega (arith, s))
+
+-- at a left brace
+pub reach_left : (text : List ℕ) (at : ℕ) → slice_index text at ≡ ascii.left_brace
+    → reach text at ≡ at
+reach_left text at e = reach_byte text at ascii.left_brace e (λ s. omega (arith, s))
+
+-- at a comma
+pub reach_comma : (text : List ℕ) (at : ℕ) → slice_index text at ≡ ascii.comma
+    → reach text at ≡ at
+reach_comma text at e = reach_byte text at ascii.comma e (λ s. omega (arith, s))
+
+-- at a colon
+pub reach_colon : (text : List ℕ) (at : ℕ) → slice_index text at ≡ ascii.colon
+    → reach text at ≡ at
+reach_colon text at e = reach_byte text at ascii.colon e (λ s. omega (arith, s))
+
+-- no word begins at a slash
+pub word_no_slash : (text : List ℕ) (from to : ℕ) (s : List ℕ) → Word text from to s
+    → slice_index text from ≢ ascii.slash
+word_no_slash text from to s w e = slash_no_word _ e (word_first text from to s w)
+
+-- where a string begins, a reading has looked up to its place
+pub reach_string : (text : List ℕ) (from to : ℕ) (s : List ℕ) → Text text from to s
+    → reach text from ≡ from
+reach_string text from to s (a_word w) =
+    reach_here text from (word_no_slash text from to s w)
+reach_string text from to s (quoted j) = reach_quote text from (joined_first text from to s j)
+
+-- and where a number begins
+pub reach_number : (text : List ℕ) (from to v : ℕ) → from < to → Number text from to v
+    → reach text from ≡ from
+reach_number text from to v low n = by n
+  where
+    run : Run is_word text from to → reach text from ≡ from
+    run r = reach_here text from (λ e. slash_no_word _ e (r.each from (omega arith) low))
+
+    by : {value : ℕ} → Number text from to value → reach text from ≡ from
+    by (unsigned _ r d l) = run r
+    by (plus _ r h d l) = run r
+    by (minus m r h d l) = run r
+
+-- a reading that stands in the text has looked no further than the text goes
+pub spent_most : (text : List ℕ) (s : Step) → place s ≤ length text
+    → spent text s ≤ 8 * length text + 3
+spent_most text (step.Members members last at) l = omega (arith, reach_high text at l)
+spent_most text (step.Entries entries at) l = omega (arith, reach_high text at l)
+spent_most text (step.Group w at) l = omega (arith, reach_high text at l)
+spent_most text (step.Ended resource at) l = omega (arith, l)

@@ -2,7 +2,7 @@
 use Rattle.std.proofs.Common.{◌≡◌, ℕ, Bool, true, List, [], ◌∷◌, ◌++◌, BTreeMap}
 use Rattle.std.proofs.Common.{Ordering, Less, Equal, Greater, nat_cmp, refl, ap, ◌∙◌}
 use Rattle.std.proofs.Common.{rules}
-use Rattle.std.specs.Prelude.{map, Result, Ok, Err, IfOk}
+use Rattle.std.specs.Prelude.{map}
 use Rattle.std.proofs.lemmas.Bool.{and_from, and_parts}
 use Rattle.std.proofs.lemmas.List.{map_push}
 use Rattle.std.specs.BTreeMap.{insert_entry, IsFromIterResult}
@@ -14,11 +14,11 @@ use Rattle.resb_tree.proofs.AtOnce.{inserted, made}
 use Rattle.resb_grammar.specs.Items as spec
 use Rattle.resb_grammar.specs.Machine as machine
 use Rattle.resb_text.specs.Inner.Frames.{FrameView, view_of_code, view_of_frame, with_number}
-use Rattle.resb_text.specs.declared.error.TextParserError.{TextParserError}
+use Rattle.resb_tree.specs.Tree.{Tree}
 use Rattle.resb_text.specs.declared.frames.Frame.{Frame}
 use Rattle.resb_tree.specs.Borrowing.{all_true}
 use Rattle.resb_text.specs.Borrowed.{borrows_strings}
-use Rattle.resb_text.specs.Inner.Shown.{seen_in_code, items_seen, shown_borrowed, entries_borrowed}
+use Rattle.resb_text.specs.Inner.Shown.{shown_by, items_seen, shown_borrowed, entries_borrowed}
 use Rattle.resb_text.specs.Inner.Shown.{term_seen}
 
 pub borrowed_table : (m : BTreeMap (List ℕ) Resource)
@@ -75,25 +75,8 @@ shows_borrowed (x ∷ xs) =
     (shows_borrowed xs) (term_borrowed x.term x.comma)
 
 -- what an open group of the code holds is borrowed
-pub items_borrowed : (f : Frame) (n : ℕ) (g : machine.Frame)
-    → view_of_code f ≡ view_of_frame (with_number n g)
-    → all_true (map shown_borrowed (map seen_in_code f.items.items)) ≡ true
-items_borrowed f n g e =
+pub items_borrowed : {X : Type 0} (tree : X → Tree) (held : X → Bool) (f : Frame X) (n : ℕ)
+    (g : machine.Frame) → view_of_code tree held f ≡ view_of_frame (with_number n g)
+    → all_true (map shown_borrowed (map (shown_by tree held) f.items.items)) ≡ true
+items_borrowed tree held f n g e =
     ap (λ (l : FrameView). all_true (map shown_borrowed l.items)) e ∙ shows_borrowed g.items
-
--- a table or an array of what an open group holds
-pub closed_table : (r : Result Resource TextParserError) (f : Frame)
-    → IfOk r (λ t. all_true (map shown_borrowed (map seen_in_code f.items.items)) ≡ true
-    → borrows_strings t ≡ true)
-    → IfOk r (λ t. (n : ℕ) (g : machine.Frame) → view_of_code f ≡ view_of_frame (with_number n g)
-    → borrows_strings t ≡ true)
-closed_table (Ok t) f h = λ n g e. h (items_borrowed f n g e)
-closed_table (Err e) f h = tt
-
-pub closed_array : (r : Result Resource TextParserError) (f : Frame)
-    → IfOk r (λ t. borrows_strings t
-    ≡ all_true (map shown_borrowed (map seen_in_code f.items.items)))
-    → IfOk r (λ t. (n : ℕ) (g : machine.Frame) → view_of_code f ≡ view_of_frame (with_number n g)
-    → borrows_strings t ≡ true)
-closed_array (Ok t) f h = λ n g e. h ∙ items_borrowed f n g e
-closed_array (Err e) f h = tt

@@ -1,6 +1,6 @@
 -- What each step does to all open groups beside their code.
 use Rattle.std.proofs.Common.{◌≡◌, ◌≢◌, ℕ, ◌+◌, ◌<◌, ◌≤◌, true, false, List, [], ◌∷◌, ◌++◌}
-use Rattle.std.proofs.Common.{length, refl, sym, ◌∙◌, ap, subst, arith}
+use Rattle.std.proofs.Common.{Bool, length, refl, sym, ◌∙◌, ap, subst, arith}
 use Rattle.std.specs.Prelude.{map, slice_index_or}
 use Rattle.std.proofs.lemmas.Bool.{false≢true}
 use Rattle.std.proofs.lemmas.List.{map-append}
@@ -8,7 +8,12 @@ use Rattle.std.proofs.Common.{get_or, ◌-◌, length-append}
 use Rattle.resb_text.specs.declared.frames.Body as bodies
 use Rattle.resb_text.specs.declared.items.Term.{Term as CodeTerm}
 use Rattle.std.specs.Prelude.{slice_set, Some}
-use Rattle.resb_text.specs.Inner.Shown.{code_term_seen}
+use Rattle.resb_text.specs.Inner.Shown.{shown_term_by, shown_borrowed}
+use Rattle.resb_text.specs.Inner.Build.{Stands, Grows}
+use Rattle.resb_tree.specs.Borrowing.{all_true}
+use Rattle.resb_text.specs.declared.items.Term.TheVariants as terms
+use Rattle.resb_text.proofs.BorrowedLemmas.{items_borrowed}
+use Rattle.resb_text.proofs.Growing.{grown, all_grown}
 use Rattle.resb_text.specs.Inner.Frames.{TakesComma}
 use Rattle.resb_tree.specs.Tree.{Tree, table, map_of}
 use Rattle.resb_grammar.specs.Items.{Term, string_term, group_term, Item, before_comma}
@@ -16,7 +21,7 @@ use Rattle.resb_grammar.specs.Items.{a_table, tree_in, keys_in}
 use Rattle.resb_grammar.specs.Items.{table_keys, is_pairs}
 use Rattle.resb_grammar.specs.Machine.{Body, table_body, array_body, untyped_body, Frame, with_item}
 use Rattle.resb_grammar.specs.Machine.{new_frame, shape_in, closed}
-use Rattle.resb_text.specs.Inner.Shown.{shown_pairs, seen_in_code, string_shown, group_shown}
+use Rattle.resb_text.specs.Inner.Shown.{shown_pairs, shown_by, string_shown, group_shown}
 use Rattle.resb_text.specs.Inner.Shown.{items_seen}
 use Rattle.resb_text.specs.Inner.Shown.{term_seen}
 use Rattle.resb_grammar.specs.Machine as machine
@@ -48,149 +53,9 @@ pub open_same : (k l : Keys) (limit : ℕ) (gs : List NumberedFrame)
 open_same k l limit [] e x = tt
 open_same k l limit (g ∷ gs) e x = (x.0, e g.number ∙ x.1, open_same k l g.number gs e x.2)
 
--- one item more
-pub shows_term : (c d : opens.Open) (o : machine.Open) (m : Term) (term : CodeTerm)
-    → (x : StandsFor c o) → code_term_seen term false ≡ term_seen m false
-    → Pushes c.frame d.frame term → d.around.items ≡ c.around.items
-    → HoldsCandidates (with_number x.number (with_item m o.frame) ∷ x.around) (left d.keys)
-    → ((h : ℕ) → group_count d.keys ≤ h → without h (left d.keys) ≡ left d.keys)
-    → group_count d.keys ≡ group_count c.keys
-    → ((g : ℕ) → is_dropped_in d.keys g ≡ is_dropped_in c.keys g)
-    → StandsFor d (with_term m o)
-shows_term c d o m term x is push a holds within gs ds = record {
-  number = x.number;
-  around = x.around;
-  frame = push x.number o.frame m x.frame is;
-  outer = ap (map view_of_code) a ∙ x.outer;
-  frames = x.frames;
-  holds = holds;
-  within = within;
-  are_open =
-      subst (λ k. AreOpen d.keys k (with_number x.number (with_item m o.frame) ∷ x.around)) (sym gs)
-      (let y = open_same c.keys d.keys (group_count c.keys)
-      (with_number x.number o.frame ∷ x.around) ds x.are_open in
-      (y.0, y.1, y.2));
-}
-
 dropped_same : (k l : Keys) → l.is_dropped ≡ k.is_dropped → (g : ℕ)
     → is_dropped_in l g ≡ is_dropped_in k g
 dropped_same k l e g = ap (λ ds. slice_index_or ds.items g false) e
-
-pub shows_string : (c d : opens.Open) (o : machine.Open) (term : CodeTerm) (s : List ℕ)
-    → (x : StandsFor c o) → code_term_seen term false ≡ string_shown s false
-    → Pushes c.frame d.frame term → d.around.items ≡ c.around.items
-    → lists (group_body_of c.frame.body) ≡ true
-    → left d.keys ≡ left c.keys ++ cand s c.frame.number ∷ []
-    → d.keys.is_dropped ≡ c.keys.is_dropped → StandsFor d (with_term (string_term s) o)
-shows_string c d o term s x is push a ls e ds =
-    let number : c.frame.number ≡ x.number = ap (λ (l : FrameView). l.number) x.frame in
-    let lists_keys : lists o.frame.body
-    ≡ true = ap lists (sym (ap (λ (l : FrameView). l.body) x.frame))
-    ∙ ls in
-    let now : left d.keys ≡ left c.keys ++ cand s x.number ∷ [] = e
-    ∙ ap (λ k. left c.keys ++ cand s k ∷ []) number in
-    let same : group_count d.keys ≡ group_count c.keys = ap (λ v. length v.items) ds in
-    shows_term c d o (string_term s) term x is push a
-    (subst
-    (λ (cs : List GroupText). HoldsCandidates
-    (with_number x.number (with_item (string_term s) o.frame) ∷ x.around) cs)
-    (sym now) (holds_string x.number o.frame x.around s (left c.keys) lists_keys x.holds))
-    (λ h le. ap (without h) now ∙ without-append h (left c.keys) (cand s x.number ∷ [])
-    ∙ ap (λ cs. cs ++ without h (cand s x.number ∷ []))
-    (x.within h (subst (λ k. k ≤ h) same le))
-    ∙ ap (λ cs. left c.keys ++ cs)
-    (without-other h x.number s (let lt = x.are_open.0 in omega arith))
-    ∙ sym now)
-    same (dropped_same c.keys d.keys ds)
-
-pub shows_item : (c d : opens.Open) (o : machine.Open) (term : CodeTerm) (s : List ℕ)
-    → (x : StandsFor c o) → code_term_seen term false ≡ string_shown s false
-    → Pushes c.frame d.frame term → d.around.items ≡ c.around.items
-    → lists (group_body_of c.frame.body) ≡ false → d.keys ≡ c.keys
-    → StandsFor d (with_term (string_term s) o)
-shows_item c d o term s x is push a ls e =
-    shows_term c d o (string_term s) term x is push a
-    (subst (λ (k : Keys). HoldsCandidates (with_number x.number (with_item (string_term s) o.frame)
-    ∷ x.around)
-    (left k)) (sym e)
-    (holds_item x.number o.frame x.around s (left c.keys) (array_alone o.frame.body
-    (ap lists (sym (ap (λ (l : FrameView). l.body) x.frame)) ∙ ls)) x.holds))
-    (subst (λ (k : Keys). (h : ℕ) → group_count k ≤ h
-    → without h (left k) ≡ left k) (sym e) x.within)
-    (ap group_count e) (λ g. ap (λ k. is_dropped_in k g) e)
-  where
-    array_alone : (k : Body) → lists k ≡ false → k ≡ array_body
-    array_alone array_body h = refl
-    array_alone table_body h = absurd (false≢true (sym h))
-    array_alone untyped_body h = absurd (false≢true (sym h))
-
--- a group without keys
-pub shows_leaf : (c d : opens.Open) (o : machine.Open) (term : CodeTerm) (t : Tree)
-    → (x : StandsFor c o) → code_term_seen term false ≡ group_shown t true false
-    → Pushes c.frame d.frame term → d.around.items ≡ c.around.items → d.keys ≡ c.keys
-    → StandsFor d (with_term (group_term t []) o)
-shows_leaf c d o term t x is push a e =
-    shows_term c d o (group_term t []) term x is push a
-    (subst (λ (k : Keys). HoldsCandidates
-    (with_number x.number (with_item (group_term t []) o.frame) ∷ x.around)
-    (left k)) (sym e) (holds_leaf x.number o.frame x.around t (left c.keys) x.holds))
-    (subst (λ (k : Keys). (h : ℕ) → group_count k ≤ h
-    → without h (left k) ≡ left k) (sym e) x.within)
-    (ap group_count e) (λ g. ap (λ k. is_dropped_in k g) e)
-
--- the root, without items yet
-pub shows_root : (c : opens.Open) (title : machine.Title)
-    → view_of_code c.frame ≡ view_of_frame (with_number c.frame.number (new_frame table_body))
-    → c.frame.number < group_count c.keys → is_dropped_in c.keys c.frame.number ≡ false
-    → c.around.items ≡ [] → left c.keys ≡ [] → StandsFor c (machine.at_root title)
-shows_root c title e n d a l = record {
-  number = c.frame.number;
-  around = [];
-  frame = e;
-  outer = ap (map view_of_code) a;
-  frames = refl;
-  holds =
-      subst (λ (cs : List GroupText). HoldsCandidates
-      (with_number c.frame.number (new_frame table_body) ∷ []) cs)
-      (sym l) (holds_new c.frame.number table_body [] [] none (λ h lt. refl));
-  within = λ h lt. ap (without h) l ∙ sym l;
-  are_open = (n, d, tt);
-}
-
--- an open group within
-pub shows_open : (c d : opens.Open) (o : machine.Open) (b : bodies.Body) → (x : StandsFor c o)
-    → view_of_code d.frame
-    ≡ view_of_frame (with_number (group_count c.keys) (new_frame (group_body_of b)))
-    → d.around.items ≡ c.around.items ++ c.frame ∷ []
-    → left d.keys ≡ left c.keys → group_count d.keys ≡ group_count c.keys + 1
-    → ((g : ℕ) → is_dropped_in d.keys g ≡ is_dropped_in c.keys g)
-    → is_dropped_in c.keys (group_count c.keys) ≡ false
-    → StandsFor d (machine.within (group_body_of b) o)
-shows_open c d o b x e a l g ds fresh = record {
-  number = group_count c.keys;
-  around = with_number x.number o.frame ∷ x.around;
-  frame = e;
-  outer =
-      ap (map view_of_code) a ∙ map-append view_of_code c.around.items (c.frame ∷ [])
-      ∙ ap (λ ls. ls ++ view_of_code c.frame ∷ []) x.outer
-      ∙ ap (λ e. views_of_frames x.around ++ e ∷ []) x.frame;
-  frames = ap (λ fs. o.frame ∷ fs) x.frames;
-  holds =
-      subst
-      (λ (cs : List GroupText). HoldsCandidates
-      (with_number (group_count c.keys) (new_frame (group_body_of b))
-      ∷ with_number x.number o.frame ∷ x.around) cs)
-      (sym l)
-      (holds_new (group_count c.keys) (group_body_of b) (with_number x.number o.frame ∷ x.around)
-      (left c.keys) x.holds x.within);
-  within = λ h le. ap (without h) l ∙ x.within h (omega (arith, g)) ∙ sym l;
-  are_open = (
-    omega (arith, g),
-    ds (group_count c.keys) ∙ fresh,
-    open_same c.keys d.keys (group_count c.keys) (with_number x.number o.frame
-        ∷ x.around) ds x.are_open,
-  );
-}
 
 snoc_same : (xs ys : List FrameView) (x y : FrameView) → xs ++ x ∷ [] ≡ ys ++ y ∷ []
     → (xs ≡ ys) × (x ≡ y)
@@ -205,185 +70,387 @@ snoc_same (a ∷ xs) (b ∷ ys) x y e =
     let r = snoc_same xs ys x y q in
     (ap (λ z. z ∷ xs) p ∙ ap (λ zs. b ∷ zs) r.0, r.1)
 
--- the innermost group is closed
-pub shows_close : (c d : opens.Open) (o : machine.Open) (outer : frames.Frame) (term : CodeTerm)
-    (t : Tree)
-    → (x : StandsFor c o) → IsTableWhole o.frame
-    → c.around.items ≡ d.around.items ++ outer ∷ [] → Pushes outer d.frame term
-    → code_term_seen term false ≡ group_shown t true false
-    → ((n : ℕ) (f : Frame) → view_of_code c.frame ≡ view_of_frame (with_number n f)
-    → t ≡ tree_shown_in (shape_in f.body f.items) (map seen_in_code c.frame.items.items))
-    → ((n : ℕ) (f : Frame) → view_of_code c.frame ≡ view_of_frame (with_number n f)
-    → left d.keys ≡ left_after (shape_in f.body f.items) n (left c.keys))
-    → group_count d.keys ≡ group_count c.keys
-    → ((g : ℕ) → g ≢ c.frame.number → is_dropped_in d.keys g ≡ is_dropped_in c.keys g)
-    → ClosesTo d o o.around
-shows_close c d o outer term t x table_is_pairs a push is tree l g ds =
-    subst (λ (fs : List Frame). ClosesTo d o fs) x.frames (go x.around x.outer x.holds x.are_open)
-  where
-    number_same : c.frame.number ≡ x.number
-    number_same = ap (λ (k : FrameView). k.number) x.frame
-
-    tree_is : t ≡ tree_in (shape_in o.frame.body o.frame.items) o.frame.items
-    tree_is =
-        tree x.number o.frame x.frame
-        ∙ ap (tree_shown_in (shape_in o.frame.body o.frame.items))
-        (ap (λ (k : FrameView). k.items) x.frame)
-        ∙ tree_same o.frame.body o.frame.items
-        (shape_in o.frame.body o.frame.items) refl table_is_pairs
-
-    left_is : left d.keys ≡ left_after (shape_in o.frame.body o.frame.items) x.number (left c.keys)
-    left_is = l x.number o.frame x.frame
-
-    open_outer : (limit : ℕ) (gs : List NumberedFrame) → limit ≤ x.number → AreOpen c.keys limit gs
-        → AreOpen d.keys limit gs
-    open_outer limit [] lt k = tt
-    open_outer limit (h ∷ gs) lt k = (
-      k.0,
-      ds h.number (let m = k.0 in omega (arith, m, number_same)) ∙ k.1,
-      open_outer h.number gs (let m = k.0 in omega (arith, m)) k.2,
-    )
-
-    go : (gs : List NumberedFrame) → map view_of_code c.around.items ≡ views_of_frames gs
-        → HoldsCandidates (with_number x.number o.frame ∷ gs) (left c.keys)
-        → AreOpen c.keys (group_count c.keys) (with_number x.number o.frame ∷ gs)
-        → ClosesTo d o (frames_in gs)
-    go [] e holds open_now = tt
-    go (h ∷ gs) e holds open_now =
-        let parts = snoc_same (map view_of_code d.around.items) (views_of_frames gs)
-        (view_of_code outer) (view_of_frame h)
-        (sym (ap (map view_of_code) a ∙ map-append view_of_code d.around.items (outer ∷ [])) ∙ e) in
-        let inner = open_now.2 in
-        let m = inner.0 in
-        let top = open_now.0 in
-        let rest = open_outer x.number (h ∷ gs) (omega arith) inner in
-        record {
-          number = h.number;
-          around = gs;
-          frame =
-              push h.number h.frame (machine.closed o.frame) parts.1
-              (is ∙ ap (λ u. group_shown u true false) tree_is);
-          outer = parts.0;
-          frames = refl;
-          holds =
-              subst
-              (λ (cs : List GroupText). HoldsCandidates
-              (with_number h.number (with_item (closed o.frame) h.frame) ∷ gs) cs)
-              (sym left_is)
-              (holds_closed x.number h.number o.frame h.frame gs (left c.keys) m holds);
-          within =
-              λ k le. ap (without k) left_is
-              ∙ after_keeps (shape_in o.frame.body o.frame.items) x.number k (left c.keys)
-              (x.within k (omega (arith, g)))
-              ∙ sym left_is;
-          are_open = (omega (arith, m, top, g), rest.1, rest.2);
-        }
-
--- the root is closed
-pub root_tree : (c : opens.Open) (o : machine.Open) → StandsFor c o → is_pairs o.frame.items ≡ true
-    → table (map_of (shown_pairs (map seen_in_code c.frame.items.items)))
-    ≡ tree_in a_table o.frame.items
-root_tree c o x h =
-    ap (λ ys. table (map_of (shown_pairs ys))) (ap (λ (k : FrameView). k.items) x.frame)
-    ∙ ap (λ ps. table (map_of ps)) (pairs_shown o.frame.items h)
-
-pub root_keys : (c : opens.Open) (o : machine.Open) → StandsFor c o → o.around ≡ []
-    → o.frame.body ≡ table_body → texts (left c.keys) ≡ keys_in a_table o.frame.items
-root_keys c o x e b = go x.around (x.frames ∙ e) x.holds
-  where
-    go : (gs : List NumberedFrame) → frames_in gs ≡ []
-        → HoldsCandidates (with_number x.number o.frame ∷ gs) (left c.keys)
-        → texts (left c.keys) ≡ table_keys o.frame.items
-    go [] h holds = holds_root x.number o.frame (left c.keys) b holds
-    go (g ∷ gs) h holds = cc
-
 not_alternating : (m : Term) (xs : List Item) → is_half (before_comma m ∷ xs) ≡ false
 not_alternating (string_term s) xs = refl
 not_alternating (group_term t ks) xs = refl
 
-pub shows_comma : (c d : opens.Open) (o : machine.Open) (x y : code.Item) (k : ℕ)
-    → (s : StandsFor c o)
-    → 0 < length c.frame.items.items → k ≡ length c.frame.items.items - 1
-    → x ≡ get_or c.frame.items.items k x → x.comma ≡ false → y ≡ get_or c.frame.items.items k y
-    → d.frame.body ≡ c.frame.body → d.frame.number ≡ c.frame.number
-    → d.frame.items.items ≡ slice_set c.frame.items.items k
-    (record { term = y.term; comma = true })
-    → d.frame.alternates ≡ false → d.around.items ≡ c.around.items → d.keys ≡ c.keys
-    → TakesComma d o
-shows_comma c d o x y k s lt last xs no_comma ys b n i t a e = go o.frame.items refl
-  where
-    items_same : map seen_in_code c.frame.items.items ≡ items_seen o.frame.items
-    items_same = ap (λ (l : FrameView). l.items) s.frame
+module _ {B X : Type 0} {tree : B → X → Tree} {held : B → X → Bool} where
+  -- one item more
+  pub shows_term : (c d : opens.Open B X) (o : machine.Open) (m : Term) (term : CodeTerm X)
+      → (x : StandsFor tree held c o)
+      → shown_term_by (tree d.build) (held d.build) term false ≡ term_seen m false
+      → Grows tree held c.build d.build
+      → Pushes (tree d.build) (held d.build) c.frame d.frame term → d.around.items ≡ c.around.items
+      → HoldsCandidates (with_number x.number (with_item m o.frame) ∷ x.around) (left d.keys)
+      → ((h : ℕ) → group_count d.keys ≤ h → without h (left d.keys) ≡ left d.keys)
+      → group_count d.keys ≡ group_count c.keys
+      → ((g : ℕ) → is_dropped_in d.keys g ≡ is_dropped_in c.keys g)
+      → StandsFor tree held d (with_term m o)
+  shows_term c d o m term x is grow push a holds within gs ds = record {
+    number = x.number;
+    around = x.around;
+    frame =
+        push x.number o.frame m (grown tree held c.build d.build grow c.frame
+        (with_number x.number o.frame) x.frame)
+        is;
+    outer =
+        ap (map (view_of_code (tree d.build) (held d.build))) a
+        ∙ all_grown tree held c.build d.build grow c.around.items x.around x.outer;
+    frames = x.frames;
+    holds = holds;
+    within = within;
+    are_open =
+        subst (λ k. AreOpen d.keys k (with_number x.number (with_item m o.frame)
+        ∷ x.around)) (sym gs)
+        (let y = open_same c.keys d.keys (group_count c.keys)
+        (with_number x.number o.frame ∷ x.around) ds x.are_open in
+        (y.0, y.1, y.2));
+  }
 
-    go : (ws : List Item) → o.frame.items ≡ ws
-        → (u : machine.Open) × (machine.with_comma o ws ≡ Some (machine.inside u)) × StandsFor d u
-    go [] w = absurd (empty c.frame.items.items lt (items_same ∙ ap items_seen w))
-      where
-        empty : (zs : List code.Item) → 0 < length zs → map seen_in_code zs ≡ [] → ⊥
-        empty [] p q = omega arith
-        empty (z ∷ zs) p q = cc
-    go (v ∷ vs) w =
-        let seen : map seen_in_code c.frame.items.items ≡ items_seen
-        (record { term = v.term; comma = v.comma } ∷ vs) = items_same
-        ∙ ap items_seen w in
-        let is_x : seen_in_code x ≡ term_seen v.term v.comma = last_shown c.frame.items.items vs
-        v.term v.comma x seen (xs
-        ∙ ap (λ j. get_or c.frame.items.items j x) last) in
-        let is_y : seen_in_code y ≡ term_seen v.term v.comma = last_shown c.frame.items.items vs
-        v.term v.comma y seen (ys
-        ∙ ap (λ j. get_or c.frame.items.items j y) last) in
-        let no_comma_yet : v.comma ≡ false =
-        sym (comma_item v.term v.comma) ∙ ap comma_of (sym is_x)
-        ∙ comma_code x.term x.comma ∙ no_comma in
-        let made : seen_in_code
-        (record { term = y.term; comma = true }) ≡ term_seen v.term true = sym
-        (with_code y.term y.comma)
-        ∙ ap set_comma is_y ∙ set_comma_term v.term v.comma in
-        let long : length (items_seen vs ++ term_seen v.term v.comma ∷ []) ≡ length
-        (items_seen vs) + 1 = length-append (items_seen vs) (term_seen v.term v.comma ∷ []) in
-        let size : length c.frame.items.items ≡ length
-        (items_seen vs ++ term_seen v.term v.comma ∷ []) = sym
-        (shown_len c.frame.items.items)
-        ∙ ap length seen in
-        let at : k ≡ length (items_seen vs) = omega (arith, last, long, size) in (
-          record { title = o.title; frame = comma_frame o.frame v.term vs; around = o.around },
-          ap (λ f. machine.unless f (machine.inside (record {
-            title = o.title;
-            frame = comma_frame o.frame v.term vs;
-            around = o.around;
-          }))) no_comma_yet,
+  pub shows_string : (c d : opens.Open B X) (o : machine.Open) (term : CodeTerm X) (s : List ℕ)
+      → (x : StandsFor tree held c o)
+      → shown_term_by (tree d.build) (held d.build) term false ≡ string_shown s false
+      → Grows tree held c.build d.build
+      → Pushes (tree d.build) (held d.build) c.frame d.frame term → d.around.items ≡ c.around.items
+      → lists (group_body_of c.frame.body) ≡ true
+      → left d.keys ≡ left c.keys ++ cand s c.frame.number ∷ []
+      → d.keys.is_dropped ≡ c.keys.is_dropped → StandsFor tree held d (with_term (string_term s) o)
+  shows_string c d o term s x is grow push a ls e ds =
+      let number : c.frame.number ≡ x.number = ap (λ (l : FrameView). l.number) x.frame in
+      let lists_keys : lists o.frame.body ≡ true = ap lists (sym (ap (λ
+      (l : FrameView). l.body) x.frame))
+      ∙ ls in
+      let now : left d.keys ≡ left c.keys ++ cand s x.number ∷ [] = e
+      ∙ ap (λ k. left c.keys ++ cand s k ∷ []) number in
+      let same : group_count d.keys ≡ group_count c.keys = ap (λ v. length v.items) ds in
+      shows_term c d o (string_term s) term x is grow push a
+      (subst
+      (λ (cs : List GroupText). HoldsCandidates
+      (with_number x.number (with_item (string_term s) o.frame) ∷ x.around) cs)
+      (sym now) (holds_string x.number o.frame x.around s (left c.keys) lists_keys x.holds))
+      (λ h le. ap (without h) now ∙ without-append h (left c.keys) (cand s x.number ∷ [])
+      ∙ ap (λ cs. cs ++ without h (cand s x.number ∷ []))
+      (x.within h (subst (λ k. k ≤ h) same le))
+      ∙ ap (λ cs. left c.keys ++ cs)
+      (without-other h x.number s (let lt = x.are_open.0 in omega arith))
+      ∙ sym now)
+      same (dropped_same c.keys d.keys ds)
+
+  pub shows_item : (c d : opens.Open B X) (o : machine.Open) (term : CodeTerm X) (s : List ℕ)
+      → (x : StandsFor tree held c o)
+      → shown_term_by (tree d.build) (held d.build) term false ≡ string_shown s false
+      → Grows tree held c.build d.build
+      → Pushes (tree d.build) (held d.build) c.frame d.frame term → d.around.items ≡ c.around.items
+      → lists (group_body_of c.frame.body) ≡ false → d.keys ≡ c.keys
+      → StandsFor tree held d (with_term (string_term s) o)
+  shows_item c d o term s x is grow push a ls e =
+      shows_term c d o (string_term s) term x is grow push a
+      (subst (λ (k : Keys). HoldsCandidates
+      (with_number x.number (with_item (string_term s) o.frame) ∷ x.around)
+      (left k)) (sym e)
+      (holds_item x.number o.frame x.around s (left c.keys) (array_alone o.frame.body
+      (ap lists (sym (ap (λ (l : FrameView). l.body) x.frame)) ∙ ls)) x.holds))
+      (subst (λ (k : Keys). (h : ℕ) → group_count k ≤ h
+      → without h (left k) ≡ left k) (sym e) x.within)
+      (ap group_count e) (λ g. ap (λ k. is_dropped_in k g) e)
+    where
+      array_alone : (k : Body) → lists k ≡ false → k ≡ array_body
+      array_alone array_body h = refl
+      array_alone table_body h = absurd (false≢true (sym h))
+      array_alone untyped_body h = absurd (false≢true (sym h))
+
+  -- a group without keys
+  pub shows_leaf : (c d : opens.Open B X) (o : machine.Open) (term : CodeTerm X) (t : Tree)
+      → (x : StandsFor tree held c o)
+      → shown_term_by (tree d.build) (held d.build) term false ≡ group_shown t true false
+      → Grows tree held c.build d.build
+      → Pushes (tree d.build) (held d.build) c.frame d.frame term → d.around.items ≡ c.around.items
+      → d.keys ≡ c.keys
+      → StandsFor tree held d (with_term (group_term t []) o)
+  shows_leaf c d o term t x is grow push a e =
+      shows_term c d o (group_term t []) term x is grow push a
+      (subst (λ (k : Keys). HoldsCandidates
+      (with_number x.number (with_item (group_term t []) o.frame) ∷ x.around)
+      (left k)) (sym e) (holds_leaf x.number o.frame x.around t (left c.keys) x.holds))
+      (subst (λ (k : Keys). (h : ℕ) → group_count k ≤ h
+      → without h (left k) ≡ left k) (sym e) x.within)
+      (ap group_count e) (λ g. ap (λ k. is_dropped_in k g) e)
+
+  -- the root, without items yet
+  pub shows_root : (c : opens.Open B X) (title : machine.Title)
+      → view_of_code (tree c.build) (held c.build) c.frame
+      ≡ view_of_frame (with_number c.frame.number (new_frame table_body))
+      → c.frame.number < group_count c.keys → is_dropped_in c.keys c.frame.number ≡ false
+      → c.around.items ≡ [] → left c.keys ≡ [] → StandsFor tree held c (machine.at_root title)
+  shows_root c title e n d a l = record {
+    number = c.frame.number;
+    around = [];
+    frame = e;
+    outer = ap (map (view_of_code (tree c.build) (held c.build))) a;
+    frames = refl;
+    holds =
+        subst (λ (cs : List GroupText). HoldsCandidates
+        (with_number c.frame.number (new_frame table_body) ∷ []) cs)
+        (sym l) (holds_new c.frame.number table_body [] [] none (λ h lt. refl));
+    within = λ h lt. ap (without h) l ∙ sym l;
+    are_open = (n, d, tt);
+  }
+
+  -- an open group within
+  pub shows_open : (c d : opens.Open B X) (o : machine.Open) (b : bodies.Body)
+      → (x : StandsFor tree held c o)
+      → Grows tree held c.build d.build
+      → view_of_code (tree d.build) (held d.build) d.frame
+      ≡ view_of_frame (with_number (group_count c.keys) (new_frame (group_body_of b)))
+      → d.around.items ≡ c.around.items ++ c.frame ∷ []
+      → left d.keys ≡ left c.keys → group_count d.keys ≡ group_count c.keys + 1
+      → ((g : ℕ) → is_dropped_in d.keys g ≡ is_dropped_in c.keys g)
+      → is_dropped_in c.keys (group_count c.keys) ≡ false
+      → StandsFor tree held d (machine.within (group_body_of b) o)
+  shows_open c d o b x grow e a l g ds fresh = record {
+    number = group_count c.keys;
+    around = with_number x.number o.frame ∷ x.around;
+    frame = e;
+    outer =
+        ap (map (view_of_code (tree d.build) (held d.build))) a
+        ∙ map-append (view_of_code (tree d.build) (held d.build)) c.around.items (c.frame ∷ [])
+        ∙ ap (λ ls. ls ++ view_of_code (tree d.build) (held d.build) c.frame ∷ [])
+        (all_grown tree held c.build d.build grow c.around.items x.around x.outer)
+        ∙ ap (λ e. views_of_frames x.around ++ e ∷ [])
+        (grown tree held c.build d.build grow c.frame (with_number x.number o.frame) x.frame);
+    frames = ap (λ fs. o.frame ∷ fs) x.frames;
+    holds =
+        subst
+        (λ (cs : List GroupText). HoldsCandidates
+        (with_number (group_count c.keys) (new_frame
+        (group_body_of b)) ∷ with_number x.number o.frame ∷ x.around) cs)
+        (sym l)
+        (holds_new (group_count c.keys) (group_body_of b) (with_number x.number o.frame ∷ x.around)
+        (left c.keys) x.holds x.within);
+    within = λ h le. ap (without h) l ∙ x.within h (omega (arith, g)) ∙ sym l;
+    are_open = (
+      omega (arith, g),
+      ds (group_count c.keys) ∙ fresh,
+      open_same c.keys d.keys (group_count c.keys) (with_number x.number o.frame
+          ∷ x.around) ds x.are_open,
+    );
+  }
+
+  -- the innermost group is closed
+  pub shows_close : (c d : opens.Open B X) (o : machine.Open) (outer : frames.Frame X) (made : X)
+      → (x : StandsFor tree held c o) → IsTableWhole o.frame → Grows tree held c.build d.build
+      → c.around.items ≡ d.around.items ++ outer ∷ []
+      → Pushes (tree d.build) (held d.build) outer d.frame (terms.Group made)
+      → ((n : ℕ) (f : Frame) → view_of_code (tree c.build) (held c.build) c.frame ≡ view_of_frame
+      (with_number n f)
+      → Stands tree held d.build made
+      (tree_shown_in (shape_in f.body f.items) (items_seen f.items)))
+      → ((n : ℕ) (f : Frame) → view_of_code (tree c.build) (held c.build) c.frame ≡ view_of_frame
+      (with_number n f)
+      → left d.keys ≡ left_after (shape_in f.body f.items) n (left c.keys))
+      → group_count d.keys ≡ group_count c.keys
+      → ((g : ℕ) → g ≢ c.frame.number → is_dropped_in d.keys g ≡ is_dropped_in c.keys g)
+      → ClosesTo tree held d o o.around
+  shows_close c d o outer made x table_is_pairs grow a push stands l g ds =
+      subst (λ (fs : List Frame). ClosesTo tree held d o fs) x.frames
+      (go x.around
+      (all_grown tree held c.build d.build grow c.around.items x.around x.outer) x.holds
+      x.are_open)
+    where
+      number_same : c.frame.number ≡ x.number
+      number_same = ap (λ (k : FrameView). k.number) x.frame
+
+      is : shown_term_by (tree d.build) (held d.build) (terms.Group made) false
+          ≡ group_shown (tree_in (shape_in o.frame.body o.frame.items) o.frame.items) true false
+      is =
+          let h = stands x.number o.frame x.frame in
+          ap (λ u. group_shown u (held d.build made) false) (h.0
+          ∙ tree_same o.frame.body o.frame.items
+          (shape_in o.frame.body o.frame.items) refl table_is_pairs)
+          ∙ ap (λ k. group_shown (tree_in (shape_in o.frame.body o.frame.items) o.frame.items) k
+          false) h.1
+
+      left_is : left d.keys ≡ left_after (shape_in o.frame.body o.frame.items) x.number
+          (left c.keys)
+      left_is = l x.number o.frame x.frame
+
+      open_outer : (limit : ℕ) (gs : List NumberedFrame) → limit ≤ x.number
+          → AreOpen c.keys limit gs
+          → AreOpen d.keys limit gs
+      open_outer limit [] lt k = tt
+      open_outer limit (h ∷ gs) lt k = (
+        k.0,
+        ds h.number (let m = k.0 in omega (arith, m, number_same)) ∙ k.1,
+        open_outer h.number gs (let m = k.0 in omega (arith, m)) k.2,
+      )
+
+      go : (gs : List NumberedFrame)
+          → map (view_of_code (tree d.build) (held d.build)) c.around.items
+          ≡ views_of_frames gs
+          → HoldsCandidates (with_number x.number o.frame ∷ gs) (left c.keys)
+          → AreOpen c.keys (group_count c.keys) (with_number x.number o.frame ∷ gs)
+          → ClosesTo tree held d o (frames_in gs)
+      go [] e holds open_now = tt
+      go (h ∷ gs) e holds open_now =
+          let parts = snoc_same (map (view_of_code (tree d.build) (held d.build)) d.around.items)
+          (views_of_frames gs) (view_of_code (tree d.build) (held d.build) outer)
+          (view_of_frame h) (sym (ap (map (view_of_code (tree d.build) (held d.build))) a
+          ∙ map-append (view_of_code (tree d.build) (held d.build)) d.around.items (outer ∷ []))
+          ∙ e) in
+          let inner = open_now.2 in
+          let m = inner.0 in
+          let top = open_now.0 in
+          let rest = open_outer x.number (h ∷ gs) (omega arith) inner in
           record {
-            number = s.number;
-            around = s.around;
+            number = h.number;
+            around = gs;
             frame =
-                same_view (view_of_code d.frame)
-                (view_of_frame (with_number s.number (comma_frame o.frame v.term vs)))
-                (ap group_body_of b ∙ ap (λ (l : FrameView). l.body) s.frame)
-                (ap (map seen_in_code) i
-                ∙ map_set_shown c.frame.items.items k
-                (record { term = y.term; comma = true })
-                ∙ ap (λ zs. slice_set zs k
-                (seen_in_code (record { term = y.term; comma = true }))) seen
-                ∙ ap (λ j. slice_set (items_seen vs ++ term_seen v.term v.comma ∷ []) j
-                (seen_in_code (record { term = y.term; comma = true }))) at
-                ∙ set_last (items_seen vs) (term_seen v.term v.comma)
-                (seen_in_code (record { term = y.term; comma = true }))
-                ∙ ap (λ z. items_seen vs ++ z ∷ []) made)
-                (t ∙ sym (not_alternating v.term vs))
-                (n ∙ ap (λ (l : FrameView). l.number) s.frame);
-            outer = ap (map view_of_code) a ∙ s.outer;
-            frames = s.frames;
+                push h.number h.frame (machine.closed o.frame) parts.1 is;
+            outer = parts.0;
+            frames = refl;
             holds =
-                subst (λ (q : Keys). HoldsCandidates
-                (with_number s.number (comma_frame o.frame v.term vs) ∷ s.around)
-                (left q)) (sym e) (holds_comma s.number o.frame s.around
-                (left c.keys) v.term v.comma vs w s.holds);
+                subst
+                (λ (cs : List GroupText). HoldsCandidates
+                (with_number h.number (with_item (closed o.frame) h.frame) ∷ gs) cs)
+                (sym left_is)
+                (holds_closed x.number h.number o.frame h.frame gs (left c.keys) m holds);
             within =
-                subst (λ (q : Keys). (h : ℕ) → group_count q ≤ h → without h (left q) ≡ left q)
-                (sym e) s.within;
-            are_open =
-                subst (λ (q : Keys). AreOpen q (group_count q) (with_number s.number
-                (comma_frame o.frame v.term vs) ∷ s.around)) (sym e) (let z = s.are_open in
-                (z.0, z.1, z.2));
-          },
-        )
+                λ k le. ap (without k) left_is
+                ∙ after_keeps (shape_in o.frame.body o.frame.items) x.number k (left c.keys)
+                (x.within k (omega (arith, g)))
+                ∙ sym left_is;
+            are_open = (omega (arith, m, top, g), rest.1, rest.2);
+          }
+
+  -- the root is closed
+  pub root_made : (c : opens.Open B X) (o : machine.Open) (b : B) (made : X)
+      → StandsFor tree held c o
+      → is_pairs o.frame.items ≡ true
+      → (all_true (map shown_borrowed (map (shown_by (tree c.build)
+      (held c.build)) c.frame.items.items)) ≡ true
+      → Stands tree held b made
+      (table (map_of (shown_pairs (map (shown_by (tree c.build)
+      (held c.build)) c.frame.items.items)))))
+      → Stands tree held b made (tree_in a_table o.frame.items)
+  root_made c o b made x table_is_pairs stands =
+      let h = stands (items_borrowed (tree c.build)
+      (held c.build) c.frame x.number o.frame x.frame) in (
+        h.0
+            ∙ ap (λ ys. table (map_of (shown_pairs ys))) (ap (λ (k : FrameView). k.items) x.frame)
+            ∙ ap (λ ps. table (map_of ps)) (pairs_shown o.frame.items table_is_pairs),
+        h.1,
+      )
+
+  pub root_keys : (c : opens.Open B X) (o : machine.Open) → StandsFor tree held c o → o.around ≡ []
+      → o.frame.body ≡ table_body → texts (left c.keys) ≡ keys_in a_table o.frame.items
+  root_keys c o x e b = go x.around (x.frames ∙ e) x.holds
+    where
+      go : (gs : List NumberedFrame) → frames_in gs ≡ []
+          → HoldsCandidates (with_number x.number o.frame ∷ gs) (left c.keys)
+          → texts (left c.keys) ≡ table_keys o.frame.items
+      go [] h holds = holds_root x.number o.frame (left c.keys) b holds
+      go (g ∷ gs) h holds = cc
+
+  pub shows_comma : (c d : opens.Open B X) (o : machine.Open) (x y : code.Item X) (k : ℕ)
+      → (s : StandsFor tree held c o)
+      → Grows tree held c.build d.build → 0 < length c.frame.items.items → k
+      ≡ length c.frame.items.items - 1
+      → x ≡ get_or c.frame.items.items k x → x.comma ≡ false → y ≡ get_or c.frame.items.items k y
+      → d.frame.body ≡ c.frame.body → d.frame.number ≡ c.frame.number
+      → d.frame.items.items ≡ slice_set c.frame.items.items k
+      (record { term = y.term; comma = true })
+      → d.frame.alternates ≡ false → d.around.items ≡ c.around.items → d.keys ≡ c.keys
+      → TakesComma tree held d o
+  shows_comma c d o x y k s grow lt last xs no_comma ys b n i t a e = go o.frame.items refl
+    where
+      frame_same : view_of_code (tree d.build) (held d.build) c.frame
+          ≡ view_of_frame (with_number s.number o.frame)
+      frame_same = grown tree held c.build d.build grow c.frame
+          (with_number s.number o.frame) s.frame
+
+      items_same : map (shown_by (tree d.build) (held d.build)) c.frame.items.items
+          ≡ items_seen o.frame.items
+      items_same = ap (λ (l : FrameView). l.items) frame_same
+
+      go : (ws : List Item) → o.frame.items ≡ ws
+          → (u : machine.Open) × (machine.with_comma o ws ≡ Some (machine.inside u))
+          × StandsFor tree held d u
+      go [] w = absurd (empty c.frame.items.items lt (items_same ∙ ap items_seen w))
+        where
+          empty : (zs : List (code.Item X)) → 0 < length zs
+              → map (shown_by (tree d.build) (held d.build)) zs ≡ [] → ⊥
+          empty [] p q = omega arith
+          empty (z ∷ zs) p q = cc
+      go (v ∷ vs) w =
+          let seen : map (shown_by (tree d.build) (held d.build)) c.frame.items.items ≡ items_seen
+          (record { term = v.term; comma = v.comma } ∷ vs) = items_same
+          ∙ ap items_seen w in
+          let is_x : shown_by (tree d.build) (held d.build) x
+          ≡ term_seen v.term v.comma = last_shown (tree d.build)
+          (held d.build) c.frame.items.items vs
+          v.term v.comma x seen (xs
+          ∙ ap (λ j. get_or c.frame.items.items j x) last) in
+          let is_y : shown_by (tree d.build) (held d.build) y
+          ≡ term_seen v.term v.comma = last_shown (tree d.build)
+          (held d.build) c.frame.items.items vs
+          v.term v.comma y seen (ys
+          ∙ ap (λ j. get_or c.frame.items.items j y) last) in
+          let no_comma_yet : v.comma ≡ false =
+          sym (comma_item v.term v.comma) ∙ ap comma_of (sym is_x)
+          ∙ comma_code (tree d.build) (held d.build) x.term x.comma ∙ no_comma in
+          let made : shown_by (tree d.build) (held d.build)
+          (record { term = y.term; comma = true }) ≡ term_seen v.term true = sym
+          (with_code (tree d.build) (held d.build) y.term y.comma)
+          ∙ ap set_comma is_y ∙ set_comma_term v.term v.comma in
+          let long : length (items_seen vs ++ term_seen v.term v.comma ∷ []) ≡ length
+          (items_seen vs) + 1 = length-append (items_seen vs) (term_seen v.term v.comma ∷ []) in
+          let size : length c.frame.items.items ≡ length
+          (items_seen vs ++ term_seen v.term v.comma ∷ []) = sym
+          (shown_len (tree d.build) (held d.build) c.frame.items.items)
+          ∙ ap length seen in
+          let at : k ≡ length (items_seen vs) = omega (arith, last, long, size) in (
+            record { title = o.title; frame = comma_frame o.frame v.term vs; around = o.around },
+            ap (λ f. machine.unless f (machine.inside (record {
+              title = o.title;
+              frame = comma_frame o.frame v.term vs;
+              around = o.around;
+            }))) no_comma_yet,
+            record {
+              number = s.number;
+              around = s.around;
+              frame =
+                  same_view (view_of_code (tree d.build) (held d.build) d.frame)
+                  (view_of_frame (with_number s.number (comma_frame o.frame v.term vs)))
+                  (ap group_body_of b ∙ ap (λ (l : FrameView). l.body) frame_same)
+                  (ap (map (shown_by (tree d.build) (held d.build))) i
+                  ∙ map_set_shown (tree d.build) (held d.build) c.frame.items.items k
+                  (record { term = y.term; comma = true })
+                  ∙ ap (λ zs. slice_set zs k
+                  (shown_by (tree d.build) (held d.build)
+                  (record { term = y.term; comma = true }))) seen
+                  ∙ ap (λ j. slice_set (items_seen vs ++ term_seen v.term v.comma ∷ []) j
+                  (shown_by (tree d.build) (held d.build)
+                  (record { term = y.term; comma = true }))) at
+                  ∙ set_last (items_seen vs) (term_seen v.term v.comma)
+                  (shown_by (tree d.build) (held d.build) (record { term = y.term; comma = true }))
+                  ∙ ap (λ z. items_seen vs ++ z ∷ []) made)
+                  (t ∙ sym (not_alternating v.term vs))
+                  (n ∙ ap (λ (l : FrameView). l.number) frame_same);
+              outer =
+                  ap (map (view_of_code (tree d.build) (held d.build))) a
+                  ∙ all_grown tree held c.build d.build grow c.around.items s.around s.outer;
+              frames = s.frames;
+              holds =
+                  subst (λ (q : Keys). HoldsCandidates
+                  (with_number s.number (comma_frame o.frame v.term vs) ∷ s.around)
+                  (left q)) (sym e) (holds_comma s.number o.frame s.around
+                  (left c.keys) v.term v.comma vs w s.holds);
+              within =
+                  subst (λ (q : Keys). (h : ℕ) → group_count q ≤ h → without h (left q) ≡ left q)
+                  (sym e) s.within;
+              are_open =
+                  subst (λ (q : Keys). AreOpen q (group_count q) (with_number s.number
+                  (comma_frame o.frame v.term vs) ∷ s.around)) (sym e) (let z = s.are_open in
+                  (z.0, z.1, z.2));
+            },
+          )

@@ -13,3 +13,8 @@ if_ok_both (Err e) f g h = tt
 pub if_ok_always : {T E P : Type 0} (r : Result T E) → P → IfOk r (λ _. P)
 if_ok_always (Ok x) h = h
 if_ok_always (Err e) h = tt
+
+pub if_ok_to : {T E : Type 0} {P Q : T → Type 0} (r : Result T E) → IfOk r P
+    → ((x : T) → P x → Q x) → IfOk r Q
+if_ok_to (Ok x) h f = f x h
+if_ok_to (Err e) h f = tt

@@ -127,8 +127,9 @@ module _ (text : List ℕ) where
       go to u (a_root_type fallback) m e = none_some u e
 
   -- a typed group may stand here
-  pub may_stand : {n : ℕ} (c : Open) (at : ℕ) (key b : Bool) → (x : Among text at c n)
-      → ((o : machine.Open) → StandsFor c o → key ≡ is_key_place o.frame.items)
+  pub may_stand : {n : ℕ} {B X : Type 0} {tree : B → X → Tree} {held : B → X → Bool}
+      (c : Open B X) (at : ℕ) (key b : Bool) → (x : Among tree held text at c n)
+      → ((o : machine.Open) → StandsFor tree held c o → key ≡ is_key_place o.frame.items)
       → b ≡ takes_group (group_body_of c.frame.body) key → b ≡ true
       → takes_group x.open_groups.frame.body (is_key_place x.open_groups.frame.items) ≡ true
   may_stand c at key b x place takes is =
@@ -139,9 +140,10 @@ module _ (text : List ℕ) where
       ∙ is
 
   -- no type may stand here
-  pub type_refused : {n : ℕ} (c : Open) (at b : ℕ) (key may : Bool) (e : Expected)
-      → (x : Among text at c n)
-      → ((o : machine.Open) → StandsFor c o → key ≡ is_key_place o.frame.items)
+  pub type_refused : {n : ℕ} {B X : Type 0} {tree : B → X → Tree} {held : B → X → Bool}
+      (c : Open B X) (at b : ℕ) (key may : Bool) (e : Expected)
+      → (x : Among tree held text at c n)
+      → ((o : machine.Open) → StandsFor tree held c o → key ≡ is_key_place o.frame.items)
       → b ≡ slice_index text at → b ≡ ascii.colon
       → e ≡ expected_in (group_body_of c.frame.body) key b
       → may ≡ takes_group (group_body_of c.frame.body) key → may ≡ false
@@ -167,7 +169,8 @@ module _ (text : List ℕ) where
       run_head text at first kind o.title o.frame.body o.frame.items o.around head
       (may_open o.frame.body o.frame.items may) reached
 
-  pub head_refused : {n : ℕ} (c : Open) (at : ℕ) (e : TextParserError) → (x : Among text at c n)
+  pub head_refused : {n : ℕ} {B X : Type 0} {tree : B → X → Tree} {held : B → X → Bool}
+      (c : Open B X) (at : ℕ) (e : TextParserError) → (x : Among tree held text at c n)
       → takes_group x.open_groups.frame.body (is_key_place x.open_groups.frame.items) ≡ true
       → HeadFails text at e → Fails text e
   head_refused c at e x may fails = inr (fails x.open_groups may x.reached)
@@ -192,13 +195,15 @@ module _ (text : List ℕ) where
   begins vector_kind body opens o = let e = opens o in cc
 
   -- a group that holds items is opened
-  pub group_opened : {n : ℕ} (m : ℕ) (c d : Open) (at first : ℕ) (kind : Kind) (body : Body)
-      → (x : Among text at c n)
+  pub group_opened : {n : ℕ} {B X : Type 0} {tree : B → X → Tree} {held : B → X → Bool}
+      (m : ℕ) (c d : Open B X) (at first : ℕ) (kind : Kind) (body : Body)
+      → (x : Among tree held text at c n)
       → takes_group x.open_groups.frame.body (is_key_place x.open_groups.frame.items) ≡ true
       → TypedOpening text at kind first
       → ((o : machine.Open) → machine.begun_as kind o ≡ inside (within body o))
-      → ((o : machine.Open) → StandsFor c o → StandsFor d (within body o)) → m ≡ n + 72
-      → Among text first d m
+      → ((o : machine.Open) → StandsFor tree held c o → StandsFor tree held d (within body o))
+      → m ≡ n + 72
+      → Among tree held text first d m
   group_opened {n} m c d at first kind body x may head opens then sum =
       let adds = begins kind body opens x.open_groups in
       let made = subst (λ (s : State). Makes text m first s) (opens x.open_groups)
@@ -213,8 +218,9 @@ module _ (text : List ℕ) where
       }
 
   -- such a group makes more than the limit
-  pub opened_over : {n : ℕ} (limit : ℕ) (c : Open) (at first : ℕ) (kind : Kind) (body : Body)
-      → (x : Among text at c n)
+  pub opened_over : {n : ℕ} {B X : Type 0} {tree : B → X → Tree} {held : B → X → Bool}
+      (limit : ℕ) (c : Open B X) (at first : ℕ) (kind : Kind) (body : Body)
+      → (x : Among tree held text at c n)
       → takes_group x.open_groups.frame.body (is_key_place x.open_groups.frame.items) ≡ true
       → TypedOpening text at kind first
       → ((o : machine.Open) → machine.begun_as kind o ≡ inside (within body o)) → limit < n + 72
@@ -225,8 +231,9 @@ module _ (text : List ℕ) where
       (head_made text n at first kind x.open_groups head (type_moves x.open_groups kind may) x.made)
       (head.opens, refl) refl (omega (arith, more, adds))
 
-  pub leaf_refused : {n : ℕ} (c : Open) (at first : ℕ) (kind : Kind) (e : TextParserError)
-      → (x : Among text at c n)
+  pub leaf_refused : {n : ℕ} {B X : Type 0} {tree : B → X → Tree} {held : B → X → Bool}
+      (c : Open B X) (at first : ℕ) (kind : Kind) (e : TextParserError)
+      → (x : Among tree held text at c n)
       → takes_group x.open_groups.frame.body (is_key_place x.open_groups.frame.items) ≡ true
       → TypedOpening text at kind first
       → (e ≡ want_of_memory) ⊎ LeafFails text first kind e → Fails text e
@@ -243,8 +250,9 @@ module _ (text : List ℕ) where
   leaf_kind from to kind t n (vector_content ns v) = plus_no_bytes n
 
   -- a group that holds no items, up to its `}`
-  before_brace : {n : ℕ} (c : Open) (at first next : ℕ) (kind : Kind) (t : Tree)
-      → (x : Among text at c n)
+  before_brace : {n : ℕ} {B X : Type 0} {tree : B → X → Tree} {held : B → X → Bool}
+      (c : Open B X) (at first next : ℕ) (kind : Kind) (t : Tree)
+      → (x : Among tree held text at c n)
       → takes_group x.open_groups.frame.body (is_key_place x.open_groups.frame.items) ≡ true
       → TypedOpening text at kind first → (leaf : LeafGroup text first next kind t)
       → BeforeBrace text n leaf.ends t x.open_groups
@@ -254,12 +262,14 @@ module _ (text : List ℕ) where
       (type_moves x.open_groups kind may) x.made
       (leaf_kind first leaf.ends kind t n leaf.content))
 
-  pub leaf_added : {n : ℕ} (m : ℕ) (c d : Open) (at first to : ℕ) (kind : Kind) (t : Tree)
-      → (x : Among text at c n)
+  pub leaf_added : {n : ℕ} {B X : Type 0} {tree : B → X → Tree} {held : B → X → Bool}
+      (m : ℕ) (c d : Open B X) (at first to : ℕ) (kind : Kind) (t : Tree)
+      → (x : Among tree held text at c n)
       → takes_group x.open_groups.frame.body (is_key_place x.open_groups.frame.items) ≡ true
       → TypedOpening text at kind first → LeafGroup text first to kind t
-      → ((o : machine.Open) → StandsFor c o → StandsFor d (with_term (group_term t []) o))
-      → m ≡ n + leaf_bytes t → Among text to d m
+      → ((o : machine.Open) → StandsFor tree held c o → StandsFor tree held d (with_term
+      (group_term t []) o))
+      → m ≡ n + leaf_bytes t → Among tree held text to d m
   leaf_added {n} m c d at first to kind t x may head leaf then sum =
       let b = before_brace c at first to kind t x may head leaf in
       let adds = b.adds in
@@ -273,8 +283,9 @@ module _ (text : List ℕ) where
       }
 
   -- such a group makes more than the limit
-  pub leaf_over : {n : ℕ} (limit : ℕ) (c : Open) (at first to : ℕ) (kind : Kind) (t : Tree)
-      → (x : Among text at c n)
+  pub leaf_over : {n : ℕ} {B X : Type 0} {tree : B → X → Tree} {held : B → X → Bool}
+      (limit : ℕ) (c : Open B X) (at first to : ℕ) (kind : Kind) (t : Tree)
+      → (x : Among tree held text at c n)
       → takes_group x.open_groups.frame.body (is_key_place x.open_groups.frame.items) ≡ true
       → TypedOpening text at kind first → LeafGroup text first to kind t → limit < n + leaf_bytes t
       → MakesMore text limit

@@ -3,6 +3,7 @@ pub mod Runs
 pub mod Braces
 pub mod Leaf
 pub mod Shown
+pub mod Build
 pub mod Discovered
 pub mod Frames
 pub mod Quota

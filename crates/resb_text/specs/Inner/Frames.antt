@@ -8,8 +8,8 @@ use Rattle.resb_grammar.specs.Items as spec
 use Rattle.resb_grammar.specs.Items.{is_pairs, table_keys, array_keys}
 use Rattle.resb_grammar.specs.Inner.Half.{is_half}
 use Rattle.resb_grammar.specs.Machine as machine
-use Rattle.resb_text.specs.Inner.Shown.{SeenItem, string_shown, group_shown, seen_in_code}
-use Rattle.resb_text.specs.Inner.Shown.{items_seen, shown_tree}
+use Rattle.resb_text.specs.Inner.Shown.{SeenItem, string_shown, group_shown, shown_by, items_seen}
+use Rattle.resb_text.specs.Inner.Shown.{shown_tree}
 use Rattle.resb_text.specs.Inner.Shown.{shown_pairs}
 use Rattle.resb_text.specs.Inner.Discovered.{GroupText, without, texts, left, group_count}
 use Rattle.resb_text.specs.Inner.Discovered.{candidate_count}
@@ -57,11 +57,11 @@ pub record FrameView : Type 0 where
   pub alternates : Bool
   pub number : ℕ
 
-abbrev pub view_of_code : Frame → FrameView
-view_of_code f =
+abbrev pub view_of_code : {X : Type 0} → (X → Tree) → (X → Bool) → Frame X → FrameView
+view_of_code tree held f =
     record {
       body = group_body_of f.body;
-      items = map seen_in_code f.items.items;
+      items = map (shown_by tree held) f.items.items;
       alternates = f.alternates;
       number = f.number;
     }
@@ -112,23 +112,43 @@ frames_in gs = map (λ g. g.frame) gs
 abbrev pub with_number : ℕ → machine.Frame → NumberedFrame
 with_number n f = record { frame = f; number = n }
 
--- the code's open groups are the machine's
-pub record StandsFor (c : Open) (o : machine.Open) : Type 0 where
-  pub number : ℕ
-  pub around : List NumberedFrame
-  pub frame : view_of_code c.frame ≡ view_of_frame (with_number number o.frame)
-  pub outer : map view_of_code c.around.items ≡ views_of_frames around
-  pub frames : frames_in around ≡ o.around
-  pub holds : HoldsCandidates (with_number number o.frame ∷ around) (left c.keys)
-  pub within : (h : ℕ) → group_count c.keys ≤ h → without h (left c.keys) ≡ left c.keys
-  pub are_open : AreOpen c.keys (group_count c.keys) (with_number number o.frame ∷ around)
+module _ {B X : Type 0} (tree : B → X → Tree) (held : B → X → Bool) where
+  -- the code's open groups are the machine's
+  pub record StandsFor (c : Open B X) (o : machine.Open) : Type 0 where
+    pub number : ℕ
+    pub around : List NumberedFrame
+    pub frame : view_of_code (tree c.build) (held c.build) c.frame
+        ≡ view_of_frame (with_number number o.frame)
+    pub outer : map (view_of_code (tree c.build) (held c.build)) c.around.items
+        ≡ views_of_frames around
+    pub frames : frames_in around ≡ o.around
+    pub holds : HoldsCandidates (with_number number o.frame ∷ around) (left c.keys)
+    pub within : (h : ℕ) → group_count c.keys ≤ h → without h (left c.keys) ≡ left c.keys
+    pub are_open : AreOpen c.keys (group_count c.keys) (with_number number o.frame ∷ around)
 
--- the code's open groups are some machine's
-abbrev pub IsOpen : Open → Type 0
-IsOpen c = (o : machine.Open) × StandsFor c o
+  -- the code's open groups are some machine's
+  abbrev pub IsOpen : Open B X → Type 0
+  IsOpen c = (o : machine.Open) × StandsFor c o
+
+  -- the innermost group is closed, among these groups around it
+  abbrev pub ClosesTo : Open B X → machine.Open → List machine.Frame → Type 0
+  ClosesTo c o [] = Unit {0}
+  ClosesTo c o (outer ∷ around) =
+      StandsFor c (record {
+        title = o.title;
+        frame = machine.with_item
+            (machine.closed o.frame) outer;
+        around = around;
+      })
+
+  -- a comma follows the last item now
+  abbrev pub TakesComma : Open B X → machine.Open → Type 0
+  TakesComma c o =
+      (u : machine.Open) × (machine.with_comma o o.frame.items ≡ Some (machine.inside u))
+      × StandsFor c u
 
 -- the turns that are still owed: one for each item of an open group, and one for each candidate
-abbrev pub owed : Open → ℕ
+abbrev pub owed : {B X : Type 0} → Open B X → ℕ
 owed c =
     length c.frame.items.items + sum_by
     (λ f. length f.items.items) c.around.items + candidate_count c.keys
@@ -145,19 +165,6 @@ shape_seen shape.Array = spec.an_array
 -- the items of a typed table's group are whole pairs
 abbrev pub IsTableWhole : machine.Frame → Type 0
 IsTableWhole f = f.body ≡ machine.table_body → is_pairs f.items ≡ true
-
--- the innermost group is closed, among these groups around it
-abbrev pub ClosesTo : Open → machine.Open → List machine.Frame → Type 0
-ClosesTo c o [] = Unit {0}
-ClosesTo c o (outer ∷ around) =
-    StandsFor c (record
-    { title = o.title; frame = machine.with_item (machine.closed o.frame) outer; around = around })
-
--- a comma follows the last item now
-abbrev pub TakesComma : Open → machine.Open → Type 0
-TakesComma c o =
-    (u : machine.Open) × (machine.with_comma o o.frame.items ≡ Some (machine.inside u))
-    × StandsFor c u
 
 -- no other group than this one is dropped now
 abbrev pub OthersStay : ℕ → Keys → Keys → Type 0

@@ -17,18 +17,27 @@ pub data SeenItem : Type 0 where
   string_shown : List ℕ → Bool → SeenItem
   group_shown : Tree → Bool → Bool → SeenItem
 
--- what a term of the code is as a resource
-abbrev pub tree_of_term : Term → Tree
+-- what a term of trees is as a resource
+abbrev pub tree_of_term : Term Resource → Tree
 tree_of_term (variant.String s) = string s.now
 tree_of_term (variant.Group r) = tree_of r
 
-abbrev pub code_term_seen : Term → Bool → SeenItem
-code_term_seen (variant.String s) f = string_shown s.now f
-code_term_seen (variant.Group r) f = group_shown (tree_of r) (borrows_strings r) f
+module _ {X : Type 0} (tree : X → Tree) (held : X → Bool) where
+  -- what a term shows, whose groups stand for trees
+  abbrev pub shown_term_by : Term X → Bool → SeenItem
+  shown_term_by (variant.String s) f = string_shown s.now f
+  shown_term_by (variant.Group x) f = group_shown (tree x) (held x) f
 
--- what an item of the code shows
-abbrev pub seen_in_code : Item → SeenItem
-seen_in_code x = code_term_seen x.term x.comma
+  -- what an item shows
+  abbrev pub shown_by : Item X → SeenItem
+  shown_by x = shown_term_by x.term x.comma
+
+abbrev pub code_term_seen : Term Resource → Bool → SeenItem
+code_term_seen = shown_term_by tree_of borrows_strings
+
+-- what an item of trees shows
+abbrev pub seen_in_code : Item Resource → SeenItem
+seen_in_code = shown_by tree_of borrows_strings
 
 abbrev pub term_seen : spec.Term → Bool → SeenItem
 term_seen (spec.string_term s) f = string_shown s f
@@ -44,7 +53,7 @@ shown_borrowed (string_shown s f) = true
 shown_borrowed (group_shown t b f) = b
 
 -- whether the strings of a term of the code are borrowed
-abbrev pub term_borrowed : Term → Bool
+abbrev pub term_borrowed : Term Resource → Bool
 term_borrowed (variant.String s) = true
 term_borrowed (variant.Group r) = borrows_strings r
 

@@ -1,6 +1,7 @@
 -- What one token does to the open groups.
 use Rattle.std.specs.Prelude.{◌≡◌, ℕ, ◌+◌, Bool, true, false, not, List, [], slice_index}
 use Rattle.resb_grammar.specs.Ascii as ascii
+use Rattle.resb_tree.specs.Tree.{Tree}
 use Rattle.resb_grammar.specs.Machine as machine
 use Rattle.resb_grammar.specs.Machine.{Body, table_body, array_body, untyped_body, named, inside}
 use Rattle.resb_grammar.specs.Machine.{At}
@@ -24,9 +25,10 @@ takes_group array_body key = true
 takes_group untyped_body key = true
 
 -- a reading that has made so many bytes stands here, among the items of these groups
-pub record Among (text : List ℕ) (at : ℕ) (c : Open) (bytes : ℕ) : Type 0 where
+pub record Among {B X : Type 0} (tree : B → X → Tree) (held : B → X → Bool) (text : List ℕ)
+    (at : ℕ) (c : Open B X) (bytes : ℕ) : Type 0 where
   pub open_groups : machine.Open
-  pub shows : StandsFor c open_groups
+  pub shows : StandsFor tree held c open_groups
   pub reached : At text at (inside open_groups)
   pub made : Makes text bytes at (inside open_groups)
 
@@ -49,9 +51,10 @@ abbrev pub TypingFails : List ℕ → ℕ → TextParserError → Type 0
 TypingFails text at e = (name : List ℕ) → At text at (named name) → Stuck text e.position e.expected
 
 -- the root may be closed here, by which so many bytes will be made
-pub record ClosesRoot (text : List ℕ) (at : ℕ) (c : Open) (bytes : ℕ) : Type 0 where
+pub record ClosesRoot {B X : Type 0} (tree : B → X → Tree) (held : B → X → Bool) (text : List ℕ)
+    (at : ℕ) (c : Open B X) (bytes : ℕ) : Type 0 where
   pub open_groups : machine.Open
-  pub shows : StandsFor c open_groups
+  pub shows : StandsFor tree held c open_groups
   pub reached : At text at (inside open_groups)
   pub before : ℕ
   pub made : Makes text before at (inside open_groups)

@@ -7,7 +7,7 @@ use Rattle.resb_text.proofs.QuotaLemmas.{quota_kept}
 use Rattle.resb_text.proofs.steps.typed.Goals as goal
 
 pub returns-then-not-takes_group-clause-err : goal.returns-then-not-takes_group-clause-err
-returns-then-not-takes_group-clause-err c =
+returns-then-not-takes_group-clause-err g c =
     rw c.new.ensures
     (type_refused c.args.turns.now.text c.args.groups.now c.args.at ascii.colon
     c.is_key_place-key_place.result c.takes_group.result _ c.requires.among
@@ -15,7 +15,7 @@ returns-then-not-takes_group-clause-err c =
     c.takes_group.ensures c.if-not-takes_group.true)
 
 pub returns-in_err-first-clause-err : goal.returns-in_err-first-clause-err
-returns-in_err-first-clause-err c =
+returns-in_err-first-clause-err g c =
     let p = err_from_is_err_and c.from_residual.result c.from_residual.ensures.1 in
     let may = may_stand c.args.turns.now.text c.args.groups.now c.args.at
     c.is_key_place-key_place.result c.takes_group.result c.requires.among
@@ -28,7 +28,7 @@ returns-in_err-first-clause-err c =
     c.in_err-first.ensures.err)
 
 pub returns-in_err-take-clause-quota : goal.returns-in_err-take-clause-quota
-returns-in_err-take-clause-quota c =
+returns-in_err-take-clause-quota g c =
     let may = may_stand c.args.turns.now.text c.args.groups.now c.args.at
     c.is_key_place-key_place.result c.takes_group.result c.requires.among
     c.is_key_place-key_place.ensures c.takes_group.ensures c.if-not-takes_group.false in
@@ -37,7 +37,7 @@ returns-in_err-take-clause-quota c =
     c.requires.among may c.in_ok-first.ensures.ok c.in-Some.ensures.some more)
 
 pub returns-in_err-open-clause-quota : goal.returns-in_err-open-clause-quota
-returns-in_err-open-clause-quota c =
+returns-in_err-open-clause-quota g c =
     let may = may_stand c.args.turns.now.text c.args.groups.now c.args.at
     c.is_key_place-key_place.result c.takes_group.result c.requires.among
     c.is_key_place-key_place.ensures c.takes_group.ensures c.if-not-takes_group.false in
@@ -46,7 +46,7 @@ returns-in_err-open-clause-quota c =
     c.requires.among may c.in_ok-first.ensures.ok c.in-Some.ensures.some more)
 
 pub returns-in-Some-clause-quota : goal.returns-in-Some-clause-quota
-returns-in-Some-clause-quota c =
+returns-in-Some-clause-quota g c =
     let may = may_stand c.args.turns.now.text c.args.groups.now c.args.at
     c.is_key_place-key_place.result c.takes_group.result c.requires.among
     c.is_key_place-key_place.ensures c.takes_group.ensures c.if-not-takes_group.false in
@@ -55,7 +55,7 @@ returns-in-Some-clause-quota c =
     c.requires.among may c.in_ok-first.ensures.ok c.in-Some.ensures.some more)
 
 pub returns-in-Some-clause-ok : goal.returns-in-Some-clause-ok
-returns-in-Some-clause-ok c =
+returns-in-Some-clause-ok g c =
     let may = may_stand c.args.turns.now.text c.args.groups.now c.args.at
     c.is_key_place-key_place.result c.takes_group.result c.requires.among
     c.is_key_place-key_place.ensures c.takes_group.ensures c.if-not-takes_group.false in
@@ -64,7 +64,7 @@ returns-in-Some-clause-ok c =
     c.in_ok-open.ensures.shows c.in_ok-take.ensures.made
 
 pub returns-in_err-next-clause-err : goal.returns-in_err-next-clause-err
-returns-in_err-next-clause-err c =
+returns-in_err-next-clause-err g c =
     let p = err_from_is_err_and c.from_residual-in_err-next.result
     c.from_residual-in_err-next.ensures.1 in
     let may = may_stand c.args.turns.now.text c.args.groups.now c.args.at
@@ -79,7 +79,7 @@ returns-in_err-next-clause-err c =
     (rw c.head.ensures.text at c.in_err-next.ensures.err))
 
 pub returns-in_err-take-2-clause-quota : goal.returns-in_err-take-2-clause-quota
-returns-in_err-take-2-clause-quota c =
+returns-in_err-take-2-clause-quota g c =
     let may = may_stand c.args.turns.now.text c.args.groups.now c.args.at
     c.is_key_place-key_place.result c.takes_group.result c.requires.among
     c.is_key_place-key_place.ensures c.takes_group.ensures c.if-not-takes_group.false in
@@ -89,7 +89,7 @@ returns-in_err-take-2-clause-quota c =
     (rw c.head.ensures.text at c.in_ok-next.ensures.ok) more)
 
 pub returns-in_err-add_leaf-clause-quota : goal.returns-in_err-add_leaf-clause-quota
-returns-in_err-add_leaf-clause-quota c =
+returns-in_err-add_leaf-clause-quota g c =
     let may = may_stand c.args.turns.now.text c.args.groups.now c.args.at
     c.is_key_place-key_place.result c.takes_group.result c.requires.among
     c.is_key_place-key_place.ensures c.takes_group.ensures c.if-not-takes_group.false in
@@ -99,7 +99,7 @@ returns-in_err-add_leaf-clause-quota c =
     (rw c.head.ensures.text at c.in_ok-next.ensures.ok) more)
 
 pub returns-clause-quota : goal.returns-clause-quota
-returns-clause-quota c =
+returns-clause-quota g c =
     let may = may_stand c.args.turns.now.text c.args.groups.now c.args.at
     c.is_key_place-key_place.result c.takes_group.result c.requires.among
     c.is_key_place-key_place.ensures c.takes_group.ensures c.if-not-takes_group.false in
@@ -109,7 +109,7 @@ returns-clause-quota c =
     (rw c.head.ensures.text at c.in_ok-next.ensures.ok) more)
 
 pub returns-clause-ok : goal.returns-clause-ok
-returns-clause-ok c =
+returns-clause-ok g c =
     let may = may_stand c.args.turns.now.text c.args.groups.now c.args.at
     c.is_key_place-key_place.result c.takes_group.result c.requires.among
     c.is_key_place-key_place.ensures c.takes_group.ensures c.if-not-takes_group.false in

@@ -4,6 +4,7 @@ use Rattle.resb_text.proofs.FramesLemmas.{pairs_then}
 use Rattle.resb_text.proofs.frames.Frame.is_pairs.Goals as goal
 
 pub returns-then-self : goal.returns-then-self
-returns-then-self c =
-    λ n f x. pairs_then f.items _ _ (ap (λ (l : FrameView). l.alternates) x) c.if-self.true
-    (c.is_key_place.ensures n f x)
+returns-then-self g c =
+    λ tree held n f x. pairs_then f.items _ _
+    (ap (λ (l : FrameView). l.alternates) x) c.if-self.true
+    (c.is_key_place.ensures tree held n f x)

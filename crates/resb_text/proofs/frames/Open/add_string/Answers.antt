@@ -13,18 +13,20 @@ abbrev one : List ℕ → ℕ → GroupText
 one s n = record { text = s; group = n }
 
 pub add-requires : goal.add-requires
-add-requires c =
+add-requires g c =
     let x = c.requires.1 in
     ap (λ n. is_dropped_in c.args.self.now.keys n)
     (c.in_ok-push.ensures.number ∙ ap (λ (l : FrameView). l.number) x.frame)
     ∙ x.are_open.1
 
 pub returns-then-lists_keys-clause-shows : goal.returns-then-lists_keys-clause-shows
-returns-then-lists_keys-clause-shows c =
-    on_ok_from {Q = (o : machine.Open) → StandsFor c.args.self.now o
-    → StandsFor _ (with_term (spec.string_term c.args.text.now) o)} _
+returns-then-lists_keys-clause-shows g c =
+    on_ok_from {Q = (o : machine.Open) → StandsFor g.B.Build.tree g.B.Build.held c.args.self.now o
+    → StandsFor g.B.Build.tree g.B.Build.held _ (with_term (spec.string_term c.args.text.now) o)} _
     (λ added. λ o x. shows_string c.args.self.now _ o
-    (terms.String c.args.text) c.args.text.now x refl c.in_ok-push.ensures.looks refl
+    (terms.String c.args.text) c.args.text.now x refl (λ y h. (refl, h))
+    (c.in_ok-push.ensures.looks (g.B.Build.tree c.args.self.now.build)
+    (g.B.Build.held c.args.self.now.build)) refl
     (ap (λ b. lists (group_body_of b)) (sym c.in_ok-push.ensures.body) ∙ sym c.lists_keys.ensures
     ∙ c.if-lists_keys.true) (added
     ∙ ap (λ n. left c.args.self.now.keys
@@ -32,8 +34,10 @@ returns-then-lists_keys-clause-shows c =
     c.add.ensures.left
 
 pub returns-clause-shows : goal.returns-clause-shows
-returns-clause-shows c =
+returns-clause-shows g c =
     λ o x. shows_item c.args.self.now _ o
-    (terms.String c.args.text) c.args.text.now x refl c.in_ok-push.ensures.looks refl
+    (terms.String c.args.text) c.args.text.now x refl (λ y h. (refl, h))
+    (c.in_ok-push.ensures.looks (g.B.Build.tree c.args.self.now.build)
+    (g.B.Build.held c.args.self.now.build)) refl
     (ap (λ b. lists (group_body_of b)) (sym c.in_ok-push.ensures.body) ∙ sym c.lists_keys.ensures
     ∙ c.if-lists_keys.false) refl

@@ -1,0 +1,99 @@
+-- What an open group shows stays while more is made of other groups.
+use Rattle.std.proofs.Common.{◌≡◌, ℕ, Bool, true, List, [], ◌∷◌, ◌++◌, refl, sym, ◌∙◌, ap, subst}
+use Rattle.std.specs.Prelude.{map, Result, Ok, Err, IfOk}
+use Rattle.std.proofs.lemmas.Bool.{and_parts}
+use Rattle.resb_tree.specs.Tree.{Tree}
+use Rattle.resb_tree.specs.Borrowing.{all_true}
+use Rattle.resb_grammar.specs.Items.{Shape}
+use Rattle.resb_grammar.specs.Machine as machine
+use Rattle.resb_grammar.specs.Machine.{shape_in}
+use Rattle.resb_text.specs.Inner.Build.{Stands, Grows}
+use Rattle.resb_text.specs.Inner.Shown.{group_shown, shown_by, shown_term_by, items_seen}
+use Rattle.resb_text.specs.Inner.Shown.{shown_borrowed}
+use Rattle.resb_text.specs.Inner.Frames.{view_of_code, view_of_frame, views_of_frames, FrameView}
+use Rattle.resb_text.specs.Inner.Frames.{NumberedFrame, with_number}
+use Rattle.resb_text.specs.Inner.Frames.{tree_shown_in}
+use Rattle.resb_text.specs.declared.error.TextParserError.{TextParserError}
+use Rattle.resb_text.specs.declared.frames.Frame.{Frame}
+use Rattle.resb_text.specs.declared.items.Item.{Item}
+use Rattle.resb_text.specs.declared.items.Term.{Term}
+use Rattle.resb_text.specs.declared.items.Term.TheVariants as terms
+use Rattle.resb_text.proofs.BorrowedLemmas.{items_borrowed}
+use Rattle.resb_text.proofs.FramesLemmas.{same_view}
+
+-- each is what some layer shows
+abbrev AreLooks : List FrameView → Type 0
+AreLooks [] = Unit {0}
+AreLooks (l ∷ ls) = ((g : NumberedFrame) × (l ≡ view_of_frame g)) × AreLooks ls
+
+looks_are : (gs : List NumberedFrame) → AreLooks (views_of_frames gs)
+looks_are [] = tt
+looks_are (g ∷ gs) = one_more (views_of_frames gs) (looks_are gs)
+  where
+    one_more : (ls : List FrameView) → AreLooks ls → AreLooks (ls ++ view_of_frame g ∷ [])
+    one_more [] h = ((g, refl), tt)
+    one_more (l ∷ ls) h = (h.0, one_more ls h.1)
+
+module _ {B X : Type 0} (tree : B → X → Tree) (held : B → X → Bool) (b d : B)
+    (grows : Grows tree held b d) where
+  grown_term : (m : Term X) (f : Bool)
+      → shown_borrowed (shown_term_by (tree b) (held b) m f) ≡ true
+      → shown_term_by (tree d) (held d) m f ≡ shown_term_by (tree b) (held b) m f
+  grown_term (terms.String s) f h = refl
+  grown_term (terms.Group x) f h =
+      let g = grows x h in
+      ap (λ t. group_shown t (held d x) f) g.0
+      ∙ ap (λ k. group_shown (tree b x) k f) (g.1 ∙ sym h)
+
+  grown_items : (xs : List (Item X))
+      → all_true (map shown_borrowed (map (shown_by (tree b) (held b)) xs)) ≡ true
+      → map (shown_by (tree d) (held d)) xs ≡ map (shown_by (tree b) (held b)) xs
+  grown_items [] h = refl
+  grown_items (x ∷ xs) h =
+      let parts = and_parts (shown_borrowed (shown_by (tree b) (held b) x)) _ h in
+      ap (λ y. y ∷ map (shown_by (tree d) (held d)) xs) (grown_term x.term x.comma parts.0)
+      ∙ ap (λ ys. shown_by (tree b) (held b) x ∷ ys) (grown_items xs parts.1)
+
+  -- an open group
+  pub grown : (f : Frame X) (g : NumberedFrame) → view_of_code (tree b) (held b) f ≡ view_of_frame g
+      → view_of_code (tree d) (held d) f ≡ view_of_frame g
+  grown f g e =
+      same_view (view_of_code (tree d) (held d) f) (view_of_frame g)
+      (ap (λ (l : FrameView). l.body) e)
+      (grown_items f.items.items (items_borrowed (tree b) (held b) f g.number g.frame e)
+      ∙ ap (λ (l : FrameView). l.items) e)
+      (ap (λ (l : FrameView). l.alternates) e) (ap (λ (l : FrameView). l.number) e)
+
+  same_all : (fs : List (Frame X)) → AreLooks (map (view_of_code (tree b) (held b)) fs)
+      → map (view_of_code (tree d) (held d)) fs ≡ map (view_of_code (tree b) (held b)) fs
+  same_all [] h = refl
+  same_all (f ∷ fs) h =
+      ap (λ l. l ∷ map (view_of_code (tree d) (held d)) fs) (grown f h.0.0 h.0.1 ∙ sym h.0.1)
+      ∙ ap (λ ls. view_of_code (tree b) (held b) f ∷ ls) (same_all fs h.1)
+
+  -- the open groups around it
+  pub all_grown : (fs : List (Frame X)) (gs : List NumberedFrame)
+      → map (view_of_code (tree b) (held b)) fs ≡ views_of_frames gs
+      → map (view_of_code (tree d) (held d)) fs ≡ views_of_frames gs
+  all_grown fs gs e = same_all fs (subst AreLooks (sym e) (looks_are gs)) ∙ e
+
+-- what is made of a closed group
+pub closed_made : {B X : Type 0} (tree : B → X → Tree) (held : B → X → Bool)
+    (r : Result X TextParserError) (b d : B) (c : Frame X) (sh : Shape)
+    → ((n : ℕ) (f : machine.Frame)
+    → view_of_code (tree b) (held b) c ≡ view_of_frame (with_number n f)
+    → sh ≡ shape_in f.body f.items)
+    → (all_true (map shown_borrowed (map (shown_by (tree b) (held b)) c.items.items)) ≡ true
+    → IfOk r (λ x. Stands tree held d x
+    (tree_shown_in sh (map (shown_by (tree b) (held b)) c.items.items))))
+    → IfOk r (λ x. (n : ℕ) (f : machine.Frame)
+    → view_of_code (tree b) (held b) c ≡ view_of_frame (with_number n f)
+    → Stands tree held d x (tree_shown_in (shape_in f.body f.items) (items_seen f.items)))
+closed_made tree held (Ok x) b d c sh is made = λ n f e.
+    let h = made (items_borrowed (tree b) (held b) c n f e) in (
+      h.0
+          ∙ ap (λ ys. tree_shown_in sh ys) (ap (λ (l : FrameView). l.items) e)
+          ∙ ap (λ k. tree_shown_in k (items_seen f.items)) (is n f e),
+      h.1,
+    )
+closed_made tree held (Err e) b d c sh is made = tt

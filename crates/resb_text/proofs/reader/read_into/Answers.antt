@@ -1,0 +1,53 @@
+use Rattle.std.proofs.Common.{◌≡◌, refl, arith, ◌∙◌, ap}
+use Rattle.resb_tree.specs.Borrowing.{is_slice}
+use Rattle.resb_text.specs.Borrowed.{borrows_strings}
+use Rattle.std.proofs.lemmas.Result.{err_from_is_err_and}
+use Rattle.resb_grammar.proofs.Making.{root_opened, root_over}
+use Rattle.resb_text.proofs.HeaderReading.{fails_no_bundle}
+use Rattle.resb_text.proofs.reader.read_into.Goals as goal
+
+pub returns-in_err-head-clause-no_bundle : goal.returns-in_err-head-clause-no_bundle
+returns-in_err-head-clause-no_bundle g c =
+    let p = err_from_is_err_and c.from_residual.result c.from_residual.ensures.1 in
+    rw (p.1, p.2) (fails_no_bundle _ _ c.in_err-head.ensures.err)
+
+pub returns-in_err-take-clause-quota : goal.returns-in_err-take-clause-quota
+returns-in_err-take-clause-quota g c =
+    let fresh = c.requires.fresh in
+    c.take.ensures.keeps _ c.requires.quota
+    (λ more. root_over _ _ _ _ _ c.in_ok-head.ensures.ok (omega (arith, fresh, more)))
+
+pub rest-requires : goal.rest-requires
+rest-requires g c = λ k.
+    let start = c.requires.room in
+    let fresh = c.requires.fresh in
+    let most = c.read_header.ensures.most in
+    let small = c.in_ok-head.ensures.small in
+    let made = c.in_ok-take.ensures.made in
+    let sum : c.take.new.self.made ≡ 72 = omega (arith, fresh, made) in (
+      (refl, tt),
+      (
+        omega (arith, start, most, small),
+        (
+          rw c.read_header.ensures.text c.in_ok-head.ensures.within,
+          (
+            rw (c.read_header.ensures.text, sum) (root_opened _ _ _ _ c.in_ok-head.ensures.ok),
+            rw c.read_header.ensures.text (c.take.ensures.keeps _ c.requires.quota
+                (λ more. root_over _ _ _ _ _ c.in_ok-head.ensures.ok (omega (arith, fresh, more)))),
+          ),
+        ),
+      ),
+    )
+
+pub returns-in_err-root-clause-no_bundle : goal.returns-in_err-root-clause-no_bundle
+returns-in_err-root-clause-no_bundle g c =
+    let p = err_from_is_err_and c.from_residual-in_err-root.result
+    c.from_residual-in_err-root.ensures.1 in
+    rw (p.1, p.2) (fails_no_bundle _ _ (rw c.read_header.ensures.text at c.in_err-root.ensures.err))
+
+pub returns-clause-ok : goal.returns-clause-ok
+returns-clause-ok g c =
+    rw c.read_header.ensures.text at c.in_ok-root.ensures.ok
+
+pub returns-clause-grows : goal.returns-clause-grows
+returns-clause-grows g c = omega (arith, c.read_header.ensures.grows, c.rest.ensures.grows)

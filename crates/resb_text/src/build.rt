@@ -1,0 +1,144 @@
+//! What the reader makes of groups once they are closed. Trees are one such thing.
+//! The open groups stand in `frames`, and the trees of their items are made in `items`.
+ghost use Rattle.std.specs.Prelude.{◌≡◌, ◌+◌, ◌^◌, ◌<◌, ◌≤◌, Bool, true, map, length};
+ghost use Rattle.std.specs.Prelude.{IfOk, IfErr, OnOk};
+ghost use Rattle.resb_tree.specs.Tree.{Tree, string, array, table, trees_of, map_of};
+ghost use Rattle.resb_tree.specs.View.{tree_of};
+ghost use Rattle.resb_tree.specs.Borrowing.{all_true};
+ghost use Rattle.resb_text.specs.Borrowed.{borrows_strings};
+ghost use Rattle.resb_text.specs.Refusal.{want_of_memory};
+ghost use Rattle.resb_text.specs.Inner.Build.{Stands, Grows};
+ghost use Rattle.resb_text.specs.Inner.Shown.{shown_by, seen_in_code, shown_tree, shown_pairs};
+ghost use Rattle.resb_text.specs.Inner.Shown.{shown_borrowed};
+ghost use Rattle.resb_tree.specs.declared.resource.Resource.{Resource};
+
+use crate::error::TextParserError;
+use crate::items::{Item, array_of, table_of};
+use crate::turns::Turns;
+use resb_tree::Resource;
+use std::alloc::Global;
+use std::borrow::CowStr;
+
+/// What can be made of groups, one after another, members first.
+pub(crate) trait Build<'a>: Sized + Drop {
+    /// What is made of a group.
+    type Made: Drop;
+
+    /// The tree for which it stands.
+    ghost tree: { Self → Self.Made → Tree };
+
+    /// Whether it was made here, and its strings are slices of the text.
+    ghost held: { Self → Self.Made → Bool };
+
+    /// A group without items.
+    fn leaf(&mut self, resource: Resource<'a>) -> Result<Self::Made, TextParserError>
+        requires { borrows_strings resource ≡ true }
+        ensures made { IfOk result
+            (λ x. Stands tree held self.new x (tree_of resource.entry)) }
+        ensures grows { OnOk result (Grows tree held self.old self.new) }
+        ensures err { IfErr result (λ e. e ≡ want_of_memory) };
+
+    /// An untyped group of one string.
+    fn string(&mut self, text: &'a str) -> Result<Self::Made, TextParserError>
+        ensures made { IfOk result (λ x. Stands tree held self.new x (string text.now)) }
+        ensures grows { OnOk result (Grows tree held self.old self.new) }
+        ensures err { IfErr result (λ e. e ≡ want_of_memory) };
+
+    /// The array of these items. Counts at most a turn for each.
+    fn array(
+        &mut self,
+        alloc: Global,
+        turns: &mut Turns<'_>,
+        items: Vec<Item<'a, Self::Made>>,
+    ) -> Result<Self::Made, TextParserError>
+        requires { turns.old.count < 2 ^ 98 }
+        ensures made { let xs = map (shown_by (tree self.old) (held self.old)) items.entry.items in
+            all_true (map shown_borrowed xs) ≡ true → IfOk result
+            (λ x. Stands tree held self.new x (array (trees_of (map shown_tree xs)))) }
+        ensures grows { OnOk result (Grows tree held self.old self.new) }
+        ensures err { IfErr result (λ e. e ≡ want_of_memory) }
+        ensures text { turns.new.text ≡ turns.old.text }
+        ensures grows_turns { turns.old.count ≤ turns.new.count }
+        ensures cost { turns.new.count ≤ turns.old.count + length items.entry.items };
+
+    /// The table of these items, which are a key, a group and so on. A later entry of an equal key
+    /// replaces the earlier one. Counts at most a turn for each item.
+    fn table(
+        &mut self,
+        alloc: Global,
+        turns: &mut Turns<'_>,
+        items: Vec<Item<'a, Self::Made>>,
+    ) -> Result<Self::Made, TextParserError>
+        requires { turns.old.count < 2 ^ 98 }
+        ensures made { let xs = map (shown_by (tree self.old) (held self.old)) items.entry.items in
+            all_true (map shown_borrowed xs) ≡ true → IfOk result
+            (λ x. Stands tree held self.new x (table (map_of (shown_pairs xs)))) }
+        ensures grows { OnOk result (Grows tree held self.old self.new) }
+        ensures err { IfErr result (λ e. e ≡ want_of_memory) }
+        ensures text { turns.new.text ≡ turns.old.text }
+        ensures grows_turns { turns.old.count ≤ turns.new.count }
+        ensures cost { turns.new.count ≤ turns.old.count + length items.entry.items };
+}
+
+/// Groups become resources, and nothing else is kept.
+#[derive(Drop)]
+pub(crate) struct Trees {}
+
+impl<'a> Build<'a> for Trees {
+    ghost use Rattle.resb_tree.specs.View.{tree_of};
+    ghost use Rattle.resb_text.specs.Borrowed.{borrows_strings};
+
+    type Made = Resource<'a>;
+
+    ghost tree = { λ b r. tree_of r };
+
+    ghost held = { λ b r. borrows_strings r };
+
+    fn leaf(&mut self, resource: Resource<'a>) -> Result<Resource<'a>, TextParserError> {
+        Ok(resource)
+    }
+
+    fn string(&mut self, text: &'a str) -> Result<Resource<'a>, TextParserError> {
+        Ok(Resource::String(CowStr::Borrowed(text)))
+    }
+
+    fn array(
+        &mut self,
+        alloc: Global,
+        turns: &mut Turns<'_>,
+        items: Vec<Item<'a, Resource<'a>>>,
+    ) -> Result<Resource<'a>, TextParserError>
+        requires { turns.old.count < 2 ^ 98 }
+        ensures made { let xs = map seen_in_code items.entry.items in
+            all_true (map shown_borrowed xs) ≡ true → IfOk result
+            (λ r. (tree_of r ≡ array (trees_of (map shown_tree xs))) × (borrows_strings r ≡ true)) }
+        ensures grows { OnOk result ((r : Resource) → borrows_strings r ≡ true
+            → (tree_of r ≡ tree_of r) × (borrows_strings r ≡ true)) }
+        ensures err { IfErr result (λ e. e ≡ want_of_memory) }
+        ensures text { turns.new.text ≡ turns.old.text }
+        ensures grows_turns { turns.old.count ≤ turns.new.count }
+        ensures cost { turns.new.count ≤ turns.old.count + length items.entry.items }
+    {
+        array_of(alloc, turns, items)
+    }
+
+    fn table(
+        &mut self,
+        alloc: Global,
+        turns: &mut Turns<'_>,
+        items: Vec<Item<'a, Resource<'a>>>,
+    ) -> Result<Resource<'a>, TextParserError>
+        requires { turns.old.count < 2 ^ 98 }
+        ensures made { let xs = map seen_in_code items.entry.items in
+            all_true (map shown_borrowed xs) ≡ true → IfOk result
+            (λ r. (tree_of r ≡ table (map_of (shown_pairs xs))) × (borrows_strings r ≡ true)) }
+        ensures grows { OnOk result ((r : Resource) → borrows_strings r ≡ true
+            → (tree_of r ≡ tree_of r) × (borrows_strings r ≡ true)) }
+        ensures err { IfErr result (λ e. e ≡ want_of_memory) }
+        ensures text { turns.new.text ≡ turns.old.text }
+        ensures grows_turns { turns.old.count ≤ turns.new.count }
+        ensures cost { turns.new.count ≤ turns.old.count + length items.entry.items }
+    {
+        table_of(alloc, turns, items)
+    }
+}

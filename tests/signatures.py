@@ -32,7 +32,7 @@ def sources():
 
 
 LIBRARIES = ["resb_tree", "resb_grammar", "resb_text", "resb_icu_text", "resb_format",
-             "resb_head", "resb_pool", "resb_print", "resb_walk", "resb_read", "resb_fields",
+             "resb_head", "resb_pool", "resb_print", "resb_icu_print", "resb_walk", "resb_read", "resb_fields",
              "resb_write"]
 
 

@@ -1,5 +1,5 @@
--- A written file is read back as its tree, and so is a compiled text; a text of a bundle is read
--- back as that bundle; and what isn't read as a tree denotes none.
+-- A written file is read back as its tree, and so is a compiled text; a text of a bundle, in either
+-- form, is read back as that bundle; and what isn't read as a tree denotes none.
 use Rattle.std.proofs.Common.{◌⊎◌, ℕ, List, Result, Ok, Err, inl, inr}
 use Rattle.std.specs.Result.{IfErr}
 use Rattle.resb_tree.specs.declared.resource.Resource.{Resource}
@@ -13,7 +13,8 @@ use Rattle.resb.specs.Headline.{DenotesNone}
 use Rattle.resb_tree.specs.Tree.{tree_count}
 use Rattle.resb_format.proofs.Denoting.{unique}
 use Rattle.resb_grammar.proofs.GrammarLaws.{one_bundle}
-use Rattle.resb.specs.Laws.{WrittenIsRead, CompiledIsRead, BundleTextIsRead}
+use Rattle.resb_icu_grammar.proofs.Groups.{one_icu_text}
+use Rattle.resb.specs.Laws.{WrittenIsRead, CompiledIsRead, BundleTextIsRead, IcuTextIsRead}
 
 pub written_is_read : WrittenIsRead
 written_is_read bytes t f ks (Ok r) w h = (unique (parts_of bytes) h.1.root.0 w.tree.root).0
@@ -40,3 +41,10 @@ bundle_text_is_read text name f t ks b (Ok r) h =
     (e.0, e.1, e.2)
 bundle_text_is_read text name f t ks b (Err e) (inl m) = m
 bundle_text_is_read text name f t ks b (Err e) (inr none) = absurd (none name f t ks b)
+
+pub icu_text_is_read : IcuTextIsRead
+icu_text_is_read text name f t ks b (Ok r) h =
+    let e = one_icu_text text _ _ _ _ _ _ _ _ h b in
+    (e.0, e.1, e.2)
+icu_text_is_read text name f t ks b (Err e) (inl m) = m
+icu_text_is_read text name f t ks b (Err e) (inr none) = absurd (none name f t ks b)

@@ -3,6 +3,7 @@
 --     WrittenIsRead           a file of a tree is read back as that tree, memory aside
 --     CompiledIsRead          a compiled text is read back as its tree, memory aside
 --     BundleTextIsRead        a text of a bundle is read back as that bundle, memory aside
+--     IcuTextIsRead           so is a text of ICU's form
 use Rattle.std.specs.Prelude.{◌≡◌, ◌≤◌, ◌⊎◌, ℕ, Bool, List, Result, Ok, Err}
 use Rattle.std.specs.declared.vec.Vec.{Vec}
 use Rattle.std.specs.declared.alloc.Global.{Global}
@@ -16,6 +17,10 @@ use Rattle.resb_grammar.specs.BundleText.{BundleText}
 use Rattle.resb_text.specs.Answer.{IsNoBundle}
 use Rattle.resb_text.specs.Refusal.{want_of_memory}
 use Rattle.resb_text.specs.declared.error.TextParserError.{TextParserError}
+use Rattle.resb_icu_grammar.specs.Bundle.{IcuText}
+use Rattle.resb_icu_text.specs.Answer.{IsNoIcuText}
+use Rattle.resb_icu_text.specs.Refusal as icu
+use Rattle.resb_icu_text.specs.declared.error.IcuTextError.{IcuTextError}
 use Rattle.resb_format.specs.Error.{IsWantOfMemory}
 use Rattle.resb_head.specs.File.{budget}
 use Rattle.resb_format.specs.declared.error.ReadingError.{ReadingError}
@@ -70,3 +75,25 @@ BundleTextIsRead =
     → BundleText text name fallback t keys
     → (r : Result (ResourceBundle × Vec Key Global) TextParserError) → AnswersText text r
     → IsBundleOf name fallback t r
+
+-- what reading a text of ICU's form promises: a bundle that the text is, or want of memory, or it
+-- is none
+abbrev pub AnswersIcuText : List ℕ → Result (ResourceBundle × Vec Key Global) IcuTextError → Type 0
+AnswersIcuText text (Ok r) =
+    IcuText text (name_of r.0) r.0.is_locale_fallback_enabled (root_of r.0) r.1.items
+AnswersIcuText text (Err e) = (e ≡ icu.want_of_memory) ⊎ IsNoIcuText text
+
+-- the answer is a bundle of this name, flag and tree, or memory was wanted
+abbrev pub IsIcuBundleOf : List ℕ → Bool → Tree
+    → Result (ResourceBundle × Vec Key Global) IcuTextError → Type 0
+IsIcuBundleOf name fallback t (Ok r) =
+    (name_of r.0 ≡ name) × (r.0.is_locale_fallback_enabled ≡ fallback) × (root_of r.0 ≡ t)
+IsIcuBundleOf name fallback t (Err e) = e ≡ icu.want_of_memory
+
+-- whatever reads a text of ICU's form answers the bundle that it is, memory aside
+abbrev pub IcuTextIsRead : Type 0
+IcuTextIsRead =
+    (text name : List ℕ) (fallback : Bool) (t : Tree) (keys : List (List ℕ))
+    → IcuText text name fallback t keys
+    → (r : Result (ResourceBundle × Vec Key Global) IcuTextError) → AnswersIcuText text r
+    → IsIcuBundleOf name fallback t r

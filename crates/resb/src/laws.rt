@@ -1,7 +1,7 @@
 //! The page of theorems: each law of the crates below, as a call that does nothing and whose
 //! contract is the law. What a single call promises stands with that call, and the few laws that
 //! the headline needs stand beside its calls, in `headline`.
-ghost use Rattle.resb.specs.Laws.{BundleTextIsRead, CompiledIsRead, WrittenIsRead};
+ghost use Rattle.resb.specs.Laws.{BundleTextIsRead, IcuTextIsRead, CompiledIsRead, WrittenIsRead};
 
 // Trees and integers.
 
@@ -41,6 +41,12 @@ pub use resb_icu_grammar::laws::one_icu_text;
 pub use resb_icu_grammar::laws::icu_keys_are_listed;
 // A text in which a reading gets stuck is no bundle in that form.
 pub use resb_icu_grammar::laws::icu_stuck_is_no_text;
+// A tree in whose way nothing stands is printed as a text of that form.
+pub use resb_icu_print::laws::printed_icu_is_a_bundle;
+// Nothing stands in the way of the tree of such a text.
+pub use resb_icu_print::laws::an_icu_text_gives_no_cause;
+// Such a printed text has at most 270 bytes a resource, and so much for each byte and number held.
+pub use resb_icu_print::laws::printed_icu_is_linear;
 
 // A tree in whose way nothing stands is printed as a bundle text.
 pub use resb_print::laws::printed_is_a_bundle;
@@ -133,6 +139,12 @@ pub use resb_head::laws::index_survives;
 /// A text of a bundle, as one that `print_text` gives, is read back as that bundle, memory aside.
 pub fn bundle_text_is_read()
     ensures { BundleTextIsRead }
+{}
+
+/// A text of a bundle in ICU's form, as one that `print_icu_text` gives, is read back as that
+/// bundle, memory aside.
+pub fn icu_text_is_read()
+    ensures { IcuTextIsRead }
 {}
 
 /// What was written of a tree is read back by `from_bytes::<Resource>` as that tree, memory aside.

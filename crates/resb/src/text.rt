@@ -1,9 +1,9 @@
 //! The text form: from a text to a bundle and its keys, with the counter of turns, and from a
-//! bundle to its text; and from a text of ICU's own form to a bundle and its keys, with a counter
-//! of its own.
+//! bundle to its text; and the same for texts of ICU's own form, with a counter of their own.
 //! The way on to a file is `compile`, or `compile_icu`, at the top.
 
 pub use resb_icu_grammar::IcuExpected;
+pub use resb_icu_print::{IcuCause, IcuPrintError, print_icu_text};
 pub use resb_icu_text::{IcuReader, IcuTextError, IcuTurns};
 pub use resb_print::{Cause, PathStep, PrintError, cause_path, print_text};
 pub use resb_text::{Expected, LimitError, Reader, TextParserError, Turns};

@@ -3,6 +3,8 @@
 #![tactic(auto)]
 
 #[cfg(test)]
+mod icu_print_rows;
+#[cfg(test)]
 mod print_rows;
 #[cfg(test)]
 mod report_rows;

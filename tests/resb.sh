@@ -249,6 +249,25 @@ Usage: resb compile --icu <FILE>...
 
 For more information, try \'--help\'.' compile --icu icu.txt --limit 1
 
+# a file's text in ICU's own form, which is compiled to the same file; and a file that has none
+told 0 $'icu{\n    a{"x\303\251y"}\n    e:array{}\n    p{"100%"}\n}' '' dump --icu icu.res
+printf 'marks:table(nofallback){"a b"{"\\\\\\"\\n"}""{"x"}}' > marks.txt
+told 0 '' '' compile --icu marks.txt
+marks=$'marks:table(nofallback){\n    ""{"x"}\n    "a b"{"\\\\\\"\\u000a"}\n}'
+told 0 "$marks" '' dump --icu marks.res
+printf '%s' "$marks" > again.txt
+told 0 '' '' compile --icu again.txt
+told 0 "${marks/marks/again}" '' dump --icu again.res
+printf 'keys{"a["{"x"}}' > keys.txt
+told 0 '' '' compile keys.txt
+told 0 '{"a[":"x"}' "keys.res: this has no text in ICU's form, since a key has a character \
+that may not stand in one; here is its JSON" dump --icu keys.res
+told 2 '' $'error: the argument \'--icu\' cannot be used with \'--json\'
+
+Usage: resb dump --icu <FILE>
+
+For more information, try \'--help\'.' dump --icu icu.res --json
+
 # several texts, one of them refused, into a folder that holds none of their files yet
 mkdir fresh
 told 1 '' $'open.txt:1:2: expected \'}\' before the text ends inside this\nb{\n ^' \

@@ -7,7 +7,7 @@ use crate::words::limit_of;
 use clap::ArgMatches;
 use resb::binary::{FormatVersion, measure};
 use resb::bundle::{Resource, ResourceBundle};
-use resb::text::{PrintError, print_text};
+use resb::text::{IcuPrintError, PrintError, print_icu_text, print_text};
 use resb_bundler::{
     Found, JsonError, Summary, count_file, find, json_text, read_file, read_file_within, summary_of,
 };
@@ -151,6 +151,9 @@ fn dump_file(rt: &HostRuntime, matches: &ArgMatches<'_>) -> Result<u8, u8> {
     let stem = Path::new(name).file_stem().unwrap_or("bundle");
     let bundle_name = if name == "-" { "bundle" } else { stem };
     let bundle = ResourceBundle::new(CowStr::Borrowed(bundle_name), tree, has_fallback);
+    if matches.get_flag("ICU") {
+        return Ok(show_icu(rt, name, &bundle));
+    }
     Ok(match print_text(rt.alloc(), &bundle) {
         Ok(text) => show(rt, text.as_str()),
         Err(PrintError::OutOfMemory) => refuse_memory(rt, name),
@@ -159,6 +162,20 @@ fn dump_file(rt: &HostRuntime, matches: &ArgMatches<'_>) -> Result<u8, u8> {
             show_json(rt, name, bundle.root())
         }
     })
+}
+
+/// Prints a bundle's text in ICU's form, or its JSON where it has none.
+fn show_icu(rt: &HostRuntime, name: &str, bundle: &ResourceBundle<'_>) -> u8 {
+    match print_icu_text(rt.alloc(), bundle) {
+        Ok(text) => show(rt, text.as_str()),
+        Err(IcuPrintError::OutOfMemory) => refuse_memory(rt, name),
+        Err(e) => {
+            let _ = eprintln!(rt;
+                "{name}: this has no text in ICU's form, since {e}; here is its JSON"
+            );
+            show_json(rt, name, bundle.root())
+        }
+    }
 }
 
 /// Prints a resource as JSON, with a line feed.

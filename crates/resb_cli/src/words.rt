@@ -70,12 +70,18 @@ fn dump<'a>(alloc: Global) -> Result<Command<'a>, Error> {
         .long("json")
         .help("Prints JSON in place of a text")
         .action(ArgAction::SetTrue);
+    let icu = Arg::new(alloc, "ICU")
+        .long("icu")
+        .help("Prints the text in ICU's own form, which genrb reads")
+        .action(ArgAction::SetTrue)
+        .conflicts_with("json")?;
     Ok(
         Command::new(alloc, "dump")
             .about("Prints the text of a .res file, or JSON where it has none")
             .after_help("Example: resb dump out/root.res")
             .arg(file(alloc))?
             .arg(json)?
+            .arg(icu)?
             .arg(limit(alloc))?,
     )
 }

@@ -13,7 +13,7 @@ use Rattle.resb_icu_grammar.proofs.Lexical.{word_first, joined_first}
 use Rattle.resb_icu_text.specs.declared.steps.Step.{Step}
 use Rattle.resb_icu_text.specs.declared.steps.Step.TheVariants as step
 use Rattle.resb_icu_text.specs.Inner.Reach.{reach}
-use Rattle.resb_icu_text.specs.Inner.Steps.{place, spent}
+use Rattle.resb_icu_text.specs.Inner.Steps.{stands_at, spent}
 
 chosen_low : (b : Bool) (n at : ℕ) → at ≤ n → at ≤ (if b then n else at)
 chosen_low true n at l = l
@@ -66,7 +66,7 @@ is_slash b = pick (b == ascii.slash) refl
     pick true e = inl (grind (arith, nat_tests, e))
     pick false e = inr (λ s. grind (arith, nat_tests, e, s))
 
--- where a word ends that begins at a place, a reading has looked no further than that word
+-- where a word ends that begins at a stands_at, a reading has looked no further than that word
 pub reach_word : (text : List ℕ) (from to : ℕ) → Run is_word text from to
     → reach text from + to ≤ length text + from
 reach_word text from to run = pick (is_slash (slice_index text from)) (from == to) refl
@@ -137,7 +137,7 @@ reach_number text from to v low n = by n
     by (minus m r h d l) = run r
 
 -- a reading that stands in the text has looked no further than the text goes
-pub spent_most : (text : List ℕ) (s : Step) → place s ≤ length text
+pub spent_most : (text : List ℕ) (s : Step) → stands_at s ≤ length text
     → spent text s ≤ 8 * length text + 3
 spent_most text (step.Members members last at) l = omega (arith, reach_high text at l)
 spent_most text (step.Entries entries at) l = omega (arith, reach_high text at l)

@@ -44,11 +44,6 @@ use Rattle.resb_icu_text.specs.Inner.Steps.{last_of, now, There, Steps, Stops}
 use Rattle.resb_icu_text.specs.Inner.Steps.{MembersThere, EntriesThere, GroupThere}
 use Rattle.resb_icu_text.specs.Inner.Steps.{UntypedThere, TypedThere, EndedThere, KeyAhead}
 
-pub both_hold : (a b : Bool) → a ≡ true → b ≡ true → (a && b) ≡ true
-both_hold true true h k = refl
-both_hold true false h k = k
-both_hold false b h k = h
-
 pub second_fails : (a b : Bool) → b ≡ false → (a && b) ≡ false
 second_fails true b k = k
 second_fails false b k = refl

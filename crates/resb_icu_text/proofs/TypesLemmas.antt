@@ -9,7 +9,7 @@ use Rattle.resb_icu_grammar.specs.Words.{Word, TypeName, GroupType, RootType, ta
 use Rattle.resb_icu_grammar.specs.Words.{no_fallback_type}
 use Rattle.resb_icu_grammar.proofs.Lexical.{GroupType-one}
 
--- where the byte is another, the bytes do not stand
+-- where the byte is other_byte, the bytes do not stand
 pub not_there : (text xs : List ℕ) (here i : ℕ) → i < length xs
     → (slice_get text here ≡ Some (get_or xs i 0) → ⊥) → Stands text here (drop i xs) → ⊥
 not_there text xs here i low never s =
@@ -23,15 +23,15 @@ past_end text here b l e =
     let low : here < length text = slice_get_within _ _ _ e in omega (arith, low)
 
 -- where another byte stands, this one does not
-pub another : (text : List ℕ) (here b : ℕ) → here < length text → slice_index text here ≢ b
+pub other_byte : (text : List ℕ) (here b : ℕ) → here < length text → slice_index text here ≢ b
     → slice_get text here ≡ Some b → ⊥
-another text here b l n e =
+other_byte text here b l n e =
     n (same_Some (get_or text here 0) b (sym (slice_get-get_or text here 0 l) ∙ e))
 
 -- the byte that stands there
-pub there : (text : List ℕ) (here b : ℕ) → here < length text → slice_index text here ≡ b
+pub byte_there : (text : List ℕ) (here b : ℕ) → here < length text → slice_index text here ≡ b
     → slice_get text here ≡ Some b
-there text here b l e = slice_get-get_or text here 0 l ∙ ap Some e
+byte_there text here b l e = slice_get-get_or text here 0 l ∙ ap Some e
 
 module _ (text : List ℕ) (at : ℕ) where
   -- where no word stands behind the colon, no type does

@@ -5,7 +5,7 @@ ghost use Rattle.std.specs.Prelude.{OnOk};
 ghost use Rattle.resb_icu_grammar.specs.Machine.{Comes};
 ghost use Rattle.resb_icu_grammar.specs.Stuck.{StuckFrom};
 ghost use Rattle.resb_icu_text.specs.Refusal.{want_of_memory};
-ghost use Rattle.resb_icu_text.specs.Inner.Steps.{shown, with_key, now, place, spent};
+ghost use Rattle.resb_icu_text.specs.Inner.Steps.{shown, with_key, now, stands_at, spent};
 ghost use Rattle.resb_icu_text.specs.Inner.Reading.{groups, keys, coming, Advances, spent_before};
 
 use crate::error::IcuTextError;
@@ -69,7 +69,7 @@ impl<'a> OpenGroups<'a> {
         step: Step<'a>,
         turns: &mut IcuTurns,
     ) -> Result<Next<'a>, IcuTextError>
-        requires within { place step ≤ length text.now }
+        requires within { stands_at step ≤ length text.now }
         ensures ok { IfOk result (λ next. Comes text.now
             (now (groups self.old) (keys self.old) step.entry) (coming self.new next)) }
         ensures err { IfErr result (λ e. (e ≡ want_of_memory) ⊎ StuckFrom text.now

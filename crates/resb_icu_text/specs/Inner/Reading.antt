@@ -17,7 +17,7 @@ use Rattle.resb_icu_text.specs.declared.steps.Step.{Step}
 use Rattle.resb_icu_text.specs.declared.open.OpenGroups.{OpenGroups}
 use Rattle.resb_icu_text.specs.declared.open.Next.{Next}
 use Rattle.resb_icu_text.specs.declared.open.Next.TheVariants as next
-use Rattle.resb_icu_text.specs.Inner.Steps.{shown, now, place, progress, spent}
+use Rattle.resb_icu_text.specs.Inner.Steps.{shown, now, stands_at, progress, spent}
 
 -- what is open, the innermost first, around what is open already
 abbrev pub around : List Waiting → List Open → List Waiting
@@ -39,7 +39,7 @@ coming g (next.Root r at) = reading [] (keys g) (behind_group (tree_of r)) at
 
 -- a reading stands in the text and further than it was, or behind its root
 abbrev pub Advances : List ℕ → Step → Next → Type 0
-Advances text before (next.Step s) = (place s ≤ length text) × (progress before < progress s)
+Advances text before (next.Step s) = (stands_at s ≤ length text) × (progress before < progress s)
 Advances text before (next.Root r at) = at ≤ length text
 
 -- how far a reading has looked where it goes on, or behind its root

@@ -96,15 +96,15 @@ progress (step.Group w at) = 3 * at + 2
 progress (step.Ended resource at) = 3 * at
 
 -- the place where a reading stands
-abbrev pub place : Step → ℕ
-place (step.Members members last at) = at
-place (step.Entries entries at) = at
-place (step.Group w at) = at
-place (step.Ended resource at) = at
+abbrev pub stands_at : Step → ℕ
+stands_at (step.Members members last at) = at
+stands_at (step.Entries entries at) = at
+stands_at (step.Group w at) = at
+stands_at (step.Ended resource at) = at
 
 -- a reading stands in the text, and further than it was
 abbrev pub Goes : List ℕ → ℕ → Step → Type 0
-Goes text before s = (place s ≤ length text) × (before < progress s)
+Goes text before s = (stands_at s ≤ length text) × (before < progress s)
 
 -- how far a reading has looked, eight for each byte, and up to three for what follows there
 abbrev pub spent : List ℕ → Step → ℕ

@@ -1,6 +1,7 @@
 use Rattle.std.proofs.Common.{arith, sym, ◌∙◌, ap, ◌++◌, ◌∷◌, []}
 use Rattle.resb_icu_text.proofs.StepsLemmas.{behind_member, behind_value, no_collation}
-use Rattle.resb_icu_text.proofs.StepsLemmas.{both_hold, first_fails, second_fails}
+use Rattle.std.specs.Cmp.Derive.{both_true}
+use Rattle.resb_icu_text.proofs.StepsLemmas.{first_fails, second_fails}
 use Rattle.resb_icu_text.proofs.ReachLemmas.{reach_low}
 use Rattle.resb_icu_text.proofs.steps.resume.Goals.{else-is_collation-via-then-is_collation+else-is_table}
 use Rattle.resb_icu_text.proofs.steps.resume.Goals.{else-is_collation-via-else-is_collation}
@@ -9,7 +10,7 @@ use Rattle.resb_icu_text.proofs.steps.resume.Goals as goal
 pub returns-then-is_table-clause-err : goal.returns-then-is_table-clause-err
 returns-then-is_table-clause-err c =
     rw c.in-Table.is (no_collation _ c.in-Table.entries c.in-Table.key c.args.resource _ _
-    c.new.ensures (both_hold _ _ (sym c.is_collation.ensures ∙ c.if-is_collation.true)
+    c.new.ensures (both_true (sym c.is_collation.ensures ∙ c.if-is_collation.true)
     (sym c.is_table.ensures ∙ c.if-is_table.true)))
 
 pub returns-in_ok-push-in-Array-clause-ok : goal.returns-in_ok-push-in-Array-clause-ok

@@ -2,7 +2,7 @@ use Rattle.std.proofs.Common.{◌≡◌, ◌<◌, ◌≤◌, length, arith, refl
 use Rattle.std.proofs.Common.{ap, Some}
 use Rattle.std.specs.Prelude.{slice_get}
 use Rattle.std.proofs.lemmas.Bool.{false≢true}
-use Rattle.resb_icu_text.proofs.TypesLemmas.{not_there, past_end, another, there}
+use Rattle.resb_icu_text.proofs.TypesLemmas.{not_there, past_end, other_byte, byte_there}
 use Rattle.resb_icu_text.proofs.types.stands.Goals.{then-here-all-via-then-here-all}
 use Rattle.resb_icu_text.proofs.types.stands.Goals.{then-here-all-via-else-here-all+then-all-here}
 use Rattle.resb_icu_text.proofs.types.stands.Goals as goal
@@ -20,7 +20,7 @@ returns-then-here-all-clause-stands c =
           past_end text here b low
       | then-here-all-via-else-here-all+then-all-here w ↦
           let low : here < length text = omega (arith, w.if-here-all.false, ap length same) in
-          another text here b low
+          other_byte text here b low
           (λ e. w.if-all-here.true (ap (λ l. get_or l here 0) same ∙ e))
     ] in (
       λ t. absurd (false≢true t),
@@ -40,5 +40,5 @@ loop-b-preserved c =
       here = omega (arith, c.loop-b.invariant.here);
       fits = omega (arith, low);
       rest = stands_next text c.args.bytes.now here c.loop-b.b-index _ _ c.loop-b-test.true refl
-          (there text here _ low e) c.loop-b.invariant.rest;
+          (byte_there text here _ low e) c.loop-b.invariant.rest;
     }

@@ -66,7 +66,7 @@ is_slash b = pick (b == ascii.slash) refl
     pick true e = inl (grind (arith, nat_tests, e))
     pick false e = inr (λ s. grind (arith, nat_tests, e, s))
 
--- where a word ends that begins at a stands_at, a reading has looked no further than that word
+-- where a word ends that begins at a place, a reading has looked no further than that word
 pub reach_word : (text : List ℕ) (from to : ℕ) → Run is_word text from to
     → reach text from + to ≤ length text + from
 reach_word text from to run = pick (is_slash (slice_index text from)) (from == to) refl

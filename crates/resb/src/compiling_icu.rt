@@ -60,7 +60,8 @@ pub fn compile_icu(alloc: Global, text: &str) -> Result<Vec<u8>, IcuCompileError
     // and its keys in the key block.
     ensures ok { IfOk result (λ file. IsIcuCompiled text.now file.items) }
     // A reading gets stuck at the error's place, where its item was expected, and the text is no
-    // bundle in ICU's form; or the writer refuses its tree for a named reason; or memory was wanted.
+    // bundle in ICU's form; or the writer refuses its tree for a named reason; or memory was
+    // wanted.
     ensures err { IfErr result (IsIcuRefused text.now) }
 {
     let (bundle, keys) = IcuReader::read(alloc, text)?;

@@ -12,9 +12,11 @@ use Rattle.resb_icu_grammar.specs.Bundle.{Header, Typing, without, with}
 use Rattle.resb_icu_grammar.specs.Groups.{TypedOpening}
 use Rattle.resb_icu_grammar.specs.Laws.{IcuStuckIsNoText}
 use Rattle.resb_icu_grammar.specs.Machine.{Waiting, Standing, Reading, BeginsGroup}
-use Rattle.resb_icu_grammar.specs.Stuck.{Blocked, EndBlocked, HeadStuck, Halts, StuckFrom, Stuck, at_root}
+use Rattle.resb_icu_grammar.specs.Stuck.{Blocked, EndBlocked, HeadStuck, Halts, StuckFrom, Stuck}
+use Rattle.resb_icu_grammar.specs.Stuck.{at_root}
 use Rattle.resb_icu_grammar.specs.Stuck.{a_collation, more_text, no_name, no_root_type}
-use Rattle.resb_icu_grammar.specs.Stuck.{no_root_brace, no_typed_brace, in_head, in_root, inside, behind}
+use Rattle.resb_icu_grammar.specs.Stuck.{no_root_brace, no_typed_brace, in_head, in_root, inside}
+use Rattle.resb_icu_grammar.specs.Stuck.{behind}
 use Rattle.resb_icu_grammar.specs.Stuck as stuck
 use Rattle.resb_icu_grammar.specs.declared.expected.IcuExpected.{IcuExpected}
 use Rattle.resb_icu_grammar.specs.Inner.Rest.{After, AtEnd, InEntries, Never}

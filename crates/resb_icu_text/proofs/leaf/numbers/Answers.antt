@@ -114,7 +114,8 @@ returns-then-byte-eq125-clause-cost c =
       c.skip-place.ensures.order,
       c.in_ok-here.ensures.cost,
       c.in_ok-here.ensures.within.0,
-      reach_right c.args.text.now c.in_ok-here.here (sym c.byte.ensures.byte ∙ c.if-byte-eq125.true),
+      reach_right c.args.text.now c.in_ok-here.here
+          (sym c.byte.ensures.byte ∙ c.if-byte-eq125.true),
     )
 
 pub returns-then-byte-eq125-clause-most : goal.returns-then-byte-eq125-clause-most
@@ -130,5 +131,6 @@ returns-then-byte-eq125-clause-most c =
       c.skip-place.ensures.order,
       c.in_ok-here.ensures.cost,
       c.in_ok-here.ensures.within,
-      reach_right c.args.text.now c.in_ok-here.here (sym c.byte.ensures.byte ∙ c.if-byte-eq125.true),
+      reach_right c.args.text.now c.in_ok-here.here
+          (sym c.byte.ensures.byte ∙ c.if-byte-eq125.true),
     )

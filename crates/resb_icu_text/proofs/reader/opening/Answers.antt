@@ -13,5 +13,6 @@ returns-then-byte-eq123-clause-cost c =
     omega (
       arith,
       c.in_ok-brace.ensures.cost,
-      reach_left c.args.text.now c.in_ok-brace.brace (sym c.byte.ensures.byte ∙ c.if-byte-eq123.true),
+      reach_left c.args.text.now c.in_ok-brace.brace
+          (sym c.byte.ensures.byte ∙ c.if-byte-eq123.true),
     )

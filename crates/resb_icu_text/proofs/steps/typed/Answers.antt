@@ -12,7 +12,8 @@ returns-in_default-clause-err c =
 
 pub returns-then-byte-ne123-clause-err : goal.returns-then-byte-ne123-clause-err
 returns-then-byte-ne123-clause-err c =
-    no_group_brace _ _ _ _ _ _ c.new-then-byte-ne123.ensures c.in-Some.ensures.found c.skip-brace.ensures.skip
+    no_group_brace _ _ _ _ _ _ c.new-then-byte-ne123.ensures c.in-Some.ensures.found
+    c.skip-brace.ensures.skip
     (λ e. c.if-byte-ne123.true (c.byte.ensures.byte ∙ e))
 
 pub returns-clause-ok : goal.returns-clause-ok

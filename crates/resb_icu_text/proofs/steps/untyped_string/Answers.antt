@@ -1,7 +1,8 @@
 use Rattle.std.proofs.Common.{arith, sym, ◌∙◌, inl, inr, ap, ◌++◌, ◌∷◌, []}
 use Rattle.resb_tree.specs.declared.resource.Resource.{String}
 use Rattle.resb_icu_text.proofs.StepsLemmas.{untyped_one, untyped_comma, untyped_key}
-use Rattle.resb_icu_text.proofs.StepsLemmas.{no_untyped, no_untyped_string, no_untyped_key, no_key, is_a_key}
+use Rattle.resb_icu_text.proofs.StepsLemmas.{no_untyped, no_untyped_string, no_untyped_key, no_key}
+use Rattle.resb_icu_text.proofs.StepsLemmas.{is_a_key}
 use Rattle.resb_icu_text.proofs.LengthLemmas.{string_short}
 use Rattle.resb_icu_text.proofs.ReachLemmas.{reach_right, reach_string, reach_low, reach_high}
 use Rattle.resb_icu_text.proofs.steps.untyped_string.Goals.{else-b-ne123-via-then-b-ne123+else-b-ne58}

@@ -249,6 +249,31 @@ Usage: resb compile --icu <FILE>...
 
 For more information, try \'--help\'.' compile --icu icu.txt --limit 1
 
+# each refusal of a text in ICU's form, at its column (docs/ICU_TEXTS.md)
+icu_row() {
+  printf '%s' "$1" > row.txt
+  told 1 '' "row.txt:1:$2: expected $3"$'\n'"$1"$'\n'"$(printf '%*s' $(($2 - 1)) '')^" \
+    compile --icu row.txt
+}
+icu_row '{' 1 'the name of the bundle'
+icu_row 'b:int{}' 2 "'table' or 'table(nofallback)'"
+icu_row 'b}' 2 "'{'"
+icu_row 'b{a}' 4 "'{' or a type"
+icu_row 'b{a:foo{}}' 4 'a type'
+icu_row 'b{a:string{}}' 12 'a string'
+icu_row 'b{a:string{"x",}}' 15 "'}'"
+icu_row 'b{a:bin{"0"}}' 9 'pairs of hex digits'
+icu_row 'b{a:int{x}}' 9 'a number'
+icu_row 'b{a{"\q"}}' 5 'a quoted string that is closed, with known escapes'
+icu_row 'b{a{,}}' 5 "a resource or '}'"
+icu_row 'b{a{"x" =}}' 9 "'}', a comma, '{' or a type"
+icu_row 'b{a{"\"" {}}}' 5 'a string that may be a key'
+icu_row 'b{a:array{"x" y}}' 15 'a comma between two strings'
+icu_row 'b{a{x}' 7 "a key or '}'"
+icu_row 'b{a{x} a{y}}' 12 'each key once in the table that ends here'
+icu_row 'b{collations{a{"x"}}}' 21 'no table with rules of collation'
+icu_row 'b{}x' 4 'the end of the text'
+
 # a file's text in ICU's own form, which is compiled to the same file; and a file that has none
 told 0 $'icu{\n    a{"x\303\251y"}\n    e:array{}\n    p{"100%"}\n}' '' dump --icu icu.res
 printf 'marks:table(nofallback){"a b"{"\\\\\\"\\n"}""{"x"}}' > marks.txt

@@ -8,7 +8,7 @@ bundle, and by `resb compile --icu`. Counted are texts that both refuse, that ge
 our words for it), that we alone take, and, where both take one, files that are equal, files of one
 tree and flag that differ (since genrb lets a key lie at the end of a longer one, or in another
 order), and files of different trees. A text that we alone take, or of another tree, is listed.
-Trees are compared as the JSON of `resb dump --json`. The status is 1 where anything is listed.
+Trees are compared as the texts of `resb dump --icu`. The status is 1 where anything is listed.
 """
 import collections
 import pathlib
@@ -27,9 +27,10 @@ def run(*words):
 
 
 def tree_of(file):
-    """A file's JSON and its flag."""
-    summary = run(PROGRAM, "check", file)[0]
-    return run(PROGRAM, "dump", "--json", file)[0], b"no fallback" in summary
+    """A file's tree and flag: its text in ICU's form behind the name, or its JSON without one."""
+    text, said, _ = run(PROGRAM, "dump", "--icu", file)
+    name = pathlib.Path(file).stem.encode()
+    return text.removeprefix(name), said.split(": ", 1)[-1]
 
 
 def words_of(said):

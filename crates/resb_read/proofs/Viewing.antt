@@ -10,14 +10,14 @@ use Rattle.resb_format.specs.Error.{Refusal, IsWrongLength}
 use Rattle.resb_format.specs.declared.error.ReadingError.{ReadingError}
 use Rattle.resb_walk.specs.BlockRefusals.{Says}
 use Rattle.resb_read.specs.Places.{Place}
-use Rattle.resb_read.specs.Reading.{Lacks, IsThere, SomeRead}
+use Rattle.resb_read.specs.Reading.{Lacks, CountsThere}
 use Rattle.resb_read.specs.Reading.{any}
 use Rattle.resb_read.specs.Leaves.{CountsBytes, bytes_from}
 use Rattle.resb_read.specs.PlaceRefusals.{bytes_refusal}
 use Rattle.resb_read.specs.PlaceRefusals.{are_paid, view_refusal}
 
 unpaid : (there : Option (List ℕ × ℕ)) (left : ℕ) (wrong other : Refusal)
-    → Lacks (SomeRead (IsThere any there)) left
+    → Lacks (CountsThere any there) left
     → (if are_paid there left then wrong else other) ≡ other
 unpaid None left wrong other lacks = refl
 unpaid (Some (x, n)) left wrong other lacks = either (nat_le n left) refl

@@ -11,7 +11,7 @@ use Rattle.resb_format.specs.Parts.{Parts}
 use Rattle.resb_format.specs.Content.{behind_count}
 use Rattle.resb_format.specs.Types as types
 use Rattle.resb_read.specs.Places.{Place}
-use Rattle.resb_read.specs.Reading.{IsThere, SomeRead}
+use Rattle.resb_read.specs.Reading.{IsThere, CountsThere}
 use Rattle.resb_read.specs.Reading.{any}
 use Rattle.resb_read.specs.declared.cursor.Spot.{Spot}
 use Rattle.resb_read.specs.declared.cursor.Spot.TheVariants as spot
@@ -57,7 +57,7 @@ ReadsSigned low high p x n = IsThere (LiesInRange low high) (signed_at p.at) x n
 
 -- a number with a sign stands there that is within the bounds of its type, and takes n
 abbrev pub CountsSigned : ℤ → ℤ → Place → ℕ → Type 0
-CountsSigned low high p n = SomeRead (ReadsSigned low high p) n
+CountsSigned low high p n = CountsThere (LiesInRange low high) (signed_at p.at) n
 
 -- a number without a sign stands there, and is at most the greatest of its type
 abbrev pub ReadsUnsigned : ℕ → Place → ℕ → ℕ → Type 0
@@ -65,7 +65,7 @@ ReadsUnsigned high p x n = IsThere (λ x. x ≤ high) (unsigned_at p.at) x n
 
 -- a number without a sign stands there that is at most the greatest of its type, and takes n
 abbrev pub CountsUnsigned : ℕ → Place → ℕ → Type 0
-CountsUnsigned high p n = SomeRead (ReadsUnsigned high p) n
+CountsUnsigned high p n = CountsThere (λ x. x ≤ high) (unsigned_at p.at) n
 
 -- this bool stands there
 abbrev pub ReadsBool : Place → Bool → ℕ → Type 0
@@ -73,7 +73,7 @@ ReadsBool p x n = IsThere any (bool_at p.at) x n
 
 -- a bool stands there, and takes n
 abbrev pub CountsBool : Place → ℕ → Type 0
-CountsBool p n = SomeRead (ReadsBool p) n
+CountsBool p n = CountsThere any (bool_at p.at) n
 
 -- the 28 bits of an Int
 abbrev pub bits_at : Spot → Option (ℕ × ℕ)
@@ -86,7 +86,7 @@ ReadsBits p x n = IsThere any (bits_at p.at) x n
 
 -- some 28 bits stand there
 abbrev pub CountsBits : Place → ℕ → Type 0
-CountsBits p n = SomeRead (ReadsBits p) n
+CountsBits p n = CountsThere any (bits_at p.at) n
 
 -- the text of the string that a descriptor leads to; a descriptor of another type has none
 abbrev pub described_text : Parts → ℕ → Option (List ℕ)
@@ -107,7 +107,7 @@ ReadsText p x n = IsThere any (text_from p.parts p.at) x n
 
 -- a text stands there, and takes n
 abbrev pub CountsText : Place → ℕ → Type 0
-CountsText p n = SomeRead (ReadsText p) n
+CountsText p n = CountsThere any (text_from p.parts p.at) n
 
 -- the key at a spot, for no resource, if one stands there
 abbrev pub key_from : Parts → Spot → Option (List ℕ × ℕ)
@@ -120,7 +120,7 @@ ReadsKey p x n = IsThere any (key_from p.parts p.at) x n
 
 -- a key that is a text stands there, and takes n
 abbrev pub CountsKey : Place → ℕ → Type 0
-CountsKey p n = SomeRead (ReadsKey p) n
+CountsKey p n = CountsThere any (key_from p.parts p.at) n
 
 -- n items of so many bytes each, where word v is n and they follow it
 abbrev pub counted_bytes : Parts → ℕ → ℕ → Option (List ℕ)
@@ -149,7 +149,7 @@ ReadsBytes p x n = IsThere any (bytes_from p.parts p.at) x n
 
 -- bytes stand there, and take n
 abbrev pub CountsBytes : Place → ℕ → Type 0
-CountsBytes p n = SomeRead (ReadsBytes p) n
+CountsBytes p n = CountsThere any (bytes_from p.parts p.at) n
 
 -- bytes that are whole items of so many bytes each
 abbrev pub ReadsView : ℕ → Place → List ℕ → ℕ → Type 0
@@ -157,4 +157,4 @@ ReadsView each p b n = IsThere (λ b. length b % each ≡ 0) (bytes_from p.parts
 
 -- some bytes stand there whose number is a multiple of an item's
 abbrev pub CountsView : ℕ → Place → ℕ → Type 0
-CountsView each p n = SomeRead (ReadsView each p) n
+CountsView each p n = CountsThere (λ b. length b % each ≡ 0) (bytes_from p.parts p.at) n

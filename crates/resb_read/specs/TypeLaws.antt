@@ -5,7 +5,7 @@ use Rattle.std.specs.Prelude.{◌+◌, IsSomeAnd}
 use Rattle.std.proofs.Common.{sym, ap, ◌∙◌, subst, arith}
 use Rattle.std.proofs.lemmas.Option.{same_Some}
 use Rattle.resb_read.specs.Places.{Place}
-use Rattle.resb_read.specs.Reading.{any, IsThere, SomeRead}
+use Rattle.resb_read.specs.Reading.{any, IsThere, CountsThere}
 use Rattle.resb_read.specs.Leaves.{LiesInRange, signed_at, unsigned_at, bool_at, bits_at, text_from}
 use Rattle.resb_read.specs.Leaves.{key_from, bytes_from, ReadsSigned, CountsSigned, ReadsUnsigned}
 use Rattle.resb_read.specs.Leaves.{CountsUnsigned, ReadsBool, CountsBool, ReadsBits, CountsBits}
@@ -23,7 +23,7 @@ use Rattle.resb_read.specs.declared.cursor.Spot.{Spot}
 use Rattle.resb_read.specs.declared.cursor.Spot.TheVariants as spot
 
 module _ {X : Type 0} (fits : X → Type 0) (there : Option (X × ℕ)) where
-  there_counted : (x : X) (n : ℕ) → IsThere fits there x n → SomeRead (IsThere fits there) n
+  there_counted : (x : X) (n : ℕ) → IsThere fits there x n → CountsThere fits there n
   there_counted x n h = (x, h)
 
   count_of : Option (X × ℕ) → ℕ
@@ -34,7 +34,7 @@ module _ {X : Type 0} (fits : X → Type 0) (there : Option (X × ℕ)) where
   unfolding count_of
   same_count e f = sym (ap count_of e) ∙ ap count_of f
 
-  there_one : (m n : ℕ) → SomeRead (IsThere fits there) m → SomeRead (IsThere fits there) n → m ≡ n
+  there_one : (m n : ℕ) → CountsThere fits there m → CountsThere fits there n → m ≡ n
   there_one m n h k = same_count h.1.1 k.1.1
 
 pub signed_counted : (low high : ℤ) (p : Place) (x : ℤ) (n : ℕ) → ReadsSigned low high p x n

@@ -16,7 +16,8 @@ use Rattle.resb.specs.declared.compiling.CompileError.TheVariants.{Writing}
 use Rattle.resb_grammar.proofs.Listed.{listed}
 use Rattle.resb_icu_grammar.specs.Bundle.{IcuText}
 use Rattle.resb_icu_grammar.proofs.Listed.{listed as icu_listed}
-use Rattle.resb.specs.CompilingIcu.{IsIcuRefused, IsIcuUnwritable}
+use Rattle.resb_icu_text.specs.declared.error.IcuTextError.{IcuTextError}
+use Rattle.resb.specs.CompilingIcu.{IsIcuRefused, IsIcuUnreadable, IsIcuUnwritable}
 use Rattle.resb.specs.declared.compiling_icu.IcuCompileError.{IcuCompileError}
 use Rattle.resb.specs.declared.compiling_icu.IcuCompileError.TheVariants as icu
 
@@ -68,3 +69,10 @@ pub icu_writing_refused : {X : Type 0} (text name : List ℕ) (fallback : Bool) 
 icu_writing_refused text name fallback t ks e b h (Ok x) is = tt
 icu_writing_refused text name fallback t ks e b h (Err made) is =
     subst (IsIcuRefused text) (sym is) (icu_unwritable text name fallback t ks e b h)
+
+-- what the reader refuses is refused for its reason
+pub icu_reading_refused : {X : Type 0} (text : List ℕ) (e : IcuTextError) → IsIcuUnreadable text e
+    → (r : Result X IcuCompileError) → IsErrAnd r (λ made. made ≡ icu.Reading e)
+    → IfErr r (IsIcuRefused text)
+icu_reading_refused text e h (Ok x) is = tt
+icu_reading_refused text e h (Err made) is = subst (IsIcuRefused text) (sym is) h

@@ -3,7 +3,7 @@ use Rattle.resb_tree.specs.Bundle.{name_of, root_of}
 use Rattle.resb_layout.specs.Written.{Written}
 use Rattle.resb_layout.specs.TreeFaults.{RefusesWriting}
 use Rattle.resb_write.specs.FaultOf.{fault_of}
-use Rattle.resb.proofs.Reasons.{icu_writing_refused}
+use Rattle.resb.proofs.Reasons.{icu_writing_refused, icu_reading_refused}
 use Rattle.resb.proofs.compiling_icu.compile_icu.Goals as goal
 
 pub returns-clause-ok : goal.returns-clause-ok
@@ -36,3 +36,10 @@ returns-in_err-file-clause-err c =
     icu_writing_refused c.args.text.now
     (name_of bundle) bundle.is_locale_fallback_enabled t keys e b
     h r.result r.ensures.1
+
+pub returns-in_err-bundle-clause-err : goal.returns-in_err-bundle-clause-err
+returns-in_err-bundle-clause-err c =
+    let e = c.in_err-bundle.ensures in
+    icu_reading_refused c.args.text.now c.in_err-bundle.field-0.0
+    (record { fails = e.err; no_bundle = e.no_text }) c.from_residual.result
+    c.from_residual.ensures.1

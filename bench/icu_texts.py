@@ -1,17 +1,22 @@
 #!/usr/bin/env python3
 """Real texts beside ICU's genrb: compiles each text below a folder with both, and counts.
 
-    icu_texts.py FOLDER
+    icu_texts.py [--back] FOLDER
 
 A text is a file whose name ends with .txt. It is compiled by `genrb -e UTF-8 -C` without a pool
 bundle, and by `resb compile --icu`. Counted are texts that both refuse, that genrb alone takes (by
 our words for it), that we alone take, and, where both take one, files that are equal, files of one
 tree and flag that differ (since genrb lets a key lie at the end of a longer one, or in another
 order), and files of different trees. A text that we alone take, or of another tree, is listed.
-Trees are compared as the texts of `resb dump --icu`. The status is 1 where anything is listed.
+Trees are compared as the texts of `resb dump --icu`, and where genrb's file holds strings of the
+older form, which `resb` refuses, as the prints of ICU's derb. The last line but what is listed says
+how much processor time all processes of each program took. With --back each file that we make is
+printed by `resb dump --icu` too, that print is compiled by genrb, and the two trees are compared;
+what comes back otherwise is listed. The status is 1 where anything is listed.
 """
 import collections
 import pathlib
+import resource
 import subprocess
 import sys
 import tempfile
@@ -26,11 +31,30 @@ def run(*words):
     return ended.stdout, ended.stderr.decode("utf-8", "replace"), ended.returncode == 0
 
 
+def processor_time():
+    """The seconds of processor that the programs took which have ended."""
+    used = resource.getrusage(resource.RUSAGE_CHILDREN)
+    return used.ru_utime + used.ru_stime
+
+
 def tree_of(file):
-    """A file's tree and flag: its text in ICU's form behind the name, or its JSON without one."""
-    text, said, _ = run(PROGRAM, "dump", "--icu", file)
-    name = pathlib.Path(file).stem.encode()
-    return text.removeprefix(name), said.split(": ", 1)[-1]
+    """A file's tree and flag: its text in ICU's form behind the name. None where it has none."""
+    text, _, printed = run(PROGRAM, "dump", "--icu", file)
+    return text.removeprefix(file.stem.encode()) if printed else None
+
+
+def derb_print(file):
+    """What derb prints of a file behind its name."""
+    text = run("derb", "-A", "-c", "-s", file.parent, file.name)[0]
+    return text.partition(b"\n%s" % file.stem.encode())[2]
+
+
+def is_one_tree(ours, theirs):
+    """Whether two files have one tree and flag."""
+    one, other = tree_of(ours), tree_of(theirs)
+    if one is None or other is None:
+        one, other = derb_print(ours), derb_print(theirs)
+    return one == other != b""
 
 
 def words_of(said):
@@ -38,13 +62,17 @@ def words_of(said):
     return said.split("\n")[0].split(": ", 1)[-1]
 
 
-def compare(text, folder):
-    """What comes of a text."""
+def compare(text, folder, took):
+    """What comes of a text. Adds what each program took."""
     ours, below = folder / "ours.res", folder / "theirs"
     for old in [ours, *below.glob("*.res")]:
         old.unlink(missing_ok=True)
+    start = processor_time()
     said, taken = run(PROGRAM, "compile", "--icu", text, "-o", ours)[1:]
+    middle = processor_time()
     run("genrb", "-q", "-e", "UTF-8", "-C", "-d", below, text)
+    took["resb"] += middle - start
+    took["genrb"] += processor_time() - middle
     theirs = next(below.glob("*.res"), None)
     if theirs is None:
         return "taken here alone" if taken else "refused by both"
@@ -52,27 +80,49 @@ def compare(text, folder):
         return "refused here alone: " + words_of(said)
     if ours.read_bytes() == theirs.read_bytes():
         return "equal files"
-    if tree_of(ours) != tree_of(theirs):
+    if not is_one_tree(ours, theirs):
         return "different trees"
     shorter = theirs.stat().st_size < ours.stat().st_size
     return "equal trees, genrb's keys share endings" if shorter else "equal trees, other order"
 
 
-def main(folder):
+def comes_back(folder):
+    """Whether genrb makes of our print of our file a file of the same tree."""
+    ours, below = folder / "ours.res", folder / "theirs"
+    for old in below.glob("*.res"):
+        old.unlink()
+    print_of_ours = folder / "back.txt"
+    print_of_ours.write_bytes(run(PROGRAM, "dump", "--icu", ours)[0])
+    run("genrb", "-q", "-e", "UTF-8", "-C", "-d", below, print_of_ours)
+    theirs = next(below.glob("*.res"), None)
+    return theirs is not None and is_one_tree(ours, theirs)
+
+
+def main(words):
+    asks_back = words[:1] == ["--back"]
+    folder = words[-1]
     counts = collections.Counter()
+    took = collections.Counter()
     listed = []
     with tempfile.TemporaryDirectory() as made:
         (pathlib.Path(made) / "theirs").mkdir()
         for text in sorted(pathlib.Path(folder).rglob("*.txt")):
-            what = compare(text, pathlib.Path(made))
+            what = compare(text, pathlib.Path(made), took)
             counts[what] += 1
             if what in ("taken here alone", "different trees"):
                 listed.append("%s: %s" % (what, text))
+            if asks_back and (pathlib.Path(made) / "ours.res").exists():
+                is_back = comes_back(pathlib.Path(made))
+                counts["prints that genrb reads as the same tree" if is_back
+                       else "prints that genrb reads otherwise"] += 1
+                if not is_back:
+                    listed.append("another tree by genrb of our print: %s" % text)
     for what, count in counts.most_common():
         print("%6d  %s" % (count, what))
+    print("resb took %.2f s of processor, genrb %.2f" % (took["resb"], took["genrb"]))
     print(*listed, sep="\n")
     return 1 if listed else 0
 
 
 if __name__ == "__main__":
-    sys.exit(main(*sys.argv[1:]))
+    sys.exit(main(sys.argv[1:]))

@@ -130,7 +130,11 @@ def main(words):
             names.append(word)
     with tempfile.TemporaryDirectory() as temporary:
         folder = pathlib.Path(temporary)
-        for name, path in make(folder).items():
+        # by a process of its own, since a process counts the memory of the one that started it
+        subprocess.run([sys.executable, __file__, '--make', temporary],
+                       stdout=subprocess.DEVNULL, check=True)
+        for name in TEXTS:
+            path = folder / f'{name}.txt'
             if names and name not in names:
                 continue
             beside, most, status = least(['genrb', '-q', '-d', temporary, str(path)], turns)

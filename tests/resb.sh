@@ -286,7 +286,7 @@ told 0 "${marks/marks/again}" '' dump --icu again.res
 printf 'keys{"a["{"x"}}' > keys.txt
 told 0 '' '' compile keys.txt
 told 0 '{"a[":"x"}' "keys.res: this has no text in ICU's form, since a key has a character \
-that may not stand in one; here is its JSON" dump --icu keys.res
+that may not stand in one at a[; here is its JSON" dump --icu keys.res
 told 2 '' $'error: the argument \'--icu\' cannot be used with \'--json\'
 
 Usage: resb dump --icu <FILE>

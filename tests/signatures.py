@@ -31,9 +31,10 @@ def sources():
     yield "resb", CRATES / "resb" / "src" / "laws.rt"
 
 
-LIBRARIES = ["resb_tree", "resb_grammar", "resb_text", "resb_icu_text", "resb_format",
-             "resb_head", "resb_pool", "resb_print", "resb_icu_print", "resb_walk", "resb_read", "resb_fields",
-             "resb_write"]
+LIBRARIES = ["resb_tree", "resb_draft", "resb_grammar", "resb_icu_grammar",
+             "resb_text", "resb_icu_text",
+             "resb_format", "resb_head", "resb_pool", "resb_print", "resb_icu_print", "resb_walk",
+             "resb_read", "resb_fields", "resb_write"]
 
 
 def exports(path, crate="resb"):
@@ -133,7 +134,7 @@ def rows_of(library, crate, name):
     for _, lines, at in library.methods.get(name, []):
         rows.append((f"{name}: " + signature(lines, at), sentence(lines, at)))
     traits = [trait for trait in library.traits_of(crate, name)
-              if not trait.startswith(("Drop", "Error", "MadeWith", "Model"))]
+              if not trait.startswith(("AsNode", "Drop", "Error", "MadeWith", "Model"))]
     if traits:
         rows.append((f"{name}: " + ", ".join(dict.fromkeys(traits)), "The traits that it has."))
     into = library.into.get(name, [])

@@ -1,4 +1,5 @@
 //! From a text to the bytes of its file: the reader, and then the writer with the discovered keys.
+//! No tree is made in between, but a draft of one.
 //! What a text and a file are, and each half of the way, is in the crates below.
 ghost use Rattle.std.specs.Prelude.{Some, IfOk, IfErr};
 ghost use Rattle.resb_grammar.specs.Limit.{MadeWithin};
@@ -64,8 +65,9 @@ pub fn compile(alloc: Global, text: &str) -> Result<Vec<u8>, CompileError>
     // named reason or for memory.
     ensures err { IfErr result (IsRefused text.now) }
 {
-    let (bundle, keys) = Reader::read(alloc, text)?;
-    let file = Serializer::to_bytes(alloc, &bundle, keys.as_slice())?;
+    let (bundle, keys) = Reader::read_draft(alloc, text)?;
+    let fallback = bundle.is_locale_fallback_enabled;
+    let file = Serializer::draft_to_bytes(alloc, &bundle.root, fallback, keys.as_slice())?;
     Ok(file)
 }
 
@@ -100,12 +102,13 @@ pub fn compile_within(alloc: Global, text: &str, limit: u64) -> Result<Vec<u8>, 
     ensures within { IfOk result (λ file. MadeWithin text.now limit) }
     ensures err { IfErr result (IsRefusedWithin text.now limit) }
 {
-    let (bundle, keys) = match Reader::read_within(alloc, text, limit) {
+    let (bundle, keys) = match Reader::read_draft_within(alloc, text, limit) {
         Ok(read) => read,
         Err(LimitError::Text(e)) => return Err(CompileWithinError::Text(CompileError::Reading(e))),
         Err(LimitError::Larger) => return Err(CompileWithinError::Larger),
     };
-    match Serializer::to_bytes(alloc, &bundle, keys.as_slice()) {
+    let fallback = bundle.is_locale_fallback_enabled;
+    match Serializer::draft_to_bytes(alloc, &bundle.root, fallback, keys.as_slice()) {
         Ok(file) => Ok(file),
         Err(e) => Err(CompileWithinError::Text(CompileError::Writing(e))),
     }

@@ -41,10 +41,16 @@ pub use resb_icu_grammar::laws::one_icu_text;
 pub use resb_icu_grammar::laws::icu_keys_are_listed;
 // A text in which a reading gets stuck is no bundle in that form.
 pub use resb_icu_grammar::laws::icu_stuck_is_no_text;
+// A text in which a reading gets stuck does so at one place, where one thing is expected.
+pub use resb_icu_grammar::laws::one_icu_refusal;
+// The steps of a reading lead to the end of a text exactly where it is a bundle in that form.
+pub use resb_icu_grammar::laws::icu_machine_reads_the_form;
 // A tree in whose way nothing stands is printed as a text of that form.
 pub use resb_icu_print::laws::printed_icu_is_a_bundle;
 // Nothing stands in the way of the tree of such a text.
 pub use resb_icu_print::laws::an_icu_text_gives_no_cause;
+// A bundle has a path to what keeps it from having one exactly where something does.
+pub use resb_icu_print::laws::icu_causes_have_paths;
 // Such a printed text has at most 270 bytes a resource, and so much for each byte and number held.
 pub use resb_icu_print::laws::printed_icu_is_linear;
 

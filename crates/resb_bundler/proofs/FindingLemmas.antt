@@ -1,7 +1,7 @@
 -- What a name says as a number, and what stands at a number.
 use Rattle.std.proofs.Common.{◌≡◌, ◌∙◌, ℕ, zero, suc, ◌<◌, ◌≤◌, ◌^◌, Bool, true, false, List}
 use Rattle.std.proofs.Common.{[], ◌∷◌, length, refl, sym, ap, arith, Option, Some, None, Bor}
-use Rattle.std.specs.Prelude.{cond, nat_lt, ◌&&◌, slice_get, slice_index_or, option_map}
+use Rattle.std.specs.Prelude.{cond, nat_lt, ◌&&◌, slice_index_or, option_map}
 use Rattle.std.specs.Char.{digit_value, is_digit}
 use Rattle.std.specs.Slice.{IsItemAt}
 use Rattle.std.specs.Str.Parse.{AllDigits, IsNumeral, digits_value, without_leading_plus}
@@ -10,7 +10,6 @@ use Rattle.std.proofs.lemmas.Bool.Decides.{Decides-ltb}
 use Rattle.resb_tree.specs.View.{tree_of, items_view}
 use Rattle.resb_tree.specs.declared.resource.Resource.{Resource}
 use Rattle.resb_bundler.specs.Finding.{are_digits, number_written, number_said, tree_at}
-use Rattle.std.proofs.lemmas.Option.{slice_get_past}
 
 digits_test : (bs : List ℕ) → AllDigits 10 bs → are_digits bs ≡ true
 digits_test [] h = refl
@@ -77,14 +76,3 @@ pub tree_found : (rs : List Resource) (n : ℕ) (r : Option (Bor Resource)) → 
 tree_found rs n None h = sym (past_trees rs n h.3)
 tree_found rs n (Some x) h =
     ap (λ y. Some (tree_of y)) h.1 ∙ sym (tree_there rs n x.now h.3.0)
-
-number_there : (ns : List ℕ) (n d : ℕ) → n < length ns
-    → slice_get ns n ≡ Some (slice_index_or ns n d)
-number_there [] n d h = absurd (omega arith)
-number_there (m ∷ ns) zero d h = refl
-number_there (m ∷ ns) (suc n) d h = number_there ns n d (omega arith)
-
-pub number_found : (ns : List ℕ) (n : ℕ) (r : Option (Bor ℕ)) → IsItemAt ns n r
-    → option_map (λ x. x.now) r ≡ slice_get ns n
-number_found ns n None h = sym (slice_get_past ns n h.3)
-number_found ns n (Some x) h = ap Some h.1 ∙ sym (number_there ns n x.now h.3.0)

@@ -1,5 +1,5 @@
 -- The JSON of resources, one after another.
-use Rattle.std.proofs.Common.{◌≡◌, ℕ, ℤ, pos, negsuc, List, [], ◌∷◌, map, refl, ap, Bool, true}
+use Rattle.std.proofs.Common.{◌≡◌, ℕ, ℤ, pos, negsuc, List, [], ◌∷◌, map, refl, ap}
 use Rattle.std.proofs.Common.{false, ◌||◌}
 use Rattle.std.specs.Ordering.{match_ordering, nat_cmp}
 use Rattle.std.specs.Cmp.Lexicographic.{slice_cmp}
@@ -15,27 +15,12 @@ use Rattle.resb_tree.specs.Int28.{signed}
 use Rattle.resb_tree.specs.View.{items_view}
 use Rattle.resb_tree.specs.declared.resource.Resource.{Resource}
 use Rattle.resb_bundler.specs.Json.{json_of, json_in, members_json, entries_json, vector_number}
+use Rattle.std.proofs.lemmas.Bool.{or_from, or_parts}
 
 -- the members of an array are the JSON of its resources
 pub members_are : (rs : List Resource) → members_json (items_view rs) ≡ items_of (map json_in rs)
 members_are [] = refl
 members_are (r ∷ rs) = ap (item (json_in r)) (members_are rs)
-
--- neither has a float
-neither : (a b : Bool) → a ≡ false → b ≡ false → (a || b) ≡ false
-neither false false p q = refl
-neither false true p q = q
-neither true b p q = p
-
--- either one of two that don't hold
-left_one : (a b : Bool) → (a || b) ≡ false → a ≡ false
-left_one false b p = refl
-left_one true b p = p
-
-right_one : (a b : Bool) → (a || b) ≡ false → b ≡ false
-right_one false b p = p
-right_one true false p = refl
-right_one true true p = p
 
 -- an integer is no float
 integer_plain : (z : ℤ) → has_float (number (of_integer z)) ≡ false
@@ -45,7 +30,7 @@ integer_plain (negsuc n) = refl
 -- a vector's numbers have no float
 numbers_plain : (ns : List ℕ) → items_have_float (items_of (map vector_number ns)) ≡ false
 numbers_plain [] = refl
-numbers_plain (n ∷ ns) = neither _ _ (integer_plain _) (numbers_plain ns)
+numbers_plain (n ∷ ns) = or_from _ _ (integer_plain _) (numbers_plain ns)
 
 -- what is put without a float leaves none
 put_plain_at : (o : Ordering) (k l : List ℕ) (d e : Data) (ms : Members) → has_float d ≡ false
@@ -53,15 +38,15 @@ put_plain_at : (o : Ordering) (k l : List ℕ) (d e : Data) (ms : Members) → h
     → members_have_float
     (match_ordering o (member k d (member l e ms)) (member l d ms) (member l e (put k d ms)))
     ≡ false
-put_plain_at Less k l d e ms p q r = neither _ _ p q
-put_plain_at Equal k l d e ms p q r = neither _ _ p (right_one _ _ q)
-put_plain_at Greater k l d e ms p q r = neither _ _ (left_one _ _ q) r
+put_plain_at Less k l d e ms p q r = or_from _ _ p q
+put_plain_at Equal k l d e ms p q r = or_from _ _ p ((or_parts _ _ q).1)
+put_plain_at Greater k l d e ms p q r = or_from _ _ ((or_parts _ _ q).0) r
 
 pub put_plain : (k : List ℕ) (d : Data) (ms : Members) → has_float d ≡ false
     → members_have_float ms ≡ false → members_have_float (put k d ms) ≡ false
-put_plain k d no_members p q = neither _ _ p refl
+put_plain k d no_members p q = or_from _ _ p refl
 put_plain k d (member l e ms) p q =
-    put_plain_at (slice_cmp nat_cmp k l) k l d e ms p q (put_plain k d ms p (right_one _ _ q))
+    put_plain_at (slice_cmp nat_cmp k l) k l d e ms p q (put_plain k d ms p ((or_parts _ _ q).1))
 
 mutual
   -- the JSON of a tree has no float
@@ -75,7 +60,7 @@ mutual
 
   members_plain : (ts : Trees) → items_have_float (members_json ts) ≡ false
   members_plain no_trees = refl
-  members_plain (more_trees t ts) = neither _ _ (plain t) (members_plain ts)
+  members_plain (more_trees t ts) = or_from _ _ (plain t) (members_plain ts)
 
   entries_plain : (ms : Members) (es : Entries) → members_have_float ms ≡ false
       → members_have_float (entries_json ms es) ≡ false

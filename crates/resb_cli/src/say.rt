@@ -1,10 +1,10 @@
 //! What is said on standard error: the place, the cause, the line round it, and warnings.
 //! What the causes are called is theirs to print.
-use resb::bundle::ResourceBundle;
-use resb::text::{PathStep, PrintError, cause_path};
+use resb::text::PathStep;
 use resb_bundler::{Blame, SourceError, where_to_look};
 use resb_report::{Reason, location_of, pointed_line, warnings};
 use std::alloc::{AllocError, Global};
+use std::fmt::Display;
 
 /// The most warnings that are said of one text.
 const MOST_WARNINGS: usize = 20;
@@ -14,23 +14,24 @@ pub(crate) fn complain<R: Eprint>(rt: &R, name: &str, cause: &str) {
     let _ = eprintln!(rt; "{name}: {cause}");
 }
 
-/// Says why a bundle has no text, and the path to the cause, if that is inside it.
-pub(crate) fn say_no_text<R: Eprint + AllocGlobal>(
+/// Says why a bundle has no text of a form, and the path to the cause, if that is inside it.
+pub(crate) fn say_no_text<R: Eprint + AllocGlobal, C: Display + Drop>(
     rt: &R,
     name: &str,
-    bundle: &ResourceBundle<'_>,
-    cause: PrintError,
+    what: &str,
+    cause: C,
+    path: Result<Option<Vec<PathStep<'_>>>, AllocError>,
 ) {
-    let at = match cause_path(rt.alloc(), bundle) {
+    let at = match path {
         Ok(Some(path)) => path_text(rt.alloc(), path.as_slice()).ok(),
         _ => None,
     };
     let _ = match at {
         Some(at) if !at.is_empty() => {
             let at = at.as_str();
-            eprintln!(rt; "{name}: this has no text, since {cause} at {at}; here is its JSON")
+            eprintln!(rt; "{name}: this has no {what}, since {cause} at {at}; here is its JSON")
         }
-        _ => eprintln!(rt; "{name}: this has no text, since {cause}; here is its JSON"),
+        _ => eprintln!(rt; "{name}: this has no {what}, since {cause}; here is its JSON"),
     };
 }
 

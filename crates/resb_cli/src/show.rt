@@ -7,7 +7,8 @@ use crate::words::limit_of;
 use clap::ArgMatches;
 use resb::binary::{FormatVersion, measure};
 use resb::bundle::{Resource, ResourceBundle};
-use resb::text::{IcuPrintError, PrintError, print_icu_text, print_text};
+use resb::text::{IcuPrintError, PrintError, cause_path, icu_cause_path};
+use resb::text::{print_icu_text, print_text};
 use resb_bundler::{
     Found, JsonError, Summary, count_file, find, json_text, read_file, read_file_within, summary_of,
 };
@@ -158,7 +159,7 @@ fn dump_file(rt: &HostRuntime, matches: &ArgMatches<'_>) -> Result<u8, u8> {
         Ok(text) => show(rt, text.as_str()),
         Err(PrintError::OutOfMemory) => refuse_memory(rt, name),
         Err(e) => {
-            say_no_text(rt, name, &bundle, e);
+            say_no_text(rt, name, "text", e, cause_path(rt.alloc(), &bundle));
             show_json(rt, name, bundle.root())
         }
     })
@@ -170,9 +171,8 @@ fn show_icu(rt: &HostRuntime, name: &str, bundle: &ResourceBundle<'_>) -> u8 {
         Ok(text) => show(rt, text.as_str()),
         Err(IcuPrintError::OutOfMemory) => refuse_memory(rt, name),
         Err(e) => {
-            let _ = eprintln!(rt;
-                "{name}: this has no text in ICU's form, since {e}; here is its JSON"
-            );
+            let path = icu_cause_path(rt.alloc(), bundle);
+            say_no_text(rt, name, "text in ICU's form", e, path);
             show_json(rt, name, bundle.root())
         }
     }

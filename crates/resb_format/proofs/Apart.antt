@@ -1,5 +1,5 @@
 -- Types and descriptors are told apart by their numbers and words.
-use Rattle.std.specs.Prelude.{◌≡◌, ℕ, ◌+◌, ◌*◌, ◌/◌, ◌^◌, ◌<◌, ◌≤◌, nat_eq, if◌then◌else◌}
+use Rattle.std.specs.Prelude.{◌≡◌, ℕ, ◌^◌, ◌<◌, ◌≤◌, nat_eq, if◌then◌else◌}
 use Rattle.std.proofs.Common.{refl, sym, ap, ◌∙◌, ◌⊎◌, inl, inr, arith}
 use mathlib.Core.HLevel.{Σ_prop_path}
 use Rattle.std.specs.Coded.{le_prop}
@@ -7,6 +7,7 @@ use Rattle.resb_format.specs.Descriptor.{type_number, word_of}
 use Rattle.resb_format.specs.declared.repr_type.ResourceReprType.{ResourceReprType}
 use Rattle.resb_format.specs.declared.repr_type.ResourceReprType.TheVariants as kind
 use Rattle.resb_format.specs.declared.descriptor.ResDescriptor.{ResDescriptor}
+use Rattle.resb_format.proofs.Numbers.{parts_apart}
 
 type_back : ℕ → ResourceReprType
 type_back n =
@@ -48,10 +49,6 @@ type_small kind.Array = inl (omega arith)
 type_small kind.Array16 = inl (omega arith)
 type_small kind.IntVector = inr refl
 
-parts_apart : (a b c d : ℕ) → b < 2 ^ 28 → d < 2 ^ 28 → a * 2 ^ 28 + b ≡ c * 2 ^ 28 + d
-    → (a ≡ c) × (b ≡ d)
-parts_apart a b c d h g e = (omega arith, omega arith)
-
 -- a descriptor is told by its word
 pub word_apart : (d e : ResDescriptor) → word_of d ≡ word_of e → d ≡ e
 word_apart d e h =
@@ -61,6 +58,3 @@ word_apart d e h =
     let pairs : ◌≡◌ {A = (n : ℕ) × (n < 2 ^ 28)} (d.value, d.small) (e.value, e.small) =
     Σ_prop_path (λ n. le_prop) both.1 in
     λ i. record { resource_type = kinds i; value = (pairs i).0; small = (pairs i).1 }
-
-pub upper_bits : (a b : ℕ) → b < 2 ^ 28 → (a * 2 ^ 28 + b) / 2 ^ 28 ≡ a
-upper_bits a b h = omega arith

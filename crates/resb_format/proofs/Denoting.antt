@@ -1,5 +1,5 @@
 -- A word has at most one tree and count, and reaches no more resources than its tree has.
-use Rattle.std.proofs.Common.{ℕ, List, ◌∷◌, Option, Some, None, ◌≡◌, ◌≤◌, ◌<◌, ◌+◌, ◌-◌, ◌⊎◌, inl}
+use Rattle.std.proofs.Common.{ℕ, List, ◌∷◌, Option, Some, ◌≡◌, ◌≤◌, ◌<◌, ◌+◌, ◌-◌, ◌⊎◌, inl}
 use Rattle.std.proofs.Common.{inr}
 use Rattle.std.proofs.Common.{refl, ap, subst, arith}
 use Rattle.std.proofs.lemmas.Bool.{cases_lt}
@@ -12,14 +12,7 @@ use Rattle.resb_format.specs.Denotes.{den_unit, DenEach, each_none, each_more, D
 use Rattle.resb_format.specs.Denotes.{pairs_more, Reaches, reaches_one, reaches_list, reaches_pairs}
 use Rattle.resb_format.specs.Denotes.{ReachesMember, reaches_word, reaches_unit, ReachesEach}
 use Rattle.resb_format.specs.Denotes.{each_here, each_later, ReachesPairs, pairs_here, pairs_later}
-
--- what is there is one thing
-pub same_some : {A : Type 0} {o : Option A} {x y : A} → o ≡ Some x → o ≡ Some y → x ≡ y
-same_some e f = cc
-
--- nothing is not something
-pub some_none : {A : Type 0} {o : Option A} {x : A} → o ≡ None → o ≡ Some x → ⊥
-some_none e f = cc
+use Rattle.resb_format.proofs.Lists.{same_some}
 
 -- a content is one leaf at most
 pub same_leaf : {o : Option Content} {t u : Tree} → o ≡ Some (leaf t) → o ≡ Some (leaf u) → t ≡ u

@@ -1,11 +1,11 @@
 -- Parts of bytes, of units and of words, that lie inside or don't.
 use Rattle.std.proofs.Common.{ℕ, List, ◌≡◌, ◌+◌, ◌*◌, ◌/◌, ◌<◌, ◌≤◌, length, take, drop, Some, None}
 use Rattle.std.proofs.Common.{sym, ap, ◌∙◌, arith}
-use Rattle.std.specs.Prelude.{slice_get, slice_index}
 use Rattle.std.proofs.lemmas.Bool.Decides.{nat_tests}
-use Rattle.std.proofs.lemmas.Option.{slice_get-get_or, slice_get_past}
+use Rattle.std.proofs.lemmas.Option.{slice_get_past}
 use Rattle.resb_format.specs.Bytes.{units_of, words_of, part}
 use Rattle.resb_format.proofs.Spelled.{units_length, units_part, words_length, words_part}
+use Rattle.resb_format.proofs.Lists.{get_inside}
 
 -- a part past the end is none
 pub part_past : (xs : List ℕ) (i n : ℕ) → length xs < i + n → part xs i n ≡ None
@@ -16,10 +16,6 @@ pub part_in : (xs : List ℕ) (i n : ℕ) → i + n ≤ length xs → part xs i 
 part_in xs i n h = grind (arith, nat_tests)
 
 pub ruleset part_cut = (part_in, part_past)
-
--- a number that lies inside, and one that doesn't
-pub get_inside : (xs : List ℕ) (i : ℕ) → i < length xs → slice_get xs i ≡ Some (slice_index xs i)
-get_inside xs i h = slice_get-get_or xs i 0 h
 
 pub words_inside : (bs : List ℕ) (i n : ℕ) → i + n ≤ length bs / 4
     → part (words_of bs) i n ≡ Some (words_of (take (4 * n) (drop (4 * i) bs)))

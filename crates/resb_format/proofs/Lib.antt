@@ -10,3 +10,5 @@ pub mod Apart
 mod Survival
 pub mod Unnamed
 pub mod WordsBack
+pub mod Lists
+pub mod Numbers

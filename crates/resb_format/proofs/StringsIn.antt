@@ -1,17 +1,17 @@
 -- Strings among the units that bytes spell: where they lie inside, and where they are cut.
-use Rattle.std.proofs.Common.{ℕ, zero, suc, List, [], ◌∷◌, ◌≡◌, ◌+◌, ◌-◌, ◌/◌, ◌<◌, ◌≤◌, ◌⊎◌, inl}
+use Rattle.std.proofs.Common.{ℕ, List, ◌≡◌, ◌+◌, ◌-◌, ◌/◌, ◌<◌, ◌≤◌, ◌⊎◌, inl}
 use Rattle.std.proofs.Common.{inr, length, take, drop, Some, None, refl, sym, ap, ◌∙◌, arith}
 use Rattle.std.proofs.Common.{nat_eq, min, get_or, codes, length-drop}
 use Rattle.std.specs.List.{position_or_len}
 use Rattle.std.proofs.lemmas.List.{get_or_past, drop_all}
 use Rattle.std.proofs.lemmas.Bool.Decides.{nat_tests}
-use Rattle.std.proofs.lemmas.Grind.{common_steps}
 use Rattle.resb_format.specs.Bytes.{units_of, part}
 use Rattle.resb_format.specs.Error.{end_message}
 use Rattle.resb_format.specs.Strings.{before_zero, string_from, string_at}
 use Rattle.resb_format.specs.StringFaults.{string_fault}
 use Rattle.resb_format.proofs.Inside.{units_outside}
 use Rattle.resb_format.proofs.Spelled.{units_length}
+use Rattle.resb_format.proofs.Lists.{take_within}
 
 pub part_inside : (bs : List ℕ) (i n : ℕ) → i + n ≤ length bs / 2
     → part (units_of bs) i n ≡ Some (take n (drop i (units_of bs)))
@@ -38,16 +38,6 @@ ends_at_zero us h = grind (arith, nat_tests)
 pub lacks_zero : (us : List ℕ) → length us ≤ position_or_len (λ x. nat_eq x 0) us
     → before_zero us ≡ None
 lacks_zero us h = grind (arith, nat_tests)
-
--- no more units than there are
-pub take_within : (us : List ℕ) (n : ℕ) → take (min (length us) n) us ≡ take n us
-take_within [] n = grind (arith, common_steps)
-take_within (u ∷ us) zero =
-    let e : min (suc (length us)) 0 ≡ 0 = omega arith in
-    rw e refl
-take_within (u ∷ us) (suc n) =
-    let e : min (suc (length us)) (suc n) ≡ suc (min (length us) n) = omega arith in
-    rw e (ap (λ vs. u ∷ vs) (take_within us n))
 
 -- the first 41 units from the uth on, of which so many are left
 pub window_is : (bs : List ℕ) (u : ℕ) (us : List ℕ)

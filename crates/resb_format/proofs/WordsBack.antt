@@ -1,11 +1,12 @@
 -- Words as bytes, and back.
-use Rattle.std.proofs.Common.{ℕ, zero, suc, List, [], ◌∷◌, ◌++◌, ◌≡◌, ◌+◌, ◌*◌, ◌/◌, ◌%◌, ◌<◌, ◌≤◌}
-use Rattle.std.proofs.Common.{length, take, drop, refl, ap, ◌∙◌, arith, get_or}
+use Rattle.std.proofs.Common.{ℕ, zero, suc, List, [], ◌∷◌, ◌++◌, ◌≡◌, ◌+◌, ◌*◌, ◌≤◌}
+use Rattle.std.proofs.Common.{length, take, drop, refl, ap, ◌∙◌, arith}
 use Rattle.std.specs.Int.{to_le_bytes, from_le_bytes, w32}
 use Rattle.std.specs.List.{flat_map}
-use Rattle.std.proofs.lemmas.Nat.{from_le_bytes-to_le_bytes_4, le_bytes_4}
+use Rattle.std.proofs.lemmas.Nat.{from_le_bytes-to_le_bytes_4}
 use Rattle.resb_format.specs.Bytes.{words_of}
 use Rattle.resb_format.specs.Laws.{EachFits}
+use Rattle.resb_format.proofs.Numbers.{four_back}
 
 -- what stands behind some of them fits too
 pub fits_drop : (size : ℕ) (bs : List ℕ) (n : ℕ) → EachFits size bs → EachFits size (drop n bs)
@@ -22,26 +23,10 @@ words_back (w ∷ ws) h =
     ap (λ n. n ∷ words_of (flat_map (to_le_bytes w32) ws)) (omega (arith, e))
     ∙ ap (λ vs. w ∷ vs) (words_back ws h.1)
 
--- a number from its two bytes
-pub two_bytes : (n : ℕ) → n < 65536 → n % 256 + 256 * (n / 256 % 256) ≡ n
-two_bytes n h = omega arith
-
 -- words are written as four bytes each
 pub written_length : (ws : List ℕ) → length (flat_map (to_le_bytes w32) ws) ≡ 4 * length ws
 written_length [] = omega arith
 written_length (w ∷ ws) = let h = written_length ws in omega (arith, h)
-
-four_back : (a b c d : ℕ) → a < 256 → b < 256 → c < 256 → d < 256
-    → to_le_bytes w32 (a + 256 * b + 65536 * c + 16777216 * d) ≡ a ∷ b ∷ c ∷ d ∷ []
-four_back a b c d h i j k =
-    le_bytes_4 (a ∷ b ∷ c ∷ d ∷ []) (a + 256 * b + 65536 * c + 16777216 * d) refl each (omega arith)
-  where
-    each : (n : ℕ) → get_or (a ∷ b ∷ c ∷ d ∷ []) n 0 < 256
-    each zero = h
-    each (suc zero) = i
-    each (suc (suc zero)) = j
-    each (suc (suc (suc zero))) = k
-    each (suc (suc (suc (suc n)))) = omega arith
 
 -- the bytes that spelled words are written as
 pub bytes_back : (bs : List ℕ) (n : ℕ) → EachFits 8 bs → 4 * n ≤ length bs

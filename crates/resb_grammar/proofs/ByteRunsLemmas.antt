@@ -1,7 +1,6 @@
 -- Laws of bytes and runs.
-use Rattle.std.proofs.Common.{◌≡◌, ◌≢◌, ℕ, ◌+◌, ◌<◌, ◌≤◌, Bool, true, false, refl, List, length}
+use Rattle.std.proofs.Common.{◌≡◌, ◌≢◌, ℕ, ◌+◌, ◌<◌, ◌≤◌, Bool, true, List, length}
 use Rattle.std.proofs.Common.{get_or, arith, subst, sym, ◌∙◌, ⊎_elim}
-use Rattle.std.specs.Prelude.{◌==◌}
 use Rattle.std.proofs.lemmas.List.{get_or_past}
 use Rattle.std.proofs.lemmas.Bool.{cases_lt, false≢true}
 use Rattle.std.proofs.lemmas.Bool.Decides.{nat_tests}
@@ -40,11 +39,3 @@ Run-one p text from a b r s = ⊎_elim
     (λ (v : a ≤ b). omega arith)
     (cases_lt b a))
     (cases_lt a b)
-
--- a byte is this one or another
-pub either_byte : {P : Type 0} (b n : ℕ) → (b ≡ n → P) → (b ≢ n → P) → P
-either_byte {P = P} b n p q = cases (b == n) refl
-  where
-    cases : (c : Bool) → (b == n) ≡ c → P
-    cases true e = let h : b ≡ n = grind (arith, nat_tests) in p h
-    cases false e = let h : b ≢ n = grind (arith, nat_tests) in q h

@@ -17,3 +17,5 @@ pub mod MadeOnce
 pub mod ReaderLemmas
 mod Examples
 mod HexPairs
+pub mod Numbers
+pub mod Lists

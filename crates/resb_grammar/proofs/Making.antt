@@ -16,14 +16,11 @@ use Rattle.resb_grammar.specs.Machine.{typed, in_binary, filled, in_vector, at_s
 use Rattle.resb_grammar.specs.Machine.{after_lone_comma, after_comma, next, begun_as, with_leaf}
 use Rattle.resb_grammar.specs.Machine.{at_root, begun, went, At}
 use Rattle.resb_grammar.specs.Limit.{made_by, leaf_bytes, begun_bytes, Makes, MakesMore}
+use Rattle.resb_grammar.proofs.Numbers.{plus_no_bytes}
 
 -- a reading that makes something is a reading
 pub reading_of : (text : List ℕ) (n at : ℕ) (s : State) → Makes text n at s → At text at s
 reading_of text n at s m = record { tokens = m.tokens; path = m.path }
-
--- what takes nothing adds nothing
-pub plus_no_bytes : (n : ℕ) → n ≡ n + 0
-plus_no_bytes n = omega arith
 
 module _ (text : List ℕ) where
   makes_none : (at : ℕ) → Skip text 0 at → Makes text 0 at start

@@ -1,11 +1,10 @@
 -- What the proofs of both readers of texts and of the printer need beside the grammar.
-use Rattle.std.proofs.Common.{◌≡◌, ◌≢◌, ℕ, suc, ◌+◌, ◌*◌, ◌-◌, ◌<◌, ◌≤◌, arith, true, List}
+use Rattle.std.proofs.Common.{◌≡◌, ◌≢◌, ℕ, suc, ◌+◌, ◌*◌, ◌-◌, ◌<◌, true, List}
 use Rattle.std.proofs.Common.{[]}
 use Rattle.std.proofs.Common.{◌∷◌, length, get_or, drop, refl, sym, ◌∙◌, ap, subst, Option, Some}
 use Rattle.std.proofs.Common.{None, add-one, drop-cons}
 use Rattle.std.proofs.lemmas.Bool.{false≢true}
-use Rattle.std.proofs.lemmas.List.{length-take}
-use Rattle.std.specs.Prelude.{◌↔◌, slice_get, slice_index, slice_range, IfNone}
+use Rattle.std.specs.Prelude.{◌↔◌, slice_get, slice_index, IfNone}
 use Rattle.resb_grammar.specs.Ascii as ascii
 use Rattle.resb_grammar.specs.Lexical.{digits_value}
 use Rattle.resb_grammar.specs.GroupTypes.{table_kind, Stands}
@@ -47,12 +46,6 @@ digits_value-suc text from at n m e e' =
     subst (λ k. digits_value text from k ≡ digits_value text from n * 10 +
     (slice_index text at - ascii.digit_0)) (sym e')
     (ap (λ k. digits_value text from n * 10 + (slice_index text k - ascii.digit_0)) (sym e))
-
--- a part of a text is no longer than its places are apart
-pub length-slice_range : (text : List ℕ) (from to : ℕ)
-    → length (slice_range text from to) ≤ to - from
-length-slice_range text from to =
-    let e = length-take (to - from) (drop from text) in omega (arith, e)
 
 -- keys and groups in turn are a table
 pub pairs_are_table : (xs : List Item) → is_pairs xs ≡ true → shape_of xs ≡ a_table

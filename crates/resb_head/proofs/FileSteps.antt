@@ -1,10 +1,9 @@
 -- Which check of a whole file is the first that fails, and what holds where none does.
-use Rattle.std.proofs.Common.{ℕ, zero, suc, List, [], ◌∷◌, ◌++◌, ◌≡◌, ◌+◌, ◌-◌, ◌*◌, ◌≤◌, ◌<◌, ◌⊎◌}
-use Rattle.std.proofs.Common.{inl, inr, length, take, drop, min, Bool, true, false, ◌&&◌, nat_le}
+use Rattle.std.proofs.Common.{ℕ, List, [], ◌∷◌, ◌++◌, ◌≡◌, ◌+◌, ◌-◌, ◌*◌, ◌≤◌, ◌<◌, ◌⊎◌}
+use Rattle.std.proofs.Common.{length, drop, min, Bool, true, false}
 use Rattle.std.proofs.Common.{nat_eq, Some, None, refl, sym, ap, subst, ◌∙◌, arith, get_or}
-use Rattle.std.proofs.Common.{codes, slice_range, length-drop, if◌then◌else◌}
-use Rattle.std.proofs.lemmas.Bool.Decides.{nat_tests}
-use Rattle.std.proofs.lemmas.List.{get_or-drop, drop-take}
+use Rattle.std.proofs.Common.{codes, slice_range, length-drop}
+use Rattle.std.proofs.lemmas.List.{get_or-drop}
 use Rattle.std.proofs.lemmas.Slice.Eq.{bytes_eq-Decides}
 use Rattle.resb_format.specs.Bytes.{words_of, unit_in}
 use Rattle.resb_format.specs.Error.{IsInvalid, IsEndOfInput, Refusal, refusal_of}
@@ -21,11 +20,8 @@ use Rattle.resb_head.proofs.Passing.{passed, header_passes}
 use Rattle.resb_head.proofs.Numbers.{two_tests_fail}
 use Rattle.resb_head.proofs.Numbers.{two_tests_hold}
 use Rattle.resb_head.proofs.Numbers.{two_tests_tell}
-use Rattle.resb_head.proofs.Numbers.{nat_eq_tells}
-use Rattle.resb_head.proofs.Numbers.{nat_le_holds}
-use Rattle.resb_head.proofs.Numbers.{nat_le_fails}
-use Rattle.resb_head.proofs.Numbers.{nat_le_tells}
 use Rattle.resb_head.proofs.Lists.{range_behind_four}
+use Rattle.std.proofs.lemmas.Bool.{lt-leb, le-leb, leb-true, eqb-true}
 
 -- where none of all fails, none of the first ones does
 pub first_fault-both : (cs bs : List (Bool × Refusal)) → first_fault (cs ++ bs) ≡ None
@@ -55,7 +51,7 @@ pub keys_past : (body : List ℕ) (e : ReadingError) → length body < 4 * get_o
     → first_fault (block_checks body) ≡ Some (refusal_of e)
 unfolding block_checks
 keys_past body e h r =
-    rw (nat_le_fails (4 * get_or (words_of body) 2 0) (length body) h, r.kind_is, r.message_is) refl
+    rw (lt-leb (4 * get_or (words_of body) 2 0) (length body) h, r.kind_is, r.message_is) refl
 
 pub end_missing : (body : List ℕ) (e : ReadingError) → 4 * get_or (words_of body) 2 0 ≤ length body
     → get_or (words_of body) 1 0 < 7
@@ -64,8 +60,8 @@ pub end_missing : (body : List ℕ) (e : ReadingError) → 4 * get_or (words_of 
 unfolding block_checks
 end_missing body e h k r =
     rw (
-      nat_le_holds (4 * get_or (words_of body) 2 0) (length body) h,
-      nat_le_fails 7 (get_or (words_of body) 1 0) k,
+      le-leb (4 * get_or (words_of body) 2 0) (length body) h,
+      lt-leb 7 (get_or (words_of body) 1 0) k,
       r.kind_is,
       r.message_is,
     ) refl
@@ -79,8 +75,8 @@ pub block_past : (body : List ℕ) (e : ReadingError) → 4 * get_or (words_of b
 unfolding block_checks
 block_past body e h k l r =
     rw (
-      nat_le_holds (4 * get_or (words_of body) 2 0) (length body) h,
-      nat_le_holds 7 (get_or (words_of body) 1 0) k,
+      le-leb (4 * get_or (words_of body) 2 0) (length body) h,
+      le-leb 7 (get_or (words_of body) 1 0) k,
       two_tests_fail (get_or (words_of body) 2 0) (get_or (words_of body) 7 0)
           (4 * get_or (words_of body) 7 0) (length body) l,
       r.kind_is,
@@ -94,8 +90,8 @@ pub blocks_hold : (body : List ℕ) → 4 * get_or (words_of body) 2 0 ≤ lengt
 unfolding block_checks
 blocks_hold body h k l m =
     rw (
-      nat_le_holds (4 * get_or (words_of body) 2 0) (length body) h,
-      nat_le_holds 7 (get_or (words_of body) 1 0) k,
+      le-leb (4 * get_or (words_of body) 2 0) (length body) h,
+      le-leb 7 (get_or (words_of body) 1 0) k,
       two_tests_hold (get_or (words_of body) 2 0) (get_or (words_of body) 7 0)
           (4 * get_or (words_of body) 7 0) (length body) l m,
     ) refl
@@ -105,35 +101,21 @@ pub root_missing : (body : List ℕ) (e : ReadingError) → length body < 4
     → IsEndOfInput e
     → first_fault (body_checks body) ≡ Some (refusal_of e)
 unfolding body_checks
-root_missing body e h r = rw (nat_le_fails 4 (length body) h, r.kind_is, r.message_is) refl
+root_missing body e h r = rw (lt-leb 4 (length body) h, r.kind_is, r.message_is) refl
 
 pub index_answers : (body : List ℕ) (g : Refusal) → 4 ≤ length body
     → index_fault (drop 4 body) ≡ Some g → first_fault (body_checks body) ≡ Some g
 unfolding body_checks index_fault
 index_answers body g h e =
-    rw (nat_le_holds 4 (length body) h)
+    rw (le-leb 4 (length body) h)
     (some_before (index_checks (drop 4 body)) (block_checks body) g e)
 
 pub blocks_answer : (body : List ℕ) → 4 ≤ length body → index_fault (drop 4 body) ≡ None
     → first_fault (body_checks body) ≡ first_fault (block_checks body)
 unfolding body_checks index_fault
 blocks_answer body h e =
-    rw (nat_le_holds 4 (length body) h)
+    rw (le-leb 4 (length body) h)
     (none_before (index_checks (drop 4 body)) (block_checks body) e)
-
--- no more bytes than there are
-pub drop_min : (xs : List ℕ) (n : ℕ) → drop (min (length xs) n) xs ≡ drop n xs
-drop_min [] n = nothing (min 0 n) n
-  where
-    nothing : (a b : ℕ) → drop {A = ℕ} a [] ≡ drop b []
-    nothing zero zero = refl
-    nothing zero (suc b) = refl
-    nothing (suc a) zero = refl
-    nothing (suc a) (suc b) = refl
-drop_min (x ∷ xs) zero = let e : min (suc (length xs)) 0 ≡ 0 = omega arith in rw e refl
-drop_min (x ∷ xs) (suc n) =
-    let e : min (suc (length xs)) (suc n) ≡ suc (min (length xs) n) = omega arith in
-    rw e (drop_min xs n)
 
 -- the checks of a file
 pub header_answers : (bytes : List ℕ) (g : Refusal) → header_fault false bytes ≡ Some g
@@ -181,16 +163,16 @@ a_body body e =
     let c : get_or (words_of (drop 4 body)) 0 0 ≡ get_or (words_of body) 1 0 =
     field_behind body 0 in
     let l : length (drop 4 body) ≡ length body - 4 = length-drop 4 body in
-    let inside = nat_le_tells (4 * min (get_or (words_of (drop 4 body)) 0 0) 8)
+    let inside = leb-true (4 * min (get_or (words_of (drop 4 body)) 0 0) 8)
     (length (drop 4 body))
     p.1.1.1.0 in
-    let few = nat_le_tells 5 (get_or (words_of (drop 4 body)) 0 0) p.1.1.0 in
+    let few = leb-true 5 (get_or (words_of (drop 4 body)) 0 0) p.1.1.0 in
     let ends = two_tests_tell (get_or (words_of body) 2 0) (get_or (words_of body) 7 0)
     (4 * get_or (words_of body) 7 0) (length body) p.1.1.1.1.1.1.0 in
     record {
-      fields = nat_le_tells 7 (get_or (words_of body) 1 0) p.1.1.1.1.1.0;
+      fields = leb-true 7 (get_or (words_of body) 1 0) p.1.1.1.1.1.0;
       index_inside = omega (arith, c, l, inside, few);
-      keys_inside = nat_le_tells (4 * get_or (words_of body) 2 0) (length body) p.1.1.1.1.0;
+      keys_inside = leb-true (4 * get_or (words_of body) 2 0) (length body) p.1.1.1.1.0;
       blocks_ordered = ends.0;
       block_inside = ends.1;
     }
@@ -225,8 +207,8 @@ passes_is bytes e =
     record {
       magic = h.magic;
       little_endian = h.own_endianness refl;
-      ascii = sym f5 ∙ nat_eq_tells (get_or (drop 4 bytes) 5 0) 0 p.0;
-      two_byte_chars = sym f6 ∙ nat_eq_tells (get_or (drop 4 bytes) 6 0) 2 p.1.0;
+      ascii = sym f5 ∙ eqb-true (get_or (drop 4 bytes) 5 0) 0 p.0;
+      two_byte_chars = sym f6 ∙ eqb-true (get_or (drop 4 bytes) 6 0) 2 p.1.0;
       format = h.format;
       version =
           sym (range_behind_four bytes 12 16)

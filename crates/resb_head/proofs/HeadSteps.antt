@@ -3,7 +3,7 @@ use Rattle.std.proofs.Common.{ℕ, List, ◌≡◌, ◌≢◌, ◌<◌, ◌≤�
 use Rattle.std.proofs.Common.{◌||◌, nat_le, nat_eq, Some, None, refl, arith, get_or, codes}
 use Rattle.std.proofs.Common.{slice_range}
 use Rattle.std.specs.Str.{bytes_eq}
-use Rattle.std.proofs.lemmas.Bool.{or_right}
+use Rattle.std.proofs.lemmas.Bool.{or_right, lt-leb, le-leb}
 use Rattle.std.proofs.lemmas.Bool.Decides.{nat_tests}
 use Rattle.std.proofs.lemmas.Slice.Eq.{bytes_eq-Decides}
 use Rattle.resb_format.specs.Error.{IsRefusal, IsInvalid, refusal_of}
@@ -18,8 +18,6 @@ use Rattle.resb_head.specs.declared.endianness.Endianness.TheVariants.{Little, B
 use Rattle.resb_head.specs.declared.version.FormatVersion.{FormatVersion}
 use Rattle.resb_head.specs.declared.version.FormatVersion.TheVariants.{V1_0, V1_1, V1_2, V1_3}
 use Rattle.resb_head.specs.declared.version.FormatVersion.TheVariants.{V2_0, V3_0}
-use Rattle.resb_head.proofs.Numbers.{nat_le_holds}
-use Rattle.resb_head.proofs.Numbers.{nat_le_fails}
 use Rattle.resb_head.proofs.Lists.{bytes_eq_fails}
 
 pub a_version : (v : FormatVersion) (bs : List ℕ) → version_bytes v ≡ bs → is_version bs ≡ true
@@ -70,12 +68,12 @@ pub order_stands : (any : Bool) (bs : List ℕ) (x : Endianness) → endianness_
     → (any ≡ true) ⊎ (get_or bs 4 0 ≡ 0) → Order any bs
 order_stands any bs x e (inl a) =
     record {
-      known = nat_le_holds (get_or bs 4 0) 1 (omega (arith, endianness_small x));
+      known = le-leb (get_or bs 4 0) 1 (omega (arith, endianness_small x));
       own = rw a refl;
     }
 order_stands any bs x e (inr z) =
     record {
-      known = nat_le_holds (get_or bs 4 0) 1 (omega arith);
+      known = le-leb (get_or bs 4 0) 1 (omega arith);
       own = or_right any (nat_eq (get_or bs 4 0) 0) (rw z refl);
     }
 
@@ -93,14 +91,14 @@ pub endianness_fails : (any : Bool) (bs : List ℕ) (e : ReadingError)
     → first_fault (info_checks any bs) ≡ Some (refusal_of e)
 unfolding info_checks
 endianness_fails any bs e h r =
-    rw (nat_le_fails (get_or bs 4 0) 1 (no_order (get_or bs 4 0) h), r.kind_is, r.message_is) refl
+    rw (lt-leb (get_or bs 4 0) 1 (no_order (get_or bs 4 0) h), r.kind_is, r.message_is) refl
 
 pub order_fails : (any : Bool) (bs : List ℕ) (e : ReadingError) → get_or bs 4 0 ≡ 1 → any ≡ false
     → IsRefusal e UnsupportedFormat (codes "bundle endianness does not match platform endianness")
     → first_fault (info_checks any bs) ≡ Some (refusal_of e)
 unfolding info_checks
 order_fails any bs e h a r =
-    rw (nat_le_holds (get_or bs 4 0) 1 (omega arith), a, h, r.kind_is, r.message_is) refl
+    rw (le-leb (get_or bs 4 0) 1 (omega arith), a, h, r.kind_is, r.message_is) refl
 
 pub charset_fails : (any : Bool) (bs : List ℕ) (e : ReadingError) → Order any bs
     → ((x : CharsetFamily) → charset_number x ≢ get_or bs 5 0)
@@ -109,7 +107,7 @@ pub charset_fails : (any : Bool) (bs : List ℕ) (e : ReadingError) → Order an
 unfolding info_checks
 charset_fails any bs e o h r =
     let over = no_family (get_or bs 5 0) h in
-    rw (o.known, o.own, nat_le_fails (get_or bs 5 0) 1 over, r.kind_is, r.message_is) refl
+    rw (o.known, o.own, lt-leb (get_or bs 5 0) 1 over, r.kind_is, r.message_is) refl
 
 pub format_fails : (any : Bool) (bs : List ℕ) (e : ReadingError) → Families any bs
     → bytes_eq (slice_range bs 8 12) (codes "ResB") ≡ false

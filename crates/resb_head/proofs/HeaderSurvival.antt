@@ -16,12 +16,12 @@ use Rattle.resb_head.specs.declared.head.BinHeader.{BinHeader}
 use Rattle.resb_head.specs.declared.version.FormatVersion.{FormatVersion}
 use Rattle.resb_head.specs.declared.version.FormatVersion.TheVariants.{V1_0, V1_1, V1_2, V1_3}
 use Rattle.resb_head.specs.declared.version.FormatVersion.TheVariants.{V2_0, V3_0}
-use Rattle.resb_format.proofs.WordsBack.{two_bytes}
 use Rattle.resb_head.proofs.Apart.{endianness_apart, charset_apart, version_apart}
 use Rattle.resb_head.proofs.HeadSteps.{a_version, charset_small}
 use Rattle.resb_head.proofs.Passing.{header_passes}
 use Rattle.resb_head.proofs.Lists.{four_elements}
 use Rattle.resb_head.proofs.Lists.{range_behind_four}
+use Rattle.resb_format.proofs.Numbers.{two_bytes}
 
 -- a unit of bytes has 16 bits
 unit_fits : (bs : List ℕ) (i : ℕ) → EachFits 8 bs → get_or (units_of bs) i 0 < 2 ^ 16

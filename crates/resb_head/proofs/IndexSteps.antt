@@ -5,20 +5,19 @@ use Rattle.resb_format.specs.Bytes.{words_of}
 use Rattle.resb_format.specs.Error.{IsInvalid, IsEndOfInput, refusal_of}
 use Rattle.resb_format.specs.declared.error.ReadingError.{ReadingError}
 use Rattle.resb_head.specs.HeadChecks.{index_fault, index_checks}
-use Rattle.resb_head.proofs.Numbers.{nat_le_holds}
-use Rattle.resb_head.proofs.Numbers.{nat_le_fails}
+use Rattle.std.proofs.lemmas.Bool.{lt-leb, le-leb}
 
 pub no_count : (bs : List ℕ) (e : ReadingError) → length bs < 4
     → IsEndOfInput e → index_fault bs ≡ Some (refusal_of e)
 unfolding index_fault index_checks
-no_count bs e h r = rw (nat_le_fails 4 (length bs) h, r.kind_is, r.message_is) refl
+no_count bs e h r = rw (lt-leb 4 (length bs) h, r.kind_is, r.message_is) refl
 
 pub small_count : (bs : List ℕ) (n : ℕ) (e : ReadingError) → n ≡ get_or (words_of bs) 0 0
     → 4 ≤ length bs → n < 5 → IsInvalid e (codes "invalid index field count")
     → index_fault bs ≡ Some (refusal_of e)
 unfolding index_fault index_checks
 small_count bs n e w h k r =
-    rw (nat_le_holds 4 (length bs) h, ← w, nat_le_fails 5 n k, r.kind_is, r.message_is) refl
+    rw (le-leb 4 (length bs) h, ← w, lt-leb 5 n k, r.kind_is, r.message_is) refl
 
 pub no_word : (bs : List ℕ) (n : ℕ) (e : ReadingError) → n ≡ get_or (words_of bs) 0 0
     → 4 ≤ length bs → 5 ≤ n → length bs < 4 * min n 8
@@ -26,10 +25,10 @@ pub no_word : (bs : List ℕ) (n : ℕ) (e : ReadingError) → n ≡ get_or (wor
 unfolding index_fault index_checks
 no_word bs n e w h k l r =
     rw (
-      nat_le_holds 4 (length bs) h,
+      le-leb 4 (length bs) h,
       ← w,
-      nat_le_holds 5 n k,
-      nat_le_fails (4 * min n 8) (length bs) l,
+      le-leb 5 n k,
+      lt-leb (4 * min n 8) (length bs) l,
       r.kind_is,
       r.message_is,
     ) refl
@@ -39,9 +38,9 @@ pub index_holds : (bs : List ℕ) (n : ℕ) → n ≡ get_or (words_of bs) 0 0 �
 unfolding index_fault index_checks
 index_holds bs n w h k l =
     rw (
-      nat_le_holds 4 (length bs) h,
+      le-leb 4 (length bs) h,
       ← w,
-      nat_le_holds 5 n k,
-      nat_le_holds (4 * min n 8)
+      le-leb 5 n k,
+      le-leb (4 * min n 8)
           (length bs) l,
     ) refl

@@ -21,10 +21,9 @@ use Rattle.resb_head.specs.HeadChecks.{index_fault}
 use Rattle.resb_head.specs.HeadReading.{ReadsIndex}
 use Rattle.resb_head.specs.declared.index.BinIndex.{BinIndex}
 use Rattle.resb_head.proofs.IndexSteps.{index_holds}
-use Rattle.resb_head.proofs.Numbers.{nat_le_holds}
-use Rattle.resb_head.proofs.Numbers.{nat_le_fails}
 use Rattle.resb_head.proofs.Lists.{all_words}
 use Rattle.resb_head.proofs.Lists.{one_count}
+use Rattle.std.proofs.lemmas.Bool.{lt-leb, le-leb}
 
 -- what was read is written as it stood
 same_words : (bs : List ℕ) (i : BinIndex) → IndexAt i bs

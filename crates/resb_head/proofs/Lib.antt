@@ -11,4 +11,4 @@ pub mod FileSteps
 mod IndexSurvival
 mod HeaderSurvival
 mod Numbers
-mod Lists
+pub mod Lists

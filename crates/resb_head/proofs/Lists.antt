@@ -1,22 +1,15 @@
 -- Parts of lists, lists of a known length written out, and lists that are compared.
 use Rattle.std.proofs.Common.{List, None, Option, Some, [], ap, append-nil, arith, drop, false}
 use Rattle.std.proofs.Common.{get_or, if◌then◌else◌, inl, inr, length, min, nat_le, refl}
-use Rattle.std.proofs.Common.{slice_range, suc, sym, take, true, zero, ℕ, ◌*◌, ◌++◌, ◌+◌, ◌-◌, ◌<◌}
-use Rattle.std.proofs.Common.{◌∙◌, ◌∷◌, ◌≡◌, ◌≢◌, ◌≤◌, ◌⊎◌}
+use Rattle.std.proofs.Common.{slice_range, suc, sym, take, true, ℕ, ◌*◌, ◌++◌, ◌+◌, ◌-◌, ◌<◌}
+use Rattle.std.proofs.Common.{◌∙◌, ◌∷◌, ◌≡◌, ◌≢◌, ◌≤◌, ◌⊎◌, zero}
 use Rattle.std.specs.Str.{bytes_eq}
 use Rattle.std.proofs.lemmas.Slice.Eq.{bytes_eq-Decides}
 use Rattle.std.proofs.lemmas.List.{drop-drop, drop-take}
 use Rattle.std.specs.Option.{is_some, option_to_list}
-use Rattle.resb_head.proofs.Numbers.{nat_le_fails, nat_le_holds}
 use Rattle.std.proofs.lemmas.Bool.Decides.{nat_tests}
 use Rattle.std.proofs.Math.Seq.{take-suc}
-
--- the parts of a body, cut out of it
-pub take_inside : (body : List ℕ) (k b : ℕ) → k ≤ b → take k (take b body) ≡ take k body
-take_inside body zero b h = refl
-take_inside body (suc k) zero h = absurd (omega arith)
-take_inside [] (suc k) (suc b) h = refl
-take_inside (x ∷ body) (suc k) (suc b) h = ap (λ xs. x ∷ xs) (take_inside body k b (omega arith))
+use Rattle.std.proofs.lemmas.Bool.{lt-leb, le-leb}
 
 pub drop_inside : (body : List ℕ) (k b : ℕ) → k ≤ b
     → drop (4 * k) (take (4 * b) body) ≡ take (4 * (b - k)) (drop (4 * k) body)
@@ -62,8 +55,8 @@ pub one_more : (ws : List ℕ) (n k : ℕ) → min n (k + 1) ≤ length ws
     → take (min n (k + 1)) ws ≡ take (min n k) ws
     ++ option_to_list (if nat_le (k + 1) n then Some (get_or ws k 0) else None)
 one_more ws n k l = elim (le_cases (k + 1) n) [
-  | inl h ↦ rw (nat_le_holds (k + 1) n h) (more_yes ws n k h (omega arith))
-  | inr h ↦ rw (nat_le_fails (k + 1) n h) (more_no ws n k (omega arith))
+  | inl h ↦ rw (le-leb (k + 1) n h) (more_yes ws n k h (omega arith))
+  | inr h ↦ rw (lt-leb (k + 1) n h) (more_no ws n k (omega arith))
 ]
   where
     le_cases : (a b : ℕ) → (a ≤ b) ⊎ (b < a)
@@ -108,3 +101,17 @@ one_count (Some x) n k e = grind (arith, nat_tests)
 pub range_behind_four : (bs : List ℕ) (i j : ℕ)
     → slice_range (drop 4 bs) i j ≡ take (j - i) (drop (4 + i) bs)
 range_behind_four bs i j = ap (take (j - i)) (drop-drop i 4 bs)
+
+-- no more of a list is left out than it has
+pub drop_min : (xs : List ℕ) (n : ℕ) → drop (min (length xs) n) xs ≡ drop n xs
+drop_min [] n = nothing (min 0 n) n
+  where
+    nothing : (a b : ℕ) → drop {A = ℕ} a [] ≡ drop b []
+    nothing zero zero = refl
+    nothing zero (suc b) = refl
+    nothing (suc a) zero = refl
+    nothing (suc a) (suc b) = refl
+drop_min (x ∷ xs) zero = let e : min (suc (length xs)) 0 ≡ 0 = omega arith in rw e refl
+drop_min (x ∷ xs) (suc n) =
+    let e : min (suc (length xs)) (suc n) ≡ suc (min (length xs) n) = omega arith in
+    rw e (drop_min xs n)

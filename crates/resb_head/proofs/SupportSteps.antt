@@ -7,19 +7,19 @@ use Rattle.resb_format.specs.declared.error.ReadingError.{ReadingError}
 use Rattle.resb_format.specs.declared.error.ErrorKind.TheVariants.{UnsupportedFormat}
 use Rattle.resb_head.specs.HeadChecks.{first_fault, support_checks}
 use Rattle.resb_head.proofs.Lists.{bytes_eq_fails}
-use Rattle.resb_head.proofs.Numbers.{nat_eq_fails}
+use Rattle.std.proofs.lemmas.Bool.{ne_eqb}
 
 pub family_fails : (info : List ℕ) (e : ReadingError) → get_or info 5 0 ≢ 0
     → IsRefusal e UnsupportedFormat (codes "bundle and system character set families do not match")
     → first_fault (support_checks info) ≡ Some (refusal_of e)
 unfolding support_checks
-family_fails info e h r = rw (nat_eq_fails (get_or info 5 0) 0 h, r.kind_is, r.message_is) refl
+family_fails info e h r = rw (ne_eqb (get_or info 5 0) 0 h, r.kind_is, r.message_is) refl
 
 pub size_fails : (info : List ℕ) (e : ReadingError) → get_or info 5 0 ≡ 0 → get_or info 6 0 ≢ 2
     → IsRefusal e UnsupportedFormat (codes "characters of size other than 2 are not supported")
     → first_fault (support_checks info) ≡ Some (refusal_of e)
 unfolding support_checks
-size_fails info e a h r = rw (a, nat_eq_fails (get_or info 6 0) 2 h, r.kind_is, r.message_is) refl
+size_fails info e a h r = rw (a, ne_eqb (get_or info 6 0) 2 h, r.kind_is, r.message_is) refl
 
 pub version_fails : (info : List ℕ) (e : ReadingError) → get_or info 5 0 ≡ 0 → get_or info 6 0 ≡ 2
     → slice_range info 12 16 ≢ 2 ∷ 0 ∷ 0 ∷ 0 ∷ []

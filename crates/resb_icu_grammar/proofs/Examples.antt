@@ -1,5 +1,5 @@
--- Accepted and refused texts of ICU's form, by the definitions alone.
-use Rattle.std.proofs.Common.{◌≡◌, ◌≢◌, ℕ, zero, suc, ◌+◌, ◌≤◌, true, false, List, []}
+-- Accepted and refused texts of ICU's form, by the definitions alone; and one that gets stuck.
+use Rattle.std.proofs.Common.{◌≡◌, ◌≢◌, ℕ, zero, suc, ◌+◌, ◌≤◌, true, false, List, [], inl, inr}
 use Rattle.std.proofs.Common.{◌∷◌, length, refl, sym, arith, lit≤, subst, encode_utf8}
 use Rattle.std.specs.Prelude.{slice_index, slice_range, codes}
 use Rattle.std.proofs.lemmas.Bool.{false≢true}
@@ -15,6 +15,13 @@ use Rattle.resb_icu_grammar.specs.Words.{Word, Text, a_word, KeyText, Name, Numb
 use Rattle.resb_icu_grammar.specs.Groups.{Group, untyped, an_empty_array, one_string, no_entry}
 use Rattle.resb_icu_grammar.specs.Groups.{one_entry}
 use Rattle.resb_icu_grammar.specs.Bundle.{without, IcuText}
+use Rattle.resb_icu_grammar.specs.Machine.{in_table, among_entries, before_group, reading_at}
+use Rattle.resb_icu_grammar.specs.Machine.{BeginsGroup, key_of_entry}
+use Rattle.resb_icu_grammar.specs.Stuck.{Stuck, in_root, inside, no_group}
+use Rattle.resb_icu_grammar.specs.declared.expected.IcuExpected.{IcuExpected}
+use Rattle.resb_icu_grammar.specs.declared.expected.IcuExpected.TheVariants as expect
+use Rattle.resb_icu_grammar.proofs.Moves.{one_move}
+use Rattle.resb_icu_grammar.proofs.OneRefusal.{stuck_in_one_way}
 
 -- nothing is skipped where a byte other than white and `/` stands
 stays : (text : List ℕ) (at : ℕ) → is_white (slice_index text at) ≡ false → slice_index text at ≢ 47
@@ -144,3 +151,45 @@ bundle_accepted = record {
   means = refl;
   lists = refl;
 }
+
+-- `b{a}` gets stuck at the `}`: behind the key a group is expected
+stuck_there : Stuck (codes "b{a}") 3 expect.Group
+stuck_there =
+    in_root (codes "b") true 2
+    (record {
+      begin = 0;
+      start = 0;
+      ends = 1;
+      place = 1;
+      brace = 1;
+      begins = without_a_mark (λ m. let h = m.first in absurd (omega arith)) refl;
+      before = stays _ 0 refl (λ h. absurd (omega arith));
+      named = record {
+        key = words.a_word (word_of_one _ 0 refl refl (lit≤ tt)) refl;
+        some = lit≤ tt;
+        word = (word_of_one (codes "b") 0 refl refl (lit≤ tt)).run;
+      };
+      between = stays _ 1 refl (λ h. absurd (omega arith));
+      typed = without refl;
+      opens = refl;
+      after = stays _ 2 refl (λ h. absurd (omega arith));
+    })
+    (record {
+      last = reading_at (in_table [] (codes "a") ∷ []) (codes "a" ∷ []) before_group 3;
+      comes = one_move (codes "b{a}") [] [] (among_entries []) 2
+          (reading_at (in_table [] (codes "a") ∷ []) (codes "a" ∷ []) before_group 3)
+          (key_of_entry [] 2 3 3 (codes "a")
+          (words.a_word (word_of_one _ 2 refl refl (lit≤ tt)) refl)
+          (stays _ 3 refl (λ h. absurd (omega arith))));
+      halts = inside (in_table [] (codes "a") ∷ []) (codes "a" ∷ []) before_group 3 3 expect.Group
+          (no_group 3 never);
+    })
+  where
+    never : BeginsGroup (codes "b{a}") 3 → ⊥
+    never (inl h) = absurd (omega arith)
+    never (inr h) = absurd (omega arith)
+
+-- and nowhere else, and nothing else is expected
+stuck_nowhere_else : (at : ℕ) (x : IcuExpected) → Stuck (codes "b{a}") at x
+    → (at ≡ 3) × (x ≡ expect.Group)
+stuck_nowhere_else at x s = stuck_in_one_way (codes "b{a}") at 3 x expect.Group s stuck_there

@@ -14,7 +14,7 @@ use Rattle.resb_icu_grammar.specs.Groups.{Numbers, last_number, last_comma, one_
 use Rattle.resb_icu_grammar.specs.Groups.{string_content, binary_content, integer_content}
 use Rattle.resb_icu_grammar.specs.Groups.{no_numbers, numbers}
 use Rattle.resb_icu_grammar.specs.declared.expected.IcuExpected.{IcuExpected}
-use Rattle.resb_icu_grammar.specs.Stuck.{NoNumber, Counted, none_yet, one_number, LeafStuck}
+use Rattle.resb_icu_grammar.specs.Stuck.{NoNumberAt, NumbersSoFar, none_yet, one_number, LeafStuck}
 use Rattle.resb_icu_grammar.specs.Stuck.{no_string, open_string, no_digits, odd_digits, open_binary}
 use Rattle.resb_icu_grammar.specs.Stuck.{no_integer, open_integer, no_number, open_vector}
 use Rattle.resb_icu_grammar.proofs.Groups.{Closes}
@@ -75,13 +75,13 @@ numbers_on text at i place v next p k c l b w =
     }
 
 first_number : (text : List ℕ) (at to : ℕ) (ns : List ℕ) → Numbers text at to ns
-    → NoNumber text at → ⊥
+    → NoNumberAt text at → ⊥
 first_number text at to ns (last_number _ i _ v p k) f = f i v p
 first_number text at to ns (last_comma _ i j _ v p k c l) f = f i v p
 first_number text at to ns (one_more _ i j m _ v us p k c l r) f = f i v p
 
 -- behind some numbers and their commas stand the others
-counted_on : (text : List ℕ) (from to : ℕ) → Counted text from to
+counted_on : (text : List ℕ) (from to : ℕ) → NumbersSoFar text from to
     → slice_index text to ≢ ascii.right_brace → SomeNumbers text from → SomeNumbers text to
 counted_on text from _ (none_yet _) b w = w
 counted_on text from to (one_number _ k i j _ v c p s e l) b w =
@@ -89,7 +89,7 @@ counted_on text from to (one_number _ k i j _ v c p s e l) b w =
     (counted_on text from k c (number_first text k i v p) w)
 
 -- and no `}` stands where they begin
-counted_begin : (text : List ℕ) (from to : ℕ) → Counted text from to
+counted_begin : (text : List ℕ) (from to : ℕ) → NumbersSoFar text from to
     → slice_index text to ≢ ascii.right_brace → slice_index text from ≢ ascii.right_brace
 counted_begin text from _ (none_yet _) b = b
 counted_begin text from to (one_number _ k i j _ v c p s e l) b =
@@ -102,7 +102,7 @@ some_numbers text from to _ (numbers ns r) c b =
     record { to = to; items = ns; stand = r; closes = c }
 
 -- the numbers from a place on, where a vector stands
-vector_on : (text : List ℕ) (from at to : ℕ) (t : Tree) → Counted text from at
+vector_on : (text : List ℕ) (from at to : ℕ) (t : Tree) → NumbersSoFar text from at
     → slice_index text at ≢ ascii.right_brace → LeafContent text from to vector_kind t
     → Closes text to → SomeNumbers text at
 vector_on text from at to t c b l d =

@@ -8,5 +8,8 @@ pub mod RestUntyped
 pub mod RestRoot
 pub mod Leaves
 pub mod Moves
+pub mod OneStep
 pub mod Refused
+mod OneRefusal
+mod WholeReading
 mod Examples

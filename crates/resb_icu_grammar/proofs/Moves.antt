@@ -6,8 +6,8 @@ use Rattle.resb_icu_grammar.specs.Groups.{nothing, a_group, is_collation, holds_
 use Rattle.resb_icu_grammar.specs.Groups.{with_a_group, with_a_string}
 use Rattle.resb_icu_grammar.specs.Machine.{Waiting, in_array, in_table, Standing, among_members}
 use Rattle.resb_icu_grammar.specs.Machine.{among_entries, before_group, in_untyped, in_typed}
-use Rattle.resb_icu_grammar.specs.Machine.{behind_group, Reading, reading, Move, Leave, Comes, here}
-use Rattle.resb_icu_grammar.specs.Machine.{moves, leaves, was_member, was_value}
+use Rattle.resb_icu_grammar.specs.Machine.{behind_group, Reading, reading_at, Move, StepOut, Comes}
+use Rattle.resb_icu_grammar.specs.Machine.{here, moves, leaves, was_member, was_value}
 use Rattle.resb_icu_grammar.specs.Machine as step
 use Rattle.resb_icu_grammar.specs.Inner.Rest.{Meaning, InMembers, InEntries, InGroup, InUntyped}
 use Rattle.resb_icu_grammar.specs.Inner.Rest.{InTyped, After, AfterMember, AfterValue, Same}
@@ -105,10 +105,10 @@ behind_value text ws ks t es key at next f k m = (there, back)
     back h = record { next = next; taken = f; after = k; rest = h }
 
 -- so does a step out of a group
-pub leave_same : (text : List ℕ) (ws : List Waiting) (ks : List (List ℕ)) (t : Tree) (at : ℕ)
-    (r : Reading) → Leave text ks t at ws r → Same (After text ws at t ks) (Rest text r)
-leave_same text _ ks t at _ (was_member ws ts j k) = behind_member text ws ks t ts at j k
-leave_same text _ ks t at _ (was_value ws es key j f k) =
+pub step_out_same : (text : List ℕ) (ws : List Waiting) (ks : List (List ℕ)) (t : Tree) (at : ℕ)
+    (r : Reading) → StepOut text ks t at ws r → Same (After text ws at t ks) (Rest text r)
+step_out_same text _ ks t at _ (was_member ws ts j k) = behind_member text ws ks t ts at j k
+step_out_same text _ ks t at _ (was_value ws es key j f k) =
     behind_value text ws ks t es key at j f k
 
 -- and so do all steps from one place to another
@@ -116,29 +116,29 @@ pub comes_same : (text : List ℕ) (from r : Reading) → Comes text from r
     → Same (Rest text from) (Rest text r)
 comes_same text from _ (here _) = λ m. (λ h. h, λ h. h)
 comes_same text from r (moves _ _ ws ks s at c v) =
-    same_by _ _ _ (comes_same text from (reading ws ks s at) c) (move_same text ws ks s at r v)
+    same_by _ _ _ (comes_same text from (reading_at ws ks s at) c) (move_same text ws ks s at r v)
 comes_same text from r (leaves _ _ ws ks t at c v) =
-    same_by _ _ _ (comes_same text from (reading ws ks (behind_group t) at) c)
-    (leave_same text ws ks t at r v)
+    same_by _ _ _ (comes_same text from (reading_at ws ks (behind_group t) at) c)
+    (step_out_same text ws ks t at r v)
 
 -- steps behind steps
 pub comes_by : (text : List ℕ) (from mid r : Reading) → Comes text from mid → Comes text mid r
     → Comes text from r
 comes_by text from mid _ c (here _) = c
 comes_by text from mid r c (moves _ _ ws ks s at d v) =
-    moves from r ws ks s at (comes_by text from mid (reading ws ks s at) c d) v
+    moves from r ws ks s at (comes_by text from mid (reading_at ws ks s at) c d) v
 comes_by text from mid r c (leaves _ _ ws ks t at d v) =
-    leaves from r ws ks t at (comes_by text from mid (reading ws ks (behind_group t) at) c d) v
+    leaves from r ws ks t at (comes_by text from mid (reading_at ws ks (behind_group t) at) c d) v
 
 -- one step
 pub one_move : (text : List ℕ) (ws : List Waiting) (ks : List (List ℕ)) (s : Standing) (at : ℕ)
-    (r : Reading) → Move text ws ks s at r → Comes text (reading ws ks s at) r
+    (r : Reading) → Move text ws ks s at r → Comes text (reading_at ws ks s at) r
 one_move text ws ks s at r v =
-    moves (reading ws ks s at) r ws ks s at (here (reading ws ks s at)) v
+    moves (reading_at ws ks s at) r ws ks s at (here (reading_at ws ks s at)) v
 
 -- one step out of a group
-pub one_leave : (text : List ℕ) (ws : List Waiting) (ks : List (List ℕ)) (t : Tree) (at : ℕ)
-    (r : Reading) → Leave text ks t at ws r → Comes text (reading ws ks (behind_group t) at) r
-one_leave text ws ks t at r v =
-    leaves (reading ws ks (behind_group t) at) r ws ks t at
-    (here (reading ws ks (behind_group t) at)) v
+pub one_step_out : (text : List ℕ) (ws : List Waiting) (ks : List (List ℕ)) (t : Tree) (at : ℕ)
+    (r : Reading) → StepOut text ks t at ws r → Comes text (reading_at ws ks (behind_group t) at) r
+one_step_out text ws ks t at r v =
+    leaves (reading_at ws ks (behind_group t) at) r ws ks t at
+    (here (reading_at ws ks (behind_group t) at)) v

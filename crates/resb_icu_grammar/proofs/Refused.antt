@@ -1,6 +1,6 @@
 -- A text in which a reading gets stuck is no bundle.
-use Rattle.std.proofs.Common.{◌≡◌, ◌≢◌, ℕ, Bool, List, [], sym, ◌∙◌}
-use Rattle.std.proofs.Common.{ap, subst, arith, length, inl, inr}
+use Rattle.std.proofs.Common.{◌≡◌, ◌≢◌, ℕ, Bool, List, [], sym, ◌∙◌, ap, subst, arith, length, inl}
+use Rattle.std.proofs.Common.{inr}
 use Rattle.std.specs.Prelude.{slice_index}
 use Rattle.std.proofs.lemmas.Bool.{false≢true}
 use Rattle.resb_grammar.specs.Ascii as ascii
@@ -11,9 +11,8 @@ use Rattle.resb_icu_grammar.specs.Words.{KeyText, Name, GroupType, RootType}
 use Rattle.resb_icu_grammar.specs.Bundle.{Header, Typing, without, with}
 use Rattle.resb_icu_grammar.specs.Groups.{TypedOpening}
 use Rattle.resb_icu_grammar.specs.Laws.{IcuStuckIsNoText}
-use Rattle.resb_icu_grammar.specs.Machine.{Waiting, Standing, Reading, BeginsGroup}
+use Rattle.resb_icu_grammar.specs.Machine.{Waiting, Standing, Reading, at_root}
 use Rattle.resb_icu_grammar.specs.Stuck.{Blocked, EndBlocked, HeadStuck, Halts, StuckFrom, Stuck}
-use Rattle.resb_icu_grammar.specs.Stuck.{at_root}
 use Rattle.resb_icu_grammar.specs.Stuck.{a_collation, more_text, no_name, no_root_type}
 use Rattle.resb_icu_grammar.specs.Stuck.{no_root_brace, no_typed_brace, in_head, in_root, inside}
 use Rattle.resb_icu_grammar.specs.Stuck.{behind}
@@ -22,24 +21,16 @@ use Rattle.resb_icu_grammar.specs.declared.expected.IcuExpected.{IcuExpected}
 use Rattle.resb_icu_grammar.specs.Inner.Rest.{After, AtEnd, InEntries, Never}
 use Rattle.resb_icu_grammar.proofs.Lexical.{Begins-one, Skip-one, String-one, key_string}
 use Rattle.resb_icu_grammar.proofs.Lexical.{RootType-one, root_type_first, GroupType-one}
-use Rattle.resb_icu_grammar.proofs.Groups.{Closes, no_brace_colon}
+use Rattle.resb_icu_grammar.proofs.Groups.{no_brace_colon}
 use Rattle.resb_icu_grammar.proofs.Leaves.{no_leaf_there, stuck_kind}
 use Rattle.resb_icu_grammar.proofs.Moves.{RestOf, Rest, comes_same}
+use Rattle.resb_icu_grammar.proofs.OneStep.{no_brace_begins, no_comma_begins}
 use Rattle.resb_icu_grammar.proofs.RestRoot.{follows_root}
 use Rattle.resb_icu_grammar.proofs.RestLists as lists
 use Rattle.resb_icu_grammar.proofs.RestGroups as groups
 use Rattle.resb_icu_grammar.proofs.RestUntyped as untyped
 
-no_brace_begins : (text : List ℕ) (at : ℕ) → BeginsGroup text at → Closes text at → ⊥
-no_brace_begins text at (inl b) c = omega (arith, b, c)
-no_brace_begins text at (inr b) c = omega (arith, b, c)
-
-no_comma_begins : (text : List ℕ) (at : ℕ) → BeginsGroup text at
-    → slice_index text at ≢ ascii.comma
-no_comma_begins text at (inl b) c = omega (arith, b, c)
-no_comma_begins text at (inr b) c = omega (arith, b, c)
-
-no_opening_brace : (text : List ℕ) (at end brace : ℕ) (kind : Kind) → GroupType text at end kind
+pub no_opening_brace : (text : List ℕ) (at end brace : ℕ) (kind : Kind) → GroupType text at end kind
     → Skip text end brace → slice_index text brace ≢ ascii.left_brace → (other : Kind) (i : ℕ)
     → TypedOpening text at other i → ⊥
 no_opening_brace text at end brace kind g k ne other i d =
@@ -143,7 +134,7 @@ no_typed text at i to brace g f r k n (with j h q l) b =
     (RootType-one text at j i h g q r).0 l)) ∙ b)
 
 -- where nothing that begins a bundle stands, there is no header
-head_never : (text : List ℕ) (to : ℕ) (x : IcuExpected) → HeadStuck text to x
+pub head_never : (text : List ℕ) (to : ℕ) (x : IcuExpected) → HeadStuck text to x
     → (name : List ℕ) (f : Bool) (first : ℕ) → Header text name f first → ⊥
 head_never text to x (no_name a _ b k none) name f first h =
     none h.ends name

@@ -18,7 +18,7 @@ pub data Begins (text : List ℕ) (at : ℕ) : Type 0 where
   behind_the_mark : HasMark text → at ≡ 3 → Begins text at
   without_a_mark : (HasMark text → ⊥) → at ≡ 0 → Begins text at
 
--- the character U+2029, E2 80 A9: genrb ends a line there, and this form refuses it in a comment
+-- the character U+2029, E2 80 A9: genrb ends a line there, and this form refuses it behind `//`
 pub record IsParagraphEnd (text : List ℕ) (at : ℕ) : Type 0 where
   pub first : slice_index text at ≡ 0xe2
   pub second : slice_index text (at + 1) ≡ 0x80

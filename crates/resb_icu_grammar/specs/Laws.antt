@@ -1,8 +1,9 @@
 -- What the laws of ICU's text form say.
-use Rattle.std.specs.Prelude.{◌≡◌, ℕ, Bool, true, List, Contains}
+use Rattle.std.specs.Prelude.{◌≡◌, ◌↔◌, ℕ, Bool, true, List, Contains}
 use Rattle.resb_tree.specs.Tree.{Tree}
 use Rattle.resb_tree.specs.Keys.{is_key}
 use Rattle.resb_icu_grammar.specs.Bundle.{IcuText}
+use Rattle.resb_icu_grammar.specs.Machine.{IsReadToTheEnd}
 use Rattle.resb_icu_grammar.specs.Stuck.{Stuck}
 use Rattle.resb_icu_grammar.specs.declared.expected.IcuExpected.{IcuExpected}
 
@@ -27,3 +28,15 @@ IcuStuckIsNoText =
     (text : List ℕ) (at : ℕ) (x : IcuExpected) → Stuck text at x
     → (name : List ℕ) (fallback : Bool) (tree : Tree) (keys : List (List ℕ))
     → IcuText text name fallback tree keys → ⊥
+
+-- a text in which a reading gets stuck does so at one place, where one thing is expected
+abbrev pub IcuStuckInOneWay : Type 0
+IcuStuckInOneWay =
+    (text : List ℕ) (at place : ℕ) (x y : IcuExpected) → Stuck text at x → Stuck text place y
+    → (at ≡ place) × (x ≡ y)
+
+-- the bundles of this form are what the steps of a reading lead to at the end of a text
+abbrev pub IcuMachineReadsTheForm : Type 0
+IcuMachineReadsTheForm =
+    (text name : List ℕ) (fallback : Bool) (tree : Tree) (keys : List (List ℕ))
+    → IcuText text name fallback tree keys ↔ IsReadToTheEnd text name fallback tree keys

@@ -3,8 +3,7 @@ use Rattle.std.specs.Prelude.{◌≡◌, ◌≢◌, ◌+◌, ◌<◌, ◌&&◌, 
 use Rattle.std.specs.Prelude.{◌∷◌, length, slice_index}
 use Rattle.resb_grammar.specs.Ascii as ascii
 use Rattle.resb_grammar.specs.Group.{hex_bytes}
-use Rattle.resb_grammar.specs.GroupTypes.{Kind, string_kind, binary_kind, integer_kind}
-use Rattle.resb_grammar.specs.GroupTypes.{vector_kind}
+use Rattle.resb_grammar.specs.GroupTypes.{Kind, string_kind, binary_kind, integer_kind, vector_kind}
 use Rattle.resb_tree.specs.Tree.{Tree}
 use Rattle.resb_icu_grammar.specs.Blanks.{Begins, Skip}
 use Rattle.resb_icu_grammar.specs.Words.{Text, KeyText, Name, Number, GroupType, RootType}
@@ -13,48 +12,50 @@ use Rattle.resb_icu_grammar.specs.Groups.{Last, is_member, ends_in_string, is_co
 use Rattle.resb_icu_grammar.specs.Groups.{holds_entries}
 use Rattle.resb_icu_grammar.specs.Machine.{Waiting, in_table, AreDistinct, Standing, among_members}
 use Rattle.resb_icu_grammar.specs.Machine.{among_entries, before_group, in_untyped, in_typed}
-use Rattle.resb_icu_grammar.specs.Machine.{behind_group, Reading, reading, BeginsGroup, Comes}
+use Rattle.resb_icu_grammar.specs.Machine.{behind_group, Reading, reading_at, at_root, BeginsGroup}
+use Rattle.resb_icu_grammar.specs.Machine.{Comes}
 use Rattle.resb_icu_grammar.specs.declared.expected.IcuExpected.{IcuExpected}
 use Rattle.resb_icu_grammar.specs.declared.expected.IcuExpected.TheVariants as expect
 
 -- no string stands there
-abbrev pub NoText : List ℕ → ℕ → Type 0
-NoText text at = (to : ℕ) (s : List ℕ) → Text text at to s → ⊥
+abbrev pub NoStringAt : List ℕ → ℕ → Type 0
+NoStringAt text at = (to : ℕ) (s : List ℕ) → Text text at to s → ⊥
 
 -- no string that may be a key stands there
-abbrev pub NoKey : List ℕ → ℕ → Type 0
-NoKey text at = (to : ℕ) (k : List ℕ) → KeyText text at to k → ⊥
+abbrev pub NoKeyAt : List ℕ → ℕ → Type 0
+NoKeyAt text at = (to : ℕ) (k : List ℕ) → KeyText text at to k → ⊥
 
 -- no number stands there
-abbrev pub NoNumber : List ℕ → ℕ → Type 0
-NoNumber text at = (to v : ℕ) → Number text at to v → ⊥
+abbrev pub NoNumberAt : List ℕ → ℕ → Type 0
+NoNumberAt text at = (to v : ℕ) → Number text at to v → ⊥
 
 -- what was expected where no string stands: behind a quote, that it is closed and has known escapes
-abbrev pub choose : Bool → IcuExpected → IcuExpected
-choose true x = expect.Quoted
-choose false x = x
+abbrev pub quoted_if : Bool → IcuExpected → IcuExpected
+quoted_if true x = expect.Quoted
+quoted_if false x = x
 
 -- a string or this was expected, by the byte that stands there
 abbrev pub string_or : ℕ → IcuExpected → IcuExpected
-string_or b x = choose (b == ascii.quote) x
+string_or b x = quoted_if (b == ascii.quote) x
 
 -- some numbers, with a comma behind each
-pub data Counted (text : List ℕ) : ℕ → ℕ → Type 0 where
-  none_yet : (at : ℕ) → Counted text at at
-  one_number : (from at i j to v : ℕ) → Counted text from at → Number text at i v → Skip text i j
-      → slice_index text j ≡ ascii.comma → Skip text (j + 1) to → Counted text from to
+pub data NumbersSoFar (text : List ℕ) : ℕ → ℕ → Type 0 where
+  none_yet : (at : ℕ) → NumbersSoFar text at at
+  one_number : (from at i j to v : ℕ) → NumbersSoFar text from at → Number text at i v
+      → Skip text i j → slice_index text j ≡ ascii.comma → Skip text (j + 1) to
+      → NumbersSoFar text from to
 
 -- in the content of a group with this type, from one place on, a reading cannot go on at another,
 -- where this was expected
 pub data LeafStuck (text : List ℕ) (from : ℕ) : Kind → ℕ → IcuExpected → Type 0 where
   -- a string must stand in `:string{..}`, and a `}` behind it
-  no_string : NoText text from
+  no_string : NoStringAt text from
       → LeafStuck text from string_kind from (string_or (slice_index text from) expect.String)
   open_string : (i j : ℕ) (s : List ℕ) → Text text from i s → Skip text i j
       → slice_index text j ≢ ascii.right_brace
       → LeafStuck text from string_kind j expect.RightBrace
   -- in `:bin{..}` a string of pairs of hex digits, and a `}` behind it
-  no_digits : NoText text from
+  no_digits : NoStringAt text from
       → LeafStuck text from binary_kind from (string_or (slice_index text from) expect.String)
   odd_digits : (i : ℕ) (s : List ℕ) → Text text from i s → hex_bytes s ≡ None
       → LeafStuck text from binary_kind from expect.HexPairs
@@ -62,14 +63,14 @@ pub data LeafStuck (text : List ℕ) (from : ℕ) : Kind → ℕ → IcuExpected
       → slice_index text j ≢ ascii.right_brace
       → LeafStuck text from binary_kind j expect.RightBrace
   -- in `:int{..}` a number, and a `}` behind it
-  no_integer : NoNumber text from → LeafStuck text from integer_kind from expect.Number
+  no_integer : NoNumberAt text from → LeafStuck text from integer_kind from expect.Number
   open_integer : (i j v : ℕ) → Number text from i v → Skip text i j
       → slice_index text j ≢ ascii.right_brace
       → LeafStuck text from integer_kind j expect.RightBrace
   -- in `:intvector{..}` a number or `}`, and behind a number a comma or `}`
-  no_number : (at : ℕ) → Counted text from at → slice_index text at ≢ ascii.right_brace
-      → NoNumber text at → LeafStuck text from vector_kind at expect.Number
-  open_vector : (at i j v : ℕ) → Counted text from at → Number text at i v → Skip text i j
+  no_number : (at : ℕ) → NumbersSoFar text from at → slice_index text at ≢ ascii.right_brace
+      → NoNumberAt text at → LeafStuck text from vector_kind at expect.Number
+  open_vector : (at i j v : ℕ) → NumbersSoFar text from at → Number text at i v → Skip text i j
       → slice_index text j ≢ ascii.comma → slice_index text j ≢ ascii.right_brace
       → LeafStuck text from vector_kind j expect.RightBrace
 
@@ -77,7 +78,7 @@ pub data LeafStuck (text : List ℕ) (from : ℕ) : Kind → ℕ → IcuExpected
 pub data Blocked (text : List ℕ) : Standing → ℕ → ℕ → IcuExpected → Type 0 where
   -- no member, comma or `}` stands among the members of an array
   no_member : (last : Last) (ts : List Tree) (at : ℕ) → slice_index text at ≢ ascii.right_brace
-      → slice_index text at ≢ ascii.comma → (BeginsGroup text at → ⊥) → NoText text at
+      → slice_index text at ≢ ascii.comma → (BeginsGroup text at → ⊥) → NoStringAt text at
       → Blocked text (among_members last ts) at at
       (string_or (slice_index text at) expect.Member)
   -- a string right behind a string
@@ -92,7 +93,7 @@ pub data Blocked (text : List ℕ) : Standing → ℕ → ℕ → IcuExpected �
       → (AreDistinct es → ⊥) → Blocked text (among_entries es) at at expect.KeysOnce
   -- neither a key nor a `}` among entries
   no_entry : (es : List (List ℕ × Tree)) (at : ℕ) → slice_index text at ≢ ascii.right_brace
-      → NoKey text at → Blocked text (among_entries es) at at expect.Entry
+      → NoKeyAt text at → Blocked text (among_entries es) at at expect.Entry
   -- neither `{` nor `:` where a group must stand
   no_group : (at : ℕ) → (BeginsGroup text at → ⊥) → Blocked text before_group at at expect.Group
   -- a `:` that begins no type
@@ -105,7 +106,7 @@ pub data Blocked (text : List ℕ) : Standing → ℕ → ℕ → IcuExpected �
       → Blocked text before_group at j expect.LeftBrace
   -- nothing that a group without a type may hold
   no_content : (at : ℕ) → slice_index text at ≢ ascii.right_brace → (BeginsGroup text at → ⊥)
-      → NoText text at
+      → NoStringAt text at
       → Blocked text in_untyped at at (string_or (slice_index text at) expect.Member)
   -- a string first in a group without a type, and nothing behind it that may stand there
   no_further : (at i j : ℕ) (s : List ℕ) → Text text at i s → Skip text i j
@@ -113,7 +114,7 @@ pub data Blocked (text : List ℕ) : Standing → ℕ → ℕ → IcuExpected �
       → (BeginsGroup text j → ⊥) → Blocked text in_untyped at j expect.AfterString
   -- a string that may be no key, and a group behind it
   no_key : (at i j : ℕ) (s : List ℕ) → Text text at i s → Skip text i j → BeginsGroup text j
-      → NoKey text at → Blocked text in_untyped at at expect.Key
+      → NoKeyAt text at → Blocked text in_untyped at at expect.Key
   -- the content of a group with a type
   in_leaf : (kind : Kind) (at to : ℕ) (x : IcuExpected) → LeafStuck text at kind to x
       → Blocked text (in_typed kind) at to x
@@ -149,13 +150,9 @@ pub data HeadStuck (text : List ℕ) : ℕ → IcuExpected → Type 0 where
 -- a reading cannot go on at a place, where this was expected
 pub data Halts (text : List ℕ) : Reading → ℕ → IcuExpected → Type 0 where
   inside : (ws : List Waiting) (ks : List (List ℕ)) (s : Standing) (at to : ℕ) (x : IcuExpected)
-      → Blocked text s at to x → Halts text (reading ws ks s at) to x
+      → Blocked text s at to x → Halts text (reading_at ws ks s at) to x
   behind : (ws : List Waiting) (ks : List (List ℕ)) (t : Tree) (at to : ℕ) (x : IcuExpected)
-      → EndBlocked text t at ws to x → Halts text (reading ws ks (behind_group t) at) to x
-
--- a reading among the entries of the root, of which there are none yet
-abbrev pub at_root : ℕ → Reading
-at_root first = reading [] [] (among_entries []) first
+      → EndBlocked text t at ws to x → Halts text (reading_at ws ks (behind_group t) at) to x
 
 -- from one place on a reading comes to a place where it cannot go on
 pub record StuckFrom (text : List ℕ) (from : Reading) (to : ℕ) (x : IcuExpected) : Type 0 where

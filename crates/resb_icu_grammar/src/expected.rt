@@ -1,5 +1,5 @@
 //! What a reading of ICU's text form expects at the place where it gets stuck.
-//! Where each is expected is said beside the code that expects it.
+//! In which state of a reading each is expected is said in `specs/Stuck`; no text is read here.
 ghost use Rattle.std.specs.Prelude.{Some};
 ghost use Rattle.resb_icu_grammar.specs.Expected.{item_of};
 
@@ -16,7 +16,7 @@ pub enum IcuExpected {
     GroupType,
     /// The `{` of a group or of the bundle.
     LeftBrace,
-    /// The `}` of a group or of the bundle.
+    /// The `}` of a group with a type, behind the one string or the numbers that it holds.
     RightBrace,
     /// A group, which begins with `{` or with a type.
     Group,
@@ -30,7 +30,7 @@ pub enum IcuExpected {
     HexPairs,
     /// A decimal number of 32 bits without a leading zero.
     Number,
-    /// A member of an array, or its `}`.
+    /// A member of an array, or its `}`; or what begins a group without a type.
     Member,
     /// A key, or the `}` of the table.
     Entry,

@@ -1,6 +1,7 @@
 //! The laws of ICU's text form, each the contract of a function that does nothing.
 //! They speak of the definitions alone.
 ghost use Rattle.resb_icu_grammar.specs.Laws.{OneIcuText, IcuKeysAreListed, IcuStuckIsNoText};
+ghost use Rattle.resb_icu_grammar.specs.Laws.{IcuStuckInOneWay, IcuMachineReadsTheForm};
 
 /// A text of ICU's form has one name, fallback, tree and list of keys.
 pub fn one_icu_text()
@@ -15,4 +16,15 @@ pub fn icu_keys_are_listed()
 /// A text in which a reading gets stuck is no bundle in ICU's form.
 pub fn icu_stuck_is_no_text()
     ensures { IcuStuckIsNoText }
+{}
+
+/// A text in which a reading gets stuck does so at one place, where one thing is expected.
+pub fn one_icu_refusal()
+    ensures { IcuStuckInOneWay }
+{}
+
+/// The steps of a reading lead to the end of a text exactly where it is a bundle in ICU's form,
+/// with that bundle's name, fallback, tree and keys.
+pub fn icu_machine_reads_the_form()
+    ensures { IcuMachineReadsTheForm }
 {}

@@ -26,7 +26,7 @@ use Rattle.resb_print.proofs.Places.{From, byte_at, from_behind, from_next, at_e
 use Rattle.resb_print.proofs.Bundles.{stands}
 use Rattle.resb_tree.proofs.MapsLemmas.{map_of-pairs_of}
 use Rattle.resb_icu_print.specs.Printed.{is_bare, entries_on, printed_icu_bundle}
-use Rattle.resb_icu_print.specs.Causes.{TakenIn, causes_in_else, first_cause, Refused}
+use Rattle.resb_icu_print.specs.Causes.{TakenIn, causes_in_else, first_cause, SaysIcuCause}
 use Rattle.resb_icu_print.specs.Laws.{HasNoIcuText}
 use Rattle.resb_icu_print.specs.Inner.Jobs.{ArePrinted}
 use Rattle.resb_icu_print.specs.declared.cause.IcuCause.{IcuCause}
@@ -194,7 +194,7 @@ whole text own f es t s3 s4 same w bare r =
 
 -- a cause is in the way of each text
 pub no_text : (name : List ℕ) (f : Bool) (t : Tree) (e : IcuPrintError)
-    → Refused e (first_cause name t) → (e ≡ OutOfMemory) ⊎ HasNoIcuText name f t
+    → SaysIcuCause e (first_cause name t) → (e ≡ OutOfMemory) ⊎ HasNoIcuText name f t
 no_text name f t e (inl h) = inl h
 no_text name f t e (inr (x, h, found)) =
     inr (λ text keys b. none_some x (sym (no_cause text name f t keys b) ∙ found))
@@ -204,7 +204,7 @@ no_text name f t e (inr (x, h, found)) =
 
 -- a cause in the entries is one of the bundle
 pub root_refused : (name : List ℕ) (es : Entries) (e : IcuPrintError) → is_bare name ≡ true
-    → Refused e (causes_in_else es None) → Refused e (first_cause name (table es))
+    → SaysIcuCause e (causes_in_else es None) → SaysIcuCause e (first_cause name (table es))
 root_refused name es e bare (inl h) = inl h
 root_refused name es e bare (inr (x, h, found)) =
     inr (
@@ -214,7 +214,7 @@ root_refused name es e bare (inr (x, h, found)) =
     )
 
 pub name_refused : (name : List ℕ) (es : Entries) → is_bare name ≡ false
-    → Refused (NotPrintable NameIsNoWord) (first_cause name (table es))
+    → SaysIcuCause (NotPrintable NameIsNoWord) (first_cause name (table es))
 name_refused name es h =
     inr (
       NameIsNoWord,

@@ -6,4 +6,5 @@ pub mod Bundles
 pub mod Taken
 pub mod Steps
 pub mod Sizes
+mod CausePaths
 mod Examples

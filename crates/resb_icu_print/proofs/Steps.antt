@@ -27,9 +27,9 @@ use Rattle.resb_icu_print.specs.declared.error.IcuPrintError.{IcuPrintError}
 use Rattle.resb_icu_print.specs.declared.error.IcuPrintError.TheVariants.{NotPrintable}
 use Rattle.resb_icu_print.specs.Printed.{tree_on, trees_on, entries_on}
 use Rattle.resb_icu_print.specs.Causes.{is_icu_key, has_collation, cause_if, key_cause_else}
-use Rattle.resb_icu_print.specs.Causes.{cause_else, causes_else, causes_in_else, Refused}
+use Rattle.resb_icu_print.specs.Causes.{cause_else, causes_else, causes_in_else, SaysIcuCause}
 use Rattle.resb_icu_print.specs.Inner.Jobs.{job_on, jobs_on, job_cause, jobs_cause, DoesTree}
-use Rattle.resb_icu_print.specs.Inner.Jobs.{DoesJob, IsUnderWay, Refuses}
+use Rattle.resb_icu_print.specs.Inner.Jobs.{DoesJob, IsUnderWay, HasFirstCause}
 
 -- the entries of a table
 pub entries_text : (n : ℕ) (js : List Job) (ps : List (List ℕ × Tree)) (rest : List ℕ)
@@ -179,8 +179,8 @@ fewer_left now new js ks ls j e d =
 
 pub refused : (js ls : List Job) (j : Job) (es : Entries) (old now : String Global)
     (e : IcuPrintError)
-    → ls ≡ js ++ j ∷ [] → IsUnderWay old now ls es → Refuses e (job_cause j)
-    → Refused e (causes_in_else es None)
+    → ls ≡ js ++ j ∷ [] → IsUnderWay old now ls es → HasFirstCause e (job_cause j)
+    → SaysIcuCause e (causes_in_else es None)
 refused js ls j es old now e f u (inl h) = inl h
 refused js ls j es old now e f u (inr (x, h, g)) =
     inr (
@@ -214,7 +214,7 @@ missed_if b x later h = rw h refl
 
 pub refuses_key : (e : IcuPrintError) (n : ℕ) (k : List ℕ) (t : Tree)
     → e ≡ NotPrintable KeyHasOtherBytes → is_icu_key k ≡ false
-    → Refuses e (job_cause (entry_job n k t))
+    → HasFirstCause e (job_cause (entry_job n k t))
 refuses_key e n k t h q =
     inr (
       KeyHasOtherBytes,
@@ -225,7 +225,7 @@ refuses_key e n k t h q =
 
 pub refuses_collation : (e : IcuPrintError) (n : ℕ) (k : List ℕ) (t : Tree)
     → e ≡ NotPrintable TableOfCollations → is_icu_key k ≡ true → has_collation k t ≡ true
-    → Refuses e (job_cause (entry_job n k t))
+    → HasFirstCause e (job_cause (entry_job n k t))
 refuses_collation e n k t h q c =
     inr (
       TableOfCollations,

@@ -83,5 +83,6 @@ first_cause name (table es) =
 first_cause name _ = Some cause.RootIsNoTable
 
 -- the answer is want of memory, or the cause that was found
-abbrev pub Refused : IcuPrintError → Option IcuCause → Type 0
-Refused e found = (e ≡ OutOfMemory) ⊎ ((x : IcuCause) × (e ≡ NotPrintable x) × (found ≡ Some x))
+abbrev pub SaysIcuCause : IcuPrintError → Option IcuCause → Type 0
+SaysIcuCause e found =
+    (e ≡ OutOfMemory) ⊎ ((x : IcuCause) × (e ≡ NotPrintable x) × (found ≡ Some x))

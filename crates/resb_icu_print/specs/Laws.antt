@@ -1,10 +1,11 @@
 -- What the laws of printing in ICU's form say.
-use Rattle.std.specs.Prelude.{◌≡◌, ◌≤◌, ℕ, Bool, List, None, length}
+use Rattle.std.specs.Prelude.{◌≡◌, ◌≤◌, ℕ, Bool, List, None, is_some, length}
 use Rattle.resb_tree.specs.Tree.{Tree, Entries, table}
 use Rattle.resb_icu_grammar.specs.Bundle.{IcuText}
 use Rattle.resb_print.specs.Held.{IsHeld}
 use Rattle.resb_icu_print.specs.Printed.{printed_icu_bundle}
 use Rattle.resb_icu_print.specs.Causes.{first_cause}
+use Rattle.resb_icu_print.specs.CausePaths.{icu_cause_path}
 use Rattle.resb_icu_print.specs.Sizes.{icu_text_limit}
 
 -- no text of ICU's form has this name, flag and tree
@@ -25,6 +26,11 @@ abbrev pub AnIcuTextGivesNoCause : Type 0
 AnIcuTextGivesNoCause =
     (text name : List ℕ) (fallback : Bool) (t : Tree) (keys : List (List ℕ))
     → IcuText text name fallback t keys → first_cause name t ≡ None
+
+-- a bundle has a path to its first cause exactly where it has a cause
+abbrev pub IcuCausesHavePaths : Type 0
+IcuCausesHavePaths =
+    (name : List ℕ) (t : Tree) → is_some (icu_cause_path name t) ≡ is_some (first_cause name t)
 
 -- the printed text of a bundle is not longer than its limit, which is linear in what the bundle
 -- holds

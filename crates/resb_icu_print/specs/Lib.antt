@@ -2,6 +2,7 @@
 -- and the laws.
 pub mod Printed
 pub mod Causes
+pub mod CausePaths
 pub mod Sizes
 pub mod Laws
 pub mod Inner

@@ -2,20 +2,12 @@
 //! How a key is printed stands in `pieces`.
 ghost use Rattle.std.specs.Prelude.{◌≡◌};
 ghost use Rattle.resb_tree.specs.View.{tree_of};
-ghost use Rattle.resb_icu_grammar.specs.Bytes as bytes;
-ghost use Rattle.resb_icu_grammar.specs.Groups as groups;
 ghost use Rattle.resb_icu_print.specs.Printed as printed;
 ghost use Rattle.resb_icu_print.specs.Causes as causes;
 
+use resb_icu_grammar::{are_key_bytes, is_collation, is_table, is_word};
 use resb_print::has_quote;
 use resb_tree::Resource;
-
-/// Whether a byte may stand in a word.
-fn is_word(b: u8) -> bool
-    ensures { result ≡ bytes.is_word b }
-{
-    b.is_ascii_alphanumeric() || b == b'_' || b == b'.' || b == b'%' || b == b'-' || b == b'+'
-}
 
 /// Whether the bytes are word characters.
 fn are_words(bytes: &[u8]) -> bool
@@ -36,51 +28,11 @@ pub(crate) fn is_bare(text: &str) -> bool
     !text.is_empty() && are_words(text.as_bytes())
 }
 
-/// Whether a byte may stand in a key.
-fn is_key_byte(b: u8) -> bool
-    ensures { result ≡ bytes.is_key_byte b }
-{
-    match b {
-        b'!' | b'#' | b'$' | b'@' | b'[' | b'\\' | b']' | b'^' | b'`' | b'{' | b'|' | b'}' | b'~' =>
-            false,
-        _ => b >= 32 && b <= 126,
-    }
-}
-
-/// Whether each byte may stand in a key.
-fn are_key_bytes(text: &[u8]) -> bool
-    ensures { result ≡ bytes.are_key_bytes text.now }
-{
-    for b in text {
-        if !is_key_byte(*b) {
-            return false;
-        }
-    }
-    true
-}
-
 /// Whether a text may be a key.
 pub(crate) fn is_key(text: &str) -> bool
     ensures { result ≡ causes.is_icu_key text.now }
 {
     are_key_bytes(text.as_bytes()) && !has_quote(text)
-}
-
-/// Whether a key's table holds rules of collation.
-fn is_collation(key: &str) -> bool
-    ensures { result ≡ groups.is_collation key.now }
-{
-    key == "collations" || key == "CollationElements"
-}
-
-/// Whether a resource is a table.
-fn is_table(resource: &Resource<'_>) -> bool
-    ensures { result ≡ groups.holds_entries (tree_of resource.now) }
-{
-    match resource {
-        Resource::Table(_) => true,
-        _ => false,
-    }
 }
 
 /// Whether a table stands under a key whose tables hold rules of collation.

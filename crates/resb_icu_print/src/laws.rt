@@ -1,7 +1,7 @@
 //! Laws of texts printed in ICU's form, each the contract of a function that does nothing.
 //! Their statements stand in `specs/Laws`.
 ghost use Rattle.resb_icu_print.specs.Laws.{PrintedIcuIsABundle, AnIcuTextGivesNoCause};
-ghost use Rattle.resb_icu_print.specs.Laws.{PrintedIcuIsLinear};
+ghost use Rattle.resb_icu_print.specs.Laws.{PrintedIcuIsLinear, IcuCausesHavePaths};
 
 /// A tree in whose way nothing stands has a text of ICU's form.
 pub fn printed_icu_is_a_bundle()
@@ -18,4 +18,10 @@ pub fn an_icu_text_gives_no_cause()
 /// vector.
 pub fn printed_icu_is_linear()
     ensures { PrintedIcuIsLinear }
+{}
+
+/// A bundle has a path to what keeps it from having a text of ICU's form exactly where something
+/// does.
+pub fn icu_causes_have_paths()
+    ensures { IcuCausesHavePaths }
 {}

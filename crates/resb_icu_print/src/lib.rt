@@ -6,10 +6,12 @@ mod cause;
 mod error;
 mod keys;
 pub mod laws;
+mod path;
 mod pieces;
 mod print;
 mod step;
 
 pub use cause::IcuCause;
 pub use error::IcuPrintError;
+pub use path::icu_cause_path;
 pub use print::print_icu_text;

@@ -5,7 +5,7 @@ ghost use Rattle.std.specs.String.{string_bytes};
 ghost use Rattle.resb_tree.specs.Bundle.{name_of, root_of};
 ghost use Rattle.resb_tree.specs.View.{entries_view};
 ghost use Rattle.resb_icu_grammar.specs.Bundle.{IcuText};
-ghost use Rattle.resb_icu_print.specs.Causes.{causes_in_else, first_cause, Refused};
+ghost use Rattle.resb_icu_print.specs.Causes.{causes_in_else, first_cause, SaysIcuCause};
 ghost use Rattle.resb_icu_print.specs.Laws.{HasNoIcuText};
 ghost use Rattle.resb_icu_print.specs.Printed.{IsIcuBundleText};
 ghost use Rattle.resb_icu_print.specs.Sizes.{icu_text_limit};
@@ -23,7 +23,7 @@ use std::alloc::Global;
 fn push_lines(alloc: Global, out: &mut String, table: &Table<'_>) -> Result<(), IcuPrintError>
     ensures ok { OnOk result (ArePrinted out.old out.new (entries_view table.now.entries)) }
     ensures err { IfErr result (λ e.
-        Refused e (causes_in_else (entries_view table.now.entries) None)) }
+        SaysIcuCause e (causes_in_else (entries_view table.now.entries) None)) }
 {
     let mut pending = Vec::new(alloc);
     push_entries(&mut pending, 1, table)?;
@@ -50,7 +50,7 @@ pub fn print_icu_text(alloc: Global, bundle: &ResourceBundle<'_>) -> Result<Stri
     ensures size { IfOk result (λ text. length (string_bytes text)
         ≤ icu_text_limit (name_of bundle.now) (root_of bundle.now)) }
     ensures refusal { IfErr result (λ e.
-        Refused e (first_cause (name_of bundle.now) (root_of bundle.now))) }
+        SaysIcuCause e (first_cause (name_of bundle.now) (root_of bundle.now))) }
     ensures none { IfErr result (λ e. (e ≡ IcuPrintError.OutOfMemory)
         ⊎ HasNoIcuText (name_of bundle.now) bundle.now.is_locale_fallback_enabled
         (root_of bundle.now)) }

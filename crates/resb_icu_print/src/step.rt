@@ -6,7 +6,7 @@ ghost use Rattle.resb_tree.specs.View.{tree_of, items_view, entries_view};
 ghost use Rattle.resb_print.specs.Inner.Jobs.{jobs_in, job_of, Appends};
 ghost use Rattle.resb_icu_print.specs.Causes.{cause_else};
 ghost use Rattle.resb_icu_print.specs.Printed.{string_on};
-ghost use Rattle.resb_icu_print.specs.Inner.Jobs.{job_cause, DoesJob, DoesTree, Refuses};
+ghost use Rattle.resb_icu_print.specs.Inner.Jobs.{job_cause, DoesJob, DoesTree, HasFirstCause};
 
 use crate::cause::IcuCause;
 use crate::error::IcuPrintError;
@@ -106,7 +106,7 @@ pub(crate) fn step<'t, 'a>(
 ) -> Result<(), IcuPrintError>
     ensures ok { OnOk result (DoesJob out.old out.new (jobs_in pending.old.items)
         (jobs_in pending.new.items) (job_of task.entry)) }
-    ensures err { IfErr result (λ e. Refuses e (job_cause (job_of task.entry))) }
+    ensures err { IfErr result (λ e. HasFirstCause e (job_cause (job_of task.entry))) }
 {
     match task {
         Task::Entry(level, key, resource) => {

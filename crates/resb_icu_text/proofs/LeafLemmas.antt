@@ -13,7 +13,7 @@ use Rattle.resb_icu_grammar.specs.Words.{Text, Number}
 use Rattle.resb_icu_grammar.specs.Groups.{last_number, last_comma, one_more}
 use Rattle.resb_icu_grammar.specs.Groups.{string_content, binary_content, integer_content}
 use Rattle.resb_icu_grammar.specs.Groups.{no_numbers, numbers}
-use Rattle.resb_icu_grammar.specs.Stuck.{Counted, one_number, LeafStuck}
+use Rattle.resb_icu_grammar.specs.Stuck.{NumbersSoFar, one_number, LeafStuck}
 use Rattle.resb_icu_grammar.specs.declared.expected.IcuExpected.{IcuExpected}
 use Rattle.resb_icu_text.specs.declared.error.IcuTextError.{IcuTextError}
 use Rattle.resb_icu_text.specs.Inner.Leaf.{Leaf, LeafRefuses, Vector}
@@ -88,9 +88,9 @@ continues_more text at here i place v next ns p k (at_comma c l) b f =
         }))
 
 -- the numbers so far, each with a comma
-pub counted_more : (text : List ℕ) (from at i place v next : ℕ) → Counted text from at
+pub counted_more : (text : List ℕ) (from at i place v next : ℕ) → NumbersSoFar text from at
     → Number text at i v → Skip text i place → IsBehindNumber text place next
-    → slice_index text next ≢ ascii.right_brace → Counted text from next
+    → slice_index text next ≢ ascii.right_brace → NumbersSoFar text from next
 counted_more text from at i place v next d p k (at_brace c e) b =
     absurd (b (ap (λ u. slice_index text u) e ∙ c))
 counted_more text from at i place v next d p k (at_comma c l) b =

@@ -9,6 +9,7 @@ mod StringsLemmas
 mod LengthLemmas
 mod TypesLemmas
 mod DistinctLemmas
+mod KeptLemmas
 mod LeafLemmas
 mod ReadingLemmas
 mod StepsLemmas

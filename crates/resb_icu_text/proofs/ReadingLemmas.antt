@@ -1,7 +1,7 @@
 -- What is open around a place, what stands before the root, and where a reading of a text stops.
 use Rattle.std.proofs.Common.{◌≡◌, ◌≢◌, ℕ, ◌+◌, ◌≤◌, ◌<◌, Bool, true, false, List, [], ◌∷◌, ◌++◌}
-use Rattle.std.proofs.Common.{refl, sym, ◌∙◌, ap, subst, arith, length, get_or, Bor}
-use Rattle.std.proofs.Common.{◌⊎◌, inl, inr, ⊎_elim}
+use Rattle.std.proofs.Common.{refl, sym, ◌∙◌, ap, subst, arith, length, get_or, Bor, ◌⊎◌, inl, inr}
+use Rattle.std.proofs.Common.{⊎_elim}
 use Rattle.std.specs.Prelude.{slice_index, map, take, nat_eq, ◌==◌}
 use Rattle.std.specs.Cmp.Lexicographic.{pointwise}
 use Rattle.std.proofs.lemmas.Bool.Decides.{nat_tests}
@@ -19,8 +19,9 @@ use Rattle.resb_icu_grammar.specs.Bytes.{is_word}
 use Rattle.resb_icu_grammar.specs.Blanks.{Begins, Skip}
 use Rattle.resb_icu_grammar.specs.Bundle.{Header, Typing, without, with}
 use Rattle.resb_icu_grammar.specs.Words.{KeyText, Name}
-use Rattle.resb_icu_grammar.specs.Machine.{Waiting, Reading, reading, behind_group, Comes, here}
-use Rattle.resb_icu_grammar.specs.Stuck.{HeadStuck, StuckFrom, Stuck, in_head, in_root, at_root}
+use Rattle.resb_icu_grammar.specs.Machine.{at_root, Waiting, Reading, reading_at, behind_group}
+use Rattle.resb_icu_grammar.specs.Machine.{Comes, here}
+use Rattle.resb_icu_grammar.specs.Stuck.{HeadStuck, StuckFrom, Stuck, in_head, in_root}
 use Rattle.resb_icu_grammar.specs.Stuck.{no_root_type, no_root_brace, no_typed_brace, behind}
 use Rattle.resb_icu_grammar.specs.Stuck.{more_text}
 use Rattle.resb_icu_grammar.specs.Stuck as stuck
@@ -32,14 +33,14 @@ use Rattle.resb_icu_grammar.proofs.Refused.{stuck_is_no_text}
 use Rattle.resb_icu_text.specs.Answer.{IcuFails, IsNoIcuText}
 use Rattle.resb_icu_text.specs.Refusal.{want_of_memory}
 use Rattle.resb_icu_text.specs.declared.error.IcuTextError.{IcuTextError}
-use Rattle.resb_icu_text.specs.Inner.Steps.{shown, with_key, now, GroupThere, EndedThere}
-use Rattle.resb_icu_text.specs.Inner.Steps.{There, Steps, Stops}
+use Rattle.resb_icu_text.specs.Inner.Steps.{shown, with_key, now, GroupThere, EndedThere, There}
+use Rattle.resb_icu_text.specs.Inner.Steps.{Steps, Stops}
 use Rattle.resb_icu_text.specs.declared.steps.Waiting.{Waiting as Open}
 use Rattle.resb_icu_text.specs.declared.steps.Step.{Step}
 use Rattle.resb_icu_text.specs.declared.steps.Step.TheVariants as step
 use Rattle.resb_icu_text.specs.Inner.Reading.{around, NameFails, TypingThere, no_colon, a_type}
-use Rattle.resb_icu_text.specs.Inner.Reading.{OpeningFails, no_type, no_brace, HeadFails}
-use Rattle.resb_icu_text.specs.Inner.Reading.{RootThere, RootFails}
+use Rattle.resb_icu_text.specs.Inner.Reading.{OpeningFails, no_type, no_brace, HeadFails, RootThere}
+use Rattle.resb_icu_text.specs.Inner.Reading.{RootFails}
 
 -- one group more is the innermost
 pub around_push : (ws : List Waiting) (os : List Open) (o : Open)
@@ -170,7 +171,7 @@ pub behind_ended : (text : List ℕ) (w : Open) (r : Resource) (at : ℕ) (s : S
     → Steps text (EndedThere w r at) s
     → Comes text (now os ks (step.Ended r at)) (now ws ks s)
 behind_ended text w r at s os ws ks e h =
-    subst (λ vs. Comes text (reading vs ks (behind_group (tree_of r)) at) (now ws ks s)) (sym e)
+    subst (λ vs. Comes text (reading_at vs ks (behind_group (tree_of r)) at) (now ws ks s)) (sym e)
     (h ws ks)
 
 -- a refusal there
@@ -181,16 +182,16 @@ pub stops_ended : (text : List ℕ) (w : Open) (r : Resource) (at : ℕ) (e : Ic
     ⊎ StuckFrom text (now os ks (step.Ended r at)) e.position e.expected
 stops_ended text w r at e os ws ks f h =
     subst (λ vs. (e ≡ want_of_memory)
-    ⊎ StuckFrom text (reading vs ks (behind_group (tree_of r)) at) e.position e.expected) (sym f)
+    ⊎ StuckFrom text (reading_at vs ks (behind_group (tree_of r)) at) e.position e.expected) (sym f)
     (stops_there text (EndedThere w r at) e h ws ks)
 
 -- where nothing is open, the root has ended
 pub root_ended : (text : List ℕ) (r : Resource) (at : ℕ) (os : List Waiting) (ks : List (List ℕ))
     → os ≡ []
-    → Comes text (now os ks (step.Ended r at)) (reading [] ks (behind_group (tree_of r)) at)
+    → Comes text (now os ks (step.Ended r at)) (reading_at [] ks (behind_group (tree_of r)) at)
 root_ended text r at os ks e =
-    subst (λ vs. Comes text (reading vs ks (behind_group (tree_of r)) at)
-    (reading [] ks (behind_group (tree_of r)) at)) (sym e) (here _)
+    subst (λ vs. Comes text (reading_at vs ks (behind_group (tree_of r)) at)
+    (reading_at [] ks (behind_group (tree_of r)) at)) (sym e) (here _)
 
 -- where a reading stops that came from the root's first entry
 pub stops_root : (text : List ℕ) (first : ℕ) (r : Reading) (e : IcuTextError)
@@ -205,25 +206,25 @@ stops_root text first r e c f = ⊎_elim (λ (m : e ≡ want_of_memory). inl m)
 
 -- where more than blanks stands behind the root
 pub text_goes_on : (text : List ℕ) (first at end : ℕ) (t : Tree) (ks : List (List ℕ))
-    (e : IcuTextError) → Comes text (at_root first) (reading [] ks (behind_group t) at)
+    (e : IcuTextError) → Comes text (at_root first) (reading_at [] ks (behind_group t) at)
     → Skip text at end → end < length text
     → e ≡ record { position = end; expected = expect.EndOfText } → RootFails text first e
 text_goes_on text first at end t ks e c k w h =
     inr (subst (λ (g : IcuTextError). StuckFrom text (at_root first) g.position g.expected) (sym h)
     (record {
-      last = reading [] ks (behind_group t) at;
+      last = reading_at [] ks (behind_group t) at;
       comes = c;
       halts = behind [] ks t at end expect.EndOfText (more_text end k w);
     }))
 
 -- where nothing but blanks does, the root has this meaning
 pub text_ends : (text : List ℕ) (first at end : ℕ) (t : Tree) (ks : List (List ℕ))
-    → Comes text (at_root first) (reading [] ks (behind_group t) at) → Skip text at end
+    → Comes text (at_root first) (reading_at [] ks (behind_group t) at) → Skip text at end
     → length text ≤ end → end ≤ length text → RootThere text first (t, ks)
 text_ends text first at end t ks c k w v =
     let whole : Skip text at (length text) =
     subst (λ n. Skip text at n) (omega (arith, w, v)) k in
-    (comes_same text (at_root first) (reading [] ks (behind_group t) at) c (t, ks)).1
+    (comes_same text (at_root first) (reading_at [] ks (behind_group t) at) c (t, ks)).1
     (record { after = whole; means = refl })
 
 -- a refusal of the head is one of the text

@@ -1,7 +1,7 @@
 -- How each step of a reading goes on, and where a reading stops.
-use Rattle.std.proofs.Common.{◌≡◌, ◌≢◌, ℕ, ◌+◌, ◌&&◌, Bool, true, false, List, [], ◌∷◌, ◌++◌}
-use Rattle.std.proofs.Common.{Vec, BTreeMap, Bor, Global, ◌⊎◌, inl, inr, ⊎_elim}
-use Rattle.std.proofs.Common.{refl, sym, ◌∙◌, ap, subst}
+use Rattle.std.proofs.Common.{◌≡◌, ◌≢◌, ℕ, ◌+◌, ◌&&◌, Bool, true, false, List, [], ◌∷◌, ◌++◌, Vec}
+use Rattle.std.proofs.Common.{BTreeMap, Bor, Global, ◌⊎◌, inl, inr, ⊎_elim, refl, sym, ◌∙◌, ap}
+use Rattle.std.proofs.Common.{subst}
 use Rattle.std.proofs.lemmas.Bool.{false≢true}
 use Rattle.std.proofs.lemmas.List.{map-append}
 use Rattle.std.specs.Cow.{cow_str_bytes}
@@ -18,19 +18,19 @@ use Rattle.resb_icu_grammar.specs.Words as words
 use Rattle.resb_icu_grammar.specs.Words.{KeyText, GroupType}
 use Rattle.resb_icu_grammar.specs.Groups.{nothing, a_string, a_group, is_member, ends_in_string}
 use Rattle.resb_icu_grammar.specs.Groups.{is_collation, holds_entries}
-use Rattle.resb_icu_grammar.specs.Machine.{Waiting, AreDistinct, Standing, Reading, reading, Move}
-use Rattle.resb_icu_grammar.specs.Machine.{Leave, Comes, here, among_members, among_entries}
+use Rattle.resb_icu_grammar.specs.Machine.{Waiting, AreDistinct, Standing, Reading, reading_at}
+use Rattle.resb_icu_grammar.specs.Machine.{Move, StepOut, Comes, here, among_members, among_entries}
 use Rattle.resb_icu_grammar.specs.Machine.{behind_group, in_untyped, in_typed, before_group}
 use Rattle.resb_icu_grammar.specs.Machine as move
 use Rattle.resb_icu_grammar.specs.Stuck.{Blocked, EndBlocked, StuckFrom, LeafStuck, inside, behind}
-use Rattle.resb_icu_grammar.specs.Stuck.{NoText, NoKey, string_or}
+use Rattle.resb_icu_grammar.specs.Stuck.{NoStringAt, NoKeyAt, string_or}
 use Rattle.resb_icu_grammar.specs.Stuck as stuck
 use Rattle.resb_icu_grammar.specs.declared.expected.IcuExpected.{IcuExpected}
 use Rattle.resb_icu_grammar.specs.declared.expected.IcuExpected.TheVariants as expect
 use Rattle.resb_icu_grammar.proofs.Lexical.{String-one, key_string}
 use Rattle.resb_icu_grammar.proofs.Groups.{Closes}
-use Rattle.resb_icu_grammar.proofs.Moves.{comes_by, one_move, one_leave}
-use Rattle.resb_icu_text.specs.Lexemes.{IsLexeme, bytes_said, is_key}
+use Rattle.resb_icu_grammar.proofs.Moves.{comes_by, one_move, one_step_out}
+use Rattle.resb_icu_text.specs.Lexemes.{IsLexeme, bytes_said, may_be_key}
 use Rattle.resb_icu_text.specs.Refusal.{want_of_memory}
 use Rattle.resb_icu_text.specs.declared.strings.Lexeme.{Lexeme}
 use Rattle.resb_icu_text.specs.declared.error.IcuTextError.{IcuTextError}
@@ -40,9 +40,9 @@ use Rattle.resb_icu_text.specs.declared.steps.Waiting.TheVariants as waiting
 use Rattle.resb_icu_text.specs.declared.steps.Step.{Step}
 use Rattle.resb_icu_text.specs.declared.steps.Step.TheVariants as step
 use Rattle.resb_icu_text.specs.Inner.Leaf.{Leaf, LeafRefuses}
-use Rattle.resb_icu_text.specs.Inner.Steps.{last_of, now, There, Steps, Stops}
-use Rattle.resb_icu_text.specs.Inner.Steps.{MembersThere, EntriesThere, GroupThere}
-use Rattle.resb_icu_text.specs.Inner.Steps.{UntypedThere, TypedThere, EndedThere, KeyAhead}
+use Rattle.resb_icu_text.specs.Inner.Steps.{last_of, now, There, Steps, Stops, MembersThere}
+use Rattle.resb_icu_text.specs.Inner.Steps.{EntriesThere, GroupThere, UntypedThere, TypedThere}
+use Rattle.resb_icu_text.specs.Inner.Steps.{EndedThere, KeyAhead}
 
 pub second_fails : (a b : Bool) → b ≡ false → (a && b) ≡ false
 second_fails true b k = k
@@ -53,18 +53,18 @@ first_fails a b h = ap (λ x. x && b) h
 
 -- what a string says that may be a key
 pub is_a_key : (text : List ℕ) (at : ℕ) (l : Lexeme) (k : List ℕ) → IsLexeme text at l
-    → (k ≡ bytes_said l.said) × (is_key l.said ≡ true) → KeyText text at l.end k
+    → (k ≡ bytes_said l.said) × (may_be_key l.said ≡ true) → KeyText text at l.end k
 is_a_key text at l k is e =
     subst (λ (s : List ℕ). KeyText text at l.end s) (sym e.0) (is.key.0 e.1)
 
 -- and the blanks behind it
 pub key_ahead : (text : List ℕ) (at : ℕ) (l : Lexeme) (k : List ℕ) → IsLexeme text at l
-    → (k ≡ bytes_said l.said) × (is_key l.said ≡ true) → KeyAhead text at l.next k
+    → (k ≡ bytes_said l.said) × (may_be_key l.said ≡ true) → KeyAhead text at l.next k
 key_ahead text at l k is e =
     record { to = l.end; stands = is_a_key text at l k is e; after = is.blanks }
 
 -- where a string may be no key, no key stands
-pub no_key : (text : List ℕ) (at : ℕ) (l : Lexeme) → IsLexeme text at l → is_key l.said ≡ false
+pub no_key : (text : List ℕ) (at : ℕ) (l : Lexeme) → IsLexeme text at l → may_be_key l.said ≡ false
     → (to : ℕ) (k : List ℕ) → KeyText text at to k → ⊥
 no_key text at l is n to k p =
     let same = String-one text at to l.end k (bytes_said l.said) (key_string text at to k p)
@@ -111,12 +111,12 @@ stops_by text A B e f r = ⊎_elim (λ (m : e ≡ want_of_memory). inl m)
 
 -- where a reading is blocked
 pub stops_at : (text : List ℕ) (s : Standing) (at to : ℕ) (x : IcuExpected) (e : IcuTextError)
-    → Says to x e → Blocked text s at to x → Stops text (λ ws ks. reading ws ks s at) e
+    → Says to x e → Blocked text s at to x → Stops text (λ ws ks. reading_at ws ks s at) e
 stops_at text s at to x e h b =
-    inr (λ ws ks. subst (λ (f : IcuTextError). StuckFrom text (reading ws ks s at) f.position
+    inr (λ ws ks. subst (λ (f : IcuTextError). StuckFrom text (reading_at ws ks s at) f.position
     f.expected) (sym h) (record {
-      last = reading ws ks s at;
-      comes = here (reading ws ks s at);
+      last = reading_at ws ks s at;
+      comes = here (reading_at ws ks s at);
       halts = inside ws ks s at to x b;
     }))
 
@@ -137,7 +137,7 @@ module _ (text : List ℕ) where
       → Steps text (MembersThere v.items l at) (step.Ended (Array v) (at + 1))
   members_end v l at c ws ks =
       subst (λ (t : Tree). Comes text (MembersThere v.items l at ws ks)
-      (reading ws ks (behind_group t) (at + 1))) (sym (tree_of_array v))
+      (reading_at ws ks (behind_group t) (at + 1))) (sym (tree_of_array v))
       (one_move text ws ks _ at _ (move.array_ends (last_of l) (map tree_of v.items) at c))
 
   -- a brace or a colon begins a member
@@ -170,7 +170,7 @@ module _ (text : List ℕ) where
       → Steps text (MembersThere old l at) (step.Members v last.String j)
   member_string old v l at i j s x e p k h g ws ks =
       subst (λ ts. Comes text (MembersThere old l at ws ks)
-      (reading ws ks (among_members a_string ts) j))
+      (reading_at ws ks (among_members a_string ts) j))
       (sym (trees_with v.items old (String x) g
       ∙ ap (λ t. map tree_of old ++ t ∷ []) (tree_of_string x ∙ ap string h)))
       (one_move text ws ks _ at _
@@ -188,7 +188,7 @@ module _ (text : List ℕ) where
       → Says at (string_or (slice_index text at) expect.Member) e
       → slice_index text at ≢ ascii.right_brace → slice_index text at ≢ ascii.comma
       → slice_index text at ≢ ascii.left_brace → slice_index text at ≢ ascii.colon
-      → NoText text at → Stops text (MembersThere es l at) e
+      → NoStringAt text at → Stops text (MembersThere es l at) e
   no_member es l at e h a b d f g =
       stops_at text _ at at _ e h
       (stuck.no_member (last_of l) (map tree_of es) at a b (⊎_elim d f) g)
@@ -200,7 +200,7 @@ module _ (text : List ℕ) where
       → Steps text (EntriesThere es at) (step.Ended (Table m) (at + 1))
   entries_end es m at c d h ws ks =
       subst (λ (t : Tree). Comes text (EntriesThere es at ws ks)
-      (reading ws ks (behind_group t) (at + 1))) (sym (tree_of_table m ∙ ap table h))
+      (reading_at ws ks (behind_group t) (at + 1))) (sym (tree_of_table m ∙ ap table h))
       (one_move text ws ks _ at _ (move.table_ends (pairs_view es) at c d))
 
   -- a `}` behind a key that stands twice
@@ -218,7 +218,7 @@ module _ (text : List ℕ) where
 
   -- neither a key nor a `}`
   pub no_entry : (es : List (List ℕ × Resource)) (at : ℕ) (e : IcuTextError)
-      → Says at expect.Entry e → slice_index text at ≢ ascii.right_brace → NoKey text at
+      → Says at expect.Entry e → slice_index text at ≢ ascii.right_brace → NoKeyAt text at
       → Stops text (EntriesThere es at) e
   no_entry es at e h a f = stops_at text _ at at _ e h (stuck.no_entry (pairs_view es) at a f)
 
@@ -267,7 +267,7 @@ module _ (text : List ℕ) where
       → Steps text (TypedThere array_kind at) (step.Members v last.Nothing at)
   array_content v at e ws ks =
       subst (λ ts. Comes text (TypedThere array_kind at ws ks)
-      (reading ws ks (among_members nothing ts) at)) (sym (ap (λ l. map tree_of l) e))
+      (reading_at ws ks (among_members nothing ts) at)) (sym (ap (λ l. map tree_of l) e))
       (one_move text ws ks _ at _ (move.members_follow at))
 
   -- in a table entries follow
@@ -275,7 +275,7 @@ module _ (text : List ℕ) where
       → Steps text (TypedThere table_kind at) (step.Entries v at)
   table_content v at e ws ks =
       subst (λ es. Comes text (TypedThere table_kind at ws ks)
-      (reading ws ks (among_entries es) at)) (sym (ap pairs_view e))
+      (reading_at ws ks (among_entries es) at)) (sym (ap pairs_view e))
       (one_move text ws ks _ at _ (move.entries_follow at))
 
   -- in another group its content
@@ -297,7 +297,7 @@ module _ (text : List ℕ) where
       → Steps text (UntypedThere at) (step.Ended (Array v) (at + 1))
   untyped_empty v at c e ws ks =
       subst (λ (t : Tree). Comes text (UntypedThere at ws ks)
-      (reading ws ks (behind_group t) (at + 1)))
+      (reading_at ws ks (behind_group t) (at + 1)))
       (sym (tree_of_array v ∙ ap (λ l. array (items_view l)) e))
       (one_move text ws ks _ at _ (move.untyped_nothing at c))
 
@@ -307,7 +307,7 @@ module _ (text : List ℕ) where
       → v.items ≡ [] → Steps text (UntypedThere at) (step.Members v last.Nothing at)
   untyped_group v at f e ws ks =
       subst (λ ts. Comes text (UntypedThere at ws ks)
-      (reading ws ks (among_members nothing ts) at)) (sym (ap (λ l. map tree_of l) e))
+      (reading_at ws ks (among_members nothing ts) at)) (sym (ap (λ l. map tree_of l) e))
       (one_move text ws ks _ at _ (move.begins_with_group at f))
 
   -- one string in a group without a type
@@ -316,7 +316,7 @@ module _ (text : List ℕ) where
       → Steps text (UntypedThere at) (step.Ended (String x) (k + 1))
   untyped_one at i k s x p l c h ws ks =
       subst (λ (t : Tree). Comes text (UntypedThere at ws ks)
-      (reading ws ks (behind_group t) (k + 1))) (sym (tree_of_string x ∙ ap string h))
+      (reading_at ws ks (behind_group t) (k + 1))) (sym (tree_of_string x ∙ ap string h))
       (one_move text ws ks _ at _ (move.untyped_string at i k s p l c))
 
   -- a string and a comma in a group without a type
@@ -326,7 +326,7 @@ module _ (text : List ℕ) where
       → Steps text (UntypedThere at) (step.Members v last.String k)
   untyped_comma v at i k s x p l c h e ws ks =
       subst (λ ts. Comes text (UntypedThere at ws ks)
-      (reading ws ks (among_members a_string ts) k))
+      (reading_at ws ks (among_members a_string ts) k))
       (sym (ap (λ l. map tree_of l) e ∙ ap (λ t. t ∷ []) (tree_of_string x ∙ ap string h)))
       (one_move text ws ks _ at _ (move.begins_with_string at i k s p l c))
 
@@ -338,7 +338,7 @@ module _ (text : List ℕ) where
       → Steps text (UntypedThere at) (step.Group (waiting.Table v key) k)
   untyped_key v key at i k p l f e ws ks =
       subst (λ es. Comes text (UntypedThere at ws ks)
-      (reading (move.in_table es key.now ∷ ws) (ks ++ key.now ∷ []) before_group k))
+      (reading_at (move.in_table es key.now ∷ ws) (ks ++ key.now ∷ []) before_group k))
       (sym (ap pairs_view e))
       (one_move text ws ks _ at _ (move.begins_with_key at i k key.now p l f))
 
@@ -355,7 +355,7 @@ module _ (text : List ℕ) where
   pub no_untyped_key : (at i k : ℕ) (s : List ℕ) (e : IcuTextError) → Says at expect.Key e
       → words.Text text at i s → Skip text i k
       → (slice_index text k ≡ ascii.left_brace) ⊎ (slice_index text k ≡ ascii.colon)
-      → NoKey text at → Stops text (UntypedThere at) e
+      → NoKeyAt text at → Stops text (UntypedThere at) e
   no_untyped_key at i k s e h p l b f =
       stops_at text _ at at _ e h (stuck.no_key at i k s p l b f)
 
@@ -363,7 +363,7 @@ module _ (text : List ℕ) where
   pub no_untyped : (at : ℕ) (e : IcuTextError)
       → Says at (string_or (slice_index text at) expect.Member) e
       → slice_index text at ≢ ascii.right_brace → slice_index text at ≢ ascii.left_brace
-      → slice_index text at ≢ ascii.colon → NoText text at → Stops text (UntypedThere at) e
+      → slice_index text at ≢ ascii.colon → NoStringAt text at → Stops text (UntypedThere at) e
   no_untyped at e h a b d f = stops_at text _ at at _ e h (stuck.no_content at a (⊎_elim b d) f)
 
   -- behind a group that is a member
@@ -372,9 +372,9 @@ module _ (text : List ℕ) where
       → Steps text (EndedThere (waiting.Array old) r at) (step.Members v last.Group next)
   behind_member old v r at next k e ws ks =
       subst (λ ts. Comes text (EndedThere (waiting.Array old) r at ws ks)
-      (reading ws ks (among_members a_group ts) next))
+      (reading_at ws ks (among_members a_group ts) next))
       (sym (trees_with v.items old.items r e))
-      (one_leave text _ ks (tree_of r) at _
+      (one_step_out text _ ks (tree_of r) at _
       (move.was_member ws (map tree_of old.items) next k))
 
   -- behind a group that is the value of an entry
@@ -384,8 +384,8 @@ module _ (text : List ℕ) where
       → Steps text (EndedThere (waiting.Table old key) r at) (step.Entries v next)
   behind_value old v key r at next f k e ws ks =
       subst (λ es. Comes text (EndedThere (waiting.Table old key) r at ws ks)
-      (reading ws ks (among_entries es) next)) (sym (pairs_with v.items old.items key.now r e))
-      (one_leave text _ ks (tree_of r) at _
+      (reading_at ws ks (among_entries es) next)) (sym (pairs_with v.items old.items key.now r e))
+      (one_step_out text _ ks (tree_of r) at _
       (move.was_value ws (pairs_view old.items) key.now next f k))
 
   -- rules of collation

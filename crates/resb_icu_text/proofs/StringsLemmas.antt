@@ -1,6 +1,6 @@
 -- Laws of strings and keys, as the reader's functions use them.
-use Rattle.std.proofs.Common.{◌≡◌, ◌≢◌, ℕ, suc, ◌+◌, ◌-◌, ◌<◌, ◌≤◌, true, false, List, []}
-use Rattle.std.proofs.Common.{◌∷◌, ◌++◌, length, arith, subst, sym, refl, ap, ◌∙◌, take, drop}
+use Rattle.std.proofs.Common.{◌≡◌, ◌≢◌, ℕ, suc, ◌+◌, ◌-◌, ◌<◌, ◌≤◌, true, false, List, [], ◌∷◌}
+use Rattle.std.proofs.Common.{◌++◌, length, arith, subst, sym, refl, ap, ◌∙◌, take, drop}
 use Rattle.std.proofs.Common.{append_assoc, append-nil, drop-cons, ◌⊎◌, inl, inr}
 use Rattle.std.specs.Prelude.{slice_index, slice_range}
 use Rattle.std.specs.Borrow.{Bor}
@@ -10,16 +10,16 @@ use Rattle.resb_grammar.specs.Ascii as ascii
 use Rattle.resb_icu_grammar.specs.Bytes.{backslash, is_word, are_key_bytes}
 use Rattle.resb_icu_grammar.specs.Blanks.{Skip}
 use Rattle.resb_icu_grammar.specs.Pieces.{QuotedBytes, ends, byte, escape, QuotedPiece, Joined}
-use Rattle.resb_icu_grammar.specs.Pieces.{last_piece}
-use Rattle.resb_icu_grammar.specs.Pieces.{one_more}
+use Rattle.resb_icu_grammar.specs.Pieces.{last_piece, one_more}
 use Rattle.resb_icu_grammar.specs.Words.{Word, Text, KeyText, HasNoEscape}
 use Rattle.resb_icu_grammar.specs.Words as words
 use Rattle.resb_icu_grammar.proofs.Lexical.{Piece-one, Skip-one, word_first, joined_first}
 use Rattle.resb_icu_text.specs.declared.strings.Said.{Said}
 use Rattle.resb_icu_text.specs.declared.strings.Said.TheVariants as the
-use Rattle.resb_icu_text.specs.Lexemes.{IsNoLexeme, IsLexeme, Plain, a_word, a_piece}
+use Rattle.resb_icu_grammar.specs.Stuck.{NoStringAt}
+use Rattle.resb_icu_text.specs.Lexemes.{IsLexeme, Verbatim, a_word, a_piece}
 use Rattle.resb_icu_text.specs.Inner.Ahead.{Ahead, no_more, more}
-use Rattle.resb_icu_text.specs.Lexemes.{bytes_said, is_key, is_slice}
+use Rattle.resb_icu_text.specs.Lexemes.{bytes_said, may_be_key, stands_whole}
 use Rattle.resb_icu_text.proofs.PiecesLemmas.{inside_order, inside_closes, escape_order, slice_none}
 
 quote_no_word : (b : ℕ) → b ≡ ascii.quote → is_word b ≡ true → ⊥
@@ -144,7 +144,7 @@ no_piece_ahead text end next at coming old value q never a to later b =
 
 -- where no pieces stand, a quote begins no string
 pub no_string : (text : List ℕ) (from : ℕ) → slice_index text from ≡ ascii.quote
-    → ((to : ℕ) (s : List ℕ) → Joined text from to s → ⊥) → IsNoLexeme text from
+    → ((to : ℕ) (s : List ℕ) → Joined text from to s → ⊥) → NoStringAt text from
 no_string text from q never to s (words.a_word w) = no_word text from to s q w
 no_string text from q never to s (words.quoted j) = never to s j
 
@@ -153,7 +153,7 @@ pub no_string_ahead : (text : List ℕ) (from last next : ℕ) (first : List ℕ
     → slice_index text from ≡ ascii.quote → QuotedBytes text (from + 1) last first
     → Skip text (last + 1) next
     → ((to : ℕ) (later : List ℕ) → Ahead text (last + 1) next to later → ⊥)
-    → IsNoLexeme text from
+    → NoStringAt text from
 no_string_ahead text from last next first q h s never =
     no_string text from q (λ to all j.
     let r = unjoin text from (last + 1) next to first all (piece_of text from last first q h) s j in
@@ -162,7 +162,7 @@ no_string_ahead text from last next first q h s never =
 -- a string put together isn't plain, if a piece follows its first one or an escape stands there
 pub not_plain : (text : List ℕ) (from last to : ℕ) (first s : List ℕ)
     → slice_index text from ≡ ascii.quote → QuotedBytes text (from + 1) last first
-    → (HasNoEscape text (from + 1) last → last + 1 ≢ to) → Plain text from to s → ⊥
+    → (HasNoEscape text (from + 1) last → last + 1 ≢ to) → Verbatim text from to s → ⊥
 not_plain text from last to first s q h f (a_word w) = no_word text from to s q w
 not_plain text from last to first s q h f (a_piece j p n) =
     let p' = piece_of text from last first q h in
@@ -224,7 +224,7 @@ module _ (text : List ℕ) (from last next : ℕ) (bytes : List ℕ) where
   -- and it stands in the text as it is
   pub plain_piece : slice_index text from ≡ ascii.quote → QuotedBytes text (from + 1) last bytes
       → Skip text (last + 1) next → slice_index text next ≢ ascii.quote
-      → HasNoEscape text (from + 1) last → Plain text from (last + 1) bytes
+      → HasNoEscape text (from + 1) last → Verbatim text from (last + 1) bytes
   plain_piece q h s n f =
       a_piece (last_piece from (last + 1) next bytes (piece_of text from last bytes q h) s n)
       (piece_of text from last bytes q h)
@@ -232,23 +232,23 @@ module _ (text : List ℕ) (from last next : ℕ) (bytes : List ℕ) where
 
 -- what may be a key is what stands in the text as it is, with bytes that a key may have
 pub key_plain : (text : List ℕ) (from to : ℕ) (s : List ℕ) → KeyText text from to s
-    → Plain text from to s × (are_key_bytes s ≡ true)
+    → Verbatim text from to s × (are_key_bytes s ≡ true)
 key_plain text from to s (words.a_word w k) = (a_word w, k)
 key_plain text from to s (words.quoted j p n k) = (a_piece j p n, k)
 
-plain_key : (text : List ℕ) (from to : ℕ) (s : List ℕ) → Plain text from to s
+plain_key : (text : List ℕ) (from to : ℕ) (s : List ℕ) → Verbatim text from to s
     → are_key_bytes s ≡ true → KeyText text from to s
 plain_key text from to s (a_word w) k = words.a_word w k
 plain_key text from to s (a_piece j p n) k = words.quoted j p n k
 
-plain_is_string : (text : List ℕ) (from to : ℕ) (s : List ℕ) → Plain text from to s
+plain_is_string : (text : List ℕ) (from to : ℕ) (s : List ℕ) → Verbatim text from to s
     → Text text from to s
 plain_is_string text from to s (a_word w) = words.a_word w
 plain_is_string text from to s (a_piece j p n) = words.quoted j
 
 -- what a string that stands in the text as it is answers
 pub plain_lexeme : (text : List ℕ) (from end next : ℕ) (slice : Bor (List ℕ))
-    → Plain text from end slice.now → Skip text end next → from < end → end ≤ next
+    → Verbatim text from end slice.now → Skip text end next → from < end → end ≤ next
     → next ≤ length text
     → IsLexeme text from (record { end = end; next = next; said = the.Slice slice })
 plain_lexeme text from end next slice p s low order fits = record {
@@ -290,7 +290,7 @@ module _ (text : List ℕ) (from last next : ℕ) (first : List ℕ) where
   pub built_lexeme : (to behind : ℕ) (later : List ℕ) (said : Said)
       → slice_index text from ≡ ascii.quote → QuotedBytes text (from + 1) last first
       → Skip text (last + 1) next → Ahead text (last + 1) next to later → Skip text to behind
-      → bytes_said said ≡ first ++ later → is_key said ≡ false → is_slice said ≡ false
+      → bytes_said said ≡ first ++ later → may_be_key said ≡ false → stands_whole said ≡ false
       → (HasNoEscape text (from + 1) last → last + 1 ≢ to) → last + 1 ≤ to → to ≤ behind
       → behind ≤ length text
       → IsLexeme text from (record { end = to; next = behind; said = said })
@@ -313,7 +313,7 @@ module _ (text : List ℕ) (from last next : ℕ) (first : List ℕ) where
 
 -- where neither a quote nor a word stands, no string does
 pub no_lexeme : (text : List ℕ) (from : ℕ) → slice_index text from ≢ ascii.quote
-    → ((to : ℕ) (s : List ℕ) → Word text from to s → ⊥) → IsNoLexeme text from
+    → ((to : ℕ) (s : List ℕ) → Word text from to s → ⊥) → NoStringAt text from
 no_lexeme text from n never to s (words.a_word w) = never to s w
 no_lexeme text from n never to s (words.quoted j) = n (joined_first text from to s j)
 

@@ -15,7 +15,7 @@ use Rattle.resb_icu_grammar.specs.Bytes.{is_word}
 use Rattle.resb_icu_grammar.specs.Words.{Digits, Number}
 use Rattle.resb_icu_grammar.specs.Words as words
 use Rattle.resb_icu_grammar.proofs.Lexical.{digit_first}
-use Rattle.resb_icu_text.specs.Inner.Numbers.{Signed, unsigned, plus, minus}
+use Rattle.resb_icu_text.specs.Inner.Numbers.{DigitsInRange, unsigned, plus, minus}
 use Rattle.resb_grammar.proofs.ReaderLemmas.{digits_value-suc}
 
 pub if_none_by : {A : Type 0} (o : Option A) (P : Type 0) → P → IfNone o P
@@ -29,14 +29,14 @@ pub decimal_more : (text : List ℕ) (from at value b next : ℕ) → b ≡ slic
     → next ≡ min (digits_value text from (at + 1 - from)) 4294967296
 decimal_more text from at value b next h order is more =
     let d : digits_value text from (at + 1 - from) ≡ digits_value text from (at - from) * 10 +
-    (slice_index text at - ascii.digit_0) = digits_value-suc text from at (at - from) (at + 1 - from)
-    (omega arith) (omega arith) in
+    (slice_index text at - ascii.digit_0) =
+    digits_value-suc text from at (at - from) (at + 1 - from) (omega arith) (omega arith) in
     omega (arith, d, h, is, more)
 
 -- behind a plus stand no digits of its range
 pub no_plus : (text : List ℕ) (from : ℕ) → slice_index text from ≡ ascii.plus
     → ((to v : ℕ) → Digits text (from + 1) to v → v ≤ 2147483647 → ⊥)
-    → (to v : ℕ) → Signed text from to v → ⊥
+    → (to v : ℕ) → DigitsInRange text from to v → ⊥
 no_plus text from e f to v (unsigned _ d low) = absurd (omega (arith, digit_first text from to v d))
 no_plus text from e f to v (plus _ h d low) = f to v d low
 no_plus text from e f to v (minus n h d low) = absurd (omega arith)
@@ -44,7 +44,7 @@ no_plus text from e f to v (minus n h d low) = absurd (omega arith)
 -- behind a minus stand no digits of its range
 pub no_minus : (text : List ℕ) (from : ℕ) → slice_index text from ≡ ascii.dash
     → ((to v : ℕ) → Digits text (from + 1) to v → v ≤ 2147483648 → ⊥)
-    → (to v : ℕ) → Signed text from to v → ⊥
+    → (to v : ℕ) → DigitsInRange text from to v → ⊥
 no_minus text from e f to v (unsigned _ d low) =
     absurd (omega (arith, digit_first text from to v d))
 no_minus text from e f to v (plus _ h d low) = absurd (omega arith)
@@ -54,34 +54,37 @@ no_minus text from e f to v (minus n h d low) = f to n d low
 pub no_digits : (text : List ℕ) (from : ℕ) → slice_index text from ≢ ascii.plus
     → slice_index text from ≢ ascii.dash
     → ((to v : ℕ) → Digits text from to v → v ≤ 4294967295 → ⊥)
-    → (to v : ℕ) → Signed text from to v → ⊥
+    → (to v : ℕ) → DigitsInRange text from to v → ⊥
 no_digits text from e e' f to v (unsigned _ d low) = f to v d low
 no_digits text from e e' f to v (plus _ h d low) = e h
 no_digits text from e e' f to v (minus n h d low) = e' h
 
 pub is_minus : (text : List ℕ) (from to n v : ℕ) → slice_index text from ≡ ascii.dash
-    → Digits text (from + 1) to n → n ≤ 2147483648 → v ≡ plain.negated n → Signed text from to v
-is_minus text from to n v e d low is = subst (λ w. Signed text from to w) (sym is) (minus n e d low)
+    → Digits text (from + 1) to n → n ≤ 2147483648 → v ≡ plain.negated n
+    → DigitsInRange text from to v
+is_minus text from to n v e d low is =
+    subst (λ w. DigitsInRange text from to w) (sym is) (minus n e d low)
 
 -- a number is a word of a sign and digits
 pub signed_number : (text : List ℕ) (from to v : ℕ) → Run is_word text from to
-    → Signed text from to v → Number text from to v
+    → DigitsInRange text from to v → Number text from to v
 signed_number text from to v r (unsigned _ d low) = words.unsigned v r d low
 signed_number text from to v r (plus _ h d low) = words.plus v r h d low
 signed_number text from to v r (minus n h d low) = words.minus n r h d low
 
 pub number_signed : (text : List ℕ) (from to v : ℕ) → Number text from to v
-    → Run is_word text from to × Signed text from to v
+    → Run is_word text from to × DigitsInRange text from to v
 number_signed text from to v (words.unsigned _ r d low) = (r, unsigned v d low)
 number_signed text from to v (words.plus _ r h d low) = (r, plus v h d low)
 number_signed text from to v (words.minus n r h d low) = (r, minus n h d low)
 
-pub no_number : (text : List ℕ) (from : ℕ) → ((to v : ℕ) → Signed text from to v → ⊥)
+pub no_number : (text : List ℕ) (from : ℕ) → ((to v : ℕ) → DigitsInRange text from to v → ⊥)
     → (to v : ℕ) → Number text from to v → ⊥
 no_number text from f to v n = f to v (number_signed text from to v n).1
 
 -- digits end in one place
-signed_ends : (text : List ℕ) (from a b v w : ℕ) → Signed text from a v → Signed text from b w
+signed_ends : (text : List ℕ) (from a b v w : ℕ) → DigitsInRange text from a v
+    → DigitsInRange text from b w
     → a ≡ b
 signed_ends text from a b v w (unsigned _ d low) (unsigned _ e high) =
     Run-one _ text from a b d.digits.run e.digits.run
@@ -102,7 +105,7 @@ signed_ends text from a b v w (minus n h d low) (minus n' h' e high) =
 
 -- digits that end before their word does are no number
 pub no_whole_number : (text : List ℕ) (from to end v : ℕ) → Run is_word text from end
-    → Signed text from to v → to ≢ end → (k w : ℕ) → Number text from k w → ⊥
+    → DigitsInRange text from to v → to ≢ end → (k w : ℕ) → Number text from k w → ⊥
 no_whole_number text from to end v r s ne k w n =
     let both = number_signed text from k w n in
     ne (signed_ends text from to k v w s both.1 ∙ Run-one is_word text from k end both.0 r)

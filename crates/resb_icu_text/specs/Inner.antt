@@ -1,6 +1,7 @@
 -- Words of private functions.
 pub mod Ahead
 pub mod Escaped
+pub mod Kept
 pub mod Leaf
 pub mod Numbers
 pub mod Reach

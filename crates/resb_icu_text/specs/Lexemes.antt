@@ -16,32 +16,28 @@ bytes_said (the.Slice s) = s.now
 bytes_said (the.Built s) = string_bytes s
 
 -- it may be a key
-abbrev pub is_key : Said → Bool
-is_key (the.Slice s) = are_key_bytes s.now
-is_key (the.Built s) = false
+abbrev pub may_be_key : Said → Bool
+may_be_key (the.Slice s) = are_key_bytes s.now
+may_be_key (the.Built s) = false
 
--- it is a slice of the text
-abbrev pub is_slice : Said → Bool
-is_slice (the.Slice s) = true
-is_slice (the.Built s) = false
+-- what it says stands in the text as it is, and is a slice of it
+abbrev pub stands_whole : Said → Bool
+stands_whole (the.Slice s) = true
+stands_whole (the.Built s) = false
 
 -- a word, or one quoted piece without a backslash and with no other behind it: what it says stands
 -- in the text as it is
-pub data Plain (text : List ℕ) (from to : ℕ) (bytes : List ℕ) : Type 0 where
-  a_word : Word text from to bytes → Plain text from to bytes
+pub data Verbatim (text : List ℕ) (from to : ℕ) (bytes : List ℕ) : Type 0 where
+  a_word : Word text from to bytes → Verbatim text from to bytes
   a_piece : Joined text from to bytes → QuotedPiece text from to bytes → HasNoEscape text from to
-      → Plain text from to bytes
+      → Verbatim text from to bytes
 
 -- a string stands there, with what it says, whether it may be a key, and blanks behind it
 pub record IsLexeme (text : List ℕ) (from : ℕ) (l : Lexeme) : Type 0 where
   pub string : Text text from l.end (bytes_said l.said)
-  pub key : IsTrue (is_key l.said) ↔ KeyText text from l.end (bytes_said l.said)
-  pub slice : IsTrue (is_slice l.said) ↔ Plain text from l.end (bytes_said l.said)
+  pub key : IsTrue (may_be_key l.said) ↔ KeyText text from l.end (bytes_said l.said)
+  pub slice : IsTrue (stands_whole l.said) ↔ Verbatim text from l.end (bytes_said l.said)
   pub blanks : Skip text l.end l.next
   pub after : from < l.end
   pub order : l.end ≤ l.next
   pub fits : l.next ≤ length text
-
--- no string stands there
-abbrev pub IsNoLexeme : List ℕ → ℕ → Type 0
-IsNoLexeme text from = (to : ℕ) (s : List ℕ) → Text text from to s → ⊥

@@ -124,8 +124,8 @@ fn white_end(text: &str, from: usize) -> usize
 }
 
 /// Where the white characters and comments end that begin at a place of a text. Counts a turn for
-/// each byte up to there, one for each run of white characters, and one for each byte of the text
-/// behind a comment that has no end.
+/// each byte up to there, one for each round of its loop, which passes white characters and a
+/// comment, and one for each byte of the text behind a comment that has no end.
 pub fn skip(text: &str, from: usize, turns: &mut IcuTurns) -> usize
     requires within { from ≤ length text.now }
     ensures skip { Skip text.now from result }

@@ -1,5 +1,5 @@
 //! Why a text of ICU's form is refused: the place, and what was expected there.
-//! What may be expected is listed in `expected`.
+//! What may be expected is listed in `resb_icu_grammar`.
 ghost use Rattle.std.specs.Prelude.{◌≡◌, Some, slice_index};
 ghost use Rattle.resb_icu_grammar.specs.Stuck.{string_or};
 ghost use Rattle.resb_icu_text.specs.Refusal.{message_of, want_of_memory};

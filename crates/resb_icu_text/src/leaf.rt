@@ -8,7 +8,9 @@ ghost use Rattle.resb_grammar.specs.GroupTypes.{string_kind, binary_kind, intege
 ghost use Rattle.resb_grammar.specs.GroupTypes.{vector_kind, array_kind, table_kind};
 ghost use Rattle.resb_tree.specs.View.{tree_of};
 ghost use Rattle.resb_grammar.specs.Kinds.{group_kind_of};
-ghost use Rattle.resb_icu_text.specs.Lexemes.{bytes_said};
+ghost use Rattle.resb_tree.specs.Borrowing as borrowing;
+ghost use Rattle.resb_icu_text.specs.Borrowed.{KeepsSlices};
+ghost use Rattle.resb_icu_text.specs.Lexemes.{bytes_said, stands_whole};
 ghost use Rattle.resb_icu_text.specs.Inner.Leaf.{Leaf, LeafRefuses, Vector, WantsBrace};
 ghost use Rattle.resb_icu_text.specs.Inner.Leaf.{IsBehindNumber};
 ghost use Rattle.resb_icu_text.specs.Inner.Reach.{reach};
@@ -26,7 +28,8 @@ use std::borrow::{CowSlice, CowStr};
 
 /// The text that a string says.
 pub(crate) fn text_of<'a>(said: Said<'a>) -> CowStr<'a>
-    ensures { cow_str_bytes result ≡ bytes_said said.entry }
+    ensures bytes { cow_str_bytes result ≡ bytes_said said.entry }
+    ensures slice { borrowing.is_slice result ≡ stands_whole said.entry }
 {
     match said {
         Said::Slice(slice) => CowStr::Borrowed(slice),
@@ -59,6 +62,7 @@ fn string_leaf<'a>(
     requires within { at ≤ length text.now }
     ensures ok { IfOk result (λ r. Leaf text.now at string_kind r.0 (tree_of r.1)) }
     ensures err { IfErr result (LeafRefuses text.now at string_kind) }
+    ensures slices { IfOk result (λ r. KeepsSlices text.now r.1) }
     ensures within { IfOk result (λ r. (at ≤ r.0) × (r.0 < length text.now)) }
     ensures cost { IfOk result (λ r. turns.new.count + 8 * reach text.now at
         ≤ turns.old.count + 8 * r.0) }
@@ -82,6 +86,7 @@ fn binary_leaf<'a>(
     requires within { at ≤ length text.now }
     ensures ok { IfOk result (λ r. Leaf text.now at binary_kind r.0 (tree_of r.1)) }
     ensures err { IfErr result (LeafRefuses text.now at binary_kind) }
+    ensures slices { IfOk result (λ r. KeepsSlices text.now r.1) }
     ensures within { IfOk result (λ r. (at ≤ r.0) × (r.0 < length text.now)) }
     ensures cost { IfOk result (λ r. turns.new.count + 8 * reach text.now at
         ≤ turns.old.count + 8 * r.0) }
@@ -109,6 +114,7 @@ fn integer_leaf<'a>(
     requires within { at ≤ length text.now }
     ensures ok { IfOk result (λ r. Leaf text.now at integer_kind r.0 (tree_of r.1)) }
     ensures err { IfErr result (LeafRefuses text.now at integer_kind) }
+    ensures slices { IfOk result (λ r. KeepsSlices text.now r.1) }
     ensures within { IfOk result (λ r. (at ≤ r.0) × (r.0 < length text.now)) }
     ensures cost { IfOk result (λ r. turns.new.count + 8 * reach text.now at
         ≤ turns.old.count + 8 * r.0) }
@@ -184,6 +190,7 @@ fn vector_leaf<'a>(
     requires within { at ≤ length text.now }
     ensures ok { IfOk result (λ r. Leaf text.now at vector_kind r.0 (tree_of r.1)) }
     ensures err { IfErr result (LeafRefuses text.now at vector_kind) }
+    ensures slices { IfOk result (λ r. KeepsSlices text.now r.1) }
     ensures within { IfOk result (λ r. (at ≤ r.0) × (r.0 < length text.now)) }
     ensures cost { IfOk result (λ r. turns.new.count + 8 * reach text.now at
         ≤ turns.old.count + 8 * r.0) }
@@ -209,6 +216,7 @@ pub(crate) fn leaf<'a>(
     requires leaf { (group_kind_of kind ≢ array_kind) × (group_kind_of kind ≢ table_kind) }
     ensures ok { IfOk result (λ r. Leaf text.now at (group_kind_of kind) r.0 (tree_of r.1)) }
     ensures err { IfErr result (LeafRefuses text.now at (group_kind_of kind)) }
+    ensures slices { IfOk result (λ r. KeepsSlices text.now r.1) }
     ensures within { IfOk result (λ r. (at ≤ r.0) × (r.0 < length text.now)) }
     ensures cost { IfOk result (λ r. turns.new.count + 8 * reach text.now at
         ≤ turns.old.count + 8 * r.0) }

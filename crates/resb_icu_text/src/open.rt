@@ -1,12 +1,14 @@
 //! The groups that are open around the place where a reading stands, and the keys before it.
 //! What one step does inside them is said in `steps`.
-ghost use Rattle.std.specs.Prelude.{◌≡◌, ◌⊎◌, ◌+◌, ◌*◌, ◌≤◌, [], ◌∷◌, length, map, IfOk, IfErr};
-ghost use Rattle.std.specs.Prelude.{OnOk};
+ghost use Rattle.std.specs.Prelude.{◌≡◌, ◌⊎◌, ◌&&◌, ◌+◌, ◌*◌, ◌≤◌, true, [], ◌∷◌, length, map};
+ghost use Rattle.std.specs.Prelude.{OnOk, IfOk, IfErr};
 ghost use Rattle.resb_icu_grammar.specs.Machine.{Comes};
 ghost use Rattle.resb_icu_grammar.specs.Stuck.{StuckFrom};
 ghost use Rattle.resb_icu_text.specs.Refusal.{want_of_memory};
 ghost use Rattle.resb_icu_text.specs.Inner.Steps.{shown, with_key, now, stands_at, spent};
 ghost use Rattle.resb_icu_text.specs.Inner.Reading.{groups, keys, coming, Advances, spent_before};
+ghost use Rattle.resb_icu_text.specs.Inner.Kept.{Test, Keeps, groups_pass, open_passes};
+ghost use Rattle.resb_icu_text.specs.Inner.Kept.{step_passes, next_passes};
 
 use crate::error::IcuTextError;
 use crate::steps::{Step, Waiting, entry, group, member, resume};
@@ -44,6 +46,7 @@ impl<'a> OpenGroups<'a> {
     pub(crate) fn new(alloc: Global) -> OpenGroups<'a>
         ensures groups { groups result ≡ [] }
         ensures keys { keys result ≡ [] }
+        ensures slices { (t : Test) → groups_pass result t ≡ true }
     {
         OpenGroups {
             waiting: Vec::new(alloc),
@@ -55,6 +58,9 @@ impl<'a> OpenGroups<'a> {
     fn open(&mut self, waiting: Waiting<'a>) -> Result<(), NoMemory>
         ensures groups { OnOk result (groups self.new ≡ shown waiting.entry ∷ groups self.old) }
         ensures keys { OnOk result (keys self.new ≡ with_key (keys self.old) waiting.entry) }
+        ensures slices { OnOk result ((t : Test)
+            → groups_pass self.old t ≡ true → open_passes waiting.entry t ≡ true
+            → groups_pass self.new t ≡ true) }
     {
         list_key(&mut self.keys, &waiting)?;
         self.waiting.push(waiting)?;
@@ -74,6 +80,9 @@ impl<'a> OpenGroups<'a> {
             (now (groups self.old) (keys self.old) step.entry) (coming self.new next)) }
         ensures err { IfErr result (λ e. (e ≡ want_of_memory) ⊎ StuckFrom text.now
             (now (groups self.old) (keys self.old) step.entry) e.position e.expected) }
+        ensures slices { IfOk result (λ next. Keeps text.now
+            (λ t. groups_pass self.old t && step_passes step.entry t)
+            (λ t. groups_pass self.new t && next_passes next t)) }
         ensures goes { IfOk result (Advances text.now step.entry) }
         ensures cost { IfOk result (λ next. turns.new.count + spent text.now step.entry
             + length (keys self.new)

@@ -9,6 +9,7 @@ ghost use Rattle.resb_tree.specs.View.{tree_of};
 ghost use Rattle.resb_icu_grammar.specs.Blanks.{Begins};
 ghost use Rattle.resb_icu_grammar.specs.Bundle.{Header, IcuText};
 ghost use Rattle.resb_icu_text.specs.Answer.{IcuFails, IsNoIcuText};
+ghost use Rattle.resb_icu_text.specs.Borrowed.{IsBorrowedFrom, KeepsSlices};
 ghost use Rattle.resb_icu_text.specs.Refusal.{want_of_memory};
 ghost use Rattle.resb_icu_text.specs.Inner.Reading.{NameAhead, NameFails, TypingThere};
 ghost use Rattle.resb_icu_text.specs.Inner.Reading.{Opening, OpeningFails, HeadFails};
@@ -34,14 +35,15 @@ pub enum IcuReader {}
 
 impl IcuReader {
     /// The bundle that the text is, and the keys of its tables in order of place, each once.
-    /// The name and the strings of one piece without escapes are slices of the text, which no
-    /// clause says; other strings and the bytes of binaries are owned.
+    /// The name is a slice of the text, and so is each string of one piece without escapes; other
+    /// strings and the bytes of binaries are owned.
     pub fn read<'a>(
         alloc: Global,
         input: &'a str,
     ) -> Result<(ResourceBundle<'a>, Vec<Key<'a>>), IcuTextError>
         ensures ok { IfOk result (λ r. IcuText input.now
             (name_of r.0) r.0.is_locale_fallback_enabled (root_of r.0) r.1.items) }
+        ensures borrowed { IfOk result (λ r. IsBorrowedFrom input.now r.0) }
         ensures err { IfErr result (IcuFails input.now) }
         ensures no_text { IfErr result (λ e. (e ≡ want_of_memory) ⊎ IsNoIcuText input.now) }
     {
@@ -57,6 +59,7 @@ impl IcuReader {
     ) -> Result<(ResourceBundle<'a>, Vec<Key<'a>>), IcuTextError>
         ensures ok { IfOk result (λ r. IcuText input.now
             (name_of r.0) r.0.is_locale_fallback_enabled (root_of r.0) r.1.items) }
+        ensures borrowed { IfOk result (λ r. IsBorrowedFrom input.now r.0) }
         ensures err { IfErr result (IcuFails input.now) }
         ensures no_text { IfErr result (λ e. (e ≡ want_of_memory) ⊎ IsNoIcuText input.now) }
         ensures cost { turns.new.count ≤ turns.old.count + 8 * length input.now + 24 }
@@ -200,6 +203,7 @@ fn read_root<'a>(
     requires within { first ≤ length text.now }
     ensures ok { IfOk result
         (λ r. RootThere text.now first (tree_of r.0, map (λ k. k.now) r.1.items)) }
+    ensures slices { IfOk result (λ r. KeepsSlices text.now r.0) }
     ensures err { IfErr result (RootFails text.now first) }
     ensures cost { IfOk result (λ r. turns.new.count + 8 * reach text.now first + length r.1.items
         ≤ turns.old.count + 8 * length text.now + 8) }

@@ -1,6 +1,7 @@
 //! One step of a reading: from where it stands to behind the next member, entry, brace or group.
 //! What is open around that place is kept in `open`; groups without items are read in `leaf`.
-ghost use Rattle.std.specs.Prelude.{◌≡◌, ◌≢◌, ℕ, ◌+◌, ◌*◌, ◌<◌, ◌≤◌, ◌↔◌, Bool, IsTrue, length};
+ghost use Rattle.std.specs.Prelude.{◌≡◌, ◌≢◌, ℕ, ◌+◌, ◌*◌, ◌<◌, ◌≤◌, ◌↔◌, ◌&&◌, Bool, true};
+ghost use Rattle.std.specs.Prelude.{IsTrue, length};
 ghost use Rattle.std.specs.Prelude.{IfOk, IfErr, IfSome, IfNone, List, map, slice_index};
 ghost use Rattle.resb_grammar.specs.Ascii as ascii;
 ghost use Rattle.resb_tree.specs.Tree.{map_of};
@@ -13,6 +14,9 @@ ghost use Rattle.resb_icu_text.specs.Inner.Steps.{last_of, Steps, Stops, Goes};
 ghost use Rattle.resb_icu_text.specs.Inner.Steps.{MembersThere, EntriesThere, GroupThere};
 ghost use Rattle.resb_icu_text.specs.Inner.Steps.{UntypedThere, TypedThere, EndedThere};
 ghost use Rattle.resb_icu_text.specs.Inner.Steps.{KeyAhead, spent};
+ghost use Rattle.resb_icu_text.specs.Inner.Kept.{Keeps, step_passes, members_pass, entries_pass};
+ghost use Rattle.resb_icu_text.specs.Inner.Kept.{Test, open_passes, nothing_before};
+ghost use Rattle.resb_icu_text.specs.Borrowed.{passes};
 ghost use Rattle.resb_icu_text.specs.Inner.Reach.{reach};
 
 use crate::blanks::{byte, skip};
@@ -22,7 +26,7 @@ use crate::strings::string;
 use crate::turns::IcuTurns;
 use crate::types::group_type;
 use resb_grammar::Kind;
-use resb_icu_grammar::IcuExpected;
+use resb_icu_grammar::{IcuExpected, is_collation, is_table};
 use resb_tree::{Key, NoMemory, Resource, Table, table_at_once};
 use std::alloc::Global;
 
@@ -89,6 +93,8 @@ pub(crate) fn member<'a>(
     requires within { at ≤ length text.now }
     ensures ok { IfOk result (Steps text.now (MembersThere members.entry.items last at)) }
     ensures err { IfErr result (Stops text.now (MembersThere members.entry.items last at)) }
+    ensures slices { IfOk result
+        (λ s. Keeps text.now (members_pass members.entry.items) (step_passes s)) }
     ensures goes { IfOk result (Goes text.now (3 * at + 1)) }
     ensures cost { IfOk result (λ s. turns.new.count + 8 * reach text.now at + 3
         ≤ turns.old.count + spent text.now s) }
@@ -120,6 +126,8 @@ fn comma<'a>(
     requires comma { slice_index text.now at ≡ ascii.comma }
     ensures ok { IfOk result (Steps text.now (MembersThere members.entry.items last at)) }
     ensures err { IfErr result (Stops text.now (MembersThere members.entry.items last at)) }
+    ensures slices { IfOk result
+        (λ s. Keeps text.now (members_pass members.entry.items) (step_passes s)) }
     ensures goes { IfOk result (Goes text.now (3 * at + 1)) }
     ensures cost { IfOk result (λ s. turns.new.count + 8 * reach text.now at + 3
         ≤ turns.old.count + spent text.now s) }
@@ -149,6 +157,8 @@ fn string_member<'a>(
     requires no_type { slice_index text.now at ≢ ascii.colon }
     ensures ok { IfOk result (Steps text.now (MembersThere members.entry.items last at)) }
     ensures err { IfErr result (Stops text.now (MembersThere members.entry.items last at)) }
+    ensures slices { IfOk result
+        (λ s. Keeps text.now (members_pass members.entry.items) (step_passes s)) }
     ensures goes { IfOk result (Goes text.now (3 * at + 1)) }
     ensures cost { IfOk result (λ s. turns.new.count + 8 * reach text.now at + 3
         ≤ turns.old.count + spent text.now s) }
@@ -202,6 +212,8 @@ pub(crate) fn entry<'a>(
     requires within { at ≤ length text.now }
     ensures ok { IfOk result (Steps text.now (EntriesThere entries.entry.items at)) }
     ensures err { IfErr result (Stops text.now (EntriesThere entries.entry.items at)) }
+    ensures slices { IfOk result
+        (λ s. Keeps text.now (entries_pass entries.entry.items) (step_passes s)) }
     ensures goes { IfOk result (Goes text.now (3 * at + 1)) }
     ensures cost { IfOk result (λ s. turns.new.count + 8 * reach text.now at + 3
         ≤ turns.old.count + spent text.now s) }
@@ -224,6 +236,8 @@ pub(crate) fn entry<'a>(
 fn table_of<'a>(alloc: Global, entries: Vec<Entry<'a>>) -> Result<Option<Table<'a>>, NoMemory>
     ensures found { IfOk result (λ o. IfSome o (λ m. AreDistinct (pairs_view entries.entry.items)
         × (entries_view m.entries ≡ map_of (pairs_view entries.entry.items)))) }
+    ensures slices { IfOk result (λ o. IfSome o (λ m. (t : Test)
+        → entries_pass entries.entry.items t ≡ true → entries_pass m.entries t ≡ true)) }
     ensures none { IfOk result (λ o. IfNone o (AreDistinct (pairs_view entries.entry.items) → ⊥)) }
 {
     let count = entries.len();
@@ -245,6 +259,8 @@ pub(crate) fn group<'a>(
     requires within { at ≤ length text.now }
     ensures ok { IfOk result (Steps text.now (GroupThere at)) }
     ensures err { IfErr result (Stops text.now (GroupThere at)) }
+    ensures slices { IfOk result
+        (λ s. Keeps text.now nothing_before (step_passes s)) }
     ensures goes { IfOk result (Goes text.now (3 * at + 2)) }
     ensures cost { IfOk result (λ s. turns.new.count + 8 * reach text.now at + 5
         ≤ turns.old.count + spent text.now s) }
@@ -273,6 +289,8 @@ fn typed<'a>(
     requires colon { slice_index text.now at ≡ ascii.colon }
     ensures ok { IfOk result (Steps text.now (GroupThere at)) }
     ensures err { IfErr result (Stops text.now (GroupThere at)) }
+    ensures slices { IfOk result
+        (λ s. Keeps text.now nothing_before (step_passes s)) }
     ensures goes { IfOk result (Goes text.now (3 * at + 2)) }
     ensures cost { IfOk result (λ s. turns.new.count + 8 * reach text.now at + 5
         ≤ turns.old.count + spent text.now s) }
@@ -301,6 +319,8 @@ fn content<'a>(
     requires within { at ≤ length text.now }
     ensures ok { IfOk result (Steps text.now (TypedThere (group_kind_of kind) at)) }
     ensures err { IfErr result (Stops text.now (TypedThere (group_kind_of kind) at)) }
+    ensures slices { IfOk result
+        (λ s. Keeps text.now nothing_before (step_passes s)) }
     ensures goes { IfOk result (Goes text.now (3 * at)) }
     ensures cost { IfOk result (λ s. turns.new.count + 8 * reach text.now at
         ≤ turns.old.count + spent text.now s) }
@@ -327,6 +347,8 @@ fn untyped<'a>(
     requires within { at ≤ length text.now }
     ensures ok { IfOk result (Steps text.now (UntypedThere at)) }
     ensures err { IfErr result (Stops text.now (UntypedThere at)) }
+    ensures slices { IfOk result
+        (λ s. Keeps text.now nothing_before (step_passes s)) }
     ensures goes { IfOk result (Goes text.now (3 * at)) }
     ensures cost { IfOk result (λ s. turns.new.count + 8 * reach text.now at
         ≤ turns.old.count + spent text.now s) }
@@ -357,6 +379,8 @@ fn untyped_string<'a>(
     requires no_type { slice_index text.now at ≢ ascii.colon }
     ensures ok { IfOk result (Steps text.now (UntypedThere at)) }
     ensures err { IfErr result (Stops text.now (UntypedThere at)) }
+    ensures slices { IfOk result
+        (λ s. Keeps text.now nothing_before (step_passes s)) }
     ensures goes { IfOk result (Goes text.now (3 * at)) }
     ensures cost { IfOk result (λ s. turns.new.count + 8 * reach text.now at
         ≤ turns.old.count + spent text.now s) }
@@ -385,23 +409,6 @@ fn untyped_string<'a>(
     Ok(Step::Group(Waiting::Table(Vec::new(alloc), key), next))
 }
 
-/// Whether a key's table holds rules of collation.
-fn is_collation(key: &str) -> bool
-    ensures { result ≡ spec.is_collation key.now }
-{
-    key == "collations" || key == "CollationElements"
-}
-
-/// Whether a resource is a table.
-fn is_table(resource: &Resource<'_>) -> bool
-    ensures { result ≡ spec.holds_entries (tree_of resource.now) }
-{
-    match resource {
-        Resource::Table(_) => true,
-        _ => false,
-    }
-}
-
 /// From behind a group to behind the blanks there, among what it stands in.
 pub(crate) fn resume<'a>(
     text: &'a str,
@@ -414,6 +421,8 @@ pub(crate) fn resume<'a>(
     ensures ok { IfOk result
         (Steps text.now (EndedThere waiting.entry resource.entry at)) }
     ensures err { IfErr result (Stops text.now (EndedThere waiting.entry resource.entry at)) }
+    ensures slices { IfOk result (λ s. Keeps text.now
+        (λ t. open_passes waiting.entry t && passes t resource.entry) (step_passes s)) }
     ensures goes { IfOk result (Goes text.now (3 * at)) }
     ensures cost { IfOk result (λ s. turns.new.count + 8 * at + 1
         ≤ turns.old.count + spent text.now s) }

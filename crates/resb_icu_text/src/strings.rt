@@ -5,15 +5,16 @@ ghost use Rattle.std.specs.Prelude.{slice_index, IfSome, IfNone, IfOk, IfErr};
 ghost use Rattle.std.specs.String.{string_bytes};
 ghost use Rattle.resb_grammar.specs.Ascii as ascii;
 ghost use Rattle.resb_icu_grammar.specs.Blanks.{Skip};
-ghost use Rattle.resb_icu_text.specs.Lexemes.{IsLexeme, IsNoLexeme};
+ghost use Rattle.resb_icu_grammar.specs.Stuck.{NoStringAt};
+ghost use Rattle.resb_icu_text.specs.Lexemes.{IsLexeme, bytes_said, may_be_key};
 ghost use Rattle.resb_icu_text.specs.Inner.Ahead.{Ahead};
 ghost use Rattle.resb_icu_text.specs.Inner.Reach.{reach};
-ghost use Rattle.resb_icu_text.specs.Lexemes.{bytes_said, is_key};
 
 use crate::blanks::{byte, skip};
 use crate::pieces::{piece_end, push_piece};
 use crate::turns::IcuTurns;
-use crate::words::{are_key_bytes, word};
+use crate::words::word;
+use resb_icu_grammar::are_key_bytes;
 use resb_tree::NoMemory;
 use std::alloc::Global;
 
@@ -30,8 +31,8 @@ impl<'a> Said<'a> {
     /// What it says as a slice of the text, if it may be a key. Counts a turn for each byte.
     pub(crate) fn key(&self, turns: &mut IcuTurns) -> Option<&'a str>
         ensures found { IfSome result
-            (λ k. (k.now ≡ bytes_said self.now) × (is_key self.now ≡ true)) }
-        ensures none { IfNone result (is_key self.now ≡ false) }
+            (λ k. (k.now ≡ bytes_said self.now) × (may_be_key self.now ≡ true)) }
+        ensures none { IfNone result (may_be_key self.now ≡ false) }
         ensures cost { turns.new.count ≤ turns.old.count + length (bytes_said self.now) }
     {
         match self {
@@ -70,7 +71,7 @@ pub fn string<'a>(
 ) -> Result<Option<Lexeme<'a>>, NoMemory>
     requires within { from ≤ length text.now }
     ensures found { IfOk result (λ o. IfSome o (IsLexeme text.now from)) }
-    ensures none { IfOk result (λ o. IfNone o (IsNoLexeme text.now from)) }
+    ensures none { IfOk result (λ o. IfNone o (NoStringAt text.now from)) }
     ensures cost { IfOk result (λ o. IfSome o (λ l. turns.new.count + 6 * reach text.now from + 3
         ≤ turns.old.count + 6 * reach text.now l.next)) }
     ensures most { turns.new.count + 8 * reach text.now from
@@ -99,7 +100,7 @@ fn quoted<'a>(
     requires within { from < length text.now }
     requires opens { slice_index text.now from ≡ ascii.quote }
     ensures found { IfOk result (λ o. IfSome o (IsLexeme text.now from)) }
-    ensures none { IfOk result (λ o. IfNone o (IsNoLexeme text.now from)) }
+    ensures none { IfOk result (λ o. IfNone o (NoStringAt text.now from)) }
     ensures cost { IfOk result (λ o. IfSome o (λ l. turns.new.count + 6 * reach text.now from + 3
         ≤ turns.old.count + 6 * reach text.now l.next)) }
     ensures most { turns.new.count + 8 * reach text.now from

@@ -1,10 +1,11 @@
 //! The counter of a reading's turns.
-//! What one loop counts is said beside it. What is made of a token's value isn't counted: bytes of
-//! hex digits, tables, and the list of keys without repetitions.
+//! What each function counts is said beside it: the hex digits of a binary too, and the keys where
+//! they are listed. What the map of a table asks for isn't counted.
 ghost use Rattle.std.specs.Prelude.{◌≡◌, ◌+◌, ◌-◌, ◌^◌, ◌≤◌, min};
 
 /// A counter of turns: one for each byte that a loop of the reader passes, and one for each of its
-/// rounds that passes none. It stays where it is once it holds the greatest number that it can.
+/// rounds that passes none. Each hex digit of a binary counts one more, and so does each key where
+/// the keys are listed. It stays where it is once it holds the greatest number that it can.
 #[derive(Clone, Copy, Debug, PartialEq, Eq)]
 pub struct IcuTurns {
     count: u128,

@@ -1,5 +1,6 @@
-//! Words: the numbers and types that they are, and what a key may hold.
-//! Quoted strings are read in `strings`. Places count bytes of the text from its start.
+//! Words, and the numbers that some of them are.
+//! Which bytes a word and a key may hold is said in `resb_icu_grammar`; types are read in `types`,
+//! quoted strings in `strings`. Places count bytes of the text from its start.
 ghost use Rattle.std.specs.Prelude.{◌≡◌, ◌≢◌, ℕ, ◌+◌, ◌-◌, ◌*◌, ◌^◌, ◌<◌, ◌≤◌, ◌↔◌, Bool, IsTrue};
 ghost use Rattle.std.specs.Prelude.{min};
 ghost use Rattle.std.specs.Prelude.{List, length, slice_index, slice_range, IfSome, IfNone};
@@ -10,18 +11,12 @@ ghost use Rattle.resb_grammar.specs.GroupTypes as types;
 ghost use Rattle.resb_grammar.specs.GroupTypes.{Names, Stands};
 ghost use Rattle.resb_icu_grammar.specs.Bytes as spec;
 ghost use Rattle.resb_icu_grammar.specs.Words.{Word, Digits, Number, GroupType, RootType};
-ghost use Rattle.resb_icu_text.specs.Inner.Numbers.{Signed};
+ghost use Rattle.resb_icu_text.specs.Inner.Numbers.{DigitsInRange};
 ghost use Rattle.resb_icu_text.specs.Inner.Reach.{reach};
 
 use crate::blanks::byte;
 use crate::turns::IcuTurns;
-
-/// Whether a byte may stand in a word.
-pub(crate) fn is_word(b: u8) -> bool
-    ensures { result ≡ spec.is_word b }
-{
-    b.is_ascii_alphanumeric() || b == b'_' || b == b'.' || b == b'%' || b == b'-' || b == b'+'
-}
+use resb_icu_grammar::is_word;
 
 /// Where the run of word characters ends.
 pub(crate) fn word_end(text: &str, from: usize) -> usize
@@ -55,29 +50,6 @@ pub(crate) fn word<'a>(text: &'a str, from: usize, turns: &mut IcuTurns) -> Opti
     } else {
         None
     }
-}
-
-/// Whether a byte may stand in a key.
-fn is_key_byte(b: u8) -> bool
-    ensures { result ≡ spec.is_key_byte b }
-{
-    match b {
-        b'!' | b'#' | b'$' | b'@' | b'[' | b'\\' | b']' | b'^' | b'`' | b'{' | b'|' | b'}' | b'~' =>
-            false,
-        _ => b >= 32 && b <= 126,
-    }
-}
-
-/// Whether each byte may stand in a key.
-pub(crate) fn are_key_bytes(bytes: &[u8]) -> bool
-    ensures { result ≡ spec.are_key_bytes bytes.now }
-{
-    for b in bytes {
-        if !is_key_byte(*b) {
-            return false;
-        }
-    }
-    true
 }
 
 /// Where the run of digits ends, and their value, or 2 ^ 32 where it is larger.
@@ -131,8 +103,8 @@ fn negated(value: u64) -> u32
 /// The number that the digits behind a sign, or those of the whole word, say; and where they end.
 fn signed_digits(text: &str, from: usize) -> Option<(usize, u32)>
     requires within { from < length text.now }
-    ensures found { IfSome result (λ r. Signed text.now from r.0 r.1) }
-    ensures none { IfNone result ((to value : ℕ) → Signed text.now from to value → ⊥) }
+    ensures found { IfSome result (λ r. DigitsInRange text.now from r.0 r.1) }
+    ensures none { IfNone result ((to value : ℕ) → DigitsInRange text.now from to value → ⊥) }
 {
     let b = byte(text, from);
     if b == b'+' {

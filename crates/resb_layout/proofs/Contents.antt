@@ -22,8 +22,8 @@ use Rattle.resb_format.specs.Bytes.{units_as_bytes}
 use Rattle.resb_layout.specs.Laid.{to_data, to_word, pad, binary_body, words_body, near_table_body}
 use Rattle.resb_layout.specs.Laid.{wide_table_body}
 use Rattle.resb_layout.specs.Laws.{StandsIn}
-use Rattle.resb_layout.proofs.Numbers.{EachBelow, word_read, unit_read, words_read, halves_read}
-use Rattle.resb_layout.proofs.Numbers.{halves_len, words_behind, units_behind}
+use Rattle.resb_layout.proofs.BytesLemmas.{EachBelow, word_read, unit_read, words_read, halves_read}
+use Rattle.resb_layout.proofs.BytesLemmas.{halves_len, words_behind, units_behind}
 
 -- a part that stands between two others
 pub part_found : (xs front ys back : List ℕ) (at n : ℕ) → xs ≡ front ++ (ys ++ back)

@@ -1,6 +1,6 @@
 -- What is laid out is denoted: member by member, and then by the content of its own word.
 use Rattle.std.proofs.Common.{zero, suc, ◌≡◌, ℕ, ◌+◌, ◌-◌, ◌*◌, ◌/◌, ◌%◌, ◌^◌, ◌<◌, ◌≤◌, List, []}
-use Rattle.std.proofs.Common.{◌∷◌, ◌++◌, length, map, Option, Some, true, false, cond}
+use Rattle.std.proofs.Common.{◌∷◌, ◌++◌, length, map, Some, true, false, cond}
 use Rattle.std.proofs.Common.{◌==◌, option_map, nat_le, refl, sym, ◌∙◌, ap, subst, arith}
 use Rattle.std.specs.Prelude.{All}
 use Rattle.std.specs.List.{zip, list_all}
@@ -29,13 +29,14 @@ use Rattle.resb_layout.specs.Laid.{lays_bytes, lays_no_numbers, lays_numbers, la
 use Rattle.resb_layout.specs.Laid.{lays_items, lays_no_entries, lays_entries, LaysEach, each_none}
 use Rattle.resb_layout.specs.Laid.{each_more}
 use Rattle.resb_layout.specs.Laws.{IsRead, StandsIn, LaidIsDenoted}
-use Rattle.resb_layout.proofs.Numbers.{EachBelow}
+use Rattle.resb_layout.proofs.BytesLemmas.{EachBelow}
 use Rattle.resb_layout.proofs.Grows.{grows, grows_each, by_bytes, parts_stood, units_stay}
 use Rattle.resb_layout.proofs.Contents.{array_found, vector_found, wide_found, table_found}
 use Rattle.resb_layout.proofs.Contents.{binary_found, array16_found, table16_found, word_of_array}
 use Rattle.resb_layout.proofs.Contents.{word_of_array16, word_of_table, word_of_table16}
 use Rattle.resb_layout.proofs.Contents.{word_of_table32, word_of_binary, word_of_vector}
 use Rattle.resb_tree.proofs.MapsLemmas.{map_of-pairs_of}
+use Rattle.resb_layout.proofs.Numbers.{some_with}
 
 abbrev list_of : Trees → List Tree
 list_of no_trees = []
@@ -99,15 +100,12 @@ record IsShortString (g : Given) (t : Tree) (w : ℕ) : Type 0 where
   is : t ≡ string text
   offset : g.offset text ≡ Some (w - 0x6000_0000)
 
-some_offset : (o : Option ℕ) (k : ℕ) → o ≡ Some k → o ≡ Some (0x6000_0000 + k - 0x6000_0000)
-some_offset o k e = let f : k ≡ 0x6000_0000 + k - 0x6000_0000 = omega arith in e ∙ ap Some f
-
 -- a word in this range is a string's
 string_word : {g : Given} {s e : Laid} {t : Tree} {w : ℕ} → Lays g s t e w → 0x6000_0000 ≤ w
     → w ≤ 0x6000_ffff → IsShortString g t w
 string_word (lays_integer h) a b = absurd (omega arith)
 string_word {g = g} (lays_string {text = text} {k = k} h l) a b =
-    record { text = text; is = refl; offset = some_offset (g.offset text) k h }
+    record { text = text; is = refl; offset = some_with (g.offset text) k h }
 string_word lays_no_bytes a b = absurd (omega arith)
 string_word (lays_bytes at some n e l) a b = absurd (omega arith)
 string_word lays_no_numbers a b = absurd (omega arith)

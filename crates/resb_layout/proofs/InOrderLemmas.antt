@@ -24,7 +24,7 @@ use Rattle.resb_layout.specs.InOrder.{tail_wide_table, FillsTail, tail_ends, tai
 use Rattle.resb_layout.specs.InOrder.{tail_with, BlockBody, block_array, block_table, FillsBlock}
 use Rattle.resb_layout.specs.InOrder.{block_ends, block_without, block_with}
 use Rattle.resb_layout.specs.Laws.{StandsInOrder, LaidInOrder}
-use Rattle.resb_layout.proofs.Numbers.{halves_len}
+use Rattle.resb_layout.proofs.BytesLemmas.{halves_len}
 
 tail_join : {at : ℕ} {ts us : List Tree} {bs cs : List ℕ} → FillsTail at ts bs
     → FillsTail (at + length bs) us cs → FillsTail at (ts ++ us) (bs ++ cs)

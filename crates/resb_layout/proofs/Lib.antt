@@ -1,8 +1,10 @@
 -- For crates above: those that are `pub`.
 pub mod Once
 pub mod Grows
-pub mod Numbers
+pub mod BytesLemmas
 mod Contents
 pub mod Denoted
 pub mod Paid
 pub mod InOrderLemmas
+pub mod Numbers
+pub mod Lists

@@ -1,75 +1,25 @@
--- Numbers as their little-endian bytes, read back behind whole words and units.
-use Rattle.std.proofs.Common.{◌≡◌, ℕ, zero, suc, ◌+◌, ◌*◌, ◌/◌, ◌%◌, ◌^◌, ◌<◌, List, [], ◌∷◌, ◌++◌}
-use Rattle.std.proofs.Common.{length, refl, ap, length-append, arith}
-use Rattle.std.specs.Int.{to_le_bytes, w16, w32}
-use Rattle.resb_format.specs.Bytes.{units_of, words_of}
-use Rattle.resb_format.proofs.WordsBack.{two_bytes}
-use Rattle.resb_layout.specs.Laid.{words}
-use Rattle.resb_format.specs.Bytes.{units_as_bytes}
+-- Numbers, and tests and orders of them: what names no word of this project.
+use Rattle.std.proofs.Common.{◌≡◌, ℕ, ◌+◌, ◌*◌, ◌/◌, ◌%◌, ◌<◌, arith, Bool, true, false, ◌-◌}
+use Rattle.std.proofs.Common.{Option, Some, ◌∙◌, ap}
 
--- each number is below a bound
-abbrev pub EachBelow : ℕ → List ℕ → Type 0
-EachBelow n [] = Unit {0}
-EachBelow n (x ∷ xs) = (x < n) × EachBelow n xs
-
-four_bytes : (w : ℕ) → w < 4294967296 → w % 256 + 256 * (w / 256 % 256) + 65536 * (w / 65536 % 256)
+-- a number of 32 bits is put together from its four bytes
+pub four_bytes : (w : ℕ) → w < 4294967296
+    → w % 256 + 256 * (w / 256 % 256) + 65536 * (w / 65536 % 256)
     + 16777216 * (w / 16777216 % 256) ≡ w
 four_bytes w h = omega arith
 
-pub word_read : (w : ℕ) (rest : List ℕ) → w < 2 ^ 32
-    → words_of (to_le_bytes w32 w ++ rest) ≡ w ∷ words_of rest
-unfolding words_of
-word_read w rest h = λ i. four_bytes w h i ∷ words_of rest
+-- no positive number is 0
+pub zero_not_positive : {n : ℕ} → 0 < n → n ≡ 0 → ⊥
+zero_not_positive h e = omega (arith, h, e)
 
-pub unit_read : (u : ℕ) (rest : List ℕ) → u < 2 ^ 16
-    → units_of (to_le_bytes w16 u ++ rest) ≡ u ∷ units_of rest
-unfolding units_of
-unit_read u rest h = λ i. two_bytes u h i ∷ units_of rest
+-- two numbers that are a quarter of one number are equal
+pub one_quarter : (n at at' : ℕ) → n ≡ 4 * at → n ≡ 4 * at' → at ≡ at'
+one_quarter n at at' a b = omega (arith, a, b)
 
--- words that are written are read back
-pub words_read : (ws rest : List ℕ) → EachBelow (2 ^ 32) ws
-    → words_of (words ws ++ rest) ≡ ws ++ words_of rest
-unfolding words_of
-words_read [] rest h = refl
-words_read (w ∷ ws) rest h = λ i. four_bytes w h.0 i ∷ words_read ws rest h.1 i
+-- nothing is both true and false
+pub not_both : {A : Type 0} (b : Bool) → b ≡ true → b ≡ false → A
+not_both b t f = cc
 
--- units that are written are read back
-pub halves_read : (us rest : List ℕ) → EachBelow (2 ^ 16) us
-    → units_of (units_as_bytes us ++ rest) ≡ us ++ units_of rest
-unfolding units_of
-halves_read [] rest h = refl
-halves_read (u ∷ us) rest h = λ i. two_bytes u h.0 i ∷ halves_read us rest h.1 i
-
--- units take two bytes each
-pub halves_len : (us : List ℕ) → length (units_as_bytes us) ≡ 2 * length us
-halves_len [] = refl
-halves_len (u ∷ us) = omega (
-  arith,
-  halves_len us,
-  length-append (to_le_bytes w16 u)
-      (units_as_bytes us),
-)
-
--- whole words, and then others
-pub words_behind : (at : ℕ) (front rest : List ℕ) → length front ≡ 4 * at
-    → words_of (front ++ rest) ≡ words_of front ++ words_of rest
-unfolding words_of
-words_behind zero [] rest e = refl
-words_behind zero (a ∷ front) rest e = absurd (omega (arith, e))
-words_behind (suc at) (a ∷ b ∷ c ∷ d ∷ front) rest e =
-    ap (λ ws. (a + 256 * b + 65536 * c + 16777216 * d)
-    ∷ ws) (words_behind at front rest (omega (arith, e)))
-words_behind (suc at) [] rest e = absurd (omega (arith, e))
-words_behind (suc at) (a ∷ []) rest e = absurd (omega (arith, e))
-words_behind (suc at) (a ∷ b ∷ []) rest e = absurd (omega (arith, e))
-words_behind (suc at) (a ∷ b ∷ c ∷ []) rest e = absurd (omega (arith, e))
-
-pub units_behind : (at : ℕ) (front rest : List ℕ) → length front ≡ 2 * at
-    → units_of (front ++ rest) ≡ units_of front ++ units_of rest
-unfolding units_of
-units_behind zero [] rest e = refl
-units_behind zero (a ∷ front) rest e = absurd (omega (arith, e))
-units_behind (suc at) (a ∷ b ∷ front) rest e =
-    ap (λ us. (a + 256 * b) ∷ us) (units_behind at front rest (omega (arith, e)))
-units_behind (suc at) [] rest e = absurd (omega (arith, e))
-units_behind (suc at) (a ∷ []) rest e = absurd (omega (arith, e))
+-- a number is what is left of it and a base, without the base
+pub some_with : (o : Option ℕ) (k : ℕ) → o ≡ Some k → o ≡ Some (0x6000_0000 + k - 0x6000_0000)
+some_with o k e = let f : k ≡ 0x6000_0000 + k - 0x6000_0000 = omega arith in e ∙ ap Some f

@@ -1,6 +1,6 @@
 -- A tree is laid out in one way.
-use Rattle.std.proofs.Common.{ℕ, List, [], ◌∷◌, map, Some, Bool, true, false, length}
-use Rattle.std.proofs.Common.{◌≡◌, ◌<◌, ◌+◌, ◌*◌, refl, sym, ◌∙◌, ap, subst, arith}
+use Rattle.std.proofs.Common.{ℕ, List, ◌∷◌, length}
+use Rattle.std.proofs.Common.{◌≡◌, ◌<◌, ◌+◌, refl, sym, ◌∙◌, ap, subst, arith}
 use Rattle.resb_tree.specs.Tree.{Tree, Trees, no_trees}
 use Rattle.resb_layout.specs.Laid.{Given, Laid, here}
 use Rattle.resb_layout.specs.Laid.{to_data}
@@ -10,33 +10,13 @@ use Rattle.resb_layout.specs.Laid.{lays_integer, lays_string, lays_no_bytes, lay
 use Rattle.resb_layout.specs.Laid.{lays_no_numbers, lays_numbers, lays_no_items, lays_items}
 use Rattle.resb_layout.specs.Laid.{lays_no_entries, lays_entries, LaysEach, each_none, each_more}
 use Rattle.resb_layout.specs.Laws.{OneLayout}
-
--- lists of which each number is there are equal where those numbers are
-pub same_somes : (ps qs : List ℕ) → map Some ps ≡ map Some qs → ps ≡ qs
-same_somes [] [] e = refl
-same_somes [] (q ∷ qs) e = cc
-same_somes (p ∷ ps) [] e = cc
-same_somes (p ∷ ps) (q ∷ qs) e =
-    let h : p ≡ q = cc in
-    let t : map Some ps ≡ map Some qs = cc in
-    let r = same_somes ps qs t in
-    cc
+use Rattle.resb_layout.proofs.Numbers.{zero_not_positive, one_quarter, not_both}
+use Rattle.resb_layout.proofs.Lists.{same_somes}
 
 -- no trees are laid to no words
 pub none_inside : {g : Given} {s mid : Laid} {ws : List ℕ} → LaysEach g s no_trees mid ws
     → 0 < length ws → ⊥
 none_inside each_none h = omega (arith, h)
-
--- 0 is not positive
-pub zero_not_positive : {n : ℕ} → 0 < n → n ≡ 0 → ⊥
-zero_not_positive h e = omega (arith, h, e)
-
-same_at : (n at at' : ℕ) → n ≡ 4 * at → n ≡ 4 * at' → at ≡ at'
-same_at n at at' a b = omega (arith, a, b)
-
--- nothing is both true and false
-pub not_both : {A : Type 0} (b : Bool) → b ≡ true → b ≡ false → A
-not_both b t f = cc
 
 once_array : {g : Given} {s : Laid} {ws : List ℕ} {a b : Laid} {v w : ℕ} → ClosesArray g s ws a v
     → ClosesArray g s ws b w → (a ≡ b) × (v ≡ w)
@@ -44,7 +24,7 @@ once_array (short_array h l) (short_array k m) = (refl, refl)
 once_array {ws = ws} (short_array h l) (long_array at k e m n) = not_both _ h k
 once_array (long_array at k e m n) (short_array h l) = not_both _ h k
 once_array {g = g} {s = s} (long_array at h e l n) (long_array at2 k f m o) =
-    (refl, ap (λ i. 0x8000_0000 + i) (same_at (here g s) at at2 e f))
+    (refl, ap (λ i. 0x8000_0000 + i) (one_quarter (here g s) at at2 e f))
 
 once_table : {g : Given} {s : Laid} {ps ws : List ℕ} {a b : Laid} {v w : ℕ}
     → ClosesTable g s ps ws a v → ClosesTable g s ps ws b w → (a ≡ b) × (v ≡ w)
@@ -53,12 +33,12 @@ once_table (short_table n h l) (long_table at m k e o) = not_both _ h k
 once_table (short_table n h l) (wide_table at m e o q r) = not_both _ n m
 once_table (long_table at m k e o) (short_table n h l) = not_both _ h k
 once_table {g = g} {s = s} (long_table at n h e l) (long_table at2 m k f o) =
-    (refl, ap (λ i. 0x2000_0000 + i) (same_at (here g s) at at2 e f))
+    (refl, ap (λ i. 0x2000_0000 + i) (one_quarter (here g s) at at2 e f))
 once_table (long_table at n h e l) (wide_table at2 m f o q r) = not_both _ n m
 once_table (wide_table at m e o q r) (short_table n h l) = not_both _ n m
 once_table (wide_table at2 m f o q r) (long_table at n h e l) = not_both _ n m
 once_table {g = g} {s = s} (wide_table at n e l q r) (wide_table at2 m f o t u) =
-    (refl, ap (λ i. 0x4000_0000 + i) (same_at (here g s) at at2 e f))
+    (refl, ap (λ i. 0x4000_0000 + i) (one_quarter (here g s) at at2 e f))
 
 mutual
   pub once : {g : Given} {s a b : Laid} {t : Tree} {v w : ℕ} → Lays g s t a v → Lays g s t b w
@@ -70,12 +50,12 @@ mutual
   once lays_no_bytes (lays_bytes at some n e l) = absurd (zero_not_positive some refl)
   once (lays_bytes at some n e l) lays_no_bytes = absurd (zero_not_positive some refl)
   once {g = g} {s = s} (lays_bytes at some n e l) (lays_bytes at2 some2 n2 f l2) =
-      (refl, ap (λ i. 0x1000_0000 + i) (same_at (here g s + to_data (here g s)) at at2 e f))
+      (refl, ap (λ i. 0x1000_0000 + i) (one_quarter (here g s + to_data (here g s)) at at2 e f))
   once lays_no_numbers lays_no_numbers = (refl, refl)
   once lays_no_numbers (lays_numbers at some n a e l) = absurd (zero_not_positive some refl)
   once (lays_numbers at some n a e l) lays_no_numbers = absurd (zero_not_positive some refl)
   once {g = g} {s = s} (lays_numbers at some n a e l) (lays_numbers at2 some2 n2 a2 f l2) =
-      (refl, ap (λ i. 0xe000_0000 + i) (same_at (here g s) at at2 e f))
+      (refl, ap (λ i. 0xe000_0000 + i) (one_quarter (here g s) at at2 e f))
   once lays_no_items lays_no_items = (refl, refl)
   once lays_no_items (lays_items k some c) = absurd (none_inside k some)
   once (lays_items k some c) lays_no_items = absurd (none_inside k some)

@@ -2,15 +2,11 @@
 use Rattle.std.proofs.Common.{◌≡◌, ℕ, zero, suc, ◌+◌, ◌<◌, List, [], ◌∷◌, ◌++◌, length, take}
 use Rattle.std.proofs.Common.{◌⊎◌, inl, inr, refl, sym, ◌∙◌, ap, subst, arith}
 use Rattle.std.specs.List.{Contains}
-use Rattle.std.proofs.lemmas.Bool.{cases_lt}
 use Rattle.std.proofs.lemmas.List.{get_or_default}
 use Rattle.std.proofs.lemmas.List.Elements.{Contains-push_cases}
 use Rattle.resb_pool.specs.Records.{EachOnce}
 use Rattle.resb_pool.specs.Inner.Placing.{text_numbered}
 use Rattle.resb_pool.proofs.TextLists.{TextList}
-
-pub old_or_new : (n k : ℕ) → k < n + 1 → (k < n) ⊎ (k ≡ n)
-old_or_new n k l = elim (cases_lt k n) [ inl h ↦ inl h | inr h ↦ inr (omega arith) ]
 
 -- one of a list with x in front
 pub cons_cases : (x : List ℕ) (xs : TextList) (y : List ℕ) → Contains (x ∷ xs) y → (x ≡ y)

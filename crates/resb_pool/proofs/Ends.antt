@@ -11,7 +11,7 @@ use Rattle.std.proofs.lemmas.Str.{chars-nil, IsUtf8-encode}
 use Rattle.resb_pool.specs.Order.{suffix_cmp, end_last_cmp}
 use Rattle.resb_pool.specs.Inner.Cuts.{chars_backwards, IsCut, IsShared}
 use Rattle.resb_pool.proofs.Cut.{front_utf8, key_cut, key_last, cut_whole}
-use Rattle.resb_pool.proofs.SuffixOrder.{then_equal, then_differs}
+use Rattle.resb_pool.proofs.Numbers.{then_equal, then_differs}
 
 same_front : (a x y : List ℕ) → end_last_cmp (a ++ x) (a ++ y) ≡ end_last_cmp x y
 same_front [] x y = refl

@@ -6,14 +6,13 @@ use Rattle.std.specs.List.Sorted.{IsSorted}
 use Rattle.std.specs.Cmp.Lexicographic.{slice_cmp, nat_list_cmp_total}
 use Rattle.std.specs.Ordering.{nat_cmp, ordering_then, ordering_reverse, is_lt}
 use Rattle.std.specs.declared.cmp.Ordering.{Ordering}
-use Rattle.std.specs.declared.cmp.Ordering.TheVariants.{Less, Equal, Greater}
+use Rattle.std.specs.declared.cmp.Ordering.TheVariants.{Less}
 use Rattle.std.proofs.lemmas.Cmp.{nat_cmp_total, tied_itself}
 use Rattle.resb_pool.specs.Inner.Placing.{AreBytes, front_bytes, record_cmp, fronted_cmp}
 use Rattle.resb_pool.specs.Inner.Placing.{IsRecordOf}
 use Rattle.resb_pool.specs.declared.records.Record.{Record}
-use Rattle.resb_pool.proofs.FrontKeys.{three_ways}
-use Rattle.resb_pool.proofs.SuffixOrder.{then_less, then_equal}
-use Rattle.resb_pool.proofs.FrontKeys.{less_is_first}
+use Rattle.resb_pool.proofs.Numbers.{then_less, then_equal, three_ways, less_is_first, more_not}
+use Rattle.resb_pool.proofs.Numbers.{then_not}
 
 head_small : (x : ℕ) (xs : List ℕ) → AreBytes (x ∷ xs) → x < 256
 head_small x xs h = h 0
@@ -91,9 +90,6 @@ abbrev text_cmp : Record → Record → Ordering
 text_cmp x y =
     ordering_then (slice_cmp nat_cmp x.text.now y.text.now) (nat_cmp x.index y.index)
 
-more_not : (o p : Ordering) → o ≡ Greater → is_lt (ordering_then o p) ≡ false
-more_not o p f = rw f refl
-
 not_before : (x y : Record) → IsFronted x → IsFronted y
     → is_lt (ordering_then (nat_cmp x.front y.front) (text_cmp x y)) ≡ false
     → is_lt (text_cmp x y) ≡ false
@@ -105,12 +101,6 @@ not_before x y h k e = three_ways (is_lt (text_cmp x y) ≡ false) x.front y.fro
     (nat_list_cmp_total.antisymm x.text.now y.text.now
     ∙ ap ordering_reverse (order_of 8 0 y.text.now x.text.now k.bytes h.bytes
     (omega (arith, m, h.front_is, k.front_is)))))
-
-then_not : (o p q : Ordering) → (is_lt p ≡ false → is_lt q ≡ false)
-    → is_lt (ordering_then o p) ≡ false → is_lt (ordering_then o q) ≡ false
-then_not Less p q f h = h
-then_not Equal p q f h = f h
-then_not Greater p q f h = h
 
 pub in_order : (rs : List Record) → All IsFronted rs → IsSorted fronted_cmp rs
     → IsSorted record_cmp rs

@@ -8,11 +8,10 @@ use Rattle.std.proofs.lemmas.List.MinMax.{ranks_by}
 use Rattle.std.specs.Char.{IsScalar}
 use Rattle.std.specs.Str.{IsUtf8, all_scalars, chars}
 use Rattle.std.specs.Ordering.{nat_cmp, ordering_then, ordering_reverse, is_lt}
-use Rattle.std.specs.declared.cmp.Ordering.{Ordering}
 use Rattle.std.specs.declared.cmp.Ordering.TheVariants.{Less}
 use Rattle.std.proofs.lemmas.Bool.{and_parts}
 use Rattle.std.proofs.lemmas.Bool.Decides.{nat_tests}
-use Rattle.std.proofs.lemmas.Cmp.{ranked, by_ranked, then_total, on_total, nat_cmp_total}
+use Rattle.std.proofs.lemmas.Cmp.{then_total, on_total, nat_cmp_total}
 use Rattle.std.proofs.lemmas.Cmp.{tied_itself}
 use Rattle.std.proofs.lemmas.List.Elements.{All-nil, All-cons, All-tail}
 use Rattle.std.proofs.lemmas.List.Sorted.{All-permutation, IsPermutation-reverse}
@@ -21,7 +20,8 @@ use Rattle.resb_pool.specs.Order.{end_last_cmp}
 use Rattle.resb_pool.specs.Inner.Cuts.{chars_backwards}
 use Rattle.resb_pool.specs.Inner.Suffixes.{front_key, keyed_cmp, row_cmp, IsRowOf}
 use Rattle.resb_pool.specs.declared.suffix_order.Row.{Row}
-use Rattle.resb_pool.proofs.SuffixOrder.{end_last_total, then_less, then_equal}
+use Rattle.resb_pool.proofs.SuffixOrder.{end_last_total}
+use Rattle.resb_pool.proofs.Numbers.{then_less, then_equal, one_of_six, three_ways, less_is_first}
 
 -- each digit is below the end's
 abbrev IsSmall : List ℕ → Type 0
@@ -83,24 +83,19 @@ room_more i a d l m =
     let e : room (i + 1) ≡ room i * 0x20_0000 = ap room n in
     omega (arith, e, l, m)
 
-fewer : (i : ℕ) → i < 6 → 6 - i ≡ suc (6 - (i + 1))
-fewer i l = omega (arith, l)
-
 -- a digit more
 pub next_char : (a i : ℕ) (x z : List ℕ) (c whole : ℕ) → i < 6 → x ≡ c ∷ z
     → front_key a (6 - i) x ≡ whole → front_key (a * 0x20_0000 + c) (6 - (i + 1)) z ≡ whole
 next_char a i x z c whole l e h =
-    ap (front_key a (suc (6 - (i + 1)))) (sym e) ∙ ap (λ n. front_key a n x) (sym (fewer i l)) ∙ h
+    ap (front_key a (suc (6 - (i + 1)))) (sym e)
+    ∙ ap (λ n. front_key a n x) (sym (one_of_six i l)) ∙ h
 
 pub next_end : (a i : ℕ) (x : List ℕ) (whole : ℕ) → i < 6 → x ≡ [] → front_key a (6 - i) x ≡ whole
     → front_key (a * 0x20_0000 + 0x1f_ffff) (6 - (i + 1)) x ≡ whole
 next_end a i x whole l e h =
     ap (front_key (a * 0x20_0000 + 0x1f_ffff) (6 - (i + 1))) e
-    ∙ ap (front_key a (suc (6 - (i + 1)))) (sym e) ∙ ap (λ n. front_key a n x) (sym (fewer i l)) ∙ h
-
-pub three_ways : (P : Type 0) (x y : ℕ) → (nat_cmp x y ≡ Less → P) → (x ≡ y → P) → (y < x → P) → P
-three_ways P x y less same more = by_ranked (x < y) (x ≡ y) (y < x) (nat_cmp x y)
-    (ranked x y (nat_cmp x y) refl) (λ e h. less e) (λ e h. same h) (λ e h. more h)
+    ∙ ap (front_key a (suc (6 - (i + 1)))) (sym e)
+    ∙ ap (λ n. front_key a n x) (sym (one_of_six i l)) ∙ h
 
 order_of : (n a : ℕ) (xs ys : List ℕ) → IsSmall xs → IsSmall ys
     → front_key a n xs < front_key a n ys → end_last_cmp xs ys ≡ Less
@@ -146,10 +141,6 @@ row_keyed T r u h = record {
   utf8 = subst IsUtf8 (sym h.text_is) (u r.index [] h.within);
   front_is = h.front_is;
 }
-
--- where the first of two comparisons says that one thing stands before another, so do both
-pub less_is_first : (o p : Ordering) → o ≡ Less → is_lt (ordering_then o p) ≡ false → ⊥
-less_is_first o p f g = cc (ap is_lt (then_less o p f), g)
 
 before_too : (x y : Row) → IsKeyed x → IsKeyed y → is_lt (keyed_cmp x y) ≡ false
     → is_lt (row_cmp x y) ≡ false

@@ -11,12 +11,9 @@ use Rattle.std.proofs.Math.Nat.{eq-or-lt_of_le}
 use Rattle.std.proofs.lemmas.Bool.{cases_eq}
 use Rattle.std.proofs.lemmas.List.{get_or_default, get_or-take, length-take-le, map_more}
 use Rattle.std.specs.Str.{bytes_eq}
-use Rattle.std.specs.Cmp.Lexicographic.{slice_cmp, bytes_decides, nat_list_cmp_total}
-use Rattle.std.specs.Ordering.{nat_cmp, ordering_then, ordering_reverse, is_lt}
+use Rattle.std.specs.Cmp.Lexicographic.{slice_cmp, bytes_decides}
+use Rattle.std.specs.Ordering.{nat_cmp, ordering_then, is_lt}
 use Rattle.std.specs.declared.cmp.Ordering.{Ordering}
-use Rattle.std.specs.declared.cmp.Ordering.TheVariants.{Less, Equal, Greater}
-use Rattle.std.specs.FinMap.{slice_cmp-IsAntisymmetric, nat_cmp-IsAntisymmetric}
-use Rattle.std.proofs.lemmas.Cmp.{ranked, by_ranked}
 use Rattle.std.proofs.lemmas.List.Sums.{sum_by-cons, sum_by-append}
 use Rattle.std.proofs.lemmas.List.Sorted.{sum_by-IsPermutation, Contains-permutation}
 use Rattle.std.proofs.lemmas.List.Sorted.{IsPermutation-sym}
@@ -27,6 +24,8 @@ use Rattle.resb_pool.specs.Pool.{record_units, ClosesAt}
 use Rattle.resb_pool.specs.Inner.Placing.{AreIndexed, AreEnds, record_texts, record_cmp}
 use Rattle.resb_pool.specs.declared.records.Record.{Record}
 use Rattle.resb_pool.proofs.TextLists.{TextList}
+use Rattle.resb_pool.proofs.Numbers.{cmp_cases}
+use Rattle.resb_pool.proofs.Lists.{text_order}
 
 -- how often x stands among the texts
 abbrev one : List ℕ → List ℕ → ℕ
@@ -104,22 +103,6 @@ pub text_at_index : (rs : List Record) (k : ℕ) (d : Record) → k < length rs
 text_at_index [] k d h = absurd (omega arith)
 text_at_index (r ∷ rs) zero d h = refl
 text_at_index (r ∷ rs) (suc k) d h = text_at_index rs k d (omega arith)
-
-cmp_cases : (x y : ℕ) → ((nat_cmp x y ≡ Less) × (x < y)) ⊎ (((nat_cmp x y ≡ Equal) × (x ≡ y))
-    ⊎ ((nat_cmp x y ≡ Greater) × (y < x)))
-cmp_cases x y = by_ranked (x < y) (x ≡ y) (y < x) (nat_cmp x y) (ranked x y (nat_cmp x y) refl)
-    (λ e h. inl (e, h)) (λ e h. inr (inl (e, h))) (λ e h. inr (inr (e, h)))
-
--- a text that is not after another one, by an order that begins with that of texts, is before it,
--- or the same
-text_order : (s t : List ℕ) (z : Ordering) → is_lt (ordering_then (slice_cmp nat_cmp t s) z) ≡ false
-    → (s ≡ t → ⊥) → slice_cmp nat_cmp s t ≡ Less
-text_order s t z h ne = by (slice_cmp nat_cmp t s) refl
-  where
-    by : (o : Ordering) → slice_cmp nat_cmp t s ≡ o → slice_cmp nat_cmp s t ≡ Less
-    by Less e = absurd (true≢false (sym (ap (λ o. is_lt (ordering_then o z)) e) ∙ h))
-    by Equal e = absurd (ne (sym (slice_cmp-IsAntisymmetric nat_cmp-IsAntisymmetric t s e)))
-    by Greater e = nat_list_cmp_total.antisymm s t ∙ ap ordering_reverse e
 
 -- of two records in order, the first precedes
 module _ (S : TextList) (x y : Record) (ux : x.unit_count ≡ length (units x.text.now))

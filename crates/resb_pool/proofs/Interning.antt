@@ -19,12 +19,12 @@ use Rattle.resb_pool.specs.Plan.{nows, texts_size}
 use Rattle.resb_pool.specs.Inner.Placing.{text_numbered, IsMeasure, AreMeasures, AreTexts}
 use Rattle.resb_pool.specs.declared.measure.Measure.{Measure}
 use Rattle.resb_pool.proofs.TextLoops.{blank}
-use Rattle.resb_pool.proofs.Distinct.{old_or_new}
 use Rattle.resb_pool.proofs.FoundKeys.{same_key}
 use Rattle.resb_pool.proofs.Distinct.{one_index, distinct_push}
 use Rattle.resb_pool.proofs.Sizes.{copy_same, copy_other, copies-push, copies_none, copies_within}
 use Rattle.resb_pool.proofs.Sizes.{marker_le}
 use Rattle.resb_pool.proofs.TextLists.{TextList}
+use Rattle.resb_pool.proofs.Numbers.{old_or_new}
 
 abbrev Key : Type 0
 Key = Bor (List ℕ)

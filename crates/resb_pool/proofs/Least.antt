@@ -1,6 +1,6 @@
 -- No layout costs less than the records.
-use Rattle.std.proofs.Common.{◌≡◌, ℕ, ◌+◌, ◌≤◌, List, [], ◌∷◌, ◌++◌, length, Bool, true}
-use Rattle.std.proofs.Common.{false, cond, ◌⊎◌, inl, inr, refl, sym, ◌∙◌, ap, subst}
+use Rattle.std.proofs.Common.{◌≡◌, ℕ, ◌+◌, ◌≤◌, List, [], ◌∷◌, ◌++◌, length, true}
+use Rattle.std.proofs.Common.{◌⊎◌, inl, inr, refl, sym, ◌∙◌, ap, subst}
 use Rattle.std.proofs.Common.{length-append, arith}
 use Rattle.std.specs.List.{All, Contains, sum_by, remove, flat_map}
 use Rattle.std.specs.List.Sorted.{IsPermutation}
@@ -15,6 +15,8 @@ use Rattle.resb_pool.specs.Records.{EndsWith, EachOnce, IsRecord, IsRecords, IsH
 use Rattle.std.proofs.lemmas.Grind.{flat_map-append}
 use Rattle.resb_pool.proofs.Cut.{front_utf8}
 use Rattle.resb_pool.proofs.Distinct.{cons_cases, Contains-first}
+use Rattle.resb_pool.proofs.Numbers.{size_le}
+use Rattle.resb_pool.proofs.Lists.{none_where_true}
 
 module _ (f : List ℕ → ℕ) (M : List ℕ → List ℕ → Type 0) (alone : (p q r : List ℕ) → M p r → M q r
     → p ≡ q) where
@@ -75,21 +77,13 @@ units_end t s u v h =
     (chars-append h.front s (front_utf8 t h.front s h.is u v))
     ∙ flat_map-append encode_utf16 (chars h.front) (chars s)
 
-no_marker : (b : Bool) (m : List ℕ) → b ≡ true → length (cond b [] m) ≡ 0
-no_marker true m e = refl
-no_marker false m e = cc
-
--- without a marker of its own a text takes no more than one of as many units
-pub size_le : (m n a b : ℕ) → m ≡ 0 → a ≤ b → m + a + 1 ≤ n + b + 1
-size_le m n a b e h = omega arith
-
 held_costs : (s r : List ℕ) → IsUtf8 r → IsUtf8 s → IsHeldBy s r → size s ≤ size r
 held_costs s r u v h =
     let e : length (units r) ≡ length (units h.ends.front ++ units s) =
     ap length (units_end r s u v h.ends) in
     let f = length-append (units h.ends.front) (units s) in
-    let z : length (marker s) ≡ 0 = no_marker (is_unmarked s) (length_marker (length (units s)))
-    h.unmarked in
+    let z : length (marker s) ≡ 0 = none_where_true (is_unmarked s)
+    (length_marker (length (units s))) h.unmarked in
     size_le (length (marker s)) (length (marker r)) (length (units s)) (length (units r)) z
     (omega (arith, e, f))
 

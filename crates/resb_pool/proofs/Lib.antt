@@ -23,3 +23,5 @@ mod Ends
 mod FrontKeys
 mod FrontBytes
 mod SuffixRuns
+mod Numbers
+mod Lists

@@ -1,12 +1,9 @@
 -- Strings have one pool, and each text one offset in it.
 use Rattle.std.proofs.Common.{◌≡◌, ℕ, suc, ◌+◌, ◌<◌, List, [], ◌∷◌, ◌++◌, length}
 use Rattle.std.proofs.Common.{slice_index_or, Option, Some, None, MatchOption, inl, inr}
-use Rattle.std.proofs.Common.{nat_cmp, refl, sym, ◌∙◌, ap, subst, arith}
+use Rattle.std.proofs.Common.{refl, sym, ◌∙◌, ap, subst, arith}
 use Rattle.std.specs.List.{All, Contains, sum_by, flat_map}
 use Rattle.std.specs.Str.{IsUtf8}
-use Rattle.std.specs.Ordering.{ordering_reverse}
-use Rattle.std.specs.Cmp.Lexicographic.{slice_cmp}
-use Rattle.std.specs.declared.cmp.Ordering.TheVariants.{Less}
 use Rattle.std.proofs.lemmas.Cmp.{nat_list_cmp_total}
 use Rattle.std.proofs.lemmas.List.Elements.{Contains-append_right}
 use Rattle.resb_format.specs.Units.{size}
@@ -18,12 +15,7 @@ use Rattle.resb_pool.specs.Plan.{IsPlan}
 use Rattle.resb_pool.proofs.Distinct.{cons_cases, Contains-first}
 use Rattle.resb_pool.proofs.Sharing.{one_container}
 use Rattle.resb_pool.proofs.TextLists.{TextList}
-
-bytes_asym : (r q : List ℕ) → slice_cmp nat_cmp r q ≡ Less → slice_cmp nat_cmp q r ≡ Less → ⊥
-bytes_asym r q e f =
-    let g : Less ≡ ordering_reverse Less = sym e ∙ nat_list_cmp_total.antisymm r q
-    ∙ ap ordering_reverse f in
-    cc
+use Rattle.resb_pool.proofs.Lists.{bytes_asym}
 
 module _ (S : TextList) where
   size_once : (r : List ℕ) (ss : TextList) (m n : ℕ) → SizeIn S r ss m → SizeIn S r ss n → m ≡ n

@@ -1,5 +1,5 @@
 -- A text that stands in the 16-bit block is read there, with its marker or without.
-use Rattle.std.proofs.Common.{◌≡◌, ℕ, zero, suc, ◌+◌, ◌-◌, ◌*◌, ◌/◌, ◌%◌, ◌<◌, ◌≤◌, List, [], ◌∷◌}
+use Rattle.std.proofs.Common.{◌≡◌, ℕ, ◌+◌, ◌-◌, ◌*◌, ◌/◌, ◌%◌, ◌<◌, ◌≤◌, List, [], ◌∷◌}
 use Rattle.std.proofs.Common.{◌++◌, length, get_or, take, drop, Some, option_and_then, true, false}
 use Rattle.std.proofs.Common.{not, cond, ◌&&◌, nat_le, ◌⊎◌, inl, inr, refl, sym, ◌∙◌, ap}
 use Rattle.std.proofs.Common.{append_assoc, length-append, arith}
@@ -8,7 +8,7 @@ use Rattle.std.proofs.lemmas.Str.{IsUtf8-nil, chars-nil}
 use Rattle.std.specs.List.{flat_map}
 use Rattle.std.specs.Char.Escape.{encode_utf16}
 use Rattle.std.proofs.lemmas.Bool.{cases_lt, and_parts, not-true, leb-true, le-leb, lt-leb}
-use Rattle.std.proofs.lemmas.List.{drop_at, get_or-append-add}
+use Rattle.std.proofs.lemmas.List.{drop_at, get_or-append-add, get_or_at}
 use Rattle.std.proofs.lemmas.Bool.Decides.{nat_tests}
 use Rattle.resb_format.specs.Strings.{is_no_marker, before_zero, string_from, string_at}
 use Rattle.resb_format.specs.Strings.{text_of_units, text_at}
@@ -18,16 +18,7 @@ use Rattle.resb_format.specs.Bytes.{part}
 use Rattle.resb_format.specs.Units.{units, is_unmarked, marker, length_marker}
 use Rattle.resb_pool.proofs.Zeros.{has_zero, before_zero-found}
 use Rattle.resb_pool.proofs.Utf16.{text_of_units-units, has_zero-units, units-first}
-
--- the first 41 of a short run and its 0 hold both
-cut : (us rest : List ℕ) (n : ℕ) → length us < n
-    → take n (us ++ 0 ∷ rest) ≡ us ++ 0 ∷ take (n - (length us + 1)) rest
-cut [] rest zero h = absurd (omega arith)
-cut [] rest (suc m) h = let e : m ≡ suc m - (0 + 1) = omega arith in ap (λ k. 0 ∷ take k rest) e
-cut (u ∷ us) rest zero h = absurd (omega arith)
-cut (u ∷ us) rest (suc m) h =
-    let e : m - (length us + 1) ≡ suc m - (suc (length us) + 1) = omega arith in
-    ap (λ l. u ∷ l) (cut us rest m (omega arith) ∙ ap (λ k. us ++ 0 ∷ take k rest) e)
+use Rattle.resb_pool.proofs.Lists.{take_to_zero, first_kept}
 
 -- a first unit that is no marker
 unmarked_from : (block : List ℕ) (u first : ℕ) → (first ≤ 0xdbff) ⊎ (0xdfff < first)
@@ -56,13 +47,8 @@ string_at-found front us rest z l f =
           inr (omega (arith, at))
     ])
     ∙ ap (λ l. before_zero (take 41 l)) (drop_at front (us ++ 0 ∷ rest) n refl)
-    ∙ ap before_zero (cut us rest 41 (omega arith))
+    ∙ ap before_zero (take_to_zero us rest 41 (omega arith))
     ∙ before_zero-found us (take (41 - (length us + 1)) rest) z
-
-first_at : (us rest : List ℕ) → (get_or us 0 0 ≤ 0xdbff) ⊎ (0xdfff < get_or us 0 0)
-    → (get_or (us ++ 0 ∷ rest) 0 0 ≤ 0xdbff) ⊎ (0xdfff < get_or (us ++ 0 ∷ rest) 0 0)
-first_at [] rest h = inl (omega arith)
-first_at (u ∷ us) rest h = h
 
 -- an unmarked text is read where its units and a 0 stand
 pub text_at-found : (front s rest : List ℕ) → IsUtf8 s → is_unmarked s ≡ true
@@ -72,7 +58,7 @@ text_at-found front s rest u m =
     let p = and_parts (nat_le (length (units s)) 40) (not (has_zero s)) m in
     ap (option_and_then text_of_units) (string_at-found front (units s) rest
     (has_zero-units s u (not-true (has_zero s) p.1)) (leb-true (length (units s)) 40 p.0)
-    (first_at (units s) rest (units-first s u)))
+    (first_kept (units s) rest (units-first s u)))
     ∙ text_of_units-units s u
 
 -- the empty text is read at a unit 0
@@ -123,14 +109,6 @@ part_at front mid us rest i n e f =
     ∙ ap (take n) (drop_at (front ++ mid) (us ++ rest) i (length-append front mid ∙ sym e))
     ∙ ap (λ k. take k (us ++ rest)) f ∙ take-append_seam us rest)
 
-first_is : (front rest : List ℕ) (m : ℕ) → get_or (front ++ m ∷ rest) (length front) 0 ≡ m
-first_is front rest m = let e : length front ≡ length front + 0 = omega arith in
-    ap (λ k. get_or (front ++ m ∷ rest) k 0) e ∙ get_or-append-add front (m ∷ rest) 0 0
-
-nth_is : (front rest : List ℕ) (i : ℕ) → get_or (front ++ rest) (length front + i) 0 ≡ get_or rest i
-    0
-nth_is front rest i = get_or-append-add front rest i 0
-
 module _ (front us rest : List ℕ) (n : ℕ) (e : n ≡ length us) where
   with_one : n ≤ 0x3ee → string_at (front ++ ((0xdc00 + n) ∷ [] ++ (us ++ rest))) (length front) ≡
       Some us
@@ -138,7 +116,8 @@ module _ (front us rest : List ℕ) (n : ℕ) (e : n ≡ length us) where
   with_one h =
       let block : List ℕ = front ++ ((0xdc00 + n) ∷ (us ++ rest)) in
       let long : length {A = ℕ} ((0xdc00 + n) ∷ []) ≡ 1 = refl in
-      ap (string_from block (length front)) (first_is front (us ++ rest) (0xdc00 + n))
+      ap (string_from block (length front))
+      (get_or_at front (0xdc00 + n) (us ++ rest) 0 (length front) refl)
       ∙ from_one block (length front) (0xdc00 + n) (omega arith) (omega arith)
       ∙ part_at front ((0xdc00 + n) ∷ []) us rest (length front + 1) (0xdc00 + n - 0xdc00)
       (omega (arith, long)) (omega (arith, e))
@@ -152,8 +131,10 @@ module _ (front us rest : List ℕ) (n : ℕ) (e : n ≡ length us) where
       let k : ℕ = n % 0x1_0000 in
       let block : List ℕ = front ++ (m ∷ k ∷ (us ++ rest)) in
       let long : length {A = ℕ} (m ∷ k ∷ []) ≡ 2 = refl in
-      let second : get_or block (length front + 1) 0 ≡ k = nth_is front (m ∷ k ∷ (us ++ rest)) 1 in
-      ap (string_from block (length front)) (first_is front (k ∷ (us ++ rest)) m)
+      let second : get_or block (length front + 1) 0 ≡ k =
+      get_or-append-add front (m ∷ k ∷ (us ++ rest)) 1 0 in
+      ap (string_from block (length front))
+      (get_or_at front m (k ∷ (us ++ rest)) 0 (length front) refl)
       ∙ from_two block (length front) m (omega arith) (omega arith)
       ∙ part_at front (m ∷ k ∷ []) us rest (length front + 2)
       ((m - 0xdfef) * 0x1_0000 + get_or block (length front + 1) 0) (omega (arith, long))
@@ -169,10 +150,11 @@ module _ (front us rest : List ℕ) (n : ℕ) (e : n ≡ length us) where
       let block : List ℕ = front ++ (0xdfff ∷ j ∷ k ∷ (us ++ rest)) in
       let long : length {A = ℕ} (0xdfff ∷ j ∷ k ∷ []) ≡ 3 = refl in
       let second : get_or block (length front + 1) 0 ≡ j =
-      nth_is front (0xdfff ∷ j ∷ k ∷ (us ++ rest)) 1 in
+      get_or-append-add front (0xdfff ∷ j ∷ k ∷ (us ++ rest)) 1 0 in
       let third : get_or block (length front + 2) 0 ≡ k =
-      nth_is front (0xdfff ∷ j ∷ k ∷ (us ++ rest)) 2 in
-      ap (string_from block (length front)) (first_is front (j ∷ k ∷ (us ++ rest)) 0xdfff)
+      get_or-append-add front (0xdfff ∷ j ∷ k ∷ (us ++ rest)) 2 0 in
+      ap (string_from block (length front))
+      (get_or_at front 0xdfff (j ∷ k ∷ (us ++ rest)) 0 (length front) refl)
       ∙ from_three block (length front)
       ∙ part_at front (0xdfff ∷ j ∷ k ∷ []) us rest (length front + 3)
       (get_or block (length front + 1) 0 * 0x1_0000 + get_or block (length front + 2) 0)

@@ -14,8 +14,9 @@ use Rattle.resb_pool.specs.Pool.{LiesIn, SizeIn, size_none, size_here, size_else
 use Rattle.resb_pool.specs.Records.{IsRecord}
 use Rattle.resb_pool.proofs.SuffixOrder.{end_last_total, tied_same}
 use Rattle.resb_pool.proofs.Cut.{key_same}
-use Rattle.resb_pool.proofs.Least.{units_end, size_le}
+use Rattle.resb_pool.proofs.Least.{units_end}
 use Rattle.resb_pool.proofs.TextLists.{TextList}
+use Rattle.resb_pool.proofs.Numbers.{size_le}
 
 module _ (S : TextList) (texts : All IsUtf8 S) where
   pub one_container : (s r q : List ℕ) → IsContainer S s r → IsContainer S s q → r ≡ q

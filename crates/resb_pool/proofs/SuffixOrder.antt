@@ -1,15 +1,15 @@
 -- The suffix order is total, and what ends with a text stands just before it.
-use Rattle.std.proofs.Common.{◌≡◌, ℕ, ◌<◌, List, [], ◌∷◌, ◌++◌, ◌⊎◌, inl, inr, refl, sym, ◌∙◌, ap}
+use Rattle.std.proofs.Common.{◌≡◌, ℕ, List, [], ◌∷◌, ◌++◌, inl, inr, refl, sym, ◌∙◌, ap}
 use Rattle.std.proofs.Common.{subst, append-nil}
 use Rattle.std.specs.Cmp.{IsTotalOrder}
 use Rattle.std.specs.Cmp.Lexicographic.{slice_cmp}
-use Rattle.std.specs.Ordering.{nat_cmp, ordering_then, ordering_reverse}
+use Rattle.std.specs.Ordering.{nat_cmp, ordering_then}
 use Rattle.std.specs.declared.cmp.Ordering.{Ordering}
-use Rattle.std.specs.declared.cmp.Ordering.TheVariants.{Less, Equal, Greater}
+use Rattle.std.specs.declared.cmp.Ordering.TheVariants.{Equal}
 use Rattle.std.proofs.lemmas.Cmp.{lists_total, then_total, on_total, nat_cmp_total, tied_itself}
-use Rattle.std.proofs.lemmas.Cmp.{ranked, by_ranked}
 use Rattle.resb_pool.specs.Order.{end_last_cmp}
 use Rattle.resb_pool.specs.Inner.Extends.{Extends, Before, NotAfter}
+use Rattle.resb_pool.proofs.Numbers.{cmp_both_ways, then_less, then_greater, then_equal}
 
 -- the letters and then the end, which is above each letter
 marked : List ℕ → List (ℕ × ℕ)
@@ -36,40 +36,12 @@ end_last_total =
     on_total marked (lists_total by_pair_total) in
     subst (λ (R : List ℕ → List ℕ → Ordering). IsTotalOrder R) (λ i x y. as_marked x y i) o
 
--- how two letters compare, both ways
-letters : (x y : ℕ) → ((nat_cmp x y ≡ Less) × (nat_cmp y x ≡ Greater))
-    ⊎ (((nat_cmp x y ≡ Equal) × (nat_cmp y x ≡ Equal) × (x ≡ y))
-    ⊎ ((nat_cmp x y ≡ Greater) × (nat_cmp y x ≡ Less)))
-letters x y =
-    let back : (a b : ℕ) (o : Ordering) → nat_cmp a b ≡ o → nat_cmp b a ≡ ordering_reverse o =
-    λ a b o e. nat_cmp_total.antisymm b a ∙ ap ordering_reverse e in
-    by_ranked (x < y) (x ≡ y) (y < x) (nat_cmp x y) (ranked x y (nat_cmp x y) refl)
-    (λ e _. inl (e, back x y Less e)) (λ e h. inr (inl (e, back x y Equal e, h)))
-    (λ e _. inr (inr (e, back x y Greater e)))
-
-pub then_less : (o p : Ordering) → o ≡ Less → ordering_then o p ≡ Less
-then_less o p e = rw e refl
-
-then_greater : (o p : Ordering) → o ≡ Greater → ordering_then o p ≡ Greater
-then_greater o p e = rw e refl
-
-pub then_equal : (o p : Ordering) → o ≡ Equal → ordering_then o p ≡ p
-then_equal o p e = rw e refl
-
-pub then_differs : (x y : ℕ) (o : Ordering) → (x ≡ y → ⊥)
-    → ordering_then (nat_cmp x y) o ≡ nat_cmp x y
-then_differs x y o ne = elim (letters x y) [
-  | inl h ↦ then_less (nat_cmp x y) o h.0 ∙ sym h.0
-  | inr (inl h) ↦ absurd (ne h.2)
-  | inr (inr h) ↦ then_greater (nat_cmp x y) o h.0 ∙ sym h.0
-]
-
 -- texts that tie are one text
 pub tied_same : (xs ys : List ℕ) → end_last_cmp xs ys ≡ Equal → xs ≡ ys
 tied_same [] [] e = refl
 tied_same [] (y ∷ ys) e = cc
 tied_same (x ∷ xs) [] e = cc
-tied_same (x ∷ xs) (y ∷ ys) e = elim (letters x y) [
+tied_same (x ∷ xs) (y ∷ ys) e = elim (cmp_both_ways x y) [
   | inl h ↦ cc (then_less (nat_cmp x y) (end_last_cmp xs ys) h.0)
   | inr (inl h) ↦ (let k = tied_same xs ys (sym (then_equal (nat_cmp x y) (end_last_cmp xs ys) h.0)
       ∙ e) in cc)
@@ -108,7 +80,7 @@ between t q s n b h = by_rest t q s h.rest h.is n b
     by_rest (z ∷ t) (y ∷ q) (x ∷ s) r e n b =
         let zx : z ≡ x = cc in
         let f : t ≡ s ++ r = cc in
-        elim (letters y x) [
+        elim (cmp_both_ways y x) [
           | inl h ↦ absurd (n (ap (λ c. ordering_then (nat_cmp c y) (end_last_cmp t q)) zx
               ∙ then_greater (nat_cmp x y) (end_last_cmp t q) h.1))
           | inr (inl h) ↦

@@ -22,6 +22,7 @@ use Rattle.resb_pool.proofs.Sizes.{copy, copy_same, copy_other, copies-cons}
 use Rattle.resb_pool.proofs.PlacingLemmas.{container_from}
 use Rattle.resb_pool.proofs.Sharing.{one_container}
 use Rattle.resb_pool.proofs.TextLists.{TextList}
+use Rattle.resb_pool.proofs.Numbers.{more_than_zero}
 
 -- n, where a home is in q
 abbrev if_in : Home → ℕ → ℕ → ℕ
@@ -116,10 +117,6 @@ part_at q (p ∷ ps) (t ∷ T) s (suc j) d e u l h =
       if_in_zero p q (copy t s) (copy_other t s apart),
       part_at q ps T s j d (omega (arith, e)) u.1 (omega (arith, l)) h,
     )
-
-more_than_zero : (n : ℕ) → (n ≡ 0 → ⊥) → 0 < n
-more_than_zero zero f = absurd (f refl)
-more_than_zero (suc n) f = omega arith
 
 module _ (S T : TextList) (texts : All IsUtf8 S) (once : EachOnce T) (same : (s : List ℕ)
     → Contains T s ↔ Contains S s) (ps : List Home) (placed : AreHomes T ps)

@@ -16,6 +16,7 @@ use Rattle.resb_format.specs.Strings.{text_of_units}
 use Rattle.resb_format.specs.Units.{units}
 use Rattle.resb_format.proofs.TextUnits.{low_char}
 use Rattle.resb_pool.proofs.Zeros.{has_zero, has_zero-append}
+use Rattle.resb_pool.proofs.Numbers.{positive_is_not_zero}
 
 high_char : (c : ℕ) → 0x1_0000 ≤ c → encode_utf16 c ≡ (0xD800 + (c - 0x1_0000) / 0x400) ∷
     (0xDC00 + (c - 0x1_0000) % 0x400) ∷ []
@@ -84,14 +85,13 @@ char_zero c h e =
     let f : has_zero (c ∷ []) ≡ false = ap has_zero (sym (encode_ascii c (omega arith))) ∙ h in
     eqb-false c 0 (or_parts (nat_eq c 0) false f).0 e
 
-not_zero : (n : ℕ) → 0 < n → nat_eq n 0 ≡ false
-not_zero n h = ne_eqb n 0 (λ (e : n ≡ 0). omega arith)
-
 unit_zero : (c : ℕ) → (c ≡ 0 → ⊥) → has_zero (encode_utf16 c) ≡ false
 unit_zero c ne = elim (cases_lt c 0x1_0000) [
   | inl h ↦ ap has_zero (low_char c h) ∙ or_from _ _ (ne_eqb c 0 ne) refl
-  | inr h ↦ ap has_zero (high_char c h) ∙ or_from _ _ (not_zero (0xD800 + (c - 0x1_0000) / 0x400)
-      (omega arith)) (or_from _ _ (not_zero (0xDC00 + (c - 0x1_0000) % 0x400) (omega arith)) refl)
+  | inr h ↦ ap has_zero (high_char c h)
+      ∙ or_from _ _ (positive_is_not_zero (0xD800 + (c - 0x1_0000) / 0x400) (omega arith))
+      (or_from _ _ (positive_is_not_zero (0xDC00 + (c - 0x1_0000) % 0x400)
+      (omega arith)) refl)
 ]
 
 units_zero : (cs : List ℕ) → has_zero (encodes cs) ≡ false → has_zero (flat_map encode_utf16 cs) ≡

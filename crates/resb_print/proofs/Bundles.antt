@@ -42,6 +42,7 @@ module _ (text : List ℕ) where
   get_at (x ∷ l) zero b rest e = let f : x ≡ b = cc in ap Some f
   get_at (x ∷ l) (suc n) b rest e = get_at l n b rest e
 
+  -- bytes that a text goes on with stand there
   pub stands : (w : List ℕ) {at : ℕ} (rest : List ℕ) → From text at (w ++ rest) → Stands text at w
   stands [] rest h = tt
   stands (b ∷ w) {at} rest h =

@@ -112,6 +112,7 @@ unfoldable pub all_below : (ℕ → Bool) → ℕ → Bool
 all_below p zero = true
 all_below p (suc n) = p n && all_below p n
 
+-- a test that all numbers below a bound pass is passed by each of them
 pub below_passes : (p : ℕ → Bool) (n d : ℕ) → all_below p n ≡ true → d < n → p d ≡ true
 unfolding all_below
 below_passes p zero d h l = absurd (omega arith)
@@ -140,6 +141,7 @@ pub record ReadsBack (d : ℕ) : Type 0 where
   pub value : hex_value (digit_of d) ≡ d
   pub no_quote : (digit_of d == ascii.quote) ≡ false
 
+-- the hex digit of a number below 16 is read back as this number, and is no quote
 pub reads_back : (d : ℕ) → d < 16 → ReadsBack d
 unfolding is_read_back
 reads_back d l =
@@ -156,6 +158,7 @@ reads_back d l =
     flip true e = absurd (false≢true e)
     flip false e = refl
 
+-- hex digits have no quote among them
 pub hex_free : (bs : List ℕ) → AreBelow 256 bs → NoQuote (encode_lower bs)
 unfolding encode_with
 hex_free [] low = refl
@@ -167,6 +170,7 @@ hex_free (b ∷ bs) low =
     (or_from (digit_of (b % 16) == ascii.quote) _ y.no_quote
     (hex_free bs (λ k i. low (suc k) (omega arith))))
 
+-- the hex digits of bytes are read back as these bytes
 pub hex_read : (bs : List ℕ) → AreBelow 256 bs → hex_bytes (encode_lower bs) ≡ Some bs
 unfolding encode_with
 hex_read [] low = refl

@@ -27,11 +27,13 @@ no_quote (b ∷ s) h zero l e =
 no_quote (b ∷ s) h (suc k) l e = no_quote s (grind (arith)) k (omega arith) e
 
 module _ (text : List ℕ) where
+  -- the byte that stands at a place is the first of what the text goes on with there
   pub byte_at : {at b : ℕ} {rest : List ℕ} → From text at (b ∷ rest) → slice_index text at ≡ b
   byte_at {at} {b} {rest} h =
       ap (λ n. get_or text n 0) (sym (add-zero at)) ∙ sym (get_or-drop at text 0 0)
       ∙ ap (λ l. get_or l 0 0) h.is
 
+  -- behind some bytes, the text goes on with what follows them
   pub from_behind : (w : List ℕ) {at : ℕ} (rest : List ℕ) → From text at (w ++ rest)
       → From text (at + length w) rest
   from_behind w {at} rest h = record {
@@ -39,12 +41,15 @@ module _ (text : List ℕ) where
         ∙ drop_at w rest (length w) refl;
   }
 
+  -- behind one byte, the text goes on with what follows it
   pub from_next : {at b : ℕ} {rest : List ℕ} → From text at (b ∷ rest) → From text (at + 1) rest
   from_next {at} {b} {rest} h = from_behind (b ∷ []) rest h
 
+  -- where a byte is left, the text has not ended
   pub from_inside : {at b : ℕ} {rest : List ℕ} → From text at (b ∷ rest) → at < length text
   from_inside {at} {b} {rest} h = omega (arith, length-drop at text, ap length h.is)
 
+  -- where nothing is left, the text has ended
   pub at_end : {at : ℕ} → From text at [] → length text ≤ at
   at_end {at} h = omega (arith, length-drop at text, ap length h.is)
 
@@ -57,6 +62,7 @@ module _ (text : List ℕ) where
       ap (λ n. get_or text n 0) (sym e) ∙ sym (get_or-drop at text (k - at) 0)
       ∙ ap (λ l. get_or l (k - at) 0) h.is ∙ get_or_append_left w rest 0 (k - at) l
 
+  -- the part of the text between a place and the end of the bytes that stand there is these bytes
   pub range_is : (w : List ℕ) {at : ℕ} (rest : List ℕ) → From text at (w ++ rest)
       → slice_range text at (at + length w) ≡ w
   range_is w {at} rest h =

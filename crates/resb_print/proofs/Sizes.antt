@@ -19,6 +19,7 @@ use Rattle.resb_print.specs.Printed.{trees_end, entries_end, table_on, tree_on, 
 use Rattle.resb_print.specs.Printed.{entries_on, root_type_on, printed_bundle}
 use Rattle.resb_print.specs.Sizes.{data_length, data_lengths, data_length_in, text_limit}
 
+-- one level deeper than a level up to 32 is such a level too
 pub deeper_le : (n : ℕ) → n ≤ 32 → deeper n ≤ 32
 deeper_le n h = grind (arith, nat_tests)
 
@@ -26,9 +27,11 @@ indent_length : (n : ℕ) (rest : List ℕ) → length (indent_on n rest) ≡ 4 
 indent_length zero rest = omega arith
 indent_length (suc n) rest = omega (arith, indent_length n rest)
 
+-- a line feed and an indentation take 129 bytes at most
 pub line_length : (n : ℕ) (rest : List ℕ) → n ≤ 32 → length (line_on n rest) ≤ 129 + length rest
 line_length n rest h = omega (arith, indent_length n rest)
 
+-- a text between quotes takes two bytes more
 pub quoted_length : (s rest : List ℕ) → length (quoted_on s rest) ≡ length s + 2 + length rest
 quoted_length s rest = omega (arith, length-append s (34 ∷ rest))
 
@@ -42,6 +45,7 @@ name_length s rest = by (is_bare s)
 digits : (n : ℕ) → n < 2 ^ 32 → length (decimal n) ≤ 10
 digits n h = length-decimal-le 10 n (omega arith) (omega arith) (omega arith)
 
+-- a number of 32 bits takes 10 digits at most
 pub number_length : (n : ℕ) (rest : List ℕ) → n < 2 ^ 32
     → length (decimal n ++ rest) ≤ 10 + length rest
 number_length n rest h = omega (arith, length-append (decimal n) rest, digits n h)
@@ -56,6 +60,7 @@ more_numbers_length (n ∷ ns) rest h =
       more_numbers_length ns rest (λ k l. h (suc k) (omega arith)),
     )
 
+-- numbers take 11 bytes each at most, with a comma
 pub numbers_length : (ns rest : List ℕ) → AreBelow (2 ^ 32) ns
     → length (numbers_on ns rest) ≤ 11 * length ns + length rest
 numbers_length [] rest h = omega arith
@@ -66,6 +71,7 @@ numbers_length (n ∷ ns) rest h =
       more_numbers_length ns rest (λ k l. h (suc k) (omega arith)),
     )
 
+-- what ends a resource takes one byte at most
 pub end_length : (p : Place) (rest : List ℕ) → length (end_on p rest) ≤ 1 + length rest
 end_length InTable rest = omega arith
 end_length InArray rest = omega arith
@@ -75,16 +81,19 @@ string_length : (p : Place) (s rest : List ℕ)
 string_length InTable s rest = omega (arith, quoted_length s (125 ∷ rest))
 string_length InArray s rest = omega (arith, quoted_length s (44 ∷ rest))
 
+-- what ends an array takes 130 bytes at most
 pub trees_end_length : (ts : Trees) (n : ℕ) (rest : List ℕ) → n ≤ 32
     → length (trees_end ts n rest) ≤ 130 + length rest
 trees_end_length no_trees n rest h = omega arith
 trees_end_length (more_trees t ts) n rest h = omega (arith, line_length n (125 ∷ rest) h)
 
+-- what ends a table takes 130 bytes at most
 pub entries_end_length : (es : Entries) (n : ℕ) (rest : List ℕ) → n ≤ 32
     → length (entries_end es n rest) ≤ 130 + length rest
 entries_end_length no_entries n rest h = omega arith
 entries_end_length (entry k t es) n rest h = omega (arith, line_length n (125 ∷ rest) h)
 
+-- a table's type takes 7 bytes at most
 pub table_length : (es : Entries) (rest : List ℕ) → length (table_on es rest) ≤ 7 + length rest
 table_length no_entries rest = omega arith
 table_length (entry k t es) rest = omega arith
@@ -147,6 +156,7 @@ mutual
         entries_length n es rest h held.1,
       )
 
+-- the type of a root takes 18 bytes at most
 pub root_type_length : (f : Bool) (rest : List ℕ) → length (root_type_on f rest) ≤ 18 + length rest
 root_type_length true rest = omega arith
 root_type_length false rest = omega arith

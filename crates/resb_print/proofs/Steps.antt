@@ -49,6 +49,7 @@ pub item_last : (n : ℕ) (rs : List Resource) (r : Resource)
 item_last n [] r = refl
 item_last n (s ∷ rs) r = ap (λ l. item_job n (tree_of s) ∷ l) (item_last n rs r)
 
+-- a job at the end is folded in last
 pub fold_push : {X : Type 0} (f : Job → X → X) (js : List Job) (j : Job) (x : X)
     → fold_jobs f (js ++ j ∷ []) x ≡ f j (fold_jobs f js x)
 fold_push f [] j x = refl
@@ -59,15 +60,18 @@ reverse_more : (js ks : List Job) (j : Job)
 reverse_more js ks j =
     ap (λ l. js ++ l) (reverse-append (j ∷ []) ks) ∙ sym (append_assoc js (reverse ks) (j ∷ []))
 
+-- jobs in reverse order, of which one comes before the others, are folded so that it comes last
 pub fold_more : {X : Type 0} (f : Job → X → X) (js ks : List Job) (j : Job) (x : X)
     → fold_jobs f (js ++ reverse (j ∷ ks)) x ≡ f j (fold_jobs f (js ++ reverse ks) x)
 fold_more f js ks j x =
     ap (λ l. fold_jobs f l x) (reverse_more js ks j) ∙ fold_push f (js ++ reverse ks) j x
 
+-- no jobs behind others change nothing
 pub fold_none : {X : Type 0} (f : Job → X → X) (js : List Job) (x : X)
     → fold_jobs f (js ++ reverse []) x ≡ fold_jobs f js x
 fold_none f js x = ap (λ l. fold_jobs f l x) (append-nil js)
 
+-- where jobs are held with one more at their end, so are they and that one
 pub held_push : (js : List Job) (j : Job) → AreHeldJobs (js ++ j ∷ [])
     → AreHeldJobs js × IsHeldJob j
 held_push [] j h = (tt, h.0)
@@ -94,6 +98,7 @@ entries_cause n js (p ∷ ps) later =
     fold_more job_cause js (entry_jobs n ps) (entry_job n p.0 p.1) later
     ∙ ap (job_cause (entry_job n p.0 p.1)) (entries_cause n js ps later)
 
+-- where the jobs of entries are held behind others, so are the others, and what is in the entries
 pub entries_held : (n : ℕ) (js : List Job) (ps : List (List ℕ × Tree))
     → AreHeldJobs (js ++ reverse (entry_jobs n ps)) → AreHeldJobs js × HeldIn (entries_of ps)
 entries_held n js [] h = (subst AreHeldJobs (append-nil js) h, tt)
@@ -102,6 +107,7 @@ entries_held n js (p ∷ ps) h =
     let b = entries_held n js ps a.0 in
     (b.0, (a.1, b.1))
 
+-- the jobs of entries take two turns for each resource in them
 pub entries_turns : (n : ℕ) (js : List Job) (ps : List (List ℕ × Tree))
     → jobs_turns (js ++ reverse (entry_jobs n ps))
     ≡ jobs_turns js + 2 * entries_count (entries_of ps)
@@ -126,6 +132,7 @@ items_cause n js (t ∷ ts) later =
     fold_more job_cause js (item_jobs n ts) (item_job n t) later
     ∙ ap (job_cause (item_job n t)) (items_cause n js ts later)
 
+-- where the jobs of items are held behind others, so are the others, and what is in the items
 pub items_held : (n : ℕ) (js : List Job) (ts : List Tree)
     → AreHeldJobs (js ++ reverse (item_jobs n ts)) → AreHeldJobs js × AreHeld (trees_of ts)
 items_held n js [] h = (subst AreHeldJobs (append-nil js) h, tt)
@@ -134,6 +141,7 @@ items_held n js (t ∷ ts) h =
     let b = items_held n js ts a.0 in
     (b.0, (a.1, b.1))
 
+-- the jobs of items take two turns for each resource in them
 pub items_turns : (n : ℕ) (js : List Job) (ts : List Tree)
     → jobs_turns (js ++ reverse (item_jobs n ts)) ≡ jobs_turns js + 2 * trees_count (trees_of ts)
 items_turns n js [] = fold_none add_turns js 0 ∙ omega arith
@@ -151,6 +159,7 @@ does_leaf old new js p n t w free held some = record {
   fewer = omega arith;
 }
 
+-- bytes that were written stand between what was there before and what comes
 pub writes_bytes : (old new : String Global) (w : List ℕ) → string_bytes new ≡ string_bytes old ++ w
     → (rest : List ℕ) → string_bytes new ++ rest ≡ string_bytes old ++ (w ++ rest)
 writes_bytes old new w e rest = ap (λ l. l ++ rest) e ∙ append_assoc (string_bytes old) w rest
@@ -230,6 +239,7 @@ does_line old line new js ks j write p n t w d same causes held turns = record {
   fewer = omega (arith, d.fewer);
 }
 
+-- jobs are held with one more at their end, where they and that one are
 pub held_both : (js : List Job) (j : Job) → AreHeldJobs js × IsHeldJob j
     → AreHeldJobs (js ++ j ∷ [])
 held_both [] j h = (h.1, tt)
@@ -274,13 +284,16 @@ refused js ls j es old now e f u (inr (x, h, g)) =
           ∙ g (jobs_cause js None),
     )
 
+-- a number that is not 0 is positive
 pub not_empty : (n : ℕ) → (n == 0) ≡ false → 0 < n
 not_empty n h = grind (arith, nat_tests)
 
+-- where there are entries, there are entries of their trees
 pub many_entries : (es : List (List ℕ × Resource)) → 0 < length es → 0 < length (pairs_view es)
 many_entries [] h = h
 many_entries (e ∷ es) h = omega arith
 
+-- where there are items, there are trees of them
 pub many_items : (rs : List Resource) → 0 < length rs → 0 < length (map tree_of rs)
 many_items [] h = h
 many_items (r ∷ rs) h = omega arith
@@ -305,6 +318,7 @@ pub refuses_quote : (e : PrintError) (x : Cause) (s : List ℕ) (g : Option Caus
 refuses_quote e x s g h q same =
     inr (x, h, λ later. (same later).1 ∙ quote_found x s (same later).0 q)
 
+-- no keys are in order
 pub sorted_none : IsStrictlySortedBy text_cmp []
 unfolding IsStrictlySortedBy
 sorted_none = tt

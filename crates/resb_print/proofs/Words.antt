@@ -164,6 +164,7 @@ more_digits n ds l h = record {
         ap (digits_value text at) (length_push ds (48 + n % 10) ∙ add-one (length ds))
         ∙ omega (arith, r, b)
 
+-- a number of 64 bits is written by its digits
 pub decimal_digits : (n : ℕ) → n < 2 ^ 64 → AreDigitsOf n (decimal n)
 decimal_digits = decimal_by_steps AreDigitsOf one_digit more_digits
 

@@ -18,6 +18,7 @@ pub use path::{PathStep, cause_path};
 pub use print::print_text;
 
 // What the printer of ICU's form takes from this one.
+pub use path::{CauseTests, path_in};
 pub use pieces::{has_quote, push_end, push_line, push_quoted, push_root_type};
 pub use place::Place;
 pub use step::{deeper, push_bytes, push_entries, push_integer, push_items, push_vector};

@@ -1,5 +1,6 @@
 //! Where the first cause stands that keeps a bundle from having a text: keys and numbers.
-//! Which cause it is, `print_text` answers. No function calls itself.
+//! Which keys and strings are a cause differs by the form of the text; which cause it is,
+//! `print_text` answers. No function calls itself.
 ghost use Rattle.std.specs.Prelude.{◌≡◌, ◌++◌, [], reverse, IfOk, OnOk, None};
 ghost use Rattle.resb_tree.specs.Bundle.{name_of, root_of};
 ghost use Rattle.resb_tree.specs.View.{tree_of, entries_view, pairs_view};
@@ -19,6 +20,41 @@ pub enum PathStep<'t> {
     Key(&'t str),
     /// To the member of an array that has this number, from 0.
     Member(usize),
+}
+
+/// Which keys and strings keep a bundle from having a text of one form.
+pub trait CauseTests {
+    ghost use Rattle.std.specs.Prelude.{◌≡◌};
+    ghost use Rattle.resb_tree.specs.View.{tree_of};
+    ghost use Rattle.resb_print.specs.Paths as paths;
+
+    /// The same as tests of a key with its tree, and of a string.
+    ghost tests: { paths.CauseTests };
+
+    /// Whether a key is a cause, by itself or for what stands under it.
+    fn is_entry_cause(key: &str, resource: &Resource<'_>) -> bool
+        ensures { result ≡ tests.of_entry key.now (tree_of resource.now) };
+
+    /// Whether a string is a cause.
+    fn is_string_cause(text: &str) -> bool
+        ensures { result ≡ tests.of_string text.now };
+}
+
+/// A `"` is a cause in keys and in strings.
+enum Quotes {}
+
+impl CauseTests for Quotes {
+    ghost use Rattle.resb_print.specs.Paths.{quote_tests};
+
+    ghost tests = { quote_tests };
+
+    fn is_entry_cause(key: &str, _resource: &Resource<'_>) -> bool {
+        has_quote(key)
+    }
+
+    fn is_string_cause(text: &str) -> bool {
+        has_quote(text)
+    }
 }
 
 /// What is still to be looked at.
@@ -46,16 +82,16 @@ fn push_entries<'t, 'a>(
     Ok(())
 }
 
-/// Puts what is inside a resource. Answers whether it is a string that holds a quote.
-fn enter<'t, 'a>(
+/// Puts what is inside a resource. Answers whether it is a string that is a cause.
+fn enter<'t, 'a, C: CauseTests>(
     pending: &mut Vec<Visit<'t, 'a>>,
     resource: &'t Resource<'a>,
 ) -> Result<bool, AllocError>
-    ensures { IfOk result (λ found. EntersTree (looks_in pending.old.items)
+    ensures { IfOk result (λ found. EntersTree C.tests (looks_in pending.old.items)
         (looks_in pending.new.items) (tree_of resource.now) found) }
 {
     match resource {
-        Resource::String(text) => Ok(has_quote(text.as_str())),
+        Resource::String(text) => Ok(C::is_string_cause(text.as_str())),
         Resource::Array(members) => {
             pending.push(Visit::Members(members.as_slice(), 0))?;
             Ok(false)
@@ -69,12 +105,12 @@ fn enter<'t, 'a>(
 }
 
 /// Looks at one thing, and puts what it leaves. Answers whether the path now leads to the cause.
-fn look<'t, 'a>(
+fn look<'t, 'a, C: CauseTests>(
     pending: &mut Vec<Visit<'t, 'a>>,
     path: &mut Vec<PathStep<'t>>,
     visit: Visit<'t, 'a>,
 ) -> Result<bool, AllocError>
-    ensures { IfOk result (λ found. LooksOnce (looks_in pending.old.items)
+    ensures { IfOk result (λ found. LooksOnce C.tests (looks_in pending.old.items)
         (looks_in pending.new.items)
         (steps_in path.old.items) (steps_in path.new.items) (look_of visit.entry) found) }
 {
@@ -85,11 +121,11 @@ fn look<'t, 'a>(
         }
         Visit::Entry(key, resource) => {
             path.push(PathStep::Key(key.as_str()))?;
-            if has_quote(key.as_str()) {
+            if C::is_entry_cause(key.as_str(), resource) {
                 return Ok(true);
             }
             pending.push(Visit::Leave)?;
-            let found = enter(pending, resource)?;
+            let found = enter::<C>(pending, resource)?;
             Ok(found)
         }
         Visit::Members(members, number) => {
@@ -99,22 +135,25 @@ fn look<'t, 'a>(
             path.push(PathStep::Member(number))?;
             pending.push(Visit::Members(members, number + 1))?;
             pending.push(Visit::Leave)?;
-            let found = enter(pending, member)?;
+            let found = enter::<C>(pending, member)?;
             Ok(found)
         }
     }
 }
 
-/// The path to the first cause among the entries of the root.
-fn path_in<'t>(alloc: Global, table: &'t Table<'_>) -> Result<Option<Vec<PathStep<'t>>>, AllocError>
+/// The path to the first cause among the entries of the root, by the tests of a form.
+pub fn path_in<'t, C: CauseTests>(
+    alloc: Global,
+    table: &'t Table<'_>,
+) -> Result<Option<Vec<PathStep<'t>>>, AllocError>
     ensures { IfOk result (λ found. path_found found
-        ≡ entry_path_else [] (entries_view table.now.entries) None) }
+        ≡ entry_path_else C.tests [] (entries_view table.now.entries) None) }
 {
     let mut path = Vec::new(alloc);
     let mut pending = Vec::new(alloc);
     push_entries(&mut pending, table)?;
     while let Some(visit) = pending.pop() {
-        if look(&mut pending, &mut path, visit)? {
+        if look::<C>(&mut pending, &mut path, visit)? {
             return Ok(Some(path));
         }
     }
@@ -137,5 +176,5 @@ pub fn cause_path<'t>(
     if has_quote(bundle.name()) {
         return Ok(Some(Vec::new(alloc)));
     }
-    path_in(alloc, table)
+    path_in::<Quotes>(alloc, table)
 }

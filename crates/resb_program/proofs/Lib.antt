@@ -1,4 +1,4 @@
 -- For this crate alone.
 mod HexText
-mod Words
+mod Lists
 mod Agreeing

@@ -13,11 +13,10 @@ use Rattle.resb_read.specs.Places.{Place}
 use Rattle.resb_read.specs.Tables.{is_text, last_from, key_of, IsBelow, AscendAbove, Ascend}
 use Rattle.resb_read.specs.Tables.{is_above, text_or_empty, keys_ascend_above, keys_ascend_from}
 use Rattle.resb_read.specs.Tables.{keys_ascend}
-use Rattle.std.specs.Ordering.{is_lt}
-use Rattle.std.specs.declared.cmp.Ordering.{Ordering}
 use Rattle.std.specs.List.{take-map, drop-map}
 use Rattle.std.proofs.lemmas.Map.Lookups.{exact_bytes}
-use Rattle.std.proofs.Common.{map, if◌then◌else◌}
+use Rattle.std.proofs.Common.{if◌then◌else◌}
+use Rattle.resb_read.proofs.PlainLists.{tied_bytes, is_lt_tells}
 
 below_not : (s t : List ℕ) → IsBelow s t → bytes_eq s t ≡ false
 below_not s t h = sym (is_eq-slice_cmp s t) ∙ ap is_eq h
@@ -26,9 +25,6 @@ above_not : (s t : List ℕ) → IsBelow s t → bytes_eq t s ≡ false
 above_not s t h =
     let back : slice_cmp nat_cmp t s ≡ Greater = nat_list_cmp_total.antisymm t s
     ∙ ap ordering_reverse h in sym (is_eq-slice_cmp t s) ∙ ap is_eq back
-
-equal_is : (s t : List ℕ) → slice_cmp nat_cmp s t ≡ Equal → bytes_eq s t ≡ true
-equal_is s t h = sym (is_eq-slice_cmp s t) ∙ ap is_eq h
 
 trans : (r s t : List ℕ) → IsBelow r s → IsBelow s t → IsBelow r t
 trans r s t h k = nat_list_cmp_total.trans r s t h k
@@ -132,11 +128,6 @@ stands_here name found front e back t h k same is =
     ∙ after_unnamed name (Some e.1) back
     (subst (λ n. AscendAbove n back) same (back_above front e back t h k))
 
-less_of : (o : Ordering) → is_lt o ≡ true → o ≡ Less
-less_of Less h = refl
-less_of Equal h = absurd (false≢true h)
-less_of Greater h = absurd (false≢true h)
-
 -- the test says that they ascend
 sound_step : (low : List ℕ) (o : Option (List ℕ × ℕ)) (es : List (Place × Place))
     (b : Bool) → b ≡ is_above low o
@@ -144,7 +135,7 @@ sound_step : (low : List ℕ) (o : Option (List ℕ × ℕ)) (es : List (Place �
     → (t : List ℕ × ℕ) × (o ≡ Some t) × IsBelow low t.0 × (keys_ascend_above t.0 es ≡ true)
 sound_step low None es true k h = absurd (true≢false k)
 sound_step low None es false k h = absurd (false≢true h)
-sound_step low (Some t) es true k h = (t, refl, less_of (slice_cmp nat_cmp low t.0) (sym k), h)
+sound_step low (Some t) es true k h = (t, refl, is_lt_tells (slice_cmp nat_cmp low t.0) (sym k), h)
 sound_step low (Some t) es false k h = absurd (false≢true h)
 
 sound_above : (low : List ℕ) (es : List (Place × Place)) → keys_ascend_above low es ≡ true
@@ -165,15 +156,6 @@ sound (e ∷ es) h = sound_from (key_of e) es h
 
 -- parts of pairs
 pub ruleset maps = (take-map, drop-map)
-
-map_append : {A B : Type 0} (f : A → B) (xs ys : List A) → map f (xs ++ ys) ≡ map f xs ++ map f ys
-map_append f [] ys = refl
-map_append f (x ∷ xs) ys = ap (λ r. f x ∷ r) (map_append f xs ys)
-
-pub window_is : {A B : Type 0} (f : A → B) (w front back later : List A) (x : A)
-    → w ≡ front ++ back → back ≡ x ∷ later → map f w ≡ map f front ++ f x ∷ map f later
-window_is f w front back later x h k =
-    ap (map f) (h ∙ ap (λ r. front ++ r) k) ∙ map_append f front (x ∷ later)
 
 -- a step of the halving
 module _ (name : List ℕ) (all : Option Place) (window front later : List (Place × Place))
@@ -207,4 +189,4 @@ module _ (name : List ℕ) (all : Option Place) (window front later : List (Plac
       let back : slice_cmp nat_cmp t.0 name ≡ Equal = nat_list_cmp_total.antisymm t.0 name
       ∙ ap ordering_reverse c in
       sym (stands_here name None front e later t ascends_so key (sym same)
-      (equal_is t.0 name back)) ∙ found_so
+      (tied_bytes t.0 name back)) ∙ found_so

@@ -8,7 +8,7 @@ use Rattle.resb_read.specs.RefusedReadings.{RefusesThere, RefusesOne}
 use Rattle.resb_format.specs.declared.error.ReadingError.{ReadingError}
 use Rattle.resb_read.specs.Inner.Front.{Front}
 use Rattle.resb_read.specs.TypeLaws.{each_counted}
-use Rattle.resb_read.specs.Access.{AccessOver, Access, StepsOver, StepsAfter, Steps}
+use Rattle.resb_read.specs.Access.{AccessOver, Access, StepsOver, StepsAfter, StepsReading}
 use Rattle.resb_read.specs.Access.{TakesRead}
 
 module _ {X : Type 0} (reads : Place → X → ℕ → Type 0) where
@@ -63,7 +63,7 @@ module _ {P X : Type 0} (reads : P → X → ℕ → Type 0) (counts : P → ℕ
 
   pub steps_some : (old : AccessOver P) (left : ℕ) (new : AccessOver P) (left' : ℕ) (x : X)
       → old.failed ≡ None
-      → Steps reads counts refuses old left new left' (Ok (Some x))
+      → StepsReading reads counts refuses old left new left' (Ok (Some x))
       → (p : P) × (old.rest ≡ p ∷ new.rest) × (new.failed ≡ None) × TakesRead reads p x left left'
   steps_some old left new left' x none h =
       over_some old.rest left new left' x
@@ -72,7 +72,7 @@ module _ {P X : Type 0} (reads : P → X → ℕ → Type 0) (counts : P → ℕ
 
   pub steps_err : (old : AccessOver P) (left : ℕ) (new : AccessOver P) (left' : ℕ)
       (d : ReadingError)
-      → old.failed ≡ None → Steps reads counts refuses old left new left' (Err d)
+      → old.failed ≡ None → StepsReading reads counts refuses old left new left' (Err d)
       → (p : P) × (ps : List P) × (old.rest ≡ p ∷ ps)
       × RefusesThere counts refuses p left left' d
   steps_err old left new left' d none h =
@@ -85,7 +85,7 @@ module _ {X : Type 0} (reads : Place → X → ℕ → Type 0) (counts : Place �
   pub front_more : (all : List Place) (old : Access) (values : List X) (before left : ℕ)
       (new : Access) (left' : ℕ) (x : X)
       → old.failed ≡ None → Front reads all old.rest values before left
-      → Steps reads counts refuses old left new left' (Ok (Some x))
+      → StepsReading reads counts refuses old left new left' (Ok (Some x))
       → (new.failed ≡ None) × Front reads all new.rest (values ++ x ∷ []) before left'
   front_more all old values before left new left' x none f h =
       let step = steps_some reads counts refuses old left new left' x none h in
@@ -110,7 +110,7 @@ module _ {X : Type 0} (reads : Place → X → ℕ → Type 0) (counts : Place �
   pub front_refused : (all : List Place) (old : Access) (values : List X) (before left : ℕ)
       (new : Access) (left' : ℕ) (d : ReadingError)
       → old.failed ≡ None → Front reads all old.rest values before left
-      → Steps reads counts refuses old left new left' (Err d)
+      → StepsReading reads counts refuses old left new left' (Err d)
       → (left' ≤ before) × LacksOrMemory (CountsEach counts all) before d
       × RefusesOne counts refuses all before left' d
   front_refused all old values before left new left' d none f h =

@@ -6,7 +6,7 @@ mod Naming
 mod Trees
 pub mod Rooted
 mod Each
-mod Singly
+mod PlainLists
 mod UnitsBack
 mod Entering
 mod Failing

@@ -248,9 +248,3 @@ none_past keys at l t h =
     none_in : (xs : List ℕ) → length xs ≡ 0 → before_zero xs ≡ Some t → ⊥
     none_in [] m k = none-some t k
     none_in (x ∷ xs) m k = omega (arith, m)
-
--- the text of a key that is there
-pub text_there : (o : Option (List ℕ)) (t : List ℕ × ℕ) → option_map (λ s. (s, 0)) o ≡ Some t
-    → o ≡ Some t.0
-text_there None t h = absurd (none-some t h)
-text_there (Some s) t h = ap (λ p. Some p.0) (same_Some (s, 0) t h)

@@ -1,18 +1,13 @@
 -- What a reading of bytes that stand at a place has taken, also where they are no whole items.
-use Rattle.std.proofs.Common.{ℕ, List, ◌≡◌, ◌+◌, Option, Some, None, arith, ap, sym}
-use Rattle.std.specs.Prelude.{◌-◌, option_map}
-use Rattle.std.proofs.lemmas.Option.{same_Some}
+use Rattle.std.proofs.Common.{ℕ, List, ◌≡◌, ◌+◌, Some, arith}
+use Rattle.std.specs.Prelude.{◌-◌}
 use Rattle.resb_format.specs.Parts.{Parts}
 use Rattle.resb_read.specs.Places.{Place}
 use Rattle.resb_read.specs.Leaves.{bytes_from}
 use Rattle.resb_read.specs.Spots.{cost_at}
 use Rattle.resb_read.specs.declared.cursor.Spot.{Spot}
 use Rattle.resb_read.specs.declared.cursor.Spot.TheVariants as spot
-
-map_count : {X : Type 0} (f : X → List ℕ) (o : Option X) (r : List ℕ × ℕ) (m : ℕ)
-    → option_map {U = List ℕ × ℕ} (λ a. (f a, m)) o ≡ Some r → r.1 ≡ m
-map_count f (Some v) r m e = sym (ap (λ q. q.1) (same_Some _ _ e))
-map_count f None r m e = cc
+use Rattle.resb_read.proofs.PlainLists.{map_count}
 
 bytes_cost : (p : Parts) (s : Spot) (r : List ℕ × ℕ) → bytes_from p s ≡ Some r → r.1 ≡ cost_at s
 bytes_cost p (spot.Descriptor w) r e = map_count (λ b. b) _ r 1 e

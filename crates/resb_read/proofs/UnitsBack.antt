@@ -1,18 +1,10 @@
 -- Units as bytes, and back.
-use Rattle.std.proofs.Common.{ℕ, zero, suc, List, [], ◌∷◌, ◌++◌, ◌≡◌, ◌+◌, ◌*◌, ◌<◌, length, refl}
+use Rattle.std.proofs.Common.{ℕ, suc, List, [], ◌∷◌, ◌++◌, ◌≡◌, ◌+◌, ◌*◌, ◌<◌, length, refl}
 use Rattle.std.proofs.Common.{ap, ◌∙◌, arith, get_or}
 use Rattle.std.specs.Int.{to_le_bytes, w16}
 use Rattle.std.specs.List.{flat_map}
-use Rattle.std.proofs.lemmas.Nat.{le_bytes_2}
 use Rattle.resb_format.specs.Bytes.{units_of}
-
-two_back : (a b : ℕ) → a < 256 → b < 256 → to_le_bytes w16 (a + 256 * b) ≡ a ∷ b ∷ []
-two_back a b h i = le_bytes_2 (a ∷ b ∷ []) (a + 256 * b) refl each (omega arith)
-  where
-    each : (n : ℕ) → get_or (a ∷ b ∷ []) n 0 < 256
-    each zero = h
-    each (suc zero) = i
-    each (suc (suc n)) = omega arith
+use Rattle.resb_read.proofs.PlainLists.{two_back}
 
 -- the bytes that spelled units are written as
 pub units_back : (bs : List ℕ) → length bs ≡ 2 * length (units_of bs)

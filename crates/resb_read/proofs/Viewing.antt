@@ -3,7 +3,6 @@ use Rattle.std.proofs.Common.{ℕ, List, ◌≡◌, ◌+◌, Bool, true, false, 
 use Rattle.std.proofs.Common.{sym, ◌∙◌, arith, ap, ◌%◌, length}
 use Rattle.std.specs.Prelude.{nat_le, if◌then◌else◌}
 use Rattle.std.proofs.lemmas.Bool.{leb-true, le-leb}
-use Rattle.std.proofs.lemmas.Option.{same_Some}
 use Rattle.resb_format.specs.Bytes.{words_of}
 use Rattle.resb_format.proofs.Spelled.{words_length}
 use Rattle.resb_format.specs.Error.{Refusal, IsWrongLength}
@@ -15,6 +14,8 @@ use Rattle.resb_read.specs.Reading.{any}
 use Rattle.resb_read.specs.Leaves.{CountsBytes, bytes_from}
 use Rattle.resb_read.specs.PlaceRefusals.{bytes_refusal}
 use Rattle.resb_read.specs.PlaceRefusals.{are_paid, view_refusal}
+use Rattle.std.proofs.lemmas.List.{length-map}
+use Rattle.resb_read.proofs.PlainLists.{same_bytes}
 
 unpaid : (there : Option (List ℕ × ℕ)) (left : ℕ) (wrong other : Refusal)
     → Lacks (CountsThere any there) left
@@ -42,10 +43,6 @@ no_items p left left1 b n e there paid wrong =
     let t : nat_le n left ≡ true = le-leb n left (omega arith) in
     rw (there, t, k, m) refl
 
-same_bytes : {there : Option (List ℕ × ℕ)} {b x : List ℕ} {m n : ℕ} → there ≡ Some (b, n)
-    → there ≡ Some (x, m) → x ≡ b
-same_bytes e f = sym (ap (λ r. r.0) (same_Some _ _ (sym e ∙ f)))
-
 -- whole pairs are whole words of an even number
 pub even_words : (there : Option (List ℕ × ℕ)) (b x : List ℕ) (n m : ℕ) → there ≡ Some (b, n)
     → there ≡ Some (x, m) → length x % 8 ≡ 0 → length (words_of b) % 2 ≡ 0
@@ -53,3 +50,6 @@ even_words there b x n m e f whole =
     let s : length x ≡ length b = ap length (same_bytes e f) in
     let l = words_length b in
     omega (arith, s, l, whole)
+
+-- how many words a part has, and how many things are made of them
+pub ruleset lengths = (length-map, words_length)

@@ -1,5 +1,5 @@
 -- An access to the members of a sequence, or to the entries of a map.
---     Steps, Enters           one step, which reads and pays the next member, or the next entry
+--     StepsReading, Enters    one step, which reads and pays the next member, or the next entry
 --     StepsTo, EntersTo       one step, which hands on where that stands
 use Rattle.std.specs.Prelude.{ℕ, List, [], ◌∷◌, Option, Some, None, Result, Ok, Err, ◌≡◌, ◌+◌}
 use Rattle.resb_read.specs.Places.{Place, place_of}
@@ -51,10 +51,10 @@ abbrev pub TakesRead : {P X : Type 0} → (P → X → ℕ → Type 0) → P →
 TakesRead reads p x left left' = (n : ℕ) × reads p x n × (left' + n ≡ left)
 
 -- one step that reads: the value at the first is read and paid, or it is refused
-abbrev pub Steps : {P X : Type 0} → (P → X → ℕ → Type 0) → (P → ℕ → Type 0)
+abbrev pub StepsReading : {P X : Type 0} → (P → X → ℕ → Type 0) → (P → ℕ → Type 0)
     → (P → ℕ → ℕ → ReadingError → Type 0) → AccessOver P → ℕ → AccessOver P → ℕ
     → Result (Option X) ReadingError → Type 0
-Steps reads counts refuses = StepsBy (TakesRead reads) (RefusesThere counts refuses)
+StepsReading reads counts refuses = StepsBy (TakesRead reads) (RefusesThere counts refuses)
 
 -- the sum of the counts of a key and its value
 abbrev pub CountsPair : (Place → ℕ → Type 0) → (Place → ℕ → Type 0) → Place × Place → ℕ → Type 0
@@ -70,7 +70,8 @@ abbrev pub Enters : {K X : Type 0} → (Place → K → ℕ → Type 0) → (Pla
     → (Place → ℕ → ℕ → ReadingError → Type 0) → (Place → X → ℕ → Type 0) → (Place → ℕ → Type 0)
     → (Place → ℕ → ℕ → ReadingError → Type 0) → EntryAccess → ℕ → EntryAccess → ℕ
     → Result (Option (K × X)) ReadingError → Type 0
-Enters rk ck fk rv cv fv = Steps (ReadsPair rk rv) (CountsPair ck cv) (RefusesPair ck fk cv fv)
+Enters rk ck fk rv cv fv =
+    StepsReading (ReadsPair rk rv) (CountsPair ck cv) (RefusesPair ck fk cv fv)
 
 -- nothing is refused
 abbrev pub RefusesNone : {P : Type 0} → P → ℕ → ℕ → ReadingError → Type 0

@@ -20,7 +20,7 @@ pub(crate) enum Elements<'de> {
 
 impl<'de> Elements<'de> {
     /// How many members are still to come.
-    #[tactic(auto, using(crate::proofs::Singly::lengths))]
+    #[tactic(auto, using(crate::proofs::Viewing::lengths))]
     pub(crate) fn len(self) -> usize
         ensures { result ≡ length (spots_to_come self.entry) }
     {

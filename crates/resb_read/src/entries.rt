@@ -45,7 +45,7 @@ impl<'de, 'm> Model for MapAccess<'de, 'm> {
 
 impl<'de, 'm> MapAccess<'de, 'm> {
     /// How many entries are still to come.
-    #[tactic(auto, using(crate::proofs::Singly::lengths))]
+    #[tactic(auto, using(crate::proofs::Viewing::lengths))]
     pub fn size_hint(&self) -> usize
         ensures { result ≡ length self.now.rest }
     {
@@ -67,7 +67,7 @@ impl<'de, 'm> MapAccess<'de, 'm> {
     }
 
     /// The places of the first entry's key and value.
-    #[tactic(auto, using(crate::proofs::Singly::firsts))]
+    #[tactic(auto, using(crate::proofs::PlainLists::firsts))]
     fn first(&self) -> Option<(Cursor<'de>, Cursor<'de>)>
         ensures { MatchOption result (self.now.rest ≡ [])
             (λ c. self.now.rest ≡ (place_of c.0, place_of c.1) ∷ drop 1 self.now.rest) }
@@ -85,7 +85,7 @@ impl<'de, 'm> MapAccess<'de, 'm> {
     }
 
     /// Goes past the first of the entries.
-    #[tactic(auto, using(crate::proofs::Singly::rests))]
+    #[tactic(auto, using(crate::proofs::PlainLists::rests))]
     fn advance(&mut self)
         requires { 0 < length self.old.rest }
         ensures { self.new ≡ record { rest = drop 1 self.old.rest; failed = self.old.failed } }

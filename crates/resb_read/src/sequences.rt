@@ -6,7 +6,7 @@ ghost use Rattle.resb_read.specs.Places.{place_of};
 ghost use Rattle.resb_read.specs.Inner.Elements.{spots_to_come};
 ghost use Rattle.resb_read.specs.Sequences.{members_at, members_in};
 ghost use Rattle.resb_format.specs.Parts.{parts_in};
-ghost use Rattle.resb_read.specs.Access.{StepsTo, Steps};
+ghost use Rattle.resb_read.specs.Access.{StepsTo, StepsReading};
 ghost use Rattle.resb_walk.specs.BlockRefusals.{Says};
 ghost use Rattle.resb_read.specs.PlaceRefusals.{word_members_refusal};
 ghost use Rattle.resb_read.specs.RefusedReadings.{RefusesMembers};
@@ -42,7 +42,7 @@ impl<'de, 'm> Model for SeqAccess<'de, 'm> {
 
 impl<'de, 'm> SeqAccess<'de, 'm> {
     /// How many members are still to come.
-    #[tactic(auto, using(crate::proofs::Singly::lengths))]
+    #[tactic(auto, using(crate::proofs::Viewing::lengths))]
     pub fn size_hint(&self) -> usize
         ensures { result ≡ length self.now.rest }
     {
@@ -50,7 +50,7 @@ impl<'de, 'm> SeqAccess<'de, 'm> {
     }
 
     /// The first of the members.
-    #[tactic(auto, using(crate::proofs::Singly::firsts))]
+    #[tactic(auto, using(crate::proofs::PlainLists::firsts))]
     fn first(&self) -> Option<Cursor<'de>>
         ensures { MatchOption result (self.now.rest ≡ [])
             (λ c. self.now.rest ≡ place_of c ∷ drop 1 self.now.rest) }
@@ -63,7 +63,7 @@ impl<'de, 'm> SeqAccess<'de, 'm> {
     }
 
     /// Goes past the first of the members.
-    #[tactic(auto, using(crate::proofs::Singly::rests))]
+    #[tactic(auto, using(crate::proofs::PlainLists::rests))]
     fn advance(&mut self)
         requires { 0 < length self.old.rest }
         ensures { self.new ≡ record { rest = drop 1 self.old.rest; failed = self.old.failed } }
@@ -93,7 +93,8 @@ impl<'de, 'm> SeqAccess<'de, 'm> {
         alloc: Global,
         walk: &mut Walk,
     ) -> Result<Option<T>, ReadingError<'m>>
-        ensures { Steps T.reads T.counts T.refuses self.old walk.old self.new walk.new result }
+        ensures { StepsReading T.reads T.counts T.refuses self.old walk.old self.new walk.new
+            result }
     {
         if let Some(error) = self.failed {
             return Err(error);

@@ -27,7 +27,7 @@ pub struct TableView<'de> {
 
 impl<'de> TableView<'de> {
     /// How many entries there are.
-    #[tactic(auto, using(crate::proofs::Singly::lengths))]
+    #[tactic(auto, using(crate::proofs::Viewing::lengths))]
     pub fn len(&self) -> usize
         ensures { result ≡ length (view_entries self.now) }
     {

@@ -5,7 +5,6 @@ use Rattle.std.specs.Prelude.{map}
 use Rattle.std.specs.Option.{option_map}
 use Rattle.std.specs.Cmp.Lexicographic.{pointwise, bytes_decides}
 use Rattle.std.proofs.lemmas.Option.{none-some}
-use Rattle.std.proofs.lemmas.Bool.Decides.{same_from_decides, Decides-like}
 use Rattle.resb_report.specs.Pieces.{PlacedText}
 use Rattle.resb_report.specs.Groups.{GroupItem, string_item, group_item, comma_item, OpenGroup}
 use Rattle.resb_report.specs.Groups.{pair_keys}
@@ -17,6 +16,7 @@ use Rattle.resb_report.specs.declared.warning.Warning.{Warning}
 use Rattle.resb_report.specs.declared.groups.Shape.{Shape}
 use Rattle.resb_report.specs.declared.groups.Shape.TheVariants as shape
 use Rattle.resb_report.specs.declared.groups.Group.{Group as CodeGroup}
+use Rattle.resb_report.proofs.Lists.{either_way}
 
 abbrev keys_if : Pairing → Option (List PlacedText)
 keys_if (pairs ks) = Some ks
@@ -109,10 +109,6 @@ first_place-snoc q (j ∷ ks) k =
         ≡ place_if (pointwise nat_eq q k.bytes) k.place (cond b (Some j.place) (first_place q ks))
     by true e = refl
     by false e = e
-
-either_way : (a b : List ℕ) → pointwise nat_eq a b ≡ pointwise nat_eq b a
-either_way a b = same_from_decides _ _ (Decides-like _ (λ e. sym e) (λ e. sym e)
-    (bytes_decides a b)) (bytes_decides b a)
 
 -- a key that stands before has its first place there
 pub first_stays : (q : List ℕ) (ks : List PlacedText) (k : PlacedText) (n : ℕ)

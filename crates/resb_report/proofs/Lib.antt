@@ -1,3 +1,5 @@
 -- Nothing is passed on.
 mod PiecesLemmas
 mod KeysLemmas
+mod Numbers
+mod Lists

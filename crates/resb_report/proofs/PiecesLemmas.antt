@@ -1,5 +1,5 @@
 -- The places of words and quotes behind a byte.
-use Rattle.std.proofs.Common.{◌≡◌, ℕ, ◌+◌, ◌<◌, ◌≤◌, arith, Bool, true, false, ◌==◌, cond}
+use Rattle.std.proofs.Common.{◌≡◌, ℕ, ◌+◌, ◌<◌, arith, Bool, true, false, ◌==◌, cond}
 use Rattle.std.proofs.Common.{refl, sym, ap, ◌∙◌}
 use Rattle.std.proofs.lemmas.Bool.{false≢true}
 use Rattle.resb_report.specs.Braces.{mode_behind, behind_token}
@@ -38,11 +38,6 @@ quotes_stay modes.LineComment b h e =
 quotes_stay modes.BlockComment b h e = absurd (no_quote _ (among_stars b) h)
 quotes_stay modes.Star b h e =
     absurd (no_quote _ (chosen (b == slash) modes.Tokens (behind_block b) refl (among_stars b)) h)
-
--- a run of word characters begins at or before the next place
-pub word_fits : (b : Bool) (w n : ℕ) → w ≤ n → cond b w (n + 1) ≤ n + 1
-word_fits true w n h = omega (arith, h)
-word_fits false w n h = omega arith
 
 -- the last quote stands before the next place, if that is in quotes
 pub quote_fits : (m : Mode) (b q n : ℕ) → (m ≡ modes.Quotes → q < n)

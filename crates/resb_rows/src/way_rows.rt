@@ -2,7 +2,7 @@
 //! Each row is a text and the hex digits of its file behind the header, in lines, up to a `;`: a
 //! row more costs no proof.
 use crate::answers::{assert_said, digits, parts};
-use resb::binary::{BinarySerializerError, from_bytes, from_bytes_counted};
+use resb::binary::{BinarySerializerError, Serializer, from_bytes, from_bytes_counted};
 use resb::bundle::Resource;
 use resb::text::{Expected, Reader};
 use resb::{CompileError, compile};
@@ -99,11 +99,22 @@ fn is_tree_of(alloc: Global, text: &str, tree: &Resource<'_>) -> Result<bool, Fa
     Ok(tree.equals(bundle.root()))
 }
 
-/// The digits of the file of a text, and whether it is read back as the text's tree.
+/// Whether the file is the one that is written of the text's tree.
+fn is_file_of_the_tree(alloc: Global, text: &str, file: &[u8]) -> Result<bool, Fail> {
+    let (bundle, keys) = Reader::read(alloc, text)?;
+    let written = Serializer::to_bytes(alloc, &bundle, keys.as_slice())?;
+    Ok(written.as_slice() == file)
+}
+
+/// The digits of the file of a text, which is read back as the text's tree, and is the one that is
+/// written of that.
 pub(crate) fn line_of_file(alloc: Global, text: &str) -> Result<String, Fail> {
     let file = compile(alloc, text)?;
     if !is_read_back(alloc, text, &file)? {
         return Err("another tree is read back")?;
+    }
+    if !is_file_of_the_tree(alloc, text, &file)? {
+        return Err("another file is written of the tree")?;
     }
     digits(alloc, &file)
 }

@@ -1,49 +1,17 @@
 -- Units are well-formed exactly where their ends and their neighbours are.
 use Rattle.std.proofs.Common.{ℕ, zero, suc, List, [], ◌∷◌, ◌≡◌, ◌+◌, ◌-◌, ◌<◌, ◌≤◌, Bool, true}
-use Rattle.std.proofs.Common.{false, length, get_or, take, drop, refl, sym, ap, ◌∙◌, arith, Some}
-use Rattle.std.proofs.Common.{None, inl, inr}
+use Rattle.std.proofs.Common.{false, length, get_or, take, drop, refl, sym, ap, ◌∙◌, arith}
+use Rattle.std.proofs.Common.{inl, inr}
 use Rattle.std.proofs.lemmas.Bool.{cases_lt}
-use Rattle.std.proofs.lemmas.Bool.Decides.{nat_tests}
 use Rattle.std.proofs.lemmas.List.{get_or-drop, get_or-take, length-take-le}
-use Rattle.std.proofs.Common.{nat_eq, length-drop, length-append, ◌++◌, ◌*◌, ◌⊎◌}
+use Rattle.std.proofs.Common.{length-drop, length-append, ◌++◌, ◌*◌, ◌⊎◌}
 use Rattle.std.proofs.Math.ListN.{get_or-append}
 use Rattle.std.proofs.Math.Seq.{get_or-append_seam}
-use Rattle.std.specs.Char.Utf16.{is_high_surrogate, is_low_surrogate, lone_unit_char, utf16_chars}
-use Rattle.std.specs.Char.Utf16.{has_unpaired_surrogate}
+use Rattle.std.specs.Char.Utf16.{is_high_surrogate, is_low_surrogate}
 use Rattle.resb_shared.specs.Links.{AreLinked, AreCounted, break_at, breaks, IsLinkedText}
 use Rattle.resb_shared.specs.Links.{IsWellFormed}
-
--- a unit that is no half of a pair is a character
-pub lone_some : (u : ℕ) → is_high_surrogate u ≡ false → is_low_surrogate u ≡ false
-    → lone_unit_char u ≡ Some u
-lone_some u h l = grind (arith, nat_tests, h, l)
-
--- a second half of a pair alone is no character
-pub low_none : (u : ℕ) → is_low_surrogate u ≡ true → lone_unit_char u ≡ None
-low_none u l = grind (arith, nat_tests, l)
-
--- a first half of a pair alone is no character
-pub high_none : (u : ℕ) → is_high_surrogate u ≡ true → lone_unit_char u ≡ None
-high_none u h = grind (arith, nat_tests, h)
-
-low_is_not_high : (u : ℕ) → is_low_surrogate u ≡ true → is_high_surrogate u ≡ false
-low_is_not_high u l = grind (arith, nat_tests, l)
-
--- before other units, one that is no half of a pair changes nothing
-pub plain_first : (u : ℕ) (us : List ℕ) → is_high_surrogate u ≡ false
-    → is_low_surrogate u ≡ false → has_unpaired_surrogate (u ∷ us) ≡ has_unpaired_surrogate us
-unfolding utf16_chars
-plain_first u [] h l = rw (lone_some u h l) refl
-plain_first u (v ∷ us) h l = rw (h, lone_some u h l) refl
-
-pub pair_first : (u v : ℕ) (us : List ℕ) → is_high_surrogate u ≡ true → is_low_surrogate v ≡ true
-    → has_unpaired_surrogate (u ∷ v ∷ us) ≡ has_unpaired_surrogate us
-unfolding utf16_chars
-pair_first u v us h l = rw (h, l) refl
-
-empty_is_paired : has_unpaired_surrogate [] ≡ false
-unfolding utf16_chars
-empty_is_paired = refl
+use Rattle.resb_shared.proofs.Surrogates.{low_is_not_high, plain_first, pair_first, empty_is_paired}
+use Rattle.resb_shared.proofs.Surrogates.{high_alone, low_first, high_last}
 
 -- the same of a list without its first unit, where its first is then no second of a pair
 without_first : (u : ℕ) (us : List ℕ) → is_low_surrogate (get_or us 0 0) ≡ false
@@ -126,22 +94,6 @@ part_of_run us a b from count h l r some inside low high =
           ∙ sym (ap is_low_surrogate (at (k + 1) i))
           ),
     )
-
--- the other way round: what a well-formed text is
-pub high_alone : (u v : ℕ) (us : List ℕ) → is_high_surrogate u ≡ true → is_low_surrogate v ≡ false
-    → has_unpaired_surrogate (u ∷ v ∷ us) ≡ true
-unfolding utf16_chars
-high_alone u v us h l = rw (h, l, high_none u h) refl
-
-pub low_first : (u : ℕ) (us : List ℕ) → is_low_surrogate u ≡ true
-    → has_unpaired_surrogate (u ∷ us) ≡ true
-unfolding utf16_chars
-low_first u [] l = rw (low_none u l) refl
-low_first u (v ∷ us) l = rw (low_is_not_high u l, low_none u l) refl
-
-pub high_last : (u : ℕ) → is_high_surrogate u ≡ true → has_unpaired_surrogate (u ∷ []) ≡ true
-unfolding utf16_chars
-high_last u h = rw (high_none u h) refl
 
 -- a unit before a linked text
 linked_behind_unit : (u : ℕ) (us : List ℕ)
@@ -407,14 +359,3 @@ counted_none us k l = absurd (omega (arith, l))
 -- no units are a text
 pub no_units : (us : List ℕ) (from count : ℕ) → count ≡ 0 → IsWellFormed (take count (drop from us))
 no_units us from count e = rw e empty_is_paired
-
-pub any_default : (xs : List ℕ) (k d e : ℕ) → k < length xs → get_or xs k d ≡ get_or xs k e
-any_default [] k d e l = absurd (omega (arith, l))
-any_default (x ∷ xs) zero d e l = refl
-any_default (x ∷ xs) (suc k) d e l = any_default xs k d e (omega (arith, l))
-
-pub zero_test : (n : ℕ) → nat_eq n 0 ≡ true → n ≡ 0
-zero_test n h = grind (arith, nat_tests, h)
-
-pub test_zero : (n : ℕ) → n ≡ 0 → nat_eq n 0 ≡ true
-test_zero n e = rw e refl

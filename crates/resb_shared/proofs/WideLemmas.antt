@@ -17,8 +17,8 @@ use Rattle.std.specs.Char.Utf16.{is_high_surrogate, is_low_surrogate, utf16_char
 use Rattle.std.specs.Char.Utf16.{utf16_lossy_chars, surrogate_pair_char}
 use Rattle.resb_shared.specs.Links.{IsWellFormed}
 use Rattle.resb_shared.specs.Wide.{width_of, text_width, AreSummed}
-use Rattle.resb_shared.proofs.Linked.{plain_first, pair_first, low_first, high_alone, high_last}
-use Rattle.resb_shared.proofs.Linked.{lone_some}
+use Rattle.resb_shared.proofs.Surrogates.{plain_first, pair_first, low_first, high_alone, high_last}
+use Rattle.resb_shared.proofs.Surrogates.{plain_chars, pair_chars}
 
 -- one unit more
 pub width_more : (us : List ℕ) (from n : ℕ) → from + n < length us
@@ -122,17 +122,6 @@ plain_width u h l = rw (h, l) refl
 pair_width : (u v : ℕ) → is_high_surrogate u ≡ true → is_low_surrogate v ≡ true
     → len_utf8 (surrogate_pair_char u v) ≡ width_of u + width_of v
 pair_width u v h l = grind (arith, nat_tests, h, l)
-
-plain_chars : (u : ℕ) (us : List ℕ) → is_high_surrogate u ≡ false → is_low_surrogate u ≡ false
-    → utf16_lossy_chars (u ∷ us) ≡ u ∷ utf16_lossy_chars us
-unfolding utf16_chars
-plain_chars u [] h l = rw (lone_some u h l) refl
-plain_chars u (v ∷ us) h l = rw (h, lone_some u h l) refl
-
-pair_chars : (u v : ℕ) (us : List ℕ) → is_high_surrogate u ≡ true → is_low_surrogate v ≡ true
-    → utf16_lossy_chars (u ∷ v ∷ us) ≡ surrogate_pair_char u v ∷ utf16_lossy_chars us
-unfolding utf16_chars
-pair_chars u v us h l = rw (h, l) refl
 
 -- the bytes of one character more
 one_char : (c : ℕ) (cs : List ℕ)

@@ -9,7 +9,7 @@ use Rattle.resb_text.specs.declared.frames.Body as bodies
 use Rattle.resb_text.specs.declared.items.Term.{Term as CodeTerm}
 use Rattle.std.specs.Prelude.{slice_set, Some}
 use Rattle.resb_text.specs.Inner.Shown.{shown_term_by, shown_borrowed}
-use Rattle.resb_text.specs.Inner.Build.{Stands, Grows}
+use Rattle.resb_text.specs.Inner.Build.{Represents, Grows}
 use Rattle.resb_tree.specs.Borrowing.{all_true}
 use Rattle.resb_text.specs.declared.items.Term.TheVariants as terms
 use Rattle.resb_text.proofs.BorrowedLemmas.{items_borrowed}
@@ -243,7 +243,7 @@ module _ {B X : Type 0} {tree : B → X → Tree} {held : B → X → Bool} wher
       → Pushes (tree d.build) (held d.build) outer d.frame (terms.Group made)
       → ((n : ℕ) (f : Frame) → view_of_code (tree c.build) (held c.build) c.frame ≡ view_of_frame
       (with_number n f)
-      → Stands tree held d.build made
+      → Represents tree held d.build made
       (tree_shown_in (shape_in f.body f.items) (items_seen f.items)))
       → ((n : ℕ) (f : Frame) → view_of_code (tree c.build) (held c.build) c.frame ≡ view_of_frame
       (with_number n f)
@@ -328,10 +328,10 @@ module _ {B X : Type 0} {tree : B → X → Tree} {held : B → X → Bool} wher
       → is_pairs o.frame.items ≡ true
       → (all_true (map shown_borrowed (map (shown_by (tree c.build)
       (held c.build)) c.frame.items.items)) ≡ true
-      → Stands tree held b made
+      → Represents tree held b made
       (table (map_of (shown_pairs (map (shown_by (tree c.build)
       (held c.build)) c.frame.items.items)))))
-      → Stands tree held b made (tree_in a_table o.frame.items)
+      → Represents tree held b made (tree_in a_table o.frame.items)
   root_made c o b made x table_is_pairs stands =
       let h = stands (items_borrowed (tree c.build)
       (held c.build) c.frame x.number o.frame x.frame) in (

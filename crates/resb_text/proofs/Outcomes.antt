@@ -1,9 +1,5 @@
 -- What is known of a result, handed on.
-use Rattle.std.specs.Prelude.{Result, Ok, Err, IfOk, OnOk}
-
-pub on_ok_from : {T E P Q : Type 0} (r : Result T E) → (P → Q) → OnOk r P → OnOk r Q
-on_ok_from (Ok x) f h = f h
-on_ok_from (Err e) f h = tt
+use Rattle.std.specs.Prelude.{Result, Ok, Err, IfOk}
 
 pub if_ok_both : {T E : Type 0} {P Q R : T → Type 0} (r : Result T E)
     → ((x : T) → P x → Q x → R x) → IfOk r P → IfOk r Q → IfOk r R

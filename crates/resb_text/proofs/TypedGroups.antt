@@ -5,13 +5,14 @@ use Rattle.std.specs.Prelude.{◌⊎◌, not, slice_index}
 use Rattle.std.proofs.lemmas.Bool.{false≢true}
 use Rattle.resb_grammar.specs.Ascii as ascii
 use Rattle.resb_tree.specs.Tree.{Tree}
+use Rattle.resb_draft.specs.Drafts.{is_leaf}
 use Rattle.resb_grammar.specs.Lexical.{Skip}
 use Rattle.resb_grammar.specs.GroupTypes.{Kind, string_kind, array_kind, table_kind, binary_kind}
 use Rattle.resb_grammar.specs.GroupTypes.{integer_kind, vector_kind, GroupType, TypedOpening}
 use Rattle.resb_grammar.specs.Group.{LeafContent, string_content, binary_content, integer_content}
 use Rattle.resb_grammar.specs.Group.{vector_content}
 use Rattle.resb_grammar.specs.Limit.{begun_bytes, leaf_bytes, Makes, MakesMore}
-use Rattle.resb_grammar.proofs.Making.{reading_of, plus_no_bytes, makes_on, makes_more, head_made}
+use Rattle.resb_grammar.proofs.Making.{reading_of, makes_on, makes_more, head_made}
 use Rattle.resb_grammar.proofs.Making.{begun_made, content_made, BeforeBrace}
 use Rattle.resb_grammar.specs.Items.{Item, group_term}
 use Rattle.resb_grammar.specs.Machine as machine
@@ -36,6 +37,7 @@ use Rattle.resb_grammar.proofs.Complete.{MayOpen, type_next, run_head}
 use Rattle.resb_grammar.proofs.LexLemmas.{no_number, no_root_type}
 use Rattle.resb_text.proofs.HeaderReading.{error_at}
 use Rattle.resb_text.proofs.StepsLemmas.{body_same, stuck_here}
+use Rattle.resb_grammar.proofs.Numbers.{plus_no_bytes}
 
 may_open : (b : Body) (xs : List Item) → takes_group b (is_key_place xs) ≡ true → MayOpen b xs
 may_open table_body xs h = go (is_key_place xs) h
@@ -294,3 +296,15 @@ module _ (text : List ℕ) where
       let adds = b.adds in
       makes_more text n limit leaf.ends (leaf.ends + 1) b.state _ closing b.made
       (leaf.closes.brace, refl) b.moves (omega (arith, more, adds))
+
+no_collection : {text : List ℕ} {at ends : ℕ} {kind : Kind} {t : Tree}
+    → LeafContent text at ends kind t → is_leaf t ≡ true
+no_collection (string_content i s h k) = refl
+no_collection (binary_content i s bytes h e k) = refl
+no_collection (integer_content i v h k) = refl
+no_collection (vector_content ns h) = refl
+
+-- a group that holds no items is neither an array nor a table
+pub leaf_is_leaf : (text : List ℕ) (at to : ℕ) (kind : Kind) (t : Tree)
+    → LeafGroup text at to kind t → is_leaf t ≡ true
+leaf_is_leaf text at to kind t g = no_collection g.content

@@ -4,6 +4,7 @@ pub mod Braces
 pub mod Leaf
 pub mod Shown
 pub mod Build
+pub mod Drafts
 pub mod Discovered
 pub mod Frames
 pub mod Quota

@@ -5,9 +5,10 @@ ghost use Rattle.std.specs.Prelude.{IfOk, IfErr, OnOk};
 ghost use Rattle.resb_tree.specs.Tree.{Tree, string, array, table, trees_of, map_of};
 ghost use Rattle.resb_tree.specs.View.{tree_of};
 ghost use Rattle.resb_tree.specs.Borrowing.{all_true};
+ghost use Rattle.resb_draft.specs.Drafts.{is_leaf};
 ghost use Rattle.resb_text.specs.Borrowed.{borrows_strings};
 ghost use Rattle.resb_text.specs.Refusal.{want_of_memory};
-ghost use Rattle.resb_text.specs.Inner.Build.{Stands, Grows};
+ghost use Rattle.resb_text.specs.Inner.Build.{Represents, Grows};
 ghost use Rattle.resb_text.specs.Inner.Shown.{shown_by, seen_in_code, shown_tree, shown_pairs};
 ghost use Rattle.resb_text.specs.Inner.Shown.{shown_borrowed};
 ghost use Rattle.resb_tree.specs.declared.resource.Resource.{Resource};
@@ -30,17 +31,18 @@ pub(crate) trait Build<'a>: Sized + Drop {
     /// Whether it was made here, and its strings are slices of the text.
     ghost held: { Self → Self.Made → Bool };
 
-    /// A group without items.
+    /// A group without items, which is neither an array nor a table.
     fn leaf(&mut self, resource: Resource<'a>) -> Result<Self::Made, TextParserError>
-        requires { borrows_strings resource ≡ true }
+        requires borrowed { borrows_strings resource ≡ true }
+        requires leaf { is_leaf (tree_of resource) ≡ true }
         ensures made { IfOk result
-            (λ x. Stands tree held self.new x (tree_of resource.entry)) }
+            (λ x. Represents tree held self.new x (tree_of resource.entry)) }
         ensures grows { OnOk result (Grows tree held self.old self.new) }
         ensures err { IfErr result (λ e. e ≡ want_of_memory) };
 
     /// An untyped group of one string.
     fn string(&mut self, text: &'a str) -> Result<Self::Made, TextParserError>
-        ensures made { IfOk result (λ x. Stands tree held self.new x (string text.now)) }
+        ensures made { IfOk result (λ x. Represents tree held self.new x (string text.now)) }
         ensures grows { OnOk result (Grows tree held self.old self.new) }
         ensures err { IfErr result (λ e. e ≡ want_of_memory) };
 
@@ -54,7 +56,7 @@ pub(crate) trait Build<'a>: Sized + Drop {
         requires { turns.old.count < 2 ^ 98 }
         ensures made { let xs = map (shown_by (tree self.old) (held self.old)) items.entry.items in
             all_true (map shown_borrowed xs) ≡ true → IfOk result
-            (λ x. Stands tree held self.new x (array (trees_of (map shown_tree xs)))) }
+            (λ x. Represents tree held self.new x (array (trees_of (map shown_tree xs)))) }
         ensures grows { OnOk result (Grows tree held self.old self.new) }
         ensures err { IfErr result (λ e. e ≡ want_of_memory) }
         ensures text { turns.new.text ≡ turns.old.text }
@@ -72,7 +74,7 @@ pub(crate) trait Build<'a>: Sized + Drop {
         requires { turns.old.count < 2 ^ 98 }
         ensures made { let xs = map (shown_by (tree self.old) (held self.old)) items.entry.items in
             all_true (map shown_borrowed xs) ≡ true → IfOk result
-            (λ x. Stands tree held self.new x (table (map_of (shown_pairs xs)))) }
+            (λ x. Represents tree held self.new x (table (map_of (shown_pairs xs)))) }
         ensures grows { OnOk result (Grows tree held self.old self.new) }
         ensures err { IfErr result (λ e. e ≡ want_of_memory) }
         ensures text { turns.new.text ≡ turns.old.text }

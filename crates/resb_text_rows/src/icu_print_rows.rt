@@ -2,8 +2,9 @@
 //! having one. Each bundle of `rows` that has one is read again.
 //! What the other form prints is in `print_rows`.
 use crate::rows::{BUNDLES, nested};
-use resb_icu_print::{IcuCause, IcuPrintError, print_icu_text};
+use resb_icu_print::{IcuCause, IcuPrintError, icu_cause_path, print_icu_text};
 use resb_icu_text::IcuReader;
+use resb_print::PathStep;
 use resb_text::Reader;
 use resb_tree::{Int28, Key, Resource, ResourceBundle};
 use std::alloc::Global;
@@ -117,6 +118,23 @@ fn keys_that_icu_does_not_take_have_no_text(rt: HostRuntime) -> Result<(), Fail>
     let bundle = ResourceBundle::new(CowStr::Borrowed("b"), root, true);
     let answer = print_icu_text(rt.alloc(), &bundle).err();
     assert!(rt; answer == Some(IcuPrintError::NotPrintable(IcuCause::RootIsNoTable)));
+    Ok(())
+}
+
+#[test]
+fn the_path_of_a_cause_is_told(rt: HostRuntime) -> Result<(), Fail> {
+    let (bundle, _) = Reader::read(rt.alloc(), "b{zones:array{:int{1}{\"a[\"{x}}}}")?;
+    let path = icu_cause_path(rt.alloc(), &bundle)?.ok_or("no path")?;
+    let wanted = [
+        PathStep::Key("zones"),
+        PathStep::Member(1),
+        PathStep::Key("a["),
+    ];
+    let is_told = path.as_slice() == wanted.as_slice();
+    assert!(rt; is_told);
+    let (plain, _) = Reader::read(rt.alloc(), "b{a{x}}")?;
+    let none = icu_cause_path(rt.alloc(), &plain)?;
+    assert!(rt; none.is_none());
     Ok(())
 }
 

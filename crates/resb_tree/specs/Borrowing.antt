@@ -2,6 +2,7 @@
 --     is_slice s              the text is borrowed
 --     are_slice b             the bytes are borrowed
 --     each_leaf f g r         each String in the resource passes the test f, and each Binary g
+--     each_entry f g es       so does what stands in these entries
 use Rattle.std.specs.Prelude.{ℕ, Bool, true, false, List, map}
 use Rattle.std.specs.List.{list_all}
 use Rattle.std.specs.declared.alloc.Global.{Global}
@@ -38,3 +39,10 @@ leaf_step on_text on_bytes (Resource-F.IntVector v) = true
 -- each String in the resource passes the one test, and each Binary the other
 abbrev pub each_leaf : (CowStr Global → Bool) → (CowSlice ℕ Global → Bool) → Resource → Bool
 each_leaf on_text on_bytes = fold-Resource Bool (leaf_step on_text on_bytes)
+
+-- so does what stands in these entries
+abbrev pub each_entry : (CowStr Global → Bool) → (CowSlice ℕ Global → Bool)
+    → List (List ℕ × Resource) → Bool
+each_entry on_text on_bytes es =
+    all_true (map (λ (e : List ℕ × Bool). e.1)
+    (map (λ e. (e.0, each_leaf on_text on_bytes e.1)) es))

@@ -14,13 +14,14 @@ use Rattle.resb_format.specs.Denotes.{Den, den_leaf, den_list, den_pairs, DenMem
 use Rattle.resb_format.specs.Denotes.{den_unit, DenEach, each_none, each_more, DenPairs, pairs_none}
 use Rattle.resb_format.specs.Denotes.{pairs_more}
 use Rattle.resb_format.proofs.Denoting.{same_list, same_pairs, leaf_list, leaf_pairs, list_pairs}
-use Rattle.resb_format.proofs.Denoting.{same_leaf, same_some, some_none}
+use Rattle.resb_format.proofs.Denoting.{same_leaf}
 use Rattle.resb_walk.specs.Pieces.{Piece, leaf_piece, array_piece, table_piece, key_piece}
 use Rattle.resb_walk.specs.Pieces.{Holds, holds_leaf, holds_list, holds_pairs, HoldsMember}
 use Rattle.resb_walk.specs.Pieces.{holds_word, holds_unit, HoldsEach, holds_none, holds_more}
 use Rattle.resb_walk.specs.Pieces.{HoldsPairs, holds_no_pair, holds_pair}
 use Rattle.resb_walk.specs.Sums.{resource_count_in}
 use Rattle.resb_walk.specs.Sums.{count_of}
+use Rattle.resb_format.proofs.Lists.{same_some, some_none}
 
 -- a table is one resource
 pub table_is_one : {A : Type 0} (es : List A) → resource_count_in (table_piece es) ≡ 1

@@ -1,5 +1,5 @@
 -- For crates above: those that are `pub`.
-mod Lists
+mod DenotesLemmas
 mod Entries
 mod Lift
 pub mod Meeting
@@ -8,7 +8,7 @@ mod Starts
 mod Chain
 mod RoundsLemmas
 mod Placed
-pub mod Zips
+pub mod Lists
 mod Made
 mod Surrogates
 mod Keys

@@ -9,9 +9,9 @@ use Rattle.resb_format.specs.Denotes.{DenEach, DenPairs, Reaches, reaches_one, r
 use Rattle.resb_format.specs.Denotes.{reaches_pairs, ReachesMember, reaches_word, reaches_unit}
 use Rattle.resb_format.specs.Denotes.{ReachesEach, ReachesPairs}
 use Rattle.resb_format.proofs.Denoting.{same_list, same_pairs, leaf_list, leaf_pairs, list_pairs}
-use Rattle.resb_format.proofs.Denoting.{some_none}
 use Rattle.resb_walk.specs.Refusals.{DenotesNothing, Refuses}
 use Rattle.resb_format.specs.declared.error.ReadingError.{ReadingError}
+use Rattle.resb_format.proofs.Lists.{some_none}
 
 module _ (p : Parts) where
   pub none_of_none : {w n : ℕ} {t : Tree} → content_at p w ≡ None → Den p w t n → ⊥

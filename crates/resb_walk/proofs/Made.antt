@@ -1,6 +1,6 @@
 -- What a reader makes of resources, one more at the end.
 use Rattle.std.proofs.Common.{ℕ, List, [], ◌∷◌, ◌++◌, ◌≡◌, true, refl, ap}
-use Rattle.std.proofs.Common.{◌∙◌, nat_cmp, BTreeMap, Result, Ok, Err, OnOk}
+use Rattle.std.proofs.Common.{◌∙◌, nat_cmp, BTreeMap}
 use Rattle.std.specs.declared.cmp.Ordering.{Ordering}
 use Rattle.std.specs.declared.cmp.Ordering.TheVariants.{Less, Equal, Greater}
 use Rattle.std.specs.Ordering.{match_ordering}
@@ -14,11 +14,6 @@ use Rattle.resb_tree.specs.declared.resource.Resource.{Resource}
 use Rattle.resb_tree.proofs.AtOnce.{inserted, made, made_view}
 use Rattle.resb_tree.proofs.ViewLemmas.{entries_view_insert}
 use Rattle.resb_walk.specs.Borrows.{borrows_binaries, all_borrow, entries_borrow}
-
--- what follows where a result is `Ok`
-pub on_ok : {X E : Type 0} {P Q : Type 0} (r : Result X E) → (P → Q) → OnOk r P → OnOk r Q
-on_ok (Ok x) f h = f h
-on_ok (Err e) f h = tt
 
 put_all_snoc : (ps : List (List ℕ × Tree)) (es : Entries) (k : List ℕ) (t : Tree)
     → put_all es (ps ++ (k, t) ∷ []) ≡ put k t (put_all es ps)

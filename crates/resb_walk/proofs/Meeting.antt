@@ -18,11 +18,11 @@ use Rattle.resb_walk.specs.declared.frame.Open.{Open}
 use Rattle.resb_walk.specs.declared.frame.Waiting.{Waiting}
 use Rattle.resb_walk.specs.declared.frame.Waiting.TheVariants as waiting
 use Rattle.resb_walk.proofs.Chain.{Chain, chain_none, chain_more, Round}
-use Rattle.resb_walk.proofs.Lists.{none_each}
+use Rattle.resb_walk.proofs.DenotesLemmas.{none_each}
 use Rattle.resb_walk.proofs.Entries.{none_pairs}
 use Rattle.resb_format.proofs.Denoting.{same_list, same_pairs, list_pairs}
-use Rattle.resb_format.proofs.Denoting.{some_none}
 use Rattle.resb_walk.proofs.Lift.{none_of_none, none_of_list, none_of_pairs}
+use Rattle.resb_format.proofs.Lists.{some_none}
 
 module _ (p : Parts) where
   -- where a fault is met, nothing is denoted

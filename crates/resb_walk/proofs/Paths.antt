@@ -1,8 +1,7 @@
 -- The collections from the root to the one whose members are counted.
 use Rattle.std.proofs.Common.{ℕ, List, [], ◌∷◌, ◌++◌, ◌≡◌, ◌+◌, ◌-◌, ◌<◌, ◌≤◌, ◌*◌, inl, inr, Ok}
 use Rattle.std.proofs.Common.{Err, Some}
-use Rattle.std.proofs.Common.{refl, sym, ◌∙◌, ap, subst, arith, length, drop, length-append}
-use Rattle.std.proofs.Math.Seq.{drop-append_seam}
+use Rattle.std.proofs.Common.{refl, sym, ◌∙◌, ap, subst, arith, length, length-append}
 use Rattle.resb_tree.specs.Tree.{Tree}
 use Rattle.resb_format.specs.Parts.{Parts}
 use Rattle.resb_format.specs.Content.{Member, word, list, entry_list}
@@ -27,13 +26,7 @@ use Rattle.resb_walk.proofs.Waits.{list_begins, table_begins, table_no_key, list
 use Rattle.resb_walk.proofs.Waits.{list_stuck, list_reaches, table_stuck}
 use Rattle.resb_walk.proofs.Waits.{table_reaches}
 use Rattle.resb_walk.proofs.RoundsLemmas.{same_word}
-
--- the end of a list, by its length
-pub last_of : {A : Type 0} (xs ys zs : List A) (k : ℕ) → k ≡ length ys → zs ≡ xs ++ ys
-    → drop (length zs - k) zs ≡ ys
-last_of xs ys zs k e f =
-    let n : length zs - k ≡ length xs = omega (arith, ap length f, length-append xs ys, e) in
-    ap (λ m. drop m zs) n ∙ ap (drop (length xs)) f ∙ drop-append_seam xs ys
+use Rattle.resb_walk.proofs.Lists.{last_of}
 
 module _ (p : Parts) where
   -- The first collection stands at the first word and waits for the word of the next, and the last

@@ -21,8 +21,8 @@ use Rattle.resb_format.proofs.StringsIn.{ends_at_zero}
 use Rattle.resb_walk.specs.Inner.Members.{text_of_bytes}
 use Rattle.resb_walk.proofs.Placed.{text_some}
 use Rattle.resb_walk.proofs.Surrogates.{char_alone, no_chars, plain_first}
-use Rattle.resb_shared.proofs.Linked.{lone_some}
 use Rattle.resb_walk.proofs.Surrogates.{empty_is_paired}
+use Rattle.resb_shared.proofs.Surrogates.{lone_some}
 
 -- ASCII units are their characters
 ascii_chars : (us : List ℕ) → IsAscii us → utf16_lossy_chars us ≡ us

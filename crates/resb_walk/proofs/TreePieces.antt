@@ -1,6 +1,6 @@
 -- A tree has no more pieces than are read at its word, and the same where no entry is replaced.
 use Rattle.std.proofs.Common.{ℕ, List, [], ◌∷◌, ◌++◌, ◌≡◌, ◌≤◌, ◌+◌, ◌⊎◌, inl, inr, refl, ap, ◌∙◌}
-use Rattle.std.proofs.Common.{arith, Option, Some}
+use Rattle.std.proofs.Common.{arith, Some}
 use Rattle.std.specs.Prelude.{sum_by}
 use Rattle.std.specs.Ordering.{match_ordering, nat_cmp}
 use Rattle.std.proofs.Common.{Ordering, Less, Equal, Greater}
@@ -21,6 +21,7 @@ use Rattle.resb_walk.specs.Pieces.{holds_word, holds_unit, HoldsEach, holds_none
 use Rattle.resb_walk.specs.Pieces.{HoldsPairs, holds_no_pair, holds_pair, filled_table}
 use Rattle.resb_walk.specs.Pieces.{pieces, pieces_of_each, pieces_of_entries, entries_piece}
 use Rattle.resb_walk.proofs.Holding.{leaf_holds, list_holds, pairs_holds}
+use Rattle.resb_format.proofs.Lists.{same_some}
 
 -- a is at most b, and c at most d; and a is b, or c is less than d
 pub record Within (a b c d : ℕ) : Type 0 where
@@ -61,9 +62,6 @@ then_within {a} {b} {c} {d} {e} {f} x y = record {
 as_within : {a b c d : ℕ} (e f g h : ℕ) → e ≡ a → f ≡ b → g ≡ c → h ≡ d → Within a b c d
     → Within e f g h
 as_within e f g h i j k l w = rw (i, j, k, l) w
-
-same_text : {o : Option (List ℕ)} {s u : List ℕ} → o ≡ Some s → o ≡ Some u → s ≡ u
-same_text e f = cc
 
 -- a leaf is one piece, and one resource
 leaf_piece_of : (t : Tree) → IsLeaf t → (pieces t ≡ leaf_piece t ∷ []) × (tree_count t ≡ 1)
@@ -228,7 +226,7 @@ module _ (f : Piece → ℕ) where
       member_within (den_word d) (holds_word h) = tree_within d h
       member_within (den_unit {s = s'} e) (holds_unit {s = u'} g) =
           let same : leaf_piece (string u') ≡ leaf_piece (string s') =
-          ap (λ s. leaf_piece (string s)) (same_text g e) in
+          ap (λ s. leaf_piece (string s)) (same_some g e) in
           as_within _ _ _ _ refl (ap (λ x. sum_of (x ∷ [])) same) refl refl (same_within _ 1)
 
       each_within : {ms : List Member} {n : ℕ} {ts : List Tree} {xs : List Piece}
@@ -246,7 +244,7 @@ module _ (f : Piece → ℕ) where
       pairs_within pairs_none holds_no_pair = same_within _ _
       pairs_within (pairs_more {key = k'} {t = t'} {ts = ts'} e d ds)
           (holds_pair {key = l'} {xs = xs'} {ys = ys'} g h hs) =
-          let same : l' ≡ k' = same_text g e in
+          let same : l' ≡ k' = same_some g e in
           let sum : sum_of (key_piece l' ∷ xs' ++ ys')
           ≡ f (key_piece k') + (sum_of xs' + sum_of ys') =
           sum_by-cons f (key_piece l') (xs' ++ ys')

@@ -18,10 +18,10 @@ use Rattle.resb_walk.specs.declared.members.TableParts.{TableParts}
 use Rattle.resb_walk.specs.declared.frame.Waiting.{Waiting}
 use Rattle.resb_walk.specs.declared.frame.Waiting.TheVariants as waiting
 use Rattle.resb_format.specs.declared.error.ReadingError.{ReadingError}
-use Rattle.resb_walk.proofs.Lists.{each_snoc, reach_after, none_each, stuck_each}
+use Rattle.resb_walk.proofs.DenotesLemmas.{each_snoc, reach_after, none_each, stuck_each}
 use Rattle.resb_walk.proofs.Entries.{pairs_snoc, reach_after_pairs, none_pairs, stuck_pairs}
-use Rattle.resb_format.proofs.Denoting.{some_none}
 use Rattle.resb_walk.proofs.Lift.{stuck_list, stuck_pairs_of}
+use Rattle.resb_format.proofs.Lists.{some_none}
 
 module _ {L T : Type 0} (lists : L → List Tree → Type 0)
     (tables : T → List (List ℕ × Tree) → Type 0) (p : Parts) where

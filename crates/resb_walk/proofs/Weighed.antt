@@ -18,7 +18,7 @@ use Rattle.resb_walk.specs.declared.members.Member.{Member as Stood}
 use Rattle.resb_walk.specs.declared.members.Rest.{Rest}
 use Rattle.resb_walk.specs.declared.members.Rest.TheVariants as rest
 use Rattle.resb_walk.specs.declared.sums.Sums.{Sums}
-use Rattle.resb_walk.proofs.Paths.{last_of}
+use Rattle.resb_walk.proofs.Lists.{last_of}
 
 -- resources of two lists
 count_both : (xs ys : List Piece) → count_of (xs ++ ys) ≡ count_of xs + count_of ys

@@ -43,7 +43,7 @@ unread_type_refusal type =
     unsupported (codes "resource type is not supported")
     else invalid (codes "unrecognized value for ResourceReprType")
 
--- what is said where nothing stands at a value of a type: of a string its own damage, of others
+-- what is said where nothing stands at a value of a type: of a string its own fault, of others
 -- that the input ends
 abbrev pub value_refusal : Parts → ℕ → ℕ → Refusal
 value_refusal p type v =

@@ -173,7 +173,7 @@ impl<'a> Positions<'a> {
 
 impl<'a> TableParts<'a> {
     /// How many entries are still to come.
-    #[tactic(auto, using(crate::proofs::Zips::zip_length))]
+    #[tactic(auto, using(crate::proofs::Lists::zip_lengths))]
     pub fn len(self) -> usize
         ensures { result ≡ length (keyed_members self.entry) }
     {
@@ -181,7 +181,7 @@ impl<'a> TableParts<'a> {
     }
 
     /// The entries behind so many.
-    #[tactic(auto, using(crate::proofs::Zips::zip_length, crate::proofs::Zips::zip_drop))]
+    #[tactic(auto, using(crate::proofs::Lists::zip_lengths))]
     pub fn behind(self, count: usize) -> TableParts<'a>
         requires { count ≤ length (keyed_members self) }
         ensures { keyed_members result ≡ drop count (keyed_members self.entry) }

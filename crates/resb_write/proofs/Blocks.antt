@@ -11,7 +11,7 @@ use Rattle.resb_tree.specs.Tree.{no_trees, more_trees, Entries, no_entries, entr
 use Rattle.resb_tree.specs.Tree.{trees_largest, entries_largest}
 use Rattle.resb_format.specs.Strings.{key_at, before_zero, if_utf8}
 use Rattle.resb_pool.proofs.Zeros.{has_zero, before_zero-found}
-use Rattle.resb_layout.proofs.Numbers.{EachBelow}
+use Rattle.resb_layout.proofs.BytesLemmas.{EachBelow}
 use Rattle.resb_tree.specs.LayingOrder.{laying_order, laying_each, laying_values}
 use Rattle.resb_layout.specs.KeyBlock.{key_bytes, last_place}
 use Rattle.resb_layout.specs.TreeFaults.{has_nul}

@@ -12,7 +12,7 @@ use Rattle.resb_layout.specs.Laid.{words_body, near_table_body, wide_table_body,
 use Rattle.resb_format.specs.Bytes.{units_as_bytes}
 use Rattle.resb_layout.specs.Laid.{are_short, more_bytes}
 use Rattle.resb_layout.specs.Laid.{are_near, offsets_in}
-use Rattle.resb_layout.proofs.Numbers.{halves_len}
+use Rattle.resb_layout.proofs.BytesLemmas.{halves_len}
 use Rattle.resb_format.proofs.WordsBack.{written_length}
 use Rattle.resb_layout.proofs.InOrderLemmas.{pad_long}
 

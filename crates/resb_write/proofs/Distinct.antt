@@ -15,7 +15,7 @@ use Rattle.resb_pool.proofs.TextLists.{TextList}
 use Rattle.resb_layout.specs.KeyBlock.{is_among}
 use Rattle.resb_layout.specs.TreeFaults.{is_unlisted, is_far, has_nul, key_fault}
 use Rattle.std.specs.Prelude.{codes}
-use Rattle.resb_write.proofs.Known.{any_member, member_any}
+use Rattle.resb_write.proofs.Lists.{any_member, member_any}
 
 any_same : (f : List ℕ → Bool) (us ws : TextList) → ((q : List ℕ) → Contains us q ↔ Contains ws q)
     → list_any f us ≡ list_any f ws

@@ -1,20 +1,12 @@
 -- What a test of all words, or of all positions, says of each, and how lists grow by one of them.
 use Rattle.std.proofs.Common.{◌≡◌, ℕ, ◌+◌, ◌-◌, ◌<◌, ◌≤◌, List, [], ◌∷◌, ◌++◌, length, take}
-use Rattle.std.proofs.Common.{Bool, true, false, refl, sym, ◌∙◌, ap, append_assoc, get_or}
+use Rattle.std.proofs.Common.{true, sym, ◌∙◌, ap, append_assoc, get_or}
 use Rattle.std.proofs.Common.{leb}
 use Rattle.std.specs.List.{list_all}
 use Rattle.std.proofs.lemmas.List.{take_more, map-append}
 use Rattle.std.proofs.lemmas.Bool.{leb-true, and_parts}
-use Rattle.std.proofs.lemmas.List.Folds.{list_all_at}
 use Rattle.resb_layout.specs.Laid.{is_short_string, are_short, are_near, offsets_in}
-
-passes : (p : ℕ → Bool) (xs : List ℕ) (i : ℕ) → i < length xs → list_all p xs ≡ true
-    → p (get_or xs i 0) ≡ true
-passes p xs i h all = by (p (get_or xs i 0)) refl
-  where
-    by : (b : Bool) → p (get_or xs i 0) ≡ b → b ≡ true
-    by true e = refl
-    by false e = sym (list_all_at p xs i 0 h e) ∙ all
+use Rattle.resb_write.proofs.Lists.{passes}
 
 pub near_at : (ps : List ℕ) (i : ℕ) → are_near ps ≡ true → i < length ps → get_or ps i 0 ≤ 65535
 near_at ps i near h = leb-true (get_or ps i 0) 65535 (passes (λ p. leb p 65535) ps i h

@@ -20,7 +20,7 @@ use Rattle.resb_pool.proofs.ReadBack.{text_at-zero}
 use Rattle.resb_layout.specs.Laid.{Given, Laid, Lays, fill}
 use Rattle.resb_format.specs.Bytes.{units_as_bytes}
 use Rattle.resb_layout.specs.Laws.{IsRead, StandsIn}
-use Rattle.resb_layout.proofs.Numbers.{EachBelow, halves_len}
+use Rattle.resb_layout.proofs.BytesLemmas.{EachBelow, halves_len}
 use Rattle.resb_layout.proofs.Grows.{grows}
 use Rattle.resb_layout.proofs.Denoted.{laid_is_denoted}
 use Rattle.resb_layout.proofs.Paid.{laid_is_paid}

@@ -1,27 +1,17 @@
 -- The tail of a written file is the bodies of its tree, one right behind another.
-use Rattle.std.proofs.Common.{◌≡◌, ℕ, ◌+◌, ◌*◌, ◌%◌, List, [], ◌++◌, length, drop, sym, ap, ◌∙◌}
+use Rattle.std.proofs.Common.{◌≡◌, ◌+◌, ◌*◌, ◌%◌, [], length, drop, sym, ap, ◌∙◌}
 use Rattle.std.proofs.Common.{subst, arith}
-use Rattle.std.proofs.lemmas.List.{drop-drop}
-use Rattle.std.proofs.Math.Seq.{drop-append_seam}
 use Rattle.resb_tree.specs.LayingOrder.{laying_order}
 use Rattle.resb_head.specs.File.{body_of, block_end}
 use Rattle.resb_layout.specs.Laid.{Laid, Given, here}
 use Rattle.resb_format.specs.Bytes.{units_as_bytes}
 use Rattle.resb_layout.specs.InOrder.{FillsTail}
-use Rattle.resb_layout.proofs.Numbers.{halves_len}
+use Rattle.resb_layout.proofs.BytesLemmas.{halves_len}
 use Rattle.resb_layout.proofs.InOrderLemmas.{laid_in_order}
 use Rattle.resb_layout.specs.KeyBlock.{key_block, key_position, keys_start}
 use Rattle.resb_layout.specs.Written.{even, tail_start}
 use Rattle.resb_write.specs.Laws.{WrittenInOrder}
-
--- what stands behind two parts
-drop_two : (n : ℕ) (xs a b c : List ℕ) → drop n xs ≡ a ++ (b ++ c)
-    → drop (n + length a + length b) xs ≡ c
-drop_two n xs a b c e =
-    let sum : n + length a + length b ≡ n + (length a + length b) = omega arith in
-    ap (λ k. drop k xs) sum ∙ sym (drop-drop (length a + length b) n xs)
-    ∙ ap (drop (length a + length b)) e ∙ sym (drop-drop (length b) (length a) (a ++ (b ++ c)))
-    ∙ ap (drop (length b)) (drop-append_seam a (b ++ c)) ∙ drop-append_seam b c
+use Rattle.resb_write.proofs.Lists.{drop_two}
 
 pub written_in_order : WrittenInOrder
 written_in_order bytes t f ks w =

@@ -8,9 +8,7 @@ use Rattle.std.proofs.Math.Bool.{or-false}
 use Rattle.std.proofs.lemmas.List.Concat.{flat_map-append}
 use Rattle.std.proofs.lemmas.List.Folds.{list_any-append}
 use Rattle.std.proofs.lemmas.List.Sums.{sum_by-append, sum_by-cons}
-use Rattle.resb_tree.specs.Tree.{Tree}
-use Rattle.resb_tree.specs.View.{entries_view}
-use Rattle.resb_tree.specs.declared.resource.Resource.{Resource}
+use Rattle.resb_tree.specs.Tree.{Tree, Entries, no_entries, entry, entries_len}
 use Rattle.resb_format.specs.Units.{units}
 use Rattle.resb_pool.specs.Plan.{nows, first_too_long}
 use Rattle.resb_tree.specs.LayingOrder.{text_in, values_of}
@@ -119,7 +117,6 @@ plain_integer old new e = e ∙ (λ i. record old {
   has_count_over_32_bits = sym (or-false old.has_count_over_32_bits) i;
 })
 
-pub entries_long : (es : List (List ℕ × Resource))
-    → length (values_of (entries_view es)) ≡ length es
-entries_long [] = refl
-entries_long (e ∷ es) = omega (arith, entries_long es)
+pub entries_long : (es : Entries) → entries_len es ≡ length (values_of es)
+entries_long no_entries = refl
+entries_long (entry k t es) = omega (arith, entries_long es)

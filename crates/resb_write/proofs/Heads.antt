@@ -10,7 +10,7 @@ use Rattle.resb_head.specs.File.{resources_end, bundle_end, largest_table_field,
 use Rattle.resb_head.specs.File.{block_end, parts_of, IsBundleFile}
 use Rattle.resb_layout.specs.Laid.{words}
 use Rattle.resb_format.specs.Bytes.{units_as_bytes}
-use Rattle.resb_layout.proofs.Numbers.{EachBelow, words_read, halves_read, halves_len}
+use Rattle.resb_layout.proofs.BytesLemmas.{EachBelow, words_read, halves_read, halves_len}
 use Rattle.resb_format.proofs.WordsBack.{written_length}
 use Rattle.resb_layout.specs.WrittenHead.{written_header}
 use Rattle.resb_write.specs.Inner.Files.{fields_of, file_of}

@@ -1,17 +1,22 @@
 -- The keys of a table, and what a map has at each.
 use Rattle.std.proofs.Common.{◌≡◌, ℕ, List, [], ◌∷◌, ◌++◌, map, length, Option, Some}
 use Rattle.std.proofs.Common.{refl, sym, ◌∙◌, ap, arith}
-use Rattle.resb_tree.specs.Tree.{Entries, no_entries, entry}
+use Rattle.resb_tree.specs.Tree.{Entries, no_entries, entry, Trees, no_trees, more_trees}
 use Rattle.resb_tree.specs.View.{entries_view}
 use Rattle.resb_tree.specs.declared.resource.Resource.{Resource}
 use Rattle.resb_layout.specs.Laid.{Given, ArePlaced}
 use Rattle.std.proofs.lemmas.List.{length-map}
-use Rattle.resb_tree.specs.LayingOrder.{entry_keys}
-use Rattle.resb_tree.specs.LayingOrder.{values_of}
+use Rattle.resb_tree.specs.LayingOrder.{array_members, entry_keys, values_of}
 
-pub keys_long : (es : List (List ℕ × Resource)) → length (entry_keys (entries_view es)) ≡ length es
-keys_long [] = refl
-keys_long (e ∷ es) = omega (arith, keys_long es)
+-- a table without values has no entries
+pub no_values : (es : Entries) → length (values_of es) ≡ 0 → es ≡ no_entries
+no_values no_entries e = refl
+no_values (entry k t es) e = absurd (omega (arith, e))
+
+-- an array without members is empty
+pub no_members : (ts : Trees) → length (array_members ts) ≡ 0 → ts ≡ no_trees
+no_members no_trees e = refl
+no_members (more_trees t ts) e = absurd (omega (arith, e))
 
 pub values_long : (es : List (List ℕ × Resource)) → length es ≡ length (values_of (entries_view es))
 values_long [] = refl

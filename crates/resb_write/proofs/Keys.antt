@@ -17,6 +17,7 @@ use Rattle.resb_pool.specs.Plan.{nows}
 use Rattle.resb_layout.specs.KeyBlock.{is_among, key_bytes, last_place}
 use Rattle.resb_write.specs.Inner.NearPositions.{near_position, near_position_in}
 use Rattle.std.proofs.lemmas.List.{map_push}
+use Rattle.resb_write.proofs.Lists.{filter_yes, filter_no}
 
 same_either_way : (a b : List ℕ) → bytes_eq a b ≡ same_text b a
 same_either_way a b = same_from_decides _ _ (Decides-like _ (λ e. sym e) (λ e. sym e)
@@ -130,15 +131,6 @@ pub last_of-stands : (k : List ℕ) (js : List (List ℕ)) (n : ℕ) → last_pl
 last_of-stands k [] n e = absurd (none-some n e)
 last_of-stands k (j ∷ js) n e =
     stands_in k j js n (last_place k js) refl (λ m h. last_of-stands k js m h) e
-
-filter_yes : (p : List ℕ → Bool) (done rest : List (List ℕ)) (x : List ℕ) → p x ≡ true
-    → (done ++ x ∷ []) ++ filter p rest ≡ done ++ filter p (x ∷ rest)
-filter_yes p done rest x e = append_assoc done (x ∷ []) (filter p rest)
-    ∙ ap (λ b. done ++ cond b (x ∷ filter p rest) (filter p rest)) (sym e)
-
-filter_no : (p : List ℕ → Bool) (done rest : List (List ℕ)) (x : List ℕ) → p x ≡ false
-    → done ++ filter p rest ≡ done ++ filter p (x ∷ rest)
-filter_no p done rest x e = ap (λ b. done ++ cond b (x ∷ filter p rest) (filter p rest)) (sym e)
 
 -- a filter keeps the next text, or doesn't
 pub filter_keeps : (p : List ℕ → Bool) (old new : List (Bor (List ℕ))) (text : Bor (List ℕ))

@@ -1,16 +1,14 @@
 -- The keys and texts of a tree's resources are known where no key has a fault and the texts are
 -- planned.
-use Rattle.std.proofs.Common.{◌≡◌, ℕ, zero, suc, ◌+◌, ◌^◌, ◌<◌, List, [], ◌∷◌, map, filter}
+use Rattle.std.proofs.Common.{◌≡◌, ℕ, zero, suc, ◌+◌, ◌^◌, ◌<◌, List, [], ◌∷◌, map}
 use Rattle.std.proofs.Common.{Option, Some, None, option_map, MatchOption, All, Bool, true, false}
 use Rattle.std.proofs.Common.{length, cond, nat_lt, unwrap_or, refl, sym, ◌∙◌, ap, subst, arith}
 use Rattle.std.specs.List.{list_any, flat_map, Contains}
 use Rattle.std.specs.Option.{is_none}
 use Rattle.std.specs.Cmp.Lexicographic.{bytes_decides}
 use Rattle.std.proofs.lemmas.Bool.{ltb-false}
-use Rattle.std.proofs.lemmas.Bool.{both_ways, false_from_ne_true}
 use Rattle.std.proofs.lemmas.List.Elements.{All-nil, All-cons, Contains-append_left}
 use Rattle.std.proofs.lemmas.List.Elements.{Contains-append_right}
-use Rattle.std.proofs.lemmas.List.Folds.{Any-from_list_any, list_any-from_Any}
 use Rattle.resb_tree.specs.Tree.{Tree}
 use Rattle.resb_tree.specs.Keys.{same_text}
 use Rattle.resb_layout.specs.WritingFault.{WritingFault}
@@ -21,41 +19,7 @@ use Rattle.resb_layout.specs.KeyBlock.{used, is_among, last_place, position_in, 
 use Rattle.resb_layout.specs.TreeFaults.{has_nul, is_unlisted, is_far, key_fault}
 use Rattle.resb_write.specs.Inner.NearPositions.{near_position, near_position_in}
 use Rattle.resb_write.proofs.Keys.{place_contained}
-
-module _ {X : Type 0} where
-  pub member_any : (p : X → Bool) (xs : List X) (x : X) → Contains xs x → p x ≡ true
-      → list_any p xs ≡ true
-  member_any p xs x h t = list_any-from_Any p xs (h.0, x, h.1, h.2, t)
-
-  pub none_member : (p : X → Bool) (xs : List X) (x : X) → list_any p xs ≡ false → Contains xs x
-      → p x ≡ false
-  none_member p xs x e h =
-      false_from_ne_true (p x)
-      (λ t. both_ways (list_any p xs) e (member_any p xs x h t))
-
-  pub any_member : (p : X → Bool) (xs : List X) → list_any p xs ≡ true → (x : X) × Contains xs x
-      × (p x ≡ true)
-  any_member p xs e = let m = Any-from_list_any p xs e in (m.1, (m.0, m.2, m.3), m.4)
-
-  kept_by : (p : X → Bool) (y : X) (ys : List X) (x : X) → (Contains (filter p ys) x → (p x ≡ true)
-      × Contains ys x)
-      → (b : Bool) → p y ≡ b → Contains (cond b (y ∷ filter p ys) (filter p ys)) x → (p x ≡ true)
-      × Contains (y ∷ ys) x
-  kept_by p y ys x f true e (zero, lt, is) = (ap p (sym is) ∙ e, (0, omega arith, is))
-  kept_by p y ys x f true e (suc i, lt, is) =
-      (let k = f (i, omega arith, is) in (k.0, Contains-append_right (y ∷ []) ys x k.1))
-  kept_by p y ys x f false e h = (let k = f h in (k.0, Contains-append_right (y ∷ []) ys x k.1))
-
-  -- what a filter keeps passes its test, and was there
-  pub filter_passes : (p : X → Bool) (xs : List X) (x : X) → Contains (filter p xs) x → (p x ≡ true)
-      × Contains xs x
-  filter_passes p [] x h = absurd (omega (arith, h.1))
-  filter_passes p (y ∷ ys) x h = kept_by p y ys x (filter_passes p ys x) (p y) refl h
-
-  pub all_from : (P : X → Type 0) (xs : List X) → ((x : X) → Contains xs x → P x) → All P xs
-  all_from P [] f = All-nil P
-  all_from P (x ∷ xs) f = All-cons P x xs (f x (0, omega arith, refl))
-      (all_from P xs (λ y h. f y (Contains-append_right (x ∷ []) xs y h)))
+use Rattle.resb_write.proofs.Lists.{none_member, any_member, filter_passes}
 
 module _ {A : Type 0} where
   pub in_flat : (f : Tree → List A) (ts : List Tree) (t : Tree) (x : A) → Contains ts t
@@ -149,13 +113,3 @@ near_offsets S us offset plan (s ∷ ss) (k ∷ os) f e =
     All-cons (λ k. k < 2 ^ 28) k os (subst (λ n. n < 2 ^ 28) (sym same) r.2)
     (near_offsets S us offset plan ss os
     (λ q c. f q (Contains-append_right (s ∷ []) ss q c)) t)
-
--- what is known of each of some texts is known in turn
-pub in_turn : (f : List ℕ → Option ℕ) (ks : List (List ℕ))
-    → ((k : List ℕ) → Contains ks k → (p : ℕ) × (f k ≡ Some p))
-    → map f ks ≡ map Some (map (λ k. unwrap_or (f k) 0) ks)
-in_turn f [] h = refl
-in_turn f (k ∷ ks) h =
-    let p = h k (0, omega arith, refl) in
-    let e : f k ≡ Some (unwrap_or (f k) 0) = p.1 ∙ ap (λ o. Some (unwrap_or o 0)) (sym p.1) in
-    (λ i. e i ∷ in_turn f ks (λ j c. h j (Contains-append_right (k ∷ []) ks j c)) i)

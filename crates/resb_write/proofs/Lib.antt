@@ -8,6 +8,8 @@ mod Stacks
 mod Closings
 mod Each
 mod KeyViews
+mod NodesLemmas
+mod DraftNodes
 mod Rows
 mod OneBlock
 mod Keys
@@ -24,3 +26,4 @@ pub mod Listed
 mod Examples
 mod OneFile
 mod Filled
+mod Lists

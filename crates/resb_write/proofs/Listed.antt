@@ -1,5 +1,5 @@
 -- Where each key of a tree is listed, no key is refused as unlisted.
-use Rattle.std.proofs.Common.{◌≡◌, ℕ, zero, suc, ◌+◌, List, [], ◌∷◌, ◌++◌, length, filter}
+use Rattle.std.proofs.Common.{◌≡◌, ℕ, zero, suc, ◌+◌, List, [], ◌∷◌, ◌++◌, length}
 use Rattle.std.proofs.Common.{Option, Some, None, option_map, Bool, true, false, cond, codes}
 use Rattle.std.proofs.Common.{refl, sym, ◌∙◌, ap, subst, append-nil, ⊎_elim, arith}
 use Rattle.std.specs.List.{Contains, list_any, flat_map}
@@ -20,26 +20,10 @@ use Rattle.resb_layout.specs.KeyBlock.{keys_start}
 use Rattle.resb_layout.specs.TreeFaults.{has_nul, is_unlisted, is_far, is_over_32_bits}
 use Rattle.resb_layout.specs.TreeFaults.{tree_fault, first_of}
 use Rattle.resb_write.proofs.Keys.{no_place}
-use Rattle.resb_write.proofs.Known.{any_member}
 use Rattle.resb_write.proofs.Distinct.{contains_among}
 use Rattle.std.proofs.lemmas.List.Elements.{Contains-append_cases}
 use Rattle.std.proofs.lemmas.Grind.{flat_map-append}
-
-pub contained-filter : {X : Type 0} (p : X → Bool) (xs : List X) (x : X) → p x ≡ true
-    → Contains xs x → Contains (filter p xs) x
-contained-filter p [] x e h = absurd (omega (arith, h.1))
-contained-filter p (y ∷ ys) x e (zero, lt, is) =
-    subst (λ b. Contains (cond b (y ∷ filter p ys) (filter p ys)) x) (sym (ap p is ∙ e)) (
-      0,
-      omega arith,
-      is,
-    )
-contained-filter p (y ∷ ys) x e (suc i, lt, is) =
-    by (p y) (contained-filter p ys x e (i, omega arith, is))
-  where
-    by : (b : Bool) → Contains (filter p ys) x → Contains (cond b (y ∷ filter p ys) (filter p ys)) x
-    by true h = (suc h.0, omega (arith, h.1), h.2)
-    by false h = h
+use Rattle.resb_write.proofs.Lists.{contained-filter, any_member}
 
 contained_own : (k : List ℕ) (es : Entries) → Contains (entry_keys es) k → is_key_of k es ≡ true
 contained_own k no_entries h = absurd (omega (arith, h.1))

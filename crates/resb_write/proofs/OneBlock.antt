@@ -11,8 +11,10 @@ use Rattle.resb_tree.specs.LayingOrder.{entry_keys}
 use Rattle.resb_layout.specs.Laid.{lays_string, lays_no_bytes, lays_bytes, lays_no_numbers}
 use Rattle.resb_layout.specs.Laid.{lays_numbers, lays_no_items, lays_items, lays_no_entries}
 use Rattle.resb_layout.specs.Laid.{lays_entries, LaysEach, each_none, each_more}
-use Rattle.resb_layout.proofs.Once.{same_somes, none_inside, zero_not_positive, not_both}
+use Rattle.resb_layout.proofs.Once.{none_inside}
 use Rattle.resb_write.specs.Laws.{OneBlock}
+use Rattle.resb_layout.proofs.Numbers.{zero_not_positive, not_both}
+use Rattle.resb_layout.proofs.Lists.{same_somes}
 
 -- words that are the same, or neither a short string's
 pub data Alike (v w : ℕ) : Type 0 where

@@ -1,5 +1,5 @@
 -- A bundle and a list of keys leave one file.
-use Rattle.std.proofs.Common.{◌≡◌, ℕ, zero, suc, ◌+◌, ◌*◌, ◌<◌, ◌≤◌, List, [], ◌∷◌, ◌++◌}
+use Rattle.std.proofs.Common.{◌≡◌, ℕ, zero, suc, ◌+◌, ◌*◌, ◌<◌, ◌≤◌, List, [], ◌++◌}
 use Rattle.std.proofs.Common.{length, get_or, take, drop, Bool, refl, sym, ◌∙◌, ap}
 use Rattle.std.proofs.Common.{subst, length-append, arith}
 use Rattle.std.specs.List.{flat_map}
@@ -22,17 +22,7 @@ use Rattle.resb_layout.specs.WrittenHead.{written_header}
 use Rattle.resb_layout.specs.Written.{even, tail_start, Blocks, block_bytes, Written}
 use Rattle.resb_write.specs.Laws.{OneFile}
 use Rattle.resb_write.proofs.Heads.{body_behind}
-
-same_front : (n : ℕ) (xs ys : List ℕ) → n ≤ length xs → n ≤ length ys
-    → ((i : ℕ) → i < n → get_or xs i 0 ≡ get_or ys i 0) → take n xs ≡ take n ys
-same_front zero xs ys h k e = refl
-same_front (suc n) [] ys h k e = absurd (omega (arith, h))
-same_front (suc n) (x ∷ xs) [] h k e = absurd (omega (arith, k))
-same_front (suc n) (x ∷ xs) (y ∷ ys) h k e =
-    let first : x ≡ y = e 0 (omega arith) in
-    let rest = same_front n xs ys (omega (arith, h)) (omega (arith, k))
-    (λ i l. e (suc i) (omega (arith, l))) in
-    λ i. first i ∷ rest i
+use Rattle.resb_write.proofs.Lists.{same_front}
 
 module _ (t : Tree) (ks : List (List ℕ)) (x y : Blocks t ks) where
   pool_is : x.pool ≡ y.pool

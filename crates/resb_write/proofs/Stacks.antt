@@ -1,7 +1,7 @@
 -- Steps in laying order lay a tree.
-use Rattle.std.proofs.Common.{◌≡◌, ℕ, ◌+◌, ◌-◌, ◌<◌, ◌≤◌, take, drop, length-drop, List}
+use Rattle.std.proofs.Common.{◌≡◌, ℕ, ◌-◌, ◌<◌, ◌≤◌, take, drop, List}
 use Rattle.std.proofs.Common.{[], ◌∷◌, ◌++◌, length, refl, sym, ◌∙◌, ap, subst, append_assoc}
-use Rattle.std.proofs.Common.{append-nil, length-append, arith}
+use Rattle.std.proofs.Common.{append-nil, arith}
 use Rattle.resb_tree.specs.Tree.{Tree, string, array, table, binary, integer, int_vector, Trees}
 use Rattle.resb_tree.specs.Tree.{no_trees, more_trees, Entries, no_entries, entry, trees_of}
 use Rattle.resb_layout.specs.Laid.{Given, Laid, Lays, LaysEach, each_none, each_more, lays_items}
@@ -12,27 +12,9 @@ use Rattle.resb_tree.specs.LayingOrder.{array_members, values_of, children, layi
 use Rattle.resb_tree.specs.LayingOrder.{laying_each}
 use Rattle.resb_tree.specs.LayingOrder.{laying_values}
 use Rattle.resb_write.specs.Inner.StackSteps.{LaysNext, LaysRow, row_none, row_more}
-use Rattle.std.proofs.lemmas.List.{nil_from_length, take-append-drop}
+use Rattle.std.proofs.lemmas.List.{nil_from_length}
 use Rattle.resb_tree.proofs.LayingOrderLemmas.{trees_of-array_members}
-
--- of two lists in two parts, the parts are the same where the last ones have one length
-same_parts : (a b c d : List ℕ) → a ++ b ≡ c ++ d → length b ≡ length d → (a ≡ c) × (b ≡ d)
-same_parts [] b [] d e l = (refl, e)
-same_parts [] b (y ∷ c) d e l =
-    absurd (omega (arith, ap length e, length-append (y ∷ c) d, l, one y c))
-  where
-    one : (y : ℕ) (c : List ℕ) → length (y ∷ c) ≡ length c + 1
-    one y c = omega arith
-same_parts (x ∷ a) b [] d e l =
-    absurd (omega (arith, ap length e, length-append (x ∷ a) b, l, one x a))
-  where
-    one : (y : ℕ) (c : List ℕ) → length (y ∷ c) ≡ length c + 1
-    one y c = omega arith
-same_parts (x ∷ a) b (y ∷ c) d e l =
-    let f : x ≡ y = cc in
-    let g : a ++ b ≡ c ++ d = cc in
-    let r = same_parts a b c d g l in
-    ((λ i. f i ∷ r.0 i), r.1)
+use Rattle.resb_write.proofs.Lists.{same_parts, split_stack}
 
 module _ (g : Given) where
   pub record Split (s : Laid) (ws : List ℕ) (t : Tree) (rest : List Tree) (e : Laid)
@@ -149,15 +131,6 @@ steps_lay_trees g s e t xs h =
     (subst (λ l. LaysRow g s [] l e xs) (sym (append-nil (laying_order t))) h) in
     let z = none_laid g k.mid e (k.word ∷ []) xs k.goes in
     (k.word, sym z.1, subst (λ m. Lays g s t m k.word) z.0 k.lays)
-
--- the last words of a stack, and those below them
-pub split_stack : (ws : List ℕ) (n : ℕ) → n ≤ length ws
-    → (ws ≡ take (length ws - n) ws ++ drop (length ws - n) ws)
-    × (length (drop (length ws - n) ws) ≡ n)
-split_stack ws n h = (
-  sym (take-append-drop (length ws - n) ws),
-  omega (arith, length-drop (length ws - n) ws),
-)
 
 pub array_step : (g : Given) (s e : Laid) (ws xs vs : List ℕ) (ts : Trees) (w n : ℕ)
     → n ≡ length (array_members ts) → n ≤ length ws → vs ≡ drop (length ws - n) ws → 0 < n

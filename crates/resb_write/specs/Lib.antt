@@ -1,8 +1,9 @@
 -- The words of the contracts: what the laws of written files say, and, from the crates below, why
--- a file isn't written and what a written file is.
+-- a file isn't written, what a written file is, and for which tree a draft stands.
 pub use Rattle.resb_tree.specs.Tree
 pub use Rattle.resb_tree.specs.View
 pub use Rattle.resb_tree.specs.Bundle
+pub use Rattle.resb_draft.specs.Drafts
 pub use Rattle.resb_format.specs.Parts
 pub use Rattle.resb_format.specs.Denotes
 pub use Rattle.resb_head.specs.File

@@ -2,11 +2,10 @@
 //! What is laid for a body is said in `resource_bodies`.
 ghost use Rattle.std.specs.Prelude.{◌≡◌, ◌++◌, ◌∷◌, ◌+◌, ◌-◌, ◌/◌, ◌^◌, ◌<◌, ◌≤◌};
 ghost use Rattle.std.specs.Prelude.{ℕ, List, Some, [], length, map, take, OnOk};
-ghost use Rattle.resb_tree.specs.Tree.{Entries, array, binary, int_vector, integer, string};
-ghost use Rattle.resb_tree.specs.Tree.{table as table_with};
+ghost use Rattle.resb_tree.specs.Tree.{Entries, Trees, array, binary, int_vector, integer, string};
+ghost use Rattle.resb_tree.specs.Tree.{table};
 ghost use Rattle.resb_layout.specs.Laid.{Given, Laid, ArePlaced};
-ghost use Rattle.resb_tree.specs.LayingOrder.{entry_keys, values_of};
-ghost use Rattle.resb_tree.specs.View.{items_view, entries_view};
+ghost use Rattle.resb_tree.specs.LayingOrder.{array_members, entry_keys, values_of};
 ghost use Rattle.resb_write.specs.Inner.StackSteps.{LaysNext};
 ghost use Rattle.resb_write.specs.Inner.Room.{laid_of};
 ghost use Rattle.resb_write.specs.Inner.Seen.{Anywhere, HasRoom, TakesNoMore};
@@ -14,7 +13,6 @@ ghost use Rattle.resb_write.specs.Inner.Seen.{Anywhere, HasRoom, TakesNoMore};
 use crate::resource_bodies::{close_array, close_table, lay_bytes, lay_numbers, word};
 use crate::sites::Bodies;
 use resb_format::ResourceReprType;
-use resb_tree::{Resource, Table};
 use std::alloc::AllocError;
 
 /// Puts a word in the place of the last words of a stack.
@@ -28,25 +26,27 @@ fn replace(words: &mut Vec<u32>, count: usize, word: u32) -> Result<(), AllocErr
     Ok(())
 }
 
-/// Lays an array behind its members, whose words it takes off the stack.
+/// Lays an array of so many members behind them, and takes their words off the stack.
 pub(crate) fn step_array(
     base: usize,
     bodies: &mut Bodies,
     words: &mut Vec<u32>,
-    items: &[Resource<'_>],
+    count: usize,
 ) -> Result<(), AllocError>
-    requires room { HasRoom base bodies.old (length items.now) }
-    requires enough { length items.now ≤ length words.old.items }
-    ensures step { OnOk result (Anywhere base (λ g. LaysNext g (laid_of bodies.old)
-        words.old.items (array (items_view items.now)) (laid_of bodies.new) words.new.items)) }
-    ensures takes { OnOk result (TakesNoMore base bodies.old bodies.new (length items.now)) }
+    requires room { HasRoom base bodies.old count }
+    requires enough { count ≤ length words.old.items }
+    ensures step { OnOk result (Anywhere base (λ g. (members : Trees)
+        → length (array_members members) ≡ count
+        → LaysNext g (laid_of bodies.old) words.old.items (array members) (laid_of bodies.new)
+        words.new.items)) }
+    ensures takes { OnOk result (TakesNoMore base bodies.old bodies.new count) }
 {
-    if items.is_empty() {
+    if count == 0 {
         return replace(words, 0, word(ResourceReprType::Array, 0));
     }
-    let (_, members) = words.split_at(words.len() - items.len());
+    let (_, members) = words.split_at(words.len() - count);
     let word = close_array(base, bodies, members)?;
-    replace(words, items.len(), word)
+    replace(words, count, word)
 }
 
 /// Lays a table that isn't empty, whose keys have these positions, behind its values.
@@ -63,7 +63,7 @@ fn step_full_table(
         → length (values_of entries) ≡ length positions.now
         → ArePlaced g (entry_keys entries) positions.now
         → LaysNext g (laid_of bodies.old) words.old.items
-        (table_with entries) (laid_of bodies.new) words.new.items)) }
+        (table entries) (laid_of bodies.new) words.new.items)) }
     ensures takes { OnOk result (TakesNoMore base bodies.old bodies.new
         (length positions.now)) }
 {
@@ -72,30 +72,27 @@ fn step_full_table(
     replace(words, positions.len(), word)
 }
 
-/// Lays a table behind its values, whose words it takes off the stack. Its keys have these
-/// positions.
+/// Lays a table, whose keys have these positions, behind its values, and takes their words off the
+/// stack.
 pub(crate) fn step_table(
     base: usize,
     bodies: &mut Bodies,
     words: &mut Vec<u32>,
-    table: &Table<'_>,
     positions: &[u32],
 ) -> Result<(), AllocError>
-    requires room { HasRoom base bodies.old (length table.now.entries) }
-    requires enough { length table.now.entries ≤ length words.old.items }
-    requires many { length positions.now ≡ length table.now.entries }
-    ensures step { OnOk result (Anywhere base (λ g.
-        map g.position (entry_keys (entries_view table.now.entries)) ≡ map Some positions.now
+    requires room { HasRoom base bodies.old (length positions.now) }
+    requires enough { length positions.now ≤ length words.old.items }
+    ensures step { OnOk result (Anywhere base (λ g. (entries : Entries)
+        → length (values_of entries) ≡ length positions.now
+        → ArePlaced g (entry_keys entries) positions.now
         → LaysNext g (laid_of bodies.old) words.old.items
-        (table_with (entries_view table.now.entries)) (laid_of bodies.new) words.new.items)) }
+        (table entries) (laid_of bodies.new) words.new.items)) }
     ensures takes { OnOk result (TakesNoMore base bodies.old bodies.new
-        (length table.now.entries)) }
+        (length positions.now)) }
 {
-    if table.is_empty() {
+    if positions.is_empty() {
         return replace(words, 0, word(ResourceReprType::Table, 0));
     }
-    // `keys` is called for its clause that the keys ascend.
-    let _keys = table.keys();
     step_full_table(base, bodies, words, positions)
 }
 

@@ -2,18 +2,18 @@
 //! strings, and what is tested before anything is laid. Where things come to stand is not said
 //! here.
 ghost use Rattle.std.specs.Prelude.{◌≡◌, ◌++◌, ◌∷◌, ◌+◌, ◌-◌, ◌*◌, ◌/◌, ◌^◌, ◌||◌, [], List};
-ghost use Rattle.std.specs.Prelude.{length};
+ghost use Rattle.std.specs.Prelude.{length, true};
 ghost use Rattle.std.specs.Prelude.{min, max, nat_lt, IfOk, OnOk};
 ghost use Rattle.std.specs.Option.{option_or};
 ghost use Rattle.resb_tree.specs.Tree.{Tree};
-ghost use Rattle.resb_tree.specs.View.{tree_of, entries_view};
 ghost use Rattle.resb_format.specs.Units.{units};
 ghost use Rattle.resb_pool.specs.Plan.{nows, first_too_long};
-ghost use Rattle.resb_tree.specs.LayingOrder.{entry_keys, trees_in};
+ghost use Rattle.resb_tree.specs.LayingOrder.{own_keys};
 ghost use Rattle.resb_write.specs.Inner.Gathered.{Gathered};
+ghost use Rattle.resb_write.specs.Inner.Nodes.{trees_by, all_ready};
 
+use crate::nodes::{AsNode, InOrder, Node};
 use resb_format::utf16_len;
-use resb_tree::{LayingOrder, Resource, Table};
 use std::alloc::{AllocError, Global};
 
 /// The greatest number of 32 bits: the most units of a string, and members of an array, binary or
@@ -38,11 +38,12 @@ pub(crate) struct Contents<'t> {
 
 impl<'t> Contents<'t> {
     /// What the resources of a tree hold, which are given in laying order.
-    pub(crate) fn gather<'a>(
+    pub(crate) fn gather<R: AsNode>(
         alloc: Global,
-        order: &LayingOrder<'t, 'a>,
+        order: &InOrder<'t, R>,
     ) -> Result<Contents<'t>, AllocError>
-        ensures { IfOk result (λ c. Gathered (trees_in order.now.items) c) }
+        requires { all_ready R.ready order.now.items ≡ true }
+        ensures { IfOk result (λ c. Gathered (trees_by R.tree order.now.items) c) }
     {
         let mut contents = Contents {
             keys: Vec::new(alloc),
@@ -59,17 +60,18 @@ impl<'t> Contents<'t> {
     }
 
     /// Adds what a resource holds.
-    fn add(&mut self, resource: &'t Resource<'_>) -> Result<(), AllocError>
+    fn add<R: AsNode>(&mut self, resource: &'t R) -> Result<(), AllocError>
+        requires { R.ready resource.now ≡ true }
         ensures { OnOk result ((ts : List Tree) → Gathered ts self.old
-            → Gathered (ts ++ tree_of resource.now ∷ []) self.new) }
+            → Gathered (ts ++ R.tree resource.now ∷ []) self.new) }
     {
-        match resource {
-            Resource::String(text) => self.add_text(text.as_str())?,
-            Resource::Array(items) => self.add_counted(items.len(), 4),
-            Resource::Table(table) => self.add_table(table)?,
-            Resource::Binary(bytes) => self.add_bytes(bytes.as_slice().len()),
-            Resource::Integer(_) => self.add_size(0),
-            Resource::IntVector(numbers) => self.add_counted(numbers.len(), 2),
+        match resource.as_node() {
+            Node::String(text) => self.add_text(text)?,
+            Node::Array(count) => self.add_counted(count, 4),
+            Node::Table(count) => self.add_table(resource, count)?,
+            Node::Binary(bytes) => self.add_bytes(bytes.len()),
+            Node::Integer(_) => self.add_size(0),
+            Node::IntVector(numbers) => self.add_counted(numbers.len(), 2),
         }
         Ok(())
     }
@@ -124,29 +126,18 @@ impl<'t> Contents<'t> {
         Ok(())
     }
 
-    /// Adds a table.
-    fn add_table(&mut self, table: &'t Table<'_>) -> Result<(), AllocError>
+    /// Adds a table of so many entries.
+    fn add_table<R: AsNode>(&mut self, table: &'t R, count: usize) -> Result<(), AllocError>
         ensures { OnOk result ((nows self.new.keys.items
-            ≡ nows self.old.keys.items ++ entry_keys (entries_view table.now.entries))
+            ≡ nows self.old.keys.items ++ own_keys (R.tree table.now))
             × (self.new ≡ record self.old {
               keys = self.new.keys;
-              size = min (self.old.size + (16 + 4 * length table.now.entries)) (2 ^ 64 - 1);
-              largest_table = max self.old.largest_table (length table.now.entries);
+              size = min (self.old.size + (16 + 4 * count)) (2 ^ 64 - 1);
+              largest_table = max self.old.largest_table count;
             })) }
     {
-        self.largest_table = self.largest_table.max(table.len());
-        self.add_size(table.len().saturating_mul(4));
-        push_keys(&mut self.keys, table)
+        self.largest_table = self.largest_table.max(count);
+        self.add_size(count.saturating_mul(4));
+        table.push_keys(&mut self.keys)
     }
-}
-
-/// Appends a table's keys.
-fn push_keys<'t>(keys: &mut Vec<&'t str>, table: &'t Table<'_>) -> Result<(), AllocError>
-    ensures { OnOk result (nows keys.new.items
-        ≡ nows keys.old.items ++ entry_keys (entries_view table.now.entries)) }
-{
-    for key in table.keys() {
-        keys.push(key.as_str())?;
-    }
-    Ok(())
 }

@@ -1,14 +1,16 @@
-//! Writes a bundle's tree and its keys as a `.res` file.
+//! Writes a bundle's tree, or a draft of one, and its keys as a `.res` file.
 //! Reading a file is not done here.
 #![tactic(auto)]
 
 mod body_steps;
 mod contents;
+mod drafts;
 mod error;
 mod file;
 mod key_block;
 pub mod laws;
 mod limits;
+mod nodes;
 mod resource_bodies;
 mod serializer;
 mod sites;

@@ -1,8 +1,13 @@
-//! Writes a bundle: its faults in their order, and then the parts of the file, one after another.
+//! Writes a bundle, or a draft of one: its faults in their order, and then the parts of the file,
+//! one after another.
 //! Each part is made in a module or crate of its own.
-ghost use Rattle.std.specs.Prelude.{IfOk, IfErr};
+ghost use Rattle.std.specs.Prelude.{◌≡◌, true, IfOk, IfErr};
+ghost use Rattle.resb_tree.specs.Tree.{Tree};
 ghost use Rattle.resb_tree.specs.Bundle.{root_of};
+ghost use Rattle.resb_tree.specs.LayingOrder.{laying_order};
+ghost use Rattle.resb_draft.specs.Drafts.{draft_tree, is_ready};
 ghost use Rattle.resb_write.specs.FaultOf.{fault_of};
+ghost use Rattle.resb_write.specs.Inner.Nodes.{trees_by, all_ready};
 ghost use Rattle.resb_layout.specs.TreeFaults.{RefusesWriting};
 ghost use Rattle.resb_layout.specs.Written.{Written};
 
@@ -11,9 +16,11 @@ use crate::error::BinarySerializerError;
 use crate::file::{Pieces, assemble};
 use crate::key_block::{KEYS_START, KeyBlock, block_length};
 use crate::limits::check_sizes;
+use crate::nodes::{AsNode, InOrder};
 use crate::sites::Sites;
 use crate::strings::Strings;
 use crate::tree_bodies::lay_bodies;
+use resb_draft::{Draft, drafts_in_order};
 use resb_tree::{Key, ResourceBundle, in_laying_order};
 use std::alloc::Global;
 
@@ -42,20 +49,77 @@ impl Serializer {
     {
         write(alloc, bundle, keys_in_discovery_order)
     }
+
+    /// The `.res` file of a bundle whose root is given as a draft: what `to_bytes` gives, and what
+    /// it refuses, for the tree for which the draft stands. The keys of the draft's tables ascend
+    /// strictly, and no leaf of it is an array or a table.
+    pub fn draft_to_bytes(
+        alloc: Global,
+        root: &Draft<'_>,
+        is_locale_fallback_enabled: bool,
+        keys_in_discovery_order: &[Key<'_>],
+    ) -> Result<Vec<u8>, BinarySerializerError>
+        requires { is_ready root.now ≡ true }
+        ensures ok { IfOk result (λ v. Written v.items (draft_tree root.now)
+            is_locale_fallback_enabled keys_in_discovery_order.now) }
+        ensures err { IfErr result (λ e. RefusesWriting (draft_tree root.now)
+            keys_in_discovery_order.now (fault_of e)) }
+    {
+        write_draft(
+            alloc,
+            root,
+            is_locale_fallback_enabled,
+            keys_in_discovery_order,
+        )
+    }
 }
 
-/// The refusals in their order, and then the file.
-fn write<'a>(
+/// The file of a bundle, whose resources are put into laying order first.
+fn write(
     alloc: Global,
-    bundle: &'a ResourceBundle<'_>,
-    list: &'a [Key<'_>],
+    bundle: &ResourceBundle<'_>,
+    list: &[Key<'_>],
 ) -> Result<Vec<u8>, BinarySerializerError>
     ensures ok { IfOk result (λ v. Written v.items (root_of bundle.now)
         bundle.now.is_locale_fallback_enabled list.now) }
     ensures err { IfErr result (λ e. RefusesWriting (root_of bundle.now) list.now (fault_of e)) }
 {
     let order = in_laying_order(alloc, bundle.root())?;
-    let contents = Contents::gather(alloc, &order)?;
+    write_order(alloc, &order, bundle.is_locale_fallback_enabled, list)
+}
+
+/// The file of a draft, which is put into laying order first.
+fn write_draft(
+    alloc: Global,
+    root: &Draft<'_>,
+    is_locale_fallback_enabled: bool,
+    list: &[Key<'_>],
+) -> Result<Vec<u8>, BinarySerializerError>
+    requires { is_ready root.now ≡ true }
+    ensures ok { IfOk result (λ v. Written v.items (draft_tree root.now)
+        is_locale_fallback_enabled list.now) }
+    ensures err { IfErr result (λ e. RefusesWriting (draft_tree root.now) list.now (fault_of e)) }
+{
+    let order = drafts_in_order(alloc, root)?;
+    write_order(alloc, &order, is_locale_fallback_enabled, list)
+}
+
+/// The refusals in their order, and then the file of a tree, whose resources are given in laying
+/// order.
+fn write_order<R: AsNode>(
+    alloc: Global,
+    order: &InOrder<'_, R>,
+    is_locale_fallback_enabled: bool,
+    list: &[Key<'_>],
+) -> Result<Vec<u8>, BinarySerializerError>
+    requires ready { all_ready R.ready order.now.items ≡ true }
+    requires tree { (t : Tree) × (trees_by R.tree order.now.items ≡ laying_order t) }
+    ensures ok { IfOk result (λ v. (t : Tree) → trees_by R.tree order.now.items ≡ laying_order t
+        → Written v.items t is_locale_fallback_enabled list.now) }
+    ensures err { IfErr result (λ e. (t : Tree) → trees_by R.tree order.now.items ≡ laying_order t
+        → RefusesWriting t list.now (fault_of e)) }
+{
+    let contents = Contents::gather(alloc, order)?;
     let KeyBlock { keys, positions } = KeyBlock::new(alloc, &contents.keys, list)?;
     check_sizes(&contents, list)?;
     let Strings { pool, offsets } = Strings::plan(alloc, &contents.texts)?;
@@ -66,11 +130,11 @@ fn write<'a>(
         positions: &positions,
         offsets: &offsets,
     };
-    let (bodies, word) = lay_bodies(alloc, &sites, pool, keys_end, &order)?;
+    let (bodies, word) = lay_bodies(alloc, &sites, pool, keys_end, order)?;
     let pieces = Pieces {
         root: word,
         largest_table,
-        is_locale_fallback_enabled: bundle.is_locale_fallback_enabled,
+        is_locale_fallback_enabled,
         keys: &keys,
         bodies: &bodies,
     };

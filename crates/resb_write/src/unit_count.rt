@@ -4,16 +4,16 @@ ghost use Rattle.std.specs.Prelude.{ℕ, ◌≡◌, ◌+◌, ◌-◌, ◌<◌, �
 ghost use Rattle.std.specs.Prelude.{length, map, take, nat_le, true, false, IfOk};
 ghost use Rattle.std.specs.List.{sum_by, list_all};
 ghost use Rattle.resb_tree.specs.Tree.{Tree};
-ghost use Rattle.resb_tree.specs.View.{tree_of};
-ghost use Rattle.resb_tree.specs.LayingOrder.{laying_order, children, trees_in};
+ghost use Rattle.resb_tree.specs.LayingOrder.{laying_order, children};
 ghost use Rattle.resb_layout.specs.Laid.{Given, are_near};
 ghost use Rattle.resb_write.specs.Inner.Room.{most_units, GivesInTurn};
 ghost use Rattle.resb_write.specs.Inner.Counted.{is_near, own_units, short_units};
 ghost use Rattle.resb_write.specs.Inner.Counted.{are_set_behind, CountsOne};
+ghost use Rattle.resb_write.specs.Inner.Nodes.{trees_by, all_ready};
 
+use crate::nodes::{AsNode, InOrder, Node};
 use crate::resource_bodies::{UNIT_MAX, are_near_positions};
 use crate::sites::{Coming, Sites};
-use resb_tree::{LayingOrder, Resource};
 use std::alloc::{AllocError, Global};
 
 /// The units of a collection of so many members, each of which takes some.
@@ -106,48 +106,52 @@ fn count_other(marks: &mut Vec<bool>) -> Result<usize, AllocError>
 /// The units that a resource's own body takes. The marks of its members, the last of a stack, say
 /// of each whether it is a string at an offset that a unit can hold; its own mark takes their
 /// place. Where its keys or its string stand is what comes next.
-fn count_own(
+fn count_own<R: AsNode>(
     coming: &mut Coming<'_>,
     marks: &mut Vec<bool>,
-    resource: &Resource<'_>,
+    resource: &R,
 ) -> Result<usize, AllocError>
-    requires enough { length (children (tree_of resource.now)) ≤ length marks.old.items }
+    requires ready { R.ready resource.now ≡ true }
+    requires enough { length (children (R.tree resource.now))
+        ≤ length marks.old.items }
     requires numbered { (g : Given) × (rest : List Tree) × GivesInTurn g coming.old.positions.now
-        coming.old.offsets.now (tree_of resource.now ∷ rest) }
+        coming.old.offsets.now (R.tree resource.now ∷ rest) }
     ensures counts { IfOk result (λ n. (g : Given) (rest below : List Tree)
-        → GivesInTurn g coming.old.positions.now coming.old.offsets.now (tree_of resource.now
-        ∷ rest)
-        → marks.old.items ≡ map (is_near g) (below ++ children (tree_of resource.now))
-        → CountsOne g (tree_of resource.now) rest below n coming.new marks.new.items) }
+        → GivesInTurn g coming.old.positions.now coming.old.offsets.now
+        (R.tree resource.now ∷ rest)
+        → marks.old.items ≡ map (is_near g) (below ++ children (R.tree resource.now))
+        → CountsOne g (R.tree resource.now) rest below n coming.new marks.new.items) }
 {
-    match resource {
-        Resource::String(_) => count_string(coming, marks),
-        Resource::Array(items) => count_array(marks, items.len()),
-        Resource::Table(table) => count_table(marks, coming.take_positions(table.len())),
-        Resource::Binary(_) => count_other(marks),
-        Resource::Integer(_) => count_other(marks),
-        Resource::IntVector(_) => count_other(marks),
+    match resource.as_node() {
+        Node::String(_) => count_string(coming, marks),
+        Node::Array(count) => count_array(marks, count),
+        Node::Table(count) => count_table(marks, coming.take_positions(count)),
+        Node::Binary(_) => count_other(marks),
+        Node::Integer(_) => count_other(marks),
+        Node::IntVector(_) => count_other(marks),
     }
 }
 
 /// The number of units of the 16-bit block: those of the pool of the strings, and what the bodies
 /// of a tree add, whose resources are given in laying order. It is the same wherever the tail
 /// begins.
-pub(crate) fn count_units(
+pub(crate) fn count_units<R: AsNode>(
     alloc: Global,
     sites: &Sites<'_>,
     pool: usize,
-    order: &LayingOrder<'_, '_>,
+    order: &InOrder<'_, R>,
 ) -> Result<usize, AllocError>
-    requires tree { (t : Tree) × (trees_in order.now.items ≡ laying_order t) }
-    requires room { pool + sum_by most_units (trees_in order.now.items) < 2 ^ 28 }
-    requires numbered { (g : Given)
-        × GivesInTurn g sites.now.positions.now sites.now.offsets.now (trees_in order.now.items) }
+    requires ready { all_ready R.ready order.now.items ≡ true }
+    requires tree { (t : Tree) × (trees_by R.tree order.now.items ≡ laying_order t) }
+    requires room { pool + sum_by most_units (trees_by R.tree order.now.items) < 2 ^ 28 }
+    requires numbered { (g : Given) × GivesInTurn g sites.now.positions.now
+        sites.now.offsets.now (trees_by R.tree order.now.items) }
     ensures counts { IfOk result (λ count. (g : Given)
-        → GivesInTurn g sites.now.positions.now sites.now.offsets.now (trees_in order.now.items)
-        → count ≡ pool + sum_by (own_units g) (trees_in order.now.items)) }
+        → GivesInTurn g sites.now.positions.now sites.now.offsets.now
+        (trees_by R.tree order.now.items)
+        → count ≡ pool + sum_by (own_units g) (trees_by R.tree order.now.items)) }
     ensures few { IfOk result (λ count. count
-        ≤ pool + sum_by most_units (trees_in order.now.items)) }
+        ≤ pool + sum_by most_units (trees_by R.tree order.now.items)) }
 {
     let mut coming = sites.coming();
     let mut marks = Vec::new(alloc);

@@ -8,7 +8,7 @@ use Rattle.std.specs.String.{string_bytes}
 use Rattle.resb.specs.Views.{number_words, pair_words}
 use Rattle.resb.specs.declared.binary.helpers.I32View.{I32View}
 use Rattle.resb_zoneinfo.specs.LongMoments.{words_or_none}
-use Rattle.resb_zoneinfo.specs.Transitions.{HasCount}
+use Rattle.resb_zoneinfo.specs.Transitions.{HasTransitions}
 use Rattle.resb_zoneinfo.specs.Rules.{SaysRule, IsRuleFault}
 use Rattle.resb_zoneinfo.specs.declared.data.ZoneData.{ZoneData}
 use Rattle.resb_zoneinfo.specs.declared.zone.Zone.{Zone}
@@ -90,7 +90,7 @@ HasTypeBeyond d =
 
 -- there are not as many transitions as types, there is no offset, or a type is beyond the offsets
 abbrev pub IsTypeFault : ZoneData → ZoneError → Type 0
-IsTypeFault d error.Count = HasCount d.transitions (length (types_of d)) → ⊥
+IsTypeFault d error.Count = HasTransitions d.transitions (length (types_of d)) → ⊥
 IsTypeFault d error.NoOffset = length (pair_words d.offsets) / 2 ≡ 0
 IsTypeFault d error.Type = HasTypeBeyond d
 IsTypeFault d _ = ⊥

@@ -23,7 +23,7 @@ abbrev pub transition_count : Transitions → ℕ
 transition_count t = length (early t) / 2 + length (middle t) + length (late t) / 2
 
 -- there are so many moments, and no word is left over
-pub record HasCount (t : Transitions) (count : ℕ) : Type 0 where
+pub record HasTransitions (t : Transitions) (count : ℕ) : Type 0 where
   pub early_even : length (early t) % 2 ≡ 0
   pub late_even : length (late t) % 2 ≡ 0
   pub are : transition_count t ≡ count

@@ -20,11 +20,11 @@ pub struct Transitions<'de> {
 
 impl<'de> Transitions<'de> {
     ghost use Rattle.std.specs.Prelude.{◌≡◌, ◌<◌, length, IsTrue, ◌↔◌};
-    ghost use Rattle.resb_zoneinfo.specs.Transitions.{HasCount, transition_count, transition};
+    ghost use Rattle.resb_zoneinfo.specs.Transitions.{HasTransitions, transition_count, transition};
 
     /// Whether there are so many, and no word is left over.
     pub fn are(&self, count: usize) -> bool
-        ensures { IsTrue result ↔ HasCount self.now count }
+        ensures { IsTrue result ↔ HasTransitions self.now count }
     {
         let early = words_len(self.before32);
         let late = words_len(self.after32);

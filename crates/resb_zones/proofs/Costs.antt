@@ -1,7 +1,6 @@
 -- What an entry's key and value cost: the key nothing, and the value one.
-use Rattle.std.proofs.Common.{ℕ, ℤ, List, [], ◌∷◌, ◌≡◌, ◌≤◌, ◌==◌, Bool, true, false, if◌then◌else◌}
-use Rattle.std.proofs.Common.{Option, Some, None, map, refl, sym, ap, subst, ◌∙◌, arith}
-use Rattle.std.specs.Option.{option_map}
+use Rattle.std.proofs.Common.{ℕ, ℤ, List, [], ◌∷◌, ◌≡◌, ◌≤◌, ◌==◌}
+use Rattle.std.proofs.Common.{Some, map, refl, sym, ap, subst, ◌∙◌, arith}
 use Rattle.std.specs.List.{All}
 use Rattle.std.proofs.lemmas.List.Elements.{All-cons, All-nil}
 use Rattle.std.proofs.lemmas.Option.{same_Some}
@@ -20,11 +19,7 @@ use Rattle.resb.specs.declared.binary.Spot.{Spot}
 use Rattle.resb.specs.declared.binary.Spot.TheVariants as spot
 use Rattle.resb_zones.specs.Zones.{base_name, pairs_name, CountsNumber, IsReadable}
 use Rattle.resb_zones.specs.Inner.Fields.{CostsAsEntry}
-
-some_of : {A B : Type 0} (f : A → B) (o : Option A) (y : B) → option_map f o ≡ Some y
-    → (x : A) × (o ≡ Some x) × (y ≡ f x)
-some_of f (Some x) y e = (x, refl, cc)
-some_of f None y e = cc
+use Rattle.resb_zones.proofs.Lists.{some_of, counted_as, chosen_count}
 
 -- the place of a key and that of a resource
 entry_is : (p : Parts) (es : List (ℕ × Member)) → All CostsAsEntry (map (at_entry p) es)
@@ -50,16 +45,6 @@ pub entries_are : (p : Place) (places : List (Place × Place)) → entries_at p 
     → All CostsAsEntry places
 entries_are p places e = entries_at_spot p.parts p.at places e
 
--- what stands there has the count that it is given
-counted_as : {A B : Type 0} (f : A → B) (k : ℕ) (o : Option A) (q : B × ℕ)
-    → option_map {U = B × ℕ} (λ x. (f x, k)) o ≡ Some q → q.1 ≡ k
-counted_as f k (Some x) q e = sym (ap (λ r. r.1) (same_Some _ _ e))
-counted_as f k None q e = cc
-
-chosen : {A : Type 0} (b : Bool) (p q : A × ℕ) → (if b then Some p else None) ≡ Some q → q.1 ≡ p.1
-chosen true p q e = sym (ap (λ r. r.1) (same_Some _ _ e))
-chosen false p q e = cc
-
 key_at_spot : (p : Parts) (s : Spot) (q : List ℕ × ℕ) → key_from p s ≡ Some q → q.1 ≡ 0
 key_at_spot p (spot.Key k) q e = counted_as (λ s. s) 0 (key_at p.keys k) q e
 key_at_spot p (spot.Descriptor w) q e = cc
@@ -71,7 +56,8 @@ pub key_is_free : (p : Place) (n : ℕ) → CountsKey p n → n ≡ 0
 key_is_free p n (x, h) = key_at_spot p.parts p.at (x, n) h.1
 
 number_at_spot : (s : Spot) (q : ℤ × ℕ) → cost_at s ≡ 1 → signed_at s ≡ Some q → q.1 ≡ 1
-number_at_spot (spot.Descriptor w) q c e = chosen (type_in w == 7) (signed (value_in w), 1) q e
+number_at_spot (spot.Descriptor w) q c e =
+    chosen_count (type_in w == 7) (signed (value_in w), 1) q e
 number_at_spot (spot.Unit u) q c e = cc
 number_at_spot (spot.Word w) q c e = absurd (omega arith)
 number_at_spot (spot.Key k) q c e = cc

@@ -4,23 +4,12 @@ use Rattle.std.proofs.Common.{ℕ, List, [], ◌∷◌, ◌++◌, ◌≡◌, ◌
 use Rattle.std.proofs.Common.{None, length, length-append, refl, sym, ap, subst, ◌∙◌, append_assoc}
 use Rattle.std.proofs.Common.{arith}
 use Rattle.std.specs.List.{All}
-use Rattle.std.proofs.lemmas.List.{get_or-append-add}
-use Rattle.std.proofs.lemmas.List.Elements.{All-append, All-cons, All-nil}
+use Rattle.std.proofs.lemmas.List.Elements.{All-append, All-nil}
 use Rattle.resb.specs.Places.{Place}
 use Rattle.resb_zones.specs.Zones.{IsNamed, IsReadable, IsLastNamed}
 use Rattle.resb_zones.specs.Inner.Fields.{TakesNamed, LastSoFar, HasTaken, FieldsFront}
 use Rattle.resb_zones.specs.declared.fields.Fields.{Fields}
-
-one : {A : Type 0} (P : A → Type 0) (x : A) → P x → All P (x ∷ [])
-one P x h = All-cons P x [] h (All-nil P)
-
--- what holds of each element holds of one behind a front
-pub at_front : {A : Type 0} (P : A → Type 0) (done : List A) (e : A) (rest : List A)
-    → All P (done ++ e ∷ rest) → P e
-at_front P done e rest h =
-    let long : length (done ++ e ∷ rest) ≡ length done + length (e ∷ rest) =
-    length-append done (e ∷ rest) in
-    subst P (get_or-append-add done (e ∷ rest) 0 e) (h (length done + 0) e (omega arith))
+use Rattle.resb_zones.proofs.Lists.{All-one, at_front}
 
 module _ (name : List ℕ) where
   -- where no entry has the name there is no last one
@@ -39,7 +28,7 @@ module _ (name : List ℕ) where
         → LastSoFar name reads (ps ++ e ∷ []) old
     not_named None none other =
         All-append (λ e. IsNamed name e
-        → ⊥) ps (e ∷ []) none (one (λ e. IsNamed name e → ⊥) e other)
+        → ⊥) ps (e ∷ []) none (All-one (λ e. IsNamed name e → ⊥) e other)
     not_named (Some x) (q, l, k, r) other = (
       q,
       record {
@@ -50,7 +39,7 @@ module _ (name : List ℕ) where
         named = l.named;
         last =
             All-append (λ e. IsNamed name e
-            → ⊥) l.after (e ∷ []) l.last (one (λ e. IsNamed name e → ⊥) e other);
+            → ⊥) l.after (e ∷ []) l.last (All-one (λ e. IsNamed name e → ⊥) e other);
       },
       k,
       r,
@@ -86,7 +75,7 @@ module _ (all : List (Place × Place)) (e : Place × Place) (rest : List (Place 
       → FieldsFront all rest g before left'
   front_takes g left' t sum =
       let paid : left + length front.done ≡ before = front.paid in
-      let here_too : All IsReadable (e ∷ []) = one IsReadable e t.readable in
+      let here_too : All IsReadable (e ∷ []) = All-one IsReadable e t.readable in
       let long : length (front.done ++ e ∷ []) ≡ length front.done + 1 =
       length-append front.done (e ∷ []) in
       record {

@@ -4,3 +4,4 @@ mod Steps
 mod Fronts
 mod Takings
 mod ZonesLemmas
+mod Lists

@@ -1,9 +1,7 @@
 -- One entry taken: a `base`, a `pairs`, or another one.
-use Rattle.std.proofs.Common.{ℕ, ℤ, List, ◌≡◌, true, false, inl, inr, Some, Result, Ok, Err, get_or}
+use Rattle.std.proofs.Common.{ℕ, ℤ, List, ◌≡◌, inl, inr, Some, Result, Ok, Err, get_or}
 use Rattle.std.proofs.Common.{sym, ap, subst, ◌∙◌, arith}
 use Rattle.std.specs.Result.{OnErr}
-use Rattle.std.specs.Str.{bytes_eq}
-use Rattle.std.proofs.lemmas.Slice.Eq.{bytes_eq-Decides}
 use Rattle.resb.specs.Places.{Place}
 use Rattle.resb.specs.Leaves.{ReadsKey}
 use Rattle.resb.specs.Views.{pair_bytes}
@@ -16,10 +14,6 @@ use Rattle.resb_zones.proofs.Costs.{one_name}
 pub on_err : {X E : Type 0} (r : Result X E) (P : Type 0) → P → OnErr r P
 on_err (Ok x) P h = tt
 on_err (Err e) P h = h
-
--- what a test says that finds two texts different
-pub other_text : (xs ys : List ℕ) → false ≡ bytes_eq xs ys → xs ≡ ys → ⊥
-other_text xs ys h e = let t : bytes_eq xs ys ≡ true = (bytes_eq-Decides xs ys).1 e in cc
 
 names_differ : base_name ≡ pairs_name → ⊥
 names_differ e =

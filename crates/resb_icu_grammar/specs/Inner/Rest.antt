@@ -1,10 +1,9 @@
 -- What the rest of a text has to be at a place of a reading, by what is open there: the words in
 -- which each step of a reader says that it loses and adds no meaning.
---     Meaning                 the tree of the root, and the keys in order of place, with
--- repetitions
---     After text ws           where a group has ended, inside these groups
+--     Meaning         the tree of the root, and the keys in order of place, with repetitions
+--     After text ws   where a group has ended, inside these groups
 --     InMembers, InEntries, InGroup, InUntyped, InTyped
---                             where members, entries, a group or what stands inside one follow
+--                     where members, entries, a group or what stands inside one follow
 use Rattle.std.specs.Prelude.{◌≡◌, ◌+◌, ◌&&◌, ℕ, false, List, [], ◌∷◌, ◌++◌, length}
 use Rattle.std.specs.Prelude.{slice_index}
 use Rattle.resb_grammar.specs.Ascii as ascii

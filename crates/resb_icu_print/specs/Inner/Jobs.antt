@@ -59,8 +59,8 @@ DoesTree old new before after p n t =
     Does old new before after (tree_on p n t) (cause_else t) (IsHeld t) (2 * tree_count t)
 
 -- want of memory, or the first cause
-abbrev pub Refuses : IcuPrintError → (Option IcuCause → Option IcuCause) → Type 0
-Refuses e causes =
+abbrev pub HasFirstCause : IcuPrintError → (Option IcuCause → Option IcuCause) → Type 0
+HasFirstCause e causes =
     (e ≡ OutOfMemory)
     ⊎ ((x : IcuCause) × (e ≡ NotPrintable x) × ((later : Option IcuCause) → causes later ≡ Some x))
 

@@ -5,10 +5,10 @@ use Rattle.resb_grammar.specs.Lexical as plain
 use Rattle.resb_icu_grammar.specs.Words.{Digits}
 
 -- digits with or without a sign, in their range
-pub data Signed (text : List ℕ) (from to : ℕ) : ℕ → Type 0 where
+pub data DigitsInRange (text : List ℕ) (from to : ℕ) : ℕ → Type 0 where
   unsigned : (value : ℕ) → Digits text from to value → value ≤ 4294967295
-      → Signed text from to value
+      → DigitsInRange text from to value
   plus : (value : ℕ) → slice_index text from ≡ ascii.plus → Digits text (from + 1) to value
-      → value ≤ 2147483647 → Signed text from to value
+      → value ≤ 2147483647 → DigitsInRange text from to value
   minus : (n : ℕ) → slice_index text from ≡ ascii.dash → Digits text (from + 1) to n
-      → n ≤ 2147483648 → Signed text from to (plain.negated n)
+      → n ≤ 2147483648 → DigitsInRange text from to (plain.negated n)

@@ -5,8 +5,8 @@ use Rattle.std.specs.Prelude.{map}
 use Rattle.resb_grammar.specs.Ascii as ascii
 use Rattle.resb_tree.specs.View.{tree_of}
 use Rattle.resb_icu_grammar.specs.Blanks.{Skip}
-use Rattle.resb_icu_grammar.specs.Machine.{Reading, reading, behind_group}
-use Rattle.resb_icu_grammar.specs.Stuck.{HeadStuck, StuckFrom, at_root}
+use Rattle.resb_icu_grammar.specs.Machine.{Reading, reading_at, at_root, behind_group}
+use Rattle.resb_icu_grammar.specs.Stuck.{HeadStuck, StuckFrom}
 use Rattle.resb_icu_grammar.specs.declared.expected.IcuExpected.TheVariants as expect
 use Rattle.resb_icu_grammar.specs.Words.{Name, RootType}
 use Rattle.resb_icu_grammar.specs.Inner.Rest.{Meaning, AtEnd, InEntries}
@@ -36,7 +36,7 @@ keys g = map (λ k. k.now) g.keys.items
 -- where a reading goes on, or behind its root
 abbrev pub coming : OpenGroups → Next → Reading
 coming g (next.Step s) = now (groups g) (keys g) s
-coming g (next.Root r at) = reading [] (keys g) (behind_group (tree_of r)) at
+coming g (next.Root r at) = reading_at [] (keys g) (behind_group (tree_of r)) at
 
 -- a reading stands in the text and further than it was, or behind its root
 abbrev pub Advances : List ℕ → Step → Next → Type 0

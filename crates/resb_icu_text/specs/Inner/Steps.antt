@@ -5,7 +5,7 @@ use Rattle.resb_tree.specs.View.{tree_of, pairs_view}
 use Rattle.resb_icu_grammar.specs.Blanks.{Skip}
 use Rattle.resb_icu_grammar.specs.Groups as spec
 use Rattle.resb_icu_grammar.specs.Words.{KeyText}
-use Rattle.resb_icu_grammar.specs.Machine.{Waiting, in_array, in_table, Reading, reading, Comes}
+use Rattle.resb_icu_grammar.specs.Machine.{Waiting, in_array, in_table, Reading, reading_at, Comes}
 use Rattle.resb_icu_grammar.specs.Machine.{among_members, among_entries, before_group, in_untyped}
 use Rattle.resb_icu_grammar.specs.Machine.{in_typed, behind_group}
 use Rattle.resb_icu_grammar.specs.Stuck.{StuckFrom}
@@ -40,11 +40,11 @@ with_key ks (waiting.Table entries key) = ks ++ key.now ∷ []
 -- where a reading stands, inside these groups and with these keys before it
 abbrev pub now : List Waiting → List (List ℕ) → Step → Reading
 now ws ks (step.Members members last at) =
-    reading ws ks (among_members (last_of last) (map tree_of members.items)) at
+    reading_at ws ks (among_members (last_of last) (map tree_of members.items)) at
 now ws ks (step.Entries entries at) =
-    reading ws ks (among_entries (pairs_view entries.items)) at
-now ws ks (step.Group w at) = reading (shown w ∷ ws) (with_key ks w) before_group at
-now ws ks (step.Ended resource at) = reading ws ks (behind_group (tree_of resource)) at
+    reading_at ws ks (among_entries (pairs_view entries.items)) at
+now ws ks (step.Group w at) = reading_at (shown w ∷ ws) (with_key ks w) before_group at
+now ws ks (step.Ended resource at) = reading_at ws ks (behind_group (tree_of resource)) at
 
 -- a place of a reading, inside some groups and with some keys before it
 abbrev pub There : Type 0
@@ -65,28 +65,28 @@ Stops text there e =
 -- among members
 abbrev pub MembersThere : List Resource → Last → ℕ → There
 MembersThere members last at ws ks =
-    reading ws ks (among_members (last_of last) (map tree_of members)) at
+    reading_at ws ks (among_members (last_of last) (map tree_of members)) at
 
 -- among entries
 abbrev pub EntriesThere : List (List ℕ × Resource) → ℕ → There
-EntriesThere entries at ws ks = reading ws ks (among_entries (pairs_view entries)) at
+EntriesThere entries at ws ks = reading_at ws ks (among_entries (pairs_view entries)) at
 
 -- before a group
 abbrev pub GroupThere : ℕ → There
-GroupThere at ws ks = reading ws ks before_group at
+GroupThere at ws ks = reading_at ws ks before_group at
 
 -- behind the `{` of a group without a type
 abbrev pub UntypedThere : ℕ → There
-UntypedThere at ws ks = reading ws ks in_untyped at
+UntypedThere at ws ks = reading_at ws ks in_untyped at
 
 -- behind the `{` of a group of this type
 abbrev pub TypedThere : Kind → ℕ → There
-TypedThere kind at ws ks = reading ws ks (in_typed kind) at
+TypedThere kind at ws ks = reading_at ws ks (in_typed kind) at
 
 -- behind a group with this resource, inside what was open around it and more
 abbrev pub EndedThere : Open → Resource → ℕ → There
 EndedThere w resource at ws ks =
-    reading (shown w ∷ ws) ks (behind_group (tree_of resource)) at
+    reading_at (shown w ∷ ws) ks (behind_group (tree_of resource)) at
 
 -- how far a reading is: three for each byte before its place, and up to two for what follows there
 abbrev pub progress : Step → ℕ

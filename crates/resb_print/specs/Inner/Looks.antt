@@ -4,7 +4,8 @@ use Rattle.std.specs.Prelude.{◌≡◌, ℕ, ◌+◌, ◌*◌, ◌<◌, ◌≤�
 use Rattle.std.specs.Prelude.{map, drop, Option, Some, None}
 use Rattle.resb_tree.specs.Tree.{Tree, Trees, tree_count, trees_count}
 use Rattle.resb_tree.specs.View.{tree_of, items_view}
-use Rattle.resb_print.specs.Paths.{Step, by_key, path_if, path_else, member_path_else}
+use Rattle.resb_print.specs.Paths.{Step, CauseTests, by_key, path_if, path_else}
+use Rattle.resb_print.specs.Paths.{member_path_else}
 use Rattle.resb_print.specs.declared.path.Visit.{Visit}
 use Rattle.resb_print.specs.declared.path.Visit.TheVariants as visit
 
@@ -36,17 +37,18 @@ without_last (p ∷ q ∷ ps) = p ∷ without_last (q ∷ ps)
 abbrev pub Finding : Type 0
 Finding = List Step → Option (List Step)
 
-abbrev pub look_path : ToLookAt → Finding → Finding
-look_path (entry_look k t) later path =
-    path_if k (path ++ by_key k ∷ []) (path_else (path ++ by_key k ∷ []) t (later path))
-look_path (member_look n ts) later path = member_path_else path n ts (later path)
-look_path leave_look later path = later (without_last path)
+abbrev pub look_path : CauseTests → ToLookAt → Finding → Finding
+look_path c (entry_look k t) later path =
+    path_if (c.of_entry k t) (path ++ by_key k ∷ [])
+    (path_else c (path ++ by_key k ∷ []) t (later path))
+look_path c (member_look n ts) later path = member_path_else c path n ts (later path)
+look_path c leave_look later path = later (without_last path)
 
 abbrev pub nowhere : Finding
 nowhere path = None
 
-abbrev pub looks_path : List ToLookAt → Finding
-looks_path ls = fold_looks look_path ls nowhere
+abbrev pub looks_path : CauseTests → List ToLookAt → Finding
+looks_path c ls = fold_looks (look_path c) ls nowhere
 
 -- a bound on the turns that are left
 abbrev pub look_turns : ToLookAt → ℕ
@@ -61,19 +63,20 @@ abbrev pub looks_turns : List ToLookAt → ℕ
 looks_turns ls = fold_looks add_look ls 0
 
 -- a tree at a path is the cause, or what is inside it is to be looked at
-pub record EntersTree (before after : List ToLookAt) (t : Tree) (found : Bool) : Type 0 where
+pub record EntersTree (c : CauseTests) (before after : List ToLookAt) (t : Tree) (found : Bool)
+    : Type 0 where
   pub met : found ≡ true → (path : List Step) (later : Option (List Step))
-      → path_else path t later ≡ Some path
+      → path_else c path t later ≡ Some path
   pub passed : found ≡ false → (path : List Step)
-      → looks_path after path ≡ path_else path t (looks_path before path)
+      → looks_path c after path ≡ path_else c path t (looks_path c before path)
   pub fewer : looks_turns after + 2 ≤ looks_turns before + 3 * tree_count t
 
 -- a look finds the cause, whose path stands then, or leaves what is still to be looked at
-pub record LooksOnce (before after : List ToLookAt) (path next : List Step) (l : ToLookAt)
-    (found : Bool)
+pub record LooksOnce (c : CauseTests) (before after : List ToLookAt) (path next : List Step)
+    (l : ToLookAt) (found : Bool)
     : Type 0 where
-  pub met : found ≡ true → (later : Finding) → look_path l later path ≡ Some next
-  pub passed : found ≡ false → looks_path after next ≡ look_path l (looks_path before) path
+  pub met : found ≡ true → (later : Finding) → look_path c l later path ≡ Some next
+  pub passed : found ≡ false → looks_path c after next ≡ look_path c l (looks_path c before) path
   pub fewer : found ≡ false → looks_turns after < looks_turns before + look_turns l
 
 -- the looks at the entries of a table

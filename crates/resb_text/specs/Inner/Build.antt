@@ -4,8 +4,8 @@ use Rattle.resb_tree.specs.Tree.{Tree}
 
 module _ {B X : Type 0} (tree : B → X → Tree) (held : B → X → Bool) where
   -- it is held, and stands for the tree
-  abbrev pub Stands : B → X → Tree → Type 0
-  Stands b x t = (tree b x ≡ t) × (held b x ≡ true)
+  abbrev pub Represents : B → X → Tree → Type 0
+  Represents b x t = (tree b x ≡ t) × (held b x ≡ true)
 
   -- what was held is held still, and stands for the same tree
   abbrev pub Grows : B → B → Type 0

@@ -1,11 +1,11 @@
 -- What the code's items show of the grammar's: strings, trees and commas, without keys.
-use Rattle.std.specs.Prelude.{ℕ, Bool, true, List, [], ◌∷◌, ◌++◌, map, Option, Some, None}
+use Rattle.std.specs.Prelude.{ℕ, Bool, true, not, List, [], ◌∷◌, ◌++◌, Option, Some, None}
 use Rattle.std.specs.Borrow.{Bor}
 use Rattle.std.specs.Option.{option_map}
 use Rattle.resb_tree.specs.Tree.{Tree, string}
 use Rattle.resb_tree.specs.View.{tree_of}
 use Rattle.resb_tree.specs.declared.resource.Resource.{Resource}
-use Rattle.resb_tree.specs.Borrowing.{all_true}
+use Rattle.resb_tree.specs.Borrowing.{each_entry, is_slice, are_slice}
 use Rattle.resb_text.specs.Borrowed.{borrows_strings}
 use Rattle.resb_grammar.specs.Items as spec
 use Rattle.resb_text.specs.declared.items.Item.{Item}
@@ -57,12 +57,9 @@ abbrev pub term_borrowed : Term Resource → Bool
 term_borrowed (variant.String s) = true
 term_borrowed (variant.Group r) = borrows_strings r
 
-abbrev pub each_borrowed : List (List ℕ × Resource) → List (List ℕ × Bool)
-each_borrowed es = map (λ e. (e.0, borrows_strings e.1)) es
-
 -- whether the strings of a table's entries are borrowed
 abbrev pub entries_borrowed : List (List ℕ × Resource) → Bool
-entries_borrowed es = all_true (map (λ e. e.1) (each_borrowed es))
+entries_borrowed = each_entry is_slice (λ b. not (are_slice b))
 
 abbrev pub shown_tree : SeenItem → Tree
 shown_tree (string_shown s f) = string s

@@ -5,9 +5,10 @@ use Rattle.std.proofs.lemmas.Result.{err_from_is_err_and}
 use Rattle.resb_head.specs.File.{body_of, header_size}
 use Rattle.resb_head.specs.Head.{IndexAt}
 use Rattle.resb_head.specs.HeadChecks.{index_fault}
-use Rattle.resb_head.proofs.FileSteps.{size_is, drop_min}
+use Rattle.resb_head.proofs.FileSteps.{size_is}
 use Rattle.resb_bundler.specs.Summary.{has_bit}
 use Rattle.resb_bundler.proofs.summary.summary_of.Goals as goal
+use Rattle.resb_head.proofs.Lists.{drop_min}
 
 -- what stands behind a header of this size is the body
 body_is : (bytes body : List ℕ) (cut number size : ℕ)

@@ -2,9 +2,9 @@
 use Rattle.std.proofs.Common.{ℕ, List, ◌≡◌, ◌∙◌, ap, subst, Option, Some, None, inl, inr, Result}
 use Rattle.std.proofs.Common.{Ok, Err, take, replicate}
 use Rattle.std.specs.Option.{IfSome}
-use Rattle.resb_format.proofs.StringsIn.{take_within}
 use Rattle.resb_c.specs.Calls.{IsMessage, Fills}
 use Rattle.resb_c.proofs.report.write_message.Goals as goal
+use Rattle.resb_format.proofs.Lists.{take_within}
 
 -- a text that is filled in is the message of a fault that prints it
 is_message : (printed : Option (List ℕ)) (text out : List ℕ) (r : Result ℕ ℕ)

@@ -8,7 +8,7 @@ use Rattle.resb_tree.specs.declared.resource.Resource.{the_lemmas}
 use Rattle.resb_icu_print.specs.declared.cause.IcuCause.TheVariants.{NameIsNoWord}
 use Rattle.resb_icu_print.specs.declared.error.IcuPrintError.TheVariants.{NotPrintable}
 use Rattle.resb_icu_print.specs.Printed.{is_bare}
-use Rattle.resb_icu_print.specs.Causes.{first_cause, Refused}
+use Rattle.resb_icu_print.specs.Causes.{first_cause, SaysIcuCause}
 use Rattle.resb_icu_print.proofs.Bundles.{written, whole, no_text, root_refused, name_refused}
 use Rattle.resb_icu_print.proofs.Sizes.{printed_within}
 use Rattle.resb_icu_print.proofs.print.print_icu_text.Goals as goal
@@ -23,7 +23,7 @@ returns-then-not-is_bare-clause-none c =
     ap is_bare (sym c.name-name.ensures) ∙ sym c.is_bare.ensures ∙ c.if-not-is_bare.true in
     no_text own c.args.bundle.now.is_locale_fallback_enabled (root_of c.args.bundle.now)
     (NotPrintable NameIsNoWord)
-    (subst (λ (t : Tree). Refused (NotPrintable NameIsNoWord) (first_cause own t)) (sym r)
+    (subst (λ (t : Tree). SaysIcuCause (NotPrintable NameIsNoWord) (first_cause own t)) (sym r)
     (name_refused own es q))
 
 pub returns-in_err-push_lines-clause-none : goal.returns-in_err-push_lines-clause-none
@@ -39,7 +39,7 @@ returns-in_err-push_lines-clause-none c =
     c.from_residual-in_err-push_lines.ensures.1 in
     rw (p.1, p.2)
     (no_text own c.args.bundle.now.is_locale_fallback_enabled (root_of c.args.bundle.now) x
-    (subst (λ (t : Tree). Refused x (first_cause own t)) (sym r)
+    (subst (λ (t : Tree). SaysIcuCause x (first_cause own t)) (sym r)
     (root_refused own es x q c.in_err-push_lines.ensures.err)))
 
 pub returns-clause-text : goal.returns-clause-text

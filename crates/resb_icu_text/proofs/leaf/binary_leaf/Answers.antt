@@ -22,7 +22,7 @@ returns-in_default-2-clause-err c =
     let found = rw c.in-Some.is at c.in_ok-lexeme.ensures.found in
     let none = rw c.in_default-2.is at c.in_ok-bytes.ensures.none in
     leaf_refuses _ _ _ _ _ _ c.new.ensures (odd_digits _ _ found.string
-    (sym (ap hex_bytes (c.deref.ensures.value ∙ c.text_of-digits.ensures)) ∙ none))
+    (sym (ap hex_bytes (c.deref.ensures.value ∙ c.text_of-digits.ensures.bytes)) ∙ none))
 
 pub returns-in_err-to-clause-err : goal.returns-in_err-to-clause-err
 returns-in_err-to-clause-err c =
@@ -32,7 +32,7 @@ returns-in_err-to-clause-err c =
     let bytes = rw c.in-Some-2.is at c.in_ok-bytes.ensures.found in
     let e = c.in_err-to.ensures.err in
     rw (p.1, p.2) (leaf_refuses _ _ _ _ _ _ e.1 (open_binary _ _ _ found.string
-    (some_digits _ _ (sym (ap hex_bytes (c.deref.ensures.value ∙ c.text_of-digits.ensures))
+    (some_digits _ _ (sym (ap hex_bytes (c.deref.ensures.value ∙ c.text_of-digits.ensures.bytes))
     ∙ bytes)) found.blanks e.0))
 
 pub returns-clause-ok : goal.returns-clause-ok
@@ -42,7 +42,7 @@ returns-clause-ok c =
     subst (λ (t : Tree). Leaf c.args.text.now c.args.at binary_kind c.in_ok-to.to t)
     (sym (tree_of_binary _))
     (binary_stands _ _ _ _ _ _ found.string
-    (sym (ap hex_bytes (c.deref.ensures.value ∙ c.text_of-digits.ensures)) ∙ bytes)
+    (sym (ap hex_bytes (c.deref.ensures.value ∙ c.text_of-digits.ensures.bytes)) ∙ bytes)
     (closing_at _ _ _ _ found.blanks c.in_ok-to.ensures.ok))
 
 pub returns-clause-within : goal.returns-clause-within
@@ -56,7 +56,7 @@ returns-in_err-bytes-clause-most c =
     let cost = rw c.in-Some.is at c.in_ok-lexeme.ensures.cost in
     let found = rw c.in-Some.is at c.in_ok-lexeme.ensures.found in
     let short = string_short _ _ _ _ found.string in
-    let same = ap length (c.deref.ensures.value ∙ c.text_of-digits.ensures) in
+    let same = ap length (c.deref.ensures.value ∙ c.text_of-digits.ensures.bytes) in
     omega (
       arith,
       cost,
@@ -74,7 +74,7 @@ returns-in_default-2-clause-most c =
     let cost = rw c.in-Some.is at c.in_ok-lexeme.ensures.cost in
     let found = rw c.in-Some.is at c.in_ok-lexeme.ensures.found in
     let short = string_short _ _ _ _ found.string in
-    let same = ap length (c.deref.ensures.value ∙ c.text_of-digits.ensures) in
+    let same = ap length (c.deref.ensures.value ∙ c.text_of-digits.ensures.bytes) in
     omega (
       arith,
       cost,
@@ -92,7 +92,7 @@ returns-in_err-to-clause-most c =
     let cost = rw c.in-Some.is at c.in_ok-lexeme.ensures.cost in
     let found = rw c.in-Some.is at c.in_ok-lexeme.ensures.found in
     let short = string_short _ _ _ _ found.string in
-    let same = ap length (c.deref.ensures.value ∙ c.text_of-digits.ensures) in
+    let same = ap length (c.deref.ensures.value ∙ c.text_of-digits.ensures.bytes) in
     omega (
       arith,
       cost,
@@ -110,7 +110,7 @@ returns-clause-cost c =
     let cost = rw c.in-Some.is at c.in_ok-lexeme.ensures.cost in
     let found = rw c.in-Some.is at c.in_ok-lexeme.ensures.found in
     let short = string_short _ _ _ _ found.string in
-    let same = ap length (c.deref.ensures.value ∙ c.text_of-digits.ensures) in
+    let same = ap length (c.deref.ensures.value ∙ c.text_of-digits.ensures.bytes) in
     omega (
       arith,
       cost,
@@ -129,7 +129,7 @@ returns-clause-most c =
     let cost = rw c.in-Some.is at c.in_ok-lexeme.ensures.cost in
     let found = rw c.in-Some.is at c.in_ok-lexeme.ensures.found in
     let short = string_short _ _ _ _ found.string in
-    let same = ap length (c.deref.ensures.value ∙ c.text_of-digits.ensures) in
+    let same = ap length (c.deref.ensures.value ∙ c.text_of-digits.ensures.bytes) in
     omega (
       arith,
       cost,

@@ -1,7 +1,7 @@
 use Rattle.std.proofs.Common.{◌+◌, ◌*◌, ◌-◌, ◌≤◌, ◌≢◌, length}
 use Rattle.std.specs.Prelude.{slice_index}
 use Rattle.resb_grammar.specs.Ascii as ascii
-use Rattle.resb_icu_grammar.specs.Stuck.{Counted}
+use Rattle.resb_icu_grammar.specs.Stuck.{NumbersSoFar}
 use Rattle.resb_icu_text.specs.Inner.Reach.{reach}
 use Rattle.resb_icu_text.proofs.LeafLemmas.{Continues}
 use Rattle.resb_icu_text.proofs.leaf.numbers.Given as goal
@@ -10,7 +10,7 @@ abbrev pub invariant-numbers : goal.invariant-numbers
 invariant-numbers l = record {
   order : l.at ≤ l.here;
   fits : l.here ≤ length l.text;
-  counted : Counted l.text l.at l.here;
+  counted : NumbersSoFar l.text l.at l.here;
   some : slice_index l.text l.here ≢ ascii.right_brace;
   continues : Continues l.text l.at l.here l.numbers.items;
   cost : l.turns.count + 8 * reach l.text l.at ≤ l.fn.turns.count + 8 * reach l.text l.here;

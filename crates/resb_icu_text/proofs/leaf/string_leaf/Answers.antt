@@ -8,6 +8,7 @@ use Rattle.resb_icu_text.proofs.LeafLemmas.{leaf_refuses, string_stands}
 use Rattle.resb_icu_text.proofs.LeafLemmas.{closing_at}
 use Rattle.resb_icu_text.proofs.ReachLemmas.{reach_right, reach_string}
 use Rattle.resb_icu_grammar.specs.Stuck.{no_string, open_string}
+use Rattle.resb_icu_text.proofs.KeptLemmas.{said_kept}
 use Rattle.resb_icu_text.proofs.leaf.string_leaf.Goals as goal
 
 pub returns-in_default-clause-err : goal.returns-in_default-clause-err
@@ -27,7 +28,7 @@ pub returns-clause-ok : goal.returns-clause-ok
 returns-clause-ok c =
     let found = rw c.in-Some.is at c.in_ok-lexeme.ensures.found in
     subst (λ (t : Tree). Leaf c.args.text.now c.args.at string_kind c.in_ok-to.to t)
-    (sym (tree_of_string c.text_of.result ∙ ap string c.text_of.ensures))
+    (sym (tree_of_string c.text_of.result ∙ ap string c.text_of.ensures.bytes))
     (string_stands _ _ _ _ _ found.string
     (closing_at _ _ _ _ found.blanks c.in_ok-to.ensures.ok))
 
@@ -51,3 +52,8 @@ returns-clause-cost c =
       found.after,
       found.order,
     )
+
+pub returns-clause-slices : goal.returns-clause-slices
+returns-clause-slices c =
+    said_kept _ _ _ _ (rw c.in-Some.is at c.in_ok-lexeme.ensures.found) c.text_of.ensures.bytes
+    c.text_of.ensures.slice

@@ -1,11 +1,12 @@
-use Rattle.std.proofs.Common.{arith}
+use Rattle.std.proofs.Common.{arith, ap, refl}
 use Rattle.std.proofs.lemmas.List.{length-map}
 use Rattle.std.proofs.lemmas.Result.{err_from_is_err_and}
 use Rattle.resb_icu_text.proofs.ReadingLemmas.{stops_root, text_goes_on, text_ends}
-use Rattle.resb_icu_grammar.specs.Machine.{here}
-use Rattle.resb_icu_grammar.specs.Stuck.{at_root}
+use Rattle.resb_icu_grammar.specs.Machine.{at_root, here}
 use Rattle.resb_icu_grammar.proofs.Moves.{comes_by}
 use Rattle.resb_icu_text.proofs.ReachLemmas.{reach_high}
+use Rattle.std.proofs.lemmas.Bool.{and_from, and_parts}
+use Rattle.resb_icu_text.specs.Inner.Kept.{entries_pass}
 use Rattle.resb_icu_text.proofs.reader.read_root.Goals as goal
 
 pub returns-in_err-next-clause-err : goal.returns-in_err-next-clause-err
@@ -20,6 +21,8 @@ steps-preserved c =
       within = goes.0;
       comes = comes_by _ _ _ _ c.steps.invariant.comes
           (rw c.in-Step.is at c.in_ok-next.ensures.ok);
+      kept = λ t p h.
+          (rw c.in-Step.is at c.in_ok-next.ensures.slices) t p (c.steps.invariant.kept t p h);
       cost = omega (
         arith,
         c.steps.invariant.cost,
@@ -82,5 +85,12 @@ steps-init c = record {
   within = c.requires.within;
   comes = rw (c.new-open.ensures.groups, c.new-open.ensures.keys, c.new.ensures.items)
       (here (at_root c.args.first));
+  kept = λ t p h. and_from _ _ (c.new-open.ensures.slices t)
+      (ap (λ l. entries_pass l t) c.new.ensures.items);
   cost = rw c.new-open.ensures.keys (omega arith);
 }
+
+pub returns-in-Root-clause-slices : goal.returns-in-Root-clause-slices
+returns-in-Root-clause-slices c = λ t p.
+    (and_parts _ _ ((rw c.in-Root.is at c.in_ok-next.ensures.slices) t p
+    (c.steps.invariant.kept t p refl))).1

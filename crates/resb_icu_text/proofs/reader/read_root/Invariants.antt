@@ -1,15 +1,16 @@
-use Rattle.std.proofs.Common.{◌≤◌, ◌+◌, ◌*◌, ◌-◌, length}
-use Rattle.resb_icu_grammar.specs.Machine.{Comes}
-use Rattle.resb_icu_grammar.specs.Stuck.{at_root}
+use Rattle.std.proofs.Common.{◌&&◌, ◌≤◌, ◌+◌, ◌*◌, ◌-◌, length}
+use Rattle.resb_icu_grammar.specs.Machine.{Comes, at_root}
 use Rattle.resb_icu_text.specs.Inner.Steps.{now, stands_at, progress, spent}
 use Rattle.resb_icu_text.specs.Inner.Reach.{reach}
 use Rattle.resb_icu_text.specs.Inner.Reading.{groups, keys}
+use Rattle.resb_icu_text.specs.Inner.Kept.{Keeps, nothing_before, groups_pass, step_passes}
 use Rattle.resb_icu_text.proofs.reader.read_root.Given as goal
 
 abbrev pub invariant-steps : goal.invariant-steps
 invariant-steps l = record {
   within : stands_at l.step ≤ length l.text;
   comes : Comes l.text (at_root l.first) (now (groups l.open) (keys l.open) l.step);
+  kept : Keeps l.text nothing_before (λ t. groups_pass l.open t && step_passes l.step t);
   cost : l.turns.count + 8 * reach l.text l.first + 2 + length (keys l.open)
       ≤ l.fn.turns.count + spent l.text l.step;
 }

@@ -18,6 +18,7 @@ returns-in_ok-to-in_default c =
     record {
       ok = leaf_content _ _ _ _ c.in_ok-to-in_default.resource c.in_ok-to-in_default.ensures.ok;
       err = tt;
+      slices = λ test p h. c.in_ok-to-in_default.ensures.slices test p;
       goes = (omega (arith, within.1), omega (arith, within.0));
       cost = omega (arith, c.in_ok-to-in_default.ensures.cost);
       most = c.leaf.ensures.most;

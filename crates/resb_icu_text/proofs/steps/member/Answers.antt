@@ -3,6 +3,9 @@ use Rattle.resb_icu_text.proofs.StepsLemmas.{members_end, member_group}
 use Rattle.resb_icu_text.proofs.ReachLemmas.{reach_right, reach_high}
 use Rattle.resb_icu_text.proofs.steps.member.Goals.{then-b-eq123-via-then-b-eq123}
 use Rattle.resb_icu_text.proofs.steps.member.Goals.{then-b-eq123-via-else-b-eq123+then-b-eq58}
+use Rattle.std.proofs.Common.{not}
+use Rattle.resb_tree.specs.Borrowing.{are_slice}
+use Rattle.resb_tree.proofs.BorrowingLemmas.{array_passes}
 use Rattle.resb_icu_text.proofs.steps.member.Goals as goal
 
 pub returns-then-b-eq125-clause-ok : goal.returns-then-b-eq125-clause-ok
@@ -31,3 +34,7 @@ returns-then-b-eq125-clause-most c =
 pub returns-then-b-eq123-clause-most : goal.returns-then-b-eq123-clause-most
 returns-then-b-eq123-clause-most c =
     omega (arith, reach_high c.args.text.now c.args.at c.requires.within)
+
+pub returns-then-b-eq125-clause-slices : goal.returns-then-b-eq125-clause-slices
+returns-then-b-eq125-clause-slices c =
+    λ test p h. array_passes test (λ b. not (are_slice b)) c.args.members ∙ h

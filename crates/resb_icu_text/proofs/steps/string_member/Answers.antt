@@ -1,6 +1,7 @@
 use Rattle.std.proofs.Common.{arith, sym, ◌∙◌}
 use Rattle.resb_icu_text.proofs.StepsLemmas.{member_string, no_member_string, no_member}
 use Rattle.resb_icu_text.proofs.ReachLemmas.{reach_string, reach_low}
+use Rattle.resb_icu_text.proofs.KeptLemmas.{said_kept, members_with}
 use Rattle.resb_icu_text.proofs.steps.string_member.Goals as goal
 
 pub returns-in_default-clause-err : goal.returns-in_default-clause-err
@@ -19,7 +20,7 @@ returns-clause-ok c =
     let found = rw c.in-Some.is at c.in_ok-lexeme.ensures.found in
     member_string _ _ c.push.new.self _ _ _ _ _ c.text_of.result
     (sym c.is_string.ensures ∙ c.if-is_string.false) found.string found.blanks
-    c.text_of.ensures c.in_ok-push.ensures.items
+    c.text_of.ensures.bytes c.in_ok-push.ensures.items
 
 pub returns-clause-cost : goal.returns-clause-cost
 returns-clause-cost c =
@@ -33,3 +34,9 @@ returns-clause-cost c =
       reach_string c.args.text.now c.args.at _ _ found.string,
       reach_low c.args.text.now _ found.fits,
     )
+
+pub returns-clause-slices : goal.returns-clause-slices
+returns-clause-slices c = λ test p h.
+    members_with test _ _ _ c.in_ok-push.ensures.items h
+    (said_kept _ _ _ _ (rw c.in-Some.is at c.in_ok-lexeme.ensures.found) c.text_of.ensures.bytes
+    c.text_of.ensures.slice test p)

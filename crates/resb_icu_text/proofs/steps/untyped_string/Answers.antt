@@ -5,6 +5,8 @@ use Rattle.resb_icu_text.proofs.StepsLemmas.{no_untyped, no_untyped_string, no_u
 use Rattle.resb_icu_text.proofs.StepsLemmas.{is_a_key}
 use Rattle.resb_icu_text.proofs.LengthLemmas.{string_short}
 use Rattle.resb_icu_text.proofs.ReachLemmas.{reach_right, reach_string, reach_low, reach_high}
+use Rattle.resb_icu_text.specs.Inner.Kept.{members_pass}
+use Rattle.resb_icu_text.proofs.KeptLemmas.{said_kept, members_with}
 use Rattle.resb_icu_text.proofs.steps.untyped_string.Goals.{else-b-ne123-via-then-b-ne123+else-b-ne58}
 use Rattle.resb_icu_text.proofs.steps.untyped_string.Goals.{else-b-ne123-via-else-b-ne123}
 use Rattle.resb_icu_text.proofs.steps.untyped_string.Goals as goal
@@ -18,14 +20,14 @@ pub returns-then-b-eq125-clause-ok : goal.returns-then-b-eq125-clause-ok
 returns-then-b-eq125-clause-ok c =
     let found = rw c.in-Some.is at c.in_ok-lexeme.ensures.found in
     untyped_one _ _ _ _ _ c.text_of.result found.string found.blanks
-    (sym c.byte-b.ensures.byte ∙ c.if-b-eq125.true) c.text_of.ensures
+    (sym c.byte-b.ensures.byte ∙ c.if-b-eq125.true) c.text_of.ensures.bytes
 
 pub returns-then-b-eq44-clause-ok : goal.returns-then-b-eq44-clause-ok
 returns-then-b-eq44-clause-ok c =
     let found = rw c.in-Some.is at c.in_ok-lexeme.ensures.found in
     untyped_comma _ c.push.new.self _ _ _ _ c.text_of-then-b-eq44.result found.string
     found.blanks (sym c.byte-b.ensures.byte ∙ c.if-b-eq44.true)
-    c.text_of-then-b-eq44.ensures
+    c.text_of-then-b-eq44.ensures.bytes
     (c.in_ok-push.ensures.items ∙ ap (λ l. l ++ String c.text_of-then-b-eq44.result ∷ [])
     c.new-members.ensures.items)
 
@@ -133,3 +135,15 @@ returns-clause-most c =
       string_short _ _ _ _ found.string,
       reach_high c.args.text.now _ found.fits,
     )
+
+pub returns-then-b-eq125-clause-slices : goal.returns-then-b-eq125-clause-slices
+returns-then-b-eq125-clause-slices c = λ test p h.
+    said_kept _ _ _ _ (rw c.in-Some.is at c.in_ok-lexeme.ensures.found) c.text_of.ensures.bytes
+    c.text_of.ensures.slice test p
+
+pub returns-then-b-eq44-clause-slices : goal.returns-then-b-eq44-clause-slices
+returns-then-b-eq44-clause-slices c = λ test p h.
+    members_with test _ _ _ c.in_ok-push.ensures.items
+    (ap (λ l. members_pass l test) c.new-members.ensures.items)
+    (said_kept _ _ _ _ (rw c.in-Some.is at c.in_ok-lexeme.ensures.found)
+    c.text_of-then-b-eq44.ensures.bytes c.text_of-then-b-eq44.ensures.slice test p)

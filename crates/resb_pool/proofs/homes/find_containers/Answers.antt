@@ -7,12 +7,12 @@ use Rattle.resb_pool.specs.Plan.{nows}
 use Rattle.resb_pool.specs.Inner.Placing.{LiesAt}
 use Rattle.resb_pool.specs.Inner.Suffixes.{AreInOrder, IsSharedEnd}
 use Rattle.resb_pool.specs.declared.suffix_order.Row.{Row}
-use Rattle.resb_pool.proofs.Distinct.{old_or_new}
 use Rattle.resb_pool.proofs.TextLoops.{blank}
 use Rattle.resb_pool.proofs.Interning.{length-nows}
 use Rattle.resb_pool.proofs.SuffixRuns.{IsPrevious, step_alone, step_shared, one_row, row_of}
 use Rattle.resb_pool.proofs.homes.find_containers.Goals.{then-not-lies_with, else-not-lies_with}
 use Rattle.resb_pool.proofs.homes.find_containers.Goals as goal
+use Rattle.resb_pool.proofs.Numbers.{old_or_new}
 
 abbrev no_row : Row
 no_row = record { front = 0; text = blank; index = 0 }

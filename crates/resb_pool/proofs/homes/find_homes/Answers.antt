@@ -6,8 +6,8 @@ use Rattle.resb_pool.specs.Plan.{nows}
 use Rattle.resb_pool.specs.Inner.Placing.{LiesAt}
 use Rattle.resb_pool.specs.declared.homes.Home.{Home}
 use Rattle.resb_pool.specs.declared.measure.Measure.{Measure}
-use Rattle.resb_pool.proofs.Distinct.{old_or_new}
 use Rattle.resb_pool.proofs.homes.find_homes.Goals as goal
+use Rattle.resb_pool.proofs.Numbers.{old_or_new}
 
 abbrev no_measure : Measure
 no_measure = record { unit_count = 0; size = 0; total = 0 }

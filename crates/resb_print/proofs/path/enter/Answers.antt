@@ -9,7 +9,7 @@ use Rattle.resb_print.proofs.Looking.{enters_array, enters_table}
 use Rattle.resb_print.proofs.path.enter.Goals as goal
 
 pub returns-in_ok-push-in-Array : goal.returns-in_ok-push-in-Array
-returns-in_ok-push-in-Array c =
+returns-in_ok-push-in-Array g c =
     let old = c.args.pending.now.items in
     let ts = items_view c.in-Array.members.items in
     let e : tree_of c.args.resource.now ≡ array ts = search (rules, the_lemmas) in
@@ -17,18 +17,20 @@ returns-in_ok-push-in-Array c =
     ≡ looks_in old ++ member_look 0 (items_view c.as_slice.result.now) ∷ [] =
     ap looks_in c.in_ok-push-in-Array.ensures.items
     ∙ map_push look_of old (Members c.as_slice.result 0) in
-    subst (λ (t : Tree). EntersTree (looks_in old) (looks_in c.push.new.self.items) t false) (sym e)
-    (enters_array (looks_in old) (looks_in c.push.new.self.items) ts
+    subst (λ (t : Tree). EntersTree g.C.CauseTests.tests (looks_in old)
+    (looks_in c.push.new.self.items) t false) (sym e)
+    (enters_array g.C.CauseTests.tests (looks_in old) (looks_in c.push.new.self.items) ts
     (pushed ∙ ap (λ rs. looks_in old ++ member_look 0 (items_view rs) ∷ [])
     c.as_slice.ensures.value))
 
 pub returns-in_ok-push_entries-in-Table : goal.returns-in_ok-push_entries-in-Table
-returns-in_ok-push_entries-in-Table c =
+returns-in_ok-push_entries-in-Table g c =
     let old = c.args.pending.now.items in
     let es = c.in-Table.table.entries in
     let e : tree_of c.args.resource.now ≡ table (entries_view es) = search (rules, the_lemmas) in
-    subst (λ (t : Tree). EntersTree (looks_in old)
+    subst (λ (t : Tree). EntersTree g.C.CauseTests.tests (looks_in old)
     (looks_in c.push_entries.new.pending.items) t false)
     (sym e)
-    (enters_table (looks_in old) (looks_in c.push_entries.new.pending.items) (pairs_view es)
+    (enters_table g.C.CauseTests.tests (looks_in old)
+    (looks_in c.push_entries.new.pending.items) (pairs_view es)
     c.in_ok-push_entries-in-Table.ensures)

@@ -5,9 +5,9 @@ use Rattle.resb_print.specs.Inner.Looks.{looks_in, looks_path, looks_turns}
 use Rattle.resb_print.proofs.path.path_in.Given as goal
 
 abbrev pub invariant-loop-visit : goal.invariant-loop-visit
-invariant-loop-visit l =
-    looks_path (looks_in l.pending.items) (steps_in l.path.items)
-    ≡ entry_path_else [] (entries_view l.table.entries) None
+invariant-loop-visit g l =
+    looks_path g.C.CauseTests.tests (looks_in l.pending.items) (steps_in l.path.items)
+    ≡ entry_path_else g.C.CauseTests.tests [] (entries_view l.table.entries) None
 
 abbrev pub decreases-loop-visit : goal.decreases-loop-visit
-decreases-loop-visit l = looks_turns (looks_in l.pending.items)
+decreases-loop-visit g l = looks_turns (looks_in l.pending.items)

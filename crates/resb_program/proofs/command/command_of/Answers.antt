@@ -1,6 +1,6 @@
 use Rattle.std.proofs.Common.{◌≡◌, map, string_bytes, ap, sym, codes, ◌∙◌}
 use Rattle.std.proofs.lemmas.Slice.Eq.{bytes_eq-Decides}
-use Rattle.resb_program.proofs.Words.{two_words, three_words}
+use Rattle.resb_program.proofs.Lists.{two_words, three_words}
 use Rattle.resb_program.proofs.command.command_of.Goals as goal
 
 pub returns-in-len2 : goal.returns-in-len2

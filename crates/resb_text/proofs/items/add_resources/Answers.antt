@@ -1,20 +1,8 @@
-use Rattle.std.proofs.Common.{◌≡◌, List, [], ◌∷◌, ◌++◌, length, sym, ◌∙◌, ap, arith}
-use Rattle.std.proofs.Common.{append_assoc}
-use Rattle.std.specs.Prelude.{map}
+use Rattle.std.proofs.Common.{length, ◌∙◌, ap, arith}
 use Rattle.std.specs.Vec.Iter.{into_iter_items}
 use Rattle.resb_text.specs.Inner.Shown.{seen_in_code, shown_tree, shown_borrowed}
-use Rattle.resb_text.proofs.ShownLemmas.{term_tree_shown, term_borrowed_shown}
+use Rattle.resb_text.proofs.ShownLemmas.{term_tree_shown, term_borrowed_shown, one_more}
 use Rattle.resb_text.proofs.items.add_resources.Goals as goal
-
--- one goes from those that are left to those that are made
-one_more : {B C D : Type 0} (g : C → D) (h : B → C) (before after : List D) (d : D)
-    (left rest : List B) (y : B) (all : List D) → left ≡ y ∷ rest → after ≡ before ++ d ∷ []
-    → d ≡ g (h y) → before ++ map g (map h left) ≡ all → after ++ map g (map h rest) ≡ all
-one_more g h before after d left rest y all e push same is =
-    ap (λ l. l ++ map g (map h rest)) push
-    ∙ append_assoc before (d ∷ []) (map g (map h rest))
-    ∙ ap (λ z. before ++ z ∷ map g (map h rest)) same
-    ∙ ap (λ l. before ++ map g (map h l)) (sym e) ∙ is
 
 pub loop-item-preserved : goal.loop-item-preserved
 loop-item-preserved c =

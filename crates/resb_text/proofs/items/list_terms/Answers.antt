@@ -11,7 +11,7 @@ use Rattle.resb_text.proofs.items.list_terms.Goals as goal
 
 pub returns-clause-ok : goal.returns-clause-ok
 returns-clause-ok c =
-    let left = no_pairs_left (waiting_key c.loop-item.waiting)
+    let left = no_pairs_left seen_in_code (waiting_key c.loop-item.waiting)
     (into_iter_items c.loop-item.item-iterator) (pairs_view c.loop-item.pairs.items)
     (let ok = c.loop-item.item-iterator.rest.ok in
     omega (arith, ok, c.in-None.ensures.steps.0)) in

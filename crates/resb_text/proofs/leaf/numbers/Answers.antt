@@ -4,10 +4,10 @@ use Rattle.std.specs.Prelude.{◌==◌}
 use Rattle.std.proofs.lemmas.Bool.Decides.{nat_tests}
 use Rattle.std.proofs.lemmas.Result.{err_from_is_err_and}
 use Rattle.resb_grammar.specs.Ascii as ascii
-use Rattle.resb_grammar.proofs.ByteRunsLemmas.{either_byte}
 use Rattle.resb_text.proofs.Leaves.{ready_first, one_number, goes_on, ends_numbers, no_slash}
 use Rattle.resb_text.proofs.Leaves.{no_vector_number, no_vector_brace}
 use Rattle.resb_text.proofs.leaf.numbers.Goals as goal
+use Rattle.resb_grammar.proofs.Numbers.{either_byte}
 
 first_of_all : (text : List ℕ) (at here : ℕ) → at ≤ here
     → (at < here → slice_index text at ≢ ascii.slash) → slice_index text here ≢ ascii.slash

@@ -1,6 +1,4 @@
-use Rattle.std.proofs.Common.{◌≡◌, refl, arith, ◌∙◌, ap}
-use Rattle.resb_tree.specs.Borrowing.{is_slice}
-use Rattle.resb_text.specs.Borrowed.{borrows_strings}
+use Rattle.std.proofs.Common.{◌≡◌, refl, arith}
 use Rattle.std.proofs.lemmas.Result.{err_from_is_err_and}
 use Rattle.resb_grammar.proofs.Making.{root_opened, root_over}
 use Rattle.resb_text.proofs.HeaderReading.{fails_no_bundle}

@@ -3,6 +3,7 @@ use Rattle.std.proofs.lemmas.Result.{err_from_is_err_and}
 use Rattle.resb_grammar.specs.Ascii as ascii
 use Rattle.resb_text.proofs.TypedGroups.{may_stand, type_refused, head_refused, group_opened}
 use Rattle.resb_text.proofs.TypedGroups.{opened_over, leaf_refused, leaf_added, leaf_over}
+use Rattle.resb_text.proofs.TypedGroups.{leaf_is_leaf}
 use Rattle.resb_text.proofs.QuotaLemmas.{quota_kept}
 use Rattle.resb_text.proofs.steps.typed.Goals as goal
 
@@ -118,3 +119,7 @@ returns-clause-ok g c =
     (rw c.head.ensures.text at c.in_ok-next.ensures.ok)
     c.in_ok-add_leaf.ensures.shows
     (c.in_ok-take-2.ensures.made ∙ ap (λ k. c.args.quota.now.made + k) c.leaf_bytes.ensures)
+
+pub add_leaf-requires : goal.add_leaf-requires
+add_leaf-requires g c = λ k.
+    ((refl, tt), (c.in_ok-next.ensures.borrowed, leaf_is_leaf _ _ _ _ _ c.in_ok-next.ensures.ok))

@@ -2,9 +2,10 @@ use Rattle.std.proofs.Common.{◌-◌, ℕ, length, drop, sym, ◌∙◌, ap, su
 use Rattle.std.proofs.lemmas.Result.{on_ok_weaker}
 use Rattle.resb_write.specs.Inner.Room.{laid_of}
 use Rattle.resb_write.specs.Inner.Seen.{HasRoom, TakesNoMore}
-use Rattle.resb_write.proofs.Stacks.{split_stack, table_step}
+use Rattle.resb_write.proofs.Stacks.{table_step}
 use Rattle.resb_write.proofs.Anywhere.{table_anywhere}
 use Rattle.resb_write.proofs.body_steps.step_full_table.Goals as goal
+use Rattle.resb_write.proofs.Lists.{split_stack}
 
 pub close_table-requires-clause-room : goal.close_table-requires-clause-room
 close_table-requires-clause-room c =

@@ -2,7 +2,8 @@ use Rattle.std.proofs.Common.{◌≡◌, ◌+◌, ◌*◌, ◌%◌, ℕ, [], len
 use Rattle.std.specs.List.{sum_by}
 use Rattle.resb_tree.specs.Tree.{Tree}
 use Rattle.resb_layout.specs.Laid.{Given, Lays}
-use Rattle.resb_tree.specs.LayingOrder.{laying_order, trees_in}
+use Rattle.resb_tree.specs.LayingOrder.{laying_order}
+use Rattle.resb_write.specs.Inner.Nodes.{trees_by}
 use Rattle.resb_write.specs.Inner.Room.{laid_of, HasRoomFor, GivesInTurn}
 use Rattle.resb_write.specs.Inner.Counted.{own_units}
 use Rattle.resb_write.proofs.Counting.{units}
@@ -11,13 +12,14 @@ use Rattle.resb_write.proofs.tree_bodies.lay_bodies.Goals as goal
 use Rattle.resb_write.proofs.tree_bodies.lay_bodies.Goals.{In_ok-word}
 
 -- what is laid has as many units as were counted
-count_is : (c : In_ok-word) (g : Given) (t : Tree)
-    → GivesInTurn g c.args.sites.now.positions.now c.args.sites.now.offsets.now
-    (trees_in c.args.order.now.items) → trees_in c.args.order.now.items ≡ laying_order t
+count_is : (g : _) (c : In_ok-word g) (given : Given) (t : Tree)
+    → GivesInTurn given c.args.sites.now.positions.now c.args.sites.now.offsets.now
+    (trees_by g.R.AsNode.tree c.args.order.now.items)
+    → trees_by g.R.AsNode.tree c.args.order.now.items ≡ laying_order t
     → length c.lay_order.new.bodies.units.items ≡ c.in_ok-count.count
-count_is c g t n same =
+count_is g c given t n same =
     let base = c.args.keys_end + 2 * (c.in_ok-count.count + c.in_ok-count.count % 2) in
-    let h = based g base in
+    let h = based given base in
     let laid = c.in_ok-word.ensures.lays h refl (moved n) t same in
     omega (
       arith,
@@ -29,17 +31,17 @@ count_is c g t n same =
     )
 
 pub returns-clause-lays : goal.returns-clause-lays
-returns-clause-lays c = λ g t n same at.
+returns-clause-lays g c = λ given t n same at.
     let from : ℕ → ℕ = (λ k. c.args.keys_end + 2 * (k + k % 2)) in
-    let base = at ∙ ap from (count_is c g t n same) in
-    subst (λ tail. Lays g (record { units = c.args.pool.items; tail = tail }) t
+    let base = at ∙ ap from (count_is g c given t n same) in
+    subst (λ tail. Lays given (record { units = c.args.pool.items; tail = tail }) t
     (laid_of c.lay_order.new.bodies) c.in_ok-word.word) c.new.ensures.items
-    (c.in_ok-word.ensures.lays g base n t same)
+    (c.in_ok-word.ensures.lays given base n t same)
 
 pub returns-clause-fits : goal.returns-clause-fits
-returns-clause-fits c =
+returns-clause-fits g c =
     let from : ℕ → ℕ = (λ k. c.args.keys_end + 2 * (k + k % 2)) in
     let n = c.requires.numbered in
     let t = c.requires.tree in
     subst (λ m. HasRoomFor m (laid_of c.lay_order.new.bodies) [])
-    (sym (ap from (count_is c n.0 t.0 n.1 t.1))) c.in_ok-word.ensures.fits
+    (sym (ap from (count_is g c n.0 t.0 n.1 t.1))) c.in_ok-word.ensures.fits

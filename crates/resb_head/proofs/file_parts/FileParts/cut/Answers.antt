@@ -8,8 +8,8 @@ use Rattle.resb_head.proofs.FileSteps.{blocks_hold}
 use Rattle.resb_head.proofs.file_parts.FileParts.cut.Goals as goal
 use Rattle.resb_head.proofs.Numbers.{no_field}
 use Rattle.resb_head.proofs.Numbers.{some_field}
-use Rattle.resb_head.proofs.Lists.{take_inside}
 use Rattle.resb_head.proofs.Lists.{drop_inside}
+use Rattle.std.proofs.lemmas.List.{take-take}
 
 pub returns-then-keys_end-body : goal.returns-then-keys_end-body
 returns-then-keys_end-body c =
@@ -68,7 +68,7 @@ returns c =
     omega (arith, k, b, c.if-block_end-keys_end.false) in
     let keys = c.split_at-2.ensures.front
     ∙ ap (take (4 * c.args.index.now.keys_end)) c.split_at.ensures.front
-    ∙ take_inside body (4 * c.args.index.now.keys_end) (4 * c.in-Some.block_end)
+    ∙ take-take (4 * c.args.index.now.keys_end) (4 * c.in-Some.block_end) body
     (omega (arith, c.if-block_end-keys_end.false)) ∙ ap (λ i. take (4 * i) body) k in
     let block = c.split_at-2.ensures.back
     ∙ ap (drop (4 * c.args.index.now.keys_end)) c.split_at.ensures.front

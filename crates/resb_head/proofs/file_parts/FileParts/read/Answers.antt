@@ -7,8 +7,8 @@ use Rattle.resb_head.specs.File.{parts_of, parts_in_body, body_of, root_word, he
 use Rattle.resb_head.specs.HeadChecks.{header_fault, first_fault, support_checks}
 use Rattle.resb_head.specs.Inner.Checked.{ReadsBody}
 use Rattle.resb_head.proofs.FileSteps.{header_answers, support_answers, body_answers, size_is}
-use Rattle.resb_head.proofs.FileSteps.{drop_min}
 use Rattle.resb_head.proofs.file_parts.FileParts.read.Goals as goal
+use Rattle.resb_head.proofs.Lists.{drop_min}
 
 pub returns-in_err-header : goal.returns-in_err-header
 returns-in_err-header c =

@@ -2,7 +2,7 @@
 use Rattle.std.proofs.Common.{◌≡◌, inl, inr, ℕ, List, nat_eq, not, ◌≤◌, get_or, codes, slice_range}
 use Rattle.std.proofs.Common.{sym, ap, subst, ◌∙◌, rules}
 use Rattle.std.specs.Str.{bytes_eq}
-use Rattle.std.proofs.lemmas.Bool.{not-true, not-false}
+use Rattle.std.proofs.lemmas.Bool.{not-true, not-false, le-leb}
 use Rattle.resb_format.specs.Bytes.{unit_in}
 use Rattle.resb_head.specs.Codes.{endianness_number, charset_number, version_bytes}
 use Rattle.resb_head.proofs.HeadSteps.{Order, Families, Formats, order_stands, endianness_fails}
@@ -10,7 +10,6 @@ use Rattle.resb_head.proofs.HeadSteps.{order_fails, charset_fails, format_fails,
 use Rattle.resb_head.proofs.HeadSteps.{all_hold, endianness_small, charset_small}
 use Rattle.resb_head.proofs.repr_info.BinReprInfo.read.Goals as goal
 use Rattle.resb_head.proofs.repr_info.BinReprInfo.read.Goals.{else-is_big-via-else-is_big}
-use Rattle.resb_head.proofs.Numbers.{nat_le_holds}
 use Rattle.resb_head.proofs.Numbers.{not_big}
 use Rattle.resb_head.proofs.Numbers.{is_big}
 
@@ -75,7 +74,7 @@ returns-then-ne c =
     record {
       order = o;
       charset =
-          nat_le_holds (get_or bs 5 0) 1
+          le-leb (get_or bs 5 0) 1
           (subst (λ k. k ≤ 1) m (charset_small c.in_ok-charset_family.charset_family));
     } in
     format_fails c.args.any_order bs c.invalid_data.result f
@@ -105,7 +104,7 @@ returns-in_err-format_version c =
     record {
       order = o;
       charset =
-          nat_le_holds (get_or bs 5 0) 1
+          le-leb (get_or bs 5 0) 1
           (subst (λ k. k ≤ 1) m (charset_small c.in_ok-charset_family.charset_family));
     } in
     let g : Formats c.args.any_order bs =
@@ -144,7 +143,7 @@ returns c =
     record {
       order = o;
       charset =
-          nat_le_holds (get_or bs 5 0) 1
+          le-leb (get_or bs 5 0) 1
           (subst (λ k. k ≤ 1) m (charset_small c.in_ok-charset_family.charset_family));
     } in
     let g : Formats c.args.any_order bs =

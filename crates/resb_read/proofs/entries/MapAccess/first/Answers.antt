@@ -4,7 +4,7 @@ use Rattle.resb_walk.specs.Inner.Members.{member_of, keyed_members}
 use Rattle.resb_read.specs.Access.{EntryAccess}
 use Rattle.resb_read.specs.Sequences.{at_spot, at_entry}
 use Rattle.resb_read.specs.declared.cursor.Spot.TheVariants as spot
-use Rattle.resb_read.proofs.Singly.{map_first, some_first}
+use Rattle.resb_read.proofs.PlainLists.{map_first, some_first}
 use Rattle.resb_read.proofs.entries.MapAccess.first.Goals as goal
 
 pub returns : goal.returns

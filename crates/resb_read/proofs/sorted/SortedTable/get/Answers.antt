@@ -5,11 +5,11 @@ use Rattle.resb_format.specs.Content.{Member}
 use Rattle.resb_read.specs.Sequences.{at_entry, at_spot}
 use Rattle.resb_read.specs.Inner.Elements.{entry_places}
 use Rattle.resb_read.specs.Tables.{view_entries, last_named, Ascend}
-use Rattle.resb_read.proofs.Ascending.{sound, window_is, key_in, half_less, half_greater}
+use Rattle.resb_read.proofs.Ascending.{sound, key_in, half_less, half_greater}
 use Rattle.resb_read.proofs.Ascending.{half_equal}
-use Rattle.resb_read.proofs.Naming.{text_there}
 use Rattle.resb_format.specs.Strings.{key_at}
 use Rattle.resb_read.proofs.sorted.SortedTable.get.Goals as goal
+use Rattle.resb_read.proofs.PlainLists.{window_is, text_there}
 
 pub halves-init : goal.halves-init
 halves-init c = (sound (view_entries c.args.self.now.table) c.args.self.now.ascend, refl)

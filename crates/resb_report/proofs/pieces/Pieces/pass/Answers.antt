@@ -6,9 +6,10 @@ use Rattle.resb_report.specs.Braces.{mode_behind, mode_at}
 use Rattle.resb_grammar.specs.ByteRuns.{is_word}
 use Rattle.resb_report.specs.Pieces.{word_start, quote_before}
 use Rattle.resb_report.specs.Warnings.{backslash, has_backslash}
-use Rattle.resb_report.proofs.PiecesLemmas.{word_fits, quote_fits}
+use Rattle.resb_report.proofs.PiecesLemmas.{quote_fits}
 use Rattle.resb_report.proofs.pieces.Pieces.pass.Goals as goal
 use Rattle.resb_grammar.specs.Ascii.{quote}
+use Rattle.resb_report.proofs.Numbers.{word_fits}
 
 pub returns-clause-passed : goal.returns-clause-passed
 returns-clause-passed c =

@@ -1,7 +1,9 @@
 use Rattle.std.proofs.Common.{◌+◌, ◌<◌, ◌/◌, arith, length, ◌∙◌}
 use Rattle.resb_format.specs.Bytes.{units_of}
-use Rattle.resb_shared.proofs.Linked.{steps_apart, any_default, zero_test, test_zero}
+use Rattle.resb_shared.proofs.Linked.{steps_apart}
 use Rattle.resb_shared.proofs.breaks.Breaks.are_joined.Goals as goal
+use Rattle.std.proofs.lemmas.List.{get_or_default}
+use Rattle.std.proofs.lemmas.Bool.{eqb-true, eq-eqb}
 
 pub returns-then-index : goal.returns-then-index
 returns-then-index c =
@@ -14,8 +16,8 @@ returns-then-index c =
     let within : first < length ns = omega arith in
     let d = steps_apart us ns c.args.from c.args.end first last c.args.self.now.counted within
     inside (omega arith) (omega arith) (omega arith) in
-    let a = c.index.ensures ∙ any_default ns first c.index.result.now 0 within in
-    let b = c.index-2.ensures ∙ any_default ns last c.index-2.result.now 0 inside in (
+    let a = c.index.ensures ∙ get_or_default ns first c.index.result.now 0 within in
+    let b = c.index-2.ensures ∙ get_or_default ns last c.index-2.result.now 0 inside in (
       λ h. absurd cc,
       λ h. absurd (c.if-index.true (omega (arith, d.1, d.2, a, b, h))),
     )
@@ -31,13 +33,13 @@ returns c =
     let within : first < length ns = omega arith in
     let d = steps_apart us ns c.args.from c.args.end first last c.args.self.now.counted within
     inside (omega arith) (omega arith) (omega arith) in
-    let a = c.index.ensures ∙ any_default ns first c.index.result.now 0 within in
-    let b = c.index-2.ensures ∙ any_default ns last c.index-2.result.now 0 inside in
+    let a = c.index.ensures ∙ get_or_default ns first c.index.result.now 0 within in
+    let b = c.index-2.ensures ∙ get_or_default ns last c.index-2.result.now 0 inside in
     let same = c.if-index.false in
     let f = c.breaks_in-front.ensures.value in
     let g = c.breaks_in-back.ensures.value in (
-      λ h. (let z = zero_test (c.breaks_in-front.result + c.breaks_in-back.result) h in
+      λ h. (let z = eqb-true (c.breaks_in-front.result + c.breaks_in-back.result) 0 h in
           omega (arith, d.1, d.2, a, b, same, f, g, z)),
-      λ h. test_zero (c.breaks_in-front.result + c.breaks_in-back.result)
+      λ h. eq-eqb (c.breaks_in-front.result + c.breaks_in-back.result) 0
           (omega (arith, d.2, f, g, h)),
     )

@@ -1,8 +1,8 @@
 use Rattle.std.proofs.Common.{◌<◌, ◌/◌, length, arith, ◌∙◌}
 use Rattle.resb_format.specs.Bytes.{units_of}
-use Rattle.resb_shared.proofs.Linked.{any_default}
 use Rattle.resb_shared.proofs.WideLemmas.{at_step}
 use Rattle.resb_shared.proofs.widths.Widths.width_before.Goals as goal
+use Rattle.std.proofs.lemmas.List.{get_or_default}
 
 pub overflow_add-result : goal.overflow_add-result
 overflow_add-result c =
@@ -11,7 +11,7 @@ overflow_add-result c =
     let whole = c.args.self.now.whole in
     let within : c.args.unit / 64 < length ns = omega (arith, whole) in
     let first = c.index-front.ensures
-    ∙ any_default ns (c.args.unit / 64) c.index-front.result.now 0 within in
+    ∙ get_or_default ns (c.args.unit / 64) c.index-front.result.now 0 within in
     let sum = at_step us ns c.args.unit c.index-front.result.now c.width_between.result
     c.args.self.now.summed within first c.width_between.ensures.value in
     omega (arith, sum.1)
@@ -23,7 +23,7 @@ returns c =
     let whole = c.args.self.now.whole in
     let within : c.args.unit / 64 < length ns = omega (arith, whole) in
     let first = c.index-front.ensures
-    ∙ any_default ns (c.args.unit / 64) c.index-front.result.now 0 within in
+    ∙ get_or_default ns (c.args.unit / 64) c.index-front.result.now 0 within in
     let sum = at_step us ns c.args.unit c.index-front.result.now c.width_between.result
     c.args.self.now.summed within first c.width_between.ensures.value in
     sum.0

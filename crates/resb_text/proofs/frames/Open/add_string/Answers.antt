@@ -6,8 +6,8 @@ use Rattle.resb_grammar.specs.Machine.{with_term}
 use Rattle.resb_text.specs.Inner.Frames.{FrameView, lists, group_body_of, StandsFor}
 use Rattle.resb_text.specs.declared.items.Term.TheVariants as terms
 use Rattle.resb_text.proofs.OpenGroups.{shows_string, shows_item}
-use Rattle.resb_text.proofs.Outcomes.{on_ok_from}
 use Rattle.resb_text.proofs.frames.Open.add_string.Goals as goal
+use Rattle.std.proofs.lemmas.Result.{on_ok_weaker}
 
 abbrev one : List ℕ → ℕ → GroupText
 one s n = record { text = s; group = n }
@@ -21,7 +21,7 @@ add-requires g c =
 
 pub returns-then-lists_keys-clause-shows : goal.returns-then-lists_keys-clause-shows
 returns-then-lists_keys-clause-shows g c =
-    on_ok_from {Q = (o : machine.Open) → StandsFor g.B.Build.tree g.B.Build.held c.args.self.now o
+    on_ok_weaker {Q = (o : machine.Open) → StandsFor g.B.Build.tree g.B.Build.held c.args.self.now o
     → StandsFor g.B.Build.tree g.B.Build.held _ (with_term (spec.string_term c.args.text.now) o)} _
     (λ added. λ o x. shows_string c.args.self.now _ o
     (terms.String c.args.text) c.args.text.now x refl (λ y h. (refl, h))

@@ -1,8 +1,9 @@
 use Rattle.std.proofs.Common.{◌∙◌, ap, arith}
 use Rattle.resb_text.specs.Turns.{Counted}
 use Rattle.std.proofs.lemmas.Bool.{eqb-true, eq-eqb}
-use Rattle.resb_text.proofs.TokensLemmas.{rest_of, byte_found, byte_missing}
+use Rattle.resb_text.proofs.TokensLemmas.{byte_found, byte_missing}
 use Rattle.resb_text.proofs.turns.Turns.find.Goals as goal
+use Rattle.resb_text.proofs.Lists.{rest_of}
 
 pub returns-in-Some-clause-found : goal.returns-in-Some-clause-found
 returns-in-Some-clause-found c =

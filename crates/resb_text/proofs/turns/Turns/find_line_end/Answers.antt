@@ -1,8 +1,8 @@
 use Rattle.std.proofs.Common.{◌∙◌, ap, arith}
 use Rattle.resb_text.specs.Turns.{Counted}
 use Rattle.resb_grammar.specs.ByteRuns.{is_line_end}
-use Rattle.resb_text.proofs.TokensLemmas.{rest_of, test_found, none_before}
 use Rattle.resb_text.proofs.turns.Turns.find_line_end.Goals as goal
+use Rattle.resb_text.proofs.Lists.{rest_of, test_found, none_before}
 
 pub returns-in-Some-clause-line : goal.returns-in-Some-clause-line
 returns-in-Some-clause-line c =

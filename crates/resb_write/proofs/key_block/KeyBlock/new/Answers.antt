@@ -6,9 +6,10 @@ use Rattle.indexmap.specs.IndexMap.{keys}
 use Rattle.resb_layout.specs.KeyBlock.{used, position_in}
 use Rattle.resb_layout.specs.TreeFaults.{key_fault}
 use Rattle.resb_write.proofs.Distinct.{fault_same, same_keys}
-use Rattle.resb_write.proofs.Known.{exact, placed, in_turn}
+use Rattle.resb_write.proofs.Known.{exact, placed}
 use Rattle.resb_write.specs.Inner.NearPositions.{near_position_in}
 use Rattle.resb_write.proofs.key_block.KeyBlock.new.Goals as goal
+use Rattle.resb_write.proofs.Lists.{in_turn}
 
 pub returns-in_err-check_keys-clause-err : goal.returns-in_err-check_keys-clause-err
 returns-in_err-check_keys-clause-err c =

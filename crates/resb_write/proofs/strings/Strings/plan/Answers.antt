@@ -1,8 +1,9 @@
 use Rattle.std.proofs.Common.{map, Some, sym, ◌∙◌, ap, subst}
 use Rattle.std.proofs.lemmas.Result.{err_from_is_err_and}
 use Rattle.resb_pool.specs.Plan.{nows, offset_of, IsPlan, no_memory}
-use Rattle.resb_write.proofs.Known.{offset_of_text, in_turn}
+use Rattle.resb_write.proofs.Known.{offset_of_text}
 use Rattle.resb_write.proofs.strings.Strings.plan.Goals as goal
+use Rattle.resb_write.proofs.Lists.{in_turn}
 
 pub returns-in_err-offsets-clause-err : goal.returns-in_err-offsets-clause-err
 returns-in_err-offsets-clause-err c = let p =

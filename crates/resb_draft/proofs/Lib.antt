@@ -1,0 +1,4 @@
+-- Lemmas about drafts.
+pub mod DraftLemmas
+mod DroppingLemmas
+mod LayingLemmas

@@ -1,0 +1,486 @@
+-- A reading that gets stuck does so at one place, where one thing is expected.
+use Rattle.std.proofs.Common.{◌≡◌, ◌≢◌, ℕ, ◌+◌, Bool, List, refl, sym, ◌∙◌, ap, subst, arith, ◌⊎◌}
+use Rattle.std.proofs.Common.{inl, inr}
+use Rattle.std.specs.Prelude.{slice_index}
+use Rattle.std.proofs.lemmas.Bool.{false≢true}
+use Rattle.resb_grammar.specs.Ascii as ascii
+use Rattle.resb_grammar.specs.Group.{hex_bytes}
+use Rattle.resb_grammar.specs.GroupTypes.{Kind}
+use Rattle.resb_tree.specs.Tree.{Tree}
+use Rattle.resb_icu_grammar.specs.Blanks.{Begins, Skip}
+use Rattle.resb_icu_grammar.specs.Words.{Text, Name, Number, RootType}
+use Rattle.resb_icu_grammar.specs.Laws.{IcuStuckInOneWay}
+use Rattle.resb_icu_grammar.specs.Machine.{Waiting, Standing, behind_group, Reading, reading_at}
+use Rattle.resb_icu_grammar.specs.Machine.{Move, BeginsGroup, StepOut, Comes, was_member, was_value}
+use Rattle.resb_icu_grammar.specs.Machine.{at_root}
+use Rattle.resb_icu_grammar.specs.Machine as step
+use Rattle.resb_icu_grammar.specs.Stuck.{NoNumberAt, NumbersSoFar, none_yet, one_number, LeafStuck}
+use Rattle.resb_icu_grammar.specs.Stuck.{Blocked, EndBlocked, HeadStuck, Halts, StuckFrom, Stuck}
+use Rattle.resb_icu_grammar.specs.Stuck.{no_string, open_string, no_digits, odd_digits, open_binary}
+use Rattle.resb_icu_grammar.specs.Stuck.{no_integer, open_integer, no_number, open_vector}
+use Rattle.resb_icu_grammar.specs.Stuck.{a_collation, more_text, no_name, no_root_type}
+use Rattle.resb_icu_grammar.specs.Stuck.{no_root_brace, no_typed_brace, in_head, in_root}
+use Rattle.resb_icu_grammar.specs.Stuck as stuck
+use Rattle.resb_icu_grammar.specs.declared.expected.IcuExpected.{IcuExpected}
+use Rattle.resb_icu_grammar.specs.declared.expected.IcuExpected.TheVariants as expect
+use Rattle.resb_icu_grammar.proofs.Lexical.{Begins-one, Skip-one, String-one, key_string}
+use Rattle.resb_icu_grammar.proofs.Lexical.{Number-one, RootType-one, root_type_first}
+use Rattle.resb_icu_grammar.proofs.Lexical.{GroupType-one, Name-one}
+use Rattle.resb_icu_grammar.proofs.Groups as groups
+use Rattle.resb_icu_grammar.proofs.Groups.{Closes, string_skipped, no_brace_colon, Header-one}
+use Rattle.resb_icu_grammar.proofs.Leaves.{no_leaf_there, stuck_kind}
+use Rattle.resb_icu_grammar.proofs.Refused.{no_opening_brace, head_never}
+use Rattle.resb_icu_grammar.proofs.OneStep.{no_brace_begins, no_comma_begins, no_string_begins}
+use Rattle.resb_icu_grammar.proofs.OneStep.{Next, inside, outside, first_step, comes_meet}
+
+-- where a reading is blocked it makes no step
+blocked_stays : (text : List ℕ) (ws : List Waiting) (ks : List (List ℕ)) (s : Standing)
+    (at to : ℕ) (x : IcuExpected) (r : Reading) → Blocked text s at to x → Move text ws ks s at r
+    → ⊥
+blocked_stays text ws ks _ at _ _ _ (stuck.no_member last ts _ a b d f) (step.array_ends _ _ _ c) =
+    a c
+blocked_stays text ws ks _ at _ _ _ (stuck.no_member last ts _ a b d f)
+    (step.comma_behind _ _ _ j e c k) = b c
+blocked_stays text ws ks _ at _ _ _ (stuck.no_member last ts _ a b d f)
+    (step.string_member _ _ _ i j s e p k) = f i s p
+blocked_stays text ws ks _ at _ _ _ (stuck.no_member last ts _ a b d f)
+    (step.group_member _ _ _ c) = d c
+blocked_stays text ws ks _ at _ _ _ (stuck.two_strings last ts _ i s e p)
+    (step.array_ends _ _ _ c) = groups.no_string text at i _ s p c refl
+blocked_stays text ws ks _ at _ _ _ (stuck.two_strings last ts _ i s e p)
+    (step.comma_behind _ _ _ j f c k) = groups.no_string text at i _ s p c refl
+blocked_stays text ws ks _ at _ _ _ (stuck.two_strings last ts _ i s e p)
+    (step.string_member _ _ _ m j v f q k) = false≢true (sym f ∙ e)
+blocked_stays text ws ks _ at _ _ _ (stuck.two_strings last ts _ i s e p)
+    (step.group_member _ _ _ c) = no_string_begins text at i s p c
+blocked_stays text ws ks _ at _ _ _ (stuck.lone_comma last ts _ e d) (step.array_ends _ _ _ c) =
+    omega (arith, c, d)
+blocked_stays text ws ks _ at _ _ _ (stuck.lone_comma last ts _ e d)
+    (step.comma_behind _ _ _ j f c k) = false≢true (sym e ∙ f)
+blocked_stays text ws ks _ at _ _ _ (stuck.lone_comma last ts _ e d)
+    (step.string_member _ _ _ m j v f q k) = groups.no_string text at m _ v q d refl
+blocked_stays text ws ks _ at _ _ _ (stuck.lone_comma last ts _ e d) (step.group_member _ _ _ c) =
+    no_comma_begins text at c d
+blocked_stays text ws ks _ at _ _ _ (stuck.key_twice es _ c d) (step.table_ends _ _ e f) = d f
+blocked_stays text ws ks _ at _ _ _ (stuck.key_twice es _ c d) (step.key_of_entry _ _ i j k p l) =
+    groups.no_string text at i _ k (key_string text at i k p) c refl
+blocked_stays text ws ks _ at _ _ _ (stuck.no_entry es _ a f) (step.table_ends _ _ c d) = a c
+blocked_stays text ws ks _ at _ _ _ (stuck.no_entry es _ a f) (step.key_of_entry _ _ i j k p l) =
+    f i k p
+blocked_stays text ws ks _ at _ _ _ (stuck.no_group _ f) (step.group_opens _ i b l) = f (inl b)
+blocked_stays text ws ks _ at _ _ _ (stuck.no_group _ f) (step.type_opens _ i kind h) =
+    f (inr h.named.stands.colon)
+blocked_stays text ws ks _ at _ _ _ (stuck.no_type _ c f) (step.group_opens _ i b l) =
+    no_brace_colon text at b c
+blocked_stays text ws ks _ at _ _ _ (stuck.no_type _ c f) (step.type_opens _ i kind h) =
+    f h.ends kind h.named
+blocked_stays text ws ks _ at to _ _ (stuck.no_brace _ i _ kind g k n) (step.group_opens _ j b l) =
+    no_brace_colon text at b g.stands.colon
+blocked_stays text ws ks _ at to _ _ (stuck.no_brace _ i _ kind g k n)
+    (step.type_opens _ j other h) = no_opening_brace text at i to kind g k n other j h
+blocked_stays text ws ks _ at _ _ _ (stuck.no_content _ a b f) (step.untyped_nothing _ c) = a c
+blocked_stays text ws ks _ at _ _ _ (stuck.no_content _ a b f) (step.begins_with_group _ c) = b c
+blocked_stays text ws ks _ at _ _ _ (stuck.no_content _ a b f)
+    (step.untyped_string _ i j s p k c) = f i s p
+blocked_stays text ws ks _ at _ _ _ (stuck.no_content _ a b f)
+    (step.begins_with_string _ i j s p k c) = f i s p
+blocked_stays text ws ks _ at _ _ _ (stuck.no_content _ a b f)
+    (step.begins_with_key _ i j s p k c) = f i s (key_string text at i s p)
+blocked_stays text ws ks _ at to _ _ (stuck.no_further _ i _ s p k a b f)
+    (step.untyped_nothing _ c) = groups.no_string text at i _ s p c refl
+blocked_stays text ws ks _ at to _ _ (stuck.no_further _ i _ s p k a b f)
+    (step.begins_with_group _ c) = no_string_begins text at i s p c
+blocked_stays text ws ks _ at to _ _ (stuck.no_further _ i _ s p k a b f)
+    (step.untyped_string _ m n v q l c) =
+    a (subst (λ u. Closes text u) (string_skipped text at m i n to v s q l p k).0 c)
+blocked_stays text ws ks _ at to _ _ (stuck.no_further _ i _ s p k a b f)
+    (step.begins_with_string _ m n v q l c) =
+    b (subst (λ u. slice_index text u ≡ ascii.comma)
+    (string_skipped text at m i n to v s q l p k).0 c)
+blocked_stays text ws ks _ at to _ _ (stuck.no_further _ i _ s p k a b f)
+    (step.begins_with_key _ m n v q l c) =
+    f (subst (λ u. BeginsGroup text u)
+    (string_skipped text at m i n to v s (key_string text at m v q) l p k).0 c)
+blocked_stays text ws ks _ at _ _ _ (stuck.no_key _ i j s p k b f) (step.untyped_nothing _ c) =
+    groups.no_string text at i _ s p c refl
+blocked_stays text ws ks _ at _ _ _ (stuck.no_key _ i j s p k b f) (step.begins_with_group _ c) =
+    no_string_begins text at i s p c
+blocked_stays text ws ks _ at _ _ _ (stuck.no_key _ i j s p k b f)
+    (step.untyped_string _ m n v q l c) =
+    no_brace_begins text j b (subst (λ u. Closes text u)
+    (string_skipped text at m i n j v s q l p k).0 c)
+blocked_stays text ws ks _ at _ _ _ (stuck.no_key _ i j s p k b f)
+    (step.begins_with_string _ m n v q l c) =
+    no_comma_begins text j b (subst (λ u. slice_index text u ≡ ascii.comma)
+    (string_skipped text at m i n j v s q l p k).0 c)
+blocked_stays text ws ks _ at _ _ _ (stuck.no_key _ i j s p k b f)
+    (step.begins_with_key _ m n v q l c) = f m v q
+blocked_stays text ws ks _ at to x _ (stuck.in_leaf _ _ _ _ h) (step.members_follow _) =
+    (stuck_kind text at _ to x h).0 refl
+blocked_stays text ws ks _ at to x _ (stuck.in_leaf _ _ _ _ h) (step.entries_follow _) =
+    (stuck_kind text at _ to x h).1 refl
+blocked_stays text ws ks _ at to x _ (stuck.in_leaf kind _ _ _ h)
+    (step.leaf_follows _ _ end t p c) = no_leaf_there text at kind to x h end t p c
+
+-- nor where one is blocked behind a group
+end_stays : (text : List ℕ) (ws : List Waiting) (ks : List (List ℕ)) (t : Tree) (at to : ℕ)
+    (x : IcuExpected) (r : Reading) → EndBlocked text t at ws to x → StepOut text ks t at ws r → ⊥
+end_stays text _ ks t at _ _ r (a_collation ws es k e) (was_value _ _ _ j f l) =
+    false≢true (sym f ∙ e)
+end_stays text _ ks t at _ _ r (more_text end k w) l = elim l [ ]
+
+halts_stays : (text : List ℕ) (from r : Reading) (to : ℕ) (x : IcuExpected) → Halts text from to x
+    → Next text from r → ⊥
+halts_stays text _ r to x (stuck.inside ws ks s at _ _ b) (inside _ _ _ _ _ v) =
+    blocked_stays text ws ks s at to x r b v
+halts_stays text _ r to x (stuck.inside ws ks s at _ _ b) (outside _ _ t _ _ v) = elim b [ ]
+halts_stays text _ r to x (stuck.behind ws ks t at _ _ b) (inside _ _ _ _ _ v) = elim v [ ]
+halts_stays text _ r to x (stuck.behind ws ks t at _ _ b) (outside _ _ _ _ _ v) =
+    end_stays text ws ks t at to x r b v
+
+-- numbers and their commas are none, or a first one and the others
+first_counted : (text : List ℕ) (from to : ℕ) → NumbersSoFar text from to
+    → (from ≡ to) ⊎ ((i j k v : ℕ) × Number text from i v × Skip text i j
+    × (slice_index text j ≡ ascii.comma) × Skip text (j + 1) k × NumbersSoFar text k to)
+first_counted text from _ (none_yet _) = inl refl
+first_counted text from to (one_number _ at i j _ v c p s e l) =
+    by (first_counted text from at c)
+  where
+    by : (from ≡ at) ⊎ ((i j k v : ℕ) × Number text from i v × Skip text i j
+        × (slice_index text j ≡ ascii.comma) × Skip text (j + 1) k × NumbersSoFar text k at)
+        → (from ≡ to) ⊎ ((i j k v : ℕ) × Number text from i v × Skip text i j
+        × (slice_index text j ≡ ascii.comma) × Skip text (j + 1) k × NumbersSoFar text k to)
+    by (inl h) =
+        inr (i, j, to, v, subst (λ u. Number text u i v) (sym h) p, s, e, l, none_yet to)
+    by (inr (m, n, k, w, q, z, f, o, d)) =
+        inr (m, n, k, w, q, z, f, o, one_number k at i j to v d p s e l)
+
+number_on : (text : List ℕ) (at b k i j v : ℕ) → Number text k i v → Skip text i j
+    → (slice_index text j ≡ ascii.comma) → Skip text (j + 1) at
+    → NumbersSoFar text k b ⊎ NumbersSoFar text b k
+    → NumbersSoFar text at b ⊎ NumbersSoFar text b at
+number_on text at b k i j v p s e l (inr d) = inr (one_number b k i j at v d p s e l)
+number_on text at b k i j v p s e l (inl d) = by (first_counted text k b d)
+  where
+    by : (k ≡ b) ⊎ ((m n o w : ℕ) × Number text k m w × Skip text m n
+        × (slice_index text n ≡ ascii.comma) × Skip text (n + 1) o × NumbersSoFar text o b)
+        → NumbersSoFar text at b ⊎ NumbersSoFar text b at
+    by (inl h) =
+        inr (one_number b k i j at v (subst (λ u. NumbersSoFar text u k) h (none_yet k)) p s e l)
+    by (inr (m, n, o, w, q, z, f, y, c)) =
+        let number = Number-one text k m i w v q p in
+        let comma : n ≡ j =
+        Skip-one text i n j (subst (λ u. Skip text u n) number.0 z) s in
+        let next : o ≡ at =
+        Skip-one text (j + 1) o at (subst (λ u. Skip text (u + 1) o) comma y) l in
+        inl (subst (λ u. NumbersSoFar text u b) next c)
+
+-- of two places behind some numbers from one place on, such numbers lead from one to the other
+counted_meet : (text : List ℕ) (from a b : ℕ) → NumbersSoFar text from a → NumbersSoFar text from b
+    → NumbersSoFar text a b ⊎ NumbersSoFar text b a
+counted_meet text from _ b (none_yet _) d = inl d
+counted_meet text from a b (one_number _ k i j _ v c p s e l) d =
+    number_on text a b k i j v p s e l (counted_meet text from k b c d)
+
+-- where behind some numbers none stands, or one without a comma
+data NumbersStop (text : List ℕ) (at : ℕ) : ℕ → IcuExpected → Type 0 where
+  at_once : NoNumberAt text at → NumbersStop text at at expect.Number
+  behind_one : (i j v : ℕ) → Number text at i v → Skip text i j
+      → slice_index text j ≢ ascii.comma → NumbersStop text at j expect.RightBrace
+
+stop_one : (text : List ℕ) (at to end : ℕ) (x y : IcuExpected) → NumbersStop text at to x
+    → NumbersStop text at end y → (to ≡ end) × (x ≡ y)
+stop_one text at _ _ _ _ (at_once f) (at_once g) = (refl, refl)
+stop_one text at _ end _ _ (at_once f) (behind_one i _ v p k c) = absurd (f i v p)
+stop_one text at to _ _ _ (behind_one i _ v p k c) (at_once f) = absurd (f i v p)
+stop_one text at to end _ _ (behind_one i _ v p k c) (behind_one j _ w q l d) = (
+  Skip-one text i to end k
+      (subst (λ u. Skip text u end) (sym (Number-one text at i j v w p q).0) l),
+  refl,
+)
+
+stop_here : (text : List ℕ) (at place to : ℕ) (x : IcuExpected) → NumbersSoFar text at place
+    → NumbersStop text at to x → at ≡ place
+stop_here text at place to x c h = by to x h (first_counted text at place c)
+  where
+    by : (to : ℕ) (x : IcuExpected) → NumbersStop text at to x
+        → (at ≡ place) ⊎ ((m n o w : ℕ) × Number text at m w × Skip text m n
+        × (slice_index text n ≡ ascii.comma) × Skip text (n + 1) o × NumbersSoFar text o place)
+        → at ≡ place
+    by to x h (inl e) = e
+    by _ _ (at_once f) (inr (m, n, o, w, q, z, e, y, c)) = absurd (f m w q)
+    by to _ (behind_one i _ v p k d) (inr (m, n, o, w, q, z, e, y, c)) =
+        let same = Skip-one text m n to z
+        (subst (λ u. Skip text u to) (Number-one text at i m v w p q).0 k) in
+        absurd (d (subst (λ u. slice_index text u ≡ ascii.comma) same e))
+
+-- numbers stop at one place
+numbers_stop : (text : List ℕ) (from a b to end : ℕ) (x y : IcuExpected) → NumbersSoFar text from a
+    → NumbersStop text a to x → NumbersSoFar text from b → NumbersStop text b end y
+    → (to ≡ end) × (x ≡ y)
+numbers_stop text from a b to end x y c h d k =
+    let same = by (counted_meet text from a b c d) in
+    stop_one text b to end x y (subst (λ u. NumbersStop text u to x) same h) k
+  where
+    by : NumbersSoFar text a b ⊎ NumbersSoFar text b a → a ≡ b
+    by (inl e) = stop_here text a b to x e h
+    by (inr e) = sym (stop_here text b a end y e k)
+
+-- behind a string
+behind_string : (text : List ℕ) (from i j to end : ℕ) (s t : List ℕ) → Text text from i s
+    → Skip text i to → Text text from j t → Skip text j end → to ≡ end
+behind_string text from i j to end s t p k q l =
+    (string_skipped text from i j to end s t p k q l).0
+
+-- the content of a group is stuck at one place
+LeafStuck-one : (text : List ℕ) (from : ℕ) (kind : Kind) (to end : ℕ) (x y : IcuExpected)
+    → LeafStuck text from kind to x → LeafStuck text from kind end y → (to ≡ end) × (x ≡ y)
+LeafStuck-one text from _ _ _ _ _ (no_string f) (no_string g) = (refl, refl)
+LeafStuck-one text from _ _ _ _ _ (no_string f) (open_string i _ s p k n) = absurd (f i s p)
+LeafStuck-one text from _ _ _ _ _ (open_string i _ s p k n) (no_string f) = absurd (f i s p)
+LeafStuck-one text from _ to end _ _ (open_string i _ s p k n) (open_string j _ t q l m) =
+    (behind_string text from i j to end s t p k q l, refl)
+LeafStuck-one text from _ _ _ _ _ (no_digits f) (no_digits g) = (refl, refl)
+LeafStuck-one text from _ _ _ _ _ (no_digits f) (odd_digits i s p n) = absurd (f i s p)
+LeafStuck-one text from _ _ _ _ _ (no_digits f) (open_binary i _ s p h k n) = absurd (f i s p)
+LeafStuck-one text from _ _ _ _ _ (odd_digits i s p n) (no_digits f) = absurd (f i s p)
+LeafStuck-one text from _ _ _ _ _ (odd_digits i s p n) (odd_digits j t q m) = (refl, refl)
+LeafStuck-one text from _ _ _ _ _ (odd_digits i s p n) (open_binary j _ t q h l m) =
+    absurd (h (ap hex_bytes (sym (String-one text from i j s t p q).1) ∙ n))
+LeafStuck-one text from _ _ _ _ _ (open_binary i _ s p h k n) (no_digits f) = absurd (f i s p)
+LeafStuck-one text from _ _ _ _ _ (open_binary i _ s p h k n) (odd_digits j t q m) =
+    absurd (h (ap hex_bytes (String-one text from i j s t p q).1 ∙ m))
+LeafStuck-one text from _ to end _ _ (open_binary i _ s p h k n) (open_binary j _ t q g l m) =
+    (behind_string text from i j to end s t p k q l, refl)
+LeafStuck-one text from _ _ _ _ _ (no_integer f) (no_integer g) = (refl, refl)
+LeafStuck-one text from _ _ _ _ _ (no_integer f) (open_integer i _ v p k n) = absurd (f i v p)
+LeafStuck-one text from _ _ _ _ _ (open_integer i _ v p k n) (no_integer f) = absurd (f i v p)
+LeafStuck-one text from _ to end _ _ (open_integer i _ v p k n) (open_integer j _ w q l m) = (
+  Skip-one text i to end k
+      (subst (λ u. Skip text u end) (sym (Number-one text from i j v w p q).0) l),
+  refl,
+)
+LeafStuck-one text from _ to end _ _ (no_number _ c b f) (no_number _ d a g) =
+    numbers_stop text from to end to end _ _ c (at_once f) d (at_once g)
+LeafStuck-one text from _ to end _ _ (no_number _ c b f) (open_vector at i _ v d p k n m) =
+    numbers_stop text from to at to end _ _ c (at_once f) d (behind_one i end v p k n)
+LeafStuck-one text from _ to end _ _ (open_vector at i _ v d p k n m) (no_number _ c b f) =
+    numbers_stop text from at end to end _ _ d (behind_one i to v p k n) c (at_once f)
+LeafStuck-one text from _ to end _ _ (open_vector at i _ v d p k n m)
+    (open_vector place j _ w c q l o u) =
+    numbers_stop text from at place to end _ _ d (behind_one i to v p k n) c
+    (behind_one j end w q l o)
+
+-- a reading is blocked at one place
+Blocked-one : (text : List ℕ) (s : Standing) (at to end : ℕ) (x y : IcuExpected)
+    → Blocked text s at to x → Blocked text s at end y → (to ≡ end) × (x ≡ y)
+Blocked-one text _ at _ _ _ _ (stuck.no_member last ts _ a b d f) (stuck.no_member _ _ _ e g h k) =
+    (refl, refl)
+Blocked-one text _ at _ _ _ _ (stuck.no_member last ts _ a b d f) (stuck.two_strings _ _ _ i s e p)
+    = absurd (f i s p)
+Blocked-one text _ at _ _ _ _ (stuck.no_member last ts _ a b d f) (stuck.lone_comma _ _ _ e c) =
+    absurd (b c)
+Blocked-one text _ at _ _ _ _ (stuck.two_strings last ts _ i s e p) (stuck.no_member _ _ _ a b d f)
+    = absurd (f i s p)
+Blocked-one text _ at _ _ _ _ (stuck.two_strings last ts _ i s e p)
+    (stuck.two_strings _ _ _ j t g q) = (refl, refl)
+Blocked-one text _ at _ _ _ _ (stuck.two_strings last ts _ i s e p) (stuck.lone_comma _ _ _ g c) =
+    absurd (groups.no_string text at i _ s p c refl)
+Blocked-one text _ at _ _ _ _ (stuck.lone_comma last ts _ e c) (stuck.no_member _ _ _ a b d f) =
+    absurd (b c)
+Blocked-one text _ at _ _ _ _ (stuck.lone_comma last ts _ e c) (stuck.two_strings _ _ _ i s g p) =
+    absurd (groups.no_string text at i _ s p c refl)
+Blocked-one text _ at _ _ _ _ (stuck.lone_comma last ts _ e c) (stuck.lone_comma _ _ _ g d) =
+    (refl, refl)
+Blocked-one text _ at _ _ _ _ (stuck.key_twice es _ c d) (stuck.key_twice _ _ e f) = (refl, refl)
+Blocked-one text _ at _ _ _ _ (stuck.key_twice es _ c d) (stuck.no_entry _ _ a f) = absurd (a c)
+Blocked-one text _ at _ _ _ _ (stuck.no_entry es _ a f) (stuck.key_twice _ _ c d) = absurd (a c)
+Blocked-one text _ at _ _ _ _ (stuck.no_entry es _ a f) (stuck.no_entry _ _ b g) = (refl, refl)
+Blocked-one text _ at _ _ _ _ (stuck.no_group _ f) (stuck.no_group _ g) = (refl, refl)
+Blocked-one text _ at _ _ _ _ (stuck.no_group _ f) (stuck.no_type _ c g) = absurd (f (inr c))
+Blocked-one text _ at _ _ _ _ (stuck.no_group _ f) (stuck.no_brace _ i _ kind g k n) =
+    absurd (f (inr g.stands.colon))
+Blocked-one text _ at _ _ _ _ (stuck.no_type _ c g) (stuck.no_group _ f) = absurd (f (inr c))
+Blocked-one text _ at _ _ _ _ (stuck.no_type _ c g) (stuck.no_type _ d f) = (refl, refl)
+Blocked-one text _ at _ _ _ _ (stuck.no_type _ c f) (stuck.no_brace _ i _ kind g k n) =
+    absurd (f i kind g)
+Blocked-one text _ at _ _ _ _ (stuck.no_brace _ i _ kind g k n) (stuck.no_group _ f) =
+    absurd (f (inr g.stands.colon))
+Blocked-one text _ at _ _ _ _ (stuck.no_brace _ i _ kind g k n) (stuck.no_type _ c f) =
+    absurd (f i kind g)
+Blocked-one text _ at to end _ _ (stuck.no_brace _ i _ kind g k n)
+    (stuck.no_brace _ j _ other h l m) = (
+      Skip-one text i to end k
+          (subst (λ u. Skip text u end) (sym (GroupType-one text at i j kind other g h).0) l),
+      refl,
+    )
+Blocked-one text _ at _ _ _ _ (stuck.no_content _ a b f) (stuck.no_content _ c d g) = (refl, refl)
+Blocked-one text _ at _ _ _ _ (stuck.no_content _ a b f) (stuck.no_further _ i _ s p k c d g) =
+    absurd (f i s p)
+Blocked-one text _ at _ _ _ _ (stuck.no_content _ a b f) (stuck.no_key _ i j s p k c g) =
+    absurd (f i s p)
+Blocked-one text _ at _ _ _ _ (stuck.no_further _ i _ s p k c d g) (stuck.no_content _ a b f) =
+    absurd (f i s p)
+Blocked-one text _ at to end _ _ (stuck.no_further _ i _ s p k c d g)
+    (stuck.no_further _ j _ t q l e f h) =
+    (behind_string text at i j to end s t p k q l, refl)
+Blocked-one text _ at to _ _ _ (stuck.no_further _ i _ s p k c d g)
+    (stuck.no_key _ j m t q l b f) =
+    absurd (g (subst (λ u. BeginsGroup text u) (behind_string text at j i m to t s q l p k) b))
+Blocked-one text _ at _ _ _ _ (stuck.no_key _ i j s p k c g) (stuck.no_content _ a b f) =
+    absurd (f i s p)
+Blocked-one text _ at _ end _ _ (stuck.no_key _ j m t q l b f)
+    (stuck.no_further _ i _ s p k c d g) =
+    absurd (g (subst (λ u. BeginsGroup text u) (behind_string text at j i m end t s q l p k) b))
+Blocked-one text _ at _ _ _ _ (stuck.no_key _ i j s p k b f) (stuck.no_key _ m n t q l c g) =
+    (refl, refl)
+Blocked-one text _ at to end x y (stuck.in_leaf kind _ _ _ h) (stuck.in_leaf _ _ _ _ g) =
+    LeafStuck-one text at kind to end x y h g
+
+EndBlocked-one : (text : List ℕ) (ws : List Waiting) (t : Tree) (at to end : ℕ)
+    (x y : IcuExpected) → EndBlocked text t at ws to x → EndBlocked text t at ws end y
+    → (to ≡ end) × (x ≡ y)
+EndBlocked-one text _ t at _ _ _ _ (a_collation ws es k e) (a_collation _ _ _ f) = (refl, refl)
+EndBlocked-one text _ t at to end _ _ (more_text _ k w) (more_text _ l v) =
+    (Skip-one text at to end k l, refl)
+
+Halts-one : (text : List ℕ) (r : Reading) (to end : ℕ) (x y : IcuExpected) → Halts text r to x
+    → Halts text r end y → (to ≡ end) × (x ≡ y)
+Halts-one text _ to end x y (stuck.inside ws ks s at _ _ b) (stuck.inside _ _ _ _ _ _ d) =
+    Blocked-one text s at to end x y b d
+Halts-one text _ to end x y (stuck.inside ws ks s at _ _ b) (stuck.behind _ _ t _ _ _ d) =
+    elim b [ ]
+Halts-one text _ to end x y (stuck.behind ws ks t at _ _ b) (stuck.inside _ _ _ _ _ _ d) =
+    elim d [ ]
+Halts-one text _ to end x y (stuck.behind ws ks t at _ _ b) (stuck.behind _ _ _ _ _ _ d) =
+    EndBlocked-one text ws t at to end x y b d
+
+-- where a reading halts no further steps begin
+halts_here : (text : List ℕ) (r q : Reading) (to : ℕ) (x : IcuExpected) → Halts text r to x
+    → Comes text r q → r ≡ q
+halts_here text r q to x h c = by (first_step text r q c)
+  where
+    by : (r ≡ q) ⊎ ((mid : Reading) × Next text r mid × Comes text mid q) → r ≡ q
+    by (inl e) = e
+    by (inr (mid, n, d)) = absurd (halts_stays text r mid to x h n)
+
+-- from one place on a reading gets stuck at one place
+StuckFrom-one : (text : List ℕ) (from : Reading) (to end : ℕ) (x y : IcuExpected)
+    → StuckFrom text from to x → StuckFrom text from end y → (to ≡ end) × (x ≡ y)
+StuckFrom-one text from to end x y p q =
+    let same = by (comes_meet text from p.last q.last p.comes q.comes) in
+    Halts-one text q.last to end x y (subst (λ u. Halts text u to x) same p.halts) q.halts
+  where
+    by : Comes text p.last q.last ⊎ Comes text q.last p.last → p.last ≡ q.last
+    by (inl c) = halts_here text p.last q.last to x p.halts c
+    by (inr c) = sym (halts_here text q.last p.last end y q.halts c)
+
+-- where the name of a bundle begins
+record Starts (text : List ℕ) (start : ℕ) : Type 0 where
+  begin : ℕ
+  begins : Begins text begin
+  before : Skip text begin start
+
+-- where what follows the name of a bundle begins
+record Titled (text : List ℕ) (at : ℕ) : Type 0 where
+  start : ℕ
+  end : ℕ
+  name : List ℕ
+  starts : Starts text start
+  named : Name text start end name
+  between : Skip text end at
+
+Starts-one : (text : List ℕ) (a b : ℕ) → Starts text a → Starts text b → a ≡ b
+Starts-one text a b p q =
+    Skip-one text p.begin a b p.before
+    (subst (λ n. Skip text n b) (sym (Begins-one text p.begin q.begin p.begins q.begins)) q.before)
+
+Titled-one : (text : List ℕ) (a b : ℕ) → Titled text a → Titled text b → a ≡ b
+Titled-one text a b p q =
+    let start = Starts-one text p.start q.start p.starts q.starts in
+    let named = Name-one text p.start p.end q.end p.name q.name p.named
+    (subst (λ n. Name text n q.end q.name) (sym start) q.named) in
+    Skip-one text p.end a b p.between (subst (λ n. Skip text n b) (sym named.0) q.between)
+
+-- what is wrong behind a name
+data HeadFault (text : List ℕ) (at : ℕ) : ℕ → IcuExpected → Type 0 where
+  bad_type : slice_index text at ≡ ascii.colon
+      → ((to : ℕ) (fallback : Bool) → RootType text at to fallback → ⊥)
+      → HeadFault text at at expect.RootType
+  no_type : slice_index text at ≢ ascii.colon → HeadFault text at at expect.LeftBrace
+  no_brace : (i to : ℕ) (fallback : Bool) → RootType text at i fallback → Skip text i to
+      → HeadFault text at to expect.LeftBrace
+
+HeadFault-one : (text : List ℕ) (at to end : ℕ) (x y : IcuExpected) → HeadFault text at to x
+    → HeadFault text at end y → (to ≡ end) × (x ≡ y)
+HeadFault-one text at _ _ _ _ (bad_type c f) (bad_type d g) = (refl, refl)
+HeadFault-one text at _ _ _ _ (bad_type c f) (no_type n) = absurd (n c)
+HeadFault-one text at _ _ _ _ (bad_type c f) (no_brace i _ g r k) = absurd (f i g r)
+HeadFault-one text at _ _ _ _ (no_type n) (bad_type c f) = absurd (n c)
+HeadFault-one text at _ _ _ _ (no_type n) (no_type m) = (refl, refl)
+HeadFault-one text at _ _ _ _ (no_type n) (no_brace i _ g r k) =
+    absurd (n (root_type_first text at i g r))
+HeadFault-one text at _ _ _ _ (no_brace i _ g r k) (bad_type c f) = absurd (f i g r)
+HeadFault-one text at _ _ _ _ (no_brace i _ g r k) (no_type n) =
+    absurd (n (root_type_first text at i g r))
+HeadFault-one text at to end _ _ (no_brace i _ f r k) (no_brace j _ g q l) = (
+  Skip-one text i to end k
+      (subst (λ u. Skip text u end) (sym (RootType-one text at i j f g r q).0) l),
+  refl,
+)
+
+-- a head without a name, or with a fault behind the name
+data HeadCase (text : List ℕ) : ℕ → IcuExpected → Type 0 where
+  nameless : (start : ℕ) → Starts text start
+      → ((to : ℕ) (name : List ℕ) → Name text start to name → ⊥)
+      → HeadCase text start expect.Name
+  faulty : (at to : ℕ) (x : IcuExpected) → Titled text at → HeadFault text at to x
+      → HeadCase text to x
+
+titled : (text name : List ℕ) (a start end at : ℕ) → Begins text a → Skip text a start
+    → Name text start end name → Skip text end at → Titled text at
+titled text name a start end at b k n l = record {
+  start = start;
+  end = end;
+  name = name;
+  starts = record { begin = a; begins = b; before = k };
+  named = n;
+  between = l;
+}
+
+head_case : (text : List ℕ) (to : ℕ) (x : IcuExpected) → HeadStuck text to x → HeadCase text to x
+head_case text _ _ (no_name a start b k f) =
+    nameless start (record { begin = a; begins = b; before = k }) f
+head_case text _ _ (no_root_type a start end at name b k n l c f) =
+    faulty at at _ (titled text name a start end at b k n l) (bad_type c f)
+head_case text _ _ (no_root_brace a start end at name b k n l c d) =
+    faulty at at _ (titled text name a start end at b k n l) (no_type c)
+head_case text _ _ (no_typed_brace a start end at i brace name g b k n l r m d) =
+    faulty at brace _ (titled text name a start end at b k n l) (no_brace i brace g r m)
+
+HeadCase-one : (text : List ℕ) (to end : ℕ) (x y : IcuExpected) → HeadCase text to x
+    → HeadCase text end y → (to ≡ end) × (x ≡ y)
+HeadCase-one text to end _ _ (nameless _ s f) (nameless _ t g) =
+    (Starts-one text to end s t, refl)
+HeadCase-one text to end _ y (nameless _ s f) (faulty at _ _ t h) =
+    absurd (f t.end t.name
+    (subst (λ u. Name text u t.end t.name) (Starts-one text t.start to t.starts s) t.named))
+HeadCase-one text to end x _ (faulty at _ _ t h) (nameless _ s f) =
+    absurd (f t.end t.name
+    (subst (λ u. Name text u t.end t.name) (Starts-one text t.start end t.starts s) t.named))
+HeadCase-one text to end x y (faulty at _ _ t h) (faulty place _ _ u k) =
+    HeadFault-one text at to end x y h
+    (subst (λ n. HeadFault text n end y) (sym (Titled-one text at place t u)) k)
+
+-- a text gets stuck at one place, where one thing is expected
+pub stuck_in_one_way : IcuStuckInOneWay
+stuck_in_one_way text to end x y (in_head s) (in_head t) =
+    HeadCase-one text to end x y (head_case text to x s) (head_case text end y t)
+stuck_in_one_way text to end x y (in_head s) (in_root name f first h t) =
+    absurd (head_never text to x s name f first h)
+stuck_in_one_way text to end x y (in_root name f first h s) (in_head t) =
+    absurd (head_never text end y t name f first h)
+stuck_in_one_way text to end x y (in_root name f first h s) (in_root other g second k t) =
+    let same = (Header-one text name other f g first second h k).2 in
+    StuckFrom-one text (at_root first) to end x y s
+    (subst (λ n. StuckFrom text (at_root n) end y) (sym same) t)

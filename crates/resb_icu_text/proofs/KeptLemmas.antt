@@ -1,0 +1,64 @@
+-- What passes the tests of strings, part by part.
+use Rattle.std.proofs.Common.{◌≡◌, ℕ, Bool, true, false, not, List, [], ◌∷◌, ◌++◌, Vec, Global}
+use Rattle.std.proofs.Common.{refl, sym, ◌∙◌, ap, subst}
+use Rattle.std.proofs.lemmas.Bool.{and_from, and_parts, false≢true}
+use Rattle.std.proofs.lemmas.List.{map-append}
+use Rattle.std.specs.Cow.{cow_str_bytes}
+use Rattle.std.specs.Prelude.{map}
+use Rattle.std.specs.declared.borrow.CowStr.{CowStr}
+use Rattle.resb_tree.specs.Borrowing as borrowing
+use Rattle.resb_tree.specs.Borrowing.{all_true, are_slice}
+use Rattle.resb_tree.specs.declared.resource.Resource.{Resource, String}
+use Rattle.resb_tree.proofs.BorrowingLemmas.{all_snoc, string_passes}
+use Rattle.resb_icu_grammar.specs.Words.{Text}
+use Rattle.resb_icu_text.specs.Lexemes.{IsLexeme, Verbatim, bytes_said, stands_whole}
+use Rattle.resb_icu_text.specs.Borrowed.{IsPutTogether, PassesWhatIsSaid, passes, KeepsSlices}
+use Rattle.resb_icu_text.specs.Inner.Kept.{Test, members_pass, entries_pass}
+use Rattle.resb_icu_text.specs.declared.strings.Lexeme.{Lexeme}
+
+by_slice : (text : List ℕ) (test : Test) (s : CowStr Global) (b : Bool)
+    → borrowing.is_slice s ≡ b → (b ≡ false → IsPutTogether text (cow_str_bytes s))
+    → PassesWhatIsSaid text test → test s ≡ true
+by_slice text test s true h f p = p.slices s h
+by_slice text test s false h f p = p.built s (f refl)
+
+put_together : (text : List ℕ) (from : ℕ) (l : Lexeme) (bytes : List ℕ) → IsLexeme text from l
+    → bytes ≡ bytes_said l.said → stands_whole l.said ≡ false → IsPutTogether text bytes
+put_together text from l bytes is e n = record {
+  from = from;
+  to = l.end;
+  says = subst (λ (s : List ℕ). Text text from l.end s) (sym e) is.string;
+  not_verbatim = λ h. false≢true (sym n ∙ is.slice.1
+      (subst (λ (s : List ℕ). Verbatim text from l.end s) e h));
+}
+
+-- what a string says is a slice, or the text puts it together
+pub said_kept : (text : List ℕ) (from : ℕ) (l : Lexeme) (s : CowStr Global) → IsLexeme text from l
+    → cow_str_bytes s ≡ bytes_said l.said → borrowing.is_slice s ≡ stands_whole l.said
+    → KeepsSlices text (String s)
+said_kept text from l s is e k test p =
+    string_passes test (λ b. not (are_slice b)) s
+    ∙ by_slice text test s (stands_whole l.said) k
+    (put_together text from l (cow_str_bytes s) is e) p
+
+-- a member more
+pub members_with : (test : Test) (v old : List Resource) (r : Resource) → v ≡ old ++ r ∷ []
+    → members_pass old test ≡ true → passes test r ≡ true → members_pass v test ≡ true
+members_with test v old r e h k =
+    ap (λ l. all_true (map (passes test) l)) e
+    ∙ ap all_true (map-append (passes test) old (r ∷ []))
+    ∙ all_snoc (map (passes test) old) (passes test r) h k
+
+entry_behind : (test : Test) (es : List (List ℕ × Resource)) (k : List ℕ) (r : Resource)
+    → entries_pass es test ≡ true → passes test r ≡ true
+    → entries_pass (es ++ (k, r) ∷ []) test ≡ true
+entry_behind test [] k r h j = and_from (passes test r) true j refl
+entry_behind test (e ∷ es) k r h j =
+    let all = and_parts _ _ h in and_from _ _ all.0 (entry_behind test es k r all.1 j)
+
+-- an entry more
+pub entries_with : (test : Test) (v old : List (List ℕ × Resource)) (k : List ℕ) (r : Resource)
+    → v ≡ old ++ (k, r) ∷ [] → entries_pass old test ≡ true → passes test r ≡ true
+    → entries_pass v test ≡ true
+entries_with test v old k r e h j =
+    ap (λ l. entries_pass l test) e ∙ entry_behind test old k r h j

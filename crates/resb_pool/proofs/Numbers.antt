@@ -1,0 +1,86 @@
+-- Numbers and how they compare, and two comparisons in a row: what names no word of this project.
+use Rattle.std.proofs.Common.{◌≡◌, ℕ, ◌<◌, ◌⊎◌, inl, inr, refl, ◌∙◌, ap, sym, suc, ◌+◌, ◌-◌, arith}
+use Rattle.std.proofs.Common.{false, zero, nat_eq, ◌≤◌}
+use Rattle.std.specs.Ordering.{nat_cmp, ordering_reverse, ordering_then, is_lt}
+use Rattle.std.specs.declared.cmp.Ordering.{Ordering}
+use Rattle.std.specs.declared.cmp.Ordering.TheVariants.{Less, Equal, Greater}
+use Rattle.std.proofs.lemmas.Cmp.{nat_cmp_total, ranked, by_ranked}
+use Rattle.std.proofs.lemmas.Bool.{cases_lt, ne_eqb}
+
+-- how two numbers compare, both ways
+pub cmp_both_ways : (x y : ℕ) → ((nat_cmp x y ≡ Less) × (nat_cmp y x ≡ Greater))
+    ⊎ (((nat_cmp x y ≡ Equal) × (nat_cmp y x ≡ Equal) × (x ≡ y))
+    ⊎ ((nat_cmp x y ≡ Greater) × (nat_cmp y x ≡ Less)))
+cmp_both_ways x y =
+    let back : (a b : ℕ) (o : Ordering) → nat_cmp a b ≡ o → nat_cmp b a ≡ ordering_reverse o =
+    λ a b o e. nat_cmp_total.antisymm b a ∙ ap ordering_reverse e in
+    by_ranked (x < y) (x ≡ y) (y < x) (nat_cmp x y) (ranked x y (nat_cmp x y) refl)
+    (λ e _. inl (e, back x y Less e)) (λ e h. inr (inl (e, back x y Equal e, h)))
+    (λ e _. inr (inr (e, back x y Greater e)))
+
+-- of two comparisons in a row, the first decides where it tells a difference
+pub then_less : (o p : Ordering) → o ≡ Less → ordering_then o p ≡ Less
+then_less o p e = rw e refl
+
+pub then_greater : (o p : Ordering) → o ≡ Greater → ordering_then o p ≡ Greater
+then_greater o p e = rw e refl
+
+-- and the second where it tells none
+pub then_equal : (o p : Ordering) → o ≡ Equal → ordering_then o p ≡ p
+then_equal o p e = rw e refl
+
+-- two numbers that differ decide
+pub then_differs : (x y : ℕ) (o : Ordering) → (x ≡ y → ⊥)
+    → ordering_then (nat_cmp x y) o ≡ nat_cmp x y
+then_differs x y o ne = elim (cmp_both_ways x y) [
+  | inl h ↦ then_less (nat_cmp x y) o h.0 ∙ sym h.0
+  | inr (inl h) ↦ absurd (ne h.2)
+  | inr (inr h) ↦ then_greater (nat_cmp x y) o h.0 ∙ sym h.0
+]
+
+-- of what is left of six, one is taken
+pub one_of_six : (i : ℕ) → i < 6 → 6 - i ≡ suc (6 - (i + 1))
+one_of_six i l = omega (arith, l)
+
+-- a number is below another, the same, or above it
+pub three_ways : (P : Type 0) (x y : ℕ) → (nat_cmp x y ≡ Less → P) → (x ≡ y → P) → (y < x → P) → P
+three_ways P x y less same more = by_ranked (x < y) (x ≡ y) (y < x) (nat_cmp x y)
+    (ranked x y (nat_cmp x y) refl) (λ e h. less e) (λ e h. same h) (λ e h. more h)
+
+-- where the first of two comparisons says that one thing stands before another, so do both
+pub less_is_first : (o p : Ordering) → o ≡ Less → is_lt (ordering_then o p) ≡ false → ⊥
+less_is_first o p f g = cc (ap is_lt (then_less o p f), g)
+
+-- what is after another thing by the first comparison is not before it
+pub more_not : (o p : Ordering) → o ≡ Greater → is_lt (ordering_then o p) ≡ false
+more_not o p f = rw f refl
+
+-- not before by two comparisons in a row, nor where the second one is another that says no more
+pub then_not : (o p q : Ordering) → (is_lt p ≡ false → is_lt q ≡ false)
+    → is_lt (ordering_then o p) ≡ false → is_lt (ordering_then o q) ≡ false
+then_not Less p q f h = h
+then_not Equal p q f h = f h
+then_not Greater p q f h = h
+
+-- how two numbers compare, and what that says
+pub cmp_cases : (x y : ℕ) → ((nat_cmp x y ≡ Less) × (x < y)) ⊎ (((nat_cmp x y ≡ Equal) × (x ≡ y))
+    ⊎ ((nat_cmp x y ≡ Greater) × (y < x)))
+cmp_cases x y = by_ranked (x < y) (x ≡ y) (y < x) (nat_cmp x y) (ranked x y (nat_cmp x y) refl)
+    (λ e h. inl (e, h)) (λ e h. inr (inl (e, h))) (λ e h. inr (inr (e, h)))
+
+-- below the next number is below this one, or this one
+pub old_or_new : (n k : ℕ) → k < n + 1 → (k < n) ⊎ (k ≡ n)
+old_or_new n k l = elim (cases_lt k n) [ inl h ↦ inl h | inr h ↦ inr (omega arith) ]
+
+-- a number that is not 0 is positive
+pub more_than_zero : (n : ℕ) → (n ≡ 0 → ⊥) → 0 < n
+more_than_zero zero f = absurd (f refl)
+more_than_zero (suc n) f = omega arith
+
+-- the test for 0 fails at a positive number
+pub positive_is_not_zero : (n : ℕ) → 0 < n → nat_eq n 0 ≡ false
+positive_is_not_zero n h = ne_eqb n 0 (λ (e : n ≡ 0). omega arith)
+
+-- of two sums, the one whose first part is 0 is at most the other
+pub size_le : (m n a b : ℕ) → m ≡ 0 → a ≤ b → m + a + 1 ≤ n + b + 1
+size_le m n a b e h = omega arith

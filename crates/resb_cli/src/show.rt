@@ -7,8 +7,9 @@ use crate::words::limit_of;
 use clap::ArgMatches;
 use resb::binary::{FormatVersion, measure};
 use resb::bundle::{Resource, ResourceBundle};
-use resb::text::{IcuPrintError, PrintError, cause_path, icu_cause_path};
-use resb::text::{print_icu_text, print_text};
+use resb::text::{
+    IcuPrintError, PrintError, cause_path, icu_cause_path, print_icu_text, print_text,
+};
 use resb_bundler::{
     Found, JsonError, Summary, count_file, find, json_text, read_file, read_file_within, summary_of,
 };

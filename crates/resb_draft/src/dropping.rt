@@ -43,10 +43,7 @@ pub(crate) fn drop_all(mut pending: Vec<Draft<'_>>) {
 /// Drops a leaf, and puts any other draft on the list. Hands back one that the list has no room
 /// for.
 #[tactic(auto, using(crate::proofs::DroppingLemmas::drop_steps))]
-pub(crate) fn set_aside<'a>(
-    pending: &mut Vec<Draft<'a>>,
-    draft: Draft<'a>,
-) -> Result<(), Draft<'a>>
+pub(crate) fn set_aside<'a>(pending: &mut Vec<Draft<'a>>, draft: Draft<'a>) -> Result<(), Draft<'a>>
     ensures err { IfErr result (λ d. d ≡ draft.entry) }
     ensures count { drafts_among pending.new.items
         ≤ drafts_among pending.old.items + drafts_in draft.entry }

@@ -12,7 +12,6 @@ use Rattle.resb_tree.specs.Tree.{Tree, Entries, no_entries, entry, entries_len}
 use Rattle.resb_format.specs.Units.{units}
 use Rattle.resb_pool.specs.Plan.{nows, first_too_long}
 use Rattle.resb_tree.specs.LayingOrder.{text_in, values_of}
-use Rattle.resb_tree.specs.LayingOrder.{own_keys}
 use Rattle.resb_layout.specs.PlainSize.{held_size, resources_size}
 use Rattle.resb_layout.specs.TreeFaults.{is_over_32_bits}
 use Rattle.resb_write.specs.Inner.Gathered.{entry_count_of, largest_of, Gathered}
@@ -54,13 +53,12 @@ size-push : (ts : List Tree) (t : Tree)
 size-push ts t = sum_by-append (λ (u : Tree). 16 + held_size u) ts (t ∷ [])
     ∙ omega (arith, sum_by-cons (λ (u : Tree). 16 + held_size u) t [])
 
-flat-push : (f : Tree → List (List ℕ)) (ts : List Tree) (t : Tree)
+pub flat-push : (f : Tree → List (List ℕ)) (ts : List Tree) (t : Tree)
     → flat_map f (ts ++ t ∷ []) ≡ flat_map f ts ++ f t
 flat-push f ts t = flat_map-append f ts (t ∷ []) ∙ ap (λ l. flat_map f ts ++ l) (append-nil (f t))
 
 -- what a resource adds
 pub record Adds (old new : Contents) (t : Tree) : Type 0 where
-  pub keys : nows new.keys.items ≡ nows old.keys.items ++ own_keys t
   pub texts : nows new.texts.items ≡ nows old.texts.items ++ text_in t
   pub size : new.size ≡ min (old.size + (16 + held_size t)) (2 ^ 64 - 1)
   pub largest : new.largest_table ≡ max old.largest_table (entry_count_of t)
@@ -71,7 +69,6 @@ module _ (old new : Contents) (t : Tree) (a : Adds old new t) (ts : List Tree) (
   where
     pub added : Gathered (ts ++ t ∷ []) new
     added = record {
-      keys_are = a.keys ∙ ap (λ l. l ++ own_keys t) g.keys_are ∙ sym (flat-push own_keys ts t);
       texts_are = a.texts ∙ ap (λ l. l ++ text_in t) g.texts_are ∙ sym (flat-push text_in ts t);
       size_is = omega (arith, a.size, g.size_is, size-push ts t);
       largest_is = a.largest ∙ ap (λ n. max n (entry_count_of t)) g.largest_is
@@ -84,8 +81,8 @@ module _ (old new : Contents) (t : Tree) (a : Adds old new t) (ts : List Tree) (
           ∙ sym (list_any-append is_over_32_bits ts (t ∷ []));
     }
 
--- a resource with no key and no text
-module _ (old new : Contents) (t : Tree) (n : ℕ) (b : Bool) (no_keys : own_keys t ≡ [])
+-- a resource with no entry and no text
+module _ (old new : Contents) (t : Tree) (n : ℕ) (b : Bool)
     (no_text : text_in t ≡ []) (no_entries : entry_count_of t ≡ 0) (held : held_size t ≡ n)
     (over : is_over_32_bits t ≡ b) where
   pub adds_plain : new ≡ record old {
@@ -93,8 +90,6 @@ module _ (old new : Contents) (t : Tree) (n : ℕ) (b : Bool) (no_keys : own_key
     has_count_over_32_bits = old.has_count_over_32_bits || b;
   } → Adds old new t
   adds_plain e = record {
-    keys = ap (λ c. nows c.keys.items) e ∙ sym (append-nil (nows old.keys.items))
-        ∙ ap (λ l. nows old.keys.items ++ l) (sym no_keys);
     texts = ap (λ c. nows c.texts.items) e ∙ sym (append-nil (nows old.texts.items))
         ∙ ap (λ l. nows old.texts.items ++ l) (sym no_text);
     size = ap (λ c. c.size) e ∙ ap (λ m. min (old.size + (16 + m)) (2 ^ 64 - 1)) (sym held);

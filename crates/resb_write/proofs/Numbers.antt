@@ -78,6 +78,14 @@ string_left g ps os s rest k qs more e f n =
     let h : b.more ≡ more = (let i = sym b.is ∙ e in cc) in
     subst (λ l. GivesInTurn g l more rest) (sym f) (subst (λ l. GivesInTurn g ps l rest) h b.left)
 
+pub string_known : (g : Given) (ps os : List ℕ) (s : List ℕ) (rest : List Tree) (k : ℕ)
+    (more : List ℕ) → os ≡ k ∷ more → GivesInTurn g ps os (string s ∷ rest)
+    → (g.offset s ≡ Some k) × (k < 2 ^ 28)
+string_known g ps os s rest k more e n =
+    let b = behind_string g ps os s rest n in
+    let h : b.first ≡ k = (let i = sym b.is ∙ e in cc) in
+    (b.known ∙ ap Some h, subst (λ j. j < 2 ^ 28) h b.near)
+
 pub table_known : (g : Given) (ps os : List ℕ) (es : Entries) (rest : List Tree) (n : ℕ)
     → length (entry_keys es) ≡ n → (qs : List ℕ) → qs ≡ take n ps
     → GivesInTurn g ps os (table es ∷ rest) → map g.position (entry_keys es) ≡ map Some qs

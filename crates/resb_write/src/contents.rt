@@ -1,6 +1,5 @@
-//! What the resources of a tree hold, gathered in one walk: the keys of tables, the texts of
-//! strings, and what is tested before anything is laid. Where things come to stand is not said
-//! here.
+//! What the resources of a tree hold, gathered in one walk: the texts of strings, and what is
+//! tested before anything is laid. Where things come to stand is not said here.
 ghost use Rattle.std.specs.Prelude.{◌≡◌, ◌++◌, ◌∷◌, ◌+◌, ◌-◌, ◌*◌, ◌/◌, ◌^◌, ◌||◌, [], List};
 ghost use Rattle.std.specs.Prelude.{length, true};
 ghost use Rattle.std.specs.Prelude.{min, max, nat_lt, IfOk, OnOk};
@@ -8,11 +7,10 @@ ghost use Rattle.std.specs.Option.{option_or};
 ghost use Rattle.resb_tree.specs.Tree.{Tree};
 ghost use Rattle.resb_format.specs.Units.{units};
 ghost use Rattle.resb_pool.specs.Plan.{nows, first_too_long};
-ghost use Rattle.resb_tree.specs.LayingOrder.{own_keys};
 ghost use Rattle.resb_write.specs.Inner.Gathered.{Gathered};
-ghost use Rattle.resb_write.specs.Inner.Nodes.{trees_by, all_ready};
+ghost use Rattle.resb_write.specs.Inner.Nodes.{Fits, IsNode};
 
-use crate::nodes::{AsNode, InOrder, Node};
+use crate::nodes::{AsNode, Node};
 use resb_format::utf16_len;
 use std::alloc::{AllocError, Global};
 
@@ -23,8 +21,7 @@ const GREATEST: usize = 0xffff_ffff;
 /// What resources hold.
 #[derive(Drop)]
 pub(crate) struct Contents<'t> {
-    /// The keys of tables and the texts of strings, as often as each stands there.
-    pub(crate) keys: Vec<&'t str>,
+    /// The texts of strings, as often as each stands there.
     pub(crate) texts: Vec<&'t str>,
     /// Their part of the plain size, or the greatest number, if that is less.
     pub(crate) size: usize,
@@ -37,16 +34,14 @@ pub(crate) struct Contents<'t> {
 }
 
 impl<'t> Contents<'t> {
-    /// What the resources of a tree hold, which are given in laying order.
+    /// What resources hold, in their order.
     pub(crate) fn gather<R: AsNode>(
         alloc: Global,
-        order: &InOrder<'t, R>,
+        order: &'t [R],
     ) -> Result<Contents<'t>, AllocError>
-        requires { all_ready R.ready order.now.items ≡ true }
-        ensures { IfOk result (λ c. Gathered (trees_by R.tree order.now.items) c) }
+        ensures { IfOk result (λ c. (ts : List Tree) → Fits R.is order.now ts → Gathered ts c) }
     {
         let mut contents = Contents {
-            keys: Vec::new(alloc),
             texts: Vec::new(alloc),
             size: 0,
             largest_table: 0,
@@ -54,21 +49,20 @@ impl<'t> Contents<'t> {
             has_count_over_32_bits: false,
         };
         for at in 0..order.len() {
-            contents.add(&*order[at])?;
+            contents.add(order[at].as_node())?;
         }
         Ok(contents)
     }
 
     /// Adds what a resource holds.
-    fn add<R: AsNode>(&mut self, resource: &'t R) -> Result<(), AllocError>
-        requires { R.ready resource.now ≡ true }
-        ensures { OnOk result ((ts : List Tree) → Gathered ts self.old
-            → Gathered (ts ++ R.tree resource.now ∷ []) self.new) }
+    fn add(&mut self, node: Node<'t>) -> Result<(), AllocError>
+        ensures { OnOk result ((ts : List Tree) (t : Tree) → Gathered ts self.old → IsNode node.entry t
+            → Gathered (ts ++ t ∷ []) self.new) }
     {
-        match resource.as_node() {
+        match node {
             Node::String(text) => self.add_text(text)?,
             Node::Array(count) => self.add_counted(count, 4),
-            Node::Table(count) => self.add_table(resource, count)?,
+            Node::Table(count) => self.add_table(count),
             Node::Binary(bytes) => self.add_bytes(bytes.len()),
             Node::Integer(_) => self.add_size(0),
             Node::IntVector(numbers) => self.add_counted(numbers.len(), 2),
@@ -127,17 +121,13 @@ impl<'t> Contents<'t> {
     }
 
     /// Adds a table of so many entries.
-    fn add_table<R: AsNode>(&mut self, table: &'t R, count: usize) -> Result<(), AllocError>
-        ensures { OnOk result ((nows self.new.keys.items
-            ≡ nows self.old.keys.items ++ own_keys (R.tree table.now))
-            × (self.new ≡ record self.old {
-              keys = self.new.keys;
-              size = min (self.old.size + (16 + 4 * count)) (2 ^ 64 - 1);
-              largest_table = max self.old.largest_table count;
-            })) }
+    fn add_table(&mut self, count: usize)
+        ensures { self.new ≡ record self.old {
+          size = min (self.old.size + (16 + 4 * count)) (2 ^ 64 - 1);
+          largest_table = max self.old.largest_table count;
+        } }
     {
         self.largest_table = self.largest_table.max(count);
         self.add_size(count.saturating_mul(4));
-        table.push_keys(&mut self.keys)
     }
 }

@@ -1,15 +1,16 @@
-//! What the writer needs of a resource: what it is without what is inside it, and its keys. So the
-//! writer is generic over what is laid: the resources of `resb_tree`, or drafts (`drafts`).
+//! What the writer needs of a resource: what it is without what is inside it. So the writer is
+//! generic over what is laid. The nodes of resources are made here, those of drafts in `drafts`.
 //! What is gathered from resources and laid for them is not said here.
-ghost use Rattle.std.specs.Prelude.{◌≡◌, ◌++◌, Bool, true, OnOk};
+ghost use Rattle.std.specs.Prelude.{◌≡◌, ◌++◌, IfOk, OnOk};
+ghost use Rattle.std.specs.List.{flat_map};
 ghost use Rattle.resb_tree.specs.Tree.{Tree};
 ghost use Rattle.resb_tree.specs.View.{tree_of, entries_view};
-ghost use Rattle.resb_tree.specs.LayingOrder.{entry_keys, own_keys};
+ghost use Rattle.resb_tree.specs.LayingOrder.{entry_keys, own_keys, trees_in};
 ghost use Rattle.resb_pool.specs.Plan.{nows};
-ghost use Rattle.resb_write.specs.Inner.Nodes.{IsNode};
+ghost use Rattle.resb_write.specs.Inner.Nodes.{Fits, IsNode};
 
 use resb_tree::{Resource, Table};
-use std::alloc::AllocError;
+use std::alloc::{AllocError, Global};
 
 /// A resource without what is inside it.
 #[derive(Clone, Copy)]
@@ -28,59 +29,87 @@ pub(crate) enum Node<'t> {
     IntVector(&'t [u32]),
 }
 
-/// A resource of a tree, as the writer sees it.
+/// What stands for a resource of a tree, as the writer sees it.
 pub(crate) trait AsNode {
-    /// The tree for which it stands.
-    ghost tree: { Self → Tree };
-
-    /// Whether it can be written as it stands.
-    ghost ready: { Self → Bool };
+    /// Whether it can stand for that tree, of which it may say the root alone.
+    ghost is: { Self → Tree → Type 0 };
 
     /// The resource without what is inside it.
     fn as_node(&self) -> Node<'_>
-        requires { ready self.now ≡ true }
-        ensures { IsNode result (tree self.now) };
-
-    /// Appends the keys of a table, in their order; of any other resource none.
-    fn push_keys<'t>(&'t self, keys: &mut Vec<&'t str>) -> Result<(), AllocError>
-        ensures { OnOk result (nows keys.new.items
-            ≡ nows keys.old.items ++ own_keys (tree self.now)) };
+        ensures { (t : Tree) → is self.now t → IsNode result t };
 }
 
-/// Resources in laying order: members before their collection.
-pub(crate) type InOrder<'t, R> = Vec<&'t R>;
+impl<'t> AsNode for Node<'t> {
+    ghost use Rattle.resb_write.specs.Inner.Nodes.{IsNode};
 
-impl<'a> AsNode for Resource<'a> {
-    ghost use Rattle.resb_tree.specs.View.{tree_of};
-
-    ghost tree = { tree_of };
-
-    ghost ready = { λ r. true };
+    ghost is = { IsNode };
 
     fn as_node(&self) -> Node<'_> {
-        match self {
-            Resource::String(text) => Node::String(text.as_str()),
-            Resource::Array(items) => Node::Array(items.len()),
-            Resource::Table(table) => {
-                // `keys` is called for its clause that the keys ascend.
-                let _keys = table.keys();
-                Node::Table(table.len())
-            }
-            Resource::Binary(bytes) => Node::Binary(bytes.as_slice()),
-            Resource::Integer(number) => Node::Integer(u32::from(*number)),
-            Resource::IntVector(numbers) => Node::IntVector(numbers),
-        }
+        *self
     }
+}
 
-    fn push_keys<'t>(&'t self, keys: &mut Vec<&'t str>) -> Result<(), AllocError> {
-        match self {
-            Resource::Table(table) => push_table_keys(keys, table),
-            Resource::String(_)
-            | Resource::Array(_)
-            | Resource::Binary(_)
-            | Resource::Integer(_)
-            | Resource::IntVector(_) => Ok(()),
+/// Resources without what is inside them.
+pub(crate) fn nodes_of<'t>(
+    alloc: Global,
+    order: &Vec<&'t Resource<'_>>,
+) -> Result<Vec<Node<'t>>, AllocError>
+    ensures { IfOk result (λ v. Fits IsNode v.items (trees_in order.now.items)) }
+{
+    let mut nodes = Vec::with_capacity(alloc, order.len())?;
+    for at in 0..order.len() {
+        nodes.push(node_of(&*order[at]))?;
+    }
+    Ok(nodes)
+}
+
+/// A resource without what is inside it.
+pub(crate) fn node_of<'t>(resource: &'t Resource<'_>) -> Node<'t>
+    ensures { IsNode result (tree_of resource.now) }
+{
+    match resource {
+        Resource::String(text) => Node::String(text.as_str()),
+        Resource::Array(items) => Node::Array(items.len()),
+        Resource::Table(table) => {
+            // `keys` is called for its clause that the keys ascend.
+            let _keys = table.keys();
+            Node::Table(table.len())
         }
+        Resource::Binary(bytes) => Node::Binary(bytes.as_slice()),
+        Resource::Integer(number) => Node::Integer(u32::from(*number)),
+        Resource::IntVector(numbers) => Node::IntVector(numbers),
+    }
+}
+
+/// The keys of the tables among resources, in their order.
+pub(crate) fn table_keys<'t>(
+    alloc: Global,
+    order: &Vec<&'t Resource<'_>>,
+) -> Result<Vec<&'t str>, AllocError>
+    ensures { IfOk result (λ v. nows v.items ≡ flat_map own_keys (trees_in order.now.items)) }
+{
+    let mut keys = Vec::new(alloc);
+    for at in 0..order.len() {
+        push_keys(&mut keys, &*order[at])?;
+    }
+    Ok(keys)
+}
+
+/// Appends the keys of a table, in their order; of any other resource none.
+pub(crate) fn push_keys<'t>(
+    keys: &mut Vec<&'t str>,
+    resource: &'t Resource<'_>,
+) -> Result<(), AllocError>
+    ensures { OnOk result (nows keys.new.items
+        ≡ nows keys.old.items ++ own_keys (tree_of resource.now)) }
+{
+    match resource {
+        Resource::Table(table) => push_table_keys(keys, table),
+        Resource::String(_)
+        | Resource::Array(_)
+        | Resource::Binary(_)
+        | Resource::Integer(_)
+        | Resource::IntVector(_) => Ok(()),
     }
 }
 

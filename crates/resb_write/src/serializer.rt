@@ -4,19 +4,21 @@
 ghost use Rattle.std.specs.Prelude.{◌≡◌, true, IfOk, IfErr};
 ghost use Rattle.resb_tree.specs.Tree.{Tree};
 ghost use Rattle.resb_tree.specs.Bundle.{root_of};
-ghost use Rattle.resb_tree.specs.LayingOrder.{laying_order};
+ghost use Rattle.resb_tree.specs.LayingOrder.{laying_order, keys_of};
+ghost use Rattle.resb_pool.specs.Plan.{nows};
 ghost use Rattle.resb_draft.specs.Drafts.{draft_tree, is_ready};
 ghost use Rattle.resb_write.specs.FaultOf.{fault_of};
-ghost use Rattle.resb_write.specs.Inner.Nodes.{trees_by, all_ready};
+ghost use Rattle.resb_write.specs.Inner.Nodes.{Fits};
 ghost use Rattle.resb_layout.specs.TreeFaults.{RefusesWriting};
 ghost use Rattle.resb_layout.specs.Written.{Written};
 
 use crate::contents::Contents;
+use crate::drafts::{draft_keys, draft_nodes};
 use crate::error::BinarySerializerError;
 use crate::file::{Pieces, assemble};
 use crate::key_block::{KEYS_START, KeyBlock, block_length};
 use crate::limits::check_sizes;
-use crate::nodes::{AsNode, InOrder};
+use crate::nodes::{AsNode, nodes_of, table_keys};
 use crate::sites::Sites;
 use crate::strings::Strings;
 use crate::tree_bodies::lay_bodies;
@@ -85,7 +87,16 @@ fn write(
     ensures err { IfErr result (λ e. RefusesWriting (root_of bundle.now) list.now (fault_of e)) }
 {
     let order = in_laying_order(alloc, bundle.root())?;
-    write_order(alloc, &order, bundle.is_locale_fallback_enabled, list)
+    let keys = table_keys(alloc, &order)?;
+    let nodes = nodes_of(alloc, &order)?;
+    drop(order);
+    write_order(
+        alloc,
+        &nodes,
+        &keys,
+        bundle.is_locale_fallback_enabled,
+        list,
+    )
 }
 
 /// The file of a draft, which is put into laying order first.
@@ -101,26 +112,31 @@ fn write_draft(
     ensures err { IfErr result (λ e. RefusesWriting (draft_tree root.now) list.now (fault_of e)) }
 {
     let order = drafts_in_order(alloc, root)?;
-    write_order(alloc, &order, is_locale_fallback_enabled, list)
+    let keys = draft_keys(alloc, &order)?;
+    let nodes = draft_nodes(alloc, &order)?;
+    drop(order);
+    write_order(alloc, &nodes, &keys, is_locale_fallback_enabled, list)
 }
 
 /// The refusals in their order, and then the file of a tree, whose resources are given in laying
-/// order.
-fn write_order<R: AsNode>(
+/// order, and beside them the keys of its tables.
+pub(crate) fn write_order<R: AsNode>(
     alloc: Global,
-    order: &InOrder<'_, R>,
+    order: &[R],
+    tree_keys: &[&str],
     is_locale_fallback_enabled: bool,
     list: &[Key<'_>],
 ) -> Result<Vec<u8>, BinarySerializerError>
-    requires ready { all_ready R.ready order.now.items ≡ true }
-    requires tree { (t : Tree) × (trees_by R.tree order.now.items ≡ laying_order t) }
-    ensures ok { IfOk result (λ v. (t : Tree) → trees_by R.tree order.now.items ≡ laying_order t
+    requires { (t : Tree) × Fits R.is order.now (laying_order t)
+        × (nows tree_keys.now ≡ keys_of t) }
+    ensures ok { IfOk result (λ v. (t : Tree) → Fits R.is order.now (laying_order t)
+        → nows tree_keys.now ≡ keys_of t
         → Written v.items t is_locale_fallback_enabled list.now) }
-    ensures err { IfErr result (λ e. (t : Tree) → trees_by R.tree order.now.items ≡ laying_order t
-        → RefusesWriting t list.now (fault_of e)) }
+    ensures err { IfErr result (λ e. (t : Tree) → Fits R.is order.now (laying_order t)
+        → nows tree_keys.now ≡ keys_of t → RefusesWriting t list.now (fault_of e)) }
 {
     let contents = Contents::gather(alloc, order)?;
-    let KeyBlock { keys, positions } = KeyBlock::new(alloc, &contents.keys, list)?;
+    let KeyBlock { keys, positions } = KeyBlock::new(alloc, tree_keys, list)?;
     check_sizes(&contents, list)?;
     let Strings { pool, offsets } = Strings::plan(alloc, &contents.texts)?;
     let largest_table = contents.largest_table as u32;

@@ -1,7 +1,6 @@
 //! Lays a whole tree, its resources in laying order over a stack of words.
 //! What is laid for one resource is said in `body_steps`. No function calls itself.
 ghost use Rattle.std.specs.Prelude.{ℕ, ◌≡◌, ◌+◌, ◌%◌, ◌≤◌, [], ◌∷◌, List, All, length, IfOk, OnOk};
-ghost use Rattle.std.specs.Prelude.{true};
 ghost use Rattle.std.specs.List.{sum_by};
 ghost use Rattle.resb_tree.specs.Tree.{Tree};
 ghost use Rattle.resb_layout.specs.Laid.{Given, Lays};
@@ -10,44 +9,39 @@ ghost use Rattle.resb_write.specs.Inner.StackSteps.{LaysNext, LaysRow};
 ghost use Rattle.resb_write.specs.Inner.Room.{laid_of, own_size, GivesInTurn};
 ghost use Rattle.resb_write.specs.Inner.Room.{HasRoomFor, HasRoomBehind, tail_base, most_units};
 ghost use Rattle.resb_write.specs.Inner.Seen.{Anywhere, HasRoom, TakesNoMore, CanLay};
-ghost use Rattle.resb_write.specs.Inner.Nodes.{trees_by, all_ready};
+ghost use Rattle.resb_write.specs.Inner.Nodes.{Fits, IsNode};
 
 use crate::body_steps::{
     step_array, step_bytes, step_integer, step_numbers, step_string, step_table,
 };
-use crate::nodes::{AsNode, InOrder, Node};
+use crate::nodes::{AsNode, Node};
 use crate::sites::{Bodies, Coming, Sites};
 use crate::unit_count::count_units;
 use std::alloc::{AllocError, Global};
 
 /// Lays a resource behind its members, whose words it takes off the stack, and puts its own. Where
 /// its keys or its string stand is what comes next.
-fn step<R: AsNode>(
+fn step(
     base: usize,
     coming: &mut Coming<'_>,
     bodies: &mut Bodies,
     words: &mut Vec<u32>,
-    resource: &R,
+    node: Node<'_>,
 ) -> Result<(), AllocError>
-    requires ready { R.ready resource.now ≡ true }
-    requires room { HasRoom base bodies.old (own_size (R.tree resource.now)) }
-    requires enough { length (children (R.tree resource.now))
-        ≤ length words.old.items }
-    requires numbered { (g : Given) × (rest : List Tree) × GivesInTurn g coming.old.positions.now
-        coming.old.offsets.now (R.tree resource.now ∷ rest) }
-    ensures step { OnOk result (Anywhere base (λ g. (rest : List Tree)
-        → GivesInTurn g coming.old.positions.now coming.old.offsets.now
-        (R.tree resource.now ∷ rest)
-        → LaysNext g (laid_of bodies.old) words.old.items (R.tree resource.now)
-        (laid_of bodies.new) words.new.items)) }
-    ensures left { OnOk result ((g : Given) (rest : List Tree)
-        → GivesInTurn g coming.old.positions.now coming.old.offsets.now
-        (R.tree resource.now ∷ rest)
+    requires { (t : Tree) × IsNode node t × HasRoom base bodies.old (own_size t)
+        × (length (children t) ≤ length words.old.items) × (g : Given) × (rest : List Tree)
+        × GivesInTurn g coming.old.positions.now coming.old.offsets.now (t ∷ rest) }
+    ensures step { OnOk result (Anywhere base (λ g. (t : Tree) (rest : List Tree) → IsNode node.entry t
+        → GivesInTurn g coming.old.positions.now coming.old.offsets.now (t ∷ rest)
+        → LaysNext g (laid_of bodies.old) words.old.items t (laid_of bodies.new)
+        words.new.items)) }
+    ensures left { OnOk result ((g : Given) (t : Tree) (rest : List Tree) → IsNode node.entry t
+        → GivesInTurn g coming.old.positions.now coming.old.offsets.now (t ∷ rest)
         → GivesInTurn g coming.new.positions.now coming.new.offsets.now rest) }
-    ensures takes { OnOk result (TakesNoMore base bodies.old bodies.new
-        (own_size (R.tree resource.now))) }
+    ensures takes { OnOk result ((t : Tree) → IsNode node.entry t
+        → TakesNoMore base bodies.old bodies.new (own_size t)) }
 {
-    match resource.as_node() {
+    match node {
         Node::String(_) => step_string(words, coming.take_offset()),
         Node::Array(count) => step_array(base, bodies, words, count),
         Node::Table(count) => {
@@ -66,25 +60,20 @@ fn steps<R: AsNode>(
     sites: &Sites<'_>,
     bodies: &mut Bodies,
     words: &mut Vec<u32>,
-    order: &InOrder<'_, R>,
+    order: &[R],
 ) -> Result<(), AllocError>
-    requires ready { all_ready R.ready order.now.items ≡ true }
-    requires can { CanLay base bodies.old (length words.old.items)
-        (trees_by R.tree order.now.items) }
-    requires numbered { (g : Given) × GivesInTurn g sites.now.positions.now
-        sites.now.offsets.now (trees_by R.tree order.now.items) }
-    ensures lays { OnOk result (Anywhere base (λ g.
-        GivesInTurn g sites.now.positions.now sites.now.offsets.now
-        (trees_by R.tree order.now.items)
-        → LaysRow g (laid_of bodies.old) words.old.items (trees_by R.tree order.now.items)
-        (laid_of bodies.new) words.new.items)) }
-    ensures takes { OnOk result (length bodies.new.units.items
-        ≤ length bodies.old.units.items + sum_by most_units (trees_by R.tree order.now.items)) }
+    requires { (ts : List Tree) × Fits R.is order.now ts
+        × CanLay base bodies.old (length words.old.items) ts
+        × (g : Given) × GivesInTurn g sites.now.positions.now sites.now.offsets.now ts }
+    ensures lays { OnOk result (Anywhere base (λ g. (ts : List Tree) → Fits R.is order.now ts
+        → GivesInTurn g sites.now.positions.now sites.now.offsets.now ts
+        → LaysRow g (laid_of bodies.old) words.old.items ts (laid_of bodies.new)
+        words.new.items)) }
     ensures fits { OnOk result (HasRoomFor base (laid_of bodies.new) []) }
 {
     let mut coming = sites.coming();
     for at in 0..order.len() {
-        step(base, &mut coming, bodies, words, &*order[at])?;
+        step(base, &mut coming, bodies, words, order[at].as_node())?;
     }
     Ok(())
 }
@@ -97,17 +86,15 @@ fn lay_order<R: AsNode>(
     base: usize,
     sites: &Sites<'_>,
     bodies: &mut Bodies,
-    order: &InOrder<'_, R>,
+    order: &[R],
 ) -> Result<u32, AllocError>
-    requires ready { all_ready R.ready order.now.items ≡ true }
-    requires tree { (t : Tree) × (trees_by R.tree order.now.items ≡ laying_order t) }
-    requires room { HasRoomFor base (laid_of bodies.old) (trees_by R.tree order.now.items) }
-    requires numbered { (g : Given) × GivesInTurn g sites.now.positions.now
-        sites.now.offsets.now (trees_by R.tree order.now.items) }
-    ensures lays { IfOk result (λ word. Anywhere base (λ g.
-        GivesInTurn g sites.now.positions.now sites.now.offsets.now
-        (trees_by R.tree order.now.items)
-        → (t : Tree) → trees_by R.tree order.now.items ≡ laying_order t
+    requires { (t : Tree) × Fits R.is order.now (laying_order t)
+        × HasRoomFor base (laid_of bodies.old) (laying_order t)
+        × (g : Given) × GivesInTurn g sites.now.positions.now sites.now.offsets.now
+        (laying_order t) }
+    ensures lays { IfOk result (λ word. Anywhere base (λ g. (t : Tree)
+        → Fits R.is order.now (laying_order t)
+        → GivesInTurn g sites.now.positions.now sites.now.offsets.now (laying_order t)
         → Lays g (laid_of bodies.old) t (laid_of bodies.new) word)) }
     ensures fits { OnOk result (HasRoomFor base (laid_of bodies.new) []) }
 {
@@ -127,18 +114,17 @@ pub(crate) fn lay_bodies<R: AsNode>(
     sites: &Sites<'_>,
     pool: Vec<u16>,
     keys_end: usize,
-    order: &InOrder<'_, R>,
+    order: &[R],
 ) -> Result<(Bodies, u32), AllocError>
     requires aligned { keys_end % 4 ≡ 0 }
-    requires ready { all_ready R.ready order.now.items ≡ true }
-    requires tree { (t : Tree) × (trees_by R.tree order.now.items ≡ laying_order t) }
-    requires room { HasRoomBehind keys_end pool.items (trees_by R.tree order.now.items) }
-    requires numbered { (g : Given) × GivesInTurn g sites.now.positions.now
-        sites.now.offsets.now (trees_by R.tree order.now.items) }
+    requires tree { (t : Tree) × Fits R.is order.now (laying_order t)
+        × HasRoomBehind keys_end pool.items (laying_order t)
+        × (g : Given) × GivesInTurn g sites.now.positions.now sites.now.offsets.now
+        (laying_order t) }
     ensures lays { IfOk result (λ laid. (g : Given) (t : Tree)
-        → GivesInTurn g sites.now.positions.now sites.now.offsets.now
-        (trees_by R.tree order.now.items)
-        → trees_by R.tree order.now.items ≡ laying_order t → g.base ≡ tail_base keys_end laid.0
+        → Fits R.is order.now (laying_order t)
+        → GivesInTurn g sites.now.positions.now sites.now.offsets.now (laying_order t)
+        → g.base ≡ tail_base keys_end laid.0
         → Lays g (record { units = pool.items; tail = [] }) t (laid_of laid.0) laid.1) }
     ensures fits { IfOk result (λ laid. HasRoomFor (tail_base keys_end laid.0)
         (laid_of laid.0) []) }

@@ -9,9 +9,9 @@ ghost use Rattle.resb_layout.specs.Laid.{Given, are_near};
 ghost use Rattle.resb_write.specs.Inner.Room.{most_units, GivesInTurn};
 ghost use Rattle.resb_write.specs.Inner.Counted.{is_near, own_units, short_units};
 ghost use Rattle.resb_write.specs.Inner.Counted.{are_set_behind, CountsOne};
-ghost use Rattle.resb_write.specs.Inner.Nodes.{trees_by, all_ready};
+ghost use Rattle.resb_write.specs.Inner.Nodes.{Fits, IsNode};
 
-use crate::nodes::{AsNode, InOrder, Node};
+use crate::nodes::{AsNode, Node};
 use crate::resource_bodies::{UNIT_MAX, are_near_positions};
 use crate::sites::{Coming, Sites};
 use std::alloc::{AllocError, Global};
@@ -106,23 +106,21 @@ fn count_other(marks: &mut Vec<bool>) -> Result<usize, AllocError>
 /// The units that a resource's own body takes. The marks of its members, the last of a stack, say
 /// of each whether it is a string at an offset that a unit can hold; its own mark takes their
 /// place. Where its keys or its string stand is what comes next.
-fn count_own<R: AsNode>(
+fn count_own(
     coming: &mut Coming<'_>,
     marks: &mut Vec<bool>,
-    resource: &R,
+    node: Node<'_>,
 ) -> Result<usize, AllocError>
-    requires ready { R.ready resource.now ≡ true }
-    requires enough { length (children (R.tree resource.now))
-        ≤ length marks.old.items }
-    requires numbered { (g : Given) × (rest : List Tree) × GivesInTurn g coming.old.positions.now
-        coming.old.offsets.now (R.tree resource.now ∷ rest) }
-    ensures counts { IfOk result (λ n. (g : Given) (rest below : List Tree)
-        → GivesInTurn g coming.old.positions.now coming.old.offsets.now
-        (R.tree resource.now ∷ rest)
-        → marks.old.items ≡ map (is_near g) (below ++ children (R.tree resource.now))
-        → CountsOne g (R.tree resource.now) rest below n coming.new marks.new.items) }
+    requires { (t : Tree) × IsNode node t × (length (children t) ≤ length marks.old.items)
+        × (g : Given) × (rest : List Tree)
+        × GivesInTurn g coming.old.positions.now coming.old.offsets.now (t ∷ rest) }
+    ensures counts { IfOk result (λ n. (g : Given) (t : Tree) (rest below : List Tree)
+        → IsNode node.entry t
+        → GivesInTurn g coming.old.positions.now coming.old.offsets.now (t ∷ rest)
+        → marks.old.items ≡ map (is_near g) (below ++ children t)
+        → CountsOne g t rest below n coming.new marks.new.items) }
 {
-    match resource.as_node() {
+    match node {
         Node::String(_) => count_string(coming, marks),
         Node::Array(count) => count_array(marks, count),
         Node::Table(count) => count_table(marks, coming.take_positions(count)),
@@ -139,25 +137,26 @@ pub(crate) fn count_units<R: AsNode>(
     alloc: Global,
     sites: &Sites<'_>,
     pool: usize,
-    order: &InOrder<'_, R>,
+    order: &[R],
 ) -> Result<usize, AllocError>
-    requires ready { all_ready R.ready order.now.items ≡ true }
-    requires tree { (t : Tree) × (trees_by R.tree order.now.items ≡ laying_order t) }
-    requires room { pool + sum_by most_units (trees_by R.tree order.now.items) < 2 ^ 28 }
-    requires numbered { (g : Given) × GivesInTurn g sites.now.positions.now
-        sites.now.offsets.now (trees_by R.tree order.now.items) }
-    ensures counts { IfOk result (λ count. (g : Given)
-        → GivesInTurn g sites.now.positions.now sites.now.offsets.now
-        (trees_by R.tree order.now.items)
-        → count ≡ pool + sum_by (own_units g) (trees_by R.tree order.now.items)) }
-    ensures few { IfOk result (λ count. count
-        ≤ pool + sum_by most_units (trees_by R.tree order.now.items)) }
+    requires { (t : Tree) × Fits R.is order.now (laying_order t)
+        × (pool + sum_by most_units (laying_order t) < 2 ^ 28)
+        × (g : Given) × GivesInTurn g sites.now.positions.now sites.now.offsets.now
+        (laying_order t) }
+    ensures counts { IfOk result (λ count. (g : Given) (t : Tree)
+        → Fits R.is order.now (laying_order t)
+        → GivesInTurn g sites.now.positions.now sites.now.offsets.now (laying_order t)
+        → count ≡ pool + sum_by (own_units g) (laying_order t)) }
+    ensures few { IfOk result (λ count. (t : Tree) → Fits R.is order.now (laying_order t)
+        → (g : Given)
+        → GivesInTurn g sites.now.positions.now sites.now.offsets.now (laying_order t)
+        → count ≤ pool + sum_by most_units (laying_order t)) }
 {
     let mut coming = sites.coming();
     let mut marks = Vec::new(alloc);
     let mut count = pool;
     for at in 0..order.len() {
-        count += count_own(&mut coming, &mut marks, &*order[at])?;
+        count += count_own(&mut coming, &mut marks, order[at].as_node())?;
     }
     Ok(count)
 }

@@ -6,7 +6,6 @@ use Rattle.std.specs.List.{list_any, flat_map}
 use Rattle.resb_tree.specs.Tree.{Tree, table, entries_len}
 use Rattle.resb_pool.specs.Plan.{nows, first_too_long}
 use Rattle.resb_tree.specs.LayingOrder.{text_in}
-use Rattle.resb_tree.specs.LayingOrder.{own_keys}
 use Rattle.resb_layout.specs.PlainSize.{resources_size}
 use Rattle.resb_layout.specs.TreeFaults.{is_over_32_bits}
 use Rattle.resb_write.specs.declared.contents.Contents.{Contents}
@@ -20,7 +19,6 @@ largest_of [] = 0
 largest_of (t ∷ ts) = max (entry_count_of t) (largest_of ts)
 
 pub record Gathered (ts : List Tree) (c : Contents) : Type 0 where
-  pub keys_are : nows c.keys.items ≡ flat_map own_keys ts
   pub texts_are : nows c.texts.items ≡ flat_map text_in ts
   pub size_is : c.size ≡ min (resources_size ts) (2 ^ 64 - 1)
   pub largest_is : c.largest_table ≡ largest_of ts

@@ -1,11 +1,8 @@
 -- Resources without what is inside them.
---     trees_by tree rs        the trees for which resources stand
---     all_ready ready rs      each resource can be written as it stands
+--     Fits is rs ts           resources can stand for these trees, each for one
 --     IsNode n t              what is known of a tree by its node
-use Rattle.std.specs.Prelude.{◌≡◌, ℕ, ◌^◌, ◌<◌, Bool, List, length, map}
-use Rattle.std.specs.Borrow.{Bor}
+use Rattle.std.specs.Prelude.{◌≡◌, ℕ, ◌^◌, ◌<◌, List, [], ◌∷◌, length}
 use Rattle.std.specs.List.Sorted.{IsStrictlySortedBy}
-use Rattle.resb_tree.specs.Borrowing.{all_true}
 use Rattle.resb_tree.specs.Tree.{Tree, string, array, table, binary, integer, int_vector, Trees}
 use Rattle.resb_tree.specs.Tree.{Entries}
 use Rattle.resb_tree.specs.Maps.{text_cmp}
@@ -14,13 +11,12 @@ use Rattle.resb_write.specs.declared.nodes.Node.{Node}
 use Rattle.resb_write.specs.declared.nodes.Node.TheVariants.{String, Array, Table, Binary}
 use Rattle.resb_write.specs.declared.nodes.Node.TheVariants.{Integer, IntVector}
 
--- the trees for which resources stand, in their order
-abbrev pub trees_by : {R : Type 0} → (R → Tree) → List (Bor R) → List Tree
-trees_by tree rs = map (λ r. tree r.now) rs
-
--- each resource can be written as it stands
-abbrev pub all_ready : {R : Type 0} → (R → Bool) → List (Bor R) → Bool
-all_ready ready rs = all_true (map (λ r. ready r.now) rs)
+-- each tree is one for which the resource at its place can stand
+abbrev pub Fits : {R : Type 0} → (R → Tree → Type 0) → List R → List Tree → Type 0
+Fits is [] [] = Unit {0}
+Fits is [] (t ∷ ts) = ⊥
+Fits is (r ∷ rs) [] = ⊥
+Fits is (r ∷ rs) (t ∷ ts) = is r t × Fits is rs ts
 
 -- an array of so many members
 pub record HasMembers (n : ℕ) (t : Tree) : Type 0 where

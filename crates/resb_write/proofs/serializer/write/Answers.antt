@@ -1,32 +1,55 @@
--- The tree of a bundle is that of its root.
-use Rattle.std.proofs.Common.{sym, subst}
+-- The nodes of a bundle's resources stand for the trees of its root.
+use Rattle.std.proofs.Common.{◌∙◌, ap, sym, subst}
+use Rattle.std.specs.List.{flat_map}
 use Rattle.std.proofs.lemmas.Result.{err_from_is_err_and, IfOk-weaker, IfErr-weaker}
 use Rattle.resb_tree.specs.View.{tree_of}
+use Rattle.resb_tree.specs.LayingOrder.{laying_order, own_keys, keys_of}
+use Rattle.resb_pool.specs.Plan.{nows}
 use Rattle.resb_write.specs.FaultOf.{fault_of}
+use Rattle.resb_write.specs.Inner.Nodes.{Fits, IsNode}
 use Rattle.resb_layout.specs.TreeFaults.{RefusesWriting, no_memory}
 use Rattle.resb_layout.specs.Written.{Written}
-use Rattle.resb_write.proofs.NodesLemmas.{any_ready}
 use Rattle.resb_write.proofs.serializer.write.Goals as goal
+use Rattle.resb_write.proofs.serializer.write.Goals.{After-deref-2}
 
 pub returns-in_err-order-clause-err : goal.returns-in_err-order-clause-err
 returns-in_err-order-clause-err c =
     let p = err_from_is_err_and c.from_residual.result c.from_residual.ensures.1 in
     rw p.1 (subst (RefusesWriting _ c.args.list.now) (sym p.2) no_memory)
 
-pub write_order-requires-clause-ready : goal.write_order-requires-clause-ready
-write_order-requires-clause-ready c = any_ready c.in_ok-order.order.items
+pub returns-in_err-keys-clause-err : goal.returns-in_err-keys-clause-err
+returns-in_err-keys-clause-err c =
+    let p = err_from_is_err_and c.from_residual-in_err-keys.result
+    c.from_residual-in_err-keys.ensures.1 in
+    rw p.1 (subst (RefusesWriting _ c.args.list.now) (sym p.2) no_memory)
 
-pub write_order-requires-clause-tree : goal.write_order-requires-clause-tree
-write_order-requires-clause-tree c = (tree_of c.root.result.now, c.in_ok-order.ensures)
+pub returns-in_err-nodes-clause-err : goal.returns-in_err-nodes-clause-err
+returns-in_err-nodes-clause-err c =
+    let p = err_from_is_err_and c.from_residual-in_err-nodes.result
+    c.from_residual-in_err-nodes.ensures.1 in
+    rw p.1 (subst (RefusesWriting _ c.args.list.now) (sym p.2) no_memory)
+
+pub write_order-requires : goal.write_order-requires
+write_order-requires c =
+    let t = tree_of c.root.result.now in
+    let same = c.in_ok-order.ensures in (
+      t,
+      subst (λ ns. Fits IsNode ns (laying_order t)) (sym c.deref.ensures.value)
+          (subst (Fits IsNode c.in_ok-nodes.nodes.items) same c.in_ok-nodes.ensures),
+      ap nows c.deref-2.ensures.value ∙ c.in_ok-keys.ensures ∙ ap (flat_map own_keys) same,
+    )
 
 pub returns-clause-ok : goal.returns-clause-ok
+unfolding write_order-requires
 returns-clause-ok c =
+    let r = write_order-requires (goal.at.returns-clause-ok c).After-deref-2 in
     IfOk-weaker c.write_order.result _ _ (λ v h. subst (λ t. Written v.items t
     c.args.bundle.now.is_locale_fallback_enabled c.args.list.now) c.root.ensures.tree
-    (h (tree_of c.root.result.now) c.in_ok-order.ensures)) c.write_order.ensures.ok
+    (h r.0 r.1 r.2)) c.write_order.ensures.ok
 
 pub returns-clause-err : goal.returns-clause-err
+unfolding write_order-requires
 returns-clause-err c =
+    let r = write_order-requires (goal.at.returns-clause-err c).After-deref-2 in
     IfErr-weaker c.write_order.result _ _ (λ e h. subst (λ t. RefusesWriting t c.args.list.now
-    (fault_of e)) c.root.ensures.tree (h (tree_of c.root.result.now) c.in_ok-order.ensures))
-    c.write_order.ensures.err
+    (fault_of e)) c.root.ensures.tree (h r.0 r.1 r.2)) c.write_order.ensures.err

@@ -1,185 +1,175 @@
 -- The refusals in their order, the room that is left, and the file.
-use Rattle.std.proofs.Common.{ℕ, ◌+◌, ◌*◌, ◌%◌, length, map, Some, refl, sym, ◌∙◌, ap}
+use Rattle.std.proofs.Common.{◌≡◌, ℕ, ◌+◌, ◌*◌, ◌%◌, length, map, Some, refl, sym, ◌∙◌, ap}
 use Rattle.std.proofs.Common.{subst, arith}
 use Rattle.std.specs.List.{sum_by}
 use Rattle.std.proofs.lemmas.Result.{err_from_is_err_and}
 use Rattle.resb_format.specs.Units.{size}
 use Rattle.resb_pool.specs.Plan.{nows, IsPlan}
-use Rattle.resb_tree.specs.LayingOrder.{laying_order}
-use Rattle.resb_write.specs.Inner.Nodes.{trees_by}
-use Rattle.resb_write.specs.Inner.Room.{laid_of, GivesInTurn, HasRoomBehind}
+use Rattle.resb_tree.specs.Tree.{Tree}
+use Rattle.resb_tree.specs.LayingOrder.{laying_order, keys_of}
+use Rattle.resb_write.specs.Inner.Nodes.{Fits}
+use Rattle.resb_write.specs.Inner.Room.{laid_of, GivesInTurn}
 use Rattle.resb_layout.specs.KeyBlock.{used, key_bytes, padded, position_in}
 use Rattle.resb_layout.specs.TreeFaults.{RefusesWriting, no_memory, key_fault}
 use Rattle.resb_layout.specs.Written.{Written, even}
 use Rattle.resb_write.specs.Inner.Files.{file_of}
-use Rattle.resb_write.specs.Inner.Gathered.{Gathered}
 use Rattle.resb_write.proofs.Room.{units_room, bytes_room, used_room, length-padded, pool_room}
 use Rattle.resb_write.proofs.Known.{near_offsets}
 use Rattle.resb_write.proofs.Blocks.{walk_long}
 use Rattle.resb_write.proofs.FilesLemmas.{largest_room, Made, written}
 use Rattle.resb_write.proofs.Refusals.{key_refused, size_refused, plan_refused}
 use Rattle.resb_write.proofs.serializer.write_order.Goals as goal
-use Rattle.resb_write.proofs.serializer.write_order.Goals.{After-deref-5}
+use Rattle.resb_write.proofs.serializer.write_order.Goals.{After-deref-4}
 
 pub returns-in_err-contents-clause-err : goal.returns-in_err-contents-clause-err
 returns-in_err-contents-clause-err g c =
     let p = err_from_is_err_and c.from_residual.result c.from_residual.ensures.1 in
-    rw p.1 (λ t same. subst (RefusesWriting t c.args.list.now) (sym p.2) no_memory)
+    rw p.1 (λ t f k. subst (RefusesWriting t c.args.list.now) (sym p.2) no_memory)
 
 pub returns-in_err-keys-clause-err : goal.returns-in_err-keys-clause-err
 returns-in_err-keys-clause-err g c =
     let p = err_from_is_err_and c.from_residual-in_err-keys.result
     c.from_residual-in_err-keys.ensures.1 in
-    rw (p.1, p.2) (λ t same.
-    let gathered = subst (λ ts. Gathered ts c.in_ok-contents.contents) same
-    c.in_ok-contents.ensures in
-    let us = ap nows c.deref.ensures.value ∙ gathered.keys_are in
-    key_refused t c.args.list.now (nows c.deref.result.now) _ us c.in_err-keys.ensures.err)
+    rw (p.1, p.2) (λ t f k.
+    let gathered = c.in_ok-contents.ensures (laying_order t) f in
+    key_refused t c.args.list.now (nows c.args.tree_keys.now) _ k c.in_err-keys.ensures.err)
 
 pub returns-in_err-check_sizes-clause-err : goal.returns-in_err-check_sizes-clause-err
 returns-in_err-check_sizes-clause-err g c =
     let b = c.in_ok-keys.ensures.ok in
     let p = err_from_is_err_and c.from_residual-in_err-check_sizes.result
     c.from_residual-in_err-check_sizes.ensures.1 in
-    rw (p.1, p.2) (λ t same.
-    let gathered = subst (λ ts. Gathered ts c.in_ok-contents.contents) same
-    c.in_ok-contents.ensures in
-    let us = ap nows c.deref.ensures.value ∙ gathered.keys_are in
-    size_refused t c.args.list.now (nows c.deref.result.now) _ us b.keys b.faultless _
+    rw (p.1, p.2) (λ t f k.
+    let gathered = c.in_ok-contents.ensures (laying_order t) f in
+    size_refused t c.args.list.now (nows c.args.tree_keys.now) _ k b.keys b.faultless _
     (c.in_err-check_sizes.ensures.err (laying_order t) gathered))
 
 pub returns-in_err-pool-clause-err : goal.returns-in_err-pool-clause-err
 returns-in_err-pool-clause-err g c =
     let p = err_from_is_err_and c.from_residual-in_err-pool.result
     c.from_residual-in_err-pool.ensures.1 in
-    rw p.1 (λ t same.
-    let gathered = subst (λ ts. Gathered ts c.in_ok-contents.contents) same
-    c.in_ok-contents.ensures in
-    let texts = ap nows c.deref-2.ensures.value ∙ gathered.texts_are in
+    rw p.1 (λ t f k.
+    let gathered = c.in_ok-contents.ensures (laying_order t) f in
+    let texts = ap nows c.deref.ensures.value ∙ gathered.texts_are in
     let small = c.in_ok-check_sizes.ensures.ok (laying_order t) gathered in
     subst (RefusesWriting t c.args.list.now) (sym p.2)
-    (plan_refused t c.args.list.now (nows c.deref-2.result.now) _ texts small
+    (plan_refused t c.args.list.now (nows c.deref.result.now) _ texts small
     c.in_err-pool.ensures.err))
 
 pub block_length-keys_end-requires : goal.block_length-keys_end-requires
 block_length-keys_end-requires g c =
-    let t = c.requires.tree.0 in
-    let gathered = subst (λ ts. Gathered ts c.in_ok-contents.contents) c.requires.tree.1
-    c.in_ok-contents.ensures in
+    let t = c.requires.0 in
+    let gathered = c.in_ok-contents.ensures (laying_order t) c.requires.1 in
     let small = c.in_ok-check_sizes.ensures.ok (laying_order t) gathered in
-    let js = ap nows c.deref-3.ensures.value ∙ c.in_ok-keys.ensures.ok.keys in
+    let js = ap nows c.deref-2.ensures.value ∙ c.in_ok-keys.ensures.ok.keys in
     omega (
       arith,
       small,
       ap (λ l. length (key_bytes l)) js,
-      used_room (nows c.deref.result.now)
+      used_room (nows c.args.tree_keys.now)
           c.args.list.now,
     )
 
 pub overflow_add-keys_end : goal.overflow_add-keys_end
 overflow_add-keys_end g c =
-    let t = c.requires.tree.0 in
-    let gathered = subst (λ ts. Gathered ts c.in_ok-contents.contents) c.requires.tree.1
-    c.in_ok-contents.ensures in
+    let t = c.requires.0 in
+    let gathered = c.in_ok-contents.ensures (laying_order t) c.requires.1 in
     let small = c.in_ok-check_sizes.ensures.ok (laying_order t) gathered in
-    let js = ap nows c.deref-3.ensures.value ∙ c.in_ok-keys.ensures.ok.keys in
+    let js = ap nows c.deref-2.ensures.value ∙ c.in_ok-keys.ensures.ok.keys in
     omega (
       arith,
       small,
       ap (λ l. length (key_bytes l)) js,
-      used_room (nows c.deref.result.now)
+      used_room (nows c.args.tree_keys.now)
           c.args.list.now,
-      length-padded (key_bytes (nows c.deref-3.result.now)),
+      length-padded (key_bytes (nows c.deref-2.result.now)),
       c.block_length-keys_end.ensures,
     )
 
 -- where the keys and the strings of the tree stand, for a tail that begins at a byte of the body
-numbered : (g : _) (c : After-deref-5 g) (base : ℕ) → GivesInTurn (record {
-  position = position_in (nows c.in_ok-keys.field-0.keys.items);
-  offset = c.in_ok-pool.ensures.ok.offset;
-  base = base;
-}) c.deref-4.result.now c.deref-5.result.now (trees_by g.R.AsNode.tree c.args.order.now.items)
-numbered g c base =
-    let t = c.requires.tree.0 in
-    let gathered = subst (λ ts. Gathered ts c.in_ok-contents.contents) c.requires.tree.1
-    c.in_ok-contents.ensures in
+numbered : (g : _) (c : After-deref-4 g) (base : ℕ) (t : Tree)
+    → Fits g.R.AsNode.is c.args.order.now (laying_order t)
+    → nows c.args.tree_keys.now ≡ keys_of t
+    → GivesInTurn (record {
+      position = position_in (nows c.in_ok-keys.field-0.keys.items);
+      offset = c.in_ok-pool.ensures.ok.offset;
+      base = base;
+    }) c.deref-3.result.now c.deref-4.result.now (laying_order t)
+numbered g c base t f us =
+    let gathered = c.in_ok-contents.ensures (laying_order t) f in
     let pooled = c.in_ok-pool.ensures.ok in
     let b = c.in_ok-keys.ensures.ok in
     let js = nows c.in_ok-keys.field-0.keys.items in
-    let us = ap nows c.deref.ensures.value ∙ gathered.keys_are in
-    let texts = ap nows c.deref-2.ensures.value ∙ gathered.texts_are in
-    let offsets = pooled.offsets ∙ ap (map Some) (sym c.deref-5.ensures.value) in
-    subst (GivesInTurn (record { position = position_in js; offset = pooled.offset; base = base })
-    c.deref-4.result.now c.deref-5.result.now) (sym c.requires.tree.1) (record {
+    let texts = ap nows c.deref.ensures.value ∙ gathered.texts_are in
+    let offsets = pooled.offsets ∙ ap (map Some) (sym c.deref-4.ensures.value) in
+    record {
       keys = ap (map (position_in js)) (sym us) ∙ b.positions
-          ∙ ap (map Some) (sym c.deref-4.ensures.value);
+          ∙ ap (map Some) (sym c.deref-3.ensures.value);
       texts = ap (map pooled.offset) (sym texts) ∙ offsets;
-      near = near_offsets (nows c.deref-2.result.now) c.in_ok-pool.field-0.pool.items pooled.offset
-          pooled.plan (nows c.deref-2.result.now) c.deref-5.result.now (λ s h. h) offsets;
-    })
+      near = near_offsets (nows c.deref.result.now) c.in_ok-pool.field-0.pool.items pooled.offset
+          pooled.plan (nows c.deref.result.now) c.deref-4.result.now (λ s h. h) offsets;
+    }
 
-pub lay_bodies-requires-clause-room : goal.lay_bodies-requires-clause-room
-lay_bodies-requires-clause-room g c =
-    let t = c.requires.tree.0 in
-    let gathered = subst (λ ts. Gathered ts c.in_ok-contents.contents) c.requires.tree.1
-    c.in_ok-contents.ensures in
+pub lay_bodies-requires-clause-tree : goal.lay_bodies-requires-clause-tree
+lay_bodies-requires-clause-tree g c =
+    let r = c.requires in
+    let t = r.0 in
+    let gathered = c.in_ok-contents.ensures (laying_order t) r.1 in
     let us = c.in_ok-pool.field-0.pool.items in
     let pooled = c.in_ok-pool.ensures.ok in
     let small = c.in_ok-check_sizes.ensures.ok (laying_order t) gathered in
-    let js = ap nows c.deref-3.ensures.value ∙ c.in_ok-keys.ensures.ok.keys in
-    let texts = ap nows c.deref-2.ensures.value ∙ gathered.texts_are in
-    let pool = pool_room (nows c.deref-2.result.now) us pooled.offset pooled.plan in
-    let same = ap (sum_by size) texts in
-    subst (HasRoomBehind (32 + c.block_length-keys_end.result) us) (sym c.requires.tree.1)
-    (record {
-      units = omega (arith, pool, same, units_room (laying_order t), walk_long t, small);
-      bytes = omega (
-        arith,
-        pool,
-        same,
-        bytes_room (laying_order t),
-        small,
-        ap (λ l. length (key_bytes l)) js,
-        used_room (nows c.deref.result.now) c.args.list.now,
-        length-padded (key_bytes (nows c.deref-3.result.now)),
-        c.block_length-keys_end.ensures,
-      );
-    })
-
-pub lay_bodies-requires-clause-numbered : goal.lay_bodies-requires-clause-numbered
-lay_bodies-requires-clause-numbered g c =
-    (_, numbered g ((goal.at.lay_bodies-requires-clause-numbered g c).After-deref-5) 0)
+    let js = ap nows c.deref-2.ensures.value ∙ c.in_ok-keys.ensures.ok.keys in
+    let texts = ap nows c.deref.ensures.value ∙ gathered.texts_are in
+    let pool = pool_room (nows c.deref.result.now) us pooled.offset pooled.plan in
+    let same = ap (sum_by size) texts in (
+      t,
+      r.1,
+      record {
+        units = omega (arith, pool, same, units_room (laying_order t), walk_long t, small);
+        bytes = omega (
+          arith,
+          pool,
+          same,
+          bytes_room (laying_order t),
+          small,
+          ap (λ l. length (key_bytes l)) js,
+          used_room (nows c.args.tree_keys.now) c.args.list.now,
+          length-padded (key_bytes (nows c.deref-2.result.now)),
+          c.block_length-keys_end.ensures,
+        );
+      },
+      _,
+      numbered g ((goal.at.lay_bodies-requires-clause-tree g c).After-deref-4) 0 t r.1 r.2,
+    )
 
 pub returns-in_err-bodies-clause-err : goal.returns-in_err-bodies-clause-err
 returns-in_err-bodies-clause-err g c =
     let p = err_from_is_err_and c.from_residual-in_err-bodies.result
     c.from_residual-in_err-bodies.ensures.1 in
-    rw p.1 (λ t same. subst (RefusesWriting t c.args.list.now) (sym p.2) no_memory)
+    rw p.1 (λ t f k. subst (RefusesWriting t c.args.list.now) (sym p.2) no_memory)
 
 pub overflow_cast-largest_table : goal.overflow_cast-largest_table
 overflow_cast-largest_table g c =
-    let t = c.requires.tree.0 in
-    let gathered = subst (λ ts. Gathered ts c.in_ok-contents.contents) c.requires.tree.1
-    c.in_ok-contents.ensures in
+    let t = c.requires.0 in
+    let gathered = c.in_ok-contents.ensures (laying_order t) c.requires.1 in
     let small = c.in_ok-check_sizes.ensures.ok (laying_order t) gathered in
     omega (arith, small, gathered.largest_is, largest_room (laying_order t))
 
 pub assemble-requires : goal.assemble-requires
 assemble-requires g c =
-    let t = c.requires.tree.0 in
-    let gathered = subst (λ ts. Gathered ts c.in_ok-contents.contents) c.requires.tree.1
-    c.in_ok-contents.ensures in
+    let t = c.requires.0 in
+    let gathered = c.in_ok-contents.ensures (laying_order t) c.requires.1 in
     let small = c.in_ok-check_sizes.ensures.ok (laying_order t) gathered in
-    let js = ap nows c.deref-6.ensures.value ∙ c.in_ok-keys.ensures.ok.keys in
+    let js = ap nows c.deref-5.ensures.value ∙ c.in_ok-keys.ensures.ok.keys in
     let room = c.in_ok-bodies.ensures.fits in
-    let k = length-padded (key_bytes (nows c.deref-3.result.now)) in
+    let k = length-padded (key_bytes (nows c.deref-2.result.now)) in
     record {
       fits = record {
         keys = omega (
           arith,
           small,
           ap (λ l. length (key_bytes l)) js,
-          used_room (nows c.deref.result.now) c.args.list.now,
+          used_room (nows c.args.tree_keys.now) c.args.list.now,
         );
         units = omega (arith, room.units);
         tail = omega (arith, room.bytes);
@@ -191,20 +181,18 @@ pub returns-in_err-assemble-clause-err : goal.returns-in_err-assemble-clause-err
 returns-in_err-assemble-clause-err g c =
     let p = err_from_is_err_and c.from_residual-in_err-assemble.result
     c.from_residual-in_err-assemble.ensures.1 in
-    rw p.1 (λ t same. subst (RefusesWriting t c.args.list.now) (sym p.2) no_memory)
+    rw p.1 (λ t f k. subst (RefusesWriting t c.args.list.now) (sym p.2) no_memory)
 
 pub returns-clause-ok : goal.returns-clause-ok
-returns-clause-ok g c = λ t same.
-    let gathered = subst (λ ts. Gathered ts c.in_ok-contents.contents) same
-    c.in_ok-contents.ensures in
+returns-clause-ok g c = λ t f k.
+    let gathered = c.in_ok-contents.ensures (laying_order t) f in
     let ks = c.args.list.now in
     let pooled = c.in_ok-pool.ensures.ok in
     let pool = c.in_ok-pool.field-0.pool.items in
     let b = c.in_ok-keys.ensures.ok in
     let js = nows c.in_ok-keys.field-0.keys.items in
     let laid = laid_of c.in_ok-bodies.bodies in
-    let us = ap nows c.deref.ensures.value ∙ gathered.keys_are in
-    let texts = ap nows c.deref-2.ensures.value ∙ gathered.texts_are in
+    let texts = ap nows c.deref.ensures.value ∙ gathered.texts_are in
     let small = c.in_ok-check_sizes.ensures.ok (laying_order t) gathered in
     let end : ℕ = 32 + c.block_length-keys_end.result + 2 *
     (length c.in_ok-bodies.bodies.units.items + length c.in_ok-bodies.bodies.units.items % 2) in
@@ -214,22 +202,22 @@ returns-clause-ok g c = λ t same.
       offset = pooled.offset;
       laid = laid;
       root = c.in_ok-bodies.word;
-      js_are = b.keys ∙ ap (λ l. used l ks) us;
+      js_are = b.keys ∙ ap (λ l. used l ks) k;
       utf8 = b.utf8;
-      faultless = ap (λ l. key_fault l js) (sym us) ∙ b.faultless;
+      faultless = ap (λ l. key_fault l js) (sym k) ∙ b.faultless;
       small = small;
       plan = subst (λ S. IsPlan S pool pooled.offset) texts pooled.plan;
       base = end;
       base_is = omega (
         arith,
         c.block_length-keys_end.ensures,
-        ap (λ l. length (padded (key_bytes (nows l)))) c.deref-3.ensures.value,
+        ap (λ l. length (padded (key_bytes (nows l)))) c.deref-2.ensures.value,
       );
       lays = c.in_ok-bodies.ensures.lays (record {
         position = position_in js;
         offset = pooled.offset;
         base = end;
-      }) t (numbered g ((goal.at.returns-clause-ok g c).After-deref-5) end) same refl;
+      }) t f (numbered g ((goal.at.returns-clause-ok g c).After-deref-4) end t f k) refl;
       room = record { aligned = room.aligned; units = room.units; bytes = room.bytes };
       units_fit = c.in_ok-assemble.ensures.fits;
       root_fits = c.in_ok-assemble.ensures.words;
@@ -238,6 +226,6 @@ returns-clause-ok g c = λ t same.
     let largest = c.in_ok-contents.contents.largest_table in
     let file = c.in_ok-assemble.ensures.file
     ∙ ap (λ l. file_of c.in_ok-bodies.word largest fallback (padded (key_bytes (nows l)))
-    (even laid.units) laid.tail) c.deref-6.ensures.value in
+    (even laid.units) laid.tail) c.deref-5.ensures.value in
     subst (λ bytes. Written bytes t fallback ks) (sym file) (written t ks js made largest fallback
     gathered.largest_is)

@@ -12,31 +12,27 @@ use Rattle.resb_write.proofs.Marks.{string_one, other_one, array_one, table_one}
 use Rattle.resb_write.proofs.unit_count.count_own.Goals as goal
 
 pub count_array-requires : goal.count_array-requires
-count_array-requires g c =
-    let t = g.R.AsNode.tree c.args.resource.now in
-    let a : HasMembers c.in-Array.count t =
-    subst (λ n. IsNode n t) c.in-Array.is c.as_node.ensures in
-    omega (arith, c.requires.enough, ap (λ u. length (children u)) a.is, a.many)
+count_array-requires c =
+    let r = c.requires in
+    let a : HasMembers c.in-Array.count r.0 = subst (λ m. IsNode m r.0) c.in-Array.is r.1 in
+    omega (arith, r.2, ap (λ u. length (children u)) a.is, a.many)
 
 pub take_positions-requires : goal.take_positions-requires
-take_positions-requires g c =
-    let t = g.R.AsNode.tree c.args.resource.now in
-    let a : HasEntries c.in-Table.count t =
-    subst (λ n. IsNode n t) c.in-Table.is c.as_node.ensures in
-    let n = c.requires.numbered in
+take_positions-requires c =
+    let r = c.requires in
+    let a : HasEntries c.in-Table.count r.0 = subst (λ m. IsNode m r.0) c.in-Table.is r.1 in
     let ps = c.args.coming.now.positions.now in
     let os = c.args.coming.now.offsets.now in
-    (behind_table n.0 ps os a.entries n.1 c.in-Table.count (keys_values a.entries ∙ a.many)
-    (subst (λ u. GivesInTurn n.0 ps os (u ∷ n.1)) a.is n.2)).enough
+    (behind_table r.3 ps os a.entries r.4 c.in-Table.count (keys_values a.entries ∙ a.many)
+    (subst (λ u. GivesInTurn r.3 ps os (u ∷ r.4)) a.is r.5)).enough
 
 pub count_table-requires : goal.count_table-requires
-count_table-requires g c =
-    let t = g.R.AsNode.tree c.args.resource.now in
-    let a : HasEntries c.in-Table.count t =
-    subst (λ n. IsNode n t) c.in-Table.is c.as_node.ensures in
+count_table-requires c =
+    let r = c.requires in
+    let a : HasEntries c.in-Table.count r.0 = subst (λ m. IsNode m r.0) c.in-Table.is r.1 in
     omega (
       arith,
-      c.requires.enough,
+      r.2,
       ap (λ u. length (children u)) a.is,
       a.many,
       ap length c.take_positions.ensures.taken,
@@ -44,17 +40,16 @@ count_table-requires g c =
     )
 
 pub returns-in-String : goal.returns-in-String
-returns-in-String g c =
-    let t = g.R.AsNode.tree c.args.resource.now in
+returns-in-String c =
     let s = c.in-String.field-0.now in
-    let e : t ≡ string s = subst (λ n. IsNode n t) c.in-String.is c.as_node.ensures in
     let ps = c.args.coming.now.positions.now in
     let os = c.args.coming.now.offsets.now in
     let ms = c.args.marks.now.items in
     let new = c.count_string.new.coming in
     let out = c.count_string.new.marks.items in
     record {
-      counts = IfOk-weaker c.count_string.result _ _ (λ n h given rest below m are.
+      counts = IfOk-weaker c.count_string.result _ _ (λ n h given t rest below is m are.
+          let e : t ≡ string s = subst (λ k. IsNode k t) c.in-String.is is in
           subst (λ u. CountsOne given u rest below n new out) (sym e)
           (string_one given rest below ps os new ms out n s
           (subst (λ u. GivesInTurn given ps os (u ∷ rest)) e m)
@@ -63,16 +58,14 @@ returns-in-String g c =
     }
 
 pub returns-in-Array : goal.returns-in-Array
-returns-in-Array g c =
-    let t = g.R.AsNode.tree c.args.resource.now in
-    let a : HasMembers c.in-Array.count t =
-    subst (λ n. IsNode n t) c.in-Array.is c.as_node.ensures in
+returns-in-Array c =
     let ps = c.args.coming.now.positions.now in
     let os = c.args.coming.now.offsets.now in
     let ms = c.args.marks.now.items in
     let out = c.count_array.new.marks.items in
     record {
-      counts = IfOk-weaker c.count_array.result _ _ (λ n h given rest below m are.
+      counts = IfOk-weaker c.count_array.result _ _ (λ n h given t rest below is m are.
+          let a : HasMembers c.in-Array.count t = subst (λ k. IsNode k t) c.in-Array.is is in
           let k = subst (λ u. GivesInTurn given ps os (u ∷ rest)) a.is m in
           subst (λ u. CountsOne given u rest below n c.args.coming.now out) (sym a.is)
           (array_one given rest below ps os c.args.coming.now ms out n a.members c.in-Array.count
@@ -82,11 +75,7 @@ returns-in-Array g c =
     }
 
 pub returns-in-Table : goal.returns-in-Table
-returns-in-Table g c =
-    let t = g.R.AsNode.tree c.args.resource.now in
-    let a : HasEntries c.in-Table.count t =
-    subst (λ n. IsNode n t) c.in-Table.is c.as_node.ensures in
-    let es = a.entries in
+returns-in-Table c =
     let ps = c.args.coming.now.positions.now in
     let os = c.args.coming.now.offsets.now in
     let ms = c.args.marks.now.items in
@@ -94,10 +83,10 @@ returns-in-Table g c =
     let k = c.in-Table.count in
     let new = c.take_positions.new.self in
     let out = c.count_table.new.marks.items in
-    let many : length (entry_keys es) ≡ k = keys_values es ∙ a.many in
-    let m = c.requires.numbered in
-    let enough = (behind_table m.0 ps os es m.1 k many
-    (subst (λ u. GivesInTurn m.0 ps os (u ∷ m.1)) a.is m.2)).enough in
+    let r = c.requires in
+    let b : HasEntries k r.0 = subst (λ m. IsNode m r.0) c.in-Table.is r.1 in
+    let enough = (behind_table r.3 ps os b.entries r.4 k (keys_values b.entries ∙ b.many)
+    (subst (λ u. GivesInTurn r.3 ps os (u ∷ r.4)) b.is r.5)).enough in
     let long : length qs ≡ k = omega (
       arith,
       enough,
@@ -105,7 +94,10 @@ returns-in-Table g c =
       length-take k ps,
     ) in
     record {
-      counts = IfOk-weaker c.count_table.result _ _ (λ n h given rest below m are.
+      counts = IfOk-weaker c.count_table.result _ _ (λ n h given t rest below is m are.
+          let a : HasEntries k t = subst (λ j. IsNode j t) c.in-Table.is is in
+          let es = a.entries in
+          let many : length (entry_keys es) ≡ k = keys_values es ∙ a.many in
           subst (λ u. CountsOne given u rest below n new out) (sym a.is)
           (table_one given rest below ps os new ms out n es qs k many long
           c.take_positions.ensures.taken c.take_positions.ensures.left
@@ -116,16 +108,15 @@ returns-in-Table g c =
     }
 
 pub returns-in-Binary : goal.returns-in-Binary
-returns-in-Binary g c =
-    let t = g.R.AsNode.tree c.args.resource.now in
+returns-in-Binary c =
     let b = binary c.in-Binary.field-0.now in
-    let e : t ≡ b = subst (λ n. IsNode n t) c.in-Binary.is c.as_node.ensures in
     let ps = c.args.coming.now.positions.now in
     let os = c.args.coming.now.offsets.now in
     let ms = c.args.marks.now.items in
     let out = c.count_other.new.marks.items in
     record {
-      counts = IfOk-weaker c.count_other.result _ _ (λ n h given rest below m are.
+      counts = IfOk-weaker c.count_other.result _ _ (λ n h given t rest below is m are.
+          let e = subst (λ k. IsNode k t) c.in-Binary.is is in
           let k = subst (λ u. GivesInTurn given ps os (u ∷ rest)) e m in
           subst (λ u. CountsOne given u rest below n c.args.coming.now out) (sym e)
           (other_one given rest below ps os c.args.coming.now ms out n b refl refl refl
@@ -135,16 +126,15 @@ returns-in-Binary g c =
     }
 
 pub returns-in-Integer : goal.returns-in-Integer
-returns-in-Integer g c =
-    let t = g.R.AsNode.tree c.args.resource.now in
+returns-in-Integer c =
     let b = integer c.in-Integer.field-0 in
-    let e = (subst (λ n. IsNode n t) c.in-Integer.is c.as_node.ensures).0 in
     let ps = c.args.coming.now.positions.now in
     let os = c.args.coming.now.offsets.now in
     let ms = c.args.marks.now.items in
     let out = c.count_other-in-Integer.new.marks.items in
     record {
-      counts = IfOk-weaker c.count_other-in-Integer.result _ _ (λ n h given rest below m are.
+      counts = IfOk-weaker c.count_other-in-Integer.result _ _ (λ n h given t rest below is m are.
+          let e = (subst (λ k. IsNode k t) c.in-Integer.is is).0 in
           let k = subst (λ u. GivesInTurn given ps os (u ∷ rest)) e m in
           subst (λ u. CountsOne given u rest below n c.args.coming.now out) (sym e)
           (other_one given rest below ps os c.args.coming.now ms out n b refl refl refl
@@ -154,16 +144,15 @@ returns-in-Integer g c =
     }
 
 pub returns-in-IntVector : goal.returns-in-IntVector
-returns-in-IntVector g c =
-    let t = g.R.AsNode.tree c.args.resource.now in
+returns-in-IntVector c =
     let b = int_vector c.in-IntVector.field-0.now in
-    let e : t ≡ b = subst (λ n. IsNode n t) c.in-IntVector.is c.as_node.ensures in
     let ps = c.args.coming.now.positions.now in
     let os = c.args.coming.now.offsets.now in
     let ms = c.args.marks.now.items in
     let out = c.count_other-in-IntVector.new.marks.items in
     record {
-      counts = IfOk-weaker c.count_other-in-IntVector.result _ _ (λ n h given rest below m are.
+      counts = IfOk-weaker c.count_other-in-IntVector.result _ _ (λ n h given t rest below is m are.
+          let e = subst (λ k. IsNode k t) c.in-IntVector.is is in
           let k = subst (λ u. GivesInTurn given ps os (u ∷ rest)) e m in
           subst (λ u. CountsOne given u rest below n c.args.coming.now out) (sym e)
           (other_one given rest below ps os c.args.coming.now ms out n b refl refl refl

@@ -2,7 +2,6 @@
 use Rattle.std.proofs.Common.{◌≡◌, ◌+◌, ◌*◌, ◌/◌, [], ◌∷◌, ◌++◌, length, nat_lt, refl, sym}
 use Rattle.std.proofs.Common.{◌∙◌, ap, subst, append-nil, arith}
 use Rattle.resb_tree.specs.Tree.{string, array, table, binary, integer, int_vector}
-use Rattle.resb_tree.specs.LayingOrder.{own_keys}
 use Rattle.resb_pool.specs.Plan.{nows}
 use Rattle.resb_write.specs.Inner.Gathered.{Gathered}
 use Rattle.resb_write.specs.Inner.Nodes.{IsNode, HasMembers, HasEntries}
@@ -11,64 +10,58 @@ use Rattle.std.proofs.Math.Bool.{or-false}
 use Rattle.resb_write.proofs.contents.Contents.add.Goals as goal
 
 pub returns-in-Array : goal.returns-in-Array
-returns-in-Array g c = λ ts h.
-    let t = g.R.AsNode.tree c.args.resource.now in
+returns-in-Array c = λ ts t h n.
     let k : HasMembers c.in-Array.count t =
-    subst (λ n. IsNode n t) c.in-Array.is c.as_node.ensures in
+    subst (λ m. IsNode m t) c.in-Array.is n in
     let a = array k.members in
     subst (λ u. Gathered (ts ++ u ∷ []) c.add_counted.new.self) (sym k.is)
     (added c.args.self.now c.add_counted.new.self a
     (adds_plain c.args.self.now c.add_counted.new.self a (c.in-Array.count * 4)
-    (nat_lt 4294967295 c.in-Array.count) refl refl refl (omega (arith, k.many))
+    (nat_lt 4294967295 c.in-Array.count) refl refl (omega (arith, k.many))
     (ap (nat_lt 4294967295) k.many) c.add_counted.ensures)
     ts h)
 
 pub returns-in-Binary : goal.returns-in-Binary
-returns-in-Binary g c = λ ts h.
-    let t = g.R.AsNode.tree c.args.resource.now in
+returns-in-Binary c = λ ts t h n.
     let bytes = c.in-Binary.bytes.now in
-    let k : t ≡ binary bytes = subst (λ n. IsNode n t) c.in-Binary.is c.as_node.ensures in
+    let k : t ≡ binary bytes = subst (λ m. IsNode m t) c.in-Binary.is n in
     subst (λ u. Gathered (ts ++ u ∷ []) c.add_bytes.new.self) (sym k)
     (added c.args.self.now c.add_bytes.new.self (binary bytes)
     (adds_plain c.args.self.now c.add_bytes.new.self (binary bytes) ((length bytes + 1) / 2)
-    (nat_lt 4294967295 (length bytes)) refl refl refl refl refl c.add_bytes.ensures)
+    (nat_lt 4294967295 (length bytes)) refl refl refl refl c.add_bytes.ensures)
     ts h)
 
 pub returns-in-Integer : goal.returns-in-Integer
-returns-in-Integer g c = λ ts h.
-    let t = g.R.AsNode.tree c.args.resource.now in
-    let n = integer c.in-Integer.field-0 in
-    let k = subst (λ n. IsNode n t) c.in-Integer.is c.as_node.ensures in
+returns-in-Integer c = λ ts t h n.
+    let i = integer c.in-Integer.field-0 in
+    let k = subst (λ m. IsNode m t) c.in-Integer.is n in
     subst (λ u. Gathered (ts ++ u ∷ []) c.add_size.new.self) (sym k.0)
-    (added c.args.self.now c.add_size.new.self n
-    (adds_plain c.args.self.now c.add_size.new.self n 0 _ refl refl refl refl refl
+    (added c.args.self.now c.add_size.new.self i
+    (adds_plain c.args.self.now c.add_size.new.self i 0 _ refl refl refl refl
     (plain_integer c.args.self.now c.add_size.new.self c.add_size.ensures))
     ts h)
 
 pub returns-in-IntVector : goal.returns-in-IntVector
-returns-in-IntVector g c = λ ts h.
-    let t = g.R.AsNode.tree c.args.resource.now in
+returns-in-IntVector c = λ ts t h n.
     let ns = c.in-IntVector.numbers.now in
     let v = int_vector ns in
-    let k : t ≡ v = subst (λ n. IsNode n t) c.in-IntVector.is c.as_node.ensures in
+    let k : t ≡ v = subst (λ m. IsNode m t) c.in-IntVector.is n in
     subst (λ u. Gathered (ts ++ u ∷ []) c.add_counted-in-IntVector.new.self) (sym k)
     (added c.args.self.now c.add_counted-in-IntVector.new.self v
     (adds_plain c.args.self.now c.add_counted-in-IntVector.new.self v
-    (length ns * 2) (nat_lt 4294967295 (length ns)) refl refl refl (omega arith) refl
+    (length ns * 2) (nat_lt 4294967295 (length ns)) refl refl (omega arith) refl
     c.add_counted-in-IntVector.ensures)
     ts h)
 
 pub returns-in_ok-add_text-in-String : goal.returns-in_ok-add_text-in-String
-returns-in_ok-add_text-in-String g c = λ ts h.
-    let t = g.R.AsNode.tree c.args.resource.now in
+returns-in_ok-add_text-in-String c = λ ts t h n.
     let s = string c.in-String.text.now in
-    let k : t ≡ s = subst (λ n. IsNode n t) c.in-String.is c.as_node.ensures in
+    let k : t ≡ s = subst (λ m. IsNode m t) c.in-String.is n in
     let a = c.in_ok-add_text-in-String.ensures in
     let new = a.1 in
     subst (λ u. Gathered (ts ++ u ∷ []) c.add_text.new.self) (sym k)
     (added c.args.self.now c.add_text.new.self s
     (record {
-      keys = ap (λ x. nows x.keys.items) new ∙ sym (append-nil (nows c.args.self.now.keys.items));
       texts = a.0;
       size = ap (λ x. x.size) new;
       largest = omega (arith, ap (λ x. x.largest_table) new);
@@ -78,19 +71,14 @@ returns-in_ok-add_text-in-String g c = λ ts h.
     })
     ts h)
 
-pub returns-in_ok-add_table-in-Table : goal.returns-in_ok-add_table-in-Table
-returns-in_ok-add_table-in-Table g c = λ ts h.
-    let t = g.R.AsNode.tree c.args.resource.now in
-    let k : HasEntries c.in-Table.count t =
-    subst (λ n. IsNode n t) c.in-Table.is c.as_node.ensures in
+pub returns-in-Table : goal.returns-in-Table
+returns-in-Table c = λ ts t h n.
+    let k : HasEntries c.in-Table.count t = subst (λ m. IsNode m t) c.in-Table.is n in
     let es = k.entries in
-    let old = nows c.args.self.now.keys.items in
-    let a = c.in_ok-add_table-in-Table.ensures in
-    let new = a.1 in
+    let new = c.add_table.ensures in
     subst (λ u. Gathered (ts ++ u ∷ []) c.add_table.new.self) (sym k.is)
     (added c.args.self.now c.add_table.new.self (table es)
     (record {
-      keys = subst (λ u. nows c.add_table.new.self.keys.items ≡ old ++ own_keys u) k.is a.0;
       texts = ap (λ x. nows x.texts.items) new
           ∙ sym (append-nil (nows c.args.self.now.texts.items));
       size = omega (arith, ap (λ x. x.size) new, k.many);

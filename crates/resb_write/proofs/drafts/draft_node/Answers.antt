@@ -10,7 +10,7 @@ use Rattle.resb_draft.specs.declared.draft.Draft.{Table}
 use Rattle.resb_draft.proofs.DraftLemmas.{tree_of_array, tree_of_table, entries_seen, keys_seen}
 use Rattle.resb_draft.proofs.DraftLemmas.{values_seen}
 use Rattle.resb_write.proofs.DraftNodes.{keys_ascend}
-use Rattle.resb_write.proofs.drafts.DraftAsNode.as_node.Goals as goal
+use Rattle.resb_write.proofs.drafts.draft_node.Goals as goal
 
 pub returns-in-Array : goal.returns-in-Array
 returns-in-Array c =

@@ -5,7 +5,7 @@ use Rattle.resb_tree.specs.LayingOrder.{own_keys}
 use Rattle.resb_pool.specs.Plan.{nows}
 use Rattle.resb_draft.specs.Drafts.{draft_tree}
 use Rattle.resb_draft.proofs.DraftLemmas.{tree_of_table, keys_seen}
-use Rattle.resb_write.proofs.drafts.DraftAsNode.push_keys.Goals as goal
+use Rattle.resb_write.proofs.drafts.push_draft_keys.Goals as goal
 
 pub returns-in-Table : goal.returns-in-Table
 returns-in-Table c =

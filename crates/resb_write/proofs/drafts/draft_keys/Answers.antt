@@ -1,0 +1,23 @@
+-- An iteration adds the keys of the next one.
+use Rattle.std.proofs.Common.{◌<◌, ◌++◌, length, take, sym, ap, ◌∙◌, arith}
+use Rattle.std.specs.List.{flat_map}
+use Rattle.resb_draft.specs.Drafts.{draft_tree, trees_seen}
+use Rattle.resb_tree.specs.LayingOrder.{own_keys}
+use Rattle.resb_pool.specs.Plan.{nows}
+use Rattle.resb_write.proofs.Gathering.{flat-push}
+use Rattle.resb_write.proofs.NodesLemmas.{seen-take}
+use Rattle.resb_write.proofs.drafts.draft_keys.Goals as goal
+
+pub loop-at-init : goal.loop-at-init
+loop-at-init c = ap nows c.new-keys.ensures.items
+
+pub loop-at-preserved : goal.loop-at-preserved
+loop-at-preserved c =
+    let order = c.args.order.now.items in
+    let i = c.loop-at.at in
+    let d = c.index.result.now in
+    let h : c.loop-at.at < length order =
+    omega (arith, c.loop-at-test.true, c.len-at-end.ensures, c.args.order.now.ok.0) in
+    c.in_ok-push_draft_keys.ensures ∙ ap (λ l. l ++ own_keys (draft_tree d.now)) c.loop-at.invariant
+    ∙ sym (flat-push own_keys (trees_seen (take i order)) (draft_tree d.now))
+    ∙ ap (flat_map own_keys) (sym (seen-take draft_tree order i d c.index.ensures h))

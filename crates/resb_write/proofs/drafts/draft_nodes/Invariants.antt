@@ -1,0 +1,7 @@
+use Rattle.std.proofs.Common.{take}
+use Rattle.resb_draft.specs.Drafts.{trees_seen}
+use Rattle.resb_write.specs.Inner.Nodes.{Fits, IsNode}
+use Rattle.resb_write.proofs.drafts.draft_nodes.Given as goal
+
+abbrev pub invariant-loop-at : goal.invariant-loop-at
+invariant-loop-at l = Fits IsNode l.nodes.items (trees_seen (take l.at l.order.items))

@@ -16,6 +16,7 @@ mod Keys
 mod Distinct
 mod FaultsLemmas
 mod Gathering
+mod NumberedKeys
 mod Room
 mod Known
 mod Heads

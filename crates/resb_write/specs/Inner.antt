@@ -11,3 +11,4 @@ pub mod StackSteps
 pub mod Seen
 pub mod Counted
 pub mod Files
+pub mod Numbered

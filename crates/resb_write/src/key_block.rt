@@ -2,14 +2,17 @@
 //! The faults of keys are found here, in the order in which they are answered.
 ghost use Rattle.std.specs.Prelude.{◌≡◌, ◌++◌, ◌<◌, ◌+◌, ◌%◌, ◌^◌, ◌⊎◌, ℕ, List, Some, None};
 ghost use Rattle.std.specs.Prelude.{IfOk, IfErr, OnOk, All, length, map, filter, nat_lt, unwrap_or};
+ghost use Rattle.std.specs.Prelude.{slice_index};
 ghost use Rattle.std.specs.Str.{IsUtf8};
 ghost use Rattle.std.specs.List.{list_any};
+ghost use Rattle.std.specs.Map.{keys_of};
 ghost use Rattle.std.specs.Option.{is_some, is_none};
 ghost use Rattle.resb_pool.specs.Plan.{nows, at_text};
 ghost use Rattle.resb_layout.specs.WritingFault.{out_of_memory};
 ghost use Rattle.resb_write.specs.FaultOf.{fault_of};
 ghost use Rattle.resb_layout.specs.KeyBlock.{is_among, used as used_of, key_bytes, padded};
 ghost use Rattle.resb_layout.specs.TreeFaults.{has_nul, key_fault};
+ghost use Rattle.resb_write.specs.Inner.Numbered.{AreNumbered};
 ghost use Rattle.resb_write.specs.Inner.NearPositions.{near_position_in, IsKeyBlock};
 
 use crate::error::BinarySerializerError;
@@ -48,10 +51,12 @@ impl<'k> KeyBlock<'k> {
             ≡ Some (fault_of e))) }
     {
         let wanted = key_set(alloc, tree_keys)?;
-        let keys = used_keys(alloc, &wanted, list)?;
+        let keys = used_keys(alloc, &wanted.distinct, list)?;
         let last = last_positions(alloc, &keys)?;
-        check_keys(wanted.keys().as_slice(), &last)?;
-        let positions = positions_of(alloc, tree_keys, &last)?;
+        let names = wanted.distinct.keys().as_slice();
+        check_keys(names, &last)?;
+        let places = positions_of(alloc, names, &last)?;
+        let positions = at_numbers(alloc, &wanted.numbers, &places)?;
         Ok(KeyBlock { keys, positions })
     }
 }
@@ -111,15 +116,29 @@ pub(crate) fn append_block(file: &mut Vec<u8>, keys: &[&str]) -> Result<(), Allo
     append_padding(file)
 }
 
-/// The keys as a set.
-fn key_set<'k>(alloc: Global, keys: &[&'k str]) -> Result<IndexMap<&'k str, ()>, AllocError>
-    ensures { IfOk result (λ s. (q : List ℕ) → is_some (at_text s q) ≡ is_among (nows keys.now) q) }
+/// The keys that a tree's tables use.
+#[derive(Drop)]
+struct Wanted<'k> {
+    /// Each key once.
+    distinct: IndexMap<&'k str, ()>,
+    /// The index there of each key of the tables, in laying order.
+    numbers: Vec<usize>,
+}
+
+/// The keys as a set, and the index of each there.
+fn key_set<'k>(alloc: Global, keys: &[&'k str]) -> Result<Wanted<'k>, AllocError>
+    ensures set { IfOk result (λ w. (q : List ℕ)
+        → is_some (at_text w.distinct q) ≡ is_among (nows keys.now) q) }
+    ensures numbers { IfOk result (λ w.
+        AreNumbered (nows (keys_of w.distinct.entries)) w.numbers.items (nows keys.now)) }
 {
-    let mut set = IndexMap::new(alloc);
+    let mut distinct = IndexMap::new(alloc);
+    let mut numbers = Vec::with_capacity(alloc, keys.len())?;
     for key in keys {
-        set.insert(*key, ())?;
+        let (number, _) = distinct.insert_full(*key, ())?;
+        numbers.push(number)?;
     }
-    Ok(set)
+    Ok(Wanted { distinct, numbers })
 }
 
 /// The keys of a list that are in a set, in the list's order.
@@ -167,6 +186,18 @@ fn positions_of(
     let mut found = Vec::with_capacity(alloc, keys.len())?;
     for key in keys {
         found.push(positions.get(*key).copied().unwrap_or(0))?;
+    }
+    Ok(found)
+}
+
+/// The value that stands at each of these indexes.
+fn at_numbers(alloc: Global, numbers: &[usize], values: &[u32]) -> Result<Vec<u32>, AllocError>
+    requires { All (λ n. n < length values.now) numbers.now }
+    ensures { IfOk result (λ v. v.items ≡ map (λ n. slice_index values.now n) numbers.now) }
+{
+    let mut found = Vec::with_capacity(alloc, numbers.len())?;
+    for number in numbers {
+        found.push(values[*number])?;
     }
     Ok(found)
 }

@@ -1,24 +1,50 @@
 -- An iteration moves the next key into the set.
-use Rattle.std.proofs.Common.{List, ℕ, [], Bor, take, get_or, sym, ◌∙◌, ap, arith}
+use Rattle.std.proofs.Common.{List, ℕ, [], ◌∷◌, ◌++◌, Bor, take, get_or, refl, sym, ◌∙◌, ap}
+use Rattle.std.proofs.Common.{arith, subst, ◌<◌, length}
 use Rattle.std.specs.Option.{is_some}
+use Rattle.std.specs.Map.{keys_of}
+use Rattle.std.proofs.lemmas.List.Elements.{All-nil}
 use Rattle.std.proofs.lemmas.Map.Text.{hash_map_updates_str}
 use Rattle.resb_pool.specs.Plan.{nows, at_text}
 use Rattle.resb_pool.proofs.PlacingLemmas.{at_empty}
 use Rattle.resb_layout.specs.KeyBlock.{is_among}
 use Rattle.resb_pool.proofs.TextLoops.{nows-take}
+use Rattle.resb_write.specs.Inner.Numbered.{AreNumbered}
 use Rattle.resb_write.proofs.Keys.{key_moves}
+use Rattle.resb_write.proofs.NumberedKeys.{numbered_push}
 use Rattle.resb_write.proofs.key_block.key_set.Goals as goal
 
 pub loop-key-init : goal.loop-key-init
-loop-key-init c = λ q. ap is_some (at_empty c.new-set.result q c.new-set.ensures.empty)
+loop-key-init c = record {
+  set = λ q. ap is_some (at_empty c.new-distinct.result q c.new-distinct.ensures.empty);
+  numbers = subst (λ ns. AreNumbered (nows (keys_of c.new-distinct.result.entries)) ns [])
+      (sym c.in_ok-numbers.ensures.items) (record {
+        within = All-nil (λ n. n < length (nows (keys_of c.new-distinct.result.entries)));
+        are = refl;
+      });
+}
 
 pub loop-key-preserved : goal.loop-key-preserved
-loop-key-preserved c = λ q.
+loop-key-preserved c =
     let xs = c.args.keys.now in
     let i = c.loop-key.key-index in
     let d : Bor (List ℕ) = record { ref_ptr = (0, 0); now = [] } in
-    let a = (get_or xs i d).now in
-    key_moves a q (at_text c.loop-key.set q) (at_text c.insert.new.self q) (nows (take i xs))
-    (hash_map_updates_str a c.loop-key.set c.insert.new.self _ c.in_ok-insert.ensures.updates q)
-    (c.loop-key.invariant q)
-    ∙ ap (λ l. is_among l q) (sym (nows-take xs i d (omega arith)))
+    let k = get_or xs i d in
+    let e = nows-take xs i d (omega arith) in
+    record {
+      set = λ q. key_moves k.now q (at_text c.loop-key.distinct q)
+          (at_text c.insert_full.new.self q) (nows (take i xs))
+          (hash_map_updates_str k.now c.loop-key.distinct c.insert_full.new.self _
+          c.in_ok-number.ensures.updates q) (c.loop-key.invariant.set q)
+          ∙ ap (λ l. is_among l q) (sym e);
+      numbers = subst (λ us. AreNumbered (nows (keys_of c.insert_full.new.self.entries))
+          c.push.new.self.items us) (sym e)
+          (subst (λ ns. AreNumbered (nows (keys_of c.insert_full.new.self.entries)) ns
+          (nows (take i xs) ++ k.now ∷ [])) (sym c.in_ok-push.ensures.items)
+          (subst (λ es. AreNumbered (nows (keys_of es))
+          (c.loop-key.numbers.items ++ c.in_ok-number.number ∷ [])
+          (nows (take i xs) ++ k.now ∷ [])) (sym c.in_ok-number.ensures.entries)
+          (numbered_push c.loop-key.distinct.entries k tt c.loop-key.numbers.items
+          (nows (take i xs)) c.loop-key.invariant.numbers c.in_ok-number.number
+          c.in_ok-number.ensures.index)));
+    }

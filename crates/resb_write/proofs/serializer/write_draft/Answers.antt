@@ -3,7 +3,7 @@ use Rattle.std.proofs.Common.{◌∙◌, ap, sym, subst}
 use Rattle.std.specs.List.{flat_map}
 use Rattle.std.proofs.lemmas.Result.{err_from_is_err_and, IfOk-weaker, IfErr-weaker}
 use Rattle.resb_draft.specs.Drafts.{draft_tree}
-use Rattle.resb_tree.specs.LayingOrder.{laying_order, own_keys, keys_of}
+use Rattle.resb_tree.specs.LayingOrder.{laying_order, own_keys}
 use Rattle.resb_pool.specs.Plan.{nows}
 use Rattle.resb_write.specs.Inner.Nodes.{Fits, IsNode}
 use Rattle.resb_layout.specs.TreeFaults.{RefusesWriting, no_memory}

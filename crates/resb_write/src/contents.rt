@@ -1,6 +1,6 @@
 //! What the resources of a tree hold, gathered in one walk: the texts of strings, and what is
 //! tested before anything is laid. Where things come to stand is not said here.
-ghost use Rattle.std.specs.Prelude.{◌≡◌, ◌++◌, ◌∷◌, ◌+◌, ◌-◌, ◌*◌, ◌/◌, ◌^◌, ◌||◌, [], List};
+ghost use Rattle.std.specs.Prelude.{◌≡◌, ◌++◌, ◌∷◌, ◌+◌, ◌-◌, ◌*◌, ◌/◌, ◌^◌, ◌||◌, ◌≤◌, [], List};
 ghost use Rattle.std.specs.Prelude.{length, true};
 ghost use Rattle.std.specs.Prelude.{min, max, nat_lt, IfOk, OnOk};
 ghost use Rattle.std.specs.Option.{option_or};
@@ -23,8 +23,11 @@ const GREATEST: usize = 0xffff_ffff;
 pub(crate) struct Contents<'t> {
     /// The texts of strings, as often as each stands there.
     pub(crate) texts: Vec<&'t str>,
-    /// Their part of the plain size, or the greatest number, if that is less.
+    /// Their part of the plain size without the units of strings, or the greatest number, if that
+    /// is less.
     pub(crate) size: usize,
+    /// The bytes of the texts, of which no more are units, or the greatest number.
+    pub(crate) text_bytes: usize,
     /// The number of entries of the largest table.
     pub(crate) largest_table: usize,
     /// The number of units of the first string of more than 4294967295.
@@ -44,6 +47,7 @@ impl<'t> Contents<'t> {
         let mut contents = Contents {
             texts: Vec::new(alloc),
             size: 0,
+            text_bytes: 0,
             largest_table: 0,
             too_long: None,
             has_count_over_32_bits: false,
@@ -101,21 +105,21 @@ impl<'t> Contents<'t> {
         self.add_size(count.div_ceil(2));
     }
 
-    /// Adds a string.
+    /// Adds a string. Its units are counted only where they may be too many.
     fn add_text(&mut self, text: &'t str) -> Result<(), AllocError>
         ensures { OnOk result ((nows self.new.texts.items
             ≡ nows self.old.texts.items ++ text.now ∷ [])
+            × (length (units text.now) ≤ length text.now)
             × (self.new ≡ record self.old {
               texts = self.new.texts;
-              size = min (self.old.size + (16 + length (units text.now))) (2 ^ 64 - 1);
+              size = min (self.old.size + 16) (2 ^ 64 - 1);
+              text_bytes = min (self.old.text_bytes + length text.now) (2 ^ 64 - 1);
               too_long = option_or self.old.too_long (first_too_long (text.now ∷ []));
             })) }
     {
-        let count = utf16_len(text);
-        if count > GREATEST && self.too_long.is_none() {
-            self.too_long = Some(count);
-        }
-        self.add_size(count);
+        self.too_long = self.too_long.or(excessive_len(text));
+        self.add_size(0);
+        self.text_bytes = self.text_bytes.saturating_add(text.len());
         self.texts.push(text)?;
         Ok(())
     }
@@ -130,4 +134,16 @@ impl<'t> Contents<'t> {
         self.largest_table = self.largest_table.max(count);
         self.add_size(count.saturating_mul(4));
     }
+}
+
+/// The number of units of a text that has more than 4294967295. They are counted only where its
+/// bytes are as many.
+fn excessive_len(text: &str) -> Option<usize>
+    ensures { result ≡ first_too_long (text.now ∷ []) }
+{
+    if text.len() <= GREATEST {
+        return None;
+    }
+    let count = utf16_len(text);
+    if count > GREATEST { Some(count) } else { None }
 }

@@ -1,14 +1,16 @@
 //! The bound on a file's size that is tested before anything is laid out, and the counts that a
 //! file can't hold. The faults of keys are found in `key_block`.
-ghost use Rattle.std.specs.Prelude.{◌≡◌, ◌+◌, ◌-◌, ◌^◌, ◌<◌, List, min, OnOk, IfErr};
+ghost use Rattle.std.specs.Prelude.{◌≡◌, ◌+◌, ◌-◌, ◌^◌, ◌<◌, List, min, nat_lt, OnOk, IfErr};
 ghost use Rattle.resb_tree.specs.Tree.{Tree};
 ghost use Rattle.resb_write.specs.FaultOf.{fault_of};
 ghost use Rattle.resb_layout.specs.PlainSize.{list_size, resources_size};
-ghost use Rattle.resb_write.specs.Inner.Gathered.{Gathered};
+ghost use Rattle.resb_pool.specs.Plan.{nows};
+ghost use Rattle.resb_write.specs.Inner.Gathered.{Gathered, units_in};
 ghost use Rattle.resb_write.specs.Inner.Sizes.{IsTooMuch};
 
 use crate::contents::Contents;
 use crate::error::BinarySerializerError;
+use resb_format::utf16_len;
 use resb_tree::Key;
 
 /// From this plain size on a file is refused, so that the place of every part of a file that is
@@ -26,6 +28,30 @@ fn listed_size(list: &[Key<'_>]) -> usize
     size
 }
 
+/// The units of texts, or the greatest number, if that is less.
+fn unit_total(texts: &[&str]) -> usize
+    ensures { result ≡ min (units_in (nows texts.now)) (2 ^ 64 - 1) }
+{
+    let mut total: usize = 0;
+    for text in texts {
+        total = total.saturating_add(utf16_len(text));
+    }
+    total
+}
+
+/// Whether the plain size is under the limit. Units are counted only where so many as there are
+/// bytes would be too many.
+fn is_small(contents: &Contents<'_>, list: &[Key<'_>]) -> bool
+    ensures { (ts : List Tree) → Gathered ts contents.now
+        → result ≡ nat_lt (list_size list.now + resources_size ts) (2 ^ 28) }
+{
+    let others = listed_size(list).saturating_add(contents.size);
+    if others.saturating_add(contents.text_bytes) < SIZE_LIMIT {
+        return true;
+    }
+    others.saturating_add(unit_total(&contents.texts)) < SIZE_LIMIT
+}
+
 /// Refuses a string that is too long, a count over 32 bits, and what is too large to be written.
 /// Where the plain size is small, none of them holds.
 pub(crate) fn check_sizes(
@@ -37,7 +63,7 @@ pub(crate) fn check_sizes(
     ensures err { IfErr result (λ e. (ts : List Tree) → Gathered ts contents.now
         → IsTooMuch ts list.now (fault_of e)) }
 {
-    if listed_size(list).saturating_add(contents.size) < SIZE_LIMIT {
+    if is_small(contents, list) {
         return Ok(());
     }
     if let Some(count) = contents.too_long {

@@ -1,5 +1,6 @@
 -- The first fault of the sizes, or that there is none.
-use Rattle.std.proofs.Common.{◌+◌, ◌^◌, ◌≤◌, sym, ◌∙◌, subst, arith}
+use Rattle.std.proofs.Common.{◌+◌, ◌^◌, ◌≤◌, sym, ◌∙◌, subst}
+use Rattle.std.proofs.lemmas.Bool.{ltb-false}
 use Rattle.resb_layout.specs.PlainSize.{list_size, resources_size}
 use Rattle.resb_write.specs.Inner.Sizes.{IsTooMuch, at_fault, too_large}
 use Rattle.resb_write.proofs.FaultsLemmas.{long_fault, over_fault, no_size_fault}
@@ -19,13 +20,8 @@ returns-then-contents-clause-err c = λ ts g.
 pub returns-clause-err : goal.returns-clause-err
 returns-clause-err c = λ ts g.
     let large : 2 ^ 28 ≤ list_size c.args.list.now + resources_size ts
-    = omega (
-      arith,
-      c.if-saturating_add-lt-SIZE_LIMIT.false,
-      c.saturating_add.ensures,
-      c.listed_size.ensures,
-      g.size_is,
-    ) in
+    = ltb-false (list_size c.args.list.now + resources_size ts) 268435456
+    (sym (c.is_small.ensures ts g) ∙ c.if-is_small.false) in
     subst (IsTooMuch ts c.args.list.now) (sym c.limit-2.ensures)
     (too_large (no_size_fault ts (sym g.too_long_is ∙ c.in_default.is) (sym g.over_is
     ∙ c.if-contents.false)) large)

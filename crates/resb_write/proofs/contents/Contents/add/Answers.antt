@@ -5,7 +5,7 @@ use Rattle.resb_tree.specs.Tree.{string, array, table, binary, integer, int_vect
 use Rattle.resb_pool.specs.Plan.{nows}
 use Rattle.resb_write.specs.Inner.Gathered.{Gathered}
 use Rattle.resb_write.specs.Inner.Nodes.{IsNode, HasMembers, HasEntries}
-use Rattle.resb_write.proofs.Gathering.{added, adds_plain, plain_integer, entries_long, or_none}
+use Rattle.resb_write.proofs.Gathering.{added, adds_plain, one_bytes, one_units, no_bytes, no_units, plain_integer, entries_long, or_none}
 use Rattle.std.proofs.Math.Bool.{or-false}
 use Rattle.resb_write.proofs.contents.Contents.add.Goals as goal
 
@@ -58,12 +58,19 @@ returns-in_ok-add_text-in-String c = λ ts t h n.
     let s = string c.in-String.text.now in
     let k : t ≡ s = subst (λ m. IsNode m t) c.in-String.is n in
     let a = c.in_ok-add_text-in-String.ensures in
-    let new = a.1 in
+    let new = a.2 in
     subst (λ u. Gathered (ts ++ u ∷ []) c.add_text.new.self) (sym k)
     (added c.args.self.now c.add_text.new.self s
     (record {
       texts = a.0;
-      size = ap (λ x. x.size) new;
+      size = omega (arith, ap (λ x. x.size) new);
+      bytes = omega (arith, ap (λ x. x.text_bytes) new, one_bytes c.in-String.text.now);
+      within = omega (
+        arith,
+        a.1,
+        one_bytes c.in-String.text.now,
+        one_units c.in-String.text.now,
+      );
       largest = omega (arith, ap (λ x. x.largest_table) new);
       too_long = ap (λ x. x.too_long) new;
       over = ap (λ x. x.has_count_over_32_bits) new
@@ -82,6 +89,8 @@ returns-in-Table c = λ ts t h n.
       texts = ap (λ x. nows x.texts.items) new
           ∙ sym (append-nil (nows c.args.self.now.texts.items));
       size = omega (arith, ap (λ x. x.size) new, k.many);
+      bytes = omega (arith, ap (λ x. x.text_bytes) new, no_bytes);
+      within = omega (arith, no_bytes, no_units);
       largest = omega (arith, ap (λ x. x.largest_table) new, entries_long es, k.many);
       too_long = ap (λ x. x.too_long) new ∙ sym (or_none c.args.self.now.too_long);
       over = ap (λ x. x.has_count_over_32_bits) new

@@ -147,6 +147,8 @@ pub(crate) fn write_order<R: AsNode>(
         offsets: &offsets,
     };
     let (bodies, word) = lay_bodies(alloc, &sites, pool, keys_end, order)?;
+    drop(positions);
+    drop(offsets);
     let pieces = Pieces {
         root: word,
         largest_table,

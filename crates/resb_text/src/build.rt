@@ -15,7 +15,7 @@ ghost use Rattle.resb_tree.specs.declared.resource.Resource.{Resource};
 
 use crate::error::TextParserError;
 use crate::items::{Item, array_of, table_of};
-use crate::turns::Turns;
+use crate::ticks::Ticks;
 use resb_tree::Resource;
 use std::alloc::Global;
 use std::borrow::CowStr;
@@ -50,36 +50,30 @@ pub(crate) trait Build<'a>: Sized + Drop {
     fn array(
         &mut self,
         alloc: Global,
-        turns: &mut Turns<'_>,
+        ticks: &mut Ticks,
         items: Vec<Item<'a, Self::Made>>,
     ) -> Result<Self::Made, TextParserError>
-        requires { turns.old.count < 2 ^ 98 }
         ensures made { let xs = map (shown_by (tree self.old) (held self.old)) items.entry.items in
             all_true (map shown_borrowed xs) ≡ true → IfOk result
             (λ x. Represents tree held self.new x (array (trees_of (map shown_tree xs)))) }
         ensures grows { OnOk result (Grows tree held self.old self.new) }
         ensures err { IfErr result (λ e. e ≡ want_of_memory) }
-        ensures text { turns.new.text ≡ turns.old.text }
-        ensures grows_turns { turns.old.count ≤ turns.new.count }
-        ensures cost { turns.new.count ≤ turns.old.count + length items.entry.items };
+        ensures cost { ticks.new.count ≤ ticks.old.count + length items.entry.items };
 
     /// The table of these items, which are a key, a group and so on. A later entry of an equal key
     /// replaces the earlier one. Counts at most a turn for each item.
     fn table(
         &mut self,
         alloc: Global,
-        turns: &mut Turns<'_>,
+        ticks: &mut Ticks,
         items: Vec<Item<'a, Self::Made>>,
     ) -> Result<Self::Made, TextParserError>
-        requires { turns.old.count < 2 ^ 98 }
         ensures made { let xs = map (shown_by (tree self.old) (held self.old)) items.entry.items in
             all_true (map shown_borrowed xs) ≡ true → IfOk result
             (λ x. Represents tree held self.new x (table (map_of (shown_pairs xs)))) }
         ensures grows { OnOk result (Grows tree held self.old self.new) }
         ensures err { IfErr result (λ e. e ≡ want_of_memory) }
-        ensures text { turns.new.text ≡ turns.old.text }
-        ensures grows_turns { turns.old.count ≤ turns.new.count }
-        ensures cost { turns.new.count ≤ turns.old.count + length items.entry.items };
+        ensures cost { ticks.new.count ≤ ticks.old.count + length items.entry.items };
 }
 
 /// Groups become resources, and nothing else is kept.
@@ -107,40 +101,34 @@ impl<'a> Build<'a> for Trees {
     fn array(
         &mut self,
         alloc: Global,
-        turns: &mut Turns<'_>,
+        ticks: &mut Ticks,
         items: Vec<Item<'a, Resource<'a>>>,
     ) -> Result<Resource<'a>, TextParserError>
-        requires { turns.old.count < 2 ^ 98 }
         ensures made { let xs = map seen_in_code items.entry.items in
             all_true (map shown_borrowed xs) ≡ true → IfOk result
             (λ r. (tree_of r ≡ array (trees_of (map shown_tree xs))) × (borrows_strings r ≡ true)) }
         ensures grows { OnOk result ((r : Resource) → borrows_strings r ≡ true
             → (tree_of r ≡ tree_of r) × (borrows_strings r ≡ true)) }
         ensures err { IfErr result (λ e. e ≡ want_of_memory) }
-        ensures text { turns.new.text ≡ turns.old.text }
-        ensures grows_turns { turns.old.count ≤ turns.new.count }
-        ensures cost { turns.new.count ≤ turns.old.count + length items.entry.items }
+        ensures cost { ticks.new.count ≤ ticks.old.count + length items.entry.items }
     {
-        array_of(alloc, turns, items)
+        array_of(alloc, ticks, items)
     }
 
     fn table(
         &mut self,
         alloc: Global,
-        turns: &mut Turns<'_>,
+        ticks: &mut Ticks,
         items: Vec<Item<'a, Resource<'a>>>,
     ) -> Result<Resource<'a>, TextParserError>
-        requires { turns.old.count < 2 ^ 98 }
         ensures made { let xs = map seen_in_code items.entry.items in
             all_true (map shown_borrowed xs) ≡ true → IfOk result
             (λ r. (tree_of r ≡ table (map_of (shown_pairs xs))) × (borrows_strings r ≡ true)) }
         ensures grows { OnOk result ((r : Resource) → borrows_strings r ≡ true
             → (tree_of r ≡ tree_of r) × (borrows_strings r ≡ true)) }
         ensures err { IfErr result (λ e. e ≡ want_of_memory) }
-        ensures text { turns.new.text ≡ turns.old.text }
-        ensures grows_turns { turns.old.count ≤ turns.new.count }
-        ensures cost { turns.new.count ≤ turns.old.count + length items.entry.items }
+        ensures cost { ticks.new.count ≤ ticks.old.count + length items.entry.items }
     {
-        table_of(alloc, turns, items)
+        table_of(alloc, ticks, items)
     }
 }

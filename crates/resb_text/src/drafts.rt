@@ -18,7 +18,7 @@ ghost use Rattle.resb_text.specs.Inner.Shown.{shown_pairs, pairs_after, waiting_
 use crate::build::Build;
 use crate::error::TextParserError;
 use crate::items::{Item, Term};
-use crate::turns::Turns;
+use crate::ticks::Ticks;
 use resb_draft::Draft;
 use resb_tree::Resource;
 use std::alloc::Global;
@@ -49,41 +49,35 @@ impl<'a> Build<'a> for Drafts {
     fn array(
         &mut self,
         alloc: Global,
-        turns: &mut Turns<'_>,
+        ticks: &mut Ticks,
         items: Vec<Item<'a, Draft<'a>>>,
     ) -> Result<Draft<'a>, TextParserError>
-        requires { turns.old.count < 2 ^ 98 }
         ensures made { let xs = map draft_item_seen items.entry.items in
             all_true (map shown_borrowed xs) ≡ true → IfOk result
             (λ d. (draft_tree d ≡ array (trees_of (map shown_tree xs))) × (is_ready d ≡ true)) }
         ensures grows { OnOk result ((d : Draft) → is_ready d ≡ true
             → (draft_tree d ≡ draft_tree d) × (is_ready d ≡ true)) }
         ensures err { IfErr result (λ e. e ≡ want_of_memory) }
-        ensures text { turns.new.text ≡ turns.old.text }
-        ensures grows_turns { turns.old.count ≤ turns.new.count }
-        ensures cost { turns.new.count ≤ turns.old.count + length items.entry.items }
+        ensures cost { ticks.new.count ≤ ticks.old.count + length items.entry.items }
     {
-        array_of(alloc, turns, items)
+        array_of(alloc, ticks, items)
     }
 
     fn table(
         &mut self,
         alloc: Global,
-        turns: &mut Turns<'_>,
+        ticks: &mut Ticks,
         items: Vec<Item<'a, Draft<'a>>>,
     ) -> Result<Draft<'a>, TextParserError>
-        requires { turns.old.count < 2 ^ 98 }
         ensures made { let xs = map draft_item_seen items.entry.items in
             all_true (map shown_borrowed xs) ≡ true → IfOk result
             (λ d. (draft_tree d ≡ table (map_of (shown_pairs xs))) × (is_ready d ≡ true)) }
         ensures grows { OnOk result ((d : Draft) → is_ready d ≡ true
             → (draft_tree d ≡ draft_tree d) × (is_ready d ≡ true)) }
         ensures err { IfErr result (λ e. e ≡ want_of_memory) }
-        ensures text { turns.new.text ≡ turns.old.text }
-        ensures grows_turns { turns.old.count ≤ turns.new.count }
-        ensures cost { turns.new.count ≤ turns.old.count + length items.entry.items }
+        ensures cost { ticks.new.count ≤ ticks.old.count + length items.entry.items }
     {
-        table_of(alloc, turns, items)
+        table_of(alloc, ticks, items)
     }
 }
 
@@ -115,11 +109,10 @@ fn add_draft<'a>(
 
 /// The drafts of these items more.
 fn add_drafts<'a>(
-    turns: &mut Turns<'_>,
+    ticks: &mut Ticks,
     items: Vec<Item<'a, Draft<'a>>>,
     drafts: &mut Vec<Draft<'a>>,
 ) -> Result<(), TextParserError>
-    requires { turns.old.count < 2 ^ 98 }
     ensures trees { OnOk result (map draft_tree drafts.new.items
         ≡ map draft_tree drafts.old.items
         ++ map shown_tree (map draft_item_seen items.entry.items)) }
@@ -127,12 +120,10 @@ fn add_drafts<'a>(
         ≡ map is_ready drafts.old.items
         ++ map shown_borrowed (map draft_item_seen items.entry.items)) }
     ensures err { IfErr result (λ e. e ≡ want_of_memory) }
-    ensures text { turns.new.text ≡ turns.old.text }
-    ensures grows { turns.old.count ≤ turns.new.count }
-    ensures cost { turns.new.count ≤ turns.old.count + length items.entry.items }
+    ensures cost { ticks.new.count ≤ ticks.old.count + length items.entry.items }
 {
     for item in items {
-        turns.tick();
+        ticks.tick();
         add_draft(drafts, item.term)?;
     }
     Ok(())
@@ -141,21 +132,18 @@ fn add_drafts<'a>(
 /// The array of these items.
 fn array_of<'a>(
     alloc: Global,
-    turns: &mut Turns<'_>,
+    ticks: &mut Ticks,
     items: Vec<Item<'a, Draft<'a>>>,
 ) -> Result<Draft<'a>, TextParserError>
-    requires { turns.old.count < 2 ^ 98 }
     ensures ok { IfOk result (λ d. draft_tree d
         ≡ array (trees_of (map shown_tree (map draft_item_seen items.entry.items)))) }
     ensures ready { IfOk result (λ d. is_ready d
         ≡ all_true (map shown_borrowed (map draft_item_seen items.entry.items))) }
     ensures err { IfErr result (λ e. e ≡ want_of_memory) }
-    ensures text { turns.new.text ≡ turns.old.text }
-    ensures grows { turns.old.count ≤ turns.new.count }
-    ensures cost { turns.new.count ≤ turns.old.count + length items.entry.items }
+    ensures cost { ticks.new.count ≤ ticks.old.count + length items.entry.items }
 {
     let mut drafts = Vec::with_capacity(alloc, items.len())?;
-    add_drafts(turns, items, &mut drafts)?;
+    add_drafts(ticks, items, &mut drafts)?;
     Ok(Draft::Array(drafts))
 }
 
@@ -234,11 +222,10 @@ fn list_term<'a>(
 
 /// Lists the entries of these items, which are a key, a group and so on.
 fn list_terms<'a>(
-    turns: &mut Turns<'_>,
+    ticks: &mut Ticks,
     items: Vec<Item<'a, Draft<'a>>>,
     listed: &mut Listed<'a>,
 ) -> Result<(), TextParserError>
-    requires { turns.old.count < 2 ^ 98 }
     ensures pairs { OnOk result (draft_pairs listed.new.entries.items
         ≡ draft_pairs listed.old.entries.items
         ++ shown_pairs (map draft_item_seen items.entry.items)) }
@@ -249,13 +236,11 @@ fn list_terms<'a>(
     ensures ascends { OnOk result (listed.old.ascends ≡ keys_ascend listed.old.entries.items
         → listed.new.ascends ≡ keys_ascend listed.new.entries.items) }
     ensures err { IfErr result (λ e. e ≡ want_of_memory) }
-    ensures text { turns.new.text ≡ turns.old.text }
-    ensures grows { turns.old.count ≤ turns.new.count }
-    ensures cost { turns.new.count ≤ turns.old.count + length items.entry.items }
+    ensures cost { ticks.new.count ≤ ticks.old.count + length items.entry.items }
 {
     let mut waiting: Option<&'a str> = None;
     for item in items {
-        turns.tick();
+        ticks.tick();
         waiting = list_term(listed, waiting, item.term)?;
     }
     Ok(())
@@ -321,25 +306,22 @@ fn table_from<'a>(alloc: Global, listed: Listed<'a>) -> Result<Draft<'a>, TextPa
 /// replaces the earlier one.
 fn table_of<'a>(
     alloc: Global,
-    turns: &mut Turns<'_>,
+    ticks: &mut Ticks,
     items: Vec<Item<'a, Draft<'a>>>,
 ) -> Result<Draft<'a>, TextParserError>
-    requires { turns.old.count < 2 ^ 98 }
     ensures ok { IfOk result (λ d. draft_tree d
         ≡ table (map_of (shown_pairs (map draft_item_seen items.entry.items)))) }
     ensures ready { IfOk result
         (λ d. all_true (map shown_borrowed (map draft_item_seen items.entry.items)) ≡ true
         → is_ready d ≡ true) }
     ensures err { IfErr result (λ e. e ≡ want_of_memory) }
-    ensures text { turns.new.text ≡ turns.old.text }
-    ensures grows { turns.old.count ≤ turns.new.count }
-    ensures cost { turns.new.count ≤ turns.old.count + length items.entry.items }
+    ensures cost { ticks.new.count ≤ ticks.old.count + length items.entry.items }
 {
     let entries = Vec::with_capacity(alloc, items.len() / 2)?;
     let mut listed = Listed {
         entries,
         ascends: true,
     };
-    list_terms(turns, items, &mut listed)?;
+    list_terms(ticks, items, &mut listed)?;
     table_from(alloc, listed)
 }

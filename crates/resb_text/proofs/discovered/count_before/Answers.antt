@@ -1,17 +1,16 @@
-use Rattle.std.proofs.Common.{◌∙◌, ap, refl, arith}
+use Rattle.std.proofs.Common.{◌∙◌, refl, arith}
 use Rattle.resb_text.proofs.DiscoveredLemmas.{left_of-less}
 use Rattle.resb_text.proofs.discovered.count_before.Goals as goal
 
 pub loop-count-preserved : goal.loop-count-preserved
 loop-count-preserved c =
     let before = c.loop-count.invariant in
-    let ticked = ap (λ t. t.count) c.tick.ensures in
+    let ticked = c.tick.ensures in
     record {
       left =
           λ ds h. left_of-less ds c.args.candidates.now c.loop-count.count _ c.args.group _
           c.loop-count-test.true before.within refl c.if-candidates-count.true h
           ∙ before.left ds h;
       within = omega (arith, before.within);
-      text = ap (λ t. t.text) c.tick.ensures ∙ before.text;
       cost = omega (arith, ticked, before.cost, c.loop-count-test.true);
     }

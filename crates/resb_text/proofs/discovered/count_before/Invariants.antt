@@ -9,8 +9,7 @@ invariant-loop-count l = record {
       → left_of ds (map text_in_group (take l.count l.candidates))
       ≡ left_of ds (map text_in_group l.candidates);
   within : l.count ≤ length l.candidates;
-  text : l.turns.text ≡ l.fn.turns.text;
-  cost : l.turns.count + l.count ≡ l.fn.turns.count + length l.candidates;
+  cost : l.ticks.count + l.count ≤ l.fn.ticks.count + length l.candidates;
 }
 
 abbrev pub decreases-loop-count : goal.decreases-loop-count

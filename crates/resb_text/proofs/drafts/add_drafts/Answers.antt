@@ -1,4 +1,4 @@
-use Rattle.std.proofs.Common.{length, refl, ◌∙◌, ap, arith}
+use Rattle.std.proofs.Common.{length, refl, ap, arith}
 use Rattle.std.specs.Vec.Iter.{into_iter_items}
 use Rattle.resb_text.specs.Inner.Drafts.{draft_item_seen}
 use Rattle.resb_text.specs.Inner.Shown.{shown_tree, shown_borrowed}
@@ -14,14 +14,11 @@ loop-item-preserved c =
     let made = c.in_ok-add_draft.ensures in
     let one = ap length steps.0 in
     let item = c.in-Some.item in
-    let tick = c.tick.ensures in
-    let counted = ap (λ w. w.count) tick in
+    let counted = c.tick.ensures in
     record {
       made = one_more shown_tree draft_item_seen _ _ _ left rest item _ steps.0
           (made.trees item.comma) refl i.made;
       ready = one_more shown_borrowed draft_item_seen _ _ _ left rest item _ steps.0
           (made.ready item.comma) refl i.ready;
-      text = ap (λ w. w.text) tick ∙ i.text;
-      grows = omega (arith, counted, i.grows);
       count = omega (arith, counted, i.count, one);
     }

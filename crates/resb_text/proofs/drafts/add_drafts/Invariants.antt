@@ -16,8 +16,6 @@ invariant-loop-item l = record {
       ++ map shown_borrowed (map draft_item_seen (into_iter_items l.item-iterator))
       ≡ map is_ready l.fn.drafts.items
       ++ map shown_borrowed (map draft_item_seen (into_iter_items l.initial.item-iterator));
-  text : l.turns.text ≡ l.fn.turns.text;
-  grows : l.fn.turns.count ≤ l.turns.count;
-  count : l.turns.count + length (into_iter_items l.item-iterator) ≡ l.fn.turns.count + length
+  count : l.ticks.count + length (into_iter_items l.item-iterator) ≤ l.fn.ticks.count + length
       (into_iter_items l.initial.item-iterator);
 }

@@ -32,8 +32,7 @@ loop-item-preserved c =
     let rest = into_iter_items c.next.new.self in
     let steps = c.in-Some.ensures.steps.0 in
     let one = ap length steps in
-    let tick = c.tick.ensures in
-    let counted = ap (λ w. w.count) tick in
+    let counted = c.tick.ensures in
     let listed = c.in_ok-waiting.ensures in
     record {
       made = listed.pairs item.comma (map draft_item_seen rest)
@@ -47,7 +46,5 @@ loop-item-preserved c =
             parts.1,
           );
       ascends = λ h. listed.ascends (i.ascends h);
-      text = ap (λ w. w.text) tick ∙ i.text;
-      grows = omega (arith, counted, i.grows);
       count = omega (arith, counted, i.count, one);
     }

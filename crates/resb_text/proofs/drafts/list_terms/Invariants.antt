@@ -20,8 +20,6 @@ invariant-loop-item l = record {
       ≡ true);
   ascends : l.fn.listed.ascends ≡ keys_ascend l.fn.listed.entries.items
       → l.listed.ascends ≡ keys_ascend l.listed.entries.items;
-  text : l.turns.text ≡ l.fn.turns.text;
-  grows : l.fn.turns.count ≤ l.turns.count;
-  count : l.turns.count + length (into_iter_items l.item-iterator) ≡ l.fn.turns.count + length
+  count : l.ticks.count + length (into_iter_items l.item-iterator) ≤ l.fn.ticks.count + length
       (into_iter_items l.initial.item-iterator);
 }

@@ -1,4 +1,4 @@
-use Rattle.std.proofs.Common.{length, ◌∙◌, ap, arith}
+use Rattle.std.proofs.Common.{length, ap, arith}
 use Rattle.std.specs.Vec.Iter.{into_iter_items}
 use Rattle.resb_text.specs.Inner.Shown.{seen_in_code, shown_tree, shown_borrowed}
 use Rattle.resb_text.proofs.ShownLemmas.{term_tree_shown, term_borrowed_shown, one_more}
@@ -13,14 +13,11 @@ loop-item-preserved c =
     let made = c.in_ok-add_resource.ensures in
     let one = ap length steps.0 in
     let item = c.in-Some.item in
-    let tick = c.tick.ensures in
-    let counted = ap (λ w. w.count) tick in
+    let counted = c.tick.ensures in
     record {
       made = one_more shown_tree seen_in_code _ _ _ left rest item _ steps.0 made.trees
           (term_tree_shown item.term item.comma) i.made;
       borrowed = one_more shown_borrowed seen_in_code _ _ _ left rest item _ steps.0 made.borrowed
           (term_borrowed_shown item.term item.comma) i.borrowed;
-      text = ap (λ w. w.text) tick ∙ i.text;
-      grows = omega (arith, counted, i.grows);
       count = omega (arith, counted, i.count, one);
     }

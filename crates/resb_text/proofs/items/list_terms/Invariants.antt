@@ -17,8 +17,6 @@ invariant-loop-item l = record {
       (map shown_borrowed (map seen_in_code (into_iter_items l.initial.item-iterator))) ≡ true
       → entries_borrowed l.fn.pairs.items ≡ true → (entries_borrowed l.pairs.items ≡ true)
       × (all_true (map shown_borrowed (map seen_in_code (into_iter_items l.item-iterator))) ≡ true);
-  text : l.turns.text ≡ l.fn.turns.text;
-  grows : l.fn.turns.count ≤ l.turns.count;
-  count : l.turns.count + length (into_iter_items l.item-iterator) ≡ l.fn.turns.count + length
+  count : l.ticks.count + length (into_iter_items l.item-iterator) ≤ l.fn.ticks.count + length
       (into_iter_items l.initial.item-iterator);
 }

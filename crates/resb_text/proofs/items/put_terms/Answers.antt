@@ -35,8 +35,7 @@ loop-item-preserved c =
     let rest = into_iter_items c.next.new.self in
     let steps = c.in-Some.ensures.steps.0 in
     let one = ap length steps in
-    let tick = c.tick.ensures in
-    let counted = ap (λ w. w.count) tick in
+    let counted = c.tick.ensures in
     let put = c.in_ok-waiting.ensures in
     record {
       made = put.ok item.comma (map seen_in_code rest)
@@ -49,7 +48,5 @@ loop-item-preserved c =
             put.borrowed (term_borrowed_shown item.term item.comma ∙ parts.0) (i.borrowed h old).0,
             parts.1,
           );
-      text = ap (λ w. w.text) tick ∙ i.text;
-      grows = omega (arith, counted, i.grows);
       count = omega (arith, counted, i.count, one);
     }

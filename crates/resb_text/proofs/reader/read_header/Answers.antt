@@ -1,6 +1,5 @@
-use Rattle.std.proofs.Common.{arith}
 use Rattle.std.proofs.lemmas.Result.{err_from_is_err_and}
-use Rattle.resb_text.proofs.HeaderReading.{typing_first, no_open, typing_refused}
+use Rattle.resb_text.proofs.HeaderReading.{no_open, typing_refused}
 use Rattle.resb_grammar.proofs.HeaderPath.{name_read}
 use Rattle.resb_text.proofs.reader.read_header.Goals as goal
 
@@ -10,23 +9,22 @@ returns-in_err-brace-clause-err c =
     c.from_residual-in_err-brace.ensures.1 in
     let n = c.in_ok-place.ensures.ok in
     rw (p.1, p.2) (typing_refused _ _ _ _ _ _ n.before n.named n.after
-    (rw c.read_name.ensures.text at c.in_err-brace.ensures.err))
+    c.in_err-brace.ensures.err)
 
 pub returns-in_err-first-clause-err : goal.returns-in_err-first-clause-err
 returns-in_err-first-clause-err c =
     let p = err_from_is_err_and c.from_residual-in_err-first.result
     c.from_residual-in_err-first.ensures.1 in
     let n = c.in_ok-place.ensures.ok in
-    let unopened = rw (c.typing.ensures.text, c.read_name.ensures.text)
-    at c.in_err-first.ensures.err in
+    let unopened = c.in_err-first.ensures.err in
     rw (p.1, p.2, unopened.is) (no_open _ _ _ _ _ (name_read _ _ _ _ _ n.before n.named n.after)
-    (rw c.read_name.ensures.text at c.in_ok-brace.ensures.ok)
-    (rw c.read_name.ensures.text at c.in_ok-brace.ensures.untyped) unopened.none)
+    c.in_ok-brace.ensures.ok
+    c.in_ok-brace.ensures.untyped unopened.none)
 
 pub returns-clause-ok : goal.returns-clause-ok
 returns-clause-ok c =
     let n = c.in_ok-place.ensures.ok in
-    let brace = rw (c.typing.ensures.text, c.read_name.ensures.text) at c.in_ok-first.ensures.ok in
+    let brace = c.in_ok-first.ensures.ok in
     record {
       start = n.start;
       ends = n.ends;
@@ -35,27 +33,7 @@ returns-clause-ok c =
       before = n.before;
       named = n.named;
       between = n.after;
-      typed = rw c.read_name.ensures.text at c.in_ok-brace.ensures.ok;
+      typed = c.in_ok-brace.ensures.ok;
       opens = brace.brace;
       after = brace.after;
     }
-
-pub returns-clause-cost : goal.returns-clause-cost
-returns-clause-cost c = λ ne.
-    let typing = rw c.read_name.ensures.text at c.in_ok-brace.ensures.ok in
-    let opens = rw (c.typing.ensures.text, c.read_name.ensures.text) at c.in_ok-first.ensures.ok in
-    let brace = opens.brace in
-    let name_cost = c.in_ok-place.ensures.cost (typing_first _ _ _ _ typing brace) in
-    let typing_cost = (rw c.read_name.ensures.text at c.in_ok-brace.ensures.cost)
-    (λ h. absurd (omega (arith, h, brace))) in
-    let first_cost = (rw (c.typing.ensures.text, c.read_name.ensures.text)
-    at c.in_ok-first.ensures.cost) ne in
-    omega (
-      arith,
-      name_cost,
-      c.in_ok-place.ensures.within,
-      typing_cost,
-      c.in_ok-brace.ensures.within,
-      first_cost,
-      c.in_ok-first.ensures.within,
-    )

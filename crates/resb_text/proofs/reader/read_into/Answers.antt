@@ -17,22 +17,16 @@ returns-in_err-take-clause-quota g c =
 
 pub rest-requires : goal.rest-requires
 rest-requires g c = λ k.
-    let start = c.requires.room in
     let fresh = c.requires.fresh in
-    let most = c.read_header.ensures.most in
-    let small = c.in_ok-head.ensures.small in
     let made = c.in_ok-take.ensures.made in
     let sum : c.take.new.self.made ≡ 72 = omega (arith, fresh, made) in (
       (refl, tt),
       (
-        omega (arith, start, most, small),
+        c.in_ok-head.ensures.within,
         (
-          rw c.read_header.ensures.text c.in_ok-head.ensures.within,
-          (
-            rw (c.read_header.ensures.text, sum) (root_opened _ _ _ _ c.in_ok-head.ensures.ok),
-            rw c.read_header.ensures.text (c.take.ensures.keeps _ c.requires.quota
-                (λ more. root_over _ _ _ _ _ c.in_ok-head.ensures.ok (omega (arith, fresh, more)))),
-          ),
+          rw sum (root_opened _ _ _ _ c.in_ok-head.ensures.ok),
+          c.take.ensures.keeps _ c.requires.quota
+              (λ more. root_over _ _ _ _ _ c.in_ok-head.ensures.ok (omega (arith, fresh, more))),
         ),
       ),
     )
@@ -41,11 +35,8 @@ pub returns-in_err-root-clause-no_bundle : goal.returns-in_err-root-clause-no_bu
 returns-in_err-root-clause-no_bundle g c =
     let p = err_from_is_err_and c.from_residual-in_err-root.result
     c.from_residual-in_err-root.ensures.1 in
-    rw (p.1, p.2) (fails_no_bundle _ _ (rw c.read_header.ensures.text at c.in_err-root.ensures.err))
+    rw (p.1, p.2) (fails_no_bundle _ _ c.in_err-root.ensures.err)
 
 pub returns-clause-ok : goal.returns-clause-ok
 returns-clause-ok g c =
-    rw c.read_header.ensures.text at c.in_ok-root.ensures.ok
-
-pub returns-clause-grows : goal.returns-clause-grows
-returns-clause-grows g c = omega (arith, c.read_header.ensures.grows, c.rest.ensures.grows)
+    c.in_ok-root.ensures.ok

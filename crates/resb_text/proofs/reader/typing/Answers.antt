@@ -8,10 +8,10 @@ returns-then-byte-ne58-clause-ok c = without refl
 
 pub returns-in-Some-clause-ok : goal.returns-in-Some-clause-ok
 returns-in-Some-clause-ok c =
-    with _ _ (rw c.byte.ensures.text at c.in-Some.ensures.found)
-    (rw (c.root_type.ensures.text, c.byte.ensures.text) at c.skip.ensures.skip)
+    with _ _ c.in-Some.ensures.found
+    c.skip.ensures.skip
 
 pub returns-in-None-clause-err : goal.returns-in-None-clause-err
 returns-in-None-clause-err c =
     rw c.new.ensures (no_root_type _ _ (sym c.byte.ensures.byte ∙ c.if-byte-ne58.false)
-    (rw c.byte.ensures.text at c.in-None.ensures.none))
+    c.in-None.ensures.none)

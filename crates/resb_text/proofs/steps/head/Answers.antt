@@ -1,3 +1,6 @@
+use Rattle.resb_grammar.proofs.ByteRunsLemmas.{nonzero_inside}
+use Rattle.resb_text.proofs.ReachLemmas.{reach_colon}
+use Rattle.std.proofs.Common.{arith}
 use Rattle.std.proofs.lemmas.Result.{err_from_is_err_and}
 use Rattle.resb_text.proofs.TypedGroups.{no_type, no_type_brace}
 use Rattle.resb_text.proofs.steps.head.Goals as goal
@@ -9,7 +12,12 @@ returns-in_default-clause-err c =
 pub returns-in_err-first-clause-err : goal.returns-in_err-first-clause-err
 returns-in_err-first-clause-err c =
     let p = err_from_is_err_and c.from_residual.result c.from_residual.ensures.1 in
-    let unopened = rw (c.skip-brace.ensures.text, c.group_type.ensures.text)
-    at c.in_err-first.ensures.err in
+    let unopened = c.in_err-first.ensures.err in
     rw (p.1, p.2, unopened.is) (no_type_brace _ _ _ _ _ c.in-Some.ensures.found
-    (rw c.group_type.ensures.text at c.skip-brace.ensures.skip) unopened.none)
+    c.skip-brace.ensures.skip unopened.none)
+
+pub returns-in_default-clause-cost : goal.returns-in_default-clause-cost
+returns-in_default-clause-cost c =
+    let here = reach_colon c.args.text.now c.args.at c.requires.byte in
+    let inside = nonzero_inside c.args.text.now c.args.at (omega (arith, c.requires.byte)) in
+    omega (arith, here, inside, c.in_default.ensures.cost)

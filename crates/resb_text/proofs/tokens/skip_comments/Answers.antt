@@ -1,21 +1,12 @@
-use Rattle.std.proofs.Common.{◌∙◌, arith, refl}
+use Rattle.resb_grammar.proofs.ByteRunsLemmas.{nonzero_inside}
+use Rattle.resb_text.proofs.ReachLemmas.{reach_slash, reach_here}
+use Rattle.std.proofs.Common.{arith}
 use Rattle.resb_text.proofs.TokensLemmas.{comment_more, skip_ends, slash_black, no_comment_at}
 use Rattle.resb_text.proofs.tokens.skip_comments.Goals as goal
 
 pub comments-preserved : goal.comments-preserved
 comments-preserved c =
-    let e = c.comment_end.ensures.text ∙ c.comments.invariant.text in
-    let f = c.skip_blanks-at.ensures.text ∙ e in
     record {
-      text = f;
-      grows =
-          omega (
-            arith,
-            c.comments.invariant.grows,
-            c.skip_blanks-at.ensures.counted,
-            c.skip_blanks-at.ensures.run.order,
-            c.comment_end.ensures.grows,
-          );
       order =
           omega (
             arith,
@@ -23,10 +14,10 @@ comments-preserved c =
             c.skip_blanks-at.ensures.run.order,
             c.in-Some.ensures.within.0,
           );
-      fits = rw (← e) c.skip_blanks-at.ensures.run.fits;
+      fits = c.skip_blanks-at.ensures.run.fits;
       stands = cc;
       so_far =
-          comment_more _ _ _ _ _ _ _ c.comments.invariant.text e c.in-Some.ensures.found
+          comment_more _ _ _ _ _ c.in-Some.ensures.found
           c.skip_blanks-at.ensures.run c.comments.invariant.so_far;
       cost =
           omega (
@@ -40,13 +31,40 @@ comments-preserved c =
 
 pub returns-then-b-ne47-clause-skip : goal.returns-then-b-ne47-clause-skip
 returns-then-b-ne47-clause-skip c =
-    let e = c.comment_end.ensures.text ∙ c.comments.invariant.text in
-    skip_ends _ _ _ _ _ e e c.skip_blanks-at.ensures.run.longest
+    skip_ends _ _ _ c.skip_blanks-at.ensures.run.longest
     (no_comment_at _ _ (rw (← c.skip_blanks-at.ensures.byte) c.if-b-ne47.true))
-    (comment_more _ _ _ _ _ _ _ c.comments.invariant.text e c.in-Some.ensures.found
+    (comment_more _ _ _ _ _ c.in-Some.ensures.found
     c.skip_blanks-at.ensures.run c.comments.invariant.so_far)
 
 pub returns-in_default-clause-skip : goal.returns-in_default-clause-skip
 returns-in_default-clause-skip c =
-    skip_ends _ _ _ _ _ refl c.comments.invariant.text (slash_black _ c.comments.invariant.stands)
+    skip_ends _ _ _ (slash_black _ c.comments.invariant.stands)
     c.in_default.ensures.none c.comments.invariant.so_far
+
+pub returns-in_default-clause-cost : goal.returns-in_default-clause-cost
+returns-in_default-clause-cost c =
+    let stands = c.comments.invariant.stands in
+    let inside = nonzero_inside c.args.text.now c.comments.slash (omega (arith, stands)) in
+    let all = reach_slash c.args.text.now c.comments.slash stands in
+    omega (
+      arith,
+      inside,
+      all,
+      c.comments.invariant.order,
+      c.comments.invariant.cost,
+      c.in_default.ensures.cost,
+    )
+
+pub returns-then-b-ne47-clause-cost : goal.returns-then-b-ne47-clause-cost
+returns-then-b-ne47-clause-cost c =
+    let here = reach_here c.args.text.now c.skip_blanks-at.result.0 (rw (← c.skip_blanks-at.ensures.byte) c.if-b-ne47.true) in
+    omega (
+      arith,
+      here,
+      c.comments.invariant.order,
+      c.comments.invariant.cost,
+      c.in-Some.ensures.cost,
+      c.in-Some.ensures.within,
+      c.skip_blanks-at.ensures.run.order,
+      c.skip_blanks-at.ensures.counted,
+    )

@@ -8,7 +8,7 @@ returns-in-Err-clause-none c =
     let same : c.draft_limited.new.quota.limit ≡ c.args.limit = c.draft_limited.ensures.limit
     ∙ ap (λ (q : Quota). q.limit) c.new-quota.ensures in
     λ within. never_more _ _ within
-    (rw (c.new.ensures, same) at (c.draft_limited.ensures.quota.over c.if-quota.true))
+    (rw same at (c.draft_limited.ensures.quota.over c.if-quota.true))
 
 pub returns-in-Err-2-clause-none : goal.returns-in-Err-2-clause-none
-returns-in-Err-2-clause-none c = rw c.new.ensures at c.in-Err.ensures.no_bundle
+returns-in-Err-2-clause-none c = c.in-Err.ensures.no_bundle

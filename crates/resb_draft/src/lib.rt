@@ -6,6 +6,8 @@
 mod draft;
 mod dropping;
 mod laying_order;
+mod row;
 
 pub use draft::Draft;
 pub use laying_order::drafts_in_order;
+pub use row::{Piece, Row};

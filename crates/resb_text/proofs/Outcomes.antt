@@ -1,6 +1,6 @@
 -- What is known of a result, handed on.
 use Rattle.std.specs.Prelude.{Option, Some, None, MatchResult, MatchOption}
-use Rattle.std.specs.Prelude.{Result, Ok, Err, IfOk}
+use Rattle.std.specs.Prelude.{Result, Ok, Err, IfOk, OnOk}
 
 pub if_ok_both : {T E : Type 0} {P Q R : T → Type 0} (r : Result T E)
     → ((x : T) → P x → Q x → R x) → IfOk r P → IfOk r Q → IfOk r R
@@ -23,3 +23,11 @@ pub match_weaker : {A E N M : Type 0} {P Q : A → Type 0} {F G : E → Type 0} 
 match_weaker (Ok (Some x)) n p f h = p x h
 match_weaker (Ok None) n p f h = n h
 match_weaker (Err e) n p f h = f e h
+
+pub on_ok_to : {T E P Q : Type 0} (r : Result T E) → OnOk r P → (P → Q) → OnOk r Q
+on_ok_to (Ok x) h f = f h
+on_ok_to (Err e) h f = tt
+
+pub on_ok_always : {T E P : Type 0} (r : Result T E) → P → OnOk r P
+on_ok_always (Ok x) h = h
+on_ok_always (Err e) h = tt

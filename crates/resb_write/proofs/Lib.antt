@@ -2,6 +2,7 @@
 mod Anywhere
 mod Numbers
 mod Pending
+mod PiecesLemmas
 mod Counting
 mod Marks
 mod Stacks

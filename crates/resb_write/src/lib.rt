@@ -11,6 +11,7 @@ mod key_block;
 pub mod laws;
 mod limits;
 mod nodes;
+mod pieces;
 mod resource_bodies;
 mod serializer;
 mod sites;

@@ -7,6 +7,7 @@ ghost use Rattle.resb_tree.specs.Bundle.{root_of};
 ghost use Rattle.resb_tree.specs.LayingOrder.{laying_order, keys_of};
 ghost use Rattle.resb_pool.specs.Plan.{nows};
 ghost use Rattle.resb_draft.specs.Drafts.{draft_tree, is_ready};
+ghost use Rattle.resb_draft.specs.Rows.{IsRow};
 ghost use Rattle.resb_write.specs.FaultOf.{fault_of};
 ghost use Rattle.resb_write.specs.Inner.Nodes.{Fits};
 ghost use Rattle.resb_layout.specs.TreeFaults.{RefusesWriting};
@@ -22,7 +23,7 @@ use crate::nodes::{AsNode, nodes_of, table_keys};
 use crate::sites::Sites;
 use crate::strings::Strings;
 use crate::tree_bodies::lay_bodies;
-use resb_draft::{Draft, drafts_in_order};
+use resb_draft::{Draft, Row, drafts_in_order};
 use resb_tree::{Key, ResourceBundle, in_laying_order};
 use std::alloc::Global;
 
@@ -74,6 +75,50 @@ impl Serializer {
             keys_in_discovery_order,
         )
     }
+
+    /// The `.res` file of a bundle whose root is given as a row: what `to_bytes` gives, and what it
+    /// refuses, for the tree for which the row stands.
+    pub fn row_to_bytes(
+        alloc: Global,
+        root: &Row<'_>,
+        is_locale_fallback_enabled: bool,
+        keys_in_discovery_order: &[Key<'_>],
+    ) -> Result<Vec<u8>, BinarySerializerError>
+        requires { (t : Tree) × IsRow root.now t }
+        ensures ok { IfOk result (λ v. (t : Tree) → IsRow root.now t
+            → Written v.items t is_locale_fallback_enabled keys_in_discovery_order.now) }
+        ensures err { IfErr result (λ e. (t : Tree) → IsRow root.now t
+            → RefusesWriting t keys_in_discovery_order.now (fault_of e)) }
+    {
+        write_row(
+            alloc,
+            root,
+            is_locale_fallback_enabled,
+            keys_in_discovery_order,
+        )
+    }
+}
+
+/// The file of a row, whose pieces stand in laying order.
+fn write_row(
+    alloc: Global,
+    row: &Row<'_>,
+    is_locale_fallback_enabled: bool,
+    list: &[Key<'_>],
+) -> Result<Vec<u8>, BinarySerializerError>
+    requires { (t : Tree) × IsRow row.now t }
+    ensures ok { IfOk result (λ v. (t : Tree) → IsRow row.now t
+        → Written v.items t is_locale_fallback_enabled list.now) }
+    ensures err { IfErr result (λ e. (t : Tree) → IsRow row.now t
+        → RefusesWriting t list.now (fault_of e)) }
+{
+    write_order(
+        alloc,
+        &row.pieces,
+        &row.keys,
+        is_locale_fallback_enabled,
+        list,
+    )
 }
 
 /// The file of a bundle, whose resources are put into laying order first.

@@ -1,0 +1,14 @@
+use Rattle.std.proofs.Common.{◌≡◌, ◌∙◌, ap}
+use Rattle.resb_text.specs.declared.quota.Quota.{Quota}
+use Rattle.resb_grammar.proofs.MadeOnce.{never_more}
+use Rattle.resb_text.proofs.reader.Reader.read_row_within.Goals as goal
+
+pub returns-in-Err-clause-none : goal.returns-in-Err-clause-none
+returns-in-Err-clause-none c =
+    let same : c.row_limited.new.quota.limit ≡ c.args.limit = c.row_limited.ensures.limit
+    ∙ ap (λ (q : Quota). q.limit) c.new-quota.ensures in
+    λ within. never_more _ _ within
+    (rw same at (c.row_limited.ensures.quota.over c.if-quota.true))
+
+pub returns-in-Err-2-clause-none : goal.returns-in-Err-2-clause-none
+returns-in-Err-2-clause-none c = c.in-Err.ensures.no_bundle

@@ -1,0 +1,20 @@
+//! What the writer needs of a piece of a row, which it may be given in place of a resource.
+//! How a row stands for a tree is said in `resb_draft`.
+use crate::nodes::{AsNode, Node, node_of};
+use resb_draft::Piece;
+
+impl<'a> AsNode for Piece<'a> {
+    ghost use Rattle.std.specs.Prelude.{◌≡◌, true};
+    ghost use Rattle.resb_draft.specs.Rows.{is_piece};
+
+    ghost is = { λ p t. is_piece p t ≡ true };
+
+    fn as_node(&self) -> Node<'_> {
+        match self {
+            Piece::String(text) => Node::String(text),
+            Piece::Leaf(resource) => node_of(resource),
+            Piece::Array(count) => Node::Array(*count),
+            Piece::Table(count) => Node::Table(*count),
+        }
+    }
+}

@@ -1,5 +1,5 @@
 -- What stands before the root's items: where it leads to, and where it is refused.
-use Rattle.std.proofs.Common.{◌≡◌, ◌≢◌, ℕ, Bool, true, false, List, refl, sym, ◌∙◌, ap, subst}
+use Rattle.std.proofs.Common.{◌≡◌, ◌≢◌, ℕ, Bool, true, false, List, refl, sym, ap, subst}
 use Rattle.std.proofs.Common.{arith, Some, inl, inr, ⊎_elim}
 use Rattle.std.specs.Prelude.{◌⊎◌, ◌==◌, slice_index}
 use Rattle.std.proofs.lemmas.Bool.Decides.{nat_tests}
@@ -124,15 +124,6 @@ module _ (text : List ℕ) where
       go to u closing m h = none_some u h
       go to u a_comma m h = none_some u h
       go to u (a_type kind) m h = none_some u h
-
-  -- no `/` stands where a type of the root, or `{`, does
-  pub typing_first : (place brace : ℕ) (f : Bool) → Typing text place brace f
-      → slice_index text brace ≡ ascii.left_brace → slice_index text place ≢ ascii.slash
-  typing_first place brace true (without e) b h =
-      let n : slice_index text place ≡ ascii.left_brace = ap (slice_index text) e ∙ b in
-      omega (arith, n, h)
-  typing_first place brace f (with i _ t skip) b h =
-      let n = root_colon text place i f t in omega (arith, n, h)
 
   -- what fails for another reason than memory is no bundle
   pub fails_no_bundle : (e : TextParserError) → Fails text e

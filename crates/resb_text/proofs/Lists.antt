@@ -1,6 +1,6 @@
 -- Lists and options: what names no word of this project.
 use Rattle.std.proofs.Common.{◌≡◌, ℕ, ◌+◌, ◌-◌, List, get_or, ap, ◌∙◌, drop, arith, length, take}
-use Rattle.std.proofs.Common.{length-drop, true, sym, ◌<◌, ◌≤◌, false, refl}
+use Rattle.std.proofs.Common.{length-drop, true, ◌<◌, ◌≤◌, false, refl}
 use Rattle.std.proofs.lemmas.List.{get_or-drop, take_all}
 use Rattle.std.specs.Prelude.{Bool}
 
@@ -14,11 +14,6 @@ pub rest_of : (text s : List ℕ) (from : ℕ) → s ≡ text
     → take (length s - from) (drop from s) ≡ drop from text
 rest_of text s from e =
     take_all (length s - from) (drop from s) (omega (arith, length-drop from s)) ∙ ap (drop from) e
-
--- a byte of what is left passes a test
-pub test_found : (test : ℕ → Bool) (text rest : List ℕ) (from n : ℕ) → rest ≡ drop from text
-    → test (get_or rest n 0) ≡ true → test (get_or text (from + n) 0) ≡ true
-test_found test text rest from n e is = sym (ap test (at_rest text rest from n e)) ∙ is
 
 -- none does before this one
 pub none_before : (test : ℕ → Bool) (text rest : List ℕ) (from n : ℕ) → rest ≡ drop from text

@@ -17,8 +17,8 @@ if_ok_to (Ok x) h f = f x h
 if_ok_to (Err e) h f = tt
 
 -- what is said of both outcomes and of what may be in the first, said more weakly
-pub match_weaker : {A E N M : Type 0} {P Q : A → Type 0} {F G : E → Type 0} (r : Result (Option A) E)
-    → (N → M) → ((x : A) → P x → Q x) → ((e : E) → F e → G e)
+pub match_weaker : {A E N M : Type 0} {P Q : A → Type 0} {F G : E → Type 0}
+    (r : Result (Option A) E) → (N → M) → ((x : A) → P x → Q x) → ((e : E) → F e → G e)
     → MatchResult r (λ o. MatchOption o N P) F → MatchResult r (λ o. MatchOption o M Q) G
 match_weaker (Ok (Some x)) n p f h = p x h
 match_weaker (Ok None) n p f h = n h

@@ -91,6 +91,10 @@ pub reach_left : (text : List ℕ) (at : ℕ) → slice_index text at ≡ ascii.
     → reach text at ≡ at
 reach_left text at e = reach_byte text at ascii.left_brace (sym e) (λ s. omega (arith, s))
 
+-- at a quote
+pub reach_quote : (text : List ℕ) (at : ℕ) → slice_index text at ≡ ascii.quote → reach text at ≡ at
+reach_quote text at e = reach_byte text at ascii.quote (sym e) (λ s. omega (arith, s))
+
 -- at a comma
 pub reach_comma : (text : List ℕ) (at : ℕ) → slice_index text at ≡ ascii.comma
     → reach text at ≡ at
@@ -100,3 +104,26 @@ reach_comma text at e = reach_byte text at ascii.comma (sym e) (λ s. omega (ari
 pub reach_colon : (text : List ℕ) (at : ℕ) → slice_index text at ≡ ascii.colon
     → reach text at ≡ at
 reach_colon text at e = reach_byte text at ascii.colon (sym e) (λ s. omega (arith, s))
+
+-- at a plus
+pub reach_plus : (text : List ℕ) (at : ℕ) → slice_index text at ≡ ascii.plus → reach text at ≡ at
+reach_plus text at e = reach_byte text at ascii.plus (sym e) (λ s. omega (arith, s))
+
+-- at a dash
+pub reach_dash : (text : List ℕ) (at : ℕ) → slice_index text at ≡ ascii.dash → reach text at ≡ at
+reach_dash text at e = reach_byte text at ascii.dash (sym e) (λ s. omega (arith, s))
+
+-- what is said of a sign
+pub ruleset reach_signs = (reach_plus, reach_dash, reach_low)
+
+-- what is said of a digit or none
+pub ruleset reach_of_digits = (reach_digit, reach_digits)
+
+-- what is said of a comma, a brace or the end
+pub ruleset reach_ends = (reach_comma, reach_right, reach_high)
+
+-- what is said of a colon or the end
+pub ruleset reach_types = (reach_colon, reach_high)
+
+-- what is said of a quote or the end
+pub ruleset reach_texts = (reach_quote, reach_high)

@@ -1,10 +1,5 @@
 -- What stands at a place, or nowhere from it on.
 use Rattle.std.specs.Prelude.{◌≡◌, ℕ, ◌<◌, ◌≤◌, List, length, slice_index}
-use Rattle.resb_grammar.specs.Ascii as ascii
-
--- a comment may begin here
-abbrev pub IsSlash : List ℕ → ℕ → Type 0
-IsSlash text at = slice_index text at ≡ ascii.slash
 
 -- this byte stands there, and nowhere from here up to there
 pub record FirstByte (b : ℕ) (text : List ℕ) (from to : ℕ) : Type 0 where

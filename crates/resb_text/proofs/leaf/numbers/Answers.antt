@@ -40,7 +40,14 @@ numbers-preserved c =
     let within = c.in-Some.ensures.within in
     let behind_within = c.in_ok-here.ensures.within in
     record {
-      low = omega (arith, c.numbers.invariant.low, within, c.skip-place.ensures.order, behind_within);
+      low =
+          omega (
+            arith,
+            c.numbers.invariant.low,
+            within,
+            c.skip-place.ensures.order,
+            behind_within,
+          );
       fits = behind_within.1;
       ready =
           rw c.in_ok-push.ensures.items

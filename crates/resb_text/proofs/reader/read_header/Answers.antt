@@ -20,20 +20,3 @@ returns-in_err-first-clause-err c =
     rw (p.1, p.2, unopened.is) (no_open _ _ _ _ _ (name_read _ _ _ _ _ n.before n.named n.after)
     c.in_ok-brace.ensures.ok
     c.in_ok-brace.ensures.untyped unopened.none)
-
-pub returns-clause-ok : goal.returns-clause-ok
-returns-clause-ok c =
-    let n = c.in_ok-place.ensures.ok in
-    let brace = c.in_ok-first.ensures.ok in
-    record {
-      start = n.start;
-      ends = n.ends;
-      place = c.in_ok-place.place;
-      brace = c.in_ok-brace.brace;
-      before = n.before;
-      named = n.named;
-      between = n.after;
-      typed = c.in_ok-brace.ensures.ok;
-      opens = brace.brace;
-      after = brace.after;
-    }

@@ -36,7 +36,3 @@ returns-in_err-root-clause-no_bundle g c =
     let p = err_from_is_err_and c.from_residual-in_err-root.result
     c.from_residual-in_err-root.ensures.1 in
     rw (p.1, p.2) (fails_no_bundle _ _ c.in_err-root.ensures.err)
-
-pub returns-clause-ok : goal.returns-clause-ok
-returns-clause-ok g c =
-    c.in_ok-root.ensures.ok

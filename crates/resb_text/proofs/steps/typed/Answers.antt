@@ -130,21 +130,21 @@ pub returns-in_err-take-clause-cost : goal.returns-in_err-take-clause-cost
 returns-in_err-take-clause-cost g c =
     let p = err_from_is_err_and c.from_residual-in_err-take.result
     c.from_residual-in_err-take.ensures.1 in
-    let looked = reach_high c.args.text.now c.in_ok-first.first c.in_ok-first.ensures.within.1 in
+    let looked = reach_high c.args.text.now _ c.in_ok-first.ensures.within.1 in
     rw p.1 (omega (arith, looked, c.in_ok-first.ensures.cost))
 
 pub returns-in_err-open-clause-cost : goal.returns-in_err-open-clause-cost
 returns-in_err-open-clause-cost g c =
     let p = err_from_is_err_and c.from_residual-in_err-open.result
     c.from_residual-in_err-open.ensures.1 in
-    let looked = reach_high c.args.text.now c.in_ok-first.first c.in_ok-first.ensures.within.1 in
+    let looked = reach_high c.args.text.now _ c.in_ok-first.ensures.within.1 in
     rw p.1 (omega (arith, looked, c.in_ok-first.ensures.cost))
 
 pub returns-in_err-take-2-clause-cost : goal.returns-in_err-take-2-clause-cost
 returns-in_err-take-2-clause-cost g c =
     let p = err_from_is_err_and c.from_residual-in_err-take-2.result
     c.from_residual-in_err-take-2.ensures.1 in
-    let looked = reach_high c.args.text.now c.in_ok-first.first c.in_ok-first.ensures.within.1 in
+    let looked = reach_high c.args.text.now _ c.in_ok-first.ensures.within.1 in
     let leaf_looked = reach_high c.args.text.now _ c.in_ok-next.ensures.within.1 in
     rw p.1 (omega (arith, looked, c.in_ok-first.ensures.cost, leaf_looked, c.in_ok-next.ensures.cost))
 
@@ -152,6 +152,6 @@ pub returns-in_err-add_leaf-clause-cost : goal.returns-in_err-add_leaf-clause-co
 returns-in_err-add_leaf-clause-cost g c =
     let p = err_from_is_err_and c.from_residual-in_err-add_leaf.result
     c.from_residual-in_err-add_leaf.ensures.1 in
-    let looked = reach_high c.args.text.now c.in_ok-first.first c.in_ok-first.ensures.within.1 in
+    let looked = reach_high c.args.text.now _ c.in_ok-first.ensures.within.1 in
     let leaf_looked = reach_high c.args.text.now _ c.in_ok-next.ensures.within.1 in
     rw p.1 (omega (arith, looked, c.in_ok-first.ensures.cost, leaf_looked, c.in_ok-next.ensures.cost))

@@ -57,7 +57,8 @@ returns-in_default-clause-cost c =
 
 pub returns-then-b-ne47-clause-cost : goal.returns-then-b-ne47-clause-cost
 returns-then-b-ne47-clause-cost c =
-    let here = reach_here c.args.text.now c.skip_blanks-at.result.0 (rw (← c.skip_blanks-at.ensures.byte) c.if-b-ne47.true) in
+    let here = reach_here c.args.text.now c.skip_blanks-at.result.0
+    (rw (← c.skip_blanks-at.ensures.byte) c.if-b-ne47.true) in
     omega (
       arith,
       here,

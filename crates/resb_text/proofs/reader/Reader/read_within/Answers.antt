@@ -9,6 +9,3 @@ returns-in-Err-clause-none c =
     ∙ ap (λ (q : Quota). q.limit) c.new-quota.ensures in
     λ within. never_more _ _ within
     (rw same at (c.read_limited.ensures.quota.over c.if-quota.true))
-
-pub returns-in-Err-2-clause-none : goal.returns-in-Err-2-clause-none
-returns-in-Err-2-clause-none c = c.in-Err.ensures.no_bundle

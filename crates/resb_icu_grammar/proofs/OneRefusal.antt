@@ -29,6 +29,7 @@ use Rattle.resb_icu_grammar.proofs.Lexical.{GroupType-one, Name-one}
 use Rattle.resb_icu_grammar.proofs.Groups as groups
 use Rattle.resb_icu_grammar.proofs.Groups.{Closes, string_skipped, no_brace_colon, Header-one}
 use Rattle.resb_icu_grammar.proofs.Leaves.{no_leaf_there, stuck_kind}
+use Rattle.resb_icu_grammar.proofs.Types.{no_type_there, TypeStuck-one}
 use Rattle.resb_icu_grammar.proofs.Refused.{no_opening_brace, head_never}
 use Rattle.resb_icu_grammar.proofs.OneStep.{no_brace_begins, no_comma_begins, no_string_begins}
 use Rattle.resb_icu_grammar.proofs.OneStep.{Next, inside, outside, first_step, comes_meet}
@@ -70,10 +71,10 @@ blocked_stays text ws ks _ at _ _ _ (stuck.no_entry es _ a f) (step.key_of_entry
 blocked_stays text ws ks _ at _ _ _ (stuck.no_group _ f) (step.group_opens _ i b l) = f (inl b)
 blocked_stays text ws ks _ at _ _ _ (stuck.no_group _ f) (step.type_opens _ i kind h) =
     f (inr h.named.stands.colon)
-blocked_stays text ws ks _ at _ _ _ (stuck.no_type _ c f) (step.group_opens _ i b l) =
+blocked_stays text ws ks _ at _ _ _ (stuck.no_type _ x c f) (step.group_opens _ i b l) =
     no_brace_colon text at b c
-blocked_stays text ws ks _ at _ _ _ (stuck.no_type _ c f) (step.type_opens _ i kind h) =
-    f h.ends kind h.named
+blocked_stays text ws ks _ at _ _ _ (stuck.no_type _ x c f) (step.type_opens _ i kind h) =
+    no_type_there text at x f h.ends kind h.named
 blocked_stays text ws ks _ at to _ _ (stuck.no_brace _ i _ kind g k n) (step.group_opens _ j b l) =
     no_brace_colon text at b g.stands.colon
 blocked_stays text ws ks _ at to _ _ (stuck.no_brace _ i _ kind g k n)
@@ -184,9 +185,9 @@ counted_meet text from a b (one_number _ k i j _ v c p s e l) d =
 
 -- where behind some numbers none stands, or one without a comma
 data NumbersStop (text : List ℕ) (at : ℕ) : ℕ → IcuExpected → Type 0 where
-  at_once : NoNumberAt text at → NumbersStop text at at expect.Number
+  at_once : NoNumberAt text at → NumbersStop text at at expect.NumberOrRightBrace
   behind_one : (i j v : ℕ) → Number text at i v → Skip text i j
-      → slice_index text j ≢ ascii.comma → NumbersStop text at j expect.RightBrace
+      → slice_index text j ≢ ascii.comma → NumbersStop text at j expect.CommaOrRightBrace
 
 stop_one : (text : List ℕ) (at to end : ℕ) (x y : IcuExpected) → NumbersStop text at to x
     → NumbersStop text at end y → (to ≡ end) × (x ≡ y)
@@ -297,17 +298,18 @@ Blocked-one text _ at _ _ _ _ (stuck.key_twice es _ c d) (stuck.no_entry _ _ a f
 Blocked-one text _ at _ _ _ _ (stuck.no_entry es _ a f) (stuck.key_twice _ _ c d) = absurd (a c)
 Blocked-one text _ at _ _ _ _ (stuck.no_entry es _ a f) (stuck.no_entry _ _ b g) = (refl, refl)
 Blocked-one text _ at _ _ _ _ (stuck.no_group _ f) (stuck.no_group _ g) = (refl, refl)
-Blocked-one text _ at _ _ _ _ (stuck.no_group _ f) (stuck.no_type _ c g) = absurd (f (inr c))
+Blocked-one text _ at _ _ _ _ (stuck.no_group _ f) (stuck.no_type _ _ c g) = absurd (f (inr c))
 Blocked-one text _ at _ _ _ _ (stuck.no_group _ f) (stuck.no_brace _ i _ kind g k n) =
     absurd (f (inr g.stands.colon))
-Blocked-one text _ at _ _ _ _ (stuck.no_type _ c g) (stuck.no_group _ f) = absurd (f (inr c))
-Blocked-one text _ at _ _ _ _ (stuck.no_type _ c g) (stuck.no_type _ d f) = (refl, refl)
-Blocked-one text _ at _ _ _ _ (stuck.no_type _ c f) (stuck.no_brace _ i _ kind g k n) =
-    absurd (f i kind g)
+Blocked-one text _ at _ _ _ _ (stuck.no_type _ _ c g) (stuck.no_group _ f) = absurd (f (inr c))
+Blocked-one text _ at _ _ x y (stuck.no_type _ _ c g) (stuck.no_type _ _ d f) =
+    (refl, TypeStuck-one text at x y g f)
+Blocked-one text _ at _ _ _ _ (stuck.no_type _ x c f) (stuck.no_brace _ i _ kind g k n) =
+    absurd (no_type_there text at x f i kind g)
 Blocked-one text _ at _ _ _ _ (stuck.no_brace _ i _ kind g k n) (stuck.no_group _ f) =
     absurd (f (inr g.stands.colon))
-Blocked-one text _ at _ _ _ _ (stuck.no_brace _ i _ kind g k n) (stuck.no_type _ c f) =
-    absurd (f i kind g)
+Blocked-one text _ at _ _ _ _ (stuck.no_brace _ i _ kind g k n) (stuck.no_type _ x c f) =
+    absurd (no_type_there text at x f i kind g)
 Blocked-one text _ at to end _ _ (stuck.no_brace _ i _ kind g k n)
     (stuck.no_brace _ j _ other h l m) = (
       Skip-one text i to end k

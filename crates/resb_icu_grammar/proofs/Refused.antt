@@ -23,6 +23,7 @@ use Rattle.resb_icu_grammar.proofs.Lexical.{Begins-one, Skip-one, String-one, ke
 use Rattle.resb_icu_grammar.proofs.Lexical.{RootType-one, root_type_first, GroupType-one}
 use Rattle.resb_icu_grammar.proofs.Groups.{no_brace_colon}
 use Rattle.resb_icu_grammar.proofs.Leaves.{no_leaf_there, stuck_kind}
+use Rattle.resb_icu_grammar.proofs.Types.{no_type_there}
 use Rattle.resb_icu_grammar.proofs.Moves.{RestOf, Rest, comes_same}
 use Rattle.resb_icu_grammar.proofs.OneStep.{no_brace_begins, no_comma_begins}
 use Rattle.resb_icu_grammar.proofs.RestRoot.{follows_root}
@@ -55,9 +56,9 @@ blocked_never text ws ks _ at to x (stuck.no_entry es _ c f) =
 blocked_never text ws ks _ at to x (stuck.no_group _ f) =
     groups.no_group_begins text (After text ws) at ks (λ e. f (inl e))
     (λ kind i d. f (inr d.named.stands.colon))
-blocked_never text ws ks _ at to x (stuck.no_type _ c f) =
+blocked_never text ws ks _ at to x (stuck.no_type _ _ c f) =
     groups.no_group_begins text (After text ws) at ks (λ b. no_brace_colon text at b c)
-    (λ kind i d. f d.ends kind d.named)
+    (λ kind i d. no_type_there text at x f d.ends kind d.named)
 blocked_never text ws ks _ at to x (stuck.no_brace _ i _ kind g k n) =
     groups.no_group_begins text (After text ws) at ks
     (λ b. no_brace_colon text at b g.stands.colon) (no_opening_brace text at i to kind g k n)

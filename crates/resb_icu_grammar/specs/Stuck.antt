@@ -1,12 +1,14 @@
 -- Where a reading of a text in ICU's form cannot go on, and what was expected there.
 use Rattle.std.specs.Prelude.{◌≡◌, ◌≢◌, ◌+◌, ◌<◌, ◌&&◌, ◌==◌, ℕ, Bool, true, false, None, List, []}
-use Rattle.std.specs.Prelude.{◌∷◌, length, slice_index}
+use Rattle.std.specs.Prelude.{◌∷◌, length, slice_index, if◌then◌else◌}
 use Rattle.resb_grammar.specs.Ascii as ascii
 use Rattle.resb_grammar.specs.Group.{hex_bytes}
 use Rattle.resb_grammar.specs.GroupTypes.{Kind, string_kind, binary_kind, integer_kind, vector_kind}
+use Rattle.resb_grammar.specs.GroupTypes.{Names}
 use Rattle.resb_tree.specs.Tree.{Tree}
 use Rattle.resb_icu_grammar.specs.Blanks.{Begins, Skip}
-use Rattle.resb_icu_grammar.specs.Words.{Text, KeyText, Name, Number, GroupType, RootType}
+use Rattle.resb_icu_grammar.specs.Words.{Text, KeyText, Name, Number, TypeName, GroupType, RootType}
+use Rattle.resb_icu_grammar.specs.Expected.{instead_of}
 use Rattle.resb_icu_grammar.specs.Bundle.{Header}
 use Rattle.resb_icu_grammar.specs.Groups.{Last, is_member, ends_in_string, is_collation}
 use Rattle.resb_icu_grammar.specs.Groups.{holds_entries}
@@ -37,6 +39,20 @@ quoted_if false x = x
 -- a string or this was expected, by the byte that stands there
 abbrev pub string_or : ℕ → IcuExpected → IcuExpected
 string_or b x = quoted_if (b == ascii.quote) x
+
+-- what was expected where no member, comma or `}` stands among the members of an array: a comma may
+-- stand behind a member alone
+abbrev pub member_behind : Last → IcuExpected
+member_behind last = if is_member last then expect.CommaOrMember else expect.Member
+
+-- at a `:` no type of a group stands, where this was expected
+pub data TypeStuck (text : List ℕ) (at : ℕ) : IcuExpected → Type 0 where
+  -- no name stands behind it
+  no_type_name : ((to : ℕ) (name : List ℕ) → TypeName text at to name → ⊥)
+      → TypeStuck text at expect.GroupType
+  -- a name, which is of no type that a tree has
+  no_tree : (to : ℕ) (name : List ℕ) → TypeName text at to name
+      → ((kind : Kind) → Names name kind → ⊥) → TypeStuck text at (instead_of name)
 
 -- some numbers, with a comma behind each
 pub data NumbersSoFar (text : List ℕ) : ℕ → ℕ → Type 0 where
@@ -69,10 +85,10 @@ pub data LeafStuck (text : List ℕ) (from : ℕ) : Kind → ℕ → IcuExpected
       → LeafStuck text from integer_kind j expect.RightBrace
   -- in `:intvector{..}` a number or `}`, and behind a number a comma or `}`
   no_number : (at : ℕ) → NumbersSoFar text from at → slice_index text at ≢ ascii.right_brace
-      → NoNumberAt text at → LeafStuck text from vector_kind at expect.Number
+      → NoNumberAt text at → LeafStuck text from vector_kind at expect.NumberOrRightBrace
   open_vector : (at i j v : ℕ) → NumbersSoFar text from at → Number text at i v → Skip text i j
       → slice_index text j ≢ ascii.comma → slice_index text j ≢ ascii.right_brace
-      → LeafStuck text from vector_kind j expect.RightBrace
+      → LeafStuck text from vector_kind j expect.CommaOrRightBrace
 
 -- a reading that stands somewhere cannot go on at a place, where this was expected
 pub data Blocked (text : List ℕ) : Standing → ℕ → ℕ → IcuExpected → Type 0 where
@@ -80,7 +96,7 @@ pub data Blocked (text : List ℕ) : Standing → ℕ → ℕ → IcuExpected �
   no_member : (last : Last) (ts : List Tree) (at : ℕ) → slice_index text at ≢ ascii.right_brace
       → slice_index text at ≢ ascii.comma → (BeginsGroup text at → ⊥) → NoStringAt text at
       → Blocked text (among_members last ts) at at
-      (string_or (slice_index text at) expect.Member)
+      (string_or (slice_index text at) (member_behind last))
   -- a string right behind a string
   two_strings : (last : Last) (ts : List Tree) (at i : ℕ) (s : List ℕ) → ends_in_string last ≡ true
       → Text text at i s → Blocked text (among_members last ts) at at expect.Comma
@@ -97,9 +113,8 @@ pub data Blocked (text : List ℕ) : Standing → ℕ → ℕ → IcuExpected �
   -- neither `{` nor `:` where a group must stand
   no_group : (at : ℕ) → (BeginsGroup text at → ⊥) → Blocked text before_group at at expect.Group
   -- a `:` that begins no type
-  no_type : (at : ℕ) → slice_index text at ≡ ascii.colon
-      → ((to : ℕ) (kind : Kind) → GroupType text at to kind → ⊥)
-      → Blocked text before_group at at expect.GroupType
+  no_type : (at : ℕ) (x : IcuExpected) → slice_index text at ≡ ascii.colon → TypeStuck text at x
+      → Blocked text before_group at at x
   -- a type without a `{`
   no_brace : (at i j : ℕ) (kind : Kind) → GroupType text at i kind → Skip text i j
       → slice_index text j ≢ ascii.left_brace

@@ -23,7 +23,7 @@ use Rattle.resb_icu_grammar.specs.Machine.{Move, StepOut, Comes, here, among_mem
 use Rattle.resb_icu_grammar.specs.Machine.{behind_group, in_untyped, in_typed, before_group}
 use Rattle.resb_icu_grammar.specs.Machine as move
 use Rattle.resb_icu_grammar.specs.Stuck.{Blocked, EndBlocked, StuckFrom, LeafStuck, inside, behind}
-use Rattle.resb_icu_grammar.specs.Stuck.{NoStringAt, NoKeyAt, string_or}
+use Rattle.resb_icu_grammar.specs.Stuck.{NoStringAt, NoKeyAt, string_or, member_behind, TypeStuck}
 use Rattle.resb_icu_grammar.specs.Stuck as stuck
 use Rattle.resb_icu_grammar.specs.declared.expected.IcuExpected.{IcuExpected}
 use Rattle.resb_icu_grammar.specs.declared.expected.IcuExpected.TheVariants as expect
@@ -185,7 +185,7 @@ module _ (text : List ℕ) where
 
   -- nothing that may stand among members
   pub no_member : (es : List Resource) (l : Last) (at : ℕ) (e : IcuTextError)
-      → Says at (string_or (slice_index text at) expect.Member) e
+      → Says at (string_or (slice_index text at) (member_behind (last_of l))) e
       → slice_index text at ≢ ascii.right_brace → slice_index text at ≢ ascii.comma
       → slice_index text at ≢ ascii.left_brace → slice_index text at ≢ ascii.colon
       → NoStringAt text at → Stops text (MembersThere es l at) e
@@ -250,10 +250,12 @@ module _ (text : List ℕ) where
   no_group at e h a f = stops_at text _ at at _ e h (stuck.no_group at (⊎_elim a f))
 
   -- a `:` without a type
-  pub no_type : (at : ℕ) (e : IcuTextError) → Says at expect.GroupType e
-      → slice_index text at ≡ ascii.colon
-      → ((to : ℕ) (kind : Kind) → GroupType text at to kind → ⊥) → Stops text (GroupThere at) e
-  no_type at e h c f = stops_at text _ at at _ e h (stuck.no_type at c f)
+  pub no_type : (at : ℕ) (e : IcuTextError) → (e.position ≡ at) × TypeStuck text at e.expected
+      → slice_index text at ≡ ascii.colon → Stops text (GroupThere at) e
+  no_type at e s c =
+      stops_at text _ at at _ e
+      (ap (λ n. record { position = n; expected = e.expected }) s.0)
+      (stuck.no_type at e.expected c s.1)
 
   -- a type without a `{`
   pub no_group_brace : (at end brace : ℕ) (kind : Kind) (e : IcuTextError)

@@ -12,7 +12,7 @@ ghost use Rattle.resb_tree.specs.Borrowing as borrowing;
 ghost use Rattle.resb_icu_text.specs.Borrowed.{KeepsSlices};
 ghost use Rattle.resb_icu_text.specs.Lexemes.{bytes_said, stands_whole};
 ghost use Rattle.resb_icu_text.specs.Inner.Leaf.{Leaf, LeafRefuses, Vector, WantsBrace};
-ghost use Rattle.resb_icu_text.specs.Inner.Leaf.{IsBehindNumber};
+ghost use Rattle.resb_icu_text.specs.Inner.Leaf.{IsBehindNumber, WantsCommaOrBrace};
 ghost use Rattle.resb_icu_text.specs.Inner.Reach.{reach};
 
 use crate::blanks::{byte, skip};
@@ -134,7 +134,7 @@ fn behind_number(text: &str, at: usize, turns: &mut IcuTurns) -> Result<usize, I
     requires within { at ≤ length text.now }
     ensures ok { IfOk result (IsBehindNumber text.now at) }
     ensures err { IfErr result (λ e. (slice_index text.now at ≢ ascii.comma)
-        × (slice_index text.now at ≢ ascii.right_brace) × WantsBrace at e) }
+        × (slice_index text.now at ≢ ascii.right_brace) × WantsCommaOrBrace at e) }
     ensures within { IfOk result (λ to. (at ≤ to) × (to ≤ length text.now)) }
     ensures cost { IfOk result (λ to. turns.new.count + 2 * reach text.now at
         ≤ turns.old.count + 2 * reach text.now to) }
@@ -144,7 +144,7 @@ fn behind_number(text: &str, at: usize, turns: &mut IcuTurns) -> Result<usize, I
     match byte(text, at) {
         b'}' => Ok(at),
         b',' => Ok(skip(text, at + 1, turns)),
-        _ => Err(IcuTextError::new(at, IcuExpected::RightBrace)),
+        _ => Err(IcuTextError::new(at, IcuExpected::CommaOrRightBrace)),
     }
 }
 
@@ -169,7 +169,7 @@ fn numbers(
     let mut here = at;
     'numbers: loop {
         let Some((end, value)) = number(text, here, turns) else {
-            return Err(IcuTextError::new(here, IcuExpected::Number));
+            return Err(IcuTextError::new(here, IcuExpected::NumberOrRightBrace));
         };
         numbers.push(value)?;
         let place = skip(text, end, turns);

@@ -9,6 +9,7 @@ ghost use Rattle.resb_tree.specs.View.{tree_of, pairs_view, entries_view};
 ghost use Rattle.resb_icu_grammar.specs.Groups as spec;
 ghost use Rattle.resb_icu_grammar.specs.Words.{KeyText};
 ghost use Rattle.resb_icu_grammar.specs.Machine.{AreDistinct};
+ghost use Rattle.resb_icu_grammar.specs.Stuck.{member_behind};
 ghost use Rattle.resb_grammar.specs.Kinds.{group_kind_of};
 ghost use Rattle.resb_icu_text.specs.Inner.Steps.{last_of, Steps, Stops, Goes};
 ghost use Rattle.resb_icu_text.specs.Inner.Steps.{MembersThere, EntriesThere, GroupThere};
@@ -47,6 +48,17 @@ impl Last {
         match self {
             Last::String | Last::Group => true,
             Last::Nothing | Last::Comma => false,
+        }
+    }
+
+    /// What may stand behind it among the members.
+    fn member_behind(self) -> IcuExpected
+        ensures { result ≡ member_behind (last_of self) }
+    {
+        if self.is_member() {
+            IcuExpected::CommaOrMember
+        } else {
+            IcuExpected::Member
         }
     }
 
@@ -166,7 +178,7 @@ fn string_member<'a>(
         ≤ turns.old.count + 8 * length text.now + 4 }
 {
     let Some(lexeme) = string(alloc, text, at, turns)? else {
-        return Err(IcuTextError::no_string(text, at, IcuExpected::Member));
+        return Err(IcuTextError::no_string(text, at, last.member_behind()));
     };
     if last.is_string() {
         return Err(IcuTextError::new(at, IcuExpected::Comma));
@@ -297,9 +309,7 @@ fn typed<'a>(
     ensures most { turns.new.count + 8 * reach text.now at
         ≤ turns.old.count + 8 * length text.now + 4 }
 {
-    let Some((end, kind)) = group_type(text, at, turns) else {
-        return Err(IcuTextError::new(at, IcuExpected::GroupType));
-    };
+    let (end, kind) = group_type(text, at, turns)?;
     let brace = skip(text, end, turns);
     if byte(text, brace) != b'{' {
         return Err(IcuTextError::new(brace, IcuExpected::LeftBrace));

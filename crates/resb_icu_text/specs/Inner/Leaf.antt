@@ -19,6 +19,10 @@ LeafRefuses text from kind e =
 abbrev pub WantsBrace : ℕ → IcuTextError → Type 0
 WantsBrace at e = e ≡ record { position = at; expected = expect.RightBrace }
 
+-- the error says that a comma or a `}` was expected at this place
+abbrev pub WantsCommaOrBrace : ℕ → IcuTextError → Type 0
+WantsCommaOrBrace at e = e ≡ record { position = at; expected = expect.CommaOrRightBrace }
+
 -- content of this type stands there up to a `}`
 pub record Leaf (text : List ℕ) (from : ℕ) (kind : Kind) (to : ℕ) (t : Tree) : Type 0 where
   pub content : LeafContent text from to kind t

@@ -183,7 +183,7 @@ stuck_there =
           (key_of_entry [] 2 3 3 (codes "a")
           (words.a_word (word_of_one _ 2 refl refl (lit≤ tt)) refl)
           (stays _ 3 refl (λ h. absurd (omega arith))));
-      halts = inside (in_table [] (codes "a") ∷ []) (codes "a" ∷ []) before_group 3 3 expect.Group
+      there = inside (in_table [] (codes "a") ∷ []) (codes "a" ∷ []) before_group 3 3 expect.Group
           (no_group 3 never);
     })
   where

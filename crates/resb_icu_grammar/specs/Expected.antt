@@ -33,8 +33,8 @@ item_of expect.NoCollation = codes "no table with rules of collation"
 item_of expect.EndOfText = codes "the end of the text"
 item_of expect.Memory = codes "memory"
 
--- what was expected where a type has this name, which no tree has: where ICU's compiler knows such a
--- type, another than that
+-- what was expected where a type has this name, which no tree has: where the compiler of ICU knows
+-- such a type, another than that
 abbrev pub instead_of : List ℕ → IcuExpected
 instead_of name =
     if pointwise nat_eq name (codes "alias") then expect.NoAlias

@@ -16,7 +16,7 @@ use Rattle.resb_icu_grammar.specs.Groups.{no_numbers, numbers}
 use Rattle.resb_icu_grammar.specs.Stuck.{NumbersSoFar, one_number, LeafStuck}
 use Rattle.resb_icu_grammar.specs.declared.expected.IcuExpected.{IcuExpected}
 use Rattle.resb_icu_text.specs.declared.error.IcuTextError.{IcuTextError}
-use Rattle.resb_icu_text.specs.Inner.Leaf.{Leaf, LeafRefuses, Vector}
+use Rattle.resb_icu_text.specs.Inner.Leaf.{Leaf, LeafFails, Vector}
 use Rattle.resb_icu_text.specs.Inner.Leaf.{IsBehindNumber, at_brace, at_comma}
 
 -- a `}` stands there behind blanks
@@ -97,10 +97,10 @@ counted_more text from at i place v next d p k (at_comma c l) b =
     one_number from at i place next v d p k c l
 
 -- an error that says where the content of a group is stuck
-pub leaf_refuses : (text : List ℕ) (from : ℕ) (kind : Kind) (e : IcuTextError) (to : ℕ)
+pub leaf_fails : (text : List ℕ) (from : ℕ) (kind : Kind) (e : IcuTextError) (to : ℕ)
     (x : IcuExpected) → e ≡ record { position = to; expected = x } → LeafStuck text from kind to x
-    → LeafRefuses text from kind e
-leaf_refuses text from kind e to x h s =
+    → LeafFails text from kind e
+leaf_fails text from kind e to x h s =
     inr (subst (λ (f : IcuTextError). LeafStuck text from kind f.position f.expected) (sym h) s)
 
 -- nothing and a `}`

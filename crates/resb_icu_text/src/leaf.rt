@@ -11,7 +11,7 @@ ghost use Rattle.resb_grammar.specs.Kinds.{group_kind_of};
 ghost use Rattle.resb_tree.specs.Borrowing as borrowing;
 ghost use Rattle.resb_icu_text.specs.Borrowed.{KeepsSlices};
 ghost use Rattle.resb_icu_text.specs.Lexemes.{bytes_said, stands_whole};
-ghost use Rattle.resb_icu_text.specs.Inner.Leaf.{Leaf, LeafRefuses, Vector, WantsBrace};
+ghost use Rattle.resb_icu_text.specs.Inner.Leaf.{Leaf, LeafFails, Vector, WantsBrace};
 ghost use Rattle.resb_icu_text.specs.Inner.Leaf.{IsBehindNumber, WantsCommaOrBrace};
 ghost use Rattle.resb_icu_text.specs.Inner.Reach.{reach};
 
@@ -61,7 +61,7 @@ fn string_leaf<'a>(
 ) -> Result<(usize, Resource<'a>), IcuTextError>
     requires within { at ≤ length text.now }
     ensures ok { IfOk result (λ r. Leaf text.now at string_kind r.0 (tree_of r.1)) }
-    ensures err { IfErr result (LeafRefuses text.now at string_kind) }
+    ensures err { IfErr result (LeafFails text.now at string_kind) }
     ensures slices { IfOk result (λ r. KeepsSlices text.now r.1) }
     ensures within { IfOk result (λ r. (at ≤ r.0) × (r.0 < length text.now)) }
     ensures cost { IfOk result (λ r. turns.new.count + 8 * reach text.now at
@@ -85,7 +85,7 @@ fn binary_leaf<'a>(
 ) -> Result<(usize, Resource<'a>), IcuTextError>
     requires within { at ≤ length text.now }
     ensures ok { IfOk result (λ r. Leaf text.now at binary_kind r.0 (tree_of r.1)) }
-    ensures err { IfErr result (LeafRefuses text.now at binary_kind) }
+    ensures err { IfErr result (LeafFails text.now at binary_kind) }
     ensures slices { IfOk result (λ r. KeepsSlices text.now r.1) }
     ensures within { IfOk result (λ r. (at ≤ r.0) × (r.0 < length text.now)) }
     ensures cost { IfOk result (λ r. turns.new.count + 8 * reach text.now at
@@ -113,7 +113,7 @@ fn integer_leaf<'a>(
 ) -> Result<(usize, Resource<'a>), IcuTextError>
     requires within { at ≤ length text.now }
     ensures ok { IfOk result (λ r. Leaf text.now at integer_kind r.0 (tree_of r.1)) }
-    ensures err { IfErr result (LeafRefuses text.now at integer_kind) }
+    ensures err { IfErr result (LeafFails text.now at integer_kind) }
     ensures slices { IfOk result (λ r. KeepsSlices text.now r.1) }
     ensures within { IfOk result (λ r. (at ≤ r.0) × (r.0 < length text.now)) }
     ensures cost { IfOk result (λ r. turns.new.count + 8 * reach text.now at
@@ -158,7 +158,7 @@ fn numbers(
     requires within { at ≤ length text.now }
     requires some { slice_index text.now at ≢ ascii.right_brace }
     ensures ok { IfOk result (λ r. Vector text.now at r.0 r.1.items) }
-    ensures err { IfErr result (LeafRefuses text.now at vector_kind) }
+    ensures err { IfErr result (LeafFails text.now at vector_kind) }
     ensures within { IfOk result (λ r. (at ≤ r.0) × (r.0 < length text.now)) }
     ensures cost { IfOk result (λ r. turns.new.count + 8 * reach text.now at
         ≤ turns.old.count + 8 * r.0) }
@@ -189,7 +189,7 @@ fn vector_leaf<'a>(
 ) -> Result<(usize, Resource<'a>), IcuTextError>
     requires within { at ≤ length text.now }
     ensures ok { IfOk result (λ r. Leaf text.now at vector_kind r.0 (tree_of r.1)) }
-    ensures err { IfErr result (LeafRefuses text.now at vector_kind) }
+    ensures err { IfErr result (LeafFails text.now at vector_kind) }
     ensures slices { IfOk result (λ r. KeepsSlices text.now r.1) }
     ensures within { IfOk result (λ r. (at ≤ r.0) × (r.0 < length text.now)) }
     ensures cost { IfOk result (λ r. turns.new.count + 8 * reach text.now at
@@ -215,7 +215,7 @@ pub(crate) fn leaf<'a>(
     requires within { at ≤ length text.now }
     requires leaf { (group_kind_of kind ≢ array_kind) × (group_kind_of kind ≢ table_kind) }
     ensures ok { IfOk result (λ r. Leaf text.now at (group_kind_of kind) r.0 (tree_of r.1)) }
-    ensures err { IfErr result (LeafRefuses text.now at (group_kind_of kind)) }
+    ensures err { IfErr result (LeafFails text.now at (group_kind_of kind)) }
     ensures slices { IfOk result (λ r. KeepsSlices text.now r.1) }
     ensures within { IfOk result (λ r. (at ≤ r.0) × (r.0 < length text.now)) }
     ensures cost { IfOk result (λ r. turns.new.count + 8 * reach text.now at

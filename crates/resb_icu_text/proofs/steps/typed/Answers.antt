@@ -1,7 +1,7 @@
 use Rattle.std.proofs.Common.{◌+◌, ◌*◌, ◌≤◌, sym, ◌∙◌, arith}
 use Rattle.std.proofs.lemmas.Result.{err_from_is_err_and}
 use Rattle.resb_icu_text.proofs.StepsLemmas.{as_typed, no_type, no_group_brace, steps_by}
-use Rattle.resb_icu_text.proofs.StepsLemmas.{stops_by, ok_by, err_by}
+use Rattle.resb_icu_text.proofs.StepsLemmas.{fails_by, ok_by, err_by}
 use Rattle.resb_icu_text.specs.Inner.Reach.{reach}
 use Rattle.resb_icu_text.specs.Inner.Steps.{spent}
 use Rattle.resb_icu_text.proofs.ReachLemmas.{reach_colon, reach_left, reach_low, reach_high}
@@ -21,7 +21,7 @@ returns-clause-ok c =
 
 pub returns-clause-err : goal.returns-clause-err
 returns-clause-err c =
-    err_by _ _ _ (λ e. stops_by _ _ _ e (as_typed _ _ _ _ _ _ c.in_ok-end.ensures.found
+    err_by _ _ _ (λ e. fails_by _ _ _ e (as_typed _ _ _ _ _ _ c.in_ok-end.ensures.found
     c.skip-brace.ensures.skip (sym c.byte.ensures.byte ∙ c.if-byte-ne123.false)
     c.skip-first.ensures.skip)) c.content.ensures.err
 

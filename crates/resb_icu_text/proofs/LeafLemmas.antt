@@ -1,8 +1,7 @@
 -- The content of groups without items: what stands there, and where it is stuck.
-use Rattle.std.proofs.Common.{◌≡◌, ◌≢◌, ℕ, ◌%◌, ◌^◌, List, [], ◌∷◌, ◌++◌, Option, Some, None}
+use Rattle.std.proofs.Common.{◌≡◌, ◌≢◌, ℕ, ◌%◌, ◌^◌, List, [], ◌∷◌, ◌++◌, Some}
 use Rattle.std.proofs.Common.{inr, refl, sym, ◌∙◌, ap, subst, append_assoc}
-use Rattle.std.specs.Prelude.{slice_index, is_some}
-use Rattle.std.proofs.lemmas.Bool.{false≢true}
+use Rattle.std.specs.Prelude.{slice_index}
 use Rattle.resb_grammar.specs.Ascii as ascii
 use Rattle.resb_grammar.specs.Group.{hex_bytes}
 use Rattle.resb_grammar.specs.GroupTypes.{Kind, string_kind, binary_kind, integer_kind}
@@ -112,7 +111,3 @@ empty_vector text at c = record { content = no_numbers refl; closes = c }
 pub vector_stands : (text : List ℕ) (at to : ℕ) (ns : List ℕ) → Vector text at to ns
     → Leaf text at vector_kind to (int_vector ns)
 vector_stands text at to ns v = record { content = numbers ns v.numbers; closes = v.closes }
-
--- digits that say bytes are some
-pub some_digits : (o : Option (List ℕ)) (bytes : List ℕ) → o ≡ Some bytes → o ≢ None
-some_digits o bytes h n = false≢true (ap is_some (sym n ∙ h))

@@ -1,11 +1,11 @@
 -- How each step of a reading goes on, and where a reading stops.
-use Rattle.std.proofs.Common.{◌≡◌, ◌≢◌, ℕ, ◌+◌, ◌&&◌, Bool, true, false, List, [], ◌∷◌, ◌++◌, Vec}
+use Rattle.std.proofs.Common.{◌≡◌, ◌≢◌, ℕ, ◌+◌, ◌&&◌, true, false, List, [], ◌∷◌, ◌++◌, Vec}
 use Rattle.std.proofs.Common.{BTreeMap, Bor, Global, ◌⊎◌, inl, inr, ⊎_elim, refl, sym, ◌∙◌, ap}
 use Rattle.std.proofs.Common.{subst}
 use Rattle.std.proofs.lemmas.Bool.{false≢true}
 use Rattle.std.proofs.lemmas.List.{map-append}
 use Rattle.std.specs.Cow.{cow_str_bytes}
-use Rattle.std.specs.Prelude.{slice_index, map, IfOk, IfErr, Result, Ok, Err}
+use Rattle.std.specs.Prelude.{slice_index, map}
 use Rattle.std.specs.declared.borrow.CowStr.{CowStr}
 use Rattle.resb_grammar.specs.Ascii as ascii
 use Rattle.resb_grammar.specs.GroupTypes.{Kind, array_kind, table_kind}
@@ -44,13 +44,6 @@ use Rattle.resb_icu_text.specs.Inner.Steps.{last_of, now, There, Steps, StepFail
 use Rattle.resb_icu_text.specs.Inner.Steps.{EntriesThere, GroupThere, UntypedThere, TypedThere}
 use Rattle.resb_icu_text.specs.Inner.Steps.{EndedThere, KeyAhead}
 
-pub second_fails : (a b : Bool) → b ≡ false → (a && b) ≡ false
-second_fails true b k = k
-second_fails false b k = refl
-
-pub first_fails : (a b : Bool) → a ≡ false → (a && b) ≡ false
-first_fails a b h = ap (λ x. x && b) h
-
 -- what a string says that may be a key
 pub is_a_key : (text : List ℕ) (at : ℕ) (l : Lexeme) (k : List ℕ) → IsLexeme text at l
     → (k ≡ bytes_said l.said) × (may_be_key l.said ≡ true) → KeyText text at l.end k
@@ -71,18 +64,6 @@ no_key text at l is n to k p =
     is.string in
     false≢true (sym n ∙ is.key.1 (subst (λ i. KeyText text at i (bytes_said l.said)) same.0
     (subst (λ s. KeyText text at to s) same.1 p)))
-
--- what holds of an answer holds by another word
-pub ok_by : {A E : Type 0} (r : Result A E) (P Q : A → Type 0) → ((a : A) → P a → Q a) → IfOk r P
-    → IfOk r Q
-ok_by (Ok a) P Q f h = f a h
-ok_by (Err e) P Q f h = tt
-
--- and of a refusal
-pub err_by : {A E : Type 0} (r : Result A E) (P Q : E → Type 0) → ((e : E) → P e → Q e)
-    → IfErr r P → IfErr r Q
-err_by (Ok a) P Q f h = tt
-err_by (Err e) P Q f h = f e h
 
 -- an error at this place, where this was expected
 abbrev pub Says : ℕ → IcuExpected → IcuTextError → Type 0

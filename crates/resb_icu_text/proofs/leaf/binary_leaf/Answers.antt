@@ -5,11 +5,12 @@ use Rattle.resb_grammar.specs.Group.{hex_bytes}
 use Rattle.resb_grammar.specs.GroupTypes.{binary_kind}
 use Rattle.resb_tree.proofs.ViewLemmas.{tree_of_binary}
 use Rattle.resb_icu_text.specs.Inner.Leaf.{Leaf}
-use Rattle.resb_icu_text.proofs.LeafLemmas.{leaf_fails, some_digits, binary_stands}
+use Rattle.resb_icu_text.proofs.LeafLemmas.{leaf_fails, binary_stands}
 use Rattle.resb_icu_text.proofs.LeafLemmas.{closing_at}
 use Rattle.resb_icu_text.proofs.ReachLemmas.{reach_right, reach_low, reach_high, reach_string}
 use Rattle.resb_icu_text.proofs.LengthLemmas.{string_short}
 use Rattle.resb_icu_grammar.specs.Stuck.{no_digits, odd_digits, open_binary}
+use Rattle.resb_icu_text.proofs.Lists.{some_not_none}
 use Rattle.resb_icu_text.proofs.leaf.binary_leaf.Goals as goal
 
 pub returns-in_default-clause-err : goal.returns-in_default-clause-err
@@ -32,7 +33,7 @@ returns-in_err-to-clause-err c =
     let bytes = rw c.in-Some-2.is at c.in_ok-bytes.ensures.found in
     let e = c.in_err-to.ensures.err in
     rw (p.1, p.2) (leaf_fails _ _ _ _ _ _ e.1 (open_binary _ _ _ found.string
-    (some_digits _ _ (sym (ap hex_bytes (c.deref.ensures.value ∙ c.text_of-digits.ensures.bytes))
+    (some_not_none _ _ (sym (ap hex_bytes (c.deref.ensures.value ∙ c.text_of-digits.ensures.bytes))
     ∙ bytes)) found.blanks e.0))
 
 pub returns-clause-ok : goal.returns-clause-ok

@@ -1,9 +1,9 @@
 use Rattle.std.proofs.Common.{◌+◌, ◌*◌, ◌≤◌, arith, sym, ◌∙◌}
 use Rattle.resb_icu_text.proofs.StepsLemmas.{as_untyped, no_group, steps_by, fails_by}
-use Rattle.resb_icu_text.proofs.StepsLemmas.{ok_by, err_by}
 use Rattle.resb_icu_text.specs.Inner.Reach.{reach}
 use Rattle.resb_icu_text.specs.Inner.Steps.{spent}
 use Rattle.resb_icu_text.proofs.ReachLemmas.{reach_left, reach_low, reach_high}
+use Rattle.resb_icu_text.proofs.Lists.{ok_by, err_by}
 use Rattle.resb_icu_text.proofs.steps.group.Goals as goal
 
 pub returns-then-b-eq123-clause-ok : goal.returns-then-b-eq123-clause-ok

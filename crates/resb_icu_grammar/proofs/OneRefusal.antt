@@ -35,7 +35,7 @@ use Rattle.resb_icu_grammar.proofs.Refused.{no_opening_brace, head_never}
 use Rattle.resb_icu_grammar.proofs.OneStep.{no_brace_begins, no_comma_begins, no_string_begins}
 use Rattle.resb_icu_grammar.proofs.OneStep.{Next, inside, outside, first_step, comes_meet}
 
--- where a reading is blocked it makes no step
+-- where a reading is stuck it makes no step
 standing_stays : (text : List ℕ) (ws : List Waiting) (ks : List (List ℕ)) (s : Standing)
     (at to : ℕ) (x : IcuExpected) (r : Reading) → StepStuck text s at to x → Move text ws ks s at r
     → ⊥
@@ -124,7 +124,7 @@ standing_stays text ws ks _ at to x _ (stuck.in_leaf _ _ _ _ h) (step.entries_fo
 standing_stays text ws ks _ at to x _ (stuck.in_leaf kind _ _ _ h)
     (step.leaf_follows _ _ end t p c) = no_leaf_there text at kind to x h end t p c
 
--- nor where one is blocked behind a group
+-- nor where one is stuck behind a group
 end_stays : (text : List ℕ) (ws : List Waiting) (ks : List (List ℕ)) (t : Tree) (at to : ℕ)
     (x : IcuExpected) (r : Reading) → EndStuck text t at ws to x → StepOut text ks t at ws r → ⊥
 end_stays text _ ks t at _ _ r (a_collation ws es k e) (was_value _ _ _ j f l) =
@@ -274,7 +274,7 @@ LeafStuck-one text from _ to end _ _ (open_vector at i _ v d p k n m)
     numbers_stop text from at place to end _ _ d (behind_one i to v p k n) c
     (behind_one j end w q l o)
 
--- a reading is blocked at one place
+-- a reading is stuck at one place
 StepStuck-one : (text : List ℕ) (s : Standing) (at to end : ℕ) (x y : IcuExpected)
     → StepStuck text s at to x → StepStuck text s at end y → (to ≡ end) × (x ≡ y)
 StepStuck-one text _ at _ _ _ _ (stuck.no_member last ts _ a b d f)

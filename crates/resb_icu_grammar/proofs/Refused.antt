@@ -40,7 +40,7 @@ no_opening_brace text at end brace kind g k ne other i d =
     ne (ap (λ n. slice_index text n) (Skip-one text end brace d.brace k
     (subst (λ n. Skip text n d.brace) (sym same.0) d.between)) ∙ d.opens)
 
--- where a reading is blocked, the rest of the text has no meaning
+-- where a reading is stuck, the rest of the text has no meaning
 standing_never : (text : List ℕ) (ws : List Waiting) (ks : List (List ℕ)) (s : Standing)
     (at to : ℕ) (x : IcuExpected) → StepStuck text s at to x → Never (RestOf text ws ks s at)
 standing_never text ws ks _ at to x (stuck.no_member last ts _ a b d f) =

@@ -90,7 +90,7 @@ fails_by text A B e f r = ⊎_elim (λ (m : e ≡ want_of_memory). inl m)
     → StuckFrom text (B ws ks) e.position e.expected).
     inr (λ ws ks. stuck_by text (A ws ks) (B ws ks) e.position e.expected (f ws ks) (n ws ks))) r
 
--- where a reading is blocked
+-- where a reading is stuck
 pub fails_at : (text : List ℕ) (s : Standing) (at to : ℕ) (x : IcuExpected) (e : IcuTextError)
     → Says to x e → StepStuck text s at to x → StepFails text (λ ws ks. reading_at ws ks s at) e
 fails_at text s at to x e h b =

@@ -31,7 +31,7 @@ a icu b{a:process(uca_rules){"x"}} => expected a type of a tree, and 'process' i
 a icu b{a:tree{"x"}} => expected a type At(3);
 a icu b{a:intvector{1 2}} => expected a comma or '}' At(16);
 a icu b{a:intvector{1, x}} => expected a number or '}' At(17);
-a icu b{a{"x", {y} = }} => expected a comma, a resource or '}' At(17);
+a icu b{a{"x", {y} = }} => expected a comma, a resource or '}' At(13);
 a icu b{a{"\x41"}} => expected a quoted string that is closed, with known escapes At(4);
 a icu b{a{"x","y" "z" w}} => expected a comma between two strings At(16);
 collations icu b{collations{a{"x"}}} => expected no table with rules of collation At(20);

@@ -1,10 +1,12 @@
 -- Accepted and refused texts of ICU's form, by the definitions alone; and one that gets stuck.
 use Rattle.std.proofs.Common.{◌≡◌, ◌≢◌, ℕ, zero, suc, ◌+◌, ◌≤◌, true, false, List, [], inl, inr}
-use Rattle.std.proofs.Common.{◌∷◌, length, refl, sym, arith, lit≤, subst, encode_utf8}
+use Rattle.std.proofs.Common.{◌∷◌, length, refl, sym, ap, arith, lit≤, subst, encode_utf8, ◌<◌}
 use Rattle.std.specs.Prelude.{slice_index, slice_range, codes}
 use Rattle.std.proofs.lemmas.Bool.{false≢true}
 use Rattle.resb_tree.specs.Tree.{string, array, table, trees_of, map_of}
 use Rattle.resb_grammar.specs.ByteRuns.{is_white}
+use Rattle.resb_grammar.specs.GroupTypes.{Kind, Names, string_kind, array_kind, table_kind}
+use Rattle.resb_grammar.specs.GroupTypes.{binary_kind, integer_kind, vector_kind}
 use Rattle.resb_icu_grammar.specs.Bytes.{is_word, is_key_byte}
 use Rattle.resb_icu_grammar.specs.Blanks.{Comment, line, block, none, white, Skip, without_a_mark}
 use Rattle.resb_icu_grammar.specs.Escapes.{Escape, itself, line_feed, carriage_return, tab}
@@ -17,7 +19,7 @@ use Rattle.resb_icu_grammar.specs.Groups.{one_entry}
 use Rattle.resb_icu_grammar.specs.Bundle.{without, IcuText}
 use Rattle.resb_icu_grammar.specs.Machine.{in_table, among_entries, before_group, reading_at}
 use Rattle.resb_icu_grammar.specs.Machine.{BeginsGroup, key_of_entry}
-use Rattle.resb_icu_grammar.specs.Stuck.{Stuck, in_root, inside, no_group}
+use Rattle.resb_icu_grammar.specs.Stuck.{Stuck, in_root, inside, no_group, TypeStuck, no_tree}
 use Rattle.resb_icu_grammar.specs.declared.expected.IcuExpected.{IcuExpected}
 use Rattle.resb_icu_grammar.specs.declared.expected.IcuExpected.TheVariants as expect
 use Rattle.resb_icu_grammar.proofs.Moves.{one_move}
@@ -181,7 +183,7 @@ stuck_there =
           (key_of_entry [] 2 3 3 (codes "a")
           (words.a_word (word_of_one _ 2 refl refl (lit≤ tt)) refl)
           (stays _ 3 refl (λ h. absurd (omega arith))));
-      halts = inside (in_table [] (codes "a") ∷ []) (codes "a" ∷ []) before_group 3 3 expect.Group
+      there = inside (in_table [] (codes "a") ∷ []) (codes "a" ∷ []) before_group 3 3 expect.Group
           (no_group 3 never);
     })
   where
@@ -193,3 +195,36 @@ stuck_there =
 stuck_nowhere_else : (at : ℕ) (x : IcuExpected) → Stuck (codes "b{a}") at x
     → (at ≡ 3) × (x ≡ expect.Group)
 stuck_nowhere_else at x s = stuck_in_one_way (codes "b{a}") at 3 x expect.Group s stuck_there
+
+-- `:alias` is no type of a tree, and that is told by its name
+alias_refused : TypeStuck (codes ":alias{") 0 expect.NoAlias
+alias_refused = no_tree 6 (codes "alias") (record {
+  colon = refl;
+  word = record {
+    run = record { order = lit≤ tt; fits = lit≤ tt; each = each; longest = refl };
+    some = lit≤ tt;
+    means = refl;
+  };
+}) never
+  where
+    each : (k : ℕ) → 1 ≤ k → k < 6 → is_word (slice_index (codes ":alias{") k) ≡ true
+    each zero low high = absurd (omega arith)
+    each (suc zero) low high = refl
+    each (suc (suc zero)) low high = refl
+    each (suc (suc (suc zero))) low high = refl
+    each (suc (suc (suc (suc zero)))) low high = refl
+    each (suc (suc (suc (suc (suc zero))))) low high = refl
+    each (suc (suc (suc (suc (suc (suc n)))))) low high = absurd (omega arith)
+
+    second : (w : List ℕ) → codes "alias" ≡ w → slice_index w 1 ≡ 108
+    second w e = ap (λ (v : List ℕ). slice_index v 1) (sym e)
+
+    never : (kind : Kind) → Names (codes "alias") kind → ⊥
+    never string_kind e = let h = second (codes "string") e in absurd (omega arith)
+    never array_kind e = let h = second (codes "array") e in absurd (omega arith)
+    never table_kind e = let h = second (codes "table") e in absurd (omega arith)
+    never binary_kind (inl e) = let h = second (codes "binary") e in absurd (omega arith)
+    never binary_kind (inr e) = let h = second (codes "bin") e in absurd (omega arith)
+    never integer_kind (inl e) = let h = second (codes "integer") e in absurd (omega arith)
+    never integer_kind (inr e) = let h = second (codes "int") e in absurd (omega arith)
+    never vector_kind e = let h = second (codes "intvector") e in absurd (omega arith)

@@ -1,8 +1,9 @@
 -- Where the content of a group that holds no items is stuck, none stands.
 use Rattle.std.proofs.Common.{◌≡◌, ◌≢◌, ℕ, ◌+◌, Bool, true, false, List, ◌∷◌, [], refl, sym, ◌∙◌}
 use Rattle.std.proofs.Common.{ap, subst, arith}
-use Rattle.std.specs.Prelude.{slice_index, Option, Some, None, is_some}
+use Rattle.std.specs.Prelude.{slice_index}
 use Rattle.std.proofs.lemmas.Bool.{false≢true}
+use Rattle.std.proofs.lemmas.Option.{none-some}
 use Rattle.resb_grammar.specs.Ascii as ascii
 use Rattle.resb_grammar.specs.Group.{hex_bytes}
 use Rattle.resb_grammar.specs.GroupTypes.{Kind, array_kind, table_kind}
@@ -120,9 +121,6 @@ unended text at i place v p k a b w =
     by to ns (a_comma _ e l) c = a e
     by to ns (others m _ us e l r) c = a e
 
-none_some : (o : Option (List ℕ)) (bytes : List ℕ) → o ≡ None → o ≡ Some bytes → ⊥
-none_some o bytes h g = false≢true (ap is_some (sym h ∙ g))
-
 -- where the content of a group is stuck, none stands up to a `}`
 pub no_leaf_there : (text : List ℕ) (from : ℕ) (kind : Kind) (at : ℕ) (x : IcuExpected)
     → LeafStuck text from kind at x → (to : ℕ) (t : Tree) → LeafContent text from to kind t
@@ -134,7 +132,7 @@ no_leaf_there text from _ at _ (open_string j _ s p l n) to _ (string_content i 
     (subst (λ w. Skip text w to) same.0 k) l)) ∙ c)
 no_leaf_there text from _ _ _ (no_digits f) to _ (binary_content i s bytes p e k) c = f i s p
 no_leaf_there text from _ _ _ (odd_digits j s p n) to _ (binary_content i u bytes q e k) c =
-    none_some (hex_bytes s) bytes n (ap hex_bytes (sym (String-one text from i j u s q p).1) ∙ e)
+    none-some bytes (sym n ∙ ap hex_bytes (sym (String-one text from i j u s q p).1) ∙ e)
 no_leaf_there text from _ at _ (open_binary j _ s p h l n) to _ (binary_content i u bytes q e k) c =
     let same = String-one text from i j u s q p in
     n (ap (λ w. slice_index text w) (sym (Skip-one text j to at

@@ -269,7 +269,7 @@ number_first text from to v (unsigned _ r d low) e =
 number_first text from to v (plus _ r h d low) e = omega arith
 number_first text from to v (minus n r h d low) e = omega arith
 
-TypeName-one : (text : List ℕ) (from a b : ℕ) (v w : List ℕ) → TypeName text from a v
+pub TypeName-one : (text : List ℕ) (from a b : ℕ) (v w : List ℕ) → TypeName text from a v
     → TypeName text from b w → (a ≡ b) × (v ≡ w)
 TypeName-one text from a b v w p q = Word-one text (from + 1) a b v w p.word q.word
 

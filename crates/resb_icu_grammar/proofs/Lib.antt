@@ -7,6 +7,7 @@ pub mod RestGroups
 pub mod RestUntyped
 pub mod RestRoot
 pub mod Leaves
+pub mod Types
 pub mod Moves
 pub mod OneStep
 pub mod Refused

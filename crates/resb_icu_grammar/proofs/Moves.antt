@@ -9,8 +9,9 @@ use Rattle.resb_icu_grammar.specs.Machine.{among_entries, before_group, in_untyp
 use Rattle.resb_icu_grammar.specs.Machine.{behind_group, Reading, reading_at, Move, StepOut, Comes}
 use Rattle.resb_icu_grammar.specs.Machine.{here, moves, leaves, was_member, was_value}
 use Rattle.resb_icu_grammar.specs.Machine as step
-use Rattle.resb_icu_grammar.specs.Inner.Rest.{Meaning, InMembers, InEntries, InGroup, InUntyped}
-use Rattle.resb_icu_grammar.specs.Inner.Rest.{InTyped, After, AfterMember, AfterValue, Same}
+use Rattle.resb_icu_grammar.specs.Inner.Rest.{Meaning, RestOfMembers}
+use Rattle.resb_icu_grammar.specs.Inner.Rest.{RestOfEntries, RestOfGroup, RestOfUntyped}
+use Rattle.resb_icu_grammar.specs.Inner.Rest.{RestOfTyped, After, AfterMember, AfterValue, Same}
 use Rattle.resb_icu_grammar.proofs.Lexical.{Skip-one}
 use Rattle.resb_icu_grammar.proofs.RestLists as lists
 use Rattle.resb_icu_grammar.proofs.RestGroups as groups
@@ -18,11 +19,11 @@ use Rattle.resb_icu_grammar.proofs.RestUntyped as untyped
 
 -- what the rest of a text has to be where a reading stands
 abbrev pub RestOf : List ℕ → List Waiting → List (List ℕ) → Standing → ℕ → Meaning → Type 0
-RestOf text ws ks (among_members last ts) at = InMembers text (After text ws) last ts at ks
-RestOf text ws ks (among_entries es) at = InEntries text (After text ws) es at ks
-RestOf text ws ks before_group at = InGroup text (After text ws) at ks
-RestOf text ws ks in_untyped at = InUntyped text (After text ws) at ks
-RestOf text ws ks (in_typed kind) at = InTyped text (After text ws) kind at ks
+RestOf text ws ks (among_members last ts) at = RestOfMembers text (After text ws) last ts at ks
+RestOf text ws ks (among_entries es) at = RestOfEntries text (After text ws) es at ks
+RestOf text ws ks before_group at = RestOfGroup text (After text ws) at ks
+RestOf text ws ks in_untyped at = RestOfUntyped text (After text ws) at ks
+RestOf text ws ks (in_typed kind) at = RestOfTyped text (After text ws) kind at ks
 RestOf text ws ks (behind_group t) at = After text ws at t ks
 
 -- what the rest has to be for a reading
@@ -74,16 +75,16 @@ move_same text ws ks _ at _ (step.leaf_follows kind _ to t p c) =
 behind_member : (text : List ℕ) (ws : List Waiting) (ks : List (List ℕ)) (t : Tree)
     (ts : List Tree) (at next : ℕ) → Skip text at next
     → Same (AfterMember text (After text ws) ts at t ks)
-    (InMembers text (After text ws) a_group (ts ++ t ∷ []) next ks)
+    (RestOfMembers text (After text ws) a_group (ts ++ t ∷ []) next ks)
 behind_member text ws ks t ts at next k m = (there, back)
   where
     there : AfterMember text (After text ws) ts at t ks m
-        → InMembers text (After text ws) a_group (ts ++ t ∷ []) next ks m
+        → RestOfMembers text (After text ws) a_group (ts ++ t ∷ []) next ks m
     there h =
-        subst (λ n. InMembers text (After text ws) a_group (ts ++ t ∷ []) n ks m)
+        subst (λ n. RestOfMembers text (After text ws) a_group (ts ++ t ∷ []) n ks m)
         (Skip-one text at h.next next h.after k) h.rest
 
-    back : InMembers text (After text ws) a_group (ts ++ t ∷ []) next ks m
+    back : RestOfMembers text (After text ws) a_group (ts ++ t ∷ []) next ks m
         → AfterMember text (After text ws) ts at t ks m
     back h = record { next = next; after = k; rest = h }
 
@@ -91,16 +92,16 @@ behind_value : (text : List ℕ) (ws : List Waiting) (ks : List (List ℕ)) (t :
     (es : List (List ℕ × Tree)) (key : List ℕ) (at next : ℕ)
     → (is_collation key && holds_entries t) ≡ false → Skip text at next
     → Same (AfterValue text (After text ws) es key at t ks)
-    (InEntries text (After text ws) (es ++ (key, t) ∷ []) next ks)
+    (RestOfEntries text (After text ws) (es ++ (key, t) ∷ []) next ks)
 behind_value text ws ks t es key at next f k m = (there, back)
   where
     there : AfterValue text (After text ws) es key at t ks m
-        → InEntries text (After text ws) (es ++ (key, t) ∷ []) next ks m
+        → RestOfEntries text (After text ws) (es ++ (key, t) ∷ []) next ks m
     there h =
-        subst (λ n. InEntries text (After text ws) (es ++ (key, t) ∷ []) n ks m)
+        subst (λ n. RestOfEntries text (After text ws) (es ++ (key, t) ∷ []) n ks m)
         (Skip-one text at h.next next h.after k) h.rest
 
-    back : InEntries text (After text ws) (es ++ (key, t) ∷ []) next ks m
+    back : RestOfEntries text (After text ws) (es ++ (key, t) ∷ []) next ks m
         → AfterValue text (After text ws) es key at t ks m
     back h = record { next = next; taken = f; after = k; rest = h }
 

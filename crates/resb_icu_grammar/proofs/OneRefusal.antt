@@ -15,7 +15,8 @@ use Rattle.resb_icu_grammar.specs.Machine.{Move, BeginsGroup, StepOut, Comes, wa
 use Rattle.resb_icu_grammar.specs.Machine.{at_root}
 use Rattle.resb_icu_grammar.specs.Machine as step
 use Rattle.resb_icu_grammar.specs.Stuck.{NoNumberAt, NumbersSoFar, none_yet, one_number, LeafStuck}
-use Rattle.resb_icu_grammar.specs.Stuck.{Blocked, EndBlocked, HeadStuck, Halts, StuckFrom, Stuck}
+use Rattle.resb_icu_grammar.specs.Stuck.{StepStuck, EndStuck, HeadStuck}
+use Rattle.resb_icu_grammar.specs.Stuck.{ReadStuck, StuckFrom, Stuck}
 use Rattle.resb_icu_grammar.specs.Stuck.{no_string, open_string, no_digits, odd_digits, open_binary}
 use Rattle.resb_icu_grammar.specs.Stuck.{no_integer, open_integer, no_number, open_vector}
 use Rattle.resb_icu_grammar.specs.Stuck.{a_collation, more_text, no_name, no_root_type}
@@ -29,113 +30,115 @@ use Rattle.resb_icu_grammar.proofs.Lexical.{GroupType-one, Name-one}
 use Rattle.resb_icu_grammar.proofs.Groups as groups
 use Rattle.resb_icu_grammar.proofs.Groups.{Closes, string_skipped, no_brace_colon, Header-one}
 use Rattle.resb_icu_grammar.proofs.Leaves.{no_leaf_there, stuck_kind}
+use Rattle.resb_icu_grammar.proofs.Types.{no_type_there, TypeStuck-one}
 use Rattle.resb_icu_grammar.proofs.Refused.{no_opening_brace, head_never}
 use Rattle.resb_icu_grammar.proofs.OneStep.{no_brace_begins, no_comma_begins, no_string_begins}
 use Rattle.resb_icu_grammar.proofs.OneStep.{Next, inside, outside, first_step, comes_meet}
 
--- where a reading is blocked it makes no step
-blocked_stays : (text : List ℕ) (ws : List Waiting) (ks : List (List ℕ)) (s : Standing)
-    (at to : ℕ) (x : IcuExpected) (r : Reading) → Blocked text s at to x → Move text ws ks s at r
+-- where a reading is stuck it makes no step
+standing_stays : (text : List ℕ) (ws : List Waiting) (ks : List (List ℕ)) (s : Standing)
+    (at to : ℕ) (x : IcuExpected) (r : Reading) → StepStuck text s at to x → Move text ws ks s at r
     → ⊥
-blocked_stays text ws ks _ at _ _ _ (stuck.no_member last ts _ a b d f) (step.array_ends _ _ _ c) =
+standing_stays text ws ks _ at _ _ _ (stuck.no_member last ts _ a b d f) (step.array_ends _ _ _ c) =
     a c
-blocked_stays text ws ks _ at _ _ _ (stuck.no_member last ts _ a b d f)
+standing_stays text ws ks _ at _ _ _ (stuck.no_member last ts _ a b d f)
     (step.comma_behind _ _ _ j e c k) = b c
-blocked_stays text ws ks _ at _ _ _ (stuck.no_member last ts _ a b d f)
+standing_stays text ws ks _ at _ _ _ (stuck.no_member last ts _ a b d f)
     (step.string_member _ _ _ i j s e p k) = f i s p
-blocked_stays text ws ks _ at _ _ _ (stuck.no_member last ts _ a b d f)
+standing_stays text ws ks _ at _ _ _ (stuck.no_member last ts _ a b d f)
     (step.group_member _ _ _ c) = d c
-blocked_stays text ws ks _ at _ _ _ (stuck.two_strings last ts _ i s e p)
+standing_stays text ws ks _ at _ _ _ (stuck.two_strings last ts _ i s e p)
     (step.array_ends _ _ _ c) = groups.no_string text at i _ s p c refl
-blocked_stays text ws ks _ at _ _ _ (stuck.two_strings last ts _ i s e p)
+standing_stays text ws ks _ at _ _ _ (stuck.two_strings last ts _ i s e p)
     (step.comma_behind _ _ _ j f c k) = groups.no_string text at i _ s p c refl
-blocked_stays text ws ks _ at _ _ _ (stuck.two_strings last ts _ i s e p)
+standing_stays text ws ks _ at _ _ _ (stuck.two_strings last ts _ i s e p)
     (step.string_member _ _ _ m j v f q k) = false≢true (sym f ∙ e)
-blocked_stays text ws ks _ at _ _ _ (stuck.two_strings last ts _ i s e p)
+standing_stays text ws ks _ at _ _ _ (stuck.two_strings last ts _ i s e p)
     (step.group_member _ _ _ c) = no_string_begins text at i s p c
-blocked_stays text ws ks _ at _ _ _ (stuck.lone_comma last ts _ e d) (step.array_ends _ _ _ c) =
+standing_stays text ws ks _ at _ _ _ (stuck.lone_comma last ts _ e d) (step.array_ends _ _ _ c) =
     omega (arith, c, d)
-blocked_stays text ws ks _ at _ _ _ (stuck.lone_comma last ts _ e d)
+standing_stays text ws ks _ at _ _ _ (stuck.lone_comma last ts _ e d)
     (step.comma_behind _ _ _ j f c k) = false≢true (sym e ∙ f)
-blocked_stays text ws ks _ at _ _ _ (stuck.lone_comma last ts _ e d)
+standing_stays text ws ks _ at _ _ _ (stuck.lone_comma last ts _ e d)
     (step.string_member _ _ _ m j v f q k) = groups.no_string text at m _ v q d refl
-blocked_stays text ws ks _ at _ _ _ (stuck.lone_comma last ts _ e d) (step.group_member _ _ _ c) =
+standing_stays text ws ks _ at _ _ _ (stuck.lone_comma last ts _ e d) (step.group_member _ _ _ c) =
     no_comma_begins text at c d
-blocked_stays text ws ks _ at _ _ _ (stuck.key_twice es _ c d) (step.table_ends _ _ e f) = d f
-blocked_stays text ws ks _ at _ _ _ (stuck.key_twice es _ c d) (step.key_of_entry _ _ i j k p l) =
+standing_stays text ws ks _ at _ _ _ (stuck.key_twice es _ c d) (step.table_ends _ _ e f) = d f
+standing_stays text ws ks _ at _ _ _ (stuck.key_twice es _ c d) (step.key_of_entry _ _ i j k p l) =
     groups.no_string text at i _ k (key_string text at i k p) c refl
-blocked_stays text ws ks _ at _ _ _ (stuck.no_entry es _ a f) (step.table_ends _ _ c d) = a c
-blocked_stays text ws ks _ at _ _ _ (stuck.no_entry es _ a f) (step.key_of_entry _ _ i j k p l) =
+standing_stays text ws ks _ at _ _ _ (stuck.no_entry es _ a f) (step.table_ends _ _ c d) = a c
+standing_stays text ws ks _ at _ _ _ (stuck.no_entry es _ a f) (step.key_of_entry _ _ i j k p l) =
     f i k p
-blocked_stays text ws ks _ at _ _ _ (stuck.no_group _ f) (step.group_opens _ i b l) = f (inl b)
-blocked_stays text ws ks _ at _ _ _ (stuck.no_group _ f) (step.type_opens _ i kind h) =
+standing_stays text ws ks _ at _ _ _ (stuck.no_group _ f) (step.group_opens _ i b l) = f (inl b)
+standing_stays text ws ks _ at _ _ _ (stuck.no_group _ f) (step.type_opens _ i kind h) =
     f (inr h.named.stands.colon)
-blocked_stays text ws ks _ at _ _ _ (stuck.no_type _ c f) (step.group_opens _ i b l) =
+standing_stays text ws ks _ at _ _ _ (stuck.no_type _ x c f) (step.group_opens _ i b l) =
     no_brace_colon text at b c
-blocked_stays text ws ks _ at _ _ _ (stuck.no_type _ c f) (step.type_opens _ i kind h) =
-    f h.ends kind h.named
-blocked_stays text ws ks _ at to _ _ (stuck.no_brace _ i _ kind g k n) (step.group_opens _ j b l) =
+standing_stays text ws ks _ at _ _ _ (stuck.no_type _ x c f) (step.type_opens _ i kind h) =
+    no_type_there text at x f h.ends kind h.named
+standing_stays text ws ks _ at to _ _ (stuck.no_brace _ i _ kind g k n) (step.group_opens _ j b l) =
     no_brace_colon text at b g.stands.colon
-blocked_stays text ws ks _ at to _ _ (stuck.no_brace _ i _ kind g k n)
+standing_stays text ws ks _ at to _ _ (stuck.no_brace _ i _ kind g k n)
     (step.type_opens _ j other h) = no_opening_brace text at i to kind g k n other j h
-blocked_stays text ws ks _ at _ _ _ (stuck.no_content _ a b f) (step.untyped_nothing _ c) = a c
-blocked_stays text ws ks _ at _ _ _ (stuck.no_content _ a b f) (step.begins_with_group _ c) = b c
-blocked_stays text ws ks _ at _ _ _ (stuck.no_content _ a b f)
+standing_stays text ws ks _ at _ _ _ (stuck.no_content _ a b f) (step.untyped_nothing _ c) = a c
+standing_stays text ws ks _ at _ _ _ (stuck.no_content _ a b f) (step.begins_with_group _ c) = b c
+standing_stays text ws ks _ at _ _ _ (stuck.no_content _ a b f)
     (step.untyped_string _ i j s p k c) = f i s p
-blocked_stays text ws ks _ at _ _ _ (stuck.no_content _ a b f)
+standing_stays text ws ks _ at _ _ _ (stuck.no_content _ a b f)
     (step.begins_with_string _ i j s p k c) = f i s p
-blocked_stays text ws ks _ at _ _ _ (stuck.no_content _ a b f)
+standing_stays text ws ks _ at _ _ _ (stuck.no_content _ a b f)
     (step.begins_with_key _ i j s p k c) = f i s (key_string text at i s p)
-blocked_stays text ws ks _ at to _ _ (stuck.no_further _ i _ s p k a b f)
+standing_stays text ws ks _ at to _ _ (stuck.no_further _ i _ s p k a b f)
     (step.untyped_nothing _ c) = groups.no_string text at i _ s p c refl
-blocked_stays text ws ks _ at to _ _ (stuck.no_further _ i _ s p k a b f)
+standing_stays text ws ks _ at to _ _ (stuck.no_further _ i _ s p k a b f)
     (step.begins_with_group _ c) = no_string_begins text at i s p c
-blocked_stays text ws ks _ at to _ _ (stuck.no_further _ i _ s p k a b f)
+standing_stays text ws ks _ at to _ _ (stuck.no_further _ i _ s p k a b f)
     (step.untyped_string _ m n v q l c) =
     a (subst (λ u. Closes text u) (string_skipped text at m i n to v s q l p k).0 c)
-blocked_stays text ws ks _ at to _ _ (stuck.no_further _ i _ s p k a b f)
+standing_stays text ws ks _ at to _ _ (stuck.no_further _ i _ s p k a b f)
     (step.begins_with_string _ m n v q l c) =
     b (subst (λ u. slice_index text u ≡ ascii.comma)
     (string_skipped text at m i n to v s q l p k).0 c)
-blocked_stays text ws ks _ at to _ _ (stuck.no_further _ i _ s p k a b f)
+standing_stays text ws ks _ at to _ _ (stuck.no_further _ i _ s p k a b f)
     (step.begins_with_key _ m n v q l c) =
     f (subst (λ u. BeginsGroup text u)
     (string_skipped text at m i n to v s (key_string text at m v q) l p k).0 c)
-blocked_stays text ws ks _ at _ _ _ (stuck.no_key _ i j s p k b f) (step.untyped_nothing _ c) =
+standing_stays text ws ks _ at _ _ _ (stuck.no_key _ i j s p k b f) (step.untyped_nothing _ c) =
     groups.no_string text at i _ s p c refl
-blocked_stays text ws ks _ at _ _ _ (stuck.no_key _ i j s p k b f) (step.begins_with_group _ c) =
+standing_stays text ws ks _ at _ _ _ (stuck.no_key _ i j s p k b f) (step.begins_with_group _ c) =
     no_string_begins text at i s p c
-blocked_stays text ws ks _ at _ _ _ (stuck.no_key _ i j s p k b f)
+standing_stays text ws ks _ at _ _ _ (stuck.no_key _ i j s p k b f)
     (step.untyped_string _ m n v q l c) =
     no_brace_begins text j b (subst (λ u. Closes text u)
     (string_skipped text at m i n j v s q l p k).0 c)
-blocked_stays text ws ks _ at _ _ _ (stuck.no_key _ i j s p k b f)
+standing_stays text ws ks _ at _ _ _ (stuck.no_key _ i j s p k b f)
     (step.begins_with_string _ m n v q l c) =
     no_comma_begins text j b (subst (λ u. slice_index text u ≡ ascii.comma)
     (string_skipped text at m i n j v s q l p k).0 c)
-blocked_stays text ws ks _ at _ _ _ (stuck.no_key _ i j s p k b f)
+standing_stays text ws ks _ at _ _ _ (stuck.no_key _ i j s p k b f)
     (step.begins_with_key _ m n v q l c) = f m v q
-blocked_stays text ws ks _ at to x _ (stuck.in_leaf _ _ _ _ h) (step.members_follow _) =
+standing_stays text ws ks _ at to x _ (stuck.in_leaf _ _ _ _ h) (step.members_follow _) =
     (stuck_kind text at _ to x h).0 refl
-blocked_stays text ws ks _ at to x _ (stuck.in_leaf _ _ _ _ h) (step.entries_follow _) =
+standing_stays text ws ks _ at to x _ (stuck.in_leaf _ _ _ _ h) (step.entries_follow _) =
     (stuck_kind text at _ to x h).1 refl
-blocked_stays text ws ks _ at to x _ (stuck.in_leaf kind _ _ _ h)
+standing_stays text ws ks _ at to x _ (stuck.in_leaf kind _ _ _ h)
     (step.leaf_follows _ _ end t p c) = no_leaf_there text at kind to x h end t p c
 
--- nor where one is blocked behind a group
+-- nor where one is stuck behind a group
 end_stays : (text : List ℕ) (ws : List Waiting) (ks : List (List ℕ)) (t : Tree) (at to : ℕ)
-    (x : IcuExpected) (r : Reading) → EndBlocked text t at ws to x → StepOut text ks t at ws r → ⊥
+    (x : IcuExpected) (r : Reading) → EndStuck text t at ws to x → StepOut text ks t at ws r → ⊥
 end_stays text _ ks t at _ _ r (a_collation ws es k e) (was_value _ _ _ j f l) =
     false≢true (sym f ∙ e)
 end_stays text _ ks t at _ _ r (more_text end k w) l = elim l [ ]
 
-halts_stays : (text : List ℕ) (from r : Reading) (to : ℕ) (x : IcuExpected) → Halts text from to x
+reading_stays : (text : List ℕ) (from r : Reading) (to : ℕ) (x : IcuExpected)
+    → ReadStuck text from to x
     → Next text from r → ⊥
-halts_stays text _ r to x (stuck.inside ws ks s at _ _ b) (inside _ _ _ _ _ v) =
-    blocked_stays text ws ks s at to x r b v
-halts_stays text _ r to x (stuck.inside ws ks s at _ _ b) (outside _ _ t _ _ v) = elim b [ ]
-halts_stays text _ r to x (stuck.behind ws ks t at _ _ b) (inside _ _ _ _ _ v) = elim v [ ]
-halts_stays text _ r to x (stuck.behind ws ks t at _ _ b) (outside _ _ _ _ _ v) =
+reading_stays text _ r to x (stuck.inside ws ks s at _ _ b) (inside _ _ _ _ _ v) =
+    standing_stays text ws ks s at to x r b v
+reading_stays text _ r to x (stuck.inside ws ks s at _ _ b) (outside _ _ t _ _ v) = elim b [ ]
+reading_stays text _ r to x (stuck.behind ws ks t at _ _ b) (inside _ _ _ _ _ v) = elim v [ ]
+reading_stays text _ r to x (stuck.behind ws ks t at _ _ b) (outside _ _ _ _ _ v) =
     end_stays text ws ks t at to x r b v
 
 -- numbers and their commas are none, or a first one and the others
@@ -184,9 +187,9 @@ counted_meet text from a b (one_number _ k i j _ v c p s e l) d =
 
 -- where behind some numbers none stands, or one without a comma
 data NumbersStop (text : List ℕ) (at : ℕ) : ℕ → IcuExpected → Type 0 where
-  at_once : NoNumberAt text at → NumbersStop text at at expect.Number
+  at_once : NoNumberAt text at → NumbersStop text at at expect.NumberOrRightBrace
   behind_one : (i j v : ℕ) → Number text at i v → Skip text i j
-      → slice_index text j ≢ ascii.comma → NumbersStop text at j expect.RightBrace
+      → slice_index text j ≢ ascii.comma → NumbersStop text at j expect.CommaOrRightBrace
 
 stop_one : (text : List ℕ) (at to end : ℕ) (x y : IcuExpected) → NumbersStop text at to x
     → NumbersStop text at end y → (to ≡ end) × (x ≡ y)
@@ -271,109 +274,114 @@ LeafStuck-one text from _ to end _ _ (open_vector at i _ v d p k n m)
     numbers_stop text from at place to end _ _ d (behind_one i to v p k n) c
     (behind_one j end w q l o)
 
--- a reading is blocked at one place
-Blocked-one : (text : List ℕ) (s : Standing) (at to end : ℕ) (x y : IcuExpected)
-    → Blocked text s at to x → Blocked text s at end y → (to ≡ end) × (x ≡ y)
-Blocked-one text _ at _ _ _ _ (stuck.no_member last ts _ a b d f) (stuck.no_member _ _ _ e g h k) =
+-- a reading is stuck at one place
+StepStuck-one : (text : List ℕ) (s : Standing) (at to end : ℕ) (x y : IcuExpected)
+    → StepStuck text s at to x → StepStuck text s at end y → (to ≡ end) × (x ≡ y)
+StepStuck-one text _ at _ _ _ _ (stuck.no_member last ts _ a b d f)
+    (stuck.no_member _ _ _ e g h k) =
     (refl, refl)
-Blocked-one text _ at _ _ _ _ (stuck.no_member last ts _ a b d f) (stuck.two_strings _ _ _ i s e p)
+StepStuck-one text _ at _ _ _ _ (stuck.no_member last ts _ a b d f)
+    (stuck.two_strings _ _ _ i s e p)
     = absurd (f i s p)
-Blocked-one text _ at _ _ _ _ (stuck.no_member last ts _ a b d f) (stuck.lone_comma _ _ _ e c) =
+StepStuck-one text _ at _ _ _ _ (stuck.no_member last ts _ a b d f) (stuck.lone_comma _ _ _ e c) =
     absurd (b c)
-Blocked-one text _ at _ _ _ _ (stuck.two_strings last ts _ i s e p) (stuck.no_member _ _ _ a b d f)
+StepStuck-one text _ at _ _ _ _ (stuck.two_strings last ts _ i s e p)
+    (stuck.no_member _ _ _ a b d f)
     = absurd (f i s p)
-Blocked-one text _ at _ _ _ _ (stuck.two_strings last ts _ i s e p)
+StepStuck-one text _ at _ _ _ _ (stuck.two_strings last ts _ i s e p)
     (stuck.two_strings _ _ _ j t g q) = (refl, refl)
-Blocked-one text _ at _ _ _ _ (stuck.two_strings last ts _ i s e p) (stuck.lone_comma _ _ _ g c) =
+StepStuck-one text _ at _ _ _ _ (stuck.two_strings last ts _ i s e p) (stuck.lone_comma _ _ _ g c) =
     absurd (groups.no_string text at i _ s p c refl)
-Blocked-one text _ at _ _ _ _ (stuck.lone_comma last ts _ e c) (stuck.no_member _ _ _ a b d f) =
+StepStuck-one text _ at _ _ _ _ (stuck.lone_comma last ts _ e c) (stuck.no_member _ _ _ a b d f) =
     absurd (b c)
-Blocked-one text _ at _ _ _ _ (stuck.lone_comma last ts _ e c) (stuck.two_strings _ _ _ i s g p) =
+StepStuck-one text _ at _ _ _ _ (stuck.lone_comma last ts _ e c) (stuck.two_strings _ _ _ i s g p) =
     absurd (groups.no_string text at i _ s p c refl)
-Blocked-one text _ at _ _ _ _ (stuck.lone_comma last ts _ e c) (stuck.lone_comma _ _ _ g d) =
+StepStuck-one text _ at _ _ _ _ (stuck.lone_comma last ts _ e c) (stuck.lone_comma _ _ _ g d) =
     (refl, refl)
-Blocked-one text _ at _ _ _ _ (stuck.key_twice es _ c d) (stuck.key_twice _ _ e f) = (refl, refl)
-Blocked-one text _ at _ _ _ _ (stuck.key_twice es _ c d) (stuck.no_entry _ _ a f) = absurd (a c)
-Blocked-one text _ at _ _ _ _ (stuck.no_entry es _ a f) (stuck.key_twice _ _ c d) = absurd (a c)
-Blocked-one text _ at _ _ _ _ (stuck.no_entry es _ a f) (stuck.no_entry _ _ b g) = (refl, refl)
-Blocked-one text _ at _ _ _ _ (stuck.no_group _ f) (stuck.no_group _ g) = (refl, refl)
-Blocked-one text _ at _ _ _ _ (stuck.no_group _ f) (stuck.no_type _ c g) = absurd (f (inr c))
-Blocked-one text _ at _ _ _ _ (stuck.no_group _ f) (stuck.no_brace _ i _ kind g k n) =
+StepStuck-one text _ at _ _ _ _ (stuck.key_twice es _ c d) (stuck.key_twice _ _ e f) = (refl, refl)
+StepStuck-one text _ at _ _ _ _ (stuck.key_twice es _ c d) (stuck.no_entry _ _ a f) = absurd (a c)
+StepStuck-one text _ at _ _ _ _ (stuck.no_entry es _ a f) (stuck.key_twice _ _ c d) = absurd (a c)
+StepStuck-one text _ at _ _ _ _ (stuck.no_entry es _ a f) (stuck.no_entry _ _ b g) = (refl, refl)
+StepStuck-one text _ at _ _ _ _ (stuck.no_group _ f) (stuck.no_group _ g) = (refl, refl)
+StepStuck-one text _ at _ _ _ _ (stuck.no_group _ f) (stuck.no_type _ _ c g) = absurd (f (inr c))
+StepStuck-one text _ at _ _ _ _ (stuck.no_group _ f) (stuck.no_brace _ i _ kind g k n) =
     absurd (f (inr g.stands.colon))
-Blocked-one text _ at _ _ _ _ (stuck.no_type _ c g) (stuck.no_group _ f) = absurd (f (inr c))
-Blocked-one text _ at _ _ _ _ (stuck.no_type _ c g) (stuck.no_type _ d f) = (refl, refl)
-Blocked-one text _ at _ _ _ _ (stuck.no_type _ c f) (stuck.no_brace _ i _ kind g k n) =
-    absurd (f i kind g)
-Blocked-one text _ at _ _ _ _ (stuck.no_brace _ i _ kind g k n) (stuck.no_group _ f) =
+StepStuck-one text _ at _ _ _ _ (stuck.no_type _ _ c g) (stuck.no_group _ f) = absurd (f (inr c))
+StepStuck-one text _ at _ _ x y (stuck.no_type _ _ c g) (stuck.no_type _ _ d f) =
+    (refl, TypeStuck-one text at x y g f)
+StepStuck-one text _ at _ _ _ _ (stuck.no_type _ x c f) (stuck.no_brace _ i _ kind g k n) =
+    absurd (no_type_there text at x f i kind g)
+StepStuck-one text _ at _ _ _ _ (stuck.no_brace _ i _ kind g k n) (stuck.no_group _ f) =
     absurd (f (inr g.stands.colon))
-Blocked-one text _ at _ _ _ _ (stuck.no_brace _ i _ kind g k n) (stuck.no_type _ c f) =
-    absurd (f i kind g)
-Blocked-one text _ at to end _ _ (stuck.no_brace _ i _ kind g k n)
+StepStuck-one text _ at _ _ _ _ (stuck.no_brace _ i _ kind g k n) (stuck.no_type _ x c f) =
+    absurd (no_type_there text at x f i kind g)
+StepStuck-one text _ at to end _ _ (stuck.no_brace _ i _ kind g k n)
     (stuck.no_brace _ j _ other h l m) = (
       Skip-one text i to end k
           (subst (λ u. Skip text u end) (sym (GroupType-one text at i j kind other g h).0) l),
       refl,
     )
-Blocked-one text _ at _ _ _ _ (stuck.no_content _ a b f) (stuck.no_content _ c d g) = (refl, refl)
-Blocked-one text _ at _ _ _ _ (stuck.no_content _ a b f) (stuck.no_further _ i _ s p k c d g) =
+StepStuck-one text _ at _ _ _ _ (stuck.no_content _ a b f) (stuck.no_content _ c d g) = (refl, refl)
+StepStuck-one text _ at _ _ _ _ (stuck.no_content _ a b f) (stuck.no_further _ i _ s p k c d g) =
     absurd (f i s p)
-Blocked-one text _ at _ _ _ _ (stuck.no_content _ a b f) (stuck.no_key _ i j s p k c g) =
+StepStuck-one text _ at _ _ _ _ (stuck.no_content _ a b f) (stuck.no_key _ i j s p k c g) =
     absurd (f i s p)
-Blocked-one text _ at _ _ _ _ (stuck.no_further _ i _ s p k c d g) (stuck.no_content _ a b f) =
+StepStuck-one text _ at _ _ _ _ (stuck.no_further _ i _ s p k c d g) (stuck.no_content _ a b f) =
     absurd (f i s p)
-Blocked-one text _ at to end _ _ (stuck.no_further _ i _ s p k c d g)
+StepStuck-one text _ at to end _ _ (stuck.no_further _ i _ s p k c d g)
     (stuck.no_further _ j _ t q l e f h) =
     (behind_string text at i j to end s t p k q l, refl)
-Blocked-one text _ at to _ _ _ (stuck.no_further _ i _ s p k c d g)
+StepStuck-one text _ at to _ _ _ (stuck.no_further _ i _ s p k c d g)
     (stuck.no_key _ j m t q l b f) =
     absurd (g (subst (λ u. BeginsGroup text u) (behind_string text at j i m to t s q l p k) b))
-Blocked-one text _ at _ _ _ _ (stuck.no_key _ i j s p k c g) (stuck.no_content _ a b f) =
+StepStuck-one text _ at _ _ _ _ (stuck.no_key _ i j s p k c g) (stuck.no_content _ a b f) =
     absurd (f i s p)
-Blocked-one text _ at _ end _ _ (stuck.no_key _ j m t q l b f)
+StepStuck-one text _ at _ end _ _ (stuck.no_key _ j m t q l b f)
     (stuck.no_further _ i _ s p k c d g) =
     absurd (g (subst (λ u. BeginsGroup text u) (behind_string text at j i m end t s q l p k) b))
-Blocked-one text _ at _ _ _ _ (stuck.no_key _ i j s p k b f) (stuck.no_key _ m n t q l c g) =
+StepStuck-one text _ at _ _ _ _ (stuck.no_key _ i j s p k b f) (stuck.no_key _ m n t q l c g) =
     (refl, refl)
-Blocked-one text _ at to end x y (stuck.in_leaf kind _ _ _ h) (stuck.in_leaf _ _ _ _ g) =
+StepStuck-one text _ at to end x y (stuck.in_leaf kind _ _ _ h) (stuck.in_leaf _ _ _ _ g) =
     LeafStuck-one text at kind to end x y h g
 
-EndBlocked-one : (text : List ℕ) (ws : List Waiting) (t : Tree) (at to end : ℕ)
-    (x y : IcuExpected) → EndBlocked text t at ws to x → EndBlocked text t at ws end y
+EndStuck-one : (text : List ℕ) (ws : List Waiting) (t : Tree) (at to end : ℕ)
+    (x y : IcuExpected) → EndStuck text t at ws to x → EndStuck text t at ws end y
     → (to ≡ end) × (x ≡ y)
-EndBlocked-one text _ t at _ _ _ _ (a_collation ws es k e) (a_collation _ _ _ f) = (refl, refl)
-EndBlocked-one text _ t at to end _ _ (more_text _ k w) (more_text _ l v) =
+EndStuck-one text _ t at _ _ _ _ (a_collation ws es k e) (a_collation _ _ _ f) = (refl, refl)
+EndStuck-one text _ t at to end _ _ (more_text _ k w) (more_text _ l v) =
     (Skip-one text at to end k l, refl)
 
-Halts-one : (text : List ℕ) (r : Reading) (to end : ℕ) (x y : IcuExpected) → Halts text r to x
-    → Halts text r end y → (to ≡ end) × (x ≡ y)
-Halts-one text _ to end x y (stuck.inside ws ks s at _ _ b) (stuck.inside _ _ _ _ _ _ d) =
-    Blocked-one text s at to end x y b d
-Halts-one text _ to end x y (stuck.inside ws ks s at _ _ b) (stuck.behind _ _ t _ _ _ d) =
+ReadStuck-one : (text : List ℕ) (r : Reading) (to end : ℕ) (x y : IcuExpected)
+    → ReadStuck text r to x
+    → ReadStuck text r end y → (to ≡ end) × (x ≡ y)
+ReadStuck-one text _ to end x y (stuck.inside ws ks s at _ _ b) (stuck.inside _ _ _ _ _ _ d) =
+    StepStuck-one text s at to end x y b d
+ReadStuck-one text _ to end x y (stuck.inside ws ks s at _ _ b) (stuck.behind _ _ t _ _ _ d) =
     elim b [ ]
-Halts-one text _ to end x y (stuck.behind ws ks t at _ _ b) (stuck.inside _ _ _ _ _ _ d) =
+ReadStuck-one text _ to end x y (stuck.behind ws ks t at _ _ b) (stuck.inside _ _ _ _ _ _ d) =
     elim d [ ]
-Halts-one text _ to end x y (stuck.behind ws ks t at _ _ b) (stuck.behind _ _ _ _ _ _ d) =
-    EndBlocked-one text ws t at to end x y b d
+ReadStuck-one text _ to end x y (stuck.behind ws ks t at _ _ b) (stuck.behind _ _ _ _ _ _ d) =
+    EndStuck-one text ws t at to end x y b d
 
--- where a reading halts no further steps begin
-halts_here : (text : List ℕ) (r q : Reading) (to : ℕ) (x : IcuExpected) → Halts text r to x
+-- where a reading is stuck no further steps begin
+reading_here : (text : List ℕ) (r q : Reading) (to : ℕ) (x : IcuExpected) → ReadStuck text r to x
     → Comes text r q → r ≡ q
-halts_here text r q to x h c = by (first_step text r q c)
+reading_here text r q to x h c = by (first_step text r q c)
   where
     by : (r ≡ q) ⊎ ((mid : Reading) × Next text r mid × Comes text mid q) → r ≡ q
     by (inl e) = e
-    by (inr (mid, n, d)) = absurd (halts_stays text r mid to x h n)
+    by (inr (mid, n, d)) = absurd (reading_stays text r mid to x h n)
 
 -- from one place on a reading gets stuck at one place
 StuckFrom-one : (text : List ℕ) (from : Reading) (to end : ℕ) (x y : IcuExpected)
     → StuckFrom text from to x → StuckFrom text from end y → (to ≡ end) × (x ≡ y)
 StuckFrom-one text from to end x y p q =
     let same = by (comes_meet text from p.last q.last p.comes q.comes) in
-    Halts-one text q.last to end x y (subst (λ u. Halts text u to x) same p.halts) q.halts
+    ReadStuck-one text q.last to end x y (subst (λ u. ReadStuck text u to x) same p.there) q.there
   where
     by : Comes text p.last q.last ⊎ Comes text q.last p.last → p.last ≡ q.last
-    by (inl c) = halts_here text p.last q.last to x p.halts c
-    by (inr c) = sym (halts_here text q.last p.last end y q.halts c)
+    by (inl c) = reading_here text p.last q.last to x p.there c
+    by (inr c) = sym (reading_here text q.last p.last end y q.there c)
 
 -- where the name of a bundle begins
 record Starts (text : List ℕ) (start : ℕ) : Type 0 where

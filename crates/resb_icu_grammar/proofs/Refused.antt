@@ -12,17 +12,19 @@ use Rattle.resb_icu_grammar.specs.Bundle.{Header, Typing, without, with}
 use Rattle.resb_icu_grammar.specs.Groups.{TypedOpening}
 use Rattle.resb_icu_grammar.specs.Laws.{IcuStuckIsNoText}
 use Rattle.resb_icu_grammar.specs.Machine.{Waiting, Standing, Reading, at_root}
-use Rattle.resb_icu_grammar.specs.Stuck.{Blocked, EndBlocked, HeadStuck, Halts, StuckFrom, Stuck}
+use Rattle.resb_icu_grammar.specs.Stuck.{StepStuck, EndStuck, HeadStuck}
+use Rattle.resb_icu_grammar.specs.Stuck.{ReadStuck, StuckFrom, Stuck}
 use Rattle.resb_icu_grammar.specs.Stuck.{a_collation, more_text, no_name, no_root_type}
 use Rattle.resb_icu_grammar.specs.Stuck.{no_root_brace, no_typed_brace, in_head, in_root, inside}
 use Rattle.resb_icu_grammar.specs.Stuck.{behind}
 use Rattle.resb_icu_grammar.specs.Stuck as stuck
 use Rattle.resb_icu_grammar.specs.declared.expected.IcuExpected.{IcuExpected}
-use Rattle.resb_icu_grammar.specs.Inner.Rest.{After, AtEnd, InEntries, Never}
+use Rattle.resb_icu_grammar.specs.Inner.Rest.{After, AtEnd, RestOfEntries, Never}
 use Rattle.resb_icu_grammar.proofs.Lexical.{Begins-one, Skip-one, String-one, key_string}
 use Rattle.resb_icu_grammar.proofs.Lexical.{RootType-one, root_type_first, GroupType-one}
 use Rattle.resb_icu_grammar.proofs.Groups.{no_brace_colon}
 use Rattle.resb_icu_grammar.proofs.Leaves.{no_leaf_there, stuck_kind}
+use Rattle.resb_icu_grammar.proofs.Types.{no_type_there}
 use Rattle.resb_icu_grammar.proofs.Moves.{RestOf, Rest, comes_same}
 use Rattle.resb_icu_grammar.proofs.OneStep.{no_brace_begins, no_comma_begins}
 use Rattle.resb_icu_grammar.proofs.RestRoot.{follows_root}
@@ -38,59 +40,60 @@ no_opening_brace text at end brace kind g k ne other i d =
     ne (ap (λ n. slice_index text n) (Skip-one text end brace d.brace k
     (subst (λ n. Skip text n d.brace) (sym same.0) d.between)) ∙ d.opens)
 
--- where a reading is blocked, the rest of the text has no meaning
-blocked_never : (text : List ℕ) (ws : List Waiting) (ks : List (List ℕ)) (s : Standing)
-    (at to : ℕ) (x : IcuExpected) → Blocked text s at to x → Never (RestOf text ws ks s at)
-blocked_never text ws ks _ at to x (stuck.no_member last ts _ a b d f) =
+-- where a reading is stuck, the rest of the text has no meaning
+standing_never : (text : List ℕ) (ws : List Waiting) (ks : List (List ℕ)) (s : Standing)
+    (at to : ℕ) (x : IcuExpected) → StepStuck text s at to x → Never (RestOf text ws ks s at)
+standing_never text ws ks _ at to x (stuck.no_member last ts _ a b d f) =
     lists.no_more_members text (After text ws) last ts at ks a b (λ e. d (inl e))
     (λ e. d (inr e)) f
-blocked_never text ws ks _ at to x (stuck.two_strings last ts _ i s e p) =
+standing_never text ws ks _ at to x (stuck.two_strings last ts _ i s e p) =
     lists.no_second_string text (After text ws) last ts at i s ks e p
-blocked_never text ws ks _ at to x (stuck.lone_comma last ts _ e c) =
+standing_never text ws ks _ at to x (stuck.lone_comma last ts _ e c) =
     lists.no_other_comma text (After text ws) last ts at ks e c
-blocked_never text ws ks _ at to x (stuck.key_twice es _ c d) =
+standing_never text ws ks _ at to x (stuck.key_twice es _ c d) =
     lists.no_key_twice text (After text ws) es at ks c d
-blocked_never text ws ks _ at to x (stuck.no_entry es _ c f) =
+standing_never text ws ks _ at to x (stuck.no_entry es _ c f) =
     lists.no_more_entries text (After text ws) es at ks c f
-blocked_never text ws ks _ at to x (stuck.no_group _ f) =
+standing_never text ws ks _ at to x (stuck.no_group _ f) =
     groups.no_group_begins text (After text ws) at ks (λ e. f (inl e))
     (λ kind i d. f (inr d.named.stands.colon))
-blocked_never text ws ks _ at to x (stuck.no_type _ c f) =
+standing_never text ws ks _ at to x (stuck.no_type _ _ c f) =
     groups.no_group_begins text (After text ws) at ks (λ b. no_brace_colon text at b c)
-    (λ kind i d. f d.ends kind d.named)
-blocked_never text ws ks _ at to x (stuck.no_brace _ i _ kind g k n) =
+    (λ kind i d. no_type_there text at x f d.ends kind d.named)
+standing_never text ws ks _ at to x (stuck.no_brace _ i _ kind g k n) =
     groups.no_group_begins text (After text ws) at ks
     (λ b. no_brace_colon text at b g.stands.colon) (no_opening_brace text at i to kind g k n)
-blocked_never text ws ks _ at to x (stuck.no_content _ a b f) =
+standing_never text ws ks _ at to x (stuck.no_content _ a b f) =
     untyped.no_untyped text (After text ws) at ks a (λ e. b (inl e)) (λ e. b (inr e)) f
-blocked_never text ws ks _ at to x (stuck.no_further _ i _ s p k a b f) =
+standing_never text ws ks _ at to x (stuck.no_further _ i _ s p k a b f) =
     untyped.no_untyped_string text (After text ws) at i to s ks p k a b (λ g _. f g)
-blocked_never text ws ks _ at to x (stuck.no_key _ i j s p k b f) =
+standing_never text ws ks _ at to x (stuck.no_key _ i j s p k b f) =
     untyped.no_untyped_string text (After text ws) at i j s ks p k (no_brace_begins text j b)
     (no_comma_begins text j b) (λ _ q. f i s q)
-blocked_never text ws ks _ at to x (stuck.in_leaf kind _ _ _ h) =
+standing_never text ws ks _ at to x (stuck.in_leaf kind _ _ _ h) =
     let apart = stuck_kind text at kind to x h in
     groups.no_leaf text (After text ws) kind at ks apart.0 apart.1
     (no_leaf_there text at kind to x h)
 
 -- so it is where more than blanks stands behind the root, or a table with rules of collation ends
 end_never : (text : List ℕ) (ws : List Waiting) (ks : List (List ℕ)) (t : Tree) (at to : ℕ)
-    (x : IcuExpected) → EndBlocked text t at ws to x → Never (After text ws at t ks)
+    (x : IcuExpected) → EndStuck text t at ws to x → Never (After text ws at t ks)
 end_never text _ ks t at _ _ (a_collation ws es k e) m p = false≢true (sym p.taken ∙ e)
 end_never text _ ks t at _ _ (more_text end k w) m h =
     let same : end ≡ length text = Skip-one text at end (length text) k h.after in
     absurd (omega (arith, w, same))
 
-halts_never : (text : List ℕ) (r : Reading) (to : ℕ) (x : IcuExpected) → Halts text r to x
+reading_never : (text : List ℕ) (r : Reading) (to : ℕ) (x : IcuExpected) → ReadStuck text r to x
     → Never (Rest text r)
-halts_never text _ to x (inside ws ks s at _ _ b) = blocked_never text ws ks s at to x b
-halts_never text _ to x (behind ws ks t at _ _ b) = end_never text ws ks t at to x b
+reading_never text _ to x (inside ws ks s at _ _ b) = standing_never text ws ks s at to x b
+reading_never text _ to x (behind ws ks t at _ _ b) = end_never text ws ks t at to x b
 
 -- no bundle whose root's entries begin there
 root_never : (text : List ℕ) (first to : ℕ) (x : IcuExpected)
-    → StuckFrom text (at_root first) to x → Never (InEntries text (AtEnd text) [] first [])
+    → StuckFrom text (at_root first) to x → Never (RestOfEntries text (AtEnd text) [] first [])
 root_never text first to x s m p =
-    halts_never text s.last to x s.halts m ((comes_same text (at_root first) s.last s.comes m).0 p)
+    reading_never text s.last to x s.there m
+    ((comes_same text (at_root first) s.last s.comes m).0 p)
 
 starts : (text name : List ℕ) (f : Bool) (to a start : ℕ) → Begins text a → Skip text a start
     → (h : Header text name f to) → h.start ≡ start

@@ -11,9 +11,9 @@ use Rattle.resb_icu_grammar.specs.Blanks.{Skip}
 use Rattle.resb_icu_grammar.specs.Groups.{TypedOpening, LeafContent, nothing}
 use Rattle.resb_icu_grammar.specs.Groups.{Untyped}
 use Rattle.resb_icu_grammar.specs.Groups.{Typed, members, entries, leaf, Group, untyped, typed}
-use Rattle.resb_icu_grammar.specs.Inner.Rest.{Goal, InMembers, InEntries}
-use Rattle.resb_icu_grammar.specs.Inner.Rest.{InGroup}
-use Rattle.resb_icu_grammar.specs.Inner.Rest.{InUntyped, InTyped, Same}
+use Rattle.resb_icu_grammar.specs.Inner.Rest.{Goal, RestOfMembers, RestOfEntries}
+use Rattle.resb_icu_grammar.specs.Inner.Rest.{RestOfGroup}
+use Rattle.resb_icu_grammar.specs.Inner.Rest.{RestOfUntyped, RestOfTyped, Same}
 use Rattle.resb_icu_grammar.specs.Inner.Rest.{Never}
 use Rattle.resb_icu_grammar.proofs.Lexical.{Skip-one}
 use Rattle.resb_icu_grammar.proofs.Groups.{Closes}
@@ -23,14 +23,14 @@ use Rattle.resb_icu_grammar.proofs.RestLists.{entries_distinct}
 module _ (text : List ℕ) (goal : Goal) where
   -- a `{` begins a group without a type
   pub untyped_begins : (at i : ℕ) (ks : List (List ℕ)) → slice_index text at ≡ ascii.left_brace
-      → Skip text (at + 1) i → Same (InGroup text goal at ks) (InUntyped text goal i ks)
+      → Skip text (at + 1) i → Same (RestOfGroup text goal at ks) (RestOfUntyped text goal i ks)
   untyped_begins at i ks e s m = (there, back)
     where
-      there : InGroup text goal at ks m → InUntyped text goal i ks m
+      there : RestOfGroup text goal at ks m → RestOfUntyped text goal i ks m
       there h = of_group h.to h.tree h.keys h.group h.then
         where
           of_group : (to : ℕ) (t : Tree) (js : List (List ℕ)) → Group text at to t js
-              → goal to t (ks ++ js) m → InUntyped text goal i ks m
+              → goal to t (ks ++ js) m → RestOfUntyped text goal i ks m
           of_group _ t js (untyped _ j k _ _ f z u c) g =
               record {
                 to = k;
@@ -43,7 +43,7 @@ module _ (text : List ℕ) (goal : Goal) where
           of_group _ t js (typed _ j k kind _ _ f u c) g =
               absurd (no_brace_colon text at e f.named.stands.colon)
 
-      back : InUntyped text goal i ks m → InGroup text goal at ks m
+      back : RestOfUntyped text goal i ks m → RestOfGroup text goal at ks m
       back h = record {
         to = h.to + 1;
         tree = h.tree;
@@ -54,14 +54,14 @@ module _ (text : List ℕ) (goal : Goal) where
 
   -- a type, its `{` and blanks begin a group of that type
   pub typed_begins : (at i : ℕ) (kind : Kind) (ks : List (List ℕ)) → TypedOpening text at kind i
-      → Same (InGroup text goal at ks) (InTyped text goal kind i ks)
+      → Same (RestOfGroup text goal at ks) (RestOfTyped text goal kind i ks)
   typed_begins at i kind ks d m = (there, back)
     where
-      there : InGroup text goal at ks m → InTyped text goal kind i ks m
+      there : RestOfGroup text goal at ks m → RestOfTyped text goal kind i ks m
       there h = of_group h.to h.tree h.keys h.group h.then
         where
           of_group : (to : ℕ) (t : Tree) (js : List (List ℕ)) → Group text at to t js
-              → goal to t (ks ++ js) m → InTyped text goal kind i ks m
+              → goal to t (ks ++ js) m → RestOfTyped text goal kind i ks m
           of_group _ t js (untyped _ j k _ _ f z u c) g =
               absurd (no_brace_colon text at f d.named.stands.colon)
           of_group _ t js (typed _ j k other _ _ f u c) g =
@@ -76,7 +76,7 @@ module _ (text : List ℕ) (goal : Goal) where
                 then = g;
               }
 
-      back : InTyped text goal kind i ks m → InGroup text goal at ks m
+      back : RestOfTyped text goal kind i ks m → RestOfGroup text goal at ks m
       back h = record {
         to = h.to + 1;
         tree = h.tree;
@@ -87,7 +87,8 @@ module _ (text : List ℕ) (goal : Goal) where
 
   -- where neither a brace nor a type with its brace stands, no group does
   pub no_group_begins : (at : ℕ) (ks : List (List ℕ)) → slice_index text at ≢ ascii.left_brace
-      → ((kind : Kind) (i : ℕ) → TypedOpening text at kind i → ⊥) → Never (InGroup text goal at ks)
+      → ((kind : Kind) (i : ℕ) → TypedOpening text at kind i → ⊥) → Never
+      (RestOfGroup text goal at ks)
   no_group_begins at ks e f m h = of_group h.to h.tree h.keys h.group
     where
       of_group : (to : ℕ) (t : Tree) (js : List (List ℕ)) → Group text at to t js → ⊥
@@ -96,15 +97,15 @@ module _ (text : List ℕ) (goal : Goal) where
 
   -- in `:array{` members follow
   pub array_begins : (i : ℕ) (ks : List (List ℕ))
-      → Same (InTyped text goal array_kind i ks) (InMembers text goal nothing [] i ks)
+      → Same (RestOfTyped text goal array_kind i ks) (RestOfMembers text goal nothing [] i ks)
   array_begins i ks m = (there, back)
     where
-      there : InTyped text goal array_kind i ks m → InMembers text goal nothing [] i ks m
+      there : RestOfTyped text goal array_kind i ks m → RestOfMembers text goal nothing [] i ks m
       there h = of_typed h.to h.tree h.keys h.content h.closes h.then
         where
           of_typed : (to : ℕ) (t : Tree) (js : List (List ℕ)) → Typed text array_kind i to t js
               → Closes text to → goal (to + 1) t (ks ++ js) m
-              → InMembers text goal nothing [] i ks m
+              → RestOfMembers text goal nothing [] i ks m
           of_typed to _ js (members _ _ ts _ p) c g = record {
             to = to;
             more = ts;
@@ -115,7 +116,7 @@ module _ (text : List ℕ) (goal : Goal) where
           }
           of_typed to t js (leaf _ _ _ _ p) c g = elim p [ ]
 
-      back : InMembers text goal nothing [] i ks m → InTyped text goal array_kind i ks m
+      back : RestOfMembers text goal nothing [] i ks m → RestOfTyped text goal array_kind i ks m
       back h = record {
         to = h.to;
         tree = array (trees_of h.more);
@@ -127,14 +128,14 @@ module _ (text : List ℕ) (goal : Goal) where
 
   -- in `:table{` entries follow
   pub table_begins : (i : ℕ) (ks : List (List ℕ))
-      → Same (InTyped text goal table_kind i ks) (InEntries text goal [] i ks)
+      → Same (RestOfTyped text goal table_kind i ks) (RestOfEntries text goal [] i ks)
   table_begins i ks m = (there, back)
     where
-      there : InTyped text goal table_kind i ks m → InEntries text goal [] i ks m
+      there : RestOfTyped text goal table_kind i ks m → RestOfEntries text goal [] i ks m
       there h = of_typed h.to h.tree h.keys h.content h.closes h.then
         where
           of_typed : (to : ℕ) (t : Tree) (js : List (List ℕ)) → Typed text table_kind i to t js
-              → Closes text to → goal (to + 1) t (ks ++ js) m → InEntries text goal [] i ks m
+              → Closes text to → goal (to + 1) t (ks ++ js) m → RestOfEntries text goal [] i ks m
           of_typed to _ js (entries _ _ es _ p) c g = record {
             to = to;
             more = es;
@@ -146,7 +147,7 @@ module _ (text : List ℕ) (goal : Goal) where
           }
           of_typed to t js (leaf _ _ _ _ p) c g = elim p [ ]
 
-      back : InEntries text goal [] i ks m → InTyped text goal table_kind i ks m
+      back : RestOfEntries text goal [] i ks m → RestOfTyped text goal table_kind i ks m
       back h = record {
         to = h.to;
         tree = table (map_of h.more);
@@ -159,10 +160,10 @@ module _ (text : List ℕ) (goal : Goal) where
   -- in a group of another type its content follows
   pub leaf_is_group : (kind : Kind) (i to : ℕ) (t : Tree) (ks : List (List ℕ))
       → LeafContent text i to kind t → Closes text to
-      → Same (InTyped text goal kind i ks) (goal (to + 1) t ks)
+      → Same (RestOfTyped text goal kind i ks) (goal (to + 1) t ks)
   leaf_is_group kind i to t ks p c m = (there, back)
     where
-      there : InTyped text goal kind i ks m → goal (to + 1) t ks m
+      there : RestOfTyped text goal kind i ks m → goal (to + 1) t ks m
       there h = of_typed kind p h.to h.tree h.keys h.content h.closes h.then
         where
           of_typed : (k : Kind) → LeafContent text i to k t → (at : ℕ) (u : Tree)
@@ -176,7 +177,7 @@ module _ (text : List ℕ) (goal : Goal) where
               (subst (λ w. goal (w + 1) u ks m) same.0
               (subst (λ l. goal (at + 1) u l m) (append-nil ks) g))
 
-      back : goal (to + 1) t ks m → InTyped text goal kind i ks m
+      back : goal (to + 1) t ks m → RestOfTyped text goal kind i ks m
       back g = record {
         to = to;
         tree = t;
@@ -189,7 +190,7 @@ module _ (text : List ℕ) (goal : Goal) where
   -- a group of another type than array and table has content, or no meaning
   pub no_leaf : (kind : Kind) (i : ℕ) (ks : List (List ℕ)) → kind ≢ array_kind → kind ≢ table_kind
       → ((to : ℕ) (t : Tree) → LeafContent text i to kind t → Closes text to → ⊥)
-      → Never (InTyped text goal kind i ks)
+      → Never (RestOfTyped text goal kind i ks)
   no_leaf kind i ks a b f m h = of_typed kind a b f h.to h.tree h.keys h.content h.closes
     where
       of_typed : (k : Kind) → k ≢ array_kind → k ≢ table_kind

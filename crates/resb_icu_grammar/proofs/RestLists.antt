@@ -13,9 +13,9 @@ use Rattle.resb_icu_grammar.specs.Groups.{Last, a_string}
 use Rattle.resb_icu_grammar.specs.Groups.{a_comma, is_member, ends_in_string}
 use Rattle.resb_icu_grammar.specs.Groups.{Members, no_member, string_member}
 use Rattle.resb_icu_grammar.specs.Groups.{group_member, comma_behind, Entries, no_entry, one_entry}
-use Rattle.resb_icu_grammar.specs.Inner.Rest.{Goal, InMembers, InEntries}
+use Rattle.resb_icu_grammar.specs.Inner.Rest.{Goal, RestOfMembers, RestOfEntries}
 use Rattle.resb_icu_grammar.specs.Machine.{AreDistinct}
-use Rattle.resb_icu_grammar.specs.Inner.Rest.{InGroup}
+use Rattle.resb_icu_grammar.specs.Inner.Rest.{RestOfGroup}
 use Rattle.resb_icu_grammar.specs.Inner.Rest.{AfterMember, AfterValue, Same}
 use Rattle.resb_icu_grammar.specs.Inner.Rest.{Never}
 use Rattle.resb_icu_grammar.proofs.Lexical.{Skip-one, key_string}
@@ -37,10 +37,10 @@ behind_distinct (e ∷ es) fs h = behind_distinct es fs h.1
 module _ (text : List ℕ) (goal : Goal) where
   -- a `}` ends an array
   pub array_ends : (last : Last) (ts : List Tree) (at : ℕ) (ks : List (List ℕ)) → Closes text at
-      → Same (InMembers text goal last ts at ks) (goal (at + 1) (array (trees_of ts)) ks)
+      → Same (RestOfMembers text goal last ts at ks) (goal (at + 1) (array (trees_of ts)) ks)
   array_ends last ts at ks c m = (there, back)
     where
-      there : InMembers text goal last ts at ks m → goal (at + 1) (array (trees_of ts)) ks m
+      there : RestOfMembers text goal last ts at ks m → goal (at + 1) (array (trees_of ts)) ks m
       there h = of_members h.to h.more h.keys h.members h.then
         where
           of_members : (to : ℕ) (us : List Tree) (js : List (List ℕ))
@@ -56,7 +56,7 @@ module _ (text : List ℕ) (goal : Goal) where
               absurd (no_group text at i _ t zs p c (λ e. omega arith) (λ e. omega arith))
           of_members to us js (comma_behind _ _ j _ _ _ e f k r) g = absurd (omega arith)
 
-      back : goal (at + 1) (array (trees_of ts)) ks m → InMembers text goal last ts at ks m
+      back : goal (at + 1) (array (trees_of ts)) ks m → RestOfMembers text goal last ts at ks m
       back g = record {
         to = at;
         more = [];
@@ -70,18 +70,18 @@ module _ (text : List ℕ) (goal : Goal) where
   -- a string is one member more
   pub string_is_member : (last : Last) (ts : List Tree) (at i j : ℕ) (s : List ℕ)
       (ks : List (List ℕ)) → ends_in_string last ≡ false → Text text at i s → Skip text i j
-      → Same (InMembers text goal last ts at ks)
-      (InMembers text goal a_string (ts ++ string s ∷ []) j ks)
+      → Same (RestOfMembers text goal last ts at ks)
+      (RestOfMembers text goal a_string (ts ++ string s ∷ []) j ks)
   string_is_member last ts at i j s ks e p k m = (there, back)
     where
-      there : InMembers text goal last ts at ks m
-          → InMembers text goal a_string (ts ++ string s ∷ []) j ks m
+      there : RestOfMembers text goal last ts at ks m
+          → RestOfMembers text goal a_string (ts ++ string s ∷ []) j ks m
       there h = of_members h.to h.more h.keys h.members h.closes h.then
         where
           of_members : (to : ℕ) (us : List Tree) (js : List (List ℕ))
               → Members text last at to us js → Closes text to
               → goal (to + 1) (array (trees_of (ts ++ us))) (ks ++ js) m
-              → InMembers text goal a_string (ts ++ string s ∷ []) j ks m
+              → RestOfMembers text goal a_string (ts ++ string s ∷ []) j ks m
           of_members to us js (no_member _ _) c g = absurd (no_string text at i _ s p c refl)
           of_members to us js (string_member _ _ n o _ q vs _ f x l r) c g =
               let both = string_skipped text at n i o j q s x l p k in
@@ -102,8 +102,8 @@ module _ (text : List ℕ) (goal : Goal) where
           of_members to us js (comma_behind _ _ o _ _ _ f x l r) c g =
               absurd (no_string text at i _ s p x refl)
 
-      back : InMembers text goal a_string (ts ++ string s ∷ []) j ks m
-          → InMembers text goal last ts at ks m
+      back : RestOfMembers text goal a_string (ts ++ string s ∷ []) j ks m
+          → RestOfMembers text goal last ts at ks m
       back h = record {
         to = h.to;
         more = string s ∷ h.more;
@@ -117,7 +117,7 @@ module _ (text : List ℕ) (goal : Goal) where
   -- no string stands right behind a string
   pub no_second_string : (last : Last) (ts : List Tree) (at i : ℕ) (s : List ℕ)
       (ks : List (List ℕ)) → ends_in_string last ≡ true → Text text at i s
-      → Never (InMembers text goal last ts at ks)
+      → Never (RestOfMembers text goal last ts at ks)
   no_second_string last ts at i s ks e p m h = of_members h.to h.more h.keys h.members h.closes
     where
       of_members : (to : ℕ) (us : List Tree) (js : List (List ℕ)) → Members text last at to us js
@@ -131,16 +131,16 @@ module _ (text : List ℕ) (goal : Goal) where
   -- a comma behind a member
   pub comma_is_passed : (last : Last) (ts : List Tree) (at j : ℕ) (ks : List (List ℕ))
       → is_member last ≡ true → slice_index text at ≡ ascii.comma → Skip text (at + 1) j
-      → Same (InMembers text goal last ts at ks) (InMembers text goal a_comma ts j ks)
+      → Same (RestOfMembers text goal last ts at ks) (RestOfMembers text goal a_comma ts j ks)
   comma_is_passed last ts at j ks e f k m = (there, back)
     where
-      there : InMembers text goal last ts at ks m → InMembers text goal a_comma ts j ks m
+      there : RestOfMembers text goal last ts at ks m → RestOfMembers text goal a_comma ts j ks m
       there h = of_members h.to h.more h.keys h.members h.closes h.then
         where
           of_members : (to : ℕ) (us : List Tree) (js : List (List ℕ))
               → Members text last at to us js → Closes text to
               → goal (to + 1) (array (trees_of (ts ++ us))) (ks ++ js) m
-              → InMembers text goal a_comma ts j ks m
+              → RestOfMembers text goal a_comma ts j ks m
           of_members to us js (no_member _ _) c g = absurd (omega arith)
           of_members to us js (string_member _ _ n o _ q vs _ x y l r) c g =
               absurd (no_string text at n _ q y f refl)
@@ -157,7 +157,7 @@ module _ (text : List ℕ) (goal : Goal) where
                 then = g;
               }
 
-      back : InMembers text goal a_comma ts j ks m → InMembers text goal last ts at ks m
+      back : RestOfMembers text goal a_comma ts j ks m → RestOfMembers text goal last ts at ks m
       back h = record {
         to = h.to;
         more = h.more;
@@ -170,7 +170,7 @@ module _ (text : List ℕ) (goal : Goal) where
   -- a comma stands behind members alone
   pub no_other_comma : (last : Last) (ts : List Tree) (at : ℕ) (ks : List (List ℕ))
       → is_member last ≡ false → slice_index text at ≡ ascii.comma
-      → Never (InMembers text goal last ts at ks)
+      → Never (RestOfMembers text goal last ts at ks)
   no_other_comma last ts at ks e f m h = of_members h.to h.more h.keys h.members h.closes
     where
       of_members : (to : ℕ) (us : List Tree) (js : List (List ℕ)) → Members text last at to us js
@@ -185,8 +185,8 @@ module _ (text : List ℕ) (goal : Goal) where
   -- a brace or a colon begins a group, which is a member
   pub group_is_member : (last : Last) (ts : List Tree) (at : ℕ) (ks : List (List ℕ))
       → (slice_index text at ≡ ascii.left_brace) ⊎ (slice_index text at ≡ ascii.colon)
-      → Same (InMembers text goal last ts at ks)
-      (InGroup text (AfterMember text goal ts) at ks)
+      → Same (RestOfMembers text goal last ts at ks)
+      (RestOfGroup text (AfterMember text goal ts) at ks)
   group_is_member last ts at ks f m = (there, back)
     where
       other : (b : ℕ) → slice_index text at ≡ b → b ≢ ascii.left_brace → b ≢ ascii.colon → ⊥
@@ -198,13 +198,14 @@ module _ (text : List ℕ) (goal : Goal) where
           (λ (w : slice_index text at ≡ ascii.left_brace). no_string text at i _ s p w refl)
           (λ (w : slice_index text at ≡ ascii.colon). no_string text at i _ s p w refl) f
 
-      there : InMembers text goal last ts at ks m → InGroup text (AfterMember text goal ts) at ks m
+      there : RestOfMembers text goal last ts at ks m → RestOfGroup text
+          (AfterMember text goal ts) at ks m
       there h = of_members h.to h.more h.keys h.members h.closes h.then
         where
           of_members : (to : ℕ) (us : List Tree) (js : List (List ℕ))
               → Members text last at to us js → Closes text to
               → goal (to + 1) (array (trees_of (ts ++ us))) (ks ++ js) m
-              → InGroup text (AfterMember text goal ts) at ks m
+              → RestOfGroup text (AfterMember text goal ts) at ks m
           of_members to us js (no_member _ _) c g =
               absurd (other _ c (λ w. omega arith) (λ w. omega arith))
           of_members to us js (string_member _ _ n o _ q vs _ x y l r) c g =
@@ -234,7 +235,8 @@ module _ (text : List ℕ) (goal : Goal) where
           of_members to us js (comma_behind _ _ o _ _ _ x y l r) c g =
               absurd (other _ y (λ w. omega arith) (λ w. omega arith))
 
-      back : InGroup text (AfterMember text goal ts) at ks m → InMembers text goal last ts at ks m
+      back : RestOfGroup text (AfterMember text goal ts) at ks m
+          → RestOfMembers text goal last ts at ks m
       back h =
           let r = h.then.rest in
           record {
@@ -256,7 +258,7 @@ module _ (text : List ℕ) (goal : Goal) where
       → (Closes text at → ⊥) → slice_index text at ≢ ascii.comma
       → slice_index text at ≢ ascii.left_brace → slice_index text at ≢ ascii.colon
       → ((i : ℕ) (s : List ℕ) → Text text at i s → ⊥)
-      → Never (InMembers text goal last ts at ks)
+      → Never (RestOfMembers text goal last ts at ks)
   no_more_members last ts at ks a b d e f m h = of_members h.to h.more h.keys h.members h.closes
     where
       of_members : (to : ℕ) (us : List Tree) (js : List (List ℕ)) → Members text last at to us js
@@ -269,10 +271,11 @@ module _ (text : List ℕ) (goal : Goal) where
 
   -- a `}` ends a table whose keys are distinct
   pub table_ends : (es : List (List ℕ × Tree)) (at : ℕ) (ks : List (List ℕ)) → Closes text at
-      → AreDistinct es → Same (InEntries text goal es at ks) (goal (at + 1) (table (map_of es)) ks)
+      → AreDistinct es → Same (RestOfEntries text goal es at ks)
+      (goal (at + 1) (table (map_of es)) ks)
   table_ends es at ks c d m = (there, back)
     where
-      there : InEntries text goal es at ks m → goal (at + 1) (table (map_of es)) ks m
+      there : RestOfEntries text goal es at ks m → goal (at + 1) (table (map_of es)) ks m
       there h = of_entries h.to h.more h.keys h.entries h.then
         where
           of_entries : (to : ℕ) (fs : List (List ℕ × Tree)) (js : List (List ℕ))
@@ -285,7 +288,7 @@ module _ (text : List ℕ) (goal : Goal) where
           of_entries to fs js (one_entry _ i j n o _ k t _ zs _ p l x h' y r w) g =
               absurd (no_string text at i _ k (key_string text at i k p) c refl)
 
-      back : goal (at + 1) (table (map_of es)) ks m → InEntries text goal es at ks m
+      back : goal (at + 1) (table (map_of es)) ks m → RestOfEntries text goal es at ks m
       back g = record {
         to = at;
         more = [];
@@ -299,7 +302,7 @@ module _ (text : List ℕ) (goal : Goal) where
 
   -- a table has each key once
   pub no_key_twice : (es : List (List ℕ × Tree)) (at : ℕ) (ks : List (List ℕ)) → Closes text at
-      → (AreDistinct es → ⊥) → Never (InEntries text goal es at ks)
+      → (AreDistinct es → ⊥) → Never (RestOfEntries text goal es at ks)
   no_key_twice es at ks c d m h = of_entries h.to h.more h.keys h.entries h.distinct
     where
       of_entries : (to : ℕ) (fs : List (List ℕ × Tree)) (js : List (List ℕ))
@@ -311,8 +314,8 @@ module _ (text : List ℕ) (goal : Goal) where
   -- a key and its value are one entry more
   pub entry_begins : (es : List (List ℕ × Tree)) (at i j : ℕ) (k : List ℕ) (ks : List (List ℕ))
       → KeyText text at i k → Skip text i j
-      → Same (InEntries text goal es at ks)
-      (InGroup text (AfterValue text goal es k) j (ks ++ k ∷ []))
+      → Same (RestOfEntries text goal es at ks)
+      (RestOfGroup text (AfterValue text goal es k) j (ks ++ k ∷ []))
   entry_begins es at i j k ks p s m = (there, back)
     where
       keys_are : (q : List ℕ) (zs js : List (List ℕ))
@@ -320,20 +323,21 @@ module _ (text : List ℕ) (goal : Goal) where
       keys_are q zs js =
           append_assoc (ks ++ q ∷ []) zs js ∙ append_assoc ks (q ∷ []) (zs ++ js)
 
-      there : InEntries text goal es at ks m
-          → InGroup text (AfterValue text goal es k) j (ks ++ k ∷ []) m
+      there : RestOfEntries text goal es at ks m
+          → RestOfGroup text (AfterValue text goal es k) j (ks ++ k ∷ []) m
       there h = of_entries h.to h.more h.keys h.entries h.closes h.distinct h.then
         where
           of_entries : (to : ℕ) (fs : List (List ℕ × Tree)) (js : List (List ℕ))
               → Entries text at to fs js → Closes text to → AreDistinct (es ++ fs)
               → goal (to + 1) (table (map_of (es ++ fs))) (ks ++ js) m
-              → InGroup text (AfterValue text goal es k) j (ks ++ k ∷ []) m
+              → RestOfGroup text (AfterValue text goal es k) j (ks ++ k ∷ []) m
           of_entries to fs js (no_entry _) c w g =
               absurd (no_string text at i _ k (key_string text at i k p) c refl)
           of_entries to fs js (one_entry _ i' j' n' o _ k' t fs' zs js' p' s' x h' y r z) c w g =
               let same = string_skipped text at i' i j' j k' k (key_string text at i' k' p') s'
               (key_string text at i k p) s in
-              let built : InGroup text (AfterValue text goal es k') j' (ks ++ k' ∷ []) m = record {
+              let built : RestOfGroup text (AfterValue text goal es k') j'
+              (ks ++ k' ∷ []) m = record {
                 to = n';
                 tree = t;
                 keys = zs;
@@ -357,12 +361,12 @@ module _ (text : List ℕ) (goal : Goal) where
                   };
                 };
               } in
-              subst (λ q. InGroup text (AfterValue text goal es q) j (ks ++ q ∷ []) m) same.1
-              (subst (λ q. InGroup text (AfterValue text goal es k') q (ks ++ k' ∷ []) m) same.0
+              subst (λ q. RestOfGroup text (AfterValue text goal es q) j (ks ++ q ∷ []) m) same.1
+              (subst (λ q. RestOfGroup text (AfterValue text goal es k') q (ks ++ k' ∷ []) m) same.0
               built)
 
-      back : InGroup text (AfterValue text goal es k) j (ks ++ k ∷ []) m
-          → InEntries text goal es at ks m
+      back : RestOfGroup text (AfterValue text goal es k) j (ks ++ k ∷ []) m
+          → RestOfEntries text goal es at ks m
       back h =
           let v = h.then in
           let r = v.rest in
@@ -388,7 +392,7 @@ module _ (text : List ℕ) (goal : Goal) where
   -- where neither a key nor a `}` stands, no entry does
   pub no_more_entries : (es : List (List ℕ × Tree)) (at : ℕ) (ks : List (List ℕ))
       → (Closes text at → ⊥) → ((i : ℕ) (k : List ℕ) → KeyText text at i k → ⊥)
-      → Never (InEntries text goal es at ks)
+      → Never (RestOfEntries text goal es at ks)
   no_more_entries es at ks a f m h = of_entries h.to h.more h.keys h.entries h.closes
     where
       of_entries : (to : ℕ) (fs : List (List ℕ × Tree)) (js : List (List ℕ))

@@ -3,7 +3,7 @@ use Rattle.std.proofs.Common.{◌≡◌, ℕ, Bool, List, []}
 use Rattle.std.proofs.Common.{subst, ap}
 use Rattle.resb_tree.specs.Tree.{Tree}
 use Rattle.resb_icu_grammar.specs.Groups.{Entries}
-use Rattle.resb_icu_grammar.specs.Inner.Rest.{InEntries}
+use Rattle.resb_icu_grammar.specs.Inner.Rest.{RestOfEntries}
 use Rattle.resb_grammar.specs.BundleText.{first_places}
 use Rattle.resb_icu_grammar.specs.Bundle.{Header, IcuText}
 use Rattle.resb_icu_grammar.specs.Inner.Rest.{AtEnd}
@@ -12,7 +12,7 @@ use Rattle.resb_icu_grammar.proofs.RestLists.{entries_distinct}
 
 -- where a bundle's text has this header, its entries follow, and the end of the text
 pub root_follows : (text name : List ℕ) (f : Bool) (a : ℕ) (t : Tree) (ks : List (List ℕ))
-    → Header text name f a → InEntries text (AtEnd text) [] a [] (t, ks)
+    → Header text name f a → RestOfEntries text (AtEnd text) [] a [] (t, ks)
     → IcuText text name f t (first_places ks)
 root_follows text name f a t ks head h = record {
   first = a;
@@ -31,7 +31,7 @@ root_follows text name f a t ks head h = record {
 pub follows_root : (text name other : List ℕ) (f g : Bool) (a : ℕ) (t : Tree)
     (ks : List (List ℕ)) → Header text name f a → IcuText text other g t ks
     → (other ≡ name) × (g ≡ f) × (places : List (List ℕ))
-    × InEntries text (AtEnd text) [] a [] (t, places) × (ks ≡ first_places places)
+    × RestOfEntries text (AtEnd text) [] a [] (t, places) × (ks ≡ first_places places)
 follows_root text name other f g a t ks head h =
     let same = Header-one text other name g f h.first a h.header head in
     let body : Entries text a h.last h.entries h.places =

@@ -13,8 +13,8 @@ use Rattle.resb_icu_grammar.specs.Groups.{BeginsArray, with_a_group}
 use Rattle.resb_icu_grammar.specs.Groups.{with_a_string}
 use Rattle.resb_icu_grammar.specs.Groups.{Entries, no_entry, one_entry}
 use Rattle.resb_icu_grammar.specs.Groups.{Untyped, an_empty_array, one_string, an_array, a_table}
-use Rattle.resb_icu_grammar.specs.Inner.Rest.{Goal, InMembers, InEntries}
-use Rattle.resb_icu_grammar.specs.Inner.Rest.{InUntyped, Same}
+use Rattle.resb_icu_grammar.specs.Inner.Rest.{Goal, RestOfMembers, RestOfEntries}
+use Rattle.resb_icu_grammar.specs.Inner.Rest.{RestOfUntyped, Same}
 use Rattle.resb_icu_grammar.specs.Inner.Rest.{Never}
 use Rattle.resb_icu_grammar.proofs.Lexical.{String-one, key_string}
 use Rattle.resb_icu_grammar.proofs.Groups.{Closes, no_string, string_skipped}
@@ -26,10 +26,10 @@ use Rattle.resb_icu_grammar.proofs.RestLists.{entries_distinct}
 module _ (text : List ℕ) (goal : Goal) where
   -- nothing stands in an empty group without a type, which is an array
   pub empty_is_array : (i : ℕ) (ks : List (List ℕ)) → Closes text i
-      → Same (InUntyped text goal i ks) (goal (i + 1) (array (trees_of [])) ks)
+      → Same (RestOfUntyped text goal i ks) (goal (i + 1) (array (trees_of [])) ks)
   empty_is_array i ks c m = (there, back)
     where
-      there : InUntyped text goal i ks m → goal (i + 1) (array (trees_of [])) ks m
+      there : RestOfUntyped text goal i ks m → goal (i + 1) (array (trees_of [])) ks m
       there h = of_untyped h.to h.tree h.keys h.content h.then
         where
           of_untyped : (to : ℕ) (t : Tree) (js : List (List ℕ)) → Untyped text i to t js
@@ -42,7 +42,7 @@ module _ (text : List ℕ) (goal : Goal) where
               (a_table _ _ _ _ _ (one_entry _ j n o q _ k v _ zs _ p l x h' y r w)) g =
               absurd (no_string text i j _ k (key_string text i j k p) c refl)
 
-      back : goal (i + 1) (array (trees_of [])) ks m → InUntyped text goal i ks m
+      back : goal (i + 1) (array (trees_of [])) ks m → RestOfUntyped text goal i ks m
       back g = record {
         to = i;
         tree = array (trees_of []);
@@ -54,15 +54,15 @@ module _ (text : List ℕ) (goal : Goal) where
 
   -- what begins as an array is one
   pub untyped_array : (i : ℕ) (ks : List (List ℕ)) → BeginsArray text i
-      → Same (InUntyped text goal i ks) (InMembers text goal nothing [] i ks)
+      → Same (RestOfUntyped text goal i ks) (RestOfMembers text goal nothing [] i ks)
   untyped_array i ks b m = (there, back)
     where
-      there : InUntyped text goal i ks m → InMembers text goal nothing [] i ks m
+      there : RestOfUntyped text goal i ks m → RestOfMembers text goal nothing [] i ks m
       there h = of_untyped h.to h.tree h.keys h.content h.closes h.then
         where
           of_untyped : (to : ℕ) (t : Tree) (js : List (List ℕ)) → Untyped text i to t js
               → Closes text to → goal (to + 1) t (ks ++ js) m
-              → InMembers text goal nothing [] i ks m
+              → RestOfMembers text goal nothing [] i ks m
           of_untyped to _ js (an_empty_array _) c g = absurd (no_array text i b c)
           of_untyped to _ js (one_string _ j _ s p k) c g =
               absurd (no_string_array text i j to s p k c b)
@@ -78,7 +78,7 @@ module _ (text : List ℕ) (goal : Goal) where
               (a_table _ _ _ _ _ (one_entry _ j n o q _ k v _ zs _ p l x h' y r w)) c g =
               absurd (no_array_table text i j n o k v zs p l x b)
 
-      back : InMembers text goal nothing [] i ks m → InUntyped text goal i ks m
+      back : RestOfMembers text goal nothing [] i ks m → RestOfUntyped text goal i ks m
       back h = record {
         to = h.to;
         tree = array (trees_of h.more);
@@ -91,10 +91,10 @@ module _ (text : List ℕ) (goal : Goal) where
   -- one string and a `}` are a String
   pub untyped_string : (i j k : ℕ) (s : List ℕ) (ks : List (List ℕ)) → Text text i j s
       → Skip text j k → Closes text k
-      → Same (InUntyped text goal i ks) (goal (k + 1) (string s) ks)
+      → Same (RestOfUntyped text goal i ks) (goal (k + 1) (string s) ks)
   untyped_string i j k s ks p l c m = (there, back)
     where
-      there : InUntyped text goal i ks m → goal (k + 1) (string s) ks m
+      there : RestOfUntyped text goal i ks m → goal (k + 1) (string s) ks m
       there h = of_untyped h.to h.tree h.keys h.content h.closes h.then
         where
           of_untyped : (to : ℕ) (t : Tree) (js : List (List ℕ)) → Untyped text i to t js
@@ -111,7 +111,7 @@ module _ (text : List ℕ) (goal : Goal) where
               (a_table _ _ _ _ _ (one_entry _ j' n o q _ y v _ zs _ x l' z h' u r w)) d g =
               absurd (no_string_table text i j j' k n o s y v zs p l x l' z c)
 
-      back : goal (k + 1) (string s) ks m → InUntyped text goal i ks m
+      back : goal (k + 1) (string s) ks m → RestOfUntyped text goal i ks m
       back g = record {
         to = k;
         tree = string s;
@@ -124,7 +124,7 @@ module _ (text : List ℕ) (goal : Goal) where
   -- a key and a group are a table
   pub untyped_table : (i j k : ℕ) (s : List ℕ) (ks : List (List ℕ)) → KeyText text i j s
       → Skip text j k → (slice_index text k ≡ ascii.left_brace) ⊎ (slice_index text k ≡ ascii.colon)
-      → Same (InUntyped text goal i ks) (InEntries text goal [] i ks)
+      → Same (RestOfUntyped text goal i ks) (RestOfEntries text goal [] i ks)
   untyped_table i j k s ks p l f m = (there, back)
     where
       p' : Text text i j s
@@ -146,11 +146,11 @@ module _ (text : List ℕ) (goal : Goal) where
           other o _ (string_skipped text i n j o k q s x y p' l).0 e (λ w. omega arith)
           (λ w. omega arith)
 
-      there : InUntyped text goal i ks m → InEntries text goal [] i ks m
+      there : RestOfUntyped text goal i ks m → RestOfEntries text goal [] i ks m
       there h = of_untyped h.to h.tree h.keys h.content h.closes h.then
         where
           of_untyped : (to : ℕ) (t : Tree) (js : List (List ℕ)) → Untyped text i to t js
-              → Closes text to → goal (to + 1) t (ks ++ js) m → InEntries text goal [] i ks m
+              → Closes text to → goal (to + 1) t (ks ++ js) m → RestOfEntries text goal [] i ks m
           of_untyped to _ js (an_empty_array _) d g = absurd (no_string text i j _ s p' d refl)
           of_untyped to _ js (one_string _ n _ q x o) d g =
               absurd (other to _ (string_skipped text i n j to k q s x o p' l).0 d
@@ -166,12 +166,12 @@ module _ (text : List ℕ) (goal : Goal) where
             then = g;
           }
 
-      back : InEntries text goal [] i ks m → InUntyped text goal i ks m
+      back : RestOfEntries text goal [] i ks m → RestOfUntyped text goal i ks m
       back h = of_entries h.to h.more h.keys h.entries h.closes h.then
         where
           of_entries : (to : ℕ) (es : List (List ℕ × Tree)) (js : List (List ℕ))
               → Entries text i to es js → Closes text to
-              → goal (to + 1) (table (map_of es)) (ks ++ js) m → InUntyped text goal i ks m
+              → goal (to + 1) (table (map_of es)) (ks ++ js) m → RestOfUntyped text goal i ks m
           of_entries to _ js (no_entry _) c g = absurd (no_string text i j _ s p' c refl)
           of_entries to _ js (one_entry _ n o q r _ y v es zs js' x l' z h' u w a) c g = record {
             to = to;
@@ -188,7 +188,7 @@ module _ (text : List ℕ) (goal : Goal) where
       → Skip text j k → (Closes text k → ⊥) → slice_index text k ≢ ascii.comma
       → ((slice_index text k ≡ ascii.left_brace) ⊎ (slice_index text k ≡ ascii.colon)
       → KeyText text i j s → ⊥)
-      → Never (InUntyped text goal i ks)
+      → Never (RestOfUntyped text goal i ks)
   no_untyped_string i j k s ks p l a b f m h = of_untyped h.to h.tree h.keys h.content h.closes
     where
       of_untyped : (to : ℕ) (t : Tree) (js : List (List ℕ)) → Untyped text i to t js
@@ -214,7 +214,7 @@ module _ (text : List ℕ) (goal : Goal) where
   -- nothing that may stand in a group without a type stands there
   pub no_untyped : (i : ℕ) (ks : List (List ℕ)) → (Closes text i → ⊥)
       → slice_index text i ≢ ascii.left_brace → slice_index text i ≢ ascii.colon
-      → ((j : ℕ) (s : List ℕ) → Text text i j s → ⊥) → Never (InUntyped text goal i ks)
+      → ((j : ℕ) (s : List ℕ) → Text text i j s → ⊥) → Never (RestOfUntyped text goal i ks)
   no_untyped i ks a b d f m h = of_untyped h.to h.tree h.keys h.content h.closes
     where
       of_untyped : (to : ℕ) (t : Tree) (js : List (List ℕ)) → Untyped text i to t js

@@ -1,12 +1,14 @@
 -- Where a reading of a text in ICU's form cannot go on, and what was expected there.
 use Rattle.std.specs.Prelude.{◌≡◌, ◌≢◌, ◌+◌, ◌<◌, ◌&&◌, ◌==◌, ℕ, Bool, true, false, None, List, []}
-use Rattle.std.specs.Prelude.{◌∷◌, length, slice_index}
+use Rattle.std.specs.Prelude.{◌∷◌, length, slice_index, if◌then◌else◌}
 use Rattle.resb_grammar.specs.Ascii as ascii
 use Rattle.resb_grammar.specs.Group.{hex_bytes}
 use Rattle.resb_grammar.specs.GroupTypes.{Kind, string_kind, binary_kind, integer_kind, vector_kind}
+use Rattle.resb_grammar.specs.GroupTypes.{Names}
 use Rattle.resb_tree.specs.Tree.{Tree}
 use Rattle.resb_icu_grammar.specs.Blanks.{Begins, Skip}
-use Rattle.resb_icu_grammar.specs.Words.{Text, KeyText, Name, Number, GroupType, RootType}
+use Rattle.resb_icu_grammar.specs.Words.{Text, KeyText, Name, Number, TypeName, GroupType, RootType}
+use Rattle.resb_icu_grammar.specs.Expected.{instead_of}
 use Rattle.resb_icu_grammar.specs.Bundle.{Header}
 use Rattle.resb_icu_grammar.specs.Groups.{Last, is_member, ends_in_string, is_collation}
 use Rattle.resb_icu_grammar.specs.Groups.{holds_entries}
@@ -37,6 +39,20 @@ quoted_if false x = x
 -- a string or this was expected, by the byte that stands there
 abbrev pub string_or : ℕ → IcuExpected → IcuExpected
 string_or b x = quoted_if (b == ascii.quote) x
+
+-- what was expected where no member, comma or `}` stands among the members of an array: a comma may
+-- stand behind a member alone
+abbrev pub member_behind : Last → IcuExpected
+member_behind last = if is_member last then expect.CommaOrMember else expect.Member
+
+-- at a `:` no type of a group stands, where this was expected
+pub data TypeStuck (text : List ℕ) (at : ℕ) : IcuExpected → Type 0 where
+  -- no name stands behind it
+  no_type_name : ((to : ℕ) (name : List ℕ) → TypeName text at to name → ⊥)
+      → TypeStuck text at expect.GroupType
+  -- a name, which is of no type that a tree has
+  no_tree : (to : ℕ) (name : List ℕ) → TypeName text at to name
+      → ((kind : Kind) → Names name kind → ⊥) → TypeStuck text at (instead_of name)
 
 -- some numbers, with a comma behind each
 pub data NumbersSoFar (text : List ℕ) : ℕ → ℕ → Type 0 where
@@ -69,66 +85,65 @@ pub data LeafStuck (text : List ℕ) (from : ℕ) : Kind → ℕ → IcuExpected
       → LeafStuck text from integer_kind j expect.RightBrace
   -- in `:intvector{..}` a number or `}`, and behind a number a comma or `}`
   no_number : (at : ℕ) → NumbersSoFar text from at → slice_index text at ≢ ascii.right_brace
-      → NoNumberAt text at → LeafStuck text from vector_kind at expect.Number
+      → NoNumberAt text at → LeafStuck text from vector_kind at expect.NumberOrRightBrace
   open_vector : (at i j v : ℕ) → NumbersSoFar text from at → Number text at i v → Skip text i j
       → slice_index text j ≢ ascii.comma → slice_index text j ≢ ascii.right_brace
-      → LeafStuck text from vector_kind j expect.RightBrace
+      → LeafStuck text from vector_kind j expect.CommaOrRightBrace
 
 -- a reading that stands somewhere cannot go on at a place, where this was expected
-pub data Blocked (text : List ℕ) : Standing → ℕ → ℕ → IcuExpected → Type 0 where
+pub data StepStuck (text : List ℕ) : Standing → ℕ → ℕ → IcuExpected → Type 0 where
   -- no member, comma or `}` stands among the members of an array
   no_member : (last : Last) (ts : List Tree) (at : ℕ) → slice_index text at ≢ ascii.right_brace
       → slice_index text at ≢ ascii.comma → (BeginsGroup text at → ⊥) → NoStringAt text at
-      → Blocked text (among_members last ts) at at
-      (string_or (slice_index text at) expect.Member)
+      → StepStuck text (among_members last ts) at at
+      (string_or (slice_index text at) (member_behind last))
   -- a string right behind a string
   two_strings : (last : Last) (ts : List Tree) (at i : ℕ) (s : List ℕ) → ends_in_string last ≡ true
-      → Text text at i s → Blocked text (among_members last ts) at at expect.Comma
+      → Text text at i s → StepStuck text (among_members last ts) at at expect.Comma
   -- a comma behind no member
   lone_comma : (last : Last) (ts : List Tree) (at : ℕ) → is_member last ≡ false
       → slice_index text at ≡ ascii.comma
-      → Blocked text (among_members last ts) at at expect.Member
+      → StepStuck text (among_members last ts) at at expect.Member
   -- a `}` behind entries among which a key stands twice
   key_twice : (es : List (List ℕ × Tree)) (at : ℕ) → slice_index text at ≡ ascii.right_brace
-      → (AreDistinct es → ⊥) → Blocked text (among_entries es) at at expect.KeysOnce
+      → (AreDistinct es → ⊥) → StepStuck text (among_entries es) at at expect.KeysOnce
   -- neither a key nor a `}` among entries
   no_entry : (es : List (List ℕ × Tree)) (at : ℕ) → slice_index text at ≢ ascii.right_brace
-      → NoKeyAt text at → Blocked text (among_entries es) at at expect.Entry
+      → NoKeyAt text at → StepStuck text (among_entries es) at at expect.Entry
   -- neither `{` nor `:` where a group must stand
-  no_group : (at : ℕ) → (BeginsGroup text at → ⊥) → Blocked text before_group at at expect.Group
+  no_group : (at : ℕ) → (BeginsGroup text at → ⊥) → StepStuck text before_group at at expect.Group
   -- a `:` that begins no type
-  no_type : (at : ℕ) → slice_index text at ≡ ascii.colon
-      → ((to : ℕ) (kind : Kind) → GroupType text at to kind → ⊥)
-      → Blocked text before_group at at expect.GroupType
+  no_type : (at : ℕ) (x : IcuExpected) → slice_index text at ≡ ascii.colon → TypeStuck text at x
+      → StepStuck text before_group at at x
   -- a type without a `{`
   no_brace : (at i j : ℕ) (kind : Kind) → GroupType text at i kind → Skip text i j
       → slice_index text j ≢ ascii.left_brace
-      → Blocked text before_group at j expect.LeftBrace
+      → StepStuck text before_group at j expect.LeftBrace
   -- nothing that a group without a type may hold
   no_content : (at : ℕ) → slice_index text at ≢ ascii.right_brace → (BeginsGroup text at → ⊥)
       → NoStringAt text at
-      → Blocked text in_untyped at at (string_or (slice_index text at) expect.Member)
+      → StepStuck text in_untyped at at (string_or (slice_index text at) expect.Member)
   -- a string first in a group without a type, and nothing behind it that may stand there
   no_further : (at i j : ℕ) (s : List ℕ) → Text text at i s → Skip text i j
       → slice_index text j ≢ ascii.right_brace → slice_index text j ≢ ascii.comma
-      → (BeginsGroup text j → ⊥) → Blocked text in_untyped at j expect.AfterString
+      → (BeginsGroup text j → ⊥) → StepStuck text in_untyped at j expect.AfterString
   -- a string that may be no key, and a group behind it
   no_key : (at i j : ℕ) (s : List ℕ) → Text text at i s → Skip text i j → BeginsGroup text j
-      → NoKeyAt text at → Blocked text in_untyped at at expect.Key
+      → NoKeyAt text at → StepStuck text in_untyped at at expect.Key
   -- the content of a group with a type
   in_leaf : (kind : Kind) (at to : ℕ) (x : IcuExpected) → LeafStuck text at kind to x
-      → Blocked text (in_typed kind) at to x
+      → StepStuck text (in_typed kind) at to x
 
 -- a group has ended, and a reading cannot go on at a place, where this was expected
-pub data EndBlocked (text : List ℕ) (t : Tree) (at : ℕ)
+pub data EndStuck (text : List ℕ) (t : Tree) (at : ℕ)
     : List Waiting → ℕ → IcuExpected → Type 0 where
   -- rules of collation
   a_collation : (ws : List Waiting) (es : List (List ℕ × Tree)) (k : List ℕ)
       → (is_collation k && holds_entries t) ≡ true
-      → EndBlocked text t at (in_table es k ∷ ws) at expect.NoCollation
+      → EndStuck text t at (in_table es k ∷ ws) at expect.NoCollation
   -- more than blanks behind the root
   more_text : (end : ℕ) → Skip text at end → end < length text
-      → EndBlocked text t at [] end expect.EndOfText
+      → EndStuck text t at [] end expect.EndOfText
 
 -- a reading cannot go on before the first entry, at this place, where this was expected
 pub data HeadStuck (text : List ℕ) : ℕ → IcuExpected → Type 0 where
@@ -148,17 +163,17 @@ pub data HeadStuck (text : List ℕ) : ℕ → IcuExpected → Type 0 where
       → slice_index text brace ≢ ascii.left_brace → HeadStuck text brace expect.LeftBrace
 
 -- a reading cannot go on at a place, where this was expected
-pub data Halts (text : List ℕ) : Reading → ℕ → IcuExpected → Type 0 where
+pub data ReadStuck (text : List ℕ) : Reading → ℕ → IcuExpected → Type 0 where
   inside : (ws : List Waiting) (ks : List (List ℕ)) (s : Standing) (at to : ℕ) (x : IcuExpected)
-      → Blocked text s at to x → Halts text (reading_at ws ks s at) to x
+      → StepStuck text s at to x → ReadStuck text (reading_at ws ks s at) to x
   behind : (ws : List Waiting) (ks : List (List ℕ)) (t : Tree) (at to : ℕ) (x : IcuExpected)
-      → EndBlocked text t at ws to x → Halts text (reading_at ws ks (behind_group t) at) to x
+      → EndStuck text t at ws to x → ReadStuck text (reading_at ws ks (behind_group t) at) to x
 
 -- from one place on a reading comes to a place where it cannot go on
 pub record StuckFrom (text : List ℕ) (from : Reading) (to : ℕ) (x : IcuExpected) : Type 0 where
   pub last : Reading
   pub comes : Comes text from last
-  pub halts : Halts text last to x
+  pub there : ReadStuck text last to x
 
 -- a reading of the text gets stuck at this place, where this was expected: before the first entry
 -- of the root, or behind it

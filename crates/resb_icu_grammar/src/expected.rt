@@ -1,7 +1,7 @@
 //! What a reading of ICU's text form expects at the place where it gets stuck.
 //! In which state of a reading each is expected is said in `specs/Stuck`; no text is read here.
-ghost use Rattle.std.specs.Prelude.{Some};
-ghost use Rattle.resb_icu_grammar.specs.Expected.{item_of};
+ghost use Rattle.std.specs.Prelude.{◌≡◌, Some};
+ghost use Rattle.resb_icu_grammar.specs.Expected.{item_of, instead_of};
 
 use std::fmt;
 
@@ -14,10 +14,20 @@ pub enum IcuExpected {
     RootType,
     /// A type that this form has.
     GroupType,
+    /// A type that makes a tree, and not `:alias`.
+    NoAlias,
+    /// A type that makes a tree, and not `:import`.
+    NoImport,
+    /// A type that makes a tree, and not `:include`.
+    NoInclude,
+    /// A type that makes a tree, and not `:process(..)`.
+    NoProcess,
     /// The `{` of a group or of the bundle.
     LeftBrace,
-    /// The `}` of a group with a type, behind the one string or the numbers that it holds.
+    /// The `}` of a group with a type, behind the one string or number that it holds.
     RightBrace,
+    /// A comma behind a number of a vector, or the `}` of the vector.
+    CommaOrRightBrace,
     /// A group, which begins with `{` or with a type.
     Group,
     /// A string.
@@ -30,8 +40,12 @@ pub enum IcuExpected {
     HexPairs,
     /// A decimal number of 32 bits without a leading zero.
     Number,
+    /// A number of a vector, or its `}`.
+    NumberOrRightBrace,
     /// A member of an array, or its `}`; or what begins a group without a type.
     Member,
+    /// A comma behind a member of an array, another member, or the `}`.
+    CommaOrMember,
     /// A key, or the `}` of the table.
     Entry,
     /// A comma between two strings of an array.
@@ -56,15 +70,22 @@ impl fmt::Display for IcuExpected {
             IcuExpected::Name => "the name of the bundle",
             IcuExpected::RootType => "'table' or 'table(nofallback)'",
             IcuExpected::GroupType => "a type",
+            IcuExpected::NoAlias => "a type of a tree, and 'alias' is none",
+            IcuExpected::NoImport => "a type of a tree, and 'import' is none",
+            IcuExpected::NoInclude => "a type of a tree, and 'include' is none",
+            IcuExpected::NoProcess => "a type of a tree, and 'process' is none",
             IcuExpected::LeftBrace => "'{'",
             IcuExpected::RightBrace => "'}'",
+            IcuExpected::CommaOrRightBrace => "a comma or '}'",
             IcuExpected::Group => "'{' or a type",
             IcuExpected::String => "a string",
             IcuExpected::Quoted => "a quoted string that is closed, with known escapes",
             IcuExpected::Key => "a string that may be a key",
             IcuExpected::HexPairs => "pairs of hex digits",
             IcuExpected::Number => "a number",
+            IcuExpected::NumberOrRightBrace => "a number or '}'",
             IcuExpected::Member => "a resource or '}'",
+            IcuExpected::CommaOrMember => "a comma, a resource or '}'",
             IcuExpected::Entry => "a key or '}'",
             IcuExpected::Comma => "a comma between two strings",
             IcuExpected::AfterString => "'}', a comma, '{' or a type",
@@ -74,5 +95,22 @@ impl fmt::Display for IcuExpected {
             IcuExpected::Memory => "memory",
         };
         write!(f, "{item}")
+    }
+}
+
+/// What was expected in place of a type of this name, which no tree has.
+pub fn instead_of(name: &str) -> IcuExpected
+    ensures { result ≡ instead_of name.now }
+{
+    if name == "alias" {
+        IcuExpected::NoAlias
+    } else if name == "import" {
+        IcuExpected::NoImport
+    } else if name == "include" {
+        IcuExpected::NoInclude
+    } else if name == "process" {
+        IcuExpected::NoProcess
+    } else {
+        IcuExpected::GroupType
     }
 }

@@ -9,5 +9,5 @@ mod expected;
 mod keys;
 pub mod laws;
 
-pub use expected::IcuExpected;
+pub use expected::{IcuExpected, instead_of};
 pub use keys::{are_key_bytes, is_collation, is_table, is_word};

@@ -27,7 +27,7 @@ use Rattle.resb_print.proofs.Bundles.{stands}
 use Rattle.resb_tree.proofs.MapsLemmas.{map_of-pairs_of}
 use Rattle.resb_icu_print.specs.Printed.{is_bare, entries_on, printed_icu_bundle}
 use Rattle.resb_icu_print.specs.Causes.{TakenIn, causes_in_else, first_cause, SaysIcuCause}
-use Rattle.resb_icu_print.specs.Laws.{HasNoIcuText}
+use Rattle.resb_icu_print.specs.Laws.{NoTextHas}
 use Rattle.resb_icu_print.specs.Inner.Jobs.{ArePrinted}
 use Rattle.resb_icu_print.specs.declared.cause.IcuCause.{IcuCause}
 use Rattle.resb_icu_print.specs.declared.cause.IcuCause.TheVariants.{NameIsNoWord}
@@ -194,7 +194,7 @@ whole text own f es t s3 s4 same w bare r =
 
 -- a cause is in the way of each text
 pub no_text : (name : List ℕ) (f : Bool) (t : Tree) (e : IcuPrintError)
-    → SaysIcuCause e (first_cause name t) → (e ≡ OutOfMemory) ⊎ HasNoIcuText name f t
+    → SaysIcuCause e (first_cause name t) → (e ≡ OutOfMemory) ⊎ NoTextHas name f t
 no_text name f t e (inl h) = inl h
 no_text name f t e (inr (x, h, found)) =
     inr (λ text keys b. none_some x (sym (no_cause text name f t keys b) ∙ found))

@@ -1,13 +1,13 @@
 -- There is a path to the first cause exactly where there is a cause.
 use Rattle.std.proofs.Common.{◌≡◌, ℕ, suc, Bool, true, false, not, List, [], ◌∷◌, ◌++◌, refl}
-use Rattle.std.proofs.Common.{Option, Some, None}
+use Rattle.std.proofs.Common.{Option, None}
 use Rattle.std.specs.Prelude.{◌||◌, is_some}
 use Rattle.resb_tree.specs.Tree.{Tree, string, array, table, binary, integer, int_vector, Trees}
 use Rattle.resb_tree.specs.Tree.{no_trees, more_trees, Entries, no_entries, entry}
 use Rattle.resb_print.specs.Paths.{Step, by_key, by_number, path_if, path_else, member_path_else}
 use Rattle.resb_print.specs.Paths.{entry_path_else}
 use Rattle.resb_icu_print.specs.declared.cause.IcuCause.{IcuCause}
-use Rattle.resb_icu_print.specs.Causes.{is_icu_key, has_collation, cause_if, key_cause_else}
+use Rattle.resb_icu_print.specs.Causes.{is_icu_key, has_collation, cause_if}
 use Rattle.resb_icu_print.specs.Causes.{cause_else, causes_else, causes_in_else, first_cause}
 use Rattle.resb_icu_print.specs.CausePaths.{icu_tests, icu_cause_path}
 use Rattle.resb_icu_print.specs.Printed.{is_bare}

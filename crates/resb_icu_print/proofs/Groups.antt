@@ -40,8 +40,9 @@ use Rattle.resb_icu_print.specs.Causes.{IsTaken, AreTaken, TakenIn, has_collatio
 use Rattle.resb_icu_grammar.specs.Bytes.{are_key_bytes}
 use Rattle.resb_print.specs.Quotes.{has_quote}
 use Rattle.resb_icu_print.proofs.Places.{solid_at, no_skip, line_blanks}
-use Rattle.resb_icu_print.proofs.Strings.{IsStop, piece_read, quoted_read, key_read, hex_key, flip}
+use Rattle.resb_icu_print.proofs.Strings.{IsStop, piece_read, quoted_read, key_read, hex_key}
 use Rattle.resb_icu_print.proofs.Numbers.{number_read, vector_read, head_at}
+use Rattle.resb_icu_print.proofs.Lists.{false_from_not}
 
 -- a key is new among those that it is below
 less_new : (k : List ℕ) (es : Entries) → AllByRecursion (λ y. text_cmp k y ≡ Less) (entry_keys es)
@@ -218,7 +219,7 @@ module _ (text : List ℕ) where
       subst (λ l. From text p (key_on k l)) s.is f in
       let own_key = and_parts (are_key_bytes k) (not (has_quote k)) key in
       let (solid, (q, named, f3)) =
-      key_read text k s.b s.more s.stop own_key.0 (flip (has_quote k) own_key.1) f2 in
+      key_read text k s.b s.more s.stop own_key.0 (false_from_not (has_quote k) own_key.1) f2 in
       let there : IsSolid text q = solid_at text f3 s.stop.no_white s.stop.no_slash in
       let own = group q (subst (From text q) (sym s.is) f3) in
       let others = more own.to own.after in

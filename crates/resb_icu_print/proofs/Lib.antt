@@ -1,3 +1,4 @@
+mod Lists
 pub mod Places
 pub mod Strings
 pub mod Numbers

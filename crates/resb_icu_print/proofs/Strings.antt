@@ -5,7 +5,7 @@ use Rattle.std.proofs.Common.{append_assoc, append-nil, encode_utf8, inl, inr}
 use Rattle.std.specs.Prelude.{slice_index, ◌==◌, cond, codes, not, ◌&&◌, ◌||◌, nat_le, nat_lt}
 use Rattle.std.specs.Char.{is_ascii_alphanumeric}
 use Rattle.std.specs.List.{list_any}
-use Rattle.std.proofs.lemmas.Bool.{false≢true, and_parts, and_from, or_from, cases_lt}
+use Rattle.std.proofs.lemmas.Bool.{false≢true, and_parts, and_from, or_from, cases_lt, or_parts}
 use Rattle.std.proofs.lemmas.Bool.Decides.{nat_tests}
 use Rattle.std.proofs.lemmas.Str.{encode_ascii, inside_one}
 use Rattle.hex.specs.Hex.{encode_lower, encode_with}
@@ -27,6 +27,7 @@ use Rattle.resb_print.proofs.Groups.{digit_of, reads_back, all_below, below_pass
 use Rattle.resb_icu_print.specs.Printed.{is_control, is_marked, escaped_on, inside_on, piece_on}
 use Rattle.resb_icu_print.specs.Printed.{are_words, is_bare, key_on}
 use Rattle.resb_icu_print.proofs.Places.{byte_near, same_place, solid_at, no_skip}
+use Rattle.resb_icu_print.proofs.Lists.{but_parts, false_from_not, unequal_to}
 
 -- a byte behind which a string or key ends
 pub record IsStop (b : ℕ) : Type 0 where
@@ -49,10 +50,6 @@ word_key b h =
     let l : b < 128 = grind (arith, nat_tests) in
     let e = below_passes word_is_key 128 b words_are_keys l in
     sym (ap (λ t. not t || is_key_byte b) h) ∙ e
-
-key_parts : (a b : Bool) → not (not a || b) ≡ true → (a ≡ true) × (not b ≡ true)
-key_parts true b h = (refl, h)
-key_parts false b h = absurd (false≢true h)
 
 pub key_more : (b : ℕ) (k : List ℕ) → is_key_byte b ≡ true → are_key_bytes k ≡ true
     → are_key_bytes (b ∷ k) ≡ true
@@ -108,14 +105,6 @@ keys_are_plain : all_below key_is_plain 128 ≡ true
 unfolding all_below key_is_plain
 keys_are_plain = refl
 
-or_parts : (a b : Bool) → (a || b) ≡ false → (a ≡ false) × (b ≡ false)
-or_parts true b h = absurd (false≢true (sym h))
-or_parts false b h = (refl, h)
-
-pub flip : (b : Bool) → not b ≡ true → b ≡ false
-flip true e = absurd (false≢true e)
-flip false e = refl
-
 key_byte_low : (b : ℕ) → is_key_byte b ≡ true → b < 128
 key_byte_low b h =
     let p = and_parts (nat_le 32 b && nat_le b 126) _ h in
@@ -131,13 +120,13 @@ key_byte_plain b h q =
     sym (ap (λ t. not t || ((b == ascii.quote) || (not (is_marked b) && not (is_control b)))) h
     ∙ ap (λ t. t || (not (is_marked b) && not (is_control b))) q) ∙ e in
     let p = and_parts (not (is_marked b)) (not (is_control b)) f in
-    (flip (is_marked b) p.0, flip (is_control b) p.1)
+    (false_from_not (is_marked b) p.0, false_from_not (is_control b) p.1)
 
 pub key_plain : (k rest : List ℕ) → are_key_bytes k ≡ true → NoQuote k
     → inside_on k rest ≡ k ++ rest
 key_plain [] rest h free = refl
 key_plain (b ∷ k) rest h free =
-    let p = key_parts (is_key_byte b) _ h in
+    let p = but_parts (is_key_byte b) _ h in
     let f = or_parts (b == ascii.quote) (has_quote k) free in
     let q = key_byte_plain b p.0 f.0 in
     rw (q.0, q.1) (ap (λ l. b ∷ l) (key_plain k rest p.1 f.1))
@@ -147,8 +136,8 @@ key_no_escape : (k : List ℕ) → are_key_bytes k ≡ true → (i : ℕ)
 key_no_escape [] h zero e = absurd (omega (arith, e))
 key_no_escape [] h (suc i) e = absurd (omega (arith, e))
 key_no_escape (b ∷ k) h zero e =
-    false≢true (sym (ap is_key_byte e) ∙ (key_parts (is_key_byte b) _ h).0)
-key_no_escape (b ∷ k) h (suc i) e = key_no_escape k (key_parts (is_key_byte b) _ h).1 i e
+    false≢true (sym (ap is_key_byte e) ∙ (but_parts (is_key_byte b) _ h).0)
+key_no_escape (b ∷ k) h (suc i) e = key_no_escape k (but_parts (is_key_byte b) _ h).1 i e
 
 module _ (text : List ℕ) where
   -- a control character by its number
@@ -366,12 +355,5 @@ plain_character c rest m k = elim (cases_lt c 128) [
     ]
 
 -- what tests of a character told
-pub unequal_to : (b n : ℕ) → (b ≡ n → ⊥) → (b == n) ≡ false
-unequal_to b n h = by (b == n) refl
-  where
-    by : (t : Bool) → (b == n) ≡ t → (b == n) ≡ false
-    by false e = e
-    by true e = let f : b ≡ n = grind (arith, nat_tests) in absurd (h f)
-
 pub no_control : (b : ℕ) → 32 ≤ b → (b ≡ 127 → ⊥) → is_control b ≡ false
 no_control b l h = or_from (nat_lt b 32) (b == 127) (grind (arith, nat_tests)) (unequal_to b 127 h)

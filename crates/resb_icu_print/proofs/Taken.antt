@@ -37,6 +37,7 @@ use Rattle.resb_icu_print.specs.Printed.{are_words, is_bare}
 use Rattle.resb_icu_print.specs.Causes.{is_icu_key, has_collation, IsTaken, AreTaken, TakenIn}
 use Rattle.resb_icu_print.specs.Causes.{cause_if, key_cause_else, cause_else, causes_else}
 use Rattle.resb_icu_print.specs.Causes.{causes_in_else, first_cause}
+use Rattle.resb_icu_print.proofs.Lists.{true_from_not}
 
 -- a byte that is no quote, before others
 free_more : (b : ℕ) (s : List ℕ) → b ≢ ascii.quote → NoQuote s → NoQuote (b ∷ s)
@@ -234,10 +235,6 @@ none_if : (b : Bool) (x : IcuCause) (later : Option IcuCause) → cause_if b x l
 none_if true x later e = absurd (cc)
 none_if false x later e = (refl, e)
 
-flip_not : (b : Bool) → not b ≡ false → b ≡ true
-flip_not true e = refl
-flip_not false e = absurd (false≢true (sym e))
-
 mutual
   no_cause_taken : (t : Tree) (later : Option IcuCause) → cause_else t later ≡ None
       → IsTaken t × (later ≡ None)
@@ -266,14 +263,14 @@ mutual
       let b = none_if (has_collation k t) TableOfCollations rest a.1 in
       let c = no_cause_taken t (causes_in_else es later) b.1 in
       let d = none_in_taken es later c.1 in
-      ((flip_not (is_icu_key k) a.0, b.0, c.0, d.0), d.1)
+      ((true_from_not (is_icu_key k) a.0, b.0, c.0, d.0), d.1)
 
 pub none_named : (name : List ℕ) (later : Option IcuCause)
     → cause_if (not (is_bare name)) NameIsNoWord later ≡ None
     → (is_bare name ≡ true) × (later ≡ None)
 none_named name later h =
     let a = none_if (not (is_bare name)) NameIsNoWord later h in
-    (flip_not (is_bare name) a.0, a.1)
+    (true_from_not (is_bare name) a.0, a.1)
 
 -- a name of word characters
 run_words : (name : List ℕ) → ((k : ℕ) → k < length name → is_word (slice_index name k) ≡ true)

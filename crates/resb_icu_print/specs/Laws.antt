@@ -9,8 +9,8 @@ use Rattle.resb_icu_print.specs.CausePaths.{icu_cause_path}
 use Rattle.resb_icu_print.specs.Sizes.{icu_text_limit}
 
 -- no text of ICU's form has this name, flag and tree
-abbrev pub HasNoIcuText : List ℕ → Bool → Tree → Type 0
-HasNoIcuText name fallback t =
+abbrev pub NoTextHas : List ℕ → Bool → Tree → Type 0
+NoTextHas name fallback t =
     (text : List ℕ) (keys : List (List ℕ)) → IcuText text name fallback t keys → ⊥
 
 -- where there is no cause, the printed text is a bundle of that name, flag and tree

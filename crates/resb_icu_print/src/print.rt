@@ -6,7 +6,7 @@ ghost use Rattle.resb_tree.specs.Bundle.{name_of, root_of};
 ghost use Rattle.resb_tree.specs.View.{entries_view};
 ghost use Rattle.resb_icu_grammar.specs.Bundle.{IcuText};
 ghost use Rattle.resb_icu_print.specs.Causes.{causes_in_else, first_cause, SaysIcuCause};
-ghost use Rattle.resb_icu_print.specs.Laws.{HasNoIcuText};
+ghost use Rattle.resb_icu_print.specs.Laws.{NoTextHas};
 ghost use Rattle.resb_icu_print.specs.Printed.{IsIcuBundleText};
 ghost use Rattle.resb_icu_print.specs.Sizes.{icu_text_limit};
 ghost use Rattle.resb_icu_print.specs.Inner.Jobs.{ArePrinted};
@@ -52,7 +52,7 @@ pub fn print_icu_text(alloc: Global, bundle: &ResourceBundle<'_>) -> Result<Stri
     ensures refusal { IfErr result (λ e.
         SaysIcuCause e (first_cause (name_of bundle.now) (root_of bundle.now))) }
     ensures none { IfErr result (λ e. (e ≡ IcuPrintError.OutOfMemory)
-        ⊎ HasNoIcuText (name_of bundle.now) bundle.now.is_locale_fallback_enabled
+        ⊎ NoTextHas (name_of bundle.now) bundle.now.is_locale_fallback_enabled
         (root_of bundle.now)) }
 {
     let Resource::Table(table) = bundle.root() else {

@@ -18,6 +18,8 @@ use Rattle.resb_tree.specs.declared.resource.Resource.{Resource}
 use Rattle.resb_tree.proofs.AtOnce.{inserted, insert_is_put, made, turned}
 use Rattle.resb_icu_grammar.specs.Groups.{is_new}
 use Rattle.resb_icu_grammar.specs.Machine.{AreDistinct}
+use Rattle.resb_icu_text.proofs.Lists.{nor_parts, cond_at_most, none_from_not_some}
+use Rattle.resb_icu_text.proofs.Lists.{false_from_one_more}
 
 -- none of the pairs has a key of these entries
 abbrev AreNewTo : List (List ℕ × Resource) → List (List ℕ × Resource) → Type 0
@@ -36,17 +38,13 @@ put_found : (b : Bool) (o v : Option Resource) → is_some v ≡ true → cond b
 put_found true o v s h = absurd (false≢true (sym (ap is_some h) ∙ s))
 put_found false o v s h = (refl, h)
 
-neither : (a b : Bool) → not (a || b) ≡ true → (a ≡ false) × (not b ≡ true)
-neither true b h = absurd (false≢true h)
-neither false b h = (refl, h)
-
 -- where the key of an entry is new, each key of the later ones is another and stays new to a map
 -- that has it
 put_new : (es ps : List (List ℕ × Resource)) (k : List ℕ) (v : Resource)
     → is_new k (pairs_view ps) ≡ true → AreNewTo es ps → AreNewTo (fin.put text_cmp k v es) ps
 put_new es [] k v h n = tt
 put_new es (p ∷ ps) k v h n =
-    let two = neither _ _ (sym (is_new-cons k (p.0, tree_of p.1) (pairs_view ps)) ∙ h) in (
+    let two = nor_parts _ _ (sym (is_new-cons k (p.0, tree_of p.1) (pairs_view ps)) ∙ h) in (
       fin.find-put text_cmp nat_list_cmp_total p.0 k v es
           ∙ ap (λ b. cond b (Some v) (fin.find text_cmp p.0 es)) (turned p.0 k ∙ two.0) ∙ n.0,
       put_new es ps k v two.1 n.1,
@@ -92,10 +90,6 @@ count_distinct es (p ∷ ps) s d n =
     ∙ ap (λ o. cond (is_some o) (length es) (length es + 1)) n.0 in
     omega (arith, more, one)
 
-at_most_one : (b : Bool) (n : ℕ) → cond b n (n + 1) ≤ n + 1
-at_most_one true n = omega arith
-at_most_one false n = omega arith
-
 -- pairs are at most as many more entries
 count_most : (es ps : List (List ℕ × Resource)) → T (fin.is_sorted text_cmp es)
     → length (inserted es ps) ≤ length es + length ps
@@ -105,16 +99,8 @@ count_most es (p ∷ ps) s =
     let one : length (insert_entry text_cmp es p.0 p.1)
     ≡ cond (is_some (fin.find text_cmp p.0 es)) (length es) (length es + 1) =
     ap length (insert_is_put es p.0 p.1) ∙ length_put es p.0 p.1 s in
-    let most = at_most_one (is_some (fin.find text_cmp p.0 es)) (length es) in
+    let most = cond_at_most (is_some (fin.find text_cmp p.0 es)) (length es) in
     omega (arith, more, one, most)
-
-is_none : {A : Type 0} (o : Option A) → is_some o ≡ false → o ≡ None
-is_none None h = refl
-is_none (Some a) h = absurd (false≢true (sym h))
-
-one_more : (b : Bool) (n m : ℕ) → m ≡ cond b n (n + 1) → m ≡ n + 1 → b ≡ false
-one_more true n m h g = absurd (omega (arith, h, g))
-one_more false n m h g = refl
 
 -- where pairs are as many more entries, their keys are distinct and new
 distinct_count : (es ps : List (List ℕ × Resource)) → T (fin.is_sorted text_cmp es)
@@ -129,10 +115,10 @@ distinct_count es (p ∷ ps) s h =
     ≡ cond (is_some (fin.find text_cmp p.0 es)) (length es) (length es + 1) =
     ap length e ∙ length_put es p.0 p.1 s in
     let most = count_most now ps sorted in
-    let low = at_most_one (is_some (fin.find text_cmp p.0 es)) (length es) in
+    let low = cond_at_most (is_some (fin.find text_cmp p.0 es)) (length es) in
     let exact : length now ≡ length es + 1 = omega (arith, h, most, one, low) in
     let found : fin.find text_cmp p.0 es ≡ None =
-    is_none _ (one_more _ (length es) (length now) one exact) in
+    none_from_not_some _ (false_from_one_more _ (length es) (length now) one exact) in
     let more = distinct_count now ps sorted (omega (arith, h, exact)) in
     let behind = new_put es ps p.0 p.1 (subst (λ xs. AreNewTo xs ps) e more.1) in
     ((behind.0, more.0), (found, behind.1))

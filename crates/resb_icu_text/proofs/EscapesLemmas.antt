@@ -1,10 +1,10 @@
 -- Laws of hex digits and escapes, as the reader's functions use them.
-use Rattle.std.proofs.Common.{◌≡◌, ◌≢◌, ℕ, ◌+◌, ◌-◌, ◌*◌, ◌<◌, ◌≤◌, Bool, true, false, List, []}
+use Rattle.std.proofs.Common.{◌≡◌, ◌≢◌, ℕ, ◌+◌, ◌-◌, ◌*◌, ◌<◌, ◌≤◌, true, false, List, []}
 use Rattle.std.proofs.Common.{◌∷◌}
 use Rattle.std.proofs.Common.{length, arith, subst, sym, ap, ◌∙◌, encode_utf8, lit≤}
 use Rattle.std.proofs.lemmas.Str.{encode_ascii}
-use Rattle.std.specs.Prelude.{◌&&◌, slice_index}
-use Rattle.std.proofs.lemmas.Bool.{false≢true, and_parts}
+use Rattle.std.specs.Prelude.{slice_index}
+use Rattle.std.proofs.lemmas.Bool.{false≢true, and_parts, and_from}
 use Rattle.std.proofs.lemmas.Bool.Decides.{nat_tests}
 use Rattle.std.specs.Char.{is_ascii_alphanumeric}
 use Rattle.resb_grammar.specs.Group.{is_hex, hex_value}
@@ -15,10 +15,6 @@ use Rattle.resb_icu_grammar.specs.Escapes.{is_surrogate}
 
 pub hex_some : (b : ℕ) → is_hex b ≡ true → 0 < b
 hex_some b h = grind (arith, nat_tests, h)
-
-both : (a b : Bool) → a ≡ true → b ≡ true → (a && b) ≡ true
-both true b e f = f
-both false b e f = absurd (false≢true e)
 
 module _ (text : List ℕ) (from : ℕ) where
   -- four hex digits, and the number that they say
@@ -35,7 +31,7 @@ module _ (text : List ℕ) (from : ℕ) where
       subst (λ n. is_hex (slice_index text n) ≡ true) (sym z) h in
       let e0 : a ≡ hex_value (slice_index text (from + 0)) =
       subst (λ n. a ≡ hex_value (slice_index text n)) (sym z) e in
-      (both _ _ (both _ _ (both _ _ h0 h1) h2) h3, omega (arith, is, e0, e1, e2, e3))
+      (and_from _ _ (and_from _ _ (and_from _ _ h0 h1) h2) h3, omega (arith, is, e0, e1, e2, e3))
 
   -- each of four hex digits is one
   pub four_parts : are_hex text from 4 ≡ true → (is_hex (slice_index text from) ≡ true)
@@ -73,7 +69,7 @@ eight_are text from high low v h e l f is =
     let v5 = value_moved text (from + 4 + 1) (from + 5) (omega arith) in
     let v6 = value_moved text (from + 4 + 2) (from + 6) (omega arith) in
     let v7 = value_moved text (from + 4 + 3) (from + 7) (omega arith) in (
-      both _ _ (both _ _ (both _ _ (both _ _ h d4) d5) d6) d7,
+      and_from _ _ (and_from _ _ (and_from _ _ (and_from _ _ h d4) d5) d6) d7,
       omega (arith, is, e, f, v4, v5, v6, v7),
     )
 
@@ -89,7 +85,7 @@ eight_parts text from h =
     let d5 = digit_moved text (from + 5) (from + 4 + 1) (omega arith) p5.1 in
     let d6 = digit_moved text (from + 6) (from + 4 + 2) (omega arith) p6.1 in
     let d7 = digit_moved text (from + 7) (from + 4 + 3) (omega arith) p7.1 in
-    (p4.0, both _ _ (both _ _ (both _ _ d4 d5) d6) d7)
+    (p4.0, and_from _ _ (and_from _ _ (and_from _ _ d4 d5) d6) d7)
 
 pub not_first : (text : List ℕ) (from : ℕ) → (are_hex text from 4 ≡ true → ⊥)
     → are_hex text from 8 ≡ true → ⊥

@@ -1,8 +1,7 @@
 -- The content of groups without items: what stands there, and where it is stuck.
-use Rattle.std.proofs.Common.{◌≡◌, ◌≢◌, ℕ, ◌%◌, ◌^◌, List, [], ◌∷◌, ◌++◌, Option, Some, None}
+use Rattle.std.proofs.Common.{◌≡◌, ◌≢◌, ℕ, ◌%◌, ◌^◌, List, [], ◌∷◌, ◌++◌, Some}
 use Rattle.std.proofs.Common.{inr, refl, sym, ◌∙◌, ap, subst, append_assoc}
-use Rattle.std.specs.Prelude.{slice_index, is_some}
-use Rattle.std.proofs.lemmas.Bool.{false≢true}
+use Rattle.std.specs.Prelude.{slice_index}
 use Rattle.resb_grammar.specs.Ascii as ascii
 use Rattle.resb_grammar.specs.Group.{hex_bytes}
 use Rattle.resb_grammar.specs.GroupTypes.{Kind, string_kind, binary_kind, integer_kind}
@@ -16,7 +15,7 @@ use Rattle.resb_icu_grammar.specs.Groups.{no_numbers, numbers}
 use Rattle.resb_icu_grammar.specs.Stuck.{NumbersSoFar, one_number, LeafStuck}
 use Rattle.resb_icu_grammar.specs.declared.expected.IcuExpected.{IcuExpected}
 use Rattle.resb_icu_text.specs.declared.error.IcuTextError.{IcuTextError}
-use Rattle.resb_icu_text.specs.Inner.Leaf.{Leaf, LeafRefuses, Vector}
+use Rattle.resb_icu_text.specs.Inner.Leaf.{Leaf, LeafFails, Vector}
 use Rattle.resb_icu_text.specs.Inner.Leaf.{IsBehindNumber, at_brace, at_comma}
 
 -- a `}` stands there behind blanks
@@ -97,10 +96,10 @@ counted_more text from at i place v next d p k (at_comma c l) b =
     one_number from at i place next v d p k c l
 
 -- an error that says where the content of a group is stuck
-pub leaf_refuses : (text : List ℕ) (from : ℕ) (kind : Kind) (e : IcuTextError) (to : ℕ)
+pub leaf_fails : (text : List ℕ) (from : ℕ) (kind : Kind) (e : IcuTextError) (to : ℕ)
     (x : IcuExpected) → e ≡ record { position = to; expected = x } → LeafStuck text from kind to x
-    → LeafRefuses text from kind e
-leaf_refuses text from kind e to x h s =
+    → LeafFails text from kind e
+leaf_fails text from kind e to x h s =
     inr (subst (λ (f : IcuTextError). LeafStuck text from kind f.position f.expected) (sym h) s)
 
 -- nothing and a `}`
@@ -112,7 +111,3 @@ empty_vector text at c = record { content = no_numbers refl; closes = c }
 pub vector_stands : (text : List ℕ) (at to : ℕ) (ns : List ℕ) → Vector text at to ns
     → Leaf text at vector_kind to (int_vector ns)
 vector_stands text at to ns v = record { content = numbers ns v.numbers; closes = v.closes }
-
--- digits that say bytes are some
-pub some_digits : (o : Option (List ℕ)) (bytes : List ℕ) → o ≡ Some bytes → o ≢ None
-some_digits o bytes h n = false≢true (ap is_some (sym n ∙ h))

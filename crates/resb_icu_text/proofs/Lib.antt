@@ -1,4 +1,5 @@
 -- Laws of what is read of a text.
+mod Lists
 mod ReachLemmas
 mod BlanksLemmas
 mod WordsLemmas

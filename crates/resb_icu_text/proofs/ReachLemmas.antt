@@ -1,8 +1,7 @@
 -- Laws of how far a reading has looked.
 use Rattle.std.proofs.Common.{◌≡◌, ◌≢◌, ℕ, ◌+◌, ◌*◌, ◌<◌, ◌≤◌, ◌⊎◌, inl, inr, Bool, true, false}
 use Rattle.std.proofs.Common.{List, length, arith, refl, sym, ◌∙◌}
-use Rattle.std.specs.Prelude.{slice_index, ◌==◌, if◌then◌else◌}
-use Rattle.std.proofs.lemmas.Bool.{false≢true}
+use Rattle.std.specs.Prelude.{slice_index, ◌==◌}
 use Rattle.std.proofs.lemmas.Bool.Decides.{nat_tests}
 use Rattle.resb_grammar.specs.Ascii as ascii
 use Rattle.resb_grammar.specs.ByteRuns.{Run}
@@ -14,39 +13,25 @@ use Rattle.resb_icu_text.specs.declared.steps.Step.{Step}
 use Rattle.resb_icu_text.specs.declared.steps.Step.TheVariants as step
 use Rattle.resb_icu_text.specs.Inner.Reach.{reach}
 use Rattle.resb_icu_text.specs.Inner.Steps.{stands_at, spent}
-
-chosen_low : (b : Bool) (n at : ℕ) → at ≤ n → at ≤ (if b then n else at)
-chosen_low true n at l = l
-chosen_low false n at l = omega arith
-
-chosen_high : (b : Bool) (n at : ℕ) → at ≤ n → (if b then n else at) ≤ n
-chosen_high true n at l = omega arith
-chosen_high false n at l = l
-
-chosen_here : (b : Bool) (n at : ℕ) → (b ≡ true → ⊥) → (if b then n else at) ≡ at
-chosen_here true n at f = absurd (f refl)
-chosen_here false n at f = refl
-
-chosen_end : (b : Bool) (n at : ℕ) → b ≡ true → (if b then n else at) ≡ n
-chosen_end true n at e = refl
-chosen_end false n at e = absurd (false≢true e)
+use Rattle.resb_icu_text.proofs.Lists.{chosen_at_least, chosen_at_most, chosen_else}
+use Rattle.resb_icu_text.proofs.Lists.{chosen_then}
 
 -- a reading has looked at least up to its place
 pub reach_low : (text : List ℕ) (at : ℕ) → at ≤ length text → at ≤ reach text at
 unfolding reach
-reach_low text at l = chosen_low (slice_index text at == ascii.slash) (length text) at l
+reach_low text at l = chosen_at_least (slice_index text at == ascii.slash) (length text) at l
 
 -- and at most up to the text's end
 pub reach_high : (text : List ℕ) (at : ℕ) → at ≤ length text → reach text at ≤ length text
 unfolding reach
-reach_high text at l = chosen_high (slice_index text at == ascii.slash) (length text) at l
+reach_high text at l = chosen_at_most (slice_index text at == ascii.slash) (length text) at l
 
 -- where no slash stands, up to its place
 pub reach_here : (text : List ℕ) (at : ℕ) → slice_index text at ≢ ascii.slash
     → reach text at ≡ at
 unfolding reach
 reach_here text at n =
-    chosen_here (slice_index text at == ascii.slash) (length text) at
+    chosen_else (slice_index text at == ascii.slash) (length text) at
     (λ e. n (grind (arith, nat_tests, e)))
 
 -- where a slash stands, up to the text's end
@@ -54,7 +39,7 @@ pub reach_slash : (text : List ℕ) (at : ℕ) → slice_index text at ≡ ascii
     → reach text at ≡ length text
 unfolding reach
 reach_slash text at e =
-    chosen_end (slice_index text at == ascii.slash) (length text) at (grind (arith, nat_tests, e))
+    chosen_then (slice_index text at == ascii.slash) (length text) at (grind (arith, nat_tests, e))
 
 slash_no_word : (b : ℕ) → b ≡ ascii.slash → is_word b ≡ true → ⊥
 slash_no_word b e h = grind (arith, nat_tests, e, h)

@@ -34,7 +34,7 @@ use Rattle.resb_icu_text.specs.Answer.{IcuFails, IsNoIcuText}
 use Rattle.resb_icu_text.specs.Refusal.{want_of_memory}
 use Rattle.resb_icu_text.specs.declared.error.IcuTextError.{IcuTextError}
 use Rattle.resb_icu_text.specs.Inner.Steps.{shown, with_key, now, GroupThere, EndedThere, There}
-use Rattle.resb_icu_text.specs.Inner.Steps.{Steps, Stops}
+use Rattle.resb_icu_text.specs.Inner.Steps.{Steps, StepFails}
 use Rattle.resb_icu_text.specs.declared.steps.Waiting.{Waiting as Open}
 use Rattle.resb_icu_text.specs.declared.steps.Step.{Step}
 use Rattle.resb_icu_text.specs.declared.steps.Step.TheVariants as step
@@ -129,7 +129,7 @@ no_head_opening text a start end at name e b k n l (no_brace brace f t d h) =
     (no_opening_brace text a start end at brace name f b k n l t d)
 
 -- a refusal inside these groups and with these keys
-pub stops_there : (text : List ℕ) (there : There) (e : IcuTextError) → Stops text there e
+pub stops_there : (text : List ℕ) (there : There) (e : IcuTextError) → StepFails text there e
     → (ws : List Waiting) (ks : List (List ℕ))
     → (e ≡ want_of_memory) ⊎ StuckFrom text (there ws ks) e.position e.expected
 stops_there text there e r ws ks = ⊎_elim (λ (m : e ≡ want_of_memory). inl m)
@@ -177,7 +177,7 @@ behind_ended text w r at s os ws ks e h =
 -- a refusal there
 pub stops_ended : (text : List ℕ) (w : Open) (r : Resource) (at : ℕ) (e : IcuTextError)
     (os ws : List Waiting) (ks : List (List ℕ)) → os ≡ shown w ∷ ws
-    → Stops text (EndedThere w r at) e
+    → StepFails text (EndedThere w r at) e
     → (e ≡ want_of_memory)
     ⊎ StuckFrom text (now os ks (step.Ended r at)) e.position e.expected
 stops_ended text w r at e os ws ks f h =
@@ -201,7 +201,7 @@ stops_root text first r e c f = ⊎_elim (λ (m : e ≡ want_of_memory). inl m)
     (λ (n : StuckFrom text r e.position e.expected). inr (record {
       last = n.last;
       comes = comes_by text (at_root first) r n.last c n.comes;
-      halts = n.halts;
+      there = n.there;
     })) f
 
 -- where more than blanks stands behind the root
@@ -214,7 +214,7 @@ text_goes_on text first at end t ks e c k w h =
     (record {
       last = reading_at [] ks (behind_group t) at;
       comes = c;
-      halts = behind [] ks t at end expect.EndOfText (more_text end k w);
+      there = behind [] ks t at end expect.EndOfText (more_text end k w);
     }))
 
 -- where nothing but blanks does, the root has this meaning

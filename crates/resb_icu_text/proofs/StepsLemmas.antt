@@ -1,11 +1,11 @@
 -- How each step of a reading goes on, and where a reading stops.
-use Rattle.std.proofs.Common.{◌≡◌, ◌≢◌, ℕ, ◌+◌, ◌&&◌, Bool, true, false, List, [], ◌∷◌, ◌++◌, Vec}
+use Rattle.std.proofs.Common.{◌≡◌, ◌≢◌, ℕ, ◌+◌, ◌&&◌, true, false, List, [], ◌∷◌, ◌++◌, Vec}
 use Rattle.std.proofs.Common.{BTreeMap, Bor, Global, ◌⊎◌, inl, inr, ⊎_elim, refl, sym, ◌∙◌, ap}
 use Rattle.std.proofs.Common.{subst}
 use Rattle.std.proofs.lemmas.Bool.{false≢true}
 use Rattle.std.proofs.lemmas.List.{map-append}
 use Rattle.std.specs.Cow.{cow_str_bytes}
-use Rattle.std.specs.Prelude.{slice_index, map, IfOk, IfErr, Result, Ok, Err}
+use Rattle.std.specs.Prelude.{slice_index, map}
 use Rattle.std.specs.declared.borrow.CowStr.{CowStr}
 use Rattle.resb_grammar.specs.Ascii as ascii
 use Rattle.resb_grammar.specs.GroupTypes.{Kind, array_kind, table_kind}
@@ -22,8 +22,8 @@ use Rattle.resb_icu_grammar.specs.Machine.{Waiting, AreDistinct, Standing, Readi
 use Rattle.resb_icu_grammar.specs.Machine.{Move, StepOut, Comes, here, among_members, among_entries}
 use Rattle.resb_icu_grammar.specs.Machine.{behind_group, in_untyped, in_typed, before_group}
 use Rattle.resb_icu_grammar.specs.Machine as move
-use Rattle.resb_icu_grammar.specs.Stuck.{Blocked, EndBlocked, StuckFrom, LeafStuck, inside, behind}
-use Rattle.resb_icu_grammar.specs.Stuck.{NoStringAt, NoKeyAt, string_or}
+use Rattle.resb_icu_grammar.specs.Stuck.{StepStuck, EndStuck, StuckFrom, LeafStuck, inside, behind}
+use Rattle.resb_icu_grammar.specs.Stuck.{NoStringAt, NoKeyAt, string_or, member_behind, TypeStuck}
 use Rattle.resb_icu_grammar.specs.Stuck as stuck
 use Rattle.resb_icu_grammar.specs.declared.expected.IcuExpected.{IcuExpected}
 use Rattle.resb_icu_grammar.specs.declared.expected.IcuExpected.TheVariants as expect
@@ -39,17 +39,10 @@ use Rattle.resb_icu_text.specs.declared.steps.Last.TheVariants as last
 use Rattle.resb_icu_text.specs.declared.steps.Waiting.TheVariants as waiting
 use Rattle.resb_icu_text.specs.declared.steps.Step.{Step}
 use Rattle.resb_icu_text.specs.declared.steps.Step.TheVariants as step
-use Rattle.resb_icu_text.specs.Inner.Leaf.{Leaf, LeafRefuses}
-use Rattle.resb_icu_text.specs.Inner.Steps.{last_of, now, There, Steps, Stops, MembersThere}
+use Rattle.resb_icu_text.specs.Inner.Leaf.{Leaf, LeafFails}
+use Rattle.resb_icu_text.specs.Inner.Steps.{last_of, now, There, Steps, StepFails, MembersThere}
 use Rattle.resb_icu_text.specs.Inner.Steps.{EntriesThere, GroupThere, UntypedThere, TypedThere}
 use Rattle.resb_icu_text.specs.Inner.Steps.{EndedThere, KeyAhead}
-
-pub second_fails : (a b : Bool) → b ≡ false → (a && b) ≡ false
-second_fails true b k = k
-second_fails false b k = refl
-
-pub first_fails : (a b : Bool) → a ≡ false → (a && b) ≡ false
-first_fails a b h = ap (λ x. x && b) h
 
 -- what a string says that may be a key
 pub is_a_key : (text : List ℕ) (at : ℕ) (l : Lexeme) (k : List ℕ) → IsLexeme text at l
@@ -72,18 +65,6 @@ no_key text at l is n to k p =
     false≢true (sym n ∙ is.key.1 (subst (λ i. KeyText text at i (bytes_said l.said)) same.0
     (subst (λ s. KeyText text at to s) same.1 p)))
 
--- what holds of an answer holds by another word
-pub ok_by : {A E : Type 0} (r : Result A E) (P Q : A → Type 0) → ((a : A) → P a → Q a) → IfOk r P
-    → IfOk r Q
-ok_by (Ok a) P Q f h = f a h
-ok_by (Err e) P Q f h = tt
-
--- and of a refusal
-pub err_by : {A E : Type 0} (r : Result A E) (P Q : E → Type 0) → ((e : E) → P e → Q e)
-    → IfErr r P → IfErr r Q
-err_by (Ok a) P Q f h = tt
-err_by (Err e) P Q f h = f e h
-
 -- an error at this place, where this was expected
 abbrev pub Says : ℕ → IcuExpected → IcuTextError → Type 0
 Says at x e = e ≡ record { position = at; expected = x }
@@ -98,26 +79,26 @@ steps_by text A B s f g ws ks =
 stuck_by : (text : List ℕ) (from mid : Reading) (to : ℕ) (x : IcuExpected)
     → Comes text from mid → StuckFrom text mid to x → StuckFrom text from to x
 stuck_by text from mid to x c s =
-    record { last = s.last; comes = comes_by text from mid s.last c s.comes; halts = s.halts }
+    record { last = s.last; comes = comes_by text from mid s.last c s.comes; there = s.there }
 
 -- where a reading stops that comes from elsewhere
-pub stops_by : (text : List ℕ) (A B : There) (e : IcuTextError)
+pub fails_by : (text : List ℕ) (A B : There) (e : IcuTextError)
     → ((ws : List Waiting) (ks : List (List ℕ)) → Comes text (A ws ks) (B ws ks))
-    → Stops text B e → Stops text A e
-stops_by text A B e f r = ⊎_elim (λ (m : e ≡ want_of_memory). inl m)
+    → StepFails text B e → StepFails text A e
+fails_by text A B e f r = ⊎_elim (λ (m : e ≡ want_of_memory). inl m)
     (λ (n : (ws : List Waiting) (ks : List (List ℕ))
     → StuckFrom text (B ws ks) e.position e.expected).
     inr (λ ws ks. stuck_by text (A ws ks) (B ws ks) e.position e.expected (f ws ks) (n ws ks))) r
 
--- where a reading is blocked
-pub stops_at : (text : List ℕ) (s : Standing) (at to : ℕ) (x : IcuExpected) (e : IcuTextError)
-    → Says to x e → Blocked text s at to x → Stops text (λ ws ks. reading_at ws ks s at) e
-stops_at text s at to x e h b =
+-- where a reading is stuck
+pub fails_at : (text : List ℕ) (s : Standing) (at to : ℕ) (x : IcuExpected) (e : IcuTextError)
+    → Says to x e → StepStuck text s at to x → StepFails text (λ ws ks. reading_at ws ks s at) e
+fails_at text s at to x e h b =
     inr (λ ws ks. subst (λ (f : IcuTextError). StuckFrom text (reading_at ws ks s at) f.position
     f.expected) (sym h) (record {
       last = reading_at ws ks s at;
       comes = here (reading_at ws ks s at);
-      halts = inside ws ks s at to x b;
+      there = inside ws ks s at to x b;
     }))
 
 -- the trees of members with one more
@@ -158,9 +139,9 @@ module _ (text : List ℕ) where
   -- a comma behind none
   pub no_member_comma : (es : List Resource) (l : Last) (at : ℕ) (e : IcuTextError)
       → Says at expect.Member e → is_member (last_of l) ≡ false → slice_index text at ≡ ascii.comma
-      → Stops text (MembersThere es l at) e
+      → StepFails text (MembersThere es l at) e
   no_member_comma es l at e h f c =
-      stops_at text _ at at _ e h (stuck.lone_comma (last_of l) (map tree_of es) at f c)
+      fails_at text _ at at _ e h (stuck.lone_comma (last_of l) (map tree_of es) at f c)
 
   -- a string that is a member
   pub member_string : (old : List Resource) (v : Vec Resource Global) (l : Last) (at i j : ℕ)
@@ -179,18 +160,18 @@ module _ (text : List ℕ) where
   -- a string right behind a string
   pub no_member_string : (es : List Resource) (l : Last) (at i : ℕ) (s : List ℕ)
       (e : IcuTextError) → Says at expect.Comma e → ends_in_string (last_of l) ≡ true
-      → words.Text text at i s → Stops text (MembersThere es l at) e
+      → words.Text text at i s → StepFails text (MembersThere es l at) e
   no_member_string es l at i s e g h p =
-      stops_at text _ at at _ e g (stuck.two_strings (last_of l) (map tree_of es) at i s h p)
+      fails_at text _ at at _ e g (stuck.two_strings (last_of l) (map tree_of es) at i s h p)
 
   -- nothing that may stand among members
   pub no_member : (es : List Resource) (l : Last) (at : ℕ) (e : IcuTextError)
-      → Says at (string_or (slice_index text at) expect.Member) e
+      → Says at (string_or (slice_index text at) (member_behind (last_of l))) e
       → slice_index text at ≢ ascii.right_brace → slice_index text at ≢ ascii.comma
       → slice_index text at ≢ ascii.left_brace → slice_index text at ≢ ascii.colon
-      → NoStringAt text at → Stops text (MembersThere es l at) e
+      → NoStringAt text at → StepFails text (MembersThere es l at) e
   no_member es l at e h a b d f g =
-      stops_at text _ at at _ e h
+      fails_at text _ at at _ e h
       (stuck.no_member (last_of l) (map tree_of es) at a b (⊎_elim d f) g)
 
   -- a `}` ends a table
@@ -206,8 +187,8 @@ module _ (text : List ℕ) where
   -- a `}` behind a key that stands twice
   pub a_key_twice : (es : List (List ℕ × Resource)) (at : ℕ) (e : IcuTextError)
       → Says at expect.KeysOnce e → Closes text at → (AreDistinct (pairs_view es) → ⊥)
-      → Stops text (EntriesThere es at) e
-  a_key_twice es at e h c d = stops_at text _ at at _ e h (stuck.key_twice (pairs_view es) at c d)
+      → StepFails text (EntriesThere es at) e
+  a_key_twice es at e h c d = fails_at text _ at at _ e h (stuck.key_twice (pairs_view es) at c d)
 
   -- a key begins an entry
   pub entry_key : (v : Vec (List ℕ × Resource) Global) (k : Bor (List ℕ)) (at i j : ℕ)
@@ -219,8 +200,8 @@ module _ (text : List ℕ) where
   -- neither a key nor a `}`
   pub no_entry : (es : List (List ℕ × Resource)) (at : ℕ) (e : IcuTextError)
       → Says at expect.Entry e → slice_index text at ≢ ascii.right_brace → NoKeyAt text at
-      → Stops text (EntriesThere es at) e
-  no_entry es at e h a f = stops_at text _ at at _ e h (stuck.no_entry (pairs_view es) at a f)
+      → StepFails text (EntriesThere es at) e
+  no_entry es at e h a f = fails_at text _ at at _ e h (stuck.no_entry (pairs_view es) at a f)
 
   -- a `{` begins a group without a type
   pub as_untyped : (at i : ℕ) → slice_index text at ≡ ascii.left_brace → Skip text (at + 1) i
@@ -246,21 +227,23 @@ module _ (text : List ℕ) where
   -- neither a `{` nor a `:`
   pub no_group : (at : ℕ) (e : IcuTextError) → Says at expect.Group e
       → slice_index text at ≢ ascii.left_brace → slice_index text at ≢ ascii.colon
-      → Stops text (GroupThere at) e
-  no_group at e h a f = stops_at text _ at at _ e h (stuck.no_group at (⊎_elim a f))
+      → StepFails text (GroupThere at) e
+  no_group at e h a f = fails_at text _ at at _ e h (stuck.no_group at (⊎_elim a f))
 
   -- a `:` without a type
-  pub no_type : (at : ℕ) (e : IcuTextError) → Says at expect.GroupType e
-      → slice_index text at ≡ ascii.colon
-      → ((to : ℕ) (kind : Kind) → GroupType text at to kind → ⊥) → Stops text (GroupThere at) e
-  no_type at e h c f = stops_at text _ at at _ e h (stuck.no_type at c f)
+  pub no_type : (at : ℕ) (e : IcuTextError) → (e.position ≡ at) × TypeStuck text at e.expected
+      → slice_index text at ≡ ascii.colon → StepFails text (GroupThere at) e
+  no_type at e s c =
+      fails_at text _ at at _ e
+      (ap (λ n. record { position = n; expected = e.expected }) s.0)
+      (stuck.no_type at e.expected c s.1)
 
   -- a type without a `{`
   pub no_group_brace : (at end brace : ℕ) (kind : Kind) (e : IcuTextError)
       → Says brace expect.LeftBrace e → GroupType text at end kind → Skip text end brace
-      → slice_index text brace ≢ ascii.left_brace → Stops text (GroupThere at) e
+      → slice_index text brace ≢ ascii.left_brace → StepFails text (GroupThere at) e
   no_group_brace at end brace kind e h g k ne =
-      stops_at text _ at brace _ e h (stuck.no_brace at end brace kind g k ne)
+      fails_at text _ at brace _ e h (stuck.no_brace at end brace kind g k ne)
 
   -- in an array members follow
   pub array_content : (v : Vec Resource Global) (at : ℕ) → v.items ≡ []
@@ -285,11 +268,11 @@ module _ (text : List ℕ) where
       one_move text ws ks _ at _ (move.leaf_follows kind at to (tree_of r) l.content l.closes)
 
   -- no content of a group that is neither an array nor a table
-  pub no_leaf_content : (kind : Kind) (at : ℕ) (e : IcuTextError) → LeafRefuses text at kind e
-      → Stops text (TypedThere kind at) e
+  pub no_leaf_content : (kind : Kind) (at : ℕ) (e : IcuTextError) → LeafFails text at kind e
+      → StepFails text (TypedThere kind at) e
   no_leaf_content kind at e r = ⊎_elim (λ (m : e ≡ want_of_memory). inl m)
       (λ (n : LeafStuck text at kind e.position e.expected).
-      stops_at text _ at e.position e.expected e refl
+      fails_at text _ at e.position e.expected e refl
       (stuck.in_leaf kind at e.position e.expected n)) r
 
   -- nothing in a group without a type
@@ -347,24 +330,24 @@ module _ (text : List ℕ) where
       → Says k expect.AfterString e → words.Text text at i s → Skip text i k
       → slice_index text k ≢ ascii.right_brace → slice_index text k ≢ ascii.comma
       → slice_index text k ≢ ascii.left_brace → slice_index text k ≢ ascii.colon
-      → Stops text (UntypedThere at) e
+      → StepFails text (UntypedThere at) e
   no_untyped_string at i k s e h p l a b d f =
-      stops_at text _ at k _ e h (stuck.no_further at i k s p l a b (⊎_elim d f))
+      fails_at text _ at k _ e h (stuck.no_further at i k s p l a b (⊎_elim d f))
 
   -- a string that may be no key, with a group behind it
   pub no_untyped_key : (at i k : ℕ) (s : List ℕ) (e : IcuTextError) → Says at expect.Key e
       → words.Text text at i s → Skip text i k
       → (slice_index text k ≡ ascii.left_brace) ⊎ (slice_index text k ≡ ascii.colon)
-      → NoKeyAt text at → Stops text (UntypedThere at) e
+      → NoKeyAt text at → StepFails text (UntypedThere at) e
   no_untyped_key at i k s e h p l b f =
-      stops_at text _ at at _ e h (stuck.no_key at i k s p l b f)
+      fails_at text _ at at _ e h (stuck.no_key at i k s p l b f)
 
   -- nothing that may stand in a group without a type
   pub no_untyped : (at : ℕ) (e : IcuTextError)
       → Says at (string_or (slice_index text at) expect.Member) e
       → slice_index text at ≢ ascii.right_brace → slice_index text at ≢ ascii.left_brace
-      → slice_index text at ≢ ascii.colon → NoStringAt text at → Stops text (UntypedThere at) e
-  no_untyped at e h a b d f = stops_at text _ at at _ e h (stuck.no_content at a (⊎_elim b d) f)
+      → slice_index text at ≢ ascii.colon → NoStringAt text at → StepFails text (UntypedThere at) e
+  no_untyped at e h a b d f = fails_at text _ at at _ e h (stuck.no_content at a (⊎_elim b d) f)
 
   -- behind a group that is a member
   pub behind_member : (old v : Vec Resource Global) (r : Resource) (at next : ℕ)
@@ -392,13 +375,13 @@ module _ (text : List ℕ) where
   pub no_collation : (old : Vec (List ℕ × Resource) Global) (key : Bor (List ℕ)) (r : Resource)
       (at : ℕ) (e : IcuTextError) → Says at expect.NoCollation e
       → (is_collation key.now && holds_entries (tree_of r)) ≡ true
-      → Stops text (EndedThere (waiting.Table old key) r at) e
+      → StepFails text (EndedThere (waiting.Table old key) r at) e
   no_collation old key r at e h f =
       inr (λ ws ks. subst (λ (g : IcuTextError).
       StuckFrom text (EndedThere (waiting.Table old key) r at ws ks) g.position g.expected) (sym h)
       (record {
         last = EndedThere (waiting.Table old key) r at ws ks;
         comes = here (EndedThere (waiting.Table old key) r at ws ks);
-        halts = behind _ ks (tree_of r) at at expect.NoCollation
+        there = behind _ ks (tree_of r) at at expect.NoCollation
             (stuck.a_collation ws (pairs_view old.items) key.now f);
       }))

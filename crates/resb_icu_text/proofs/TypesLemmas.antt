@@ -4,9 +4,16 @@ use Rattle.std.proofs.Common.{arith, length, get_or, drop, refl, sym, ◌∙◌,
 use Rattle.std.proofs.Common.{drop-cons}
 use Rattle.std.specs.Prelude.{slice_get, slice_index, codes}
 use Rattle.std.proofs.lemmas.Option.{slice_get_within, slice_get-get_or, same_Some}
-use Rattle.resb_grammar.specs.GroupTypes.{Kind, table_kind, Stands, NoFallback}
+use Rattle.resb_grammar.specs.Ascii as ascii
+use Rattle.resb_grammar.specs.GroupTypes.{Kind, Names, table_kind, Stands, NoFallback}
 use Rattle.resb_icu_grammar.specs.Words.{Word, TypeName, GroupType, RootType, table_type}
 use Rattle.resb_icu_grammar.specs.Words.{no_fallback_type}
+use Rattle.resb_icu_grammar.specs.Expected.{instead_of}
+use Rattle.resb_icu_grammar.specs.Stuck.{TypeStuck, no_type_name, no_tree}
+use Rattle.resb_icu_grammar.specs.declared.expected.IcuExpected.{IcuExpected}
+use Rattle.resb_icu_grammar.specs.declared.expected.IcuExpected.TheVariants as expect
+use Rattle.resb_icu_text.specs.declared.error.IcuTextError.{IcuTextError}
+use Rattle.resb_icu_grammar.proofs.Types.{no_type_there}
 use Rattle.resb_icu_grammar.proofs.Lexical.{GroupType-one}
 
 -- where the byte is other_byte, the bytes do not stand
@@ -34,10 +41,29 @@ pub byte_there : (text : List ℕ) (here b : ℕ) → here < length text → sli
 byte_there text here b l e = slice_get-get_or text here 0 l ∙ ap Some e
 
 module _ (text : List ℕ) (at : ℕ) where
+  -- an error that says where no type stands
+  says_stuck : (e : IcuTextError) (x : IcuExpected) → e ≡ record { position = at; expected = x }
+      → TypeStuck text at x → (e.position ≡ at) × TypeStuck text at e.expected
+  says_stuck e x h s = (
+    ap (λ (f : IcuTextError). f.position) h,
+    subst (λ (f : IcuTextError). TypeStuck text at f.expected) (sym h) s,
+  )
+
   -- where no word stands behind the colon, no type does
-  pub no_word_no_group : ((to : ℕ) (s : List ℕ) → Word text (at + 1) to s → ⊥)
-      → (to : ℕ) (kind : Kind) → GroupType text at to kind → ⊥
-  no_word_no_group never to kind g = never to g.name g.stands.word
+  pub no_type_word : (e : IcuTextError)
+      → e ≡ record { position = at; expected = expect.GroupType }
+      → ((to : ℕ) (s : List ℕ) → Word text (at + 1) to s → ⊥)
+      → (e.position ≡ at) × TypeStuck text at e.expected
+  no_type_word e h never =
+      says_stuck e expect.GroupType h (no_type_name (λ to s n. never to s n.word))
+
+  -- a word that names no type of a tree
+  pub no_tree_word : (e : IcuTextError) (to : ℕ) (s : List ℕ)
+      → e ≡ record { position = at; expected = instead_of s }
+      → slice_index text at ≡ ascii.colon → Word text (at + 1) to s
+      → ((kind : Kind) → Names s kind → ⊥) → (e.position ≡ at) × TypeStuck text at e.expected
+  no_tree_word e to s h c w never =
+      says_stuck e (instead_of s) h (no_tree to s (record { colon = c; word = w }) never)
 
   -- a table with `(nofallback)` behind it
   pub root_off : (to : ℕ) → GroupType text at to table_kind → NoFallback text to
@@ -60,9 +86,10 @@ module _ (text : List ℕ) (at : ℕ) where
       (i, record { name = codes "table"; stands = w; names = refl })
 
   -- where no group's type stands, no root's does
-  pub no_root : ((to : ℕ) (kind : Kind) → GroupType text at to kind → ⊥)
+  pub no_root : (x : IcuExpected) → TypeStuck text at x
       → (to : ℕ) (fallback : Bool) → RootType text at to fallback → ⊥
-  no_root never to fallback r = let g = root_group to fallback r in never g.0 table_kind g.1
+  no_root x s to fallback r =
+      let g = root_group to fallback r in no_type_there text at x s g.0 table_kind g.1
 
   -- where another type stands, no root's does
   pub other_root : (i : ℕ) (kind : Kind) → GroupType text at i kind → kind ≢ table_kind

@@ -1,7 +1,7 @@
 -- Laws of words and numbers, as the reader's functions use them.
 use Rattle.std.proofs.Common.{◌≡◌, ◌≢◌, ℕ, ◌+◌, ◌-◌, ◌*◌, ◌<◌, ◌≤◌, min, true, List}
 use Rattle.std.proofs.Common.{arith, subst, sym, ◌∙◌, get_or}
-use Rattle.std.specs.Prelude.{Option, Some, None, IfNone, slice_index}
+use Rattle.std.specs.Prelude.{slice_index}
 use Rattle.std.proofs.lemmas.Bool.Decides.{nat_tests}
 use Rattle.std.proofs.lemmas.Str.{IsCharBoundary-after_ascii}
 use Rattle.std.specs.Str.{IsUtf8, IsCharBoundary}
@@ -17,10 +17,6 @@ use Rattle.resb_icu_grammar.specs.Words as words
 use Rattle.resb_icu_grammar.proofs.Lexical.{digit_first}
 use Rattle.resb_icu_text.specs.Inner.Numbers.{DigitsInRange, unsigned, plus, minus}
 use Rattle.resb_grammar.proofs.ReaderLemmas.{digits_value-suc}
-
-pub if_none_by : {A : Type 0} (o : Option A) (P : Type 0) → P → IfNone o P
-if_none_by None P p = p
-if_none_by (Some x) P p = tt
 
 -- one more digit
 pub decimal_more : (text : List ℕ) (from at value b next : ℕ) → b ≡ slice_index text at

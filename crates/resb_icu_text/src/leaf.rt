@@ -11,8 +11,8 @@ ghost use Rattle.resb_grammar.specs.Kinds.{group_kind_of};
 ghost use Rattle.resb_tree.specs.Borrowing as borrowing;
 ghost use Rattle.resb_icu_text.specs.Borrowed.{KeepsSlices};
 ghost use Rattle.resb_icu_text.specs.Lexemes.{bytes_said, stands_whole};
-ghost use Rattle.resb_icu_text.specs.Inner.Leaf.{Leaf, LeafRefuses, Vector, WantsBrace};
-ghost use Rattle.resb_icu_text.specs.Inner.Leaf.{IsBehindNumber};
+ghost use Rattle.resb_icu_text.specs.Inner.Leaf.{Leaf, LeafFails, Vector, WantsBrace};
+ghost use Rattle.resb_icu_text.specs.Inner.Leaf.{IsBehindNumber, WantsCommaOrBrace};
 ghost use Rattle.resb_icu_text.specs.Inner.Reach.{reach};
 
 use crate::blanks::{byte, skip};
@@ -61,7 +61,7 @@ fn string_leaf<'a>(
 ) -> Result<(usize, Resource<'a>), IcuTextError>
     requires within { at ≤ length text.now }
     ensures ok { IfOk result (λ r. Leaf text.now at string_kind r.0 (tree_of r.1)) }
-    ensures err { IfErr result (LeafRefuses text.now at string_kind) }
+    ensures err { IfErr result (LeafFails text.now at string_kind) }
     ensures slices { IfOk result (λ r. KeepsSlices text.now r.1) }
     ensures within { IfOk result (λ r. (at ≤ r.0) × (r.0 < length text.now)) }
     ensures cost { IfOk result (λ r. turns.new.count + 8 * reach text.now at
@@ -85,7 +85,7 @@ fn binary_leaf<'a>(
 ) -> Result<(usize, Resource<'a>), IcuTextError>
     requires within { at ≤ length text.now }
     ensures ok { IfOk result (λ r. Leaf text.now at binary_kind r.0 (tree_of r.1)) }
-    ensures err { IfErr result (LeafRefuses text.now at binary_kind) }
+    ensures err { IfErr result (LeafFails text.now at binary_kind) }
     ensures slices { IfOk result (λ r. KeepsSlices text.now r.1) }
     ensures within { IfOk result (λ r. (at ≤ r.0) × (r.0 < length text.now)) }
     ensures cost { IfOk result (λ r. turns.new.count + 8 * reach text.now at
@@ -113,7 +113,7 @@ fn integer_leaf<'a>(
 ) -> Result<(usize, Resource<'a>), IcuTextError>
     requires within { at ≤ length text.now }
     ensures ok { IfOk result (λ r. Leaf text.now at integer_kind r.0 (tree_of r.1)) }
-    ensures err { IfErr result (LeafRefuses text.now at integer_kind) }
+    ensures err { IfErr result (LeafFails text.now at integer_kind) }
     ensures slices { IfOk result (λ r. KeepsSlices text.now r.1) }
     ensures within { IfOk result (λ r. (at ≤ r.0) × (r.0 < length text.now)) }
     ensures cost { IfOk result (λ r. turns.new.count + 8 * reach text.now at
@@ -134,7 +134,7 @@ fn behind_number(text: &str, at: usize, turns: &mut IcuTurns) -> Result<usize, I
     requires within { at ≤ length text.now }
     ensures ok { IfOk result (IsBehindNumber text.now at) }
     ensures err { IfErr result (λ e. (slice_index text.now at ≢ ascii.comma)
-        × (slice_index text.now at ≢ ascii.right_brace) × WantsBrace at e) }
+        × (slice_index text.now at ≢ ascii.right_brace) × WantsCommaOrBrace at e) }
     ensures within { IfOk result (λ to. (at ≤ to) × (to ≤ length text.now)) }
     ensures cost { IfOk result (λ to. turns.new.count + 2 * reach text.now at
         ≤ turns.old.count + 2 * reach text.now to) }
@@ -144,7 +144,7 @@ fn behind_number(text: &str, at: usize, turns: &mut IcuTurns) -> Result<usize, I
     match byte(text, at) {
         b'}' => Ok(at),
         b',' => Ok(skip(text, at + 1, turns)),
-        _ => Err(IcuTextError::new(at, IcuExpected::RightBrace)),
+        _ => Err(IcuTextError::new(at, IcuExpected::CommaOrRightBrace)),
     }
 }
 
@@ -158,7 +158,7 @@ fn numbers(
     requires within { at ≤ length text.now }
     requires some { slice_index text.now at ≢ ascii.right_brace }
     ensures ok { IfOk result (λ r. Vector text.now at r.0 r.1.items) }
-    ensures err { IfErr result (LeafRefuses text.now at vector_kind) }
+    ensures err { IfErr result (LeafFails text.now at vector_kind) }
     ensures within { IfOk result (λ r. (at ≤ r.0) × (r.0 < length text.now)) }
     ensures cost { IfOk result (λ r. turns.new.count + 8 * reach text.now at
         ≤ turns.old.count + 8 * r.0) }
@@ -169,7 +169,7 @@ fn numbers(
     let mut here = at;
     'numbers: loop {
         let Some((end, value)) = number(text, here, turns) else {
-            return Err(IcuTextError::new(here, IcuExpected::Number));
+            return Err(IcuTextError::new(here, IcuExpected::NumberOrRightBrace));
         };
         numbers.push(value)?;
         let place = skip(text, end, turns);
@@ -189,7 +189,7 @@ fn vector_leaf<'a>(
 ) -> Result<(usize, Resource<'a>), IcuTextError>
     requires within { at ≤ length text.now }
     ensures ok { IfOk result (λ r. Leaf text.now at vector_kind r.0 (tree_of r.1)) }
-    ensures err { IfErr result (LeafRefuses text.now at vector_kind) }
+    ensures err { IfErr result (LeafFails text.now at vector_kind) }
     ensures slices { IfOk result (λ r. KeepsSlices text.now r.1) }
     ensures within { IfOk result (λ r. (at ≤ r.0) × (r.0 < length text.now)) }
     ensures cost { IfOk result (λ r. turns.new.count + 8 * reach text.now at
@@ -215,7 +215,7 @@ pub(crate) fn leaf<'a>(
     requires within { at ≤ length text.now }
     requires leaf { (group_kind_of kind ≢ array_kind) × (group_kind_of kind ≢ table_kind) }
     ensures ok { IfOk result (λ r. Leaf text.now at (group_kind_of kind) r.0 (tree_of r.1)) }
-    ensures err { IfErr result (LeafRefuses text.now at (group_kind_of kind)) }
+    ensures err { IfErr result (LeafFails text.now at (group_kind_of kind)) }
     ensures slices { IfOk result (λ r. KeepsSlices text.now r.1) }
     ensures within { IfOk result (λ r. (at ≤ r.0) × (r.0 < length text.now)) }
     ensures cost { IfOk result (λ r. turns.new.count + 8 * reach text.now at

@@ -9,8 +9,9 @@ ghost use Rattle.resb_tree.specs.View.{tree_of, pairs_view, entries_view};
 ghost use Rattle.resb_icu_grammar.specs.Groups as spec;
 ghost use Rattle.resb_icu_grammar.specs.Words.{KeyText};
 ghost use Rattle.resb_icu_grammar.specs.Machine.{AreDistinct};
+ghost use Rattle.resb_icu_grammar.specs.Stuck.{member_behind};
 ghost use Rattle.resb_grammar.specs.Kinds.{group_kind_of};
-ghost use Rattle.resb_icu_text.specs.Inner.Steps.{last_of, Steps, Stops, Goes};
+ghost use Rattle.resb_icu_text.specs.Inner.Steps.{last_of, Steps, StepFails, Goes};
 ghost use Rattle.resb_icu_text.specs.Inner.Steps.{MembersThere, EntriesThere, GroupThere};
 ghost use Rattle.resb_icu_text.specs.Inner.Steps.{UntypedThere, TypedThere, EndedThere};
 ghost use Rattle.resb_icu_text.specs.Inner.Steps.{KeyAhead, spent};
@@ -47,6 +48,17 @@ impl Last {
         match self {
             Last::String | Last::Group => true,
             Last::Nothing | Last::Comma => false,
+        }
+    }
+
+    /// What may stand behind it among the members.
+    fn member_behind(self) -> IcuExpected
+        ensures { result ≡ member_behind (last_of self) }
+    {
+        if self.is_member() {
+            IcuExpected::CommaOrMember
+        } else {
+            IcuExpected::Member
         }
     }
 
@@ -92,7 +104,7 @@ pub(crate) fn member<'a>(
 ) -> Result<Step<'a>, IcuTextError>
     requires within { at ≤ length text.now }
     ensures ok { IfOk result (Steps text.now (MembersThere members.entry.items last at)) }
-    ensures err { IfErr result (Stops text.now (MembersThere members.entry.items last at)) }
+    ensures err { IfErr result (StepFails text.now (MembersThere members.entry.items last at)) }
     ensures slices { IfOk result
         (λ s. Keeps text.now (members_pass members.entry.items) (step_passes s)) }
     ensures goes { IfOk result (Goes text.now (3 * at + 1)) }
@@ -125,7 +137,7 @@ fn comma<'a>(
     requires within { at < length text.now }
     requires comma { slice_index text.now at ≡ ascii.comma }
     ensures ok { IfOk result (Steps text.now (MembersThere members.entry.items last at)) }
-    ensures err { IfErr result (Stops text.now (MembersThere members.entry.items last at)) }
+    ensures err { IfErr result (StepFails text.now (MembersThere members.entry.items last at)) }
     ensures slices { IfOk result
         (λ s. Keeps text.now (members_pass members.entry.items) (step_passes s)) }
     ensures goes { IfOk result (Goes text.now (3 * at + 1)) }
@@ -156,7 +168,7 @@ fn string_member<'a>(
     requires no_group { slice_index text.now at ≢ ascii.left_brace }
     requires no_type { slice_index text.now at ≢ ascii.colon }
     ensures ok { IfOk result (Steps text.now (MembersThere members.entry.items last at)) }
-    ensures err { IfErr result (Stops text.now (MembersThere members.entry.items last at)) }
+    ensures err { IfErr result (StepFails text.now (MembersThere members.entry.items last at)) }
     ensures slices { IfOk result
         (λ s. Keeps text.now (members_pass members.entry.items) (step_passes s)) }
     ensures goes { IfOk result (Goes text.now (3 * at + 1)) }
@@ -166,7 +178,7 @@ fn string_member<'a>(
         ≤ turns.old.count + 8 * length text.now + 4 }
 {
     let Some(lexeme) = string(alloc, text, at, turns)? else {
-        return Err(IcuTextError::no_string(text, at, IcuExpected::Member));
+        return Err(IcuTextError::no_string(text, at, last.member_behind()));
     };
     if last.is_string() {
         return Err(IcuTextError::new(at, IcuExpected::Comma));
@@ -211,7 +223,7 @@ pub(crate) fn entry<'a>(
 ) -> Result<Step<'a>, IcuTextError>
     requires within { at ≤ length text.now }
     ensures ok { IfOk result (Steps text.now (EntriesThere entries.entry.items at)) }
-    ensures err { IfErr result (Stops text.now (EntriesThere entries.entry.items at)) }
+    ensures err { IfErr result (StepFails text.now (EntriesThere entries.entry.items at)) }
     ensures slices { IfOk result
         (λ s. Keeps text.now (entries_pass entries.entry.items) (step_passes s)) }
     ensures goes { IfOk result (Goes text.now (3 * at + 1)) }
@@ -258,7 +270,7 @@ pub(crate) fn group<'a>(
 ) -> Result<Step<'a>, IcuTextError>
     requires within { at ≤ length text.now }
     ensures ok { IfOk result (Steps text.now (GroupThere at)) }
-    ensures err { IfErr result (Stops text.now (GroupThere at)) }
+    ensures err { IfErr result (StepFails text.now (GroupThere at)) }
     ensures slices { IfOk result
         (λ s. Keeps text.now nothing_before (step_passes s)) }
     ensures goes { IfOk result (Goes text.now (3 * at + 2)) }
@@ -288,7 +300,7 @@ fn typed<'a>(
     requires within { at < length text.now }
     requires colon { slice_index text.now at ≡ ascii.colon }
     ensures ok { IfOk result (Steps text.now (GroupThere at)) }
-    ensures err { IfErr result (Stops text.now (GroupThere at)) }
+    ensures err { IfErr result (StepFails text.now (GroupThere at)) }
     ensures slices { IfOk result
         (λ s. Keeps text.now nothing_before (step_passes s)) }
     ensures goes { IfOk result (Goes text.now (3 * at + 2)) }
@@ -297,9 +309,7 @@ fn typed<'a>(
     ensures most { turns.new.count + 8 * reach text.now at
         ≤ turns.old.count + 8 * length text.now + 4 }
 {
-    let Some((end, kind)) = group_type(text, at, turns) else {
-        return Err(IcuTextError::new(at, IcuExpected::GroupType));
-    };
+    let (end, kind) = group_type(text, at, turns)?;
     let brace = skip(text, end, turns);
     if byte(text, brace) != b'{' {
         return Err(IcuTextError::new(brace, IcuExpected::LeftBrace));
@@ -318,7 +328,7 @@ fn content<'a>(
 ) -> Result<Step<'a>, IcuTextError>
     requires within { at ≤ length text.now }
     ensures ok { IfOk result (Steps text.now (TypedThere (group_kind_of kind) at)) }
-    ensures err { IfErr result (Stops text.now (TypedThere (group_kind_of kind) at)) }
+    ensures err { IfErr result (StepFails text.now (TypedThere (group_kind_of kind) at)) }
     ensures slices { IfOk result
         (λ s. Keeps text.now nothing_before (step_passes s)) }
     ensures goes { IfOk result (Goes text.now (3 * at)) }
@@ -346,7 +356,7 @@ fn untyped<'a>(
 ) -> Result<Step<'a>, IcuTextError>
     requires within { at ≤ length text.now }
     ensures ok { IfOk result (Steps text.now (UntypedThere at)) }
-    ensures err { IfErr result (Stops text.now (UntypedThere at)) }
+    ensures err { IfErr result (StepFails text.now (UntypedThere at)) }
     ensures slices { IfOk result
         (λ s. Keeps text.now nothing_before (step_passes s)) }
     ensures goes { IfOk result (Goes text.now (3 * at)) }
@@ -378,7 +388,7 @@ fn untyped_string<'a>(
     requires no_group { slice_index text.now at ≢ ascii.left_brace }
     requires no_type { slice_index text.now at ≢ ascii.colon }
     ensures ok { IfOk result (Steps text.now (UntypedThere at)) }
-    ensures err { IfErr result (Stops text.now (UntypedThere at)) }
+    ensures err { IfErr result (StepFails text.now (UntypedThere at)) }
     ensures slices { IfOk result
         (λ s. Keeps text.now nothing_before (step_passes s)) }
     ensures goes { IfOk result (Goes text.now (3 * at)) }
@@ -420,7 +430,7 @@ pub(crate) fn resume<'a>(
     requires within { at ≤ length text.now }
     ensures ok { IfOk result
         (Steps text.now (EndedThere waiting.entry resource.entry at)) }
-    ensures err { IfErr result (Stops text.now (EndedThere waiting.entry resource.entry at)) }
+    ensures err { IfErr result (StepFails text.now (EndedThere waiting.entry resource.entry at)) }
     ensures slices { IfOk result (λ s. Keeps text.now
         (λ t. open_passes waiting.entry t && passes t resource.entry) (step_passes s)) }
     ensures goes { IfOk result (Goes text.now (3 * at)) }

@@ -1,31 +1,42 @@
 //! Where the name of the type of a group or of the root stands in the text.
 //! What a type asks of a group's content is not said here.
 ghost use Rattle.std.specs.Prelude.{◌≡◌, ℕ, ◌+◌, ◌≤◌, ◌<◌, ◌↔◌, Bool, IsTrue, length};
-ghost use Rattle.std.specs.Prelude.{slice_index, IfSome, IfNone};
+ghost use Rattle.std.specs.Prelude.{slice_index, IfSome, IfNone, IfOk, IfErr};
 ghost use Rattle.resb_grammar.specs.Ascii as ascii;
-ghost use Rattle.resb_grammar.specs.GroupTypes as spec;
 ghost use Rattle.resb_grammar.specs.GroupTypes.{Stands};
 ghost use Rattle.resb_icu_grammar.specs.Words.{GroupType, RootType};
+ghost use Rattle.resb_icu_grammar.specs.Stuck.{TypeStuck};
 ghost use Rattle.resb_grammar.specs.Kinds.{group_kind_of};
 
+use crate::error::IcuTextError;
 use crate::turns::IcuTurns;
 use crate::words::word;
 use resb_grammar::{Kind, kind_named};
+use resb_icu_grammar::{IcuExpected, instead_of};
 
-/// The type whose `:` stands here and the place behind it, if a type stands here. Counts a turn for
-/// each byte up to there, and one for that place.
-pub fn group_type(text: &str, at: usize, turns: &mut IcuTurns) -> Option<(usize, Kind)>
+/// The type whose `:` stands here and the place behind it, if a type stands here; or what was
+/// expected in its place. Counts a turn for each byte up to there, and one for that place.
+pub fn group_type(
+    text: &str,
+    at: usize,
+    turns: &mut IcuTurns,
+) -> Result<(usize, Kind), IcuTextError>
     requires within { at < length text.now }
     requires colon { slice_index text.now at ≡ ascii.colon }
-    ensures found { IfSome result (λ r. GroupType text.now at r.0 (group_kind_of r.1)) }
-    ensures none { IfNone result ((to : ℕ) (k : spec.Kind) → GroupType text.now at to k → ⊥) }
-    ensures within { IfSome result (λ r. (at < r.0) × (r.0 ≤ length text.now)) }
-    ensures cost { IfSome result (λ r. turns.new.count + at ≤ turns.old.count + r.0) }
-    ensures most { IfNone result (turns.new.count + at ≤ turns.old.count + length text.now) }
+    ensures found { IfOk result (λ r. GroupType text.now at r.0 (group_kind_of r.1)) }
+    ensures err { IfErr result (λ e. (e.position ≡ at) × TypeStuck text.now at e.expected) }
+    ensures within { IfOk result (λ r. (at < r.0) × (r.0 ≤ length text.now)) }
+    ensures cost { IfOk result (λ r. turns.new.count + at ≤ turns.old.count + r.0) }
+    ensures most { IfErr result
+        (λ e. turns.new.count + at ≤ turns.old.count + length text.now) }
 {
-    let (to, name) = word(text, at + 1, turns)?;
-    let kind = kind_named(name)?;
-    Some((to, kind))
+    let Some((to, name)) = word(text, at + 1, turns) else {
+        return Err(IcuTextError::new(at, IcuExpected::GroupType));
+    };
+    match kind_named(name) {
+        Some(kind) => Ok((to, kind)),
+        None => Err(IcuTextError::new(at, instead_of(name))),
+    }
 }
 
 /// Whether these bytes stand there.
@@ -56,7 +67,10 @@ pub fn root_type(text: &str, at: usize, turns: &mut IcuTurns) -> Option<(usize, 
     ensures cost { IfSome result (λ r. turns.new.count + at ≤ turns.old.count + r.0 + 12) }
     ensures most { IfNone result (turns.new.count + at ≤ turns.old.count + length text.now + 12) }
 {
-    let (to, kind) = group_type(text, at, turns)?;
+    let (to, kind) = match group_type(text, at, turns) {
+        Ok((to, kind)) => (to, kind),
+        Err(_) => return None,
+    };
     match kind {
         Kind::Table => {
             turns.add(12);

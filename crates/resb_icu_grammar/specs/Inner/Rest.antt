@@ -2,7 +2,7 @@
 -- which each step of a reader says that it loses and adds no meaning.
 --     Meaning         the tree of the root, and the keys in order of place, with repetitions
 --     After text ws   where a group has ended, inside these groups
---     InMembers, InEntries, InGroup, InUntyped, InTyped
+--     RestOfMembers, RestOfEntries, RestOfGroup, RestOfUntyped, RestOfTyped
 --                     where members, entries, a group or what stands inside one follow
 use Rattle.std.specs.Prelude.{◌≡◌, ◌+◌, ◌&&◌, ℕ, false, List, [], ◌∷◌, ◌++◌, length}
 use Rattle.std.specs.Prelude.{slice_index}
@@ -23,7 +23,7 @@ abbrev pub Goal : Type 1
 Goal = ℕ → Tree → List (List ℕ) → Meaning → Type 0
 
 -- members follow, and the `}` of their array
-pub record InMembers (text : List ℕ) (goal : Goal) (last : Last) (ts : List Tree) (at : ℕ)
+pub record RestOfMembers (text : List ℕ) (goal : Goal) (last : Last) (ts : List Tree) (at : ℕ)
     (ks : List (List ℕ)) (m : Meaning) : Type 0 where
   pub to : ℕ
   pub more : List Tree
@@ -33,7 +33,7 @@ pub record InMembers (text : List ℕ) (goal : Goal) (last : Last) (ts : List Tr
   pub then : goal (to + 1) (array (trees_of (ts ++ more))) (ks ++ keys) m
 
 -- entries follow, and the `}` of their table
-pub record InEntries (text : List ℕ) (goal : Goal) (es : List (List ℕ × Tree)) (at : ℕ)
+pub record RestOfEntries (text : List ℕ) (goal : Goal) (es : List (List ℕ × Tree)) (at : ℕ)
     (ks : List (List ℕ)) (m : Meaning) : Type 0 where
   pub to : ℕ
   pub more : List (List ℕ × Tree)
@@ -44,7 +44,7 @@ pub record InEntries (text : List ℕ) (goal : Goal) (es : List (List ℕ × Tre
   pub then : goal (to + 1) (table (map_of (es ++ more))) (ks ++ keys) m
 
 -- a group follows
-pub record InGroup (text : List ℕ) (goal : Goal) (at : ℕ) (ks : List (List ℕ)) (m : Meaning)
+pub record RestOfGroup (text : List ℕ) (goal : Goal) (at : ℕ) (ks : List (List ℕ)) (m : Meaning)
     : Type 0 where
   pub to : ℕ
   pub tree : Tree
@@ -53,7 +53,7 @@ pub record InGroup (text : List ℕ) (goal : Goal) (at : ℕ) (ks : List (List �
   pub then : goal to tree (ks ++ keys) m
 
 -- what stands in a group without a type follows, and its `}`
-pub record InUntyped (text : List ℕ) (goal : Goal) (at : ℕ) (ks : List (List ℕ)) (m : Meaning)
+pub record RestOfUntyped (text : List ℕ) (goal : Goal) (at : ℕ) (ks : List (List ℕ)) (m : Meaning)
     : Type 0 where
   pub to : ℕ
   pub tree : Tree
@@ -63,7 +63,7 @@ pub record InUntyped (text : List ℕ) (goal : Goal) (at : ℕ) (ks : List (List
   pub then : goal (to + 1) tree (ks ++ keys) m
 
 -- what stands in a group of this type follows, and its `}`
-pub record InTyped (text : List ℕ) (goal : Goal) (kind : Kind) (at : ℕ) (ks : List (List ℕ))
+pub record RestOfTyped (text : List ℕ) (goal : Goal) (kind : Kind) (at : ℕ) (ks : List (List ℕ))
     (m : Meaning) : Type 0 where
   pub to : ℕ
   pub tree : Tree
@@ -83,7 +83,7 @@ pub record AfterMember (text : List ℕ) (goal : Goal) (ts : List Tree) (at : �
     (ks : List (List ℕ)) (m : Meaning) : Type 0 where
   pub next : ℕ
   pub after : Skip text at next
-  pub rest : InMembers text goal a_group (ts ++ t ∷ []) next ks m
+  pub rest : RestOfMembers text goal a_group (ts ++ t ∷ []) next ks m
 
 -- blanks follow the value of an entry, and then the others
 pub record AfterValue (text : List ℕ) (goal : Goal) (es : List (List ℕ × Tree)) (key : List ℕ)
@@ -91,7 +91,7 @@ pub record AfterValue (text : List ℕ) (goal : Goal) (es : List (List ℕ × Tr
   pub next : ℕ
   pub taken : (is_collation key && holds_entries t) ≡ false
   pub after : Skip text at next
-  pub rest : InEntries text goal (es ++ (key, t) ∷ []) next ks m
+  pub rest : RestOfEntries text goal (es ++ (key, t) ∷ []) next ks m
 
 -- a group has ended inside these groups, the innermost first
 abbrev pub After : List ℕ → List Waiting → Goal

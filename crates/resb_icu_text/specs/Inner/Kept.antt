@@ -1,5 +1,5 @@
 -- Tests of the strings in what a reading holds.
-use Rattle.std.specs.Prelude.{◌≡◌, ◌&&◌, ℕ, Bool, true, not, List, [], ◌∷◌, map}
+use Rattle.std.specs.Prelude.{◌≡◌, ℕ, Bool, true, not, List, map}
 use Rattle.std.specs.declared.alloc.Global.{Global}
 use Rattle.std.specs.declared.borrow.CowStr.{CowStr}
 use Rattle.resb_tree.specs.Borrowing.{all_true, are_slice, each_entry}

@@ -11,13 +11,17 @@ use Rattle.resb_icu_text.specs.Refusal.{want_of_memory}
 use Rattle.resb_icu_text.specs.declared.error.IcuTextError.{IcuTextError}
 
 -- memory was wanted, or the content of a group of this type is stuck where the error says
-abbrev pub LeafRefuses : List ℕ → ℕ → Kind → IcuTextError → Type 0
-LeafRefuses text from kind e =
+abbrev pub LeafFails : List ℕ → ℕ → Kind → IcuTextError → Type 0
+LeafFails text from kind e =
     (e ≡ want_of_memory) ⊎ LeafStuck text from kind e.position e.expected
 
 -- the error says that a `}` was expected at this place
 abbrev pub WantsBrace : ℕ → IcuTextError → Type 0
 WantsBrace at e = e ≡ record { position = at; expected = expect.RightBrace }
+
+-- the error says that a comma or a `}` was expected at this place
+abbrev pub WantsCommaOrBrace : ℕ → IcuTextError → Type 0
+WantsCommaOrBrace at e = e ≡ record { position = at; expected = expect.CommaOrRightBrace }
 
 -- content of this type stands there up to a `}`
 pub record Leaf (text : List ℕ) (from : ℕ) (kind : Kind) (to : ℕ) (t : Tree) : Type 0 where

@@ -9,7 +9,7 @@ use Rattle.resb_icu_grammar.specs.Machine.{Reading, reading_at, at_root, behind_
 use Rattle.resb_icu_grammar.specs.Stuck.{HeadStuck, StuckFrom}
 use Rattle.resb_icu_grammar.specs.declared.expected.IcuExpected.TheVariants as expect
 use Rattle.resb_icu_grammar.specs.Words.{Name, RootType}
-use Rattle.resb_icu_grammar.specs.Inner.Rest.{Meaning, AtEnd, InEntries}
+use Rattle.resb_icu_grammar.specs.Inner.Rest.{Meaning, AtEnd, RestOfEntries}
 use Rattle.resb_icu_grammar.specs.Machine.{Waiting}
 use Rattle.resb_icu_text.specs.Refusal.{want_of_memory}
 use Rattle.resb_icu_text.specs.declared.error.IcuTextError.{IcuTextError}
@@ -92,4 +92,4 @@ RootFails text first e =
 
 -- the entries of the root stand there, with this meaning
 abbrev pub RootThere : List ℕ → ℕ → Meaning → Type 0
-RootThere text first = InEntries text (AtEnd text) [] first []
+RootThere text first = RestOfEntries text (AtEnd text) [] first []

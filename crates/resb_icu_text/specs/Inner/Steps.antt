@@ -56,8 +56,8 @@ Steps text there s =
     (ws : List Waiting) (ks : List (List ℕ)) → Comes text (there ws ks) (now ws ks s)
 
 -- memory was wanted, or a reading from there on gets stuck where the error says
-abbrev pub Stops : List ℕ → There → IcuTextError → Type 0
-Stops text there e =
+abbrev pub StepFails : List ℕ → There → IcuTextError → Type 0
+StepFails text there e =
     (e ≡ want_of_memory)
     ⊎ ((ws : List Waiting) (ks : List (List ℕ))
     → StuckFrom text (there ws ks) e.position e.expected)

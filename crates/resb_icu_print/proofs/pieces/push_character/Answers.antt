@@ -4,7 +4,8 @@ use Rattle.std.specs.String.{string_bytes}
 use Rattle.std.proofs.lemmas.Bool.{or_from}
 use Rattle.resb_print.proofs.Steps.{writes_bytes}
 use Rattle.resb_icu_print.specs.Printed.{is_marked, is_control}
-use Rattle.resb_icu_print.proofs.Strings.{plain_character, unequal_to, no_control}
+use Rattle.resb_icu_print.proofs.Strings.{plain_character, no_control}
+use Rattle.resb_icu_print.proofs.Lists.{unequal_to}
 use Rattle.resb_icu_print.proofs.pieces.push_character.Goals as goal
 
 pub returns : goal.returns

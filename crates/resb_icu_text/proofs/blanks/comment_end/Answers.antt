@@ -1,4 +1,5 @@
-use Rattle.resb_icu_text.proofs.BlanksLemmas.{if_some, no_line_comment, no_block_comment}
+use Rattle.std.proofs.lemmas.Option.{IfSome_then}
+use Rattle.resb_icu_text.proofs.BlanksLemmas.{no_line_comment, no_block_comment}
 use Rattle.resb_icu_text.proofs.BlanksLemmas.{block_comment}
 use Rattle.resb_icu_text.proofs.blanks.comment_end.Goals as goal
 use Rattle.resb_grammar.proofs.ReaderLemmas.{if_none}
@@ -10,9 +11,8 @@ returns-in-47-clause-none c =
 
 pub returns-in-42-clause-found : goal.returns-in-42-clause-found
 returns-in-42-clause-found c =
-    if_some _ _ _
+    IfSome_then _ c.block_end.ensures.found
     (λ to. block_comment _ _ to c.requires.slash (rw (← c.byte.ensures.byte) c.in-42.is))
-    c.block_end.ensures.found
 
 pub returns-in-42-clause-none : goal.returns-in-42-clause-none
 returns-in-42-clause-none c =

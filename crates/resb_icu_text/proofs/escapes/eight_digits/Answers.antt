@@ -1,15 +1,15 @@
 use Rattle.std.proofs.Common.{refl, arith}
-use Rattle.resb_icu_text.proofs.WordsLemmas.{if_none_by}
 use Rattle.resb_icu_text.proofs.EscapesLemmas.{eight_are, not_first, not_last}
+use Rattle.resb_icu_text.proofs.Lists.{IfNone_from}
 use Rattle.resb_icu_text.proofs.escapes.eight_digits.Goals as goal
 
 pub returns-in_err-high-clause-none : goal.returns-in_err-high-clause-none
 returns-in_err-high-clause-none c =
-    if_none_by _ _ (not_first c.args.text.now c.args.from c.in_err-high.ensures.none)
+    IfNone_from _ _ (not_first c.args.text.now c.args.from c.in_err-high.ensures.none)
 
 pub returns-in_err-low-clause-none : goal.returns-in_err-low-clause-none
 returns-in_err-low-clause-none c =
-    if_none_by _ _ (not_last c.args.text.now c.args.from c.in_err-low.ensures.none)
+    IfNone_from _ _ (not_last c.args.text.now c.args.from c.in_err-low.ensures.none)
 
 pub returns-clause-found : goal.returns-clause-found
 returns-clause-found c =

@@ -2,27 +2,27 @@ use Rattle.std.proofs.Common.{◌≡◌, sym, ◌∙◌, subst, rules, false}
 use Rattle.std.specs.Prelude.{slice_index}
 use Rattle.std.specs.Char.{is_ascii_alphanumeric}
 use Rattle.resb_icu_grammar.specs.Escapes.{itself}
-use Rattle.resb_icu_text.proofs.WordsLemmas.{if_none_by}
 use Rattle.resb_icu_text.proofs.EscapesLemmas.{no_long, is_feed, is_return, is_tab}
 use Rattle.resb_icu_text.proofs.EscapesLemmas.{is_short, is_long, said_short, said_long}
 use Rattle.resb_icu_text.proofs.EscapesLemmas.{fourth_ascii, eighth_ascii}
+use Rattle.resb_icu_text.proofs.Lists.{IfNone_from}
 use Rattle.resb_icu_text.proofs.escapes.escape.Goals as goal
 
 pub returns-in_err-c-clause-none : goal.returns-in_err-c-clause-none
 returns-in_err-c-clause-none c =
-    if_none_by _ _
+    IfNone_from _ _
     (said_short _ _ c.in_ok-number.number (sym c.byte-b.ensures.byte ∙ c.if-b-eq117.true)
     c.in_ok-number.ensures.found.1 c.in_ok-number.ensures.found.2 c.in_err-c.ensures.none)
 
 pub returns-in_err-number-2-clause-none : goal.returns-in_err-number-2-clause-none
 returns-in_err-number-2-clause-none c =
-    if_none_by _ _
+    IfNone_from _ _
     (no_long _ _ (sym c.byte-b.ensures.byte ∙ c.if-b-eq85.true)
     (λ h y z. c.in_err-number-2.ensures.none h))
 
 pub returns-in_err-c-2-clause-none : goal.returns-in_err-c-2-clause-none
 returns-in_err-c-2-clause-none c =
-    if_none_by _ _
+    IfNone_from _ _
     (said_long _ _ c.in_ok-number-2.number (sym c.byte-b.ensures.byte ∙ c.if-b-eq85.true)
     c.in_ok-number-2.ensures.found.1 c.in_err-c-2.ensures.none)
 

@@ -5,23 +5,24 @@ use Rattle.resb_grammar.specs.Group.{hex_bytes}
 use Rattle.resb_grammar.specs.GroupTypes.{binary_kind}
 use Rattle.resb_tree.proofs.ViewLemmas.{tree_of_binary}
 use Rattle.resb_icu_text.specs.Inner.Leaf.{Leaf}
-use Rattle.resb_icu_text.proofs.LeafLemmas.{leaf_refuses, some_digits, binary_stands}
+use Rattle.resb_icu_text.proofs.LeafLemmas.{leaf_fails, binary_stands}
 use Rattle.resb_icu_text.proofs.LeafLemmas.{closing_at}
 use Rattle.resb_icu_text.proofs.ReachLemmas.{reach_right, reach_low, reach_high, reach_string}
 use Rattle.resb_icu_text.proofs.LengthLemmas.{string_short}
 use Rattle.resb_icu_grammar.specs.Stuck.{no_digits, odd_digits, open_binary}
+use Rattle.resb_icu_text.proofs.Lists.{some_not_none}
 use Rattle.resb_icu_text.proofs.leaf.binary_leaf.Goals as goal
 
 pub returns-in_default-clause-err : goal.returns-in_default-clause-err
 returns-in_default-clause-err c =
-    leaf_refuses _ _ _ _ _ _ c.no_string.ensures
+    leaf_fails _ _ _ _ _ _ c.no_string.ensures
     (no_digits (rw c.in_default.is at c.in_ok-lexeme.ensures.none))
 
 pub returns-in_default-2-clause-err : goal.returns-in_default-2-clause-err
 returns-in_default-2-clause-err c =
     let found = rw c.in-Some.is at c.in_ok-lexeme.ensures.found in
     let none = rw c.in_default-2.is at c.in_ok-bytes.ensures.none in
-    leaf_refuses _ _ _ _ _ _ c.new.ensures (odd_digits _ _ found.string
+    leaf_fails _ _ _ _ _ _ c.new.ensures (odd_digits _ _ found.string
     (sym (ap hex_bytes (c.deref.ensures.value ∙ c.text_of-digits.ensures.bytes)) ∙ none))
 
 pub returns-in_err-to-clause-err : goal.returns-in_err-to-clause-err
@@ -31,8 +32,8 @@ returns-in_err-to-clause-err c =
     let found = rw c.in-Some.is at c.in_ok-lexeme.ensures.found in
     let bytes = rw c.in-Some-2.is at c.in_ok-bytes.ensures.found in
     let e = c.in_err-to.ensures.err in
-    rw (p.1, p.2) (leaf_refuses _ _ _ _ _ _ e.1 (open_binary _ _ _ found.string
-    (some_digits _ _ (sym (ap hex_bytes (c.deref.ensures.value ∙ c.text_of-digits.ensures.bytes))
+    rw (p.1, p.2) (leaf_fails _ _ _ _ _ _ e.1 (open_binary _ _ _ found.string
+    (some_not_none _ _ (sym (ap hex_bytes (c.deref.ensures.value ∙ c.text_of-digits.ensures.bytes))
     ∙ bytes)) found.blanks e.0))
 
 pub returns-clause-ok : goal.returns-clause-ok

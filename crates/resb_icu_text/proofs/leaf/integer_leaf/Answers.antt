@@ -4,7 +4,7 @@ use Rattle.resb_tree.specs.Tree.{Tree, integer}
 use Rattle.resb_grammar.specs.GroupTypes.{integer_kind}
 use Rattle.resb_tree.proofs.ViewLemmas.{tree_of_integer}
 use Rattle.resb_icu_text.specs.Inner.Leaf.{Leaf}
-use Rattle.resb_icu_text.proofs.LeafLemmas.{leaf_refuses, integer_stands}
+use Rattle.resb_icu_text.proofs.LeafLemmas.{leaf_fails, integer_stands}
 use Rattle.resb_icu_text.proofs.LeafLemmas.{closing_at}
 use Rattle.resb_icu_text.proofs.ReachLemmas.{reach_right, reach_low, reach_high, reach_number}
 use Rattle.resb_icu_grammar.specs.Stuck.{no_integer, open_integer}
@@ -12,13 +12,13 @@ use Rattle.resb_icu_text.proofs.leaf.integer_leaf.Goals as goal
 
 pub returns-in_default-clause-err : goal.returns-in_default-clause-err
 returns-in_default-clause-err c =
-    leaf_refuses _ _ _ _ _ _ c.new.ensures (no_integer c.in_default.ensures.none)
+    leaf_fails _ _ _ _ _ _ c.new.ensures (no_integer c.in_default.ensures.none)
 
 pub returns-in_err-to-clause-err : goal.returns-in_err-to-clause-err
 returns-in_err-to-clause-err c =
     let p = err_from_is_err_and c.from_residual.result c.from_residual.ensures.1 in
     let e = c.in_err-to.ensures.err in
-    rw (p.1, p.2) (leaf_refuses _ _ _ _ _ _ e.1 (open_integer _ _ _ c.in-Some.ensures.found
+    rw (p.1, p.2) (leaf_fails _ _ _ _ _ _ e.1 (open_integer _ _ _ c.in-Some.ensures.found
     c.skip-next.ensures.skip e.0))
 
 pub returns-clause-ok : goal.returns-clause-ok

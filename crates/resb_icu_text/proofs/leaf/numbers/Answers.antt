@@ -1,6 +1,6 @@
 use Rattle.std.proofs.Common.{sym, ◌∙◌, arith}
 use Rattle.std.proofs.lemmas.Result.{err_from_is_err_and}
-use Rattle.resb_icu_text.proofs.LeafLemmas.{leaf_refuses, continues_first, continues_end}
+use Rattle.resb_icu_text.proofs.LeafLemmas.{leaf_fails, continues_first, continues_end}
 use Rattle.resb_icu_text.proofs.LeafLemmas.{continues_more, counted_more}
 use Rattle.resb_icu_text.proofs.ReachLemmas.{reach_number, reach_low, reach_right}
 use Rattle.resb_icu_grammar.specs.Stuck.{none_yet, no_number, open_vector}
@@ -18,7 +18,7 @@ numbers-init c = record {
 
 pub returns-in_default-clause-err : goal.returns-in_default-clause-err
 returns-in_default-clause-err c =
-    leaf_refuses _ _ _ _ _ _ c.new.ensures (no_number _ c.numbers.invariant.counted
+    leaf_fails _ _ _ _ _ _ c.new.ensures (no_number _ c.numbers.invariant.counted
     c.numbers.invariant.some c.in_default.ensures.none)
 
 pub returns-in_err-here-clause-err : goal.returns-in_err-here-clause-err
@@ -26,7 +26,7 @@ returns-in_err-here-clause-err c =
     let p = err_from_is_err_and c.from_residual-in_err-here.result
     c.from_residual-in_err-here.ensures.1 in
     let e = c.in_err-here.ensures.err in
-    rw (p.1, p.2) (leaf_refuses _ _ _ _ _ _ e.2 (open_vector _ _ _ _ c.numbers.invariant.counted
+    rw (p.1, p.2) (leaf_fails _ _ _ _ _ _ e.2 (open_vector _ _ _ _ c.numbers.invariant.counted
     c.in-Some.ensures.found c.skip-place.ensures.skip e.0 e.1))
 
 pub returns-then-byte-eq125-clause-ok : goal.returns-then-byte-eq125-clause-ok

@@ -4,7 +4,7 @@ use Rattle.resb_tree.specs.Tree.{Tree, string}
 use Rattle.resb_grammar.specs.GroupTypes.{string_kind}
 use Rattle.resb_tree.proofs.ViewLemmas.{tree_of_string}
 use Rattle.resb_icu_text.specs.Inner.Leaf.{Leaf}
-use Rattle.resb_icu_text.proofs.LeafLemmas.{leaf_refuses, string_stands}
+use Rattle.resb_icu_text.proofs.LeafLemmas.{leaf_fails, string_stands}
 use Rattle.resb_icu_text.proofs.LeafLemmas.{closing_at}
 use Rattle.resb_icu_text.proofs.ReachLemmas.{reach_right, reach_string}
 use Rattle.resb_icu_grammar.specs.Stuck.{no_string, open_string}
@@ -13,7 +13,7 @@ use Rattle.resb_icu_text.proofs.leaf.string_leaf.Goals as goal
 
 pub returns-in_default-clause-err : goal.returns-in_default-clause-err
 returns-in_default-clause-err c =
-    leaf_refuses _ _ _ _ _ _ c.no_string.ensures
+    leaf_fails _ _ _ _ _ _ c.no_string.ensures
     (no_string (rw c.in_default.is at c.in_ok-lexeme.ensures.none))
 
 pub returns-in_err-to-clause-err : goal.returns-in_err-to-clause-err
@@ -22,7 +22,7 @@ returns-in_err-to-clause-err c =
     c.from_residual-in_err-to.ensures.1 in
     let found = rw c.in-Some.is at c.in_ok-lexeme.ensures.found in
     let e = c.in_err-to.ensures.err in
-    rw (p.1, p.2) (leaf_refuses _ _ _ _ _ _ e.1 (open_string _ _ _ found.string found.blanks e.0))
+    rw (p.1, p.2) (leaf_fails _ _ _ _ _ _ e.1 (open_string _ _ _ found.string found.blanks e.0))
 
 pub returns-clause-ok : goal.returns-clause-ok
 returns-clause-ok c =

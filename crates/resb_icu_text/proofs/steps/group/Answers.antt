@@ -1,9 +1,9 @@
 use Rattle.std.proofs.Common.{◌+◌, ◌*◌, ◌≤◌, arith, sym, ◌∙◌}
-use Rattle.resb_icu_text.proofs.StepsLemmas.{as_untyped, no_group, steps_by, stops_by}
-use Rattle.resb_icu_text.proofs.StepsLemmas.{ok_by, err_by}
+use Rattle.resb_icu_text.proofs.StepsLemmas.{as_untyped, no_group, steps_by, fails_by}
 use Rattle.resb_icu_text.specs.Inner.Reach.{reach}
 use Rattle.resb_icu_text.specs.Inner.Steps.{spent}
 use Rattle.resb_icu_text.proofs.ReachLemmas.{reach_left, reach_low, reach_high}
+use Rattle.resb_icu_text.proofs.Lists.{ok_by, err_by}
 use Rattle.resb_icu_text.proofs.steps.group.Goals as goal
 
 pub returns-then-b-eq123-clause-ok : goal.returns-then-b-eq123-clause-ok
@@ -13,7 +13,7 @@ returns-then-b-eq123-clause-ok c =
 
 pub returns-then-b-eq123-clause-err : goal.returns-then-b-eq123-clause-err
 returns-then-b-eq123-clause-err c =
-    err_by _ _ _ (λ e. stops_by _ _ _ e (as_untyped _ _ _
+    err_by _ _ _ (λ e. fails_by _ _ _ e (as_untyped _ _ _
     (sym c.byte-b.ensures.byte ∙ c.if-b-eq123.true) c.skip-next.ensures.skip)) c.untyped.ensures.err
 
 pub returns-clause-err : goal.returns-clause-err

@@ -1,7 +1,7 @@
 use Rattle.std.proofs.Common.{arith, sym, ◌∙◌, ap, ◌++◌, ◌∷◌, []}
 use Rattle.resb_icu_text.proofs.StepsLemmas.{behind_member, behind_value, no_collation}
 use Rattle.std.specs.Cmp.Derive.{both_true}
-use Rattle.resb_icu_text.proofs.StepsLemmas.{first_fails, second_fails}
+use Rattle.std.proofs.lemmas.Bool.{and_left, and_right}
 use Rattle.resb_icu_text.proofs.ReachLemmas.{reach_low}
 use Rattle.resb_icu_text.proofs.steps.resume.Goals.{else-is_collation-via-then-is_collation+else-is_table}
 use Rattle.resb_icu_text.proofs.steps.resume.Goals.{else-is_collation-via-else-is_collation}
@@ -24,9 +24,9 @@ returns-in_ok-push-in-Table-clause-ok c =
     c.args.resource _ _
     (elim c.else-is_collation.branch [
       | else-is_collation-via-then-is_collation+else-is_table w ↦
-          second_fails _ _ (sym w.is_table.ensures ∙ w.if-is_table.false)
+          and_right _ _ (sym w.is_table.ensures ∙ w.if-is_table.false)
       | else-is_collation-via-else-is_collation w ↦
-          first_fails _ _ (sym c.is_collation.ensures ∙ w.if-is_collation.false)
+          and_left _ _ (sym c.is_collation.ensures ∙ w.if-is_collation.false)
     ])
     c.skip-in-Table.ensures.skip
     (c.in_ok-push-in-Table.ensures.items

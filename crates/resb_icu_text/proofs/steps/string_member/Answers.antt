@@ -6,8 +6,9 @@ use Rattle.resb_icu_text.proofs.steps.string_member.Goals as goal
 
 pub returns-in_default-clause-err : goal.returns-in_default-clause-err
 returns-in_default-clause-err c =
-    no_member _ _ _ _ _ c.no_string.ensures c.requires.no_brace c.requires.no_comma
-    c.requires.no_group c.requires.no_type (rw c.in_default.is at c.in_ok-lexeme.ensures.none)
+    no_member _ _ _ _ _ (rw c.member_behind.ensures at c.no_string.ensures) c.requires.no_brace
+    c.requires.no_comma c.requires.no_group c.requires.no_type
+    (rw c.in_default.is at c.in_ok-lexeme.ensures.none)
 
 pub returns-then-is_string-clause-err : goal.returns-then-is_string-clause-err
 returns-then-is_string-clause-err c =

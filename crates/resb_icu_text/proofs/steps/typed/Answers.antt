@@ -1,48 +1,37 @@
 use Rattle.std.proofs.Common.{◌+◌, ◌*◌, ◌≤◌, sym, ◌∙◌, arith}
+use Rattle.std.proofs.lemmas.Result.{err_from_is_err_and}
 use Rattle.resb_icu_text.proofs.StepsLemmas.{as_typed, no_type, no_group_brace, steps_by}
-use Rattle.resb_icu_text.proofs.StepsLemmas.{stops_by, ok_by, err_by}
+use Rattle.resb_icu_text.proofs.StepsLemmas.{fails_by}
 use Rattle.resb_icu_text.specs.Inner.Reach.{reach}
 use Rattle.resb_icu_text.specs.Inner.Steps.{spent}
 use Rattle.resb_icu_text.proofs.ReachLemmas.{reach_colon, reach_left, reach_low, reach_high}
+use Rattle.resb_icu_text.proofs.Lists.{ok_by, err_by}
 use Rattle.resb_icu_text.proofs.steps.typed.Goals as goal
-
-pub returns-in_default-clause-err : goal.returns-in_default-clause-err
-returns-in_default-clause-err c =
-    no_type _ _ _ c.new.ensures c.requires.colon c.in_default.ensures.none
 
 pub returns-then-byte-ne123-clause-err : goal.returns-then-byte-ne123-clause-err
 returns-then-byte-ne123-clause-err c =
-    no_group_brace _ _ _ _ _ _ c.new-then-byte-ne123.ensures c.in-Some.ensures.found
+    no_group_brace _ _ _ _ _ _ c.new.ensures c.in_ok-end.ensures.found
     c.skip-brace.ensures.skip
     (λ e. c.if-byte-ne123.true (c.byte.ensures.byte ∙ e))
 
 pub returns-clause-ok : goal.returns-clause-ok
 returns-clause-ok c =
-    ok_by _ _ _ (λ s. steps_by _ _ _ s (as_typed _ _ _ _ _ _ c.in-Some.ensures.found
+    ok_by _ _ _ (λ s. steps_by _ _ _ s (as_typed _ _ _ _ _ _ c.in_ok-end.ensures.found
     c.skip-brace.ensures.skip (sym c.byte.ensures.byte ∙ c.if-byte-ne123.false)
     c.skip-first.ensures.skip)) c.content.ensures.ok
 
 pub returns-clause-err : goal.returns-clause-err
 returns-clause-err c =
-    err_by _ _ _ (λ e. stops_by _ _ _ e (as_typed _ _ _ _ _ _ c.in-Some.ensures.found
+    err_by _ _ _ (λ e. fails_by _ _ _ e (as_typed _ _ _ _ _ _ c.in_ok-end.ensures.found
     c.skip-brace.ensures.skip (sym c.byte.ensures.byte ∙ c.if-byte-ne123.false)
     c.skip-first.ensures.skip)) c.content.ensures.err
-
-pub returns-in_default-clause-most : goal.returns-in_default-clause-most
-returns-in_default-clause-most c =
-    omega (
-      arith,
-      c.in_default.ensures.most,
-      reach_colon c.args.text.now c.args.at c.requires.colon,
-      c.requires.within,
-    )
 
 pub returns-then-byte-ne123-clause-most : goal.returns-then-byte-ne123-clause-most
 returns-then-byte-ne123-clause-most c =
     omega (
       arith,
-      c.in-Some.ensures.cost,
-      c.in-Some.ensures.within,
+      c.in_ok-end.ensures.cost,
+      c.in_ok-end.ensures.within,
       c.skip-brace.ensures.cost,
       c.skip-brace.ensures.order,
       reach_colon c.args.text.now c.args.at c.requires.colon,
@@ -59,8 +48,8 @@ returns-clause-cost c =
     (λ s h. omega (
       arith,
       h,
-      c.in-Some.ensures.cost,
-      c.in-Some.ensures.within,
+      c.in_ok-end.ensures.cost,
+      c.in_ok-end.ensures.within,
       c.skip-brace.ensures.cost,
       c.skip-brace.ensures.order,
       reach_colon c.args.text.now c.args.at c.requires.colon,
@@ -77,8 +66,8 @@ returns-clause-most c =
     omega (
       arith,
       c.content.ensures.most,
-      c.in-Some.ensures.cost,
-      c.in-Some.ensures.within,
+      c.in_ok-end.ensures.cost,
+      c.in_ok-end.ensures.within,
       c.skip-brace.ensures.cost,
       c.skip-brace.ensures.order,
       reach_colon c.args.text.now c.args.at c.requires.colon,
@@ -88,4 +77,18 @@ returns-clause-most c =
       c.skip-first.ensures.cost,
       c.skip-first.ensures.order,
       reach_low c.args.text.now c.skip-first.result c.skip-first.ensures.fits,
+    )
+
+pub returns-in_err-end-clause-err : goal.returns-in_err-end-clause-err
+returns-in_err-end-clause-err c =
+    let p = err_from_is_err_and c.from_residual.result c.from_residual.ensures.1 in
+    rw (p.1, p.2) (no_type _ _ _ c.in_err-end.ensures.err c.requires.colon)
+
+pub returns-in_err-end-clause-most : goal.returns-in_err-end-clause-most
+returns-in_err-end-clause-most c =
+    omega (
+      arith,
+      c.in_err-end.ensures.most,
+      reach_colon c.args.text.now c.args.at c.requires.colon,
+      c.requires.within,
     )

@@ -2,11 +2,12 @@ use Rattle.std.proofs.Common.{◌≡◌, subst, rules, arith}
 use Rattle.resb_icu_text.proofs.ReachLemmas.{reach_word}
 use Rattle.resb_grammar.specs.ByteRuns.{Run}
 use Rattle.resb_icu_grammar.specs.Bytes.{is_word}
-use Rattle.resb_icu_text.proofs.WordsLemmas.{if_none_by, no_number, signed_number, no_whole_number}
+use Rattle.resb_icu_text.proofs.WordsLemmas.{no_number, signed_number, no_whole_number}
+use Rattle.resb_icu_text.proofs.Lists.{IfNone_from}
 use Rattle.resb_icu_text.proofs.words.number.Goals as goal
 
 pub returns-in_err-to-clause-none : goal.returns-in_err-to-clause-none
-returns-in_err-to-clause-none c = if_none_by _ _ (no_number _ _ c.in_err-to.ensures.none)
+returns-in_err-to-clause-none c = IfNone_from _ _ (no_number _ _ c.in_err-to.ensures.none)
 
 pub returns-then-to-end-clause-found : goal.returns-then-to-end-clause-found
 returns-then-to-end-clause-found c =

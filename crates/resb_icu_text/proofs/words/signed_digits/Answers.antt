@@ -1,21 +1,22 @@
 use Rattle.std.proofs.Common.{sym, ◌∙◌}
 use Rattle.resb_icu_text.specs.Inner.Numbers.{unsigned, plus}
-use Rattle.resb_icu_text.proofs.WordsLemmas.{if_none_by, no_plus, no_minus, no_digits, is_minus}
+use Rattle.resb_icu_text.proofs.WordsLemmas.{no_plus, no_minus, no_digits, is_minus}
+use Rattle.resb_icu_text.proofs.Lists.{IfNone_from}
 use Rattle.resb_icu_text.proofs.words.signed_digits.Goals as goal
 
 pub returns-in_err-to-clause-none : goal.returns-in_err-to-clause-none
 returns-in_err-to-clause-none c =
-    if_none_by _ _
+    IfNone_from _ _
     (no_plus _ _ (sym c.byte-b.ensures.byte ∙ c.if-b-eq43.true) c.in_err-to.ensures.none)
 
 pub returns-in_err-to-2-clause-none : goal.returns-in_err-to-2-clause-none
 returns-in_err-to-2-clause-none c =
-    if_none_by _ _
+    IfNone_from _ _
     (no_minus _ _ (sym c.byte-b.ensures.byte ∙ c.if-b-eq45.true) c.in_err-to-2.ensures.none)
 
 pub returns-in_err-to-3-clause-none : goal.returns-in_err-to-3-clause-none
 returns-in_err-to-3-clause-none c =
-    if_none_by _ _
+    IfNone_from _ _
     (no_digits _ _ (λ e. c.if-b-eq43.false (c.byte-b.ensures.byte ∙ e))
     (λ e. c.if-b-eq45.false (c.byte-b.ensures.byte ∙ e)) c.in_err-to-3.ensures.none)
 

@@ -38,6 +38,10 @@ impl<'a> Build<'a> for Drafts {
 
     ghost held = { λ b d. is_ready d };
 
+    fn takes_key(&self, _last: Option<&'a str>, _key: &'a str) -> bool {
+        true
+    }
+
     fn leaf(&mut self, resource: Resource<'a>) -> Result<Draft<'a>, TextParserError> {
         Ok(Draft::Leaf(resource))
     }

@@ -35,6 +35,10 @@ impl<'a> Build<'a> for Row<'a> {
 
     ghost held = { stands_at };
 
+    fn takes_key(&self, last: Option<&'a str>, key: &'a str) -> bool {
+        stands_behind(last, key)
+    }
+
     fn leaf(&mut self, resource: Resource<'a>) -> Result<Span, TextParserError> {
         push_alone(self, Piece::Leaf(resource))
     }

@@ -1,10 +1,9 @@
 //! The braces that must stand at a place, each with the discardable text after it.
 //! A brace that is one of several tokens which may stand there is read in `steps`.
-ghost use Rattle.std.specs.Prelude.{◌≡◌, ◌≢◌, ◌+◌, ◌*◌, ◌^◌, ◌<◌, ◌≤◌, length};
-ghost use Rattle.std.specs.Prelude.{slice_index, IfOk, IfErr};
+ghost use Rattle.std.specs.Prelude.{◌+◌, ◌*◌, ◌<◌, ◌≤◌, length};
+ghost use Rattle.std.specs.Prelude.{IfOk, IfErr};
 ghost use Rattle.std.specs.Prelude.{MatchResult};
 ghost use Rattle.resb_text.specs.Inner.Reach.{reach};
-ghost use Rattle.resb_grammar.specs.Ascii as ascii;
 ghost use Rattle.resb_text.specs.Inner.Braces.{Opens, IsUnopened, Closes, IsUnclosed};
 
 use crate::error::TextParserError;

@@ -260,12 +260,19 @@ icu_row 'b:int{}' 2 "'table' or 'table(nofallback)'"
 icu_row 'b}' 2 "'{'"
 icu_row 'b{a}' 4 "'{' or a type"
 icu_row 'b{a:foo{}}' 4 'a type'
+icu_row 'b{a:alias{}}' 4 "a type of a tree, and 'alias' is none"
+icu_row 'b{a:import{}}' 4 "a type of a tree, and 'import' is none"
+icu_row 'b{a:include{}}' 4 "a type of a tree, and 'include' is none"
+icu_row 'b{a:process(x){}}' 4 "a type of a tree, and 'process' is none"
 icu_row 'b{a:string{}}' 12 'a string'
 icu_row 'b{a:string{"x",}}' 15 "'}'"
 icu_row 'b{a:bin{"0"}}' 9 'pairs of hex digits'
 icu_row 'b{a:int{x}}' 9 'a number'
+icu_row 'b{a:intvector{x}}' 15 "a number or '}'"
+icu_row 'b{a:intvector{1 2}}' 17 "a comma or '}'"
 icu_row 'b{a{"\q"}}' 5 'a quoted string that is closed, with known escapes'
 icu_row 'b{a{,}}' 5 "a resource or '}'"
+icu_row 'b{a:array{"x" =}}' 15 "a comma, a resource or '}'"
 icu_row 'b{a{"x" =}}' 9 "'}', a comma, '{' or a type"
 icu_row 'b{a{"\"" {}}}' 5 'a string that may be a key'
 icu_row 'b{a:array{"x" y}}' 15 'a comma between two strings'

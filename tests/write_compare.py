@@ -5,7 +5,8 @@
 
 OURS is a program that takes the words `compile IN OUT`. OTHER is a command as `answers.py` says,
 which answers a text by the hex digits of its file. Two texts in seven are one array of strings that
-share suffixes, so that the pool is all there is. Behind each 200 of them stands one with offsets or
+share suffixes, so that the pool is all there is. In half of the others the keys of each table
+ascend. Behind each 200 of them stands one with offsets or
 key positions that no 16-bit unit holds. The first difference is printed and ends the run
 with status 1. KEPT gets the hex digits of each file in a line, for `read_compare.py`.
 """
@@ -47,7 +48,10 @@ def strings(rng, known):
 def entries(rng, known, depth):
     keys = ['k', 'l', 'key', 'ey', 'a', 'zz', '"é"', 'K', '0']
     count = rng.choice([0, 1, 1, 2, 3, 5])
-    return ''.join('%s%s' % (rng.choice(keys), value(rng, known, depth)) for _ in range(count))
+    chosen = [rng.choice(keys) for _ in range(count)]
+    if rng.ascend:
+        chosen = sorted(set(chosen), key=lambda key: key.strip('"').encode())
+    return ''.join('%s%s' % (key, value(rng, known, depth)) for key in chosen)
 
 
 def value(rng, known, depth):
@@ -74,6 +78,7 @@ def text(rng):
     known = []
     if rng.randrange(7) < 2:
         return 'b{a:array%s}' % strings(rng, known)
+    rng.ascend = rng.randrange(2) == 0
     flag = rng.choice(['', '', ':table(nofallback)'])
     return 'b%s{%s}' % (flag, entries(rng, known, 4))
 
@@ -81,6 +86,7 @@ def text(rng):
 def far(rng):
     """A text with a key or with strings that others stand far behind."""
     known = []
+    rng.ascend = False
     if rng.randrange(2):
         long = 'K' * rng.choice([65501, 65502, 65503, 65504, 70000])
         return 'b{%s%s%s}' % (long, value(rng, known, 1), entries(rng, known, 2))

@@ -2,5 +2,5 @@
 //! from a text to a file.
 //! Texts and files, and the ways between them and trees, are in `text` and `binary`.
 
-pub use resb_draft::{Draft, Piece, Row};
+pub use resb_draft::{Draft, Members, Piece};
 pub use resb_format::{Int28, Key, NoMemory, Resource, ResourceBundle, Table};

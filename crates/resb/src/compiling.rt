@@ -1,5 +1,5 @@
 //! From a text to the bytes of its file: the reader, and then the writer with the discovered keys.
-//! No tree is made in between, but a row, or a draft where the text can't be held in a row.
+//! No tree is made in between, but a draft of one.
 //! What a text and a file are, and each half of the way, is in the crates below.
 ghost use Rattle.std.specs.Prelude.{Some, IfOk, IfErr};
 ghost use Rattle.resb_grammar.specs.Limit.{MadeWithin};
@@ -65,19 +65,6 @@ pub fn compile(alloc: Global, text: &str) -> Result<Vec<u8>, CompileError>
     // named reason or for memory.
     ensures err { IfErr result (IsRefused text.now) }
 {
-    let Some((bundle, keys)) = Reader::read_row(alloc, text)? else {
-        return compile_draft(alloc, text);
-    };
-    let fallback = bundle.is_locale_fallback_enabled;
-    let file = Serializer::row_to_bytes(alloc, &bundle.root, fallback, keys.as_slice())?;
-    Ok(file)
-}
-
-/// The bytes of the file of a bundle's text, which is read as a draft.
-fn compile_draft(alloc: Global, text: &str) -> Result<Vec<u8>, CompileError>
-    ensures ok { IfOk result (λ file. IsCompiled text.now file.items) }
-    ensures err { IfErr result (IsRefused text.now) }
-{
     let (bundle, keys) = Reader::read_draft(alloc, text)?;
     let fallback = bundle.is_locale_fallback_enabled;
     let file = Serializer::draft_to_bytes(alloc, &bundle.root, fallback, keys.as_slice())?;
@@ -111,29 +98,6 @@ impl Error for CompileWithinError {}
 /// the limit, as `Reader::read_within` counts them. The limit is for the reading: what the writer
 /// takes beside it is not within it.
 pub fn compile_within(alloc: Global, text: &str, limit: u64) -> Result<Vec<u8>, CompileWithinError>
-    ensures ok { IfOk result (λ file. IsCompiled text.now file.items) }
-    ensures within { IfOk result (λ file. MadeWithin text.now limit) }
-    ensures err { IfErr result (IsRefusedWithin text.now limit) }
-{
-    let (bundle, keys) = match Reader::read_row_within(alloc, text, limit) {
-        Ok(Some(read)) => read,
-        Ok(None) => return compile_draft_within(alloc, text, limit),
-        Err(LimitError::Text(e)) => return Err(CompileWithinError::Text(CompileError::Reading(e))),
-        Err(LimitError::Larger) => return Err(CompileWithinError::Larger),
-    };
-    let fallback = bundle.is_locale_fallback_enabled;
-    match Serializer::row_to_bytes(alloc, &bundle.root, fallback, keys.as_slice()) {
-        Ok(file) => Ok(file),
-        Err(e) => Err(CompileWithinError::Text(CompileError::Writing(e))),
-    }
-}
-
-/// The bytes of the file of a bundle's text, which is read as a draft within the limit.
-fn compile_draft_within(
-    alloc: Global,
-    text: &str,
-    limit: u64,
-) -> Result<Vec<u8>, CompileWithinError>
     ensures ok { IfOk result (λ file. IsCompiled text.now file.items) }
     ensures within { IfOk result (λ file. MadeWithin text.now limit) }
     ensures err { IfErr result (IsRefusedWithin text.now limit) }

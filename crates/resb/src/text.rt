@@ -6,4 +6,4 @@ pub use resb_icu_grammar::IcuExpected;
 pub use resb_icu_print::{IcuCause, IcuPrintError, icu_cause_path, print_icu_text};
 pub use resb_icu_text::{IcuReader, IcuTextError, IcuTurns};
 pub use resb_print::{Cause, PathStep, PrintError, cause_path, print_text};
-pub use resb_text::{DraftBundle, Expected, LimitError, Reader, RowBundle, TextParserError, Turns};
+pub use resb_text::{DraftBundle, Expected, LimitError, Reader, TextParserError, Turns};

@@ -1,4 +1,7 @@
--- Lemmas about drafts.
-pub mod DraftLemmas
-mod DroppingLemmas
-mod LayingLemmas
+-- For this crate alone.
+pub mod Lists
+pub mod Standing
+mod Made
+mod Whole
+mod InOrder
+mod EntriesLemmas

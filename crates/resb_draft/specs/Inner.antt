@@ -1,2 +1,2 @@
 -- Words of private functions.
-pub mod Dropping
+pub mod Entries

@@ -1,4 +1,4 @@
 -- The trees for which drafts stand, and when one is ready.
 pub mod Drafts
 pub mod Inner
-pub mod Rows
+pub mod Pieces

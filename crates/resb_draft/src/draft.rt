@@ -1,51 +1,38 @@
-//! Drafts, which stand for trees.
-//! How they are dropped stands in `dropping`, in which order they are laid in `laying_order`.
-use crate::dropping::{Inside, drop_all, set_aside};
+//! Drafts, which stand for trees: their resources as one list, and what these say of each other.
+//! How a draft is made stands in `making`, in which order it is laid in `laying_order`.
 use resb_tree::Resource;
 
-/// A draft of a resource. It stands for one tree where it is ready: the keys of its tables ascend
-/// strictly, and no leaf of it is an array or a table. Its drop takes no stack for its depth.
-pub enum Draft<'a> {
+/// A part of a draft's list of members.
+#[derive(Clone, Copy)]
+pub struct Members {
+    /// The place of the first of them.
+    pub from: u32,
+    /// How many they are.
+    pub count: u32,
+}
+
+/// A resource without what is inside it.
+#[derive(Drop)]
+pub enum Piece<'a> {
+    /// A text.
+    String(&'a str),
     /// A resource without others inside.
     Leaf(Resource<'a>),
-    /// Members in order.
-    Array(Vec<Draft<'a>>),
-    /// Entries, in the order of the keys' UTF-8 bytes.
-    Table(Vec<(&'a str, Draft<'a>)>),
+    /// An array of these members.
+    Array(Members),
+    /// A table whose values are these members, and the place of the first of its keys.
+    Table(Members, u32),
 }
 
-impl Drop for Draft<'_> {
-    #[tactic(auto, using(crate::proofs::DroppingLemmas::drop_steps))]
-    #[cycle(dropping)]
-    fn drop(self) {
-        match self.into_inside() {
-            Inside::Nothing => {}
-            Inside::List(items) => drop_all(items),
-            Inside::Entries(mut entries) => {
-                let mut pending = Vec::new(*entries.allocator());
-                'entries: while let Some((_, item)) = entries.pop() {
-                    if let Err(item) = set_aside(&mut pending, item) {
-                        drop(item);
-                    }
-                }
-                entries.destroy_empty();
-                drop_all(pending);
-            }
-        }
-    }
-}
-
-impl<'a> Draft<'a> {
-    ghost use Rattle.resb_draft.specs.Inner.Dropping.{InsideOf};
-
-    /// Drops what can't be deep, and gives the rest.
-    pub(crate) fn into_inside(self) -> Inside<'a>
-        ensures { InsideOf self.entry result }
-    {
-        match self {
-            Draft::Array(items) => Inside::List(items),
-            Draft::Table(entries) => Inside::Entries(entries),
-            Draft::Leaf(_) => Inside::Nothing,
-        }
-    }
+/// A tree as lists. A piece goes by its number, its place among the pieces.
+#[derive(Drop)]
+pub struct Draft<'a> {
+    /// The tree's resources, members before their collection.
+    pub pieces: Vec<Piece<'a>>,
+    /// The numbers of the members of collections, those of one collection one behind another.
+    pub members: Vec<u32>,
+    /// The keys of tables, those of one table one behind another.
+    pub keys: Vec<&'a str>,
+    /// The number of the root.
+    pub root: u32,
 }

@@ -1,94 +1,140 @@
-//! The drafts of a tree in the order in which they are laid: members before their collection.
+//! The pieces of a draft in the order in which they are laid: members before their collection.
 //! What is laid for each is not said here. No function calls itself, so that any depth is walked.
-ghost use Rattle.std.specs.Prelude.{◌≡◌, ◌++◌, true, [], map, reverse, IfOk, OnOk};
-ghost use Rattle.resb_tree.specs.LayingOrder.{laying_order, children};
-ghost use Rattle.resb_draft.specs.Drafts.{draft_tree, is_ready, trees_seen, are_ready};
+ghost use Rattle.std.specs.Prelude.{◌≡◌, ◌++◌, ℕ, true, [], map, reverse, IfOk, OnOk, IsTrue, IfSome};
+ghost use Rattle.std.specs.Prelude.{◌+◌, ◌≤◌, length, slice_range};
+ghost use Rattle.std.specs.List.{flat_map};
+ghost use Rattle.resb_tree.specs.Borrowing.{all_true};
+ghost use Rattle.resb_tree.specs.LayingOrder.{laying_order, children, own_keys};
+ghost use Rattle.resb_draft.specs.Drafts.{tree_at, is_whole, draft_tree, is_ready, texts};
+ghost use Rattle.resb_draft.specs.Pieces.{is_piece, are_pieces};
 
-use crate::draft::Draft;
+use crate::draft::{Draft, Piece};
 use std::alloc::{AllocError, Global};
 
-/// The drafts of a tree in laying order: members before their collection.
-pub fn drafts_in_order<'t, 'a>(
-    alloc: Global,
-    root: &'t Draft<'a>,
-) -> Result<Vec<&'t Draft<'a>>, AllocError>
-    requires ready { is_ready root.now ≡ true }
-    ensures order { IfOk result (λ v. trees_seen v.items ≡ laying_order (draft_tree root.now)) }
-    ensures ready { IfOk result (λ v. are_ready v.items ≡ true) }
-{
-    let mut order = Vec::new(alloc);
-    push_laid(alloc, &mut order, root)?;
-    order.reverse();
-    Ok(order)
+impl<'a> Draft<'a> {
+    /// The numbers of the pieces of the draft's tree in laying order.
+    pub fn in_laying_order(&self, alloc: Global) -> Result<Vec<u32>, AllocError>
+        requires { is_ready self.now ≡ true }
+        ensures order { IfOk result
+            (λ v. map (tree_at self.now) v.items ≡ laying_order (draft_tree self.now)) }
+        ensures whole { IfOk result (λ v. all_true (map (is_whole self.now) v.items) ≡ true) }
+    {
+        let mut order = Vec::with_capacity(alloc, self.pieces.len())?;
+        self.push_laid(alloc, &mut order)?;
+        order.reverse();
+        Ok(order)
+    }
+
+    /// Appends the numbers of the pieces of the draft's tree, each behind its collection's, to
+    /// none.
+    fn push_laid(&self, alloc: Global, order: &mut Vec<u32>) -> Result<(), AllocError>
+        requires fresh { order.old.items ≡ [] }
+        requires ready { is_ready self.now ≡ true }
+        ensures order { OnOk result (reverse (map (tree_at self.now) order.new.items)
+            ≡ laying_order (draft_tree self.now)) }
+        ensures whole { OnOk result (all_true (map (is_whole self.now) order.new.items) ≡ true) }
+    {
+        let mut pending = Vec::new(alloc);
+        pending.push(self.root)?;
+        while let Some(number) = pending.pop() {
+            order.push(number)?;
+            self.push_children(&mut pending, number)?;
+        }
+        Ok(())
+    }
+
+    /// Appends the numbers of the pieces right inside a piece.
+    fn push_children(&self, pending: &mut Vec<u32>, number: u32) -> Result<(), AllocError>
+        requires { is_whole self.now number ≡ true }
+        ensures trees { OnOk result (map (tree_at self.now) pending.new.items
+            ≡ map (tree_at self.now) pending.old.items ++ children (tree_at self.now number)) }
+        ensures whole { OnOk result (all_true (map (is_whole self.now) pending.old.items) ≡ true
+            → all_true (map (is_whole self.now) pending.new.items) ≡ true) }
+    {
+        match &self.pieces[number as usize] {
+            Piece::String(_) => Ok(()),
+            Piece::Leaf(_) => Ok(()),
+            Piece::Array(part) => {
+                pending.extend_from_slice(part_of(&self.members, part.from, part.count))
+            }
+            Piece::Table(part, _) => {
+                pending.extend_from_slice(part_of(&self.members, part.from, part.count))
+            }
+        }
+    }
+
+    /// Whether the pieces of these numbers are all pieces in their order, and the keys those of
+    /// their tables.
+    pub fn stands_in(&self, numbers: &[u32]) -> bool
+        requires { all_true (map (is_whole self.now) numbers.now) ≡ true }
+        ensures pieces { IsTrue result
+            → are_pieces self.now.pieces.items (map (tree_at self.now) numbers.now) ≡ true }
+        ensures keys { IsTrue result
+            → texts self.now.keys.items ≡ flat_map own_keys (map (tree_at self.now) numbers.now) }
+    {
+        let mut keys = 0;
+        for at in 0..numbers.len() {
+            if numbers[at] as usize != at {
+                return false;
+            }
+            let Some(end) = self.keys_end(numbers[at], keys) else {
+                return false;
+            };
+            keys = end;
+        }
+        numbers.len() == self.pieces.len() && keys == self.keys.len()
+    }
+
+    /// Where the keys end of the table that the piece of this number stands for, if they begin at
+    /// this place. The keys of any other piece end where they begin.
+    fn keys_end(&self, number: u32, from: usize) -> Option<usize>
+        requires whole { is_whole self.now number ≡ true }
+        requires from { from ≤ length self.now.keys.items }
+        ensures order { IfSome result (λ to. (from ≤ to) × (to ≤ length self.now.keys.items)) }
+        ensures keys { IfSome result (λ to.
+            slice_range (texts self.now.keys.items) from to ≡ own_keys (tree_at self.now number)) }
+    {
+        match &self.pieces[number as usize] {
+            Piece::Table(part, first) => {
+                if *first as usize == from {
+                    Some(from + part.count as usize)
+                } else {
+                    None
+                }
+            }
+            Piece::String(_) => Some(from),
+            Piece::Leaf(_) => Some(from),
+            Piece::Array(_) => Some(from),
+        }
+    }
+
+    /// The piece of this number.
+    pub fn piece(&self, number: u32) -> &Piece<'a>
+        requires { is_whole self.now number ≡ true }
+        ensures { is_piece result.now (tree_at self.now number) ≡ true }
+    {
+        &self.pieces[number as usize]
+    }
+
+    /// The keys of the table that the piece of this number stands for; of any other piece none.
+    pub fn own_keys(&self, number: u32) -> &[&'a str]
+        requires { is_whole self.now number ≡ true }
+        ensures { texts result.now ≡ own_keys (tree_at self.now number) }
+    {
+        match &self.pieces[number as usize] {
+            Piece::Table(part, first) => part_of(&self.keys, *first, part.count),
+            Piece::String(_) => &[],
+            Piece::Leaf(_) => &[],
+            Piece::Array(_) => &[],
+        }
+    }
 }
 
-/// Appends the drafts of a tree, each behind its collection, to none.
-fn push_laid<'t, 'a>(
-    alloc: Global,
-    order: &mut Vec<&'t Draft<'a>>,
-    root: &'t Draft<'a>,
-) -> Result<(), AllocError>
-    requires fresh { order.old.items ≡ [] }
-    requires ready { is_ready root.now ≡ true }
-    ensures order { OnOk result (reverse (trees_seen order.new.items)
-        ≡ laying_order (draft_tree root.now)) }
-    ensures ready { OnOk result (are_ready order.new.items ≡ true) }
+/// The part of a list that begins at a place and has so many elements.
+fn part_of<X>(list: &[X], from: u32, count: u32) -> &[X]
+    requires { from + count ≤ length list.now }
+    ensures { result.now ≡ slice_range list.now from (from + count) }
 {
-    let mut pending = Vec::new(alloc);
-    pending.push(root)?;
-    while let Some(draft) = pending.pop() {
-        order.push(draft)?;
-        push_children(&mut pending, draft)?;
-    }
-    Ok(())
-}
-
-/// Appends the drafts right inside a draft.
-fn push_children<'t, 'a>(
-    pending: &mut Vec<&'t Draft<'a>>,
-    draft: &'t Draft<'a>,
-) -> Result<(), AllocError>
-    requires ready { is_ready draft.now ≡ true }
-    ensures trees { OnOk result (trees_seen pending.new.items
-        ≡ trees_seen pending.old.items ++ children (draft_tree draft.now)) }
-    ensures ready { OnOk result (are_ready pending.old.items ≡ true
-        → are_ready pending.new.items ≡ true) }
-{
-    match draft {
-        Draft::Leaf(_) => Ok(()),
-        Draft::Array(items) => push_items(pending, items),
-        Draft::Table(entries) => push_values(pending, entries),
-    }
-}
-
-/// Appends drafts.
-fn push_items<'t, 'a>(
-    pending: &mut Vec<&'t Draft<'a>>,
-    items: &'t [Draft<'a>],
-) -> Result<(), AllocError>
-    ensures trees { OnOk result (trees_seen pending.new.items
-        ≡ trees_seen pending.old.items ++ map draft_tree items.now) }
-    ensures ready { OnOk result (map (λ d. is_ready d.now) pending.new.items
-        ≡ map (λ d. is_ready d.now) pending.old.items ++ map is_ready items.now) }
-{
-    for item in items {
-        pending.push(item)?;
-    }
-    Ok(())
-}
-
-/// Appends the values of a table.
-fn push_values<'t, 'a>(
-    pending: &mut Vec<&'t Draft<'a>>,
-    entries: &'t [(&'a str, Draft<'a>)],
-) -> Result<(), AllocError>
-    ensures trees { OnOk result (trees_seen pending.new.items
-        ≡ trees_seen pending.old.items ++ map (λ e. draft_tree e.1) entries.now) }
-    ensures ready { OnOk result (map (λ d. is_ready d.now) pending.new.items
-        ≡ map (λ d. is_ready d.now) pending.old.items ++ map (λ e. is_ready e.1) entries.now) }
-{
-    for entry in entries {
-        pending.push(&entry.1)?;
-    }
-    Ok(())
+    let from = from as usize;
+    &list[from..from + count as usize]
 }

@@ -10,5 +10,4 @@ pub mod Drafts
 pub mod Discovered
 pub mod Frames
 pub mod Quota
-pub mod Rows
 pub mod Steps

@@ -31,10 +31,6 @@ pub(crate) trait Build<'a>: Sized + Drop {
     /// Whether it was made here, and its strings are slices of the text.
     ghost held: { Self → Self.Made → Bool };
 
-    /// Whether a table may go on with this key behind the last, if there is one, as far as can be
-    /// told before the table ends. Where not, nothing is made of it.
-    fn takes_key(&self, last: Option<&'a str>, key: &'a str) -> bool;
-
     /// A group without items, which is neither an array nor a table.
     fn leaf(&mut self, resource: Resource<'a>) -> Result<Self::Made, TextParserError>
         requires borrowed { borrows_strings resource ≡ true }
@@ -93,10 +89,6 @@ impl<'a> Build<'a> for Trees {
     ghost tree = { λ b r. tree_of r };
 
     ghost held = { λ b r. borrows_strings r };
-
-    fn takes_key(&self, _last: Option<&'a str>, _key: &'a str) -> bool {
-        true
-    }
 
     fn leaf(&mut self, resource: Resource<'a>) -> Result<Resource<'a>, TextParserError> {
         Ok(resource)

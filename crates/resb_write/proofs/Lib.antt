@@ -10,7 +10,6 @@ mod Closings
 mod Each
 mod KeyViews
 mod NodesLemmas
-mod DraftNodes
 mod Rows
 mod OneBlock
 mod Keys

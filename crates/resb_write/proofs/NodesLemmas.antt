@@ -3,8 +3,6 @@ use Rattle.std.proofs.Common.{◌≡◌, ℕ, zero, suc, ◌+◌, ◌<◌, ◌�
 use Rattle.std.proofs.Common.{get_or, take, drop, Bool, true, false, map, refl, sym, ◌∙◌, ap}
 use Rattle.std.proofs.Common.{subst, arith}
 use Rattle.std.proofs.lemmas.List.{at_drop_more, take_more, take_all, drop_all, map_more}
-use Rattle.std.proofs.lemmas.List.Folds.{list_all-map, list_all_at}
-use Rattle.resb_tree.specs.Borrowing.{all_true}
 use Rattle.resb_tree.specs.Tree.{Tree, integer}
 use Rattle.resb_write.specs.Inner.Nodes.{Fits}
 
@@ -62,18 +60,6 @@ fits_push is [] [] r t f g = (g, tt)
 fits_push is [] (u ∷ ts) r t f g = absurd f
 fits_push is (s ∷ rs) [] r t f g = absurd f
 fits_push is (s ∷ rs) (u ∷ ts) r t f g = (f.0, fits_push is rs ts r t f.1 g)
-
--- where all are ready, each is
-pub one_ready : {R : Type 0} (ready : R → Bool) (rs : List (Bor R)) (i : ℕ) (r : Bor R)
-    → r ≡ get_or rs i r → i < length rs → all_true (map (λ s. ready s.now) rs) ≡ true
-    → ready r.now ≡ true
-one_ready {R = R} ready rs i r at h all = ap (λ (x : Bor R). ready x.now) at
-    ∙ by (ready (get_or rs i r).now) refl
-  where
-    by : (b : Bool) → ready (get_or rs i r).now ≡ b → b ≡ true
-    by true e = refl
-    by false e = sym (list_all_at (λ (x : Bor R). ready x.now) rs i r h e)
-        ∙ sym (list_all-map (λ b. b) (λ (x : Bor R). ready x.now) rs) ∙ all
 
 -- the trees of one resource more are those before it, and its own
 pub seen-take : {R : Type 0} (tree : R → Tree) (rs : List (Bor R)) (i : ℕ) (r : Bor R)

@@ -1,11 +1,11 @@
-//! What the writer needs of a piece of a row, which it may be given in place of a resource.
-//! How a row stands for a tree is said in `resb_draft`.
+//! What the writer needs of a piece of a draft, which it may be given in place of a resource.
+//! How a draft stands for a tree is said in `resb_draft`.
 use crate::nodes::{AsNode, Node, node_of};
 use resb_draft::Piece;
 
 impl<'a> AsNode for Piece<'a> {
     ghost use Rattle.std.specs.Prelude.{◌≡◌, true};
-    ghost use Rattle.resb_draft.specs.Rows.{is_piece};
+    ghost use Rattle.resb_draft.specs.Pieces.{is_piece};
 
     ghost is = { λ p t. is_piece p t ≡ true };
 
@@ -13,8 +13,8 @@ impl<'a> AsNode for Piece<'a> {
         match self {
             Piece::String(text) => Node::String(text),
             Piece::Leaf(resource) => node_of(resource),
-            Piece::Array(count) => Node::Array(*count),
-            Piece::Table(count) => Node::Table(*count),
+            Piece::Array(part) => Node::Array(part.count as usize),
+            Piece::Table(part, _) => Node::Table(part.count as usize),
         }
     }
 }

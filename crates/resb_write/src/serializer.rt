@@ -1,13 +1,14 @@
 //! Writes a bundle, or a draft of one: its faults in their order, and then the parts of the file,
 //! one after another.
 //! Each part is made in a module or crate of its own.
-ghost use Rattle.std.specs.Prelude.{◌≡◌, true, IfOk, IfErr};
+ghost use Rattle.std.specs.Prelude.{◌≡◌, true, map, IfOk, IfErr};
+ghost use Rattle.resb_tree.specs.Borrowing.{all_true};
 ghost use Rattle.resb_tree.specs.Tree.{Tree};
 ghost use Rattle.resb_tree.specs.Bundle.{root_of};
 ghost use Rattle.resb_tree.specs.LayingOrder.{laying_order, keys_of};
 ghost use Rattle.resb_pool.specs.Plan.{nows};
-ghost use Rattle.resb_draft.specs.Drafts.{draft_tree, is_ready};
-ghost use Rattle.resb_draft.specs.Rows.{IsRow};
+ghost use Rattle.resb_draft.specs.Drafts.{draft_tree, is_ready, tree_at, is_whole, texts};
+ghost use Rattle.resb_draft.specs.Pieces.{are_pieces};
 ghost use Rattle.resb_write.specs.FaultOf.{fault_of};
 ghost use Rattle.resb_write.specs.Inner.Nodes.{Fits};
 ghost use Rattle.resb_layout.specs.TreeFaults.{RefusesWriting};
@@ -23,7 +24,7 @@ use crate::nodes::{AsNode, nodes_of, table_keys};
 use crate::sites::Sites;
 use crate::strings::Strings;
 use crate::tree_bodies::lay_bodies;
-use resb_draft::{Draft, Row, drafts_in_order};
+use resb_draft::Draft;
 use resb_tree::{Key, ResourceBundle, in_laying_order};
 use std::alloc::Global;
 
@@ -54,8 +55,7 @@ impl Serializer {
     }
 
     /// The `.res` file of a bundle whose root is given as a draft: what `to_bytes` gives, and what
-    /// it refuses, for the tree for which the draft stands. The keys of the draft's tables ascend
-    /// strictly, and no leaf of it is an array or a table.
+    /// it refuses, for the tree for which the draft stands, which is whole.
     pub fn draft_to_bytes(
         alloc: Global,
         root: &Draft<'_>,
@@ -75,50 +75,6 @@ impl Serializer {
             keys_in_discovery_order,
         )
     }
-
-    /// The `.res` file of a bundle whose root is given as a row: what `to_bytes` gives, and what it
-    /// refuses, for the tree for which the row stands.
-    pub fn row_to_bytes(
-        alloc: Global,
-        root: &Row<'_>,
-        is_locale_fallback_enabled: bool,
-        keys_in_discovery_order: &[Key<'_>],
-    ) -> Result<Vec<u8>, BinarySerializerError>
-        requires { (t : Tree) × IsRow root.now t }
-        ensures ok { IfOk result (λ v. (t : Tree) → IsRow root.now t
-            → Written v.items t is_locale_fallback_enabled keys_in_discovery_order.now) }
-        ensures err { IfErr result (λ e. (t : Tree) → IsRow root.now t
-            → RefusesWriting t keys_in_discovery_order.now (fault_of e)) }
-    {
-        write_row(
-            alloc,
-            root,
-            is_locale_fallback_enabled,
-            keys_in_discovery_order,
-        )
-    }
-}
-
-/// The file of a row, whose pieces stand in laying order.
-fn write_row(
-    alloc: Global,
-    row: &Row<'_>,
-    is_locale_fallback_enabled: bool,
-    list: &[Key<'_>],
-) -> Result<Vec<u8>, BinarySerializerError>
-    requires { (t : Tree) × IsRow row.now t }
-    ensures ok { IfOk result (λ v. (t : Tree) → IsRow row.now t
-        → Written v.items t is_locale_fallback_enabled list.now) }
-    ensures err { IfErr result (λ e. (t : Tree) → IsRow row.now t
-        → RefusesWriting t list.now (fault_of e)) }
-{
-    write_order(
-        alloc,
-        &row.pieces,
-        &row.keys,
-        is_locale_fallback_enabled,
-        list,
-    )
 }
 
 /// The file of a bundle, whose resources are put into laying order first.
@@ -144,7 +100,7 @@ fn write(
     )
 }
 
-/// The file of a draft, which is put into laying order first.
+/// The file of a draft, which is put into laying order first where it doesn't stand in it.
 fn write_draft(
     alloc: Global,
     root: &Draft<'_>,
@@ -156,9 +112,52 @@ fn write_draft(
         is_locale_fallback_enabled list.now) }
     ensures err { IfErr result (λ e. RefusesWriting (draft_tree root.now) list.now (fault_of e)) }
 {
-    let order = drafts_in_order(alloc, root)?;
-    let keys = draft_keys(alloc, &order)?;
-    let nodes = draft_nodes(alloc, &order)?;
+    let order = root.in_laying_order(alloc)?;
+    if root.stands_in(&order) {
+        drop(order);
+        return write_standing(alloc, root, is_locale_fallback_enabled, list);
+    }
+    write_by_number(alloc, root, order, is_locale_fallback_enabled, list)
+}
+
+/// The file of a draft whose pieces and keys stand in laying order.
+fn write_standing(
+    alloc: Global,
+    draft: &Draft<'_>,
+    is_locale_fallback_enabled: bool,
+    list: &[Key<'_>],
+) -> Result<Vec<u8>, BinarySerializerError>
+    requires pieces { are_pieces draft.now.pieces.items (laying_order (draft_tree draft.now)) ≡ true }
+    requires keys { texts draft.now.keys.items ≡ keys_of (draft_tree draft.now) }
+    ensures ok { IfOk result (λ v. Written v.items (draft_tree draft.now)
+        is_locale_fallback_enabled list.now) }
+    ensures err { IfErr result (λ e. RefusesWriting (draft_tree draft.now) list.now (fault_of e)) }
+{
+    write_order(
+        alloc,
+        &draft.pieces,
+        &draft.keys,
+        is_locale_fallback_enabled,
+        list,
+    )
+}
+
+/// The file of a draft, whose pieces have these numbers in laying order.
+fn write_by_number(
+    alloc: Global,
+    draft: &Draft<'_>,
+    order: Vec<u32>,
+    is_locale_fallback_enabled: bool,
+    list: &[Key<'_>],
+) -> Result<Vec<u8>, BinarySerializerError>
+    requires trees { map (tree_at draft.now) order.items ≡ laying_order (draft_tree draft.now) }
+    requires whole { all_true (map (is_whole draft.now) order.items) ≡ true }
+    ensures ok { IfOk result (λ v. Written v.items (draft_tree draft.now)
+        is_locale_fallback_enabled list.now) }
+    ensures err { IfErr result (λ e. RefusesWriting (draft_tree draft.now) list.now (fault_of e)) }
+{
+    let keys = draft_keys(alloc, draft, &order)?;
+    let nodes = draft_nodes(alloc, draft, &order)?;
     drop(order);
     write_order(alloc, &nodes, &keys, is_locale_fallback_enabled, list)
 }

@@ -1,23 +1,31 @@
 -- An iteration adds the keys of the next one.
-use Rattle.std.proofs.Common.{◌<◌, ◌++◌, length, take, sym, ap, ◌∙◌, arith}
+use Rattle.std.proofs.Common.{List, ℕ, Bor, ◌<◌, ◌++◌, length, take, map, sym, ap, ◌∙◌, arith, get_or}
+use Rattle.std.proofs.lemmas.List.{map_more, map-append}
 use Rattle.std.specs.List.{flat_map}
-use Rattle.resb_draft.specs.Drafts.{draft_tree, trees_seen}
+use Rattle.resb_draft.specs.Drafts.{tree_at, is_whole}
+use Rattle.resb_draft.proofs.Lists.{all_at}
 use Rattle.resb_tree.specs.LayingOrder.{own_keys}
 use Rattle.resb_pool.specs.Plan.{nows}
 use Rattle.resb_write.proofs.Gathering.{flat-push}
-use Rattle.resb_write.proofs.NodesLemmas.{seen-take}
 use Rattle.resb_write.proofs.drafts.draft_keys.Goals as goal
 
 pub loop-at-init : goal.loop-at-init
-loop-at-init c = ap nows c.new-keys.ensures.items
+loop-at-init c = ap nows c.in_ok-keys.ensures.items
+
+pub own_keys-requires : goal.own_keys-requires
+own_keys-requires c =
+    all_at (is_whole c.args.draft.now) c.args.order.now c.loop-at.at
+    (omega (arith, c.loop-at-test.true, c.loop-at.auto.at-end)) c.requires
 
 pub loop-at-preserved : goal.loop-at-preserved
 loop-at-preserved c =
-    let order = c.args.order.now.items in
+    let d = c.args.draft.now in
+    let order = c.args.order.now in
     let i = c.loop-at.at in
-    let d = c.index.result.now in
-    let h : c.loop-at.at < length order =
-    omega (arith, c.loop-at-test.true, c.len-at-end.ensures, c.args.order.now.ok.0) in
-    c.in_ok-push_draft_keys.ensures ∙ ap (λ l. l ++ own_keys (draft_tree d.now)) c.loop-at.invariant
-    ∙ sym (flat-push own_keys (trees_seen (take i order)) (draft_tree d.now))
-    ∙ ap (flat_map own_keys) (sym (seen-take draft_tree order i d c.index.ensures h))
+    let t = tree_at d (get_or order i 0) in
+    let h : i < length order = omega (arith, c.loop-at-test.true, c.loop-at.auto.at-end) in
+    ap nows c.in_ok-extend_from_slice.ensures.items
+    ∙ map-append (λ (b : Bor (List ℕ)). b.now) c.loop-at.keys.items c.own_keys.result.now
+    ∙ (λ j. c.loop-at.invariant j ++ c.own_keys.ensures j)
+    ∙ sym (flat-push own_keys (map (tree_at d) (take i order)) t)
+    ∙ ap (flat_map own_keys) (sym (map_more (tree_at d) order i 0 h))

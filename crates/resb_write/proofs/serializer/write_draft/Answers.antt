@@ -1,50 +1,14 @@
--- The nodes of a draft's drafts stand for the trees of its tree.
-use Rattle.std.proofs.Common.{◌∙◌, ap, sym, subst}
+-- A draft stands in laying order, or is laid by its numbers.
+use Rattle.std.proofs.Common.{◌≡◌, ◌∙◌, true, ap, sym, subst, map}
 use Rattle.std.specs.List.{flat_map}
-use Rattle.std.proofs.lemmas.Result.{err_from_is_err_and, IfOk-weaker, IfErr-weaker}
-use Rattle.resb_draft.specs.Drafts.{draft_tree}
-use Rattle.resb_tree.specs.LayingOrder.{laying_order, own_keys}
-use Rattle.resb_pool.specs.Plan.{nows}
-use Rattle.resb_write.specs.Inner.Nodes.{Fits, IsNode}
+use Rattle.std.proofs.lemmas.Result.{err_from_is_err_and}
+use Rattle.resb_draft.specs.Drafts.{tree_at}
+use Rattle.resb_draft.specs.Pieces.{are_pieces}
+use Rattle.resb_tree.specs.LayingOrder.{own_keys}
 use Rattle.resb_layout.specs.TreeFaults.{RefusesWriting, no_memory}
 use Rattle.resb_write.proofs.serializer.write_draft.Goals as goal
-use Rattle.resb_write.proofs.serializer.write_draft.Goals.{After-deref-2}
 
 pub returns-in_err-order-clause-err : goal.returns-in_err-order-clause-err
 returns-in_err-order-clause-err c =
     let p = err_from_is_err_and c.from_residual.result c.from_residual.ensures.1 in
     rw p.1 (subst (RefusesWriting _ c.args.list.now) (sym p.2) no_memory)
-
-pub returns-in_err-keys-clause-err : goal.returns-in_err-keys-clause-err
-returns-in_err-keys-clause-err c =
-    let p = err_from_is_err_and c.from_residual-in_err-keys.result
-    c.from_residual-in_err-keys.ensures.1 in
-    rw p.1 (subst (RefusesWriting _ c.args.list.now) (sym p.2) no_memory)
-
-pub returns-in_err-nodes-clause-err : goal.returns-in_err-nodes-clause-err
-returns-in_err-nodes-clause-err c =
-    let p = err_from_is_err_and c.from_residual-in_err-nodes.result
-    c.from_residual-in_err-nodes.ensures.1 in
-    rw p.1 (subst (RefusesWriting _ c.args.list.now) (sym p.2) no_memory)
-
-pub write_order-requires : goal.write_order-requires
-write_order-requires c =
-    let t = draft_tree c.args.root.now in
-    let same = c.in_ok-order.ensures.order in (
-      t,
-      subst (λ ns. Fits IsNode ns (laying_order t)) (sym c.deref.ensures.value)
-          (subst (Fits IsNode c.in_ok-nodes.nodes.items) same c.in_ok-nodes.ensures),
-      ap nows c.deref-2.ensures.value ∙ c.in_ok-keys.ensures ∙ ap (flat_map own_keys) same,
-    )
-
-pub returns-clause-ok : goal.returns-clause-ok
-unfolding write_order-requires
-returns-clause-ok c =
-    let r = write_order-requires (goal.at.returns-clause-ok c).After-deref-2 in
-    IfOk-weaker c.write_order.result _ _ (λ v h. h r.0 r.1 r.2) c.write_order.ensures.ok
-
-pub returns-clause-err : goal.returns-clause-err
-unfolding write_order-requires
-returns-clause-err c =
-    let r = write_order-requires (goal.at.returns-clause-err c).After-deref-2 in
-    IfErr-weaker c.write_order.result _ _ (λ e h. h r.0 r.1 r.2) c.write_order.ensures.err

@@ -1,0 +1,155 @@
+-- The entries of a table: in which order they stand, and a map of them.
+use Rattle.std.proofs.Common.{◌≡◌, ℕ, ◌+◌, ◌-◌, ◌<◌, Bool, true, List, [], ◌∷◌, ◌++◌, Bor}
+use Rattle.std.proofs.Common.{BTreeMap, arith, length, take, get_or}
+use Rattle.std.proofs.lemmas.List.{take_more, map_push}
+use Rattle.std.proofs.Common.{Ordering, Less, Equal, Greater, map, refl, sym, ap, ◌∙◌}
+use Rattle.std.proofs.lemmas.Bool.{and_from, and_parts, false≢true}
+use Rattle.std.specs.BTreeMap.{is_at, IsFromIterResult}
+use Rattle.std.specs.Cmp.Lexicographic.{nat_list_cmp_total}
+use Rattle.std.specs.List.{AllByRecursion}
+use Rattle.std.specs.List.Sorted.{IsStrictlySortedBy}
+use Rattle.std.specs.Map.{keys_of, lookup, update, update_all}
+use Rattle.std.specs.Ordering.{is_eq, is_lt, eq_by_cmp}
+use Rattle.std.specs.Prelude.{cond, Option, Some, None}
+use Rattle.resb_tree.specs.Borrowing.{all_true}
+use Rattle.resb_tree.specs.Maps.{text_cmp}
+use Rattle.resb_tree.specs.Tree.{Tree, entries_of, map_of}
+use Rattle.resb_tree.proofs.AtOnce.{inserted, made_entries, inserted_seen, inserted_pass}
+use Rattle.resb_tree.proofs.AtOnce.{seen_by, values_pass}
+use Rattle.resb_tree.proofs.MapsLemmas.{map_of-sorted}
+use Rattle.resb_draft.specs.Drafts.{texts_ascend}
+use Rattle.resb_draft.specs.Inner.Entries.{keys_ascend, slice_order}
+use Rattle.resb_draft.proofs.Lists.{ascend_on}
+
+-- entries by the texts of their keys
+abbrev keyed : List (Bor (List ℕ) × ℕ) → List (List ℕ × ℕ)
+keyed ps = map (λ p. (p.0.now, p.1)) ps
+
+-- entries with the trees of their values
+abbrev pub seen : (ℕ → Tree) → List (Bor (List ℕ) × ℕ) → List (List ℕ × Tree)
+seen tree ps = map (λ p. (p.0.now, tree p.1)) ps
+
+-- keys that ascend do so with one more behind the last, which is less
+pub ascend_more : (es : List (Bor (List ℕ) × ℕ)) (i : ℕ) (d e : Bor (List ℕ) × ℕ) → 0 < i
+    → i < length es → keys_ascend (take i es) ≡ true
+    → is_lt (text_cmp (get_or es (i - 1) d).0.now (get_or es i e).0.now) ≡ true
+    → keys_ascend (take (i + 1) es) ≡ true
+ascend_more es i d e some few h less =
+    let key : Bor (List ℕ) × ℕ → List ℕ = λ p. p.0.now in
+    let one : i - 1 + 1 ≡ i = omega (arith, some) in
+    let front = take (i - 1) es in
+    let last = get_or es (i - 1) d in
+    let next = get_or es i e in
+    let is : map key (take i es) ≡ map key front ++ key last ∷ [] =
+    ap (λ n. map key (take n es)) (sym one)
+    ∙ ap (map key) (take_more es (i - 1) d (omega (arith, few)))
+    ∙ map_push key front last in
+    ap (λ l. texts_ascend (map key l)) (take_more es i e few)
+    ∙ ap texts_ascend (map_push key (take i es) next ∙ ap (λ l. l ++ key next ∷ []) is)
+    ∙ ascend_on (map key front) (key last) (key next) (ap texts_ascend (sym is) ∙ h) less
+
+is_less : (o : Ordering) → is_lt o ≡ true → o ≡ Less
+is_less Less h = refl
+is_less Equal h = absurd (false≢true h)
+is_less Greater h = absurd (false≢true h)
+
+below_from : (k l : List ℕ) (ps : List (List ℕ × Tree)) → text_cmp k l ≡ Less
+    → AllByRecursion (λ y. text_cmp l y ≡ Less) (keys_of ps)
+    → AllByRecursion (λ y. text_cmp k y ≡ Less) (keys_of ps)
+below_from k l [] e h = tt
+below_from k l (p ∷ ps) e h =
+    (nat_list_cmp_total.trans k l p.0 e h.0, below_from k l ps e h.1)
+
+sorted_from : (tree : ℕ → Tree) (ps : List (Bor (List ℕ) × ℕ)) → keys_ascend ps ≡ true
+    → IsStrictlySortedBy text_cmp (keys_of (seen tree ps))
+unfolding IsStrictlySortedBy
+sorted_from tree [] h = tt
+sorted_from tree (p ∷ []) h = (tt, tt)
+sorted_from tree (p ∷ q ∷ ps) h =
+    let parts = and_parts (is_lt (text_cmp p.0.now q.0.now)) _ h in
+    let e = is_less _ parts.0 in
+    let more = sorted_from tree (q ∷ ps) parts.1 in
+    ((e, below_from p.0.now q.0.now (seen tree ps) e more.0), more)
+
+-- entries whose keys ascend are the map of them
+pub ascending_map : (tree : ℕ → Tree) (ps : List (Bor (List ℕ) × ℕ)) → keys_ascend ps ≡ true
+    → entries_of (seen tree ps) ≡ map_of (seen tree ps)
+ascending_map tree ps h = sym (map_of-sorted (seen tree ps) (sorted_from tree ps h))
+
+-- A map of borrowed texts has the entries of one of texts.
+
+keyed_lookup : (b : Bor (List ℕ)) (es : List (Bor (List ℕ) × ℕ))
+    → lookup (is_at (slice_order b)) es ≡ lookup (is_at (text_cmp b.now)) (keyed es)
+keyed_lookup b [] = refl
+keyed_lookup b (e ∷ es) =
+    ap (cond (is_eq (text_cmp b.now e.0.now)) (Some e.1)) (keyed_lookup b es)
+
+keyed_updates : (f : Bor (List ℕ) → Option ℕ) (g : List ℕ → Option ℕ)
+    (ps : List (Bor (List ℕ) × ℕ)) → ((b : Bor (List ℕ)) → f b ≡ g b.now) → (b : Bor (List ℕ))
+    → update_all (eq_by_cmp slice_order) f ps b
+    ≡ update_all (eq_by_cmp text_cmp) g (keyed ps) b.now
+keyed_updates f g [] h b = h b
+keyed_updates f g (p ∷ ps) h b =
+    keyed_updates (update (eq_by_cmp slice_order) f p.0 (Some p.1))
+    (update (eq_by_cmp text_cmp) g p.0.now (Some p.1)) ps
+    (λ c. ap (cond (eq_by_cmp text_cmp p.0.now c.now) (Some p.1)) (h c)) b
+
+keyed_below : (k : Bor (List ℕ)) (es : List (Bor (List ℕ) × ℕ))
+    → AllByRecursion (λ y. slice_order k y ≡ Less) (keys_of es)
+    → AllByRecursion (λ y. text_cmp k.now y ≡ Less) (keys_of (keyed es))
+keyed_below k [] h = tt
+keyed_below k (e ∷ es) h = (h.0, keyed_below k es h.1)
+
+keyed_sorted : (es : List (Bor (List ℕ) × ℕ)) → IsStrictlySortedBy slice_order (keys_of es)
+    → IsStrictlySortedBy text_cmp (keys_of (keyed es))
+unfolding IsStrictlySortedBy
+keyed_sorted [] h = tt
+keyed_sorted (e ∷ es) h = (keyed_below e.0 es h.0, keyed_sorted es h.1)
+
+keyed_made : (ps : List (Bor (List ℕ) × ℕ)) (m : BTreeMap (Bor (List ℕ)) ℕ)
+    → IsFromIterResult slice_order ps m → keyed m.entries ≡ inserted [] (keyed ps)
+keyed_made ps m h =
+    made_entries (keyed ps) (keyed m.entries) (keyed_sorted m.entries h.1)
+    (λ q. let b : Bor (List ℕ) = record { ref_ptr = (0, 0); now = q } in
+    sym (keyed_lookup b m.entries) ∙ h.0 b
+    ∙ keyed_updates (λ _. None) (λ _. None) ps (λ _. refl) b)
+
+seen_keyed : (tree : ℕ → Tree) (ps : List (Bor (List ℕ) × ℕ))
+    → seen tree ps ≡ seen_by tree (keyed ps)
+seen_keyed tree [] = refl
+seen_keyed tree (p ∷ ps) = ap (λ qs. (p.0.now, tree p.1) ∷ qs) (seen_keyed tree ps)
+
+tests_keyed : (test : ℕ → Bool) (ps : List (Bor (List ℕ) × ℕ))
+    → map (λ p. test p.1) ps ≡ map (λ (p : List ℕ × ℕ). test p.1) (keyed ps)
+tests_keyed test [] = refl
+tests_keyed test (p ∷ ps) = ap (λ bs. test p.1 ∷ bs) (tests_keyed test ps)
+
+-- the entries of a map that is made at once are the map of them
+pub made_seen : (tree : ℕ → Tree) (ps : List (Bor (List ℕ) × ℕ)) (m : BTreeMap (Bor (List ℕ)) ℕ)
+    → IsFromIterResult slice_order ps m
+    → entries_of (seen tree m.entries) ≡ map_of (seen tree ps)
+made_seen tree ps m h =
+    ap entries_of (seen_keyed tree m.entries)
+    ∙ ap (λ es. entries_of (seen_by tree es)) (keyed_made ps m h)
+    ∙ inserted_seen tree [] (keyed ps) ∙ ap map_of (sym (seen_keyed tree ps))
+
+-- what is true of each value is so in the map
+pub made_pass : (test : ℕ → Bool) (ps : List (Bor (List ℕ) × ℕ))
+    (m : BTreeMap (Bor (List ℕ)) ℕ) → IsFromIterResult slice_order ps m
+    → all_true (map (λ p. test p.1) ps) ≡ true → all_true (map (λ p. test p.1) m.entries) ≡ true
+made_pass test ps m h r =
+    ap all_true (tests_keyed test m.entries) ∙ ap (values_pass test) (keyed_made ps m h)
+    ∙ inserted_pass test [] (keyed ps) refl (sym (ap all_true (tests_keyed test ps)) ∙ r)
+
+sorted_ascend : (es : List (Bor (List ℕ) × ℕ)) → IsStrictlySortedBy slice_order (keys_of es)
+    → keys_ascend es ≡ true
+unfolding IsStrictlySortedBy
+sorted_ascend [] h = refl
+sorted_ascend (e ∷ []) h = refl
+sorted_ascend (e ∷ f ∷ es) h =
+    and_from (is_lt (text_cmp e.0.now f.0.now)) _ (ap is_lt h.0.0) (sorted_ascend (f ∷ es) h.1)
+
+-- and its keys ascend
+pub made_ascend : (ps : List (Bor (List ℕ) × ℕ)) (m : BTreeMap (Bor (List ℕ)) ℕ)
+    → IsFromIterResult slice_order ps m → keys_ascend m.entries ≡ true
+made_ascend ps m h = sorted_ascend m.entries h.1

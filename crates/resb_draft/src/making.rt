@@ -1,0 +1,119 @@
+//! How a draft is made: a piece at a time, members before their collection.
+//! In which order a table's entries are put stands in `entries`.
+ghost use Rattle.std.specs.Prelude.{◌≡◌, ◌^◌, ◌<◌, true, map, length, IfOk, OnOk, get_or};
+ghost use Rattle.resb_tree.specs.Borrowing.{all_true};
+ghost use Rattle.resb_tree.specs.Tree.{string, array, table, trees_of, entries_of, map_of};
+ghost use Rattle.resb_tree.specs.View.{tree_of};
+ghost use Rattle.resb_draft.specs.Drafts.{texts, is_leaf, nothing, stands_for, pieces_stand};
+ghost use Rattle.resb_draft.specs.Drafts.{tree_at, is_whole, IsMade, Keeps};
+ghost use Rattle.resb_draft.specs.Inner.Entries.{keys_ascend};
+
+use crate::draft::{Draft, Members, Piece};
+use crate::entries::{ascend, in_key_order};
+use resb_tree::{NoMemory, Resource};
+use std::alloc::Global;
+
+impl<'a> Draft<'a> {
+    /// A draft without pieces.
+    pub fn new(alloc: Global) -> Draft<'a> {
+        Draft {
+            pieces: Vec::new(alloc),
+            members: Vec::new(alloc),
+            keys: Vec::new(alloc),
+            root: 0,
+        }
+    }
+
+    /// One text more. Gives the number of its piece, as the others do.
+    pub fn push_string(&mut self, text: &'a str) -> Result<u32, NoMemory>
+        ensures made { IfOk result (λ n. IsMade self.new n (string text.now)) }
+        ensures keeps { OnOk result (Keeps self.old self.new) }
+    {
+        self.push(Piece::String(text))
+    }
+
+    /// One resource more, without others inside.
+    pub fn push_leaf(&mut self, resource: Resource<'a>) -> Result<u32, NoMemory>
+        requires { is_leaf (tree_of resource) ≡ true }
+        ensures made { IfOk result (λ n. IsMade self.new n (tree_of resource.entry)) }
+        ensures keeps { OnOk result (Keeps self.old self.new) }
+    {
+        self.push(Piece::Leaf(resource))
+    }
+
+    /// The array of the pieces of these numbers.
+    pub fn push_array(&mut self, members: &[u32]) -> Result<u32, NoMemory>
+        ensures made { all_true (map (is_whole self.old) members.now) ≡ true → IfOk result
+            (λ n. IsMade self.new n (array (trees_of (map (tree_at self.old) members.now)))) }
+        ensures keeps { OnOk result (Keeps self.old self.new) }
+    {
+        let part = Members {
+            from: number(self.members.len())?,
+            count: number(members.len())?,
+        };
+        self.members.extend_from_slice(members)?;
+        self.push(Piece::Array(part))
+    }
+
+    /// The table of these entries, the keys and the numbers of the values. A later entry of an
+    /// equal key replaces the earlier one.
+    pub fn push_table(
+        &mut self,
+        alloc: Global,
+        entries: Vec<(&'a str, u32)>,
+    ) -> Result<u32, NoMemory>
+        ensures made { let ps = entries.entry.items in
+            all_true (map (λ p. is_whole self.old p.1) ps) ≡ true → IfOk result
+            (λ n. IsMade self.new n (table (map_of (map (λ p. (p.0.now, tree_at self.old p.1)) ps)))) }
+        ensures keeps { OnOk result (Keeps self.old self.new) }
+    {
+        if ascend(&entries) {
+            return self.push_entries(&entries);
+        }
+        let entries = in_key_order(alloc, entries)?;
+        self.push_entries(&entries)
+    }
+
+    /// The table of these entries.
+    fn push_entries(&mut self, entries: &[(&'a str, u32)]) -> Result<u32, NoMemory>
+        requires { keys_ascend entries.now ≡ true }
+        ensures made { let ps = entries.now in
+            all_true (map (λ p. is_whole self.old p.1) ps) ≡ true → IfOk result
+            (λ n. IsMade self.new n
+            (table (entries_of (map (λ p. (p.0.now, tree_at self.old p.1)) ps)))) }
+        ensures keeps { OnOk result (Keeps self.old self.new) }
+    {
+        let part = Members {
+            from: number(self.members.len())?,
+            count: number(entries.len())?,
+        };
+        let first_key = number(self.keys.len())?;
+        for entry in entries {
+            self.keys.push(entry.0)?;
+            self.members.push(entry.1)?;
+        }
+        self.push(Piece::Table(part, first_key))
+    }
+
+    /// One piece more.
+    fn push(&mut self, piece: Piece<'a>) -> Result<u32, NoMemory>
+        ensures made { IfOk result (λ n. get_or (pieces_stand self.new) n nothing
+            ≡ stands_for self.old.members.items (texts self.old.keys.items)
+            (pieces_stand self.old) piece.entry) }
+        ensures keeps { OnOk result (Keeps self.old self.new) }
+    {
+        let number = number(self.pieces.len())?;
+        self.pieces.push(piece)?;
+        Ok(number)
+    }
+}
+
+/// A place as it is kept. A place that 32 bits don't hold is told as want of memory.
+fn number(place: usize) -> Result<u32, NoMemory>
+    ensures { IfOk result (λ n. n ≡ place) }
+{
+    if place > 0xffff_ffff {
+        return Err(NoMemory);
+    }
+    Ok(place as u32)
+}

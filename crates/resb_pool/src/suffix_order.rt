@@ -145,7 +145,9 @@ fn strip_shared<'a, 'b>(left: &'a str, right: &'b str) -> (&'a str, &'b str)
     }
 }
 
-/// How two texts compare by their characters, last first. The end of a text is the greatest.
+/// How two texts compare by their characters, last first. The end of a text is the greatest. It is
+/// kept out of the sort, which for most rows only compares numbers.
+#[inline(never)]
 fn compare(left: &str, right: &str) -> Ordering
     ensures { result ≡ suffix_cmp left.now right.now }
 {
@@ -165,6 +167,7 @@ fn compare(left: &str, right: &str) -> Ordering
 }
 
 /// How two rows compare: by their texts' last characters, and where these are the same by all.
+#[inline(always)]
 fn compare_rows(left: &Row, right: &Row) -> Ordering
     ensures { result ≡ keyed_cmp left.now right.now }
 {

@@ -1,7 +1,7 @@
 -- A cut moves.
 use Rattle.std.proofs.Common.{rules, ◌≡◌, ℕ, List, [], ◌∷◌, ◌++◌, length, take, true}
 use Rattle.std.proofs.Common.{reverse, sym, ◌∙◌, ap, subst, append-nil, append_assoc}
-use Rattle.std.proofs.Common.{encode_utf8}
+use Rattle.std.proofs.Common.{encode_utf8, refl}
 use Rattle.std.specs.Char.{IsScalar}
 use Rattle.std.specs.Str.{IsUtf8, chars, all_scalars, encode_utf8_all as encodes}
 use Rattle.std.proofs.Math.Seq.{take-append_seam}
@@ -107,3 +107,23 @@ ends_extends t s u v h = cut_extends t h.front s (record {
 pub extends_ends : (t s : List ℕ) → IsUtf8 t → IsUtf8 s
     → Extends (chars_backwards t) (chars_backwards s) → EndsWith t s
 extends_ends t s u v h = (let w = cut_back t s u v h in record { front = w.0; is = w.1.is })
+
+-- an end of both is what they share
+pub shared_end : (s t x y z : List ℕ) → IsUtf8 t → IsCut s x z → t ≡ y ++ z → IsShared s t x y
+shared_end s t x y z u h e = record {
+  tail = z;
+  left = h;
+  right = record {
+    is = e;
+    front_utf8 = front_utf8 t y z e u h.tail_utf8;
+    tail_utf8 = h.tail_utf8;
+  };
+}
+
+-- nothing is an end of both
+pub nothing_shared : (s t : List ℕ) → IsUtf8 s → IsUtf8 t → IsShared s t s t
+nothing_shared s t u v = record {
+  tail = [];
+  left = cut_whole s s u refl;
+  right = cut_whole t t v refl;
+}

@@ -1,6 +1,6 @@
 -- Texts whose last characters differ compare as these do.
-use Rattle.std.proofs.Common.{◌≡◌, ℕ, zero, suc, ◌+◌, ◌-◌, ◌*◌, ◌<◌, ◌≤◌, List, [], ◌∷◌, get_or}
-use Rattle.std.proofs.Common.{true, false, refl, sym, ◌∙◌, ap, subst, arith, reverse}
+use Rattle.std.proofs.Common.{◌≡◌, ℕ, zero, suc, ◌+◌, ◌-◌, ◌*◌, ◌^◌, ◌<◌, ◌≤◌, List, [], ◌∷◌}
+use Rattle.std.proofs.Common.{get_or, true, false, refl, sym, ◌∙◌, ap, subst, arith, reverse}
 use Rattle.std.specs.List.{All}
 use Rattle.std.specs.List.Sorted.{IsSorted}
 use Rattle.std.specs.Cmp.{IsTotalOrder, IsStrictWeakOrder}
@@ -8,6 +8,7 @@ use Rattle.std.proofs.lemmas.List.MinMax.{ranks_by}
 use Rattle.std.specs.Char.{IsScalar}
 use Rattle.std.specs.Str.{IsUtf8, all_scalars, chars}
 use Rattle.std.specs.Ordering.{nat_cmp, ordering_then, ordering_reverse, is_lt}
+use Rattle.std.specs.declared.cmp.Ordering.{Ordering}
 use Rattle.std.specs.declared.cmp.Ordering.TheVariants.{Less}
 use Rattle.std.proofs.lemmas.Bool.{and_parts}
 use Rattle.std.proofs.lemmas.Bool.Decides.{nat_tests}
@@ -18,7 +19,7 @@ use Rattle.std.proofs.lemmas.List.Sorted.{All-permutation, IsPermutation-reverse
 use Rattle.std.proofs.lemmas.Str.{scalars-chars}
 use Rattle.resb_pool.specs.Order.{end_last_cmp}
 use Rattle.resb_pool.specs.Inner.Cuts.{chars_backwards}
-use Rattle.resb_pool.specs.Inner.Suffixes.{front_key, keyed_cmp, row_cmp, IsRowOf}
+use Rattle.resb_pool.specs.Inner.Suffixes.{front_key, keyed_cmp, row_cmp, row_key, IsRowOf}
 use Rattle.resb_pool.specs.declared.suffix_order.Row.{Row}
 use Rattle.resb_pool.proofs.SuffixOrder.{end_last_total}
 use Rattle.resb_pool.proofs.Numbers.{then_less, then_equal, one_of_six, three_ways, less_is_first}
@@ -125,8 +126,9 @@ order_of (suc n) a (x ∷ xs) (y ∷ ys) s t l =
     )))
 
 keyed_total : IsTotalOrder keyed_cmp
-keyed_total = then_total (on_total (λ (r : Row). r.front) nat_cmp_total)
-    (on_total (λ (r : Row). chars_backwards r.text.now) end_last_total)
+keyed_total = then_total (on_total (λ (r : Row). r.last) nat_cmp_total)
+    (then_total (on_total (λ (r : Row). r.before) nat_cmp_total)
+    (on_total (λ (r : Row). chars_backwards r.text.now) end_last_total))
 
 pub keyed_order : IsStrictWeakOrder (λ (x y : Row). is_lt (keyed_cmp x y))
 keyed_order = ranks_by keyed_total (λ (r : Row). r)
@@ -134,25 +136,44 @@ keyed_order = ranks_by keyed_total (λ (r : Row). r)
 -- the row has its text's last characters
 pub record IsKeyed (r : Row) : Type 0 where
   pub utf8 : IsUtf8 r.text.now
-  pub front_is : r.front ≡ front_key 0 6 (chars_backwards r.text.now)
+  pub front_is : row_key r ≡ front_key 0 6 (chars_backwards r.text.now)
+  pub small : r.before < 2 ^ 63
 
 pub row_keyed : (T : List (List ℕ)) (r : Row) → All IsUtf8 T → IsRowOf T r → IsKeyed r
 row_keyed T r u h = record {
   utf8 = subst IsUtf8 (sym h.text_is) (u r.index [] h.within);
   front_is = h.front_is;
+  small = h.small;
 }
+
+-- the greater number stands after the other
+after_too : (x y : Row) → IsKeyed x → IsKeyed y → row_key y < row_key x
+    → is_lt (row_cmp x y) ≡ false
+after_too x y h k m =
+    let x_is : row_key x ≡ front_key 0 6 (chars_backwards x.text.now) = h.front_is in
+    let y_is : row_key y ≡ front_key 0 6 (chars_backwards y.text.now) = k.front_is in
+    ap is_lt (end_last_total.antisymm (chars_backwards x.text.now) (chars_backwards y.text.now)
+    ∙ ap ordering_reverse (order_of 6 0 (chars_backwards y.text.now) (chars_backwards x.text.now)
+    (small_key y.text.now k.utf8) (small_key x.text.now h.utf8) (omega (arith, m, x_is, y_is))))
+
+-- of two comparisons in a row, what ties by the first goes by the second
+tied_first : (a b : ℕ) (o : Ordering) → a ≡ b → is_lt (ordering_then (nat_cmp a b) o) ≡ false
+    → is_lt o ≡ false
+tied_first a b o f e = sym (ap is_lt (ap (λ z. ordering_then (nat_cmp a z) o) (sym f)
+    ∙ then_equal (nat_cmp a a) o (tied_itself nat_cmp_total a))) ∙ e
 
 before_too : (x y : Row) → IsKeyed x → IsKeyed y → is_lt (keyed_cmp x y) ≡ false
     → is_lt (row_cmp x y) ≡ false
-before_too x y h k e = three_ways (is_lt (row_cmp x y) ≡ false) x.front y.front
-    (λ f. absurd (less_is_first (nat_cmp x.front y.front) (row_cmp x y) f e))
-    (λ f. sym (ap is_lt (ap (λ z. ordering_then (nat_cmp x.front z) (row_cmp x y)) (sym f)
-    ∙ then_equal (nat_cmp x.front x.front) (row_cmp x y) (tied_itself nat_cmp_total x.front))) ∙ e)
-    (λ m. ap is_lt (end_last_total.antisymm (chars_backwards x.text.now)
-    (chars_backwards y.text.now)
-    ∙ ap ordering_reverse (order_of 6 0 (chars_backwards y.text.now) (chars_backwards x.text.now)
-    (small_key y.text.now k.utf8) (small_key x.text.now h.utf8)
-    (omega (arith, m, h.front_is, k.front_is)))))
+before_too x y h k e =
+    let second = ordering_then (nat_cmp x.before y.before) (row_cmp x y) in
+    three_ways (is_lt (row_cmp x y) ≡ false) x.last y.last
+    (λ f. absurd (less_is_first (nat_cmp x.last y.last) second f e))
+    (λ f. three_ways (is_lt (row_cmp x y) ≡ false) x.before y.before
+    (λ g. absurd (less_is_first (nat_cmp x.before y.before) (row_cmp x y) g
+    (tied_first x.last y.last second f e)))
+    (λ g. tied_first x.before y.before (row_cmp x y) g (tied_first x.last y.last second f e))
+    (λ m. after_too x y h k (omega (arith, m, f))))
+    (λ m. after_too x y h k (omega (arith, m, h.small, k.small)))
 
 pub in_suffix_order : (rows : List Row) → All IsKeyed rows → IsSorted keyed_cmp rows
     → IsSorted row_cmp rows

@@ -13,6 +13,7 @@ pub mod PlacingLemmas
 mod Sharing
 pub mod InOrder
 mod PlanLemmas
+mod Turns
 mod Laying
 pub mod IsRead
 pub mod OnePool

@@ -1,10 +1,12 @@
 -- What a plan is, and why strings aren't planned.
 --     plan_units p            its units: unit 0 and the records
 --     offset_of p s           where the text s stands, if it was given
+--     turn_offsets p          the offset of each string, in the order in which they were given
 --     IsPlan S us offset      these are the units and offsets of the strings S
 --     NotPlanned S e          the error e is the answer for the strings S
 use Rattle.std.specs.Prelude.{◌≡◌, ℕ, ◌+◌, ◌^◌, ◌≤◌, List, [], ◌∷◌, length, Option, Some, None}
 use Rattle.std.specs.Prelude.{MatchOption, All, Contains, nat_le, sum_by, map, slice_get}
+use Rattle.std.specs.Prelude.{slice_index}
 use Rattle.std.specs.Prelude.{if◌then◌else◌}
 use Rattle.std.specs.Borrow.{Bor}
 use Rattle.std.specs.Str.{bytes_eq, IsUtf8}
@@ -34,6 +36,10 @@ plan_units p = p.units.items
 abbrev pub offset_of : Plan → List ℕ → Option ℕ
 offset_of p s = option_and_then (slice_get p.offsets.items) (index_of_by (λ k. bytes_eq s k.now)
     p.texts)
+
+-- the offset at each string's index, in the order in which they were given
+abbrev pub turn_offsets : Plan → List ℕ
+turn_offsets p = map (slice_index p.offsets.items) p.order.items
 
 -- the units are the pool of the strings, and just the given texts have offsets: where they stand in
 -- it

@@ -1,10 +1,10 @@
 //! Where each string stands once its record is laid.
 //! The records and their closing zeros come from `records`.
 ghost use Rattle.std.specs.Prelude.{◌≡◌, ◌+◌, ◌-◌, ◌<◌, All, IfOk, map};
-ghost use Rattle.std.specs.Prelude.{Some, IsTrue};
+ghost use Rattle.std.specs.Prelude.{Some, IsTrue, slice_index};
 ghost use Rattle.std.specs.Str.{bytes_eq};
 ghost use Rattle.indexmap.specs.IndexSet.{index_of_by};
-ghost use Rattle.resb_pool.specs.Plan.{plan_units, offset_of};
+ghost use Rattle.resb_pool.specs.Plan.{plan_units, offset_of, turn_offsets};
 ghost use Rattle.resb_pool.specs.Inner.Placing.{offset_by, ClosesWithin};
 
 use crate::homes::Home;
@@ -35,6 +35,16 @@ impl<'a> Plan<'a> {
         ensures { result.items ≡ plan_units self.entry }
     {
         self.units
+    }
+
+    /// The same units, and the offset of each string in the order in which they were given.
+    pub fn into_parts(self) -> (Vec<u16>, Vec<u32>)
+        ensures units { result.0.items ≡ plan_units self.entry }
+        ensures offsets { result.1.items ≡ turn_offsets self.entry }
+    {
+        let offsets = self.offsets;
+        let turns = self.order;
+        (self.units, in_turn(&offsets, turns))
     }
 
     /// The unit at which a text stands, its marker included, if it was given.
@@ -69,6 +79,17 @@ impl<'a> Plan<'a> {
             None => false,
         }
     }
+}
+
+/// The offset at each of these indexes, put in its place.
+fn in_turn(offsets: &[u32], indexes: Vec<u32>) -> Vec<u32>
+    ensures { result.items ≡ map (slice_index offsets.now) indexes.items }
+{
+    let mut turns = indexes;
+    for turn in turns.iter_mut() {
+        *turn = offsets.get(*turn as usize).copied().unwrap_or(0);
+    }
+    turns
 }
 
 /// The units at which texts stand, by where their records close.

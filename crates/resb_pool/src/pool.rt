@@ -1,7 +1,7 @@
 //! The plan of a pool: strings in, the units of their records and their offsets out.
 //! Each step has a file of its own: `texts`, `homes`, `records`, `offsets`.
-ghost use Rattle.std.specs.Prelude.{ℕ, ◌<◌, ◌^◌, List, map, IfOk, IfErr};
-ghost use Rattle.resb_pool.specs.Plan.{nows, plan_units, offset_of, texts_size, IsPlan, NotPlanned};
+ghost use Rattle.std.specs.Prelude.{◌≡◌, ℕ, ◌<◌, ◌^◌, List, map, Some, IfOk, IfErr};
+ghost use Rattle.resb_pool.specs.Plan.{nows, plan_units, offset_of, turn_offsets, texts_size, IsPlan, NotPlanned};
 ghost use Rattle.resb_pool.specs.Inner.Placing.{AreTexts, AreHomes};
 ghost use Rattle.resb_pool.specs.Inner.LaidRecords.{IsBlock, HaveOffsets};
 
@@ -52,6 +52,8 @@ fn place(
 /// and 16 for each come to 2^28 or more.
 pub fn plan<'a>(alloc: Global, strings: &[&'a str]) -> Result<Plan<'a>, PlanError>
     ensures ok { IfOk result (λ p. IsPlan (nows strings.now) (plan_units p) (offset_of p)) }
+    ensures turns { IfOk result (λ p.
+        map (offset_of p) (nows strings.now) ≡ map Some (turn_offsets p)) }
     ensures err { IfErr result (NotPlanned (nows strings.now)) }
 {
     check_lengths(strings)?;

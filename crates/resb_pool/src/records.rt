@@ -3,6 +3,7 @@
 ghost use Rattle.std.specs.Prelude.{◌≡◌, ◌++◌, ◌∷◌, ◌+◌, ◌<◌, ◌^◌, length, map};
 ghost use Rattle.std.specs.Prelude.{All, IfOk, OnOk, sum_by, slice_index};
 ghost use Rattle.std.specs.Prelude.{nat_eq, not, ◌&&◌};
+ghost use Rattle.std.specs.Char.Escape.{encode_utf16};
 ghost use Rattle.std.specs.List.{flat_map};
 ghost use Rattle.std.specs.List.Sorted.{IsSorted};
 ghost use Rattle.resb_format.specs.Units as text_units;
@@ -126,6 +127,20 @@ fn push_bytes(units: &mut Vec<u16>, bytes: &[u8]) -> Result<(), AllocError>
     units.extend(bytes.iter().map(|byte| u16::from(*byte)))
 }
 
+/// Appends the one or two units of a character.
+#[inline(always)]
+fn push_char(units: &mut Vec<u16>, c: char) -> Result<(), AllocError>
+    ensures { OnOk result (units.new.items ≡ units.old.items ++ encode_utf16 c) }
+{
+    let code = u32::from(c);
+    if code <= 0xffff {
+        units.push(code as u16)?;
+        return Ok(());
+    }
+    let mut buffer = [0u16; 2];
+    units.extend_from_slice(c.encode_utf16(&mut buffer))
+}
+
 /// Appends the units of a text: its bytes, where all of them are ASCII.
 fn push_units(units: &mut Vec<u16>, text: &str) -> Result<(), AllocError>
     ensures { OnOk result (units.new.items ≡ units.old.items ++ units_of text.now) }
@@ -133,9 +148,8 @@ fn push_units(units: &mut Vec<u16>, text: &str) -> Result<(), AllocError>
     if text.is_ascii() {
         return push_bytes(units, text.as_bytes());
     }
-    let mut buffer = [0u16; 2];
     for c in text.chars() {
-        units.extend_from_slice(c.encode_utf16(&mut buffer))?;
+        push_char(units, c)?;
     }
     Ok(())
 }

@@ -4,7 +4,7 @@ ghost use Rattle.std.specs.Prelude.{◌≡◌, ◌++◌, ◌∷◌, ◌<◌, ◌
 ghost use Rattle.std.specs.Prelude.{length};
 ghost use Rattle.resb_format.specs.Units.{units};
 ghost use Rattle.resb_pool.specs.Plan.{nows, first_too_long, texts_size, NotPlanned};
-ghost use Rattle.resb_pool.specs.Inner.Placing.{AreTexts};
+ghost use Rattle.resb_pool.specs.Inner.Placing.{AreTexts, AreTurns};
 
 use crate::error::PlanError;
 use crate::measure::{Measure, SIZE_LIMIT, is_vast};
@@ -16,15 +16,15 @@ use std::alloc::{AllocError, Global};
 pub(crate) struct Texts<'a> {
     pub(crate) distinct: IndexSet<&'a str>,
     pub(crate) measures: Vec<Measure>,
-    /// The index of each string's text, in the order in which they were given. An index over
-    /// 4294967295 is cut to that.
+    /// The index of each string's text, in the order in which they were given.
     pub(crate) order: Vec<u32>,
 }
 
 impl<'a> Texts<'a> {
     /// No texts, with room for those of so many strings.
     fn with_capacity(alloc: Global, count: usize) -> Result<Texts<'a>, AllocError>
-        ensures { IfOk result (λ t. AreTexts [] (nows t.distinct.keys) t.measures.items) }
+        ensures texts { IfOk result (λ t. AreTexts [] (nows t.distinct.keys) t.measures.items) }
+        ensures turns { IfOk result (λ t. AreTurns [] (nows t.distinct.keys) t.order.items) }
     {
         Ok(Texts {
             distinct: IndexSet::with_capacity(alloc, count)?,
@@ -37,13 +37,18 @@ impl<'a> Texts<'a> {
 /// Adds a copy of a text, and gives the number of its units.
 fn add<'a>(texts: &mut Texts<'a>, text: &'a str) -> Result<usize, AllocError>
     requires given { (done : List (List ℕ)) × (texts_size done < 2 ^ 28)
-        × AreTexts done (nows texts.old.distinct.keys) texts.old.measures.items }
+        × AreTexts done (nows texts.old.distinct.keys) texts.old.measures.items
+        × AreTurns done (nows texts.old.distinct.keys) texts.old.order.items }
     requires short { length (units text.now) < 2 ^ 28 }
     ensures count { IfOk result (λ n. n ≡ length (units text.now)) }
     ensures texts { OnOk result ((done : List (List ℕ))
         → AreTexts done (nows texts.old.distinct.keys) texts.old.measures.items
         → AreTexts (done ++ text.now ∷ []) (nows texts.new.distinct.keys)
         texts.new.measures.items) }
+    ensures turns { OnOk result ((done : List (List ℕ))
+        → AreTurns done (nows texts.old.distinct.keys) texts.old.order.items
+        → AreTurns (done ++ text.now ∷ []) (nows texts.new.distinct.keys)
+        texts.new.order.items) }
 {
     let (index, is_new) = texts.distinct.insert_full(text)?;
     if is_new {
@@ -52,7 +57,7 @@ fn add<'a>(texts: &mut Texts<'a>, text: &'a str) -> Result<usize, AllocError>
     let measure = &mut texts.measures[index];
     measure.total += measure.size;
     let count = measure.unit_count as usize;
-    texts.order.push(index.min(0xffff_ffff) as u32)?;
+    texts.order.push(index as u32)?;
     Ok(count)
 }
 
@@ -60,8 +65,11 @@ fn add<'a>(texts: &mut Texts<'a>, text: &'a str) -> Result<usize, AllocError>
 fn add_all<'a>(texts: &mut Texts<'a>, strings: &[&'a str]) -> Result<(), PlanError>
     requires short { first_too_long (nows strings.now) ≡ None }
     requires empty { AreTexts [] (nows texts.old.distinct.keys) texts.old.measures.items }
+    requires no_turns { AreTurns [] (nows texts.old.distinct.keys) texts.old.order.items }
     ensures texts { OnOk result (AreTexts (nows strings.now) (nows texts.new.distinct.keys)
         texts.new.measures.items) }
+    ensures turns { OnOk result (AreTurns (nows strings.now) (nows texts.new.distinct.keys)
+        texts.new.order.items) }
     ensures small { OnOk result (texts_size (nows strings.now) < 2 ^ 28) }
     ensures err { IfErr result (NotPlanned (nows strings.now)) }
 {
@@ -84,6 +92,8 @@ pub(crate) fn gather<'a>(alloc: Global, strings: &[&'a str]) -> Result<Texts<'a>
     requires { first_too_long (nows strings.now) ≡ None }
     ensures texts { IfOk result (λ t.
         AreTexts (nows strings.now) (nows t.distinct.keys) t.measures.items) }
+    ensures turns { IfOk result (λ t.
+        AreTurns (nows strings.now) (nows t.distinct.keys) t.order.items) }
     ensures small { OnOk result (texts_size (nows strings.now) < 2 ^ 28) }
     ensures err { IfErr result (NotPlanned (nows strings.now)) }
 {

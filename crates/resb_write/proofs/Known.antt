@@ -89,7 +89,7 @@ module _ (us js : List (List ℕ)) (faultless : key_fault us js ≡ None) where
 -- where the texts S are planned
 module _ (S : List (List ℕ)) (us : List ℕ) (offset : List ℕ → Option ℕ) (plan : IsPlan S us offset)
   where
-    pub offset_of_text : (s : List ℕ) → Contains S s → (k : ℕ) × (offset s ≡ Some k) × (k < 2 ^ 28)
+    offset_of_text : (s : List ℕ) → Contains S s → (k : ℕ) × (offset s ≡ Some k) × (k < 2 ^ 28)
     offset_of_text s c = by (offset s) refl (plan.offsets s)
       where
         by : (o : Option ℕ) → offset s ≡ o → MatchOption o (Contains S s → ⊥) (λ k. Contains S s

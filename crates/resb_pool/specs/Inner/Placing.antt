@@ -1,5 +1,6 @@
 -- What is known of texts while they are placed. T are distinct texts; each goes by its index there.
 --     AreTexts S T ms         T are the texts of S, and ms their measures
+--     AreTurns S T is         the strings S are the texts of the indexes is, one by one
 --     LiesAt T i r            the text i lies in the text r
 --     lying_in ps q           what all copies that lie in the text q would take
 --     AreEnds rs done es      es says where each record done closes
@@ -42,6 +43,12 @@ pub record AreTexts (S T : List (List ℕ)) (ms : List Measure) : Type 0 where
   pub same : (s : List ℕ) → Contains T s ↔ Contains S s
   pub len : length ms ≡ length T
   pub measured : AreMeasures S T ms
+
+-- the texts of these indexes are those of S, one by one; T has no more texts than S
+pub record AreTurns (S T : List (List ℕ)) (turns : List ℕ) : Type 0 where
+  pub texts : map (text_numbered T) turns ≡ S
+  pub within : All (λ i. i < length T) turns
+  pub few : length T ≤ length turns
 
 -- in its container; the empty text lies in itself
 pub record LiesAt (T : List (List ℕ)) (i r : ℕ) : Type 0 where

@@ -1,8 +1,8 @@
 -- Distinct texts in suffix order. T are the texts; each goes by its index there.
 --     AreInOrder T rows       the rows are the texts T, in suffix order
 --     IsSharedEnd p s         s may lie in the record of p
-use Rattle.std.specs.Prelude.{◌≡◌, ℕ, zero, suc, ◌+◌, ◌*◌, ◌<◌, List, [], ◌∷◌, length, map, All}
-use Rattle.std.specs.Prelude.{true}
+use Rattle.std.specs.Prelude.{◌≡◌, ℕ, zero, suc, ◌+◌, ◌*◌, ◌^◌, ◌<◌, List, [], ◌∷◌, length, map}
+use Rattle.std.specs.Prelude.{All, true}
 use Rattle.std.specs.List.Sorted.{IsPermutation, IsSorted}
 use Rattle.std.specs.Ordering.{nat_cmp, ordering_then}
 use Rattle.std.specs.declared.cmp.Ordering.{Ordering}
@@ -20,12 +20,17 @@ front_key number zero cs = number
 front_key number (suc n) [] = front_key (number * 0x20_0000 + 0x1f_ffff) n []
 front_key number (suc n) (c ∷ cs) = front_key (number * 0x20_0000 + c) n cs
 
+-- a row's two halves as one number
+abbrev pub row_key : Row → ℕ
+row_key r = r.last * 0x8000_0000_0000_0000 + r.before
+
 -- the row of a text
 pub record IsRowOf (T : List (List ℕ)) (r : Row) : Type 0 where
   pub within : r.index < length T
   pub text_is : r.text.now ≡ text_numbered T r.index
-  -- the last six characters, last first
-  pub front_is : r.front ≡ front_key 0 6 (chars_backwards r.text.now)
+  -- the last six characters, last first, in two halves
+  pub front_is : row_key r ≡ front_key 0 6 (chars_backwards r.text.now)
+  pub small : r.before < 2 ^ 63
 
 abbrev pub row_texts : List Row → List (List ℕ)
 row_texts rows = map (λ r. r.text.now) rows
@@ -35,7 +40,8 @@ row_cmp x y = suffix_cmp x.text.now y.text.now
 
 -- by the last six characters, and then by all
 abbrev pub keyed_cmp : Row → Row → Ordering
-keyed_cmp x y = ordering_then (nat_cmp x.front y.front) (row_cmp x y)
+keyed_cmp x y = ordering_then (nat_cmp x.last y.last)
+    (ordering_then (nat_cmp x.before y.before) (row_cmp x y))
 
 pub record AreInOrder (T : List (List ℕ)) (rows : List Row) : Type 0 where
   pub all : IsPermutation T (row_texts rows)

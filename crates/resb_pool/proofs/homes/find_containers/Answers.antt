@@ -15,7 +15,7 @@ use Rattle.resb_pool.proofs.homes.find_containers.Goals as goal
 use Rattle.resb_pool.proofs.Numbers.{old_or_new}
 
 abbrev no_row : Row
-no_row = record { front = 0; text = blank; index = 0 }
+no_row = record { last = 0; before = 0; text = blank; index = 0 }
 
 pub loop-row-init : goal.loop-row-init
 loop-row-init c = record {

@@ -1,5 +1,5 @@
 use Rattle.std.proofs.Common.{ℕ, ◌≡◌, ◌<◌, List, Bor, MatchOption, length, map, get_or, sym}
-use Rattle.std.proofs.Common.{subst, arith}
+use Rattle.std.proofs.Common.{ap, subst, arith}
 use Rattle.std.specs.Prelude.{slice_get, position}
 use Rattle.std.specs.List.{Contains}
 use Rattle.std.specs.Option.{option_and_then}
@@ -12,6 +12,7 @@ use Rattle.resb_pool.specs.Inner.LaidRecords.{HaveOffsets}
 use Rattle.resb_pool.proofs.Interning.{length-nows}
 use Rattle.resb_pool.proofs.TextLoops.{none_too_long}
 use Rattle.resb_pool.proofs.PlanLemmas.{planned, offset_at}
+use Rattle.resb_pool.proofs.Turns.{offsets_fit, offsets_there}
 use Rattle.resb_pool.proofs.pool.plan.Goals as goal
 
 pub place-requires : goal.place-requires
@@ -61,3 +62,17 @@ returns-clause-ok c =
     (λ k. (i : ℕ) × (i < length T) × (text_numbered T i ≡ s)
     × (k ≡ get_or laid i 0))) (sym p.offsets_are)
     (offset_at s keys laid fits))
+
+pub returns-clause-turns : goal.returns-clause-turns
+returns-clause-turns c =
+    let keys = c.in_ok-texts.texts.distinct.keys in
+    let os = c.in_ok-units.offsets.items in
+    let fits : length os ≡ length keys = omega (
+      arith,
+      offsets_fit (nows c.as_slice.result.now) c.deref.result.now c.in_ok-units.units.items os
+          c.in_ok-units.ensures,
+      ap (λ (z : List (Bor (List ℕ))). length (nows z)) c.as_slice.ensures.keys,
+      length-nows keys,
+    ) in
+    offsets_there (nows c.args.strings.now) keys c.in_ok-texts.texts.order.items os fits
+    c.in_ok-texts.ensures.texts.once c.in_ok-texts.ensures.turns

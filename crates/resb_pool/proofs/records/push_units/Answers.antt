@@ -21,9 +21,7 @@ pub loop-c-preserved : goal.loop-c-preserved
 loop-c-preserved c =
     let i = c.loop-c.invariant in
     let s = cons_from_encodes i.0 _ c.in-Some.c (i.1 ∙ c.in-Some.ensures.steps.0) in
-    let more : c.extend_from_slice.new.self.items ≡ c.loop-c.units.items ++ encode_utf16
-    c.in-Some.c = c.in_ok-extend_from_slice.ensures.items ∙ ap (λ l. c.loop-c.units.items ++ l)
-    c.encode_utf16.ensures.value in (
+    let more = c.in_ok-push_char.ensures in (
       s.0,
       s.2,
       ap (λ l. l ++ flat_map encode_utf16 s.0) more ∙ append_assoc c.loop-c.units.items

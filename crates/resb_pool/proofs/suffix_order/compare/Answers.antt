@@ -13,9 +13,9 @@ loop-x-init c =
     let s = c.args.left.now in
     let t = c.args.right.now in
     let x = c.strip_blocks.result in
-    let y = c.strip_blocks-2.result in
+    let y = c.strip_shared.result in
     let h : IsShared s t y.0.now y.1.now = shared_deeper s t x.0.now x.1.now y.0.now y.1.now
-    c.strip_blocks.ensures c.strip_blocks-2.ensures in
+    c.strip_blocks.ensures c.strip_shared.ensures in
     subst (λ (z : List ℕ). IsShared s t z (chars_rest c.chars-rights.result))
     (sym c.chars-lefts.ensures.rest)
     (subst (IsShared s t y.0.now) (sym c.chars-rights.ensures.rest) h)

@@ -76,8 +76,8 @@ loop-place-preserved c =
           }
     ]
 
-pub returns : goal.returns
-returns c =
+pub returns-clause-front : goal.returns-clause-front
+returns-clause-front c =
     let i = c.loop-place._place in
     let x = chars_rest c.loop-place.chars in
     let e : 6 - i ≡ 0 = omega (arith, c.loop-place-test.false) in

@@ -1,18 +1,14 @@
 -- The block that both end with goes over to the shared end.
-use Rattle.std.proofs.Common.{◌≡◌, List, ℕ, [], ◌++◌, refl, sym, ◌∙◌, ap}
+use Rattle.std.proofs.Common.{◌≡◌, List, ℕ, ◌++◌, sym, ◌∙◌, ap}
 use Rattle.resb_pool.specs.Inner.Cuts.{IsCut}
-use Rattle.resb_pool.proofs.Cut.{cut_whole, cut_deeper, front_utf8}
+use Rattle.resb_pool.proofs.Cut.{nothing_shared, shared_end, shared_deeper}
 use Rattle.resb_pool.proofs.suffix_order.strip_blocks.Goals as goal
 
 pub loop-front-init : goal.loop-front-init
 loop-front-init c = record {
   left_text = c.utf8.left;
   right_text = c.utf8.right;
-  shared = record {
-    tail = [];
-    left = cut_whole c.args.left.now c.args.left.now c.utf8.left refl;
-    right = cut_whole c.args.right.now c.args.right.now c.utf8.right refl;
-  };
+  shared = nothing_shared c.args.left.now c.args.right.now c.utf8.left c.utf8.right;
 }
 
 pub loop-front-preserved : goal.loop-front-preserved
@@ -26,17 +22,9 @@ loop-front-preserved c =
     let cut : IsCut lefts front block = c.in-Some.ensures.cut in
     let strips = c.in-Some-strip_suffix.ensures.cases in
     let is : rights ≡ rest ++ block = strips.1.1 ∙ ap (λ (l : List ℕ). l ++ block) (sym strips.2) in
-    let other : IsCut rights rest block = record {
-      is = is;
-      front_utf8 = front_utf8 rights rest block is i.right.front_utf8 cut.tail_utf8;
-      tail_utf8 = cut.tail_utf8;
-    } in
+    let more = shared_end lefts rights front rest block i.right.front_utf8 cut is in
     record {
       left_text = cut.front_utf8;
-      right_text = other.front_utf8;
-      shared = record {
-        tail = block ++ i.tail;
-        left = cut_deeper c.args.left.now lefts i.tail front block i.left cut;
-        right = cut_deeper c.args.right.now rights i.tail rest block i.right other;
-      };
+      right_text = more.right.front_utf8;
+      shared = shared_deeper c.args.left.now c.args.right.now lefts rights front rest i more;
     }

@@ -1,10 +1,13 @@
-use Rattle.std.proofs.Common.{◌≡◌, ◌<◌, ℕ, List, Bor, length, sym, ◌∙◌, ap, subst, arith, refl}
+use Rattle.std.proofs.Common.{◌≡◌, ◌<◌, ℕ, List, [], ◌∷◌, ◌++◌, Bor, length, sym, ◌∙◌, ap, subst}
+use Rattle.std.proofs.Common.{arith, refl}
 use Rattle.std.specs.Cmp.Lexicographic.{bytes_decides}
+use Rattle.std.proofs.lemmas.List.{length_push, length-map}
 use Rattle.resb_pool.specs.Plan.{nows}
-use Rattle.resb_pool.specs.Inner.Placing.{text_numbered, AreTexts}
+use Rattle.resb_pool.specs.Inner.Placing.{text_numbered, AreTexts, AreTurns}
 use Rattle.resb_pool.specs.declared.texts.Texts.{Texts}
 use Rattle.resb_pool.proofs.Interning.{IsReady, taken_known, taken_new, count_is, count_fits}
 use Rattle.resb_pool.proofs.Interning.{counted, stored_at, length-nows}
+use Rattle.resb_pool.proofs.Turns.{turn_more, strings_few}
 use Rattle.resb_pool.proofs.texts.add.Goals as goal
 use Rattle.resb_pool.proofs.texts.add.Goals.{After-index_mut-measure, then-is_new+in_ok-push}
 use Rattle.resb_pool.proofs.texts.add.Goals.{else-is_new}
@@ -53,6 +56,21 @@ stands c =
     ∙ stored_at c.insert_full.new.self.keys c.in_ok-index.index k.0 k.1
     ∙ sym ((bytes_decides c.args.text.now k.0.now).0 k.2)
 
+order_is : (c : After-index_mut-measure)
+    → c.if-is_new.texts.order.items ≡ c.args.texts.now.order.items
+order_is c = elim c.if-is_new.branch [
+  | then-is_new+in_ok-push w ↦ ap (λ (x : Texts). x.order.items) w.texts-is
+  | else-is_new w ↦ ap (λ (x : Texts). x.order.items) w.texts-is
+]
+
+turned : (c : After-index_mut-measure) (done : List (List ℕ)) (turns : List ℕ)
+    → AreTurns done (nows c.args.texts.now.distinct.keys) turns
+    → AreTurns (done ++ c.args.text.now ∷ []) (nows c.if-is_new.texts.distinct.keys)
+    (turns ++ c.in_ok-index.index ∷ [])
+turned c done turns h = turn_more done c.args.texts.now.distinct.keys
+    c.if-is_new.texts.distinct.keys c.args.text turns h c.in_ok-index.index (within c) (stands c)
+    (set_is c ∙ c.in_ok-index.ensures.keys)
+
 pub overflow_add-measure : goal.overflow_add-measure
 overflow_add-measure c =
     let a = (goal.at.overflow_add-measure c).After-index_mut-measure in
@@ -76,3 +94,28 @@ returns-clause-texts c = λ done h.
     counted done c.args.text.now (nows c.if-is_new.texts.distinct.keys)
     c.if-is_new.texts.measures.items (ready a done h) c.in_ok-index.index (within a) (stands a)
     c.index_mut-measure.result.now c.index_mut-measure.ensures.value _ refl refl refl
+
+pub overflow_cast-index : goal.overflow_cast-index
+overflow_cast-index c =
+    let a = (goal.at.overflow_cast-index c).After-index_mut-measure in
+    let g = c.requires.given in
+    let more = turned a g.0 c.args.texts.now.order.items g.3 in
+    omega (
+      arith,
+      within a,
+      more.few,
+      length_push c.args.texts.now.order.items c.in_ok-index.index,
+      ap length g.3.texts,
+      length-map c.args.texts.now.order.items
+          (text_numbered (nows c.args.texts.now.distinct.keys)),
+      strings_few g.0,
+      g.1,
+    )
+
+pub returns-clause-turns : goal.returns-clause-turns
+returns-clause-turns c = λ done h.
+    let a = (goal.at.returns-clause-turns c).After-index_mut-measure in
+    subst (AreTurns (done ++ c.args.text.now ∷ []) (nows c.if-is_new.texts.distinct.keys))
+    (sym (c.in_ok-push-2.ensures.items
+    ∙ (λ j. order_is a j ++ c.in_ok-index.index ∷ [])))
+    (turned a done c.args.texts.now.order.items h)

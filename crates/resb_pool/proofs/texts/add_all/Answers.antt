@@ -3,7 +3,7 @@ use Rattle.std.proofs.lemmas.Bool.{leb-true}
 use Rattle.std.proofs.lemmas.Result.{err_from_is_err_and}
 use Rattle.resb_format.specs.Units.{units}
 use Rattle.resb_pool.specs.Plan.{nows, texts_size, too_large, no_memory}
-use Rattle.resb_pool.specs.Inner.Placing.{AreTexts}
+use Rattle.resb_pool.specs.Inner.Placing.{AreTexts, AreTurns}
 use Rattle.resb_pool.proofs.TextLoops.{blank, nows-take, nows-split, texts_size-push}
 use Rattle.resb_pool.proofs.TextLoops.{texts_size-most}
 use Rattle.resb_pool.proofs.texts.add_all.Goals as goal
@@ -51,6 +51,9 @@ loop-text-preserved c =
       texts = subst (λ d. AreTexts d (nows c.add.new.texts.distinct.keys)
           c.add.new.texts.measures.items) (sym e) (c.in_ok-size.ensures.texts (nows (take i xs))
           v.texts);
+      turns = subst (λ d. AreTurns d (nows c.add.new.texts.distinct.keys)
+          c.add.new.texts.order.items) (sym e) (c.in_ok-size.ensures.turns (nows (take i xs))
+          v.turns);
       size = omega (
         arith,
         v.size,

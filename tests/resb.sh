@@ -286,7 +286,8 @@ icu_row 'b{a{"\"" {}}}' 5 'a string that may be a key'
 icu_row 'b{a:array{"x" y}}' 15 'a comma between two strings'
 icu_row 'b{a{x}' 7 "a key or '}'"
 icu_row 'b{a{x} a{y}}' 12 'each key once in the table that ends here'
-icu_row 'b{collations{a{"x"}}}' 21 'no table with rules of collation'
+icu_row 'b{collations{a{"x"}}}' 13 'no table with rules of collation'
+icu_row 'b{CollationElements :table{}}' 21 'no table with rules of collation'
 icu_row 'b{}x' 4 'the end of the text'
 
 # a file's text in ICU's own form, which is compiled to the same file; and a file that has none

@@ -213,13 +213,13 @@ stuck_there =
       after = stays _ 2 refl (λ h. absurd (omega arith));
     })
     (record {
-      last = reading_at (in_table [] (codes "a") ∷ []) (codes "a" ∷ []) before_group 3;
+      last = reading_at (in_table [] (codes "a") 3 ∷ []) (codes "a" ∷ []) before_group 3;
       comes = one_move (codes "b{a}") [] [] (among_entries []) 2
-          (reading_at (in_table [] (codes "a") ∷ []) (codes "a" ∷ []) before_group 3)
+          (reading_at (in_table [] (codes "a") 3 ∷ []) (codes "a" ∷ []) before_group 3)
           (key_of_entry [] 2 3 3 (codes "a")
           (words.a_word (word_of_one _ 2 refl refl (lit≤ tt)) refl)
           (stays _ 3 refl (λ h. absurd (omega arith))));
-      there = inside (in_table [] (codes "a") ∷ []) (codes "a" ∷ []) before_group 3 3 expect.Group
+      there = inside (in_table [] (codes "a") 3 ∷ []) (codes "a" ∷ []) before_group 3 3 expect.Group
           (no_group 3 never);
     })
   where

@@ -130,7 +130,7 @@ standing_stays text ws ks _ at to x _ (stuck.in_leaf kind _ _ _ h)
 -- nor where one is stuck behind a group
 end_stays : (text : List ℕ) (ws : List Waiting) (ks : List (List ℕ)) (t : Tree) (at to : ℕ)
     (x : IcuExpected) (r : Reading) → EndStuck text t at ws to x → StepOut text ks t at ws r → ⊥
-end_stays text _ ks t at _ _ r (a_collation ws es k e) (was_value _ _ _ j f l) =
+end_stays text _ ks t at _ _ r (a_collation ws es k _ e) (was_value _ _ _ _ j f l) =
     false≢true (sym f ∙ e)
 end_stays text _ ks t at _ _ r (more_text end k w) l = elim l [ ]
 
@@ -356,7 +356,7 @@ StepStuck-one text _ at to end x y (stuck.in_leaf kind _ _ _ h) (stuck.in_leaf _
 EndStuck-one : (text : List ℕ) (ws : List Waiting) (t : Tree) (at to end : ℕ)
     (x y : IcuExpected) → EndStuck text t at ws to x → EndStuck text t at ws end y
     → (to ≡ end) × (x ≡ y)
-EndStuck-one text _ t at _ _ _ _ (a_collation ws es k e) (a_collation _ _ _ f) = (refl, refl)
+EndStuck-one text _ t at _ _ _ _ (a_collation ws es k _ e) (a_collation _ _ _ _ f) = (refl, refl)
 EndStuck-one text _ t at to end _ _ (more_text _ k w) (more_text _ l v) =
     (Skip-one text at to end k l, refl)
 

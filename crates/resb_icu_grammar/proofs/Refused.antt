@@ -78,7 +78,7 @@ standing_never text ws ks _ at to x (stuck.in_leaf kind _ _ _ h) =
 -- so it is where more than blanks stands behind the root, or a table with rules of collation ends
 end_never : (text : List ℕ) (ws : List Waiting) (ks : List (List ℕ)) (t : Tree) (at to : ℕ)
     (x : IcuExpected) → EndStuck text t at ws to x → Never (After text ws at t ks)
-end_never text _ ks t at _ _ (a_collation ws es k e) m p = false≢true (sym p.taken ∙ e)
+end_never text _ ks t at _ _ (a_collation ws es k _ e) m p = false≢true (sym p.taken ∙ e)
 end_never text _ ks t at _ _ (more_text end k w) m h =
     let same : end ≡ length text = Skip-one text at end (length text) k h.after in
     absurd (omega (arith, w, same))

@@ -130,10 +130,10 @@ pub data StepStuck (text : List ℕ) : Standing → ℕ → ℕ → IcuExpected 
 -- a group has ended, and a reading cannot go on at a place, where this was expected
 pub data EndStuck (text : List ℕ) (t : Tree) (at : ℕ)
     : List Waiting → ℕ → IcuExpected → Type 0 where
-  -- rules of collation
-  a_collation : (ws : List Waiting) (es : List (List ℕ × Tree)) (k : List ℕ)
+  -- a table with rules of collation, which is told where it begins
+  a_collation : (ws : List Waiting) (es : List (List ℕ × Tree)) (k : List ℕ) (begin : ℕ)
       → (is_collation k && holds_entries t) ≡ true
-      → EndStuck text t at (in_table es k ∷ ws) at expect.NoCollation
+      → EndStuck text t at (in_table es k begin ∷ ws) begin expect.NoCollation
   -- more than blanks behind the root
   more_text : (end : ℕ) → Skip text at end → end < length text
       → EndStuck text t at [] end expect.EndOfText

@@ -225,7 +225,7 @@ module _ (text : List ℕ) where
   -- a key begins an entry
   pub entry_key : (v : Vec (List ℕ × Resource) Global) (k : Bor (List ℕ)) (at i j : ℕ)
       → KeyText text at i k.now → Skip text i j
-      → Steps text (EntriesThere v.items at) (step.Group (waiting.Table v k) j)
+      → Steps text (EntriesThere v.items at) (step.Group (waiting.Table v k j) j)
   entry_key v k at i j p s ws ks =
       one_move text ws ks _ at _ (move.key_of_entry (pairs_view v.items) at i j k.now p s)
 
@@ -352,10 +352,10 @@ module _ (text : List ℕ) where
       → KeyText text at i key.now → Skip text i k
       → (slice_index text k ≡ ascii.left_brace) ⊎ (slice_index text k ≡ ascii.colon)
       → v.items ≡ []
-      → Steps text (UntypedThere at) (step.Group (waiting.Table v key) k)
+      → Steps text (UntypedThere at) (step.Group (waiting.Table v key k) k)
   untyped_key v key at i k p l f e ws ks =
       subst (λ es. Comes text (UntypedThere at ws ks)
-      (reading_at (move.in_table es key.now ∷ ws) (ks ++ key.now ∷ []) before_group k))
+      (reading_at (move.in_table es key.now k ∷ ws) (ks ++ key.now ∷ []) before_group k))
       (sym (ap pairs_view e))
       (one_move text ws ks _ at _ (move.begins_with_key at i k key.now p l f))
 
@@ -397,26 +397,26 @@ module _ (text : List ℕ) where
 
   -- behind a group that is the value of an entry
   pub behind_value : (old v : Vec (List ℕ × Resource) Global) (key : Bor (List ℕ)) (r : Resource)
-      (at next : ℕ) → (is_collation key.now && holds_entries (tree_of r)) ≡ false
+      (begin at next : ℕ) → (is_collation key.now && holds_entries (tree_of r)) ≡ false
       → Skip text at next → v.items ≡ old.items ++ (key.now, r) ∷ []
-      → Steps text (EndedThere (waiting.Table old key) r at) (step.Entries v next)
-  behind_value old v key r at next f k e ws ks =
-      subst (λ es. Comes text (EndedThere (waiting.Table old key) r at ws ks)
+      → Steps text (EndedThere (waiting.Table old key begin) r at) (step.Entries v next)
+  behind_value old v key r begin at next f k e ws ks =
+      subst (λ es. Comes text (EndedThere (waiting.Table old key begin) r at ws ks)
       (reading_at ws ks (among_entries es) next)) (sym (pairs_with v.items old.items key.now r e))
       (one_step_out text _ ks (tree_of r) at _
-      (move.was_value ws (pairs_view old.items) key.now next f k))
+      (move.was_value ws (pairs_view old.items) key.now begin next f k))
 
   -- rules of collation
   pub no_collation : (old : Vec (List ℕ × Resource) Global) (key : Bor (List ℕ)) (r : Resource)
-      (at : ℕ) (e : IcuTextError) → Says at expect.NoCollation e
+      (begin at : ℕ) (e : IcuTextError) → Says begin expect.NoCollation e
       → (is_collation key.now && holds_entries (tree_of r)) ≡ true
-      → StepFails text (EndedThere (waiting.Table old key) r at) e
-  no_collation old key r at e h f =
+      → StepFails text (EndedThere (waiting.Table old key begin) r at) e
+  no_collation old key r begin at e h f =
       inr (λ ws ks. subst (λ (g : IcuTextError).
-      StuckFrom text (EndedThere (waiting.Table old key) r at ws ks) g.position g.expected) (sym h)
+      StuckFrom text (EndedThere (waiting.Table old key begin) r at ws ks) g.position g.expected) (sym h)
       (record {
-        last = EndedThere (waiting.Table old key) r at ws ks;
-        comes = here (EndedThere (waiting.Table old key) r at ws ks);
-        there = behind _ ks (tree_of r) at at expect.NoCollation
-            (stuck.a_collation ws (pairs_view old.items) key.now f);
+        last = EndedThere (waiting.Table old key begin) r at ws ks;
+        comes = here (EndedThere (waiting.Table old key begin) r at ws ks);
+        there = behind _ ks (tree_of r) at begin expect.NoCollation
+            (stuck.a_collation ws (pairs_view old.items) key.now begin f);
       }))

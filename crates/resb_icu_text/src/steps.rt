@@ -77,11 +77,11 @@ impl Last {
 pub(crate) type Entry<'a> = (Key<'a>, Resource<'a>);
 
 /// What is open around a group: an array with the members before it, or a table with the entries
-/// before it and its key.
+/// before it, its key, and the place where it begins.
 #[derive(Drop)]
 pub(crate) enum Waiting<'a> {
     Array(Vec<Resource<'a>>),
-    Table(Vec<Entry<'a>>, &'a str),
+    Table(Vec<Entry<'a>>, &'a str, usize),
 }
 
 /// Where a reading stands: among members, among entries, before a group, or behind one.
@@ -236,7 +236,7 @@ pub(crate) fn entry<'a>(
         return Ok(Step::Ended(Resource::Table(table), at + 1));
     }
     let (next, key) = key_at(alloc, text, at, IcuExpected::Entry, turns)?;
-    Ok(Step::Group(Waiting::Table(entries, key), next))
+    Ok(Step::Group(Waiting::Table(entries, key, next), next))
 }
 
 /// The map of these entries, made at once, if each key stands once among them.
@@ -409,7 +409,7 @@ fn untyped_string<'a>(
     let Some(key) = lexeme.said.key(turns) else {
         return Err(IcuTextError::new(at, IcuExpected::Key));
     };
-    Ok(Step::Group(Waiting::Table(Vec::new(alloc), key), next))
+    Ok(Step::Group(Waiting::Table(Vec::new(alloc), key, next), next))
 }
 
 /// From behind a group to behind the blanks there, among what it stands in.
@@ -437,9 +437,9 @@ pub(crate) fn resume<'a>(
             members.push(resource)?;
             Ok(Step::Members(members, Last::Group, skip(text, at, turns)))
         }
-        Waiting::Table(entries, key) => {
+        Waiting::Table(entries, key, begin) => {
             if is_collation(key) && is_table(&resource) {
-                return Err(IcuTextError::new(at, IcuExpected::NoCollation));
+                return Err(IcuTextError::new(begin, IcuExpected::NoCollation));
             }
             let mut entries = entries;
             entries.push((Key::from(key), resource))?;

@@ -39,7 +39,7 @@ a icu b{a{"x" "\ud800"}} => expected a known escape At(9);
 a icu b{a{"x" "y}} => expected a quote that closes this string At(8);
 a icu b{a{x}"k\u005C"{y}} => expected a known escape At(8);
 a icu b{a{"x","y" "z" w}} => expected a comma between two strings At(16);
-collations icu b{collations{a{"x"}}} => expected no table with rules of collation At(20);
+collations icu b{collations{a{"x"}}} => expected no table with rules of collation At(12);
 a icu b{a{"x"}} c => expected the end of the text At(10);
 "#;
 

@@ -239,7 +239,7 @@ printf 'b{a{x}\n a{y}}' > twice.txt
 told 1 '' $'twice.txt:2:6: expected each key once in the table that ends here\n a{y}}\n     ^' \
   compile --icu twice.txt
 printf 'b{a{"\\q"}}' > escape.txt
-told 1 '' $'escape.txt:1:5: expected a quoted string that is closed, with known escapes\nb{a{"\\q"}}\n    ^' \
+told 1 '' $'escape.txt:1:6: expected a known escape\nb{a{"\\q"}}\n     ^' \
   compile --icu escape.txt
 printf 'b{a{"x"}' > half.txt
 told 1 '' $'half.txt:1:9: expected a key or \'}\'\nb{a{"x"}\n        ^' compile --icu half.txt
@@ -270,7 +270,15 @@ icu_row 'b{a:bin{"0"}}' 9 'pairs of hex digits'
 icu_row 'b{a:int{x}}' 9 'a number'
 icu_row 'b{a:intvector{x}}' 15 "a number or '}'"
 icu_row 'b{a:intvector{1 2}}' 17 "a comma or '}'"
-icu_row 'b{a{"\q"}}' 5 'a quoted string that is closed, with known escapes'
+icu_row 'b{a{"\q"}}' 6 'a known escape'
+icu_row 'b{a{"x" "\u005C"}}' 10 'a known escape'
+icu_row 'b{a{"\ud800"}}' 6 'a known escape'
+icu_row 'b{a{"\U00110000"}}' 6 'a known escape'
+icu_row 'b{a{"\u12' 6 'a known escape'
+icu_row 'b{"\q"{x}}' 4 'a known escape'
+icu_row '"b\q"{}' 3 'a known escape'
+icu_row 'b{a{"x" "y}}' 9 'a quote that closes this string'
+icu_row 'b{a{x}"k{y}}' 7 'a quote that closes this string'
 icu_row 'b{a{,}}' 5 "a resource or '}'"
 icu_row 'b{a:array{"x" =}}' 15 "a comma, a resource or '}'"
 icu_row 'b{a{"x" =}}' 9 "'}', a comma, '{' or a type"
@@ -278,7 +286,8 @@ icu_row 'b{a{"\"" {}}}' 5 'a string that may be a key'
 icu_row 'b{a:array{"x" y}}' 15 'a comma between two strings'
 icu_row 'b{a{x}' 7 "a key or '}'"
 icu_row 'b{a{x} a{y}}' 12 'each key once in the table that ends here'
-icu_row 'b{collations{a{"x"}}}' 21 'no table with rules of collation'
+icu_row 'b{collations{a{"x"}}}' 13 'no table with rules of collation'
+icu_row 'b{CollationElements :table{}}' 21 'no table with rules of collation'
 icu_row 'b{}x' 4 'the end of the text'
 
 # a file's text in ICU's own form, which is compiled to the same file; and a file that has none

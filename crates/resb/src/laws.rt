@@ -37,7 +37,9 @@ pub use resb_text::laws::within_is_never_more;
 
 // A text in ICU's own form has at most one name, fallback flag, tree and list of keys.
 pub use resb_icu_grammar::laws::one_icu_text;
-// Its discovered keys hold each key of its tree.
+// No two of its discovered keys are equal.
+pub use resb_icu_grammar::laws::icu_keys_are_distinct;
+// They hold each key of its tree.
 pub use resb_icu_grammar::laws::icu_keys_are_listed;
 // A text in which a reading gets stuck is no bundle in that form.
 pub use resb_icu_grammar::laws::icu_stuck_is_no_text;

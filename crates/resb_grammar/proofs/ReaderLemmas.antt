@@ -1,6 +1,6 @@
 -- What the proofs of both readers of texts and of the printer need beside the grammar.
-use Rattle.std.proofs.Common.{◌≡◌, ◌≢◌, ℕ, suc, ◌+◌, ◌*◌, ◌-◌, ◌<◌, true, List}
-use Rattle.std.proofs.Common.{[]}
+use Rattle.std.proofs.Common.{◌≡◌, ◌≢◌, ℕ, suc, ◌+◌, ◌*◌, ◌-◌, ◌<◌, ◌≤◌, true, List, [], min}
+use Rattle.std.proofs.Common.{arith}
 use Rattle.std.proofs.Common.{◌∷◌, length, get_or, drop, refl, sym, ◌∙◌, ap, subst, Option, Some}
 use Rattle.std.proofs.Common.{None, add-one, drop-cons}
 use Rattle.std.proofs.lemmas.Bool.{false≢true}
@@ -52,3 +52,15 @@ pub pairs_are_table : (xs : List Item) → is_pairs xs ≡ true → shape_of xs 
 pairs_are_table [] e = refl
 pairs_are_table (x ∷ []) e = absurd (false≢true e)
 pairs_are_table (x ∷ y ∷ xs) e = ap table_if e
+
+-- one digit more, as far as a number of 32 bits goes
+pub decimal_more : (text : List ℕ) (from at value next : ℕ) → from ≤ at
+    → value ≡ min (digits_value text from (at - from)) 4294967296
+    → next ≡ min (value * 10 + (slice_index text at - ascii.digit_0)) 4294967296
+    → next ≡ min (digits_value text from (at + 1 - from)) 4294967296
+decimal_more text from at value next order is more =
+    let d : digits_value text from (at + 1 - from) ≡ digits_value text from (at - from) * 10 +
+    (slice_index text at - ascii.digit_0) = digits_value-suc text from at (at - from)
+    (at + 1 - from)
+    (omega arith) (omega arith) in
+    omega (arith, d, is, more)

@@ -1,6 +1,6 @@
 //! The text form of resource bundles as definitions: its grammar, the readings of a text token by
 //! token, and the laws of both. What both text forms need beside stands here too: the types that a
-//! group may name, the bytes of hex digits, and lists of keys.
+//! group may name, the bytes of hex digits, runs of blanks and of digits, and lists of keys.
 #![tactic(auto)]
 
 mod expected;
@@ -8,8 +8,10 @@ mod group_kind;
 mod hex_pairs;
 mod key_list;
 pub mod laws;
+mod runs;
 
 pub use expected::Expected;
 pub use group_kind::{Kind, kind_named};
 pub use hex_pairs::bytes_of_hex;
 pub use key_list::list_once;
+pub use runs::{blanks_end, digits_end, negated};

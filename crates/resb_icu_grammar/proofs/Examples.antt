@@ -12,6 +12,8 @@ use Rattle.resb_icu_grammar.specs.Blanks.{Comment, line, block, none, white, Ski
 use Rattle.resb_icu_grammar.specs.Escapes.{Escape, itself, line_feed, carriage_return, tab}
 use Rattle.resb_icu_grammar.specs.Escapes.{four_digits, eight_digits}
 use Rattle.resb_icu_grammar.specs.Pieces.{ends, byte, escape, Joined, last_piece, one_more}
+use Rattle.resb_icu_grammar.specs.Faults.{NoEscapeAt, StringFault, this_piece, later_piece}
+use Rattle.resb_icu_grammar.specs.Faults as fault
 use Rattle.resb_icu_grammar.specs.Words as words
 use Rattle.resb_icu_grammar.specs.Words.{Word, Text, a_word, KeyText, Name, Number}
 use Rattle.resb_icu_grammar.specs.Groups.{Group, untyped, an_empty_array, one_string, no_entry}
@@ -91,6 +93,40 @@ escape_refused to s (carriage_return h) = absurd (omega arith)
 escape_refused to s (tab h) = absurd (omega arith)
 escape_refused to s (four_digits c h x e y z) = z e
 escape_refused to s (eight_digits c h x e y z) = absurd (omega arith)
+
+-- `"a\q"` has a fault at the backslash, where a known escape is expected
+escape_told : StringFault (codes "\"a\\q\"") 0 2 expect.Escape
+escape_told =
+    this_piece 0 2 _ refl
+    (fault.byte 1 2 _ (lit≤ tt) (λ h. absurd (omega arith)) (λ h. absurd (omega arith))
+    (fault.no_escape 2 refl never))
+  where
+    never : NoEscapeAt (codes "\"a\\q\"") 3
+    never to s (itself f h) = false≢true (sym h)
+    never to s (line_feed h) = absurd (omega arith)
+    never to s (carriage_return h) = absurd (omega arith)
+    never to s (tab h) = absurd (omega arith)
+    never to s (four_digits c h x e y z) = absurd (omega arith)
+    never to s (eight_digits c h x e y z) = absurd (omega arith)
+
+-- `"a" "b` has one at its second piece, which no quote closes
+open_quote_told : StringFault (codes "\"a\" \"b") 0 4 expect.ClosingQuote
+open_quote_told =
+    later_piece 0 3 4 4 (97 ∷ []) _
+    (record {
+      last = 2;
+      opens = refl;
+      inside = byte 1 2 [] (lit≤ tt) (λ h. absurd (omega arith)) (λ h. absurd (omega arith))
+          (ends 2 refl);
+      ends = refl;
+    })
+    (record {
+      blanks = white 3 4 refl (none 4);
+      solid = (stays _ 4 refl (λ h. absurd (omega arith))).solid;
+    })
+    (this_piece 4 4 _ refl
+    (fault.byte 5 4 _ (lit≤ tt) (λ h. absurd (omega arith)) (λ h. absurd (omega arith))
+    (fault.no_end 6 (lit≤ tt))))
 
 -- an empty group is an array
 empty_group : Group (codes "{}") 0 2 (array (trees_of [])) []
@@ -177,13 +213,13 @@ stuck_there =
       after = stays _ 2 refl (λ h. absurd (omega arith));
     })
     (record {
-      last = reading_at (in_table [] (codes "a") ∷ []) (codes "a" ∷ []) before_group 3;
+      last = reading_at (in_table [] (codes "a") 3 ∷ []) (codes "a" ∷ []) before_group 3;
       comes = one_move (codes "b{a}") [] [] (among_entries []) 2
-          (reading_at (in_table [] (codes "a") ∷ []) (codes "a" ∷ []) before_group 3)
+          (reading_at (in_table [] (codes "a") 3 ∷ []) (codes "a" ∷ []) before_group 3)
           (key_of_entry [] 2 3 3 (codes "a")
           (words.a_word (word_of_one _ 2 refl refl (lit≤ tt)) refl)
           (stays _ 3 refl (λ h. absurd (omega arith))));
-      there = inside (in_table [] (codes "a") ∷ []) (codes "a" ∷ []) before_group 3 3 expect.Group
+      there = inside (in_table [] (codes "a") 3 ∷ []) (codes "a" ∷ []) before_group 3 3 expect.Group
           (no_group 3 never);
     })
   where

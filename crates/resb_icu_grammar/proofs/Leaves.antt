@@ -125,12 +125,12 @@ unended text at i place v p k a b w =
 pub no_leaf_there : (text : List ℕ) (from : ℕ) (kind : Kind) (at : ℕ) (x : IcuExpected)
     → LeafStuck text from kind at x → (to : ℕ) (t : Tree) → LeafContent text from to kind t
     → Closes text to → ⊥
-no_leaf_there text from _ _ _ (no_string f) to _ (string_content i s p k) c = f i s p
+no_leaf_there text from _ _ _ (no_string _ _ f w) to _ (string_content i s p k) c = f i s p
 no_leaf_there text from _ at _ (open_string j _ s p l n) to _ (string_content i u q k) c =
     let same = String-one text from i j u s q p in
     n (ap (λ w. slice_index text w) (sym (Skip-one text j to at
     (subst (λ w. Skip text w to) same.0 k) l)) ∙ c)
-no_leaf_there text from _ _ _ (no_digits f) to _ (binary_content i s bytes p e k) c = f i s p
+no_leaf_there text from _ _ _ (no_digits _ _ f w) to _ (binary_content i s bytes p e k) c = f i s p
 no_leaf_there text from _ _ _ (odd_digits j s p n) to _ (binary_content i u bytes q e k) c =
     none-some bytes (sym n ∙ ap hex_bytes (sym (String-one text from i j u s q p).1) ∙ e)
 no_leaf_there text from _ at _ (open_binary j _ s p h l n) to _ (binary_content i u bytes q e k) c =
@@ -155,9 +155,9 @@ has_items _ = false
 
 no_items : (text : List ℕ) (from : ℕ) (kind : Kind) (at : ℕ) (x : IcuExpected)
     → LeafStuck text from kind at x → has_items kind ≡ false
-no_items text from _ _ _ (no_string f) = refl
+no_items text from _ _ _ (no_string _ _ f w) = refl
 no_items text from _ _ _ (open_string j _ s p l n) = refl
-no_items text from _ _ _ (no_digits f) = refl
+no_items text from _ _ _ (no_digits _ _ f w) = refl
 no_items text from _ _ _ (odd_digits j s p n) = refl
 no_items text from _ _ _ (open_binary j _ s p h l n) = refl
 no_items text from _ _ _ (no_integer f) = refl

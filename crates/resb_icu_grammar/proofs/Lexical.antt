@@ -192,7 +192,8 @@ pub word_first : (text : List ℕ) (from to : ℕ) (s : List ℕ) → Word text 
     → is_word (slice_index text from) ≡ true
 word_first text from to s w = w.run.each from (omega arith) w.some
 
-no_quote_word : (text : List ℕ) (from to : ℕ) (s : List ℕ) → slice_index text from ≡ ascii.quote
+-- where a quote stands, no word does
+pub no_quote_word : (text : List ℕ) (from to : ℕ) (s : List ℕ) → slice_index text from ≡ ascii.quote
     → Word text from to s → ⊥
 no_quote_word text from to s h w =
     false≢true (ap is_word (sym h) ∙ word_first text from to s w)

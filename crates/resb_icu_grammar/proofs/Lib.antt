@@ -6,6 +6,7 @@ pub mod RestLists
 pub mod RestGroups
 pub mod RestUntyped
 pub mod RestRoot
+pub mod Faults
 pub mod Leaves
 pub mod Types
 pub mod Moves

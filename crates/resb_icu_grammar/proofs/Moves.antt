@@ -109,7 +109,7 @@ behind_value text ws ks t es key at next f k m = (there, back)
 pub step_out_same : (text : List ℕ) (ws : List Waiting) (ks : List (List ℕ)) (t : Tree) (at : ℕ)
     (r : Reading) → StepOut text ks t at ws r → Same (After text ws at t ks) (Rest text r)
 step_out_same text _ ks t at _ (was_member ws ts j k) = behind_member text ws ks t ts at j k
-step_out_same text _ ks t at _ (was_value ws es key j f k) =
+step_out_same text _ ks t at _ (was_value ws es key _ j f k) =
     behind_value text ws ks t es key at j f k
 
 -- and so do all steps from one place to another

@@ -14,7 +14,9 @@ use Rattle.resb_icu_grammar.specs.Machine.{Waiting, Standing, behind_group, Read
 use Rattle.resb_icu_grammar.specs.Machine.{Move, BeginsGroup, StepOut, Comes, was_member, was_value}
 use Rattle.resb_icu_grammar.specs.Machine.{at_root}
 use Rattle.resb_icu_grammar.specs.Machine as step
+use Rattle.resb_icu_grammar.specs.Faults.{Told}
 use Rattle.resb_icu_grammar.specs.Stuck.{NoNumberAt, NumbersSoFar, none_yet, one_number, LeafStuck}
+use Rattle.resb_icu_grammar.specs.Stuck.{member_behind}
 use Rattle.resb_icu_grammar.specs.Stuck.{StepStuck, EndStuck, HeadStuck}
 use Rattle.resb_icu_grammar.specs.Stuck.{ReadStuck, StuckFrom, Stuck}
 use Rattle.resb_icu_grammar.specs.Stuck.{no_string, open_string, no_digits, odd_digits, open_binary}
@@ -29,6 +31,7 @@ use Rattle.resb_icu_grammar.proofs.Lexical.{Number-one, RootType-one, root_type_
 use Rattle.resb_icu_grammar.proofs.Lexical.{GroupType-one, Name-one}
 use Rattle.resb_icu_grammar.proofs.Groups as groups
 use Rattle.resb_icu_grammar.proofs.Groups.{Closes, string_skipped, no_brace_colon, Header-one}
+use Rattle.resb_icu_grammar.proofs.Faults.{Told-one}
 use Rattle.resb_icu_grammar.proofs.Leaves.{no_leaf_there, stuck_kind}
 use Rattle.resb_icu_grammar.proofs.Types.{no_type_there, TypeStuck-one}
 use Rattle.resb_icu_grammar.proofs.Refused.{no_opening_brace, head_never}
@@ -39,13 +42,13 @@ use Rattle.resb_icu_grammar.proofs.OneStep.{Next, inside, outside, first_step, c
 standing_stays : (text : List ℕ) (ws : List Waiting) (ks : List (List ℕ)) (s : Standing)
     (at to : ℕ) (x : IcuExpected) (r : Reading) → StepStuck text s at to x → Move text ws ks s at r
     → ⊥
-standing_stays text ws ks _ at _ _ _ (stuck.no_member last ts _ a b d f) (step.array_ends _ _ _ c) =
+standing_stays text ws ks _ at _ _ _ (stuck.no_member last ts _ _ _ a b d f w) (step.array_ends _ _ _ c) =
     a c
-standing_stays text ws ks _ at _ _ _ (stuck.no_member last ts _ a b d f)
+standing_stays text ws ks _ at _ _ _ (stuck.no_member last ts _ _ _ a b d f w)
     (step.comma_behind _ _ _ j e c k) = b c
-standing_stays text ws ks _ at _ _ _ (stuck.no_member last ts _ a b d f)
+standing_stays text ws ks _ at _ _ _ (stuck.no_member last ts _ _ _ a b d f w)
     (step.string_member _ _ _ i j s e p k) = f i s p
-standing_stays text ws ks _ at _ _ _ (stuck.no_member last ts _ a b d f)
+standing_stays text ws ks _ at _ _ _ (stuck.no_member last ts _ _ _ a b d f w)
     (step.group_member _ _ _ c) = d c
 standing_stays text ws ks _ at _ _ _ (stuck.two_strings last ts _ i s e p)
     (step.array_ends _ _ _ c) = groups.no_string text at i _ s p c refl
@@ -66,8 +69,8 @@ standing_stays text ws ks _ at _ _ _ (stuck.lone_comma last ts _ e d) (step.grou
 standing_stays text ws ks _ at _ _ _ (stuck.key_twice es _ c d) (step.table_ends _ _ e f) = d f
 standing_stays text ws ks _ at _ _ _ (stuck.key_twice es _ c d) (step.key_of_entry _ _ i j k p l) =
     groups.no_string text at i _ k (key_string text at i k p) c refl
-standing_stays text ws ks _ at _ _ _ (stuck.no_entry es _ a f) (step.table_ends _ _ c d) = a c
-standing_stays text ws ks _ at _ _ _ (stuck.no_entry es _ a f) (step.key_of_entry _ _ i j k p l) =
+standing_stays text ws ks _ at _ _ _ (stuck.no_entry es _ _ _ a f w) (step.table_ends _ _ c d) = a c
+standing_stays text ws ks _ at _ _ _ (stuck.no_entry es _ _ _ a f w) (step.key_of_entry _ _ i j k p l) =
     f i k p
 standing_stays text ws ks _ at _ _ _ (stuck.no_group _ f) (step.group_opens _ i b l) = f (inl b)
 standing_stays text ws ks _ at _ _ _ (stuck.no_group _ f) (step.type_opens _ i kind h) =
@@ -80,13 +83,13 @@ standing_stays text ws ks _ at to _ _ (stuck.no_brace _ i _ kind g k n) (step.gr
     no_brace_colon text at b g.stands.colon
 standing_stays text ws ks _ at to _ _ (stuck.no_brace _ i _ kind g k n)
     (step.type_opens _ j other h) = no_opening_brace text at i to kind g k n other j h
-standing_stays text ws ks _ at _ _ _ (stuck.no_content _ a b f) (step.untyped_nothing _ c) = a c
-standing_stays text ws ks _ at _ _ _ (stuck.no_content _ a b f) (step.begins_with_group _ c) = b c
-standing_stays text ws ks _ at _ _ _ (stuck.no_content _ a b f)
+standing_stays text ws ks _ at _ _ _ (stuck.no_content _ _ _ a b f w) (step.untyped_nothing _ c) = a c
+standing_stays text ws ks _ at _ _ _ (stuck.no_content _ _ _ a b f w) (step.begins_with_group _ c) = b c
+standing_stays text ws ks _ at _ _ _ (stuck.no_content _ _ _ a b f w)
     (step.untyped_string _ i j s p k c) = f i s p
-standing_stays text ws ks _ at _ _ _ (stuck.no_content _ a b f)
+standing_stays text ws ks _ at _ _ _ (stuck.no_content _ _ _ a b f w)
     (step.begins_with_string _ i j s p k c) = f i s p
-standing_stays text ws ks _ at _ _ _ (stuck.no_content _ a b f)
+standing_stays text ws ks _ at _ _ _ (stuck.no_content _ _ _ a b f w)
     (step.begins_with_key _ i j s p k c) = f i s (key_string text at i s p)
 standing_stays text ws ks _ at to _ _ (stuck.no_further _ i _ s p k a b f)
     (step.untyped_nothing _ c) = groups.no_string text at i _ s p c refl
@@ -127,7 +130,7 @@ standing_stays text ws ks _ at to x _ (stuck.in_leaf kind _ _ _ h)
 -- nor where one is stuck behind a group
 end_stays : (text : List ℕ) (ws : List Waiting) (ks : List (List ℕ)) (t : Tree) (at to : ℕ)
     (x : IcuExpected) (r : Reading) → EndStuck text t at ws to x → StepOut text ks t at ws r → ⊥
-end_stays text _ ks t at _ _ r (a_collation ws es k e) (was_value _ _ _ j f l) =
+end_stays text _ ks t at _ _ r (a_collation ws es k _ e) (was_value _ _ _ _ j f l) =
     false≢true (sym f ∙ e)
 end_stays text _ ks t at _ _ r (more_text end k w) l = elim l [ ]
 
@@ -238,19 +241,21 @@ behind_string text from i j to end s t p k q l =
 -- the content of a group is stuck at one place
 LeafStuck-one : (text : List ℕ) (from : ℕ) (kind : Kind) (to end : ℕ) (x y : IcuExpected)
     → LeafStuck text from kind to x → LeafStuck text from kind end y → (to ≡ end) × (x ≡ y)
-LeafStuck-one text from _ _ _ _ _ (no_string f) (no_string g) = (refl, refl)
-LeafStuck-one text from _ _ _ _ _ (no_string f) (open_string i _ s p k n) = absurd (f i s p)
-LeafStuck-one text from _ _ _ _ _ (open_string i _ s p k n) (no_string f) = absurd (f i s p)
+LeafStuck-one text from _ to end x y (no_string _ _ f w) (no_string _ _ g z) =
+    Told-one text from to end expect.String x y w z
+LeafStuck-one text from _ _ _ _ _ (no_string _ _ f w) (open_string i _ s p k n) = absurd (f i s p)
+LeafStuck-one text from _ _ _ _ _ (open_string i _ s p k n) (no_string _ _ f w) = absurd (f i s p)
 LeafStuck-one text from _ to end _ _ (open_string i _ s p k n) (open_string j _ t q l m) =
     (behind_string text from i j to end s t p k q l, refl)
-LeafStuck-one text from _ _ _ _ _ (no_digits f) (no_digits g) = (refl, refl)
-LeafStuck-one text from _ _ _ _ _ (no_digits f) (odd_digits i s p n) = absurd (f i s p)
-LeafStuck-one text from _ _ _ _ _ (no_digits f) (open_binary i _ s p h k n) = absurd (f i s p)
-LeafStuck-one text from _ _ _ _ _ (odd_digits i s p n) (no_digits f) = absurd (f i s p)
+LeafStuck-one text from _ to end x y (no_digits _ _ f w) (no_digits _ _ g z) =
+    Told-one text from to end expect.String x y w z
+LeafStuck-one text from _ _ _ _ _ (no_digits _ _ f w) (odd_digits i s p n) = absurd (f i s p)
+LeafStuck-one text from _ _ _ _ _ (no_digits _ _ f w) (open_binary i _ s p h k n) = absurd (f i s p)
+LeafStuck-one text from _ _ _ _ _ (odd_digits i s p n) (no_digits _ _ f w) = absurd (f i s p)
 LeafStuck-one text from _ _ _ _ _ (odd_digits i s p n) (odd_digits j t q m) = (refl, refl)
 LeafStuck-one text from _ _ _ _ _ (odd_digits i s p n) (open_binary j _ t q h l m) =
     absurd (h (ap hex_bytes (sym (String-one text from i j s t p q).1) ∙ n))
-LeafStuck-one text from _ _ _ _ _ (open_binary i _ s p h k n) (no_digits f) = absurd (f i s p)
+LeafStuck-one text from _ _ _ _ _ (open_binary i _ s p h k n) (no_digits _ _ f w) = absurd (f i s p)
 LeafStuck-one text from _ _ _ _ _ (open_binary i _ s p h k n) (odd_digits j t q m) =
     absurd (h (ap hex_bytes (String-one text from i j s t p q).1 ∙ m))
 LeafStuck-one text from _ to end _ _ (open_binary i _ s p h k n) (open_binary j _ t q g l m) =
@@ -277,31 +282,33 @@ LeafStuck-one text from _ to end _ _ (open_vector at i _ v d p k n m)
 -- a reading is stuck at one place
 StepStuck-one : (text : List ℕ) (s : Standing) (at to end : ℕ) (x y : IcuExpected)
     → StepStuck text s at to x → StepStuck text s at end y → (to ≡ end) × (x ≡ y)
-StepStuck-one text _ at _ _ _ _ (stuck.no_member last ts _ a b d f)
-    (stuck.no_member _ _ _ e g h k) =
-    (refl, refl)
-StepStuck-one text _ at _ _ _ _ (stuck.no_member last ts _ a b d f)
+StepStuck-one text _ at to end x y (stuck.no_member last ts _ _ _ a b d f w)
+    (stuck.no_member _ _ _ _ _ e g h k z) =
+    Told-one text at to end (member_behind last) x y w z
+StepStuck-one text _ at _ _ _ _ (stuck.no_member last ts _ _ _ a b d f w)
     (stuck.two_strings _ _ _ i s e p)
     = absurd (f i s p)
-StepStuck-one text _ at _ _ _ _ (stuck.no_member last ts _ a b d f) (stuck.lone_comma _ _ _ e c) =
+StepStuck-one text _ at _ _ _ _ (stuck.no_member last ts _ _ _ a b d f w) (stuck.lone_comma _ _ _ e c) =
     absurd (b c)
 StepStuck-one text _ at _ _ _ _ (stuck.two_strings last ts _ i s e p)
-    (stuck.no_member _ _ _ a b d f)
+    (stuck.no_member _ _ _ _ _ a b d f w)
     = absurd (f i s p)
 StepStuck-one text _ at _ _ _ _ (stuck.two_strings last ts _ i s e p)
     (stuck.two_strings _ _ _ j t g q) = (refl, refl)
 StepStuck-one text _ at _ _ _ _ (stuck.two_strings last ts _ i s e p) (stuck.lone_comma _ _ _ g c) =
     absurd (groups.no_string text at i _ s p c refl)
-StepStuck-one text _ at _ _ _ _ (stuck.lone_comma last ts _ e c) (stuck.no_member _ _ _ a b d f) =
+StepStuck-one text _ at _ _ _ _ (stuck.lone_comma last ts _ e c) (stuck.no_member _ _ _ _ _ a b d f w) =
     absurd (b c)
 StepStuck-one text _ at _ _ _ _ (stuck.lone_comma last ts _ e c) (stuck.two_strings _ _ _ i s g p) =
     absurd (groups.no_string text at i _ s p c refl)
 StepStuck-one text _ at _ _ _ _ (stuck.lone_comma last ts _ e c) (stuck.lone_comma _ _ _ g d) =
     (refl, refl)
 StepStuck-one text _ at _ _ _ _ (stuck.key_twice es _ c d) (stuck.key_twice _ _ e f) = (refl, refl)
-StepStuck-one text _ at _ _ _ _ (stuck.key_twice es _ c d) (stuck.no_entry _ _ a f) = absurd (a c)
-StepStuck-one text _ at _ _ _ _ (stuck.no_entry es _ a f) (stuck.key_twice _ _ c d) = absurd (a c)
-StepStuck-one text _ at _ _ _ _ (stuck.no_entry es _ a f) (stuck.no_entry _ _ b g) = (refl, refl)
+StepStuck-one text _ at _ _ _ _ (stuck.key_twice es _ c d) (stuck.no_entry _ _ _ _ a f w) = absurd (a c)
+StepStuck-one text _ at _ _ _ _ (stuck.no_entry es _ _ _ a f w) (stuck.key_twice _ _ c d) = absurd (a c)
+StepStuck-one text _ at to end x y (stuck.no_entry es _ _ _ a f w)
+    (stuck.no_entry _ _ _ _ b g z) =
+    Told-one text at to end expect.Entry x y w z
 StepStuck-one text _ at _ _ _ _ (stuck.no_group _ f) (stuck.no_group _ g) = (refl, refl)
 StepStuck-one text _ at _ _ _ _ (stuck.no_group _ f) (stuck.no_type _ _ c g) = absurd (f (inr c))
 StepStuck-one text _ at _ _ _ _ (stuck.no_group _ f) (stuck.no_brace _ i _ kind g k n) =
@@ -321,12 +328,14 @@ StepStuck-one text _ at to end _ _ (stuck.no_brace _ i _ kind g k n)
           (subst (λ u. Skip text u end) (sym (GroupType-one text at i j kind other g h).0) l),
       refl,
     )
-StepStuck-one text _ at _ _ _ _ (stuck.no_content _ a b f) (stuck.no_content _ c d g) = (refl, refl)
-StepStuck-one text _ at _ _ _ _ (stuck.no_content _ a b f) (stuck.no_further _ i _ s p k c d g) =
+StepStuck-one text _ at to end x y (stuck.no_content _ _ _ a b f w)
+    (stuck.no_content _ _ _ c d g z) =
+    Told-one text at to end expect.Member x y w z
+StepStuck-one text _ at _ _ _ _ (stuck.no_content _ _ _ a b f w) (stuck.no_further _ i _ s p k c d g) =
     absurd (f i s p)
-StepStuck-one text _ at _ _ _ _ (stuck.no_content _ a b f) (stuck.no_key _ i j s p k c g) =
+StepStuck-one text _ at _ _ _ _ (stuck.no_content _ _ _ a b f w) (stuck.no_key _ i j s p k c g) =
     absurd (f i s p)
-StepStuck-one text _ at _ _ _ _ (stuck.no_further _ i _ s p k c d g) (stuck.no_content _ a b f) =
+StepStuck-one text _ at _ _ _ _ (stuck.no_further _ i _ s p k c d g) (stuck.no_content _ _ _ a b f w) =
     absurd (f i s p)
 StepStuck-one text _ at to end _ _ (stuck.no_further _ i _ s p k c d g)
     (stuck.no_further _ j _ t q l e f h) =
@@ -334,7 +343,7 @@ StepStuck-one text _ at to end _ _ (stuck.no_further _ i _ s p k c d g)
 StepStuck-one text _ at to _ _ _ (stuck.no_further _ i _ s p k c d g)
     (stuck.no_key _ j m t q l b f) =
     absurd (g (subst (λ u. BeginsGroup text u) (behind_string text at j i m to t s q l p k) b))
-StepStuck-one text _ at _ _ _ _ (stuck.no_key _ i j s p k c g) (stuck.no_content _ a b f) =
+StepStuck-one text _ at _ _ _ _ (stuck.no_key _ i j s p k c g) (stuck.no_content _ _ _ a b f w) =
     absurd (f i s p)
 StepStuck-one text _ at _ end _ _ (stuck.no_key _ j m t q l b f)
     (stuck.no_further _ i _ s p k c d g) =
@@ -347,7 +356,7 @@ StepStuck-one text _ at to end x y (stuck.in_leaf kind _ _ _ h) (stuck.in_leaf _
 EndStuck-one : (text : List ℕ) (ws : List Waiting) (t : Tree) (at to end : ℕ)
     (x y : IcuExpected) → EndStuck text t at ws to x → EndStuck text t at ws end y
     → (to ≡ end) × (x ≡ y)
-EndStuck-one text _ t at _ _ _ _ (a_collation ws es k e) (a_collation _ _ _ f) = (refl, refl)
+EndStuck-one text _ t at _ _ _ _ (a_collation ws es k _ e) (a_collation _ _ _ _ f) = (refl, refl)
 EndStuck-one text _ t at to end _ _ (more_text _ k w) (more_text _ l v) =
     (Skip-one text at to end k l, refl)
 
@@ -439,9 +448,9 @@ HeadFault-one text at to end _ _ (no_brace i _ f r k) (no_brace j _ g q l) = (
 
 -- a head without a name, or with a fault behind the name
 data HeadCase (text : List ℕ) : ℕ → IcuExpected → Type 0 where
-  nameless : (start : ℕ) → Starts text start
-      → ((to : ℕ) (name : List ℕ) → Name text start to name → ⊥)
-      → HeadCase text start expect.Name
+  nameless : (start to : ℕ) (x : IcuExpected) → Starts text start
+      → ((end : ℕ) (name : List ℕ) → Name text start end name → ⊥)
+      → Told text start expect.Name to x → HeadCase text to x
   faulty : (at to : ℕ) (x : IcuExpected) → Titled text at → HeadFault text at to x
       → HeadCase text to x
 
@@ -457,8 +466,8 @@ titled text name a start end at b k n l = record {
 }
 
 head_case : (text : List ℕ) (to : ℕ) (x : IcuExpected) → HeadStuck text to x → HeadCase text to x
-head_case text _ _ (no_name a start b k f) =
-    nameless start (record { begin = a; begins = b; before = k }) f
+head_case text to x (no_name a start _ _ b k f w) =
+    nameless start to x (record { begin = a; begins = b; before = k }) f w
 head_case text _ _ (no_root_type a start end at name b k n l c f) =
     faulty at at _ (titled text name a start end at b k n l) (bad_type c f)
 head_case text _ _ (no_root_brace a start end at name b k n l c d) =
@@ -468,14 +477,15 @@ head_case text _ _ (no_typed_brace a start end at i brace name g b k n l r m d) 
 
 HeadCase-one : (text : List ℕ) (to end : ℕ) (x y : IcuExpected) → HeadCase text to x
     → HeadCase text end y → (to ≡ end) × (x ≡ y)
-HeadCase-one text to end _ _ (nameless _ s f) (nameless _ t g) =
-    (Starts-one text to end s t, refl)
-HeadCase-one text to end _ y (nameless _ s f) (faulty at _ _ t h) =
+HeadCase-one text to end x y (nameless start _ _ s f w) (nameless other _ _ t g z) =
+    Told-one text start to end expect.Name x y w
+    (subst (λ u. Told text u expect.Name end y) (sym (Starts-one text start other s t)) z)
+HeadCase-one text to end x y (nameless start _ _ s f w) (faulty at _ _ t h) =
     absurd (f t.end t.name
-    (subst (λ u. Name text u t.end t.name) (Starts-one text t.start to t.starts s) t.named))
-HeadCase-one text to end x _ (faulty at _ _ t h) (nameless _ s f) =
+    (subst (λ u. Name text u t.end t.name) (Starts-one text t.start start t.starts s) t.named))
+HeadCase-one text to end x y (faulty at _ _ t h) (nameless start _ _ s f w) =
     absurd (f t.end t.name
-    (subst (λ u. Name text u t.end t.name) (Starts-one text t.start end t.starts s) t.named))
+    (subst (λ u. Name text u t.end t.name) (Starts-one text t.start start t.starts s) t.named))
 HeadCase-one text to end x y (faulty at _ _ t h) (faulty place _ _ u k) =
     HeadFault-one text at to end x y h
     (subst (λ n. HeadFault text n end y) (sym (Titled-one text at place t u)) k)

@@ -43,7 +43,7 @@ no_opening_brace text at end brace kind g k ne other i d =
 -- where a reading is stuck, the rest of the text has no meaning
 standing_never : (text : List ℕ) (ws : List Waiting) (ks : List (List ℕ)) (s : Standing)
     (at to : ℕ) (x : IcuExpected) → StepStuck text s at to x → Never (RestOf text ws ks s at)
-standing_never text ws ks _ at to x (stuck.no_member last ts _ a b d f) =
+standing_never text ws ks _ at to x (stuck.no_member last ts _ _ _ a b d f w) =
     lists.no_more_members text (After text ws) last ts at ks a b (λ e. d (inl e))
     (λ e. d (inr e)) f
 standing_never text ws ks _ at to x (stuck.two_strings last ts _ i s e p) =
@@ -52,7 +52,7 @@ standing_never text ws ks _ at to x (stuck.lone_comma last ts _ e c) =
     lists.no_other_comma text (After text ws) last ts at ks e c
 standing_never text ws ks _ at to x (stuck.key_twice es _ c d) =
     lists.no_key_twice text (After text ws) es at ks c d
-standing_never text ws ks _ at to x (stuck.no_entry es _ c f) =
+standing_never text ws ks _ at to x (stuck.no_entry es _ _ _ c f w) =
     lists.no_more_entries text (After text ws) es at ks c f
 standing_never text ws ks _ at to x (stuck.no_group _ f) =
     groups.no_group_begins text (After text ws) at ks (λ e. f (inl e))
@@ -63,7 +63,7 @@ standing_never text ws ks _ at to x (stuck.no_type _ _ c f) =
 standing_never text ws ks _ at to x (stuck.no_brace _ i _ kind g k n) =
     groups.no_group_begins text (After text ws) at ks
     (λ b. no_brace_colon text at b g.stands.colon) (no_opening_brace text at i to kind g k n)
-standing_never text ws ks _ at to x (stuck.no_content _ a b f) =
+standing_never text ws ks _ at to x (stuck.no_content _ _ _ a b f w) =
     untyped.no_untyped text (After text ws) at ks a (λ e. b (inl e)) (λ e. b (inr e)) f
 standing_never text ws ks _ at to x (stuck.no_further _ i _ s p k a b f) =
     untyped.no_untyped_string text (After text ws) at i to s ks p k a b (λ g _. f g)
@@ -78,7 +78,7 @@ standing_never text ws ks _ at to x (stuck.in_leaf kind _ _ _ h) =
 -- so it is where more than blanks stands behind the root, or a table with rules of collation ends
 end_never : (text : List ℕ) (ws : List Waiting) (ks : List (List ℕ)) (t : Tree) (at to : ℕ)
     (x : IcuExpected) → EndStuck text t at ws to x → Never (After text ws at t ks)
-end_never text _ ks t at _ _ (a_collation ws es k e) m p = false≢true (sym p.taken ∙ e)
+end_never text _ ks t at _ _ (a_collation ws es k _ e) m p = false≢true (sym p.taken ∙ e)
 end_never text _ ks t at _ _ (more_text end k w) m h =
     let same : end ≡ length text = Skip-one text at end (length text) k h.after in
     absurd (omega (arith, w, same))
@@ -139,9 +139,9 @@ no_typed text at i to brace g f r k n (with j h q l) b =
 -- where nothing that begins a bundle stands, there is no header
 pub head_never : (text : List ℕ) (to : ℕ) (x : IcuExpected) → HeadStuck text to x
     → (name : List ℕ) (f : Bool) (first : ℕ) → Header text name f first → ⊥
-head_never text to x (no_name a _ b k none) name f first h =
+head_never text to x (no_name a start _ _ b k none w) name f first h =
     none h.ends name
-    (subst (λ n. Name text n h.ends name) (starts text name f first a to b k h) h.named)
+    (subst (λ n. Name text n h.ends name) (starts text name f first a start b k h) h.named)
 head_never text to x (no_root_type a start end _ other b k n l c none) name f first h =
     let e = ends_at text other name f first a start end to b k n l h in
     no_typing text to h.brace f c none (subst (λ i. Typing text i h.brace f) e h.typed) h.opens

@@ -58,17 +58,17 @@ keys_in_order js k zs ks =
 -- steps through the group behind a key, out of it, and those behind that
 value_read : (text : List ℕ) (ws : List Waiting) (before : List (List ℕ × Tree))
     (js : List (List ℕ)) (from m n : ℕ) (k : List ℕ) (t : Tree) (zs : List (List ℕ)) (r : Reading)
-    → Comes text (reading_at (in_table before k ∷ ws) js before_group from)
-    (reading_at (in_table before k ∷ ws) (js ++ zs) (behind_group t) m)
+    → Comes text (reading_at (in_table before k from ∷ ws) js before_group from)
+    (reading_at (in_table before k from ∷ ws) (js ++ zs) (behind_group t) m)
     → (is_collation k && holds_entries t) ≡ false → Skip text m n
     → Comes text (reading_at ws (js ++ zs) (among_entries (before ++ (k, t) ∷ [])) n) r
-    → Comes text (reading_at (in_table before k ∷ ws) js before_group from) r
+    → Comes text (reading_at (in_table before k from ∷ ws) js before_group from) r
 value_read text ws before js from m n k t zs r g f o c =
-    comes_by text (reading_at (in_table before k ∷ ws) js before_group from)
-    (reading_at (in_table before k ∷ ws) (js ++ zs) (behind_group t) m) r g
-    (step_out_on text (in_table before k ∷ ws) (js ++ zs) t m
+    comes_by text (reading_at (in_table before k from ∷ ws) js before_group from)
+    (reading_at (in_table before k from ∷ ws) (js ++ zs) (behind_group t) m) r g
+    (step_out_on text (in_table before k from ∷ ws) (js ++ zs) t m
     (reading_at ws (js ++ zs) (among_entries (before ++ (k, t) ∷ [])) n) r
-    (was_value ws before k n f o) c)
+    (was_value ws before k from n f o) c)
 
 mutual
   -- steps lead through members and the `}` behind them
@@ -136,12 +136,12 @@ mutual
       (subst (λ u. Comes text (reading_at ws js (among_entries before) from)
       (Table ws u ((before ++ (k, t) ∷ []) ++ es) to)) (keys_in_order js k zs ks)
       (move_on text ws js (among_entries before) from
-      (reading_at (in_table before k ∷ ws) (js ++ k ∷ []) before_group j)
+      (reading_at (in_table before k j ∷ ws) (js ++ k ∷ []) before_group j)
       (Table ws (((js ++ k ∷ []) ++ zs) ++ ks) ((before ++ (k, t) ∷ []) ++ es) to)
       (step.key_of_entry before from i j k p l)
       (value_read text ws before (js ++ k ∷ []) j m n k t zs
       (Table ws (((js ++ k ∷ []) ++ zs) ++ ks) ((before ++ (k, t) ∷ []) ++ es) to)
-      (group_read text (in_table before k ∷ ws) (js ++ k ∷ []) j m t zs g) f o
+      (group_read text (in_table before k j ∷ ws) (js ++ k ∷ []) j m t zs g) f o
       (entries_read text ws (before ++ (k, t) ∷ []) ((js ++ k ∷ []) ++ zs) n to es ks r
       (subst AreDistinct (sym (append_assoc before ((k, t) ∷ []) es)) d) c))))
 
@@ -170,12 +170,12 @@ mutual
       subst (λ u. Comes text (reading_at ws js in_untyped from) (Table ws u ((k, t) ∷ es) to))
       (keys_in_order js k zs ks)
       (move_on text ws js in_untyped from
-      (reading_at (in_table [] k ∷ ws) (js ++ k ∷ []) before_group j)
+      (reading_at (in_table [] k j ∷ ws) (js ++ k ∷ []) before_group j)
       (Table ws (((js ++ k ∷ []) ++ zs) ++ ks) ((k, t) ∷ es) to)
       (step.begins_with_key from i j k p l (group_first text j m t zs g))
       (value_read text ws [] (js ++ k ∷ []) j m n k t zs
       (Table ws (((js ++ k ∷ []) ++ zs) ++ ks) ((k, t) ∷ es) to)
-      (group_read text (in_table [] k ∷ ws) (js ++ k ∷ []) j m t zs g) f o
+      (group_read text (in_table [] k j ∷ ws) (js ++ k ∷ []) j m t zs g) f o
       (entries_read text ws ((k, t) ∷ []) ((js ++ k ∷ []) ++ zs) n to es ks r
       (w, entries_distinct text n to es ks r) c)))
 

@@ -1,5 +1,7 @@
 -- What the laws of ICU's text form say.
-use Rattle.std.specs.Prelude.{◌≡◌, ◌↔◌, ℕ, Bool, true, List, Contains}
+use Rattle.std.specs.Prelude.{◌≡◌, ◌↔◌, ℕ, Bool, true, nat_eq, List, Contains}
+use Rattle.std.specs.List.{IsDistinct}
+use Rattle.std.specs.Cmp.Lexicographic.{pointwise}
 use Rattle.resb_tree.specs.Tree.{Tree}
 use Rattle.resb_tree.specs.Keys.{is_key}
 use Rattle.resb_icu_grammar.specs.Bundle.{IcuText}
@@ -14,6 +16,12 @@ OneIcuText =
     (keys ks : List (List ℕ))
     → IcuText text name fallback tree keys → IcuText text other enabled root ks
     → (name ≡ other) × (fallback ≡ enabled) × (tree ≡ root) × (keys ≡ ks)
+
+-- no two of a text's keys are equal
+abbrev pub IcuKeysAreDistinct : Type 0
+IcuKeysAreDistinct =
+    (text name : List ℕ) (fallback : Bool) (tree : Tree) (keys : List (List ℕ))
+    → IcuText text name fallback tree keys → IsDistinct (pointwise nat_eq) keys
 
 -- each key of the tree of a text is among the text's keys
 abbrev pub IcuKeysAreListed : Type 0

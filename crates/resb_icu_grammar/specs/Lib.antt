@@ -8,6 +8,7 @@ pub mod Groups
 pub mod Bundle
 pub mod Machine
 pub mod Expected
+pub mod Faults
 pub mod Stuck
 pub mod Laws
 pub mod Inner

@@ -1,5 +1,5 @@
 -- Where a reading of a text in ICU's form cannot go on, and what was expected there.
-use Rattle.std.specs.Prelude.{◌≡◌, ◌≢◌, ◌+◌, ◌<◌, ◌&&◌, ◌==◌, ℕ, Bool, true, false, None, List, []}
+use Rattle.std.specs.Prelude.{◌≡◌, ◌≢◌, ◌+◌, ◌<◌, ◌&&◌, ℕ, Bool, true, false, None, List, []}
 use Rattle.std.specs.Prelude.{◌∷◌, length, slice_index, if◌then◌else◌}
 use Rattle.resb_grammar.specs.Ascii as ascii
 use Rattle.resb_grammar.specs.Group.{hex_bytes}
@@ -9,6 +9,7 @@ use Rattle.resb_tree.specs.Tree.{Tree}
 use Rattle.resb_icu_grammar.specs.Blanks.{Begins, Skip}
 use Rattle.resb_icu_grammar.specs.Words.{Text, KeyText, Name, Number, TypeName, GroupType, RootType}
 use Rattle.resb_icu_grammar.specs.Expected.{instead_of}
+use Rattle.resb_icu_grammar.specs.Faults.{Told}
 use Rattle.resb_icu_grammar.specs.Bundle.{Header}
 use Rattle.resb_icu_grammar.specs.Groups.{Last, is_member, ends_in_string, is_collation}
 use Rattle.resb_icu_grammar.specs.Groups.{holds_entries}
@@ -30,15 +31,6 @@ NoKeyAt text at = (to : ℕ) (k : List ℕ) → KeyText text at to k → ⊥
 -- no number stands there
 abbrev pub NoNumberAt : List ℕ → ℕ → Type 0
 NoNumberAt text at = (to v : ℕ) → Number text at to v → ⊥
-
--- what was expected where no string stands: behind a quote, that it is closed and has known escapes
-abbrev pub quoted_if : Bool → IcuExpected → IcuExpected
-quoted_if true x = expect.Quoted
-quoted_if false x = x
-
--- a string or this was expected, by the byte that stands there
-abbrev pub string_or : ℕ → IcuExpected → IcuExpected
-string_or b x = quoted_if (b == ascii.quote) x
 
 -- what was expected where no member, comma or `}` stands among the members of an array: a comma may
 -- stand behind a member alone
@@ -65,14 +57,14 @@ pub data NumbersSoFar (text : List ℕ) : ℕ → ℕ → Type 0 where
 -- where this was expected
 pub data LeafStuck (text : List ℕ) (from : ℕ) : Kind → ℕ → IcuExpected → Type 0 where
   -- a string must stand in `:string{..}`, and a `}` behind it
-  no_string : NoStringAt text from
-      → LeafStuck text from string_kind from (string_or (slice_index text from) expect.String)
+  no_string : (to : ℕ) (x : IcuExpected) → NoStringAt text from → Told text from expect.String to x
+      → LeafStuck text from string_kind to x
   open_string : (i j : ℕ) (s : List ℕ) → Text text from i s → Skip text i j
       → slice_index text j ≢ ascii.right_brace
       → LeafStuck text from string_kind j expect.RightBrace
   -- in `:bin{..}` a string of pairs of hex digits, and a `}` behind it
-  no_digits : NoStringAt text from
-      → LeafStuck text from binary_kind from (string_or (slice_index text from) expect.String)
+  no_digits : (to : ℕ) (x : IcuExpected) → NoStringAt text from → Told text from expect.String to x
+      → LeafStuck text from binary_kind to x
   odd_digits : (i : ℕ) (s : List ℕ) → Text text from i s → hex_bytes s ≡ None
       → LeafStuck text from binary_kind from expect.HexPairs
   open_binary : (i j : ℕ) (s : List ℕ) → Text text from i s → (hex_bytes s ≢ None) → Skip text i j
@@ -93,10 +85,10 @@ pub data LeafStuck (text : List ℕ) (from : ℕ) : Kind → ℕ → IcuExpected
 -- a reading that stands somewhere cannot go on at a place, where this was expected
 pub data StepStuck (text : List ℕ) : Standing → ℕ → ℕ → IcuExpected → Type 0 where
   -- no member, comma or `}` stands among the members of an array
-  no_member : (last : Last) (ts : List Tree) (at : ℕ) → slice_index text at ≢ ascii.right_brace
-      → slice_index text at ≢ ascii.comma → (BeginsGroup text at → ⊥) → NoStringAt text at
-      → StepStuck text (among_members last ts) at at
-      (string_or (slice_index text at) (member_behind last))
+  no_member : (last : Last) (ts : List Tree) (at to : ℕ) (x : IcuExpected)
+      → slice_index text at ≢ ascii.right_brace → slice_index text at ≢ ascii.comma
+      → (BeginsGroup text at → ⊥) → NoStringAt text at → Told text at (member_behind last) to x
+      → StepStuck text (among_members last ts) at to x
   -- a string right behind a string
   two_strings : (last : Last) (ts : List Tree) (at i : ℕ) (s : List ℕ) → ends_in_string last ≡ true
       → Text text at i s → StepStuck text (among_members last ts) at at expect.Comma
@@ -108,8 +100,9 @@ pub data StepStuck (text : List ℕ) : Standing → ℕ → ℕ → IcuExpected 
   key_twice : (es : List (List ℕ × Tree)) (at : ℕ) → slice_index text at ≡ ascii.right_brace
       → (AreDistinct es → ⊥) → StepStuck text (among_entries es) at at expect.KeysOnce
   -- neither a key nor a `}` among entries
-  no_entry : (es : List (List ℕ × Tree)) (at : ℕ) → slice_index text at ≢ ascii.right_brace
-      → NoKeyAt text at → StepStuck text (among_entries es) at at expect.Entry
+  no_entry : (es : List (List ℕ × Tree)) (at to : ℕ) (x : IcuExpected)
+      → slice_index text at ≢ ascii.right_brace → NoKeyAt text at → Told text at expect.Entry to x
+      → StepStuck text (among_entries es) at to x
   -- neither `{` nor `:` where a group must stand
   no_group : (at : ℕ) → (BeginsGroup text at → ⊥) → StepStuck text before_group at at expect.Group
   -- a `:` that begins no type
@@ -120,9 +113,9 @@ pub data StepStuck (text : List ℕ) : Standing → ℕ → ℕ → IcuExpected 
       → slice_index text j ≢ ascii.left_brace
       → StepStuck text before_group at j expect.LeftBrace
   -- nothing that a group without a type may hold
-  no_content : (at : ℕ) → slice_index text at ≢ ascii.right_brace → (BeginsGroup text at → ⊥)
-      → NoStringAt text at
-      → StepStuck text in_untyped at at (string_or (slice_index text at) expect.Member)
+  no_content : (at to : ℕ) (x : IcuExpected) → slice_index text at ≢ ascii.right_brace
+      → (BeginsGroup text at → ⊥) → NoStringAt text at → Told text at expect.Member to x
+      → StepStuck text in_untyped at to x
   -- a string first in a group without a type, and nothing behind it that may stand there
   no_further : (at i j : ℕ) (s : List ℕ) → Text text at i s → Skip text i j
       → slice_index text j ≢ ascii.right_brace → slice_index text j ≢ ascii.comma
@@ -137,19 +130,19 @@ pub data StepStuck (text : List ℕ) : Standing → ℕ → ℕ → IcuExpected 
 -- a group has ended, and a reading cannot go on at a place, where this was expected
 pub data EndStuck (text : List ℕ) (t : Tree) (at : ℕ)
     : List Waiting → ℕ → IcuExpected → Type 0 where
-  -- rules of collation
-  a_collation : (ws : List Waiting) (es : List (List ℕ × Tree)) (k : List ℕ)
+  -- a table with rules of collation, which is told where it begins
+  a_collation : (ws : List Waiting) (es : List (List ℕ × Tree)) (k : List ℕ) (begin : ℕ)
       → (is_collation k && holds_entries t) ≡ true
-      → EndStuck text t at (in_table es k ∷ ws) at expect.NoCollation
+      → EndStuck text t at (in_table es k begin ∷ ws) begin expect.NoCollation
   -- more than blanks behind the root
   more_text : (end : ℕ) → Skip text at end → end < length text
       → EndStuck text t at [] end expect.EndOfText
 
 -- a reading cannot go on before the first entry, at this place, where this was expected
 pub data HeadStuck (text : List ℕ) : ℕ → IcuExpected → Type 0 where
-  no_name : (a start : ℕ) → Begins text a → Skip text a start
-      → ((to : ℕ) (name : List ℕ) → Name text start to name → ⊥)
-      → HeadStuck text start expect.Name
+  no_name : (a start to : ℕ) (x : IcuExpected) → Begins text a → Skip text a start
+      → ((end : ℕ) (name : List ℕ) → Name text start end name → ⊥)
+      → Told text start expect.Name to x → HeadStuck text to x
   no_root_type : (a start end at : ℕ) (name : List ℕ) → Begins text a → Skip text a start
       → Name text start end name → Skip text end at → slice_index text at ≡ ascii.colon
       → ((to : ℕ) (fallback : Bool) → RootType text at to fallback → ⊥)

@@ -32,8 +32,10 @@ pub enum IcuExpected {
     Group,
     /// A string.
     String,
-    /// The quote that closes a string, and escapes that this form has.
-    Quoted,
+    /// An escape that this form has.
+    Escape,
+    /// A quote that closes the string that begins here.
+    ClosingQuote,
     /// A string that may be a key.
     Key,
     /// A string of whole pairs of hex digits.
@@ -79,7 +81,8 @@ impl fmt::Display for IcuExpected {
             IcuExpected::CommaOrRightBrace => "a comma or '}'",
             IcuExpected::Group => "'{' or a type",
             IcuExpected::String => "a string",
-            IcuExpected::Quoted => "a quoted string that is closed, with known escapes",
+            IcuExpected::Escape => "a known escape",
+            IcuExpected::ClosingQuote => "a quote that closes this string",
             IcuExpected::Key => "a string that may be a key",
             IcuExpected::HexPairs => "pairs of hex digits",
             IcuExpected::Number => "a number",

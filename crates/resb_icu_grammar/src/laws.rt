@@ -1,11 +1,17 @@
 //! The laws of ICU's text form, each the contract of a function that does nothing.
 //! They speak of the definitions alone.
-ghost use Rattle.resb_icu_grammar.specs.Laws.{OneIcuText, IcuKeysAreListed, IcuStuckIsNoText};
-ghost use Rattle.resb_icu_grammar.specs.Laws.{IcuStuckInOneWay, IcuMachineReadsTheForm};
+ghost use Rattle.resb_icu_grammar.specs.Laws.{OneIcuText, IcuKeysAreDistinct, IcuKeysAreListed};
+ghost use Rattle.resb_icu_grammar.specs.Laws.{IcuStuckIsNoText, IcuStuckInOneWay};
+ghost use Rattle.resb_icu_grammar.specs.Laws.{IcuMachineReadsTheForm};
 
 /// A text of ICU's form has one name, fallback, tree and list of keys.
 pub fn one_icu_text()
     ensures { OneIcuText }
+{}
+
+/// No two discovered keys of a text in ICU's form are equal.
+pub fn icu_keys_are_distinct()
+    ensures { IcuKeysAreDistinct }
 {}
 
 /// The discovered keys of a text in ICU's form hold each key of its tree.

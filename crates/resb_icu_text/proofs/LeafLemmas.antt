@@ -1,6 +1,6 @@
 -- The content of groups without items: what stands there, and where it is stuck.
 use Rattle.std.proofs.Common.{◌≡◌, ◌≢◌, ℕ, ◌%◌, ◌^◌, List, [], ◌∷◌, ◌++◌, Some}
-use Rattle.std.proofs.Common.{inr, refl, sym, ◌∙◌, ap, subst, append_assoc}
+use Rattle.std.proofs.Common.{⊎_elim, inl, inr, refl, sym, ◌∙◌, ap, subst, append_assoc}
 use Rattle.std.specs.Prelude.{slice_index}
 use Rattle.resb_grammar.specs.Ascii as ascii
 use Rattle.resb_grammar.specs.Group.{hex_bytes}
@@ -12,8 +12,12 @@ use Rattle.resb_icu_grammar.specs.Words.{Text, Number}
 use Rattle.resb_icu_grammar.specs.Groups.{last_number, last_comma, one_more}
 use Rattle.resb_icu_grammar.specs.Groups.{string_content, binary_content, integer_content}
 use Rattle.resb_icu_grammar.specs.Groups.{no_numbers, numbers}
-use Rattle.resb_icu_grammar.specs.Stuck.{NumbersSoFar, one_number, LeafStuck}
+use Rattle.resb_icu_grammar.specs.Faults.{Told}
+use Rattle.resb_icu_grammar.specs.Stuck.{NumbersSoFar, one_number, LeafStuck, NoStringAt}
 use Rattle.resb_icu_grammar.specs.declared.expected.IcuExpected.{IcuExpected}
+use Rattle.resb_icu_grammar.specs.declared.expected.IcuExpected.TheVariants as expect
+use Rattle.resb_icu_text.specs.Inner.Ahead.{StringFails}
+use Rattle.resb_icu_text.specs.Refusal.{want_of_memory}
 use Rattle.resb_icu_text.specs.declared.error.IcuTextError.{IcuTextError}
 use Rattle.resb_icu_text.specs.Inner.Leaf.{Leaf, LeafFails, Vector}
 use Rattle.resb_icu_text.specs.Inner.Leaf.{IsBehindNumber, at_brace, at_comma}
@@ -101,6 +105,16 @@ pub leaf_fails : (text : List ℕ) (from : ℕ) (kind : Kind) (e : IcuTextError)
     → LeafFails text from kind e
 leaf_fails text from kind e to x h s =
     inr (subst (λ (f : IcuTextError). LeafStuck text from kind f.position f.expected) (sym h) s)
+
+-- where the content lacks a string, and what is told in its place
+pub told_leaf : (text : List ℕ) (from : ℕ) (kind : Kind) (e : IcuTextError)
+    → (NoStringAt text from → Told text from expect.String e.position e.expected
+    → LeafStuck text from kind e.position e.expected)
+    → StringFails text from expect.String e → LeafFails text from kind e
+told_leaf text from kind e f h =
+    ⊎_elim (λ (m : e ≡ want_of_memory). inl m)
+    (λ (n : NoStringAt text from × Told text from expect.String e.position e.expected).
+    inr (f n.0 n.1)) h
 
 -- nothing and a `}`
 pub empty_vector : (text : List ℕ) (at : ℕ) → slice_index text at ≡ ascii.right_brace

@@ -10,11 +10,15 @@ use Rattle.std.proofs.lemmas.Str.{IsCharBoundary-after_ascii}
 use Rattle.std.proofs.lemmas.List.{take_more, get_or-drop}
 use Rattle.std.specs.Prelude.{slice_index, nat_lt}
 use Rattle.std.proofs.lemmas.Bool.Decides.{nat_tests}
-use Rattle.std.proofs.lemmas.List.{get_or_past}
 use Rattle.resb_grammar.specs.Ascii as ascii
 use Rattle.resb_icu_grammar.specs.Bytes.{backslash}
 use Rattle.resb_icu_grammar.specs.Escapes.{Escape, itself, line_feed, carriage_return, tab}
 use Rattle.resb_icu_grammar.specs.Escapes.{four_digits, eight_digits}
+use Rattle.resb_icu_grammar.specs.Faults.{PieceFault, NoEscapeAt}
+use Rattle.resb_icu_grammar.specs.Faults as faults
+use Rattle.resb_icu_grammar.specs.declared.expected.IcuExpected.{IcuExpected}
+use Rattle.resb_icu_grammar.specs.declared.expected.IcuExpected.TheVariants as expect
+use Rattle.resb_icu_text.specs.declared.error.IcuTextError.{IcuTextError}
 use Rattle.resb_icu_grammar.specs.Pieces.{QuotedBytes, ends, byte, escape}
 use Rattle.resb_icu_grammar.specs.Words.{HasNoEscape}
 use Rattle.resb_icu_text.specs.Inner.Stops.{HasNoStop}
@@ -32,55 +36,51 @@ goes_byte : (text : List ℕ) (from at : ℕ) → at < length text → slice_ind
     → slice_index text at ≢ backslash → GoesOn text at from → GoesOn text (at + 1) from
 goes_byte text from at l q s f to h = f to (_, byte at to h.0 l q s h.1)
 
-inside_byte : (text : List ℕ) (at to : ℕ) (us : List ℕ) → slice_index text at ≢ ascii.quote
-    → slice_index text at ≢ backslash → QuotedBytes text at to us → SomeInside text (at + 1) to
-inside_byte text at to us q s (ends _ k) = absurd (q k)
-inside_byte text at to us q s (byte _ _ vs l k m r) = (vs, r)
-inside_byte text at to us q s (escape _ n _ xs vs k m r) = absurd (s k)
+-- a fault that stands from one place on stands from the other on
+abbrev pub FaultOn : List ℕ → ℕ → ℕ → ℕ → Type 0
+FaultOn text opening at from =
+    (to : ℕ) (x : IcuExpected) → PieceFault text opening at to x → PieceFault text opening from to x
 
-back_byte : (text : List ℕ) (from at : ℕ) → slice_index text at ≢ ascii.quote
-    → slice_index text at ≢ backslash → GoesOn text from at → GoesOn text from (at + 1)
-back_byte text from at q s f to h = let g = f to h in inside_byte text at to g.0 q s g.1
+fault_byte : (text : List ℕ) (opening from at : ℕ) → at < length text
+    → slice_index text at ≢ ascii.quote → slice_index text at ≢ backslash
+    → FaultOn text opening at from → FaultOn text opening (at + 1) from
+fault_byte text o from at l q s f to x h = f to x (faults.byte at to x l q s h)
 
-goes_run : (text : List ℕ) (from at n : ℕ) → at + n ≤ length text → HasNoStop text at (at + n)
-    → GoesOn text at from → GoesOn text (at + n) from
-goes_run text from at zero l h f =
-    let e : at ≡ at + 0 = omega arith in subst (λ i. GoesOn text i from) e f
-goes_run text from at (suc n) l h f =
+-- what each byte that stands for itself keeps, bytes up to the first quote or backslash keep
+kept_run : (text : List ℕ) (P : ℕ → Type 0)
+    → ((i : ℕ) → i < length text → slice_index text i ≢ ascii.quote
+    → slice_index text i ≢ backslash → P i → P (i + 1))
+    → (at n : ℕ) → at + n ≤ length text → HasNoStop text at (at + n) → P at → P (at + n)
+kept_run text P keeps at zero l h p = let e : at ≡ at + 0 = omega arith in subst P e p
+kept_run text P keeps at (suc n) l h p =
     let e : at + 1 + n ≡ at + suc n = omega arith in
     let b = h at (omega arith) (omega arith) in
-    subst (λ i. GoesOn text i from) e
-    (goes_run text from (at + 1) n (omega (arith, l))
+    subst P e
+    (kept_run text P keeps (at + 1) n (omega (arith, l))
     (λ k low high. h k (omega (arith, low)) (omega (arith, high)))
-    (goes_byte text from at (omega (arith, l)) b.0 b.1 f))
+    (keeps at (omega (arith, l)) b.0 b.1 p))
 
-back_run : (text : List ℕ) (from at n : ℕ) → HasNoStop text at (at + n) → GoesOn text from at
-    → GoesOn text from (at + n)
-back_run text from at zero h f =
-    let e : at ≡ at + 0 = omega arith in subst (λ i. GoesOn text from i) e f
-back_run text from at (suc n) h f =
-    let e : at + 1 + n ≡ at + suc n = omega arith in
-    let b = h at (omega arith) (omega arith) in
-    subst (λ i. GoesOn text from i) e
-    (back_run text from (at + 1) n (λ k low high. h k (omega (arith, low)) (omega (arith, high)))
-    (back_byte text from at b.0 b.1 f))
+kept_bytes : (text : List ℕ) (P : ℕ → Type 0)
+    → ((i : ℕ) → i < length text → slice_index text i ≢ ascii.quote
+    → slice_index text i ≢ backslash → P i → P (i + 1))
+    → (at stop : ℕ) → at ≤ stop → stop ≤ length text → HasNoStop text at stop → P at → P stop
+kept_bytes text P keeps at stop o l h p =
+    let e : at + (stop - at) ≡ stop = omega arith in
+    subst P e
+    (kept_run text P keeps at (stop - at) (omega (arith, e))
+    (subst (λ i. HasNoStop text at i) (sym e) h) p)
 
 -- bytes that stand for themselves, up to the first quote or backslash
 pub goes_bytes : (text : List ℕ) (from at stop : ℕ) → at ≤ stop → stop ≤ length text
     → HasNoStop text at stop → GoesOn text at from → GoesOn text stop from
-goes_bytes text from at stop o l h f =
-    let e : at + (stop - at) ≡ stop = omega arith in
-    subst (λ i. GoesOn text i from) e
-    (goes_run text from at (stop - at) (omega (arith, e))
-    (subst (λ i. HasNoStop text at i) (sym e) h) f)
+goes_bytes text from =
+    kept_bytes text (λ i. GoesOn text i from) (λ i l q s f. goes_byte text from i l q s f)
 
--- and back
-pub back_bytes : (text : List ℕ) (from at stop : ℕ) → at ≤ stop → HasNoStop text at stop
-    → GoesOn text from at → GoesOn text from stop
-back_bytes text from at stop o h f =
-    let e : at + (stop - at) ≡ stop = omega arith in
-    subst (λ i. GoesOn text from i) e
-    (back_run text from at (stop - at) (subst (λ i. HasNoStop text at i) (sym e) h) f)
+-- and a fault behind them
+pub fault_bytes : (text : List ℕ) (opening from at stop : ℕ) → at ≤ stop → stop ≤ length text
+    → HasNoStop text at stop → FaultOn text opening at from → FaultOn text opening stop from
+fault_bytes text o from =
+    kept_bytes text (λ i. FaultOn text o i from) (λ i l q s f. fault_byte text o from i l q s f)
 
 pub goes_escape : (text : List ℕ) (from at next b : ℕ) (xs : List ℕ) → b ≡ slice_index text at
     → b ≡ backslash → Escape text (at + 1) next xs → GoesOn text at from
@@ -88,50 +88,32 @@ pub goes_escape : (text : List ℕ) (from at next b : ℕ) (xs : List ℕ) → b
 goes_escape text from at next b xs e s x f to h =
     f to (_, escape at next to xs h.0 (sym e ∙ s) x h.1)
 
-inside_escape : (text : List ℕ) (at next to b : ℕ) (xs us : List ℕ) → b ≡ slice_index text at
-    → b ≡ backslash → Escape text (at + 1) next xs → QuotedBytes text at to us
-    → SomeInside text next to
-inside_escape text at next to b xs us e s x (ends _ k) = absurd (omega arith)
-inside_escape text at next to b xs us e s x (byte _ _ vs l k m r) = absurd (m (sym e ∙ s))
-inside_escape text at next to b xs us e s x (escape _ n _ ys vs k m r) =
-    let same = Escape-one text (at + 1) n next ys xs m x in
-    (vs, subst (λ i. QuotedBytes text i to vs) same.0 r)
+pub fault_escape : (text : List ℕ) (opening from at next b : ℕ) (xs : List ℕ)
+    → b ≡ slice_index text at → b ≡ backslash → Escape text (at + 1) next xs
+    → FaultOn text opening at from → FaultOn text opening next from
+fault_escape text o from at next b xs e s x f to y h =
+    f to y (faults.escape at next to xs y (sym e ∙ s) x h)
 
-pub back_escape : (text : List ℕ) (from at next b : ℕ) (xs : List ℕ) → b ≡ slice_index text at
-    → b ≡ backslash → Escape text (at + 1) next xs → GoesOn text from at
-    → GoesOn text from next
-back_escape text from at next b xs e s x f to h =
-    let g = f to h in inside_escape text at next to b xs g.0 e s x g.1
+-- a backslash with no escape behind it is the fault of a piece
+pub no_escape_fault : (text : List ℕ) (opening from at : ℕ) → slice_index text at ≡ backslash
+    → NoEscapeAt text (at + 1) → FaultOn text opening at from
+    → PieceFault text opening from at expect.Escape
+no_escape_fault text o from at s f g = g at expect.Escape (faults.no_escape at s f)
 
--- a backslash with no escape behind it stands in no piece
-pub inside_broken : (text : List ℕ) (at to b : ℕ) (us : List ℕ) → b ≡ slice_index text at
-    → b ≡ backslash → ((to : ℕ) (s : List ℕ) → Escape text (at + 1) to s → ⊥)
-    → QuotedBytes text at to us → ⊥
-inside_broken text at to b us e s f (ends _ k) = omega arith
-inside_broken text at to b us e s f (byte _ _ ws l k m r) = m (sym e ∙ s)
-inside_broken text at to b us e s f (escape _ n _ ys ws k m r) = f n ys m
+-- where neither a quote nor a backslash follows, no quote closes a piece
+pub no_end_fault : (text : List ℕ) (opening from at : ℕ) → at ≤ length text
+    → HasNoStop text at (length text) → FaultOn text opening at from
+    → PieceFault text opening from opening expect.ClosingQuote
+no_end_fault text o from at l h g =
+    fault_bytes text o from at (length text) l (omega arith) h g o expect.ClosingQuote
+    (faults.no_end (length text) (omega arith))
 
--- where no escape stands behind a backslash, no piece ends
-pub no_escape_inside : (text : List ℕ) (from at b : ℕ) → b ≡ slice_index text at → b ≡ backslash
-    → ((to : ℕ) (s : List ℕ) → Escape text (at + 1) to s → ⊥) → GoesOn text from at → (to : ℕ)
-    (s : List ℕ) → QuotedBytes text from to s → ⊥
-no_escape_inside text from at b e s f g to us h =
-    let k = g to (us, h) in inside_broken text at to b k.0 e s f k.1
-
-inside_past : (text : List ℕ) (at to : ℕ) (us : List ℕ) → length text ≤ at
-    → slice_index text at ≡ 0 → QuotedBytes text at to us → ⊥
-inside_past text at to us l z (ends _ k) = omega (arith, z, k)
-inside_past text at to us l z (byte _ _ ws m k n r) = omega arith
-inside_past text at to us l z (escape _ n _ ys ws k m r) = omega (arith, z, k)
-
--- where neither a quote nor a backslash follows, no piece ends
-pub none_past : (text : List ℕ) (from at : ℕ) → at ≤ length text
-    → HasNoStop text at (length text) → GoesOn text from at → (to : ℕ) (s : List ℕ)
-    → QuotedBytes text from to s → ⊥
-none_past text from at l h g to us i =
-    let k = back_bytes text from at (length text) l h g to (us, i) in
-    inside_past text (length text) to k.0 (omega arith)
-    (get_or_past text (length text) 0 (omega arith)) k.1
+-- a fault by what an error says
+pub says_fault : (text : List ℕ) (opening from to : ℕ) (x : IcuExpected) (e : IcuTextError)
+    → e ≡ record { position = to; expected = x } → PieceFault text opening from to x
+    → PieceFault text opening from e.position e.expected
+says_fault text o from to x e h f =
+    subst (λ (g : IcuTextError). PieceFault text o from g.position g.expected) (sym h) f
 
 -- a closing quote
 pub piece_closes : (text : List ℕ) (from at : ℕ) → slice_index text at ≡ ascii.quote

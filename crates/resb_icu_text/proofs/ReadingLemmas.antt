@@ -23,16 +23,19 @@ use Rattle.resb_icu_grammar.specs.Machine.{at_root, Waiting, Reading, reading_at
 use Rattle.resb_icu_grammar.specs.Machine.{Comes, here}
 use Rattle.resb_icu_grammar.specs.Stuck.{HeadStuck, StuckFrom, Stuck, in_head, in_root}
 use Rattle.resb_icu_grammar.specs.Stuck.{no_root_type, no_root_brace, no_typed_brace, behind}
-use Rattle.resb_icu_grammar.specs.Stuck.{more_text}
+use Rattle.resb_icu_grammar.specs.Stuck.{more_text, NoKeyAt}
+use Rattle.resb_icu_grammar.specs.Faults.{Told}
 use Rattle.resb_icu_grammar.specs.Stuck as stuck
 use Rattle.resb_icu_grammar.specs.declared.expected.IcuExpected.{IcuExpected}
 use Rattle.resb_icu_grammar.specs.declared.expected.IcuExpected.TheVariants as expect
+use Rattle.resb_icu_grammar.proofs.Faults.{string_told}
 use Rattle.resb_icu_grammar.proofs.Lexical.{String-one, key_string}
 use Rattle.resb_icu_grammar.proofs.Moves.{comes_by, comes_same}
 use Rattle.resb_icu_grammar.proofs.Refused.{stuck_is_no_text}
 use Rattle.resb_icu_text.specs.Answer.{IcuFails, IsNoIcuText}
 use Rattle.resb_icu_text.specs.Refusal.{want_of_memory}
 use Rattle.resb_icu_text.specs.declared.error.IcuTextError.{IcuTextError}
+use Rattle.resb_icu_text.specs.Inner.Ahead.{KeyFails}
 use Rattle.resb_icu_text.specs.Inner.Steps.{shown, with_key, now, GroupThere, EndedThere, There}
 use Rattle.resb_icu_text.specs.Inner.Steps.{Steps, StepFails}
 use Rattle.resb_icu_text.specs.declared.steps.Waiting.{Waiting as Open}
@@ -55,9 +58,23 @@ name_is text at to end k name p n =
     (key_string text at to k p)).1
 
 -- no name stands where no key does
-pub no_name : (text : List ℕ) (at : ℕ) → ((to : ℕ) (k : List ℕ) → KeyText text at to k → ⊥)
-    → (end : ℕ) (name : List ℕ) → Name text at end name → ⊥
-no_name text at f end name n = f end name n.key
+pub no_name : (text : List ℕ) (at : ℕ) (e : IcuTextError) → KeyFails text at expect.Name e
+    → NameFails text at e
+no_name text at e h =
+    ⊎_elim (λ (m : e ≡ want_of_memory). inl m)
+    (λ (n : NoKeyAt text at × Told text at expect.Name e.position e.expected).
+    inr (λ end name w. n.0 end name w.key, n.1)) h
+
+-- where a key is no name, the name is told
+pub unfit_name : (text : List ℕ) (at to : ℕ) (k : List ℕ) (e : IcuTextError)
+    → e ≡ record { position = at; expected = expect.Name } → KeyText text at to k
+    → ((end : ℕ) (name : List ℕ) → Name text at end name → ⊥) → NameFails text at e
+unfit_name text at to k e h p f =
+    inr (
+      f,
+      subst (λ (g : IcuTextError). Told text at expect.Name g.position g.expected) (sym h)
+          (string_told text at to k expect.Name (key_string text at to k p)),
+    )
 
 -- an empty key is no name
 pub empty_name : (text : List ℕ) (at to : ℕ) (k : List ℕ) → KeyText text at to k
@@ -105,7 +122,7 @@ pub no_head_name : (text : List ℕ) (a start : ℕ) (e : IcuTextError) → Begi
     → Skip text a start → NameFails text start e → HeadFails text e
 no_head_name text a start e b k (inl m) = inl m
 no_head_name text a start e b k (inr n) =
-    head_says text start expect.Name e n.1 (stuck.no_name a start b k n.0)
+    inr (stuck.no_name a start e.position e.expected b k n.0 n.1)
 
 no_opening_brace : (text : List ℕ) (a start end at brace : ℕ) (name : List ℕ) (f : Bool)
     → Begins text a → Skip text a start → Name text start end name → Skip text end at

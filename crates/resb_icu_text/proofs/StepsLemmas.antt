@@ -23,10 +23,12 @@ use Rattle.resb_icu_grammar.specs.Machine.{Move, StepOut, Comes, here, among_mem
 use Rattle.resb_icu_grammar.specs.Machine.{behind_group, in_untyped, in_typed, before_group}
 use Rattle.resb_icu_grammar.specs.Machine as move
 use Rattle.resb_icu_grammar.specs.Stuck.{StepStuck, EndStuck, StuckFrom, LeafStuck, inside, behind}
-use Rattle.resb_icu_grammar.specs.Stuck.{NoStringAt, NoKeyAt, string_or, member_behind, TypeStuck}
+use Rattle.resb_icu_grammar.specs.Faults.{Told}
+use Rattle.resb_icu_grammar.specs.Stuck.{NoStringAt, NoKeyAt, member_behind, TypeStuck}
 use Rattle.resb_icu_grammar.specs.Stuck as stuck
 use Rattle.resb_icu_grammar.specs.declared.expected.IcuExpected.{IcuExpected}
 use Rattle.resb_icu_grammar.specs.declared.expected.IcuExpected.TheVariants as expect
+use Rattle.resb_icu_grammar.proofs.Faults.{string_told}
 use Rattle.resb_icu_grammar.proofs.Lexical.{String-one, key_string}
 use Rattle.resb_icu_grammar.proofs.Groups.{Closes}
 use Rattle.resb_icu_grammar.proofs.Moves.{comes_by, one_move, one_step_out}
@@ -39,6 +41,7 @@ use Rattle.resb_icu_text.specs.declared.steps.Last.TheVariants as last
 use Rattle.resb_icu_text.specs.declared.steps.Waiting.TheVariants as waiting
 use Rattle.resb_icu_text.specs.declared.steps.Step.{Step}
 use Rattle.resb_icu_text.specs.declared.steps.Step.TheVariants as step
+use Rattle.resb_icu_text.specs.Inner.Ahead.{StringFails, KeyFails}
 use Rattle.resb_icu_text.specs.Inner.Leaf.{Leaf, LeafFails}
 use Rattle.resb_icu_text.specs.Inner.Steps.{last_of, now, There, Steps, StepFails, MembersThere}
 use Rattle.resb_icu_text.specs.Inner.Steps.{EntriesThere, GroupThere, UntypedThere, TypedThere}
@@ -64,6 +67,24 @@ no_key text at l is n to k p =
     is.string in
     false≢true (sym n ∙ is.key.1 (subst (λ i. KeyText text at i (bytes_said l.said)) same.0
     (subst (λ s. KeyText text at to s) same.1 p)))
+
+-- where no string stands no key does, and where a string may be no key, what was expected is told
+pub string_no_key : (text : List ℕ) (at : ℕ) (x : IcuExpected) (e : IcuTextError)
+    → StringFails text at x e → KeyFails text at x e
+string_no_key text at x e h =
+    ⊎_elim (λ (m : e ≡ want_of_memory). inl m)
+    (λ (n : NoStringAt text at × Told text at x e.position e.expected).
+    inr (λ to k p. n.0 to k (key_string text at to k p), n.1)) h
+
+pub unfit_key : (text : List ℕ) (at : ℕ) (x : IcuExpected) (l : Lexeme) (e : IcuTextError)
+    → e ≡ record { position = at; expected = x } → IsLexeme text at l
+    → may_be_key l.said ≡ false → KeyFails text at x e
+unfit_key text at x l e h is n =
+    inr (
+      no_key text at l is n,
+      subst (λ (f : IcuTextError). Told text at x f.position f.expected)
+          (sym h) (string_told text at l.end (bytes_said l.said) x is.string),
+    )
 
 -- an error at this place, where this was expected
 abbrev pub Says : ℕ → IcuExpected → IcuTextError → Type 0
@@ -100,6 +121,16 @@ fails_at text s at to x e h b =
       comes = here (reading_at ws ks s at);
       there = inside ws ks s at to x b;
     }))
+
+-- where a reading is stuck that lacks a string or a key, and what is told in its place
+told_at : (text : List ℕ) (s : Standing) (at : ℕ) (x : IcuExpected) (e : IcuTextError) (P : Type 0)
+    → (P → Told text at x e.position e.expected → StepStuck text s at e.position e.expected)
+    → (e ≡ want_of_memory) ⊎ (P × Told text at x e.position e.expected)
+    → StepFails text (λ ws ks. reading_at ws ks s at) e
+told_at text s at x e P f h =
+    ⊎_elim (λ (m : e ≡ want_of_memory). inl m)
+    (λ (n : P × Told text at x e.position e.expected).
+    fails_at text s at e.position e.expected e refl (f n.0 n.1)) h
 
 -- the trees of members with one more
 trees_with : (v old : List Resource) (r : Resource) → v ≡ old ++ r ∷ []
@@ -165,14 +196,15 @@ module _ (text : List ℕ) where
       fails_at text _ at at _ e g (stuck.two_strings (last_of l) (map tree_of es) at i s h p)
 
   -- nothing that may stand among members
-  pub no_member : (es : List Resource) (l : Last) (at : ℕ) (e : IcuTextError)
-      → Says at (string_or (slice_index text at) (member_behind (last_of l))) e
-      → slice_index text at ≢ ascii.right_brace → slice_index text at ≢ ascii.comma
-      → slice_index text at ≢ ascii.left_brace → slice_index text at ≢ ascii.colon
-      → NoStringAt text at → StepFails text (MembersThere es l at) e
-  no_member es l at e h a b d f g =
-      fails_at text _ at at _ e h
-      (stuck.no_member (last_of l) (map tree_of es) at a b (⊎_elim d f) g)
+  pub no_member : (es : List Resource) (l : Last) (at : ℕ) (x : IcuExpected) (e : IcuTextError)
+      → x ≡ member_behind (last_of l) → slice_index text at ≢ ascii.right_brace
+      → slice_index text at ≢ ascii.comma → slice_index text at ≢ ascii.left_brace
+      → slice_index text at ≢ ascii.colon → StringFails text at x e
+      → StepFails text (MembersThere es l at) e
+  no_member es l at x e h a b d f =
+      told_at text _ at x e (NoStringAt text at)
+      (λ g t. stuck.no_member (last_of l) (map tree_of es) at e.position e.expected a b
+      (⊎_elim d f) g (subst (λ y. Told text at y e.position e.expected) h t))
 
   -- a `}` ends a table
   pub entries_end : (es : List (List ℕ × Resource)) (m : BTreeMap (List ℕ) Resource) (at : ℕ)
@@ -193,15 +225,17 @@ module _ (text : List ℕ) where
   -- a key begins an entry
   pub entry_key : (v : Vec (List ℕ × Resource) Global) (k : Bor (List ℕ)) (at i j : ℕ)
       → KeyText text at i k.now → Skip text i j
-      → Steps text (EntriesThere v.items at) (step.Group (waiting.Table v k) j)
+      → Steps text (EntriesThere v.items at) (step.Group (waiting.Table v k j) j)
   entry_key v k at i j p s ws ks =
       one_move text ws ks _ at _ (move.key_of_entry (pairs_view v.items) at i j k.now p s)
 
   -- neither a key nor a `}`
   pub no_entry : (es : List (List ℕ × Resource)) (at : ℕ) (e : IcuTextError)
-      → Says at expect.Entry e → slice_index text at ≢ ascii.right_brace → NoKeyAt text at
+      → slice_index text at ≢ ascii.right_brace → KeyFails text at expect.Entry e
       → StepFails text (EntriesThere es at) e
-  no_entry es at e h a f = fails_at text _ at at _ e h (stuck.no_entry (pairs_view es) at a f)
+  no_entry es at e a =
+      told_at text _ at expect.Entry e (NoKeyAt text at)
+      (stuck.no_entry (pairs_view es) at e.position e.expected a)
 
   -- a `{` begins a group without a type
   pub as_untyped : (at i : ℕ) → slice_index text at ≡ ascii.left_brace → Skip text (at + 1) i
@@ -318,10 +352,10 @@ module _ (text : List ℕ) where
       → KeyText text at i key.now → Skip text i k
       → (slice_index text k ≡ ascii.left_brace) ⊎ (slice_index text k ≡ ascii.colon)
       → v.items ≡ []
-      → Steps text (UntypedThere at) (step.Group (waiting.Table v key) k)
+      → Steps text (UntypedThere at) (step.Group (waiting.Table v key k) k)
   untyped_key v key at i k p l f e ws ks =
       subst (λ es. Comes text (UntypedThere at ws ks)
-      (reading_at (move.in_table es key.now ∷ ws) (ks ++ key.now ∷ []) before_group k))
+      (reading_at (move.in_table es key.now k ∷ ws) (ks ++ key.now ∷ []) before_group k))
       (sym (ap pairs_view e))
       (one_move text ws ks _ at _ (move.begins_with_key at i k key.now p l f))
 
@@ -343,11 +377,12 @@ module _ (text : List ℕ) where
       fails_at text _ at at _ e h (stuck.no_key at i k s p l b f)
 
   -- nothing that may stand in a group without a type
-  pub no_untyped : (at : ℕ) (e : IcuTextError)
-      → Says at (string_or (slice_index text at) expect.Member) e
-      → slice_index text at ≢ ascii.right_brace → slice_index text at ≢ ascii.left_brace
-      → slice_index text at ≢ ascii.colon → NoStringAt text at → StepFails text (UntypedThere at) e
-  no_untyped at e h a b d f = fails_at text _ at at _ e h (stuck.no_content at a (⊎_elim b d) f)
+  pub no_untyped : (at : ℕ) (e : IcuTextError) → slice_index text at ≢ ascii.right_brace
+      → slice_index text at ≢ ascii.left_brace → slice_index text at ≢ ascii.colon
+      → StringFails text at expect.Member e → StepFails text (UntypedThere at) e
+  no_untyped at e a b d =
+      told_at text _ at expect.Member e (NoStringAt text at)
+      (stuck.no_content at e.position e.expected a (⊎_elim b d))
 
   -- behind a group that is a member
   pub behind_member : (old v : Vec Resource Global) (r : Resource) (at next : ℕ)
@@ -362,26 +397,26 @@ module _ (text : List ℕ) where
 
   -- behind a group that is the value of an entry
   pub behind_value : (old v : Vec (List ℕ × Resource) Global) (key : Bor (List ℕ)) (r : Resource)
-      (at next : ℕ) → (is_collation key.now && holds_entries (tree_of r)) ≡ false
+      (begin at next : ℕ) → (is_collation key.now && holds_entries (tree_of r)) ≡ false
       → Skip text at next → v.items ≡ old.items ++ (key.now, r) ∷ []
-      → Steps text (EndedThere (waiting.Table old key) r at) (step.Entries v next)
-  behind_value old v key r at next f k e ws ks =
-      subst (λ es. Comes text (EndedThere (waiting.Table old key) r at ws ks)
+      → Steps text (EndedThere (waiting.Table old key begin) r at) (step.Entries v next)
+  behind_value old v key r begin at next f k e ws ks =
+      subst (λ es. Comes text (EndedThere (waiting.Table old key begin) r at ws ks)
       (reading_at ws ks (among_entries es) next)) (sym (pairs_with v.items old.items key.now r e))
       (one_step_out text _ ks (tree_of r) at _
-      (move.was_value ws (pairs_view old.items) key.now next f k))
+      (move.was_value ws (pairs_view old.items) key.now begin next f k))
 
   -- rules of collation
   pub no_collation : (old : Vec (List ℕ × Resource) Global) (key : Bor (List ℕ)) (r : Resource)
-      (at : ℕ) (e : IcuTextError) → Says at expect.NoCollation e
+      (begin at : ℕ) (e : IcuTextError) → Says begin expect.NoCollation e
       → (is_collation key.now && holds_entries (tree_of r)) ≡ true
-      → StepFails text (EndedThere (waiting.Table old key) r at) e
-  no_collation old key r at e h f =
+      → StepFails text (EndedThere (waiting.Table old key begin) r at) e
+  no_collation old key r begin at e h f =
       inr (λ ws ks. subst (λ (g : IcuTextError).
-      StuckFrom text (EndedThere (waiting.Table old key) r at ws ks) g.position g.expected) (sym h)
+      StuckFrom text (EndedThere (waiting.Table old key begin) r at ws ks) g.position g.expected) (sym h)
       (record {
-        last = EndedThere (waiting.Table old key) r at ws ks;
-        comes = here (EndedThere (waiting.Table old key) r at ws ks);
-        there = behind _ ks (tree_of r) at at expect.NoCollation
-            (stuck.a_collation ws (pairs_view old.items) key.now f);
+        last = EndedThere (waiting.Table old key begin) r at ws ks;
+        comes = here (EndedThere (waiting.Table old key begin) r at ws ks);
+        there = behind _ ks (tree_of r) at begin expect.NoCollation
+            (stuck.a_collation ws (pairs_view old.items) key.now begin f);
       }))

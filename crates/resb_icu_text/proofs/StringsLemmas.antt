@@ -1,7 +1,7 @@
 -- Laws of strings and keys, as the reader's functions use them.
 use Rattle.std.proofs.Common.{◌≡◌, ◌≢◌, ℕ, suc, ◌+◌, ◌-◌, ◌<◌, ◌≤◌, true, false, List, [], ◌∷◌}
 use Rattle.std.proofs.Common.{◌++◌, length, arith, subst, sym, refl, ap, ◌∙◌, take, drop}
-use Rattle.std.proofs.Common.{append_assoc, append-nil, drop-cons, ◌⊎◌, inl, inr}
+use Rattle.std.proofs.Common.{append_assoc, append-nil, drop-cons, ◌⊎◌, ⊎_elim, inl, inr}
 use Rattle.std.specs.Prelude.{slice_index, slice_range}
 use Rattle.std.specs.Borrow.{Bor}
 use Rattle.std.proofs.lemmas.Bool.{false≢true}
@@ -11,14 +11,20 @@ use Rattle.resb_icu_grammar.specs.Bytes.{backslash, is_word, are_key_bytes}
 use Rattle.resb_icu_grammar.specs.Blanks.{Skip}
 use Rattle.resb_icu_grammar.specs.Pieces.{QuotedBytes, ends, byte, escape, QuotedPiece, Joined}
 use Rattle.resb_icu_grammar.specs.Pieces.{last_piece, one_more}
+use Rattle.resb_icu_grammar.specs.Faults.{PieceFault, StringFault, this_piece, later_piece, Told}
+use Rattle.resb_icu_grammar.specs.Faults.{a_fault}
+use Rattle.resb_icu_grammar.specs.declared.expected.IcuExpected.{IcuExpected}
+use Rattle.resb_icu_grammar.proofs.Faults.{fault_no_string, unquoted_told}
 use Rattle.resb_icu_grammar.specs.Words.{Word, Text, KeyText, HasNoEscape}
 use Rattle.resb_icu_grammar.specs.Words as words
-use Rattle.resb_icu_grammar.proofs.Lexical.{Piece-one, Skip-one, word_first, joined_first}
+use Rattle.resb_icu_grammar.proofs.Lexical.{Piece-one, word_first, joined_first}
 use Rattle.resb_icu_text.specs.declared.strings.Said.{Said}
 use Rattle.resb_icu_text.specs.declared.strings.Said.TheVariants as the
 use Rattle.resb_icu_grammar.specs.Stuck.{NoStringAt}
 use Rattle.resb_icu_text.specs.Lexemes.{IsLexeme, Verbatim, a_word, a_piece}
-use Rattle.resb_icu_text.specs.Inner.Ahead.{Ahead, no_more, more}
+use Rattle.resb_icu_text.specs.Inner.Ahead.{Ahead, no_more, more, HasFault, StringFails}
+use Rattle.resb_icu_text.specs.Refusal.{want_of_memory}
+use Rattle.resb_icu_text.specs.declared.error.IcuTextError.{IcuTextError}
 use Rattle.resb_icu_text.specs.Lexemes.{bytes_said, may_be_key, stands_whole}
 use Rattle.resb_icu_text.proofs.PiecesLemmas.{inside_order, inside_closes, escape_order, slice_none}
 
@@ -46,32 +52,14 @@ join text from mid next to first later p s (no_more h) =
 join text from mid next to first later p s (more _ _ j) =
     one_more from mid next to first later p s j
 
--- behind its first piece stands the rest of a string
-pub unjoin : (text : List ℕ) (from mid next to : ℕ) (first all : List ℕ)
-    → QuotedPiece text from mid first → Skip text mid next → Joined text from to all
-    → (later : List ℕ) × Ahead text mid next to later
-unjoin text from mid next to first all p s (last_piece _ _ n _ q t h) =
-    let same = (Piece-one text from to mid all first q p).0 in
-    let t' : Skip text mid n = subst (λ i. Skip text i n) same t in
-    let e = Skip-one text mid n next t' s in (
-      [],
-      subst (λ i. Ahead text mid next i []) (sym same)
-          (no_more (subst (λ i. slice_index text i ≢ ascii.quote) e h)),
-    )
-unjoin text from mid next to first all p s (one_more _ m n _ us vs q t j) =
-    let same = (Piece-one text from m mid us first q p).0 in
-    let t' : Skip text mid n = subst (λ i. Skip text i n) same t in
-    let e = Skip-one text mid n next t' s in
-    (vs, more to vs (subst (λ i. Joined text i to vs) e j))
-
--- what was added, and what is ahead now of what was ahead
+-- what was added, what is ahead now of what was ahead, and whose fault a fault further on is
 pub record Added (text : List ℕ) (end next at coming : ℕ) (old value : List ℕ) : Type 0 where
   pub middle : List ℕ
   pub whole : value ≡ old ++ middle
   pub on : (to : ℕ) (later : List ℕ) → Ahead text at coming to later
       → Ahead text end next to (middle ++ later)
-  pub back : (to : ℕ) (later : List ℕ) → Ahead text end next to later
-      → (rest : List ℕ) × Ahead text at coming to rest
+  pub fault : (to : ℕ) (x : IcuExpected) → StringFault text coming to x
+      → StringFault text next to x
 
 -- nothing is added yet
 pub added_none : (text : List ℕ) (end next : ℕ) (old : List ℕ)
@@ -80,14 +68,8 @@ added_none text end next old = record {
   middle = [];
   whole = sym (append-nil old);
   on = λ to later a. a;
-  back = λ to later a. (later, a);
+  fault = λ to x h. h;
 }
-
-ahead_joined : (text : List ℕ) (at coming to : ℕ) (later : List ℕ)
-    → slice_index text coming ≡ ascii.quote → Ahead text at coming to later
-    → Joined text coming to later
-ahead_joined text at coming to later q (no_more h) = absurd (h q)
-ahead_joined text at coming to later q (more _ _ j) = j
 
 -- one piece more is added
 pub added_piece : (text : List ℕ) (end next at coming last behind : ℕ)
@@ -104,10 +86,7 @@ added_piece text end next at coming last behind old value bytes value1 q h s e a
           (sym (append_assoc a.middle bytes later))
           (a.on to (bytes ++ later)
           (more to (bytes ++ later) (join text coming (last + 1) behind to bytes later p s b)));
-      back = λ to later b.
-          let r = a.back to later b in
-          let j = ahead_joined text at coming to r.0 q r.1 in
-          unjoin text coming (last + 1) behind to bytes r.0 p s j;
+      fault = λ to x b. a.fault to x (later_piece coming (last + 1) behind to bytes x p s b);
     }
 
 -- no piece is ahead any more
@@ -120,44 +99,64 @@ added_all text end next at coming old value h a = (
   a.whole ∙ ap (λ l. old ++ l) (sym (append-nil a.middle)),
 )
 
-joined_inside : (text : List ℕ) (from to : ℕ) (s : List ℕ) → Joined text from to s
-    → (last : ℕ) × (bytes : List ℕ) × QuotedBytes text (from + 1) last bytes
-joined_inside text from to s (last_piece _ _ n _ p t h) = (p.last, s, p.inside)
-joined_inside text from to s (one_more _ m n _ us vs p t j) = (p.last, us, p.inside)
+-- where neither a quote nor a word stands, no string does
+pub no_lexeme : (text : List ℕ) (from : ℕ) → slice_index text from ≢ ascii.quote
+    → ((to : ℕ) (s : List ℕ) → Word text from to s → ⊥) → NoStringAt text from
+no_lexeme text from n never to s (words.a_word w) = never to s w
+no_lexeme text from n never to s (words.quoted j) = n (joined_first text from to s j)
 
--- where no piece ends, no string stands
-pub no_joined : (text : List ℕ) (from : ℕ)
-    → ((to : ℕ) (s : List ℕ) → QuotedBytes text (from + 1) to s → ⊥)
-    → (to : ℕ) (s : List ℕ) → Joined text from to s → ⊥
-no_joined text from never to s j =
-    let i = joined_inside text from to s j in never i.0 i.1 i.2
+-- the fault of the piece that begins here
+pub piece_fault : (text : List ℕ) (from : ℕ) (e : IcuTextError)
+    → slice_index text from ≡ ascii.quote
+    → PieceFault text (from + 1 - 1) (from + 1) e.position e.expected → HasFault text from e
+piece_fault text from e q h =
+    let same : from + 1 - 1 ≡ from = omega arith in
+    inr (this_piece from e.position e.expected q
+    (subst (λ i. PieceFault text i (from + 1) e.position e.expected) same h))
 
--- where the piece that begins has no end, no pieces are ahead
-pub no_piece_ahead : (text : List ℕ) (end next at coming : ℕ) (old value : List ℕ)
-    → slice_index text coming ≡ ascii.quote
-    → ((to : ℕ) (s : List ℕ) → QuotedBytes text (coming + 1) to s → ⊥)
-    → Added text end next at coming old value
-    → (to : ℕ) (later : List ℕ) → Ahead text end next to later → ⊥
-no_piece_ahead text end next at coming old value q never a to later b =
-    let r = a.back to later b in
-    no_joined text coming never to r.0 (ahead_joined text at coming to r.0 q r.1)
+-- the fault of a piece that is ahead
+pub fault_ahead : (text : List ℕ) (end next at coming : ℕ) (old value : List ℕ) (e : IcuTextError)
+    → Added text end next at coming old value → HasFault text coming e → HasFault text next e
+fault_ahead text end next at coming old value e a h =
+    ⊎_elim (λ (m : e ≡ want_of_memory). inl m)
+    (λ (f : StringFault text coming e.position e.expected).
+    inr (a.fault e.position e.expected f)) h
 
--- where no pieces stand, a quote begins no string
-pub no_string : (text : List ℕ) (from : ℕ) → slice_index text from ≡ ascii.quote
-    → ((to : ℕ) (s : List ℕ) → Joined text from to s → ⊥) → NoStringAt text from
-no_string text from q never to s (words.a_word w) = no_word text from to s q w
-no_string text from q never to s (words.quoted j) = never to s j
+-- the fault of a piece behind the first one
+pub later_fault : (text : List ℕ) (from last next : ℕ) (bytes : List ℕ) (e : IcuTextError)
+    → slice_index text from ≡ ascii.quote → QuotedBytes text (from + 1) last bytes
+    → Skip text (last + 1) next → HasFault text next e → HasFault text from e
+later_fault text from last next bytes e q i s h =
+    ⊎_elim (λ (m : e ≡ want_of_memory). inl m)
+    (λ (f : StringFault text next e.position e.expected).
+    inr (later_piece from (last + 1) next e.position bytes e.expected
+    (piece_of text from last bytes q i) s f)) h
 
--- where what is ahead of a piece is nothing, no string stands
-pub no_string_ahead : (text : List ℕ) (from last next : ℕ) (first : List ℕ)
-    → slice_index text from ≡ ascii.quote → QuotedBytes text (from + 1) last first
-    → Skip text (last + 1) next
-    → ((to : ℕ) (later : List ℕ) → Ahead text (last + 1) next to later → ⊥)
-    → NoStringAt text from
-no_string_ahead text from last next first q h s never =
-    no_string text from q (λ to all j.
-    let r = unjoin text from (last + 1) next to first all (piece_of text from last first q h) s j in
-    never to r.0 r.1)
+-- a quoted string with a fault is none, and its fault is told
+pub fault_fails : (text : List ℕ) (from : ℕ) (x : IcuExpected) (e : IcuTextError)
+    → HasFault text from e → StringFails text from x e
+fault_fails text from x e h =
+    ⊎_elim (λ (m : e ≡ want_of_memory). inl m)
+    (λ (f : StringFault text from e.position e.expected).
+    inr (fault_no_string text from e.position e.expected f, a_fault e.position e.expected f)) h
+
+-- where neither a quote nor a word stands, what was expected is told
+pub unquoted_fails : (text : List ℕ) (from : ℕ) (x : IcuExpected) (e : IcuTextError)
+    → e ≡ record { position = from; expected = x } → slice_index text from ≢ ascii.quote
+    → ((to : ℕ) (s : List ℕ) → Word text from to s → ⊥) → StringFails text from x e
+unquoted_fails text from x e h n w =
+    inr (
+      no_lexeme text from n w,
+      subst (λ (f : IcuTextError). Told text from x f.position
+          f.expected) (sym h) (unquoted_told text from x n),
+    )
+
+-- an error that doesn't want memory says that no string stands there
+pub no_string_there : (text : List ℕ) (from : ℕ) (x : IcuExpected) (e : IcuTextError)
+    → StringFails text from x e → (e ≢ want_of_memory) → NoStringAt text from
+no_string_there text from x e h n =
+    ⊎_elim (λ (m : e ≡ want_of_memory). absurd (n m))
+    (λ (f : NoStringAt text from × Told text from x e.position e.expected). f.0) h
 
 -- a string put together isn't plain, if a piece follows its first one or an escape stands there
 pub not_plain : (text : List ℕ) (from last to : ℕ) (first s : List ℕ)
@@ -310,12 +309,6 @@ module _ (text : List ℕ) (from last next : ℕ) (first : List ℕ) where
         order = order;
         fits = fits;
       }
-
--- where neither a quote nor a word stands, no string does
-pub no_lexeme : (text : List ℕ) (from : ℕ) → slice_index text from ≢ ascii.quote
-    → ((to : ℕ) (s : List ℕ) → Word text from to s → ⊥) → NoStringAt text from
-no_lexeme text from n never to s (words.a_word w) = never to s w
-no_lexeme text from n never to s (words.quoted j) = n (joined_first text from to s j)
 
 -- why one piece is not what was put together
 pub not_one : (text : List ℕ) (from last next to : ℕ)

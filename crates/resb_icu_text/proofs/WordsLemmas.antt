@@ -18,17 +18,6 @@ use Rattle.resb_icu_grammar.proofs.Lexical.{digit_first}
 use Rattle.resb_icu_text.specs.Inner.Numbers.{DigitsInRange, unsigned, plus, minus}
 use Rattle.resb_grammar.proofs.ReaderLemmas.{digits_value-suc}
 
--- one more digit
-pub decimal_more : (text : List ℕ) (from at value b next : ℕ) → b ≡ slice_index text at
-    → from ≤ at → value ≡ min (digits_value text from (at - from)) 4294967296
-    → next ≡ min (value * 10 + (b - ascii.digit_0)) 4294967296
-    → next ≡ min (digits_value text from (at + 1 - from)) 4294967296
-decimal_more text from at value b next h order is more =
-    let d : digits_value text from (at + 1 - from) ≡ digits_value text from (at - from) * 10 +
-    (slice_index text at - ascii.digit_0) =
-    digits_value-suc text from at (at - from) (at + 1 - from) (omega arith) (omega arith) in
-    omega (arith, d, h, is, more)
-
 -- behind a plus stand no digits of its range
 pub no_plus : (text : List ℕ) (from : ℕ) → slice_index text from ≡ ascii.plus
     → ((to v : ℕ) → Digits text (from + 1) to v → v ≤ 2147483647 → ⊥)

@@ -12,6 +12,7 @@ ghost use Rattle.resb_icu_grammar.specs.Blanks.{IsParagraphEnd};
 ghost use Rattle.resb_icu_text.specs.Inner.Reach.{reach};
 
 use crate::turns::IcuTurns;
+use resb_grammar::blanks_end;
 
 /// The byte there, or 0 past the end.
 pub(crate) fn byte(text: &str, at: usize) -> u8
@@ -24,13 +25,6 @@ pub(crate) fn byte(text: &str, at: usize) -> u8
     } else {
         0
     }
-}
-
-/// Whether a byte is white: a space, a tab or the end of a line.
-fn is_white(b: u8) -> bool
-    ensures { result ≡ spec.is_white b }
-{
-    b == b' ' || b == b'\t' || b == b'\r' || b == b'\n'
 }
 
 /// Whether the character U+2029 stands there.
@@ -109,20 +103,6 @@ fn block_end(text: &str, from: usize) -> Option<usize>
     }
 }
 
-/// Where the run of white characters ends.
-fn white_end(text: &str, from: usize) -> usize
-    requires within { from ≤ length text.now }
-    ensures run { Run spec.is_white text.now from result }
-{
-    let end = text.len();
-    for at in from..end {
-        if !is_white(byte(text, at)) {
-            return at;
-        }
-    }
-    end
-}
-
 /// Where the white characters and comments end that begin at a place of a text. Counts a turn for
 /// each byte up to there, one for each round of its loop, which passes white characters and a
 /// comment, and one for each byte of the text behind a comment that has no end.
@@ -135,7 +115,7 @@ pub fn skip(text: &str, from: usize, turns: &mut IcuTurns) -> usize
 {
     let mut at = from;
     'skip: loop {
-        let white = white_end(text, at);
+        let white = blanks_end(text.as_bytes(), at);
         turns.add(white - at);
         turns.add(1);
         at = white;

@@ -1,10 +1,8 @@
 //! Why a text of ICU's form is refused: the place, and what was expected there.
 //! What may be expected is listed in `resb_icu_grammar`.
-ghost use Rattle.std.specs.Prelude.{◌≡◌, Some, slice_index};
-ghost use Rattle.resb_icu_grammar.specs.Stuck.{string_or};
+ghost use Rattle.std.specs.Prelude.{◌≡◌, Some};
 ghost use Rattle.resb_icu_text.specs.Refusal.{message_of, want_of_memory};
 
-use crate::blanks::byte;
 use resb_icu_grammar::IcuExpected;
 use resb_tree::NoMemory;
 use std::alloc::{AllocError, AllocFailed};
@@ -26,21 +24,6 @@ impl IcuTextError {
         ensures { result ≡ record { position = position; expected = expected } }
     {
         IcuTextError { position, expected }
-    }
-
-    /// A refusal where something was expected that may be a string: where a quote stands, the
-    /// string isn't closed, or has an escape that this form doesn't have.
-    pub(crate) fn no_string(text: &str, position: usize, expected: IcuExpected) -> IcuTextError
-        ensures { result ≡ record {
-          position = position;
-          expected = string_or (slice_index text.now position) expected;
-        } }
-    {
-        if byte(text, position) == b'"' {
-            IcuTextError::new(position, IcuExpected::Quoted)
-        } else {
-            IcuTextError::new(position, expected)
-        }
     }
 
     /// Memory was wanted, for which no place of the text is to blame.

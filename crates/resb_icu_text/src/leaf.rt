@@ -17,7 +17,7 @@ ghost use Rattle.resb_icu_text.specs.Inner.Reach.{reach};
 
 use crate::blanks::{byte, skip};
 use crate::error::IcuTextError;
-use crate::strings::{Said, string};
+use crate::strings::{Said, string_or};
 use crate::turns::IcuTurns;
 use crate::words::number;
 use resb_grammar::{Kind, bytes_of_hex};
@@ -69,9 +69,7 @@ fn string_leaf<'a>(
     ensures most { turns.new.count + 8 * reach text.now at
         ≤ turns.old.count + 8 * length text.now + 4 }
 {
-    let Some(lexeme) = string(alloc, text, at, turns)? else {
-        return Err(IcuTextError::no_string(text, at, IcuExpected::String));
-    };
+    let lexeme = string_or(alloc, text, at, IcuExpected::String, turns)?;
     let to = closing(text, lexeme.next)?;
     Ok((to, Resource::String(text_of(lexeme.said))))
 }
@@ -93,9 +91,7 @@ fn binary_leaf<'a>(
     ensures most { turns.new.count + 8 * reach text.now at
         ≤ turns.old.count + 8 * length text.now + 4 }
 {
-    let Some(lexeme) = string(alloc, text, at, turns)? else {
-        return Err(IcuTextError::no_string(text, at, IcuExpected::String));
-    };
+    let lexeme = string_or(alloc, text, at, IcuExpected::String, turns)?;
     let digits = text_of(lexeme.said);
     turns.add(digits.len());
     let Some(bytes) = bytes_of_hex(alloc, &digits)? else {

@@ -35,7 +35,7 @@ fn list_key<'a>(keys: &mut Vec<&'a str>, waiting: &Waiting<'a>) -> Result<(), No
     ensures { OnOk result (map (λ k. k.now) keys.new.items
         ≡ with_key (map (λ k. k.now) keys.old.items) waiting.now) }
 {
-    if let Waiting::Table(_, key) = waiting {
+    if let Waiting::Table(_, key, _) = waiting {
         keys.push(*key)?;
     }
     Ok(())

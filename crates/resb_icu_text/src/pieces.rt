@@ -1,17 +1,21 @@
-//! Quoted pieces: where one ends, and what it says.
+//! Quoted pieces: where one ends or has a fault, and what it says.
 //! Strings of several pieces, and words, are in `strings`.
 ghost use Rattle.std.specs.Prelude.{◌≡◌, ℕ, ◌+◌, ◌-◌, ◌<◌, ◌≤◌, ◌++◌, true, false, List};
-ghost use Rattle.std.specs.Prelude.{length, slice_index, slice_range, IfSome, IfNone, OnOk};
+ghost use Rattle.std.specs.Prelude.{length, slice_index, slice_range, IfSome, IfNone, IfOk, IfErr};
+ghost use Rattle.std.specs.Prelude.{OnOk};
 ghost use Rattle.std.specs.String.{string_bytes};
 ghost use Rattle.resb_grammar.specs.Ascii as ascii;
+ghost use Rattle.resb_icu_grammar.specs.Faults.{PieceFault};
 ghost use Rattle.resb_icu_grammar.specs.Pieces.{QuotedBytes};
 ghost use Rattle.resb_icu_grammar.specs.Words.{HasNoEscape};
 ghost use Rattle.resb_icu_text.specs.Inner.Stops.{FirstStop, HasNoStop};
 
 use crate::blanks::byte;
+use crate::error::IcuTextError;
 use crate::escapes::escape;
 use crate::turns::IcuTurns;
 use memchr::memchr2;
+use resb_icu_grammar::IcuExpected;
 use std::alloc::AllocError;
 
 /// The first place from here on where a quote or a backslash stands.
@@ -27,15 +31,20 @@ fn first_stop(text: &str, from: usize) -> Option<usize>
 }
 
 /// The place of the closing quote of a piece, given the place behind its first quote, and whether
-/// no escape stands in it. Counts a turn for each byte up to there, and one for that place.
-pub(crate) fn piece_end(text: &str, from: usize, turns: &mut IcuTurns) -> Option<(usize, bool)>
-    requires within { from ≤ length text.now }
-    ensures found { IfSome result (λ r. (bytes : List ℕ) × QuotedBytes text.now from r.0 bytes) }
-    ensures plain { IfSome result (λ r. r.1 ≡ true → HasNoEscape text.now from r.0) }
-    ensures escaped { IfSome result (λ r. r.1 ≡ false → HasNoEscape text.now from r.0 → ⊥) }
-    ensures within { IfSome result (λ r. (from ≤ r.0) × (r.0 < length text.now)) }
-    ensures none { IfNone result ((to : ℕ) (s : List ℕ) → QuotedBytes text.now from to s → ⊥) }
-    ensures cost { IfSome result (λ r. turns.new.count + from ≤ turns.old.count + r.0 + 1) }
+/// no escape stands in it; or the fault of the piece. Counts a turn for each byte up to there, and
+/// one for that place.
+pub(crate) fn piece_end(
+    text: &str,
+    from: usize,
+    turns: &mut IcuTurns,
+) -> Result<(usize, bool), IcuTextError>
+    requires within { (0 < from) × (from ≤ length text.now) }
+    ensures found { IfOk result (λ r. (bytes : List ℕ) × QuotedBytes text.now from r.0 bytes) }
+    ensures plain { IfOk result (λ r. r.1 ≡ true → HasNoEscape text.now from r.0) }
+    ensures escaped { IfOk result (λ r. r.1 ≡ false → HasNoEscape text.now from r.0 → ⊥) }
+    ensures within { IfOk result (λ r. (from ≤ r.0) × (r.0 < length text.now)) }
+    ensures err { IfErr result (λ e. PieceFault text.now (from - 1) from e.position e.expected) }
+    ensures cost { IfOk result (λ r. turns.new.count + from ≤ turns.old.count + r.0 + 1) }
     ensures most { turns.new.count + from ≤ turns.old.count + length text.now }
 {
     let mut at = from;
@@ -43,16 +52,16 @@ pub(crate) fn piece_end(text: &str, from: usize, turns: &mut IcuTurns) -> Option
     'piece: loop {
         let Some(stop) = first_stop(text, at) else {
             turns.add(text.len() - at);
-            return None;
+            return Err(IcuTextError::new(from - 1, IcuExpected::ClosingQuote));
         };
         if byte(text, stop) == b'"' {
             turns.add(stop - at);
             turns.add(1);
-            return Some((stop, plain));
+            return Ok((stop, plain));
         }
         let Some((to, _)) = escape(text, stop + 1) else {
             turns.add(text.len() - at);
-            return None;
+            return Err(IcuTextError::new(stop, IcuExpected::Escape));
         };
         turns.add(to - at);
         at = to;

@@ -114,9 +114,7 @@ fn name<'a>(
     ensures most { turns.new.count + 8 * reach text.now at
         ≤ turns.old.count + 8 * length text.now + 4 }
 {
-    let Some((next, key)) = key_at(alloc, text, at, turns)? else {
-        return Err(IcuTextError::new(at, IcuExpected::Name));
-    };
+    let (next, key) = key_at(alloc, text, at, IcuExpected::Name, turns)?;
     if key.is_empty() {
         return Err(IcuTextError::new(at, IcuExpected::Name));
     }

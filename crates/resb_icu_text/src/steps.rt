@@ -7,7 +7,6 @@ ghost use Rattle.resb_grammar.specs.Ascii as ascii;
 ghost use Rattle.resb_tree.specs.Tree.{map_of};
 ghost use Rattle.resb_tree.specs.View.{tree_of, pairs_view, entries_view};
 ghost use Rattle.resb_icu_grammar.specs.Groups as spec;
-ghost use Rattle.resb_icu_grammar.specs.Words.{KeyText};
 ghost use Rattle.resb_icu_grammar.specs.Machine.{AreDistinct};
 ghost use Rattle.resb_icu_grammar.specs.Stuck.{member_behind};
 ghost use Rattle.resb_grammar.specs.Kinds.{group_kind_of};
@@ -15,6 +14,7 @@ ghost use Rattle.resb_icu_text.specs.Inner.Steps.{last_of, Steps, StepFails, Goe
 ghost use Rattle.resb_icu_text.specs.Inner.Steps.{MembersThere, EntriesThere, GroupThere};
 ghost use Rattle.resb_icu_text.specs.Inner.Steps.{UntypedThere, TypedThere, EndedThere};
 ghost use Rattle.resb_icu_text.specs.Inner.Steps.{KeyAhead, spent};
+ghost use Rattle.resb_icu_text.specs.Inner.Ahead.{KeyFails};
 ghost use Rattle.resb_icu_text.specs.Inner.Kept.{Keeps, step_passes, members_pass, entries_pass};
 ghost use Rattle.resb_icu_text.specs.Inner.Kept.{Test, open_passes, nothing_before};
 ghost use Rattle.resb_icu_text.specs.Borrowed.{passes};
@@ -23,7 +23,7 @@ ghost use Rattle.resb_icu_text.specs.Inner.Reach.{reach};
 use crate::blanks::{byte, skip};
 use crate::error::IcuTextError;
 use crate::leaf::{leaf, text_of};
-use crate::strings::string;
+use crate::strings::string_or;
 use crate::turns::IcuTurns;
 use crate::types::group_type;
 use resb_grammar::Kind;
@@ -77,11 +77,11 @@ impl Last {
 pub(crate) type Entry<'a> = (Key<'a>, Resource<'a>);
 
 /// What is open around a group: an array with the members before it, or a table with the entries
-/// before it and its key.
+/// before it, its key, and the place where it begins.
 #[derive(Drop)]
 pub(crate) enum Waiting<'a> {
     Array(Vec<Resource<'a>>),
-    Table(Vec<Entry<'a>>, &'a str),
+    Table(Vec<Entry<'a>>, &'a str, usize),
 }
 
 /// Where a reading stands: among members, among entries, before a group, or behind one.
@@ -177,9 +177,7 @@ fn string_member<'a>(
     ensures most { turns.new.count + 8 * reach text.now at
         ≤ turns.old.count + 8 * length text.now + 4 }
 {
-    let Some(lexeme) = string(alloc, text, at, turns)? else {
-        return Err(IcuTextError::no_string(text, at, last.member_behind()));
-    };
+    let lexeme = string_or(alloc, text, at, last.member_behind(), turns)?;
     if last.is_string() {
         return Err(IcuTextError::new(at, IcuExpected::Comma));
     }
@@ -187,29 +185,28 @@ fn string_member<'a>(
     Ok(Step::Members(members, Last::String, lexeme.next))
 }
 
-/// The key that stands here and the place behind the blanks that follow it, if one does.
+/// The key that stands here and the place behind the blanks that follow it; or, where none does,
+/// what is told in its place: the fault of a quoted string, or else that this was expected.
 pub(crate) fn key_at<'a>(
     alloc: Global,
     text: &'a str,
     at: usize,
+    expected: IcuExpected,
     turns: &mut IcuTurns,
-) -> Result<Option<(usize, &'a str)>, NoMemory>
+) -> Result<(usize, &'a str), IcuTextError>
     requires within { at ≤ length text.now }
-    ensures found { IfOk result (λ o. IfSome o (λ r. KeyAhead text.now at r.0 r.1.now)) }
-    ensures none { IfOk result
-        (λ o. IfNone o ((to : ℕ) (k : List ℕ) → KeyText text.now at to k → ⊥)) }
-    ensures within { IfOk result (λ o. IfSome o (λ r. (at < r.0) × (r.0 ≤ length text.now))) }
-    ensures cost { IfOk result (λ o. IfSome o (λ r. turns.new.count + 7 * reach text.now at + 3
-        ≤ turns.old.count + 7 * reach text.now r.0)) }
+    ensures found { IfOk result (λ r. KeyAhead text.now at r.0 r.1.now) }
+    ensures err { IfErr result (KeyFails text.now at expected) }
+    ensures within { IfOk result (λ r. (at < r.0) × (r.0 ≤ length text.now)) }
+    ensures cost { IfOk result (λ r. turns.new.count + 7 * reach text.now at + 3
+        ≤ turns.old.count + 7 * reach text.now r.0) }
     ensures most { turns.new.count + 8 * reach text.now at
         ≤ turns.old.count + 8 * length text.now + 4 }
 {
-    let Some(lexeme) = string(alloc, text, at, turns)? else {
-        return Ok(None);
-    };
+    let lexeme = string_or(alloc, text, at, expected, turns)?;
     match lexeme.said.key(turns) {
-        Some(key) => Ok(Some((lexeme.next, key))),
-        None => Ok(None),
+        Some(key) => Ok((lexeme.next, key)),
+        None => Err(IcuTextError::new(at, expected)),
     }
 }
 
@@ -238,10 +235,8 @@ pub(crate) fn entry<'a>(
         };
         return Ok(Step::Ended(Resource::Table(table), at + 1));
     }
-    match key_at(alloc, text, at, turns)? {
-        Some((next, key)) => Ok(Step::Group(Waiting::Table(entries, key), next)),
-        None => Err(IcuTextError::new(at, IcuExpected::Entry)),
-    }
+    let (next, key) = key_at(alloc, text, at, IcuExpected::Entry, turns)?;
+    Ok(Step::Group(Waiting::Table(entries, key, next), next))
 }
 
 /// The map of these entries, made at once, if each key stands once among them.
@@ -397,9 +392,7 @@ fn untyped_string<'a>(
     ensures most { turns.new.count + 8 * reach text.now at
         ≤ turns.old.count + 8 * length text.now + 4 }
 {
-    let Some(lexeme) = string(alloc, text, at, turns)? else {
-        return Err(IcuTextError::no_string(text, at, IcuExpected::Member));
-    };
+    let lexeme = string_or(alloc, text, at, IcuExpected::Member, turns)?;
     let next = lexeme.next;
     let b = byte(text, next);
     if b == b'}' {
@@ -416,7 +409,7 @@ fn untyped_string<'a>(
     let Some(key) = lexeme.said.key(turns) else {
         return Err(IcuTextError::new(at, IcuExpected::Key));
     };
-    Ok(Step::Group(Waiting::Table(Vec::new(alloc), key), next))
+    Ok(Step::Group(Waiting::Table(Vec::new(alloc), key, next), next))
 }
 
 /// From behind a group to behind the blanks there, among what it stands in.
@@ -444,9 +437,9 @@ pub(crate) fn resume<'a>(
             members.push(resource)?;
             Ok(Step::Members(members, Last::Group, skip(text, at, turns)))
         }
-        Waiting::Table(entries, key) => {
+        Waiting::Table(entries, key, begin) => {
             if is_collation(key) && is_table(&resource) {
-                return Err(IcuTextError::new(at, IcuExpected::NoCollation));
+                return Err(IcuTextError::new(begin, IcuExpected::NoCollation));
             }
             let mut entries = entries;
             entries.push((Key::from(key), resource))?;

@@ -7,14 +7,15 @@ ghost use Rattle.resb_grammar.specs.Ascii as ascii;
 ghost use Rattle.resb_icu_grammar.specs.Blanks.{Skip};
 ghost use Rattle.resb_icu_grammar.specs.Stuck.{NoStringAt};
 ghost use Rattle.resb_icu_text.specs.Lexemes.{IsLexeme, bytes_said, may_be_key};
-ghost use Rattle.resb_icu_text.specs.Inner.Ahead.{Ahead};
+ghost use Rattle.resb_icu_text.specs.Inner.Ahead.{Ahead, HasFault, StringFails};
 ghost use Rattle.resb_icu_text.specs.Inner.Reach.{reach};
 
 use crate::blanks::{byte, skip};
+use crate::error::IcuTextError;
 use crate::pieces::{piece_end, push_piece};
 use crate::turns::IcuTurns;
 use crate::words::word;
-use resb_icu_grammar::are_key_bytes;
+use resb_icu_grammar::{IcuExpected, are_key_bytes};
 use resb_tree::NoMemory;
 use std::alloc::Global;
 
@@ -77,93 +78,110 @@ pub fn string<'a>(
     ensures most { turns.new.count + 8 * reach text.now from
         ≤ turns.old.count + 8 * length text.now + 2 }
 {
+    match string_or(alloc, text, from, IcuExpected::String, turns) {
+        Ok(lexeme) => Ok(Some(lexeme)),
+        Err(e) => match e.expected() {
+            IcuExpected::Memory => Err(NoMemory),
+            _ => Ok(None),
+        },
+    }
+}
+
+/// The string that begins here; or, where none does, what is told in its place: the fault of a
+/// quoted string, or else that this was expected.
+pub(crate) fn string_or<'a>(
+    alloc: Global,
+    text: &'a str,
+    from: usize,
+    expected: IcuExpected,
+    turns: &mut IcuTurns,
+) -> Result<Lexeme<'a>, IcuTextError>
+    requires within { from ≤ length text.now }
+    ensures found { IfOk result (IsLexeme text.now from) }
+    ensures err { IfErr result (StringFails text.now from expected) }
+    ensures cost { IfOk result (λ l. turns.new.count + 6 * reach text.now from + 3
+        ≤ turns.old.count + 6 * reach text.now l.next) }
+    ensures most { turns.new.count + 8 * reach text.now from
+        ≤ turns.old.count + 8 * length text.now + 2 }
+{
     if byte(text, from) == b'"' {
         return quoted(alloc, text, from, turns);
     }
     let Some((end, word)) = word(text, from, turns) else {
-        return Ok(None);
+        return Err(IcuTextError::new(from, expected));
     };
-    Ok(Some(Lexeme {
+    Ok(Lexeme {
         end,
         next: skip(text, end, turns),
         said: Said::Slice(word),
-    }))
+    })
 }
 
-/// The quoted pieces that begin here.
+/// The quoted pieces that begin here, or the fault of one.
 fn quoted<'a>(
     alloc: Global,
     text: &'a str,
     from: usize,
     turns: &mut IcuTurns,
-) -> Result<Option<Lexeme<'a>>, NoMemory>
+) -> Result<Lexeme<'a>, IcuTextError>
     requires within { from < length text.now }
     requires opens { slice_index text.now from ≡ ascii.quote }
-    ensures found { IfOk result (λ o. IfSome o (IsLexeme text.now from)) }
-    ensures none { IfOk result (λ o. IfNone o (NoStringAt text.now from)) }
-    ensures cost { IfOk result (λ o. IfSome o (λ l. turns.new.count + 6 * reach text.now from + 3
-        ≤ turns.old.count + 6 * reach text.now l.next)) }
+    ensures found { IfOk result (IsLexeme text.now from) }
+    ensures err { IfErr result (HasFault text.now from) }
+    ensures cost { IfOk result (λ l. turns.new.count + 6 * reach text.now from + 3
+        ≤ turns.old.count + 6 * reach text.now l.next) }
     ensures most { turns.new.count + 8 * reach text.now from
         ≤ turns.old.count + 8 * length text.now + 2 }
 {
-    let Some((last, plain)) = piece_end(text, from + 1, turns) else {
-        return Ok(None);
-    };
+    let (last, plain) = piece_end(text, from + 1, turns)?;
     let next = skip(text, last + 1, turns);
     if byte(text, next) != b'"' && plain {
-        return Ok(Some(Lexeme {
+        return Ok(Lexeme {
             end: last + 1,
             next,
             said: Said::Slice(&text[from + 1..last]),
-        }));
+        });
     }
     let mut value = String::new(alloc);
     push_piece(&mut value, text, from + 1, last, turns)?;
-    let Some((end, next)) = push_pieces(&mut value, text, last + 1, next, turns)? else {
-        return Ok(None);
-    };
-    Ok(Some(Lexeme {
+    let (end, next) = push_pieces(&mut value, text, last + 1, next, turns)?;
+    Ok(Lexeme {
         end,
         next,
         said: Said::Built(value),
-    }))
+    })
 }
 
 /// Adds the pieces behind the first one, given the place behind that and the next behind the blanks
-/// there; and gives the places behind the last of them and behind the blanks there.
+/// there; and gives the places behind the last of them and behind the blanks there, or the fault of
+/// one.
 fn push_pieces(
     value: &mut String,
     text: &str,
     end: usize,
     next: usize,
     turns: &mut IcuTurns,
-) -> Result<Option<(usize, usize)>, NoMemory>
+) -> Result<(usize, usize), IcuTextError>
     requires skip { Skip text.now end next }
     requires within { (end ≤ length text.now) × (end ≤ next) × (next ≤ length text.now) }
-    ensures found { IfOk result (λ o. IfSome o (λ r. (later : List ℕ)
-        × Ahead text.now end next r.0 later
-        × (string_bytes value.new ≡ string_bytes value.old ++ later))) }
-    ensures blanks { IfOk result (λ o. IfSome o (λ r. Skip text.now r.0 r.1)) }
-    ensures none { IfOk result (λ o. IfNone o ((to : ℕ) (later : List ℕ)
-        → Ahead text.now end next to later → ⊥)) }
-    ensures within { IfOk result (λ o. IfSome o (λ r. (end ≤ r.0) × (r.0 ≤ r.1)
-        × (r.1 ≤ length text.now))) }
-    ensures moves { IfOk result (λ o. IfSome o (λ r. slice_index text.now next ≡ ascii.quote
-        → end < r.0)) }
-    ensures cost { IfOk result (λ o. IfSome o (λ r. turns.new.count + 6 * reach text.now next
-        ≤ turns.old.count + 6 * reach text.now r.1)) }
+    ensures found { IfOk result (λ r. (later : List ℕ) × Ahead text.now end next r.0 later
+        × (string_bytes value.new ≡ string_bytes value.old ++ later)) }
+    ensures blanks { IfOk result (λ r. Skip text.now r.0 r.1) }
+    ensures err { IfErr result (HasFault text.now next) }
+    ensures within { IfOk result (λ r. (end ≤ r.0) × (r.0 ≤ r.1) × (r.1 ≤ length text.now)) }
+    ensures moves { IfOk result (λ r. slice_index text.now next ≡ ascii.quote → end < r.0) }
+    ensures cost { IfOk result (λ r. turns.new.count + 6 * reach text.now next
+        ≤ turns.old.count + 6 * reach text.now r.1) }
     ensures most { turns.new.count + 6 * reach text.now next
         ≤ turns.old.count + 6 * length text.now }
 {
     let mut at = end;
     let mut coming = next;
     'pieces: while byte(text, coming) == b'"' {
-        let Some((last, _)) = piece_end(text, coming + 1, turns) else {
-            return Ok(None);
-        };
+        let (last, _) = piece_end(text, coming + 1, turns)?;
         push_piece(value, text, coming + 1, last, turns)?;
         at = last + 1;
         coming = skip(text, at, turns);
     }
-    Ok(Some((at, coming)))
+    Ok((at, coming))
 }

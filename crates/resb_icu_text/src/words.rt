@@ -1,8 +1,7 @@
 //! Words, and the numbers that some of them are.
 //! Which bytes a word and a key may hold is said in `resb_icu_grammar`; types are read in `types`,
 //! quoted strings in `strings`. Places count bytes of the text from its start.
-ghost use Rattle.std.specs.Prelude.{◌≡◌, ◌≢◌, ℕ, ◌+◌, ◌-◌, ◌*◌, ◌^◌, ◌<◌, ◌≤◌, ◌↔◌, Bool, IsTrue};
-ghost use Rattle.std.specs.Prelude.{min};
+ghost use Rattle.std.specs.Prelude.{ℕ, ◌+◌, ◌*◌, ◌<◌, ◌≤◌};
 ghost use Rattle.std.specs.Prelude.{List, length, slice_index, slice_range, IfSome, IfNone};
 ghost use Rattle.resb_grammar.specs.Ascii as ascii;
 ghost use Rattle.resb_grammar.specs.ByteRuns.{Run, is_digit};
@@ -16,6 +15,7 @@ ghost use Rattle.resb_icu_text.specs.Inner.Reach.{reach};
 
 use crate::blanks::byte;
 use crate::turns::IcuTurns;
+use resb_grammar::{digits_end, negated};
 use resb_icu_grammar::is_word;
 
 /// Where the run of word characters ends.
@@ -52,25 +52,6 @@ pub(crate) fn word<'a>(text: &'a str, from: usize, turns: &mut IcuTurns) -> Opti
     }
 }
 
-/// Where the run of digits ends, and their value, or 2 ^ 32 where it is larger.
-fn digits(text: &str, from: usize) -> (usize, u64)
-    requires within { from ≤ length text.now }
-    ensures run { Run is_digit text.now from result.0 }
-    ensures value { result.1
-        ≡ min (plain.digits_value text.now from (result.0 - from)) 4294967296 }
-{
-    let mut value = 0u64;
-    let end = text.len();
-    for at in from..end {
-        let b = byte(text, at);
-        if !b.is_ascii_digit() {
-            return (at, value);
-        }
-        value = (value * 10 + (b - b'0') as u64).min(1 << 32);
-    }
-    (end, value)
-}
-
 /// The end and the value of the digits that begin here, without a leading zero, of a value up to
 /// the limit.
 fn digits_up_to(text: &str, from: usize, limit: u64) -> Option<(usize, u64)>
@@ -80,23 +61,11 @@ fn digits_up_to(text: &str, from: usize, limit: u64) -> Option<(usize, u64)>
     ensures limited { IfSome result (λ r. r.1 ≤ limit) }
     ensures none { IfNone result ((to v : ℕ) → Digits text.now from to v → v ≤ limit → ⊥) }
 {
-    let (to, value) = digits(text, from);
+    let (to, value) = digits_end(text.as_bytes(), from);
     if from < to && value <= limit && (byte(text, from) != b'0' || to == from + 1) {
         Some((to, value))
     } else {
         None
-    }
-}
-
-/// What is minus a number, modulo 2 ^ 32.
-fn negated(value: u64) -> u32
-    requires { value ≤ 2147483648 }
-    ensures { result ≡ plain.negated value }
-{
-    if value == 0 {
-        0
-    } else {
-        4294967295 - (value - 1) as u32
     }
 }
 

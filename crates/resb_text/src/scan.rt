@@ -14,6 +14,7 @@ use crate::runs;
 use crate::ticks::Ticks;
 use crate::turns::cut;
 use memchr::{memchr, memchr2};
+use resb_grammar::blanks_end;
 
 /// Counts one turn, and gives the byte there, if the text reaches so far.
 pub(crate) fn look(text: &str, ticks: &mut Ticks, at: usize) -> Option<u8>
@@ -99,7 +100,7 @@ pub(crate) fn skip_blanks(text: &str, ticks: &mut Ticks, from: usize) -> (usize,
     ensures byte { result.1 ≡ slice_index text.now result.0 }
     ensures counted { Ticked ticks.old ticks.new (result.0 + 1 - from) }
 {
-    let to = runs::blanks_end(text.as_bytes(), from);
+    let to = blanks_end(text.as_bytes(), from);
     ticks.add(to - from);
     (to, byte(text, ticks, to))
 }
@@ -127,7 +128,7 @@ pub(crate) fn digits_end(text: &str, ticks: &mut Ticks, from: usize) -> (usize, 
     ensures counted { let to = min (result.0 + 1) (length text.now) in
         Ticked ticks.old ticks.new (to - from) }
 {
-    let (to, value) = runs::digits_end(text.as_bytes(), from);
+    let (to, value) = resb_grammar::digits_end(text.as_bytes(), from);
     count_run(text, ticks, from, to);
     (to, value)
 }

@@ -9,10 +9,10 @@ use resb_bundler::{
 use std::alloc::Global;
 use std::test::Fail;
 
-/// A path, a limit (0 for none, `icu` for a text of ICU's form), and a text; its resources, its largest table, whether fallback is
-/// on, its JSON, and what stands at the path. Or why the text has no file, and where to look. The
-/// reading of `b{k{v}}` makes 72 for the root, 195 for `k`, 72 for its group, 195 for `v` and 1024
-/// for the root's table: 1558.
+/// A path, a limit (0 for none, `icu` for a text of ICU's form), and a text; its resources, its
+/// largest table, whether fallback is on, its JSON, and what stands at the path. Or why the text has
+/// no file, and where to look. The reading of `b{k{v}}` makes 72 for the root, 195 for `k`, 72 for
+/// its group, 195 for `v` and 1024 for the root's table: 1558.
 pub(crate) const BUNDLES: &str =
     r#"c/1 0 b{a{"x"}c:intvector{1,-2}} => 3 2 true {"a":"x","c":[1,-2]} -2;
 a 0 b:table(nofallback){a{"x"}} => 2 1 false {"a":"x"} "x";
@@ -28,13 +28,18 @@ a icu b{a{"x\t" "y"}} => 2 1 true {"a":"x\ty"} "x\ty";
 a icu b{a{x}a{y}} => expected each key once in the table that ends here At(10);
 a icu b{a:alias{"x"}} => expected a type of a tree, and 'alias' is none At(3);
 a icu b{a:process(uca_rules){"x"}} => expected a type of a tree, and 'process' is none At(3);
+a icu b{a:import{"x"}} => expected a type of a tree, and 'import' is none At(3);
+a icu b{a:include{"x"}} => expected a type of a tree, and 'include' is none At(3);
 a icu b{a:tree{"x"}} => expected a type At(3);
 a icu b{a:intvector{1 2}} => expected a comma or '}' At(16);
 a icu b{a:intvector{1, x}} => expected a number or '}' At(17);
 a icu b{a{"x", {y} = }} => expected a comma, a resource or '}' At(13);
-a icu b{a{"\x41"}} => expected a quoted string that is closed, with known escapes At(4);
+a icu b{a{"x\x41"}} => expected a known escape At(6);
+a icu b{a{"x" "\ud800"}} => expected a known escape At(9);
+a icu b{a{"x" "y}} => expected a quote that closes this string At(8);
+a icu b{a{x}"k\u005C"{y}} => expected a known escape At(8);
 a icu b{a{"x","y" "z" w}} => expected a comma between two strings At(16);
-collations icu b{collations{a{"x"}}} => expected no table with rules of collation At(20);
+collations icu b{collations{a{"x"}}} => expected no table with rules of collation At(12);
 a icu b{a{"x"}} c => expected the end of the text At(10);
 "#;
 

@@ -97,7 +97,7 @@ pub record AfterValue (text : List ℕ) (goal : Goal) (es : List (List ℕ × Tr
 abbrev pub After : List ℕ → List Waiting → Goal
 After text [] = AtEnd text
 After text (in_array ts ∷ ws) = AfterMember text (After text ws) ts
-After text (in_table es key ∷ ws) = AfterValue text (After text ws) es key
+After text (in_table es key begin ∷ ws) = AfterValue text (After text ws) es key
 
 -- two words about the rest say the same
 abbrev pub Same : (Meaning → Type 0) → (Meaning → Type 0) → Type 0

@@ -28,7 +28,7 @@ entries_pass entries test = each_entry test (λ b. not (are_slice b)) entries
 -- what is open around a group passes
 abbrev pub open_passes : Open → Test → Bool
 open_passes (waiting.Array members) test = members_pass members.items test
-open_passes (waiting.Table entries key) test = entries_pass entries.items test
+open_passes (waiting.Table entries key at) test = entries_pass entries.items test
 
 -- what a reading holds where it stands passes
 abbrev pub step_passes : Step → Test → Bool

@@ -6,6 +6,7 @@ use Rattle.resb_grammar.specs.Ascii as ascii
 use Rattle.resb_tree.specs.View.{tree_of}
 use Rattle.resb_icu_grammar.specs.Blanks.{Skip}
 use Rattle.resb_icu_grammar.specs.Machine.{Reading, reading_at, at_root, behind_group}
+use Rattle.resb_icu_grammar.specs.Faults.{Told}
 use Rattle.resb_icu_grammar.specs.Stuck.{HeadStuck, StuckFrom}
 use Rattle.resb_icu_grammar.specs.declared.expected.IcuExpected.TheVariants as expect
 use Rattle.resb_icu_grammar.specs.Words.{Name, RootType}
@@ -54,12 +55,12 @@ pub record NameAhead (text : List ℕ) (from next : ℕ) (name : List ℕ) : Typ
   pub stands : Name text from to name
   pub after : Skip text to next
 
--- memory was wanted, or no bundle's name stands there, where the error says
+-- memory was wanted, or no bundle's name stands there, and the error says so
 abbrev pub NameFails : List ℕ → ℕ → IcuTextError → Type 0
 NameFails text at e =
     (e ≡ want_of_memory)
     ⊎ (((to : ℕ) (name : List ℕ) → Name text at to name → ⊥)
-    × (e ≡ record { position = at; expected = expect.Name }))
+    × Told text at expect.Name e.position e.expected)
 
 -- the root's type and the blanks behind it, or no `:`
 pub data TypingThere (text : List ℕ) (from to : ℕ) : Bool → Type 0 where

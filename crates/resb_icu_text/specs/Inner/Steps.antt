@@ -30,12 +30,12 @@ last_of last.Comma = spec.a_comma
 -- what is open around a group, as the form says it
 abbrev pub shown : Open → Waiting
 shown (waiting.Array members) = in_array (map tree_of members.items)
-shown (waiting.Table entries key) = in_table (pairs_view entries.items) key.now
+shown (waiting.Table entries key at) = in_table (pairs_view entries.items) key.now at
 
 -- the keys with the one that a group stands under
 abbrev pub with_key : List (List ℕ) → Open → List (List ℕ)
 with_key ks (waiting.Array members) = ks
-with_key ks (waiting.Table entries key) = ks ++ key.now ∷ []
+with_key ks (waiting.Table entries key at) = ks ++ key.now ∷ []
 
 -- where a reading stands, inside these groups and with these keys before it
 abbrev pub now : List Waiting → List (List ℕ) → Step → Reading

@@ -5,54 +5,60 @@ use Rattle.resb_icu_text.proofs.BlanksLemmas.{no_comment_at}
 use Rattle.resb_icu_text.proofs.blanks.skip.Goals as goal
 
 pub skip-preserved : goal.skip-preserved
-skip-preserved c = record {
-  order = omega (arith, c.in-Some.ensures.within.0, c.white_end-white.ensures.run.order);
-  fits = c.in-Some.ensures.within.1;
-  so_far = comment_more _ _ _ _ c.in-Some.ensures.found
-      (white_more _ _ _ _ c.white_end-white.ensures.run c.skip.invariant.so_far);
-  cost = omega (
-    arith,
-    c.in-Some.ensures.within.0,
-    c.white_end-white.ensures.run.order,
-    c.skip.invariant.cost,
-    c.add.ensures.most,
-    c.add-in-skip.ensures.most,
-    c.add-in-Some.ensures.most,
-  );
-}
+skip-preserved c =
+    let run = rw c.as_bytes.ensures.value at c.blanks_end-white.ensures in
+    record {
+      order = omega (arith, c.in-Some.ensures.within.0, run.order);
+      fits = c.in-Some.ensures.within.1;
+      so_far = comment_more _ _ _ _ c.in-Some.ensures.found
+          (white_more _ _ _ _ run c.skip.invariant.so_far);
+      cost = omega (
+        arith,
+        c.in-Some.ensures.within.0,
+        run.order,
+        c.skip.invariant.cost,
+        c.add.ensures.most,
+        c.add-in-skip.ensures.most,
+        c.add-in-Some.ensures.most,
+      );
+    }
 
 pub returns-in-None-clause-skip : goal.returns-in-None-clause-skip
 returns-in-None-clause-skip c =
-    skip_ends _ _ _ _ c.white_end-white.ensures.run c.in-None.ensures.none c.skip.invariant.so_far
+    let run = rw c.as_bytes.ensures.value at c.blanks_end-white.ensures in
+    skip_ends _ _ _ _ run c.in-None.ensures.none c.skip.invariant.so_far
 
 pub returns-in-None-clause-cost : goal.returns-in-None-clause-cost
 returns-in-None-clause-cost c =
+    let run = rw c.as_bytes.ensures.value at c.blanks_end-white.ensures in
     omega (
       arith,
-      c.white_end-white.ensures.run.order,
-      c.white_end-white.ensures.run.fits,
+      run.order,
+      run.fits,
       c.skip.invariant.cost,
       c.add.ensures.most,
       c.add-in-skip.ensures.most,
       c.add-in-None.ensures.most,
-      reach_slash c.args.text.now c.white_end-white.result
+      reach_slash c.args.text.now c.blanks_end-white.result
           (sym c.byte.ensures.byte ∙ c.if-byte-ne47.false),
     )
 
 pub returns-then-byte-ne47-clause-skip : goal.returns-then-byte-ne47-clause-skip
 returns-then-byte-ne47-clause-skip c =
-    skip_ends _ _ _ _ c.white_end-white.ensures.run
+    let run = rw c.as_bytes.ensures.value at c.blanks_end-white.ensures in
+    skip_ends _ _ _ _ run
     (no_comment_at _ _ (λ e. c.if-byte-ne47.true (c.byte.ensures.byte ∙ e)))
     c.skip.invariant.so_far
 
 pub returns-then-byte-ne47-clause-cost : goal.returns-then-byte-ne47-clause-cost
 returns-then-byte-ne47-clause-cost c =
+    let run = rw c.as_bytes.ensures.value at c.blanks_end-white.ensures in
     omega (
       arith,
-      c.white_end-white.ensures.run.order,
+      run.order,
       c.skip.invariant.cost,
       c.add.ensures.most,
       c.add-in-skip.ensures.most,
-      reach_here c.args.text.now c.white_end-white.result
+      reach_here c.args.text.now c.blanks_end-white.result
           (λ e. c.if-byte-ne47.true (c.byte.ensures.byte ∙ e)),
     )

@@ -4,29 +4,29 @@ use Rattle.resb_tree.specs.Tree.{Tree, string}
 use Rattle.resb_grammar.specs.GroupTypes.{string_kind}
 use Rattle.resb_tree.proofs.ViewLemmas.{tree_of_string}
 use Rattle.resb_icu_text.specs.Inner.Leaf.{Leaf}
-use Rattle.resb_icu_text.proofs.LeafLemmas.{leaf_fails, string_stands}
+use Rattle.resb_icu_text.proofs.LeafLemmas.{leaf_fails, told_leaf, string_stands}
 use Rattle.resb_icu_text.proofs.LeafLemmas.{closing_at}
 use Rattle.resb_icu_text.proofs.ReachLemmas.{reach_right, reach_string}
 use Rattle.resb_icu_grammar.specs.Stuck.{no_string, open_string}
 use Rattle.resb_icu_text.proofs.KeptLemmas.{said_kept}
 use Rattle.resb_icu_text.proofs.leaf.string_leaf.Goals as goal
 
-pub returns-in_default-clause-err : goal.returns-in_default-clause-err
-returns-in_default-clause-err c =
-    leaf_fails _ _ _ _ _ _ c.no_string.ensures
-    (no_string (rw c.in_default.is at c.in_ok-lexeme.ensures.none))
+pub returns-in_err-lexeme-clause-err : goal.returns-in_err-lexeme-clause-err
+returns-in_err-lexeme-clause-err c =
+    let p = err_from_is_err_and c.from_residual.result c.from_residual.ensures.1 in
+    rw (p.1, p.2) (told_leaf _ _ _ _ (no_string _ _) c.in_err-lexeme.ensures.err)
 
 pub returns-in_err-to-clause-err : goal.returns-in_err-to-clause-err
 returns-in_err-to-clause-err c =
     let p = err_from_is_err_and c.from_residual-in_err-to.result
     c.from_residual-in_err-to.ensures.1 in
-    let found = rw c.in-Some.is at c.in_ok-lexeme.ensures.found in
+    let found = c.in_ok-lexeme.ensures.found in
     let e = c.in_err-to.ensures.err in
     rw (p.1, p.2) (leaf_fails _ _ _ _ _ _ e.1 (open_string _ _ _ found.string found.blanks e.0))
 
 pub returns-clause-ok : goal.returns-clause-ok
 returns-clause-ok c =
-    let found = rw c.in-Some.is at c.in_ok-lexeme.ensures.found in
+    let found = c.in_ok-lexeme.ensures.found in
     subst (λ (t : Tree). Leaf c.args.text.now c.args.at string_kind c.in_ok-to.to t)
     (sym (tree_of_string c.text_of.result ∙ ap string c.text_of.ensures.bytes))
     (string_stands _ _ _ _ _ found.string
@@ -34,14 +34,14 @@ returns-clause-ok c =
 
 pub returns-clause-within : goal.returns-clause-within
 returns-clause-within c =
-    let found = rw c.in-Some.is at c.in_ok-lexeme.ensures.found in
+    let found = c.in_ok-lexeme.ensures.found in
     let ok = c.in_ok-to.ensures.ok in
     (omega (arith, found.after, found.order, ok.0), c.in_ok-to.ensures.within)
 
 pub returns-clause-cost : goal.returns-clause-cost
 returns-clause-cost c =
-    let found = rw c.in-Some.is at c.in_ok-lexeme.ensures.found in
-    let cost = rw c.in-Some.is at c.in_ok-lexeme.ensures.cost in
+    let found = c.in_ok-lexeme.ensures.found in
+    let cost = c.in_ok-lexeme.ensures.cost in
     let ok = c.in_ok-to.ensures.ok in
     omega (
       arith,
@@ -55,5 +55,5 @@ returns-clause-cost c =
 
 pub returns-clause-slices : goal.returns-clause-slices
 returns-clause-slices c =
-    said_kept _ _ _ _ (rw c.in-Some.is at c.in_ok-lexeme.ensures.found) c.text_of.ensures.bytes
+    said_kept _ _ _ _ (c.in_ok-lexeme.ensures.found) c.text_of.ensures.bytes
     c.text_of.ensures.slice

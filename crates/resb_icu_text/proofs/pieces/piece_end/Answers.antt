@@ -1,16 +1,17 @@
-use Rattle.std.proofs.Common.{◌≡◌, arith, rules, refl, sym, ◌∙◌}
+use Rattle.std.proofs.Common.{◌≡◌, ◌-◌, arith, rules, refl, sym, ◌∙◌}
 use Rattle.std.specs.Prelude.{slice_index}
 use Rattle.resb_icu_grammar.specs.Bytes.{backslash}
-use Rattle.resb_icu_text.proofs.PiecesLemmas.{goes_bytes, back_bytes, goes_escape, back_escape}
-use Rattle.resb_icu_text.proofs.PiecesLemmas.{no_escape_inside, none_past, piece_closes}
-use Rattle.resb_icu_text.proofs.PiecesLemmas.{no_escape_more}
+use Rattle.resb_icu_text.proofs.PiecesLemmas.{goes_bytes, fault_bytes, goes_escape}
+use Rattle.resb_icu_text.proofs.PiecesLemmas.{fault_escape, no_escape_fault, no_end_fault}
+use Rattle.resb_icu_text.proofs.PiecesLemmas.{says_fault, piece_closes, no_escape_more}
 use Rattle.resb_icu_text.proofs.StopsLemmas.{is_backslash}
 use Rattle.resb_icu_text.proofs.pieces.piece_end.Goals as goal
 
-pub returns-in_default-clause-none : goal.returns-in_default-clause-none
-returns-in_default-clause-none c =
-    none_past c.args.text.now c.args.from c.piece.at c.piece.invariant.fits
-    c.in_default.ensures.none c.piece.invariant.back
+pub returns-in_default-clause-err : goal.returns-in_default-clause-err
+returns-in_default-clause-err c =
+    says_fault _ _ _ _ _ _ c.new.ensures
+    (no_end_fault c.args.text.now (c.args.from - 1) c.args.from c.piece.at c.piece.invariant.fits
+    c.in_default.ensures.none c.piece.invariant.fault)
 
 pub returns-in_default-clause-most : goal.returns-in_default-clause-most
 returns-in_default-clause-most c =
@@ -29,15 +30,16 @@ returns-then-byte-eq34-clause-plain c = λ h.
     no_escape_more c.args.text.now c.args.from c.piece.at c.in-Some.stop
     c.in-Some.ensures.found.before (c.piece.invariant.clean h)
 
-pub returns-in_default-escape-clause-none : goal.returns-in_default-escape-clause-none
-returns-in_default-escape-clause-none c =
+pub returns-in_default-escape-clause-err : goal.returns-in_default-escape-clause-err
+returns-in_default-escape-clause-err c =
     let f = c.in-Some.ensures.found in
     let s : slice_index c.args.text.now c.in-Some.stop ≡ backslash =
     is_backslash _ _ _ f (λ e. c.if-byte-eq34.false (c.byte.ensures.byte ∙ e)) in
-    no_escape_inside c.args.text.now c.args.from c.in-Some.stop _ refl s
+    says_fault _ _ _ _ _ _ c.new-in_default-escape.ensures
+    (no_escape_fault c.args.text.now (c.args.from - 1) c.args.from c.in-Some.stop s
     c.in_default-escape.ensures.none
-    (back_bytes c.args.text.now c.args.from c.piece.at c.in-Some.stop f.order f.before
-    c.piece.invariant.back)
+    (fault_bytes c.args.text.now (c.args.from - 1) c.args.from c.piece.at c.in-Some.stop f.order
+    (omega (arith, f.fits)) f.before c.piece.invariant.fault))
 
 pub piece-preserved : goal.piece-preserved
 piece-preserved c =
@@ -49,13 +51,14 @@ piece-preserved c =
     let w = c.in-Some-escape.ensures.within in
     let on = goes_bytes text c.args.from c.piece.at c.in-Some.stop f.order (omega (arith, f.fits))
     f.before c.piece.invariant.on in
-    let back = back_bytes text c.args.from c.piece.at c.in-Some.stop f.order f.before
-    c.piece.invariant.back in
+    let fault = fault_bytes text (c.args.from - 1) c.args.from c.piece.at c.in-Some.stop f.order
+    (omega (arith, f.fits)) f.before c.piece.invariant.fault in
     record {
       order = omega (arith, c.piece.invariant.order, f.order, w.0);
       fits = w.1;
       on = goes_escape text c.args.from c.in-Some.stop c.in-Some-escape.to _ _ refl s x on;
-      back = back_escape text c.args.from c.in-Some.stop c.in-Some-escape.to _ _ refl s x back;
+      fault = fault_escape text (c.args.from - 1) c.args.from c.in-Some.stop c.in-Some-escape.to _ _
+          refl s x fault;
       clean = λ h. absurd (search rules);
       dirty = λ _. (
         c.in-Some.stop,

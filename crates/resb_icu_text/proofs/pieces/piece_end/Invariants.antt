@@ -2,7 +2,7 @@ use Rattle.std.proofs.Common.{◌≡◌, ◌+◌, ◌-◌, ◌≤◌, ◌<◌, �
 use Rattle.std.specs.Prelude.{slice_index}
 use Rattle.resb_icu_grammar.specs.Bytes.{backslash}
 use Rattle.resb_icu_grammar.specs.Words.{HasNoEscape}
-use Rattle.resb_icu_text.proofs.PiecesLemmas.{GoesOn}
+use Rattle.resb_icu_text.proofs.PiecesLemmas.{GoesOn, FaultOn}
 use Rattle.resb_icu_text.proofs.pieces.piece_end.Given as goal
 
 abbrev pub invariant-piece : goal.invariant-piece
@@ -10,7 +10,7 @@ invariant-piece l = record {
   order : l.from ≤ l.at;
   fits : l.at ≤ length l.text;
   on : GoesOn l.text l.at l.from;
-  back : GoesOn l.text l.from l.at;
+  fault : FaultOn l.text (l.from - 1) l.at l.from;
   clean : l.plain ≡ true → HasNoEscape l.text l.from l.at;
   dirty : l.plain ≡ false → (k : ℕ) × (l.from ≤ k) × (k < l.at)
       × (slice_index l.text k ≡ backslash);

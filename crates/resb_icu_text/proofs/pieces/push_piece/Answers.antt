@@ -1,14 +1,17 @@
-use Rattle.std.proofs.Common.{◌≡◌, ◌<◌, ◌≤◌, ◌+◌, length, arith, rules, refl, sym, ◌∙◌, ◌++◌}
+use Rattle.std.proofs.Common.{◌≡◌, ◌<◌, ◌≤◌, ◌+◌, length, arith, rules, sym, ◌∙◌, ◌++◌}
 use Rattle.std.proofs.Common.{[], ◌∷◌, encode_utf8, subst, ap}
 use Rattle.std.specs.Prelude.{slice_index, slice_range}
 use Rattle.std.specs.String.{string_bytes}
 use Rattle.std.proofs.lemmas.Str.{IsCharBoundary-before_ascii, IsCharBoundary-after_ascii}
 use Rattle.resb_icu_grammar.specs.Bytes.{backslash}
+use Rattle.resb_icu_grammar.specs.Faults.{no_escape}
+use Rattle.resb_icu_grammar.specs.declared.expected.IcuExpected.TheVariants as expect
+use Rattle.resb_icu_grammar.proofs.Faults.{fault_no_end}
 use Rattle.resb_icu_grammar.specs.Escapes.{Escape}
 use Rattle.resb_icu_text.specs.Inner.Escaped.{bytes_of}
 use Rattle.resb_icu_text.proofs.PiecesLemmas.{adds_none, adds_byte, adds_character, adds_itself}
 use Rattle.resb_icu_text.proofs.PiecesLemmas.{adds_all, inside_order, inside_closes, escape_fits}
-use Rattle.resb_icu_text.proofs.PiecesLemmas.{inside_broken, begins_behind, on_ok_added}
+use Rattle.resb_icu_text.proofs.PiecesLemmas.{begins_behind, on_ok_added}
 use Rattle.resb_icu_text.proofs.pieces.push_piece.Goals as goal
 
 pub piece-init : goal.piece-init
@@ -81,8 +84,8 @@ unreachable-requires c =
     sym c.byte.ensures.byte ∙ c.if-byte-eq92.true in
     let h = c.requires.inside in
     let a = c.piece.invariant.adds h.0 h.1 in
-    inside_broken c.args.text.now c.piece.at c.args.last (slice_index c.args.text.now c.piece.at)
-    a.rest refl s c.in-None.ensures.none a.inside
+    fault_no_end c.args.text.now 0 c.piece.at c.piece.at expect.Escape
+    (no_escape c.piece.at s c.in-None.ensures.none) c.args.last a.rest a.inside
 
 pub piece-preserved : goal.piece-preserved
 piece-preserved c =

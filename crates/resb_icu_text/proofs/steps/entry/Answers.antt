@@ -1,4 +1,5 @@
 use Rattle.std.proofs.Common.{arith, sym, ◌∙◌}
+use Rattle.std.proofs.lemmas.Result.{err_from_is_err_and}
 use Rattle.resb_icu_text.proofs.StepsLemmas.{entries_end, a_key_twice, entry_key, no_entry}
 use Rattle.resb_icu_grammar.proofs.Lexical.{key_string}
 use Rattle.resb_icu_text.proofs.ReachLemmas.{reach_right, reach_low, reach_high, reach_string}
@@ -15,15 +16,17 @@ returns-in_default-clause-err c =
     a_key_twice _ _ _ _ c.new.ensures (sym c.byte.ensures.byte ∙ c.if-byte-eq125.true)
     (rw c.in_default.is at c.in_ok-table.ensures.none)
 
-pub returns-in-Some-2-clause-ok : goal.returns-in-Some-2-clause-ok
-returns-in-Some-2-clause-ok c =
-    let found = rw c.in-Some-2.is at c.in_ok-next.ensures.found in
-    entry_key _ c.args.entries c.in-Some-2.key _ _ _ found.stands found.after
+pub returns-clause-ok : goal.returns-clause-ok
+returns-clause-ok c =
+    let found = c.in_ok-next.ensures.found in
+    entry_key _ c.args.entries c.in_ok-next.key _ _ _ found.stands found.after
 
-pub returns-clause-err : goal.returns-clause-err
-returns-clause-err c =
-    no_entry _ _ _ _ c.new-in-None.ensures (λ e. c.if-byte-eq125.false (c.byte.ensures.byte ∙ e))
-    (rw c.in-None.is at c.in_ok-next.ensures.none)
+pub returns-in_err-next-clause-err : goal.returns-in_err-next-clause-err
+returns-in_err-next-clause-err c =
+    let p = err_from_is_err_and c.from_residual-in_err-next.result
+    c.from_residual-in_err-next.ensures.1 in
+    rw (p.1, p.2) (no_entry _ _ _ _ (λ e. c.if-byte-eq125.false (c.byte.ensures.byte ∙ e))
+    c.in_err-next.ensures.err)
 
 pub returns-then-byte-eq125-clause-cost : goal.returns-then-byte-eq125-clause-cost
 returns-then-byte-eq125-clause-cost c =
@@ -40,11 +43,11 @@ pub returns-in_default-clause-most : goal.returns-in_default-clause-most
 returns-in_default-clause-most c =
     omega (arith, reach_high c.args.text.now c.args.at c.requires.within)
 
-pub returns-in-Some-2-clause-cost : goal.returns-in-Some-2-clause-cost
-returns-in-Some-2-clause-cost c =
-    let found = rw c.in-Some-2.is at c.in_ok-next.ensures.found in
-    let cost = rw c.in-Some-2.is at c.in_ok-next.ensures.cost in
-    let within = rw c.in-Some-2.is at c.in_ok-next.ensures.within in
+pub returns-clause-cost : goal.returns-clause-cost
+returns-clause-cost c =
+    let found = c.in_ok-next.ensures.found in
+    let cost = c.in_ok-next.ensures.cost in
+    let within = c.in_ok-next.ensures.within in
     omega (
       arith,
       cost,

@@ -1,23 +1,23 @@
 use Rattle.std.proofs.Common.{arith}
-use Rattle.resb_icu_grammar.proofs.Lexical.{key_string}
+use Rattle.std.proofs.lemmas.Result.{err_from_is_err_and}
 use Rattle.resb_icu_text.proofs.LengthLemmas.{string_short}
 use Rattle.resb_icu_text.proofs.ReachLemmas.{reach_string, reach_low, reach_high}
-use Rattle.resb_icu_text.proofs.StepsLemmas.{no_key, key_ahead}
+use Rattle.resb_icu_text.proofs.StepsLemmas.{string_no_key, unfit_key, key_ahead}
 use Rattle.resb_icu_text.proofs.steps.key_at.Goals as goal
 
-pub returns-in_default-clause-none : goal.returns-in_default-clause-none
-returns-in_default-clause-none c =
-    let none = rw c.in_default.is at c.in_ok-lexeme.ensures.none in
-    λ to k p. none to k (key_string _ _ to k p)
+pub returns-in_err-lexeme-clause-err : goal.returns-in_err-lexeme-clause-err
+returns-in_err-lexeme-clause-err c =
+    let p = err_from_is_err_and c.from_residual.result c.from_residual.ensures.1 in
+    rw (p.1, p.2) (string_no_key _ _ _ _ c.in_err-lexeme.ensures.err)
 
-pub returns-in-Some-key-clause-found : goal.returns-in-Some-key-clause-found
-returns-in-Some-key-clause-found c =
-    key_ahead _ _ _ _ (rw c.in-Some.is at c.in_ok-lexeme.ensures.found) c.in-Some-key.ensures.found
+pub returns-in-Some-clause-found : goal.returns-in-Some-clause-found
+returns-in-Some-clause-found c =
+    key_ahead _ _ _ _ c.in_ok-lexeme.ensures.found c.in-Some.ensures.found
 
-pub returns-in-Some-key-clause-cost : goal.returns-in-Some-key-clause-cost
-returns-in-Some-key-clause-cost c =
-    let found = rw c.in-Some.is at c.in_ok-lexeme.ensures.found in
-    let cost = rw c.in-Some.is at c.in_ok-lexeme.ensures.cost in
+pub returns-in-Some-clause-cost : goal.returns-in-Some-clause-cost
+returns-in-Some-clause-cost c =
+    let found = c.in_ok-lexeme.ensures.found in
+    let cost = c.in_ok-lexeme.ensures.cost in
     omega (
       arith,
       cost,
@@ -28,14 +28,14 @@ returns-in-Some-key-clause-cost c =
       reach_low c.args.text.now _ found.fits,
     )
 
-pub returns-clause-none : goal.returns-clause-none
-returns-clause-none c =
-    no_key _ _ _ (rw c.in-Some.is at c.in_ok-lexeme.ensures.found) c.in-None.ensures.none
+pub returns-clause-err : goal.returns-clause-err
+returns-clause-err c =
+    unfit_key _ _ _ _ _ c.new.ensures c.in_ok-lexeme.ensures.found c.in-None.ensures.none
 
-pub returns-in-Some-key-clause-most : goal.returns-in-Some-key-clause-most
-returns-in-Some-key-clause-most c =
-    let found = rw c.in-Some.is at c.in_ok-lexeme.ensures.found in
-    let cost = rw c.in-Some.is at c.in_ok-lexeme.ensures.cost in
+pub returns-in-Some-clause-most : goal.returns-in-Some-clause-most
+returns-in-Some-clause-most c =
+    let found = c.in_ok-lexeme.ensures.found in
+    let cost = c.in_ok-lexeme.ensures.cost in
     omega (
       arith,
       cost,
@@ -49,8 +49,8 @@ returns-in-Some-key-clause-most c =
 
 pub returns-clause-most : goal.returns-clause-most
 returns-clause-most c =
-    let found = rw c.in-Some.is at c.in_ok-lexeme.ensures.found in
-    let cost = rw c.in-Some.is at c.in_ok-lexeme.ensures.cost in
+    let found = c.in_ok-lexeme.ensures.found in
+    let cost = c.in_ok-lexeme.ensures.cost in
     omega (
       arith,
       cost,

@@ -9,7 +9,7 @@ use Rattle.resb_icu_text.proofs.steps.resume.Goals as goal
 
 pub returns-then-is_table-clause-err : goal.returns-then-is_table-clause-err
 returns-then-is_table-clause-err c =
-    rw c.in-Table.is (no_collation _ c.in-Table.entries c.in-Table.key c.args.resource _ _
+    rw c.in-Table.is (no_collation _ c.in-Table.entries c.in-Table.key c.args.resource _ _ _
     c.new.ensures (both_true (sym c.is_collation.ensures ∙ c.if-is_collation.true)
     (sym c.is_table.ensures ∙ c.if-is_table.true)))
 
@@ -21,7 +21,7 @@ returns-in_ok-push-in-Array-clause-ok c =
 pub returns-in_ok-push-in-Table-clause-ok : goal.returns-in_ok-push-in-Table-clause-ok
 returns-in_ok-push-in-Table-clause-ok c =
     rw c.in-Table.is (behind_value _ c.in-Table.entries c.push-in-Table.new.self c.in-Table.key
-    c.args.resource _ _
+    c.args.resource _ _ _
     (elim c.else-is_collation.branch [
       | else-is_collation-via-then-is_collation+else-is_table w ↦
           and_right _ _ (sym w.is_table.ensures ∙ w.if-is_table.false)

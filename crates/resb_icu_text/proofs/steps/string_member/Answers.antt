@@ -1,32 +1,33 @@
 use Rattle.std.proofs.Common.{arith, sym, ◌∙◌}
+use Rattle.std.proofs.lemmas.Result.{err_from_is_err_and}
 use Rattle.resb_icu_text.proofs.StepsLemmas.{member_string, no_member_string, no_member}
 use Rattle.resb_icu_text.proofs.ReachLemmas.{reach_string, reach_low}
 use Rattle.resb_icu_text.proofs.KeptLemmas.{said_kept, members_with}
 use Rattle.resb_icu_text.proofs.steps.string_member.Goals as goal
 
-pub returns-in_default-clause-err : goal.returns-in_default-clause-err
-returns-in_default-clause-err c =
-    no_member _ _ _ _ _ (rw c.member_behind.ensures at c.no_string.ensures) c.requires.no_brace
-    c.requires.no_comma c.requires.no_group c.requires.no_type
-    (rw c.in_default.is at c.in_ok-lexeme.ensures.none)
+pub returns-in_err-lexeme-clause-err : goal.returns-in_err-lexeme-clause-err
+returns-in_err-lexeme-clause-err c =
+    let p = err_from_is_err_and c.from_residual.result c.from_residual.ensures.1 in
+    rw (p.1, p.2) (no_member _ _ _ _ _ _ c.member_behind.ensures c.requires.no_brace
+    c.requires.no_comma c.requires.no_group c.requires.no_type c.in_err-lexeme.ensures.err)
 
 pub returns-then-is_string-clause-err : goal.returns-then-is_string-clause-err
 returns-then-is_string-clause-err c =
-    let found = rw c.in-Some.is at c.in_ok-lexeme.ensures.found in
+    let found = c.in_ok-lexeme.ensures.found in
     no_member_string _ _ _ _ _ _ _ c.new.ensures
     (sym c.is_string.ensures ∙ c.if-is_string.true) found.string
 
 pub returns-clause-ok : goal.returns-clause-ok
 returns-clause-ok c =
-    let found = rw c.in-Some.is at c.in_ok-lexeme.ensures.found in
+    let found = c.in_ok-lexeme.ensures.found in
     member_string _ _ c.push.new.self _ _ _ _ _ c.text_of.result
     (sym c.is_string.ensures ∙ c.if-is_string.false) found.string found.blanks
     c.text_of.ensures.bytes c.in_ok-push.ensures.items
 
 pub returns-clause-cost : goal.returns-clause-cost
 returns-clause-cost c =
-    let found = rw c.in-Some.is at c.in_ok-lexeme.ensures.found in
-    let cost = rw c.in-Some.is at c.in_ok-lexeme.ensures.cost in
+    let found = c.in_ok-lexeme.ensures.found in
+    let cost = c.in_ok-lexeme.ensures.cost in
     omega (
       arith,
       cost,
@@ -39,5 +40,5 @@ returns-clause-cost c =
 pub returns-clause-slices : goal.returns-clause-slices
 returns-clause-slices c = λ test p h.
     members_with test _ _ _ c.in_ok-push.ensures.items h
-    (said_kept _ _ _ _ (rw c.in-Some.is at c.in_ok-lexeme.ensures.found) c.text_of.ensures.bytes
+    (said_kept _ _ _ _ (c.in_ok-lexeme.ensures.found) c.text_of.ensures.bytes
     c.text_of.ensures.slice test p)

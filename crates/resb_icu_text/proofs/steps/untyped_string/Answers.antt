@@ -1,4 +1,5 @@
 use Rattle.std.proofs.Common.{arith, sym, ◌∙◌, inl, inr, ap, ◌++◌, ◌∷◌, []}
+use Rattle.std.proofs.lemmas.Result.{err_from_is_err_and}
 use Rattle.resb_tree.specs.declared.resource.Resource.{String}
 use Rattle.resb_icu_text.proofs.StepsLemmas.{untyped_one, untyped_comma, untyped_key}
 use Rattle.resb_icu_text.proofs.StepsLemmas.{no_untyped, no_untyped_string, no_untyped_key, no_key}
@@ -11,20 +12,21 @@ use Rattle.resb_icu_text.proofs.steps.untyped_string.Goals.{else-b-ne123-via-the
 use Rattle.resb_icu_text.proofs.steps.untyped_string.Goals.{else-b-ne123-via-else-b-ne123}
 use Rattle.resb_icu_text.proofs.steps.untyped_string.Goals as goal
 
-pub returns-in_default-clause-err : goal.returns-in_default-clause-err
-returns-in_default-clause-err c =
-    no_untyped _ _ _ c.no_string.ensures c.requires.no_brace c.requires.no_group c.requires.no_type
-    (rw c.in_default.is at c.in_ok-lexeme.ensures.none)
+pub returns-in_err-lexeme-clause-err : goal.returns-in_err-lexeme-clause-err
+returns-in_err-lexeme-clause-err c =
+    let p = err_from_is_err_and c.from_residual.result c.from_residual.ensures.1 in
+    rw (p.1, p.2) (no_untyped _ _ _ c.requires.no_brace c.requires.no_group c.requires.no_type
+    c.in_err-lexeme.ensures.err)
 
 pub returns-then-b-eq125-clause-ok : goal.returns-then-b-eq125-clause-ok
 returns-then-b-eq125-clause-ok c =
-    let found = rw c.in-Some.is at c.in_ok-lexeme.ensures.found in
+    let found = c.in_ok-lexeme.ensures.found in
     untyped_one _ _ _ _ _ c.text_of.result found.string found.blanks
     (sym c.byte-b.ensures.byte ∙ c.if-b-eq125.true) c.text_of.ensures.bytes
 
 pub returns-then-b-eq44-clause-ok : goal.returns-then-b-eq44-clause-ok
 returns-then-b-eq44-clause-ok c =
-    let found = rw c.in-Some.is at c.in_ok-lexeme.ensures.found in
+    let found = c.in_ok-lexeme.ensures.found in
     untyped_comma _ c.push.new.self _ _ _ _ c.text_of-then-b-eq44.result found.string
     found.blanks (sym c.byte-b.ensures.byte ∙ c.if-b-eq44.true)
     c.text_of-then-b-eq44.ensures.bytes
@@ -33,28 +35,28 @@ returns-then-b-eq44-clause-ok c =
 
 pub returns-then-b-ne58-clause-err : goal.returns-then-b-ne58-clause-err
 returns-then-b-ne58-clause-err c =
-    let found = rw c.in-Some.is at c.in_ok-lexeme.ensures.found in
+    let found = c.in_ok-lexeme.ensures.found in
     no_untyped_string _ _ _ _ _ _ c.new.ensures found.string found.blanks
     (λ e. c.if-b-eq125.false (c.byte-b.ensures.byte ∙ e))
     (λ e. c.if-b-eq44.false (c.byte-b.ensures.byte ∙ e))
     (λ e. c.if-b-ne123.true (c.byte-b.ensures.byte ∙ e))
     (λ e. c.if-b-ne58.true (c.byte-b.ensures.byte ∙ e))
 
-pub returns-in_default-key-clause-err : goal.returns-in_default-key-clause-err
-returns-in_default-key-clause-err c =
-    let found = rw c.in-Some.is at c.in_ok-lexeme.ensures.found in
-    no_untyped_key _ _ _ _ _ _ c.new-in_default-key.ensures found.string found.blanks
+pub returns-in_default-clause-err : goal.returns-in_default-clause-err
+returns-in_default-clause-err c =
+    let found = c.in_ok-lexeme.ensures.found in
+    no_untyped_key _ _ _ _ _ _ c.new-in_default.ensures found.string found.blanks
     (elim c.else-b-ne123.branch [
       | else-b-ne123-via-then-b-ne123+else-b-ne58 w ↦
           inr (sym c.byte-b.ensures.byte ∙ w.if-b-ne58.false)
       | else-b-ne123-via-else-b-ne123 w ↦ inl (sym c.byte-b.ensures.byte ∙ w.if-b-ne123.false)
-    ]) (no_key _ _ _ found c.in_default-key.ensures.none)
+    ]) (no_key _ _ _ found c.in_default.ensures.none)
 
 pub returns-clause-ok : goal.returns-clause-ok
 returns-clause-ok c =
-    let found = rw c.in-Some.is at c.in_ok-lexeme.ensures.found in
-    untyped_key _ c.new-2.result c.in-Some-key.key _ _ _
-    (is_a_key _ _ _ _ found c.in-Some-key.ensures.found)
+    let found = c.in_ok-lexeme.ensures.found in
+    untyped_key _ c.new-2.result c.in-Some.key _ _ _
+    (is_a_key _ _ _ _ found c.in-Some.ensures.found)
     found.blanks
     (elim c.else-b-ne123.branch [
       | else-b-ne123-via-then-b-ne123+else-b-ne58 w ↦
@@ -64,8 +66,8 @@ returns-clause-ok c =
 
 pub returns-then-b-eq125-clause-cost : goal.returns-then-b-eq125-clause-cost
 returns-then-b-eq125-clause-cost c =
-    let found = rw c.in-Some.is at c.in_ok-lexeme.ensures.found in
-    let cost = rw c.in-Some.is at c.in_ok-lexeme.ensures.cost in
+    let found = c.in_ok-lexeme.ensures.found in
+    let cost = c.in_ok-lexeme.ensures.cost in
     omega (
       arith,
       cost,
@@ -78,8 +80,8 @@ returns-then-b-eq125-clause-cost c =
 
 pub returns-then-b-eq44-clause-cost : goal.returns-then-b-eq44-clause-cost
 returns-then-b-eq44-clause-cost c =
-    let found = rw c.in-Some.is at c.in_ok-lexeme.ensures.found in
-    let cost = rw c.in-Some.is at c.in_ok-lexeme.ensures.cost in
+    let found = c.in_ok-lexeme.ensures.found in
+    let cost = c.in_ok-lexeme.ensures.cost in
     omega (
       arith,
       cost,
@@ -89,10 +91,10 @@ returns-then-b-eq44-clause-cost c =
       reach_low c.args.text.now _ found.fits,
     )
 
-pub returns-in_default-key-clause-most : goal.returns-in_default-key-clause-most
-returns-in_default-key-clause-most c =
-    let found = rw c.in-Some.is at c.in_ok-lexeme.ensures.found in
-    let cost = rw c.in-Some.is at c.in_ok-lexeme.ensures.cost in
+pub returns-in_default-clause-most : goal.returns-in_default-clause-most
+returns-in_default-clause-most c =
+    let found = c.in_ok-lexeme.ensures.found in
+    let cost = c.in_ok-lexeme.ensures.cost in
     omega (
       arith,
       cost,
@@ -107,8 +109,8 @@ returns-in_default-key-clause-most c =
 
 pub returns-clause-cost : goal.returns-clause-cost
 returns-clause-cost c =
-    let found = rw c.in-Some.is at c.in_ok-lexeme.ensures.found in
-    let cost = rw c.in-Some.is at c.in_ok-lexeme.ensures.cost in
+    let found = c.in_ok-lexeme.ensures.found in
+    let cost = c.in_ok-lexeme.ensures.cost in
     omega (
       arith,
       cost,
@@ -122,8 +124,8 @@ returns-clause-cost c =
 
 pub returns-clause-most : goal.returns-clause-most
 returns-clause-most c =
-    let found = rw c.in-Some.is at c.in_ok-lexeme.ensures.found in
-    let cost = rw c.in-Some.is at c.in_ok-lexeme.ensures.cost in
+    let found = c.in_ok-lexeme.ensures.found in
+    let cost = c.in_ok-lexeme.ensures.cost in
     omega (
       arith,
       cost,
@@ -138,12 +140,12 @@ returns-clause-most c =
 
 pub returns-then-b-eq125-clause-slices : goal.returns-then-b-eq125-clause-slices
 returns-then-b-eq125-clause-slices c = λ test p h.
-    said_kept _ _ _ _ (rw c.in-Some.is at c.in_ok-lexeme.ensures.found) c.text_of.ensures.bytes
+    said_kept _ _ _ _ (c.in_ok-lexeme.ensures.found) c.text_of.ensures.bytes
     c.text_of.ensures.slice test p
 
 pub returns-then-b-eq44-clause-slices : goal.returns-then-b-eq44-clause-slices
 returns-then-b-eq44-clause-slices c = λ test p h.
     members_with test _ _ _ c.in_ok-push.ensures.items
     (ap (λ l. members_pass l test) c.new-members.ensures.items)
-    (said_kept _ _ _ _ (rw c.in-Some.is at c.in_ok-lexeme.ensures.found)
+    (said_kept _ _ _ _ (c.in_ok-lexeme.ensures.found)
     c.text_of-then-b-eq44.ensures.bytes c.text_of-then-b-eq44.ensures.slice test p)

@@ -1,49 +1,12 @@
-use Rattle.std.proofs.Common.{◌∙◌, arith}
-use Rattle.resb_icu_text.proofs.ReachLemmas.{reach_low, reach_high, reach_here}
-use Rattle.resb_icu_text.proofs.ReachLemmas.{word_no_slash}
-use Rattle.resb_icu_text.proofs.StringsLemmas.{no_lexeme, word_lexeme}
+use Rattle.std.proofs.Common.{◌∙◌, ap}
+use Rattle.resb_icu_text.proofs.StringsLemmas.{no_string_there}
 use Rattle.resb_icu_text.proofs.strings.string.Goals as goal
 
-pub returns-in_default-clause-none : goal.returns-in_default-clause-none
-returns-in_default-clause-none c =
-    no_lexeme c.args.text.now c.args.from (λ e. c.if-byte-eq34.false (c.byte.ensures.byte ∙ e))
-    c.in_default.ensures.none
-
-pub returns-in_default-clause-most : goal.returns-in_default-clause-most
-returns-in_default-clause-most c =
-    omega (
-      arith,
-      c.in_default.ensures.one,
-      reach_high c.args.text.now c.args.from c.requires.within,
-    )
-
-pub returns-clause-found : goal.returns-clause-found
-returns-clause-found c =
-    word_lexeme c.args.text.now c.args.from c.in-Some.end c.skip.result _ c.in-Some.ensures.found
-    c.skip.ensures.skip c.skip.ensures.order c.skip.ensures.fits
-
-pub returns-clause-cost : goal.returns-clause-cost
-returns-clause-cost c =
-    omega (
-      arith,
-      c.in-Some.ensures.cost,
-      c.in-Some.ensures.found.some,
-      c.skip.ensures.cost,
-      reach_here c.args.text.now c.args.from (word_no_slash _ _ _ _ c.in-Some.ensures.found),
-      reach_low c.args.text.now c.skip.result c.skip.ensures.fits,
-      c.skip.ensures.order,
-    )
-
-pub returns-clause-most : goal.returns-clause-most
-returns-clause-most c =
-    omega (
-      arith,
-      c.in-Some.ensures.cost,
-      c.in-Some.ensures.found.some,
-      c.skip.ensures.cost,
-      reach_here c.args.text.now c.args.from (word_no_slash _ _ _ _ c.in-Some.ensures.found),
-      reach_low c.args.text.now c.skip.result c.skip.ensures.fits,
-      reach_high c.args.text.now c.skip.result c.skip.ensures.fits,
-      c.skip.ensures.order,
-      c.skip.ensures.fits,
-    )
+pub returns-in_default : goal.returns-in_default
+returns-in_default c = record {
+  found = tt;
+  none = no_string_there _ _ _ _ c.in-Err.ensures.err
+      (λ m. c.in_default.not-Memory (c.expected.ensures ∙ ap (λ e. e.expected) m));
+  cost = tt;
+  most = c.string_or.ensures.most;
+}

@@ -1,7 +1,7 @@
 use Rattle.std.proofs.Common.{◌≡◌, ◌-◌, min}
 use Rattle.resb_grammar.specs.ByteRuns.{Each, is_digit}
 use Rattle.resb_grammar.specs.Lexical.{digits_value}
-use Rattle.resb_text.proofs.runs.digits_end.Given as goal
+use Rattle.resb_grammar.proofs.runs.digits_end.Given as goal
 
 abbrev pub invariant-loop-at : goal.invariant-loop-at
 invariant-loop-at l = record {

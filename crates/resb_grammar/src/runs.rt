@@ -1,0 +1,59 @@
+//! Where a run of blanks or of digits ends among bytes, and minus a number modulo 2 ^ 32.
+//! The readers of both text forms count their turns beside it. Words aren't read here: the two forms
+//! have them of other characters.
+ghost use Rattle.std.specs.Prelude.{◌≡◌, ◌-◌, ◌<◌, ◌≤◌, min, length};
+ghost use Rattle.resb_grammar.specs.ByteRuns as spec;
+ghost use Rattle.resb_grammar.specs.ByteRuns.{Run, is_digit};
+ghost use Rattle.resb_grammar.specs.Lexical as lexical;
+ghost use Rattle.resb_grammar.specs.Lexical.{digits_value};
+
+/// Whether a byte is blank: a space, a tab or the end of a line.
+fn is_white(b: u8) -> bool
+    ensures { result ≡ spec.is_white b }
+{
+    b == b' ' || b == b'\t' || b == b'\r' || b == b'\n'
+}
+
+/// Where the run of blanks ends.
+pub fn blanks_end(bytes: &[u8], from: usize) -> usize
+    requires { from ≤ length bytes.now }
+    ensures { Run spec.is_white bytes.now from result }
+{
+    let end = bytes.len();
+    for at in from..end {
+        if !is_white(bytes[at]) {
+            return at;
+        }
+    }
+    end
+}
+
+/// Where the run of digits ends, and their value, or 2 ^ 32 where it is larger.
+pub fn digits_end(bytes: &[u8], from: usize) -> (usize, u64)
+    requires { from ≤ length bytes.now }
+    ensures run { Run is_digit bytes.now from result.0 }
+    ensures value { result.1 ≡ min (digits_value bytes.now from (result.0 - from)) 4294967296 }
+{
+    let mut value = 0u64;
+    let end = bytes.len();
+    for at in from..end {
+        let b = bytes[at];
+        if !b.is_ascii_digit() {
+            return (at, value);
+        }
+        value = (value * 10 + (b - b'0') as u64).min(1 << 32);
+    }
+    (end, value)
+}
+
+/// Minus the value, modulo 2 ^ 32.
+pub fn negated(value: u64) -> u32
+    requires { value < 4294967296 }
+    ensures { result ≡ lexical.negated value }
+{
+    if value == 0 {
+        0
+    } else {
+        (4294967296 - value) as u32
+    }
+}

@@ -17,7 +17,7 @@ use Rattle.std.specs.List.Sorted.{IsStrictlySortedBy}
 use Rattle.std.specs.Map.{keys_of as pair_keys}
 use Rattle.std.specs.Ordering.{is_lt}
 use Rattle.std.proofs.Common.{Ordering, Less, Equal, Greater}
-use Rattle.resb_tree.proofs.LayingOrderLemmas.{walk_is, members-trees_of}
+use Rattle.resb_tree.proofs.LayingOrderLemmas.{laying_order_is, members-trees_of}
 use Rattle.resb_tree.proofs.MapsLemmas.{map_of-sorted}
 use Rattle.resb_tree.specs.Maps.{text_cmp}
 use Rattle.resb_tree.specs.Equality.{tree_eq}
@@ -581,7 +581,7 @@ term_on old new (terms.Group x) t e h = holds_on old new x (t ∷ []) e h
 pub array_order : (ts : List Tree)
     → laying_order (array (trees_of ts)) ≡ flat_map laying_order ts ++ array (trees_of ts) ∷ []
 array_order ts =
-    walk_is (array (trees_of ts))
+    laying_order_is (array (trees_of ts))
     ∙ ap (λ l. flat_map laying_order l ++ array (trees_of ts) ∷ []) (members-trees_of ts)
 
 each_keys : (ts : List Tree) → flat_map own_keys (flat_map laying_order ts) ≡ flat_map keys_of ts
@@ -609,7 +609,7 @@ keys-entries_of (e ∷ es) = ap (λ l. e.0 ∷ l) (keys-entries_of es)
 pub table_order : (es : List (List ℕ × Tree)) → laying_order (table (entries_of es))
     ≡ flat_map laying_order (map (λ e. e.1) es) ++ table (entries_of es) ∷ []
 table_order es =
-    walk_is (table (entries_of es))
+    laying_order_is (table (entries_of es))
     ∙ ap (λ l. flat_map laying_order l ++ table (entries_of es) ∷ []) (values-entries_of es)
 
 pub table_keys : (es : List (List ℕ × Tree)) (ks : List (List ℕ)) → ks ≡ map (λ e. e.0) es

@@ -6,7 +6,7 @@ use Rattle.resb_tree.specs.LayingOrder.{values_of, entry_keys}
 use Rattle.resb_tree.specs.Tree.{Tree, string, array, table, binary, integer, int_vector}
 use Rattle.resb_draft.specs.Rows.{is_piece, are_pieces, has_entries}
 use Rattle.resb_draft.specs.declared.row.Piece.{Piece}
-use Rattle.resb_write.specs.Inner.Nodes.{Fits, HasEntries}
+use Rattle.resb_write.specs.Inner.Nodes.{Fits, IsTableOf}
 use Rattle.resb_write.proofs.DraftNodes.{sorted_from_ascend}
 
 -- pieces that fit trees
@@ -20,7 +20,7 @@ pieces_fit (p ∷ ps) (t ∷ ts) h =
     (both.0, pieces_fit ps ts both.1)
 
 -- a table that a piece fits
-pub entries_fit : (n : ℕ) (t : Tree) → has_entries n t ≡ true → HasEntries n t
+pub entries_fit : (n : ℕ) (t : Tree) → has_entries n t ≡ true → IsTableOf n t
 entries_fit n (string s) h = absurd (false≢true h)
 entries_fit n (array ts) h = absurd (false≢true h)
 entries_fit n (table es) h =

@@ -48,7 +48,7 @@ pub use Rattle.resb_print.specs.Laws as PrintLaws
 pub use Rattle.resb_format.specs.Bytes
 pub use Rattle.resb_format.specs.Units
 pub use Rattle.resb_format.specs.Strings
-pub use Rattle.resb_format.specs.StringFaults
+pub use Rattle.resb_format.specs.StringMessage
 pub use Rattle.resb_format.specs.Types
 pub use Rattle.resb_format.specs.Descriptor
 pub use Rattle.resb_format.specs.Coded

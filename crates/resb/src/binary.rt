@@ -6,11 +6,11 @@ pub mod bytes;
 pub mod helpers;
 
 pub use resb_format::{
-    BinaryDeserializerError, BodyParts, ErrorKind, MAX_UNMARKED, ReadingError, ResDescriptor,
+    BinaryDeserializerError, ErrorKind, FileBlocks, MAX_UNMARKED, ReadingError, ResDescriptor,
     ResourceReprType, is_unmarked, marker_units, string_at,
 };
 pub use resb_head::{
-    BinHeader, BinIndex, BinReprInfo, CharsetFamily, Endianness, FileParts, FormatVersion,
+    BinHeader, BinIndex, BinReprInfo, CharsetFamily, CheckedFile, Endianness, FormatVersion,
 };
 pub use resb_pool::{Plan, PlanError, pool};
 pub use resb_read::{

@@ -2,7 +2,7 @@
 use Rattle.std.specs.Prelude.{◌≡◌, ◌⊎◌, ◌<◌, ℕ, ◌/◌, ◌%◌, Bool, not, nat_eq, List, drop, unwrap_or}
 use Rattle.std.specs.Prelude.{length, Some, false}
 use Rattle.resb_head.specs.Head.{HeaderAt, IndexAt}
-use Rattle.resb_head.specs.HeadChecks.{header_fault, index_fault}
+use Rattle.resb_head.specs.HeadChecks.{header_refusal, index_refusal}
 use Rattle.resb_format.specs.Error.{refusal_of, IsEndOfInput}
 use Rattle.resb_format.specs.declared.error.ReadingError.{ReadingError}
 use Rattle.resb_head.specs.File.{body_of}
@@ -35,6 +35,6 @@ pub record Summarizes (bytes : List ℕ) (s : Summary) : Type 0 where
 -- the index that fails
 abbrev pub HasNoSummary : List ℕ → ReadingError → Type 0
 HasNoSummary bytes e =
-    (header_fault false bytes ≡ Some (refusal_of e))
+    (header_refusal false bytes ≡ Some (refusal_of e))
     ⊎ (length (body_of bytes) < 4 × IsEndOfInput e)
-    ⊎ (index_fault (drop 4 (body_of bytes)) ≡ Some (refusal_of e))
+    ⊎ (index_refusal (drop 4 (body_of bytes)) ≡ Some (refusal_of e))

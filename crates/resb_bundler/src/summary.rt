@@ -29,7 +29,7 @@ fn has_bit(attributes: u32, value: u32) -> bool
     attributes / value % 2 == 1
 }
 
-/// What the head of a file says. It is refused as `FileParts::read` refuses a header, for a file
+/// What the head of a file says. It is refused as `CheckedFile::read` refuses a header, for a file
 /// that ends before its index, and for an index that is none. Formats that aren't read have a
 /// summary too.
 pub fn summary_of(file: &[u8]) -> Result<Summary, BinaryDeserializerError>

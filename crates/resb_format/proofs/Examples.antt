@@ -11,8 +11,8 @@ use Rattle.resb_format.specs.Units.{length_marker}
 use Rattle.resb_format.specs.Strings.{string_at, text_at, key_at}
 use Rattle.resb_format.specs.Parts.{Parts}
 use Rattle.resb_format.specs.Content.{Member, word, unit, leaf, list, entry_list, content_at}
-use Rattle.resb_format.specs.Denotes.{Den, den_leaf, den_list, den_pairs, den_word, den_unit}
-use Rattle.resb_format.specs.Denotes.{DenEach, each_none, each_more, pairs_none, pairs_more}
+use Rattle.resb_format.specs.Denotes.{Den, den_leaf, den_list, den_entries, den_word, den_unit}
+use Rattle.resb_format.specs.Denotes.{DenEach, each_none, each_more, entries_none, entries_more}
 use Rattle.resb_format.proofs.Denoting.{unique}
 
 -- Strings at a unit: markers of one, two and three units, also on short strings, and every string's
@@ -170,7 +170,7 @@ table_denotes : Den small 0x5000_0003 (table (entry (97 ∷ []) (string (120 ∷
 unfolding content_at small words_of units_of text_at string_at utf16_chars key_at lib.Utf8.encode
 table_denotes =
     let key : key_at small.keys 0 ≡ Some (97 ∷ []) = rw (ascii_key 97 (omega arith)) refl in
-    den_pairs refl (pairs_more key (den_unit refl) pairs_none)
+    den_entries refl (entries_more key (den_unit refl) entries_none)
 
 -- An array that holds itself denotes nothing.
 looped : Parts
@@ -200,7 +200,7 @@ loop_step : {w n : ℕ} {t : Tree} → Den looped w t n → w ≡ 0x8000_0001
 loop_step (den_leaf {w = w} f) e =
     let g : content_at looped w ≡ Some (list (word 0x8000_0001 ∷ [])) =
     ap (content_at looped) e ∙ loop_content in absurd (cc)
-loop_step (den_pairs {w = w} f ds) e =
+loop_step (den_entries {w = w} f ds) e =
     let g : content_at looped w ≡ Some (list (word 0x8000_0001 ∷ [])) =
     ap (content_at looped) e ∙ loop_content in absurd (cc)
 loop_step (den_list {w = w} {n = n} {ms = ms} f ds) e =

@@ -5,6 +5,7 @@ use Rattle.std.specs.Prelude.{slice_get, if◌then◌else◌}
 use Rattle.resb_tree.specs.Tree.{Tree, string, array, table, binary, integer, int_vector}
 use Rattle.resb_tree.specs.Tree.{trees_of}
 use Rattle.resb_tree.specs.Maps.{AreMaps, AreMapsIn}
+use Rattle.resb_tree.specs.Inner.Dropping.{IsNoCollection}
 use Rattle.resb_tree.proofs.MapsLemmas.{AllAreMaps, AreMaps-map_of}
 use Rattle.resb_format.specs.Bytes.{units_of, words_of, part}
 use Rattle.resb_format.specs.Strings.{text_at}
@@ -13,22 +14,14 @@ use Rattle.resb_format.specs.Types as types
 use Rattle.resb_format.specs.Content.{Member, Content, leaf, list, entry_list, content_at}
 use Rattle.resb_format.specs.Content.{behind_count, paired}
 use Rattle.resb_format.specs.Content.{words_at, offsets_at, placed, empty}
-use Rattle.resb_format.specs.Denotes.{Den, den_leaf, den_list, den_pairs, DenMember, den_word}
-use Rattle.resb_format.specs.Denotes.{den_unit, DenEach, each_none, each_more, DenPairs, pairs_none}
-use Rattle.resb_format.specs.Denotes.{pairs_more}
-
--- no array and no table
-abbrev pub IsLeaf : Tree → Type 0
-IsLeaf (string s) = Unit {0}
-IsLeaf (array ts) = ⊥
-IsLeaf (table es) = ⊥
-IsLeaf (binary s) = Unit {0}
-IsLeaf (integer n) = Unit {0}
-IsLeaf (int_vector ns) = Unit {0}
+use Rattle.resb_format.specs.Denotes.{Den, den_leaf, den_list, den_entries, DenMember, den_word}
+use Rattle.resb_format.specs.Denotes.{den_unit, DenEach, each_none, each_more, DenEntries}
+use Rattle.resb_format.specs.Denotes.{entries_none}
+use Rattle.resb_format.specs.Denotes.{entries_more}
 
 -- what is finished is a tree of maps, and a leaf
 abbrev IsPlain : Option Content → Type 0
-IsPlain (Some (leaf t)) = AreMaps t × IsLeaf t
+IsPlain (Some (leaf t)) = AreMaps t × IsNoCollection t
 IsPlain (Some (list ms)) = Unit {0}
 IsPlain (Some (entry_list es)) = Unit {0}
 IsPlain None = Unit {0}
@@ -92,11 +85,12 @@ plain_content p w =
     (plain_placed p (w / 2 ^ 28) (w % 2 ^ 28)))
 
 leaf_maps : {o : Option Content} {t : Tree} → o ≡ Some (leaf t)
-    → IsPlain o → AreMaps t × IsLeaf t
+    → IsPlain o → AreMaps t × IsNoCollection t
 leaf_maps e h = subst IsPlain e h
 
 -- what stands at a word without members is a leaf
-pub content_leaf : (p : Parts) (w : ℕ) (t : Tree) → content_at p w ≡ Some (leaf t) → IsLeaf t
+pub content_leaf : (p : Parts) (w : ℕ) (t : Tree) → content_at p w ≡ Some (leaf t)
+    → IsNoCollection t
 content_leaf p w t e = (leaf_maps e (plain_content p w)).1
 
 module _ (p : Parts) where
@@ -104,7 +98,7 @@ module _ (p : Parts) where
     pub denoted_maps : {w n : ℕ} {t : Tree} → Den p w t n → AreMaps t
     denoted_maps (den_leaf {w = w'} e) = (leaf_maps e (plain_content p w')).0
     denoted_maps (den_list e d) = each_maps d
-    denoted_maps (den_pairs {ts = ts'} e d) = AreMaps-map_of ts' (pairs_maps d)
+    denoted_maps (den_entries {ts = ts'} e d) = AreMaps-map_of ts' (entries_maps d)
 
     member_maps : {m : Member} {n : ℕ} {t : Tree} → DenMember p m t n → AreMaps t
     member_maps (den_word d) = denoted_maps d
@@ -115,7 +109,7 @@ module _ (p : Parts) where
     each_maps each_none = tt
     each_maps (each_more d ds) = (member_maps d, each_maps ds)
 
-    pairs_maps : {es : List (ℕ × Member)} {n : ℕ} {ts : List (List ℕ × Tree)}
-        → DenPairs p es ts n → AllAreMaps ts
-    pairs_maps pairs_none = tt
-    pairs_maps (pairs_more k d ds) = (member_maps d, pairs_maps ds)
+    entries_maps : {es : List (ℕ × Member)} {n : ℕ} {ts : List (List ℕ × Tree)}
+        → DenEntries p es ts n → AllAreMaps ts
+    entries_maps entries_none = tt
+    entries_maps (entries_more k d ds) = (member_maps d, entries_maps ds)

@@ -8,7 +8,7 @@ use Rattle.std.proofs.lemmas.Bool.Decides.{nat_tests}
 use Rattle.resb_format.specs.Bytes.{units_of, part}
 use Rattle.resb_format.specs.Error.{end_message}
 use Rattle.resb_format.specs.Strings.{before_zero, string_from, string_at}
-use Rattle.resb_format.specs.StringFaults.{string_fault}
+use Rattle.resb_format.specs.StringMessage.{string_message}
 use Rattle.resb_format.proofs.Inside.{units_outside}
 use Rattle.resb_format.proofs.Spelled.{units_length}
 use Rattle.resb_format.proofs.Lists.{take_within}
@@ -53,11 +53,12 @@ nothing_past : (us : List ℕ) (u : ℕ) → length us ≤ u → string_at us u 
 unfolding string_at
 nothing_past us u h = rw (get_or_past us u 0 h, drop_all u us h) refl
 
-pub past_end : (bs : List ℕ) (u : ℕ) → length bs / 2 ≤ u → string_at (units_of bs) u ≡ None
-past_end bs u h = nothing_past (units_of bs) u (omega (arith, units_length bs))
+pub no_string_past_end : (bs : List ℕ) (u : ℕ) → length bs / 2 ≤ u
+    → string_at (units_of bs) u ≡ None
+no_string_past_end bs u h = nothing_past (units_of bs) u (omega (arith, units_length bs))
 
 pub past_end_fault : (bs : List ℕ) (u : ℕ) → length bs / 2 ≤ u
-    → string_fault (units_of bs) u ≡ end_message
+    → string_message (units_of bs) u ≡ end_message
 past_end_fault bs u h = grind (arith, nat_tests, units_length bs)
 
 -- with a marker
@@ -67,7 +68,7 @@ unfolding string_at
 at_marker us u first e = rw e refl
 
 pub marker_fault : (us : List ℕ) (u first : ℕ) → first ≡ get_or us u 0 → 0xdc00 ≤ first
-    → first ≤ 0xdfff → string_fault us u ≡ end_message
+    → first ≤ 0xdfff → string_message us u ≡ end_message
 marker_fault us u first e g h = grind (arith, nat_tests)
 
 -- without one
@@ -82,6 +83,6 @@ at_none us u first e h = at_marker us u first e ∙ no_marker us u first h
 
 pub none_fault : (us : List ℕ) (u first : ℕ) → first ≡ get_or us u 0
     → (first < 0xdc00) ⊎ (0xdfff < first) → u < length us
-    → string_fault us u ≡ codes "unterminated string with implicit length"
+    → string_message us u ≡ codes "unterminated string with implicit length"
 none_fault us u first e (inl g) h = grind (arith, nat_tests)
 none_fault us u first e (inr g) h = grind (arith, nat_tests)

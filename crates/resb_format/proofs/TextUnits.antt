@@ -11,9 +11,9 @@ use Rattle.std.proofs.lemmas.Bool.Decides.{nat_tests}
 use Rattle.resb_format.specs.Units.{units}
 
 -- only the empty text has no byte
-pub no_chars : (cs : List ℕ) → length (encode_utf8_all cs) ≡ 0 → cs ≡ []
-no_chars [] e = refl
-no_chars (c ∷ cs) e =
+pub empty_encoding : (cs : List ℕ) → length (encode_utf8_all cs) ≡ 0 → cs ≡ []
+empty_encoding [] e = refl
+empty_encoding (c ∷ cs) e =
     absurd (omega
     (arith, len_utf8_bounds c, length-encode c, length-append (encode c) (encode_utf8_all cs)))
 

@@ -16,8 +16,8 @@ module _ (p : Parts) where
       den_leaf : {w : ℕ} {t : Tree} → content_at p w ≡ Some (leaf t) → Den w t 1
       den_list : {w n : ℕ} {ms : List Member} {ts : List Tree} → content_at p w ≡ Some (list ms)
           → DenEach ms ts n → Den w (array (trees_of ts)) (1 + n)
-      den_pairs : {w n : ℕ} {es : List (ℕ × Member)} {ts : List (List ℕ × Tree)}
-          → content_at p w ≡ Some (entry_list es) → DenPairs es ts n
+      den_entries : {w n : ℕ} {es : List (ℕ × Member)} {ts : List (List ℕ × Tree)}
+          → content_at p w ≡ Some (entry_list es) → DenEntries es ts n
           → Den w (table (map_of ts)) (1 + n)
 
     -- a member, which is a resource too
@@ -32,11 +32,11 @@ module _ (p : Parts) where
           → DenMember m t j → DenEach ms ts k → DenEach (m ∷ ms) (t ∷ ts) (j + k)
 
     -- each entry has its key and tree
-    pub data DenPairs : List (ℕ × Member) → List (List ℕ × Tree) → ℕ → Type 0 where
-      pairs_none : DenPairs [] [] 0
-      pairs_more : {m : Member} {at j k : ℕ} {es : List (ℕ × Member)} {key : List ℕ} {t : Tree}
+    pub data DenEntries : List (ℕ × Member) → List (List ℕ × Tree) → ℕ → Type 0 where
+      entries_none : DenEntries [] [] 0
+      entries_more : {m : Member} {at j k : ℕ} {es : List (ℕ × Member)} {key : List ℕ} {t : Tree}
           {ts : List (List ℕ × Tree)} → key_at p.keys at ≡ Some key → DenMember m t j
-          → DenPairs es ts k → DenPairs ((at, m) ∷ es) ((key, t) ∷ ts) (j + k)
+          → DenEntries es ts k → DenEntries ((at, m) ∷ es) ((key, t) ∷ ts) (j + k)
 
   mutual
     -- a word reaches one resource, its own; and one more than is reached in its members or entries
@@ -45,8 +45,8 @@ module _ (p : Parts) where
       reaches_list : {w n : ℕ} {ms : List Member} → content_at p w ≡ Some (list ms)
           → ReachesEach ms n
           → Reaches w (1 + n)
-      reaches_pairs : {w n : ℕ} {es : List (ℕ × Member)} → content_at p w ≡ Some (entry_list es)
-          → ReachesPairs es n → Reaches w (1 + n)
+      reaches_entries : {w n : ℕ} {es : List (ℕ × Member)} → content_at p w ≡ Some (entry_list es)
+          → ReachesEntries es n → Reaches w (1 + n)
 
     -- a member that is a word reaches what the word does, a string of a short collection one
     pub data ReachesMember : Member → ℕ → Type 0 where
@@ -62,9 +62,9 @@ module _ (p : Parts) where
 
     -- so many resources are reached in one of the entries, whose key stands, behind entries that
     -- denote
-    pub data ReachesPairs : List (ℕ × Member) → ℕ → Type 0 where
-      pairs_here : {m : Member} {at n : ℕ} {es : List (ℕ × Member)} {key : List ℕ}
-          → key_at p.keys at ≡ Some key → ReachesMember m n → ReachesPairs ((at, m) ∷ es) n
-      pairs_later : {m : Member} {at j n : ℕ} {es : List (ℕ × Member)} {key : List ℕ} {t : Tree}
-          → key_at p.keys at ≡ Some key → DenMember m t j → ReachesPairs es n
-          → ReachesPairs ((at, m) ∷ es) (j + n)
+    pub data ReachesEntries : List (ℕ × Member) → ℕ → Type 0 where
+      entries_here : {m : Member} {at n : ℕ} {es : List (ℕ × Member)} {key : List ℕ}
+          → key_at p.keys at ≡ Some key → ReachesMember m n → ReachesEntries ((at, m) ∷ es) n
+      entries_later : {m : Member} {at j n : ℕ} {es : List (ℕ × Member)} {key : List ℕ} {t : Tree}
+          → key_at p.keys at ≡ Some key → DenMember m t j → ReachesEntries es n
+          → ReachesEntries ((at, m) ∷ es) (j + n)

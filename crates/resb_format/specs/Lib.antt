@@ -17,6 +17,6 @@ pub mod Types
 pub mod Descriptor
 pub mod Coded
 pub mod Views
-pub mod StringFaults
+pub mod StringMessage
 pub mod DescriptorReading
 pub mod Laws

@@ -3,23 +3,23 @@
 //! reading and writing are in the crates above.
 #![tactic(auto)]
 
-mod body_parts;
 pub mod bytes;
 mod casts;
 mod descriptor;
 mod error;
+mod file_blocks;
 pub mod laws;
 mod repr_type;
 mod units;
 mod views;
 
-pub use body_parts::BodyParts;
 pub use casts::{
     cast_bytes_to_u16_slice, cast_bytes_to_u32_slice, cast_u32_to_i32_pair_slice,
     cast_u32_to_i32_slice,
 };
 pub use descriptor::ResDescriptor;
 pub use error::{BinaryDeserializerError, ErrorKind, ReadingError};
+pub use file_blocks::FileBlocks;
 pub use repr_type::ResourceReprType;
 pub use resb_tree::{Int28, Key, NoMemory, Resource, ResourceBundle, Table};
 pub use units::{MAX_UNMARKED, is_unmarked, marker_units, string_at, utf16_len};

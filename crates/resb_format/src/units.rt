@@ -5,7 +5,7 @@ ghost use Rattle.std.specs.Prelude.{slice_index, nat_le, Some, None, MatchResult
 ghost use Rattle.std.specs.List.{position_or_len};
 ghost use Rattle.resb_format.specs.Bytes.{units_of, part};
 ghost use Rattle.resb_format.specs.Error.{IsEndOfInput, IsInvalid};
-ghost use Rattle.resb_format.specs.StringFaults as said;
+ghost use Rattle.resb_format.specs.StringMessage as said;
 ghost use Rattle.resb_format.specs.Strings as strings;
 ghost use Rattle.resb_format.specs.Units as text_units;
 ghost use Rattle.resb_format.specs.Views.{view_units};
@@ -24,11 +24,11 @@ pub const MAX_UNMARKED: usize = 40;
 ///
 /// A string that does not lie inside the block is refused as the end of the input,
 /// and one that has no marker and no 0 in time as unterminated.
-#[tactic(auto, using(crate::proofs::StringsIn::past_end, crate::proofs::StringsIn::past_end_fault))]
+#[tactic(auto, using(crate::proofs::StringsIn::no_string_past_end, crate::proofs::StringsIn::past_end_fault))]
 pub fn string_at(block: &[u8], unit: usize) -> Result<Utf16View<'_>, BinaryDeserializerError>
     ensures { let us = units_of block.now in
         MatchResult result (λ v. strings.string_at us unit ≡ Some (view_units v))
-        (λ e. (strings.string_at us unit ≡ None) × IsInvalid e (said.string_fault us unit)) }
+        (λ e. (strings.string_at us unit ≡ None) × IsInvalid e (said.string_message us unit)) }
 {
     let first = some_unit(block, unit)?;
     match first {

@@ -3,7 +3,7 @@
 use crate::head_rows::damaged;
 use crate::refusals::is_refused;
 use resb_format::ErrorKind;
-use resb_head::FileParts;
+use resb_head::CheckedFile;
 use std::test::Fail;
 
 /// The file of the string "a", with locale fallback and no keys.
@@ -85,7 +85,7 @@ const DAMAGES: [(usize, u8, ErrorKind, &str); 16] = [
 
 /// Whether the file's parts are those of the string "a".
 fn has_its_parts() -> bool {
-    match FileParts::read(FILE.as_slice()) {
+    match CheckedFile::read(FILE.as_slice()) {
         Ok(parts) => {
             parts.root == 0x6000_0001
                 && parts.file.body == &FILE[32..]
@@ -105,7 +105,7 @@ fn a_file_has_its_parts(rt: HostRuntime) {
 fn each_damage_to_the_head_is_named(rt: HostRuntime) -> Result<(), Fail> {
     for (place, byte, kind, message) in DAMAGES {
         let bytes = damaged(rt.alloc(), FILE.as_slice(), place, byte)?;
-        let refused = is_refused(FileParts::read(bytes.as_slice()), kind, message);
+        let refused = is_refused(CheckedFile::read(bytes.as_slice()), kind, message);
         assert!(rt; refused, "byte {byte} at {place}");
     }
     Ok(())
@@ -117,6 +117,6 @@ fn a_head_cut_short_is_named(rt: HostRuntime) {
     for length in 0..64usize {
         let (cut, _) = FILE.as_slice().split_at(length);
         let message = if length < 24 { short } else { END };
-        assert!(rt; is_refused(FileParts::read(cut), ErrorKind::InvalidData, message));
+        assert!(rt; is_refused(CheckedFile::read(cut), ErrorKind::InvalidData, message));
     }
 }

@@ -1,7 +1,6 @@
 -- Laws of bytes and runs.
-use Rattle.std.proofs.Common.{◌≡◌, ◌≢◌, ℕ, ◌+◌, ◌<◌, ◌≤◌, Bool, true, List, length}
+use Rattle.std.proofs.Common.{◌≡◌, ℕ, ◌+◌, ◌<◌, ◌≤◌, Bool, true, List}
 use Rattle.std.proofs.Common.{get_or, arith, subst, sym, ◌∙◌, ⊎_elim}
-use Rattle.std.proofs.lemmas.List.{get_or_past}
 use Rattle.std.proofs.lemmas.Bool.{cases_lt, false≢true}
 use Rattle.std.proofs.lemmas.Bool.Decides.{nat_tests}
 use Rattle.resb_grammar.specs.ByteRuns.{is_word, Each, Run}
@@ -13,13 +12,6 @@ word_ascii b h = grind (arith, nat_tests)
 -- a byte of a word is not 0
 pub word_some : (b : ℕ) → is_word b ≡ true → 0 < b
 word_some b h = grind (arith, nat_tests)
-
--- a byte other than 0 stands inside the text
-pub nonzero_inside : (text : List ℕ) (i : ℕ) → 0 < get_or text i 0 → i < length text
-nonzero_inside text i h =
-    ⊎_elim (λ (w : i < length text). w)
-    (λ (w : length text ≤ i). absurd (omega (arith, get_or_past text i 0 w)))
-    (cases_lt i (length text))
 
 -- one more byte of a run
 pub each_more : (p : ℕ → Bool) (text : List ℕ) (from at : ℕ) → Each p text from at

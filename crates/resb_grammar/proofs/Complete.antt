@@ -153,12 +153,12 @@ module _ (text : List ℕ) where
       run_vector from to last ns o v at h skip
 
   -- a type and its `{`
-  pub run_head : (from to : ℕ) (kind : Kind) (title : Title) (body : Body) (xs : List Item)
+  pub run_opening : (from to : ℕ) (kind : Kind) (title : Title) (body : Body) (xs : List Item)
       (around : List Frame)
       → TypedOpening text from kind to → MayOpen body xs
       → At text from (inside (open_at title body xs around))
       → At text to (begun_as kind (open_at title body xs around))
-  run_head from to kind title body xs around head may at =
+  run_opening from to kind title body xs around head may at =
       let type : At text head.brace
       (typed kind (open_at title body xs around)) = further text from head.ends head.brace _ _
       (a_type kind) type_class at
@@ -232,7 +232,7 @@ module _ (text : List ℕ) where
     run_group from to t ks
         (typed_table _ i k xs head inner pairs h') title body ys around may at last after =
         let opened : At text i (inside (within table_body (open_at title body ys around))) =
-        run_head from i table_kind title body ys around head may at in
+        run_opening from i table_kind title body ys around head may at in
         let full : At text k (inside (open_at title table_body xs (record {
           body = body;
           items = ys;
@@ -250,7 +250,7 @@ module _ (text : List ℕ) where
     run_group from to t ks
         (typed_array _ i k xs head inner h') title body ys around may at last after =
         let opened : At text i (inside (within array_body (open_at title body ys around))) =
-        run_head from i array_kind title body ys around head may at in
+        run_opening from i array_kind title body ys around head may at in
         let full : At text k (inside (open_at title array_body xs (record {
           body = body;
           items = ys;
@@ -264,7 +264,7 @@ module _ (text : List ℕ) where
     run_group from to t ks
         (typed_leaf _ i k kind _ head content h') title body ys around may at last after =
         run_content i k last kind t (open_at title body ys around) content
-        (run_head from i kind title body ys around head may at) h' after
+        (run_opening from i kind title body ys around head may at) h' after
 
   pub complete : (name : List ℕ) (fallback : Bool) (tree : Tree) (keys : List (List ℕ))
       → (b : BundleText text name fallback tree keys)

@@ -25,7 +25,7 @@ use Rattle.resb_grammar.specs.Stuck.{expected, NoToken, Stuck, blocked}
 use Rattle.resb_grammar.specs.Limit.{made_by}
 use Rattle.resb_grammar.specs.declared.expected.Expected.TheVariants as expect
 use Rattle.resb_grammar.proofs.ByteRunsLemmas.{Run-one}
-use Rattle.resb_grammar.proofs.LexLemmas.{lex_of}
+use Rattle.resb_grammar.proofs.FirstBytes.{lex_of}
 use Rattle.resb_grammar.proofs.Moves.{begin, further, none_some}
 
 -- in the root of a bundle of this name, after these items

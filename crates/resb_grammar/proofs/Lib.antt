@@ -4,7 +4,7 @@ pub mod DistinctKeys
 pub mod HalfLemmas
 pub mod Moves
 pub mod Lex
-pub mod LexLemmas
+pub mod FirstBytes
 pub mod Unique
 pub mod HeaderPath
 pub mod Complete
@@ -14,7 +14,7 @@ pub mod Listed
 pub mod KeyPlaces
 pub mod Making
 pub mod MadeOnce
-pub mod ReaderLemmas
+pub mod BothReaders
 mod Examples
 mod HexPairs
 pub mod Numbers

@@ -19,6 +19,7 @@ use Rattle.resb_grammar.specs.Group.{string_content, binary_content, integer_con
 use Rattle.resb_grammar.specs.Group.{vector_content}
 use Rattle.resb_grammar.specs.GroupTypes.{Kind}
 use Rattle.resb_grammar.specs.BundleText.{BundleText, first_places}
+use Rattle.resb_grammar.proofs.Numbers.{one_of_or}
 
 -- k is a term of the list
 abbrev pub In : List ℕ → List (List ℕ) → Type 0
@@ -35,11 +36,6 @@ in_left k (x ∷ xs) ys (inr h) = inr (in_left k xs ys h)
 pub in_right : (k : List ℕ) (xs ys : List (List ℕ)) → In k ys → In k (xs ++ ys)
 in_right k [] ys h = h
 in_right k (x ∷ xs) ys h = inr (in_right k xs ys h)
-
--- where one of two holds, the first or the second does
-pub one_of_or : (a b : Bool) → (a || b) ≡ true → (a ≡ true) ⊎ (b ≡ true)
-one_of_or true b h = inl refl
-one_of_or false b h = inr h
 
 -- k is a key of one of the pairs, or of some table of their trees
 abbrev pub KeyOf : List ℕ → List (List ℕ × Tree) → Type 0

@@ -10,7 +10,7 @@ use Rattle.resb_grammar.specs.Machine.{Title, State, finished, Move, Path, begun
 use Rattle.resb_grammar.specs.Stuck.{NoToken}
 use Rattle.resb_grammar.specs.Limit.{made_by, path_bytes, Makes, MadeWithin, MakesMore}
 use Rattle.resb_grammar.proofs.Lex.{mode, class_in, Lex}
-use Rattle.resb_grammar.proofs.LexLemmas.{lex_of}
+use Rattle.resb_grammar.proofs.FirstBytes.{lex_of}
 use Rattle.resb_grammar.proofs.Unique.{Lex-one, Path-one, Path-front}
 use Rattle.resb_grammar.proofs.Complete.{complete}
 use Rattle.resb_grammar.proofs.GrammarLaws.{no_token_finished}

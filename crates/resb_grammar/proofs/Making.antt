@@ -119,10 +119,10 @@ module _ (text : List ℕ) where
   content_made n from to kind t o (vector_content ns v) made = vector_made n from to ns o v made
 
   -- a type and its `{`: up to the `{`, and what it leads to
-  pub head_made : (n from to : ℕ) (kind : Kind) (o : Open) → (h : TypedOpening text from kind to)
+  pub opening_made : (n from to : ℕ) (kind : Kind) (o : Open) → (h : TypedOpening text from kind to)
       → next (inside o) (a_type kind) ≡ Some (typed kind o) → Makes text n from (inside o)
       → Makes text n h.brace (typed kind o)
-  head_made n from to kind o h may made =
+  opening_made n from to kind o h may made =
       makes_on n n from h.ends h.brace _ _ (a_type kind) made
       (plus_no_bytes n) h.named may h.between
 
@@ -131,7 +131,7 @@ module _ (text : List ℕ) where
       → next (inside o) (a_type kind) ≡ Some (typed kind o) → Makes text n from (inside o)
       → m ≡ n + begun_bytes kind → Makes text m to (begun_as kind o)
   begun_made n m from to kind o h may made e =
-      makes_on n m h.brace (h.brace + 1) to _ _ opening (head_made n from to kind o h may made) e
+      makes_on n m h.brace (h.brace + 1) to _ _ opening (opening_made n from to kind o h may made) e
       (h.opens, refl) refl h.after
 
   -- before the root's `{`

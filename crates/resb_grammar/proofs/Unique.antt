@@ -21,14 +21,9 @@ use Rattle.resb_grammar.proofs.Lex.{Class, text_class, number_class, open_class,
 use Rattle.resb_grammar.proofs.Lex.{comma_class, type_class, root_type_class, no_class}
 use Rattle.resb_grammar.proofs.Lex.{class_in, Lex, mode}
 use Rattle.resb_grammar.specs.Stuck.{NoToken}
-use Rattle.resb_grammar.proofs.LexLemmas.{lex_of}
+use Rattle.resb_grammar.proofs.FirstBytes.{lex_of}
 use Rattle.resb_grammar.proofs.ByteRunsLemmas.{Run-one}
-
--- two places are equal if neither is below the other
-pub places_meet : (a b : ℕ) → (a < b → ⊥) → (b < a → ⊥) → a ≡ b
-places_meet a b p q =
-    ⊎_elim (λ (w : a < b). absurd (p w)) (λ (w : b ≤ a). ⊎_elim (λ (v : b < a). absurd (q v))
-    (λ (v : a ≤ b). omega arith) (cases_lt b a)) (cases_lt a b)
+use Rattle.resb_grammar.proofs.Numbers.{places_meet}
 
 pub FirstQuote-one : (text : List ℕ) (from a b : ℕ) → FirstQuote text from a
     → FirstQuote text from b → a ≡ b

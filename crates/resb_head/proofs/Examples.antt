@@ -5,7 +5,7 @@ use Rattle.resb_tree.specs.Tree.{Tree, string, table, no_entries, entry}
 use Rattle.resb_format.specs.Bytes.{units_of, words_of}
 use Rattle.resb_format.specs.Strings.{string_at, text_at, key_at}
 use Rattle.resb_format.specs.Content.{content_at}
-use Rattle.resb_format.specs.Denotes.{den_pairs, den_unit, pairs_none, pairs_more}
+use Rattle.resb_format.specs.Denotes.{den_entries, den_unit, entries_none, entries_more}
 use Rattle.resb_format.proofs.Examples.{ascii_key}
 use Rattle.resb_head.specs.File.{IsBundleFile, parts_of, Denotes, budget}
 
@@ -48,7 +48,7 @@ empty_head = record {
 
 empty_denotes : Denotes empty_bundle (table no_entries) 1
 unfolding empty_bundle units_of words_of parts_of content_at
-empty_denotes = record { head = empty_head; root = den_pairs refl pairs_none }
+empty_denotes = record { head = empty_head; root = den_entries refl entries_none }
 
 flat_head : IsBundleFile flat_bundle
 unfolding flat_bundle units_of words_of
@@ -77,7 +77,10 @@ unfolding flat_bundle flat_tree units_of words_of parts_of content_at string_at 
 flat_denotes =
     let key : key_at (parts_of flat_bundle).keys 32 ≡ Some (107 ∷ []) =
     rw (ascii_key 107 (omega arith)) refl in
-    record { head = flat_head; root = den_pairs refl (pairs_more key (den_unit refl) pairs_none) }
+    record {
+      head = flat_head;
+      root = den_entries refl (entries_more key (den_unit refl) entries_none);
+    }
 
 flat_budget : 2 ≤ budget flat_bundle
 unfolding flat_bundle

@@ -10,10 +10,10 @@ use Rattle.resb_format.specs.Error.{IsInvalid, IsEndOfInput, Refusal, refusal_of
 use Rattle.resb_head.specs.File.{IsBundleFile, body_of, header_size}
 use Rattle.resb_format.specs.declared.error.ReadingError.{ReadingError}
 use Rattle.resb_head.specs.Laws.{IsHeader, BundleFilePasses}
-use Rattle.resb_head.specs.HeadChecks.{first_fault, header_checks, header_fault, index_checks}
-use Rattle.resb_head.specs.HeadChecks.{index_fault, support_checks, block_checks, body_checks}
-use Rattle.resb_head.specs.HeadChecks.{file_checks, file_fault}
-use Rattle.resb_head.proofs.HeaderSteps.{none_before, some_before}
+use Rattle.resb_head.specs.HeadChecks.{first_refusal, header_checks, header_refusal, index_checks}
+use Rattle.resb_head.specs.HeadChecks.{index_refusal, support_checks, block_checks, body_checks}
+use Rattle.resb_head.specs.HeadChecks.{file_checks, file_refusal}
+use Rattle.resb_head.proofs.HeaderSteps.{later_refusal, earlier_refusal}
 use Rattle.resb_head.proofs.IndexSteps.{index_holds}
 use Rattle.resb_head.proofs.SupportSteps.{support_holds}
 use Rattle.resb_head.proofs.Passing.{passed, header_passes}
@@ -24,11 +24,11 @@ use Rattle.resb_head.proofs.Lists.{range_behind_four}
 use Rattle.std.proofs.lemmas.Bool.{lt-leb, le-leb, leb-true, eqb-true}
 
 -- where none of all fails, none of the first ones does
-pub first_fault-both : (cs bs : List (Bool × Refusal)) → first_fault (cs ++ bs) ≡ None
-    → (first_fault cs ≡ None) × (first_fault bs ≡ None)
-first_fault-both [] bs e = (refl, e)
-first_fault-both ((true, f) ∷ cs) bs e = first_fault-both cs bs e
-first_fault-both ((false, f) ∷ cs) bs e = cc
+pub first_refusal-both : (cs bs : List (Bool × Refusal)) → first_refusal (cs ++ bs) ≡ None
+    → (first_refusal cs ≡ None) × (first_refusal bs ≡ None)
+first_refusal-both [] bs e = (refl, e)
+first_refusal-both ((true, f) ∷ cs) bs e = first_refusal-both cs bs e
+first_refusal-both ((false, f) ∷ cs) bs e = cc
 
 -- the words of a body without its first
 words_behind : (bs : List ℕ) → words_of (drop 4 bs) ≡ drop 1 (words_of bs)
@@ -48,7 +48,7 @@ field_behind body i =
 -- the checks of the blocks
 pub keys_past : (body : List ℕ) (e : ReadingError) → length body < 4 * get_or (words_of body) 2 0
     → IsEndOfInput e
-    → first_fault (block_checks body) ≡ Some (refusal_of e)
+    → first_refusal (block_checks body) ≡ Some (refusal_of e)
 unfolding block_checks
 keys_past body e h r =
     rw (lt-leb (4 * get_or (words_of body) 2 0) (length body) h, r.kind_is, r.message_is) refl
@@ -56,7 +56,7 @@ keys_past body e h r =
 pub end_missing : (body : List ℕ) (e : ReadingError) → 4 * get_or (words_of body) 2 0 ≤ length body
     → get_or (words_of body) 1 0 < 7
     → IsInvalid e (codes "offset to the end of 16-bit data not specified")
-    → first_fault (block_checks body) ≡ Some (refusal_of e)
+    → first_refusal (block_checks body) ≡ Some (refusal_of e)
 unfolding block_checks
 end_missing body e h k r =
     rw (
@@ -71,7 +71,7 @@ pub block_past : (body : List ℕ) (e : ReadingError) → 4 * get_or (words_of b
     → (get_or (words_of body) 7 0 < get_or (words_of body) 2 0)
     ⊎ (length body < 4 * get_or (words_of body) 7 0)
     → IsEndOfInput e
-    → first_fault (block_checks body) ≡ Some (refusal_of e)
+    → first_refusal (block_checks body) ≡ Some (refusal_of e)
 unfolding block_checks
 block_past body e h k l r =
     rw (
@@ -86,7 +86,7 @@ block_past body e h k l r =
 pub blocks_hold : (body : List ℕ) → 4 * get_or (words_of body) 2 0 ≤ length body
     → 7 ≤ get_or (words_of body) 1 0
     → get_or (words_of body) 2 0 ≤ get_or (words_of body) 7 0
-    → 4 * get_or (words_of body) 7 0 ≤ length body → first_fault (block_checks body) ≡ None
+    → 4 * get_or (words_of body) 7 0 ≤ length body → first_refusal (block_checks body) ≡ None
 unfolding block_checks
 blocks_hold body h k l m =
     rw (
@@ -99,53 +99,53 @@ blocks_hold body h k l m =
 -- the checks of a body
 pub root_missing : (body : List ℕ) (e : ReadingError) → length body < 4
     → IsEndOfInput e
-    → first_fault (body_checks body) ≡ Some (refusal_of e)
+    → first_refusal (body_checks body) ≡ Some (refusal_of e)
 unfolding body_checks
 root_missing body e h r = rw (lt-leb 4 (length body) h, r.kind_is, r.message_is) refl
 
 pub index_answers : (body : List ℕ) (g : Refusal) → 4 ≤ length body
-    → index_fault (drop 4 body) ≡ Some g → first_fault (body_checks body) ≡ Some g
-unfolding body_checks index_fault
+    → index_refusal (drop 4 body) ≡ Some g → first_refusal (body_checks body) ≡ Some g
+unfolding body_checks index_refusal
 index_answers body g h e =
     rw (le-leb 4 (length body) h)
-    (some_before (index_checks (drop 4 body)) (block_checks body) g e)
+    (earlier_refusal (index_checks (drop 4 body)) (block_checks body) g e)
 
-pub blocks_answer : (body : List ℕ) → 4 ≤ length body → index_fault (drop 4 body) ≡ None
-    → first_fault (body_checks body) ≡ first_fault (block_checks body)
-unfolding body_checks index_fault
+pub blocks_answer : (body : List ℕ) → 4 ≤ length body → index_refusal (drop 4 body) ≡ None
+    → first_refusal (body_checks body) ≡ first_refusal (block_checks body)
+unfolding body_checks index_refusal
 blocks_answer body h e =
     rw (le-leb 4 (length body) h)
-    (none_before (index_checks (drop 4 body)) (block_checks body) e)
+    (later_refusal (index_checks (drop 4 body)) (block_checks body) e)
 
 -- the checks of a file
-pub header_answers : (bytes : List ℕ) (g : Refusal) → header_fault false bytes ≡ Some g
-    → file_fault bytes ≡ Some g
-unfolding file_fault file_checks header_fault
+pub header_answers : (bytes : List ℕ) (g : Refusal) → header_refusal false bytes ≡ Some g
+    → file_refusal bytes ≡ Some g
+unfolding file_refusal file_checks header_refusal
 header_answers bytes g e =
-    some_before (header_checks false bytes)
+    earlier_refusal (header_checks false bytes)
     (support_checks (drop 4 bytes) ++ body_checks (body_of bytes)) g e
 
-pub support_answers : (bytes : List ℕ) (g : Refusal) → header_fault false bytes ≡ None
-    → first_fault (support_checks (drop 4 bytes)) ≡ Some g → file_fault bytes ≡ Some g
-unfolding file_fault file_checks header_fault
+pub support_answers : (bytes : List ℕ) (g : Refusal) → header_refusal false bytes ≡ None
+    → first_refusal (support_checks (drop 4 bytes)) ≡ Some g → file_refusal bytes ≡ Some g
+unfolding file_refusal file_checks header_refusal
 support_answers bytes g h e =
-    none_before (header_checks false bytes)
+    later_refusal (header_checks false bytes)
     (support_checks (drop 4 bytes) ++ body_checks (body_of bytes)) h
-    ∙ some_before (support_checks (drop 4 bytes)) (body_checks (body_of bytes)) g e
+    ∙ earlier_refusal (support_checks (drop 4 bytes)) (body_checks (body_of bytes)) g e
 
-pub body_answers : (bytes : List ℕ) → header_fault false bytes ≡ None
-    → first_fault (support_checks (drop 4 bytes)) ≡ None
-    → file_fault bytes ≡ first_fault (body_checks (body_of bytes))
-unfolding file_fault file_checks header_fault
+pub body_answers : (bytes : List ℕ) → header_refusal false bytes ≡ None
+    → first_refusal (support_checks (drop 4 bytes)) ≡ None
+    → file_refusal bytes ≡ first_refusal (body_checks (body_of bytes))
+unfolding file_refusal file_checks header_refusal
 body_answers bytes h e =
-    none_before (header_checks false bytes)
+    later_refusal (header_checks false bytes)
     (support_checks (drop 4 bytes) ++ body_checks (body_of bytes)) h
-    ∙ none_before (support_checks (drop 4 bytes)) (body_checks (body_of bytes)) e
+    ∙ later_refusal (support_checks (drop 4 bytes)) (body_checks (body_of bytes)) e
 
 -- a header that is read stands in little-endian order
-pub size_is : (bytes : List ℕ) → header_fault false bytes ≡ None
+pub header_size_is : (bytes : List ℕ) → header_refusal false bytes ≡ None
     → unit_in (nat_eq (get_or bytes 8 0) 1) bytes 0 ≡ header_size bytes
-size_is bytes e =
+header_size_is bytes e =
     let z : get_or bytes 8 0 ≡ 0 = ((header_passes false bytes).0 e).own_endianness refl in
     rw z refl
 
@@ -156,7 +156,7 @@ record IsBody (body : List ℕ) : Type 0 where
   blocks_ordered : get_or (words_of body) 2 0 ≤ get_or (words_of body) 7 0
   block_inside : 4 * get_or (words_of body) 7 0 ≤ length body
 
-a_body : (body : List ℕ) → first_fault (body_checks body) ≡ None → IsBody body
+a_body : (body : List ℕ) → first_refusal (body_checks body) ≡ None → IsBody body
 unfolding body_checks index_checks block_checks
 a_body body e =
     let p = passed (body_checks body) e in
@@ -177,7 +177,7 @@ a_body body e =
       block_inside = ends.1;
     }
 
-body_holds : (body : List ℕ) → IsBody body → first_fault (body_checks body) ≡ None
+body_holds : (body : List ℕ) → IsBody body → first_refusal (body_checks body) ≡ None
 body_holds body b =
     let c : get_or (words_of body) 1 0 ≡ get_or (words_of (drop 4 body)) 0 0 =
     sym (field_behind body 0) in
@@ -189,12 +189,12 @@ body_holds body b =
     (omega arith))
     ∙ blocks_hold body b.keys_inside b.fields b.blocks_ordered b.block_inside
 
-passes_is : (bytes : List ℕ) → file_fault bytes ≡ None → IsBundleFile bytes
-unfolding file_fault file_checks support_checks header_fault
+passes_is : (bytes : List ℕ) → file_refusal bytes ≡ None → IsBundleFile bytes
+unfolding file_refusal file_checks support_checks header_refusal
 passes_is bytes e =
-    let parts = first_fault-both (header_checks false bytes)
+    let parts = first_refusal-both (header_checks false bytes)
     (support_checks (drop 4 bytes) ++ body_checks (body_of bytes)) e in
-    let later = first_fault-both (support_checks (drop 4 bytes)) (body_checks (body_of bytes))
+    let later = first_refusal-both (support_checks (drop 4 bytes)) (body_checks (body_of bytes))
     parts.1 in
     let h : IsHeader false bytes = (header_passes false bytes).0 parts.0 in
     let p = passed (support_checks (drop 4 bytes)) later.0 in
@@ -203,7 +203,7 @@ passes_is bytes e =
     let f6 : get_or (drop 4 bytes) 6 0 ≡ get_or bytes 10 0 = get_or-drop 4 bytes 6 0 in
     let l : length (body_of bytes) ≡ length bytes - header_size bytes =
     length-drop (header_size bytes) bytes in
-    let s : 24 ≤ header_size bytes = subst (λ n. 24 ≤ n) (size_is bytes parts.0) h.size in
+    let s : 24 ≤ header_size bytes = subst (λ n. 24 ≤ n) (header_size_is bytes parts.0) h.size in
     record {
       magic = h.magic;
       little_endian = h.own_endianness refl;
@@ -222,7 +222,7 @@ passes_is bytes e =
       block_inside = b.block_inside;
     }
 
-is_passes : (bytes : List ℕ) → IsBundleFile bytes → file_fault bytes ≡ None
+is_passes : (bytes : List ℕ) → IsBundleFile bytes → file_refusal bytes ≡ None
 is_passes bytes f =
     let z : get_or bytes 8 0 ≡ 0 = f.little_endian in
     let s : unit_in (nat_eq (get_or bytes 8 0) 1) bytes 0 ≡ header_size bytes = rw z refl in

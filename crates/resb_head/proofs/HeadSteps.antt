@@ -10,7 +10,7 @@ use Rattle.resb_format.specs.Error.{IsRefusal, IsInvalid, refusal_of}
 use Rattle.resb_format.specs.declared.error.ReadingError.{ReadingError}
 use Rattle.resb_format.specs.declared.error.ErrorKind.TheVariants.{UnsupportedFormat}
 use Rattle.resb_head.specs.Codes.{version_bytes, endianness_number, charset_number}
-use Rattle.resb_head.specs.HeadChecks.{first_fault, info_checks, is_version}
+use Rattle.resb_head.specs.HeadChecks.{first_refusal, info_checks, is_version}
 use Rattle.resb_head.specs.declared.charset.CharsetFamily.{CharsetFamily}
 use Rattle.resb_head.specs.declared.charset.CharsetFamily.TheVariants.{Ascii, Ebcdic}
 use Rattle.resb_head.specs.declared.endianness.Endianness.{Endianness}
@@ -88,14 +88,14 @@ no_family n h = omega (arith, h Ascii, h Ebcdic)
 pub endianness_fails : (any : Bool) (bs : List ℕ) (e : ReadingError)
     → ((x : Endianness) → endianness_number x ≢ get_or bs 4 0)
     → IsInvalid e (codes "unrecognized value for Endianness")
-    → first_fault (info_checks any bs) ≡ Some (refusal_of e)
+    → first_refusal (info_checks any bs) ≡ Some (refusal_of e)
 unfolding info_checks
 endianness_fails any bs e h r =
     rw (lt-leb (get_or bs 4 0) 1 (no_order (get_or bs 4 0) h), r.kind_is, r.message_is) refl
 
 pub order_fails : (any : Bool) (bs : List ℕ) (e : ReadingError) → get_or bs 4 0 ≡ 1 → any ≡ false
     → IsRefusal e UnsupportedFormat (codes "bundle endianness does not match platform endianness")
-    → first_fault (info_checks any bs) ≡ Some (refusal_of e)
+    → first_refusal (info_checks any bs) ≡ Some (refusal_of e)
 unfolding info_checks
 order_fails any bs e h a r =
     rw (le-leb (get_or bs 4 0) 1 (omega arith), a, h, r.kind_is, r.message_is) refl
@@ -103,7 +103,7 @@ order_fails any bs e h a r =
 pub charset_fails : (any : Bool) (bs : List ℕ) (e : ReadingError) → Order any bs
     → ((x : CharsetFamily) → charset_number x ≢ get_or bs 5 0)
     → IsInvalid e (codes "unrecognized value for CharsetFamily")
-    → first_fault (info_checks any bs) ≡ Some (refusal_of e)
+    → first_refusal (info_checks any bs) ≡ Some (refusal_of e)
 unfolding info_checks
 charset_fails any bs e o h r =
     let over = no_family (get_or bs 5 0) h in
@@ -112,7 +112,7 @@ charset_fails any bs e o h r =
 pub format_fails : (any : Bool) (bs : List ℕ) (e : ReadingError) → Families any bs
     → bytes_eq (slice_range bs 8 12) (codes "ResB") ≡ false
     → IsInvalid e (codes "unexpected data format value")
-    → first_fault (info_checks any bs) ≡ Some (refusal_of e)
+    → first_refusal (info_checks any bs) ≡ Some (refusal_of e)
 unfolding info_checks
 format_fails any bs e f h r =
     rw (f.order.known, f.order.own, f.charset, h, r.kind_is, r.message_is) refl
@@ -120,7 +120,7 @@ format_fails any bs e f h r =
 pub version_fails : (any : Bool) (bs : List ℕ) (e : ReadingError) → Formats any bs
     → ((v : FormatVersion) → version_bytes v ≢ slice_range bs 12 16)
     → IsInvalid e (codes "unrecognized format version")
-    → first_fault (info_checks any bs) ≡ Some (refusal_of e)
+    → first_refusal (info_checks any bs) ≡ Some (refusal_of e)
 unfolding info_checks
 version_fails any bs e f h r =
     rw (
@@ -134,7 +134,7 @@ version_fails any bs e f h r =
     ) refl
 
 pub all_hold : (any : Bool) (bs : List ℕ) (v : FormatVersion) → Formats any bs
-    → version_bytes v ≡ slice_range bs 12 16 → first_fault (info_checks any bs) ≡ None
+    → version_bytes v ≡ slice_range bs 12 16 → first_refusal (info_checks any bs) ≡ None
 unfolding info_checks
 all_hold any bs v f h =
     rw (

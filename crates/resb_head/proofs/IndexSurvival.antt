@@ -17,7 +17,7 @@ use Rattle.resb_format.proofs.Spelled.{words_length}
 use Rattle.resb_format.proofs.WordsBack.{words_back, written_length, bytes_back}
 use Rattle.resb_head.specs.Laws.{IndexSurvives}
 use Rattle.resb_head.specs.Head.{IndexAt, field, index_words, index_bytes}
-use Rattle.resb_head.specs.HeadChecks.{index_fault}
+use Rattle.resb_head.specs.HeadChecks.{index_refusal}
 use Rattle.resb_head.specs.HeadReading.{ReadsIndex}
 use Rattle.resb_head.specs.declared.index.BinIndex.{BinIndex}
 use Rattle.resb_head.proofs.IndexSteps.{index_holds}
@@ -135,7 +135,7 @@ read_back i (Err e) fits h =
     ap (λ ws. get_or ws 0 0) (sym (words_back (index_words i) fits)) in
     let l : length (index_bytes i) ≡ 4 * min i.field_count 8 =
     written_length (index_words i) ∙ ap (λ n. 4 * n) (words_count i) in
-    let n : index_fault (index_bytes i) ≡ None =
+    let n : index_refusal (index_bytes i) ≡ None =
     index_holds (index_bytes i) i.field_count w (omega (arith, i.enough)) i.enough
     (omega arith) in
     let both = sym n ∙ h in absurd cc

@@ -51,10 +51,10 @@ more_no ws n k h =
     let f : min n k ≡ n = omega arith in
     rw (e, f) (sym (append-nil (take n ws)))
 
-pub one_more : (ws : List ℕ) (n k : ℕ) → min n (k + 1) ≤ length ws
+pub take_one_more : (ws : List ℕ) (n k : ℕ) → min n (k + 1) ≤ length ws
     → take (min n (k + 1)) ws ≡ take (min n k) ws
     ++ option_to_list (if nat_le (k + 1) n then Some (get_or ws k 0) else None)
-one_more ws n k l = elim (le_cases (k + 1) n) [
+take_one_more ws n k l = elim (le_cases (k + 1) n) [
   | inl h ↦ rw (le-leb (k + 1) n h) (more_yes ws n k h (omega arith))
   | inr h ↦ rw (lt-leb (k + 1) n h) (more_no ws n k (omega arith))
 ]
@@ -83,11 +83,11 @@ pub all_words : (ws : List ℕ) (n : ℕ) → n ≡ get_or ws 0 0 → 5 ≤ n �
     ++ option_to_list (if nat_le 8 n then Some (get_or ws 7 0) else None)
 all_words ws n q h l =
     let e : min n 5 ≡ 5 = omega arith in
-    one_more ws n 7 (omega arith)
+    take_one_more ws n 7 (omega arith)
     ∙ ap (λ xs. xs ++ option_to_list (if nat_le 8 n then Some (get_or ws 7 0) else None))
-    (one_more ws n 6 (omega arith)
+    (take_one_more ws n 6 (omega arith)
     ∙ ap (λ xs. xs ++ option_to_list (if nat_le 7 n then Some (get_or ws 6 0) else None))
-    (one_more ws n 5 (omega arith)
+    (take_one_more ws n 5 (omega arith)
     ∙ ap (λ xs. xs ++ option_to_list (if nat_le 6 n then Some (get_or ws 5 0) else None))
     (ap (λ k. take k ws) e ∙ five_elements ws n q (omega arith))))
 

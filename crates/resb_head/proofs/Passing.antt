@@ -9,7 +9,7 @@ use Rattle.std.proofs.lemmas.Slice.Eq.{bytes_eq-Decides}
 use Rattle.resb_format.specs.Error.{Refusal}
 use Rattle.resb_format.specs.Bytes.{unit_in}
 use Rattle.resb_head.specs.Laws.{IsHeader, HeaderPasses}
-use Rattle.resb_head.specs.HeadChecks.{first_fault, info_checks, header_checks, header_fault}
+use Rattle.resb_head.specs.HeadChecks.{first_refusal, info_checks, header_checks, header_refusal}
 use Rattle.resb_head.specs.HeadChecks.{is_version}
 use Rattle.resb_head.proofs.HeaderSteps.{header_holds}
 use Rattle.resb_head.proofs.Lists.{bytes_eq_holds}
@@ -23,7 +23,7 @@ abbrev pub EachHolds : List (Bool × Refusal) → Type 0
 EachHolds [] = Unit {0}
 EachHolds ((t, f) ∷ checks) = (t ≡ true) × EachHolds checks
 
-pub passed : (checks : List (Bool × Refusal)) → first_fault checks ≡ None → EachHolds checks
+pub passed : (checks : List (Bool × Refusal)) → first_refusal checks ≡ None → EachHolds checks
 passed [] e = tt
 passed ((true, f) ∷ checks) e = (refl, passed checks e)
 passed ((false, f) ∷ checks) e = cc
@@ -36,12 +36,12 @@ record Tests (any : Bool) (bs : List ℕ) : Type 0 where
   format : bytes_eq (slice_range bs 8 12) (codes "ResB") ≡ true
   version : is_version (slice_range bs 12 16) ≡ true
 
-tested : (any : Bool) (bs : List ℕ) → Tests any bs → first_fault (info_checks any bs) ≡ None
+tested : (any : Bool) (bs : List ℕ) → Tests any bs → first_refusal (info_checks any bs) ≡ None
 unfolding info_checks
 tested any bs t = rw (t.known, t.own, t.charset, t.format, t.version) refl
 
-passes : (any : Bool) (bs : List ℕ) → header_fault any bs ≡ None → IsHeader any bs
-unfolding header_fault header_checks info_checks
+passes : (any : Bool) (bs : List ℕ) → header_refusal any bs ≡ None → IsHeader any bs
+unfolding header_refusal header_checks info_checks
 passes any bs e =
     let p = passed (header_checks any bs) e in
     let f4 : get_or (drop 4 bs) 4 0 ≡ get_or bs 8 0 = get_or-drop 4 bs 4 0 in
@@ -60,7 +60,7 @@ passes any bs e =
       size = leb-true 24 (unit_in (nat_eq (get_or bs 8 0) 1) bs 0) p.1.1.1.1.1.1.1.0;
     }
 
-passing : (any : Bool) (bs : List ℕ) → IsHeader any bs → header_fault any bs ≡ None
+passing : (any : Bool) (bs : List ℕ) → IsHeader any bs → header_refusal any bs ≡ None
 passing any bs h =
     let f4 : get_or (drop 4 bs) 4 0 ≡ get_or bs 8 0 = get_or-drop 4 bs 4 0 in
     let f5 : get_or (drop 4 bs) 5 0 ≡ get_or bs 9 0 = get_or-drop 4 bs 5 0 in

@@ -5,29 +5,32 @@ use Rattle.std.proofs.lemmas.Bool.Decides.{nat_tests}
 use Rattle.resb_format.specs.Error.{IsRefusal, refusal_of}
 use Rattle.resb_format.specs.declared.error.ReadingError.{ReadingError}
 use Rattle.resb_format.specs.declared.error.ErrorKind.TheVariants.{UnsupportedFormat}
-use Rattle.resb_head.specs.HeadChecks.{first_fault, support_checks}
+use Rattle.resb_head.specs.HeadChecks.{first_refusal, support_checks}
 use Rattle.resb_head.proofs.Lists.{bytes_eq_fails}
 use Rattle.std.proofs.lemmas.Bool.{ne_eqb}
 
-pub family_fails : (info : List ℕ) (e : ReadingError) → get_or info 5 0 ≢ 0
+pub family_unsupported : (info : List ℕ) (e : ReadingError) → get_or info 5 0 ≢ 0
     → IsRefusal e UnsupportedFormat (codes "bundle and system character set families do not match")
-    → first_fault (support_checks info) ≡ Some (refusal_of e)
+    → first_refusal (support_checks info) ≡ Some (refusal_of e)
 unfolding support_checks
-family_fails info e h r = rw (ne_eqb (get_or info 5 0) 0 h, r.kind_is, r.message_is) refl
+family_unsupported info e h r = rw (ne_eqb (get_or info 5 0) 0 h, r.kind_is, r.message_is) refl
 
-pub size_fails : (info : List ℕ) (e : ReadingError) → get_or info 5 0 ≡ 0 → get_or info 6 0 ≢ 2
+pub character_size_unsupported : (info : List ℕ) (e : ReadingError) → get_or info 5 0 ≡ 0
+    → get_or info 6 0 ≢ 2
     → IsRefusal e UnsupportedFormat (codes "characters of size other than 2 are not supported")
-    → first_fault (support_checks info) ≡ Some (refusal_of e)
+    → first_refusal (support_checks info) ≡ Some (refusal_of e)
 unfolding support_checks
-size_fails info e a h r = rw (a, ne_eqb (get_or info 6 0) 2 h, r.kind_is, r.message_is) refl
+character_size_unsupported info e a h r =
+    rw (a, ne_eqb (get_or info 6 0) 2 h, r.kind_is, r.message_is) refl
 
-pub version_fails : (info : List ℕ) (e : ReadingError) → get_or info 5 0 ≡ 0 → get_or info 6 0 ≡ 2
+pub version_unsupported : (info : List ℕ) (e : ReadingError) → get_or info 5 0 ≡ 0
+    → get_or info 6 0 ≡ 2
     → slice_range info 12 16 ≢ 2 ∷ 0 ∷ 0 ∷ 0 ∷ []
     → IsRefusal e UnsupportedFormat
     (codes "format versions other than 2.0 are not supported at this time")
-    → first_fault (support_checks info) ≡ Some (refusal_of e)
+    → first_refusal (support_checks info) ≡ Some (refusal_of e)
 unfolding support_checks
-version_fails info e a b h r =
+version_unsupported info e a b h r =
     rw (
       a,
       b,
@@ -39,6 +42,6 @@ version_fails info e a b h r =
     refl
 
 pub support_holds : (info : List ℕ) → get_or info 5 0 ≡ 0 → get_or info 6 0 ≡ 2
-    → slice_range info 12 16 ≡ 2 ∷ 0 ∷ 0 ∷ 0 ∷ [] → first_fault (support_checks info) ≡ None
+    → slice_range info 12 16 ≡ 2 ∷ 0 ∷ 0 ∷ 0 ∷ [] → first_refusal (support_checks info) ≡ None
 unfolding support_checks
 support_holds info a b v = rw (a, b, v) refl

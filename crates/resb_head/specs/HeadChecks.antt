@@ -1,10 +1,10 @@
 -- The checks of a file's head in their order, and what is answered for the first that fails. (ICU's
 -- `udata.h`, `ucmndata.h` and `uresdata.h`.)
---     header_fault any bytes      for a header; a foreign order of bytes is let through where `any`
+--     header_refusal any bytes    for a header; a foreign order of bytes is let through where `any`
 --                                 is true
---     info_fault bytes            for the representation info, the 20 bytes behind the magic word
---     index_fault bytes           for an index, the words behind the root's descriptor
---     file_fault bytes            for a whole file: header, what is supported, index and blocks
+--     info_refusal bytes          for the representation info, the 20 bytes behind the magic word
+--     index_refusal bytes         for an index, the words behind the root's descriptor
+--     file_refusal bytes          for a whole file: header, what is supported, index and blocks
 use Rattle.std.specs.Prelude.{ℕ, ◌*◌, min, List, [], ◌∷◌, ◌++◌, length, drop, Bool, false}
 use Rattle.std.specs.Prelude.{◌||◌, ◌&&◌, nat_le, nat_eq, Option, Some, None, slice_index}
 use Rattle.std.specs.Prelude.{slice_range, codes, if◌then◌else◌}
@@ -17,10 +17,11 @@ use Rattle.resb_head.specs.Codes.{version_bytes}
 use Rattle.resb_head.specs.declared.version.FormatVersion.TheVariants.{V1_0, V1_1, V1_2, V1_3}
 use Rattle.resb_head.specs.declared.version.FormatVersion.TheVariants.{V2_0, V3_0}
 
--- the fault of the first check that fails; a check is a test and the fault where it fails
-abbrev pub first_fault : List (Bool × Refusal) → Option Refusal
-first_fault [] = None
-first_fault ((holds, fault) ∷ checks) = if holds then first_fault checks else Some fault
+-- the refusal of the first check that fails; a check is a test and the refusal where it fails
+abbrev pub first_refusal : List (Bool × Refusal) → Option Refusal
+first_refusal [] = None
+first_refusal ((holds, refusal) ∷ checks) =
+    if holds then first_refusal checks else Some refusal
 
 -- the bytes spell one of the six versions
 abbrev pub is_version : List ℕ → Bool
@@ -45,9 +46,9 @@ info_checks any info =
     ∷ []
 
 -- the first check of representation info that fails
-unfoldable pub info_fault : List ℕ → Option Refusal
-info_fault bytes =
-    first_fault
+unfoldable pub info_refusal : List ℕ → Option Refusal
+info_refusal bytes =
+    first_refusal
     ((nat_le 20 (length bytes), invalid (codes "input is too short to contain representation info"))
     ∷ info_checks false bytes)
 
@@ -68,8 +69,8 @@ header_checks any bytes =
     ∷ []
 
 -- the first check of a header that fails
-unfoldable pub header_fault : Bool → List ℕ → Option Refusal
-header_fault any bytes = first_fault (header_checks any bytes)
+unfoldable pub header_refusal : Bool → List ℕ → Option Refusal
+header_refusal any bytes = first_refusal (header_checks any bytes)
 
 -- the checks of an index, which is the words behind the root's descriptor, in their order, each
 -- with its refusal
@@ -82,8 +83,8 @@ index_checks bytes =
     ∷ []
 
 -- the first check of an index that fails
-unfoldable pub index_fault : List ℕ → Option Refusal
-index_fault bytes = first_fault (index_checks bytes)
+unfoldable pub index_refusal : List ℕ → Option Refusal
+index_refusal bytes = first_refusal (index_checks bytes)
 
 -- the checks of what is supported, in their order: what the info of a file that is read may say
 unfoldable pub support_checks : List ℕ → List (Bool × Refusal)
@@ -122,5 +123,5 @@ file_checks bytes =
     header_checks false bytes ++ (support_checks (drop 4 bytes) ++ body_checks (body_of bytes))
 
 -- the first check of a whole file's head that fails
-unfoldable pub file_fault : List ℕ → Option Refusal
-file_fault bytes = first_fault (file_checks bytes)
+unfoldable pub file_refusal : List ℕ → Option Refusal
+file_refusal bytes = first_refusal (file_checks bytes)

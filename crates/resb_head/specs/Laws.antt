@@ -16,7 +16,7 @@ use Rattle.resb_format.specs.Laws.{EachFits}
 use Rattle.resb_format.specs.declared.error.ReadingError.{ReadingError}
 use Rattle.resb_head.specs.Codes.{version_bytes}
 use Rattle.resb_head.specs.Head.{header_bytes, index_bytes, index_words}
-use Rattle.resb_head.specs.HeadChecks.{header_fault, file_fault, is_version}
+use Rattle.resb_head.specs.HeadChecks.{header_refusal, file_refusal, is_version}
 use Rattle.resb_head.specs.HeadReading.{ReadsHeader, ReadsIndex}
 use Rattle.resb_head.specs.declared.head.BinHeader.{BinHeader}
 use Rattle.resb_head.specs.declared.index.BinIndex.{BinIndex}
@@ -56,12 +56,12 @@ pub record IsHeader (any : Bool) (bytes : List ℕ) : Type 0 where
 abbrev pub HeaderPasses : Type 0
 HeaderPasses =
     (any : Bool) (bytes : List ℕ)
-    → (header_fault any bytes ≡ None → IsHeader any bytes)
-    × (IsHeader any bytes → header_fault any bytes ≡ None)
+    → (header_refusal any bytes ≡ None → IsHeader any bytes)
+    × (IsHeader any bytes → header_refusal any bytes ≡ None)
 
 -- no check of a file's head fails exactly where it is a bundle file's
 abbrev pub BundleFilePasses : Type 0
 BundleFilePasses =
     (bytes : List ℕ)
-    → (file_fault bytes ≡ None → IsBundleFile bytes)
-    × (IsBundleFile bytes → file_fault bytes ≡ None)
+    → (file_refusal bytes ≡ None → IsBundleFile bytes)
+    × (IsBundleFile bytes → file_refusal bytes ≡ None)

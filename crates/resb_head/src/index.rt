@@ -1,5 +1,5 @@
 //! The index of a bundle: how many fields it has, and where the blocks end.
-//! That the blocks lie inside the file is checked in `file_parts`.
+//! That the blocks lie inside the file is checked in `checked_file`.
 ghost use Rattle.std.specs.Prelude.{◌≡◌, ◌≤◌, nat_le};
 ghost use Rattle.std.specs.Option.{is_some};
 

@@ -4,8 +4,8 @@
 #![tactic(auto)]
 
 mod charset;
+mod checked_file;
 mod endianness;
-mod file_parts;
 mod head;
 mod index;
 mod index_fields;
@@ -14,8 +14,8 @@ mod repr_info;
 mod version;
 
 pub use charset::CharsetFamily;
+pub use checked_file::CheckedFile;
 pub use endianness::Endianness;
-pub use file_parts::FileParts;
 pub use head::BinHeader;
 pub use index::BinIndex;
 pub use repr_info::BinReprInfo;

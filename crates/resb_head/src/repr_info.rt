@@ -4,7 +4,7 @@ ghost use Rattle.std.specs.Prelude.{◌≡◌, ◌≤◌, ◌++◌, length, fals
 ghost use Rattle.std.specs.Prelude.{IfOk};
 ghost use Rattle.resb_format.specs.Error.{refusal_of};
 ghost use Rattle.resb_head.specs.Head.{InfoAt, info_bytes};
-ghost use Rattle.resb_head.specs.HeadChecks.{info_checks, first_fault};
+ghost use Rattle.resb_head.specs.HeadChecks.{info_checks, first_refusal};
 ghost use Rattle.resb_head.specs.HeadReading.{ReadsInfo};
 
 use crate::charset::CharsetFamily;
@@ -48,10 +48,10 @@ impl BinReprInfo {
         any_order: bool,
     ) -> Result<BinReprInfo, BinaryDeserializerError>
         requires { 20 ≤ length bytes.now }
-        ensures { let fault = first_fault (info_checks any_order bytes.now) in
+        ensures { let refusal = first_refusal (info_checks any_order bytes.now) in
             MatchResult result
-            (λ i. (fault ≡ None) × InfoAt i bytes.now)
-            (λ e. fault ≡ Some (refusal_of e)) }
+            (λ i. (refusal ≡ None) × InfoAt i bytes.now)
+            (λ e. refusal ≡ Some (refusal_of e)) }
     {
         let endianness = Endianness::try_from(byte_at(bytes, 4))?;
         let is_big = endianness.is_big();

@@ -10,7 +10,8 @@ use Rattle.resb_grammar.specs.ByteRuns.{is_white, is_digit}
 use Rattle.resb_grammar.specs.Lexical as plain
 use Rattle.resb_grammar.specs.GroupTypes.{Kind, Names, NoFallback}
 use Rattle.resb_grammar.proofs.ByteRunsLemmas.{Run-one}
-use Rattle.resb_grammar.proofs.Unique.{places_meet, FirstCloser-one, Digits-one, Names-one}
+use Rattle.resb_grammar.proofs.Unique.{FirstCloser-one, Digits-one, Names-one}
+use Rattle.resb_grammar.proofs.Numbers.{places_meet}
 use Rattle.resb_icu_grammar.specs.Bytes.{is_word}
 use Rattle.resb_icu_grammar.specs.Blanks.{Begins, behind_the_mark, without_a_mark}
 use Rattle.resb_icu_grammar.specs.Blanks.{LineRest, Comment, line, block, Blanks, none}

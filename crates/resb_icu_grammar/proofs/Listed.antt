@@ -6,7 +6,8 @@ use Rattle.std.specs.Prelude.{Contains}
 use Rattle.resb_tree.specs.Tree.{Tree, no_entries, trees_of, table, map_of}
 use Rattle.resb_tree.specs.Keys.{is_key, is_key_in}
 use Rattle.resb_grammar.specs.GroupTypes.{Kind}
-use Rattle.resb_grammar.proofs.Listed.{In, in_left, in_right, one_of_or, KeyOf, put_all_key}
+use Rattle.resb_grammar.proofs.Listed.{In, in_left, in_right, KeyOf, put_all_key}
+use Rattle.resb_grammar.proofs.Numbers.{one_of_or}
 use Rattle.resb_grammar.proofs.Listed.{first_place, contains}
 use Rattle.resb_icu_grammar.specs.Groups.{Last, Members, no_member, string_member, group_member}
 use Rattle.resb_icu_grammar.specs.Groups.{comma_behind, Entries, no_entry, one_entry, Untyped}

@@ -9,7 +9,7 @@ use Rattle.std.specs.declared.alloc.Global.{Global}
 use Rattle.std.specs.declared.string.String.{String}
 use Rattle.std.specs.List.Sorted.{IsStrictlySortedBy}
 use Rattle.resb_tree.specs.Tree.{Tree, table, Entries}
-use Rattle.resb_tree.specs.Maps.{text_cmp, pairs_of}
+use Rattle.resb_tree.specs.Maps.{text_cmp, keyed_trees}
 use Rattle.resb_tree.specs.LayingOrder.{entry_keys}
 use Rattle.resb_grammar.specs.Ascii as ascii
 use Rattle.resb_grammar.specs.ByteRuns.{Run}
@@ -21,10 +21,10 @@ use Rattle.resb_icu_grammar.specs.Bundle.{Typing, without, with, IcuText}
 use Rattle.resb_print.specs.Printed.{root_type_on}
 use Rattle.resb_print.specs.Held.{HeldIn}
 use Rattle.resb_print.specs.Inner.Jobs.{Appends}
-use Rattle.resb_print.proofs.Steps.{writes_bytes}
+use Rattle.resb_print.proofs.Lists.{writes_bytes}
 use Rattle.resb_print.proofs.Places.{From, byte_at, from_behind, from_next, at_end, from_inside}
 use Rattle.resb_print.proofs.Bundles.{stands}
-use Rattle.resb_tree.proofs.MapsLemmas.{map_of-pairs_of}
+use Rattle.resb_tree.proofs.MapsLemmas.{map_of-keyed_trees}
 use Rattle.resb_icu_print.specs.Printed.{is_bare, entries_on, printed_icu_bundle}
 use Rattle.resb_icu_print.specs.Causes.{TakenIn, causes_in_else, first_cause, SaysIcuCause}
 use Rattle.resb_icu_print.specs.Laws.{NoTextHas}
@@ -120,7 +120,7 @@ module _ (text : List ℕ) where
         record {
           first = r.first;
           last = r.to;
-          entries = pairs_of es;
+          entries = keyed_trees es;
           places = r.keys;
           header = record {
             begin = 0;
@@ -145,7 +145,7 @@ module _ (text : List ℕ) where
           body = r.entries;
           closes = r.brace;
           after = end_skip r.after;
-          means = ap table (sym (map_of-pairs_of es ascend));
+          means = ap table (sym (map_of-keyed_trees es ascend));
           lists = refl;
         },
       )
@@ -164,14 +164,15 @@ printed_is_icu name fallback es bare ascend held taken =
     bundle_read (printed_icu_bundle name fallback es) name fallback es bare ascend held taken
     (record { is = refl })
 
--- what is written in turn is the text of the bundle
-pub written : (s0 s1 s2 s3 s4 s5 : String Global) (name own : List ℕ) (f : Bool) (es : Entries)
+-- what is bundle_printed in turn is the text of the bundle
+pub bundle_printed : (s0 s1 s2 s3 s4 s5 : String Global) (name own : List ℕ) (f : Bool)
+    (es : Entries)
     → string_bytes s0 ≡ [] → string_bytes s1 ≡ string_bytes s0 ++ name
     → Appends s1 s2 (root_type_on f)
     → string_bytes s3 ≡ string_bytes s2 ++ codes "{" → ArePrinted s3 s4 es
     → string_bytes s5 ≡ string_bytes s4 ++ (ascii.line_feed ∷ ascii.right_brace ∷ ascii.line_feed ∷
     []) → name ≡ own → string_bytes s5 ≡ printed_icu_bundle own f es
-written s0 s1 s2 s3 s4 s5 name own f es e0 e1 w2 e3 w4 e5 e =
+bundle_printed s0 s1 s2 s3 s4 s5 name own f es e0 e1 w2 e3 w4 e5 e =
     let last = ascii.line_feed ∷ ascii.right_brace ∷ ascii.line_feed ∷ [] in
     let entries = entries_on 1 es last in
     let typed = root_type_on f (ascii.left_brace ∷ entries) in
@@ -181,10 +182,11 @@ written s0 s1 s2 s3 s4 s5 name own f es e0 e1 w2 e3 w4 e5 e =
     ∙ ap (λ n. n ++ typed) e
 
 -- and that is a text of ICU's form
-pub whole : (text own : List ℕ) (f : Bool) (es : Entries) (t : Tree) (s3 s4 : String Global)
+pub printed_is_whole : (text own : List ℕ) (f : Bool) (es : Entries) (t : Tree)
+    (s3 s4 : String Global)
     → text ≡ printed_icu_bundle own f es → ArePrinted s3 s4 es → is_bare own ≡ true → t ≡ table es
     → (keys : List (List ℕ)) × IcuText text own f t keys
-whole text own f es t s3 s4 same w bare r =
+printed_is_whole text own f es t s3 s4 same w bare r =
     let (keys, b) = printed_is_icu own f es bare w.ascend w.held
     (none_in_taken es None w.no_cause).0 in (
       keys,
@@ -203,10 +205,10 @@ no_text name f t e (inr (x, h, found)) =
     none_some x e = cc
 
 -- a cause in the entries is one of the bundle
-pub root_refused : (name : List ℕ) (es : Entries) (e : IcuPrintError) → is_bare name ≡ true
+pub root_has_a_cause : (name : List ℕ) (es : Entries) (e : IcuPrintError) → is_bare name ≡ true
     → SaysIcuCause e (causes_in_else es None) → SaysIcuCause e (first_cause name (table es))
-root_refused name es e bare (inl h) = inl h
-root_refused name es e bare (inr (x, h, found)) =
+root_has_a_cause name es e bare (inl h) = inl h
+root_has_a_cause name es e bare (inr (x, h, found)) =
     inr (
       x,
       h,

@@ -12,7 +12,7 @@ use Rattle.std.proofs.lemmas.Bool.{and_parts}
 use Rattle.std.proofs.lemmas.Bool.Decides.{nat_tests}
 use Rattle.resb_tree.specs.Tree.{Tree, string, array, table, binary, integer, int_vector, Trees}
 use Rattle.resb_tree.specs.Tree.{no_trees, more_trees, Entries, no_entries, entry}
-use Rattle.resb_tree.specs.Maps.{text_cmp, pairs_of}
+use Rattle.resb_tree.specs.Maps.{text_cmp, keyed_trees}
 use Rattle.resb_tree.specs.LayingOrder.{array_members as members_in, entry_keys}
 use Rattle.resb_grammar.specs.Ascii as ascii
 use Rattle.resb_grammar.specs.GroupTypes.{Kind, array_kind, table_kind, binary_kind}
@@ -32,7 +32,7 @@ use Rattle.resb_print.specs.Printed.{deeper, line_on, trees_end, entries_end, ro
 use Rattle.resb_print.specs.Held.{IsHeld, AreHeld, HeldIn}
 use Rattle.resb_print.proofs.Places.{From, byte_at, from_next}
 use Rattle.resb_print.proofs.Groups.{hex_read, hex_free}
-use Rattle.resb_tree.proofs.MapsLemmas.{map_of-pairs_of}
+use Rattle.resb_tree.proofs.MapsLemmas.{map_of-keyed_trees}
 use Rattle.resb_tree.proofs.LayingOrderLemmas.{trees_of-array_members}
 use Rattle.resb_tree.proofs.Numbers.{low_bits_kept}
 use Rattle.resb_icu_print.specs.Printed.{piece_on, key_on, tree_on, trees_on, entries_on}
@@ -41,20 +41,20 @@ use Rattle.resb_icu_grammar.specs.Bytes.{are_key_bytes}
 use Rattle.resb_print.specs.Quotes.{has_quote}
 use Rattle.resb_icu_print.proofs.Places.{solid_at, no_skip, line_blanks}
 use Rattle.resb_icu_print.proofs.Strings.{IsStop, piece_read, quoted_read, key_read, hex_key}
-use Rattle.resb_icu_print.proofs.Numbers.{number_read, vector_read, head_at}
+use Rattle.resb_icu_print.proofs.Numbers.{number_read, vector_read, opening_at}
 use Rattle.resb_icu_print.proofs.Lists.{false_from_not}
 
 -- a key is new among those that it is below
 less_new : (k : List ℕ) (es : Entries) → AllByRecursion (λ y. text_cmp k y ≡ Less) (entry_keys es)
-    → is_new k (pairs_of es) ≡ true
+    → is_new k (keyed_trees es) ≡ true
 less_new k no_entries h = refl
 less_new k (entry l u es) h =
     let e : pointwise nat_eq k l ≡ false = texts_ties k l ∙ ap is_eq h.0 in
-    ap (λ b. not (b || list_any (λ f. pointwise nat_eq k f.0) (pairs_of es))) e
+    ap (λ b. not (b || list_any (λ f. pointwise nat_eq k f.0) (keyed_trees es))) e
     ∙ less_new k es h.1
 
 sorted_new : (k : List ℕ) (t : Tree) (es : Entries)
-    → IsStrictlySortedBy text_cmp (entry_keys (entry k t es)) → is_new k (pairs_of es) ≡ true
+    → IsStrictlySortedBy text_cmp (entry_keys (entry k t es)) → is_new k (keyed_trees es) ≡ true
 unfolding IsStrictlySortedBy
 sorted_new k t es h = less_new k es h.0
 
@@ -190,7 +190,7 @@ module _ (text : List ℕ) where
     pub to : ℕ
     pub keys : List (List ℕ)
     pub skip : Skip text at first
-    pub entries : groups.Entries text first to (pairs_of es) keys
+    pub entries : groups.Entries text first to (keyed_trees es) keys
     pub brace : slice_index text to ≡ ascii.right_brace
     pub after : From text (to + 1) rest
 
@@ -207,7 +207,7 @@ module _ (text : List ℕ) where
 
   entry_more : (n : ℕ) (k : List ℕ) (t : Tree) (es : Entries) (tail : List ℕ) {at : ℕ}
       {rest : List ℕ} → is_icu_key k ≡ true → has_collation k t ≡ false
-      → is_new k (pairs_of es) ≡ true
+      → is_new k (keyed_trees es) ≡ true
       → ((p : ℕ) → From text p (tree_on InTable n t tail) → GroupAt p t tail)
       → ((p : ℕ) → From text p tail → EntriesAt p es rest)
       → From text at (line_on n (key_on k (tree_on InTable n t tail)))
@@ -228,7 +228,7 @@ module _ (text : List ℕ) where
         to = others.to;
         keys = _;
         skip = record { blanks = blanks; solid = solid };
-        entries = one_entry p q q own.to others.first others.to k t (pairs_of es) own.keys
+        entries = one_entry p q q own.to others.first others.to k t (keyed_trees es) own.keys
             others.keys named (no_skip text there) own.group free others.skip others.entries new;
         brace = others.brace;
         after = others.after;
@@ -277,30 +277,30 @@ module _ (text : List ℕ) where
         after = others.after;
       }
 
-  item_more : (n : ℕ) (t : Tree) (ts : Trees) (tail : List ℕ) {at : ℕ} {rest : List ℕ}
+  member_more : (n : ℕ) (t : Tree) (ts : Trees) (tail : List ℕ) {at : ℕ} {rest : List ℕ}
       → ((p : ℕ) → From text p (tree_on InTable n t (ascii.comma ∷ tail))
       → GroupAt p t (ascii.comma ∷ tail))
       → ((p : ℕ) → From text p tail → TreesAt p ts rest)
       → From text at (line_on n (tree_on InArray n t tail))
       → TreesAt at (more_trees t ts) rest
-  item_more n (string s) ts tail group more h =
+  member_more n (string s) ts tail group more h =
       let (p, blanks, f) = line_blanks text n h in string_done s ts tail blanks f more
-  item_more n (array us) ts tail group more h =
+  member_more n (array us) ts tail group more h =
       let (p, blanks, f) = line_blanks text n h in
       group_done (array us) ts tail blanks (solid_at text f refl refl) (group p f) more
-  item_more n (table no_entries) ts tail group more h =
+  member_more n (table no_entries) ts tail group more h =
       let (p, blanks, f) = line_blanks text n h in
       group_done (table no_entries) ts tail blanks (solid_at text f refl refl) (group p f) more
-  item_more n (table (entry k t es)) ts tail group more h =
+  member_more n (table (entry k t es)) ts tail group more h =
       let (p, blanks, f) = line_blanks text n h in
       group_done (table (entry k t es)) ts tail blanks (solid_at text f refl refl) (group p f) more
-  item_more n (binary bs) ts tail group more h =
+  member_more n (binary bs) ts tail group more h =
       let (p, blanks, f) = line_blanks text n h in
       group_done (binary bs) ts tail blanks (solid_at text f refl refl) (group p f) more
-  item_more n (integer v) ts tail group more h =
+  member_more n (integer v) ts tail group more h =
       let (p, blanks, f) = line_blanks text n h in
       group_done (integer v) ts tail blanks (solid_at text f refl refl) (group p f) more
-  item_more n (int_vector ns) ts tail group more h =
+  member_more n (int_vector ns) ts tail group more h =
       let (p, blanks, f) = line_blanks text n h in
       group_done (int_vector ns) ts tail blanks (solid_at text f refl refl) (group p f) more
 
@@ -338,7 +338,7 @@ module _ (text : List ℕ) where
       → EntriesAt b es rest)
       → From text at (tree_on InTable n (table es) rest) → GroupAt at (table es) rest
   table_group n no_entries at rest ascend inner h =
-      let (brace, f, head) = head_at text table_kind (codes "table") refl refl h in
+      let (brace, f, head) = opening_at text table_kind (codes "table") refl refl h in
       let c = close_here f in
       record {
         to = c.place + 1;
@@ -354,8 +354,8 @@ module _ (text : List ℕ) where
         keys = r.keys;
         group = untyped at r.first r.to (table (entry k t es)) r.keys (byte_at text h) r.skip
             (subst (λ (m : Entries). Untyped text r.first r.to (table m) r.keys)
-            (map_of-pairs_of (entry k t es) ascend)
-            (a_table r.first r.to (k, t) (pairs_of es) r.keys r.entries)) r.brace;
+            (map_of-keyed_trees (entry k t es) ascend)
+            (a_table r.first r.to (k, t) (keyed_trees es) r.keys r.entries)) r.brace;
         after = r.after;
       }
 
@@ -364,7 +364,7 @@ module _ (text : List ℕ) where
         → From text at (tree_on InTable n t rest) → GroupAt at t rest
     group_at n (string s) at rest held taken h = string_group s h
     group_at n (array ts) at rest held taken h =
-        let (brace, f, head) = head_at text array_kind (codes "array") refl refl h in
+        let (brace, f, head) = opening_at text array_kind (codes "array") refl refl h in
         let r = trees_at (deeper n) ts (trees_end ts n rest) (brace + 1) rest held taken
         (λ p g. close_trees ts n g) f in
         record {
@@ -381,7 +381,7 @@ module _ (text : List ℕ) where
         table_group n es at rest held.0 (λ b f. entries_at (deeper n) es (entries_end es n rest) b
         rest held.0 held.1 taken (λ p g. close_entries es n g) f) h
     group_at n (binary bs) at rest held taken h =
-        let (brace, f, head) = head_at text binary_kind (codes "bin") (inr refl) refl h in
+        let (brace, f, head) = opening_at text binary_kind (codes "bin") (inr refl) refl h in
         let (q, joined, piece, no_escape, g) =
         quoted_read text (encode_lower bs) ascii.right_brace rest brace_stop (hex_key bs held)
         (hex_free bs held) f in
@@ -390,7 +390,7 @@ module _ (text : List ℕ) where
         (binary_content q (encode_lower bs) bs (words.quoted joined) (hex_read bs held)
         (no_skip text (solid_at text g refl refl))) g
     group_at n (integer v) at rest held taken h =
-        let (brace, f, head) = head_at text integer_kind (codes "int") (inr refl) refl h in
+        let (brace, f, head) = opening_at text integer_kind (codes "int") (inr refl) refl h in
         let (solid, (q, number, g)) =
         number_read text v ascii.right_brace rest (omega arith) f refl in
         let content : LeafContent text (brace + 1) q integer_kind (integer v) =
@@ -398,7 +398,7 @@ module _ (text : List ℕ) where
         (integer_content q v number (no_skip text (solid_at text g refl refl))) in
         leaf_done integer_kind (integer v) (head (brace + 1) (no_skip text solid)) content g
     group_at n (int_vector ns) at rest held taken h =
-        let (brace, f, head) = head_at text vector_kind (codes "intvector") refl refl h in
+        let (brace, f, head) = opening_at text vector_kind (codes "intvector") refl refl h in
         let (solid, (q, content, g)) = vector_read text ns rest held f in
         leaf_done vector_kind (int_vector ns) (head (brace + 1) (no_skip text solid)) content g
 
@@ -417,7 +417,7 @@ module _ (text : List ℕ) where
           after = c.after;
         }
     trees_at n (more_trees t ts) end at rest held taken close h =
-        item_more n t ts (trees_on n ts end) (λ p f. group_at n t p _ held.0 taken.0 f)
+        member_more n t ts (trees_on n ts end) (λ p f. group_at n t p _ held.0 taken.0 f)
         (λ p f. trees_at n ts end p rest held.1 taken.1 close f) h
 
     pub entries_at : (n : ℕ) (es : Entries) (end : List ℕ) (at : ℕ) (rest : List ℕ)

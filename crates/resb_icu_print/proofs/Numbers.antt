@@ -133,11 +133,11 @@ module _ (text : List ℕ) where
       (solid, (to, numbers (n ∷ ns) all, f))
 
   -- a type, its `{` and what is skipped behind that
-  pub head_at : (kind : Kind) (w : List ℕ) {at : ℕ} {rest : List ℕ} → Names w kind
+  pub opening_at : (kind : Kind) (w : List ℕ) {at : ℕ} {rest : List ℕ} → Names w kind
       → is_bare w ≡ true → From text at (ascii.colon ∷ (w ++ (ascii.left_brace ∷ rest)))
       → (brace : ℕ) × From text (brace + 1) rest
       × ((to : ℕ) → Skip text (brace + 1) to → TypedOpening text at kind to)
-  head_at kind w {at} {rest} names words h =
+  opening_at kind w {at} {rest} names words h =
       let (solid, word, f) = word_read text w ascii.left_brace rest words refl
       (from_next text h) in (
         at + 1 + length w,

@@ -13,7 +13,8 @@ use Rattle.resb_print.specs.declared.place.Place.TheVariants.{InTable, InArray}
 use Rattle.resb_print.specs.Held.{IsHeld, AreHeld, HeldIn}
 use Rattle.resb_print.specs.Printed.{deeper, quoted_on, end_on, trees_end, entries_end}
 use Rattle.resb_print.specs.Printed.{root_type_on}
-use Rattle.resb_print.proofs.Sizes.{deeper_le, line_length, quoted_length, number_length}
+use Rattle.resb_print.proofs.Sizes.{deeper_le, line_length, quoted_length}
+use Rattle.resb_print.proofs.Lists.{number_length}
 use Rattle.resb_print.proofs.Sizes.{numbers_length, end_length, trees_end_length}
 use Rattle.resb_print.proofs.Sizes.{entries_end_length, table_length, root_type_length}
 use Rattle.resb_icu_grammar.specs.Bytes.{backslash}

@@ -14,12 +14,13 @@ use Rattle.resb_tree.specs.declared.resource.Resource.{Resource}
 use Rattle.resb_print.specs.declared.place.Place.{Place}
 use Rattle.resb_print.specs.Printed.{deeper, end_on, close_on}
 use Rattle.resb_print.specs.Held.{IsHeld}
-use Rattle.resb_print.specs.Inner.Jobs.{Job, entry_job, item_job, close_job, IsHeldJob}
+use Rattle.resb_print.specs.Inner.Jobs.{Job, entry_job, member_job, close_job, IsHeldJob}
 use Rattle.resb_print.specs.Inner.Jobs.{AreHeldJobs, job_turns, add_turns, jobs_turns, Appends}
-use Rattle.resb_print.specs.Inner.Jobs.{entry_jobs, item_jobs}
+use Rattle.resb_print.specs.Inner.Jobs.{entry_jobs, member_jobs}
 use Rattle.resb_print.proofs.Steps.{fold_push, fold_more, fold_none, held_push, held_both}
-use Rattle.resb_print.proofs.Steps.{entries_held, entries_turns, items_held, items_turns}
-use Rattle.resb_print.proofs.Steps.{writes_bytes, sorted_none}
+use Rattle.resb_print.proofs.Steps.{entries_held, entries_turns, members_held, members_turns}
+use Rattle.resb_print.proofs.Steps.{sorted_none}
+use Rattle.resb_print.proofs.Lists.{writes_bytes}
 use Rattle.resb_icu_print.specs.declared.cause.IcuCause.{IcuCause}
 use Rattle.resb_icu_print.specs.declared.cause.IcuCause.TheVariants.{KeyHasOtherBytes}
 use Rattle.resb_icu_print.specs.declared.cause.IcuCause.TheVariants.{TableOfCollations}
@@ -48,21 +49,21 @@ entries_cause n js (p ∷ ps) later =
     fold_more job_cause js (entry_jobs n ps) (entry_job n p.0 p.1) later
     ∙ ap (job_cause (entry_job n p.0 p.1)) (entries_cause n js ps later)
 
--- the items of an array
-items_text : (n : ℕ) (js : List Job) (ts : List Tree) (rest : List ℕ)
-    → jobs_on (js ++ reverse (item_jobs n ts)) rest ≡ trees_on n (trees_of ts) (jobs_on js rest)
-items_text n js [] rest = fold_none job_on js rest
-items_text n js (t ∷ ts) rest =
-    fold_more job_on js (item_jobs n ts) (item_job n t) rest
-    ∙ ap (job_on (item_job n t)) (items_text n js ts rest)
+-- the members of an array
+members_text : (n : ℕ) (js : List Job) (ts : List Tree) (rest : List ℕ)
+    → jobs_on (js ++ reverse (member_jobs n ts)) rest ≡ trees_on n (trees_of ts) (jobs_on js rest)
+members_text n js [] rest = fold_none job_on js rest
+members_text n js (t ∷ ts) rest =
+    fold_more job_on js (member_jobs n ts) (member_job n t) rest
+    ∙ ap (job_on (member_job n t)) (members_text n js ts rest)
 
-items_cause : (n : ℕ) (js : List Job) (ts : List Tree) (later : Option IcuCause)
-    → jobs_cause (js ++ reverse (item_jobs n ts)) later
+members_cause : (n : ℕ) (js : List Job) (ts : List Tree) (later : Option IcuCause)
+    → jobs_cause (js ++ reverse (member_jobs n ts)) later
     ≡ causes_else (trees_of ts) (jobs_cause js later)
-items_cause n js [] later = fold_none job_cause js later
-items_cause n js (t ∷ ts) later =
-    fold_more job_cause js (item_jobs n ts) (item_job n t) later
-    ∙ ap (job_cause (item_job n t)) (items_cause n js ts later)
+members_cause n js [] later = fold_none job_cause js later
+members_cause n js (t ∷ ts) later =
+    fold_more job_cause js (member_jobs n ts) (member_job n t) later
+    ∙ ap (job_cause (member_job n t)) (members_cause n js ts later)
 
 -- a resource that leaves nothing to be done
 pub does_leaf : (old new : String Global) (js : List Job) (p : Place) (n : ℕ) (t : Tree)
@@ -79,7 +80,7 @@ does_leaf old new js p n t w free held some = record {
 module _ (old new : String Global) (before after : List Job) (p : Place) (n : ℕ) where
   pub does_array : (ts : List Tree) → string_bytes new ≡ string_bytes old ++ codes ":array{"
       → 0 < length ts
-      → after ≡ (before ++ close_job n p ∷ []) ++ reverse (item_jobs (deeper n) ts)
+      → after ≡ (before ++ close_job n p ∷ []) ++ reverse (member_jobs (deeper n) ts)
       → DoesTree old new before after p n (array (trees_of ts))
   does_array [] e some f = absurd (omega arith)
   does_array (t ∷ ts) e some f =
@@ -87,21 +88,21 @@ module _ (old new : String Global) (before after : List Job) (p : Place) (n : �
       let m = deeper n in
       record {
         text = λ rest. ap (λ js. string_bytes new ++ jobs_on js rest) f
-            ∙ ap (λ l. string_bytes new ++ l) (items_text m (before ++ c ∷ []) (t ∷ ts) rest
+            ∙ ap (λ l. string_bytes new ++ l) (members_text m (before ++ c ∷ []) (t ∷ ts) rest
             ∙ ap (trees_on m (trees_of (t ∷ ts))) (fold_push job_on before c rest))
             ∙ writes_bytes old new (codes ":array{") e (trees_on m (trees_of (t ∷ ts)) (close_on n
             (end_on p (jobs_on before rest))));
         causes = λ later. ap (λ js. jobs_cause js later) f
-            ∙ items_cause m (before ++ c ∷ []) (t ∷ ts) later
+            ∙ members_cause m (before ++ c ∷ []) (t ∷ ts) later
             ∙ ap (causes_else (trees_of (t ∷ ts))) (fold_push job_cause before c later);
         holds = λ h. (
-            let a = items_held m (before ++ c ∷ []) (t ∷ ts) (subst AreHeldJobs f h) in
+            let a = members_held m (before ++ c ∷ []) (t ∷ ts) (subst AreHeldJobs f h) in
             ((held_push before c a.0).0, a.1)
             );
         fewer = omega (
           arith,
           ap jobs_turns f,
-          items_turns m (before ++ c ∷ []) (t ∷ ts),
+          members_turns m (before ++ c ∷ []) (t ∷ ts),
           fold_push add_turns before c 0,
         );
       }
@@ -150,7 +151,7 @@ does_line old line new js ks j write p n t w d same causes held turns = record {
   fewer = omega (arith, d.fewer);
 }
 
--- the whole walk
+-- all jobs in their order
 pub begun : (old : String Global) (js : List Job) (ps : List (List ℕ × Tree))
     → js ≡ reverse (entry_jobs 1 ps) → IsUnderWay old old js (entries_of ps)
 begun old js ps e = record {

@@ -51,15 +51,15 @@ word_key b h =
     let e = below_passes word_is_key 128 b words_are_keys l in
     sym (ap (λ t. not t || is_key_byte b) h) ∙ e
 
-pub key_more : (b : ℕ) (k : List ℕ) → is_key_byte b ≡ true → are_key_bytes k ≡ true
+pub key_bytes_more : (b : ℕ) (k : List ℕ) → is_key_byte b ≡ true → are_key_bytes k ≡ true
     → are_key_bytes (b ∷ k) ≡ true
-key_more b k h t = ap (λ a. not (not a || list_any (λ b. not (is_key_byte b)) k)) h ∙ t
+key_bytes_more b k h t = ap (λ a. not (not a || list_any (λ b. not (is_key_byte b)) k)) h ∙ t
 
 pub words_key : (w : List ℕ) → are_words w ≡ true → are_key_bytes w ≡ true
 words_key [] h = refl
 words_key (b ∷ w) h =
     let p = and_parts (is_word b) (are_words w) h in
-    key_more b w (word_key b p.0) (words_key w p.1)
+    key_bytes_more b w (word_key b p.0) (words_key w p.1)
 
 pub word_each : (s : List ℕ) → are_words s ≡ true → (k : ℕ) → k < length s
     → is_word (slice_index s k) ≡ true
@@ -92,8 +92,8 @@ hex_key (b ∷ bs) low =
     let y = reads_back (b % 16) (omega arith) in
     let high = digit_of (b / 16) in
     let last = digit_of (b % 16) in
-    key_more high (last ∷ encode_lower bs) (word_key high (hex_word high x.hex))
-    (key_more last (encode_lower bs) (word_key last (hex_word last y.hex))
+    key_bytes_more high (last ∷ encode_lower bs) (word_key high (hex_word high x.hex))
+    (key_bytes_more last (encode_lower bs) (word_key last (hex_word last y.hex))
     (hex_key bs (λ k i. low (suc k) (omega arith))))
 
 -- what may stand in a key needs no escape
@@ -122,14 +122,14 @@ key_byte_plain b h q =
     let p = and_parts (not (is_marked b)) (not (is_control b)) f in
     (false_from_not (is_marked b) p.0, false_from_not (is_control b) p.1)
 
-pub key_plain : (k rest : List ℕ) → are_key_bytes k ≡ true → NoQuote k
+pub plain_key_inside : (k rest : List ℕ) → are_key_bytes k ≡ true → NoQuote k
     → inside_on k rest ≡ k ++ rest
-key_plain [] rest h free = refl
-key_plain (b ∷ k) rest h free =
+plain_key_inside [] rest h free = refl
+plain_key_inside (b ∷ k) rest h free =
     let p = but_parts (is_key_byte b) _ h in
     let f = or_parts (b == ascii.quote) (has_quote k) free in
     let q = key_byte_plain b p.0 f.0 in
-    rw (q.0, q.1) (ap (λ l. b ∷ l) (key_plain k rest p.1 f.1))
+    rw (q.0, q.1) (ap (λ l. b ∷ l) (plain_key_inside k rest p.1 f.1))
 
 key_no_escape : (k : List ℕ) → are_key_bytes k ≡ true → (i : ℕ)
     → slice_index (k ++ ascii.quote ∷ []) i ≡ backslash → ⊥
@@ -241,7 +241,7 @@ module _ (text : List ℕ) where
       × From text to (b ∷ rest)
   quoted_read k {at} b rest stop key free h =
       let e : piece_on k (b ∷ rest) ≡ quoted_on k (b ∷ rest) =
-      ap (λ l. ascii.quote ∷ l) (key_plain k (ascii.quote ∷ b ∷ rest) key free) in
+      ap (λ l. ascii.quote ∷ l) (plain_key_inside k (ascii.quote ∷ b ∷ rest) key free) in
       let (to, joined, piece, f) = piece_read k b rest stop (subst (From text at) (sym e) h) in
       let w = k ++ ascii.quote ∷ [] in
       let g : From text (at + 1) (w ++ (b ∷ rest)) = record {

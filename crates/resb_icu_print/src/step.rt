@@ -13,7 +13,7 @@ use crate::error::IcuPrintError;
 use crate::keys::{has_collation, is_key};
 use crate::pieces::{push_key, push_piece};
 use resb_print::{
-    Place, Task, deeper, push_bytes, push_end, push_entries, push_integer, push_items, push_line,
+    Place, Task, deeper, push_bytes, push_end, push_entries, push_integer, push_line, push_members,
     push_vector,
 };
 use resb_tree::{Resource, Table};
@@ -50,7 +50,7 @@ fn push_array<'t, 'a>(
         push_end(out, place)
     } else {
         pending.push(Task::Close(level, place))?;
-        push_items(pending, deeper(level), items)
+        push_members(pending, deeper(level), items)
     }
 }
 
@@ -121,7 +121,7 @@ pub(crate) fn step<'t, 'a>(
             push_resource(alloc, out, pending, Place::InTable, level, resource)?;
             Ok(())
         }
-        Task::Item(level, resource) => {
+        Task::Member(level, resource) => {
             push_line(out, level)?;
             push_resource(alloc, out, pending, Place::InArray, level, resource)?;
             Ok(())

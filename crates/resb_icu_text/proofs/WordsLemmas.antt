@@ -9,14 +9,14 @@ use Rattle.resb_grammar.specs.Ascii as ascii
 use Rattle.resb_grammar.specs.ByteRuns.{Run}
 use Rattle.resb_grammar.specs.Lexical as plain
 use Rattle.resb_grammar.specs.Lexical.{digits_value}
-use Rattle.resb_grammar.proofs.ByteRunsLemmas.{nonzero_inside}
+use Rattle.resb_grammar.proofs.Lists.{nonzero_inside}
 use Rattle.resb_grammar.proofs.ByteRunsLemmas.{Run-one}
 use Rattle.resb_icu_grammar.specs.Bytes.{is_word}
 use Rattle.resb_icu_grammar.specs.Words.{Digits, Number}
 use Rattle.resb_icu_grammar.specs.Words as words
 use Rattle.resb_icu_grammar.proofs.Lexical.{digit_first}
 use Rattle.resb_icu_text.specs.Inner.Numbers.{DigitsInRange, unsigned, plus, minus}
-use Rattle.resb_grammar.proofs.ReaderLemmas.{digits_value-suc}
+use Rattle.resb_grammar.proofs.BothReaders.{digits_value-suc}
 
 -- behind a plus stand no digits of its range
 pub no_plus : (text : List ℕ) (from : ℕ) → slice_index text from ≡ ascii.plus

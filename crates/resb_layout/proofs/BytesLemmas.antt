@@ -13,10 +13,10 @@ abbrev pub EachBelow : ℕ → List ℕ → Type 0
 EachBelow n [] = Unit {0}
 EachBelow n (x ∷ xs) = (x < n) × EachBelow n xs
 
-pub word_read : (w : ℕ) (rest : List ℕ) → w < 2 ^ 32
+pub written_word_read : (w : ℕ) (rest : List ℕ) → w < 2 ^ 32
     → words_of (to_le_bytes w32 w ++ rest) ≡ w ∷ words_of rest
 unfolding words_of
-word_read w rest h = λ i. four_bytes w h i ∷ words_of rest
+written_word_read w rest h = λ i. four_bytes w h i ∷ words_of rest
 
 pub unit_read : (u : ℕ) (rest : List ℕ) → u < 2 ^ 16
     → units_of (to_le_bytes w16 u ++ rest) ≡ u ∷ units_of rest

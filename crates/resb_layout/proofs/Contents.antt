@@ -22,7 +22,8 @@ use Rattle.resb_format.specs.Bytes.{units_as_bytes}
 use Rattle.resb_layout.specs.Laid.{to_data, to_word, pad, binary_body, words_body, near_table_body}
 use Rattle.resb_layout.specs.Laid.{wide_table_body}
 use Rattle.resb_layout.specs.Laws.{StandsIn}
-use Rattle.resb_layout.proofs.BytesLemmas.{EachBelow, word_read, unit_read, words_read, halves_read}
+use Rattle.resb_layout.proofs.BytesLemmas.{EachBelow, written_word_read, unit_read, words_read}
+use Rattle.resb_layout.proofs.BytesLemmas.{halves_read}
 use Rattle.resb_layout.proofs.BytesLemmas.{halves_len, words_behind, units_behind}
 
 -- a part that stands between two others
@@ -134,7 +135,7 @@ module _ (p : Parts) (g : Given) (s : Laid) (ws : List ℕ) (at : ℕ) (e : here
       words_are p g s (words_body ws) stands at e
       ∙ ap (λ l. words_of (before p g s (words_body ws) stands) ++ l) (
       ap words_of (append_assoc (to_le_bytes w32 (length ws)) (words ws) stands.bytes_behind)
-      ∙ word_read (length ws) (words ws ++ stands.bytes_behind) few
+      ∙ written_word_read (length ws) (words ws ++ stands.bytes_behind) few
       ∙ ap (λ l. length ws ∷ l) (words_read ws stands.bytes_behind small)
       )
 
@@ -168,7 +169,7 @@ module _ (p : Parts) (g : Given) (s : Laid) (ps ws : List ℕ) (at : ℕ) (e : h
       ∙ ap (λ l. words_of (before p g s (wide_table_body ps ws) stands) ++ l) (
       ap words_of (append_assoc (to_le_bytes w32 (length ps)) (words ps
       ++ words ws) stands.bytes_behind)
-      ∙ word_read (length ps) ((words ps ++ words ws) ++ stands.bytes_behind) few
+      ∙ written_word_read (length ps) ((words ps ++ words ws) ++ stands.bytes_behind) few
       ∙ ap (λ l. length ps ∷ words_of l) (append_assoc (words ps) (words ws) stands.bytes_behind)
       ∙ ap (λ l. length ps ∷ l) (words_read ps (words ws ++ stands.bytes_behind) near)
       ∙ ap (λ l. length ps ∷ (ps ++ l)) (words_read ws stands.bytes_behind small)
@@ -303,7 +304,7 @@ module _ (p : Parts) (g : Given) (s : Laid) (bytes : List ℕ) (at : ℕ) (e : h
       ∙ ap (λ l. words_of (before p g filled data_body filled_stands) ++ l) (
       ap words_of (append_assoc (to_le_bytes w32 (length bytes)) (bytes
       ++ fill (to_word (length bytes))) stands.bytes_behind)
-      ∙ word_read (length bytes) ((bytes ++ fill (to_word (length bytes)))
+      ∙ written_word_read (length bytes) ((bytes ++ fill (to_word (length bytes)))
       ++ stands.bytes_behind) few
       )
 

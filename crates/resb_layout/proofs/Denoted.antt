@@ -10,14 +10,15 @@ use Rattle.std.proofs.lemmas.List.{length-map}
 use Rattle.resb_tree.specs.Tree.{Tree, string, array, table, binary, integer, int_vector, Trees}
 use Rattle.resb_tree.specs.Tree.{no_trees, more_trees, Entries, no_entries, entry, trees_of}
 use Rattle.resb_tree.specs.Tree.{map_of, tree_count, trees_count, entries_count}
-use Rattle.resb_tree.specs.Maps.{pairs_of}
+use Rattle.resb_tree.specs.Maps.{keyed_trees}
 use Rattle.resb_format.specs.Strings.{key_at}
 use Rattle.resb_format.specs.Parts.{Parts}
 use Rattle.resb_format.specs.Content.{Member, word, unit, leaf, list, entry_list, content_at}
 use Rattle.resb_format.specs.Content.{placed, empty}
-use Rattle.resb_format.specs.Denotes.{Den, den_leaf, den_list, den_pairs, DenMember, den_word}
+use Rattle.resb_format.specs.Denotes.{Den, den_leaf, den_list, den_entries, DenMember, den_word}
 use Rattle.resb_format.specs.Denotes.{den_unit, DenEach, each_none as none_denoted}
-use Rattle.resb_format.specs.Denotes.{each_more as more_denoted, DenPairs, pairs_none, pairs_more}
+use Rattle.resb_format.specs.Denotes.{each_more as more_denoted, DenEntries, entries_none}
+use Rattle.resb_format.specs.Denotes.{entries_more}
 use Rattle.resb_layout.specs.Laid.{Given, Laid, here, more_units, to_data, words_body}
 use Rattle.resb_layout.specs.Laid.{near_table_body}
 use Rattle.resb_layout.specs.Laid.{wide_table_body, is_short_string}
@@ -25,8 +26,8 @@ use Rattle.resb_layout.specs.Laid.{offsets_in, ClosesArray, short_array, long_ar
 use Rattle.resb_layout.specs.Laid.{short_table, long_table, wide_table, entry_trees}
 use Rattle.resb_tree.specs.LayingOrder.{entry_keys}
 use Rattle.resb_layout.specs.Laid.{ArePlaced, Lays, lays_integer, lays_string, lays_no_bytes}
-use Rattle.resb_layout.specs.Laid.{lays_bytes, lays_no_numbers, lays_numbers, lays_no_items}
-use Rattle.resb_layout.specs.Laid.{lays_items, lays_no_entries, lays_entries, LaysEach, each_none}
+use Rattle.resb_layout.specs.Laid.{lays_bytes, lays_no_numbers, lays_numbers, lays_no_members}
+use Rattle.resb_layout.specs.Laid.{lays_members, lays_no_entries, lays_entries, LaysEach, each_none}
 use Rattle.resb_layout.specs.Laid.{each_more}
 use Rattle.resb_layout.specs.Laws.{IsRead, StandsIn, LaidIsDenoted}
 use Rattle.resb_layout.proofs.BytesLemmas.{EachBelow}
@@ -35,7 +36,7 @@ use Rattle.resb_layout.proofs.Contents.{array_found, vector_found, wide_found, t
 use Rattle.resb_layout.proofs.Contents.{binary_found, array16_found, table16_found, word_of_array}
 use Rattle.resb_layout.proofs.Contents.{word_of_array16, word_of_table, word_of_table16}
 use Rattle.resb_layout.proofs.Contents.{word_of_table32, word_of_binary, word_of_vector}
-use Rattle.resb_tree.proofs.MapsLemmas.{map_of-pairs_of}
+use Rattle.resb_tree.proofs.MapsLemmas.{map_of-keyed_trees}
 use Rattle.resb_layout.proofs.Numbers.{some_with}
 
 abbrev list_of : Trees → List Tree
@@ -79,8 +80,8 @@ word_small lays_no_bytes = omega arith
 word_small (lays_bytes at some n e l) = omega arith
 word_small lays_no_numbers = omega arith
 word_small (lays_numbers at some n a e l) = omega arith
-word_small lays_no_items = omega arith
-word_small (lays_items h some c) = (array_word c).0
+word_small lays_no_members = omega arith
+word_small (lays_members h some c) = (array_word c).0
 word_small lays_no_entries = omega arith
 word_small (lays_entries ps p h some c) = (table_word c).0
 
@@ -110,8 +111,8 @@ string_word lays_no_bytes a b = absurd (omega arith)
 string_word (lays_bytes at some n e l) a b = absurd (omega arith)
 string_word lays_no_numbers a b = absurd (omega arith)
 string_word (lays_numbers at some n c e l) a b = absurd (omega arith)
-string_word lays_no_items a b = absurd (omega arith)
-string_word (lays_items h some c) a b = let far = (array_word c).1 in absurd (omega (arith, far))
+string_word lays_no_members a b = absurd (omega arith)
+string_word (lays_members h some c) a b = let far = (array_word c).1 in absurd (omega (arith, far))
 string_word lays_no_entries a b = absurd (omega arith)
 string_word (lays_entries ps p h some c) a b = let far =
     (table_word c).1 in absurd (omega (arith, far))
@@ -133,27 +134,27 @@ module _ (p : Parts) (g : Given) (read : IsRead p g) where
   short_each (each_more h k) e = let both = and_parts _ _ e in
       more_denoted (short_member h both.0) (short_each k both.1)
 
-  none_keyed : (ms : List Member) (n : ℕ) → DenEach p ms [] n → DenPairs p (zip [] ms) [] n
-  none_keyed ms n none_denoted = pairs_none
+  none_keyed : (ms : List Member) (n : ℕ) → DenEach p ms [] n → DenEntries p (zip [] ms) [] n
+  none_keyed ms n none_denoted = entries_none
 
   -- the texts of the keys at these positions
   keyed : (es : Entries) (ps : List ℕ) (ms : List Member) (n : ℕ)
       → map g.position (entry_keys es) ≡ map Some ps → DenEach p ms (list_of (entry_trees es)) n
-      → DenPairs p (zip ps ms) (pairs_of es) n
+      → DenEntries p (zip ps ms) (keyed_trees es) n
   keyed no_entries [] ms n e d = none_keyed ms n d
   keyed no_entries (q ∷ ps) ms n e d = absurd (let no : ⊥ = cc in no)
   keyed (entry k t es) [] ms n e d = absurd (let no : ⊥ = cc in no)
   keyed (entry k t es) (q ∷ ps) ms n e d =
       let first : g.position k ≡ Some q = cc in
       let rest : map g.position (entry_keys es) ≡ map Some ps = cc in
-      one_more (read.keys k q first) (λ ms j h. keyed es ps ms j rest h) ms n d
+      one_and_more (read.keys k q first) (λ ms j h. keyed es ps ms j rest h) ms n d
     where
-      one_more : key_at p.keys q ≡ Some k → ((ms : List Member) (j : ℕ)
-          → DenEach p ms (list_of (entry_trees es)) j → DenPairs p (zip ps ms) (pairs_of es) j)
+      one_and_more : key_at p.keys q ≡ Some k → ((ms : List Member) (j : ℕ)
+          → DenEach p ms (list_of (entry_trees es)) j → DenEntries p (zip ps ms) (keyed_trees es) j)
           → (ms : List Member) (n : ℕ) → DenEach p ms (t ∷ list_of (entry_trees es)) n
-          → DenPairs p (zip (q ∷ ps) ms) ((k, t) ∷ pairs_of es) n
-      one_more key later ms n (more_denoted {k = k'} {ms = ms'} a b) =
-          pairs_more key a (later ms' k' b)
+          → DenEntries p (zip (q ∷ ps) ms) ((k, t) ∷ keyed_trees es) n
+      one_and_more key later ms n (more_denoted {k = k'} {ms = ms'} a b) =
+          entries_more key a (later ms' k' b)
 
 positions_many : (g : Given) (ks : List (List ℕ)) (ps : List ℕ) → map g.position ks ≡ map Some ps
     → length ks ≡ length ps
@@ -178,14 +179,14 @@ module _ (p : Parts) (g : Given) (read : IsRead p g) where
   some_filled : (n m at : ℕ) → 0 < n → n + m ≡ 4 * at → 0 < at
   some_filled n m at h e = omega (arith, e, h)
 
-  one_more : (n : ℕ) → 1 + n ≡ n + 1
-  one_more n = omega arith
+  one_and_more : (n : ℕ) → 1 + n ≡ n + 1
+  one_and_more n = omega arith
 
   as_array : (w : ℕ) (ms : List Member) (ts : Trees) → content_at p w ≡ Some (list ms)
       → DenEach p ms (list_of ts) (trees_count ts) → Den p w (array ts) (trees_count ts + 1)
   as_array w ms ts e d =
       subst (λ us. Den p w (array us) (trees_count ts + 1)) (trees_back ts)
-      (subst (λ n. Den p w (array (trees_of (list_of ts))) n) (one_more (trees_count ts))
+      (subst (λ n. Den p w (array (trees_of (list_of ts))) n) (one_and_more (trees_count ts))
       (den_list e d))
 
   as_table : (w : ℕ) (ps : List ℕ) (ms : List Member) (es : Entries)
@@ -194,12 +195,12 @@ module _ (p : Parts) (g : Given) (read : IsRead p g) where
       → DenEach p ms (list_of (entry_trees es)) (trees_count (entry_trees es))
       → Den p w (table es) (entries_count es + 1)
   as_table w ps ms es placed e d =
-      let ds : DenPairs p (zip ps ms) (pairs_of es) (entries_count es) =
-      subst (λ n. DenPairs p (zip ps ms) (pairs_of es) n) (members_count es)
+      let ds : DenEntries p (zip ps ms) (keyed_trees es) (entries_count es) =
+      subst (λ n. DenEntries p (zip ps ms) (keyed_trees es) n) (members_count es)
       (keyed p g read es ps ms (trees_count (entry_trees es)) placed.positions d) in
-      subst (λ fs. Den p w (table fs) (entries_count es + 1)) (map_of-pairs_of es placed.ascend)
-      (subst (λ n. Den p w (table (map_of (pairs_of es))) n) (one_more (entries_count es))
-      (den_pairs e ds))
+      subst (λ fs. Den p w (table fs) (entries_count es + 1)) (map_of-keyed_trees es placed.ascend)
+      (subst (λ n. Den p w (table (map_of (keyed_trees es))) n) (one_and_more (entries_count es))
+      (den_entries e ds))
 
   abbrev to_data_of : Laid → ℕ
   to_data_of s = to_data (here g s)
@@ -223,13 +224,13 @@ module _ (p : Parts) (g : Given) (read : IsRead p g) where
   unfolding content_at
   no_numbers = refl
 
-  no_items : content_at p 0x8000_0000 ≡ Some (list [])
+  empty_array_stands : content_at p 0x8000_0000 ≡ Some (list [])
   unfolding content_at
-  no_items = refl
+  empty_array_stands = refl
 
-  no_pairs : content_at p 0x2000_0000 ≡ Some (entry_list [])
+  empty_table_stands : content_at p 0x2000_0000 ≡ Some (entry_list [])
   unfolding content_at
-  no_pairs = refl
+  empty_table_stands = refl
 
   -- the empty text alone stands at unit 0
   string_leaf : (text : List ℕ) (k : ℕ) → g.offset text ≡ Some k → k < 2 ^ 28
@@ -312,12 +313,13 @@ module _ (p : Parts) (g : Given) (read : IsRead p g) where
     denoted u (lays_numbers {s = s'} {ns = ns'} at some n a e l) i =
         den_leaf (word_of_vector p at (some_here s' at e) l
         ∙ vector_found p g s' ns' at e (each_below (2 ^ 32) ns' a) n i)
-    denoted u lays_no_items i = as_array 0x8000_0000 [] no_trees no_items none_denoted
-    denoted {e = e'} u (lays_items {s = s'} {mid = m'} {ts = ts'} {ws = ws'} {w = w'} h some c) i =
+    denoted u lays_no_members i = as_array 0x8000_0000 [] no_trees empty_array_stands none_denoted
+    denoted {e = e'} u (lays_members {s = s'} {mid = m'} {ts = ts'} {ws = ws'} {w = w'} h some
+        c) i =
         array_denoted m' ts' ws' e' w' (units_stay (grows_each h) u) c i (words_small h)
         (λ k. denoted_each u h k) (λ k. short_each p g read h k)
     denoted u lays_no_entries i =
-        as_table 0x2000_0000 [] [] no_entries (none_placed g) no_pairs none_denoted
+        as_table 0x2000_0000 [] [] no_entries (none_placed g) empty_table_stands none_denoted
     denoted {e = e'} u (lays_entries {s = s'} {mid = m'} {es = es'} {ws = ws'} {w =
         w'} ps q h some c) i =
         let same : length ps ≡ length ws' = sym (positions_many g (entry_keys es') ps q.positions)

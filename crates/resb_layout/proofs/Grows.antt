@@ -6,7 +6,7 @@ use Rattle.resb_format.specs.Parts.{Parts}
 use Rattle.resb_layout.specs.Laid.{Given, Laid, more_units, more_bytes, ClosesArray, short_array}
 use Rattle.resb_layout.specs.Laid.{long_array, ClosesTable, short_table, long_table, wide_table}
 use Rattle.resb_layout.specs.Laid.{Lays, lays_integer, lays_string, lays_no_bytes, lays_bytes}
-use Rattle.resb_layout.specs.Laid.{lays_no_numbers, lays_numbers, lays_no_items, lays_items}
+use Rattle.resb_layout.specs.Laid.{lays_no_numbers, lays_numbers, lays_no_members, lays_members}
 use Rattle.resb_layout.specs.Laid.{lays_no_entries, lays_entries, LaysEach, each_none, each_more}
 use Rattle.resb_layout.specs.Laws.{StandsIn}
 
@@ -70,8 +70,8 @@ mutual
   grows (lays_bytes at some n e l) = by_bytes _ _
   grows lays_no_numbers = grows_by_nothing _
   grows (lays_numbers at some n a e l) = by_bytes _ _
-  grows lays_no_items = grows_by_nothing _
-  grows (lays_items h some c) = grows_onward (grows_each h) (array_grows c)
+  grows lays_no_members = grows_by_nothing _
+  grows (lays_members h some c) = grows_onward (grows_each h) (array_grows c)
   grows lays_no_entries = grows_by_nothing _
   grows (lays_entries ps p h some c) = grows_onward (grows_each h) (table_grows c)
 

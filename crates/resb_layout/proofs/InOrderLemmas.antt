@@ -17,7 +17,7 @@ use Rattle.resb_layout.specs.Laid.{wide_table_body, binary_body, entry_trees}
 use Rattle.resb_layout.specs.Laid.{ClosesArray, short_array, long_array, ClosesTable}
 use Rattle.resb_layout.specs.Laid.{short_table, long_table, wide_table, Lays, lays_integer}
 use Rattle.resb_layout.specs.Laid.{lays_string, lays_no_bytes, lays_bytes, lays_no_numbers}
-use Rattle.resb_layout.specs.Laid.{lays_numbers, lays_no_items, lays_items, lays_no_entries}
+use Rattle.resb_layout.specs.Laid.{lays_numbers, lays_no_members, lays_members, lays_no_entries}
 use Rattle.resb_layout.specs.Laid.{lays_entries, LaysEach, each_none, each_more}
 use Rattle.resb_layout.specs.InOrder.{TailBody, tail_bytes, tail_numbers, tail_array, tail_table}
 use Rattle.resb_layout.specs.InOrder.{tail_wide_table, FillsTail, tail_ends, tail_without}
@@ -227,8 +227,8 @@ mutual
   in_order {g = g} (lays_numbers {s = s'} {ns = n'} at some n a e l) word =
       in_tail g s' (int_vector n') (words_body n') word (tail_numbers some)
       (words_whole (here g s') n' word)
-  in_order {g = g} (lays_no_items {s = s'}) word = nothing g s' _ word
-  in_order {g = g} (lays_items {ts = ts'} h some c) word =
+  in_order {g = g} (lays_no_members {s = s'}) word = nothing g s' _ word
+  in_order {g = g} (lays_members {ts = ts'} h some c) word =
       let k = each_in_order h word in
       joined_in_order g k (array_in_order g ts' k.whole some c)
   in_order {g = g} (lays_no_entries {s = s'}) word = nothing g s' _ word

@@ -7,7 +7,7 @@ use Rattle.resb_layout.specs.Laid.{to_data}
 use Rattle.resb_layout.specs.Laid.{ClosesArray, short_array, long_array, ClosesTable, short_table}
 use Rattle.resb_layout.specs.Laid.{long_table, wide_table, Lays}
 use Rattle.resb_layout.specs.Laid.{lays_integer, lays_string, lays_no_bytes, lays_bytes}
-use Rattle.resb_layout.specs.Laid.{lays_no_numbers, lays_numbers, lays_no_items, lays_items}
+use Rattle.resb_layout.specs.Laid.{lays_no_numbers, lays_numbers, lays_no_members, lays_members}
 use Rattle.resb_layout.specs.Laid.{lays_no_entries, lays_entries, LaysEach, each_none, each_more}
 use Rattle.resb_layout.specs.Laws.{OneLayout}
 use Rattle.resb_layout.proofs.Numbers.{zero_not_positive, one_quarter, not_both}
@@ -56,10 +56,10 @@ mutual
   once (lays_numbers at some n a e l) lays_no_numbers = absurd (zero_not_positive some refl)
   once {g = g} {s = s} (lays_numbers at some n a e l) (lays_numbers at2 some2 n2 a2 f l2) =
       (refl, ap (λ i. 0xe000_0000 + i) (one_quarter (here g s) at at2 e f))
-  once lays_no_items lays_no_items = (refl, refl)
-  once lays_no_items (lays_items k some c) = absurd (none_inside k some)
-  once (lays_items k some c) lays_no_items = absurd (none_inside k some)
-  once {g = g} {b = b'} {w = w'} (lays_items {mid = m1} {ws = w1} h some c) (lays_items {mid =
+  once lays_no_members lays_no_members = (refl, refl)
+  once lays_no_members (lays_members k some c) = absurd (none_inside k some)
+  once (lays_members k some c) lays_no_members = absurd (none_inside k some)
+  once {g = g} {b = b'} {w = w'} (lays_members {mid = m1} {ws = w1} h some c) (lays_members {mid =
       m2} {ws = w2} k some2 d) =
       let r = once_each h k in
       once_array c (subst (λ m. ClosesArray g m w1 b' w') (sym r.0)

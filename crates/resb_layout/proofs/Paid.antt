@@ -11,7 +11,7 @@ use Rattle.resb_layout.specs.Laid.{binary_body}
 use Rattle.resb_layout.specs.Laid.{ClosesArray, short_array, long_array, ClosesTable}
 use Rattle.resb_layout.specs.Laid.{short_table, long_table, wide_table, Lays, lays_integer}
 use Rattle.resb_layout.specs.Laid.{lays_string, lays_no_bytes, lays_bytes, lays_no_numbers}
-use Rattle.resb_layout.specs.Laid.{lays_numbers, lays_no_items, lays_items, lays_no_entries}
+use Rattle.resb_layout.specs.Laid.{lays_numbers, lays_no_members, lays_members, lays_no_entries}
 use Rattle.resb_layout.specs.Laid.{lays_entries, LaysEach, each_none, each_more}
 use Rattle.resb_layout.specs.Laws.{taken, LaidIsPaid}
 use Rattle.resb_format.proofs.WordsBack.{written_length}
@@ -75,8 +75,8 @@ mutual
   paid lays_no_numbers = omega arith
   paid (lays_numbers {s = s'} {ns = n'} at some n a e l) =
       omega (arith, bytes_taken s' (words_body n'))
-  paid lays_no_items = omega arith
-  paid (lays_items h some c) = let each = paid_each h in let room =
+  paid lays_no_members = omega arith
+  paid (lays_members h some c) = let each = paid_each h in let room =
       array_room c in omega (arith, each, room)
   paid lays_no_entries = omega arith
   paid (lays_entries {es = es'} ps p h some c) = let each = paid_each h in let room =

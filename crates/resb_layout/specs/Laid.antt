@@ -141,8 +141,8 @@ mutual
     lays_numbers : {s : Laid} {ns : List ℕ} (at : ℕ) → 0 < length ns → length ns < 2 ^ 32
         → All (λ n. n < 2 ^ 32) ns → here g s ≡ 4 * at → at < 2 ^ 28
         → Lays g s (int_vector ns) (more_bytes s (words_body ns)) (0xe000_0000 + at)
-    lays_no_items : {s : Laid} → Lays g s (array no_trees) s 0x8000_0000
-    lays_items : {s mid end : Laid} {ts : Trees} {ws : List ℕ} {w : ℕ} → LaysEach g s ts mid ws
+    lays_no_members : {s : Laid} → Lays g s (array no_trees) s 0x8000_0000
+    lays_members : {s mid end : Laid} {ts : Trees} {ws : List ℕ} {w : ℕ} → LaysEach g s ts mid ws
         → 0 < length ws → ClosesArray g mid ws end w → Lays g s (array ts) end w
     lays_no_entries : {s : Laid} → Lays g s (table no_entries) s 0x2000_0000
     lays_entries : {s mid end : Laid} {es : Entries} {ws : List ℕ} {w : ℕ} (ps : List ℕ)

@@ -26,14 +26,15 @@ use Rattle.resb_print.specs.declared.error.PrintError.TheVariants.{NotPrintable,
 use Rattle.resb_print.specs.Laws.{HasNoText}
 use Rattle.resb_print.specs.Inner.Jobs.{Appends, ArePrinted, SaysCause}
 use Rattle.resb_print.specs.Quotes.{NoQuote, FreeIn, has_quote, causes_in_else, first_cause}
-use Rattle.resb_print.proofs.Steps.{writes_bytes, quote_found, quote_missed}
+use Rattle.resb_print.proofs.Steps.{quote_is_cause, quote_missed}
+use Rattle.resb_print.proofs.Lists.{writes_bytes}
 use Rattle.resb_print.proofs.Free.{none_in_free, no_cause}
 use Rattle.resb_print.proofs.Places.{From, byte_at, from_behind, from_next, solid_at, no_skip}
 use Rattle.resb_print.proofs.Places.{at_end, from_inside}
 use Rattle.resb_print.proofs.Places.{run_at, range_is, white_on, solid_byte}
 use Rattle.resb_print.proofs.Words.{name_text, word_each}
-use Rattle.resb_print.proofs.Groups.{Starts, entries_at, none_yet, close_line}
-use Rattle.resb_tree.proofs.MapsLemmas.{map_of-pairs_of}
+use Rattle.resb_print.proofs.Groups.{Starts, entries_at, nothing_gathered, close_line}
+use Rattle.resb_tree.proofs.MapsLemmas.{map_of-keyed_trees}
 
 module _ (text : List ℕ) where
   get_at : (l : List ℕ) (at b : ℕ) (rest : List ℕ) → drop at l ≡ b ∷ rest → slice_get l at ≡ Some b
@@ -126,7 +127,7 @@ module _ (text : List ℕ) where
       let (solid, (ends, named, f2)) = name_text text name s.b s.more free f s.no_word in
       let t = typed_at fallback (subst (From text ends) (sym s.is) f2) in
       let r = entries_at text 1 es (t.brace + 1) (t.brace + 1) [] last held frees
-      (none_yet text (t.brace + 1)) refl t.after in
+      (nothing_gathered text (t.brace + 1)) refl t.after in
       let c = close_line text 0 r.after in
       let (first, skip, items) = r.gathered.read c.place c.skip in (
         first_places (keys_in a_table r.items),
@@ -150,7 +151,7 @@ module _ (text : List ℕ) where
           pairs = r.pairs;
           closes = c.brace;
           after = end_skip c.after;
-          means = ap table (sym (map_of-pairs_of es ascend))
+          means = ap table (sym (map_of-keyed_trees es ascend))
               ∙ ap (λ l. table (map_of l)) (sym r.means);
           lists = refl;
         },
@@ -165,13 +166,14 @@ printed_is_bundle name fallback es free ascend held frees =
     bundle_read (printed_bundle name fallback es) name fallback es free ascend held frees
     (record { is = refl })
 
--- what is written in turn is the text of the bundle
-pub written : (s0 s1 s2 s3 s4 s5 : String Global) (name own : List ℕ) (f : Bool) (es : Entries)
+-- what is bundle_printed in turn is the text of the bundle
+pub bundle_printed : (s0 s1 s2 s3 s4 s5 : String Global) (name own : List ℕ) (f : Bool)
+    (es : Entries)
     → string_bytes s0 ≡ [] → Appends s0 s1 (name_on name) → Appends s1 s2 (root_type_on f)
     → string_bytes s3 ≡ string_bytes s2 ++ codes "{" → ArePrinted s3 s4 es
     → string_bytes s5 ≡ string_bytes s4 ++ (ascii.line_feed ∷ ascii.right_brace ∷ ascii.line_feed ∷
     []) → name ≡ own → string_bytes s5 ≡ printed_bundle own f es
-written s0 s1 s2 s3 s4 s5 name own f es e0 w1 w2 e3 w4 e5 e =
+bundle_printed s0 s1 s2 s3 s4 s5 name own f es e0 w1 w2 e3 w4 e5 e =
     let last = ascii.line_feed ∷ ascii.right_brace ∷ ascii.line_feed ∷ [] in
     let entries = entries_on 1 es last in
     e5 ∙ w4.text last ∙ writes_bytes s2 s3 (codes "{") e3 entries ∙ w2 (ascii.left_brace ∷ entries)
@@ -180,10 +182,11 @@ written s0 s1 s2 s3 s4 s5 name own f es e0 w1 w2 e3 w4 e5 e =
     ∙ ap (λ n. name_on n (root_type_on f (ascii.left_brace ∷ entries))) e
 
 -- and that is a bundle text
-pub whole : (text own : List ℕ) (f : Bool) (es : Entries) (t : Tree) (s3 s4 : String Global)
+pub printed_is_whole : (text own : List ℕ) (f : Bool) (es : Entries) (t : Tree)
+    (s3 s4 : String Global)
     → text ≡ printed_bundle own f es → ArePrinted s3 s4 es → NoQuote own → t ≡ table es
     → (keys : List (List ℕ)) × BundleText text own f t keys
-whole text own f es t s3 s4 same w free r =
+printed_is_whole text own f es t s3 s4 same w free r =
     let (keys, b) = printed_is_bundle own f es free w.ascend w.held
     (none_in_free es None w.no_cause).0 in (
       keys,
@@ -202,13 +205,13 @@ no_text name f t e (inr (x, h, found)) =
     none_some x e = cc
 
 -- a cause in the entries is one of the bundle
-pub root_refused : (name : List ℕ) (es : Entries) (e : PrintError) → NoQuote name
+pub root_has_a_cause : (name : List ℕ) (es : Entries) (e : PrintError) → NoQuote name
     → SaysCause e (causes_in_else es None) → SaysCause e (first_cause name (table es))
-root_refused name es e free (inl h) = inl h
-root_refused name es e free (inr (x, h, found)) =
+root_has_a_cause name es e free (inl h) = inl h
+root_has_a_cause name es e free (inr (x, h, found)) =
     inr (x, h, quote_missed QuoteInName name (causes_in_else es None) free ∙ found)
 
 pub name_refused : (name : List ℕ) (es : Entries) → has_quote name ≡ true
     → SaysCause (NotPrintable QuoteInName) (first_cause name (table es))
 name_refused name es h =
-    inr (QuoteInName, refl, quote_found QuoteInName name (causes_in_else es None) h)
+    inr (QuoteInName, refl, quote_is_cause QuoteInName name (causes_in_else es None) h)

@@ -11,7 +11,7 @@ use Rattle.std.proofs.lemmas.Bool.{false≢true, and_parts, and_from, or_from}
 use Rattle.std.proofs.lemmas.Bool.Decides.{nat_tests}
 use Rattle.resb_tree.specs.Tree.{Tree, string, array, table, binary, integer, int_vector, Trees}
 use Rattle.resb_tree.specs.Tree.{no_trees, more_trees, Entries, no_entries, entry, trees_of, map_of}
-use Rattle.resb_tree.specs.Maps.{text_cmp, pairs_of}
+use Rattle.resb_tree.specs.Maps.{text_cmp, keyed_trees}
 use Rattle.resb_tree.specs.LayingOrder.{array_members, entry_keys}
 use Rattle.resb_grammar.specs.Ascii as ascii
 use Rattle.resb_grammar.specs.ByteRuns.{is_white, is_word}
@@ -33,12 +33,12 @@ use Rattle.resb_print.specs.Printed.{entries_on}
 use Rattle.resb_print.specs.Held.{IsHeld, AreHeld, HeldIn, AreBelow}
 use Rattle.resb_print.specs.Quotes.{NoQuote, IsFree, AreFree, FreeIn}
 use Rattle.resb_print.proofs.Places.{From, byte_at, from_next, solid_at, no_skip, line_blanks}
-use Rattle.resb_print.proofs.Places.{quoted_text}
-use Rattle.resb_print.proofs.Words.{name_text, head_at, number_at}
-use Rattle.resb_tree.proofs.MapsLemmas.{map_of-pairs_of}
+use Rattle.resb_print.proofs.Places.{quoted_text_at}
+use Rattle.resb_print.proofs.Words.{name_text, opening_at, number_at}
+use Rattle.resb_tree.proofs.MapsLemmas.{map_of-keyed_trees}
 use Rattle.resb_tree.proofs.LayingOrderLemmas.{trees_of-array_members}
 use Rattle.resb_tree.proofs.Numbers.{low_bits_kept}
-use Rattle.resb_grammar.proofs.ReaderLemmas.{pairs_are_table}
+use Rattle.resb_grammar.proofs.BothReaders.{pairs_are_table}
 
 -- the first byte of a resource behind its key
 pub record Starts (bytes : List ℕ) : Type 0 where
@@ -191,8 +191,8 @@ module _ (text : List ℕ) where
   pub record Gathered (b at : ℕ) (xs : List Item) : Type 0 where
     pub read : (to : ℕ) → Skip text at to → (first : ℕ) × Skip text b first × Items text first to xs
 
-  pub none_yet : (b : ℕ) → Gathered b b []
-  none_yet b = record { read = λ to skip. (to, skip, nothing to) }
+  pub nothing_gathered : (b : ℕ) → Gathered b b []
+  nothing_gathered b = record { read = λ to skip. (to, skip, nothing to) }
 
   pub record GroupAt (at : ℕ) (t : Tree) (rest : List ℕ) : Type 0 where
     pub to : ℕ
@@ -206,7 +206,7 @@ module _ (text : List ℕ) where
     pub items : List Item
     pub gathered : Gathered b at items
     pub pairs : is_pairs items ≡ true
-    pub means : pairs_in items ≡ pairs_in xs ++ pairs_of es
+    pub means : pairs_in items ≡ pairs_in xs ++ keyed_trees es
     pub after : From text at rest
 
   pub record TreesAt (b : ℕ) (xs : List Item) (ts : Trees) (rest : List ℕ) : Type 0 where
@@ -352,7 +352,7 @@ module _ (text : List ℕ) where
       → TreesAt b xs (more_trees t no_trees) rest
   item_more n (string s) {b} {at} {xs} {rest} free group g h =
       let (p, blanks, f) = line_blanks text n h in
-      let (q, named, f2) = quoted_text text s free f in
+      let (q, named, f2) = quoted_text_at text s free f in
       let (first, skip, items) = g.read p (record {
         blanks = blanks;
         solid = solid_at text f refl refl;
@@ -394,7 +394,7 @@ module _ (text : List ℕ) where
       → GroupAt at (string s) rest
   string_group s {at} {rest} free h =
       let f = from_next text h in
-      let (q, named, f2) = quoted_text text s free f in
+      let (q, named, f2) = quoted_text_at text s free f in
       let i = at + 1 in
       record {
         to = q + 1;
@@ -412,7 +412,7 @@ module _ (text : List ℕ) where
       → EntriesAt b [] es (entries_end es n rest))
       → From text at (tree_on InTable n (table es) rest) → GroupAt at (table es) rest
   table_group n no_entries at rest ascend inner h =
-      let (brace, f, head) = head_at text table_kind (codes "table") refl refl h in
+      let (brace, f, head) = opening_at text table_kind (codes "table") refl refl h in
       let c = close_here f in
       record {
         to = c.place + 1;
@@ -427,7 +427,7 @@ module _ (text : List ℕ) where
       let (first, skip, items) = r.gathered.read c.place c.skip in
       let e : tree_in (shape_of r.items) r.items ≡ table (entry k t es) =
       ap (λ (s : Shape). tree_in s r.items) (pairs_are_table r.items r.pairs)
-      ∙ ap (λ l. table (map_of l)) r.means ∙ ap table (map_of-pairs_of (entry k t es) ascend) in
+      ∙ ap (λ l. table (map_of l)) r.means ∙ ap table (map_of-keyed_trees (entry k t es) ascend) in
       record {
         to = c.place + 1;
         keys = keys_in (shape_of r.items) r.items;
@@ -442,9 +442,9 @@ module _ (text : List ℕ) where
         → From text at (tree_on InTable n t rest) → GroupAt at t rest
     group_at n (string s) at rest held free h = string_group s free h
     group_at n (array ts) at rest held free h =
-        let (brace, f, head) = head_at text array_kind (codes "array") refl refl h in
+        let (brace, f, head) = opening_at text array_kind (codes "array") refl refl h in
         let r = trees_at (deeper n) ts (brace + 1) (brace + 1) [] (trees_end ts n rest) held free
-        (none_yet (brace + 1)) f in
+        (nothing_gathered (brace + 1)) f in
         let c = close_trees ts n r.after in
         let (first, skip, items) = r.gathered.read c.place c.skip in
         let e : array (trees_of (item_trees r.items)) ≡ array ts =
@@ -458,16 +458,16 @@ module _ (text : List ℕ) where
         }
     group_at n (table es) at rest held free h =
         table_group n es at rest held.0 (λ b f. entries_at (deeper n) es b b []
-        (entries_end es n rest) held.1 free (none_yet b) refl f) h
+        (entries_end es n rest) held.1 free (nothing_gathered b) refl f) h
     group_at n (binary bs) at rest held free h =
-        let (brace, f, head) = head_at text binary_kind (codes "bin") (inr refl) refl h in
-        let (q, digits, f2) = quoted_text text (encode_lower bs) (hex_free bs held) f in
+        let (brace, f, head) = opening_at text binary_kind (codes "bin") (inr refl) refl h in
+        let (q, digits, f2) = quoted_text_at text (encode_lower bs) (hex_free bs held) f in
         leaf_done binary_kind (binary bs)
         (head (brace + 1) (no_skip text (solid_at text f refl refl)))
         (binary_content q (encode_lower bs) bs digits (hex_read bs held)
         (no_skip text (solid_at text f2 refl refl))) f2
     group_at n (integer v) at rest held free h =
-        let (brace, f, head) = head_at text integer_kind (codes "int") (inr refl) refl h in
+        let (brace, f, head) = opening_at text integer_kind (codes "int") (inr refl) refl h in
         let (solid, (q, number, f2)) = number_at text v ascii.right_brace rest (omega arith) f refl
         in
         let content : LeafContent text (brace + 1) q integer_kind (integer v) =
@@ -475,7 +475,7 @@ module _ (text : List ℕ) where
         (integer_content q v number (no_skip text (solid_at text f2 refl refl))) in
         leaf_done integer_kind (integer v) (head (brace + 1) (no_skip text solid)) content f2
     group_at n (int_vector ns) at rest held free h =
-        let (brace, f, head) = head_at text vector_kind (codes "intvector") refl refl h in
+        let (brace, f, head) = opening_at text vector_kind (codes "intvector") refl refl h in
         let (solid, (q, vector, f2)) = vector_read ns rest held f in
         leaf_done vector_kind (int_vector ns) (head (brace + 1) (no_skip text solid))
         (vector_content ns vector) f2
@@ -521,7 +521,7 @@ module _ (text : List ℕ) where
           items = r.items;
           gathered = r.gathered;
           pairs = r.pairs;
-          means = r.means ∙ ap (λ l. l ++ pairs_of es) one.means
-              ∙ append_assoc (pairs_in xs) ((k, t) ∷ []) (pairs_of es);
+          means = r.means ∙ ap (λ l. l ++ keyed_trees es) one.means
+              ∙ append_assoc (pairs_in xs) ((k, t) ∷ []) (keyed_trees es);
           after = r.after;
         }

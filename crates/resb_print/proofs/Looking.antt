@@ -92,35 +92,35 @@ module _ (c : CauseTests) where
       (entries_path ls ps path)
 
   -- what is inside a resource
-  pub enters_string : (ls : List ToLookAt) (s : List ℕ) (b : Bool) → b ≡ c.of_string s
+  pub looks_into_string : (ls : List ToLookAt) (s : List ℕ) (b : Bool) → b ≡ c.of_string s
       → EntersTree c ls ls (string s) b
-  enters_string ls s b e = record {
+  looks_into_string ls s b e = record {
     met = λ h path later. found_here (c.of_string s) path later (sym e ∙ h);
     passed = λ h path. sym (passed_here (c.of_string s) path (looks_path c ls path) (sym e ∙ h));
     fewer = omega arith;
   }
 
-  pub enters_array : (ls ks : List ToLookAt) (ts : Trees) → ks ≡ ls ++ member_look 0 ts ∷ []
+  pub looks_into_array : (ls ks : List ToLookAt) (ts : Trees) → ks ≡ ls ++ member_look 0 ts ∷ []
       → EntersTree c ls ks (array ts) false
-  enters_array ls ks ts e = record {
+  looks_into_array ls ks ts e = record {
     met = λ h path later. absurd (false≢true h);
     passed = λ h path. ap (λ m. looks_path c m path) e
         ∙ ap (λ f. f path) (fold_look (look_path c) ls (member_look 0 ts) nowhere);
     fewer = omega (arith, ap looks_turns e, fold_look add_look ls (member_look 0 ts) 0);
   }
 
-  pub enters_table : (ls ks : List ToLookAt) (ps : List (List ℕ × Tree))
+  pub looks_into_table : (ls ks : List ToLookAt) (ps : List (List ℕ × Tree))
       → ks ≡ ls ++ reverse (entry_looks ps) → EntersTree c ls ks (table (entries_of ps)) false
-  enters_table ls ks ps e = record {
+  looks_into_table ls ks ps e = record {
     met = λ h path later. absurd (false≢true h);
     passed = λ h path. ap (λ m. looks_path c m path) e ∙ entries_path ls ps path;
     fewer = omega (arith, ap looks_turns e, entries_turns ls ps);
   }
 
-  pub enters_leaf : (ls : List ToLookAt) (t : Tree)
+  pub looks_into_leaf : (ls : List ToLookAt) (t : Tree)
       → ((path : List Step) (later : Option (List Step)) → path_else c path t later ≡ later)
       → 0 < tree_count t → EntersTree c ls ls t false
-  enters_leaf ls t same some = record {
+  looks_into_leaf ls t same some = record {
     met = λ h path later. absurd (false≢true h);
     passed = λ h path. sym (same path (looks_path c ls path));
     fewer = omega arith;
@@ -199,7 +199,7 @@ module _ (c : CauseTests) where
         );
       }
 
-  -- the whole walk
+  -- all that is looked at
   pub path_begun : (ls : List ToLookAt) (path : List Step) (ps : List (List ℕ × Tree))
       → ls ≡ reverse (entry_looks ps) → path ≡ []
       → looks_path c ls path ≡ entry_path_else c [] (entries_of ps) None

@@ -128,9 +128,9 @@ module _ (text : List ℕ) where
         longest = ap p (byte_at r) ∙ other;
       }
 
-  pub quoted_text : (s : List ℕ) {at : ℕ} {rest : List ℕ} → NoQuote s
+  pub quoted_text_at : (s : List ℕ) {at : ℕ} {rest : List ℕ} → NoQuote s
       → From text at (quoted_on s rest) → (to : ℕ) × Text text at to s × From text to rest
-  quoted_text s {at} {rest} free h =
+  quoted_text_at s {at} {rest} free h =
       let a = from_next h in
       let b = from_behind s (ascii.quote ∷ rest) a in
       let last = at + 1 + length s in (

@@ -1,9 +1,8 @@
 -- No printed text is longer than its limit.
-use Rattle.std.proofs.Common.{◌≡◌, ℕ, zero, suc, ◌+◌, ◌*◌, ◌^◌, ◌<◌, ◌≤◌, Bool, true, false, List}
+use Rattle.std.proofs.Common.{◌≡◌, ℕ, zero, suc, ◌+◌, ◌*◌, ◌^◌, ◌≤◌, Bool, true, false, List}
 use Rattle.std.proofs.Common.{[], ◌∷◌, ◌++◌, length, sym, subst, arith}
-use Rattle.std.specs.Prelude.{decimal, cond}
+use Rattle.std.specs.Prelude.{cond}
 use Rattle.std.proofs.lemmas.Bool.Decides.{nat_tests}
-use Rattle.std.proofs.lemmas.Fmt.{length-decimal-le}
 use Rattle.std.proofs.lemmas.List.{length-append}
 use Rattle.hex.specs.Hex.{encode_lower, lower_digits}
 use Rattle.hex.proofs.HexLemmas.{length-encode_with}
@@ -18,6 +17,7 @@ use Rattle.resb_print.specs.Printed.{more_numbers_on, numbers_on, end_on, string
 use Rattle.resb_print.specs.Printed.{trees_end, entries_end, table_on, tree_on, trees_on}
 use Rattle.resb_print.specs.Printed.{entries_on, root_type_on, printed_bundle}
 use Rattle.resb_print.specs.Sizes.{data_length, data_lengths, data_length_in, text_limit}
+use Rattle.resb_print.proofs.Lists.{number_length}
 
 -- one level deeper than a level up to 32 is such a level too
 pub deeper_le : (n : ℕ) → n ≤ 32 → deeper n ≤ 32
@@ -41,14 +41,6 @@ name_length s rest = by (is_bare s)
     by : (b : Bool) → length (cond b (s ++ rest) (quoted_on s rest)) ≤ length s + 2 + length rest
     by true = omega (arith, length-append s rest)
     by false = omega (arith, quoted_length s rest)
-
-digits : (n : ℕ) → n < 2 ^ 32 → length (decimal n) ≤ 10
-digits n h = length-decimal-le 10 n (omega arith) (omega arith) (omega arith)
-
--- a number of 32 bits takes 10 digits at most
-pub number_length : (n : ℕ) (rest : List ℕ) → n < 2 ^ 32
-    → length (decimal n ++ rest) ≤ 10 + length rest
-number_length n rest h = omega (arith, length-append (decimal n) rest, digits n h)
 
 more_numbers_length : (ns rest : List ℕ) → AreBelow (2 ^ 32) ns
     → length (more_numbers_on ns rest) ≤ 11 * length ns + length rest

@@ -3,8 +3,7 @@ use Rattle.std.proofs.Common.{◌≡◌, ℕ, ◌+◌, ◌*◌, ◌<◌, true, f
 use Rattle.std.proofs.Common.{[], ◌∷◌, ◌++◌}
 use Rattle.std.proofs.Common.{map, reverse, length, refl, sym, ◌∙◌, ap, subst, arith, append_assoc}
 use Rattle.std.proofs.Common.{Option, Some, None}
-use Rattle.std.specs.Prelude.{codes, ◌==◌}
-use Rattle.std.proofs.lemmas.Bool.Decides.{nat_tests}
+use Rattle.std.specs.Prelude.{codes}
 use Rattle.std.specs.String.{string_bytes}
 use Rattle.std.specs.declared.alloc.Global.{Global}
 use Rattle.std.specs.declared.string.String.{String}
@@ -20,16 +19,17 @@ use Rattle.resb_print.specs.Printed.{deeper, tree_on, trees_on, entries_on, end_
 use Rattle.resb_print.specs.Printed.{close_on}
 use Rattle.resb_print.specs.Quotes.{has_quote, quote_else, cause_else, causes_else, causes_in_else}
 use Rattle.resb_print.specs.Held.{IsHeld, AreHeld, HeldIn}
-use Rattle.resb_print.specs.Inner.Jobs.{Job, entry_job, item_job, close_job, job_on, fold_jobs}
+use Rattle.resb_print.specs.Inner.Jobs.{Job, entry_job, member_job, close_job, job_on, fold_jobs}
 use Rattle.resb_print.specs.Inner.Jobs.{jobs_on, job_cause, jobs_cause, IsHeldJob, AreHeldJobs}
 use Rattle.resb_print.specs.Inner.Jobs.{job_turns, add_turns, jobs_turns, Appends, entry_jobs}
-use Rattle.resb_print.specs.Inner.Jobs.{item_jobs, DoesTree, DoesJob, IsUnderWay, SaysFirstCause}
+use Rattle.resb_print.specs.Inner.Jobs.{member_jobs, DoesTree, DoesJob, IsUnderWay, SaysFirstCause}
 use Rattle.resb_print.specs.Inner.Jobs.{SaysCause}
 use Rattle.resb_print.specs.declared.error.PrintError.{PrintError}
 use Rattle.resb_print.specs.declared.error.PrintError.TheVariants.{NotPrintable}
 use Rattle.resb_tree.specs.Maps.{text_cmp}
 use Rattle.std.specs.List.Sorted.{IsStrictlySortedBy}
 use Rattle.std.proofs.Common.{inl, inr}
+use Rattle.resb_print.proofs.Lists.{writes_bytes}
 
 -- a job is put, where those before it come later
 pub put_before : (js ks : List Job) (j : Job)
@@ -43,11 +43,11 @@ pub entry_last : (n : ℕ) (es : List (List ℕ × Resource)) (e : List ℕ × R
 entry_last n [] e = refl
 entry_last n (f ∷ es) e = ap (λ l. entry_job n f.0 (tree_of f.1) ∷ l) (entry_last n es e)
 
-pub item_last : (n : ℕ) (rs : List Resource) (r : Resource)
-    → item_jobs n (map tree_of (rs ++ r ∷ []))
-    ≡ item_jobs n (map tree_of rs) ++ item_job n (tree_of r) ∷ []
-item_last n [] r = refl
-item_last n (s ∷ rs) r = ap (λ l. item_job n (tree_of s) ∷ l) (item_last n rs r)
+pub member_last : (n : ℕ) (rs : List Resource) (r : Resource)
+    → member_jobs n (map tree_of (rs ++ r ∷ []))
+    ≡ member_jobs n (map tree_of rs) ++ member_job n (tree_of r) ∷ []
+member_last n [] r = refl
+member_last n (s ∷ rs) r = ap (λ l. member_job n (tree_of s) ∷ l) (member_last n rs r)
 
 -- a job at the end is folded in last
 pub fold_push : {X : Type 0} (f : Job → X → X) (js : List Job) (j : Job) (x : X)
@@ -116,37 +116,38 @@ entries_turns n js (p ∷ ps) =
     fold_more add_turns js (entry_jobs n ps) (entry_job n p.0 p.1) 0
     ∙ omega (arith, entries_turns n js ps)
 
--- the items of an array
-items_text : (n : ℕ) (js : List Job) (ts : List Tree) (rest : List ℕ)
-    → jobs_on (js ++ reverse (item_jobs n ts)) rest ≡ trees_on n (trees_of ts) (jobs_on js rest)
-items_text n js [] rest = fold_none job_on js rest
-items_text n js (t ∷ ts) rest =
-    fold_more job_on js (item_jobs n ts) (item_job n t) rest
-    ∙ ap (job_on (item_job n t)) (items_text n js ts rest)
+-- the members of an array
+members_text : (n : ℕ) (js : List Job) (ts : List Tree) (rest : List ℕ)
+    → jobs_on (js ++ reverse (member_jobs n ts)) rest ≡ trees_on n (trees_of ts) (jobs_on js rest)
+members_text n js [] rest = fold_none job_on js rest
+members_text n js (t ∷ ts) rest =
+    fold_more job_on js (member_jobs n ts) (member_job n t) rest
+    ∙ ap (job_on (member_job n t)) (members_text n js ts rest)
 
-items_cause : (n : ℕ) (js : List Job) (ts : List Tree) (later : Option Cause)
-    → jobs_cause (js ++ reverse (item_jobs n ts)) later
+members_cause : (n : ℕ) (js : List Job) (ts : List Tree) (later : Option Cause)
+    → jobs_cause (js ++ reverse (member_jobs n ts)) later
     ≡ causes_else (trees_of ts) (jobs_cause js later)
-items_cause n js [] later = fold_none job_cause js later
-items_cause n js (t ∷ ts) later =
-    fold_more job_cause js (item_jobs n ts) (item_job n t) later
-    ∙ ap (job_cause (item_job n t)) (items_cause n js ts later)
+members_cause n js [] later = fold_none job_cause js later
+members_cause n js (t ∷ ts) later =
+    fold_more job_cause js (member_jobs n ts) (member_job n t) later
+    ∙ ap (job_cause (member_job n t)) (members_cause n js ts later)
 
--- where the jobs of items are held behind others, so are the others, and what is in the items
-pub items_held : (n : ℕ) (js : List Job) (ts : List Tree)
-    → AreHeldJobs (js ++ reverse (item_jobs n ts)) → AreHeldJobs js × AreHeld (trees_of ts)
-items_held n js [] h = (subst AreHeldJobs (append-nil js) h, tt)
-items_held n js (t ∷ ts) h =
-    let a = held_more js (item_jobs n ts) (item_job n t) h in
-    let b = items_held n js ts a.0 in
+-- where the jobs of members are held behind others, so are the others, and what is in the members
+pub members_held : (n : ℕ) (js : List Job) (ts : List Tree)
+    → AreHeldJobs (js ++ reverse (member_jobs n ts)) → AreHeldJobs js × AreHeld (trees_of ts)
+members_held n js [] h = (subst AreHeldJobs (append-nil js) h, tt)
+members_held n js (t ∷ ts) h =
+    let a = held_more js (member_jobs n ts) (member_job n t) h in
+    let b = members_held n js ts a.0 in
     (b.0, (a.1, b.1))
 
--- the jobs of items take two turns for each resource in them
-pub items_turns : (n : ℕ) (js : List Job) (ts : List Tree)
-    → jobs_turns (js ++ reverse (item_jobs n ts)) ≡ jobs_turns js + 2 * trees_count (trees_of ts)
-items_turns n js [] = fold_none add_turns js 0 ∙ omega arith
-items_turns n js (t ∷ ts) =
-    fold_more add_turns js (item_jobs n ts) (item_job n t) 0 ∙ omega (arith, items_turns n js ts)
+-- the jobs of members take two turns for each resource in them
+pub members_turns : (n : ℕ) (js : List Job) (ts : List Tree)
+    → jobs_turns (js ++ reverse (member_jobs n ts)) ≡ jobs_turns js + 2 * trees_count (trees_of ts)
+members_turns n js [] = fold_none add_turns js 0 ∙ omega arith
+members_turns n js (t ∷ ts) =
+    fold_more add_turns js (member_jobs n ts) (member_job n t) 0
+    ∙ omega (arith, members_turns n js ts)
 
 -- a resource that leaves nothing to be done
 pub does_leaf : (old new : String Global) (js : List Job) (p : Place) (n : ℕ) (t : Tree)
@@ -159,16 +160,11 @@ does_leaf old new js p n t w free held some = record {
   fewer = omega arith;
 }
 
--- bytes that were written stand between what was there before and what comes
-pub writes_bytes : (old new : String Global) (w : List ℕ) → string_bytes new ≡ string_bytes old ++ w
-    → (rest : List ℕ) → string_bytes new ++ rest ≡ string_bytes old ++ (w ++ rest)
-writes_bytes old new w e rest = ap (λ l. l ++ rest) e ∙ append_assoc (string_bytes old) w rest
-
 -- a collection begins, and leaves what is inside it and its end
 module _ (old new : String Global) (before after : List Job) (p : Place) (n : ℕ) where
   pub does_array : (ts : List Tree) → string_bytes new ≡ string_bytes old ++ codes ":array{"
       → 0 < length ts
-      → after ≡ (before ++ close_job n p ∷ []) ++ reverse (item_jobs (deeper n) ts)
+      → after ≡ (before ++ close_job n p ∷ []) ++ reverse (member_jobs (deeper n) ts)
       → DoesTree old new before after p n (array (trees_of ts))
   does_array [] e some f = absurd (omega arith)
   does_array (t ∷ ts) e some f =
@@ -176,21 +172,21 @@ module _ (old new : String Global) (before after : List Job) (p : Place) (n : �
       let m = deeper n in
       record {
         text = λ rest. ap (λ js. string_bytes new ++ jobs_on js rest) f
-            ∙ ap (λ l. string_bytes new ++ l) (items_text m (before ++ c ∷ []) (t ∷ ts) rest
+            ∙ ap (λ l. string_bytes new ++ l) (members_text m (before ++ c ∷ []) (t ∷ ts) rest
             ∙ ap (trees_on m (trees_of (t ∷ ts))) (fold_push job_on before c rest))
             ∙ writes_bytes old new (codes ":array{") e (trees_on m (trees_of (t ∷ ts)) (close_on n
             (end_on p (jobs_on before rest))));
         causes = λ later. ap (λ js. jobs_cause js later) f
-            ∙ items_cause m (before ++ c ∷ []) (t ∷ ts) later
+            ∙ members_cause m (before ++ c ∷ []) (t ∷ ts) later
             ∙ ap (causes_else (trees_of (t ∷ ts))) (fold_push job_cause before c later);
         holds = λ h. (
-            let a = items_held m (before ++ c ∷ []) (t ∷ ts) (subst AreHeldJobs f h) in
+            let a = members_held m (before ++ c ∷ []) (t ∷ ts) (subst AreHeldJobs f h) in
             ((held_push before c a.0).0, a.1)
             );
         fewer = omega (
           arith,
           ap jobs_turns f,
-          items_turns m (before ++ c ∷ []) (t ∷ ts),
+          members_turns m (before ++ c ∷ []) (t ∷ ts),
           fold_push add_turns before c 0,
         );
       }
@@ -245,7 +241,7 @@ pub held_both : (js : List Job) (j : Job) → AreHeldJobs js × IsHeldJob j
 held_both [] j h = (h.1, tt)
 held_both (i ∷ js) j h = ((h.0).0, held_both js j ((h.0).1, h.1))
 
--- the whole walk
+-- all jobs in their order
 pub begun : (old : String Global) (js : List Job) (ps : List (List ℕ × Tree))
     → js ≡ reverse (entry_jobs 1 ps) → IsUnderWay old old js (entries_of ps)
 begun old js ps e = record {
@@ -284,23 +280,19 @@ refused js ls j es old now e f u (inr (x, h, g)) =
           ∙ g (jobs_cause js None),
     )
 
--- a number that is not 0 is positive
-pub not_empty : (n : ℕ) → (n == 0) ≡ false → 0 < n
-not_empty n h = grind (arith, nat_tests)
-
 -- where there are entries, there are entries of their trees
 pub many_entries : (es : List (List ℕ × Resource)) → 0 < length es → 0 < length (pairs_view es)
 many_entries [] h = h
 many_entries (e ∷ es) h = omega arith
 
 -- where there are items, there are trees of them
-pub many_items : (rs : List Resource) → 0 < length rs → 0 < length (map tree_of rs)
-many_items [] h = h
-many_items (r ∷ rs) h = omega arith
+pub many_members : (rs : List Resource) → 0 < length rs → 0 < length (map tree_of rs)
+many_members [] h = h
+many_members (r ∷ rs) h = omega arith
 
-pub quote_found : (x : Cause) (s : List ℕ) (later : Option Cause) → has_quote s ≡ true
+pub quote_is_cause : (x : Cause) (s : List ℕ) (later : Option Cause) → has_quote s ≡ true
     → quote_else x s later ≡ Some x
-quote_found x s later h = rw h refl
+quote_is_cause x s later h = rw h refl
 
 pub quote_missed : (x : Cause) (s : List ℕ) (later : Option Cause) → has_quote s ≡ false
     → quote_else x s later ≡ later
@@ -316,7 +308,7 @@ pub refuses_quote : (e : PrintError) (x : Cause) (s : List ℕ) (g : Option Caus
     → ((later : Option Cause) → (m : Option Cause) × (g later ≡ quote_else x s m))
     → SaysFirstCause e g
 refuses_quote e x s g h q same =
-    inr (x, h, λ later. (same later).1 ∙ quote_found x s (same later).0 q)
+    inr (x, h, λ later. (same later).1 ∙ quote_is_cause x s (same later).0 q)
 
 -- no keys are in order
 pub sorted_none : IsStrictlySortedBy text_cmp []

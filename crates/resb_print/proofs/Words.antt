@@ -17,7 +17,7 @@ use Rattle.resb_print.specs.Quotes.{NoQuote}
 use Rattle.resb_print.proofs.Places.{From, byte_at, from_behind, from_next, from_among, range_is}
 use Rattle.resb_print.proofs.Places.{solid_at, no_skip}
 use Rattle.resb_print.proofs.Places.{solid_byte}
-use Rattle.resb_print.proofs.Places.{run_at, quoted_text}
+use Rattle.resb_print.proofs.Places.{run_at, quoted_text_at}
 
 pub word_each : (s : List ℕ) → are_words s ≡ true → (k : ℕ) → k < length s
     → is_word (slice_index s k) ≡ true
@@ -63,7 +63,7 @@ module _ (text : List ℕ) where
           from_behind text s (b ∷ rest) f,
         ),
       )
-      go false e f = (solid_at text f refl refl, quoted_text text s free f)
+      go false e f = (solid_at text f refl refl, quoted_text_at text s free f)
 
   -- a type and its `{`
   pub type_at : (kind : Kind) (w : List ℕ) {at : ℕ} {rest : List ℕ} → Names w kind
@@ -89,11 +89,11 @@ module _ (text : List ℕ) where
       )
 
   -- a type, its `{` and what is skipped behind that
-  pub head_at : (kind : Kind) (w : List ℕ) {at : ℕ} {rest : List ℕ} → Names w kind
+  pub opening_at : (kind : Kind) (w : List ℕ) {at : ℕ} {rest : List ℕ} → Names w kind
       → are_words w ≡ true → From text at (ascii.colon ∷ (w ++ (ascii.left_brace ∷ rest)))
       → (brace : ℕ) × From text (brace + 1) rest
       × ((to : ℕ) → Skip text (brace + 1) to → TypedOpening text at kind to)
-  head_at kind w {at} {rest} names words h =
+  opening_at kind w {at} {rest} names words h =
       let (ends, type, skip, opens, r) = type_at kind w names words h in (
         ends,
         r,

@@ -21,5 +21,5 @@ pub use print::print_text;
 pub use path::{CauseTests, path_in};
 pub use pieces::{has_quote, push_end, push_line, push_quoted, push_root_type};
 pub use place::Place;
-pub use step::{deeper, push_bytes, push_entries, push_integer, push_items, push_vector};
+pub use step::{deeper, push_bytes, push_entries, push_integer, push_members, push_vector};
 pub use task::Task;

@@ -11,7 +11,7 @@ ghost use Rattle.resb_print.specs.Held.{IsHeld};
 ghost use Rattle.resb_print.specs.Quotes.{cause_else};
 ghost use Rattle.resb_print.specs.Printed as printed;
 ghost use Rattle.resb_print.specs.Printed.{string_on, tree_on};
-ghost use Rattle.resb_print.specs.Inner.Jobs.{jobs_in, job_of, job_cause, entry_jobs, item_jobs};
+ghost use Rattle.resb_print.specs.Inner.Jobs.{jobs_in, job_of, job_cause, entry_jobs, member_jobs};
 ghost use Rattle.resb_print.specs.Inner.Jobs.{Appends, DoesJob, DoesTree, SaysFirstCause};
 
 use crate::cause::Cause;
@@ -48,17 +48,17 @@ pub fn push_entries<'t, 'a>(
     Ok(())
 }
 
-/// Puts the items of an array, the last one first.
-pub fn push_items<'t, 'a>(
+/// Puts the members of an array, the last one first.
+pub fn push_members<'t, 'a>(
     pending: &mut Vec<Task<'t, 'a>>,
     level: usize,
-    items: &'t [Resource<'a>],
+    members: &'t [Resource<'a>],
 ) -> Result<(), AllocError>
     ensures { OnOk result (jobs_in pending.new.items
-        ≡ jobs_in pending.old.items ++ reverse (item_jobs level (map tree_of items.now))) }
+        ≡ jobs_in pending.old.items ++ reverse (member_jobs level (map tree_of members.now))) }
 {
-    for item in items.iter().rev() {
-        pending.push(Task::Item(level, item))?;
+    for member in members.iter().rev() {
+        pending.push(Task::Member(level, member))?;
     }
     Ok(())
 }
@@ -133,7 +133,7 @@ fn push_array<'t, 'a>(
         push_end(out, place)
     } else {
         pending.push(Task::Close(level, place))?;
-        push_items(pending, deeper(level), items)
+        push_members(pending, deeper(level), items)
     }
 }
 
@@ -222,7 +222,7 @@ pub(crate) fn step<'t, 'a>(
             push_name(out, key.as_str())?;
             push_resource(alloc, out, pending, Place::InTable, level, resource)
         }
-        Task::Item(level, resource) => {
+        Task::Member(level, resource) => {
             push_line(out, level)?;
             push_resource(alloc, out, pending, Place::InArray, level, resource)
         }

@@ -8,8 +8,8 @@ use resb_tree::{Key, Resource};
 pub enum Task<'t, 'a> {
     /// A key and its resource.
     Entry(usize, &'t Key<'a>, &'t Resource<'a>),
-    /// An item of an array.
-    Item(usize, &'t Resource<'a>),
+    /// A member of an array.
+    Member(usize, &'t Resource<'a>),
     /// The end of a collection that stands at this place.
     Close(usize, Place),
 }

@@ -3,7 +3,7 @@ use Rattle.std.proofs.Common.{ℕ, List, ◌≡◌, ◌≤◌, ◌+◌, inl, inr
 use Rattle.std.proofs.Common.{sym, subst, arith}
 use Rattle.resb.specs.Tree.{Tree}
 use Rattle.resb_head.specs.File.{parts_of, Denotes, budget}
-use Rattle.resb_format.proofs.Denoting.{unique, counted}
+use Rattle.resb_format.proofs.Denoting.{unique, reached_at_most}
 use Rattle.resb_format.specs.declared.error.ReadingError.{ReadingError}
 use Rattle.resb_format.specs.Error.{refusal_of, IsWantOfMemory}
 use Rattle.resb_read.specs.RefusedReadings.{RefusesTree}
@@ -28,7 +28,8 @@ denoted_memory bytes t n e d fits (inl fault) =
     absurd (no_bundle bytes (refusal_of e) fault d.head)
 denoted_memory bytes t n e d fits (inr (is, inl m, _)) = m
 denoted_memory bytes t n e d fits (inr (is, inr (inl (spent, reaches)), _)) =
-    let k : budget bytes + 1 ≤ n = counted (parts_of bytes) d.root reaches in absurd (omega arith)
+    let k : budget bytes + 1 ≤ n =
+    reached_at_most (parts_of bytes) d.root reaches in absurd (omega arith)
 denoted_memory bytes t n e d fits (inr (is, inr (inr (fault, stuck)), _)) =
     absurd (stuck.0 t n d.root)
 

@@ -150,9 +150,9 @@ sound_from : (o : Option (List ℕ × ℕ)) (es : List (Place × Place)) → key
 sound_from (Some t) es h = (t, refl, sound_above t.0 es h)
 sound_from None es h = absurd (false≢true h)
 
-pub sound : (es : List (Place × Place)) → keys_ascend es ≡ true → Ascend es
-sound [] h = tt
-sound (e ∷ es) h = sound_from (key_of e) es h
+pub keys_ascend_sound : (es : List (Place × Place)) → keys_ascend es ≡ true → Ascend es
+keys_ascend_sound [] h = tt
+keys_ascend_sound (e ∷ es) h = sound_from (key_of e) es h
 
 -- parts of pairs
 pub ruleset maps = (take-map, drop-map)

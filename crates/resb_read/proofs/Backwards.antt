@@ -5,7 +5,7 @@ use Rattle.std.proofs.Common.{if◌then◌else◌, min, ◌≤◌, ◌/◌, ◌-
 use Rattle.std.specs.List.{zip}
 use Rattle.std.proofs.lemmas.List.{take-append-drop}
 use Rattle.resb_format.specs.Content as at
-use Rattle.resb_format.specs.declared.body_parts.BodyParts.{BodyParts}
+use Rattle.resb_format.specs.declared.file_blocks.FileBlocks.{FileBlocks}
 use Rattle.resb_format.specs.Parts.{parts_in}
 use Rattle.resb_format.specs.Bytes.{units_of, words_of}
 use Rattle.resb_format.proofs.Spelled.{units_length, words_length}
@@ -23,26 +23,26 @@ found_stays : (name : List ℕ) (found : Option Place) (es : List (Place × Plac
     → last_named name es ≡ None → last_from name found es ≡ found
 found_stays name found es h = skipped name found es (none_found name es h)
 
-nth_pair : {C : Type 0} (f : ℕ × at.Member → C) (us ws : List ℕ) (n : ℕ) → n < length us
+nth_entry : {C : Type 0} (f : ℕ × at.Member → C) (us ws : List ℕ) (n : ℕ) → n < length us
     → n < length ws
     → drop n (map f (zip us (map at.word ws)))
     ≡ f (get_or us n 0, at.word (get_or ws n 0))
     ∷ drop (suc n) (map f (zip us (map at.word ws)))
-nth_pair f [] ws n h k = absurd (omega arith)
-nth_pair f (u ∷ us) [] n h k = absurd (omega arith)
-nth_pair f (u ∷ us) (w ∷ ws) zero h k = refl
-nth_pair f (u ∷ us) (w ∷ ws) (suc n) h k = nth_pair f us ws n (omega arith) (omega arith)
+nth_entry f [] ws n h k = absurd (omega arith)
+nth_entry f (u ∷ us) [] n h k = absurd (omega arith)
+nth_entry f (u ∷ us) (w ∷ ws) zero h k = refl
+nth_entry f (u ∷ us) (w ∷ ws) (suc n) h k = nth_entry f us ws n (omega arith) (omega arith)
 
 drop_none : {A : Type 0} (n : ℕ) → drop {A = A} n [] ≡ []
 drop_none zero = refl
 drop_none (suc n) = refl
 
-pairs_end : {C : Type 0} (f : ℕ × at.Member → C) (us ws : List ℕ) (n : ℕ)
+entries_end : {C : Type 0} (f : ℕ × at.Member → C) (us ws : List ℕ) (n : ℕ)
     → min (length us) (length ws) ≤ n → drop n (map f (zip us (map at.word ws))) ≡ []
-pairs_end f [] ws n h = drop_none n
-pairs_end f (u ∷ us) [] n h = drop_none n
-pairs_end f (u ∷ us) (w ∷ ws) zero h = absurd (omega arith)
-pairs_end f (u ∷ us) (w ∷ ws) (suc n) h = pairs_end f us ws n (omega arith)
+entries_end f [] ws n h = drop_none n
+entries_end f (u ∷ us) [] n h = drop_none n
+entries_end f (u ∷ us) (w ∷ ws) zero h = absurd (omega arith)
+entries_end f (u ∷ us) (w ∷ ws) (suc n) h = entries_end f us ws n (omega arith)
 
 -- an entry that hasn't the name, before others that haven't it
 unnamed : (name : List ℕ) (es : List (Place × Place)) (e : Place × Place) (n : ℕ)
@@ -65,18 +65,18 @@ named_is_last name es e n is here rest =
     ∙ found_stays name (Some e.1) (drop (suc n) es) rest
 
 -- entries whose keys' positions and values' words are given by bytes
-module _ (name : List ℕ) (f : BodyParts) (positions words : List ℕ) where
+module _ (name : List ℕ) (f : FileBlocks) (positions words : List ℕ) where
   abbrev es : List (Place × Place)
   es = near_entries f positions words
 
   -- behind all of them there is none
-  pub none_behind : (n : ℕ) → min (length positions / 2) (length words / 4) ≤ n
+  pub none_named_behind : (n : ℕ) → min (length positions / 2) (length words / 4) ≤ n
       → last_named name (drop n es) ≡ None
-  none_behind n h =
+  none_named_behind n h =
       let a = units_length positions in
       let b = words_length words in
       ap (last_named name)
-      (pairs_end (at_entry (parts_in f)) (units_of positions) (words_of words) n
+      (entries_end (at_entry (parts_in f)) (units_of positions) (words_of words) n
       (omega (arith, a, b, h)))
 
   module _ (left position : ℕ) (some : 0 < left) (inside : left ≤ length positions / 2)
@@ -93,7 +93,7 @@ module _ (name : List ℕ) (f : BodyParts) (positions words : List ℕ) where
     is =
         let a = units_length positions in
         let b = words_length words in
-        nth_pair (at_entry (parts_in f)) (units_of positions) (words_of words) n
+        nth_entry (at_entry (parts_in f)) (units_of positions) (words_of words) n
         (omega (arith, a, some, inside)) (omega (arith, b, some, within))
 
     later : last_named name (drop (suc n) es) ≡ None

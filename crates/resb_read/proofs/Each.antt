@@ -13,14 +13,14 @@ use Rattle.resb_read.specs.Access.{TakesRead}
 
 module _ {X : Type 0} (reads : Place → X → ℕ → Type 0) where
   -- one more place and its value, at the end
-  pub each_more : (ps : List Place) (xs : List X) (k : ℕ) (p : Place) (x : X) (n : ℕ)
+  pub reads_each_more : (ps : List Place) (xs : List X) (k : ℕ) (p : Place) (x : X) (n : ℕ)
       → ReadsEach reads ps xs k → reads p x n
       → ReadsEach reads (ps ++ p ∷ []) (xs ++ x ∷ []) (k + n)
-  each_more [] [] k p x n h r = (n, 0, r, refl, omega arith)
-  each_more [] (y ∷ xs) k p x n h r = absurd h
-  each_more (q ∷ ps) [] k p x n h r = absurd h
-  each_more (q ∷ ps) (y ∷ xs) k p x n (a, b, first, rest, e) r =
-      (a, b + n, first, each_more ps xs b p x n rest r, omega arith)
+  reads_each_more [] [] k p x n h r = (n, 0, r, refl, omega arith)
+  reads_each_more [] (y ∷ xs) k p x n h r = absurd h
+  reads_each_more (q ∷ ps) [] k p x n h r = absurd h
+  reads_each_more (q ∷ ps) (y ∷ xs) k p x n (a, b, first, rest, e) r =
+      (a, b + n, first, reads_each_more ps xs b p x n rest r, omega arith)
 
 module _ (counts : Place → ℕ → Type 0)
     (one : (p : Place) (m n : ℕ) → counts p m → counts p n → m ≡ n) where
@@ -98,7 +98,7 @@ module _ {X : Type 0} (reads : Place → X → ℕ → Type 0) (counts : Place �
           spent = f.spent + taken.0;
           are = f.are ∙ ap (λ r. f.done ++ r) first
               ∙ sym (append_assoc f.done (p ∷ []) new.rest);
-          each = each_more reads f.done values f.spent p x taken.0 f.each taken.1;
+          each = reads_each_more reads f.done values f.spent p x taken.0 f.each taken.1;
           paid = omega arith;
         },
       )

@@ -9,7 +9,7 @@ use Rattle.resb_read.specs.Tables.{key_of, is_text, has_name, last_from, last_na
 use Rattle.resb_read.specs.Tables.{IsNamed, NoneNamed, IsLastNamed, LastOfAName}
 use Rattle.resb_read.specs.Tables.{Ascend, AscendAbove, keys_ascend_above, keys_ascend}
 use Rattle.resb_read.specs.Tables.{AscendIsTold}
-use Rattle.resb_read.proofs.Ascending.{from_append, sound}
+use Rattle.resb_read.proofs.Ascending.{from_append, keys_ascend_sound}
 
 -- the test and the relation
 named_so : (name : List ℕ) (o : Option (List ℕ × ℕ)) → is_text name o ≡ true
@@ -133,4 +133,4 @@ told [] h = refl
 told (e ∷ es) (t, key, rest) = rw key (told_above t.0 es rest)
 
 pub ascend_is_told : AscendIsTold
-ascend_is_told es = (sound es, told es)
+ascend_is_told es = (keys_ascend_sound es, told es)

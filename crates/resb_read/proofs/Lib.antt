@@ -15,4 +15,3 @@ mod Taking
 pub mod OneRefusal
 mod OneValue
 mod Measures
-mod Pricing

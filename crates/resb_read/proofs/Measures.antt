@@ -8,12 +8,12 @@ use Rattle.resb_tree.specs.Tree.{Tree, tree_count}
 use Rattle.resb_head.specs.File.{parts_of, budget}
 use Rattle.resb_format.specs.Error.{IsWantOfMemory}
 use Rattle.resb_format.specs.declared.error.ReadingError.{ReadingError}
-use Rattle.resb_head.specs.HeadChecks.{file_fault}
+use Rattle.resb_head.specs.HeadChecks.{file_refusal}
 use Rattle.resb_head.proofs.FileSteps.{bundle_file_passes}
 use Rattle.resb_walk.specs.Pieces.{Piece, pieces}
 use Rattle.resb_walk.specs.Sums.{AddsUp, count_of, fitting}
 use Rattle.resb_walk.specs.declared.sums.Sums.{Sums}
-use Rattle.resb_walk.proofs.Holding.{held, one_holding}
+use Rattle.resb_walk.proofs.Holding.{denoted_is_held, one_holding}
 use Rattle.resb_walk.proofs.TreePieces.{tree_within}
 use Rattle.resb_walk.proofs.SumsLemmas.{fits_some, fits_none}
 use Rattle.resb_read.specs.Measuring.{FileHolds, AnswersMeasure, OneWeight, TreesWeighNoMore}
@@ -27,10 +27,10 @@ pub held_root : (bytes : List ℕ) (p : Place) (t : Tree) (n : ℕ) → p ≡ ro
     → DenPlace p t n → (xs : List Piece) × HoldsPlace p xs × (count_of xs ≡ n)
 held_root bytes p t n same =
     subst (λ q. DenPlace q t n → (xs : List Piece) × HoldsPlace q xs × (count_of xs ≡ n)) (sym same)
-    (λ d. held (parts_of bytes) d)
+    (λ d. denoted_is_held (parts_of bytes) d)
 
 -- a request for memory was refused
-pub memory_refuses : (bytes : List ℕ) (e : ReadingError) → file_fault bytes ≡ None
+pub memory_refuses : (bytes : List ℕ) (e : ReadingError) → file_refusal bytes ≡ None
     → IsWantOfMemory e → RefusesFile bytes e
 memory_refuses bytes e none m =
     inr ((bundle_file_passes bytes).0 none, inl m, λ f. absurd (f.not_memory m.kind_is))
@@ -38,7 +38,7 @@ memory_refuses bytes e none m =
 -- counted and summed
 pub measured_root : (bytes : List ℕ) (p : Place) (left left' : ℕ) (t : Tree) (n : ℕ) (s : Sums)
     (xs : List Piece)
-    → file_fault bytes ≡ None → p ≡ root_place bytes → left ≡ budget bytes → DenPlace p t n
+    → file_refusal bytes ≡ None → p ≡ root_place bytes → left ≡ budget bytes → DenPlace p t n
     → left' + n ≡ left → HoldsPlace p xs → AddsUp s xs
     → AnswersMeasure bytes (Ok (record { resources = left - left'; sums = s }))
 measured_root bytes p left left' t n s xs none same all d paid h adds =
@@ -67,7 +67,7 @@ one_weight bytes xs ys h k = one_holding (parts_of bytes) h k
 pub trees_weigh_no_more : TreesWeighNoMore
 trees_weigh_no_more f bytes t n xs d h =
     let within = tree_within f (parts_of bytes) d.root h in
-    let other = held (parts_of bytes) d.root in
+    let other = denoted_is_held (parts_of bytes) d.root in
     let one : xs ≡ other.0 = one_holding (parts_of bytes) h other.1 in (
       ap count_of one ∙ other.2,
       within.first,

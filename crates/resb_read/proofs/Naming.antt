@@ -238,10 +238,10 @@ key_ordered keys name tail front at e f t h =
     ap (order_ended name) cut
     ∙ order_front name (drop at keys) t (bytes_of_text (before_zero (drop at keys)) t h)
 
-pub none_past : (keys : List ℕ) (at : ℕ) → length keys < at → (t : List ℕ)
+pub no_key_past_end : (keys : List ℕ) (at : ℕ) → length keys < at → (t : List ℕ)
     → key_at keys at ≡ Some t → ⊥
 unfolding key_at
-none_past keys at l t h =
+no_key_past_end keys at l t h =
     none_in (drop at keys) (omega (arith, length-drop at keys))
     (bytes_of_text (before_zero (drop at keys)) t h)
   where

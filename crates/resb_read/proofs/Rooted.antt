@@ -9,7 +9,7 @@ use Rattle.resb_tree.specs.declared.resource.Resource.{Resource}
 use Rattle.resb_head.specs.File.{IsBundleFile, Denotes, budget}
 use Rattle.resb_format.specs.Error.{Refusal}
 use Rattle.resb_format.specs.declared.error.ReadingError.{ReadingError}
-use Rattle.resb_head.specs.HeadChecks.{file_fault}
+use Rattle.resb_head.specs.HeadChecks.{file_refusal}
 use Rattle.resb_head.proofs.FileSteps.{bundle_file_passes}
 use Rattle.resb_walk.specs.Meets.{Blames}
 use Rattle.resb_walk.specs.Refusals.{Refuses}
@@ -18,21 +18,22 @@ use Rattle.resb_read.specs.Resources.{DenPlace, ReachesPlace, ReadsTree, MeetsPl
 use Rattle.resb_read.specs.Roots.{root_place, HoldsAtRoot, RefusesRoot, RefusesFile, AnswersTree}
 
 -- a file with a fault is no bundle
-pub no_bundle : (bytes : List ℕ) (f : Refusal) → file_fault bytes ≡ Some f → IsBundleFile bytes → ⊥
+pub no_bundle : (bytes : List ℕ) (f : Refusal) → file_refusal bytes ≡ Some f → IsBundleFile bytes
+    → ⊥
 no_bundle bytes f e h =
-    let k : file_fault bytes ≡ None = (bundle_file_passes bytes).1 h in apart e k
+    let k : file_refusal bytes ≡ None = (bundle_file_passes bytes).1 h in apart e k
   where
-    apart : file_fault bytes ≡ Some f → file_fault bytes ≡ None → ⊥
+    apart : file_refusal bytes ≡ Some f → file_refusal bytes ≡ None → ⊥
     apart a b = cc
 
-pub at_root : (P : Place → Type 0) (bytes : List ℕ) (p : Place) → file_fault bytes ≡ None
+pub at_root : (P : Place → Type 0) (bytes : List ℕ) (p : Place) → file_refusal bytes ≡ None
     → p ≡ root_place bytes → P p → HoldsAtRoot P bytes
 at_root P bytes p e same h = record { head = (bundle_file_passes bytes).0 e; root = subst P same h }
 
 -- what a type answers at the root
 pub refused_there : (refuses : Place → ℕ → ℕ → ReadingError → Type 0) (bytes : List ℕ) (p : Place)
     (left left' : ℕ) (e : ReadingError)
-    → file_fault bytes ≡ None → p ≡ root_place bytes → left ≡ budget bytes
+    → file_refusal bytes ≡ None → p ≡ root_place bytes → left ≡ budget bytes
     → refuses p left left' e → RefusesRoot refuses bytes e
 refused_there refuses bytes p left left' e none same all h =
     inr (
@@ -42,7 +43,7 @@ refused_there refuses bytes p left left' e none same all h =
     )
 
 pub refused_root : (bytes : List ℕ) (p : Place) (left : ℕ) (e : ReadingError)
-    → file_fault bytes ≡ None → p ≡ root_place bytes → left ≡ budget bytes
+    → file_refusal bytes ≡ None → p ≡ root_place bytes → left ≡ budget bytes
     → Refuses (DenPlace p) (ReachesPlace p) left e → Blames (MeetsPlace p) e → RefusesFile bytes e
 refused_root bytes p left e none same all h met =
     inr (
@@ -53,7 +54,7 @@ refused_root bytes p left e none same all h met =
     )
 
 pub tree_root : (bytes : List ℕ) (p : Place) (left left' : ℕ) (r : Result Resource ReadingError)
-    → file_fault bytes ≡ None → p ≡ root_place bytes → left ≡ budget bytes
+    → file_refusal bytes ≡ None → p ≡ root_place bytes → left ≡ budget bytes
     → IfOk r (λ x. (n : ℕ) × ReadsTree p x n × (left' + n ≡ left))
     → IfErr r (λ e. (left' ≤ left) × Refuses (DenPlace p) (ReachesPlace p) left e)
     → IfErr r (Blames (MeetsPlace p)) → AnswersTree bytes r
@@ -70,7 +71,7 @@ tree_root bytes p left left' (Err e) none same all h (falls, r) met =
     refused_root bytes p left e none same all r met
 
 pub count_root : (bytes : List ℕ) (p : Place) (left left' : ℕ) (t : Tree) (n : ℕ)
-    → file_fault bytes ≡ None → p ≡ root_place bytes → left ≡ budget bytes
+    → file_refusal bytes ≡ None → p ≡ root_place bytes → left ≡ budget bytes
     → DenPlace p t n → left' + n ≡ left
     → (u : Tree) × Denotes bytes u (left - left') × (left - left' ≤ budget bytes)
 count_root bytes p left left' t n none same all d paid =

@@ -2,7 +2,7 @@
 use Rattle.std.proofs.Common.{ℕ, ◌≤◌, ◌+◌, inl, inr, arith}
 use Rattle.resb_tree.specs.Tree.{Tree}
 use Rattle.resb_format.specs.Parts.{Parts}
-use Rattle.resb_format.proofs.Denoting.{counted}
+use Rattle.resb_format.proofs.Denoting.{reached_at_most}
 use Rattle.resb_format.specs.declared.error.ReadingError.{ReadingError}
 use Rattle.resb_walk.specs.Refusals.{Refuses}
 use Rattle.resb_format.proofs.Denoting.{counted_member}
@@ -14,7 +14,7 @@ use Rattle.resb_read.specs.declared.cursor.Spot.TheVariants as spot
 
 counted_at : (p : Parts) (s : Spot) (t : Tree) (m n : ℕ) → DenSpot p s t n → ReachesSpot p s m
     → m ≤ n
-counted_at p (spot.Descriptor w) t m n d r = counted p d r
+counted_at p (spot.Descriptor w) t m n d r = reached_at_most p d r
 counted_at p (spot.Unit u) t m n d r = counted_member p d r
 counted_at p (spot.Word w) t m n d r = absurd d
 counted_at p (spot.Key k) t m n d r = absurd d

@@ -28,9 +28,9 @@ unpaid (Some (x, n)) left wrong other lacks = either (nat_le n left) refl
     either false e = refl
 
 -- where no bytes are read, it is said why
-pub no_bytes : (p : Place) (left : ℕ) (e : ReadingError) → Lacks (CountsBytes p) left
+pub no_bytes_says : (p : Place) (left : ℕ) (e : ReadingError) → Lacks (CountsBytes p) left
     → Says (bytes_refusal p left) e → Says (view_refusal p left) e
-no_bytes p left e lacks says =
+no_bytes_says p left e lacks says =
     says ∙ sym (unpaid (bytes_from p.parts p.at) left _ (bytes_refusal p left) lacks)
 
 -- bytes that can be paid for, but are no whole items

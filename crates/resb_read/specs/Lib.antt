@@ -8,7 +8,7 @@ pub use Rattle.resb_format.specs.Content
 pub use Rattle.resb_format.specs.Denotes
 pub use Rattle.resb_head.specs.File
 pub use Rattle.resb_format.specs.Error
-pub use Rattle.resb_format.specs.StringFaults
+pub use Rattle.resb_format.specs.StringMessage
 pub use Rattle.resb_format.specs.Descriptor
 pub use Rattle.resb_format.specs.Views
 pub use Rattle.resb_head.specs.HeadChecks

@@ -10,7 +10,7 @@ use Rattle.std.specs.Prelude.{◌==◌, ◌||◌, nat_le, ℕ, List, Bool, false
 use Rattle.std.specs.Prelude.{codes, if◌then◌else◌}
 use Rattle.resb_format.specs.Error.{Refusal, invalid, end_of_input}
 use Rattle.resb_format.specs.Parts.{Parts}
-use Rattle.resb_format.specs.StringFaults.{string_fault}
+use Rattle.resb_format.specs.StringMessage.{string_message}
 use Rattle.resb_format.specs.Types as types
 use Rattle.resb_format.specs.declared.error.ErrorKind.TheVariants.{ResourceTypeMismatch, Unknown}
 use Rattle.resb_walk.specs.BlockRefusals.{block_text_refusal, block_key_refusal}
@@ -106,14 +106,14 @@ text_refusal p left = text_refusal_from p.parts p.at left
 -- the body, or another type
 abbrev pub word_bytes_refusal : Parts → ℕ → Refusal
 word_bytes_refusal p w =
-    if type_in w == types.string then invalid (string_fault p.block (value_in w))
+    if type_in w == types.string then invalid (string_message p.block (value_in w))
     else if type_in w == types.binary || type_in w == types.int_vector then end_of_input
     else type_refusal (type_in w) (mismatch (codes "expected binary data resource"))
 
 -- why no bytes are read at a spot with so much left
 abbrev pub bytes_refusal_from : Parts → Spot → ℕ → Refusal
 bytes_refusal_from p (spot.Descriptor w) left = paid left (word_bytes_refusal p w)
-bytes_refusal_from p (spot.Unit u) left = paid left (invalid (string_fault p.block u))
+bytes_refusal_from p (spot.Unit u) left = paid left (invalid (string_message p.block u))
 bytes_refusal_from p (spot.Word w) left = elsewhere
 bytes_refusal_from p (spot.Key k) left = block_key_refusal p.keys k
 

@@ -17,7 +17,7 @@ use Rattle.resb_read.specs.PlaceRefusals.{number_refusal, bool_refusal, bits_ref
 use Rattle.resb_read.specs.PlaceRefusals.{key_refusal, bytes_refusal, view_refusal, members_refusal}
 use Rattle.resb_read.specs.PlaceRefusals.{entries_refusal}
 use Rattle.resb_read.specs.Resources.{DenPlace, ReachesPlace, MeetsPlace}
-use Rattle.resb_read.specs.Sequences.{members_at, entries_at, CountsEach, CountsPairs}
+use Rattle.resb_read.specs.Sequences.{members_at, entries_at, CountsEach, CountsEntries}
 use Rattle.resb_read.specs.declared.cursor.Spot.{Spot}
 use Rattle.resb_read.specs.declared.cursor.Spot.TheVariants as spot
 
@@ -127,8 +127,8 @@ module _ (ck : Place → ℕ → Type 0) (fk : Place → ℕ → ℕ → Reading
     pub refused : RefusesThere cv fv p.1 here left' e
 
   -- the key is refused, before the value is looked at; or else the value
-  abbrev pub RefusesPair : Place × Place → ℕ → ℕ → ReadingError → Type 0
-  RefusesPair p left left' e =
+  abbrev pub RefusesKeyOrValue : Place × Place → ℕ → ℕ → ReadingError → Type 0
+  RefusesKeyOrValue p left left' e =
       RefusesThere ck fk p.0 left left' e ⊎ RefusesValue p left left' e
 
   -- an entry is refused with what those before it leave
@@ -140,13 +140,13 @@ module _ (ck : Place → ℕ → Type 0) (fk : Place → ℕ → ℕ → Reading
     pub spent : ℕ
     pub here : ℕ
     pub are : places ≡ done ++ at ∷ after
-    pub counted : CountsPairs ck cv done spent
+    pub counted : CountsEntries ck cv done spent
     pub paid : here + spent ≡ left
-    pub refused : RefusesPair at here left' e
+    pub refused : RefusesKeyOrValue at here left' e
 
   -- of the entries one is refused, or memory for the map is wanted
-  abbrev pub RefusesPairs : List (Place × Place) → ℕ → ℕ → ReadingError → Type 0
-  RefusesPairs places left left' e = IsWantOfMemory e ⊎ RefusesOneEntry places left left' e
+  abbrev pub RefusesEachEntry : List (Place × Place) → ℕ → ℕ → ReadingError → Type 0
+  RefusesEachEntry places left left' e = IsWantOfMemory e ⊎ RefusesOneEntry places left left' e
 
   -- there are entries, one is paid for the table, and one of them is refused
   pub record RefusesEntry (p : Place) (left left' : ℕ) (e : ReadingError) : Type 0 where
@@ -154,7 +154,7 @@ module _ (ck : Place → ℕ → Type 0) (fk : Place → ℕ → ℕ → Reading
     pub inside : ℕ
     pub are : entries_at p ≡ Some places
     pub paid : inside + 1 ≡ left
-    pub refused : RefusesPairs places inside left' e
+    pub refused : RefusesEachEntry places inside left' e
 
   -- no entries, or the budget is spent; or one of them is refused
   abbrev pub RefusesMap : Place → ℕ → ℕ → ReadingError → Type 0

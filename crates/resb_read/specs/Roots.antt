@@ -12,7 +12,7 @@ use Rattle.resb_head.specs.File.{IsBundleFile, parts_of, root_word, Denotes, bud
 use Rattle.resb_format.specs.Denotes.{Den, Reaches}
 use Rattle.resb_format.specs.Error.{refusal_of}
 use Rattle.resb_format.specs.declared.error.ReadingError.{ReadingError}
-use Rattle.resb_head.specs.HeadChecks.{file_fault}
+use Rattle.resb_head.specs.HeadChecks.{file_refusal}
 use Rattle.resb_walk.specs.Meets.{Meets, Blames}
 use Rattle.resb_walk.specs.Refusals.{Refuses}
 use Rattle.resb_walk.specs.Borrows.{Borrows}
@@ -32,13 +32,13 @@ pub record HoldsAtRoot (P : Place → Type 0) (bytes : List ℕ) : Type 0 where
 -- budget
 abbrev pub RefusesRoot : (Place → ℕ → ℕ → ReadingError → Type 0) → List ℕ → ReadingError → Type 0
 RefusesRoot refuses bytes e =
-    (file_fault bytes ≡ Some (refusal_of e))
+    (file_refusal bytes ≡ Some (refusal_of e))
     ⊎ ((left : ℕ) × HoldsAtRoot (λ p. refuses p (budget bytes) left e) bytes)
 
 -- the first check of the head that fails, or what is refused at the root, by the first fault there
 abbrev pub RefusesFile : List ℕ → ReadingError → Type 0
 RefusesFile bytes e =
-    (file_fault bytes ≡ Some (refusal_of e))
+    (file_refusal bytes ≡ Some (refusal_of e))
     ⊎ (IsBundleFile bytes
     × Refuses (Den (parts_of bytes) (root_word bytes))
     (Reaches (parts_of bytes) (root_word bytes)) (budget bytes) e

@@ -51,16 +51,16 @@ abbrev pub members_at : Place → Option (List Place)
 members_at p = members_from p.parts p.at
 
 -- a table's entries: each a key's position and a member
-abbrev pub entry_pairs : Option Content → Option (List (ℕ × Member))
-entry_pairs (Some (entry_list es)) = Some es
-entry_pairs (Some (list ms)) = None
-entry_pairs (Some (leaf t)) = None
-entry_pairs None = None
+abbrev pub content_entries : Option Content → Option (List (ℕ × Member))
+content_entries (Some (entry_list es)) = Some es
+content_entries (Some (list ms)) = None
+content_entries (Some (leaf t)) = None
+content_entries None = None
 
 -- the entries of a Table, a Table16 or a table of 32-bit positions
 abbrev pub entries_in : Parts → ℕ → Option (List (ℕ × Member))
 entries_in p w =
-    if types.is_table (type_in w) then entry_pairs (content_at p w) else None
+    if types.is_table (type_in w) then content_entries (content_at p w) else None
 
 -- the places of a key and its value
 abbrev pub at_entry : Parts → ℕ × Member → Place × Place
@@ -106,21 +106,21 @@ pub record CountsSeq (counts : Place → ℕ → Type 0) (p : Place) (n : ℕ) :
   pub count : n ≡ 1 + total
 
 -- each entry's key and value are read, and n is the sum of the counts
-abbrev pub ReadsPairs : {K X : Type 0} → (Place → K → ℕ → Type 0) → (Place → X → ℕ → Type 0)
+abbrev pub ReadsEntries : {K X : Type 0} → (Place → K → ℕ → Type 0) → (Place → X → ℕ → Type 0)
     → List (Place × Place) → List (K × X) → ℕ → Type 0
-ReadsPairs key value [] [] n = n ≡ 0
-ReadsPairs key value [] (e ∷ es) n = ⊥
-ReadsPairs key value (p ∷ ps) [] n = ⊥
-ReadsPairs key value (p ∷ ps) (e ∷ es) n =
-    (a : ℕ) × (b : ℕ) × (c : ℕ) × key p.0 e.0 a × value p.1 e.1 b × ReadsPairs key value ps es c
+ReadsEntries key value [] [] n = n ≡ 0
+ReadsEntries key value [] (e ∷ es) n = ⊥
+ReadsEntries key value (p ∷ ps) [] n = ⊥
+ReadsEntries key value (p ∷ ps) (e ∷ es) n =
+    (a : ℕ) × (b : ℕ) × (c : ℕ) × key p.0 e.0 a × value p.1 e.1 b × ReadsEntries key value ps es c
     × (n ≡ a + b + c)
 
 -- some key and some value are read at the places of each entry, and n is the sum of the counts
-abbrev pub CountsPairs : (Place → ℕ → Type 0) → (Place → ℕ → Type 0) → List (Place × Place) → ℕ
+abbrev pub CountsEntries : (Place → ℕ → Type 0) → (Place → ℕ → Type 0) → List (Place × Place) → ℕ
     → Type 0
-CountsPairs key value [] n = n ≡ 0
-CountsPairs key value (p ∷ ps) n =
-    (a : ℕ) × (b : ℕ) × (c : ℕ) × key p.0 a × value p.1 b × CountsPairs key value ps c
+CountsEntries key value [] n = n ≡ 0
+CountsEntries key value (p ∷ ps) n =
+    (a : ℕ) × (b : ℕ) × (c : ℕ) × key p.0 a × value p.1 b × CountsEntries key value ps c
     × (n ≡ a + b + c)
 
 -- the entries put in one after another: the last value of an equal key stands
@@ -137,7 +137,7 @@ pub record ReadsMap {K X : Type 0} (cmp : K → K → Ordering) (key : Place →
   pub read : List (K × X)
   pub total : ℕ
   pub are : entries_at p ≡ Some places
-  pub each : ReadsPairs key value places read total
+  pub each : ReadsEntries key value places read total
   pub map : m ≡ put_each cmp [] read
   pub count : n ≡ 1 + total
 
@@ -147,11 +147,11 @@ pub record CountsMap (key : Place → ℕ → Type 0) (value : Place → ℕ →
   pub places : List (Place × Place)
   pub total : ℕ
   pub are : entries_at p ≡ Some places
-  pub each : CountsPairs key value places total
+  pub each : CountsEntries key value places total
   pub count : n ≡ 1 + total
 
 -- the entries that stand after all were put in
 abbrev pub ReadsAll : {K X : Type 0} → (K → K → Ordering) → (Place → K → ℕ → Type 0)
     → (Place → X → ℕ → Type 0) → List (Place × Place) → List (K × X) → ℕ → Type 0
 ReadsAll {K} {X} cmp key value places m n =
-    (es : List (K × X)) × ReadsPairs key value places es n × (m ≡ put_each cmp [] es)
+    (es : List (K × X)) × ReadsEntries key value places es n × (m ≡ put_each cmp [] es)

@@ -13,8 +13,8 @@ use Rattle.resb_read.specs.Leaves.{ReadsText, CountsText, ReadsKey, CountsKey, R
 use Rattle.resb_read.specs.Leaves.{CountsBytes}
 use Rattle.resb_read.specs.Leaves.{ReadsView, CountsView}
 use Rattle.std.specs.declared.cmp.Ordering.{Ordering}
-use Rattle.resb_read.specs.Sequences.{ReadsEach, CountsEach, ReadsSeq, CountsSeq, ReadsPairs}
-use Rattle.resb_read.specs.Sequences.{CountsPairs, ReadsMap, CountsMap}
+use Rattle.resb_read.specs.Sequences.{ReadsEach, CountsEach, ReadsSeq, CountsSeq, ReadsEntries}
+use Rattle.resb_read.specs.Sequences.{CountsEntries, ReadsMap, CountsMap}
 use Rattle.resb_tree.specs.Tree.{Tree}
 use Rattle.resb_format.specs.Parts.{Parts}
 use Rattle.resb_format.proofs.Denoting.{unique, unique_member}
@@ -137,13 +137,13 @@ module _ (counts : Place → ℕ → Type 0)
 module _ {K X : Type 0} (rk : Place → K → ℕ → Type 0) (rv : Place → X → ℕ → Type 0)
     (ck cv : Place → ℕ → Type 0) (hk : (p : Place) (v : K) (n : ℕ) → rk p v n → ck p n)
     (hv : (p : Place) (v : X) (n : ℕ) → rv p v n → cv p n) where
-  pub pairs_counted : (ps : List (Place × Place)) (es : List (K × X)) (n : ℕ)
-      → ReadsPairs rk rv ps es n → CountsPairs ck cv ps n
-  pairs_counted [] [] n h = h
-  pairs_counted [] (e ∷ es) n h = absurd h
-  pairs_counted (p ∷ ps) [] n h = absurd h
-  pairs_counted (p ∷ ps) (e ∷ es) n (a, b, c, x, y, rest, s) =
-      (a, b, c, hk p.0 e.0 a x, hv p.1 e.1 b y, pairs_counted ps es c rest, s)
+  pub entries_counted : (ps : List (Place × Place)) (es : List (K × X)) (n : ℕ)
+      → ReadsEntries rk rv ps es n → CountsEntries ck cv ps n
+  entries_counted [] [] n h = h
+  entries_counted [] (e ∷ es) n h = absurd h
+  entries_counted (p ∷ ps) [] n h = absurd h
+  entries_counted (p ∷ ps) (e ∷ es) n (a, b, c, x, y, rest, s) =
+      (a, b, c, hk p.0 e.0 a x, hv p.1 e.1 b y, entries_counted ps es c rest, s)
 
   pub map_counted : (cmp : K → K → Ordering) (p : Place) (m : List (K × X)) (n : ℕ)
       → ReadsMap cmp rk rv p m n → CountsMap ck cv p n
@@ -152,25 +152,25 @@ module _ {K X : Type 0} (rk : Place → K → ℕ → Type 0) (rv : Place → X 
         places = h.places;
         total = h.total;
         are = h.are;
-        each = pairs_counted h.places h.read h.total h.each;
+        each = entries_counted h.places h.read h.total h.each;
         count = h.count;
       }
 
 module _ (ck cv : Place → ℕ → Type 0) (ok : (p : Place) (m n : ℕ) → ck p m → ck p n → m ≡ n)
     (ov : (p : Place) (m n : ℕ) → cv p m → cv p n → m ≡ n) where
-  pairs_one : (ps : List (Place × Place)) (m n : ℕ) → CountsPairs ck cv ps m
-      → CountsPairs ck cv ps n → m ≡ n
-  pairs_one [] m n h k = h ∙ sym k
-  pairs_one (p ∷ ps) m n (a, b, c, x, y, rest, s) (a', b', c', x', y', rest', s') =
+  entries_one : (ps : List (Place × Place)) (m n : ℕ) → CountsEntries ck cv ps m
+      → CountsEntries ck cv ps n → m ≡ n
+  entries_one [] m n h k = h ∙ sym k
+  entries_one (p ∷ ps) m n (a, b, c, x, y, rest, s) (a', b', c', x', y', rest', s') =
       let h : a ≡ a' = ok p.0 a a' x x' in
       let i : b ≡ b' = ov p.1 b b' y y' in
-      let j : c ≡ c' = pairs_one ps c c' rest rest' in omega arith
+      let j : c ≡ c' = entries_one ps c c' rest rest' in omega arith
 
   pub map_one : (p : Place) (m n : ℕ) → CountsMap ck cv p m → CountsMap ck cv p n → m ≡ n
   map_one p m n h k =
       let same : h.places ≡ k.places = same_Some _ _ (sym h.are ∙ k.are) in
-      let e : h.total ≡ k.total = pairs_one k.places h.total k.total
-      (subst (λ ps. CountsPairs ck cv ps h.total) same h.each) k.each in
+      let e : h.total ≡ k.total = entries_one k.places h.total k.total
+      (subst (λ ps. CountsEntries ck cv ps h.total) same h.each) k.each in
       let f : m ≡ 1 + h.total = h.count in
       let g : n ≡ 1 + k.total = k.count in omega arith
 

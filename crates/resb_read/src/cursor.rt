@@ -3,12 +3,12 @@
 ghost use Rattle.std.specs.Prelude.{◌≡◌, Some, None, MatchResult};
 ghost use Rattle.resb_format.specs.Error.{refusal_of};
 ghost use Rattle.resb_head.specs.File.{budget};
-ghost use Rattle.resb_head.specs.HeadChecks.{file_fault};
+ghost use Rattle.resb_head.specs.HeadChecks.{file_refusal};
 ghost use Rattle.resb_read.specs.Places.{place_of};
 ghost use Rattle.resb_read.specs.Roots.{root_place};
 
-use resb_format::{BinaryDeserializerError, BodyParts};
-use resb_head::FileParts;
+use resb_format::{BinaryDeserializerError, FileBlocks};
+use resb_head::CheckedFile;
 use resb_walk::Walk;
 
 /// Where a cursor stands.
@@ -27,7 +27,7 @@ pub enum Spot {
 /// A view of a file and a place in it.
 #[derive(Clone, Copy)]
 pub struct Cursor<'de> {
-    pub(crate) file: BodyParts<'de>,
+    pub(crate) file: FileBlocks<'de>,
     pub(crate) at: Spot,
 }
 
@@ -36,11 +36,11 @@ impl<'de> Cursor<'de> {
     /// The first check of the file's head that fails is answered.
     pub fn root(bytes: &'de [u8]) -> Result<(Cursor<'de>, Walk), BinaryDeserializerError>
         ensures { MatchResult result
-            (λ r. (file_fault bytes.now ≡ None) × (place_of r.0 ≡ root_place bytes.now) ×
+            (λ r. (file_refusal bytes.now ≡ None) × (place_of r.0 ≡ root_place bytes.now) ×
             (r.1 ≡ budget bytes.now))
-            (λ e. file_fault bytes.now ≡ Some (refusal_of e)) }
+            (λ e. file_refusal bytes.now ≡ Some (refusal_of e)) }
     {
-        let parts = FileParts::read(bytes)?;
+        let parts = CheckedFile::read(bytes)?;
         let cursor = Cursor {
             file: parts.file,
             at: Spot::Descriptor(parts.root),

@@ -4,13 +4,13 @@ ghost use Rattle.std.specs.Prelude.{◌≡◌, ◌≤◌, ◌<◌, ◌+◌, ◌�
 ghost use Rattle.std.specs.Prelude.{MatchOption, MatchResult, IfOk, IfErr};
 ghost use Rattle.resb_read.specs.Places.{place_of};
 ghost use Rattle.resb_read.specs.Sequences as sequences;
-ghost use Rattle.resb_read.specs.Access.{EntersTo, Enters, ReadsPair, CountsPair};
+ghost use Rattle.resb_read.specs.Access.{EntersTo, Enters, ReadsEntry, CountsEntry};
 ghost use Rattle.resb_read.specs.Reading.{LacksOrMemory};
 ghost use Rattle.resb_walk.specs.BlockRefusals.{Says};
 ghost use Rattle.resb_format.specs.Parts.{parts_in};
 ghost use Rattle.resb_walk.specs.Inner.Members.{keyed_members};
 ghost use Rattle.resb_read.specs.PlaceRefusals.{word_entries_refusal};
-ghost use Rattle.resb_read.specs.RefusedReadings.{RefusesEntries, RefusesPair};
+ghost use Rattle.resb_read.specs.RefusedReadings.{RefusesEntries, RefusesKeyOrValue};
 ghost use Rattle.resb_read.specs.Tables.{view_entries, RefusesPaying};
 
 use crate::cursor::{Cursor, Spot};
@@ -18,7 +18,7 @@ use crate::deserialize::Deserialize;
 use crate::elements::spot_of;
 use crate::faults::refused_here;
 use crate::tables::{TableView, pay_each};
-use resb_format::{BinaryDeserializerError, BodyParts, ReadingError, ResourceReprType};
+use resb_format::{BinaryDeserializerError, FileBlocks, ReadingError, ResourceReprType};
 use resb_walk::faults::past_end;
 use resb_walk::types::readable;
 use resb_walk::{Standing, TableParts, Walk, standing_at};
@@ -29,7 +29,7 @@ use std::marker::Model;
 /// After an `Err` it stands where it stood, and answers that error from then on.
 #[derive(Drop)]
 pub struct MapAccess<'de, 'm> {
-    file: BodyParts<'de>,
+    file: FileBlocks<'de>,
     rest: TableParts<'de>,
     failed: Option<ReadingError<'m>>,
 }
@@ -126,7 +126,7 @@ impl<'de, 'm> MapAccess<'de, 'm> {
         let Some((key_at, value_at)) = self.first() else {
             return Ok(None);
         };
-        match read_pair::<K, T>(alloc, key_at, value_at, walk) {
+        match read_entry::<K, T>(alloc, key_at, value_at, walk) {
             Ok(entry) => {
                 self.advance();
                 Ok(Some(entry))
@@ -140,19 +140,19 @@ impl<'de, 'm> MapAccess<'de, 'm> {
 }
 
 /// Reads a key, and then its value.
-fn read_pair<'de, 'm, K: Deserialize<'de>, T: Deserialize<'de>>(
+fn read_entry<'de, 'm, K: Deserialize<'de>, T: Deserialize<'de>>(
     alloc: Global,
     key_at: Cursor<'de>,
     value_at: Cursor<'de>,
     walk: &mut Walk,
 ) -> Result<(K, T), ReadingError<'m>>
     ensures read { IfOk result (λ e. (n : ℕ)
-        × ReadsPair K.reads T.reads (place_of key_at.entry, place_of value_at.entry) e n
+        × ReadsEntry K.reads T.reads (place_of key_at.entry, place_of value_at.entry) e n
         × (walk.new + n ≡ walk.old)) }
     ensures refused { IfErr result (λ e. (walk.new ≤ walk.old)
-        × LacksOrMemory (CountsPair K.counts T.counts
+        × LacksOrMemory (CountsEntry K.counts T.counts
         (place_of key_at.entry, place_of value_at.entry)) walk.old e) }
-    ensures says { IfErr result (RefusesPair K.counts K.refuses T.counts T.refuses
+    ensures says { IfErr result (RefusesKeyOrValue K.counts K.refuses T.counts T.refuses
         (place_of key_at.entry, place_of value_at.entry) walk.old walk.new) }
 {
     let key = K::deserialize(alloc, key_at, walk)?;
@@ -163,7 +163,7 @@ fn read_pair<'de, 'm, K: Deserialize<'de>, T: Deserialize<'de>>(
 /// The entries of the table at a word.
 #[inline(always)]
 fn entries_at<'de>(
-    file: BodyParts<'de>,
+    file: FileBlocks<'de>,
     word: u32,
 ) -> Result<TableParts<'de>, BinaryDeserializerError>
     ensures { let entries = sequences.entries_in (parts_in file.entry) word in

@@ -13,13 +13,13 @@ ghost use Rattle.resb_read.specs.declared.cursor.Spot.TheVariants as spot;
 ghost use Rattle.resb_read.specs.Tables.{is_text, size_at};
 ghost use Rattle.resb_read.specs.Inner.Naming.{is_plain, order_ended};
 
-use resb_format::BodyParts;
+use resb_format::FileBlocks;
 use resb_format::bytes::cut_at;
 use std::cmp::Ordering;
 
 /// Whether the key at a position is this name.
 #[tactic(auto, using(crate::proofs::Naming::told))]
-pub(crate) fn is_key(file: BodyParts<'_>, position: usize, name: &str) -> bool
+pub(crate) fn is_key(file: FileBlocks<'_>, position: usize, name: &str) -> bool
     ensures { result ≡ is_text name.now (key_from (parts_in file.entry) (spot.Key position)) }
 {
     let Some((_, tail)) = cut_at(file.keys, position) else {
@@ -68,7 +68,7 @@ fn is_same(bytes: &[u8], wanted: &[u8]) -> bool
 }
 
 /// How a name stands to the key at a position, byte by byte, if one can be read there.
-pub(crate) fn order_of(file: BodyParts<'_>, name: &str, position: usize) -> Ordering
+pub(crate) fn order_of(file: FileBlocks<'_>, name: &str, position: usize) -> Ordering
     ensures { (t : List ℕ) → key_at file.entry.keys.now position ≡ Some t
         → result ≡ slice_cmp nat_cmp name.now t }
 {
@@ -118,8 +118,8 @@ fn order(wanted: &[u8], key: &[u8]) -> Ordering
 
 /// How many bytes the key at a position has, whether it can be read or not, if they are at most 15
 /// more than 16 for each of so many. No more than those and one are looked at.
-#[tactic(auto, using(crate::proofs::Pricing::none_behind))]
-pub(crate) fn size_within(file: BodyParts<'_>, position: usize, room: usize) -> Option<usize>
+#[tactic(auto, using(crate::proofs::PlainLists::no_zero_behind))]
+pub(crate) fn size_within(file: FileBlocks<'_>, position: usize, room: usize) -> Option<usize>
     ensures { let size = size_at file.entry.keys.now (spot.Key position) in
         MatchOption result (room < size / 16) (λ n. (n ≡ size) × (size / 16 ≤ room)) }
 {

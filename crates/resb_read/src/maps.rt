@@ -2,8 +2,8 @@
 //! Their laws follow from those of their keys and values alone.
 ghost use Rattle.std.specs.Prelude.{◌≡◌, ◌≤◌, ◌+◌, ℕ, None, IfOk, IfErr};
 ghost use Rattle.resb_read.specs.Reading.{LacksOrMemory};
-ghost use Rattle.resb_read.specs.Sequences.{ReadsAll, CountsPairs, ReadsMap, CountsMap};
-ghost use Rattle.resb_read.specs.RefusedReadings.{RefusesPairs, RefusesMap};
+ghost use Rattle.resb_read.specs.Sequences.{ReadsAll, CountsEntries, ReadsMap, CountsMap};
+ghost use Rattle.resb_read.specs.RefusedReadings.{RefusesEachEntry, RefusesMap};
 ghost use Rattle.resb_read.specs.TypeLaws.{map_counted, map_one};
 
 use crate::cursor::Cursor;
@@ -25,8 +25,8 @@ fn read_entries<'de, 'm, K: Deserialize<'de> + Ord, T: Deserialize<'de>>(
         × ReadsAll K.cmp K.reads T.reads access.entry.rest m.entries n
         × (walk.new + n ≡ walk.old)) }
     ensures refused { IfErr result (λ e. (walk.new ≤ walk.old)
-        × LacksOrMemory (CountsPairs K.counts T.counts access.entry.rest) walk.old e) }
-    ensures says { IfErr result (RefusesPairs K.counts K.refuses T.counts T.refuses
+        × LacksOrMemory (CountsEntries K.counts T.counts access.entry.rest) walk.old e) }
+    ensures says { IfErr result (RefusesEachEntry K.counts K.refuses T.counts T.refuses
         access.entry.rest walk.old walk.new) }
 {
     let mut map = BTreeMap::new(alloc);

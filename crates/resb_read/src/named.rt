@@ -14,28 +14,28 @@ ghost use Rattle.resb_read.specs.Spots.{IsUnitSpot, IsWordSpot, IsKeySpot};
 ghost use Rattle.resb_read.specs.Inner.Named as named;
 
 use crate::cursor::{Cursor, Spot};
-use resb_format::{BinaryDeserializerError, BodyParts};
+use resb_format::{BinaryDeserializerError, FileBlocks};
 use resb_walk::{Walk, key_at};
 use std::alloc::Global;
 
 /// A string of the 16-bit block.
 #[derive(Clone, Copy)]
 pub struct Resource16BitDeserializer<'de> {
-    file: BodyParts<'de>,
+    file: FileBlocks<'de>,
     unit: u16,
 }
 
 /// A number of a vector.
 #[derive(Clone, Copy)]
 pub struct IntVectorDeserializer<'de> {
-    file: BodyParts<'de>,
+    file: FileBlocks<'de>,
     word: u32,
 }
 
 /// A key.
 #[derive(Clone, Copy)]
 pub struct KeyDeserializer<'de> {
-    file: BodyParts<'de>,
+    file: FileBlocks<'de>,
     position: usize,
 }
 

@@ -15,7 +15,7 @@ use crate::cursor::{Cursor, Spot};
 use crate::deserialize::Deserialize;
 use crate::elements::Elements;
 use crate::faults::refused_here;
-use resb_format::{BinaryDeserializerError, BodyParts, ReadingError, ResourceReprType};
+use resb_format::{BinaryDeserializerError, FileBlocks, ReadingError, ResourceReprType};
 use resb_walk::faults::past_end;
 use resb_walk::types::readable;
 use resb_walk::{Leaf, Standing, Walk, standing_at};
@@ -26,7 +26,7 @@ use std::marker::Model;
 /// After an `Err` it stands where it stood, and answers that error from then on.
 #[derive(Drop)]
 pub struct SeqAccess<'de, 'm> {
-    file: BodyParts<'de>,
+    file: FileBlocks<'de>,
     rest: Elements<'de>,
     failed: Option<ReadingError<'m>>,
 }
@@ -118,7 +118,7 @@ impl<'de, 'm> SeqAccess<'de, 'm> {
 /// The members of the array or vector at a word.
 #[inline(always)]
 fn members_at<'de>(
-    file: BodyParts<'de>,
+    file: FileBlocks<'de>,
     word: u32,
 ) -> Result<Elements<'de>, BinaryDeserializerError>
     ensures { let members = members_in (parts_in file.entry) word in

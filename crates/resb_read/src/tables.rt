@@ -14,14 +14,14 @@ use crate::deserialize::Deserialize;
 use crate::elements::spot_of;
 use crate::keys::is_key;
 use resb_format::bytes::{unit_at, word_at};
-use resb_format::{BinaryDeserializerError, BodyParts, ReadingError};
+use resb_format::{BinaryDeserializerError, FileBlocks, ReadingError};
 use resb_walk::{Members, Positions, TableParts, Walk};
 use std::alloc::Global;
 
 /// A table that stands in a file, with one paid of the budget for each of its entries.
 #[derive(Clone, Copy)]
 pub struct TableView<'de> {
-    pub(crate) file: BodyParts<'de>,
+    pub(crate) file: FileBlocks<'de>,
     pub(crate) entries: TableParts<'de>,
 }
 
@@ -71,7 +71,7 @@ impl<'de> TableView<'de> {
 /// Where the value of the last of these entries stands whose key is this name: of each key's
 /// position two bytes are given, of each value's descriptor four. The last one is looked at first.
 fn last_near<'de>(
-    file: BodyParts<'de>,
+    file: FileBlocks<'de>,
     positions: &'de [u8],
     words: &'de [u8],
     name: &str,
@@ -92,7 +92,7 @@ fn last_near<'de>(
 
 /// Where the value of the last of these entries stands whose key is this name.
 #[inline(never)]
-fn last_of<'de>(file: BodyParts<'de>, entries: TableParts<'de>, name: &str) -> Option<Cursor<'de>>
+fn last_of<'de>(file: FileBlocks<'de>, entries: TableParts<'de>, name: &str) -> Option<Cursor<'de>>
     ensures { option_map place_of result
         ≡ last_named name.now (entry_places file.entry entries.entry) }
 {

@@ -6,7 +6,7 @@ ghost use Rattle.std.specs.String.{string_bytes};
 ghost use Rattle.resb_format.specs.Bytes.{units_of};
 ghost use Rattle.resb_format.specs.Strings as strings;
 ghost use Rattle.resb_format.specs.Error.{end_of_input, invalid};
-ghost use Rattle.resb_format.specs.StringFaults.{string_fault};
+ghost use Rattle.resb_format.specs.StringMessage.{string_message};
 ghost use Rattle.resb_walk.specs.BlockRefusals.{Says};
 ghost use Rattle.resb_format.specs.Parts.{parts_in};
 ghost use Rattle.resb_read.specs.Places.{place_of};
@@ -25,7 +25,7 @@ use crate::deserialize::Deserialize;
 use crate::faults::{elsewhere, refused_here, value_of};
 use resb_format::bytes::{some_bytes, some_word};
 use resb_format::{
-    BinaryDeserializerError, BodyParts, Key, ReadingError, ResourceReprType, string_at,
+    BinaryDeserializerError, FileBlocks, Key, ReadingError, ResourceReprType, string_at,
 };
 use resb_walk::faults::past_end;
 use resb_walk::types::readable;
@@ -46,7 +46,7 @@ fn units_at(block: &[u8], unit: usize) -> Result<&[u8], BinaryDeserializerError>
     ensures stands { let there = option_map units_as_bytes
         (strings.string_at (units_of block.now) unit) in
         MatchResult result (λ b. there ≡ Some b.now) (λ _. there ≡ None) }
-    ensures says { IfErr result (Says (invalid (string_fault (units_of block.now) unit))) }
+    ensures says { IfErr result (Says (invalid (string_message (units_of block.now) unit))) }
 {
     match string_at(block, unit) {
         Ok(view) => Ok(whole_units(view.as_bytes())),
@@ -56,7 +56,7 @@ fn units_at(block: &[u8], unit: usize) -> Result<&[u8], BinaryDeserializerError>
 
 /// The bytes of items of so many bytes each, behind their count.
 fn counted_at(
-    file: BodyParts<'_>,
+    file: FileBlocks<'_>,
     each: usize,
     value: usize,
 ) -> Result<&[u8], BinaryDeserializerError>
@@ -76,7 +76,7 @@ fn counted_at(
 }
 
 /// The bytes of what stands at a descriptor.
-fn described(file: BodyParts<'_>, word: u32) -> Result<&[u8], BinaryDeserializerError>
+fn described(file: FileBlocks<'_>, word: u32) -> Result<&[u8], BinaryDeserializerError>
     ensures stands { let p = parts_in file.entry in
         let there = bytes_of_type p (type_in word) (value_in word) in
         MatchResult result (λ b. there ≡ Some b.now) (λ _. there ≡ None) }

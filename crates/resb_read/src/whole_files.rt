@@ -4,7 +4,7 @@ ghost use Rattle.std.specs.Prelude.{◌≡◌, ◌≤◌, ℕ, Some, IfOk, IfErr
 ghost use Rattle.resb_format.specs.Error as reading;
 ghost use Rattle.resb_format.specs.Error.{refusal_of};
 ghost use Rattle.resb_head.specs.File.{budget};
-ghost use Rattle.resb_head.specs.HeadChecks.{file_fault};
+ghost use Rattle.resb_head.specs.HeadChecks.{file_refusal};
 ghost use Rattle.resb_read.specs.Reading.{LacksOrMemory};
 ghost use Rattle.resb_read.specs.Roots.{HoldsAtRoot, RefusesRoot, AnswersTree, AnswersCount};
 
@@ -23,7 +23,7 @@ pub fn from_bytes<'a, 'm, T: Deserialize<'a>>(
     ensures refused { IfErr result (λ e. LacksOrMemory
         (λ n. HoldsAtRoot (λ p. T.counts p n) bytes.entry.now) (budget bytes.entry.now) e) }
     ensures head { IfErr result
-        (λ e. (f : reading.Refusal) → file_fault bytes.entry.now ≡ Some f → refusal_of e ≡ f) }
+        (λ e. (f : reading.Refusal) → file_refusal bytes.entry.now ≡ Some f → refusal_of e ≡ f) }
     ensures says { IfErr result (RefusesRoot T.refuses bytes.entry.now) }
 {
     let (value, _) = from_bytes_counted::<T>(alloc, bytes)?;
@@ -41,7 +41,7 @@ pub fn from_bytes_counted<'a, 'm, T: Deserialize<'a>>(
     ensures refused { IfErr result (λ e. LacksOrMemory
         (λ n. HoldsAtRoot (λ p. T.counts p n) bytes.entry.now) (budget bytes.entry.now) e) }
     ensures head { IfErr result
-        (λ e. (f : reading.Refusal) → file_fault bytes.entry.now ≡ Some f → refusal_of e ≡ f) }
+        (λ e. (f : reading.Refusal) → file_refusal bytes.entry.now ≡ Some f → refusal_of e ≡ f) }
     ensures says { IfErr result (RefusesRoot T.refuses bytes.entry.now) }
 {
     let (root, mut walk) = Cursor::root(bytes)?;

@@ -10,7 +10,7 @@ ghost use Rattle.resb_format.specs.Error as reading;
 ghost use Rattle.resb_format.specs.Error.{IsWantOfMemory, refusal_of};
 ghost use Rattle.resb_head.specs.File.{budget};
 ghost use Rattle.resb_head.specs.Codes.{endianness_number};
-ghost use Rattle.resb_head.specs.HeadChecks.{file_fault, header_fault};
+ghost use Rattle.resb_head.specs.HeadChecks.{file_refusal, header_refusal};
 ghost use Rattle.resb_read.specs.Reading.{LacksOrMemory};
 ghost use Rattle.resb_read.specs.Roots.{HoldsAtRoot, RefusesRoot};
 
@@ -62,7 +62,7 @@ pub fn from_words<'a, 'm, T: Deserialize<'a>>(
         e) }
     ensures head { let bytes = flat_map (to_le_bytes w32) words.now in
         IfErr result (λ e. IsWantOfMemory e ⊎
-        ((f : reading.Refusal) → file_fault bytes ≡ Some f → refusal_of e ≡ f)) }
+        ((f : reading.Refusal) → file_refusal bytes ≡ Some f → refusal_of e ≡ f)) }
     ensures says { let bytes = flat_map (to_le_bytes w32) words.now in
         IfErr result (λ e. IsWantOfMemory e ⊎ RefusesRoot T.refuses bytes e) }
 {
@@ -74,9 +74,9 @@ pub fn from_words<'a, 'm, T: Deserialize<'a>>(
 /// The order of bytes that a file's header names. The header's numbers are read in that order.
 pub fn determine_endianness(bytes: &[u8]) -> Result<Endianness, BinaryDeserializerError>
     ensures { MatchResult result
-        (λ x. (header_fault true bytes.now ≡ None) ×
+        (λ x. (header_refusal true bytes.now ≡ None) ×
         (endianness_number x ≡ slice_index bytes.now 8))
-        (λ e. header_fault true bytes.now ≡ Some (refusal_of e)) }
+        (λ e. header_refusal true bytes.now ≡ Some (refusal_of e)) }
 {
     let header = BinHeader::read_any_order(bytes)?;
     Ok(header.repr_info.endianness)

@@ -63,6 +63,6 @@ module _ (ci cv : Place → ℕ → Type 0) (p : Place) (left left1 : ℕ) (paid
       (omega (arith, h.count))))
 
 -- no entries are left
-pub none_left : (rest : List Entry) → length rest ≤ 0 → rest ≡ []
-none_left [] h = refl
-none_left (x ∷ xs) h = absurd (omega (arith, h))
+pub no_entry_left : (rest : List Entry) → length rest ≤ 0 → rest ≡ []
+no_entry_left [] h = refl
+no_entry_left (x ∷ xs) h = absurd (omega (arith, h))

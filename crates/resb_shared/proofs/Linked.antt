@@ -308,14 +308,14 @@ three_parts us from a b end f g h =
     let y = rw (i, k) at (breaks_add us a (b - a) (end - b)) in
     omega (arith, x, y)
 
-pub one_more : (us : List ℕ) (i n : ℕ)
+pub breaks_one_more : (us : List ℕ) (i n : ℕ)
     → breaks us i (n + 1) ≡ breaks us i n + break_at us (i + n)
 unfolding breaks
-one_more us i n = let e : n + 1 ≡ suc n = omega arith in rw e refl
+breaks_one_more us i n = let e : n + 1 ≡ suc n = omega arith in rw e refl
 
-pub none_yet : (us : List ℕ) (i : ℕ) → 0 ≡ breaks us i 0
+pub no_breaks_yet : (us : List ℕ) (i : ℕ) → 0 ≡ breaks us i 0
 unfolding breaks
-none_yet us i = refl
+no_breaks_yet us i = refl
 
 -- one more step
 pub counted_push : (us ns : List ℕ) (total : ℕ) → AreCounted us ns
@@ -357,5 +357,6 @@ pub counted_none : (us : List ℕ) → AreCounted us []
 counted_none us k l = absurd (omega (arith, l))
 
 -- no units are a text
-pub no_units : (us : List ℕ) (from count : ℕ) → count ≡ 0 → IsWellFormed (take count (drop from us))
-no_units us from count e = rw e empty_is_paired
+pub empty_range_is_well_formed : (us : List ℕ) (from count : ℕ) → count ≡ 0
+    → IsWellFormed (take count (drop from us))
+empty_range_is_well_formed us from count e = rw e empty_is_paired

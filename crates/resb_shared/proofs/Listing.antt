@@ -14,7 +14,7 @@ use Rattle.resb_shared.specs.declared.tails.Tail.{Tail}
 use Rattle.resb_shared.specs.Tails.{IsTail}
 use Rattle.resb_shared.specs.Inner.Listed.{start_of, end_of, AreApart, EndBefore, AreListed}
 use Rattle.resb_shared.specs.Inner.Listed.{ListsUpTo}
-use Rattle.resb_shared.proofs.TailLaws.{key_from_later, parts, tail_stands}
+use Rattle.resb_shared.proofs.TailLaws.{key_from_later, is_its_utf8, tail_stands}
 
 -- what stands before the next zero byte
 pub record Next (keys rest : List ℕ) (start end : ℕ) : Type 0 where
@@ -41,7 +41,7 @@ inside keys rest start end at s n l m e =
     let same : drop k rest ≡ drop at keys =
     ap (drop k) n.back ∙ drop-drop k start keys ∙ ap (λ i. drop i keys) (omega (arith, l)) in
     let there = key_from_later rest key k found within in
-    let its = parts (before_zero (drop at keys)) s e in
+    let its = is_its_utf8 (before_zero (drop at keys)) s e in
     let moved : before_zero (drop at keys) ≡ Some (drop k key) = rw (← same) there in
     let f : s ≡ drop k key = cc in
     (f, IsUtf8-from_is_utf8 s its.1)

@@ -71,10 +71,10 @@ no_zero_later (x ∷ xs) zero h = h
 no_zero_later (x ∷ xs) (suc k) h = no_zero_later xs k (tail_zero x xs (nat_eq x 0) refl h)
 
 -- a key is what stands there, and is UTF-8
-pub parts : (o : Option (List ℕ)) (t : List ℕ) → option_and_then if_utf8 o ≡ Some t
+pub is_its_utf8 : (o : Option (List ℕ)) (t : List ℕ) → option_and_then if_utf8 o ≡ Some t
     → (o ≡ Some t) × (is_utf8 t ≡ true)
-parts None t e = absurd cc
-parts (Some bs) t e = cases (is_utf8 bs) refl
+is_its_utf8 None t e = absurd cc
+is_its_utf8 (Some bs) t e = cases (is_utf8 bs) refl
   where
     cases : (b : Bool) → is_utf8 bs ≡ b → (Some bs ≡ Some t) × (is_utf8 t ≡ true)
     cases true u =
@@ -91,7 +91,7 @@ unfolding key_at
 no_key_behind keys s start at none le e =
     let rest = drop start keys in
     let k = at - start in
-    let its = no_zero_before (drop at keys) s (parts (before_zero (drop at keys)) s e).0 in
+    let its = no_zero_before (drop at keys) s (is_its_utf8 (before_zero (drop at keys)) s e).0 in
     let f : length rest ≤ zero_at rest = grind (arith, nat_tests, none) in
     let g = no_zero_later rest k f in
     let i : start + k ≡ at = omega (arith, le) in
@@ -103,7 +103,7 @@ no_key_behind keys s start at none le e =
 pub no_key_past : (keys s : List ℕ) (at : ℕ) → length keys ≤ at → key_at keys at ≡ Some s → ⊥
 unfolding key_at
 no_key_past keys s at le e =
-    let its = no_zero_before (drop at keys) s (parts (before_zero (drop at keys)) s e).0 in
+    let its = no_zero_before (drop at keys) s (is_its_utf8 (before_zero (drop at keys)) s e).0 in
     omega (arith, its.0, le, length-drop at keys)
 
 -- the law: a key cut between two characters is a key
@@ -111,7 +111,7 @@ pub end_of_tail : (keys t : List ℕ) (from k : ℕ) → key_at keys from ≡ So
     → IsCharBoundary t k → key_at keys (from + k) ≡ Some (drop k t)
 unfolding key_at
 end_of_tail keys t from k e b =
-    let is = parts (before_zero (drop from keys)) t e in
+    let is = is_its_utf8 (before_zero (drop from keys)) t e in
     let same : drop (from + k) keys ≡ drop k (drop from keys) = sym (drop-drop k from keys) in
     let f = key_from_later (drop from keys) t k is.0 b.0 in
     let u = IsUtf8-drop t k (IsUtf8-from_is_utf8 t is.1) b in
@@ -137,11 +137,11 @@ pub cut_of_tail : (keys t s : List ℕ) (from k : ℕ) → key_at keys from ≡ 
     → key_at keys (from + k) ≡ Some s → IsCharBoundary t k
 unfolding key_at
 cut_of_tail keys t s from k e l g =
-    let is = parts (before_zero (drop from keys)) t e in
+    let is = is_its_utf8 (before_zero (drop from keys)) t e in
     let same : drop (from + k) keys ≡ drop k (drop from keys) = sym (drop-drop k from keys) in
     let f : before_zero (drop (from + k) keys) ≡ Some (drop k t) =
     rw same (key_from_later (drop from keys) t k is.0 l) in
-    let its = parts (before_zero (drop (from + k) keys)) s g in
+    let its = is_its_utf8 (before_zero (drop (from + k) keys)) s g in
     let here : s ≡ drop k t = cc in
     let u : is_utf8 (drop k t) ≡ true = ap is_utf8 (sym here) ∙ its.1 in
     IsCharBoundary-from_drop t k l (IsUtf8-from_is_utf8 (drop k t) u)

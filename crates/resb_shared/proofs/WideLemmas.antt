@@ -5,7 +5,7 @@ use Rattle.std.proofs.Common.{inr, Bool, true, false, length, get_or, take, drop
 use Rattle.std.proofs.Common.{◌∙◌, ◌||◌}
 use Rattle.std.proofs.Common.{arith, length-append, length-drop, encode_utf8_all}
 use Rattle.std.proofs.Math.ListN.{get_or-append}
-use Rattle.std.proofs.Math.Seq.{get_or-append_seam}
+use Rattle.std.proofs.Math.Seq.{get_or-append_seam, take-nil}
 use Rattle.std.proofs.Math.Utf8.{encode}
 use Rattle.std.proofs.lemmas.Bool.{cases_lt}
 use Rattle.std.proofs.lemmas.Bool.Decides.{nat_tests}
@@ -33,18 +33,14 @@ width_more us from n inside =
 pub width_none : (us : List ℕ) (from : ℕ) → 0 ≡ text_width (take 0 (drop from us))
 width_none us from = refl
 
-take_nil : (n : ℕ) → take {A = ℕ} n [] ≡ []
-take_nil zero = refl
-take_nil (suc n) = refl
-
 -- of a front, and of what is behind it
 pub front_behind : (us : List ℕ) (m n : ℕ)
     → text_width (take (m + n) us) ≡ text_width (take m us) + text_width (take n (drop m us))
 front_behind us zero n = let e : 0 + n ≡ n = omega arith in rw e (omega arith)
 front_behind [] (suc m) n =
-    let whole : text_width (take {A = ℕ} (suc m + n) []) ≡ 0 = ap text_width (take_nil (suc m + n))
+    let whole : text_width (take {A = ℕ} (suc m + n) []) ≡ 0 = ap text_width (take-nil (suc m + n))
     in
-    let behind : text_width (take {A = ℕ} n []) ≡ 0 = ap text_width (take_nil n) in
+    let behind : text_width (take {A = ℕ} n []) ≡ 0 = ap text_width (take-nil n) in
     omega (arith, whole, behind)
 front_behind (u ∷ us) (suc m) n =
     let more = front_behind us m n in

@@ -28,11 +28,11 @@ AreLooks (l ∷ ls) = ((g : NumberedFrame) × (l ≡ view_of_frame g)) × AreLoo
 
 looks_are : (gs : List NumberedFrame) → AreLooks (views_of_frames gs)
 looks_are [] = tt
-looks_are (g ∷ gs) = one_more (views_of_frames gs) (looks_are gs)
+looks_are (g ∷ gs) = looks_one_more (views_of_frames gs) (looks_are gs)
   where
-    one_more : (ls : List FrameView) → AreLooks ls → AreLooks (ls ++ view_of_frame g ∷ [])
-    one_more [] h = ((g, refl), tt)
-    one_more (l ∷ ls) h = (h.0, one_more ls h.1)
+    looks_one_more : (ls : List FrameView) → AreLooks ls → AreLooks (ls ++ view_of_frame g ∷ [])
+    looks_one_more [] h = ((g, refl), tt)
+    looks_one_more (l ∷ ls) h = (h.0, looks_one_more ls h.1)
 
 module _ {B X : Type 0} (tree : B → X → Tree) (held : B → X → Bool) (b d : B)
     (grows : Grows tree held b d) where

@@ -3,6 +3,11 @@ use Rattle.std.proofs.Common.{◌≡◌, ℕ, ◌+◌, ◌-◌, List, get_or, ap
 use Rattle.std.proofs.Common.{length-drop, true, ◌<◌, ◌≤◌, false, refl}
 use Rattle.std.proofs.lemmas.List.{get_or-drop, take_all}
 use Rattle.std.specs.Prelude.{Bool}
+use Rattle.std.specs.Prelude.{if◌then◌else◌}
+use Rattle.std.proofs.lemmas.Bool.{false≢true}
+use Rattle.std.proofs.Common.{sym, Option, Some, None, eqb, eqb-true}
+use Rattle.std.specs.Option.{option_eq}
+use Rattle.std.specs.Prelude.{not}
 
 -- the byte at a place of what is left from here on
 pub at_rest : (text rest : List ℕ) (from k : ℕ) → rest ≡ drop from text
@@ -16,10 +21,10 @@ rest_of text s from e =
     take_all (length s - from) (drop from s) (omega (arith, length-drop from s)) ∙ ap (drop from) e
 
 -- none does before this one
-pub none_before : (test : ℕ → Bool) (text rest : List ℕ) (from n : ℕ) → rest ≡ drop from text
+pub none_passes_before : (test : ℕ → Bool) (text rest : List ℕ) (from n : ℕ) → rest ≡ drop from text
     → ((k : ℕ) → k < n → test (get_or rest k 0) ≡ true → ⊥)
     → (k : ℕ) → from ≤ k → k < from + n → test (get_or text k 0) ≡ false
-none_before test text rest from n e never k le lt = no (test (get_or text k 0)) refl
+none_passes_before test text rest from n e never k le lt = no (test (get_or text k 0)) refl
   where
     no : (b : Bool) → test (get_or text k 0) ≡ b → test (get_or text k 0) ≡ false
     no false is = is
@@ -27,3 +32,32 @@ none_before test text rest from n e never k le lt = no (test (get_or text k 0)) 
         let i : from + (k - from) ≡ k = omega arith in
         absurd (never (k - from) (omega arith)
         (ap test (at_rest text rest from (k - from) e ∙ ap (λ j. get_or text j 0) i) ∙ is))
+
+-- of a place and the end, either is at least the place
+pub chosen_low : (b : Bool) (n at : ℕ) → at ≤ n → at ≤ (if b then n else at)
+chosen_low true n at l = l
+chosen_low false n at l = omega arith
+
+-- and at most the end
+pub chosen_high : (b : Bool) (n at : ℕ) → at ≤ n → (if b then n else at) ≤ n
+chosen_high true n at l = omega arith
+chosen_high false n at l = l
+
+-- where the end isn't chosen
+pub chosen_here : (b : Bool) (n at : ℕ) → (b ≡ true → ⊥) → (if b then n else at) ≡ at
+chosen_here true n at f = absurd (f refl)
+chosen_here false n at f = refl
+
+-- where it is
+pub chosen_end : (b : Bool) (n at : ℕ) → b ≡ true → (if b then n else at) ≡ n
+chosen_end true n at e = refl
+chosen_end false n at e = absurd (false≢true e)
+
+-- an option that is this number
+pub some_is : (o : Option ℕ) (b : ℕ) → not (option_eq eqb o (Some b)) ≡ false → o ≡ Some b
+some_is None b h = absurd (false≢true (sym h))
+some_is (Some x) b h = ap Some (eqb-true x b (flip (eqb x b) h))
+  where
+    flip : (c : Bool) → not c ≡ false → c ≡ true
+    flip true e = refl
+    flip false e = absurd (false≢true (sym e))

@@ -1,28 +1,12 @@
 -- Laws of how far a reading has looked.
 use Rattle.std.proofs.Common.{◌≡◌, ◌≢◌, ℕ, ◌+◌, ◌<◌, ◌≤◌, Bool, true, false}
 use Rattle.std.proofs.Common.{List, length, arith, refl, sym, ◌∙◌}
-use Rattle.std.specs.Prelude.{slice_index, ◌==◌, if◌then◌else◌}
-use Rattle.std.proofs.lemmas.Bool.{false≢true}
+use Rattle.std.specs.Prelude.{slice_index, ◌==◌}
 use Rattle.std.proofs.lemmas.Bool.Decides.{nat_tests}
 use Rattle.resb_grammar.specs.Ascii as ascii
 use Rattle.resb_grammar.specs.ByteRuns.{Run, is_word, is_digit}
 use Rattle.resb_text.specs.Inner.Reach.{reach}
-
-chosen_low : (b : Bool) (n at : ℕ) → at ≤ n → at ≤ (if b then n else at)
-chosen_low true n at l = l
-chosen_low false n at l = omega arith
-
-chosen_high : (b : Bool) (n at : ℕ) → at ≤ n → (if b then n else at) ≤ n
-chosen_high true n at l = omega arith
-chosen_high false n at l = l
-
-chosen_here : (b : Bool) (n at : ℕ) → (b ≡ true → ⊥) → (if b then n else at) ≡ at
-chosen_here true n at f = absurd (f refl)
-chosen_here false n at f = refl
-
-chosen_end : (b : Bool) (n at : ℕ) → b ≡ true → (if b then n else at) ≡ n
-chosen_end true n at e = refl
-chosen_end false n at e = absurd (false≢true e)
+use Rattle.resb_text.proofs.Lists.{chosen_low, chosen_high, chosen_here, chosen_end}
 
 -- a reading has looked at least up to its place
 pub reach_low : (text : List ℕ) (at : ℕ) → at ≤ length text → at ≤ reach text at

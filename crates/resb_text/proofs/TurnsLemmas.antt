@@ -3,8 +3,9 @@ use Rattle.std.proofs.Common.{◌≡◌, ℕ, ◌+◌, ◌-◌, ◌<◌, true, L
 use Rattle.std.proofs.lemmas.Str.{IsCharBoundary-before_ascii, IsCharBoundary-after_ascii}
 use Rattle.std.specs.Str.{IsUtf8, IsCharBoundary}
 use Rattle.resb_grammar.specs.ByteRuns.{is_word}
-use Rattle.resb_text.specs.Turns.{IsPiece, IsWordPiece, IsQuotedPiece}
-use Rattle.resb_grammar.proofs.ByteRunsLemmas.{word_ascii, word_some, nonzero_inside}
+use Rattle.resb_text.specs.Turns.{IsTextPiece, IsWordPiece, IsQuotedPiece}
+use Rattle.resb_grammar.proofs.ByteRunsLemmas.{word_ascii, word_some}
+use Rattle.resb_grammar.proofs.Lists.{nonzero_inside}
 
 -- a place after an ASCII byte
 after_byte : (text : List ℕ) (from : ℕ) → IsUtf8 text → 0 < from → 0 < get_or text (from - 1) 0
@@ -14,7 +15,7 @@ after_byte text from u p h l =
     subst (λ i. IsCharBoundary text i) e
     (IsCharBoundary-after_ascii text (from - 1) u (nonzero_inside text (from - 1) h) l)
 
-pub start_boundary : (text : List ℕ) (from to : ℕ) → IsUtf8 text → IsPiece text from to
+pub start_boundary : (text : List ℕ) (from to : ℕ) → IsUtf8 text → IsTextPiece text from to
     → IsCharBoundary text from
 start_boundary text from to u = ⊎_elim
     (λ (w : IsWordPiece text from to).
@@ -23,7 +24,7 @@ start_boundary text from to u = ⊎_elim
     (λ (q : IsQuotedPiece text from to).
     after_byte text from u q.order (omega arith) (omega arith))
 
-pub end_boundary : (text : List ℕ) (from to : ℕ) → IsUtf8 text → IsPiece text from to
+pub end_boundary : (text : List ℕ) (from to : ℕ) → IsUtf8 text → IsTextPiece text from to
     → IsCharBoundary text to
 end_boundary text from to u = ⊎_elim
     (λ (w : IsWordPiece text from to).

@@ -12,7 +12,7 @@ use Rattle.resb_grammar.specs.GroupTypes.{integer_kind, vector_kind, GroupType, 
 use Rattle.resb_grammar.specs.Group.{LeafContent, string_content, binary_content, integer_content}
 use Rattle.resb_grammar.specs.Group.{vector_content}
 use Rattle.resb_grammar.specs.Limit.{begun_bytes, leaf_bytes, Makes, MakesMore}
-use Rattle.resb_grammar.proofs.Making.{reading_of, makes_on, makes_more, head_made}
+use Rattle.resb_grammar.proofs.Making.{reading_of, makes_on, makes_more, opening_made}
 use Rattle.resb_grammar.proofs.Making.{begun_made, content_made, BeforeBrace}
 use Rattle.resb_grammar.specs.Items.{Item, group_term}
 use Rattle.resb_grammar.specs.Machine as machine
@@ -26,15 +26,15 @@ use Rattle.resb_text.specs.Inner.Leaf.{LeafGroup, LeafFails}
 use Rattle.resb_text.specs.Inner.Frames.{group_body_of, StandsFor}
 use Rattle.resb_text.specs.Answer.{Fails}
 use Rattle.resb_text.specs.Refusal.{want_of_memory}
-use Rattle.resb_text.specs.Inner.Steps.{takes_group, Among, HeadFails}
+use Rattle.resb_text.specs.Inner.Steps.{takes_group, Among, TypedOpeningFails}
 use Rattle.resb_text.specs.declared.frames.Open.{Open}
 use Rattle.resb_grammar.specs.declared.expected.Expected.{Expected}
 use Rattle.resb_grammar.specs.declared.expected.Expected.TheVariants as expect
 use Rattle.resb_text.specs.declared.error.TextParserError.{TextParserError}
 use Rattle.resb_grammar.specs.Token.{Means}
 use Rattle.resb_grammar.proofs.Moves.{move_means, further, byte_class, none_some, no_text_colon}
-use Rattle.resb_grammar.proofs.Complete.{MayOpen, type_next, run_head}
-use Rattle.resb_grammar.proofs.LexLemmas.{no_number, no_root_type}
+use Rattle.resb_grammar.proofs.Complete.{MayOpen, type_next, run_opening}
+use Rattle.resb_grammar.proofs.FirstBytes.{no_number_in_body, no_root_type_in_body}
 use Rattle.resb_text.proofs.HeaderReading.{error_at}
 use Rattle.resb_text.proofs.StepsLemmas.{body_same, stuck_here}
 use Rattle.resb_grammar.proofs.Numbers.{plus_no_bytes}
@@ -73,17 +73,17 @@ module _ (text : List ℕ) where
       → ⊥)
       → Means text at to t → in_body o.frame.body o t ≡ Some u → ⊥
   only_types o at to u (a_text s) colon never m e = no_text_colon text at to s m colon
-  only_types o at to u (a_number n) colon never m e = no_number o.frame.body o n u e
+  only_types o at to u (a_number n) colon never m e = no_number_in_body o.frame.body o n u e
   only_types o at to u opening colon never m e = let n = m.0 in absurd (omega (arith, n, colon))
   only_types o at to u closing colon never m e = let n = m.0 in absurd (omega (arith, n, colon))
   only_types o at to u a_comma colon never m e = let n = m.0 in absurd (omega (arith, n, colon))
   only_types o at to u (a_type kind) colon never m e = never kind m e
-  only_types o at to u (a_root_type f) colon never m e = no_root_type o.frame.body o f u e
+  only_types o at to u (a_root_type f) colon never m e = no_root_type_in_body o.frame.body o f u e
 
   -- no type stands here
   pub no_type : (at : ℕ) → slice_index text at ≡ ascii.colon
       → ((to : ℕ) (kind : Kind) → GroupType text at to kind → ⊥)
-      → HeadFails text at (error_at at expect.TypeName)
+      → TypedOpeningFails text at (error_at at expect.TypeName)
   no_type at colon never o may reached =
       subst (λ (y : Expected). Stuck text at y) (sym same)
       (blocked (inside o) (record {
@@ -102,7 +102,7 @@ module _ (text : List ℕ) where
   -- no `{` after a type
   pub no_type_brace : (at ends brace : ℕ) (kind : Kind) → GroupType text at ends kind
       → Skip text ends brace → slice_index text brace ≢ ascii.left_brace
-      → HeadFails text at (error_at brace expect.LeftBrace)
+      → TypedOpeningFails text at (error_at brace expect.LeftBrace)
   no_type_brace at ends brace kind g skip never o may reached =
       blocked (typed kind o) (record {
         reached = there;
@@ -167,15 +167,15 @@ module _ (text : List ℕ) where
   begun : (o : machine.Open) (at first : ℕ) (kind : Kind)
       → takes_group o.frame.body (is_key_place o.frame.items) ≡ true → At text at (inside o)
       → TypedOpening text at kind first → At text first (machine.begun_as kind o)
-  begun o at first kind may reached head =
-      run_head text at first kind o.title o.frame.body o.frame.items o.around head
+  begun o at first kind may reached begin =
+      run_opening text at first kind o.title o.frame.body o.frame.items o.around begin
       (may_open o.frame.body o.frame.items may) reached
 
-  pub head_refused : {n : ℕ} {B X : Type 0} {tree : B → X → Tree} {held : B → X → Bool}
+  pub opening_refused : {n : ℕ} {B X : Type 0} {tree : B → X → Tree} {held : B → X → Bool}
       (c : Open B X) (at : ℕ) (e : TextParserError) → (x : Among tree held text at c n)
       → takes_group x.open_groups.frame.body (is_key_place x.open_groups.frame.items) ≡ true
-      → HeadFails text at e → Fails text e
-  head_refused c at e x may fails = inr (fails x.open_groups may x.reached)
+      → TypedOpeningFails text at e → Fails text e
+  opening_refused c at e x may fails = inr (fails x.open_groups may x.reached)
 
   -- a type leads to its `{`
   type_moves : (o : machine.Open) (kind : Kind)
@@ -197,7 +197,7 @@ module _ (text : List ℕ) where
   begins vector_kind body opens o = let e = opens o in cc
 
   -- a group that holds items is opened
-  pub group_opened : {n : ℕ} {B X : Type 0} {tree : B → X → Tree} {held : B → X → Bool}
+  pub typed_group_opened : {n : ℕ} {B X : Type 0} {tree : B → X → Tree} {held : B → X → Bool}
       (m : ℕ) (c d : Open B X) (at first : ℕ) (kind : Kind) (body : Body)
       → (x : Among tree held text at c n)
       → takes_group x.open_groups.frame.body (is_key_place x.open_groups.frame.items) ≡ true
@@ -206,10 +206,10 @@ module _ (text : List ℕ) where
       → ((o : machine.Open) → StandsFor tree held c o → StandsFor tree held d (within body o))
       → m ≡ n + 72
       → Among tree held text first d m
-  group_opened {n} m c d at first kind body x may head opens then sum =
+  typed_group_opened {n} m c d at first kind body x may begin opens then sum =
       let adds = begins kind body opens x.open_groups in
       let made = subst (λ (s : State). Makes text m first s) (opens x.open_groups)
-      (begun_made text n m at first kind x.open_groups head
+      (begun_made text n m at first kind x.open_groups begin
       (type_moves x.open_groups kind may) x.made
       (omega (arith, sum, adds))) in
       record {
@@ -227,11 +227,12 @@ module _ (text : List ℕ) where
       → TypedOpening text at kind first
       → ((o : machine.Open) → machine.begun_as kind o ≡ inside (within body o)) → limit < n + 72
       → MakesMore text limit
-  opened_over {n} limit c at first kind body x may head opens more =
+  opened_over {n} limit c at first kind body x may begin opens more =
       let adds = begins kind body opens x.open_groups in
-      makes_more text n limit head.brace (head.brace + 1) (typed kind x.open_groups) _ opening
-      (head_made text n at first kind x.open_groups head (type_moves x.open_groups kind may) x.made)
-      (head.opens, refl) refl (omega (arith, more, adds))
+      makes_more text n limit begin.brace (begin.brace + 1) (typed kind x.open_groups) _ opening
+      (opening_made text n at first kind x.open_groups begin
+      (type_moves x.open_groups kind may) x.made)
+      (begin.opens, refl) refl (omega (arith, more, adds))
 
   pub leaf_refused : {n : ℕ} {B X : Type 0} {tree : B → X → Tree} {held : B → X → Bool}
       (c : Open B X) (at first : ℕ) (kind : Kind) (e : TextParserError)
@@ -239,9 +240,9 @@ module _ (text : List ℕ) where
       → takes_group x.open_groups.frame.body (is_key_place x.open_groups.frame.items) ≡ true
       → TypedOpening text at kind first
       → (e ≡ want_of_memory) ⊎ LeafFails text first kind e → Fails text e
-  leaf_refused c at first kind e x may head fails =
+  leaf_refused c at first kind e x may begin fails =
       ⊎_elim (λ (h : e ≡ want_of_memory). inl h) (λ (h : LeafFails text first kind e). inr
-      (h x.open_groups (begun x.open_groups at first kind may x.reached head))) fails
+      (h x.open_groups (begun x.open_groups at first kind may x.reached begin))) fails
 
   -- a type that holds no items begins none
   leaf_kind : (from to : ℕ) (kind : Kind) (t : Tree) (n : ℕ) → LeafContent text from to kind t
@@ -258,9 +259,9 @@ module _ (text : List ℕ) where
       → takes_group x.open_groups.frame.body (is_key_place x.open_groups.frame.items) ≡ true
       → TypedOpening text at kind first → (leaf : LeafGroup text first next kind t)
       → BeforeBrace text n leaf.ends t x.open_groups
-  before_brace {n} c at first next kind t x may head leaf =
+  before_brace {n} c at first next kind t x may begin leaf =
       content_made text n first leaf.ends kind t x.open_groups leaf.content
-      (begun_made text n n at first kind x.open_groups head
+      (begun_made text n n at first kind x.open_groups begin
       (type_moves x.open_groups kind may) x.made
       (leaf_kind first leaf.ends kind t n leaf.content))
 
@@ -272,8 +273,8 @@ module _ (text : List ℕ) where
       → ((o : machine.Open) → StandsFor tree held c o → StandsFor tree held d (with_term
       (group_term t []) o))
       → m ≡ n + leaf_bytes t → Among tree held text to d m
-  leaf_added {n} m c d at first to kind t x may head leaf then sum =
-      let b = before_brace c at first to kind t x may head leaf in
+  leaf_added {n} m c d at first to kind t x may begin leaf then sum =
+      let b = before_brace c at first to kind t x may begin leaf in
       let adds = b.adds in
       let made = makes_on text n m leaf.ends (leaf.ends + 1) to b.state _ closing b.made
       (omega (arith, sum, adds)) (leaf.closes.brace, refl) b.moves leaf.closes.after in
@@ -291,8 +292,8 @@ module _ (text : List ℕ) where
       → takes_group x.open_groups.frame.body (is_key_place x.open_groups.frame.items) ≡ true
       → TypedOpening text at kind first → LeafGroup text first to kind t → limit < n + leaf_bytes t
       → MakesMore text limit
-  leaf_over {n} limit c at first to kind t x may head leaf more =
-      let b = before_brace c at first to kind t x may head leaf in
+  leaf_over {n} limit c at first to kind t x may begin leaf more =
+      let b = before_brace c at first to kind t x may begin leaf in
       let adds = b.adds in
       makes_more text n limit leaf.ends (leaf.ends + 1) b.state _ closing b.made
       (leaf.closes.brace, refl) b.moves (omega (arith, more, adds))

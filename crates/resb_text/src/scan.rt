@@ -8,7 +8,7 @@ ghost use Rattle.resb_grammar.specs.Lexical.{digits_value};
 ghost use Rattle.resb_text.specs.Inner.Runs.{FirstByte, NoByte};
 ghost use Rattle.resb_text.specs.Inner.Ticked.{Ticked};
 ghost use Rattle.resb_grammar.specs.ByteRuns.{is_line_end};
-ghost use Rattle.resb_text.specs.Turns.{IsPiece};
+ghost use Rattle.resb_text.specs.Turns.{IsTextPiece};
 
 use crate::runs;
 use crate::ticks::Ticks;
@@ -150,7 +150,7 @@ fn count_run(text: &str, ticks: &mut Ticks, from: usize, to: usize)
 /// Counts a turn for each byte and one more, and gives that piece of the text: a non-empty run
 /// of word characters, or what stands between two quotes and holds none.
 pub(crate) fn take<'a>(text: &'a str, ticks: &mut Ticks, from: usize, to: usize) -> &'a str
-    requires piece { IsPiece text.now from to }
+    requires piece { IsTextPiece text.now from to }
     ensures text { result.now ≡ slice_range text.now from to }
     ensures counted { Ticked ticks.old ticks.new (to - from + 1) }
 {

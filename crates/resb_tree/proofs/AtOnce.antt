@@ -10,18 +10,13 @@ use Rattle.std.specs.FinMap.Entries as fin
 use Rattle.std.specs.List.{AllByRecursion}
 use Rattle.std.specs.List.Sorted.{IsStrictlySortedBy}
 use Rattle.std.specs.Map.{keys_of, lookup, update, update_all}
-use Rattle.std.specs.Ordering.{match_ordering, ordering_reverse, is_eq, is_lt, eq_by_cmp}
+use Rattle.std.specs.Ordering.{match_ordering, is_eq, is_lt, eq_by_cmp}
 use Rattle.resb_tree.specs.Borrowing.{all_true}
 use Rattle.resb_tree.specs.Maps.{text_cmp}
 use Rattle.resb_tree.specs.Tree.{Tree, entries_of, put, put_all, map_of}
 use Rattle.resb_tree.specs.View.{tree_of, entries_view, pairs_view}
 use Rattle.resb_tree.specs.declared.resource.Resource.{Resource}
-use Rattle.resb_tree.proofs.MapsLemmas.{both_true}
-
-eq_reversed : (o : Ordering) → is_eq (ordering_reverse o) ≡ is_eq o
-eq_reversed Less = refl
-eq_reversed Equal = refl
-eq_reversed Greater = refl
+use Rattle.resb_tree.proofs.Numbers.{both_true, eq_reversed}
 
 -- two keys are equal in either order
 pub turned : (k q : List ℕ) → eq_by_cmp text_cmp k q ≡ eq_by_cmp text_cmp q k

@@ -1,12 +1,11 @@
 -- Counts and depths of what is still to be dropped.
 use Rattle.std.proofs.Common.{◌≡◌, ℕ, ◌+◌, ◌≤◌, max, List, [], ◌∷◌, ◌++◌, Ordering, Less, Equal}
-use Rattle.std.proofs.Common.{Greater, nat_cmp, Option, Some, None, Vec, BTreeMap, Global, refl, ap}
+use Rattle.std.proofs.Common.{Greater, nat_cmp, Vec, BTreeMap, Global, refl, ap}
 use Rattle.std.proofs.Common.{arith, rules}
 use Rattle.std.specs.BTreeMap.{insert_entry, values}
 use Rattle.std.specs.Map.{values_of}
 use Rattle.std.specs.Cmp.Lexicographic.{slice_cmp}
 use Rattle.std.specs.Ordering.{match_ordering}
-use Rattle.std.specs.Option.{UnwrapsOrElse}
 use Rattle.resb_tree.specs.Tree.{array, no_trees, tree_count, trees_count}
 use Rattle.resb_tree.specs.Tree.{entries_count}
 use Rattle.resb_tree.specs.View.{tree_of, items_view, entries_view}
@@ -65,19 +64,14 @@ insert_depth (e ∷ es) k v =
     at_most (slice_cmp nat_cmp k e.0) _ _ _ (max (depth_of (values_of (e ∷ es))) (depth v))
     (omega arith) (omega arith) (omega (arith, insert_depth es k v))
 
--- an array of no trees has no items
-pub no_items : (v : Vec Resource Global) → tree_of (Array v) ≡ array no_trees → v.items ≡ []
-no_items v e = none v.items (search (rules, tree_of_array v, e))
+-- an array of no trees has no resource inside
+pub no_resource_inside : (v : Vec Resource Global) → tree_of (Array v) ≡ array no_trees
+    → v.items ≡ []
+no_resource_inside v e = none v.items (search (rules, tree_of_array v, e))
   where
     none : (rs : List Resource) → array (items_view rs) ≡ array no_trees → rs ≡ []
     none [] e = refl
     none (r ∷ rs) e = cc
-
--- what stands where nothing stood was made new
-pub made_new : {X : Type 0} (o : Option X) (P : X → Type 0) (r : X) → o ≡ None → UnwrapsOrElse o P r
-    → P r
-made_new None P r e h = h
-made_new (Some x) P r e h = absurd (cc)
 
 -- what the steps of dropping go by
 pub ruleset drop_steps = (

@@ -24,13 +24,14 @@ values_is : (es : Entries) → laying_values es ≡ flat_map laying_order (value
 values_is no_entries = refl
 values_is (entry k t es) = ap (λ l. laying_order t ++ l) (values_is es)
 
-pub walk_is : (t : Tree) → laying_order t ≡ flat_map laying_order (children t) ++ t ∷ []
-walk_is (string s) = refl
-walk_is (array ts) = ap (λ l. l ++ array ts ∷ []) (each_is ts)
-walk_is (table es) = ap (λ l. l ++ table es ∷ []) (values_is es)
-walk_is (binary s) = refl
-walk_is (integer n) = refl
-walk_is (int_vector s) = refl
+-- what is inside a tree, in laying order, and then the tree
+pub laying_order_is : (t : Tree) → laying_order t ≡ flat_map laying_order (children t) ++ t ∷ []
+laying_order_is (string s) = refl
+laying_order_is (array ts) = ap (λ l. l ++ array ts ∷ []) (each_is ts)
+laying_order_is (table es) = ap (λ l. l ++ table es ∷ []) (values_is es)
+laying_order_is (binary s) = refl
+laying_order_is (integer n) = refl
+laying_order_is (int_vector s) = refl
 
 members_count : (ts : Trees) → trees_count ts ≡ sum_by tree_count (array_members ts)
 members_count no_trees = refl
@@ -48,21 +49,22 @@ values_count (entry k t es) = omega (
 none_counted : sum_by tree_count [] ≡ 0
 none_counted = refl
 
-pub count_is : (t : Tree) → tree_count t ≡ 1 + sum_by tree_count (children t)
-count_is (string s) = omega (arith, none_counted)
-count_is (array ts) = omega (arith, members_count ts)
-count_is (table es) = omega (arith, values_count es)
-count_is (binary s) = omega (arith, none_counted)
-count_is (integer n) = omega (arith, none_counted)
-count_is (int_vector s) = omega (arith, none_counted)
+pub tree_count_is : (t : Tree) → tree_count t ≡ 1 + sum_by tree_count (children t)
+tree_count_is (string s) = omega (arith, none_counted)
+tree_count_is (array ts) = omega (arith, members_count ts)
+tree_count_is (table es) = omega (arith, values_count es)
+tree_count_is (binary s) = omega (arith, none_counted)
+tree_count_is (integer n) = omega (arith, none_counted)
+tree_count_is (int_vector s) = omega (arith, none_counted)
 
+-- the members of an array of a list's trees are the list
 pub members-trees_of : (ts : List Tree) → array_members (trees_of ts) ≡ ts
 members-trees_of [] = refl
 members-trees_of (t ∷ ts) = ap (λ l. t ∷ l) (members-trees_of ts)
 
-pub trees-push : (old new : List (Bor Resource)) (r : Bor Resource) → new ≡ old ++ r ∷ []
+pub trees_in-push : (old new : List (Bor Resource)) (r : Bor Resource) → new ≡ old ++ r ∷ []
     → trees_in new ≡ trees_in old ++ tree_of r.now ∷ []
-trees-push old new r e = ap trees_in e ∙ map_push (λ (x : Bor Resource). tree_of x.now) old r
+trees_in-push old new r e = ap trees_in e ∙ map_push (λ (x : Bor Resource). tree_of x.now) old r
 
 -- a resource is taken off, and what is inside it put on
 pub replaced : (front old new seen seen' : List Tree) (t : Tree) (all : List Tree)
@@ -76,7 +78,7 @@ replaced front old new seen seen' t all e f g h =
     ∷ reverse seen)
     ∙ ap (λ l. flat_map laying_order front ++ l)
     (sym (append_assoc (flat_map laying_order (children t)) (t ∷ []) (reverse seen)))
-    ∙ ap (λ l. flat_map laying_order front ++ (l ++ reverse seen)) (sym (walk_is t))
+    ∙ ap (λ l. flat_map laying_order front ++ (l ++ reverse seen)) (sym (laying_order_is t))
     ∙ sym (append_assoc (flat_map laying_order front) (laying_order t) (reverse seen))
     ∙ ap (λ l. (flat_map laying_order front ++ l)
     ++ reverse seen) (sym (append-nil (laying_order t)))
@@ -84,6 +86,7 @@ replaced front old new seen seen' t all e f g h =
     ∙ ap (λ l. flat_map laying_order l ++ reverse seen) (sym e)
     ∙ h
 
+-- where a tree gives way to its children, fewer resources are left to be laid
 pub replaced_counts : (front old new : List Tree) (t : Tree) → old ≡ front ++ t ∷ []
     → new ≡ front ++ children t → sum_by tree_count new < sum_by tree_count old
 replaced_counts front old new t e f =
@@ -95,7 +98,7 @@ replaced_counts front old new t e f =
       sum_by-append tree_count front (children t),
       sum_by-cons tree_count t [],
       none_counted,
-      count_is t,
+      tree_count_is t,
     )
 
 pub values_view : (es : List (List ℕ × Resource))
@@ -103,12 +106,12 @@ pub values_view : (es : List (List ℕ × Resource))
 values_view [] = refl
 values_view (e ∷ es) = ap (λ l. tree_of e.1 ∷ l) (values_view es)
 
-pub trees-reverse : (rs : List (Bor Resource)) → trees_in (reverse rs) ≡ reverse (trees_in rs)
-trees-reverse [] = refl
-trees-reverse (r ∷ rs) =
+pub trees_in-reverse : (rs : List (Bor Resource)) → trees_in (reverse rs) ≡ reverse (trees_in rs)
+trees_in-reverse [] = refl
+trees_in-reverse (r ∷ rs) =
     ap trees_in (reverse-append (r ∷ []) rs)
     ∙ map_push (λ (x : Bor Resource). tree_of x.now) (reverse rs) r
-    ∙ ap (λ l. l ++ tree_of r.now ∷ []) (trees-reverse rs)
+    ∙ ap (λ l. l ++ tree_of r.now ∷ []) (trees_in-reverse rs)
     ∙ sym (reverse-append (tree_of r.now ∷ []) (trees_in rs))
 
 -- an array has as many members as it had resources
@@ -120,13 +123,13 @@ items_long (r ∷ rs) = omega (arith, items_long rs)
 module _ (rs : List (Bor Resource)) (i : ℕ) (r : Bor Resource) (at : r ≡ get_or rs i r)
     (h : i < length rs) where
   -- the trees from one resource on are its own, and those behind it
-  pub trees-drop : trees_in (drop i rs) ≡ tree_of r.now ∷ trees_in (drop (i + 1) rs)
-  trees-drop = at_drop_more trees_in rs i r h ∙ ap (λ (x : Bor Resource). tree_of x.now
+  pub trees_in-drop : trees_in (drop i rs) ≡ tree_of r.now ∷ trees_in (drop (i + 1) rs)
+  trees_in-drop = at_drop_more trees_in rs i r h ∙ ap (λ (x : Bor Resource). tree_of x.now
       ∷ trees_in (drop (i + 1) rs)) (sym at)
 
   -- the trees of one resource more are those before it, and its own
-  pub trees-take : trees_in (take (i + 1) rs) ≡ trees_in (take i rs) ++ tree_of r.now ∷ []
-  trees-take = map_more (λ (x : Bor Resource). tree_of x.now) rs i r h
+  pub trees_in-take : trees_in (take (i + 1) rs) ≡ trees_in (take i rs) ++ tree_of r.now ∷ []
+  trees_in-take = map_more (λ (x : Bor Resource). tree_of x.now) rs i r h
       ∙ ap (λ (x : Bor Resource). trees_in (take i rs) ++ tree_of x.now ∷ []) (sym at)
 
 -- the members of an array, put together again

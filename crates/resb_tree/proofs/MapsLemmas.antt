@@ -1,5 +1,5 @@
 -- Tables as finite maps: putting, finding, and pairs that ascend already.
-use Rattle.std.specs.Prelude.{◌≡◌, ℕ, List, [], ◌∷◌, ◌++◌, Some, cond, T, Bool, true, false, ◌&&◌}
+use Rattle.std.specs.Prelude.{◌≡◌, ℕ, List, [], ◌∷◌, ◌++◌, Some, cond, T}
 use Rattle.std.specs.Ordering.{match_ordering, ordering_reverse, eq_by_cmp, is_lt}
 use Rattle.std.specs.Cmp.Lexicographic.{nat_list_cmp_total}
 use Rattle.std.specs.List.{AllByRecursion}
@@ -12,49 +12,52 @@ use Rattle.std.proofs.Common.{append_assoc, append-nil}
 use Rattle.resb_tree.specs.Tree.{Tree, table, Entries, no_entries, entry, entries_of, put, put_all}
 use Rattle.resb_tree.specs.Tree.{map_of}
 use Rattle.resb_tree.specs.View.{entries_view}
-use Rattle.resb_tree.specs.Maps.{text_cmp, pairs_of, get, IsMap, AreMaps, AreMapsOf}
+use Rattle.resb_tree.specs.Maps.{text_cmp, keyed_trees, get, IsMap, AreMaps, AreMapsOf}
 use Rattle.resb_tree.specs.declared.resource.Resource.{Resource}
 use Rattle.resb_tree.specs.LayingOrder.{entry_keys}
+use Rattle.resb_tree.proofs.Numbers.{both_true}
 
--- entries taken apart to pairs are put together again
-pub entries_of-pairs_of : (es : Entries) → entries_of (pairs_of es) ≡ es
-entries_of-pairs_of no_entries = refl
-entries_of-pairs_of (entry k t es) = ap (entry k t) (entries_of-pairs_of es)
+-- entries that are listed are put together again
+pub entries_of-keyed_trees : (es : Entries) → entries_of (keyed_trees es) ≡ es
+entries_of-keyed_trees no_entries = refl
+entries_of-keyed_trees (entry k t es) = ap (entry k t) (entries_of-keyed_trees es)
 
-pairs_at : (o : Ordering) (a b c : Entries)
-    → pairs_of (match_ordering o a b c) ≡ fin.by_order o (pairs_of a) (pairs_of b) (pairs_of c)
-pairs_at Less a b c = refl
-pairs_at Equal a b c = refl
-pairs_at Greater a b c = refl
+keyed_trees_at : (o : Ordering) (a b c : Entries)
+    → keyed_trees (match_ordering o a b c)
+    ≡ fin.by_order o (keyed_trees a) (keyed_trees b) (keyed_trees c)
+keyed_trees_at Less a b c = refl
+keyed_trees_at Equal a b c = refl
+keyed_trees_at Greater a b c = refl
 
-pub pairs_of-put : (k : List ℕ) (t : Tree) (es : Entries)
-    → pairs_of (put k t es) ≡ fin.put text_cmp k t (pairs_of es)
-pairs_of-put k t no_entries = refl
-pairs_of-put k t (entry l u es) =
-    pairs_at (text_cmp k l) _ _ _
-    ∙ ap (λ qs. fin.by_order (text_cmp k l) ((k, t) ∷ (l, u) ∷ pairs_of es) ((l, t) ∷ pairs_of es)
-    ((l, u) ∷ qs)) (pairs_of-put k t es)
+pub keyed_trees-put : (k : List ℕ) (t : Tree) (es : Entries)
+    → keyed_trees (put k t es) ≡ fin.put text_cmp k t (keyed_trees es)
+keyed_trees-put k t no_entries = refl
+keyed_trees-put k t (entry l u es) =
+    keyed_trees_at (text_cmp k l) _ _ _
+    ∙ ap (λ qs. fin.by_order (text_cmp k l) ((k, t) ∷ (l, u) ∷ keyed_trees es)
+    ((l, t) ∷ keyed_trees es)
+    ((l, u) ∷ qs)) (keyed_trees-put k t es)
 
 -- what was put at a key is found there, and the other keys keep their trees
 pub get-put : (q k : List ℕ) (t : Tree) (es : Entries)
     → get q (put k t es) ≡ cond (eq_by_cmp text_cmp q k) (Some t) (get q es)
 get-put q k t es =
-    ap (fin.find text_cmp q) (pairs_of-put k t es)
-    ∙ fin.find-put text_cmp nat_list_cmp_total q k t (pairs_of es)
+    ap (fin.find text_cmp q) (keyed_trees-put k t es)
+    ∙ fin.find-put text_cmp nat_list_cmp_total q k t (keyed_trees es)
 
 pub IsMap-put : (k : List ℕ) (t : Tree) (es : Entries) → IsMap es → IsMap (put k t es)
 IsMap-put k t es h =
-    subst (λ ps. T (fin.is_sorted text_cmp ps)) (sym (pairs_of-put k t es))
-    (fin.is_sorted-put text_cmp nat_list_cmp_total k t (pairs_of es) h)
+    subst (λ ps. T (fin.is_sorted text_cmp ps)) (sym (keyed_trees-put k t es))
+    (fin.is_sorted-put text_cmp nat_list_cmp_total k t (keyed_trees es) h)
 
 -- two maps that answer alike are equal
 pub same_map : (es fs : Entries) → IsMap es → IsMap fs → ((q : List ℕ) → get q es ≡ get q fs)
     → es ≡ fs
 same_map es fs g h alike =
-    sym (entries_of-pairs_of es)
+    sym (entries_of-keyed_trees es)
     ∙ ap entries_of (fin.same_entries text_cmp nat_list_cmp_total
-    (slice_cmp-IsAntisymmetric nat_cmp-IsAntisymmetric) (pairs_of es) (pairs_of fs) g h alike)
-    ∙ entries_of-pairs_of fs
+    (slice_cmp-IsAntisymmetric nat_cmp-IsAntisymmetric) (keyed_trees es) (keyed_trees fs) g h alike)
+    ∙ entries_of-keyed_trees fs
 
 below_middle : (first : List ℕ × Tree) (es : List (List ℕ × Tree)) (e : List ℕ × Tree)
     (more : List (List ℕ × Tree))
@@ -90,14 +93,9 @@ pub map_of-sorted : (ps : List (List ℕ × Tree)) → IsStrictlySortedBy text_c
     → map_of ps ≡ entries_of ps
 map_of-sorted ps h = put_all_after [] ps h
 
--- both tests hold
-pub both_true : (a b : Bool) → T a → T b → T (a && b)
-both_true true b h k = k
-both_true false b h k = absurd h
-
 below : (k : List ℕ) (es : List (List ℕ × Resource))
     → AllByRecursion (λ y. text_cmp k y ≡ Less) (keys_of es)
-    → T (fin.below_all text_cmp k (pairs_of (entries_view es)))
+    → T (fin.below_all text_cmp k (keyed_trees (entries_view es)))
 below k [] h = tt
 below k (e ∷ es) h =
     both_true (is_lt (text_cmp k e.0)) _ (subst (λ o. T (is_lt o)) (sym h.0) tt) (below k es h.1)
@@ -108,7 +106,7 @@ pub IsMap-view : (es : List (List ℕ × Resource)) → IsStrictlySortedBy text_
 unfolding IsStrictlySortedBy
 IsMap-view [] h = tt
 IsMap-view (e ∷ es) h =
-    both_true (fin.below_all text_cmp e.0 (pairs_of (entries_view es))) _ (below e.0 es h.0)
+    both_true (fin.below_all text_cmp e.0 (keyed_trees (entries_view es))) _ (below e.0 es h.0)
     (IsMap-view es h.1)
 
 -- entries that are put into maps of maps
@@ -141,17 +139,18 @@ put_all_maps es (p ∷ ps) is all h =
 pub AreMaps-map_of : (ps : List (List ℕ × Tree)) → AllAreMaps ps → AreMaps (table (map_of ps))
 AreMaps-map_of ps h = put_all_maps no_entries ps tt tt h
 
--- the keys of entries taken apart to pairs
-keys_of-pairs_of : (es : Entries) → keys_of (pairs_of es) ≡ entry_keys es
-keys_of-pairs_of no_entries = refl
-keys_of-pairs_of (entry k t es) = ap (λ ks. k ∷ ks) (keys_of-pairs_of es)
+-- the keys of entries that are listed
+keys_of-keyed_trees : (es : Entries) → keys_of (keyed_trees es) ≡ entry_keys es
+keys_of-keyed_trees no_entries = refl
+keys_of-keyed_trees (entry k t es) = ap (λ ks. k ∷ ks) (keys_of-keyed_trees es)
 
 -- entries that ascend are their own map
-pub map_of-pairs_of : (es : Entries) → IsStrictlySortedBy text_cmp (entry_keys es)
-    → map_of (pairs_of es) ≡ es
-map_of-pairs_of es h =
-    map_of-sorted (pairs_of es) (subst (IsStrictlySortedBy text_cmp) (sym (keys_of-pairs_of es)) h)
-    ∙ entries_of-pairs_of es
+pub map_of-keyed_trees : (es : Entries) → IsStrictlySortedBy text_cmp (entry_keys es)
+    → map_of (keyed_trees es) ≡ es
+map_of-keyed_trees es h =
+    map_of-sorted (keyed_trees es)
+    (subst (IsStrictlySortedBy text_cmp) (sym (keys_of-keyed_trees es)) h)
+    ∙ entries_of-keyed_trees es
 
 -- the keys of a table, read off its view, are those of its map
 pub entry_keys-entries_view : (es : List (List ℕ × Resource))

@@ -13,17 +13,17 @@ abbrev pub text_cmp : List ℕ → List ℕ → Ordering
 text_cmp = slice_cmp nat_cmp
 
 -- the keys and trees in order
-abbrev pub pairs_of : Entries → List (List ℕ × Tree)
-pairs_of no_entries = []
-pairs_of (entry k t es) = (k, t) ∷ pairs_of es
+abbrev pub keyed_trees : Entries → List (List ℕ × Tree)
+keyed_trees no_entries = []
+keyed_trees (entry k t es) = (k, t) ∷ keyed_trees es
 
 -- the tree at the key q
 abbrev pub get : List ℕ → Entries → Option Tree
-get q es = fin.find text_cmp q (pairs_of es)
+get q es = fin.find text_cmp q (keyed_trees es)
 
 -- the keys strictly ascend
 abbrev pub IsMap : Entries → Type 0
-IsMap es = T (fin.is_sorted text_cmp (pairs_of es))
+IsMap es = T (fin.is_sorted text_cmp (keyed_trees es))
 
 -- each table in the tree is such a map
 abbrev mutual

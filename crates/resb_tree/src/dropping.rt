@@ -5,7 +5,7 @@
 ghost use Rattle.std.specs.Prelude.{◌≡◌, ◌+◌, ◌≤◌, max, [], MatchResult, IsTrue, ◌↔◌, IfErr, OnOk};
 ghost use Rattle.std.specs.Prelude.{None};
 ghost use Rattle.resb_tree.specs.Tree.{no_trees, array, tree_count, trees_count};
-ghost use Rattle.resb_tree.specs.Inner.Dropping.{IsLeaf, depth, depth_of};
+ghost use Rattle.resb_tree.specs.Inner.Dropping.{IsNoCollection, depth, depth_of};
 ghost use Rattle.resb_tree.specs.View.{tree_of, items_view};
 ghost use Rattle.std.specs.BTreeMap.{get, values};
 ghost use Rattle.std.specs.List.{All};
@@ -69,14 +69,14 @@ pub(crate) fn drop_all(mut pending: Vec<Resource<'_>>) {
 
 /// Whether no member of the table is an array or a table.
 pub(crate) fn has_leaves_alone(table: &Table<'_>) -> bool
-    ensures { IsTrue result ↔ All (λ r. IsLeaf (tree_of r)) (values table.now) }
+    ensures { IsTrue result ↔ All (λ r. IsNoCollection (tree_of r)) (values table.now) }
 {
     table.values().all(|resource| is_leaf(resource))
 }
 
 /// Whether a resource is no array and no table.
 fn is_leaf(resource: &Resource<'_>) -> bool
-    ensures { IsTrue result ↔ IsLeaf (tree_of resource.now) }
+    ensures { IsTrue result ↔ IsNoCollection (tree_of resource.now) }
 {
     !matches!(resource, Resource::Array(_) | Resource::Table(_))
 }

@@ -1,5 +1,6 @@
 //! The resources of a tree in the order in which they are laid: members before their collection.
-//! What is laid for each is not said here. No function calls itself, so that any depth is walked.
+//! What is laid for each is not said here. No function calls itself, so that a tree may be of any
+//! depth.
 ghost use Rattle.std.specs.Prelude.{◌≡◌, ◌++◌, [], map, reverse, IfOk, OnOk};
 ghost use Rattle.resb_tree.specs.View.{tree_of};
 ghost use Rattle.resb_tree.specs.LayingOrder.{laying_order, children, trees_in};
@@ -50,23 +51,23 @@ fn push_children<'t, 'a>(
         ≡ trees_in pending.old.items ++ children (tree_of resource.now)) }
 {
     match resource {
-        Resource::Array(items) => push_items(pending, items),
+        Resource::Array(items) => push_members(pending, items),
         Resource::Table(table) => push_values(pending, table),
         Resource::String(_) | Resource::Binary(_) | Resource::Integer(_) | Resource::IntVector(_) =>
             Ok(()),
     }
 }
 
-/// Appends resources.
-fn push_items<'t, 'a>(
+/// Appends the members of an array.
+fn push_members<'t, 'a>(
     pending: &mut Vec<&'t Resource<'a>>,
-    items: &'t [Resource<'a>],
+    members: &'t [Resource<'a>],
 ) -> Result<(), AllocError>
     ensures { OnOk result (trees_in pending.new.items
-        ≡ trees_in pending.old.items ++ map tree_of items.now) }
+        ≡ trees_in pending.old.items ++ map tree_of members.now) }
 {
-    for item in items {
-        pending.push(item)?;
+    for member in members {
+        pending.push(member)?;
     }
     Ok(())
 }

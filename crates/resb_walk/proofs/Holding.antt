@@ -10,15 +10,17 @@ use Rattle.resb_format.specs.Parts.{Parts}
 use Rattle.resb_format.specs.Content.{Member, word, unit, leaf, list, entry_list}
 use Rattle.resb_format.specs.Content.{content_at}
 use Rattle.resb_format.specs.Content.{text_leaf}
-use Rattle.resb_format.specs.Denotes.{Den, den_leaf, den_list, den_pairs, DenMember, den_word}
-use Rattle.resb_format.specs.Denotes.{den_unit, DenEach, each_none, each_more, DenPairs, pairs_none}
-use Rattle.resb_format.specs.Denotes.{pairs_more}
-use Rattle.resb_format.proofs.Denoting.{same_list, same_pairs, leaf_list, leaf_pairs, list_pairs}
+use Rattle.resb_format.specs.Denotes.{Den, den_leaf, den_list, den_entries, DenMember, den_word}
+use Rattle.resb_format.specs.Denotes.{den_unit, DenEach, each_none, each_more, DenEntries}
+use Rattle.resb_format.specs.Denotes.{entries_none}
+use Rattle.resb_format.specs.Denotes.{entries_more}
+use Rattle.resb_format.proofs.Denoting.{same_list, same_entries, leaf_list, leaf_entries}
+use Rattle.resb_format.proofs.Denoting.{list_entries}
 use Rattle.resb_format.proofs.Denoting.{same_leaf}
 use Rattle.resb_walk.specs.Pieces.{Piece, leaf_piece, array_piece, table_piece, key_piece}
-use Rattle.resb_walk.specs.Pieces.{Holds, holds_leaf, holds_list, holds_pairs, HoldsMember}
+use Rattle.resb_walk.specs.Pieces.{Holds, holds_leaf, holds_list, holds_entries, HoldsMember}
 use Rattle.resb_walk.specs.Pieces.{holds_word, holds_unit, HoldsEach, holds_none, holds_more}
-use Rattle.resb_walk.specs.Pieces.{HoldsPairs, holds_no_pair, holds_pair}
+use Rattle.resb_walk.specs.Pieces.{HoldsEachEntry, holds_no_entry, holds_entry}
 use Rattle.resb_walk.specs.Sums.{resource_count_in}
 use Rattle.resb_walk.specs.Sums.{count_of}
 use Rattle.resb_format.proofs.Lists.{same_some, some_none}
@@ -34,30 +36,30 @@ module _ (p : Parts) where
       → Holds p w xs → xs ≡ leaf_piece t ∷ []
   leaf_holds e (holds_leaf f) = ap (λ t. leaf_piece t ∷ []) (same_leaf f e)
   leaf_holds e (holds_list f h) = absurd (leaf_list e f)
-  leaf_holds e (holds_pairs f h) = absurd (leaf_pairs e f)
+  leaf_holds e (holds_entries f h) = absurd (leaf_entries e f)
 
   pub list_holds : {w : ℕ} {ms : List Member} {xs : List Piece} → content_at p w ≡ Some (list ms)
       → Holds p w xs → (ys : List Piece) × (xs ≡ array_piece ∷ ys) × HoldsEach p ms ys
   list_holds e (holds_leaf f) = absurd (leaf_list f e)
   list_holds e (holds_list {xs = ys} f h) =
       (ys, refl, subst (λ ms. HoldsEach p ms ys) (same_list f e) h)
-  list_holds e (holds_pairs f h) = absurd (list_pairs e f)
+  list_holds e (holds_entries f h) = absurd (list_entries e f)
 
-  pub pairs_holds : {w : ℕ} {es : List (ℕ × Member)} {xs : List Piece}
+  pub entries_hold : {w : ℕ} {es : List (ℕ × Member)} {xs : List Piece}
       → content_at p w ≡ Some (entry_list es) → Holds p w xs
-      → (ys : List Piece) × (xs ≡ table_piece es ∷ ys) × HoldsPairs p es ys
-  pairs_holds e (holds_leaf f) = absurd (leaf_pairs f e)
-  pairs_holds e (holds_list f h) = absurd (list_pairs f e)
-  pairs_holds e (holds_pairs {xs = ys} f h) = (
+      → (ys : List Piece) × (xs ≡ table_piece es ∷ ys) × HoldsEachEntry p es ys
+  entries_hold e (holds_leaf f) = absurd (leaf_entries f e)
+  entries_hold e (holds_list f h) = absurd (list_entries f e)
+  entries_hold e (holds_entries {xs = ys} f h) = (
     ys,
-    ap (λ es. table_piece es ∷ ys) (same_pairs f e),
-    subst (λ es. HoldsPairs p es ys) (same_pairs f e) h,
+    ap (λ es. table_piece es ∷ ys) (same_entries f e),
+    subst (λ es. HoldsEachEntry p es ys) (same_entries f e) h,
   )
 
   pub none_holds : {w : ℕ} {xs : List Piece} → content_at p w ≡ None → Holds p w xs → ⊥
   none_holds e (holds_leaf f) = some_none e f
   none_holds e (holds_list f h) = some_none e f
-  none_holds e (holds_pairs f h) = some_none e f
+  none_holds e (holds_entries f h) = some_none e f
 
   pub text_holds : (w u : ℕ) (xs : List Piece) → content_at p w ≡ text_leaf p u → Holds p w xs
       → (s : List ℕ) × (text_at p.block u ≡ Some s) × (xs ≡ leaf_piece (string s) ∷ [])
@@ -77,38 +79,39 @@ module _ (p : Parts) where
   word_holds (holds_word h) = h
 
   -- the first member, and those behind it
-  pub each_first : (ms ns : List Member) (m : Member) (xs : List Piece) → ms ≡ m ∷ ns
+  pub first_member_holds : (ms ns : List Member) (m : Member) (xs : List Piece) → ms ≡ m ∷ ns
       → HoldsEach p ms xs
       → (ys zs : List Piece) × (xs ≡ ys ++ zs) × HoldsMember p m ys × HoldsEach p ns zs
-  each_first ms ns m xs e h = first (subst (λ ls. HoldsEach p ls xs) e h)
+  first_member_holds ms ns m xs e h = first (subst (λ ls. HoldsEach p ls xs) e h)
     where
       first : {us : List Piece} → HoldsEach p (m ∷ ns) us
           → (ys zs : List Piece) × (us ≡ ys ++ zs) × HoldsMember p m ys × HoldsEach p ns zs
       first (holds_more {xs = ys} {ys = zs} g i) = (ys, zs, refl, g, i)
 
-  pub pair_first : (es fs : List (ℕ × Member)) (at : ℕ) (m : Member) (xs : List Piece)
-      → es ≡ (at, m) ∷ fs → HoldsPairs p es xs
+  pub first_entry_holds : (es fs : List (ℕ × Member)) (at : ℕ) (m : Member) (xs : List Piece)
+      → es ≡ (at, m) ∷ fs → HoldsEachEntry p es xs
       → (k : List ℕ) × (ys zs : List Piece) × (key_at p.keys at ≡ Some k)
-      × (xs ≡ key_piece k ∷ ys ++ zs) × HoldsMember p m ys × HoldsPairs p fs zs
-  pair_first es fs at m xs e h = first (subst (λ ls. HoldsPairs p ls xs) e h)
+      × (xs ≡ key_piece k ∷ ys ++ zs) × HoldsMember p m ys × HoldsEachEntry p fs zs
+  first_entry_holds es fs at m xs e h = first (subst (λ ls. HoldsEachEntry p ls xs) e h)
     where
-      first : {us : List Piece} → HoldsPairs p ((at, m) ∷ fs) us
+      first : {us : List Piece} → HoldsEachEntry p ((at, m) ∷ fs) us
           → (k : List ℕ) × (ys zs : List Piece) × (key_at p.keys at ≡ Some k)
-          × (us ≡ key_piece k ∷ ys ++ zs) × HoldsMember p m ys × HoldsPairs p fs zs
-      first (holds_pair {key = k} {xs = ys} {ys = zs} f g i) = (k, ys, zs, f, refl, g, i)
+          × (us ≡ key_piece k ∷ ys ++ zs) × HoldsMember p m ys × HoldsEachEntry p fs zs
+      first (holds_entry {key = k} {xs = ys} {ys = zs} f g i) = (k, ys, zs, f, refl, g, i)
 
-  pub each_last : (ms : List Member) (xs : List Piece) → ms ≡ [] → HoldsEach p ms xs → xs ≡ []
-  each_last ms xs e h = last (subst (λ ls. HoldsEach p ls xs) e h)
+  pub no_members_left : (ms : List Member) (xs : List Piece) → ms ≡ [] → HoldsEach p ms xs → xs ≡ []
+  no_members_left ms xs e h = last (subst (λ ls. HoldsEach p ls xs) e h)
     where
       last : {us : List Piece} → HoldsEach p [] us → us ≡ []
       last holds_none = refl
 
-  pub pair_last : (es : List (ℕ × Member)) (xs : List Piece) → es ≡ [] → HoldsPairs p es xs
+  pub no_entries_left : (es : List (ℕ × Member)) (xs : List Piece) → es ≡ []
+      → HoldsEachEntry p es xs
       → xs ≡ []
-  pair_last es xs e h = last (subst (λ ls. HoldsPairs p ls xs) e h)
+  no_entries_left es xs e h = last (subst (λ ls. HoldsEachEntry p ls xs) e h)
     where
-      last : {us : List Piece} → HoldsPairs p [] us → us ≡ []
-      last holds_no_pair = refl
+      last : {us : List Piece} → HoldsEachEntry p [] us → us ≡ []
+      last holds_no_entry = refl
 
   -- one list of pieces
   mutual
@@ -117,8 +120,8 @@ module _ (p : Parts) where
     one_holding (holds_leaf e) h = sym (leaf_holds e h)
     one_holding (holds_list e g) h =
         let i = list_holds e h in ap (λ zs. array_piece ∷ zs) (one_each g i.2) ∙ sym i.1
-    one_holding (holds_pairs {es = es'} e g) h =
-        let i = pairs_holds e h in ap (λ zs. table_piece es' ∷ zs) (one_pairs g i.2) ∙ sym i.1
+    one_holding (holds_entries {es = es'} e g) h =
+        let i = entries_hold e h in ap (λ zs. table_piece es' ∷ zs) (one_entries g i.2) ∙ sym i.1
 
     one_member : {m : Member} {xs ys : List Piece} → HoldsMember p m xs → HoldsMember p m ys
         → xs ≡ ys
@@ -132,36 +135,36 @@ module _ (p : Parts) where
     one_each (holds_more g i) (holds_more h j) =
         let e = one_member g h in let f = one_each i j in λ k. e k ++ f k
 
-    one_pairs : {es : List (ℕ × Member)} {xs ys : List Piece} → HoldsPairs p es xs
-        → HoldsPairs p es ys → xs ≡ ys
-    one_pairs holds_no_pair holds_no_pair = refl
-    one_pairs (holds_pair a g i) (holds_pair b h j) =
-        let key = same_some a b in let e = one_member g h in let f = one_pairs i j in
+    one_entries : {es : List (ℕ × Member)} {xs ys : List Piece} → HoldsEachEntry p es xs
+        → HoldsEachEntry p es ys → xs ≡ ys
+    one_entries holds_no_entry holds_no_entry = refl
+    one_entries (holds_entry a g i) (holds_entry b h j) =
+        let key = same_some a b in let e = one_member g h in let f = one_entries i j in
         λ k. key_piece (key k) ∷ e k ++ f k
 
   -- what denotes a tree has pieces, of which as many are resources as are counted
   mutual
     -- a denoted tree has its pieces, as many as its count
-    pub held : {w n : ℕ} {t : Tree} → Den p w t n
+    pub denoted_is_held : {w n : ℕ} {t : Tree} → Den p w t n
         → (xs : List Piece) × Holds p w xs × (count_of xs ≡ n)
-    held (den_leaf {t = t'} e) = (leaf_piece t' ∷ [], holds_leaf e, refl)
-    held (den_list e d) =
+    denoted_is_held (den_leaf {t = t'} e) = (leaf_piece t' ∷ [], holds_leaf e, refl)
+    denoted_is_held (den_list e d) =
         let h = held_each d in (
           array_piece ∷ h.0,
           holds_list e h.1,
           omega (arith, sum_by-cons resource_count_in array_piece h.0, h.2),
         )
-    held (den_pairs {es = es'} e d) =
-        let h = held_pairs d in (
+    denoted_is_held (den_entries {es = es'} e d) =
+        let h = held_entries d in (
           table_piece es' ∷ h.0,
-          holds_pairs e h.1,
+          holds_entries e h.1,
           omega
               (arith, sum_by-cons resource_count_in (table_piece es') h.0, h.2, table_is_one es'),
         )
 
     held_member : {m : Member} {n : ℕ} {t : Tree} → DenMember p m t n
         → (xs : List Piece) × HoldsMember p m xs × (count_of xs ≡ n)
-    held_member (den_word d) = let h = held d in (h.0, holds_word h.1, h.2)
+    held_member (den_word d) = let h = denoted_is_held d in (h.0, holds_word h.1, h.2)
     held_member (den_unit {s = s'} e) = (leaf_piece (string s') ∷ [], holds_unit e, refl)
 
     held_each : {ms : List Member} {ts : List Tree} {n : ℕ} → DenEach p ms ts n
@@ -174,13 +177,13 @@ module _ (p : Parts) where
           omega (arith, sum_by-append resource_count_in h.0 i.0, h.2, i.2),
         )
 
-    held_pairs : {es : List (ℕ × Member)} {ts : List (List ℕ × Tree)} {n : ℕ}
-        → DenPairs p es ts n → (xs : List Piece) × HoldsPairs p es xs × (count_of xs ≡ n)
-    held_pairs pairs_none = ([], holds_no_pair, refl)
-    held_pairs (pairs_more {key = key'} e d ds) =
-        let h = held_member d in let i = held_pairs ds in (
+    held_entries : {es : List (ℕ × Member)} {ts : List (List ℕ × Tree)} {n : ℕ}
+        → DenEntries p es ts n → (xs : List Piece) × HoldsEachEntry p es xs × (count_of xs ≡ n)
+    held_entries entries_none = ([], holds_no_entry, refl)
+    held_entries (entries_more {key = key'} e d ds) =
+        let h = held_member d in let i = held_entries ds in (
           key_piece key' ∷ h.0 ++ i.0,
-          holds_pair e h.1 i.1,
+          holds_entry e h.1 i.1,
           omega (
             arith,
             sum_by-cons resource_count_in (key_piece key') (h.0 ++ i.0),
@@ -198,6 +201,6 @@ module _ (p : Parts) where
       word_some (holds_leaf e) = omega arith
       word_some (holds_list {xs = ys} e g) =
           omega (arith, sum_by-cons resource_count_in array_piece ys)
-      word_some (holds_pairs {es = es'} {xs = ys} e g) =
+      word_some (holds_entries {es = es'} {xs = ys} e g) =
           omega (arith, sum_by-cons resource_count_in (table_piece es') ys, table_is_one es')
   member_some (holds_unit e) = omega arith

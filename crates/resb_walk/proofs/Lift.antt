@@ -4,11 +4,12 @@ use Rattle.std.proofs.Common.{subst, arith}
 use Rattle.resb_tree.specs.Tree.{Tree}
 use Rattle.resb_format.specs.Parts.{Parts}
 use Rattle.resb_format.specs.Content.{Member, list, entry_list, content_at, word, unit}
-use Rattle.resb_format.specs.Denotes.{Den, den_leaf, den_list, den_pairs, DenMember, den_word}
-use Rattle.resb_format.specs.Denotes.{DenEach, DenPairs, Reaches, reaches_one, reaches_list}
-use Rattle.resb_format.specs.Denotes.{reaches_pairs, ReachesMember, reaches_word, reaches_unit}
-use Rattle.resb_format.specs.Denotes.{ReachesEach, ReachesPairs}
-use Rattle.resb_format.proofs.Denoting.{same_list, same_pairs, leaf_list, leaf_pairs, list_pairs}
+use Rattle.resb_format.specs.Denotes.{Den, den_leaf, den_list, den_entries, DenMember, den_word}
+use Rattle.resb_format.specs.Denotes.{DenEach, DenEntries, Reaches, reaches_one, reaches_list}
+use Rattle.resb_format.specs.Denotes.{reaches_entries, ReachesMember, reaches_word, reaches_unit}
+use Rattle.resb_format.specs.Denotes.{ReachesEach, ReachesEntries}
+use Rattle.resb_format.proofs.Denoting.{same_list, same_entries, leaf_list, leaf_entries}
+use Rattle.resb_format.proofs.Denoting.{list_entries}
 use Rattle.resb_walk.specs.Refusals.{DenotesNothing, Refuses}
 use Rattle.resb_format.specs.declared.error.ReadingError.{ReadingError}
 use Rattle.resb_format.proofs.Lists.{some_none}
@@ -17,14 +18,14 @@ module _ (p : Parts) where
   pub none_of_none : {w n : ℕ} {t : Tree} → content_at p w ≡ None → Den p w t n → ⊥
   none_of_none e (den_leaf f) = some_none e f
   none_of_none e (den_list f d) = some_none e f
-  none_of_none e (den_pairs f d) = some_none e f
+  none_of_none e (den_entries f d) = some_none e f
 
   pub none_of_list : {w n : ℕ} {t : Tree} {ms : List Member} → content_at p w ≡ Some (list ms)
       → ((ts : List Tree) (k : ℕ) → DenEach p ms ts k → ⊥) → Den p w t n → ⊥
   none_of_list e none (den_leaf f) = leaf_list f e
   none_of_list e none (den_list {n = n'} {ts = ts'} f d) = none _ _
       (subst (λ vs. DenEach p vs ts' n') (same_list f e) d)
-  none_of_list e none (den_pairs f d) = list_pairs e f
+  none_of_list e none (den_entries f d) = list_entries e f
 
   few_of_list : {w k : ℕ} (left : ℕ) {ms : List Member} → content_at p w ≡ Some (list ms)
       → (ReachesEach p ms (left + 1) → ⊥) → k ≡ left + 1 + 1 → Reaches p w k → ⊥
@@ -33,7 +34,7 @@ module _ (p : Parts) where
       let g : n' ≡ left + 1 = omega arith in
       none (subst (λ j. ReachesEach p ms j) g
       (subst (λ vs. ReachesEach p vs n') (same_list f e) r))
-  few_of_list left e none h (reaches_pairs f r) = list_pairs e f
+  few_of_list left e none h (reaches_entries f r) = list_entries e f
 
   pub stuck_list : (w left before : ℕ) (ms : List Member) → content_at p w ≡ Some (list ms)
       → left + 1 ≡ before → DenotesNothing (DenEach p ms) (ReachesEach p ms) left
@@ -43,31 +44,31 @@ module _ (p : Parts) where
     (λ r. let g : before + 1 ≡ left + 1 + 1 = omega arith in few_of_list left e f.1 g r),
   )
 
-  pub none_of_pairs : {w n : ℕ} {t : Tree} {es : List (ℕ × Member)}
+  pub none_of_entries : {w n : ℕ} {t : Tree} {es : List (ℕ × Member)}
       → content_at p w ≡ Some (entry_list es)
-      → ((ts : List (List ℕ × Tree)) (k : ℕ) → DenPairs p es ts k → ⊥) → Den p w t n → ⊥
-  none_of_pairs e none (den_leaf f) = leaf_pairs f e
-  none_of_pairs e none (den_list f d) = list_pairs f e
-  none_of_pairs e none (den_pairs {n = n'} {ts = ts'} f d) = none _ _
-      (subst (λ vs. DenPairs p vs ts' n') (same_pairs f e) d)
+      → ((ts : List (List ℕ × Tree)) (k : ℕ) → DenEntries p es ts k → ⊥) → Den p w t n → ⊥
+  none_of_entries e none (den_leaf f) = leaf_entries f e
+  none_of_entries e none (den_list f d) = list_entries f e
+  none_of_entries e none (den_entries {n = n'} {ts = ts'} f d) = none _ _
+      (subst (λ vs. DenEntries p vs ts' n') (same_entries f e) d)
 
-  few_of_pairs : {w k : ℕ} (left : ℕ) {es : List (ℕ × Member)}
+  few_of_entries : {w k : ℕ} (left : ℕ) {es : List (ℕ × Member)}
       → content_at p w ≡ Some (entry_list es)
-      → (ReachesPairs p es (left + 1) → ⊥) → k ≡ left + 1 + 1 → Reaches p w k → ⊥
-  few_of_pairs left e none h reaches_one = omega arith
-  few_of_pairs left e none h (reaches_list f r) = list_pairs f e
-  few_of_pairs left {es = es} e none h (reaches_pairs {n = n'} f r) =
+      → (ReachesEntries p es (left + 1) → ⊥) → k ≡ left + 1 + 1 → Reaches p w k → ⊥
+  few_of_entries left e none h reaches_one = omega arith
+  few_of_entries left e none h (reaches_list f r) = list_entries f e
+  few_of_entries left {es = es} e none h (reaches_entries {n = n'} f r) =
       let g : n' ≡ left + 1 = omega arith in
-      none (subst (λ j. ReachesPairs p es j) g
-      (subst (λ vs. ReachesPairs p vs n') (same_pairs f e) r))
+      none (subst (λ j. ReachesEntries p es j) g
+      (subst (λ vs. ReachesEntries p vs n') (same_entries f e) r))
 
-  pub stuck_pairs_of : (w left before : ℕ) (es : List (ℕ × Member))
+  pub stuck_entries_of : (w left before : ℕ) (es : List (ℕ × Member))
       → content_at p w ≡ Some (entry_list es)
-      → left + 1 ≡ before → DenotesNothing (DenPairs p es) (ReachesPairs p es) left
+      → left + 1 ≡ before → DenotesNothing (DenEntries p es) (ReachesEntries p es) left
       → DenotesNothing (Den p w) (Reaches p w) before
-  stuck_pairs_of w left before es e h f = (
-    (λ t n d. none_of_pairs e f.0 d),
-    (λ r. let g : before + 1 ≡ left + 1 + 1 = omega arith in few_of_pairs left e f.1 g r),
+  stuck_entries_of w left before es e h f = (
+    (λ t n d. none_of_entries e f.0 d),
+    (λ r. let g : before + 1 ≡ left + 1 + 1 = omega arith in few_of_entries left e f.1 g r),
   )
 
   pub word_den : {w n : ℕ} {t : Tree} → DenMember p (word w) t n → Den p w t n

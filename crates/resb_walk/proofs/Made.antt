@@ -70,24 +70,24 @@ pub made_borrow : (ps : List (List ℕ × Resource)) (m : BTreeMap (List ℕ) Re
 made_borrow ps m h k = ap entries_borrow (made ps m h) ∙ inserted_borrow [] ps refl k
 
 -- one more pair, whose value copies nothing
-pub borrow_pair : (es : List (List ℕ × Resource)) (k : List ℕ) (r : Resource)
+pub borrow_entry : (es : List (List ℕ × Resource)) (k : List ℕ) (r : Resource)
     → entries_borrow es ≡ true → borrows_binaries r ≡ true
     → entries_borrow (es ++ (k, r) ∷ []) ≡ true
-borrow_pair [] k r h b = and_from _ _ b refl
-borrow_pair (e ∷ es) k r h b =
-    let (first, later) = and_parts _ _ h in and_from _ _ first (borrow_pair es k r later b)
+borrow_entry [] k r h b = and_from _ _ b refl
+borrow_entry (e ∷ es) k r h b =
+    let (first, later) = and_parts _ _ h in and_from _ _ first (borrow_entry es k r later b)
 
 -- one more pair of a list
-pub pair_made : (es : List (List ℕ × Resource)) (ps : List (List ℕ × Tree)) (k : List ℕ)
+pub entry_made : (es : List (List ℕ × Resource)) (ps : List (List ℕ × Tree)) (k : List ℕ)
     (r : Resource) (t : Tree)
     → (pairs_view es ≡ ps) × (entries_borrow es ≡ true)
     → (tree_of r ≡ t) × (borrows_binaries r ≡ true)
     → (pairs_view (es ++ (k, r) ∷ []) ≡ ps ++ (k, t) ∷ [])
     × (entries_borrow (es ++ (k, r) ∷ []) ≡ true)
-pair_made es ps k r t (v, b) (e, c) = (
+entry_made es ps k r t (v, b) (e, c) = (
   map_push (λ (p : List ℕ × Resource). (p.0, tree_of p.1)) es (k, r)
       ∙ ap (λ qs. qs ++ (k, tree_of r) ∷ []) v ∙ ap (λ u. ps ++ (k, u) ∷ []) e,
-  borrow_pair es k r b c,
+  borrow_entry es k r b c,
 )
 
 -- the map of a list

@@ -4,7 +4,7 @@ use Rattle.std.proofs.Common.{subst, ap}
 use Rattle.resb_tree.specs.Tree.{Tree}
 use Rattle.resb_format.specs.Content.{Member, word, entry_list}
 use Rattle.resb_format.specs.Denotes.{DenMember, den_word, den_unit, DenEach, each_none, each_more}
-use Rattle.resb_format.specs.Denotes.{DenPairs, pairs_none, pairs_more}
+use Rattle.resb_format.specs.Denotes.{DenEntries, entries_none, entries_more}
 use Rattle.resb_format.specs.Error.{Refusal}
 use Rattle.resb_format.specs.Parts.{Parts}
 use Rattle.resb_format.specs.Strings.{key_at}
@@ -19,9 +19,9 @@ use Rattle.resb_walk.specs.declared.frame.Waiting.{Waiting}
 use Rattle.resb_walk.specs.declared.frame.Waiting.TheVariants as waiting
 use Rattle.resb_walk.proofs.Chain.{Chain, chain_none, chain_more, Round}
 use Rattle.resb_walk.proofs.DenotesLemmas.{none_each}
-use Rattle.resb_walk.proofs.Entries.{none_pairs}
-use Rattle.resb_format.proofs.Denoting.{same_list, same_pairs, list_pairs}
-use Rattle.resb_walk.proofs.Lift.{none_of_none, none_of_list, none_of_pairs}
+use Rattle.resb_walk.proofs.Entries.{none_entries}
+use Rattle.resb_format.proofs.Denoting.{same_list, same_entries, list_entries}
+use Rattle.resb_walk.proofs.Lift.{none_of_none, none_of_list, none_of_entries}
 use Rattle.resb_format.proofs.Lists.{some_none}
 
 module _ (p : Parts) where
@@ -33,11 +33,11 @@ module _ (p : Parts) where
   no_tree (meets_list {ms = ms'} {m = m'} ns e c h) t n (den_word d) =
       none_of_list p e (λ ts k es. none_each p ms' m' ns (no_tree h) ts k es) d
   no_tree (meets_key {es = es'} k' m fs e c g) t n (den_word d) =
-      none_of_pairs p e
-      (λ ts j es. none_pairs p es' k' m fs (λ key t i a b. some_none g a) ts j es) d
+      none_of_entries p e
+      (λ ts j es. none_entries p es' k' m fs (λ key t i a b. some_none g a) ts j es) d
   no_tree (meets_entry {es = es'} {m = m'} k' fs e c g h) t n (den_word d) =
-      none_of_pairs p e
-      (λ ts j es. none_pairs p es' k' m' fs (λ key t i a b. no_tree h t i b) ts j es) d
+      none_of_entries p e
+      (λ ts j es. none_entries p es' k' m' fs (λ key t i a b. no_tree h t i b) ts j es) d
 
   -- members that denote nothing, each behind members that do, are one
   same_member : {ms ms' : List Member} {ts ts' : List Tree} {j j' : ℕ} (m m' : Member)
@@ -60,18 +60,19 @@ module _ (p : Parts) where
 
   -- the same of entries
   same_entry : {es es' : List (ℕ × Member)} {ts ts' : List (List ℕ × Tree)} {j j' : ℕ}
-      (a b : ℕ × Member) (fs fs' : List (ℕ × Member)) → DenPairs p es ts j → DenPairs p es' ts' j'
+      (a b : ℕ × Member) (fs fs' : List (ℕ × Member)) → DenEntries p es ts j
+      → DenEntries p es' ts' j'
       → Lacks a → Lacks b → es ++ a ∷ fs ≡ es' ++ b ∷ fs' → a ≡ b
-  same_entry a b fs fs' pairs_none pairs_none f g e = cc
-  same_entry a b fs fs' pairs_none
-      (pairs_more {m = x} {at = i} {j = n} {key = q} {t = t'} k d ds) f g e =
+  same_entry a b fs fs' entries_none entries_none f g e = cc
+  same_entry a b fs fs' entries_none
+      (entries_more {m = x} {at = i} {j = n} {key = q} {t = t'} k d ds) f g e =
       let here : ℕ × Member = (i, x) in
       let same : here ≡ a = cc in absurd (subst Lacks (sym same) f q t' n k d)
-  same_entry a b fs fs' (pairs_more {m = x} {at = i} {j = n} {key = q} {t = t'} k d ds)
-      pairs_none f g e =
+  same_entry a b fs fs' (entries_more {m = x} {at = i} {j = n} {key = q} {t = t'} k d ds)
+      entries_none f g e =
       let here : ℕ × Member = (i, x) in
       let same : here ≡ b = cc in absurd (subst Lacks (sym same) g q t' n k d)
-  same_entry a b fs fs' (pairs_more k d ds) (pairs_more k' d' ds') f g e =
+  same_entry a b fs fs' (entries_more k d ds) (entries_more k' d' ds') f g e =
       same_entry a b fs fs' ds ds' f g cc
 
   -- an entry without a key, or whose member meets a fault
@@ -92,28 +93,28 @@ module _ (p : Parts) where
   one_fault (meets_list {m = x} ms e c h) (meets_list {m = y} {f = g'} ns d b i) =
       let same = same_member x y ms ns c b (no_tree h) (no_tree i) (same_list e d) in
       one_fault h (subst (λ z. Meets p z g') (sym same) i)
-  one_fault (meets_list ms e c h) (meets_key k y ns d b i) = absurd (list_pairs e d)
-  one_fault (meets_list ms e c h) (meets_entry k ns d b a i) = absurd (list_pairs e d)
+  one_fault (meets_list ms e c h) (meets_key k y ns d b i) = absurd (list_entries e d)
+  one_fault (meets_list ms e c h) (meets_entry k ns d b a i) = absurd (list_entries e d)
   one_fault (meets_key j x ms e c h) (meets_word d) = absurd (some_none d e)
-  one_fault (meets_key j x ms e c h) (meets_list ns d b i) = absurd (list_pairs d e)
+  one_fault (meets_key j x ms e c h) (meets_list ns d b i) = absurd (list_entries d e)
   one_fault (meets_key j x ms e c h) (meets_key k y ns d b i) =
       let same = same_entry (j, x) (k, y) ms ns c b (no_key j x h) (no_key k y i)
-      (same_pairs e d) in
+      (same_entries e d) in
       ap (λ z. block_key_refusal p.keys z.0) same
   one_fault (meets_key j x ms e c h) (meets_entry {m = y} {f = g'} k ns d b a i) =
       let same = same_entry (j, x) (k, y) ms ns c b (no_key j x h) (no_value k y g' i)
-      (same_pairs e d) in
+      (same_entries e d) in
       absurd (some_none (subst (λ z. key_at p.keys z.0 ≡ None) same h) a)
   one_fault (meets_entry j ms e c q h) (meets_word d) = absurd (some_none d e)
-  one_fault (meets_entry j ms e c q h) (meets_list ns d b i) = absurd (list_pairs d e)
+  one_fault (meets_entry j ms e c q h) (meets_list ns d b i) = absurd (list_entries d e)
   one_fault (meets_entry {m = x} {f = f'} j ms e c q h) (meets_key k y ns d b i) =
       let same = same_entry (j, x) (k, y) ms ns c b (no_value j x f' h) (no_key k y i)
-      (same_pairs e d) in
+      (same_entries e d) in
       absurd (some_none (subst (λ z. key_at p.keys z.0 ≡ None) (sym same) i) q)
   one_fault (meets_entry {m = x} {f = f'} j ms e c q h)
       (meets_entry {m = y} {f = g'} k ns d b a i) =
       let same = same_entry (j, x) (k, y) ms ns c b (no_value j x f' h) (no_value k y g' i)
-      (same_pairs e d) in
+      (same_entries e d) in
       one_fault h (subst (λ z. Meets p z.1 g') (sym same) i)
 
   -- from a member to the word of its collection

@@ -8,7 +8,7 @@ use Rattle.resb_format.specs.Content.{Member, word, list, entry_list}
 use Rattle.resb_format.specs.Denotes.{Den, DenMember, den_word, Reaches, ReachesMember}
 use Rattle.resb_format.specs.Error.{Refusal}
 use Rattle.resb_format.specs.declared.error.ReadingError.{ReadingError}
-use Rattle.resb_format.proofs.Denoting.{same_list, same_pairs, list_pairs}
+use Rattle.resb_format.proofs.Denoting.{same_list, same_entries, list_entries}
 use Rattle.resb_walk.specs.Inner.Counting.{no_list, no_table, IsOpenedAt, Awaits, Rests}
 use Rattle.resb_walk.specs.Inner.Counting.{HasLast, EnteredMember, LooksAt, LooksKey, TakesNext}
 use Rattle.resb_walk.specs.Inner.Members.{members_of, keyed_members, rest_length}
@@ -22,7 +22,8 @@ use Rattle.resb_walk.specs.declared.members.Rest.TheVariants as rest
 use Rattle.resb_walk.proofs.Lift.{refused_word}
 use Rattle.resb_walk.proofs.Meeting.{table_meets}
 use Rattle.resb_walk.proofs.Starts.{member_meets}
-use Rattle.resb_walk.proofs.Waits.{list_begins, table_begins, table_no_key, list_puts, table_puts}
+use Rattle.resb_walk.proofs.Waits.{waiting_list_begins, waiting_table_begins, table_no_key}
+use Rattle.resb_walk.proofs.Waits.{list_puts, table_puts}
 use Rattle.resb_walk.proofs.Waits.{list_stuck, list_reaches, table_stuck}
 use Rattle.resb_walk.proofs.Waits.{table_reaches}
 use Rattle.resb_walk.proofs.RoundsLemmas.{same_word}
@@ -40,8 +41,8 @@ module _ (p : Parts) where
 module _ (p : Parts) where
   -- a collection whose members are all still to come
   pub rest_begins : (r : Rest) (w : ℕ) → LooksAt p (word w) (Ok (Some r)) → IsOpenedAt p r w 0
-  rest_begins (rest.List ms) w e = list_begins no_list no_table p ms 0 w e tt
-  rest_begins (rest.Table es) w e = table_begins no_list no_table p es 0 w e tt
+  rest_begins (rest.List ms) w e = waiting_list_begins no_list no_table p ms 0 w e tt
+  rest_begins (rest.Table es) w e = waiting_table_begins no_list no_table p es 0 w e tt
 
   -- the fault of a member is the one that is met
   pub looked_meets : (m : Member) (e : ReadingError) → LooksAt p m (Err e) → Blames (Meets p m) e
@@ -100,7 +101,7 @@ module _ (p : Parts) where
         is_made = tt;
       }
   open_again (rest.Table es) (rest.Table fs) w n k e h f =
-      let same : f.0 ≡ h.done ++ keyed_members es = same_pairs f.1 h.stands in
+      let same : f.0 ≡ h.done ++ keyed_members es = same_entries f.1 h.stands in
       let last : keyed_members fs ≡ keyed_members es =
       f.2 ∙ last_of h.done (keyed_members es) f.0 k e same in record {
         done = h.done;
@@ -109,8 +110,8 @@ module _ (p : Parts) where
         each = h.each;
         is_made = tt;
       }
-  open_again (rest.List ms) (rest.Table es) w n k e h f = absurd (list_pairs h.stands f.1)
-  open_again (rest.Table es) (rest.List ms) w n k e h f = absurd (list_pairs f.1 h.stands)
+  open_again (rest.List ms) (rest.Table es) w n k e h f = absurd (list_entries h.stands f.1)
+  open_again (rest.Table es) (rest.List ms) w n k e h f = absurd (list_entries f.1 h.stands)
 
   -- the member is refused
   pub awaits_refused : (r : Rest) (w n left before : ℕ) (x : Member) (d : ReadingError)
@@ -208,10 +209,10 @@ module _ (p : Parts) where
     pub paid : left + (outer + (1 + inner)) ≡ before
 
   -- the root is a collection
-  pub round_first : (root before left : ℕ) (i : Inner) (cs : List Outer) → cs ≡ []
+  pub counting_first : (root before left : ℕ) (i : Inner) (cs : List Outer) → cs ≡ []
       → word root ≡ word i.word → IsOpenedAt p i.rest i.word 0 → left + 1 ≡ before
       → Round root before cs i left
-  round_first root before left i cs none e h s =
+  counting_first root before left i cs none e h s =
       subst (λ ds. Round root before ds i left) (sym none) (record {
         outer = 0;
         inner = 0;
@@ -221,19 +222,20 @@ module _ (p : Parts) where
       })
 
   -- to enter a member is a step towards the end
-  pub enters_falls : (i j : Inner) (x : Member) (n : ℕ) (cs ds : List Outer) (left left' : ℕ)
+  pub counting_enters_falls : (i j : Inner) (x : Member) (n : ℕ) (cs ds : List Outer)
+      (left left' : ℕ)
       → EnteredMember p i x n cs ds left left' (Ok j)
       → 2 * left' + length ds < 2 * left + length cs
-  enters_falls i j x n cs ds left left' (s, inl (same, at, put)) =
+  counting_enters_falls i j x n cs ds left left' (s, inl (same, at, put)) =
       let long = ap length same in omega (arith, s, long)
-  enters_falls i j x n cs ds left left' (s, inr (c, keeps, more, is_word, begun)) =
+  counting_enters_falls i j x n cs ds left left' (s, inr (c, keeps, more, is_word, begun)) =
       let long = ap length more in omega (arith, s, long, length-append cs (c ∷ []))
 
   module _ (root before : ℕ) (cs : List Outer) (i : Inner) (left : ℕ)
       (round : Round root before cs i left) where
     -- at most the budget is left
-    pub round_falls : left ≤ before
-    round_falls =
+    pub counting_falls : left ≤ before
+    counting_falls =
         let paid : left + (round.outer + (1 + round.inner)) ≡ before = round.paid in omega arith
 
     -- the innermost collection has a fault of its own
@@ -247,26 +249,26 @@ module _ (p : Parts) where
         (inr (inr (is_fault, s left)))
 
     -- its next entry has no key
-    pub round_taken : (d : ReadingError) → TakesNext p i.word round.inner (Err d)
+    pub counting_taken : (d : ReadingError) → TakesNext p i.word round.inner (Err d)
         → Refuses (Den p root) (Reaches p root) before d
-    round_taken d (inl memory) = inl memory
-    round_taken d (inr (is_fault, s)) = round_stuck d is_fault s
+    counting_taken d (inl memory) = inl memory
+    counting_taken d (inr (is_fault, s)) = round_stuck d is_fault s
 
     -- its member is refused
-    pub round_refused : (r : Rest) (x : Member) (d : ReadingError)
+    pub counting_refused : (r : Rest) (x : Member) (d : ReadingError)
         → Awaits p r i.word x round.inner → Refuses (DenMember p x) (ReachesMember p x) left d
         → Refuses (Den p root) (Reaches p root) before d
-    round_refused r x d h f =
+    counting_refused r x d h f =
         let paid : left + (round.outer + (1 + round.inner)) ≡ before = round.paid in
         let sum : left + (1 + round.inner) + round.outer ≡ before = omega arith in
         path_refused (left + (1 + round.inner)) before d round.path sum
         (awaits_refused r i.word round.inner left (left + (1 + round.inner)) x d h refl f)
 
     -- its member is entered
-    pub round_enters : (k j : Inner) (x : Member) (ds : List Outer) (left' : ℕ)
+    pub counting_enters : (k j : Inner) (x : Member) (ds : List Outer) (left' : ℕ)
         → k.word ≡ i.word → Awaits p k.rest i.word x round.inner
         → EnteredMember p k x round.inner cs ds left left' (Ok j) → Round root before ds j left'
-    round_enters k j x ds left' at h (s, inl (same, here, put)) =
+    counting_enters k j x ds left' at h (s, inl (same, here, put)) =
         let paid : left + (round.outer + (1 + round.inner)) ≡ before = round.paid in
         subst (λ es. Round root before es j left') (sym same) (record {
           outer = round.outer;
@@ -275,7 +277,7 @@ module _ (p : Parts) where
           opened = put;
           paid = omega arith;
         })
-    round_enters k j x ds left' at h (s, inr (c, keeps, more, is_word, begun)) =
+    counting_enters k j x ds left' at h (s, inr (c, keeps, more, is_word, begun)) =
         let paid : left + (round.outer + (1 + round.inner)) ≡ before = round.paid in
         subst (λ es. Round root before es j left') (sym more) (record {
           outer = round.outer + (1 + round.inner);
@@ -287,9 +289,9 @@ module _ (p : Parts) where
         })
 
     -- it is the root, and ends
-    pub round_last : (t : Tree) → cs ≡ [] → Den p i.word t (1 + round.inner)
+    pub counting_last : (t : Tree) → cs ≡ [] → Den p i.word t (1 + round.inner)
         → (n : ℕ) × Den p root t n × (left + n ≡ before)
-    round_last t none d =
+    counting_last t none d =
         let paid : left + (round.outer + (1 + round.inner)) ≡ before = round.paid in
         let both = path_empty root i.word round.outer
         (subst (λ ds. Path p root ds i.word round.outer) none round.path) in
@@ -297,11 +299,11 @@ module _ (p : Parts) where
         (1 + round.inner, subst (λ w. Den p w t (1 + round.inner)) (sym both.0) d, omega arith)
 
     -- it ends: the collection around it has counted one member more
-    pub round_outer : (c : Outer) (ds : List Outer) (t : Tree) → cs ≡ ds ++ c ∷ []
+    pub counting_outer : (c : Outer) (ds : List Outer) (t : Tree) → cs ≡ ds ++ c ∷ []
         → Den p i.word t (1 + round.inner)
         → (o : Popped root ds c i.word round.outer)
         × IsOpenedAt p o.still c.word (o.inner + (1 + round.inner)) × HasLast p c.word c.left
-    round_outer c ds t e d =
+    counting_outer c ds t e d =
         let o = path_pop root i.word round.outer ds c
         (subst (λ es. Path p root es i.word round.outer) e round.path) in
         let h = awaits_puts o.still c.word o.inner (1 + round.inner) (word i.word) t o.awaits
@@ -311,12 +313,12 @@ module _ (p : Parts) where
           open_has o.still c.word (o.inner + (1 + round.inner)) c.left o.left_is h,
         )
 
-    pub round_closes : (c : Outer) (ds : List Outer) (j : Inner) (t : Tree) → cs ≡ ds ++ c ∷ []
+    pub counting_closes : (c : Outer) (ds : List Outer) (j : Inner) (t : Tree) → cs ≡ ds ++ c ∷ []
         → Den p i.word t (1 + round.inner) → j.word ≡ c.word → Rests p c.word c.left j.rest
         → Round root before ds j left
-    round_closes c ds j t e d at h =
+    counting_closes c ds j t e d at h =
         let paid : left + (round.outer + (1 + round.inner)) ≡ before = round.paid in
-        let r = round_outer c ds t e d in
+        let r = counting_outer c ds t e d in
         let o = r.0 in
         let sum : round.outer ≡ o.outer + (1 + o.inner) = o.sum in record {
           outer = o.outer;
@@ -328,5 +330,5 @@ module _ (p : Parts) where
           paid = omega arith;
         }
 
-    pub round_meets : (g : Refusal) → Meets p (word i.word) g → Meets p (word root) g
-    round_meets g h = path_meets g round.path h
+    pub counting_meets : (g : Refusal) → Meets p (word i.word) g → Meets p (word root) g
+    counting_meets g h = path_meets g round.path h

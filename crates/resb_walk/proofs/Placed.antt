@@ -9,7 +9,7 @@ use Rattle.std.proofs.lemmas.List.{length-map, drop-map}
 use Rattle.std.specs.Char.Utf16.{has_unpaired_surrogate}
 use Rattle.resb_format.specs.Bytes.{units_of}
 use Rattle.std.specs.Prelude.{nat_lt, ◌&&◌, slice_index, codes, if◌then◌else◌}
-use Rattle.resb_format.specs.StringFaults.{string_fault}
+use Rattle.resb_format.specs.StringMessage.{string_message}
 use Rattle.resb_format.specs.Strings.{is_no_marker}
 use Rattle.resb_format.specs.Error.{IsInvalid, end_message}
 use Rattle.resb_walk.specs.Refusals.{IsFault}
@@ -34,7 +34,8 @@ unfolding text_at
 text_none block u e = rw e refl
 
 -- what is said where no string stands
-pub string_fails : (block : List ℕ) (u : ℕ) (e : ReadingError) → IsInvalid e (string_fault block u)
+pub string_fails : (block : List ℕ) (u : ℕ) (e : ReadingError)
+    → IsInvalid e (string_message block u)
     → IsFault e
 string_fails block u e h = either (nat_lt u (length block) && is_no_marker (slice_index block u)) h
   where

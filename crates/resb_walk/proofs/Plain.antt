@@ -5,7 +5,7 @@ use Rattle.std.proofs.Common.{drop, get_or, set, slice_get, nat_le, ◌++◌, na
 use Rattle.std.proofs.Common.{lit<, add-zero}
 use Rattle.std.proofs.lemmas.Bool.{cases_lt}
 use Rattle.std.proofs.lemmas.Bool.Decides.{nat_tests}
-use Rattle.std.proofs.lemmas.List.{get_or-take, get_or-drop, get_or_past, length-take, take-take}
+use Rattle.std.proofs.lemmas.List.{get_or-take, get_or-drop, length-take, take-take}
 use Rattle.std.proofs.lemmas.List.{length-set, take_more_set, take_more, take_all}
 use Rattle.std.proofs.lemmas.Option.{slice_get_within, get_or_from_slice_get, cond_some}
 use Rattle.std.proofs.lemmas.List.Sums.{position_or_len_is}
@@ -20,13 +20,14 @@ use Rattle.resb_format.proofs.Spelled.{units_drop, units_length}
 use Rattle.resb_format.proofs.StringsIn.{ends_at_zero}
 use Rattle.resb_walk.specs.Inner.Members.{text_of_bytes}
 use Rattle.resb_walk.proofs.Placed.{text_some}
-use Rattle.resb_walk.proofs.Surrogates.{char_alone, no_chars, plain_first}
-use Rattle.resb_walk.proofs.Surrogates.{empty_is_paired}
+use Rattle.resb_walk.proofs.Surrogates.{char_alone, no_units_no_chars, plain_unit_first}
+use Rattle.resb_walk.proofs.Surrogates.{nothing_is_unpaired}
 use Rattle.resb_shared.proofs.Surrogates.{lone_some}
+use Rattle.resb_walk.proofs.Lists.{front_below}
 
 -- ASCII units are their characters
 ascii_chars : (us : List ℕ) → IsAscii us → utf16_lossy_chars us ≡ us
-ascii_chars [] h = no_chars [] refl
+ascii_chars [] h = no_units_no_chars [] refl
 ascii_chars (u ∷ us) h =
     let small : u < 128 = h 0 in
     let high : is_high_surrogate u ≡ false = grind (arith, nat_tests, small) in
@@ -64,17 +65,8 @@ ascii_all bs text n same most e =
 -- units below surrogates
 below_paired : (us : List ℕ) → ((k : ℕ) → get_or us k 0 < 0xd800)
     → has_unpaired_surrogate us ≡ false
-below_paired [] h = empty_is_paired [] refl
-below_paired (u ∷ us) h = plain_first u us (h 0) ∙ below_paired us (λ k. h (suc k))
-
-front_below : (us : List ℕ) (n : ℕ) → ((k : ℕ) → k < n → get_or us k 0 < 0xd800)
-    → (k : ℕ) → get_or (take n us) k 0 < 0xd800
-front_below us n h k = elim (cases_lt k n) [
-  | inl less ↦ rw (get_or-take n us k 0 less) (h k less)
-  | inr more ↦
-      let past : length (take n us) ≤ k = omega (arith, length-take n us) in
-      rw (get_or_past (take n us) k 0 past) (lit< tt)
-]
+below_paired [] h = nothing_is_unpaired [] refl
+below_paired (u ∷ us) h = plain_unit_first u us (h 0) ∙ below_paired us (λ k. h (suc k))
 
 -- the units before a 0, of which none begins a marker
 before_first_zero : (us : List ℕ) (n : ℕ) → n < 41 → n < length us

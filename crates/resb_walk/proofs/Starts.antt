@@ -15,7 +15,7 @@ use Rattle.resb_walk.specs.declared.members.Standing.{Standing}
 use Rattle.resb_walk.specs.declared.frame.Open.TheVariants as open_
 use Rattle.resb_walk.specs.declared.frame.Read.{Read}
 use Rattle.resb_walk.specs.declared.frame.Read.TheVariants.{Made, Begun}
-use Rattle.resb_walk.proofs.Waits.{list_begins, table_begins}
+use Rattle.resb_walk.proofs.Waits.{waiting_list_begins, waiting_table_begins}
 
 -- what stands at a unit is a text
 unit_text : (o : Option (List ℕ)) (c : Content) → option_map (λ t. leaf (string t)) o ≡ Some c
@@ -29,8 +29,8 @@ same_leaf e = cc
 no_list : {t : Tree} {ms : List Member} → list ms ≡ leaf t → ⊥
 no_list e = cc
 
-no_pairs : {t : Tree} {es : List (ℕ × Member)} → entry_list es ≡ leaf t → ⊥
-no_pairs e = cc
+no_leaf_of_entries : {t : Tree} {es : List (ℕ × Member)} → entry_list es ≡ leaf t → ⊥
+no_leaf_of_entries e = cc
 
 no_text : (o : Option (List ℕ)) → option_map (λ t. leaf (string t)) o ≡ None → o ≡ None
 no_text None e = refl
@@ -46,10 +46,10 @@ module _ {X L T : Type 0} (is : X → Tree → Type 0) (lists : L → List Tree 
       (leaf_tree h.0, den_word (den_leaf stands), h.2, paid)
   started (word w) s (Begun (open_.List rest made)) left left' e h paid =
       let stands = subst (λ v. content_at p w ≡ Some (content_of v)) h.0 e in
-      (w, refl, list_begins lists tables p rest made w stands h.1, paid)
+      (w, refl, waiting_list_begins lists tables p rest made w stands h.1, paid)
   started (word w) s (Begun (open_.Table rest made)) left left' e h paid =
       let stands = subst (λ v. content_at p w ≡ Some (content_of v)) h.0 e in
-      (w, refl, table_begins lists tables p rest made w stands h.1, paid)
+      (w, refl, waiting_table_begins lists tables p rest made w stands h.1, paid)
   started (unit u) s (Made x) left left' e h paid =
       let r = unit_text (text_at p.block u) (content_of s) e in
       let same : leaf_tree h.0 ≡ string r.0 =
@@ -60,7 +60,7 @@ module _ {X L T : Type 0} (is : X → Tree → Type 0) (lists : L → List Tree 
       absurd (no_list (subst (λ v. content_of v ≡ leaf (string r.0)) h.0 r.2))
   started (unit u) s (Begun (open_.Table rest made)) left left' e h paid =
       let r = unit_text (text_at p.block u) (content_of s) e in
-      absurd (no_pairs (subst (λ v. content_of v ≡ leaf (string r.0)) h.0 r.2))
+      absurd (no_leaf_of_entries (subst (λ v. content_of v ≡ leaf (string r.0)) h.0 r.2))
 
 -- the fault that is met where nothing stands
 pub member_meets : (p : Parts) (m : Member) → member_content p m ≡ None

@@ -11,16 +11,18 @@ use Rattle.resb_tree.specs.Tree.{Entries, no_entries, entry, trees_of, map_of, p
 use Rattle.resb_tree.specs.Tree.{tree_count, trees_count, entries_count}
 use Rattle.resb_format.specs.Parts.{Parts}
 use Rattle.resb_format.specs.Content.{Member, leaf, content_at}
-use Rattle.resb_format.specs.Denotes.{Den, den_leaf, den_list, den_pairs, DenMember, den_word}
-use Rattle.resb_format.specs.Denotes.{den_unit, DenEach, each_none, each_more, DenPairs, pairs_none}
-use Rattle.resb_format.specs.Denotes.{pairs_more}
-use Rattle.resb_format.proofs.Mapped.{IsLeaf, content_leaf}
+use Rattle.resb_format.specs.Denotes.{Den, den_leaf, den_list, den_entries, DenMember, den_word}
+use Rattle.resb_format.specs.Denotes.{den_unit, DenEach, each_none, each_more, DenEntries}
+use Rattle.resb_format.specs.Denotes.{entries_none}
+use Rattle.resb_format.specs.Denotes.{entries_more}
+use Rattle.resb_tree.specs.Inner.Dropping.{IsNoCollection}
+use Rattle.resb_format.proofs.Mapped.{content_leaf}
 use Rattle.resb_walk.specs.Pieces.{Piece, leaf_piece, array_piece, table_piece, key_piece}
 use Rattle.resb_walk.specs.Pieces.{Holds, HoldsMember}
 use Rattle.resb_walk.specs.Pieces.{holds_word, holds_unit, HoldsEach, holds_none, holds_more}
-use Rattle.resb_walk.specs.Pieces.{HoldsPairs, holds_no_pair, holds_pair, filled_table}
+use Rattle.resb_walk.specs.Pieces.{HoldsEachEntry, holds_no_entry, holds_entry, filled_table}
 use Rattle.resb_walk.specs.Pieces.{pieces, pieces_of_each, pieces_of_entries, entries_piece}
-use Rattle.resb_walk.proofs.Holding.{leaf_holds, list_holds, pairs_holds}
+use Rattle.resb_walk.proofs.Holding.{leaf_holds, list_holds, entries_hold}
 use Rattle.resb_format.proofs.Lists.{same_some}
 
 -- a is at most b, and c at most d; and a is b, or c is less than d
@@ -64,7 +66,7 @@ as_within : {a b c d : ℕ} (e f g h : ℕ) → e ≡ a → f ≡ b → g ≡ c 
 as_within e f g h i j k l w = rw (i, j, k, l) w
 
 -- a leaf is one piece, and one resource
-leaf_piece_of : (t : Tree) → IsLeaf t → (pieces t ≡ leaf_piece t ∷ []) × (tree_count t ≡ 1)
+leaf_piece_of : (t : Tree) → IsNoCollection t → (pieces t ≡ leaf_piece t ∷ []) × (tree_count t ≡ 1)
 leaf_piece_of (string s) h = (refl, refl)
 leaf_piece_of (array ts) h = absurd h
 leaf_piece_of (table es) h = absurd h
@@ -102,13 +104,13 @@ module _ (f : Piece → ℕ) where
   sum_of xs = sum_by f xs
 
   -- the sum of entries as they are read, and how many resources they have
-  abbrev pairs_sum : List (List ℕ × Tree) → ℕ
-  pairs_sum [] = 0
-  pairs_sum (p ∷ ps) = f (key_piece p.0) + (sum_of (pieces p.1) + pairs_sum ps)
+  abbrev entries_sum : List (List ℕ × Tree) → ℕ
+  entries_sum [] = 0
+  entries_sum (p ∷ ps) = f (key_piece p.0) + (sum_of (pieces p.1) + entries_sum ps)
 
-  abbrev pairs_count : List (List ℕ × Tree) → ℕ
-  pairs_count [] = 0
-  pairs_count (p ∷ ps) = tree_count p.1 + pairs_count ps
+  abbrev entries_counted : List (List ℕ × Tree) → ℕ
+  entries_counted [] = 0
+  entries_counted (p ∷ ps) = tree_count p.1 + entries_counted ps
 
   -- the sum of entries
   entry_sum : (k : List ℕ) (t : Tree) (es : Entries)
@@ -168,21 +170,21 @@ module _ (f : Piece → ℕ) where
 
   all_within : (es : Entries) (ps : List (List ℕ × Tree))
       → Within (sum_of (pieces_of_entries (put_all es ps)))
-      (pairs_sum ps + sum_of (pieces_of_entries es)) (entries_count (put_all es ps))
-      (pairs_count ps + entries_count es)
+      (entries_sum ps + sum_of (pieces_of_entries es)) (entries_count (put_all es ps))
+      (entries_counted ps + entries_count es)
   all_within es [] = as_within _ _ _ _ refl (omega arith) refl (omega arith) (same_within _ _)
   all_within es (p ∷ ps) =
       let here = put_within p.0 p.1 es in
       let behind = all_within (put p.0 p.1 es) ps in
-      let more = both_within (same_within (pairs_sum ps) (pairs_count ps)) here in
+      let more = both_within (same_within (entries_sum ps) (entries_counted ps)) here in
       as_within _ _ _ _ refl (omega arith) refl (omega arith) (then_within behind more)
 
   module _ (p : Parts) where
     -- a table's own piece
-    table_same : {es : List (ℕ × Member)} {ts : List (List ℕ × Tree)} {n : ℕ} → DenPairs p es ts n
+    table_same : {es : List (ℕ × Member)} {ts : List (List ℕ × Tree)} {n : ℕ} → DenEntries p es ts n
         → entries_piece (map_of ts) ≡ table_piece es
-    table_same pairs_none = refl
-    table_same (pairs_more {key = k'} {t = t'} {ts = ts'} e d ds) =
+    table_same entries_none = refl
+    table_same (entries_more {key = k'} {t = t'} {ts = ts'} e d ds) =
         all_fill (put k' t' no_entries) ts' (put_fills k' t' no_entries)
 
     -- what has no members by its type
@@ -206,13 +208,13 @@ module _ (f : Piece → ℕ) where
           as_within _ _ _ _ (sum_by-cons f array_piece (pieces_of_each (trees_of ts')))
           (ap sum_of i.1 ∙ sum_by-cons f array_piece i.0) (omega arith) refl
           (both_within own more)
-      tree_within (den_pairs {n = n'} {es = es'} {ts = ts'} e d) h =
-          let i = pairs_holds p e h in
-          let more = pairs_within d i.2 in
+      tree_within (den_entries {n = n'} {es = es'} {ts = ts'} e d) h =
+          let i = entries_hold p e h in
+          let more = entries_within d i.2 in
           let all = all_within no_entries ts' in
           let own = same_within (f (table_piece es')) 1 in
-          let there : Within (sum_of (pieces_of_entries (map_of ts'))) (pairs_sum ts')
-          (entries_count (map_of ts')) (pairs_count ts') =
+          let there : Within (sum_of (pieces_of_entries (map_of ts'))) (entries_sum ts')
+          (entries_count (map_of ts')) (entries_counted ts') =
           as_within _ _ _ _ refl (omega arith) refl (omega arith) all in
           let whole : sum_of (entries_piece (map_of ts') ∷ pieces_of_entries (map_of ts'))
           ≡ f (table_piece es') + sum_of (pieces_of_entries (map_of ts')) =
@@ -238,18 +240,19 @@ module _ (f : Piece → ℕ) where
           (sum_by-append f xs' ys') refl refl
           (both_within (member_within d h) (each_within ds hs))
 
-      pairs_within : {es : List (ℕ × Member)} {n : ℕ} {ts : List (List ℕ × Tree)} {xs : List Piece}
-          → DenPairs p es ts n → HoldsPairs p es xs
-          → Within (pairs_sum ts) (sum_of xs) (pairs_count ts) n
-      pairs_within pairs_none holds_no_pair = same_within _ _
-      pairs_within (pairs_more {key = k'} {t = t'} {ts = ts'} e d ds)
-          (holds_pair {key = l'} {xs = xs'} {ys = ys'} g h hs) =
+      entries_within : {es : List (ℕ × Member)} {n : ℕ} {ts : List (List ℕ × Tree)}
+          {xs : List Piece}
+          → DenEntries p es ts n → HoldsEachEntry p es xs
+          → Within (entries_sum ts) (sum_of xs) (entries_counted ts) n
+      entries_within entries_none holds_no_entry = same_within _ _
+      entries_within (entries_more {key = k'} {t = t'} {ts = ts'} e d ds)
+          (holds_entry {key = l'} {xs = xs'} {ys = ys'} g h hs) =
           let same : l' ≡ k' = same_some g e in
           let sum : sum_of (key_piece l' ∷ xs' ++ ys')
           ≡ f (key_piece k') + (sum_of xs' + sum_of ys') =
           sum_by-cons f (key_piece l') (xs' ++ ys')
           ∙ ap (λ n. f (key_piece l') + n) (sum_by-append f xs' ys')
           ∙ ap (λ k. f (key_piece k) + (sum_of xs' + sum_of ys')) same in
-          let more = both_within (member_within d h) (pairs_within ds hs) in
+          let more = both_within (member_within d h) (entries_within ds hs) in
           as_within _ _ _ _ refl sum (omega arith) (omega arith)
           (both_within (same_within (f (key_piece k')) 0) more)

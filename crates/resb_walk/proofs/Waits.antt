@@ -5,10 +5,10 @@ use Rattle.resb_tree.specs.Tree.{Tree, array, table, trees_of, map_of}
 use Rattle.resb_format.specs.Parts.{Parts}
 use Rattle.resb_format.specs.Strings.{key_at}
 use Rattle.resb_format.specs.Content.{Member, list, entry_list, content_at}
-use Rattle.resb_format.specs.Denotes.{Den, den_list, den_pairs, DenMember, each_none}
-use Rattle.resb_format.specs.Denotes.{pairs_none, Reaches, reaches_list, reaches_pairs}
+use Rattle.resb_format.specs.Denotes.{Den, den_list, den_entries, DenMember, each_none}
+use Rattle.resb_format.specs.Denotes.{entries_none, Reaches, reaches_list, reaches_entries}
 use Rattle.resb_format.specs.Denotes.{ReachesMember, each_here}
-use Rattle.resb_format.specs.Denotes.{pairs_here}
+use Rattle.resb_format.specs.Denotes.{entries_here}
 use Rattle.resb_walk.specs.Inner.Members.{members_of, keyed_members}
 use Rattle.resb_walk.specs.Inner.Frames.{OpenedList, OpenedTable, ListWaits, TableWaits}
 use Rattle.resb_walk.specs.Inner.Frames.{Waits}
@@ -19,24 +19,24 @@ use Rattle.resb_walk.specs.declared.frame.Waiting.{Waiting}
 use Rattle.resb_walk.specs.declared.frame.Waiting.TheVariants as waiting
 use Rattle.resb_format.specs.declared.error.ReadingError.{ReadingError}
 use Rattle.resb_walk.proofs.DenotesLemmas.{each_snoc, reach_after, none_each, stuck_each}
-use Rattle.resb_walk.proofs.Entries.{pairs_snoc, reach_after_pairs, none_pairs, stuck_pairs}
-use Rattle.resb_walk.proofs.Lift.{stuck_list, stuck_pairs_of}
+use Rattle.resb_walk.proofs.Entries.{entries_snoc, reach_after_entries, none_entries, stuck_entries}
+use Rattle.resb_walk.proofs.Lift.{stuck_list, stuck_entries_of}
 use Rattle.resb_format.proofs.Lists.{some_none}
 
 module _ {L T : Type 0} (lists : L → List Tree → Type 0)
     (tables : T → List (List ℕ × Tree) → Type 0) (p : Parts) where
   -- begun
-  pub list_begins : (rest : Members) (made : L) (w : ℕ)
+  pub waiting_list_begins : (rest : Members) (made : L) (w : ℕ)
       → content_at p w ≡ Some (list (members_of rest)) → lists made []
       → OpenedList lists tables p rest made w 0
-  list_begins rest made w e h =
+  waiting_list_begins rest made w e h =
       record { done = []; trees = []; stands = e; each = each_none; is_made = h }
 
-  pub table_begins : (rest : TableParts) (made : T) (w : ℕ)
+  pub waiting_table_begins : (rest : TableParts) (made : T) (w : ℕ)
       → content_at p w ≡ Some (entry_list (keyed_members rest))
       → tables made [] → OpenedTable lists tables p rest made w 0
-  table_begins rest made w e h =
-      record { done = []; entries = []; stands = e; each = pairs_none; is_made = h }
+  waiting_table_begins rest made w e h =
+      record { done = []; entries = []; stands = e; each = entries_none; is_made = h }
 
   -- a member is put in
   pub list_puts : (rest : Members) (made made' : L) (w n k : ℕ) (x : Member) (t : Tree)
@@ -64,23 +64,23 @@ module _ {L T : Type 0} (lists : L → List Tree → Type 0)
         h.stands
         ∙ ap (λ es. Some (entry_list es))
         (sym (append_assoc h.done ((h.position, x) ∷ []) (keyed_members rest)));
-    each = pairs_snoc p h.position x key t k h.each h.keyed d;
+    each = entries_snoc p h.position x key t k h.each h.keyed d;
     is_made = f h.entries h.is_made;
   }
 
   -- all members are read
-  pub list_ends : (rest : Members) (made : L) (w n : ℕ)
+  pub waiting_list_ends : (rest : Members) (made : L) (w n : ℕ)
       (h : OpenedList lists tables p rest made w n)
       → members_of rest ≡ [] → Den p w (array (trees_of h.trees)) (1 + n)
-  list_ends rest made w n h e =
+  waiting_list_ends rest made w n h e =
       den_list (h.stands ∙ ap (λ ms. Some (list (h.done ++ ms))) e
       ∙ ap (λ ms. Some (list ms)) (append-nil h.done)) h.each
 
-  pub table_ends : (rest : TableParts) (made : T) (w n : ℕ)
+  pub waiting_table_ends : (rest : TableParts) (made : T) (w n : ℕ)
       (h : OpenedTable lists tables p rest made w n)
       → keyed_members rest ≡ [] → Den p w (table (map_of h.entries)) (1 + n)
-  table_ends rest made w n h e =
-      den_pairs (h.stands ∙ ap (λ es. Some (entry_list (h.done ++ es))) e
+  waiting_table_ends rest made w n h e =
+      den_entries (h.stands ∙ ap (λ es. Some (entry_list (h.done ++ es))) e
       ∙ ap (λ es. Some (entry_list es)) (append-nil h.done)) h.each
 
   -- an entry has no key
@@ -92,11 +92,11 @@ module _ {L T : Type 0} (lists : L → List Tree → Type 0)
   table_no_key rest later place x made w n h e k left =
       let stands = h.stands ∙ ap (λ es. Some (entry_list (h.done ++ es))) e in
       let sum : n + left + 1 ≡ left + (1 + n) = omega arith in
-      stuck_pairs_of p w (n + left) (left + (1 + n))
+      stuck_entries_of p w (n + left) (left + (1 + n))
       (h.done ++ (place, x) ∷ keyed_members later) stands sum (
-        (λ ts i d. none_pairs p h.done place x (keyed_members later)
+        (λ ts i d. none_entries p h.done place x (keyed_members later)
             (λ key t j g m. some_none k g) ts i d),
-        (λ r. stuck_pairs p place x (keyed_members later) left (n + left + 1)
+        (λ r. stuck_entries p place x (keyed_members later) left (n + left + 1)
             (λ key t j g m. some_none k g) (λ key g m. some_none k g) h.each refl r),
       )
 
@@ -126,11 +126,11 @@ module _ {L T : Type 0} (lists : L → List Tree → Type 0)
       → DenotesNothing (Den p w) (Reaches p w) before
   table_stuck rest made key w n left before x h e s =
       let sum : n + left + 1 ≡ before = omega arith in
-      stuck_pairs_of p w (n + left) before
+      stuck_entries_of p w (n + left) before
       (h.done ++ (h.position, x) ∷ keyed_members rest) h.stands sum (
-        (λ ts i d. none_pairs p h.done h.position x (keyed_members rest)
+        (λ ts i d. none_entries p h.done h.position x (keyed_members rest)
             (λ k t j g m. s.0 t j m) ts i d),
-        (λ r. stuck_pairs p h.position x (keyed_members rest) left (n + left + 1)
+        (λ r. stuck_entries p h.position x (keyed_members rest) left (n + left + 1)
             (λ k t j g m. s.0 t j m)
             (λ k g m. s.1 m) h.each refl r),
       )
@@ -141,8 +141,8 @@ module _ {L T : Type 0} (lists : L → List Tree → Type 0)
       → ReachesMember p x (left + 1) → Reaches p w (before + 1)
   table_reaches rest made key w n left before x h e r =
       let sum : 1 + (n + (left + 1)) ≡ before + 1 = omega arith in
-      subst (λ i. Reaches p w i) sum (reaches_pairs h.stands (reach_after_pairs p
-      ((h.position, x) ∷ keyed_members rest) (left + 1) h.each (pairs_here h.keyed r)))
+      subst (λ i. Reaches p w i) sum (reaches_entries h.stands (reach_after_entries p
+      ((h.position, x) ∷ keyed_members rest) (left + 1) h.each (entries_here h.keyed r)))
 
   pub waits_refused : (f : Waiting L T) (w n left before : ℕ) (x : Member) (d : ReadingError)
       → Waits lists tables p f w x n → left + (1 + n) ≡ before

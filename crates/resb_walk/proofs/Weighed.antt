@@ -5,7 +5,7 @@ use Rattle.std.proofs.Common.{append_assoc, append-nil}
 use Rattle.std.proofs.lemmas.List.Sums.{sum_by-cons, sum_by-append}
 use Rattle.resb_format.specs.Parts.{Parts}
 use Rattle.resb_format.specs.Content.{Member, list, entry_list}
-use Rattle.resb_format.proofs.Denoting.{same_list, same_pairs, list_pairs}
+use Rattle.resb_format.proofs.Denoting.{same_list, same_entries, list_entries}
 use Rattle.resb_walk.specs.Inner.Counting.{Rests, HasLast, KeepsOuter}
 use Rattle.resb_walk.specs.Inner.Members.{members_of, keyed_members, rest_length, member_of}
 use Rattle.resb_walk.specs.Inner.Weighing.{RestHolds, IsEndOf, ToCome, WaitingPieces, waits_none}
@@ -51,14 +51,14 @@ module _ (p : Parts) where
         rw (← last) at g,
       )
   end_again (rest.Table es) (rest.Table fs) w k xs e h g f =
-      let same : f.0 ≡ h.0 ++ keyed_members es = same_pairs f.1 h.1 in
+      let same : f.0 ≡ h.0 ++ keyed_members es = same_entries f.1 h.1 in
       let last : keyed_members fs ≡ keyed_members es =
       f.2 ∙ last_of h.0 (keyed_members es) f.0 k e same in (
         (h.0, h.1 ∙ ap (λ ls. Some (entry_list (h.0 ++ ls))) (sym last)),
         rw (← last) at g,
       )
-  end_again (rest.List ms) (rest.Table es) w k xs e h g f = absurd (list_pairs h.1 f.1)
-  end_again (rest.Table es) (rest.List ms) w k xs e h g f = absurd (list_pairs f.1 h.1)
+  end_again (rest.List ms) (rest.Table es) w k xs e h g f = absurd (list_entries h.1 f.1)
+  end_again (rest.Table es) (rest.List ms) w k xs e h g f = absurd (list_entries f.1 h.1)
 
   -- one more collection that waits, at the inner end
   pub waits_push : (c : Outer) (r : Rest) (xs : List Piece) {cs : List Outer} {ys : List Piece}

@@ -8,7 +8,7 @@ use Rattle.std.specs.Prelude.{is_some, codes, if◌then◌else◌}
 use Rattle.resb_format.specs.Error.{Refusal, invalid, unsupported, end_of_input, refusal_of}
 use Rattle.resb_format.specs.Parts.{Parts}
 use Rattle.resb_format.specs.Types as types
-use Rattle.resb_format.specs.StringFaults.{string_fault}
+use Rattle.resb_format.specs.StringMessage.{string_message}
 use Rattle.resb_format.specs.Strings.{string_at, before_zero}
 use Rattle.resb_format.specs.declared.error.ReadingError.{ReadingError}
 
@@ -20,7 +20,7 @@ Says f e = refusal_of e ≡ f
 abbrev pub block_text_refusal : List ℕ → ℕ → Refusal
 block_text_refusal block u =
     if is_some (string_at block u) then invalid (codes "string resource is not valid UTF-16")
-    else invalid (string_fault block u)
+    else invalid (string_message block u)
 
 -- why no key stands at a position: it lies past the block, no zero byte is behind it, or the bytes
 -- before that one are no text

@@ -8,7 +8,7 @@ pub use Rattle.resb_format.specs.Descriptor
 pub use Rattle.resb_format.specs.Content
 pub use Rattle.resb_format.specs.Denotes
 pub use Rattle.resb_format.specs.Error
-pub use Rattle.resb_format.specs.StringFaults
+pub use Rattle.resb_format.specs.StringMessage
 pub use Rattle.resb_tree.specs.Tree
 pub use Rattle.resb_tree.specs.View
 pub mod BlockRefusals

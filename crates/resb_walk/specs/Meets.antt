@@ -4,7 +4,7 @@
 use Rattle.std.specs.Prelude.{◌≡◌, ℕ, List, ◌∷◌, ◌++◌, Some, None}
 use Rattle.resb_tree.specs.Tree.{Tree}
 use Rattle.resb_format.specs.Content.{Member, word, unit, list, entry_list, content_at}
-use Rattle.resb_format.specs.Denotes.{DenEach, DenPairs}
+use Rattle.resb_format.specs.Denotes.{DenEach, DenEntries}
 use Rattle.resb_format.specs.Error.{Refusal, refusal_of}
 use Rattle.resb_format.specs.Parts.{Parts}
 use Rattle.resb_format.specs.Strings.{text_at, key_at}
@@ -27,12 +27,12 @@ module _ (p : Parts) where
     -- in the key of an entry, behind entries that denote
     meets_key : {w n : ℕ} {es : List (ℕ × Member)} {ts : List (List ℕ × Tree)} (k : ℕ) (m : Member)
         (fs : List (ℕ × Member))
-        → content_at p w ≡ Some (entry_list (es ++ (k, m) ∷ fs)) → DenPairs p es ts n
+        → content_at p w ≡ Some (entry_list (es ++ (k, m) ∷ fs)) → DenEntries p es ts n
         → key_at p.keys k ≡ None → Meets (word w) (block_key_refusal p.keys k)
     -- in the member of an entry
     meets_entry : {w n : ℕ} {es : List (ℕ × Member)} {ts : List (List ℕ × Tree)} {m : Member}
         {key : List ℕ} {f : Refusal} (k : ℕ) (fs : List (ℕ × Member))
-        → content_at p w ≡ Some (entry_list (es ++ (k, m) ∷ fs)) → DenPairs p es ts n
+        → content_at p w ≡ Some (entry_list (es ++ (k, m) ∷ fs)) → DenEntries p es ts n
         → key_at p.keys k ≡ Some key → Meets m f → Meets (word w) f
 
 -- the error is a fault that is met, if it is one

@@ -32,8 +32,9 @@ module _ (p : Parts) where
       holds_leaf : {w : ℕ} {t : Tree} → content_at p w ≡ Some (leaf t) → Holds w (leaf_piece t ∷ [])
       holds_list : {w : ℕ} {ms : List Member} {xs : List Piece} → content_at p w ≡ Some (list ms)
           → HoldsEach ms xs → Holds w (array_piece ∷ xs)
-      holds_pairs : {w : ℕ} {es : List (ℕ × Member)} {xs : List Piece}
-          → content_at p w ≡ Some (entry_list es) → HoldsPairs es xs → Holds w (table_piece es ∷ xs)
+      holds_entries : {w : ℕ} {es : List (ℕ × Member)} {xs : List Piece}
+          → content_at p w ≡ Some (entry_list es) → HoldsEachEntry es xs
+          → Holds w (table_piece es ∷ xs)
 
     -- a member: a word, or a string of a short collection
     pub data HoldsMember : Member → List Piece → Type 0 where
@@ -48,11 +49,12 @@ module _ (p : Parts) where
           → HoldsEach ms ys → HoldsEach (m ∷ ms) (xs ++ ys)
 
     -- entries, one after another: of each its key, and what its member holds
-    pub data HoldsPairs : List (ℕ × Member) → List Piece → Type 0 where
-      holds_no_pair : HoldsPairs [] []
-      holds_pair : {m : Member} {at : ℕ} {es : List (ℕ × Member)} {key : List ℕ}
-          {xs ys : List Piece} → key_at p.keys at ≡ Some key → HoldsMember m xs → HoldsPairs es ys
-          → HoldsPairs ((at, m) ∷ es) (key_piece key ∷ xs ++ ys)
+    pub data HoldsEachEntry : List (ℕ × Member) → List Piece → Type 0 where
+      holds_no_entry : HoldsEachEntry [] []
+      holds_entry : {m : Member} {at : ℕ} {es : List (ℕ × Member)} {key : List ℕ}
+          {xs ys : List Piece} → key_at p.keys at ≡ Some key → HoldsMember m xs
+          → HoldsEachEntry es ys
+          → HoldsEachEntry ((at, m) ∷ es) (key_piece key ∷ xs ++ ys)
 
 -- a table's own piece in a tree, by its entries
 abbrev pub entries_piece : Entries → Piece

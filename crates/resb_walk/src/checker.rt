@@ -12,7 +12,7 @@ ghost use Rattle.resb_walk.specs.Inner.Members.{member_of};
 use crate::members::{Member, Rest, Standing};
 use crate::standing::{key_at, member_at, text_at};
 use crate::strings::{marked, string_unit};
-use resb_format::{BinaryDeserializerError, BodyParts};
+use resb_format::{BinaryDeserializerError, FileBlocks};
 use resb_shared::{Breaks, LongTails, SHORT_TAIL};
 use resb_tree::NoMemory;
 use std::alloc::Global;
@@ -25,7 +25,7 @@ const SHORT_STRING: usize = 512;
 /// some of them were looked at twice.
 #[derive(Drop)]
 pub struct Checker<'a> {
-    pub file: BodyParts<'a>,
+    pub file: FileBlocks<'a>,
     breaks: Option<Breaks<'a>>,
     tails: Option<LongTails<'a>>,
     strings_looked: usize,
@@ -36,7 +36,7 @@ pub struct Checker<'a> {
 
 impl<'a> Checker<'a> {
     /// A file of which nothing is looked at yet.
-    pub fn new(file: BodyParts<'a>) -> Checker<'a>
+    pub fn new(file: FileBlocks<'a>) -> Checker<'a>
         ensures { result.file ≡ file.entry }
     {
         Checker {
@@ -153,7 +153,7 @@ impl<'a> Checker<'a> {
         Ok(match member_at(self.file, member)? {
             Standing::Leaf(_) => None,
             Standing::List(members) => Some(Rest::List(members)),
-            Standing::Table(pairs) => Some(Rest::Table(pairs)),
+            Standing::Table(entries) => Some(Rest::Table(entries)),
         })
     }
 }

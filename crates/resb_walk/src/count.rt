@@ -15,7 +15,7 @@ use crate::checker::Checker;
 use crate::members::{Member, Rest, Standing};
 use crate::standing::{standing_at, text_at};
 use crate::walk::Walk;
-use resb_format::{BodyParts, ReadingError};
+use resb_format::{FileBlocks, ReadingError};
 use resb_tree::NoMemory;
 use std::alloc::Global;
 
@@ -48,14 +48,14 @@ pub(crate) fn keep(inner: Inner<'_>) -> Result<Outer, NoMemory>
 }
 
 /// What is still to come of a collection that waited.
-pub(crate) fn again<'a>(file: BodyParts<'a>, outer: Outer) -> Rest<'a>
+pub(crate) fn again<'a>(file: FileBlocks<'a>, outer: Outer) -> Rest<'a>
     requires { HasLast (parts_in file) outer.word outer.left }
     ensures { Rests (parts_in file.entry) outer.word outer.left result }
 {
     let left = outer.left as usize;
     match standing_at(file, outer.word) {
         Ok(Standing::List(members)) => Rest::List(members.behind(members.len() - left)),
-        Ok(Standing::Table(pairs)) => Rest::Table(pairs.behind(pairs.len() - left)),
+        Ok(Standing::Table(entries)) => Rest::Table(entries.behind(entries.len() - left)),
         Ok(Standing::Leaf(_)) | Err(_) => unreachable!(),
     }
 }
@@ -102,7 +102,7 @@ fn next<'a, 'm>(
             Some((member, rest)) => Ok(Some((member, Rest::List(rest)))),
             None => Ok(None),
         },
-        Rest::Table(pairs) => match pairs.split() {
+        Rest::Table(entries) => match entries.split() {
             Some((position, member, rest)) => {
                 checker.key(alloc, position)?;
                 Ok(Some((member, Rest::Table(rest))))
@@ -138,7 +138,7 @@ fn enter<'a, 'm>(
 
 /// Counts the string at a unit of the 16-bit block.
 pub fn count_string_at<'m>(
-    file: BodyParts<'_>,
+    file: FileBlocks<'_>,
     unit: u16,
     walk: &mut Walk,
 ) -> Result<(), ReadingError<'m>>
@@ -155,7 +155,7 @@ pub fn count_string_at<'m>(
 /// Counts the resources at a word. No key and no string is looked at twice as a whole.
 pub fn count_word<'m>(
     alloc: Global,
-    file: BodyParts<'_>,
+    file: FileBlocks<'_>,
     word: u32,
     walk: &mut Walk,
 ) -> Result<(), ReadingError<'m>>

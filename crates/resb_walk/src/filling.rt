@@ -37,13 +37,13 @@ fn put_entry<'a>(table: &mut Table<'a>, key: &'a str, item: Resource<'a>) -> Res
 
 /// Adds an entry to a list.
 fn push_entry<'a>(
-    pairs: &mut Vec<(Key<'a>, Resource<'a>)>,
+    entries: &mut Vec<(Key<'a>, Resource<'a>)>,
     key: &'a str,
     item: Resource<'a>,
 ) -> Result<(), NoMemory>
-    ensures { OnOk result (pairs.new.items ≡ pairs.old.items ++ (key.now, item.entry) ∷ []) }
+    ensures { OnOk result (entries.new.items ≡ entries.old.items ++ (key.now, item.entry) ∷ []) }
 {
-    pairs.push((Key::from(key), item))?;
+    entries.push((Key::from(key), item))?;
     Ok(())
 }
 
@@ -66,7 +66,7 @@ impl<'a> Filling<'a> {
     {
         match self {
             Filling::Map(table) => put_entry(table, key, item),
-            Filling::List(pairs) => push_entry(pairs, key, item),
+            Filling::List(entries) => push_entry(entries, key, item),
         }
     }
 
@@ -78,8 +78,8 @@ impl<'a> Filling<'a> {
     {
         match self {
             Filling::Map(table) => Ok(table),
-            Filling::List(pairs) => {
-                let table = table_at_once(alloc, pairs)?;
+            Filling::List(entries) => {
+                let table = table_at_once(alloc, entries)?;
                 Ok(table)
             }
         }

@@ -13,7 +13,7 @@ ghost use Rattle.resb_walk.specs.Inner.Rounds.{Progresses, Puts};
 use crate::make::Make;
 use crate::members::{Member, Members, TableParts};
 use crate::standing::key_at;
-use resb_format::{BodyParts, ReadingError};
+use resb_format::{FileBlocks, ReadingError};
 use std::alloc::Global;
 
 /// A collection whose members are read one by one: those still to come, and what is made of the
@@ -50,7 +50,7 @@ pub enum Read<'a, X, L, T> {
 /// Takes the next member of an open collection, or closes it where none is left.
 pub fn advance<'a, 'm, M: Make<'a>>(
     alloc: Global,
-    file: BodyParts<'a>,
+    file: FileBlocks<'a>,
     frame: Open<'a, M::List, M::Table>,
 ) -> Result<Progress<'a, M, M::List, M::Table>, ReadingError<'m>>
     ensures steps { (w n : ℕ) → Opened M.lists M.tables (parts_in file.entry) frame.entry w n

@@ -210,7 +210,7 @@ impl<'a> Rest<'a> {
     {
         match self {
             Rest::List(members) => members.len(),
-            Rest::Table(pairs) => pairs.len(),
+            Rest::Table(entries) => entries.len(),
         }
     }
 }

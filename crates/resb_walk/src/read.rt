@@ -19,7 +19,7 @@ use crate::members::{Member, Standing};
 use crate::room::can_be_paid;
 use crate::standing::member_at;
 use crate::walk::Walk;
-use resb_format::{BodyParts, ReadingError};
+use resb_format::{FileBlocks, ReadingError};
 use resb_tree::NoMemory;
 use std::alloc::Global;
 
@@ -42,7 +42,7 @@ fn start<'a, M: Make<'a>>(
 #[inline(always)]
 fn begin<'a, 'm, M: Make<'a>>(
     alloc: Global,
-    file: BodyParts<'a>,
+    file: FileBlocks<'a>,
     member: Member,
     walk: &mut Walk,
 ) -> Result<Read<'a, M, M::List, M::Table>, ReadingError<'m>>
@@ -61,7 +61,7 @@ fn begin<'a, 'm, M: Make<'a>>(
 #[inline(always)]
 fn enter<'a, 'm, M: Make<'a>>(
     alloc: Global,
-    file: BodyParts<'a>,
+    file: FileBlocks<'a>,
     member: Member,
     waiting: Waiting<'a, M::List, M::Table>,
     frames: &mut Vec<Waiting<'a, M::List, M::Table>>,
@@ -86,7 +86,7 @@ fn enter<'a, 'm, M: Make<'a>>(
 /// Reads the string at a unit of the 16-bit block.
 pub fn read_string_at<'a, 'm, M: Make<'a>>(
     alloc: Global,
-    file: BodyParts<'a>,
+    file: FileBlocks<'a>,
     unit: u16,
     walk: &mut Walk,
 ) -> Result<M, ReadingError<'m>>
@@ -105,7 +105,7 @@ pub fn read_string_at<'a, 'm, M: Make<'a>>(
 /// Reads the tree at a word.
 pub fn read_word<'a, 'm, M: Make<'a>>(
     alloc: Global,
-    file: BodyParts<'a>,
+    file: FileBlocks<'a>,
     word: u32,
     walk: &mut Walk,
 ) -> Result<M, ReadingError<'m>>
@@ -137,7 +137,7 @@ pub fn read_word<'a, 'm, M: Make<'a>>(
 /// that the budget doesn't pay.
 pub fn read_checked<'a, 'm, M: Make<'a>>(
     alloc: Global,
-    file: BodyParts<'a>,
+    file: FileBlocks<'a>,
     word: u32,
     walk: &mut Walk,
 ) -> Result<M, ReadingError<'m>>

@@ -3,12 +3,12 @@
 use crate::members::{Member, Members, Standing};
 use crate::standing::standing_at;
 use crate::types::readable;
-use resb_format::{BodyParts, ResourceReprType};
+use resb_format::{FileBlocks, ResourceReprType};
 use resb_tree::NoMemory;
 use std::alloc::Global;
 
 /// The members of the collection at a word, if one stands there.
-fn members_at(file: BodyParts<'_>, word: u32) -> Option<Members<'_>> {
+fn members_at(file: FileBlocks<'_>, word: u32) -> Option<Members<'_>> {
     match readable(word).ok()?.0 {
         ResourceReprType::Table
         | ResourceReprType::_Table32
@@ -20,7 +20,7 @@ fn members_at(file: BodyParts<'_>, word: u32) -> Option<Members<'_>> {
     }
     match standing_at(file, word) {
         Ok(Standing::List(members)) => Some(members),
-        Ok(Standing::Table(pairs)) => Some(pairs.members),
+        Ok(Standing::Table(entries)) => Some(entries.members),
         Ok(Standing::Leaf(_)) | Err(_) => None,
     }
 }
@@ -28,7 +28,7 @@ fn members_at(file: BodyParts<'_>, word: u32) -> Option<Members<'_>> {
 /// Whether no more than so many resources stand at a word, those behind faults included.
 pub(crate) fn can_be_paid(
     alloc: Global,
-    file: BodyParts<'_>,
+    file: FileBlocks<'_>,
     word: u32,
     budget: usize,
 ) -> Result<bool, NoMemory> {

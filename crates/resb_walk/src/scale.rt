@@ -11,7 +11,7 @@ use crate::standing::{key_at, standing_at, text_at};
 use crate::strings::{marked, string_unit};
 use crate::sums::Sums;
 use crate::units::text_len;
-use resb_format::BodyParts;
+use resb_format::FileBlocks;
 use resb_shared::{LongTails, Widths};
 use resb_tree::NoMemory;
 use std::alloc::Global;
@@ -19,7 +19,7 @@ use std::alloc::Global;
 /// A file, how many bytes of UTF-8 its units take, and the long tails of its keys.
 #[derive(Drop)]
 pub struct Scale<'a> {
-    pub file: BodyParts<'a>,
+    pub file: FileBlocks<'a>,
     widths: Widths<'a>,
     tails: LongTails<'a>,
     ghost of_block: { widths_block widths ≡ file.block.now },
@@ -37,7 +37,7 @@ impl<'a> Scale<'a> {
     ghost use Rattle.resb_walk.specs.Sums.{AddsUp};
 
     /// What is found once of a file.
-    pub fn of_file(alloc: Global, file: BodyParts<'a>) -> Result<Scale<'a>, NoMemory>
+    pub fn of_file(alloc: Global, file: FileBlocks<'a>) -> Result<Scale<'a>, NoMemory>
         ensures { IfOk result (λ s. s.file ≡ file.entry) }
     {
         let widths = Widths::of_block(alloc, file.block)?;
@@ -98,9 +98,9 @@ impl<'a> Scale<'a> {
                 let rest = Rest::List(members);
                 Some(Inner { word, rest })
             }
-            Ok(Standing::Table(pairs)) => {
-                *sums = sums.with_table(pairs.len());
-                let rest = Rest::Table(pairs);
+            Ok(Standing::Table(entries)) => {
+                *sums = sums.with_table(entries.len());
+                let rest = Rest::Table(entries);
                 Some(Inner { word, rest })
             }
             Err(_) => None,
@@ -135,8 +135,8 @@ impl<'a> Scale<'a> {
                 let rest = Rest::List(later);
                 Some((member, Inner { word, rest }))
             }
-            Rest::Table(pairs) => {
-                let (position, member, later) = pairs.split()?;
+            Rest::Table(entries) => {
+                let (position, member, later) = entries.split()?;
                 *sums = sums.with_key(self.key_len(position));
                 let rest = Rest::Table(later);
                 Some((member, Inner { word, rest }))

@@ -22,7 +22,7 @@ use crate::members::{Leaf, Member, Members, Positions, Standing, TableParts};
 use crate::types::readable;
 use crate::units::is_well_formed;
 use resb_format::bytes::{cut_at, some_bytes, some_unit, some_units, some_word, some_words};
-use resb_format::{BinaryDeserializerError, BodyParts, MAX_UNMARKED, ResourceReprType, string_at};
+use resb_format::{BinaryDeserializerError, FileBlocks, MAX_UNMARKED, ResourceReprType, string_at};
 
 /// The number of the first zero byte.
 fn first_zero(bytes: &[u8]) -> Option<usize>
@@ -56,7 +56,7 @@ fn plain_text(block: &[u8], unit: usize) -> Option<&[u8]>
 
 /// The key at a position, in bytes from the body's start: what stands before the next zero byte.
 #[tactic(auto, using(crate::proofs::Keys::at), unfolding(resb_format::specs::Strings::key_at))]
-pub fn key_at(file: BodyParts<'_>, at: usize) -> Result<&str, BinaryDeserializerError>
+pub fn key_at(file: FileBlocks<'_>, at: usize) -> Result<&str, BinaryDeserializerError>
     ensures stands { let keys = file.entry.keys.now in
         MatchResult result (λ s. strings.key_at keys at ≡ Some s.now)
         (λ e. (strings.key_at keys at ≡ None) × IsFault e) }
@@ -79,7 +79,7 @@ pub fn key_at(file: BodyParts<'_>, at: usize) -> Result<&str, BinaryDeserializer
 
 /// The units of the string at a unit of the 16-bit block, two bytes for each, which are a text.
 #[tactic(auto, using(crate::proofs::Placed::text_some, crate::proofs::Placed::text_unpaired))]
-pub fn text_at(file: BodyParts<'_>, unit: usize) -> Result<&[u8], BinaryDeserializerError>
+pub fn text_at(file: FileBlocks<'_>, unit: usize) -> Result<&[u8], BinaryDeserializerError>
     ensures stands { let block = units_of file.entry.block.now in
         MatchResult result (λ v. strings.text_at block unit ≡ Some (text_of_bytes v.now))
         (λ e. (strings.text_at block unit ≡ None) × IsFault e) }
@@ -105,7 +105,7 @@ pub fn text_at(file: BodyParts<'_>, unit: usize) -> Result<&[u8], BinaryDeserial
 /// What stands at a word.
 #[inline(always)]
 #[tactic(auto, unfolding(resb_format::specs::Content::content_at))]
-pub fn standing_at(file: BodyParts<'_>, word: u32) -> Result<Standing<'_>, BinaryDeserializerError>
+pub fn standing_at(file: FileBlocks<'_>, word: u32) -> Result<Standing<'_>, BinaryDeserializerError>
     ensures stands { let p = parts_in file.entry in
         MatchResult result (λ s. content_at p word ≡ Some (content_of s))
         (λ e. (content_at p word ≡ None) × IsFault e) }
@@ -122,7 +122,7 @@ pub fn standing_at(file: BodyParts<'_>, word: u32) -> Result<Standing<'_>, Binar
 #[inline(always)]
 #[tactic(auto, unfolding(crate::specs::Inner::MemberContent::member_content))]
 pub fn member_at(
-    file: BodyParts<'_>,
+    file: FileBlocks<'_>,
     member: Member,
 ) -> Result<Standing<'_>, BinaryDeserializerError>
     ensures stands { let p = parts_in file.entry in let m = member_of member in
@@ -143,7 +143,7 @@ pub fn member_at(
 /// What a type with a value other than 0 leads to.
 #[inline(always)]
 fn placed(
-    file: BodyParts<'_>,
+    file: FileBlocks<'_>,
     kind: ResourceReprType,
     value: usize,
 ) -> Result<Standing<'_>, BinaryDeserializerError>
@@ -172,7 +172,7 @@ fn placed(
 }
 
 /// A count of bytes, and the bytes.
-fn binary_at(file: BodyParts<'_>, value: usize) -> Result<Standing<'_>, BinaryDeserializerError>
+fn binary_at(file: FileBlocks<'_>, value: usize) -> Result<Standing<'_>, BinaryDeserializerError>
     requires { value < 2 ^ 28 }
     ensures stands { let p = parts_in file.entry in
         MatchResult result (λ s. at.binary_at p value ≡ Some (content_of s))
@@ -189,7 +189,10 @@ fn binary_at(file: BodyParts<'_>, value: usize) -> Result<Standing<'_>, BinaryDe
 }
 
 /// A count of numbers, and the numbers.
-fn int_vector_at(file: BodyParts<'_>, value: usize) -> Result<Standing<'_>, BinaryDeserializerError>
+fn int_vector_at(
+    file: FileBlocks<'_>,
+    value: usize,
+) -> Result<Standing<'_>, BinaryDeserializerError>
     requires { value < 2 ^ 28 }
     ensures stands { let p = parts_in file.entry in
         MatchResult result (λ s. at.int_vector_at p value ≡ Some (content_of s))
@@ -206,7 +209,7 @@ fn int_vector_at(file: BodyParts<'_>, value: usize) -> Result<Standing<'_>, Bina
 }
 
 /// A count of descriptors, and the descriptors.
-fn array_at(file: BodyParts<'_>, value: usize) -> Result<Standing<'_>, BinaryDeserializerError>
+fn array_at(file: FileBlocks<'_>, value: usize) -> Result<Standing<'_>, BinaryDeserializerError>
     requires { value < 2 ^ 28 }
     ensures stands { let p = parts_in file.entry in
         MatchResult result (λ s. at.array_at p value ≡ Some (content_of s))
@@ -223,7 +226,7 @@ fn array_at(file: BodyParts<'_>, value: usize) -> Result<Standing<'_>, BinaryDes
 }
 
 /// A count of offsets, and the offsets.
-fn array16_at(file: BodyParts<'_>, value: usize) -> Result<Standing<'_>, BinaryDeserializerError>
+fn array16_at(file: FileBlocks<'_>, value: usize) -> Result<Standing<'_>, BinaryDeserializerError>
     requires { value < 2 ^ 28 }
     ensures stands { let p = parts_in file.entry in
         MatchResult result (λ s. at.array16_at p value ≡ Some (content_of s))
@@ -240,7 +243,7 @@ fn array16_at(file: BodyParts<'_>, value: usize) -> Result<Standing<'_>, BinaryD
 }
 
 /// A 16-bit count of entries, 16-bit key positions, padding up to a word, and descriptors.
-fn table_at(file: BodyParts<'_>, value: usize) -> Result<Standing<'_>, BinaryDeserializerError>
+fn table_at(file: FileBlocks<'_>, value: usize) -> Result<Standing<'_>, BinaryDeserializerError>
     requires { value < 2 ^ 28 }
     ensures stands { let p = parts_in file.entry in
         MatchResult result (λ s. at.table_at p value ≡ Some (content_of s))
@@ -264,7 +267,7 @@ fn table_at(file: BodyParts<'_>, value: usize) -> Result<Standing<'_>, BinaryDes
 }
 
 /// A count of entries, key positions and offsets, all of 16 bits.
-fn table16_at(file: BodyParts<'_>, value: usize) -> Result<Standing<'_>, BinaryDeserializerError>
+fn table16_at(file: FileBlocks<'_>, value: usize) -> Result<Standing<'_>, BinaryDeserializerError>
     requires { value < 2 ^ 28 }
     ensures stands { let p = parts_in file.entry in
         MatchResult result (λ s. at.table16_at p value ≡ Some (content_of s))
@@ -288,7 +291,7 @@ fn table16_at(file: BodyParts<'_>, value: usize) -> Result<Standing<'_>, BinaryD
 }
 
 /// A count of entries, key positions and descriptors, all of 32 bits, without padding.
-fn table32_at(file: BodyParts<'_>, value: usize) -> Result<Standing<'_>, BinaryDeserializerError>
+fn table32_at(file: FileBlocks<'_>, value: usize) -> Result<Standing<'_>, BinaryDeserializerError>
     requires { value < 2 ^ 28 }
     ensures stands { let p = parts_in file.entry in
         MatchResult result (λ s. at.table32_at p value ≡ Some (content_of s))

@@ -12,7 +12,7 @@ use crate::count::{Inner, Outer, again, keep};
 use crate::members::Member;
 use crate::scale::Scale;
 use crate::sums::Sums;
-use resb_format::BodyParts;
+use resb_format::FileBlocks;
 use resb_tree::NoMemory;
 use std::alloc::Global;
 
@@ -41,7 +41,7 @@ fn enter<'a>(
 /// The sums of the tree at a word, which has so many resources.
 pub fn weigh_word(
     alloc: Global,
-    file: BodyParts<'_>,
+    file: FileBlocks<'_>,
     word: u32,
     resources: usize,
 ) -> Result<Sums, NoMemory>

@@ -1,4 +1,4 @@
--- Strings and keys are read back in the blocks of a file, and what trees say of their walk.
+-- Strings and keys are read back in the blocks of a file, and what trees say of their laying order.
 use Rattle.std.proofs.Common.{◌≡◌, ℕ, zero, suc, ◌+◌, ◌%◌, ◌^◌, ◌<◌, max, List, [], ◌∷◌, ◌++◌}
 use Rattle.std.proofs.Common.{length, get_or, Some, None, option_and_then, Bool, true, false, cond}
 use Rattle.std.proofs.Common.{◌==◌, refl, sym, ◌∙◌, ap, append_assoc, append-nil, length-append}
@@ -29,10 +29,11 @@ key_at-found front k rest u z =
     ∙ ap (λ b. cond b (Some k) None) (is_utf8-from_IsUtf8 k u)
 
 -- a key is read at its position
-pub key_read : (head pad : List ℕ) (js : List (List ℕ)) → length head ≡ 32 → (k : List ℕ) (n : ℕ)
+pub written_key_read : (head pad : List ℕ) (js : List (List ℕ)) → length head ≡ 32
+    → (k : List ℕ) (n : ℕ)
     → last_place k js ≡ Some n → IsUtf8 k → has_nul k ≡ false
     → key_at (head ++ (key_bytes js ++ pad)) (32 + n) ≡ Some k
-key_read head pad js front k n e u z =
+written_key_read head pad js front k n e u z =
     let s = last_of-stands k js n e in
     let f : head ++ (key_bytes js ++ pad) ≡ (head ++ s.front) ++ (k ++ 0 ∷ (s.back ++ pad)) =
     ap (λ l. head ++ (l ++ pad)) s.is
@@ -79,29 +80,29 @@ largest-append [] us = omega arith
 largest-append (t ∷ ts) us = omega (arith, largest-append ts us)
 
 mutual
-  -- the largest table of a tree is the largest of its walk
-  pub largest_walked : (t : Tree) → largest_of (laying_order t) ≡ largest_table t
-  largest_walked (string s) = refl
-  largest_walked (array ts) = omega (
+  -- the largest table of a tree is the largest in its laying order
+  pub largest_laid : (t : Tree) → largest_of (laying_order t) ≡ largest_table t
+  largest_laid (string s) = refl
+  largest_laid (array ts) = omega (
     arith,
     largest-append (laying_each ts) (array ts ∷ []),
     largest_each ts,
   )
-  largest_walked (table es) = omega (
+  largest_laid (table es) = omega (
     arith,
     largest-append (laying_values es) (table es ∷ []),
     largest_values es,
   )
-  largest_walked (binary s) = refl
-  largest_walked (integer n) = refl
-  largest_walked (int_vector s) = refl
+  largest_laid (binary s) = refl
+  largest_laid (integer n) = refl
+  largest_laid (int_vector s) = refl
 
   largest_each : (ts : Trees) → largest_of (laying_each ts) ≡ trees_largest ts
   largest_each no_trees = refl
   largest_each (more_trees t ts) = omega (
     arith,
     largest-append (laying_order t) (laying_each ts),
-    largest_walked t,
+    largest_laid t,
     largest_each ts,
   )
 
@@ -110,14 +111,15 @@ mutual
   largest_values (entry k t es) = omega (
     arith,
     largest-append (laying_order t) (laying_values es),
-    largest_walked t,
+    largest_laid t,
     largest_values es,
   )
 
-pub walk_long : (t : Tree) → 0 < length (laying_order t)
-walk_long (string s) = omega arith
-walk_long (array ts) = omega (arith, length-append (laying_each ts) (array ts ∷ []))
-walk_long (table es) = omega (arith, length-append (laying_values es) (table es ∷ []))
-walk_long (binary s) = omega arith
-walk_long (integer n) = omega arith
-walk_long (int_vector s) = omega arith
+-- there is a resource in the laying order of each tree
+pub laying_order_long : (t : Tree) → 0 < length (laying_order t)
+laying_order_long (string s) = omega arith
+laying_order_long (array ts) = omega (arith, length-append (laying_each ts) (array ts ∷ []))
+laying_order_long (table es) = omega (arith, length-append (laying_values es) (table es ∷ []))
+laying_order_long (binary s) = omega arith
+laying_order_long (integer n) = omega arith
+laying_order_long (int_vector s) = omega arith

@@ -18,7 +18,7 @@ use Rattle.resb_layout.specs.Laid.{Given, Laid, is_short_string, are_short, are_
 use Rattle.resb_layout.specs.Laid.{ClosesArray, short_array, long_array, ClosesTable, short_table}
 use Rattle.resb_layout.specs.Laid.{long_table, wide_table, Lays, lays_integer}
 use Rattle.resb_layout.specs.Laid.{lays_string, lays_no_bytes, lays_bytes, lays_no_numbers}
-use Rattle.resb_layout.specs.Laid.{lays_numbers, lays_no_items, lays_items, lays_no_entries}
+use Rattle.resb_layout.specs.Laid.{lays_numbers, lays_no_members, lays_members, lays_no_entries}
 use Rattle.resb_layout.specs.Laid.{lays_entries, LaysEach, each_none, each_more, entry_trees}
 use Rattle.resb_write.specs.Inner.Counted.{fits_unit, is_near, are_near_strings, are_near_keys}
 use Rattle.resb_write.specs.Inner.Counted.{short_units, own_units}
@@ -158,8 +158,8 @@ module _ (g : Given) where
     units {s} {e} {t} lays_no_numbers = (leaf s t refl, refl)
     units {s} {e} {t} (lays_numbers at some n a f l) =
         (leaf s t refl, above_short_strings (0xe000_0000 + at) (omega arith))
-    units {s} {e} {t} lays_no_items = (leaf s t refl, refl)
-    units {s} {e} {t} (lays_items {mid = mid} {ts = ts} {ws = ws} k some c) =
+    units {s} {e} {t} lays_no_members = (leaf s t refl, refl)
+    units {s} {e} {t} (lays_members {mid = mid} {ts = ts} {ws = ws} k some c) =
         let r = units_each k in
         let o = array_units (array_members ts) r.1 r.2 some c in (
           one_more_counted (length s.units) (length mid.units) (length e.units) 0 _ (laying_each ts)

@@ -9,7 +9,8 @@ use Rattle.resb_format.specs.Units.{size}
 use Rattle.resb_format.specs.Bytes.{units_of, words_of}
 use Rattle.resb_layout.specs.WritingFault.{unexpected, limit, out_of_memory, message_of}
 use Rattle.resb_pool.specs.Records.{IsRecord, IsHeldBy}
-use Rattle.resb_layout.specs.Laid.{Lays, lays_integer, lays_items, each_none, each_more, long_array}
+use Rattle.resb_layout.specs.Laid.{Lays, lays_integer, lays_members, each_none, each_more}
+use Rattle.resb_layout.specs.Laid.{long_array}
 use Rattle.resb_layout.specs.KeyBlock.{key_block, key_position, key_bytes, padded}
 use Rattle.resb_layout.specs.PlainSize.{plain_size}
 use Rattle.resb_layout.specs.TreeFaults.{tree_fault}
@@ -65,7 +66,7 @@ plain_size_of_three = refl
 array_laid : Lays (record { position = λ k. None; offset = λ s. None; base = 36 })
     (record { units = 0 ∷ []; tail = [] }) (array (more_trees (integer 5) no_trees))
     (record { units = 0 ∷ []; tail = 1 ∷ 0 ∷ 0 ∷ 0 ∷ 5 ∷ 0 ∷ 0 ∷ 0x70 ∷ [] }) 0x8000_0009
-array_laid = lays_items (each_more (lays_integer (omega arith)) each_none) (omega arith)
+array_laid = lays_members (each_more (lays_integer (omega arith)) each_none) (omega arith)
     (long_array 9 refl refl (omega arith) (omega arith))
 
 -- The file of one entry, as ICU's rules ask for it: `b{k{v}}`.

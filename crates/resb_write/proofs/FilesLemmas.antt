@@ -39,8 +39,8 @@ use Rattle.resb_write.specs.Inner.Sizes.{size_fault}
 use Rattle.resb_write.proofs.Keys.{place_contained}
 use Rattle.resb_write.proofs.Room.{small_sizes, used_room, length-padded}
 use Rattle.resb_write.proofs.Known.{is_used, no_nul}
-use Rattle.resb_write.proofs.Blocks.{key_read, even_is, even_long, each_below, below_even}
-use Rattle.resb_write.proofs.Blocks.{largest_walked}
+use Rattle.resb_write.proofs.Blocks.{written_key_read, even_is, even_long, each_below, below_even}
+use Rattle.resb_write.proofs.Blocks.{largest_laid}
 use Rattle.resb_write.proofs.Heads as heads
 use Rattle.resb_write.proofs.Heads.{Whole}
 
@@ -187,7 +187,7 @@ module _ (t : Tree) (ks js : List (List ℕ)) (m : Made t ks js) (largest : ℕ)
       by (Some n) h f =
           let q : 32 + n ≡ at = (let f' : Some (32 + n) ≡ Some at = f in cc) in
           ap (key_at parts.keys) (sym q)
-          ∙ key_read (heads.head whole) (fill ((4 - length (key_bytes js) % 4) % 4)) js
+          ∙ written_key_read (heads.head whole) (fill ((4 - length (key_bytes js) % 4) % 4)) js
           (heads.head_length whole) k n h
           (All-contains IsUtf8 js k m.utf8 (place_contained k js n h))
           (no_nul (keys_of t) js m.faultless k (is_used (keys_of t) js m.faultless ks m.js_are k n
@@ -303,7 +303,7 @@ module _ (t : Tree) (ks js : List (List ℕ)) (m : Made t ks js) (largest : ℕ)
       fields = heads.fields_are whole;
       resources = omega (arith, heads.resources_end_is whole, heads.body_length whole);
       bundle = omega (arith, heads.bundle_end_is whole, heads.body_length whole);
-      largest = heads.largest_is whole ∙ largest_is ∙ largest_walked t;
+      largest = heads.largest_is whole ∙ largest_is ∙ largest_laid t;
       no_fallback = heads.flag_is whole;
     };
     blocks = blocks;

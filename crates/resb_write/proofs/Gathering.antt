@@ -1,5 +1,5 @@
 -- What one more resource adds to what is gathered.
-use Rattle.std.proofs.Common.{◌≡◌, ℕ, ◌+◌, ◌-◌, ◌^◌, ◌≤◌, min, max, List, [], ◌∷◌, ◌++◌, length, Option}
+use Rattle.std.proofs.Common.{◌≡◌, ℕ, ◌+◌, ◌-◌, ◌^◌, ◌≤◌, min, max, List, [], ◌∷◌, ◌++◌, length}
 use Rattle.std.proofs.Common.{Some, None, Bool, true, false, cond, ◌||◌, nat_le, refl, sym, ◌∙◌, ap}
 use Rattle.std.proofs.Common.{append-nil, arith}
 use Rattle.std.specs.List.{list_any, flat_map, sum_by}
@@ -18,20 +18,12 @@ use Rattle.resb_layout.specs.TreeFaults.{is_over_32_bits}
 use Rattle.resb_write.specs.Inner.Gathered.{entry_count_of, largest_of, units_in, bytes_in}
 use Rattle.resb_write.specs.Inner.Gathered.{other_size, Gathered}
 use Rattle.resb_write.specs.declared.contents.Contents.{Contents}
+use Rattle.resb_write.proofs.Lists.{or_assoc, or_none}
 
 pub largest-push : (ts : List Tree) (t : Tree)
     → largest_of (ts ++ t ∷ []) ≡ max (largest_of ts) (entry_count_of t)
 largest-push [] t = omega arith
 largest-push (u ∷ ts) t = omega (arith, largest-push ts t)
-
-or_assoc : {X : Type 0} (a b c : Option X) → option_or a (option_or b c) ≡ option_or (option_or a b)
-    c
-or_assoc None b c = refl
-or_assoc (Some x) b c = refl
-
-pub or_none : {X : Type 0} (o : Option X) → option_or o None ≡ o
-or_none None = refl
-or_none (Some x) = refl
 
 first-cons : (s : List ℕ) (ss : List (List ℕ))
     → first_too_long (s ∷ ss) ≡ option_or (first_too_long (s ∷ [])) (first_too_long ss)
@@ -103,11 +95,11 @@ module _ (old new : Contents) (t : Tree) (a : Adds old new t) (ts : List Tree) (
           ∙ sym (list_any-append is_over_32_bits ts (t ∷ []));
     }
 
-pub no_bytes : bytes_in [] ≡ 0
-no_bytes = refl
+pub no_bytes_gathered : bytes_in [] ≡ 0
+no_bytes_gathered = refl
 
-pub no_units : units_in [] ≡ 0
-no_units = refl
+pub no_units_gathered : units_in [] ≡ 0
+no_units_gathered = refl
 
 -- a resource with no entry and no text
 module _ (old new : Contents) (t : Tree) (n : ℕ) (b : Bool)
@@ -121,8 +113,14 @@ module _ (old new : Contents) (t : Tree) (n : ℕ) (b : Bool)
     texts = ap (λ c. nows c.texts.items) e ∙ sym (append-nil (nows old.texts.items))
         ∙ ap (λ l. nows old.texts.items ++ l) (sym no_text);
     size = ap (λ c. c.size) e ∙ ap (λ m. min (old.size + (16 + m)) (2 ^ 64 - 1)) (sym held);
-    bytes = omega (arith, ap (λ c. c.text_bytes) e, ap bytes_in no_text, no_bytes);
-    within = omega (arith, ap units_in no_text, ap bytes_in no_text, no_units, no_bytes);
+    bytes = omega (arith, ap (λ c. c.text_bytes) e, ap bytes_in no_text, no_bytes_gathered);
+    within = omega (
+      arith,
+      ap units_in no_text,
+      ap bytes_in no_text,
+      no_units_gathered,
+      no_bytes_gathered,
+    );
     largest = omega (arith, ap (λ c. c.largest_table) e, no_entries);
     too_long = ap (λ c. c.too_long) e ∙ sym (or_none old.too_long)
         ∙ ap (λ l. option_or old.too_long (first_too_long l)) (sym no_text);

@@ -1,5 +1,5 @@
 -- The keys of a table, and what a map has at each.
-use Rattle.std.proofs.Common.{◌≡◌, ℕ, List, [], ◌∷◌, ◌++◌, map, length, Option, Some}
+use Rattle.std.proofs.Common.{◌≡◌, ℕ, List, [], ◌∷◌, map, length, Some}
 use Rattle.std.proofs.Common.{refl, sym, ◌∙◌, ap, arith}
 use Rattle.resb_tree.specs.Tree.{Entries, no_entries, entry, Trees, no_trees, more_trees}
 use Rattle.resb_tree.specs.View.{entries_view}
@@ -30,15 +30,3 @@ pub placed_long : (g : Given) (ks : List (List ℕ)) (ps : List ℕ) → ArePlac
     → length ps ≡ length ks
 placed_long g ks ps a = sym (length-map ps Some) ∙ ap length (sym a.positions)
     ∙ length-map ks g.position
-
--- behind known ones, the next one is known
-pub next_known : (known : List ℕ) (o : Option ℕ) (rest : List (Option ℕ)) (ps : List ℕ)
-    → map Some known ++ o ∷ rest ≡ map Some ps → (p : ℕ) × (o ≡ Some p)
-next_known [] o rest [] e = absurd (omega (arith, ap length e))
-next_known [] o rest (p ∷ ps) e =
-    let f : o ≡ Some p = cc in
-    (p, f)
-next_known (a ∷ known) o rest [] e = absurd (omega (arith, ap length e))
-next_known (a ∷ known) o rest (p ∷ ps) e =
-    let f : map Some known ++ o ∷ rest ≡ map Some ps = cc in
-    next_known known o rest ps f

@@ -9,6 +9,8 @@ use Rattle.std.proofs.lemmas.List.Folds.{list_all_at, Any-from_list_any, list_an
 use Rattle.std.proofs.Math.Seq.{drop-append_seam}
 use Rattle.std.proofs.lemmas.List.Elements.{Contains-append_right, All-nil, All-cons}
 use Rattle.std.proofs.lemmas.Bool.{both_ways, false_from_ne_true}
+use Rattle.std.proofs.Common.{None}
+use Rattle.std.specs.Option.{option_or}
 
 -- what passes a test stays behind its filter
 pub contained-filter : {X : Type 0} (p : X → Bool) (xs : List X) (x : X) → p x ≡ true
@@ -144,3 +146,30 @@ module _ {X : Type 0} where
   all_from P [] f = All-nil P
   all_from P (x ∷ xs) f = All-cons P x xs (f x (0, omega arith, refl))
       (all_from P xs (λ y h. f y (Contains-append_right (x ∷ []) xs y h)))
+
+-- the first of three that there is
+pub or_assoc : {X : Type 0} (a b c : Option X)
+    → option_or a (option_or b c) ≡ option_or (option_or a b) c
+or_assoc None b c = refl
+or_assoc (Some x) b c = refl
+
+-- or else nothing
+pub or_none : {X : Type 0} (o : Option X) → option_or o None ≡ o
+or_none None = refl
+or_none (Some x) = refl
+
+-- behind known ones, the next one is known
+pub next_known : (known : List ℕ) (o : Option ℕ) (rest : List (Option ℕ)) (ps : List ℕ)
+    → map Some known ++ o ∷ rest ≡ map Some ps → (p : ℕ) × (o ≡ Some p)
+next_known [] o rest [] e = absurd (omega (arith, ap length e))
+next_known [] o rest (p ∷ ps) e =
+    let f : o ≡ Some p = cc in
+    (p, f)
+next_known (a ∷ known) o rest [] e = absurd (omega (arith, ap length e))
+next_known (a ∷ known) o rest (p ∷ ps) e =
+    let f : map Some known ++ o ∷ rest ≡ map Some ps = cc in
+    next_known known o rest ps f
+
+-- what is below a number is below a greater one
+pub all_wider : (m n : ℕ) (ns : List ℕ) → m ≤ n → All (λ i. i < m) ns → All (λ i. i < n) ns
+all_wider m n ns h all = λ i d l. omega (arith, h, all i d l)

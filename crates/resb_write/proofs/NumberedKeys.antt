@@ -11,6 +11,7 @@ use Rattle.std.proofs.lemmas.List.Elements.{All-push, All-head, All-tail}
 use Rattle.indexmap.specs.IndexMap.{insert_entry}
 use Rattle.resb_pool.specs.Plan.{nows}
 use Rattle.resb_write.specs.Inner.Numbered.{AreNumbered}
+use Rattle.resb_write.proofs.Lists.{all_wider}
 
 abbrev Key : Type 0
 Key = Bor (List ℕ)
@@ -22,9 +23,6 @@ same_key x y = bytes_eq x.now y.now
 -- the text of an index
 abbrev at : List (List ℕ) → ℕ → List ℕ
 at T n = get_or T n []
-
-wider : (m n : ℕ) (ns : List ℕ) → m ≤ n → All (λ i. i < m) ns → All (λ i. i < n) ns
-wider m n ns h all = λ i d l. omega (arith, h, all i d l)
 
 module _ {V : Type 0} where
   abbrev texts : List (Key × V) → List (List ℕ)
@@ -96,7 +94,7 @@ module _ {V : Type 0} where
       let last = ap (at new) is ∙ put_at es k v in
       record {
         within = All-push (λ i. i < length new) ns n
-            (wider (length (texts es)) (length new) ns w.0 h.within) (omega (arith, is, w.1));
+            (all_wider (length (texts es)) (length new) ns w.0 h.within) (omega (arith, is, w.1));
         are = map_push (at new) ns n ∙ (λ i. first i ++ last i ∷ []);
       }
 

@@ -9,19 +9,19 @@ use Rattle.resb_layout.specs.Laid.{Given}
 use Rattle.resb_write.specs.Inner.Room.{GivesInTurn}
 
 -- of places that are known for two lists in a row, the first ones are those of the first list
-record Parts (f : List ℕ → Option ℕ) (xs ys : List (List ℕ)) (ps : List ℕ) : Type 0 where
+record SplitPlaces (f : List ℕ → Option ℕ) (xs ys : List (List ℕ)) (ps : List ℕ) : Type 0 where
   enough : length xs ≤ length ps
   first : map f xs ≡ map Some (take (length xs) ps)
   left : map f ys ≡ map Some (drop (length xs) ps)
 
-parts : (f : List ℕ → Option ℕ) (xs ys : List (List ℕ)) (ps : List ℕ)
-    → map f (xs ++ ys) ≡ map Some ps → Parts f xs ys ps
-parts f [] ys ps e = record { enough = omega arith; first = refl; left = e }
-parts f (x ∷ xs) ys [] e = absurd (omega (arith, ap length e))
-parts f (x ∷ xs) ys (p ∷ ps) e =
+places_split : (f : List ℕ → Option ℕ) (xs ys : List (List ℕ)) (ps : List ℕ)
+    → map f (xs ++ ys) ≡ map Some ps → SplitPlaces f xs ys ps
+places_split f [] ys ps e = record { enough = omega arith; first = refl; left = e }
+places_split f (x ∷ xs) ys [] e = absurd (omega (arith, ap length e))
+places_split f (x ∷ xs) ys (p ∷ ps) e =
     let h : f x ≡ Some p = cc in
     let t : map f (xs ++ ys) ≡ map Some ps = cc in
-    let r = parts f xs ys ps t in
+    let r = places_split f xs ys ps t in
     record {
       enough = omega (arith, r.enough);
       first = (λ i. h i ∷ r.first i);
@@ -63,7 +63,7 @@ pub behind_table : (g : Given) (ps os : List ℕ) (es : Entries) (rest : List Tr
     → length (entry_keys es) ≡ n → GivesInTurn g ps os (table es ∷ rest)
     → BehindTable g ps os es rest n
 behind_table g ps os es rest n e h =
-    let r = parts g.position (entry_keys es) (flat_map own_keys rest) ps h.keys in
+    let r = places_split g.position (entry_keys es) (flat_map own_keys rest) ps h.keys in
     subst (BehindTable g ps os es rest) e (record {
       enough = r.enough;
       known = r.first;

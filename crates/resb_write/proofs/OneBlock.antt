@@ -9,7 +9,7 @@ use Rattle.resb_layout.specs.Laid.{ClosesArray, short_array, long_array, ClosesT
 use Rattle.resb_layout.specs.Laid.{long_table, wide_table, ArePlaced, Lays, lays_integer}
 use Rattle.resb_tree.specs.LayingOrder.{entry_keys}
 use Rattle.resb_layout.specs.Laid.{lays_string, lays_no_bytes, lays_bytes, lays_no_numbers}
-use Rattle.resb_layout.specs.Laid.{lays_numbers, lays_no_items, lays_items, lays_no_entries}
+use Rattle.resb_layout.specs.Laid.{lays_numbers, lays_no_members, lays_members, lays_no_entries}
 use Rattle.resb_layout.specs.Laid.{lays_entries, LaysEach, each_none, each_more}
 use Rattle.resb_layout.proofs.Once.{none_inside}
 use Rattle.resb_write.specs.Laws.{OneBlock}
@@ -142,10 +142,10 @@ module _ (g h : Given) (positions : g.position ≡ h.position) (offsets : g.offs
       apart (above_short_strings (0xe000_0000 + at) (omega arith))
           (above_short_strings (0xe000_0000 + at2) (omega arith)),
     )
-    block e lays_no_items lays_no_items = (e, same refl)
-    block e lays_no_items (lays_items k some c) = absurd (none_inside k some)
-    block e (lays_items k some c) lays_no_items = absurd (none_inside k some)
-    block e (lays_items k some c) (lays_items l some2 d) =
+    block e lays_no_members lays_no_members = (e, same refl)
+    block e lays_no_members (lays_members k some c) = absurd (none_inside k some)
+    block e (lays_members k some c) lays_no_members = absurd (none_inside k some)
+    block e (lays_members k some c) (lays_members l some2 d) =
         let r = block_each e k l in
         array_block r.0 r.1 c d
     block e lays_no_entries lays_no_entries = (e, same refl)

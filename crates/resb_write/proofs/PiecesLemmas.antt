@@ -13,7 +13,7 @@ use Rattle.resb_tree.specs.Tree.{Tree, string, array, table, binary, integer, in
 use Rattle.resb_draft.specs.Drafts.{texts_ascend}
 use Rattle.resb_draft.specs.Pieces.{is_piece, are_pieces, has_entries}
 use Rattle.resb_draft.specs.declared.draft.Piece.{Piece}
-use Rattle.resb_write.specs.Inner.Nodes.{Fits, HasEntries}
+use Rattle.resb_write.specs.Inner.Nodes.{Fits, IsTableOf}
 
 less : (o : Ordering) → is_lt o ≡ true → o ≡ Less
 less Less e = refl
@@ -49,7 +49,7 @@ pieces_fit (p ∷ ps) (t ∷ ts) h =
     (both.0, pieces_fit ps ts both.1)
 
 -- a table that a piece fits
-pub entries_fit : (n : ℕ) (t : Tree) → has_entries n t ≡ true → HasEntries n t
+pub entries_fit : (n : ℕ) (t : Tree) → has_entries n t ≡ true → IsTableOf n t
 entries_fit n (string s) h = absurd (false≢true h)
 entries_fit n (array ts) h = absurd (false≢true h)
 entries_fit n (table es) h =

@@ -17,7 +17,7 @@ use Rattle.resb_layout.specs.TreeFaults.{too_large}
 use Rattle.resb_write.specs.FaultOf.{plan_fault}
 use Rattle.resb_write.specs.Inner.Sizes.{size_fault, IsTooMuch, at_fault}
 use Rattle.resb_write.specs.Inner.Sizes.{too_large as too_large_sizes}
-use Rattle.resb_write.proofs.Room.{none_too_long, texts_within}
+use Rattle.resb_write.proofs.Room.{small_texts_fit, texts_within}
 
 module _ (t : Tree) (ks : List (List ℕ)) where
   pub key_refused : (us : List (List ℕ)) (f : WritingFault) → us ≡ keys_of t → (f ≡ out_of_memory)
@@ -47,7 +47,7 @@ module _ (t : Tree) (ks : List (List ℕ)) where
       → RefusesWriting t ks (plan_fault e)
   plan_refused S e is small no_memory_to_plan = no_memory
   plan_refused S e is small (too_long {n} h) =
-      let none = none_too_long (flat_map text_in (laying_order t)) (omega (
+      let none = small_texts_fit (flat_map text_in (laying_order t)) (omega (
         arith,
         texts_within (laying_order t),
         small,

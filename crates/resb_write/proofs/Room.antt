@@ -41,14 +41,14 @@ texts_within (t ∷ ts) = omega (arith, by t, size_cons t ts, texts_within ts)
     by (integer n) = omega arith
     by (int_vector ns) = omega arith
 
-pub none_too_long : (ss : List (List ℕ)) → texts_size ss < 2 ^ 28 → first_too_long ss ≡ None
-none_too_long [] h = refl
-none_too_long (s ∷ ss) h =
+pub small_texts_fit : (ss : List (List ℕ)) → texts_size ss < 2 ^ 28 → first_too_long ss ≡ None
+small_texts_fit [] h = refl
+small_texts_fit (s ∷ ss) h =
     let e = texts_cons s ss in
     let f : nat_le (length (units s)) 4294967295 ≡ true =
     le-leb (length (units s)) 4294967295 (omega (arith, e, h)) in
     ap (λ b. cond b (first_too_long ss) (Some (length (units s)))) f
-    ∙ none_too_long ss (omega (arith, e, h))
+    ∙ small_texts_fit ss (omega (arith, e, h))
 
 none_over : (ts : List Tree) → resources_size ts < 2 ^ 28 → list_any is_over_32_bits ts ≡ false
 none_over [] h = refl
@@ -66,7 +66,7 @@ none_over (t ∷ ts) h =
     by (int_vector ns) l = le-ltb 4294967295 (length ns) (omega (arith, l))
 
 pub small_sizes : (ts : List Tree) → resources_size ts < 2 ^ 28 → size_fault ts ≡ None
-small_sizes ts h = no_size_fault ts (none_too_long (flat_map text_in ts)
+small_sizes ts h = no_size_fault ts (small_texts_fit (flat_map text_in ts)
     (omega (arith, texts_within ts, h))) (none_over ts h)
 
 -- the pool has at most a record of each text, and unit 0

@@ -74,17 +74,17 @@ mutual
 pub suffices : (t : Tree) → Suffices 0 (laying_order t)
 suffices t = subst (Suffices 0) (append-nil (laying_order t)) (suffices_tree t 0 [] tt)
 
-fits : (a m r s k : ℕ) → s ≡ m + r → a + s < k → a + m < k
-fits a m r s k e h = omega (arith, e, h)
+part_fits : (a m r s k : ℕ) → s ≡ m + r → a + s < k → a + m < k
+part_fits a m r s k e h = omega (arith, e, h)
 
 module _ (p : ℕ) (b : Bodies) (n : ℕ) (t : Tree) (ts : List Tree) (h : CanLay p b n (t ∷ ts))
   where
     pub has_room : HasRoom p b (own_size t)
     has_room = record {
       aligned = h.room.aligned;
-      units = fits (length b.units.items) (most_units t) (sum_by most_units ts)
+      units = part_fits (length b.units.items) (most_units t) (sum_by most_units ts)
           (sum_by most_units (t ∷ ts)) (2 ^ 28) (sum_by-cons most_units t ts) h.room.units;
-      bytes = fits (p + length b.tail.items) (most_bytes t) (sum_by most_bytes ts)
+      bytes = part_fits (p + length b.tail.items) (most_bytes t) (sum_by most_bytes ts)
           (sum_by most_bytes (t ∷ ts)) (2 ^ 30) (sum_by-cons most_bytes t ts) h.room.bytes;
     }
 

@@ -4,8 +4,8 @@ use Rattle.std.proofs.Common.{[], ◌∷◌, ◌++◌, length, refl, sym, ◌∙
 use Rattle.std.proofs.Common.{append-nil, arith}
 use Rattle.resb_tree.specs.Tree.{Tree, string, array, table, binary, integer, int_vector, Trees}
 use Rattle.resb_tree.specs.Tree.{no_trees, more_trees, Entries, no_entries, entry, trees_of}
-use Rattle.resb_layout.specs.Laid.{Given, Laid, Lays, LaysEach, each_none, each_more, lays_items}
-use Rattle.resb_layout.specs.Laid.{lays_no_items, lays_entries, lays_no_entries, ClosesArray}
+use Rattle.resb_layout.specs.Laid.{Given, Laid, Lays, LaysEach, each_none, each_more, lays_members}
+use Rattle.resb_layout.specs.Laid.{lays_no_members, lays_entries, lays_no_entries, ClosesArray}
 use Rattle.resb_layout.specs.Laid.{ClosesTable, ArePlaced, entry_trees}
 use Rattle.resb_tree.specs.LayingOrder.{entry_keys}
 use Rattle.resb_tree.specs.LayingOrder.{array_members, values_of, children, laying_order}
@@ -145,7 +145,7 @@ array_step g s e ws xs vs ts w n c h v some k p =
       taken = q.0 ∙ ap (λ l. take (length ws - n) ws ++ l) (sym v);
       many = ap length v ∙ q.1 ∙ c;
       put = p;
-      closes = λ before l. lays_items
+      closes = λ before l. lays_members
           (subst (λ us. LaysEach g before us s vs) (trees_of-array_members ts) l)
           (omega (arith, ap length v, q.1)) k;
     }
@@ -163,7 +163,7 @@ empty_array_step g s ws xs w e p =
       many = refl;
       put = p;
       closes = λ before l. subst (λ b. Lays g b (array no_trees) s w) (sym (none_back l))
-          (subst (Lays g s (array no_trees) s) (sym e) lays_no_items);
+          (subst (Lays g s (array no_trees) s) (sym e) lays_no_members);
     }
   where
     none_back : {before : Laid} → LaysEach g before no_trees s [] → before ≡ s

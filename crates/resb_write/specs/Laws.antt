@@ -17,7 +17,7 @@ OneBlock =
     (g h : Given) (s u a b : Laid) (t : Tree) (v w : ℕ) → g.position ≡ h.position
     → g.offset ≡ h.offset → s.units ≡ u.units → Lays g s t a v → Lays h u t b w → a.units ≡ b.units
 
--- Behind the 16-bit block, and up to the file's end, the bodies of the tree's resources in walk
+-- Behind the 16-bit block, and up to the file's end, the bodies of the tree's resources in laying
 -- order stand one right behind another, each from a word on; behind the pool of the strings the
 -- 16-bit block has the short ones.
 pub record IsInOrder {bytes : List ℕ} {t : Tree} {fallback : Bool} {ks : List (List ℕ)}

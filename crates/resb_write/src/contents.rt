@@ -1,4 +1,4 @@
-//! What the resources of a tree hold, gathered in one walk: the texts of strings, and what is
+//! What the resources of a tree hold, gathered in one pass: the texts of strings, and what is
 //! tested before anything is laid. Where things come to stand is not said here.
 ghost use Rattle.std.specs.Prelude.{◌≡◌, ◌++◌, ◌∷◌, ◌+◌, ◌-◌, ◌*◌, ◌/◌, ◌^◌, ◌||◌, ◌≤◌, [], List};
 ghost use Rattle.std.specs.Prelude.{length, true};

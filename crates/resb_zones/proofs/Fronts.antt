@@ -89,9 +89,9 @@ module _ (all : List (Place × Place)) (e : Place × Place) (rest : List (Place 
         paid = omega arith;
       }
 
-  pub front_fails : (left' : ℕ) → left' ≤ left → (IsReadable e → left ≡ 0)
+  pub readable_front_fails : (left' : ℕ) → left' ≤ left → (IsReadable e → left ≡ 0)
       → (left' ≤ before) × (All IsReadable all → before < length all)
-  front_fails left' falls spent =
+  readable_front_fails left' falls spent =
       let paid : left + length front.done ≡ before = front.paid in (
         omega arith,
         λ each.

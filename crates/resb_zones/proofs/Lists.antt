@@ -8,6 +8,8 @@ use Rattle.std.specs.Str.{bytes_eq}
 use Rattle.std.proofs.lemmas.Slice.Eq.{bytes_eq-Decides}
 use Rattle.std.specs.Option.{option_map}
 use Rattle.std.proofs.lemmas.Option.{same_Some}
+use Rattle.std.proofs.Common.{Result, Ok, Err}
+use Rattle.std.specs.Result.{OnErr}
 
 -- what holds of one thing holds of each in the list of it
 pub All-one : {A : Type 0} (P : A → Type 0) (x : A) → P x → All P (x ∷ [])
@@ -42,3 +44,8 @@ pub chosen_count : {A : Type 0} (b : Bool) (p q : A × ℕ)
     → (if b then Some p else None) ≡ Some q → q.1 ≡ p.1
 chosen_count true p q e = sym (ap (λ r. r.1) (same_Some _ _ e))
 chosen_count false p q e = cc
+
+-- what holds anyway holds of an error
+pub on_err : {X E : Type 0} (r : Result X E) (P : Type 0) → P → OnErr r P
+on_err (Ok x) P h = tt
+on_err (Err e) P h = h

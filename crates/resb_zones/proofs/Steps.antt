@@ -21,6 +21,6 @@ module _ (old new : EntryAccess) (fresh : old.failed ≡ None) where
       → StepsOver HandsOnBoth RefusesNone old.rest 0 new 0 r
   at_first r h = subst (λ f. StepsAfter HandsOnBoth RefusesNone f old 0 new 0 r) fresh h
 
-  pub steps_some : (c : Cursor × Cursor) → EntersTo old new (Ok (Some c))
+  pub entry_step_some : (c : Cursor × Cursor) → EntersTo old new (Ok (Some c))
       → (old.rest ≡ (place_of c.0, place_of c.1) ∷ new.rest) × (new.failed ≡ None)
-  steps_some c h = some_first old.rest new c (at_first (Ok (Some c)) h)
+  entry_step_some c h = some_first old.rest new c (at_first (Ok (Some c)) h)

@@ -1,7 +1,6 @@
 -- One entry taken: a `base`, a `pairs`, or another one.
-use Rattle.std.proofs.Common.{ℕ, ℤ, List, ◌≡◌, inl, inr, Some, Result, Ok, Err, get_or}
+use Rattle.std.proofs.Common.{ℕ, ℤ, List, ◌≡◌, inl, inr, Some, get_or}
 use Rattle.std.proofs.Common.{sym, ap, subst, ◌∙◌, arith}
-use Rattle.std.specs.Result.{OnErr}
 use Rattle.resb.specs.Places.{Place}
 use Rattle.resb.specs.Leaves.{ReadsKey}
 use Rattle.resb.specs.Views.{pair_bytes}
@@ -10,10 +9,6 @@ use Rattle.resb_zones.specs.Zones.{base_name, pairs_name, ReadsNumber, IsNamed}
 use Rattle.resb_zones.specs.Inner.Fields.{ReadsPairView, HasTaken}
 use Rattle.resb_zones.specs.declared.fields.Fields.{Fields}
 use Rattle.resb_zones.proofs.Costs.{one_name}
-
-pub on_err : {X E : Type 0} (r : Result X E) (P : Type 0) → P → OnErr r P
-on_err (Ok x) P h = tt
-on_err (Err e) P h = h
 
 names_differ : base_name ≡ pairs_name → ⊥
 names_differ e =

@@ -8,7 +8,7 @@ use Rattle.resb.specs.Places.{Place}
 use Rattle.resb.specs.Leaves.{ReadsKey, CountsKey}
 use Rattle.resb.specs.TypeLaws.{key_counted, key_one}
 use Rattle.resb.specs.TypeLaws.{map_counted, map_one}
-use Rattle.resb_zones.specs.Zones.{ReadsZone, CountsZone, ReadsZoneTable, CountsTable}
+use Rattle.resb_zones.specs.Zones.{ReadsZone, CountsZone, ReadsZoneTable, CountsZoneTable}
 use Rattle.resb_zones.specs.declared.zone.Zone.{Zone}
 use Rattle.resb_zones.specs.declared.table.ZoneTable.{ZoneTable}
 
@@ -34,12 +34,12 @@ zone_one p m n h k =
     let g : n ≡ 1 + length k.places = k.count in omega arith
 
 -- a table of zones that is read has its count
-pub table_counted : (p : Place) (t : ZoneTable) (n : ℕ) → ReadsZoneTable p t n → CountsTable p n
+pub table_counted : (p : Place) (t : ZoneTable) (n : ℕ) → ReadsZoneTable p t n → CountsZoneTable p n
 table_counted p t n =
     map_counted (λ q s m. ReadsKey q s.now m) ReadsZone CountsKey CountsZone
     (λ q s m. key_counted q s.now m) zone_counted (λ x y. slice_cmp nat_cmp x.now y.now)
     p t.zones.entries n
 
 -- a table of zones has one count
-pub table_one : (p : Place) (m n : ℕ) → CountsTable p m → CountsTable p n → m ≡ n
+pub table_one : (p : Place) (m n : ℕ) → CountsZoneTable p m → CountsZoneTable p n → m ≡ n
 table_one = map_one CountsKey CountsZone key_one zone_one

@@ -4,7 +4,8 @@
 --                              key asks for
 --     IsLastNamed name es q    of the entries of this name the last one's value stands at q
 --     ReadsZone, CountsZone    a table of readable entries, with a last `base` and a last `pairs`
---     ReadsTable, CountsTable  a map of zones by borrowed names: the last zone of an equal name
+--     ReadsZoneTable, CountsZoneTable
+--                              a map of zones by borrowed names: the last zone of an equal name
 --                              stands
 use Rattle.std.specs.Prelude.{◌≡◌, ◌≤◌, ◌+◌, ◌-◌, ◌^◌, ◌⊎◌, ◌++◌, ◌∷◌, ℕ, ℤ, pos, negsuc, List}
 use Rattle.std.specs.Prelude.{length, Option, Some, codes}
@@ -89,8 +90,8 @@ ReadsZoneTable p t n =
     p t.zones.entries n
 
 -- such a map takes so many resources
-abbrev pub CountsTable : Place → ℕ → Type 0
-CountsTable = CountsMap CountsKey CountsZone
+abbrev pub CountsZoneTable : Place → ℕ → Type 0
+CountsZoneTable = CountsMap CountsKey CountsZone
 
 -- each entry can be read and paid for, but there is no `base`, or no `pairs`
 pub record LacksField (p : Place) (left : ℕ) : Type 0 where

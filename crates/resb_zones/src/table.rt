@@ -3,7 +3,7 @@
 ghost use Rattle.std.specs.Prelude.{◌≡◌};
 ghost use Rattle.std.specs.Option.{option_copied};
 ghost use Rattle.std.specs.BTreeMap.{btree_map_len};
-ghost use Rattle.resb_zones.specs.Zones.{ReadsZoneTable, CountsTable, zone_named};
+ghost use Rattle.resb_zones.specs.Zones.{ReadsZoneTable, CountsZoneTable, zone_named};
 ghost use Rattle.resb_zones.specs.ZoneLaws.{table_counted, table_one};
 
 use crate::zone::Zone;
@@ -36,7 +36,7 @@ impl<'de> ZoneTable<'de> {
 impl<'de> Deserialize<'de> for ZoneTable<'de> {
     ghost reads = { ReadsZoneTable };
 
-    ghost counts = { CountsTable };
+    ghost counts = { CountsZoneTable };
 
     ghost counted = { table_counted };
 

@@ -13,7 +13,7 @@ use Rattle.resb_print.specs.declared.place.Place.{Place}
 use Rattle.resb_print.specs.declared.place.Place.TheVariants.{InTable, InArray}
 use Rattle.resb_print.specs.Printed.{line_on, close_on, end_on}
 use Rattle.resb_print.specs.Held.{IsHeld, HeldIn}
-use Rattle.resb_print.specs.Inner.Jobs.{Job, entry_job, item_job, close_job, fold_jobs}
+use Rattle.resb_print.specs.Inner.Jobs.{Job, entry_job, member_job, close_job, fold_jobs}
 use Rattle.resb_print.specs.Inner.Jobs.{IsHeldJob, AreHeldJobs, job_turns, jobs_turns, Appends}
 use Rattle.resb_icu_print.specs.declared.cause.IcuCause.{IcuCause}
 use Rattle.resb_icu_print.specs.declared.error.IcuPrintError.{IcuPrintError}
@@ -24,7 +24,7 @@ use Rattle.resb_icu_print.specs.Causes.{key_cause_else, cause_else, causes_in_el
 
 abbrev pub job_on : Job → List ℕ → List ℕ
 job_on (entry_job n k t) rest = line_on n (key_on k (tree_on InTable n t rest))
-job_on (item_job n t) rest = line_on n (tree_on InArray n t rest)
+job_on (member_job n t) rest = line_on n (tree_on InArray n t rest)
 job_on (close_job n p) rest = close_on n (end_on p rest)
 
 abbrev pub jobs_on : List Job → List ℕ → List ℕ
@@ -32,7 +32,7 @@ jobs_on = fold_jobs job_on
 
 abbrev pub job_cause : Job → Option IcuCause → Option IcuCause
 job_cause (entry_job n k t) later = key_cause_else k t (cause_else t later)
-job_cause (item_job n t) later = cause_else t later
+job_cause (member_job n t) later = cause_else t later
 job_cause (close_job n p) later = later
 
 abbrev pub jobs_cause : List Job → Option IcuCause → Option IcuCause

@@ -16,19 +16,19 @@ use Rattle.resb_print.specs.declared.error.PrintError.TheVariants.{OutOfMemory, 
 use Rattle.resb_print.specs.declared.place.Place.{Place}
 use Rattle.resb_print.specs.declared.place.Place.TheVariants.{InTable, InArray}
 use Rattle.resb_print.specs.declared.task.Task.{Task}
-use Rattle.resb_print.specs.declared.task.Task.TheVariants.{Entry, Item, Close}
+use Rattle.resb_print.specs.declared.task.Task.TheVariants.{Entry, Member, Close}
 use Rattle.resb_print.specs.Printed.{line_on, name_on, tree_on, close_on, end_on, entries_on}
 use Rattle.resb_print.specs.Quotes.{quote_else, cause_else, causes_in_else}
 use Rattle.resb_print.specs.Held.{IsHeld, HeldIn}
 
 pub data Job : Type 0 where
   entry_job : ℕ → List ℕ → Tree → Job
-  item_job : ℕ → Tree → Job
+  member_job : ℕ → Tree → Job
   close_job : ℕ → Place → Job
 
 abbrev pub job_of : Task → Job
 job_of (Entry n k r) = entry_job n k.now (tree_of r.now)
-job_of (Item n r) = item_job n (tree_of r.now)
+job_of (Member n r) = member_job n (tree_of r.now)
 job_of (Close n p) = close_job n p
 
 abbrev pub jobs_in : List Task → List Job
@@ -36,7 +36,7 @@ jobs_in ts = map job_of ts
 
 abbrev pub job_on : Job → List ℕ → List ℕ
 job_on (entry_job n k t) rest = line_on n (name_on k (tree_on InTable n t rest))
-job_on (item_job n t) rest = line_on n (tree_on InArray n t rest)
+job_on (member_job n t) rest = line_on n (tree_on InArray n t rest)
 job_on (close_job n p) rest = close_on n (end_on p rest)
 
 -- the jobs in turn, the last one outermost
@@ -49,7 +49,7 @@ jobs_on = fold_jobs job_on
 
 abbrev pub job_cause : Job → Option Cause → Option Cause
 job_cause (entry_job n k t) later = quote_else cause.QuoteInKey k (cause_else t later)
-job_cause (item_job n t) later = cause_else t later
+job_cause (member_job n t) later = cause_else t later
 job_cause (close_job n p) later = later
 
 abbrev pub jobs_cause : List Job → Option Cause → Option Cause
@@ -57,7 +57,7 @@ jobs_cause = fold_jobs job_cause
 
 abbrev pub IsHeldJob : Job → Type 0
 IsHeldJob (entry_job n k t) = IsHeld t
-IsHeldJob (item_job n t) = IsHeld t
+IsHeldJob (member_job n t) = IsHeld t
 IsHeldJob (close_job n p) = Unit {0}
 
 abbrev pub AreHeldJobs : List Job → Type 0
@@ -67,7 +67,7 @@ AreHeldJobs (j ∷ js) = IsHeldJob j × AreHeldJobs js
 -- a bound on the turns that are left
 abbrev pub job_turns : Job → ℕ
 job_turns (entry_job n k t) = 2 * tree_count t
-job_turns (item_job n t) = 2 * tree_count t
+job_turns (member_job n t) = 2 * tree_count t
 job_turns (close_job n p) = 1
 
 abbrev pub add_turns : Job → ℕ → ℕ
@@ -93,8 +93,8 @@ pub record Does (old new : String Global) (before after : List Job) (write : Lis
 abbrev pub entry_jobs : ℕ → List (List ℕ × Tree) → List Job
 entry_jobs n ps = map (λ p. entry_job n p.0 p.1) ps
 
-abbrev pub item_jobs : ℕ → List Tree → List Job
-item_jobs n ts = map (λ t. item_job n t) ts
+abbrev pub member_jobs : ℕ → List Tree → List Job
+member_jobs n ts = map (λ t. member_job n t) ts
 
 -- all that is said of a job that is done
 abbrev pub DoesJob : String Global → String Global → List Job → List Job → Job → Type 0

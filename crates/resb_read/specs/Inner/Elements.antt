@@ -5,7 +5,7 @@ use Rattle.resb_format.specs.Bytes.{units_of, words_of}
 use Rattle.resb_format.specs.Content as member
 use Rattle.resb_format.specs.Parts.{parts_in}
 use Rattle.resb_walk.specs.Inner.Members.{members_of, keyed_members}
-use Rattle.resb_format.specs.declared.body_parts.BodyParts.{BodyParts}
+use Rattle.resb_format.specs.declared.file_blocks.FileBlocks.{FileBlocks}
 use Rattle.resb_walk.specs.declared.members.TableParts.{TableParts}
 use Rattle.resb_read.specs.Places.{Place, spot_of}
 use Rattle.resb_read.specs.Sequences.{at_spot, at_entry}
@@ -20,15 +20,15 @@ spots_to_come (Members ms) = map spot_of (members_of ms)
 spots_to_come (Numbers b) = map spot.Word (words_of b.now)
 
 -- the items' places in the file
-abbrev pub places_to_come : BodyParts → Elements → List Place
+abbrev pub places_to_come : FileBlocks → Elements → List Place
 places_to_come f i = map (at_spot (parts_in f)) (spots_to_come i)
 
 -- the places of each entry's key and value in the file
-abbrev pub entry_places : BodyParts → TableParts → List (Place × Place)
+abbrev pub entry_places : FileBlocks → TableParts → List (Place × Place)
 entry_places f ps = map (at_entry (parts_in f)) (keyed_members ps)
 
 -- the places of the keys and values of entries that are given by bytes: of each key's position two,
 -- of each value's word four
-abbrev pub near_entries : BodyParts → List ℕ → List ℕ → List (Place × Place)
+abbrev pub near_entries : FileBlocks → List ℕ → List ℕ → List (Place × Place)
 near_entries f positions words =
     map (at_entry (parts_in f)) (zip (units_of positions) (map member.word (words_of words)))

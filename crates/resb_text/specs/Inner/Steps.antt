@@ -33,8 +33,8 @@ pub record Among {B X : Type 0} (tree : B → X → Tree) (held : B → X → Bo
   pub made : Makes text bytes at (inside open_groups)
 
 -- wherever a typed group may stand there, a reading gets stuck so
-abbrev pub HeadFails : List ℕ → ℕ → TextParserError → Type 0
-HeadFails text at e =
+abbrev pub TypedOpeningFails : List ℕ → ℕ → TextParserError → Type 0
+TypedOpeningFails text at e =
     (o : machine.Open) → takes_group o.frame.body (machine.is_key_place o.frame.items) ≡ true
     → At text at (inside o) → Stuck text e.position e.expected
 

@@ -8,13 +8,14 @@ use Rattle.resb_tree.specs.declared.dropping.Inside.TheVariants.{Nothing, List, 
 use Rattle.std.specs.Prelude as std
 use denote.Param.Weighed.{most}
 
-abbrev pub IsLeaf : Tree → Type 0
-IsLeaf (array ts) = ⊥
-IsLeaf (table es) = ⊥
-IsLeaf t = Unit {0}
+-- no array and no table
+abbrev pub IsNoCollection : Tree → Type 0
+IsNoCollection (array ts) = ⊥
+IsNoCollection (table es) = ⊥
+IsNoCollection t = Unit {0}
 
 abbrev pub InsideOf : Resource → Inside → Type 0
-InsideOf r Nothing = IsLeaf (tree_of r)
+InsideOf r Nothing = IsNoCollection (tree_of r)
 InsideOf r (List v) = r ≡ Array v
 InsideOf r (Entries m) = r ≡ Table m
 

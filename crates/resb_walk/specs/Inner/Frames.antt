@@ -7,7 +7,7 @@ use Rattle.resb_tree.specs.Tree.{Tree}
 use Rattle.resb_format.specs.Strings.{key_at}
 use Rattle.resb_format.specs.Parts.{Parts}
 use Rattle.resb_format.specs.Content.{Member, list, entry_list, content_at}
-use Rattle.resb_format.specs.Denotes.{DenEach, DenPairs}
+use Rattle.resb_format.specs.Denotes.{DenEach, DenEntries}
 use Rattle.resb_walk.specs.Inner.Members.{members_of, keyed_members}
 use Rattle.resb_walk.specs.declared.members.Members.{Members}
 use Rattle.resb_walk.specs.declared.members.TableParts.{TableParts}
@@ -29,7 +29,7 @@ module _ {L T : Type 0} (lists : L → List Tree → Type 0)
     pub done : List (ℕ × Member)
     pub entries : List (List ℕ × Tree)
     pub stands : content_at p w ≡ Some (entry_list (done ++ keyed_members rest))
-    pub each : DenPairs p done entries n
+    pub each : DenEntries p done entries n
     pub is_made : tables made entries
 
   pub record ListWaits (rest : Members) (made : L) (w : ℕ) (x : Member) (n : ℕ) : Type 0 where
@@ -46,7 +46,7 @@ module _ {L T : Type 0} (lists : L → List Tree → Type 0)
     pub position : ℕ
     pub stands : content_at p w ≡ Some (entry_list (done ++ (position, x) ∷ keyed_members rest))
     pub keyed : key_at p.keys position ≡ Some key
-    pub each : DenPairs p done entries n
+    pub each : DenEntries p done entries n
     pub is_made : tables made entries
 
   abbrev pub Opened : Open L T → ℕ → ℕ → Type 0

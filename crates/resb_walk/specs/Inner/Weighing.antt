@@ -7,7 +7,7 @@ use Rattle.std.specs.Prelude.{◌≡◌, ℕ, ◌+◌, ◌≤◌, List, [], ◌�
 use Rattle.resb_format.specs.Content.{Member, list, entry_list, content_at}
 use Rattle.resb_format.specs.Parts.{Parts}
 use Rattle.resb_walk.specs.Inner.Members.{member_of, members_of, keyed_members, rest_length}
-use Rattle.resb_walk.specs.Pieces.{Piece, Holds, HoldsMember, HoldsEach, HoldsPairs}
+use Rattle.resb_walk.specs.Pieces.{Piece, Holds, HoldsMember, HoldsEach, HoldsEachEntry}
 use Rattle.resb_walk.specs.Sums.{AddsUp, resource_count_in, count_of}
 use Rattle.resb_walk.specs.declared.count.Inner.{Inner}
 use Rattle.resb_walk.specs.declared.count.Outer.{Outer}
@@ -19,7 +19,7 @@ use Rattle.resb_walk.specs.declared.sums.Sums.{Sums}
 module _ (p : Parts) where
   abbrev pub RestHolds : Rest → List Piece → Type 0
   RestHolds (rest.List ms) xs = HoldsEach p (members_of ms) xs
-  RestHolds (rest.Table es) xs = HoldsPairs p (keyed_members es) xs
+  RestHolds (rest.Table es) xs = HoldsEachEntry p (keyed_members es) xs
 
   abbrev pub IsEndOf : Rest → ℕ → Type 0
   IsEndOf (rest.List ms) w =

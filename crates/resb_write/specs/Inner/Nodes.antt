@@ -19,13 +19,13 @@ Fits is (r ∷ rs) [] = ⊥
 Fits is (r ∷ rs) (t ∷ ts) = is r t × Fits is rs ts
 
 -- an array of so many members
-pub record HasMembers (n : ℕ) (t : Tree) : Type 0 where
+pub record IsArrayOf (n : ℕ) (t : Tree) : Type 0 where
   pub members : Trees
   pub is : t ≡ array members
   pub many : length (array_members members) ≡ n
 
 -- a table of so many entries, whose keys strictly ascend
-pub record HasEntries (n : ℕ) (t : Tree) : Type 0 where
+pub record IsTableOf (n : ℕ) (t : Tree) : Type 0 where
   pub entries : Entries
   pub is : t ≡ table entries
   pub many : length (values_of entries) ≡ n
@@ -34,8 +34,8 @@ pub record HasEntries (n : ℕ) (t : Tree) : Type 0 where
 -- what is known of a tree by its node
 abbrev pub IsNode : Node → Tree → Type 0
 IsNode (String s) t = t ≡ string s.now
-IsNode (Array n) t = HasMembers n t
-IsNode (Table n) t = HasEntries n t
+IsNode (Array n) t = IsArrayOf n t
+IsNode (Table n) t = IsTableOf n t
 IsNode (Binary bytes) t = t ≡ binary bytes.now
 IsNode (Integer n) t = (t ≡ integer n) × (n < 2 ^ 28)
 IsNode (IntVector ns) t = t ≡ int_vector ns.now

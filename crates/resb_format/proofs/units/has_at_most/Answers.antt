@@ -7,7 +7,7 @@ use Rattle.std.specs.Char.Escape.{encode_utf16}
 use Rattle.std.proofs.lemmas.Bool.{le-leb, lt-leb}
 use Rattle.std.proofs.lemmas.Str.{encodes-chars, cons_from_encodes}
 use Rattle.resb_format.specs.Units.{units}
-use Rattle.resb_format.proofs.TextUnits.{no_chars, unit_count, units_within}
+use Rattle.resb_format.proofs.TextUnits.{empty_encoding, unit_count, units_within}
 use Rattle.resb_format.proofs.units.has_at_most.Goals as goal
 
 pub loop-c-init : goal.loop-c-init
@@ -70,6 +70,6 @@ returns-then-taken-left c =
 pub returns : goal.returns
 returns c =
     let i = c.loop-c.invariant in
-    let z = no_chars i.0 (ap length i.1 ∙ c.in-None.ensures.steps.0.0) in
+    let z = empty_encoding i.0 (ap length i.1 ∙ c.in-None.ensures.steps.0.0) in
     let e : length (flat_map encode_utf16 i.0) ≡ 0 = ap (λ l. length (flat_map encode_utf16 l)) z in
     sym (le-leb (length (units c.args.text.now)) c.args.most (omega (arith, i.2, e)))

@@ -5,7 +5,7 @@ use Rattle.std.specs.Str.Iter.{chars_rest}
 use Rattle.std.specs.List.{flat_map}
 use Rattle.std.specs.Char.Escape.{encode_utf16}
 use Rattle.std.proofs.lemmas.Str.{encodes-chars, cons_from_encodes}
-use Rattle.resb_format.proofs.TextUnits.{no_chars, unit_count, units_le, units_ascii}
+use Rattle.resb_format.proofs.TextUnits.{empty_encoding, unit_count, units_le, units_ascii}
 use Rattle.resb_format.proofs.units.utf16_len.Goals as goal
 
 pub loop-c-init : goal.loop-c-init
@@ -47,7 +47,7 @@ loop-c-preserved c =
 pub returns-clause-count : goal.returns-clause-count
 returns-clause-count c =
     let i = c.loop-c.invariant in
-    let z = no_chars i.0 (ap length i.1 ∙ c.in-None.ensures.steps.0.0) in
+    let z = empty_encoding i.0 (ap length i.1 ∙ c.in-None.ensures.steps.0.0) in
     let e : length (flat_map encode_utf16 i.0) ≡ 0 = ap (λ l. length (flat_map encode_utf16 l)) z in
     omega (arith, i.2, e)
 

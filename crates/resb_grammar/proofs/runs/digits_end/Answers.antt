@@ -1,7 +1,7 @@
 use Rattle.std.proofs.Common.{rules}
 use Rattle.resb_grammar.specs.ByteRuns.{is_digit}
 use Rattle.resb_grammar.proofs.ByteRunsLemmas.{each_more}
-use Rattle.resb_grammar.proofs.ReaderLemmas.{decimal_more}
+use Rattle.resb_grammar.proofs.BothReaders.{decimal_more}
 use Rattle.resb_grammar.proofs.runs.digits_end.Goals as goal
 
 pub loop-at-preserved : goal.loop-at-preserved

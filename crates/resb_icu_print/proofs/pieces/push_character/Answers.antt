@@ -2,7 +2,7 @@ use Rattle.std.proofs.Common.{◌≡◌, ◌∙◌, ◌++◌, false, sym, ap, en
 use Rattle.std.specs.Prelude.{◌==◌}
 use Rattle.std.specs.String.{string_bytes}
 use Rattle.std.proofs.lemmas.Bool.{or_from}
-use Rattle.resb_print.proofs.Steps.{writes_bytes}
+use Rattle.resb_print.proofs.Lists.{writes_bytes}
 use Rattle.resb_icu_print.specs.Printed.{is_marked, is_control}
 use Rattle.resb_icu_print.proofs.Strings.{plain_character, no_control}
 use Rattle.resb_icu_print.proofs.Lists.{unequal_to}

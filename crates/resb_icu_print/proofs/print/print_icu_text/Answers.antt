@@ -9,7 +9,8 @@ use Rattle.resb_icu_print.specs.declared.cause.IcuCause.TheVariants.{NameIsNoWor
 use Rattle.resb_icu_print.specs.declared.error.IcuPrintError.TheVariants.{NotPrintable}
 use Rattle.resb_icu_print.specs.Printed.{is_bare}
 use Rattle.resb_icu_print.specs.Causes.{first_cause, SaysIcuCause}
-use Rattle.resb_icu_print.proofs.Bundles.{written, whole, no_text, root_refused, name_refused}
+use Rattle.resb_icu_print.proofs.Bundles.{bundle_printed, printed_is_whole, no_text}
+use Rattle.resb_icu_print.proofs.Bundles.{root_has_a_cause, name_refused}
 use Rattle.resb_icu_print.proofs.Sizes.{printed_within}
 use Rattle.resb_icu_print.proofs.print.print_icu_text.Goals as goal
 
@@ -40,7 +41,7 @@ returns-in_err-push_lines-clause-none c =
     rw (p.1, p.2)
     (no_text own c.args.bundle.now.is_locale_fallback_enabled (root_of c.args.bundle.now) x
     (subst (λ (t : Tree). SaysIcuCause x (first_cause own t)) (sym r)
-    (root_refused own es x q c.in_err-push_lines.ensures.err)))
+    (root_has_a_cause own es x q c.in_err-push_lines.ensures.err)))
 
 pub returns-clause-text : goal.returns-clause-text
 returns-clause-text c =
@@ -51,12 +52,12 @@ returns-clause-text c =
     let q : is_bare own ≡ true =
     ap is_bare (sym c.name-name.ensures) ∙ sym c.is_bare.ensures ∙ c.if-not-is_bare.false in
     let flag = c.args.bundle.now.is_locale_fallback_enabled in
-    let same = written c.new-out.result c.push_str.new.self c.push_root_type.new.out
+    let same = bundle_printed c.new-out.result c.push_str.new.self c.push_root_type.new.out
     c.push_str-2.new.self c.push_lines.new.out c.push_str-3.new.self c.name-name.result.now own flag
     es c.new-out.ensures.bytes c.in_ok-push_str.ensures.bytes c.in_ok-push_root_type.ensures
     c.in_ok-push_str-2.ensures.bytes c.in_ok-push_lines.ensures.ok c.in_ok-push_str-3.ensures.bytes
     c.name-name.ensures in
-    whole (string_bytes c.push_str-3.new.self) own flag es (root_of c.args.bundle.now)
+    printed_is_whole (string_bytes c.push_str-3.new.self) own flag es (root_of c.args.bundle.now)
     c.push_str-2.new.self c.push_lines.new.out same c.in_ok-push_lines.ensures.ok q r
 
 pub returns-clause-exact : goal.returns-clause-exact
@@ -67,7 +68,7 @@ returns-clause-exact c =
     record {
       entries = es;
       root = sym c.root.ensures.tree ∙ e;
-      is = written c.new-out.result c.push_str.new.self c.push_root_type.new.out
+      is = bundle_printed c.new-out.result c.push_str.new.self c.push_root_type.new.out
           c.push_str-2.new.self c.push_lines.new.out c.push_str-3.new.self c.name-name.result.now
           own c.args.bundle.now.is_locale_fallback_enabled es c.new-out.ensures.bytes
           c.in_ok-push_str.ensures.bytes c.in_ok-push_root_type.ensures
@@ -81,7 +82,7 @@ returns-clause-size c =
     let e : tree_of c.root.result.now ≡ table es = search (rules, the_lemmas) in
     let own = name_of c.args.bundle.now in
     let flag = c.args.bundle.now.is_locale_fallback_enabled in
-    let same = written c.new-out.result c.push_str.new.self c.push_root_type.new.out
+    let same = bundle_printed c.new-out.result c.push_str.new.self c.push_root_type.new.out
     c.push_str-2.new.self c.push_lines.new.out c.push_str-3.new.self c.name-name.result.now own flag
     es c.new-out.ensures.bytes c.in_ok-push_str.ensures.bytes c.in_ok-push_root_type.ensures
     c.in_ok-push_str-2.ensures.bytes c.in_ok-push_lines.ensures.ok c.in_ok-push_str-3.ensures.bytes

@@ -5,7 +5,8 @@ use Rattle.resb_tree.specs.View.{pairs_view}
 use Rattle.resb_print.specs.Printed.{end_on}
 use Rattle.resb_print.specs.declared.task.Task.TheVariants.{Close}
 use Rattle.resb_print.specs.Inner.Jobs.{close_job, entry_jobs, job_of, jobs_in}
-use Rattle.resb_print.proofs.Steps.{many_entries, writes_bytes}
+use Rattle.resb_print.proofs.Steps.{many_entries}
+use Rattle.resb_print.proofs.Lists.{writes_bytes}
 use Rattle.resb_tree.proofs.Numbers.{positive_where_false}
 use Rattle.resb_icu_print.proofs.Steps.{does_table, empty_table}
 use Rattle.resb_icu_print.proofs.step.push_table.Goals as goal

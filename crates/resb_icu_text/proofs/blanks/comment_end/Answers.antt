@@ -2,7 +2,7 @@ use Rattle.std.proofs.lemmas.Option.{IfSome_then}
 use Rattle.resb_icu_text.proofs.BlanksLemmas.{no_line_comment, no_block_comment}
 use Rattle.resb_icu_text.proofs.BlanksLemmas.{block_comment}
 use Rattle.resb_icu_text.proofs.blanks.comment_end.Goals as goal
-use Rattle.resb_grammar.proofs.ReaderLemmas.{if_none}
+use Rattle.resb_grammar.proofs.Lists.{if_none}
 
 pub returns-in-47-clause-none : goal.returns-in-47-clause-none
 returns-in-47-clause-none c =

@@ -6,7 +6,7 @@ use Rattle.resb_icu_text.proofs.TypesLemmas.{not_there, past_end, other_byte, by
 use Rattle.resb_icu_text.proofs.types.stands.Goals.{then-here-all-via-then-here-all}
 use Rattle.resb_icu_text.proofs.types.stands.Goals.{then-here-all-via-else-here-all+then-all-here}
 use Rattle.resb_icu_text.proofs.types.stands.Goals as goal
-use Rattle.resb_grammar.proofs.ReaderLemmas.{stands_next}
+use Rattle.resb_grammar.proofs.BothReaders.{stands_next}
 
 pub returns-then-here-all-clause-stands : goal.returns-then-here-all-clause-stands
 returns-then-here-all-clause-stands c =

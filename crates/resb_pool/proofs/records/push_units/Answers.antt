@@ -6,7 +6,7 @@ use Rattle.std.specs.List.{flat_map}
 use Rattle.std.specs.Char.Escape.{encode_utf16}
 use Rattle.std.proofs.lemmas.Str.{encodes-chars, cons_from_encodes}
 use Rattle.std.proofs.Common.{List, ℕ, OnOk, length, refl, subst}
-use Rattle.resb_format.proofs.TextUnits.{no_chars, units_ascii}
+use Rattle.resb_format.proofs.TextUnits.{empty_encoding, units_ascii}
 use Rattle.resb_pool.proofs.records.push_units.Goals as goal
 
 pub loop-c-init : goal.loop-c-init
@@ -32,7 +32,7 @@ loop-c-preserved c =
 pub returns : goal.returns
 returns c =
     let i = c.loop-c.invariant in
-    let z = no_chars i.0 (ap length i.1 ∙ c.in-None.ensures.steps.0.0) in
+    let z = empty_encoding i.0 (ap length i.1 ∙ c.in-None.ensures.steps.0.0) in
     sym (append-nil c.loop-c.units.items) ∙ ap (λ l. c.loop-c.units.items ++ flat_map encode_utf16
     l) (sym z) ∙ i.2
 

@@ -5,7 +5,7 @@ use Rattle.resb_tree.specs.View.{tree_of, entries_view, items_view, pairs_view}
 use Rattle.resb_tree.specs.declared.resource.Resource.{the_lemmas}
 use Rattle.resb_print.specs.Inner.Looks.{look_of, looks_in, member_look, EntersTree}
 use Rattle.resb_print.specs.declared.path.Visit.TheVariants.{Members}
-use Rattle.resb_print.proofs.Looking.{enters_array, enters_table}
+use Rattle.resb_print.proofs.Looking.{looks_into_array, looks_into_table}
 use Rattle.resb_print.proofs.path.enter.Goals as goal
 
 pub returns-in_ok-push-in-Array : goal.returns-in_ok-push-in-Array
@@ -19,7 +19,7 @@ returns-in_ok-push-in-Array g c =
     ∙ map_push look_of old (Members c.as_slice.result 0) in
     subst (λ (t : Tree). EntersTree g.C.CauseTests.tests (looks_in old)
     (looks_in c.push.new.self.items) t false) (sym e)
-    (enters_array g.C.CauseTests.tests (looks_in old) (looks_in c.push.new.self.items) ts
+    (looks_into_array g.C.CauseTests.tests (looks_in old) (looks_in c.push.new.self.items) ts
     (pushed ∙ ap (λ rs. looks_in old ++ member_look 0 (items_view rs) ∷ [])
     c.as_slice.ensures.value))
 
@@ -31,6 +31,6 @@ returns-in_ok-push_entries-in-Table g c =
     subst (λ (t : Tree). EntersTree g.C.CauseTests.tests (looks_in old)
     (looks_in c.push_entries.new.pending.items) t false)
     (sym e)
-    (enters_table g.C.CauseTests.tests (looks_in old)
+    (looks_into_table g.C.CauseTests.tests (looks_in old)
     (looks_in c.push_entries.new.pending.items) (pairs_view es)
     c.in_ok-push_entries-in-Table.ensures)

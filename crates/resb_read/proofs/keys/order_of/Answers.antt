@@ -1,6 +1,6 @@
 use Rattle.std.proofs.Common.{◌∙◌, ap}
 use Rattle.resb_read.specs.Inner.Naming.{order_ended}
-use Rattle.resb_read.proofs.Naming.{key_ordered, none_past}
+use Rattle.resb_read.proofs.Naming.{key_ordered, no_key_past_end}
 use Rattle.resb_read.proofs.keys.order_of.Goals as goal
 
 pub returns-in-Some : goal.returns-in-Some
@@ -12,4 +12,4 @@ returns-in-Some c t h =
 
 pub returns-in-None : goal.returns-in-None
 returns-in-None c t h =
-    absurd (none_past c.args.file.keys.now c.args.position c.in-None.ensures.parts t h)
+    absurd (no_key_past_end c.args.file.keys.now c.args.position c.in-None.ensures.parts t h)

@@ -1,5 +1,5 @@
 use Rattle.std.proofs.Common.{◌≤◌, ◌/◌, subst, arith}
-use Rattle.resb_read.proofs.Pricing.{whole_fits, front_tells, front_lacks}
+use Rattle.resb_read.proofs.PlainLists.{whole_fits, front_tells, front_lacks}
 use Rattle.resb_read.proofs.keys.zero_within.Goals as goal
 
 pub returns-then-bytes-room : goal.returns-then-bytes-room

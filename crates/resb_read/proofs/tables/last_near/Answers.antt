@@ -1,5 +1,5 @@
 use Rattle.std.proofs.Common.{◌∙◌, sym, arith}
-use Rattle.resb_read.proofs.Backwards.{none_behind, last_unnamed, found}
+use Rattle.resb_read.proofs.Backwards.{none_named_behind, last_unnamed, found}
 use Rattle.resb_read.proofs.tables.last_near.Goals as goal
 
 pub entries-init : goal.entries-init
@@ -7,7 +7,7 @@ entries-init c =
     let h = c.min-left.ensures in (
       omega (arith, h),
       omega (arith, h),
-      none_behind c.args.name.now c.args.file c.args.positions.now c.args.words.now
+      none_named_behind c.args.name.now c.args.file c.args.positions.now c.args.words.now
           c.min-left.result (omega (arith, h)),
     )
 

@@ -1,11 +1,11 @@
 use Rattle.std.proofs.Common.{◌≡◌, ◌+◌, ◌≤◌, arith}
 use Rattle.resb_format.specs.Bytes.{units_of}
 use Rattle.resb_shared.specs.Links.{breaks, break_at}
-use Rattle.resb_shared.proofs.Linked.{none_yet, one_more, at_most_one}
+use Rattle.resb_shared.proofs.Linked.{no_breaks_yet, breaks_one_more, at_most_one}
 use Rattle.resb_shared.proofs.breaks.breaks_in.Goals as goal
 
 pub units-init : goal.units-init
-units-init c = (none_yet (units_of c.args.block.now) c.args.from, omega arith)
+units-init c = (no_breaks_yet (units_of c.args.block.now) c.args.from, omega arith)
 
 pub units-preserved : goal.units-preserved
 units-preserved c =
@@ -14,7 +14,7 @@ units-preserved c =
     let n = c.units.number in
     let found : c.units.found ≡ breaks us i n = c.units.invariant.0 in
     let most : c.units.found ≤ n = c.units.invariant.1 in
-    let more = one_more us i n in
+    let more = breaks_one_more us i n in
     let one : c.break_between-found.result ≡ break_at us (i + n) =
     rw (← c.unit_at-unit.ensures, ← c.unit_at-next.ensures) c.break_between-found.ensures in
     let few = at_most_one us (i + n) in

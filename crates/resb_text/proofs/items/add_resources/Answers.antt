@@ -1,7 +1,7 @@
 use Rattle.std.proofs.Common.{length, ap, arith}
 use Rattle.std.specs.Vec.Iter.{into_iter_items}
 use Rattle.resb_text.specs.Inner.Shown.{seen_in_code, shown_tree, shown_borrowed}
-use Rattle.resb_text.proofs.ShownLemmas.{term_tree_shown, term_borrowed_shown, one_more}
+use Rattle.resb_text.proofs.ShownLemmas.{term_tree_shown, term_borrowed_shown, shown_one_more}
 use Rattle.resb_text.proofs.items.add_resources.Goals as goal
 
 pub loop-item-preserved : goal.loop-item-preserved
@@ -15,9 +15,10 @@ loop-item-preserved c =
     let item = c.in-Some.item in
     let counted = c.tick.ensures in
     record {
-      made = one_more shown_tree seen_in_code _ _ _ left rest item _ steps.0 made.trees
+      made = shown_one_more shown_tree seen_in_code _ _ _ left rest item _ steps.0 made.trees
           (term_tree_shown item.term item.comma) i.made;
-      borrowed = one_more shown_borrowed seen_in_code _ _ _ left rest item _ steps.0 made.borrowed
+      borrowed = shown_one_more shown_borrowed seen_in_code _ _ _ left rest item _ steps.0
+          made.borrowed
           (term_borrowed_shown item.term item.comma) i.borrowed;
       count = omega (arith, counted, i.count, one);
     }

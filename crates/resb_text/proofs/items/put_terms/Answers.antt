@@ -7,7 +7,7 @@ use Rattle.resb_tree.specs.Tree.{put_all}
 use Rattle.resb_tree.specs.Borrowing.{all_true}
 use Rattle.resb_text.specs.Inner.Shown.{seen_in_code, pairs_after, shown_pairs, shown_borrowed}
 use Rattle.resb_text.specs.Inner.Shown.{waiting_key}
-use Rattle.resb_text.proofs.ShownLemmas.{none_left, term_borrowed_shown}
+use Rattle.resb_text.proofs.ShownLemmas.{nothing_more_is_put, term_borrowed_shown}
 use Rattle.resb_text.proofs.items.put_terms.Goals as goal
 
 pub returns-clause-ok : goal.returns-clause-ok
@@ -15,7 +15,7 @@ returns-clause-ok c =
     let left : put_all (entries_view c.loop-item.table.entries)
     (pairs_after (waiting_key c.loop-item.waiting) (map seen_in_code
     (into_iter_items c.loop-item.item-iterator))) ≡ entries_view c.loop-item.table.entries
-    = none_left (waiting_key c.loop-item.waiting)
+    = nothing_more_is_put (waiting_key c.loop-item.waiting)
     (into_iter_items c.loop-item.item-iterator) (entries_view c.loop-item.table.entries)
     (let ok = c.loop-item.item-iterator.rest.ok in
     omega (arith, ok, c.in-None.ensures.steps.0)) in

@@ -1,6 +1,6 @@
 use Rattle.std.proofs.Common.{arith}
 use Rattle.std.proofs.lemmas.Bool.{eqb-true, eq-eqb}
-use Rattle.resb_text.proofs.TokensLemmas.{byte_found, byte_missing}
+use Rattle.resb_text.proofs.LexicalLemmas.{byte_found, byte_missing}
 use Rattle.resb_text.proofs.scan.find.Goals as goal
 use Rattle.resb_text.proofs.Lists.{rest_of}
 

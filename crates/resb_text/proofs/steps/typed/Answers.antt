@@ -3,7 +3,8 @@ use Rattle.std.proofs.Common.{arith}
 use Rattle.std.proofs.Common.{refl, sym, ◌∙◌, ap, ◌+◌}
 use Rattle.std.proofs.lemmas.Result.{err_from_is_err_and}
 use Rattle.resb_grammar.specs.Ascii as ascii
-use Rattle.resb_text.proofs.TypedGroups.{may_stand, type_refused, head_refused, group_opened}
+use Rattle.resb_text.proofs.TypedGroups.{may_stand, type_refused, opening_refused}
+use Rattle.resb_text.proofs.TypedGroups.{typed_group_opened}
 use Rattle.resb_text.proofs.TypedGroups.{opened_over, leaf_refused, leaf_added, leaf_over}
 use Rattle.resb_text.proofs.TypedGroups.{leaf_is_leaf}
 use Rattle.resb_text.proofs.QuotaLemmas.{quota_kept}
@@ -27,7 +28,7 @@ returns-in_err-first-clause-err g c =
       p.1,
       p.2,
     )
-    (head_refused c.args.text.now c.args.groups.now c.args.at _ c.requires.among may
+    (opening_refused c.args.text.now c.args.groups.now c.args.at _ c.requires.among may
     c.in_err-first.ensures.err)
 
 pub returns-in_err-take-clause-quota : goal.returns-in_err-take-clause-quota
@@ -62,7 +63,7 @@ returns-in-Some-clause-ok g c =
     let may = may_stand c.args.text.now c.args.groups.now c.args.at
     c.is_key_place-key_place.result c.takes_group.result c.requires.among
     c.is_key_place-key_place.ensures c.takes_group.ensures c.if-not-takes_group.false in
-    group_opened c.args.text.now _ c.args.groups.now _ c.args.at c.in_ok-first.first _ _
+    typed_group_opened c.args.text.now _ c.args.groups.now _ c.args.at c.in_ok-first.first _ _
     c.requires.among may c.in_ok-first.ensures.ok c.in-Some.ensures.some
     c.in_ok-open.ensures.shows c.in_ok-take.ensures.made
 

@@ -1,7 +1,7 @@
-use Rattle.resb_grammar.proofs.ByteRunsLemmas.{nonzero_inside}
+use Rattle.resb_grammar.proofs.Lists.{nonzero_inside}
 use Rattle.resb_text.proofs.ReachLemmas.{reach_slash, reach_here}
 use Rattle.std.proofs.Common.{arith}
-use Rattle.resb_text.proofs.TokensLemmas.{comment_more, skip_ends, slash_black, no_comment_at}
+use Rattle.resb_text.proofs.LexicalLemmas.{comment_more, skip_ends, slash_black, no_comment_at}
 use Rattle.resb_text.proofs.tokens.skip_comments.Goals as goal
 
 pub comments-preserved : goal.comments-preserved

@@ -11,11 +11,11 @@ pub returns-in-Array : goal.returns-in-Array
 returns-in-Array c =
     let e : tree_of c.args.resource.now ≡ array (items_view c.in-Array.items.items) =
     search (rules, the_lemmas) in
-    on_ok_weaker c.push_items.result (λ h. h
+    on_ok_weaker c.push_members.result (λ h. h
     ∙ ap (λ l. trees_in c.args.pending.now.items ++ map tree_of l) c.deref.ensures.value
     ∙ ap (λ l. trees_in c.args.pending.now.items ++ l)
     (sym (members-trees_of (map tree_of c.in-Array.items.items)))
-    ∙ ap (λ t. trees_in c.args.pending.now.items ++ children t) (sym e)) c.push_items.ensures
+    ∙ ap (λ t. trees_in c.args.pending.now.items ++ children t) (sym e)) c.push_members.ensures
 
 pub returns-in-Table : goal.returns-in-Table
 returns-in-Table c =

@@ -2,13 +2,13 @@ use Rattle.std.proofs.Common.{◌≡◌, ◌∙◌, ◌++◌, [], ◌∷◌, rev
 use Rattle.std.specs.List.{flat_map}
 use Rattle.resb_tree.specs.View.{tree_of}
 use Rattle.resb_tree.specs.LayingOrder.{laying_order, trees_in}
-use Rattle.resb_tree.proofs.LayingOrderLemmas.{trees-push, replaced, replaced_counts}
+use Rattle.resb_tree.proofs.LayingOrderLemmas.{trees_in-push, replaced, replaced_counts}
 use Rattle.std.proofs.lemmas.List.{nil_from_length}
 use Rattle.resb_tree.proofs.laying_order.push_laid.Goals as goal
 
 pub loop-resource-init : goal.loop-resource-init
 loop-resource-init c =
-    let e = trees-push c.new-pending.result.items c.push.new.self.items c.args.root
+    let e = trees_in-push c.new-pending.result.items c.push.new.self.items c.args.root
     c.in_ok-push.ensures.items ∙ ap (λ l. trees_in l ++ tree_of c.args.root.now ∷ [])
     c.new-pending.ensures.items in
     (λ i. flat_map laying_order (e i) ++ reverse (trees_in (c.requires i)))
@@ -19,7 +19,7 @@ pub loop-resource-smaller : goal.loop-resource-smaller
 loop-resource-smaller c =
     replaced_counts (trees_in c.pop.new.self.items) (trees_in c.loop-resource.pending.items)
     (trees_in c.push_children.new.pending.items) (tree_of c.in-Some.resource.now)
-    (trees-push c.pop.new.self.items c.loop-resource.pending.items c.in-Some.resource
+    (trees_in-push c.pop.new.self.items c.loop-resource.pending.items c.in-Some.resource
     c.in-Some.ensures.items) c.in_ok-push_children.ensures
 
 pub loop-resource-preserved : goal.loop-resource-preserved
@@ -28,9 +28,9 @@ loop-resource-preserved c =
     (trees_in c.push_children.new.pending.items) (trees_in c.loop-resource.order.items)
     (trees_in c.push-in-Some.new.self.items) (tree_of c.in-Some.resource.now)
     (laying_order (tree_of c.args.root.now))
-    (trees-push c.pop.new.self.items c.loop-resource.pending.items c.in-Some.resource
+    (trees_in-push c.pop.new.self.items c.loop-resource.pending.items c.in-Some.resource
     c.in-Some.ensures.items) c.in_ok-push_children.ensures
-    (trees-push c.loop-resource.order.items c.push-in-Some.new.self.items c.in-Some.resource
+    (trees_in-push c.loop-resource.order.items c.push-in-Some.new.self.items c.in-Some.resource
     c.in_ok-push-2.ensures.items) c.loop-resource.invariant
 
 pub returns : goal.returns

@@ -8,9 +8,10 @@ use Rattle.resb_walk.specs.Inner.Members.{member_of}
 use Rattle.resb_walk.specs.Meets.{Meets, Blames}
 use Rattle.resb_walk.specs.declared.count.Inner.{Inner}
 use Rattle.resb_walk.proofs.Lift.{word_refused}
-use Rattle.resb_walk.proofs.Paths.{round_first, round_falls, round_taken}
-use Rattle.resb_walk.proofs.Paths.{round_refused, round_enters, enters_falls, round_last}
-use Rattle.resb_walk.proofs.Paths.{round_outer, round_closes, round_meets, awaits_meets}
+use Rattle.resb_walk.proofs.Paths.{counting_first, counting_falls, counting_taken}
+use Rattle.resb_walk.proofs.Paths.{counting_refused, counting_enters, counting_enters_falls}
+use Rattle.resb_walk.proofs.Paths.{counting_last}
+use Rattle.resb_walk.proofs.Paths.{counting_outer, counting_closes, counting_meets, awaits_meets}
 use Rattle.resb_walk.proofs.count.count_word.Goals as goal
 
 pub returns-in_err-inner-clause-answers : goal.returns-in_err-inner-clause-answers
@@ -33,7 +34,7 @@ rounds-init c =
     (word c.args.word) c.args.walk.now c.begin.new.walk
     (Ok (Some c.in-Some.inner))) c.new-checker.ensures all in (
       c.in_ok-inner.ensures.file ∙ c.new-checker.ensures,
-      round_first p c.args.word c.args.walk.now c.begin.new.walk c.in-Some.inner
+      counting_first p c.args.word c.args.walk.now c.begin.new.walk c.in-Some.inner
           c.new-outer.result.items c.new-outer.ensures.items h.0 h.1 h.2,
     )
 
@@ -47,9 +48,9 @@ returns-in_err-member-clause-answers c =
     → TakesNext (parts_in f) w n (Err c.in_err-member.field-0.0)) i.0
     c.in_err-member.ensures.takes in
     rw (e.1, e.2) (
-      round_falls p c.args.word c.args.walk.now c.rounds.outer.items c.rounds.inner c.rounds.walk
+      counting_falls p c.args.word c.args.walk.now c.rounds.outer.items c.rounds.inner c.rounds.walk
           i.1,
-      round_taken p c.args.word c.args.walk.now c.rounds.outer.items c.rounds.inner c.rounds.walk
+      counting_taken p c.args.word c.args.walk.now c.rounds.outer.items c.rounds.inner c.rounds.walk
           i.1 c.in_err-member.field-0.0 (taken c.rounds.inner.word i.1.inner i.1.opened),
     )
 
@@ -62,7 +63,7 @@ returns-in_err-member-clause-meets c =
     let met = subst (λ f. (w n : ℕ) → IsOpenedAt (parts_in f) c.rounds.inner.rest w n
     → Blames (Meets (parts_in f) (word w)) c.in_err-member.field-0.0) i.0
     c.in_err-member.ensures.meets in
-    rw (e.1, e.2) (λ f. round_meets p c.args.word c.args.walk.now c.rounds.outer.items
+    rw (e.1, e.2) (λ f. counting_meets p c.args.word c.args.walk.now c.rounds.outer.items
     c.rounds.inner c.rounds.walk i.1 _ (met c.rounds.inner.word i.1.inner i.1.opened f))
 
 pub returns-in_err-inner-in-Some-2-clause-answers :
@@ -88,11 +89,11 @@ returns-in_err-inner-in-Some-2-clause-answers c =
     c.in_err-inner-in-Some-2.ensures.enters in
     let h = entered i.1.inner awaits in
     let le : c.enter.new.walk ≤ c.rounds.walk = h.0 in
-    let falls : c.rounds.walk ≤ c.args.walk.now = round_falls p c.args.word c.args.walk.now
+    let falls : c.rounds.walk ≤ c.args.walk.now = counting_falls p c.args.word c.args.walk.now
     c.rounds.outer.items c.rounds.inner c.rounds.walk i.1 in
     rw (e.1, e.2) (
       omega arith,
-      round_refused p c.args.word c.args.walk.now c.rounds.outer.items c.rounds.inner
+      counting_refused p c.args.word c.args.walk.now c.rounds.outer.items c.rounds.inner
           c.rounds.walk i.1 k.rest m c.in_err-inner-in-Some-2.field-0.0 awaits h.1,
     )
 
@@ -113,7 +114,7 @@ returns-in_err-inner-in-Some-2-clause-meets c =
     let awaits = taken c.rounds.inner.word i.1.inner i.1.opened in
     let met = subst (λ f. Blames (Meets (parts_in f) m) c.in_err-inner-in-Some-2.field-0.0) same
     c.in_err-inner-in-Some-2.ensures.meets in
-    rw (e.1, e.2) (λ f. round_meets p c.args.word c.args.walk.now c.rounds.outer.items
+    rw (e.1, e.2) (λ f. counting_meets p c.args.word c.args.walk.now c.rounds.outer.items
     c.rounds.inner c.rounds.walk i.1 _ (awaits_meets p c.in-Some-2.rest c.rounds.inner.word
     i.1.inner m _ awaits (met f)))
 
@@ -128,7 +129,7 @@ again-requires c =
     let taken = subst (λ f. (w n : ℕ) → IsOpenedAt (parts_in f) c.rounds.inner.rest w n
     → TakesNext (parts_in f) w n (Ok None)) i.0 all in
     let t = taken c.rounds.inner.word i.1.inner i.1.opened in
-    (round_outer p c.args.word c.args.walk.now c.rounds.outer.items c.rounds.inner c.rounds.walk
+    (counting_outer p c.args.word c.args.walk.now c.rounds.outer.items c.rounds.inner c.rounds.walk
     i.1 c.in-Some-pop.waiting c.pop.new.self.items t.0 c.in-Some-pop.ensures.items t.1).2
 
 pub returns-in-None-pop-clause-answers : goal.returns-in-None-pop-clause-answers
@@ -143,7 +144,7 @@ returns-in-None-pop-clause-answers c =
     → TakesNext (parts_in f) w n (Ok None)) i.0 all in
     let t = taken c.rounds.inner.word i.1.inner i.1.opened in
     let empty : c.rounds.outer.items ≡ [] = grind (arith, c.in-None-pop.ensures.cases) in
-    let r = round_last p c.args.word c.args.walk.now c.rounds.outer.items c.rounds.inner
+    let r = counting_last p c.args.word c.args.walk.now c.rounds.outer.items c.rounds.inner
     c.rounds.walk i.1 t.0 empty t.1 in
     (t.0, r.0, r.1, tt, r.2)
 
@@ -165,7 +166,7 @@ rounds-smaller-in_ok-inner-in-Some-2 c =
     → EnteredMember (parts_in f) k m n c.rounds.outer.items c.enter.new.outer.items c.rounds.walk
     c.enter.new.walk (Ok c.in_ok-inner-in-Some-2.inner)) same
     c.in_ok-inner-in-Some-2.ensures.enters in
-    enters_falls p k c.in_ok-inner-in-Some-2.inner m i.1.inner c.rounds.outer.items
+    counting_enters_falls p k c.in_ok-inner-in-Some-2.inner m i.1.inner c.rounds.outer.items
     c.enter.new.outer.items c.rounds.walk c.enter.new.walk (entered i.1.inner awaits)
 
 pub rounds-preserved-in_ok-inner-in-Some-2 : goal.rounds-preserved-in_ok-inner-in-Some-2
@@ -187,7 +188,7 @@ rounds-preserved-in_ok-inner-in-Some-2 c =
     c.enter.new.walk (Ok c.in_ok-inner-in-Some-2.inner)) same
     c.in_ok-inner-in-Some-2.ensures.enters in (
       c.in_ok-inner-in-Some-2.ensures.file ∙ same,
-      round_enters p c.args.word c.args.walk.now c.rounds.outer.items c.rounds.inner
+      counting_enters p c.args.word c.args.walk.now c.rounds.outer.items c.rounds.inner
           c.rounds.walk i.1 k c.in_ok-inner-in-Some-2.inner m c.enter.new.outer.items
           c.enter.new.walk refl awaits (entered i.1.inner awaits),
     )
@@ -205,7 +206,7 @@ rounds-preserved c =
     let t = taken c.rounds.inner.word i.1.inner i.1.opened in
     let next : Inner = record { word = c.in-Some-pop.waiting.word; rest = c.again.result } in (
       c.in_ok-member.ensures.file ∙ i.0,
-      round_closes p c.args.word c.args.walk.now c.rounds.outer.items c.rounds.inner
+      counting_closes p c.args.word c.args.walk.now c.rounds.outer.items c.rounds.inner
           c.rounds.walk i.1 c.in-Some-pop.waiting c.pop.new.self.items next t.0
           c.in-Some-pop.ensures.items t.1 refl c.again.ensures,
     )

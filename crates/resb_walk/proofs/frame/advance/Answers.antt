@@ -2,14 +2,14 @@ use Rattle.std.proofs.Common.{inr}
 use Rattle.resb_tree.specs.Tree.{array, table, trees_of, map_of}
 use Rattle.resb_format.specs.Parts.{parts_in}
 use Rattle.resb_walk.proofs.Meeting.{table_meets}
-use Rattle.resb_walk.proofs.Waits.{list_ends, table_ends, table_no_key}
+use Rattle.resb_walk.proofs.Waits.{waiting_list_ends, waiting_table_ends, table_no_key}
 use Rattle.resb_walk.proofs.frame.advance.Goals as goal
 
 pub returns-in-None-clause-steps : goal.returns-in-None-clause-steps
 returns-in-None-clause-steps g c = λ w n h.
     let o = rw c.in-List.is at h in (
       array (trees_of o.trees),
-      list_ends g.M.Make.lists g.M.Make.tables
+      waiting_list_ends g.M.Make.lists g.M.Make.tables
           (parts_in c.args.file) c.in-List.rest c.in-List.made w n o c.in-None.ensures,
       c.end_list.ensures o.trees o.is_made,
     )
@@ -28,7 +28,7 @@ pub returns-in_ok-end_table-in-None-split-clause-steps : goal.returns-in_ok-end_
 returns-in_ok-end_table-in-None-split-clause-steps g c = λ w n h.
     let o = rw c.in-Table.is at h in (
       table (map_of o.entries),
-      table_ends g.M.Make.lists g.M.Make.tables
+      waiting_table_ends g.M.Make.lists g.M.Make.tables
           (parts_in c.args.file) c.in-Table.rest c.in-Table.made w n o c.in-None-split.ensures,
       c.in_ok-end_table-in-None-split.ensures o.entries o.is_made,
     )

@@ -1,7 +1,7 @@
 use Rattle.std.proofs.Common.{length, arith, ap}
 use Rattle.std.specs.Prelude.{encode_utf8_all}
 use Rattle.resb_format.proofs.Spelled.{units_length}
-use Rattle.resb_walk.proofs.Surrogates.{no_chars}
+use Rattle.resb_walk.proofs.Surrogates.{no_units_no_chars}
 use Rattle.resb_walk.proofs.units.text_len.Goals as goal
 
 pub overflow_add-len : goal.overflow_add-len
@@ -14,5 +14,5 @@ overflow_add-len c =
 
 pub returns : goal.returns
 returns c =
-    let none = ap (λ us. length (encode_utf8_all us)) (no_chars _ c.in_default.ensures) in
+    let none = ap (λ us. length (encode_utf8_all us)) (no_units_no_chars _ c.in_default.ensures) in
     omega (arith, c.chars.invariant.0, none)

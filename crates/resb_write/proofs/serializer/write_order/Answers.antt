@@ -15,7 +15,7 @@ use Rattle.resb_layout.specs.Written.{Written, even}
 use Rattle.resb_write.specs.Inner.Files.{file_of}
 use Rattle.resb_write.proofs.Room.{units_room, bytes_room, used_room, length-padded, pool_room}
 use Rattle.resb_write.proofs.Known.{near_offsets}
-use Rattle.resb_write.proofs.Blocks.{walk_long}
+use Rattle.resb_write.proofs.Blocks.{laying_order_long}
 use Rattle.resb_write.proofs.FilesLemmas.{largest_room, Made, written}
 use Rattle.resb_write.proofs.Refusals.{key_refused, size_refused, plan_refused}
 use Rattle.resb_write.proofs.serializer.write_order.Goals as goal
@@ -125,7 +125,7 @@ lay_bodies-requires-clause-tree g c =
       t,
       r.1,
       record {
-        units = omega (arith, pool, same, units_room (laying_order t), walk_long t, small);
+        units = omega (arith, pool, same, units_room (laying_order t), laying_order_long t, small);
         bytes = omega (
           arith,
           pool,

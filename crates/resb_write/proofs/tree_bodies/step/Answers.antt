@@ -6,7 +6,7 @@ use Rattle.resb_tree.specs.LayingOrder.{children}
 use Rattle.resb_write.specs.Inner.StackSteps.{LaysNext}
 use Rattle.resb_write.specs.Inner.Room.{laid_of, own_size, GivesInTurn}
 use Rattle.resb_write.specs.Inner.Seen.{HasRoom, TakesNoMore}
-use Rattle.resb_write.specs.Inner.Nodes.{IsNode, HasMembers, HasEntries}
+use Rattle.resb_write.specs.Inner.Nodes.{IsNode, IsArrayOf, IsTableOf}
 use Rattle.resb_write.proofs.KeyViews.{keys_values}
 use Rattle.resb_write.proofs.Numbers.{string_left, string_known, behind_string, behind_table}
 use Rattle.resb_write.proofs.Numbers.{table_known, table_left}
@@ -68,19 +68,19 @@ returns-in-String-clause-takes c =
 pub step_array-requires-clause-room : goal.step_array-requires-clause-room
 step_array-requires-clause-room c =
     let r = c.requires in
-    let a : HasMembers c.in-Array.count r.0 = subst (λ m. IsNode m r.0) c.in-Array.is r.1 in
+    let a : IsArrayOf c.in-Array.count r.0 = subst (λ m. IsNode m r.0) c.in-Array.is r.1 in
     subst (HasRoom c.args.base c.args.bodies.now) (ap own_size a.is ∙ a.many) r.2
 
 pub step_array-requires-clause-enough : goal.step_array-requires-clause-enough
 step_array-requires-clause-enough c =
     let r = c.requires in
-    let a : HasMembers c.in-Array.count r.0 = subst (λ m. IsNode m r.0) c.in-Array.is r.1 in
+    let a : IsArrayOf c.in-Array.count r.0 = subst (λ m. IsNode m r.0) c.in-Array.is r.1 in
     omega (arith, r.3, ap (λ u. length (children u)) a.is, a.many)
 
 pub returns-in-Array-clause-step : goal.returns-in-Array-clause-step
 returns-in-Array-clause-step c =
     on_ok_weaker c.step_array.result (λ h given at t rest is n.
-    let a : HasMembers c.in-Array.count t = subst (λ m. IsNode m t) c.in-Array.is is in
+    let a : IsArrayOf c.in-Array.count t = subst (λ m. IsNode m t) c.in-Array.is is in
     subst (λ u. LaysNext given (laid_of c.args.bodies.now) c.args.words.now.items u
     (laid_of c.step_array.new.bodies) c.step_array.new.words.items) (sym a.is)
     (h given at a.members a.many)) c.step_array.ensures.step
@@ -90,21 +90,21 @@ returns-in-Array-clause-left c =
     let ps = c.args.coming.now.positions.now in
     let os = c.args.coming.now.offsets.now in
     on_ok_weaker c.step_array.result (λ h given t rest is n.
-    let a : HasMembers c.in-Array.count t = subst (λ m. IsNode m t) c.in-Array.is is in
+    let a : IsArrayOf c.in-Array.count t = subst (λ m. IsNode m t) c.in-Array.is is in
     let k = subst (λ u. GivesInTurn given ps os (u ∷ rest)) a.is n in
     record { keys = k.keys; texts = k.texts; near = k.near }) c.step_array.ensures.step
 
 pub returns-in-Array-clause-takes : goal.returns-in-Array-clause-takes
 returns-in-Array-clause-takes c =
     on_ok_weaker c.step_array.result (λ h t is.
-    let a : HasMembers c.in-Array.count t = subst (λ m. IsNode m t) c.in-Array.is is in
+    let a : IsArrayOf c.in-Array.count t = subst (λ m. IsNode m t) c.in-Array.is is in
     subst (TakesNoMore c.args.base c.args.bodies.now c.step_array.new.bodies)
     (sym (ap own_size a.is ∙ a.many)) h) c.step_array.ensures.takes
 
 pub take_positions-positions-requires : goal.take_positions-positions-requires
 take_positions-positions-requires c =
     let r = c.requires in
-    let a : HasEntries c.in-Table.count r.0 = subst (λ m. IsNode m r.0) c.in-Table.is r.1 in
+    let a : IsTableOf c.in-Table.count r.0 = subst (λ m. IsNode m r.0) c.in-Table.is r.1 in
     let ps = c.args.coming.now.positions.now in
     let os = c.args.coming.now.offsets.now in
     (behind_table r.4 ps os a.entries r.5 c.in-Table.count (keys_values a.entries ∙ a.many)
@@ -113,7 +113,7 @@ take_positions-positions-requires c =
 pub step_table-requires-clause-room : goal.step_table-requires-clause-room
 step_table-requires-clause-room c =
     let r = c.requires in
-    let b : HasEntries c.in-Table.count r.0 = subst (λ m. IsNode m r.0) c.in-Table.is r.1 in
+    let b : IsTableOf c.in-Table.count r.0 = subst (λ m. IsNode m r.0) c.in-Table.is r.1 in
     let ps = c.args.coming.now.positions.now in
     let os = c.args.coming.now.offsets.now in
     let enough = (behind_table r.4 ps os b.entries r.5 c.in-Table.count
@@ -130,7 +130,7 @@ step_table-requires-clause-room c =
 pub step_table-requires-clause-enough : goal.step_table-requires-clause-enough
 step_table-requires-clause-enough c =
     let r = c.requires in
-    let b : HasEntries c.in-Table.count r.0 = subst (λ m. IsNode m r.0) c.in-Table.is r.1 in
+    let b : IsTableOf c.in-Table.count r.0 = subst (λ m. IsNode m r.0) c.in-Table.is r.1 in
     let ps = c.args.coming.now.positions.now in
     let os = c.args.coming.now.offsets.now in
     let enough = (behind_table r.4 ps os b.entries r.5 c.in-Table.count
@@ -147,7 +147,7 @@ step_table-requires-clause-enough c =
 pub returns-in-Table-clause-step : goal.returns-in-Table-clause-step
 returns-in-Table-clause-step c =
     let r = c.requires in
-    let b : HasEntries c.in-Table.count r.0 = subst (λ m. IsNode m r.0) c.in-Table.is r.1 in
+    let b : IsTableOf c.in-Table.count r.0 = subst (λ m. IsNode m r.0) c.in-Table.is r.1 in
     let ps = c.args.coming.now.positions.now in
     let os = c.args.coming.now.offsets.now in
     let enough = (behind_table r.4 ps os b.entries r.5 c.in-Table.count
@@ -160,7 +160,7 @@ returns-in-Table-clause-step c =
       length-take c.in-Table.count ps,
     ) in
     on_ok_weaker c.step_table.result (λ h given at t rest is n.
-    let a : HasEntries c.in-Table.count t = subst (λ m. IsNode m t) c.in-Table.is is in
+    let a : IsTableOf c.in-Table.count t = subst (λ m. IsNode m t) c.in-Table.is is in
     let es = a.entries in
     subst (λ u. LaysNext given (laid_of c.args.bodies.now) c.args.words.now.items u
     (laid_of c.step_table.new.bodies) c.step_table.new.words.items) (sym a.is)
@@ -176,7 +176,7 @@ returns-in-Table-clause-left c =
     let ps = c.args.coming.now.positions.now in
     let os = c.args.coming.now.offsets.now in
     on_ok_weaker c.step_table.result (λ h given t rest is n.
-    let a : HasEntries c.in-Table.count t = subst (λ m. IsNode m t) c.in-Table.is is in
+    let a : IsTableOf c.in-Table.count t = subst (λ m. IsNode m t) c.in-Table.is is in
     let es = a.entries in
     table_left given ps os es rest c.in-Table.count (keys_values es ∙ a.many)
     c.take_positions-positions.new.self.positions.now
@@ -187,7 +187,7 @@ returns-in-Table-clause-left c =
 pub returns-in-Table-clause-takes : goal.returns-in-Table-clause-takes
 returns-in-Table-clause-takes c =
     let r = c.requires in
-    let b : HasEntries c.in-Table.count r.0 = subst (λ m. IsNode m r.0) c.in-Table.is r.1 in
+    let b : IsTableOf c.in-Table.count r.0 = subst (λ m. IsNode m r.0) c.in-Table.is r.1 in
     let ps = c.args.coming.now.positions.now in
     let os = c.args.coming.now.offsets.now in
     let enough = (behind_table r.4 ps os b.entries r.5 c.in-Table.count
@@ -200,7 +200,7 @@ returns-in-Table-clause-takes c =
       length-take c.in-Table.count ps,
     ) in
     on_ok_weaker c.step_table.result (λ h t is.
-    let a : HasEntries c.in-Table.count t = subst (λ m. IsNode m t) c.in-Table.is is in
+    let a : IsTableOf c.in-Table.count t = subst (λ m. IsNode m t) c.in-Table.is is in
     subst (TakesNoMore c.args.base c.args.bodies.now c.step_table.new.bodies)
     (long ∙ sym a.many ∙ sym (ap own_size a.is)) h) c.step_table.ensures.takes
 

@@ -5,7 +5,7 @@ use Rattle.resb_tree.specs.Tree.{string, binary, integer, int_vector}
 use Rattle.resb_tree.specs.LayingOrder.{children, entry_keys}
 use Rattle.resb_write.specs.Inner.Room.{GivesInTurn}
 use Rattle.resb_write.specs.Inner.Counted.{is_near, CountsOne}
-use Rattle.resb_write.specs.Inner.Nodes.{IsNode, HasMembers, HasEntries}
+use Rattle.resb_write.specs.Inner.Nodes.{IsNode, IsArrayOf, IsTableOf}
 use Rattle.resb_write.proofs.KeyViews.{keys_values}
 use Rattle.resb_write.proofs.Numbers.{behind_table}
 use Rattle.resb_write.proofs.Marks.{string_one, other_one, array_one, table_one}
@@ -14,13 +14,13 @@ use Rattle.resb_write.proofs.unit_count.count_own.Goals as goal
 pub count_array-requires : goal.count_array-requires
 count_array-requires c =
     let r = c.requires in
-    let a : HasMembers c.in-Array.count r.0 = subst (λ m. IsNode m r.0) c.in-Array.is r.1 in
+    let a : IsArrayOf c.in-Array.count r.0 = subst (λ m. IsNode m r.0) c.in-Array.is r.1 in
     omega (arith, r.2, ap (λ u. length (children u)) a.is, a.many)
 
 pub take_positions-requires : goal.take_positions-requires
 take_positions-requires c =
     let r = c.requires in
-    let a : HasEntries c.in-Table.count r.0 = subst (λ m. IsNode m r.0) c.in-Table.is r.1 in
+    let a : IsTableOf c.in-Table.count r.0 = subst (λ m. IsNode m r.0) c.in-Table.is r.1 in
     let ps = c.args.coming.now.positions.now in
     let os = c.args.coming.now.offsets.now in
     (behind_table r.3 ps os a.entries r.4 c.in-Table.count (keys_values a.entries ∙ a.many)
@@ -29,7 +29,7 @@ take_positions-requires c =
 pub count_table-requires : goal.count_table-requires
 count_table-requires c =
     let r = c.requires in
-    let a : HasEntries c.in-Table.count r.0 = subst (λ m. IsNode m r.0) c.in-Table.is r.1 in
+    let a : IsTableOf c.in-Table.count r.0 = subst (λ m. IsNode m r.0) c.in-Table.is r.1 in
     omega (
       arith,
       r.2,
@@ -65,7 +65,7 @@ returns-in-Array c =
     let out = c.count_array.new.marks.items in
     record {
       counts = IfOk-weaker c.count_array.result _ _ (λ n h given t rest below is m are.
-          let a : HasMembers c.in-Array.count t = subst (λ k. IsNode k t) c.in-Array.is is in
+          let a : IsArrayOf c.in-Array.count t = subst (λ k. IsNode k t) c.in-Array.is is in
           let k = subst (λ u. GivesInTurn given ps os (u ∷ rest)) a.is m in
           subst (λ u. CountsOne given u rest below n c.args.coming.now out) (sym a.is)
           (array_one given rest below ps os c.args.coming.now ms out n a.members c.in-Array.count
@@ -84,7 +84,7 @@ returns-in-Table c =
     let new = c.take_positions.new.self in
     let out = c.count_table.new.marks.items in
     let r = c.requires in
-    let b : HasEntries k r.0 = subst (λ m. IsNode m r.0) c.in-Table.is r.1 in
+    let b : IsTableOf k r.0 = subst (λ m. IsNode m r.0) c.in-Table.is r.1 in
     let enough = (behind_table r.3 ps os b.entries r.4 k (keys_values b.entries ∙ b.many)
     (subst (λ u. GivesInTurn r.3 ps os (u ∷ r.4)) b.is r.5)).enough in
     let long : length qs ≡ k = omega (
@@ -95,7 +95,7 @@ returns-in-Table c =
     ) in
     record {
       counts = IfOk-weaker c.count_table.result _ _ (λ n h given t rest below is m are.
-          let a : HasEntries k t = subst (λ j. IsNode j t) c.in-Table.is is in
+          let a : IsTableOf k t = subst (λ j. IsNode j t) c.in-Table.is is in
           let es = a.entries in
           let many : length (entry_keys es) ≡ k = keys_values es ∙ a.many in
           subst (λ u. CountsOne given u rest below n new out) (sym a.is)

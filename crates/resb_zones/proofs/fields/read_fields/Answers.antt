@@ -1,8 +1,8 @@
 use Rattle.std.proofs.Common.{subst}
 use Rattle.resb_zones.specs.Inner.Fields.{entry_of, CostsAsEntry, FieldsFront}
-use Rattle.resb_zones.proofs.Steps.{steps_some}
-use Rattle.resb_zones.proofs.Fronts.{here, front_takes, front_fails}
-use Rattle.resb_zones.proofs.Takings.{on_err}
+use Rattle.resb_zones.proofs.Steps.{entry_step_some}
+use Rattle.resb_zones.proofs.Fronts.{here, front_takes, readable_front_fails}
+use Rattle.resb_zones.proofs.Lists.{on_err}
 use Rattle.resb_zones.proofs.fields.read_fields.Goals as goal
 
 pub take-requires : goal.take-requires
@@ -13,7 +13,7 @@ take-requires c =
     let new = c.next_entry_cursor.new.self in
     let before = c.args.walk.now in
     let h = rw c.in-Some.is at c.in_ok-key.ensures in
-    let step = steps_some l.entries new l.invariant.0 (c.in-Some.key, c.in-Some.value) h in
+    let step = entry_step_some l.entries new l.invariant.0 (c.in-Some.key, c.in-Some.value) h in
     let front = subst (λ r. FieldsFront all r l.fields before l.walk) step.0 l.invariant.1 in
     here all entry new.rest l.fields before l.walk front CostsAsEntry c.requires.places
 
@@ -25,7 +25,7 @@ entries-preserved c =
     let new = c.next_entry_cursor.new.self in
     let before = c.args.walk.now in
     let h = rw c.in-Some.is at c.in_ok-key.ensures in
-    let step = steps_some l.entries new l.invariant.0 (c.in-Some.key, c.in-Some.value) h in
+    let step = entry_step_some l.entries new l.invariant.0 (c.in-Some.key, c.in-Some.value) h in
     let front = subst (λ r. FieldsFront all r l.fields before l.walk) step.0 l.invariant.1 in
     let (taken, paid) = c.in_ok-take.ensures.read in
     let takes = front_takes all entry new.rest l.fields before l.walk front in
@@ -39,8 +39,8 @@ returns-in_err-take-clause-refused c =
     let new = c.next_entry_cursor.new.self in
     let before = c.args.walk.now in
     let h = rw c.in-Some.is at c.in_ok-key.ensures in
-    let step = steps_some l.entries new l.invariant.0 (c.in-Some.key, c.in-Some.value) h in
+    let step = entry_step_some l.entries new l.invariant.0 (c.in-Some.key, c.in-Some.value) h in
     let front = subst (λ r. FieldsFront all r l.fields before l.walk) step.0 l.invariant.1 in
     let (falls, spent) = c.in_err-take.ensures.refused in
-    let fails = front_fails all entry new.rest l.fields before l.walk front in
+    let fails = readable_front_fails all entry new.rest l.fields before l.walk front in
     on_err _ _ (fails c.take.new.walk falls spent)

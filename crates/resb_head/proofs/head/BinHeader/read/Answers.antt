@@ -8,7 +8,7 @@ use Rattle.std.proofs.lemmas.Slice.Eq.{bytes_eq-Decides}
 use Rattle.resb_format.specs.Bytes.{unit_in}
 use Rattle.resb_format.specs.Error.{refusal_of}
 use Rattle.resb_head.specs.Codes.{endianness_number}
-use Rattle.resb_head.specs.HeadChecks.{first_fault, info_checks}
+use Rattle.resb_head.specs.HeadChecks.{first_refusal, info_checks}
 use Rattle.resb_head.specs.Head.{InfoAt}
 use Rattle.resb_head.proofs.HeaderSteps.{Begun, short_header, magic_fails, info_fails, size_fails}
 use Rattle.resb_head.proofs.HeaderSteps.{header_holds}
@@ -37,9 +37,9 @@ returns-in_err-repr_info c =
           (sym (c.ne.ensures ∙ ap (λ xs. not (bytes_eq xs (0xda ∷ 0x27 ∷ []))) c.two_at.ensures)
           ∙ c.if-ne.false);
     } in
-    let e : first_fault (info_checks c.args.any_order (drop 4 bs))
+    let e : first_refusal (info_checks c.args.any_order (drop 4 bs))
     ≡ Some (refusal_of c.in_err-repr_info.field-0.0) =
-    ap (λ xs. first_fault (info_checks c.args.any_order xs)) (sym c.split_at.ensures.back)
+    ap (λ xs. first_refusal (info_checks c.args.any_order xs)) (sym c.split_at.ensures.back)
     ∙ c.in_err-repr_info.ensures in
     let h = info_fails c.args.any_order bs (refusal_of c.in_err-repr_info.field-0.0) b e in
     search (rules, h)
@@ -53,8 +53,8 @@ returns-then-size-lt24 c =
           (sym (c.ne.ensures ∙ ap (λ xs. not (bytes_eq xs (0xda ∷ 0x27 ∷ []))) c.two_at.ensures)
           ∙ c.if-ne.false);
     } in
-    let e : first_fault (info_checks c.args.any_order (drop 4 bs)) ≡ None =
-    ap (λ xs. first_fault (info_checks c.args.any_order xs)) (sym c.split_at.ensures.back)
+    let e : first_refusal (info_checks c.args.any_order (drop 4 bs)) ≡ None =
+    ap (λ xs. first_refusal (info_checks c.args.any_order xs)) (sym c.split_at.ensures.back)
     ∙ c.in_ok-repr_info.ensures.0 in
     let i : InfoAt c.in_ok-repr_info.repr_info (drop 4 bs) =
     subst (λ xs. InfoAt c.in_ok-repr_info.repr_info xs) c.split_at.ensures.back
@@ -76,8 +76,8 @@ returns c =
           (sym (c.ne.ensures ∙ ap (λ xs. not (bytes_eq xs (0xda ∷ 0x27 ∷ []))) c.two_at.ensures)
           ∙ c.if-ne.false);
     } in
-    let e : first_fault (info_checks c.args.any_order (drop 4 bs)) ≡ None =
-    ap (λ xs. first_fault (info_checks c.args.any_order xs)) (sym c.split_at.ensures.back)
+    let e : first_refusal (info_checks c.args.any_order (drop 4 bs)) ≡ None =
+    ap (λ xs. first_refusal (info_checks c.args.any_order xs)) (sym c.split_at.ensures.back)
     ∙ c.in_ok-repr_info.ensures.0 in
     let i : InfoAt c.in_ok-repr_info.repr_info (drop 4 bs) =
     subst (λ xs. InfoAt c.in_ok-repr_info.repr_info xs) c.split_at.ensures.back

@@ -1,6 +1,6 @@
 -- Each refusal is that of the first check that fails.
 use Rattle.std.proofs.Common.{◌*◌, ◌<◌, ◌≤◌, length, min, arith}
-use Rattle.resb_head.proofs.IndexSteps.{no_count, small_count, no_word, index_holds}
+use Rattle.resb_head.proofs.IndexSteps.{no_count, small_count, field_past_end, index_holds}
 use Rattle.resb_head.proofs.index.BinIndexTryFromRefSliceU8.try_from.Goals as goal
 
 pub returns-then-bytes-lt4 : goal.returns-then-bytes-lt4
@@ -17,7 +17,8 @@ pub returns-then-bytes-min : goal.returns-then-bytes-min
 returns-then-bytes-min c =
     let l : length c.args.bytes.now < 4 * min c.word_at-field_count.result 8 =
     omega (arith, c.min.ensures, c.if-bytes-min.true) in
-    no_word c.args.bytes.now c.word_at-field_count.result c.end_of_input-then-bytes-min.result
+    field_past_end c.args.bytes.now c.word_at-field_count.result
+    c.end_of_input-then-bytes-min.result
     c.word_at-field_count.ensures c.if-bytes-lt4.false c.if-field_count-lt5.false l
     c.end_of_input-then-bytes-min.ensures
 

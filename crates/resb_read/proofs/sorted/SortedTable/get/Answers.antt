@@ -5,14 +5,18 @@ use Rattle.resb_format.specs.Content.{Member}
 use Rattle.resb_read.specs.Sequences.{at_entry, at_spot}
 use Rattle.resb_read.specs.Inner.Elements.{entry_places}
 use Rattle.resb_read.specs.Tables.{view_entries, last_named, Ascend}
-use Rattle.resb_read.proofs.Ascending.{sound, key_in, half_less, half_greater}
+use Rattle.resb_read.proofs.Ascending.{keys_ascend_sound, key_in, half_less, half_greater}
 use Rattle.resb_read.proofs.Ascending.{half_equal}
 use Rattle.resb_format.specs.Strings.{key_at}
 use Rattle.resb_read.proofs.sorted.SortedTable.get.Goals as goal
-use Rattle.resb_read.proofs.PlainLists.{window_is, text_there}
+use Rattle.resb_read.proofs.PlainLists.{map_of_front, text_there}
 
 pub halves-init : goal.halves-init
-halves-init c = (sound (view_entries c.args.self.now.table) c.args.self.now.ascend, refl)
+halves-init c = (
+  keys_ascend_sound
+      (view_entries c.args.self.now.table) c.args.self.now.ascend,
+  refl,
+)
 
 pub returns-in-Equal : goal.returns-in-Equal
 returns-in-Equal c =
@@ -21,7 +25,7 @@ returns-in-Equal c =
     let e : ℕ × Member = (c.in-Some-split.position, member_of c.in-Some-split.member) in
     let front = keyed_members c.in-Some.front in
     let later = keyed_members c.in-Some-split.later in
-    let is = window_is (at_entry (parts_in file)) (keyed_members c.halves.window) front
+    let is = map_of_front (at_entry (parts_in file)) (keyed_members c.halves.window) front
     (keyed_members c.in-Some.back) later e c.in-Some.ensures.all c.in-Some-split.ensures in
     let (t, key) = key_in (entry_places file c.in-Some.front) (at_entry (parts_in file) e)
     (entry_places file c.in-Some-split.later) (subst Ascend is c.halves.invariant.0) in
@@ -40,7 +44,7 @@ halves-preserved-in-Less c =
     let e : ℕ × Member = (c.in-Some-split.position, member_of c.in-Some-split.member) in
     let front = keyed_members c.in-Some.front in
     let later = keyed_members c.in-Some-split.later in
-    let is = window_is (at_entry (parts_in file)) (keyed_members c.halves.window) front
+    let is = map_of_front (at_entry (parts_in file)) (keyed_members c.halves.window) front
     (keyed_members c.in-Some.back) later e c.in-Some.ensures.all c.in-Some-split.ensures in
     let (t, key) = key_in (entry_places file c.in-Some.front) (at_entry (parts_in file) e)
     (entry_places file c.in-Some-split.later) (subst Ascend is c.halves.invariant.0) in
@@ -58,7 +62,7 @@ halves-preserved c =
     let e : ℕ × Member = (c.in-Some-split.position, member_of c.in-Some-split.member) in
     let front = keyed_members c.in-Some.front in
     let later = keyed_members c.in-Some-split.later in
-    let is = window_is (at_entry (parts_in file)) (keyed_members c.halves.window) front
+    let is = map_of_front (at_entry (parts_in file)) (keyed_members c.halves.window) front
     (keyed_members c.in-Some.back) later e c.in-Some.ensures.all c.in-Some-split.ensures in
     let (t, key) = key_in (entry_places file c.in-Some.front) (at_entry (parts_in file) e)
     (entry_places file c.in-Some-split.later) (subst Ascend is c.halves.invariant.0) in

@@ -6,7 +6,7 @@ use Rattle.std.proofs.lemmas.Int.{to_z-of_z}
 use Rattle.resb_read.specs.Places.{place_of}
 use Rattle.resb_read.specs.Sequences.{entries_at}
 use Rattle.resb_read_rows.specs.FieldLaws.{i16_counted, i16_one}
-use Rattle.resb_read_rows.proofs.Walking.{refused_i, refused_v, none_left}
+use Rattle.resb_read_rows.proofs.Walking.{refused_i, refused_v, no_entry_left}
 use Rattle.resb_read_rows.proofs.both.BothDeserialize.deserialize.Goals as goal
 
 pub returns-in_err-i-clause-refused : goal.returns-in_err-i-clause-refused
@@ -49,7 +49,7 @@ returns-clause-read c =
     let (h, b, second, after, y, paid3) = c.in_ok-v.ensures.read in
     let back = to_z-of_z w16 c.in_ok-i.i (search rules) in
     let none_more : length c.field-2.new.entries.rest ≤ 0 = search rules in
-    let last = none_left c.field-2.new.entries.rest none_more in
+    let last = no_entry_left c.field-2.new.entries.rest none_more in
     let all : entries_at (place_of c.args.at) ≡ Some (f ∷ h ∷ []) = are
     ∙ ap Some (first ∙ ap (λ r. f ∷ r) (second ∙ ap (λ r. h ∷ r) last)) in (
       1 + (a + b),

@@ -2,13 +2,13 @@ use Rattle.std.proofs.Common.{◌≡◌, ◌+◌, ◌-◌, arith, false, true, r
 use Rattle.std.specs.Char.Utf16.{is_high_surrogate, is_low_surrogate}
 use Rattle.resb_format.specs.Bytes.{units_of}
 use Rattle.resb_format.proofs.Spelled.{units_length}
-use Rattle.resb_shared.proofs.Linked.{no_units, text_by_breaks, breaks_of_text}
+use Rattle.resb_shared.proofs.Linked.{empty_range_is_well_formed, text_by_breaks, breaks_of_text}
 use Rattle.resb_shared.proofs.breaks.Breaks.is_text.Goals as goal
 
 pub returns-then-count-eq0 : goal.returns-then-count-eq0
 returns-then-count-eq0 c =
     let us = units_of c.args.self.now.block.now in
-    (λ _. no_units us c.args.from c.args.count c.if-count-eq0.true, λ _. refl)
+    (λ _. empty_range_is_well_formed us c.args.from c.args.count c.if-count-eq0.true, λ _. refl)
 
 pub returns-then-is_low : goal.returns-then-is_low
 returns-then-is_low c =

@@ -1,14 +1,14 @@
 use Rattle.std.proofs.Common.{◌≡◌, ◌+◌, ◌*◌, arith, length, length-append, [], ◌∷◌}
 use Rattle.resb_format.specs.Bytes.{units_of}
 use Rattle.resb_shared.specs.Links.{breaks}
-use Rattle.resb_shared.proofs.Linked.{none_yet, counted_none, counted_push, breaks_add}
+use Rattle.resb_shared.proofs.Linked.{no_breaks_yet, counted_none, counted_push, breaks_add}
 use Rattle.resb_shared.proofs.breaks.Breaks.of_block.Goals as goal
 
 pub steps-init : goal.steps-init
 steps-init c =
     let us = units_of c.args.block.now in
     rw c.in_ok-before.ensures.items
-    (omega arith, omega arith, λ _. none_yet us 0, counted_none us)
+    (omega arith, omega arith, λ _. no_breaks_yet us 0, counted_none us)
 
 pub steps-preserved : goal.steps-preserved
 steps-preserved c =

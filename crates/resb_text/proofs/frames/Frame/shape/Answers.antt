@@ -5,7 +5,7 @@ use Rattle.resb_text.specs.Inner.Shown.{shown_by}
 use Rattle.resb_text.specs.Inner.Frames.{FrameView, group_body_of}
 use Rattle.resb_text.proofs.FramesLemmas.{shape_array}
 use Rattle.resb_text.proofs.frames.Frame.shape.Goals as goal
-use Rattle.resb_grammar.proofs.ReaderLemmas.{pairs_are_table}
+use Rattle.resb_grammar.proofs.BothReaders.{pairs_are_table}
 
 pub returns-then-is_pairs : goal.returns-then-is_pairs
 returns-then-is_pairs g c = λ tree held n f x.

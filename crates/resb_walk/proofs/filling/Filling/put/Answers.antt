@@ -1,4 +1,4 @@
-use Rattle.resb_walk.proofs.Made.{put_made, pair_made}
+use Rattle.resb_walk.proofs.Made.{put_made, entry_made}
 use Rattle.resb_walk.proofs.filling.Filling.put.Goals as goal
 use Rattle.std.proofs.lemmas.Result.{on_ok_weaker}
 
@@ -10,5 +10,5 @@ returns-in-Map c =
 
 pub returns-in-List : goal.returns-in-List
 returns-in-List c =
-    on_ok_weaker c.push_entry.result (λ e es t h i. rw e (pair_made c.in-List.pairs.items es
+    on_ok_weaker c.push_entry.result (λ e es t h i. rw e (entry_made c.in-List.entries.items es
     c.args.key.now c.args.item t (rw c.in-List.is at h) i)) c.push_entry.ensures

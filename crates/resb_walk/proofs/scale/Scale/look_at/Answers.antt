@@ -3,7 +3,7 @@ use Rattle.resb_format.specs.Content.{content_at, leaf, list, entry_list}
 use Rattle.resb_format.specs.Parts.{parts_in}
 use Rattle.resb_walk.specs.Inner.Members.{leaf_tree, members_of, keyed_members}
 use Rattle.resb_walk.specs.Pieces.{array_piece, table_piece}
-use Rattle.resb_walk.proofs.Holding.{text_holds, leaf_holds, list_holds, pairs_holds, none_holds}
+use Rattle.resb_walk.proofs.Holding.{text_holds, leaf_holds, list_holds, entries_hold, none_holds}
 use Rattle.resb_walk.proofs.Holding.{table_is_one}
 use Rattle.resb_walk.proofs.SumsLemmas.{array_more}
 use Rattle.resb_walk.proofs.scale.Scale.look_at.Goals as goal
@@ -38,10 +38,10 @@ returns-in-Ok-List c xs zs h adds =
 pub returns-in-Ok-Table : goal.returns-in-Ok-Table
 returns-in-Ok-Table c xs zs h adds =
     let p = parts_in c.args.self.now.file in
-    let es = keyed_members c.in-Ok-Table.pairs in
+    let es = keyed_members c.in-Ok-Table.entries in
     let stands : content_at p c.args.word ≡ Some (entry_list es) =
     rw c.in-Ok-Table.field-0-is at c.in-Ok-Table.ensures.stands in
-    let i = pairs_holds p stands h in (
+    let i = entries_hold p stands h in (
       table_piece es,
       i.0,
       i.1,

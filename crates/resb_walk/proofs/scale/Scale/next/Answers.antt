@@ -6,7 +6,7 @@ use Rattle.resb_walk.specs.Inner.Members.{member_of, members_of, keyed_members}
 use Rattle.resb_walk.specs.Inner.Weighing.{IsEndOf, RestHolds}
 use Rattle.resb_walk.specs.Pieces.{key_piece}
 use Rattle.resb_walk.specs.Sums.{AddsUp}
-use Rattle.resb_walk.proofs.Holding.{each_first, pair_first}
+use Rattle.resb_walk.proofs.Holding.{first_member_holds, first_entry_holds}
 use Rattle.resb_walk.proofs.scale.Scale.next.Goals as goal
 
 pub returns-in_ok-member-in-List : goal.returns-in_ok-member-in-List
@@ -18,7 +18,7 @@ returns-in_ok-member-in-List c xs zs h adds =
     let ends = subst (λ r. IsEndOf p r c.args.inner.word) c.in-List.is h.ends in
     let holds = subst (λ r. RestHolds p r xs) c.in-List.is h.holds in
     let split = c.in_ok-member-in-List.ensures in
-    let f = each_first p ms ns m xs split holds in (
+    let f = first_member_holds p ms ns m xs split holds in (
       [],
       f.0,
       f.1,
@@ -39,14 +39,14 @@ returns-in_ok-member-in-List c xs zs h adds =
 pub returns-in_ok-position-in-Table : goal.returns-in_ok-position-in-Table
 returns-in_ok-position-in-Table c xs zs h adds =
     let p = parts_in c.args.self.now.file in
-    let es = keyed_members c.in-Table.pairs in
+    let es = keyed_members c.in-Table.entries in
     let fs = keyed_members c.in_ok-position-in-Table.later in
     let place = c.in_ok-position-in-Table.position in
     let m = member_of c.in_ok-position-in-Table.member in
     let ends = subst (λ r. IsEndOf p r c.args.inner.word) c.in-Table.is h.ends in
     let holds = subst (λ r. RestHolds p r xs) c.in-Table.is h.holds in
     let split = c.in_ok-position-in-Table.ensures in
-    let f = pair_first p es fs place m xs split holds in (
+    let f = first_entry_holds p es fs place m xs split holds in (
       key_piece f.0 ∷ [],
       f.1,
       f.2,

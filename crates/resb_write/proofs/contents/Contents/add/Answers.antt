@@ -4,14 +4,16 @@ use Rattle.std.proofs.Common.{◌∙◌, ap, subst, append-nil, arith}
 use Rattle.resb_tree.specs.Tree.{string, array, table, binary, integer, int_vector}
 use Rattle.resb_pool.specs.Plan.{nows}
 use Rattle.resb_write.specs.Inner.Gathered.{Gathered}
-use Rattle.resb_write.specs.Inner.Nodes.{IsNode, HasMembers, HasEntries}
-use Rattle.resb_write.proofs.Gathering.{added, adds_plain, one_bytes, one_units, no_bytes, no_units, plain_integer, entries_long, or_none}
+use Rattle.resb_write.specs.Inner.Nodes.{IsNode, IsArrayOf, IsTableOf}
+use Rattle.resb_write.proofs.Gathering.{added, adds_plain, one_bytes, one_units, no_bytes_gathered}
+use Rattle.resb_write.proofs.Gathering.{no_units_gathered, plain_integer, entries_long}
+use Rattle.resb_write.proofs.Lists.{or_none}
 use Rattle.std.proofs.Math.Bool.{or-false}
 use Rattle.resb_write.proofs.contents.Contents.add.Goals as goal
 
 pub returns-in-Array : goal.returns-in-Array
 returns-in-Array c = λ ts t h n.
-    let k : HasMembers c.in-Array.count t =
+    let k : IsArrayOf c.in-Array.count t =
     subst (λ m. IsNode m t) c.in-Array.is n in
     let a = array k.members in
     subst (λ u. Gathered (ts ++ u ∷ []) c.add_counted.new.self) (sym k.is)
@@ -80,7 +82,7 @@ returns-in_ok-add_text-in-String c = λ ts t h n.
 
 pub returns-in-Table : goal.returns-in-Table
 returns-in-Table c = λ ts t h n.
-    let k : HasEntries c.in-Table.count t = subst (λ m. IsNode m t) c.in-Table.is n in
+    let k : IsTableOf c.in-Table.count t = subst (λ m. IsNode m t) c.in-Table.is n in
     let es = k.entries in
     let new = c.add_table.ensures in
     subst (λ u. Gathered (ts ++ u ∷ []) c.add_table.new.self) (sym k.is)
@@ -89,8 +91,8 @@ returns-in-Table c = λ ts t h n.
       texts = ap (λ x. nows x.texts.items) new
           ∙ sym (append-nil (nows c.args.self.now.texts.items));
       size = omega (arith, ap (λ x. x.size) new, k.many);
-      bytes = omega (arith, ap (λ x. x.text_bytes) new, no_bytes);
-      within = omega (arith, no_bytes, no_units);
+      bytes = omega (arith, ap (λ x. x.text_bytes) new, no_bytes_gathered);
+      within = omega (arith, no_bytes_gathered, no_units_gathered);
       largest = omega (arith, ap (λ x. x.largest_table) new, entries_long es, k.many);
       too_long = ap (λ x. x.too_long) new ∙ sym (or_none c.args.self.now.too_long);
       over = ap (λ x. x.has_count_over_32_bits) new

@@ -2,7 +2,7 @@
 use Rattle.std.proofs.Common.{◌<◌, length, get_or, take, refl, sym, ap, subst, arith}
 use Rattle.resb_pool.specs.Plan.{nows}
 use Rattle.resb_write.specs.Inner.Gathered.{Gathered}
-use Rattle.resb_write.proofs.Gathering.{no_bytes, no_units}
+use Rattle.resb_write.proofs.Gathering.{no_bytes_gathered, no_units_gathered}
 use Rattle.resb_write.proofs.NodesLemmas.{no_tree, one_fits, trees-take, trees-all}
 use Rattle.resb_write.proofs.contents.Contents.gather.Goals as goal
 
@@ -11,7 +11,7 @@ loop-at-init g c = λ ts f. record {
   texts_are = ap nows c.new.ensures.items;
   size_is = omega arith;
   bytes_are = refl;
-  bytes_suffice = omega (arith, no_bytes, no_units);
+  bytes_suffice = omega (arith, no_bytes_gathered, no_units_gathered);
   largest_is = refl;
   too_long_is = refl;
   over_is = refl;

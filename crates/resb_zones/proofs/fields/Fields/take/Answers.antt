@@ -9,9 +9,9 @@ use Rattle.resb.specs.Views.{pair_bytes}
 use Rattle.resb_zones.specs.Zones.{base_name, pairs_name, IsReadable}
 use Rattle.resb_zones.specs.Inner.Fields.{entry_of, ReadsPairView}
 use Rattle.resb_zones.proofs.Costs.{key_is_free, number_costs, view_costs, lacks_base, lacks_pairs}
-use Rattle.resb_zones.proofs.Takings.{on_err, takes_base, takes_pairs, takes_other}
+use Rattle.resb_zones.proofs.Takings.{takes_base, takes_pairs, takes_other}
+use Rattle.resb_zones.proofs.Lists.{on_err, other_text}
 use Rattle.resb_zones.proofs.fields.Fields.take.Goals as goal
-use Rattle.resb_zones.proofs.Lists.{other_text}
 
 pub returns-in_err-base-clause-refused : goal.returns-in_err-base-clause-refused
 returns-in_err-base-clause-refused c =

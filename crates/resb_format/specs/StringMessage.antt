@@ -5,8 +5,8 @@ use Rattle.resb_format.specs.Strings.{is_no_marker}
 
 -- the message where no string stands at unit u: its end is looked for only where it has a first
 -- unit and no marker
-abbrev pub string_fault : List ℕ → ℕ → List ℕ
-string_fault block u =
+abbrev pub string_message : List ℕ → ℕ → List ℕ
+string_message block u =
     if nat_lt u (length block) && is_no_marker (slice_index block u) then
     codes "unterminated string with implicit length"
     else end_message

@@ -31,17 +31,17 @@ text_mode (in_vector after_comma ns o) u w e = none_some u e
 text_mode (finished title items) u w e = refl
 
 -- no number stands right in a group
-pub no_number : {A : Type 0} (b : Body) (o : Open) (v : ℕ) (u : State)
+pub no_number_in_body : {A : Type 0} (b : Body) (o : Open) (v : ℕ) (u : State)
     → in_body b o (a_number v) ≡ Some u → A
-no_number table_body o v u e = none_some u e
-no_number array_body o v u e = none_some u e
-no_number untyped_body o v u e = none_some u e
+no_number_in_body table_body o v u e = none_some u e
+no_number_in_body array_body o v u e = none_some u e
+no_number_in_body untyped_body o v u e = none_some u e
 
 number_mode : (s u : State) (v : ℕ) → next s (a_number v) ≡ Some u → mode s ≡ numbers
 number_mode start u v e = none_some u e
 number_mode (named name) u v e = none_some u e
 number_mode (titled title) u v e = none_some u e
-number_mode (inside o) u v e = no_number o.frame.body o v u e
+number_mode (inside o) u v e = no_number_in_body o.frame.body o v u e
 number_mode (typed kind o) u v e = none_some u e
 number_mode (in_string o) u v e = none_some u e
 number_mode (in_binary o) u v e = none_some u e
@@ -70,17 +70,17 @@ type_mode (in_vector after_comma ns o) u k e = none_some u e
 type_mode (finished title items) u k e = refl
 
 -- nor does a type of the root
-pub no_root_type : {A : Type 0} (b : Body) (o : Open) (f : Bool) (u : State)
+pub no_root_type_in_body : {A : Type 0} (b : Body) (o : Open) (f : Bool) (u : State)
     → in_body b o (a_root_type f) ≡ Some u → A
-no_root_type table_body o f u e = none_some u e
-no_root_type array_body o f u e = none_some u e
-no_root_type untyped_body o f u e = none_some u e
+no_root_type_in_body table_body o f u e = none_some u e
+no_root_type_in_body array_body o f u e = none_some u e
+no_root_type_in_body untyped_body o f u e = none_some u e
 
 root_type_mode : (s u : State) (f : Bool) → next s (a_root_type f) ≡ Some u → mode s ≡ root_types
 root_type_mode start u f e = none_some u e
 root_type_mode (named name) u f e = refl
 root_type_mode (titled title) u f e = none_some u e
-root_type_mode (inside o) u f e = no_root_type o.frame.body o f u e
+root_type_mode (inside o) u f e = no_root_type_in_body o.frame.body o f u e
 root_type_mode (typed kind o) u f e = none_some u e
 root_type_mode (in_string o) u f e = none_some u e
 root_type_mode (in_binary o) u f e = none_some u e

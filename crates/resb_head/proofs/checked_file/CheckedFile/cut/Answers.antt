@@ -5,7 +5,7 @@ use Rattle.std.proofs.Common.{drop, sym, ap, ◌∙◌, arith, get_or}
 use Rattle.resb_format.specs.Bytes.{units_of, words_of}
 use Rattle.resb_head.proofs.FileSteps.{field_behind, keys_past, end_missing, block_past}
 use Rattle.resb_head.proofs.FileSteps.{blocks_hold}
-use Rattle.resb_head.proofs.file_parts.FileParts.cut.Goals as goal
+use Rattle.resb_head.proofs.checked_file.CheckedFile.cut.Goals as goal
 use Rattle.resb_head.proofs.Numbers.{no_field}
 use Rattle.resb_head.proofs.Numbers.{some_field}
 use Rattle.resb_head.proofs.Lists.{drop_inside}

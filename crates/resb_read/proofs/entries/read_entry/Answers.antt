@@ -1,6 +1,6 @@
 use Rattle.std.proofs.Common.{◌+◌, refl, inl, inr, rules, arith}
 use Rattle.std.proofs.lemmas.Result.{err_from_is_err_and}
-use Rattle.resb_read.proofs.entries.read_pair.Goals as goal
+use Rattle.resb_read.proofs.entries.read_entry.Goals as goal
 
 pub returns-clause-read : goal.returns-clause-read
 returns-clause-read g c =

@@ -3,7 +3,7 @@
 
 /// The parts of a file, each in bytes. (ICU's `uresdata.h`.)
 #[derive(Clone, Copy)]
-pub struct BodyParts<'a> {
+pub struct FileBlocks<'a> {
     /// The bytes behind the header. Words count from its start.
     pub body: &'a [u8],
     /// The body's front, up to the end of the keys. Key positions count bytes from its start.

@@ -8,31 +8,31 @@ ghost use Rattle.resb_head.specs.Inner.Checked.{ReadsBody, ReadsBlocks};
 use crate::head::BinHeader;
 use crate::index::BinIndex;
 use resb_format::bytes::word_at;
-use resb_format::{BinaryDeserializerError, BodyParts};
+use resb_format::{BinaryDeserializerError, FileBlocks};
 
 /// The parts of a file whose head passes every check. (ICU's `uresdata.h`.)
 #[derive(Clone, Copy)]
-pub struct FileParts<'de> {
+pub struct CheckedFile<'de> {
     /// The body and its two blocks.
-    pub file: BodyParts<'de>,
+    pub file: FileBlocks<'de>,
     /// The root's descriptor.
     pub root: u32,
 }
 
-impl<'de> FileParts<'de> {
+impl<'de> CheckedFile<'de> {
     /// The parts of a file. The checks of header, format, index and blocks are made in this order,
     /// and the first that fails answers.
-    pub fn read(bytes: &'de [u8]) -> Result<FileParts<'de>, BinaryDeserializerError>
+    pub fn read(bytes: &'de [u8]) -> Result<CheckedFile<'de>, BinaryDeserializerError>
         ensures { ReadsFile bytes.now result }
     {
         let header = BinHeader::try_from(bytes)?;
         header.repr_info.check_support()?;
         let (_, body) = bytes.split_at(bytes.len().min(usize::from(header.size)));
-        FileParts::of_body(body)
+        CheckedFile::of_body(body)
     }
 
     /// The parts of a body: the root's word, the index, and the blocks whose ends this gives.
-    fn of_body(body: &'de [u8]) -> Result<FileParts<'de>, BinaryDeserializerError>
+    fn of_body(body: &'de [u8]) -> Result<CheckedFile<'de>, BinaryDeserializerError>
         ensures { ReadsBody body.now result }
     {
         if body.len() < 4 {
@@ -40,11 +40,11 @@ impl<'de> FileParts<'de> {
         }
         let (_, rest) = body.split_at(4);
         let index = BinIndex::try_from(rest)?;
-        FileParts::cut(body, &index)
+        CheckedFile::cut(body, &index)
     }
 
     /// Cuts the blocks out of a body with this index.
-    fn cut(body: &'de [u8], index: &BinIndex) -> Result<FileParts<'de>, BinaryDeserializerError>
+    fn cut(body: &'de [u8], index: &BinIndex) -> Result<CheckedFile<'de>, BinaryDeserializerError>
         requires long { 4 ≤ length body.now }
         requires indexed { IndexAt index.now (drop 4 body.now) }
         ensures { ReadsBlocks body.now result }
@@ -64,8 +64,8 @@ impl<'de> FileParts<'de> {
         }
         let (front, _) = body.split_at(block_end);
         let (keys, block) = front.split_at(keys_end);
-        let file = BodyParts { body, keys, block };
+        let file = FileBlocks { body, keys, block };
         let root = word_at(body, 0);
-        Ok(FileParts { file, root })
+        Ok(CheckedFile { file, root })
     }
 }

@@ -1,9 +1,9 @@
-use Rattle.resb_grammar.proofs.ByteRunsLemmas.{nonzero_inside}
+use Rattle.resb_grammar.proofs.Lists.{nonzero_inside}
 use Rattle.resb_text.proofs.ReachLemmas.{reach_colon}
 use Rattle.std.proofs.Common.{arith}
 use Rattle.std.proofs.lemmas.Result.{err_from_is_err_and}
 use Rattle.resb_text.proofs.TypedGroups.{no_type, no_type_brace}
-use Rattle.resb_text.proofs.steps.head.Goals as goal
+use Rattle.resb_text.proofs.steps.typed_opening.Goals as goal
 
 pub returns-in_default-clause-err : goal.returns-in_default-clause-err
 returns-in_default-clause-err c =

@@ -4,7 +4,7 @@ use Rattle.std.proofs.Common.{arith}
 use Rattle.std.proofs.Common.{◌∷◌, length, get_or, drop, refl, sym, ◌∙◌, ap, subst, Option, Some}
 use Rattle.std.proofs.Common.{None, add-one, drop-cons}
 use Rattle.std.proofs.lemmas.Bool.{false≢true}
-use Rattle.std.specs.Prelude.{◌↔◌, slice_get, slice_index, IfNone}
+use Rattle.std.specs.Prelude.{◌↔◌, slice_get, slice_index}
 use Rattle.resb_grammar.specs.Ascii as ascii
 use Rattle.resb_grammar.specs.Lexical.{digits_value}
 use Rattle.resb_grammar.specs.GroupTypes.{table_kind, Stands}
@@ -12,11 +12,6 @@ use Rattle.resb_grammar.specs.Items.{Item, is_pairs, shape_of, a_table, table_if
 use Rattle.resb_grammar.specs.Kinds.{group_kind_of}
 use Rattle.resb_grammar.specs.declared.group_kind.Kind as code
 use Rattle.resb_grammar.specs.declared.group_kind.Kind.TheVariants as names
-
--- where nothing is found, what follows from the reason
-pub if_none : (o : Option ℕ) (P Q : Type 0) → (P → Q) → IfNone o P → IfNone o Q
-if_none None P Q f h = f h
-if_none (Some x) P Q f h = h
 
 -- one byte more of those that stand here
 pub stands_next : (text xs : List ℕ) (here i b : ℕ) (Q : Type 0) → i < length xs → get_or xs i 0 ≡ b

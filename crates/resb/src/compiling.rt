@@ -67,7 +67,7 @@ pub fn compile(alloc: Global, text: &str) -> Result<Vec<u8>, CompileError>
 {
     let (bundle, keys) = Reader::read_draft(alloc, text)?;
     let fallback = bundle.is_locale_fallback_enabled;
-    let file = Serializer::draft_to_bytes(alloc, &bundle.root, fallback, keys.as_slice())?;
+    let file = Serializer::draft_to_bytes(alloc, bundle.root, fallback, keys.as_slice())?;
     Ok(file)
 }
 
@@ -108,7 +108,7 @@ pub fn compile_within(alloc: Global, text: &str, limit: u64) -> Result<Vec<u8>, 
         Err(LimitError::Larger) => return Err(CompileWithinError::Larger),
     };
     let fallback = bundle.is_locale_fallback_enabled;
-    match Serializer::draft_to_bytes(alloc, &bundle.root, fallback, keys.as_slice()) {
+    match Serializer::draft_to_bytes(alloc, bundle.root, fallback, keys.as_slice()) {
         Ok(file) => Ok(file),
         Err(e) => Err(CompileWithinError::Text(CompileError::Writing(e))),
     }

@@ -58,14 +58,15 @@ lists_more first old new ns ns' x n left rest xs before after split pushed made 
     let seen = term_on first old before x.term x.comma both.0 in
     let one = made seen.1 in
     let on = pieces_on old new after ns h.1 in
-    let left_trees = map shown_tree (map see rest) in
-    (ap (λ l. map (tree_at new) l ++ left_trees) pushed
-     ∙ ap (λ l. l ++ left_trees) (map_push (tree_at new) ns n)
-     ∙ (λ i. (on.0 i ++ (one.0 ∙ seen.0) i ∷ []) ++ left_trees)
-     ∙ append_assoc (map (tree_at old) ns) (shown_tree (see x) ∷ []) left_trees
-     ∙ ap (λ l. map (tree_at old) ns ++ map shown_tree (map see l)) (sym split)
-     ∙ h.0,
-     ap (λ l. all_true (map (is_whole new) l)) pushed
-     ∙ ap all_true (map_push (is_whole new) ns n)
-     ∙ all_append (map (is_whole new) ns) (is_whole new n ∷ []) on.1 (and_from _ _ one.1 refl),
-     both.1)
+    let left_trees = map shown_tree (map see rest) in (
+      ap (λ l. map (tree_at new) l ++ left_trees) pushed
+          ∙ ap (λ l. l ++ left_trees) (map_push (tree_at new) ns n)
+          ∙ (λ i. (on.0 i ++ (one.0 ∙ seen.0) i ∷ []) ++ left_trees)
+          ∙ append_assoc (map (tree_at old) ns) (shown_tree (see x) ∷ []) left_trees
+          ∙ ap (λ l. map (tree_at old) ns ++ map shown_tree (map see l)) (sym split)
+          ∙ h.0,
+      ap (λ l. all_true (map (is_whole new) l)) pushed
+          ∙ ap all_true (map_push (is_whole new) ns n)
+          ∙ all_append (map (is_whole new) ns) (is_whole new n ∷ []) on.1 (and_from _ _ one.1 refl),
+      both.1,
+    )

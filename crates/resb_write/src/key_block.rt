@@ -37,9 +37,24 @@ pub(crate) struct KeyBlock<'k> {
 }
 
 impl<'k> KeyBlock<'k> {
-    /// The block of a list of keys for a tree whose tables have these keys. Refuses the first
-    /// fault of a key.
+    /// The block of a list of keys for a tree whose tables have these keys, which are dropped then.
+    /// Refuses the first fault of a key.
     pub(crate) fn new(
+        alloc: Global,
+        tree_keys: Vec<&'k str>,
+        list: &'k [Key<'_>],
+    ) -> Result<KeyBlock<'k>, BinarySerializerError>
+        ensures ok { IfOk result (λ b. IsKeyBlock (nows tree_keys.entry.items) list.now
+            (nows b.keys.items) b.positions.items) }
+        ensures err { IfErr result (λ e. let ks = nows tree_keys.entry.items in
+            (fault_of e ≡ out_of_memory)
+            ⊎ (key_fault ks (used_of ks list.now) ≡ Some (fault_of e))) }
+    {
+        KeyBlock::of_keys(alloc, &tree_keys, list)
+    }
+
+    /// The block of a list of keys for a tree whose tables have these keys.
+    fn of_keys(
         alloc: Global,
         tree_keys: &[&'k str],
         list: &'k [Key<'_>],

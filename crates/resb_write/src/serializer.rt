@@ -58,14 +58,14 @@ impl Serializer {
     /// it refuses, for the tree for which the draft stands, which is whole.
     pub fn draft_to_bytes(
         alloc: Global,
-        root: &Draft<'_>,
+        root: Draft<'_>,
         is_locale_fallback_enabled: bool,
         keys_in_discovery_order: &[Key<'_>],
     ) -> Result<Vec<u8>, BinarySerializerError>
-        requires { is_ready root.now ≡ true }
-        ensures ok { IfOk result (λ v. Written v.items (draft_tree root.now)
+        requires { is_ready root ≡ true }
+        ensures ok { IfOk result (λ v. Written v.items (draft_tree root.entry)
             is_locale_fallback_enabled keys_in_discovery_order.now) }
-        ensures err { IfErr result (λ e. RefusesWriting (draft_tree root.now)
+        ensures err { IfErr result (λ e. RefusesWriting (draft_tree root.entry)
             keys_in_discovery_order.now (fault_of e)) }
     {
         write_draft(
@@ -91,55 +91,51 @@ fn write(
     let keys = table_keys(alloc, &order)?;
     let nodes = nodes_of(alloc, &order)?;
     drop(order);
-    write_order(
-        alloc,
-        &nodes,
-        &keys,
-        bundle.is_locale_fallback_enabled,
-        list,
-    )
+    write_order(alloc, &nodes, keys, bundle.is_locale_fallback_enabled, list)
 }
 
 /// The file of a draft, which is put into laying order first where it doesn't stand in it.
 fn write_draft(
     alloc: Global,
-    root: &Draft<'_>,
+    root: Draft<'_>,
     is_locale_fallback_enabled: bool,
     list: &[Key<'_>],
 ) -> Result<Vec<u8>, BinarySerializerError>
-    requires { is_ready root.now ≡ true }
-    ensures ok { IfOk result (λ v. Written v.items (draft_tree root.now)
+    requires { is_ready root ≡ true }
+    ensures ok { IfOk result (λ v. Written v.items (draft_tree root.entry)
         is_locale_fallback_enabled list.now) }
-    ensures err { IfErr result (λ e. RefusesWriting (draft_tree root.now) list.now (fault_of e)) }
+    ensures err { IfErr result (λ e. RefusesWriting (draft_tree root.entry) list.now (fault_of e)) }
 {
     let order = root.in_laying_order(alloc)?;
     if root.stands_in(&order) {
         drop(order);
         return write_standing(alloc, root, is_locale_fallback_enabled, list);
     }
-    write_by_number(alloc, root, order, is_locale_fallback_enabled, list)
+    write_by_number(alloc, &root, order, is_locale_fallback_enabled, list)
 }
 
-/// The file of a draft whose pieces and keys stand in laying order.
+/// The file of a draft whose pieces and keys stand in laying order. Its other lists go first.
 fn write_standing(
     alloc: Global,
-    draft: &Draft<'_>,
+    draft: Draft<'_>,
     is_locale_fallback_enabled: bool,
     list: &[Key<'_>],
 ) -> Result<Vec<u8>, BinarySerializerError>
-    requires pieces { are_pieces draft.now.pieces.items (laying_order (draft_tree draft.now)) ≡ true }
-    requires keys { texts draft.now.keys.items ≡ keys_of (draft_tree draft.now) }
-    ensures ok { IfOk result (λ v. Written v.items (draft_tree draft.now)
+    requires pieces { are_pieces draft.pieces.items (laying_order (draft_tree draft)) ≡ true }
+    requires keys { texts draft.keys.items ≡ keys_of (draft_tree draft) }
+    ensures ok { IfOk result (λ v. Written v.items (draft_tree draft.entry)
         is_locale_fallback_enabled list.now) }
-    ensures err { IfErr result (λ e. RefusesWriting (draft_tree draft.now) list.now (fault_of e)) }
+    ensures err { IfErr result
+        (λ e. RefusesWriting (draft_tree draft.entry) list.now (fault_of e)) }
 {
-    write_order(
-        alloc,
-        &draft.pieces,
-        &draft.keys,
-        is_locale_fallback_enabled,
-        list,
-    )
+    let Draft {
+        pieces,
+        members,
+        keys,
+        root: _,
+    } = draft;
+    drop(members);
+    write_order(alloc, &pieces, keys, is_locale_fallback_enabled, list)
 }
 
 /// The file of a draft, whose pieces have these numbers in laying order.
@@ -159,7 +155,7 @@ fn write_by_number(
     let keys = draft_keys(alloc, draft, &order)?;
     let nodes = draft_nodes(alloc, draft, &order)?;
     drop(order);
-    write_order(alloc, &nodes, &keys, is_locale_fallback_enabled, list)
+    write_order(alloc, &nodes, keys, is_locale_fallback_enabled, list)
 }
 
 /// The refusals in their order, and then the file of a tree, whose resources are given in laying
@@ -167,17 +163,17 @@ fn write_by_number(
 pub(crate) fn write_order<R: AsNode>(
     alloc: Global,
     order: &[R],
-    tree_keys: &[&str],
+    tree_keys: Vec<&str>,
     is_locale_fallback_enabled: bool,
     list: &[Key<'_>],
 ) -> Result<Vec<u8>, BinarySerializerError>
     requires { (t : Tree) × Fits R.is order.now (laying_order t)
-        × (nows tree_keys.now ≡ keys_of t) }
+        × (nows tree_keys.items ≡ keys_of t) }
     ensures ok { IfOk result (λ v. (t : Tree) → Fits R.is order.now (laying_order t)
-        → nows tree_keys.now ≡ keys_of t
+        → nows tree_keys.entry.items ≡ keys_of t
         → Written v.items t is_locale_fallback_enabled list.now) }
     ensures err { IfErr result (λ e. (t : Tree) → Fits R.is order.now (laying_order t)
-        → nows tree_keys.now ≡ keys_of t → RefusesWriting t list.now (fault_of e)) }
+        → nows tree_keys.entry.items ≡ keys_of t → RefusesWriting t list.now (fault_of e)) }
 {
     let contents = Contents::gather(alloc, order)?;
     let KeyBlock { keys, positions } = KeyBlock::new(alloc, tree_keys, list)?;

@@ -1,5 +1,5 @@
 -- The nodes of a draft's pieces stand for the trees of its tree.
-use Rattle.std.proofs.Common.{◌≡◌, ◌∙◌, ℕ, List, Bor, ap, sym, subst, map}
+use Rattle.std.proofs.Common.{◌≡◌, ◌∙◌, ℕ, List, Bor, ap, refl, sym, subst, map}
 use Rattle.std.specs.List.{flat_map}
 use Rattle.std.proofs.lemmas.Result.{err_from_is_err_and, IfOk-weaker, IfErr-weaker}
 use Rattle.resb_draft.specs.Drafts.{draft_tree, tree_at}
@@ -28,15 +28,16 @@ fits : (d : Draft) (ns ms : List ℕ) (rs : List Node) (qs : List Node)
     → map (tree_at d) ns ≡ laying_order (draft_tree d)
     → map (tree_at d) ms ≡ laying_order (draft_tree d)
     → Fits IsNode qs (laying_order (draft_tree d)) × (nows ls ≡ keys_of (draft_tree d))
-fits d ns ms rs qs ks ls e f nodes keys first second =
-    (subst (λ ps. Fits IsNode ps (laying_order (draft_tree d))) (sym e)
-     (subst (Fits IsNode rs) first nodes),
-     ap nows f ∙ keys ∙ ap (flat_map own_keys) second)
+fits d ns ms rs qs ks ls e f nodes keys first second = (
+  subst (λ ps. Fits IsNode ps (laying_order (draft_tree d))) (sym e)
+      (subst (Fits IsNode rs) first nodes),
+  ap nows f ∙ keys ∙ ap (flat_map own_keys) second,
+)
 
 pub write_order-requires : goal.write_order-requires
 write_order-requires c =
     let d = c.args.draft.now in
-    let r = fits d _ _ _ _ _ _ c.deref-3.ensures.value c.deref-4.ensures.value
+    let r = fits d _ _ _ _ _ _ c.deref-3.ensures.value refl
     c.in_ok-nodes.ensures c.in_ok-keys.ensures
     (ap (map (tree_at d)) c.deref-2.ensures.value ∙ c.requires.trees)
     (ap (map (tree_at d)) c.deref.ensures.value ∙ c.requires.trees) in
@@ -45,7 +46,7 @@ write_order-requires c =
 pub returns-clause-ok : goal.returns-clause-ok
 returns-clause-ok c =
     let d = c.args.draft.now in
-    let r = fits d _ _ _ _ _ _ c.deref-3.ensures.value c.deref-4.ensures.value
+    let r = fits d _ _ _ _ _ _ c.deref-3.ensures.value refl
     c.in_ok-nodes.ensures c.in_ok-keys.ensures
     (ap (map (tree_at d)) c.deref-2.ensures.value ∙ c.requires.trees)
     (ap (map (tree_at d)) c.deref.ensures.value ∙ c.requires.trees) in
@@ -54,7 +55,7 @@ returns-clause-ok c =
 pub returns-clause-err : goal.returns-clause-err
 returns-clause-err c =
     let d = c.args.draft.now in
-    let r = fits d _ _ _ _ _ _ c.deref-3.ensures.value c.deref-4.ensures.value
+    let r = fits d _ _ _ _ _ _ c.deref-3.ensures.value refl
     c.in_ok-nodes.ensures c.in_ok-keys.ensures
     (ap (map (tree_at d)) c.deref-2.ensures.value ∙ c.requires.trees)
     (ap (map (tree_at d)) c.deref.ensures.value ∙ c.requires.trees) in

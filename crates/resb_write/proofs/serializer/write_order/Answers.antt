@@ -32,7 +32,7 @@ returns-in_err-keys-clause-err g c =
     c.from_residual-in_err-keys.ensures.1 in
     rw (p.1, p.2) (λ t f k.
     let gathered = c.in_ok-contents.ensures (laying_order t) f in
-    key_refused t c.args.list.now (nows c.args.tree_keys.now) _ k c.in_err-keys.ensures.err)
+    key_refused t c.args.list.now (nows c.args.tree_keys.items) _ k c.in_err-keys.ensures.err)
 
 pub returns-in_err-check_sizes-clause-err : goal.returns-in_err-check_sizes-clause-err
 returns-in_err-check_sizes-clause-err g c =
@@ -41,7 +41,7 @@ returns-in_err-check_sizes-clause-err g c =
     c.from_residual-in_err-check_sizes.ensures.1 in
     rw (p.1, p.2) (λ t f k.
     let gathered = c.in_ok-contents.ensures (laying_order t) f in
-    size_refused t c.args.list.now (nows c.args.tree_keys.now) _ k b.keys b.faultless _
+    size_refused t c.args.list.now (nows c.args.tree_keys.items) _ k b.keys b.faultless _
     (c.in_err-check_sizes.ensures.err (laying_order t) gathered))
 
 pub returns-in_err-pool-clause-err : goal.returns-in_err-pool-clause-err
@@ -66,7 +66,7 @@ block_length-keys_end-requires g c =
       arith,
       small,
       ap (λ l. length (key_bytes l)) js,
-      used_room (nows c.args.tree_keys.now)
+      used_room (nows c.args.tree_keys.items)
           c.args.list.now,
     )
 
@@ -80,7 +80,7 @@ overflow_add-keys_end g c =
       arith,
       small,
       ap (λ l. length (key_bytes l)) js,
-      used_room (nows c.args.tree_keys.now)
+      used_room (nows c.args.tree_keys.items)
           c.args.list.now,
       length-padded (key_bytes (nows c.deref-2.result.now)),
       c.block_length-keys_end.ensures,
@@ -89,7 +89,7 @@ overflow_add-keys_end g c =
 -- where the keys and the strings of the tree stand, for a tail that begins at a byte of the body
 numbered : (g : _) (c : After-deref-4 g) (base : ℕ) (t : Tree)
     → Fits g.R.AsNode.is c.args.order.now (laying_order t)
-    → nows c.args.tree_keys.now ≡ keys_of t
+    → nows c.args.tree_keys.items ≡ keys_of t
     → GivesInTurn (record {
       position = position_in (nows c.in_ok-keys.field-0.keys.items);
       offset = c.in_ok-pool.ensures.ok.offset;
@@ -133,7 +133,7 @@ lay_bodies-requires-clause-tree g c =
           bytes_room (laying_order t),
           small,
           ap (λ l. length (key_bytes l)) js,
-          used_room (nows c.args.tree_keys.now) c.args.list.now,
+          used_room (nows c.args.tree_keys.items) c.args.list.now,
           length-padded (key_bytes (nows c.deref-2.result.now)),
           c.block_length-keys_end.ensures,
         );
@@ -169,7 +169,7 @@ assemble-requires g c =
           arith,
           small,
           ap (λ l. length (key_bytes l)) js,
-          used_room (nows c.args.tree_keys.now) c.args.list.now,
+          used_room (nows c.args.tree_keys.items) c.args.list.now,
         );
         units = omega (arith, room.units);
         tail = omega (arith, room.bytes);

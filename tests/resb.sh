@@ -242,7 +242,11 @@ printf 'b{a{"\\q"}}' > escape.txt
 told 1 '' $'escape.txt:1:6: expected a known escape\nb{a{"\\q"}}\n     ^' \
   compile --icu escape.txt
 printf 'b{a{"x"}' > half.txt
-told 1 '' $'half.txt:1:9: expected a key or \'}\'\nb{a{"x"}\n        ^' compile --icu half.txt
+told 1 '' $'half.txt:1:2: expected a key or \'}\' before the text ends inside this\nb{a{"x"}\n ^' \
+  compile --icu half.txt
+printf 'b{a{"\\"{"} c{/*/ } */' > inner.txt
+told 1 '' $'inner.txt:1:13: expected a resource or \'}\' before the text ends inside this
+b{a{"\\"{"} c{/*/ } */\n            ^' compile --icu inner.txt
 told 2 '' $'error: the argument \'--icu\' cannot be used with \'--limit <BYTES>\'
 
 Usage: resb compile --icu <FILE>...
@@ -284,7 +288,7 @@ icu_row 'b{a:array{"x" =}}' 15 "a comma, a resource or '}'"
 icu_row 'b{a{"x" =}}' 9 "'}', a comma, '{' or a type"
 icu_row 'b{a{"\"" {}}}' 5 'a string that may be a key'
 icu_row 'b{a:array{"x" y}}' 15 'a comma between two strings'
-icu_row 'b{a{x}' 7 "a key or '}'"
+icu_row 'b{a{x} =}' 8 "a key or '}'"
 icu_row 'b{a{x} a{y}}' 12 'each key once in the table that ends here'
 icu_row 'b{collations{a{"x"}}}' 13 'no table with rules of collation'
 icu_row 'b{CollationElements :table{}}' 21 'no table with rules of collation'

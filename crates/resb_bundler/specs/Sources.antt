@@ -3,7 +3,7 @@ use Rattle.std.specs.Prelude.{◌≡◌, List, ℕ, Bool, true, false, Option, S
 use Rattle.std.specs.Prelude.{IsUtf8}
 use Rattle.std.specs.Prelude.{if◌then◌else◌}
 use Rattle.std.specs.Str.{IsValidUpTo}
-use Rattle.resb_report.specs.Braces.{innermost_open}
+use Rattle.resb_report.specs.Braces.{innermost_open, innermost_icu_open}
 use Rattle.resb_grammar.specs.declared.expected.Expected.{Expected}
 use Rattle.resb_grammar.specs.declared.expected.Expected.TheVariants.{Memory}
 use Rattle.resb_grammar.specs.Limit.{MadeWithin, MakesMore}
@@ -55,28 +55,34 @@ abbrev pub brace_or_end : ℕ → Option ℕ → Blame
 brace_or_end place (Some brace) = Open brace
 brace_or_end place None = At place
 
--- where a reading got stuck: memory is to blame for nothing in the text, and the end of the text
--- only where no brace is open
+-- where a reading got stuck, with the innermost brace that is open where the text ends: the end of
+-- the text is to blame only where no brace is open
+abbrev pub place_or_brace : List ℕ → ℕ → Option ℕ → Blame
+place_or_brace source place brace =
+    if nat_lt place (length source) then At place else brace_or_end place brace
+
+-- where to look after a reading; memory is to blame for nothing in the text
 abbrev pub stuck_at : List ℕ → TextParserError → Blame
 stuck_at source e =
     if is_memory e.expected then Nowhere
-    else (if nat_lt e.position (length source) then At e.position
-    else brace_or_end e.position (innermost_open source))
+    else place_or_brace source e.position (innermost_open source)
 
 -- memory was wanted, and nothing of a text of ICU's form
 abbrev pub is_icu_memory : IcuExpected → Bool
 is_icu_memory icu_expect.Memory = true
 is_icu_memory _ = false
 
--- where a reading of ICU's form got stuck; memory is to blame for nothing in the text
-abbrev pub icu_stuck_at : IcuTextError → Blame
-icu_stuck_at e = if is_icu_memory e.expected then Nowhere else At e.position
+-- where to look after a reading of ICU's form
+abbrev pub icu_stuck_at : List ℕ → IcuTextError → Blame
+icu_stuck_at source e =
+    if is_icu_memory e.expected then Nowhere
+    else place_or_brace source e.position (innermost_icu_open source)
 
 -- where to look for the cause of a refusal
 abbrev pub blame_of : List ℕ → SourceError → Blame
 blame_of source (NotUtf8 place) = At place
 blame_of source (Refused (Writing e)) = Nowhere
 blame_of source (IcuRefused (icu.Writing e)) = Nowhere
-blame_of source (IcuRefused (icu.Reading e)) = icu_stuck_at e
+blame_of source (IcuRefused (icu.Reading e)) = icu_stuck_at source e
 blame_of source (Larger limit) = Nowhere
 blame_of source (Refused (Reading e)) = stuck_at source e

@@ -3,12 +3,13 @@ ghost use Rattle.std.specs.Prelude.{◌≡◌, IsUtf8, IfOk, IfErr};
 ghost use Rattle.resb_grammar.specs.Limit.{MadeWithin};
 ghost use Rattle.resb.specs.Compiling.{IsCompiled};
 ghost use Rattle.resb.specs.CompilingIcu.{IsIcuCompiled};
+ghost use Rattle.resb_bundler.specs.Sources as sources;
 ghost use Rattle.resb_bundler.specs.Sources.{IsNoSource, IsNoIcuSource, IsNoSourceWithin, blame_of};
 
 use crate::error::SourceError;
 use resb::text::{Expected, IcuExpected};
 use resb::{CompileError, CompileWithinError, IcuCompileError};
-use resb_report::innermost_open;
+use resb_report::{innermost_icu_open, innermost_open};
 use std::alloc::Global;
 
 /// The bytes of the `.res` file of a bundle's text, which is given as bytes. (`resb::compile`.)
@@ -71,9 +72,18 @@ pub enum Blame {
     Nowhere,
 }
 
+/// At the brace that is open, if one is, or else at the place.
+fn brace_or_end(place: usize, brace: Option<usize>) -> Blame
+    ensures { result ≡ sources.brace_or_end place brace }
+{
+    match brace {
+        Some(brace) => Blame::Open(brace),
+        None => Blame::At(place),
+    }
+}
+
 /// Where to look in a text that was refused: where it is no UTF-8, where the reading got stuck, or,
-/// if that is the text's end, at the innermost `{` that is open there. In a text of ICU's form it
-/// is the end itself.
+/// if that is the text's end, at the innermost `{` that is open there.
 pub fn where_to_look(source: &[u8], error: &SourceError) -> Blame
     ensures { result ≡ blame_of source.now error.now }
 {
@@ -85,20 +95,19 @@ pub fn where_to_look(source: &[u8], error: &SourceError) -> Blame
         SourceError::IcuRefused(IcuCompileError::Reading(e)) => {
             if e.expected() == IcuExpected::Memory {
                 Blame::Nowhere
-            } else {
+            } else if e.position() < source.len() {
                 Blame::At(e.position())
+            } else {
+                brace_or_end(e.position(), innermost_icu_open(source))
             }
         }
         SourceError::Refused(CompileError::Reading(e)) => {
             if e.expected() == Expected::Memory {
-                return Blame::Nowhere;
-            }
-            if e.position() < source.len() {
-                return Blame::At(e.position());
-            }
-            match innermost_open(source) {
-                Some(place) => Blame::Open(place),
-                None => Blame::At(e.position()),
+                Blame::Nowhere
+            } else if e.position() < source.len() {
+                Blame::At(e.position())
+            } else {
+                brace_or_end(e.position(), innermost_open(source))
             }
         }
     }

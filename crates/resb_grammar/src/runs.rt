@@ -1,6 +1,6 @@
 //! Where a run of blanks or of digits ends among bytes, and minus a number modulo 2 ^ 32.
-//! The readers of both text forms count their turns beside it. Words aren't read here: the two forms
-//! have them of other characters.
+//! The readers of both text forms count their turns beside it. Words aren't read here: the two
+//! forms have them of other characters.
 ghost use Rattle.std.specs.Prelude.{◌≡◌, ◌-◌, ◌<◌, ◌≤◌, min, length};
 ghost use Rattle.resb_grammar.specs.ByteRuns as spec;
 ghost use Rattle.resb_grammar.specs.ByteRuns.{Run, is_digit};

@@ -42,8 +42,8 @@ use Rattle.resb_icu_grammar.proofs.OneStep.{Next, inside, outside, first_step, c
 standing_stays : (text : List ℕ) (ws : List Waiting) (ks : List (List ℕ)) (s : Standing)
     (at to : ℕ) (x : IcuExpected) (r : Reading) → StepStuck text s at to x → Move text ws ks s at r
     → ⊥
-standing_stays text ws ks _ at _ _ _ (stuck.no_member last ts _ _ _ a b d f w) (step.array_ends _ _ _ c) =
-    a c
+standing_stays text ws ks _ at _ _ _ (stuck.no_member last ts _ _ _ a b d f w)
+    (step.array_ends _ _ _ c) = a c
 standing_stays text ws ks _ at _ _ _ (stuck.no_member last ts _ _ _ a b d f w)
     (step.comma_behind _ _ _ j e c k) = b c
 standing_stays text ws ks _ at _ _ _ (stuck.no_member last ts _ _ _ a b d f w)
@@ -70,8 +70,8 @@ standing_stays text ws ks _ at _ _ _ (stuck.key_twice es _ c d) (step.table_ends
 standing_stays text ws ks _ at _ _ _ (stuck.key_twice es _ c d) (step.key_of_entry _ _ i j k p l) =
     groups.no_string text at i _ k (key_string text at i k p) c refl
 standing_stays text ws ks _ at _ _ _ (stuck.no_entry es _ _ _ a f w) (step.table_ends _ _ c d) = a c
-standing_stays text ws ks _ at _ _ _ (stuck.no_entry es _ _ _ a f w) (step.key_of_entry _ _ i j k p l) =
-    f i k p
+standing_stays text ws ks _ at _ _ _ (stuck.no_entry es _ _ _ a f w)
+    (step.key_of_entry _ _ i j k p l) = f i k p
 standing_stays text ws ks _ at _ _ _ (stuck.no_group _ f) (step.group_opens _ i b l) = f (inl b)
 standing_stays text ws ks _ at _ _ _ (stuck.no_group _ f) (step.type_opens _ i kind h) =
     f (inr h.named.stands.colon)
@@ -83,8 +83,10 @@ standing_stays text ws ks _ at to _ _ (stuck.no_brace _ i _ kind g k n) (step.gr
     no_brace_colon text at b g.stands.colon
 standing_stays text ws ks _ at to _ _ (stuck.no_brace _ i _ kind g k n)
     (step.type_opens _ j other h) = no_opening_brace text at i to kind g k n other j h
-standing_stays text ws ks _ at _ _ _ (stuck.no_content _ _ _ a b f w) (step.untyped_nothing _ c) = a c
-standing_stays text ws ks _ at _ _ _ (stuck.no_content _ _ _ a b f w) (step.begins_with_group _ c) = b c
+standing_stays text ws ks _ at _ _ _ (stuck.no_content _ _ _ a b f w)
+    (step.untyped_nothing _ c) = a c
+standing_stays text ws ks _ at _ _ _ (stuck.no_content _ _ _ a b f w)
+    (step.begins_with_group _ c) = b c
 standing_stays text ws ks _ at _ _ _ (stuck.no_content _ _ _ a b f w)
     (step.untyped_string _ i j s p k c) = f i s p
 standing_stays text ws ks _ at _ _ _ (stuck.no_content _ _ _ a b f w)
@@ -288,8 +290,8 @@ StepStuck-one text _ at to end x y (stuck.no_member last ts _ _ _ a b d f w)
 StepStuck-one text _ at _ _ _ _ (stuck.no_member last ts _ _ _ a b d f w)
     (stuck.two_strings _ _ _ i s e p)
     = absurd (f i s p)
-StepStuck-one text _ at _ _ _ _ (stuck.no_member last ts _ _ _ a b d f w) (stuck.lone_comma _ _ _ e c) =
-    absurd (b c)
+StepStuck-one text _ at _ _ _ _ (stuck.no_member last ts _ _ _ a b d f w)
+    (stuck.lone_comma _ _ _ e c) = absurd (b c)
 StepStuck-one text _ at _ _ _ _ (stuck.two_strings last ts _ i s e p)
     (stuck.no_member _ _ _ _ _ a b d f w)
     = absurd (f i s p)
@@ -297,15 +299,17 @@ StepStuck-one text _ at _ _ _ _ (stuck.two_strings last ts _ i s e p)
     (stuck.two_strings _ _ _ j t g q) = (refl, refl)
 StepStuck-one text _ at _ _ _ _ (stuck.two_strings last ts _ i s e p) (stuck.lone_comma _ _ _ g c) =
     absurd (groups.no_string text at i _ s p c refl)
-StepStuck-one text _ at _ _ _ _ (stuck.lone_comma last ts _ e c) (stuck.no_member _ _ _ _ _ a b d f w) =
-    absurd (b c)
+StepStuck-one text _ at _ _ _ _ (stuck.lone_comma last ts _ e c)
+    (stuck.no_member _ _ _ _ _ a b d f w) = absurd (b c)
 StepStuck-one text _ at _ _ _ _ (stuck.lone_comma last ts _ e c) (stuck.two_strings _ _ _ i s g p) =
     absurd (groups.no_string text at i _ s p c refl)
 StepStuck-one text _ at _ _ _ _ (stuck.lone_comma last ts _ e c) (stuck.lone_comma _ _ _ g d) =
     (refl, refl)
 StepStuck-one text _ at _ _ _ _ (stuck.key_twice es _ c d) (stuck.key_twice _ _ e f) = (refl, refl)
-StepStuck-one text _ at _ _ _ _ (stuck.key_twice es _ c d) (stuck.no_entry _ _ _ _ a f w) = absurd (a c)
-StepStuck-one text _ at _ _ _ _ (stuck.no_entry es _ _ _ a f w) (stuck.key_twice _ _ c d) = absurd (a c)
+StepStuck-one text _ at _ _ _ _ (stuck.key_twice es _ c d)
+    (stuck.no_entry _ _ _ _ a f w) = absurd (a c)
+StepStuck-one text _ at _ _ _ _ (stuck.no_entry es _ _ _ a f w)
+    (stuck.key_twice _ _ c d) = absurd (a c)
 StepStuck-one text _ at to end x y (stuck.no_entry es _ _ _ a f w)
     (stuck.no_entry _ _ _ _ b g z) =
     Told-one text at to end expect.Entry x y w z
@@ -331,12 +335,12 @@ StepStuck-one text _ at to end _ _ (stuck.no_brace _ i _ kind g k n)
 StepStuck-one text _ at to end x y (stuck.no_content _ _ _ a b f w)
     (stuck.no_content _ _ _ c d g z) =
     Told-one text at to end expect.Member x y w z
-StepStuck-one text _ at _ _ _ _ (stuck.no_content _ _ _ a b f w) (stuck.no_further _ i _ s p k c d g) =
-    absurd (f i s p)
+StepStuck-one text _ at _ _ _ _ (stuck.no_content _ _ _ a b f w)
+    (stuck.no_further _ i _ s p k c d g) = absurd (f i s p)
 StepStuck-one text _ at _ _ _ _ (stuck.no_content _ _ _ a b f w) (stuck.no_key _ i j s p k c g) =
     absurd (f i s p)
-StepStuck-one text _ at _ _ _ _ (stuck.no_further _ i _ s p k c d g) (stuck.no_content _ _ _ a b f w) =
-    absurd (f i s p)
+StepStuck-one text _ at _ _ _ _ (stuck.no_further _ i _ s p k c d g)
+    (stuck.no_content _ _ _ a b f w) = absurd (f i s p)
 StepStuck-one text _ at to end _ _ (stuck.no_further _ i _ s p k c d g)
     (stuck.no_further _ j _ t q l e f h) =
     (behind_string text at i j to end s t p k q l, refl)

@@ -413,8 +413,8 @@ module _ (text : List ℕ) where
       → StepFails text (EndedThere (waiting.Table old key begin) r at) e
   no_collation old key r begin at e h f =
       inr (λ ws ks. subst (λ (g : IcuTextError).
-      StuckFrom text (EndedThere (waiting.Table old key begin) r at ws ks) g.position g.expected) (sym h)
-      (record {
+      StuckFrom text (EndedThere (waiting.Table old key begin) r at ws ks) g.position g.expected)
+      (sym h) (record {
         last = EndedThere (waiting.Table old key begin) r at ws ks;
         comes = here (EndedThere (waiting.Table old key begin) r at ws ks);
         there = behind _ ks (tree_of r) at begin expect.NoCollation

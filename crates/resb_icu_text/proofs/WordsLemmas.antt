@@ -1,5 +1,5 @@
 -- Laws of words and numbers, as the reader's functions use them.
-use Rattle.std.proofs.Common.{◌≡◌, ◌≢◌, ℕ, ◌+◌, ◌-◌, ◌*◌, ◌<◌, ◌≤◌, min, true, List}
+use Rattle.std.proofs.Common.{◌≡◌, ◌≢◌, ℕ, ◌+◌, ◌-◌, ◌<◌, ◌≤◌, true, List}
 use Rattle.std.proofs.Common.{arith, subst, sym, ◌∙◌, get_or}
 use Rattle.std.specs.Prelude.{slice_index}
 use Rattle.std.proofs.lemmas.Bool.Decides.{nat_tests}
@@ -16,7 +16,6 @@ use Rattle.resb_icu_grammar.specs.Words.{Digits, Number}
 use Rattle.resb_icu_grammar.specs.Words as words
 use Rattle.resb_icu_grammar.proofs.Lexical.{digit_first}
 use Rattle.resb_icu_text.specs.Inner.Numbers.{DigitsInRange, unsigned, plus, minus}
-use Rattle.resb_grammar.proofs.BothReaders.{digits_value-suc}
 
 -- behind a plus stand no digits of its range
 pub no_plus : (text : List ℕ) (from : ℕ) → slice_index text from ≡ ascii.plus

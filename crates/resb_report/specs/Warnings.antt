@@ -4,7 +4,7 @@
 use Rattle.std.specs.Prelude.{ℕ, zero, suc, Bool, true, false, ◌&&◌, ◌||◌, not, ◌==◌, List}
 use Rattle.std.specs.Prelude.{[], ◌∷◌, ◌++◌, slice_index, if◌then◌else◌, Option, Some, None, nat_eq}
 use Rattle.std.specs.Cmp.Lexicographic.{pointwise}
-use Rattle.resb_report.specs.Braces.{mode_at}
+use Rattle.resb_report.specs.Braces.{mode_at, backslash}
 use Rattle.resb_report.specs.Pieces.{PlacedText, TextPiece, a_string, closing, piece_at}
 use Rattle.resb_report.specs.Groups.{OpenGroup, Nesting, is_string_piece, pair_keys, groups_at}
 use Rattle.resb_report.specs.declared.braces.Mode.{Mode}
@@ -13,10 +13,6 @@ use Rattle.resb_report.specs.declared.warning.Reason.{Reason}
 use Rattle.resb_report.specs.declared.warning.Reason.TheVariants as reason
 use Rattle.resb_report.specs.declared.warning.Warning.{Warning}
 use Rattle.resb_grammar.specs.Ascii.{quote}
-
--- the character \ by its number in ASCII
-abbrev pub backslash : ℕ
-backslash = 92
 
 -- a warning at a place
 abbrev pub warning : Reason → ℕ → Warning

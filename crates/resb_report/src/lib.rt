@@ -9,7 +9,7 @@ mod location;
 mod pieces;
 mod warning;
 
-pub use braces::innermost_open;
+pub use braces::{innermost_icu_open, innermost_open};
 pub use excerpt::pointed_line;
 pub use location::{Location, location_of};
 pub use warning::{Reason, Warning, warnings};

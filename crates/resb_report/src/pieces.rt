@@ -8,7 +8,7 @@ ghost use Rattle.resb_report.specs.Pieces.{piece_at, token_at, word_at, is_behin
 ghost use Rattle.resb_report.specs.Warnings.{is_first_backslash};
 ghost use Rattle.resb_report.specs.Inner.Looks.{text_piece_of, Passed};
 
-use crate::braces::Mode;
+use crate::braces::{Mode, Modes};
 
 /// A string of a text.
 #[derive(Clone, Copy)]

@@ -10,9 +10,9 @@ use std::alloc::Global;
 use std::test::Fail;
 
 /// A path, a limit (0 for none, `icu` for a text of ICU's form), and a text; its resources, its
-/// largest table, whether fallback is on, its JSON, and what stands at the path. Or why the text has
-/// no file, and where to look. The reading of `b{k{v}}` makes 72 for the root, 195 for `k`, 72 for
-/// its group, 195 for `v` and 1024 for the root's table: 1558.
+/// largest table, whether fallback is on, its JSON, and what stands at the path. Or why the text
+/// has no file, and where to look. The reading of `b{k{v}}` makes 72 for the root, 195 for `k`, 72
+/// for its group, 195 for `v` and 1024 for the root's table: 1558.
 pub(crate) const BUNDLES: &str =
     r#"c/1 0 b{a{"x"}c:intvector{1,-2}} => 3 2 true {"a":"x","c":[1,-2]} -2;
 a 0 b:table(nofallback){a{"x"}} => 2 1 false {"a":"x"} "x";
@@ -25,6 +25,10 @@ k 0 b{k{v} => expected '}' Open(1);
 k 0 b k => expected '{' At(2);
 a icu b{a{"x\t" "y"}} => 2 1 true {"a":"x\ty"} "x\ty";
 100% icu b:table(nofallback){100%{}} => 2 1 false {"100%":[]} [];
+k icu b{k{v} => expected a key or '}' Open(1);
+k icu b{k{"\"{"}/*/ { */ => expected a key or '}' Open(1);
+k icu b{k{{v => expected '}', a comma, '{' or a type Open(4);
+k icu b k => expected '{' At(2);
 a icu b{a{x}a{y}} => expected each key once in the table that ends here At(10);
 a icu b{a:alias{"x"}} => expected a type of a tree, and 'alias' is none At(3);
 a icu b{a:process(uca_rules){"x"}} => expected a type of a tree, and 'process' is none At(3);

@@ -2,10 +2,10 @@
 use Rattle.std.proofs.Common.{◌≡◌, ◌∙◌, ◌<◌, ◌≤◌, ◌+◌, ◌||◌, ◌==◌, ap, sym, subst, suc, cond}
 use Rattle.std.proofs.Common.{false, arith}
 use Rattle.std.specs.Prelude.{slice_index}
-use Rattle.resb_report.specs.Braces.{mode_behind, mode_at}
+use Rattle.resb_report.specs.Braces.{mode_behind, mode_at, backslash}
 use Rattle.resb_grammar.specs.ByteRuns.{is_word}
 use Rattle.resb_report.specs.Pieces.{word_start, quote_before}
-use Rattle.resb_report.specs.Warnings.{backslash, has_backslash}
+use Rattle.resb_report.specs.Warnings.{has_backslash}
 use Rattle.resb_report.proofs.PiecesLemmas.{quote_fits}
 use Rattle.resb_report.proofs.pieces.Pieces.pass.Goals as goal
 use Rattle.resb_grammar.specs.Ascii.{quote}

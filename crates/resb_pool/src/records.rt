@@ -85,7 +85,7 @@ fn find_records<'a>(
     ensures records { IfOk result (λ v. IsRecords (nows texts.now) (record_texts v.items)) }
     ensures each { IfOk result (λ v. All (IsRecordOf (nows texts.now) sums.now) v.items) }
 {
-    let mut records = Vec::new(alloc);
+    let mut records = Vec::with_capacity(alloc, homes.len())?;
     for (index, home) in homes.iter().enumerate() {
         if !is_record(home, index, texts[index]) {
             continue;
@@ -200,6 +200,15 @@ fn push_record(units: &mut Vec<u16>, item: &Record<'_>) -> Result<u32, AllocErro
     Ok(end)
 }
 
+/// Room for unit 0 and these records, each with the longest marker.
+fn room_for(records: &[Record<'_>]) -> usize {
+    let mut room = 1usize;
+    for record in records {
+        room = room.saturating_add(record.unit_count as usize + 4);
+    }
+    room
+}
+
 /// Unit 0 and the records of so many texts, with the indexes of their closing zeros.
 pub(crate) fn lay(alloc: Global, records: &[Record<'_>], count: usize) -> Result<Block, AllocError>
     requires counts { All (λ r. r.unit_count ≡ length (units_of r.text.now)) records.now }
@@ -210,7 +219,7 @@ pub(crate) fn lay(alloc: Global, records: &[Record<'_>], count: usize) -> Result
     ensures len { IfOk result (λ b. length b.ends.items ≡ count) }
     ensures ends { IfOk result (λ b. AreEnds records.now records.now b.ends.items) }
 {
-    let mut units = Vec::new(alloc);
+    let mut units = Vec::with_capacity(alloc, room_for(records))?;
     let mut ends = vec![in alloc; 0; count]?;
     units.push(0)?;
     for record in records {

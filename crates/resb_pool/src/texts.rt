@@ -28,7 +28,7 @@ impl<'a> Texts<'a> {
     {
         Ok(Texts {
             distinct: IndexSet::with_capacity(alloc, count)?,
-            measures: Vec::new(alloc),
+            measures: Vec::with_capacity(alloc, count)?,
             order: Vec::with_capacity(alloc, count)?,
         })
     }

@@ -1,13 +1,13 @@
 -- Texts of ASCII units, and strings without markers and surrogates.
 use Rattle.std.proofs.Common.{ℕ, zero, suc, List, [], ◌∷◌, ◌≡◌, true, false, Some, inl, inr}
 use Rattle.std.proofs.Common.{refl, sym, ap, ◌∙◌, arith, ◌<◌, ◌≤◌, ◌+◌, ◌*◌, ◌/◌, min, length, take}
-use Rattle.std.proofs.Common.{drop, get_or, set, slice_get, nat_le, ◌++◌, nat_eq, IsAscii, IsUtf8}
+use Rattle.std.proofs.Common.{drop, get_or, set, nat_le, ◌++◌, nat_eq, IsAscii, IsUtf8}
 use Rattle.std.proofs.Common.{lit<, add-zero}
 use Rattle.std.proofs.lemmas.Bool.{cases_lt}
 use Rattle.std.proofs.lemmas.Bool.Decides.{nat_tests}
 use Rattle.std.proofs.lemmas.List.{get_or-take, get_or-drop, length-take, take-take}
 use Rattle.std.proofs.lemmas.List.{length-set, take_more_set, take_more, take_all}
-use Rattle.std.proofs.lemmas.Option.{slice_get_within, get_or_from_slice_get, cond_some}
+use Rattle.std.proofs.lemmas.Option.{cond_some}
 use Rattle.std.proofs.lemmas.List.Sums.{position_or_len_is}
 use Rattle.std.proofs.lemmas.Str.Ascii.{encodes-IsAscii}
 use Rattle.std.proofs.lemmas.Str.{IsUtf8-from_ascii}
@@ -123,7 +123,7 @@ plain_text_is block from bs u n is few inside h g e cut =
     text_some (units_of block) u bs (stands ∙ ap Some spelled) (rw paired refl)
 
 -- the unit behind those so far
-pub plain_more : (us : List ℕ) (n found : ℕ) → slice_get us n ≡ Some found → 0 < found
+pub plain_more : (us : List ℕ) (n found : ℕ) → found ≡ get_or us n 0 → 0 < found
     → found < 0xd800
     → ((k : ℕ) → k < n → (0 < get_or us k 0) × (get_or us k 0 < 0xd800))
     → (k : ℕ) → k < n + 1 → (0 < get_or us k 0) × (get_or us k 0 < 0xd800)
@@ -131,21 +131,18 @@ plain_more us n found e some small h k less = elim (cases_lt k n) [
   | inl before ↦ h k before
   | inr behind ↦
       let same : k ≡ n = omega arith in
-      let here : get_or us k 0 ≡ found = rw same (get_or_from_slice_get us n found 0 e) in
+      let here : get_or us k 0 ≡ found = ap (λ i. get_or us i 0) same ∙ sym e in
       rw here (some, small)
 ]
 
 -- the 0 behind them
-pub plain_ends : (block from bs : List ℕ) (u n found : ℕ) → from ≡ drop (2 * u) block → n < 41
-    → slice_get (units_of from) n ≡ Some found → found ≡ 0
+pub plain_ends : (block from bs : List ℕ) (u n : ℕ) → from ≡ drop (2 * u) block → n < 41
+    → n < length (units_of from) → get_or (units_of from) n 0 ≡ 0
     → part (units_of from) 0 n ≡ Some (units_of bs)
     → ((k : ℕ) → k < n
     → (0 < get_or (units_of from) k 0) × (get_or (units_of from) k 0 < 0xd800))
     → text_at (units_of block) u ≡ Some (text_of_bytes bs)
-plain_ends block from bs u n found is few e ends_here cut h =
-    let inside : n < length (units_of from) = slice_get_within (units_of from) n found e in
-    let ends : get_or (units_of from) n 0 ≡ 0 =
-    get_or_from_slice_get (units_of from) n found 0 e ∙ ends_here in
+plain_ends block from bs u n is few inside ends cut h =
     let front = (cond_some (nat_le (0 + n) (length (units_of from))) _ _ cut).1 in
     plain_text_is block from bs u n is few inside (λ k l. (h k l).0) (λ k l. (h k l).1) ends
     (sym front)

@@ -1,23 +1,31 @@
 //! Whether all counts of a file can be paid for, before any of them asks for room.
 //! Texts and keys are not looked at here: whether a tree stands at a word is found in `read`.
-use crate::members::{Member, Members, Standing};
+use crate::members::{Members, Standing};
 use crate::standing::standing_at;
 use crate::types::readable;
+use resb_format::bytes::first_word;
 use resb_format::{FileBlocks, ResourceReprType};
 use resb_tree::NoMemory;
 use std::alloc::Global;
 
+/// Whether a word's type is that of a collection. Leaves have no members, and needn't be looked at.
+#[inline(always)]
+fn is_collection(word: u32) -> bool {
+    match readable(word) {
+        Ok((kind, _)) => matches!(
+            kind,
+            ResourceReprType::Table
+                | ResourceReprType::_Table32
+                | ResourceReprType::Table16
+                | ResourceReprType::Array
+                | ResourceReprType::Array16
+        ),
+        Err(_) => false,
+    }
+}
+
 /// The members of the collection at a word, if one stands there.
 fn members_at(file: FileBlocks<'_>, word: u32) -> Option<Members<'_>> {
-    match readable(word).ok()?.0 {
-        ResourceReprType::Table
-        | ResourceReprType::_Table32
-        | ResourceReprType::Table16
-        | ResourceReprType::Array
-        | ResourceReprType::Array16 => {}
-        // Leaves have none, and needn't be looked at.
-        _ => return None,
-    }
     match standing_at(file, word) {
         Ok(Standing::List(members)) => Some(members),
         Ok(Standing::Table(entries)) => Some(entries.members),
@@ -34,27 +42,36 @@ pub(crate) fn can_be_paid(
 ) -> Result<bool, NoMemory> {
     let mut left = budget;
     let mut around = Vec::new(alloc);
-    let Some(mut members) = members_at(file, word) else {
-        return Ok(true);
+    let mut words = match members_at(file, word) {
+        Some(Members::Words(words)) => words,
+        Some(Members::Units(units)) => return Ok(units.len() / 2 <= left),
+        None => return Ok(true),
     };
     'rounds: loop {
-        let Some((member, rest)) = members.split() else {
+        let Some((inner, rest)) = first_word(words) else {
             let Some(outer) = around.pop() else {
                 return Ok(true);
             };
-            members = outer;
+            words = outer;
             continue;
         };
         if left == 0 {
             return Ok(false);
         }
         left -= 1;
-        members = rest;
-        if let Member::Word(inner) = member {
-            if let Some(its) = members_at(file, inner) {
-                around.push(members)?;
-                members = its;
+        words = rest;
+        if !is_collection(inner) {
+            continue;
+        }
+        match members_at(file, inner) {
+            Some(Members::Words(its)) => {
+                around.push(words)?;
+                words = its;
             }
+            // Strings alone.
+            Some(Members::Units(units)) if units.len() / 2 > left => return Ok(false),
+            Some(Members::Units(units)) => left -= units.len() / 2,
+            None => {}
         }
     }
 }

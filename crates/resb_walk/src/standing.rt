@@ -21,7 +21,9 @@ use crate::faults::{key_not_utf8, key_past_end, key_unterminated, not_utf16, pas
 use crate::members::{Leaf, Member, Members, Positions, Standing, TableParts};
 use crate::types::readable;
 use crate::units::is_well_formed;
-use resb_format::bytes::{cut_at, some_bytes, some_unit, some_units, some_word, some_words};
+use resb_format::bytes::{
+    cut_at, some_bytes, some_unit, some_units, some_word, some_words, unit_at,
+};
 use resb_format::{BinaryDeserializerError, FileBlocks, MAX_UNMARKED, ResourceReprType, string_at};
 
 /// The number of the first zero byte.
@@ -41,15 +43,17 @@ fn plain_text(block: &[u8], unit: usize) -> Option<&[u8]>
         return None;
     }
     let (_, from) = cut_at(block, 2 * unit)?;
-    'units: for count in 0..MAX_UNMARKED + 1 {
-        let found = some_unit(from, count)?;
+    let most = (from.len() / 2).min(MAX_UNMARKED + 1);
+    'units: for count in 0..most {
+        let found = unit_at(from, count);
+        if found.wrapping_sub(1) < 0xd7ff {
+            continue;
+        }
         if found == 0 {
             let units = some_units(from, 0, count)?;
             return Some(units);
         }
-        if found >= 0xd800 {
-            return None;
-        }
+        return None;
     }
     None
 }

@@ -1,6 +1,6 @@
 //! Puts the file together: the header, the root's word and the index around the blocks.
 //! What the blocks hold is said in `key_block` and by those who plan and lay.
-ghost use Rattle.std.specs.Prelude.{◌≡◌, ◌++◌, ◌^◌, ◌<◌, ℕ, slice_index, IfOk, OnOk};
+ghost use Rattle.std.specs.Prelude.{◌≡◌, ◌++◌, ◌*◌, ◌^◌, ◌<◌, ℕ, length, slice_index, IfOk, OnOk};
 ghost use Rattle.resb_head.specs.Head.{index_words};
 ghost use Rattle.resb_format.specs.Bytes.{units_as_bytes};
 ghost use Rattle.resb_layout.specs.WrittenHead.{written_header};
@@ -49,15 +49,28 @@ fn append_header(file: &mut Vec<u8>) -> Result<(), NoMemory>
     Ok(())
 }
 
+/// Puts units as bytes into their place.
+fn put_units(place: &mut [u8], units: &[u16])
+    requires { length place.old ≡ 2 * length units.now }
+    ensures bytes { place.new ≡ units_as_bytes units.now }
+    ensures fits { (k : ℕ) → slice_index units.now k < 2 ^ 16 }
+{
+    for (number, unit) in units.iter().enumerate() {
+        let bytes = unit.to_le_bytes();
+        place[2 * number] = bytes[0];
+        place[2 * number + 1] = bytes[1];
+    }
+}
+
 /// Appends the 16-bit block, with a unit that fills its last word.
 fn append_units(file: &mut Vec<u8>, units: &[u16]) -> Result<(), AllocError>
     ensures appends { OnOk result (file.new.items
         ≡ file.old.items ++ units_as_bytes (even units.now)) }
     ensures fits { (k : ℕ) → slice_index units.now k < 2 ^ 16 }
 {
-    for unit in units {
-        file.extend_from_slice(&unit.to_le_bytes())?;
-    }
+    let start = file.len();
+    file.resize(start + 2 * units.len(), 0)?;
+    put_units(&mut file[start..], units);
     if units.len() % 2 == 1 {
         file.extend_from_slice(&[0xaa, 0xaa])?;
     }

@@ -1,16 +1,20 @@
-use Rattle.std.proofs.Common.{sym, arith}
+use Rattle.std.proofs.Common.{◌<◌, sym, ◌∙◌, length, arith}
 use Rattle.resb_format.specs.Bytes.{units_of}
+use Rattle.resb_format.proofs.Spelled.{units_length}
 use Rattle.resb_walk.proofs.Plain.{plain_more, plain_ends}
 use Rattle.resb_walk.proofs.standing.plain_text.Goals as goal
 
 pub units-preserved : goal.units-preserved
 units-preserved c =
-    plain_more (units_of c.in_ok-from.from.now) c.units.count c.in_ok-found.found
-    (sym c.in_ok-found.ensures) (omega arith) (omega arith) c.units.invariant
+    plain_more (units_of c.in_ok-from.from.now) c.units.count c.unit_at-found.result
+    c.unit_at-found.ensures (omega arith) (omega arith) c.units.invariant
 
 pub returns-then-found-eq0 : goal.returns-then-found-eq0
 returns-then-found-eq0 c =
-    plain_ends c.args.block.now c.in_ok-from.from.now c.in_ok-units.units.now c.args.unit
-    c.units.count c.in_ok-found.found c.in_ok-from.ensures.parts.1 (omega arith)
-    (sym c.in_ok-found.ensures) c.if-found-eq0.true c.in_ok-units.ensures.value
+    let from = c.in_ok-from.from.now in
+    let inside : c.units.count < length (units_of from) =
+    omega (arith, c.min-most.ensures, units_length from) in
+    plain_ends c.args.block.now from c.in_ok-units.units.now c.args.unit
+    c.units.count c.in_ok-from.ensures.parts.1 (omega arith) inside
+    (sym c.unit_at-found.ensures ∙ c.if-found-eq0.true) c.in_ok-units.ensures.value
     c.units.invariant

@@ -25,10 +25,10 @@ tested_digits : (bs : List ℕ) → are_digits bs ≡ true → AllDigits 10 bs
 tested_digits [] h = tt
 tested_digits (b ∷ bs) h = digits_behind b bs (is_digit b 10) refl h (tested_digits bs)
 
-written : (bs : List ℕ) → IsNumeral 10 bs → digits_value 10 bs < 2 ^ 64
+numeral_is_read : (bs : List ℕ) → IsNumeral 10 bs → digits_value 10 bs < 2 ^ 64
     → number_written bs ≡ Some (digits_value 10 bs)
-written [] h l = absurd (omega (arith, h.0))
-written (b ∷ bs) h l =
+numeral_is_read [] h l = absurd (omega (arith, h.0))
+numeral_is_read (b ∷ bs) h l =
     rw (digits_test (b ∷ bs) h.1, lt-ltb (digits_value 10 (b ∷ bs)) (2 ^ 64) l) refl
 
 not_written : (bs : List ℕ) → (IsNumeral 10 bs × (digits_value 10 bs < 2 ^ 64) → ⊥)
@@ -54,7 +54,7 @@ IsRead ds = IsNumeral 10 ds × (digits_value 10 ds < 2 ^ 64)
 pub said : (bs : List ℕ) (n : ℕ)
     → IsRead (without_leading_plus bs) × (n ≡ digits_value 10 (without_leading_plus bs))
     → Some n ≡ number_said bs
-said bs n h = ap Some h.1 ∙ sym (written (without_leading_plus bs) (h.0).0 (h.0).1)
+said bs n h = ap Some h.1 ∙ sym (numeral_is_read (without_leading_plus bs) (h.0).0 (h.0).1)
 
 pub unsaid : (bs : List ℕ) → (IsRead (without_leading_plus bs) → ⊥) → None ≡ number_said bs
 unsaid bs h = sym (not_written (without_leading_plus bs) h)

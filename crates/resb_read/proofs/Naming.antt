@@ -168,10 +168,10 @@ key_closed keys name tail front at u e h f =
 pub ruleset told = (key_open, key_closed, past_keys)
 
 -- what stands before the first zero byte is nothing, or the first byte and what follows
-starts : (b : ℕ) (bs t : List ℕ) → before_zero (b ∷ bs) ≡ Some t
+before_zero_first : (b : ℕ) (bs t : List ℕ) → before_zero (b ∷ bs) ≡ Some t
     → (((b == 0) ≡ true) × (t ≡ []))
     ⊎ (((b == 0) ≡ false) × (s : List ℕ) × (t ≡ b ∷ s) × (before_zero bs ≡ Some s))
-starts b bs t h = by (b == 0) refl (before_zero bs) refl
+before_zero_first b bs t h = by (b == 0) refl (before_zero bs) refl
   where
     by : (z : Bool) → (b == 0) ≡ z → (o : Option (List ℕ)) → before_zero bs ≡ o
         → (((b == 0) ≡ true) × (t ≡ []))
@@ -192,7 +192,7 @@ order_front : (name xs t : List ℕ) → before_zero xs ≡ Some t
     → order_ended name (take (suc (length name)) xs) ≡ slice_cmp nat_cmp name t
 order_front [] [] t h = absurd (none-some t h)
 order_front (w ∷ ws) [] t h = absurd (none-some t h)
-order_front [] (b ∷ bs) t h = by (starts b bs t h)
+order_front [] (b ∷ bs) t h = by (before_zero_first b bs t h)
   where
     by : (((b == 0) ≡ true) × (t ≡ []))
         ⊎ (((b == 0) ≡ false) × (s : List ℕ) × (t ≡ b ∷ s) × (before_zero bs ≡ Some s))
@@ -201,7 +201,7 @@ order_front [] (b ∷ bs) t h = by (starts b bs t h)
         ap (λ z. if z then Equal else Less) e ∙ sym (ap (slice_cmp nat_cmp []) is)
     by (inr (e, s, is, k)) =
         ap (λ z. if z then Equal else Less) e ∙ sym (ap (slice_cmp nat_cmp []) is)
-order_front (w ∷ ws) (b ∷ bs) t h = by (order_front ws bs) (starts b bs t h)
+order_front (w ∷ ws) (b ∷ bs) t h = by (order_front ws bs) (before_zero_first b bs t h)
   where
     later : Ordering
     later = ordering_then (nat_cmp w b) (order_ended ws (take (suc (length ws)) bs))

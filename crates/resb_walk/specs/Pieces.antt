@@ -53,8 +53,7 @@ module _ (p : Parts) where
       holds_no_entry : HoldsEachEntry [] []
       holds_entry : {m : Member} {at : ℕ} {es : List (ℕ × Member)} {key : List ℕ}
           {xs ys : List Piece} → key_at p.keys at ≡ Some key → HoldsMember m xs
-          → HoldsEachEntry es ys
-          → HoldsEachEntry ((at, m) ∷ es) (key_piece key ∷ xs ++ ys)
+          → HoldsEachEntry es ys → HoldsEachEntry ((at, m) ∷ es) (key_piece key ∷ xs ++ ys)
 
 -- a table's own piece in a tree, by its entries
 abbrev pub entries_piece : Entries → Piece

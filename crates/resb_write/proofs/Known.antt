@@ -32,17 +32,18 @@ module _ {A : Type 0} where
 
 -- where keys us with those that are listed js have no fault
 module _ (us js : List (List ℕ)) (faultless : key_fault us js ≡ None) where
-  parts : (a b c : Bool) (x y z : WritingFault)
+  none_of_three : (a b c : Bool) (x y z : WritingFault)
       → cond a (Some x) (cond b (Some y) (cond c (Some z) None))
       ≡ None → (a ≡ false) × (b ≡ false) × (c ≡ false)
-  parts true b c x y z e = (let n : Some x ≡ None = e in cc)
-  parts false true c x y z e = (let n : Some y ≡ None = e in cc)
-  parts false false true x y z e = (let n : Some z ≡ None = e in cc)
-  parts false false false x y z e = (refl, refl, refl)
+  none_of_three true b c x y z e = (let n : Some x ≡ None = e in cc)
+  none_of_three false true c x y z e = (let n : Some y ≡ None = e in cc)
+  none_of_three false false true x y z e = (let n : Some z ≡ None = e in cc)
+  none_of_three false false false x y z e = (refl, refl, refl)
 
   pub tests : (list_any (is_unlisted js) us ≡ false) × (list_any has_nul us ≡ false)
       × (list_any (is_far js) us ≡ false)
-  tests = parts (list_any (is_unlisted js) us) (list_any has_nul us) (list_any (is_far js) us) _ _ _
+  tests = none_of_three (list_any (is_unlisted js) us) (list_any has_nul us)
+      (list_any (is_far js) us) _ _ _
       faultless
 
   pub placed : (k : List ℕ) → Contains us k → (p : ℕ) × (position_in js k ≡ Some p)

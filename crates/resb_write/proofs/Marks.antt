@@ -31,20 +31,20 @@ module _ (g : Given) (below ts : List Tree) (n : ℕ) (marks : List Bool) (many 
     many,
   )
 
-  parts : marks ≡ map (is_near g) below ++ map (is_near g) ts
-  parts = are ∙ map-append (is_near g) below ts
+  marks_of_both : marks ≡ map (is_near g) below ++ map (is_near g) ts
+  marks_of_both = are ∙ map-append (is_near g) below ts
 
   pub all_near : are_set_behind n marks ≡ are_near_strings g ts
   all_near =
       let last : drop (length marks - n) marks ≡ map (is_near g) ts =
-      (λ i. drop (seam i) (parts i))
+      (λ i. drop (seam i) (marks_of_both i))
       ∙ drop-append_seam (map (is_near g) below) (map (is_near g) ts) in
       let all : list_all (λ mark. mark) (drop (length marks - n) marks) ≡ list_all (is_near g) ts =
       ap (list_all (λ mark. mark)) last ∙ list_all-map (λ mark. mark) (is_near g) ts in
       (λ i. nat_le (sym many i) 65535 && all i)
 
   pub under : take (length marks - n) marks ≡ map (is_near g) below
-  under = (λ i. take (seam i) (parts i))
+  under = (λ i. take (seam i) (marks_of_both i))
       ∙ take-append_seam (map (is_near g) below) (map (is_near g) ts)
 
 put : (g : Given) (below : List Tree) (t : Tree) (b : Bool) → is_near g t ≡ b

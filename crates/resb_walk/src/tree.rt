@@ -41,6 +41,7 @@ impl<'de> Make<'de> for Resource<'de> {
 
     ghost tables = { Gathers };
 
+    #[inline(always)]
     fn leaf(alloc: Global, leaf: Leaf<'de>) -> Result<Resource<'de>, NoMemory> {
         Ok(match leaf {
             Leaf::Text(bytes) => Resource::String(CowStr::Owned(text_of_units(alloc, bytes)?)),

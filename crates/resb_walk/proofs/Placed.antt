@@ -1,6 +1,6 @@
 -- What lies inside a block, by numbers of bytes.
 use Rattle.resb_format.proofs.Spelled.{words_length, units_length, words_drop, units_drop}
-use Rattle.std.proofs.Common.{ℕ, List, [], ◌≡◌}
+use Rattle.std.proofs.Common.{ℕ, List, ◌≡◌}
 use Rattle.std.proofs.Common.{Bool, true, false, length, get_or, Some, None}
 use Rattle.std.proofs.Common.{refl, sym, ap, ◌∙◌, arith}
 use Rattle.std.specs.Prelude.{not}

@@ -1,12 +1,11 @@
 -- An index is read back as it was written, and written back as it was read.
-use Rattle.std.proofs.Common.{ℕ, suc, List, [], ◌∷◌, ◌++◌, ◌≡◌, ◌+◌, ◌*◌, ◌<◌, ◌≤◌, length, take}
-use Rattle.std.proofs.Common.{min, true, false, nat_le, Option, Some, None, Result, Ok, Err, refl}
-use Rattle.std.proofs.Common.{sym, ap, ◌∙◌, arith, get_or, append-nil, length-append, ◌⊎◌, inl, inr}
+use Rattle.std.proofs.Common.{ℕ, List, [], ◌∷◌, ◌++◌, ◌≡◌, ◌*◌, ◌≤◌, length, take}
+use Rattle.std.proofs.Common.{min, nat_le, Option, Some, None, Result, Ok, Err, refl}
+use Rattle.std.proofs.Common.{sym, ap, ◌∙◌, arith, get_or, length-append}
 use Rattle.std.proofs.Common.{if◌then◌else◌}
 use Rattle.std.specs.Option.{is_some, option_to_list}
 use Rattle.std.specs.List.{flat_map}
 use Rattle.std.specs.Int.{to_le_bytes, w32}
-use Rattle.std.proofs.Math.Seq.{take-suc}
 use Rattle.std.proofs.lemmas.Bool.Decides.{nat_tests}
 use Rattle.std.proofs.Props.{props}
 use mathlib.Core.HLevel.{Σ_prop_path}
@@ -23,7 +22,6 @@ use Rattle.resb_head.specs.declared.index.BinIndex.{BinIndex}
 use Rattle.resb_head.proofs.IndexSteps.{index_holds}
 use Rattle.resb_head.proofs.Lists.{all_words}
 use Rattle.resb_head.proofs.Lists.{one_count}
-use Rattle.std.proofs.lemmas.Bool.{lt-leb, le-leb}
 
 -- what was read is written as it stood
 same_words : (bs : List ℕ) (i : BinIndex) → IndexAt i bs

@@ -1,10 +1,9 @@
 -- The headers and indexes that pass each check.
-use Rattle.std.proofs.Common.{ℕ, List, [], ◌∷◌, ◌≡◌, ◌+◌, ◌-◌, ◌≤◌, length, take, drop}
+use Rattle.std.proofs.Common.{ℕ, List, [], ◌∷◌, ◌≡◌, ◌≤◌, length, drop}
 use Rattle.std.proofs.Common.{Bool, true, false, ◌||◌, nat_le, nat_eq, None, refl, sym, ap, subst}
-use Rattle.std.proofs.Common.{◌∙◌, arith, get_or, codes, slice_range}
+use Rattle.std.proofs.Common.{◌∙◌, get_or, codes, slice_range}
 use Rattle.std.specs.Str.{bytes_eq}
-use Rattle.std.proofs.lemmas.Bool.Decides.{nat_tests}
-use Rattle.std.proofs.lemmas.List.{get_or-drop, drop-drop}
+use Rattle.std.proofs.lemmas.List.{get_or-drop}
 use Rattle.std.proofs.lemmas.Slice.Eq.{bytes_eq-Decides}
 use Rattle.resb_format.specs.Error.{Refusal}
 use Rattle.resb_format.specs.Bytes.{unit_in}

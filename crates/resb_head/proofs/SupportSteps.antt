@@ -1,7 +1,6 @@
 -- Which check of what is supported is the first that fails.
-use Rattle.std.proofs.Common.{ℕ, List, [], ◌∷◌, ◌≡◌, ◌≢◌, false, nat_eq, Some, None}
-use Rattle.std.proofs.Common.{refl, arith, get_or, codes, slice_range}
-use Rattle.std.proofs.lemmas.Bool.Decides.{nat_tests}
+use Rattle.std.proofs.Common.{ℕ, List, [], ◌∷◌, ◌≡◌, ◌≢◌, Some, None}
+use Rattle.std.proofs.Common.{refl, get_or, codes, slice_range}
 use Rattle.resb_format.specs.Error.{IsRefusal, refusal_of}
 use Rattle.resb_format.specs.declared.error.ReadingError.{ReadingError}
 use Rattle.resb_format.specs.declared.error.ErrorKind.TheVariants.{UnsupportedFormat}

@@ -1,5 +1,5 @@
 -- The collections from the root to the one whose members are counted.
-use Rattle.std.proofs.Common.{ℕ, List, [], ◌∷◌, ◌++◌, ◌≡◌, ◌+◌, ◌-◌, ◌<◌, ◌≤◌, ◌*◌, inl, inr, Ok}
+use Rattle.std.proofs.Common.{ℕ, List, [], ◌∷◌, ◌++◌, ◌≡◌, ◌+◌, ◌<◌, ◌≤◌, ◌*◌, inl, inr, Ok}
 use Rattle.std.proofs.Common.{Err, Some}
 use Rattle.std.proofs.Common.{refl, sym, ◌∙◌, ap, subst, arith, length, length-append}
 use Rattle.resb_tree.specs.Tree.{Tree}

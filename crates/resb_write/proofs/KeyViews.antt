@@ -1,5 +1,5 @@
 -- The keys of a table, and what a map has at each.
-use Rattle.std.proofs.Common.{◌≡◌, ℕ, List, [], ◌∷◌, map, length, Some}
+use Rattle.std.proofs.Common.{◌≡◌, ℕ, List, [], ◌∷◌, length, Some}
 use Rattle.std.proofs.Common.{refl, sym, ◌∙◌, ap, arith}
 use Rattle.resb_tree.specs.Tree.{Entries, no_entries, entry, Trees, no_trees, more_trees}
 use Rattle.resb_tree.specs.View.{entries_view}

@@ -1,6 +1,7 @@
 //! The pieces of a draft in the order in which they are laid: members before their collection.
 //! What is laid for each is not said here. No function calls itself, so that any depth is walked.
-ghost use Rattle.std.specs.Prelude.{◌≡◌, ◌++◌, ℕ, true, [], map, reverse, IfOk, OnOk, IsTrue, IfSome};
+ghost use Rattle.std.specs.Prelude.{◌≡◌, ◌++◌, ℕ, true, [], map, reverse, IfOk, OnOk, IsTrue};
+ghost use Rattle.std.specs.Prelude.{IfSome};
 ghost use Rattle.std.specs.Prelude.{◌+◌, ◌≤◌, length, slice_range};
 ghost use Rattle.std.specs.List.{flat_map};
 ghost use Rattle.resb_tree.specs.Borrowing.{all_true};

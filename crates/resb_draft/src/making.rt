@@ -64,7 +64,8 @@ impl<'a> Draft<'a> {
     ) -> Result<u32, NoMemory>
         ensures made { let ps = entries.entry.items in
             all_true (map (λ p. is_whole self.old p.1) ps) ≡ true → IfOk result
-            (λ n. IsMade self.new n (table (map_of (map (λ p. (p.0.now, tree_at self.old p.1)) ps)))) }
+            (λ n. IsMade self.new n
+            (table (map_of (map (λ p. (p.0.now, tree_at self.old p.1)) ps)))) }
         ensures keeps { OnOk result (Keeps self.old self.new) }
     {
         if ascend(&entries) {

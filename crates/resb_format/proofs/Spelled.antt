@@ -123,24 +123,24 @@ pub words_part : (bs : List ℕ) (i n : ℕ)
 words_part bs i n = words_take (drop (4 * i) bs) n ∙ ap (take n) (words_drop bs i)
 
 -- the first word and the first unit
-pub too_short_for_a_word : (bs : List ℕ) → length bs < 4 → words_of bs ≡ []
+pub no_first_word : (bs : List ℕ) → length bs < 4 → words_of bs ≡ []
 unfolding words_of
-too_short_for_a_word [] h = refl
-too_short_for_a_word (a ∷ []) h = refl
-too_short_for_a_word (a ∷ b ∷ []) h = refl
-too_short_for_a_word (a ∷ b ∷ c ∷ []) h = refl
-too_short_for_a_word (a ∷ b ∷ c ∷ d ∷ bs) h = absurd (omega arith)
+no_first_word [] h = refl
+no_first_word (a ∷ []) h = refl
+no_first_word (a ∷ b ∷ []) h = refl
+no_first_word (a ∷ b ∷ c ∷ []) h = refl
+no_first_word (a ∷ b ∷ c ∷ d ∷ bs) h = absurd (omega arith)
 
-pub first_word_of_bytes : (bs : List ℕ) → 4 ≤ length bs
+pub first_word_is : (bs : List ℕ) → 4 ≤ length bs
     → words_of bs
     ≡ (get_or bs 0 0 + 256 * get_or bs 1 0 + 65536 * get_or bs 2 0 + 16777216 * get_or bs 3 0)
     ∷ words_of (drop 4 bs)
 unfolding words_of
-first_word_of_bytes [] h = absurd (omega arith)
-first_word_of_bytes (a ∷ []) h = absurd (omega arith)
-first_word_of_bytes (a ∷ b ∷ []) h = absurd (omega arith)
-first_word_of_bytes (a ∷ b ∷ c ∷ []) h = absurd (omega arith)
-first_word_of_bytes (a ∷ b ∷ c ∷ d ∷ bs) h = refl
+first_word_is [] h = absurd (omega arith)
+first_word_is (a ∷ []) h = absurd (omega arith)
+first_word_is (a ∷ b ∷ []) h = absurd (omega arith)
+first_word_is (a ∷ b ∷ c ∷ []) h = absurd (omega arith)
+first_word_is (a ∷ b ∷ c ∷ d ∷ bs) h = refl
 
 pub no_unit : (bs : List ℕ) → length bs < 2 → units_of bs ≡ []
 unfolding units_of

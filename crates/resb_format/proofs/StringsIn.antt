@@ -53,13 +53,13 @@ nothing_past : (us : List ℕ) (u : ℕ) → length us ≤ u → string_at us u 
 unfolding string_at
 nothing_past us u h = rw (get_or_past us u 0 h, drop_all u us h) refl
 
-pub no_string_past_end : (bs : List ℕ) (u : ℕ) → length bs / 2 ≤ u
+pub no_string : (bs : List ℕ) (u : ℕ) → length bs / 2 ≤ u
     → string_at (units_of bs) u ≡ None
-no_string_past_end bs u h = nothing_past (units_of bs) u (omega (arith, units_length bs))
+no_string bs u h = nothing_past (units_of bs) u (omega (arith, units_length bs))
 
-pub past_end_fault : (bs : List ℕ) (u : ℕ) → length bs / 2 ≤ u
+pub end_refused : (bs : List ℕ) (u : ℕ) → length bs / 2 ≤ u
     → string_message (units_of bs) u ≡ end_message
-past_end_fault bs u h = grind (arith, nat_tests, units_length bs)
+end_refused bs u h = grind (arith, nat_tests, units_length bs)
 
 -- with a marker
 pub at_marker : (us : List ℕ) (u first : ℕ) → first ≡ get_or us u 0

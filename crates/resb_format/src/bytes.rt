@@ -128,7 +128,7 @@ pub fn first_four_units(bytes: &[u8]) -> Option<([u16; 4], &[u8])>
 }
 
 /// The first word, and the bytes behind it.
-#[tactic(auto, using(crate::proofs::Spelled::first_word_of_bytes, crate::proofs::Spelled::too_short_for_a_word))]
+#[tactic(auto, using(crate::proofs::Spelled::first_word_is, crate::proofs::Spelled::no_first_word))]
 pub fn first_word(bytes: &[u8]) -> Option<(u32, &[u8])>
     ensures { let words = words_of bytes.now in
         MatchOption result (words ≡ []) (λ r. words ≡ r.0 ∷ words_of r.1.now) }

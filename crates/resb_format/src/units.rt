@@ -24,7 +24,7 @@ pub const MAX_UNMARKED: usize = 40;
 ///
 /// A string that does not lie inside the block is refused as the end of the input,
 /// and one that has no marker and no 0 in time as unterminated.
-#[tactic(auto, using(crate::proofs::StringsIn::no_string_past_end, crate::proofs::StringsIn::past_end_fault))]
+#[tactic(auto, using(crate::proofs::StringsIn::no_string, crate::proofs::StringsIn::end_refused))]
 pub fn string_at(block: &[u8], unit: usize) -> Result<Utf16View<'_>, BinaryDeserializerError>
     ensures { let us = units_of block.now in
         MatchResult result (λ v. strings.string_at us unit ≡ Some (view_units v))

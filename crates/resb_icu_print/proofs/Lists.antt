@@ -4,7 +4,8 @@ use Rattle.std.specs.Prelude.{not, ◌||◌, ◌==◌}
 use Rattle.std.proofs.lemmas.Bool.{false≢true}
 use Rattle.std.proofs.lemmas.Bool.Decides.{nat_tests}
 
--- where it is not so that the first fails or the second holds, the first holds, and the second fails
+-- where it is not so that the first fails or the second holds, the first holds and the second
+-- fails
 pub but_parts : (a b : Bool) → not (not a || b) ≡ true → (a ≡ true) × (not b ≡ true)
 but_parts true b h = (refl, h)
 but_parts false b h = absurd (false≢true h)

@@ -1,7 +1,8 @@
 //! The plan of a pool: strings in, the units of their records and their offsets out.
 //! Each step has a file of its own: `texts`, `homes`, `records`, `offsets`.
 ghost use Rattle.std.specs.Prelude.{◌≡◌, ℕ, ◌<◌, ◌^◌, List, map, Some, IfOk, IfErr};
-ghost use Rattle.resb_pool.specs.Plan.{nows, plan_units, offset_of, turn_offsets, texts_size, IsPlan, NotPlanned};
+ghost use Rattle.resb_pool.specs.Plan.{nows, plan_units, offset_of, turn_offsets, texts_size};
+ghost use Rattle.resb_pool.specs.Plan.{IsPlan, NotPlanned};
 ghost use Rattle.resb_pool.specs.Inner.Placing.{AreTexts, AreHomes};
 ghost use Rattle.resb_pool.specs.Inner.LaidRecords.{IsBlock, HaveOffsets};
 

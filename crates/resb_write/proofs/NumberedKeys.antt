@@ -1,5 +1,6 @@
 -- Keys that are put into a map in turn, and the index that each has there.
-use Rattle.std.proofs.Common.{◌≡◌, ℕ, zero, suc, ◌+◌, ◌<◌, ◌≤◌, List, [], ◌∷◌, ◌++◌, Bor, Bool, true}
+use Rattle.std.proofs.Common.{◌≡◌, ℕ, zero, suc, ◌+◌, ◌<◌, ◌≤◌, List, [], ◌∷◌, ◌++◌, Bor, Bool}
+use Rattle.std.proofs.Common.{true}
 use Rattle.std.proofs.Common.{false, cond, not, All, length, map, get_or, refl, sym, ◌∙◌, ap}
 use Rattle.std.proofs.Common.{arith}
 use Rattle.std.specs.List.{position_or_len}
@@ -30,7 +31,8 @@ module _ {V : Type 0} where
 
   -- a key stands at the index that it was given
   put_at : (es : List (Key × V)) (k : Key) (v : V)
-      → at (texts (insert_entry same_key es k v)) (position_or_len (same_key k) (keys_of es)) ≡ k.now
+      → at (texts (insert_entry same_key es k v)) (position_or_len (same_key k) (keys_of es))
+      ≡ k.now
   put_at [] k v = refl
   put_at (e ∷ es) k v = by (put_at es k v) (bytes_eq k.now e.0.now) refl
     where
@@ -51,7 +53,8 @@ module _ {V : Type 0} where
   keeps_at (e ∷ es) k v n h = by (keeps_at es k v) (bytes_eq k.now e.0.now) n h
     where
       by : ((m : ℕ) → m < length (texts es)
-          → at (texts (insert_entry same_key es k v)) m ≡ at (texts es) m) → (b : Bool) (n : ℕ) → n < length (texts (e ∷ es))
+          → at (texts (insert_entry same_key es k v)) m ≡ at (texts es) m)
+          → (b : Bool) (n : ℕ) → n < length (texts (e ∷ es))
           → at (texts (cond b ((e.0, v) ∷ es) (e ∷ insert_entry same_key es k v))) n
           ≡ at (texts (e ∷ es)) n
       by rest true n h = refl

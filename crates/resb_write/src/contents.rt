@@ -60,8 +60,8 @@ impl<'t> Contents<'t> {
 
     /// Adds what a resource holds.
     fn add(&mut self, node: Node<'t>) -> Result<(), AllocError>
-        ensures { OnOk result ((ts : List Tree) (t : Tree) → Gathered ts self.old → IsNode node.entry t
-            → Gathered (ts ++ t ∷ []) self.new) }
+        ensures { OnOk result ((ts : List Tree) (t : Tree) → Gathered ts self.old
+            → IsNode node.entry t → Gathered (ts ++ t ∷ []) self.new) }
     {
         match node {
             Node::String(text) => self.add_text(text)?,

@@ -31,7 +31,8 @@ fn step(
     requires { (t : Tree) × IsNode node t × HasRoom base bodies.old (own_size t)
         × (length (children t) ≤ length words.old.items) × (g : Given) × (rest : List Tree)
         × GivesInTurn g coming.old.positions.now coming.old.offsets.now (t ∷ rest) }
-    ensures step { OnOk result (Anywhere base (λ g. (t : Tree) (rest : List Tree) → IsNode node.entry t
+    ensures step { OnOk result (Anywhere base (λ g. (t : Tree) (rest : List Tree)
+        → IsNode node.entry t
         → GivesInTurn g coming.old.positions.now coming.old.offsets.now (t ∷ rest)
         → LaysNext g (laid_of bodies.old) words.old.items t (laid_of bodies.new)
         words.new.items)) }

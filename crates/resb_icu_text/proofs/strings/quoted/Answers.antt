@@ -32,7 +32,8 @@ returns-then-plain-clause-found c =
     piece_lexeme c.args.text.now c.args.from c.in_ok-last.last c.skip-next.result h.0 _
     c.requires.opens h.1 c.skip-next.ensures.skip
     (λ e. c.if-byte-ne34.true (c.byte.ensures.byte ∙ e))
-    (c.in_ok-last.ensures.plain c.if-plain.true) c.range.ensures.value c.skip-next.ensures.order c.skip-next.ensures.fits
+    (c.in_ok-last.ensures.plain c.if-plain.true) c.range.ensures.value c.skip-next.ensures.order
+    c.skip-next.ensures.fits
 
 pub returns-clause-found : goal.returns-clause-found
 returns-clause-found c =

@@ -12,7 +12,11 @@ loop-turn-preserved c =
     let ys = c.loop-turn.turn-items in
     let i = c.loop-turn.turn-index in
     let l : i < length ys = omega (arith, c.loop-turn-test.true, c.loop-turn.auto.turn-items) in
-    let n : length ys ≡ length xs = omega (arith, c.loop-turn.auto.turn-items, ap length c.deref_mut-turn-items.ensures.value) in
+    let n : length ys ≡ length xs = omega (
+      arith,
+      c.loop-turn.auto.turn-items,
+      ap length c.deref_mut-turn-items.ensures.value,
+    ) in
     let e : c.unwrap_or.result ≡ slice_index os (get_or ys i 0) = grind (arith, common_steps) in
     ap (slice_set ys i) e
     ∙ map_over_more (slice_index os) xs ys i (get_or ys i 0) (omega (arith, l, n))

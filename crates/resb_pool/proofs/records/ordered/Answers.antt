@@ -11,7 +11,8 @@ returns-clause-records c =
     records_permutation (nows c.args.texts.now) (record_texts c.in_ok-records.records.items)
     (record_texts c.sort_unstable.new.self.items)
     (IsPermutation-map (λ (r : Record). r.text.now) c.in_ok-records.records.items
-    c.sort_unstable.new.self.items c.sort_unstable.ensures.permutation) c.in_ok-records.ensures.records
+    c.sort_unstable.new.self.items c.sort_unstable.ensures.permutation)
+    c.in_ok-records.ensures.records
 
 pub returns-clause-each : goal.returns-clause-each
 returns-clause-each c = All-permutation (IsRecordOf (nows c.args.texts.now) c.args.sums.now)

@@ -9,7 +9,8 @@ use Rattle.resb_text.proofs.drafts.entries_of.Given as goal
 abbrev pub invariant-loop-item : goal.invariant-loop-item
 invariant-loop-item l = record {
   made : (d : Draft) → entries_seen d l.entries.items
-      ++ pairs_after (waiting_key l.waiting) (map (piece_item_seen d) (into_iter_items l.item-iterator))
+      ++ pairs_after (waiting_key l.waiting)
+      (map (piece_item_seen d) (into_iter_items l.item-iterator))
       ≡ shown_pairs (map (piece_item_seen d) (into_iter_items l.initial.item-iterator));
   whole : (d : Draft)
       → all_true (map shown_borrowed

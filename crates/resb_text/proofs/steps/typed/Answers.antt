@@ -147,7 +147,13 @@ returns-in_err-take-2-clause-cost g c =
     c.from_residual-in_err-take-2.ensures.1 in
     let looked = reach_high c.args.text.now _ c.in_ok-first.ensures.within.1 in
     let leaf_looked = reach_high c.args.text.now _ c.in_ok-next.ensures.within.1 in
-    rw p.1 (omega (arith, looked, c.in_ok-first.ensures.cost, leaf_looked, c.in_ok-next.ensures.cost))
+    rw p.1 (omega (
+      arith,
+      looked,
+      c.in_ok-first.ensures.cost,
+      leaf_looked,
+      c.in_ok-next.ensures.cost,
+    ))
 
 pub returns-in_err-add_leaf-clause-cost : goal.returns-in_err-add_leaf-clause-cost
 returns-in_err-add_leaf-clause-cost g c =
@@ -155,4 +161,10 @@ returns-in_err-add_leaf-clause-cost g c =
     c.from_residual-in_err-add_leaf.ensures.1 in
     let looked = reach_high c.args.text.now _ c.in_ok-first.ensures.within.1 in
     let leaf_looked = reach_high c.args.text.now _ c.in_ok-next.ensures.within.1 in
-    rw p.1 (omega (arith, looked, c.in_ok-first.ensures.cost, leaf_looked, c.in_ok-next.ensures.cost))
+    rw p.1 (omega (
+      arith,
+      looked,
+      c.in_ok-first.ensures.cost,
+      leaf_looked,
+      c.in_ok-next.ensures.cost,
+    ))

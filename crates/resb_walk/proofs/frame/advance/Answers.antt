@@ -24,7 +24,8 @@ returns-in-Err-clause-steps g c = λ w n h.
           c.in-Some-split.ensures c.in-Err.ensures.stands.0,
     )
 
-pub returns-in_ok-end_table-in-None-split-clause-steps : goal.returns-in_ok-end_table-in-None-split-clause-steps
+pub returns-in_ok-end_table-in-None-split-clause-steps
+    : goal.returns-in_ok-end_table-in-None-split-clause-steps
 returns-in_ok-end_table-in-None-split-clause-steps g c = λ w n h.
     let o = rw c.in-Table.is at h in (
       table (map_of o.entries),

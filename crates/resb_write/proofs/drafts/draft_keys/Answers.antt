@@ -1,5 +1,6 @@
 -- An iteration adds the keys of the next one.
-use Rattle.std.proofs.Common.{List, ℕ, Bor, ◌<◌, ◌++◌, length, take, map, sym, ap, ◌∙◌, arith, get_or}
+use Rattle.std.proofs.Common.{List, ℕ, Bor, ◌<◌, ◌++◌, length, take, map, sym, ap, ◌∙◌, arith}
+use Rattle.std.proofs.Common.{get_or}
 use Rattle.std.proofs.lemmas.List.{map_more, map-append}
 use Rattle.std.specs.List.{flat_map}
 use Rattle.resb_draft.specs.Drafts.{tree_at, is_whole}

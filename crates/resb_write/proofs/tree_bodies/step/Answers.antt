@@ -215,7 +215,8 @@ returns-in-Binary-clause-step c =
     on_ok_weaker c.step_bytes.result (λ h given at t rest is n.
     let e : t ≡ binary c.in-Binary.bytes.now = subst (λ m. IsNode m t) c.in-Binary.is is in
     subst (λ u. LaysNext given (laid_of c.args.bodies.now) c.args.words.now.items u
-    (laid_of c.step_bytes.new.bodies) c.step_bytes.new.words.items) (sym e) (h given at)) c.step_bytes.ensures.step
+    (laid_of c.step_bytes.new.bodies) c.step_bytes.new.words.items) (sym e) (h given at))
+    c.step_bytes.ensures.step
 
 pub returns-in-Binary-clause-left : goal.returns-in-Binary-clause-left
 returns-in-Binary-clause-left c =
@@ -230,7 +231,8 @@ pub returns-in-Binary-clause-takes : goal.returns-in-Binary-clause-takes
 returns-in-Binary-clause-takes c =
     on_ok_weaker c.step_bytes.result (λ h t is.
     let e : t ≡ binary c.in-Binary.bytes.now = subst (λ m. IsNode m t) c.in-Binary.is is in
-    subst (λ u. TakesNoMore c.args.base c.args.bodies.now c.step_bytes.new.bodies (own_size u)) (sym e) h)
+    subst (λ u. TakesNoMore c.args.base c.args.bodies.now c.step_bytes.new.bodies (own_size u))
+    (sym e) h)
     c.step_bytes.ensures.takes
 
 pub step_integer-requires : goal.step_integer-requires
@@ -241,7 +243,8 @@ returns-in-Integer-clause-step c =
     on_ok_weaker c.step_integer.result (λ h given at t rest is n.
     let e : t ≡ integer c.in-Integer.number = (subst (λ m. IsNode m t) c.in-Integer.is is).0 in
     subst (λ u. LaysNext given (laid_of c.args.bodies.now) c.args.words.now.items u
-    (laid_of c.args.bodies.now) c.step_integer.new.words.items) (sym e) (h given (laid_of c.args.bodies.now))) c.step_integer.ensures
+    (laid_of c.args.bodies.now) c.step_integer.new.words.items) (sym e)
+    (h given (laid_of c.args.bodies.now))) c.step_integer.ensures
 
 pub returns-in-Integer-clause-left : goal.returns-in-Integer-clause-left
 returns-in-Integer-clause-left c =
@@ -264,28 +267,34 @@ returns-in-Integer-clause-takes c =
 pub step_numbers-requires : goal.step_numbers-requires
 step_numbers-requires c =
     let r = c.requires in
-    let e : r.0 ≡ int_vector c.in-IntVector.numbers.now = subst (λ m. IsNode m r.0) c.in-IntVector.is r.1 in
+    let e : r.0 ≡ int_vector c.in-IntVector.numbers.now = subst (λ m. IsNode m r.0)
+    c.in-IntVector.is r.1 in
     subst (λ u. HasRoom c.args.base c.args.bodies.now (own_size u)) e r.2
 
 pub returns-in-IntVector-clause-step : goal.returns-in-IntVector-clause-step
 returns-in-IntVector-clause-step c =
     on_ok_weaker c.step_numbers.result (λ h given at t rest is n.
-    let e : t ≡ int_vector c.in-IntVector.numbers.now = subst (λ m. IsNode m t) c.in-IntVector.is is in
+    let e : t ≡ int_vector c.in-IntVector.numbers.now =
+    subst (λ m. IsNode m t) c.in-IntVector.is is in
     subst (λ u. LaysNext given (laid_of c.args.bodies.now) c.args.words.now.items u
-    (laid_of c.step_numbers.new.bodies) c.step_numbers.new.words.items) (sym e) (h given at)) c.step_numbers.ensures.step
+    (laid_of c.step_numbers.new.bodies) c.step_numbers.new.words.items) (sym e) (h given at))
+    c.step_numbers.ensures.step
 
 pub returns-in-IntVector-clause-left : goal.returns-in-IntVector-clause-left
 returns-in-IntVector-clause-left c =
     let ps = c.args.coming.now.positions.now in
     let os = c.args.coming.now.offsets.now in
     on_ok_weaker c.step_numbers.result (λ h given t rest is n.
-    let e : t ≡ int_vector c.in-IntVector.numbers.now = subst (λ m. IsNode m t) c.in-IntVector.is is in
+    let e : t ≡ int_vector c.in-IntVector.numbers.now =
+    subst (λ m. IsNode m t) c.in-IntVector.is is in
     let k = subst (λ u. GivesInTurn given ps os (u ∷ rest)) e n in
     record { keys = k.keys; texts = k.texts; near = k.near }) c.step_numbers.ensures.step
 
 pub returns-in-IntVector-clause-takes : goal.returns-in-IntVector-clause-takes
 returns-in-IntVector-clause-takes c =
     on_ok_weaker c.step_numbers.result (λ h t is.
-    let e : t ≡ int_vector c.in-IntVector.numbers.now = subst (λ m. IsNode m t) c.in-IntVector.is is in
-    subst (λ u. TakesNoMore c.args.base c.args.bodies.now c.step_numbers.new.bodies (own_size u)) (sym e) h)
+    let e : t ≡ int_vector c.in-IntVector.numbers.now =
+    subst (λ m. IsNode m t) c.in-IntVector.is is in
+    subst (λ u. TakesNoMore c.args.base c.args.bodies.now c.step_numbers.new.bodies (own_size u))
+    (sym e) h)
     c.step_numbers.ensures.takes

@@ -44,5 +44,6 @@ returns-clause-keeps c =
     let items = c.in_ok-extend_from_slice.ensures.items in
     on_ok_weaker c.push.result
     (keeps_on old mid c.push.new.self
-    (agrees_keeps old mid (grown old mid (more_members old mid c.args.members.now refl items refl))))
+    (agrees_keeps old mid
+    (grown old mid (more_members old mid c.args.members.now refl items refl))))
     c.push.ensures.keeps

@@ -22,7 +22,8 @@ returns-clause-made c = λ h.
     let i = c.loop-entry.invariant in
     let all = take_all c.loop-entry.entry-index es
     (omega (arith, c.loop-entry-test.false, c.loop-entry.auto.entry-index-end)) in
-    let members = i.members ∙ ap (λ l. old.members.items ++ map (λ (e : Bor (List ℕ) × ℕ). e.1) l) all in
+    let members = i.members
+    ∙ ap (λ l. old.members.items ++ map (λ (e : Bor (List ℕ) × ℕ). e.1) l) all in
     let keys = i.keys ∙ ap (λ l. old.keys.items ++ map (λ (e : Bor (List ℕ) × ℕ). e.0) l) all in
     let t = table (entries_of (map (λ (p : Bor (List ℕ) × ℕ). (p.0.now, tree_at old p.1)) es)) in
     let agrees = grown old mid

@@ -1,9 +1,8 @@
 -- Where a quoted string has a fault no string stands, and it has one fault.
-use Rattle.std.proofs.Common.{◌≡◌, ◌≢◌, ℕ, ◌+◌, ◌≤◌, List, refl, sym, ◌∙◌, ap, subst, arith, length}
+use Rattle.std.proofs.Common.{◌≡◌, ◌≢◌, ℕ, ◌+◌, ◌≤◌, List, refl, ◌∙◌, ap, subst, arith, length}
 use Rattle.std.specs.Prelude.{slice_index}
 use Rattle.std.proofs.lemmas.List.{get_or_past}
 use Rattle.resb_grammar.specs.Ascii as ascii
-use Rattle.resb_icu_grammar.specs.Bytes.{backslash}
 use Rattle.resb_icu_grammar.specs.Blanks.{Skip}
 use Rattle.resb_icu_grammar.specs.Pieces.{QuotedBytes, ends, byte, escape, QuotedPiece, Joined}
 use Rattle.resb_icu_grammar.specs.Pieces.{last_piece, one_more}
@@ -12,7 +11,7 @@ use Rattle.resb_icu_grammar.specs.Faults as fault
 use Rattle.resb_icu_grammar.specs.Faults.{PieceFault, StringFault, this_piece, later_piece, Told}
 use Rattle.resb_icu_grammar.specs.Faults.{a_fault, no_fault}
 use Rattle.resb_icu_grammar.specs.declared.expected.IcuExpected.{IcuExpected}
-use Rattle.resb_icu_grammar.proofs.Lexical.{Escape-one, Piece-one, Skip-one, joined_first}
+use Rattle.resb_icu_grammar.proofs.Lexical.{Escape-one, Piece-one, Skip-one}
 use Rattle.resb_icu_grammar.proofs.Lexical.{no_quote_word}
 
 past : (text : List ℕ) (at : ℕ) → length text ≤ at → slice_index text at ≡ 0

@@ -11,7 +11,7 @@ pub use Rattle.resb_tree.specs.Int28
 pub use Rattle.resb_tree.specs.LayingOrder
 pub use Rattle.resb_tree.specs.Laws as TreeLaws
 pub use Rattle.resb_draft.specs.Drafts
-pub use Rattle.resb_draft.specs.Pieces
+pub use Rattle.resb_draft.specs.Pieces as DraftPieces
 pub use Rattle.resb_grammar.specs.Ascii
 pub use Rattle.resb_grammar.specs.ByteRuns
 pub use Rattle.resb_grammar.specs.Lexical

@@ -234,7 +234,8 @@ printf 'en{a{"x\303\251y"}e:array{}p{"100%%"}}' > plain.txt
 told 0 '' '' compile --icu icu.txt
 told 0 '' '' compile plain.txt
 same icu.res plain.res
-told 1 '' $'icu.txt:1:1: expected a string\n\357\273\277en {\n^' compile icu.txt
+told 1 '' $'icu.txt:1:1: expected a string\n\357\273\277en {\n^
+icu.txt: texts of ICU\'s own form are read with --icu' compile icu.txt
 printf 'b{a{x}\n a{y}}' > twice.txt
 told 1 '' $'twice.txt:2:6: expected each key once in the table that ends here\n a{y}}\n     ^' \
   compile --icu twice.txt

@@ -66,6 +66,9 @@ pub(crate) fn refuse<R: Eprint + AllocGlobal>(
             let (line, column) = (at.line, at.column);
             let _ = eprintln!(rt; "{name}:{line}:{column}: {error}");
             point(rt, source, place);
+            if may_be_icu(source, place, error) {
+                complain(rt, name, "texts of ICU's own form are read with --icu");
+            }
         }
         Blame::Open(place) => {
             let at = location_of(source, place);
@@ -75,6 +78,18 @@ pub(crate) fn refuse<R: Eprint + AllocGlobal>(
             );
             point(rt, source, place);
         }
+    }
+}
+
+/// Whether a text that is refused looks like one of ICU's own form: it begins with a byte order mark,
+/// or a character that only ICU's words have stands where it is refused.
+fn may_be_icu(source: &[u8], place: usize, error: &SourceError) -> bool {
+    match error {
+        SourceError::Refused(_) => {
+            source.starts_with(b"\xEF\xBB\xBF")
+                || matches!(source.get(place), Some(b'_' | b'%' | b'.' | b'+'))
+        }
+        _ => false,
     }
 }
 

@@ -55,6 +55,7 @@ first_places_distinct (k ∷ ks) = (
   distinct_others k (first_places ks) (first_places_distinct ks),
 )
 
+-- keys that are the places at which each is first met are distinct
 pub distinct_as : (keys ks : List (List ℕ)) → keys ≡ first_places ks → IsDistinct same_text keys
 distinct_as keys ks e =
     subst (λ (xs : List (List ℕ)). IsDistinct same_text xs) (sym e) (first_places_distinct ks)

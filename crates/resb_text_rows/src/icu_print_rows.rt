@@ -105,7 +105,7 @@ const CAUSES: [(&str, &str, Option<&str>, IcuCause); 6] = [
 ];
 
 #[test]
-fn keys_that_icu_does_not_take_have_no_text(rt: HostRuntime) -> Result<(), Fail> {
+fn what_icu_does_not_take_has_no_text(rt: HostRuntime) -> Result<(), Fail> {
     for (name, key, value, cause) in CAUSES {
         let bundle = entry(rt.alloc(), name, key, value)?;
         let answer = print_icu_text(rt.alloc(), &bundle).err();

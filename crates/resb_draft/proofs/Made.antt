@@ -8,7 +8,7 @@ use Rattle.std.proofs.lemmas.Simd.{map-map}
 use Rattle.resb_tree.specs.Borrowing.{all_true}
 use Rattle.resb_tree.specs.Tree.{array, table, trees_of, entries_of}
 use Rattle.resb_draft.specs.Drafts.{texts, texts_ascend, trees_at, all_whole, part, is_inside}
-use Rattle.resb_draft.specs.Drafts.{stands_for, pieces_stand, tree_at, is_whole}
+use Rattle.resb_draft.specs.Drafts.{piece_meaning, pieces_stand, tree_at, is_whole}
 use Rattle.resb_draft.specs.Inner.Entries.{keys_ascend}
 use Rattle.resb_draft.specs.declared.draft.Draft.{Draft}
 use Rattle.resb_draft.specs.declared.draft.Members.{Members}
@@ -32,7 +32,7 @@ pub array_made : (old mid : Draft) (ns : List ℕ) (m : Members)
     → mid.members.items ≡ old.members.items ++ ns → m.from ≡ length old.members.items
     → m.count ≡ length ns → Agrees (pieces_stand old) (pieces_stand mid)
     → all_true (map (is_whole old) ns) ≡ true
-    → stands_for mid.members.items (texts mid.keys.items) (pieces_stand mid) (piece.Array m)
+    → piece_meaning mid.members.items (texts mid.keys.items) (pieces_stand mid) (piece.Array m)
     ≡ (array (trees_of (map (tree_at old) ns)), true)
 array_made old mid ns m e at many f h =
     let own = behind_is old.members.items ns mid.members.items m.from m e at many in
@@ -48,7 +48,7 @@ pub table_made : (old mid : Draft) (es : List (Bor (List ℕ) × ℕ)) (m : Memb
     → m.from ≡ length old.members.items → k ≡ length old.keys.items → m.count ≡ length es
     → Agrees (pieces_stand old) (pieces_stand mid) → keys_ascend es ≡ true
     → all_true (map (λ e. is_whole old e.1) es) ≡ true
-    → stands_for mid.members.items (texts mid.keys.items) (pieces_stand mid) (piece.Table m k)
+    → piece_meaning mid.members.items (texts mid.keys.items) (pieces_stand mid) (piece.Table m k)
     ≡ (table (entries_of (map (λ e. (e.0.now, tree_at old e.1)) es)), true)
 table_made old mid es m k e f at first many agrees ascend h =
     let value : Bor (List ℕ) × ℕ → ℕ = λ e. e.1 in

@@ -7,7 +7,7 @@ use Rattle.std.proofs.lemmas.Bool.{and_from, and_parts, false≢true, leb-true, 
 use Rattle.std.proofs.lemmas.List.{get_or_push, length-append}
 use Rattle.resb_tree.specs.Tree.{Tree, array, table, trees_of, entries_of}
 use Rattle.resb_draft.specs.Drafts.{texts, texts_ascend, nothing, trees_at, all_whole}
-use Rattle.resb_draft.specs.Drafts.{part, is_inside, stands_for, all_stand, pieces_stand}
+use Rattle.resb_draft.specs.Drafts.{part, is_inside, piece_meaning, all_stand, pieces_stand}
 use Rattle.resb_draft.specs.Drafts.{IsMade, Keeps}
 use Rattle.resb_draft.specs.declared.draft.Draft.{Draft}
 use Rattle.resb_draft.specs.declared.draft.Members.{Members}
@@ -55,8 +55,9 @@ longer_append xs ys from m h =
 -- a piece that is whole stands for the same with more before it, more members and more keys
 pub stands_on : (ns ns' : List ℕ) (ks ks' : List (List ℕ)) (ms qs : List (Tree × Bool))
     → Longer ns ns' → Longer ks ks' → Agrees ms qs → (p : Piece)
-    → (stands_for ns ks ms p).1 ≡ true → stands_for ns' ks' qs p ≡ stands_for ns ks ms p
+    → (piece_meaning ns ks ms p).1 ≡ true → piece_meaning ns' ks' qs p ≡ piece_meaning ns ks ms p
 stands_on ns ns' ks ks' ms qs more keys f (piece.String s) h = refl
+stands_on ns ns' ks ks' ms qs more keys f (piece.Integer n) h = refl
 stands_on ns ns' ks ks' ms qs more keys f (piece.Leaf r) h = refl
 stands_on ns ns' ks ks' ms qs more keys f (piece.Array m) h =
     let both = and_parts (is_inside ns m.from m) _ h in
@@ -104,9 +105,9 @@ all_kept : (ns ns' : List ℕ) (ks ks' : List (List ℕ)) → Longer ns ns' → 
     → Kept (all_stand ns ks ms ps) (all_stand ns' ks' qs ps)
 all_kept ns ns' ks ks' more keys [] ms qs k = k
 all_kept ns ns' ks ks' more keys (p ∷ ps) ms qs k =
-    all_kept ns ns' ks ks' more keys ps (ms ++ stands_for ns ks ms p ∷ [])
-    (qs ++ stands_for ns' ks' qs p ∷ [])
-    (kept_push ms qs (stands_for ns ks ms p) (stands_for ns' ks' qs p) k
+    all_kept ns ns' ks ks' more keys ps (ms ++ piece_meaning ns ks ms p ∷ [])
+    (qs ++ piece_meaning ns' ks' qs p ∷ [])
+    (kept_push ms qs (piece_meaning ns ks ms p) (piece_meaning ns' ks' qs p) k
     (stands_on ns ns' ks ks' ms qs more keys (kept_agrees ms qs k) p))
 
 -- pieces one behind another
@@ -115,7 +116,7 @@ all_stand-append : (ns : List ℕ) (ks : List (List ℕ)) (ps qs : List Piece)
     → all_stand ns ks ms (ps ++ qs) ≡ all_stand ns ks (all_stand ns ks ms ps) qs
 all_stand-append ns ks [] qs ms = refl
 all_stand-append ns ks (p ∷ ps) qs ms =
-    all_stand-append ns ks ps qs (ms ++ stands_for ns ks ms p ∷ [])
+    all_stand-append ns ks ps qs (ms ++ piece_meaning ns ks ms p ∷ [])
 
 front_agrees : (ms qs : List (Tree × Bool)) → Agrees ms (ms ++ qs)
 front_agrees [] qs n h = absurd (false≢true h)
@@ -127,8 +128,8 @@ pub before_agrees : (ns : List ℕ) (ks : List (List ℕ)) (ps : List Piece) (ms
     → Agrees ms (all_stand ns ks ms ps)
 before_agrees ns ks [] ms n h = refl
 before_agrees ns ks (p ∷ ps) ms n h =
-    let on = ms ++ stands_for ns ks ms p ∷ [] in
-    agrees_on ms on (all_stand ns ks on ps) (front_agrees ms (stands_for ns ks ms p ∷ []))
+    let on = ms ++ piece_meaning ns ks ms p ∷ [] in
+    agrees_on ms on (all_stand ns ks on ps) (front_agrees ms (piece_meaning ns ks ms p ∷ []))
     (before_agrees ns ks ps on) n h
 
 -- as many stand as there are pieces
@@ -137,8 +138,8 @@ pub stand_length : (ns : List ℕ) (ks : List (List ℕ)) (ps : List Piece) (ms 
 stand_length ns ks [] ms = omega arith
 stand_length ns ks (p ∷ ps) ms = omega (
   arith,
-  stand_length ns ks ps (ms ++ stands_for ns ks ms p ∷ []),
-  length-append ms (stands_for ns ks ms p ∷ []),
+  stand_length ns ks ps (ms ++ piece_meaning ns ks ms p ∷ []),
+  length-append ms (piece_meaning ns ks ms p ∷ []),
 )
 
 -- a draft with more behind its own
@@ -230,12 +231,12 @@ pub pushed : (old new : Draft) (p : Piece) (n : ℕ) → new.pieces.items ≡ ol
     → new.members.items ≡ old.members.items → new.keys.items ≡ old.keys.items
     → n ≡ length old.pieces.items
     → get_or (pieces_stand new) n nothing
-    ≡ stands_for old.members.items (texts old.keys.items) (pieces_stand old) p
+    ≡ piece_meaning old.members.items (texts old.keys.items) (pieces_stand old) p
 pushed old new p n pieces members keys at =
     let ns = old.members.items in
     let ks = texts old.keys.items in
     let ms = pieces_stand old in
     (λ i. get_or (all_stand (members i) (texts (keys i)) [] (pieces i)) n nothing)
     ∙ ap (λ l. get_or l n nothing) (all_stand-append ns ks old.pieces.items (p ∷ []) [])
-    ∙ get_or_push ms (stands_for ns ks ms p) nothing n
+    ∙ get_or_push ms (piece_meaning ns ks ms p) nothing n
     (omega (arith, stand_length ns ks old.pieces.items [], at))

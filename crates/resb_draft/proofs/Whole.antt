@@ -3,6 +3,7 @@ use Rattle.std.proofs.Common.{◌≡◌, ℕ, ◌+◌, ◌≤◌, ◌<◌, Bool,
 use Rattle.std.proofs.Common.{map, refl, sym, ◌∙◌, ap, arith, length, get_or, zero, suc}
 use Rattle.std.proofs.Common.{◌-◌, drop, length-take, length-drop, Bor}
 use Rattle.std.specs.List.{zip}
+use Rattle.std.specs.Global.{Box}
 use Rattle.std.proofs.lemmas.Bool.{and_from, and_parts, false≢true, leb-true, eq-eqb}
 use Rattle.std.proofs.lemmas.List.{get_or_append_left, get_or_push, length-append, length-map}
 use Rattle.resb_tree.proofs.LayingOrderLemmas.{members-trees_of}
@@ -14,7 +15,7 @@ use Rattle.resb_tree.specs.View.{tree_of}
 use Rattle.resb_tree.specs.Borrowing.{all_true}
 use Rattle.resb_tree.specs.declared.resource.Resource.{Resource}
 use Rattle.resb_draft.specs.Drafts.{texts, texts_ascend, is_leaf, nothing}
-use Rattle.resb_draft.specs.Drafts.{part, is_inside, stands_for, all_stand, pieces_stand}
+use Rattle.resb_draft.specs.Drafts.{part, is_inside, piece_meaning, all_stand, pieces_stand}
 use Rattle.resb_draft.specs.Drafts.{tree_at, is_whole}
 use Rattle.resb_draft.specs.Pieces.{is_piece}
 use Rattle.resb_draft.specs.declared.draft.Draft.{Draft}
@@ -28,19 +29,19 @@ before_at : (ns : List ℕ) (ks : List (List ℕ)) (ps : List Piece) (ms : List 
     → n < length ms → get_or (all_stand ns ks ms ps) n nothing ≡ get_or ms n nothing
 before_at ns ks [] ms n h = refl
 before_at ns ks (p ∷ ps) ms n h =
-    before_at ns ks ps (ms ++ stands_for ns ks ms p ∷ []) n
-    (omega (arith, h, length-append ms (stands_for ns ks ms p ∷ [])))
-    ∙ get_or_append_left ms (stands_for ns ks ms p ∷ []) nothing n h
+    before_at ns ks ps (ms ++ piece_meaning ns ks ms p ∷ []) n
+    (omega (arith, h, length-append ms (piece_meaning ns ks ms p ∷ [])))
+    ∙ get_or_append_left ms (piece_meaning ns ks ms p ∷ []) nothing n h
 
 -- a piece that is whole stands for what it does beside all others
 whole_at : (ns : List ℕ) (ks : List (List ℕ)) (ps : List Piece) (ms : List (Tree × Bool))
     (n : ℕ) (x : Piece) → n < length ps
     → (get_or (all_stand ns ks ms ps) (length ms + n) nothing).1 ≡ true
     → get_or (all_stand ns ks ms ps) (length ms + n) nothing
-    ≡ stands_for ns ks (all_stand ns ks ms ps) (get_or ps n x)
+    ≡ piece_meaning ns ks (all_stand ns ks ms ps) (get_or ps n x)
 whole_at ns ks [] ms n x h w = absurd (omega (arith, h))
 whole_at ns ks (p ∷ ps) ms zero x h w =
-    let y = stands_for ns ks ms p in
+    let y = piece_meaning ns ks ms p in
     let on = ms ++ y ∷ [] in
     let all = all_stand ns ks on ps in
     let is : get_or all (length ms + zero) nothing ≡ y =
@@ -49,9 +50,9 @@ whole_at ns ks (p ∷ ps) ms zero x h w =
     is ∙ sym (stands_on ns ns ks ks ms all (longer_same ns) (longer_same ks)
     (before_agrees ns ks (p ∷ ps) ms) p (ap (λ (m : Tree × Bool). m.1) (sym is) ∙ w))
 whole_at ns ks (p ∷ ps) ms (suc n) x h w =
-    let on = ms ++ stands_for ns ks ms p ∷ [] in
+    let on = ms ++ piece_meaning ns ks ms p ∷ [] in
     let at : length ms + suc n ≡ length on + n =
-    omega (arith, length-append ms (stands_for ns ks ms p ∷ [])) in
+    omega (arith, length-append ms (piece_meaning ns ks ms p ∷ [])) in
     ap (λ k. get_or (all_stand ns ks on ps) k nothing) at
     ∙ whole_at ns ks ps on n x (omega (arith, h))
     (ap (λ k. (get_or (all_stand ns ks on ps) k nothing).1) (sym at) ∙ w)
@@ -74,14 +75,14 @@ whole_inside d n h =
 pub whole_is : (d : Draft) (n : ℕ) (p : Piece) → p ≡ get_or d.pieces.items n p
     → is_whole d n ≡ true
     → get_or (pieces_stand d) n nothing
-    ≡ stands_for d.members.items (texts d.keys.items) (pieces_stand d) p
+    ≡ piece_meaning d.members.items (texts d.keys.items) (pieces_stand d) p
 whole_is d n p is h =
     let at : length {A = Tree × Bool} [] + n ≡ n = omega arith in
     let ms = pieces_stand d in
     ap (λ k. get_or ms k nothing) (sym at)
     ∙ whole_at d.members.items (texts d.keys.items) d.pieces.items [] n p (whole_inside d n h)
     (ap (λ k. (get_or ms k nothing).1) at ∙ h)
-    ∙ ap (stands_for d.members.items (texts d.keys.items) ms) (sym is)
+    ∙ ap (piece_meaning d.members.items (texts d.keys.items) ms) (sym is)
 
 -- a piece that was found, and then seen to be another
 pub found_as : (ps : List Piece) (n : ℕ) (p q : Piece) → p ≡ get_or ps n p → p ≡ q
@@ -208,14 +209,22 @@ text_empty d n s is h =
     let e = ap (λ (x : Tree × Bool). x.0) (whole_is d n (piece.String s) is h) in
     (ap children e, ap own_keys e)
 
--- nor has that of a leaf
-pub piece_empty : (d : Draft) (n : ℕ) (r : Resource)
+-- nor has that of a number
+pub number_empty : (d : Draft) (n i : ℕ)
+    → piece.Integer i ≡ get_or d.pieces.items n (piece.Integer i) → is_whole d n ≡ true
+    → (children (tree_at d n) ≡ []) × (own_keys (tree_at d n) ≡ [])
+number_empty d n i is h =
+    let e = ap (λ (x : Tree × Bool). x.0) (whole_is d n (piece.Integer i) is h) in
+    (ap children e, ap own_keys e)
+
+-- nor has that of any other leaf
+pub piece_empty : (d : Draft) (n : ℕ) (r : Box Resource)
     → piece.Leaf r ≡ get_or d.pieces.items n (piece.Leaf r) → is_whole d n ≡ true
     → (children (tree_at d n) ≡ []) × (own_keys (tree_at d n) ≡ [])
 piece_empty d n r is h =
     let e = whole_is d n (piece.Leaf r) is h in
     let t = ap (λ (x : Tree × Bool). x.0) e in
-    let none = leaf_empty (tree_of r) (ap (λ (x : Tree × Bool). x.1) (sym e) ∙ h) in
+    let none = leaf_empty (tree_of r.value) (ap (λ (x : Tree × Bool). x.1) (sym e) ∙ h) in
     (ap children t ∙ none.0, ap own_keys t ∙ none.1)
 
 -- an array has no keys
@@ -230,10 +239,14 @@ whole_piece d n (piece.String s) is h =
     ap (is_piece (piece.String s))
     (ap (λ (x : Tree × Bool). x.0) (whole_is d n (piece.String s) is h))
     ∙ tree_eq_refl (string s.now)
+whole_piece d n (piece.Integer i) is h =
+    ap (is_piece (piece.Integer i))
+    (ap (λ (x : Tree × Bool). x.0) (whole_is d n (piece.Integer i) is h))
+    ∙ tree_eq_refl (integer i)
 whole_piece d n (piece.Leaf r) is h =
     let e = whole_is d n (piece.Leaf r) is h in
     ap (is_piece (piece.Leaf r)) (ap (λ (x : Tree × Bool). x.0) e)
-    ∙ and_from _ _ (ap (λ (x : Tree × Bool). x.1) (sym e) ∙ h) (tree_eq_refl (tree_of r))
+    ∙ and_from _ _ (ap (λ (x : Tree × Bool). x.1) (sym e) ∙ h) (tree_eq_refl (tree_of r.value))
 whole_piece d n (piece.Array m) is h =
     let w = whole_array d n m is h in
     let ns = part d.members.items m.from m in

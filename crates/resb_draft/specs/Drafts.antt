@@ -16,7 +16,7 @@ use Rattle.std.specs.List.{zip}
 use Rattle.std.specs.Ordering.{is_lt}
 use Rattle.resb_tree.specs.Borrowing.{all_true}
 use Rattle.resb_tree.specs.Maps.{text_cmp}
-use Rattle.resb_tree.specs.Tree.{Tree, string, array, table, trees_of, entries_of}
+use Rattle.resb_tree.specs.Tree.{Tree, string, integer, array, table, trees_of, entries_of}
 use Rattle.resb_tree.specs.View.{tree_of}
 use Rattle.resb_draft.specs.declared.draft.Draft.{Draft}
 use Rattle.resb_draft.specs.declared.draft.Members.{Members}
@@ -61,14 +61,15 @@ is_inside xs from m = nat_le (from + m.count) (length xs)
 
 -- the tree for which a piece stands, and whether it is whole, with these members and keys, where
 -- the pieces before it stand for these
-abbrev pub stands_for : List ℕ → List (List ℕ) → List (Tree × Bool) → Piece → Tree × Bool
-stands_for ns ks ms (piece.String s) = (string s.now, true)
-stands_for ns ks ms (piece.Leaf r) = (tree_of r, is_leaf (tree_of r))
-stands_for ns ks ms (piece.Array m) = (
+abbrev pub piece_meaning : List ℕ → List (List ℕ) → List (Tree × Bool) → Piece → Tree × Bool
+piece_meaning ns ks ms (piece.String s) = (string s.now, true)
+piece_meaning ns ks ms (piece.Integer n) = (integer n, true)
+piece_meaning ns ks ms (piece.Leaf r) = (tree_of r.value, is_leaf (tree_of r.value))
+piece_meaning ns ks ms (piece.Array m) = (
   array (trees_of (trees_at ms (part ns m.from m))),
   is_inside ns m.from m && all_whole ms (part ns m.from m),
 )
-stands_for ns ks ms (piece.Table m k) = (
+piece_meaning ns ks ms (piece.Table m k) = (
   table (entries_of (zip (part ks k m) (trees_at ms (part ns m.from m)))),
   (is_inside ns m.from m && is_inside ks k m)
       && (texts_ascend (part ks k m) && all_whole ms (part ns m.from m)),
@@ -78,7 +79,7 @@ stands_for ns ks ms (piece.Table m k) = (
 abbrev pub all_stand : List ℕ → List (List ℕ) → List (Tree × Bool) → List Piece
     → List (Tree × Bool)
 all_stand ns ks ms [] = ms
-all_stand ns ks ms (p ∷ ps) = all_stand ns ks (ms ++ stands_for ns ks ms p ∷ []) ps
+all_stand ns ks ms (p ∷ ps) = all_stand ns ks (ms ++ piece_meaning ns ks ms p ∷ []) ps
 
 -- what the pieces of a draft stand for
 abbrev pub pieces_stand : Draft → List (Tree × Bool)

@@ -4,7 +4,7 @@
 use Rattle.std.specs.Prelude.{ℕ, Bool, true, false, ◌&&◌, nat_eq, List, [], ◌∷◌, length}
 use Rattle.resb_tree.specs.Equality.{tree_eq}
 use Rattle.resb_tree.specs.LayingOrder.{array_members, values_of, entry_keys}
-use Rattle.resb_tree.specs.Tree.{Tree, string, array, table}
+use Rattle.resb_tree.specs.Tree.{Tree, string, integer, array, table}
 use Rattle.resb_tree.specs.View.{tree_of}
 use Rattle.resb_draft.specs.Drafts.{is_leaf, texts_ascend}
 use Rattle.resb_draft.specs.declared.draft.Piece.{Piece}
@@ -23,7 +23,8 @@ has_entries n _ = false
 -- what a piece says fits that tree
 abbrev pub is_piece : Piece → Tree → Bool
 is_piece (piece.String s) t = tree_eq (string s.now) t
-is_piece (piece.Leaf r) t = is_leaf (tree_of r) && tree_eq (tree_of r) t
+is_piece (piece.Integer n) t = tree_eq (integer n) t
+is_piece (piece.Leaf r) t = is_leaf (tree_of r.value) && tree_eq (tree_of r.value) t
 is_piece (piece.Array m) t = has_members m.count t
 is_piece (piece.Table m k) t = has_entries m.count t
 

@@ -1,6 +1,6 @@
 //! Drafts, which stand for trees: their resources as one list, and what these say of each other.
 //! How a draft is made stands in `making`, in which order it is laid in `laying_order`.
-use resb_tree::Resource;
+use resb_tree::{Int28, Resource};
 
 /// A part of a draft's list of members.
 #[derive(Clone, Copy)]
@@ -11,13 +11,15 @@ pub struct Members {
     pub count: u32,
 }
 
-/// A resource without what is inside it.
+/// A resource without what is inside it, in 24 bytes.
 #[derive(Drop)]
 pub enum Piece<'a> {
     /// A text.
     String(&'a str),
-    /// A resource without others inside.
-    Leaf(Resource<'a>),
+    /// A number of 28 bits.
+    Integer(Int28),
+    /// Any other resource without others inside.
+    Leaf(Box<Resource<'a>>),
     /// An array of these members.
     Array(Members),
     /// A table whose values are these members, and the place of the first of its keys.

@@ -54,6 +54,7 @@ impl<'a> Draft<'a> {
     {
         match &self.pieces[number as usize] {
             Piece::String(_) => Ok(()),
+            Piece::Integer(_) => Ok(()),
             Piece::Leaf(_) => Ok(()),
             Piece::Array(part) => {
                 pending.extend_from_slice(part_of(&self.members, part.from, part.count))
@@ -104,6 +105,7 @@ impl<'a> Draft<'a> {
                 }
             }
             Piece::String(_) => Some(from),
+            Piece::Integer(_) => Some(from),
             Piece::Leaf(_) => Some(from),
             Piece::Array(_) => Some(from),
         }
@@ -125,6 +127,7 @@ impl<'a> Draft<'a> {
         match &self.pieces[number as usize] {
             Piece::Table(part, first) => part_of(&self.keys, *first, part.count),
             Piece::String(_) => &[],
+            Piece::Integer(_) => &[],
             Piece::Leaf(_) => &[],
             Piece::Array(_) => &[],
         }

@@ -1,10 +1,10 @@
 //! How a draft is made: a piece at a time, members before their collection.
 //! In which order a table's entries are put stands in `entries`.
-ghost use Rattle.std.specs.Prelude.{◌≡◌, ◌^◌, ◌<◌, true, map, length, IfOk, OnOk, get_or};
+ghost use Rattle.std.specs.Prelude.{◌≡◌, ◌^◌, ◌<◌, true, [], map, length, IfOk, OnOk, get_or};
 ghost use Rattle.resb_tree.specs.Borrowing.{all_true};
 ghost use Rattle.resb_tree.specs.Tree.{string, array, table, trees_of, entries_of, map_of};
 ghost use Rattle.resb_tree.specs.View.{tree_of};
-ghost use Rattle.resb_draft.specs.Drafts.{texts, is_leaf, nothing, stands_for, pieces_stand};
+ghost use Rattle.resb_draft.specs.Drafts.{texts, is_leaf, nothing, piece_meaning, pieces_stand};
 ghost use Rattle.resb_draft.specs.Drafts.{tree_at, is_whole, IsMade, Keeps};
 ghost use Rattle.resb_draft.specs.Inner.Entries.{keys_ascend};
 
@@ -15,7 +15,11 @@ use std::alloc::Global;
 
 impl<'a> Draft<'a> {
     /// A draft without pieces.
-    pub fn new(alloc: Global) -> Draft<'a> {
+    pub fn new(alloc: Global) -> Draft<'a>
+        ensures pieces { result.pieces.items ≡ [] }
+        ensures members { result.members.items ≡ [] }
+        ensures keys { result.keys.items ≡ [] }
+    {
         Draft {
             pieces: Vec::new(alloc),
             members: Vec::new(alloc),
@@ -38,7 +42,11 @@ impl<'a> Draft<'a> {
         ensures made { IfOk result (λ n. IsMade self.new n (tree_of resource.entry)) }
         ensures keeps { OnOk result (Keeps self.old self.new) }
     {
-        self.push(Piece::Leaf(resource))
+        if let Resource::Integer(number) = &resource {
+            return self.push(Piece::Integer(*number));
+        }
+        let alloc = *self.pieces.allocator();
+        self.push(Piece::Leaf(Box::new(alloc, resource)?))
     }
 
     /// The array of the pieces of these numbers.
@@ -99,7 +107,7 @@ impl<'a> Draft<'a> {
     /// One piece more.
     fn push(&mut self, piece: Piece<'a>) -> Result<u32, NoMemory>
         ensures made { IfOk result (λ n. get_or (pieces_stand self.new) n nothing
-            ≡ stands_for self.old.members.items (texts self.old.keys.items)
+            ≡ piece_meaning self.old.members.items (texts self.old.keys.items)
             (pieces_stand self.old) piece.entry) }
         ensures keeps { OnOk result (Keeps self.old self.new) }
     {

@@ -4,7 +4,7 @@ use Rattle.resb_draft.specs.declared.draft.Piece.TheVariants as piece
 use Rattle.resb_draft.specs.Drafts.{texts}
 use Rattle.resb_draft.proofs.Lists.{part_empty}
 use Rattle.resb_draft.proofs.Whole.{whole_inside, whole_table, whole_array, table_keys, found_as}
-use Rattle.resb_draft.proofs.Whole.{text_empty, piece_empty, array_empty}
+use Rattle.resb_draft.proofs.Whole.{text_empty, number_empty, piece_empty, array_empty}
 use Rattle.resb_draft.proofs.draft.Draft.keys_end.Goals as goal
 
 pub index-requires : goal.index-requires
@@ -44,6 +44,14 @@ returns-in-String-clause-keys c =
     (piece.String c.in-String.field-0) c.index.ensures c.in-String.is in
     part_empty (texts d.keys.items) c.args.from
     ∙ sym (text_empty d c.args.number c.in-String.field-0 is c.requires.whole).1
+
+pub returns-in-Integer-clause-keys : goal.returns-in-Integer-clause-keys
+returns-in-Integer-clause-keys c =
+    let d = c.args.self.now in
+    let is = found_as d.pieces.items c.args.number c.index.result.now
+    (piece.Integer c.in-Integer.field-0) c.index.ensures c.in-Integer.is in
+    part_empty (texts d.keys.items) c.args.from
+    ∙ sym (number_empty d c.args.number c.in-Integer.field-0 is c.requires.whole).1
 
 pub returns-in-Leaf-clause-keys : goal.returns-in-Leaf-clause-keys
 returns-in-Leaf-clause-keys c =

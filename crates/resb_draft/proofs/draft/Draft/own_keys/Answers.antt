@@ -4,7 +4,7 @@ use Rattle.resb_draft.specs.declared.draft.Piece.TheVariants as piece
 use Rattle.resb_draft.specs.Drafts.{texts}
 use Rattle.resb_draft.proofs.Lists.{texts-part}
 use Rattle.resb_draft.proofs.Whole.{whole_inside, whole_table, whole_array, table_keys, found_as}
-use Rattle.resb_draft.proofs.Whole.{text_empty, piece_empty, array_empty}
+use Rattle.resb_draft.proofs.Whole.{text_empty, number_empty, piece_empty, array_empty}
 use Rattle.resb_draft.proofs.draft.Draft.own_keys.Goals as goal
 
 pub index-requires : goal.index-requires
@@ -44,6 +44,13 @@ returns-in-String c =
     let is = found_as d.pieces.items c.args.number c.index.result.now
     (piece.String c.in-String.field-0) c.index.ensures c.in-String.is in
     sym (text_empty d c.args.number c.in-String.field-0 is c.requires).1
+
+pub returns-in-Integer : goal.returns-in-Integer
+returns-in-Integer c =
+    let d = c.args.self.now in
+    let is = found_as d.pieces.items c.args.number c.index.result.now
+    (piece.Integer c.in-Integer.field-0) c.index.ensures c.in-Integer.is in
+    sym (number_empty d c.args.number c.in-Integer.field-0 is c.requires).1
 
 pub returns-in-Leaf : goal.returns-in-Leaf
 returns-in-Leaf c =

@@ -1,7 +1,7 @@
 use Rattle.std.proofs.Common.{refl, ◌∙◌, ◌≡◌, map, get_or}
 use Rattle.std.proofs.lemmas.Result.{IfOk-weaker, on_ok_weaker}
 use Rattle.resb_tree.specs.Tree.{array, trees_of}
-use Rattle.resb_draft.specs.Drafts.{nothing, stands_for, pieces_stand, texts, IsMade, tree_at}
+use Rattle.resb_draft.specs.Drafts.{nothing, piece_meaning, pieces_stand, texts, IsMade, tree_at}
 use Rattle.resb_draft.specs.declared.draft.Draft.{Draft}
 use Rattle.resb_draft.specs.declared.draft.Members.{Members}
 use Rattle.resb_draft.specs.declared.draft.Piece.TheVariants as piece
@@ -25,7 +25,7 @@ returns-clause-made c = λ h.
     let agrees = grown old mid (more_members old mid ns refl items refl) in
     IfOk-weaker c.push.result
     (λ n. get_or (pieces_stand c.push.new.self) n nothing
-    ≡ stands_for mid.members.items (texts mid.keys.items) (pieces_stand mid) (piece.Array m))
+    ≡ piece_meaning mid.members.items (texts mid.keys.items) (pieces_stand mid) (piece.Array m))
     (λ n. IsMade c.push.new.self n t)
     (λ n e. made_of c.push.new.self n t
     (e ∙ array_made old mid ns m items (c.in_ok-number.ensures ∙ c.len.ensures ∙ old.members.ok.0)

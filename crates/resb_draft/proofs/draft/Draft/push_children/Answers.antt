@@ -6,7 +6,8 @@ use Rattle.resb_tree.specs.Borrowing.{all_true}
 use Rattle.resb_draft.proofs.Lists.{ok_items}
 use Rattle.resb_draft.proofs.InOrder.{trees_more, whole_more}
 use Rattle.resb_draft.proofs.Whole.{whole_inside, whole_table, whole_array, found_as}
-use Rattle.resb_draft.proofs.Whole.{text_empty, piece_empty, array_children, table_children}
+use Rattle.resb_draft.proofs.Whole.{text_empty, number_empty, piece_empty}
+use Rattle.resb_draft.proofs.Whole.{array_children, table_children}
 use Rattle.resb_draft.proofs.draft.Draft.push_children.Goals as goal
 
 pub index-requires : goal.index-requires
@@ -49,6 +50,15 @@ returns-in-String-clause-trees c =
     let seen = map (tree_at d) c.args.pending.now.items in
     sym (append-nil seen)
     ∙ ap (λ l. seen ++ l) (sym (text_empty d c.args.number c.in-String.field-0 is c.requires).0)
+
+pub returns-in-Integer-clause-trees : goal.returns-in-Integer-clause-trees
+returns-in-Integer-clause-trees c =
+    let d = c.args.self.now in
+    let is = found_as d.pieces.items c.args.number c.index.result.now
+    (piece.Integer c.in-Integer.field-0) c.index.ensures c.in-Integer.is in
+    let seen = map (tree_at d) c.args.pending.now.items in
+    sym (append-nil seen)
+    ∙ ap (λ l. seen ++ l) (sym (number_empty d c.args.number c.in-Integer.field-0 is c.requires).0)
 
 pub returns-in-Leaf-clause-trees : goal.returns-in-Leaf-clause-trees
 returns-in-Leaf-clause-trees c =

@@ -2,7 +2,7 @@ use Rattle.std.proofs.Common.{ap, ◌∙◌, ◌≡◌, ◌++◌, map, get_or, B
 use Rattle.std.proofs.lemmas.List.{take_all}
 use Rattle.std.proofs.lemmas.Result.{IfOk-weaker, on_ok_weaker}
 use Rattle.resb_tree.specs.Tree.{table, entries_of}
-use Rattle.resb_draft.specs.Drafts.{nothing, stands_for, pieces_stand, texts, IsMade, tree_at}
+use Rattle.resb_draft.specs.Drafts.{nothing, piece_meaning, pieces_stand, texts, IsMade, tree_at}
 use Rattle.resb_draft.specs.declared.draft.Draft.{Draft}
 use Rattle.resb_draft.specs.declared.draft.Members.{Members}
 use Rattle.resb_draft.specs.declared.draft.Piece.TheVariants as piece
@@ -30,7 +30,7 @@ returns-clause-made c = λ h.
     (more_entries old mid _ _ (ap (λ v. v.items) i.pieces) members keys) in
     IfOk-weaker c.push-2.result
     (λ n. get_or (pieces_stand c.push-2.new.self) n nothing
-    ≡ stands_for mid.members.items (texts mid.keys.items) (pieces_stand mid)
+    ≡ piece_meaning mid.members.items (texts mid.keys.items) (pieces_stand mid)
     (piece.Table m c.in_ok-first_key.first_key))
     (λ n. IsMade c.push-2.new.self n t)
     (λ n e. made_of c.push-2.new.self n t

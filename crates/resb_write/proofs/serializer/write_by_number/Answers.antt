@@ -36,7 +36,7 @@ fits d ns ms rs qs ks ls e f nodes keys first second = (
 
 pub write_order-requires : goal.write_order-requires
 write_order-requires c =
-    let d = c.args.draft.now in
+    let d = c.args.draft in
     let r = fits d _ _ _ _ _ _ c.deref-3.ensures.value refl
     c.in_ok-nodes.ensures c.in_ok-keys.ensures
     (ap (map (tree_at d)) c.deref-2.ensures.value ∙ c.requires.trees)
@@ -45,7 +45,7 @@ write_order-requires c =
 
 pub returns-clause-ok : goal.returns-clause-ok
 returns-clause-ok c =
-    let d = c.args.draft.now in
+    let d = c.args.draft in
     let r = fits d _ _ _ _ _ _ c.deref-3.ensures.value refl
     c.in_ok-nodes.ensures c.in_ok-keys.ensures
     (ap (map (tree_at d)) c.deref-2.ensures.value ∙ c.requires.trees)
@@ -54,7 +54,7 @@ returns-clause-ok c =
 
 pub returns-clause-err : goal.returns-clause-err
 returns-clause-err c =
-    let d = c.args.draft.now in
+    let d = c.args.draft in
     let r = fits d _ _ _ _ _ _ c.deref-3.ensures.value refl
     c.in_ok-nodes.ensures c.in_ok-keys.ensures
     (ap (map (tree_at d)) c.deref-2.ensures.value ∙ c.requires.trees)

@@ -1,12 +1,11 @@
 //! Closed groups as pieces of a draft, members first.
 //! What a draft stands for is said in `resb_draft`, which makes it; trees are made in `items`.
-ghost use Rattle.std.specs.Prelude.{true, ◌≡◌, ◌+◌, ◌<◌, ◌≤◌, map, length, IfOk, IfErr, OnOk};
+ghost use Rattle.std.specs.Prelude.{true, ◌≡◌, ◌+◌, ◌<◌, ◌≤◌, map, length, IfOk, OnOk};
 ghost use Rattle.std.specs.Prelude.{Bool, ℕ, List, [], ◌∷◌, ◌++◌};
 ghost use Rattle.resb_tree.specs.Borrowing.{all_true};
 ghost use Rattle.resb_tree.specs.Tree.{Tree, array, table, trees_of, map_of};
 ghost use Rattle.resb_draft.specs.Drafts.{tree_at, is_whole, Keeps};
 ghost use Rattle.resb_draft.specs.declared.draft.Draft.{Draft};
-ghost use Rattle.resb_text.specs.Refusal.{want_of_memory};
 ghost use Rattle.resb_text.specs.Inner.Build.{Represents, Grows};
 ghost use Rattle.resb_text.specs.Inner.Drafts.{piece_term_seen, piece_item_seen, entries_seen};
 ghost use Rattle.resb_text.specs.Inner.Drafts.{are_whole};
@@ -14,11 +13,10 @@ ghost use Rattle.resb_text.specs.Inner.Shown.{SeenItem, shown_tree, shown_borrow
 ghost use Rattle.resb_text.specs.Inner.Shown.{shown_pairs, pairs_after, waiting_key};
 
 use crate::build::Build;
-use crate::error::TextParserError;
 use crate::items::{Item, Term};
 use crate::ticks::Ticks;
 use resb_draft::Draft;
-use resb_tree::Resource;
+use resb_tree::{NoMemory, Resource};
 use std::alloc::Global;
 
 impl<'a> Build<'a> for Draft<'a> {
@@ -30,12 +28,12 @@ impl<'a> Build<'a> for Draft<'a> {
 
     ghost held = { is_whole };
 
-    fn leaf(&mut self, resource: Resource<'a>) -> Result<u32, TextParserError> {
-        Ok(self.push_leaf(resource)?)
+    fn leaf(&mut self, resource: Resource<'a>) -> Result<u32, NoMemory> {
+        self.push_leaf(resource)
     }
 
-    fn string(&mut self, text: &'a str) -> Result<u32, TextParserError> {
-        Ok(self.push_string(text)?)
+    fn string(&mut self, text: &'a str) -> Result<u32, NoMemory> {
+        self.push_string(text)
     }
 
     fn array(
@@ -43,12 +41,11 @@ impl<'a> Build<'a> for Draft<'a> {
         alloc: Global,
         ticks: &mut Ticks,
         items: Vec<Item<'a, u32>>,
-    ) -> Result<u32, TextParserError>
+    ) -> Result<u32, NoMemory>
         ensures made { let xs = map (piece_item_seen self.old) items.entry.items in
             all_true (map shown_borrowed xs) ≡ true → IfOk result
             (λ n. Represents tree_at is_whole self.new n (array (trees_of (map shown_tree xs)))) }
         ensures grows { OnOk result (Grows tree_at is_whole self.old self.new) }
-        ensures err { IfErr result (λ e. e ≡ want_of_memory) }
         ensures cost { ticks.new.count ≤ ticks.old.count + length items.entry.items }
     {
         array_of(alloc, self, ticks, items)
@@ -59,12 +56,11 @@ impl<'a> Build<'a> for Draft<'a> {
         alloc: Global,
         ticks: &mut Ticks,
         items: Vec<Item<'a, u32>>,
-    ) -> Result<u32, TextParserError>
+    ) -> Result<u32, NoMemory>
         ensures made { let xs = map (piece_item_seen self.old) items.entry.items in
             all_true (map shown_borrowed xs) ≡ true → IfOk result
             (λ n. Represents tree_at is_whole self.new n (table (map_of (shown_pairs xs)))) }
         ensures grows { OnOk result (Grows tree_at is_whole self.old self.new) }
-        ensures err { IfErr result (λ e. e ≡ want_of_memory) }
         ensures cost { ticks.new.count ≤ ticks.old.count + length items.entry.items }
     {
         table_of(alloc, self, ticks, items)
@@ -72,15 +68,14 @@ impl<'a> Build<'a> for Draft<'a> {
 }
 
 /// The number of the piece that the term is. A string becomes one here.
-fn number_of<'a>(draft: &mut Draft<'a>, term: Term<'a, u32>) -> Result<u32, TextParserError>
+fn number_of<'a>(draft: &mut Draft<'a>, term: Term<'a, u32>) -> Result<u32, NoMemory>
     ensures made { (f : Bool) → let seen = piece_term_seen draft.old term.entry f in
         shown_borrowed seen ≡ true
         → IfOk result (λ n. Represents tree_at is_whole draft.new n (shown_tree seen)) }
     ensures keeps { OnOk result (Keeps draft.old draft.new) }
-    ensures err { IfErr result (λ e. e ≡ want_of_memory) }
 {
     match term {
-        Term::String(text) => Ok(draft.push_string(text)?),
+        Term::String(text) => draft.push_string(text),
         Term::Group(number) => Ok(number),
     }
 }
@@ -91,13 +86,12 @@ fn numbers_of<'a>(
     draft: &mut Draft<'a>,
     ticks: &mut Ticks,
     items: Vec<Item<'a, u32>>,
-) -> Result<Vec<u32>, TextParserError>
+) -> Result<Vec<u32>, NoMemory>
     ensures made { let xs = map (piece_item_seen draft.old) items.entry.items in
         all_true (map shown_borrowed xs) ≡ true → IfOk result
         (λ v. (map (tree_at draft.new) v.items ≡ map shown_tree xs)
         × (all_true (map (is_whole draft.new) v.items) ≡ true)) }
     ensures keeps { OnOk result (Keeps draft.old draft.new) }
-    ensures err { IfErr result (λ e. e ≡ want_of_memory) }
     ensures cost { ticks.new.count ≤ ticks.old.count + length items.entry.items }
 {
     let mut numbers = Vec::with_capacity(alloc, items.len())?;
@@ -114,16 +108,15 @@ fn array_of<'a>(
     draft: &mut Draft<'a>,
     ticks: &mut Ticks,
     items: Vec<Item<'a, u32>>,
-) -> Result<u32, TextParserError>
+) -> Result<u32, NoMemory>
     ensures made { let xs = map (piece_item_seen draft.old) items.entry.items in
         all_true (map shown_borrowed xs) ≡ true → IfOk result
         (λ n. Represents tree_at is_whole draft.new n (array (trees_of (map shown_tree xs)))) }
     ensures keeps { OnOk result (Keeps draft.old draft.new) }
-    ensures err { IfErr result (λ e. e ≡ want_of_memory) }
     ensures cost { ticks.new.count ≤ ticks.old.count + length items.entry.items }
 {
     let numbers = numbers_of(alloc, draft, ticks, items)?;
-    Ok(draft.push_array(&numbers)?)
+    draft.push_array(&numbers)
 }
 
 /// Lists the entry of a group, if a key waits for one. Gives the key that waits from here on.
@@ -131,7 +124,7 @@ fn list_term<'a>(
     entries: &mut Vec<(&'a str, u32)>,
     waiting: Option<&'a str>,
     term: Term<'a, u32>,
-) -> Result<Option<&'a str>, TextParserError>
+) -> Result<Option<&'a str>, NoMemory>
     ensures entries { IfOk result (λ next. (d : Draft) (f : Bool) (xs : List SeenItem)
         → entries_seen d entries.new.items ++ pairs_after (waiting_key next) xs
         ≡ entries_seen d entries.old.items
@@ -139,7 +132,6 @@ fn list_term<'a>(
     ensures whole { OnOk result ((d : Draft) (f : Bool)
         → shown_borrowed (piece_term_seen d term.entry f) ≡ true
         → are_whole d entries.old.items ≡ true → are_whole d entries.new.items ≡ true) }
-    ensures err { IfErr result (λ e. e ≡ want_of_memory) }
 {
     match term {
         Term::String(text) => Ok(Some(text)),
@@ -158,13 +150,12 @@ fn entries_of<'a>(
     alloc: Global,
     ticks: &mut Ticks,
     items: Vec<Item<'a, u32>>,
-) -> Result<Vec<(&'a str, u32)>, TextParserError>
+) -> Result<Vec<(&'a str, u32)>, NoMemory>
     ensures entries { IfOk result (λ v. (d : Draft)
         → entries_seen d v.items ≡ shown_pairs (map (piece_item_seen d) items.entry.items)) }
     ensures whole { IfOk result (λ v. (d : Draft)
         → all_true (map shown_borrowed (map (piece_item_seen d) items.entry.items)) ≡ true
         → are_whole d v.items ≡ true) }
-    ensures err { IfErr result (λ e. e ≡ want_of_memory) }
     ensures cost { ticks.new.count ≤ ticks.old.count + length items.entry.items }
 {
     let mut entries = Vec::with_capacity(alloc, items.len() / 2)?;
@@ -183,14 +174,13 @@ fn table_of<'a>(
     draft: &mut Draft<'a>,
     ticks: &mut Ticks,
     items: Vec<Item<'a, u32>>,
-) -> Result<u32, TextParserError>
+) -> Result<u32, NoMemory>
     ensures made { let xs = map (piece_item_seen draft.old) items.entry.items in
         all_true (map shown_borrowed xs) ≡ true → IfOk result
         (λ n. Represents tree_at is_whole draft.new n (table (map_of (shown_pairs xs)))) }
     ensures keeps { OnOk result (Keeps draft.old draft.new) }
-    ensures err { IfErr result (λ e. e ≡ want_of_memory) }
     ensures cost { ticks.new.count ≤ ticks.old.count + length items.entry.items }
 {
     let entries = entries_of(alloc, ticks, items)?;
-    Ok(draft.push_table(alloc, entries)?)
+    draft.push_table(alloc, entries)
 }

@@ -17,6 +17,7 @@ use crate::ticks::Ticks;
 use resb_tree::{NoMemory, Resource};
 use std::alloc::Global;
 use std::borrow::CowStr;
+use std::mem;
 
 /// What can be made of groups, one after another, members first.
 pub(crate) trait Build<'a>: Sized + Drop {
@@ -42,32 +43,34 @@ pub(crate) trait Build<'a>: Sized + Drop {
         ensures made { IfOk result (λ x. Represents tree held self.new x (string text.now)) }
         ensures grows { OnOk result (Grows tree held self.old self.new) };
 
-    /// The array of these items. Counts at most a turn for each.
+    /// The array of these items, whose list is left as room for others. Counts at most a turn for
+    /// each.
     fn array(
         &mut self,
         alloc: Global,
         ticks: &mut Ticks,
-        items: Vec<Item<'a, Self::Made>>,
+        items: &mut Vec<Item<'a, Self::Made>>,
     ) -> Result<Self::Made, NoMemory>
-        ensures made { let xs = map (shown_by (tree self.old) (held self.old)) items.entry.items in
+        ensures made { let xs = map (shown_by (tree self.old) (held self.old)) items.old.items in
             all_true (map shown_borrowed xs) ≡ true → IfOk result
             (λ x. Represents tree held self.new x (array (trees_of (map shown_tree xs)))) }
         ensures grows { OnOk result (Grows tree held self.old self.new) }
-        ensures cost { ticks.new.count ≤ ticks.old.count + length items.entry.items };
+        ensures cost { ticks.new.count ≤ ticks.old.count + length items.old.items };
 
     /// The table of these items, which are a key, a group and so on. A later entry of an equal key
-    /// replaces the earlier one. Counts at most a turn for each item.
+    /// replaces the earlier one. Their list is left as room for others. Counts at most a turn for
+    /// each item.
     fn table(
         &mut self,
         alloc: Global,
         ticks: &mut Ticks,
-        items: Vec<Item<'a, Self::Made>>,
+        items: &mut Vec<Item<'a, Self::Made>>,
     ) -> Result<Self::Made, NoMemory>
-        ensures made { let xs = map (shown_by (tree self.old) (held self.old)) items.entry.items in
+        ensures made { let xs = map (shown_by (tree self.old) (held self.old)) items.old.items in
             all_true (map shown_borrowed xs) ≡ true → IfOk result
             (λ x. Represents tree held self.new x (table (map_of (shown_pairs xs)))) }
         ensures grows { OnOk result (Grows tree held self.old self.new) }
-        ensures cost { ticks.new.count ≤ ticks.old.count + length items.entry.items };
+        ensures cost { ticks.new.count ≤ ticks.old.count + length items.old.items };
 }
 
 /// Groups become resources, and nothing else is kept.
@@ -96,31 +99,31 @@ impl<'a> Build<'a> for Trees {
         &mut self,
         alloc: Global,
         ticks: &mut Ticks,
-        items: Vec<Item<'a, Resource<'a>>>,
+        items: &mut Vec<Item<'a, Resource<'a>>>,
     ) -> Result<Resource<'a>, NoMemory>
-        ensures made { let xs = map seen_in_code items.entry.items in
+        ensures made { let xs = map seen_in_code items.old.items in
             all_true (map shown_borrowed xs) ≡ true → IfOk result
             (λ r. (tree_of r ≡ array (trees_of (map shown_tree xs))) × (borrows_strings r ≡ true)) }
         ensures grows { OnOk result ((r : Resource) → borrows_strings r ≡ true
             → (tree_of r ≡ tree_of r) × (borrows_strings r ≡ true)) }
-        ensures cost { ticks.new.count ≤ ticks.old.count + length items.entry.items }
+        ensures cost { ticks.new.count ≤ ticks.old.count + length items.old.items }
     {
-        array_of(alloc, ticks, items)
+        array_of(alloc, ticks, mem::replace(items, Vec::new(alloc)))
     }
 
     fn table(
         &mut self,
         alloc: Global,
         ticks: &mut Ticks,
-        items: Vec<Item<'a, Resource<'a>>>,
+        items: &mut Vec<Item<'a, Resource<'a>>>,
     ) -> Result<Resource<'a>, NoMemory>
-        ensures made { let xs = map seen_in_code items.entry.items in
+        ensures made { let xs = map seen_in_code items.old.items in
             all_true (map shown_borrowed xs) ≡ true → IfOk result
             (λ r. (tree_of r ≡ table (map_of (shown_pairs xs))) × (borrows_strings r ≡ true)) }
         ensures grows { OnOk result ((r : Resource) → borrows_strings r ≡ true
             → (tree_of r ≡ tree_of r) × (borrows_strings r ≡ true)) }
-        ensures cost { ticks.new.count ≤ ticks.old.count + length items.entry.items }
+        ensures cost { ticks.new.count ≤ ticks.old.count + length items.old.items }
     {
-        table_of(alloc, ticks, items)
+        table_of(alloc, ticks, mem::replace(items, Vec::new(alloc)))
     }
 }

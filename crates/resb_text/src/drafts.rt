@@ -40,13 +40,13 @@ impl<'a> Build<'a> for Draft<'a> {
         &mut self,
         alloc: Global,
         ticks: &mut Ticks,
-        items: Vec<Item<'a, u32>>,
+        items: &mut Vec<Item<'a, u32>>,
     ) -> Result<u32, NoMemory>
-        ensures made { let xs = map (piece_item_seen self.old) items.entry.items in
+        ensures made { let xs = map (piece_item_seen self.old) items.old.items in
             all_true (map shown_borrowed xs) ≡ true → IfOk result
             (λ n. Represents tree_at is_whole self.new n (array (trees_of (map shown_tree xs)))) }
         ensures grows { OnOk result (Grows tree_at is_whole self.old self.new) }
-        ensures cost { ticks.new.count ≤ ticks.old.count + length items.entry.items }
+        ensures cost { ticks.new.count ≤ ticks.old.count + length items.old.items }
     {
         array_of(alloc, self, ticks, items)
     }
@@ -55,28 +55,28 @@ impl<'a> Build<'a> for Draft<'a> {
         &mut self,
         alloc: Global,
         ticks: &mut Ticks,
-        items: Vec<Item<'a, u32>>,
+        items: &mut Vec<Item<'a, u32>>,
     ) -> Result<u32, NoMemory>
-        ensures made { let xs = map (piece_item_seen self.old) items.entry.items in
+        ensures made { let xs = map (piece_item_seen self.old) items.old.items in
             all_true (map shown_borrowed xs) ≡ true → IfOk result
             (λ n. Represents tree_at is_whole self.new n (table (map_of (shown_pairs xs)))) }
         ensures grows { OnOk result (Grows tree_at is_whole self.old self.new) }
-        ensures cost { ticks.new.count ≤ ticks.old.count + length items.entry.items }
+        ensures cost { ticks.new.count ≤ ticks.old.count + length items.old.items }
     {
         table_of(alloc, self, ticks, items)
     }
 }
 
 /// The number of the piece that the term is. A string becomes one here.
-fn number_of<'a>(draft: &mut Draft<'a>, term: Term<'a, u32>) -> Result<u32, NoMemory>
-    ensures made { (f : Bool) → let seen = piece_term_seen draft.old term.entry f in
+fn number_of<'a>(draft: &mut Draft<'a>, term: &Term<'a, u32>) -> Result<u32, NoMemory>
+    ensures made { (f : Bool) → let seen = piece_term_seen draft.old term.now f in
         shown_borrowed seen ≡ true
         → IfOk result (λ n. Represents tree_at is_whole draft.new n (shown_tree seen)) }
     ensures keeps { OnOk result (Keeps draft.old draft.new) }
 {
     match term {
         Term::String(text) => draft.push_string(text),
-        Term::Group(number) => Ok(number),
+        Term::Group(number) => Ok(*number),
     }
 }
 
@@ -85,19 +85,19 @@ fn numbers_of<'a>(
     alloc: Global,
     draft: &mut Draft<'a>,
     ticks: &mut Ticks,
-    items: Vec<Item<'a, u32>>,
+    items: &[Item<'a, u32>],
 ) -> Result<Vec<u32>, NoMemory>
-    ensures made { let xs = map (piece_item_seen draft.old) items.entry.items in
+    ensures made { let xs = map (piece_item_seen draft.old) items.now in
         all_true (map shown_borrowed xs) ≡ true → IfOk result
         (λ v. (map (tree_at draft.new) v.items ≡ map shown_tree xs)
         × (all_true (map (is_whole draft.new) v.items) ≡ true)) }
     ensures keeps { OnOk result (Keeps draft.old draft.new) }
-    ensures cost { ticks.new.count ≤ ticks.old.count + length items.entry.items }
+    ensures cost { ticks.new.count ≤ ticks.old.count + length items.now }
 {
     let mut numbers = Vec::with_capacity(alloc, items.len())?;
     for item in items {
         ticks.tick();
-        numbers.push(number_of(draft, item.term)?)?;
+        numbers.push(number_of(draft, &item.term)?)?;
     }
     Ok(numbers)
 }
@@ -107,13 +107,13 @@ fn array_of<'a>(
     alloc: Global,
     draft: &mut Draft<'a>,
     ticks: &mut Ticks,
-    items: Vec<Item<'a, u32>>,
+    items: &[Item<'a, u32>],
 ) -> Result<u32, NoMemory>
-    ensures made { let xs = map (piece_item_seen draft.old) items.entry.items in
+    ensures made { let xs = map (piece_item_seen draft.old) items.now in
         all_true (map shown_borrowed xs) ≡ true → IfOk result
         (λ n. Represents tree_at is_whole draft.new n (array (trees_of (map shown_tree xs)))) }
     ensures keeps { OnOk result (Keeps draft.old draft.new) }
-    ensures cost { ticks.new.count ≤ ticks.old.count + length items.entry.items }
+    ensures cost { ticks.new.count ≤ ticks.old.count + length items.now }
 {
     let numbers = numbers_of(alloc, draft, ticks, items)?;
     draft.push_array(&numbers)
@@ -123,21 +123,21 @@ fn array_of<'a>(
 fn list_term<'a>(
     entries: &mut Vec<(&'a str, u32)>,
     waiting: Option<&'a str>,
-    term: Term<'a, u32>,
+    term: &Term<'a, u32>,
 ) -> Result<Option<&'a str>, NoMemory>
     ensures entries { IfOk result (λ next. (d : Draft) (f : Bool) (xs : List SeenItem)
         → entries_seen d entries.new.items ++ pairs_after (waiting_key next) xs
         ≡ entries_seen d entries.old.items
-        ++ pairs_after (waiting_key waiting.entry) (piece_term_seen d term.entry f ∷ xs)) }
+        ++ pairs_after (waiting_key waiting.entry) (piece_term_seen d term.now f ∷ xs)) }
     ensures whole { OnOk result ((d : Draft) (f : Bool)
-        → shown_borrowed (piece_term_seen d term.entry f) ≡ true
+        → shown_borrowed (piece_term_seen d term.now f) ≡ true
         → are_whole d entries.old.items ≡ true → are_whole d entries.new.items ≡ true) }
 {
     match term {
         Term::String(text) => Ok(Some(text)),
         Term::Group(number) => {
             if let Some(key) = waiting {
-                entries.push((key, number))?;
+                entries.push((key, *number))?;
             }
             Ok(None)
         }
@@ -149,20 +149,20 @@ fn list_term<'a>(
 fn entries_of<'a>(
     alloc: Global,
     ticks: &mut Ticks,
-    items: Vec<Item<'a, u32>>,
+    items: &[Item<'a, u32>],
 ) -> Result<Vec<(&'a str, u32)>, NoMemory>
     ensures entries { IfOk result (λ v. (d : Draft)
-        → entries_seen d v.items ≡ shown_pairs (map (piece_item_seen d) items.entry.items)) }
+        → entries_seen d v.items ≡ shown_pairs (map (piece_item_seen d) items.now)) }
     ensures whole { IfOk result (λ v. (d : Draft)
-        → all_true (map shown_borrowed (map (piece_item_seen d) items.entry.items)) ≡ true
+        → all_true (map shown_borrowed (map (piece_item_seen d) items.now)) ≡ true
         → are_whole d v.items ≡ true) }
-    ensures cost { ticks.new.count ≤ ticks.old.count + length items.entry.items }
+    ensures cost { ticks.new.count ≤ ticks.old.count + length items.now }
 {
     let mut entries = Vec::with_capacity(alloc, items.len() / 2)?;
     let mut waiting: Option<&'a str> = None;
     for item in items {
         ticks.tick();
-        waiting = list_term(&mut entries, waiting, item.term)?;
+        waiting = list_term(&mut entries, waiting, &item.term)?;
     }
     Ok(entries)
 }
@@ -173,13 +173,13 @@ fn table_of<'a>(
     alloc: Global,
     draft: &mut Draft<'a>,
     ticks: &mut Ticks,
-    items: Vec<Item<'a, u32>>,
+    items: &[Item<'a, u32>],
 ) -> Result<u32, NoMemory>
-    ensures made { let xs = map (piece_item_seen draft.old) items.entry.items in
+    ensures made { let xs = map (piece_item_seen draft.old) items.now in
         all_true (map shown_borrowed xs) ≡ true → IfOk result
         (λ n. Represents tree_at is_whole draft.new n (table (map_of (shown_pairs xs)))) }
     ensures keeps { OnOk result (Keeps draft.old draft.new) }
-    ensures cost { ticks.new.count ≤ ticks.old.count + length items.entry.items }
+    ensures cost { ticks.new.count ≤ ticks.old.count + length items.now }
 {
     let entries = entries_of(alloc, ticks, items)?;
     draft.push_table(alloc, entries)

@@ -18,5 +18,6 @@ pub mod Stuck
 pub mod Limit
 pub mod Expected
 pub mod Kinds
+pub mod KeyLists
 pub mod Laws
 pub mod Inner

@@ -13,5 +13,5 @@ mod runs;
 pub use expected::Expected;
 pub use group_kind::{Kind, kind_named};
 pub use hex_pairs::bytes_of_hex;
-pub use key_list::list_once;
+pub use key_list::KeyList;
 pub use runs::{blanks_end, digits_end, negated};

@@ -23,8 +23,7 @@ use crate::steps::{Step, key_at};
 use crate::turns::IcuTurns;
 use crate::types::root_type;
 use crate::words::word_end;
-use indexmap::IndexSet;
-use resb_grammar::list_once;
+use resb_grammar::KeyList;
 use resb_icu_grammar::IcuExpected;
 use resb_tree::{Key, NoMemory, Resource, ResourceBundle};
 use std::alloc::Global;
@@ -235,10 +234,9 @@ fn each_once<'a>(
     ensures cost { turns.new.count ≤ turns.old.count + length keys.now }
 {
     turns.add(keys.len());
-    let mut seen = IndexSet::new(alloc);
-    let mut once = Vec::new(alloc);
+    let mut list = KeyList::new(alloc);
     for key in keys {
-        list_once(&mut seen, &mut once, *key)?;
+        list.list(*key)?;
     }
-    Ok(once)
+    list.into_keys(alloc)
 }

@@ -13,6 +13,8 @@ use Rattle.resb_tree.specs.View.{tree_of, entries_view, pairs_view}
 use Rattle.resb_tree.specs.declared.resource.Resource.{Resource}
 use Rattle.resb_tree.proofs.AtOnce.{inserted, made, made_view}
 use Rattle.resb_tree.proofs.ViewLemmas.{entries_view_insert}
+use Rattle.resb_tree.proofs.BorrowingLemmas.{insert_passes, made_passes}
+use Rattle.resb_tree.specs.Borrowing.{are_slice}
 use Rattle.resb_walk.specs.Borrows.{borrows_binaries, all_borrow, entries_borrow}
 
 put_all_snoc : (ps : List (List ℕ × Tree)) (es : Entries) (k : List ℕ) (t : Tree)
@@ -42,32 +44,13 @@ borrow_snoc (s ∷ rs) r h k =
 pub borrow_put : (es : List (List ℕ × Resource)) (k : List ℕ) (r : Resource)
     → entries_borrow es ≡ true → borrows_binaries r ≡ true
     → entries_borrow (insert_entry (slice_cmp nat_cmp) es k r) ≡ true
-borrow_put [] k r h b = and_from _ _ b refl
-borrow_put (e ∷ es) k r h b =
-    let (first, later) = and_parts _ _ h in
-    placed (slice_cmp nat_cmp k e.0) (borrow_put es k r later b) first later
-  where
-    placed : (o : Ordering) → entries_borrow (insert_entry (slice_cmp nat_cmp) es k r) ≡ true
-        → borrows_binaries e.1 ≡ true → entries_borrow es ≡ true
-        → entries_borrow (match_ordering o ((k, r) ∷ e ∷ es) ((e.0, r) ∷ es)
-        (e ∷ insert_entry (slice_cmp nat_cmp) es k r)) ≡ true
-    placed Less rest first later = and_from _ _ b (and_from _ _ first later)
-    placed Equal rest first later = and_from _ _ b later
-    placed Greater rest first later = and_from _ _ first rest
-
-inserted_borrow : (es ps : List (List ℕ × Resource)) → entries_borrow es ≡ true
-    → entries_borrow ps ≡ true → entries_borrow (inserted es ps) ≡ true
-inserted_borrow es [] h k = h
-inserted_borrow es (p ∷ ps) h k =
-    let (first, later) = and_parts _ _ k in
-    inserted_borrow (insert_entry (slice_cmp nat_cmp) es p.0 p.1) ps
-    (borrow_put es p.0 p.1 h first) later
+borrow_put es k r h b = insert_passes (λ s. true) are_slice es k r b h
 
 -- a map that is made at once of entries whose values copy nothing
 pub made_borrow : (ps : List (List ℕ × Resource)) (m : BTreeMap (List ℕ) Resource)
     → IsFromIterResult (slice_cmp nat_cmp) ps m → entries_borrow ps ≡ true
     → entries_borrow m.entries ≡ true
-made_borrow ps m h k = ap entries_borrow (made ps m h) ∙ inserted_borrow [] ps refl k
+made_borrow = made_passes (λ s. true) are_slice
 
 -- one more pair, whose value copies nothing
 pub borrow_entry : (es : List (List ℕ × Resource)) (k : List ℕ) (r : Resource)

@@ -2,7 +2,7 @@
 use Rattle.std.proofs.Common.{◌≡◌, ℕ, ◌+◌, ◌-◌, ◌<◌, Bool, true, List, [], ◌∷◌, ◌++◌, Bor}
 use Rattle.std.proofs.Common.{BTreeMap, arith, length, take, get_or}
 use Rattle.std.proofs.lemmas.List.{take_more, map_push}
-use Rattle.std.proofs.Common.{Ordering, Less, Equal, Greater, map, refl, sym, ap, ◌∙◌}
+use Rattle.std.proofs.Common.{Ordering, Less, Equal, Greater, map, refl, sym, ap, ◌∙◌, subst}
 use Rattle.std.proofs.lemmas.Bool.{and_from, and_parts, false≢true}
 use Rattle.std.specs.BTreeMap.{is_at, IsFromIterResult}
 use Rattle.std.specs.Cmp.Lexicographic.{nat_list_cmp_total}
@@ -53,28 +53,34 @@ is_less Less h = refl
 is_less Equal h = absurd (false≢true h)
 is_less Greater h = absurd (false≢true h)
 
-below_from : (k l : List ℕ) (ps : List (List ℕ × Tree)) → text_cmp k l ≡ Less
-    → AllByRecursion (λ y. text_cmp l y ≡ Less) (keys_of ps)
-    → AllByRecursion (λ y. text_cmp k y ≡ Less) (keys_of ps)
-below_from k l [] e h = tt
-below_from k l (p ∷ ps) e h =
-    (nat_list_cmp_total.trans k l p.0 e h.0, below_from k l ps e h.1)
+below_all : (k l : List ℕ) (ks : List (List ℕ)) → text_cmp k l ≡ Less
+    → AllByRecursion (λ y. text_cmp l y ≡ Less) ks → AllByRecursion (λ y. text_cmp k y ≡ Less) ks
+below_all k l [] e h = tt
+below_all k l (q ∷ ks) e h = (nat_list_cmp_total.trans k l q e h.0, below_all k l ks e h.1)
 
-sorted_from : (tree : ℕ → Tree) (ps : List (Bor (List ℕ) × ℕ)) → keys_ascend ps ≡ true
-    → IsStrictlySortedBy text_cmp (keys_of (seen tree ps))
+-- texts that ascend are sorted
+pub texts_sorted : (ks : List (List ℕ)) → texts_ascend ks ≡ true → IsStrictlySortedBy text_cmp ks
 unfolding IsStrictlySortedBy
-sorted_from tree [] h = tt
-sorted_from tree (p ∷ []) h = (tt, tt)
-sorted_from tree (p ∷ q ∷ ps) h =
-    let parts = and_parts (is_lt (text_cmp p.0.now q.0.now)) _ h in
+texts_sorted [] h = tt
+texts_sorted (k ∷ []) h = (tt, tt)
+texts_sorted (k ∷ l ∷ ks) h =
+    let parts = and_parts (is_lt (text_cmp k l)) _ h in
     let e = is_less _ parts.0 in
-    let more = sorted_from tree (q ∷ ps) parts.1 in
-    ((e, below_from p.0.now q.0.now (seen tree ps) e more.0), more)
+    let more = texts_sorted (l ∷ ks) parts.1 in
+    ((e, below_all k l ks e more.0), more)
+
+keys_seen : (tree : ℕ → Tree) (ps : List (Bor (List ℕ) × ℕ))
+    → keys_of (seen tree ps) ≡ map (λ p. p.0.now) ps
+keys_seen tree [] = refl
+keys_seen tree (p ∷ ps) = ap (λ l. p.0.now ∷ l) (keys_seen tree ps)
 
 -- entries whose keys ascend are the map of them
 pub ascending_map : (tree : ℕ → Tree) (ps : List (Bor (List ℕ) × ℕ)) → keys_ascend ps ≡ true
     → entries_of (seen tree ps) ≡ map_of (seen tree ps)
-ascending_map tree ps h = sym (map_of-sorted (seen tree ps) (sorted_from tree ps h))
+ascending_map tree ps h =
+    let sorted = texts_sorted (map (λ (p : Bor (List ℕ) × ℕ). p.0.now) ps) h in
+    sym (map_of-sorted (seen tree ps)
+    (subst (IsStrictlySortedBy text_cmp) (sym (keys_seen tree ps)) sorted))
 
 -- A map of borrowed texts has the entries of one of texts.
 

@@ -2,6 +2,6 @@
 pub mod Lists
 pub mod Standing
 mod Made
-mod Whole
+pub mod Whole
 mod InOrder
-mod EntriesLemmas
+pub mod EntriesLemmas

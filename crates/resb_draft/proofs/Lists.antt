@@ -3,7 +3,7 @@ use Rattle.std.proofs.Common.{◌≡◌, ℕ, ◌+◌, ◌-◌, ◌≤◌, ◌<�
 use Rattle.std.proofs.Common.{map, refl, sym, ◌∙◌, ap, arith, length, take, drop, zero, suc}
 use Rattle.std.proofs.Common.{length-drop, Bor, reverse, get_or}
 use Rattle.std.specs.List.{zip}
-use Rattle.std.specs.Prelude.{slice_range, if◌then◌else◌, is_ok, OnOk, Result, Ok, Err}
+use Rattle.std.specs.Prelude.{slice_range}
 use Rattle.std.proofs.lemmas.Bool.{and_from, and_parts}
 use Rattle.std.proofs.lemmas.List.{take-append-le, drop-append-le, take_all, map-append}
 use Rattle.std.proofs.lemmas.List.{reverse-append, map_push, take-map, drop-map}
@@ -55,12 +55,6 @@ pub zip_maps : {X Y Z : Type 0} (f : X → Y) (g : X → Z) (xs : List X)
     → zip (map f xs) (map g xs) ≡ map (λ x. (f x, g x)) xs
 zip_maps f g [] = refl
 zip_maps f g (x ∷ xs) = ap (λ l. (f x, g x) ∷ l) (zip_maps f g xs)
-
--- what a list is where a call gave a value, and else
-pub ok_items : {T E X : Type 0} (r : Result T E) (x a b : X) → x ≡ (if is_ok r then a else b)
-    → OnOk r (x ≡ a)
-ok_items (Ok t) x a b e = e
-ok_items (Err e) x a b h = tt
 
 -- texts one behind another
 pub texts-append : (ks ls : List (Bor (List ℕ))) → texts (ks ++ ls) ≡ texts ks ++ texts ls

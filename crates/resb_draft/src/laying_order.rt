@@ -7,7 +7,7 @@ ghost use Rattle.std.specs.List.{flat_map};
 ghost use Rattle.resb_tree.specs.Borrowing.{all_true};
 ghost use Rattle.resb_tree.specs.LayingOrder.{laying_order, children, own_keys};
 ghost use Rattle.resb_draft.specs.Drafts.{tree_at, is_whole, draft_tree, is_ready, texts};
-ghost use Rattle.resb_draft.specs.Pieces.{is_piece, are_pieces};
+ghost use Rattle.resb_draft.specs.Pieces.{are_pieces};
 
 use crate::draft::{Draft, Piece};
 use std::alloc::{AllocError, Global};
@@ -109,14 +109,6 @@ impl<'a> Draft<'a> {
             Piece::Leaf(_) => Some(from),
             Piece::Array(_) => Some(from),
         }
-    }
-
-    /// The piece of this number.
-    pub fn piece(&self, number: u32) -> &Piece<'a>
-        requires { is_whole self.now number ≡ true }
-        ensures { is_piece result.now (tree_at self.now number) ≡ true }
-    {
-        &self.pieces[number as usize]
     }
 
     /// The keys of the table that the piece of this number stands for; of any other piece none.

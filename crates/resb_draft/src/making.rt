@@ -31,7 +31,7 @@ impl<'a> Draft<'a> {
     /// One text more. Gives the number of its piece, as the others do.
     pub fn push_string(&mut self, text: &'a str) -> Result<u32, NoMemory>
         ensures made { IfOk result (λ n. IsMade self.new n (string text.now)) }
-        ensures keeps { OnOk result (Keeps self.old self.new) }
+        ensures keeps { Keeps self.old self.new }
     {
         self.push(Piece::String(text))
     }
@@ -40,7 +40,7 @@ impl<'a> Draft<'a> {
     pub fn push_leaf(&mut self, resource: Resource<'a>) -> Result<u32, NoMemory>
         requires { is_leaf (tree_of resource) ≡ true }
         ensures made { IfOk result (λ n. IsMade self.new n (tree_of resource.entry)) }
-        ensures keeps { OnOk result (Keeps self.old self.new) }
+        ensures keeps { Keeps self.old self.new }
     {
         if let Resource::Integer(number) = &resource {
             return self.push(Piece::Integer(*number));
@@ -53,7 +53,7 @@ impl<'a> Draft<'a> {
     pub fn push_array(&mut self, members: &[u32]) -> Result<u32, NoMemory>
         ensures made { all_true (map (is_whole self.old) members.now) ≡ true → IfOk result
             (λ n. IsMade self.new n (array (trees_of (map (tree_at self.old) members.now)))) }
-        ensures keeps { OnOk result (Keeps self.old self.new) }
+        ensures keeps { Keeps self.old self.new }
     {
         let part = Members {
             from: number(self.members.len())?,
@@ -74,7 +74,7 @@ impl<'a> Draft<'a> {
             all_true (map (λ p. is_whole self.old p.1) ps) ≡ true → IfOk result
             (λ n. IsMade self.new n
             (table (map_of (map (λ p. (p.0.now, tree_at self.old p.1)) ps)))) }
-        ensures keeps { OnOk result (Keeps self.old self.new) }
+        ensures keeps { Keeps self.old self.new }
     {
         if ascend(&entries) {
             return self.push_entries(&entries);
@@ -90,7 +90,7 @@ impl<'a> Draft<'a> {
             all_true (map (λ p. is_whole self.old p.1) ps) ≡ true → IfOk result
             (λ n. IsMade self.new n
             (table (entries_of (map (λ p. (p.0.now, tree_at self.old p.1)) ps)))) }
-        ensures keeps { OnOk result (Keeps self.old self.new) }
+        ensures keeps { Keeps self.old self.new }
     {
         let part = Members {
             from: number(self.members.len())?,
@@ -109,7 +109,7 @@ impl<'a> Draft<'a> {
         ensures made { IfOk result (λ n. get_or (pieces_stand self.new) n nothing
             ≡ piece_meaning self.old.members.items (texts self.old.keys.items)
             (pieces_stand self.old) piece.entry) }
-        ensures keeps { OnOk result (Keeps self.old self.new) }
+        ensures keeps { Keeps self.old self.new }
     {
         let number = number(self.pieces.len())?;
         self.pieces.push(piece)?;

@@ -19,7 +19,6 @@ use Rattle.resb_pool.specs.Plan.{nows, texts_size}
 use Rattle.resb_pool.specs.Inner.Placing.{text_numbered, IsMeasure, AreMeasures, AreTexts}
 use Rattle.resb_pool.specs.declared.measure.Measure.{Measure}
 use Rattle.resb_pool.proofs.TextLoops.{blank}
-use Rattle.resb_pool.proofs.FoundKeys.{same_key}
 use Rattle.resb_pool.proofs.Distinct.{one_index, distinct_push}
 use Rattle.resb_pool.proofs.Sizes.{copy_same, copy_other, copies-push, copies_none, copies_within}
 use Rattle.resb_pool.proofs.Sizes.{marker_le}
@@ -28,6 +27,10 @@ use Rattle.resb_pool.proofs.Numbers.{old_or_new}
 
 abbrev Key : Type 0
 Key = Bor (List ℕ)
+
+-- whether two keys are one text
+abbrev pub same_key : Key → Key → Bool
+same_key x y = bytes_eq x.now y.now
 
 -- the texts of D and t, and the measures of the texts of D
 pub record IsReady (D : TextList) (t : List ℕ) (T : TextList) (ms : List Measure) : Type 0 where

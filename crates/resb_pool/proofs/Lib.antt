@@ -7,7 +7,6 @@ mod Distinct
 pub mod Sizes
 mod Interning
 mod Sums
-mod FoundKeys
 pub mod ReadBack
 pub mod PlacingLemmas
 mod Sharing

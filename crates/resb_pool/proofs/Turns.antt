@@ -18,7 +18,7 @@ use Rattle.resb_pool.specs.Inner.Placing.{text_numbered, offset_by, AreTurns}
 use Rattle.resb_pool.specs.Inner.LaidRecords.{HaveOffsets}
 use Rattle.resb_pool.specs.declared.measure.Measure.{Measure}
 use Rattle.resb_pool.proofs.Distinct.{has_text, one_index}
-use Rattle.resb_pool.proofs.FoundKeys.{same_key}
+use Rattle.resb_pool.proofs.Interning.{same_key}
 use Rattle.resb_pool.proofs.PlanLemmas.{offset_at}
 use Rattle.resb_pool.proofs.TextLists.{TextList}
 

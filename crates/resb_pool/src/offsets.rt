@@ -30,13 +30,6 @@ impl<'a> Plan<'a> {
         &self.units
     }
 
-    /// The same units, without the texts that lie in them.
-    pub fn into_units(self) -> Vec<u16>
-        ensures { result.items ≡ plan_units self.entry }
-    {
-        self.units
-    }
-
     /// The same units, and the offset of each string in the order in which they were given.
     pub fn into_parts(self) -> (Vec<u16>, Vec<u32>)
         ensures units { result.0.items ≡ plan_units self.entry }
@@ -53,31 +46,6 @@ impl<'a> Plan<'a> {
     {
         let index = self.texts.get_index_of(text)?;
         self.offsets.get(index).copied()
-    }
-
-    /// The same as `offset`. Where the text is that of the string of this number, counted from 0
-    /// in the order in which they were given, it is found without a look-up.
-    pub fn offset_in_turn(&self, number: usize, text: &str) -> Option<u32>
-        ensures { result ≡ offset_of self.now text.now }
-    {
-        let index = self.order.get(number).copied().unwrap_or(0) as usize;
-        if self.is_at(index, text) {
-            return self.offsets.get(index).copied();
-        }
-        self.offset(text)
-    }
-
-    /// Whether this is the text of an index.
-    fn is_at(&self, index: usize, text: &str) -> bool
-        ensures { IsTrue result → index_of_by (λ k. bytes_eq text.now k.now) self.now.texts
-            ≡ Some index }
-    {
-        // `len` is called for its clause that the texts are distinct.
-        let _count = self.texts.len();
-        match self.texts.get_index(index) {
-            Some(found) => *found == text,
-            None => false,
-        }
     }
 }
 

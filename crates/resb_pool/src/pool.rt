@@ -5,13 +5,14 @@ ghost use Rattle.resb_pool.specs.Plan.{nows, plan_units, offset_of, turn_offsets
 ghost use Rattle.resb_pool.specs.Plan.{IsPlan, NotPlanned};
 ghost use Rattle.resb_pool.specs.Inner.Placing.{AreTexts, AreHomes};
 ghost use Rattle.resb_pool.specs.Inner.LaidRecords.{IsBlock, HaveOffsets};
+ghost use Rattle.resb_pool.specs.Inner.ToldApart.{ToldApart};
 
 use crate::error::PlanError;
 use crate::homes::{Home, find_homes, find_sums};
 use crate::measure::{Measure, check_lengths};
 use crate::offsets::{Plan, find_offsets};
 use crate::records::{Block, lay, ordered};
-use crate::texts::gather;
+use crate::texts::{Texts, gather};
 use std::alloc::{AllocError, Global};
 
 /// The records of distinct texts with these homes, laid in their order.
@@ -44,6 +45,33 @@ fn place(
     Ok((block.units, offsets))
 }
 
+/// The distinct texts of strings. Refused is what `plan` refuses.
+fn texts_of<'a>(alloc: Global, strings: &[&'a str]) -> Result<Texts<'a>, PlanError>
+    ensures ok { IfOk result (ToldApart (nows strings.now)) }
+    ensures err { IfErr result (NotPlanned (nows strings.now)) }
+{
+    check_lengths(strings)?;
+    gather(alloc, strings)
+}
+
+/// The plan of strings that are told apart.
+fn plan_texts<'a>(alloc: Global, texts: Texts<'a>) -> Result<Plan<'a>, PlanError>
+    requires { (strings : List (List ℕ)) × ToldApart strings texts }
+    ensures ok { IfOk result (λ p. (strings : List (List ℕ)) → ToldApart strings texts.entry
+        → IsPlan strings (plan_units p) (offset_of p)) }
+    ensures turns { IfOk result (λ p. (strings : List (List ℕ)) → ToldApart strings texts.entry
+        → map (offset_of p) strings ≡ map Some (turn_offsets p)) }
+    ensures err { IfErr result (λ e. (strings : List (List ℕ)) → NotPlanned strings e) }
+{
+    let (units, offsets) = place(alloc, texts.distinct.as_slice(), &texts.measures)?;
+    Ok(Plan {
+        units,
+        texts: texts.distinct,
+        offsets,
+        order: texts.order,
+    })
+}
+
 /// Plans strings, given in laying order and as often as each stands in the tree. Each non-empty one
 /// that is not, without a marker, the end of another gets a record: marker, units, 0. Any other
 /// stands at the end of the greatest record, in the order of characters from the end, that ends
@@ -57,13 +85,20 @@ pub fn plan<'a>(alloc: Global, strings: &[&'a str]) -> Result<Plan<'a>, PlanErro
         map (offset_of p) (nows strings.now) ≡ map Some (turn_offsets p)) }
     ensures err { IfErr result (NotPlanned (nows strings.now)) }
 {
-    check_lengths(strings)?;
-    let texts = gather(alloc, strings)?;
-    let (units, offsets) = place(alloc, texts.distinct.as_slice(), &texts.measures)?;
-    Ok(Plan {
-        units,
-        texts: texts.distinct,
-        offsets,
-        order: texts.order,
-    })
+    let texts = texts_of(alloc, strings)?;
+    plan_texts(alloc, texts)
+}
+
+/// The same plan, of a list of strings that is handed over: it goes once the strings are told
+/// apart.
+pub fn plan_owned<'a>(alloc: Global, strings: Vec<&'a str>) -> Result<Plan<'a>, PlanError>
+    ensures ok { IfOk result
+        (λ p. IsPlan (nows strings.entry.items) (plan_units p) (offset_of p)) }
+    ensures turns { IfOk result (λ p.
+        map (offset_of p) (nows strings.entry.items) ≡ map Some (turn_offsets p)) }
+    ensures err { IfErr result (NotPlanned (nows strings.entry.items)) }
+{
+    let texts = texts_of(alloc, &strings)?;
+    drop(strings);
+    plan_texts(alloc, texts)
 }

@@ -21,14 +21,15 @@ pub(crate) struct Texts<'a> {
 }
 
 impl<'a> Texts<'a> {
-    /// No texts, with room for those of so many strings.
+    /// No texts, with room for those of so many strings, of which a quarter are taken to be distinct:
+    /// in a smaller table texts are found faster.
     fn with_capacity(alloc: Global, count: usize) -> Result<Texts<'a>, AllocError>
         ensures texts { IfOk result (λ t. AreTexts [] (nows t.distinct.keys) t.measures.items) }
         ensures turns { IfOk result (λ t. AreTurns [] (nows t.distinct.keys) t.order.items) }
     {
         Ok(Texts {
-            distinct: IndexSet::with_capacity(alloc, count)?,
-            measures: Vec::with_capacity(alloc, count)?,
+            distinct: IndexSet::with_capacity(alloc, count / 4)?,
+            measures: Vec::with_capacity(alloc, count / 4)?,
             order: Vec::with_capacity(alloc, count)?,
         })
     }

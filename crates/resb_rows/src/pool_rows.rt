@@ -36,23 +36,38 @@ fn described(alloc: Global, plan: &Plan<'_>, strings: &[&str]) -> Result<String,
         line.push_str(format!(in alloc; "{unit:x} ")?.as_str())?;
     }
     line.push_str("|")?;
-    for (number, text) in strings.iter().enumerate() {
-        if plan.offset(text) != plan.offset_in_turn(number, text) {
-            return Err("two offsets")?;
-        }
+    for text in strings {
         push_offset(alloc, &mut line, plan, text)?;
     }
     Ok(line)
 }
 
-/// The line of the plan of these strings.
+/// The same of the parts of a plan.
+fn described_parts(alloc: Global, units: &[u16], offsets: &[u32]) -> Result<String, Fail> {
+    let mut line = String::new(alloc);
+    for unit in units {
+        line.push_str(format!(in alloc; "{unit:x} ")?.as_str())?;
+    }
+    line.push_str("|")?;
+    for offset in offsets {
+        line.push_str(format!(in alloc; " {offset}")?.as_str())?;
+    }
+    Ok(line)
+}
+
+/// The line of the plan of these strings, which is also that of the plan that takes their list.
 fn line_of_texts(alloc: Global, texts: &[String]) -> Result<String, Fail> {
     let mut strings = Vec::new(alloc);
     for text in texts {
         strings.push(text.as_str())?;
     }
     let plan = pool::plan(alloc, &strings)?;
-    described(alloc, &plan, &strings)
+    let line = described(alloc, &plan, &strings)?;
+    let (units, offsets) = pool::plan_owned(alloc, strings)?.into_parts();
+    if line != described_parts(alloc, &units, &offsets)? {
+        return Err("two plans")?;
+    }
+    Ok(line)
 }
 
 /// The line of the plan of the strings that these words stand for.
@@ -64,14 +79,9 @@ pub(crate) fn line_of_words(alloc: Global, words: &str) -> Result<String, Fail> 
     line_of_texts(alloc, &texts)
 }
 
-/// The offset of a text in the plan of these strings, which is also the one that is found in turn.
+/// The offset of a text in the plan of these strings.
 fn offset_in(alloc: Global, strings: &[&str], text: &str) -> Result<Option<u32>, Fail> {
-    let plan = pool::plan(alloc, strings)?;
-    let offset = plan.offset(text);
-    if offset != plan.offset_in_turn(1, text) {
-        return Err("two offsets")?;
-    }
-    Ok(offset)
+    Ok(pool::plan(alloc, strings)?.offset(text))
 }
 
 /// A text that was not given has no offset, also where it is the end of one that was.

@@ -13,7 +13,6 @@ use Rattle.resb_text.specs.Inner.Shown.{shown_borrowed}
 use Rattle.resb_text.specs.Inner.Frames.{view_of_code, view_of_frame, views_of_frames, FrameView}
 use Rattle.resb_text.specs.Inner.Frames.{NumberedFrame, with_number}
 use Rattle.resb_text.specs.Inner.Frames.{tree_shown_in}
-use Rattle.resb_text.specs.declared.error.TextParserError.{TextParserError}
 use Rattle.resb_text.specs.declared.frames.Frame.{Frame}
 use Rattle.resb_text.specs.declared.items.Item.{Item}
 use Rattle.resb_text.specs.declared.items.Term.{Term}
@@ -78,8 +77,8 @@ module _ {B X : Type 0} (tree : B → X → Tree) (held : B → X → Bool) (b d
   all_grown fs gs e = same_all fs (subst AreLooks (sym e) (looks_are gs)) ∙ e
 
 -- what is made of a closed group
-pub closed_made : {B X : Type 0} (tree : B → X → Tree) (held : B → X → Bool)
-    (r : Result X TextParserError) (b d : B) (c : Frame X) (sh : Shape)
+pub closed_made : {B X E : Type 0} (tree : B → X → Tree) (held : B → X → Bool)
+    (r : Result X E) (b d : B) (c : Frame X) (sh : Shape)
     → ((n : ℕ) (f : machine.Frame)
     → view_of_code (tree b) (held b) c ≡ view_of_frame (with_number n f)
     → sh ≡ shape_in f.body f.items)

@@ -4,13 +4,12 @@ use Rattle.std.proofs.Common.{append_assoc}
 use Rattle.std.proofs.lemmas.Bool.{and_from, and_parts}
 use Rattle.std.proofs.lemmas.List.{map_push}
 use Rattle.resb_tree.specs.Borrowing.{all_true}
-use Rattle.resb_tree.specs.Tree.{Tree}
 use Rattle.resb_draft.specs.Drafts.{tree_at, is_whole, Keeps}
 use Rattle.resb_draft.specs.declared.draft.Draft.{Draft}
 use Rattle.resb_draft.proofs.Lists.{all_append}
 use Rattle.resb_text.specs.Inner.Build.{Represents}
 use Rattle.resb_text.specs.Inner.Drafts.{piece_term_seen, piece_item_seen}
-use Rattle.resb_text.specs.Inner.Shown.{SeenItem, shown_tree, shown_borrowed}
+use Rattle.resb_text.specs.Inner.Shown.{shown_tree, shown_borrowed}
 use Rattle.resb_text.specs.declared.items.Item.{Item}
 use Rattle.resb_text.specs.declared.items.Term.{Term}
 use Rattle.resb_text.specs.declared.items.Term.TheVariants as terms

@@ -1,24 +1,23 @@
 //! What the reader makes of groups once they are closed. Trees are one such thing.
 //! The open groups stand in `frames`, and the trees of their items are made in `items`.
 ghost use Rattle.std.specs.Prelude.{◌≡◌, ◌+◌, ◌<◌, ◌≤◌, Bool, true, map, length};
-ghost use Rattle.std.specs.Prelude.{IfOk, IfErr, OnOk};
+ghost use Rattle.std.specs.Prelude.{IfOk, OnOk};
 ghost use Rattle.resb_tree.specs.Tree.{Tree, string, array, table, trees_of, map_of};
 ghost use Rattle.resb_tree.specs.View.{tree_of};
 ghost use Rattle.resb_tree.specs.Borrowing.{all_true};
 ghost use Rattle.resb_draft.specs.Drafts.{is_leaf};
 ghost use Rattle.resb_text.specs.Borrowed.{borrows_strings};
-ghost use Rattle.resb_text.specs.Refusal.{want_of_memory};
 ghost use Rattle.resb_text.specs.Inner.Build.{Represents, Grows};
 ghost use Rattle.resb_text.specs.Inner.Shown.{shown_by, seen_in_code, shown_tree, shown_pairs};
 ghost use Rattle.resb_text.specs.Inner.Shown.{shown_borrowed};
 ghost use Rattle.resb_tree.specs.declared.resource.Resource.{Resource};
 
-use crate::error::TextParserError;
 use crate::items::{Item, array_of, table_of};
 use crate::ticks::Ticks;
-use resb_tree::Resource;
+use resb_tree::{NoMemory, Resource};
 use std::alloc::Global;
 use std::borrow::CowStr;
+use std::mem;
 
 /// What can be made of groups, one after another, members first.
 pub(crate) trait Build<'a>: Sized + Drop {
@@ -32,48 +31,46 @@ pub(crate) trait Build<'a>: Sized + Drop {
     ghost held: { Self → Self.Made → Bool };
 
     /// A group without items, which is neither an array nor a table.
-    fn leaf(&mut self, resource: Resource<'a>) -> Result<Self::Made, TextParserError>
+    fn leaf(&mut self, resource: Resource<'a>) -> Result<Self::Made, NoMemory>
         requires borrowed { borrows_strings resource ≡ true }
         requires leaf { is_leaf (tree_of resource) ≡ true }
         ensures made { IfOk result
             (λ x. Represents tree held self.new x (tree_of resource.entry)) }
-        ensures grows { OnOk result (Grows tree held self.old self.new) }
-        ensures err { IfErr result (λ e. e ≡ want_of_memory) };
+        ensures grows { OnOk result (Grows tree held self.old self.new) };
 
     /// An untyped group of one string.
-    fn string(&mut self, text: &'a str) -> Result<Self::Made, TextParserError>
+    fn string(&mut self, text: &'a str) -> Result<Self::Made, NoMemory>
         ensures made { IfOk result (λ x. Represents tree held self.new x (string text.now)) }
-        ensures grows { OnOk result (Grows tree held self.old self.new) }
-        ensures err { IfErr result (λ e. e ≡ want_of_memory) };
+        ensures grows { OnOk result (Grows tree held self.old self.new) };
 
-    /// The array of these items. Counts at most a turn for each.
+    /// The array of these items, whose list is left as room for others. Counts at most a turn for
+    /// each.
     fn array(
         &mut self,
         alloc: Global,
         ticks: &mut Ticks,
-        items: Vec<Item<'a, Self::Made>>,
-    ) -> Result<Self::Made, TextParserError>
-        ensures made { let xs = map (shown_by (tree self.old) (held self.old)) items.entry.items in
+        items: &mut Vec<Item<'a, Self::Made>>,
+    ) -> Result<Self::Made, NoMemory>
+        ensures made { let xs = map (shown_by (tree self.old) (held self.old)) items.old.items in
             all_true (map shown_borrowed xs) ≡ true → IfOk result
             (λ x. Represents tree held self.new x (array (trees_of (map shown_tree xs)))) }
         ensures grows { OnOk result (Grows tree held self.old self.new) }
-        ensures err { IfErr result (λ e. e ≡ want_of_memory) }
-        ensures cost { ticks.new.count ≤ ticks.old.count + length items.entry.items };
+        ensures cost { ticks.new.count ≤ ticks.old.count + length items.old.items };
 
     /// The table of these items, which are a key, a group and so on. A later entry of an equal key
-    /// replaces the earlier one. Counts at most a turn for each item.
+    /// replaces the earlier one. Their list is left as room for others. Counts at most a turn for
+    /// each item.
     fn table(
         &mut self,
         alloc: Global,
         ticks: &mut Ticks,
-        items: Vec<Item<'a, Self::Made>>,
-    ) -> Result<Self::Made, TextParserError>
-        ensures made { let xs = map (shown_by (tree self.old) (held self.old)) items.entry.items in
+        items: &mut Vec<Item<'a, Self::Made>>,
+    ) -> Result<Self::Made, NoMemory>
+        ensures made { let xs = map (shown_by (tree self.old) (held self.old)) items.old.items in
             all_true (map shown_borrowed xs) ≡ true → IfOk result
             (λ x. Represents tree held self.new x (table (map_of (shown_pairs xs)))) }
         ensures grows { OnOk result (Grows tree held self.old self.new) }
-        ensures err { IfErr result (λ e. e ≡ want_of_memory) }
-        ensures cost { ticks.new.count ≤ ticks.old.count + length items.entry.items };
+        ensures cost { ticks.new.count ≤ ticks.old.count + length items.old.items };
 }
 
 /// Groups become resources, and nothing else is kept.
@@ -90,11 +87,11 @@ impl<'a> Build<'a> for Trees {
 
     ghost held = { λ b r. borrows_strings r };
 
-    fn leaf(&mut self, resource: Resource<'a>) -> Result<Resource<'a>, TextParserError> {
+    fn leaf(&mut self, resource: Resource<'a>) -> Result<Resource<'a>, NoMemory> {
         Ok(resource)
     }
 
-    fn string(&mut self, text: &'a str) -> Result<Resource<'a>, TextParserError> {
+    fn string(&mut self, text: &'a str) -> Result<Resource<'a>, NoMemory> {
         Ok(Resource::String(CowStr::Borrowed(text)))
     }
 
@@ -102,33 +99,31 @@ impl<'a> Build<'a> for Trees {
         &mut self,
         alloc: Global,
         ticks: &mut Ticks,
-        items: Vec<Item<'a, Resource<'a>>>,
-    ) -> Result<Resource<'a>, TextParserError>
-        ensures made { let xs = map seen_in_code items.entry.items in
+        items: &mut Vec<Item<'a, Resource<'a>>>,
+    ) -> Result<Resource<'a>, NoMemory>
+        ensures made { let xs = map seen_in_code items.old.items in
             all_true (map shown_borrowed xs) ≡ true → IfOk result
             (λ r. (tree_of r ≡ array (trees_of (map shown_tree xs))) × (borrows_strings r ≡ true)) }
         ensures grows { OnOk result ((r : Resource) → borrows_strings r ≡ true
             → (tree_of r ≡ tree_of r) × (borrows_strings r ≡ true)) }
-        ensures err { IfErr result (λ e. e ≡ want_of_memory) }
-        ensures cost { ticks.new.count ≤ ticks.old.count + length items.entry.items }
+        ensures cost { ticks.new.count ≤ ticks.old.count + length items.old.items }
     {
-        array_of(alloc, ticks, items)
+        array_of(alloc, ticks, mem::replace(items, Vec::new(alloc)))
     }
 
     fn table(
         &mut self,
         alloc: Global,
         ticks: &mut Ticks,
-        items: Vec<Item<'a, Resource<'a>>>,
-    ) -> Result<Resource<'a>, TextParserError>
-        ensures made { let xs = map seen_in_code items.entry.items in
+        items: &mut Vec<Item<'a, Resource<'a>>>,
+    ) -> Result<Resource<'a>, NoMemory>
+        ensures made { let xs = map seen_in_code items.old.items in
             all_true (map shown_borrowed xs) ≡ true → IfOk result
             (λ r. (tree_of r ≡ table (map_of (shown_pairs xs))) × (borrows_strings r ≡ true)) }
         ensures grows { OnOk result ((r : Resource) → borrows_strings r ≡ true
             → (tree_of r ≡ tree_of r) × (borrows_strings r ≡ true)) }
-        ensures err { IfErr result (λ e. e ≡ want_of_memory) }
-        ensures cost { ticks.new.count ≤ ticks.old.count + length items.entry.items }
+        ensures cost { ticks.new.count ≤ ticks.old.count + length items.old.items }
     {
-        table_of(alloc, ticks, items)
+        table_of(alloc, ticks, mem::replace(items, Vec::new(alloc)))
     }
 }

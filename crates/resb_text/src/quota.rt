@@ -1,14 +1,12 @@
 //! How many bytes of memory a reading has made, and the limit for them.
 //! What each token adds is said in the grammar; `steps` asks for it before it is made.
-ghost use Rattle.std.specs.Prelude.{◌≡◌, ℕ, ◌+◌, ◌<◌, ◌≤◌, List, false, OnOk, IfErr};
+ghost use Rattle.std.specs.Prelude.{◌≡◌, ℕ, ◌+◌, ◌<◌, ◌≤◌, List, false, OnOk};
 ghost use Rattle.resb_tree.specs.View.{tree_of};
 ghost use Rattle.resb_grammar.specs.Limit as limit;
 ghost use Rattle.resb_grammar.specs.Limit.{MakesMore};
 ghost use Rattle.resb_text.specs.Inner.Quota.{KeepsQuota};
-ghost use Rattle.resb_text.specs.Refusal.{want_of_memory};
 
-use crate::error::TextParserError;
-use resb_tree::Resource;
+use resb_tree::{NoMemory, Resource};
 
 /// A resource of its own.
 pub(crate) const GROUP_BYTES: u128 = 72;
@@ -35,18 +33,17 @@ impl Quota {
 
     /// So many bytes more are made, or more than the limit were asked for: then it is as if memory
     /// were wanted.
-    pub(crate) fn take(&mut self, bytes: u128) -> Result<(), TextParserError>
+    pub(crate) fn take(&mut self, bytes: u128) -> Result<(), NoMemory>
         requires { self.old.made ≤ self.old.limit }
         ensures made { OnOk result (self.new.made ≡ self.old.made + bytes) }
         ensures limit { self.new.limit ≡ self.old.limit }
         ensures keeps { (text : List ℕ) → KeepsQuota text self.old
             → (self.old.limit < self.old.made + bytes → MakesMore text self.old.limit)
             → KeepsQuota text self.new }
-        ensures err { IfErr result (λ e. e ≡ want_of_memory) }
     {
         if bytes > u128::from(self.limit - self.made) {
             self.is_over = true;
-            return Err(TextParserError::out_of_memory());
+            return Err(NoMemory);
         }
         self.made += bytes as u64;
         Ok(())

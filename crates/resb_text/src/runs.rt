@@ -1,5 +1,5 @@
 //! Where a run of word characters ends among bytes; where one of blanks or of digits does is found
-//! in `resb_grammar`. What is counted for a run is in `turns`, what stands behind it in `tokens`.
+//! in `resb_grammar`. What is counted for a run is in `scan`, what stands behind it in `tokens`.
 ghost use Rattle.std.specs.Prelude.{◌≡◌, ◌≤◌, length};
 ghost use Rattle.resb_grammar.specs.ByteRuns as spec;
 ghost use Rattle.resb_grammar.specs.ByteRuns.{Run};

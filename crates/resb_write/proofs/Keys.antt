@@ -39,6 +39,22 @@ key_moves a q old new js e h =
     moved false None = refl
     moved false (Some x) = refl
 
+-- a key that is in a set already stays there
+pub key_stays : (a q : List ℕ) (at : List ℕ → Option Unit) (js : List (List ℕ))
+    → is_some (at a) ≡ true → is_some (at q) ≡ is_among js q
+    → is_some (at q) ≡ is_among (js ++ a ∷ []) q
+key_stays a q at js there h =
+    kept (same_text q a) (at q) (λ e.
+    ap (λ s. is_some (at s)) (sym ((bytes_decides a q).0 (same_either_way a q ∙ e))) ∙ there)
+    ∙ ap (λ b. b || (same_text q a || false)) h ∙ sym (list_any-append (same_text q) js (a ∷ []))
+  where
+    kept : (b : Bool) (o : Option Unit) → (b ≡ true → is_some o ≡ true)
+        → is_some o ≡ (is_some o || (b || false))
+    kept true None f = f refl
+    kept true (Some x) f = refl
+    kept false None f = refl
+    kept false (Some x) f = refl
+
 same_found : (k j : List ℕ) (js : List (List ℕ)) (n : ℕ) → last_place k js ≡ Some n
     → last_place k (j ∷ js) ≡ Some (length j + 1 + n)
 same_found k j js n e = rw e refl

@@ -1,6 +1,6 @@
 -- Resources that can stand for trees: one of them, and those before it and behind it.
 use Rattle.std.proofs.Common.{◌≡◌, ℕ, zero, suc, ◌+◌, ◌<◌, ◌≤◌, List, [], ◌∷◌, ◌++◌, Bor, length}
-use Rattle.std.proofs.Common.{get_or, take, drop, Bool, true, false, map, refl, sym, ◌∙◌, ap}
+use Rattle.std.proofs.Common.{get_or, take, drop, map, refl, sym, ◌∙◌, ap}
 use Rattle.std.proofs.Common.{subst, arith}
 use Rattle.std.proofs.lemmas.List.{at_drop_more, take_more, take_all, drop_all, map_more}
 use Rattle.resb_tree.specs.Tree.{Tree, integer}

@@ -4,6 +4,7 @@ use Rattle.std.proofs.Common.{true}
 use Rattle.std.proofs.Common.{false, cond, not, All, length, map, get_or, refl, sym, ◌∙◌, ap}
 use Rattle.std.proofs.Common.{arith}
 use Rattle.std.specs.List.{position_or_len}
+use Rattle.std.specs.Prelude.{slice_get, Some, None}
 use Rattle.std.specs.Map.{keys_of}
 use Rattle.std.specs.Str.{bytes_eq}
 use Rattle.std.specs.Cmp.Lexicographic.{bytes_decides}
@@ -100,6 +101,24 @@ module _ {V : Type 0} where
             (all_wider (length (texts es)) (length new) ns w.0 h.within) (omega (arith, is, w.1));
         are = map_push (at new) ns n ∙ (λ i. first i ++ last i ∷ []);
       }
+
+  -- a key that stands at an index of a map
+  pub key_there : (es : List (Key × V)) (i : ℕ) (k : Key) (v : V) → slice_get es i ≡ Some (k, v)
+      → (s : List ℕ) → k.now ≡ s → (i < length (texts es)) × (at (texts es) i ≡ s)
+  key_there [] i k v e s h = absurd (let z : None ≡ Some (k, v) = e in cc)
+  key_there (x ∷ es) zero k v e s h =
+      let q : x ≡ (k, v) = cc in (omega arith, ap (λ p. p.0.now) q ∙ h)
+  key_there (x ∷ es) (suc i) k v e s h =
+      let rest = key_there es i k v e s h in (omega (arith, rest.0), rest.1)
+
+-- a key that is there already, with its index
+pub numbered_again : (T : List (List ℕ)) (ns : List ℕ) (us : List (List ℕ)) → AreNumbered T ns us
+    → (n : ℕ) → n < length T → (u : List ℕ) → at T n ≡ u
+    → AreNumbered T (ns ++ n ∷ []) (us ++ u ∷ [])
+numbered_again T ns us h n inside u is = record {
+  within = All-push (λ i. i < length T) ns n h.within inside;
+  are = map_push (at T) ns n ∙ (λ i. h.are i ++ is i ∷ []);
+}
 
 -- what is known of texts is found by their indexes
 pub by_number : (f : List ℕ → ℕ) (T : List (List ℕ)) (ns : List ℕ) (us : List (List ℕ))

@@ -2,7 +2,7 @@
 //! The faults of keys are found here, in the order in which they are answered.
 ghost use Rattle.std.specs.Prelude.{◌≡◌, ◌++◌, ◌<◌, ◌+◌, ◌%◌, ◌^◌, ◌⊎◌, ℕ, List, Some, None};
 ghost use Rattle.std.specs.Prelude.{IfOk, IfErr, OnOk, All, length, map, filter, nat_lt, unwrap_or};
-ghost use Rattle.std.specs.Prelude.{slice_index};
+ghost use Rattle.std.specs.Prelude.{slice_index, get_or, IsTrue, true, [], ◌∷◌};
 ghost use Rattle.std.specs.Str.{IsUtf8};
 ghost use Rattle.std.specs.List.{list_any};
 ghost use Rattle.std.specs.Map.{keys_of};
@@ -140,7 +140,51 @@ struct Wanted<'k> {
     numbers: Vec<usize>,
 }
 
-/// The keys as a set, and the index of each there.
+/// Whether the key stands at that index of the set.
+fn is_at(distinct: &IndexMap<&str, ()>, index: usize, key: &str) -> bool
+    ensures among { IsTrue result → is_some (at_text distinct.now key.now) ≡ true }
+    ensures there { IsTrue result → let ts = nows (keys_of distinct.now.entries) in
+        (index < length ts) × (get_or ts index [] ≡ key.now) }
+{
+    match distinct.get_index(index) {
+        Some((found, _)) => *found == key,
+        None => false,
+    }
+}
+
+/// The index of a key in the set, which it joins if it isn't there. A guess is tried first.
+fn join<'k>(
+    distinct: &mut IndexMap<&'k str, ()>,
+    guess: usize,
+    key: &'k str,
+) -> Result<usize, AllocError>
+    ensures set { OnOk result ((ks : List (List ℕ))
+        → ((q : List ℕ) → is_some (at_text distinct.old q) ≡ is_among ks q)
+        → (q : List ℕ) → is_some (at_text distinct.new q) ≡ is_among (ks ++ key.now ∷ []) q) }
+    ensures numbers { IfOk result (λ n. (ns : List ℕ) (ks : List (List ℕ))
+        → AreNumbered (nows (keys_of distinct.old.entries)) ns ks
+        → AreNumbered (nows (keys_of distinct.new.entries)) (ns ++ n ∷ []) (ks ++ key.now ∷ [])) }
+{
+    if is_at(distinct, guess, key) {
+        return Ok(guess);
+    }
+    let (number, _) = distinct.insert_full(key, ())?;
+    Ok(number)
+}
+
+/// Notes that a number followed another one.
+fn note(followers: &mut Vec<usize>, last: usize, number: usize) -> Result<(), AllocError> {
+    if number >= followers.len() {
+        followers.push(0)?;
+    }
+    if last < followers.len() {
+        followers[last] = number;
+    }
+    Ok(())
+}
+
+/// The keys as a set, and the index of each there. Keys often follow one another as they did
+/// before, since tables of one kind have the same keys: that saves most look-ups.
 fn key_set<'k>(alloc: Global, keys: &[&'k str]) -> Result<Wanted<'k>, AllocError>
     ensures set { IfOk result (λ w. (q : List ℕ)
         → is_some (at_text w.distinct q) ≡ is_among (nows keys.now) q) }
@@ -149,9 +193,14 @@ fn key_set<'k>(alloc: Global, keys: &[&'k str]) -> Result<Wanted<'k>, AllocError
 {
     let mut distinct = IndexMap::new(alloc);
     let mut numbers = Vec::with_capacity(alloc, keys.len())?;
+    let mut followers = Vec::new(alloc);
+    let mut last = 0;
     for key in keys {
-        let (number, _) = distinct.insert_full(*key, ())?;
+        let guess = followers.get(last).copied().unwrap_or(0);
+        let number = join(&mut distinct, guess, *key)?;
+        note(&mut followers, last, number)?;
         numbers.push(number)?;
+        last = number;
     }
     Ok(Wanted { distinct, numbers })
 }

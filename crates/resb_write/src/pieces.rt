@@ -12,6 +12,7 @@ impl<'a> AsNode for Piece<'a> {
     fn as_node(&self) -> Node<'_> {
         match self {
             Piece::String(text) => Node::String(text),
+            Piece::Integer(number) => Node::Integer(u32::from(*number)),
             Piece::Leaf(resource) => node_of(resource),
             Piece::Array(part) => Node::Array(part.count as usize),
             Piece::Table(part, _) => Node::Table(part.count as usize),

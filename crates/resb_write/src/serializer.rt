@@ -111,7 +111,7 @@ fn write_draft(
         drop(order);
         return write_standing(alloc, root, is_locale_fallback_enabled, list);
     }
-    write_by_number(alloc, &root, order, is_locale_fallback_enabled, list)
+    write_by_number(alloc, root, order, is_locale_fallback_enabled, list)
 }
 
 /// The file of a draft whose pieces and keys stand in laying order. Its other lists go first.
@@ -138,22 +138,31 @@ fn write_standing(
     write_order(alloc, &pieces, keys, is_locale_fallback_enabled, list)
 }
 
-/// The file of a draft, whose pieces have these numbers in laying order.
+/// The file of a draft, whose pieces have these numbers in laying order. Its other lists go first.
 fn write_by_number(
     alloc: Global,
-    draft: &Draft<'_>,
+    draft: Draft<'_>,
     order: Vec<u32>,
     is_locale_fallback_enabled: bool,
     list: &[Key<'_>],
 ) -> Result<Vec<u8>, BinarySerializerError>
-    requires trees { map (tree_at draft.now) order.items ≡ laying_order (draft_tree draft.now) }
-    requires whole { all_true (map (is_whole draft.now) order.items) ≡ true }
-    ensures ok { IfOk result (λ v. Written v.items (draft_tree draft.now)
+    requires trees { map (tree_at draft) order.items ≡ laying_order (draft_tree draft) }
+    requires whole { all_true (map (is_whole draft) order.items) ≡ true }
+    ensures ok { IfOk result (λ v. Written v.items (draft_tree draft.entry)
         is_locale_fallback_enabled list.now) }
-    ensures err { IfErr result (λ e. RefusesWriting (draft_tree draft.now) list.now (fault_of e)) }
+    ensures err { IfErr result
+        (λ e. RefusesWriting (draft_tree draft.entry) list.now (fault_of e)) }
 {
-    let keys = draft_keys(alloc, draft, &order)?;
-    let nodes = draft_nodes(alloc, draft, &order)?;
+    let keys = draft_keys(alloc, &draft, &order)?;
+    let Draft {
+        pieces,
+        members,
+        keys: unordered,
+        root: _,
+    } = draft;
+    drop(members);
+    drop(unordered);
+    let nodes = draft_nodes(alloc, &pieces, &order)?;
     drop(order);
     write_order(alloc, &nodes, keys, is_locale_fallback_enabled, list)
 }
@@ -178,9 +187,8 @@ pub(crate) fn write_order<R: AsNode>(
     let contents = Contents::gather(alloc, order)?;
     let KeyBlock { keys, positions } = KeyBlock::new(alloc, tree_keys, list)?;
     check_sizes(&contents, list)?;
-    let Strings { pool, offsets } = Strings::plan(alloc, &contents.texts)?;
     let largest_table = contents.largest_table as u32;
-    drop(contents);
+    let Strings { pool, offsets } = Strings::plan(alloc, contents.texts)?;
     let keys_end = KEYS_START + block_length(&keys);
     let sites = Sites {
         positions: &positions,

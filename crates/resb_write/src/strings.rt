@@ -17,11 +17,12 @@ pub(crate) struct Strings {
 impl Strings {
     /// The pool of the strings of a tree, which are given in laying order. Refused is a string that
     /// is too long, and strings that are too large for a pool.
-    pub(crate) fn plan(alloc: Global, texts: &[&str]) -> Result<Strings, PlanError>
-        ensures ok { IfOk result (λ s. Pooled (nows texts.now) s.pool.items s.offsets.items) }
-        ensures err { IfErr result (NotPlanned (nows texts.now)) }
+    pub(crate) fn plan(alloc: Global, texts: Vec<&str>) -> Result<Strings, PlanError>
+        ensures ok { IfOk result
+            (λ s. Pooled (nows texts.entry.items) s.pool.items s.offsets.items) }
+        ensures err { IfErr result (NotPlanned (nows texts.entry.items)) }
     {
-        let (pool, offsets) = pool::plan(alloc, texts)?.into_parts();
+        let (pool, offsets) = pool::plan_owned(alloc, texts)?.into_parts();
         Ok(Strings { pool, offsets })
     }
 }

@@ -1,5 +1,4 @@
-use Rattle.std.proofs.Common.{◌≡◌, ◌+◌, ◌≤◌, ◌++◌, true, length, map}
-use Rattle.std.specs.Vec.Iter.{into_iter_items}
+use Rattle.std.proofs.Common.{◌≡◌, ◌+◌, ◌≤◌, ◌++◌, true, map, drop}
 use Rattle.resb_tree.specs.Borrowing.{all_true}
 use Rattle.resb_draft.specs.declared.draft.Draft.{Draft}
 use Rattle.resb_text.specs.Inner.Drafts.{piece_item_seen, entries_seen, are_whole}
@@ -9,15 +8,11 @@ use Rattle.resb_text.proofs.drafts.entries_of.Given as goal
 abbrev pub invariant-loop-item : goal.invariant-loop-item
 invariant-loop-item l = record {
   made : (d : Draft) → entries_seen d l.entries.items
-      ++ pairs_after (waiting_key l.waiting)
-      (map (piece_item_seen d) (into_iter_items l.item-iterator))
-      ≡ shown_pairs (map (piece_item_seen d) (into_iter_items l.initial.item-iterator));
-  whole : (d : Draft)
-      → all_true (map shown_borrowed
-      (map (piece_item_seen d) (into_iter_items l.initial.item-iterator))) ≡ true
+      ++ pairs_after (waiting_key l.waiting) (map (piece_item_seen d) (drop l.item-index l.items))
+      ≡ shown_pairs (map (piece_item_seen d) l.items);
+  whole : (d : Draft) → all_true (map shown_borrowed (map (piece_item_seen d) l.items)) ≡ true
       → (are_whole d l.entries.items ≡ true)
       × (all_true (map shown_borrowed
-      (map (piece_item_seen d) (into_iter_items l.item-iterator))) ≡ true);
-  count : l.ticks.count + length (into_iter_items l.item-iterator) ≤ l.fn.ticks.count + length
-      (into_iter_items l.initial.item-iterator);
+      (map (piece_item_seen d) (drop l.item-index l.items))) ≡ true);
+  count : l.ticks.count ≤ l.fn.ticks.count + l.item-index;
 }

@@ -1,5 +1,4 @@
-use Rattle.std.proofs.Common.{◌≡◌, ◌+◌, ◌≤◌, true, length, map}
-use Rattle.std.specs.Vec.Iter.{into_iter_items}
+use Rattle.std.proofs.Common.{◌≡◌, ◌+◌, ◌≤◌, true, map, drop}
 use Rattle.resb_tree.specs.Borrowing.{all_true}
 use Rattle.resb_draft.specs.Drafts.{Keeps}
 use Rattle.resb_text.specs.Inner.Drafts.{piece_item_seen}
@@ -9,10 +8,8 @@ use Rattle.resb_text.proofs.drafts.numbers_of.Given as goal
 
 abbrev pub invariant-loop-item : goal.invariant-loop-item
 invariant-loop-item l = record {
-  made : let xs = into_iter_items l.initial.item-iterator in
-      all_true (map shown_borrowed (map (piece_item_seen l.fn.draft) xs)) ≡ true
-      → ListsNumbers l.fn.draft l.draft l.numbers.items (into_iter_items l.item-iterator) xs;
+  made : all_true (map shown_borrowed (map (piece_item_seen l.fn.draft) l.items)) ≡ true
+      → ListsNumbers l.fn.draft l.draft l.numbers.items (drop l.item-index l.items) l.items;
   keeps : Keeps l.fn.draft l.draft;
-  count : l.ticks.count + length (into_iter_items l.item-iterator)
-      ≤ l.fn.ticks.count + length (into_iter_items l.initial.item-iterator);
+  count : l.ticks.count ≤ l.fn.ticks.count + l.item-index;
 }

@@ -6,7 +6,7 @@ use Rattle.resb_text.proofs.frames.closed.Goals as goal
 
 pub returns-in-Table-clause-ok : goal.returns-in-Table-clause-ok
 returns-in-Table-clause-ok g c =
-    closed_made g.B.Build.tree g.B.Build.held _ c.args.build.now c.table.new.self c.args.frame _
+    closed_made g.B.Build.tree g.B.Build.held _ c.args.build.now c.table.new.self c.args.frame.now _
     (c.in-Table.ensures _ _) c.table.ensures.made
 
 pub returns-in-Table-clause-left : goal.returns-in-Table-clause-left
@@ -15,7 +15,7 @@ returns-in-Table-clause-left g c =
 
 pub returns-in-Array-clause-ok : goal.returns-in-Array-clause-ok
 returns-in-Array-clause-ok g c =
-    closed_made g.B.Build.tree g.B.Build.held _ c.args.build.now c.array.new.self c.args.frame _
+    closed_made g.B.Build.tree g.B.Build.held _ c.args.build.now c.array.new.self c.args.frame.now _
     (c.in-Array.ensures _ _) c.array.ensures.made
 
 pub returns-in-Array-clause-left : goal.returns-in-Array-clause-left
@@ -26,7 +26,7 @@ returns-in-Array-clause-left g c = λ n f e.
 
 pub returns-in-String-clause-ok : goal.returns-in-String-clause-ok
 returns-in-String-clause-ok g c =
-    closed_made g.B.Build.tree g.B.Build.held _ c.args.build.now c.string.new.self c.args.frame _
+    closed_made g.B.Build.tree g.B.Build.held _ c.args.build.now c.string.new.self c.args.frame.now _
     (c.in-String.ensures _ _)
     (λ h. c.string.ensures.made)
 

@@ -4,14 +4,11 @@ use Rattle.std.proofs.Common.{arith, subst, ◌<◌, length}
 use Rattle.std.specs.Option.{is_some}
 use Rattle.std.specs.Map.{keys_of}
 use Rattle.std.proofs.lemmas.List.Elements.{All-nil}
-use Rattle.std.proofs.lemmas.Map.Text.{hash_map_updates_str}
-use Rattle.resb_pool.specs.Plan.{nows, at_text}
+use Rattle.resb_pool.specs.Plan.{nows}
 use Rattle.resb_pool.proofs.PlacingLemmas.{at_empty}
 use Rattle.resb_layout.specs.KeyBlock.{is_among}
 use Rattle.resb_pool.proofs.TextLoops.{nows-take}
 use Rattle.resb_write.specs.Inner.Numbered.{AreNumbered}
-use Rattle.resb_write.proofs.Keys.{key_moves}
-use Rattle.resb_write.proofs.NumberedKeys.{numbered_push}
 use Rattle.resb_write.proofs.key_block.key_set.Goals as goal
 
 pub loop-key-init : goal.loop-key-init
@@ -32,19 +29,12 @@ loop-key-preserved c =
     let k = get_or xs i d in
     let e = nows-take xs i d (omega arith) in
     record {
-      set = λ q. key_moves k.now q (at_text c.loop-key.distinct q)
-          (at_text c.insert_full.new.self q) (nows (take i xs))
-          (hash_map_updates_str k.now c.loop-key.distinct c.insert_full.new.self _
-          c.in_ok-number.ensures.updates q) (c.loop-key.invariant.set q)
+      set = λ q. c.in_ok-number.ensures.set (nows (take i xs)) c.loop-key.invariant.set q
           ∙ ap (λ l. is_among l q) (sym e);
-      numbers = subst (λ us. AreNumbered (nows (keys_of c.insert_full.new.self.entries))
+      numbers = subst (λ us. AreNumbered (nows (keys_of c.join.new.distinct.entries))
           c.push.new.self.items us) (sym e)
-          (subst (λ ns. AreNumbered (nows (keys_of c.insert_full.new.self.entries)) ns
+          (subst (λ ns. AreNumbered (nows (keys_of c.join.new.distinct.entries)) ns
           (nows (take i xs) ++ k.now ∷ [])) (sym c.in_ok-push.ensures.items)
-          (subst (λ es. AreNumbered (nows (keys_of es))
-          (c.loop-key.numbers.items ++ c.in_ok-number.number ∷ [])
-          (nows (take i xs) ++ k.now ∷ [])) (sym c.in_ok-number.ensures.entries)
-          (numbered_push c.loop-key.distinct.entries k tt c.loop-key.numbers.items
-          (nows (take i xs)) c.loop-key.invariant.numbers c.in_ok-number.number
-          c.in_ok-number.ensures.index)));
+          (c.in_ok-number.ensures.numbers c.loop-key.numbers.items (nows (take i xs))
+          c.loop-key.invariant.numbers));
     }

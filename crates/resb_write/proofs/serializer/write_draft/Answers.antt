@@ -1,10 +1,6 @@
 -- A draft stands in laying order, or is laid by its numbers.
-use Rattle.std.proofs.Common.{◌≡◌, ◌∙◌, true, ap, sym, subst, map}
-use Rattle.std.specs.List.{flat_map}
+use Rattle.std.proofs.Common.{sym, subst}
 use Rattle.std.proofs.lemmas.Result.{err_from_is_err_and}
-use Rattle.resb_draft.specs.Drafts.{tree_at}
-use Rattle.resb_draft.specs.Pieces.{are_pieces}
-use Rattle.resb_tree.specs.LayingOrder.{own_keys}
 use Rattle.resb_layout.specs.TreeFaults.{RefusesWriting, no_memory}
 use Rattle.resb_write.proofs.serializer.write_draft.Goals as goal
 

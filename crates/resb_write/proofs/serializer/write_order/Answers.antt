@@ -19,7 +19,7 @@ use Rattle.resb_write.proofs.Blocks.{laying_order_long}
 use Rattle.resb_write.proofs.FilesLemmas.{largest_room, Made, written}
 use Rattle.resb_write.proofs.Refusals.{key_refused, size_refused, plan_refused}
 use Rattle.resb_write.proofs.serializer.write_order.Goals as goal
-use Rattle.resb_write.proofs.serializer.write_order.Goals.{After-deref-4}
+use Rattle.resb_write.proofs.serializer.write_order.Goals.{After-deref-3}
 
 pub returns-in_err-contents-clause-err : goal.returns-in_err-contents-clause-err
 returns-in_err-contents-clause-err g c =
@@ -50,10 +50,10 @@ returns-in_err-pool-clause-err g c =
     c.from_residual-in_err-pool.ensures.1 in
     rw p.1 (λ t f k.
     let gathered = c.in_ok-contents.ensures (laying_order t) f in
-    let texts = ap nows c.deref.ensures.value ∙ gathered.texts_are in
+    let texts = gathered.texts_are in
     let small = c.in_ok-check_sizes.ensures.ok (laying_order t) gathered in
     subst (RefusesWriting t c.args.list.now) (sym p.2)
-    (plan_refused t c.args.list.now (nows c.deref.result.now) _ texts small
+    (plan_refused t c.args.list.now (nows c.in_ok-contents.contents.texts.items) _ texts small
     c.in_err-pool.ensures.err))
 
 pub block_length-keys_end-requires : goal.block_length-keys_end-requires
@@ -61,7 +61,7 @@ block_length-keys_end-requires g c =
     let t = c.requires.0 in
     let gathered = c.in_ok-contents.ensures (laying_order t) c.requires.1 in
     let small = c.in_ok-check_sizes.ensures.ok (laying_order t) gathered in
-    let js = ap nows c.deref-2.ensures.value ∙ c.in_ok-keys.ensures.ok.keys in
+    let js = ap nows c.deref.ensures.value ∙ c.in_ok-keys.ensures.ok.keys in
     omega (
       arith,
       small,
@@ -75,39 +75,39 @@ overflow_add-keys_end g c =
     let t = c.requires.0 in
     let gathered = c.in_ok-contents.ensures (laying_order t) c.requires.1 in
     let small = c.in_ok-check_sizes.ensures.ok (laying_order t) gathered in
-    let js = ap nows c.deref-2.ensures.value ∙ c.in_ok-keys.ensures.ok.keys in
+    let js = ap nows c.deref.ensures.value ∙ c.in_ok-keys.ensures.ok.keys in
     omega (
       arith,
       small,
       ap (λ l. length (key_bytes l)) js,
       used_room (nows c.args.tree_keys.items)
           c.args.list.now,
-      length-padded (key_bytes (nows c.deref-2.result.now)),
+      length-padded (key_bytes (nows c.deref.result.now)),
       c.block_length-keys_end.ensures,
     )
 
 -- where the keys and the strings of the tree stand, for a tail that begins at a byte of the body
-numbered : (g : _) (c : After-deref-4 g) (base : ℕ) (t : Tree)
+numbered : (g : _) (c : After-deref-3 g) (base : ℕ) (t : Tree)
     → Fits g.R.AsNode.is c.args.order.now (laying_order t)
     → nows c.args.tree_keys.items ≡ keys_of t
     → GivesInTurn (record {
       position = position_in (nows c.in_ok-keys.field-0.keys.items);
       offset = c.in_ok-pool.ensures.ok.offset;
       base = base;
-    }) c.deref-3.result.now c.deref-4.result.now (laying_order t)
+    }) c.deref-2.result.now c.deref-3.result.now (laying_order t)
 numbered g c base t f us =
     let gathered = c.in_ok-contents.ensures (laying_order t) f in
     let pooled = c.in_ok-pool.ensures.ok in
     let b = c.in_ok-keys.ensures.ok in
     let js = nows c.in_ok-keys.field-0.keys.items in
-    let texts = ap nows c.deref.ensures.value ∙ gathered.texts_are in
-    let offsets = pooled.offsets ∙ ap (map Some) (sym c.deref-4.ensures.value) in
+    let texts = gathered.texts_are in
+    let offsets = pooled.offsets ∙ ap (map Some) (sym c.deref-3.ensures.value) in
     record {
       keys = ap (map (position_in js)) (sym us) ∙ b.positions
-          ∙ ap (map Some) (sym c.deref-3.ensures.value);
+          ∙ ap (map Some) (sym c.deref-2.ensures.value);
       texts = ap (map pooled.offset) (sym texts) ∙ offsets;
-      near = near_offsets (nows c.deref.result.now) c.in_ok-pool.field-0.pool.items pooled.offset
-          pooled.plan (nows c.deref.result.now) c.deref-4.result.now (λ s h. h) offsets;
+      near = near_offsets (nows c.in_ok-contents.contents.texts.items) c.in_ok-pool.field-0.pool.items pooled.offset
+          pooled.plan (nows c.in_ok-contents.contents.texts.items) c.deref-3.result.now (λ s h. h) offsets;
     }
 
 pub lay_bodies-requires-clause-tree : goal.lay_bodies-requires-clause-tree
@@ -118,9 +118,9 @@ lay_bodies-requires-clause-tree g c =
     let us = c.in_ok-pool.field-0.pool.items in
     let pooled = c.in_ok-pool.ensures.ok in
     let small = c.in_ok-check_sizes.ensures.ok (laying_order t) gathered in
-    let js = ap nows c.deref-2.ensures.value ∙ c.in_ok-keys.ensures.ok.keys in
-    let texts = ap nows c.deref.ensures.value ∙ gathered.texts_are in
-    let pool = pool_room (nows c.deref.result.now) us pooled.offset pooled.plan in
+    let js = ap nows c.deref.ensures.value ∙ c.in_ok-keys.ensures.ok.keys in
+    let texts = gathered.texts_are in
+    let pool = pool_room (nows c.in_ok-contents.contents.texts.items) us pooled.offset pooled.plan in
     let same = ap (sum_by size) texts in (
       t,
       r.1,
@@ -134,12 +134,12 @@ lay_bodies-requires-clause-tree g c =
           small,
           ap (λ l. length (key_bytes l)) js,
           used_room (nows c.args.tree_keys.items) c.args.list.now,
-          length-padded (key_bytes (nows c.deref-2.result.now)),
+          length-padded (key_bytes (nows c.deref.result.now)),
           c.block_length-keys_end.ensures,
         );
       },
       _,
-      numbered g ((goal.at.lay_bodies-requires-clause-tree g c).After-deref-4) 0 t r.1 r.2,
+      numbered g ((goal.at.lay_bodies-requires-clause-tree g c).After-deref-3) 0 t r.1 r.2,
     )
 
 pub returns-in_err-bodies-clause-err : goal.returns-in_err-bodies-clause-err
@@ -160,9 +160,9 @@ assemble-requires g c =
     let t = c.requires.0 in
     let gathered = c.in_ok-contents.ensures (laying_order t) c.requires.1 in
     let small = c.in_ok-check_sizes.ensures.ok (laying_order t) gathered in
-    let js = ap nows c.deref-5.ensures.value ∙ c.in_ok-keys.ensures.ok.keys in
+    let js = ap nows c.deref-4.ensures.value ∙ c.in_ok-keys.ensures.ok.keys in
     let room = c.in_ok-bodies.ensures.fits in
-    let k = length-padded (key_bytes (nows c.deref-2.result.now)) in
+    let k = length-padded (key_bytes (nows c.deref.result.now)) in
     record {
       fits = record {
         keys = omega (
@@ -192,7 +192,7 @@ returns-clause-ok g c = λ t f k.
     let b = c.in_ok-keys.ensures.ok in
     let js = nows c.in_ok-keys.field-0.keys.items in
     let laid = laid_of c.in_ok-bodies.bodies in
-    let texts = ap nows c.deref.ensures.value ∙ gathered.texts_are in
+    let texts = gathered.texts_are in
     let small = c.in_ok-check_sizes.ensures.ok (laying_order t) gathered in
     let end : ℕ = 32 + c.block_length-keys_end.result + 2 *
     (length c.in_ok-bodies.bodies.units.items + length c.in_ok-bodies.bodies.units.items % 2) in
@@ -211,13 +211,13 @@ returns-clause-ok g c = λ t f k.
       base_is = omega (
         arith,
         c.block_length-keys_end.ensures,
-        ap (λ l. length (padded (key_bytes (nows l)))) c.deref-2.ensures.value,
+        ap (λ l. length (padded (key_bytes (nows l)))) c.deref.ensures.value,
       );
       lays = c.in_ok-bodies.ensures.lays (record {
         position = position_in js;
         offset = pooled.offset;
         base = end;
-      }) t f (numbered g ((goal.at.returns-clause-ok g c).After-deref-4) end t f k) refl;
+      }) t f (numbered g ((goal.at.returns-clause-ok g c).After-deref-3) end t f k) refl;
       room = record { aligned = room.aligned; units = room.units; bytes = room.bytes };
       units_fit = c.in_ok-assemble.ensures.fits;
       root_fits = c.in_ok-assemble.ensures.words;
@@ -226,6 +226,6 @@ returns-clause-ok g c = λ t f k.
     let largest = c.in_ok-contents.contents.largest_table in
     let file = c.in_ok-assemble.ensures.file
     ∙ ap (λ l. file_of c.in_ok-bodies.word largest fallback (padded (key_bytes (nows l)))
-    (even laid.units) laid.tail) c.deref-5.ensures.value in
+    (even laid.units) laid.tail) c.deref-4.ensures.value in
     subst (λ bytes. Written bytes t fallback ks) (sym file) (written t ks js made largest fallback
     gathered.largest_is)

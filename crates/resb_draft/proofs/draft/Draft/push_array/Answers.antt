@@ -1,5 +1,5 @@
 use Rattle.std.proofs.Common.{refl, ◌∙◌, ◌≡◌, map, get_or}
-use Rattle.std.proofs.lemmas.Result.{IfOk-weaker, on_ok_weaker}
+use Rattle.std.proofs.lemmas.Result.{IfOk-weaker}
 use Rattle.resb_tree.specs.Tree.{array, trees_of}
 use Rattle.resb_draft.specs.Drafts.{nothing, piece_meaning, pieces_stand, texts, IsMade, tree_at}
 use Rattle.resb_draft.specs.declared.draft.Draft.{Draft}
@@ -42,8 +42,7 @@ returns-clause-keeps c =
       root = old.root;
     } in
     let items = c.in_ok-extend_from_slice.ensures.items in
-    on_ok_weaker c.push.result
-    (keeps_on old mid c.push.new.self
+    keeps_on old mid c.push.new.self
     (agrees_keeps old mid
-    (grown old mid (more_members old mid c.args.members.now refl items refl))))
+    (grown old mid (more_members old mid c.args.members.now refl items refl)))
     c.push.ensures.keeps

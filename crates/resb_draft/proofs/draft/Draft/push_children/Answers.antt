@@ -1,14 +1,20 @@
-use Rattle.std.proofs.Common.{arith, ap, sym, ◌∙◌, ◌++◌, length, map, append-nil}
+use Rattle.std.proofs.Common.{arith, ap, sym, ◌∙◌, ◌++◌, ◌≡◌, length, map, append-nil}
+use Rattle.std.specs.Prelude.{if◌then◌else◌, is_ok, OnOk, Result, Ok, Err}
 use Rattle.std.proofs.lemmas.Result.{on_ok_weaker}
 use Rattle.resb_draft.specs.declared.draft.Piece.TheVariants as piece
 use Rattle.resb_draft.specs.Drafts.{tree_at, is_whole, part}
 use Rattle.resb_tree.specs.Borrowing.{all_true}
-use Rattle.resb_draft.proofs.Lists.{ok_items}
 use Rattle.resb_draft.proofs.InOrder.{trees_more, whole_more}
 use Rattle.resb_draft.proofs.Whole.{whole_inside, whole_table, whole_array, found_as}
 use Rattle.resb_draft.proofs.Whole.{text_empty, number_empty, piece_empty}
 use Rattle.resb_draft.proofs.Whole.{array_children, table_children}
 use Rattle.resb_draft.proofs.draft.Draft.push_children.Goals as goal
+
+-- what a list is where a call gave a value, and else
+ok_items : {T E X : Type 0} (r : Result T E) (x a b : X) → x ≡ (if is_ok r then a else b)
+    → OnOk r (x ≡ a)
+ok_items (Ok t) x a b e = e
+ok_items (Err e) x a b h = tt
 
 pub index-requires : goal.index-requires
 index-requires c = omega (

@@ -1,6 +1,7 @@
-use Rattle.std.proofs.Common.{ap, ◌∙◌, ◌≡◌, ◌++◌, map, get_or, Bor, List, ℕ, arith}
+use Rattle.std.proofs.Common.{ap, ◌∙◌, ◌≡◌, map, get_or, Bor, List, ℕ, arith, refl}
+use Rattle.std.proofs.Common.{◌++◌, [], sym, append-nil}
 use Rattle.std.proofs.lemmas.List.{take_all}
-use Rattle.std.proofs.lemmas.Result.{IfOk-weaker, on_ok_weaker}
+use Rattle.std.proofs.lemmas.Result.{IfOk-weaker}
 use Rattle.resb_tree.specs.Tree.{table, entries_of}
 use Rattle.resb_draft.specs.Drafts.{nothing, piece_meaning, pieces_stand, texts, IsMade, tree_at}
 use Rattle.resb_draft.specs.declared.draft.Draft.{Draft}
@@ -45,8 +46,41 @@ returns-clause-keeps c =
     let old = c.args.self.now in
     let mid : Draft = c.loop-entry.self in
     let i = c.loop-entry.invariant in
-    on_ok_weaker c.push-2.result
-    (keeps_on old mid c.push-2.new.self
+    keeps_on old mid c.push-2.new.self
     (agrees_keeps old mid (grown old mid
-    (more_entries old mid _ _ (ap (λ v. v.items) i.pieces) i.members i.keys))))
+    (more_entries old mid _ _ (ap (λ v. v.items) i.pieces) i.members i.keys)))
     c.push-2.ensures.keeps
+
+pub returns-in_err-push-clause-keeps : goal.returns-in_err-push-clause-keeps
+returns-in_err-push-clause-keeps c =
+    let old = c.args.self.now in
+    let mid : Draft = c.loop-entry.self in
+    let new : Draft = record {
+      pieces = mid.pieces;
+      members = mid.members;
+      keys = c.push.new.self;
+      root = mid.root;
+    } in
+    let i = c.loop-entry.invariant in
+    agrees_keeps old new (grown old new
+    (more_entries old new _ _ (ap (λ v. v.items) i.pieces) i.members
+    (c.in_err-push.ensures.items ∙ i.keys)))
+
+pub returns-in_err-push-2-clause-keeps : goal.returns-in_err-push-2-clause-keeps
+returns-in_err-push-2-clause-keeps c =
+    let old = c.args.self.now in
+    let mid : Draft = c.loop-entry.self in
+    let new : Draft = record {
+      pieces = mid.pieces;
+      members = c.push-in-loop-entry.new.self;
+      keys = c.push.new.self;
+      root = mid.root;
+    } in
+    let i = c.loop-entry.invariant in
+    keeps_on old mid new
+    (agrees_keeps old mid (grown old mid
+    (more_entries old mid _ _ (ap (λ v. v.items) i.pieces) i.members i.keys)))
+    (agrees_keeps mid new (grown mid new
+    (more_entries mid new [] _ refl
+    (c.in_err-push-2.ensures.items ∙ sym (append-nil mid.members.items))
+    c.in_ok-push.ensures.items)))

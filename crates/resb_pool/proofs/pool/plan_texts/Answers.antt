@@ -13,32 +13,32 @@ use Rattle.resb_pool.proofs.Interning.{length-nows}
 use Rattle.resb_pool.proofs.TextLoops.{none_too_long}
 use Rattle.resb_pool.proofs.PlanLemmas.{planned, offset_at}
 use Rattle.resb_pool.proofs.Turns.{offsets_fit, offsets_there}
-use Rattle.resb_pool.proofs.pool.plan.Goals as goal
+use Rattle.resb_pool.proofs.pool.plan_texts.Goals as goal
 
 pub place-requires : goal.place-requires
 place-requires c =
-    let S = nows c.args.strings.now in
+    let S = c.requires.0 in
+    let told = c.requires.1 in
     record {
       given = (
         S,
-        c.in_ok-texts.ensures.small,
+        told.small,
         subst (AreTexts S (nows c.as_slice.result.now)) (sym c.deref.ensures.value)
-            (subst (λ (z : List (Bor (List ℕ))). AreTexts S (nows z)
-            c.in_ok-texts.texts.measures.items) (sym c.as_slice.ensures.keys)
-            c.in_ok-texts.ensures.texts),
+            (subst (λ (z : List (Bor (List ℕ))). AreTexts S (nows z) c.args.texts.measures.items)
+            (sym c.as_slice.ensures.keys) told.texts),
       );
     }
 
 pub returns-in_err-units-clause-err : goal.returns-in_err-units-clause-err
-returns-in_err-units-clause-err c = let p = err_from_is_err_and c.from_residual-in_err-units.result
-    c.from_residual-in_err-units.ensures.1 in rw (p.1, p.2) no_memory
+returns-in_err-units-clause-err c =
+    let p = err_from_is_err_and c.from_residual.result c.from_residual.ensures.1 in
+    rw (p.1, p.2) (λ S. no_memory)
 
 pub returns-clause-ok : goal.returns-clause-ok
-returns-clause-ok c =
-    let S = nows c.args.strings.now in
-    let keys = c.in_ok-texts.texts.distinct.keys in
+returns-clause-ok c = λ S told.
+    let keys = c.args.texts.distinct.keys in
     let T = nows keys in
-    let ms = c.in_ok-texts.texts.measures.items in
+    let ms = c.args.texts.measures.items in
     let os = c.in_ok-units.offsets.items in
     let p = subst (λ z. HaveOffsets T z c.in_ok-units.units.items os) c.deref.ensures.value
     (subst (λ (z : List (Bor (List ℕ))). HaveOffsets (nows z) c.deref.result.now
@@ -51,9 +51,9 @@ returns-clause-ok c =
       p.homes_are.len,
       length-nows keys,
     ) in
-    planned S T ms c.in_ok-texts.ensures.texts c.in_ok-texts.ensures.small p.homes p.homes_are
+    planned S T ms told.texts told.small p.homes p.homes_are
     p.measures_are b.sums b.lying.len b.lying.each b.rows b.records b.each p.ends b.len b.ends
-    b.ascend (none_too_long S c.in_ok-check_lengths.ensures.ok) c.in_ok-units.units.items
+    b.ascend (none_too_long S told.short) c.in_ok-units.units.items
     (λ s. option_and_then (slice_get os) (position (λ (k : Bor (List ℕ)). bytes_eq s k.now) keys))
     b.units
     (λ s. subst (λ (o : List ℕ). MatchOption
@@ -64,8 +64,8 @@ returns-clause-ok c =
     (offset_at s keys laid fits))
 
 pub returns-clause-turns : goal.returns-clause-turns
-returns-clause-turns c =
-    let keys = c.in_ok-texts.texts.distinct.keys in
+returns-clause-turns c = λ S told.
+    let keys = c.args.texts.distinct.keys in
     let os = c.in_ok-units.offsets.items in
     let fits : length os ≡ length keys = omega (
       arith,
@@ -74,5 +74,4 @@ returns-clause-turns c =
       ap (λ (z : List (Bor (List ℕ))). length (nows z)) c.as_slice.ensures.keys,
       length-nows keys,
     ) in
-    offsets_there (nows c.args.strings.now) keys c.in_ok-texts.texts.order.items os fits
-    c.in_ok-texts.ensures.texts.once c.in_ok-texts.ensures.turns
+    offsets_there S keys c.args.texts.order.items os fits told.texts.once told.turns

@@ -1,0 +1,14 @@
+-- Strings whose distinct texts are known.
+--     ToldApart S t     the texts t are those of the strings S, which a pool may hold
+use Rattle.std.specs.Prelude.{◌≡◌, ℕ, ◌^◌, ◌<◌, List, None}
+use Rattle.resb_pool.specs.Plan.{nows, first_too_long, texts_size}
+use Rattle.resb_pool.specs.Inner.Placing.{AreTexts, AreTurns}
+use Rattle.resb_pool.specs.declared.texts.Texts.{Texts}
+
+-- the texts are those of the strings, with their sizes and turns; the strings are short and few
+-- enough for a pool
+pub record ToldApart (S : List (List ℕ)) (t : Texts) : Type 0 where
+  pub short : first_too_long S ≡ None
+  pub small : texts_size S < 2 ^ 28
+  pub texts : AreTexts S (nows t.distinct.keys) t.measures.items
+  pub turns : AreTurns S (nows t.distinct.keys) t.order.items

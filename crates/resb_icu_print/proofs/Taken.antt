@@ -35,7 +35,7 @@ use Rattle.resb_icu_print.specs.declared.cause.IcuCause.TheVariants.{KeyHasOther
 use Rattle.resb_icu_print.specs.declared.cause.IcuCause.TheVariants.{TableOfCollations}
 use Rattle.resb_icu_print.specs.Printed.{are_words, is_bare}
 use Rattle.resb_icu_print.specs.Causes.{is_icu_key, has_collation, IsTaken, AreTaken, TakenIn}
-use Rattle.resb_icu_print.specs.Causes.{cause_if, key_cause_else, cause_else, causes_else}
+use Rattle.resb_icu_print.specs.Causes.{cause_if, cause_else, causes_else}
 use Rattle.resb_icu_print.specs.Causes.{causes_in_else, first_cause}
 use Rattle.resb_icu_print.proofs.Lists.{true_from_not}
 use Rattle.resb_icu_print.proofs.Steps.{missed_if, key_passed}

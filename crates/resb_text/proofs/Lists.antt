@@ -3,7 +3,6 @@ use Rattle.std.proofs.Common.{◌≡◌, ℕ, ◌+◌, ◌-◌, List, get_or, ap
 use Rattle.std.proofs.Common.{length-drop, true, ◌<◌, ◌≤◌, false, refl}
 use Rattle.std.proofs.lemmas.List.{get_or-drop, take_all}
 use Rattle.std.specs.Prelude.{Bool}
-use Rattle.std.specs.Prelude.{if◌then◌else◌}
 use Rattle.std.proofs.lemmas.Bool.{false≢true}
 use Rattle.std.proofs.Common.{sym, Option, Some, None, eqb, eqb-true}
 use Rattle.std.specs.Option.{option_eq}

@@ -51,13 +51,17 @@ not_written (b ∷ bs) h =
 abbrev IsRead : List ℕ → Type 0
 IsRead ds = IsNumeral 10 ds × (digits_value 10 ds < 2 ^ 64)
 
-pub said : (bs : List ℕ) (n : ℕ)
+-- what is read is the number that is said
+pub read_number_is_said : (bs : List ℕ) (n : ℕ)
     → IsRead (without_leading_plus bs) × (n ≡ digits_value 10 (without_leading_plus bs))
     → Some n ≡ number_said bs
-said bs n h = ap Some h.1 ∙ sym (numeral_is_read (without_leading_plus bs) (h.0).0 (h.0).1)
+read_number_is_said bs n h =
+    ap Some h.1 ∙ sym (numeral_is_read (without_leading_plus bs) (h.0).0 (h.0).1)
 
-pub unsaid : (bs : List ℕ) → (IsRead (without_leading_plus bs) → ⊥) → None ≡ number_said bs
-unsaid bs h = sym (not_written (without_leading_plus bs) h)
+-- and where none is read, none is said
+pub no_number_is_said : (bs : List ℕ) → (IsRead (without_leading_plus bs) → ⊥)
+    → None ≡ number_said bs
+no_number_is_said bs h = sym (not_written (without_leading_plus bs) h)
 
 -- the member of this number
 past_trees : (rs : List Resource) (n : ℕ) → length rs ≤ n → tree_at (items_view rs) n ≡ None

@@ -19,3 +19,4 @@ mod Examples
 mod HexPairs
 pub mod Numbers
 pub mod Lists
+pub mod ReachLemmas

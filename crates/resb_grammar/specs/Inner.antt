@@ -1,2 +1,3 @@
--- Words of proofs and of a private function of the text reader.
+-- Words of proofs and of private functions of the text readers.
 pub mod Half
+pub mod Reach

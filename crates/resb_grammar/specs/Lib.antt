@@ -1,5 +1,5 @@
 -- The grammar of the text form, its readings, and what the laws say of both. `Inner` has words of
--- proofs and of a private function of the text reader.
+-- proofs and of private functions of the text readers.
 pub use Rattle.resb_tree.specs.Tree
 pub use Rattle.resb_tree.specs.Keys
 pub mod Ascii

@@ -59,10 +59,10 @@ no_both text from i to s t ks h g =
     (λ (e : slice_index text from ≡ ascii.colon). no_string text from i _ s h e refl)
     (group_first text from to t ks g)
 
-pub Head-one : (text : List ℕ) (from a b : ℕ) (k l : Kind) → TypedOpening text from k a
+pub TypedOpening-one : (text : List ℕ) (from a b : ℕ) (k l : Kind) → TypedOpening text from k a
     → TypedOpening text from l b
     → (k ≡ l) × (a ≡ b)
-Head-one text from a b k l p q =
+TypedOpening-one text from a b k l p q =
     let named = GroupType-one text from p.ends q.ends k l p.named q.named in
     let brace : p.brace ≡ q.brace = Skip-one text p.ends p.brace q.brace p.between
     (subst (λ n. Skip text n q.brace) (sym named.0) q.between) in (
@@ -356,7 +356,7 @@ mutual
   Group-one text from a b t u ks js (typed _ i k kind _ _ h p c) (untyped _ j m _ _ g z q d) =
       absurd (no_brace_colon text from g h.named.stands.colon)
   Group-one text from a b t u ks js (typed _ i k kind _ _ h p c) (typed _ j m other _ _ g q d) =
-      let heads = Head-one text from i j kind other h g in
+      let heads = TypedOpening-one text from i j kind other h g in
       let q' : Typed text kind i m u js = subst (λ n. Typed text kind n m u js) (sym heads.1)
       (subst (λ l. Typed text l j m u js) (sym heads.0) q) in
       let both = Typed-one text kind i k m t u ks js p q' c d in

@@ -31,8 +31,8 @@ abbrev pub Rest : List ℕ → Reading → Meaning → Type 0
 Rest text r = RestOf text r.around r.keys r.stands r.at
 
 -- what is the same as a third thing by way of a second
-pub same_by : (P Q R : Meaning → Type 0) → Same P Q → Same Q R → Same P R
-same_by P Q R f g m = (λ p. (g m).0 ((f m).0 p), λ r. (f m).1 ((g m).1 r))
+pub same_through : (P Q R : Meaning → Type 0) → Same P Q → Same Q R → Same P R
+same_through P Q R f g m = (λ p. (g m).0 ((f m).0 p), λ r. (f m).1 ((g m).1 r))
 
 -- a step keeps the meanings of the rest
 pub move_same : (text : List ℕ) (ws : List Waiting) (ks : List (List ℕ)) (s : Standing) (at : ℕ)
@@ -60,10 +60,11 @@ move_same text ws ks _ at _ (step.begins_with_group _ b) =
 move_same text ws ks _ at _ (step.untyped_string _ i j s p l c) =
     untyped.untyped_string text (After text ws) at i j s ks p l c
 move_same text ws ks _ at _ (step.begins_with_string _ i j s p l c) =
-    same_by _ _ _ (untyped.untyped_array text (After text ws) at ks (with_a_string i j s p l c))
+    same_through _ _ _
+    (untyped.untyped_array text (After text ws) at ks (with_a_string i j s p l c))
     (lists.string_is_member text (After text ws) nothing [] at i j s ks refl p l)
 move_same text ws ks _ at _ (step.begins_with_key _ i j k p l b) =
-    same_by _ _ _ (untyped.untyped_table text (After text ws) at i j k ks p l b)
+    same_through _ _ _ (untyped.untyped_table text (After text ws) at i j k ks p l b)
     (lists.entry_begins text (After text ws) [] at i j k ks p l)
 move_same text ws ks _ at _ (step.members_follow _) =
     groups.array_begins text (After text ws) at ks
@@ -117,9 +118,10 @@ pub comes_same : (text : List ℕ) (from r : Reading) → Comes text from r
     → Same (Rest text from) (Rest text r)
 comes_same text from _ (here _) = λ m. (λ h. h, λ h. h)
 comes_same text from r (moves _ _ ws ks s at c v) =
-    same_by _ _ _ (comes_same text from (reading_at ws ks s at) c) (move_same text ws ks s at r v)
+    same_through _ _ _ (comes_same text from (reading_at ws ks s at) c)
+    (move_same text ws ks s at r v)
 comes_same text from r (leaves _ _ ws ks t at c v) =
-    same_by _ _ _ (comes_same text from (reading_at ws ks (behind_group t) at) c)
+    same_through _ _ _ (comes_same text from (reading_at ws ks (behind_group t) at) c)
     (step_out_same text ws ks t at r v)
 
 -- steps behind steps

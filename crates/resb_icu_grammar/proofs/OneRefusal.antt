@@ -17,12 +17,12 @@ use Rattle.resb_icu_grammar.specs.Machine as step
 use Rattle.resb_icu_grammar.specs.Faults.{Told}
 use Rattle.resb_icu_grammar.specs.Stuck.{NoNumberAt, NumbersSoFar, none_yet, one_number, LeafStuck}
 use Rattle.resb_icu_grammar.specs.Stuck.{member_behind}
-use Rattle.resb_icu_grammar.specs.Stuck.{StepStuck, EndStuck, HeadStuck}
+use Rattle.resb_icu_grammar.specs.Stuck.{StepStuck, EndStuck, HeaderStuck}
 use Rattle.resb_icu_grammar.specs.Stuck.{ReadStuck, StuckFrom, Stuck}
 use Rattle.resb_icu_grammar.specs.Stuck.{no_string, open_string, no_digits, odd_digits, open_binary}
 use Rattle.resb_icu_grammar.specs.Stuck.{no_integer, open_integer, no_number, open_vector}
 use Rattle.resb_icu_grammar.specs.Stuck.{a_collation, more_text, no_name, no_root_type}
-use Rattle.resb_icu_grammar.specs.Stuck.{no_root_brace, no_typed_brace, in_head, in_root}
+use Rattle.resb_icu_grammar.specs.Stuck.{no_root_brace, no_typed_brace, in_header, in_root}
 use Rattle.resb_icu_grammar.specs.Stuck as stuck
 use Rattle.resb_icu_grammar.specs.declared.expected.IcuExpected.{IcuExpected}
 use Rattle.resb_icu_grammar.specs.declared.expected.IcuExpected.TheVariants as expect
@@ -34,7 +34,7 @@ use Rattle.resb_icu_grammar.proofs.Groups.{Closes, string_skipped, no_brace_colo
 use Rattle.resb_icu_grammar.proofs.Faults.{Told-one}
 use Rattle.resb_icu_grammar.proofs.Leaves.{no_leaf_there, stuck_kind}
 use Rattle.resb_icu_grammar.proofs.Types.{no_type_there, TypeStuck-one}
-use Rattle.resb_icu_grammar.proofs.Refused.{no_opening_brace, head_never}
+use Rattle.resb_icu_grammar.proofs.Refused.{no_opening_brace, header_never}
 use Rattle.resb_icu_grammar.proofs.OneStep.{no_brace_begins, no_comma_begins, no_string_begins}
 use Rattle.resb_icu_grammar.proofs.OneStep.{Next, inside, outside, first_step, comes_meet}
 
@@ -424,39 +424,39 @@ Titled-one text a b p q =
     Skip-one text p.end a b p.between (subst (λ n. Skip text n b) (sym named.0) q.between)
 
 -- what is wrong behind a name
-data HeadFault (text : List ℕ) (at : ℕ) : ℕ → IcuExpected → Type 0 where
+data HeaderFault (text : List ℕ) (at : ℕ) : ℕ → IcuExpected → Type 0 where
   bad_type : slice_index text at ≡ ascii.colon
       → ((to : ℕ) (fallback : Bool) → RootType text at to fallback → ⊥)
-      → HeadFault text at at expect.RootType
-  no_type : slice_index text at ≢ ascii.colon → HeadFault text at at expect.LeftBrace
+      → HeaderFault text at at expect.RootType
+  no_type : slice_index text at ≢ ascii.colon → HeaderFault text at at expect.LeftBrace
   no_brace : (i to : ℕ) (fallback : Bool) → RootType text at i fallback → Skip text i to
-      → HeadFault text at to expect.LeftBrace
+      → HeaderFault text at to expect.LeftBrace
 
-HeadFault-one : (text : List ℕ) (at to end : ℕ) (x y : IcuExpected) → HeadFault text at to x
-    → HeadFault text at end y → (to ≡ end) × (x ≡ y)
-HeadFault-one text at _ _ _ _ (bad_type c f) (bad_type d g) = (refl, refl)
-HeadFault-one text at _ _ _ _ (bad_type c f) (no_type n) = absurd (n c)
-HeadFault-one text at _ _ _ _ (bad_type c f) (no_brace i _ g r k) = absurd (f i g r)
-HeadFault-one text at _ _ _ _ (no_type n) (bad_type c f) = absurd (n c)
-HeadFault-one text at _ _ _ _ (no_type n) (no_type m) = (refl, refl)
-HeadFault-one text at _ _ _ _ (no_type n) (no_brace i _ g r k) =
+HeaderFault-one : (text : List ℕ) (at to end : ℕ) (x y : IcuExpected) → HeaderFault text at to x
+    → HeaderFault text at end y → (to ≡ end) × (x ≡ y)
+HeaderFault-one text at _ _ _ _ (bad_type c f) (bad_type d g) = (refl, refl)
+HeaderFault-one text at _ _ _ _ (bad_type c f) (no_type n) = absurd (n c)
+HeaderFault-one text at _ _ _ _ (bad_type c f) (no_brace i _ g r k) = absurd (f i g r)
+HeaderFault-one text at _ _ _ _ (no_type n) (bad_type c f) = absurd (n c)
+HeaderFault-one text at _ _ _ _ (no_type n) (no_type m) = (refl, refl)
+HeaderFault-one text at _ _ _ _ (no_type n) (no_brace i _ g r k) =
     absurd (n (root_type_first text at i g r))
-HeadFault-one text at _ _ _ _ (no_brace i _ g r k) (bad_type c f) = absurd (f i g r)
-HeadFault-one text at _ _ _ _ (no_brace i _ g r k) (no_type n) =
+HeaderFault-one text at _ _ _ _ (no_brace i _ g r k) (bad_type c f) = absurd (f i g r)
+HeaderFault-one text at _ _ _ _ (no_brace i _ g r k) (no_type n) =
     absurd (n (root_type_first text at i g r))
-HeadFault-one text at to end _ _ (no_brace i _ f r k) (no_brace j _ g q l) = (
+HeaderFault-one text at to end _ _ (no_brace i _ f r k) (no_brace j _ g q l) = (
   Skip-one text i to end k
       (subst (λ u. Skip text u end) (sym (RootType-one text at i j f g r q).0) l),
   refl,
 )
 
--- a head without a name, or with a fault behind the name
-data HeadCase (text : List ℕ) : ℕ → IcuExpected → Type 0 where
+-- a header without a name, or with a fault behind the name
+data HeaderCase (text : List ℕ) : ℕ → IcuExpected → Type 0 where
   nameless : (start to : ℕ) (x : IcuExpected) → Starts text start
       → ((end : ℕ) (name : List ℕ) → Name text start end name → ⊥)
-      → Told text start expect.Name to x → HeadCase text to x
-  faulty : (at to : ℕ) (x : IcuExpected) → Titled text at → HeadFault text at to x
-      → HeadCase text to x
+      → Told text start expect.Name to x → HeaderCase text to x
+  faulty : (at to : ℕ) (x : IcuExpected) → Titled text at → HeaderFault text at to x
+      → HeaderCase text to x
 
 titled : (text name : List ℕ) (a start end at : ℕ) → Begins text a → Skip text a start
     → Name text start end name → Skip text end at → Titled text at
@@ -469,39 +469,40 @@ titled text name a start end at b k n l = record {
   between = l;
 }
 
-head_case : (text : List ℕ) (to : ℕ) (x : IcuExpected) → HeadStuck text to x → HeadCase text to x
-head_case text to x (no_name a start _ _ b k f w) =
+header_case : (text : List ℕ) (to : ℕ) (x : IcuExpected) → HeaderStuck text to x
+    → HeaderCase text to x
+header_case text to x (no_name a start _ _ b k f w) =
     nameless start to x (record { begin = a; begins = b; before = k }) f w
-head_case text _ _ (no_root_type a start end at name b k n l c f) =
+header_case text _ _ (no_root_type a start end at name b k n l c f) =
     faulty at at _ (titled text name a start end at b k n l) (bad_type c f)
-head_case text _ _ (no_root_brace a start end at name b k n l c d) =
+header_case text _ _ (no_root_brace a start end at name b k n l c d) =
     faulty at at _ (titled text name a start end at b k n l) (no_type c)
-head_case text _ _ (no_typed_brace a start end at i brace name g b k n l r m d) =
+header_case text _ _ (no_typed_brace a start end at i brace name g b k n l r m d) =
     faulty at brace _ (titled text name a start end at b k n l) (no_brace i brace g r m)
 
-HeadCase-one : (text : List ℕ) (to end : ℕ) (x y : IcuExpected) → HeadCase text to x
-    → HeadCase text end y → (to ≡ end) × (x ≡ y)
-HeadCase-one text to end x y (nameless start _ _ s f w) (nameless other _ _ t g z) =
+HeaderCase-one : (text : List ℕ) (to end : ℕ) (x y : IcuExpected) → HeaderCase text to x
+    → HeaderCase text end y → (to ≡ end) × (x ≡ y)
+HeaderCase-one text to end x y (nameless start _ _ s f w) (nameless other _ _ t g z) =
     Told-one text start to end expect.Name x y w
     (subst (λ u. Told text u expect.Name end y) (sym (Starts-one text start other s t)) z)
-HeadCase-one text to end x y (nameless start _ _ s f w) (faulty at _ _ t h) =
+HeaderCase-one text to end x y (nameless start _ _ s f w) (faulty at _ _ t h) =
     absurd (f t.end t.name
     (subst (λ u. Name text u t.end t.name) (Starts-one text t.start start t.starts s) t.named))
-HeadCase-one text to end x y (faulty at _ _ t h) (nameless start _ _ s f w) =
+HeaderCase-one text to end x y (faulty at _ _ t h) (nameless start _ _ s f w) =
     absurd (f t.end t.name
     (subst (λ u. Name text u t.end t.name) (Starts-one text t.start start t.starts s) t.named))
-HeadCase-one text to end x y (faulty at _ _ t h) (faulty place _ _ u k) =
-    HeadFault-one text at to end x y h
-    (subst (λ n. HeadFault text n end y) (sym (Titled-one text at place t u)) k)
+HeaderCase-one text to end x y (faulty at _ _ t h) (faulty place _ _ u k) =
+    HeaderFault-one text at to end x y h
+    (subst (λ n. HeaderFault text n end y) (sym (Titled-one text at place t u)) k)
 
 -- a text gets stuck at one place, where one thing is expected
 pub stuck_in_one_way : IcuStuckInOneWay
-stuck_in_one_way text to end x y (in_head s) (in_head t) =
-    HeadCase-one text to end x y (head_case text to x s) (head_case text end y t)
-stuck_in_one_way text to end x y (in_head s) (in_root name f first h t) =
-    absurd (head_never text to x s name f first h)
-stuck_in_one_way text to end x y (in_root name f first h s) (in_head t) =
-    absurd (head_never text end y t name f first h)
+stuck_in_one_way text to end x y (in_header s) (in_header t) =
+    HeaderCase-one text to end x y (header_case text to x s) (header_case text end y t)
+stuck_in_one_way text to end x y (in_header s) (in_root name f first h t) =
+    absurd (header_never text to x s name f first h)
+stuck_in_one_way text to end x y (in_root name f first h s) (in_header t) =
+    absurd (header_never text end y t name f first h)
 stuck_in_one_way text to end x y (in_root name f first h s) (in_root other g second k t) =
     let same = (Header-one text name other f g first second h k).2 in
     StuckFrom-one text (at_root first) to end x y s

@@ -14,7 +14,7 @@ use Rattle.resb_icu_grammar.specs.Machine.{was_value}
 use Rattle.resb_icu_grammar.specs.Machine as step
 use Rattle.resb_icu_grammar.proofs.Lexical.{Skip-one, key_string}
 use Rattle.resb_icu_grammar.proofs.Groups.{Closes, no_string, no_comma_closes, no_brace_colon}
-use Rattle.resb_icu_grammar.proofs.Groups.{string_skipped, Head-one, LeafContent-one}
+use Rattle.resb_icu_grammar.proofs.Groups.{string_skipped, TypedOpening-one, LeafContent-one}
 
 -- where a group begins, no `}` stands, no comma, and no string
 pub no_brace_begins : (text : List ℕ) (at : ℕ) → BeginsGroup text at → Closes text at → ⊥
@@ -85,7 +85,7 @@ Move-one text ws ks _ at _ _ (step.group_opens _ i b k) (step.type_opens _ j kin
 Move-one text ws ks _ at _ _ (step.type_opens _ i kind h) (step.group_opens _ j c l) =
     absurd (no_brace_colon text at c h.named.stands.colon)
 Move-one text ws ks _ at _ _ (step.type_opens _ i kind h) (step.type_opens _ j other g) =
-    let both = Head-one text at i j kind other h g in
+    let both = TypedOpening-one text at i j kind other h g in
     (λ u. reading_at ws ks (in_typed (both.0 u)) (both.1 u))
 Move-one text ws ks _ at _ _ (step.untyped_nothing _ c) (step.untyped_nothing _ d) = refl
 Move-one text ws ks _ at _ _ (step.untyped_nothing _ c) (step.begins_with_group _ b) =

@@ -12,10 +12,10 @@ use Rattle.resb_icu_grammar.specs.Bundle.{Header, Typing, without, with}
 use Rattle.resb_icu_grammar.specs.Groups.{TypedOpening}
 use Rattle.resb_icu_grammar.specs.Laws.{IcuStuckIsNoText}
 use Rattle.resb_icu_grammar.specs.Machine.{Waiting, Standing, Reading, at_root}
-use Rattle.resb_icu_grammar.specs.Stuck.{StepStuck, EndStuck, HeadStuck}
+use Rattle.resb_icu_grammar.specs.Stuck.{StepStuck, EndStuck, HeaderStuck}
 use Rattle.resb_icu_grammar.specs.Stuck.{ReadStuck, StuckFrom, Stuck}
 use Rattle.resb_icu_grammar.specs.Stuck.{a_collation, more_text, no_name, no_root_type}
-use Rattle.resb_icu_grammar.specs.Stuck.{no_root_brace, no_typed_brace, in_head, in_root, inside}
+use Rattle.resb_icu_grammar.specs.Stuck.{no_root_brace, no_typed_brace, in_header, in_root, inside}
 use Rattle.resb_icu_grammar.specs.Stuck.{behind}
 use Rattle.resb_icu_grammar.specs.Stuck as stuck
 use Rattle.resb_icu_grammar.specs.declared.expected.IcuExpected.{IcuExpected}
@@ -137,25 +137,25 @@ no_typed text at i to brace g f r k n (with j h q l) b =
     (RootType-one text at j i h g q r).0 l)) ∙ b)
 
 -- where nothing that begins a bundle stands, there is no header
-pub head_never : (text : List ℕ) (to : ℕ) (x : IcuExpected) → HeadStuck text to x
+pub header_never : (text : List ℕ) (to : ℕ) (x : IcuExpected) → HeaderStuck text to x
     → (name : List ℕ) (f : Bool) (first : ℕ) → Header text name f first → ⊥
-head_never text to x (no_name a start _ _ b k none w) name f first h =
+header_never text to x (no_name a start _ _ b k none w) name f first h =
     none h.ends name
     (subst (λ n. Name text n h.ends name) (starts text name f first a start b k h) h.named)
-head_never text to x (no_root_type a start end _ other b k n l c none) name f first h =
+header_never text to x (no_root_type a start end _ other b k n l c none) name f first h =
     let e = ends_at text other name f first a start end to b k n l h in
     no_typing text to h.brace f c none (subst (λ i. Typing text i h.brace f) e h.typed) h.opens
-head_never text to x (no_root_brace a start end _ other b k n l c d) name f first h =
+header_never text to x (no_root_brace a start end _ other b k n l c d) name f first h =
     let e = ends_at text other name f first a start end to b k n l h in
     no_untyped text to h.brace f c d (subst (λ i. Typing text i h.brace f) e h.typed) h.opens
-head_never text to x (no_typed_brace a start end at i _ other g b k n l r m d) name f first h =
+header_never text to x (no_typed_brace a start end at i _ other g b k n l r m d) name f first h =
     let e = ends_at text other name f first a start end at b k n l h in
     no_typed text at i to h.brace g f r m d (subst (λ i. Typing text i h.brace f) e h.typed) h.opens
 
 -- a text in which a reading gets stuck is no bundle
 pub stuck_is_no_text : IcuStuckIsNoText
-stuck_is_no_text text to x (in_head s) name f tree keys p =
-    head_never text to x s name f p.first p.header
+stuck_is_no_text text to x (in_header s) name f tree keys p =
+    header_never text to x s name f p.first p.header
 stuck_is_no_text text to x (in_root other g first h s) name f tree keys p =
     let body = follows_root text other name g f first tree keys h p in
     root_never text first to x s (tree, body.2) body.3

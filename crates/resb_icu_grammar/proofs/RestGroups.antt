@@ -17,7 +17,7 @@ use Rattle.resb_icu_grammar.specs.Inner.Rest.{RestOfUntyped, RestOfTyped, Same}
 use Rattle.resb_icu_grammar.specs.Inner.Rest.{Never}
 use Rattle.resb_icu_grammar.proofs.Lexical.{Skip-one}
 use Rattle.resb_icu_grammar.proofs.Groups.{Closes}
-use Rattle.resb_icu_grammar.proofs.Groups.{no_brace_colon, Head-one, LeafContent-one}
+use Rattle.resb_icu_grammar.proofs.Groups.{no_brace_colon, TypedOpening-one, LeafContent-one}
 use Rattle.resb_icu_grammar.proofs.RestLists.{entries_distinct}
 
 module _ (text : List ℕ) (goal : Goal) where
@@ -65,7 +65,7 @@ module _ (text : List ℕ) (goal : Goal) where
           of_group _ t js (untyped _ j k _ _ f z u c) g =
               absurd (no_brace_colon text at f d.named.stands.colon)
           of_group _ t js (typed _ j k other _ _ f u c) g =
-              let same = Head-one text at j i other kind f d in
+              let same = TypedOpening-one text at j i other kind f d in
               record {
                 to = k;
                 tree = t;

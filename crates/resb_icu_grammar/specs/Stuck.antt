@@ -139,21 +139,21 @@ pub data EndStuck (text : List ℕ) (t : Tree) (at : ℕ)
       → EndStuck text t at [] end expect.EndOfText
 
 -- a reading cannot go on before the first entry, at this place, where this was expected
-pub data HeadStuck (text : List ℕ) : ℕ → IcuExpected → Type 0 where
+pub data HeaderStuck (text : List ℕ) : ℕ → IcuExpected → Type 0 where
   no_name : (a start to : ℕ) (x : IcuExpected) → Begins text a → Skip text a start
       → ((end : ℕ) (name : List ℕ) → Name text start end name → ⊥)
-      → Told text start expect.Name to x → HeadStuck text to x
+      → Told text start expect.Name to x → HeaderStuck text to x
   no_root_type : (a start end at : ℕ) (name : List ℕ) → Begins text a → Skip text a start
       → Name text start end name → Skip text end at → slice_index text at ≡ ascii.colon
       → ((to : ℕ) (fallback : Bool) → RootType text at to fallback → ⊥)
-      → HeadStuck text at expect.RootType
+      → HeaderStuck text at expect.RootType
   no_root_brace : (a start end at : ℕ) (name : List ℕ) → Begins text a → Skip text a start
       → Name text start end name → Skip text end at → slice_index text at ≢ ascii.colon
-      → slice_index text at ≢ ascii.left_brace → HeadStuck text at expect.LeftBrace
+      → slice_index text at ≢ ascii.left_brace → HeaderStuck text at expect.LeftBrace
   no_typed_brace : (a start end at i brace : ℕ) (name : List ℕ) (fallback : Bool) → Begins text a
       → Skip text a start → Name text start end name → Skip text end at
       → RootType text at i fallback → Skip text i brace
-      → slice_index text brace ≢ ascii.left_brace → HeadStuck text brace expect.LeftBrace
+      → slice_index text brace ≢ ascii.left_brace → HeaderStuck text brace expect.LeftBrace
 
 -- a reading cannot go on at a place, where this was expected
 pub data ReadStuck (text : List ℕ) : Reading → ℕ → IcuExpected → Type 0 where
@@ -171,6 +171,6 @@ pub record StuckFrom (text : List ℕ) (from : Reading) (to : ℕ) (x : IcuExpec
 -- a reading of the text gets stuck at this place, where this was expected: before the first entry
 -- of the root, or behind it
 pub data Stuck (text : List ℕ) (to : ℕ) (x : IcuExpected) : Type 0 where
-  in_head : HeadStuck text to x → Stuck text to x
+  in_header : HeaderStuck text to x → Stuck text to x
   in_root : (name : List ℕ) (fallback : Bool) (first : ℕ) → Header text name fallback first
       → StuckFrom text (at_root first) to x → Stuck text to x

@@ -6,9 +6,9 @@ use Rattle.std.proofs.lemmas.Bool.Decides.{nat_tests}
 
 -- where it is not so that the first fails or the second holds, the first holds and the second
 -- fails
-pub but_parts : (a b : Bool) → not (not a || b) ≡ true → (a ≡ true) × (not b ≡ true)
-but_parts true b h = (refl, h)
-but_parts false b h = absurd (false≢true h)
+pub and_not_parts : (a b : Bool) → not (not a || b) ≡ true → (a ≡ true) × (not b ≡ true)
+and_not_parts true b h = (refl, h)
+and_not_parts false b h = absurd (false≢true h)
 
 -- what doesn't hold is false, and what doesn't fail is true
 pub false_from_not : (b : Bool) → not b ≡ true → b ≡ false

@@ -17,7 +17,7 @@ use Rattle.resb_print.specs.Held.{IsHeld}
 use Rattle.resb_print.specs.Inner.Jobs.{Job, entry_job, member_job, close_job, IsHeldJob}
 use Rattle.resb_print.specs.Inner.Jobs.{AreHeldJobs, job_turns, add_turns, jobs_turns, Appends}
 use Rattle.resb_print.specs.Inner.Jobs.{entry_jobs, member_jobs}
-use Rattle.resb_print.proofs.Steps.{fold_push, fold_more, fold_none, held_push, held_both}
+use Rattle.resb_print.proofs.Steps.{fold_push, first_folded_last, fold_none, held_push, held_both}
 use Rattle.resb_print.proofs.Steps.{entries_held, entries_turns, members_held, members_turns}
 use Rattle.resb_print.proofs.Steps.{sorted_none}
 use Rattle.resb_print.proofs.Lists.{writes_bytes}
@@ -38,7 +38,7 @@ pub entries_text : (n : ℕ) (js : List Job) (ps : List (List ℕ × Tree)) (res
     ≡ entries_on n (entries_of ps) (jobs_on js rest)
 entries_text n js [] rest = fold_none job_on js rest
 entries_text n js (p ∷ ps) rest =
-    fold_more job_on js (entry_jobs n ps) (entry_job n p.0 p.1) rest
+    first_folded_last job_on js (entry_jobs n ps) (entry_job n p.0 p.1) rest
     ∙ ap (job_on (entry_job n p.0 p.1)) (entries_text n js ps rest)
 
 pub entries_cause : (n : ℕ) (js : List Job) (ps : List (List ℕ × Tree)) (later : Option IcuCause)
@@ -46,7 +46,7 @@ pub entries_cause : (n : ℕ) (js : List Job) (ps : List (List ℕ × Tree)) (la
     ≡ causes_in_else (entries_of ps) (jobs_cause js later)
 entries_cause n js [] later = fold_none job_cause js later
 entries_cause n js (p ∷ ps) later =
-    fold_more job_cause js (entry_jobs n ps) (entry_job n p.0 p.1) later
+    first_folded_last job_cause js (entry_jobs n ps) (entry_job n p.0 p.1) later
     ∙ ap (job_cause (entry_job n p.0 p.1)) (entries_cause n js ps later)
 
 -- the members of an array
@@ -54,7 +54,7 @@ members_text : (n : ℕ) (js : List Job) (ts : List Tree) (rest : List ℕ)
     → jobs_on (js ++ reverse (member_jobs n ts)) rest ≡ trees_on n (trees_of ts) (jobs_on js rest)
 members_text n js [] rest = fold_none job_on js rest
 members_text n js (t ∷ ts) rest =
-    fold_more job_on js (member_jobs n ts) (member_job n t) rest
+    first_folded_last job_on js (member_jobs n ts) (member_job n t) rest
     ∙ ap (job_on (member_job n t)) (members_text n js ts rest)
 
 members_cause : (n : ℕ) (js : List Job) (ts : List Tree) (later : Option IcuCause)
@@ -62,7 +62,7 @@ members_cause : (n : ℕ) (js : List Job) (ts : List Tree) (later : Option IcuCa
     ≡ causes_else (trees_of ts) (jobs_cause js later)
 members_cause n js [] later = fold_none job_cause js later
 members_cause n js (t ∷ ts) later =
-    fold_more job_cause js (member_jobs n ts) (member_job n t) later
+    first_folded_last job_cause js (member_jobs n ts) (member_job n t) later
     ∙ ap (job_cause (member_job n t)) (members_cause n js ts later)
 
 -- a resource that leaves nothing to be done
@@ -151,20 +151,22 @@ does_line old line new js ks j write p n t w d same causes held turns = record {
   fewer = omega (arith, d.fewer);
 }
 
--- all jobs in their order
-pub begun : (old : String Global) (js : List Job) (ps : List (List ℕ × Tree))
+-- all jobs in their order: nothing is done yet
+pub under_way_at_first : (old : String Global) (js : List Job) (ps : List (List ℕ × Tree))
     → js ≡ reverse (entry_jobs 1 ps) → IsUnderWay old old js (entries_of ps)
-begun old js ps e = record {
+under_way_at_first old js ps e = record {
   text = λ rest. ap (λ l. string_bytes old ++ jobs_on l rest) e
       ∙ ap (λ l. string_bytes old ++ l) (entries_text 1 [] ps rest);
   causes = ap (λ l. jobs_cause l None) e ∙ entries_cause 1 [] ps None;
   holds = λ h. (entries_held 1 [] ps (subst AreHeldJobs e h)).1;
 }
 
-pub going : (old now new : String Global) (js ks ls : List Job) (j : Job) (es : Entries)
+-- where a job is done, what is under way stays so
+pub under_way_after_job : (old now new : String Global) (js ks ls : List Job) (j : Job)
+    (es : Entries)
     → ls ≡ js ++ j ∷ [] → IsUnderWay old now ls es → DoesJob now new js ks j
     → IsUnderWay old new ks es
-going old now new js ks ls j es e u d = record {
+under_way_after_job old now new js ks ls j es e u d = record {
   text = λ rest. d.text rest
       ∙ ap (λ l. string_bytes now ++ l) (sym (fold_push job_on js j rest)
       ∙ ap (λ l. jobs_on l rest) (sym e)) ∙ u.text rest;

@@ -27,7 +27,7 @@ use Rattle.resb_print.proofs.Groups.{digit_of, reads_back, all_below, below_pass
 use Rattle.resb_icu_print.specs.Printed.{is_control, is_marked, escaped_on, inside_on, piece_on}
 use Rattle.resb_icu_print.specs.Printed.{are_words, is_bare, key_on}
 use Rattle.resb_icu_print.proofs.Places.{byte_near, same_place, solid_at, no_skip}
-use Rattle.resb_icu_print.proofs.Lists.{but_parts, false_from_not, unequal_to}
+use Rattle.resb_icu_print.proofs.Lists.{and_not_parts, false_from_not, unequal_to}
 
 -- a byte behind which a string or key ends
 pub record IsStop (b : ℕ) : Type 0 where
@@ -126,7 +126,7 @@ pub plain_key_inside : (k rest : List ℕ) → are_key_bytes k ≡ true → NoQu
     → inside_on k rest ≡ k ++ rest
 plain_key_inside [] rest h free = refl
 plain_key_inside (b ∷ k) rest h free =
-    let p = but_parts (is_key_byte b) _ h in
+    let p = and_not_parts (is_key_byte b) _ h in
     let f = or_parts (b == ascii.quote) (has_quote k) free in
     let q = key_byte_plain b p.0 f.0 in
     rw (q.0, q.1) (ap (λ l. b ∷ l) (plain_key_inside k rest p.1 f.1))
@@ -136,8 +136,8 @@ key_no_escape : (k : List ℕ) → are_key_bytes k ≡ true → (i : ℕ)
 key_no_escape [] h zero e = absurd (omega (arith, e))
 key_no_escape [] h (suc i) e = absurd (omega (arith, e))
 key_no_escape (b ∷ k) h zero e =
-    false≢true (sym (ap is_key_byte e) ∙ (but_parts (is_key_byte b) _ h).0)
-key_no_escape (b ∷ k) h (suc i) e = key_no_escape k (but_parts (is_key_byte b) _ h).1 i e
+    false≢true (sym (ap is_key_byte e) ∙ (and_not_parts (is_key_byte b) _ h).0)
+key_no_escape (b ∷ k) h (suc i) e = key_no_escape k (and_not_parts (is_key_byte b) _ h).1 i e
 
 module _ (text : List ℕ) where
   -- a control character by its number

@@ -35,9 +35,10 @@ use Rattle.resb_icu_print.specs.declared.cause.IcuCause.TheVariants.{KeyHasOther
 use Rattle.resb_icu_print.specs.declared.cause.IcuCause.TheVariants.{TableOfCollations}
 use Rattle.resb_icu_print.specs.Printed.{are_words, is_bare}
 use Rattle.resb_icu_print.specs.Causes.{is_icu_key, has_collation, IsTaken, AreTaken, TakenIn}
-use Rattle.resb_icu_print.specs.Causes.{cause_if, key_cause_else, cause_else, causes_else}
+use Rattle.resb_icu_print.specs.Causes.{cause_if, cause_else, causes_else}
 use Rattle.resb_icu_print.specs.Causes.{causes_in_else, first_cause}
 use Rattle.resb_icu_print.proofs.Lists.{true_from_not}
+use Rattle.resb_icu_print.proofs.Steps.{missed_if, key_passed}
 
 -- a byte that is no quote, before others
 free_more : (b : ℕ) (s : List ℕ) → b ≢ ascii.quote → NoQuote s → NoQuote (b ∷ s)
@@ -196,17 +197,6 @@ mutual
   group_taken text from to t ks (typed _ i k kind u js x m z) = typed_taken text kind i k u js m
 
 -- there is no cause where everything is taken
-no_cause_if : (b : Bool) (x : IcuCause) (later : Option IcuCause) → b ≡ false
-    → cause_if b x later ≡ later
-no_cause_if b x later h = rw h refl
-
-key_no_cause : (k : List ℕ) (t : Tree) (later : Option IcuCause) → is_icu_key k ≡ true
-    → has_collation k t ≡ false → key_cause_else k t later ≡ later
-key_no_cause k t later key free =
-    no_cause_if (not (is_icu_key k)) KeyHasOtherBytes
-    (cause_if (has_collation k t) TableOfCollations later) (ap not key)
-    ∙ no_cause_if (has_collation k t) TableOfCollations later free
-
 mutual
   taken_no_cause : (t : Tree) (later : Option IcuCause) → IsTaken t → cause_else t later ≡ later
   taken_no_cause (string s) later h = refl
@@ -226,7 +216,7 @@ mutual
       → causes_in_else es later ≡ later
   taken_none_in no_entries later h = refl
   taken_none_in (entry k t es) later h =
-      key_no_cause k t (cause_else t (causes_in_else es later)) h.0 h.1
+      key_passed k t (cause_else t (causes_in_else es later)) h.0 h.1
       ∙ taken_no_cause t (causes_in_else es later) h.2 ∙ taken_none_in es later h.3
 
 -- and where there is none, everything is
@@ -292,7 +282,7 @@ no_cause text name fallback t keys b =
     let bare = bare_from name named.some
     (run_words name (λ k l. named.word.each k (omega arith) l)) in
     ap (first_cause name) b.means
-    ∙ no_cause_if (not (is_bare name)) NameIsNoWord (causes_in_else (map_of b.entries) None)
+    ∙ missed_if (not (is_bare name)) NameIsNoWord (causes_in_else (map_of b.entries) None)
     (ap not bare)
     ∙ taken_none_in (map_of b.entries) None
     (map_taken b.entries (entries_taken text b.first b.last b.entries b.places b.body))

@@ -1,5 +1,5 @@
 //! What may be a name or a key of ICU's form, and what may not stand under a key.
-//! How a key is printed stands in `pieces`.
+//! How a key is printed stands in `quoting`.
 ghost use Rattle.std.specs.Prelude.{◌≡◌};
 ghost use Rattle.resb_tree.specs.View.{tree_of};
 ghost use Rattle.resb_icu_print.specs.Printed as printed;

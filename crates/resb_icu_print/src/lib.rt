@@ -7,8 +7,8 @@ mod error;
 mod keys;
 pub mod laws;
 mod path;
-mod pieces;
 mod print;
+mod quoting;
 mod step;
 
 pub use cause::IcuCause;

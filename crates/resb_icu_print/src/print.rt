@@ -1,5 +1,5 @@
 //! Prints a bundle as a text of ICU's form: its name, its root's type and the lines of its entries.
-//! What one line is stands in `step`, what it is made of in `pieces`.
+//! What one line is stands in `step`, what it is made of in `quoting`.
 ghost use Rattle.std.specs.Prelude.{◌≡◌, ◌≤◌, ◌⊎◌, ℕ, List, Bool, IfOk, IfErr, OnOk, None, length};
 ghost use Rattle.std.specs.String.{string_bytes};
 ghost use Rattle.resb_tree.specs.Bundle.{name_of, root_of};

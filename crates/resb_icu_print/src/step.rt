@@ -11,7 +11,7 @@ ghost use Rattle.resb_icu_print.specs.Inner.Jobs.{job_cause, DoesJob, DoesTree, 
 use crate::cause::IcuCause;
 use crate::error::IcuPrintError;
 use crate::keys::{has_collation, is_key};
-use crate::pieces::{push_key, push_piece};
+use crate::quoting::{push_key, push_piece};
 use resb_print::{
     Place, Task, deeper, push_bytes, push_end, push_entries, push_integer, push_line, push_members,
     push_vector,

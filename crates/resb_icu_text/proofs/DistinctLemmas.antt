@@ -18,7 +18,7 @@ use Rattle.resb_tree.specs.declared.resource.Resource.{Resource}
 use Rattle.resb_tree.proofs.AtOnce.{inserted, insert_is_put, made, turned}
 use Rattle.resb_icu_grammar.specs.Groups.{is_new}
 use Rattle.resb_icu_grammar.specs.Machine.{AreDistinct}
-use Rattle.resb_icu_text.proofs.Lists.{nor_parts, cond_at_most, none_from_not_some}
+use Rattle.resb_icu_text.proofs.Lists.{not_or_parts, cond_at_most, none_from_not_some}
 use Rattle.resb_icu_text.proofs.Lists.{false_from_one_more}
 
 -- none of the pairs has a key of these entries
@@ -44,7 +44,7 @@ put_new : (es ps : List (List ℕ × Resource)) (k : List ℕ) (v : Resource)
     → is_new k (pairs_view ps) ≡ true → AreNewTo es ps → AreNewTo (fin.put text_cmp k v es) ps
 put_new es [] k v h n = tt
 put_new es (p ∷ ps) k v h n =
-    let two = nor_parts _ _ (sym (is_new-cons k (p.0, tree_of p.1) (pairs_view ps)) ∙ h) in (
+    let two = not_or_parts _ _ (sym (is_new-cons k (p.0, tree_of p.1) (pairs_view ps)) ∙ h) in (
       fin.find-put text_cmp nat_list_cmp_total p.0 k v es
           ∙ ap (λ b. cond b (Some v) (fin.find text_cmp p.0 es)) (turned p.0 k ∙ two.0) ∙ n.0,
       put_new es ps k v two.1 n.1,

@@ -2,14 +2,13 @@
 use Rattle.std.proofs.Common.{◌≡◌, ◌≢◌, ℕ, ◌+◌, ◌≤◌, Bool, true, false, refl, sym, ap, ◌∙◌}
 use Rattle.std.proofs.Common.{arith, cond}
 use Rattle.std.specs.Prelude.{Option, Some, None, IfNone, Result, Ok, Err, IfOk, IfErr, not, ◌||◌}
-use Rattle.std.specs.Prelude.{if◌then◌else◌}
 use Rattle.std.specs.Option.{is_some}
 use Rattle.std.proofs.lemmas.Bool.{false≢true}
 
 -- where neither of two holds, the first is false, and the second doesn't hold
-pub nor_parts : (a b : Bool) → not (a || b) ≡ true → (a ≡ false) × (not b ≡ true)
-nor_parts true b h = absurd (false≢true h)
-nor_parts false b h = (refl, h)
+pub not_or_parts : (a b : Bool) → not (a || b) ≡ true → (a ≡ false) × (not b ≡ true)
+not_or_parts true b h = absurd (false≢true h)
+not_or_parts false b h = (refl, h)
 
 -- a number or one more is at most one more
 pub cond_at_most : (b : Bool) (n : ℕ) → cond b n (n + 1) ≤ n + 1
@@ -20,24 +19,6 @@ cond_at_most false n = omega arith
 pub false_from_one_more : (b : Bool) (n m : ℕ) → m ≡ cond b n (n + 1) → m ≡ n + 1 → b ≡ false
 false_from_one_more true n m h g = absurd (omega (arith, h, g))
 false_from_one_more false n m h g = refl
-
--- the lower of two numbers is at most the chosen one, and the chosen one at most the higher
-pub chosen_at_least : (b : Bool) (n at : ℕ) → at ≤ n → at ≤ (if b then n else at)
-chosen_at_least true n at l = l
-chosen_at_least false n at l = omega arith
-
-pub chosen_at_most : (b : Bool) (n at : ℕ) → at ≤ n → (if b then n else at) ≤ n
-chosen_at_most true n at l = omega arith
-chosen_at_most false n at l = l
-
--- the second of two is chosen where the test fails, the first where it holds
-pub chosen_else : (b : Bool) (n at : ℕ) → (b ≡ true → ⊥) → (if b then n else at) ≡ at
-chosen_else true n at f = absurd (f refl)
-chosen_else false n at f = refl
-
-pub chosen_then : (b : Bool) (n at : ℕ) → b ≡ true → (if b then n else at) ≡ n
-chosen_then true n at e = refl
-chosen_then false n at e = absurd (false≢true e)
 
 -- what is not there is none, and what is there is not
 pub none_from_not_some : {A : Type 0} (o : Option A) → is_some o ≡ false → o ≡ None

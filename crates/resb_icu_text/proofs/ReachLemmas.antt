@@ -1,6 +1,6 @@
--- Laws of how far a reading has looked.
+-- Laws of how far a reading has looked at a word, a string and a number, and of what a step took.
 use Rattle.std.proofs.Common.{◌≡◌, ◌≢◌, ℕ, ◌+◌, ◌*◌, ◌<◌, ◌≤◌, ◌⊎◌, inl, inr, Bool, true, false}
-use Rattle.std.proofs.Common.{List, length, arith, refl, sym, ◌∙◌}
+use Rattle.std.proofs.Common.{List, length, arith, refl}
 use Rattle.std.specs.Prelude.{slice_index, ◌==◌}
 use Rattle.std.proofs.lemmas.Bool.Decides.{nat_tests}
 use Rattle.resb_grammar.specs.Ascii as ascii
@@ -11,35 +11,9 @@ use Rattle.resb_icu_grammar.specs.Words.{plus, minus}
 use Rattle.resb_icu_grammar.proofs.Lexical.{word_first, joined_first}
 use Rattle.resb_icu_text.specs.declared.steps.Step.{Step}
 use Rattle.resb_icu_text.specs.declared.steps.Step.TheVariants as step
-use Rattle.resb_icu_text.specs.Inner.Reach.{reach}
+use Rattle.resb_grammar.specs.Inner.Reach.{reach}
+use Rattle.resb_grammar.proofs.ReachLemmas.{reach_high, reach_here, reach_slash, reach_quote}
 use Rattle.resb_icu_text.specs.Inner.Steps.{stands_at, spent}
-use Rattle.resb_icu_text.proofs.Lists.{chosen_at_least, chosen_at_most, chosen_else}
-use Rattle.resb_icu_text.proofs.Lists.{chosen_then}
-
--- a reading has looked at least up to its place
-pub reach_low : (text : List ℕ) (at : ℕ) → at ≤ length text → at ≤ reach text at
-unfolding reach
-reach_low text at l = chosen_at_least (slice_index text at == ascii.slash) (length text) at l
-
--- and at most up to the text's end
-pub reach_high : (text : List ℕ) (at : ℕ) → at ≤ length text → reach text at ≤ length text
-unfolding reach
-reach_high text at l = chosen_at_most (slice_index text at == ascii.slash) (length text) at l
-
--- where no slash stands, up to its place
-pub reach_here : (text : List ℕ) (at : ℕ) → slice_index text at ≢ ascii.slash
-    → reach text at ≡ at
-unfolding reach
-reach_here text at n =
-    chosen_else (slice_index text at == ascii.slash) (length text) at
-    (λ e. n (grind (arith, nat_tests, e)))
-
--- where a slash stands, up to the text's end
-pub reach_slash : (text : List ℕ) (at : ℕ) → slice_index text at ≡ ascii.slash
-    → reach text at ≡ length text
-unfolding reach
-reach_slash text at e =
-    chosen_then (slice_index text at == ascii.slash) (length text) at (grind (arith, nat_tests, e))
 
 slash_no_word : (b : ℕ) → b ≡ ascii.slash → is_word b ≡ true → ⊥
 slash_no_word b e h = grind (arith, nat_tests, e, h)
@@ -65,36 +39,6 @@ reach_word text from to run = pick (is_slash (slice_index text from)) (from == t
     pick (inl s) false e =
         let other : from ≢ to = grind (arith, nat_tests, e) in
         absurd (slash_no_word _ s (run.each from (omega arith) (omega (arith, other, run.order))))
-
--- where a byte stands that is no slash, a reading has looked up to its place
-pub reach_byte : (text : List ℕ) (at b : ℕ) → slice_index text at ≡ b → b ≢ ascii.slash
-    → reach text at ≡ at
-reach_byte text at b e n = reach_here text at (λ s. n (sym e ∙ s))
-
--- so it is at a quote
-pub reach_quote : (text : List ℕ) (at : ℕ) → slice_index text at ≡ ascii.quote
-    → reach text at ≡ at
-reach_quote text at e = reach_byte text at ascii.quote e (λ s. omega (arith, s))
-
--- at a right brace
-pub reach_right : (text : List ℕ) (at : ℕ) → slice_index text at ≡ ascii.right_brace
-    → reach text at ≡ at
-reach_right text at e = reach_byte text at ascii.right_brace e (λ s. omega (arith, s))
-
--- at a left brace
-pub reach_left : (text : List ℕ) (at : ℕ) → slice_index text at ≡ ascii.left_brace
-    → reach text at ≡ at
-reach_left text at e = reach_byte text at ascii.left_brace e (λ s. omega (arith, s))
-
--- at a comma
-pub reach_comma : (text : List ℕ) (at : ℕ) → slice_index text at ≡ ascii.comma
-    → reach text at ≡ at
-reach_comma text at e = reach_byte text at ascii.comma e (λ s. omega (arith, s))
-
--- at a colon
-pub reach_colon : (text : List ℕ) (at : ℕ) → slice_index text at ≡ ascii.colon
-    → reach text at ≡ at
-reach_colon text at e = reach_byte text at ascii.colon e (λ s. omega (arith, s))
 
 -- no word begins at a slash
 pub word_no_slash : (text : List ℕ) (from to : ℕ) (s : List ℕ) → Word text from to s

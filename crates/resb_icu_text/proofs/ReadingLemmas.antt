@@ -21,7 +21,7 @@ use Rattle.resb_icu_grammar.specs.Bundle.{Header, Typing, without, with}
 use Rattle.resb_icu_grammar.specs.Words.{KeyText, Name}
 use Rattle.resb_icu_grammar.specs.Machine.{at_root, Waiting, Reading, reading_at, behind_group}
 use Rattle.resb_icu_grammar.specs.Machine.{Comes, here}
-use Rattle.resb_icu_grammar.specs.Stuck.{HeadStuck, StuckFrom, Stuck, in_head, in_root}
+use Rattle.resb_icu_grammar.specs.Stuck.{HeaderStuck, StuckFrom, Stuck, in_header, in_root}
 use Rattle.resb_icu_grammar.specs.Stuck.{no_root_type, no_root_brace, no_typed_brace, behind}
 use Rattle.resb_icu_grammar.specs.Stuck.{more_text, NoKeyAt}
 use Rattle.resb_icu_grammar.specs.Faults.{Told}
@@ -42,7 +42,8 @@ use Rattle.resb_icu_text.specs.declared.steps.Waiting.{Waiting as Open}
 use Rattle.resb_icu_text.specs.declared.steps.Step.{Step}
 use Rattle.resb_icu_text.specs.declared.steps.Step.TheVariants as step
 use Rattle.resb_icu_text.specs.Inner.Reading.{around, NameFails, TypingThere, no_colon, a_type}
-use Rattle.resb_icu_text.specs.Inner.Reading.{OpeningFails, no_type, no_brace, HeadFails, RootThere}
+use Rattle.resb_icu_text.specs.Inner.Reading.{OpeningFails, no_type, no_brace, HeaderFails}
+use Rattle.resb_icu_text.specs.Inner.Reading.{RootThere}
 use Rattle.resb_icu_text.specs.Inner.Reading.{RootFails}
 
 -- one group more is the innermost
@@ -111,38 +112,38 @@ pub typing_of : (text : List ℕ) (from to : ℕ) (f : Bool) → TypingThere tex
 typing_of text from to _ (no_colon n e) = without (sym e)
 typing_of text from to f (a_type i _ r k) = with i f r k
 
-head_says : (text : List ℕ) (to : ℕ) (x : IcuExpected) (e : IcuTextError)
-    → e ≡ record { position = to; expected = x } → HeadStuck text to x
-    → HeadFails text e
-head_says text to x e h s =
-    inr (subst (λ (g : IcuTextError). HeadStuck text g.position g.expected) (sym h) s)
+header_says : (text : List ℕ) (to : ℕ) (x : IcuExpected) (e : IcuTextError)
+    → e ≡ record { position = to; expected = x } → HeaderStuck text to x
+    → HeaderFails text e
+header_says text to x e h s =
+    inr (subst (λ (g : IcuTextError). HeaderStuck text g.position g.expected) (sym h) s)
 
 -- where no name stands, a reading stops before the first entry
-pub no_head_name : (text : List ℕ) (a start : ℕ) (e : IcuTextError) → Begins text a
-    → Skip text a start → NameFails text start e → HeadFails text e
-no_head_name text a start e b k (inl m) = inl m
-no_head_name text a start e b k (inr n) =
+pub no_header_name : (text : List ℕ) (a start : ℕ) (e : IcuTextError) → Begins text a
+    → Skip text a start → NameFails text start e → HeaderFails text e
+no_header_name text a start e b k (inl m) = inl m
+no_header_name text a start e b k (inr n) =
     inr (stuck.no_name a start e.position e.expected b k n.0 n.1)
 
 no_opening_brace : (text : List ℕ) (a start end at brace : ℕ) (name : List ℕ) (f : Bool)
     → Begins text a → Skip text a start → Name text start end name → Skip text end at
     → TypingThere text at brace f → slice_index text brace ≢ ascii.left_brace
-    → HeadStuck text brace expect.LeftBrace
+    → HeaderStuck text brace expect.LeftBrace
 no_opening_brace text a start end at brace name _ b k n l (no_colon c e) d =
-    subst (λ i. HeadStuck text i expect.LeftBrace) (sym e)
+    subst (λ i. HeaderStuck text i expect.LeftBrace) (sym e)
     (no_root_brace a start end at name b k n l c
     (λ h. d (ap (λ i. slice_index text i) e ∙ h)))
 no_opening_brace text a start end at brace name f b k n l (a_type i _ r m) d =
     no_typed_brace a start end at i brace name f b k n l r m d
 
 -- nor where the root doesn't begin
-pub no_head_opening : (text : List ℕ) (a start end at : ℕ) (name : List ℕ) (e : IcuTextError)
+pub no_header_opening : (text : List ℕ) (a start end at : ℕ) (name : List ℕ) (e : IcuTextError)
     → Begins text a → Skip text a start → Name text start end name → Skip text end at
-    → OpeningFails text at e → HeadFails text e
-no_head_opening text a start end at name e b k n l (no_type c f h) =
-    head_says text at expect.RootType e h (no_root_type a start end at name b k n l c f)
-no_head_opening text a start end at name e b k n l (no_brace brace f t d h) =
-    head_says text brace expect.LeftBrace e h
+    → OpeningFails text at e → HeaderFails text e
+no_header_opening text a start end at name e b k n l (no_type c f h) =
+    header_says text at expect.RootType e h (no_root_type a start end at name b k n l c f)
+no_header_opening text a start end at name e b k n l (no_brace brace f t d h) =
+    header_says text brace expect.LeftBrace e h
     (no_opening_brace text a start end at brace name f b k n l t d)
 
 -- a refusal inside these groups and with these keys
@@ -244,10 +245,10 @@ text_ends text first at end t ks c k w v =
     (comes_same text (at_root first) (reading_at [] ks (behind_group t) at) c (t, ks)).1
     (record { after = whole; means = refl })
 
--- a refusal of the head is one of the text
-pub head_refused : (text : List ℕ) (e : IcuTextError) → HeadFails text e → IcuFails text e
-head_refused text e r = ⊎_elim (λ (m : e ≡ want_of_memory). inl m)
-    (λ (n : HeadStuck text e.position e.expected). inr (in_head n)) r
+-- a refusal of the header is one of the text
+pub header_refused : (text : List ℕ) (e : IcuTextError) → HeaderFails text e → IcuFails text e
+header_refused text e r = ⊎_elim (λ (m : e ≡ want_of_memory). inl m)
+    (λ (n : HeaderStuck text e.position e.expected). inr (in_header n)) r
 
 -- and so is one of the root
 pub root_refused : (text name : List ℕ) (f : Bool) (a : ℕ) (e : IcuTextError)

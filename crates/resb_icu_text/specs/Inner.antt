@@ -4,7 +4,6 @@ pub mod Escaped
 pub mod Kept
 pub mod Leaf
 pub mod Numbers
-pub mod Reach
 pub mod Reading
 pub mod Steps
 pub mod Stops

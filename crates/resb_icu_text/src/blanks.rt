@@ -9,7 +9,7 @@ ghost use Rattle.resb_grammar.specs.ByteRuns.{Run};
 ghost use Rattle.resb_grammar.specs.Lexical.{FirstCloser};
 ghost use Rattle.resb_icu_grammar.specs.Blanks.{LineRest, Comment, Skip};
 ghost use Rattle.resb_icu_grammar.specs.Blanks.{IsParagraphEnd};
-ghost use Rattle.resb_icu_text.specs.Inner.Reach.{reach};
+ghost use Rattle.resb_grammar.specs.Inner.Reach.{reach};
 
 use crate::turns::IcuTurns;
 use resb_grammar::blanks_end;

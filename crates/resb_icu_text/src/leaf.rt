@@ -13,7 +13,7 @@ ghost use Rattle.resb_icu_text.specs.Borrowed.{KeepsSlices};
 ghost use Rattle.resb_icu_text.specs.Lexemes.{bytes_said, stands_whole};
 ghost use Rattle.resb_icu_text.specs.Inner.Leaf.{Leaf, LeafFails, Vector, WantsBrace};
 ghost use Rattle.resb_icu_text.specs.Inner.Leaf.{IsBehindNumber, WantsCommaOrBrace};
-ghost use Rattle.resb_icu_text.specs.Inner.Reach.{reach};
+ghost use Rattle.resb_grammar.specs.Inner.Reach.{reach};
 
 use crate::blanks::{byte, skip};
 use crate::error::IcuTextError;

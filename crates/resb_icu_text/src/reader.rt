@@ -7,14 +7,15 @@ ghost use Rattle.resb_grammar.specs.BundleText.{first_places};
 ghost use Rattle.resb_tree.specs.Bundle.{name_of, root_of};
 ghost use Rattle.resb_tree.specs.View.{tree_of};
 ghost use Rattle.resb_icu_grammar.specs.Blanks.{Begins};
-ghost use Rattle.resb_icu_grammar.specs.Bundle.{Header, IcuText};
+ghost use Rattle.resb_icu_grammar.specs.Bundle as bundle;
+ghost use Rattle.resb_icu_grammar.specs.Bundle.{IcuText};
 ghost use Rattle.resb_icu_text.specs.Answer.{IcuFails, IsNoIcuText};
 ghost use Rattle.resb_icu_text.specs.Borrowed.{IsBorrowedFrom, KeepsSlices};
 ghost use Rattle.resb_icu_text.specs.Refusal.{want_of_memory};
 ghost use Rattle.resb_icu_text.specs.Inner.Reading.{NameAhead, NameFails, TypingThere};
-ghost use Rattle.resb_icu_text.specs.Inner.Reading.{Opening, OpeningFails, HeadFails};
+ghost use Rattle.resb_icu_text.specs.Inner.Reading.{Opening, OpeningFails, HeaderFails};
 ghost use Rattle.resb_icu_text.specs.Inner.Reading.{RootThere, RootFails};
-ghost use Rattle.resb_icu_text.specs.Inner.Reach.{reach};
+ghost use Rattle.resb_grammar.specs.Inner.Reach.{reach};
 
 use crate::blanks::{byte, skip};
 use crate::error::IcuTextError;
@@ -63,11 +64,11 @@ impl IcuReader {
         ensures no_text { IfErr result (λ e. (e ≡ want_of_memory) ⊎ IsNoIcuText input.now) }
         ensures cost { turns.new.count ≤ turns.old.count + 8 * length input.now + 24 }
     {
-        let Head {
+        let Header {
             name,
             fallback,
             first,
-        } = read_head(alloc, input, turns)?;
+        } = read_header(alloc, input, turns)?;
         let (root, keys) = read_root(alloc, input, first, turns)?;
         let keys = each_once(alloc, &keys, turns)?;
         Ok((
@@ -79,7 +80,7 @@ impl IcuReader {
 
 /// What stands before the root's entries: the bundle's name, and whether fallback is on. And the
 /// place of the first entry.
-struct Head<'a> {
+struct Header<'a> {
     name: &'a str,
     fallback: bool,
     first: usize,
@@ -166,13 +167,13 @@ fn opening(text: &str, at: usize, turns: &mut IcuTurns) -> Result<(usize, bool),
 }
 
 /// What stands before the root's entries.
-fn read_head<'a>(
+fn read_header<'a>(
     alloc: Global,
     text: &'a str,
     turns: &mut IcuTurns,
-) -> Result<Head<'a>, IcuTextError>
-    ensures ok { IfOk result (λ h. Header text.now h.name.now h.fallback h.first) }
-    ensures err { IfErr result (HeadFails text.now) }
+) -> Result<Header<'a>, IcuTextError>
+    ensures ok { IfOk result (λ h. bundle.Header text.now h.name.now h.fallback h.first) }
+    ensures err { IfErr result (HeaderFails text.now) }
     ensures within { IfOk result (λ h. h.first ≤ length text.now) }
     ensures cost { IfOk result (λ h. turns.new.count
         ≤ turns.old.count + 8 * reach text.now h.first + 12) }
@@ -183,7 +184,7 @@ fn read_head<'a>(
     let (next, name) = name(alloc, text, start, turns)?;
     let (brace, fallback) = opening(text, next, turns)?;
     let first = skip(text, brace + 1, turns);
-    Ok(Head {
+    Ok(Header {
         name,
         fallback,
         first,

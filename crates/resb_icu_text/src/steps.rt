@@ -18,7 +18,7 @@ ghost use Rattle.resb_icu_text.specs.Inner.Ahead.{KeyFails};
 ghost use Rattle.resb_icu_text.specs.Inner.Kept.{Keeps, step_passes, members_pass, entries_pass};
 ghost use Rattle.resb_icu_text.specs.Inner.Kept.{Test, open_passes, nothing_before};
 ghost use Rattle.resb_icu_text.specs.Borrowed.{passes};
-ghost use Rattle.resb_icu_text.specs.Inner.Reach.{reach};
+ghost use Rattle.resb_grammar.specs.Inner.Reach.{reach};
 
 use crate::blanks::{byte, skip};
 use crate::error::IcuTextError;

@@ -8,7 +8,7 @@ ghost use Rattle.resb_icu_grammar.specs.Blanks.{Skip};
 ghost use Rattle.resb_icu_grammar.specs.Stuck.{NoStringAt};
 ghost use Rattle.resb_icu_text.specs.Lexemes.{IsLexeme, bytes_said, may_be_key};
 ghost use Rattle.resb_icu_text.specs.Inner.Ahead.{Ahead, HasFault, StringFails};
-ghost use Rattle.resb_icu_text.specs.Inner.Reach.{reach};
+ghost use Rattle.resb_grammar.specs.Inner.Reach.{reach};
 
 use crate::blanks::{byte, skip};
 use crate::error::IcuTextError;

@@ -11,7 +11,7 @@ ghost use Rattle.resb_grammar.specs.GroupTypes.{Names, Stands};
 ghost use Rattle.resb_icu_grammar.specs.Bytes as spec;
 ghost use Rattle.resb_icu_grammar.specs.Words.{Word, Digits, Number, GroupType, RootType};
 ghost use Rattle.resb_icu_text.specs.Inner.Numbers.{DigitsInRange};
-ghost use Rattle.resb_icu_text.specs.Inner.Reach.{reach};
+ghost use Rattle.resb_grammar.specs.Inner.Reach.{reach};
 
 use crate::blanks::byte;
 use crate::turns::IcuTurns;

@@ -38,9 +38,10 @@ looks_more : (ls ks : List ToLookAt) (l : ToLookAt)
 looks_more ls ks l =
     ap (λ m. ls ++ m) (reverse-append (l ∷ []) ks) ∙ sym (append_assoc ls (reverse ks) (l ∷ []))
 
-fold_more : {X : Type 0} (f : ToLookAt → X → X) (ls ks : List ToLookAt) (l : ToLookAt) (x : X)
+first_folded_last : {X : Type 0} (f : ToLookAt → X → X) (ls ks : List ToLookAt) (l : ToLookAt)
+    (x : X)
     → fold_looks f (ls ++ reverse (l ∷ ks)) x ≡ f l (fold_looks f (ls ++ reverse ks) x)
-fold_more f ls ks l x =
+first_folded_last f ls ks l x =
     ap (λ m. fold_looks f m x) (looks_more ls ks l) ∙ fold_look f (ls ++ reverse ks) l x
 
 fold_none : {X : Type 0} (f : ToLookAt → X → X) (ls : List ToLookAt) (x : X)
@@ -52,7 +53,7 @@ entries_turns : (ls : List ToLookAt) (ps : List (List ℕ × Tree))
     ≡ looks_turns ls + 3 * entries_count (entries_of ps)
 entries_turns ls [] = fold_none add_look ls 0 ∙ omega arith
 entries_turns ls (p ∷ ps) =
-    fold_more add_look ls (entry_looks ps) (entry_look p.0 p.1) 0
+    first_folded_last add_look ls (entry_looks ps) (entry_look p.0 p.1) 0
     ∙ omega (arith, entries_turns ls ps)
 
 found_here : (b : Bool) (path : List Step) (later : Option (List Step)) → b ≡ true
@@ -87,7 +88,8 @@ module _ (c : CauseTests) where
   entries_path ls [] path = ap (λ f. f path) (fold_none (look_path c) ls nowhere)
   entries_path ls (p ∷ ps) path =
       let here = path ++ by_key p.0 ∷ [] in
-      ap (λ f. f path) (fold_more (look_path c) ls (entry_looks ps) (entry_look p.0 p.1) nowhere)
+      ap (λ f. f path)
+      (first_folded_last (look_path c) ls (entry_looks ps) (entry_look p.0 p.1) nowhere)
       ∙ ap (λ later. path_if (c.of_entry p.0 p.1) here (path_else c here p.1 later))
       (entries_path ls ps path)
 

@@ -61,9 +61,9 @@ reverse_more js ks j =
     ap (λ l. js ++ l) (reverse-append (j ∷ []) ks) ∙ sym (append_assoc js (reverse ks) (j ∷ []))
 
 -- jobs in reverse order, of which one comes before the others, are folded so that it comes last
-pub fold_more : {X : Type 0} (f : Job → X → X) (js ks : List Job) (j : Job) (x : X)
+pub first_folded_last : {X : Type 0} (f : Job → X → X) (js ks : List Job) (j : Job) (x : X)
     → fold_jobs f (js ++ reverse (j ∷ ks)) x ≡ f j (fold_jobs f (js ++ reverse ks) x)
-fold_more f js ks j x =
+first_folded_last f js ks j x =
     ap (λ l. fold_jobs f l x) (reverse_more js ks j) ∙ fold_push f (js ++ reverse ks) j x
 
 -- no jobs behind others change nothing
@@ -87,7 +87,7 @@ pub entries_text : (n : ℕ) (js : List Job) (ps : List (List ℕ × Tree)) (res
     ≡ entries_on n (entries_of ps) (jobs_on js rest)
 entries_text n js [] rest = fold_none job_on js rest
 entries_text n js (p ∷ ps) rest =
-    fold_more job_on js (entry_jobs n ps) (entry_job n p.0 p.1) rest
+    first_folded_last job_on js (entry_jobs n ps) (entry_job n p.0 p.1) rest
     ∙ ap (job_on (entry_job n p.0 p.1)) (entries_text n js ps rest)
 
 pub entries_cause : (n : ℕ) (js : List Job) (ps : List (List ℕ × Tree)) (later : Option Cause)
@@ -95,7 +95,7 @@ pub entries_cause : (n : ℕ) (js : List Job) (ps : List (List ℕ × Tree)) (la
     ≡ causes_in_else (entries_of ps) (jobs_cause js later)
 entries_cause n js [] later = fold_none job_cause js later
 entries_cause n js (p ∷ ps) later =
-    fold_more job_cause js (entry_jobs n ps) (entry_job n p.0 p.1) later
+    first_folded_last job_cause js (entry_jobs n ps) (entry_job n p.0 p.1) later
     ∙ ap (job_cause (entry_job n p.0 p.1)) (entries_cause n js ps later)
 
 -- where the jobs of entries are held behind others, so are the others, and what is in the entries
@@ -113,7 +113,7 @@ pub entries_turns : (n : ℕ) (js : List Job) (ps : List (List ℕ × Tree))
     ≡ jobs_turns js + 2 * entries_count (entries_of ps)
 entries_turns n js [] = fold_none add_turns js 0 ∙ omega arith
 entries_turns n js (p ∷ ps) =
-    fold_more add_turns js (entry_jobs n ps) (entry_job n p.0 p.1) 0
+    first_folded_last add_turns js (entry_jobs n ps) (entry_job n p.0 p.1) 0
     ∙ omega (arith, entries_turns n js ps)
 
 -- the members of an array
@@ -121,7 +121,7 @@ members_text : (n : ℕ) (js : List Job) (ts : List Tree) (rest : List ℕ)
     → jobs_on (js ++ reverse (member_jobs n ts)) rest ≡ trees_on n (trees_of ts) (jobs_on js rest)
 members_text n js [] rest = fold_none job_on js rest
 members_text n js (t ∷ ts) rest =
-    fold_more job_on js (member_jobs n ts) (member_job n t) rest
+    first_folded_last job_on js (member_jobs n ts) (member_job n t) rest
     ∙ ap (job_on (member_job n t)) (members_text n js ts rest)
 
 members_cause : (n : ℕ) (js : List Job) (ts : List Tree) (later : Option Cause)
@@ -129,7 +129,7 @@ members_cause : (n : ℕ) (js : List Job) (ts : List Tree) (later : Option Cause
     ≡ causes_else (trees_of ts) (jobs_cause js later)
 members_cause n js [] later = fold_none job_cause js later
 members_cause n js (t ∷ ts) later =
-    fold_more job_cause js (member_jobs n ts) (member_job n t) later
+    first_folded_last job_cause js (member_jobs n ts) (member_job n t) later
     ∙ ap (job_cause (member_job n t)) (members_cause n js ts later)
 
 -- where the jobs of members are held behind others, so are the others, and what is in the members
@@ -146,7 +146,7 @@ pub members_turns : (n : ℕ) (js : List Job) (ts : List Tree)
     → jobs_turns (js ++ reverse (member_jobs n ts)) ≡ jobs_turns js + 2 * trees_count (trees_of ts)
 members_turns n js [] = fold_none add_turns js 0 ∙ omega arith
 members_turns n js (t ∷ ts) =
-    fold_more add_turns js (member_jobs n ts) (member_job n t) 0
+    first_folded_last add_turns js (member_jobs n ts) (member_job n t) 0
     ∙ omega (arith, members_turns n js ts)
 
 -- a resource that leaves nothing to be done
@@ -241,20 +241,22 @@ pub held_both : (js : List Job) (j : Job) → AreHeldJobs js × IsHeldJob j
 held_both [] j h = (h.1, tt)
 held_both (i ∷ js) j h = ((h.0).0, held_both js j ((h.0).1, h.1))
 
--- all jobs in their order
-pub begun : (old : String Global) (js : List Job) (ps : List (List ℕ × Tree))
+-- all jobs in their order: nothing is done yet
+pub under_way_at_first : (old : String Global) (js : List Job) (ps : List (List ℕ × Tree))
     → js ≡ reverse (entry_jobs 1 ps) → IsUnderWay old old js (entries_of ps)
-begun old js ps e = record {
+under_way_at_first old js ps e = record {
   text = λ rest. ap (λ l. string_bytes old ++ jobs_on l rest) e
       ∙ ap (λ l. string_bytes old ++ l) (entries_text 1 [] ps rest);
   causes = ap (λ l. jobs_cause l None) e ∙ entries_cause 1 [] ps None;
   holds = λ h. (entries_held 1 [] ps (subst AreHeldJobs e h)).1;
 }
 
-pub going : (old now new : String Global) (js ks ls : List Job) (j : Job) (es : Entries)
+-- where a job is done, what is under way stays so
+pub under_way_after_job : (old now new : String Global) (js ks ls : List Job) (j : Job)
+    (es : Entries)
     → ls ≡ js ++ j ∷ [] → IsUnderWay old now ls es → DoesJob now new js ks j
     → IsUnderWay old new ks es
-going old now new js ks ls j es e u d = record {
+under_way_after_job old now new js ks ls j es e u d = record {
   text = λ rest. d.text rest
       ∙ ap (λ l. string_bytes now ++ l) (sym (fold_push job_on js j rest)
       ∙ ap (λ l. jobs_on l rest) (sym e)) ∙ u.text rest;

@@ -6,11 +6,11 @@ mod cause;
 mod error;
 pub mod laws;
 mod path;
-mod pieces;
 mod place;
 mod print;
 mod step;
 mod task;
+mod tokens;
 
 pub use cause::Cause;
 pub use error::PrintError;
@@ -19,7 +19,7 @@ pub use print::print_text;
 
 // What the printer of ICU's form takes from this one.
 pub use path::{CauseTests, path_in};
-pub use pieces::{has_quote, push_end, push_line, push_quoted, push_root_type};
 pub use place::Place;
 pub use step::{deeper, push_bytes, push_entries, push_integer, push_members, push_vector};
 pub use task::Task;
+pub use tokens::{has_quote, push_end, push_line, push_quoted, push_root_type};

@@ -9,7 +9,7 @@ ghost use Rattle.resb_print.specs.Paths.{entry_path_else, steps_in, path_found};
 ghost use Rattle.resb_print.specs.Inner.Looks.{look_of, looks_in, entry_looks, EntersTree};
 ghost use Rattle.resb_print.specs.Inner.Looks.{LooksOnce};
 
-use crate::pieces::has_quote;
+use crate::tokens::has_quote;
 use resb_tree::{Key, Resource, ResourceBundle, Table};
 use std::alloc::{AllocError, Global};
 

@@ -1,5 +1,5 @@
 //! Prints a bundle as a text: its name, its root's type and the lines of its entries.
-//! What one line is stands in `step`, what it is made of in `pieces`.
+//! What one line is stands in `step`, what it is made of in `tokens`.
 ghost use Rattle.std.specs.Prelude.{◌≡◌, ◌≤◌, ◌⊎◌, ℕ, List, Bool, length};
 ghost use Rattle.std.specs.Prelude.{IfOk, IfErr, OnOk, None};
 ghost use Rattle.std.specs.String.{string_bytes};
@@ -14,8 +14,8 @@ ghost use Rattle.resb_print.specs.Inner.Jobs.{ArePrinted, SaysCause};
 
 use crate::cause::Cause;
 use crate::error::PrintError;
-use crate::pieces::{has_quote, push_name, push_root_type};
 use crate::step::{push_entries, step};
+use crate::tokens::{has_quote, push_name, push_root_type};
 use resb_tree::{Resource, ResourceBundle, Table};
 use std::alloc::Global;
 

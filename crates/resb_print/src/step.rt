@@ -16,11 +16,11 @@ ghost use Rattle.resb_print.specs.Inner.Jobs.{Appends, DoesJob, DoesTree, SaysFi
 
 use crate::cause::Cause;
 use crate::error::PrintError;
-use crate::pieces::{
-    has_quote, push_end, push_line, push_name, push_number, push_numbers, push_quoted,
-};
 use crate::place::Place;
 use crate::task::Task;
+use crate::tokens::{
+    has_quote, push_end, push_line, push_name, push_number, push_numbers, push_quoted,
+};
 use resb_tree::{Resource, Table};
 use std::alloc::{AllocError, Global};
 

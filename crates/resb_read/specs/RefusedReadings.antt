@@ -103,7 +103,7 @@ module _ (counts : Place → ℕ → Type 0) (refuses : Place → ℕ → ℕ �
   RefusesEach places left left' e = IsWantOfMemory e ⊎ RefusesOne places left left' e
 
   -- there are members, one is paid for the sequence, and one of them is refused
-  pub record RefusesMember (p : Place) (left left' : ℕ) (e : ReadingError) : Type 0 where
+  pub record RefusesInSeq (p : Place) (left left' : ℕ) (e : ReadingError) : Type 0 where
     pub places : List Place
     pub inside : ℕ
     pub are : members_at p ≡ Some places
@@ -114,7 +114,7 @@ module _ (counts : Place → ℕ → Type 0) (refuses : Place → ℕ → ℕ �
   abbrev pub RefusesSeq : Place → ℕ → ℕ → ReadingError → Type 0
   RefusesSeq p left left' e =
       ((members_at p ≡ None ⊎ left ≡ 0)
-      × RefusesMembers p left left' e) ⊎ RefusesMember p left left' e
+      × RefusesMembers p left left' e) ⊎ RefusesInSeq p left left' e
 
 module _ (ck : Place → ℕ → Type 0) (fk : Place → ℕ → ℕ → ReadingError → Type 0)
     (cv : Place → ℕ → Type 0) (fv : Place → ℕ → ℕ → ReadingError → Type 0) where
@@ -149,7 +149,7 @@ module _ (ck : Place → ℕ → Type 0) (fk : Place → ℕ → ℕ → Reading
   RefusesEachEntry places left left' e = IsWantOfMemory e ⊎ RefusesOneEntry places left left' e
 
   -- there are entries, one is paid for the table, and one of them is refused
-  pub record RefusesEntry (p : Place) (left left' : ℕ) (e : ReadingError) : Type 0 where
+  pub record RefusesInMap (p : Place) (left left' : ℕ) (e : ReadingError) : Type 0 where
     pub places : List (Place × Place)
     pub inside : ℕ
     pub are : entries_at p ≡ Some places
@@ -160,4 +160,4 @@ module _ (ck : Place → ℕ → Type 0) (fk : Place → ℕ → ℕ → Reading
   abbrev pub RefusesMap : Place → ℕ → ℕ → ReadingError → Type 0
   RefusesMap p left left' e =
       ((entries_at p ≡ None ⊎ left ≡ 0)
-      × RefusesEntries p left left' e) ⊎ RefusesEntry p left left' e
+      × RefusesEntries p left left' e) ⊎ RefusesInMap p left left' e

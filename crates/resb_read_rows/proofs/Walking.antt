@@ -16,20 +16,20 @@ same_pair : {A B : Type 0} (p : A × B) (x : A) (y : B) → x ≡ p.0 → y ≡ 
 same_pair p x y a b = rw (a, b) refl
 
 -- the first of the entries is stepped over
-pub entered : (rest : List Entry) (new : EntryAccess) (k v : Cursor)
+pub first_is_entered : (rest : List Entry) (new : EntryAccess) (k v : Cursor)
     → StepsOver HandsOnBoth RefusesNone rest 0 new 0 (Ok (Some (k, v)))
     → (rest ≡ (place_of k, place_of v) ∷ new.rest) × (new.failed ≡ None)
-entered [] new k v h = absurd h
-entered (p ∷ ps) new k v (e, at) =
+first_is_entered [] new k v h = absurd h
+first_is_entered (p ∷ ps) new k v (e, at) =
     let later : ps ≡ new.rest = ap (λ s. s.rest) (sym e) in
     let same = same_pair p (place_of k) (place_of v) at.0 at.1 in
     (ap (λ q. q ∷ ps) same ∙ ap (λ r. (place_of k, place_of v) ∷ r) later, ap (λ s. s.failed) e)
 
-pub entered_after : (old new : EntryAccess) (k v : Cursor) → old.failed ≡ None
+pub first_entered_after : (old new : EntryAccess) (k v : Cursor) → old.failed ≡ None
     → EntersTo old new (Ok (Some (k, v)))
     → (old.rest ≡ (place_of k, place_of v) ∷ new.rest) × (new.failed ≡ None)
-entered_after old new k v none h =
-    entered old.rest new k v
+first_entered_after old new k v none h =
+    first_is_entered old.rest new k v
     (subst (λ f. StepsAfter HandsOnBoth RefusesNone f old 0 new 0 (Ok (Some (k, v)))) none h)
 
 module _ (ci cv : Place → ℕ → Type 0) (p : Place) (left left1 : ℕ) (paid : left1 + 1 ≡ left)

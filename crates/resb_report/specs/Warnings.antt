@@ -15,8 +15,8 @@ use Rattle.resb_report.specs.declared.warning.Warning.{Warning}
 use Rattle.resb_grammar.specs.Ascii.{quote}
 
 -- a warning at a place
-abbrev pub warning : Reason → ℕ → Warning
-warning r n = record { place = n; reason = r }
+abbrev pub warning_at : Reason → ℕ → Warning
+warning_at r n = record { place = n; reason = r }
 
 -- a backslash stands between the last quote before a place and that place
 abbrev pub has_backslash : List ℕ → ℕ → Bool
@@ -38,7 +38,7 @@ is_first_backslash text n =
 -- the warning of a first backslash
 abbrev pub of_backslash : List ℕ → ℕ → List Warning
 of_backslash text n =
-    if is_first_backslash text n then warning reason.Backslash n ∷ [] else []
+    if is_first_backslash text n then warning_at reason.Backslash n ∷ [] else []
 
 -- the place of the first of these keys that has these bytes
 abbrev pub first_place : List ℕ → List PlacedText → Option ℕ
@@ -49,7 +49,7 @@ first_place bytes (k ∷ ks) =
 -- the warning of a key, where an equal one stands before it at this place
 abbrev pub of_key : ℕ → Option ℕ → List Warning
 of_key n None = []
-of_key n (Some first) = warning (reason.RepeatedKey first) n ∷ []
+of_key n (Some first) = warning_at (reason.RepeatedKey first) n ∷ []
 
 -- the warnings of keys, in order, behind these that stand before them
 abbrev pub of_keys : List PlacedText → List PlacedText → List Warning
@@ -69,7 +69,7 @@ of_group g = if g.is_array then [] else of_some_keys (pair_keys g.items)
 -- the warnings of a piece: of a string right behind another one, and of a group at its `}`
 abbrev pub of_piece : TextPiece → Nesting → List Warning
 of_piece (a_string s) g =
-    if is_string_piece g.last then warning reason.StringsInRow s.place ∷ [] else []
+    if is_string_piece g.last then warning_at reason.StringsInRow s.place ∷ [] else []
 of_piece closing g = of_group g.inner
 of_piece _ g = []
 

@@ -1,5 +1,5 @@
 //! The groups of a text that are open while warnings are looked for, and their keys.
-//! Which bytes are strings and braces is found in `pieces`.
+//! Which bytes are strings and braces is found in `text_pieces`.
 ghost use Rattle.std.specs.Prelude.{◌≡◌, ◌++◌, OnOk, [], map, codes, nat_eq};
 ghost use Rattle.std.specs.Cmp.Lexicographic.{pointwise};
 ghost use Rattle.resb_report.specs.Groups as spec;
@@ -10,7 +10,7 @@ ghost use Rattle.resb_report.specs.Inner.Looks.{placed_text_of, text_piece_of, l
 ghost use Rattle.resb_report.specs.Inner.Looks.{level_of};
 ghost use Rattle.resb_report.specs.Inner.Looks.{ShowsNesting, IsOpened, IsClosed};
 
-use crate::pieces::{Piece, StringAt};
+use crate::text_pieces::{Piece, StringAt};
 use crate::warning::{Reason, Warning};
 use indexmap::IndexMap;
 use std::alloc::{AllocError, Global};

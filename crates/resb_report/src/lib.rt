@@ -6,7 +6,7 @@ mod braces;
 mod excerpt;
 mod groups;
 mod location;
-mod pieces;
+mod text_pieces;
 mod warning;
 
 pub use braces::{innermost_icu_open, innermost_open};

@@ -10,7 +10,7 @@ ghost use Rattle.resb_report.specs.Warnings.{warned, of_backslash, of_end};
 ghost use Rattle.resb_report.specs.Inner.Looks.{text_piece_of, Passed, ShowsNesting, HasScanned};
 
 use crate::groups::Groups;
-use crate::pieces::{Piece, Pieces};
+use crate::text_pieces::{Piece, Pieces};
 use std::alloc::{AllocError, Global};
 
 /// What another reader takes otherwise. Places are in bytes from the text's start.

@@ -8,7 +8,7 @@ use Rattle.std.proofs.Common.{length-drop, length-append, ◌++◌, ◌*◌, ◌
 use Rattle.std.proofs.Math.ListN.{get_or-append}
 use Rattle.std.proofs.Math.Seq.{get_or-append_seam}
 use Rattle.std.specs.Char.Utf16.{is_high_surrogate, is_low_surrogate}
-use Rattle.resb_shared.specs.Links.{AreLinked, AreCounted, break_at, breaks, IsLinkedText}
+use Rattle.resb_shared.specs.Links.{AreLinked, AreCounted, break_at, break_count, IsLinkedText}
 use Rattle.resb_shared.specs.Links.{IsWellFormed}
 use Rattle.resb_shared.proofs.Surrogates.{low_is_not_high, plain_first, pair_first, empty_is_paired}
 use Rattle.resb_shared.proofs.Surrogates.{high_alone, low_first, high_last}
@@ -189,8 +189,8 @@ part_is_linked us from count inside some w =
 
 -- breaks of one part and of the next
 pub breaks_add : (us : List ℕ) (i m n : ℕ)
-    → breaks us i (m + n) ≡ breaks us i m + breaks us (i + m) n
-unfolding breaks
+    → break_count us i (m + n) ≡ break_count us i m + break_count us (i + m) n
+unfolding break_count
 breaks_add us i m zero = let e : m + 0 ≡ m = omega arith in rw e (omega arith)
 breaks_add us i m (suc n) =
     let e : m + suc n ≡ suc (m + n) = omega arith in
@@ -238,19 +238,19 @@ joins us k e =
     cases false false h l = h ∙ sym l
 
 -- linked units have no break
-pub linked_none : (us : List ℕ) (i n : ℕ) → AreLinked us i (i + n + 1) → breaks us i n ≡ 0
-unfolding breaks
+pub linked_none : (us : List ℕ) (i n : ℕ) → AreLinked us i (i + n + 1) → break_count us i n ≡ 0
+unfolding break_count
 linked_none us i zero h = refl
 linked_none us i (suc n) h =
     let e = linked_none us i n (λ k l m. h k l (omega (arith, m))) in
     let f = no_break us (i + n) (h (i + n) (omega arith) (omega arith)) in
     omega (arith, e, f)
 
-pub none_linked : (us : List ℕ) (i n : ℕ) → breaks us i n ≡ 0 → AreLinked us i (i + n + 1)
-unfolding breaks
+pub none_linked : (us : List ℕ) (i n : ℕ) → break_count us i n ≡ 0 → AreLinked us i (i + n + 1)
+unfolding break_count
 none_linked us i zero e = λ k l m. absurd (omega (arith, l, m))
 none_linked us i (suc n) e =
-    let f : breaks us i n ≡ 0 = omega (arith, e) in
+    let f : break_count us i n ≡ 0 = omega (arith, e) in
     let g : break_at us (i + n) ≡ 0 = omega (arith, e) in
     λ k l m. cases (none_linked us i n f) g k l m (cases_lt k (i + n))
   where
@@ -266,7 +266,7 @@ none_linked us i (suc n) e =
 pub text_by_breaks : (us : List ℕ) (from count : ℕ) → from + count ≤ length us → 0 < count
     → is_low_surrogate (get_or us from 0) ≡ false
     → is_high_surrogate (get_or us (from + count - 1) 0) ≡ false
-    → breaks us from (from + count - 1 - from) ≡ 0 → IsWellFormed (take count (drop from us))
+    → break_count us from (from + count - 1 - from) ≡ 0 → IsWellFormed (take count (drop from us))
 text_by_breaks us from count inside some low high none =
     let e : from + (from + count - 1 - from) + 1 ≡ from + count = omega (arith, some) in
     let h = none_linked us from (from + count - 1 - from) none in
@@ -277,7 +277,7 @@ pub breaks_of_text : (us : List ℕ) (from count : ℕ) → from + count ≤ len
     → IsWellFormed (take count (drop from us))
     → (is_low_surrogate (get_or us from 0) ≡ false)
     × (is_high_surrogate (get_or us (from + count - 1) 0) ≡ false)
-    × (breaks us from (from + count - 1 - from) ≡ 0)
+    × (break_count us from (from + count - 1 - from) ≡ 0)
 breaks_of_text us from count inside some w =
     let h = part_is_linked us from count inside some w in
     let e : from + count ≡ from + (from + count - 1 - from) + 1 = omega (arith, some) in (
@@ -288,7 +288,7 @@ breaks_of_text us from count inside some w =
 
 -- where no break stands between two steps, by the counts there
 pub middle_none : (us : List ℕ) (a b : ℕ) → a ≤ b
-    → breaks us 0 b ≡ breaks us 0 a + breaks us a (b - a)
+    → break_count us 0 b ≡ break_count us 0 a + break_count us a (b - a)
 middle_none us a b h =
     let e : a + (b - a) ≡ b = omega (arith, h) in
     let f = breaks_add us 0 a (b - a) in
@@ -297,8 +297,8 @@ middle_none us a b h =
 
 -- three parts of a part
 pub three_parts : (us : List ℕ) (from a b end : ℕ) → from ≤ a → a ≤ b → b ≤ end
-    → breaks us from (end - from)
-    ≡ breaks us from (a - from) + breaks us a (b - a) + breaks us b (end - b)
+    → break_count us from (end - from)
+    ≡ break_count us from (a - from) + break_count us a (b - a) + break_count us b (end - b)
 three_parts us from a b end f g h =
     let e : (a - from) + (end - a) ≡ end - from = omega (arith, f, g, h) in
     let i : (b - a) + (end - b) ≡ end - a = omega (arith, g, h) in
@@ -309,20 +309,21 @@ three_parts us from a b end f g h =
     omega (arith, x, y)
 
 pub breaks_one_more : (us : List ℕ) (i n : ℕ)
-    → breaks us i (n + 1) ≡ breaks us i n + break_at us (i + n)
-unfolding breaks
+    → break_count us i (n + 1) ≡ break_count us i n + break_at us (i + n)
+unfolding break_count
 breaks_one_more us i n = let e : n + 1 ≡ suc n = omega arith in rw e refl
 
-pub no_breaks_yet : (us : List ℕ) (i : ℕ) → 0 ≡ breaks us i 0
-unfolding breaks
+pub no_breaks_yet : (us : List ℕ) (i : ℕ) → 0 ≡ break_count us i 0
+unfolding break_count
 no_breaks_yet us i = refl
 
 -- one more step
 pub counted_push : (us ns : List ℕ) (total : ℕ) → AreCounted us ns
-    → total ≡ breaks us 0 (64 * length ns) → AreCounted us (ns ++ total ∷ [])
+    → total ≡ break_count us 0 (64 * length ns) → AreCounted us (ns ++ total ∷ [])
 counted_push us ns total h e k l = cases (cases_lt k (length ns))
   where
-    cases : (k < length ns) ⊎ (length ns ≤ k) → get_or (ns ++ total ∷ []) k 0 ≡ breaks us 0 (64 * k)
+    cases : (k < length ns) ⊎ (length ns ≤ k)
+        → get_or (ns ++ total ∷ []) k 0 ≡ break_count us 0 (64 * k)
     cases (inl a) = get_or-append ns (total ∷ []) 0 k a ∙ h k a
     cases (inr a) =
         let s : length ns ≡ k = omega (arith, l, length-append ns (total ∷ [])) in
@@ -332,13 +333,13 @@ counted_push us ns total h e k l = cases (cases_lt k (length ns))
 pub steps_apart : (us ns : List ℕ) (from end first last : ℕ) → AreCounted us ns
     → first < length ns → last < length ns → from ≤ 64 * first → first ≤ last → 64 * last ≤ end
     → (m : ℕ) × (get_or ns last 0 ≡ get_or ns first 0 + m)
-    × (breaks us from (end - from)
-    ≡ breaks us from (64 * first - from) + m + breaks us (64 * last) (end - 64 * last))
+    × (break_count us from (end - from)
+    ≡ break_count us from (64 * first - from) + m + break_count us (64 * last) (end - 64 * last))
 steps_apart us ns from end first last h f l a b d =
     let le : 64 * first ≤ 64 * last = omega (arith, b) in (
-      breaks us (64 * first) (64 * last - 64 * first),
+      break_count us (64 * first) (64 * last - 64 * first),
       h last l ∙ middle_none us (64 * first) (64 * last) le
-          ∙ ap (λ n. n + breaks us (64 * first) (64 * last - 64 * first)) (sym (h first f)),
+          ∙ ap (λ n. n + break_count us (64 * first) (64 * last - 64 * first)) (sym (h first f)),
       three_parts us from (64 * first) (64 * last) end a le d,
     )
 

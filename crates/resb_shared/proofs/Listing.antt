@@ -17,19 +17,19 @@ use Rattle.resb_shared.specs.Inner.Listed.{ListsUpTo}
 use Rattle.resb_shared.proofs.TailLaws.{key_from_later, is_its_utf8, tail_stands}
 
 -- what stands before the next zero byte
-pub record Next (keys rest : List ℕ) (start end : ℕ) : Type 0 where
+pub record NextEnd (keys rest : List ℕ) (start end : ℕ) : Type 0 where
   pub back : rest ≡ drop start keys
   pub zero : Some end ≡ position (λ b. nat_eq b 0) rest
   pub many : length (take end rest) ≡ end
 
-pub next : (keys rest : List ℕ) (start end : ℕ) → rest ≡ drop start keys
-    → Some end ≡ position (λ b. nat_eq b 0) rest → Next keys rest start end
-next keys rest start end r p =
+pub next_end_found : (keys rest : List ℕ) (start end : ℕ) → rest ≡ drop start keys
+    → Some end ≡ position (λ b. nat_eq b 0) rest → NextEnd keys rest start end
+next_end_found keys rest start end r p =
     let is = position-Some (λ b. nat_eq b 0) rest end 0 (sym p) in
     record { back = r; zero = p; many = length-take-le end rest (omega (arith, is.0)) }
 
 -- a key that begins before the next zero byte is an end of what stands before it
-inside : (keys rest : List ℕ) (start end at : ℕ) (s : List ℕ) → Next keys rest start end
+inside : (keys rest : List ℕ) (start end at : ℕ) (s : List ℕ) → NextEnd keys rest start end
     → start ≤ at → at < start + (end + 1) → key_at keys at ≡ Some s
     → (s ≡ drop (at - start) (take end rest)) × IsUtf8 s
 unfolding key_at
@@ -48,7 +48,7 @@ inside keys rest start end at s n l m e =
 
 -- a short key is not listed
 pub short_is_skipped : (keys rest : List ℕ) (ts : List Tail) (start end : ℕ)
-    → Next keys rest start end → end ≤ 64 → ListsUpTo keys ts start
+    → NextEnd keys rest start end → end ≤ 64 → ListsUpTo keys ts start
     → ListsUpTo keys ts (start + (end + 1))
 short_is_skipped keys rest ts start end n short (each, apart, before, listed) =
     (each, apart, λ i l. omega (arith, before i l), more)
@@ -78,7 +78,7 @@ long_end key other text before e l t u h =
 
 -- a key that begins before the next zero byte begins in that end
 in_end : (keys rest text : List ℕ) (start end before at : ℕ) (s : List ℕ)
-    → Next keys rest start end → LongEnd (take end rest) text before → start ≤ at
+    → NextEnd keys rest start end → LongEnd (take end rest) text before → start ≤ at
     → at < start + (end + 1) → key_at keys at ≡ Some s
     → (before ≤ at - start) × (length s ≤ length text)
 in_end keys rest text start end before at s n t l m e = cases (cases_lt (at - start) before)
@@ -95,7 +95,7 @@ in_end keys rest text start end before at s n t l m e = cases (cases_lt (at - st
         (a, omega (arith, many, all, a))
 
 pub short_end_is_skipped : (keys rest text : List ℕ) (ts : List Tail) (start end before : ℕ)
-    → Next keys rest start end → LongEnd (take end rest) text before → length text ≤ 64
+    → NextEnd keys rest start end → LongEnd (take end rest) text before → length text ≤ 64
     → ListsUpTo keys ts start → ListsUpTo keys ts (start + (end + 1))
 short_end_is_skipped keys rest text ts start end before n t short (each, apart, ended, listed) =
     (each, apart, λ i l. omega (arith, ended i l), more)
@@ -132,7 +132,7 @@ end_new [] t = refl
 end_new (u ∷ ts) t = end_new ts t
 
 pub long_end_is_listed : (keys rest : List ℕ) (ts : List Tail) (t : Tail) (start end before : ℕ)
-    → Next keys rest start end → LongEnd (take end rest) t.text.now before
+    → NextEnd keys rest start end → LongEnd (take end rest) t.text.now before
     → t.from ≡ start + before → ListsUpTo keys ts start
     → ListsUpTo keys (ts ++ t ∷ []) (start + (end + 1))
 long_end_is_listed keys rest ts t start end before n is from (each, apart, ended, listed) =

@@ -1,7 +1,7 @@
 -- Surrogates by neighbours.
 --     AreLinked us i j        of the units from i up to j each two neighbours are a pair, or the
 --                             first begins none and the second ends none
---     breaks us i n           how many of the n units from i on don't so join the one behind them
+--     break_count us i n      how many of the n units from i on don't so join the one behind them
 --     AreCounted us ns        ns has how many breaks stand before each 64th unit
 --     IsWellFormed us         each surrogate has its partner
 use Rattle.std.specs.Prelude.{◌≡◌, ℕ, zero, suc, ◌+◌, ◌-◌, ◌*◌, ◌<◌, ◌≤◌, List, length, slice_index}
@@ -25,14 +25,14 @@ abbrev pub break_at : List ℕ → ℕ → ℕ
 break_at us k = break_of (slice_index us k) (slice_index us (k + 1))
 
 -- how many of the n units from i on break from the one behind them
-unfoldable pub breaks : List ℕ → ℕ → ℕ → ℕ
-breaks us i zero = 0
-breaks us i (suc n) = breaks us i n + break_at us (i + n)
+unfoldable pub break_count : List ℕ → ℕ → ℕ → ℕ
+break_count us i zero = 0
+break_count us i (suc n) = break_count us i n + break_at us (i + n)
 
 -- each number of the list is that of the breaks before its 64 times as manieth unit
 abbrev pub AreCounted : List ℕ → List ℕ → Type 0
 AreCounted us ns =
-    (k : ℕ) → k < length ns → slice_index ns k ≡ breaks us 0 (64 * k)
+    (k : ℕ) → k < length ns → slice_index ns k ≡ break_count us 0 (64 * k)
 
 -- no surrogate lacks its partner
 abbrev pub IsWellFormed : List ℕ → Type 0

@@ -4,7 +4,7 @@ ghost use Rattle.std.specs.Prelude.{◌≡◌, ◌+◌, ◌-◌, ◌*◌, ◌/�
 ghost use Rattle.std.specs.Prelude.{IfOk, IsTrue, ◌↔◌};
 ghost use Rattle.std.specs.Char.Utf16.{is_high_surrogate, is_low_surrogate};
 ghost use Rattle.resb_format.specs.Bytes.{units_of};
-ghost use Rattle.resb_shared.specs.Links.{break_of, breaks, AreCounted, IsWellFormed};
+ghost use Rattle.resb_shared.specs.Links.{break_of, break_count, AreCounted, IsWellFormed};
 
 use resb_format::bytes::unit_at;
 use resb_tree::NoMemory;
@@ -47,7 +47,7 @@ fn break_between(unit: u16, next: u16) -> usize
 /// How many breaks stand between so many units from this one on and the units behind them.
 fn breaks_in(block: &[u8], from: usize, count: usize) -> usize
     requires { from + count < length block.now / 2 }
-    ensures value { result ≡ breaks (units_of block.now) from count }
+    ensures value { result ≡ break_count (units_of block.now) from count }
     ensures few { result ≤ count }
 {
     let mut found = 0;
@@ -62,7 +62,7 @@ fn breaks_in(block: &[u8], from: usize, count: usize) -> usize
 impl<'a> Breaks<'a> {
     ghost use Rattle.std.specs.Prelude.{◌≡◌, ◌+◌, ◌/◌, ◌≤◌, length, take, drop, IfOk, IsTrue, ◌↔◌};
     ghost use Rattle.resb_format.specs.Bytes.{units_of};
-    ghost use Rattle.resb_shared.specs.Links.{breaks, IsWellFormed};
+    ghost use Rattle.resb_shared.specs.Links.{break_count, IsWellFormed};
     ghost use Rattle.resb_shared.specs.Blocks.{breaks_block};
 
     /// The breaks of a block.
@@ -86,7 +86,7 @@ impl<'a> Breaks<'a> {
         requires order { from ≤ end }
         requires inside { end < length (breaks_block self.now) / 2 }
         ensures { IsTrue result
-            ↔ (breaks (units_of (breaks_block self.now)) from (end - from) ≡ 0) }
+            ↔ (break_count (units_of (breaks_block self.now)) from (end - from) ≡ 0) }
     {
         let first = from / STEP + 1;
         let last = end / STEP;

@@ -3,7 +3,6 @@ use Rattle.std.proofs.Common.{◌≡◌, ℕ, ◌+◌, ◌-◌, List, get_or, ap
 use Rattle.std.proofs.Common.{length-drop, true, ◌<◌, ◌≤◌, false, refl}
 use Rattle.std.proofs.lemmas.List.{get_or-drop, take_all}
 use Rattle.std.specs.Prelude.{Bool}
-use Rattle.std.specs.Prelude.{if◌then◌else◌}
 use Rattle.std.proofs.lemmas.Bool.{false≢true}
 use Rattle.std.proofs.Common.{sym, Option, Some, None, eqb, eqb-true}
 use Rattle.std.specs.Option.{option_eq}
@@ -32,26 +31,6 @@ none_passes_before test text rest from n e never k le lt = no (test (get_or text
         let i : from + (k - from) ≡ k = omega arith in
         absurd (never (k - from) (omega arith)
         (ap test (at_rest text rest from (k - from) e ∙ ap (λ j. get_or text j 0) i) ∙ is))
-
--- of a place and the end, either is at least the place
-pub chosen_low : (b : Bool) (n at : ℕ) → at ≤ n → at ≤ (if b then n else at)
-chosen_low true n at l = l
-chosen_low false n at l = omega arith
-
--- and at most the end
-pub chosen_high : (b : Bool) (n at : ℕ) → at ≤ n → (if b then n else at) ≤ n
-chosen_high true n at l = omega arith
-chosen_high false n at l = l
-
--- where the end isn't chosen
-pub chosen_here : (b : Bool) (n at : ℕ) → (b ≡ true → ⊥) → (if b then n else at) ≡ at
-chosen_here true n at f = absurd (f refl)
-chosen_here false n at f = refl
-
--- where it is
-pub chosen_end : (b : Bool) (n at : ℕ) → b ≡ true → (if b then n else at) ≡ n
-chosen_end true n at e = refl
-chosen_end false n at e = absurd (false≢true e)
 
 -- an option that is this number
 pub some_is : (o : Option ℕ) (b : ℕ) → not (option_eq eqb o (Some b)) ≡ false → o ≡ Some b

@@ -1,7 +1,6 @@
 -- Words of private functions.
 pub mod Runs
 pub mod Ticked
-pub mod Reach
 pub mod Braces
 pub mod Leaf
 pub mod Shown

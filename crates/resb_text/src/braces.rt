@@ -3,7 +3,7 @@
 ghost use Rattle.std.specs.Prelude.{◌+◌, ◌*◌, ◌<◌, ◌≤◌, length};
 ghost use Rattle.std.specs.Prelude.{IfOk, IfErr};
 ghost use Rattle.std.specs.Prelude.{MatchResult};
-ghost use Rattle.resb_text.specs.Inner.Reach.{reach};
+ghost use Rattle.resb_grammar.specs.Inner.Reach.{reach};
 ghost use Rattle.resb_text.specs.Inner.Braces.{Opens, IsUnopened, Closes, IsUnclosed};
 
 use crate::error::TextParserError;
@@ -13,7 +13,7 @@ use crate::tokens::skip;
 use resb_grammar::Expected;
 
 /// The place after the `{` that must stand here and what may be skipped.
-#[tactic(auto, using(crate::proofs::ReachLemmas::reach_left))]
+#[tactic(auto, using(resb_grammar::proofs::ReachLemmas::reach_left))]
 pub(crate) fn left_brace(text: &str, ticks: &mut Ticks, at: usize) -> Result<usize, TextParserError>
     requires within { at ≤ length text.now }
     ensures ok { IfOk result (Opens text.now at) }
@@ -32,7 +32,7 @@ pub(crate) fn left_brace(text: &str, ticks: &mut Ticks, at: usize) -> Result<usi
 }
 
 /// The place after the `}` that must stand here and what may be skipped.
-#[tactic(auto, using(crate::proofs::ReachLemmas::reach_right))]
+#[tactic(auto, using(resb_grammar::proofs::ReachLemmas::reach_right))]
 pub(crate) fn right_brace(
     text: &str,
     ticks: &mut Ticks,

@@ -1,9 +1,6 @@
 -- What a reader makes of resources, one more at the end.
 use Rattle.std.proofs.Common.{ℕ, List, [], ◌∷◌, ◌++◌, ◌≡◌, true, refl, ap}
 use Rattle.std.proofs.Common.{◌∙◌, nat_cmp, BTreeMap}
-use Rattle.std.specs.declared.cmp.Ordering.{Ordering}
-use Rattle.std.specs.declared.cmp.Ordering.TheVariants.{Less, Equal, Greater}
-use Rattle.std.specs.Ordering.{match_ordering}
 use Rattle.std.proofs.lemmas.Bool.{and_parts, and_from}
 use Rattle.std.proofs.lemmas.List.{map_push}
 use Rattle.std.specs.BTreeMap.{insert_entry, IsFromIterResult}
@@ -11,8 +8,10 @@ use Rattle.std.specs.Cmp.Lexicographic.{slice_cmp}
 use Rattle.resb_tree.specs.Tree.{Tree, Entries, put, put_all, map_of, no_entries}
 use Rattle.resb_tree.specs.View.{tree_of, entries_view, pairs_view}
 use Rattle.resb_tree.specs.declared.resource.Resource.{Resource}
-use Rattle.resb_tree.proofs.AtOnce.{inserted, made, made_view}
+use Rattle.resb_tree.proofs.AtOnce.{made_view}
 use Rattle.resb_tree.proofs.ViewLemmas.{entries_view_insert}
+use Rattle.resb_tree.proofs.BorrowingLemmas.{insert_passes, made_passes}
+use Rattle.resb_tree.specs.Borrowing.{are_slice}
 use Rattle.resb_walk.specs.Borrows.{borrows_binaries, all_borrow, entries_borrow}
 
 put_all_snoc : (ps : List (List ℕ × Tree)) (es : Entries) (k : List ℕ) (t : Tree)
@@ -37,37 +36,6 @@ pub borrow_snoc : (rs : List Resource) (r : Resource) → all_borrow rs ≡ true
 borrow_snoc [] r h k = and_from _ _ k refl
 borrow_snoc (s ∷ rs) r h k =
     let (first, later) = and_parts _ _ h in and_from _ _ first (borrow_snoc rs r later k)
-
--- one more entry whose value copies nothing
-pub borrow_put : (es : List (List ℕ × Resource)) (k : List ℕ) (r : Resource)
-    → entries_borrow es ≡ true → borrows_binaries r ≡ true
-    → entries_borrow (insert_entry (slice_cmp nat_cmp) es k r) ≡ true
-borrow_put [] k r h b = and_from _ _ b refl
-borrow_put (e ∷ es) k r h b =
-    let (first, later) = and_parts _ _ h in
-    placed (slice_cmp nat_cmp k e.0) (borrow_put es k r later b) first later
-  where
-    placed : (o : Ordering) → entries_borrow (insert_entry (slice_cmp nat_cmp) es k r) ≡ true
-        → borrows_binaries e.1 ≡ true → entries_borrow es ≡ true
-        → entries_borrow (match_ordering o ((k, r) ∷ e ∷ es) ((e.0, r) ∷ es)
-        (e ∷ insert_entry (slice_cmp nat_cmp) es k r)) ≡ true
-    placed Less rest first later = and_from _ _ b (and_from _ _ first later)
-    placed Equal rest first later = and_from _ _ b later
-    placed Greater rest first later = and_from _ _ first rest
-
-inserted_borrow : (es ps : List (List ℕ × Resource)) → entries_borrow es ≡ true
-    → entries_borrow ps ≡ true → entries_borrow (inserted es ps) ≡ true
-inserted_borrow es [] h k = h
-inserted_borrow es (p ∷ ps) h k =
-    let (first, later) = and_parts _ _ k in
-    inserted_borrow (insert_entry (slice_cmp nat_cmp) es p.0 p.1) ps
-    (borrow_put es p.0 p.1 h first) later
-
--- a map that is made at once of entries whose values copy nothing
-pub made_borrow : (ps : List (List ℕ × Resource)) (m : BTreeMap (List ℕ) Resource)
-    → IsFromIterResult (slice_cmp nat_cmp) ps m → entries_borrow ps ≡ true
-    → entries_borrow m.entries ≡ true
-made_borrow ps m h k = ap entries_borrow (made ps m h) ∙ inserted_borrow [] ps refl k
 
 -- one more pair, whose value copies nothing
 pub borrow_entry : (es : List (List ℕ × Resource)) (k : List ℕ) (r : Resource)
@@ -96,7 +64,8 @@ pub map_made : (ps : List (List ℕ × Resource)) (m : BTreeMap (List ℕ) Resou
     → IsFromIterResult (slice_cmp nat_cmp) ps m
     → (pairs_view ps ≡ es) × (entries_borrow ps ≡ true)
     → (entries_view m.entries ≡ map_of es) × (entries_borrow m.entries ≡ true)
-map_made ps m es h (v, b) = (made_view ps m h ∙ ap map_of v, made_borrow ps m h b)
+map_made ps m es h (v, b) =
+    (made_view ps m h ∙ ap map_of v, made_passes (λ s. true) are_slice ps m h b)
 
 -- one more entry of a table
 pub put_made : (es : List (List ℕ × Resource)) (ps : List (List ℕ × Tree)) (k : List ℕ)
@@ -105,5 +74,7 @@ pub put_made : (es : List (List ℕ × Resource)) (ps : List (List ℕ × Tree))
     → (tree_of r ≡ t) × (borrows_binaries r ≡ true)
     → (entries_view (insert_entry (slice_cmp nat_cmp) es k r) ≡ map_of (ps ++ (k, t) ∷ []))
     × (entries_borrow (insert_entry (slice_cmp nat_cmp) es k r) ≡ true)
-put_made es ps k r t (v, b) (e, c) =
-    (put_snoc es ps k r v ∙ ap (λ t. map_of (ps ++ (k, t) ∷ [])) e, borrow_put es k r b c)
+put_made es ps k r t (v, b) (e, c) = (
+  put_snoc es ps k r v ∙ ap (λ t. map_of (ps ++ (k, t) ∷ [])) e,
+  insert_passes (λ s. true) are_slice es k r c b,
+)

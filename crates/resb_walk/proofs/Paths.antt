@@ -9,7 +9,7 @@ use Rattle.resb_format.specs.Denotes.{Den, DenMember, den_word, Reaches, Reaches
 use Rattle.resb_format.specs.Error.{Refusal}
 use Rattle.resb_format.specs.declared.error.ReadingError.{ReadingError}
 use Rattle.resb_format.proofs.Denoting.{same_list, same_entries, list_entries}
-use Rattle.resb_walk.specs.Inner.Counting.{no_list, no_table, IsOpenedAt, Awaits, Rests}
+use Rattle.resb_walk.specs.Inner.Counting.{no_list, no_table, IsOpenedAt, Awaits, AreLastMembers}
 use Rattle.resb_walk.specs.Inner.Counting.{HasLast, EnteredMember, LooksAt, LooksKey, TakesNext}
 use Rattle.resb_walk.specs.Inner.Members.{members_of, keyed_members, rest_length}
 use Rattle.resb_walk.specs.Meets.{Meets, Blames, meets_list, meets_entry}
@@ -89,7 +89,7 @@ module _ (p : Parts) where
 
   -- what is still to come of it, found anew
   pub open_again : (r r' : Rest) (w n k : ℕ) → k ≡ rest_length r → IsOpenedAt p r w n
-      → Rests p w k r' → IsOpenedAt p r' w n
+      → AreLastMembers p w k r' → IsOpenedAt p r' w n
   open_again (rest.List ms) (rest.List ns) w n k e h f =
       let same : f.0 ≡ h.done ++ members_of ms = same_list f.1 h.stands in
       let last : members_of ns ≡ members_of ms =
@@ -314,7 +314,7 @@ module _ (p : Parts) where
         )
 
     pub counting_closes : (c : Outer) (ds : List Outer) (j : Inner) (t : Tree) → cs ≡ ds ++ c ∷ []
-        → Den p i.word t (1 + round.inner) → j.word ≡ c.word → Rests p c.word c.left j.rest
+        → Den p i.word t (1 + round.inner) → j.word ≡ c.word → AreLastMembers p c.word c.left j.rest
         → Round root before ds j left
     counting_closes c ds j t e d at h =
         let paid : left + (round.outer + (1 + round.inner)) ≡ before = round.paid in

@@ -8,7 +8,7 @@ use Rattle.resb_format.specs.Content.{Member, word}
 use Rattle.resb_format.specs.Denotes.{Den, DenMember, Reaches, ReachesMember}
 use Rattle.resb_format.specs.Error.{IsWantOfMemory}
 use Rattle.resb_walk.specs.Inner.Frames.{Opened, Waits}
-use Rattle.resb_walk.specs.Inner.Rounds.{PutsOrOpens, Puts}
+use Rattle.resb_walk.specs.Inner.Rounds.{PutsOrOpens, PutsMember}
 use Rattle.resb_walk.specs.Refusals.{DenotesNothing, Refuses, IsFault}
 use Rattle.resb_walk.specs.declared.frame.Open.{Open}
 use Rattle.resb_walk.specs.declared.frame.Waiting.{Waiting}
@@ -39,7 +39,8 @@ module _ {L T : Type 0} (lists : L → List Tree → Type 0)
   -- a member that is put in is entered
   pub put_enters : (g : Waiting L T) (x : Member) (w n : ℕ) (fs : List (Waiting L T))
       (left left' : ℕ) (r : Result (Open L T) ReadingError) → left' + 1 ≡ left
-      → Puts lists tables p w (n + 1) r → PutsOrOpens lists tables p g x w n fs fs left left' r
+      → PutsMember lists tables p w (n + 1) r
+      → PutsOrOpens lists tables p g x w n fs fs left left' r
   put_enters g x w n fs left left' (Ok o) s h = (s, inl (refl, h))
   put_enters g x w n fs left left' (Err e) s h = (omega (arith, s), inl h)
 

@@ -7,7 +7,7 @@ use Rattle.resb_format.specs.Content.{Member, word, unit, Content, leaf, list, e
 use Rattle.resb_format.specs.Content.{content_at}
 use Rattle.resb_format.specs.Denotes.{DenMember, den_word, den_unit, den_leaf}
 use Rattle.resb_format.specs.Strings.{text_at}
-use Rattle.resb_walk.specs.Inner.MemberContent.{member_content, member_refusal}
+use Rattle.resb_walk.specs.Inner.MemberContent.{member_content, content_refusal}
 use Rattle.resb_walk.specs.Inner.Members.{content_of, leaf_tree}
 use Rattle.resb_walk.specs.Inner.Rounds.{Starts, ReadsMember}
 use Rattle.resb_walk.specs.Meets.{Meets, meets_text, meets_word}
@@ -64,7 +64,7 @@ module _ {X L T : Type 0} (is : X → Tree → Type 0) (lists : L → List Tree 
 
 -- the fault that is met where nothing stands
 pub member_meets : (p : Parts) (m : Member) → member_content p m ≡ None
-    → Meets p m (member_refusal p m)
+    → Meets p m (content_refusal p m)
 member_meets p (word w) e = meets_word e
 member_meets p (unit u) e = meets_text (no_text (text_at p.block u) e)
 

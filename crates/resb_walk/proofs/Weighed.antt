@@ -6,10 +6,10 @@ use Rattle.std.proofs.lemmas.List.Sums.{sum_by-cons, sum_by-append}
 use Rattle.resb_format.specs.Parts.{Parts}
 use Rattle.resb_format.specs.Content.{Member, list, entry_list}
 use Rattle.resb_format.proofs.Denoting.{same_list, same_entries, list_entries}
-use Rattle.resb_walk.specs.Inner.Counting.{Rests, HasLast, KeepsOuter}
+use Rattle.resb_walk.specs.Inner.Counting.{AreLastMembers, HasLast, KeepsOuter}
 use Rattle.resb_walk.specs.Inner.Members.{members_of, keyed_members, rest_length, member_of}
 use Rattle.resb_walk.specs.Inner.Weighing.{RestHolds, IsEndOf, ToCome, WaitingPieces, waits_none}
-use Rattle.resb_walk.specs.Inner.Weighing.{waits_more, Looked, Nexts, EnteredPieces, Weighing}
+use Rattle.resb_walk.specs.Inner.Weighing.{waits_more, Looked, TakenPieces, EnteredPieces, Weighing}
 use Rattle.resb_walk.specs.Pieces.{Piece, Holds, HoldsMember}
 use Rattle.resb_walk.specs.Sums.{AddsUp, resource_count_in, count_of}
 use Rattle.resb_walk.specs.declared.count.Inner.{Inner}
@@ -42,7 +42,7 @@ module _ (p : Parts) where
 
   -- what is still to come of it, found anew
   pub end_again : (r s : Rest) (w k : ℕ) (xs : List Piece) → k ≡ rest_length r → IsEndOf p r w
-      → RestHolds p r xs → Rests p w k s → IsEndOf p s w × RestHolds p s xs
+      → RestHolds p r xs → AreLastMembers p w k s → IsEndOf p s w × RestHolds p s xs
   end_again (rest.List ms) (rest.List ns) w k xs e h g f =
       let same : f.0 ≡ h.0 ++ members_of ms = same_list f.1 h.1 in
       let last : members_of ns ≡ members_of ms =
@@ -194,7 +194,7 @@ module _ (p : Parts) where
       pub one : 1 ≤ left
 
     pub weighing_takes : (m : Stood) (j : Inner) (t : Sums)
-        → Nexts p h.inner h.done (Some (m, j)) t → Took (member_of m) j t
+        → TakenPieces p h.inner h.done (Some (m, j)) t → Took (member_of m) j t
     weighing_takes m j t n =
         let ks = n.0 in
         let ys = n.1 in
@@ -249,7 +249,7 @@ module _ (p : Parts) where
         (subst (λ es. WaitingPieces p es h.outer) e h.waiting)
 
     pub weighing_again : (t : Sums) (c : Outer) (ds : List Outer) (r : Rest)
-        → Nexts p h.inner h.done None t → cs ≡ ds ++ c ∷ [] → Rests p c.word c.left r
+        → TakenPieces p h.inner h.done None t → cs ≡ ds ++ c ∷ [] → AreLastMembers p c.word c.left r
         → Weighing p root ds (record { word = c.word; rest = r }) t left
     weighing_again t c ds r n e again =
         let q = weighing_waits c ds e in
@@ -269,7 +269,7 @@ module _ (p : Parts) where
         }
 
     -- nothing is left
-    pub weighing_ends : (t : Sums) → Nexts p h.inner h.done None t → cs ≡ []
+    pub weighing_ends : (t : Sums) → TakenPieces p h.inner h.done None t → cs ≡ []
         → (xs : List Piece) × Holds p root xs × AddsUp t xs
     weighing_ends t n e =
         let none = waits_empty h.outer (subst (λ es. WaitingPieces p es h.outer) e h.waiting) in

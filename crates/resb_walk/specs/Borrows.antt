@@ -1,7 +1,7 @@
 -- Whether a resource that was read copies no bytes.
 --     Borrows r               each Binary in it is the borrowed variant, a slice of the input
 use Rattle.std.specs.Prelude.{◌≡◌, ℕ, List, map, Bool, true}
-use Rattle.resb_tree.specs.Borrowing.{are_slice, all_true, each_leaf}
+use Rattle.resb_tree.specs.Borrowing.{are_slice, all_true, each_leaf, each_entry}
 use Rattle.resb_tree.specs.declared.resource.Resource.{Resource}
 
 -- each binary of a resource is borrowed
@@ -18,5 +18,4 @@ all_borrow rs = all_true (map borrows_binaries rs)
 
 -- each binary of the resource of each entry is borrowed
 abbrev pub entries_borrow : List (List ℕ × Resource) → Bool
-entries_borrow es =
-    all_true (map (λ (p : List ℕ × Bool). p.1) (map (λ e. (e.0, borrows_binaries e.1)) es))
+entries_borrow = each_entry (λ s. true) are_slice

@@ -5,7 +5,8 @@ ghost use Rattle.std.specs.Prelude.{◌≡◌, ℕ, IfOk, IfErr};
 ghost use Rattle.resb_format.specs.Content as at;
 ghost use Rattle.resb_format.specs.Denotes.{Den, Reaches, DenMember, ReachesMember};
 ghost use Rattle.resb_format.specs.Parts.{parts_in};
-ghost use Rattle.resb_walk.specs.Inner.Counting.{IsOpenedAt, Awaits, Rests, HasLast, KeepsOuter};
+ghost use Rattle.resb_walk.specs.Inner.Counting.{IsOpenedAt, Awaits, AreLastMembers, HasLast};
+ghost use Rattle.resb_walk.specs.Inner.Counting.{KeepsOuter};
 ghost use Rattle.resb_walk.specs.Inner.Counting.{EntersMember, TakesNext, EnteredMember};
 ghost use Rattle.resb_walk.specs.Inner.Members.{member_of};
 ghost use Rattle.resb_walk.specs.Meets.{Meets, Blames};
@@ -50,7 +51,7 @@ pub(crate) fn keep(inner: Inner<'_>) -> Result<Outer, NoMemory>
 /// What is still to come of a collection that waited.
 pub(crate) fn again<'a>(file: FileBlocks<'a>, outer: Outer) -> Rest<'a>
     requires { HasLast (parts_in file) outer.word outer.left }
-    ensures { Rests (parts_in file.entry) outer.word outer.left result }
+    ensures { AreLastMembers (parts_in file.entry) outer.word outer.left result }
 {
     let left = outer.left as usize;
     match standing_at(file, outer.word) {

@@ -8,7 +8,7 @@ ghost use Rattle.resb_format.specs.Denotes.{DenMember};
 ghost use Rattle.resb_format.specs.Error.{refusal_of};
 ghost use Rattle.resb_walk.specs.Inner.Frames.{Opened, Waits};
 ghost use Rattle.resb_walk.specs.Meets.{Meets, Blames};
-ghost use Rattle.resb_walk.specs.Inner.Rounds.{Progresses, Puts};
+ghost use Rattle.resb_walk.specs.Inner.Rounds.{Progresses, PutsMember};
 
 use crate::make::Make;
 use crate::members::{Member, Members, TableParts};
@@ -81,7 +81,7 @@ pub fn put<'a, 'm, M: Make<'a>>(
 ) -> Result<Open<'a, M::List, M::Table>, ReadingError<'m>>
     ensures { (p : Parts) (w n k : ℕ) (x : at.Member) (t : Tree)
         → Waits M.lists M.tables p waiting.entry w x n → DenMember p x t k → M.is item t
-        → Puts M.lists M.tables p w (n + k) result }
+        → PutsMember M.lists M.tables p w (n + k) result }
 {
     match waiting {
         Waiting::List(rest, mut made) => {

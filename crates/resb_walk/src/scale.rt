@@ -32,7 +32,7 @@ impl<'a> Scale<'a> {
     ghost use Rattle.resb_format.specs.Strings as strings;
     ghost use Rattle.resb_format.specs.Parts.{parts_in};
     ghost use Rattle.resb_walk.specs.Inner.Members.{member_of};
-    ghost use Rattle.resb_walk.specs.Inner.Weighing.{Looked, Nexts, ToCome};
+    ghost use Rattle.resb_walk.specs.Inner.Weighing.{Looked, TakenPieces, ToCome};
     ghost use Rattle.resb_walk.specs.Pieces.{Piece, Holds, HoldsMember};
     ghost use Rattle.resb_walk.specs.Sums.{AddsUp};
 
@@ -126,7 +126,7 @@ impl<'a> Scale<'a> {
     /// summed.
     pub fn next(&self, inner: Inner<'a>, sums: &mut Sums) -> Option<(Member, Inner<'a>)>
         ensures { let p = parts_in self.now.file in (xs zs : List Piece)
-            → ToCome p inner.entry xs → AddsUp sums.old zs → Nexts p xs zs result sums.new }
+            → ToCome p inner.entry xs → AddsUp sums.old zs → TakenPieces p xs zs result sums.new }
     {
         let word = inner.word;
         match inner.rest {

@@ -14,7 +14,7 @@ ghost use Rattle.resb_walk.specs.BlockRefusals.{Says, block_text_refusal, block_
 ghost use Rattle.resb_walk.specs.BlockRefusals.{word_refusal};
 ghost use Rattle.resb_format.specs.Parts.{parts_in};
 ghost use Rattle.resb_walk.specs.Inner.Members.{content_of, text_of_bytes, member_of};
-ghost use Rattle.resb_walk.specs.Inner.MemberContent.{member_content, member_refusal};
+ghost use Rattle.resb_walk.specs.Inner.MemberContent.{member_content, content_refusal};
 ghost use Rattle.resb_walk.specs.Refusals.{IsFault};
 
 use crate::faults::{key_not_utf8, key_past_end, key_unterminated, not_utf16, past_end};
@@ -133,7 +133,7 @@ pub fn member_at(
         MatchResult result (λ s. member_content p m ≡ Some (content_of s))
         (λ e. (member_content p m ≡ None) × IsFault e) }
     ensures says { let p = parts_in file.entry in
-        IfErr result (Says (member_refusal p (member_of member))) }
+        IfErr result (Says (content_refusal p (member_of member))) }
 {
     match member {
         Member::Word(word) => standing_at(file, word),

@@ -6,7 +6,7 @@ ghost use Rattle.resb_format.specs.Content as at;
 ghost use Rattle.resb_format.specs.Parts.{Parts};
 ghost use Rattle.resb_format.specs.Strings.{string_at};
 ghost use Rattle.resb_walk.specs.BlockRefusals.{block_text_refusal};
-ghost use Rattle.resb_walk.specs.Inner.MemberContent.{member_content, member_refusal};
+ghost use Rattle.resb_walk.specs.Inner.MemberContent.{member_content, content_refusal};
 ghost use Rattle.resb_walk.specs.Inner.Members.{member_of};
 
 use crate::members::Member;
@@ -44,7 +44,7 @@ pub fn marked(block: &[u8], unit: usize) -> Option<(usize, usize)>
 pub fn string_unit(member: Member) -> Option<usize>
     ensures { let m = member_of member in IfSome result (λ u. (p : Parts)
         → (member_content p m ≡ at.text_leaf p u)
-        × (member_refusal p m ≡ block_text_refusal p.block u)) }
+        × (content_refusal p m ≡ block_text_refusal p.block u)) }
 {
     match member {
         Member::Unit(unit) => Some(usize::from(unit)),

@@ -19,7 +19,7 @@ use Rattle.resb.specs.declared.binary.Spot.{Spot}
 use Rattle.resb.specs.declared.binary.Spot.TheVariants as spot
 use Rattle.resb_zones.specs.Zones.{base_name, pairs_name, CountsNumber, IsReadable}
 use Rattle.resb_zones.specs.Inner.Fields.{CostsAsEntry}
-use Rattle.resb_zones.proofs.Lists.{some_of, counted_as, chosen_count}
+use Rattle.resb_zones.proofs.Lists.{some_from_mapped, counted_as, chosen_count}
 
 -- the place of a key and that of a resource
 entry_is : (p : Parts) (es : List (ℕ × Member)) → All CostsAsEntry (map (at_entry p) es)
@@ -35,7 +35,7 @@ entry_is p (e ∷ es) =
 entries_at_spot : (p : Parts) (s : Spot) (places : List (Place × Place))
     → entries_from p s ≡ Some places → All CostsAsEntry places
 entries_at_spot p (spot.Descriptor w) places e =
-    let (es, _, same) = some_of (map (at_entry p)) (entries_in p w) places e in
+    let (es, _, same) = some_from_mapped (map (at_entry p)) (entries_in p w) places e in
     subst (All CostsAsEntry) (sym same) (entry_is p es)
 entries_at_spot p (spot.Unit u) places e = cc
 entries_at_spot p (spot.Word w) places e = cc

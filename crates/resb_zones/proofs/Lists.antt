@@ -28,10 +28,10 @@ pub other_text : (xs ys : List ℕ) → false ≡ bytes_eq xs ys → xs ≡ ys �
 other_text xs ys h e = let t : bytes_eq xs ys ≡ true = (bytes_eq-Decides xs ys).1 e in cc
 
 -- what an option that is mapped has comes from what it had
-pub some_of : {A B : Type 0} (f : A → B) (o : Option A) (y : B) → option_map f o ≡ Some y
+pub some_from_mapped : {A B : Type 0} (f : A → B) (o : Option A) (y : B) → option_map f o ≡ Some y
     → (x : A) × (o ≡ Some x) × (y ≡ f x)
-some_of f (Some x) y e = (x, refl, cc)
-some_of f None y e = cc
+some_from_mapped f (Some x) y e = (x, refl, cc)
+some_from_mapped f None y e = cc
 
 -- what is there has the count that it is given
 pub counted_as : {A B : Type 0} (f : A → B) (k : ℕ) (o : Option A) (q : B × ℕ)
@@ -46,6 +46,6 @@ chosen_count true p q e = sym (ap (λ r. r.1) (same_Some _ _ e))
 chosen_count false p q e = cc
 
 -- what holds anyway holds of an error
-pub on_err : {X E : Type 0} (r : Result X E) (P : Type 0) → P → OnErr r P
-on_err (Ok x) P h = tt
-on_err (Err e) P h = h
+pub OnErr_from : {X E : Type 0} (r : Result X E) (P : Type 0) → P → OnErr r P
+OnErr_from (Ok x) P h = tt
+OnErr_from (Err e) P h = h

@@ -7,7 +7,7 @@ use Rattle.resb_tree.specs.View.{tree_of}
 use Rattle.resb_icu_grammar.specs.Blanks.{Skip}
 use Rattle.resb_icu_grammar.specs.Machine.{Reading, reading_at, at_root, behind_group}
 use Rattle.resb_icu_grammar.specs.Faults.{Told}
-use Rattle.resb_icu_grammar.specs.Stuck.{HeadStuck, StuckFrom}
+use Rattle.resb_icu_grammar.specs.Stuck.{HeaderStuck, StuckFrom}
 use Rattle.resb_icu_grammar.specs.declared.expected.IcuExpected.TheVariants as expect
 use Rattle.resb_icu_grammar.specs.Words.{Name, RootType}
 use Rattle.resb_icu_grammar.specs.Inner.Rest.{Meaning, AtEnd, RestOfEntries}
@@ -83,8 +83,8 @@ pub record Opening (text : List ℕ) (from brace : ℕ) (fallback : Bool) : Type
   pub opens : slice_index text brace ≡ ascii.left_brace
 
 -- memory was wanted, or a reading gets stuck before the first entry where the error says
-abbrev pub HeadFails : List ℕ → IcuTextError → Type 0
-HeadFails text e = (e ≡ want_of_memory) ⊎ HeadStuck text e.position e.expected
+abbrev pub HeaderFails : List ℕ → IcuTextError → Type 0
+HeaderFails text e = (e ≡ want_of_memory) ⊎ HeaderStuck text e.position e.expected
 
 -- memory was wanted, or a reading from the root's first entry on gets stuck where the error says
 abbrev pub RootFails : List ℕ → ℕ → IcuTextError → Type 0

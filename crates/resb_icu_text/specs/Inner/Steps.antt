@@ -9,7 +9,7 @@ use Rattle.resb_icu_grammar.specs.Machine.{Waiting, in_array, in_table, Reading,
 use Rattle.resb_icu_grammar.specs.Machine.{among_members, among_entries, before_group, in_untyped}
 use Rattle.resb_icu_grammar.specs.Machine.{in_typed, behind_group}
 use Rattle.resb_icu_grammar.specs.Stuck.{StuckFrom}
-use Rattle.resb_icu_text.specs.Inner.Reach.{reach}
+use Rattle.resb_grammar.specs.Inner.Reach.{reach}
 use Rattle.resb_icu_text.specs.Refusal.{want_of_memory}
 use Rattle.resb_icu_text.specs.declared.error.IcuTextError.{IcuTextError}
 use Rattle.resb_icu_text.specs.declared.steps.Last.{Last}

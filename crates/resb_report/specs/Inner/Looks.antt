@@ -9,10 +9,10 @@ use Rattle.resb_report.specs.Groups.{GroupItem, string_item, group_item, OpenGro
 use Rattle.resb_report.specs.Groups.{groups_at, names_array, with_one_more}
 use Rattle.resb_report.specs.Warnings.{has_backslash, warned}
 use Rattle.resb_report.specs.declared.braces.Mode.TheVariants as modes
-use Rattle.resb_report.specs.declared.pieces.StringAt.{StringAt}
-use Rattle.resb_report.specs.declared.pieces.Piece.{Piece as CodePiece}
-use Rattle.resb_report.specs.declared.pieces.Piece.TheVariants as piece
-use Rattle.resb_report.specs.declared.pieces.Pieces.{Pieces}
+use Rattle.resb_report.specs.declared.text_pieces.StringAt.{StringAt}
+use Rattle.resb_report.specs.declared.text_pieces.Piece.{Piece as CodePiece}
+use Rattle.resb_report.specs.declared.text_pieces.Piece.TheVariants as piece
+use Rattle.resb_report.specs.declared.text_pieces.Pieces.{Pieces}
 use Rattle.resb_report.specs.declared.groups.Shape.{Shape}
 use Rattle.resb_report.specs.declared.groups.Shape.TheVariants as shape
 use Rattle.resb_report.specs.declared.groups.Group.{Group as CodeGroup}

@@ -2,7 +2,7 @@
 --     IsOpenedAt p o w n      o is to come of the collection at the word w, and what was before
 --                             denotes n resources
 --     Awaits p o w x n        the same, where the member x stands before o
---     Rests p w k o           o is the last k members of the collection at the word w
+--     AreLastMembers p w k o  o is the last k members of the collection at the word w
 use Rattle.std.specs.Prelude.{ℕ, List, [], ◌∷◌, ◌++◌, ◌≡◌, ◌+◌, ◌-◌, ◌≤◌, ◌⊎◌, length, drop, Some}
 use Rattle.std.specs.Prelude.{None}
 use Rattle.std.specs.Prelude.{Option, Result, Ok, Err}
@@ -15,7 +15,7 @@ use Rattle.resb_format.specs.declared.error.ReadingError.{ReadingError}
 use Rattle.resb_format.specs.Strings.{text_at, key_at}
 use Rattle.resb_walk.specs.BlockRefusals.{Says, block_text_refusal, block_key_refusal}
 use Rattle.resb_walk.specs.Inner.Frames.{OpenedList, OpenedTable, ListWaits, TableWaits}
-use Rattle.resb_walk.specs.Inner.MemberContent.{member_content, member_refusal}
+use Rattle.resb_walk.specs.Inner.MemberContent.{member_content, content_refusal}
 use Rattle.resb_walk.specs.Inner.Members.{member_of, members_of, keyed_members, rest_length}
 use Rattle.resb_walk.specs.Refusals.{IsFault, DenotesNothing, Refuses}
 use Rattle.resb_walk.specs.declared.count.Inner.{Inner}
@@ -60,11 +60,11 @@ module _ (p : Parts) where
       (key : List ℕ) × TableWaits no_list no_table p es 0 key w x n
 
   -- the last k members of the collection
-  abbrev pub Rests : ℕ → ℕ → Rest → Type 0
-  Rests w k (rest.List r) =
+  abbrev pub AreLastMembers : ℕ → ℕ → Rest → Type 0
+  AreLastMembers w k (rest.List r) =
       (ms : List Member) × (content_at p w ≡ Some (list ms))
       × (members_of r ≡ drop (length ms - k) ms)
-  Rests w k (rest.Table r) =
+  AreLastMembers w k (rest.Table r) =
       (es : List (ℕ × Member)) × (content_at p w ≡ Some (entry_list es))
       × (keyed_members r ≡ drop (length es - k) es)
 
@@ -81,7 +81,7 @@ module _ (p : Parts) where
   LooksAt m (Ok (Some (rest.Table r))) = member_content p m ≡ Some (entry_list (keyed_members r))
   LooksAt m (Err e) =
       IsWantOfMemory e
-      ⊎ ((member_content p m ≡ None) × IsFault e × Says (member_refusal p m) e)
+      ⊎ ((member_content p m ≡ None) × IsFault e × Says (content_refusal p m) e)
 
   -- a member is paid for; one with members of its own has all of them to come
   abbrev pub EntersMember : Member → ℕ → ℕ → Result (Option Inner) ReadingError → Type 0

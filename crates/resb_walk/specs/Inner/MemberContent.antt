@@ -9,6 +9,6 @@ abbrev pub member_content : Parts → Member → Option Content
 member_content p (word w) = content_at p w
 member_content p (unit u) = text_leaf p u
 
-abbrev pub member_refusal : Parts → Member → Refusal
-member_refusal p (word w) = word_refusal p w
-member_refusal p (unit u) = block_text_refusal p.block u
+abbrev pub content_refusal : Parts → Member → Refusal
+content_refusal p (word w) = word_refusal p w
+content_refusal p (unit u) = block_text_refusal p.block u

@@ -50,9 +50,9 @@ module _ {X L T : Type 0} (is : X → Tree → Type 0) (lists : L → List Tree 
 module _ {L T : Type 0} (lists : L → List Tree → Type 0)
     (tables : T → List (List ℕ × Tree) → Type 0) (p : Parts) where
   -- the member that was waited for is put in, and the collection at w denotes n resources so far
-  abbrev pub Puts : ℕ → ℕ → Result (Open L T) ReadingError → Type 0
-  Puts w n (Ok f) = Opened lists tables p f w n
-  Puts w n (Err e) = IsWantOfMemory e
+  abbrev pub PutsMember : ℕ → ℕ → Result (Open L T) ReadingError → Type 0
+  PutsMember w n (Ok f) = Opened lists tables p f w n
+  PutsMember w n (Err e) = IsWantOfMemory e
 
   -- the member that f waited for is paid for: it is put in, or it is the innermost collection
   abbrev pub PutsOrOpens : Waiting L T → at.Member → ℕ → ℕ → List (Waiting L T)

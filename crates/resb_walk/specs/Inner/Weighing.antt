@@ -48,9 +48,9 @@ module _ (p : Parts) where
 
   -- The next member of a collection of which xs are still to come is taken, behind the pieces zs:
   -- a key before it is summed.
-  abbrev pub Nexts : List Piece → List Piece → Option (Stood × Inner) → Sums → Type 0
-  Nexts xs zs None s = (xs ≡ []) × AddsUp s zs
-  Nexts xs zs (Some r) s =
+  abbrev pub TakenPieces : List Piece → List Piece → Option (Stood × Inner) → Sums → Type 0
+  TakenPieces xs zs None s = (xs ≡ []) × AddsUp s zs
+  TakenPieces xs zs (Some r) s =
       (ks ys ts : List Piece) × (xs ≡ ks ++ (ys ++ ts)) × (count_of ks ≡ 0) × AddsUp s (zs ++ ks)
       × HoldsMember p (member_of r.0) ys × ToCome r.1 ts
 

@@ -3,13 +3,14 @@ use Rattle.std.proofs.lemmas.List.{map_push}
 use Rattle.std.proofs.lemmas.Result.{err_from_is_err_and}
 use Rattle.resb_tree.specs.View.{entries_view, pairs_view}
 use Rattle.resb_print.specs.Inner.Jobs.{entry_jobs, job_of, jobs_in}
-use Rattle.resb_icu_print.proofs.Steps.{begun, going, fewer_left, refused}
+use Rattle.resb_icu_print.proofs.Steps.{under_way_at_first, under_way_after_job, fewer_left}
+use Rattle.resb_icu_print.proofs.Steps.{refused}
 use Rattle.resb_icu_print.proofs.print.push_lines.Goals as goal
 
 pub loop-task-init : goal.loop-task-init
 loop-task-init c =
     let ps = pairs_view c.args.table.now.entries in
-    begun c.args.out.now (jobs_in c.push_entries.new.pending.items) ps
+    under_way_at_first c.args.out.now (jobs_in c.push_entries.new.pending.items) ps
     (c.in_ok-push_entries.ensures.jobs
     ∙ ap (λ l. jobs_in l ++ reverse (entry_jobs 1 ps)) c.new-pending.ensures.items)
 
@@ -27,7 +28,7 @@ loop-task-preserved c =
     let e : jobs_in c.loop-task.pending.items
     ≡ jobs_in c.pop.new.self.items ++ job_of c.in-Some.task ∷ [] =
     ap jobs_in c.in-Some.ensures.items ∙ map_push job_of c.pop.new.self.items c.in-Some.task in
-    going c.args.out.now c.loop-task.out c.step.new.out (jobs_in c.pop.new.self.items)
+    under_way_after_job c.args.out.now c.loop-task.out c.step.new.out (jobs_in c.pop.new.self.items)
     (jobs_in c.step.new.pending.items) (jobs_in c.loop-task.pending.items)
     (job_of c.in-Some.task) (entries_view c.args.table.now.entries) e c.loop-task.invariant
     c.in_ok-step.ensures.ok

@@ -1,5 +1,5 @@
 use Rattle.std.proofs.Common.{arith, sym, ◌∙◌}
-use Rattle.resb_icu_text.proofs.ReachLemmas.{reach_comma, reach_low, reach_high}
+use Rattle.resb_grammar.proofs.ReachLemmas.{reach_comma, reach_low, reach_high}
 use Rattle.resb_icu_text.proofs.leaf.behind_number.Goals as goal
 
 pub returns-in-125-clause-most : goal.returns-in-125-clause-most

@@ -7,7 +7,8 @@ use Rattle.resb_tree.proofs.ViewLemmas.{tree_of_binary}
 use Rattle.resb_icu_text.specs.Inner.Leaf.{Leaf}
 use Rattle.resb_icu_text.proofs.LeafLemmas.{leaf_fails, told_leaf, binary_stands}
 use Rattle.resb_icu_text.proofs.LeafLemmas.{closing_at}
-use Rattle.resb_icu_text.proofs.ReachLemmas.{reach_right, reach_low, reach_high, reach_string}
+use Rattle.resb_grammar.proofs.ReachLemmas.{reach_right, reach_low, reach_high}
+use Rattle.resb_icu_text.proofs.ReachLemmas.{reach_string}
 use Rattle.resb_icu_text.proofs.LengthLemmas.{string_short}
 use Rattle.resb_icu_grammar.specs.Stuck.{no_digits, odd_digits, open_binary}
 use Rattle.resb_icu_text.proofs.Lists.{some_not_none}

@@ -6,7 +6,8 @@ use Rattle.resb_tree.proofs.ViewLemmas.{tree_of_integer}
 use Rattle.resb_icu_text.specs.Inner.Leaf.{Leaf}
 use Rattle.resb_icu_text.proofs.LeafLemmas.{leaf_fails, integer_stands}
 use Rattle.resb_icu_text.proofs.LeafLemmas.{closing_at}
-use Rattle.resb_icu_text.proofs.ReachLemmas.{reach_right, reach_low, reach_high, reach_number}
+use Rattle.resb_grammar.proofs.ReachLemmas.{reach_right, reach_low, reach_high}
+use Rattle.resb_icu_text.proofs.ReachLemmas.{reach_number}
 use Rattle.resb_icu_grammar.specs.Stuck.{no_integer, open_integer}
 use Rattle.resb_icu_text.proofs.leaf.integer_leaf.Goals as goal
 

@@ -2,7 +2,8 @@ use Rattle.std.proofs.Common.{sym, ◌∙◌, arith}
 use Rattle.std.proofs.lemmas.Result.{err_from_is_err_and}
 use Rattle.resb_icu_text.proofs.LeafLemmas.{leaf_fails, continues_first, continues_end}
 use Rattle.resb_icu_text.proofs.LeafLemmas.{continues_more, counted_more}
-use Rattle.resb_icu_text.proofs.ReachLemmas.{reach_number, reach_low, reach_right}
+use Rattle.resb_grammar.proofs.ReachLemmas.{reach_low, reach_right}
+use Rattle.resb_icu_text.proofs.ReachLemmas.{reach_number}
 use Rattle.resb_icu_grammar.specs.Stuck.{none_yet, no_number, open_vector}
 use Rattle.resb_icu_text.proofs.leaf.numbers.Goals as goal
 

@@ -2,7 +2,7 @@ use Rattle.std.proofs.Common.{◌+◌, ◌*◌, ◌-◌, ◌≤◌, ◌≢◌, l
 use Rattle.std.specs.Prelude.{slice_index}
 use Rattle.resb_grammar.specs.Ascii as ascii
 use Rattle.resb_icu_grammar.specs.Stuck.{NumbersSoFar}
-use Rattle.resb_icu_text.specs.Inner.Reach.{reach}
+use Rattle.resb_grammar.specs.Inner.Reach.{reach}
 use Rattle.resb_icu_text.proofs.LeafLemmas.{Continues}
 use Rattle.resb_icu_text.proofs.leaf.numbers.Given as goal
 

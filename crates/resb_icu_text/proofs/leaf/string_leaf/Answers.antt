@@ -6,7 +6,8 @@ use Rattle.resb_tree.proofs.ViewLemmas.{tree_of_string}
 use Rattle.resb_icu_text.specs.Inner.Leaf.{Leaf}
 use Rattle.resb_icu_text.proofs.LeafLemmas.{leaf_fails, told_leaf, string_stands}
 use Rattle.resb_icu_text.proofs.LeafLemmas.{closing_at}
-use Rattle.resb_icu_text.proofs.ReachLemmas.{reach_right, reach_string}
+use Rattle.resb_grammar.proofs.ReachLemmas.{reach_right}
+use Rattle.resb_icu_text.proofs.ReachLemmas.{reach_string}
 use Rattle.resb_icu_grammar.specs.Stuck.{no_string, open_string}
 use Rattle.resb_icu_text.proofs.KeptLemmas.{said_kept}
 use Rattle.resb_icu_text.proofs.leaf.string_leaf.Goals as goal

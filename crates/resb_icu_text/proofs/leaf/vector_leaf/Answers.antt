@@ -4,7 +4,7 @@ use Rattle.resb_grammar.specs.GroupTypes.{vector_kind}
 use Rattle.resb_tree.proofs.ViewLemmas.{tree_of_vector}
 use Rattle.resb_icu_text.specs.Inner.Leaf.{Leaf}
 use Rattle.resb_icu_text.proofs.LeafLemmas.{empty_vector, vector_stands}
-use Rattle.resb_icu_text.proofs.ReachLemmas.{reach_right, reach_high}
+use Rattle.resb_grammar.proofs.ReachLemmas.{reach_right, reach_high}
 use Rattle.resb_icu_text.proofs.leaf.vector_leaf.Goals as goal
 
 pub returns-then-byte-eq125-clause-ok : goal.returns-then-byte-eq125-clause-ok

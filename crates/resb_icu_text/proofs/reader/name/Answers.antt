@@ -4,7 +4,8 @@ use Rattle.resb_icu_text.proofs.ReadingLemmas.{no_name, unfit_name, empty_name, 
 use Rattle.resb_icu_text.proofs.ReadingLemmas.{whole_name}
 use Rattle.resb_icu_grammar.proofs.Lexical.{key_string}
 use Rattle.resb_icu_text.proofs.LengthLemmas.{string_short, blanks_order}
-use Rattle.resb_icu_text.proofs.ReachLemmas.{reach_string, reach_low, reach_high}
+use Rattle.resb_grammar.proofs.ReachLemmas.{reach_low, reach_high}
+use Rattle.resb_icu_text.proofs.ReachLemmas.{reach_string}
 use Rattle.resb_icu_text.proofs.reader.name.Goals as goal
 
 pub returns-in_err-next-clause-err : goal.returns-in_err-next-clause-err

@@ -1,6 +1,6 @@
 use Rattle.std.proofs.Common.{arith, sym, ◌∙◌}
 use Rattle.resb_icu_text.specs.Inner.Reading.{no_brace}
-use Rattle.resb_icu_text.proofs.ReachLemmas.{reach_left}
+use Rattle.resb_grammar.proofs.ReachLemmas.{reach_left}
 use Rattle.resb_icu_text.proofs.reader.opening.Goals as goal
 
 pub returns-else-byte-eq123-clause-err : goal.returns-else-byte-eq123-clause-err

@@ -4,7 +4,7 @@ use Rattle.std.proofs.lemmas.Result.{err_from_is_err_and}
 use Rattle.resb_icu_text.proofs.ReadingLemmas.{stops_root, text_goes_on, text_ends}
 use Rattle.resb_icu_grammar.specs.Machine.{at_root, here}
 use Rattle.resb_icu_grammar.proofs.Moves.{comes_by}
-use Rattle.resb_icu_text.proofs.ReachLemmas.{reach_high}
+use Rattle.resb_grammar.proofs.ReachLemmas.{reach_high}
 use Rattle.std.proofs.lemmas.Bool.{and_from, and_parts}
 use Rattle.resb_icu_text.specs.Inner.Kept.{entries_pass}
 use Rattle.resb_icu_text.proofs.reader.read_root.Goals as goal

@@ -1,7 +1,7 @@
 use Rattle.std.proofs.Common.{◌&&◌, ◌≤◌, ◌+◌, ◌*◌, ◌-◌, length}
 use Rattle.resb_icu_grammar.specs.Machine.{Comes, at_root}
 use Rattle.resb_icu_text.specs.Inner.Steps.{now, stands_at, progress, spent}
-use Rattle.resb_icu_text.specs.Inner.Reach.{reach}
+use Rattle.resb_grammar.specs.Inner.Reach.{reach}
 use Rattle.resb_icu_text.specs.Inner.Reading.{groups, keys}
 use Rattle.resb_icu_text.specs.Inner.Kept.{Keeps, nothing_before, groups_pass, step_passes}
 use Rattle.resb_icu_text.proofs.reader.read_root.Given as goal

@@ -1,6 +1,6 @@
 use Rattle.std.proofs.Common.{arith, sym, ◌∙◌}
 use Rattle.resb_icu_text.proofs.StepsLemmas.{member_comma, no_member_comma}
-use Rattle.resb_icu_text.proofs.ReachLemmas.{reach_comma, reach_low, reach_high}
+use Rattle.resb_grammar.proofs.ReachLemmas.{reach_comma, reach_low, reach_high}
 use Rattle.resb_icu_text.proofs.steps.comma.Goals as goal
 
 pub returns-then-is_member-clause-ok : goal.returns-then-is_member-clause-ok

@@ -2,7 +2,7 @@ use Rattle.std.proofs.Common.{arith}
 use Rattle.std.proofs.lemmas.Result.{err_from_is_err_and}
 use Rattle.resb_icu_text.proofs.StepsLemmas.{array_content, table_content, leaf_content}
 use Rattle.resb_icu_text.proofs.StepsLemmas.{no_leaf_content}
-use Rattle.resb_icu_text.proofs.ReachLemmas.{reach_high}
+use Rattle.resb_grammar.proofs.ReachLemmas.{reach_high}
 use Rattle.resb_icu_text.proofs.steps.content.Goals as goal
 
 pub returns-in-Array-clause-ok : goal.returns-in-Array-clause-ok

@@ -2,7 +2,8 @@ use Rattle.std.proofs.Common.{arith, sym, ◌∙◌}
 use Rattle.std.proofs.lemmas.Result.{err_from_is_err_and}
 use Rattle.resb_icu_text.proofs.StepsLemmas.{entries_end, a_key_twice, entry_key, no_entry}
 use Rattle.resb_icu_grammar.proofs.Lexical.{key_string}
-use Rattle.resb_icu_text.proofs.ReachLemmas.{reach_right, reach_low, reach_high, reach_string}
+use Rattle.resb_grammar.proofs.ReachLemmas.{reach_right, reach_low, reach_high}
+use Rattle.resb_icu_text.proofs.ReachLemmas.{reach_string}
 use Rattle.resb_icu_text.proofs.steps.entry.Goals as goal
 
 pub returns-then-byte-eq125-clause-ok : goal.returns-then-byte-eq125-clause-ok

@@ -1,8 +1,8 @@
 use Rattle.std.proofs.Common.{◌+◌, ◌*◌, ◌≤◌, arith, sym, ◌∙◌}
 use Rattle.resb_icu_text.proofs.StepsLemmas.{as_untyped, no_group, steps_by, fails_by}
-use Rattle.resb_icu_text.specs.Inner.Reach.{reach}
+use Rattle.resb_grammar.specs.Inner.Reach.{reach}
 use Rattle.resb_icu_text.specs.Inner.Steps.{spent}
-use Rattle.resb_icu_text.proofs.ReachLemmas.{reach_left, reach_low, reach_high}
+use Rattle.resb_grammar.proofs.ReachLemmas.{reach_left, reach_low, reach_high}
 use Rattle.resb_icu_text.proofs.Lists.{ok_by, err_by}
 use Rattle.resb_icu_text.proofs.steps.group.Goals as goal
 

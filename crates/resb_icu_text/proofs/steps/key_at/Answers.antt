@@ -1,7 +1,8 @@
 use Rattle.std.proofs.Common.{arith}
 use Rattle.std.proofs.lemmas.Result.{err_from_is_err_and}
 use Rattle.resb_icu_text.proofs.LengthLemmas.{string_short}
-use Rattle.resb_icu_text.proofs.ReachLemmas.{reach_string, reach_low, reach_high}
+use Rattle.resb_grammar.proofs.ReachLemmas.{reach_low, reach_high}
+use Rattle.resb_icu_text.proofs.ReachLemmas.{reach_string}
 use Rattle.resb_icu_text.proofs.StepsLemmas.{string_no_key, unfit_key, key_ahead}
 use Rattle.resb_icu_text.proofs.steps.key_at.Goals as goal
 

@@ -1,6 +1,6 @@
 use Rattle.std.proofs.Common.{arith, sym, ◌∙◌, inl, inr}
 use Rattle.resb_icu_text.proofs.StepsLemmas.{members_end, member_group}
-use Rattle.resb_icu_text.proofs.ReachLemmas.{reach_right, reach_high}
+use Rattle.resb_grammar.proofs.ReachLemmas.{reach_right, reach_high}
 use Rattle.resb_icu_text.proofs.steps.member.Goals.{then-b-eq123-via-then-b-eq123}
 use Rattle.resb_icu_text.proofs.steps.member.Goals.{then-b-eq123-via-else-b-eq123+then-b-eq58}
 use Rattle.std.proofs.Common.{not}

@@ -2,7 +2,7 @@ use Rattle.std.proofs.Common.{arith, sym, ◌∙◌, ap, ◌++◌, ◌∷◌, []
 use Rattle.resb_icu_text.proofs.StepsLemmas.{behind_member, behind_value, no_collation}
 use Rattle.std.specs.Cmp.Derive.{both_true}
 use Rattle.std.proofs.lemmas.Bool.{and_left, and_right}
-use Rattle.resb_icu_text.proofs.ReachLemmas.{reach_low}
+use Rattle.resb_grammar.proofs.ReachLemmas.{reach_low}
 use Rattle.resb_icu_text.proofs.steps.resume.Goals.{else-is_collation-via-then-is_collation+else-is_table}
 use Rattle.resb_icu_text.proofs.steps.resume.Goals.{else-is_collation-via-else-is_collation}
 use Rattle.resb_icu_text.proofs.steps.resume.Goals as goal

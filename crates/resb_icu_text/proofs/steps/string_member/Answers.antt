@@ -1,7 +1,8 @@
 use Rattle.std.proofs.Common.{arith, sym, ◌∙◌}
 use Rattle.std.proofs.lemmas.Result.{err_from_is_err_and}
 use Rattle.resb_icu_text.proofs.StepsLemmas.{member_string, no_member_string, no_member}
-use Rattle.resb_icu_text.proofs.ReachLemmas.{reach_string, reach_low}
+use Rattle.resb_grammar.proofs.ReachLemmas.{reach_low}
+use Rattle.resb_icu_text.proofs.ReachLemmas.{reach_string}
 use Rattle.resb_icu_text.proofs.KeptLemmas.{said_kept, members_with}
 use Rattle.resb_icu_text.proofs.steps.string_member.Goals as goal
 

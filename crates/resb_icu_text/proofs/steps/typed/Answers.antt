@@ -2,9 +2,9 @@ use Rattle.std.proofs.Common.{◌+◌, ◌*◌, ◌≤◌, sym, ◌∙◌, arith
 use Rattle.std.proofs.lemmas.Result.{err_from_is_err_and}
 use Rattle.resb_icu_text.proofs.StepsLemmas.{as_typed, no_type, no_group_brace, steps_by}
 use Rattle.resb_icu_text.proofs.StepsLemmas.{fails_by}
-use Rattle.resb_icu_text.specs.Inner.Reach.{reach}
+use Rattle.resb_grammar.specs.Inner.Reach.{reach}
 use Rattle.resb_icu_text.specs.Inner.Steps.{spent}
-use Rattle.resb_icu_text.proofs.ReachLemmas.{reach_colon, reach_left, reach_low, reach_high}
+use Rattle.resb_grammar.proofs.ReachLemmas.{reach_colon, reach_left, reach_low, reach_high}
 use Rattle.resb_icu_text.proofs.Lists.{ok_by, err_by}
 use Rattle.resb_icu_text.proofs.steps.typed.Goals as goal
 

@@ -5,7 +5,8 @@ use Rattle.resb_icu_text.proofs.StepsLemmas.{untyped_one, untyped_comma, untyped
 use Rattle.resb_icu_text.proofs.StepsLemmas.{no_untyped, no_untyped_string, no_untyped_key, no_key}
 use Rattle.resb_icu_text.proofs.StepsLemmas.{is_a_key}
 use Rattle.resb_icu_text.proofs.LengthLemmas.{string_short}
-use Rattle.resb_icu_text.proofs.ReachLemmas.{reach_right, reach_string, reach_low, reach_high}
+use Rattle.resb_grammar.proofs.ReachLemmas.{reach_right, reach_low, reach_high}
+use Rattle.resb_icu_text.proofs.ReachLemmas.{reach_string}
 use Rattle.resb_icu_text.specs.Inner.Kept.{members_pass}
 use Rattle.resb_icu_text.proofs.KeptLemmas.{said_kept, members_with}
 use Rattle.resb_icu_text.proofs.steps.untyped_string.Goals.{else-b-ne123-via-then-b-ne123+else-b-ne58}

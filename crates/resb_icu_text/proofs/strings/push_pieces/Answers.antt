@@ -3,7 +3,7 @@ use Rattle.std.specs.Prelude.{slice_index}
 use Rattle.std.specs.String.{string_bytes}
 use Rattle.std.proofs.lemmas.Result.{err_from_is_err_and}
 use Rattle.resb_grammar.specs.Ascii as ascii
-use Rattle.resb_icu_text.proofs.ReachLemmas.{reach_quote, reach_low, reach_high}
+use Rattle.resb_grammar.proofs.ReachLemmas.{reach_quote, reach_low, reach_high}
 use Rattle.resb_icu_text.proofs.StringsLemmas.{added_piece, added_all, piece_fault, fault_ahead}
 use Rattle.resb_icu_text.proofs.strings.push_pieces.Goals as goal
 

@@ -6,7 +6,7 @@ use Rattle.std.proofs.lemmas.Result.{err_from_is_err_and}
 use Rattle.std.proofs.lemmas.Str.{IsCharBoundary-before_ascii, IsCharBoundary-after_ascii}
 use Rattle.resb_grammar.specs.Ascii as ascii
 use Rattle.resb_icu_grammar.specs.Words.{HasNoEscape}
-use Rattle.resb_icu_text.proofs.ReachLemmas.{reach_low, reach_high, reach_quote}
+use Rattle.resb_grammar.proofs.ReachLemmas.{reach_low, reach_high, reach_quote}
 use Rattle.resb_icu_text.proofs.PiecesLemmas.{inside_closes}
 use Rattle.resb_icu_text.proofs.StringsLemmas.{piece_lexeme, built_lexeme, not_one}
 use Rattle.resb_icu_text.proofs.StringsLemmas.{piece_fault, later_fault}

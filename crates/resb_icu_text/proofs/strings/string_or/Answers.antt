@@ -1,6 +1,6 @@
 use Rattle.std.proofs.Common.{◌∙◌, arith}
 use Rattle.std.proofs.lemmas.Result.{IfErr-weaker}
-use Rattle.resb_icu_text.proofs.ReachLemmas.{reach_low, reach_high, reach_here}
+use Rattle.resb_grammar.proofs.ReachLemmas.{reach_low, reach_high, reach_here}
 use Rattle.resb_icu_text.proofs.ReachLemmas.{word_no_slash}
 use Rattle.resb_icu_text.proofs.StringsLemmas.{fault_fails, unquoted_fails, word_lexeme}
 use Rattle.resb_icu_text.proofs.strings.string_or.Goals as goal

@@ -2,7 +2,7 @@ use Rattle.std.proofs.Common.{rules, ◌≡◌, ◌+◌, refl, subst, arith}
 use Rattle.std.proofs.lemmas.Result.{IfOk-weaker}
 use Rattle.resb_read.specs.Places.{place_of}
 use Rattle.resb_read.specs.Leaves.{ReadsKey}
-use Rattle.resb_read_rows.proofs.Walking.{entered_after}
+use Rattle.resb_read_rows.proofs.Walking.{first_entered_after}
 use Rattle.resb_read_rows.proofs.both.field.Goals as goal
 
 pub returns-clause-read : goal.returns-clause-read
@@ -11,7 +11,7 @@ returns-clause-read g c =
     let (
       first,
       none,
-    ) = entered_after c.args.entries.now c.next_entry_cursor.new.self c.in-Some.key
+    ) = first_entered_after c.args.entries.now c.next_entry_cursor.new.self c.in-Some.key
     c.in-Some.value c.requires h in
     let (k, key, s) = c.in_ok-read_str.ensures in
     let same : c.in_ok-read_str.field-0.now ≡ c.args.name.now = search rules in

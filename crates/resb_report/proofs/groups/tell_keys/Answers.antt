@@ -8,7 +8,7 @@ use Rattle.std.proofs.lemmas.Map.Text.{hash_map_updates_str}
 use Rattle.indexmap.specs.IndexMap.{get_by}
 use Rattle.resb_report.specs.Warnings.{of_key, of_keys, first_place}
 use Rattle.resb_report.specs.Inner.Looks.{placed_text_of}
-use Rattle.resb_report.specs.declared.pieces.StringAt.{StringAt}
+use Rattle.resb_report.specs.declared.text_pieces.StringAt.{StringAt}
 use Rattle.resb_report.proofs.KeysLemmas.{keys_told, first_stays, first_moves}
 use Rattle.resb_report.proofs.groups.tell_keys.Goals as goal
 use Rattle.resb_report.proofs.groups.tell_keys.Goals.{in-Some+in_ok-push-in-Some}

@@ -1,6 +1,6 @@
 use Rattle.std.proofs.Common.{◌≡◌, ◌+◌, ◌≤◌, arith}
 use Rattle.resb_format.specs.Bytes.{units_of}
-use Rattle.resb_shared.specs.Links.{breaks, break_at}
+use Rattle.resb_shared.specs.Links.{break_count, break_at}
 use Rattle.resb_shared.proofs.Linked.{no_breaks_yet, breaks_one_more, at_most_one}
 use Rattle.resb_shared.proofs.breaks.breaks_in.Goals as goal
 
@@ -12,7 +12,7 @@ units-preserved c =
     let us = units_of c.args.block.now in
     let i = c.args.from in
     let n = c.units.number in
-    let found : c.units.found ≡ breaks us i n = c.units.invariant.0 in
+    let found : c.units.found ≡ break_count us i n = c.units.invariant.0 in
     let most : c.units.found ≤ n = c.units.invariant.1 in
     let more = breaks_one_more us i n in
     let one : c.break_between-found.result ≡ break_at us (i + n) =

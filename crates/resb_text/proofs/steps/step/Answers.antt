@@ -1,8 +1,8 @@
-use Rattle.resb_text.specs.Inner.Reach.{reach}
+use Rattle.resb_grammar.specs.Inner.Reach.{reach}
 use Rattle.resb_text.specs.Inner.Frames.{owed}
 use Rattle.std.proofs.Common.{◌+◌, ◌*◌, ◌<◌, ◌≤◌, length}
 use Rattle.resb_text.proofs.Outcomes.{match_weaker}
-use Rattle.resb_text.proofs.ReachLemmas.{reach_high}
+use Rattle.resb_grammar.proofs.ReachLemmas.{reach_high}
 use Rattle.std.proofs.Common.{arith}
 use Rattle.resb_text.proofs.steps.step.Goals as goal
 

@@ -1,4 +1,4 @@
-use Rattle.resb_text.proofs.ReachLemmas.{reach_high}
+use Rattle.resb_grammar.proofs.ReachLemmas.{reach_high}
 use Rattle.std.proofs.Common.{arith}
 use Rattle.std.proofs.Common.{refl, sym, ◌∙◌, ap, ◌+◌}
 use Rattle.std.proofs.lemmas.Result.{err_from_is_err_and}

@@ -1,5 +1,5 @@
 use Rattle.resb_grammar.proofs.Lists.{nonzero_inside}
-use Rattle.resb_text.proofs.ReachLemmas.{reach_colon}
+use Rattle.resb_grammar.proofs.ReachLemmas.{reach_colon}
 use Rattle.std.proofs.Common.{arith}
 use Rattle.std.proofs.lemmas.Result.{err_from_is_err_and}
 use Rattle.resb_text.proofs.TypedGroups.{no_type, no_type_brace}

@@ -1,5 +1,5 @@
 use Rattle.resb_grammar.proofs.Lists.{nonzero_inside}
-use Rattle.resb_text.proofs.ReachLemmas.{reach_slash, reach_here}
+use Rattle.resb_grammar.proofs.ReachLemmas.{reach_slash, reach_here}
 use Rattle.std.proofs.Common.{arith}
 use Rattle.resb_text.proofs.LexicalLemmas.{comment_more, skip_ends, slash_black, no_comment_at}
 use Rattle.resb_text.proofs.tokens.skip_comments.Goals as goal

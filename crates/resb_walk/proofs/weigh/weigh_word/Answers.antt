@@ -3,7 +3,8 @@ use Rattle.std.proofs.Common.{◌-◌, ◌++◌}
 use Rattle.resb_format.specs.Content.{word}
 use Rattle.resb_format.specs.Parts.{parts_in}
 use Rattle.resb_walk.specs.Inner.Members.{member_of}
-use Rattle.resb_walk.specs.Inner.Weighing.{Looked, Nexts, ToCome, WaitingPieces, EnteredPieces}
+use Rattle.resb_walk.specs.Inner.Weighing.{Looked, TakenPieces, ToCome, WaitingPieces}
+use Rattle.resb_walk.specs.Inner.Weighing.{EnteredPieces}
 use Rattle.resb_walk.specs.Pieces.{HoldsMember, holds_word}
 use Rattle.resb_walk.proofs.Weighed.{weighing_first, weighing_takes, weighing_enters, end_has}
 use Rattle.resb_walk.proofs.Weighed.{weighing_waits, weighing_again, weighing_ends}
@@ -50,9 +51,9 @@ returns-in-None-pop c =
     let i = c.rounds.invariant in
     let all = c.next.ensures i.1.inner i.1.done in
     let at = subst (λ f. ToCome (parts_in f) c.rounds.inner i.1.inner
-    → Nexts (parts_in f) i.1.inner i.1.done c.next.result c.next.new.sums) i.0
+    → TakenPieces (parts_in f) i.1.inner i.1.done c.next.result c.next.new.sums) i.0
     (λ g. all g i.1.sums) in
-    let nexts = subst (λ o. Nexts p i.1.inner i.1.done o c.next.new.sums) c.in-None.is
+    let nexts = subst (λ o. TakenPieces p i.1.inner i.1.done o c.next.new.sums) c.in-None.is
     (at i.1.to_come) in
     let empty : c.rounds.outer.items ≡ [] = grind (arith, c.in-None-pop.ensures.cases) in
     weighing_ends p c.args.word c.rounds.outer.items c.rounds.inner c.rounds.sums c.rounds.left
@@ -64,9 +65,9 @@ rounds-preserved c =
     let i = c.rounds.invariant in
     let all = c.next.ensures i.1.inner i.1.done in
     let at = subst (λ f. ToCome (parts_in f) c.rounds.inner i.1.inner
-    → Nexts (parts_in f) i.1.inner i.1.done c.next.result c.next.new.sums) i.0
+    → TakenPieces (parts_in f) i.1.inner i.1.done c.next.result c.next.new.sums) i.0
     (λ g. all g i.1.sums) in
-    let nexts = subst (λ o. Nexts p i.1.inner i.1.done o c.next.new.sums) c.in-None.is
+    let nexts = subst (λ o. TakenPieces p i.1.inner i.1.done o c.next.new.sums) c.in-None.is
     (at i.1.to_come) in (
       i.0,
       weighing_again p c.args.word c.rounds.outer.items c.rounds.inner c.rounds.sums c.rounds.left
@@ -82,9 +83,9 @@ rounds-smaller-in_ok-inner-in-Some-next c =
     let j = c.in-Some-next.rest in
     let all = c.next.ensures i.1.inner i.1.done in
     let at = subst (λ f. ToCome (parts_in f) c.rounds.inner i.1.inner
-    → Nexts (parts_in f) i.1.inner i.1.done c.next.result c.next.new.sums) i.0
+    → TakenPieces (parts_in f) i.1.inner i.1.done c.next.result c.next.new.sums) i.0
     (λ g. all g i.1.sums) in
-    let nexts = subst (λ o. Nexts p i.1.inner i.1.done o c.next.new.sums) c.in-Some-next.is
+    let nexts = subst (λ o. TakenPieces p i.1.inner i.1.done o c.next.new.sums) c.in-Some-next.is
     (at i.1.to_come) in
     let took = weighing_takes p c.args.word c.rounds.outer.items c.rounds.inner c.rounds.sums
     c.rounds.left i.1 c.in-Some-next.member j c.next.new.sums nexts in
@@ -111,9 +112,9 @@ rounds-preserved-in_ok-inner-in-Some-next c =
     let j = c.in-Some-next.rest in
     let all = c.next.ensures i.1.inner i.1.done in
     let at = subst (λ f. ToCome (parts_in f) c.rounds.inner i.1.inner
-    → Nexts (parts_in f) i.1.inner i.1.done c.next.result c.next.new.sums) i.0
+    → TakenPieces (parts_in f) i.1.inner i.1.done c.next.result c.next.new.sums) i.0
     (λ g. all g i.1.sums) in
-    let nexts = subst (λ o. Nexts p i.1.inner i.1.done o c.next.new.sums) c.in-Some-next.is
+    let nexts = subst (λ o. TakenPieces p i.1.inner i.1.done o c.next.new.sums) c.in-Some-next.is
     (at i.1.to_come) in
     let took = weighing_takes p c.args.word c.rounds.outer.items c.rounds.inner c.rounds.sums
     c.rounds.left i.1 c.in-Some-next.member j c.next.new.sums nexts in

@@ -2,7 +2,7 @@ use Rattle.std.proofs.Common.{subst}
 use Rattle.resb_zones.specs.Inner.Fields.{entry_of, CostsAsEntry, FieldsFront}
 use Rattle.resb_zones.proofs.Steps.{entry_step_some}
 use Rattle.resb_zones.proofs.Fronts.{here, front_takes, readable_front_fails}
-use Rattle.resb_zones.proofs.Lists.{on_err}
+use Rattle.resb_zones.proofs.Lists.{OnErr_from}
 use Rattle.resb_zones.proofs.fields.read_fields.Goals as goal
 
 pub take-requires : goal.take-requires
@@ -43,4 +43,4 @@ returns-in_err-take-clause-refused c =
     let front = subst (λ r. FieldsFront all r l.fields before l.walk) step.0 l.invariant.1 in
     let (falls, spent) = c.in_err-take.ensures.refused in
     let fails = readable_front_fails all entry new.rest l.fields before l.walk front in
-    on_err _ _ (fails c.take.new.walk falls spent)
+    OnErr_from _ _ (fails c.take.new.walk falls spent)

@@ -4,7 +4,8 @@ use Rattle.resb_icu_text.proofs.ReadingLemmas.{stops_there, pushed, in_opened, n
 use Rattle.resb_icu_text.proofs.ReadingLemmas.{behind_ended, stops_ended, root_ended}
 use Rattle.resb_icu_text.specs.Inner.Steps.{shown}
 use Rattle.resb_icu_text.specs.Inner.Reading.{groups}
-use Rattle.resb_icu_text.proofs.ReachLemmas.{reach_high, spent_most}
+use Rattle.resb_grammar.proofs.ReachLemmas.{reach_high}
+use Rattle.resb_icu_text.proofs.ReachLemmas.{spent_most}
 use Rattle.resb_icu_text.proofs.open.OpenGroups.advance.Goals as goal
 
 pub returns-in_err-member-in-Members-clause-err : goal.returns-in_err-member-in-Members-clause-err

@@ -1,6 +1,6 @@
 use Rattle.std.proofs.lemmas.Result.{err_from_is_err_and}
 use Rattle.resb_icu_grammar.proofs.RestRoot.{root_follows}
-use Rattle.resb_icu_text.proofs.ReadingLemmas.{head_refused, root_refused, refused_is_no_text}
+use Rattle.resb_icu_text.proofs.ReadingLemmas.{header_refused, root_refused, refused_is_no_text}
 use Rattle.resb_icu_text.proofs.reader.IcuReader.read_counted.Goals as goal
 
 pub returns-in_err-root-clause-err : goal.returns-in_err-root-clause-err
@@ -23,7 +23,7 @@ returns-clause-ok c =
 pub returns-in_err-name-clause-no_text : goal.returns-in_err-name-clause-no_text
 returns-in_err-name-clause-no_text c =
     let p = err_from_is_err_and c.from_residual.result c.from_residual.ensures.1 in
-    rw (p.1, p.2) (refused_is_no_text _ _ (head_refused _ _ c.in_err-name.ensures.err))
+    rw (p.1, p.2) (refused_is_no_text _ _ (header_refused _ _ c.in_err-name.ensures.err))
 
 pub returns-in_err-root-clause-no_text : goal.returns-in_err-root-clause-no_text
 returns-in_err-root-clause-no_text c =

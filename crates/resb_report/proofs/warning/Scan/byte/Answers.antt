@@ -6,7 +6,7 @@ use Rattle.resb_report.specs.Pieces.{piece_at}
 use Rattle.resb_report.specs.Groups.{groups_at, groups_behind}
 use Rattle.resb_report.specs.Warnings.{of_backslash, of_end, warned}
 use Rattle.resb_report.specs.Inner.Looks.{text_piece_of, ShowsNesting}
-use Rattle.resb_report.specs.declared.pieces.Pieces.{Pieces}
+use Rattle.resb_report.specs.declared.text_pieces.Pieces.{Pieces}
 use Rattle.resb_report.proofs.warning.Scan.byte.Goals as goal
 
 pub returns : goal.returns

@@ -1,7 +1,8 @@
 use Rattle.std.proofs.Common.{rules, arith, ◌+◌, take, length, refl, sym, ◌∙◌}
 use Rattle.resb_shared.specs.Inner.Listed.{AreListed, ListsUpTo}
 use Rattle.resb_shared.proofs.TailLaws.{no_key_behind, no_key_past}
-use Rattle.resb_shared.proofs.Listing.{long_end, next, short_is_skipped, short_end_is_skipped}
+use Rattle.resb_shared.proofs.Listing.{long_end, next_end_found, short_is_skipped}
+use Rattle.resb_shared.proofs.Listing.{short_end_is_skipped}
 use Rattle.resb_shared.proofs.Listing.{long_end_is_listed, all_are_listed}
 use Rattle.resb_shared.proofs.tails.LongTails.of_keys.Goals as goal
 use Rattle.resb_shared.proofs.tails.LongTails.of_keys.Goals.{else-keys-test}
@@ -34,7 +35,7 @@ keys-preserved c =
     let start = c.keys.start in
     let end = c.in-Some.end in
     let rest = c.split_at.result.1.now in
-    let n = next keys rest start end c.split_at.ensures.back c.in-Some.ensures in
+    let n = next_end_found keys rest start end c.split_at.ensures.back c.in-Some.ensures in
     let i = c.keys.invariant.1 in
     let all : ListsUpTo keys c.if-end-gt-SHORT_TAIL.tails.items (start + (end + 1)) =
     elim c.if-end-gt-SHORT_TAIL.branch [

@@ -10,7 +10,7 @@ use Rattle.resb_zones.specs.Zones.{base_name, pairs_name, IsReadable}
 use Rattle.resb_zones.specs.Inner.Fields.{entry_of, ReadsPairView}
 use Rattle.resb_zones.proofs.Costs.{key_is_free, number_costs, view_costs, lacks_base, lacks_pairs}
 use Rattle.resb_zones.proofs.Takings.{takes_base, takes_pairs, takes_other}
-use Rattle.resb_zones.proofs.Lists.{on_err, other_text}
+use Rattle.resb_zones.proofs.Lists.{OnErr_from, other_text}
 use Rattle.resb_zones.proofs.fields.Fields.take.Goals as goal
 
 pub returns-in_err-base-clause-refused : goal.returns-in_err-base-clause-refused
@@ -29,7 +29,7 @@ returns-in_err-base-clause-refused c =
     λ readable.
     let none : left ≡ 0 = lacks_base entry left name k c.requires key is lacks readable in
     omega (arith, paid) in
-    on_err _ T (fell, spent)
+    OnErr_from _ T (fell, spent)
 
 pub returns-in_err-pairs-clause-refused : goal.returns-in_err-pairs-clause-refused
 returns-in_err-pairs-clause-refused c =
@@ -47,7 +47,7 @@ returns-in_err-pairs-clause-refused c =
     λ readable.
     let none : left ≡ 0 = lacks_pairs entry left name k c.requires key is lacks readable in
     omega (arith, paid) in
-    on_err _ T (fell, spent)
+    OnErr_from _ T (fell, spent)
 
 pub returns-in_err-skip-clause-refused : goal.returns-in_err-skip-clause-refused
 returns-in_err-skip-clause-refused c =
@@ -60,7 +60,7 @@ returns-in_err-skip-clause-refused c =
     let T : Type 0 = (c.skip.new.walk ≤ c.args.walk.now)
     × (IsReadable entry → c.args.walk.now ≡ 0) in
     let fell : c.skip.new.walk ≤ c.args.walk.now = omega (arith, paid, same) in
-    on_err _ T (fell, λ readable. omega (arith, paid, short, costs, free))
+    OnErr_from _ T (fell, λ readable. omega (arith, paid, short, costs, free))
 
 pub returns-clause-read : goal.returns-clause-read
 returns-clause-read c =

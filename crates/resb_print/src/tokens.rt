@@ -1,4 +1,4 @@
-//! Small pieces of a printed text: names, strings, numbers, the ends of lines.
+//! The tokens of a printed text: names, strings, numbers, and the ends of lines.
 //! What a resource is made of stands in `step`.
 ghost use Rattle.std.specs.Prelude.{◌≡◌, ◌++◌, ◌∷◌, ℕ, List, OnOk, codes, decimal, refl, IsTrue};
 ghost use Rattle.std.specs.String.{string_bytes};

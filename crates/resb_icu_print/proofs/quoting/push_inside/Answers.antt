@@ -3,7 +3,7 @@ use Rattle.std.specs.String.{string_bytes}
 use Rattle.std.specs.Str.Iter.{chars_rest}
 use Rattle.resb_icu_print.specs.Printed.{inside_on}
 use Rattle.resb_icu_print.proofs.Strings.{inside_append}
-use Rattle.resb_icu_print.proofs.pieces.push_inside.Goals as goal
+use Rattle.resb_icu_print.proofs.quoting.push_inside.Goals as goal
 
 pub loop-c-preserved : goal.loop-c-preserved
 loop-c-preserved c =

@@ -7,7 +7,7 @@ use Rattle.resb_grammar.specs.ByteRuns.{is_word}
 use Rattle.resb_report.specs.Pieces.{word_start, quote_before}
 use Rattle.resb_report.specs.Warnings.{has_backslash}
 use Rattle.resb_report.proofs.PiecesLemmas.{quote_fits}
-use Rattle.resb_report.proofs.pieces.Pieces.pass.Goals as goal
+use Rattle.resb_report.proofs.text_pieces.Pieces.pass.Goals as goal
 use Rattle.resb_grammar.specs.Ascii.{quote}
 use Rattle.resb_report.proofs.Numbers.{word_fits}
 

@@ -6,7 +6,7 @@ use Rattle.resb_print.proofs.Lists.{writes_bytes}
 use Rattle.resb_icu_print.specs.Printed.{is_marked, is_control}
 use Rattle.resb_icu_print.proofs.Strings.{plain_character, no_control}
 use Rattle.resb_icu_print.proofs.Lists.{unequal_to}
-use Rattle.resb_icu_print.proofs.pieces.push_character.Goals as goal
+use Rattle.resb_icu_print.proofs.quoting.push_character.Goals as goal
 
 pub returns : goal.returns
 returns c =

@@ -1,20 +1,20 @@
 use Rattle.std.proofs.Common.{arith}
 use Rattle.std.proofs.lemmas.Result.{err_from_is_err_and}
-use Rattle.resb_icu_text.proofs.ReadingLemmas.{no_head_name, no_head_opening, typing_of}
-use Rattle.resb_icu_text.proofs.ReachLemmas.{reach_low, reach_high}
-use Rattle.resb_icu_text.proofs.reader.read_head.Goals as goal
+use Rattle.resb_icu_text.proofs.ReadingLemmas.{no_header_name, no_header_opening, typing_of}
+use Rattle.resb_grammar.proofs.ReachLemmas.{reach_low, reach_high}
+use Rattle.resb_icu_text.proofs.reader.read_header.Goals as goal
 
 pub returns-in_err-next-clause-err : goal.returns-in_err-next-clause-err
 returns-in_err-next-clause-err c =
     let p = err_from_is_err_and c.from_residual.result c.from_residual.ensures.1 in
-    rw (p.1, p.2) (no_head_name _ _ _ _ c.begin.ensures.begins c.skip-start.ensures.skip
+    rw (p.1, p.2) (no_header_name _ _ _ _ c.begin.ensures.begins c.skip-start.ensures.skip
     c.in_err-next.ensures.err)
 
 pub returns-in_err-brace-clause-err : goal.returns-in_err-brace-clause-err
 returns-in_err-brace-clause-err c =
     let p = err_from_is_err_and c.from_residual-in_err-brace.result
     c.from_residual-in_err-brace.ensures.1 in
-    rw (p.1, p.2) (no_head_opening _ _ _ _ _ _ _ c.begin.ensures.begins
+    rw (p.1, p.2) (no_header_opening _ _ _ _ _ _ _ c.begin.ensures.begins
     c.skip-start.ensures.skip c.in_ok-next.ensures.ok.stands c.in_ok-next.ensures.ok.after
     c.in_err-brace.ensures.err)
 

@@ -21,7 +21,7 @@ use Rattle.resb_grammar.specs.Machine.{at_start, after_lone_comma, after_number,
 use Rattle.resb_grammar.specs.Machine.{named, titled, inside, typed, in_string, in_binary}
 use Rattle.resb_grammar.specs.Machine.{in_integer, filled, in_vector, finished, with_term}
 use Rattle.resb_grammar.specs.Machine.{at_root, within, next, At}
-use Rattle.resb_grammar.specs.Stuck.{expected, NoToken, Stuck, blocked}
+use Rattle.resb_grammar.specs.Stuck.{expectation, NoToken, Stuck, blocked}
 use Rattle.resb_grammar.specs.Limit.{made_by}
 use Rattle.resb_grammar.specs.declared.expected.Expected.TheVariants as expect
 use Rattle.resb_grammar.proofs.ByteRunsLemmas.{Run-one}
@@ -438,28 +438,28 @@ making_examples t o ns around = (refl, refl, refl, refl, refl, refl, refl, refl,
 
 -- what is expected, by state and byte: `:` 58, `"` 34, `1` 49, `}` 125, `)` 41
 expected_examples : (name : List ℕ) (t : Title) (o : Open) (ns : List ℕ) (around : List Frame) →
-    (expected start 58 ≡ expect.Text)
-    × (expected (named name) 58 ≡ expect.TypeName)
-    × (expected (named name) 41 ≡ expect.LeftBrace)
-    × (expected (titled t) 58 ≡ expect.LeftBrace)
-    × (expected (inside (at_root t)) 34 ≡ expect.Text)
-    × (expected (inside (at_root t)) 58 ≡ expect.RightBrace)
-    × (expected (inside (with_term (items.string_term name) (at_root t))) 58 ≡ expect.TypeName)
-    × (expected (inside (with_term (items.string_term name) (at_root t))) 34 ≡ expect.LeftBrace)
-    × (expected (inside (within untyped_body o)) 34 ≡ expect.Text)
-    × (expected (inside (within untyped_body o)) 58 ≡ expect.TypeName)
-    × (expected (inside (within untyped_body o)) 44 ≡ expect.Item)
-    × (expected (typed string_kind o) 58 ≡ expect.LeftBrace)
-    × (expected (in_string o) 125 ≡ expect.Text)
-    × (expected (in_binary o) 125 ≡ expect.Text)
-    × (expected (in_integer o) 125 ≡ expect.Number)
-    × (expected (filled (string name) o) 34 ≡ expect.RightBrace)
-    × (expected (in_vector at_start ns o) 49 ≡ expect.Number)
-    × (expected (in_vector at_start ns o) 41 ≡ expect.RightBrace)
-    × (expected (in_vector after_lone_comma ns o) 49 ≡ expect.RightBrace)
-    × (expected (in_vector after_number ns o) 49 ≡ expect.RightBrace)
-    × (expected (in_vector after_comma ns o) 45 ≡ expect.Number)
-    × (expected (finished t []) 34 ≡ expect.EndOfText)
+    (expectation start 58 ≡ expect.Text)
+    × (expectation (named name) 58 ≡ expect.TypeName)
+    × (expectation (named name) 41 ≡ expect.LeftBrace)
+    × (expectation (titled t) 58 ≡ expect.LeftBrace)
+    × (expectation (inside (at_root t)) 34 ≡ expect.Text)
+    × (expectation (inside (at_root t)) 58 ≡ expect.RightBrace)
+    × (expectation (inside (with_term (items.string_term name) (at_root t))) 58 ≡ expect.TypeName)
+    × (expectation (inside (with_term (items.string_term name) (at_root t))) 34 ≡ expect.LeftBrace)
+    × (expectation (inside (within untyped_body o)) 34 ≡ expect.Text)
+    × (expectation (inside (within untyped_body o)) 58 ≡ expect.TypeName)
+    × (expectation (inside (within untyped_body o)) 44 ≡ expect.Item)
+    × (expectation (typed string_kind o) 58 ≡ expect.LeftBrace)
+    × (expectation (in_string o) 125 ≡ expect.Text)
+    × (expectation (in_binary o) 125 ≡ expect.Text)
+    × (expectation (in_integer o) 125 ≡ expect.Number)
+    × (expectation (filled (string name) o) 34 ≡ expect.RightBrace)
+    × (expectation (in_vector at_start ns o) 49 ≡ expect.Number)
+    × (expectation (in_vector at_start ns o) 41 ≡ expect.RightBrace)
+    × (expectation (in_vector after_lone_comma ns o) 49 ≡ expect.RightBrace)
+    × (expectation (in_vector after_number ns o) 49 ≡ expect.RightBrace)
+    × (expectation (in_vector after_comma ns o) 45 ≡ expect.Number)
+    × (expectation (finished t []) 34 ≡ expect.EndOfText)
 expected_examples name t o ns around = (
   refl,
   refl,

@@ -10,7 +10,8 @@ use Rattle.resb_grammar.specs.BundleText.{first_places, BundleText}
 use Rattle.resb_grammar.specs.Machine.{Token, a_text, a_number, opening, closing, a_comma, a_type}
 use Rattle.resb_grammar.specs.Machine.{a_root_type, Title, Open, State, in_binary, filled, finished}
 use Rattle.resb_grammar.specs.Machine.{next, At}
-use Rattle.resb_grammar.specs.Stuck.{NoToken, IsEnd, HasDigits, expected, Stuck, blocked, no_pairs}
+use Rattle.resb_grammar.specs.Stuck.{NoToken, IsEnd, HasDigits, expectation, Stuck, blocked}
+use Rattle.resb_grammar.specs.Stuck.{no_pairs}
 use Rattle.resb_grammar.specs.declared.expected.Expected.{Expected}
 use Rattle.resb_grammar.specs.Token.{Means}
 use Rattle.resb_grammar.proofs.Moves.{move_means, none_some}
@@ -99,8 +100,8 @@ module _ (text : List ℕ) where
       let same = ends_once text h.reached.tokens k.reached.tokens at place s u h.reached.path h.none
       k.reached.path k.none in (
         same.0,
-        ap (λ n. expected s (slice_index text n)) same.0
-            ∙ ap (λ (v : State). expected v (slice_index text place)) same.1,
+        ap (λ n. expectation s (slice_index text n)) same.0
+            ∙ ap (λ (v : State). expectation v (slice_index text place)) same.1,
       )
   one_stuck at place x y (blocked s h) (no_pairs o to w reached t e) =
       let same = ends_once text h.reached.tokens reached.tokens at place s

@@ -47,18 +47,18 @@ expected_in_vector after_comma b = expected_number b
 expected_in_vector _ b = expect.RightBrace
 
 -- what is expected where nothing that may stand in this state stands, by the byte there
-abbrev pub expected : State → ℕ → Expected
-expected start b = expect.Text
-expected (named name) b = expected_brace b
-expected (titled title) b = expect.LeftBrace
-expected (inside o) b = expected_in o.frame.body (is_key_place o.frame.items) b
-expected (typed kind o) b = expect.LeftBrace
-expected (in_string o) b = expect.Text
-expected (in_binary o) b = expect.Text
-expected (in_integer o) b = expect.Number
-expected (filled t o) b = expect.RightBrace
-expected (in_vector place ns o) b = expected_in_vector place b
-expected (finished title items) b = expect.EndOfText
+abbrev pub expectation : State → ℕ → Expected
+expectation start b = expect.Text
+expectation (named name) b = expected_brace b
+expectation (titled title) b = expect.LeftBrace
+expectation (inside o) b = expected_in o.frame.body (is_key_place o.frame.items) b
+expectation (typed kind o) b = expect.LeftBrace
+expectation (in_string o) b = expect.Text
+expectation (in_binary o) b = expect.Text
+expectation (in_integer o) b = expect.Number
+expectation (filled t o) b = expect.RightBrace
+expectation (in_vector place ns o) b = expected_in_vector place b
+expectation (finished title items) b = expect.EndOfText
 
 -- no token that may stand in this state stands there
 abbrev pub NoToken : List ℕ → ℕ → State → Type 0
@@ -83,6 +83,6 @@ pub record IsBlocked (text : List ℕ) (at : ℕ) (s : State) : Type 0 where
 
 -- a reading gets stuck at this place, where this was expected
 pub data Stuck (text : List ℕ) (at : ℕ) : Expected → Type 0 where
-  blocked : (s : State) → IsBlocked text at s → Stuck text at (expected s (slice_index text at))
+  blocked : (s : State) → IsBlocked text at s → Stuck text at (expectation s (slice_index text at))
   no_pairs : (o : Open) (to : ℕ) (s : List ℕ) → At text at (in_binary o) → Text text at to s
       → hex_bytes s ≡ None → Stuck text at expect.HexPairs

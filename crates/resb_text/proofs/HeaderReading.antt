@@ -9,7 +9,7 @@ use Rattle.resb_grammar.specs.GroupTypes.{RootType}
 use Rattle.resb_grammar.specs.BundleText.{Typing, without, with}
 use Rattle.resb_grammar.specs.Machine.{Token, a_text, a_number, opening, closing, a_comma, a_type}
 use Rattle.resb_grammar.specs.Machine.{a_root_type, State, start, named, titled, next, At}
-use Rattle.resb_grammar.specs.Stuck.{choose, expected, NoToken, Stuck, blocked}
+use Rattle.resb_grammar.specs.Stuck.{choose, expectation, NoToken, Stuck, blocked}
 use Rattle.resb_text.specs.Refusal.{want_of_memory}
 use Rattle.resb_text.specs.Answer.{Fails, IsNoBundle}
 use Rattle.resb_grammar.proofs.GrammarLaws.{stuck_none}
@@ -29,7 +29,7 @@ module _ (text : List ℕ) where
   stuck_in : (at : ℕ) (s : State) (x : Expected) → At text at s → NoToken text at s
       → ((h : Rattle.resb_grammar.specs.Stuck.IsEnd text at s) → ⊥)
       → ((h : Rattle.resb_grammar.specs.Stuck.HasDigits text at s) → ⊥)
-      → x ≡ expected s (slice_index text at) → Stuck text at x
+      → x ≡ expectation s (slice_index text at) → Stuck text at x
   stuck_in at s x reached none no_end no_digits is =
       subst (λ (y : Expected). Stuck text at y) (sym is) (blocked s
       (record { reached = reached; none = none; no_end = no_end; no_digits = no_digits }))
@@ -63,7 +63,7 @@ module _ (text : List ℕ) where
       stuck_in at (named name) expect.TypeName reached
       (λ to u m. go to u m.token (move_means text at to (named name) u m) m.moves) (λ h. h)
       (λ h. h)
-      (sym (ap (λ b. expected (named name) b) colon))
+      (sym (ap (λ b. expectation (named name) b) colon))
     where
       go : (to : ℕ) (u : State) (t : Token) → Means text at to t → next (named name) t ≡ Some u → ⊥
       go to u opening m e = let n = m.0 in absurd (omega (arith, n, colon))

@@ -21,7 +21,7 @@ use Rattle.resb_grammar.specs.Machine.{a_number, opening, closing, a_comma, a_ty
 use Rattle.resb_grammar.specs.Machine.{State, inside, typed, with_term, within, is_key_place}
 use Rattle.resb_grammar.specs.Machine.{in_body, next, At}
 use Rattle.resb_grammar.proofs.Lex.{neither, type_class}
-use Rattle.resb_grammar.specs.Stuck.{expected, expected_in, Stuck, blocked}
+use Rattle.resb_grammar.specs.Stuck.{expectation, expected_in, Stuck, blocked}
 use Rattle.resb_text.specs.Inner.Leaf.{LeafGroup, LeafFails}
 use Rattle.resb_text.specs.Inner.Frames.{group_body_of, StandsFor}
 use Rattle.resb_text.specs.Answer.{Fails}
@@ -94,7 +94,7 @@ module _ (text : List ℕ) where
         no_digits = λ h. h;
       }))
     where
-      same : expect.TypeName ≡ expected (inside o) (slice_index text at)
+      same : expect.TypeName ≡ expectation (inside o) (slice_index text at)
       same =
           colon_expected o.frame.body (is_key_place o.frame.items) may
           ∙ sym (ap (expected_in o.frame.body (is_key_place o.frame.items)) colon)

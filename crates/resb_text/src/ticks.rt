@@ -7,7 +7,7 @@ ghost use Rattle.resb_text.specs.Inner.Ticked.{Ticked};
 /// can, so that no call has to ask for room.
 #[derive(Drop)]
 pub(crate) struct Ticks {
-    count: u128,
+    count: u64,
 }
 
 impl Ticks {
@@ -19,7 +19,7 @@ impl Ticks {
     }
 
     /// How many turns were counted.
-    pub(crate) fn count(&self) -> u128
+    pub(crate) fn count(&self) -> u64
         ensures { result ≡ self.now.count }
     {
         self.count
@@ -29,7 +29,7 @@ impl Ticks {
     pub(crate) fn add(&mut self, turns: usize)
         ensures { Ticked self.old self.new turns }
     {
-        self.count = self.count.saturating_add(turns as u128);
+        self.count = self.count.saturating_add(turns as u64);
     }
 
     /// Counts one turn.

@@ -81,8 +81,8 @@ pub(crate) fn refuse<R: Eprint + AllocGlobal>(
     }
 }
 
-/// Whether a text that is refused looks like one of ICU's own form: it begins with a byte order mark,
-/// or a character that only ICU's words have stands where it is refused.
+/// Whether a text that is refused looks like one of ICU's own form: it begins with a byte order
+/// mark, or a character that only ICU's words have stands where it is refused.
 fn may_be_icu(source: &[u8], place: usize, error: &SourceError) -> bool {
     match error {
         SourceError::Refused(_) => {

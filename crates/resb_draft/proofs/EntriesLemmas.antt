@@ -2,8 +2,8 @@
 use Rattle.std.proofs.Common.{◌≡◌, ℕ, ◌+◌, ◌-◌, ◌<◌, Bool, true, List, [], ◌∷◌, ◌++◌, Bor}
 use Rattle.std.proofs.Common.{BTreeMap, arith, length, take, get_or}
 use Rattle.std.proofs.lemmas.List.{take_more, map_push}
-use Rattle.std.proofs.Common.{Ordering, Less, Equal, Greater, map, refl, sym, ap, ◌∙◌, subst}
-use Rattle.std.proofs.lemmas.Bool.{and_from, and_parts, false≢true}
+use Rattle.std.proofs.Common.{Less, map, refl, sym, ap, ◌∙◌, subst}
+use Rattle.std.proofs.lemmas.Bool.{and_from, and_parts}
 use Rattle.std.specs.BTreeMap.{is_at, IsFromIterResult}
 use Rattle.std.specs.Cmp.Lexicographic.{nat_list_cmp_total}
 use Rattle.std.specs.List.{AllByRecursion}
@@ -17,6 +17,7 @@ use Rattle.resb_tree.specs.Tree.{Tree, entries_of, map_of}
 use Rattle.resb_tree.proofs.AtOnce.{inserted, made_entries, inserted_seen, inserted_pass}
 use Rattle.resb_tree.proofs.AtOnce.{seen_by, values_pass}
 use Rattle.resb_tree.proofs.MapsLemmas.{map_of-sorted}
+use Rattle.resb_tree.proofs.Numbers.{is_lt_tells}
 use Rattle.resb_draft.specs.Drafts.{texts_ascend}
 use Rattle.resb_draft.specs.Inner.Entries.{keys_ascend, slice_order}
 use Rattle.resb_draft.proofs.Lists.{ascend_on}
@@ -48,11 +49,6 @@ ascend_more es i d e some few h less =
     ∙ ap texts_ascend (map_push key (take i es) next ∙ ap (λ l. l ++ key next ∷ []) is)
     ∙ ascend_on (map key front) (key last) (key next) (ap texts_ascend (sym is) ∙ h) less
 
-is_less : (o : Ordering) → is_lt o ≡ true → o ≡ Less
-is_less Less h = refl
-is_less Equal h = absurd (false≢true h)
-is_less Greater h = absurd (false≢true h)
-
 below_all : (k l : List ℕ) (ks : List (List ℕ)) → text_cmp k l ≡ Less
     → AllByRecursion (λ y. text_cmp l y ≡ Less) ks → AllByRecursion (λ y. text_cmp k y ≡ Less) ks
 below_all k l [] e h = tt
@@ -65,7 +61,7 @@ texts_sorted [] h = tt
 texts_sorted (k ∷ []) h = (tt, tt)
 texts_sorted (k ∷ l ∷ ks) h =
     let parts = and_parts (is_lt (text_cmp k l)) _ h in
-    let e = is_less _ parts.0 in
+    let e = is_lt_tells _ parts.0 in
     let more = texts_sorted (l ∷ ks) parts.1 in
     ((e, below_all k l ks e more.0), more)
 

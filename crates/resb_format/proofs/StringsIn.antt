@@ -20,14 +20,14 @@ part_inside bs i n h = grind (arith, nat_tests, units_length bs)
 pub ruleset string_units_cut = (part_inside, units_outside)
 
 -- the second unit of a marker is missing
-pub no_second : (bs : List ℕ) (u first : ℕ) → 0xdfee < first → first ≤ 0xdfff
+pub second_unit_missing : (bs : List ℕ) (u first : ℕ) → 0xdfee < first → first ≤ 0xdfff
     → length bs / 2 ≤ u + 1 → string_from (units_of bs) u first ≡ None
-no_second bs u first g h k = grind (arith, nat_tests, units_length bs)
+second_unit_missing bs u first g h k = grind (arith, nat_tests, units_length bs)
 
 -- the third unit of a marker is missing
-pub no_third : (bs : List ℕ) (u first : ℕ) → 0xdffe < first → first ≤ 0xdfff → length bs / 2 ≤ u + 2
+pub third_unit_missing : (bs : List ℕ) (u first : ℕ) → 0xdffe < first → first ≤ 0xdfff → length bs / 2 ≤ u + 2
     → string_from (units_of bs) u first ≡ None
-no_third bs u first g h k = grind (arith, nat_tests, units_length bs)
+third_unit_missing bs u first g h k = grind (arith, nat_tests, units_length bs)
 
 -- a string that a 0 ends
 pub ends_at_zero : (us : List ℕ) → position_or_len (λ x. nat_eq x 0) us < length us

@@ -29,11 +29,12 @@ not_big n b h e f = grind (arith, nat_tests)
 pub is_big : (n : ℕ) (b : Bool) → b ≡ nat_eq n 1 → b ≡ true → n ≡ 1
 is_big n b e f = grind (arith, nat_tests)
 
--- a number is 0, or need not be
-pub zero_is : (any : Bool) (n : ℕ) → (any || nat_eq n 0) ≡ true → any ≡ false → n ≡ 0
-zero_is true n h e = cc
-zero_is false n h e = grind (arith, nat_tests)
+-- a number is 0 where it may not be any, as the test says
+pub zero_unless_any : (any : Bool) (n : ℕ) → (any || nat_eq n 0) ≡ true → any ≡ false → n ≡ 0
+zero_unless_any true n h e = cc
+zero_unless_any false n h e = grind (arith, nat_tests)
 
-pub zero_or : (any : Bool) (n : ℕ) → (any ≡ false → n ≡ 0) → (any || nat_eq n 0) ≡ true
-zero_or true n h = refl
-zero_or false n h = rw (h refl) refl
+-- and where it is, the test says so
+pub zero_or_any : (any : Bool) (n : ℕ) → (any ≡ false → n ≡ 0) → (any || nat_eq n 0) ≡ true
+zero_or_any true n h = refl
+zero_or_any false n h = rw (h refl) refl

@@ -12,8 +12,8 @@ use Rattle.resb_head.specs.HeadChecks.{first_refusal, info_checks, header_checks
 use Rattle.resb_head.specs.HeadChecks.{is_version}
 use Rattle.resb_head.proofs.HeaderSteps.{header_holds}
 use Rattle.resb_head.proofs.Lists.{bytes_eq_holds}
-use Rattle.resb_head.proofs.Numbers.{zero_is}
-use Rattle.resb_head.proofs.Numbers.{zero_or}
+use Rattle.resb_head.proofs.Numbers.{zero_unless_any}
+use Rattle.resb_head.proofs.Numbers.{zero_or_any}
 use Rattle.resb_head.proofs.Lists.{range_behind_four}
 use Rattle.std.proofs.lemmas.Bool.{le-leb, leb-true}
 
@@ -49,7 +49,7 @@ passes any bs e =
       long = leb-true 24 (length bs) p.0;
       magic = (bytes_eq-Decides (slice_range bs 2 4) (0xda ∷ 0x27 ∷ [])).0 p.1.0;
       known_endianness = subst (λ k. k ≤ 1) f4 (leb-true (get_or (drop 4 bs) 4 0) 1 p.1.1.0);
-      own_endianness = λ h. sym f4 ∙ zero_is any (get_or (drop 4 bs) 4 0) p.1.1.1.0 h;
+      own_endianness = λ h. sym f4 ∙ zero_unless_any any (get_or (drop 4 bs) 4 0) p.1.1.1.0 h;
       known_charset = subst (λ k. k ≤ 1) f5 (leb-true (get_or (drop 4 bs) 5 0) 1 p.1.1.1.1.0);
       format =
           sym (range_behind_four bs 8 12)
@@ -65,7 +65,7 @@ passing any bs h =
     let f5 : get_or (drop 4 bs) 5 0 ≡ get_or bs 9 0 = get_or-drop 4 bs 5 0 in
     let t : Tests any (drop 4 bs) = record {
       known = ap (λ k. nat_le k 1) f4 ∙ le-leb (get_or bs 8 0) 1 h.known_endianness;
-      own = ap (λ k. any || nat_eq k 0) f4 ∙ zero_or any (get_or bs 8 0) h.own_endianness;
+      own = ap (λ k. any || nat_eq k 0) f4 ∙ zero_or_any any (get_or bs 8 0) h.own_endianness;
       charset = ap (λ k. nat_le k 1) f5 ∙ le-leb (get_or bs 9 0) 1 h.known_charset;
       format = bytes_eq_holds _ _ (range_behind_four bs 8 12 ∙ h.format);
       version = ap is_version (range_behind_four bs 12 16) ∙ h.version;

@@ -1,6 +1,8 @@
--- Numbers, Booleans, options and results: what names no word of this project.
+-- Numbers, bytes of a list, Booleans, options and results: what names no word of this project.
 use Rattle.std.proofs.Common.{◌≡◌, ◌≢◌, ℕ, ◌+◌, ◌≤◌, Bool, true, false, refl, sym, ap, ◌∙◌}
-use Rattle.std.proofs.Common.{arith, cond}
+use Rattle.std.proofs.Common.{arith, cond, ◌<◌, ◌-◌, List, [], length, get_or, take, drop}
+use Rattle.std.specs.Prelude.{slice_get, slice_index, slice_range}
+use Rattle.std.proofs.lemmas.Option.{slice_get_within, slice_get-get_or, same_Some}
 use Rattle.std.specs.Prelude.{Option, Some, None, IfNone, Result, Ok, Err, IfOk, IfErr, not, ◌||◌}
 use Rattle.std.specs.Option.{is_some}
 use Rattle.std.proofs.lemmas.Bool.{false≢true}
@@ -44,3 +46,24 @@ pub err_by : {A E : Type 0} (r : Result A E) (P Q : E → Type 0) → ((e : E) �
     → IfErr r P → IfErr r Q
 err_by (Ok a) P Q f h = tt
 err_by (Err e) P Q f h = f e h
+
+-- behind the text's end stands no byte
+pub past_end : (text : List ℕ) (here b : ℕ) → length text ≤ here → slice_get text here ≡ Some b → ⊥
+past_end text here b l e =
+    let low : here < length text = slice_get_within _ _ _ e in omega (arith, low)
+
+-- where another byte stands, this one does not
+pub other_byte : (text : List ℕ) (here b : ℕ) → here < length text → slice_index text here ≢ b
+    → slice_get text here ≡ Some b → ⊥
+other_byte text here b l n e =
+    n (same_Some (get_or text here 0) b (sym (slice_get-get_or text here 0 l) ∙ e))
+
+-- the byte that stands there
+pub byte_there : (text : List ℕ) (here b : ℕ) → here < length text → slice_index text here ≡ b
+    → slice_get text here ≡ Some b
+byte_there text here b l e = slice_get-get_or text here 0 l ∙ ap Some e
+
+-- a slice of no byte
+pub slice_none : (text : List ℕ) (at : ℕ) → slice_range text at at ≡ []
+slice_none text at =
+    let n : at - at ≡ 0 = omega arith in ap (λ k. take k (drop at text)) n

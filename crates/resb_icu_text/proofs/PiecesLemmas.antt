@@ -10,6 +10,7 @@ use Rattle.std.proofs.lemmas.Str.{IsCharBoundary-after_ascii}
 use Rattle.std.proofs.lemmas.List.{take_more, get_or-drop}
 use Rattle.std.specs.Prelude.{slice_index, nat_lt}
 use Rattle.std.proofs.lemmas.Bool.Decides.{nat_tests}
+use Rattle.resb_icu_text.proofs.Lists.{slice_none}
 use Rattle.resb_grammar.specs.Ascii as ascii
 use Rattle.resb_icu_grammar.specs.Bytes.{backslash}
 use Rattle.resb_icu_grammar.specs.Escapes.{Escape, itself, line_feed, carriage_return, tab}
@@ -140,11 +141,6 @@ slice_more text start at low high =
     ap (λ k. take k (drop start text)) n ∙ take_more (drop start text) (at - start) 0 there
     ∙ ap (λ b. take (at - start) (drop start text) ++ b ∷ [])
     (get_or-drop start text (at - start) 0 ∙ ap (λ k. slice_index text k) same)
-
--- a slice of no byte
-pub slice_none : (text : List ℕ) (at : ℕ) → slice_range text at at ≡ []
-slice_none text at =
-    let n : at - at ≡ 0 = omega arith in ap (λ k. take k (drop at text)) n
 
 -- the value, what is not yet added of it, and what follows are the whole
 pub record Adds (text : List ℕ) (from last start at : ℕ) (old value bytes : List ℕ) : Type 0 where

@@ -26,7 +26,8 @@ use Rattle.resb_icu_text.specs.Inner.Ahead.{Ahead, no_more, more, HasFault, Stri
 use Rattle.resb_icu_text.specs.Refusal.{want_of_memory}
 use Rattle.resb_icu_text.specs.declared.error.IcuTextError.{IcuTextError}
 use Rattle.resb_icu_text.specs.Lexemes.{bytes_said, may_be_key, stands_whole}
-use Rattle.resb_icu_text.proofs.PiecesLemmas.{inside_order, inside_closes, escape_order, slice_none}
+use Rattle.resb_icu_text.proofs.PiecesLemmas.{inside_order, inside_closes, escape_order}
+use Rattle.resb_icu_text.proofs.Lists.{slice_none}
 
 quote_no_word : (b : ℕ) → b ≡ ascii.quote → is_word b ≡ true → ⊥
 quote_no_word b e h = grind (arith, nat_tests, e, h)

@@ -1,9 +1,8 @@
 -- Laws of types of groups and of the root, as the reader's functions use them.
-use Rattle.std.proofs.Common.{◌≡◌, ◌≢◌, ℕ, suc, ◌+◌, ◌<◌, ◌≤◌, Bool, true, false, List, ◌∷◌}
-use Rattle.std.proofs.Common.{arith, length, get_or, drop, refl, sym, ◌∙◌, ap, subst, Some}
+use Rattle.std.proofs.Common.{◌≡◌, ◌≢◌, ℕ, suc, ◌+◌, ◌<◌, Bool, true, false, List, ◌∷◌}
+use Rattle.std.proofs.Common.{length, get_or, drop, refl, sym, ap, subst, Some}
 use Rattle.std.proofs.Common.{drop-cons}
 use Rattle.std.specs.Prelude.{slice_get, slice_index, codes}
-use Rattle.std.proofs.lemmas.Option.{slice_get_within, slice_get-get_or, same_Some}
 use Rattle.resb_grammar.specs.Ascii as ascii
 use Rattle.resb_grammar.specs.GroupTypes.{Kind, Names, table_kind, Stands, NoFallback}
 use Rattle.resb_icu_grammar.specs.Words.{Word, TypeName, GroupType, RootType, table_type}
@@ -16,29 +15,13 @@ use Rattle.resb_icu_text.specs.declared.error.IcuTextError.{IcuTextError}
 use Rattle.resb_icu_grammar.proofs.Types.{no_type_there}
 use Rattle.resb_icu_grammar.proofs.Lexical.{GroupType-one}
 
--- where the byte is other_byte, the bytes do not stand
+-- where the first byte is another, the bytes do not stand
 pub not_there : (text xs : List ℕ) (here i : ℕ) → i < length xs
     → (slice_get text here ≡ Some (get_or xs i 0) → ⊥) → Stands text here (drop i xs) → ⊥
 not_there text xs here i low never s =
     let k : Stands text here (get_or xs i 0 ∷ drop (suc i) xs) =
     subst (λ (ys : List ℕ). Stands text here ys) (drop-cons xs i 0 low) s in
     never k.0
-
--- behind the text's end stands no byte
-pub past_end : (text : List ℕ) (here b : ℕ) → length text ≤ here → slice_get text here ≡ Some b → ⊥
-past_end text here b l e =
-    let low : here < length text = slice_get_within _ _ _ e in omega (arith, low)
-
--- where another byte stands, this one does not
-pub other_byte : (text : List ℕ) (here b : ℕ) → here < length text → slice_index text here ≢ b
-    → slice_get text here ≡ Some b → ⊥
-other_byte text here b l n e =
-    n (same_Some (get_or text here 0) b (sym (slice_get-get_or text here 0 l) ∙ e))
-
--- the byte that stands there
-pub byte_there : (text : List ℕ) (here b : ℕ) → here < length text → slice_index text here ≡ b
-    → slice_get text here ≡ Some b
-byte_there text here b l e = slice_get-get_or text here 0 l ∙ ap Some e
 
 module _ (text : List ℕ) (at : ℕ) where
   -- an error that says where no type stands

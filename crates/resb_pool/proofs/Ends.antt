@@ -11,11 +11,11 @@ use Rattle.std.proofs.lemmas.Str.{chars-nil, IsUtf8-encode}
 use Rattle.resb_pool.specs.Order.{suffix_cmp, end_last_cmp}
 use Rattle.resb_pool.specs.Inner.Cuts.{chars_backwards, IsCut, IsShared}
 use Rattle.resb_pool.proofs.Cut.{front_utf8, key_cut, key_last, cut_whole}
-use Rattle.resb_pool.proofs.Numbers.{then_equal, then_differs}
+use Rattle.resb_pool.proofs.Numbers.{ordering_then_equal, ordering_then_differs}
 
 same_front : (a x y : List ℕ) → end_last_cmp (a ++ x) (a ++ y) ≡ end_last_cmp x y
 same_front [] x y = refl
-same_front (z ∷ a) x y = then_equal (nat_cmp z z) (end_last_cmp (a ++ x) (a ++ y))
+same_front (z ∷ a) x y = ordering_then_equal (nat_cmp z z) (end_last_cmp (a ++ x) (a ++ y))
     (tied_itself nat_cmp_total z) ∙ same_front a x y
 
 -- the last character comes first in the key
@@ -54,7 +54,7 @@ module _ (s t x y : List ℕ) (h : IsShared s t x y) where
   by_last u v c d e f p q ne =
       compared (c ∷ chars_backwards u) (d ∷ chars_backwards v) (last_of s x h.tail u c h.left e p)
       (last_of t y h.tail v d h.right f q)
-      ∙ then_differs c d (end_last_cmp (chars_backwards u) (chars_backwards v)) ne
+      ∙ ordering_then_differs c d (end_last_cmp (chars_backwards u) (chars_backwards v)) ne
 
   pub left_longer : (u : List ℕ) (c : ℕ) → x ≡ u ++ encode_utf8 c → IsScalar c → length y ≡ 0
       → suffix_cmp s t ≡ Less

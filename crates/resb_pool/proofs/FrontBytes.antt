@@ -11,8 +11,9 @@ use Rattle.std.proofs.lemmas.Cmp.{nat_cmp_total, tied_itself}
 use Rattle.resb_pool.specs.Inner.Placing.{AreBytes, front_bytes, record_cmp, fronted_cmp}
 use Rattle.resb_pool.specs.Inner.Placing.{IsRecordOf}
 use Rattle.resb_pool.specs.declared.records.Record.{Record}
-use Rattle.resb_pool.proofs.Numbers.{then_less, then_equal, three_ways, less_is_first, more_not}
-use Rattle.resb_pool.proofs.Numbers.{then_not}
+use Rattle.resb_pool.proofs.Numbers.{ordering_then_less, ordering_then_equal, three_ways}
+use Rattle.resb_pool.proofs.Numbers.{less_is_first, greater_is_not_before}
+use Rattle.resb_pool.proofs.Numbers.{ordering_then_not_before}
 
 head_small : (x : ℕ) (xs : List ℕ) → AreBytes (x ∷ xs) → x < 256
 head_small x xs h = h 0
@@ -49,9 +50,9 @@ order_of (suc n) a (x ∷ xs) [] s t l =
     absurd (omega (arith, l, least n (a * 256) (a * 256 + x) xs (omega arith)))
 order_of (suc n) a (x ∷ xs) (y ∷ ys) s t l =
     three_ways (slice_cmp nat_cmp (x ∷ xs) (y ∷ ys) ≡ Less) x y
-    (λ e. then_less (nat_cmp x y) (slice_cmp nat_cmp xs ys) e)
+    (λ e. ordering_then_less (nat_cmp x y) (slice_cmp nat_cmp xs ys) e)
     (λ e. ap (λ z. ordering_then (nat_cmp x z) (slice_cmp nat_cmp xs ys)) (sym e)
-    ∙ then_equal (nat_cmp x x) (slice_cmp nat_cmp xs ys) (tied_itself nat_cmp_total x)
+    ∙ ordering_then_equal (nat_cmp x x) (slice_cmp nat_cmp xs ys) (tied_itself nat_cmp_total x)
     ∙ order_of n (a * 256 + x) xs ys (tail_small x xs s) (tail_small y ys t)
     (subst (λ z. front_bytes (a * 256 + x) n xs < front_bytes (a * 256 + z) n ys) (sym e) l))
     (λ m. absurd (omega (
@@ -96,8 +97,8 @@ not_before : (x y : Record) → IsFronted x → IsFronted y
 not_before x y h k e = three_ways (is_lt (text_cmp x y) ≡ false) x.front y.front
     (λ f. absurd (less_is_first (nat_cmp x.front y.front) (text_cmp x y) f e))
     (λ f. sym (ap is_lt (ap (λ z. ordering_then (nat_cmp x.front z) (text_cmp x y)) (sym f)
-    ∙ then_equal (nat_cmp x.front x.front) (text_cmp x y) (tied_itself nat_cmp_total x.front))) ∙ e)
-    (λ m. more_not (slice_cmp nat_cmp x.text.now y.text.now) (nat_cmp x.index y.index)
+    ∙ ordering_then_equal (nat_cmp x.front x.front) (text_cmp x y) (tied_itself nat_cmp_total x.front))) ∙ e)
+    (λ m. greater_is_not_before (slice_cmp nat_cmp x.text.now y.text.now) (nat_cmp x.index y.index)
     (nat_list_cmp_total.antisymm x.text.now y.text.now
     ∙ ap ordering_reverse (order_of 8 0 y.text.now x.text.now k.bytes h.bytes
     (omega (arith, m, h.front_is, k.front_is)))))
@@ -106,5 +107,5 @@ pub in_order : (rs : List Record) → All IsFronted rs → IsSorted fronted_cmp 
     → IsSorted record_cmp rs
 in_order rs fronted up k d l m =
     let x = get_or rs (k + 1) d in let y = get_or rs k d in
-    then_not (nat_cmp x.unit_count y.unit_count) _ _ (then_not (nat_cmp y.saved.0 x.saved.0) _ _
+    ordering_then_not_before (nat_cmp x.unit_count y.unit_count) _ _ (ordering_then_not_before (nat_cmp y.saved.0 x.saved.0) _ _
     (not_before x y (fronted (k + 1) d m) (fronted k d (omega (arith, m))))) (up k d l m)

@@ -22,7 +22,8 @@ use Rattle.resb_pool.specs.Inner.Cuts.{chars_backwards}
 use Rattle.resb_pool.specs.Inner.Suffixes.{front_key, keyed_cmp, row_cmp, row_key, IsRowOf}
 use Rattle.resb_pool.specs.declared.suffix_order.Row.{Row}
 use Rattle.resb_pool.proofs.SuffixOrder.{end_last_total}
-use Rattle.resb_pool.proofs.Numbers.{then_less, then_equal, one_of_six, three_ways, less_is_first}
+use Rattle.resb_pool.proofs.Numbers.{ordering_then_less, ordering_then_equal, one_of_six}
+use Rattle.resb_pool.proofs.Numbers.{three_ways, less_is_first}
 
 -- each digit is below the end's
 abbrev IsSmall : List ℕ → Type 0
@@ -112,9 +113,9 @@ order_of (suc n) a [] (y ∷ ys) s t l =
 order_of (suc n) a (x ∷ xs) [] s t l = refl
 order_of (suc n) a (x ∷ xs) (y ∷ ys) s t l =
     three_ways (end_last_cmp (x ∷ xs) (y ∷ ys) ≡ Less) x y
-    (λ e. then_less (nat_cmp x y) (end_last_cmp xs ys) e)
+    (λ e. ordering_then_less (nat_cmp x y) (end_last_cmp xs ys) e)
     (λ e. ap (λ z. ordering_then (nat_cmp x z) (end_last_cmp xs ys)) (sym e)
-    ∙ then_equal (nat_cmp x x) (end_last_cmp xs ys) (tied_itself nat_cmp_total x)
+    ∙ ordering_then_equal (nat_cmp x x) (end_last_cmp xs ys) (tied_itself nat_cmp_total x)
     ∙ order_of n (a * 0x20_0000 + x) xs ys (tail_small x xs s) (tail_small y ys t)
     (subst (λ z. front_key (a * 0x20_0000 + x) n xs < front_key (a * 0x20_0000 + z) n ys) (sym e)
     l))
@@ -160,7 +161,7 @@ after_too x y h k m =
 tied_first : (a b : ℕ) (o : Ordering) → a ≡ b → is_lt (ordering_then (nat_cmp a b) o) ≡ false
     → is_lt o ≡ false
 tied_first a b o f e = sym (ap is_lt (ap (λ z. ordering_then (nat_cmp a z) o) (sym f)
-    ∙ then_equal (nat_cmp a a) o (tied_itself nat_cmp_total a))) ∙ e
+    ∙ ordering_then_equal (nat_cmp a a) o (tied_itself nat_cmp_total a))) ∙ e
 
 before_too : (x y : Row) → IsKeyed x → IsKeyed y → is_lt (keyed_cmp x y) ≡ false
     → is_lt (row_cmp x y) ≡ false

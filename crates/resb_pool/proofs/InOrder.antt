@@ -252,10 +252,10 @@ ends_put rs i count d es k l x e h c = record {
         (ap (λ (z : Record). z.text.now) a)
 
 -- so many units as the records before a record and itself take
-pub so_far : (rs : List Record) (i : ℕ) (d : Record) → i < length rs
+pub units_up_to_record : (rs : List Record) (i : ℕ) (d : Record) → i < length rs
     → sum_by size (record_texts (take i rs)) + size (get_or rs i d).text.now ≤ sum_by size
     (record_texts rs)
-so_far rs i d h =
+units_up_to_record rs i d h =
     let t = (get_or rs i d).text.now in
     let e = ap (sum_by size) (texts-split rs i d h) in
     let f = sum_by-append size (record_texts (take i rs)) (t ∷ record_texts (drop (suc i) rs)) in

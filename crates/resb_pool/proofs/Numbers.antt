@@ -19,23 +19,23 @@ cmp_both_ways x y =
     (λ e _. inr (inr (e, back x y Greater e)))
 
 -- of two comparisons in a row, the first decides where it tells a difference
-pub then_less : (o p : Ordering) → o ≡ Less → ordering_then o p ≡ Less
-then_less o p e = rw e refl
+pub ordering_then_less : (o p : Ordering) → o ≡ Less → ordering_then o p ≡ Less
+ordering_then_less o p e = rw e refl
 
-pub then_greater : (o p : Ordering) → o ≡ Greater → ordering_then o p ≡ Greater
-then_greater o p e = rw e refl
+pub ordering_then_greater : (o p : Ordering) → o ≡ Greater → ordering_then o p ≡ Greater
+ordering_then_greater o p e = rw e refl
 
 -- and the second where it tells none
-pub then_equal : (o p : Ordering) → o ≡ Equal → ordering_then o p ≡ p
-then_equal o p e = rw e refl
+pub ordering_then_equal : (o p : Ordering) → o ≡ Equal → ordering_then o p ≡ p
+ordering_then_equal o p e = rw e refl
 
 -- two numbers that differ decide
-pub then_differs : (x y : ℕ) (o : Ordering) → (x ≡ y → ⊥)
+pub ordering_then_differs : (x y : ℕ) (o : Ordering) → (x ≡ y → ⊥)
     → ordering_then (nat_cmp x y) o ≡ nat_cmp x y
-then_differs x y o ne = elim (cmp_both_ways x y) [
-  | inl h ↦ then_less (nat_cmp x y) o h.0 ∙ sym h.0
+ordering_then_differs x y o ne = elim (cmp_both_ways x y) [
+  | inl h ↦ ordering_then_less (nat_cmp x y) o h.0 ∙ sym h.0
   | inr (inl h) ↦ absurd (ne h.2)
-  | inr (inr h) ↦ then_greater (nat_cmp x y) o h.0 ∙ sym h.0
+  | inr (inr h) ↦ ordering_then_greater (nat_cmp x y) o h.0 ∙ sym h.0
 ]
 
 -- of what is left of six, one is taken
@@ -49,18 +49,18 @@ three_ways P x y less same more = by_ranked (x < y) (x ≡ y) (y < x) (nat_cmp x
 
 -- where the first of two comparisons says that one thing stands before another, so do both
 pub less_is_first : (o p : Ordering) → o ≡ Less → is_lt (ordering_then o p) ≡ false → ⊥
-less_is_first o p f g = cc (ap is_lt (then_less o p f), g)
+less_is_first o p f g = cc (ap is_lt (ordering_then_less o p f), g)
 
 -- what is after another thing by the first comparison is not before it
-pub more_not : (o p : Ordering) → o ≡ Greater → is_lt (ordering_then o p) ≡ false
-more_not o p f = rw f refl
+pub greater_is_not_before : (o p : Ordering) → o ≡ Greater → is_lt (ordering_then o p) ≡ false
+greater_is_not_before o p f = rw f refl
 
 -- not before by two comparisons in a row, nor where the second one is another that says no more
-pub then_not : (o p q : Ordering) → (is_lt p ≡ false → is_lt q ≡ false)
+pub ordering_then_not_before : (o p q : Ordering) → (is_lt p ≡ false → is_lt q ≡ false)
     → is_lt (ordering_then o p) ≡ false → is_lt (ordering_then o q) ≡ false
-then_not Less p q f h = h
-then_not Equal p q f h = f h
-then_not Greater p q f h = h
+ordering_then_not_before Less p q f h = h
+ordering_then_not_before Equal p q f h = f h
+ordering_then_not_before Greater p q f h = h
 
 -- how two numbers compare, and what that says
 pub cmp_cases : (x y : ℕ) → ((nat_cmp x y ≡ Less) × (x < y)) ⊎ (((nat_cmp x y ≡ Equal) × (x ≡ y))

@@ -9,7 +9,8 @@ use Rattle.std.specs.declared.cmp.Ordering.TheVariants.{Equal}
 use Rattle.std.proofs.lemmas.Cmp.{lists_total, then_total, on_total, nat_cmp_total, tied_itself}
 use Rattle.resb_pool.specs.Order.{end_last_cmp}
 use Rattle.resb_pool.specs.Inner.Extends.{Extends, Before, NotAfter}
-use Rattle.resb_pool.proofs.Numbers.{cmp_both_ways, then_less, then_greater, then_equal}
+use Rattle.resb_pool.proofs.Numbers.{cmp_both_ways, ordering_then_less, ordering_then_greater}
+use Rattle.resb_pool.proofs.Numbers.{ordering_then_equal}
 
 -- the letters and then the end, which is above each letter
 marked : List ℕ → List (ℕ × ℕ)
@@ -42,15 +43,15 @@ tied_same [] [] e = refl
 tied_same [] (y ∷ ys) e = cc
 tied_same (x ∷ xs) [] e = cc
 tied_same (x ∷ xs) (y ∷ ys) e = elim (cmp_both_ways x y) [
-  | inl h ↦ cc (then_less (nat_cmp x y) (end_last_cmp xs ys) h.0)
-  | inr (inl h) ↦ (let k = tied_same xs ys (sym (then_equal (nat_cmp x y) (end_last_cmp xs ys) h.0)
+  | inl h ↦ cc (ordering_then_less (nat_cmp x y) (end_last_cmp xs ys) h.0)
+  | inr (inl h) ↦ (let k = tied_same xs ys (sym (ordering_then_equal (nat_cmp x y) (end_last_cmp xs ys) h.0)
       ∙ e) in cc)
-  | inr (inr h) ↦ cc (then_greater (nat_cmp x y) (end_last_cmp xs ys) h.0)
+  | inr (inr h) ↦ cc (ordering_then_greater (nat_cmp x y) (end_last_cmp xs ys) h.0)
 ]
 
 longer_before : (s : List ℕ) (z : ℕ) (rest : List ℕ) → Before (s ++ z ∷ rest) s
 longer_before [] z rest = refl
-longer_before (x ∷ s) z rest = then_equal (nat_cmp x x) (end_last_cmp (s ++ z ∷ rest) s)
+longer_before (x ∷ s) z rest = ordering_then_equal (nat_cmp x x) (end_last_cmp (s ++ z ∷ rest) s)
     (tied_itself nat_cmp_total x) ∙ longer_before s z rest
 
 -- what extends a text stands before it
@@ -82,13 +83,13 @@ between t q s n b h = by_rest t q s h.rest h.is n b
         let f : t ≡ s ++ r = cc in
         elim (cmp_both_ways y x) [
           | inl h ↦ absurd (n (ap (λ c. ordering_then (nat_cmp c y) (end_last_cmp t q)) zx
-              ∙ then_greater (nat_cmp x y) (end_last_cmp t q) h.1))
+              ∙ ordering_then_greater (nat_cmp x y) (end_last_cmp t q) h.1))
           | inr (inl h) ↦
               let k = by_rest t q s r f
               (λ g. n (ap (λ c. ordering_then (nat_cmp c y) (end_last_cmp t q)) zx
-              ∙ then_equal (nat_cmp x y) (end_last_cmp t q) h.1 ∙ g))
-              (sym (then_equal (nat_cmp y x) (end_last_cmp q s) h.0) ∙ b) in
+              ∙ ordering_then_equal (nat_cmp x y) (end_last_cmp t q) h.1 ∙ g))
+              (sym (ordering_then_equal (nat_cmp y x) (end_last_cmp q s) h.0) ∙ b) in
               let g : y ∷ q ≡ x ∷ (s ++ k.rest) = cc in
               record { rest = k.rest; is = g }
-          | inr (inr h) ↦ cc (then_greater (nat_cmp y x) (end_last_cmp q s) h.0)
+          | inr (inr h) ↦ cc (ordering_then_greater (nat_cmp y x) (end_last_cmp q s) h.0)
         ]

@@ -21,8 +21,8 @@ pub(crate) struct Texts<'a> {
 }
 
 impl<'a> Texts<'a> {
-    /// No texts, with room for those of so many strings, of which a quarter are taken to be distinct:
-    /// in a smaller table texts are found faster.
+    /// No texts, with room for those of so many strings, of which a quarter are taken to be
+    /// distinct: in a smaller table texts are found faster.
     fn with_capacity(alloc: Global, count: usize) -> Result<Texts<'a>, AllocError>
         ensures texts { IfOk result (λ t. AreTexts [] (nows t.distinct.keys) t.measures.items) }
         ensures turns { IfOk result (λ t. AreTurns [] (nows t.distinct.keys) t.order.items) }

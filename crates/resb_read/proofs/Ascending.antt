@@ -16,7 +16,8 @@ use Rattle.resb_read.specs.Tables.{keys_ascend}
 use Rattle.std.specs.List.{take-map, drop-map}
 use Rattle.std.proofs.lemmas.Map.Lookups.{exact_bytes}
 use Rattle.std.proofs.Common.{if◌then◌else◌}
-use Rattle.resb_read.proofs.PlainLists.{tied_bytes, is_lt_tells}
+use Rattle.resb_read.proofs.PlainLists.{tied_bytes}
+use Rattle.resb_tree.proofs.Numbers.{is_lt_tells}
 
 below_not : (s t : List ℕ) → IsBelow s t → bytes_eq s t ≡ false
 below_not s t h = sym (is_eq-slice_cmp s t) ∙ ap is_eq h

@@ -5,12 +5,10 @@ use Rattle.std.proofs.Common.{◌∙◌, sym, arith, ◌++◌, ℕ, true, refl, 
 use Rattle.std.proofs.Common.{zero, suc, ◌+◌, ◌*◌, get_or}
 use Rattle.std.proofs.lemmas.List.{map-append}
 use Rattle.std.specs.Str.{bytes_eq}
-use Rattle.std.specs.Ordering.{nat_cmp, is_eq, is_lt}
+use Rattle.std.specs.Ordering.{nat_cmp, is_eq}
 use Rattle.std.specs.Cmp.Lexicographic.{slice_cmp}
-use Rattle.std.specs.declared.cmp.Ordering.TheVariants.{Equal, Less, Greater}
+use Rattle.std.specs.declared.cmp.Ordering.TheVariants.{Equal}
 use Rattle.std.proofs.lemmas.Map.Text.{is_eq-slice_cmp}
-use Rattle.std.proofs.lemmas.Bool.{false≢true}
-use Rattle.std.specs.declared.cmp.Ordering.{Ordering}
 use Rattle.std.proofs.lemmas.Option.{same_Some, none-some}
 use Rattle.std.specs.Int.{to_le_bytes, w16}
 use Rattle.std.proofs.lemmas.Nat.{le_bytes_2}
@@ -47,12 +45,6 @@ pub ruleset rests = (map_first, map_none, drop_first, empty_has_none)
 -- bytes that tie are the same
 pub tied_bytes : (s t : List ℕ) → slice_cmp nat_cmp s t ≡ Equal → bytes_eq s t ≡ true
 tied_bytes s t h = sym (is_eq-slice_cmp s t) ∙ ap is_eq h
-
--- what the test for a lesser one tells
-pub is_lt_tells : (o : Ordering) → is_lt o ≡ true → o ≡ Less
-is_lt_tells Less h = refl
-is_lt_tells Equal h = absurd (false≢true h)
-is_lt_tells Greater h = absurd (false≢true h)
 
 -- a part of a list, mapped, from its front, one member and those behind it
 pub map_of_front : {A B : Type 0} (f : A → B) (w front back later : List A) (x : A)

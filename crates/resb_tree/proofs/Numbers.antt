@@ -4,7 +4,7 @@ use Rattle.std.specs.Prelude.{IsTrue}
 use Rattle.std.proofs.lemmas.Bool.{false≢true}
 use Rattle.std.specs.Prelude.{T, true, ◌&&◌}
 use Rattle.std.proofs.Common.{Ordering, Less, Equal, Greater}
-use Rattle.std.specs.Ordering.{ordering_reverse, is_eq}
+use Rattle.std.specs.Ordering.{ordering_reverse, is_eq, is_lt}
 use Rattle.std.proofs.Common.{Option, Some, None}
 use Rattle.std.specs.Option.{UnwrapsOrElse}
 
@@ -27,6 +27,12 @@ pub eq_reversed : (o : Ordering) → is_eq (ordering_reverse o) ≡ is_eq o
 eq_reversed Less = refl
 eq_reversed Equal = refl
 eq_reversed Greater = refl
+
+-- what the test for less tells
+pub is_lt_tells : (o : Ordering) → is_lt o ≡ true → o ≡ Less
+is_lt_tells Less h = refl
+is_lt_tells Equal h = absurd (false≢true h)
+is_lt_tells Greater h = absurd (false≢true h)
 
 -- what stands where nothing stood was made new
 pub made_new : {X : Type 0} (o : Option X) (P : X → Type 0) (r : X) → o ≡ None → UnwrapsOrElse o P r

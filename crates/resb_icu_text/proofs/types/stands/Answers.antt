@@ -2,7 +2,8 @@ use Rattle.std.proofs.Common.{◌≡◌, ◌<◌, ◌≤◌, length, arith, refl
 use Rattle.std.proofs.Common.{ap, Some}
 use Rattle.std.specs.Prelude.{slice_get}
 use Rattle.std.proofs.lemmas.Bool.{false≢true}
-use Rattle.resb_icu_text.proofs.TypesLemmas.{not_there, past_end, other_byte, byte_there}
+use Rattle.resb_icu_text.proofs.TypesLemmas.{not_there}
+use Rattle.resb_icu_text.proofs.Lists.{past_end, other_byte, byte_there}
 use Rattle.resb_icu_text.proofs.types.stands.Goals.{then-here-all-via-then-here-all}
 use Rattle.resb_icu_text.proofs.types.stands.Goals.{then-here-all-via-else-here-all+then-all-here}
 use Rattle.resb_icu_text.proofs.types.stands.Goals as goal

@@ -7,7 +7,7 @@ use Rattle.resb_pool.specs.Pool.{record_units}
 use Rattle.resb_pool.specs.Inner.Placing.{record_texts}
 use Rattle.resb_pool.specs.declared.records.Record.{Record}
 use Rattle.resb_pool.proofs.TextLoops.{blank}
-use Rattle.resb_pool.proofs.InOrder.{length-records, texts-take, ends_put, closes_at, so_far}
+use Rattle.resb_pool.proofs.InOrder.{length-records, texts-take, ends_put, closes_at, units_up_to_record}
 use Rattle.resb_pool.proofs.InOrder.{records-push}
 use Rattle.resb_pool.proofs.records.lay.Goals as goal
 
@@ -26,7 +26,7 @@ push_record-requires-clause-short c =
     let i = c.loop-record.record-index in
     omega (
       arith,
-      so_far rs i no_record c.loop-record-test.true,
+      units_up_to_record rs i no_record c.loop-record-test.true,
       c.requires.counts i no_record c.loop-record-test.true,
       c.requires.short,
     )
@@ -41,7 +41,7 @@ push_record-requires-clause-fits c =
     let i = c.loop-record.record-index in
     omega (
       arith,
-      so_far rs i no_record c.loop-record-test.true,
+      units_up_to_record rs i no_record c.loop-record-test.true,
       before c.loop-record.units.items (record_texts (take i rs)) c.loop-record.invariant.units,
       c.requires.short,
     )

@@ -3,6 +3,8 @@
 
     write_kinds.py [KIND ..]              all six kinds or these, each at a size of its own
     write_kinds.py --growth [BYTES ..]    ours alone, 10 kB to 100 MB, with the growth per tenfold
+    write_kinds.py --distinct PROGRAM [BYTES ..]
+                                          the same of PROGRAM, which is distinct.c's
     write_kinds.py --make KIND BYTES      the text of a kind, on standard output
 
 `--program PATH` in front of these times another program. The least of three times is printed, in
@@ -99,18 +101,22 @@ def beside_genrb(program, work, kinds):
         print(line, flush=True)
 
 
-def grows(program, work, sizes):
+def grows(command, work, sizes):
     for kind in KINDS:
         if kind in ('unsorted keys', 'distinct last letters'):
             continue
         before = None
         for size in sizes:
             length = make(__file__, kind, size, work / 'b.txt')
-            took, memory, status = least([program, 'compile', 'b.txt', 'ours.res'], 3, folder=work)
+            took, memory, status = least(command, 3, given=work / 'b.txt', folder=work)
             print('%-36s %10d bytes %9.1f ms%s, %.1f bytes a byte%s' % (
                 kind, length, took, growth(took, before), memory / length,
                 '' if status == 0 else ', refused'), flush=True)
             before = took
+
+
+def sizes(words):
+    return [int(word) for word in words] or [10 ** k for k in range(4, 9)]
 
 
 def main():
@@ -124,7 +130,9 @@ def main():
     with tempfile.TemporaryDirectory() as name:
         work = pathlib.Path(name)
         if words[:1] == ['--growth']:
-            grows(program, work, [int(a) for a in words[1:]] or [10 ** k for k in range(4, 9)])
+            grows([program, 'compile', 'b.txt', 'ours.res'], work, sizes(words[1:]))
+        elif words[:1] == ['--distinct']:
+            grows([words[1]], work, sizes(words[2:]))
         else:
             beside_genrb(program, work, words or list(KINDS))
 

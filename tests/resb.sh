@@ -236,6 +236,16 @@ told 0 '' '' compile plain.txt
 same icu.res plain.res
 told 1 '' $'icu.txt:1:1: expected a string\n\357\273\277en {\n^
 icu.txt: texts of ICU\'s own form are read with --icu' compile icu.txt
+# the character that only ICU's words have says so, another one doesn't
+for character in _ % . +; do
+  printf '%s' "b$character{}" > word.txt
+  told 1 '' "word.txt:1:2: expected '{'
+b$character{}
+ ^
+word.txt: texts of ICU's own form are read with --icu" compile word.txt
+done
+printf 'b={}' > word.txt
+told 1 '' "word.txt:1:2: expected '{'"$'\nb={}\n ^' compile word.txt
 printf 'b{a{x}\n a{y}}' > twice.txt
 told 1 '' $'twice.txt:2:6: expected each key once in the table that ends here\n a{y}}\n     ^' \
   compile --icu twice.txt

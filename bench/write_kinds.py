@@ -115,7 +115,7 @@ def grows(command, work, sizes):
             before = took
 
 
-def sizes(words):
+def sizes_of(words):
     return [int(word) for word in words] or [10 ** k for k in range(4, 9)]
 
 
@@ -130,9 +130,9 @@ def main():
     with tempfile.TemporaryDirectory() as name:
         work = pathlib.Path(name)
         if words[:1] == ['--growth']:
-            grows([program, 'compile', 'b.txt', 'ours.res'], work, sizes(words[1:]))
+            grows([program, 'compile', 'b.txt', 'ours.res'], work, sizes_of(words[1:]))
         elif words[:1] == ['--distinct']:
-            grows([words[1]], work, sizes(words[2:]))
+            grows([words[1]], work, sizes_of(words[2:]))
         else:
             beside_genrb(program, work, words or list(KINDS))
 

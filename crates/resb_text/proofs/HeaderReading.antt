@@ -1,7 +1,7 @@
 -- What stands before the root's items: where it leads to, and where it is refused.
 use Rattle.std.proofs.Common.{◌≡◌, ◌≢◌, ℕ, Bool, true, false, List, refl, sym, ap, subst}
 use Rattle.std.proofs.Common.{arith, Some, inl, inr, ⊎_elim}
-use Rattle.std.specs.Prelude.{◌⊎◌, ◌==◌, slice_index}
+use Rattle.std.specs.Prelude.{◌⊎◌, ◌==◌, slice_index, Result, Ok, Err, IfErr}
 use Rattle.std.proofs.lemmas.Bool.Decides.{nat_tests}
 use Rattle.resb_grammar.specs.Ascii as ascii
 use Rattle.resb_grammar.specs.Lexical.{Skip, Text}
@@ -131,3 +131,8 @@ module _ (text : List ℕ) where
   fails_no_bundle e h =
       ⊎_elim (λ (m : e ≡ want_of_memory). inl m)
       (λ (s : Stuck text e.position e.expected). inr (stuck_none text e.position e.expected s)) h
+
+  pub no_bundle_if_fails : {T : Type 0} (r : Result T TextParserError) → IfErr r (Fails text)
+      → IfErr r (λ e. (e ≡ want_of_memory) ⊎ IsNoBundle text)
+  no_bundle_if_fails (Ok x) h = tt
+  no_bundle_if_fails (Err e) h = fails_no_bundle e h

@@ -16,6 +16,11 @@ pub if_ok_to : {T E : Type 0} {P Q : T → Type 0} (r : Result T E) → IfOk r P
 if_ok_to (Ok x) h f = f x h
 if_ok_to (Err e) h f = tt
 
+pub match_option_to : {A N M : Type 0} {P Q : A → Type 0} (r : Option A) → (N → M)
+    → ((x : A) → P x → Q x) → MatchOption r N P → MatchOption r M Q
+match_option_to (Some x) f g h = g x h
+match_option_to None f g h = f h
+
 -- what is said of both outcomes and of what may be in the first, said more weakly
 pub match_weaker : {A E N M : Type 0} {P Q : A → Type 0} {F G : E → Type 0}
     (r : Result (Option A) E) → (N → M) → ((x : A) → P x → Q x) → ((e : E) → F e → G e)

@@ -1,12 +1,48 @@
 -- A quota is kept whether more may be made or not.
-use Rattle.std.proofs.Common.{◌≡◌, ℕ, ◌+◌, ◌<◌, List, arith}
-use Rattle.resb_grammar.specs.Limit.{MakesMore}
-use Rattle.resb_text.specs.Inner.Quota.{KeepsQuota}
+use Rattle.std.proofs.Common.{◌≡◌, ℕ, ◌+◌, ◌<◌, true, List, arith, refl, sym, ◌∙◌, subst}
+use Rattle.std.proofs.lemmas.Bool.{false≢true}
+use Rattle.resb_grammar.specs.Limit.{MadeWithin, MakesMore}
+use Rattle.resb_grammar.proofs.MadeOnce.{never_more}
+use Rattle.resb_text.specs.Inner.Quota.{KeepsQuota, IsUnused, Takes, RunsOver}
 use Rattle.resb_text.specs.declared.quota.Quota.{Quota}
 
--- what was asked for is what the next token makes
-pub quota_kept : (text : List ℕ) (p q : Quota) (asked made : ℕ) → asked ≡ made → KeepsQuota text p
-    → ((text : List ℕ) → KeepsQuota text p → (p.limit < p.made + asked → MakesMore text p.limit)
-    → KeepsQuota text q)
-    → (p.limit < p.made + made → MakesMore text p.limit) → KeepsQuota text q
-quota_kept text p q asked made same k keeps more = keeps text k (λ l. more (omega (arith, same, l)))
+-- what was asked for is made
+pub quota_kept : {text : List ℕ} {limit n : ℕ} {p q : Quota} → KeepsQuota text limit p → Takes p q n
+    → KeepsQuota text limit q
+quota_kept k t = record {
+  same = t.same ∙ k.same;
+  within = omega (arith, t.within, k.same);
+  over = λ e. k.over (sym t.over ∙ e);
+}
+
+-- what was asked for is what the next token makes, and is more than the limit
+pub quota_over : {text : List ℕ} {limit n : ℕ} {p q : Quota} → KeepsQuota text limit p
+    → RunsOver p q n → (limit < p.made + n → MakesMore text limit) → KeepsQuota text limit q
+quota_over k r more = record {
+  same = r.same ∙ k.same;
+  within = omega (arith, r.made, k.within);
+  over = λ e. more (omega (arith, r.more, k.same));
+}
+
+-- a quota of which nothing was taken is kept
+pub unused_kept : {text : List ℕ} {q : Quota} → IsUnused q → KeepsQuota text q.limit q
+unused_kept u = record {
+  same = refl;
+  within = omega (arith, u.made);
+  over = λ e. absurd (false≢true (sym u.over ∙ e));
+}
+
+-- the limit that is kept is the quota's own
+pub own_limit_kept : {text : List ℕ} {limit : ℕ} {q : Quota} → KeepsQuota text limit q
+    → KeepsQuota text q.limit q
+own_limit_kept {text} k = record {
+  same = refl;
+  within = omega (arith, k.same, k.within);
+  over = λ e. subst (λ l. MakesMore text l) (sym k.same) (k.over e);
+}
+
+-- where more was asked for than this limit, no reading stays within it
+pub larger : {text : List ℕ} {limit n : ℕ} {q : Quota} → KeepsQuota text limit q
+    → q.is_over ≡ true → limit ≡ n → MadeWithin text n → ⊥
+larger {text} k over same within =
+    never_more _ _ within (subst (λ l. MakesMore text l) same (k.over over))

@@ -7,7 +7,9 @@ use Rattle.resb_grammar.specs.Ascii as ascii
 use Rattle.resb_grammar.specs.ByteRuns.{Run, is_word, is_digit}
 use Rattle.resb_grammar.specs.Inner.Reach.{reach}
 use Rattle.resb_grammar.proofs.ReachLemmas.{reach_low, reach_high, reach_here, reach_byte}
-use Rattle.resb_grammar.proofs.ReachLemmas.{reach_right, reach_quote, reach_comma, reach_colon}
+use Rattle.resb_grammar.proofs.ReachLemmas.{reach_left, reach_right, reach_quote, reach_comma}
+use Rattle.resb_grammar.proofs.ReachLemmas.{reach_colon}
+use Rattle.resb_grammar.proofs.Lists.{nonzero_inside}
 
 -- where a word begins, up to its place
 pub reach_word : (text : List ℕ) (from to : ℕ) → Run is_word text from to → from < to
@@ -58,3 +60,12 @@ pub ruleset reach_types = (reach_colon, reach_high)
 
 -- what is said of a quote or the end
 pub ruleset reach_texts = (reach_quote, reach_high)
+
+-- where a brace, a comma or a colon stands
+pub ruleset at_left_brace = (reach_left, nonzero_inside)
+
+pub ruleset at_right_brace = (reach_right, nonzero_inside)
+
+pub ruleset at_comma = (reach_comma, nonzero_inside)
+
+pub ruleset at_colon = (reach_colon, reach_high, nonzero_inside)

@@ -1,7 +1,7 @@
 -- Typed groups among the items of an open group.
-use Rattle.std.proofs.Common.{◌≡◌, ◌≢◌, ◌+◌, ◌<◌, ℕ, Bool, true, false, List, [], refl, sym, ◌∙◌}
-use Rattle.std.proofs.Common.{ap, subst, arith, Some, inl, inr, ⊎_elim}
-use Rattle.std.specs.Prelude.{◌⊎◌, not, slice_index}
+use Rattle.std.proofs.Common.{◌≡◌, ◌≢◌, ◌+◌, ◌≤◌, ℕ, Bool, true, false, List, [], refl, sym, ◌∙◌}
+use Rattle.std.proofs.Common.{ap, subst, arith, length, Some, inl, inr, ⊎_elim}
+use Rattle.std.specs.Prelude.{not, slice_index}
 use Rattle.std.proofs.lemmas.Bool.{false≢true}
 use Rattle.resb_grammar.specs.Ascii as ascii
 use Rattle.resb_tree.specs.Tree.{Tree}
@@ -11,7 +11,7 @@ use Rattle.resb_grammar.specs.GroupTypes.{Kind, string_kind, array_kind, table_k
 use Rattle.resb_grammar.specs.GroupTypes.{integer_kind, vector_kind, GroupType, TypedOpening}
 use Rattle.resb_grammar.specs.Group.{LeafContent, string_content, binary_content, integer_content}
 use Rattle.resb_grammar.specs.Group.{vector_content}
-use Rattle.resb_grammar.specs.Limit.{begun_bytes, leaf_bytes, Makes, MakesMore}
+use Rattle.resb_grammar.specs.Limit.{begun_bytes, leaf_bytes, Makes}
 use Rattle.resb_grammar.proofs.Making.{reading_of, makes_on, makes_more, opening_made}
 use Rattle.resb_grammar.proofs.Making.{begun_made, content_made, BeforeBrace}
 use Rattle.resb_grammar.specs.Items.{Item, group_term}
@@ -21,22 +21,23 @@ use Rattle.resb_grammar.specs.Machine.{a_number, opening, closing, a_comma, a_ty
 use Rattle.resb_grammar.specs.Machine.{State, inside, typed, with_term, within, is_key_place}
 use Rattle.resb_grammar.specs.Machine.{in_body, next, At}
 use Rattle.resb_grammar.proofs.Lex.{neither, type_class}
-use Rattle.resb_grammar.specs.Stuck.{expectation, expected_in, Stuck, blocked}
-use Rattle.resb_text.specs.Inner.Leaf.{LeafGroup, LeafFails}
-use Rattle.resb_text.specs.Inner.Frames.{group_body_of, StandsFor}
-use Rattle.resb_text.specs.Answer.{Fails}
+use Rattle.resb_grammar.specs.Stuck.{expectation, expected_in, NoToken, Stuck, blocked}
+use Rattle.resb_text.specs.Inner.Leaf.{LeafGroup, LeafFails, LeafRefuses}
+use Rattle.resb_text.specs.Inner.Frames.{StandsFor}
+use Rattle.resb_text.specs.Inner.Quota.{Takes, RunsOver}
 use Rattle.resb_text.specs.Refusal.{want_of_memory}
-use Rattle.resb_text.specs.Inner.Steps.{takes_group, Among, TypedOpeningFails}
+use Rattle.resb_text.specs.Inner.Steps.{takes_group, Among, Stops, TypedOpeningFails}
 use Rattle.resb_text.specs.declared.frames.Open.{Open}
+use Rattle.resb_text.specs.declared.quota.Quota.{Quota}
 use Rattle.resb_grammar.specs.declared.expected.Expected.{Expected}
 use Rattle.resb_grammar.specs.declared.expected.Expected.TheVariants as expect
 use Rattle.resb_text.specs.declared.error.TextParserError.{TextParserError}
 use Rattle.resb_grammar.specs.Token.{Means}
 use Rattle.resb_grammar.proofs.Moves.{move_means, further, byte_class, none_some, no_text_colon}
 use Rattle.resb_grammar.proofs.Complete.{MayOpen, type_next, run_opening}
-use Rattle.resb_grammar.proofs.FirstBytes.{no_number_in_body, no_root_type_in_body}
 use Rattle.resb_text.proofs.HeaderReading.{error_at}
-use Rattle.resb_text.proofs.StepsLemmas.{body_same, stuck_here}
+use Rattle.resb_text.proofs.StepsLemmas.{Leads, none_there, stuck_here}
+use Rattle.resb_text.proofs.QuotaLemmas.{quota_kept, quota_over}
 use Rattle.resb_grammar.proofs.Numbers.{plus_no_bytes}
 
 may_open : (b : Body) (xs : List Item) → takes_group b (is_key_place xs) ≡ true → MayOpen b xs
@@ -65,20 +66,48 @@ no_type_token table_body o kind u h e = go (is_key_place o.frame.items) h e
 no_type_token array_body o kind u h e = absurd (false≢true (sym h))
 no_type_token untyped_body o kind u h e = absurd (false≢true (sym h))
 
+-- a type that holds items begins a group
+begins : (kind : Kind) (body : Body)
+    → ((o : machine.Open) → machine.begun_as kind o ≡ inside (within body o))
+    → machine.Open → 72 ≡ begun_bytes kind
+begins array_kind body opens o = refl
+begins table_kind body opens o = refl
+begins string_kind body opens o = let e = opens o in cc
+begins binary_kind body opens o = let e = opens o in cc
+begins integer_kind body opens o = let e = opens o in cc
+begins vector_kind body opens o = let e = opens o in cc
+
+-- a type that holds no items begins none
+leaf_kind : {text : List ℕ} {from to n : ℕ} {kind : Kind} {t : Tree}
+    → LeafContent text from to kind t → n ≡ n + begun_bytes kind
+leaf_kind {n = n} (string_content i s w skip) = plus_no_bytes n
+leaf_kind {n = n} (binary_content i s bytes w e skip) = plus_no_bytes n
+leaf_kind {n = n} (integer_content i v w skip) = plus_no_bytes n
+leaf_kind {n = n} (vector_content ns v) = plus_no_bytes n
+
+no_collection : {text : List ℕ} {at ends : ℕ} {kind : Kind} {t : Tree}
+    → LeafContent text at ends kind t → is_leaf t ≡ true
+no_collection (string_content i s h k) = refl
+no_collection (binary_content i s bytes h e k) = refl
+no_collection (integer_content i v h k) = refl
+no_collection (vector_content ns h) = refl
+
+-- a group that holds no items is neither an array nor a table
+pub leaf_is_leaf : {text : List ℕ} {at to : ℕ} {kind : Kind} {t : Tree}
+    → LeafGroup text at to kind t → is_leaf t ≡ true
+leaf_is_leaf g = no_collection g.content
+
 module _ (text : List ℕ) where
   -- what a colon begins, if anything
-  only_types : (o : machine.Open) (at to : ℕ) (u : State) (t : Token)
-      → slice_index text at ≡ ascii.colon
-      → ((kind : Kind) → GroupType text at to kind → in_body o.frame.body o (a_type kind) ≡ Some u
+  pub only_types : (at : ℕ) (o : machine.Open) → slice_index text at ≡ ascii.colon
+      → ((to : ℕ) (kind : Kind) (u : State) → GroupType text at to kind → Leads o (a_type kind) u
       → ⊥)
-      → Means text at to t → in_body o.frame.body o t ≡ Some u → ⊥
-  only_types o at to u (a_text s) colon never m e = no_text_colon text at to s m colon
-  only_types o at to u (a_number n) colon never m e = no_number_in_body o.frame.body o n u e
-  only_types o at to u opening colon never m e = let n = m.0 in absurd (omega (arith, n, colon))
-  only_types o at to u closing colon never m e = let n = m.0 in absurd (omega (arith, n, colon))
-  only_types o at to u a_comma colon never m e = let n = m.0 in absurd (omega (arith, n, colon))
-  only_types o at to u (a_type kind) colon never m e = never kind m e
-  only_types o at to u (a_root_type f) colon never m e = no_root_type_in_body o.frame.body o f u e
+      → NoToken text at (inside o)
+  only_types at o colon never =
+      none_there text at ascii.colon o (sym colon)
+      (λ to s u t h. no_text_colon text at to s t colon)
+      (λ e u h. absurd (omega (arith, e))) (λ e u h. absurd (omega (arith, e)))
+      (λ e u h. absurd (omega (arith, e))) (λ e to kind u g h. never to kind u g h)
 
   -- no type stands here
   pub no_type : (at : ℕ) → slice_index text at ≡ ascii.colon
@@ -88,8 +117,7 @@ module _ (text : List ℕ) where
       subst (λ (y : Expected). Stuck text at y) (sym same)
       (blocked (inside o) (record {
         reached = reached;
-        none = λ to u m. only_types o at to u m.token colon (λ kind g h. never to kind g)
-            (move_means text at to (inside o) u m) m.moves;
+        none = only_types at o colon (λ to kind u g h. never to kind g);
         no_end = λ h. h;
         no_digits = λ h. h;
       }))
@@ -128,184 +156,125 @@ module _ (text : List ℕ) where
       go to u (a_type k) m e = none_some u e
       go to u (a_root_type fallback) m e = none_some u e
 
+module _ {B X : Type 0} {tree : B → X → Tree} {held : B → X → Bool} {text : List ℕ} {limit at : ℕ}
+    {c : Open B X} {q : Quota} (x : Among tree held text limit at c q) where
   -- a typed group may stand here
-  pub may_stand : {n : ℕ} {B X : Type 0} {tree : B → X → Tree} {held : B → X → Bool}
-      (c : Open B X) (at : ℕ) (key b : Bool) → (x : Among tree held text at c n)
-      → ((o : machine.Open) → StandsFor tree held c o → key ≡ is_key_place o.frame.items)
-      → b ≡ takes_group (group_body_of c.frame.body) key → b ≡ true
-      → takes_group x.open_groups.frame.body (is_key_place x.open_groups.frame.items) ≡ true
-  may_stand c at key b x place takes is =
-      sym (ap (λ k. takes_group k (is_key_place x.open_groups.frame.items))
-      (body_same c x.open_groups x.shows))
-      ∙ sym (ap (takes_group (group_body_of c.frame.body)) (place x.open_groups x.shows))
-      ∙ sym takes
-      ∙ is
+  abbrev MayStand : Type 0
+  MayStand = takes_group x.open_groups.frame.body (is_key_place x.open_groups.frame.items) ≡ true
 
   -- no type may stand here
-  pub type_refused : {n : ℕ} {B X : Type 0} {tree : B → X → Tree} {held : B → X → Bool}
-      (c : Open B X) (at b : ℕ) (key may : Bool) (e : Expected)
-      → (x : Among tree held text at c n)
-      → ((o : machine.Open) → StandsFor tree held c o → key ≡ is_key_place o.frame.items)
-      → b ≡ slice_index text at → b ≡ ascii.colon
-      → e ≡ expected_in (group_body_of c.frame.body) key b
-      → may ≡ takes_group (group_body_of c.frame.body) key → may ≡ false
-      → Fails text (error_at at e)
-  type_refused c at b key may e x place byte colon is takes refused =
-      stuck_here text c at b key e x place byte is
-      (λ to u m. only_types x.open_groups at to u m.token (sym byte ∙ colon)
-      (λ kind g h. no_type_token x.open_groups.frame.body x.open_groups kind u out h)
-      (move_means text at to (inside x.open_groups) u m) m.moves)
-    where
-      out : takes_group x.open_groups.frame.body (is_key_place x.open_groups.frame.items) ≡ false
-      out =
-          sym (ap (λ k. takes_group k (is_key_place x.open_groups.frame.items))
-          (body_same c x.open_groups x.shows))
-          ∙ sym (ap (takes_group (group_body_of c.frame.body)) (place x.open_groups x.shows))
-          ∙ sym takes
-          ∙ refused
+  pub type_refused : {e : TextParserError} → slice_index text at ≡ ascii.colon
+      → ((o : machine.Open) → StandsFor tree held c o
+      → e ≡ error_at at (expectation (inside o) ascii.colon))
+      → takes_group x.open_groups.frame.body (is_key_place x.open_groups.frame.items) ≡ false
+      → Stops text limit q e
+  type_refused colon is denied =
+      stuck_here x (sym colon) is (only_types text at x.open_groups colon
+      (λ to kind u g h. no_type_token x.open_groups.frame.body x.open_groups kind u denied h))
 
-  begun : (o : machine.Open) (at first : ℕ) (kind : Kind)
-      → takes_group o.frame.body (is_key_place o.frame.items) ≡ true → At text at (inside o)
-      → TypedOpening text at kind first → At text first (machine.begun_as kind o)
-  begun o at first kind may reached begin =
-      run_opening text at first kind o.title o.frame.body o.frame.items o.around begin
-      (may_open o.frame.body o.frame.items may) reached
-
-  pub opening_refused : {n : ℕ} {B X : Type 0} {tree : B → X → Tree} {held : B → X → Bool}
-      (c : Open B X) (at : ℕ) (e : TextParserError) → (x : Among tree held text at c n)
-      → takes_group x.open_groups.frame.body (is_key_place x.open_groups.frame.items) ≡ true
-      → TypedOpeningFails text at e → Fails text e
-  opening_refused c at e x may fails = inr (fails x.open_groups may x.reached)
+  -- no type and `{` stand here
+  pub opening_refused : {e : TextParserError} → MayStand → TypedOpeningFails text at e
+      → Stops text limit q e
+  opening_refused may fails = record {
+    fails = inr (fails x.open_groups may (reading_of text q.made at _ x.made));
+    keeps = x.keeps;
+  }
 
   -- a type leads to its `{`
-  type_moves : (o : machine.Open) (kind : Kind)
-      → takes_group o.frame.body (is_key_place o.frame.items) ≡ true
-      → next (inside o) (a_type kind) ≡ Some (typed kind o)
-  type_moves o kind may =
-      type_next o.title o.frame.body o.frame.items o.around kind
-      (may_open o.frame.body o.frame.items may)
-
-  -- a type that holds items begins a group
-  begins : (kind : Kind) (body : Body)
-      → ((o : machine.Open) → machine.begun_as kind o ≡ inside (within body o))
-      → machine.Open → begun_bytes kind ≡ 72
-  begins array_kind body opens o = refl
-  begins table_kind body opens o = refl
-  begins string_kind body opens o = let e = opens o in cc
-  begins binary_kind body opens o = let e = opens o in cc
-  begins integer_kind body opens o = let e = opens o in cc
-  begins vector_kind body opens o = let e = opens o in cc
+  type_moves : (kind : Kind) → MayStand
+      → next (inside x.open_groups) (a_type kind) ≡ Some (typed kind x.open_groups)
+  type_moves kind may =
+      type_next x.open_groups.title x.open_groups.frame.body x.open_groups.frame.items
+      x.open_groups.around kind
+      (may_open x.open_groups.frame.body x.open_groups.frame.items may)
 
   -- a group that holds items is opened
-  pub typed_group_opened : {n : ℕ} {B X : Type 0} {tree : B → X → Tree} {held : B → X → Bool}
-      (m : ℕ) (c d : Open B X) (at first : ℕ) (kind : Kind) (body : Body)
-      → (x : Among tree held text at c n)
-      → takes_group x.open_groups.frame.body (is_key_place x.open_groups.frame.items) ≡ true
-      → TypedOpening text at kind first
+  pub typed_group_opened : {d : Open B X} {r : Quota} {first : ℕ} (kind : Kind) {body : Body}
+      → MayStand → TypedOpening text at kind first → first ≤ length text
       → ((o : machine.Open) → machine.begun_as kind o ≡ inside (within body o))
       → ((o : machine.Open) → StandsFor tree held c o → StandsFor tree held d (within body o))
-      → m ≡ n + 72
-      → Among tree held text first d m
-  typed_group_opened {n} m c d at first kind body x may begin opens then sum =
-      let adds = begins kind body opens x.open_groups in
-      let made = subst (λ (s : State). Makes text m first s) (opens x.open_groups)
-      (begun_made text n m at first kind x.open_groups begin
-      (type_moves x.open_groups kind may) x.made
-      (omega (arith, sum, adds))) in
-      record {
-        open_groups = within body x.open_groups;
-        shows = then x.open_groups x.shows;
-        reached = reading_of text m first _ made;
-        made = made;
-      }
+      → Takes q r 72 → Among tree held text limit first d r
+  typed_group_opened {d} {r} {first} kind {body} may begin fits opens then takes = record {
+    open_groups = within body x.open_groups;
+    shows = then x.open_groups x.shows;
+    made =
+        subst (λ (s : State). Makes text r.made first s) (opens x.open_groups)
+        (begun_made text q.made r.made at first kind x.open_groups begin
+        (type_moves kind may) x.made
+        (takes.made ∙ ap (λ k. q.made + k) (begins kind body opens x.open_groups)));
+    within = fits;
+    keeps = quota_kept x.keeps takes;
+  }
 
   -- such a group makes more than the limit
-  pub opened_over : {n : ℕ} {B X : Type 0} {tree : B → X → Tree} {held : B → X → Bool}
-      (limit : ℕ) (c : Open B X) (at first : ℕ) (kind : Kind) (body : Body)
-      → (x : Among tree held text at c n)
-      → takes_group x.open_groups.frame.body (is_key_place x.open_groups.frame.items) ≡ true
-      → TypedOpening text at kind first
-      → ((o : machine.Open) → machine.begun_as kind o ≡ inside (within body o)) → limit < n + 72
-      → MakesMore text limit
-  opened_over {n} limit c at first kind body x may begin opens more =
-      let adds = begins kind body opens x.open_groups in
-      makes_more text n limit begin.brace (begin.brace + 1) (typed kind x.open_groups) _ opening
-      (opening_made text n at first kind x.open_groups begin
-      (type_moves x.open_groups kind may) x.made)
-      (begin.opens, refl) refl (omega (arith, more, adds))
+  pub opened_over : {r : Quota} {e : TextParserError} {first : ℕ} (kind : Kind) {body : Body}
+      → MayStand → TypedOpening text at kind first
+      → ((o : machine.Open) → machine.begun_as kind o ≡ inside (within body o))
+      → RunsOver q r 72 → e ≡ want_of_memory → Stops text limit r e
+  opened_over {r} {e} {first} kind {body} may begin opens over none = record {
+    fails = inl none;
+    keeps =
+        quota_over x.keeps over (λ more.
+        let adds = begins kind body opens x.open_groups in
+        makes_more text q.made limit begin.brace (begin.brace + 1) (typed kind x.open_groups) _
+        opening
+        (opening_made text q.made at first kind x.open_groups begin (type_moves kind may) x.made)
+        (begin.opens, refl) refl (omega (arith, more, adds)));
+  }
 
-  pub leaf_refused : {n : ℕ} {B X : Type 0} {tree : B → X → Tree} {held : B → X → Bool}
-      (c : Open B X) (at first : ℕ) (kind : Kind) (e : TextParserError)
-      → (x : Among tree held text at c n)
-      → takes_group x.open_groups.frame.body (is_key_place x.open_groups.frame.items) ≡ true
-      → TypedOpening text at kind first
-      → (e ≡ want_of_memory) ⊎ LeafFails text first kind e → Fails text e
-  leaf_refused c at first kind e x may begin fails =
-      ⊎_elim (λ (h : e ≡ want_of_memory). inl h) (λ (h : LeafFails text first kind e). inr
-      (h x.open_groups (begun x.open_groups at first kind may x.reached begin))) fails
-
-  -- a type that holds no items begins none
-  leaf_kind : (from to : ℕ) (kind : Kind) (t : Tree) (n : ℕ) → LeafContent text from to kind t
-      → n ≡ n + begun_bytes kind
-  leaf_kind from to kind t n (string_content i s w skip) = plus_no_bytes n
-  leaf_kind from to kind t n (binary_content i s bytes w e skip) = plus_no_bytes n
-  leaf_kind from to kind t n (integer_content i v w skip) = plus_no_bytes n
-  leaf_kind from to kind t n (vector_content ns v) = plus_no_bytes n
+  -- a group that holds no items is refused
+  pub leaf_refused : {e : TextParserError} {first : ℕ} {kind : Kind} → MayStand
+      → TypedOpening text at kind first → LeafRefuses text first kind e → Stops text limit q e
+  leaf_refused {e} {first} {kind} may begin fails = record {
+    fails =
+        ⊎_elim (λ (h : e ≡ want_of_memory). inl h)
+        (λ (h : LeafFails text first kind e). inr (h x.open_groups
+        (run_opening text at first kind x.open_groups.title x.open_groups.frame.body
+        x.open_groups.frame.items x.open_groups.around begin
+        (may_open x.open_groups.frame.body x.open_groups.frame.items may)
+        (reading_of text q.made at _ x.made)))) fails;
+    keeps = x.keeps;
+  }
 
   -- a group that holds no items, up to its `}`
-  before_brace : {n : ℕ} {B X : Type 0} {tree : B → X → Tree} {held : B → X → Bool}
-      (c : Open B X) (at first next : ℕ) (kind : Kind) (t : Tree)
-      → (x : Among tree held text at c n)
-      → takes_group x.open_groups.frame.body (is_key_place x.open_groups.frame.items) ≡ true
+  before_brace : {first next : ℕ} {kind : Kind} {t : Tree} → MayStand
       → TypedOpening text at kind first → (leaf : LeafGroup text first next kind t)
-      → BeforeBrace text n leaf.ends t x.open_groups
-  before_brace {n} c at first next kind t x may begin leaf =
-      content_made text n first leaf.ends kind t x.open_groups leaf.content
-      (begun_made text n n at first kind x.open_groups begin
-      (type_moves x.open_groups kind may) x.made
-      (leaf_kind first leaf.ends kind t n leaf.content))
+      → BeforeBrace text q.made leaf.ends t x.open_groups
+  before_brace {first} {next} {kind} {t} may begin leaf =
+      content_made text q.made first leaf.ends kind t x.open_groups leaf.content
+      (begun_made text q.made q.made at first kind x.open_groups begin
+      (type_moves kind may) x.made (leaf_kind leaf.content))
 
-  pub leaf_added : {n : ℕ} {B X : Type 0} {tree : B → X → Tree} {held : B → X → Bool}
-      (m : ℕ) (c d : Open B X) (at first to : ℕ) (kind : Kind) (t : Tree)
-      → (x : Among tree held text at c n)
-      → takes_group x.open_groups.frame.body (is_key_place x.open_groups.frame.items) ≡ true
-      → TypedOpening text at kind first → LeafGroup text first to kind t
+  -- it is one item more
+  pub leaf_added : {d : Open B X} {r : Quota} {first to asked : ℕ} {kind : Kind} {t : Tree}
+      → MayStand → TypedOpening text at kind first → LeafGroup text first to kind t
+      → to ≤ length text
       → ((o : machine.Open) → StandsFor tree held c o → StandsFor tree held d (with_term
       (group_term t []) o))
-      → m ≡ n + leaf_bytes t → Among tree held text to d m
-  leaf_added {n} m c d at first to kind t x may begin leaf then sum =
-      let b = before_brace c at first to kind t x may begin leaf in
-      let adds = b.adds in
-      let made = makes_on text n m leaf.ends (leaf.ends + 1) to b.state _ closing b.made
-      (omega (arith, sum, adds)) (leaf.closes.brace, refl) b.moves leaf.closes.after in
+      → asked ≡ leaf_bytes t → Takes q r asked → Among tree held text limit to d r
+  leaf_added {d} {r} {first} {to} {asked} {kind} {t} may begin leaf fits then same takes =
+      let b = before_brace may begin leaf in
       record {
         open_groups = with_term (group_term t []) x.open_groups;
         shows = then x.open_groups x.shows;
-        reached = reading_of text m to _ made;
-        made = made;
+        made =
+            makes_on text q.made r.made leaf.ends (leaf.ends + 1) to b.state _ closing b.made
+            (takes.made ∙ ap (λ k. q.made + k) (same ∙ sym b.adds)) (leaf.closes.brace, refl)
+            b.moves leaf.closes.after;
+        within = fits;
+        keeps = quota_kept x.keeps takes;
       }
 
-  -- such a group makes more than the limit
-  pub leaf_over : {n : ℕ} {B X : Type 0} {tree : B → X → Tree} {held : B → X → Bool}
-      (limit : ℕ) (c : Open B X) (at first to : ℕ) (kind : Kind) (t : Tree)
-      → (x : Among tree held text at c n)
-      → takes_group x.open_groups.frame.body (is_key_place x.open_groups.frame.items) ≡ true
-      → TypedOpening text at kind first → LeafGroup text first to kind t → limit < n + leaf_bytes t
-      → MakesMore text limit
-  leaf_over {n} limit c at first to kind t x may begin leaf more =
-      let b = before_brace c at first to kind t x may begin leaf in
-      let adds = b.adds in
-      makes_more text n limit leaf.ends (leaf.ends + 1) b.state _ closing b.made
-      (leaf.closes.brace, refl) b.moves (omega (arith, more, adds))
-
-no_collection : {text : List ℕ} {at ends : ℕ} {kind : Kind} {t : Tree}
-    → LeafContent text at ends kind t → is_leaf t ≡ true
-no_collection (string_content i s h k) = refl
-no_collection (binary_content i s bytes h e k) = refl
-no_collection (integer_content i v h k) = refl
-no_collection (vector_content ns h) = refl
-
--- a group that holds no items is neither an array nor a table
-pub leaf_is_leaf : (text : List ℕ) (at to : ℕ) (kind : Kind) (t : Tree)
-    → LeafGroup text at to kind t → is_leaf t ≡ true
-leaf_is_leaf text at to kind t g = no_collection g.content
+  -- it makes more than the limit
+  pub leaf_over : {r : Quota} {e : TextParserError} {first to asked : ℕ} {kind : Kind} {t : Tree}
+      → MayStand → TypedOpening text at kind first → LeafGroup text first to kind t
+      → asked ≡ leaf_bytes t → RunsOver q r asked → e ≡ want_of_memory → Stops text limit r e
+  leaf_over {r} {e} {first} {to} {asked} {kind} {t} may begin leaf same over none = record {
+    fails = inl none;
+    keeps =
+        quota_over x.keeps over (λ more.
+        let b = before_brace may begin leaf in
+        let adds = b.adds in
+        makes_more text q.made limit leaf.ends (leaf.ends + 1) b.state _ closing b.made
+        (leaf.closes.brace, refl) b.moves (omega (arith, more, same, adds)));
+  }

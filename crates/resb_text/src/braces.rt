@@ -1,10 +1,8 @@
 //! The braces that must stand at a place, each with the discardable text after it.
 //! A brace that is one of several tokens which may stand there is read in `steps`.
-ghost use Rattle.std.specs.Prelude.{◌+◌, ◌*◌, ◌<◌, ◌≤◌, length};
-ghost use Rattle.std.specs.Prelude.{IfOk, IfErr};
-ghost use Rattle.std.specs.Prelude.{MatchResult};
-ghost use Rattle.resb_grammar.specs.Inner.Reach.{reach};
+ghost use Rattle.std.specs.Prelude.{◌+◌, ◌≤◌, length, MatchResult};
 ghost use Rattle.resb_text.specs.Inner.Braces.{Opens, IsUnopened, Closes, IsUnclosed};
+ghost use Rattle.resb_text.specs.Inner.Ticked.{Passes};
 
 use crate::error::TextParserError;
 use crate::scan::byte;
@@ -16,12 +14,9 @@ use resb_grammar::Expected;
 #[tactic(auto, using(resb_grammar::proofs::ReachLemmas::reach_left))]
 pub(crate) fn left_brace(text: &str, ticks: &mut Ticks, at: usize) -> Result<usize, TextParserError>
     requires within { at ≤ length text.now }
-    ensures ok { IfOk result (Opens text.now at) }
-    ensures err { IfErr result (IsUnopened text.now at) }
-    ensures within { IfOk result (λ to. (at < to) × (to ≤ length text.now)) }
+    ensures reads { MatchResult result (Opens text.now at) (IsUnopened text.now at) }
     ensures cost { MatchResult result
-        (λ to. ticks.new.count + 8 * reach text.now at + 6
-        ≤ ticks.old.count + 8 * reach text.now to)
+        (λ to. Passes text.now 6 at ticks.old to ticks.new)
         (λ e. ticks.new.count ≤ ticks.old.count + 1) }
 {
     if byte(text, ticks, at) == b'{' {
@@ -39,12 +34,9 @@ pub(crate) fn right_brace(
     at: usize,
 ) -> Result<usize, TextParserError>
     requires within { at ≤ length text.now }
-    ensures ok { IfOk result (Closes text.now at) }
-    ensures err { IfErr result (IsUnclosed text.now at) }
-    ensures within { IfOk result (λ to. (at < to) × (to ≤ length text.now)) }
+    ensures reads { MatchResult result (Closes text.now at) (IsUnclosed text.now at) }
     ensures cost { MatchResult result
-        (λ to. ticks.new.count + 8 * reach text.now at + 6
-        ≤ ticks.old.count + 8 * reach text.now to)
+        (λ to. Passes text.now 6 at ticks.old to ticks.new)
         (λ e. ticks.new.count ≤ ticks.old.count + 1) }
 {
     if byte(text, ticks, at) == b'}' {

@@ -1,10 +1,9 @@
 //! How many bytes of memory a reading has made, and the limit for them.
 //! What each token adds is said in the grammar; `steps` asks for it before it is made.
-ghost use Rattle.std.specs.Prelude.{◌≡◌, ℕ, ◌+◌, ◌<◌, ◌≤◌, List, false, OnOk};
+ghost use Rattle.std.specs.Prelude.{◌≡◌, ◌≤◌, false, MatchResult};
 ghost use Rattle.resb_tree.specs.View.{tree_of};
 ghost use Rattle.resb_grammar.specs.Limit as limit;
-ghost use Rattle.resb_grammar.specs.Limit.{MakesMore};
-ghost use Rattle.resb_text.specs.Inner.Quota.{KeepsQuota};
+ghost use Rattle.resb_text.specs.Inner.Quota.{Takes, RunsOver};
 
 use resb_tree::{NoMemory, Resource};
 
@@ -35,11 +34,8 @@ impl Quota {
     /// were wanted.
     pub(crate) fn take(&mut self, bytes: u128) -> Result<(), NoMemory>
         requires { self.old.made ≤ self.old.limit }
-        ensures made { OnOk result (self.new.made ≡ self.old.made + bytes) }
-        ensures limit { self.new.limit ≡ self.old.limit }
-        ensures keeps { (text : List ℕ) → KeepsQuota text self.old
-            → (self.old.limit < self.old.made + bytes → MakesMore text self.old.limit)
-            → KeepsQuota text self.new }
+        ensures { MatchResult result
+            (λ _. Takes self.old self.new bytes) (λ _. RunsOver self.old self.new bytes) }
     {
         if bytes > u128::from(self.limit - self.made) {
             self.is_over = true;

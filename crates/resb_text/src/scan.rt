@@ -1,13 +1,11 @@
 //! The calls that look at the text's bytes, each of which counts its turns.
 //! What stands in the text is read in `tokens`, and where a run ends is found in `runs`.
 ghost use Rattle.std.specs.Prelude.{◌≡◌, ℕ, ◌+◌, ◌-◌, ◌^◌, ◌<◌, ◌≤◌, length, slice_get};
-ghost use Rattle.std.specs.Prelude.{true, false, slice_index, slice_range, IfSome, IfNone};
-ghost use Rattle.std.specs.Prelude.{MatchOption, min};
-ghost use Rattle.resb_grammar.specs.ByteRuns.{Run, is_white, is_word, is_digit};
+ghost use Rattle.std.specs.Prelude.{true, false, slice_index, slice_range, MatchOption, min};
+ghost use Rattle.resb_grammar.specs.ByteRuns.{Run, is_line_end, is_white, is_word, is_digit};
 ghost use Rattle.resb_grammar.specs.Lexical.{digits_value};
 ghost use Rattle.resb_text.specs.Inner.Runs.{FirstByte, NoByte};
 ghost use Rattle.resb_text.specs.Inner.Ticked.{Ticked};
-ghost use Rattle.resb_grammar.specs.ByteRuns.{is_line_end};
 ghost use Rattle.resb_text.specs.Turns.{IsTextPiece};
 
 use crate::runs;
@@ -48,8 +46,7 @@ pub(crate) fn byte(text: &str, ticks: &mut Ticks, at: usize) -> u8
 /// or up to the text's end where there is none. Gives its place.
 pub(crate) fn find(text: &str, ticks: &mut Ticks, from: usize, b: u8) -> Option<usize>
     requires within { from ≤ length text.now }
-    ensures found { IfSome result (FirstByte b text.now from) }
-    ensures none { IfNone result (NoByte b text.now from) }
+    ensures found { MatchOption result (NoByte b text.now from) (FirstByte b text.now from) }
     ensures counted { MatchOption result
         (Ticked ticks.old ticks.new (length text.now - from))
         (λ to. Ticked ticks.old ticks.new (to + 1 - from)) }
@@ -71,8 +68,7 @@ pub(crate) fn find(text: &str, ticks: &mut Ticks, from: usize, b: u8) -> Option<
 /// left out, or up to the text's end where there is none. Gives that place.
 pub(crate) fn find_line_end(text: &str, ticks: &mut Ticks, from: usize) -> usize
     requires within { from ≤ length text.now }
-    ensures order { from ≤ result }
-    ensures fits { result ≤ length text.now }
+    ensures within { (from ≤ result) × (result ≤ length text.now) }
     ensures line { (k : ℕ) → from ≤ k → k < result
         → is_line_end (slice_index text.now k) ≡ false }
     ensures ends { let b = slice_index text.now result in

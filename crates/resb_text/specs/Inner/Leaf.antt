@@ -1,13 +1,16 @@
 -- Groups that hold no items, from after their `{` on.
-use Rattle.std.specs.Prelude.{◌≡◌, ◌≢◌, ◌⊎◌, ℕ, ◌+◌, List, slice_index, None}
+use Rattle.std.specs.Prelude.{◌≡◌, ◌≢◌, ◌⊎◌, ℕ, ◌+◌, true, List, slice_index, None}
 use Rattle.resb_grammar.specs.Ascii as ascii
 use Rattle.resb_tree.specs.Tree.{Tree}
+use Rattle.resb_tree.specs.View.{tree_of}
+use Rattle.resb_tree.specs.declared.resource.Resource.{Resource}
 use Rattle.resb_grammar.specs.Lexical.{Skip}
 use Rattle.resb_grammar.specs.GroupTypes.{Kind}
-use Rattle.resb_grammar.specs.Group.{LeafContent, hex_bytes}
+use Rattle.resb_grammar.specs.Group.{LeafContent, Vector, hex_bytes}
 use Rattle.resb_grammar.specs.Machine.{Open, begun_as, At}
 use Rattle.resb_grammar.specs.Stuck.{Stuck}
 use Rattle.resb_grammar.specs.declared.expected.Expected.TheVariants as expect
+use Rattle.resb_text.specs.Borrowed.{borrows_strings}
 use Rattle.resb_text.specs.Inner.Braces.{Closes}
 use Rattle.resb_text.specs.Refusal.{want_of_memory}
 use Rattle.resb_text.specs.declared.error.TextParserError.{TextParserError}
@@ -35,6 +38,11 @@ pub record LeafGroup (text : List ℕ) (at to : ℕ) (kind : Kind) (tree : Tree)
   pub content : LeafContent text at ends kind tree
   pub closes : Closes text ends to
 
+-- the group, and its resource, whose strings are slices of the text
+pub record IsLeaf (text : List ℕ) (at to : ℕ) (kind : Kind) (r : Resource) : Type 0 where
+  pub group : LeafGroup text at to kind (tree_of r)
+  pub borrowed : borrows_strings r ≡ true
+
 -- wherever a group of this type has begun there, a reading gets stuck so
 abbrev pub LeafFails : List ℕ → ℕ → Kind → TextParserError → Type 0
 LeafFails text at kind e =
@@ -43,3 +51,8 @@ LeafFails text at kind e =
 -- memory was wanted, or a reading gets stuck so
 abbrev pub LeafRefuses : List ℕ → ℕ → Kind → TextParserError → Type 0
 LeafRefuses text at kind e = (e ≡ want_of_memory) ⊎ LeafFails text at kind e
+
+-- numbers up to their `}`, which stands there
+pub record IsVector (text : List ℕ) (at to : ℕ) (ns : List ℕ) : Type 0 where
+  pub numbers : Vector text at to ns
+  pub brace : slice_index text to ≡ ascii.right_brace

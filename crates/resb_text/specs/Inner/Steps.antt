@@ -1,5 +1,6 @@
 -- What one token does to the open groups.
-use Rattle.std.specs.Prelude.{◌≡◌, ℕ, ◌+◌, Bool, true, false, not, List, [], slice_index}
+use Rattle.std.specs.Prelude.{◌≡◌, ◌≢◌, ℕ, ◌+◌, ◌*◌, ◌<◌, ◌≤◌, Bool, true, false, not, List, []}
+use Rattle.std.specs.Prelude.{length, slice_index}
 use Rattle.resb_grammar.specs.Ascii as ascii
 use Rattle.resb_tree.specs.Tree.{Tree}
 use Rattle.resb_grammar.specs.Machine as machine
@@ -8,8 +9,13 @@ use Rattle.resb_grammar.specs.Machine.{At}
 use Rattle.resb_grammar.specs.Stuck.{Stuck}
 use Rattle.resb_grammar.specs.Limit.{Makes, closing_bytes}
 use Rattle.resb_grammar.specs.Lexical.{Skip, Text}
-use Rattle.resb_text.specs.Inner.Frames.{StandsFor}
+use Rattle.resb_grammar.specs.Inner.Reach.{reach}
+use Rattle.resb_text.specs.Answer.{Fails}
+use Rattle.resb_text.specs.Inner.Frames.{StandsFor, owed}
+use Rattle.resb_text.specs.Inner.Quota.{KeepsQuota}
 use Rattle.resb_text.specs.declared.frames.Open.{Open}
+use Rattle.resb_text.specs.declared.quota.Quota.{Quota}
+use Rattle.resb_text.specs.declared.ticks.Ticks.{Ticks}
 use Rattle.resb_text.specs.declared.error.TextParserError.{TextParserError}
 
 -- a string, or `}`, may stand in such a body; for a table: where a key may stand
@@ -24,13 +30,46 @@ takes_group table_body key = not key
 takes_group array_body key = true
 takes_group untyped_body key = true
 
--- a reading that has made so many bytes stands here, among the items of these groups
+-- no brace, comma or colon
+pub record IsNoMark (b : ℕ) : Type 0 where
+  pub comma : b ≢ ascii.comma
+  pub left_brace : b ≢ ascii.left_brace
+  pub right_brace : b ≢ ascii.right_brace
+  pub colon : b ≢ ascii.colon
+
+-- a reading that keeps its quota stands here, among the items of these groups
 pub record Among {B X : Type 0} (tree : B → X → Tree) (held : B → X → Bool) (text : List ℕ)
-    (at : ℕ) (c : Open B X) (bytes : ℕ) : Type 0 where
+    (limit at : ℕ) (c : Open B X) (q : Quota) : Type 0 where
   pub open_groups : machine.Open
   pub shows : StandsFor tree held c open_groups
-  pub reached : At text at (inside open_groups)
-  pub made : Makes text bytes at (inside open_groups)
+  pub made : Makes text q.made at (inside open_groups)
+  pub within : at ≤ length text
+  pub keeps : KeepsQuota text limit q
+
+-- some reading does
+abbrev pub IsAmong : {B X : Type 0} → (B → X → Tree) → (B → X → Bool) → List ℕ → ℕ → Open B X
+    → Type 0
+IsAmong tree held text at c = (q : Quota) × Among tree held text q.limit at c q
+
+-- each reading that stands at the one place among the one groups comes to the other, and makes
+-- nothing
+abbrev pub GoesOn : {B X : Type 0} → (B → X → Tree) → (B → X → Bool) → List ℕ → ℕ → Open B X → ℕ
+    → Open B X → Type 0
+GoesOn tree held text at c next d =
+    (q : Quota) → Among tree held text q.limit at c q → Among tree held text q.limit next d q
+
+-- the reading fails so, and has kept its quota
+pub record Stops (text : List ℕ) (limit : ℕ) (q : Quota) (e : TextParserError) : Type 0 where
+  pub fails : Fails text e
+  pub keeps : KeepsQuota text limit q
+
+-- the reading goes on from one place to another: fewer than 8 turns more are counted and owed than
+-- for each byte that it has looked at since
+abbrev pub Advances : {B X : Type 0} → List ℕ → ℕ → Ticks → Open B X → ℕ → Ticks → Open B X
+    → Type 0
+Advances text at t c next u d =
+    (at < next)
+    × (u.count + owed d + 8 * reach text at + 1 ≤ t.count + owed c + 8 * reach text next)
 
 -- wherever a typed group may stand there, a reading gets stuck so
 abbrev pub TypedOpeningFails : List ℕ → ℕ → TextParserError → Type 0
@@ -50,15 +89,15 @@ pub record HasBundleName (text name : List ℕ) (to : ℕ) : Type 0 where
 abbrev pub TypingFails : List ℕ → ℕ → TextParserError → Type 0
 TypingFails text at e = (name : List ℕ) → At text at (named name) → Stuck text e.position e.expected
 
--- the root may be closed here, by which so many bytes will be made
+-- the root may be closed here, by which as much is made as the quota says
 pub record ClosesRoot {B X : Type 0} (tree : B → X → Tree) (held : B → X → Bool) (text : List ℕ)
-    (at : ℕ) (c : Open B X) (bytes : ℕ) : Type 0 where
+    (limit at : ℕ) (c : Open B X) (q : Quota) : Type 0 where
   pub open_groups : machine.Open
   pub shows : StandsFor tree held c open_groups
-  pub reached : At text at (inside open_groups)
   pub before : ℕ
   pub made : Makes text before at (inside open_groups)
-  pub sum : bytes ≡ before + closing_bytes open_groups.frame
+  pub sum : q.made ≡ before + closing_bytes open_groups.frame
+  pub keeps : KeepsQuota text limit q
   pub root : open_groups.around ≡ []
   pub key_place : machine.is_key_place open_groups.frame.items ≡ true
   pub closes : slice_index text at ≡ ascii.right_brace

@@ -1,4 +1,4 @@
-use Rattle.std.proofs.Common.{inr, arith}
+use Rattle.std.proofs.Common.{sym, ◌∙◌, inr, arith}
 use Rattle.std.proofs.lemmas.Result.{err_from_is_err_and}
 use Rattle.resb_text.proofs.Leaves.{ready_first, one_number, goes_on, ends_numbers}
 use Rattle.resb_text.proofs.Leaves.{no_vector_number, no_vector_brace}
@@ -8,60 +8,57 @@ pub numbers-init : goal.numbers-init
 numbers-init c = record {
   low = omega arith;
   fits = c.requires.within;
-  ready = rw c.new-numbers.ensures.items (ready_first c.requires.comma);
-  brace = c.requires.brace;
+  ready = rw c.new-numbers.ensures.items (ready_first c.requires.start.0);
+  brace = c.requires.start.1;
   cost = omega arith;
 }
 
-pub returns-in_default-clause-err : goal.returns-in_default-clause-err
-returns-in_default-clause-err c =
+pub returns-in_default-clause-reads : goal.returns-in_default-clause-reads
+returns-in_default-clause-reads c =
     inr (rw (c.new.ensures, c.number_expected.ensures, c.byte-b.ensures.byte)
     (no_vector_number _ _ _ _ c.numbers.invariant.ready c.numbers.invariant.brace
-    c.in_default.ensures.none))
+    c.in_default.ensures.found))
 
-pub returns-in_err-here-clause-err : goal.returns-in_err-here-clause-err
-returns-in_err-here-clause-err c =
+pub returns-in_err-here-clause-reads : goal.returns-in_err-here-clause-reads
+returns-in_err-here-clause-reads c =
     let p = err_from_is_err_and c.from_residual-in_err-here.result
     c.from_residual-in_err-here.ensures.1 in
-    let unended = c.in_err-here.ensures.err in
+    let unended = c.in_err-here.ensures.reads in
     rw (p.1, p.2) (inr (rw unended.is
     (no_vector_brace _ _ _ _ (one_number _ _ _ _ _ _ _ c.numbers.invariant.ready
     c.in-Some.ensures.found c.skip-place.ensures.skip)
     unended.none unended.no_comma)))
 
-pub returns-then-byte-eq125-clause-ok : goal.returns-then-byte-eq125-clause-ok
-returns-then-byte-eq125-clause-ok c =
-    rw c.in_ok-push.ensures.items
-    (ends_numbers _ _ _ _ _ (one_number _ _ _ _ _ _ _ c.numbers.invariant.ready
-    c.in-Some.ensures.found c.skip-place.ensures.skip) c.in_ok-here.ensures.ok)
+pub returns-then-byte-eq125-clause-reads : goal.returns-then-byte-eq125-clause-reads
+returns-then-byte-eq125-clause-reads c = record {
+  numbers =
+      rw c.in_ok-push.ensures.items
+      (ends_numbers _ _ _ _ _ (one_number _ _ _ _ _ _ _ c.numbers.invariant.ready
+      c.in-Some.ensures.found c.skip-place.ensures.skip) c.in_ok-here.ensures.reads);
+  brace = sym c.byte.ensures.byte ∙ c.if-byte-eq125.true;
+}
 
 pub numbers-preserved : goal.numbers-preserved
 numbers-preserved c =
-    let within = c.in-Some.ensures.within in
-    let behind_within = c.in_ok-here.ensures.within in
+    let number_cost = c.in-Some.ensures.cost in
+    let skip_cost = c.skip-place.ensures.cost in
+    let behind_cost = c.in_ok-here.ensures.cost in
     record {
-      low =
-          omega (
-            arith,
-            c.numbers.invariant.low,
-            within,
-            c.skip-place.ensures.order,
-            behind_within,
-          );
-      fits = behind_within.1;
+      low = omega (arith, c.numbers.invariant.low, number_cost, skip_cost, behind_cost);
+      fits = behind_cost.1;
       ready =
           rw c.in_ok-push.ensures.items
           (goes_on _ _ _ _ _ (one_number _ _ _ _ _ _ _ c.numbers.invariant.ready
           c.in-Some.ensures.found c.skip-place.ensures.skip)
-          c.in_ok-here.ensures.ok (rw (← c.byte.ensures.byte) c.if-byte-eq125.false));
+          c.in_ok-here.ensures.reads (rw (← c.byte.ensures.byte) c.if-byte-eq125.false));
       brace = rw (← c.byte.ensures.byte) c.if-byte-eq125.false;
       cost =
           omega (
             arith,
             c.numbers.invariant.cost,
-            c.in-Some.ensures.cost,
-            c.skip-place.ensures.cost,
-            c.in_ok-here.ensures.cost,
+            number_cost,
+            skip_cost,
+            behind_cost,
             c.byte.ensures.counted,
           );
     }

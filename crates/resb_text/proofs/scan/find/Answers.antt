@@ -12,8 +12,8 @@ returns-in-Some-clause-found c =
     c.in-Some.ensures.0.high (eqb-true _ _ c.in-Some.ensures.1)
     (λ k lt is. c.in-Some.ensures.0.before k (omega arith) lt (eq-eqb _ _ is))
 
-pub returns-in-None-clause-none : goal.returns-in-None-clause-none
-returns-in-None-clause-none c =
+pub returns-in-None-clause-found : goal.returns-in-None-clause-found
+returns-in-None-clause-found c =
     byte_missing c.args.b c.args.text.now _ c.args.from
     (rest_of c.args.text.now c.as_bytes.result.now c.args.from
     c.as_bytes.ensures.value)

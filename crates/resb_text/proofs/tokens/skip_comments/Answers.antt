@@ -12,7 +12,7 @@ comments-preserved c =
             arith,
             c.comments.invariant.order,
             c.skip_blanks-at.ensures.run.order,
-            c.in-Some.ensures.within.0,
+            c.in-Some.ensures.cost.0,
           );
       fits = c.skip_blanks-at.ensures.run.fits;
       stands = cc;
@@ -39,7 +39,7 @@ returns-then-b-ne47-clause-skip c =
 pub returns-in_default-clause-skip : goal.returns-in_default-clause-skip
 returns-in_default-clause-skip c =
     skip_ends _ _ _ (slash_black _ c.comments.invariant.stands)
-    c.in_default.ensures.none c.comments.invariant.so_far
+    c.in_default.ensures.found c.comments.invariant.so_far
 
 pub returns-in_default-clause-cost : goal.returns-in_default-clause-cost
 returns-in_default-clause-cost c =
@@ -65,7 +65,6 @@ returns-then-b-ne47-clause-cost c =
       c.comments.invariant.order,
       c.comments.invariant.cost,
       c.in-Some.ensures.cost,
-      c.in-Some.ensures.within,
       c.skip_blanks-at.ensures.run.order,
       c.skip_blanks-at.ensures.counted,
     )

@@ -27,40 +27,41 @@ behind_is xs ys all from m e at many = (
       (omega (arith, ap length e, length-append xs ys, at, many)),
 )
 
--- an array of members that stand in a draft
-pub array_made : (old mid : Draft) (ns : List ℕ) (m : Members)
-    → mid.members.items ≡ old.members.items ++ ns → m.from ≡ length old.members.items
+-- an array of members that stand in a draft behind others
+pub array_made : (old mid : Draft) (front ns : List ℕ) (m : Members)
+    → mid.members.items ≡ front ++ ns → m.from ≡ length front
     → m.count ≡ length ns → Agrees (pieces_stand old) (pieces_stand mid)
     → all_true (map (is_whole old) ns) ≡ true
     → piece_meaning mid.members.items (texts mid.keys.items) (pieces_stand mid) (piece.Array m)
     ≡ (array (trees_of (map (tree_at old) ns)), true)
-array_made old mid ns m e at many f h =
-    let own = behind_is old.members.items ns mid.members.items m.from m e at many in
+array_made old mid front ns m e at many f h =
+    let own = behind_is front ns mid.members.items m.from m e at many in
     let whole = same_trees (pieces_stand old) (pieces_stand mid) f ns h in
     let trees = ap (trees_at (pieces_stand mid)) own.0 ∙ whole.0 in
     let test = and_from _ _ own.1 (ap (all_whole (pieces_stand mid)) own.0 ∙ whole.1) in
     λ i. (array (trees_of (trees i)), test i)
 
--- a table of entries whose values stand in a draft
-pub table_made : (old mid : Draft) (es : List (Bor (List ℕ) × ℕ)) (m : Members) (k : ℕ)
-    → mid.members.items ≡ old.members.items ++ map (λ e. e.1) es
-    → mid.keys.items ≡ old.keys.items ++ map (λ e. e.0) es
-    → m.from ≡ length old.members.items → k ≡ length old.keys.items → m.count ≡ length es
+-- a table of entries whose values stand in a draft behind others
+pub table_made : (old mid : Draft) (front : List ℕ) (keys_before : List (Bor (List ℕ)))
+    (es : List (Bor (List ℕ) × ℕ)) (m : Members) (k : ℕ)
+    → mid.members.items ≡ front ++ map (λ e. e.1) es
+    → mid.keys.items ≡ keys_before ++ map (λ e. e.0) es
+    → m.from ≡ length front → k ≡ length keys_before → m.count ≡ length es
     → Agrees (pieces_stand old) (pieces_stand mid) → keys_ascend es ≡ true
     → all_true (map (λ e. is_whole old e.1) es) ≡ true
     → piece_meaning mid.members.items (texts mid.keys.items) (pieces_stand mid) (piece.Table m k)
     ≡ (table (entries_of (map (λ e. (e.0.now, tree_at old e.1)) es)), true)
-table_made old mid es m k e f at first many agrees ascend h =
+table_made old mid front keys_before es m k e f at first many agrees ascend h =
     let value : Bor (List ℕ) × ℕ → ℕ = λ e. e.1 in
     let key : Bor (List ℕ) × ℕ → Bor (List ℕ) = λ e. e.0 in
     let ns = map value es in
-    let ks = texts old.keys.items in
+    let ks = texts keys_before in
     let now : Bor (List ℕ) → List ℕ = λ b. b.now in
-    let own = behind_is old.members.items ns mid.members.items m.from m e at
+    let own = behind_is front ns mid.members.items m.from m e at
     (many ∙ sym (length-map es value)) in
     let keys = behind_is ks (texts (map key es)) (texts mid.keys.items) k m
-    (ap texts f ∙ texts-append old.keys.items (map key es))
-    (first ∙ sym (length-map old.keys.items now))
+    (ap texts f ∙ texts-append keys_before (map key es))
+    (first ∙ sym (length-map keys_before now))
     (many ∙ sym (length-map es key) ∙ sym (length-map (map key es) now)) in
     let whole = same_trees (pieces_stand old) (pieces_stand mid) agrees ns
     (ap all_true (map-map (is_whole old) value es) ∙ h) in

@@ -20,6 +20,10 @@ abbrev pub Agrees : List (Tree × Bool) → List (Tree × Bool) → Type 0
 Agrees ms qs =
     (n : ℕ) → (get_or ms n nothing).1 ≡ true → get_or qs n nothing ≡ get_or ms n nothing
 
+-- a list agrees with itself
+pub agrees_same : (ms : List (Tree × Bool)) → Agrees ms ms
+agrees_same ms n h = refl
+
 pub agrees_on : (ms ns qs : List (Tree × Bool)) → Agrees ms ns → Agrees ns qs → Agrees ms qs
 agrees_on ms ns qs f g n h =
     g n (ap (λ (m : Tree × Bool). m.1) (f n h) ∙ h) ∙ f n h

@@ -1,6 +1,8 @@
 //! How a draft is made: a piece at a time, members before their collection.
 //! In which order a table's entries are put stands in `entries`.
-ghost use Rattle.std.specs.Prelude.{◌≡◌, ◌^◌, ◌<◌, true, [], map, length, IfOk, OnOk, get_or};
+ghost use Rattle.std.specs.Prelude.{◌≡◌, ◌^◌, ◌<◌, ◌≤◌, ◌-◌, true, [], ◌∷◌, ◌++◌, map, length, drop};
+ghost use Rattle.std.specs.Prelude.{IfOk, OnOk, get_or, List, ℕ};
+ghost use Rattle.std.specs.Borrow.{Bor};
 ghost use Rattle.resb_tree.specs.Borrowing.{all_true};
 ghost use Rattle.resb_tree.specs.Tree.{string, array, table, trees_of, entries_of, map_of};
 ghost use Rattle.resb_tree.specs.View.{tree_of};
@@ -31,6 +33,7 @@ impl<'a> Draft<'a> {
     /// One text more. Gives the number of its piece, as the others do.
     pub fn push_string(&mut self, text: &'a str) -> Result<u32, NoMemory>
         ensures made { IfOk result (λ n. IsMade self.new n (string text.now)) }
+        ensures members { self.new.members ≡ self.old.members }
         ensures keeps { Keeps self.old self.new }
     {
         self.push(Piece::String(text))
@@ -61,6 +64,63 @@ impl<'a> Draft<'a> {
         };
         self.members.extend_from_slice(members)?;
         self.push(Piece::Array(part))
+    }
+
+    /// One member more, which `end_array` puts into an array.
+    pub fn push_member(&mut self, member: u32) -> Result<(), NoMemory>
+        ensures members { OnOk result
+            (self.new.members.items ≡ self.old.members.items ++ member ∷ []) }
+        ensures keeps { Keeps self.old self.new }
+    {
+        self.members.push(member)?;
+        Ok(())
+    }
+
+    /// The array of the members behind the first so many.
+    pub fn end_array(&mut self, first_member: usize) -> Result<u32, NoMemory>
+        requires { first_member ≤ length self.old.members.items }
+        ensures made { let ns = drop first_member self.old.members.items in
+            all_true (map (is_whole self.old) ns) ≡ true → IfOk result
+            (λ n. IsMade self.new n (array (trees_of (map (tree_at self.old) ns)))) }
+        ensures keeps { Keeps self.old self.new }
+    {
+        let part = Members {
+            from: number(first_member)?,
+            count: number(self.members.len() - first_member)?,
+        };
+        self.push(Piece::Array(part))
+    }
+
+    /// One entry more, which `end_table` puts into a table: its key, and the number of its value.
+    pub fn push_entry(&mut self, key: &'a str, member: u32) -> Result<(), NoMemory>
+        ensures pieces { self.new.pieces ≡ self.old.pieces }
+        ensures members { OnOk result
+            (self.new.members.items ≡ self.old.members.items ++ member ∷ []) }
+        ensures keys { OnOk result (self.new.keys.items ≡ self.old.keys.items ++ key.entry ∷ []) }
+    {
+        self.keys.push(key)?;
+        self.members.push(member)?;
+        Ok(())
+    }
+
+    /// The table of the entries behind the first so many members and keys, where their keys ascend.
+    pub fn end_table(&mut self, first_member: usize, first_key: usize) -> Result<u32, NoMemory>
+        requires members { first_member ≤ length self.old.members.items }
+        requires keys { first_key ≤ length self.old.keys.items }
+        ensures made { (ps : List (Bor (List ℕ) × ℕ))
+            → drop first_member self.old.members.items ≡ map (λ p. p.1) ps
+            → drop first_key self.old.keys.items ≡ map (λ p. p.0) ps
+            → keys_ascend ps ≡ true → all_true (map (λ p. is_whole self.old p.1) ps) ≡ true
+            → IfOk result (λ n. IsMade self.new n
+            (table (entries_of (map (λ p. (p.0.now, tree_at self.old p.1)) ps)))) }
+        ensures keeps { Keeps self.old self.new }
+    {
+        let part = Members {
+            from: number(first_member)?,
+            count: number(self.members.len() - first_member)?,
+        };
+        let first_key = number(first_key)?;
+        self.push(Piece::Table(part, first_key))
     }
 
     /// The table of these entries, the keys and the numbers of the values. A later entry of an
@@ -109,6 +169,7 @@ impl<'a> Draft<'a> {
         ensures made { IfOk result (λ n. get_or (pieces_stand self.new) n nothing
             ≡ piece_meaning self.old.members.items (texts self.old.keys.items)
             (pieces_stand self.old) piece.entry) }
+        ensures members { self.new.members ≡ self.old.members }
         ensures keeps { Keeps self.old self.new }
     {
         let number = number(self.pieces.len())?;

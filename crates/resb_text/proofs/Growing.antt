@@ -44,7 +44,8 @@ module _ {B X : Type 0} (tree : B → X → Tree) (held : B → X → Bool) (b d
       ap (λ t. group_shown t (held d x) f) g.0
       ∙ ap (λ k. group_shown (tree b x) k f) (g.1 ∙ sym h)
 
-  grown_items : (xs : List (Item X))
+  -- items that are whole
+  pub grown_items : (xs : List (Item X))
       → all_true (map shown_borrowed (map (shown_by (tree b) (held b)) xs)) ≡ true
       → map (shown_by (tree d) (held d)) xs ≡ map (shown_by (tree b) (held b)) xs
   grown_items [] h = refl

@@ -1,18 +1,30 @@
 -- Items whose groups are pieces of a draft, while the draft grows.
 use Rattle.std.proofs.Common.{◌≡◌, ℕ, Bool, true, List, [], ◌∷◌, ◌++◌, map, refl, sym, ◌∙◌, ap}
-use Rattle.std.proofs.Common.{append_assoc}
+use Rattle.std.proofs.Common.{append_assoc, append-nil, arith, Bor, length, take, drop, get_or}
+use Rattle.std.proofs.Common.{◌+◌, ◌-◌, ◌<◌}
+use Rattle.std.specs.Ordering.{is_lt}
+use Rattle.std.specs.Prelude.{Option, Some, None}
+use Rattle.std.proofs.Math.Seq.{drop-append_seam, take-append_seam}
+use Rattle.std.proofs.lemmas.Simd.{map-map}
 use Rattle.std.proofs.lemmas.Bool.{and_from, and_parts}
-use Rattle.std.proofs.lemmas.List.{map_push}
+use Rattle.std.proofs.lemmas.List.{map_push, map-append, take_more}
 use Rattle.resb_tree.specs.Borrowing.{all_true}
-use Rattle.resb_draft.specs.Drafts.{tree_at, is_whole, Keeps}
+use Rattle.resb_tree.specs.Maps.{text_cmp}
+use Rattle.resb_tree.specs.Tree.{table, entries_of, map_of}
+use Rattle.resb_draft.specs.Drafts.{tree_at, is_whole, texts, texts_ascend, Keeps, IsMade}
 use Rattle.resb_draft.specs.declared.draft.Draft.{Draft}
-use Rattle.resb_draft.proofs.Lists.{all_append}
+use Rattle.resb_draft.specs.Inner.Entries.{keys_ascend}
+use Rattle.resb_draft.proofs.EntriesLemmas.{ascending_map}
+use Rattle.resb_draft.proofs.Lists.{all_append, ascend_on}
 use Rattle.resb_text.specs.Inner.Build.{Represents}
-use Rattle.resb_text.specs.Inner.Drafts.{piece_term_seen, piece_item_seen}
-use Rattle.resb_text.specs.Inner.Shown.{shown_tree, shown_borrowed}
+use Rattle.resb_text.specs.Inner.Drafts.{piece_term_seen, piece_item_seen, entries_seen, are_whole}
+use Rattle.resb_text.specs.Inner.Drafts.{key_after, entry_of, entries_after}
+use Rattle.resb_text.specs.Inner.Shown.{shown_tree, shown_borrowed, shown_pairs, pairs_after}
+use Rattle.resb_text.specs.Inner.Shown.{waiting_key}
 use Rattle.resb_text.specs.declared.items.Item.{Item}
 use Rattle.resb_text.specs.declared.items.Term.{Term}
 use Rattle.resb_text.specs.declared.items.Term.TheVariants as terms
+use Rattle.resb_text.proofs.Growing.{grown_items}
 
 -- a term that is whole shows the same tree, whole still
 pub term_on : (old new : Draft) → Keeps old new → (m : Term ℕ) (f : Bool)
@@ -69,3 +81,132 @@ lists_more first old new ns ns' x n left rest xs before after split pushed made 
           ∙ all_append (map (is_whole new) ns) (is_whole new n ∷ []) on.1 (and_from _ _ one.1 refl),
       both.1,
     )
+
+-- the numbers listed so far while the draft grows
+pub lists_on : (first d e : Draft) (ns : List ℕ) (left xs : List (Item ℕ)) → Keeps d e
+    → ListsNumbers first d ns left xs → ListsNumbers first e ns left xs
+lists_on first d e ns left xs k h =
+    let on = pieces_on d e k ns h.1 in (
+      ap (λ ts. ts ++ map shown_tree (map (piece_item_seen first) left)) on.0 ∙ h.0,
+      on.1,
+      h.2,
+    )
+
+-- the entries of items are their pairs
+pub entries_show : (d : Draft) (waiting : Option (Bor (List ℕ))) (xs : List (Item ℕ))
+    → entries_seen d (entries_after waiting xs)
+    ≡ pairs_after (waiting_key waiting) (map (piece_item_seen d) xs)
+entries_show d waiting [] = refl
+entries_show d waiting (x ∷ xs) = go x.term x.comma waiting (λ w. entries_show d w xs)
+  where
+    go : (m : Term ℕ) (f : Bool) (w : Option (Bor (List ℕ)))
+        → ((v : Option (Bor (List ℕ))) → entries_seen d (entries_after v xs)
+        ≡ pairs_after (waiting_key v) (map (piece_item_seen d) xs))
+        → entries_seen d (entry_of w m ++ entries_after (key_after m) xs)
+        ≡ pairs_after (waiting_key w) (piece_term_seen d m f ∷ map (piece_item_seen d) xs)
+    go (terms.String s) f w more = more (Some s)
+    go (terms.Group n) f (Some k) more = ap (λ es. (k.now, tree_at d n) ∷ es) (more None)
+    go (terms.Group n) f None more = more None
+
+-- the entries of items that are whole
+pub entries_whole : (d : Draft) (waiting : Option (Bor (List ℕ))) (xs : List (Item ℕ))
+    → all_true (map shown_borrowed (map (piece_item_seen d) xs)) ≡ true
+    → are_whole d (entries_after waiting xs) ≡ true
+entries_whole d waiting [] h = refl
+entries_whole d waiting (x ∷ xs) h = go x.term x.comma waiting (λ w. entries_whole d w xs) h
+  where
+    go : (m : Term ℕ) (f : Bool) (w : Option (Bor (List ℕ)))
+        → ((v : Option (Bor (List ℕ)))
+        → all_true (map shown_borrowed (map (piece_item_seen d) xs)) ≡ true
+        → are_whole d (entries_after v xs) ≡ true)
+        → all_true (shown_borrowed (piece_term_seen d m f)
+        ∷ map shown_borrowed (map (piece_item_seen d) xs)) ≡ true
+        → are_whole d (entry_of w m ++ entries_after (key_after m) xs) ≡ true
+    go (terms.String s) f w more h = more (Some s) (and_parts true _ h).1
+    go (terms.Group n) f (Some k) more h =
+        let both = and_parts (is_whole d n) _ h in and_from _ _ both.0 (more None both.1)
+    go (terms.Group n) f None more h = more None (and_parts (is_whole d n) _ h).1
+
+-- what was put behind a list, and the list that it was put behind
+pub behind : {X : Type 0} (xs ys all : List X) (n : ℕ) → n ≡ length xs → all ≡ xs ++ ys
+    → drop n all ≡ ys
+behind xs ys all n at is = (λ i. drop (at i) (is i)) ∙ drop-append_seam xs ys
+
+pub front : {X : Type 0} (xs ys all : List X) (n : ℕ) → n ≡ length xs → all ≡ xs ++ ys
+    → take n all ≡ xs
+front xs ys all n at is = (λ i. take (at i) (is i)) ∙ take-append_seam xs ys
+
+-- no items have no entries
+pub no_entries : (waiting : Option (Bor (List ℕ))) (xs : List (Item ℕ)) → length xs ≡ 0
+    → entries_after waiting xs ≡ []
+no_entries waiting [] h = refl
+no_entries waiting (x ∷ xs) h = absurd (omega (arith, h))
+
+pub nothing_left : {X : Type 0} (part : Bor (List ℕ) × ℕ → X) (all : List X)
+    (waiting : Option (Bor (List ℕ))) (xs : List (Item ℕ)) → length xs ≡ 0
+    → all ≡ all ++ map part (entries_after waiting xs)
+nothing_left part all waiting xs h =
+    sym (append-nil all) ∙ ap (λ es. all ++ map part es) (sym (no_entries waiting xs h))
+
+-- a part of one entry more, or of none
+pub pushed_more : {X : Type 0} (part : Bor (List ℕ) × ℕ → X) (old new : List X)
+    (waiting next : Option (Bor (List ℕ))) (x : Item ℕ) (left rest : List (Item ℕ))
+    → left ≡ x ∷ rest → next ≡ key_after x.term → new ≡ old ++ map part (entry_of waiting x.term)
+    → new ++ map part (entries_after next rest) ≡ old ++ map part (entries_after waiting left)
+pushed_more part old new waiting next x left rest split is more =
+    (λ i. more i ++ map part (entries_after (is i) rest))
+    ∙ append_assoc old (map part (entry_of waiting x.term))
+    (map part (entries_after (key_after x.term) rest))
+    ∙ ap (λ es. old ++ es)
+    (sym (map-append part (entry_of waiting x.term) (entries_after (key_after x.term) rest)))
+    ∙ ap (λ xs. old ++ map part (entries_after waiting xs)) (sym split)
+
+-- keys that ascend do so with one more behind the last, which is less
+pub keys_more : (ks : List (Bor (List ℕ))) (i : ℕ) (d e : Bor (List ℕ)) → 0 < i
+    → i < length ks → texts_ascend (texts (take i ks)) ≡ true
+    → is_lt (text_cmp (get_or ks (i - 1) d).now (get_or ks i e).now) ≡ true
+    → texts_ascend (texts (take (i + 1) ks)) ≡ true
+keys_more ks i d e some few h less =
+    let now : Bor (List ℕ) → List ℕ = λ b. b.now in
+    let one : i - 1 + 1 ≡ i = omega (arith, some) in
+    let front = take (i - 1) ks in
+    let last = get_or ks (i - 1) d in
+    let next = get_or ks i e in
+    let is : map now (take i ks) ≡ map now front ++ now last ∷ [] =
+    ap (λ n. map now (take n ks)) (sym one)
+    ∙ ap (map now) (take_more ks (i - 1) d (omega (arith, few)))
+    ∙ map_push now front last in
+    ap (λ l. texts_ascend (map now l)) (take_more ks i e few)
+    ∙ ap texts_ascend (map_push now (take i ks) next ∙ ap (λ l. l ++ now next ∷ []) is)
+    ∙ ascend_on (map now front) (now last) (now next) (ap texts_ascend (sym is) ∙ h) less
+
+-- the keys of entries ascend where they do among a draft's keys
+pub own_ascend : (ks : List (Bor (List ℕ))) (es : List (Bor (List ℕ) × ℕ))
+    → ks ≡ map (λ e. e.0) es → texts_ascend (texts ks) ≡ true → keys_ascend es ≡ true
+own_ascend ks es is h =
+    let now : Bor (List ℕ) → List ℕ = λ b. b.now in
+    let key : Bor (List ℕ) × ℕ → Bor (List ℕ) = λ e. e.0 in
+    ap texts_ascend (sym (map-map now key es)) ∙ ap (λ l. texts_ascend (texts l)) (sym is) ∙ h
+
+-- items that are whole are so in a draft that grows
+pub items_whole : (old new : Draft) → Keeps old new → (xs : List (Item ℕ))
+    → all_true (map shown_borrowed (map (piece_item_seen old) xs)) ≡ true
+    → all_true (map shown_borrowed (map (piece_item_seen new) xs)) ≡ true
+items_whole old new k xs h =
+    ap (λ ys. all_true (map shown_borrowed ys)) (grown_items tree_at is_whole old new k xs h) ∙ h
+
+-- the table of items whose keys ascend
+pub table_shown : (old mid new : Draft) (xs : List (Item ℕ)) (n : ℕ) → Keeps old mid
+    → all_true (map shown_borrowed (map (piece_item_seen old) xs)) ≡ true
+    → keys_ascend (entries_after None xs) ≡ true
+    → IsMade new n (table (entries_of (entries_seen mid (entries_after None xs))))
+    → Represents tree_at is_whole new n
+    (table (map_of (shown_pairs (map (piece_item_seen old) xs))))
+table_shown old mid new xs n k h ascend made = (
+  made.0
+      ∙ ap table (ascending_map (tree_at mid) (entries_after None xs) ascend)
+      ∙ ap (λ es. table (map_of es))
+      (entries_show mid None xs
+      ∙ ap shown_pairs (grown_items tree_at is_whole old mid k xs h)),
+  made.1,
+)

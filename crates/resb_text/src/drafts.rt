@@ -1,16 +1,14 @@
 //! Closed groups as pieces of a draft, members first.
 //! What a draft stands for is said in `resb_draft`, which makes it; trees are made in `items`.
-ghost use Rattle.std.specs.Prelude.{true, ◌≡◌, ◌+◌, ◌<◌, ◌≤◌, map, length, IfOk, OnOk};
-ghost use Rattle.std.specs.Prelude.{Bool, ℕ, List, [], ◌∷◌, ◌++◌};
+ghost use Rattle.std.specs.Prelude.{true, ◌≡◌, ◌+◌, ◌-◌, ◌<◌, ◌≤◌, map, length, IfOk, OnOk, drop};
+ghost use Rattle.std.specs.Prelude.{Bool, [], ◌∷◌, ◌++◌, None, IsTrue};
 ghost use Rattle.resb_tree.specs.Borrowing.{all_true};
 ghost use Rattle.resb_tree.specs.Tree.{Tree, array, table, trees_of, map_of};
-ghost use Rattle.resb_draft.specs.Drafts.{tree_at, is_whole, Keeps};
-ghost use Rattle.resb_draft.specs.declared.draft.Draft.{Draft};
+ghost use Rattle.resb_draft.specs.Drafts.{tree_at, is_whole, texts, texts_ascend, Keeps};
 ghost use Rattle.resb_text.specs.Inner.Build.{Represents, Grows};
-ghost use Rattle.resb_text.specs.Inner.Drafts.{piece_term_seen, piece_item_seen, entries_seen};
-ghost use Rattle.resb_text.specs.Inner.Drafts.{are_whole};
-ghost use Rattle.resb_text.specs.Inner.Shown.{SeenItem, shown_tree, shown_borrowed};
-ghost use Rattle.resb_text.specs.Inner.Shown.{shown_pairs, pairs_after, waiting_key};
+ghost use Rattle.resb_text.specs.Inner.Drafts.{piece_term_seen, piece_item_seen};
+ghost use Rattle.resb_text.specs.Inner.Drafts.{key_after, entry_of, entries_after};
+ghost use Rattle.resb_text.specs.Inner.Shown.{shown_tree, shown_borrowed, shown_pairs};
 
 use crate::build::Build;
 use crate::items::{Item, Term};
@@ -48,7 +46,7 @@ impl<'a> Build<'a> for Draft<'a> {
         ensures grows { OnOk result (Grows tree_at is_whole self.old self.new) }
         ensures cost { ticks.new.count ≤ ticks.old.count + length items.old.items }
     {
-        array_of(alloc, self, ticks, items)
+        array_of(self, ticks, items)
     }
 
     fn table(
@@ -72,6 +70,7 @@ fn number_of<'a>(draft: &mut Draft<'a>, term: &Term<'a, u32>) -> Result<u32, NoM
     ensures made { (f : Bool) → let seen = piece_term_seen draft.old term.now f in
         shown_borrowed seen ≡ true
         → IfOk result (λ n. Represents tree_at is_whole draft.new n (shown_tree seen)) }
+    ensures members { OnOk result (draft.new.members ≡ draft.old.members) }
     ensures keeps { OnOk result (Keeps draft.old draft.new) }
 {
     match term {
@@ -80,31 +79,32 @@ fn number_of<'a>(draft: &mut Draft<'a>, term: &Term<'a, u32>) -> Result<u32, NoM
     }
 }
 
-/// The numbers of the pieces that these items are.
-fn numbers_of<'a>(
-    alloc: Global,
+/// Puts the numbers of the pieces that these items are behind the draft's members.
+fn push_members<'a>(
     draft: &mut Draft<'a>,
     ticks: &mut Ticks,
     items: &[Item<'a, u32>],
-) -> Result<Vec<u32>, NoMemory>
+) -> Result<(), NoMemory>
     ensures made { let xs = map (piece_item_seen draft.old) items.now in
-        all_true (map shown_borrowed xs) ≡ true → IfOk result
-        (λ v. (map (tree_at draft.new) v.items ≡ map shown_tree xs)
-        × (all_true (map (is_whole draft.new) v.items) ≡ true)) }
+        let ns = drop (length draft.old.members.items) draft.new.members.items in
+        all_true (map shown_borrowed xs) ≡ true → OnOk result
+        ((map (tree_at draft.new) ns ≡ map shown_tree xs)
+        × (all_true (map (is_whole draft.new) ns) ≡ true)) }
+    ensures longer { OnOk result
+        (length draft.old.members.items ≤ length draft.new.members.items) }
     ensures keeps { OnOk result (Keeps draft.old draft.new) }
     ensures cost { ticks.new.count ≤ ticks.old.count + length items.now }
 {
-    let mut numbers = Vec::with_capacity(alloc, items.len())?;
     for item in items {
         ticks.tick();
-        numbers.push(number_of(draft, &item.term)?)?;
+        let number = number_of(draft, &item.term)?;
+        draft.push_member(number)?;
     }
-    Ok(numbers)
+    Ok(())
 }
 
 /// The array of these items.
 fn array_of<'a>(
-    alloc: Global,
     draft: &mut Draft<'a>,
     ticks: &mut Ticks,
     items: &[Item<'a, u32>],
@@ -115,8 +115,68 @@ fn array_of<'a>(
     ensures keeps { OnOk result (Keeps draft.old draft.new) }
     ensures cost { ticks.new.count ≤ ticks.old.count + length items.now }
 {
-    let numbers = numbers_of(alloc, draft, ticks, items)?;
-    draft.push_array(&numbers)
+    let first_member = draft.members.len();
+    push_members(draft, ticks, items)?;
+    draft.end_array(first_member)
+}
+
+/// Puts the entry of a group, if a key waits for one, behind the draft's keys and members. Gives
+/// the key that waits from here on.
+fn push_term<'a>(
+    draft: &mut Draft<'a>,
+    waiting: Option<&'a str>,
+    term: &Term<'a, u32>,
+) -> Result<Option<&'a str>, NoMemory>
+    ensures next { IfOk result (λ next. next ≡ key_after term.now) }
+    ensures pieces { OnOk result (draft.new.pieces ≡ draft.old.pieces) }
+    ensures members { OnOk result (draft.new.members.items
+        ≡ draft.old.members.items ++ map (λ e. e.1) (entry_of waiting.entry term.now)) }
+    ensures keys { OnOk result (draft.new.keys.items
+        ≡ draft.old.keys.items ++ map (λ e. e.0) (entry_of waiting.entry term.now)) }
+{
+    match term {
+        Term::String(text) => Ok(Some(*text)),
+        Term::Group(number) => {
+            if let Some(key) = waiting {
+                draft.push_entry(key, *number)?;
+            }
+            Ok(None)
+        }
+    }
+}
+
+/// Puts the entries of these items, which are a key, a group and so on, behind the draft's keys
+/// and members.
+fn push_entries<'a>(
+    draft: &mut Draft<'a>,
+    ticks: &mut Ticks,
+    items: &[Item<'a, u32>],
+) -> Result<(), NoMemory>
+    ensures pieces { OnOk result (draft.new.pieces ≡ draft.old.pieces) }
+    ensures members { OnOk result (draft.new.members.items
+        ≡ draft.old.members.items ++ map (λ e. e.1) (entries_after None items.now)) }
+    ensures keys { OnOk result (draft.new.keys.items
+        ≡ draft.old.keys.items ++ map (λ e. e.0) (entries_after None items.now)) }
+    ensures cost { ticks.new.count ≤ ticks.old.count + length items.now }
+{
+    let mut waiting: Option<&'a str> = None;
+    for item in items {
+        ticks.tick();
+        waiting = push_term(draft, waiting, &item.term)?;
+    }
+    Ok(())
+}
+
+/// Whether the keys ascend strictly.
+fn ascend(keys: &[&str]) -> bool
+    ensures { IsTrue result → texts_ascend (texts keys.now) ≡ true }
+{
+    for at in 1..keys.len() {
+        if !keys[at - 1].cmp(keys[at]).is_lt() {
+            return false;
+        }
+    }
+    true
 }
 
 /// Lists the entry of a group, if a key waits for one. Gives the key that waits from here on.
@@ -125,16 +185,12 @@ fn list_term<'a>(
     waiting: Option<&'a str>,
     term: &Term<'a, u32>,
 ) -> Result<Option<&'a str>, NoMemory>
-    ensures entries { IfOk result (λ next. (d : Draft) (f : Bool) (xs : List SeenItem)
-        → entries_seen d entries.new.items ++ pairs_after (waiting_key next) xs
-        ≡ entries_seen d entries.old.items
-        ++ pairs_after (waiting_key waiting.entry) (piece_term_seen d term.now f ∷ xs)) }
-    ensures whole { OnOk result ((d : Draft) (f : Bool)
-        → shown_borrowed (piece_term_seen d term.now f) ≡ true
-        → are_whole d entries.old.items ≡ true → are_whole d entries.new.items ≡ true) }
+    ensures next { IfOk result (λ next. next ≡ key_after term.now) }
+    ensures entries { OnOk result
+        (entries.new.items ≡ entries.old.items ++ entry_of waiting.entry term.now) }
 {
     match term {
-        Term::String(text) => Ok(Some(text)),
+        Term::String(text) => Ok(Some(*text)),
         Term::Group(number) => {
             if let Some(key) = waiting {
                 entries.push((key, *number))?;
@@ -146,29 +202,36 @@ fn list_term<'a>(
 
 /// The entries of these items, which are a key, a group and so on: keys and the numbers of the
 /// groups' pieces.
-fn entries_of<'a>(
-    alloc: Global,
-    ticks: &mut Ticks,
-    items: &[Item<'a, u32>],
-) -> Result<Vec<(&'a str, u32)>, NoMemory>
-    ensures entries { IfOk result (λ v. (d : Draft)
-        → entries_seen d v.items ≡ shown_pairs (map (piece_item_seen d) items.now)) }
-    ensures whole { IfOk result (λ v. (d : Draft)
-        → all_true (map shown_borrowed (map (piece_item_seen d) items.now)) ≡ true
-        → are_whole d v.items ≡ true) }
-    ensures cost { ticks.new.count ≤ ticks.old.count + length items.now }
+fn entries_of<'a>(alloc: Global, items: &[Item<'a, u32>]) -> Result<Vec<(&'a str, u32)>, NoMemory>
+    ensures { IfOk result (λ v. v.items ≡ entries_after None items.now) }
 {
     let mut entries = Vec::with_capacity(alloc, items.len() / 2)?;
     let mut waiting: Option<&'a str> = None;
     for item in items {
-        ticks.tick();
         waiting = list_term(&mut entries, waiting, &item.term)?;
     }
     Ok(entries)
 }
 
+/// The table of these items, as `table_of` says, whose keys may stand in any order.
+#[inline(never)]
+fn sorted_table_of<'a>(
+    alloc: Global,
+    draft: &mut Draft<'a>,
+    items: &[Item<'a, u32>],
+) -> Result<u32, NoMemory>
+    ensures made { let xs = map (piece_item_seen draft.old) items.now in
+        all_true (map shown_borrowed xs) ≡ true → IfOk result
+        (λ n. Represents tree_at is_whole draft.new n (table (map_of (shown_pairs xs)))) }
+    ensures keeps { OnOk result (Keeps draft.old draft.new) }
+{
+    let entries = entries_of(alloc, items)?;
+    draft.push_table(alloc, entries)
+}
+
 /// The table of these items, which are a key, a group and so on. A later entry of an equal key
-/// replaces the earlier one.
+/// replaces the earlier one. Where keys don't ascend, the entries that were put behind the draft's
+/// are taken away again, and put there in order.
 fn table_of<'a>(
     alloc: Global,
     draft: &mut Draft<'a>,
@@ -181,6 +244,13 @@ fn table_of<'a>(
     ensures keeps { OnOk result (Keeps draft.old draft.new) }
     ensures cost { ticks.new.count ≤ ticks.old.count + length items.now }
 {
-    let entries = entries_of(alloc, ticks, items)?;
-    draft.push_table(alloc, entries)
+    let first_member = draft.members.len();
+    let first_key = draft.keys.len();
+    push_entries(draft, ticks, items)?;
+    if ascend(&draft.keys[first_key..]) {
+        return draft.end_table(first_member, first_key);
+    }
+    draft.members.truncate(first_member);
+    draft.keys.truncate(first_key);
+    sorted_table_of(alloc, draft, items)
 }

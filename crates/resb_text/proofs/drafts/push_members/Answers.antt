@@ -1,0 +1,42 @@
+use Rattle.std.proofs.Common.{◌+◌, ◌++◌, ◌∷◌, ℕ, false, [], arith, drop, get_or, length, subst, sym, ◌∙◌, ap}
+use Rattle.std.proofs.Common.{refl}
+use Rattle.std.proofs.lemmas.List.{drop_more, drop-append-le, length-append}
+use Rattle.resb_draft.proofs.Standing.{keeps_on}
+use Rattle.resb_text.specs.declared.items.Item.{Item}
+use Rattle.resb_text.specs.declared.items.Term.TheVariants as terms
+use Rattle.resb_text.proofs.PieceItems.{ListsNumbers, lists_more, lists_on}
+use Rattle.resb_text.proofs.drafts.push_members.Goals as goal
+
+pub loop-item-preserved : goal.loop-item-preserved
+loop-item-preserved c =
+    let i = c.loop-item.invariant in
+    let items = c.args.items.now in
+    let at = c.loop-item.item-index in
+    let d : Item ℕ = record { term = terms.String (record { ref_ptr = (0, 0); now = [] }); comma = false } in
+    let item = get_or items at d in
+    let split = drop_more items at d (omega arith) in
+    let counted = c.tick.ensures in
+    let first = c.args.draft.now in
+    let old = c.loop-item.draft in
+    let mid = c.number_of.new.draft in
+    let new = c.push_member.new.self in
+    let more = c.in_ok-number.ensures in
+    let n = c.in_ok-number.number in
+    let from = length first.members.items in
+    let had = old.members.items in
+    let longer = i.longer in
+    let is = c.in_ok-push_member.ensures.members
+    ∙ ap (λ l. l ++ n ∷ []) (ap (λ v. v.items) more.members) in
+    let all = sym (ap (drop from) is ∙ drop-append-le from had (n ∷ []) longer) in
+    record {
+      made = λ h. subst (λ ns. ListsNumbers first new ns (drop (at + 1) items) items) all
+          (lists_on first mid new (drop from had ++ n ∷ []) (drop (at + 1) items) items
+          c.in_ok-push_member.ensures.keeps
+          (lists_more first old mid (drop from had) (drop from had ++ n ∷ []) item n
+          (drop at items) (drop (at + 1) items) items i.keeps more.keeps split refl
+          (more.made item.comma) (i.made h)));
+      longer = omega (arith, longer, ap length is, length-append had (n ∷ []));
+      keeps = keeps_on first mid new (keeps_on first old mid i.keeps more.keeps)
+          c.in_ok-push_member.ensures.keeps;
+      count = omega (arith, counted, i.count);
+    }

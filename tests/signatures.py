@@ -134,7 +134,7 @@ def rows_of(library, crate, name):
     for _, lines, at in library.methods.get(name, []):
         rows.append((f"{name}: " + signature(lines, at), sentence(lines, at)))
     traits = [trait for trait in library.traits_of(crate, name)
-              if not trait.startswith(("AsNode", "Drop", "Error", "MadeWith", "Model"))]
+              if not trait.startswith(("Drop", "Error", "MadeWith", "Model"))]
     if traits:
         rows.append((f"{name}: " + ", ".join(dict.fromkeys(traits)), "The traits that it has."))
     into = library.into.get(name, [])

@@ -7,7 +7,8 @@ use Rattle.std.specs.Prelude.{slice_range}
 use Rattle.std.proofs.lemmas.Bool.{and_from, and_parts}
 use Rattle.std.proofs.lemmas.List.{take-append-le, drop-append-le, take_all, map-append}
 use Rattle.std.proofs.lemmas.List.{reverse-append, map_push, take-map, drop-map}
-use Rattle.std.proofs.Math.Seq.{drop-append_seam, take-add, drop-nil}
+use Rattle.std.proofs.lemmas.List.{take-append-drop}
+use Rattle.std.proofs.Math.Seq.{drop-append_seam, drop-nil}
 use Rattle.std.specs.Ordering.{is_lt}
 use Rattle.resb_tree.specs.Borrowing.{all_true}
 use Rattle.resb_tree.specs.Maps.{text_cmp}
@@ -20,12 +21,14 @@ dropped_twice (suc n) m (x ∷ xs) =
     let one : suc n + m ≡ suc (n + m) = omega arith in
     dropped_twice n m xs ∙ ap (λ k. drop k (x ∷ xs)) (sym one)
 
--- the front of a list, and the part behind it
-pub front_and_part : {X : Type 0} (xs : List X) (from to : ℕ) → from ≤ to
-    → take from xs ++ slice_range xs from to ≡ take to xs
-front_and_part xs from to h =
+-- a part of a list, and what stands behind it
+pub part_and_back : {X : Type 0} (xs : List X) (from to : ℕ) → from ≤ to
+    → slice_range xs from to ++ drop to xs ≡ drop from xs
+part_and_back xs from to h =
     let long : to ≡ from + (to - from) = omega (arith, h) in
-    sym (take-add from (to - from) xs) ∙ ap (λ n. take n xs) (sym long)
+    ap (λ n. slice_range xs from to ++ drop n xs) long
+    ∙ ap (λ l. slice_range xs from to ++ l) (sym (dropped_twice from (to - from) xs))
+    ∙ take-append-drop (to - from) (drop from xs)
 
 -- a part of a list stays when more is put behind the list
 pub part_stays : {X : Type 0} (xs ys : List X) (from to : ℕ) → from ≤ to → to ≤ length xs

@@ -3,9 +3,8 @@
 ghost use Rattle.std.specs.Prelude.{◌≡◌, ◌++◌, ℕ, true, [], map, reverse, IfOk, OnOk, IsTrue};
 ghost use Rattle.std.specs.Prelude.{IfSome};
 ghost use Rattle.std.specs.Prelude.{◌+◌, ◌≤◌, length, slice_range};
-ghost use Rattle.std.specs.List.{flat_map};
 ghost use Rattle.resb_tree.specs.Borrowing.{all_true};
-ghost use Rattle.resb_tree.specs.LayingOrder.{laying_order, children, own_keys};
+ghost use Rattle.resb_tree.specs.LayingOrder.{laying_order, children, keys_of, own_keys};
 ghost use Rattle.resb_draft.specs.Drafts.{tree_at, is_whole, draft_tree, is_ready, texts};
 ghost use Rattle.resb_draft.specs.Pieces.{are_pieces};
 
@@ -65,49 +64,55 @@ impl<'a> Draft<'a> {
         }
     }
 
-    /// Whether the pieces of these numbers are all pieces in their order, and the keys those of
-    /// their tables.
-    pub fn stands_in(&self, numbers: &[u32]) -> bool
-        requires { all_true (map (is_whole self.now) numbers.now) ≡ true }
-        ensures pieces { IsTrue result
-            → are_pieces self.now.pieces.items (map (tree_at self.now) numbers.now) ≡ true }
-        ensures keys { IsTrue result
-            → texts self.now.keys.items ≡ flat_map own_keys (map (tree_at self.now) numbers.now) }
+    /// Whether the pieces are all of the draft's tree and stand in laying order, and the keys those
+    /// of its tables in that order.
+    pub fn stands_in_order(&self, alloc: Global) -> Result<bool, AllocError>
+        requires { is_ready self.now ≡ true }
+        ensures pieces { IfOk result (λ stands. IsTrue stands
+            → are_pieces self.now.pieces.items (laying_order (draft_tree self.now)) ≡ true) }
+        ensures keys { IfOk result (λ stands. IsTrue stands
+            → texts self.now.keys.items ≡ keys_of (draft_tree self.now)) }
     {
-        let mut keys = 0;
-        for at in 0..numbers.len() {
-            if numbers[at] as usize != at {
-                return false;
+        let mut pending = Vec::new(alloc);
+        pending.push(self.root)?;
+        let mut left = self.pieces.len();
+        let mut keys = self.keys.len();
+        while let Some(number) = pending.pop() {
+            let place = number as usize;
+            if place + 1 != left {
+                return Ok(false);
             }
-            let Some(end) = self.keys_end(numbers[at], keys) else {
-                return false;
+            let Some(start) = self.keys_start(number, keys) else {
+                return Ok(false);
             };
-            keys = end;
+            left = place;
+            keys = start;
+            self.push_children(&mut pending, number)?;
         }
-        numbers.len() == self.pieces.len() && keys == self.keys.len()
+        Ok(left == 0 && keys == 0)
     }
 
-    /// Where the keys end of the table that the piece of this number stands for, if they begin at
-    /// this place. The keys of any other piece end where they begin.
-    fn keys_end(&self, number: u32, from: usize) -> Option<usize>
+    /// Where the keys begin of the table that the piece of this number stands for, if they end at
+    /// this place. The keys of any other piece begin where they end.
+    fn keys_start(&self, number: u32, to: usize) -> Option<usize>
         requires whole { is_whole self.now number ≡ true }
-        requires from { from ≤ length self.now.keys.items }
-        ensures order { IfSome result (λ to. (from ≤ to) × (to ≤ length self.now.keys.items)) }
-        ensures keys { IfSome result (λ to.
+        ensures order { IfSome result (λ from. from ≤ to) }
+        ensures keys { IfSome result (λ from.
             slice_range (texts self.now.keys.items) from to ≡ own_keys (tree_at self.now number)) }
     {
         match &self.pieces[number as usize] {
             Piece::Table(part, first) => {
-                if *first as usize == from {
-                    Some(from + part.count as usize)
+                let from = *first as usize;
+                if from + part.count as usize == to {
+                    Some(from)
                 } else {
                     None
                 }
             }
-            Piece::String(_) => Some(from),
-            Piece::Integer(_) => Some(from),
-            Piece::Leaf(_) => Some(from),
-            Piece::Array(_) => Some(from),
+            Piece::String(_) => Some(to),
+            Piece::Integer(_) => Some(to),
+            Piece::Leaf(_) => Some(to),
+            Piece::Array(_) => Some(to),
         }
     }
 

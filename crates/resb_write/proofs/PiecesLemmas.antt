@@ -1,5 +1,6 @@
--- Pieces that stand in laying order can stand for the resources of their draft's tree.
-use Rattle.std.proofs.Common.{◌≡◌, ℕ, List, [], ◌∷◌, true, refl, sym, length}
+-- Pieces that fit trees.
+use Rattle.std.proofs.Common.{◌≡◌, ℕ, zero, suc, ◌<◌, List, [], ◌∷◌, true, refl, sym, length}
+use Rattle.std.proofs.Common.{get_or, arith}
 use Rattle.std.proofs.lemmas.Bool.{and_parts, false≢true, eqb-true}
 use Rattle.std.specs.Prelude.{nat_eq}
 use Rattle.resb_tree.specs.LayingOrder.{values_of, entry_keys}
@@ -7,17 +8,25 @@ use Rattle.resb_tree.specs.Tree.{Tree, string, array, table, binary, integer, in
 use Rattle.resb_draft.proofs.EntriesLemmas.{texts_sorted}
 use Rattle.resb_draft.specs.Pieces.{is_piece, are_pieces, has_entries}
 use Rattle.resb_draft.specs.declared.draft.Piece.{Piece}
-use Rattle.resb_write.specs.Inner.Nodes.{Fits, IsTableOf}
+use Rattle.resb_write.specs.Inner.Nodes.{IsTableOf, no_tree}
 
--- pieces that fit trees
-pub pieces_fit : (ps : List Piece) (ts : List Tree) → are_pieces ps ts ≡ true
-    → Fits (λ p t. is_piece p t ≡ true) ps ts
-pieces_fit [] [] h = tt
-pieces_fit [] (t ∷ ts) h = absurd (false≢true h)
-pieces_fit (p ∷ ps) [] h = absurd (false≢true h)
-pieces_fit (p ∷ ps) (t ∷ ts) h =
-    let both = and_parts (is_piece p t) _ h in
-    (both.0, pieces_fit ps ts both.1)
+-- there are as many trees as pieces that fit them
+pub pieces_long : (ps : List Piece) (ts : List Tree) → are_pieces ps ts ≡ true
+    → length ts ≡ length ps
+pieces_long [] [] h = refl
+pieces_long [] (t ∷ ts) h = absurd (false≢true h)
+pieces_long (p ∷ ps) [] h = absurd (false≢true h)
+pieces_long (p ∷ ps) (t ∷ ts) h =
+    omega (arith, pieces_long ps ts (and_parts (is_piece p t) _ h).1)
+
+-- a piece fits the tree at its place
+pub piece_at : (ps : List Piece) (ts : List Tree) (i : ℕ) (p : Piece) → are_pieces ps ts ≡ true
+    → i < length ps → is_piece (get_or ps i p) (get_or ts i no_tree) ≡ true
+piece_at [] ts i p h k = absurd (omega (arith, k))
+piece_at (q ∷ ps) [] i p h k = absurd (false≢true h)
+piece_at (q ∷ ps) (t ∷ ts) zero p h k = (and_parts (is_piece q t) _ h).0
+piece_at (q ∷ ps) (t ∷ ts) (suc i) p h k =
+    piece_at ps ts i p (and_parts (is_piece q t) _ h).1 (omega (arith, k))
 
 -- a table that a piece fits
 pub entries_fit : (n : ℕ) (t : Tree) → has_entries n t ≡ true → IsTableOf n t

@@ -8,9 +8,9 @@ ghost use Rattle.resb_tree.specs.Tree.{Tree};
 ghost use Rattle.resb_format.specs.Units.{units};
 ghost use Rattle.resb_pool.specs.Plan.{nows, first_too_long};
 ghost use Rattle.resb_write.specs.Inner.Gathered.{Gathered};
-ghost use Rattle.resb_write.specs.Inner.Nodes.{Fits, IsNode};
+ghost use Rattle.resb_write.specs.Inner.Nodes.{IsNode};
 
-use crate::nodes::{AsNode, Node};
+use crate::nodes::{Node, Nodes};
 use resb_format::utf16_len;
 use std::alloc::{AllocError, Global};
 
@@ -38,11 +38,9 @@ pub(crate) struct Contents<'t> {
 
 impl<'t> Contents<'t> {
     /// What resources hold, in their order.
-    pub(crate) fn gather<R: AsNode>(
-        alloc: Global,
-        order: &'t [R],
-    ) -> Result<Contents<'t>, AllocError>
-        ensures { IfOk result (λ c. (ts : List Tree) → Fits R.is order.now ts → Gathered ts c) }
+    pub(crate) fn gather<N: Nodes>(alloc: Global, order: &'t N) -> Result<Contents<'t>, AllocError>
+        requires { (ts : List Tree) × N.fit order.now ts }
+        ensures { IfOk result (λ c. (ts : List Tree) → N.fit order.now ts → Gathered ts c) }
     {
         let mut contents = Contents {
             texts: Vec::new(alloc),
@@ -52,8 +50,8 @@ impl<'t> Contents<'t> {
             too_long: None,
             has_count_over_32_bits: false,
         };
-        for at in 0..order.len() {
-            contents.add(order[at].as_node())?;
+        for at in 0..order.count() {
+            contents.add(order.node(at))?;
         }
         Ok(contents)
     }

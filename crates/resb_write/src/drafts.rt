@@ -1,35 +1,36 @@
-//! The pieces and keys of a draft in laying order, where they don't stand in it.
+//! The pieces of a draft that don't stand in laying order, by their numbers in it, and their keys.
 //! What a piece is to the writer stands in `pieces`.
-ghost use Rattle.std.specs.Prelude.{◌≡◌, ◌++◌, true, map, IfOk};
+ghost use Rattle.std.specs.Prelude.{◌≡◌, true, map, IfOk};
 ghost use Rattle.std.specs.List.{flat_map};
 ghost use Rattle.resb_tree.specs.Borrowing.{all_true};
 ghost use Rattle.resb_tree.specs.LayingOrder.{own_keys};
 ghost use Rattle.resb_pool.specs.Plan.{nows};
 ghost use Rattle.resb_draft.specs.Drafts.{tree_at, is_whole};
-ghost use Rattle.resb_draft.specs.declared.draft.Draft.{Draft};
-ghost use Rattle.resb_write.specs.Inner.Nodes.{Fits, IsNode};
 
-use crate::nodes::{AsNode, Node};
+use crate::nodes::{Node, Nodes};
+use crate::pieces::piece_node;
 use resb_draft::{Draft, Piece};
 use std::alloc::{AllocError, Global};
 
-/// The pieces of these numbers, without what is inside them. They are those of a draft.
-pub(crate) fn draft_nodes<'t>(
-    alloc: Global,
-    pieces: &'t [Piece<'_>],
-    order: &[u32],
-) -> Result<Vec<Node<'t>>, AllocError>
-    requires { (d : Draft) × (d.pieces.items ≡ pieces.now)
-        × (all_true (map (is_whole d) order.now) ≡ true) }
-    ensures { IfOk result (λ v. (d : Draft) → d.pieces.items ≡ pieces.now
-        → all_true (map (is_whole d) order.now) ≡ true
-        → Fits IsNode v.items (map (tree_at d) order.now)) }
-{
-    let mut nodes = Vec::with_capacity(alloc, order.len())?;
-    for at in 0..order.len() {
-        nodes.push(pieces[order[at] as usize].as_node())?;
+/// Pieces of a draft, and the numbers of those that are laid, in laying order.
+#[derive(Drop)]
+pub(crate) struct NumberedPieces<'a> {
+    pub(crate) pieces: Vec<Piece<'a>>,
+    pub(crate) numbers: Vec<u32>,
+}
+
+impl<'a> Nodes for NumberedPieces<'a> {
+    ghost use Rattle.resb_write.specs.Inner.Numbered.{TakesPieces};
+
+    ghost fit = { λ s ts. TakesPieces s.pieces.items s.numbers.items ts };
+
+    fn count(&self) -> usize {
+        self.numbers.len()
     }
-    Ok(nodes)
+
+    fn node(&self, at: usize) -> Node<'_> {
+        piece_node(&self.pieces[self.numbers[at] as usize])
+    }
 }
 
 /// The keys of the tables among the pieces of these numbers, in their order.

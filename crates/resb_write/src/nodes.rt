@@ -1,13 +1,14 @@
-//! What the writer needs of a resource: what it is without what is inside it. So the writer is
-//! generic over what is laid. The nodes of resources are made here, those of drafts in `drafts`.
+//! What the writer needs of resources in laying order: what each is without what is inside it. So
+//! the writer is generic over what is laid. The nodes of a tree's resources are found here, those of
+//! a draft's pieces in `pieces` and `drafts`.
 //! What is gathered from resources and laid for them is not said here.
-ghost use Rattle.std.specs.Prelude.{◌≡◌, ◌++◌, IfOk, OnOk};
+ghost use Rattle.std.specs.Prelude.{◌≡◌, ◌++◌, ◌<◌, List, length, get_or, IfOk, OnOk};
 ghost use Rattle.std.specs.List.{flat_map};
 ghost use Rattle.resb_tree.specs.Tree.{Tree};
 ghost use Rattle.resb_tree.specs.View.{tree_of, entries_view};
 ghost use Rattle.resb_tree.specs.LayingOrder.{entry_keys, own_keys, trees_in};
 ghost use Rattle.resb_pool.specs.Plan.{nows};
-ghost use Rattle.resb_write.specs.Inner.Nodes.{Fits, IsNode};
+ghost use Rattle.resb_write.specs.Inner.Nodes.{AreNodes, IsNode, no_tree};
 
 use resb_tree::{Resource, Table};
 use std::alloc::{AllocError, Global};
@@ -29,23 +30,33 @@ pub(crate) enum Node<'t> {
     IntVector(&'t [u32]),
 }
 
-/// What stands for a resource of a tree, as the writer sees it.
-pub(crate) trait AsNode {
-    /// Whether it can stand for that tree, of which it may say the root alone.
-    ghost is: { Self → Tree → Type 0 };
+/// Resources in laying order, as the writer sees them.
+pub(crate) trait Nodes {
+    /// Whether they can stand for these trees, each for one, of which they may say the roots alone.
+    ghost fit: { Self → List Tree → Type 0 };
 
-    /// The resource without what is inside it.
-    fn as_node(&self) -> Node<'_>
-        ensures { (t : Tree) → is self.now t → IsNode result t };
+    /// How many they are.
+    fn count(&self) -> usize
+        ensures { (ts : List Tree) → fit self.now ts → length ts ≡ result };
+
+    /// The one at a place, without what is inside it.
+    fn node(&self, at: usize) -> Node<'_>
+        requires { (ts : List Tree) × fit self.now ts × (at < length ts) }
+        ensures { (ts : List Tree) → fit self.now ts → at < length ts
+            → IsNode result (get_or ts at no_tree) };
 }
 
-impl<'t> AsNode for Node<'t> {
-    ghost use Rattle.resb_write.specs.Inner.Nodes.{IsNode};
+impl<'t> Nodes for Vec<Node<'t>> {
+    ghost use Rattle.resb_write.specs.Inner.Nodes.{AreNodes};
 
-    ghost is = { IsNode };
+    ghost fit = { λ v ts. AreNodes v.items ts };
 
-    fn as_node(&self) -> Node<'_> {
-        *self
+    fn count(&self) -> usize {
+        self.len()
+    }
+
+    fn node(&self, at: usize) -> Node<'_> {
+        self[at]
     }
 }
 
@@ -54,7 +65,7 @@ pub(crate) fn nodes_of<'t>(
     alloc: Global,
     order: &Vec<&'t Resource<'_>>,
 ) -> Result<Vec<Node<'t>>, AllocError>
-    ensures { IfOk result (λ v. Fits IsNode v.items (trees_in order.now.items)) }
+    ensures { IfOk result (λ v. AreNodes v.items (trees_in order.now.items)) }
 {
     let mut nodes = Vec::with_capacity(alloc, order.len())?;
     for at in 0..order.len() {

@@ -10,17 +10,16 @@ ghost use Rattle.resb_pool.specs.Plan.{nows};
 ghost use Rattle.resb_draft.specs.Drafts.{draft_tree, is_ready, tree_at, is_whole, texts};
 ghost use Rattle.resb_draft.specs.Pieces.{are_pieces};
 ghost use Rattle.resb_write.specs.FaultOf.{fault_of};
-ghost use Rattle.resb_write.specs.Inner.Nodes.{Fits};
 ghost use Rattle.resb_layout.specs.TreeFaults.{RefusesWriting};
 ghost use Rattle.resb_layout.specs.Written.{Written};
 
 use crate::contents::Contents;
-use crate::drafts::{draft_keys, draft_nodes};
+use crate::drafts::{NumberedPieces, draft_keys};
 use crate::error::BinarySerializerError;
 use crate::file::{Pieces, assemble};
 use crate::key_block::{KEYS_START, KeyBlock, block_length};
 use crate::limits::check_sizes;
-use crate::nodes::{AsNode, nodes_of, table_keys};
+use crate::nodes::{Nodes, nodes_of, table_keys};
 use crate::sites::Sites;
 use crate::strings::Strings;
 use crate::tree_bodies::lay_bodies;
@@ -106,11 +105,10 @@ fn write_draft(
         is_locale_fallback_enabled list.now) }
     ensures err { IfErr result (λ e. RefusesWriting (draft_tree root.entry) list.now (fault_of e)) }
 {
-    let order = root.in_laying_order(alloc)?;
-    if root.stands_in(&order) {
-        drop(order);
+    if root.stands_in_order(alloc)? {
         return write_standing(alloc, root, is_locale_fallback_enabled, list);
     }
+    let order = root.in_laying_order(alloc)?;
     write_by_number(alloc, root, order, is_locale_fallback_enabled, list)
 }
 
@@ -162,26 +160,28 @@ fn write_by_number(
     } = draft;
     drop(members);
     drop(unordered);
-    let nodes = draft_nodes(alloc, &pieces, &order)?;
-    drop(order);
-    write_order(alloc, &nodes, keys, is_locale_fallback_enabled, list)
+    let numbered = NumberedPieces {
+        pieces,
+        numbers: order,
+    };
+    write_order(alloc, &numbered, keys, is_locale_fallback_enabled, list)
 }
 
 /// The refusals in their order, and then the file of a tree, whose resources are given in laying
 /// order, and beside them the keys of its tables.
-pub(crate) fn write_order<R: AsNode>(
+pub(crate) fn write_order<N: Nodes>(
     alloc: Global,
-    order: &[R],
+    order: &N,
     tree_keys: Vec<&str>,
     is_locale_fallback_enabled: bool,
     list: &[Key<'_>],
 ) -> Result<Vec<u8>, BinarySerializerError>
-    requires { (t : Tree) × Fits R.is order.now (laying_order t)
+    requires { (t : Tree) × N.fit order.now (laying_order t)
         × (nows tree_keys.items ≡ keys_of t) }
-    ensures ok { IfOk result (λ v. (t : Tree) → Fits R.is order.now (laying_order t)
+    ensures ok { IfOk result (λ v. (t : Tree) → N.fit order.now (laying_order t)
         → nows tree_keys.entry.items ≡ keys_of t
         → Written v.items t is_locale_fallback_enabled list.now) }
-    ensures err { IfErr result (λ e. (t : Tree) → Fits R.is order.now (laying_order t)
+    ensures err { IfErr result (λ e. (t : Tree) → N.fit order.now (laying_order t)
         → nows tree_keys.entry.items ≡ keys_of t → RefusesWriting t list.now (fault_of e)) }
 {
     let contents = Contents::gather(alloc, order)?;

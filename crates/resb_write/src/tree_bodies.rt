@@ -9,12 +9,12 @@ ghost use Rattle.resb_write.specs.Inner.StackSteps.{LaysNext, LaysRow};
 ghost use Rattle.resb_write.specs.Inner.Room.{laid_of, own_size, GivesInTurn};
 ghost use Rattle.resb_write.specs.Inner.Room.{HasRoomFor, HasRoomBehind, tail_base, most_units};
 ghost use Rattle.resb_write.specs.Inner.Seen.{Anywhere, HasRoom, TakesNoMore, CanLay};
-ghost use Rattle.resb_write.specs.Inner.Nodes.{Fits, IsNode};
+ghost use Rattle.resb_write.specs.Inner.Nodes.{IsNode};
 
 use crate::body_steps::{
     step_array, step_bytes, step_integer, step_numbers, step_string, step_table,
 };
-use crate::nodes::{AsNode, Node};
+use crate::nodes::{Node, Nodes};
 use crate::sites::{Bodies, Coming, Sites};
 use crate::unit_count::count_units;
 use std::alloc::{AllocError, Global};
@@ -56,25 +56,25 @@ fn step(
 }
 
 /// Lays resources in a row.
-fn steps<R: AsNode>(
+fn steps<N: Nodes>(
     base: usize,
     sites: &Sites<'_>,
     bodies: &mut Bodies,
     words: &mut Vec<u32>,
-    order: &[R],
+    order: &N,
 ) -> Result<(), AllocError>
-    requires { (ts : List Tree) × Fits R.is order.now ts
+    requires { (ts : List Tree) × N.fit order.now ts
         × CanLay base bodies.old (length words.old.items) ts
         × (g : Given) × GivesInTurn g sites.now.positions.now sites.now.offsets.now ts }
-    ensures lays { OnOk result (Anywhere base (λ g. (ts : List Tree) → Fits R.is order.now ts
+    ensures lays { OnOk result (Anywhere base (λ g. (ts : List Tree) → N.fit order.now ts
         → GivesInTurn g sites.now.positions.now sites.now.offsets.now ts
         → LaysRow g (laid_of bodies.old) words.old.items ts (laid_of bodies.new)
         words.new.items)) }
     ensures fits { OnOk result (HasRoomFor base (laid_of bodies.new) []) }
 {
     let mut coming = sites.coming();
-    for at in 0..order.len() {
-        step(base, &mut coming, bodies, words, order[at].as_node())?;
+    for at in 0..order.count() {
+        step(base, &mut coming, bodies, words, order.node(at))?;
     }
     Ok(())
 }
@@ -82,19 +82,19 @@ fn steps<R: AsNode>(
 /// Lays a tree, whose resources are given in laying order, behind the pool of its strings, and
 /// gives its word. There is room for the bodies of its resources. `Err` is for want of memory
 /// alone; what stands then is of no use.
-fn lay_order<R: AsNode>(
+fn lay_order<N: Nodes>(
     alloc: Global,
     base: usize,
     sites: &Sites<'_>,
     bodies: &mut Bodies,
-    order: &[R],
+    order: &N,
 ) -> Result<u32, AllocError>
-    requires { (t : Tree) × Fits R.is order.now (laying_order t)
+    requires { (t : Tree) × N.fit order.now (laying_order t)
         × HasRoomFor base (laid_of bodies.old) (laying_order t)
         × (g : Given) × GivesInTurn g sites.now.positions.now sites.now.offsets.now
         (laying_order t) }
     ensures lays { IfOk result (λ word. Anywhere base (λ g. (t : Tree)
-        → Fits R.is order.now (laying_order t)
+        → N.fit order.now (laying_order t)
         → GivesInTurn g sites.now.positions.now sites.now.offsets.now (laying_order t)
         → Lays g (laid_of bodies.old) t (laid_of bodies.new) word)) }
     ensures fits { OnOk result (HasRoomFor base (laid_of bodies.new) []) }
@@ -110,20 +110,20 @@ fn lay_order<R: AsNode>(
 /// Lays a tree, whose resources are given in laying order, behind the pool of its strings, where
 /// the key block ends at a byte of the body. Gives what is laid, and the tree's word. The tail
 /// begins behind the 16-bit block, at a multiple of 4. `Err` is for want of memory alone.
-pub(crate) fn lay_bodies<R: AsNode>(
+pub(crate) fn lay_bodies<N: Nodes>(
     alloc: Global,
     sites: &Sites<'_>,
     pool: Vec<u16>,
     keys_end: usize,
-    order: &[R],
+    order: &N,
 ) -> Result<(Bodies, u32), AllocError>
     requires aligned { keys_end % 4 ≡ 0 }
-    requires tree { (t : Tree) × Fits R.is order.now (laying_order t)
+    requires tree { (t : Tree) × N.fit order.now (laying_order t)
         × HasRoomBehind keys_end pool.items (laying_order t)
         × (g : Given) × GivesInTurn g sites.now.positions.now sites.now.offsets.now
         (laying_order t) }
     ensures lays { IfOk result (λ laid. (g : Given) (t : Tree)
-        → Fits R.is order.now (laying_order t)
+        → N.fit order.now (laying_order t)
         → GivesInTurn g sites.now.positions.now sites.now.offsets.now (laying_order t)
         → g.base ≡ tail_base keys_end laid.0
         → Lays g (record { units = pool.items; tail = [] }) t (laid_of laid.0) laid.1) }

@@ -9,9 +9,9 @@ ghost use Rattle.resb_layout.specs.Laid.{Given, are_near};
 ghost use Rattle.resb_write.specs.Inner.Room.{most_units, GivesInTurn};
 ghost use Rattle.resb_write.specs.Inner.Counted.{is_near, own_units, short_units};
 ghost use Rattle.resb_write.specs.Inner.Counted.{are_set_behind, CountsOne};
-ghost use Rattle.resb_write.specs.Inner.Nodes.{Fits, IsNode};
+ghost use Rattle.resb_write.specs.Inner.Nodes.{IsNode};
 
-use crate::nodes::{AsNode, Node};
+use crate::nodes::{Node, Nodes};
 use crate::resource_bodies::{UNIT_MAX, are_near_positions};
 use crate::sites::{Coming, Sites};
 use std::alloc::{AllocError, Global};
@@ -133,21 +133,21 @@ fn count_own(
 /// The number of units of the 16-bit block: those of the pool of the strings, and what the bodies
 /// of a tree add, whose resources are given in laying order. It is the same wherever the tail
 /// begins.
-pub(crate) fn count_units<R: AsNode>(
+pub(crate) fn count_units<N: Nodes>(
     alloc: Global,
     sites: &Sites<'_>,
     pool: usize,
-    order: &[R],
+    order: &N,
 ) -> Result<usize, AllocError>
-    requires { (t : Tree) × Fits R.is order.now (laying_order t)
+    requires { (t : Tree) × N.fit order.now (laying_order t)
         × (pool + sum_by most_units (laying_order t) < 2 ^ 28)
         × (g : Given) × GivesInTurn g sites.now.positions.now sites.now.offsets.now
         (laying_order t) }
     ensures counts { IfOk result (λ count. (g : Given) (t : Tree)
-        → Fits R.is order.now (laying_order t)
+        → N.fit order.now (laying_order t)
         → GivesInTurn g sites.now.positions.now sites.now.offsets.now (laying_order t)
         → count ≡ pool + sum_by (own_units g) (laying_order t)) }
-    ensures few { IfOk result (λ count. (t : Tree) → Fits R.is order.now (laying_order t)
+    ensures few { IfOk result (λ count. (t : Tree) → N.fit order.now (laying_order t)
         → (g : Given)
         → GivesInTurn g sites.now.positions.now sites.now.offsets.now (laying_order t)
         → count ≤ pool + sum_by most_units (laying_order t)) }
@@ -155,8 +155,8 @@ pub(crate) fn count_units<R: AsNode>(
     let mut coming = sites.coming();
     let mut marks = Vec::new(alloc);
     let mut count = pool;
-    for at in 0..order.len() {
-        count += count_own(&mut coming, &mut marks, order[at].as_node())?;
+    for at in 0..order.count() {
+        count += count_own(&mut coming, &mut marks, order.node(at))?;
     }
     Ok(count)
 }

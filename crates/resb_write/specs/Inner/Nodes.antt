@@ -1,6 +1,6 @@
 -- Resources without what is inside them.
---     Fits is rs ts           resources can stand for these trees, each for one
 --     IsNode n t              what is known of a tree by its node
+--     AreNodes ns ts          each of some trees is known by the node at its place
 use Rattle.std.specs.Prelude.{◌≡◌, ℕ, ◌^◌, ◌<◌, List, [], ◌∷◌, length}
 use Rattle.std.specs.List.Sorted.{IsStrictlySortedBy}
 use Rattle.resb_tree.specs.Tree.{Tree, string, array, table, binary, integer, int_vector, Trees}
@@ -11,12 +11,9 @@ use Rattle.resb_write.specs.declared.nodes.Node.{Node}
 use Rattle.resb_write.specs.declared.nodes.Node.TheVariants.{String, Array, Table, Binary}
 use Rattle.resb_write.specs.declared.nodes.Node.TheVariants.{Integer, IntVector}
 
--- each tree is one for which the resource at its place can stand
-abbrev pub Fits : {R : Type 0} → (R → Tree → Type 0) → List R → List Tree → Type 0
-Fits is [] [] = Unit {0}
-Fits is [] (t ∷ ts) = ⊥
-Fits is (r ∷ rs) [] = ⊥
-Fits is (r ∷ rs) (t ∷ ts) = is r t × Fits is rs ts
+-- a tree that stands at no place
+abbrev pub no_tree : Tree
+no_tree = integer 0
 
 -- an array of so many members
 pub record IsArrayOf (n : ℕ) (t : Tree) : Type 0 where
@@ -39,3 +36,10 @@ IsNode (Table n) t = IsTableOf n t
 IsNode (Binary bytes) t = t ≡ binary bytes.now
 IsNode (Integer n) t = (t ≡ integer n) × (n < 2 ^ 28)
 IsNode (IntVector ns) t = t ≡ int_vector ns.now
+
+-- each node is one of the tree at its place
+abbrev pub AreNodes : List Node → List Tree → Type 0
+AreNodes [] [] = Unit {0}
+AreNodes [] (t ∷ ts) = ⊥
+AreNodes (n ∷ ns) [] = ⊥
+AreNodes (n ∷ ns) (t ∷ ts) = IsNode n t × AreNodes ns ts

@@ -3,13 +3,12 @@ use Rattle.std.proofs.Common.{◌∙◌, ap, sym, subst}
 use Rattle.std.specs.List.{flat_map}
 use Rattle.std.proofs.lemmas.Result.{err_from_is_err_and, IfOk-weaker, IfErr-weaker}
 use Rattle.resb_tree.specs.View.{tree_of}
-use Rattle.resb_tree.specs.LayingOrder.{laying_order, own_keys}
+use Rattle.resb_tree.specs.LayingOrder.{own_keys}
 use Rattle.resb_write.specs.FaultOf.{fault_of}
-use Rattle.resb_write.specs.Inner.Nodes.{Fits, IsNode}
+use Rattle.resb_write.specs.Inner.Nodes.{AreNodes}
 use Rattle.resb_layout.specs.TreeFaults.{RefusesWriting, no_memory}
 use Rattle.resb_layout.specs.Written.{Written}
 use Rattle.resb_write.proofs.serializer.write.Goals as goal
-use Rattle.resb_write.proofs.serializer.write.Goals.{After-deref}
 
 pub returns-in_err-order-clause-err : goal.returns-in_err-order-clause-err
 returns-in_err-order-clause-err c =
@@ -33,22 +32,24 @@ write_order-requires c =
     let t = tree_of c.root.result.now in
     let same = c.in_ok-order.ensures in (
       t,
-      subst (λ ns. Fits IsNode ns (laying_order t)) (sym c.deref.ensures.value)
-          (subst (Fits IsNode c.in_ok-nodes.nodes.items) same c.in_ok-nodes.ensures),
+      subst (AreNodes c.in_ok-nodes.nodes.items) same c.in_ok-nodes.ensures,
       c.in_ok-keys.ensures ∙ ap (flat_map own_keys) same,
     )
 
 pub returns-clause-ok : goal.returns-clause-ok
-unfolding write_order-requires
 returns-clause-ok c =
-    let r = write_order-requires (goal.at.returns-clause-ok c).After-deref in
+    let same = c.in_ok-order.ensures in
     IfOk-weaker c.write_order.result _ _ (λ v h. subst (λ t. Written v.items t
     c.args.bundle.now.is_locale_fallback_enabled c.args.list.now) c.root.ensures.tree
-    (h r.0 r.1 r.2)) c.write_order.ensures.ok
+    (h (tree_of c.root.result.now)
+    (subst (AreNodes c.in_ok-nodes.nodes.items) same c.in_ok-nodes.ensures)
+    (c.in_ok-keys.ensures ∙ ap (flat_map own_keys) same))) c.write_order.ensures.ok
 
 pub returns-clause-err : goal.returns-clause-err
-unfolding write_order-requires
 returns-clause-err c =
-    let r = write_order-requires (goal.at.returns-clause-err c).After-deref in
+    let same = c.in_ok-order.ensures in
     IfErr-weaker c.write_order.result _ _ (λ e h. subst (λ t. RefusesWriting t c.args.list.now
-    (fault_of e)) c.root.ensures.tree (h r.0 r.1 r.2)) c.write_order.ensures.err
+    (fault_of e)) c.root.ensures.tree
+    (h (tree_of c.root.result.now)
+    (subst (AreNodes c.in_ok-nodes.nodes.items) same c.in_ok-nodes.ensures)
+    (c.in_ok-keys.ensures ∙ ap (flat_map own_keys) same))) c.write_order.ensures.err

@@ -6,5 +6,11 @@ use Rattle.resb_write.proofs.serializer.write_draft.Goals as goal
 
 pub returns-in_err-order-clause-err : goal.returns-in_err-order-clause-err
 returns-in_err-order-clause-err c =
+    let p = err_from_is_err_and c.from_residual-in_err-order.result
+    c.from_residual-in_err-order.ensures.1 in
+    rw p.1 (subst (RefusesWriting _ c.args.list.now) (sym p.2) no_memory)
+
+pub returns-in_err-stands_in_order-clause-err : goal.returns-in_err-stands_in_order-clause-err
+returns-in_err-stands_in_order-clause-err c =
     let p = err_from_is_err_and c.from_residual.result c.from_residual.ensures.1 in
     rw p.1 (subst (RefusesWriting _ c.args.list.now) (sym p.2) no_memory)

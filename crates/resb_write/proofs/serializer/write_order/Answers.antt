@@ -7,7 +7,6 @@ use Rattle.resb_format.specs.Units.{size}
 use Rattle.resb_pool.specs.Plan.{nows, IsPlan}
 use Rattle.resb_tree.specs.Tree.{Tree}
 use Rattle.resb_tree.specs.LayingOrder.{laying_order, keys_of}
-use Rattle.resb_write.specs.Inner.Nodes.{Fits}
 use Rattle.resb_write.specs.Inner.Room.{laid_of, GivesInTurn}
 use Rattle.resb_layout.specs.KeyBlock.{used, key_bytes, padded, position_in}
 use Rattle.resb_layout.specs.TreeFaults.{RefusesWriting, no_memory, key_fault}
@@ -88,7 +87,7 @@ overflow_add-keys_end g c =
 
 -- where the keys and the strings of the tree stand, for a tail that begins at a byte of the body
 numbered : (g : _) (c : After-deref-3 g) (base : ℕ) (t : Tree)
-    → Fits g.R.AsNode.is c.args.order.now (laying_order t)
+    → g.N.Nodes.fit c.args.order.now (laying_order t)
     → nows c.args.tree_keys.items ≡ keys_of t
     → GivesInTurn (record {
       position = position_in (nows c.in_ok-keys.field-0.keys.items);

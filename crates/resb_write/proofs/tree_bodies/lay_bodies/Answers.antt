@@ -2,7 +2,6 @@ use Rattle.std.proofs.Common.{◌≡◌, ◌+◌, ◌*◌, ◌%◌, ℕ, [], len
 use Rattle.resb_tree.specs.Tree.{Tree}
 use Rattle.resb_layout.specs.Laid.{Given, Lays}
 use Rattle.resb_tree.specs.LayingOrder.{laying_order}
-use Rattle.resb_write.specs.Inner.Nodes.{Fits}
 use Rattle.resb_write.specs.Inner.Room.{laid_of, HasRoomFor, GivesInTurn}
 use Rattle.resb_write.proofs.Counting.{units}
 use Rattle.resb_write.proofs.Numbers.{based, moved}
@@ -38,7 +37,7 @@ lay_order-requires g c =
 
 -- what is laid has as many units as were counted
 count_is : (g : _) (c : In_ok-word g) (given : Given) (t : Tree)
-    → Fits g.R.AsNode.is c.args.order.now (laying_order t)
+    → g.N.Nodes.fit c.args.order.now (laying_order t)
     → GivesInTurn given c.args.sites.now.positions.now c.args.sites.now.offsets.now
     (laying_order t)
     → length c.lay_order.new.bodies.units.items ≡ c.in_ok-count.count

@@ -1,10 +1,12 @@
-use Rattle.std.proofs.Common.{◌+◌, ◌<◌, length, get_or, take, drop, refl, sym, subst}
+use Rattle.std.proofs.Common.{◌+◌, ◌<◌, List, length, get_or, take, drop, refl, sym, subst}
 use Rattle.std.proofs.Common.{arith}
+use Rattle.resb_tree.specs.Tree.{Tree}
 use Rattle.resb_write.specs.Inner.StackSteps.{LaysRow, row_none}
 use Rattle.resb_write.specs.Inner.Room.{laid_of, GivesInTurn, HasRoomFor}
 use Rattle.resb_write.specs.Inner.Seen.{CanLay}
-use Rattle.resb_write.proofs.NodesLemmas.{no_tree, one_fits, trees-drop, trees-take, trees-all}
-use Rattle.resb_write.proofs.NodesLemmas.{no_trees_left}
+use Rattle.std.proofs.lemmas.List.{take_all, drop_all}
+use Rattle.resb_write.specs.Inner.Nodes.{no_tree}
+use Rattle.resb_write.proofs.NodesLemmas.{trees-drop, trees-take}
 use Rattle.resb_write.proofs.Numbers.{based, moved}
 use Rattle.resb_write.proofs.Rows.{steps_push, step_long, has_room, can_go_on}
 use Rattle.resb_write.proofs.tree_bodies.steps.Goals as goal
@@ -19,24 +21,29 @@ loop-at-init g c = record {
   can = λ given ts f n can. can;
 }
 
+pub node-requires : goal.node-requires
+node-requires g c = (
+  c.requires.0,
+  c.requires.1,
+  omega (arith, c.loop-at-test.true, c.count-at-end.ensures c.requires.0 c.requires.1),
+)
+
 pub step-requires : goal.step-requires
 step-requires g c =
     let r = c.requires in
     let ts = r.0 in
-    let order = c.args.order.now in
     let i = c.loop-at.at in
-    let d = c.index-order-at.result in
-    let at = c.index-order-at.is in
-    let h : i < length order = omega (arith, c.loop-at-test.true) in
+    let h : i < length ts =
+    omega (arith, c.loop-at-test.true, c.count-at-end.ensures ts r.1) in
     let t = get_or ts i no_tree in
     let rest = drop (i + 1) ts in
-    let split = trees-drop g.R.AsNode.is order ts i d at h r.1 in
+    let split = trees-drop ts i h in
     let v = c.loop-at.invariant in
     let old = c.loop-at.words.items in
     let can = subst (CanLay c.args.base c.loop-at.bodies (length old)) split
     (v.can r.3 ts r.1 r.4 r.2) in (
       t,
-      c.as_node.ensures t (one_fits g.R.AsNode.is order ts i d at h r.1),
+      c.node.ensures ts r.1 h,
       has_room c.args.base c.loop-at.bodies (length old) t rest can,
       can.enough.0,
       r.3,
@@ -47,12 +54,9 @@ step-requires g c =
 
 pub loop-at-preserved : goal.loop-at-preserved
 loop-at-preserved g c =
-    let order = c.args.order.now in
     let i = c.loop-at.at in
-    let d = c.index-order-at.result in
-    let at = c.index-order-at.is in
-    let h : i < length order = omega (arith, c.loop-at-test.true) in
-    let is = g.R.AsNode.is in
+    let inside : (ts : List Tree) → g.N.Nodes.fit c.args.order.now ts → i < length ts
+    = λ ts f. omega (arith, c.loop-at-test.true, c.count-at-end.ensures ts f) in
     let old = c.loop-at.words.items in
     let new = c.step.new.words.items in
     let ps = c.loop-at.coming.positions.now in
@@ -61,26 +65,26 @@ loop-at-preserved g c =
     record {
       left = λ given ts f n.
           let t = get_or ts i no_tree in
-          let fits = c.as_node.ensures t (one_fits is order ts i d at h f) in
+          let fits = c.node.ensures ts f (inside ts f) in
           c.in_ok-step.ensures.left given t (drop (i + 1) ts) fits
-          (subst (GivesInTurn given ps os) (trees-drop is order ts i d at h f)
+          (subst (GivesInTurn given ps os) (trees-drop ts i (inside ts f))
           (v.left given ts f n));
       done = λ given e ts f n.
           let t = get_or ts i no_tree in
-          let fits = c.as_node.ensures t (one_fits is order ts i d at h f) in
+          let fits = c.node.ensures ts f (inside ts f) in
           let k = c.in_ok-step.ensures.step given e t (drop (i + 1) ts) fits
-          (subst (GivesInTurn given ps os) (trees-drop is order ts i d at h f)
+          (subst (GivesInTurn given ps os) (trees-drop ts i (inside ts f))
           (v.left given ts f n)) in
           subst (λ us. LaysRow given (laid_of c.args.bodies.now) c.args.words.now.items us
-          (laid_of c.step.new.bodies) new) (sym (trees-take is order ts i d at h f))
+          (laid_of c.step.new.bodies) new) (sym (trees-take ts i (inside ts f)))
           (steps_push given (laid_of c.args.bodies.now) (laid_of c.loop-at.bodies)
           (laid_of c.step.new.bodies) c.args.words.now.items old new (take i ts) t
           (v.done given e ts f n) k);
       can = λ given ts f n can.
           let t = get_or ts i no_tree in
           let rest = drop (i + 1) ts in
-          let fits = c.as_node.ensures t (one_fits is order ts i d at h f) in
-          let split = trees-drop is order ts i d at h f in
+          let fits = c.node.ensures ts f (inside ts f) in
+          let split = trees-drop ts i (inside ts f) in
           let own = based given c.args.base in
           can_go_on c.args.base c.loop-at.bodies (length old) t rest
           (subst (CanLay c.args.base c.loop-at.bodies (length old)) split
@@ -95,12 +99,14 @@ pub returns-clause-lays : goal.returns-clause-lays
 returns-clause-lays g c = λ given e ts f n.
     subst (λ us. LaysRow given (laid_of c.args.bodies.now) c.args.words.now.items us
     (laid_of c.loop-at.bodies) c.loop-at.words.items)
-    (trees-all g.R.AsNode.is c.args.order.now ts c.loop-at.at f c.loop-at-test.false)
+    (take_all c.loop-at.at ts
+    (omega (arith, c.loop-at-test.false, c.count-at-end.ensures ts f)))
     (c.loop-at.invariant.done given e ts f n)
 
 pub returns-clause-fits : goal.returns-clause-fits
 returns-clause-fits g c =
     let r = c.requires in
     subst (HasRoomFor c.args.base (laid_of c.loop-at.bodies))
-    (no_trees_left g.R.AsNode.is c.args.order.now r.0 c.loop-at.at r.1 c.loop-at-test.false)
+    (drop_all c.loop-at.at r.0
+    (omega (arith, c.loop-at-test.false, c.count-at-end.ensures r.0 r.1)))
     (c.loop-at.invariant.can r.3 r.0 r.1 r.4 r.2).room

@@ -1,13 +1,14 @@
 use Rattle.std.proofs.Common.{◌≡◌, ◌+◌, ◌<◌, ◌∷◌, ◌++◌, [], length, map, get_or, take, drop}
 use Rattle.std.proofs.Common.{refl, sym, ◌∙◌, ap, subst, arith}
 use Rattle.std.specs.List.{sum_by}
-use Rattle.std.proofs.lemmas.List.{length-append, length-map}
+use Rattle.std.proofs.lemmas.List.{length-append, length-map, take_all}
 use Rattle.std.proofs.lemmas.List.Sums.{sum_by-cons, sum_by-append}
 use Rattle.resb_tree.specs.LayingOrder.{children, laying_order}
 use Rattle.resb_layout.specs.Laid.{Given}
 use Rattle.resb_write.specs.Inner.Room.{most_units, GivesInTurn}
 use Rattle.resb_write.specs.Inner.Counted.{is_near, own_units, Pending}
-use Rattle.resb_write.proofs.NodesLemmas.{no_tree, one_fits, trees-drop, trees-take, trees-all}
+use Rattle.resb_write.proofs.NodesLemmas.{trees-drop, trees-take}
+use Rattle.resb_write.specs.Inner.Nodes.{no_tree}
 use Rattle.resb_write.proofs.Marks.{own_few}
 use Rattle.resb_write.proofs.Pending.{pending}
 use Rattle.resb_write.proofs.unit_count.count_units.Goals as goal
@@ -28,19 +29,24 @@ loop-at-init g c = λ t f given n. (
     none : (given : Given) → sum_by (own_units given) [] ≡ 0
     none given = refl
 
+pub node-requires : goal.node-requires
+node-requires g c = let ts = laying_order c.requires.0 in (
+  ts,
+  c.requires.1,
+  omega (arith, c.loop-at-test.true, c.count-at-end.ensures ts c.requires.1),
+)
+
 pub count_own-requires : goal.count_own-requires
 count_own-requires g c =
     let r = c.requires in
     let ts = laying_order r.0 in
-    let order = c.args.order.now in
     let i = c.loop-at.at in
-    let d = c.index-order-at.result in
-    let at = c.index-order-at.is in
-    let h : i < length order = omega (arith, c.loop-at-test.true) in
+    let h : i < length ts =
+    omega (arith, c.loop-at-test.true, c.count-at-end.ensures ts r.1) in
     let t = get_or ts i no_tree in
     let rest = drop (i + 1) ts in
-    let split = trees-drop g.R.AsNode.is order ts i d at h r.1 in
-    let fits = c.as_node.ensures t (one_fits g.R.AsNode.is order ts i d at h r.1) in
+    let split = trees-drop ts i h in
+    let fits = c.node.ensures ts r.1 h in
     let v = c.loop-at.invariant r.0 r.1 r.3 r.4 in
     let p = subst (Pending v.0) split v.1 in (
       t,
@@ -61,15 +67,13 @@ pub overflow_add-count : goal.overflow_add-count
 overflow_add-count g c =
     let r = c.requires in
     let ts = laying_order r.0 in
-    let order = c.args.order.now in
     let i = c.loop-at.at in
-    let d = c.index-order-at.result in
-    let at = c.index-order-at.is in
-    let h : i < length order = omega (arith, c.loop-at-test.true) in
+    let h : i < length ts =
+    omega (arith, c.loop-at-test.true, c.count-at-end.ensures ts r.1) in
     let t = get_or ts i no_tree in
     let rest = drop (i + 1) ts in
-    let split = trees-drop g.R.AsNode.is order ts i d at h r.1 in
-    let fits = c.as_node.ensures t (one_fits g.R.AsNode.is order ts i d at h r.1) in
+    let split = trees-drop ts i h in
+    let fits = c.node.ensures ts r.1 h in
     let v = c.loop-at.invariant r.0 r.1 r.3 r.4 in
     let p = subst (Pending v.0) split v.1 in
     let k = c.in_ok-count.ensures.counts r.3 t rest p.0 fits
@@ -88,17 +92,15 @@ overflow_add-count g c =
 pub loop-at-preserved : goal.loop-at-preserved
 loop-at-preserved g c = λ u f given n.
     let ts = laying_order u in
-    let order = c.args.order.now in
     let i = c.loop-at.at in
-    let d = c.index-order-at.result in
-    let at = c.index-order-at.is in
-    let h : i < length order = omega (arith, c.loop-at-test.true) in
+    let h : i < length ts =
+    omega (arith, c.loop-at-test.true, c.count-at-end.ensures ts f) in
     let t = get_or ts i no_tree in
     let rest = drop (i + 1) ts in
     let done = take i ts in
-    let split = trees-drop g.R.AsNode.is order ts i d at h f in
-    let more = trees-take g.R.AsNode.is order ts i d at h f in
-    let fits = c.as_node.ensures t (one_fits g.R.AsNode.is order ts i d at h f) in
+    let split = trees-drop ts i h in
+    let more = trees-take ts i h in
+    let fits = c.node.ensures ts f h in
     let v = c.loop-at.invariant u f given n in
     let p = subst (Pending v.0) split v.1 in
     let one = c.in_ok-count.ensures.counts given t rest p.0 fits
@@ -133,7 +135,8 @@ loop-at-preserved g c = λ u f given n.
 pub returns-clause-counts : goal.returns-clause-counts
 returns-clause-counts g c = λ given t f n. (c.loop-at.invariant t f given n).4
     ∙ ap (λ ts. c.args.pool + sum_by (own_units given) ts)
-    (trees-all g.R.AsNode.is c.args.order.now (laying_order t) c.loop-at.at f c.loop-at-test.false)
+    (take_all c.loop-at.at (laying_order t)
+    (omega (arith, c.loop-at-test.false, c.count-at-end.ensures (laying_order t) f)))
 
 pub returns-clause-few : goal.returns-clause-few
 returns-clause-few g c = λ t f given n.

@@ -4,12 +4,11 @@ use Rattle.resb_tree.specs.Tree.{Tree}
 use Rattle.resb_tree.specs.LayingOrder.{laying_order}
 use Rattle.resb_layout.specs.Laid.{Given}
 use Rattle.resb_write.specs.Inner.Room.{most_units, GivesInTurn}
-use Rattle.resb_write.specs.Inner.Nodes.{Fits}
 use Rattle.resb_write.specs.Inner.Counted.{Pending, is_near, own_units}
 use Rattle.resb_write.proofs.unit_count.count_units.Given as goal
 
 abbrev pub invariant-loop-at : goal.invariant-loop-at
-invariant-loop-at g l = (t : Tree) → Fits g.R.AsNode.is l.order (laying_order t)
+invariant-loop-at g l = (t : Tree) → g.N.Nodes.fit l.order (laying_order t)
     → (given : Given) → GivesInTurn given l.sites.positions.now l.sites.offsets.now (laying_order t)
     → (st : List Tree)
     × Pending st (drop l.at (laying_order t))

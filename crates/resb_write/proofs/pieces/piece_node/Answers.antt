@@ -1,7 +1,7 @@
 use Rattle.std.proofs.Common.{◌≡◌, true, subst}
 use Rattle.resb_draft.specs.Pieces.{is_piece}
 use Rattle.resb_write.proofs.PiecesLemmas.{entries_fit}
-use Rattle.resb_write.proofs.pieces.PieceAsNode.as_node.Goals as goal
+use Rattle.resb_write.proofs.pieces.piece_node.Goals as goal
 
 pub returns-in-Table : goal.returns-in-Table
 returns-in-Table c = λ t fits.

@@ -27,6 +27,7 @@ fn replace(words: &mut Vec<u32>, count: usize, word: u32) -> Result<(), AllocErr
 }
 
 /// Lays an array of so many members behind them, and takes their words off the stack.
+#[inline(never)]
 pub(crate) fn step_array(
     base: usize,
     bodies: &mut Bodies,
@@ -74,6 +75,7 @@ fn step_full_table(
 
 /// Lays a table, whose keys have these positions, behind its values, and takes their words off the
 /// stack.
+#[inline(never)]
 pub(crate) fn step_table(
     base: usize,
     bodies: &mut Bodies,
@@ -107,6 +109,7 @@ pub(crate) fn step_integer(words: &mut Vec<u32>, number: u32) -> Result<(), Allo
 }
 
 /// Lays bytes, and puts their word.
+#[inline(never)]
 pub(crate) fn step_bytes(
     base: usize,
     bodies: &mut Bodies,
@@ -125,6 +128,7 @@ pub(crate) fn step_bytes(
 }
 
 /// Lays numbers, and puts their word.
+#[inline(never)]
 pub(crate) fn step_numbers(
     base: usize,
     bodies: &mut Bodies,

@@ -57,6 +57,7 @@ impl<'t> Contents<'t> {
     }
 
     /// Adds what a resource holds.
+    #[inline(always)]
     fn add(&mut self, node: Node<'t>) -> Result<(), AllocError>
         ensures { OnOk result ((ts : List Tree) (t : Tree) → Gathered ts self.old
             → IsNode node.entry t → Gathered (ts ++ t ∷ []) self.new) }

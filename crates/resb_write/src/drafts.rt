@@ -4,10 +4,11 @@ ghost use Rattle.std.specs.Prelude.{◌≡◌, true, map, IfOk};
 ghost use Rattle.std.specs.List.{flat_map};
 ghost use Rattle.resb_tree.specs.Borrowing.{all_true};
 ghost use Rattle.resb_tree.specs.LayingOrder.{own_keys};
-ghost use Rattle.resb_pool.specs.Plan.{nows};
 ghost use Rattle.resb_draft.specs.Drafts.{tree_at, is_whole};
+ghost use Rattle.resb_write.specs.Inner.Numbered.{NumbersKeys};
 
 use crate::nodes::{Node, Nodes};
+use crate::numbered_keys::NumberedKeys;
 use crate::pieces::piece_node;
 use resb_draft::{Draft, Piece};
 use std::alloc::{AllocError, Global};
@@ -38,14 +39,14 @@ pub(crate) fn draft_keys<'a>(
     alloc: Global,
     draft: &Draft<'a>,
     order: &[u32],
-) -> Result<Vec<&'a str>, AllocError>
+) -> Result<NumberedKeys<'a>, AllocError>
     requires { all_true (map (is_whole draft.now) order.now) ≡ true }
     ensures { IfOk result
-        (λ v. nows v.items ≡ flat_map own_keys (map (tree_at draft.now) order.now)) }
+        (λ keys. NumbersKeys keys (flat_map own_keys (map (tree_at draft.now) order.now))) }
 {
-    let mut keys = Vec::with_capacity(alloc, draft.keys.len())?;
+    let mut keys = NumberedKeys::with_capacity(alloc, draft.keys.len())?;
     for at in 0..order.len() {
-        keys.extend_from_slice(draft.own_keys(order[at]))?;
+        keys.add_all(draft.own_keys(order[at]))?;
     }
     Ok(keys)
 }

@@ -1,21 +1,21 @@
 //! The key block: which listed keys are used, where each stands, and their bytes.
 //! The faults of keys are found here, in the order in which they are answered.
-ghost use Rattle.std.specs.Prelude.{◌≡◌, ◌++◌, ◌<◌, ◌+◌, ◌%◌, ◌^◌, ◌⊎◌, ℕ, List, Some, None};
+ghost use Rattle.std.specs.Prelude.{◌≡◌, ◌++◌, ◌<◌, ◌%◌, ◌^◌, ◌⊎◌, ℕ, List, Some, None};
 ghost use Rattle.std.specs.Prelude.{IfOk, IfErr, OnOk, All, length, map, filter, nat_lt, unwrap_or};
-ghost use Rattle.std.specs.Prelude.{slice_index, get_or, IsTrue, true, [], ◌∷◌};
+ghost use Rattle.std.specs.Prelude.{slice_index};
 ghost use Rattle.std.specs.Str.{IsUtf8};
 ghost use Rattle.std.specs.List.{list_any};
-ghost use Rattle.std.specs.Map.{keys_of};
 ghost use Rattle.std.specs.Option.{is_some, is_none};
 ghost use Rattle.resb_pool.specs.Plan.{nows, at_text};
 ghost use Rattle.resb_layout.specs.WritingFault.{out_of_memory};
 ghost use Rattle.resb_write.specs.FaultOf.{fault_of};
-ghost use Rattle.resb_layout.specs.KeyBlock.{is_among, used as used_of, key_bytes, padded};
+ghost use Rattle.resb_layout.specs.KeyBlock.{used as used_of, key_bytes, padded};
 ghost use Rattle.resb_layout.specs.TreeFaults.{has_nul, key_fault};
-ghost use Rattle.resb_write.specs.Inner.Numbered.{AreNumbered};
+ghost use Rattle.resb_write.specs.Inner.Numbered.{NumbersKeys};
 ghost use Rattle.resb_write.specs.Inner.NearPositions.{near_position_in, IsKeyBlock};
 
 use crate::error::BinarySerializerError;
+use crate::numbered_keys::NumberedKeys;
 use indexmap::IndexMap;
 use resb_tree::Key;
 use std::alloc::{AllocError, Global};
@@ -41,37 +41,22 @@ impl<'k> KeyBlock<'k> {
     /// Refuses the first fault of a key.
     pub(crate) fn new(
         alloc: Global,
-        tree_keys: Vec<&'k str>,
+        tree_keys: NumberedKeys<'_>,
         list: &'k [Key<'_>],
     ) -> Result<KeyBlock<'k>, BinarySerializerError>
-        ensures ok { IfOk result (λ b. IsKeyBlock (nows tree_keys.entry.items) list.now
-            (nows b.keys.items) b.positions.items) }
-        ensures err { IfErr result (λ e. let ks = nows tree_keys.entry.items in
-            (fault_of e ≡ out_of_memory)
-            ⊎ (key_fault ks (used_of ks list.now) ≡ Some (fault_of e))) }
-    {
-        KeyBlock::of_keys(alloc, &tree_keys, list)
-    }
-
-    /// The block of a list of keys for a tree whose tables have these keys.
-    fn of_keys(
-        alloc: Global,
-        tree_keys: &[&'k str],
-        list: &'k [Key<'_>],
-    ) -> Result<KeyBlock<'k>, BinarySerializerError>
-        ensures ok { IfOk result (λ b. IsKeyBlock (nows tree_keys.now) list.now
-            (nows b.keys.items) b.positions.items) }
-        ensures err { IfErr result (λ e. (fault_of e ≡ out_of_memory)
-            ⊎ (key_fault (nows tree_keys.now) (used_of (nows tree_keys.now) list.now)
+        ensures ok { IfOk result (λ b. (us : List (List ℕ)) → NumbersKeys tree_keys.entry us
+            → IsKeyBlock us list.now (nows b.keys.items) b.positions.items) }
+        ensures err { IfErr result (λ e. (us : List (List ℕ)) → NumbersKeys tree_keys.entry us
+            → (fault_of e ≡ out_of_memory) ⊎ (key_fault us (used_of us list.now)
             ≡ Some (fault_of e))) }
     {
-        let wanted = key_set(alloc, tree_keys)?;
-        let keys = used_keys(alloc, &wanted.distinct, list)?;
+        let (distinct, numbers) = tree_keys.into_parts();
+        let keys = used_keys(alloc, &distinct, list)?;
         let last = last_positions(alloc, &keys)?;
-        let names = wanted.distinct.keys().as_slice();
+        let names = distinct.keys().as_slice();
         check_keys(names, &last)?;
         let places = positions_of(alloc, names, &last)?;
-        let positions = at_numbers(alloc, &wanted.numbers, &places)?;
+        let positions = values_at(&places, numbers);
         Ok(KeyBlock { keys, positions })
     }
 }
@@ -131,84 +116,10 @@ pub(crate) fn append_block(file: &mut Vec<u8>, keys: &[&str]) -> Result<(), Allo
     append_padding(file)
 }
 
-/// The keys that a tree's tables use.
-#[derive(Drop)]
-struct Wanted<'k> {
-    /// Each key once.
-    distinct: IndexMap<&'k str, ()>,
-    /// The index there of each key of the tables, in laying order.
-    numbers: Vec<usize>,
-}
-
-/// Whether the key stands at that index of the set.
-fn is_at(distinct: &IndexMap<&str, ()>, index: usize, key: &str) -> bool
-    ensures among { IsTrue result → is_some (at_text distinct.now key.now) ≡ true }
-    ensures there { IsTrue result → let ts = nows (keys_of distinct.now.entries) in
-        (index < length ts) × (get_or ts index [] ≡ key.now) }
-{
-    match distinct.get_index(index) {
-        Some((found, _)) => *found == key,
-        None => false,
-    }
-}
-
-/// The index of a key in the set, which it joins if it isn't there. A guess is tried first.
-fn join<'k>(
-    distinct: &mut IndexMap<&'k str, ()>,
-    guess: usize,
-    key: &'k str,
-) -> Result<usize, AllocError>
-    ensures set { OnOk result ((ks : List (List ℕ))
-        → ((q : List ℕ) → is_some (at_text distinct.old q) ≡ is_among ks q)
-        → (q : List ℕ) → is_some (at_text distinct.new q) ≡ is_among (ks ++ key.now ∷ []) q) }
-    ensures numbers { IfOk result (λ n. (ns : List ℕ) (ks : List (List ℕ))
-        → AreNumbered (nows (keys_of distinct.old.entries)) ns ks
-        → AreNumbered (nows (keys_of distinct.new.entries)) (ns ++ n ∷ []) (ks ++ key.now ∷ [])) }
-{
-    if is_at(distinct, guess, key) {
-        return Ok(guess);
-    }
-    let (number, _) = distinct.insert_full(key, ())?;
-    Ok(number)
-}
-
-/// Notes that a number followed another one.
-fn note(followers: &mut Vec<usize>, last: usize, number: usize) -> Result<(), AllocError> {
-    if number >= followers.len() {
-        followers.push(0)?;
-    }
-    if last < followers.len() {
-        followers[last] = number;
-    }
-    Ok(())
-}
-
-/// The keys as a set, and the index of each there. Keys often follow one another as they did
-/// before, since tables of one kind have the same keys: that saves most look-ups.
-fn key_set<'k>(alloc: Global, keys: &[&'k str]) -> Result<Wanted<'k>, AllocError>
-    ensures set { IfOk result (λ w. (q : List ℕ)
-        → is_some (at_text w.distinct q) ≡ is_among (nows keys.now) q) }
-    ensures numbers { IfOk result (λ w.
-        AreNumbered (nows (keys_of w.distinct.entries)) w.numbers.items (nows keys.now)) }
-{
-    let mut distinct = IndexMap::new(alloc);
-    let mut numbers = Vec::with_capacity(alloc, keys.len())?;
-    let mut followers = Vec::new(alloc);
-    let mut last = 0;
-    for key in keys {
-        let guess = followers.get(last).copied().unwrap_or(0);
-        let number = join(&mut distinct, guess, *key)?;
-        note(&mut followers, last, number)?;
-        numbers.push(number)?;
-        last = number;
-    }
-    Ok(Wanted { distinct, numbers })
-}
-
 /// The keys of a list that are in a set, in the list's order.
 fn used_keys<'k>(
     alloc: Global,
-    set: &IndexMap<&'k str, ()>,
+    set: &IndexMap<&str, ()>,
     list: &'k [Key<'_>],
 ) -> Result<Vec<&'k str>, AllocError>
     ensures keys { IfOk result (λ v. nows v.items
@@ -254,16 +165,15 @@ fn positions_of(
     Ok(found)
 }
 
-/// The value that stands at each of these indexes.
-fn at_numbers(alloc: Global, numbers: &[usize], values: &[u32]) -> Result<Vec<u32>, AllocError>
-    requires { All (λ n. n < length values.now) numbers.now }
-    ensures { IfOk result (λ v. v.items ≡ map (λ n. slice_index values.now n) numbers.now) }
+/// The value at each of these indexes, put in its place.
+fn values_at(values: &[u32], indexes: Vec<u32>) -> Vec<u32>
+    ensures { result.items ≡ map (slice_index values.now) indexes.items }
 {
-    let mut found = Vec::with_capacity(alloc, numbers.len())?;
-    for number in numbers {
-        found.push(values[*number])?;
+    let mut found = indexes;
+    for index in found.iter_mut() {
+        *index = values.get(*index as usize).copied().unwrap_or(0);
     }
-    Ok(found)
+    found
 }
 
 /// Whether some key isn't in the map.

@@ -11,6 +11,7 @@ mod key_block;
 pub mod laws;
 mod limits;
 mod nodes;
+mod numbered_keys;
 mod pieces;
 mod resource_bodies;
 mod serializer;

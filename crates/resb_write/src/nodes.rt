@@ -1,6 +1,6 @@
 //! What the writer needs of resources in laying order: what each is without what is inside it. So
-//! the writer is generic over what is laid. The nodes of a tree's resources are found here, those of
-//! a draft's pieces in `pieces` and `drafts`.
+//! the writer is generic over what is laid. The nodes of a tree's resources are found here, those
+//! of a draft's pieces in `pieces` and `drafts`.
 //! What is gathered from resources and laid for them is not said here.
 ghost use Rattle.std.specs.Prelude.{◌≡◌, ◌++◌, ◌<◌, List, length, get_or, IfOk, OnOk};
 ghost use Rattle.std.specs.List.{flat_map};

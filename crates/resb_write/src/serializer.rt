@@ -6,10 +6,10 @@ ghost use Rattle.resb_tree.specs.Borrowing.{all_true};
 ghost use Rattle.resb_tree.specs.Tree.{Tree};
 ghost use Rattle.resb_tree.specs.Bundle.{root_of};
 ghost use Rattle.resb_tree.specs.LayingOrder.{laying_order, keys_of};
-ghost use Rattle.resb_pool.specs.Plan.{nows};
 ghost use Rattle.resb_draft.specs.Drafts.{draft_tree, is_ready, tree_at, is_whole, texts};
 ghost use Rattle.resb_draft.specs.Pieces.{are_pieces};
 ghost use Rattle.resb_write.specs.FaultOf.{fault_of};
+ghost use Rattle.resb_write.specs.Inner.Numbered.{NumbersKeys};
 ghost use Rattle.resb_layout.specs.TreeFaults.{RefusesWriting};
 ghost use Rattle.resb_layout.specs.Written.{Written};
 
@@ -20,6 +20,7 @@ use crate::file::{Pieces, assemble};
 use crate::key_block::{KEYS_START, KeyBlock, block_length};
 use crate::limits::check_sizes;
 use crate::nodes::{Nodes, nodes_of, table_keys};
+use crate::numbered_keys::NumberedKeys;
 use crate::sites::Sites;
 use crate::strings::Strings;
 use crate::tree_bodies::lay_bodies;
@@ -87,7 +88,9 @@ fn write(
     ensures err { IfErr result (λ e. RefusesWriting (root_of bundle.now) list.now (fault_of e)) }
 {
     let order = in_laying_order(alloc, bundle.root())?;
-    let keys = table_keys(alloc, &order)?;
+    let listed = table_keys(alloc, &order)?;
+    let keys = NumberedKeys::of_list(alloc, &listed)?;
+    drop(listed);
     let nodes = nodes_of(alloc, &order)?;
     drop(order);
     write_order(alloc, &nodes, keys, bundle.is_locale_fallback_enabled, list)
@@ -133,7 +136,9 @@ fn write_standing(
         root: _,
     } = draft;
     drop(members);
-    write_order(alloc, &pieces, keys, is_locale_fallback_enabled, list)
+    let numbered = NumberedKeys::of_list(alloc, &keys)?;
+    drop(keys);
+    write_order(alloc, &pieces, numbered, is_locale_fallback_enabled, list)
 }
 
 /// The file of a draft, whose pieces have these numbers in laying order. Its other lists go first.
@@ -172,17 +177,17 @@ fn write_by_number(
 pub(crate) fn write_order<N: Nodes>(
     alloc: Global,
     order: &N,
-    tree_keys: Vec<&str>,
+    tree_keys: NumberedKeys<'_>,
     is_locale_fallback_enabled: bool,
     list: &[Key<'_>],
 ) -> Result<Vec<u8>, BinarySerializerError>
     requires { (t : Tree) × N.fit order.now (laying_order t)
-        × (nows tree_keys.items ≡ keys_of t) }
+        × NumbersKeys tree_keys (keys_of t) }
     ensures ok { IfOk result (λ v. (t : Tree) → N.fit order.now (laying_order t)
-        → nows tree_keys.entry.items ≡ keys_of t
+        → NumbersKeys tree_keys.entry (keys_of t)
         → Written v.items t is_locale_fallback_enabled list.now) }
     ensures err { IfErr result (λ e. (t : Tree) → N.fit order.now (laying_order t)
-        → nows tree_keys.entry.items ≡ keys_of t → RefusesWriting t list.now (fault_of e)) }
+        → NumbersKeys tree_keys.entry (keys_of t) → RefusesWriting t list.now (fault_of e)) }
 {
     let contents = Contents::gather(alloc, order)?;
     let KeyBlock { keys, positions } = KeyBlock::new(alloc, tree_keys, list)?;

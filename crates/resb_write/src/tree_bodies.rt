@@ -21,6 +21,7 @@ use std::alloc::{AllocError, Global};
 
 /// Lays a resource behind its members, whose words it takes off the stack, and puts its own. Where
 /// its keys or its string stand is what comes next.
+#[inline(always)]
 fn step(
     base: usize,
     coming: &mut Coming<'_>,

@@ -68,6 +68,7 @@ fn count_string(coming: &mut Coming<'_>, marks: &mut Vec<bool>) -> Result<usize,
 }
 
 /// The units of an array's body, whose members' marks are taken off the stack.
+#[inline(never)]
 fn count_array(marks: &mut Vec<bool>, count: usize) -> Result<usize, AllocError>
     requires { count ≤ length marks.old.items }
     ensures { IfOk result (λ n.
@@ -82,6 +83,7 @@ fn count_array(marks: &mut Vec<bool>, count: usize) -> Result<usize, AllocError>
 
 /// The units of a table's body, whose keys have these positions, and whose values' marks are taken
 /// off the stack.
+#[inline(never)]
 fn count_table(marks: &mut Vec<bool>, positions: &[u32]) -> Result<usize, AllocError>
     requires { length positions.now ≤ length marks.old.items }
     ensures { IfOk result (λ n. (n ≡ short_units
@@ -106,6 +108,7 @@ fn count_other(marks: &mut Vec<bool>) -> Result<usize, AllocError>
 /// The units that a resource's own body takes. The marks of its members, the last of a stack, say
 /// of each whether it is a string at an offset that a unit can hold; its own mark takes their
 /// place. Where its keys or its string stand is what comes next.
+#[inline(always)]
 fn count_own(
     coming: &mut Coming<'_>,
     marks: &mut Vec<bool>,

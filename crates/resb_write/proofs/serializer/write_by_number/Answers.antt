@@ -6,7 +6,7 @@ use Rattle.resb_tree.specs.Borrowing.{all_true}
 use Rattle.resb_draft.specs.Drafts.{draft_tree, tree_at, is_whole}
 use Rattle.resb_tree.specs.LayingOrder.{laying_order, own_keys}
 use Rattle.resb_draft.specs.declared.draft.Draft.{Draft}
-use Rattle.resb_write.specs.Inner.Numbered.{TakesPieces}
+use Rattle.resb_write.specs.Inner.Numbered.{NumbersKeys, TakesPieces}
 use Rattle.resb_layout.specs.TreeFaults.{RefusesWriting, no_memory}
 use Rattle.resb_write.proofs.serializer.write_by_number.Goals as goal
 
@@ -25,9 +25,9 @@ write_order-requires c =
     let d = c.args.draft in (
       draft_tree d,
       takes d c.args.order.items c.requires.trees c.requires.whole,
-      c.in_ok-keys.ensures
-          ∙ ap (λ l. flat_map own_keys (map (tree_at d) l)) c.deref.ensures.value
-          ∙ ap (flat_map own_keys) c.requires.trees,
+      subst (NumbersKeys c.in_ok-keys.keys)
+          (ap (λ l. flat_map own_keys (map (tree_at d) l)) c.deref.ensures.value
+          ∙ ap (flat_map own_keys) c.requires.trees) c.in_ok-keys.ensures,
     )
 
 pub returns-clause-ok : goal.returns-clause-ok
@@ -35,15 +35,15 @@ returns-clause-ok c =
     let d = c.args.draft in
     IfOk-weaker c.write_order.result _ _ (λ v h. h (draft_tree d)
     (takes d c.args.order.items c.requires.trees c.requires.whole)
-    (c.in_ok-keys.ensures
-    ∙ ap (λ l. flat_map own_keys (map (tree_at d) l)) c.deref.ensures.value
-    ∙ ap (flat_map own_keys) c.requires.trees)) c.write_order.ensures.ok
+    (subst (NumbersKeys c.in_ok-keys.keys)
+    (ap (λ l. flat_map own_keys (map (tree_at d) l)) c.deref.ensures.value
+    ∙ ap (flat_map own_keys) c.requires.trees) c.in_ok-keys.ensures)) c.write_order.ensures.ok
 
 pub returns-clause-err : goal.returns-clause-err
 returns-clause-err c =
     let d = c.args.draft in
     IfErr-weaker c.write_order.result _ _ (λ e h. h (draft_tree d)
     (takes d c.args.order.items c.requires.trees c.requires.whole)
-    (c.in_ok-keys.ensures
-    ∙ ap (λ l. flat_map own_keys (map (tree_at d) l)) c.deref.ensures.value
-    ∙ ap (flat_map own_keys) c.requires.trees)) c.write_order.ensures.err
+    (subst (NumbersKeys c.in_ok-keys.keys)
+    (ap (λ l. flat_map own_keys (map (tree_at d) l)) c.deref.ensures.value
+    ∙ ap (flat_map own_keys) c.requires.trees) c.in_ok-keys.ensures)) c.write_order.ensures.err

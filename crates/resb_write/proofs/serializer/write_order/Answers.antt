@@ -8,6 +8,7 @@ use Rattle.resb_pool.specs.Plan.{nows, IsPlan}
 use Rattle.resb_tree.specs.Tree.{Tree}
 use Rattle.resb_tree.specs.LayingOrder.{laying_order, keys_of}
 use Rattle.resb_write.specs.Inner.Room.{laid_of, GivesInTurn}
+use Rattle.resb_write.specs.Inner.Numbered.{NumbersKeys}
 use Rattle.resb_layout.specs.KeyBlock.{used, key_bytes, padded, position_in}
 use Rattle.resb_layout.specs.TreeFaults.{RefusesWriting, no_memory, key_fault}
 use Rattle.resb_layout.specs.Written.{Written, even}
@@ -31,16 +32,16 @@ returns-in_err-keys-clause-err g c =
     c.from_residual-in_err-keys.ensures.1 in
     rw (p.1, p.2) (λ t f k.
     let gathered = c.in_ok-contents.ensures (laying_order t) f in
-    key_refused t c.args.list.now (nows c.args.tree_keys.items) _ k c.in_err-keys.ensures.err)
+    key_refused t c.args.list.now (keys_of t) _ refl (c.in_err-keys.ensures.err (keys_of t) k))
 
 pub returns-in_err-check_sizes-clause-err : goal.returns-in_err-check_sizes-clause-err
 returns-in_err-check_sizes-clause-err g c =
-    let b = c.in_ok-keys.ensures.ok in
     let p = err_from_is_err_and c.from_residual-in_err-check_sizes.result
     c.from_residual-in_err-check_sizes.ensures.1 in
     rw (p.1, p.2) (λ t f k.
+    let b = c.in_ok-keys.ensures.ok (keys_of t) k in
     let gathered = c.in_ok-contents.ensures (laying_order t) f in
-    size_refused t c.args.list.now (nows c.args.tree_keys.items) _ k b.keys b.faultless _
+    size_refused t c.args.list.now (keys_of t) _ refl b.keys b.faultless _
     (c.in_err-check_sizes.ensures.err (laying_order t) gathered))
 
 pub returns-in_err-pool-clause-err : goal.returns-in_err-pool-clause-err
@@ -60,12 +61,12 @@ block_length-keys_end-requires g c =
     let t = c.requires.0 in
     let gathered = c.in_ok-contents.ensures (laying_order t) c.requires.1 in
     let small = c.in_ok-check_sizes.ensures.ok (laying_order t) gathered in
-    let js = ap nows c.deref.ensures.value ∙ c.in_ok-keys.ensures.ok.keys in
+    let js = ap nows c.deref.ensures.value ∙ (c.in_ok-keys.ensures.ok (keys_of t) c.requires.2).keys in
     omega (
       arith,
       small,
       ap (λ l. length (key_bytes l)) js,
-      used_room (nows c.args.tree_keys.items)
+      used_room (keys_of t)
           c.args.list.now,
     )
 
@@ -74,12 +75,12 @@ overflow_add-keys_end g c =
     let t = c.requires.0 in
     let gathered = c.in_ok-contents.ensures (laying_order t) c.requires.1 in
     let small = c.in_ok-check_sizes.ensures.ok (laying_order t) gathered in
-    let js = ap nows c.deref.ensures.value ∙ c.in_ok-keys.ensures.ok.keys in
+    let js = ap nows c.deref.ensures.value ∙ (c.in_ok-keys.ensures.ok (keys_of t) c.requires.2).keys in
     omega (
       arith,
       small,
       ap (λ l. length (key_bytes l)) js,
-      used_room (nows c.args.tree_keys.items)
+      used_room (keys_of t)
           c.args.list.now,
       length-padded (key_bytes (nows c.deref.result.now)),
       c.block_length-keys_end.ensures,
@@ -88,7 +89,7 @@ overflow_add-keys_end g c =
 -- where the keys and the strings of the tree stand, for a tail that begins at a byte of the body
 numbered : (g : _) (c : After-deref-3 g) (base : ℕ) (t : Tree)
     → g.N.Nodes.fit c.args.order.now (laying_order t)
-    → nows c.args.tree_keys.items ≡ keys_of t
+    → NumbersKeys c.args.tree_keys (keys_of t)
     → GivesInTurn (record {
       position = position_in (nows c.in_ok-keys.field-0.keys.items);
       offset = c.in_ok-pool.ensures.ok.offset;
@@ -97,13 +98,12 @@ numbered : (g : _) (c : After-deref-3 g) (base : ℕ) (t : Tree)
 numbered g c base t f us =
     let gathered = c.in_ok-contents.ensures (laying_order t) f in
     let pooled = c.in_ok-pool.ensures.ok in
-    let b = c.in_ok-keys.ensures.ok in
+    let b = c.in_ok-keys.ensures.ok (keys_of t) us in
     let js = nows c.in_ok-keys.field-0.keys.items in
     let texts = gathered.texts_are in
     let offsets = pooled.offsets ∙ ap (map Some) (sym c.deref-3.ensures.value) in
     record {
-      keys = ap (map (position_in js)) (sym us) ∙ b.positions
-          ∙ ap (map Some) (sym c.deref-2.ensures.value);
+      keys = b.positions ∙ ap (map Some) (sym c.deref-2.ensures.value);
       texts = ap (map pooled.offset) (sym texts) ∙ offsets;
       near = near_offsets (nows c.in_ok-contents.contents.texts.items) c.in_ok-pool.field-0.pool.items pooled.offset
           pooled.plan (nows c.in_ok-contents.contents.texts.items) c.deref-3.result.now (λ s h. h) offsets;
@@ -117,7 +117,7 @@ lay_bodies-requires-clause-tree g c =
     let us = c.in_ok-pool.field-0.pool.items in
     let pooled = c.in_ok-pool.ensures.ok in
     let small = c.in_ok-check_sizes.ensures.ok (laying_order t) gathered in
-    let js = ap nows c.deref.ensures.value ∙ c.in_ok-keys.ensures.ok.keys in
+    let js = ap nows c.deref.ensures.value ∙ (c.in_ok-keys.ensures.ok (keys_of t) c.requires.2).keys in
     let texts = gathered.texts_are in
     let pool = pool_room (nows c.in_ok-contents.contents.texts.items) us pooled.offset pooled.plan in
     let same = ap (sum_by size) texts in (
@@ -132,7 +132,7 @@ lay_bodies-requires-clause-tree g c =
           bytes_room (laying_order t),
           small,
           ap (λ l. length (key_bytes l)) js,
-          used_room (nows c.args.tree_keys.items) c.args.list.now,
+          used_room (keys_of t) c.args.list.now,
           length-padded (key_bytes (nows c.deref.result.now)),
           c.block_length-keys_end.ensures,
         );
@@ -159,7 +159,7 @@ assemble-requires g c =
     let t = c.requires.0 in
     let gathered = c.in_ok-contents.ensures (laying_order t) c.requires.1 in
     let small = c.in_ok-check_sizes.ensures.ok (laying_order t) gathered in
-    let js = ap nows c.deref-4.ensures.value ∙ c.in_ok-keys.ensures.ok.keys in
+    let js = ap nows c.deref-4.ensures.value ∙ (c.in_ok-keys.ensures.ok (keys_of t) c.requires.2).keys in
     let room = c.in_ok-bodies.ensures.fits in
     let k = length-padded (key_bytes (nows c.deref.result.now)) in
     record {
@@ -168,7 +168,7 @@ assemble-requires g c =
           arith,
           small,
           ap (λ l. length (key_bytes l)) js,
-          used_room (nows c.args.tree_keys.items) c.args.list.now,
+          used_room (keys_of t) c.args.list.now,
         );
         units = omega (arith, room.units);
         tail = omega (arith, room.bytes);
@@ -188,7 +188,7 @@ returns-clause-ok g c = λ t f k.
     let ks = c.args.list.now in
     let pooled = c.in_ok-pool.ensures.ok in
     let pool = c.in_ok-pool.field-0.pool.items in
-    let b = c.in_ok-keys.ensures.ok in
+    let b = c.in_ok-keys.ensures.ok (keys_of t) k in
     let js = nows c.in_ok-keys.field-0.keys.items in
     let laid = laid_of c.in_ok-bodies.bodies in
     let texts = gathered.texts_are in
@@ -201,9 +201,9 @@ returns-clause-ok g c = λ t f k.
       offset = pooled.offset;
       laid = laid;
       root = c.in_ok-bodies.word;
-      js_are = b.keys ∙ ap (λ l. used l ks) k;
+      js_are = b.keys;
       utf8 = b.utf8;
-      faultless = ap (λ l. key_fault l js) (sym k) ∙ b.faultless;
+      faultless = b.faultless;
       small = small;
       plan = subst (λ S. IsPlan S pool pooled.offset) texts pooled.plan;
       base = end;

@@ -1,21 +1,65 @@
-use Rattle.std.proofs.Common.{◌≡◌, Some, subst}
-use Rattle.std.specs.Prelude.{IfOk, IfErr, ◌⊎◌}
-use Rattle.resb_pool.specs.Plan.{nows}
-use Rattle.resb_layout.specs.KeyBlock.{used}
+-- The listed keys that are used, and where those of the tables stand.
+use Rattle.std.proofs.Common.{◌≡◌, ◌<◌, ℕ, All, length, List, map, filter, Some, inl, inr, sym, ◌∙◌}
+use Rattle.std.proofs.Common.{ap, unwrap_or}
+use Rattle.std.proofs.Common.{subst}
+use Rattle.std.proofs.lemmas.List.{length-map}
+use Rattle.std.specs.Prelude.{slice_index}
+use Rattle.std.proofs.lemmas.Result.{err_from_is_err_and}
+use Rattle.resb_pool.specs.Plan.{nows, at_text}
+use Rattle.indexmap.specs.IndexMap.{keys}
+use Rattle.resb_layout.specs.KeyBlock.{used, position_in}
 use Rattle.resb_layout.specs.TreeFaults.{key_fault}
-use Rattle.resb_layout.specs.WritingFault.{out_of_memory}
-use Rattle.resb_write.specs.FaultOf.{fault_of}
-use Rattle.resb_write.specs.Inner.NearPositions.{IsKeyBlock}
+use Rattle.resb_write.proofs.Distinct.{fault_same, same_keys}
+use Rattle.resb_write.proofs.Known.{exact, placed}
+use Rattle.resb_write.specs.Inner.NearPositions.{near_position_in}
 use Rattle.resb_write.proofs.key_block.KeyBlock.new.Goals as goal
+use Rattle.resb_write.proofs.Lists.{in_turn}
+use Rattle.resb_write.proofs.NumberedKeys.{by_number}
+
+pub returns-in_err-check_keys-clause-err : goal.returns-in_err-check_keys-clause-err
+returns-in_err-check_keys-clause-err c =
+    let p = err_from_is_err_and c.from_residual-in_err-check_keys.result
+    c.from_residual-in_err-check_keys.ensures.1 in
+    rw (p.1, p.2) (λ us h.
+    let numbered = c.into_parts-distinct.ensures us h in
+    let m = c.into_parts-distinct.result.0 in
+    let js = c.in_ok-keys.ensures.keys ∙ (λ i. filter (λ k. numbered.among k i)
+    c.args.list.now) in
+    let at = λ (q : List ℕ). c.in_ok-last.ensures q ∙ ap (λ l. near_position_in (nows l) q)
+    c.deref.ensures.value ∙ ap (λ l. near_position_in l q) js in
+    let ws = nows c.as_slice-names.result.now in
+    let ds : ws ≡ nows (keys m) = ap nows (c.as_slice-names.ensures ∙ c.keys.ensures.rest) in
+    let same = fault_same (nows (keys m)) us (same_keys m.entries us numbered.among)
+    (used us c.args.list.now) in
+    inr (sym (ap (λ (l : List (List ℕ)). key_fault l (used us c.args.list.now)) ds
+    ∙ same) ∙ c.in_err-check_keys.ensures.err (used us c.args.list.now) at))
 
 pub returns-clause-ok : goal.returns-clause-ok
-returns-clause-ok c =
-    subst (λ ks. IfOk c.of_keys.result
-    (λ b. IsKeyBlock (nows ks) c.args.list.now (nows b.keys.items) b.positions.items))
-    c.deref.ensures.value c.of_keys.ensures.ok
-
-pub returns-clause-err : goal.returns-clause-err
-returns-clause-err c =
-    subst (λ ks. IfErr c.of_keys.result (λ e. (fault_of e ≡ out_of_memory)
-    ⊎ (key_fault (nows ks) (used (nows ks) c.args.list.now) ≡ Some (fault_of e))))
-    c.deref.ensures.value c.of_keys.ensures.err
+returns-clause-ok c = λ us h.
+    let numbered = c.into_parts-distinct.ensures us h in
+    let m = c.into_parts-distinct.result.0 in
+    let ns = c.into_parts-distinct.result.1.items in
+    let ks = nows c.in_ok-keys.keys.items in
+    let list = c.args.list.now in
+    let js = c.in_ok-keys.ensures.keys ∙ (λ i. filter (λ k. numbered.among k i) list) in
+    let at = λ (q : List ℕ). c.in_ok-last.ensures q ∙ ap (λ l. near_position_in (nows l) q)
+    c.deref.ensures.value in
+    let ds : nows c.as_slice-names.result.now ≡ nows (keys m) =
+    ap nows (c.as_slice-names.ensures ∙ c.keys.ensures.rest) in
+    let same = fault_same (nows (keys m)) us (same_keys m.entries us numbered.among) ks in
+    let faultless = sym (ap (λ (l : List (List ℕ)). key_fault l ks) ds ∙ same)
+    ∙ c.in_ok-check_keys.ensures.ok ks at in
+    let is : (q : List ℕ) → at_text c.in_ok-last.last q ≡ position_in ks q =
+    (λ q. at q ∙ exact us ks faultless list js q) in
+    let found = λ (k : List ℕ). unwrap_or (at_text c.in_ok-last.last k) 0 in
+    let places = c.deref-2.ensures.value ∙ c.in_ok-places.ensures ∙ ap (map found) ds in
+    record {
+      keys = js;
+      positions = in_turn (position_in ks) us (placed us ks faultless)
+          ∙ ap (map Some) (sym (c.values_at-positions.ensures
+          ∙ (λ i. map (slice_index (places i)) ns)
+          ∙ by_number found (nows (keys m)) ns us numbered.numbers
+          ∙ (λ i. map (λ k. unwrap_or (is k i) 0) us)));
+      utf8 = c.in_ok-keys.ensures.utf8;
+      faultless = faultless;
+    }

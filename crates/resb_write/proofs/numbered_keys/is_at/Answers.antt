@@ -4,7 +4,7 @@ use Rattle.std.specs.Option.{is_some}
 use Rattle.std.specs.Cmp.Lexicographic.{bytes_decides}
 use Rattle.resb_pool.specs.Plan.{at_text}
 use Rattle.resb_write.proofs.NumberedKeys.{key_there}
-use Rattle.resb_write.proofs.key_block.is_at.Goals as goal
+use Rattle.resb_write.proofs.numbered_keys.is_at.Goals as goal
 
 pub returns-in-Some-clause-among : goal.returns-in-Some-clause-among
 returns-in-Some-clause-among c = λ t.

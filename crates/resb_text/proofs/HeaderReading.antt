@@ -1,14 +1,13 @@
 -- What stands before the root's items: where it leads to, and where it is refused.
 use Rattle.std.proofs.Common.{◌≡◌, ◌≢◌, ℕ, Bool, true, false, List, refl, sym, ap, subst}
-use Rattle.std.proofs.Common.{arith, Some, inl, inr, ⊎_elim}
+use Rattle.std.proofs.Common.{arith, inl, inr, ⊎_elim}
 use Rattle.std.specs.Prelude.{◌⊎◌, ◌==◌, slice_index, Result, Ok, Err, IfErr}
 use Rattle.std.proofs.lemmas.Bool.Decides.{nat_tests}
 use Rattle.resb_grammar.specs.Ascii as ascii
 use Rattle.resb_grammar.specs.Lexical.{Skip, Text}
 use Rattle.resb_grammar.specs.GroupTypes.{RootType}
 use Rattle.resb_grammar.specs.BundleText.{Typing, without, with}
-use Rattle.resb_grammar.specs.Machine.{Token, a_text, a_number, opening, closing, a_comma, a_type}
-use Rattle.resb_grammar.specs.Machine.{a_root_type, State, start, named, titled, next, At}
+use Rattle.resb_grammar.specs.Machine.{State, start, named, titled, At}
 use Rattle.resb_grammar.specs.Stuck.{choose, expectation, NoToken, Stuck, blocked}
 use Rattle.resb_text.specs.Refusal.{want_of_memory}
 use Rattle.resb_text.specs.Answer.{Fails, IsNoBundle}
@@ -18,8 +17,8 @@ use Rattle.resb_grammar.specs.declared.expected.Expected.{Expected}
 use Rattle.resb_grammar.specs.declared.expected.Expected.TheVariants as expect
 use Rattle.resb_text.specs.declared.error.TextParserError.{TextParserError}
 use Rattle.resb_grammar.proofs.HeaderPath.{name_read, typed_name}
-use Rattle.resb_grammar.specs.Token.{Means}
-use Rattle.resb_grammar.proofs.Moves.{move_means, begin, none_some, root_colon}
+use Rattle.resb_grammar.proofs.Moves.{begin, none_some, root_colon}
+use Rattle.resb_text.proofs.NoTokens.{no_token}
 
 abbrev pub error_at : ℕ → Expected → TextParserError
 error_at at x = record { position = at; expected = x }
@@ -39,16 +38,10 @@ module _ (text : List ℕ) where
       → Fails text (error_at at expect.Text)
   no_name at skip never =
       inr (stuck_in at start expect.Text (begin text at skip)
-      (λ to u x. go to u x.token (move_means text at to start u x) x.moves) (λ h. h) (λ h. h) refl)
-    where
-      go : (to : ℕ) (u : State) (t : Token) → Means text at to t → next start t ≡ Some u → ⊥
-      go to u (a_text s) m e = never to s m
-      go to u (a_number v) m e = none_some u e
-      go to u opening m e = none_some u e
-      go to u closing m e = none_some u e
-      go to u a_comma m e = none_some u e
-      go to u (a_type kind) m e = none_some u e
-      go to u (a_root_type fallback) m e = none_some u e
+      (no_token text at start (λ to w u is e. never to w is) (λ to m u is. none_some u)
+      (λ u is. none_some u) (λ u is. none_some u) (λ u is. none_some u)
+      (λ to m u is. none_some u) (λ to m u is. none_some u))
+      (λ h. h) (λ h. h) refl)
 
   pub typing_refused : (at ends to : ℕ) (name : List ℕ) (e : TextParserError) → Skip text 0 at
       → Text text at ends name → Skip text ends to → TypingFails text to e → Fails text e
@@ -61,18 +54,10 @@ module _ (text : List ℕ) where
       → TypingFails text at (error_at at expect.TypeName)
   no_root_type at colon never name reached =
       stuck_in at (named name) expect.TypeName reached
-      (λ to u m. go to u m.token (move_means text at to (named name) u m) m.moves) (λ h. h)
-      (λ h. h)
-      (sym (ap (λ b. expectation (named name) b) colon))
-    where
-      go : (to : ℕ) (u : State) (t : Token) → Means text at to t → next (named name) t ≡ Some u → ⊥
-      go to u opening m e = let n = m.0 in absurd (omega (arith, n, colon))
-      go to u (a_root_type fallback) m e = never to fallback m
-      go to u (a_text s) m e = none_some u e
-      go to u (a_number v) m e = none_some u e
-      go to u closing m e = none_some u e
-      go to u a_comma m e = none_some u e
-      go to u (a_type kind) m e = none_some u e
+      (no_token text at (named name) (λ to m u is. none_some u) (λ to m u is. none_some u)
+      (λ u is e. absurd (omega (arith, is, colon))) (λ u is. none_some u) (λ u is. none_some u)
+      (λ to m u is. none_some u) (λ to f u is e. never to f is))
+      (λ h. h) (λ h. h) (sym (ap (λ b. expectation (named name) b) colon))
 
   brace_expected : (b : ℕ) → b ≢ ascii.colon
       → expect.LeftBrace ≡ choose (b == ascii.colon) expect.TypeName expect.LeftBrace
@@ -87,43 +72,21 @@ module _ (text : List ℕ) where
   no_open name place brace true reached (without e) plain never =
       inr (stuck_in brace (named name) expect.LeftBrace
       (subst (λ n. At text n (named name)) e reached)
-      (λ to u m. go to u m.token (move_means text brace to (named name) u m) m.moves) (λ h. h)
-      (λ h. h)
-      (brace_expected (slice_index text brace)
-      (subst (λ n. slice_index text n ≢ ascii.colon) e (plain (sym e)))))
+      (no_token text brace (named name) (λ to m u is. none_some u) (λ to m u is. none_some u)
+      (λ u is e. never is) (λ u is. none_some u) (λ u is. none_some u) (λ to m u is. none_some u)
+      (λ to f u is e. colon_free (root_colon text brace to f is)))
+      (λ h. h) (λ h. h) (brace_expected (slice_index text brace) colon_free))
     where
       colon_free : slice_index text brace ≢ ascii.colon
       colon_free = subst (λ n. slice_index text n ≢ ascii.colon) e (plain (sym e))
-
-      go : (to : ℕ) (u : State) (t : Token) → Means text brace to t → next (named name) t ≡ Some u
-          → ⊥
-      go to u opening m h = never m.0
-      go to u (a_root_type fallback) m h = colon_free (root_colon text brace to fallback m)
-      go to u (a_text s) m h = none_some u h
-      go to u (a_number v) m h = none_some u h
-      go to u closing m h = none_some u h
-      go to u a_comma m h = none_some u h
-      go to u (a_type kind) m h = none_some u h
   no_open name place brace f reached (with i _ t skip) plain never =
-      inr (stuck_in brace (titled (record {
-        name = name;
-        fallback = f;
-      })) expect.LeftBrace (typed_name text name place i brace f t skip reached)
-      (λ to u m. go to u m.token
-      (move_means text brace to (titled (record {
-        name = name;
-        fallback = f;
-      })) u m) m.moves) (λ h. h) (λ h. h) refl)
-    where
-      go : (to : ℕ) (u : State) (t : Token) → Means text brace to t
-          → next (titled (record { name = name; fallback = f })) t ≡ Some u → ⊥
-      go to u opening m h = never m.0
-      go to u (a_root_type fallback) m h = none_some u h
-      go to u (a_text s) m h = none_some u h
-      go to u (a_number v) m h = none_some u h
-      go to u closing m h = none_some u h
-      go to u a_comma m h = none_some u h
-      go to u (a_type kind) m h = none_some u h
+      inr (stuck_in brace (titled (record { name = name; fallback = f })) expect.LeftBrace
+      (typed_name text name place i brace f t skip reached)
+      (no_token text brace (titled (record { name = name; fallback = f }))
+      (λ to m u is. none_some u) (λ to m u is. none_some u) (λ u is e. never is)
+      (λ u is. none_some u) (λ u is. none_some u) (λ to m u is. none_some u)
+      (λ to m u is. none_some u))
+      (λ h. h) (λ h. h) refl)
 
   -- what fails for another reason than memory is no bundle
   pub fails_no_bundle : (e : TextParserError) → Fails text e

@@ -1,6 +1,8 @@
 -- What is known of a result, handed on.
 use Rattle.std.specs.Prelude.{Option, Some, None, MatchResult, MatchOption}
 use Rattle.std.specs.Prelude.{Result, Ok, Err, IfOk, OnOk}
+use Rattle.std.specs.Result.{IsErrAnd}
+use Rattle.std.proofs.Common.{◌≡◌, sym, subst}
 
 pub if_ok_both : {T E : Type 0} {P Q R : T → Type 0} (r : Result T E)
     → ((x : T) → P x → Q x → R x) → IfOk r P → IfOk r Q → IfOk r R
@@ -15,6 +17,17 @@ pub if_ok_to : {T E : Type 0} {P Q : T → Type 0} (r : Result T E) → IfOk r P
     → ((x : T) → P x → Q x) → IfOk r Q
 if_ok_to (Ok x) h f = f x h
 if_ok_to (Err e) h f = tt
+
+-- what is answered for an error that a call gave
+pub match_err : {T E : Type 0} {Q : E → Type 0} (P : T → Type 0) (G : E → Type 0) (r : Result T E)
+    → IsErrAnd r Q → ((e : E) → Q e → G e) → MatchResult r P G
+match_err P G (Ok x) h f = absurd h
+match_err P G (Err e) h f = f e h
+
+-- what is answered for just that error
+pub match_same : {T E : Type 0} (P : T → Type 0) (G : E → Type 0) (r : Result T E) (e : E)
+    → IsErrAnd r (λ y. y ≡ e) → G e → MatchResult r P G
+match_same P G r e h g = match_err P G r h (λ y same. subst G (sym same) g)
 
 pub match_option_to : {A N M : Type 0} {P Q : A → Type 0} (r : Option A) → (N → M)
     → ((x : A) → P x → Q x) → MatchOption r N P → MatchOption r M Q

@@ -1,10 +1,17 @@
 -- A quota is kept whether more may be made or not.
-use Rattle.std.proofs.Common.{◌≡◌, ℕ, ◌+◌, ◌<◌, true, List, arith, refl, sym, ◌∙◌, subst}
+use Rattle.std.proofs.Common.{◌≡◌, ℕ, ◌+◌, ◌<◌, true, List, arith, refl, sym}
+use Rattle.std.proofs.Common.{◌∙◌, inl, subst}
 use Rattle.std.proofs.lemmas.Bool.{false≢true}
 use Rattle.resb_grammar.specs.Limit.{MadeWithin, MakesMore}
 use Rattle.resb_grammar.proofs.MadeOnce.{never_more}
 use Rattle.resb_text.specs.Inner.Quota.{KeepsQuota, IsUnused, Takes, RunsOver}
+use Rattle.std.specs.Prelude.{Result, MatchResult}
+use Rattle.std.specs.Result.{IsErrAnd}
+use Rattle.resb_text.specs.Inner.Steps.{Stops}
+use Rattle.resb_text.specs.Refusal.{want_of_memory}
 use Rattle.resb_text.specs.declared.quota.Quota.{Quota}
+use Rattle.resb_text.specs.declared.error.TextParserError.{TextParserError}
+use Rattle.resb_text.proofs.Outcomes.{match_err}
 
 -- what was asked for is made
 pub quota_kept : {text : List ℕ} {limit n : ℕ} {p q : Quota} → KeepsQuota text limit p → Takes p q n
@@ -46,3 +53,11 @@ pub larger : {text : List ℕ} {limit n : ℕ} {q : Quota} → KeepsQuota text l
     → q.is_over ≡ true → limit ≡ n → MadeWithin text n → ⊥
 larger {text} k over same within =
     never_more _ _ within (subst (λ l. MakesMore text l) same (k.over over))
+
+-- want of memory, once what was asked for is counted
+pub memory_stops : {text : List ℕ} {limit n : ℕ} {p q : Quota} {T : Type 0} (P : T → Type 0)
+    (r : Result T TextParserError) → IsErrAnd r (λ e. e ≡ want_of_memory) → KeepsQuota text limit p
+    → Takes p q n → MatchResult r P (Stops text limit q)
+memory_stops {text} {limit} {n} {p} {q} P r h k t =
+    match_err P (Stops text limit q) r h
+    (λ e same. record { fails = inl same; keeps = quota_kept k t })

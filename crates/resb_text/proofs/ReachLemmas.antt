@@ -10,6 +10,7 @@ use Rattle.resb_grammar.proofs.ReachLemmas.{reach_low, reach_high, reach_here, r
 use Rattle.resb_grammar.proofs.ReachLemmas.{reach_left, reach_right, reach_quote, reach_comma}
 use Rattle.resb_grammar.proofs.ReachLemmas.{reach_colon}
 use Rattle.resb_grammar.proofs.Lists.{nonzero_inside}
+use Rattle.resb_text.proofs.QuotaLemmas.{memory_stops}
 
 -- where a word begins, up to its place
 pub reach_word : (text : List ℕ) (from to : ℕ) → Run is_word text from to → from < to
@@ -62,10 +63,13 @@ pub ruleset reach_types = (reach_colon, reach_high)
 pub ruleset reach_texts = (reach_quote, reach_high)
 
 -- where a brace, a comma or a colon stands
-pub ruleset at_left_brace = (reach_left, nonzero_inside)
+pub ruleset at_left_brace = (reach_left, nonzero_inside, memory_stops)
 
-pub ruleset at_right_brace = (reach_right, nonzero_inside)
+pub ruleset at_right_brace = (reach_right, nonzero_inside, memory_stops)
 
 pub ruleset at_comma = (reach_comma, nonzero_inside)
 
-pub ruleset at_colon = (reach_colon, reach_high, nonzero_inside)
+pub ruleset at_colon = (reach_colon, reach_high, nonzero_inside, memory_stops)
+
+-- where a string may stand
+pub ruleset at_string = (reach_high, memory_stops)

@@ -32,11 +32,12 @@ use Rattle.resb_text.specs.declared.quota.Quota.{Quota}
 use Rattle.resb_grammar.specs.declared.expected.Expected.{Expected}
 use Rattle.resb_grammar.specs.declared.expected.Expected.TheVariants as expect
 use Rattle.resb_text.specs.declared.error.TextParserError.{TextParserError}
-use Rattle.resb_grammar.specs.Token.{Means}
-use Rattle.resb_grammar.proofs.Moves.{move_means, further, byte_class, none_some, no_text_colon}
+use Rattle.resb_grammar.proofs.Moves.{further, byte_class, none_some, no_text_colon}
 use Rattle.resb_grammar.proofs.Complete.{MayOpen, type_next, run_opening}
 use Rattle.resb_text.proofs.HeaderReading.{error_at}
-use Rattle.resb_text.proofs.StepsLemmas.{Leads, none_there, stuck_here}
+use Rattle.resb_text.proofs.StepsLemmas.{Leads, none_there, stuck_here, group_like}
+use Rattle.resb_text.proofs.StepsLemmas.{not_group_like}
+use Rattle.resb_text.proofs.NoTokens.{no_token}
 use Rattle.resb_text.proofs.QuotaLemmas.{quota_kept, quota_over}
 use Rattle.resb_grammar.proofs.Numbers.{plus_no_bytes}
 
@@ -55,16 +56,6 @@ colon_expected table_body true h = absurd (false≢true h)
 colon_expected table_body false h = refl
 colon_expected array_body k h = refl
 colon_expected untyped_body k h = refl
-
-no_type_token : {A : Type 0} (b : Body) (o : machine.Open) (kind : Kind) (u : State)
-    → takes_group b (is_key_place o.frame.items) ≡ false → in_body b o (a_type kind) ≡ Some u → A
-no_type_token table_body o kind u h e = go (is_key_place o.frame.items) h e
-  where
-    go : {A : Type 0} (k : Bool) → not k ≡ false → machine.unless k (typed kind o) ≡ Some u → A
-    go true p q = none_some u q
-    go false p q = absurd (false≢true (sym p))
-no_type_token array_body o kind u h e = absurd (false≢true (sym h))
-no_type_token untyped_body o kind u h e = absurd (false≢true (sym h))
 
 -- a type that holds items begins a group
 begins : (kind : Kind) (body : Body)
@@ -134,7 +125,10 @@ module _ (text : List ℕ) where
   no_type_brace at ends brace kind g skip never o may reached =
       blocked (typed kind o) (record {
         reached = there;
-        none = λ to u m. go to u m.token (move_means text brace to (typed kind o) u m) m.moves;
+        none =
+            no_token text brace (typed kind o) (λ to m u is. none_some u)
+            (λ to m u is. none_some u) (λ u is e. never is) (λ u is. none_some u)
+            (λ u is. none_some u) (λ to m u is. none_some u) (λ to m u is. none_some u);
         no_end = λ h. h;
         no_digits = λ h. h;
       })
@@ -145,16 +139,6 @@ module _ (text : List ℕ) where
           (byte_class text neither at ascii.colon type_class g.stands.colon refl) (kind, g, refl)
           (type_next o.title o.frame.body o.frame.items o.around kind
           (may_open o.frame.body o.frame.items may)) skip
-
-      go : (to : ℕ) (u : State) (t : Token) → Means text brace to t → next (typed kind o) t ≡ Some u
-          → ⊥
-      go to u opening m e = never m.0
-      go to u (a_text s) m e = none_some u e
-      go to u (a_number v) m e = none_some u e
-      go to u closing m e = none_some u e
-      go to u a_comma m e = none_some u e
-      go to u (a_type k) m e = none_some u e
-      go to u (a_root_type fallback) m e = none_some u e
 
 module _ {B X : Type 0} {tree : B → X → Tree} {held : B → X → Bool} {text : List ℕ} {limit at : ℕ}
     {c : Open B X} {q : Quota} (x : Among tree held text limit at c q) where
@@ -170,7 +154,8 @@ module _ {B X : Type 0} {tree : B → X → Tree} {held : B → X → Bool} {tex
       → Stops text limit q e
   type_refused colon is denied =
       stuck_here x (sym colon) is (only_types text at x.open_groups colon
-      (λ to kind u g h. no_type_token x.open_groups.frame.body x.open_groups kind u denied h))
+      (λ to kind u g. not_group_like x.open_groups.frame.body _
+      (λ b. in_body b x.open_groups (a_type kind)) _ u refl denied))
 
   -- no type and `{` stand here
   pub opening_refused : {e : TextParserError} → MayStand → TypedOpeningFails text at e
@@ -184,9 +169,8 @@ module _ {B X : Type 0} {tree : B → X → Tree} {held : B → X → Bool} {tex
   type_moves : (kind : Kind) → MayStand
       → next (inside x.open_groups) (a_type kind) ≡ Some (typed kind x.open_groups)
   type_moves kind may =
-      type_next x.open_groups.title x.open_groups.frame.body x.open_groups.frame.items
-      x.open_groups.around kind
-      (may_open x.open_groups.frame.body x.open_groups.frame.items may)
+      group_like x.open_groups.frame.body _ (λ b. in_body b x.open_groups (a_type kind)) _ refl refl
+      refl may
 
   -- a group that holds items is opened
   pub typed_group_opened : {d : Open B X} {r : Quota} {first : ℕ} (kind : Kind) {body : Body}

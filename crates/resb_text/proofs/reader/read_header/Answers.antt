@@ -1,14 +1,14 @@
 use Rattle.std.proofs.lemmas.Result.{err_from_is_err_and}
+use Rattle.resb_text.proofs.Outcomes.{match_same}
 use Rattle.resb_text.proofs.HeaderReading.{no_open, typing_refused}
 use Rattle.resb_grammar.proofs.HeaderPath.{name_read}
 use Rattle.resb_text.proofs.reader.read_header.Goals as goal
 
 pub returns-in_err-brace-clause-reads : goal.returns-in_err-brace-clause-reads
 returns-in_err-brace-clause-reads c =
-    let p = err_from_is_err_and c.from_residual-in_err-brace.result
-    c.from_residual-in_err-brace.ensures.1 in
     let n = c.in_ok-place.ensures.reads in
-    rw (p.1, p.2) (typing_refused _ _ _ _ _ _ n.before n.named n.after
+    match_same _ _ _ _ c.from_residual-in_err-brace.ensures.1
+    (typing_refused _ _ _ _ _ _ n.before n.named n.after
     c.in_err-brace.ensures.reads)
 
 pub returns-in_err-first-clause-reads : goal.returns-in_err-first-clause-reads

@@ -1,7 +1,7 @@
 use Rattle.std.proofs.Common.{refl}
-use Rattle.std.proofs.lemmas.Result.{err_from_is_err_and}
 use Rattle.resb_text.specs.Inner.Steps.{takes_group}
-use Rattle.resb_text.proofs.StepsLemmas.{told, no_memory}
+use Rattle.resb_text.proofs.Outcomes.{match_err, match_same}
+use Rattle.resb_text.proofs.StepsLemmas.{told}
 use Rattle.resb_text.proofs.TypedGroups.{type_refused, opening_refused, typed_group_opened}
 use Rattle.resb_text.proofs.TypedGroups.{opened_over, leaf_refused, leaf_added, leaf_over}
 use Rattle.resb_text.proofs.TypedGroups.{leaf_is_leaf}
@@ -15,22 +15,15 @@ returns-then-not-takes_group-clause-reads g c =
 pub returns-in_err-first-clause-reads : goal.returns-in_err-first-clause-reads
 returns-in_err-first-clause-reads g c =
     let may = told c.requires.among takes_group c.takes_group.ensures c.if-not-takes_group.false in
-    let p = err_from_is_err_and c.from_residual.result c.from_residual.ensures.1 in
-    rw (p.1, p.2) (opening_refused c.requires.among may c.in_err-first.ensures.reads)
+    match_same _ _ _ _ c.from_residual.ensures.1
+    (opening_refused c.requires.among may c.in_err-first.ensures.reads)
 
 pub returns-in_err-take-clause-reads : goal.returns-in_err-take-clause-reads
 returns-in_err-take-clause-reads g c =
     let may = told c.requires.among takes_group c.takes_group.ensures c.if-not-takes_group.false in
-    let p = err_from_is_err_and c.from_residual-in_err-take.result
-    c.from_residual-in_err-take.ensures.1 in
-    rw p.1 (opened_over c.requires.among _ may c.in_ok-first.ensures.reads c.in-Some.ensures
-    c.in_err-take.ensures p.2)
-
-pub returns-in_err-open-clause-reads : goal.returns-in_err-open-clause-reads
-returns-in_err-open-clause-reads g c =
-    let p = err_from_is_err_and c.from_residual-in_err-open.result
-    c.from_residual-in_err-open.ensures.1 in
-    rw p.1 (no_memory c.requires.among c.in_ok-take.ensures p.2)
+    match_err _ _ _ c.from_residual-in_err-take.ensures.1 (λ e same.
+    opened_over c.requires.among _ may c.in_ok-first.ensures.reads c.in-Some.ensures
+    c.in_err-take.ensures same)
 
 pub returns-in-Some-clause-reads : goal.returns-in-Some-clause-reads
 returns-in-Some-clause-reads g c =
@@ -41,24 +34,16 @@ returns-in-Some-clause-reads g c =
 pub returns-in_err-next-clause-reads : goal.returns-in_err-next-clause-reads
 returns-in_err-next-clause-reads g c =
     let may = told c.requires.among takes_group c.takes_group.ensures c.if-not-takes_group.false in
-    let p = err_from_is_err_and c.from_residual-in_err-next.result
-    c.from_residual-in_err-next.ensures.1 in
-    rw (p.1, p.2) (leaf_refused c.requires.among may c.in_ok-first.ensures.reads
+    match_same _ _ _ _ c.from_residual-in_err-next.ensures.1
+    (leaf_refused c.requires.among may c.in_ok-first.ensures.reads
     c.in_err-next.ensures.reads)
 
 pub returns-in_err-take-2-clause-reads : goal.returns-in_err-take-2-clause-reads
 returns-in_err-take-2-clause-reads g c =
     let may = told c.requires.among takes_group c.takes_group.ensures c.if-not-takes_group.false in
-    let p = err_from_is_err_and c.from_residual-in_err-take-2.result
-    c.from_residual-in_err-take-2.ensures.1 in
-    rw p.1 (leaf_over c.requires.among may c.in_ok-first.ensures.reads
-    c.in_ok-next.ensures.reads.group c.leaf_bytes.ensures c.in_err-take-2.ensures p.2)
-
-pub returns-in_err-add_leaf-clause-reads : goal.returns-in_err-add_leaf-clause-reads
-returns-in_err-add_leaf-clause-reads g c =
-    let p = err_from_is_err_and c.from_residual-in_err-add_leaf.result
-    c.from_residual-in_err-add_leaf.ensures.1 in
-    rw p.1 (no_memory c.requires.among c.in_ok-take-2.ensures p.2)
+    match_err _ _ _ c.from_residual-in_err-take-2.ensures.1 (λ e same.
+    leaf_over c.requires.among may c.in_ok-first.ensures.reads
+    c.in_ok-next.ensures.reads.group c.leaf_bytes.ensures c.in_err-take-2.ensures same)
 
 pub returns-clause-reads : goal.returns-clause-reads
 returns-clause-reads g c =

@@ -1,9 +1,9 @@
 //! Where a run of blanks or of digits ends among bytes, and minus a number modulo 2 ^ 32.
 //! The readers of both text forms count their turns beside it. Words aren't read here: the two
 //! forms have them of other characters.
-ghost use Rattle.std.specs.Prelude.{◌≡◌, ◌-◌, ◌<◌, ◌≤◌, min, length};
+ghost use Rattle.std.specs.Prelude.{◌≡◌, ◌+◌, ◌-◌, ◌<◌, ◌≤◌, min, length, IsTrue};
 ghost use Rattle.resb_grammar.specs.ByteRuns as spec;
-ghost use Rattle.resb_grammar.specs.ByteRuns.{Run, is_digit};
+ghost use Rattle.resb_grammar.specs.ByteRuns.{Each, Run, is_digit};
 ghost use Rattle.resb_grammar.specs.Lexical as lexical;
 ghost use Rattle.resb_grammar.specs.Lexical.{digits_value};
 
@@ -19,13 +19,35 @@ pub fn blanks_end(bytes: &[u8], from: usize) -> usize
     requires { from ≤ length bytes.now }
     ensures { Run spec.is_white bytes.now from result }
 {
-    let end = bytes.len();
-    for at in from..end {
-        if !is_white(bytes[at]) {
-            return at;
-        }
+    let mut at = from;
+    while at < bytes.len() && is_white(bytes[at]) {
+        at = spaces_end(bytes, at + 1);
     }
-    end
+    at
+}
+
+/// A place up to which all bytes are spaces. They are looked at four at a time, since lines are
+/// mostly indented by fours, so up to three more may follow.
+fn spaces_end(bytes: &[u8], from: usize) -> usize
+    requires { from ≤ length bytes.now }
+    ensures order { from ≤ result }
+    ensures fits { result ≤ length bytes.now }
+    ensures each { Each spec.is_white bytes.now from result }
+{
+    let mut at = from;
+    while bytes.len() - at >= 4 && are_spaces(bytes, at) {
+        at += 4;
+    }
+    at
+}
+
+/// Whether four spaces stand there.
+fn are_spaces(bytes: &[u8], at: usize) -> bool
+    requires { at + 4 ≤ length bytes.now }
+    ensures { IsTrue result → Each spec.is_white bytes.now at (at + 4) }
+{
+    let four = [bytes[at], bytes[at + 1], bytes[at + 2], bytes[at + 3]];
+    u32::from_le_bytes(four) == u32::from_le_bytes(*b"    ")
 }
 
 /// Where the run of digits ends, and their value, or 2 ^ 32 where it is larger.

@@ -147,7 +147,7 @@ keys_closed table_body xs n own (a_string s) e whole rest = cc
 keys_closed array_body xs n own (a_string s) e whole rest = cc
 keys_closed untyped_body xs n own (a_string s) e whole rest = rest ∙ one_string xs s e
 
-after-append : (sh : Shape) (n : ℕ) (xs ys : List GroupText) → without n xs ≡ xs
+pub after-append : (sh : Shape) (n : ℕ) (xs ys : List GroupText) → without n xs ≡ xs
     → left_after sh n (xs ++ ys) ≡ xs ++ left_after sh n ys
 after-append a_table n xs ys h = refl
 after-append an_array n xs ys h = without-append n xs ys ∙ ap (λ zs. zs ++ without n ys) h

@@ -1,6 +1,6 @@
 -- What each step does to all open groups beside their code.
 use Rattle.std.proofs.Common.{◌≡◌, ◌≢◌, ℕ, ◌+◌, ◌<◌, ◌≤◌, true, false, List, [], ◌∷◌, ◌++◌}
-use Rattle.std.proofs.Common.{Bool, length, refl, sym, ◌∙◌, ap, subst, arith}
+use Rattle.std.proofs.Common.{Bool, length, refl, sym, ◌∙◌, ap, subst, arith, append-nil, append_assoc}
 use Rattle.std.specs.Prelude.{map, slice_index_or}
 use Rattle.std.proofs.lemmas.Bool.{false≢true}
 use Rattle.std.proofs.lemmas.List.{map-append}
@@ -37,11 +37,14 @@ use Rattle.resb_text.specs.Inner.Frames.{IsTableWhole, ClosesTo, group_body_of, 
 use Rattle.resb_text.specs.Inner.Frames.{view_of_code, view_of_frame, views_of_frames, frames_in}
 use Rattle.resb_text.specs.Inner.Frames.{FrameView, StandsFor, AreOpen}
 use Rattle.resb_text.specs.Inner.Frames.{tree_shown_in, left_after, NumberedFrame, with_number}
-use Rattle.resb_text.specs.Inner.Frames.{HoldsCandidates, none}
+use Rattle.resb_text.specs.Inner.Frames.{HoldsCandidates, none, AllFrom, AreSettled}
+use Rattle.resb_grammar.specs.BundleText.{first_places}
+use Rattle.resb_grammar.specs.KeyLists.{listed_keys}
 use Rattle.resb_text.proofs.DiscoveredLemmas.{without-append, without-other}
 use Rattle.resb_text.proofs.ShownLemmas.{pairs_shown}
 use Rattle.resb_text.proofs.Candidates.{cand, holds_string, holds_item, holds_leaf, holds_new}
-use Rattle.resb_text.proofs.Candidates.{after_keeps, holds_closed, holds_root, comma_frame}
+use Rattle.resb_text.proofs.Candidates.{after_keeps, after-append, holds_closed, holds_root}
+use Rattle.resb_text.proofs.Candidates.{comma_frame}
 use Rattle.resb_text.proofs.Candidates.{holds_comma}
 use Rattle.resb_text.proofs.FramesLemmas.{same_view, Pushes, table_is_pairs, tree_same, last_shown}
 use Rattle.resb_text.proofs.FramesLemmas.{comma_of}
@@ -56,6 +59,15 @@ open_same k l limit (g ∷ gs) e x = (x.0, e g.number ∙ x.1, open_same k l g.n
 dropped_same : (k l : Keys) → l.is_dropped ≡ k.is_dropped → (g : ℕ)
     → is_dropped_in l g ≡ is_dropped_in k g
 dropped_same k l e g = ap (λ ds. slice_index_or ds.items g false) e
+
+-- what was settled stays so
+settled_on : (k l : Keys) (settled : List GroupText) (bound : ℕ) → l.listed ≡ k.listed
+    → group_count k ≤ group_count l → AreSettled k settled bound → AreSettled l settled bound
+settled_on k l settled bound e more x = record {
+  listed = ap listed_keys e ∙ x.listed;
+  apart = x.apart;
+  bounded = let b = x.bounded in omega (arith, b, more);
+}
 
 snoc_same : (xs ys : List FrameView) (x y : FrameView) → xs ++ x ∷ [] ≡ ys ++ y ∷ []
     → (xs ≡ ys) × (x ≡ y)
@@ -81,12 +93,14 @@ module _ {B X : Type 0} {tree : B → X → Tree} {held : B → X → Bool} wher
       → shown_term_by (tree d.build) (held d.build) term false ≡ term_seen m false
       → Grows tree held c.build d.build
       → Pushes (tree d.build) (held d.build) c.frame d.frame term → d.around.items ≡ c.around.items
-      → HoldsCandidates (with_number x.number (with_item m o.frame) ∷ x.around) (left d.keys)
-      → ((h : ℕ) → group_count d.keys ≤ h → without h (left d.keys) ≡ left d.keys)
-      → group_count d.keys ≡ group_count c.keys
+      → HoldsCandidates (with_number x.number (with_item m o.frame) ∷ x.around)
+      (x.settled ++ left d.keys)
+      → ((h : ℕ) → group_count d.keys ≤ h
+      → without h (x.settled ++ left d.keys) ≡ x.settled ++ left d.keys)
+      → group_count d.keys ≡ group_count c.keys → d.keys.listed ≡ c.keys.listed
       → ((g : ℕ) → is_dropped_in d.keys g ≡ is_dropped_in c.keys g)
       → StandsFor tree held d (with_term m o)
-  shows_term c d o m term x is grow push a holds within gs ds = record {
+  shows_term c d o m term x is grow push a holds within gs same_list ds = record {
     number = x.number;
     around = x.around;
     frame =
@@ -97,6 +111,11 @@ module _ {B X : Type 0} {tree : B → X → Tree} {held : B → X → Bool} wher
         ap (map (view_of_code (tree d.build) (held d.build))) a
         ∙ all_grown tree held c.build d.build grow c.around.items x.around x.outer;
     frames = x.frames;
+    settled = x.settled;
+    bound = x.bound;
+    are_settled = settled_on c.keys d.keys x.settled x.bound same_list
+        (let e = gs in omega (arith, e)) x.are_settled;
+    inner = x.inner;
     holds = holds;
     within = within;
     are_open =
@@ -114,27 +133,30 @@ module _ {B X : Type 0} {tree : B → X → Tree} {held : B → X → Bool} wher
       → Pushes (tree d.build) (held d.build) c.frame d.frame term → d.around.items ≡ c.around.items
       → lists (group_body_of c.frame.body) ≡ true
       → left d.keys ≡ left c.keys ++ cand s c.frame.number ∷ []
-      → d.keys.is_dropped ≡ c.keys.is_dropped → StandsFor tree held d (with_term (string_term s) o)
-  shows_string c d o term s x is grow push a ls e ds =
+      → d.keys.is_dropped ≡ c.keys.is_dropped → d.keys.listed ≡ c.keys.listed
+      → StandsFor tree held d (with_term (string_term s) o)
+  shows_string c d o term s x is grow push a ls e ds same_list =
       let number : c.frame.number ≡ x.number = ap (λ (l : FrameView). l.number) x.frame in
       let lists_keys : lists o.frame.body ≡ true = ap lists (sym (ap (λ
       (l : FrameView). l.body) x.frame))
       ∙ ls in
-      let now : left d.keys ≡ left c.keys ++ cand s x.number ∷ [] = e
-      ∙ ap (λ k. left c.keys ++ cand s k ∷ []) number in
+      let had = x.settled ++ left c.keys in
+      let now : x.settled ++ left d.keys ≡ had ++ cand s x.number ∷ [] =
+      ap (λ cs. x.settled ++ cs) (e ∙ ap (λ k. left c.keys ++ cand s k ∷ []) number)
+      ∙ sym (append_assoc x.settled (left c.keys) (cand s x.number ∷ [])) in
       let same : group_count d.keys ≡ group_count c.keys = ap (λ v. length v.items) ds in
       shows_term c d o (string_term s) term x is grow push a
       (subst
       (λ (cs : List GroupText). HoldsCandidates
       (with_number x.number (with_item (string_term s) o.frame) ∷ x.around) cs)
-      (sym now) (holds_string x.number o.frame x.around s (left c.keys) lists_keys x.holds))
-      (λ h le. ap (without h) now ∙ without-append h (left c.keys) (cand s x.number ∷ [])
+      (sym now) (holds_string x.number o.frame x.around s had lists_keys x.holds))
+      (λ h le. ap (without h) now ∙ without-append h had (cand s x.number ∷ [])
       ∙ ap (λ cs. cs ++ without h (cand s x.number ∷ []))
       (x.within h (subst (λ k. k ≤ h) same le))
-      ∙ ap (λ cs. left c.keys ++ cs)
+      ∙ ap (λ cs. had ++ cs)
       (without-other h x.number s (let lt = x.are_open.0 in omega arith))
       ∙ sym now)
-      same (dropped_same c.keys d.keys ds)
+      same same_list (dropped_same c.keys d.keys ds)
 
   pub shows_item : (c d : opens.Open B X) (o : machine.Open) (term : CodeTerm X) (s : List ℕ)
       → (x : StandsFor tree held c o)
@@ -147,12 +169,12 @@ module _ {B X : Type 0} {tree : B → X → Tree} {held : B → X → Bool} wher
       shows_term c d o (string_term s) term x is grow push a
       (subst (λ (k : Keys). HoldsCandidates
       (with_number x.number (with_item (string_term s) o.frame) ∷ x.around)
-      (left k)) (sym e)
-      (holds_item x.number o.frame x.around s (left c.keys) (array_alone o.frame.body
+      (x.settled ++ left k)) (sym e)
+      (holds_item x.number o.frame x.around s (x.settled ++ left c.keys) (array_alone o.frame.body
       (ap lists (sym (ap (λ (l : FrameView). l.body) x.frame)) ∙ ls)) x.holds))
       (subst (λ (k : Keys). (h : ℕ) → group_count k ≤ h
-      → without h (left k) ≡ left k) (sym e) x.within)
-      (ap group_count e) (λ g. ap (λ k. is_dropped_in k g) e)
+      → without h (x.settled ++ left k) ≡ x.settled ++ left k) (sym e) x.within)
+      (ap group_count e) (ap (λ k. k.listed) e) (λ g. ap (λ k. is_dropped_in k g) e)
     where
       array_alone : (k : Body) → lists k ≡ false → k ≡ array_body
       array_alone array_body h = refl
@@ -171,23 +193,33 @@ module _ {B X : Type 0} {tree : B → X → Tree} {held : B → X → Bool} wher
       shows_term c d o (group_term t []) term x is grow push a
       (subst (λ (k : Keys). HoldsCandidates
       (with_number x.number (with_item (group_term t []) o.frame) ∷ x.around)
-      (left k)) (sym e) (holds_leaf x.number o.frame x.around t (left c.keys) x.holds))
+      (x.settled ++ left k)) (sym e)
+      (holds_leaf x.number o.frame x.around t (x.settled ++ left c.keys) x.holds))
       (subst (λ (k : Keys). (h : ℕ) → group_count k ≤ h
-      → without h (left k) ≡ left k) (sym e) x.within)
-      (ap group_count e) (λ g. ap (λ k. is_dropped_in k g) e)
+      → without h (x.settled ++ left k) ≡ x.settled ++ left k) (sym e) x.within)
+      (ap group_count e) (ap (λ k. k.listed) e) (λ g. ap (λ k. is_dropped_in k g) e)
 
   -- the root, without items yet
   pub shows_root : (c : opens.Open B X) (title : machine.Title)
       → view_of_code (tree c.build) (held c.build) c.frame
       ≡ view_of_frame (with_number c.frame.number (new_frame table_body))
       → c.frame.number < group_count c.keys → is_dropped_in c.keys c.frame.number ≡ false
-      → c.around.items ≡ [] → left c.keys ≡ [] → StandsFor tree held c (machine.at_root title)
-  shows_root c title e n d a l = record {
+      → c.around.items ≡ [] → left c.keys ≡ [] → listed_keys c.keys.listed ≡ []
+      → StandsFor tree held c (machine.at_root title)
+  shows_root c title e n d a l none_listed = record {
     number = c.frame.number;
     around = [];
     frame = e;
     outer = ap (map (view_of_code (tree c.build) (held c.build))) a;
     frames = refl;
+    settled = [];
+    bound = 0;
+    are_settled = record {
+      listed = none_listed;
+      apart = λ h le. refl;
+      bounded = omega arith;
+    };
+    inner = tt;
     holds =
         subst (λ (cs : List GroupText). HoldsCandidates
         (with_number c.frame.number (new_frame table_body) ∷ []) cs)
@@ -205,9 +237,9 @@ module _ {B X : Type 0} {tree : B → X → Tree} {held : B → X → Bool} wher
       → d.around.items ≡ c.around.items ++ c.frame ∷ []
       → left d.keys ≡ left c.keys → group_count d.keys ≡ group_count c.keys + 1
       → ((g : ℕ) → is_dropped_in d.keys g ≡ is_dropped_in c.keys g)
-      → is_dropped_in c.keys (group_count c.keys) ≡ false
+      → is_dropped_in c.keys (group_count c.keys) ≡ false → d.keys.listed ≡ c.keys.listed
       → StandsFor tree held d (machine.within (group_body_of b) o)
-  shows_open c d o b x grow e a l g ds fresh = record {
+  shows_open c d o b x grow e a l g ds fresh same_list = record {
     number = group_count c.keys;
     around = with_number x.number o.frame ∷ x.around;
     frame = e;
@@ -219,15 +251,21 @@ module _ {B X : Type 0} {tree : B → X → Tree} {held : B → X → Bool} wher
         ∙ ap (λ e. views_of_frames x.around ++ e ∷ [])
         (grown tree held c.build d.build grow c.frame (with_number x.number o.frame) x.frame);
     frames = ap (λ fs. o.frame ∷ fs) x.frames;
+    settled = x.settled;
+    bound = x.bound;
+    are_settled = settled_on c.keys d.keys x.settled x.bound same_list
+        (omega (arith, g)) x.are_settled;
+    inner = (x.are_settled.bounded, x.inner);
     holds =
         subst
         (λ (cs : List GroupText). HoldsCandidates
         (with_number (group_count c.keys) (new_frame
         (group_body_of b)) ∷ with_number x.number o.frame ∷ x.around) cs)
-        (sym l)
+        (sym (ap (λ cs. x.settled ++ cs) l))
         (holds_new (group_count c.keys) (group_body_of b) (with_number x.number o.frame ∷ x.around)
-        (left c.keys) x.holds x.within);
-    within = λ h le. ap (without h) l ∙ x.within h (omega (arith, g)) ∙ sym l;
+        (x.settled ++ left c.keys) x.holds x.within);
+    within = λ h le. ap (λ cs. without h (x.settled ++ cs)) l ∙ x.within h (omega (arith, g))
+        ∙ sym (ap (λ cs. x.settled ++ cs) l);
     are_open = (
       omega (arith, g),
       ds (group_count c.keys) ∙ fresh,
@@ -248,14 +286,14 @@ module _ {B X : Type 0} {tree : B → X → Tree} {held : B → X → Bool} wher
       → ((n : ℕ) (f : Frame) → view_of_code (tree c.build) (held c.build) c.frame ≡ view_of_frame
       (with_number n f)
       → left d.keys ≡ left_after (shape_in f.body f.items) n (left c.keys))
-      → group_count d.keys ≡ group_count c.keys
+      → group_count d.keys ≡ group_count c.keys → d.keys.listed ≡ c.keys.listed
       → ((g : ℕ) → g ≢ c.frame.number → is_dropped_in d.keys g ≡ is_dropped_in c.keys g)
       → ClosesTo tree held d o o.around
-  shows_close c d o outer made x table_is_pairs grow a push stands l g ds =
+  shows_close c d o outer made x table_is_pairs grow a push stands l g same_list ds =
       subst (λ (fs : List Frame). ClosesTo tree held d o fs) x.frames
       (go x.around
       (all_grown tree held c.build d.build grow c.around.items x.around x.outer) x.holds
-      x.are_open)
+      x.are_open x.inner)
     where
       number_same : c.frame.number ≡ x.number
       number_same = ap (λ (k : FrameView). k.number) x.frame
@@ -287,11 +325,12 @@ module _ {B X : Type 0} {tree : B → X → Tree} {held : B → X → Bool} wher
       go : (gs : List NumberedFrame)
           → map (view_of_code (tree d.build) (held d.build)) c.around.items
           ≡ views_of_frames gs
-          → HoldsCandidates (with_number x.number o.frame ∷ gs) (left c.keys)
+          → HoldsCandidates (with_number x.number o.frame ∷ gs) (x.settled ++ left c.keys)
           → AreOpen c.keys (group_count c.keys) (with_number x.number o.frame ∷ gs)
+          → AllFrom x.bound x.number gs
           → ClosesTo tree held d o (frames_in gs)
-      go [] e holds open_now = tt
-      go (h ∷ gs) e holds open_now =
+      go [] e holds open_now within_bound = tt
+      go (h ∷ gs) e holds open_now within_bound =
           let parts = snoc_same (map (view_of_code (tree d.build) (held d.build)) d.around.items)
           (views_of_frames gs) (view_of_code (tree d.build) (held d.build) outer)
           (view_of_frame h) (sym (ap (map (view_of_code (tree d.build) (held d.build))) a
@@ -301,6 +340,12 @@ module _ {B X : Type 0} {tree : B → X → Tree} {held : B → X → Bool} wher
           let m = inner.0 in
           let top = open_now.0 in
           let rest = open_outer x.number (h ∷ gs) (omega arith) inner in
+          let shape = shape_in o.frame.body o.frame.items in
+          let all_left : x.settled ++ left d.keys
+          ≡ left_after shape x.number (x.settled ++ left c.keys) =
+          ap (λ cs. x.settled ++ cs) left_is
+          ∙ sym (after-append shape x.number x.settled (left c.keys)
+          (x.are_settled.apart x.number within_bound.0)) in
           record {
             number = h.number;
             around = gs;
@@ -308,19 +353,76 @@ module _ {B X : Type 0} {tree : B → X → Tree} {held : B → X → Bool} wher
                 push h.number h.frame (machine.closed o.frame) parts.1 is;
             outer = parts.0;
             frames = refl;
+            settled = x.settled;
+            bound = x.bound;
+            are_settled = settled_on c.keys d.keys x.settled x.bound same_list
+                (omega (arith, g)) x.are_settled;
+            inner = within_bound.1;
             holds =
                 subst
                 (λ (cs : List GroupText). HoldsCandidates
                 (with_number h.number (with_item (closed o.frame) h.frame) ∷ gs) cs)
-                (sym left_is)
-                (holds_closed x.number h.number o.frame h.frame gs (left c.keys) m holds);
+                (sym all_left)
+                (holds_closed x.number h.number o.frame h.frame gs (x.settled ++ left c.keys) m
+                holds);
             within =
-                λ k le. ap (without k) left_is
-                ∙ after_keeps (shape_in o.frame.body o.frame.items) x.number k (left c.keys)
+                λ k le. ap (without k) all_left
+                ∙ after_keeps shape x.number k (x.settled ++ left c.keys)
                 (x.within k (omega (arith, g)))
-                ∙ sym left_is;
+                ∙ sym all_left;
             are_open = (omega (arith, m, top, g), rest.1, rest.2);
           }
+
+  -- where the root alone is open, all candidates that are left are keys
+  pub shows_settled : (c d : opens.Open B X) (o : machine.Open) → c.around.items ≡ []
+      → d.frame ≡ c.frame → d.around ≡ c.around → d.build ≡ c.build → left d.keys ≡ []
+      → ((before : List GroupText) → listed_keys c.keys.listed ≡ first_places (texts before)
+      → listed_keys d.keys.listed ≡ first_places (texts (before ++ left c.keys)))
+      → d.keys.is_dropped ≡ c.keys.is_dropped → StandsFor tree held c o → StandsFor tree held d o
+  shows_settled c d o alone f a b none_left lists ds x =
+      let same : group_count d.keys ≡ group_count c.keys = ap (λ v. length v.items) ds in
+      let settled = x.settled ++ left c.keys in
+      let all : settled ++ left d.keys ≡ settled =
+      ap (λ cs. settled ++ cs) none_left ∙ append-nil settled in
+      record {
+        number = x.number;
+        around = x.around;
+        frame = (λ i. view_of_code (tree (b i)) (held (b i)) (f i)) ∙ x.frame;
+        outer = (λ i. map (view_of_code (tree (b i)) (held (b i))) (a i).items) ∙ x.outer;
+        frames = x.frames;
+        settled = settled;
+        bound = group_count c.keys;
+        are_settled = record {
+          listed = lists x.settled x.are_settled.listed;
+          apart = x.within;
+          bounded = omega (arith, same);
+        };
+        inner = no_inner x.around
+            (sym x.outer ∙ ap (map (view_of_code (tree c.build) (held c.build))) alone);
+        holds = subst (λ (cs : List GroupText). HoldsCandidates
+            (with_number x.number o.frame ∷ x.around) cs) (sym all) x.holds;
+        within = λ h le. ap (without h) all ∙ x.within h (omega (arith, same)) ∙ sym all;
+        are_open =
+            subst (λ k. AreOpen d.keys k (with_number x.number o.frame ∷ x.around)) (sym same)
+            (open_same c.keys d.keys (group_count c.keys)
+            (with_number x.number o.frame ∷ x.around) (dropped_same c.keys d.keys ds) x.are_open);
+      }
+    where
+      no_inner : (gs : List NumberedFrame) → views_of_frames gs ≡ []
+          → AllFrom (group_count c.keys) x.number gs
+      no_inner [] e = tt
+      no_inner (g ∷ gs) e = absurd (some (views_of_frames gs) (view_of_frame g) e)
+        where
+          some : (ls : List FrameView) (l : FrameView) → ls ++ l ∷ [] ≡ [] → ⊥
+          some [] l e = cc
+          some (k ∷ ls) l e = cc
+
+  -- so too where a group is closed
+  pub closes_settled : (c d : opens.Open B X) (o : machine.Open)
+      → ((u : machine.Open) → StandsFor tree held c u → StandsFor tree held d u)
+      → (fs : List Frame) → ClosesTo tree held c o fs → ClosesTo tree held d o fs
+  closes_settled c d o on [] h = tt
+  closes_settled c d o on (f ∷ fs) h = on _ h
 
   -- the root is closed
   pub root_made : (c : opens.Open B X) (o : machine.Open) (b : B) (made : X)
@@ -341,14 +443,15 @@ module _ {B X : Type 0} {tree : B → X → Tree} {held : B → X → Bool} wher
         h.1,
       )
 
-  pub root_keys : (c : opens.Open B X) (o : machine.Open) → StandsFor tree held c o → o.around ≡ []
-      → o.frame.body ≡ table_body → texts (left c.keys) ≡ keys_in a_table o.frame.items
+  pub root_keys : (c : opens.Open B X) (o : machine.Open) (x : StandsFor tree held c o)
+      → o.around ≡ [] → o.frame.body ≡ table_body
+      → texts (x.settled ++ left c.keys) ≡ keys_in a_table o.frame.items
   root_keys c o x e b = go x.around (x.frames ∙ e) x.holds
     where
       go : (gs : List NumberedFrame) → frames_in gs ≡ []
-          → HoldsCandidates (with_number x.number o.frame ∷ gs) (left c.keys)
-          → texts (left c.keys) ≡ table_keys o.frame.items
-      go [] h holds = holds_root x.number o.frame (left c.keys) b holds
+          → HoldsCandidates (with_number x.number o.frame ∷ gs) (x.settled ++ left c.keys)
+          → texts (x.settled ++ left c.keys) ≡ table_keys o.frame.items
+      go [] h holds = holds_root x.number o.frame (x.settled ++ left c.keys) b holds
       go (g ∷ gs) h holds = cc
 
   pub shows_comma : (c d : opens.Open B X) (o : machine.Open) (x y : code.Item X) (k : ℕ)
@@ -440,13 +543,19 @@ module _ {B X : Type 0} {tree : B → X → Tree} {held : B → X → Bool} wher
                   ap (map (view_of_code (tree d.build) (held d.build))) a
                   ∙ all_grown tree held c.build d.build grow c.around.items s.around s.outer;
               frames = s.frames;
+              settled = s.settled;
+              bound = s.bound;
+              are_settled =
+                  subst (λ (q : Keys). AreSettled q s.settled s.bound) (sym e) s.are_settled;
+              inner = s.inner;
               holds =
                   subst (λ (q : Keys). HoldsCandidates
                   (with_number s.number (comma_frame o.frame v.term vs) ∷ s.around)
-                  (left q)) (sym e) (holds_comma s.number o.frame s.around
-                  (left c.keys) v.term v.comma vs w s.holds);
+                  (s.settled ++ left q)) (sym e) (holds_comma s.number o.frame s.around
+                  (s.settled ++ left c.keys) v.term v.comma vs w s.holds);
               within =
-                  subst (λ (q : Keys). (h : ℕ) → group_count q ≤ h → without h (left q) ≡ left q)
+                  subst (λ (q : Keys). (h : ℕ) → group_count q ≤ h
+                  → without h (s.settled ++ left q) ≡ s.settled ++ left q)
                   (sym e) s.within;
               are_open =
                   subst (λ (q : Keys). AreOpen q (group_count q) (with_number s.number

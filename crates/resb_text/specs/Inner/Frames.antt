@@ -8,6 +8,8 @@ use Rattle.resb_grammar.specs.Items as spec
 use Rattle.resb_grammar.specs.Items.{is_pairs, table_keys, array_keys}
 use Rattle.resb_grammar.specs.Inner.Half.{is_half}
 use Rattle.resb_grammar.specs.Machine as machine
+use Rattle.resb_grammar.specs.BundleText.{first_places}
+use Rattle.resb_grammar.specs.KeyLists.{listed_keys}
 use Rattle.resb_text.specs.Inner.Shown.{SeenItem, string_shown, group_shown, shown_by, items_seen}
 use Rattle.resb_text.specs.Inner.Shown.{shown_tree}
 use Rattle.resb_text.specs.Inner.Shown.{shown_pairs}
@@ -100,6 +102,17 @@ pub data HoldsCandidates : List NumberedFrame → List GroupText → Type 0 wher
       → ((h : ℕ) → g.number ≤ h → without h before ≡ before) → IsFrom g own → cs ≡ before ++ own
       → HoldsCandidates (g ∷ gs) cs
 
+-- all open groups but the root have numbers from this one on, the innermost one's first
+abbrev pub AllFrom : ℕ → ℕ → List NumberedFrame → Type 0
+AllFrom bound number [] = Unit {0}
+AllFrom bound number (g ∷ gs) = (bound ≤ number) × AllFrom bound g.number gs
+
+-- the candidates that were listed as keys already: none is of a group that has such a number
+pub record AreSettled (k : Keys) (settled : List GroupText) (bound : ℕ) : Type 0 where
+  pub listed : listed_keys k.listed ≡ first_places (texts settled)
+  pub apart : (h : ℕ) → bound ≤ h → without h settled ≡ settled
+  pub bounded : bound ≤ group_count k
+
 -- numbers fall from the innermost group on, and none was dropped
 abbrev pub AreOpen : Keys → ℕ → List NumberedFrame → Type 0
 AreOpen k limit [] = Unit {0}
@@ -122,8 +135,13 @@ module _ {B X : Type 0} (tree : B → X → Tree) (held : B → X → Bool) wher
     pub outer : map (view_of_code (tree c.build) (held c.build)) c.around.items
         ≡ views_of_frames around
     pub frames : frames_in around ≡ o.around
-    pub holds : HoldsCandidates (with_number number o.frame ∷ around) (left c.keys)
-    pub within : (h : ℕ) → group_count c.keys ≤ h → without h (left c.keys) ≡ left c.keys
+    pub settled : List GroupText
+    pub bound : ℕ
+    pub are_settled : AreSettled c.keys settled bound
+    pub inner : AllFrom bound number around
+    pub holds : HoldsCandidates (with_number number o.frame ∷ around) (settled ++ left c.keys)
+    pub within : (h : ℕ) → group_count c.keys ≤ h
+        → without h (settled ++ left c.keys) ≡ settled ++ left c.keys
     pub are_open : AreOpen c.keys (group_count c.keys) (with_number number o.frame ∷ around)
 
   -- the code's open groups are some machine's

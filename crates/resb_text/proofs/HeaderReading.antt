@@ -95,6 +95,7 @@ module _ (text : List ℕ) where
       ⊎_elim (λ (m : e ≡ want_of_memory). inl m)
       (λ (s : Stuck text e.position e.expected). inr (stuck_none text e.position e.expected s)) h
 
+  -- so it is of an answer
   pub no_bundle_if_fails : {T : Type 0} (r : Result T TextParserError) → IfErr r (Fails text)
       → IfErr r (λ e. (e ≡ want_of_memory) ⊎ IsNoBundle text)
   no_bundle_if_fails (Ok x) h = tt

@@ -132,8 +132,7 @@ pub(crate) fn digits_end(text: &str, ticks: &mut Ticks, from: usize) -> (usize, 
 /// Counts a turn for each byte from one place to another, and one for the byte there, if the
 /// text reaches so far.
 fn count_run(text: &str, ticks: &mut Ticks, from: usize, to: usize)
-    requires order { from ≤ to }
-    requires within { to ≤ length text.now }
+    requires { (from ≤ to) × (to ≤ length text.now) }
     ensures { let end = min (to + 1) (length text.now) in
         Ticked ticks.old ticks.new (end - from) }
 {

@@ -63,8 +63,8 @@ pub record Stops (text : List ℕ) (limit : ℕ) (q : Quota) (e : TextParserErro
   pub fails : Fails text e
   pub keeps : KeepsQuota text limit q
 
--- the reading goes on from one place to another: fewer than 8 turns more are counted and owed than
--- for each byte that it has looked at since
+-- a reading goes on from one place to another: fewer turns are counted and owed than 8 for each
+-- byte that it has looked at since
 abbrev pub Advances : {B X : Type 0} → List ℕ → ℕ → Ticks → Open B X → ℕ → Ticks → Open B X
     → Type 0
 Advances text at t c next u d =

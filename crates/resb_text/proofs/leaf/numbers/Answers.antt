@@ -41,10 +41,9 @@ returns-then-byte-eq125-clause-reads c = record {
 pub numbers-preserved : goal.numbers-preserved
 numbers-preserved c =
     let number_cost = c.in-Some.ensures.cost in
-    let skip_cost = c.skip-place.ensures.cost in
     let behind_cost = c.in_ok-here.ensures.cost in
     record {
-      low = omega (arith, c.numbers.invariant.low, number_cost, skip_cost, behind_cost);
+      low = omega (arith, number_cost, behind_cost);
       fits = behind_cost.1;
       ready =
           rw c.in_ok-push.ensures.items
@@ -52,13 +51,5 @@ numbers-preserved c =
           c.in-Some.ensures.found c.skip-place.ensures.skip)
           c.in_ok-here.ensures.reads (rw (← c.byte.ensures.byte) c.if-byte-eq125.false));
       brace = rw (← c.byte.ensures.byte) c.if-byte-eq125.false;
-      cost =
-          omega (
-            arith,
-            c.numbers.invariant.cost,
-            number_cost,
-            skip_cost,
-            behind_cost,
-            c.byte.ensures.counted,
-          );
+      cost = omega (arith, number_cost, behind_cost);
     }

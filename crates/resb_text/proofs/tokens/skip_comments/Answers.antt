@@ -5,29 +5,15 @@ use Rattle.resb_text.proofs.LexicalLemmas.{comment_more, skip_ends, slash_black,
 use Rattle.resb_text.proofs.tokens.skip_comments.Goals as goal
 
 pub comments-preserved : goal.comments-preserved
-comments-preserved c =
-    record {
-      order =
-          omega (
-            arith,
-            c.comments.invariant.order,
-            c.skip_blanks-at.ensures.run.order,
-            c.in-Some.ensures.cost.0,
-          );
-      fits = c.skip_blanks-at.ensures.run.fits;
-      stands = cc;
-      so_far =
-          comment_more _ _ _ _ _ c.in-Some.ensures.found
-          c.skip_blanks-at.ensures.run c.comments.invariant.so_far;
-      cost =
-          omega (
-            arith,
-            c.comments.invariant.cost,
-            c.skip_blanks-at.ensures.counted,
-            c.skip_blanks-at.ensures.run.order,
-            c.in-Some.ensures.cost,
-          );
-    }
+comments-preserved c = record {
+  order = omega (arith, c.in-Some.ensures.cost);
+  fits = c.skip_blanks-at.ensures.run.fits;
+  stands = cc;
+  so_far =
+      comment_more _ _ _ _ _ c.in-Some.ensures.found
+      c.skip_blanks-at.ensures.run c.comments.invariant.so_far;
+  cost = omega (arith, c.in-Some.ensures.cost);
+}
 
 pub returns-then-b-ne47-clause-skip : goal.returns-then-b-ne47-clause-skip
 returns-then-b-ne47-clause-skip c =
@@ -46,25 +32,10 @@ returns-in_default-clause-cost c =
     let stands = c.comments.invariant.stands in
     let inside = nonzero_inside c.args.text.now c.comments.slash (omega (arith, stands)) in
     let all = reach_slash c.args.text.now c.comments.slash stands in
-    omega (
-      arith,
-      inside,
-      all,
-      c.comments.invariant.order,
-      c.comments.invariant.cost,
-      c.in_default.ensures.cost,
-    )
+    omega (arith, inside, all, c.in_default.ensures.cost)
 
 pub returns-then-b-ne47-clause-cost : goal.returns-then-b-ne47-clause-cost
 returns-then-b-ne47-clause-cost c =
     let here = reach_here c.args.text.now c.skip_blanks-at.result.0
     (rw (← c.skip_blanks-at.ensures.byte) c.if-b-ne47.true) in
-    omega (
-      arith,
-      here,
-      c.comments.invariant.order,
-      c.comments.invariant.cost,
-      c.in-Some.ensures.cost,
-      c.skip_blanks-at.ensures.run.order,
-      c.skip_blanks-at.ensures.counted,
-    )
+    omega (arith, here, c.in-Some.ensures.cost)

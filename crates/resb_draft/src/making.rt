@@ -97,6 +97,7 @@ impl<'a> Draft<'a> {
         ensures members { OnOk result
             (self.new.members.items ≡ self.old.members.items ++ member ∷ []) }
         ensures keys { OnOk result (self.new.keys.items ≡ self.old.keys.items ++ key.entry ∷ []) }
+        ensures keeps { Keeps self.old self.new }
     {
         self.keys.push(key)?;
         self.members.push(member)?;

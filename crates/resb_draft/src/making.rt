@@ -1,13 +1,14 @@
 //! How a draft is made: a piece at a time, members before their collection.
 //! In which order a table's entries are put stands in `entries`.
-ghost use Rattle.std.specs.Prelude.{◌≡◌, ◌^◌, ◌<◌, ◌≤◌, ◌-◌, true, [], ◌∷◌, ◌++◌, map, length, drop};
-ghost use Rattle.std.specs.Prelude.{IfOk, OnOk, get_or, List, ℕ};
+ghost use Rattle.std.specs.Prelude.{◌≡◌, ◌^◌, ◌<◌, ◌≤◌, ◌-◌, true, [], ◌∷◌, ◌++◌, map, length};
+ghost use Rattle.std.specs.Prelude.{drop, IfOk, OnOk, get_or, List, ℕ};
 ghost use Rattle.std.specs.Borrow.{Bor};
 ghost use Rattle.resb_tree.specs.Borrowing.{all_true};
 ghost use Rattle.resb_tree.specs.Tree.{string, array, table, trees_of, entries_of, map_of};
 ghost use Rattle.resb_tree.specs.View.{tree_of};
-ghost use Rattle.resb_draft.specs.Drafts.{texts, is_leaf, nothing, piece_meaning, pieces_stand};
-ghost use Rattle.resb_draft.specs.Drafts.{tree_at, is_whole, IsMade, Keeps};
+ghost use Rattle.resb_draft.specs.Drafts.{texts, texts_ascend, is_leaf, nothing};
+ghost use Rattle.resb_draft.specs.Drafts.{piece_meaning, pieces_stand, tree_at, is_whole};
+ghost use Rattle.resb_draft.specs.Drafts.{IsMade, Keeps};
 ghost use Rattle.resb_draft.specs.Inner.Entries.{keys_ascend};
 
 use crate::draft::{Draft, Members, Piece};
@@ -97,6 +98,7 @@ impl<'a> Draft<'a> {
         ensures members { OnOk result
             (self.new.members.items ≡ self.old.members.items ++ member ∷ []) }
         ensures keys { OnOk result (self.new.keys.items ≡ self.old.keys.items ++ key.entry ∷ []) }
+        ensures keeps { Keeps self.old self.new }
     {
         self.keys.push(key)?;
         self.members.push(member)?;
@@ -110,7 +112,8 @@ impl<'a> Draft<'a> {
         ensures made { (ps : List (Bor (List ℕ) × ℕ))
             → drop first_member self.old.members.items ≡ map (λ p. p.1) ps
             → drop first_key self.old.keys.items ≡ map (λ p. p.0) ps
-            → keys_ascend ps ≡ true → all_true (map (λ p. is_whole self.old p.1) ps) ≡ true
+            → texts_ascend (map (λ p. p.0.now) ps) ≡ true
+            → all_true (map (λ p. is_whole self.old p.1) ps) ≡ true
             → IfOk result (λ n. IsMade self.new n
             (table (entries_of (map (λ p. (p.0.now, tree_at self.old p.1)) ps)))) }
         ensures keeps { Keeps self.old self.new }

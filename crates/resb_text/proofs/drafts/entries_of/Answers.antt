@@ -3,6 +3,7 @@ use Rattle.std.proofs.Common.{length, length-drop, append-nil, append_assoc}
 use Rattle.std.proofs.lemmas.List.{drop_more}
 use Rattle.resb_text.specs.Inner.Drafts.{entries_after, entry_of}
 use Rattle.resb_text.specs.declared.items.Item.{Item}
+use Rattle.resb_text.specs.declared.items.Term.{Term}
 use Rattle.resb_text.specs.declared.items.Term.TheVariants as terms
 use Rattle.resb_text.proofs.PieceItems.{no_entries}
 use Rattle.resb_text.proofs.drafts.entries_of.Goals as goal
@@ -18,7 +19,8 @@ returns c =
       c.loop-item.auto.item-index-end,
     ) in
     sym (append-nil c.loop-item.entries.items)
-    ∙ ap (λ es. c.loop-item.entries.items ++ es) (sym (no_entries c.loop-item.waiting (drop at items) none))
+    ∙ ap (λ es. c.loop-item.entries.items ++ es)
+    (sym (no_entries c.loop-item.waiting (drop at items) none))
     ∙ c.loop-item.invariant.made
 
 pub loop-item-preserved : goal.loop-item-preserved
@@ -26,7 +28,8 @@ loop-item-preserved c =
     let i = c.loop-item.invariant in
     let items = c.args.items.now in
     let at = c.loop-item.item-index in
-    let d : Item ℕ = record { term = terms.String (record { ref_ptr = (0, 0); now = [] }); comma = false } in
+    let none : Term ℕ = terms.String (record { ref_ptr = (0, 0); now = [] }) in
+    let d : Item ℕ = record { term = none; comma = false } in
     let item = get_or items at d in
     let split = drop_more items at d (omega arith) in
     let listed = c.in_ok-waiting.ensures in

@@ -2,6 +2,7 @@ use Rattle.std.proofs.Common.{[], ◌≡◌, ◌+◌, ℕ, List, Bor, false, ari
 use Rattle.std.proofs.Common.{length, length-drop}
 use Rattle.std.proofs.lemmas.List.{drop_more}
 use Rattle.resb_text.specs.declared.items.Item.{Item}
+use Rattle.resb_text.specs.declared.items.Term.{Term}
 use Rattle.resb_text.specs.declared.items.Term.TheVariants as terms
 use Rattle.resb_text.proofs.PieceItems.{pushed_more, nothing_left}
 use Rattle.resb_text.proofs.drafts.push_entries.Goals as goal
@@ -39,7 +40,8 @@ loop-item-preserved c =
     let i = c.loop-item.invariant in
     let items = c.args.items.now in
     let at = c.loop-item.item-index in
-    let d : Item ℕ = record { term = terms.String (record { ref_ptr = (0, 0); now = [] }); comma = false } in
+    let none : Term ℕ = terms.String (record { ref_ptr = (0, 0); now = [] }) in
+    let d : Item ℕ = record { term = none; comma = false } in
     let item = get_or items at d in
     let split = drop_more items at d (omega arith) in
     let counted = c.tick.ensures in

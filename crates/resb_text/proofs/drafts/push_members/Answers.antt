@@ -1,8 +1,9 @@
-use Rattle.std.proofs.Common.{◌+◌, ◌++◌, ◌∷◌, ℕ, false, [], arith, drop, get_or, length, subst, sym, ◌∙◌, ap}
-use Rattle.std.proofs.Common.{refl}
+use Rattle.std.proofs.Common.{◌+◌, ◌++◌, ◌∷◌, ℕ, false, [], arith, drop, get_or, length, subst}
+use Rattle.std.proofs.Common.{sym, ◌∙◌, ap, refl}
 use Rattle.std.proofs.lemmas.List.{drop_more, drop-append-le, length-append}
 use Rattle.resb_draft.proofs.Standing.{keeps_on}
 use Rattle.resb_text.specs.declared.items.Item.{Item}
+use Rattle.resb_text.specs.declared.items.Term.{Term}
 use Rattle.resb_text.specs.declared.items.Term.TheVariants as terms
 use Rattle.resb_text.proofs.PieceItems.{ListsNumbers, lists_more, lists_on}
 use Rattle.resb_text.proofs.drafts.push_members.Goals as goal
@@ -12,7 +13,8 @@ loop-item-preserved c =
     let i = c.loop-item.invariant in
     let items = c.args.items.now in
     let at = c.loop-item.item-index in
-    let d : Item ℕ = record { term = terms.String (record { ref_ptr = (0, 0); now = [] }); comma = false } in
+    let none : Term ℕ = terms.String (record { ref_ptr = (0, 0); now = [] }) in
+    let d : Item ℕ = record { term = none; comma = false } in
     let item = get_or items at d in
     let split = drop_more items at d (omega arith) in
     let counted = c.tick.ensures in

@@ -28,7 +28,8 @@ returns-clause-made c = λ h.
     ≡ piece_meaning mid.members.items (texts mid.keys.items) (pieces_stand mid) (piece.Array m))
     (λ n. IsMade c.push.new.self n t)
     (λ n e. made_of c.push.new.self n t
-    (e ∙ array_made old mid old.members.items ns m items (c.in_ok-number.ensures ∙ c.len.ensures ∙ old.members.ok.0)
+    (e ∙ array_made old mid old.members.items ns m items
+    (c.in_ok-number.ensures ∙ c.len.ensures ∙ old.members.ok.0)
     c.in_ok-number-2.ensures agrees h))
     c.push.ensures.made
 

@@ -35,7 +35,8 @@ returns-clause-made c = λ h.
     (piece.Table m c.in_ok-first_key.first_key))
     (λ n. IsMade c.push-2.new.self n t)
     (λ n e. made_of c.push-2.new.self n t
-    (e ∙ table_made old mid old.members.items old.keys.items es m c.in_ok-first_key.first_key members keys
+    (e ∙ table_made old mid old.members.items old.keys.items es m c.in_ok-first_key.first_key
+    members keys
     (c.in_ok-number.ensures ∙ c.len.ensures ∙ old.members.ok.0)
     (c.in_ok-first_key.ensures ∙ c.len-2.ensures ∙ old.keys.ok.0)
     c.in_ok-number-2.ensures agrees c.requires h))

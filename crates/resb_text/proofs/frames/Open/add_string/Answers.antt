@@ -30,7 +30,8 @@ returns-then-lists_keys-clause-shows g c =
     (ap (λ b. lists (group_body_of b)) (sym c.in_ok-push.ensures.body) ∙ sym c.lists_keys.ensures
     ∙ c.if-lists_keys.true) (added
     ∙ ap (λ n. left c.args.self.now.keys
-    ++ one c.args.text.now n ∷ []) c.in_ok-push.ensures.number) c.add.ensures.dropped c.add.ensures.listed)
+    ++ one c.args.text.now n ∷ []) c.in_ok-push.ensures.number) c.add.ensures.dropped
+    c.add.ensures.listed)
     c.add.ensures.left
 
 pub returns-clause-shows : goal.returns-clause-shows

@@ -25,7 +25,8 @@ returns-clause-shows g c =
       build = old.build;
     } in
     let ok = old.around.ok.0 in
-    let none : vec_len old.around ≡ 0 = eqb-true _ _ (sym c.is_empty.ensures ∙ c.if-not-is_empty.false) in
+    let none : vec_len old.around ≡ 0 =
+    eqb-true _ _ (sym c.is_empty.ensures ∙ c.if-not-is_empty.false) in
     on_ok_weaker {Q = (o : machine.Open) → StandsFor tree held old o
     → StandsFor tree held new o} c.settle.result
     (λ lists. λ o x. shows_settled old new o

@@ -92,8 +92,8 @@ fn is_at(distinct: &IndexMap<&str, ()>, index: usize, key: &str) -> bool
     }
 }
 
-/// The index of a key in the set, which it joins if it isn't there. A guess is tried first. An index
-/// that 32 bits don't hold is told as want of memory.
+/// The index of a key in the set, which it joins if it isn't there. A guess is tried first. An
+/// index that 32 bits don't hold is told as want of memory.
 fn join<'k>(
     distinct: &mut IndexMap<&'k str, ()>,
     guess: u32,

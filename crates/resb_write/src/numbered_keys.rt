@@ -48,6 +48,7 @@ impl<'k> NumberedKeys<'k> {
     }
 
     /// Adds keys in their order.
+    #[inline(always)]
     pub(crate) fn add_all(&mut self, list: &[&'k str]) -> Result<(), AllocError>
         ensures { OnOk result ((ks : List (List ℕ)) → NumbersKeys self.old ks
             → NumbersKeys self.new (ks ++ nows list.now)) }
@@ -59,6 +60,7 @@ impl<'k> NumberedKeys<'k> {
     }
 
     /// Adds a key.
+    #[inline(always)]
     fn add(&mut self, key: &'k str) -> Result<(), AllocError>
         ensures { OnOk result ((ks : List (List ℕ)) → NumbersKeys self.old ks
             → NumbersKeys self.new (ks ++ key.now ∷ [])) }

@@ -44,6 +44,7 @@ impl<'a> Draft<'a> {
     }
 
     /// Appends the numbers of the pieces right inside a piece.
+    #[inline(always)]
     fn push_children(&self, pending: &mut Vec<u32>, number: u32) -> Result<(), AllocError>
         requires { is_whole self.now number ≡ true }
         ensures trees { OnOk result (map (tree_at self.now) pending.new.items

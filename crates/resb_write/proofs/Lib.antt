@@ -1,6 +1,6 @@
 -- For crates above: those that are `pub`.
 mod Anywhere
-mod Numbers
+mod PlacesLeft
 mod Pending
 mod PiecesLemmas
 mod Counting

@@ -17,7 +17,7 @@ use Rattle.resb_write.specs.Inner.Counted.{own_units, are_set_behind, CountsOne}
 use Rattle.resb_write.specs.declared.sites.Coming.{Coming}
 use Rattle.resb_write.proofs.Counting.{near_keys}
 use Rattle.resb_write.proofs.KeyViews.{keys_values}
-use Rattle.resb_write.proofs.Numbers.{behind_string, string_left, table_known, table_left}
+use Rattle.resb_write.proofs.PlacesLeft.{behind_string, string_left, table_known, table_left}
 
 module _ (g : Given) (below ts : List Tree) (n : ℕ) (marks : List Bool) (many : length ts ≡ n)
     (are : marks ≡ map (is_near g) (below ++ ts)) where

@@ -37,5 +37,5 @@ mutual
       (subst (λ l. Pending l rest) (sym (append_assoc st (t ∷ []) (values_of es))) h)))
 
 -- at first nothing is passed
-pub pending : (t : Tree) → Pending [] (laying_order t)
-pending t = subst (Pending []) (append-nil (laying_order t)) (pending_tree t [] [] tt)
+pub nothing_passed : (t : Tree) → Pending [] (laying_order t)
+nothing_passed t = subst (Pending []) (append-nil (laying_order t)) (pending_tree t [] [] tt)

@@ -71,8 +71,8 @@ mutual
       (suffices_values es (n + 1) rest (to rest (omega arith) h)))
 
 -- an empty stack suffices for a tree
-pub suffices : (t : Tree) → Suffices 0 (laying_order t)
-suffices t = subst (Suffices 0) (append-nil (laying_order t)) (suffices_tree t 0 [] tt)
+pub empty_stack_suffices : (t : Tree) → Suffices 0 (laying_order t)
+empty_stack_suffices t = subst (Suffices 0) (append-nil (laying_order t)) (suffices_tree t 0 [] tt)
 
 part_fits : (a m r s k : ℕ) → s ≡ m + r → a + s < k → a + m < k
 part_fits a m r s k e h = omega (arith, e, h)

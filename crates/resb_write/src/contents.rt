@@ -43,7 +43,7 @@ impl<'t> Contents<'t> {
         ensures { IfOk result (λ c. (ts : List Tree) → N.fit order.now ts → Gathered ts c) }
     {
         let mut contents = Contents {
-            texts: Vec::new(alloc),
+            texts: Vec::with_capacity(alloc, order.count())?,
             size: 0,
             text_bytes: 0,
             largest_table: 0,

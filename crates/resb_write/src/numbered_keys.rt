@@ -48,6 +48,7 @@ impl<'k> NumberedKeys<'k> {
     }
 
     /// Adds keys in their order.
+    #[inline(always)]
     pub(crate) fn add_all(&mut self, list: &[&'k str]) -> Result<(), AllocError>
         ensures { OnOk result ((ks : List (List ℕ)) → NumbersKeys self.old ks
             → NumbersKeys self.new (ks ++ nows list.now)) }
@@ -59,6 +60,7 @@ impl<'k> NumberedKeys<'k> {
     }
 
     /// Adds a key.
+    #[inline(always)]
     fn add(&mut self, key: &'k str) -> Result<(), AllocError>
         ensures { OnOk result ((ks : List (List ℕ)) → NumbersKeys self.old ks
             → NumbersKeys self.new (ks ++ key.now ∷ [])) }
@@ -92,8 +94,8 @@ fn is_at(distinct: &IndexMap<&str, ()>, index: usize, key: &str) -> bool
     }
 }
 
-/// The index of a key in the set, which it joins if it isn't there. A guess is tried first. An index
-/// that 32 bits don't hold is told as want of memory.
+/// The index of a key in the set, which it joins if it isn't there. A guess is tried first. An
+/// index that 32 bits don't hold is told as want of memory.
 fn join<'k>(
     distinct: &mut IndexMap<&'k str, ()>,
     guess: u32,

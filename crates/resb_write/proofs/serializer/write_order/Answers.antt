@@ -61,7 +61,8 @@ block_length-keys_end-requires g c =
     let t = c.requires.0 in
     let gathered = c.in_ok-contents.ensures (laying_order t) c.requires.1 in
     let small = c.in_ok-check_sizes.ensures.ok (laying_order t) gathered in
-    let js = ap nows c.deref.ensures.value ∙ (c.in_ok-keys.ensures.ok (keys_of t) c.requires.2).keys in
+    let js = ap nows c.deref.ensures.value
+    ∙ (c.in_ok-keys.ensures.ok (keys_of t) c.requires.2).keys in
     omega (
       arith,
       small,
@@ -75,7 +76,8 @@ overflow_add-keys_end g c =
     let t = c.requires.0 in
     let gathered = c.in_ok-contents.ensures (laying_order t) c.requires.1 in
     let small = c.in_ok-check_sizes.ensures.ok (laying_order t) gathered in
-    let js = ap nows c.deref.ensures.value ∙ (c.in_ok-keys.ensures.ok (keys_of t) c.requires.2).keys in
+    let js = ap nows c.deref.ensures.value
+    ∙ (c.in_ok-keys.ensures.ok (keys_of t) c.requires.2).keys in
     omega (
       arith,
       small,
@@ -105,8 +107,9 @@ numbered g c base t f us =
     record {
       keys = b.positions ∙ ap (map Some) (sym c.deref-2.ensures.value);
       texts = ap (map pooled.offset) (sym texts) ∙ offsets;
-      near = near_offsets (nows c.in_ok-contents.contents.texts.items) c.in_ok-pool.field-0.pool.items pooled.offset
-          pooled.plan (nows c.in_ok-contents.contents.texts.items) c.deref-3.result.now (λ s h. h) offsets;
+      near = near_offsets (nows c.in_ok-contents.contents.texts.items)
+          c.in_ok-pool.field-0.pool.items pooled.offset pooled.plan
+          (nows c.in_ok-contents.contents.texts.items) c.deref-3.result.now (λ s h. h) offsets;
     }
 
 pub lay_bodies-requires-clause-tree : goal.lay_bodies-requires-clause-tree
@@ -117,9 +120,11 @@ lay_bodies-requires-clause-tree g c =
     let us = c.in_ok-pool.field-0.pool.items in
     let pooled = c.in_ok-pool.ensures.ok in
     let small = c.in_ok-check_sizes.ensures.ok (laying_order t) gathered in
-    let js = ap nows c.deref.ensures.value ∙ (c.in_ok-keys.ensures.ok (keys_of t) c.requires.2).keys in
+    let js = ap nows c.deref.ensures.value
+    ∙ (c.in_ok-keys.ensures.ok (keys_of t) c.requires.2).keys in
     let texts = gathered.texts_are in
-    let pool = pool_room (nows c.in_ok-contents.contents.texts.items) us pooled.offset pooled.plan in
+    let pool = pool_room (nows c.in_ok-contents.contents.texts.items) us pooled.offset
+    pooled.plan in
     let same = ap (sum_by size) texts in (
       t,
       r.1,
@@ -159,7 +164,8 @@ assemble-requires g c =
     let t = c.requires.0 in
     let gathered = c.in_ok-contents.ensures (laying_order t) c.requires.1 in
     let small = c.in_ok-check_sizes.ensures.ok (laying_order t) gathered in
-    let js = ap nows c.deref-4.ensures.value ∙ (c.in_ok-keys.ensures.ok (keys_of t) c.requires.2).keys in
+    let js = ap nows c.deref-4.ensures.value
+    ∙ (c.in_ok-keys.ensures.ok (keys_of t) c.requires.2).keys in
     let room = c.in_ok-bodies.ensures.fits in
     let k = length-padded (key_bytes (nows c.deref.result.now)) in
     record {

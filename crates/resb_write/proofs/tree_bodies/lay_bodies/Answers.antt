@@ -4,7 +4,7 @@ use Rattle.resb_layout.specs.Laid.{Given, Lays}
 use Rattle.resb_tree.specs.LayingOrder.{laying_order}
 use Rattle.resb_write.specs.Inner.Room.{laid_of, HasRoomFor, GivesInTurn}
 use Rattle.resb_write.proofs.Counting.{units}
-use Rattle.resb_write.proofs.Numbers.{based, moved}
+use Rattle.resb_write.proofs.PlacesLeft.{based, moved}
 use Rattle.resb_write.proofs.tree_bodies.lay_bodies.Goals as goal
 use Rattle.resb_write.proofs.tree_bodies.lay_bodies.Goals.{In_ok-word}
 

@@ -5,8 +5,8 @@ use Rattle.resb_tree.specs.LayingOrder.{laying_order}
 use Rattle.resb_write.specs.Inner.StackSteps.{LaysRow}
 use Rattle.resb_write.specs.Inner.Room.{laid_of}
 use Rattle.resb_write.specs.Inner.Seen.{Suffices}
-use Rattle.resb_write.proofs.Numbers.{based, moved}
-use Rattle.resb_write.proofs.Rows.{suffices}
+use Rattle.resb_write.proofs.PlacesLeft.{based, moved}
+use Rattle.resb_write.proofs.Rows.{empty_stack_suffices}
 use Rattle.resb_write.proofs.Stacks.{steps_lay_trees}
 use Rattle.resb_write.proofs.tree_bodies.lay_order.Goals as goal
 
@@ -18,7 +18,7 @@ steps-requires g c =
       record {
         room = r.2;
         enough = subst (λ ws. Suffices (length ws) (laying_order r.0))
-            (sym c.new-words.ensures.items) (suffices r.0);
+            (sym c.new-words.ensures.items) (empty_stack_suffices r.0);
       },
       r.3,
       r.4,

@@ -8,8 +8,8 @@ use Rattle.resb_write.specs.Inner.Room.{laid_of, own_size, GivesInTurn}
 use Rattle.resb_write.specs.Inner.Seen.{HasRoom, TakesNoMore}
 use Rattle.resb_write.specs.Inner.Nodes.{IsNode, IsArrayOf, IsTableOf}
 use Rattle.resb_write.proofs.KeyViews.{keys_values}
-use Rattle.resb_write.proofs.Numbers.{string_left, string_known, behind_string, behind_table}
-use Rattle.resb_write.proofs.Numbers.{table_known, table_left}
+use Rattle.resb_write.proofs.PlacesLeft.{string_left, string_known, behind_string, behind_table}
+use Rattle.resb_write.proofs.PlacesLeft.{table_known, table_left}
 use Rattle.resb_write.proofs.tree_bodies.step.Goals as goal
 
 pub take_offset-requires : goal.take_offset-requires

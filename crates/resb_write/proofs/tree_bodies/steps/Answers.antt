@@ -7,7 +7,7 @@ use Rattle.resb_write.specs.Inner.Seen.{CanLay}
 use Rattle.std.proofs.lemmas.List.{take_all, drop_all}
 use Rattle.resb_write.specs.Inner.Nodes.{no_tree}
 use Rattle.resb_write.proofs.NodesLemmas.{trees-drop, trees-take}
-use Rattle.resb_write.proofs.Numbers.{based, moved}
+use Rattle.resb_write.proofs.PlacesLeft.{based, moved}
 use Rattle.resb_write.proofs.Rows.{steps_push, step_long, has_room, can_go_on}
 use Rattle.resb_write.proofs.tree_bodies.steps.Goals as goal
 

@@ -7,7 +7,7 @@ use Rattle.resb_write.specs.Inner.Room.{GivesInTurn}
 use Rattle.resb_write.specs.Inner.Counted.{is_near, CountsOne}
 use Rattle.resb_write.specs.Inner.Nodes.{IsNode, IsArrayOf, IsTableOf}
 use Rattle.resb_write.proofs.KeyViews.{keys_values}
-use Rattle.resb_write.proofs.Numbers.{behind_table}
+use Rattle.resb_write.proofs.PlacesLeft.{behind_table}
 use Rattle.resb_write.proofs.Marks.{string_one, other_one, array_one, table_one}
 use Rattle.resb_write.proofs.unit_count.count_own.Goals as goal
 

@@ -10,13 +10,13 @@ use Rattle.resb_write.specs.Inner.Counted.{is_near, own_units, Pending}
 use Rattle.resb_write.proofs.NodesLemmas.{trees-drop, trees-take}
 use Rattle.resb_write.specs.Inner.Nodes.{no_tree}
 use Rattle.resb_write.proofs.Marks.{own_few}
-use Rattle.resb_write.proofs.Pending.{pending}
+use Rattle.resb_write.proofs.Pending.{nothing_passed}
 use Rattle.resb_write.proofs.unit_count.count_units.Goals as goal
 
 pub loop-at-init : goal.loop-at-init
 loop-at-init g c = λ t f given n. (
   [],
-  pending t,
+  nothing_passed t,
   subst (λ l. GivesInTurn given l c.coming-coming.result.offsets.now (laying_order t))
       (sym c.coming-coming.ensures.positions)
       (subst (λ l. GivesInTurn given c.args.sites.now.positions.now l (laying_order t))

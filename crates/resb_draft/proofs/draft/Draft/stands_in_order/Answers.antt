@@ -32,6 +32,6 @@ loop-number-preserved c =
           c.in-Some.ensures.items) c.in_ok-push_children.ensures.trees refl i.1,
       c.in_ok-push_children.ensures.whole popped.0,
       piece_before d i.0 n c.loop-number.left (omega (arith, c.if-place-left.false)) popped.1 i.3,
-      keys_before d i.0 n c.in-Some-keys_start.start c.loop-number.keys c.in-Some-keys_start.ensures.order
-          c.in-Some-keys_start.ensures.keys i.4,
+      keys_before d i.0 n c.in-Some-keys_start.start c.loop-number.keys
+          c.in-Some-keys_start.ensures.order c.in-Some-keys_start.ensures.keys i.4,
     )

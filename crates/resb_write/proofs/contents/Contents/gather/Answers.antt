@@ -10,7 +10,7 @@ use Rattle.resb_write.proofs.contents.Contents.gather.Goals as goal
 
 pub loop-at-init : goal.loop-at-init
 loop-at-init g c = λ ts f. record {
-  texts_are = ap nows c.new.ensures.items;
+  texts_are = ap nows c.in_ok-with_capacity.ensures.items;
   size_is = omega arith;
   bytes_are = refl;
   bytes_suffice = omega (arith, no_bytes_gathered, no_units_gathered);

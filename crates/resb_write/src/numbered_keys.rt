@@ -94,8 +94,8 @@ fn is_at(distinct: &IndexMap<&str, ()>, index: usize, key: &str) -> bool
     }
 }
 
-/// The index of a key in the set, which it joins if it isn't there. A guess is tried first. An
-/// index that 32 bits don't hold is told as want of memory.
+/// The index of a key in the set, which it joins if it isn't there. A guess is tried first.
+#[inline(always)]
 fn join<'k>(
     distinct: &mut IndexMap<&'k str, ()>,
     guess: u32,
@@ -108,6 +108,17 @@ fn join<'k>(
     if is_at(distinct, guess as usize, key) {
         return Ok(guess);
     }
+    look_up(distinct, key)
+}
+
+/// The index of a key in the set, which it joins if it isn't there. An index that 32 bits don't
+/// hold is told as want of memory.
+#[inline(never)]
+fn look_up<'k>(distinct: &mut IndexMap<&'k str, ()>, key: &'k str) -> Result<u32, AllocError>
+    ensures { IfOk result (λ n. (ns : List ℕ) (ks : List (List ℕ))
+        → AreNumberedKeys distinct.old ns ks
+        → AreNumberedKeys distinct.new (ns ++ n ∷ []) (ks ++ key.now ∷ [])) }
+{
     let (number, _) = distinct.insert_full(key, ())?;
     if number > 0xffff_ffff {
         return Err(AllocError);

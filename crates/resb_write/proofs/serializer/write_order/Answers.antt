@@ -1,5 +1,5 @@
 -- The refusals in their order, the room that is left, and the file.
-use Rattle.std.proofs.Common.{◌≡◌, ℕ, ◌+◌, ◌*◌, ◌%◌, length, map, Some, refl, sym, ◌∙◌, ap}
+use Rattle.std.proofs.Common.{ℕ, ◌+◌, ◌*◌, ◌%◌, length, map, Some, refl, sym, ◌∙◌, ap}
 use Rattle.std.proofs.Common.{subst, arith}
 use Rattle.std.specs.List.{sum_by}
 use Rattle.std.proofs.lemmas.Result.{err_from_is_err_and}
@@ -9,8 +9,8 @@ use Rattle.resb_tree.specs.Tree.{Tree}
 use Rattle.resb_tree.specs.LayingOrder.{laying_order, keys_of}
 use Rattle.resb_write.specs.Inner.Room.{laid_of, GivesInTurn}
 use Rattle.resb_write.specs.Inner.Numbered.{NumbersKeys}
-use Rattle.resb_layout.specs.KeyBlock.{used, key_bytes, padded, position_in}
-use Rattle.resb_layout.specs.TreeFaults.{RefusesWriting, no_memory, key_fault}
+use Rattle.resb_layout.specs.KeyBlock.{key_bytes, padded, position_in}
+use Rattle.resb_layout.specs.TreeFaults.{RefusesWriting, no_memory}
 use Rattle.resb_layout.specs.Written.{Written, even}
 use Rattle.resb_write.specs.Inner.Files.{file_of}
 use Rattle.resb_write.proofs.Room.{units_room, bytes_room, used_room, length-padded, pool_room}

@@ -1,8 +1,6 @@
 -- The listed keys that are used, and where those of the tables stand.
-use Rattle.std.proofs.Common.{◌≡◌, ◌<◌, ℕ, All, length, List, map, filter, Some, inl, inr, sym, ◌∙◌}
+use Rattle.std.proofs.Common.{◌≡◌, ℕ, List, map, filter, Some, inr, sym, ◌∙◌}
 use Rattle.std.proofs.Common.{ap, unwrap_or}
-use Rattle.std.proofs.Common.{subst}
-use Rattle.std.proofs.lemmas.List.{length-map}
 use Rattle.std.specs.Prelude.{slice_index}
 use Rattle.std.proofs.lemmas.Result.{err_from_is_err_and}
 use Rattle.resb_pool.specs.Plan.{nows, at_text}

@@ -176,6 +176,8 @@ grown old new e =
     tt))
     (before_agrees ns' ks' e.pieces mid))
 
+-- where the pieces of one draft stand for what those of another do, as far as these go, the other's
+-- are kept
 pub agrees_keeps : (old new : Draft) → Agrees (pieces_stand old) (pieces_stand new) → Keeps old new
 agrees_keeps old new f n h =
     (ap (λ (m : Tree × Bool). m.0) (f n h), ap (λ (m : Tree × Bool). m.1) (f n h) ∙ h)

@@ -213,7 +213,8 @@ fn entries_of<'a>(alloc: Global, items: &[Item<'a, u32>]) -> Result<Vec<(&'a str
     Ok(entries)
 }
 
-/// The table of these items, as `table_of` says, whose keys may stand in any order.
+/// The table of these items, as `table_of` says, whose keys may stand in any order. As of the sort
+/// itself, no turns are counted of what is listed for it: the items were counted before.
 #[inline(never)]
 fn sorted_table_of<'a>(
     alloc: Global,

@@ -7,9 +7,9 @@
 
 `--program PATH` in front of these times another program; it may be given more than once. The texts
 are made of the files that the installed ICU library holds: each is cut out of libicudata, printed
-by ICU's `derb`, and put as a table into one text for its kind, with its keys in quotes. Aliases, and
-backslashes and quotes in strings, are left out, so that both programs read the same. Nothing of ICU's
-data is kept: the texts are made anew, in a temporary folder.
+by ICU's `derb`, and put as a table into one text for its kind, with its keys in quotes. Aliases,
+and backslashes and quotes in strings, are left out, so that both programs read the same. Nothing of
+ICU's data is kept: the texts are made anew, in a temporary folder.
 
 A line for each text and program has milliseconds of processor, the least of so many runs, and the
 most memory of the process in MB, and what both are beside `genrb`'s.

@@ -4,10 +4,10 @@
     dump_compare.py RESB [COUNT [SEED]]
 
 RESB is the program `resb`. The two files of a text have to be equal byte for byte, since the texts
-have each table's keys in the order of their bytes, once each, and so does what is printed. The texts
-of the rows, and one random text in four, have them in any order; there the file of what is printed
-and what is printed of that have to stay as they are. The first difference is printed and ends the
-run with status 1.
+have each table's keys in the order of their bytes, once each, and so does what is printed. The
+texts of the rows, and one random text in four, have them in any order; there the file of what is
+printed and what is printed of that have to stay as they are. The first difference is printed and
+ends the run with status 1.
 """
 import pathlib
 import random

@@ -47,11 +47,11 @@ impl IcuReader {
         ensures err { IfErr result (IcuFails input.now) }
         ensures no_text { IfErr result (λ e. (e ≡ want_of_memory) ⊎ IsNoIcuText input.now) }
     {
-        IcuReader::read_counted(alloc, input, &mut IcuTurns::new())
+        read_bundle(alloc, input, &mut IcuTurns::new())
     }
 
-    /// The same answer. The count rises by at most `8 n + 24` for a text of n bytes, whatever the
-    /// answer: the reading takes linearly many turns.
+    /// The same answer. The count never falls, and rises by at most `8 n + 24` for a text of n
+    /// bytes, whatever the answer: the reading takes linearly many turns.
     pub fn read_counted<'a>(
         alloc: Global,
         input: &'a str,
@@ -62,20 +62,40 @@ impl IcuReader {
         ensures borrowed { IfOk result (λ r. IsBorrowedFrom input.now r.0) }
         ensures err { IfErr result (IcuFails input.now) }
         ensures no_text { IfErr result (λ e. (e ≡ want_of_memory) ⊎ IsNoIcuText input.now) }
+        ensures grows { turns.old.count ≤ turns.new.count }
         ensures cost { turns.new.count ≤ turns.old.count + 8 * length input.now + 24 }
     {
-        let Header {
-            name,
-            fallback,
-            first,
-        } = read_header(alloc, input, turns)?;
-        let (root, keys) = read_root(alloc, input, first, turns)?;
-        let keys = each_once(alloc, &keys, turns)?;
-        Ok((
-            ResourceBundle::new(CowStr::Borrowed(name), root, fallback),
-            keys,
-        ))
+        let mut own = IcuTurns::new();
+        let read = read_bundle(alloc, input, &mut own);
+        turns.add_counted(own);
+        read
     }
+}
+
+/// The bundle and its keys, as `IcuReader::read` gives them.
+fn read_bundle<'a>(
+    alloc: Global,
+    input: &'a str,
+    turns: &mut IcuTurns,
+) -> Result<(ResourceBundle<'a>, Vec<Key<'a>>), IcuTextError>
+    ensures ok { IfOk result (λ r. IcuText input.now
+        (name_of r.0) r.0.is_locale_fallback_enabled (root_of r.0) r.1.items) }
+    ensures borrowed { IfOk result (λ r. IsBorrowedFrom input.now r.0) }
+    ensures err { IfErr result (IcuFails input.now) }
+    ensures no_text { IfErr result (λ e. (e ≡ want_of_memory) ⊎ IsNoIcuText input.now) }
+    ensures cost { turns.new.count ≤ turns.old.count + 8 * length input.now + 24 }
+{
+    let Header {
+        name,
+        fallback,
+        first,
+    } = read_header(alloc, input, turns)?;
+    let (root, keys) = read_root(alloc, input, first, turns)?;
+    let keys = each_once(alloc, &keys, turns)?;
+    Ok((
+        ResourceBundle::new(CowStr::Borrowed(name), root, fallback),
+        keys,
+    ))
 }
 
 /// What stands before the root's entries: the bundle's name, and whether fallback is on. And the

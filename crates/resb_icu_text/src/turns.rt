@@ -33,4 +33,13 @@ impl IcuTurns {
     {
         self.count = self.count.saturating_add(turns as u128);
     }
+
+    /// Counts the turns of a reading that had a counter of its own.
+    pub(crate) fn add_counted(&mut self, turns: IcuTurns)
+        ensures counted { self.new.count ≡ min (self.old.count + turns.count) (2 ^ 128 - 1) }
+        ensures grows { self.old.count ≤ self.new.count }
+        ensures most { self.new.count ≤ self.old.count + turns.count }
+    {
+        self.count = self.count.saturating_add(turns.count);
+    }
 }

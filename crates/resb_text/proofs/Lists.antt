@@ -1,6 +1,8 @@
 -- Lists and options: what names no word of this project.
 use Rattle.std.proofs.Common.{◌≡◌, ℕ, ◌+◌, ◌-◌, List, get_or, ap, ◌∙◌, drop, arith, length, take}
 use Rattle.std.proofs.Common.{length-drop, true, ◌<◌, ◌≤◌, false, refl}
+use Rattle.std.proofs.Common.{◌++◌}
+use Rattle.std.proofs.Math.Seq.{drop-append_seam, take-append_seam}
 use Rattle.std.proofs.lemmas.List.{get_or-drop, take_all}
 use Rattle.std.specs.Prelude.{Bool}
 use Rattle.std.proofs.lemmas.Bool.{false≢true}
@@ -40,3 +42,13 @@ some_is (Some x) b h = ap Some (eqb-true x b (flip (eqb x b) h))
     flip : (c : Bool) → not c ≡ false → c ≡ true
     flip true e = refl
     flip false e = absurd (false≢true (sym e))
+
+-- what was put behind a list
+pub drop_to_put : {X : Type 0} (xs ys all : List X) (n : ℕ) → n ≡ length xs → all ≡ xs ++ ys
+    → drop n all ≡ ys
+drop_to_put xs ys all n at is = (λ i. drop (at i) (is i)) ∙ drop-append_seam xs ys
+
+-- the list that it was put behind
+pub take_before_put : {X : Type 0} (xs ys all : List X) (n : ℕ) → n ≡ length xs → all ≡ xs ++ ys
+    → take n all ≡ xs
+take_before_put xs ys all n at is = (λ i. take (at i) (is i)) ∙ take-append_seam xs ys

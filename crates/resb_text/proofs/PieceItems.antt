@@ -4,7 +4,6 @@ use Rattle.std.proofs.Common.{append_assoc, append-nil, arith, Bor, length, take
 use Rattle.std.proofs.Common.{◌+◌, ◌-◌, ◌<◌}
 use Rattle.std.specs.Ordering.{is_lt}
 use Rattle.std.specs.Prelude.{Option, Some, None}
-use Rattle.std.proofs.Math.Seq.{drop-append_seam, take-append_seam}
 use Rattle.std.proofs.lemmas.Simd.{map-map}
 use Rattle.std.proofs.lemmas.Bool.{and_from, and_parts}
 use Rattle.std.proofs.lemmas.List.{map_push, map-append, take_more}
@@ -18,7 +17,7 @@ use Rattle.resb_draft.proofs.EntriesLemmas.{ascending_map}
 use Rattle.resb_draft.proofs.Lists.{all_append, ascend_on}
 use Rattle.resb_text.specs.Inner.Build.{Represents}
 use Rattle.resb_text.specs.Inner.Drafts.{piece_term_seen, piece_item_seen, entries_seen, are_whole}
-use Rattle.resb_text.specs.Inner.Drafts.{key_after, entry_of, entries_after}
+use Rattle.resb_text.specs.Inner.Drafts.{key_after, entry_of_term, entries_after}
 use Rattle.resb_text.specs.Inner.Shown.{shown_tree, shown_borrowed, shown_pairs, pairs_after}
 use Rattle.resb_text.specs.Inner.Shown.{waiting_key}
 use Rattle.resb_text.specs.declared.items.Item.{Item}
@@ -102,7 +101,7 @@ entries_show d waiting (x ∷ xs) = go x.term x.comma waiting (λ w. entries_sho
     go : (m : Term ℕ) (f : Bool) (w : Option (Bor (List ℕ)))
         → ((v : Option (Bor (List ℕ))) → entries_seen d (entries_after v xs)
         ≡ pairs_after (waiting_key v) (map (piece_item_seen d) xs))
-        → entries_seen d (entry_of w m ++ entries_after (key_after m) xs)
+        → entries_seen d (entry_of_term w m ++ entries_after (key_after m) xs)
         ≡ pairs_after (waiting_key w) (piece_term_seen d m f ∷ map (piece_item_seen d) xs)
     go (terms.String s) f w more = more (Some s)
     go (terms.Group n) f (Some k) more = ap (λ es. (k.now, tree_at d n) ∷ es) (more None)
@@ -121,20 +120,11 @@ entries_whole d waiting (x ∷ xs) h = go x.term x.comma waiting (λ w. entries_
         → are_whole d (entries_after v xs) ≡ true)
         → all_true (shown_borrowed (piece_term_seen d m f)
         ∷ map shown_borrowed (map (piece_item_seen d) xs)) ≡ true
-        → are_whole d (entry_of w m ++ entries_after (key_after m) xs) ≡ true
+        → are_whole d (entry_of_term w m ++ entries_after (key_after m) xs) ≡ true
     go (terms.String s) f w more h = more (Some s) (and_parts true _ h).1
     go (terms.Group n) f (Some k) more h =
         let both = and_parts (is_whole d n) _ h in and_from _ _ both.0 (more None both.1)
     go (terms.Group n) f None more h = more None (and_parts (is_whole d n) _ h).1
-
--- what was put behind a list, and the list that it was put behind
-pub behind : {X : Type 0} (xs ys all : List X) (n : ℕ) → n ≡ length xs → all ≡ xs ++ ys
-    → drop n all ≡ ys
-behind xs ys all n at is = (λ i. drop (at i) (is i)) ∙ drop-append_seam xs ys
-
-pub front : {X : Type 0} (xs ys all : List X) (n : ℕ) → n ≡ length xs → all ≡ xs ++ ys
-    → take n all ≡ xs
-front xs ys all n at is = (λ i. take (at i) (is i)) ∙ take-append_seam xs ys
 
 -- no items have no entries
 pub no_entries : (waiting : Option (Bor (List ℕ))) (xs : List (Item ℕ)) → length xs ≡ 0
@@ -142,6 +132,7 @@ pub no_entries : (waiting : Option (Bor (List ℕ))) (xs : List (Item ℕ)) → 
 no_entries waiting [] h = refl
 no_entries waiting (x ∷ xs) h = absurd (omega (arith, h))
 
+-- so where no items are left, nothing more is put behind a list
 pub nothing_left : {X : Type 0} (part : Bor (List ℕ) × ℕ → X) (all : List X)
     (waiting : Option (Bor (List ℕ))) (xs : List (Item ℕ)) → length xs ≡ 0
     → all ≡ all ++ map part (entries_after waiting xs)
@@ -151,14 +142,15 @@ nothing_left part all waiting xs h =
 -- a part of one entry more, or of none
 pub pushed_more : {X : Type 0} (part : Bor (List ℕ) × ℕ → X) (old new : List X)
     (waiting next : Option (Bor (List ℕ))) (x : Item ℕ) (left rest : List (Item ℕ))
-    → left ≡ x ∷ rest → next ≡ key_after x.term → new ≡ old ++ map part (entry_of waiting x.term)
+    → left ≡ x ∷ rest → next ≡ key_after x.term
+    → new ≡ old ++ map part (entry_of_term waiting x.term)
     → new ++ map part (entries_after next rest) ≡ old ++ map part (entries_after waiting left)
 pushed_more part old new waiting next x left rest split is more =
     (λ i. more i ++ map part (entries_after (is i) rest))
-    ∙ append_assoc old (map part (entry_of waiting x.term))
+    ∙ append_assoc old (map part (entry_of_term waiting x.term))
     (map part (entries_after (key_after x.term) rest))
     ∙ ap (λ es. old ++ es)
-    (sym (map-append part (entry_of waiting x.term) (entries_after (key_after x.term) rest)))
+    (sym (map-append part (entry_of_term waiting x.term) (entries_after (key_after x.term) rest)))
     ∙ ap (λ xs. old ++ map part (entries_after waiting xs)) (sym split)
 
 -- keys that ascend do so with one more behind the last, which is less

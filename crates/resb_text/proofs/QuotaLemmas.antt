@@ -4,7 +4,7 @@ use Rattle.std.proofs.Common.{◌∙◌, inl, subst}
 use Rattle.std.proofs.lemmas.Bool.{false≢true}
 use Rattle.resb_grammar.specs.Limit.{MadeWithin, MakesMore}
 use Rattle.resb_grammar.proofs.MadeOnce.{never_more}
-use Rattle.resb_text.specs.Inner.Quota.{KeepsQuota, IsUnused, Takes, RunsOver}
+use Rattle.resb_text.specs.Inner.Quota.{KeepsQuota, IsUnused, TakesBytes, RunsOver}
 use Rattle.std.specs.Prelude.{Result, MatchResult}
 use Rattle.std.specs.Result.{IsErrAnd}
 use Rattle.resb_text.specs.Inner.Steps.{Stops}
@@ -14,7 +14,8 @@ use Rattle.resb_text.specs.declared.error.TextParserError.{TextParserError}
 use Rattle.resb_text.proofs.Outcomes.{match_err}
 
 -- what was asked for is made
-pub quota_kept : {text : List ℕ} {limit n : ℕ} {p q : Quota} → KeepsQuota text limit p → Takes p q n
+pub quota_kept : {text : List ℕ} {limit n : ℕ} {p q : Quota} → KeepsQuota text limit p
+    → TakesBytes p q n
     → KeepsQuota text limit q
 quota_kept k t = record {
   same = t.same ∙ k.same;
@@ -57,7 +58,7 @@ larger {text} k over same within =
 -- want of memory, once what was asked for is counted
 pub memory_stops : {text : List ℕ} {limit n : ℕ} {p q : Quota} {T : Type 0} (P : T → Type 0)
     (r : Result T TextParserError) → IsErrAnd r (λ e. e ≡ want_of_memory) → KeepsQuota text limit p
-    → Takes p q n → MatchResult r P (Stops text limit q)
+    → TakesBytes p q n → MatchResult r P (Stops text limit q)
 memory_stops {text} {limit} {n} {p} {q} P r h k t =
     match_err P (Stops text limit q) r h
     (λ e same. record { fails = inl same; keeps = quota_kept k t })

@@ -24,7 +24,7 @@ use Rattle.resb_grammar.proofs.Lex.{neither, type_class}
 use Rattle.resb_grammar.specs.Stuck.{expectation, expected_in, NoToken, Stuck, blocked}
 use Rattle.resb_text.specs.Inner.Leaf.{LeafGroup, LeafFails, LeafRefuses}
 use Rattle.resb_text.specs.Inner.Frames.{StandsFor}
-use Rattle.resb_text.specs.Inner.Quota.{Takes, RunsOver}
+use Rattle.resb_text.specs.Inner.Quota.{TakesBytes, RunsOver}
 use Rattle.resb_text.specs.Refusal.{want_of_memory}
 use Rattle.resb_text.specs.Inner.Steps.{takes_group, Among, Stops, TypedOpeningFails}
 use Rattle.resb_text.specs.declared.frames.Open.{Open}
@@ -177,7 +177,7 @@ module _ {B X : Type 0} {tree : B → X → Tree} {held : B → X → Bool} {tex
       → MayStand → TypedOpening text at kind first → first ≤ length text
       → ((o : machine.Open) → machine.begun_as kind o ≡ inside (within body o))
       → ((o : machine.Open) → StandsFor tree held c o → StandsFor tree held d (within body o))
-      → Takes q r 72 → Among tree held text limit first d r
+      → TakesBytes q r 72 → Among tree held text limit first d r
   typed_group_opened {d} {r} {first} kind {body} may begin fits opens then takes = record {
     open_groups = within body x.open_groups;
     shows = then x.open_groups x.shows;
@@ -235,7 +235,7 @@ module _ {B X : Type 0} {tree : B → X → Tree} {held : B → X → Bool} {tex
       → to ≤ length text
       → ((o : machine.Open) → StandsFor tree held c o → StandsFor tree held d (with_term
       (group_term t []) o))
-      → asked ≡ leaf_bytes t → Takes q r asked → Among tree held text limit to d r
+      → asked ≡ leaf_bytes t → TakesBytes q r asked → Among tree held text limit to d r
   leaf_added {d} {r} {first} {to} {asked} {kind} {t} may begin leaf fits then same takes =
       let b = before_brace may begin leaf in
       record {

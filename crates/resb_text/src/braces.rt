@@ -2,7 +2,7 @@
 //! A brace that is one of several tokens which may stand there is read in `steps`.
 ghost use Rattle.std.specs.Prelude.{◌+◌, ◌≤◌, length, MatchResult};
 ghost use Rattle.resb_text.specs.Inner.Braces.{Opens, IsUnopened, Closes, IsUnclosed};
-ghost use Rattle.resb_text.specs.Inner.Ticked.{Passes};
+ghost use Rattle.resb_text.specs.Inner.Ticked.{Proceeds};
 
 use crate::error::TextParserError;
 use crate::scan::byte;
@@ -16,7 +16,7 @@ pub(crate) fn left_brace(text: &str, ticks: &mut Ticks, at: usize) -> Result<usi
     requires within { at ≤ length text.now }
     ensures reads { MatchResult result (Opens text.now at) (IsUnopened text.now at) }
     ensures cost { MatchResult result
-        (λ to. Passes text.now 6 at ticks.old to ticks.new)
+        (λ to. Proceeds text.now 6 at ticks.old to ticks.new)
         (λ e. ticks.new.count ≤ ticks.old.count + 1) }
 {
     if byte(text, ticks, at) == b'{' {
@@ -36,7 +36,7 @@ pub(crate) fn right_brace(
     requires within { at ≤ length text.now }
     ensures reads { MatchResult result (Closes text.now at) (IsUnclosed text.now at) }
     ensures cost { MatchResult result
-        (λ to. Passes text.now 6 at ticks.old to ticks.new)
+        (λ to. Proceeds text.now 6 at ticks.old to ticks.new)
         (λ e. ticks.new.count ≤ ticks.old.count + 1) }
 {
     if byte(text, ticks, at) == b'}' {

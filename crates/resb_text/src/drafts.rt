@@ -7,7 +7,7 @@ ghost use Rattle.resb_tree.specs.Tree.{Tree, array, table, trees_of, map_of};
 ghost use Rattle.resb_draft.specs.Drafts.{tree_at, is_whole, texts, texts_ascend, Keeps};
 ghost use Rattle.resb_text.specs.Inner.Build.{Represents, Grows};
 ghost use Rattle.resb_text.specs.Inner.Drafts.{piece_term_seen, piece_item_seen};
-ghost use Rattle.resb_text.specs.Inner.Drafts.{key_after, entry_of, entries_after};
+ghost use Rattle.resb_text.specs.Inner.Drafts.{key_after, entry_of_term, entries_after};
 ghost use Rattle.resb_text.specs.Inner.Shown.{shown_tree, shown_borrowed, shown_pairs};
 
 use crate::build::Build;
@@ -130,9 +130,9 @@ fn push_term<'a>(
     ensures next { IfOk result (λ next. next ≡ key_after term.now) }
     ensures pieces { OnOk result (draft.new.pieces ≡ draft.old.pieces) }
     ensures members { OnOk result (draft.new.members.items
-        ≡ draft.old.members.items ++ map (λ e. e.1) (entry_of waiting.entry term.now)) }
+        ≡ draft.old.members.items ++ map (λ e. e.1) (entry_of_term waiting.entry term.now)) }
     ensures keys { OnOk result (draft.new.keys.items
-        ≡ draft.old.keys.items ++ map (λ e. e.0) (entry_of waiting.entry term.now)) }
+        ≡ draft.old.keys.items ++ map (λ e. e.0) (entry_of_term waiting.entry term.now)) }
 {
     match term {
         Term::String(text) => Ok(Some(*text)),
@@ -187,7 +187,7 @@ fn list_term<'a>(
 ) -> Result<Option<&'a str>, NoMemory>
     ensures next { IfOk result (λ next. next ≡ key_after term.now) }
     ensures entries { OnOk result
-        (entries.new.items ≡ entries.old.items ++ entry_of waiting.entry term.now) }
+        (entries.new.items ≡ entries.old.items ++ entry_of_term waiting.entry term.now) }
 {
     match term {
         Term::String(text) => Ok(Some(*text)),

@@ -3,7 +3,7 @@
 ghost use Rattle.std.specs.Prelude.{◌≡◌, ◌≤◌, false, MatchResult};
 ghost use Rattle.resb_tree.specs.View.{tree_of};
 ghost use Rattle.resb_grammar.specs.Limit as limit;
-ghost use Rattle.resb_text.specs.Inner.Quota.{Takes, RunsOver};
+ghost use Rattle.resb_text.specs.Inner.Quota.{TakesBytes, RunsOver};
 
 use resb_tree::{NoMemory, Resource};
 
@@ -35,7 +35,7 @@ impl Quota {
     pub(crate) fn take(&mut self, bytes: u128) -> Result<(), NoMemory>
         requires { self.old.made ≤ self.old.limit }
         ensures { MatchResult result
-            (λ _. Takes self.old self.new bytes) (λ _. RunsOver self.old self.new bytes) }
+            (λ _. TakesBytes self.old self.new bytes) (λ _. RunsOver self.old self.new bytes) }
     {
         if bytes > u128::from(self.limit - self.made) {
             self.is_over = true;

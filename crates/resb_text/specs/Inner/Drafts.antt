@@ -32,12 +32,12 @@ key_after (variant.String s) = Some s
 key_after (variant.Group n) = None
 
 -- the entry that a term ends, where a key may wait: the key, and the number of the piece
-abbrev pub entry_of : Option (Bor (List ℕ)) → Term ℕ → List (Bor (List ℕ) × ℕ)
-entry_of waiting (variant.String s) = []
-entry_of (Some k) (variant.Group n) = (k, n) ∷ []
-entry_of None (variant.Group n) = []
+abbrev pub entry_of_term : Option (Bor (List ℕ)) → Term ℕ → List (Bor (List ℕ) × ℕ)
+entry_of_term waiting (variant.String s) = []
+entry_of_term (Some k) (variant.Group n) = (k, n) ∷ []
+entry_of_term None (variant.Group n) = []
 
 -- the entries of items, where a key may wait in front of them
 abbrev pub entries_after : Option (Bor (List ℕ)) → List (Item ℕ) → List (Bor (List ℕ) × ℕ)
 entries_after waiting [] = []
-entries_after waiting (x ∷ xs) = entry_of waiting x.term ++ entries_after (key_after x.term) xs
+entries_after waiting (x ∷ xs) = entry_of_term waiting x.term ++ entries_after (key_after x.term) xs

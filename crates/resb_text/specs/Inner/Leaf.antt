@@ -39,7 +39,7 @@ pub record LeafGroup (text : List ℕ) (at to : ℕ) (kind : Kind) (tree : Tree)
   pub closes : Closes text ends to
 
 -- the group, and its resource, whose strings are slices of the text
-pub record IsLeaf (text : List ℕ) (at to : ℕ) (kind : Kind) (r : Resource) : Type 0 where
+pub record IsReadLeaf (text : List ℕ) (at to : ℕ) (kind : Kind) (r : Resource) : Type 0 where
   pub group : LeafGroup text at to kind (tree_of r)
   pub borrowed : borrows_strings r ≡ true
 

@@ -15,7 +15,7 @@ pub record IsUnused (q : Quota) : Type 0 where
   pub over : q.is_over ≡ false
 
 -- so many bytes more are made, and no more than the limit is
-pub record Takes (p q : Quota) (bytes : ℕ) : Type 0 where
+pub record TakesBytes (p q : Quota) (bytes : ℕ) : Type 0 where
   pub same : q.limit ≡ p.limit
   pub made : q.made ≡ p.made + bytes
   pub within : q.made ≤ p.limit

@@ -47,9 +47,9 @@ pub record Among {B X : Type 0} (tree : B → X → Tree) (held : B → X → Bo
   pub keeps : KeepsQuota text limit q
 
 -- some reading does
-abbrev pub IsAmong : {B X : Type 0} → (B → X → Tree) → (B → X → Bool) → List ℕ → ℕ → Open B X
+abbrev pub IsAmongItems : {B X : Type 0} → (B → X → Tree) → (B → X → Bool) → List ℕ → ℕ → Open B X
     → Type 0
-IsAmong tree held text at c = (q : Quota) × Among tree held text q.limit at c q
+IsAmongItems tree held text at c = (q : Quota) × Among tree held text q.limit at c q
 
 -- each reading that stands at the one place among the one groups comes to the other, and makes
 -- nothing
@@ -65,9 +65,9 @@ pub record Stops (text : List ℕ) (limit : ℕ) (q : Quota) (e : TextParserErro
 
 -- a reading goes on from one place to another: fewer turns are counted and owed than 8 for each
 -- byte that it has looked at since
-abbrev pub Advances : {B X : Type 0} → List ℕ → ℕ → Ticks → Open B X → ℕ → Ticks → Open B X
+abbrev pub StepsOn : {B X : Type 0} → List ℕ → ℕ → Ticks → Open B X → ℕ → Ticks → Open B X
     → Type 0
-Advances text at t c next u d =
+StepsOn text at t c next u d =
     (at < next)
     × (u.count + owed d + 8 * reach text at + 1 ≤ t.count + owed c + 8 * reach text next)
 

@@ -9,8 +9,8 @@ Ticked before after turns = after.count ≡ min (before.count + turns) (2 ^ 64 -
 
 -- a reading goes on from one place to another: fewer turns are counted than 8 for each byte that it
 -- has looked at since, by so many at least
-abbrev pub Passes : List ℕ → ℕ → ℕ → Ticks → ℕ → Ticks → Type 0
-Passes text spare at t to u =
+abbrev pub Proceeds : List ℕ → ℕ → ℕ → Ticks → ℕ → Ticks → Type 0
+Proceeds text spare at t to u =
     (at < to) × (to ≤ length text)
     × (u.count + 8 * reach text at + spare ≤ t.count + 8 * reach text to)
 

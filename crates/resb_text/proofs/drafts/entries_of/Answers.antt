@@ -1,7 +1,7 @@
 use Rattle.std.proofs.Common.{[], ◌≡◌, ◌+◌, ◌++◌, ℕ, false, arith, sym, ◌∙◌, ap, drop, get_or}
 use Rattle.std.proofs.Common.{length, length-drop, append-nil, append_assoc}
 use Rattle.std.proofs.lemmas.List.{drop_more}
-use Rattle.resb_text.specs.Inner.Drafts.{entries_after, entry_of}
+use Rattle.resb_text.specs.Inner.Drafts.{entries_after, entry_of_term}
 use Rattle.resb_text.specs.declared.items.Item.{Item}
 use Rattle.resb_text.specs.declared.items.Term.{Term}
 use Rattle.resb_text.specs.declared.items.Term.TheVariants as terms
@@ -36,7 +36,7 @@ loop-item-preserved c =
     let rest = drop (at + 1) items in
     record {
       made = (λ j. listed.entries j ++ entries_after (listed.next j) rest)
-          ∙ append_assoc c.loop-item.entries.items (entry_of c.loop-item.waiting item.term) _
+          ∙ append_assoc c.loop-item.entries.items (entry_of_term c.loop-item.waiting item.term) _
           ∙ ap (λ xs. c.loop-item.entries.items ++ entries_after c.loop-item.waiting xs) (sym split)
           ∙ i.made;
     }

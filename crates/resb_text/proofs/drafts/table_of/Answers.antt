@@ -12,7 +12,7 @@ use Rattle.resb_text.specs.Inner.Drafts.{piece_item_seen, entries_seen, entries_
 use Rattle.resb_text.specs.Inner.Shown.{shown_pairs}
 use Rattle.resb_text.proofs.Growing.{grown_items}
 use Rattle.resb_text.proofs.PieceItems.{entries_whole, items_whole, own_ascend, table_shown}
-use Rattle.resb_text.proofs.PieceItems.{behind, front}
+use Rattle.resb_text.proofs.Lists.{drop_to_put, take_before_put}
 use Rattle.resb_text.proofs.drafts.table_of.Goals as goal
 
 on_ok : {T E : Type 0} {P : Type 0} (r : Result T E) → P → OnOk r P
@@ -29,9 +29,10 @@ returns-then-ascend-clause-made c = λ h.
     let pushed = c.in_ok-push_entries.ensures in
     let keeps = agrees_keeps old mid (grown old mid
     (more_entries old mid _ _ (ap (λ v. v.items) pushed.pieces) pushed.members pushed.keys)) in
-    let own = behind old.members.items (map (λ (e : Bor (List ℕ) × ℕ). e.1) es) mid.members.items
+    let own = drop_to_put old.members.items (map (λ (e : Bor (List ℕ) × ℕ). e.1) es)
+    mid.members.items
     c.len-first_member.result (c.len-first_member.ensures ∙ old.members.ok.0) pushed.members in
-    let names = behind old.keys.items (map (λ (e : Bor (List ℕ) × ℕ). e.0) es) mid.keys.items
+    let names = drop_to_put old.keys.items (map (λ (e : Bor (List ℕ) × ℕ). e.0) es) mid.keys.items
     c.len-first_key.result (c.len-first_key.ensures ∙ old.keys.ok.0) pushed.keys in
     let ascends = own_ascend (drop c.len-first_key.result mid.keys.items) es names
     (ap (λ l. texts_ascend (texts (drop c.len-first_key.result l))) (sym c.deref.ensures.value)
@@ -73,10 +74,10 @@ returns-clause-made c = λ h.
     let new = c.sorted_table_of.new.draft in
     let keeps = agrees_keeps old cut (grown old cut
     (more_entries old cut [] [] (ap (λ v. v.items) pushed.pieces)
-    (c.truncate.ensures.items ∙ front old.members.items _ mid.members.items
+    (c.truncate.ensures.items ∙ take_before_put old.members.items _ mid.members.items
     c.len-first_member.result (c.len-first_member.ensures ∙ old.members.ok.0) pushed.members
     ∙ sym (append-nil old.members.items))
-    (c.truncate-2.ensures.items ∙ front old.keys.items _ mid.keys.items
+    (c.truncate-2.ensures.items ∙ take_before_put old.keys.items _ mid.keys.items
     c.len-first_key.result (c.len-first_key.ensures ∙ old.keys.ok.0) pushed.keys
     ∙ sym (append-nil old.keys.items)))) in
     let same = grown_items tree_at is_whole old cut keeps items h in

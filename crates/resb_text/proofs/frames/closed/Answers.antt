@@ -26,7 +26,8 @@ returns-in-Array-clause-left g c = λ n f e.
 
 pub returns-in-String-clause-ok : goal.returns-in-String-clause-ok
 returns-in-String-clause-ok g c =
-    closed_made g.B.Build.tree g.B.Build.held _ c.args.build.now c.string.new.self c.args.frame.now _
+    closed_made g.B.Build.tree g.B.Build.held _ c.args.build.now c.string.new.self
+    c.args.frame.now _
     (c.in-String.ensures _ _)
     (λ h. c.string.ensures.made)
 

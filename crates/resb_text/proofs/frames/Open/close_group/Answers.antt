@@ -27,7 +27,8 @@ returns-clause-shows g c =
     shows_close c.args.self.now _ o c.in-Some.outer made x h
     c.in_ok-made.ensures.build
     c.in-Some.ensures.items
-    (subst (λ (f : Frame _). Pushes (tree after) (held after) f c.push-2.new.self (Group made)) outer
+    (subst (λ (f : Frame _). Pushes (tree after) (held after) f c.push-2.new.self (Group made))
+    outer
     (pushed (tree after) (held after)))
     (subst (λ (f : Frame _). (n : ℕ) (k : machine.Frame)
     → view_of_code (tree before) (held before) f ≡ view_of_frame (with_number n k)

@@ -1,7 +1,7 @@
 use Rattle.std.proofs.lemmas.Result.{err_from_is_err_and}
 use Rattle.resb_icu_grammar.proofs.RestRoot.{root_follows}
 use Rattle.resb_icu_text.proofs.ReadingLemmas.{header_refused, root_refused, refused_is_no_text}
-use Rattle.resb_icu_text.proofs.reader.IcuReader.read_counted.Goals as goal
+use Rattle.resb_icu_text.proofs.reader.read_bundle.Goals as goal
 
 pub returns-in_err-root-clause-err : goal.returns-in_err-root-clause-err
 returns-in_err-root-clause-err c =

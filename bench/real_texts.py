@@ -5,7 +5,8 @@
     real_texts.py --make FOLDER           writes the texts there, and times nothing
     real_texts.py --turns N ..            the least of N runs, in place of five
 
-`--program PATH` in front of these times another program; it may be given more than once. The texts
+`--program PATH` in front of these times another program; it may be given more than once. `--icu
+PATH` times the program `resb` with `compile --icu`, which reads ICU's own form of text. The texts
 are made of the files that the installed ICU library holds: each is cut out of libicudata, printed
 by ICU's `derb`, and put as a table into one text for its kind, with its keys in quotes. Aliases,
 and backslashes and quotes in strings, are left out, so that both programs read the same. Nothing of
@@ -118,7 +119,9 @@ def main(words):
     while words:
         word = words.pop(0)
         if word == '--program':
-            programs.append(words.pop(0))
+            programs.append([words.pop(0), 'compile', 'TEXT', 'FILE'])
+        elif word == '--icu':
+            programs.append([words.pop(0), 'compile', '--icu', 'TEXT', '-d', 'FOLDER'])
         elif word == '--turns':
             turns = int(words.pop(0))
         elif word == '--make':
@@ -140,10 +143,11 @@ def main(words):
             beside, most, status = least(['genrb', '-q', '-d', temporary, str(path)], turns)
             print(f'{name}, {os.path.getsize(path) / 1e6:.1f} MB: genrb {beside:.0f} ms, '
                   f'{most / 1e6:.0f} MB' + (f', status {status}' if status else ''))
-            for program in programs or [PROGRAM]:
-                took, memory, status = least(
-                    [program, 'compile', str(path), str(folder / 'out.res')], turns)
-                print(f'    {program}: {took:.0f} ms (x {took / beside:.2f}), '
+            places = {'TEXT': path, 'FILE': folder / 'out.res', 'FOLDER': folder}
+            for program in programs or [[PROGRAM, 'compile', 'TEXT', 'FILE']]:
+                command = [str(places.get(word, word)) for word in program]
+                took, memory, status = least(command, turns)
+                print(f'    {" ".join(program)}: {took:.0f} ms (x {took / beside:.2f}), '
                       f'{memory / 1e6:.0f} MB (x {memory / most:.2f})'
                       + (f', status {status}' if status else ''))
 

@@ -53,20 +53,6 @@ impl<'a> Draft<'a> {
         self.push(Piece::Leaf(Box::new(alloc, resource)?))
     }
 
-    /// The array of the pieces of these numbers.
-    pub fn push_array(&mut self, members: &[u32]) -> Result<u32, NoMemory>
-        ensures made { all_true (map (is_whole self.old) members.now) ≡ true → IfOk result
-            (λ n. IsMade self.new n (array (trees_of (map (tree_at self.old) members.now)))) }
-        ensures keeps { Keeps self.old self.new }
-    {
-        let part = Members {
-            from: number(self.members.len())?,
-            count: number(members.len())?,
-        };
-        self.members.extend_from_slice(members)?;
-        self.push(Piece::Array(part))
-    }
-
     /// One member more, which `end_array` puts into an array.
     pub fn push_member(&mut self, member: u32) -> Result<(), NoMemory>
         ensures members { OnOk result

@@ -25,9 +25,11 @@ pub second_unit_missing : (bs : List ℕ) (u first : ℕ) → 0xdfee < first →
 second_unit_missing bs u first g h k = grind (arith, nat_tests, units_length bs)
 
 -- the third unit of a marker is missing
-pub third_unit_missing : (bs : List ℕ) (u first : ℕ) → 0xdffe < first → first ≤ 0xdfff → length bs / 2 ≤ u + 2
-    → string_from (units_of bs) u first ≡ None
+pub third_unit_missing : (bs : List ℕ) (u first : ℕ) → 0xdffe < first → first ≤ 0xdfff
+    → length bs / 2 ≤ u + 2 → string_from (units_of bs) u first ≡ None
 third_unit_missing bs u first g h k = grind (arith, nat_tests, units_length bs)
+
+pub ruleset marker_unit_missing = (second_unit_missing, third_unit_missing)
 
 -- a string that a 0 ends
 pub ends_at_zero : (us : List ℕ) → position_or_len (λ x. nat_eq x 0) us < length us

@@ -38,7 +38,7 @@ pub fn string_at(block: &[u8], unit: usize) -> Result<Utf16View<'_>, BinaryDeser
 }
 
 /// The string after the marker that begins with this unit.
-#[tactic(auto, using(crate::proofs::StringsIn::second_unit_missing, crate::proofs::StringsIn::third_unit_missing))]
+#[tactic(auto, using(crate::proofs::StringsIn::marker_unit_missing))]
 fn marked(block: &[u8], unit: usize, first: u16) -> Result<Utf16View<'_>, BinaryDeserializerError>
     requires inside { unit < length block.now / 2 }
     requires marker { 0xdc00 ≤ first }

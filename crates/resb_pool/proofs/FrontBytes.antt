@@ -97,7 +97,8 @@ not_before : (x y : Record) → IsFronted x → IsFronted y
 not_before x y h k e = three_ways (is_lt (text_cmp x y) ≡ false) x.front y.front
     (λ f. absurd (less_is_first (nat_cmp x.front y.front) (text_cmp x y) f e))
     (λ f. sym (ap is_lt (ap (λ z. ordering_then (nat_cmp x.front z) (text_cmp x y)) (sym f)
-    ∙ ordering_then_equal (nat_cmp x.front x.front) (text_cmp x y) (tied_itself nat_cmp_total x.front))) ∙ e)
+    ∙ ordering_then_equal (nat_cmp x.front x.front) (text_cmp x y)
+    (tied_itself nat_cmp_total x.front))) ∙ e)
     (λ m. greater_is_not_before (slice_cmp nat_cmp x.text.now y.text.now) (nat_cmp x.index y.index)
     (nat_list_cmp_total.antisymm x.text.now y.text.now
     ∙ ap ordering_reverse (order_of 8 0 y.text.now x.text.now k.bytes h.bytes
@@ -107,5 +108,6 @@ pub in_order : (rs : List Record) → All IsFronted rs → IsSorted fronted_cmp 
     → IsSorted record_cmp rs
 in_order rs fronted up k d l m =
     let x = get_or rs (k + 1) d in let y = get_or rs k d in
-    ordering_then_not_before (nat_cmp x.unit_count y.unit_count) _ _ (ordering_then_not_before (nat_cmp y.saved.0 x.saved.0) _ _
+    ordering_then_not_before (nat_cmp x.unit_count y.unit_count) _ _
+    (ordering_then_not_before (nat_cmp y.saved.0 x.saved.0) _ _
     (not_before x y (fronted (k + 1) d m) (fronted k d (omega (arith, m))))) (up k d l m)

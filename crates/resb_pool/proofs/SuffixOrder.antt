@@ -44,8 +44,8 @@ tied_same [] (y ∷ ys) e = cc
 tied_same (x ∷ xs) [] e = cc
 tied_same (x ∷ xs) (y ∷ ys) e = elim (cmp_both_ways x y) [
   | inl h ↦ cc (ordering_then_less (nat_cmp x y) (end_last_cmp xs ys) h.0)
-  | inr (inl h) ↦ (let k = tied_same xs ys (sym (ordering_then_equal (nat_cmp x y) (end_last_cmp xs ys) h.0)
-      ∙ e) in cc)
+  | inr (inl h) ↦ (let k = tied_same xs ys
+      (sym (ordering_then_equal (nat_cmp x y) (end_last_cmp xs ys) h.0) ∙ e) in cc)
   | inr (inr h) ↦ cc (ordering_then_greater (nat_cmp x y) (end_last_cmp xs ys) h.0)
 ]
 

@@ -7,8 +7,8 @@ use Rattle.resb_pool.specs.Pool.{record_units}
 use Rattle.resb_pool.specs.Inner.Placing.{record_texts}
 use Rattle.resb_pool.specs.declared.records.Record.{Record}
 use Rattle.resb_pool.proofs.TextLoops.{blank}
-use Rattle.resb_pool.proofs.InOrder.{length-records, texts-take, ends_put, closes_at, units_up_to_record}
-use Rattle.resb_pool.proofs.InOrder.{records-push}
+use Rattle.resb_pool.proofs.InOrder.{length-records, texts-take, ends_put, closes_at}
+use Rattle.resb_pool.proofs.InOrder.{units_up_to_record, records-push}
 use Rattle.resb_pool.proofs.records.lay.Goals as goal
 
 abbrev no_record : Record

@@ -2,6 +2,7 @@
 use Rattle.std.proofs.Common.{◌≡◌, ℕ, ◌+◌, ◌-◌, ◌<◌, Bool, true, List, [], ◌∷◌, ◌++◌, Bor}
 use Rattle.std.proofs.Common.{BTreeMap, arith, length, take, get_or}
 use Rattle.std.proofs.lemmas.List.{take_more, map_push}
+use Rattle.std.proofs.lemmas.Simd.{map-map}
 use Rattle.std.proofs.Common.{Less, map, refl, sym, ap, ◌∙◌, subst}
 use Rattle.std.proofs.lemmas.Bool.{and_from, and_parts}
 use Rattle.std.specs.BTreeMap.{is_at, IsFromIterResult}
@@ -18,7 +19,7 @@ use Rattle.resb_tree.proofs.AtOnce.{inserted, made_entries, inserted_seen, inser
 use Rattle.resb_tree.proofs.AtOnce.{seen_by, values_pass}
 use Rattle.resb_tree.proofs.MapsLemmas.{map_of-sorted}
 use Rattle.resb_tree.proofs.Numbers.{is_lt_tells}
-use Rattle.resb_draft.specs.Drafts.{texts_ascend}
+use Rattle.resb_draft.specs.Drafts.{texts, texts_ascend}
 use Rattle.resb_draft.specs.Inner.Entries.{keys_ascend, slice_order}
 use Rattle.resb_draft.proofs.Lists.{ascend_on}
 
@@ -31,23 +32,31 @@ abbrev pub seen : (ℕ → Tree) → List (Bor (List ℕ) × ℕ) → List (List
 seen tree ps = map (λ p. (p.0.now, tree p.1)) ps
 
 -- keys that ascend do so with one more behind the last, which is less
-pub ascend_more : (es : List (Bor (List ℕ) × ℕ)) (i : ℕ) (d e : Bor (List ℕ) × ℕ) → 0 < i
-    → i < length es → keys_ascend (take i es) ≡ true
-    → is_lt (text_cmp (get_or es (i - 1) d).0.now (get_or es i e).0.now) ≡ true
-    → keys_ascend (take (i + 1) es) ≡ true
-ascend_more es i d e some few h less =
-    let key : Bor (List ℕ) × ℕ → List ℕ = λ p. p.0.now in
+pub keys_more : (ks : List (Bor (List ℕ))) (i : ℕ) (d e : Bor (List ℕ)) → 0 < i
+    → i < length ks → texts_ascend (texts (take i ks)) ≡ true
+    → is_lt (text_cmp (get_or ks (i - 1) d).now (get_or ks i e).now) ≡ true
+    → texts_ascend (texts (take (i + 1) ks)) ≡ true
+keys_more ks i d e some few h less =
+    let now : Bor (List ℕ) → List ℕ = λ b. b.now in
     let one : i - 1 + 1 ≡ i = omega (arith, some) in
-    let front = take (i - 1) es in
-    let last = get_or es (i - 1) d in
-    let next = get_or es i e in
-    let is : map key (take i es) ≡ map key front ++ key last ∷ [] =
-    ap (λ n. map key (take n es)) (sym one)
-    ∙ ap (map key) (take_more es (i - 1) d (omega (arith, few)))
-    ∙ map_push key front last in
-    ap (λ l. texts_ascend (map key l)) (take_more es i e few)
-    ∙ ap texts_ascend (map_push key (take i es) next ∙ ap (λ l. l ++ key next ∷ []) is)
-    ∙ ascend_on (map key front) (key last) (key next) (ap texts_ascend (sym is) ∙ h) less
+    let front = take (i - 1) ks in
+    let last = get_or ks (i - 1) d in
+    let next = get_or ks i e in
+    let is : map now (take i ks) ≡ map now front ++ now last ∷ [] =
+    ap (λ n. map now (take n ks)) (sym one)
+    ∙ ap (map now) (take_more ks (i - 1) d (omega (arith, few)))
+    ∙ map_push now front last in
+    ap (λ l. texts_ascend (map now l)) (take_more ks i e few)
+    ∙ ap texts_ascend (map_push now (take i ks) next ∙ ap (λ l. l ++ now next ∷ []) is)
+    ∙ ascend_on (map now front) (now last) (now next) (ap texts_ascend (sym is) ∙ h) less
+
+-- the keys of entries ascend where they do among a draft's keys
+pub own_ascend : (ks : List (Bor (List ℕ))) (es : List (Bor (List ℕ) × ℕ))
+    → ks ≡ map (λ e. e.0) es → texts_ascend (texts ks) ≡ true → keys_ascend es ≡ true
+own_ascend ks es is h =
+    let now : Bor (List ℕ) → List ℕ = λ b. b.now in
+    let key : Bor (List ℕ) × ℕ → Bor (List ℕ) = λ e. e.0 in
+    ap texts_ascend (sym (map-map now key es)) ∙ ap (λ l. texts_ascend (texts l)) (sym is) ∙ h
 
 below_all : (k l : List ℕ) (ks : List (List ℕ)) → text_cmp k l ≡ Less
     → AllByRecursion (λ y. text_cmp l y ≡ Less) ks → AllByRecursion (λ y. text_cmp k y ≡ Less) ks

@@ -5,3 +5,4 @@ mod Made
 pub mod Whole
 mod InOrder
 pub mod EntriesLemmas
+mod EntriesBehind

@@ -8,7 +8,7 @@ use Rattle.std.proofs.lemmas.Bool.{and_from, and_parts}
 use Rattle.std.proofs.lemmas.List.{take-append-le, drop-append-le, take_all, map-append}
 use Rattle.std.proofs.lemmas.List.{reverse-append, map_push, take-map, drop-map}
 use Rattle.std.proofs.lemmas.List.{take-append-drop}
-use Rattle.std.proofs.Math.Seq.{drop-append_seam, drop-nil}
+use Rattle.std.proofs.Math.Seq.{drop-append_seam, take-append_seam, drop-nil}
 use Rattle.std.specs.Ordering.{is_lt}
 use Rattle.resb_tree.specs.Borrowing.{all_true}
 use Rattle.resb_tree.specs.Maps.{text_cmp}
@@ -124,3 +124,13 @@ ascend_on (p ∷ []) k q h e =
 ascend_on (p ∷ r ∷ front) k q h e =
     let both = and_parts (is_lt (text_cmp p r)) _ h in
     and_from _ _ both.0 (ascend_on (r ∷ front) k q both.1 e)
+
+-- what was put behind a list
+pub drop_to_put : {X : Type 0} (xs ys all : List X) (n : ℕ) → n ≡ length xs → all ≡ xs ++ ys
+    → drop n all ≡ ys
+drop_to_put xs ys all n at is = (λ i. drop (at i) (is i)) ∙ drop-append_seam xs ys
+
+-- the list that it was put behind
+pub take_before_put : {X : Type 0} (xs ys all : List X) (n : ℕ) → n ≡ length xs → all ≡ xs ++ ys
+    → take n all ≡ xs
+take_before_put xs ys all n at is = (λ i. take (at i) (is i)) ∙ take-append_seam xs ys

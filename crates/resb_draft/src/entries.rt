@@ -4,6 +4,7 @@ ghost use Rattle.std.specs.Prelude.{◌≡◌, true, map, IfOk, IsTrue, ℕ, Boo
 ghost use Rattle.std.specs.BTreeMap.{IsFromIterResult};
 ghost use Rattle.resb_tree.specs.Borrowing.{all_true};
 ghost use Rattle.resb_tree.specs.Tree.{Tree, entries_of, map_of};
+ghost use Rattle.resb_draft.specs.Drafts.{texts, texts_ascend};
 ghost use Rattle.resb_draft.specs.Inner.Entries.{keys_ascend, slice_order};
 
 use resb_tree::NoMemory;
@@ -11,11 +12,11 @@ use std::alloc::Global;
 use std::collections::BTreeMap;
 
 /// Whether the keys ascend strictly.
-pub(crate) fn ascend(entries: &[(&str, u32)]) -> bool
-    ensures { IsTrue result → keys_ascend entries.now ≡ true }
+pub(crate) fn ascend(keys: &[&str]) -> bool
+    ensures { IsTrue result → texts_ascend (texts keys.now) ≡ true }
 {
-    for at in 1..entries.len() {
-        if !entries[at - 1].0.cmp(entries[at].0).is_lt() {
+    for at in 1..keys.len() {
+        if !keys[at - 1].cmp(keys[at]).is_lt() {
             return false;
         }
     }

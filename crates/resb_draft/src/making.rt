@@ -6,9 +6,9 @@ ghost use Rattle.std.specs.Borrow.{Bor};
 ghost use Rattle.resb_tree.specs.Borrowing.{all_true};
 ghost use Rattle.resb_tree.specs.Tree.{string, array, table, trees_of, entries_of, map_of};
 ghost use Rattle.resb_tree.specs.View.{tree_of};
-ghost use Rattle.resb_draft.specs.Drafts.{texts, texts_ascend, is_leaf, nothing};
+ghost use Rattle.resb_draft.specs.Drafts.{texts, is_leaf, nothing};
 ghost use Rattle.resb_draft.specs.Drafts.{piece_meaning, pieces_stand, tree_at, is_whole};
-ghost use Rattle.resb_draft.specs.Drafts.{IsMade, Keeps};
+ghost use Rattle.resb_draft.specs.Drafts.{IsMade, Keeps, HasEntries};
 ghost use Rattle.resb_draft.specs.Inner.Entries.{keys_ascend};
 
 use crate::draft::{Draft, Members, Piece};
@@ -91,14 +91,41 @@ impl<'a> Draft<'a> {
         Ok(())
     }
 
-    /// The table of the entries behind the first so many members and keys, where their keys ascend.
-    pub fn end_table(&mut self, first_member: usize, first_key: usize) -> Result<u32, NoMemory>
+    /// The table of the entries behind the first so many members and keys. A later entry of an
+    /// equal key replaces the earlier one. Where keys don't ascend, the entries are taken away, and
+    /// put there again in order.
+    pub fn end_table(
+        &mut self,
+        alloc: Global,
+        first_member: usize,
+        first_key: usize,
+    ) -> Result<u32, NoMemory>
+        requires { (before : Draft) × (ps : List (Bor (List ℕ) × ℕ))
+            × HasEntries before first_member first_key ps self.old }
+        ensures made { (before : Draft) (ps : List (Bor (List ℕ) × ℕ))
+            → HasEntries before first_member first_key ps self.old
+            → all_true (map (λ p. is_whole before p.1) ps) ≡ true
+            → IfOk result (λ n. IsMade self.new n
+            (table (map_of (map (λ p. (p.0.now, tree_at before p.1)) ps)))) }
+        ensures keeps { (before : Draft) (ps : List (Bor (List ℕ) × ℕ))
+            → HasEntries before first_member first_key ps self.old → Keeps before self.new }
+    {
+        if ascend(&self.keys[first_key..]) {
+            return self.end_ascending(first_member, first_key);
+        }
+        let entries = self.take_entries(alloc, first_member, first_key)?;
+        let entries = in_key_order(alloc, entries)?;
+        self.push_entries(&entries)
+    }
+
+    /// The table of the entries behind the first so many members and keys, whose keys ascend.
+    fn end_ascending(&mut self, first_member: usize, first_key: usize) -> Result<u32, NoMemory>
         requires members { first_member ≤ length self.old.members.items }
         requires keys { first_key ≤ length self.old.keys.items }
         ensures made { (ps : List (Bor (List ℕ) × ℕ))
             → drop first_member self.old.members.items ≡ map (λ p. p.1) ps
             → drop first_key self.old.keys.items ≡ map (λ p. p.0) ps
-            → texts_ascend (map (λ p. p.0.now) ps) ≡ true
+            → keys_ascend ps ≡ true
             → all_true (map (λ p. is_whole self.old p.1) ps) ≡ true
             → IfOk result (λ n. IsMade self.new n
             (table (entries_of (map (λ p. (p.0.now, tree_at self.old p.1)) ps)))) }
@@ -112,24 +139,29 @@ impl<'a> Draft<'a> {
         self.push(Piece::Table(part, first_key))
     }
 
-    /// The table of these entries, the keys and the numbers of the values. A later entry of an
-    /// equal key replaces the earlier one.
-    pub fn push_table(
+    /// Takes the entries behind the first so many members and keys away.
+    fn take_entries(
         &mut self,
         alloc: Global,
-        entries: Vec<(&'a str, u32)>,
-    ) -> Result<u32, NoMemory>
-        ensures made { let ps = entries.entry.items in
-            all_true (map (λ p. is_whole self.old p.1) ps) ≡ true → IfOk result
-            (λ n. IsMade self.new n
-            (table (map_of (map (λ p. (p.0.now, tree_at self.old p.1)) ps)))) }
-        ensures keeps { Keeps self.old self.new }
+        first_member: usize,
+        first_key: usize,
+    ) -> Result<Vec<(&'a str, u32)>, NoMemory>
+        requires { (before : Draft) × (ps : List (Bor (List ℕ) × ℕ))
+            × HasEntries before first_member first_key ps self.old }
+        ensures taken { (before : Draft) (ps : List (Bor (List ℕ) × ℕ))
+            → HasEntries before first_member first_key ps self.old → IfOk result
+            (λ v. (v.items ≡ ps) × (pieces_stand self.new ≡ pieces_stand before)) }
+        ensures keeps { (before : Draft) (ps : List (Bor (List ℕ) × ℕ))
+            → HasEntries before first_member first_key ps self.old → Keeps before self.new }
     {
-        if ascend(&entries) {
-            return self.push_entries(&entries);
+        let mut entries = Vec::with_capacity(alloc, self.keys.len() - first_key)?;
+        for at in first_key..self.keys.len() {
+            let member = self.members[first_member + (at - first_key)];
+            entries.push((self.keys[at], member))?;
         }
-        let entries = in_key_order(alloc, entries)?;
-        self.push_entries(&entries)
+        self.members.truncate(first_member);
+        self.keys.truncate(first_key);
+        Ok(entries)
     }
 
     /// The table of these entries.

@@ -42,13 +42,3 @@ some_is (Some x) b h = ap Some (eqb-true x b (flip (eqb x b) h))
     flip : (c : Bool) → not c ≡ false → c ≡ true
     flip true e = refl
     flip false e = absurd (false≢true (sym e))
-
--- what was put behind a list
-pub drop_to_put : {X : Type 0} (xs ys all : List X) (n : ℕ) → n ≡ length xs → all ≡ xs ++ ys
-    → drop n all ≡ ys
-drop_to_put xs ys all n at is = (λ i. drop (at i) (is i)) ∙ drop-append_seam xs ys
-
--- the list that it was put behind
-pub take_before_put : {X : Type 0} (xs ys all : List X) (n : ℕ) → n ≡ length xs → all ≡ xs ++ ys
-    → take n all ≡ xs
-take_before_put xs ys all n at is = (λ i. take (at i) (is i)) ∙ take-append_seam xs ys

@@ -1,29 +1,21 @@
 -- Items whose groups are pieces of a draft, while the draft grows.
 use Rattle.std.proofs.Common.{◌≡◌, ℕ, Bool, true, List, [], ◌∷◌, ◌++◌, map, refl, sym, ◌∙◌, ap}
-use Rattle.std.proofs.Common.{append_assoc, append-nil, arith, Bor, length, take, drop, get_or}
-use Rattle.std.proofs.Common.{◌+◌, ◌-◌, ◌<◌}
-use Rattle.std.specs.Ordering.{is_lt}
+use Rattle.std.proofs.Common.{append_assoc, append-nil, arith, Bor, length}
 use Rattle.std.specs.Prelude.{Option, Some, None}
-use Rattle.std.proofs.lemmas.Simd.{map-map}
 use Rattle.std.proofs.lemmas.Bool.{and_from, and_parts}
-use Rattle.std.proofs.lemmas.List.{map_push, map-append, take_more}
+use Rattle.std.proofs.lemmas.List.{map_push, map-append}
 use Rattle.resb_tree.specs.Borrowing.{all_true}
-use Rattle.resb_tree.specs.Maps.{text_cmp}
-use Rattle.resb_tree.specs.Tree.{table, entries_of, map_of}
-use Rattle.resb_draft.specs.Drafts.{tree_at, is_whole, texts, texts_ascend, Keeps, IsMade}
+use Rattle.resb_draft.specs.Drafts.{tree_at, is_whole, Keeps}
 use Rattle.resb_draft.specs.declared.draft.Draft.{Draft}
-use Rattle.resb_draft.specs.Inner.Entries.{keys_ascend}
-use Rattle.resb_draft.proofs.EntriesLemmas.{ascending_map}
-use Rattle.resb_draft.proofs.Lists.{all_append, ascend_on}
+use Rattle.resb_draft.proofs.Lists.{all_append}
 use Rattle.resb_text.specs.Inner.Build.{Represents}
 use Rattle.resb_text.specs.Inner.Drafts.{piece_term_seen, piece_item_seen, entries_seen, are_whole}
 use Rattle.resb_text.specs.Inner.Drafts.{key_after, entry_of_term, entries_after}
-use Rattle.resb_text.specs.Inner.Shown.{shown_tree, shown_borrowed, shown_pairs, pairs_after}
+use Rattle.resb_text.specs.Inner.Shown.{shown_tree, shown_borrowed, pairs_after}
 use Rattle.resb_text.specs.Inner.Shown.{waiting_key}
 use Rattle.resb_text.specs.declared.items.Item.{Item}
 use Rattle.resb_text.specs.declared.items.Term.{Term}
 use Rattle.resb_text.specs.declared.items.Term.TheVariants as terms
-use Rattle.resb_text.proofs.Growing.{grown_items}
 
 -- a term that is whole shows the same tree, whole still
 pub term_on : (old new : Draft) → Keeps old new → (m : Term ℕ) (f : Bool)
@@ -152,53 +144,3 @@ pushed_more part old new waiting next x left rest split is more =
     ∙ ap (λ es. old ++ es)
     (sym (map-append part (entry_of_term waiting x.term) (entries_after (key_after x.term) rest)))
     ∙ ap (λ xs. old ++ map part (entries_after waiting xs)) (sym split)
-
--- keys that ascend do so with one more behind the last, which is less
-pub keys_more : (ks : List (Bor (List ℕ))) (i : ℕ) (d e : Bor (List ℕ)) → 0 < i
-    → i < length ks → texts_ascend (texts (take i ks)) ≡ true
-    → is_lt (text_cmp (get_or ks (i - 1) d).now (get_or ks i e).now) ≡ true
-    → texts_ascend (texts (take (i + 1) ks)) ≡ true
-keys_more ks i d e some few h less =
-    let now : Bor (List ℕ) → List ℕ = λ b. b.now in
-    let one : i - 1 + 1 ≡ i = omega (arith, some) in
-    let front = take (i - 1) ks in
-    let last = get_or ks (i - 1) d in
-    let next = get_or ks i e in
-    let is : map now (take i ks) ≡ map now front ++ now last ∷ [] =
-    ap (λ n. map now (take n ks)) (sym one)
-    ∙ ap (map now) (take_more ks (i - 1) d (omega (arith, few)))
-    ∙ map_push now front last in
-    ap (λ l. texts_ascend (map now l)) (take_more ks i e few)
-    ∙ ap texts_ascend (map_push now (take i ks) next ∙ ap (λ l. l ++ now next ∷ []) is)
-    ∙ ascend_on (map now front) (now last) (now next) (ap texts_ascend (sym is) ∙ h) less
-
--- the keys of entries ascend where they do among a draft's keys
-pub own_ascend : (ks : List (Bor (List ℕ))) (es : List (Bor (List ℕ) × ℕ))
-    → ks ≡ map (λ e. e.0) es → texts_ascend (texts ks) ≡ true → keys_ascend es ≡ true
-own_ascend ks es is h =
-    let now : Bor (List ℕ) → List ℕ = λ b. b.now in
-    let key : Bor (List ℕ) × ℕ → Bor (List ℕ) = λ e. e.0 in
-    ap texts_ascend (sym (map-map now key es)) ∙ ap (λ l. texts_ascend (texts l)) (sym is) ∙ h
-
--- items that are whole are so in a draft that grows
-pub items_whole : (old new : Draft) → Keeps old new → (xs : List (Item ℕ))
-    → all_true (map shown_borrowed (map (piece_item_seen old) xs)) ≡ true
-    → all_true (map shown_borrowed (map (piece_item_seen new) xs)) ≡ true
-items_whole old new k xs h =
-    ap (λ ys. all_true (map shown_borrowed ys)) (grown_items tree_at is_whole old new k xs h) ∙ h
-
--- the table of items whose keys ascend
-pub table_shown : (old mid new : Draft) (xs : List (Item ℕ)) (n : ℕ) → Keeps old mid
-    → all_true (map shown_borrowed (map (piece_item_seen old) xs)) ≡ true
-    → keys_ascend (entries_after None xs) ≡ true
-    → IsMade new n (table (entries_of (entries_seen mid (entries_after None xs))))
-    → Represents tree_at is_whole new n
-    (table (map_of (shown_pairs (map (piece_item_seen old) xs))))
-table_shown old mid new xs n k h ascend made = (
-  made.0
-      ∙ ap table (ascending_map (tree_at mid) (entries_after None xs) ascend)
-      ∙ ap (λ es. table (map_of es))
-      (entries_show mid None xs
-      ∙ ap shown_pairs (grown_items tree_at is_whole old mid k xs h)),
-  made.1,
-)

@@ -4,7 +4,7 @@ ghost use Rattle.std.specs.Prelude.{true, ◌≡◌, ◌+◌, ◌-◌, ◌<◌, 
 ghost use Rattle.std.specs.Prelude.{Bool, [], ◌∷◌, ◌++◌, None, IsTrue};
 ghost use Rattle.resb_tree.specs.Borrowing.{all_true};
 ghost use Rattle.resb_tree.specs.Tree.{Tree, array, table, trees_of, map_of};
-ghost use Rattle.resb_draft.specs.Drafts.{tree_at, is_whole, texts, texts_ascend, Keeps};
+ghost use Rattle.resb_draft.specs.Drafts.{tree_at, is_whole, Keeps};
 ghost use Rattle.resb_text.specs.Inner.Build.{Represents, Grows};
 ghost use Rattle.resb_text.specs.Inner.Drafts.{piece_term_seen, piece_item_seen};
 ghost use Rattle.resb_text.specs.Inner.Drafts.{key_after, entry_of_term, entries_after};
@@ -167,72 +167,8 @@ fn push_entries<'a>(
     Ok(())
 }
 
-/// Whether the keys ascend strictly.
-fn ascend(keys: &[&str]) -> bool
-    ensures { IsTrue result → texts_ascend (texts keys.now) ≡ true }
-{
-    for at in 1..keys.len() {
-        if !keys[at - 1].cmp(keys[at]).is_lt() {
-            return false;
-        }
-    }
-    true
-}
-
-/// Lists the entry of a group, if a key waits for one. Gives the key that waits from here on.
-fn list_term<'a>(
-    entries: &mut Vec<(&'a str, u32)>,
-    waiting: Option<&'a str>,
-    term: &Term<'a, u32>,
-) -> Result<Option<&'a str>, NoMemory>
-    ensures next { IfOk result (λ next. next ≡ key_after term.now) }
-    ensures entries { OnOk result
-        (entries.new.items ≡ entries.old.items ++ entry_of_term waiting.entry term.now) }
-{
-    match term {
-        Term::String(text) => Ok(Some(*text)),
-        Term::Group(number) => {
-            if let Some(key) = waiting {
-                entries.push((key, *number))?;
-            }
-            Ok(None)
-        }
-    }
-}
-
-/// The entries of these items, which are a key, a group and so on: keys and the numbers of the
-/// groups' pieces.
-fn entries_of<'a>(alloc: Global, items: &[Item<'a, u32>]) -> Result<Vec<(&'a str, u32)>, NoMemory>
-    ensures { IfOk result (λ v. v.items ≡ entries_after None items.now) }
-{
-    let mut entries = Vec::with_capacity(alloc, items.len() / 2)?;
-    let mut waiting: Option<&'a str> = None;
-    for item in items {
-        waiting = list_term(&mut entries, waiting, &item.term)?;
-    }
-    Ok(entries)
-}
-
-/// The table of these items, as `table_of` says, whose keys may stand in any order. As of the sort
-/// itself, no turns are counted of what is listed for it: the items were counted before.
-#[inline(never)]
-fn sorted_table_of<'a>(
-    alloc: Global,
-    draft: &mut Draft<'a>,
-    items: &[Item<'a, u32>],
-) -> Result<u32, NoMemory>
-    ensures made { let xs = map (piece_item_seen draft.old) items.now in
-        all_true (map shown_borrowed xs) ≡ true → IfOk result
-        (λ n. Represents tree_at is_whole draft.new n (table (map_of (shown_pairs xs)))) }
-    ensures keeps { OnOk result (Keeps draft.old draft.new) }
-{
-    let entries = entries_of(alloc, items)?;
-    draft.push_table(alloc, entries)
-}
-
 /// The table of these items, which are a key, a group and so on. A later entry of an equal key
-/// replaces the earlier one. Where keys don't ascend, the entries that were put behind the draft's
-/// are taken away again, and put there in order.
+/// replaces the earlier one.
 fn table_of<'a>(
     alloc: Global,
     draft: &mut Draft<'a>,
@@ -248,10 +184,5 @@ fn table_of<'a>(
     let first_member = draft.members.len();
     let first_key = draft.keys.len();
     push_entries(draft, ticks, items)?;
-    if ascend(&draft.keys[first_key..]) {
-        return draft.end_table(first_member, first_key);
-    }
-    draft.members.truncate(first_member);
-    draft.keys.truncate(first_key);
-    sorted_table_of(alloc, draft, items)
+    draft.end_table(alloc, first_member, first_key)
 }

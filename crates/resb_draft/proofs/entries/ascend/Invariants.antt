@@ -1,8 +1,8 @@
 use Rattle.std.proofs.Common.{◌≡◌, true, take}
-use Rattle.resb_draft.specs.Inner.Entries.{keys_ascend}
+use Rattle.resb_draft.specs.Drafts.{texts, texts_ascend}
 use Rattle.resb_draft.proofs.entries.ascend.Given as goal
 
 abbrev pub invariant-loop-at : goal.invariant-loop-at
 invariant-loop-at l = record {
-  ascend : keys_ascend (take l.at l.entries) ≡ true;
+  ascend : texts_ascend (texts (take l.at l.keys)) ≡ true;
 }

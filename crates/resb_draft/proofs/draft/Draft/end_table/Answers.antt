@@ -1,45 +1,62 @@
-use Rattle.std.proofs.Common.{◌∙◌, ◌≡◌, ◌++◌, sym, ap, map, get_or, take, length, length-drop}
-use Rattle.std.proofs.Common.{arith, Bor, List, ℕ}
-use Rattle.std.proofs.lemmas.List.{take-append-drop, length-take-le, length-map}
+use Rattle.std.proofs.Common.{◌∙◌, sym, ap, map, drop, Bor, List, ℕ}
+use Rattle.std.proofs.lemmas.List.{take_rest}
 use Rattle.std.proofs.lemmas.Result.{IfOk-weaker}
-use Rattle.resb_tree.specs.Tree.{table, entries_of}
-use Rattle.resb_draft.specs.Drafts.{nothing, piece_meaning, pieces_stand, texts, IsMade, tree_at}
-use Rattle.resb_draft.specs.declared.draft.Members.{Members}
-use Rattle.resb_draft.specs.declared.draft.Piece.TheVariants as piece
-use Rattle.resb_draft.proofs.Standing.{agrees_same, made_of}
-use Rattle.resb_draft.proofs.Made.{table_made}
+use Rattle.resb_tree.specs.Borrowing.{all_true}
+use Rattle.resb_tree.specs.Tree.{table, entries_of, map_of}
+use Rattle.resb_draft.specs.Drafts.{texts, texts_ascend, tree_at, is_whole, IsMade}
+use Rattle.resb_draft.proofs.EntriesBehind.{entries_keep, members_behind, keys_behind, entries_on}
+use Rattle.resb_draft.proofs.EntriesBehind.{same_keeps}
+use Rattle.resb_draft.proofs.EntriesLemmas.{seen, ascending_map, own_ascend}
+use Rattle.resb_draft.proofs.Standing.{keeps_on}
 use Rattle.resb_draft.proofs.draft.Draft.end_table.Goals as goal
 
-pub returns-clause-made : goal.returns-clause-made
-returns-clause-made c = λ ps own keys ascend h.
+pub returns-then-ascend-clause-made : goal.returns-then-ascend-clause-made
+returns-then-ascend-clause-made c = λ before ps h whole.
     let old = c.args.self.now in
-    let all = old.members.items in
-    let names = old.keys.items in
-    let at = c.args.first_member in
-    let first = c.args.first_key in
-    let m : Members = record { from = c.in_ok-number.field-0; count = c.in_ok-number-2.field-0 } in
-    let t = table (entries_of (map (λ (p : Bor (List ℕ) × ℕ). (p.0.now, tree_at old p.1)) ps)) in
-    let many = c.in_ok-number-2.ensures in
-    let len = c.len.ensures in
-    let ok = old.members.ok.0 in
-    IfOk-weaker c.push.result
-    (λ n. get_or (pieces_stand c.push.new.self) n nothing
-    ≡ piece_meaning all (texts names) (pieces_stand old)
-    (piece.Table m c.in_ok-first_key.first_key))
-    (λ n. IsMade c.push.new.self n t)
-    (λ n e. made_of c.push.new.self n t
-    (e ∙ table_made old old (take at all) (take first names) ps m c.in_ok-first_key.first_key
-    (sym (take-append-drop at all) ∙ ap (λ l. take at all ++ l) own)
-    (sym (take-append-drop first names) ∙ ap (λ l. take first names ++ l) keys)
-    (c.in_ok-number.ensures ∙ sym (length-take-le at all c.requires.members))
-    (c.in_ok-first_key.ensures ∙ sym (length-take-le first names c.requires.keys))
-    (omega (
-      arith,
-      many,
-      len,
-      ok,
-      length-drop at all,
-      ap length own,
-      length-map ps (λ (p : Bor (List ℕ) × ℕ). p.1),
-    )) (agrees_same (pieces_stand old)) ascend h))
-    c.push.ensures.made
+    let new = c.end_ascending.new.self in
+    let m = c.args.first_member in
+    let k = c.args.first_key in
+    let names = keys_behind before old m k ps h in
+    let on = entries_on before old (entries_keep before old m k ps h) ps whole in
+    let ascends = own_ascend (drop k old.keys.items) ps names
+    (ap (λ l. texts_ascend (texts (drop k l))) (sym c.deref.ensures.value)
+    ∙ ap (λ l. texts_ascend (texts l)) (sym (take_rest c.deref.result.now k))
+    ∙ c.ascend.ensures c.if-ascend.true) in
+    IfOk-weaker c.end_ascending.result
+    (λ n. IsMade new n (table (entries_of (seen (tree_at old) ps))))
+    (λ n. IsMade new n (table (map_of (seen (tree_at before) ps))))
+    (λ n made. (
+      made.0 ∙ ap table (ascending_map (tree_at old) ps ascends)
+          ∙ ap (λ es. table (map_of es)) on.0,
+      made.1,
+    ))
+    (c.end_ascending.ensures.made ps (members_behind before old m k ps h) names ascends on.1)
+
+pub returns-then-ascend-clause-keeps : goal.returns-then-ascend-clause-keeps
+returns-then-ascend-clause-keeps c = λ before ps h.
+    keeps_on before c.args.self.now c.end_ascending.new.self
+    (entries_keep before c.args.self.now c.args.first_member c.args.first_key ps h)
+    c.end_ascending.ensures.keeps
+
+pub returns-clause-made : goal.returns-clause-made
+returns-clause-made c = λ before ps h whole.
+    let mid = c.take_entries.new.self in
+    let new = c.push_entries.new.self in
+    let taken = c.in_ok-entries.ensures.taken before ps h in
+    let on = entries_on before mid (same_keeps before mid taken.1) ps whole in
+    let own = c.deref-2.ensures.value in
+    let sorted = c.in_ok-entries-2.ensures in
+    IfOk-weaker c.push_entries.result
+    (λ n. IsMade new n (table (entries_of (seen (tree_at mid) c.deref-2.result.now))))
+    (λ n. IsMade new n (table (map_of (seen (tree_at before) ps))))
+    (λ n made. (
+      made.0 ∙ ap (λ qs. table (entries_of (seen (tree_at mid) qs))) own
+          ∙ ap table (sorted.entries (tree_at mid))
+          ∙ ap (λ qs. table (map_of (seen (tree_at mid) qs))) taken.0
+          ∙ ap (λ es. table (map_of es)) on.0,
+      made.1,
+    ))
+    (c.push_entries.ensures.made
+    (ap (λ qs. all_true (map (λ (p : Bor (List ℕ) × ℕ). is_whole mid p.1) qs)) own
+    ∙ sorted.each (is_whole mid)
+    (ap (λ qs. all_true (map (λ (p : Bor (List ℕ) × ℕ). is_whole mid p.1) qs)) taken.0 ∙ on.1)))

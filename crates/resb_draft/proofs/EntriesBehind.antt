@@ -5,7 +5,8 @@ use Rattle.std.specs.List.{zip}
 use Rattle.std.proofs.lemmas.Bool.{and_from, and_parts}
 use Rattle.std.proofs.lemmas.List.{get_or-drop, length-append, length-map, map_push, take_more}
 use Rattle.resb_tree.specs.Borrowing.{all_true}
-use Rattle.resb_draft.specs.Drafts.{texts, all_stand, pieces_stand, tree_at, is_whole, Keeps, HasEntries}
+use Rattle.resb_draft.specs.Drafts.{texts, all_stand, pieces_stand, tree_at, is_whole}
+use Rattle.resb_draft.specs.Drafts.{Keeps, HasEntries}
 use Rattle.resb_draft.specs.declared.draft.Draft.{Draft}
 use Rattle.resb_draft.proofs.EntriesLemmas.{seen}
 use Rattle.resb_draft.proofs.Lists.{drop_to_put, take_before_put}
@@ -102,4 +103,5 @@ stand_before before d cut m k ps h pieces members keys =
 -- what stands for the same is whole still
 pub same_keeps : (old new : Draft) → pieces_stand new ≡ pieces_stand old → Keeps old new
 same_keeps old new e =
-    agrees_keeps old new (subst (Agrees (pieces_stand old)) (sym e) (agrees_same (pieces_stand old)))
+    agrees_keeps old new
+    (subst (Agrees (pieces_stand old)) (sym e) (agrees_same (pieces_stand old)))

@@ -76,7 +76,8 @@ returns-clause-taken c = λ before ps h.
       d.keys.ok.0,
     ) in
     let members = c.loop-at.invariant.members
-    ∙ take_all n (drop m d.members.items) (omega (arith, length-drop m d.members.items, counts, all))
+    ∙ take_all n (drop m d.members.items)
+    (omega (arith, length-drop m d.members.items, counts, all))
     ∙ members_behind before d m k ps h in
     let keys = c.loop-at.invariant.keys
     ∙ take_all n (drop k d.keys.items) (omega (arith, length-drop k d.keys.items, counts, all))

@@ -2,14 +2,15 @@
 //! the writer is generic over what is laid. The nodes of a tree's resources are found here, those
 //! of a draft's pieces in `pieces` and `drafts`.
 //! What is gathered from resources and laid for them is not said here.
-ghost use Rattle.std.specs.Prelude.{◌≡◌, ◌++◌, ◌<◌, List, length, get_or, IfOk, OnOk};
+ghost use Rattle.std.specs.Prelude.{◌≡◌, ◌++◌, ◌<◌, ℕ, List, length, get_or, IfOk, OnOk};
 ghost use Rattle.std.specs.List.{flat_map};
 ghost use Rattle.resb_tree.specs.Tree.{Tree};
 ghost use Rattle.resb_tree.specs.View.{tree_of, entries_view};
 ghost use Rattle.resb_tree.specs.LayingOrder.{entry_keys, own_keys, trees_in};
-ghost use Rattle.resb_pool.specs.Plan.{nows};
 ghost use Rattle.resb_write.specs.Inner.Nodes.{AreNodes, IsNode, no_tree};
+ghost use Rattle.resb_write.specs.Inner.Numbered.{NumbersKeys};
 
+use crate::numbered_keys::NumberedKeys;
 use resb_tree::{Resource, Table};
 use std::alloc::{AllocError, Global};
 
@@ -96,26 +97,24 @@ pub(crate) fn node_of<'t>(resource: &'t Resource<'_>) -> Node<'t>
 pub(crate) fn table_keys<'t>(
     alloc: Global,
     order: &Vec<&'t Resource<'_>>,
-) -> Result<Vec<&'t str>, AllocError>
-    ensures { IfOk result (λ v. nows v.items ≡ flat_map own_keys (trees_in order.now.items)) }
+) -> Result<NumberedKeys<'t>, AllocError>
+    ensures { IfOk result
+        (λ keys. NumbersKeys keys (flat_map own_keys (trees_in order.now.items))) }
 {
-    let mut keys = Vec::new(alloc);
+    let mut keys = NumberedKeys::with_capacity(alloc, order.len())?;
     for at in 0..order.len() {
-        push_keys(&mut keys, &*order[at])?;
+        add_keys(&mut keys, &*order[at])?;
     }
     Ok(keys)
 }
 
-/// Appends the keys of a table, in their order; of any other resource none.
-pub(crate) fn push_keys<'t>(
-    keys: &mut Vec<&'t str>,
-    resource: &'t Resource<'_>,
-) -> Result<(), AllocError>
-    ensures { OnOk result (nows keys.new.items
-        ≡ nows keys.old.items ++ own_keys (tree_of resource.now)) }
+/// Adds the keys of a table, in their order; of any other resource none.
+fn add_keys<'t>(keys: &mut NumberedKeys<'t>, resource: &'t Resource<'_>) -> Result<(), AllocError>
+    ensures { OnOk result ((ks : List (List ℕ)) → NumbersKeys keys.old ks
+        → NumbersKeys keys.new (ks ++ own_keys (tree_of resource.now))) }
 {
     match resource {
-        Resource::Table(table) => push_table_keys(keys, table),
+        Resource::Table(table) => add_table_keys(keys, table),
         Resource::String(_)
         | Resource::Array(_)
         | Resource::Binary(_)
@@ -124,13 +123,13 @@ pub(crate) fn push_keys<'t>(
     }
 }
 
-/// Appends a table's keys.
-fn push_table_keys<'t>(keys: &mut Vec<&'t str>, table: &'t Table<'_>) -> Result<(), AllocError>
-    ensures { OnOk result (nows keys.new.items
-        ≡ nows keys.old.items ++ entry_keys (entries_view table.now.entries)) }
+/// Adds a table's keys.
+fn add_table_keys<'t>(keys: &mut NumberedKeys<'t>, table: &'t Table<'_>) -> Result<(), AllocError>
+    ensures { OnOk result ((ks : List (List ℕ)) → NumbersKeys keys.old ks
+        → NumbersKeys keys.new (ks ++ entry_keys (entries_view table.now.entries))) }
 {
     for key in table.keys() {
-        keys.push(key.as_str())?;
+        keys.add(key.as_str())?;
     }
     Ok(())
 }

@@ -61,7 +61,7 @@ impl<'k> NumberedKeys<'k> {
 
     /// Adds a key.
     #[inline(always)]
-    fn add(&mut self, key: &'k str) -> Result<(), AllocError>
+    pub(crate) fn add(&mut self, key: &'k str) -> Result<(), AllocError>
         ensures { OnOk result ((ks : List (List ℕ)) → NumbersKeys self.old ks
             → NumbersKeys self.new (ks ++ key.now ∷ [])) }
     {
@@ -126,7 +126,8 @@ fn look_up<'k>(distinct: &mut IndexMap<&'k str, ()>, key: &'k str) -> Result<u32
     Ok(number as u32)
 }
 
-/// Notes that a number followed another one.
+/// Notes that a number followed another one. How fast keys are found hangs on it, and nothing
+/// else.
 fn note(followers: &mut Vec<u32>, last: usize, number: u32) -> Result<(), AllocError> {
     if number as usize >= followers.len() {
         followers.push(0)?;

@@ -88,9 +88,7 @@ fn write(
     ensures err { IfErr result (λ e. RefusesWriting (root_of bundle.now) list.now (fault_of e)) }
 {
     let order = in_laying_order(alloc, bundle.root())?;
-    let listed = table_keys(alloc, &order)?;
-    let keys = NumberedKeys::of_list(alloc, &listed)?;
-    drop(listed);
+    let keys = table_keys(alloc, &order)?;
     let nodes = nodes_of(alloc, &order)?;
     drop(order);
     write_order(alloc, &nodes, keys, bundle.is_locale_fallback_enabled, list)

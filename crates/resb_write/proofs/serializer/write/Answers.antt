@@ -1,11 +1,10 @@
 -- The nodes of a bundle's resources stand for the trees of its root.
-use Rattle.std.proofs.Common.{◌∙◌, ap, sym, subst}
+use Rattle.std.proofs.Common.{ap, sym, subst}
 use Rattle.std.specs.List.{flat_map}
 use Rattle.std.proofs.lemmas.Result.{err_from_is_err_and, IfOk-weaker, IfErr-weaker}
 use Rattle.resb_tree.specs.View.{tree_of}
 use Rattle.resb_tree.specs.LayingOrder.{own_keys}
 use Rattle.resb_write.specs.FaultOf.{fault_of}
-use Rattle.resb_pool.specs.Plan.{nows}
 use Rattle.resb_write.specs.Inner.Nodes.{AreNodes}
 use Rattle.resb_write.specs.Inner.Numbered.{NumbersKeys}
 use Rattle.resb_layout.specs.TreeFaults.{RefusesWriting, no_memory}
@@ -15,12 +14,6 @@ use Rattle.resb_write.proofs.serializer.write.Goals as goal
 pub returns-in_err-order-clause-err : goal.returns-in_err-order-clause-err
 returns-in_err-order-clause-err c =
     let p = err_from_is_err_and c.from_residual.result c.from_residual.ensures.1 in
-    rw p.1 (subst (RefusesWriting _ c.args.list.now) (sym p.2) no_memory)
-
-pub returns-in_err-listed-clause-err : goal.returns-in_err-listed-clause-err
-returns-in_err-listed-clause-err c =
-    let p = err_from_is_err_and c.from_residual-in_err-listed.result
-    c.from_residual-in_err-listed.ensures.1 in
     rw p.1 (subst (RefusesWriting _ c.args.list.now) (sym p.2) no_memory)
 
 pub returns-in_err-keys-clause-err : goal.returns-in_err-keys-clause-err
@@ -41,9 +34,7 @@ write_order-requires c =
     let same = c.in_ok-order.ensures in (
       t,
       subst (AreNodes c.in_ok-nodes.nodes.items) same c.in_ok-nodes.ensures,
-      subst (NumbersKeys c.in_ok-keys.keys)
-          (ap nows c.deref.ensures.value ∙ c.in_ok-listed.ensures
-          ∙ ap (flat_map own_keys) same) c.in_ok-keys.ensures,
+      subst (NumbersKeys c.in_ok-keys.keys) (ap (flat_map own_keys) same) c.in_ok-keys.ensures,
     )
 
 pub returns-clause-ok : goal.returns-clause-ok
@@ -53,9 +44,7 @@ returns-clause-ok c =
     c.args.bundle.now.is_locale_fallback_enabled c.args.list.now) c.root.ensures.tree
     (h (tree_of c.root.result.now)
     (subst (AreNodes c.in_ok-nodes.nodes.items) same c.in_ok-nodes.ensures)
-    (subst (NumbersKeys c.in_ok-keys.keys)
-    (ap nows c.deref.ensures.value ∙ c.in_ok-listed.ensures
-    ∙ ap (flat_map own_keys) same) c.in_ok-keys.ensures))) c.write_order.ensures.ok
+    (subst (NumbersKeys c.in_ok-keys.keys) (ap (flat_map own_keys) same) c.in_ok-keys.ensures))) c.write_order.ensures.ok
 
 pub returns-clause-err : goal.returns-clause-err
 returns-clause-err c =
@@ -64,6 +53,4 @@ returns-clause-err c =
     (fault_of e)) c.root.ensures.tree
     (h (tree_of c.root.result.now)
     (subst (AreNodes c.in_ok-nodes.nodes.items) same c.in_ok-nodes.ensures)
-    (subst (NumbersKeys c.in_ok-keys.keys)
-    (ap nows c.deref.ensures.value ∙ c.in_ok-listed.ensures
-    ∙ ap (flat_map own_keys) same) c.in_ok-keys.ensures))) c.write_order.ensures.err
+    (subst (NumbersKeys c.in_ok-keys.keys) (ap (flat_map own_keys) same) c.in_ok-keys.ensures))) c.write_order.ensures.err

@@ -149,7 +149,6 @@ pub(crate) fn take<'a>(text: &'a str, ticks: &mut Ticks, from: usize, to: usize)
     ensures text { result.now ≡ slice_range text.now from to }
     ensures counted { Ticked ticks.old ticks.new (to - from + 1) }
 {
-    ticks.add(to - from);
-    ticks.tick();
+    ticks.add(to - from + 1);
     cut(text, from, to)
 }

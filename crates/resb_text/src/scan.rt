@@ -35,6 +35,15 @@ pub(crate) fn byte(text: &str, ticks: &mut Ticks, at: usize) -> u8
     ensures counted { Ticked ticks.old ticks.new 1 }
 {
     ticks.tick();
+    uncounted_byte(text, at)
+}
+
+/// The byte there, or 0 past the end. Whoever calls it counts its turn.
+fn uncounted_byte(text: &str, at: usize) -> u8
+    ensures byte { result ≡ slice_index text.now at }
+    ensures inside { 0 < result → at < length text.now }
+    ensures fits { length text.now < 2 ^ 64 }
+{
     if at < text.len() {
         text.as_bytes()[at]
     } else {
@@ -97,8 +106,8 @@ pub(crate) fn skip_blanks(text: &str, ticks: &mut Ticks, from: usize) -> (usize,
     ensures counted { Ticked ticks.old ticks.new (result.0 + 1 - from) }
 {
     let to = blanks_end(text.as_bytes(), from);
-    ticks.add(to - from);
-    (to, byte(text, ticks, to))
+    ticks.add(to + 1 - from);
+    (to, uncounted_byte(text, to))
 }
 
 /// Counts a turn for each word character from here on, and one for the byte behind them, if
@@ -136,10 +145,8 @@ fn count_run(text: &str, ticks: &mut Ticks, from: usize, to: usize)
     ensures { let end = min (to + 1) (length text.now) in
         Ticked ticks.old ticks.new (end - from) }
 {
-    ticks.add(to - from);
-    if to < text.len() {
-        ticks.tick();
-    }
+    let end = if to < text.len() { to + 1 } else { to };
+    ticks.add(end - from);
 }
 
 /// Counts a turn for each byte and one more, and gives that piece of the text: a non-empty run

@@ -52,8 +52,28 @@ fn uncounted_byte(text: &str, at: usize) -> u8
 }
 
 /// Counts a turn for each byte from here up to the first that is this one, which is included,
-/// or up to the text's end where there is none. Gives its place.
+/// or up to the text's end where there is none. Gives its place, which mostly is near.
+#[inline(always)]
 pub(crate) fn find(text: &str, ticks: &mut Ticks, from: usize, b: u8) -> Option<usize>
+    requires within { from ≤ length text.now }
+    ensures found { MatchOption result (NoByte b text.now from) (FirstByte b text.now from) }
+    ensures counted { MatchOption result
+        (Ticked ticks.old ticks.new (length text.now - from))
+        (λ to. Ticked ticks.old ticks.new (to + 1 - from)) }
+{
+    if text.len() - from >= 16 {
+        let before = runs::bytes_before(text.as_bytes(), from, b);
+        if before < 16 {
+            ticks.add(before + 1);
+            return Some(from + before);
+        }
+    }
+    find_far(text, ticks, from, b)
+}
+
+/// The same, where the byte need not be near.
+#[inline(never)]
+fn find_far(text: &str, ticks: &mut Ticks, from: usize, b: u8) -> Option<usize>
     requires within { from ≤ length text.now }
     ensures found { MatchOption result (NoByte b text.now from) (FirstByte b text.now from) }
     ensures counted { MatchOption result

@@ -35,6 +35,15 @@ pub(crate) fn byte(text: &str, ticks: &mut Ticks, at: usize) -> u8
     ensures counted { Ticked ticks.old ticks.new 1 }
 {
     ticks.tick();
+    uncounted_byte(text, at)
+}
+
+/// The byte there, or 0 past the end. Whoever calls it counts its turn.
+fn uncounted_byte(text: &str, at: usize) -> u8
+    ensures byte { result ≡ slice_index text.now at }
+    ensures inside { 0 < result → at < length text.now }
+    ensures fits { length text.now < 2 ^ 64 }
+{
     if at < text.len() {
         text.as_bytes()[at]
     } else {
@@ -43,8 +52,28 @@ pub(crate) fn byte(text: &str, ticks: &mut Ticks, at: usize) -> u8
 }
 
 /// Counts a turn for each byte from here up to the first that is this one, which is included,
-/// or up to the text's end where there is none. Gives its place.
+/// or up to the text's end where there is none. Gives its place, which mostly is near.
+#[inline(always)]
 pub(crate) fn find(text: &str, ticks: &mut Ticks, from: usize, b: u8) -> Option<usize>
+    requires within { from ≤ length text.now }
+    ensures found { MatchOption result (NoByte b text.now from) (FirstByte b text.now from) }
+    ensures counted { MatchOption result
+        (Ticked ticks.old ticks.new (length text.now - from))
+        (λ to. Ticked ticks.old ticks.new (to + 1 - from)) }
+{
+    if text.len() - from >= 16 {
+        let before = runs::bytes_before(text.as_bytes(), from, b);
+        if before < 16 {
+            ticks.add(before + 1);
+            return Some(from + before);
+        }
+    }
+    find_far(text, ticks, from, b)
+}
+
+/// The same, where the byte need not be near.
+#[inline(never)]
+fn find_far(text: &str, ticks: &mut Ticks, from: usize, b: u8) -> Option<usize>
     requires within { from ≤ length text.now }
     ensures found { MatchOption result (NoByte b text.now from) (FirstByte b text.now from) }
     ensures counted { MatchOption result
@@ -97,8 +126,8 @@ pub(crate) fn skip_blanks(text: &str, ticks: &mut Ticks, from: usize) -> (usize,
     ensures counted { Ticked ticks.old ticks.new (result.0 + 1 - from) }
 {
     let to = blanks_end(text.as_bytes(), from);
-    ticks.add(to - from);
-    (to, byte(text, ticks, to))
+    ticks.add(to + 1 - from);
+    (to, uncounted_byte(text, to))
 }
 
 /// Counts a turn for each word character from here on, and one for the byte behind them, if
@@ -136,10 +165,8 @@ fn count_run(text: &str, ticks: &mut Ticks, from: usize, to: usize)
     ensures { let end = min (to + 1) (length text.now) in
         Ticked ticks.old ticks.new (end - from) }
 {
-    ticks.add(to - from);
-    if to < text.len() {
-        ticks.tick();
-    }
+    let end = if to < text.len() { to + 1 } else { to };
+    ticks.add(end - from);
 }
 
 /// Counts a turn for each byte and one more, and gives that piece of the text: a non-empty run
@@ -149,7 +176,6 @@ pub(crate) fn take<'a>(text: &'a str, ticks: &mut Ticks, from: usize, to: usize)
     ensures text { result.now ≡ slice_range text.now from to }
     ensures counted { Ticked ticks.old ticks.new (to - from + 1) }
 {
-    ticks.add(to - from);
-    ticks.tick();
+    ticks.add(to - from + 1);
     cut(text, from, to)
 }

@@ -3,8 +3,8 @@
 ghost use Rattle.std.specs.Prelude.{◌≡◌};
 ghost use Rattle.resb_text.specs.Inner.Ticked.{Ticked};
 
-/// How many turns a reading took. It stays where it is once it holds the greatest number that it
-/// can, so that no call has to ask for room.
+/// How many turns a reading took, modulo 2^64, so that no call has to ask for room or to test for
+/// it.
 #[derive(Drop)]
 pub(crate) struct Ticks {
     count: u64,
@@ -29,7 +29,7 @@ impl Ticks {
     pub(crate) fn add(&mut self, turns: usize)
         ensures { Ticked self.old self.new turns }
     {
-        self.count = self.count.saturating_add(turns as u64);
+        self.count = self.count.wrapping_add(turns as u64);
     }
 
     /// Counts one turn.

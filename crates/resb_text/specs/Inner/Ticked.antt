@@ -1,11 +1,11 @@
 -- What is counted.
-use Rattle.std.specs.Prelude.{◌≡◌, ℕ, ◌+◌, ◌-◌, ◌*◌, ◌^◌, ◌<◌, ◌≤◌, List, length, min}
+use Rattle.std.specs.Prelude.{◌≡◌, ℕ, ◌+◌, ◌*◌, ◌%◌, ◌^◌, ◌<◌, ◌≤◌, List, length}
 use Rattle.resb_grammar.specs.Inner.Reach.{reach}
 use Rattle.resb_text.specs.declared.ticks.Ticks.{Ticks}
 
--- so many turns were counted, up to the greatest number that a counter can hold
+-- so many turns were counted, modulo 2 ^ 64
 abbrev pub Ticked : Ticks → Ticks → ℕ → Type 0
-Ticked before after turns = after.count ≡ min (before.count + turns) (2 ^ 64 - 1)
+Ticked before after turns = after.count ≡ (before.count + turns) % 2 ^ 64
 
 -- a reading goes on from one place to another: fewer turns are counted than 8 for each byte that it
 -- has looked at since, by so many at least

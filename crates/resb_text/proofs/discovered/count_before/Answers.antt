@@ -5,12 +5,10 @@ use Rattle.resb_text.proofs.discovered.count_before.Goals as goal
 pub loop-count-preserved : goal.loop-count-preserved
 loop-count-preserved c =
     let before = c.loop-count.invariant in
-    let ticked = c.tick.ensures in
     record {
       left =
           λ ds h. left_of-less ds c.args.candidates.now c.loop-count.count _ c.args.group _
           c.loop-count-test.true before.within refl c.if-candidates-count.true h
           ∙ before.left ds h;
       within = omega (arith, before.within);
-      cost = omega (arith, ticked, before.cost, c.loop-count-test.true);
     }

@@ -1,4 +1,4 @@
-use Rattle.std.proofs.Common.{◌≡◌, ◌+◌, ◌≤◌, List, Bool, true, false, length}
+use Rattle.std.proofs.Common.{◌≡◌, ◌≤◌, List, Bool, true, false, length}
 use Rattle.std.specs.Prelude.{map, take, slice_index_or}
 use Rattle.resb_text.specs.Inner.Discovered.{text_in_group, left_of}
 use Rattle.resb_text.proofs.discovered.count_before.Given as goal
@@ -9,7 +9,6 @@ invariant-loop-count l = record {
       → left_of ds (map text_in_group (take l.count l.candidates))
       ≡ left_of ds (map text_in_group l.candidates);
   within : l.count ≤ length l.candidates;
-  cost : l.ticks.count + l.count ≤ l.fn.ticks.count + length l.candidates;
 }
 
 abbrev pub decreases-loop-count : goal.decreases-loop-count

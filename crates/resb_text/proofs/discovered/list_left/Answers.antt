@@ -13,12 +13,10 @@ use Rattle.resb_text.proofs.discovered.list_left.Goals.{else-not-dropped}
 pub loop-candidate-init : goal.loop-candidate-init
 loop-candidate-init c = record {
   keys = λ before h. h ∙ ap (λ xs. first_places (texts xs)) (sym (append-nil before));
-  count = omega arith;
 }
 
 pub loop-candidate-preserved : goal.loop-candidate-preserved
 loop-candidate-preserved c =
-    let ticked = c.tick.ensures in
     let before = c.loop-candidate.invariant in
     let d : Candidate = record { text = record { ref_ptr = (0, 0); now = [] }; group = 0 } in
     record {
@@ -32,7 +30,6 @@ loop-candidate-preserved c =
             c.is_set-dropped.ensures w.if-not-dropped.false (before.keys front h)
             (ap listed_keys w.list-is)
       ];
-      count = omega (arith, ticked, before.count);
     }
 
 pub returns-clause-ok : goal.returns-clause-ok

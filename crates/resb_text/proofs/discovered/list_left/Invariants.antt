@@ -1,4 +1,4 @@
-use Rattle.std.proofs.Common.{◌≡◌, ◌+◌, ◌≤◌, ◌++◌, List}
+use Rattle.std.proofs.Common.{◌≡◌, ◌++◌, List}
 use Rattle.std.specs.Prelude.{map, take}
 use Rattle.resb_grammar.specs.BundleText.{first_places}
 use Rattle.resb_grammar.specs.KeyLists.{listed_keys}
@@ -10,5 +10,4 @@ invariant-loop-candidate l = record {
   keys : (before : List GroupText) → listed_keys l.fn.list ≡ first_places (texts before)
       → listed_keys l.list ≡ first_places (texts (before
       ++ left_of l.is_dropped (map text_in_group (take l.candidate-index l.candidates))));
-  count : l.ticks.count ≤ l.fn.ticks.count + l.candidate-index;
 }

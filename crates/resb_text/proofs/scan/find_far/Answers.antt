@@ -1,7 +1,7 @@
 use Rattle.std.proofs.Common.{arith}
 use Rattle.std.proofs.lemmas.Bool.{eqb-true, eq-eqb}
 use Rattle.resb_text.proofs.LexicalLemmas.{byte_found, byte_missing}
-use Rattle.resb_text.proofs.scan.find.Goals as goal
+use Rattle.resb_text.proofs.scan.find_far.Goals as goal
 use Rattle.resb_text.proofs.Lists.{rest_of}
 
 pub returns-in-Some-clause-found : goal.returns-in-Some-clause-found

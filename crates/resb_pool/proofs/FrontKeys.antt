@@ -1,113 +1,95 @@
--- Texts whose last characters differ compare as these do.
+-- Rows whose fronts differ compare as these do.
 use Rattle.std.proofs.Common.{◌≡◌, ℕ, zero, suc, ◌+◌, ◌-◌, ◌*◌, ◌^◌, ◌<◌, ◌≤◌, List, [], ◌∷◌}
-use Rattle.std.proofs.Common.{get_or, true, false, refl, sym, ◌∙◌, ap, subst, arith, reverse}
+use Rattle.std.proofs.Common.{get_or, false, refl, sym, ◌∙◌, ap, subst, arith}
 use Rattle.std.specs.List.{All}
 use Rattle.std.specs.List.Sorted.{IsSorted}
 use Rattle.std.specs.Cmp.{IsTotalOrder, IsStrictWeakOrder}
 use Rattle.std.proofs.lemmas.List.MinMax.{ranks_by}
-use Rattle.std.specs.Char.{IsScalar}
-use Rattle.std.specs.Str.{IsUtf8, all_scalars, chars}
+use Rattle.std.specs.Str.{IsUtf8}
 use Rattle.std.specs.Ordering.{nat_cmp, ordering_then, ordering_reverse, is_lt}
 use Rattle.std.specs.declared.cmp.Ordering.{Ordering}
 use Rattle.std.specs.declared.cmp.Ordering.TheVariants.{Less}
-use Rattle.std.proofs.lemmas.Bool.{and_parts}
-use Rattle.std.proofs.lemmas.Bool.Decides.{nat_tests}
 use Rattle.std.proofs.lemmas.Cmp.{then_total, on_total, nat_cmp_total}
 use Rattle.std.proofs.lemmas.Cmp.{tied_itself}
-use Rattle.std.proofs.lemmas.List.Elements.{All-nil, All-cons, All-tail}
-use Rattle.std.proofs.lemmas.List.Sorted.{All-permutation, IsPermutation-reverse}
-use Rattle.std.proofs.lemmas.Str.{scalars-chars}
+use Rattle.std.proofs.lemmas.List.Elements.{All-tail}
 use Rattle.resb_pool.specs.Order.{end_last_cmp}
 use Rattle.resb_pool.specs.Inner.Cuts.{chars_backwards}
-use Rattle.resb_pool.specs.Inner.Suffixes.{front_key, keyed_cmp, row_cmp, row_key, IsRowOf}
+use Rattle.resb_pool.specs.Inner.Suffixes.{digits_backwards, front_key, room, keyed_cmp, row_cmp}
+use Rattle.resb_pool.specs.Inner.Suffixes.{row_key, IsRowOf}
 use Rattle.resb_pool.specs.declared.suffix_order.Row.{Row}
 use Rattle.resb_pool.proofs.SuffixOrder.{end_last_total}
-use Rattle.resb_pool.proofs.Numbers.{ordering_then_less, ordering_then_equal, one_of_six}
+use Rattle.resb_pool.proofs.Digits.{IsSmall, small_key, digits_order}
+use Rattle.resb_pool.proofs.Numbers.{ordering_then_less, ordering_then_equal}
 use Rattle.resb_pool.proofs.Numbers.{three_ways, less_is_first}
 
--- each digit is below the end's
-abbrev IsSmall : List ℕ → Type 0
-IsSmall cs = All (λ c. c < 0x1f_ffff) cs
-
-pub small_scalar : (c : ℕ) → IsScalar c → c < 0x1f_ffff
-small_scalar c s = grind (arith, nat_tests)
-
-small_chars : (cs : List ℕ) → all_scalars cs ≡ true → IsSmall cs
-small_chars [] e = All-nil (λ c. c < 0x1f_ffff)
-small_chars (c ∷ cs) e =
-    let b = and_parts _ _ e in
-    All-cons (λ c. c < 0x1f_ffff) c cs (small_scalar c b.0) (small_chars cs b.1)
-
-small_key : (t : List ℕ) → IsUtf8 t → IsSmall (chars_backwards t)
-small_key t u = All-permutation (λ c. c < 0x1f_ffff) (chars t) (reverse (chars t))
-    (IsPermutation-reverse (chars t)) (small_chars (chars t) (scalars-chars t u))
-
-head_small : (x : ℕ) (xs : List ℕ) → IsSmall (x ∷ xs) → x < 0x1f_ffff
+head_small : (x : ℕ) (xs : List ℕ) → IsSmall (x ∷ xs) → x < 255
 head_small x xs h = h 0 x (omega arith)
 
 tail_small : (x : ℕ) (xs : List ℕ) → IsSmall (x ∷ xs) → IsSmall xs
-tail_small x xs h = All-tail (λ c. c < 0x1f_ffff) x xs h
+tail_small x xs h = All-tail (λ c. c < 255) x xs h
 
 -- a smaller number in front stays smaller
 less_kept : (n a b : ℕ) (xs ys : List ℕ) → IsSmall xs → IsSmall ys → a < b
     → front_key a n xs < front_key b n ys
 less_kept zero a b xs ys s t l = l
 less_kept (suc n) a b [] [] s t l =
-    less_kept n (a * 0x20_0000 + 0x1f_ffff) (b * 0x20_0000 + 0x1f_ffff) [] [] s t
+    less_kept n (a * 256 + 255) (b * 256 + 255) [] [] s t
     (omega (arith, l))
 less_kept (suc n) a b [] (y ∷ ys) s t l =
-    less_kept n (a * 0x20_0000 + 0x1f_ffff) (b * 0x20_0000 + y) [] ys s (tail_small y ys t)
+    less_kept n (a * 256 + 255) (b * 256 + y) [] ys s (tail_small y ys t)
     (omega (arith, l))
 less_kept (suc n) a b (x ∷ xs) [] s t l =
-    less_kept n (a * 0x20_0000 + x) (b * 0x20_0000 + 0x1f_ffff) xs [] (tail_small x xs s) t
+    less_kept n (a * 256 + x) (b * 256 + 255) xs [] (tail_small x xs s) t
     (omega (arith, l, head_small x xs s))
 less_kept (suc n) a b (x ∷ xs) (y ∷ ys) s t l =
-    less_kept n (a * 0x20_0000 + x) (b * 0x20_0000 + y) xs ys (tail_small x xs s)
+    less_kept n (a * 256 + x) (b * 256 + y) xs ys (tail_small x xs s)
     (tail_small y ys t) (omega (arith, l, head_small x xs s))
 
--- what n digits stay below
-abbrev pub room : ℕ → ℕ
-room zero = 1
-room (suc n) = room n * 0x20_0000
+room_within : (k n : ℕ) → n + k ≡ 15 → room n ≤ 0x100_0000_0000_0000_0000_0000_0000_0000
+room_within zero n e =
+    let last : n ≡ 15 = omega (arith, e) in
+    subst (λ m. room m ≤ 0x100_0000_0000_0000_0000_0000_0000_0000) (sym last) (omega arith)
+room_within (suc k) n e =
+    let next : room n * 256 ≤ 0x100_0000_0000_0000_0000_0000_0000_0000 =
+    room_within k (suc n) (omega (arith, e)) in
+    omega (arith, next)
 
-pub room_fits : (n : ℕ) → n < 6 → room n ≤ 0x200_0000_0000_0000_0000_0000_0000
-room_fits zero l = omega arith
-room_fits (suc zero) l = omega arith
-room_fits (suc (suc zero)) l = omega arith
-room_fits (suc (suc (suc zero))) l = omega arith
-room_fits (suc (suc (suc (suc zero)))) l = omega arith
-room_fits (suc (suc (suc (suc (suc zero))))) l = omega arith
-room_fits (suc (suc (suc (suc (suc (suc n)))))) l = absurd (omega (arith, l))
-
-pub room_more : (i a d : ℕ) → a < room i → d < 0x20_0000 → a * 0x20_0000 + d < room (i + 1)
-room_more i a d l m =
-    let n : i + 1 ≡ suc i = omega arith in
-    let e : room (i + 1) ≡ room i * 0x20_0000 = ap room n in
-    omega (arith, e, l, m)
+pub room_fits : (n : ℕ) → n < 16 → room n ≤ 0x100_0000_0000_0000_0000_0000_0000_0000
+room_fits n l = room_within (15 - n) n (omega (arith, l))
 
 -- a digit more
-pub next_char : (a i : ℕ) (x z : List ℕ) (c whole : ℕ) → i < 6 → x ≡ c ∷ z
-    → front_key a (6 - i) x ≡ whole → front_key (a * 0x20_0000 + c) (6 - (i + 1)) z ≡ whole
-next_char a i x z c whole l e h =
-    ap (front_key a (suc (6 - (i + 1)))) (sym e)
-    ∙ ap (λ n. front_key a n x) (sym (one_of_six i l)) ∙ h
+pub room_more : (left a d : ℕ) → 0 < left → left ≤ 16 → a < room (16 - left) → d < 256
+    → a * 256 + d < room (16 - (left - 1))
+room_more left a d p q l m =
+    let n : 16 - (left - 1) ≡ suc (16 - left) = omega (arith, p, q) in
+    let e : room (16 - (left - 1)) ≡ room (16 - left) * 256 = ap room n in
+    omega (arith, e, l, m)
 
-pub next_end : (a i : ℕ) (x : List ℕ) (whole : ℕ) → i < 6 → x ≡ [] → front_key a (6 - i) x ≡ whole
-    → front_key (a * 0x20_0000 + 0x1f_ffff) (6 - (i + 1)) x ≡ whole
-next_end a i x whole l e h =
-    ap (front_key (a * 0x20_0000 + 0x1f_ffff) (6 - (i + 1))) e
-    ∙ ap (front_key a (suc (6 - (i + 1)))) (sym e)
-    ∙ ap (λ n. front_key a n x) (sym (one_of_six i l)) ∙ h
+pub next_digit : (left a d : ℕ) (ds : List ℕ) → 0 < left
+    → front_key (a * 256 + d) (left - 1) ds ≡ front_key a left (d ∷ ds)
+next_digit zero a d ds p = absurd (omega (arith, p))
+next_digit (suc n) a d ds p =
+    let e : suc n - 1 ≡ n = omega arith in ap (λ k. front_key (a * 256 + d) k ds) e
+
+pub no_digit : (left a d : ℕ) (ds : List ℕ) → left ≡ 0
+    → front_key a left ds ≡ front_key a left (d ∷ ds)
+no_digit zero a d ds p = refl
+no_digit (suc n) a d ds p = absurd (omega (arith, p))
+
+-- the end's digit is as good as none
+pub end_digit : (left a : ℕ) → front_key a left (255 ∷ []) ≡ front_key a left []
+end_digit zero a = refl
+end_digit (suc n) a = refl
 
 order_of : (n a : ℕ) (xs ys : List ℕ) → IsSmall xs → IsSmall ys
     → front_key a n xs < front_key a n ys → end_last_cmp xs ys ≡ Less
 order_of zero a xs ys s t l = absurd (omega (arith, l))
-order_of (suc n) a [] [] s t l = order_of n (a * 0x20_0000 + 0x1f_ffff) [] [] s t l
+order_of (suc n) a [] [] s t l = order_of n (a * 256 + 255) [] [] s t l
 order_of (suc n) a [] (y ∷ ys) s t l =
     absurd (omega (
       arith,
       l,
-      less_kept n (a * 0x20_0000 + y) (a * 0x20_0000 + 0x1f_ffff) ys []
+      less_kept n (a * 256 + y) (a * 256 + 255) ys []
           (tail_small y ys t) s (omega (arith, head_small y ys t)),
     ))
 order_of (suc n) a (x ∷ xs) [] s t l = refl
@@ -116,13 +98,13 @@ order_of (suc n) a (x ∷ xs) (y ∷ ys) s t l =
     (λ e. ordering_then_less (nat_cmp x y) (end_last_cmp xs ys) e)
     (λ e. ap (λ z. ordering_then (nat_cmp x z) (end_last_cmp xs ys)) (sym e)
     ∙ ordering_then_equal (nat_cmp x x) (end_last_cmp xs ys) (tied_itself nat_cmp_total x)
-    ∙ order_of n (a * 0x20_0000 + x) xs ys (tail_small x xs s) (tail_small y ys t)
-    (subst (λ z. front_key (a * 0x20_0000 + x) n xs < front_key (a * 0x20_0000 + z) n ys) (sym e)
+    ∙ order_of n (a * 256 + x) xs ys (tail_small x xs s) (tail_small y ys t)
+    (subst (λ z. front_key (a * 256 + x) n xs < front_key (a * 256 + z) n ys) (sym e)
     l))
     (λ m. absurd (omega (
       arith,
       l,
-      less_kept n (a * 0x20_0000 + y) (a * 0x20_0000 + x) ys xs
+      less_kept n (a * 256 + y) (a * 256 + x) ys xs
           (tail_small y ys t) (tail_small x xs s) (omega (arith, m)),
     )))
 
@@ -137,8 +119,8 @@ keyed_order = ranks_by keyed_total (λ (r : Row). r)
 -- the row has its text's last characters
 pub record IsKeyed (r : Row) : Type 0 where
   pub utf8 : IsUtf8 r.text.now
-  pub front_is : row_key r ≡ front_key 0 6 (chars_backwards r.text.now)
-  pub small : r.before < 2 ^ 63
+  pub front_is : row_key r ≡ front_key 0 16 (digits_backwards r.text.now)
+  pub small : r.before < 2 ^ 64
 
 pub row_keyed : (T : List (List ℕ)) (r : Row) → All IsUtf8 T → IsRowOf T r → IsKeyed r
 row_keyed T r u h = record {
@@ -151,11 +133,12 @@ row_keyed T r u h = record {
 after_too : (x y : Row) → IsKeyed x → IsKeyed y → row_key y < row_key x
     → is_lt (row_cmp x y) ≡ false
 after_too x y h k m =
-    let x_is : row_key x ≡ front_key 0 6 (chars_backwards x.text.now) = h.front_is in
-    let y_is : row_key y ≡ front_key 0 6 (chars_backwards y.text.now) = k.front_is in
+    let x_is : row_key x ≡ front_key 0 16 (digits_backwards x.text.now) = h.front_is in
+    let y_is : row_key y ≡ front_key 0 16 (digits_backwards y.text.now) = k.front_is in
     ap is_lt (end_last_total.antisymm (chars_backwards x.text.now) (chars_backwards y.text.now)
-    ∙ ap ordering_reverse (order_of 6 0 (chars_backwards y.text.now) (chars_backwards x.text.now)
-    (small_key y.text.now k.utf8) (small_key x.text.now h.utf8) (omega (arith, m, x_is, y_is))))
+    ∙ ap ordering_reverse (digits_order (chars_backwards y.text.now) (chars_backwards x.text.now)
+    (order_of 16 0 (digits_backwards y.text.now) (digits_backwards x.text.now)
+    (small_key y.text.now k.utf8) (small_key x.text.now h.utf8) (omega (arith, m, x_is, y_is)))))
 
 -- of two comparisons in a row, what ties by the first goes by the second
 tied_first : (a b : ℕ) (o : Ordering) → a ≡ b → is_lt (ordering_then (nat_cmp a b) o) ≡ false

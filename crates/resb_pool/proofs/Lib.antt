@@ -20,6 +20,7 @@ pub mod Least
 mod SuffixOrder
 mod Cut
 mod Ends
+mod Digits
 mod FrontKeys
 mod FrontBytes
 mod SuffixRuns

@@ -1,5 +1,5 @@
 -- Numbers and how they compare, and two comparisons in a row: what names no word of this project.
-use Rattle.std.proofs.Common.{◌≡◌, ℕ, ◌<◌, ◌⊎◌, inl, inr, refl, ◌∙◌, ap, sym, suc, ◌+◌, ◌-◌, arith}
+use Rattle.std.proofs.Common.{◌≡◌, ℕ, ◌<◌, ◌⊎◌, inl, inr, refl, ◌∙◌, ap, sym, suc, ◌+◌, arith}
 use Rattle.std.proofs.Common.{false, zero, nat_eq, ◌≤◌}
 use Rattle.std.specs.Ordering.{nat_cmp, ordering_reverse, ordering_then, is_lt}
 use Rattle.std.specs.declared.cmp.Ordering.{Ordering}
@@ -37,10 +37,6 @@ ordering_then_differs x y o ne = elim (cmp_both_ways x y) [
   | inr (inl h) ↦ absurd (ne h.2)
   | inr (inr h) ↦ ordering_then_greater (nat_cmp x y) o h.0 ∙ sym h.0
 ]
-
--- of what is left of six, one is taken
-pub one_of_six : (i : ℕ) → i < 6 → 6 - i ≡ suc (6 - (i + 1))
-one_of_six i l = omega (arith, l)
 
 -- a number is below another, the same, or above it
 pub three_ways : (P : Type 0) (x y : ℕ) → (nat_cmp x y ≡ Less → P) → (x ≡ y → P) → (y < x → P) → P

@@ -1,12 +1,13 @@
 //! Texts in the order of their characters from the end, in which what ends with a text stands
 //! before it. In which record a text lies is said in `homes`.
-ghost use Rattle.std.specs.Prelude.{◌≡◌, ◌<◌, ◌≤◌, ◌^◌, length, All, IfOk, IfSome};
+ghost use Rattle.std.specs.Prelude.{◌≡◌, ◌<◌, ◌≤◌, ◌-◌, ◌∷◌, ◌++◌, ℕ, List, length, reverse, All};
+ghost use Rattle.std.specs.Prelude.{IfOk, IfSome, slice_index_or};
 ghost use Rattle.std.specs.Str.{IsUtf8};
 ghost use Rattle.resb_pool.specs.Order.{suffix_cmp};
 ghost use Rattle.resb_pool.specs.Plan.{nows};
-ghost use Rattle.resb_pool.specs.Inner.Cuts.{chars_backwards, IsCut, IsShared};
-ghost use Rattle.resb_pool.specs.Inner.Suffixes.{AreInOrder, IsRowOf, row_texts};
-ghost use Rattle.resb_pool.specs.Inner.Suffixes.{front_key, keyed_cmp};
+ghost use Rattle.resb_pool.specs.Inner.Cuts.{IsCut, IsShared};
+ghost use Rattle.resb_pool.specs.Inner.Suffixes.{AreInOrder, IsRowOf, row_texts, keyed_cmp};
+ghost use Rattle.resb_pool.specs.Inner.Suffixes.{char_digits, digits_backwards, front_key, IsPart};
 
 use std::alloc::{AllocError, Global};
 use std::cmp::Ordering;
@@ -14,38 +15,130 @@ use std::cmp::Ordering;
 /// How many bytes of a long end are compared at once.
 const LONG_BLOCK: usize = 64;
 
-/// Where a text has no further character: above each character.
-const END: u128 = 0x1f_ffff;
+/// A text of at most so many bytes is looked at whole for whether it is ASCII.
+const SHORT: usize = 64;
 
-/// What three characters stay below, of 21 bits each.
-const THREE_CHARS: u128 = 0x8000_0000_0000_0000;
+/// Where a text has no further character: above each digit of a character.
+const END: u8 = 255;
+
+/// What eight digits stay below.
+const EIGHT_DIGITS: u128 = 0x1_0000_0000_0000_0000;
 
 /// A text and its index.
 #[derive(Clone, Copy)]
 pub(crate) struct Row<'a> {
-    /// The text's last three characters, which with the three before them tell most texts apart.
+    /// The first eight digits of the text's characters, last first, which with the eight behind
+    /// them tell most texts apart.
     pub(crate) last: u64,
-    /// The three characters before them.
+    /// The eight digits behind them.
     pub(crate) before: u64,
     pub(crate) text: &'a str,
     pub(crate) index: usize,
 }
 
-/// A text's last six characters as a number, of 21 bits each, the last one in the highest place.
-fn front_of(text: &str) -> u128
-    ensures front { result ≡ front_key 0 6 (chars_backwards text.now) }
-    ensures small { result < 2 ^ 126 }
+/// A number of digits, and how many are left until there are 16.
+#[derive(Clone, Copy)]
+pub(crate) struct Front {
+    pub(crate) number: u128,
+    pub(crate) left: u32,
+}
+
+/// The byte at a place, counted from the last one, or the end's digit before the first.
+fn byte_or_end(bytes: &[u8], place: usize) -> u8
+    ensures { result ≡ slice_index_or (reverse bytes.now) place 255 }
+{
+    if place < bytes.len() {
+        bytes[bytes.len() - 1 - place]
+    } else {
+        END
+    }
+}
+
+/// The last 16 bytes as digits of a number, the last one in the highest place.
+fn bytes_front(bytes: &[u8]) -> u128
+    ensures { result ≡ front_key 0 16 (reverse bytes.now) }
+{
+    u128::from_be_bytes([
+        byte_or_end(bytes, 0),
+        byte_or_end(bytes, 1),
+        byte_or_end(bytes, 2),
+        byte_or_end(bytes, 3),
+        byte_or_end(bytes, 4),
+        byte_or_end(bytes, 5),
+        byte_or_end(bytes, 6),
+        byte_or_end(bytes, 7),
+        byte_or_end(bytes, 8),
+        byte_or_end(bytes, 9),
+        byte_or_end(bytes, 10),
+        byte_or_end(bytes, 11),
+        byte_or_end(bytes, 12),
+        byte_or_end(bytes, 13),
+        byte_or_end(bytes, 14),
+        byte_or_end(bytes, 15),
+    ])
+}
+
+/// One digit more, if one is left.
+fn with_digit(front: Front, digit: u32) -> Front
+    requires part { IsPart front }
+    requires digit { digit < 256 }
+    ensures part { IsPart result }
+    ensures left { result.left ≡ front.left - 1 }
+    ensures same { (ds : List ℕ) → front_key result.number result.left ds
+        ≡ front_key front.number front.left (digit ∷ ds) }
+{
+    if front.left == 0 {
+        return front;
+    }
+    Front {
+        number: front.number * 256 + u128::from(digit),
+        left: front.left - 1,
+    }
+}
+
+/// The digits of a character more, as many as are left.
+fn with_char(front: Front, c: char) -> Front
+    requires part { IsPart front }
+    ensures part { IsPart result }
+    ensures left { result.left ≤ front.left - 1 }
+    ensures same { (ds : List ℕ) → front_key result.number result.left ds
+        ≡ front_key front.number front.left (char_digits c ++ ds) }
+{
+    let code = u32::from(c);
+    if code <= 0x7f {
+        return with_digit(front, code);
+    }
+    let first = with_digit(front, 0x80 + code / 0x4000);
+    let second = with_digit(first, code / 0x80 % 0x80);
+    with_digit(second, code % 0x80)
+}
+
+/// The first 16 digits of a text's characters, last first, as a number.
+fn chars_front(text: &str) -> u128
+    ensures { result ≡ front_key 0 16 (digits_backwards text.now) }
 {
     let mut chars = text.chars();
-    let mut front = 0;
-    for _place in 0..6u32 {
-        let digit = match chars.next_back() {
-            Some(c) => u128::from(u32::from(c)),
-            None => END,
+    let mut front = Front {
+        number: 0,
+        left: 16,
+    };
+    'digits: while front.left > 0 {
+        front = match chars.next_back() {
+            Some(c) => with_char(front, c),
+            None => with_digit(front, u32::from(END)),
         };
-        front = front * 0x20_0000 + digit;
     }
-    front
+    front.number
+}
+
+/// The same, by the bytes of a short text that is ASCII.
+fn front_of(text: &str) -> u128
+    ensures { result ≡ front_key 0 16 (digits_backwards text.now) }
+{
+    if text.len() <= SHORT && text.is_ascii() {
+        return bytes_front(text.as_bytes());
+    }
+    chars_front(text)
 }
 
 /// A text in two: its last bytes, so many of them or up to three more, and what stands before.
@@ -189,8 +282,8 @@ fn rows_of<'a>(alloc: Global, texts: &[&'a str]) -> Result<Vec<Row<'a>>, AllocEr
     for (index, text) in texts.iter().enumerate() {
         let front = front_of(text);
         rows.push(Row {
-            last: (front / THREE_CHARS) as u64,
-            before: (front % THREE_CHARS) as u64,
+            last: (front / EIGHT_DIGITS) as u64,
+            before: (front % EIGHT_DIGITS) as u64,
             text,
             index,
         })?;

@@ -2,7 +2,8 @@
 --     AreInOrder T rows       the rows are the texts T, in suffix order
 --     IsSharedEnd p s         s may lie in the record of p
 use Rattle.std.specs.Prelude.{◌≡◌, ℕ, zero, suc, ◌+◌, ◌*◌, ◌^◌, ◌<◌, List, [], ◌∷◌, length, map}
-use Rattle.std.specs.Prelude.{All, true}
+use Rattle.std.specs.Prelude.{All, true, ◌-◌, ◌/◌, ◌%◌, ◌≤◌, nat_le, if◌then◌else◌}
+use Rattle.std.specs.List.{flat_map}
 use Rattle.std.specs.List.Sorted.{IsPermutation, IsSorted}
 use Rattle.std.specs.Ordering.{nat_cmp, ordering_then}
 use Rattle.std.specs.declared.cmp.Ordering.{Ordering}
@@ -12,25 +13,47 @@ use Rattle.resb_pool.specs.Records.{EndsWith}
 use Rattle.resb_pool.specs.Inner.Cuts.{chars_backwards}
 use Rattle.resb_pool.specs.Inner.Placing.{text_numbered}
 use Rattle.resb_pool.specs.declared.suffix_order.Row.{Row}
+use Rattle.resb_pool.specs.declared.suffix_order.Front.{Front}
 
--- a number in front of the first n characters, each a digit of 21 bits; the end of the characters,
--- which has the greatest digit, stands in the place of those that aren't there
+-- a character as digits of eight bits, none of them 255: itself, where it is ASCII, else three, the
+-- first of which is above ASCII
+abbrev pub char_digits : ℕ → List ℕ
+char_digits c =
+    if nat_le c 0x7f then c ∷ []
+    else (0x80 + c / 0x4000) ∷ (c / 0x80 % 0x80) ∷ (c % 0x80) ∷ []
+
+-- the digits of a text's characters, last first
+abbrev pub digits_backwards : List ℕ → List ℕ
+digits_backwards t = flat_map char_digits (chars_backwards t)
+
+-- a number in front of the first n digits; the end of the digits, which is the greatest digit,
+-- stands in the place of those that aren't there
 abbrev pub front_key : ℕ → ℕ → List ℕ → ℕ
-front_key number zero cs = number
-front_key number (suc n) [] = front_key (number * 0x20_0000 + 0x1f_ffff) n []
-front_key number (suc n) (c ∷ cs) = front_key (number * 0x20_0000 + c) n cs
+front_key number zero ds = number
+front_key number (suc n) [] = front_key (number * 256 + 255) n []
+front_key number (suc n) (d ∷ ds) = front_key (number * 256 + d) n ds
+
+-- what n digits stay below
+abbrev pub room : ℕ → ℕ
+room zero = 1
+room (suc n) = room n * 256
+
+-- as many digits of 16 as aren't left
+pub record IsPart (f : Front) : Type 0 where
+  pub most : f.left ≤ 16
+  pub small : f.number < room (16 - f.left)
 
 -- a row's two halves as one number
 abbrev pub row_key : Row → ℕ
-row_key r = r.last * 0x8000_0000_0000_0000 + r.before
+row_key r = r.last * 0x1_0000_0000_0000_0000 + r.before
 
 -- the row of a text
 pub record IsRowOf (T : List (List ℕ)) (r : Row) : Type 0 where
   pub within : r.index < length T
   pub text_is : r.text.now ≡ text_numbered T r.index
-  -- the last six characters, last first, in two halves
-  pub front_is : row_key r ≡ front_key 0 6 (chars_backwards r.text.now)
-  pub small : r.before < 2 ^ 63
+  -- the first 16 digits, in two halves
+  pub front_is : row_key r ≡ front_key 0 16 (digits_backwards r.text.now)
+  pub small : r.before < 2 ^ 64
 
 abbrev pub row_texts : List Row → List (List ℕ)
 row_texts rows = map (λ r. r.text.now) rows
@@ -38,7 +61,7 @@ row_texts rows = map (λ r. r.text.now) rows
 abbrev pub row_cmp : Row → Row → Ordering
 row_cmp x y = suffix_cmp x.text.now y.text.now
 
--- by the last six characters, and then by all
+-- by the first 16 digits, and then by all characters
 abbrev pub keyed_cmp : Row → Row → Ordering
 keyed_cmp x y = ordering_then (nat_cmp x.last y.last)
     (ordering_then (nat_cmp x.before y.before) (row_cmp x y))

@@ -1,4 +1,4 @@
-use Rattle.std.proofs.Common.{rules, ◌≡◌, ◌∙◌, ◌++◌, [], ap, sym, subst, append-nil}
+use Rattle.std.proofs.Common.{rules, ◌≡◌, ◌++◌, sym, subst}
 use Rattle.std.proofs.lemmas.Result.{on_ok_weaker}
 use Rattle.resb_tree.specs.Tree.{table}
 use Rattle.resb_tree.specs.View.{tree_of, entries_view}

@@ -1,13 +1,15 @@
 -- An iteration moves a key from what is left to what is there.
-use Rattle.std.proofs.Common.{rules, ◌≡◌, [], ◌∷◌, ◌++◌, refl, sym, ◌∙◌, ap, subst, append_assoc}
+use Rattle.std.proofs.Common.{rules, ◌≡◌, [], ◌∷◌, ◌++◌, sym, ◌∙◌, ap, subst, append_assoc}
 use Rattle.std.proofs.Common.{append-nil}
+use Rattle.std.specs.Map.{keys_of}
 use Rattle.resb_write.specs.Inner.Numbered.{NumbersKeys}
 use Rattle.resb_write.proofs.nodes.add_table_keys.Goals as goal
 use Rattle.resb_tree.proofs.MapsLemmas.{entry_keys-entries_view}
 
 pub loop-key-init : goal.loop-key-init
 loop-key-init c = λ ks h.
-    ([], refl, subst (NumbersKeys c.args.keys.now) (sym (append-nil ks)) h)
+    let all : c.into_iter-key-iterator.result ≡ keys_of c.args.table.now.entries = search rules in
+    ([], all, subst (NumbersKeys c.args.keys.now) (sym (append-nil ks)) h)
 
 pub loop-key-preserved : goal.loop-key-preserved
 loop-key-preserved c = λ ks h.

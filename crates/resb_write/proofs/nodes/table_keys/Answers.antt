@@ -1,5 +1,5 @@
 -- An iteration adds the keys of the next one.
-use Rattle.std.proofs.Common.{◌<◌, ◌++◌, length, take, sym, ap, ◌∙◌, arith, subst}
+use Rattle.std.proofs.Common.{◌<◌, length, take, sym, ap, ◌∙◌, arith, subst}
 use Rattle.std.specs.List.{flat_map}
 use Rattle.resb_tree.specs.View.{tree_of}
 use Rattle.resb_tree.specs.LayingOrder.{own_keys, trees_in}

@@ -6,14 +6,16 @@
 A text is a file whose name ends with .txt. It is compiled by `genrb -e UTF-8 -C` without a pool
 bundle, and by `resb compile --icu`. Counted are texts that both refuse, that genrb alone takes (by
 our words for it), that we alone take, and, where both take one, files that are equal, files of one
-tree and flag that differ (since genrb lets a key lie at the end of a longer one, or in another
-order), and files of different trees. A text that we alone take, or of another tree, is listed.
+tree and flag that differ, with each reason (genrb lets a key lie at the end of a longer one, and
+records that are alike in size and in what sharing saves stand in another order), and files of
+different trees. A text that we alone take, or of another tree, is listed.
 Trees are compared as the texts of `resb dump --icu`, and where genrb's file holds strings of the
 older form, which `resb` refuses, as the prints of ICU's derb. The last line but what is listed says
 how much processor time all processes of each program took. With --back each file that we make is
 printed by `resb dump --icu` too, that print is compiled by genrb, and the two trees are compared;
 what comes back otherwise is listed. The status is 1 where anything is listed.
 """
+import array
 import collections
 import pathlib
 import resource
@@ -62,12 +64,45 @@ def words_of(said):
     return said.split("\n")[0].split(": ", 1)[-1]
 
 
-def key_block(file):
-    """The keys of a file of the lower byte first, without what fills their last word."""
-    body = file.read_bytes()[int.from_bytes(file.read_bytes()[:2], "little"):]
-    words = [int.from_bytes(body[at:at + 4], "little") for at in (4, 8)]
-    start = 4 * (1 + (words[0] & 0xff))
-    return body[start:4 * words[1]].rstrip(b"\xaa")
+def blocks(file):
+    """The keys of a file of the lower byte first, without what fills their last word, and the
+    units of its 16-bit block."""
+    data = file.read_bytes()
+    body = data[int.from_bytes(data[:2], "little"):]
+    fields, keys_end, units_end = (int.from_bytes(body[at:at + 4], "little") for at in (4, 8, 28))
+    keys = body[4 * (1 + (fields & 0xff)):4 * keys_end].rstrip(b"\xaa")
+    return keys, array.array("H", body[4 * keys_end:4 * units_end]).tolist()
+
+
+def records(units):
+    """What a 16-bit block holds up to each 0. The strings' records stand first."""
+    found, record = [], []
+    for unit in units:
+        if unit:
+            record.append(unit)
+        else:
+            found.append(tuple(record))
+            record = []
+    return [*found, tuple(record)]
+
+
+def are_reordered(ours, theirs):
+    """Whether the first records that differ stand further on in the other block each."""
+    ones, others = records(ours), records(theirs)
+    for at, (one, other) in enumerate(zip(ones, others)):
+        if one != other:
+            return one in others[at:] and other in ones[at:]
+    return False
+
+
+def reasons(ours, theirs):
+    """Why two files of one tree aren't equal."""
+    our_keys, our_units = blocks(ours)
+    their_keys, their_units = blocks(theirs)
+    if len(their_keys) < len(our_keys):
+        yield "genrb's keys share endings"
+    if are_reordered(our_units, their_units):
+        yield "records in another order"
 
 
 def compare(text, folder, took):
@@ -90,8 +125,7 @@ def compare(text, folder, took):
         return "equal files"
     if not is_one_tree(ours, theirs):
         return "different trees"
-    shares = len(key_block(theirs)) < len(key_block(ours))
-    return "equal trees, genrb's keys share endings" if shares else "equal trees, other order"
+    return "equal trees: " + (" and ".join(reasons(ours, theirs)) or "for another reason")
 
 
 def comes_back(folder):

@@ -11,6 +11,9 @@ use crate::measure::{Measure, SIZE_LIMIT, is_vast};
 use indexmap::IndexSet;
 use std::alloc::{AllocError, Global};
 
+/// The first strings are looked at, so many times fewer than there are, for how many are distinct.
+const SAMPLED_PART: usize = 64;
+
 /// Texts, each once and in the order of their first copies, and their sizes.
 #[derive(Drop)]
 pub(crate) struct Texts<'a> {
@@ -20,17 +23,33 @@ pub(crate) struct Texts<'a> {
     pub(crate) order: Vec<u32>,
 }
 
+/// How many distinct texts there is room for from the start: as many as there are likely to be,
+/// where more than three in four of the first strings are distinct, since a table that grows is
+/// filled anew; else a quarter of the strings, since in a smaller table texts are found faster.
+fn room_for(alloc: Global, strings: &[&str]) -> Result<usize, AllocError> {
+    let count = strings.len() / SAMPLED_PART;
+    let mut sample = IndexSet::with_capacity(alloc, count)?;
+    for text in strings.iter().take(count) {
+        let _is_new = sample.insert(*text)?;
+    }
+    if sample.len() > count / 4 * 3 {
+        let likely = sample.len().saturating_mul(SAMPLED_PART);
+        return Ok(likely.saturating_add(likely / 32));
+    }
+    Ok(strings.len() / 4)
+}
+
 impl<'a> Texts<'a> {
-    /// No texts, with room for those of so many strings, of which a quarter are taken to be
-    /// distinct: in a smaller table texts are found faster.
-    fn with_capacity(alloc: Global, count: usize) -> Result<Texts<'a>, AllocError>
+    /// No texts, with room for those of these strings.
+    fn with_room_for(alloc: Global, strings: &[&str]) -> Result<Texts<'a>, AllocError>
         ensures texts { IfOk result (λ t. AreTexts [] (nows t.distinct.keys) t.measures.items) }
         ensures turns { IfOk result (λ t. AreTurns [] (nows t.distinct.keys) t.order.items) }
     {
+        let room = room_for(alloc, strings)?;
         Ok(Texts {
-            distinct: IndexSet::with_capacity(alloc, count / 4)?,
-            measures: Vec::with_capacity(alloc, count / 4)?,
-            order: Vec::with_capacity(alloc, count)?,
+            distinct: IndexSet::with_capacity(alloc, room)?,
+            measures: Vec::with_capacity(alloc, room)?,
+            order: Vec::with_capacity(alloc, strings.len())?,
         })
     }
 }
@@ -98,7 +117,7 @@ pub(crate) fn gather<'a>(alloc: Global, strings: &[&'a str]) -> Result<Texts<'a>
     ensures small { OnOk result (texts_size (nows strings.now) < 2 ^ 28) }
     ensures err { IfErr result (NotPlanned (nows strings.now)) }
 {
-    let mut texts = Texts::with_capacity(alloc, strings.len())?;
+    let mut texts = Texts::with_room_for(alloc, strings)?;
     add_all(&mut texts, strings)?;
     Ok(texts)
 }

@@ -44,7 +44,8 @@ returns-clause-ok c =
     c.args.bundle.now.is_locale_fallback_enabled c.args.list.now) c.root.ensures.tree
     (h (tree_of c.root.result.now)
     (subst (AreNodes c.in_ok-nodes.nodes.items) same c.in_ok-nodes.ensures)
-    (subst (NumbersKeys c.in_ok-keys.keys) (ap (flat_map own_keys) same) c.in_ok-keys.ensures))) c.write_order.ensures.ok
+    (subst (NumbersKeys c.in_ok-keys.keys) (ap (flat_map own_keys) same)
+    c.in_ok-keys.ensures))) c.write_order.ensures.ok
 
 pub returns-clause-err : goal.returns-clause-err
 returns-clause-err c =
@@ -53,4 +54,5 @@ returns-clause-err c =
     (fault_of e)) c.root.ensures.tree
     (h (tree_of c.root.result.now)
     (subst (AreNodes c.in_ok-nodes.nodes.items) same c.in_ok-nodes.ensures)
-    (subst (NumbersKeys c.in_ok-keys.keys) (ap (flat_map own_keys) same) c.in_ok-keys.ensures))) c.write_order.ensures.err
+    (subst (NumbersKeys c.in_ok-keys.keys) (ap (flat_map own_keys) same)
+    c.in_ok-keys.ensures))) c.write_order.ensures.err

@@ -186,6 +186,7 @@ impl<'a> Draft<'a> {
     }
 
     /// One piece more.
+    #[inline(always)]
     fn push(&mut self, piece: Piece<'a>) -> Result<u32, NoMemory>
         ensures made { IfOk result (λ n. get_or (pieces_stand self.new) n nothing
             ≡ piece_meaning self.old.members.items (texts self.old.keys.items)

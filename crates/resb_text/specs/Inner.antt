@@ -1,5 +1,6 @@
 -- Words of private functions.
 pub mod Runs
+pub mod TextPieces
 pub mod Ticked
 pub mod Braces
 pub mod Leaf

@@ -6,11 +6,10 @@ ghost use Rattle.resb_grammar.specs.ByteRuns.{Run, is_line_end, is_white, is_wor
 ghost use Rattle.resb_grammar.specs.Lexical.{digits_value};
 ghost use Rattle.resb_text.specs.Inner.Runs.{FirstByte, NoByte};
 ghost use Rattle.resb_text.specs.Inner.Ticked.{Ticked};
-ghost use Rattle.resb_text.specs.Turns.{IsTextPiece};
+ghost use Rattle.resb_text.specs.Inner.TextPieces.{IsTextPiece};
 
 use crate::runs;
 use crate::ticks::Ticks;
-use crate::turns::cut;
 use memchr::{memchr, memchr2};
 use resb_grammar::blanks_end;
 
@@ -172,10 +171,10 @@ fn count_run(text: &str, ticks: &mut Ticks, from: usize, to: usize)
 /// Counts a turn for each byte and one more, and gives that piece of the text: a non-empty run
 /// of word characters, or what stands between two quotes and holds none.
 pub(crate) fn take<'a>(text: &'a str, ticks: &mut Ticks, from: usize, to: usize) -> &'a str
-    requires piece { IsTextPiece text.now from to }
+    requires { IsTextPiece text.now from to }
     ensures text { result.now ≡ slice_range text.now from to }
     ensures counted { Ticked ticks.old ticks.new (to - from + 1) }
 {
     ticks.add(to - from + 1);
-    cut(text, from, to)
+    &text[from..to]
 }

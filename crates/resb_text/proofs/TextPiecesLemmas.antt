@@ -3,7 +3,7 @@ use Rattle.std.proofs.Common.{◌≡◌, ℕ, ◌+◌, ◌-◌, ◌<◌, true, L
 use Rattle.std.proofs.lemmas.Str.{IsCharBoundary-before_ascii, IsCharBoundary-after_ascii}
 use Rattle.std.specs.Str.{IsUtf8, IsCharBoundary}
 use Rattle.resb_grammar.specs.ByteRuns.{is_word}
-use Rattle.resb_text.specs.Turns.{IsTextPiece, IsWordPiece, IsQuotedPiece}
+use Rattle.resb_text.specs.Inner.TextPieces.{IsTextPiece, IsWordPiece, IsQuotedPiece}
 use Rattle.resb_grammar.proofs.ByteRunsLemmas.{word_ascii, word_some}
 use Rattle.resb_grammar.proofs.Lists.{nonzero_inside}
 

@@ -6,7 +6,7 @@
 A text is a file whose name ends with .txt. It is compiled by `genrb -e UTF-8 -C` without a pool
 bundle, and by `resb compile --icu`. Counted are texts that both refuse, that genrb alone takes (by
 our words for it), that we alone take, and, where both take one, files that are equal, files of one
-tree and flag that differ, with each reason (genrb lets a key lie at the end of a longer one, and
+tree and flag that differ, with the reasons that are found (genrb lets a key lie at the end of a longer one, and
 records that are alike in size and in what sharing saves stand in another order), and files of
 different trees. A text that we alone take, or of another tree, is listed.
 Trees are compared as the texts of `resb dump --icu`, and where genrb's file holds strings of the
@@ -15,10 +15,10 @@ how much processor time all processes of each program took. With --back each fil
 printed by `resb dump --icu` too, that print is compiled by genrb, and the two trees are compared;
 what comes back otherwise is listed. The status is 1 where anything is listed.
 """
-import array
 import collections
 import pathlib
 import resource
+import struct
 import subprocess
 import sys
 import tempfile
@@ -71,7 +71,8 @@ def blocks(file):
     body = data[int.from_bytes(data[:2], "little"):]
     fields, keys_end, units_end = (int.from_bytes(body[at:at + 4], "little") for at in (4, 8, 28))
     keys = body[4 * (1 + (fields & 0xff)):4 * keys_end].rstrip(b"\xaa")
-    return keys, array.array("H", body[4 * keys_end:4 * units_end]).tolist()
+    block = body[4 * keys_end:4 * units_end]
+    return keys, [unit for unit, in struct.iter_unpack("<H", block)]
 
 
 def records(units):

@@ -6,9 +6,9 @@
 A text is a file whose name ends with .txt. It is compiled by `genrb -e UTF-8 -C` without a pool
 bundle, and by `resb compile --icu`. Counted are texts that both refuse, that genrb alone takes (by
 our words for it), that we alone take, and, where both take one, files that are equal, files of one
-tree and flag that differ, with the reasons that are found (genrb lets a key lie at the end of a longer one, and
-records that are alike in size and in what sharing saves stand in another order), and files of
-different trees. A text that we alone take, or of another tree, is listed.
+tree and flag that differ, with the reasons that are found (genrb lets a key lie at the end of a
+longer one, and records that are alike in size and in what sharing saves stand in another order),
+and files of different trees. A text that we alone take, or of another tree, is listed.
 Trees are compared as the texts of `resb dump --icu`, and where genrb's file holds strings of the
 older form, which `resb` refuses, as the prints of ICU's derb. The last line but what is listed says
 how much processor time all processes of each program took. With --back each file that we make is

@@ -16,7 +16,7 @@ use Rattle.resb_head.specs.HeadChecks.{file_checks, file_refusal}
 use Rattle.resb_head.proofs.HeaderSteps.{later_refusal, earlier_refusal}
 use Rattle.resb_head.proofs.IndexSteps.{index_holds}
 use Rattle.resb_head.proofs.SupportSteps.{support_holds}
-use Rattle.resb_head.proofs.Passing.{passed, header_passes}
+use Rattle.resb_head.proofs.Passing.{all_pass, header_passes}
 use Rattle.resb_head.proofs.Numbers.{two_tests_fail}
 use Rattle.resb_head.proofs.Numbers.{two_tests_hold}
 use Rattle.resb_head.proofs.Numbers.{two_tests_tell}
@@ -159,7 +159,7 @@ record IsBody (body : List ℕ) : Type 0 where
 a_body : (body : List ℕ) → first_refusal (body_checks body) ≡ None → IsBody body
 unfolding body_checks index_checks block_checks
 a_body body e =
-    let p = passed (body_checks body) e in
+    let p = all_pass (body_checks body) e in
     let c : get_or (words_of (drop 4 body)) 0 0 ≡ get_or (words_of body) 1 0 =
     field_behind body 0 in
     let l : length (drop 4 body) ≡ length body - 4 = length-drop 4 body in
@@ -197,7 +197,7 @@ passes_is bytes e =
     let later = first_refusal-both (support_checks (drop 4 bytes)) (body_checks (body_of bytes))
     parts.1 in
     let h : IsHeader false bytes = (header_passes false bytes).0 parts.0 in
-    let p = passed (support_checks (drop 4 bytes)) later.0 in
+    let p = all_pass (support_checks (drop 4 bytes)) later.0 in
     let b = a_body (body_of bytes) later.1 in
     let f5 : get_or (drop 4 bytes) 5 0 ≡ get_or bytes 9 0 = get_or-drop 4 bytes 5 0 in
     let f6 : get_or (drop 4 bytes) 6 0 ≡ get_or bytes 10 0 = get_or-drop 4 bytes 6 0 in

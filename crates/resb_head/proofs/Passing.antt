@@ -22,10 +22,11 @@ abbrev pub EachHolds : List (Bool × Refusal) → Type 0
 EachHolds [] = Unit {0}
 EachHolds ((t, f) ∷ checks) = (t ≡ true) × EachHolds checks
 
-pub passed : (checks : List (Bool × Refusal)) → first_refusal checks ≡ None → EachHolds checks
-passed [] e = tt
-passed ((true, f) ∷ checks) e = (refl, passed checks e)
-passed ((false, f) ∷ checks) e = cc
+-- where no check refuses, each test is true
+pub all_pass : (checks : List (Bool × Refusal)) → first_refusal checks ≡ None → EachHolds checks
+all_pass [] e = tt
+all_pass ((true, f) ∷ checks) e = (refl, all_pass checks e)
+all_pass ((false, f) ∷ checks) e = cc
 
 -- the tests of the info
 record Tests (any : Bool) (bs : List ℕ) : Type 0 where
@@ -42,7 +43,7 @@ tested any bs t = rw (t.known, t.own, t.charset, t.format, t.version) refl
 passes : (any : Bool) (bs : List ℕ) → header_refusal any bs ≡ None → IsHeader any bs
 unfolding header_refusal header_checks info_checks
 passes any bs e =
-    let p = passed (header_checks any bs) e in
+    let p = all_pass (header_checks any bs) e in
     let f4 : get_or (drop 4 bs) 4 0 ≡ get_or bs 8 0 = get_or-drop 4 bs 4 0 in
     let f5 : get_or (drop 4 bs) 5 0 ≡ get_or bs 9 0 = get_or-drop 4 bs 5 0 in
     record {

@@ -21,6 +21,7 @@ pub start_is : (ts : List Tail) (i : ℕ) (t : Tail) → i < length ts → t ≡
     → start_of ts i ≡ t.from
 start_is ts i t l e = get_or-map (λ u. u.from) ts i t 0 l ∙ ap (λ u. u.from) (sym e)
 
+-- and ends where its text does
 pub end_is : (ts : List Tail) (i : ℕ) (t : Tail) → i < length ts → t ≡ get_or ts i t
     → end_of ts i ≡ t.from + length t.text.now
 end_is ts i t l e =

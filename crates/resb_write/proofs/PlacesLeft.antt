@@ -104,6 +104,7 @@ table_left g ps os es rest n e qs rs f k h =
 abbrev pub based : Given → ℕ → Given
 based g n = record { position = g.position; offset = g.offset; base = n }
 
-pub moved : {g : Given} {ps os : List ℕ} {ts : List Tree} {n : ℕ} → GivesInTurn g ps os ts
-    → GivesInTurn (based g n) ps os ts
-moved h = record { keys = h.keys; texts = h.texts; near = h.near }
+-- what gives places in turn does so wherever the tail begins
+pub same_places_based : {g : Given} {ps os : List ℕ} {ts : List Tree} {n : ℕ}
+    → GivesInTurn g ps os ts → GivesInTurn (based g n) ps os ts
+same_places_based h = record { keys = h.keys; texts = h.texts; near = h.near }

@@ -4,7 +4,7 @@ use Rattle.resb_layout.specs.Laid.{Given, Lays}
 use Rattle.resb_tree.specs.LayingOrder.{laying_order}
 use Rattle.resb_write.specs.Inner.Room.{laid_of, HasRoomFor, GivesInTurn}
 use Rattle.resb_write.proofs.Counting.{units}
-use Rattle.resb_write.proofs.PlacesLeft.{based, moved}
+use Rattle.resb_write.proofs.PlacesLeft.{based, same_places_based}
 use Rattle.resb_write.proofs.tree_bodies.lay_bodies.Goals as goal
 use Rattle.resb_write.proofs.tree_bodies.lay_bodies.Goals.{In_ok-word}
 
@@ -44,11 +44,11 @@ count_is : (g : _) (c : In_ok-word g) (given : Given) (t : Tree)
 count_is g c given t f n =
     let base = c.args.keys_end + 2 * (c.in_ok-count.count + c.in_ok-count.count % 2) in
     let h = based given base in
-    let laid = c.in_ok-word.ensures.lays h refl t f (moved n) in
+    let laid = c.in_ok-word.ensures.lays h refl t f (same_places_based n) in
     omega (
       arith,
       (units h laid).0,
-      c.in_ok-count.ensures.counts h t f (moved n),
+      c.in_ok-count.ensures.counts h t f (same_places_based n),
       c.len.ensures,
       c.args.pool.ok.0,
     )

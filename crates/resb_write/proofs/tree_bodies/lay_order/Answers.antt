@@ -5,7 +5,7 @@ use Rattle.resb_tree.specs.LayingOrder.{laying_order}
 use Rattle.resb_write.specs.Inner.StackSteps.{LaysRow}
 use Rattle.resb_write.specs.Inner.Room.{laid_of}
 use Rattle.resb_write.specs.Inner.Seen.{Suffices}
-use Rattle.resb_write.proofs.PlacesLeft.{based, moved}
+use Rattle.resb_write.proofs.PlacesLeft.{based, same_places_based}
 use Rattle.resb_write.proofs.Rows.{empty_stack_suffices}
 use Rattle.resb_write.proofs.Stacks.{steps_lay_trees}
 use Rattle.resb_write.proofs.tree_bodies.lay_order.Goals as goal
@@ -33,7 +33,7 @@ unreachable-requires g c =
     let e = laid_of c.steps.new.bodies in
     let ws = c.steps.new.words.items in
     let h = subst (λ l. LaysRow given s l (laying_order t) e ws) c.new-words.ensures.items
-    (c.in_ok-steps.ensures.lays given refl (laying_order t) n.1 (moved n.4)) in
+    (c.in_ok-steps.ensures.lays given refl (laying_order t) n.1 (same_places_based n.4)) in
     let r = steps_lay_trees given s e t ws h in
     omega (arith, c.in_default.ensures.cases.0, c.steps.new.words.ok.0, ap length r.1)
 

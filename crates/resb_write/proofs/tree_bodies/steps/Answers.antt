@@ -7,7 +7,7 @@ use Rattle.resb_write.specs.Inner.Seen.{CanLay}
 use Rattle.std.proofs.lemmas.List.{take_all, drop_all}
 use Rattle.resb_write.specs.Inner.Nodes.{no_tree}
 use Rattle.resb_write.proofs.NodesLemmas.{trees-drop, trees-take}
-use Rattle.resb_write.proofs.PlacesLeft.{based, moved}
+use Rattle.resb_write.proofs.PlacesLeft.{based, same_places_based}
 use Rattle.resb_write.proofs.Rows.{steps_push, step_long, has_room, can_go_on}
 use Rattle.resb_write.proofs.tree_bodies.steps.Goals as goal
 
@@ -92,7 +92,7 @@ loop-at-preserved g c =
           (c.in_ok-step.ensures.takes t fits)
           (step_long own (laid_of c.loop-at.bodies) (laid_of c.step.new.bodies) old new t
           (c.in_ok-step.ensures.step own refl t rest fits
-          (subst (GivesInTurn own ps os) split (v.left own ts f (moved n)))));
+          (subst (GivesInTurn own ps os) split (v.left own ts f (same_places_based n)))));
     }
 
 pub returns-clause-lays : goal.returns-clause-lays

@@ -22,6 +22,7 @@ mod Cut
 mod Ends
 mod Digits
 mod FrontKeys
+mod FrontDigits
 mod FrontBytes
 mod SuffixRuns
 mod Numbers

@@ -58,6 +58,19 @@ size_nil =
     ap (λ us. length (cond (nat_le (length us) 40 && true) [] (length_marker (length us))) + length
     us + 1) e
 
+each_sized : (Q : TextList) → length Q ≤ sum_by size Q
+each_sized [] = omega arith
+each_sized (q ∷ Q) = omega (arith, each_sized Q, sum_by-cons size q Q)
+
+-- distinct texts are few, since each takes a unit
+pub texts_few : (S T : TextList) (ms : List Measure) → AreTexts S T ms → texts_size S < 2 ^ 28
+    → length T < 2 ^ 28
+texts_few S T ms given small =
+    let within : sum_by size T ≤ sum_by size S =
+    into_least size (λ p r. p ≡ r) (λ p q r e f. e ∙ sym f) T S given.once
+    (λ q c. (q, (given.same q).0 c, refl, omega arith)) in
+    omega (arith, each_sized T, within, sizes_within S, small)
+
 module _ (S T : TextList) (ms : List Measure) (given : AreTexts S T ms)
     (small : texts_size S < 2 ^ 28)
     (ps : List Home) (placed : AreHomes T ps) (measures : map (λ (p : Home). p.measure) ps ≡ ms)

@@ -7,10 +7,11 @@ ghost use Rattle.std.specs.Str.{IsUtf8};
 ghost use Rattle.resb_pool.specs.Records.{EachOnce};
 ghost use Rattle.resb_pool.specs.Plan.{nows};
 ghost use Rattle.resb_pool.specs.Inner.Placing.{AreHomes, LiesAt, lying_in};
-ghost use Rattle.resb_pool.specs.Inner.Suffixes.{IsSharedEnd};
+ghost use Rattle.resb_pool.specs.Inner.Suffixes.{IsKeyed, IsSharedEnd, row_text};
 
 use crate::measure::Measure;
-use crate::suffix_order::in_suffix_order;
+use crate::suffix_order::{Row, in_suffix_order, may_end_with, row_of};
+use crate::texts::indexed_text;
 use resb_format::is_unmarked;
 use std::alloc::{AllocError, Global};
 
@@ -22,35 +23,53 @@ pub(crate) struct Home {
     pub(crate) measure: Measure,
 }
 
-/// Whether a text lies in the record of the text right before it in suffix order: it isn't empty,
-/// has no marker and ends that text.
-fn lies_with(text: &str, previous: &str) -> bool
+/// Whether a text lies in the record of another one, which stands right before it in suffix order:
+/// it isn't empty, has no marker and ends that text.
+fn is_shared_end(text: &str, previous: &str) -> bool
     ensures { MatchBool result (IsSharedEnd previous.now text.now)
         (IsSharedEnd previous.now text.now → ⊥) }
 {
     !text.is_empty() && previous.ends_with(text) && is_unmarked(text)
 }
 
+/// The same, by the rows of both texts, which tell it of most texts that do not lie there.
+fn lies_with(texts: &[&str], row: &Row, previous: &Row) -> bool
+    requires utf8 { All IsUtf8 (nows texts.now) }
+    requires row { IsKeyed (nows texts.now) row.now }
+    requires previous { IsKeyed (nows texts.now) previous.now }
+    ensures { MatchBool result
+        (IsSharedEnd (row_text (nows texts.now) previous.now) (row_text (nows texts.now) row.now))
+        (IsSharedEnd (row_text (nows texts.now) previous.now) (row_text (nows texts.now) row.now)
+        → ⊥) }
+{
+    may_end_with(previous, row)
+        && is_shared_end(
+            indexed_text(texts, row.index),
+            indexed_text(texts, previous.index),
+        )
+}
+
 /// The index of the text in whose record each of distinct texts lies. What ends with a text stands
 /// in one run before it in suffix order, so the text lies where the one right before it lies, or
 /// is a record.
-fn find_containers(alloc: Global, texts: &[&str]) -> Result<Vec<usize>, AllocError>
+fn find_containers(alloc: Global, texts: &[&str]) -> Result<Vec<u32>, AllocError>
     requires utf8 { All IsUtf8 (nows texts.now) }
     requires distinct { EachOnce (nows texts.now) }
+    requires few { length texts.now < 2 ^ 32 }
     ensures len { IfOk result (λ v. length v.items ≡ length texts.now) }
     ensures lies { IfOk result (λ v. (i : ℕ) → i < length texts.now
         → LiesAt (nows texts.now) i (slice_index v.items i)) }
 {
     let rows = in_suffix_order(alloc, texts)?;
     let mut containers = vec![in alloc; 0; texts.len()]?;
-    let mut previous = "";
+    let mut previous = row_of("", texts.len() as u32);
     let mut container = 0;
     for row in &rows {
-        if !lies_with(row.text, previous) {
+        if !lies_with(texts, row, &previous) {
             container = row.index;
         }
-        containers[row.index] = container;
-        previous = row.text;
+        containers[row.index as usize] = container;
+        previous = *row;
     }
     Ok(containers)
 }
@@ -63,6 +82,7 @@ pub(crate) fn find_homes(
 ) -> Result<Vec<Home>, AllocError>
     requires utf8 { All IsUtf8 (nows texts.now) }
     requires distinct { EachOnce (nows texts.now) }
+    requires few { length texts.now < 2 ^ 32 }
     requires len { length measures.now ≡ length texts.now }
     ensures homes { IfOk result (λ v. AreHomes (nows texts.now) v.items) }
     ensures measures { IfOk result (λ v. map (λ p. p.measure) v.items ≡ measures.now) }
@@ -71,7 +91,7 @@ pub(crate) fn find_homes(
     let mut homes = Vec::with_capacity(alloc, texts.len())?;
     for (index, measure) in measures.iter().enumerate() {
         homes.push(Home {
-            record: containers[index],
+            record: containers[index] as usize,
             measure: *measure,
         })?;
     }

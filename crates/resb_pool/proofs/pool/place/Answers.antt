@@ -1,4 +1,4 @@
-use Rattle.std.proofs.Common.{ℕ, List, get_or, map, sym, ◌∙◌, ap, subst}
+use Rattle.std.proofs.Common.{ℕ, List, get_or, map, sym, ◌∙◌, ap, subst, arith}
 use Rattle.std.specs.List.{All}
 use Rattle.std.specs.Str.{IsUtf8}
 use Rattle.std.proofs.lemmas.List.{get_or_default}
@@ -7,7 +7,8 @@ use Rattle.resb_pool.specs.Plan.{nows}
 use Rattle.resb_pool.specs.Inner.Placing.{AreTexts, ClosesWithin, offset_by}
 use Rattle.resb_pool.specs.Inner.LaidRecords.{IsBlock}
 use Rattle.resb_pool.specs.declared.homes.Home.{Home}
-use Rattle.resb_pool.proofs.PlanLemmas.{all_close}
+use Rattle.resb_pool.proofs.Interning.{length-nows}
+use Rattle.resb_pool.proofs.PlanLemmas.{all_close, texts_few}
 use Rattle.resb_pool.proofs.pool.place.Goals as goal
 
 pub find_homes-requires-clause-utf8 : goal.find_homes-requires-clause-utf8
@@ -16,6 +17,16 @@ find_homes-requires-clause-utf8 c =
     let g = c.requires.given.2 in
     λ i d l. All-contains IsUtf8 c.requires.given.0 (get_or T i d) g.utf8
     ((g.same (get_or T i d)).0 (i, l, get_or_default T i (get_or T i d) d l))
+
+pub find_homes-requires-clause-few : goal.find_homes-requires-clause-few
+find_homes-requires-clause-few c =
+    let T = nows c.args.texts.now in
+    let g = c.requires.given in
+    omega (
+      arith,
+      length-nows c.args.texts.now,
+      texts_few g.0 T c.args.measures.now g.2 g.1,
+    )
 
 pub lay_records-requires-clause-given : goal.lay_records-requires-clause-given
 lay_records-requires-clause-given c =

@@ -1,5 +1,5 @@
 //! Texts in the order of their characters from the end, in which what ends with a text stands
-//! before it. In which record a text lies is said in `homes`.
+//! before it. In which record a text lies is said in `containers`.
 ghost use Rattle.std.specs.Prelude.{◌≡◌, ◌<◌, ◌≤◌, ◌-◌, ◌∷◌, ◌++◌, ◌^◌, ℕ, List, length, reverse};
 ghost use Rattle.std.specs.Prelude.{All, IfOk, IfSome, slice_index_or, true};
 ghost use Rattle.std.specs.Str.{IsUtf8};

@@ -1,5 +1,5 @@
 //! The distinct texts of strings, each with its sizes. From here on a text goes by its index.
-//! Where texts lie is said in `homes`.
+//! Where texts lie is said in `containers`.
 ghost use Rattle.std.specs.Prelude.{◌≡◌, ◌++◌, ◌∷◌, ◌<◌, ◌^◌, [], List, ℕ, IfOk, IfErr, OnOk, None};
 ghost use Rattle.std.specs.Prelude.{length};
 ghost use Rattle.resb_format.specs.Units.{units};

@@ -10,8 +10,8 @@ use Rattle.resb_pool.specs.Inner.Suffixes.{digits_backwards, front_key}
 use Rattle.resb_pool.specs.declared.suffix_order.Row.{Row}
 use Rattle.resb_pool.proofs.Interning.{length-nows}
 use Rattle.resb_pool.proofs.SuffixRuns.{IsPrevious, step_alone, step_shared, one_row, row_of}
-use Rattle.resb_pool.proofs.homes.find_containers.Goals.{then-not-lies_with, else-not-lies_with}
-use Rattle.resb_pool.proofs.homes.find_containers.Goals as goal
+use Rattle.resb_pool.proofs.containers.find_containers.Goals.{then-not-lies_with, else-not-lies_with}
+use Rattle.resb_pool.proofs.containers.find_containers.Goals as goal
 use Rattle.resb_pool.proofs.Numbers.{old_or_new}
 
 abbrev no_row : Row
@@ -91,15 +91,18 @@ loop-row-preserved c =
       ];
     }
 
-pub returns-clause-lies : goal.returns-clause-lies
-returns-clause-lies c =
+pub returns : goal.returns
+returns c =
     let T = nows c.args.texts.now in
     let rows = c.deref-row-items.result.now in
     let o : AreInOrder T rows = subst (AreInOrder T) (sym c.deref-row-items.ensures.value)
     c.in_ok-rows.ensures in
     let es = c.loop-row.containers.items in
-    λ i l.
-    let r = row_of T c.requires.utf8 c.requires.distinct rows o i no_row
-    (omega (arith, l, length-nows c.args.texts.now)) in
-    subst (λ z. LiesAt T z (get_or es z 0)) r.2
-    (c.loop-row.invariant.lies r.0 no_row (omega (arith, r.1, c.loop-row-test.false)))
+    let n = length-nows c.args.texts.now in
+    record {
+      len = c.loop-row.invariant.len ∙ sym n;
+      lies = λ i l.
+          let r = row_of T c.requires.utf8 c.requires.distinct rows o i no_row l in
+          subst (λ z. LiesAt T z (get_or es z 0)) r.2
+          (c.loop-row.invariant.lies r.0 no_row (omega (arith, r.1, c.loop-row-test.false)));
+    }

@@ -3,7 +3,7 @@ use Rattle.resb_pool.specs.Plan.{nows}
 use Rattle.resb_pool.specs.Inner.Placing.{LiesAt}
 use Rattle.resb_pool.specs.Inner.Suffixes.{IsKeyed, row_text}
 use Rattle.resb_pool.specs.declared.suffix_order.Row.{Row}
-use Rattle.resb_pool.proofs.homes.find_containers.Given as goal
+use Rattle.resb_pool.proofs.containers.find_containers.Given as goal
 
 abbrev pub invariant-loop-row : goal.invariant-loop-row
 invariant-loop-row l = record {

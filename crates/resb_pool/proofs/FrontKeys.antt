@@ -33,7 +33,7 @@ pub tail_small : (x : ℕ) (xs : List ℕ) → IsSmall (x ∷ xs) → IsSmall xs
 tail_small x xs h = All-tail (λ c. c < 255) x xs h
 
 -- a smaller number in front stays smaller
-less_kept : (n a b : ℕ) (xs ys : List ℕ) → IsSmall xs → IsSmall ys → a < b
+pub less_kept : (n a b : ℕ) (xs ys : List ℕ) → IsSmall xs → IsSmall ys → a < b
     → front_key a n xs < front_key b n ys
 less_kept zero a b xs ys s t l = l
 less_kept (suc n) a b [] [] s t l =

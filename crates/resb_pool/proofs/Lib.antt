@@ -23,6 +23,7 @@ mod Ends
 mod Digits
 mod FrontKeys
 mod FrontDigits
+mod ShortTexts
 mod FrontBytes
 mod SuffixRuns
 mod Numbers

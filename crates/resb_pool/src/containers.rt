@@ -11,7 +11,7 @@ ghost use Rattle.resb_pool.specs.Inner.Placing.{AreContainers};
 ghost use Rattle.resb_pool.specs.Inner.Suffixes.{IsKeyed, IsSharedEnd, row_text};
 
 use crate::measure::Measure;
-use crate::suffix_order::{Row, in_suffix_order, may_end_with, row_of};
+use crate::suffix_order::{Row, in_suffix_order, is_short, may_end_with, row_of};
 use crate::texts::indexed_text;
 use resb_format::is_unmarked;
 use std::alloc::{AllocError, Global};
@@ -25,7 +25,7 @@ fn is_shared_end(text: &str, previous: &str) -> bool
     !text.is_empty() && previous.ends_with(text) && is_unmarked(text)
 }
 
-/// The same, by the rows of both texts, which tell it of most texts that do not lie there.
+/// The same, by the rows of both texts, which tell it of most of them.
 fn lies_with(texts: &[&str], row: &Row, previous: &Row) -> bool
     requires utf8 { All IsUtf8 (nows texts.now) }
     requires row { IsKeyed (nows texts.now) row.now }
@@ -36,10 +36,11 @@ fn lies_with(texts: &[&str], row: &Row, previous: &Row) -> bool
         → ⊥) }
 {
     may_end_with(previous, row)
-        && is_shared_end(
-            indexed_text(texts, row.index),
-            indexed_text(texts, previous.index),
-        )
+        && (is_short(row)
+            || is_shared_end(
+                indexed_text(texts, row.index),
+                indexed_text(texts, previous.index),
+            ))
 }
 
 /// The index of the text in whose record each of distinct texts lies; the empty text, which has no

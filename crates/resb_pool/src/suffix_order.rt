@@ -1,15 +1,14 @@
 //! Texts in the order of their characters from the end, in which what ends with a text stands
 //! before it. In which record a text lies is said in `containers`.
 ghost use Rattle.std.specs.Prelude.{◌≡◌, ◌<◌, ◌≤◌, ◌-◌, ◌∷◌, ◌++◌, ◌^◌, ℕ, List, length, reverse};
-ghost use Rattle.std.specs.Prelude.{All, IfOk, IfSome, slice_index_or, true};
+ghost use Rattle.std.specs.Prelude.{All, IfOk, IfSome, slice_index_or, true, false};
 ghost use Rattle.std.specs.Str.{IsUtf8};
 ghost use Rattle.resb_pool.specs.Order.{suffix_cmp};
 ghost use Rattle.resb_pool.specs.Plan.{nows};
-ghost use Rattle.resb_pool.specs.Records.{EndsWith};
 ghost use Rattle.resb_pool.specs.Inner.Cuts.{IsCut, IsShared};
 ghost use Rattle.resb_pool.specs.Inner.Suffixes.{AreInOrder, IsRowOf, row_texts, keyed_cmp};
 ghost use Rattle.resb_pool.specs.Inner.Suffixes.{char_digits, digits_backwards, front_key, IsPart};
-ghost use Rattle.resb_pool.specs.Inner.Suffixes.{row_key, row_text, IsKeyed};
+ghost use Rattle.resb_pool.specs.Inner.Suffixes.{row_key, row_text, IsKeyed, IsShort, TellsEnd};
 
 use crate::texts::indexed_text;
 use std::alloc::{AllocError, Global};
@@ -304,7 +303,7 @@ fn key_of(row: &Row) -> u128
 /// Whether the first 16 digits of a text begin with those of another one, up to this one's end.
 fn begins_with(number: u128, start: u128) -> bool
     ensures { (s t : List ℕ) → IsUtf8 s → IsUtf8 t → start ≡ front_key 0 16 (digits_backwards s)
-        → number ≡ front_key 0 16 (digits_backwards t) → EndsWith t s → result ≡ true }
+        → number ≡ front_key 0 16 (digits_backwards t) → TellsEnd result t s }
 {
     let mut left = number;
     let mut right = start;
@@ -315,13 +314,43 @@ fn begins_with(number: u128, start: u128) -> bool
     left == right
 }
 
-/// Whether the text of a row may end with that of another one. Where it does not, the rows tell it
-/// of most texts.
+/// Whether the text of a row ends with that of another one, if this one has fewer than 16 digits;
+/// whether it may, otherwise.
 pub(crate) fn may_end_with(row: &Row, end: &Row) -> bool
     ensures { (T : List (List ℕ)) → All IsUtf8 T → IsKeyed T row.now → IsKeyed T end.now
-        → EndsWith (row_text T row.now) (row_text T end.now) → result ≡ true }
+        → TellsEnd result (row_text T row.now) (row_text T end.now) }
 {
     begins_with(key_of(row), key_of(end))
+}
+
+/// Whether one of the first 16 digits of a text is 0.
+fn has_zero_digit(key: u128) -> bool
+    ensures { (s : List ℕ) → IsUtf8 s → key ≡ front_key 0 16 (digits_backwards s) → result ≡ false
+        → (k : ℕ) → k < 16 → 0 < slice_index_or (digits_backwards s) k 255 }
+{
+    let mut rest = key;
+    let mut left = 16u32;
+    'digits: while left > 0 {
+        if rest % 256 == 0 {
+            return true;
+        }
+        rest /= 256;
+        left -= 1;
+    }
+    false
+}
+
+/// Whether the text of a row has fewer than 16 digits, but one at least, and none that is 0. Where
+/// it is not, it may still have no marker.
+pub(crate) fn is_short(row: &Row) -> bool
+    ensures { (T : List (List ℕ)) → All IsUtf8 T → IsKeyed T row.now → result ≡ true
+        → IsShort (row_text T row.now) }
+{
+    let key = key_of(row);
+    if key % 256 != u128::from(END) {
+        return false;
+    }
+    key != u128::MAX && !has_zero_digit(key)
 }
 
 /// The rows of texts, in the order of these.

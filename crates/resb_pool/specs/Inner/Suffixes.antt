@@ -2,7 +2,7 @@
 --     AreInOrder T rows       the rows are the texts T, in suffix order
 --     IsSharedEnd p s         s may lie in the record of p
 use Rattle.std.specs.Prelude.{◌≡◌, ℕ, zero, suc, ◌+◌, ◌*◌, ◌^◌, ◌<◌, List, [], ◌∷◌, length, map}
-use Rattle.std.specs.Prelude.{All, true, ◌-◌, ◌/◌, ◌%◌, ◌≤◌, nat_le, if◌then◌else◌}
+use Rattle.std.specs.Prelude.{All, Bool, true, ◌-◌, ◌/◌, ◌%◌, ◌≤◌, nat_le, if◌then◌else◌}
 use Rattle.std.specs.List.{flat_map}
 use Rattle.std.specs.List.Sorted.{IsPermutation, IsSorted}
 use Rattle.std.specs.Ordering.{nat_cmp, ordering_then}
@@ -76,6 +76,17 @@ pub record AreInOrder (T : List (List ℕ)) (rows : List Row) : Type 0 where
   pub all : IsPermutation T (row_texts T rows)
   pub each : All (IsRowOf T) rows
   pub ascend : IsSorted (row_cmp T) rows
+
+-- yes, where t ends with s; and only there, where s has fewer than 16 digits
+pub record TellsEnd (answer : Bool) (t s : List ℕ) : Type 0 where
+  pub yes : EndsWith t s → answer ≡ true
+  pub only : answer ≡ true → length (digits_backwards s) < 16 → EndsWith t s
+
+-- s has fewer than 16 digits, isn't empty and has no marker
+pub record IsShort (s : List ℕ) : Type 0 where
+  pub few : length (digits_backwards s) < 16
+  pub nonempty : 0 < length s
+  pub unmarked : is_unmarked s ≡ true
 
 -- s isn't empty, has no marker and ends the text p
 pub record IsSharedEnd (p s : List ℕ) : Type 0 where

@@ -1,6 +1,6 @@
 -- Rows whose fronts differ compare as these do.
-use Rattle.std.proofs.Common.{◌≡◌, ℕ, zero, suc, ◌+◌, ◌-◌, ◌*◌, ◌^◌, ◌<◌, ◌≤◌, List, [], ◌∷◌}
-use Rattle.std.proofs.Common.{get_or, false, refl, sym, ◌∙◌, ap, subst, arith}
+use Rattle.std.proofs.Common.{◌≡◌, ℕ, zero, suc, ◌+◌, ◌-◌, ◌*◌, ◌<◌, ◌≤◌, List, [], ◌∷◌}
+use Rattle.std.proofs.Common.{get_or, length, inl, inr, false, refl, sym, ◌∙◌, ap, subst, arith}
 use Rattle.std.specs.List.{All}
 use Rattle.std.specs.List.Sorted.{IsSorted}
 use Rattle.std.specs.Cmp.{IsTotalOrder, IsStrictWeakOrder}
@@ -11,25 +11,29 @@ use Rattle.std.specs.declared.cmp.Ordering.{Ordering}
 use Rattle.std.specs.declared.cmp.Ordering.TheVariants.{Less}
 use Rattle.std.proofs.lemmas.Cmp.{then_total, on_total, nat_cmp_total}
 use Rattle.std.proofs.lemmas.Cmp.{tied_itself}
+use Rattle.std.proofs.lemmas.Bool.{cases_lt}
+use Rattle.std.proofs.lemmas.List.{get_or_past}
 use Rattle.std.proofs.lemmas.List.Elements.{All-tail}
+use Rattle.std.proofs.lemmas.Str.{IsUtf8-nil}
 use Rattle.resb_pool.specs.Order.{end_last_cmp}
 use Rattle.resb_pool.specs.Inner.Cuts.{chars_backwards}
-use Rattle.resb_pool.specs.Inner.Suffixes.{digits_backwards, front_key, room, keyed_cmp, row_cmp}
-use Rattle.resb_pool.specs.Inner.Suffixes.{row_key, IsRowOf}
+use Rattle.resb_pool.specs.Inner.Suffixes.{digits_backwards, front_key, digits_bound, keyed_cmp, row_cmp}
+use Rattle.resb_pool.specs.Inner.Suffixes.{row_key, row_text, IsKeyed, IsRowOf}
+use Rattle.resb_pool.specs.Inner.Placing.{text_numbered}
 use Rattle.resb_pool.specs.declared.suffix_order.Row.{Row}
 use Rattle.resb_pool.proofs.SuffixOrder.{end_last_total}
 use Rattle.resb_pool.proofs.Digits.{IsSmall, small_key, digits_order}
 use Rattle.resb_pool.proofs.Numbers.{ordering_then_less, ordering_then_equal}
 use Rattle.resb_pool.proofs.Numbers.{three_ways, less_is_first}
 
-head_small : (x : ℕ) (xs : List ℕ) → IsSmall (x ∷ xs) → x < 255
+pub head_small : (x : ℕ) (xs : List ℕ) → IsSmall (x ∷ xs) → x < 255
 head_small x xs h = h 0 x (omega arith)
 
-tail_small : (x : ℕ) (xs : List ℕ) → IsSmall (x ∷ xs) → IsSmall xs
+pub tail_small : (x : ℕ) (xs : List ℕ) → IsSmall (x ∷ xs) → IsSmall xs
 tail_small x xs h = All-tail (λ c. c < 255) x xs h
 
 -- a smaller number in front stays smaller
-less_kept : (n a b : ℕ) (xs ys : List ℕ) → IsSmall xs → IsSmall ys → a < b
+pub less_kept : (n a b : ℕ) (xs ys : List ℕ) → IsSmall xs → IsSmall ys → a < b
     → front_key a n xs < front_key b n ys
 less_kept zero a b xs ys s t l = l
 less_kept (suc n) a b [] [] s t l =
@@ -45,24 +49,24 @@ less_kept (suc n) a b (x ∷ xs) (y ∷ ys) s t l =
     less_kept n (a * 256 + x) (b * 256 + y) xs ys (tail_small x xs s)
     (tail_small y ys t) (omega (arith, l, head_small x xs s))
 
-room_within : (k n : ℕ) → n + k ≡ 15 → room n ≤ 0x100_0000_0000_0000_0000_0000_0000_0000
-room_within zero n e =
+bound_within : (k n : ℕ) → n + k ≡ 15 → digits_bound n ≤ 0x100_0000_0000_0000_0000_0000_0000_0000
+bound_within zero n e =
     let last : n ≡ 15 = omega (arith, e) in
-    subst (λ m. room m ≤ 0x100_0000_0000_0000_0000_0000_0000_0000) (sym last) (omega arith)
-room_within (suc k) n e =
-    let next : room n * 256 ≤ 0x100_0000_0000_0000_0000_0000_0000_0000 =
-    room_within k (suc n) (omega (arith, e)) in
+    subst (λ m. digits_bound m ≤ 0x100_0000_0000_0000_0000_0000_0000_0000) (sym last) (omega arith)
+bound_within (suc k) n e =
+    let next : digits_bound n * 256 ≤ 0x100_0000_0000_0000_0000_0000_0000_0000 =
+    bound_within k (suc n) (omega (arith, e)) in
     omega (arith, next)
 
-pub room_fits : (n : ℕ) → n < 16 → room n ≤ 0x100_0000_0000_0000_0000_0000_0000_0000
-room_fits n l = room_within (15 - n) n (omega (arith, l))
+pub bound_fits : (n : ℕ) → n < 16 → digits_bound n ≤ 0x100_0000_0000_0000_0000_0000_0000_0000
+bound_fits n l = bound_within (15 - n) n (omega (arith, l))
 
 -- a digit more
-pub room_more : (left a d : ℕ) → 0 < left → left ≤ 16 → a < room (16 - left) → d < 256
-    → a * 256 + d < room (16 - (left - 1))
-room_more left a d p q l m =
+pub bound_more : (left a d : ℕ) → 0 < left → left ≤ 16 → a < digits_bound (16 - left) → d < 256
+    → a * 256 + d < digits_bound (16 - (left - 1))
+bound_more left a d p q l m =
     let n : 16 - (left - 1) ≡ suc (16 - left) = omega (arith, p, q) in
-    let e : room (16 - (left - 1)) ≡ room (16 - left) * 256 = ap room n in
+    let e : digits_bound (16 - (left - 1)) ≡ digits_bound (16 - left) * 256 = ap digits_bound n in
     omega (arith, e, l, m)
 
 pub next_digit : (left a d : ℕ) (ds : List ℕ) → 0 < left
@@ -108,59 +112,57 @@ order_of (suc n) a (x ∷ xs) (y ∷ ys) s t l =
           (tail_small y ys t) (tail_small x xs s) (omega (arith, m)),
     )))
 
-keyed_total : IsTotalOrder keyed_cmp
-keyed_total = then_total (on_total (λ (r : Row). r.last) nat_cmp_total)
-    (then_total (on_total (λ (r : Row). r.before) nat_cmp_total)
-    (on_total (λ (r : Row). chars_backwards r.text.now) end_last_total))
-
-pub keyed_order : IsStrictWeakOrder (λ (x y : Row). is_lt (keyed_cmp x y))
-keyed_order = ranks_by keyed_total (λ (r : Row). r)
-
--- the row has its text's last characters
-pub record IsKeyed (r : Row) : Type 0 where
-  pub utf8 : IsUtf8 r.text.now
-  pub front_is : row_key r ≡ front_key 0 16 (digits_backwards r.text.now)
-  pub small : r.before < 2 ^ 64
-
-pub row_keyed : (T : List (List ℕ)) (r : Row) → All IsUtf8 T → IsRowOf T r → IsKeyed r
-row_keyed T r u h = record {
-  utf8 = subst IsUtf8 (sym h.text_is) (u r.index [] h.within);
-  front_is = h.front_is;
-  small = h.small;
-}
-
--- the greater number stands after the other
-after_too : (x y : Row) → IsKeyed x → IsKeyed y → row_key y < row_key x
-    → is_lt (row_cmp x y) ≡ false
-after_too x y h k m =
-    let x_is : row_key x ≡ front_key 0 16 (digits_backwards x.text.now) = h.front_is in
-    let y_is : row_key y ≡ front_key 0 16 (digits_backwards y.text.now) = k.front_is in
-    ap is_lt (end_last_total.antisymm (chars_backwards x.text.now) (chars_backwards y.text.now)
-    ∙ ap ordering_reverse (digits_order (chars_backwards y.text.now) (chars_backwards x.text.now)
-    (order_of 16 0 (digits_backwards y.text.now) (digits_backwards x.text.now)
-    (small_key y.text.now k.utf8) (small_key x.text.now h.utf8) (omega (arith, m, x_is, y_is)))))
-
 -- of two comparisons in a row, what ties by the first goes by the second
 tied_first : (a b : ℕ) (o : Ordering) → a ≡ b → is_lt (ordering_then (nat_cmp a b) o) ≡ false
     → is_lt o ≡ false
 tied_first a b o f e = sym (ap is_lt (ap (λ z. ordering_then (nat_cmp a z) o) (sym f)
     ∙ ordering_then_equal (nat_cmp a a) o (tied_itself nat_cmp_total a))) ∙ e
 
-before_too : (x y : Row) → IsKeyed x → IsKeyed y → is_lt (keyed_cmp x y) ≡ false
-    → is_lt (row_cmp x y) ≡ false
-before_too x y h k e =
-    let second = ordering_then (nat_cmp x.before y.before) (row_cmp x y) in
-    three_ways (is_lt (row_cmp x y) ≡ false) x.last y.last
-    (λ f. absurd (less_is_first (nat_cmp x.last y.last) second f e))
-    (λ f. three_ways (is_lt (row_cmp x y) ≡ false) x.before y.before
-    (λ g. absurd (less_is_first (nat_cmp x.before y.before) (row_cmp x y) g
-    (tied_first x.last y.last second f e)))
-    (λ g. tied_first x.before y.before (row_cmp x y) g (tied_first x.last y.last second f e))
-    (λ m. after_too x y h k (omega (arith, m, f))))
-    (λ m. after_too x y h k (omega (arith, m, h.small, k.small)))
+-- each text, and the empty one where there is none
+pub text_utf8 : (T : List (List ℕ)) (i : ℕ) → All IsUtf8 T → IsUtf8 (text_numbered T i)
+text_utf8 T i u = elim (cases_lt i (length T)) [
+  | inl l ↦ u i [] l
+  | inr m ↦ subst IsUtf8 (sym (get_or_past T i [] m)) IsUtf8-nil
+]
 
-pub in_suffix_order : (rows : List Row) → All IsKeyed rows → IsSorted keyed_cmp rows
-    → IsSorted row_cmp rows
-in_suffix_order rows keyed up k d l m =
-    before_too (get_or rows (k + 1) d) (get_or rows k d) (keyed (k + 1) d m)
-    (keyed k d (omega (arith, m))) (up k d l m)
+module _ (T : List (List ℕ)) where
+  keyed_total : IsTotalOrder (keyed_cmp T)
+  keyed_total = then_total (on_total (λ (r : Row). r.last) nat_cmp_total)
+      (then_total (on_total (λ (r : Row). r.before) nat_cmp_total)
+      (on_total (λ (r : Row). chars_backwards (row_text T r)) end_last_total))
+
+  pub keyed_order : IsStrictWeakOrder (λ (x y : Row). is_lt (keyed_cmp T x y))
+  keyed_order = ranks_by keyed_total (λ (r : Row). r)
+
+  module _ (utf8 : All IsUtf8 T) where
+    -- the greater number stands after the other
+    after_too : (x y : Row) → IsKeyed T x → IsKeyed T y → row_key y < row_key x
+        → is_lt (row_cmp T x y) ≡ false
+    after_too x y h k m =
+        let s = row_text T x in
+        let t = row_text T y in
+        ap is_lt (end_last_total.antisymm (chars_backwards s) (chars_backwards t)
+        ∙ ap ordering_reverse (digits_order (chars_backwards t) (chars_backwards s)
+        (order_of 16 0 (digits_backwards t) (digits_backwards s)
+        (small_key t (text_utf8 T y.index utf8)) (small_key s (text_utf8 T x.index utf8))
+        (omega (arith, m, h.front_is, k.front_is)))))
+
+    before_too : (x y : Row) → IsKeyed T x → IsKeyed T y → is_lt (keyed_cmp T x y) ≡ false
+        → is_lt (row_cmp T x y) ≡ false
+    before_too x y h k e =
+        let texts = row_cmp T x y in
+        let second = ordering_then (nat_cmp x.before y.before) texts in
+        three_ways (is_lt texts ≡ false) x.last y.last
+        (λ f. absurd (less_is_first (nat_cmp x.last y.last) second f e))
+        (λ f. three_ways (is_lt texts ≡ false) x.before y.before
+        (λ g. absurd (less_is_first (nat_cmp x.before y.before) texts g
+        (tied_first x.last y.last second f e)))
+        (λ g. tied_first x.before y.before texts g (tied_first x.last y.last second f e))
+        (λ m. after_too x y h k (omega (arith, m, f))))
+        (λ m. after_too x y h k (omega (arith, m, h.small, k.small)))
+
+    pub in_suffix_order : (rows : List Row) → All (IsRowOf T) rows → IsSorted (keyed_cmp T) rows
+        → IsSorted (row_cmp T) rows
+    in_suffix_order rows each up k d l m =
+        before_too (get_or rows (k + 1) d) (get_or rows k d) (each (k + 1) d m).keyed
+        (each k d (omega (arith, m))).keyed (up k d l m)

@@ -7,17 +7,18 @@ use Rattle.resb_pool.specs.Pool.{record_units}
 use Rattle.resb_pool.specs.Records.{IsRecords}
 use Rattle.resb_pool.specs.Inner.Placing.{IsRecordOf, AreEnds, record_texts, record_cmp}
 use Rattle.resb_pool.specs.Inner.LaidRecords.{AreLyingIn, IsBlock}
-use Rattle.resb_pool.specs.declared.homes.Home.{Home}
+use Rattle.resb_pool.specs.declared.measure.Measure.{Measure}
 use Rattle.resb_pool.specs.declared.records.Record.{Record}
 use Rattle.resb_pool.specs.declared.records.Block.{Block}
 
-module _ (T : List (List ℕ)) (ps : List Home) (sums : List ℕ) (lying : AreLyingIn ps sums)
+module _ (T : List (List ℕ)) (hs : List ℕ) (ms : List Measure) (sums : List ℕ)
+    (lying : AreLyingIn hs ms sums)
     (v : List Record) (records : IsRecords T (record_texts v)) (each : All (IsRecordOf T sums) v)
     (ascend : IsSorted record_cmp v) where
   pub block_of : (r : Result Block AllocError)
       → IfOk r (λ b. b.units.items ≡ 0 ∷ flat_map record_units (record_texts v))
-      → IfOk r (λ b. length b.ends.items ≡ length ps) → IfOk r (λ b. AreEnds v v b.ends.items)
-      → IfOk r (λ b. IsBlock T ps b.units.items b.ends.items)
+      → IfOk r (λ b. length b.ends.items ≡ length hs) → IfOk r (λ b. AreEnds v v b.ends.items)
+      → IfOk r (λ b. IsBlock T hs ms b.units.items b.ends.items)
   block_of (Ok b) u n e = record {
     sums = sums;
     lying = lying;

@@ -22,6 +22,8 @@ mod Cut
 mod Ends
 mod Digits
 mod FrontKeys
+mod FrontDigits
+mod ShortTexts
 mod FrontBytes
 mod SuffixRuns
 mod Numbers

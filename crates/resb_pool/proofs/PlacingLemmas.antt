@@ -1,7 +1,7 @@
 -- What an iteration adds to the records, and what texts that hold the same say of one another.
 use Rattle.std.proofs.Common.{◌≡◌, ◌<◌, ℕ, List, [], ◌∷◌, ◌++◌, length, None, ◌⊎◌, inl, inr, ◌↔◌}
 use Rattle.std.proofs.Common.{sym, ap, subst, arith}
-use Rattle.std.specs.List.{Contains}
+use Rattle.std.specs.List.{All, Contains}
 use Rattle.std.specs.Map.{lookup}
 use Rattle.std.specs.Borrow.{Bor}
 use Rattle.std.specs.HashMap.{HashMap}
@@ -12,7 +12,9 @@ use Rattle.std.proofs.lemmas.List.Elements.{Contains-push_cases}
 use Rattle.resb_pool.specs.Records.{IsRecord, IsRecords}
 use Rattle.resb_pool.specs.Container.{IsContainer}
 use Rattle.resb_pool.specs.Inner.Placing.{text_numbered, LiesAt, AreRecordsAmong}
+use Rattle.resb_pool.specs.Inner.Placing.{AreContainers}
 use Rattle.std.proofs.lemmas.Bool.{cases_lt}
+use Rattle.std.proofs.lemmas.List.{get_or_default}
 use Rattle.resb_pool.proofs.Distinct.{distinct_push}
 use Rattle.resb_pool.proofs.TextLists.{TextList}
 
@@ -110,3 +112,11 @@ lies_in_itself T i r at e full =
           absurd (full (omega (arith, z)))
     ] in
     subst (λ n. IsRecord T (text_numbered T n)) e (at.container pos).own
+
+-- each text lies in one of them
+pub within_texts : (T : TextList) (hs : List ℕ) → AreContainers T hs
+    → All (λ h. h < length hs) hs
+within_texts T hs c i d l =
+    let m : i < length T = omega (arith, l, c.len) in
+    let w = (c.lies i m).within in
+    omega (arith, get_or_default hs i 0 d l, w, c.len)

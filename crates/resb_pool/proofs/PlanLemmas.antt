@@ -1,5 +1,5 @@
--- From the texts, homes, sums, records and closing zeros to the plan.
-use Rattle.std.proofs.Common.{◌≡◌, ℕ, zero, suc, ◌+◌, ◌<◌, ◌≤◌, ◌^◌, List, [], ◌∷◌, length, map}
+-- From the texts, containers, sums, records and closing zeros to the plan.
+use Rattle.std.proofs.Common.{◌≡◌, ℕ, zero, suc, ◌+◌, ◌<◌, ◌≤◌, ◌^◌, List, [], ◌∷◌, length}
 use Rattle.std.proofs.Common.{get_or, Bool, Bor, true, false, cond, not, Option, Some, None}
 use Rattle.std.proofs.Common.{MatchOption, ◌↔◌, refl, sym, ◌∙◌, ap, subst, arith, true≢false, inl}
 use Rattle.std.proofs.Common.{inr}
@@ -21,12 +21,12 @@ use Rattle.resb_pool.specs.Container.{IsContainer}
 use Rattle.resb_pool.specs.Pool.{LiesIn, SizeIn, Saved, Precedes, record_units, ClosesAt, Off}
 use Rattle.resb_pool.specs.Pool.{off_empty, off_within}
 use Rattle.resb_pool.specs.Plan.{nows, texts_size, IsPlan}
-use Rattle.resb_pool.specs.Inner.Placing.{text_numbered, copies, AreTexts, AreHomes, AreSums}
+use Rattle.resb_pool.specs.Inner.Placing.{text_numbered, copies, AreTexts, AreContainers, AreSums}
 use Rattle.resb_pool.specs.Inner.Placing.{lying_in}
 use Rattle.resb_pool.specs.Inner.Placing.{IsRecordOf, AreEnds, record_texts, record_cmp}
-use Rattle.resb_pool.specs.Inner.Placing.{offset_by, ClosesWithin}
+use Rattle.resb_pool.specs.Inner.Placing.{AllClose, AreOffsets}
+use Rattle.resb_pool.specs.Inner.LaidRecords.{AreLyingIn}
 use Rattle.resb_pool.specs.declared.measure.Measure.{Measure}
-use Rattle.resb_pool.specs.declared.homes.Home.{Home}
 use Rattle.resb_pool.specs.declared.records.Record.{Record}
 use Rattle.resb_pool.proofs.Least.{into_least}
 use Rattle.resb_pool.proofs.TextLoops.{blank}
@@ -58,83 +58,72 @@ size_nil =
     ap (λ us. length (cond (nat_le (length us) 40 && true) [] (length_marker (length us))) + length
     us + 1) e
 
+each_sized : (Q : TextList) → length Q ≤ sum_by size Q
+each_sized [] = omega arith
+each_sized (q ∷ Q) = omega (arith, each_sized Q, sum_by-cons size q Q)
+
+-- distinct texts are few, since each takes a unit
+pub texts_few : (S T : TextList) (ms : List Measure) → AreTexts S T ms → texts_size S < 2 ^ 28
+    → length T < 2 ^ 28
+texts_few S T ms given small =
+    let within : sum_by size T ≤ sum_by size S =
+    into_least size (λ p r. p ≡ r) (λ p q r e f. e ∙ sym f) T S given.once
+    (λ q c. (q, (given.same q).0 c, refl, omega arith)) in
+    omega (arith, each_sized T, within, sizes_within S, small)
+
 module _ (S T : TextList) (ms : List Measure) (given : AreTexts S T ms)
     (small : texts_size S < 2 ^ 28)
-    (ps : List Home) (placed : AreHomes T ps) (measures : map (λ (p : Home). p.measure) ps ≡ ms)
+    (hs : List ℕ) (placed : AreContainers T hs)
   where
     abbrev back : (s : List ℕ) → Contains S s ↔ Contains T s
     back s = ((given.same s).1, (given.same s).0)
 
-    total_is : (i : ℕ) (d : Home) → i < length T
-        → (get_or ps i d).measure.total ≡ copies S (text_numbered T i)
-    total_is i d l = sym (ap (λ m. m.total) (measure_at i d l))
-        ∙ (given.measured i d.measure l).total_is
-      where
-        measure_at : (i : ℕ) (d : Home) → i < length T
-            → get_or ms i d.measure ≡ (get_or ps i d).measure
-        measure_at i d l = ap (λ (z : List Measure). get_or z i d.measure) (sym measures)
-            ∙ get_or-map (λ (p : Home). p.measure) ps i d d.measure (omega (arith, l, placed.len))
-
-    pub unit_count_is : (i : ℕ) (d : Home) → i < length T
-        → (get_or ps i d).measure.unit_count ≡ length (units (text_numbered T i))
-    unit_count_is i d l = sym (ap (λ m. m.unit_count) (measure_at i d l))
-        ∙ (given.measured i d.measure l).units_is
-      where
-        measure_at : (i : ℕ) (d : Home) → i < length T
-            → get_or ms i d.measure ≡ (get_or ps i d).measure
-        measure_at i d l = ap (λ (z : List Measure). get_or z i d.measure) (sym measures)
-            ∙ get_or-map (λ (p : Home). p.measure) ps i d d.measure (omega (arith, l, placed.len))
-
-    pub size_is : (i : ℕ) (d : Home) → i < length T
-        → (get_or ps i d).measure.size ≡ size (text_numbered T i)
-    size_is i d l = sym (ap (λ m. m.size) (measure_at i d l))
-        ∙ (given.measured i d.measure l).size_is
-      where
-        measure_at : (i : ℕ) (d : Home) → i < length T
-            → get_or ms i d.measure ≡ (get_or ps i d).measure
-        measure_at i d l = ap (λ (z : List Measure). get_or z i d.measure) (sym measures)
-            ∙ get_or-map (λ (p : Home). p.measure) ps i d d.measure (omega (arith, l, placed.len))
-
     sizes_small : sum_by size S < 2 ^ 28
     sizes_small = omega (arith, sizes_within S, small)
 
-    pub totals_small : sum_by (λ (p : Home). p.measure.total) ps < 2 ^ 32
+    total_is : (i : ℕ) (d : Measure) → i < length T
+        → (get_or ms i d).total ≡ copies S (text_numbered T i)
+    total_is i d l = (given.measured i d l).total_is
+
+    size_is : (i : ℕ) (d : Measure) → i < length T
+        → (get_or ms i d).size ≡ size (text_numbered T i)
+    size_is i d l = (given.measured i d l).size_is
+
+    pub totals_small : sum_by (λ (m : Measure). m.total) ms < 2 ^ 32
     totals_small = omega (
       arith,
-      totals_of S ps T placed.len total_is,
+      totals_of S ms T given.len total_is,
       copies_of_all T S given.once,
       sizes_small,
     )
 
-    no_home : Home
-    no_home = record { «record» = 0; measure = record { unit_count = 0; size = 0; total = 0 } }
-
     record_in : (q : ℕ) → q < length T → IsRecord T (text_numbered T q)
-        → SizeIn S (text_numbered T q) S (lying_in ps q)
-    record_in q l r = sized S T given.utf8 given.once given.same ps placed total_is q l r no_home
+        → SizeIn S (text_numbered T q) S (lying_in hs ms q)
+    record_in q l r =
+        sized S T given.utf8 given.once given.same hs placed ms given.len total_is q l r
 
     -- a record lies in itself
     own_container : (q : ℕ) → q < length T → IsRecord T (text_numbered T q)
         → IsContainer S (text_numbered T q) (text_numbered T q)
     own_container q l r =
-        let at = placed.lies q no_home l in
+        let at = placed.lies q l in
         container_from T S given.same (text_numbered T q) (text_numbered T q)
         (subst (λ n. IsContainer T (text_numbered T q) (text_numbered T n)) (at.itself r)
         (at.container r.nonempty))
 
-    module _ (sums : List ℕ) (len : length sums ≡ length ps) (sum_is : (q : ℕ) → q < length ps
-        → get_or sums q 0 ≡ lying_in ps q) where
-      pub sums_are : AreSums T ps sums
+    module _ (sums : List ℕ) (lying : AreLyingIn hs ms sums) where
+      pub sums_are : AreSums T ms sums
       sums_are = record {
-        len = len ∙ placed.len;
-        units_is = unit_count_is;
+        measured = given.len;
+        len = lying.len ∙ placed.len;
+        units_is = λ i d l. (given.measured i d l).units_is;
         size_is = size_is;
         own = λ q l r.
             let c = own_container q l r in
             let o = own_size S (text_numbered T q)
             (record { nonempty = r.nonempty; container = c }) S
-            (lying_in ps q) (record_in q l r) c.own.given in
-            omega (arith, o, sum_is q (omega (arith, l, placed.len)));
+            (lying_in hs ms q) (record_in q l r) c.own.given in
+            omega (arith, o, lying.each q (omega (arith, l, placed.len)));
       }
 
       module _ (v : List Record) (records : IsRecords T (record_texts v))
@@ -156,8 +145,8 @@ module _ (S T : TextList) (ms : List Measure) (given : AreTexts S T ms)
             let e = each i d l in
             let own : IsRecord T (text_numbered T r.index) =
             subst (IsRecord T) e.text_is ((records.just r.text.now).0 (contains_text v i d l)) in
-            let n : lying_in ps r.index ≡ r.saved.0 + size r.text.now =
-            sym (sum_is r.index (omega (arith, e.within, placed.len))) ∙ sym e.saved_is in
+            let n : lying_in hs ms r.index ≡ r.saved.0 + size r.text.now =
+            sym (lying.each r.index (omega (arith, e.within, placed.len))) ∙ sym e.saved_is in
             subst (λ z. SizeIn S z S (r.saved.0 + size z)) (sym e.text_is)
             (subst (SizeIn S (text_numbered T r.index) S) (n
             ∙ ap (λ z. r.saved.0 + size z) e.text_is)
@@ -172,7 +161,7 @@ module _ (S T : TextList) (ms : List Measure) (given : AreTexts S T ms)
                   (get_or v i d).text.now l,
             )
 
-        module _ (es : List ℕ) (count : length es ≡ length ps) (ends : AreEnds v v es) where
+        module _ (es : List ℕ) (count : length es ≡ length hs) (ends : AreEnds v v es) where
           closed : (q : ℕ) → q < length T → IsRecord T (text_numbered T q)
               → ClosesAt (record_texts v) (text_numbered T q) (get_or es q 0)
           closed q l r = at (index_of (record_texts v) (text_numbered T q)
@@ -218,55 +207,54 @@ module _ (S T : TextList) (ms : List Measure) (given : AreTexts S T ms)
               omega (arith, n, z, ap length (o.text_is ∙ ap (text_numbered T) e)))
 
           -- where the record of a text closes
-          record_end : (i : ℕ) (d : Home) → i < length T → 0 < length (text_numbered T i)
-              → LiesIn S (text_numbered T i) (text_numbered T (get_or ps i d).record)
-              × ClosesAt (record_texts v) (text_numbered T (get_or ps i d).record)
-              (get_or es (get_or ps i d).record 0)
-              × (size (text_numbered T i) ≤ size (text_numbered T (get_or ps i d).record))
-          record_end i d l pos =
-              let at = placed.lies i d l in
+          record_end : (i : ℕ) → i < length T → 0 < length (text_numbered T i)
+              → LiesIn S (text_numbered T i) (text_numbered T (get_or hs i 0))
+              × ClosesAt (record_texts v) (text_numbered T (get_or hs i 0))
+              (get_or es (get_or hs i 0) 0)
+              × (size (text_numbered T i) ≤ size (text_numbered T (get_or hs i 0)))
+          record_end i l pos =
+              let at = placed.lies i l in
               let c = at.container pos in
               let own = container_from T S given.same (text_numbered T i)
-              (text_numbered T (get_or ps i d).record) c in
+              (text_numbered T (get_or hs i 0)) c in
               let w = size_within S given.utf8 (text_numbered T i)
-              (text_numbered T (get_or ps i d).record)
+              (text_numbered T (get_or hs i 0))
               ((given.same (text_numbered T i)).0 (has_text T i l)) own
               (λ r. ap (text_numbered T) (at.itself
               (record_from S T back (text_numbered T i) r))) pos in (
                 record { nonempty = pos; container = own },
-                closed (get_or ps i d).record at.within
+                closed (get_or hs i 0) at.within
                     c.own,
                 w,
               )
 
           -- the empty text closes at unit 0
-          empty_end : (i : ℕ) (d : Home) → i < length T → length (text_numbered T i) ≡ 0
-              → (get_or es (get_or ps i d).record 0 ≡ 0) × (size (text_numbered T i) ≡ 1)
-          empty_end i d l z = (
-            ap (λ n. get_or es n 0) ((placed.lies i d l).empty z) ∙ empty_zero i l z,
+          empty_end : (i : ℕ) → i < length T → length (text_numbered T i) ≡ 0
+              → (get_or es (get_or hs i 0) 0 ≡ 0) × (size (text_numbered T i) ≡ 1)
+          empty_end i l z = (
+            ap (λ n. get_or es n 0) ((placed.lies i l).empty z) ∙ empty_zero i l z,
             ap size (nil_from_length (text_numbered T i) z) ∙ size_nil,
           )
 
-          pub all_close : All (ClosesWithin es) ps
+          pub all_close : AllClose hs ms es
           all_close = λ i d l.
               let m : i < length T = omega (arith, l, placed.len) in
-              let at = placed.lies i d m in
-              let w : get_or ps i d ≡ get_or ps i d = refl in
+              let at = placed.lies i m in
               elim (cases_lt 0 (length (text_numbered T i))) [
                 | inl pos ↦
-                    let e = record_end i d m pos in
+                    let e = record_end i m pos in
                     record {
                       within = omega (arith, at.within, count, placed.len);
                       reaches = omega (arith, size_is i d m, e.2, e.1.place);
                       small = omega (
                         arith,
-                        closes_within (text_numbered T (get_or ps i d).record)
-                            (get_or es (get_or ps i d).record 0) e.1,
+                        closes_within (text_numbered T (get_or hs i 0))
+                            (get_or es (get_or hs i 0) 0) e.1,
                         laid_small,
                       );
                     }
                 | inr z ↦
-                    let e = empty_end i d m (omega (arith, z)) in
+                    let e = empty_end i m (omega (arith, z)) in
                     record {
                       within = omega (arith, at.within, count, placed.len);
                       reaches = omega (arith, size_is i d m, e.1);
@@ -274,77 +262,77 @@ module _ (S T : TextList) (ms : List Measure) (given : AreTexts S T ms)
                     }
               ]
 
-          stands : (i : ℕ) (d : Home) → i < length T
-              → Off S (record_texts v) (text_numbered T i) (offset_by es (get_or ps i d))
-          stands i d l = elim (cases_lt 0 (length (text_numbered T i))) [
-            | inl pos ↦
-                let e = record_end i d l pos in
-                off_within {s = text_numbered T i} {r = text_numbered T (get_or ps i d).record} {k =
-                offset_by es (get_or ps i d)} {c = get_or es (get_or ps i d).record 0} e.0 e.1
-                (omega (arith, size_is i d l, e.2, e.1.place))
-            | inr z ↦
-                let e = empty_end i d l (omega (arith, z)) in
-                let k : offset_by es (get_or ps i d) ≡ 0 = omega (arith, size_is i d l, e.0, e.1) in
-                subst (Off S (record_texts v) (text_numbered T i)) (sym k)
-                (subst (λ s. Off S (record_texts v) s 0)
-                (sym (nil_from_length (text_numbered T i) (omega (arith, z)))) off_empty)
-          ]
+          module _ (os : List ℕ) (offsets : AreOffsets hs ms es os) where
+            stands : (i : ℕ) → i < length T
+                → Off S (record_texts v) (text_numbered T i) (get_or os i 0)
+            stands i l =
+                let d : Measure = record { unit_count = 0; size = 0; total = 0 } in
+                let o = offsets.each i d (omega (arith, l, placed.len)) in
+                let h = get_or hs i 0 in
+                elim (cases_lt 0 (length (text_numbered T i))) [
+                  | inl pos ↦
+                      let e = record_end i l pos in
+                      off_within {s = text_numbered T i} {r = text_numbered T h} {k =
+                      get_or os i 0} {c = get_or es h 0} e.0 e.1
+                      (omega (arith, o, size_is i d l, e.2, e.1.place))
+                  | inr z ↦
+                      let e = empty_end i l (omega (arith, z)) in
+                      let k : get_or os i 0 ≡ 0 = omega (arith, o, size_is i d l, e.0, e.1) in
+                      subst (Off S (record_texts v) (text_numbered T i)) (sym k)
+                      (subst (λ s. Off S (record_texts v) s 0)
+                      (sym (nil_from_length (text_numbered T i) (omega (arith, z)))) off_empty)
+                ]
 
-          pub planned : IsSorted record_cmp v → All (λ s. length (units s) ≤ 4294967295) S
-              → (us : List ℕ) (offset : List ℕ → Option ℕ)
-              → us ≡ 0 ∷ flat_map record_units (record_texts v)
-              → ((s : List ℕ) → MatchOption (offset s) (Contains T s → ⊥) (λ k. (i : ℕ)
-              × (i < length T) × (text_numbered T i ≡ s)
-              × (k ≡ get_or (map (offset_by es) ps) i 0)))
-              → IsPlan S us offset
-          planned sorted short us offset u f = record {
-            texts = given.utf8;
-            short = short;
-            room = omega (arith, ap length u, length-records (record_texts v), laid_small);
-            records = record_texts v;
-            pool = record {
-              records = in_given;
-              ordered = λ k lt. precedes k lt;
-              units = u;
-            };
-            offsets = λ s. by s (offset s) (f s);
-          }
-            where
-              by : (s : List ℕ) (o : Option ℕ) → MatchOption o (Contains T s → ⊥) (λ k. (i : ℕ)
-                  × (i < length T) × (text_numbered T i ≡ s)
-                  × (k ≡ get_or (map (offset_by es) ps) i 0))
-                  → MatchOption o (Contains S s → ⊥) (λ k. Contains S s
-                  × Off S (record_texts v) s k)
-              by s None h = λ c. h ((given.same s).1 c)
-              by s (Some k) (i, l, e, q) =
-                  let n : k ≡ offset_by es (get_or ps i no_home) = q
-                  ∙ get_or-map (offset_by es) ps i no_home 0 (omega (arith, l, placed.len)) in (
-                    (given.same s).0 (subst (Contains T) e (has_text T i l)),
-                    subst (λ z. Off S (record_texts v) z k) e
-                        (subst (Off S (record_texts v) (text_numbered T i)) (sym n)
-                        (stands i no_home l)),
-                  )
+            pub planned : IsSorted record_cmp v → All (λ s. length (units s) ≤ 4294967295) S
+                → (us : List ℕ) (offset : List ℕ → Option ℕ)
+                → us ≡ 0 ∷ flat_map record_units (record_texts v)
+                → ((s : List ℕ) → MatchOption (offset s) (Contains T s → ⊥) (λ k. (i : ℕ)
+                × (i < length T) × (text_numbered T i ≡ s) × (k ≡ get_or os i 0)))
+                → IsPlan S us offset
+            planned sorted short us offset u f = record {
+              texts = given.utf8;
+              short = short;
+              room = omega (arith, ap length u, length-records (record_texts v), laid_small);
+              records = record_texts v;
+              pool = record {
+                records = in_given;
+                ordered = λ k lt. precedes k lt;
+                units = u;
+              };
+              offsets = λ s. by s (offset s) (f s);
+            }
+              where
+                by : (s : List ℕ) (o : Option ℕ) → MatchOption o (Contains T s → ⊥) (λ k. (i : ℕ)
+                    × (i < length T) × (text_numbered T i ≡ s) × (k ≡ get_or os i 0))
+                    → MatchOption o (Contains S s → ⊥) (λ k. Contains S s
+                    × Off S (record_texts v) s k)
+                by s None h = λ c. h ((given.same s).1 c)
+                by s (Some k) (i, l, e, q) = (
+                  (given.same s).0 (subst (Contains T) e (has_text T i l)),
+                  subst (λ z. Off S (record_texts v) z k) e
+                      (subst (Off S (record_texts v) (text_numbered T i)) (sym q) (stands i l)),
+                )
 
-              precedes : (k : ℕ) → k + 1 < length (record_texts v)
-                  → Precedes S (get_or (record_texts v) k []) (get_or (record_texts v) (k + 1) [])
-              precedes k lt =
-                  let Q = record_texts v in
-                  let n = texts_len v in
-                  let next : suc k ≡ k + 1 = omega arith in
-                  let a : k < length v = omega (arith, n) in
-                  let b : k + 1 < length v = omega (arith, n) in
-                  let here = text_at_index v k no_record a in
-                  let there = text_at_index v (k + 1) no_record b in
-                  let x = get_or v k no_record in
-                  let y = get_or v (k + 1) no_record in
-                  let ne : x.text.now ≡ y.text.now
-                  → ⊥ = λ q. neighbours_differ Q k records.once (omega arith) (here ∙ q
-                  ∙ sym there ∙ ap (λ i. get_or Q i []) (sym next)) in
-                  subst (λ z. Precedes S z (get_or Q (k + 1) [])) (sym here)
-                  (subst (Precedes S x.text.now) (sym there)
-                  (in_order S x y (each k no_record a).units_is (each (k + 1) no_record b).units_is
-                  (saved_at k no_record a) (saved_at (k + 1) no_record b)
-                  (sorted k no_record (omega arith) b) ne))
+                precedes : (k : ℕ) → k + 1 < length (record_texts v)
+                    → Precedes S (get_or (record_texts v) k []) (get_or (record_texts v) (k + 1) [])
+                precedes k lt =
+                    let Q = record_texts v in
+                    let n = texts_len v in
+                    let next : suc k ≡ k + 1 = omega arith in
+                    let a : k < length v = omega (arith, n) in
+                    let b : k + 1 < length v = omega (arith, n) in
+                    let here = text_at_index v k no_record a in
+                    let there = text_at_index v (k + 1) no_record b in
+                    let x = get_or v k no_record in
+                    let y = get_or v (k + 1) no_record in
+                    let ne : x.text.now ≡ y.text.now
+                    → ⊥ = λ q. neighbours_differ Q k records.once (omega arith) (here ∙ q
+                    ∙ sym there ∙ ap (λ i. get_or Q i []) (sym next)) in
+                    subst (λ z. Precedes S z (get_or Q (k + 1) [])) (sym here)
+                    (subst (Precedes S x.text.now) (sym there)
+                    (in_order S x y (each k no_record a).units_is (each (k + 1) no_record b).units_is
+                    (saved_at k no_record a) (saved_at (k + 1) no_record b)
+                    (sorted k no_record (omega arith) b) ne))
 
 -- the place of a text among keys
 module _ (s : List ℕ) where

@@ -19,7 +19,8 @@ use Rattle.resb_pool.specs.Container.{IsContainer}
 use Rattle.resb_pool.specs.Inner.Cuts.{chars_backwards}
 use Rattle.resb_pool.specs.Inner.Extends.{Extends, Before, NotAfter}
 use Rattle.resb_pool.specs.Inner.Placing.{text_numbered, LiesAt}
-use Rattle.resb_pool.specs.Inner.Suffixes.{AreInOrder, IsSharedEnd, row_texts, row_cmp}
+use Rattle.resb_pool.specs.Inner.Suffixes.{AreInOrder, IsSharedEnd, row_text, row_texts}
+use Rattle.resb_pool.specs.Inner.Suffixes.{row_cmp}
 use Rattle.resb_pool.specs.declared.suffix_order.Row.{Row}
 use Rattle.resb_pool.proofs.Cut.{key_same, ends_extends, extends_ends}
 use Rattle.resb_pool.proofs.Distinct.{has_text, index_of, one_index}
@@ -57,19 +58,16 @@ ends_trans t s r h k = record {
 module _ (T : TextList) (utf8 : All IsUtf8 T) (once : EachOnce T) (rows : List Row)
     (o : AreInOrder T rows) where
   abbrev at : ℕ → Row → List ℕ
-  at j d = (get_or rows j d).text.now
+  at j d = row_text T (get_or rows j d)
 
   pub same_len : length rows ≡ length T
-  same_len = sym (length-map rows (λ (r : Row). r.text.now)) ∙ length_permutation T (row_texts rows)
-      o.all
+  same_len = sym (length-map rows (row_text T)) ∙ length_permutation T (row_texts T rows) o.all
 
-  pub row_text : (j : ℕ) (d : Row) → j < length rows → text_numbered (row_texts rows) j ≡ at j d
-  row_text j d l = get_or-map (λ (r : Row). r.text.now) rows j d _ l
+  text_at : (j : ℕ) (d : Row) → j < length rows → text_numbered (row_texts T rows) j ≡ at j d
+  text_at j d l = get_or-map (row_text T) rows j d _ l
 
   in_texts : (j : ℕ) (d : Row) → j < length rows → Contains T (at j d)
-  in_texts j d l =
-      let r = o.each j d l in
-      subst (Contains T) (sym r.text_is) (has_text T (get_or rows j d).index r.within)
+  in_texts j d l = has_text T (get_or rows j d).index (o.each j d l).within
 
   is_utf8 : (j : ℕ) (d : Row) → j < length rows → IsUtf8 (at j d)
   is_utf8 j d l = All-contains IsUtf8 T (at j d) utf8 (in_texts j d l)
@@ -77,37 +75,34 @@ module _ (T : TextList) (utf8 : All IsUtf8 T) (once : EachOnce T) (rows : List R
   -- each text has a row
   place_of : (t : List ℕ) (d : Row) → Contains T t → (j : ℕ) × (j < length rows) × (at j d ≡ t)
   place_of t d h =
-      let p = index_of (row_texts rows) t (Contains-permutation T (row_texts rows) t o.all h) in
-      let l : p.0 < length rows = omega (arith, p.1, length-map rows (λ (r : Row). r.text.now)) in
-      (p.0, l, sym (row_text p.0 d l) ∙ p.2)
+      let p = index_of (row_texts T rows) t (Contains-permutation T (row_texts T rows) t o.all h) in
+      let l : p.0 < length rows = omega (arith, p.1, length-map rows (row_text T)) in
+      (p.0, l, sym (text_at p.0 d l) ∙ p.2)
 
   -- and one alone
   one_place : (j k : ℕ) (d : Row) → j < length rows → k < length rows → at j d ≡ at k d → j ≡ k
   one_place j k d l m e =
-      let n = length-map rows (λ (r : Row). r.text.now) in
-      one_index (row_texts rows) j k (distinct_permutation T (row_texts rows) o.all once)
-      (omega (arith, l, n)) (omega (arith, m, n)) (row_text j d l ∙ e ∙ sym (row_text k d m))
+      let n = length-map rows (row_text T) in
+      one_index (row_texts T rows) j k (distinct_permutation T (row_texts T rows) o.all once)
+      (omega (arith, l, n)) (omega (arith, m, n)) (text_at j d l ∙ e ∙ sym (text_at k d m))
 
   pub one_row : (j k : ℕ) (d : Row) → j < length rows → k < length rows
       → (get_or rows j d).index ≡ (get_or rows k d).index → j ≡ k
-  one_row j k d l m e = one_place j k d l m ((o.each j d l).text_is ∙ ap (text_numbered T) e
-      ∙ sym (o.each k d m).text_is)
+  one_row j k d l m e = one_place j k d l m (ap (text_numbered T) e)
 
   pub row_of : (i : ℕ) (d : Row) → i < length T → (j : ℕ) × (j < length rows)
       × ((get_or rows j d).index ≡ i)
   row_of i d l =
       let p = place_of (text_numbered T i) d (has_text T i l) in
       let r = o.each p.0 d p.1 in
-      (p.0, p.1, one_index T (get_or rows p.0 d).index i once r.within l (sym r.text_is ∙ p.2))
+      (p.0, p.1, one_index T (get_or rows p.0 d).index i once r.within l p.2)
 
   -- rows stand in suffix order
   in_order : (i j : ℕ) (d : Row) → i ≤ j → j < length rows
       → NotAfter (chars_backwards (at i d)) (chars_backwards (at j d))
   in_order i j d l m = not_less (chars_backwards (at j d)) (chars_backwards (at i d))
-      (sorted_far (λ (x y : Row). is_lt
-      (row_cmp x y)) (ranks_by end_last_total
-      (λ (r : Row). chars_backwards r.text.now)) rows o.ascend i j d
-      l m)
+      (sorted_far (λ (x y : Row). is_lt (row_cmp T x y)) (ranks_by end_last_total
+      (λ (r : Row). chars_backwards (row_text T r))) rows o.ascend i j d l m)
 
   -- what stands before the text of row j stands in a row before it
   row_before : (t : List ℕ) (j : ℕ) (d : Row) → j < length rows → Contains T t
@@ -185,8 +180,7 @@ module _ (T : TextList) (utf8 : All IsUtf8 T) (once : EachOnce T) (rows : List R
       let r = o.each j d l in
       record {
         within = r.within;
-        container = λ p. subst (λ z. IsContainer T z z) r.text_is
-            (own_container (own_record (subst (λ z. 0 < length z) (sym r.text_is) p)));
+        container = λ p. own_container (own_record p);
         itself = λ h. refl;
         empty = λ z. refl;
       }
@@ -257,8 +251,6 @@ module _ (T : TextList) (utf8 : All IsUtf8 T) (once : EachOnce T) (rows : List R
     pub lies_shared : (h : ℕ) → LiesAt T (get_or rows k d).index h
         → LiesAt T (get_or rows (k + 1) d).index h
     lies_shared h lies =
-        let a = o.each k d m in
-        let b = o.each (k + 1) d l in
         let pos : 0 < length p =
         omega (
           arith,
@@ -266,18 +258,16 @@ module _ (T : TextList) (utf8 : All IsUtf8 T) (once : EachOnce T) (rows : List R
           ap length shared.ends.is,
           length-append shared.ends.front s,
         ) in
-        let c : IsContainer T p (text_numbered T h) = subst
-        (λ z. IsContainer T z (text_numbered T h)) (sym a.text_is)
-        (lies.container (subst (λ z. 0 < length z) a.text_is pos)) in
+        let c : IsContainer T p (text_numbered T h) = lies.container pos in
         record {
           within = lies.within;
-          container = λ z. subst (λ z. IsContainer T z (text_numbered T h)) b.text_is (record {
+          container = λ z. record {
             own = c.own;
             ends = ends_trans (text_numbered T h) p s c.ends shared.ends;
             greatest = λ q x y. with_previous q (text_numbered T h) x y c;
-          });
-          itself = λ x. absurd (no_record (subst (IsRecord T) (sym b.text_is) x));
-          empty = λ z. absurd (omega (arith, z, ap length b.text_is, shared.nonempty));
+          };
+          itself = λ x. absurd (no_record x);
+          empty = λ z. absurd (omega (arith, z, shared.nonempty));
         }
 
   -- p is the text right before row i, which lies in h

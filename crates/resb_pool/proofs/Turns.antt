@@ -7,14 +7,14 @@ use Rattle.std.specs.Prelude.{slice_get, slice_index, position}
 use Rattle.std.specs.List.{All, Contains, list_any}
 use Rattle.std.specs.Option.{option_and_then}
 use Rattle.std.specs.Str.{bytes_eq}
-use Rattle.std.proofs.lemmas.List.{get_or_append_left, length_push, length-map, map_push}
+use Rattle.std.proofs.lemmas.List.{get_or_append_left, length_push, map_push}
 use Rattle.std.proofs.lemmas.List.Elements.{All-nil, All-tail, All-push}
 use Rattle.std.proofs.lemmas.List.Sums.{sum_by-cons}
 use Rattle.indexmap.specs.IndexSet.{insert_key}
 use Rattle.resb_format.specs.Units.{units}
 use Rattle.resb_pool.specs.Records.{EachOnce}
 use Rattle.resb_pool.specs.Plan.{nows, texts_size}
-use Rattle.resb_pool.specs.Inner.Placing.{text_numbered, offset_by, AreTurns}
+use Rattle.resb_pool.specs.Inner.Placing.{text_numbered, AreTurns}
 use Rattle.resb_pool.specs.Inner.LaidRecords.{HaveOffsets}
 use Rattle.resb_pool.specs.declared.measure.Measure.{Measure}
 use Rattle.resb_pool.proofs.Distinct.{has_text, one_index}
@@ -92,9 +92,8 @@ pub offsets_fit : (T : TextList) (ms : List Measure) (us os : List ℕ) → Have
     → length os ≡ length T
 offsets_fit T ms us os h = omega (
   arith,
-  ap length h.offsets_are,
-  length-map h.homes (offset_by h.ends),
-  h.homes_are.len,
+  h.offsets_are.len,
+  h.containers_are.len,
 )
 
 -- the offset of an index's text stands there

@@ -2,8 +2,8 @@
 //! No plan knows of trees, keys or files.
 #![tactic(auto)]
 
+mod containers;
 mod error;
-mod homes;
 pub mod laws;
 mod measure;
 mod offsets;

@@ -1,13 +1,13 @@
 //! Where each string stands once its record is laid.
 //! The records and their closing zeros come from `records`.
-ghost use Rattle.std.specs.Prelude.{◌≡◌, ◌+◌, ◌-◌, ◌<◌, All, IfOk, map};
+ghost use Rattle.std.specs.Prelude.{◌≡◌, IfOk, length, map};
 ghost use Rattle.std.specs.Prelude.{Some, IsTrue, slice_index};
 ghost use Rattle.std.specs.Str.{bytes_eq};
 ghost use Rattle.indexmap.specs.IndexSet.{index_of_by};
 ghost use Rattle.resb_pool.specs.Plan.{plan_units, offset_of, turn_offsets};
-ghost use Rattle.resb_pool.specs.Inner.Placing.{offset_by, ClosesWithin};
+ghost use Rattle.resb_pool.specs.Inner.Placing.{AllClose, AreOffsets};
 
-use crate::homes::Home;
+use crate::measure::Measure;
 use indexmap::IndexSet;
 use std::alloc::{AllocError, Global};
 
@@ -60,18 +60,20 @@ fn in_turn(offsets: &[u32], indexes: Vec<u32>) -> Vec<u32>
     turns
 }
 
-/// The units at which texts stand, by where their records close.
+/// The unit at which each text stands, by where its record closes.
 pub(crate) fn find_offsets(
     alloc: Global,
-    homes: &[Home],
+    containers: &[u32],
+    measures: &[Measure],
     ends: &[u32],
 ) -> Result<Vec<u32>, AllocError>
-    requires { All (ClosesWithin ends.now) homes.now }
-    ensures { IfOk result (λ v. v.items ≡ map (offset_by ends.now) homes.now) }
+    requires len { length measures.now ≡ length containers.now }
+    requires close { AllClose containers.now measures.now ends.now }
+    ensures { IfOk result (λ v. AreOffsets containers.now measures.now ends.now v.items) }
 {
-    let mut offsets = Vec::with_capacity(alloc, homes.len())?;
-    for home in homes {
-        offsets.push(ends[home.record] + 1 - home.measure.size)?;
+    let mut offsets = Vec::with_capacity(alloc, containers.len())?;
+    for (index, container) in containers.iter().enumerate() {
+        offsets.push(ends[*container as usize] + 1 - measures[index].size)?;
     }
     Ok(offsets)
 }

@@ -1,31 +1,36 @@
 //! The plan of a pool: strings in, the units of their records and their offsets out.
-//! Each step has a file of its own: `texts`, `homes`, `records`, `offsets`.
+//! Each step has a file of its own: `texts`, `containers`, `records`, `offsets`.
 ghost use Rattle.std.specs.Prelude.{◌≡◌, ℕ, ◌<◌, ◌^◌, List, map, Some, IfOk, IfErr};
 ghost use Rattle.resb_pool.specs.Plan.{nows, plan_units, offset_of, turn_offsets, texts_size};
 ghost use Rattle.resb_pool.specs.Plan.{IsPlan, NotPlanned};
-ghost use Rattle.resb_pool.specs.Inner.Placing.{AreTexts, AreHomes};
+ghost use Rattle.resb_pool.specs.Inner.Placing.{AreTexts, AreContainers};
 ghost use Rattle.resb_pool.specs.Inner.LaidRecords.{IsBlock, HaveOffsets};
 ghost use Rattle.resb_pool.specs.Inner.ToldApart.{ToldApart};
 
+use crate::containers::{find_containers, find_sums};
 use crate::error::PlanError;
-use crate::homes::{Home, find_homes, find_sums};
 use crate::measure::{Measure, check_lengths};
 use crate::offsets::{Plan, find_offsets};
 use crate::records::{Block, lay, ordered};
 use crate::texts::{Texts, gather};
 use std::alloc::{AllocError, Global};
 
-/// The records of distinct texts with these homes, laid in their order.
-fn lay_records(alloc: Global, texts: &[&str], homes: &[Home]) -> Result<Block, AllocError>
+/// The records of distinct texts that lie in these ones, laid in their order.
+fn lay_records(
+    alloc: Global,
+    texts: &[&str],
+    containers: &[u32],
+    measures: &[Measure],
+) -> Result<Block, AllocError>
     requires given { (strings : List (List ℕ)) × (texts_size strings < 2 ^ 28)
-        × AreTexts strings (nows texts.now) (map (λ p. p.measure) homes.now) }
-    requires homes { AreHomes (nows texts.now) homes.now }
+        × AreTexts strings (nows texts.now) measures.now }
+    requires containers { AreContainers (nows texts.now) containers.now }
     ensures { IfOk result (λ b.
-        IsBlock (nows texts.now) homes.now b.units.items b.ends.items) }
+        IsBlock (nows texts.now) containers.now measures.now b.units.items b.ends.items) }
 {
-    let sums = find_sums(alloc, homes)?;
-    let records = ordered(alloc, texts, homes, &sums)?;
-    lay(alloc, &records, homes.len())
+    let sums = find_sums(alloc, containers, measures)?;
+    let records = ordered(alloc, texts, containers, measures, &sums)?;
+    lay(alloc, &records, containers.len())
 }
 
 /// Unit 0 and the records of distinct texts, and the unit at which each text stands.
@@ -39,9 +44,9 @@ fn place(
     ensures { IfOk result (λ p.
         HaveOffsets (nows texts.now) measures.now p.0.items p.1.items) }
 {
-    let homes = find_homes(alloc, texts, measures)?;
-    let block = lay_records(alloc, texts, &homes)?;
-    let offsets = find_offsets(alloc, &homes, &block.ends)?;
+    let containers = find_containers(alloc, texts)?;
+    let block = lay_records(alloc, texts, &containers, measures)?;
+    let offsets = find_offsets(alloc, &containers, measures, &block.ends)?;
     Ok((block.units, offsets))
 }
 

@@ -1,5 +1,5 @@
 //! The records in their order, and their units.
-//! Which texts are records is said in `homes`.
+//! Which texts are records is said in `containers`.
 ghost use Rattle.std.specs.Prelude.{◌≡◌, ◌++◌, ◌∷◌, ◌+◌, ◌<◌, ◌^◌, length, map};
 ghost use Rattle.std.specs.Prelude.{All, IfOk, OnOk, sum_by, slice_index};
 ghost use Rattle.std.specs.Prelude.{nat_eq, not, ◌&&◌};
@@ -11,11 +11,11 @@ ghost use Rattle.resb_format.specs.Units.{units as units_of, marker, size};
 ghost use Rattle.resb_pool.specs.Pool.{record_units};
 ghost use Rattle.resb_pool.specs.Plan.{nows};
 ghost use Rattle.resb_pool.specs.Records.{EachOnce, IsRecords};
-ghost use Rattle.resb_pool.specs.Inner.Placing.{AreHomes, AreSums, AreIndexed, AreEnds};
+ghost use Rattle.resb_pool.specs.Inner.Placing.{AreContainers, AreSums, AreIndexed, AreEnds};
 ghost use Rattle.resb_pool.specs.Inner.Placing.{IsRecordOf, record_texts, record_cmp};
 ghost use Rattle.resb_pool.specs.Inner.Placing.{AreBytes, front_bytes};
 
-use crate::homes::Home;
+use crate::measure::Measure;
 use resb_format::MAX_UNMARKED;
 use std::alloc::{AllocError, Global};
 use std::cmp::Reverse;
@@ -40,11 +40,11 @@ pub(crate) struct Block {
     pub(crate) ends: Vec<u32>,
 }
 
-/// Whether a text with this home is a record: it isn't empty and lies in itself.
-fn is_record(home: &Home, index: usize, text: &str) -> bool
-    ensures { result ≡ (nat_eq home.now.record index && not (nat_eq (length text.now) 0)) }
+/// Whether a text that lies in this one is a record: it isn't empty and lies in itself.
+fn is_record(container: u32, index: usize, text: &str) -> bool
+    ensures { result ≡ (nat_eq container index && not (nat_eq (length text.now) 0)) }
 {
-    home.record == index && !text.is_empty()
+    container as usize == index && !text.is_empty()
 }
 
 /// The byte at a place, or 0 behind the last.
@@ -76,23 +76,25 @@ fn front_of(bytes: &[u8]) -> u64
 fn find_records<'a>(
     alloc: Global,
     texts: &[&'a str],
-    homes: &[Home],
+    containers: &[u32],
+    measures: &[Measure],
     sums: &[u32],
 ) -> Result<Vec<Record<'a>>, AllocError>
     requires distinct { EachOnce (nows texts.now) }
-    requires homes { AreHomes (nows texts.now) homes.now }
-    requires sums { AreSums (nows texts.now) homes.now sums.now }
+    requires containers { AreContainers (nows texts.now) containers.now }
+    requires sums { AreSums (nows texts.now) measures.now sums.now }
     ensures records { IfOk result (λ v. IsRecords (nows texts.now) (record_texts v.items)) }
     ensures each { IfOk result (λ v. All (IsRecordOf (nows texts.now) sums.now) v.items) }
 {
-    let mut records = Vec::with_capacity(alloc, homes.len())?;
-    for (index, home) in homes.iter().enumerate() {
-        if !is_record(home, index, texts[index]) {
+    let mut records = Vec::with_capacity(alloc, containers.len())?;
+    for (index, container) in containers.iter().enumerate() {
+        if !is_record(*container, index, texts[index]) {
             continue;
         }
+        let measure = &measures[index];
         records.push(Record {
-            unit_count: home.measure.unit_count,
-            saved: Reverse(sums[index] - home.measure.size),
+            unit_count: measure.unit_count,
+            saved: Reverse(sums[index] - measure.size),
             front: front_of(texts[index].as_bytes()),
             text: texts[index],
             index,
@@ -105,17 +107,18 @@ fn find_records<'a>(
 pub(crate) fn ordered<'a>(
     alloc: Global,
     texts: &[&'a str],
-    homes: &[Home],
+    containers: &[u32],
+    measures: &[Measure],
     sums: &[u32],
 ) -> Result<Vec<Record<'a>>, AllocError>
     requires distinct { EachOnce (nows texts.now) }
-    requires homes { AreHomes (nows texts.now) homes.now }
-    requires sums { AreSums (nows texts.now) homes.now sums.now }
+    requires containers { AreContainers (nows texts.now) containers.now }
+    requires sums { AreSums (nows texts.now) measures.now sums.now }
     ensures records { IfOk result (λ v. IsRecords (nows texts.now) (record_texts v.items)) }
     ensures each { IfOk result (λ v. All (IsRecordOf (nows texts.now) sums.now) v.items) }
     ensures ascend { IfOk result (λ v. IsSorted record_cmp v.items) }
 {
-    let mut records = find_records(alloc, texts, homes, sums)?;
+    let mut records = find_records(alloc, texts, containers, measures, sums)?;
     records.sort_unstable();
     Ok(records)
 }

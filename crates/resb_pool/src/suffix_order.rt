@@ -1,14 +1,16 @@
 //! Texts in the order of their characters from the end, in which what ends with a text stands
-//! before it. In which record a text lies is said in `homes`.
-ghost use Rattle.std.specs.Prelude.{◌≡◌, ◌<◌, ◌≤◌, ◌-◌, ◌∷◌, ◌++◌, ℕ, List, length, reverse, All};
-ghost use Rattle.std.specs.Prelude.{IfOk, IfSome, slice_index_or};
+//! before it. In which record a text lies is said in `containers`.
+ghost use Rattle.std.specs.Prelude.{◌≡◌, ◌<◌, ◌≤◌, ◌-◌, ◌∷◌, ◌++◌, ◌^◌, ℕ, List, length, reverse};
+ghost use Rattle.std.specs.Prelude.{All, IfOk, IfSome, slice_index_or, true, false};
 ghost use Rattle.std.specs.Str.{IsUtf8};
 ghost use Rattle.resb_pool.specs.Order.{suffix_cmp};
 ghost use Rattle.resb_pool.specs.Plan.{nows};
 ghost use Rattle.resb_pool.specs.Inner.Cuts.{IsCut, IsShared};
 ghost use Rattle.resb_pool.specs.Inner.Suffixes.{AreInOrder, IsRowOf, row_texts, keyed_cmp};
 ghost use Rattle.resb_pool.specs.Inner.Suffixes.{char_digits, digits_backwards, front_key, IsPart};
+ghost use Rattle.resb_pool.specs.Inner.Suffixes.{row_key, row_text, IsKeyed, IsShort, TellsEnd};
 
+use crate::texts::indexed_text;
 use std::alloc::{AllocError, Global};
 use std::cmp::Ordering;
 
@@ -24,19 +26,19 @@ const END: u8 = 255;
 /// What eight digits stay below.
 const EIGHT_DIGITS: u128 = 0x1_0000_0000_0000_0000;
 
-/// A text and its index.
+/// A text by its index, with the digits that tell it from most others: so rows are sorted and read
+/// one after the other, and few texts are looked at.
 #[derive(Clone, Copy)]
-pub(crate) struct Row<'a> {
-    /// The first eight digits of the text's characters, last first, which with the eight behind
-    /// them tell most texts apart.
+pub(crate) struct Row {
+    /// The first eight digits of the text's characters, last character first.
     pub(crate) last: u64,
-    /// The eight digits behind them.
+    /// The next eight digits.
     pub(crate) before: u64,
-    pub(crate) text: &'a str,
-    pub(crate) index: usize,
+    pub(crate) index: u32,
 }
 
-/// A number of digits, and how many are left until there are 16.
+/// The first digits of a text's characters, last character first, as a number, and how many digits
+/// are left until there are 16.
 #[derive(Clone, Copy)]
 pub(crate) struct Front {
     pub(crate) number: u128,
@@ -131,7 +133,8 @@ fn chars_front(text: &str) -> u128
     front.number
 }
 
-/// The same, by the bytes of a short text that is ASCII.
+/// The first 16 digits of a text's characters, last first, as a number: by its bytes, where it is
+/// short and ASCII.
 fn front_of(text: &str) -> u128
     ensures { result ≡ front_key 0 16 (digits_backwards text.now) }
 {
@@ -259,47 +262,117 @@ fn compare(left: &str, right: &str) -> Ordering
     }
 }
 
-/// How two rows compare: by their texts' last characters, and where these are the same by all.
+/// How two rows compare: by their first 16 digits, and where these are the same by all characters.
 #[inline(always)]
-fn compare_rows(left: &Row, right: &Row) -> Ordering
-    ensures { result ≡ keyed_cmp left.now right.now }
+fn compare_rows(texts: &[&str], left: &Row, right: &Row) -> Ordering
+    ensures { result ≡ keyed_cmp (nows texts.now) left.now right.now }
 {
     match left.last.cmp(&right.last) {
         Ordering::Equal => match left.before.cmp(&right.before) {
-            Ordering::Equal => compare(left.text, right.text),
+            Ordering::Equal => compare(
+                indexed_text(texts, left.index),
+                indexed_text(texts, right.index),
+            ),
             other => other,
         },
         other => other,
     }
 }
 
-/// The texts with their indexes.
-fn rows_of<'a>(alloc: Global, texts: &[&'a str]) -> Result<Vec<Row<'a>>, AllocError>
-    ensures texts { IfOk result (λ v. row_texts v.items ≡ nows texts.now) }
+/// The row of a text.
+pub(crate) fn row_of(text: &str, index: u32) -> Row
+    ensures index { result.index ≡ index }
+    ensures front { row_key result ≡ front_key 0 16 (digits_backwards text.now) }
+    ensures small { result.before < 2 ^ 64 }
+{
+    let front = front_of(text);
+    Row {
+        last: (front / EIGHT_DIGITS) as u64,
+        before: (front % EIGHT_DIGITS) as u64,
+        index,
+    }
+}
+
+/// The first 16 digits of a row as one number.
+fn key_of(row: &Row) -> u128
+    ensures { result ≡ row_key row.now }
+{
+    u128::from(row.last) * EIGHT_DIGITS + u128::from(row.before)
+}
+
+/// Whether the first 16 digits of a text begin with those of another one, up to this one's end.
+fn begins_with(number: u128, start: u128) -> bool
+    ensures { (s t : List ℕ) → IsUtf8 s → IsUtf8 t → start ≡ front_key 0 16 (digits_backwards s)
+        → number ≡ front_key 0 16 (digits_backwards t) → TellsEnd result t s }
+{
+    let mut left = number;
+    let mut right = start;
+    'digits: while right % 256 == u128::from(END) {
+        left /= 256;
+        right /= 256;
+    }
+    left == right
+}
+
+/// Whether the text of a row ends with that of another one, if this one has fewer than 16 digits;
+/// whether it may, otherwise.
+pub(crate) fn may_end_with(row: &Row, end: &Row) -> bool
+    ensures { (T : List (List ℕ)) → All IsUtf8 T → IsKeyed T row.now → IsKeyed T end.now
+        → TellsEnd result (row_text T row.now) (row_text T end.now) }
+{
+    begins_with(key_of(row), key_of(end))
+}
+
+/// Whether one of the first 16 digits of a text is 0.
+fn has_zero_digit(key: u128) -> bool
+    ensures { (s : List ℕ) → IsUtf8 s → key ≡ front_key 0 16 (digits_backwards s) → result ≡ false
+        → (k : ℕ) → k < 16 → 0 < slice_index_or (digits_backwards s) k 255 }
+{
+    let mut rest = key;
+    let mut left = 16u32;
+    'digits: while left > 0 {
+        if rest % 256 == 0 {
+            return true;
+        }
+        rest /= 256;
+        left -= 1;
+    }
+    false
+}
+
+/// Whether the text of a row has fewer than 16 digits, but one at least, and none that is 0. Where
+/// it is not, it may still have no marker.
+pub(crate) fn is_short(row: &Row) -> bool
+    ensures { (T : List (List ℕ)) → All IsUtf8 T → IsKeyed T row.now → result ≡ true
+        → IsShort (row_text T row.now) }
+{
+    let key = key_of(row);
+    if key % 256 != u128::from(END) {
+        return false;
+    }
+    key != u128::MAX && !has_zero_digit(key)
+}
+
+/// The rows of texts, in the order of these.
+fn rows_of(alloc: Global, texts: &[&str]) -> Result<Vec<Row>, AllocError>
+    requires few { length texts.now < 2 ^ 32 }
+    ensures texts { IfOk result (λ v. row_texts (nows texts.now) v.items ≡ nows texts.now) }
     ensures each { IfOk result (λ v. All (IsRowOf (nows texts.now)) v.items) }
 {
     let mut rows = Vec::with_capacity(alloc, texts.len())?;
     for (index, text) in texts.iter().enumerate() {
-        let front = front_of(text);
-        rows.push(Row {
-            last: (front / EIGHT_DIGITS) as u64,
-            before: (front % EIGHT_DIGITS) as u64,
-            text,
-            index,
-        })?;
+        rows.push(row_of(text, index as u32))?;
     }
     Ok(rows)
 }
 
-/// The texts in suffix order.
-pub(crate) fn in_suffix_order<'a>(
-    alloc: Global,
-    texts: &[&'a str],
-) -> Result<Vec<Row<'a>>, AllocError>
-    requires { All IsUtf8 (nows texts.now) }
+/// The rows of texts, in suffix order.
+pub(crate) fn in_suffix_order(alloc: Global, texts: &[&str]) -> Result<Vec<Row>, AllocError>
+    requires utf8 { All IsUtf8 (nows texts.now) }
+    requires few { length texts.now < 2 ^ 32 }
     ensures { IfOk result (λ v. AreInOrder (nows texts.now) v.items) }
 {
     let mut rows = rows_of(alloc, texts)?;
-    rows.sort_unstable_by(|left, right| compare_rows(left, right));
+    rows.sort_unstable_by(|left, right| compare_rows(texts, left, right));
     Ok(rows)
 }

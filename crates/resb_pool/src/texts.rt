@@ -1,10 +1,10 @@
 //! The distinct texts of strings, each with its sizes. From here on a text goes by its index.
-//! Where texts lie is said in `homes`.
+//! Where texts lie is said in `containers`.
 ghost use Rattle.std.specs.Prelude.{◌≡◌, ◌++◌, ◌∷◌, ◌<◌, ◌^◌, [], List, ℕ, IfOk, IfErr, OnOk, None};
 ghost use Rattle.std.specs.Prelude.{length};
 ghost use Rattle.resb_format.specs.Units.{units};
 ghost use Rattle.resb_pool.specs.Plan.{nows, first_too_long, texts_size, NotPlanned};
-ghost use Rattle.resb_pool.specs.Inner.Placing.{AreTexts, AreTurns};
+ghost use Rattle.resb_pool.specs.Inner.Placing.{AreTexts, AreTurns, text_numbered};
 
 use crate::error::PlanError;
 use crate::measure::{Measure, SIZE_LIMIT, is_vast};
@@ -23,17 +23,26 @@ pub(crate) struct Texts<'a> {
     pub(crate) order: Vec<u32>,
 }
 
+/// The text of an index, or the empty one where there is no such text.
+#[inline(always)]
+pub(crate) fn indexed_text<'a>(texts: &[&'a str], index: u32) -> &'a str
+    ensures { result.now ≡ text_numbered (nows texts.now) index }
+{
+    texts.get(index as usize).copied().unwrap_or("")
+}
+
 /// How many distinct texts there is room for from the start: as many as there are likely to be,
 /// where more than three in four of the first strings are distinct, since a table that grows is
 /// filled anew; else a quarter of the strings, since in a smaller table texts are found faster.
-fn room_for(alloc: Global, strings: &[&str]) -> Result<usize, AllocError> {
+fn expected_distinct(alloc: Global, strings: &[&str]) -> Result<usize, AllocError> {
     let count = strings.len() / SAMPLED_PART;
     let mut sample = IndexSet::with_capacity(alloc, count)?;
     for text in strings.iter().take(count) {
         let _is_new = sample.insert(*text)?;
     }
-    if sample.len() > count / 4 * 3 {
-        let likely = sample.len().saturating_mul(SAMPLED_PART);
+    let distinct = sample.len();
+    if distinct.saturating_mul(4) > count.saturating_mul(3) {
+        let likely = distinct.saturating_mul(SAMPLED_PART);
         return Ok(likely.saturating_add(likely / 32));
     }
     Ok(strings.len() / 4)
@@ -45,7 +54,7 @@ impl<'a> Texts<'a> {
         ensures texts { IfOk result (λ t. AreTexts [] (nows t.distinct.keys) t.measures.items) }
         ensures turns { IfOk result (λ t. AreTurns [] (nows t.distinct.keys) t.order.items) }
     {
-        let room = room_for(alloc, strings)?;
+        let room = expected_distinct(alloc, strings)?;
         Ok(Texts {
             distinct: IndexSet::with_capacity(alloc, room)?,
             measures: Vec::with_capacity(alloc, room)?,

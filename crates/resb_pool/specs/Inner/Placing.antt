@@ -2,7 +2,8 @@
 --     AreTexts S T ms         T are the texts of S, and ms their measures
 --     AreTurns S T is         the strings S are the texts of the indexes is, one by one
 --     LiesAt T i r            the text i lies in the text r
---     lying_in ps q           what all copies that lie in the text q would take
+--     AreContainers T hs      each text lies in the one that hs has at its index
+--     lying_in hs ms q        what all copies that lie in the text q would take
 --     AreEnds rs done es      es says where each record done closes
 use Rattle.std.specs.Prelude.{◌≡◌, ℕ, zero, suc, ◌+◌, ◌-◌, ◌*◌, ◌^◌, ◌<◌, ◌≤◌, List, []}
 use Rattle.std.specs.Prelude.{◌∷◌, length}
@@ -17,7 +18,6 @@ use Rattle.resb_pool.specs.Records.{IsRecord, EachOnce}
 use Rattle.resb_pool.specs.Container.{IsContainer}
 use Rattle.resb_pool.specs.Pool.{ClosesAt}
 use Rattle.resb_pool.specs.declared.measure.Measure.{Measure}
-use Rattle.resb_pool.specs.declared.homes.Home.{Home}
 use Rattle.resb_pool.specs.declared.records.Record.{Record}
 
 -- the text of index i
@@ -58,12 +58,15 @@ pub record LiesAt (T : List (List ℕ)) (i r : ℕ) : Type 0 where
   pub itself : IsRecord T (text_numbered T i) → r ≡ i
   pub empty : length (text_numbered T i) ≡ 0 → r ≡ i
 
-pub record AreHomes (T : List (List ℕ)) (ps : List Home) : Type 0 where
-  pub len : length ps ≡ length T
-  pub lies : (i : ℕ) (d : Home) → i < length T → LiesAt T i (slice_index_or ps i d).record
+-- hs say, for each text, in which one it lies
+pub record AreContainers (T : List (List ℕ)) (hs : List ℕ) : Type 0 where
+  pub len : length hs ≡ length T
+  pub lies : (i : ℕ) → i < length T → LiesAt T i (slice_index hs i)
 
-abbrev pub lying_in : List Home → ℕ → ℕ
-lying_in ps q = sum_by (λ p. if nat_eq p.record q then p.measure.total else 0) ps
+abbrev pub lying_in : List ℕ → List Measure → ℕ → ℕ
+lying_in [] ms q = 0
+lying_in (h ∷ hs) [] q = 0
+lying_in (h ∷ hs) (m ∷ ms) q = (if nat_eq h q then m.total else 0) + lying_in hs ms q
 
 -- rs are the records among the texts done, each once
 pub record AreRecordsAmong (S done rs : List (List ℕ)) : Type 0 where
@@ -75,12 +78,13 @@ abbrev pub record_texts : List Record → List (List ℕ)
 record_texts rs = map (λ r. r.text.now) rs
 
 -- each text's sizes, and that its own record is among what lies in it
-pub record AreSums (T : List (List ℕ)) (ps : List Home) (sums : List ℕ) : Type 0 where
+pub record AreSums (T : List (List ℕ)) (ms : List Measure) (sums : List ℕ) : Type 0 where
+  pub measured : length ms ≡ length T
   pub len : length sums ≡ length T
-  pub units_is : (i : ℕ) (d : Home) → i < length T
-      → (slice_index_or ps i d).measure.unit_count ≡ length (units (text_numbered T i))
-  pub size_is : (i : ℕ) (d : Home) → i < length T
-      → (slice_index_or ps i d).measure.size ≡ size (text_numbered T i)
+  pub units_is : (i : ℕ) (d : Measure) → i < length T
+      → (slice_index_or ms i d).unit_count ≡ length (units (text_numbered T i))
+  pub size_is : (i : ℕ) (d : Measure) → i < length T
+      → (slice_index_or ms i d).size ≡ size (text_numbered T i)
   pub own : (i : ℕ) → i < length T → IsRecord T (text_numbered T i)
       → size (text_numbered T i) ≤ slice_index sums i
 
@@ -127,12 +131,22 @@ pub record AreEnds (rs done : List Record) (es : List ℕ) : Type 0 where
   pub closes : All (λ r. ClosesAt (record_texts rs) r.text.now (slice_index es r.index)) done
   pub others : (i : ℕ) → All (λ r. r.index ≡ i → ⊥) done → slice_index es i ≡ 0
 
--- where a text stands, by where its record closes
-abbrev pub offset_by : List ℕ → Home → ℕ
-offset_by es p = slice_index es p.record + 1 - p.measure.size
+-- where a text of measure m that lies in h stands, by where its record closes
+abbrev pub offset_by : List ℕ → ℕ → Measure → ℕ
+offset_by es h m = slice_index es h + 1 - m.size
 
--- the record closes far enough
-pub record ClosesWithin (es : List ℕ) (p : Home) : Type 0 where
-  pub within : p.record < length es
-  pub reaches : p.measure.size ≤ slice_index es p.record + 1
-  pub small : slice_index es p.record < 2 ^ 28
+-- the texts that lie in hs stand at os
+pub record AreOffsets (hs : List ℕ) (ms : List Measure) (es os : List ℕ) : Type 0 where
+  pub len : length os ≡ length hs
+  pub each : (i : ℕ) (d : Measure) → i < length hs
+      → slice_index os i ≡ offset_by es (slice_index hs i) (slice_index_or ms i d)
+
+-- the record h closes far enough for a text of measure m
+pub record ClosesWithin (es : List ℕ) (h : ℕ) (m : Measure) : Type 0 where
+  pub within : h < length es
+  pub reaches : m.size ≤ slice_index es h + 1
+  pub small : slice_index es h < 2 ^ 28
+
+abbrev pub AllClose : List ℕ → List Measure → List ℕ → Type 0
+AllClose hs ms es = (i : ℕ) (d : Measure) → i < length hs
+    → ClosesWithin es (slice_index hs i) (slice_index_or ms i d)

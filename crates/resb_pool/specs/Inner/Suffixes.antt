@@ -2,7 +2,7 @@
 --     AreInOrder T rows       the rows are the texts T, in suffix order
 --     IsSharedEnd p s         s may lie in the record of p
 use Rattle.std.specs.Prelude.{◌≡◌, ℕ, zero, suc, ◌+◌, ◌*◌, ◌^◌, ◌<◌, List, [], ◌∷◌, length, map}
-use Rattle.std.specs.Prelude.{All, true, ◌-◌, ◌/◌, ◌%◌, ◌≤◌, nat_le, if◌then◌else◌}
+use Rattle.std.specs.Prelude.{All, Bool, true, ◌-◌, ◌/◌, ◌%◌, ◌≤◌, nat_le, if◌then◌else◌}
 use Rattle.std.specs.List.{flat_map}
 use Rattle.std.specs.List.Sorted.{IsPermutation, IsSorted}
 use Rattle.std.specs.Ordering.{nat_cmp, ordering_then}
@@ -33,43 +33,60 @@ front_key number zero ds = number
 front_key number (suc n) [] = front_key (number * 256 + 255) n []
 front_key number (suc n) (d ∷ ds) = front_key (number * 256 + d) n ds
 
--- what n digits stay below
-abbrev pub room : ℕ → ℕ
-room zero = 1
-room (suc n) = room n * 256
+-- what a number of n digits stays below
+abbrev pub digits_bound : ℕ → ℕ
+digits_bound zero = 1
+digits_bound (suc n) = digits_bound n * 256
 
 -- as many digits of 16 as aren't left
 pub record IsPart (f : Front) : Type 0 where
   pub most : f.left ≤ 16
-  pub small : f.number < room (16 - f.left)
+  pub small : f.number < digits_bound (16 - f.left)
 
 -- a row's two halves as one number
 abbrev pub row_key : Row → ℕ
 row_key r = r.last * 0x1_0000_0000_0000_0000 + r.before
 
+-- the text of a row
+abbrev pub row_text : List (List ℕ) → Row → List ℕ
+row_text T r = text_numbered T r.index
+
+-- the row has the first 16 digits of the text of its index, in two halves
+pub record IsKeyed (T : List (List ℕ)) (r : Row) : Type 0 where
+  pub front_is : row_key r ≡ front_key 0 16 (digits_backwards (row_text T r))
+  pub small : r.before < 2 ^ 64
+
 -- the row of a text
 pub record IsRowOf (T : List (List ℕ)) (r : Row) : Type 0 where
   pub within : r.index < length T
-  pub text_is : r.text.now ≡ text_numbered T r.index
-  -- the first 16 digits, in two halves
-  pub front_is : row_key r ≡ front_key 0 16 (digits_backwards r.text.now)
-  pub small : r.before < 2 ^ 64
+  pub keyed : IsKeyed T r
 
-abbrev pub row_texts : List Row → List (List ℕ)
-row_texts rows = map (λ r. r.text.now) rows
+abbrev pub row_texts : List (List ℕ) → List Row → List (List ℕ)
+row_texts T rows = map (row_text T) rows
 
-abbrev pub row_cmp : Row → Row → Ordering
-row_cmp x y = suffix_cmp x.text.now y.text.now
+abbrev pub row_cmp : List (List ℕ) → Row → Row → Ordering
+row_cmp T x y = suffix_cmp (row_text T x) (row_text T y)
 
 -- by the first 16 digits, and then by all characters
-abbrev pub keyed_cmp : Row → Row → Ordering
-keyed_cmp x y = ordering_then (nat_cmp x.last y.last)
-    (ordering_then (nat_cmp x.before y.before) (row_cmp x y))
+abbrev pub keyed_cmp : List (List ℕ) → Row → Row → Ordering
+keyed_cmp T x y = ordering_then (nat_cmp x.last y.last)
+    (ordering_then (nat_cmp x.before y.before) (row_cmp T x y))
 
 pub record AreInOrder (T : List (List ℕ)) (rows : List Row) : Type 0 where
-  pub all : IsPermutation T (row_texts rows)
+  pub all : IsPermutation T (row_texts T rows)
   pub each : All (IsRowOf T) rows
-  pub ascend : IsSorted row_cmp rows
+  pub ascend : IsSorted (row_cmp T) rows
+
+-- yes, where t ends with s; and only there, where s has fewer than 16 digits
+pub record TellsEnd (answer : Bool) (t s : List ℕ) : Type 0 where
+  pub yes : EndsWith t s → answer ≡ true
+  pub only : answer ≡ true → length (digits_backwards s) < 16 → EndsWith t s
+
+-- s has fewer than 16 digits, isn't empty and has no marker
+pub record IsShort (s : List ℕ) : Type 0 where
+  pub few : length (digits_backwards s) < 16
+  pub nonempty : 0 < length s
+  pub unmarked : is_unmarked s ≡ true
 
 -- s isn't empty, has no marker and ends the text p
 pub record IsSharedEnd (p s : List ℕ) : Type 0 where

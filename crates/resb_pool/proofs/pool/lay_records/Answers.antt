@@ -1,36 +1,40 @@
-use Rattle.std.proofs.Common.{ℕ, List, refl, sym, subst}
+use Rattle.std.proofs.Common.{ℕ, List, sym, ◌∙◌, subst}
 use Rattle.std.specs.List.{All}
 use Rattle.std.specs.List.Sorted.{IsSorted}
 use Rattle.resb_pool.specs.Plan.{nows}
 use Rattle.resb_pool.specs.Records.{IsRecords}
 use Rattle.resb_pool.specs.Inner.Placing.{AreSums, IsRecordOf, record_texts, record_cmp}
-use Rattle.resb_pool.specs.Inner.LaidRecords.{AreLyingIn}
 use Rattle.resb_pool.specs.declared.records.Record.{Record}
+use Rattle.resb_pool.proofs.PlacingLemmas.{within_texts}
 use Rattle.resb_pool.proofs.PlanLemmas.{totals_small, sums_are, laid_small}
 use Rattle.resb_pool.proofs.Laying.{block_of}
 use Rattle.resb_pool.proofs.pool.lay_records.Goals as goal
 
+pub find_sums-requires-clause-len : goal.find_sums-requires-clause-len
+find_sums-requires-clause-len c = c.requires.given.2.len ∙ sym c.requires.containers.len
+
+pub find_sums-requires-clause-within : goal.find_sums-requires-clause-within
+find_sums-requires-clause-within c = within_texts (nows c.args.texts.now) c.args.containers.now
+    c.requires.containers
+
 pub find_sums-requires-clause-small : goal.find_sums-requires-clause-small
 find_sums-requires-clause-small c =
-    let T = nows c.args.texts.now in
-    let ps = c.args.homes.now in
     let g = c.requires.given in
-    totals_small g.0 T _ g.2 g.1 ps c.requires.homes refl
+    totals_small g.0 (nows c.args.texts.now) c.args.measures.now g.2 g.1 c.args.containers.now
+    c.requires.containers
 
 pub ordered-requires-clause-sums : goal.ordered-requires-clause-sums
 ordered-requires-clause-sums c =
     let T = nows c.args.texts.now in
-    let ps = c.args.homes.now in
     let g = c.requires.given in
     let sums = c.in_ok-sums.sums.items in
-    subst (AreSums T ps) (sym c.deref.ensures.value)
-    (sums_are g.0 T _ g.2 g.1 ps c.requires.homes refl sums c.in_ok-sums.ensures.len
-    c.in_ok-sums.ensures.sums)
+    subst (AreSums T c.args.measures.now) (sym c.deref.ensures.value)
+    (sums_are g.0 T c.args.measures.now g.2 g.1 c.args.containers.now c.requires.containers sums
+    c.in_ok-sums.ensures)
 
 pub lay-requires-clause-short : goal.lay-requires-clause-short
 lay-requires-clause-short c =
     let T = nows c.args.texts.now in
-    let ps = c.args.homes.now in
     let g = c.requires.given in
     let sums = c.in_ok-sums.sums.items in
     let v = c.deref-2.result.now in
@@ -39,8 +43,8 @@ lay-requires-clause-short c =
     let each = subst (λ (z : List Record). All (IsRecordOf T sums) z) (sym c.deref-2.ensures.value)
     (subst (λ (z : List ℕ). All (IsRecordOf T z) c.in_ok-records.records.items)
     c.deref.ensures.value c.in_ok-records.ensures.each) in
-    laid_small g.0 T _ g.2 g.1 ps c.requires.homes refl sums c.in_ok-sums.ensures.len
-    c.in_ok-sums.ensures.sums v records each
+    laid_small g.0 T c.args.measures.now g.2 g.1 c.args.containers.now c.requires.containers sums
+    c.in_ok-sums.ensures v records each
 
 pub returns : goal.returns
 returns c =
@@ -54,9 +58,5 @@ returns c =
     c.deref.ensures.value c.in_ok-records.ensures.each) in
     let ascend = subst (IsSorted record_cmp) (sym c.deref-2.ensures.value)
     c.in_ok-records.ensures.ascend in
-    let lying : AreLyingIn c.args.homes.now sums = record {
-      len = c.in_ok-sums.ensures.len;
-      each = c.in_ok-sums.ensures.sums;
-    } in
-    block_of T c.args.homes.now sums lying v records each ascend c.lay.result c.lay.ensures.units
-    c.lay.ensures.len c.lay.ensures.ends
+    block_of T c.args.containers.now c.args.measures.now sums c.in_ok-sums.ensures v records each
+    ascend c.lay.result c.lay.ensures.units c.lay.ensures.len c.lay.ensures.ends

@@ -1,13 +1,11 @@
-use Rattle.std.proofs.Common.{ℕ, ◌≡◌, ◌<◌, List, Bor, MatchOption, length, map, get_or, sym}
+use Rattle.std.proofs.Common.{ℕ, ◌≡◌, List, Bor, length, sym}
 use Rattle.std.proofs.Common.{ap, subst, arith}
 use Rattle.std.specs.Prelude.{slice_get, position}
-use Rattle.std.specs.List.{Contains}
 use Rattle.std.specs.Option.{option_and_then}
 use Rattle.std.specs.Str.{bytes_eq}
 use Rattle.std.proofs.lemmas.Result.{err_from_is_err_and}
-use Rattle.std.proofs.lemmas.List.{length-map}
 use Rattle.resb_pool.specs.Plan.{nows, no_memory}
-use Rattle.resb_pool.specs.Inner.Placing.{text_numbered, AreTexts, offset_by}
+use Rattle.resb_pool.specs.Inner.Placing.{AreTexts}
 use Rattle.resb_pool.specs.Inner.LaidRecords.{HaveOffsets}
 use Rattle.resb_pool.proofs.Interning.{length-nows}
 use Rattle.resb_pool.proofs.TextLoops.{none_too_long}
@@ -44,24 +42,16 @@ returns-clause-ok c = λ S told.
     (subst (λ (z : List (Bor (List ℕ))). HaveOffsets (nows z) c.deref.result.now
     c.in_ok-units.units.items os) c.as_slice.ensures.keys c.in_ok-units.ensures) in
     let b = p.block in
-    let laid = map (offset_by p.ends) p.homes in
-    let fits : length laid ≡ length keys = omega (
+    let fits : length os ≡ length keys = omega (
       arith,
-      length-map p.homes (offset_by p.ends),
-      p.homes_are.len,
+      offsets_fit T ms c.in_ok-units.units.items os p,
       length-nows keys,
     ) in
-    planned S T ms told.texts told.small p.homes p.homes_are
-    p.measures_are b.sums b.lying.len b.lying.each b.rows b.records b.each p.ends b.len b.ends
-    b.ascend (none_too_long S told.short) c.in_ok-units.units.items
+    planned S T ms told.texts told.small p.containers p.containers_are b.sums b.lying b.rows
+    b.records b.each p.ends b.len b.ends os p.offsets_are b.ascend (none_too_long S told.short)
+    c.in_ok-units.units.items
     (λ s. option_and_then (slice_get os) (position (λ (k : Bor (List ℕ)). bytes_eq s k.now) keys))
-    b.units
-    (λ s. subst (λ (o : List ℕ). MatchOption
-    (option_and_then (slice_get o) (position (λ (k : Bor (List ℕ)). bytes_eq s k.now) keys))
-    (Contains T s → ⊥)
-    (λ k. (i : ℕ) × (i < length T) × (text_numbered T i ≡ s)
-    × (k ≡ get_or laid i 0))) (sym p.offsets_are)
-    (offset_at s keys laid fits))
+    b.units (λ s. offset_at s keys os fits)
 
 pub returns-clause-turns : goal.returns-clause-turns
 returns-clause-turns c = λ S told.

@@ -8,10 +8,10 @@ use Rattle.std.proofs.lemmas.List.Elements.{All-push}
 use Rattle.resb_format.specs.Units.{units, size}
 use Rattle.resb_pool.specs.Plan.{nows}
 use Rattle.resb_pool.specs.Records.{IsRecord}
-use Rattle.resb_pool.specs.Inner.Placing.{text_numbered, AreHomes, AreRecordsAmong, IsRecordOf}
+use Rattle.resb_pool.specs.Inner.Placing.{text_numbered, AreContainers, AreRecordsAmong, IsRecordOf}
 use Rattle.resb_pool.specs.Inner.Placing.{AreBytes, front_bytes}
 use Rattle.resb_pool.specs.Inner.Placing.{record_texts}
-use Rattle.resb_pool.specs.declared.homes.Home.{Home}
+use Rattle.resb_pool.specs.declared.measure.Measure.{Measure}
 use Rattle.resb_pool.specs.declared.records.Record.{Record}
 use Rattle.resb_pool.proofs.TextLoops.{blank, nows-take, nows-whole}
 use Rattle.resb_pool.proofs.Interning.{length-nows, text_nows}
@@ -19,36 +19,36 @@ use Rattle.resb_pool.proofs.Distinct.{not_before}
 use Rattle.resb_pool.proofs.PlacingLemmas.{listed_keep, listed_push, records_all, lies_in_itself}
 use Rattle.resb_pool.proofs.records.find_records.Goals as goal
 
-abbrev no_home : Home
-no_home = record { «record» = 0; measure = record { unit_count = 0; size = 0; total = 0 } }
+abbrev no_measure : Measure
+no_measure = record { unit_count = 0; size = 0; total = 0 }
 
 -- what the test of a record says
-own_record : (xs : List (Bor (List ℕ))) (ps : List Home) (i : ℕ) → AreHomes (nows xs) ps
-    → i < length ps → (nat_eq (get_or ps i no_home).record i
+own_record : (xs : List (Bor (List ℕ))) (hs : List ℕ) (i : ℕ) → AreContainers (nows xs) hs
+    → i < length hs → (nat_eq (get_or hs i 0) i
     && not (nat_eq (length (get_or xs i blank).now) 0)) ≡ true
     → IsRecord (nows xs) (text_numbered (nows xs) i)
-own_record xs ps i homes l h =
-    let k : i < length xs = omega (arith, l, homes.len, length-nows xs) in
-    let both = and_parts (nat_eq (get_or ps i no_home).record i)
+own_record xs hs i placed l h =
+    let k : i < length xs = omega (arith, l, placed.len, length-nows xs) in
+    let both = and_parts (nat_eq (get_or hs i 0) i)
     (not (nat_eq (length (get_or xs i blank).now) 0)) h in
-    lies_in_itself (nows xs) i (get_or ps i no_home).record
-    (homes.lies i no_home (omega (arith, l, homes.len))) (eqb-true (get_or ps i no_home).record
+    lies_in_itself (nows xs) i (get_or hs i 0)
+    (placed.lies i (omega (arith, l, placed.len))) (eqb-true (get_or hs i 0)
     i both.0)
     (λ z. not_zero (length (get_or xs i blank).now) both.1 (ap length (text_nows xs i k) ∙ z))
   where
     not_zero : (n : ℕ) → not (nat_eq n 0) ≡ true → n ≡ 0 → ⊥
     not_zero n e z = true≢false (sym e ∙ ap not (eq-eqb n 0 z))
 
-no_record : (xs : List (Bor (List ℕ))) (ps : List Home) (i : ℕ) → AreHomes (nows xs) ps
-    → i < length ps → (nat_eq (get_or ps i no_home).record i
+no_record : (xs : List (Bor (List ℕ))) (hs : List ℕ) (i : ℕ) → AreContainers (nows xs) hs
+    → i < length hs → (nat_eq (get_or hs i 0) i
     && not (nat_eq (length (get_or xs i blank).now) 0)) ≡ false
     → IsRecord (nows xs) (text_numbered (nows xs) i) → ⊥
-no_record xs ps i homes l h r =
-    let k : i < length xs = omega (arith, l, homes.len, length-nows xs) in
-    let at = homes.lies i no_home (omega (arith, l, homes.len)) in
-    elim (and_cases (nat_eq (get_or ps i no_home).record i)
+no_record xs hs i placed l h r =
+    let k : i < length xs = omega (arith, l, placed.len, length-nows xs) in
+    let at = placed.lies i (omega (arith, l, placed.len)) in
+    elim (and_cases (nat_eq (get_or hs i 0) i)
     (not (nat_eq (length (get_or xs i blank).now) 0)) h) [
-      | inl e ↦ true≢false (sym (eq-eqb (get_or ps i no_home).record i (at.itself r)) ∙ e)
+      | inl e ↦ true≢false (sym (eq-eqb (get_or hs i 0) i (at.itself r)) ∙ e)
       | inr e ↦ (let n : length (get_or xs i blank).now ≡ 0 =
           zero_is (length (get_or xs i blank).now) e in
           omega (arith, n, ap length (text_nows xs i k), r.nonempty))
@@ -65,23 +65,23 @@ pub overflow_sub-sums : goal.overflow_sub-sums
 overflow_sub-sums c =
     let i = c.loop-index.index in
     let l : i < length (nows c.args.texts.now) =
-    omega (arith, c.loop-index-test.true, c.requires.homes.len) in
-    let own = own_record c.args.texts.now c.args.homes.now i c.requires.homes
+    omega (arith, c.loop-index-test.true, c.requires.containers.len) in
+    let own = own_record c.args.texts.now c.args.containers.now i c.requires.containers
     c.loop-index-test.true (sym c.is_record.ensures ∙ c.if-not-is_record.false) in
-    omega (arith, c.requires.sums.size_is i no_home l, c.requires.sums.own i l own)
+    omega (arith, c.requires.sums.size_is i no_measure l, c.requires.sums.own i l own)
 
 pub loop-index-preserved-then-not-is_record : goal.loop-index-preserved-then-not-is_record
 loop-index-preserved-then-not-is_record c =
     let xs = c.args.texts.now in
     let i = c.loop-index.index in
-    let l : i < length (nows xs) = omega (arith, c.loop-index-test.true, c.requires.homes.len) in
+    let l : i < length (nows xs) = omega (arith, c.loop-index-test.true, c.requires.containers.len) in
     let k : i < length xs = omega (arith, l, length-nows xs) in
     let t = text_nows xs i k in
     record {
       records = listed_keep (nows xs) (nows (take i xs)) (nows (take (i + 1) xs))
           (get_or xs i blank).now (nows-take xs i blank k) (record_texts c.loop-index.records.items)
           c.loop-index.invariant.records
-          (λ r. absurd (no_record xs c.args.homes.now i c.requires.homes c.loop-index-test.true
+          (λ r. absurd (no_record xs c.args.containers.now i c.requires.containers c.loop-index-test.true
           (sym c.is_record.ensures ∙ c.if-not-is_record.true) (subst (IsRecord (nows xs)) t r)));
       each = c.loop-index.invariant.each;
     }
@@ -90,22 +90,22 @@ pub loop-index-preserved : goal.loop-index-preserved
 loop-index-preserved c =
     let xs = c.args.texts.now in
     let i = c.loop-index.index in
-    let l : i < length (nows xs) = omega (arith, c.loop-index-test.true, c.requires.homes.len) in
+    let l : i < length (nows xs) = omega (arith, c.loop-index-test.true, c.requires.containers.len) in
     let k : i < length xs = omega (arith, l, length-nows xs) in
     let t = text_nows xs i k in
-    let own = own_record xs c.args.homes.now i c.requires.homes c.loop-index-test.true
+    let own = own_record xs c.args.containers.now i c.requires.containers c.loop-index-test.true
     (sym c.is_record.ensures ∙ c.if-not-is_record.false) in
-    let p = get_or c.args.homes.now i no_home in
+    let m = get_or c.args.measures.now i no_measure in
     let r : Record = record {
-      unit_count = p.measure.unit_count;
+      unit_count = m.unit_count;
       saved =
-          record { 0 = get_or c.args.sums.now i 0 - p.measure.size };
+          record { 0 = get_or c.args.sums.now i 0 - m.size };
       front = c.front_of.result;
       text = get_or xs i blank;
       index = i;
     } in
     let e = c.in_ok-push.ensures.items in
-    let small : p.measure.size ≡ size (get_or xs i blank).now = c.requires.sums.size_is i no_home l
+    let small : m.size ≡ size (get_or xs i blank).now = c.requires.sums.size_is i no_measure l
     ∙ ap size (sym t) in
     record {
       records = subst (AreRecordsAmong (nows xs) (nows (take (i + 1) xs))) (sym (ap record_texts e
@@ -123,13 +123,13 @@ loop-index-preserved c =
           (record {
             within = l;
             text_is = t;
-            units_is = c.requires.sums.units_is i no_home l
+            units_is = c.requires.sums.units_is i no_measure l
                 ∙ ap (λ z. length (units z)) (sym t);
             saved_is =
                 omega (
                   arith,
                   small,
-                  c.requires.sums.size_is i no_home l,
+                  c.requires.sums.size_is i no_measure l,
                   c.requires.sums.own i l own,
                 );
             front_is = c.front_of.ensures.front ∙ ap (front_bytes 0 8) c.as_bytes.ensures.value;
@@ -146,6 +146,6 @@ returns-clause-records c =
     (nows-whole xs i (omega (
       arith,
       c.loop-index-test.false,
-      c.requires.homes.len,
+      c.requires.containers.len,
       length-nows xs,
     ))) c.loop-index.invariant.records)

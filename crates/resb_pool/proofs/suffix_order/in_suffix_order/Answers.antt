@@ -1,12 +1,12 @@
-use Rattle.std.proofs.Common.{rules, ℕ, List, subst, ap, ◌≡◌, get_or}
-use Rattle.std.specs.List.{All}
+use Rattle.std.proofs.Common.{rules, ℕ, List, subst, ap, ◌≡◌}
 use Rattle.std.specs.List.Sorted.{IsPermutation}
 use Rattle.std.specs.Ordering.{is_lt}
-use Rattle.std.proofs.lemmas.List.Sorted.{IsPermutation-map, All-permutation, answers_always}
+use Rattle.std.proofs.lemmas.List.Sorted.{IsPermutation-map, All-permutation}
+use Rattle.std.proofs.lemmas.Fn.{always_returns_same}
 use Rattle.resb_pool.specs.Plan.{nows}
-use Rattle.resb_pool.specs.Inner.Suffixes.{IsRowOf, row_texts, keyed_cmp}
+use Rattle.resb_pool.specs.Inner.Suffixes.{IsRowOf, row_text, row_texts, keyed_cmp}
 use Rattle.resb_pool.specs.declared.suffix_order.Row.{Row}
-use Rattle.resb_pool.proofs.FrontKeys.{IsKeyed, keyed_order, row_keyed, in_suffix_order}
+use Rattle.resb_pool.proofs.FrontKeys.{keyed_order, in_suffix_order}
 use Rattle.resb_pool.proofs.suffix_order.in_suffix_order.Goals as goal
 
 pub returns : goal.returns
@@ -16,15 +16,14 @@ returns c =
     let moved = c.sort_unstable_by.ensures.permutation in
     let T = nows c.args.texts.now in
     let each = All-permutation (IsRowOf T) rows sorted moved c.in_ok-rows.ensures.each in
-    let keyed : All IsKeyed sorted = (λ k d l. row_keyed T (get_or sorted k d) c.requires
-    (each k d l)) in
     record {
-      all = subst (λ (z : List (List ℕ)). IsPermutation z (row_texts sorted))
-          c.in_ok-rows.ensures.texts
-          (IsPermutation-map (λ (r : Row). r.text.now) rows sorted moved);
+      all = subst (λ (z : List (List ℕ)). IsPermutation z (row_texts T sorted))
+          c.in_ok-rows.ensures.texts (IsPermutation-map (row_text T) rows sorted moved);
       each = each;
-      ascend = in_suffix_order sorted keyed
-          (c.sort_unstable_by.ensures.sorted (λ (x y : Row). is_lt (keyed_cmp x y))
-          keyed_order (answers_always _ (λ a r. is_lt r ≡ is_lt (keyed_cmp a.0.now a.1.0.now)) _
-          (λ f a r q k. (let e : r ≡ keyed_cmp a.0.now a.1.0.now = search rules in ap is_lt e))));
+      ascend = in_suffix_order T c.requires.utf8 sorted each
+          (c.sort_unstable_by.ensures.sorted (λ (x y : Row). is_lt (keyed_cmp T x y))
+          (keyed_order T)
+          (always_returns_same _ (λ a r. is_lt r ≡ is_lt (keyed_cmp T a.0.now a.1.0.now)) _
+          (λ a r f q. (let e : r ≡ keyed_cmp T a.0.now a.1.0.now = search rules in
+          (ap is_lt e, search rules)))));
     }

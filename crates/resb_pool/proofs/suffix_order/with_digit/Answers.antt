@@ -1,14 +1,14 @@
 use Rattle.std.proofs.Common.{◌-◌, ◌*◌, ◌+◌, ◌<◌, ap, ◌∙◌, arith}
 use Rattle.resb_pool.proofs.Numbers.{more_than_zero}
 use Rattle.resb_pool.specs.Inner.Suffixes.{front_key}
-use Rattle.resb_pool.proofs.FrontKeys.{room_fits, next_digit}
+use Rattle.resb_pool.proofs.FrontKeys.{bound_fits, next_digit}
 use Rattle.resb_pool.proofs.suffix_order.with_digit.Goals as goal
 
 pub overflow_mul-result : goal.overflow_mul-result
 overflow_mul-result c =
     let p = c.requires.part in
     let some : 0 < c.args.front.left = more_than_zero c.args.front.left c.if-front-eq0.false in
-    omega (arith, p.small, room_fits (16 - c.args.front.left) (omega (arith, some, p.most)))
+    omega (arith, p.small, bound_fits (16 - c.args.front.left) (omega (arith, some, p.most)))
 
 pub overflow_add-result : goal.overflow_add-result
 overflow_add-result c =
@@ -19,7 +19,7 @@ overflow_add-result c =
       p.small,
       c.requires.digit,
       c.from.ensures,
-      room_fits (16 - c.args.front.left) (omega (arith, some, p.most)),
+      bound_fits (16 - c.args.front.left) (omega (arith, some, p.most)),
     )
 
 pub returns-clause-same : goal.returns-clause-same

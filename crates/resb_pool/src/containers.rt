@@ -1,0 +1,85 @@
+//! In which record each text lies.
+//! Where the records stand is said in `records`.
+ghost use Rattle.std.specs.Prelude.{◌≡◌, ◌<◌, ◌^◌, length, sum_by};
+ghost use Rattle.std.specs.Prelude.{All, IfOk};
+ghost use Rattle.std.specs.Bool.{MatchBool};
+ghost use Rattle.std.specs.Str.{IsUtf8};
+ghost use Rattle.resb_pool.specs.Records.{EachOnce};
+ghost use Rattle.resb_pool.specs.Plan.{nows};
+ghost use Rattle.resb_pool.specs.Inner.LaidRecords.{AreLyingIn};
+ghost use Rattle.resb_pool.specs.Inner.Placing.{AreContainers};
+ghost use Rattle.resb_pool.specs.Inner.Suffixes.{IsKeyed, IsSharedEnd, row_text};
+
+use crate::measure::Measure;
+use crate::suffix_order::{Row, in_suffix_order, is_short, may_end_with, row_of};
+use crate::texts::indexed_text;
+use resb_format::is_unmarked;
+use std::alloc::{AllocError, Global};
+
+/// Whether a text lies in the record of another one, which stands right before it in suffix order:
+/// it isn't empty, has no marker and ends that text.
+fn is_shared_end(text: &str, previous: &str) -> bool
+    ensures { MatchBool result (IsSharedEnd previous.now text.now)
+        (IsSharedEnd previous.now text.now → ⊥) }
+{
+    !text.is_empty() && previous.ends_with(text) && is_unmarked(text)
+}
+
+/// The same, by the rows of both texts, which tell it of most of them.
+fn lies_with(texts: &[&str], row: &Row, previous: &Row) -> bool
+    requires utf8 { All IsUtf8 (nows texts.now) }
+    requires row { IsKeyed (nows texts.now) row.now }
+    requires previous { IsKeyed (nows texts.now) previous.now }
+    ensures { MatchBool result
+        (IsSharedEnd (row_text (nows texts.now) previous.now) (row_text (nows texts.now) row.now))
+        (IsSharedEnd (row_text (nows texts.now) previous.now) (row_text (nows texts.now) row.now)
+        → ⊥) }
+{
+    may_end_with(previous, row)
+        && (is_short(row)
+            || is_shared_end(
+                indexed_text(texts, row.index),
+                indexed_text(texts, previous.index),
+            ))
+}
+
+/// The index of the text in whose record each of distinct texts lies; the empty text, which has no
+/// record, lies in itself. What ends with a text stands in one run before it in suffix order, so the
+/// text lies where the one right before it lies, or is a record.
+pub(crate) fn find_containers(alloc: Global, texts: &[&str]) -> Result<Vec<u32>, AllocError>
+    requires utf8 { All IsUtf8 (nows texts.now) }
+    requires distinct { EachOnce (nows texts.now) }
+    requires few { length texts.now < 2 ^ 32 }
+    ensures { IfOk result (λ v. AreContainers (nows texts.now) v.items) }
+{
+    let rows = in_suffix_order(alloc, texts)?;
+    let mut containers = vec![in alloc; 0; texts.len()]?;
+    let mut previous = row_of("", texts.len() as u32);
+    let mut container = 0;
+    for row in &rows {
+        if !lies_with(texts, row, &previous) {
+            container = row.index;
+        }
+        containers[row.index as usize] = container;
+        previous = *row;
+    }
+    Ok(containers)
+}
+
+/// The units that all copies that lie in each text would take as records of their own.
+pub(crate) fn find_sums(
+    alloc: Global,
+    containers: &[u32],
+    measures: &[Measure],
+) -> Result<Vec<u32>, AllocError>
+    requires len { length measures.now ≡ length containers.now }
+    requires within { All (λ h. h < length containers.now) containers.now }
+    requires small { sum_by (λ m. m.total) measures.now < 2 ^ 32 }
+    ensures { IfOk result (λ v. AreLyingIn containers.now measures.now v.items) }
+{
+    let mut sums = vec![in alloc; 0; containers.len()]?;
+    for (index, container) in containers.iter().enumerate() {
+        sums[*container as usize] += measures[index].total;
+    }
+    Ok(sums)
+}

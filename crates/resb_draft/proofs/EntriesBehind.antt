@@ -6,7 +6,7 @@ use Rattle.std.proofs.lemmas.Bool.{and_from, and_parts}
 use Rattle.std.proofs.lemmas.List.{get_or-drop, length-append, length-map, map_push, take_more}
 use Rattle.resb_tree.specs.Borrowing.{all_true}
 use Rattle.resb_draft.specs.Drafts.{texts, all_stand, pieces_stand, tree_at, is_whole}
-use Rattle.resb_draft.specs.Drafts.{Keeps, HasEntries}
+use Rattle.resb_draft.specs.Drafts.{Keeps, EndsInEntries}
 use Rattle.resb_draft.specs.declared.draft.Draft.{Draft}
 use Rattle.resb_draft.proofs.EntriesLemmas.{seen}
 use Rattle.resb_draft.proofs.Lists.{drop_to_put, take_before_put}
@@ -14,20 +14,20 @@ use Rattle.resb_draft.proofs.Standing.{Agrees, agrees_same, grown, agrees_keeps,
 
 -- what is whole without the entries stays so with them
 pub entries_keep : (before d : Draft) (m k : ℕ) (ps : List (Bor (List ℕ) × ℕ))
-    → HasEntries before m k ps d → Keeps before d
+    → EndsInEntries before m k ps d → Keeps before d
 entries_keep before d m k ps h =
     agrees_keeps before d (grown before d (more_entries before d _ _ h.2 h.3 h.4))
 
 -- the members behind are the entries' values
 pub members_behind : (before d : Draft) (m k : ℕ) (ps : List (Bor (List ℕ) × ℕ))
-    → HasEntries before m k ps d → drop m d.members.items ≡ map (λ p. p.1) ps
+    → EndsInEntries before m k ps d → drop m d.members.items ≡ map (λ p. p.1) ps
 members_behind before d m k ps h =
     drop_to_put before.members.items (map (λ (p : Bor (List ℕ) × ℕ). p.1) ps) d.members.items m
     h.0 h.3
 
 -- and the keys theirs
 pub keys_behind : (before d : Draft) (m k : ℕ) (ps : List (Bor (List ℕ) × ℕ))
-    → HasEntries before m k ps d → drop k d.keys.items ≡ map (λ p. p.0) ps
+    → EndsInEntries before m k ps d → drop k d.keys.items ≡ map (λ p. p.0) ps
 keys_behind before d m k ps h =
     drop_to_put before.keys.items (map (λ (p : Bor (List ℕ) × ℕ). p.0) ps) d.keys.items k
     h.1 h.4
@@ -57,7 +57,7 @@ pairs_same ps qs f g = sym (zip_parts ps) ∙ (λ i. zip (f i) (g i)) ∙ zip_pa
 
 -- as many members stand behind as entries, and as many keys
 pub counts_behind : (before d : Draft) (m k : ℕ) (ps : List (Bor (List ℕ) × ℕ))
-    → HasEntries before m k ps d
+    → EndsInEntries before m k ps d
     → (length d.members.items ≡ m + length ps) × (length d.keys.items ≡ k + length ps)
 counts_behind before d m k ps h =
     let value : Bor (List ℕ) × ℕ → ℕ = λ p. p.1 in
@@ -92,7 +92,7 @@ listed_more part es fs e all first n next more on inside at h =
 
 -- pieces stand for what they did where the entries are taken away
 pub stand_before : (before d cut : Draft) (m k : ℕ) (ps : List (Bor (List ℕ) × ℕ))
-    → HasEntries before m k ps d → cut.pieces.items ≡ d.pieces.items
+    → EndsInEntries before m k ps d → cut.pieces.items ≡ d.pieces.items
     → cut.members.items ≡ take m d.members.items → cut.keys.items ≡ take k d.keys.items
     → pieces_stand cut ≡ pieces_stand before
 stand_before before d cut m k ps h pieces members keys =

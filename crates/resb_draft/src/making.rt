@@ -8,7 +8,7 @@ ghost use Rattle.resb_tree.specs.Tree.{string, array, table, trees_of, entries_o
 ghost use Rattle.resb_tree.specs.View.{tree_of};
 ghost use Rattle.resb_draft.specs.Drafts.{texts, is_leaf, nothing};
 ghost use Rattle.resb_draft.specs.Drafts.{piece_meaning, pieces_stand, tree_at, is_whole};
-ghost use Rattle.resb_draft.specs.Drafts.{IsMade, Keeps, HasEntries};
+ghost use Rattle.resb_draft.specs.Drafts.{IsMade, Keeps, EndsInEntries};
 ghost use Rattle.resb_draft.specs.Inner.Entries.{keys_ascend};
 
 use crate::draft::{Draft, Members, Piece};
@@ -101,14 +101,14 @@ impl<'a> Draft<'a> {
         first_key: usize,
     ) -> Result<u32, NoMemory>
         requires { (before : Draft) × (ps : List (Bor (List ℕ) × ℕ))
-            × HasEntries before first_member first_key ps self.old }
+            × EndsInEntries before first_member first_key ps self.old }
         ensures made { (before : Draft) (ps : List (Bor (List ℕ) × ℕ))
-            → HasEntries before first_member first_key ps self.old
+            → EndsInEntries before first_member first_key ps self.old
             → all_true (map (λ p. is_whole before p.1) ps) ≡ true
             → IfOk result (λ n. IsMade self.new n
             (table (map_of (map (λ p. (p.0.now, tree_at before p.1)) ps)))) }
         ensures keeps { (before : Draft) (ps : List (Bor (List ℕ) × ℕ))
-            → HasEntries before first_member first_key ps self.old → Keeps before self.new }
+            → EndsInEntries before first_member first_key ps self.old → Keeps before self.new }
     {
         if ascend(&self.keys[first_key..]) {
             return self.end_ascending(first_member, first_key);
@@ -147,12 +147,12 @@ impl<'a> Draft<'a> {
         first_key: usize,
     ) -> Result<Vec<(&'a str, u32)>, NoMemory>
         requires { (before : Draft) × (ps : List (Bor (List ℕ) × ℕ))
-            × HasEntries before first_member first_key ps self.old }
+            × EndsInEntries before first_member first_key ps self.old }
         ensures taken { (before : Draft) (ps : List (Bor (List ℕ) × ℕ))
-            → HasEntries before first_member first_key ps self.old → IfOk result
+            → EndsInEntries before first_member first_key ps self.old → IfOk result
             (λ v. (v.items ≡ ps) × (pieces_stand self.new ≡ pieces_stand before)) }
         ensures keeps { (before : Draft) (ps : List (Bor (List ℕ) × ℕ))
-            → HasEntries before first_member first_key ps self.old → Keeps before self.new }
+            → EndsInEntries before first_member first_key ps self.old → Keeps before self.new }
     {
         let mut entries = Vec::with_capacity(alloc, self.keys.len() - first_key)?;
         for at in first_key..self.keys.len() {

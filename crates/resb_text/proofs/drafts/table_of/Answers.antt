@@ -2,7 +2,7 @@ use Rattle.std.proofs.Common.{ap, ◌∙◌, map}
 use Rattle.std.specs.Prelude.{Result, Ok, Err, OnOk, None}
 use Rattle.std.proofs.lemmas.Result.{IfOk-weaker}
 use Rattle.resb_tree.specs.Tree.{table, map_of}
-use Rattle.resb_draft.specs.Drafts.{tree_at, is_whole, IsMade, HasEntries}
+use Rattle.resb_draft.specs.Drafts.{tree_at, is_whole, IsMade, EndsInEntries}
 use Rattle.resb_text.specs.Inner.Build.{Represents}
 use Rattle.resb_text.specs.Inner.Drafts.{piece_item_seen, entries_seen, entries_after}
 use Rattle.resb_text.specs.Inner.Shown.{shown_pairs}
@@ -14,7 +14,7 @@ on_ok (Ok t) p = p
 on_ok (Err e) p = tt
 
 -- the entries stand behind the draft's own
-has_entries : (c : goal.After-end_table) → HasEntries c.args.draft.now c.len-first_member.result
+has_entries : (c : goal.After-end_table) → EndsInEntries c.args.draft.now c.len-first_member.result
     c.len-first_key.result (entries_after None c.args.items.now) c.push_entries.new.draft
 has_entries c =
     let pushed = c.in_ok-push_entries.ensures in (

@@ -1,6 +1,6 @@
 //! What the reader makes of groups once they are closed. Trees are one such thing.
 //! The open groups stand in `frames`, and the trees of their items are made in `items`.
-ghost use Rattle.std.specs.Prelude.{◌≡◌, ◌+◌, ◌<◌, ◌≤◌, Bool, true, map, length};
+ghost use Rattle.std.specs.Prelude.{◌≡◌, ◌+◌, ◌≤◌, Bool, true, map, length};
 ghost use Rattle.std.specs.Prelude.{IfOk, OnOk};
 ghost use Rattle.resb_tree.specs.Tree.{Tree, string, array, table, trees_of, map_of};
 ghost use Rattle.resb_tree.specs.View.{tree_of};

@@ -110,8 +110,8 @@ IsMade d n t = (tree_at d n ≡ t) × (is_whole d n ≡ true)
 abbrev pub Keeps : Draft → Draft → Type 0
 Keeps old new = (n : ℕ) → is_whole old n ≡ true → IsMade new n (tree_at old n)
 
--- a draft is another one, which has so many members and keys, with the keys of these entries and
--- the numbers of their values put behind
+-- a draft is another one, which has so many members and keys, and of the same pieces, with the keys
+-- of these entries and the numbers of their values put behind
 abbrev pub EndsInEntries : Draft → ℕ → ℕ → List (Bor (List ℕ) × ℕ) → Draft → Type 0
 EndsInEntries before members keys ps d =
     (members ≡ length before.members.items) × (keys ≡ length before.keys.items)

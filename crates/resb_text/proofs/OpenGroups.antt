@@ -250,7 +250,7 @@ module _ {B X : Type 0} {tree : B → X → Tree} {held : B → X → Bool} wher
       → view_of_code (tree d.build) (held d.build) d.frame
       ≡ view_of_frame (with_number (group_count c.keys) (new_frame (group_body_of b)))
       → d.around.items ≡ c.around.items ++ c.frame ∷ []
-      → OpensGroup c.keys d.keys → StandsFor tree held d (machine.within (group_body_of b) o)
+      → {g : ℕ} → OpensGroup g c.keys d.keys → StandsFor tree held d (machine.within (group_body_of b) o)
   shows_open c d o b x grow e a keys = record {
     number = group_count c.keys;
     around = with_number x.number o.frame ∷ x.around;

@@ -1,12 +1,12 @@
 //! Closed groups as pieces of a draft, members first.
 //! What a draft stands for is said in `resb_draft`, which makes it; trees are made in `items`.
 ghost use Rattle.std.specs.Prelude.{true, ◌≡◌, ◌+◌, ◌≤◌, map, length, IfOk, OnOk, drop};
-ghost use Rattle.std.specs.Prelude.{Bool, ◌++◌, None};
+ghost use Rattle.std.specs.Prelude.{Bool, None};
 ghost use Rattle.resb_tree.specs.Borrowing.{all_true};
 ghost use Rattle.resb_draft.specs.Drafts.{tree_at, is_whole, Keeps};
 ghost use Rattle.resb_text.specs.Inner.Build.{Represents};
 ghost use Rattle.resb_text.specs.Inner.Drafts.{piece_term_seen, piece_item_seen};
-ghost use Rattle.resb_text.specs.Inner.Drafts.{key_after, entry_of_term, entries_after};
+ghost use Rattle.resb_text.specs.Inner.Drafts.{key_after, entry_of_term, entries_after, PutsBehind};
 ghost use Rattle.resb_text.specs.Inner.Shown.{shown_tree, shown_borrowed};
 
 use crate::build::Build;
@@ -103,11 +103,8 @@ fn push_term<'a>(
     term: &Term<'a, u32>,
 ) -> Result<Option<&'a str>, NoMemory>
     ensures next { IfOk result (λ next. next ≡ key_after term.now) }
-    ensures pieces { OnOk result (draft.new.pieces ≡ draft.old.pieces) }
-    ensures members { OnOk result (draft.new.members.items
-        ≡ draft.old.members.items ++ map (λ e. e.1) (entry_of_term waiting.entry term.now)) }
-    ensures keys { OnOk result (draft.new.keys.items
-        ≡ draft.old.keys.items ++ map (λ e. e.0) (entry_of_term waiting.entry term.now)) }
+    ensures entries { OnOk result (PutsBehind draft.old
+        (entry_of_term waiting.entry term.now) draft.new) }
 {
     match term {
         Term::String(text) => Ok(Some(*text)),
@@ -127,11 +124,7 @@ fn push_entries<'a>(
     ticks: &mut Ticks,
     items: &[Item<'a, u32>],
 ) -> Result<(), NoMemory>
-    ensures pieces { OnOk result (draft.new.pieces ≡ draft.old.pieces) }
-    ensures members { OnOk result (draft.new.members.items
-        ≡ draft.old.members.items ++ map (λ e. e.1) (entries_after None items.now)) }
-    ensures keys { OnOk result (draft.new.keys.items
-        ≡ draft.old.keys.items ++ map (λ e. e.0) (entries_after None items.now)) }
+    ensures entries { OnOk result (PutsBehind draft.old (entries_after None items.now) draft.new) }
     ensures cost { ticks.new.count ≤ ticks.old.count + length items.now }
 {
     let mut waiting: Option<&'a str> = None;

@@ -15,7 +15,7 @@ returns-clause-made c = λ h.
     let items = c.args.items.now.items in
     let new = c.end_table.new.self in
     let es = entries_after None items in
-    let pushed = c.in_ok-push_entries.ensures in
+    let pushed = c.in_ok-push_entries.ensures.entries in
     let all = ap (entries_after None) c.deref.ensures.value in
     IfOk-weaker c.end_table.result
     (λ n. IsMade new n (table (map_of (entries_seen d es))))
@@ -25,7 +25,7 @@ returns-clause-made c = λ h.
     (c.end_table.ensures.made d es (
       c.len-first_member.ensures ∙ d.members.ok.0,
       c.len-first_key.ensures ∙ d.keys.ok.0,
-      ap (λ v. v.items) pushed.pieces,
-      pushed.members ∙ ap (λ ps. d.members.items ++ map (λ (e : Bor (List ℕ) × ℕ). e.1) ps) all,
-      pushed.keys ∙ ap (λ ps. d.keys.items ++ map (λ (e : Bor (List ℕ) × ℕ). e.0) ps) all,
+      pushed.2,
+      pushed.3 ∙ ap (λ ps. d.members.items ++ map (λ (e : Bor (List ℕ) × ℕ). e.1) ps) all,
+      pushed.4 ∙ ap (λ ps. d.keys.items ++ map (λ (e : Bor (List ℕ) × ℕ). e.0) ps) all,
     ) (entries_whole d None items h))

@@ -1,12 +1,12 @@
 -- Entries of a table that stand behind a draft's own members and keys.
-use Rattle.std.proofs.Common.{◌≡◌, ℕ, ◌+◌, ◌<◌, true, List, [], ◌∷◌, ◌++◌, map, refl, sym, ◌∙◌}
-use Rattle.std.proofs.Common.{ap, subst, arith, Bor, length, length-drop, take, drop, get_or}
+use Rattle.std.proofs.Common.{◌≡◌, ℕ, ◌-◌, true, List, [], ◌∷◌, map, refl, sym, ◌∙◌}
+use Rattle.std.proofs.Common.{ap, subst, Bor, length, take, drop}
 use Rattle.std.specs.List.{zip}
 use Rattle.std.proofs.lemmas.Bool.{and_from, and_parts}
-use Rattle.std.proofs.lemmas.List.{get_or-drop, length-append, length-map, map_push, take_more}
+use Rattle.std.proofs.lemmas.List.{take_rest}
 use Rattle.resb_tree.specs.Borrowing.{all_true}
 use Rattle.resb_draft.specs.Drafts.{texts, all_stand, pieces_stand, tree_at, is_whole}
-use Rattle.resb_draft.specs.Drafts.{Keeps, HasEntries}
+use Rattle.resb_draft.specs.Drafts.{Keeps, EndsInEntries}
 use Rattle.resb_draft.specs.declared.draft.Draft.{Draft}
 use Rattle.resb_draft.proofs.EntriesLemmas.{seen}
 use Rattle.resb_draft.proofs.Lists.{drop_to_put, take_before_put}
@@ -14,20 +14,20 @@ use Rattle.resb_draft.proofs.Standing.{Agrees, agrees_same, grown, agrees_keeps,
 
 -- what is whole without the entries stays so with them
 pub entries_keep : (before d : Draft) (m k : ℕ) (ps : List (Bor (List ℕ) × ℕ))
-    → HasEntries before m k ps d → Keeps before d
+    → EndsInEntries before m k ps d → Keeps before d
 entries_keep before d m k ps h =
     agrees_keeps before d (grown before d (more_entries before d _ _ h.2 h.3 h.4))
 
 -- the members behind are the entries' values
 pub members_behind : (before d : Draft) (m k : ℕ) (ps : List (Bor (List ℕ) × ℕ))
-    → HasEntries before m k ps d → drop m d.members.items ≡ map (λ p. p.1) ps
+    → EndsInEntries before m k ps d → drop m d.members.items ≡ map (λ p. p.1) ps
 members_behind before d m k ps h =
     drop_to_put before.members.items (map (λ (p : Bor (List ℕ) × ℕ). p.1) ps) d.members.items m
     h.0 h.3
 
 -- and the keys theirs
 pub keys_behind : (before d : Draft) (m k : ℕ) (ps : List (Bor (List ℕ) × ℕ))
-    → HasEntries before m k ps d → drop k d.keys.items ≡ map (λ p. p.0) ps
+    → EndsInEntries before m k ps d → drop k d.keys.items ≡ map (λ p. p.0) ps
 keys_behind before d m k ps h =
     drop_to_put before.keys.items (map (λ (p : Bor (List ℕ) × ℕ). p.0) ps) d.keys.items k
     h.1 h.4
@@ -49,50 +49,19 @@ zip_parts : {X Y : Type 0} (ps : List (X × Y))
 zip_parts [] = refl
 zip_parts (p ∷ ps) = ap (λ l. p ∷ l) (zip_parts ps)
 
--- pairs are known by their parts
-pub pairs_same : {X Y : Type 0} (ps qs : List (X × Y))
-    → map (λ (p : X × Y). p.0) ps ≡ map (λ (p : X × Y). p.0) qs
-    → map (λ (p : X × Y). p.1) ps ≡ map (λ (p : X × Y). p.1) qs → ps ≡ qs
-pairs_same ps qs f g = sym (zip_parts ps) ∙ (λ i. zip (f i) (g i)) ∙ zip_parts qs
-
--- as many members stand behind as entries, and as many keys
-pub counts_behind : (before d : Draft) (m k : ℕ) (ps : List (Bor (List ℕ) × ℕ))
-    → HasEntries before m k ps d
-    → (length d.members.items ≡ m + length ps) × (length d.keys.items ≡ k + length ps)
-counts_behind before d m k ps h =
-    let value : Bor (List ℕ) × ℕ → ℕ = λ p. p.1 in
-    let key : Bor (List ℕ) × ℕ → Bor (List ℕ) = λ p. p.0 in (
-      omega (
-        arith,
-        h.0,
-        ap length h.3,
-        length-append before.members.items (map value ps),
-        length-map ps value,
-      ),
-      omega (
-        arith,
-        h.1,
-        ap length h.4,
-        length-append before.keys.items (map key ps),
-        length-map ps key,
-      ),
-    )
-
--- one more of what stands behind is listed
-pub listed_more : {X : Type 0} (part : Bor (List ℕ) × ℕ → X) (es fs : List (Bor (List ℕ) × ℕ))
-    (e : Bor (List ℕ) × ℕ) (all : List X) (first n next : ℕ) → fs ≡ es ++ e ∷ []
-    → next ≡ n + 1 → first + n < length all → part e ≡ get_or all (first + n) (part e)
-    → map part es ≡ take n (drop first all) → map part fs ≡ take next (drop first all)
-listed_more part es fs e all first n next more on inside at h =
-    let d = part e in
-    ap (map part) more ∙ map_push part es e
-    ∙ (λ i. h i ++ (at ∙ sym (get_or-drop first all n d)) i ∷ [])
-    ∙ sym (take_more (drop first all) n d (omega (arith, length-drop first all, inside)))
-    ∙ ap (λ k. take k (drop first all)) (sym on)
+-- the keys and members behind, side by side, are the entries
+pub pairs_behind : (before d : Draft) (m k : ℕ) (ps : List (Bor (List ℕ) × ℕ))
+    → EndsInEntries before m k ps d → (ks : List (Bor (List ℕ))) (ns : List ℕ)
+    → ks ≡ d.keys.items → ns ≡ d.members.items
+    → zip (take (length ks - k) (drop k ks)) (take (length ns - m) (drop m ns)) ≡ ps
+pairs_behind before d m k ps h ks ns names values =
+    let keys = take_rest ks k ∙ ap (drop k) names ∙ keys_behind before d m k ps h in
+    let members = take_rest ns m ∙ ap (drop m) values ∙ members_behind before d m k ps h in
+    (λ i. zip (keys i) (members i)) ∙ zip_parts ps
 
 -- pieces stand for what they did where the entries are taken away
 pub stand_before : (before d cut : Draft) (m k : ℕ) (ps : List (Bor (List ℕ) × ℕ))
-    → HasEntries before m k ps d → cut.pieces.items ≡ d.pieces.items
+    → EndsInEntries before m k ps d → cut.pieces.items ≡ d.pieces.items
     → cut.members.items ≡ take m d.members.items → cut.keys.items ≡ take k d.keys.items
     → pieces_stand cut ≡ pieces_stand before
 stand_before before d cut m k ps h pieces members keys =

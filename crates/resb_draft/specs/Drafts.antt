@@ -8,7 +8,7 @@
 --     is_ready d           whether it is whole
 --     IsMade d n t         piece n stands for that tree, which is whole
 --     Keeps old new        what is whole stays so
---     HasEntries ..        a draft is another one with entries put behind its members and keys
+--     EndsInEntries ..     a draft is another one with entries put behind its members and keys
 use Rattle.std.specs.Prelude.{◌≡◌, ℕ, ◌+◌, Bool, true, false, ◌&&◌, nat_le, List, [], ◌∷◌, ◌++◌}
 use Rattle.std.specs.Prelude.{map}
 use Rattle.std.specs.Prelude.{get_or, length, slice_range}
@@ -110,10 +110,10 @@ IsMade d n t = (tree_at d n ≡ t) × (is_whole d n ≡ true)
 abbrev pub Keeps : Draft → Draft → Type 0
 Keeps old new = (n : ℕ) → is_whole old n ≡ true → IsMade new n (tree_at old n)
 
--- a draft is another one, which has so many members and keys, with the keys of these entries and
--- the numbers of their values put behind
-abbrev pub HasEntries : Draft → ℕ → ℕ → List (Bor (List ℕ) × ℕ) → Draft → Type 0
-HasEntries before members keys ps d =
+-- a draft is another one, which has so many members and keys, and of the same pieces, with the keys
+-- of these entries and the numbers of their values put behind
+abbrev pub EndsInEntries : Draft → ℕ → ℕ → List (Bor (List ℕ) × ℕ) → Draft → Type 0
+EndsInEntries before members keys ps d =
     (members ≡ length before.members.items) × (keys ≡ length before.keys.items)
     × (d.pieces.items ≡ before.pieces.items)
     × (d.members.items ≡ before.members.items ++ map (λ p. p.1) ps)

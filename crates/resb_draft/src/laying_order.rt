@@ -1,6 +1,6 @@
 //! The pieces of a draft in the order in which they are laid: members before their collection.
 //! What is laid for each is not said here. No function calls itself, so a draft may have any depth.
-ghost use Rattle.std.specs.Prelude.{◌≡◌, ◌++◌, ℕ, true, [], map, reverse, IfOk, OnOk, IsTrue};
+ghost use Rattle.std.specs.Prelude.{◌≡◌, ◌++◌, true, [], map, reverse, IfOk, OnOk, IsTrue};
 ghost use Rattle.std.specs.Prelude.{IfSome};
 ghost use Rattle.std.specs.Prelude.{◌+◌, ◌≤◌, length, slice_range};
 ghost use Rattle.resb_tree.specs.Borrowing.{all_true};

@@ -1,14 +1,15 @@
 //! How a draft is made: a piece at a time, members before their collection.
 //! In which order a table's entries are put stands in `entries`.
-ghost use Rattle.std.specs.Prelude.{◌≡◌, ◌^◌, ◌<◌, ◌≤◌, ◌-◌, true, [], ◌∷◌, ◌++◌, map, length};
+ghost use Rattle.std.specs.Prelude.{◌≡◌, ◌≤◌, true, [], ◌∷◌, ◌++◌, map, length};
 ghost use Rattle.std.specs.Prelude.{drop, IfOk, OnOk, get_or, List, ℕ};
 ghost use Rattle.std.specs.Borrow.{Bor};
+ghost use Rattle.std.specs.List.{zip};
 ghost use Rattle.resb_tree.specs.Borrowing.{all_true};
 ghost use Rattle.resb_tree.specs.Tree.{string, array, table, trees_of, entries_of, map_of};
 ghost use Rattle.resb_tree.specs.View.{tree_of};
 ghost use Rattle.resb_draft.specs.Drafts.{texts, is_leaf, nothing};
 ghost use Rattle.resb_draft.specs.Drafts.{piece_meaning, pieces_stand, tree_at, is_whole};
-ghost use Rattle.resb_draft.specs.Drafts.{IsMade, Keeps, HasEntries};
+ghost use Rattle.resb_draft.specs.Drafts.{IsMade, Keeps, EndsInEntries};
 ghost use Rattle.resb_draft.specs.Inner.Entries.{keys_ascend};
 
 use crate::draft::{Draft, Members, Piece};
@@ -93,22 +94,23 @@ impl<'a> Draft<'a> {
 
     /// The table of the entries behind the first so many members and keys. A later entry of an
     /// equal key replaces the earlier one. Where keys don't ascend, the entries are taken away, and
-    /// put there again in order.
+    /// put there again in order. What was whole without these entries stays so; memory may be
+    /// wanted, and the entries may then be gone.
     pub fn end_table(
         &mut self,
         alloc: Global,
         first_member: usize,
         first_key: usize,
     ) -> Result<u32, NoMemory>
-        requires { (before : Draft) × (ps : List (Bor (List ℕ) × ℕ))
-            × HasEntries before first_member first_key ps self.old }
+        requires members { first_member ≤ length self.old.members.items }
+        requires keys { first_key ≤ length self.old.keys.items }
         ensures made { (before : Draft) (ps : List (Bor (List ℕ) × ℕ))
-            → HasEntries before first_member first_key ps self.old
+            → EndsInEntries before first_member first_key ps self.old
             → all_true (map (λ p. is_whole before p.1) ps) ≡ true
             → IfOk result (λ n. IsMade self.new n
             (table (map_of (map (λ p. (p.0.now, tree_at before p.1)) ps)))) }
         ensures keeps { (before : Draft) (ps : List (Bor (List ℕ) × ℕ))
-            → HasEntries before first_member first_key ps self.old → Keeps before self.new }
+            → EndsInEntries before first_member first_key ps self.old → Keeps before self.new }
     {
         if ascend(&self.keys[first_key..]) {
             return self.end_ascending(first_member, first_key);
@@ -146,19 +148,19 @@ impl<'a> Draft<'a> {
         first_member: usize,
         first_key: usize,
     ) -> Result<Vec<(&'a str, u32)>, NoMemory>
-        requires { (before : Draft) × (ps : List (Bor (List ℕ) × ℕ))
-            × HasEntries before first_member first_key ps self.old }
+        requires members { first_member ≤ length self.old.members.items }
+        requires keys { first_key ≤ length self.old.keys.items }
         ensures taken { (before : Draft) (ps : List (Bor (List ℕ) × ℕ))
-            → HasEntries before first_member first_key ps self.old → IfOk result
+            → EndsInEntries before first_member first_key ps self.old → IfOk result
             (λ v. (v.items ≡ ps) × (pieces_stand self.new ≡ pieces_stand before)) }
         ensures keeps { (before : Draft) (ps : List (Bor (List ℕ) × ℕ))
-            → HasEntries before first_member first_key ps self.old → Keeps before self.new }
+            → EndsInEntries before first_member first_key ps self.old → Keeps before self.new }
     {
-        let mut entries = Vec::with_capacity(alloc, self.keys.len() - first_key)?;
-        for at in first_key..self.keys.len() {
-            let member = self.members[first_member + (at - first_key)];
-            entries.push((self.keys[at], member))?;
-        }
+        let entries = pairs_of(
+            alloc,
+            &self.keys[first_key..],
+            &self.members[first_member..],
+        )?;
         self.members.truncate(first_member);
         self.keys.truncate(first_key);
         Ok(entries)
@@ -198,6 +200,18 @@ impl<'a> Draft<'a> {
         self.pieces.push(piece)?;
         Ok(number)
     }
+}
+
+/// The pairs of a key and the member at its place.
+fn pairs_of<'a>(
+    alloc: Global,
+    keys: &[&'a str],
+    members: &[u32],
+) -> Result<Vec<(&'a str, u32)>, NoMemory>
+    ensures { IfOk result (λ v. v.items ≡ zip keys.now members.now) }
+{
+    let pairs = keys.iter().copied().zip(members.iter().copied());
+    Ok(pairs.collect(alloc)?)
 }
 
 /// A place as it is kept. A place that 32 bits don't hold is told as want of memory.

@@ -1,8 +1,6 @@
 -- Lists and options: what names no word of this project.
 use Rattle.std.proofs.Common.{◌≡◌, ℕ, ◌+◌, ◌-◌, List, get_or, ap, ◌∙◌, drop, arith, length, take}
 use Rattle.std.proofs.Common.{length-drop, true, ◌<◌, ◌≤◌, false, refl}
-use Rattle.std.proofs.Common.{◌++◌}
-use Rattle.std.proofs.Math.Seq.{drop-append_seam, take-append_seam}
 use Rattle.std.proofs.lemmas.List.{get_or-drop, take_all}
 use Rattle.std.specs.Prelude.{Bool}
 use Rattle.std.proofs.lemmas.Bool.{false≢true}

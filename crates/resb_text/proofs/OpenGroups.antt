@@ -1,10 +1,10 @@
 -- What each step does to all open groups beside their code.
-use Rattle.std.proofs.Common.{◌≡◌, ◌≢◌, ℕ, ◌+◌, ◌<◌, ◌≤◌, true, false, List, [], ◌∷◌, ◌++◌}
+use Rattle.std.proofs.Common.{◌≡◌, ℕ, ◌+◌, ◌<◌, ◌≤◌, true, false, List, [], ◌∷◌, ◌++◌}
 use Rattle.std.proofs.Common.{Bool, length, refl, sym, ◌∙◌, ap, subst, arith}
 use Rattle.std.proofs.Common.{append-nil, append_assoc}
 use Rattle.std.specs.Prelude.{map, slice_index_or}
 use Rattle.std.proofs.lemmas.Bool.{false≢true}
-use Rattle.std.proofs.lemmas.List.{map-append}
+use Rattle.std.proofs.lemmas.List.{map-append, get_or-set_other, length-set}
 use Rattle.std.proofs.Common.{get_or, ◌-◌, length-append}
 use Rattle.resb_text.specs.declared.frames.Body as bodies
 use Rattle.resb_text.specs.declared.items.Term.{Term as CodeTerm}
@@ -17,7 +17,7 @@ use Rattle.resb_text.proofs.BorrowedLemmas.{items_borrowed}
 use Rattle.resb_text.proofs.Growing.{grown, all_grown}
 use Rattle.resb_text.specs.Inner.Frames.{TakesComma}
 use Rattle.resb_tree.specs.Tree.{Tree, table, map_of}
-use Rattle.resb_grammar.specs.Items.{Term, string_term, group_term, Item, before_comma}
+use Rattle.resb_grammar.specs.Items.{Term, string_term, group_term, Item, Shape, before_comma}
 use Rattle.resb_grammar.specs.Items.{a_table, tree_in, keys_in}
 use Rattle.resb_grammar.specs.Items.{table_keys, is_pairs}
 use Rattle.resb_grammar.specs.Machine.{Body, table_body, array_body, untyped_body, Frame, with_item}
@@ -28,7 +28,8 @@ use Rattle.resb_text.specs.Inner.Shown.{term_seen}
 use Rattle.resb_grammar.specs.Machine as machine
 use Rattle.resb_grammar.specs.Machine.{with_term}
 use Rattle.resb_text.specs.Inner.Discovered.{GroupText, without, texts, left, group_count}
-use Rattle.resb_text.specs.Inner.Discovered.{is_dropped_in}
+use Rattle.resb_text.specs.Inner.Discovered.{is_dropped_in, OpensGroup, AddsCandidate}
+use Rattle.resb_text.specs.Inner.Discovered.{ListsCandidates, DropsGroup}
 use Rattle.resb_text.specs.declared.discovered.Keys.{Keys}
 use Rattle.resb_text.specs.declared.items.Item as code
 use Rattle.resb_text.specs.declared.frames.Frame as frames
@@ -36,10 +37,9 @@ use Rattle.resb_text.specs.declared.frames.Open as opens
 use Rattle.resb_grammar.specs.Inner.Half.{is_half}
 use Rattle.resb_text.specs.Inner.Frames.{IsTableWhole, ClosesTo, group_body_of, lists}
 use Rattle.resb_text.specs.Inner.Frames.{view_of_code, view_of_frame, views_of_frames, frames_in}
-use Rattle.resb_text.specs.Inner.Frames.{FrameView, StandsFor, AreOpen}
+use Rattle.resb_text.specs.Inner.Frames.{FrameView, StandsFor, AreOpen, ClosesKeys}
 use Rattle.resb_text.specs.Inner.Frames.{tree_shown_in, left_after, NumberedFrame, with_number}
 use Rattle.resb_text.specs.Inner.Frames.{HoldsCandidates, none, AllFrom, AreSettled}
-use Rattle.resb_grammar.specs.BundleText.{first_places}
 use Rattle.resb_grammar.specs.KeyLists.{listed_keys}
 use Rattle.resb_text.proofs.DiscoveredLemmas.{without-append, without-other}
 use Rattle.resb_text.proofs.ShownLemmas.{pairs_shown}
@@ -68,6 +68,21 @@ settled_on k l settled bound e more x = record {
   listed = ap listed_keys e ∙ x.listed;
   apart = x.apart;
   bounded = let b = x.bounded in omega (arith, b, more);
+}
+
+-- a group that is dropped as it is closed, since it turns out to be no table
+pub dropped_closes : (look : FrameView) (k l : Keys) (shape : Shape) → DropsGroup look.number k l
+    → ((n : ℕ) (f : Frame) → look ≡ view_of_frame (with_number n f)
+    → shape ≡ shape_in f.body f.items)
+    → ((n : ℕ) (cs : List GroupText) → left_after shape n cs ≡ without n cs) → ClosesKeys look k l
+dropped_closes look k l shape drops is no_table = record {
+  rest = λ n f e.
+      drops.others ∙ ap (λ j. without j (left k)) (ap (λ (v : FrameView). v.number) e)
+      ∙ sym (no_table n (left k)) ∙ ap (λ s. left_after s n (left k)) (is n f e);
+  others = λ g ne. ap (λ ds. slice_index_or ds g false) drops.dropped
+      ∙ get_or-set_other k.is_dropped.items look.number g true false ne;
+  groups = ap length drops.dropped ∙ length-set k.is_dropped.items look.number true;
+  listed = drops.listed;
 }
 
 snoc_same : (xs ys : List FrameView) (x y : FrameView) → xs ++ x ∷ [] ≡ ys ++ y ∷ []
@@ -133,19 +148,18 @@ module _ {B X : Type 0} {tree : B → X → Tree} {held : B → X → Bool} wher
       → Grows tree held c.build d.build
       → Pushes (tree d.build) (held d.build) c.frame d.frame term → d.around.items ≡ c.around.items
       → lists (group_body_of c.frame.body) ≡ true
-      → left d.keys ≡ left c.keys ++ cand s c.frame.number ∷ []
-      → d.keys.is_dropped ≡ c.keys.is_dropped → d.keys.listed ≡ c.keys.listed
+      → AddsCandidate s c.frame.number c.keys d.keys
       → StandsFor tree held d (with_term (string_term s) o)
-  shows_string c d o term s x is grow push a ls e ds same_list =
+  shows_string c d o term s x is grow push a ls keys =
       let number : c.frame.number ≡ x.number = ap (λ (l : FrameView). l.number) x.frame in
       let lists_keys : lists o.frame.body ≡ true = ap lists (sym (ap (λ
       (l : FrameView). l.body) x.frame))
       ∙ ls in
       let had = x.settled ++ left c.keys in
       let now : x.settled ++ left d.keys ≡ had ++ cand s x.number ∷ [] =
-      ap (λ cs. x.settled ++ cs) (e ∙ ap (λ k. left c.keys ++ cand s k ∷ []) number)
+      ap (λ cs. x.settled ++ cs) (keys.added ∙ ap (λ k. left c.keys ++ cand s k ∷ []) number)
       ∙ sym (append_assoc x.settled (left c.keys) (cand s x.number ∷ [])) in
-      let same : group_count d.keys ≡ group_count c.keys = ap (λ v. length v.items) ds in
+      let same : group_count d.keys ≡ group_count c.keys = ap (λ v. length v.items) keys.dropped in
       shows_term c d o (string_term s) term x is grow push a
       (subst
       (λ (cs : List GroupText). HoldsCandidates
@@ -157,7 +171,7 @@ module _ {B X : Type 0} {tree : B → X → Tree} {held : B → X → Bool} wher
       ∙ ap (λ cs. had ++ cs)
       (without-other h x.number s (let lt = x.are_open.0 in omega arith))
       ∙ sym now)
-      same same_list (dropped_same c.keys d.keys ds)
+      same keys.listed (dropped_same c.keys d.keys keys.dropped)
 
   pub shows_item : (c d : opens.Open B X) (o : machine.Open) (term : CodeTerm X) (s : List ℕ)
       → (x : StandsFor tree held c o)
@@ -236,11 +250,8 @@ module _ {B X : Type 0} {tree : B → X → Tree} {held : B → X → Bool} wher
       → view_of_code (tree d.build) (held d.build) d.frame
       ≡ view_of_frame (with_number (group_count c.keys) (new_frame (group_body_of b)))
       → d.around.items ≡ c.around.items ++ c.frame ∷ []
-      → left d.keys ≡ left c.keys → group_count d.keys ≡ group_count c.keys + 1
-      → ((g : ℕ) → is_dropped_in d.keys g ≡ is_dropped_in c.keys g)
-      → is_dropped_in c.keys (group_count c.keys) ≡ false → d.keys.listed ≡ c.keys.listed
-      → StandsFor tree held d (machine.within (group_body_of b) o)
-  shows_open c d o b x grow e a l g ds fresh same_list = record {
+      → {g : ℕ} → OpensGroup g c.keys d.keys → StandsFor tree held d (machine.within (group_body_of b) o)
+  shows_open c d o b x grow e a keys = record {
     number = group_count c.keys;
     around = with_number x.number o.frame ∷ x.around;
     frame = e;
@@ -254,24 +265,24 @@ module _ {B X : Type 0} {tree : B → X → Tree} {held : B → X → Bool} wher
     frames = ap (λ fs. o.frame ∷ fs) x.frames;
     settled = x.settled;
     bound = x.bound;
-    are_settled = settled_on c.keys d.keys x.settled x.bound same_list
-        (omega (arith, g)) x.are_settled;
+    are_settled = settled_on c.keys d.keys x.settled x.bound keys.listed
+        (omega (arith, keys.groups)) x.are_settled;
     inner = (x.are_settled.bounded, x.inner);
     holds =
         subst
         (λ (cs : List GroupText). HoldsCandidates
         (with_number (group_count c.keys) (new_frame
         (group_body_of b)) ∷ with_number x.number o.frame ∷ x.around) cs)
-        (sym (ap (λ cs. x.settled ++ cs) l))
+        (sym (ap (λ cs. x.settled ++ cs) keys.stays))
         (holds_new (group_count c.keys) (group_body_of b) (with_number x.number o.frame ∷ x.around)
         (x.settled ++ left c.keys) x.holds x.within);
-    within = λ h le. ap (λ cs. without h (x.settled ++ cs)) l ∙ x.within h (omega (arith, g))
-        ∙ sym (ap (λ cs. x.settled ++ cs) l);
+    within = λ h le. ap (λ cs. without h (x.settled ++ cs)) keys.stays ∙ x.within h (omega (arith, keys.groups))
+        ∙ sym (ap (λ cs. x.settled ++ cs) keys.stays);
     are_open = (
-      omega (arith, g),
-      ds (group_count c.keys) ∙ fresh,
+      omega (arith, keys.groups),
+      keys.flags (group_count c.keys) ∙ keys.fresh,
       open_same c.keys d.keys (group_count c.keys) (with_number x.number o.frame
-          ∷ x.around) ds x.are_open,
+          ∷ x.around) keys.flags x.are_open,
     );
   }
 
@@ -284,13 +295,9 @@ module _ {B X : Type 0} {tree : B → X → Tree} {held : B → X → Bool} wher
       (with_number n f)
       → Represents tree held d.build made
       (tree_shown_in (shape_in f.body f.items) (items_seen f.items)))
-      → ((n : ℕ) (f : Frame) → view_of_code (tree c.build) (held c.build) c.frame ≡ view_of_frame
-      (with_number n f)
-      → left d.keys ≡ left_after (shape_in f.body f.items) n (left c.keys))
-      → group_count d.keys ≡ group_count c.keys → d.keys.listed ≡ c.keys.listed
-      → ((g : ℕ) → g ≢ c.frame.number → is_dropped_in d.keys g ≡ is_dropped_in c.keys g)
+      → ClosesKeys (view_of_code (tree c.build) (held c.build) c.frame) c.keys d.keys
       → ClosesTo tree held d o o.around
-  shows_close c d o outer made x table_is_pairs grow a push stands l g same_list ds =
+  shows_close c d o outer made x table_is_pairs grow a push stands keys =
       subst (λ (fs : List Frame). ClosesTo tree held d o fs) x.frames
       (go x.around
       (all_grown tree held c.build d.build grow c.around.items x.around x.outer) x.holds
@@ -311,7 +318,7 @@ module _ {B X : Type 0} {tree : B → X → Tree} {held : B → X → Bool} wher
 
       left_is : left d.keys ≡ left_after (shape_in o.frame.body o.frame.items) x.number
           (left c.keys)
-      left_is = l x.number o.frame x.frame
+      left_is = keys.rest x.number o.frame x.frame
 
       open_outer : (limit : ℕ) (gs : List NumberedFrame) → limit ≤ x.number
           → AreOpen c.keys limit gs
@@ -319,7 +326,7 @@ module _ {B X : Type 0} {tree : B → X → Tree} {held : B → X → Bool} wher
       open_outer limit [] lt k = tt
       open_outer limit (h ∷ gs) lt k = (
         k.0,
-        ds h.number (let m = k.0 in omega (arith, m, number_same)) ∙ k.1,
+        keys.others h.number (let m = k.0 in omega (arith, m, number_same)) ∙ k.1,
         open_outer h.number gs (let m = k.0 in omega (arith, m)) k.2,
       )
 
@@ -356,8 +363,8 @@ module _ {B X : Type 0} {tree : B → X → Tree} {held : B → X → Bool} wher
             frames = refl;
             settled = x.settled;
             bound = x.bound;
-            are_settled = settled_on c.keys d.keys x.settled x.bound same_list
-                (omega (arith, g)) x.are_settled;
+            are_settled = settled_on c.keys d.keys x.settled x.bound keys.listed
+                (omega (arith, keys.groups)) x.are_settled;
             inner = within_bound.1;
             holds =
                 subst
@@ -369,22 +376,20 @@ module _ {B X : Type 0} {tree : B → X → Tree} {held : B → X → Bool} wher
             within =
                 λ k le. ap (without k) all_left
                 ∙ after_keeps shape x.number k (x.settled ++ left c.keys)
-                (x.within k (omega (arith, g)))
+                (x.within k (omega (arith, keys.groups)))
                 ∙ sym all_left;
-            are_open = (omega (arith, m, top, g), rest.1, rest.2);
+            are_open = (omega (arith, m, top, keys.groups), rest.1, rest.2);
           }
 
   -- where the root alone is open, all candidates that are left are keys
   pub shows_settled : (c d : opens.Open B X) (o : machine.Open) → c.around.items ≡ []
-      → d.frame ≡ c.frame → d.around ≡ c.around → d.build ≡ c.build → left d.keys ≡ []
-      → ((before : List GroupText) → listed_keys c.keys.listed ≡ first_places (texts before)
-      → listed_keys d.keys.listed ≡ first_places (texts (before ++ left c.keys)))
-      → d.keys.is_dropped ≡ c.keys.is_dropped → StandsFor tree held c o → StandsFor tree held d o
-  shows_settled c d o alone f a b none_left lists ds x =
-      let same : group_count d.keys ≡ group_count c.keys = ap (λ v. length v.items) ds in
+      → d.frame ≡ c.frame → d.around ≡ c.around → d.build ≡ c.build
+      → ListsCandidates c.keys d.keys → StandsFor tree held c o → StandsFor tree held d o
+  shows_settled c d o alone f a b lists x =
+      let same : group_count d.keys ≡ group_count c.keys = ap (λ v. length v.items) lists.dropped in
       let settled = x.settled ++ left c.keys in
       let all : settled ++ left d.keys ≡ settled =
-      ap (λ cs. settled ++ cs) none_left ∙ append-nil settled in
+      ap (λ cs. settled ++ cs) lists.empty ∙ append-nil settled in
       record {
         number = x.number;
         around = x.around;
@@ -394,7 +399,7 @@ module _ {B X : Type 0} {tree : B → X → Tree} {held : B → X → Bool} wher
         settled = settled;
         bound = group_count c.keys;
         are_settled = record {
-          listed = lists x.settled x.are_settled.listed;
+          listed = lists.listed x.settled x.are_settled.listed;
           apart = x.within;
           bounded = omega (arith, same);
         };
@@ -406,7 +411,7 @@ module _ {B X : Type 0} {tree : B → X → Tree} {held : B → X → Bool} wher
         are_open =
             subst (λ k. AreOpen d.keys k (with_number x.number o.frame ∷ x.around)) (sym same)
             (open_same c.keys d.keys (group_count c.keys)
-            (with_number x.number o.frame ∷ x.around) (dropped_same c.keys d.keys ds) x.are_open);
+            (with_number x.number o.frame ∷ x.around) (dropped_same c.keys d.keys lists.dropped) x.are_open);
       }
     where
       no_inner : (gs : List NumberedFrame) → views_of_frames gs ≡ []

@@ -48,13 +48,13 @@ pub reach_dash : (text : List ℕ) (at : ℕ) → slice_index text at ≡ ascii.
 reach_dash text at e = reach_byte text at ascii.dash e (λ s. omega (arith, s))
 
 -- what is said of a sign
-pub ruleset reach_signs = (reach_plus, reach_dash, reach_low)
+pub ruleset reach_signs = (reach_plus, reach_dash, reach_low, nonzero_inside)
 
 -- what is said of a digit or none
 pub ruleset reach_of_digits = (reach_digit, reach_digits)
 
 -- what is said of a comma, a brace or the end
-pub ruleset reach_ends = (reach_comma, reach_right, reach_high)
+pub ruleset reach_ends = (reach_comma, reach_right, reach_high, nonzero_inside)
 
 -- what is said of a colon or the end
 pub ruleset reach_types = (reach_colon, reach_high)

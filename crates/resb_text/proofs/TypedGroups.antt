@@ -140,28 +140,28 @@ module _ (text : List ℕ) where
           (type_next o.title o.frame.body o.frame.items o.around kind
           (may_open o.frame.body o.frame.items may)) skip
 
-module _ {B X : Type 0} {tree : B → X → Tree} {held : B → X → Bool} {text : List ℕ} {limit at : ℕ}
-    {c : Open B X} {q : Quota} (x : Among tree held text limit at c q) where
+module _ {B X : Type 0} {tree : B → X → Tree} {held : B → X → Bool} {text : List ℕ} {limit : ℕ}
+    {here : ℕ × ℕ} {c : Open B X} {q : Quota} (x : Among tree held text limit here c q) where
   -- a typed group may stand here
   abbrev MayStand : Type 0
   MayStand = takes_group x.open_groups.frame.body (is_key_place x.open_groups.frame.items) ≡ true
 
   -- no type may stand here
-  pub type_refused : {e : TextParserError} → slice_index text at ≡ ascii.colon
+  pub type_refused : {e : TextParserError} → here.1 ≡ ascii.colon
       → ((o : machine.Open) → StandsFor tree held c o
-      → e ≡ error_at at (expectation (inside o) ascii.colon))
+      → e ≡ error_at here.0 (expectation (inside o) here.1))
       → takes_group x.open_groups.frame.body (is_key_place x.open_groups.frame.items) ≡ false
       → Stops text limit q e
   type_refused colon is denied =
-      stuck_here x (sym colon) is (only_types text at x.open_groups colon
+      stuck_here x is (only_types text here.0 x.open_groups (sym x.byte ∙ colon)
       (λ to kind u g. not_group_like x.open_groups.frame.body _
       (λ b. in_body b x.open_groups (a_type kind)) _ u refl denied))
 
   -- no type and `{` stand here
-  pub opening_refused : {e : TextParserError} → MayStand → TypedOpeningFails text at e
+  pub opening_refused : {e : TextParserError} → MayStand → TypedOpeningFails text here.0 e
       → Stops text limit q e
   opening_refused may fails = record {
-    fails = inr (fails x.open_groups may (reading_of text q.made at _ x.made));
+    fails = inr (fails x.open_groups may (reading_of text q.made here.0 _ x.made));
     keeps = x.keeps;
   }
 
@@ -173,26 +173,28 @@ module _ {B X : Type 0} {tree : B → X → Tree} {held : B → X → Bool} {tex
       refl may
 
   -- a group that holds items is opened
-  pub typed_group_opened : {d : Open B X} {r : Quota} {first : ℕ} (kind : Kind) {body : Body}
-      → MayStand → TypedOpening text at kind first → first ≤ length text
+  pub typed_group_opened : {d : Open B X} {r : Quota} {first : ℕ × ℕ} (kind : Kind)
+      {body : Body} → MayStand → TypedOpening text here.0 kind first.0 → first.0 ≤ length text
+      → first.1 ≡ slice_index text first.0
       → ((o : machine.Open) → machine.begun_as kind o ≡ inside (within body o))
       → ((o : machine.Open) → StandsFor tree held c o → StandsFor tree held d (within body o))
       → TakesBytes q r 72 → Among tree held text limit first d r
-  typed_group_opened {d} {r} {first} kind {body} may begin fits opens then takes = record {
+  typed_group_opened {d} {r} {first} kind {body} may begin fits byte opens then takes = record {
     open_groups = within body x.open_groups;
     shows = then x.open_groups x.shows;
     made =
-        subst (λ (s : State). Makes text r.made first s) (opens x.open_groups)
-        (begun_made text q.made r.made at first kind x.open_groups begin
+        subst (λ (s : State). Makes text r.made first.0 s) (opens x.open_groups)
+        (begun_made text q.made r.made here.0 first.0 kind x.open_groups begin
         (type_moves kind may) x.made
         (takes.made ∙ ap (λ k. q.made + k) (begins kind body opens x.open_groups)));
     within = fits;
+    byte = byte;
     keeps = quota_kept x.keeps takes;
   }
 
   -- such a group makes more than the limit
   pub opened_over : {r : Quota} {e : TextParserError} {first : ℕ} (kind : Kind) {body : Body}
-      → MayStand → TypedOpening text at kind first
+      → MayStand → TypedOpening text here.0 kind first
       → ((o : machine.Open) → machine.begun_as kind o ≡ inside (within body o))
       → RunsOver q r 72 → e ≡ want_of_memory → Stops text limit r e
   opened_over {r} {e} {first} kind {body} may begin opens over none = record {
@@ -202,56 +204,57 @@ module _ {B X : Type 0} {tree : B → X → Tree} {held : B → X → Bool} {tex
         let adds = begins kind body opens x.open_groups in
         makes_more text q.made limit begin.brace (begin.brace + 1) (typed kind x.open_groups) _
         opening
-        (opening_made text q.made at first kind x.open_groups begin (type_moves kind may) x.made)
+        (opening_made text q.made here.0 first kind x.open_groups begin (type_moves kind may) x.made)
         (begin.opens, refl) refl (omega (arith, more, adds)));
   }
 
   -- a group that holds no items is refused
   pub leaf_refused : {e : TextParserError} {first : ℕ} {kind : Kind} → MayStand
-      → TypedOpening text at kind first → LeafRefuses text first kind e → Stops text limit q e
+      → TypedOpening text here.0 kind first → LeafRefuses text first kind e → Stops text limit q e
   leaf_refused {e} {first} {kind} may begin fails = record {
     fails =
         ⊎_elim (λ (h : e ≡ want_of_memory). inl h)
         (λ (h : LeafFails text first kind e). inr (h x.open_groups
-        (run_opening text at first kind x.open_groups.title x.open_groups.frame.body
+        (run_opening text here.0 first kind x.open_groups.title x.open_groups.frame.body
         x.open_groups.frame.items x.open_groups.around begin
         (may_open x.open_groups.frame.body x.open_groups.frame.items may)
-        (reading_of text q.made at _ x.made)))) fails;
+        (reading_of text q.made here.0 _ x.made)))) fails;
     keeps = x.keeps;
   }
 
   -- a group that holds no items, up to its `}`
   before_brace : {first next : ℕ} {kind : Kind} {t : Tree} → MayStand
-      → TypedOpening text at kind first → (leaf : LeafGroup text first next kind t)
+      → TypedOpening text here.0 kind first → (leaf : LeafGroup text first next kind t)
       → BeforeBrace text q.made leaf.ends t x.open_groups
   before_brace {first} {next} {kind} {t} may begin leaf =
       content_made text q.made first leaf.ends kind t x.open_groups leaf.content
-      (begun_made text q.made q.made at first kind x.open_groups begin
+      (begun_made text q.made q.made here.0 first kind x.open_groups begin
       (type_moves kind may) x.made (leaf_kind leaf.content))
 
   -- it is one item more
-  pub leaf_added : {d : Open B X} {r : Quota} {first to asked : ℕ} {kind : Kind} {t : Tree}
-      → MayStand → TypedOpening text at kind first → LeafGroup text first to kind t
-      → to ≤ length text
+  pub leaf_added : {d : Open B X} {r : Quota} {first asked : ℕ} {to : ℕ × ℕ} {kind : Kind}
+      {t : Tree} → MayStand → TypedOpening text here.0 kind first
+      → LeafGroup text first to.0 kind t → to.0 ≤ length text → to.1 ≡ slice_index text to.0
       → ((o : machine.Open) → StandsFor tree held c o → StandsFor tree held d (with_term
       (group_term t []) o))
       → asked ≡ leaf_bytes t → TakesBytes q r asked → Among tree held text limit to d r
-  leaf_added {d} {r} {first} {to} {asked} {kind} {t} may begin leaf fits then same takes =
+  leaf_added {d} {r} {first} {asked} {to} {kind} {t} may begin leaf fits byte then same takes =
       let b = before_brace may begin leaf in
       record {
         open_groups = with_term (group_term t []) x.open_groups;
         shows = then x.open_groups x.shows;
         made =
-            makes_on text q.made r.made leaf.ends (leaf.ends + 1) to b.state _ closing b.made
+            makes_on text q.made r.made leaf.ends (leaf.ends + 1) to.0 b.state _ closing b.made
             (takes.made ∙ ap (λ k. q.made + k) (same ∙ sym b.adds)) (leaf.closes.brace, refl)
             b.moves leaf.closes.after;
         within = fits;
+        byte = byte;
         keeps = quota_kept x.keeps takes;
       }
 
   -- it makes more than the limit
   pub leaf_over : {r : Quota} {e : TextParserError} {first to asked : ℕ} {kind : Kind} {t : Tree}
-      → MayStand → TypedOpening text at kind first → LeafGroup text first to kind t
+      → MayStand → TypedOpening text here.0 kind first → LeafGroup text first to kind t
       → asked ≡ leaf_bytes t → RunsOver q r asked → e ≡ want_of_memory → Stops text limit r e
   leaf_over {r} {e} {first} {to} {asked} {kind} {t} may begin leaf same over none = record {
     fails = inl none;

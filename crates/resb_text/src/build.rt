@@ -1,6 +1,6 @@
-//! What the reader makes of groups once they are closed. Trees are one such thing.
-//! The open groups stand in `frames`, and the trees of their items are made in `items`.
-ghost use Rattle.std.specs.Prelude.{◌≡◌, ◌+◌, ◌<◌, ◌≤◌, Bool, true, map, length};
+//! What the reader makes of groups once they are closed.
+//! The open groups stand in `frames`. Trees are made in `items`, pieces of a draft in `drafts`.
+ghost use Rattle.std.specs.Prelude.{◌≡◌, ◌+◌, ◌≤◌, Bool, true, map, length};
 ghost use Rattle.std.specs.Prelude.{IfOk, OnOk};
 ghost use Rattle.resb_tree.specs.Tree.{Tree, string, array, table, trees_of, map_of};
 ghost use Rattle.resb_tree.specs.View.{tree_of};
@@ -8,16 +8,12 @@ ghost use Rattle.resb_tree.specs.Borrowing.{all_true};
 ghost use Rattle.resb_draft.specs.Drafts.{is_leaf};
 ghost use Rattle.resb_text.specs.Borrowed.{borrows_strings};
 ghost use Rattle.resb_text.specs.Inner.Build.{Represents, Grows};
-ghost use Rattle.resb_text.specs.Inner.Shown.{shown_by, seen_in_code, shown_tree, shown_pairs};
-ghost use Rattle.resb_text.specs.Inner.Shown.{shown_borrowed};
-ghost use Rattle.resb_tree.specs.declared.resource.Resource.{Resource};
+ghost use Rattle.resb_text.specs.Inner.Shown.{shown_by, shown_tree, shown_pairs, shown_borrowed};
 
-use crate::items::{Item, array_of, table_of};
+use crate::items::Item;
 use crate::ticks::Ticks;
 use resb_tree::{NoMemory, Resource};
 use std::alloc::Global;
-use std::borrow::CowStr;
-use std::mem;
 
 /// What can be made of groups, one after another, members first.
 pub(crate) trait Build<'a>: Sized + Drop {
@@ -71,59 +67,4 @@ pub(crate) trait Build<'a>: Sized + Drop {
             (λ x. Represents tree held self.new x (table (map_of (shown_pairs xs)))) }
         ensures grows { OnOk result (Grows tree held self.old self.new) }
         ensures cost { ticks.new.count ≤ ticks.old.count + length items.old.items };
-}
-
-/// Groups become resources, and nothing else is kept.
-#[derive(Drop)]
-pub(crate) struct Trees {}
-
-impl<'a> Build<'a> for Trees {
-    ghost use Rattle.resb_tree.specs.View.{tree_of};
-    ghost use Rattle.resb_text.specs.Borrowed.{borrows_strings};
-
-    type Made = Resource<'a>;
-
-    ghost tree = { λ b r. tree_of r };
-
-    ghost held = { λ b r. borrows_strings r };
-
-    fn leaf(&mut self, resource: Resource<'a>) -> Result<Resource<'a>, NoMemory> {
-        Ok(resource)
-    }
-
-    fn string(&mut self, text: &'a str) -> Result<Resource<'a>, NoMemory> {
-        Ok(Resource::String(CowStr::Borrowed(text)))
-    }
-
-    fn array(
-        &mut self,
-        alloc: Global,
-        ticks: &mut Ticks,
-        items: &mut Vec<Item<'a, Resource<'a>>>,
-    ) -> Result<Resource<'a>, NoMemory>
-        ensures made { let xs = map seen_in_code items.old.items in
-            all_true (map shown_borrowed xs) ≡ true → IfOk result
-            (λ r. (tree_of r ≡ array (trees_of (map shown_tree xs))) × (borrows_strings r ≡ true)) }
-        ensures grows { OnOk result ((r : Resource) → borrows_strings r ≡ true
-            → (tree_of r ≡ tree_of r) × (borrows_strings r ≡ true)) }
-        ensures cost { ticks.new.count ≤ ticks.old.count + length items.old.items }
-    {
-        array_of(alloc, ticks, mem::replace(items, Vec::new(alloc)))
-    }
-
-    fn table(
-        &mut self,
-        alloc: Global,
-        ticks: &mut Ticks,
-        items: &mut Vec<Item<'a, Resource<'a>>>,
-    ) -> Result<Resource<'a>, NoMemory>
-        ensures made { let xs = map seen_in_code items.old.items in
-            all_true (map shown_borrowed xs) ≡ true → IfOk result
-            (λ r. (tree_of r ≡ table (map_of (shown_pairs xs))) × (borrows_strings r ≡ true)) }
-        ensures grows { OnOk result ((r : Resource) → borrows_strings r ≡ true
-            → (tree_of r ≡ tree_of r) × (borrows_strings r ≡ true)) }
-        ensures cost { ticks.new.count ≤ ticks.old.count + length items.old.items }
-    {
-        table_of(alloc, ticks, mem::replace(items, Vec::new(alloc)))
-    }
 }

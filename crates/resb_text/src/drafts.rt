@@ -1,14 +1,13 @@
 //! Closed groups as pieces of a draft, members first.
 //! What a draft stands for is said in `resb_draft`, which makes it; trees are made in `items`.
-ghost use Rattle.std.specs.Prelude.{true, ◌≡◌, ◌+◌, ◌-◌, ◌<◌, ◌≤◌, map, length, IfOk, OnOk, drop};
-ghost use Rattle.std.specs.Prelude.{Bool, [], ◌∷◌, ◌++◌, None, IsTrue};
+ghost use Rattle.std.specs.Prelude.{true, ◌≡◌, ◌+◌, ◌≤◌, map, length, IfOk, OnOk, drop};
+ghost use Rattle.std.specs.Prelude.{Bool, None};
 ghost use Rattle.resb_tree.specs.Borrowing.{all_true};
-ghost use Rattle.resb_tree.specs.Tree.{Tree, array, table, trees_of, map_of};
 ghost use Rattle.resb_draft.specs.Drafts.{tree_at, is_whole, Keeps};
-ghost use Rattle.resb_text.specs.Inner.Build.{Represents, Grows};
+ghost use Rattle.resb_text.specs.Inner.Build.{Represents};
 ghost use Rattle.resb_text.specs.Inner.Drafts.{piece_term_seen, piece_item_seen};
-ghost use Rattle.resb_text.specs.Inner.Drafts.{key_after, entry_of_term, entries_after};
-ghost use Rattle.resb_text.specs.Inner.Shown.{shown_tree, shown_borrowed, shown_pairs};
+ghost use Rattle.resb_text.specs.Inner.Drafts.{key_after, entry_of_term, entries_after, PutsBehind};
+ghost use Rattle.resb_text.specs.Inner.Shown.{shown_tree, shown_borrowed};
 
 use crate::build::Build;
 use crate::items::{Item, Term};
@@ -39,14 +38,10 @@ impl<'a> Build<'a> for Draft<'a> {
         alloc: Global,
         ticks: &mut Ticks,
         items: &mut Vec<Item<'a, u32>>,
-    ) -> Result<u32, NoMemory>
-        ensures made { let xs = map (piece_item_seen self.old) items.old.items in
-            all_true (map shown_borrowed xs) ≡ true → IfOk result
-            (λ n. Represents tree_at is_whole self.new n (array (trees_of (map shown_tree xs)))) }
-        ensures grows { OnOk result (Grows tree_at is_whole self.old self.new) }
-        ensures cost { ticks.new.count ≤ ticks.old.count + length items.old.items }
-    {
-        array_of(self, ticks, items)
+    ) -> Result<u32, NoMemory> {
+        let first_member = self.members.len();
+        push_members(self, ticks, items)?;
+        self.end_array(first_member)
     }
 
     fn table(
@@ -54,14 +49,11 @@ impl<'a> Build<'a> for Draft<'a> {
         alloc: Global,
         ticks: &mut Ticks,
         items: &mut Vec<Item<'a, u32>>,
-    ) -> Result<u32, NoMemory>
-        ensures made { let xs = map (piece_item_seen self.old) items.old.items in
-            all_true (map shown_borrowed xs) ≡ true → IfOk result
-            (λ n. Represents tree_at is_whole self.new n (table (map_of (shown_pairs xs)))) }
-        ensures grows { OnOk result (Grows tree_at is_whole self.old self.new) }
-        ensures cost { ticks.new.count ≤ ticks.old.count + length items.old.items }
-    {
-        table_of(alloc, self, ticks, items)
+    ) -> Result<u32, NoMemory> {
+        let first_member = self.members.len();
+        let first_key = self.keys.len();
+        push_entries(self, ticks, items)?;
+        self.end_table(alloc, first_member, first_key)
     }
 }
 
@@ -103,23 +95,6 @@ fn push_members<'a>(
     Ok(())
 }
 
-/// The array of these items.
-fn array_of<'a>(
-    draft: &mut Draft<'a>,
-    ticks: &mut Ticks,
-    items: &[Item<'a, u32>],
-) -> Result<u32, NoMemory>
-    ensures made { let xs = map (piece_item_seen draft.old) items.now in
-        all_true (map shown_borrowed xs) ≡ true → IfOk result
-        (λ n. Represents tree_at is_whole draft.new n (array (trees_of (map shown_tree xs)))) }
-    ensures keeps { OnOk result (Keeps draft.old draft.new) }
-    ensures cost { ticks.new.count ≤ ticks.old.count + length items.now }
-{
-    let first_member = draft.members.len();
-    push_members(draft, ticks, items)?;
-    draft.end_array(first_member)
-}
-
 /// Puts the entry of a group, if a key waits for one, behind the draft's keys and members. Gives
 /// the key that waits from here on.
 fn push_term<'a>(
@@ -128,11 +103,8 @@ fn push_term<'a>(
     term: &Term<'a, u32>,
 ) -> Result<Option<&'a str>, NoMemory>
     ensures next { IfOk result (λ next. next ≡ key_after term.now) }
-    ensures pieces { OnOk result (draft.new.pieces ≡ draft.old.pieces) }
-    ensures members { OnOk result (draft.new.members.items
-        ≡ draft.old.members.items ++ map (λ e. e.1) (entry_of_term waiting.entry term.now)) }
-    ensures keys { OnOk result (draft.new.keys.items
-        ≡ draft.old.keys.items ++ map (λ e. e.0) (entry_of_term waiting.entry term.now)) }
+    ensures entries { OnOk result (PutsBehind draft.old
+        (entry_of_term waiting.entry term.now) draft.new) }
 {
     match term {
         Term::String(text) => Ok(Some(*text)),
@@ -152,11 +124,7 @@ fn push_entries<'a>(
     ticks: &mut Ticks,
     items: &[Item<'a, u32>],
 ) -> Result<(), NoMemory>
-    ensures pieces { OnOk result (draft.new.pieces ≡ draft.old.pieces) }
-    ensures members { OnOk result (draft.new.members.items
-        ≡ draft.old.members.items ++ map (λ e. e.1) (entries_after None items.now)) }
-    ensures keys { OnOk result (draft.new.keys.items
-        ≡ draft.old.keys.items ++ map (λ e. e.0) (entries_after None items.now)) }
+    ensures entries { OnOk result (PutsBehind draft.old (entries_after None items.now) draft.new) }
     ensures cost { ticks.new.count ≤ ticks.old.count + length items.now }
 {
     let mut waiting: Option<&'a str> = None;
@@ -165,24 +133,4 @@ fn push_entries<'a>(
         waiting = push_term(draft, waiting, &item.term)?;
     }
     Ok(())
-}
-
-/// The table of these items, which are a key, a group and so on. A later entry of an equal key
-/// replaces the earlier one.
-fn table_of<'a>(
-    alloc: Global,
-    draft: &mut Draft<'a>,
-    ticks: &mut Ticks,
-    items: &[Item<'a, u32>],
-) -> Result<u32, NoMemory>
-    ensures made { let xs = map (piece_item_seen draft.old) items.now in
-        all_true (map shown_borrowed xs) ≡ true → IfOk result
-        (λ n. Represents tree_at is_whole draft.new n (table (map_of (shown_pairs xs)))) }
-    ensures keeps { OnOk result (Keeps draft.old draft.new) }
-    ensures cost { ticks.new.count ≤ ticks.old.count + length items.now }
-{
-    let first_member = draft.members.len();
-    let first_key = draft.keys.len();
-    push_entries(draft, ticks, items)?;
-    draft.end_table(alloc, first_member, first_key)
 }

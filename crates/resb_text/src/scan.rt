@@ -1,6 +1,7 @@
-//! The calls that look at the text's bytes, each of which counts its turns.
+//! The calls that look at the text's bytes, each of which counts its turns; `uncounted_byte` leaves
+//! that to its callers here.
 //! What stands in the text is read in `tokens`, and where a run ends is found in `runs`.
-ghost use Rattle.std.specs.Prelude.{◌≡◌, ℕ, ◌+◌, ◌-◌, ◌^◌, ◌<◌, ◌≤◌, length, slice_get};
+ghost use Rattle.std.specs.Prelude.{◌≡◌, ℕ, ◌+◌, ◌-◌, ◌<◌, ◌≤◌, length, slice_get};
 ghost use Rattle.std.specs.Prelude.{true, false, slice_index, slice_range, MatchOption, min};
 ghost use Rattle.resb_grammar.specs.ByteRuns.{Run, is_line_end, is_white, is_word, is_digit};
 ghost use Rattle.resb_grammar.specs.Lexical.{digits_value};
@@ -29,8 +30,6 @@ pub(crate) fn look(text: &str, ticks: &mut Ticks, at: usize) -> Option<u8>
 /// Counts one turn, and gives the byte there, or 0 past the end.
 pub(crate) fn byte(text: &str, ticks: &mut Ticks, at: usize) -> u8
     ensures byte { result ≡ slice_index text.now at }
-    ensures inside { 0 < result → at < length text.now }
-    ensures fits { length text.now < 2 ^ 64 }
     ensures counted { Ticked ticks.old ticks.new 1 }
 {
     ticks.tick();
@@ -40,8 +39,6 @@ pub(crate) fn byte(text: &str, ticks: &mut Ticks, at: usize) -> u8
 /// The byte there, or 0 past the end. Whoever calls it counts its turn.
 fn uncounted_byte(text: &str, at: usize) -> u8
     ensures byte { result ≡ slice_index text.now at }
-    ensures inside { 0 < result → at < length text.now }
-    ensures fits { length text.now < 2 ^ 64 }
 {
     if at < text.len() {
         text.as_bytes()[at]

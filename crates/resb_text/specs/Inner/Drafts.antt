@@ -1,9 +1,10 @@
 -- What items show whose groups are pieces of a draft, and what entries of a table show.
-use Rattle.std.specs.Prelude.{ℕ, Bool, List, [], ◌∷◌, ◌++◌, map, Option, Some, None}
+use Rattle.std.specs.Prelude.{ℕ, Bool, List, [], ◌∷◌, ◌++◌, map, length, Option, Some}
+use Rattle.std.specs.Prelude.{None}
 use Rattle.std.specs.Borrow.{Bor}
 use Rattle.resb_tree.specs.Borrowing.{all_true}
 use Rattle.resb_tree.specs.Tree.{Tree}
-use Rattle.resb_draft.specs.Drafts.{tree_at, is_whole}
+use Rattle.resb_draft.specs.Drafts.{tree_at, is_whole, EndsInEntries}
 use Rattle.resb_draft.specs.declared.draft.Draft.{Draft}
 use Rattle.resb_text.specs.Inner.Shown.{SeenItem, shown_term_by, shown_by}
 use Rattle.resb_text.specs.declared.items.Item.{Item}
@@ -41,3 +42,8 @@ entry_of_term None (variant.Group n) = []
 abbrev pub entries_after : Option (Bor (List ℕ)) → List (Item ℕ) → List (Bor (List ℕ) × ℕ)
 entries_after waiting [] = []
 entries_after waiting (x ∷ xs) = entry_of_term waiting x.term ++ entries_after (key_after x.term) xs
+
+-- a draft is another one with the keys of these entries and the numbers of their values put behind
+abbrev pub PutsBehind : Draft → List (Bor (List ℕ) × ℕ) → Draft → Type 0
+PutsBehind before ps d =
+    EndsInEntries before (length before.members.items) (length before.keys.items) ps d

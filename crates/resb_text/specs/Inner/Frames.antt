@@ -125,6 +125,12 @@ frames_in gs = map (λ g. g.frame) gs
 abbrev pub with_number : ℕ → machine.Frame → NumberedFrame
 with_number n f = record { frame = f; number = n }
 
+-- the turns that are still owed: one for each item of an open group, and one for each candidate
+abbrev pub owed : {B X : Type 0} → Open B X → ℕ
+owed c =
+    length c.frame.items.items + sum_by
+    (λ f. length f.items.items) c.around.items + candidate_count c.keys
+
 module _ {B X : Type 0} (tree : B → X → Tree) (held : B → X → Bool) where
   -- the code's open groups are the machine's
   pub record StandsFor (c : Open B X) (o : machine.Open) : Type 0 where
@@ -148,6 +154,12 @@ module _ {B X : Type 0} (tree : B → X → Tree) (held : B → X → Bool) wher
   abbrev pub IsOpen : Open B X → Type 0
   IsOpen c = (o : machine.Open) × StandsFor c o
 
+  -- the open groups change as the machine's do, and at most so many turns more are owed
+  pub record Becomes (change : machine.Open → machine.Open) (more : ℕ) (c d : Open B X) : Type 0
+    where
+      pub shows : (o : machine.Open) → StandsFor c o → StandsFor d (change o)
+      pub turns : owed d ≤ owed c + more
+
   -- the innermost group is closed, among these groups around it
   abbrev pub ClosesTo : Open B X → machine.Open → List machine.Frame → Type 0
   ClosesTo c o [] = Unit {0}
@@ -165,12 +177,6 @@ module _ {B X : Type 0} (tree : B → X → Tree) (held : B → X → Bool) wher
       (u : machine.Open) × (machine.with_comma o o.frame.items ≡ Some (machine.inside u))
       × StandsFor c u
 
--- the turns that are still owed: one for each item of an open group, and one for each candidate
-abbrev pub owed : {B X : Type 0} → Open B X → ℕ
-owed c =
-    length c.frame.items.items + sum_by
-    (λ f. length f.items.items) c.around.items + candidate_count c.keys
-
 abbrev pub is_string_shown : SeenItem → Bool
 is_string_shown (string_shown s f) = true
 is_string_shown (group_shown t b f) = false
@@ -187,3 +193,11 @@ IsTableWhole f = f.body ≡ machine.table_body → is_pairs f.items ≡ true
 -- no other group than this one is dropped now
 abbrev pub OthersStay : ℕ → Keys → Keys → Type 0
 OthersStay n k l = (g : ℕ) → g ≢ n → is_dropped_in l g ≡ is_dropped_in k g
+
+-- what the closing of a group of this look leaves of the candidates
+pub record ClosesKeys (look : FrameView) (k l : Keys) : Type 0 where
+  pub rest : (n : ℕ) (f : machine.Frame) → look ≡ view_of_frame (with_number n f)
+      → left l ≡ left_after (machine.shape_in f.body f.items) n (left k)
+  pub others : OthersStay look.number k l
+  pub groups : group_count l ≡ group_count k
+  pub listed : l.listed ≡ k.listed

@@ -37,26 +37,27 @@ pub record IsNoMark (b : ℕ) : Type 0 where
   pub right_brace : b ≢ ascii.right_brace
   pub colon : b ≢ ascii.colon
 
--- a reading that keeps its quota stands here, among the items of these groups
+-- a reading that keeps its quota stands at this place and byte, among the items of these groups
 pub record Among {B X : Type 0} (tree : B → X → Tree) (held : B → X → Bool) (text : List ℕ)
-    (limit at : ℕ) (c : Open B X) (q : Quota) : Type 0 where
+    (limit : ℕ) (here : ℕ × ℕ) (c : Open B X) (q : Quota) : Type 0 where
   pub open_groups : machine.Open
   pub shows : StandsFor tree held c open_groups
-  pub made : Makes text q.made at (inside open_groups)
-  pub within : at ≤ length text
+  pub made : Makes text q.made here.0 (inside open_groups)
+  pub within : here.0 ≤ length text
+  pub byte : here.1 ≡ slice_index text here.0
   pub keeps : KeepsQuota text limit q
 
 -- some reading does
-abbrev pub IsAmongItems : {B X : Type 0} → (B → X → Tree) → (B → X → Bool) → List ℕ → ℕ → Open B X
-    → Type 0
-IsAmongItems tree held text at c = (q : Quota) × Among tree held text q.limit at c q
+abbrev pub IsAmongItems : {B X : Type 0} → (B → X → Tree) → (B → X → Bool) → List ℕ → ℕ × ℕ
+    → Open B X → Type 0
+IsAmongItems tree held text here c = (q : Quota) × Among tree held text q.limit here c q
 
 -- each reading that stands at the one place among the one groups comes to the other, and makes
 -- nothing
-abbrev pub GoesOn : {B X : Type 0} → (B → X → Tree) → (B → X → Bool) → List ℕ → ℕ → Open B X → ℕ
-    → Open B X → Type 0
-GoesOn tree held text at c next d =
-    (q : Quota) → Among tree held text q.limit at c q → Among tree held text q.limit next d q
+abbrev pub GoesOn : {B X : Type 0} → (B → X → Tree) → (B → X → Bool) → List ℕ → ℕ × ℕ → Open B X
+    → ℕ × ℕ → Open B X → Type 0
+GoesOn tree held text here c next d =
+    (q : Quota) → Among tree held text q.limit here c q → Among tree held text q.limit next d q
 
 -- the reading fails so, and has kept its quota
 pub record Stops (text : List ℕ) (limit : ℕ) (q : Quota) (e : TextParserError) : Type 0 where

@@ -5,7 +5,7 @@ use Rattle.resb_text.proofs.drafts.push_entries.Given as goal
 
 abbrev pub invariant-loop-item : goal.invariant-loop-item
 invariant-loop-item l = record {
-  pieces : l.draft.pieces ≡ l.fn.draft.pieces;
+  pieces : l.draft.pieces.items ≡ l.fn.draft.pieces.items;
   members : l.draft.members.items
       ++ map (λ (e : Bor (List ℕ) × ℕ). e.1) (entries_after l.waiting (drop l.item-index l.items))
       ≡ l.fn.draft.members.items

@@ -8,16 +8,14 @@ use Rattle.resb_text.specs.Inner.Shown.{seen_in_code, shown_pairs, entries_borro
 use Rattle.resb_text.proofs.BorrowedLemmas.{borrowed_table, made_borrowed}
 use Rattle.resb_text.proofs.items.table_of_list.Goals as goal
 
-pub returns-clause-ok : goal.returns-clause-ok
-returns-clause-ok c =
-    tree_of_table _
-    ∙ ap table (made_view c.list_terms.new.pairs.items c.in_ok-table.table c.in_ok-table.ensures
-    ∙ ap map_of (c.in_ok-list_terms.ensures.ok
-    ∙ ap (λ ps. pairs_view ps ++ shown_pairs (map seen_in_code c.args.items.items))
-    c.in_ok-pairs.ensures.items))
-
-pub returns-clause-borrowed : goal.returns-clause-borrowed
-returns-clause-borrowed c = λ h.
-    borrowed_table _
-    ∙ made_borrowed c.list_terms.new.pairs.items c.in_ok-table.table c.in_ok-table.ensures
-    (c.in_ok-list_terms.ensures.borrowed h (ap entries_borrowed c.in_ok-pairs.ensures.items))
+pub returns-clause-made : goal.returns-clause-made
+returns-clause-made c = λ h.
+    let pairs = c.list_terms.new.pairs.items in
+    let listed = c.in_ok-list_terms.ensures in
+    let empty = c.in_ok-pairs.ensures.items in (
+      tree_of_table _ ∙ ap table (made_view pairs c.in_ok-table.table c.in_ok-table.ensures
+          ∙ ap map_of (listed.ok
+          ∙ ap (λ ps. pairs_view ps ++ shown_pairs (map seen_in_code c.args.items.items)) empty)),
+      borrowed_table _ ∙ made_borrowed pairs c.in_ok-table.table c.in_ok-table.ensures
+          (listed.borrowed h (ap entries_borrowed empty)),
+    )

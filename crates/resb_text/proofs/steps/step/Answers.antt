@@ -11,7 +11,7 @@ use Rattle.resb_text.proofs.steps.step.Goals as goal
 pub returns-then-b-eq125-clause-cost : goal.returns-then-b-eq125-clause-cost
 returns-then-b-eq125-clause-cost g c =
     let inside = nonzero_inside c.args.text.now c.args.at
-    (omega (arith, c.requires.byte, c.if-b-eq125.true)) in
+    (omega (arith, c.requires.among.byte, c.if-b-eq125.true)) in
     let looked = reach_high c.args.text.now c.args.at c.requires.among.within in
     match_weaker
     {M = (c.args.at < length c.args.text.now) × (c.closing.new.ticks.count

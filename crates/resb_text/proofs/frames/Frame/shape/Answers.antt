@@ -18,5 +18,5 @@ returns-else-is_pairs g c = λ tree held n f x.
     sym (ap (λ b. shape_in b f.items)
     (sym (ap (λ (l : FrameView). l.body) x) ∙ ap group_body_of c.in-Untyped.is)
     ∙ shape_array f.items (sym (c.is_pairs.ensures tree held n f x) ∙ c.if-is_pairs.false)
-    (λ s e. c.in-None.ensures.none tree held s
+    (λ s e. c.in-None.ensures tree held s
     (ap (map (shown_by tree held)) c.deref.ensures.value ∙ ap (λ (l : FrameView). l.items) x ∙ e)))

@@ -1,10 +1,9 @@
-use Rattle.std.proofs.Common.{◌∙◌, ◌≡◌, ap, subst, ℕ}
+use Rattle.std.proofs.Common.{◌≡◌, subst, ℕ}
 use Rattle.resb_grammar.specs.Machine as machine
 use Rattle.resb_text.specs.Inner.Build.{Represents}
 use Rattle.resb_text.specs.Inner.Shown.{items_seen}
-use Rattle.resb_text.specs.Inner.Discovered.{left}
 use Rattle.resb_text.specs.Inner.Frames.{view_of_code, view_of_frame, with_number, tree_shown_in}
-use Rattle.resb_text.specs.Inner.Frames.{left_after, StandsFor}
+use Rattle.resb_text.specs.Inner.Frames.{StandsFor, ClosesKeys}
 use Rattle.resb_text.specs.Inner.Frames.{IsTableWhole, ClosesTo}
 use Rattle.resb_text.specs.declared.frames.Frame.{Frame}
 use Rattle.resb_text.specs.declared.items.Term.TheVariants.{Group}
@@ -34,10 +33,6 @@ returns-clause-shows g c =
     → view_of_code (tree before) (held before) f ≡ view_of_frame (with_number n k)
     → Represents tree held after made (tree_shown_in (machine.shape_in k.body k.items)
     (items_seen k.items))) value c.in_ok-made.ensures.ok)
-    (subst (λ (f : Frame _). (n : ℕ) (k : machine.Frame)
-    → view_of_code (tree before) (held before) f ≡ view_of_frame (with_number n k)
-    → left c.closed.new.keys ≡ left_after (machine.shape_in k.body k.items) n
-    (left c.args.self.now.keys)) value c.closed.ensures.left)
-    c.closed.ensures.groups c.closed.ensures.listed
-    (λ n ne. c.closed.ensures.dropped n (λ e. ne (e ∙ ap (λ f. f.number) value))))
+    (subst (λ (f : Frame _). ClosesKeys (view_of_code (tree before) (held before) f)
+    c.args.self.now.keys c.closed.new.keys) value c.closed.ensures.keys))
     c.push-2.ensures.looks

@@ -31,5 +31,5 @@ returns-clause-shows g c =
     → StandsFor tree held new o} c.settle.result
     (λ lists. λ o x. shows_settled old new o
     (no_elements old.around.items (omega (arith, ok, none))) refl refl refl
-    c.settle.ensures.left lists c.settle.ensures.dropped x)
-    c.settle.ensures.listed
+    lists x)
+    c.settle.ensures.lists

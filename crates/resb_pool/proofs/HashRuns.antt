@@ -1,5 +1,5 @@
--- Runs of marks of one hash, and the first copies of strings. S are strings, ms their marks in
--- order.
+-- Runs of equal hashes, and the first copies of strings. S are strings, ms their hashes with their
+-- numbers, in order.
 use Rattle.std.proofs.Common.{◌≡◌, ℕ, zero, suc, ◌+◌, ◌-◌, ◌*◌, ◌%◌, ◌^◌, ◌<◌, ◌≤◌, List, [], ◌∷◌}
 use Rattle.std.proofs.Common.{length, drop, get_or, drop-cons, add-one, Some, None, inl, inr, false}
 use Rattle.std.proofs.Common.{refl, sym, ◌∙◌, ap, subst, arith, true≢false}
@@ -11,17 +11,17 @@ use Rattle.std.proofs.lemmas.List.{get_or_default, drop_all}
 use Rattle.std.proofs.lemmas.Cmp.{nat_cmp_total, tied_itself}
 use Rattle.std.proofs.lemmas.Bool.{cases_lt}
 use Rattle.resb_pool.specs.Inner.Placing.{text_numbered}
-use Rattle.resb_pool.specs.Inner.Firsts.{hash_with, text_hash, mark_numbered, mark_cmp, AreMarks}
+use Rattle.resb_pool.specs.Inner.Firsts.{hash_with, text_hash, hash_numbered, hash_cmp, AreHashes}
 use Rattle.resb_pool.specs.Inner.Firsts.{IsFirst, AreFirsts}
-use Rattle.resb_pool.specs.declared.firsts.Mark.{Mark}
+use Rattle.resb_pool.specs.declared.firsts.NumberedHash.{NumberedHash}
 use Rattle.resb_pool.proofs.Numbers.{three_ways, less_is_first, ordering_then_equal, old_or_new}
 
 -- y isn't before x
-record InOrder (x y : Mark) : Type 0 where
+record InOrder (x y : NumberedHash) : Type 0 where
   pub hashes : x.hash ≤ y.hash
   pub numbers : x.hash ≡ y.hash → x.number ≤ y.number
 
-not_before : (x y : Mark) → is_lt (mark_cmp y x) ≡ false → InOrder x y
+not_before : (x y : NumberedHash) → is_lt (hash_cmp y x) ≡ false → InOrder x y
 not_before x y e = three_ways (InOrder x y) y.hash x.hash
     (λ f. absurd (less_is_first (nat_cmp y.hash x.hash) (nat_cmp y.number x.number) f e))
     (λ f. record {
@@ -35,7 +35,7 @@ not_before x y e = three_ways (InOrder x y) y.hash x.hash
     })
     (λ m. record { hashes = omega arith; numbers = λ q. absurd (omega arith) })
 
-ordered : (ms : List Mark) (i n j : ℕ) (d : Mark) → IsSorted mark_cmp ms → i + n ≡ j
+ordered : (ms : List NumberedHash) (i n j : ℕ) (d : NumberedHash) → IsSorted hash_cmp ms → i + n ≡ j
     → j < length ms → InOrder (get_or ms i d) (get_or ms j d)
 ordered ms i zero j d up e l =
     let n : i ≡ j = omega arith in
@@ -51,22 +51,22 @@ ordered ms i (suc n) j d up e l =
       numbers = λ q. omega (arith, before.hashes, before.numbers, next.hashes, next.numbers);
     })
 
--- m is the first mark of its hash, where k marks are done
-pub record IsRun (S : List (List ℕ)) (ms : List Mark) (k : ℕ) (m : Mark) : Type 0 where
+-- m is the first of its run, where k hashes are done
+pub record IsRun (S : List (List ℕ)) (ms : List NumberedHash) (k : ℕ) (m : NumberedHash) : Type 0 where
   pub within : m.number < length S
-  pub below : (q : ℕ) (d : Mark) → q < k → (get_or ms q d).hash ≤ m.hash
-  pub above : (q : ℕ) (d : Mark) → k ≤ q → q < length ms → m.hash ≤ (get_or ms q d).hash
-  pub least : (q : ℕ) (d : Mark) → q < length ms → (get_or ms q d).hash ≡ m.hash
+  pub below : (q : ℕ) (d : NumberedHash) → q < k → (get_or ms q d).hash ≤ m.hash
+  pub above : (q : ℕ) (d : NumberedHash) → k ≤ q → q < length ms → m.hash ≤ (get_or ms q d).hash
+  pub least : (q : ℕ) (d : NumberedHash) → q < length ms → (get_or ms q d).hash ≡ m.hash
       → m.number ≤ (get_or ms q d).number
 
-module _ (S : List (List ℕ)) (ms : List Mark) (marks : AreMarks S ms) (k : ℕ) (d : Mark)
+module _ (S : List (List ℕ)) (ms : List NumberedHash) (hashes : AreHashes S ms) (k : ℕ) (d : NumberedHash)
     (l : k < length ms) where
-  -- a mark whose hash is new begins a run
-  pub run_begins : IsSorted mark_cmp ms
-      → ((q : ℕ) (e : Mark) → q < k → (get_or ms q e).hash < (get_or ms k d).hash)
+  -- a hash that is new begins a run
+  pub run_begins : IsSorted hash_cmp ms
+      → ((q : ℕ) (e : NumberedHash) → q < k → (get_or ms q e).hash < (get_or ms k d).hash)
       → IsRun S ms k (get_or ms k d)
   run_begins up new = record {
-    within = (marks.each k d l).0;
+    within = (hashes.each k d l).0;
     below = λ q e b. omega (arith, new q e b);
     above = λ q e a b. (from q e a b).hashes;
     least = λ q e b h. elim (cases_lt q k) [
@@ -75,51 +75,51 @@ module _ (S : List (List ℕ)) (ms : List Mark) (marks : AreMarks S ms) (k : ℕ
     ];
   }
     where
-      from : (q : ℕ) (e : Mark) → k ≤ q → q < length ms → InOrder (get_or ms k d) (get_or ms q e)
+      from : (q : ℕ) (e : NumberedHash) → k ≤ q → q < length ms → InOrder (get_or ms k d) (get_or ms q e)
       from q e a b = subst (λ z. InOrder z (get_or ms q e)) (get_or_default ms k e d l)
           (ordered ms k (q - k) q e up (omega arith) b)
 
-  -- a mark of the same hash goes on with it
-  pub run_goes_on : (m : Mark) → IsRun S ms k m → (get_or ms k d).hash ≡ m.hash
+  -- the same hash goes on with it
+  pub run_goes_on : (m : NumberedHash) → IsRun S ms k m → (get_or ms k d).hash ≡ m.hash
       → IsRun S ms (k + 1) m
   run_goes_on m h e = record {
     within = h.within;
     below = λ q f b. elim (old_or_new k q b) [
       | inl c ↦ h.below q f c
       | inr c ↦ subst (λ z. (get_or ms z f).hash ≤ m.hash) (sym c)
-          (subst (λ (z : Mark). z.hash ≤ m.hash) (get_or_default ms k d f l) (omega arith))
+          (subst (λ (z : NumberedHash). z.hash ≤ m.hash) (get_or_default ms k d f l) (omega arith))
     ];
     above = λ q f a b. h.above q f (omega arith) b;
     least = h.least;
   }
 
   -- in its run a string's first copy is found
-  pub first_of_run : (n : ℕ) (m : Mark) → IsRun S ms n m → (get_or ms k d).hash ≡ m.hash
+  pub first_of_run : (n : ℕ) (m : NumberedHash) → IsRun S ms n m → (get_or ms k d).hash ≡ m.hash
       → text_numbered S m.number ≡ text_numbered S (get_or ms k d).number
       → IsFirst S (get_or ms k d).number m.number
   first_of_run n m h e same = record {
     reaches = h.least k d l e;
     same = same;
     none_before = λ j b t.
-        let c = marks.all j (omega (arith, h.within, b)) in
-        let x = mark_numbered S j in
+        let c = hashes.all j (omega (arith, h.within, b)) in
+        let x = hash_numbered S j in
         let at : get_or ms c.0 x ≡ x = c.2 in
-        let hash : (get_or ms c.0 x).hash ≡ m.hash = ap (λ (z : Mark). z.hash) at ∙ ap text_hash t
-        ∙ sym (ap (λ (z : Mark). z.hash) (marks.each k d l).1) ∙ e in
-        omega (arith, b, h.least c.0 x c.1 hash, ap (λ (z : Mark). z.number) at);
+        let hash : (get_or ms c.0 x).hash ≡ m.hash = ap (λ (z : NumberedHash). z.hash) at ∙ ap text_hash t
+        ∙ sym (ap (λ (z : NumberedHash). z.hash) (hashes.each k d l).1) ∙ e in
+        omega (arith, b, h.least c.0 x c.1 hash, ap (λ (z : NumberedHash). z.number) at);
   }
 
--- once all marks are done, each string has its first copy
-pub all_first : (S : List (List ℕ)) (ms : List Mark) → AreMarks S ms → (fs : List ℕ)
+-- once all hashes are done, each string has its first copy
+pub all_first : (S : List (List ℕ)) (ms : List NumberedHash) → AreHashes S ms → (fs : List ℕ)
     → length fs ≡ length S
-    → ((q : ℕ) (d : Mark) → q < length ms
+    → ((q : ℕ) (d : NumberedHash) → q < length ms
     → IsFirst S (get_or ms q d).number (get_or fs (get_or ms q d).number 0)) → AreFirsts S fs
-all_first S ms marks fs n h = record {
+all_first S ms hashes fs n h = record {
   len = n;
   each = λ i l.
-      let c = marks.all i l in
-      let x = mark_numbered S i in
-      subst (λ z. IsFirst S z (get_or fs z 0)) (ap (λ (z : Mark). z.number) c.2) (h c.0 x c.1);
+      let c = hashes.all i l in
+      let x = hash_numbered S i in
+      subst (λ z. IsFirst S z (get_or fs z 0)) (ap (λ (z : NumberedHash). z.number) c.2) (h c.0 x c.1);
 }
 
 -- the hash of the bytes up to one more
@@ -136,28 +136,28 @@ pub hash_done : (h i x : ℕ) (bs : List ℕ) → length bs ≤ i → hash_with 
 unfolding hash_with
 hash_done h i x bs l e = sym (ap (hash_with h) (drop_all i bs l)) ∙ e
 
--- what stands in front of marks
-pub front : (ms : List Mark) (m : Mark) → Some m ≡ slice_get ms 0
+-- what stands in front of hashes
+pub front : (ms : List NumberedHash) (m : NumberedHash) → Some m ≡ slice_get ms 0
     → (0 < length ms) × (get_or ms 0 m ≡ m)
 front [] m e = absurd (let z : Some m ≡ None = e in cc)
 front (x ∷ ms) m e = (omega arith, (let z : Some m ≡ Some x = e in cc))
 
--- marks in the order of the strings are marks of them
-pub marks_of_all : (S : List (List ℕ)) (ms : List Mark) → length ms ≡ length S
-    → ((i : ℕ) (d : Mark) → i < length S → get_or ms i d ≡ mark_numbered S i) → AreMarks S ms
-marks_of_all S ms n h = record {
+-- the hashes of strings in their order are hashes of them
+pub hashes_in_turn : (S : List (List ℕ)) (ms : List NumberedHash) → length ms ≡ length S
+    → ((i : ℕ) (d : NumberedHash) → i < length S → get_or ms i d ≡ hash_numbered S i) → AreHashes S ms
+hashes_in_turn S ms n h = record {
   each = λ i d l.
       let e = h i d (omega arith) in
-      let f : (get_or ms i d).number ≡ i = ap (λ (z : Mark). z.number) e in
-      (omega arith, e ∙ ap (mark_numbered S) (sym f));
-  all = λ i l. (i, omega arith, h i (mark_numbered S i) l);
+      let f : (get_or ms i d).number ≡ i = ap (λ (z : NumberedHash). z.number) e in
+      (omega arith, e ∙ ap (hash_numbered S) (sym f));
+  all = λ i l. (i, omega arith, h i (hash_numbered S i) l);
 }
 
 -- and so they are in any other order
-pub sorted_marks : (S : List (List ℕ)) (ms ns : List Mark) → IsPermutation ms ns → AreMarks S ms
-    → AreMarks S ns
-sorted_marks S ms ns p h = record {
-  each = All-permutation (λ m. (m.number < length S) × (m ≡ mark_numbered S m.number)) ms ns p
+pub hashes_reordered : (S : List (List ℕ)) (ms ns : List NumberedHash) → IsPermutation ms ns → AreHashes S ms
+    → AreHashes S ns
+hashes_reordered S ms ns p h = record {
+  each = All-permutation (λ m. (m.number < length S) × (m ≡ hash_numbered S m.number)) ms ns p
       h.each;
-  all = λ i l. Contains-permutation ms ns (mark_numbered S i) p (h.all i l);
+  all = λ i l. Contains-permutation ms ns (hash_numbered S i) p (h.all i l);
 }

@@ -3,15 +3,15 @@
 ghost use Rattle.std.specs.Prelude.{◌≡◌, ◌<◌, ◌^◌, length, IfOk, IfSome};
 ghost use Rattle.std.specs.List.Sorted.{IsSorted};
 ghost use Rattle.resb_pool.specs.Plan.{nows};
-ghost use Rattle.resb_pool.specs.Inner.Firsts.{text_hash, mark_cmp, AreMarks, AreFirsts};
+ghost use Rattle.resb_pool.specs.Inner.Firsts.{text_hash, hash_cmp, AreHashes, AreFirsts};
 
 use crate::measure::SIZE_LIMIT;
 use std::alloc::{AllocError, Global};
 
-/// A string's hash and its number, in the order in which equal strings stand together, the first
-/// copy in front.
+/// The hash of a string and the string's number, so ordered that equal strings stand together, the
+/// first copy in front.
 #[derive(Clone, Copy, PartialEq, Eq, PartialOrd, Ord)]
-pub(crate) struct Mark {
+pub(crate) struct NumberedHash {
     pub(crate) hash: u64,
     pub(crate) number: u32,
 }
@@ -29,43 +29,44 @@ fn hash_of(text: &str) -> u64
     hash
 }
 
-/// The marks of strings.
-fn find_marks(alloc: Global, strings: &[&str]) -> Result<Vec<Mark>, AllocError>
+/// The hashes of strings, each with its string's number.
+fn find_hashes(alloc: Global, strings: &[&str]) -> Result<Vec<NumberedHash>, AllocError>
     requires few { length strings.now < 2 ^ 28 }
-    ensures { IfOk result (λ v. AreMarks (nows strings.now) v.items) }
+    ensures { IfOk result (λ v. AreHashes (nows strings.now) v.items) }
 {
-    let mut marks = Vec::with_capacity(alloc, strings.len())?;
+    let mut hashes = Vec::with_capacity(alloc, strings.len())?;
     for (index, text) in strings.iter().enumerate() {
-        marks.push(Mark {
+        hashes.push(NumberedHash {
             hash: hash_of(text),
             number: index as u32,
         })?;
     }
-    Ok(marks)
+    Ok(hashes)
 }
 
-/// For each string the number of its first copy, if no two different ones have one hash.
+/// For each string the number of its first copy, by their hashes in order. None where two different
+/// strings have one hash.
 fn firsts_by(
     alloc: Global,
     strings: &[&str],
-    marks: &[Mark],
+    hashes: &[NumberedHash],
 ) -> Result<Option<Vec<u32>>, AllocError>
-    requires marks { AreMarks (nows strings.now) marks.now }
-    requires ascend { IsSorted mark_cmp marks.now }
+    requires hashes { AreHashes (nows strings.now) hashes.now }
+    requires ascend { IsSorted hash_cmp hashes.now }
     ensures { IfOk result (λ r. IfSome r (λ v. AreFirsts (nows strings.now) v.items)) }
 {
     let mut firsts = vec![in alloc; 0; strings.len()]?;
-    let Some(least) = marks.first() else {
+    let Some(least) = hashes.first() else {
         return Ok(Some(firsts));
     };
     let mut first = *least;
-    for mark in marks {
-        if mark.hash != first.hash {
-            first = *mark;
-        } else if strings[mark.number as usize] != strings[first.number as usize] {
+    for item in hashes {
+        if item.hash != first.hash {
+            first = *item;
+        } else if strings[item.number as usize] != strings[first.number as usize] {
             return Ok(None);
         }
-        firsts[mark.number as usize] = first.number;
+        firsts[item.number as usize] = first.number;
     }
     Ok(Some(firsts))
 }
@@ -78,7 +79,7 @@ pub(crate) fn find_firsts(alloc: Global, strings: &[&str]) -> Result<Option<Vec<
     if strings.len() >= SIZE_LIMIT {
         return Ok(None);
     }
-    let mut marks = find_marks(alloc, strings)?;
-    marks.sort_unstable();
-    firsts_by(alloc, strings, &marks)
+    let mut hashes = find_hashes(alloc, strings)?;
+    hashes.sort_unstable();
+    firsts_by(alloc, strings, &hashes)
 }

@@ -9,17 +9,17 @@ use Rattle.std.proofs.lemmas.List.{length-set, get_or_default}
 use Rattle.resb_pool.specs.Plan.{nows}
 use Rattle.resb_pool.specs.Inner.Placing.{text_numbered}
 use Rattle.resb_pool.specs.Inner.Firsts.{IsFirst}
-use Rattle.resb_pool.specs.declared.firsts.Mark.{Mark}
+use Rattle.resb_pool.specs.declared.firsts.NumberedHash.{NumberedHash}
 use Rattle.resb_pool.proofs.TextLoops.{blank}
 use Rattle.resb_pool.proofs.Interning.{length-nows, text_nows}
 use Rattle.resb_pool.proofs.Numbers.{old_or_new}
 use Rattle.resb_pool.proofs.HashRuns.{IsRun, run_begins, run_goes_on, first_of_run, all_first}
 use Rattle.resb_pool.proofs.HashRuns.{front}
-use Rattle.resb_pool.proofs.firsts.firsts_by.Goals.{then-mark-first, else-mark-first+else-ne}
+use Rattle.resb_pool.proofs.firsts.firsts_by.Goals.{then-item-first, else-item-first+else-ne}
 use Rattle.resb_pool.proofs.firsts.firsts_by.Goals as goal
 
-abbrev no_mark : Mark
-no_mark = record { hash = 0; number = 0 }
+abbrev no_hash : NumberedHash
+no_hash = record { hash = 0; number = 0 }
 
 -- strings that don't differ are one text
 one_text : (xs : List (Bor (List ℕ))) (i j : ℕ) → i < length xs → j < length xs
@@ -33,50 +33,50 @@ one_text xs i j l m e = sym (text_nows xs j m)
     yes true e = refl
     yes false e = absurd (true≢false (sym e))
 
-pub loop-mark-init : goal.loop-mark-init
-loop-mark-init c =
+pub loop-item-init : goal.loop-item-init
+loop-item-init c =
     let S = nows c.args.strings.now in
-    let ms = c.args.marks.now in
+    let ms = c.args.hashes.now in
     let m = c.in-Some.least.now in
     let f = front ms m c.in-Some.ensures.value in
     record {
       len = search rules;
-      run = subst (IsRun S ms 0) f.1 (run_begins S ms c.requires.marks 0 m f.0 c.requires.ascend
+      run = subst (IsRun S ms 0) f.1 (run_begins S ms c.requires.hashes 0 m f.0 c.requires.ascend
           (λ q e b. absurd (omega (arith, b))));
       each = λ q d b. absurd (omega (arith, b));
     }
 
-pub loop-mark-preserved : goal.loop-mark-preserved
-loop-mark-preserved c =
+pub loop-item-preserved : goal.loop-item-preserved
+loop-item-preserved c =
     let xs = c.args.strings.now in
     let S = nows xs in
-    let ms = c.args.marks.now in
-    let k = c.loop-mark.mark-index in
-    let l : k < length ms = c.loop-mark-test.true in
-    let v = c.loop-mark.invariant in
-    let x = get_or ms k no_mark in
-    let m = c.if-mark-first.first in
+    let ms = c.args.hashes.now in
+    let k = c.loop-item.item-index in
+    let l : k < length ms = c.loop-item-test.true in
+    let v = c.loop-item.invariant in
+    let x = get_or ms k no_hash in
+    let m = c.if-item-first.first in
     let n = length-nows xs in
-    let within = (c.requires.marks.each k no_mark l).0 in
-    let here : IsRun S ms (k + 1) m × IsFirst S x.number m.number = elim c.if-mark-first.branch [
-      | then-mark-first w ↦
-          let up = v.run.above k no_mark (omega arith) l in
-          let new : (q : ℕ) (e : Mark) → q < k → (get_or ms q e).hash < x.hash =
-          (λ q e b. omega (arith, v.run.below q e b, up, w.if-mark-first.true)) in
-          let run = run_goes_on S ms c.requires.marks k no_mark l x
-          (run_begins S ms c.requires.marks k no_mark l c.requires.ascend new) refl in
+    let within = (c.requires.hashes.each k no_hash l).0 in
+    let here : IsRun S ms (k + 1) m × IsFirst S x.number m.number = elim c.if-item-first.branch [
+      | then-item-first w ↦
+          let up = v.run.above k no_hash (omega arith) l in
+          let new : (q : ℕ) (e : NumberedHash) → q < k → (get_or ms q e).hash < x.hash =
+          (λ q e b. omega (arith, v.run.below q e b, up, w.if-item-first.true)) in
+          let run = run_goes_on S ms c.requires.hashes k no_hash l x
+          (run_begins S ms c.requires.hashes k no_hash l c.requires.ascend new) refl in
           subst (λ z. IsRun S ms (k + 1) z × IsFirst S x.number z.number) (sym w.first-is)
-          (run, first_of_run S ms c.requires.marks k no_mark l (k + 1) x run refl refl)
-      | else-mark-first+else-ne w ↦
-          let e = w.if-mark-first.false in
+          (run, first_of_run S ms c.requires.hashes k no_hash l (k + 1) x run refl refl)
+      | else-item-first+else-ne w ↦
+          let e = w.if-item-first.false in
           subst (λ z. IsRun S ms (k + 1) z × IsFirst S x.number z.number) (sym w.first-is) (
-            run_goes_on S ms c.requires.marks k no_mark l c.loop-mark.first v.run e,
-            first_of_run S ms c.requires.marks k no_mark l k c.loop-mark.first v.run e
-                (one_text xs x.number c.loop-mark.first.number (omega (arith, within, n))
+            run_goes_on S ms c.requires.hashes k no_hash l c.loop-item.first v.run e,
+            first_of_run S ms c.requires.hashes k no_hash l k c.loop-item.first v.run e
+                (one_text xs x.number c.loop-item.first.number (omega (arith, within, n))
                 (omega (arith, v.run.within, n)) w.if-ne.ensures),
           )
     ] in
-    let fs = c.loop-mark.firsts.items in
+    let fs = c.loop-item.firsts.items in
     let small : x.number < length fs = omega (arith, within, n, v.len) in
     record {
       len = length-set fs x.number m.number ∙ v.len;
@@ -91,12 +91,12 @@ loop-mark-preserved c =
                 (elim (old_or_new k q b) [
                   | inl o ↦ v.each q d o
                   | inr o ↦ absurd (ne (ap (λ z. (get_or ms z d).number) o
-                      ∙ ap (λ (z : Mark). z.number) (sym (get_or_default ms k no_mark d l))))
+                      ∙ ap (λ (z : NumberedHash). z.number) (sym (get_or_default ms k no_hash d l))))
                 ])
           ];
     }
 
 pub returns : goal.returns
-returns c = all_first (nows c.args.strings.now) c.args.marks.now c.requires.marks
-    c.loop-mark.firsts.items (c.loop-mark.invariant.len ∙ sym (length-nows c.args.strings.now))
-    (λ q d l. c.loop-mark.invariant.each q d (omega (arith, l, c.loop-mark-test.false)))
+returns c = all_first (nows c.args.strings.now) c.args.hashes.now c.requires.hashes
+    c.loop-item.firsts.items (c.loop-item.invariant.len ∙ sym (length-nows c.args.strings.now))
+    (λ q d l. c.loop-item.invariant.each q d (omega (arith, l, c.loop-item-test.false)))

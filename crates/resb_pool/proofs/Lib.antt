@@ -14,6 +14,7 @@ pub mod InOrder
 mod PlanLemmas
 mod Turns
 mod Laying
+mod Planned
 pub mod IsRead
 pub mod OnePool
 pub mod Least
@@ -28,3 +29,5 @@ mod FrontBytes
 mod SuffixRuns
 mod Numbers
 mod Lists
+mod HashRuns
+mod FirstTurns

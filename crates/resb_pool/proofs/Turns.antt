@@ -43,7 +43,7 @@ no_turns = record {
 }
 
 -- more texts behind the others have the same texts at the same indexes
-grown : (T U : TextList) (turns : List ℕ) → All (λ i. i < length T) turns
+pub grown : (T U : TextList) (turns : List ℕ) → All (λ i. i < length T) turns
     → map (text_numbered (T ++ U)) turns ≡ map (text_numbered T) turns
 grown T U [] h = refl
 grown T U (i ∷ turns) h =

@@ -6,3 +6,4 @@ pub mod Placing
 pub mod Suffixes
 pub mod LaidRecords
 pub mod ToldApart
+pub mod Firsts

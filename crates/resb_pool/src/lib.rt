@@ -4,7 +4,9 @@
 
 mod containers;
 mod error;
+mod firsts;
 pub mod laws;
+mod listed_texts;
 mod measure;
 mod offsets;
 pub mod pool;

@@ -50,7 +50,7 @@ impl<'a> Plan<'a> {
 }
 
 /// The offset at each of these indexes, put in its place.
-fn in_turn(offsets: &[u32], indexes: Vec<u32>) -> Vec<u32>
+pub(crate) fn in_turn(offsets: &[u32], indexes: Vec<u32>) -> Vec<u32>
     ensures { result.items ≡ map (slice_index offsets.now) indexes.items }
 {
     let mut turns = indexes;

@@ -1,18 +1,22 @@
 //! The plan of a pool: strings in, the units of their records and their offsets out.
-//! Each step has a file of its own: `texts`, `containers`, `records`, `offsets`.
-ghost use Rattle.std.specs.Prelude.{◌≡◌, ℕ, ◌<◌, ◌^◌, List, map, Some, IfOk, IfErr};
+//! Each step has a file of its own: `texts`, or `firsts` and `listed_texts`, then `containers`,
+//! `records`, `offsets`.
+ghost use Rattle.std.specs.Prelude.{◌≡◌, ℕ, ◌<◌, ◌^◌, List, map, Option, Some};
+ghost use Rattle.std.specs.Prelude.{IfOk, IfErr};
 ghost use Rattle.resb_pool.specs.Plan.{nows, plan_units, offset_of, turn_offsets, texts_size};
 ghost use Rattle.resb_pool.specs.Plan.{IsPlan, NotPlanned};
 ghost use Rattle.resb_pool.specs.Inner.Placing.{AreTexts, AreContainers};
 ghost use Rattle.resb_pool.specs.Inner.LaidRecords.{IsBlock, HaveOffsets};
-ghost use Rattle.resb_pool.specs.Inner.ToldApart.{ToldApart};
+ghost use Rattle.resb_pool.specs.Inner.ToldApart.{ToldApart, AreListed};
 
 use crate::containers::{find_containers, find_sums};
 use crate::error::PlanError;
+use crate::firsts::find_firsts;
+use crate::listed_texts::{ListedTexts, as_list, by_firsts};
 use crate::measure::{Measure, check_lengths};
-use crate::offsets::{Plan, find_offsets};
+use crate::offsets::{Plan, find_offsets, in_turn};
 use crate::records::{Block, lay, ordered};
-use crate::texts::{Texts, gather};
+use crate::texts::{Texts, gather, mostly_differ};
 use std::alloc::{AllocError, Global};
 
 /// The records of distinct texts that lie in these ones, laid in their order.
@@ -94,16 +98,34 @@ pub fn plan<'a>(alloc: Global, strings: &[&'a str]) -> Result<Plan<'a>, PlanErro
     plan_texts(alloc, texts)
 }
 
-/// The same plan, of a list of strings that is handed over: it goes once the strings are told
-/// apart.
-pub fn plan_owned<'a>(alloc: Global, strings: Vec<&'a str>) -> Result<Plan<'a>, PlanError>
-    ensures ok { IfOk result
-        (λ p. IsPlan (nows strings.entry.items) (plan_units p) (offset_of p)) }
-    ensures turns { IfOk result (λ p.
-        map (offset_of p) (nows strings.entry.items) ≡ map Some (turn_offsets p)) }
+/// The distinct texts of strings as a list. Refused is what `plan` refuses.
+fn list_of<'a>(alloc: Global, strings: &[&'a str]) -> Result<ListedTexts<'a>, PlanError>
+    ensures ok { IfOk result (AreListed (nows strings.now)) }
+    ensures err { IfErr result (NotPlanned (nows strings.now)) }
+{
+    check_lengths(strings)?;
+    if mostly_differ(alloc, strings)? {
+        if let Some(firsts) = find_firsts(alloc, strings)? {
+            return by_firsts(alloc, strings, &firsts);
+        }
+    }
+    let texts = gather(alloc, strings)?;
+    Ok(as_list(alloc, texts)?)
+}
+
+/// The same plan as its units and the offset of each string, in the order in which they were
+/// given. The list of strings is handed over: it goes once the strings are told apart.
+pub fn plan_in_turn<'a>(
+    alloc: Global,
+    strings: Vec<&'a str>,
+) -> Result<(Vec<u16>, Vec<u32>), PlanError>
+    ensures ok { IfOk result (λ p. (offset : List ℕ → Option ℕ)
+        × IsPlan (nows strings.entry.items) p.0.items offset
+        × (map offset (nows strings.entry.items) ≡ map Some p.1.items)) }
     ensures err { IfErr result (NotPlanned (nows strings.entry.items)) }
 {
-    let texts = texts_of(alloc, &strings)?;
+    let list = list_of(alloc, &strings)?;
     drop(strings);
-    plan_texts(alloc, texts)
+    let (units, offsets) = place(alloc, &list.texts, &list.measures)?;
+    Ok((units, in_turn(&offsets, list.order)))
 }

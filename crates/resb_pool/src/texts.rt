@@ -14,6 +14,9 @@ use std::alloc::{AllocError, Global};
 /// The first strings are looked at, so many times fewer than there are, for how many are distinct.
 const SAMPLED_PART: usize = 64;
 
+/// Fewer strings than these are told apart by a table.
+const MANY: usize = 256;
+
 /// Texts, each once and in the order of their first copies, and their sizes.
 #[derive(Drop)]
 pub(crate) struct Texts<'a> {
@@ -31,17 +34,36 @@ pub(crate) fn indexed_text<'a>(texts: &[&'a str], index: u32) -> &'a str
     texts.get(index as usize).copied().unwrap_or("")
 }
 
+/// How many of the first strings are looked at, and how many of these are distinct.
+fn sample(alloc: Global, strings: &[&str]) -> Result<(usize, usize), AllocError> {
+    let count = strings.len() / SAMPLED_PART;
+    let mut distinct = IndexSet::with_capacity(alloc, count)?;
+    for text in strings.iter().take(count) {
+        let _is_new = distinct.insert(*text)?;
+    }
+    Ok((count, distinct.len()))
+}
+
+/// Whether more than three in four of so many strings are distinct.
+fn are_mostly(distinct: usize, count: usize) -> bool {
+    distinct.saturating_mul(4) > count.saturating_mul(3)
+}
+
+/// Whether strings are many, and by the first of them most are distinct.
+pub(crate) fn mostly_differ(alloc: Global, strings: &[&str]) -> Result<bool, AllocError> {
+    if strings.len() < MANY {
+        return Ok(false);
+    }
+    let (count, distinct) = sample(alloc, strings)?;
+    Ok(are_mostly(distinct, count))
+}
+
 /// How many distinct texts there is room for from the start: as many as there are likely to be,
 /// where more than three in four of the first strings are distinct, since a table that grows is
 /// filled anew; else a quarter of the strings, since in a smaller table texts are found faster.
 fn expected_distinct(alloc: Global, strings: &[&str]) -> Result<usize, AllocError> {
-    let count = strings.len() / SAMPLED_PART;
-    let mut sample = IndexSet::with_capacity(alloc, count)?;
-    for text in strings.iter().take(count) {
-        let _is_new = sample.insert(*text)?;
-    }
-    let distinct = sample.len();
-    if distinct.saturating_mul(4) > count.saturating_mul(3) {
+    let (count, distinct) = sample(alloc, strings)?;
+    if are_mostly(distinct, count) {
         let likely = distinct.saturating_mul(SAMPLED_PART);
         return Ok(likely.saturating_add(likely / 32));
     }

@@ -63,7 +63,7 @@ fn line_of_texts(alloc: Global, texts: &[String]) -> Result<String, Fail> {
     }
     let plan = pool::plan(alloc, &strings)?;
     let line = described(alloc, &plan, &strings)?;
-    let (units, offsets) = pool::plan_owned(alloc, strings)?.into_parts();
+    let (units, offsets) = pool::plan_in_turn(alloc, strings)?;
     if line != described_parts(alloc, &units, &offsets)? {
         return Err("two plans")?;
     }

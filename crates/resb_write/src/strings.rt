@@ -22,7 +22,7 @@ impl Strings {
             (λ s. Pooled (nows texts.entry.items) s.pool.items s.offsets.items) }
         ensures err { IfErr result (NotPlanned (nows texts.entry.items)) }
     {
-        let (pool, offsets) = pool::plan_owned(alloc, texts)?.into_parts();
+        let (pool, offsets) = pool::plan_in_turn(alloc, texts)?;
         Ok(Strings { pool, offsets })
     }
 }

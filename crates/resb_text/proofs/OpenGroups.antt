@@ -52,6 +52,7 @@ use Rattle.resb_text.proofs.FramesLemmas.{comma_of}
 use Rattle.resb_text.proofs.FramesLemmas.{comma_code, comma_item, set_comma, with_code}
 use Rattle.resb_text.proofs.FramesLemmas.{set_comma_term, map_set_shown, set_last, shown_len}
 
+-- open groups stay open where no flag changes
 pub open_same : (k l : Keys) (limit : ℕ) (gs : List NumberedFrame)
     → ((g : ℕ) → is_dropped_in l g ≡ is_dropped_in k g) → AreOpen k limit gs → AreOpen l limit gs
 open_same k l limit [] e x = tt
@@ -142,6 +143,7 @@ module _ {B X : Type 0} {tree : B → X → Tree} {held : B → X → Bool} wher
         (y.0, y.1, y.2));
   }
 
+  -- a string that may be a key
   pub shows_string : (c d : opens.Open B X) (o : machine.Open) (term : CodeTerm X) (s : List ℕ)
       → (x : StandsFor tree held c o)
       → shown_term_by (tree d.build) (held d.build) term false ≡ string_shown s false
@@ -173,6 +175,7 @@ module _ {B X : Type 0} {tree : B → X → Tree} {held : B → X → Bool} wher
       ∙ sym now)
       same keys.listed (dropped_same c.keys d.keys keys.dropped)
 
+  -- a string that may be none
   pub shows_item : (c d : opens.Open B X) (o : machine.Open) (term : CodeTerm X) (s : List ℕ)
       → (x : StandsFor tree held c o)
       → shown_term_by (tree d.build) (held d.build) term false ≡ string_shown s false
@@ -449,6 +452,7 @@ module _ {B X : Type 0} {tree : B → X → Tree} {held : B → X → Bool} wher
         h.1,
       )
 
+  -- the keys of the root, once it is closed
   pub root_keys : (c : opens.Open B X) (o : machine.Open) (x : StandsFor tree held c o)
       → o.around ≡ [] → o.frame.body ≡ table_body
       → texts (x.settled ++ left c.keys) ≡ keys_in a_table o.frame.items
@@ -460,6 +464,7 @@ module _ {B X : Type 0} {tree : B → X → Tree} {held : B → X → Bool} wher
       go [] h holds = holds_root x.number o.frame (x.settled ++ left c.keys) b holds
       go (g ∷ gs) h holds = cc
 
+  -- a comma behind the last item
   pub shows_comma : (c d : opens.Open B X) (o : machine.Open) (x y : code.Item X) (k : ℕ)
       → (s : StandsFor tree held c o)
       → Grows tree held c.build d.build → 0 < length c.frame.items.items → k

@@ -182,10 +182,6 @@ pub agrees_keeps : (old new : Draft) → Agrees (pieces_stand old) (pieces_stand
 agrees_keeps old new f n h =
     (ap (λ (m : Tree × Bool). m.0) (f n h), ap (λ (m : Tree × Bool). m.1) (f n h) ∙ h)
 
--- what is whole stays where nothing changes
-pub keeps_same : (d : Draft) → Keeps d d
-keeps_same d n h = (refl, h)
-
 -- what stays twice stays
 pub keeps_on : (old mid new : Draft) → Keeps old mid → Keeps mid new → Keeps old new
 keeps_on old mid new f g n h =

@@ -153,6 +153,7 @@ after-append a_table n xs ys h = refl
 after-append an_array n xs ys h = without-append n xs ys ∙ ap (λ zs. zs ++ without n ys) h
 after-append (a_string s) n xs ys h = without-append n xs ys ∙ ap (λ zs. zs ++ without n ys) h
 
+-- a group without candidates has none once another group is closed
 pub after_keeps : (sh : Shape) (n h : ℕ) (xs : List GroupText) → without h xs ≡ xs
     → without h (left_after sh n xs) ≡ left_after sh n xs
 after_keeps a_table n h xs e = e

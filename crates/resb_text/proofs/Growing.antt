@@ -7,7 +7,7 @@ use Rattle.resb_tree.specs.Borrowing.{all_true}
 use Rattle.resb_grammar.specs.Items.{Shape}
 use Rattle.resb_grammar.specs.Machine as machine
 use Rattle.resb_grammar.specs.Machine.{shape_in}
-use Rattle.resb_text.specs.Inner.Build.{Represents, Grows}
+use Rattle.resb_text.specs.Inner.Build.{Grows, Adds}
 use Rattle.resb_text.specs.Inner.Shown.{group_shown, shown_by, shown_term_by, items_seen}
 use Rattle.resb_text.specs.Inner.Shown.{shown_borrowed}
 use Rattle.resb_text.specs.Inner.Frames.{view_of_code, view_of_frame, views_of_frames, FrameView}
@@ -84,16 +84,19 @@ pub closed_made : {B X E : Type 0} (tree : B → X → Tree) (held : B → X →
     → view_of_code (tree b) (held b) c ≡ view_of_frame (with_number n f)
     → sh ≡ shape_in f.body f.items)
     → (all_true (map shown_borrowed (map (shown_by (tree b) (held b)) c.items.items)) ≡ true
-    → IfOk r (λ x. Represents tree held d x
+    → IfOk r (λ x. Adds tree held b d x
     (tree_shown_in sh (map (shown_by (tree b) (held b)) c.items.items))))
     → IfOk r (λ x. (n : ℕ) (f : machine.Frame)
     → view_of_code (tree b) (held b) c ≡ view_of_frame (with_number n f)
-    → Represents tree held d x (tree_shown_in (shape_in f.body f.items) (items_seen f.items)))
+    → Adds tree held b d x (tree_shown_in (shape_in f.body f.items) (items_seen f.items)))
 closed_made tree held (Ok x) b d c sh is made = λ n f e.
     let h = made (items_borrowed (tree b) (held b) c n f e) in (
-      h.0
-          ∙ ap (λ ys. tree_shown_in sh ys) (ap (λ (l : FrameView). l.items) e)
-          ∙ ap (λ k. tree_shown_in k (items_seen f.items)) (is n f e),
+      (
+        h.0.0
+            ∙ ap (λ ys. tree_shown_in sh ys) (ap (λ (l : FrameView). l.items) e)
+            ∙ ap (λ k. tree_shown_in k (items_seen f.items)) (is n f e),
+        h.0.1,
+      ),
       h.1,
     )
 closed_made tree held (Err e) b d c sh is made = tt

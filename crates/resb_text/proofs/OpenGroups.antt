@@ -10,7 +10,7 @@ use Rattle.resb_text.specs.declared.frames.Body as bodies
 use Rattle.resb_text.specs.declared.items.Term.{Term as CodeTerm}
 use Rattle.std.specs.Prelude.{slice_set, Some}
 use Rattle.resb_text.specs.Inner.Shown.{shown_term_by, shown_borrowed}
-use Rattle.resb_text.specs.Inner.Build.{Represents, Grows}
+use Rattle.resb_text.specs.Inner.Build.{Represents, Grows, Adds}
 use Rattle.resb_tree.specs.Borrowing.{all_true}
 use Rattle.resb_text.specs.declared.items.Term.TheVariants as terms
 use Rattle.resb_text.proofs.BorrowedLemmas.{items_borrowed}
@@ -52,6 +52,7 @@ use Rattle.resb_text.proofs.FramesLemmas.{comma_of}
 use Rattle.resb_text.proofs.FramesLemmas.{comma_code, comma_item, set_comma, with_code}
 use Rattle.resb_text.proofs.FramesLemmas.{set_comma_term, map_set_shown, set_last, shown_len}
 
+-- open groups stay open where no flag changes
 pub open_same : (k l : Keys) (limit : ℕ) (gs : List NumberedFrame)
     → ((g : ℕ) → is_dropped_in l g ≡ is_dropped_in k g) → AreOpen k limit gs → AreOpen l limit gs
 open_same k l limit [] e x = tt
@@ -142,6 +143,7 @@ module _ {B X : Type 0} {tree : B → X → Tree} {held : B → X → Bool} wher
         (y.0, y.1, y.2));
   }
 
+  -- a string that may be a key
   pub shows_string : (c d : opens.Open B X) (o : machine.Open) (term : CodeTerm X) (s : List ℕ)
       → (x : StandsFor tree held c o)
       → shown_term_by (tree d.build) (held d.build) term false ≡ string_shown s false
@@ -173,6 +175,7 @@ module _ {B X : Type 0} {tree : B → X → Tree} {held : B → X → Bool} wher
       ∙ sym now)
       same keys.listed (dropped_same c.keys d.keys keys.dropped)
 
+  -- a string that may be none
   pub shows_item : (c d : opens.Open B X) (o : machine.Open) (term : CodeTerm X) (s : List ℕ)
       → (x : StandsFor tree held c o)
       → shown_term_by (tree d.build) (held d.build) term false ≡ string_shown s false
@@ -288,19 +291,19 @@ module _ {B X : Type 0} {tree : B → X → Tree} {held : B → X → Bool} wher
 
   -- the innermost group is closed
   pub shows_close : (c d : opens.Open B X) (o : machine.Open) (outer : frames.Frame X) (made : X)
-      → (x : StandsFor tree held c o) → IsTableWhole o.frame → Grows tree held c.build d.build
-      → c.around.items ≡ d.around.items ++ outer ∷ []
+      → (x : StandsFor tree held c o) → IsTableWhole o.frame → c.around.items ≡ d.around.items ++ outer ∷ []
       → Pushes (tree d.build) (held d.build) outer d.frame (terms.Group made)
       → ((n : ℕ) (f : Frame) → view_of_code (tree c.build) (held c.build) c.frame ≡ view_of_frame
       (with_number n f)
-      → Represents tree held d.build made
+      → Adds tree held c.build d.build made
       (tree_shown_in (shape_in f.body f.items) (items_seen f.items)))
       → ClosesKeys (view_of_code (tree c.build) (held c.build) c.frame) c.keys d.keys
       → ClosesTo tree held d o o.around
-  shows_close c d o outer made x table_is_pairs grow a push stands keys =
+  shows_close c d o outer made x table_is_pairs a push stands keys =
       subst (λ (fs : List Frame). ClosesTo tree held d o fs) x.frames
       (go x.around
-      (all_grown tree held c.build d.build grow c.around.items x.around x.outer) x.holds
+      (all_grown tree held c.build d.build (stands x.number o.frame x.frame).1 c.around.items
+      x.around x.outer) x.holds
       x.are_open x.inner)
     where
       number_same : c.frame.number ≡ x.number
@@ -309,7 +312,7 @@ module _ {B X : Type 0} {tree : B → X → Tree} {held : B → X → Bool} wher
       is : shown_term_by (tree d.build) (held d.build) (terms.Group made) false
           ≡ group_shown (tree_in (shape_in o.frame.body o.frame.items) o.frame.items) true false
       is =
-          let h = stands x.number o.frame x.frame in
+          let h = (stands x.number o.frame x.frame).0 in
           ap (λ u. group_shown u (held d.build made) false) (h.0
           ∙ tree_same o.frame.body o.frame.items
           (shape_in o.frame.body o.frame.items) refl table_is_pairs)
@@ -436,19 +439,20 @@ module _ {B X : Type 0} {tree : B → X → Tree} {held : B → X → Bool} wher
       → is_pairs o.frame.items ≡ true
       → (all_true (map shown_borrowed (map (shown_by (tree c.build)
       (held c.build)) c.frame.items.items)) ≡ true
-      → Represents tree held b made
+      → Adds tree held c.build b made
       (table (map_of (shown_pairs (map (shown_by (tree c.build)
       (held c.build)) c.frame.items.items)))))
       → Represents tree held b made (tree_in a_table o.frame.items)
   root_made c o b made x table_is_pairs stands =
-      let h = stands (items_borrowed (tree c.build)
-      (held c.build) c.frame x.number o.frame x.frame) in (
+      let h = (stands (items_borrowed (tree c.build)
+      (held c.build) c.frame x.number o.frame x.frame)).0 in (
         h.0
             ∙ ap (λ ys. table (map_of (shown_pairs ys))) (ap (λ (k : FrameView). k.items) x.frame)
             ∙ ap (λ ps. table (map_of ps)) (pairs_shown o.frame.items table_is_pairs),
         h.1,
       )
 
+  -- the keys of the root, once it is closed
   pub root_keys : (c : opens.Open B X) (o : machine.Open) (x : StandsFor tree held c o)
       → o.around ≡ [] → o.frame.body ≡ table_body
       → texts (x.settled ++ left c.keys) ≡ keys_in a_table o.frame.items
@@ -460,6 +464,7 @@ module _ {B X : Type 0} {tree : B → X → Tree} {held : B → X → Bool} wher
       go [] h holds = holds_root x.number o.frame (x.settled ++ left c.keys) b holds
       go (g ∷ gs) h holds = cc
 
+  -- a comma behind the last item
   pub shows_comma : (c d : opens.Open B X) (o : machine.Open) (x y : code.Item X) (k : ℕ)
       → (s : StandsFor tree held c o)
       → Grows tree held c.build d.build → 0 < length c.frame.items.items → k

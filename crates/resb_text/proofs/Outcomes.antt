@@ -1,22 +1,8 @@
 -- What is known of a result, handed on.
 use Rattle.std.specs.Prelude.{Option, Some, None, MatchResult, MatchOption}
-use Rattle.std.specs.Prelude.{Result, Ok, Err, IfOk, OnOk}
+use Rattle.std.specs.Prelude.{Result, Ok, Err}
 use Rattle.std.specs.Result.{IsErrAnd}
 use Rattle.std.proofs.Common.{◌≡◌, sym, subst}
-
-pub if_ok_both : {T E : Type 0} {P Q R : T → Type 0} (r : Result T E)
-    → ((x : T) → P x → Q x → R x) → IfOk r P → IfOk r Q → IfOk r R
-if_ok_both (Ok x) f g h = f x g h
-if_ok_both (Err e) f g h = tt
-
-pub if_ok_always : {T E P : Type 0} (r : Result T E) → P → IfOk r (λ _. P)
-if_ok_always (Ok x) h = h
-if_ok_always (Err e) h = tt
-
-pub if_ok_to : {T E : Type 0} {P Q : T → Type 0} (r : Result T E) → IfOk r P
-    → ((x : T) → P x → Q x) → IfOk r Q
-if_ok_to (Ok x) h f = f x h
-if_ok_to (Err e) h f = tt
 
 -- what is answered for an error that a call gave
 pub match_err : {T E : Type 0} {Q : E → Type 0} (P : T → Type 0) (G : E → Type 0) (r : Result T E)
@@ -41,11 +27,3 @@ pub match_weaker : {A E N M : Type 0} {P Q : A → Type 0} {F G : E → Type 0}
 match_weaker (Ok (Some x)) n p f h = p x h
 match_weaker (Ok None) n p f h = n h
 match_weaker (Err e) n p f h = f e h
-
-pub on_ok_to : {T E P Q : Type 0} (r : Result T E) → OnOk r P → (P → Q) → OnOk r Q
-on_ok_to (Ok x) h f = f h
-on_ok_to (Err e) h f = tt
-
-pub on_ok_always : {T E P : Type 0} (r : Result T E) → P → OnOk r P
-on_ok_always (Ok x) h = h
-on_ok_always (Err e) h = tt

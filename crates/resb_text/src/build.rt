@@ -1,13 +1,13 @@
 //! What the reader makes of groups once they are closed.
 //! The open groups stand in `frames`. Trees are made in `items`, pieces of a draft in `drafts`.
 ghost use Rattle.std.specs.Prelude.{◌≡◌, ◌+◌, ◌≤◌, Bool, true, map, length};
-ghost use Rattle.std.specs.Prelude.{IfOk, OnOk};
+ghost use Rattle.std.specs.Prelude.{IfOk};
 ghost use Rattle.resb_tree.specs.Tree.{Tree, string, array, table, trees_of, map_of};
 ghost use Rattle.resb_tree.specs.View.{tree_of};
 ghost use Rattle.resb_tree.specs.Borrowing.{all_true};
 ghost use Rattle.resb_draft.specs.Drafts.{is_leaf};
 ghost use Rattle.resb_text.specs.Borrowed.{borrows_strings};
-ghost use Rattle.resb_text.specs.Inner.Build.{Represents, Grows};
+ghost use Rattle.resb_text.specs.Inner.Build.{Adds};
 ghost use Rattle.resb_text.specs.Inner.Shown.{shown_by, shown_tree, shown_pairs, shown_borrowed};
 
 use crate::items::Item;
@@ -30,14 +30,12 @@ pub(crate) trait Build<'a>: Sized + Drop {
     fn leaf(&mut self, resource: Resource<'a>) -> Result<Self::Made, NoMemory>
         requires borrowed { borrows_strings resource ≡ true }
         requires leaf { is_leaf (tree_of resource) ≡ true }
-        ensures made { IfOk result
-            (λ x. Represents tree held self.new x (tree_of resource.entry)) }
-        ensures grows { OnOk result (Grows tree held self.old self.new) };
+        ensures { IfOk result
+            (λ x. Adds tree held self.old self.new x (tree_of resource.entry)) };
 
     /// An untyped group of one string.
     fn string(&mut self, text: &'a str) -> Result<Self::Made, NoMemory>
-        ensures made { IfOk result (λ x. Represents tree held self.new x (string text.now)) }
-        ensures grows { OnOk result (Grows tree held self.old self.new) };
+        ensures { IfOk result (λ x. Adds tree held self.old self.new x (string text.now)) };
 
     /// The array of these items, whose list is left as room for others. Counts at most a turn for
     /// each.
@@ -49,8 +47,7 @@ pub(crate) trait Build<'a>: Sized + Drop {
     ) -> Result<Self::Made, NoMemory>
         ensures made { let xs = map (shown_by (tree self.old) (held self.old)) items.old.items in
             all_true (map shown_borrowed xs) ≡ true → IfOk result
-            (λ x. Represents tree held self.new x (array (trees_of (map shown_tree xs)))) }
-        ensures grows { OnOk result (Grows tree held self.old self.new) }
+            (λ x. Adds tree held self.old self.new x (array (trees_of (map shown_tree xs)))) }
         ensures cost { ticks.new.count ≤ ticks.old.count + length items.old.items };
 
     /// The table of these items, which are a key, a group and so on. A later entry of an equal key
@@ -64,7 +61,6 @@ pub(crate) trait Build<'a>: Sized + Drop {
     ) -> Result<Self::Made, NoMemory>
         ensures made { let xs = map (shown_by (tree self.old) (held self.old)) items.old.items in
             all_true (map shown_borrowed xs) ≡ true → IfOk result
-            (λ x. Represents tree held self.new x (table (map_of (shown_pairs xs)))) }
-        ensures grows { OnOk result (Grows tree held self.old self.new) }
+            (λ x. Adds tree held self.old self.new x (table (map_of (shown_pairs xs)))) }
         ensures cost { ticks.new.count ≤ ticks.old.count + length items.old.items };
 }

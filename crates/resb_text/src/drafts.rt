@@ -26,11 +26,13 @@ impl<'a> Build<'a> for Draft<'a> {
     ghost held = { is_whole };
 
     fn leaf(&mut self, resource: Resource<'a>) -> Result<u32, NoMemory> {
-        self.push_leaf(resource)
+        let number = self.push_leaf(resource)?;
+        Ok(number)
     }
 
     fn string(&mut self, text: &'a str) -> Result<u32, NoMemory> {
-        self.push_string(text)
+        let number = self.push_string(text)?;
+        Ok(number)
     }
 
     fn array(
@@ -41,7 +43,8 @@ impl<'a> Build<'a> for Draft<'a> {
     ) -> Result<u32, NoMemory> {
         let first_member = self.members.len();
         push_members(self, ticks, items)?;
-        self.end_array(first_member)
+        let number = self.end_array(first_member)?;
+        Ok(number)
     }
 
     fn table(

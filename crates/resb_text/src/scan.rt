@@ -52,10 +52,9 @@ fn uncounted_byte(text: &str, at: usize) -> u8
 #[inline(always)]
 pub(crate) fn find(text: &str, ticks: &mut Ticks, from: usize, b: u8) -> Option<usize>
     requires within { from ≤ length text.now }
-    ensures found { MatchOption result (NoByte b text.now from) (FirstByte b text.now from) }
-    ensures counted { MatchOption result
-        (Ticked ticks.old ticks.new (length text.now - from))
-        (λ to. Ticked ticks.old ticks.new (to + 1 - from)) }
+    ensures { MatchOption result
+        (NoByte b text.now from × Ticked ticks.old ticks.new (length text.now - from))
+        (λ to. FirstByte b text.now from to × Ticked ticks.old ticks.new (to + 1 - from)) }
 {
     if text.len() - from >= 16 {
         let before = runs::bytes_before(text.as_bytes(), from, b);
@@ -71,10 +70,9 @@ pub(crate) fn find(text: &str, ticks: &mut Ticks, from: usize, b: u8) -> Option<
 #[inline(never)]
 fn find_far(text: &str, ticks: &mut Ticks, from: usize, b: u8) -> Option<usize>
     requires within { from ≤ length text.now }
-    ensures found { MatchOption result (NoByte b text.now from) (FirstByte b text.now from) }
-    ensures counted { MatchOption result
-        (Ticked ticks.old ticks.new (length text.now - from))
-        (λ to. Ticked ticks.old ticks.new (to + 1 - from)) }
+    ensures { MatchOption result
+        (NoByte b text.now from × Ticked ticks.old ticks.new (length text.now - from))
+        (λ to. FirstByte b text.now from to × Ticked ticks.old ticks.new (to + 1 - from)) }
 {
     let rest = &text.as_bytes()[from..];
     match memchr(b, rest) {

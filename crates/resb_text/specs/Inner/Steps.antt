@@ -72,6 +72,12 @@ StepsOn text at t c next u d =
     (at < next)
     × (u.count + owed d + 8 * reach text at + 1 ≤ t.count + owed c + 8 * reach text next)
 
+-- a reading that keeps its quota stands here, in the root without items of such a title
+pub record InRoot (text : List ℕ) (at : ℕ) (title : machine.Title) (q : Quota) : Type 0 where
+  pub within : at ≤ length text
+  pub made : Makes text q.made at (inside (machine.at_root title))
+  pub keeps : KeepsQuota text q.limit q
+
 -- wherever a typed group may stand there, a reading gets stuck so
 abbrev pub TypedOpeningFails : List ℕ → ℕ → TextParserError → Type 0
 TypedOpeningFails text at e =

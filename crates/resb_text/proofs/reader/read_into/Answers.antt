@@ -17,11 +17,9 @@ rest-requires g c = λ k.
     let made = c.in_ok-take.ensures.made in
     let sum : c.take.new.self.made ≡ 72 = omega (arith, fresh, made) in (
       (refl, tt),
-      (
-        c.in_ok-head.ensures.cost.0,
-        (
-          rw sum (root_opened _ _ _ _ c.in_ok-head.ensures.reads),
-          own_limit_kept (quota_kept (unused_kept c.requires) c.in_ok-take.ensures),
-        ),
-      ),
+      record {
+        within = c.in_ok-head.ensures.cost.0;
+        made = rw sum (root_opened _ _ _ _ c.in_ok-head.ensures.reads);
+        keeps = own_limit_kept (quota_kept (unused_kept c.requires) c.in_ok-take.ensures);
+      },
     )

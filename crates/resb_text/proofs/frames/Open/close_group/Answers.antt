@@ -1,6 +1,6 @@
 use Rattle.std.proofs.Common.{◌≡◌, subst, ℕ}
 use Rattle.resb_grammar.specs.Machine as machine
-use Rattle.resb_text.specs.Inner.Build.{Represents}
+use Rattle.resb_text.specs.Inner.Build.{Adds}
 use Rattle.resb_text.specs.Inner.Shown.{items_seen}
 use Rattle.resb_text.specs.Inner.Frames.{view_of_code, view_of_frame, with_number, tree_shown_in}
 use Rattle.resb_text.specs.Inner.Frames.{StandsFor, ClosesKeys}
@@ -24,14 +24,13 @@ returns-clause-shows g c =
     let outer = c.replace-frame.ensures.after in
     let value = c.replace-frame.ensures.value in
     shows_close c.args.self.now _ o c.in-Some.outer made x h
-    c.in_ok-made.ensures.build
     c.in-Some.ensures.items
     (subst (λ (f : Frame _). Pushes (tree after) (held after) f c.push-2.new.self (Group made))
     outer
     (pushed (tree after) (held after)))
     (subst (λ (f : Frame _). (n : ℕ) (k : machine.Frame)
     → view_of_code (tree before) (held before) f ≡ view_of_frame (with_number n k)
-    → Represents tree held after made (tree_shown_in (machine.shape_in k.body k.items)
+    → Adds tree held before after made (tree_shown_in (machine.shape_in k.body k.items)
     (items_seen k.items))) value c.in_ok-made.ensures.ok)
     (subst (λ (f : Frame _). ClosesKeys (view_of_code (tree before) (held before) f)
     c.args.self.now.keys c.closed.new.keys) value c.closed.ensures.keys))

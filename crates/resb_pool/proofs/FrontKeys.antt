@@ -17,7 +17,8 @@ use Rattle.std.proofs.lemmas.List.Elements.{All-tail}
 use Rattle.std.proofs.lemmas.Str.{IsUtf8-nil}
 use Rattle.resb_pool.specs.Order.{end_last_cmp}
 use Rattle.resb_pool.specs.Inner.Cuts.{chars_backwards}
-use Rattle.resb_pool.specs.Inner.Suffixes.{digits_backwards, front_key, digits_bound, keyed_cmp, row_cmp}
+use Rattle.resb_pool.specs.Inner.Suffixes.{digits_backwards, front_key, digits_bound}
+use Rattle.resb_pool.specs.Inner.Suffixes.{keyed_cmp, row_cmp}
 use Rattle.resb_pool.specs.Inner.Suffixes.{row_key, row_text, IsKeyed, IsRowOf}
 use Rattle.resb_pool.specs.Inner.Placing.{text_numbered}
 use Rattle.resb_pool.specs.declared.suffix_order.Row.{Row}

@@ -330,7 +330,8 @@ module _ (S T : TextList) (ms : List Measure) (given : AreTexts S T ms)
                     ∙ sym there ∙ ap (λ i. get_or Q i []) (sym next)) in
                     subst (λ z. Precedes S z (get_or Q (k + 1) [])) (sym here)
                     (subst (Precedes S x.text.now) (sym there)
-                    (in_order S x y (each k no_record a).units_is (each (k + 1) no_record b).units_is
+                    (in_order S x y (each k no_record a).units_is
+                    (each (k + 1) no_record b).units_is
                     (saved_at k no_record a) (saved_at (k + 1) no_record b)
                     (sorted k no_record (omega arith) b) ne))
 

@@ -93,8 +93,10 @@ short_text s key u e last ne positive =
     let ds = digits_backwards s in
     let few : length ds ≤ 15 = behind 15 ds (small_key s u)
     (sym (last_digit 15 0 ds (small_key s u)) ∙ ap (λ z. z % 256) (sym e) ∙ last) in
-    let backwards = chars_positive (chars_backwards s) (λ k l. positive k (omega (arith, l, few))) in
-    let all : All (λ c. 0 < c) (chars s) = All-permutation (λ c. 0 < c) (chars_backwards s) (chars s)
+    let backwards = chars_positive (chars_backwards s)
+    (λ k l. positive k (omega (arith, l, few))) in
+    let all : All (λ c. 0 < c) (chars s) =
+    All-permutation (λ c. 0 < c) (chars_backwards s) (chars s)
     (IsPermutation-sym (chars s) (chars_backwards s) (IsPermutation-reverse (chars s)))
     backwards in
     let none : has_zero s ≡ false = ap has_zero (sym (encodes-chars s u)) ∙ bytes_positive (chars s)

@@ -179,7 +179,8 @@ module _ (S T : TextList) (texts : All IsUtf8 S) (once : EachOnce T) (same : (s 
             rest)
 
     pub sized : SizeIn S (text_numbered T q) S (lying_in hs ms q)
-    sized = subst (SizeIn S (text_numbered T q) S) (sym (share_all q S hs ms T placed.len len totals))
+    sized = subst (SizeIn S (text_numbered T q) S)
+        (sym (share_all q S hs ms T placed.len len totals))
         (shares S (λ s c. (same s).1 c))
 
 -- distinct texts have no more copies than there are strings

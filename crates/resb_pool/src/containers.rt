@@ -25,7 +25,8 @@ fn is_shared_end(text: &str, previous: &str) -> bool
     !text.is_empty() && previous.ends_with(text) && is_unmarked(text)
 }
 
-/// The same, by the rows of both texts, which tell it of most of them.
+/// Whether the text of a row lies in the record of the text of the row right before it. The rows
+/// tell it of most texts, which are not looked at then.
 fn lies_with(texts: &[&str], row: &Row, previous: &Row) -> bool
     requires utf8 { All IsUtf8 (nows texts.now) }
     requires row { IsKeyed (nows texts.now) row.now }
@@ -44,8 +45,8 @@ fn lies_with(texts: &[&str], row: &Row, previous: &Row) -> bool
 }
 
 /// The index of the text in whose record each of distinct texts lies; the empty text, which has no
-/// record, lies in itself. What ends with a text stands in one run before it in suffix order, so the
-/// text lies where the one right before it lies, or is a record.
+/// record, lies in itself. What ends with a text stands in one run before it in suffix order, so
+/// the text lies where the one right before it lies, or is a record.
 pub(crate) fn find_containers(alloc: Global, texts: &[&str]) -> Result<Vec<u32>, AllocError>
     requires utf8 { All IsUtf8 (nows texts.now) }
     requires distinct { EachOnce (nows texts.now) }

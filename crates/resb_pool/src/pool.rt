@@ -19,7 +19,8 @@ use crate::records::{Block, lay, ordered};
 use crate::texts::{Texts, gather, mostly_differ};
 use std::alloc::{AllocError, Global};
 
-/// The records of distinct texts that lie in these ones, laid in their order.
+/// The records of distinct texts, laid in their order. Of each text `containers` has the index of
+/// the one in which it lies.
 fn lay_records(
     alloc: Global,
     texts: &[&str],

@@ -40,7 +40,8 @@ pub(crate) struct Block {
     pub(crate) ends: Vec<u32>,
 }
 
-/// Whether a text that lies in this one is a record: it isn't empty and lies in itself.
+/// Whether the text of an index, which lies in that of the other one, is a record: it isn't empty
+/// and lies in itself.
 fn is_record(container: u32, index: usize, text: &str) -> bool
     ensures { result ≡ (nat_eq container index && not (nat_eq (length text.now) 0)) }
 {

@@ -147,6 +147,7 @@ pub record ClosesWithin (es : List ℕ) (h : ℕ) (m : Measure) : Type 0 where
   pub reaches : m.size ≤ slice_index es h + 1
   pub small : slice_index es h < 2 ^ 28
 
+-- the record in which each text lies closes far enough for it
 abbrev pub AllClose : List ℕ → List Measure → List ℕ → Type 0
 AllClose hs ms es = (i : ℕ) (d : Measure) → i < length hs
     → ClosesWithin es (slice_index hs i) (slice_index_or ms i d)

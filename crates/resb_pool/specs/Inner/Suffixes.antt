@@ -1,5 +1,6 @@
 -- Distinct texts in suffix order. T are the texts; each goes by its index there.
 --     AreInOrder T rows       the rows are the texts T, in suffix order
+--     TellsEnd answer t s     the answer is whether t ends with s, if s is short
 --     IsSharedEnd p s         s may lie in the record of p
 use Rattle.std.specs.Prelude.{◌≡◌, ℕ, zero, suc, ◌+◌, ◌*◌, ◌^◌, ◌<◌, List, [], ◌∷◌, length, map}
 use Rattle.std.specs.Prelude.{All, Bool, true, ◌-◌, ◌/◌, ◌%◌, ◌≤◌, nat_le, if◌then◌else◌}
@@ -61,9 +62,11 @@ pub record IsRowOf (T : List (List ℕ)) (r : Row) : Type 0 where
   pub within : r.index < length T
   pub keyed : IsKeyed T r
 
+-- the texts of rows, in the order of these
 abbrev pub row_texts : List (List ℕ) → List Row → List (List ℕ)
 row_texts T rows = map (row_text T) rows
 
+-- by all characters
 abbrev pub row_cmp : List (List ℕ) → Row → Row → Ordering
 row_cmp T x y = suffix_cmp (row_text T x) (row_text T y)
 

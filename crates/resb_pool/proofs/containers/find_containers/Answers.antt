@@ -10,7 +10,8 @@ use Rattle.resb_pool.specs.Inner.Suffixes.{digits_backwards, front_key}
 use Rattle.resb_pool.specs.declared.suffix_order.Row.{Row}
 use Rattle.resb_pool.proofs.Interning.{length-nows}
 use Rattle.resb_pool.proofs.SuffixRuns.{IsPrevious, step_alone, step_shared, one_row, row_of}
-use Rattle.resb_pool.proofs.containers.find_containers.Goals.{then-not-lies_with, else-not-lies_with}
+use Rattle.resb_pool.proofs.containers.find_containers.Goals.{then-not-lies_with}
+use Rattle.resb_pool.proofs.containers.find_containers.Goals.{else-not-lies_with}
 use Rattle.resb_pool.proofs.containers.find_containers.Goals as goal
 use Rattle.resb_pool.proofs.Numbers.{old_or_new}
 
@@ -27,7 +28,8 @@ loop-row-init c =
     record {
       len = search rules;
       keyed = record {
-        front_is = c.row_of-previous.ensures.front ∙ ap (λ t. front_key 0 16 (digits_backwards t)) (sym none);
+        front_is = c.row_of-previous.ensures.front
+            ∙ ap (λ t. front_key 0 16 (digits_backwards t)) (sym none);
         small = c.row_of-previous.ensures.small;
       };
       first = λ e. none;

@@ -74,15 +74,17 @@ pub loop-index-preserved-then-not-is_record : goal.loop-index-preserved-then-not
 loop-index-preserved-then-not-is_record c =
     let xs = c.args.texts.now in
     let i = c.loop-index.index in
-    let l : i < length (nows xs) = omega (arith, c.loop-index-test.true, c.requires.containers.len) in
+    let l : i < length (nows xs) =
+    omega (arith, c.loop-index-test.true, c.requires.containers.len) in
     let k : i < length xs = omega (arith, l, length-nows xs) in
     let t = text_nows xs i k in
     record {
       records = listed_keep (nows xs) (nows (take i xs)) (nows (take (i + 1) xs))
           (get_or xs i blank).now (nows-take xs i blank k) (record_texts c.loop-index.records.items)
           c.loop-index.invariant.records
-          (λ r. absurd (no_record xs c.args.containers.now i c.requires.containers c.loop-index-test.true
-          (sym c.is_record.ensures ∙ c.if-not-is_record.true) (subst (IsRecord (nows xs)) t r)));
+          (λ r. absurd (no_record xs c.args.containers.now i c.requires.containers
+          c.loop-index-test.true (sym c.is_record.ensures ∙ c.if-not-is_record.true)
+          (subst (IsRecord (nows xs)) t r)));
       each = c.loop-index.invariant.each;
     }
 
@@ -90,7 +92,8 @@ pub loop-index-preserved : goal.loop-index-preserved
 loop-index-preserved c =
     let xs = c.args.texts.now in
     let i = c.loop-index.index in
-    let l : i < length (nows xs) = omega (arith, c.loop-index-test.true, c.requires.containers.len) in
+    let l : i < length (nows xs) =
+    omega (arith, c.loop-index-test.true, c.requires.containers.len) in
     let k : i < length xs = omega (arith, l, length-nows xs) in
     let t = text_nows xs i k in
     let own = own_record xs c.args.containers.now i c.requires.containers c.loop-index-test.true

@@ -253,7 +253,8 @@ module _ {B X : Type 0} {tree : B → X → Tree} {held : B → X → Bool} wher
       → view_of_code (tree d.build) (held d.build) d.frame
       ≡ view_of_frame (with_number (group_count c.keys) (new_frame (group_body_of b)))
       → d.around.items ≡ c.around.items ++ c.frame ∷ []
-      → {g : ℕ} → OpensGroup g c.keys d.keys → StandsFor tree held d (machine.within (group_body_of b) o)
+      → {g : ℕ} → OpensGroup g c.keys d.keys
+      → StandsFor tree held d (machine.within (group_body_of b) o)
   shows_open c d o b x grow e a keys = record {
     number = group_count c.keys;
     around = with_number x.number o.frame ∷ x.around;
@@ -279,7 +280,8 @@ module _ {B X : Type 0} {tree : B → X → Tree} {held : B → X → Bool} wher
         (sym (ap (λ cs. x.settled ++ cs) keys.stays))
         (holds_new (group_count c.keys) (group_body_of b) (with_number x.number o.frame ∷ x.around)
         (x.settled ++ left c.keys) x.holds x.within);
-    within = λ h le. ap (λ cs. without h (x.settled ++ cs)) keys.stays ∙ x.within h (omega (arith, keys.groups))
+    within = λ h le. ap (λ cs. without h (x.settled ++ cs)) keys.stays
+        ∙ x.within h (omega (arith, keys.groups))
         ∙ sym (ap (λ cs. x.settled ++ cs) keys.stays);
     are_open = (
       omega (arith, keys.groups),
@@ -291,7 +293,8 @@ module _ {B X : Type 0} {tree : B → X → Tree} {held : B → X → Bool} wher
 
   -- the innermost group is closed
   pub shows_close : (c d : opens.Open B X) (o : machine.Open) (outer : frames.Frame X) (made : X)
-      → (x : StandsFor tree held c o) → IsTableWhole o.frame → c.around.items ≡ d.around.items ++ outer ∷ []
+      → (x : StandsFor tree held c o) → IsTableWhole o.frame
+      → c.around.items ≡ d.around.items ++ outer ∷ []
       → Pushes (tree d.build) (held d.build) outer d.frame (terms.Group made)
       → ((n : ℕ) (f : Frame) → view_of_code (tree c.build) (held c.build) c.frame ≡ view_of_frame
       (with_number n f)
@@ -414,7 +417,8 @@ module _ {B X : Type 0} {tree : B → X → Tree} {held : B → X → Bool} wher
         are_open =
             subst (λ k. AreOpen d.keys k (with_number x.number o.frame ∷ x.around)) (sym same)
             (open_same c.keys d.keys (group_count c.keys)
-            (with_number x.number o.frame ∷ x.around) (dropped_same c.keys d.keys lists.dropped) x.are_open);
+            (with_number x.number o.frame ∷ x.around) (dropped_same c.keys d.keys lists.dropped)
+            x.are_open);
       }
     where
       no_inner : (gs : List NumberedFrame) → views_of_frames gs ≡ []

@@ -204,7 +204,8 @@ module _ {B X : Type 0} {tree : B → X → Tree} {held : B → X → Bool} {tex
         let adds = begins kind body opens x.open_groups in
         makes_more text q.made limit begin.brace (begin.brace + 1) (typed kind x.open_groups) _
         opening
-        (opening_made text q.made here.0 first kind x.open_groups begin (type_moves kind may) x.made)
+        (opening_made text q.made here.0 first kind x.open_groups begin (type_moves kind may)
+        x.made)
         (begin.opens, refl) refl (omega (arith, more, adds)));
   }
 

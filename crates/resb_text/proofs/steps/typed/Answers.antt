@@ -29,7 +29,8 @@ pub returns-in-Some-clause-reads : goal.returns-in-Some-clause-reads
 returns-in-Some-clause-reads g c =
     let may = told c.requires.among takes_group c.takes_group.ensures c.if-not-takes_group.false in
     typed_group_opened c.requires.among _ may c.in_ok-first.ensures.reads
-    c.in_ok-first.ensures.cost.1 c.byte.ensures.byte c.in-Some.ensures c.in_ok-open.ensures.shows c.in_ok-take.ensures
+    c.in_ok-first.ensures.cost.1 c.byte.ensures.byte c.in-Some.ensures
+    c.in_ok-open.ensures.shows c.in_ok-take.ensures
 
 pub returns-in_err-next-clause-reads : goal.returns-in_err-next-clause-reads
 returns-in_err-next-clause-reads g c =
@@ -49,8 +50,8 @@ pub returns-clause-reads : goal.returns-clause-reads
 returns-clause-reads g c =
     let may = told c.requires.among takes_group c.takes_group.ensures c.if-not-takes_group.false in
     leaf_added c.requires.among may c.in_ok-first.ensures.reads c.in_ok-next.ensures.reads.group
-    c.in_ok-next.ensures.cost.1 c.byte-2.ensures.byte c.in_ok-add_leaf.ensures.shows c.leaf_bytes.ensures
-    c.in_ok-take-2.ensures
+    c.in_ok-next.ensures.cost.1 c.byte-2.ensures.byte c.in_ok-add_leaf.ensures.shows
+    c.leaf_bytes.ensures c.in_ok-take-2.ensures
 
 pub add_leaf-requires : goal.add_leaf-requires
 add_leaf-requires g c = λ k.

@@ -52,15 +52,16 @@ ordered ms i (suc n) j d up e l =
     })
 
 -- m is the first of its run, where k hashes are done
-pub record IsRun (S : List (List ℕ)) (ms : List NumberedHash) (k : ℕ) (m : NumberedHash) : Type 0 where
+pub record IsRun (S : List (List ℕ)) (ms : List NumberedHash) (k : ℕ) (m : NumberedHash)
+    : Type 0 where
   pub within : m.number < length S
   pub below : (q : ℕ) (d : NumberedHash) → q < k → (get_or ms q d).hash ≤ m.hash
   pub above : (q : ℕ) (d : NumberedHash) → k ≤ q → q < length ms → m.hash ≤ (get_or ms q d).hash
   pub least : (q : ℕ) (d : NumberedHash) → q < length ms → (get_or ms q d).hash ≡ m.hash
       → m.number ≤ (get_or ms q d).number
 
-module _ (S : List (List ℕ)) (ms : List NumberedHash) (hashes : AreHashes S ms) (k : ℕ) (d : NumberedHash)
-    (l : k < length ms) where
+module _ (S : List (List ℕ)) (ms : List NumberedHash) (hashes : AreHashes S ms) (k : ℕ)
+    (d : NumberedHash) (l : k < length ms) where
   -- a hash that is new begins a run
   pub run_begins : IsSorted hash_cmp ms
       → ((q : ℕ) (e : NumberedHash) → q < k → (get_or ms q e).hash < (get_or ms k d).hash)
@@ -75,7 +76,8 @@ module _ (S : List (List ℕ)) (ms : List NumberedHash) (hashes : AreHashes S ms
     ];
   }
     where
-      from : (q : ℕ) (e : NumberedHash) → k ≤ q → q < length ms → InOrder (get_or ms k d) (get_or ms q e)
+      from : (q : ℕ) (e : NumberedHash) → k ≤ q → q < length ms
+          → InOrder (get_or ms k d) (get_or ms q e)
       from q e a b = subst (λ z. InOrder z (get_or ms q e)) (get_or_default ms k e d l)
           (ordered ms k (q - k) q e up (omega arith) b)
 
@@ -104,7 +106,8 @@ module _ (S : List (List ℕ)) (ms : List NumberedHash) (hashes : AreHashes S ms
         let c = hashes.all j (omega (arith, h.within, b)) in
         let x = hash_numbered S j in
         let at : get_or ms c.0 x ≡ x = c.2 in
-        let hash : (get_or ms c.0 x).hash ≡ m.hash = ap (λ (z : NumberedHash). z.hash) at ∙ ap text_hash t
+        let hash : (get_or ms c.0 x).hash ≡ m.hash =
+        ap (λ (z : NumberedHash). z.hash) at ∙ ap text_hash t
         ∙ sym (ap (λ (z : NumberedHash). z.hash) (hashes.each k d l).1) ∙ e in
         omega (arith, b, h.least c.0 x c.1 hash, ap (λ (z : NumberedHash). z.number) at);
   }
@@ -119,7 +122,8 @@ all_first S ms hashes fs n h = record {
   each = λ i l.
       let c = hashes.all i l in
       let x = hash_numbered S i in
-      subst (λ z. IsFirst S z (get_or fs z 0)) (ap (λ (z : NumberedHash). z.number) c.2) (h c.0 x c.1);
+      subst (λ z. IsFirst S z (get_or fs z 0)) (ap (λ (z : NumberedHash). z.number) c.2)
+      (h c.0 x c.1);
 }
 
 -- the hash of the bytes up to one more
@@ -144,7 +148,8 @@ front (x ∷ ms) m e = (omega arith, (let z : Some m ≡ Some x = e in cc))
 
 -- the hashes of strings in their order are hashes of them
 pub hashes_in_turn : (S : List (List ℕ)) (ms : List NumberedHash) → length ms ≡ length S
-    → ((i : ℕ) (d : NumberedHash) → i < length S → get_or ms i d ≡ hash_numbered S i) → AreHashes S ms
+    → ((i : ℕ) (d : NumberedHash) → i < length S → get_or ms i d ≡ hash_numbered S i)
+    → AreHashes S ms
 hashes_in_turn S ms n h = record {
   each = λ i d l.
       let e = h i d (omega arith) in
@@ -154,8 +159,8 @@ hashes_in_turn S ms n h = record {
 }
 
 -- and so they are in any other order
-pub hashes_reordered : (S : List (List ℕ)) (ms ns : List NumberedHash) → IsPermutation ms ns → AreHashes S ms
-    → AreHashes S ns
+pub hashes_reordered : (S : List (List ℕ)) (ms ns : List NumberedHash) → IsPermutation ms ns
+    → AreHashes S ms → AreHashes S ns
 hashes_reordered S ms ns p h = record {
   each = All-permutation (λ m. (m.number < length S) × (m ≡ hash_numbered S m.number)) ms ns p
       h.each;

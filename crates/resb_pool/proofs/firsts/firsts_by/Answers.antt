@@ -91,7 +91,8 @@ loop-item-preserved c =
                 (elim (old_or_new k q b) [
                   | inl o ↦ v.each q d o
                   | inr o ↦ absurd (ne (ap (λ z. (get_or ms z d).number) o
-                      ∙ ap (λ (z : NumberedHash). z.number) (sym (get_or_default ms k no_hash d l))))
+                      ∙ ap (λ (z : NumberedHash). z.number)
+                      (sym (get_or_default ms k no_hash d l))))
                 ])
           ];
     }

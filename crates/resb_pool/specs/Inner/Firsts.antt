@@ -10,11 +10,13 @@ use Rattle.std.specs.declared.cmp.Ordering.{Ordering}
 use Rattle.resb_pool.specs.Inner.Placing.{text_numbered}
 use Rattle.resb_pool.specs.declared.firsts.NumberedHash.{NumberedHash}
 
--- the hash h, and then these bytes
+-- the hash of some bytes and these behind them, where h is that of the former: one by one, a byte
+-- is added to the hash and the sum multiplied by a prime, both modulo 2 ^ 64
 unfoldable pub hash_with : ℕ → List ℕ → ℕ
 hash_with h [] = h
 hash_with h (b ∷ bs) = hash_with ((h + b) % 2 ^ 64 * 0x100_0000_01b3 % 2 ^ 64) bs
 
+-- of a text; which number it is tells nothing but that equal texts have equal ones
 abbrev pub text_hash : List ℕ → ℕ
 text_hash t = hash_with 0xcbf2_9ce4_8422_2325 t
 

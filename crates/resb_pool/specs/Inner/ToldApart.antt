@@ -15,6 +15,7 @@ pub record ToldApart (S : List (List ℕ)) (t : Texts) : Type 0 where
   pub texts : AreTexts S (nows t.distinct.keys) t.measures.items
   pub turns : AreTurns S (nows t.distinct.keys) t.order.items
 
+-- the same, where the texts stand in a list
 pub record AreListed (S : List (List ℕ)) (t : ListedTexts) : Type 0 where
   pub short : first_too_long S ≡ None
   pub small : texts_size S < 2 ^ 28

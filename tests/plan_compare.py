@@ -35,10 +35,14 @@ def text(rng, letters, known):
 
 
 def pool(rng):
-    """Strings of few or of many letters; one pool in a thousand has a longer marker."""
+    """Strings of few or of many letters; one pool in a hundred has hundreds of them, for which a
+    plan goes another way, and one in a thousand has a longer marker."""
     letters = rng.sample(LETTERS, rng.choice([1, 2, 3, len(LETTERS)]))
     known = []
-    for _ in range(rng.choice([0, 1, 2, 3, 5, 8, 20, 60])):
+    count = rng.choice([0, 1, 2, 3, 5, 8, 20, 60])
+    if rng.randrange(100) == 0:
+        letters, count = LETTERS, rng.choice([256, 400])
+    for _ in range(count):
         known.append(text(rng, letters, known))
     if rng.randrange(1000) == 0:
         known.append('z' * rng.choice([65535, 65536, 70000, 1048575, 1048576, 1200000]))

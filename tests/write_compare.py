@@ -7,7 +7,8 @@ OURS is a program that takes the words `compile IN OUT`. OTHER is a command as `
 which answers a text by the hex digits of its file. Two texts in seven are one array of strings that
 share suffixes, so that the pool is all there is. In half of the others the keys of each table
 ascend. Behind each 200 of them stands one with offsets or
-key positions that no 16-bit unit holds. The first difference is printed and ends the run
+key positions that no 16-bit unit holds, and one of hundreds of strings, most of which differ, since
+a plan goes another way for those. The first difference is printed and ends the run
 with status 1. KEPT gets the hex digits of each file in a line, for `read_compare.py`.
 """
 import os
@@ -94,6 +95,23 @@ def far(rng):
     return 'b{a:array{%s %s}%s}' % (long, string(rng, known), entries(rng, known, 3))
 
 
+def many(rng):
+    """A text of hundreds of strings, most of which are in it once."""
+    known = []
+    letters = rng.choice(['abc', 'abcdefghijklmnopqrstuvwxyz', 'aé文\U0001f600z\0'])
+    new = rng.choice([0.85, 0.95, 1])
+    said = []
+    for number in range(rng.choice([256, 300, 700, 1500])):
+        if rng.random() < new:
+            length = rng.choice([1, 3, 5, 8, 15, 16, 17, 30])
+            tail = ''.join(rng.choice(letters) for _ in range(length))
+            known.append(rng.choice(['%d', 'x%d ', '']).replace('%d', str(number * 7919)) + tail)
+            said.append('"%s"' % known[-1])
+        else:
+            said.append(string(rng, known))
+    return 'b{a:array{%s}}' % ' '.join(said)
+
+
 def file_of(program, said, folder):
     """The hex digits of the file of a text, or what is said on standard error."""
     given, made = os.path.join(folder, 'in'), os.path.join(folder, 'out')
@@ -113,6 +131,7 @@ def main():
     rng = random.Random(int(sys.argv[4]) if len(sys.argv) > 4 else 1)
     texts = [text(rng).encode() for _ in range(count)]
     texts += [far(rng).encode() for _ in range(count // 200)]
+    texts += [many(rng).encode() for _ in range(count // 200)]
     wanted = answers(sys.argv[2], texts)
     with tempfile.TemporaryDirectory() as folder:
         for said, theirs in zip(texts, wanted):

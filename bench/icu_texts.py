@@ -8,7 +8,8 @@ bundle, and by `resb compile --icu`. Counted are texts that both refuse, that ge
 our words for it), that we alone take, and, where both take one, files that are equal, files of one
 tree and flag that differ, with the reasons that are found (genrb lets a key lie at the end of a
 longer one, and records that are alike in size and in what sharing saves stand in another order),
-and files of different trees. A text that we alone take, or of another tree, is listed.
+and files of different trees. A text that we alone take, of another tree, or of one tree in
+another file for no reason that is found, is listed.
 Trees are compared as the texts of `resb dump --icu`, and where genrb's file holds strings of the
 older form, which `resb` refuses, as the prints of ICU's derb. The last line but what is listed says
 how much processor time all processes of each program took. With --back each file that we make is
@@ -57,6 +58,11 @@ def is_one_tree(ours, theirs):
     if one is None or other is None:
         one, other = derb_print(ours), derb_print(theirs)
     return one == other != b""
+
+
+# what shouldn't come of a text
+UNEXPLAINED = "equal trees: for another reason"
+LISTED = ("taken here alone", "different trees", UNEXPLAINED)
 
 
 def words_of(said):
@@ -126,7 +132,8 @@ def compare(text, folder, took):
         return "equal files"
     if not is_one_tree(ours, theirs):
         return "different trees"
-    return "equal trees: " + (" and ".join(reasons(ours, theirs)) or "for another reason")
+    found = " and ".join(reasons(ours, theirs))
+    return "equal trees: " + found if found else UNEXPLAINED
 
 
 def comes_back(folder):
@@ -152,7 +159,7 @@ def main(words):
         for text in sorted(pathlib.Path(folder).rglob("*.txt")):
             what = compare(text, pathlib.Path(made), took)
             counts[what] += 1
-            if what in ("taken here alone", "different trees"):
+            if what in LISTED:
                 listed.append("%s: %s" % (what, text))
             if asks_back and (pathlib.Path(made) / "ours.res").exists():
                 is_back = comes_back(pathlib.Path(made))

@@ -31,6 +31,7 @@ leaf_tree (Integer w) = integer (w % 2 ^ 28)
 leaf_tree (Numbers b) = int_vector (words_of b.now)
 leaf_tree Empty = string []
 
+-- a member that was read: the same word or unit
 abbrev pub member_of : Member → at.Member
 member_of (one.Word w) = at.word w
 member_of (one.Unit u) = at.unit u

@@ -1,6 +1,7 @@
 //! Texts in the order of their characters from the end, in which what ends with a text stands
 //! before it. In which record a text lies is said in `containers`.
 ghost use Rattle.std.specs.Prelude.{◌≡◌, ◌<◌, ◌≤◌, ◌-◌, ◌∷◌, ◌++◌, ◌^◌, ℕ, List, length, reverse};
+ghost use Rattle.std.specs.Prelude.{[]};
 ghost use Rattle.std.specs.Prelude.{All, IfOk, IfSome, slice_index_or, true, false};
 ghost use Rattle.std.specs.Str.{IsUtf8};
 ghost use Rattle.resb_pool.specs.Order.{suffix_cmp};
@@ -35,6 +36,8 @@ pub(crate) struct Row {
     /// The next eight digits.
     pub(crate) before: u64,
     pub(crate) index: u32,
+    /// How many of these 16 digits stand behind the text's end.
+    pub(crate) left: u8,
 }
 
 /// The first digits of a text's characters, last character first, as a number, and how many digits
@@ -42,7 +45,7 @@ pub(crate) struct Row {
 #[derive(Clone, Copy)]
 pub(crate) struct Front {
     pub(crate) number: u128,
-    pub(crate) left: u32,
+    pub(crate) left: u8,
 }
 
 /// The byte at a place, counted from the last one, or the end's digit before the first.
@@ -102,7 +105,7 @@ fn with_digit(front: Front, digit: u32) -> Front
 fn with_char(front: Front, c: char) -> Front
     requires part { IsPart front }
     ensures part { IsPart result }
-    ensures left { result.left ≤ front.left - 1 }
+    ensures left { result.left ≡ front.left - length (char_digits c) }
     ensures same { (ds : List ℕ) → front_key result.number result.left ds
         ≡ front_key front.number front.left (char_digits c ++ ds) }
 {
@@ -115,9 +118,24 @@ fn with_char(front: Front, c: char) -> Front
     with_digit(second, code % 0x80)
 }
 
+/// The end's digit for each that is left.
+fn with_end(front: Front) -> Front
+    requires { IsPart front }
+    ensures number { result.number ≡ front_key front.number front.left [] }
+    ensures left { result.left ≡ front.left }
+{
+    let bits = 8 * u32::from(front.left);
+    let ends = u128::MAX.unbounded_shr(128 - bits);
+    Front {
+        number: front.number.unbounded_shl(bits) + ends,
+        left: front.left,
+    }
+}
+
 /// The first 16 digits of a text's characters, last first, as a number.
-fn chars_front(text: &str) -> u128
-    ensures { result ≡ front_key 0 16 (digits_backwards text.now) }
+fn chars_front(text: &str) -> Front
+    ensures number { result.number ≡ front_key 0 16 (digits_backwards text.now) }
+    ensures left { result.left ≡ 16 - length (digits_backwards text.now) }
 {
     let mut chars = text.chars();
     let mut front = Front {
@@ -125,21 +143,25 @@ fn chars_front(text: &str) -> u128
         left: 16,
     };
     'digits: while front.left > 0 {
-        front = match chars.next_back() {
-            Some(c) => with_char(front, c),
-            None => with_digit(front, u32::from(END)),
+        let Some(c) = chars.next_back() else {
+            return with_end(front);
         };
+        front = with_char(front, c);
     }
-    front.number
+    front
 }
 
 /// The first 16 digits of a text's characters, last first, as a number: by its bytes, where it is
 /// short and ASCII.
-fn front_of(text: &str) -> u128
-    ensures { result ≡ front_key 0 16 (digits_backwards text.now) }
+fn front_of(text: &str) -> Front
+    ensures number { result.number ≡ front_key 0 16 (digits_backwards text.now) }
+    ensures left { result.left ≡ 16 - length (digits_backwards text.now) }
 {
     if text.len() <= SHORT && text.is_ascii() {
-        return bytes_front(text.as_bytes());
+        return Front {
+            number: bytes_front(text.as_bytes()),
+            left: 16usize.saturating_sub(text.len()) as u8,
+        };
     }
     chars_front(text)
 }
@@ -284,12 +306,14 @@ pub(crate) fn row_of(text: &str, index: u32) -> Row
     ensures index { result.index ≡ index }
     ensures front { row_key result ≡ front_key 0 16 (digits_backwards text.now) }
     ensures small { result.before < 2 ^ 64 }
+    ensures left { result.left ≡ 16 - length (digits_backwards text.now) }
 {
     let front = front_of(text);
     Row {
-        last: (front / EIGHT_DIGITS) as u64,
-        before: (front % EIGHT_DIGITS) as u64,
+        last: (front.number / EIGHT_DIGITS) as u64,
+        before: (front.number % EIGHT_DIGITS) as u64,
         index,
+        left: front.left,
     }
 }
 
@@ -300,18 +324,12 @@ fn key_of(row: &Row) -> u128
     u128::from(row.last) * EIGHT_DIGITS + u128::from(row.before)
 }
 
-/// Whether the first 16 digits of a text begin with those of another one, up to this one's end.
-fn begins_with(number: u128, start: u128) -> bool
-    ensures { (s t : List ℕ) → IsUtf8 s → IsUtf8 t → start ≡ front_key 0 16 (digits_backwards s)
-        → number ≡ front_key 0 16 (digits_backwards t) → TellsEnd result t s }
+/// The first 16 digits of a text without so many of them, the last ones.
+fn without_last(key: u128, count: u8) -> u128
+    ensures { (t : List ℕ) → IsUtf8 t → key ≡ front_key 0 16 (digits_backwards t) → count ≤ 16
+        → result ≡ front_key 0 (16 - count) (digits_backwards t) }
 {
-    let mut left = number;
-    let mut right = start;
-    'digits: while right % 256 == u128::from(END) {
-        left /= 256;
-        right /= 256;
-    }
-    left == right
+    key.unbounded_shr(8 * u32::from(count))
 }
 
 /// Whether the text of a row ends with that of another one, if this one has fewer than 16 digits;
@@ -320,7 +338,7 @@ pub(crate) fn may_end_with(row: &Row, end: &Row) -> bool
     ensures { (T : List (List ℕ)) → All IsUtf8 T → IsKeyed T row.now → IsKeyed T end.now
         → TellsEnd result (row_text T row.now) (row_text T end.now) }
 {
-    begins_with(key_of(row), key_of(end))
+    without_last(key_of(row), end.left) == without_last(key_of(end), end.left)
 }
 
 /// Whether one of the first 16 digits of a text is 0.
@@ -328,16 +346,7 @@ fn has_zero_digit(key: u128) -> bool
     ensures { (s : List ℕ) → IsUtf8 s → key ≡ front_key 0 16 (digits_backwards s) → result ≡ false
         → (k : ℕ) → k < 16 → 0 < slice_index_or (digits_backwards s) k 255 }
 {
-    let mut rest = key;
-    let mut left = 16u32;
-    'digits: while left > 0 {
-        if rest % 256 == 0 {
-            return true;
-        }
-        rest /= 256;
-        left -= 1;
-    }
-    false
+    key.to_be_bytes().contains(&0)
 }
 
 /// Whether the text of a row has fewer than 16 digits, but one at least, and none that is 0. Where
@@ -346,11 +355,10 @@ pub(crate) fn is_short(row: &Row) -> bool
     ensures { (T : List (List ℕ)) → All IsUtf8 T → IsKeyed T row.now → result ≡ true
         → IsShort (row_text T row.now) }
 {
-    let key = key_of(row);
-    if key % 256 != u128::from(END) {
+    if row.left == 0 {
         return false;
     }
-    key != u128::MAX && !has_zero_digit(key)
+    row.left < 16 && !has_zero_digit(key_of(row))
 }
 
 /// The rows of texts, in the order of these.

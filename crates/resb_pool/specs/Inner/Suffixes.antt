@@ -52,10 +52,12 @@ row_key r = r.last * 0x1_0000_0000_0000_0000 + r.before
 abbrev pub row_text : List (List ℕ) → Row → List ℕ
 row_text T r = text_numbered T r.index
 
--- the row has the first 16 digits of the text of its index, in two halves
+-- the row has the first 16 digits of the text of its index, in two halves, and how many of them
+-- stand behind the text's end
 pub record IsKeyed (T : List (List ℕ)) (r : Row) : Type 0 where
   pub front_is : row_key r ≡ front_key 0 16 (digits_backwards (row_text T r))
   pub small : r.before < 2 ^ 64
+  pub left_is : r.left ≡ 16 - length (digits_backwards (row_text T r))
 
 -- the row of a text
 pub record IsRowOf (T : List (List ℕ)) (r : Row) : Type 0 where

@@ -1,4 +1,4 @@
-use Rattle.std.proofs.Common.{rules, ◌≡◌, ◌<◌, [], length, get_or, ap, subst}
+use Rattle.std.proofs.Common.{rules, ◌≡◌, ◌<◌, ◌-◌, [], length, get_or, ap, subst}
 use Rattle.std.proofs.Common.{sym, ◌∙◌, arith, inl, inr, get_or-set_other, get_or-set_same}
 use Rattle.std.proofs.lemmas.Bool.{MatchBool-at_true, MatchBool-at_false}
 use Rattle.std.specs.Prelude.{slice_set}
@@ -16,7 +16,7 @@ use Rattle.resb_pool.proofs.containers.find_containers.Goals as goal
 use Rattle.resb_pool.proofs.Numbers.{old_or_new}
 
 abbrev no_row : Row
-no_row = record { last = 0; before = 0; index = 0 }
+no_row = record { last = 0; before = 0; index = 0; left = 0 }
 
 -- the row before the first is that of no text
 pub loop-row-init : goal.loop-row-init
@@ -31,6 +31,8 @@ loop-row-init c =
         front_is = c.row_of-previous.ensures.front
             ∙ ap (λ t. front_key 0 16 (digits_backwards t)) (sym none);
         small = c.row_of-previous.ensures.small;
+        left_is = c.row_of-previous.ensures.left
+            ∙ ap (λ t. 16 - length (digits_backwards t)) (sym none);
       };
       first = λ e. none;
       last = λ k d e. absurd (omega (arith, e));

@@ -1,4 +1,4 @@
-use Rattle.std.proofs.Common.{◌≡◌}
+use Rattle.std.proofs.Common.{◌≡◌, ◌-◌, length}
 use Rattle.std.specs.Str.{IsUtf8}
 use Rattle.std.specs.Str.Iter.{chars_rest}
 use Rattle.resb_pool.specs.Inner.Suffixes.{digits_backwards, front_key, IsPart}
@@ -10,6 +10,8 @@ invariant-digits l = record {
   part : IsPart l.front;
   same : front_key l.front.number l.front.left (digits_backwards (chars_rest l.chars))
       ≡ front_key 0 16 (digits_backwards l.text);
+  left : l.front.left - length (digits_backwards (chars_rest l.chars))
+      ≡ 16 - length (digits_backwards l.text);
 }
 
 abbrev pub decreases-digits : goal.decreases-digits

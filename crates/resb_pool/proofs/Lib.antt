@@ -22,9 +22,9 @@ mod SuffixOrder
 mod Cut
 mod Ends
 mod Digits
-mod FrontKeys
-mod FrontDigits
-mod ShortTexts
+mod EndKeys
+mod EndDigits
+mod FewDigits
 mod FrontBytes
 mod SuffixRuns
 mod Numbers

@@ -11,7 +11,7 @@ ghost use Rattle.resb_pool.specs.Inner.Placing.{AreContainers};
 ghost use Rattle.resb_pool.specs.Inner.Suffixes.{IsKeyed, IsSharedEnd, row_text};
 
 use crate::measure::Measure;
-use crate::suffix_order::{Row, in_suffix_order, is_short, may_end_with, row_of};
+use crate::suffix_order::{Row, in_suffix_order, is_whole_in_row, may_end_with, row_of};
 use crate::texts::indexed_text;
 use resb_format::is_unmarked;
 use std::alloc::{AllocError, Global};
@@ -37,7 +37,7 @@ fn lies_with(texts: &[&str], row: &Row, previous: &Row) -> bool
         → ⊥) }
 {
     may_end_with(previous, row)
-        && (is_short(row)
+        && (is_whole_in_row(row)
             || is_shared_end(
                 indexed_text(texts, row.index),
                 indexed_text(texts, previous.index),

@@ -8,8 +8,8 @@ ghost use Rattle.resb_pool.specs.Order.{suffix_cmp};
 ghost use Rattle.resb_pool.specs.Plan.{nows};
 ghost use Rattle.resb_pool.specs.Inner.Cuts.{IsCut, IsShared};
 ghost use Rattle.resb_pool.specs.Inner.Suffixes.{AreInOrder, IsRowOf, row_texts, keyed_cmp};
-ghost use Rattle.resb_pool.specs.Inner.Suffixes.{char_digits, digits_backwards, front_key, IsPart};
-ghost use Rattle.resb_pool.specs.Inner.Suffixes.{row_key, row_text, IsKeyed, IsShort, TellsEnd};
+ghost use Rattle.resb_pool.specs.Inner.Suffixes.{char_digits, digits_backwards, key_of_digits, IsPart};
+ghost use Rattle.resb_pool.specs.Inner.Suffixes.{row_key, row_text, IsKeyed, IsWholeInRow, TellsEnd};
 
 use crate::texts::indexed_text;
 use std::alloc::{AllocError, Global};
@@ -43,7 +43,7 @@ pub(crate) struct Row {
 /// The first digits of a text's characters, last character first, as a number, and how many digits
 /// are left until there are 16.
 #[derive(Clone, Copy)]
-pub(crate) struct Front {
+pub(crate) struct EndKey {
     pub(crate) number: u128,
     pub(crate) left: u8,
 }
@@ -60,8 +60,8 @@ fn byte_or_end(bytes: &[u8], place: usize) -> u8
 }
 
 /// The last 16 bytes as digits of a number, the last one in the highest place.
-fn bytes_front(bytes: &[u8]) -> u128
-    ensures { result ≡ front_key 0 16 (reverse bytes.now) }
+fn bytes_end_key(bytes: &[u8]) -> u128
+    ensures { result ≡ key_of_digits 0 16 (reverse bytes.now) }
 {
     u128::from_be_bytes([
         byte_or_end(bytes, 0),
@@ -84,86 +84,86 @@ fn bytes_front(bytes: &[u8]) -> u128
 }
 
 /// One digit more, if one is left.
-fn with_digit(front: Front, digit: u32) -> Front
-    requires part { IsPart front }
+fn with_digit(key: EndKey, digit: u32) -> EndKey
+    requires part { IsPart key }
     requires digit { digit < 256 }
     ensures part { IsPart result }
-    ensures left { result.left ≡ front.left - 1 }
-    ensures same { (ds : List ℕ) → front_key result.number result.left ds
-        ≡ front_key front.number front.left (digit ∷ ds) }
+    ensures left { result.left ≡ key.left - 1 }
+    ensures same { (ds : List ℕ) → key_of_digits result.number result.left ds
+        ≡ key_of_digits key.number key.left (digit ∷ ds) }
 {
-    if front.left == 0 {
-        return front;
+    if key.left == 0 {
+        return key;
     }
-    Front {
-        number: front.number * 256 + u128::from(digit),
-        left: front.left - 1,
+    EndKey {
+        number: key.number * 256 + u128::from(digit),
+        left: key.left - 1,
     }
 }
 
 /// The digits of a character more, as many as are left.
-fn with_char(front: Front, c: char) -> Front
-    requires part { IsPart front }
+fn with_char(key: EndKey, c: char) -> EndKey
+    requires part { IsPart key }
     ensures part { IsPart result }
-    ensures left { result.left ≡ front.left - length (char_digits c) }
-    ensures same { (ds : List ℕ) → front_key result.number result.left ds
-        ≡ front_key front.number front.left (char_digits c ++ ds) }
+    ensures left { result.left ≡ key.left - length (char_digits c) }
+    ensures same { (ds : List ℕ) → key_of_digits result.number result.left ds
+        ≡ key_of_digits key.number key.left (char_digits c ++ ds) }
 {
     let code = u32::from(c);
     if code <= 0x7f {
-        return with_digit(front, code);
+        return with_digit(key, code);
     }
-    let first = with_digit(front, 0x80 + code / 0x4000);
+    let first = with_digit(key, 0x80 + code / 0x4000);
     let second = with_digit(first, code / 0x80 % 0x80);
     with_digit(second, code % 0x80)
 }
 
 /// The end's digit for each that is left.
-fn with_end(front: Front) -> Front
-    requires { IsPart front }
-    ensures number { result.number ≡ front_key front.number front.left [] }
-    ensures left { result.left ≡ front.left }
+fn with_end(key: EndKey) -> EndKey
+    requires { IsPart key }
+    ensures number { result.number ≡ key_of_digits key.number key.left [] }
+    ensures left { result.left ≡ key.left }
 {
-    let bits = 8 * u32::from(front.left);
+    let bits = 8 * u32::from(key.left);
     let ends = u128::MAX.unbounded_shr(128 - bits);
-    Front {
-        number: front.number.unbounded_shl(bits) + ends,
-        left: front.left,
+    EndKey {
+        number: key.number.unbounded_shl(bits) + ends,
+        left: key.left,
     }
 }
 
 /// The first 16 digits of a text's characters, last first, as a number.
-fn chars_front(text: &str) -> Front
-    ensures number { result.number ≡ front_key 0 16 (digits_backwards text.now) }
+fn chars_end_key(text: &str) -> EndKey
+    ensures number { result.number ≡ key_of_digits 0 16 (digits_backwards text.now) }
     ensures left { result.left ≡ 16 - length (digits_backwards text.now) }
 {
     let mut chars = text.chars();
-    let mut front = Front {
+    let mut key = EndKey {
         number: 0,
         left: 16,
     };
-    'digits: while front.left > 0 {
+    'digits: while key.left > 0 {
         let Some(c) = chars.next_back() else {
-            return with_end(front);
+            return with_end(key);
         };
-        front = with_char(front, c);
+        key = with_char(key, c);
     }
-    front
+    key
 }
 
 /// The first 16 digits of a text's characters, last first, as a number: by its bytes, where it is
 /// short and ASCII.
-fn front_of(text: &str) -> Front
-    ensures number { result.number ≡ front_key 0 16 (digits_backwards text.now) }
+fn end_key_of(text: &str) -> EndKey
+    ensures number { result.number ≡ key_of_digits 0 16 (digits_backwards text.now) }
     ensures left { result.left ≡ 16 - length (digits_backwards text.now) }
 {
     if text.len() <= SHORT && text.is_ascii() {
-        return Front {
-            number: bytes_front(text.as_bytes()),
+        return EndKey {
+            number: bytes_end_key(text.as_bytes()),
             left: 16usize.saturating_sub(text.len()) as u8,
         };
     }
-    chars_front(text)
+    chars_end_key(text)
 }
 
 /// A text in two: its last bytes, so many of them or up to three more, and what stands before.
@@ -184,12 +184,12 @@ fn strip_blocks<'a, 'b>(left: &'a str, right: &'b str, size: usize) -> (&'a str,
 {
     let mut lefts = left;
     let mut rights = right;
-    while let Some((front, block)) = split_block(lefts, size) {
-        let Some(rest) = rights.strip_suffix(block) else {
+    while let Some((left_rest, block)) = split_block(lefts, size) {
+        let Some(right_rest) = rights.strip_suffix(block) else {
             break;
         };
-        lefts = front;
-        rights = rest;
+        lefts = left_rest;
+        rights = right_rest;
     }
     (lefts, rights)
 }
@@ -216,11 +216,11 @@ fn shared_bytes(left: &[u8], right: &[u8]) -> usize
 {
     let mut lefts = left;
     let mut rights = right;
-    'bytes: while let Some((left_byte, left_front)) = lefts.split_last() {
+    'bytes: while let Some((left_byte, left_rest)) = lefts.split_last() {
         match rights.split_last() {
-            Some((right_byte, right_front)) if left_byte == right_byte => {
-                lefts = left_front;
-                rights = right_front;
+            Some((right_byte, right_rest)) if left_byte == right_byte => {
+                lefts = left_rest;
+                rights = right_rest;
             }
             _ => break,
         }
@@ -234,16 +234,16 @@ fn shared_len(left: &[u8], right: &[u8]) -> usize
 {
     let mut lefts = left;
     let mut rights = right;
-    'blocks: while let Some((left_front, left_block)) = lefts.split_last_chunk::<8>() {
-        let Some((right_front, right_block)) = rights.split_last_chunk::<8>() else {
+    'blocks: while let Some((left_rest, left_block)) = lefts.split_last_chunk::<8>() {
+        let Some((right_rest, right_block)) = rights.split_last_chunk::<8>() else {
             break;
         };
         let shared = shared_of_eight(left_block, right_block);
         if shared < 8 {
             return left.len() - lefts.len() + shared;
         }
-        lefts = left_front;
-        rights = right_front;
+        lefts = left_rest;
+        rights = right_rest;
     }
     left.len() - lefts.len() + shared_bytes(lefts, rights)
 }
@@ -254,11 +254,11 @@ fn strip_shared<'a, 'b>(left: &'a str, right: &'b str) -> (&'a str, &'b str)
     ensures { IsShared left.now right.now result.0.now result.1.now }
 {
     let count = shared_len(left.as_bytes(), right.as_bytes());
-    let Some((front, end)) = split_end(left, count) else {
+    let Some((left_rest, end)) = split_end(left, count) else {
         return (left, right);
     };
     match right.strip_suffix(end) {
-        Some(rest) => (front, rest),
+        Some(right_rest) => (left_rest, right_rest),
         None => (left, right),
     }
 }
@@ -270,9 +270,9 @@ fn compare(left: &str, right: &str) -> Ordering
     ensures { result ≡ suffix_cmp left.now right.now }
 {
     let (left_long, right_long) = strip_blocks(left, right, LONG_BLOCK);
-    let (left_front, right_front) = strip_shared(left_long, right_long);
-    let mut lefts = left_front.chars();
-    let mut rights = right_front.chars();
+    let (left_rest, right_rest) = strip_shared(left_long, right_long);
+    let mut lefts = left_rest.chars();
+    let mut rights = right_rest.chars();
     loop {
         match (lefts.next_back(), rights.next_back()) {
             (Some(x), Some(y)) if x == y => {}
@@ -304,16 +304,16 @@ fn compare_rows(texts: &[&str], left: &Row, right: &Row) -> Ordering
 /// The row of a text.
 pub(crate) fn row_of(text: &str, index: u32) -> Row
     ensures index { result.index ≡ index }
-    ensures front { row_key result ≡ front_key 0 16 (digits_backwards text.now) }
+    ensures key { row_key result ≡ key_of_digits 0 16 (digits_backwards text.now) }
     ensures small { result.before < 2 ^ 64 }
     ensures left { result.left ≡ 16 - length (digits_backwards text.now) }
 {
-    let front = front_of(text);
+    let key = end_key_of(text);
     Row {
-        last: (front.number / EIGHT_DIGITS) as u64,
-        before: (front.number % EIGHT_DIGITS) as u64,
+        last: (key.number / EIGHT_DIGITS) as u64,
+        before: (key.number % EIGHT_DIGITS) as u64,
         index,
-        left: front.left,
+        left: key.left,
     }
 }
 
@@ -326,8 +326,8 @@ fn key_of(row: &Row) -> u128
 
 /// The first 16 digits of a text without so many of them, the last ones.
 fn without_last(key: u128, count: u8) -> u128
-    ensures { (t : List ℕ) → IsUtf8 t → key ≡ front_key 0 16 (digits_backwards t) → count ≤ 16
-        → result ≡ front_key 0 (16 - count) (digits_backwards t) }
+    ensures { (t : List ℕ) → IsUtf8 t → key ≡ key_of_digits 0 16 (digits_backwards t) → count ≤ 16
+        → result ≡ key_of_digits 0 (16 - count) (digits_backwards t) }
 {
     key.unbounded_shr(8 * u32::from(count))
 }
@@ -343,7 +343,7 @@ pub(crate) fn may_end_with(row: &Row, end: &Row) -> bool
 
 /// Whether one of the first 16 digits of a text is 0.
 fn has_zero_digit(key: u128) -> bool
-    ensures { (s : List ℕ) → IsUtf8 s → key ≡ front_key 0 16 (digits_backwards s) → result ≡ false
+    ensures { (s : List ℕ) → IsUtf8 s → key ≡ key_of_digits 0 16 (digits_backwards s) → result ≡ false
         → (k : ℕ) → k < 16 → 0 < slice_index_or (digits_backwards s) k 255 }
 {
     key.to_be_bytes().contains(&0)
@@ -351,9 +351,9 @@ fn has_zero_digit(key: u128) -> bool
 
 /// Whether the text of a row has fewer than 16 digits, but one at least, and none that is 0. Where
 /// it is not, it may still have no marker.
-pub(crate) fn is_short(row: &Row) -> bool
+pub(crate) fn is_whole_in_row(row: &Row) -> bool
     ensures { (T : List (List ℕ)) → All IsUtf8 T → IsKeyed T row.now → result ≡ true
-        → IsShort (row_text T row.now) }
+        → IsWholeInRow (row_text T row.now) }
 {
     if row.left == 0 {
         return false;

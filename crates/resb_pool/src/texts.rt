@@ -4,7 +4,7 @@ ghost use Rattle.std.specs.Prelude.{◌≡◌, ◌++◌, ◌∷◌, ◌<◌, ◌
 ghost use Rattle.std.specs.Prelude.{length};
 ghost use Rattle.resb_format.specs.Units.{units};
 ghost use Rattle.resb_pool.specs.Plan.{nows, first_too_long, texts_size, NotPlanned};
-ghost use Rattle.resb_pool.specs.Inner.Placing.{AreTexts, AreTurns, text_numbered};
+ghost use Rattle.resb_pool.specs.Inner.Placing.{AreTexts, AreTurns, indexed_text};
 
 use crate::error::PlanError;
 use crate::measure::{Measure, SIZE_LIMIT, is_vast};
@@ -29,7 +29,7 @@ pub(crate) struct Texts<'a> {
 /// The text of an index, or the empty one where there is no such text.
 #[inline(always)]
 pub(crate) fn indexed_text<'a>(texts: &[&'a str], index: u32) -> &'a str
-    ensures { result.now ≡ text_numbered (nows texts.now) index }
+    ensures { result.now ≡ indexed_text (nows texts.now) index }
 {
     texts.get(index as usize).copied().unwrap_or("")
 }

@@ -2,7 +2,7 @@ use Rattle.std.proofs.Common.{◌≡◌, ◌<◌, ◌≤◌, ℕ, List, [], ◌�
 use Rattle.std.proofs.Common.{arith, refl}
 use Rattle.std.proofs.lemmas.List.{length_push, length-map, get_or_read}
 use Rattle.resb_pool.specs.Plan.{nows}
-use Rattle.resb_pool.specs.Inner.Placing.{text_numbered, AreTexts, AreTurns}
+use Rattle.resb_pool.specs.Inner.Placing.{indexed_text, AreTexts, AreTurns}
 use Rattle.resb_pool.specs.Inner.Firsts.{IsFirst}
 use Rattle.resb_pool.specs.declared.listed_texts.ListedTexts.{ListedTexts}
 use Rattle.resb_pool.proofs.Interning.{count_is, count_fits, counted, length-nows}
@@ -99,7 +99,7 @@ overflow_cast-index-2 c =
       is.turned.few,
       length_push turns c.if-first-len.index,
       ap length g.3.texts,
-      length-map turns (text_numbered (nows c.args.list.now.texts.items)),
+      length-map turns (indexed_text (nows c.args.list.now.texts.items)),
       strings_few g.0,
       g.1,
     )

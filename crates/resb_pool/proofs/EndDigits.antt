@@ -15,14 +15,14 @@ use Rattle.std.proofs.lemmas.Grind.{flat_map-append}
 use Rattle.resb_pool.specs.Records.{EndsWith}
 use Rattle.resb_pool.specs.Inner.Cuts.{chars_backwards}
 use Rattle.resb_pool.specs.Inner.Extends.{Extends}
-use Rattle.resb_pool.specs.Inner.Suffixes.{char_digits, digits_backwards, front_key}
+use Rattle.resb_pool.specs.Inner.Suffixes.{char_digits, digits_backwards, key_of_digits}
 use Rattle.resb_pool.specs.Inner.Suffixes.{digits_bound}
 use Rattle.resb_pool.proofs.Cut.{ends_extends, extends_ends}
 use Rattle.resb_pool.proofs.Digits.{IsSmall, small_key, ascii_digit, other_digits}
-use Rattle.resb_pool.proofs.FrontKeys.{head_small, tail_small, less_kept}
+use Rattle.resb_pool.proofs.EndKeys.{head_small, tail_small, less_kept}
 
 -- without its last digit a number has one digit less
-shorter : (n a : ℕ) (ds : List ℕ) → IsSmall ds → front_key a (suc n) ds / 256 ≡ front_key a n ds
+shorter : (n a : ℕ) (ds : List ℕ) → IsSmall ds → key_of_digits a (suc n) ds / 256 ≡ key_of_digits a n ds
 shorter zero a [] s = omega arith
 shorter zero a (d ∷ ds) s = omega (arith, head_small d ds s)
 shorter (suc n) a [] s = shorter n (a * 256 + 255) [] s
@@ -30,26 +30,26 @@ shorter (suc n) a (d ∷ ds) s = shorter n (a * 256 + d) ds (tail_small d ds s)
 
 -- the last digit of a number
 pub last_digit : (n a : ℕ) (ds : List ℕ) → IsSmall ds
-    → front_key a (suc n) ds % 256 ≡ get_or ds n 255
+    → key_of_digits a (suc n) ds % 256 ≡ get_or ds n 255
 last_digit zero a [] s = omega arith
 last_digit zero a (d ∷ ds) s = omega (arith, head_small d ds s)
 last_digit (suc n) a [] s = last_digit n (a * 256 + 255) [] s
 last_digit (suc n) a (d ∷ ds) s = last_digit n (a * 256 + d) ds (tail_small d ds s)
 
 -- a number that isn't the end of another's begins with its digits
-fronts_extend : (n a : ℕ) (ds es : List ℕ) → IsSmall ds → IsSmall es → length ds ≡ n
-    → front_key a n ds ≡ front_key a n es → Extends es ds
-fronts_extend zero a [] es s t e f = record { rest = es; is = refl }
-fronts_extend zero a (d ∷ ds) es s t e f = absurd (omega (arith, e))
-fronts_extend (suc n) a [] es s t e f = absurd (omega (arith, e))
-fronts_extend (suc n) a (d ∷ ds) [] s t e f =
+keys_extend : (n a : ℕ) (ds es : List ℕ) → IsSmall ds → IsSmall es → length ds ≡ n
+    → key_of_digits a n ds ≡ key_of_digits a n es → Extends es ds
+keys_extend zero a [] es s t e f = record { rest = es; is = refl }
+keys_extend zero a (d ∷ ds) es s t e f = absurd (omega (arith, e))
+keys_extend (suc n) a [] es s t e f = absurd (omega (arith, e))
+keys_extend (suc n) a (d ∷ ds) [] s t e f =
     absurd (omega (
       arith,
       f,
       less_kept n (a * 256 + d) (a * 256 + 255) ds [] (tail_small d ds s) t
           (omega (arith, head_small d ds s)),
     ))
-fronts_extend (suc n) a (d ∷ ds) (x ∷ es) s t e f =
+keys_extend (suc n) a (d ∷ ds) (x ∷ es) s t e f =
     let u = tail_small d ds s in
     let v = tail_small x es t in
     elim (cases_lt d x) [
@@ -66,15 +66,15 @@ fronts_extend (suc n) a (d ∷ ds) (x ∷ es) s t e f =
         ))
         | inr m ↦
             let q : x ≡ d = omega (arith, l, m) in
-            let k = fronts_extend n (a * 256 + d) ds es u v (omega (arith, e))
-            (f ∙ ap (λ z. front_key (a * 256 + z) n es) q) in
+            let k = keys_extend n (a * 256 + d) ds es u v (omega (arith, e))
+            (f ∙ ap (λ z. key_of_digits (a * 256 + z) n es) q) in
             record { rest = k.rest; is = ap (λ z. z ∷ es) q ∙ ap (λ l. d ∷ l) k.is }
       ]
     ]
 
 -- of as many digits as there are, what follows them is none
 begun : (n a : ℕ) (ds rest : List ℕ) → n ≤ length ds
-    → front_key a n (ds ++ rest) ≡ front_key a n ds
+    → key_of_digits a n (ds ++ rest) ≡ key_of_digits a n ds
 begun zero a ds rest l = refl
 begun (suc n) a [] rest l = absurd (omega (arith, l))
 begun (suc n) a (d ∷ ds) rest l = begun n (a * 256 + d) ds rest (omega (arith, l))
@@ -158,59 +158,59 @@ bytes_power (suc n) =
 
 -- without so many of its last digits a number has so many less
 pub dropped : (count n a : ℕ) (ds : List ℕ) → IsSmall ds
-    → front_key a (n + count) ds / 2 ^ (8 * count) ≡ front_key a n ds
+    → key_of_digits a (n + count) ds / 2 ^ (8 * count) ≡ key_of_digits a n ds
 dropped zero n a ds s =
     let m : n + 0 ≡ n = omega arith in
-    let e : front_key a (n + 0) ds ≡ front_key a n ds = ap (λ z. front_key a z ds) m in
+    let e : key_of_digits a (n + 0) ds ≡ key_of_digits a n ds = ap (λ z. key_of_digits a z ds) m in
     omega (arith, e)
 dropped (suc count) n a ds s =
     let m : n + suc count ≡ suc (n + count) = omega arith in
     let k : 8 * suc count ≡ 8 + 8 * count = omega arith in
-    let all : ℕ = front_key a (suc (n + count)) ds in
-    ap (λ z. front_key a z ds / 2 ^ (8 * suc count)) m ∙ ap (λ z. all / 2 ^ z) k
+    let all : ℕ = key_of_digits a (suc (n + count)) ds in
+    ap (λ z. key_of_digits a z ds / 2 ^ (8 * suc count)) m ∙ ap (λ z. all / 2 ^ z) k
     ∙ sym (shr-shr all 8 (8 * count)) ∙ ap (λ z. z / 2 ^ (8 * count)) (shorter (n + count) a ds s)
     ∙ dropped count n a ds s
 
 -- the same of the first 16 digits, as the code computes it
 pub first_digits : (count key : ℕ) (ds : List ℕ) → IsSmall ds → count ≤ 16
-    → key ≡ front_key 0 16 ds
-    → (if nat_lt (8 * count) 128 then key / 2 ^ (8 * count) else 0) ≡ front_key 0 (16 - count) ds
+    → key ≡ key_of_digits 0 16 ds
+    → (if nat_lt (8 * count) 128 then key / 2 ^ (8 * count) else 0) ≡ key_of_digits 0 (16 - count) ds
 first_digits count key ds s m e = elim (cases_lt count 16) [
   | inl l ↦
       let n : 16 ≡ 16 - count + count = omega (arith, l) in
       ap (λ b. if b then key / 2 ^ (8 * count) else 0)
       (lt-ltb (8 * count) 128 (omega (arith, l)))
-      ∙ ap (λ z. z / 2 ^ (8 * count)) (e ∙ ap (λ z. front_key 0 z ds) n)
+      ∙ ap (λ z. z / 2 ^ (8 * count)) (e ∙ ap (λ z. key_of_digits 0 z ds) n)
       ∙ dropped count (16 - count) 0 ds s
   | inr l ↦
       let n : 16 - count ≡ 0 = omega (arith, l) in
       ap (λ b. if b then key / 2 ^ (8 * count) else 0)
-      (le-ltb (8 * count) 128 (omega (arith, l))) ∙ ap (λ z. front_key 0 z ds) (sym n)
+      (le-ltb (8 * count) 128 (omega (arith, l))) ∙ ap (λ z. key_of_digits 0 z ds) (sym n)
 ]
 
 -- a text that ends with another has the same first digits, as many as the other has
 pub same_digits : (s t : List ℕ) (n : ℕ) → IsUtf8 s → IsUtf8 t → n ≤ length (digits_backwards s)
-    → EndsWith t s → front_key 0 n (digits_backwards t) ≡ front_key 0 n (digits_backwards s)
+    → EndsWith t s → key_of_digits 0 n (digits_backwards t) ≡ key_of_digits 0 n (digits_backwards s)
 same_digits s t n u v l ends =
     let e = digits_end t s v u ends in
-    ap (front_key 0 n) e.is ∙ begun n 0 (digits_backwards s) e.rest l
+    ap (key_of_digits 0 n) e.is ∙ begun n 0 (digits_backwards s) e.rest l
 
 -- and a text whose first digits are all digits of another ends with it
 pub digits_tell : (s t : List ℕ) (n : ℕ) → IsUtf8 s → IsUtf8 t → n ≡ length (digits_backwards s)
-    → front_key 0 n (digits_backwards t) ≡ front_key 0 n (digits_backwards s) → EndsWith t s
+    → key_of_digits 0 n (digits_backwards t) ≡ key_of_digits 0 n (digits_backwards s) → EndsWith t s
 digits_tell s t n u v l e =
     let ds = digits_backwards s in
     let es = digits_backwards t in
-    ends_digits t s v u (fronts_extend n 0 ds es (small_key s u) (small_key t v) (sym l) (sym e))
+    ends_digits t s v u (keys_extend n 0 ds es (small_key s u) (small_key t v) (sym l) (sym e))
 
 -- a digit of 16 as the byte of their number
-byte_is : (i key : ℕ) (ds : List ℕ) → IsSmall ds → i < 16 → key ≡ front_key 0 16 ds
+byte_is : (i key : ℕ) (ds : List ℕ) → IsSmall ds → i < 16 → key ≡ key_of_digits 0 16 ds
     → byte_at i key ≡ get_or ds (15 - i) 255
 byte_is i key ds s l e =
     let n : 16 ≡ 16 - i + i = omega (arith, l) in
     let m : 16 - i ≡ suc (15 - i) = omega (arith, l) in
-    as_shift i key ∙ ap (λ z. z / 2 ^ (8 * i) % 256) (e ∙ ap (λ z. front_key 0 z ds) n)
-    ∙ ap (λ z. z % 256) (dropped i (16 - i) 0 ds s ∙ ap (λ z. front_key 0 z ds) m)
+    as_shift i key ∙ ap (λ z. z / 2 ^ (8 * i) % 256) (e ∙ ap (λ z. key_of_digits 0 z ds) n)
+    ∙ ap (λ z. z % 256) (dropped i (16 - i) 0 ds s ∙ ap (λ z. key_of_digits 0 z ds) m)
     ∙ last_digit (15 - i) 0 ds s
   where
     as_shift : (i key : ℕ) → byte_at i key ≡ key / 2 ^ (8 * i) % 256
@@ -229,7 +229,7 @@ no_zero_byte (suc n) key e i l =
     ]
 
 -- where no byte of the number is 0, no digit is
-pub no_zero_digit : (key : ℕ) (ds : List ℕ) → IsSmall ds → key ≡ front_key 0 16 ds
+pub no_zero_digit : (key : ℕ) (ds : List ℕ) → IsSmall ds → key ≡ key_of_digits 0 16 ds
     → list_any (λ b. nat_eq b 0) (bytes_high_first 16 key) ≡ false
     → (k : ℕ) → k < 16 → 0 < get_or ds k 255
 no_zero_digit key ds s e none k l =
@@ -240,7 +240,7 @@ no_zero_digit key ds s e none k l =
 
 -- what is left of 16 digits is filled with the end's digit
 end_digits : (left number : ℕ)
-    → front_key number left [] ≡ number * 2 ^ (8 * left) + (2 ^ (8 * left) - 1)
+    → key_of_digits number left [] ≡ number * 2 ^ (8 * left) + (2 ^ (8 * left) - 1)
 end_digits zero number = omega arith
 end_digits (suc left) number =
     end_digits left (number * 256 + 255)
@@ -260,8 +260,8 @@ bound_is (suc n) = omega (arith, bound_is n, next_power n)
 pub filled : (left number : ℕ) → left ≤ 16 → number < digits_bound (16 - left)
     → ((if nat_lt (8 * left) 128 then number * 2 ^ (8 * left) % 2 ^ 128 else 0)
     + (if nat_lt (128 - 8 * left) 128 then (2 ^ 128 - 1) / 2 ^ (128 - 8 * left) else 0)
-    ≡ front_key number left [])
-    × (front_key number left [] < 2 ^ 128)
+    ≡ key_of_digits number left [])
+    × (key_of_digits number left [] < 2 ^ 128)
 filled left number l small =
     let k = 8 * left in
     let j : 8 * (16 - left) ≡ 128 - k = omega (arith, l) in

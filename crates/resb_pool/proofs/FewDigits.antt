@@ -14,7 +14,7 @@ use Rattle.std.proofs.lemmas.List.Sorted.{All-permutation, IsPermutation-reverse
 use Rattle.std.proofs.lemmas.Str.{encodes-chars, chars-nil, inside_one}
 use Rattle.resb_format.specs.Units.{units}
 use Rattle.resb_pool.specs.Inner.Cuts.{chars_backwards}
-use Rattle.resb_pool.specs.Inner.Suffixes.{char_digits, digits_backwards, IsShort}
+use Rattle.resb_pool.specs.Inner.Suffixes.{char_digits, digits_backwards, IsWholeInRow}
 use Rattle.resb_pool.proofs.Digits.{ascii_digit}
 use Rattle.resb_pool.proofs.Zeros.{has_zero, has_zero-append}
 
@@ -88,10 +88,10 @@ nonempty [] l =
 nonempty (b ∷ bs) l = omega arith
 
 -- by the number of its digits
-pub short_text : (s : List ℕ) → IsUtf8 s → 0 < length (digits_backwards s)
+pub few_digits : (s : List ℕ) → IsUtf8 s → 0 < length (digits_backwards s)
     → length (digits_backwards s) < 16
-    → ((k : ℕ) → k < 16 → 0 < get_or (digits_backwards s) k 255) → IsShort s
-short_text s u some few positive =
+    → ((k : ℕ) → k < 16 → 0 < get_or (digits_backwards s) k 255) → IsWholeInRow s
+few_digits s u some few positive =
     let backwards = chars_positive (chars_backwards s)
     (λ k l. positive k (omega (arith, l, few))) in
     let all : All (λ c. 0 < c) (chars s) =

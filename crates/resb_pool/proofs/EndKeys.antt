@@ -1,4 +1,4 @@
--- Rows whose fronts differ compare as these do.
+-- Rows whose keys differ compare as these do.
 use Rattle.std.proofs.Common.{◌≡◌, ℕ, zero, suc, ◌+◌, ◌-◌, ◌*◌, ◌<◌, ◌≤◌, List, [], ◌∷◌}
 use Rattle.std.proofs.Common.{get_or, length, inl, inr, false, refl, sym, ◌∙◌, ap, subst, arith}
 use Rattle.std.specs.List.{All}

@@ -23,6 +23,7 @@ mod Cut
 mod Ends
 mod Digits
 mod EndKeys
+mod KeyDigits
 mod EndDigits
 mod FewDigits
 mod FrontBytes

@@ -44,9 +44,9 @@ fn lies_with(texts: &[&str], row: &Row, previous: &Row) -> bool
             ))
 }
 
-/// The index of the text in whose record each of distinct texts lies; the empty text, which has no
-/// record, lies in itself. What ends with a text stands in one run before it in suffix order, so
-/// the text lies where the one right before it lies, or is a record.
+/// The index of the text in whose record each of distinct texts lies. The empty text has no record,
+/// and lies in itself. In suffix order all texts that end with a text stand in one run right before
+/// it. So the text lies where the one right before it lies, or is a record.
 pub(crate) fn find_containers(alloc: Global, texts: &[&str]) -> Result<Vec<u32>, AllocError>
     requires utf8 { All IsUtf8 (nows texts.now) }
     requires distinct { EachOnce (nows texts.now) }
@@ -74,7 +74,7 @@ pub(crate) fn find_sums(
     measures: &[Measure],
 ) -> Result<Vec<u32>, AllocError>
     requires len { length measures.now ≡ length containers.now }
-    requires within { All (λ h. h < length containers.now) containers.now }
+    requires within { All (λ c. c < length containers.now) containers.now }
     requires small { sum_by (λ m. m.total) measures.now < 2 ^ 32 }
     ensures { IfOk result (λ v. AreLyingIn containers.now measures.now v.items) }
 {

@@ -60,9 +60,13 @@ impl<'a> ListedTexts<'a> {
     }
 }
 
-/// Adds a copy of a text, where the number of its first copy is known, and gives the number of its
-/// units.
-fn add<'a>(list: &mut ListedTexts<'a>, text: &'a str, first: usize) -> Result<usize, AllocError>
+/// Adds a copy of a text, and gives the number of its units. The number of the text's first copy is
+/// known.
+fn add_known<'a>(
+    list: &mut ListedTexts<'a>,
+    text: &'a str,
+    first: usize,
+) -> Result<usize, AllocError>
     requires given { (done : List (List ℕ)) × (texts_size done < 2 ^ 28)
         × AreTexts done (nows list.old.texts.items) list.old.measures.items
         × AreTurns done (nows list.old.texts.items) list.old.order.items
@@ -80,13 +84,14 @@ fn add<'a>(list: &mut ListedTexts<'a>, text: &'a str, first: usize) -> Result<us
         → IsFirst (done ++ text.now ∷ []) (length done) first
         → AreTurns (done ++ text.now ∷ []) (nows list.new.texts.items) list.new.order.items) }
 {
-    let mut index = list.texts.len();
-    if first < list.order.len() {
-        index = list.order[first] as usize;
+    let index = if first < list.order.len() {
+        list.order[first] as usize
     } else {
+        let next = list.texts.len();
         list.texts.push(text)?;
         list.measures.push(Measure::of(text))?;
-    }
+        next
+    };
     let measure = &mut list.measures[index];
     measure.total += measure.size;
     let count = measure.unit_count as usize;
@@ -116,7 +121,7 @@ pub(crate) fn by_firsts<'a>(
         if is_vast(text) {
             return Err(PlanError::TooLarge);
         }
-        size += 16 + add(&mut list, text, firsts[number] as usize)?;
+        size += 16 + add_known(&mut list, text, firsts[number] as usize)?;
         if size >= SIZE_LIMIT {
             return Err(PlanError::TooLarge);
         }

@@ -1,15 +1,15 @@
 //! Texts in the order of their characters from the end, in which what ends with a text stands
 //! before it. In which record a text lies is said in `containers`.
 ghost use Rattle.std.specs.Prelude.{◌≡◌, ◌<◌, ◌≤◌, ◌-◌, ◌∷◌, ◌++◌, ◌^◌, ℕ, List, length, reverse};
-ghost use Rattle.std.specs.Prelude.{[]};
-ghost use Rattle.std.specs.Prelude.{All, IfOk, IfSome, slice_index_or, true, false};
+ghost use Rattle.std.specs.Prelude.{[], All, IfOk, IfSome, slice_index_or, true, false};
 ghost use Rattle.std.specs.Str.{IsUtf8};
 ghost use Rattle.resb_pool.specs.Order.{suffix_cmp};
 ghost use Rattle.resb_pool.specs.Plan.{nows};
 ghost use Rattle.resb_pool.specs.Inner.Cuts.{IsCut, IsShared};
 ghost use Rattle.resb_pool.specs.Inner.Suffixes.{AreInOrder, IsRowOf, row_texts, keyed_cmp};
-ghost use Rattle.resb_pool.specs.Inner.Suffixes.{char_digits, digits_backwards, key_of_digits, IsPart};
-ghost use Rattle.resb_pool.specs.Inner.Suffixes.{row_key, row_text, IsKeyed, IsWholeInRow, TellsEnd};
+ghost use Rattle.resb_pool.specs.Inner.Suffixes.{char_digits, digits_backwards, key_of_digits};
+ghost use Rattle.resb_pool.specs.Inner.Suffixes.{row_key, row_text, IsPart, IsKeyed};
+ghost use Rattle.resb_pool.specs.Inner.Suffixes.{IsWholeInRow, TellsEnd};
 
 use crate::texts::indexed_text;
 use std::alloc::{AllocError, Global};
@@ -27,21 +27,23 @@ const END: u8 = 255;
 /// What eight digits stay below.
 const EIGHT_DIGITS: u128 = 0x1_0000_0000_0000_0000;
 
-/// A text by its index, with the digits that tell it from most others: so rows are sorted and read
-/// one after the other, and few texts are looked at.
+/// A text by its index, with the first 16 digits of its characters, last character first. These
+/// tell it from most other texts. So rows are sorted and read one after the other, and few texts
+/// are looked at.
 #[derive(Clone, Copy)]
 pub(crate) struct Row {
-    /// The first eight digits of the text's characters, last character first.
+    /// The first eight digits.
     pub(crate) last: u64,
     /// The next eight digits.
     pub(crate) before: u64,
     pub(crate) index: u32,
-    /// How many of these 16 digits stand behind the text's end.
+    /// How many of the 16 digits stand behind the text's end.
     pub(crate) left: u8,
 }
 
-/// The first digits of a text's characters, last character first, as a number, and how many digits
-/// are left until there are 16.
+/// The first digits of a text's characters, last character first, as a number. The text has given
+/// all of 16 digits but those that are left. In a whole key the end's digit stands for each that
+/// is left.
 #[derive(Clone, Copy)]
 pub(crate) struct EndKey {
     pub(crate) number: u128,
@@ -118,7 +120,8 @@ fn with_char(key: EndKey, c: char) -> EndKey
     with_digit(second, code % 0x80)
 }
 
-/// The end's digit for each that is left.
+/// The whole key of a text that has no more characters: the end's digit stands for each digit that
+/// is left.
 fn with_end(key: EndKey) -> EndKey
     requires { IsPart key }
     ensures number { result.number ≡ key_of_digits key.number key.left [] }
@@ -132,7 +135,7 @@ fn with_end(key: EndKey) -> EndKey
     }
 }
 
-/// The first 16 digits of a text's characters, last first, as a number.
+/// The whole key of a text.
 fn chars_end_key(text: &str) -> EndKey
     ensures number { result.number ≡ key_of_digits 0 16 (digits_backwards text.now) }
     ensures left { result.left ≡ 16 - length (digits_backwards text.now) }
@@ -151,8 +154,7 @@ fn chars_end_key(text: &str) -> EndKey
     key
 }
 
-/// The first 16 digits of a text's characters, last first, as a number: by its bytes, where it is
-/// short and ASCII.
+/// The whole key of a text. It is made of the text's bytes, where the text is short and ASCII.
 fn end_key_of(text: &str) -> EndKey
     ensures number { result.number ≡ key_of_digits 0 16 (digits_backwards text.now) }
     ensures left { result.left ≡ 16 - length (digits_backwards text.now) }
@@ -263,8 +265,8 @@ fn strip_shared<'a, 'b>(left: &'a str, right: &'b str) -> (&'a str, &'b str)
     }
 }
 
-/// How two texts compare by their characters, last first. The end of a text is the greatest. It is
-/// kept out of the sort, which for most rows only compares numbers.
+/// How two texts compare by their characters, last first. The end of a text is the greatest. This
+/// call is kept out of the sort, which for most rows only compares numbers.
 #[inline(never)]
 fn compare(left: &str, right: &str) -> Ordering
     ensures { result ≡ suffix_cmp left.now right.now }
@@ -324,7 +326,7 @@ fn key_of(row: &Row) -> u128
     u128::from(row.last) * EIGHT_DIGITS + u128::from(row.before)
 }
 
-/// The first 16 digits of a text without so many of them, the last ones.
+/// The first 16 digits of a text, without so many at their end.
 fn without_last(key: u128, count: u8) -> u128
     ensures { (t : List ℕ) → IsUtf8 t → key ≡ key_of_digits 0 16 (digits_backwards t) → count ≤ 16
         → result ≡ key_of_digits 0 (16 - count) (digits_backwards t) }
@@ -332,8 +334,8 @@ fn without_last(key: u128, count: u8) -> u128
     key.unbounded_shr(8 * u32::from(count))
 }
 
-/// Whether the text of a row ends with that of another one, if this one has fewer than 16 digits;
-/// whether it may, otherwise.
+/// Whether the text of a row ends with that of another row. Where the other text has 16 digits or
+/// more, it is whether it may end with it.
 pub(crate) fn may_end_with(row: &Row, end: &Row) -> bool
     ensures { (T : List (List ℕ)) → All IsUtf8 T → IsKeyed T row.now → IsKeyed T end.now
         → TellsEnd result (row_text T row.now) (row_text T end.now) }
@@ -343,14 +345,14 @@ pub(crate) fn may_end_with(row: &Row, end: &Row) -> bool
 
 /// Whether one of the first 16 digits of a text is 0.
 fn has_zero_digit(key: u128) -> bool
-    ensures { (s : List ℕ) → IsUtf8 s → key ≡ key_of_digits 0 16 (digits_backwards s) → result ≡ false
-        → (k : ℕ) → k < 16 → 0 < slice_index_or (digits_backwards s) k 255 }
+    ensures { (s : List ℕ) → IsUtf8 s → key ≡ key_of_digits 0 16 (digits_backwards s)
+        → result ≡ false → (k : ℕ) → k < 16 → 0 < slice_index_or (digits_backwards s) k 255 }
 {
     key.to_be_bytes().contains(&0)
 }
 
-/// Whether the text of a row has fewer than 16 digits, but one at least, and none that is 0. Where
-/// it is not, it may still have no marker.
+/// Whether the row has all of its text's digits, one at least and none that is 0. Such a text has
+/// no marker. Another text may have none either.
 pub(crate) fn is_whole_in_row(row: &Row) -> bool
     ensures { (T : List (List ℕ)) → All IsUtf8 T → IsKeyed T row.now → result ≡ true
         → IsWholeInRow (row_text T row.now) }

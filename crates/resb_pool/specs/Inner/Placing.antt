@@ -2,8 +2,8 @@
 --     AreTexts S T ms         T are the texts of S, and ms their measures
 --     AreTurns S T is         the strings S are the texts of the indexes is, one by one
 --     LiesAt T i r            the text i lies in the text r
---     AreContainers T hs      each text lies in the one that hs has at its index
---     lying_in hs ms q        what all copies that lie in the text q would take
+--     AreContainers T cs      each text lies in the one that cs has at its index
+--     lying_in cs ms q        what all copies that lie in the text q would take
 --     AreEnds rs done es      es says where each record done closes
 use Rattle.std.specs.Prelude.{◌≡◌, ℕ, zero, suc, ◌+◌, ◌-◌, ◌*◌, ◌^◌, ◌<◌, ◌≤◌, List, []}
 use Rattle.std.specs.Prelude.{◌∷◌, length}
@@ -58,15 +58,15 @@ pub record LiesAt (T : List (List ℕ)) (i r : ℕ) : Type 0 where
   pub itself : IsRecord T (indexed_text T i) → r ≡ i
   pub empty : length (indexed_text T i) ≡ 0 → r ≡ i
 
--- hs say, for each text, in which one it lies
-pub record AreContainers (T : List (List ℕ)) (hs : List ℕ) : Type 0 where
-  pub len : length hs ≡ length T
-  pub lies : (i : ℕ) → i < length T → LiesAt T i (slice_index hs i)
+-- cs say, for each text, in which one it lies
+pub record AreContainers (T : List (List ℕ)) (cs : List ℕ) : Type 0 where
+  pub len : length cs ≡ length T
+  pub lies : (i : ℕ) → i < length T → LiesAt T i (slice_index cs i)
 
 abbrev pub lying_in : List ℕ → List Measure → ℕ → ℕ
 lying_in [] ms q = 0
-lying_in (h ∷ hs) [] q = 0
-lying_in (h ∷ hs) (m ∷ ms) q = (if nat_eq h q then m.total else 0) + lying_in hs ms q
+lying_in (c ∷ cs) [] q = 0
+lying_in (c ∷ cs) (m ∷ ms) q = (if nat_eq c q then m.total else 0) + lying_in cs ms q
 
 -- rs are the records among the texts done, each once
 pub record AreRecordsAmong (S done rs : List (List ℕ)) : Type 0 where
@@ -131,23 +131,23 @@ pub record AreEnds (rs done : List Record) (es : List ℕ) : Type 0 where
   pub closes : All (λ r. ClosesAt (record_texts rs) r.text.now (slice_index es r.index)) done
   pub others : (i : ℕ) → All (λ r. r.index ≡ i → ⊥) done → slice_index es i ≡ 0
 
--- where a text of measure m that lies in h stands, by where its record closes
+-- where a text of measure m that lies in c stands, by where its record closes
 abbrev pub offset_by : List ℕ → ℕ → Measure → ℕ
-offset_by es h m = slice_index es h + 1 - m.size
+offset_by es c m = slice_index es c + 1 - m.size
 
--- the texts that lie in hs stand at os
-pub record AreOffsets (hs : List ℕ) (ms : List Measure) (es os : List ℕ) : Type 0 where
-  pub len : length os ≡ length hs
-  pub each : (i : ℕ) (d : Measure) → i < length hs
-      → slice_index os i ≡ offset_by es (slice_index hs i) (slice_index_or ms i d)
+-- the texts that lie in cs stand at os
+pub record AreOffsets (cs : List ℕ) (ms : List Measure) (es os : List ℕ) : Type 0 where
+  pub len : length os ≡ length cs
+  pub each : (i : ℕ) (d : Measure) → i < length cs
+      → slice_index os i ≡ offset_by es (slice_index cs i) (slice_index_or ms i d)
 
--- the record h closes far enough for a text of measure m
-pub record ClosesWithin (es : List ℕ) (h : ℕ) (m : Measure) : Type 0 where
-  pub within : h < length es
-  pub reaches : m.size ≤ slice_index es h + 1
-  pub small : slice_index es h < 2 ^ 28
+-- the record c closes far enough for a text of measure m
+pub record ClosesWithin (es : List ℕ) (c : ℕ) (m : Measure) : Type 0 where
+  pub within : c < length es
+  pub reaches : m.size ≤ slice_index es c + 1
+  pub small : slice_index es c < 2 ^ 28
 
 -- the record in which each text lies closes far enough for it
 abbrev pub AllClose : List ℕ → List Measure → List ℕ → Type 0
-AllClose hs ms es = (i : ℕ) (d : Measure) → i < length hs
-    → ClosesWithin es (slice_index hs i) (slice_index_or ms i d)
+AllClose cs ms es = (i : ℕ) (d : Measure) → i < length cs
+    → ClosesWithin es (slice_index cs i) (slice_index_or ms i d)

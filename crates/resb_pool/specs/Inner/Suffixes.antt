@@ -1,6 +1,6 @@
 -- Distinct texts in suffix order. T are the texts; each goes by its index there.
 --     AreInOrder T rows       the rows are the texts T, in suffix order
---     TellsEnd answer t s     the answer is whether t ends with s, if s is short
+--     TellsEnd answer t s     the answer is whether t ends with s, if s has few digits
 --     IsSharedEnd p s         s may lie in the record of p
 use Rattle.std.specs.Prelude.{◌≡◌, ℕ, zero, suc, ◌+◌, ◌*◌, ◌^◌, ◌<◌, List, [], ◌∷◌, length, map}
 use Rattle.std.specs.Prelude.{All, Bool, true, ◌-◌, ◌/◌, ◌%◌, ◌≤◌, nat_le, if◌then◌else◌}
@@ -40,9 +40,9 @@ digits_bound zero = 1
 digits_bound (suc n) = digits_bound n * 256
 
 -- as many digits of 16 as aren't left
-pub record IsPart (f : EndKey) : Type 0 where
-  pub most : f.left ≤ 16
-  pub small : f.number < digits_bound (16 - f.left)
+pub record IsPart (k : EndKey) : Type 0 where
+  pub most : k.left ≤ 16
+  pub small : k.number < digits_bound (16 - k.left)
 
 -- a row's two halves as one number
 abbrev pub row_key : Row → ℕ

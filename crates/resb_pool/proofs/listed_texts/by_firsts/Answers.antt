@@ -46,8 +46,8 @@ returns-then-size-ge-SIZE_LIMIT-clause-err c =
       c.if-size-ge-SIZE_LIMIT.true,
     ))
 
-pub add-requires-clause-given : goal.add-requires-clause-given
-add-requires-clause-given c =
+pub add_known-requires-clause-given : goal.add_known-requires-clause-given
+add_known-requires-clause-given c =
     let xs = c.args.strings.now in
     let i = c.loop-number.number in
     let v = c.loop-number.invariant in
@@ -68,7 +68,7 @@ loop-number-preserved c =
     let l = c.loop-number-test.true in
     let e = nows-take xs i blank l in
     let v = c.loop-number.invariant in
-    let list = c.add.new.list in
+    let list = c.add_known.new.list in
     let D = nows (take i xs) in
     let f = first_so_far xs i (get_or c.args.firsts.now i 0) l
     (c.requires.firsts.each i (omega (arith, l, length-nows xs))) in

@@ -3,7 +3,7 @@ use Rattle.std.proofs.lemmas.Result.{err_from_is_err_and}
 use Rattle.resb_pool.specs.Plan.{nows, no_memory}
 use Rattle.resb_pool.specs.Inner.Placing.{AreTexts}
 use Rattle.resb_pool.specs.Inner.LaidRecords.{HaveOffsets}
-use Rattle.resb_pool.specs.Inner.ToldApart.{AreListed}
+use Rattle.resb_pool.specs.Inner.ToldApart.{ToldApart}
 use Rattle.resb_pool.proofs.Planned.{offset_in, plan_of_keys, turns_of_keys}
 use Rattle.resb_pool.proofs.pool.plan_in_turn.Goals as goal
 
@@ -33,14 +33,14 @@ returns-clause-ok c =
     let list = c.in_ok-list.list in
     let keys = list.texts.items in
     let ms = list.measures.items in
+    let turns = list.order.items in
     let us = c.in_ok-units.units.items in
     let os = c.in_ok-units.offsets.items in
-    let told = subst (λ (z : List (Bor (List ℕ))). AreListed (nows z) list) c.deref.ensures.value
-    c.in_ok-list.ensures.ok in
+    let told = subst (λ (z : List (Bor (List ℕ))). ToldApart (nows z) (nows keys) ms turns)
+    c.deref.ensures.value c.in_ok-list.ensures.ok in
     let laid = subst (λ z. HaveOffsets (nows keys) z us os) c.deref-3.ensures.value
     (subst (λ (z : List (Bor (List ℕ))). HaveOffsets (nows z) c.deref-3.result.now us os)
-    c.deref-2.ensures.value c.in_ok-units.ensures) in
-    let turns = list.order.items in (
+    c.deref-2.ensures.value c.in_ok-units.ensures) in (
       offset_in keys os,
       plan_of_keys S keys ms us os told.texts laid told.short told.small,
       turns_of_keys S keys ms us os told.texts laid turns told.turns

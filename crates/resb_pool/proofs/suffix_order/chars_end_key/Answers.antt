@@ -36,8 +36,9 @@ ended c = ap (flat_map char_digits) (none_left (chars_rest c.digits.chars)
 
 pub returns-in_default-clause-number : goal.returns-in_default-clause-number
 returns-in_default-clause-number c =
-    let f = c.digits.key in
-    c.with_end.ensures.number ∙ ap (key_of_digits f.number f.left) (sym (ended c)) ∙ c.digits.invariant.same
+    let k = c.digits.key in
+    c.with_end.ensures.number ∙ ap (key_of_digits k.number k.left) (sym (ended c))
+    ∙ c.digits.invariant.same
 
 pub returns-in_default-clause-left : goal.returns-in_default-clause-left
 returns-in_default-clause-left c =

@@ -2,7 +2,7 @@ use Rattle.std.proofs.Common.{sym, ◌∙◌, ap, nat_eq}
 use Rattle.std.specs.List.{list_any}
 use Rattle.resb_pool.specs.Inner.Suffixes.{digits_backwards}
 use Rattle.resb_pool.proofs.Digits.{small_key}
-use Rattle.resb_pool.proofs.EndDigits.{no_zero_digit}
+use Rattle.resb_pool.proofs.KeyDigits.{no_zero_digit}
 use Rattle.resb_pool.proofs.suffix_order.has_zero_digit.Goals as goal
 
 pub returns : goal.returns

@@ -21,10 +21,12 @@ loop-left_rest-preserved c =
     let right_rest = c.in-Some-strip_suffix.right_rest.now in
     let cut : IsCut lefts left_rest block = c.in-Some.ensures.cut in
     let strips = c.in-Some-strip_suffix.ensures.cases in
-    let is : rights ≡ right_rest ++ block = strips.1.1 ∙ ap (λ (l : List ℕ). l ++ block) (sym strips.2) in
+    let is : rights ≡ right_rest ++ block =
+    strips.1.1 ∙ ap (λ (l : List ℕ). l ++ block) (sym strips.2) in
     let more = shared_end lefts rights left_rest right_rest block i.right.rest_utf8 cut is in
     record {
       left_text = cut.rest_utf8;
       right_text = more.right.rest_utf8;
-      shared = shared_deeper c.args.left.now c.args.right.now lefts rights left_rest right_rest i more;
+      shared = shared_deeper c.args.left.now c.args.right.now lefts rights left_rest right_rest i
+          more;
     }

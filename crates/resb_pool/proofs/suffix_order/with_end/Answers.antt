@@ -1,7 +1,7 @@
 use Rattle.std.proofs.Common.{◌+◌, ◌*◌, ◌/◌, ◌%◌, ◌^◌, ◌-◌, nat_lt, if◌then◌else◌, ◌≡◌, ◌∙◌, arith}
 use Rattle.std.proofs.Common.{ap, []}
 use Rattle.resb_pool.specs.Inner.Suffixes.{key_of_digits}
-use Rattle.resb_pool.proofs.EndDigits.{filled}
+use Rattle.resb_pool.proofs.KeyDigits.{filled}
 use Rattle.resb_pool.proofs.suffix_order.with_end.Goals.{After-unbounded_shl}
 use Rattle.resb_pool.proofs.suffix_order.with_end.Goals as goal
 

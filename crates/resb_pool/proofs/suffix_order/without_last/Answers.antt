@@ -1,7 +1,7 @@
 use Rattle.std.proofs.Common.{◌*◌, ◌/◌, ◌^◌, nat_lt, if◌then◌else◌, ◌∙◌, ap}
 use Rattle.resb_pool.specs.Inner.Suffixes.{digits_backwards}
 use Rattle.resb_pool.proofs.Digits.{small_key}
-use Rattle.resb_pool.proofs.EndDigits.{first_digits}
+use Rattle.resb_pool.proofs.KeyDigits.{first_digits}
 use Rattle.resb_pool.proofs.suffix_order.without_last.Goals as goal
 
 pub returns : goal.returns

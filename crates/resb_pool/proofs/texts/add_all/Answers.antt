@@ -48,11 +48,11 @@ loop-text-preserved c =
     let e = nows-take xs i blank c.loop-text-test.true in
     let v = c.loop-text.invariant in
     record {
-      texts = subst (λ d. AreTexts d (nows c.add.new.texts.distinct.keys)
-          c.add.new.texts.measures.items) (sym e) (c.in_ok-size.ensures.texts (nows (take i xs))
-          v.texts);
-      turns = subst (λ d. AreTurns d (nows c.add.new.texts.distinct.keys)
-          c.add.new.texts.order.items) (sym e) (c.in_ok-size.ensures.turns (nows (take i xs))
+      texts = subst (λ d. AreTexts d (nows c.add_copy.new.texts.distinct.keys)
+          c.add_copy.new.texts.measures.items) (sym e)
+          (c.in_ok-size.ensures.texts (nows (take i xs)) v.texts);
+      turns = subst (λ d. AreTurns d (nows c.add_copy.new.texts.distinct.keys)
+          c.add_copy.new.texts.order.items) (sym e) (c.in_ok-size.ensures.turns (nows (take i xs))
           v.turns);
       size = omega (
         arith,

@@ -8,9 +8,9 @@ use Rattle.resb_pool.specs.declared.texts.Texts.{Texts}
 use Rattle.resb_pool.proofs.Interning.{IsReady, taken_known, taken_new, count_is, count_fits}
 use Rattle.resb_pool.proofs.Interning.{counted, stored_at, length-nows}
 use Rattle.resb_pool.proofs.Turns.{turn_more, strings_few}
-use Rattle.resb_pool.proofs.texts.add.Goals as goal
-use Rattle.resb_pool.proofs.texts.add.Goals.{After-index_mut-measure, then-is_new+in_ok-push}
-use Rattle.resb_pool.proofs.texts.add.Goals.{else-is_new}
+use Rattle.resb_pool.proofs.texts.add_copy.Goals as goal
+use Rattle.resb_pool.proofs.texts.add_copy.Goals.{After-index_mut-measure, then-is_new+in_ok-push}
+use Rattle.resb_pool.proofs.texts.add_copy.Goals.{else-is_new}
 
 ready : (c : After-index_mut-measure) (done : List (List ℕ))
     → AreTexts done (nows c.args.texts.now.distinct.keys) c.args.texts.now.measures.items

@@ -9,9 +9,9 @@ use Rattle.resb_pool.proofs.Interning.{count_is, count_fits, counted, length-now
 use Rattle.resb_pool.proofs.TextLoops.{nows-push}
 use Rattle.resb_pool.proofs.Turns.{strings_few}
 use Rattle.resb_pool.proofs.FirstTurns.{IsTaken, taken_again, taken_first}
-use Rattle.resb_pool.proofs.listed_texts.add.Goals as goal
-use Rattle.resb_pool.proofs.listed_texts.add.Goals.{After-index_mut-measure, then-first-len}
-use Rattle.resb_pool.proofs.listed_texts.add.Goals.{else-first-len+in_ok-push+in_ok-push-2}
+use Rattle.resb_pool.proofs.listed_texts.add_known.Goals as goal
+use Rattle.resb_pool.proofs.listed_texts.add_known.Goals.{After-index_mut-measure, then-first-len}
+use Rattle.resb_pool.proofs.listed_texts.add_known.Goals.{else-first-len+in_ok-push+in_ok-push-2}
 
 taken : (c : After-index_mut-measure) (done : List (List ℕ))
     → AreTexts done (nows c.args.list.now.texts.items) c.args.list.now.measures.items
@@ -40,7 +40,7 @@ taken c done h k f =
           let i : c.if-first-len.index ≡ length T = omega (
             arith,
             w.index-is,
-            c.len-index.ensures,
+            w.len-next.ensures,
             length-nows c.args.list.now.texts.items,
             c.args.list.now.texts.ok,
           ) in

@@ -8,7 +8,7 @@ ghost use Rattle.resb_pool.specs.Inner.Placing.{AreTexts, AreTurns};
 ghost use Rattle.resb_pool.specs.Inner.Firsts.{IsFirst, AreFirsts};
 
 use crate::error::PlanError;
-use crate::measure::{Measure, SIZE_LIMIT, is_vast};
+use crate::measure::{Measure, is_vast, size_with};
 use crate::texts::Texts;
 use std::alloc::{AllocError, Global};
 
@@ -121,10 +121,8 @@ pub(crate) fn by_firsts<'a>(
         if is_vast(text) {
             return Err(PlanError::TooLarge);
         }
-        size += 16 + add_known(&mut list, text, firsts[number] as usize)?;
-        if size >= SIZE_LIMIT {
-            return Err(PlanError::TooLarge);
-        }
+        let count = add_known(&mut list, text, firsts[number] as usize)?;
+        size = size_with(size, count)?;
     }
     Ok(list)
 }

@@ -8,7 +8,7 @@ ghost use Rattle.resb_pool.specs.Plan.{nows, first_too_long, texts_size, NotPlan
 ghost use Rattle.resb_pool.specs.Inner.Placing.{AreTexts, AreTurns, indexed_text};
 
 use crate::error::PlanError;
-use crate::measure::{Measure, SIZE_LIMIT, is_vast};
+use crate::measure::{Measure, is_vast, size_with};
 use indexmap::IndexSet;
 use std::alloc::{AllocError, Global};
 
@@ -142,10 +142,8 @@ fn add_all<'a>(texts: &mut Texts<'a>, strings: &[&'a str]) -> Result<(), PlanErr
         if is_vast(text) {
             return Err(PlanError::TooLarge);
         }
-        size += 16 + add_copy(texts, text)?;
-        if size >= SIZE_LIMIT {
-            return Err(PlanError::TooLarge);
-        }
+        let count = add_copy(texts, text)?;
+        size = size_with(size, count)?;
     }
     Ok(())
 }

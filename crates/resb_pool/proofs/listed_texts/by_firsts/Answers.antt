@@ -14,10 +14,10 @@ pub returns-in_err-list-clause-err : goal.returns-in_err-list-clause-err
 returns-in_err-list-clause-err c = let p =
     err_from_is_err_and c.from_residual.result c.from_residual.ensures.1 in rw (p.1, p.2) no_memory
 
-pub returns-in_err-size-clause-err : goal.returns-in_err-size-clause-err
-returns-in_err-size-clause-err c = let p =
-    err_from_is_err_and c.from_residual-in_err-size.result
-    c.from_residual-in_err-size.ensures.1 in rw (p.1, p.2) no_memory
+pub returns-in_err-count-clause-err : goal.returns-in_err-count-clause-err
+returns-in_err-count-clause-err c = let p =
+    err_from_is_err_and c.from_residual-in_err-count.result
+    c.from_residual-in_err-count.ensures.1 in rw (p.1, p.2) no_memory
 
 pub returns-then-is_vast-clause-err : goal.returns-then-is_vast-clause-err
 returns-then-is_vast-clause-err c =
@@ -30,21 +30,23 @@ returns-then-is_vast-clause-err c =
     leb-true 268435456 (length (units t)) (sym c.is_vast.ensures ∙ c.if-is_vast.true) in
     too_large c.requires.short (omega (arith, e, f, g))
 
-pub returns-then-size-ge-SIZE_LIMIT-clause-err : goal.returns-then-size-ge-SIZE_LIMIT-clause-err
-returns-then-size-ge-SIZE_LIMIT-clause-err c =
+pub returns-in_err-size-clause-err : goal.returns-in_err-size-clause-err
+returns-in_err-size-clause-err c =
     let xs = c.args.strings.now in
     let i = c.loop-number.number in
     let t = (get_or xs i blank).now in
     let e = ap texts_size (nows-split xs i blank c.loop-number-test.true) in
     let f = texts_size-most (nows (take i xs)) t (nows (drop (suc i) xs)) in
-    too_large c.requires.short (omega (
+    let p = err_from_is_err_and c.from_residual-in_err-size.result
+    c.from_residual-in_err-size.ensures.1 in
+    rw (p.1, p.2, c.in_err-size.ensures.err.0) (too_large c.requires.short (omega (
       arith,
       e,
       f,
-      c.in_ok-size.ensures.count,
+      c.in_ok-count.ensures.count,
       c.loop-number.invariant.size,
-      c.if-size-ge-SIZE_LIMIT.true,
-    ))
+      c.in_err-size.ensures.err.1,
+    )))
 
 pub add_known-requires-clause-given : goal.add_known-requires-clause-given
 add_known-requires-clause-given c =
@@ -74,15 +76,16 @@ loop-number-preserved c =
     (c.requires.firsts.each i (omega (arith, l, length-nows xs))) in
     record {
       texts = subst (λ d. AreTexts d (nows list.texts.items) list.measures.items) (sym e)
-          (c.in_ok-size.ensures.texts D v.texts v.turns f);
+          (c.in_ok-count.ensures.texts D v.texts v.turns f);
       turns = subst (λ d. AreTurns d (nows list.texts.items) list.order.items) (sym e)
-          (c.in_ok-size.ensures.turns D v.texts v.turns f);
+          (c.in_ok-count.ensures.turns D v.texts v.turns f);
       size = omega (
         arith,
         v.size,
-        c.in_ok-size.ensures.count,
+        c.in_ok-size.ensures.ok,
+        c.in_ok-count.ensures.count,
         ap texts_size e,
         texts_size-push D t,
       );
-      small = omega (arith, c.if-size-ge-SIZE_LIMIT.false);
+      small = c.in_ok-size.ensures.small;
     }

@@ -32,3 +32,4 @@ mod Numbers
 mod Lists
 mod HashRuns
 mod FirstTurns
+mod ListingLemmas

@@ -105,19 +105,19 @@ pub fn plan<'a>(alloc: Global, strings: &[&'a str]) -> Result<Plan<'a>, PlanErro
 }
 
 /// The distinct texts of strings as a list. Refused is what `plan` refuses.
-fn list_of<'a>(alloc: Global, strings: &[&'a str]) -> Result<ListedTexts<'a>, PlanError>
-    ensures ok { IfOk result (λ t. ToldApart (nows strings.now) (nows t.texts.items)
+fn list_of<'a>(alloc: Global, strings: Vec<&'a str>) -> Result<ListedTexts<'a>, PlanError>
+    ensures ok { IfOk result (λ t. ToldApart (nows strings.entry.items) (nows t.texts.items)
         t.measures.items t.order.items) }
-    ensures err { IfErr result (NotPlanned (nows strings.now)) }
+    ensures err { IfErr result (NotPlanned (nows strings.entry.items)) }
 {
-    check_lengths(strings)?;
-    let sample = Sample::of(alloc, strings)?;
-    if sample.mostly_differ(strings) {
-        if let Some(firsts) = find_firsts(alloc, strings)? {
-            return by_firsts(alloc, strings, &firsts);
+    check_lengths(&strings)?;
+    let sample = Sample::of(alloc, &strings)?;
+    if sample.mostly_differ(&strings) {
+        if let Some(firsts) = find_firsts(alloc, &strings)? {
+            return by_firsts(alloc, strings, firsts);
         }
     }
-    let texts = gather(alloc, strings, sample)?;
+    let texts = gather(alloc, &strings, sample)?;
     Ok(as_list(alloc, texts)?)
 }
 
@@ -133,8 +133,7 @@ pub fn plan_in_turn<'a>(
         × (map offset (nows strings.entry.items) ≡ map Some p.1.items)) }
     ensures err { IfErr result (NotPlanned (nows strings.entry.items)) }
 {
-    let list = list_of(alloc, &strings)?;
-    drop(strings);
+    let list = list_of(alloc, strings)?;
     let (units, offsets) = place(alloc, &list.texts, &list.measures)?;
     Ok((units, in_turn(&offsets, list.order)))
 }

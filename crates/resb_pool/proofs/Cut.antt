@@ -15,8 +15,8 @@ use Rattle.std.proofs.Math.Seq.{take-append_seam}
 use Rattle.std.proofs.lemmas.Str.{IsCharBoundary-at_seam, IsUtf8-take}
 
 -- what stands before a text's tail is a text
-pub front_utf8 : (t xs ys : List ℕ) → t ≡ xs ++ ys → IsUtf8 t → IsUtf8 ys → IsUtf8 xs
-front_utf8 t xs ys e u v =
+pub rest_utf8 : (t xs ys : List ℕ) → t ≡ xs ++ ys → IsUtf8 t → IsUtf8 ys → IsUtf8 xs
+rest_utf8 t xs ys e u v =
     let w : IsUtf8 (take (length xs) t) =
     IsUtf8-take t (length xs) u (IsCharBoundary-at_seam t xs ys e v) in
     let f : take (length xs) t ≡ xs = rw e (take-append_seam xs ys) in
@@ -26,7 +26,7 @@ front_utf8 t xs ys e u v =
 pub cut_whole : (t x : List ℕ) → IsUtf8 t → x ≡ t → IsCut t x []
 cut_whole t x u e = record {
   is = sym e ∙ sym (append-nil x);
-  front_utf8 = subst IsUtf8 (sym e) u;
+  rest_utf8 = subst IsUtf8 (sym e) u;
   tail_utf8 = IsUtf8-nil;
 }
 
@@ -35,13 +35,13 @@ pub cut_more : (t x y tail : List ℕ) (c : ℕ) → IsCut t x tail → x ≡ y 
     → IsCut t y (encode_utf8 c ++ tail)
 cut_more t x y tail c h e s = record {
   is = h.is ∙ ap (λ l. l ++ tail) e ∙ append_assoc y (encode_utf8 c) tail;
-  front_utf8 = front_utf8 x y (encode_utf8 c) e h.front_utf8 (IsUtf8-encode c s);
+  rest_utf8 = rest_utf8 x y (encode_utf8 c) e h.rest_utf8 (IsUtf8-encode c s);
   tail_utf8 = IsUtf8-append (encode_utf8 c) tail (IsUtf8-encode c s) h.tail_utf8;
 }
 
 pub key_cut : (t f s : List ℕ) → IsCut t f s
     → chars_backwards t ≡ chars_backwards s ++ chars_backwards f
-key_cut t f s h = ap chars_backwards h.is ∙ ap reverse (chars-append f s h.front_utf8)
+key_cut t f s h = ap chars_backwards h.is ∙ ap reverse (chars-append f s h.rest_utf8)
     ∙ reverse-append (chars f) (chars s)
 
 pub cut_extends : (t f s : List ℕ) → IsCut t f s → Extends (chars_backwards t) (chars_backwards s)
@@ -77,13 +77,13 @@ cut_back t s u v h =
     ∙ ap encodes (reverse-append (chars_backwards s) h.rest)
     ∙ encodes-append (reverse h.rest) (reverse (chars_backwards s))
     ∙ ap (λ l. w ++ l) (sym (text_of_key s v)) in
-    (w, record { is = e; front_utf8 = front_utf8 t w s e u v; tail_utf8 = v })
+    (w, record { is = e; rest_utf8 = rest_utf8 t w s e u v; tail_utf8 = v })
 
 -- the front is cut again
 pub cut_deeper : (t w s x z : List ℕ) → IsCut t w s → IsCut w x z → IsCut t x (z ++ s)
 cut_deeper t w s x z h k = record {
   is = h.is ∙ ap (λ l. l ++ s) k.is ∙ append_assoc x z s;
-  front_utf8 = k.front_utf8;
+  rest_utf8 = k.rest_utf8;
   tail_utf8 = IsUtf8-append z s k.tail_utf8 h.tail_utf8;
 }
 
@@ -99,8 +99,8 @@ pub ends_extends : (t s : List ℕ) → IsUtf8 t → IsUtf8 s → EndsWith t s
     → Extends (chars_backwards t) (chars_backwards s)
 ends_extends t s u v h = cut_extends t h.front s (record {
   is = h.is;
-  front_utf8 =
-      front_utf8 t h.front s h.is u v;
+  rest_utf8 =
+      rest_utf8 t h.front s h.is u v;
   tail_utf8 = v;
 })
 
@@ -115,7 +115,7 @@ shared_end s t x y z u h e = record {
   left = h;
   right = record {
     is = e;
-    front_utf8 = front_utf8 t y z e u h.tail_utf8;
+    rest_utf8 = rest_utf8 t y z e u h.tail_utf8;
     tail_utf8 = h.tail_utf8;
   };
 }

@@ -126,9 +126,9 @@ before_end c a = elim (cases_lt c 0x80) [
   | inr h ↦ ap (λ l. end_last_cmp [] (l ++ a)) (other_digits c (omega (arith, h)))
 ]
 
-same_front : (a x y : List ℕ) → end_last_cmp (a ++ x) (a ++ y) ≡ end_last_cmp x y
-same_front [] x y = refl
-same_front (z ∷ a) x y = head_same z z (a ++ x) (a ++ y) refl ∙ same_front a x y
+same_start : (a x y : List ℕ) → end_last_cmp (a ++ x) (a ++ y) ≡ end_last_cmp x y
+same_start [] x y = refl
+same_start (z ∷ a) x y = head_same z z (a ++ x) (a ++ y) refl ∙ same_start a x y
 
 not_both : (a b : List ℕ) → end_last_cmp b a ≡ Less → end_last_cmp a b ≡ Less → ⊥
 not_both a b f g = cc (sym g ∙ end_last_total.antisymm a b ∙ ap ordering_reverse f)
@@ -141,7 +141,7 @@ digits_order (x ∷ xs) [] e = refl
 digits_order (x ∷ xs) (y ∷ ys) e = three_ways (end_last_cmp (x ∷ xs) (y ∷ ys) ≡ Less) x y
     (λ f. ordering_then_less (nat_cmp x y) (end_last_cmp xs ys) f)
     (λ f. head_same x y xs ys f ∙ digits_order xs ys
-    (sym (same_front (char_digits x) (digits xs) (digits ys))
+    (sym (same_start (char_digits x) (digits xs) (digits ys))
     ∙ ap (λ z. end_last_cmp (char_digits x ++ digits xs) (char_digits z ++ digits ys)) f ∙ e))
     (λ m. absurd (not_both (digits (x ∷ xs)) (digits (y ∷ ys))
     (char_less y x (digits ys) (digits xs) m) e))

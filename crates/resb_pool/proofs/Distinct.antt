@@ -5,7 +5,7 @@ use Rattle.std.specs.List.{Contains}
 use Rattle.std.proofs.lemmas.List.{get_or_default}
 use Rattle.std.proofs.lemmas.List.Elements.{Contains-push_cases}
 use Rattle.resb_pool.specs.Records.{EachOnce}
-use Rattle.resb_pool.specs.Inner.Placing.{text_numbered}
+use Rattle.resb_pool.specs.Inner.Placing.{indexed_text}
 use Rattle.resb_pool.proofs.TextLists.{TextList}
 
 -- one of a list with x in front
@@ -18,11 +18,11 @@ pub Contains-first : (x : List ℕ) (xs : TextList) → Contains (x ∷ xs) x
 Contains-first x xs = (0, omega arith, refl)
 
 -- a text by its index, and the index of a text
-pub has_text : (T : TextList) (i : ℕ) → i < length T → Contains T (text_numbered T i)
-has_text T i l = (i, l, get_or_default T i (text_numbered T i) [] l)
+pub has_text : (T : TextList) (i : ℕ) → i < length T → Contains T (indexed_text T i)
+has_text T i l = (i, l, get_or_default T i (indexed_text T i) [] l)
 
 pub index_of : (T : TextList) (s : List ℕ) → Contains T s
-    → (i : ℕ) × (i < length T) × (text_numbered T i ≡ s)
+    → (i : ℕ) × (i < length T) × (indexed_text T i ≡ s)
 index_of T s h = (h.0, h.1, get_or_default T h.0 [] s h.1 ∙ h.2)
 
 pub distinct_push : (qs : TextList) (t : List ℕ) → EachOnce qs → (Contains qs t → ⊥)
@@ -38,7 +38,7 @@ distinct_push (q ∷ qs) t d f = (
 )
 
 pub one_index : (T : TextList) (i j : ℕ) → EachOnce T → i < length T → j < length T
-    → text_numbered T i ≡ text_numbered T j → i ≡ j
+    → indexed_text T i ≡ indexed_text T j → i ≡ j
 one_index [] i j d l m e = absurd (omega (arith, l))
 one_index (x ∷ T) zero zero d l m e = refl
 one_index (x ∷ T) zero (suc j) d l m e =
@@ -50,7 +50,7 @@ one_index (x ∷ T) (suc i) (suc j) d l m e =
 
 -- a text doesn't stand before its index
 pub not_before : (T : TextList) (i : ℕ) → EachOnce T → i < length T
-    → Contains (take i T) (text_numbered T i)
+    → Contains (take i T) (indexed_text T i)
     → ⊥
 not_before [] i d l h = omega (arith, l)
 not_before (x ∷ T) zero d l h = omega (arith, h.1)

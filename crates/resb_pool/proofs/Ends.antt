@@ -10,20 +10,20 @@ use Rattle.std.proofs.lemmas.Cmp.{nat_cmp_total, tied_itself}
 use Rattle.std.proofs.lemmas.Str.{chars-nil, IsUtf8-encode}
 use Rattle.resb_pool.specs.Order.{suffix_cmp, end_last_cmp}
 use Rattle.resb_pool.specs.Inner.Cuts.{chars_backwards, IsCut, IsShared}
-use Rattle.resb_pool.proofs.Cut.{front_utf8, key_cut, key_last, cut_whole}
+use Rattle.resb_pool.proofs.Cut.{rest_utf8, key_cut, key_last, cut_whole}
 use Rattle.resb_pool.proofs.Numbers.{ordering_then_equal, ordering_then_differs}
 
-same_front : (a x y : List ℕ) → end_last_cmp (a ++ x) (a ++ y) ≡ end_last_cmp x y
-same_front [] x y = refl
-same_front (z ∷ a) x y = ordering_then_equal (nat_cmp z z) (end_last_cmp (a ++ x) (a ++ y))
-    (tied_itself nat_cmp_total z) ∙ same_front a x y
+same_start : (a x y : List ℕ) → end_last_cmp (a ++ x) (a ++ y) ≡ end_last_cmp x y
+same_start [] x y = refl
+same_start (z ∷ a) x y = ordering_then_equal (nat_cmp z z) (end_last_cmp (a ++ x) (a ++ y))
+    (tied_itself nat_cmp_total z) ∙ same_start a x y
 
 -- the last character comes first in the key
 last_of : (t x tail z : List ℕ) (c : ℕ) → IsCut t x tail → x ≡ z ++ encode_utf8 c → IsScalar c
     → chars_backwards x ≡ c ∷ chars_backwards z
 last_of t x tail z c h e s = key_last x z c (record {
   is = e;
-  front_utf8 = front_utf8 x z (encode_utf8 c) e h.front_utf8 (IsUtf8-encode c s);
+  rest_utf8 = rest_utf8 x z (encode_utf8 c) e h.rest_utf8 (IsUtf8-encode c s);
   tail_utf8 = IsUtf8-encode c s;
 }) s
 
@@ -31,7 +31,7 @@ last_of t x tail z c h e s = key_last x z c (record {
 pub last_taken : (x z : List ℕ) (c : ℕ) → IsUtf8 x → x ≡ z ++ encode_utf8 c → IsScalar c
     → IsUtf8 z × (chars_backwards x ≡ c ∷ chars_backwards z)
 last_taken x z c u e s = (
-  front_utf8 x z (encode_utf8 c) e u (IsUtf8-encode c s),
+  rest_utf8 x z (encode_utf8 c) e u (IsUtf8-encode c s),
   last_of x x [] z c (cut_whole x x u refl) e s,
 )
 
@@ -42,7 +42,7 @@ module _ (s t x y : List ℕ) (h : IsShared s t x y) where
   pub without_end : suffix_cmp s t ≡ end_last_cmp (chars_backwards x) (chars_backwards y)
   without_end = ap (λ l. end_last_cmp l (chars_backwards t)) (key_cut s x h.tail h.left)
       ∙ ap (end_last_cmp (chars_backwards h.tail ++ chars_backwards x)) (key_cut t y h.tail h.right)
-      ∙ same_front (chars_backwards h.tail) (chars_backwards x) (chars_backwards y)
+      ∙ same_start (chars_backwards h.tail) (chars_backwards x) (chars_backwards y)
 
   compared : (a b : List ℕ) → chars_backwards x ≡ a → chars_backwards y ≡ b
       → suffix_cmp s t ≡ end_last_cmp a b

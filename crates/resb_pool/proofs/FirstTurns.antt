@@ -9,7 +9,7 @@ use Rattle.std.proofs.lemmas.List.Elements.{All-push}
 use Rattle.std.specs.Str.{IsUtf8}
 use Rattle.resb_format.specs.Units.{units, size}
 use Rattle.resb_pool.specs.Plan.{nows}
-use Rattle.resb_pool.specs.Inner.Placing.{text_numbered, AreTexts, AreTurns}
+use Rattle.resb_pool.specs.Inner.Placing.{indexed_text, AreTexts, AreTurns}
 use Rattle.resb_pool.specs.Inner.Firsts.{IsFirst}
 use Rattle.resb_pool.specs.declared.measure.Measure.{Measure}
 use Rattle.resb_pool.proofs.Distinct.{has_text}
@@ -24,24 +24,24 @@ pub record IsTaken (D : TextList) (t : List ℕ) (T : TextList) (ms : List Measu
     (i : ℕ) : Type 0 where
   pub ready : IsReady D t T ms
   pub within : i < length T
-  pub stands : text_numbered T i ≡ t
+  pub stands : indexed_text T i ≡ t
   pub turned : AreTurns (D ++ t ∷ []) T (turns ++ i ∷ [])
 
 module _ (D T : TextList) (ms : List Measure) (turns : List ℕ) (texts : AreTexts D T ms)
     (order : AreTurns D T turns) (t : List ℕ) (f : ℕ)
     (first : IsFirst (D ++ t ∷ []) (length D) f) where
   turns_len : length turns ≡ length D
-  turns_len = sym (length-map turns (text_numbered T)) ∙ ap length order.texts
+  turns_len = sym (length-map turns (indexed_text T)) ∙ ap length order.texts
 
-  at_first : text_numbered (D ++ t ∷ []) f ≡ t
+  at_first : indexed_text (D ++ t ∷ []) f ≡ t
   at_first = first.same ∙ get_or_push D t [] (length D) refl
 
   -- a copy's text is its first copy's
   known_within : f < length turns → get_or turns f 0 < length T
   known_within l = order.within f 0 l
 
-  known_text : f < length turns → text_numbered T (get_or turns f 0) ≡ t
-  known_text l = sym (get_or-map (text_numbered T) turns f 0 [] l)
+  known_text : f < length turns → indexed_text T (get_or turns f 0) ≡ t
+  known_text l = sym (get_or-map (indexed_text T) turns f 0 [] l)
       ∙ ap (λ z. get_or z f []) order.texts
       ∙ sym (get_or_append_left D (t ∷ []) [] f (omega (arith, l, turns_len))) ∙ at_first
 
@@ -64,7 +64,7 @@ module _ (D T : TextList) (ms : List Measure) (turns : List ℕ) (texts : AreTex
         within = known_within l;
         stands = known_text l;
         turned = record {
-          texts = map_push (text_numbered T) turns i
+          texts = map_push (indexed_text T) turns i
               ∙ (λ j. order.texts j ++ known_text l j ∷ []);
           within = All-push (λ k. k < length T) turns i order.within (known_within l);
           few = omega (arith, order.few, length_push turns i);
@@ -81,7 +81,7 @@ module _ (D T : TextList) (ms : List Measure) (turns : List ℕ) (texts : AreTex
         within = omega (arith, n);
         stands = get_or_push T t [] (length T) refl;
         turned = record {
-          texts = map_push (text_numbered (T ++ t ∷ [])) turns (length T)
+          texts = map_push (indexed_text (T ++ t ∷ [])) turns (length T)
               ∙ (λ j. (grown T (t ∷ []) turns order.within ∙ order.texts) j
               ++ get_or_push T t [] (length T) refl j ∷ []);
           within = All-push (λ k. k < length (T ++ t ∷ [])) turns (length T)
@@ -105,6 +105,6 @@ first_so_far xs i f l h =
     }))
   where
     so_far : (j : ℕ) → j < i + 1
-        → text_numbered (nows (take (i + 1) xs)) j ≡ text_numbered (nows xs) j
+        → indexed_text (nows (take (i + 1) xs)) j ≡ indexed_text (nows xs) j
     so_far j b = ap (λ z. get_or z j []) (sym (take-map (λ (y : Bor (List ℕ)). y.now) (i + 1) xs))
         ∙ get_or-take (i + 1) (nows xs) j [] b

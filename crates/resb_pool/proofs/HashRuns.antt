@@ -10,7 +10,7 @@ use Rattle.std.specs.Ordering.{nat_cmp, is_lt, ordering_then}
 use Rattle.std.proofs.lemmas.List.{get_or_default, drop_all}
 use Rattle.std.proofs.lemmas.Cmp.{nat_cmp_total, tied_itself}
 use Rattle.std.proofs.lemmas.Bool.{cases_lt}
-use Rattle.resb_pool.specs.Inner.Placing.{text_numbered}
+use Rattle.resb_pool.specs.Inner.Placing.{indexed_text}
 use Rattle.resb_pool.specs.Inner.Firsts.{hash_with, text_hash, hash_numbered, hash_cmp, AreHashes}
 use Rattle.resb_pool.specs.Inner.Firsts.{IsFirst, AreFirsts}
 use Rattle.resb_pool.specs.declared.firsts.NumberedHash.{NumberedHash}
@@ -97,7 +97,7 @@ module _ (S : List (List ℕ)) (ms : List NumberedHash) (hashes : AreHashes S ms
 
   -- in its run a string's first copy is found
   pub first_of_run : (n : ℕ) (m : NumberedHash) → IsRun S ms n m → (get_or ms k d).hash ≡ m.hash
-      → text_numbered S m.number ≡ text_numbered S (get_or ms k d).number
+      → indexed_text S m.number ≡ indexed_text S (get_or ms k d).number
       → IsFirst S (get_or ms k d).number m.number
   first_of_run n m h e same = record {
     reaches = h.least k d l e;

@@ -16,7 +16,7 @@ use Rattle.indexmap.specs.IndexSet.{insert_key}
 use Rattle.resb_format.specs.Units.{units, size}
 use Rattle.resb_pool.specs.Records.{EachOnce}
 use Rattle.resb_pool.specs.Plan.{nows, texts_size}
-use Rattle.resb_pool.specs.Inner.Placing.{text_numbered, IsMeasure, AreMeasures, AreTexts}
+use Rattle.resb_pool.specs.Inner.Placing.{indexed_text, IsMeasure, AreMeasures, AreTexts}
 use Rattle.resb_pool.specs.declared.measure.Measure.{Measure}
 use Rattle.resb_pool.proofs.TextLoops.{blank}
 use Rattle.resb_pool.proofs.Distinct.{one_index, distinct_push}
@@ -82,7 +82,7 @@ module _ (D T : TextList) (ms : List Measure) (h : AreTexts D T ms) (t : List �
       | inl k ↦
           subst (λ s. IsMeasure D s (get_or (ms ++ m ∷ []) i d))
           (sym (get_or_append_left T (t ∷ []) [] i k))
-          (subst (IsMeasure D (text_numbered T i))
+          (subst (IsMeasure D (indexed_text T i))
           (sym (get_or_append_left ms (m ∷ []) d i (omega (arith, k, h.len))))
           (h.measured i d k))
       | inr e ↦
@@ -100,10 +100,10 @@ module _ (D T : TextList) (ms : List Measure) (h : AreTexts D T ms) (t : List �
 
 module _ (D : TextList) (t : List ℕ) (T : TextList) (ms : List Measure) (h : IsReady D t T ms)
     (j : ℕ)
-    (l : j < length T) (at : text_numbered T j ≡ t) (old : Measure) (is : old
+    (l : j < length T) (at : indexed_text T j ≡ t) (old : Measure) (is : old
     ≡ get_or ms j old) where
   own : IsMeasure D t old
-  own = subst (λ s. IsMeasure D s old) at (subst (IsMeasure D (text_numbered T j)) (sym is)
+  own = subst (λ s. IsMeasure D s old) at (subst (IsMeasure D (indexed_text T j)) (sym is)
       (h.measured j old l))
 
   pub count_is : old.unit_count ≡ length (units t)
@@ -130,7 +130,7 @@ module _ (D : TextList) (t : List ℕ) (T : TextList) (ms : List Measure) (h : I
     len = length-set ms j new ∙ h.len;
     measured = λ i d k. elim (cases_eq i j) [
       | inl q ↦
-          let e : text_numbered T i ≡ t = ap (text_numbered T) q ∙ at in
+          let e : indexed_text T i ≡ t = ap (indexed_text T) q ∙ at in
           let g : get_or (slice_set ms j new) i d ≡ new =
           ap (λ z. get_or (slice_set ms j new) z d) q
           ∙ get_or-set_same ms j new d (omega (arith, l, h.len)) in
@@ -150,9 +150,9 @@ module _ (D : TextList) (t : List ℕ) (T : TextList) (ms : List Measure) (h : I
           }))
       | inr ne ↦
           let o = h.measured i d k in
-          let apart : text_numbered T i ≡ t
+          let apart : indexed_text T i ≡ t
           → ⊥ = λ e. ne (one_index T i j h.once k l (e ∙ sym at)) in
-          subst (IsMeasure (D ++ t ∷ []) (text_numbered T i))
+          subst (IsMeasure (D ++ t ∷ []) (indexed_text T i))
           (sym (get_or-set_other ms j i new d ne))
           (record {
             units_is = o.units_is;
@@ -161,8 +161,8 @@ module _ (D : TextList) (t : List ℕ) (T : TextList) (ms : List Measure) (h : I
                 omega (
                   arith,
                   o.total_is,
-                  copies-push D t (text_numbered T i),
-                  copy_other (text_numbered T i) t apart,
+                  copies-push D t (indexed_text T i),
+                  copy_other (indexed_text T i) t apart,
                 );
           })
     ];
@@ -182,13 +182,13 @@ any_none (k ∷ ks) t e (suc i, lt, is) =
     )
 
 pub stored_at : (ks : List Key) (i : ℕ) (k : Key) → slice_get ks i ≡ Some k
-    → text_numbered (nows ks) i ≡ k.now
+    → indexed_text (nows ks) i ≡ k.now
 stored_at [] i k e = absurd (let z : None ≡ Some k = e in cc)
 stored_at (x ∷ ks) zero k e = (let q : x ≡ k = cc in ap (λ z. z.now) q)
 stored_at (x ∷ ks) (suc i) k e = stored_at ks i k e
 
 pub text_nows : (ks : List Key) (i : ℕ) → i < length ks
-    → (get_or ks i blank).now ≡ text_numbered (nows ks) i
+    → (get_or ks i blank).now ≡ indexed_text (nows ks) i
 text_nows ks i l = sym (get_or-map (λ (y : Key). y.now) ks i blank [] l)
 
 pub length-nows : (ks : List Key) → length (nows ks) ≡ length ks

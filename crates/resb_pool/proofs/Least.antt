@@ -13,7 +13,7 @@ use Rattle.std.proofs.lemmas.Str.{chars-append}
 use Rattle.resb_format.specs.Units.{units, is_unmarked, marker, size, length_marker}
 use Rattle.resb_pool.specs.Records.{EndsWith, EachOnce, IsRecord, IsRecords, IsHeldBy, IsLayout}
 use Rattle.std.proofs.lemmas.Grind.{flat_map-append}
-use Rattle.resb_pool.proofs.Cut.{front_utf8}
+use Rattle.resb_pool.proofs.Cut.{rest_utf8}
 use Rattle.resb_pool.proofs.Distinct.{cons_cases, Contains-first}
 use Rattle.resb_pool.proofs.Numbers.{size_le}
 use Rattle.resb_pool.proofs.Lists.{none_where_true}
@@ -74,7 +74,7 @@ pub units_end : (t s : List ℕ) → IsUtf8 t → IsUtf8 s → (h : EndsWith t s
     → units t ≡ units h.front ++ units s
 units_end t s u v h =
     ap units h.is ∙ ap (flat_map encode_utf16)
-    (chars-append h.front s (front_utf8 t h.front s h.is u v))
+    (chars-append h.front s (rest_utf8 t h.front s h.is u v))
     ∙ flat_map-append encode_utf16 (chars h.front) (chars s)
 
 held_costs : (s r : List ℕ) → IsUtf8 r → IsUtf8 s → IsHeldBy s r → size s ≤ size r

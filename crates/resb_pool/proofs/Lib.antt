@@ -22,12 +22,14 @@ mod SuffixOrder
 mod Cut
 mod Ends
 mod Digits
-mod FrontKeys
-mod FrontDigits
-mod ShortTexts
+mod EndKeys
+mod KeyDigits
+mod EndDigits
+mod FewDigits
 mod FrontBytes
 mod SuffixRuns
 mod Numbers
 mod Lists
 mod HashRuns
 mod FirstTurns
+mod ListingLemmas

@@ -11,7 +11,7 @@ use Rattle.std.proofs.lemmas.List.Elements.{Contains-append_left, Contains-push}
 use Rattle.std.proofs.lemmas.List.Elements.{Contains-push_cases}
 use Rattle.resb_pool.specs.Records.{IsRecord, IsRecords}
 use Rattle.resb_pool.specs.Container.{IsContainer}
-use Rattle.resb_pool.specs.Inner.Placing.{text_numbered, LiesAt, AreRecordsAmong}
+use Rattle.resb_pool.specs.Inner.Placing.{indexed_text, LiesAt, AreRecordsAmong}
 use Rattle.resb_pool.specs.Inner.Placing.{AreContainers}
 use Rattle.std.proofs.lemmas.Bool.{cases_lt}
 use Rattle.std.proofs.lemmas.List.{get_or_default}
@@ -103,15 +103,15 @@ at_empty m q e = ap (lookup (λ k. bytes_eq q k.now)) e
 
 -- a text that isn't empty and lies in itself is a record
 pub lies_in_itself : (T : TextList) (i r : ℕ) → LiesAt T i r → r ≡ i
-    → (length (text_numbered T i) ≡ 0 → ⊥)
-    → IsRecord T (text_numbered T i)
+    → (length (indexed_text T i) ≡ 0 → ⊥)
+    → IsRecord T (indexed_text T i)
 lies_in_itself T i r at e full =
-    let pos : 0 < length (text_numbered T i) = elim (cases_lt 0 (length (text_numbered T i))) [
+    let pos : 0 < length (indexed_text T i) = elim (cases_lt 0 (length (indexed_text T i))) [
       | inl p ↦ p
       | inr z ↦
           absurd (full (omega (arith, z)))
     ] in
-    subst (λ n. IsRecord T (text_numbered T n)) e (at.container pos).own
+    subst (λ n. IsRecord T (indexed_text T n)) e (at.container pos).own
 
 -- each text lies in one of them
 pub within_texts : (T : TextList) (hs : List ℕ) → AreContainers T hs

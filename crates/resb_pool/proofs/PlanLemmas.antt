@@ -21,7 +21,7 @@ use Rattle.resb_pool.specs.Container.{IsContainer}
 use Rattle.resb_pool.specs.Pool.{LiesIn, SizeIn, Saved, Precedes, record_units, ClosesAt, Off}
 use Rattle.resb_pool.specs.Pool.{off_empty, off_within}
 use Rattle.resb_pool.specs.Plan.{nows, texts_size, IsPlan}
-use Rattle.resb_pool.specs.Inner.Placing.{text_numbered, copies, AreTexts, AreContainers, AreSums}
+use Rattle.resb_pool.specs.Inner.Placing.{indexed_text, copies, AreTexts, AreContainers, AreSums}
 use Rattle.resb_pool.specs.Inner.Placing.{lying_in}
 use Rattle.resb_pool.specs.Inner.Placing.{IsRecordOf, AreEnds, record_texts, record_cmp}
 use Rattle.resb_pool.specs.Inner.Placing.{AllClose, AreOffsets}
@@ -82,11 +82,11 @@ module _ (S T : TextList) (ms : List Measure) (given : AreTexts S T ms)
     sizes_small = omega (arith, sizes_within S, small)
 
     total_is : (i : ℕ) (d : Measure) → i < length T
-        → (get_or ms i d).total ≡ copies S (text_numbered T i)
+        → (get_or ms i d).total ≡ copies S (indexed_text T i)
     total_is i d l = (given.measured i d l).total_is
 
     size_is : (i : ℕ) (d : Measure) → i < length T
-        → (get_or ms i d).size ≡ size (text_numbered T i)
+        → (get_or ms i d).size ≡ size (indexed_text T i)
     size_is i d l = (given.measured i d l).size_is
 
     pub totals_small : sum_by (λ (m : Measure). m.total) ms < 2 ^ 32
@@ -97,18 +97,18 @@ module _ (S T : TextList) (ms : List Measure) (given : AreTexts S T ms)
       sizes_small,
     )
 
-    record_in : (q : ℕ) → q < length T → IsRecord T (text_numbered T q)
-        → SizeIn S (text_numbered T q) S (lying_in hs ms q)
+    record_in : (q : ℕ) → q < length T → IsRecord T (indexed_text T q)
+        → SizeIn S (indexed_text T q) S (lying_in hs ms q)
     record_in q l r =
         sized S T given.utf8 given.once given.same hs placed ms given.len total_is q l r
 
     -- a record lies in itself
-    own_container : (q : ℕ) → q < length T → IsRecord T (text_numbered T q)
-        → IsContainer S (text_numbered T q) (text_numbered T q)
+    own_container : (q : ℕ) → q < length T → IsRecord T (indexed_text T q)
+        → IsContainer S (indexed_text T q) (indexed_text T q)
     own_container q l r =
         let at = placed.lies q l in
-        container_from T S given.same (text_numbered T q) (text_numbered T q)
-        (subst (λ n. IsContainer T (text_numbered T q) (text_numbered T n)) (at.itself r)
+        container_from T S given.same (indexed_text T q) (indexed_text T q)
+        (subst (λ n. IsContainer T (indexed_text T q) (indexed_text T n)) (at.itself r)
         (at.container r.nonempty))
 
     module _ (sums : List ℕ) (lying : AreLyingIn hs ms sums) where
@@ -120,7 +120,7 @@ module _ (S T : TextList) (ms : List Measure) (given : AreTexts S T ms)
         size_is = size_is;
         own = λ q l r.
             let c = own_container q l r in
-            let o = own_size S (text_numbered T q)
+            let o = own_size S (indexed_text T q)
             (record { nonempty = r.nonempty; container = c }) S
             (lying_in hs ms q) (record_in q l r) c.own.given in
             omega (arith, o, lying.each q (omega (arith, l, placed.len)));
@@ -143,12 +143,12 @@ module _ (S T : TextList) (ms : List Measure) (given : AreTexts S T ms)
         saved_at i d l =
             let r = get_or v i d in
             let e = each i d l in
-            let own : IsRecord T (text_numbered T r.index) =
+            let own : IsRecord T (indexed_text T r.index) =
             subst (IsRecord T) e.text_is ((records.just r.text.now).0 (contains_text v i d l)) in
             let n : lying_in hs ms r.index ≡ r.saved.0 + size r.text.now =
             sym (lying.each r.index (omega (arith, e.within, placed.len))) ∙ sym e.saved_is in
             subst (λ z. SizeIn S z S (r.saved.0 + size z)) (sym e.text_is)
-            (subst (SizeIn S (text_numbered T r.index) S) (n
+            (subst (SizeIn S (indexed_text T r.index) S) (n
             ∙ ap (λ z. r.saved.0 + size z) e.text_is)
             (record_in r.index e.within own))
           where
@@ -162,20 +162,20 @@ module _ (S T : TextList) (ms : List Measure) (given : AreTexts S T ms)
             )
 
         module _ (es : List ℕ) (count : length es ≡ length hs) (ends : AreEnds v v es) where
-          closed : (q : ℕ) → q < length T → IsRecord T (text_numbered T q)
-              → ClosesAt (record_texts v) (text_numbered T q) (get_or es q 0)
-          closed q l r = at (index_of (record_texts v) (text_numbered T q)
-              ((records.just (text_numbered T q)).1 r))
+          closed : (q : ℕ) → q < length T → IsRecord T (indexed_text T q)
+              → ClosesAt (record_texts v) (indexed_text T q) (get_or es q 0)
+          closed q l r = at (index_of (record_texts v) (indexed_text T q)
+              ((records.just (indexed_text T q)).1 r))
             where
               at : (f : (i : ℕ) × (i < length (record_texts v))
-                  × (text_numbered (record_texts v) i ≡ text_numbered T q))
-                  → ClosesAt (record_texts v) (text_numbered T q) (get_or es q 0)
+                  × (indexed_text (record_texts v) i ≡ indexed_text T q))
+                  → ClosesAt (record_texts v) (indexed_text T q) (get_or es q 0)
               at f =
                   let i : ℕ = f.0 in
                   let k : i < length v = omega (arith, f.1, texts_len v) in
                   let x : Record = get_or v i no_record in
                   let e = each i no_record k in
-                  let t : x.text.now ≡ text_numbered T q =
+                  let t : x.text.now ≡ indexed_text T q =
                   sym (get_or-map (λ (r : Record). r.text.now) v i no_record [] k) ∙ f.2 in
                   let n : x.index ≡ q = one_index T x.index q given.once e.within l (sym e.text_is
                   ∙ t) in
@@ -194,7 +194,7 @@ module _ (S T : TextList) (ms : List Measure) (given : AreTexts S T ms)
           )
 
           -- the empty text is no record
-          empty_zero : (q : ℕ) → q < length T → length (text_numbered T q) ≡ 0 → get_or es q 0 ≡ 0
+          empty_zero : (q : ℕ) → q < length T → length (indexed_text T q) ≡ 0 → get_or es q 0 ≡ 0
           empty_zero q l z = ends.others q (λ i d k e.
               let o = each i d k in
               let c : Contains (record_texts v) (get_or v i d).text.now = (
@@ -204,24 +204,24 @@ module _ (S T : TextList) (ms : List Measure) (given : AreTexts S T ms)
                     (get_or v i d).text.now k,
               ) in
               let n = ((records.just (get_or v i d).text.now).0 c).nonempty in
-              omega (arith, n, z, ap length (o.text_is ∙ ap (text_numbered T) e)))
+              omega (arith, n, z, ap length (o.text_is ∙ ap (indexed_text T) e)))
 
           -- where the record of a text closes
-          record_end : (i : ℕ) → i < length T → 0 < length (text_numbered T i)
-              → LiesIn S (text_numbered T i) (text_numbered T (get_or hs i 0))
-              × ClosesAt (record_texts v) (text_numbered T (get_or hs i 0))
+          record_end : (i : ℕ) → i < length T → 0 < length (indexed_text T i)
+              → LiesIn S (indexed_text T i) (indexed_text T (get_or hs i 0))
+              × ClosesAt (record_texts v) (indexed_text T (get_or hs i 0))
               (get_or es (get_or hs i 0) 0)
-              × (size (text_numbered T i) ≤ size (text_numbered T (get_or hs i 0)))
+              × (size (indexed_text T i) ≤ size (indexed_text T (get_or hs i 0)))
           record_end i l pos =
               let at = placed.lies i l in
               let c = at.container pos in
-              let own = container_from T S given.same (text_numbered T i)
-              (text_numbered T (get_or hs i 0)) c in
-              let w = size_within S given.utf8 (text_numbered T i)
-              (text_numbered T (get_or hs i 0))
-              ((given.same (text_numbered T i)).0 (has_text T i l)) own
-              (λ r. ap (text_numbered T) (at.itself
-              (record_from S T back (text_numbered T i) r))) pos in (
+              let own = container_from T S given.same (indexed_text T i)
+              (indexed_text T (get_or hs i 0)) c in
+              let w = size_within S given.utf8 (indexed_text T i)
+              (indexed_text T (get_or hs i 0))
+              ((given.same (indexed_text T i)).0 (has_text T i l)) own
+              (λ r. ap (indexed_text T) (at.itself
+              (record_from S T back (indexed_text T i) r))) pos in (
                 record { nonempty = pos; container = own },
                 closed (get_or hs i 0) at.within
                     c.own,
@@ -229,18 +229,18 @@ module _ (S T : TextList) (ms : List Measure) (given : AreTexts S T ms)
               )
 
           -- the empty text closes at unit 0
-          empty_end : (i : ℕ) → i < length T → length (text_numbered T i) ≡ 0
-              → (get_or es (get_or hs i 0) 0 ≡ 0) × (size (text_numbered T i) ≡ 1)
+          empty_end : (i : ℕ) → i < length T → length (indexed_text T i) ≡ 0
+              → (get_or es (get_or hs i 0) 0 ≡ 0) × (size (indexed_text T i) ≡ 1)
           empty_end i l z = (
             ap (λ n. get_or es n 0) ((placed.lies i l).empty z) ∙ empty_zero i l z,
-            ap size (nil_from_length (text_numbered T i) z) ∙ size_nil,
+            ap size (nil_from_length (indexed_text T i) z) ∙ size_nil,
           )
 
           pub all_close : AllClose hs ms es
           all_close = λ i d l.
               let m : i < length T = omega (arith, l, placed.len) in
               let at = placed.lies i m in
-              elim (cases_lt 0 (length (text_numbered T i))) [
+              elim (cases_lt 0 (length (indexed_text T i))) [
                 | inl pos ↦
                     let e = record_end i m pos in
                     record {
@@ -248,7 +248,7 @@ module _ (S T : TextList) (ms : List Measure) (given : AreTexts S T ms)
                       reaches = omega (arith, size_is i d m, e.2, e.1.place);
                       small = omega (
                         arith,
-                        closes_within (text_numbered T (get_or hs i 0))
+                        closes_within (indexed_text T (get_or hs i 0))
                             (get_or es (get_or hs i 0) 0) e.1,
                         laid_small,
                       );
@@ -264,30 +264,30 @@ module _ (S T : TextList) (ms : List Measure) (given : AreTexts S T ms)
 
           module _ (os : List ℕ) (offsets : AreOffsets hs ms es os) where
             stands : (i : ℕ) → i < length T
-                → Off S (record_texts v) (text_numbered T i) (get_or os i 0)
+                → Off S (record_texts v) (indexed_text T i) (get_or os i 0)
             stands i l =
                 let d : Measure = record { unit_count = 0; size = 0; total = 0 } in
                 let o = offsets.each i d (omega (arith, l, placed.len)) in
                 let h = get_or hs i 0 in
-                elim (cases_lt 0 (length (text_numbered T i))) [
+                elim (cases_lt 0 (length (indexed_text T i))) [
                   | inl pos ↦
                       let e = record_end i l pos in
-                      off_within {s = text_numbered T i} {r = text_numbered T h} {k =
+                      off_within {s = indexed_text T i} {r = indexed_text T h} {k =
                       get_or os i 0} {c = get_or es h 0} e.0 e.1
                       (omega (arith, o, size_is i d l, e.2, e.1.place))
                   | inr z ↦
                       let e = empty_end i l (omega (arith, z)) in
                       let k : get_or os i 0 ≡ 0 = omega (arith, o, size_is i d l, e.0, e.1) in
-                      subst (Off S (record_texts v) (text_numbered T i)) (sym k)
+                      subst (Off S (record_texts v) (indexed_text T i)) (sym k)
                       (subst (λ s. Off S (record_texts v) s 0)
-                      (sym (nil_from_length (text_numbered T i) (omega (arith, z)))) off_empty)
+                      (sym (nil_from_length (indexed_text T i) (omega (arith, z)))) off_empty)
                 ]
 
             pub planned : IsSorted record_cmp v → All (λ s. length (units s) ≤ 4294967295) S
                 → (us : List ℕ) (offset : List ℕ → Option ℕ)
                 → us ≡ 0 ∷ flat_map record_units (record_texts v)
                 → ((s : List ℕ) → MatchOption (offset s) (Contains T s → ⊥) (λ k. (i : ℕ)
-                × (i < length T) × (text_numbered T i ≡ s) × (k ≡ get_or os i 0)))
+                × (i < length T) × (indexed_text T i ≡ s) × (k ≡ get_or os i 0)))
                 → IsPlan S us offset
             planned sorted short us offset u f = record {
               texts = given.utf8;
@@ -303,14 +303,14 @@ module _ (S T : TextList) (ms : List Measure) (given : AreTexts S T ms)
             }
               where
                 by : (s : List ℕ) (o : Option ℕ) → MatchOption o (Contains T s → ⊥) (λ k. (i : ℕ)
-                    × (i < length T) × (text_numbered T i ≡ s) × (k ≡ get_or os i 0))
+                    × (i < length T) × (indexed_text T i ≡ s) × (k ≡ get_or os i 0))
                     → MatchOption o (Contains S s → ⊥) (λ k. Contains S s
                     × Off S (record_texts v) s k)
                 by s None h = λ c. h ((given.same s).1 c)
                 by s (Some k) (i, l, e, q) = (
                   (given.same s).0 (subst (Contains T) e (has_text T i l)),
                   subst (λ z. Off S (record_texts v) z k) e
-                      (subst (Off S (record_texts v) (text_numbered T i)) (sym q) (stands i l)),
+                      (subst (Off S (record_texts v) (indexed_text T i)) (sym q) (stands i l)),
                 )
 
                 precedes : (k : ℕ) → k + 1 < length (record_texts v)
@@ -341,19 +341,19 @@ module _ (s : List ℕ) where
   is_it k = bytes_eq s k.now
 
   found_at : (ks : List (Bor (List ℕ))) → position_or_len is_it ks < length ks
-      → text_numbered (nows ks) (position_or_len is_it ks) ≡ s
+      → indexed_text (nows ks) (position_or_len is_it ks) ≡ s
   found_at [] l = absurd (omega (arith, l))
   found_at (k ∷ ks) l = by (found_at ks) (bytes_eq s k.now) refl l
     where
       by : (position_or_len is_it ks < length ks
-          → text_numbered (nows ks) (position_or_len is_it ks) ≡ s)
+          → indexed_text (nows ks) (position_or_len is_it ks) ≡ s)
           → (b : Bool) → bytes_eq s k.now ≡ b
           → cond (not b) (1 + position_or_len is_it ks) 0 < length (k ∷ ks)
-          → text_numbered (nows (k ∷ ks)) (cond (not b) (1 + position_or_len is_it ks) 0) ≡ s
+          → indexed_text (nows (k ∷ ks)) (cond (not b) (1 + position_or_len is_it ks) 0) ≡ s
       by rest true e m = sym ((bytes_decides s k.now).0 e)
       by rest false e m =
           let n : 1 + position_or_len is_it ks ≡ suc (position_or_len is_it ks) = omega arith in
-          ap (text_numbered (nows (k ∷ ks))) n ∙ rest (omega (arith, m))
+          ap (indexed_text (nows (k ∷ ks))) n ∙ rest (omega (arith, m))
 
   nowhere : (ks : List (Bor (List ℕ))) → length ks ≤ position_or_len is_it ks → Contains (nows ks) s
       → ⊥
@@ -369,7 +369,7 @@ module _ (s : List ℕ) where
 
   pub offset_at : (ks : List (Bor (List ℕ))) (os : List ℕ) → length os ≡ length ks
       → MatchOption (option_and_then (slice_get os) (position is_it ks)) (Contains (nows ks) s
-      → ⊥) (λ k. (i : ℕ) × (i < length (nows ks)) × (text_numbered (nows ks) i ≡ s)
+      → ⊥) (λ k. (i : ℕ) × (i < length (nows ks)) × (indexed_text (nows ks) i ≡ s)
       × (k ≡ get_or os i 0))
   offset_at ks os e = by (nat_lt (position_or_len is_it ks) (length ks)) refl
     where
@@ -379,11 +379,11 @@ module _ (s : List ℕ) where
       by : (b : Bool) → nat_lt n (length ks) ≡ b
           → MatchOption (option_and_then (slice_get os) (cond b (Some n) None))
           (Contains (nows ks) s → ⊥) (λ k. (i : ℕ) × (i < length (nows ks))
-          × (text_numbered (nows ks) i ≡ s) × (k ≡ get_or os i 0))
+          × (indexed_text (nows ks) i ≡ s) × (k ≡ get_or os i 0))
       by true f =
           let l : n < length ks = ltb-true n (length ks) f in
           subst (λ o. MatchOption o (Contains (nows ks) s → ⊥) (λ k. (i : ℕ)
-          × (i < length (nows ks)) × (text_numbered (nows ks) i ≡ s) × (k ≡ get_or os i 0)))
+          × (i < length (nows ks)) × (indexed_text (nows ks) i ≡ s) × (k ≡ get_or os i 0)))
           (sym (slice_get-get_or os n 0 (omega (arith, l, e))))
           (n, omega (arith, l, length-map ks (λ (k : Bor (List ℕ)). k.now)), found_at ks l, refl)
       by false f = nowhere ks (ltb-false n (length ks) f)

@@ -18,7 +18,7 @@ use Rattle.resb_pool.specs.Records.{EachOnce, EndsWith, IsRecord}
 use Rattle.resb_pool.specs.Container.{IsContainer}
 use Rattle.resb_pool.specs.Inner.Cuts.{chars_backwards}
 use Rattle.resb_pool.specs.Inner.Extends.{Extends, Before, NotAfter}
-use Rattle.resb_pool.specs.Inner.Placing.{text_numbered, LiesAt}
+use Rattle.resb_pool.specs.Inner.Placing.{indexed_text, LiesAt}
 use Rattle.resb_pool.specs.Inner.Suffixes.{AreInOrder, IsSharedEnd, row_text, row_texts}
 use Rattle.resb_pool.specs.Inner.Suffixes.{row_cmp}
 use Rattle.resb_pool.specs.declared.suffix_order.Row.{Row}
@@ -63,7 +63,7 @@ module _ (T : TextList) (utf8 : All IsUtf8 T) (once : EachOnce T) (rows : List R
   pub same_len : length rows ≡ length T
   same_len = sym (length-map rows (row_text T)) ∙ length_permutation T (row_texts T rows) o.all
 
-  text_at : (j : ℕ) (d : Row) → j < length rows → text_numbered (row_texts T rows) j ≡ at j d
+  text_at : (j : ℕ) (d : Row) → j < length rows → indexed_text (row_texts T rows) j ≡ at j d
   text_at j d l = get_or-map (row_text T) rows j d _ l
 
   in_texts : (j : ℕ) (d : Row) → j < length rows → Contains T (at j d)
@@ -88,12 +88,12 @@ module _ (T : TextList) (utf8 : All IsUtf8 T) (once : EachOnce T) (rows : List R
 
   pub one_row : (j k : ℕ) (d : Row) → j < length rows → k < length rows
       → (get_or rows j d).index ≡ (get_or rows k d).index → j ≡ k
-  one_row j k d l m e = one_place j k d l m (ap (text_numbered T) e)
+  one_row j k d l m e = one_place j k d l m (ap (indexed_text T) e)
 
   pub row_of : (i : ℕ) (d : Row) → i < length T → (j : ℕ) × (j < length rows)
       × ((get_or rows j d).index ≡ i)
   row_of i d l =
-      let p = place_of (text_numbered T i) d (has_text T i l) in
+      let p = place_of (indexed_text T i) d (has_text T i l) in
       let r = o.each p.0 d p.1 in
       (p.0, p.1, one_index T (get_or rows p.0 d).index i once r.within l p.2)
 
@@ -258,13 +258,13 @@ module _ (T : TextList) (utf8 : All IsUtf8 T) (once : EachOnce T) (rows : List R
           ap length shared.ends.is,
           length-append shared.ends.front s,
         ) in
-        let c : IsContainer T p (text_numbered T h) = lies.container pos in
+        let c : IsContainer T p (indexed_text T h) = lies.container pos in
         record {
           within = lies.within;
           container = λ z. record {
             own = c.own;
-            ends = ends_trans (text_numbered T h) p s c.ends shared.ends;
-            greatest = λ q x y. with_previous q (text_numbered T h) x y c;
+            ends = ends_trans (indexed_text T h) p s c.ends shared.ends;
+            greatest = λ q x y. with_previous q (indexed_text T h) x y c;
           };
           itself = λ x. absurd (no_record x);
           empty = λ z. absurd (omega (arith, z, shared.nonempty));

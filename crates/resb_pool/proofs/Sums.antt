@@ -14,7 +14,7 @@ use Rattle.resb_format.specs.Units.{size}
 use Rattle.resb_pool.specs.Records.{IsRecord, EachOnce}
 use Rattle.resb_pool.specs.Container.{IsContainer}
 use Rattle.resb_pool.specs.Pool.{SizeIn, size_none, size_here, size_elsewhere}
-use Rattle.resb_pool.specs.Inner.Placing.{text_numbered, copies, AreContainers, LiesAt}
+use Rattle.resb_pool.specs.Inner.Placing.{indexed_text, copies, AreContainers, LiesAt}
 use Rattle.resb_pool.specs.Inner.Placing.{lying_in}
 use Rattle.resb_pool.specs.declared.measure.Measure.{Measure}
 use Rattle.resb_pool.proofs.Distinct.{has_text, index_of, one_index}
@@ -63,7 +63,7 @@ part q (h ∷ hs) (t ∷ T) s = if_in h q (copy t s) + part q hs T s
 
 share_all : (q : ℕ) (S : TextList) (hs : List ℕ) (ms : List Measure) (T : TextList)
     → length hs ≡ length T → length ms ≡ length T
-    → ((i : ℕ) (d : Measure) → i < length T → (get_or ms i d).total ≡ copies S (text_numbered T i))
+    → ((i : ℕ) (d : Measure) → i < length T → (get_or ms i d).total ≡ copies S (indexed_text T i))
     → lying_in hs ms q ≡ share q hs T S
 share_all q S [] ms T e f t = refl
 share_all q S (h ∷ hs) [] [] e f t = refl
@@ -104,7 +104,7 @@ part_none q (h ∷ hs) (t ∷ T) s f =
 
 -- a text takes part in the record in which it lies
 part_at : (q : ℕ) (hs : List ℕ) (T : TextList) (s : List ℕ) (j : ℕ)
-    → length hs ≡ length T → EachOnce T → j < length T → text_numbered T j ≡ s
+    → length hs ≡ length T → EachOnce T → j < length T → indexed_text T j ≡ s
     → part q hs T s ≡ if_in (get_or hs j 0) q (size s)
 part_at q [] T s j e u l k = absurd (omega (arith, e, l))
 part_at q (h ∷ hs) [] s j e u l k = absurd (omega (arith, l))
@@ -124,11 +124,11 @@ module _ (S T : TextList) (texts : All IsUtf8 S) (once : EachOnce T) (same : (s 
     → Contains T s ↔ Contains S s) (hs : List ℕ) (placed : AreContainers T hs)
     (ms : List Measure) (len : length ms ≡ length T)
     (totals : (i : ℕ) (d : Measure) → i < length T
-    → (get_or ms i d).total ≡ copies S (text_numbered T i)) where
-  module _ (q : ℕ) (l : q < length T) (r : IsRecord T (text_numbered T q)) where
+    → (get_or ms i d).total ≡ copies S (indexed_text T i)) where
+  module _ (q : ℕ) (l : q < length T) (r : IsRecord T (indexed_text T q)) where
     shares : (ss : TextList) → ((s : List ℕ) → Contains ss s → Contains T s)
-        → SizeIn S (text_numbered T q) ss (share q hs T ss)
-    shares [] h = subst (SizeIn S (text_numbered T q) []) (sym (share_none q hs T)) size_none
+        → SizeIn S (indexed_text T q) ss (share q hs T ss)
+    shares [] h = subst (SizeIn S (indexed_text T q) []) (sym (share_none q hs T)) size_none
     shares (s ∷ ss) h =
         let f = index_of T s (h s (0, omega arith, refl)) in
         let j : ℕ = f.0 in
@@ -136,50 +136,50 @@ module _ (S T : TextList) (texts : All IsUtf8 S) (once : EachOnce T) (same : (s 
         let rest = shares ss (λ z c. h z (suc c.0, omega (arith, c.1), c.2)) in
         let e : share q hs T (s ∷ ss) ≡ if_in (get_or hs j 0) q (size s) + share q hs T ss =
         omega (arith, share-cons q hs T s ss, part_at q hs T s j placed.len once f.1 f.2) in
-        subst (SizeIn S (text_numbered T q) (s
+        subst (SizeIn S (indexed_text T q) (s
         ∷ ss)) (sym e) (by f at rest (nat_eq (get_or hs j 0) q)
         refl)
       where
-        by : (f : (i : ℕ) × (i < length T) × (text_numbered T i ≡ s))
+        by : (f : (i : ℕ) × (i < length T) × (indexed_text T i ≡ s))
             → LiesAt T f.0 (get_or hs f.0 0)
-            → SizeIn S (text_numbered T q) ss (share q hs T ss)
+            → SizeIn S (indexed_text T q) ss (share q hs T ss)
             → (b : Bool) → nat_eq (get_or hs f.0 0) q ≡ b
-            → SizeIn S (text_numbered T q) (s ∷ ss) (cond b (size s) 0 + share q hs T ss)
+            → SizeIn S (indexed_text T q) (s ∷ ss) (cond b (size s) 0 + share q hs T ss)
         by f at rest true g =
             let k : (get_or hs f.0 0) ≡ q = eqb-true (get_or hs f.0 0) q g in
-            let full : (length (text_numbered T f.0) ≡ 0
+            let full : (length (indexed_text T f.0) ≡ 0
             → ⊥) = λ z. (let i : f.0 ≡ q = sym (at.empty z)
-            ∙ k in omega (arith, r.nonempty, z, ap (λ n. length (text_numbered T n)) i)) in
-            let pos : 0 < length (text_numbered T f.0) = more_than_zero
-            (length (text_numbered T f.0)) full in
-            let c : IsContainer T s (text_numbered T q) =
-            subst (λ z. IsContainer T z (text_numbered T q)) f.2
-            (subst (λ n. IsContainer T (text_numbered T f.0) (text_numbered T n)) k
+            ∙ k in omega (arith, r.nonempty, z, ap (λ n. length (indexed_text T n)) i)) in
+            let pos : 0 < length (indexed_text T f.0) = more_than_zero
+            (length (indexed_text T f.0)) full in
+            let c : IsContainer T s (indexed_text T q) =
+            subst (λ z. IsContainer T z (indexed_text T q)) f.2
+            (subst (λ n. IsContainer T (indexed_text T f.0) (indexed_text T n)) k
             (at.container pos)) in
             size_here (record {
               nonempty = subst (λ (z : List ℕ). 0 < length z) f.2 pos;
               container =
-                  container_from T S same s (text_numbered T q) c;
+                  container_from T S same s (indexed_text T q) c;
             }) rest
-        by f at rest false g = subst (SizeIn S (text_numbered T q) (s
+        by f at rest false g = subst (SizeIn S (indexed_text T q) (s
             ∷ ss)) (omega arith) (size_elsewhere
             (λ m.
-            let pos : 0 < length (text_numbered T f.0) =
+            let pos : 0 < length (indexed_text T f.0) =
             subst (λ (z : List ℕ). 0 < length z) (sym f.2) m.nonempty in
-            let c : IsContainer S s (text_numbered T (get_or hs f.0 0)) =
-            container_from T S same s (text_numbered T (get_or hs f.0 0))
-            (subst (λ z. IsContainer T z (text_numbered T (get_or hs f.0 0))) f.2
+            let c : IsContainer S s (indexed_text T (get_or hs f.0 0)) =
+            container_from T S same s (indexed_text T (get_or hs f.0 0))
+            (subst (λ z. IsContainer T z (indexed_text T (get_or hs f.0 0))) f.2
             (at.container pos)) in
             let k : (get_or hs f.0 0) ≡ q =
             one_index T (get_or hs f.0 0) q once at.within l
-            (one_container S texts s (text_numbered T (get_or hs f.0 0))
-            (text_numbered T q) c
+            (one_container S texts s (indexed_text T (get_or hs f.0 0))
+            (indexed_text T q) c
             m.container) in
             true≢false (sym (eq-eqb (get_or hs f.0 0) q k) ∙ g))
             rest)
 
-    pub sized : SizeIn S (text_numbered T q) S (lying_in hs ms q)
-    sized = subst (SizeIn S (text_numbered T q) S)
+    pub sized : SizeIn S (indexed_text T q) S (lying_in hs ms q)
+    sized = subst (SizeIn S (indexed_text T q) S)
         (sym (share_all q S hs ms T placed.len len totals))
         (shares S (λ s c. (same s).1 c))
 
@@ -249,7 +249,7 @@ copies_of_all T (s ∷ ss) u = omega (
 )
 
 pub totals_of : (S : TextList) (ms : List Measure) (T : TextList) → length ms ≡ length T
-    → ((i : ℕ) (d : Measure) → i < length T → (get_or ms i d).total ≡ copies S (text_numbered T i))
+    → ((i : ℕ) (d : Measure) → i < length T → (get_or ms i d).total ≡ copies S (indexed_text T i))
     → sum_by (λ (m : Measure). m.total) ms ≡ sum_by (copies S) T
 totals_of S [] [] e h = refl
 totals_of S [] (t ∷ T) e h = absurd (omega (arith, e))

@@ -14,7 +14,7 @@ use Rattle.indexmap.specs.IndexSet.{insert_key}
 use Rattle.resb_format.specs.Units.{units}
 use Rattle.resb_pool.specs.Records.{EachOnce}
 use Rattle.resb_pool.specs.Plan.{nows, texts_size}
-use Rattle.resb_pool.specs.Inner.Placing.{text_numbered, AreTurns}
+use Rattle.resb_pool.specs.Inner.Placing.{indexed_text, AreTurns}
 use Rattle.resb_pool.specs.Inner.LaidRecords.{HaveOffsets}
 use Rattle.resb_pool.specs.declared.measure.Measure.{Measure}
 use Rattle.resb_pool.proofs.Distinct.{has_text, one_index}
@@ -44,7 +44,7 @@ no_turns = record {
 
 -- more texts behind the others have the same texts at the same indexes
 pub grown : (T U : TextList) (turns : List ℕ) → All (λ i. i < length T) turns
-    → map (text_numbered (T ++ U)) turns ≡ map (text_numbered T) turns
+    → map (indexed_text (T ++ U)) turns ≡ map (indexed_text T) turns
 grown T U [] h = refl
 grown T U (i ∷ turns) h =
     let l : i < length T = h 0 i (omega arith) in
@@ -53,13 +53,13 @@ grown T U (i ∷ turns) h =
 
 module _ (D : TextList) (ks new : List Key) (t : Key) (turns : List ℕ)
     (h : AreTurns D (nows ks) turns) (i : ℕ) (l : i < length (nows new))
-    (at : text_numbered (nows new) i ≡ t.now) where
+    (at : indexed_text (nows new) i ≡ t.now) where
   -- one turn more, where the texts before stand where they stood
-  one_more : map (text_numbered (nows new)) turns ≡ map (text_numbered (nows ks)) turns
+  one_more : map (indexed_text (nows new)) turns ≡ map (indexed_text (nows ks)) turns
       → length (nows ks) ≤ length (nows new) → length (nows new) ≤ length (nows ks) + 1
       → AreTurns (D ++ t.now ∷ []) (nows new) (turns ++ i ∷ [])
   one_more same least most = record {
-    texts = map_push (text_numbered (nows new)) turns i
+    texts = map_push (indexed_text (nows new)) turns i
         ∙ (λ j. (same ∙ h.texts) j ++ at j ∷ []);
     within = All-push (λ k. k < length (nows new)) turns i
         (λ k d m. (let n : get_or turns k d < length (nows ks) = h.within k d m in
@@ -76,13 +76,13 @@ module _ (D : TextList) (ks new : List Key) (t : Key) (turns : List ℕ)
           → AreTurns (D ++ t.now ∷ []) (nows new) (turns ++ i ∷ [])
       by true g =
           let is : nows new ≡ nows ks = ap nows (e ∙ ap (λ a. cond a ks (ks ++ t ∷ [])) g) in
-          one_more (ap (λ z. map (text_numbered z) turns) is) (omega (arith, ap length is))
+          one_more (ap (λ z. map (indexed_text z) turns) is) (omega (arith, ap length is))
           (omega (arith, ap length is))
       by false g =
           let is : nows new ≡ nows ks ++ t.now ∷ [] =
           ap nows (e ∙ ap (λ a. cond a ks (ks ++ t ∷ [])) g)
           ∙ map_push (λ (y : Key). y.now) ks t in
-          one_more (ap (λ z. map (text_numbered z) turns) is
+          one_more (ap (λ z. map (indexed_text z) turns) is
           ∙ grown (nows ks) (t.now ∷ []) turns h.within)
           (omega (arith, ap length is, length_push (nows ks) t.now))
           (omega (arith, ap length is, length_push (nows ks) t.now))
@@ -100,16 +100,16 @@ offsets_fit T ms us os h = omega (
 offset_there : (keys : List Key) (os : List ℕ) → length os ≡ length keys → EachOnce (nows keys)
     → (j : ℕ) → j < length (nows keys)
     → option_and_then (slice_get os)
-    (position (λ (k : Key). bytes_eq (text_numbered (nows keys) j) k.now) keys)
+    (position (λ (k : Key). bytes_eq (indexed_text (nows keys) j) k.now) keys)
     ≡ Some (get_or os j 0)
 offset_there keys os e once j l =
-    let s = text_numbered (nows keys) j in
+    let s = indexed_text (nows keys) j in
     by (option_and_then (slice_get os) (position (λ (k : Key). bytes_eq s k.now) keys))
     (offset_at s keys os e)
   where
     by : (o : Option ℕ) → MatchOption o
-        (Contains (nows keys) (text_numbered (nows keys) j) → ⊥) (λ k. (i : ℕ)
-        × (i < length (nows keys)) × (text_numbered (nows keys) i ≡ text_numbered (nows keys) j)
+        (Contains (nows keys) (indexed_text (nows keys) j) → ⊥) (λ k. (i : ℕ)
+        × (i < length (nows keys)) × (indexed_text (nows keys) i ≡ indexed_text (nows keys) j)
         × (k ≡ get_or os i 0)) → o ≡ Some (get_or os j 0)
     by None f = absurd (f (has_text (nows keys) j l))
     by (Some k) f = ap Some (f.3 ∙ ap (λ z. get_or os z 0)
@@ -127,7 +127,7 @@ offsets_there S keys turns os e once h =
     offset s = option_and_then (slice_get os) (position (λ (k : Key). bytes_eq s k.now) keys)
 
     each : (turns : List ℕ) → All (λ i. i < length (nows keys)) turns
-        → map offset (map (text_numbered (nows keys)) turns) ≡ map Some (map (slice_index os) turns)
+        → map offset (map (indexed_text (nows keys)) turns) ≡ map Some (map (slice_index os) turns)
     each [] w = refl
     each (i ∷ turns) w =
         let there = offset_there keys os e once i (w 0 i (omega arith)) in

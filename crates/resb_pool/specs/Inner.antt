@@ -7,3 +7,4 @@ pub mod Suffixes
 pub mod LaidRecords
 pub mod ToldApart
 pub mod Firsts
+pub mod Listing

@@ -11,7 +11,7 @@ ghost use Rattle.resb_pool.specs.Inner.Placing.{AreContainers};
 ghost use Rattle.resb_pool.specs.Inner.Suffixes.{IsKeyed, IsSharedEnd, row_text};
 
 use crate::measure::Measure;
-use crate::suffix_order::{Row, in_suffix_order, is_short, may_end_with, row_of};
+use crate::suffix_order::{Row, in_suffix_order, is_whole_in_row, may_end_with, row_of};
 use crate::texts::indexed_text;
 use resb_format::is_unmarked;
 use std::alloc::{AllocError, Global};
@@ -37,16 +37,16 @@ fn lies_with(texts: &[&str], row: &Row, previous: &Row) -> bool
         → ⊥) }
 {
     may_end_with(previous, row)
-        && (is_short(row)
+        && (is_whole_in_row(row)
             || is_shared_end(
                 indexed_text(texts, row.index),
                 indexed_text(texts, previous.index),
             ))
 }
 
-/// The index of the text in whose record each of distinct texts lies; the empty text, which has no
-/// record, lies in itself. What ends with a text stands in one run before it in suffix order, so
-/// the text lies where the one right before it lies, or is a record.
+/// The index of the text in whose record each of distinct texts lies. The empty text has no record,
+/// and lies in itself. In suffix order all texts that end with a text stand in one run right before
+/// it. So the text lies where the one right before it lies, or is a record.
 pub(crate) fn find_containers(alloc: Global, texts: &[&str]) -> Result<Vec<u32>, AllocError>
     requires utf8 { All IsUtf8 (nows texts.now) }
     requires distinct { EachOnce (nows texts.now) }
@@ -74,7 +74,7 @@ pub(crate) fn find_sums(
     measures: &[Measure],
 ) -> Result<Vec<u32>, AllocError>
     requires len { length measures.now ≡ length containers.now }
-    requires within { All (λ h. h < length containers.now) containers.now }
+    requires within { All (λ c. c < length containers.now) containers.now }
     requires small { sum_by (λ m. m.total) measures.now < 2 ^ 32 }
     ensures { IfOk result (λ v. AreLyingIn containers.now measures.now v.items) }
 {

@@ -8,15 +8,16 @@ ghost use Rattle.resb_pool.specs.Inner.Firsts.{text_hash, hash_cmp, AreHashes, A
 use crate::measure::SIZE_LIMIT;
 use std::alloc::{AllocError, Global};
 
-/// The hash of a string and the string's number, so ordered that equal strings stand together, the
-/// first copy in front.
+/// The hash of a string, and the string's number. In the order of these, equal strings stand
+/// together, and the first copy is the first of them.
 #[derive(Clone, Copy, PartialEq, Eq, PartialOrd, Ord)]
 pub(crate) struct NumberedHash {
     pub(crate) hash: u64,
     pub(crate) number: u32,
 }
 
-/// A number that equal texts share. (FNV, with sums.)
+/// A number that equal texts share. It is made as FNV makes it, but each byte is added to it, where
+/// FNV takes the exclusive or of both.
 fn hash_of(text: &str) -> u64
     ensures { result ≡ text_hash text.now }
 {

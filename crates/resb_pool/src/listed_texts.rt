@@ -1,14 +1,16 @@
 //! The distinct texts of strings as a list, each with its sizes, by the first copies of strings.
 //! How first copies are found is said in `firsts`; texts in a table are those of `texts`.
-ghost use Rattle.std.specs.Prelude.{◌≡◌, ◌++◌, ◌∷◌, ◌<◌, ◌^◌, [], List, ℕ, IfOk, IfErr, OnOk, None};
-ghost use Rattle.std.specs.Prelude.{length};
+ghost use Rattle.std.specs.Prelude.{◌≡◌, ◌+◌, ◌<◌, ◌^◌, List, ℕ, IfOk, IfErr, OnOk, None};
+ghost use Rattle.std.specs.Prelude.{length, take, slice_index};
+ghost use Rattle.std.specs.Borrow.{Bor};
 ghost use Rattle.resb_format.specs.Units.{units};
 ghost use Rattle.resb_pool.specs.Plan.{nows, first_too_long, texts_size, NotPlanned};
-ghost use Rattle.resb_pool.specs.Inner.Placing.{AreTexts, AreTurns};
+ghost use Rattle.resb_pool.specs.Inner.Placing.{AreTexts, AreTurns, indexed_text};
 ghost use Rattle.resb_pool.specs.Inner.Firsts.{IsFirst, AreFirsts};
+ghost use Rattle.resb_pool.specs.Inner.Listing.{IsListing};
 
 use crate::error::PlanError;
-use crate::measure::{Measure, SIZE_LIMIT, is_vast};
+use crate::measure::{Measure, is_vast, size_with};
 use crate::texts::Texts;
 use std::alloc::{AllocError, Global};
 
@@ -45,81 +47,93 @@ fn count_firsts(firsts: &[u32]) -> usize {
     count
 }
 
-impl<'a> ListedTexts<'a> {
-    /// No texts, with room for those of strings with these first copies.
-    fn with_room_for(alloc: Global, firsts: &[u32]) -> Result<ListedTexts<'a>, AllocError>
-        ensures texts { IfOk result (λ t. AreTexts [] (nows t.texts.items) t.measures.items) }
-        ensures turns { IfOk result (λ t. AreTurns [] (nows t.texts.items) t.order.items) }
-    {
-        let count = count_firsts(firsts);
-        Ok(ListedTexts {
-            texts: Vec::with_capacity(alloc, count)?,
-            measures: Vec::with_capacity(alloc, count)?,
-            order: Vec::with_capacity(alloc, firsts.len())?,
-        })
-    }
+/// Strings whose texts are listed in their own room.
+#[derive(Drop)]
+struct Listing<'a> {
+    /// The texts found so far, and from the next string on the strings.
+    strings: Vec<&'a str>,
+    /// How many texts were found.
+    count: usize,
+    measures: Vec<Measure>,
+    /// The index of each string's text so far, and from the next string on the numbers of the
+    /// first copies.
+    order: Vec<u32>,
 }
 
-/// Adds a copy of a text, where the number of its first copy is known, and gives the number of its
-/// units.
-fn add<'a>(list: &mut ListedTexts<'a>, text: &'a str, first: usize) -> Result<usize, AllocError>
-    requires given { (done : List (List ℕ)) × (texts_size done < 2 ^ 28)
-        × AreTexts done (nows list.old.texts.items) list.old.measures.items
-        × AreTurns done (nows list.old.texts.items) list.old.order.items
-        × IsFirst (done ++ text.now ∷ []) (length done) first }
+/// Lists the text of the next string, whose number is given too, and gives the number of its units.
+fn list_next<'a>(list: &mut Listing<'a>, text: &'a str, number: usize) -> Result<usize, AllocError>
+    requires given { (xs : List (Bor (List ℕ))) × (fs : List ℕ) × IsListing xs fs number list.old
+        × (number < length xs) × (text.now ≡ indexed_text (nows xs) number)
+        × (texts_size (nows (take number xs)) < 2 ^ 28)
+        × IsFirst (nows xs) number (slice_index fs number) }
     requires short { length (units text.now) < 2 ^ 28 }
     ensures count { IfOk result (λ n. n ≡ length (units text.now)) }
-    ensures texts { OnOk result ((done : List (List ℕ))
-        → AreTexts done (nows list.old.texts.items) list.old.measures.items
-        → AreTurns done (nows list.old.texts.items) list.old.order.items
-        → IsFirst (done ++ text.now ∷ []) (length done) first
-        → AreTexts (done ++ text.now ∷ []) (nows list.new.texts.items) list.new.measures.items) }
-    ensures turns { OnOk result ((done : List (List ℕ))
-        → AreTexts done (nows list.old.texts.items) list.old.measures.items
-        → AreTurns done (nows list.old.texts.items) list.old.order.items
-        → IsFirst (done ++ text.now ∷ []) (length done) first
-        → AreTurns (done ++ text.now ∷ []) (nows list.new.texts.items) list.new.order.items) }
+    ensures lists { OnOk result ((xs : List (Bor (List ℕ))) (fs : List ℕ)
+        → IsListing xs fs number list.old → number < length xs
+        → text.now ≡ indexed_text (nows xs) number
+        → IsFirst (nows xs) number (slice_index fs number)
+        → IsListing xs fs (number + 1) list.new) }
 {
-    let mut index = list.texts.len();
-    if first < list.order.len() {
-        index = list.order[first] as usize;
+    let first = list.order[number] as usize;
+    let index = if first < number {
+        list.order[first] as usize
     } else {
-        list.texts.push(text)?;
+        let next = list.count;
+        list.strings[next] = text;
         list.measures.push(Measure::of(text))?;
-    }
+        list.count += 1;
+        next
+    };
     let measure = &mut list.measures[index];
     measure.total += measure.size;
-    let count = measure.unit_count as usize;
-    list.order.push(index as u32)?;
-    Ok(count)
+    let unit_count = measure.unit_count as usize;
+    list.order[number] = index as u32;
+    Ok(unit_count)
 }
 
-/// The distinct texts of strings whose first copies are known. Refused are strings whose units and
-/// 16 for each come to 2^28 or more.
+/// The distinct texts of strings whose first copies are known, in the room of both. Refused are
+/// strings whose units and 16 for each come to 2^28 or more.
 pub(crate) fn by_firsts<'a>(
     alloc: Global,
-    strings: &[&'a str],
-    firsts: &[u32],
+    strings: Vec<&'a str>,
+    firsts: Vec<u32>,
 ) -> Result<ListedTexts<'a>, PlanError>
-    requires short { first_too_long (nows strings.now) ≡ None }
-    requires firsts { AreFirsts (nows strings.now) firsts.now }
+    requires short { first_too_long (nows strings.items) ≡ None }
+    requires firsts { AreFirsts (nows strings.items) firsts.items }
     ensures texts { IfOk result (λ t.
-        AreTexts (nows strings.now) (nows t.texts.items) t.measures.items) }
+        AreTexts (nows strings.entry.items) (nows t.texts.items) t.measures.items) }
     ensures turns { IfOk result (λ t.
-        AreTurns (nows strings.now) (nows t.texts.items) t.order.items) }
-    ensures small { OnOk result (texts_size (nows strings.now) < 2 ^ 28) }
-    ensures err { IfErr result (NotPlanned (nows strings.now)) }
+        AreTurns (nows strings.entry.items) (nows t.texts.items) t.order.items) }
+    ensures small { OnOk result (texts_size (nows strings.entry.items) < 2 ^ 28) }
+    ensures err { IfErr result (NotPlanned (nows strings.entry.items)) }
 {
-    let mut list = ListedTexts::with_room_for(alloc, firsts)?;
+    let string_count = strings.len();
+    let measures = Vec::with_capacity(alloc, count_firsts(&firsts))?;
+    let mut list = Listing {
+        strings,
+        count: 0,
+        measures,
+        order: firsts,
+    };
     let mut size = 0;
-    for (number, text) in strings.iter().enumerate() {
+    for number in 0..string_count {
+        let text = list.strings[number];
         if is_vast(text) {
             return Err(PlanError::TooLarge);
         }
-        size += 16 + add(&mut list, text, firsts[number] as usize)?;
-        if size >= SIZE_LIMIT {
-            return Err(PlanError::TooLarge);
-        }
+        let unit_count = list_next(&mut list, text, number)?;
+        size = size_with(size, unit_count)?;
     }
-    Ok(list)
+    let Listing {
+        strings: mut texts,
+        count,
+        measures,
+        order,
+    } = list;
+    texts.truncate(count);
+    Ok(ListedTexts {
+        texts,
+        measures,
+        order,
+    })
 }

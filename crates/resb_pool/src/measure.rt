@@ -1,9 +1,11 @@
 //! How many units a text and its record take, and whether a string is too long to plan.
-//! Which texts get a record is not said here.
+//! Which texts get a record is said in `containers`.
 ghost use Rattle.std.specs.Prelude.{◌≡◌, ◌+◌, ◌<◌, ◌≤◌, ◌^◌, None, MatchOption, length, nat_le};
-ghost use Rattle.std.specs.Prelude.{OnOk, IfErr};
+ghost use Rattle.std.specs.Prelude.{IfOk, OnOk, IfErr};
+ghost use Rattle.resb_format.specs.Units as text_units;
 ghost use Rattle.resb_format.specs.Units.{units, size};
 ghost use Rattle.resb_pool.specs.Plan.{nows, first_too_long, NotPlanned};
+ghost use Rattle.resb_pool.specs.declared.error.PlanError.TheVariants.{TooLarge};
 
 use crate::error::PlanError;
 use resb_format::{MAX_UNMARKED, marker_units, utf16_len};
@@ -25,6 +27,14 @@ pub(crate) struct Measure {
     pub(crate) total: u32,
 }
 
+/// Whether a text of so many units stands without a marker.
+pub(crate) fn is_unmarked(text: &str, count: usize) -> bool
+    requires { count ≡ length (units text.now) }
+    ensures { result ≡ text_units.is_unmarked text.now }
+{
+    count <= MAX_UNMARKED && !text.as_bytes().contains(&0)
+}
+
 impl Measure {
     /// The measure of a text of which there is no copy yet.
     pub(crate) fn of(text: &str) -> Measure
@@ -34,11 +44,10 @@ impl Measure {
         ensures total { result.total ≡ 0 }
     {
         let unit_count = utf16_len(text);
-        let is_marked = unit_count > MAX_UNMARKED || text.as_bytes().contains(&0);
-        let marker = if is_marked {
-            marker_units(unit_count).max(1)
-        } else {
+        let marker = if is_unmarked(text, unit_count) {
             0
+        } else {
+            marker_units(unit_count).max(1)
         };
         Measure {
             unit_count: unit_count as u32,
@@ -72,6 +81,21 @@ pub(crate) fn check_lengths(strings: &[&str]) -> Result<(), PlanError>
         }
     }
     Ok(())
+}
+
+/// The size of strings with one more string, of so many units. Refused is a size of 2^28 or more.
+pub(crate) fn size_with(size: usize, count: usize) -> Result<usize, PlanError>
+    requires size { size < 2 ^ 28 }
+    requires count { count < 2 ^ 28 }
+    ensures ok { IfOk result (λ n. n ≡ size + (16 + count)) }
+    ensures small { IfOk result (λ n. n < 2 ^ 28) }
+    ensures err { IfErr result (λ e. (e ≡ TooLarge) × (2 ^ 28 ≤ size + (16 + count))) }
+{
+    let more = size + 16 + count;
+    if more >= SIZE_LIMIT {
+        return Err(PlanError::TooLarge);
+    }
+    Ok(more)
 }
 
 /// Whether a text has 2^28 units or more. They are counted only where its bytes are as many.

@@ -1,13 +1,13 @@
-//! The plan of a pool: strings in, the units of their records and their offsets out.
-//! Each step has a file of its own: `texts`, or `firsts` and `listed_texts`, then `containers`,
-//! `records`, `offsets`.
+//! The plan of a pool, which is made of strings: the units of their records, and their offsets.
+//! Strings are told apart in `texts`, or else in `firsts` and `listed_texts`. The other steps are
+//! in `containers`, `records` and `offsets`.
 ghost use Rattle.std.specs.Prelude.{◌≡◌, ℕ, ◌<◌, ◌^◌, List, map, Option, Some};
 ghost use Rattle.std.specs.Prelude.{IfOk, IfErr};
 ghost use Rattle.resb_pool.specs.Plan.{nows, plan_units, offset_of, turn_offsets, texts_size};
 ghost use Rattle.resb_pool.specs.Plan.{IsPlan, NotPlanned};
 ghost use Rattle.resb_pool.specs.Inner.Placing.{AreTexts, AreContainers};
 ghost use Rattle.resb_pool.specs.Inner.LaidRecords.{IsBlock, HaveOffsets};
-ghost use Rattle.resb_pool.specs.Inner.ToldApart.{ToldApart, AreListed};
+ghost use Rattle.resb_pool.specs.Inner.ToldApart.{ToldApart};
 
 use crate::containers::{find_containers, find_sums};
 use crate::error::PlanError;
@@ -16,7 +16,7 @@ use crate::listed_texts::{ListedTexts, as_list, by_firsts};
 use crate::measure::{Measure, check_lengths};
 use crate::offsets::{Plan, find_offsets, in_turn};
 use crate::records::{Block, lay, ordered};
-use crate::texts::{Texts, gather, mostly_differ};
+use crate::texts::{Sample, Texts, gather};
 use std::alloc::{AllocError, Global};
 
 /// The records of distinct texts, laid in their order. Of each text `containers` has the index of
@@ -57,19 +57,24 @@ fn place(
 
 /// The distinct texts of strings. Refused is what `plan` refuses.
 fn texts_of<'a>(alloc: Global, strings: &[&'a str]) -> Result<Texts<'a>, PlanError>
-    ensures ok { IfOk result (ToldApart (nows strings.now)) }
+    ensures ok { IfOk result (λ t. ToldApart (nows strings.now) (nows t.distinct.keys)
+        t.measures.items t.order.items) }
     ensures err { IfErr result (NotPlanned (nows strings.now)) }
 {
     check_lengths(strings)?;
-    gather(alloc, strings)
+    let sample = Sample::of(alloc, strings)?;
+    gather(alloc, strings, sample)
 }
 
 /// The plan of strings that are told apart.
 fn plan_texts<'a>(alloc: Global, texts: Texts<'a>) -> Result<Plan<'a>, PlanError>
-    requires { (strings : List (List ℕ)) × ToldApart strings texts }
-    ensures ok { IfOk result (λ p. (strings : List (List ℕ)) → ToldApart strings texts.entry
+    requires { (strings : List (List ℕ)) × ToldApart strings (nows texts.distinct.keys)
+        texts.measures.items texts.order.items }
+    ensures ok { IfOk result (λ p. (strings : List (List ℕ)) → ToldApart strings
+        (nows texts.entry.distinct.keys) texts.entry.measures.items texts.entry.order.items
         → IsPlan strings (plan_units p) (offset_of p)) }
-    ensures turns { IfOk result (λ p. (strings : List (List ℕ)) → ToldApart strings texts.entry
+    ensures turns { IfOk result (λ p. (strings : List (List ℕ)) → ToldApart strings
+        (nows texts.entry.distinct.keys) texts.entry.measures.items texts.entry.order.items
         → map (offset_of p) strings ≡ map Some (turn_offsets p)) }
     ensures err { IfErr result (λ e. (strings : List (List ℕ)) → NotPlanned strings e) }
 {
@@ -100,22 +105,25 @@ pub fn plan<'a>(alloc: Global, strings: &[&'a str]) -> Result<Plan<'a>, PlanErro
 }
 
 /// The distinct texts of strings as a list. Refused is what `plan` refuses.
-fn list_of<'a>(alloc: Global, strings: &[&'a str]) -> Result<ListedTexts<'a>, PlanError>
-    ensures ok { IfOk result (AreListed (nows strings.now)) }
-    ensures err { IfErr result (NotPlanned (nows strings.now)) }
+fn list_of<'a>(alloc: Global, strings: Vec<&'a str>) -> Result<ListedTexts<'a>, PlanError>
+    ensures ok { IfOk result (λ t. ToldApart (nows strings.entry.items) (nows t.texts.items)
+        t.measures.items t.order.items) }
+    ensures err { IfErr result (NotPlanned (nows strings.entry.items)) }
 {
-    check_lengths(strings)?;
-    if mostly_differ(alloc, strings)? {
-        if let Some(firsts) = find_firsts(alloc, strings)? {
-            return by_firsts(alloc, strings, &firsts);
+    check_lengths(&strings)?;
+    let sample = Sample::of(alloc, &strings)?;
+    if sample.mostly_differ(&strings) {
+        if let Some(firsts) = find_firsts(alloc, &strings)? {
+            return by_firsts(alloc, strings, firsts);
         }
     }
-    let texts = gather(alloc, strings)?;
+    let texts = gather(alloc, &strings, sample)?;
     Ok(as_list(alloc, texts)?)
 }
 
-/// The same plan as its units and the offset of each string, in the order in which they were
-/// given. The list of strings is handed over: it goes once the strings are told apart.
+/// The plan of strings, as `plan` makes it: its units and the offset of each string, in the order
+/// in which they were given. The list of strings is handed over, and is dropped once the strings
+/// are told apart.
 pub fn plan_in_turn<'a>(
     alloc: Global,
     strings: Vec<&'a str>,
@@ -125,8 +133,7 @@ pub fn plan_in_turn<'a>(
         × (map offset (nows strings.entry.items) ≡ map Some p.1.items)) }
     ensures err { IfErr result (NotPlanned (nows strings.entry.items)) }
 {
-    let list = list_of(alloc, &strings)?;
-    drop(strings);
+    let list = list_of(alloc, strings)?;
     let (units, offsets) = place(alloc, &list.texts, &list.measures)?;
     Ok((units, in_turn(&offsets, list.order)))
 }

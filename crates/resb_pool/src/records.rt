@@ -6,7 +6,6 @@ ghost use Rattle.std.specs.Prelude.{nat_eq, not, ◌&&◌};
 ghost use Rattle.std.specs.Char.Escape.{encode_utf16};
 ghost use Rattle.std.specs.List.{flat_map};
 ghost use Rattle.std.specs.List.Sorted.{IsSorted};
-ghost use Rattle.resb_format.specs.Units as text_units;
 ghost use Rattle.resb_format.specs.Units.{units as units_of, marker, size};
 ghost use Rattle.resb_pool.specs.Pool.{record_units};
 ghost use Rattle.resb_pool.specs.Plan.{nows};
@@ -15,8 +14,7 @@ ghost use Rattle.resb_pool.specs.Inner.Placing.{AreContainers, AreSums, AreIndex
 ghost use Rattle.resb_pool.specs.Inner.Placing.{IsRecordOf, record_texts, record_cmp};
 ghost use Rattle.resb_pool.specs.Inner.Placing.{AreBytes, front_bytes};
 
-use crate::measure::Measure;
-use resb_format::MAX_UNMARKED;
+use crate::measure::{Measure, is_unmarked};
 use std::alloc::{AllocError, Global};
 use std::cmp::Reverse;
 
@@ -158,14 +156,6 @@ fn push_units(units: &mut Vec<u16>, text: &str) -> Result<(), AllocError>
     Ok(())
 }
 
-/// Whether a text of so many units stands without a marker.
-fn is_unmarked(text: &str, count: u32) -> bool
-    requires { count ≡ length (units_of text.now) }
-    ensures { result ≡ text_units.is_unmarked text.now }
-{
-    count as usize <= MAX_UNMARKED && !text.as_bytes().contains(&0)
-}
-
 /// Appends the marker of a text of so many units. (ICU's `uresdata.h`, strings of format version
 /// 2.)
 fn push_marker(units: &mut Vec<u16>, text: &str, count: u32) -> Result<(), AllocError>
@@ -173,7 +163,7 @@ fn push_marker(units: &mut Vec<u16>, text: &str, count: u32) -> Result<(), Alloc
     requires short { count < 2 ^ 28 }
     ensures { OnOk result (units.new.items ≡ units.old.items ++ marker text.now) }
 {
-    if is_unmarked(text, count) {
+    if is_unmarked(text, count as usize) {
         return Ok(());
     }
     if count <= 0x3ee {

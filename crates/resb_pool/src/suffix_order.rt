@@ -1,14 +1,15 @@
 //! Texts in the order of their characters from the end, in which what ends with a text stands
 //! before it. In which record a text lies is said in `containers`.
 ghost use Rattle.std.specs.Prelude.{◌≡◌, ◌<◌, ◌≤◌, ◌-◌, ◌∷◌, ◌++◌, ◌^◌, ℕ, List, length, reverse};
-ghost use Rattle.std.specs.Prelude.{All, IfOk, IfSome, slice_index_or, true, false};
+ghost use Rattle.std.specs.Prelude.{[], All, IfOk, IfSome, slice_index_or, true, false};
 ghost use Rattle.std.specs.Str.{IsUtf8};
 ghost use Rattle.resb_pool.specs.Order.{suffix_cmp};
 ghost use Rattle.resb_pool.specs.Plan.{nows};
 ghost use Rattle.resb_pool.specs.Inner.Cuts.{IsCut, IsShared};
 ghost use Rattle.resb_pool.specs.Inner.Suffixes.{AreInOrder, IsRowOf, row_texts, keyed_cmp};
-ghost use Rattle.resb_pool.specs.Inner.Suffixes.{char_digits, digits_backwards, front_key, IsPart};
-ghost use Rattle.resb_pool.specs.Inner.Suffixes.{row_key, row_text, IsKeyed, IsShort, TellsEnd};
+ghost use Rattle.resb_pool.specs.Inner.Suffixes.{char_digits, digits_backwards, key_of_digits};
+ghost use Rattle.resb_pool.specs.Inner.Suffixes.{row_key, row_text, IsPart, IsKeyed};
+ghost use Rattle.resb_pool.specs.Inner.Suffixes.{IsWholeInRow, TellsEnd};
 
 use crate::texts::indexed_text;
 use std::alloc::{AllocError, Global};
@@ -26,23 +27,27 @@ const END: u8 = 255;
 /// What eight digits stay below.
 const EIGHT_DIGITS: u128 = 0x1_0000_0000_0000_0000;
 
-/// A text by its index, with the digits that tell it from most others: so rows are sorted and read
-/// one after the other, and few texts are looked at.
+/// A text by its index, with the first 16 digits of its characters, last character first. These
+/// tell it from most other texts. So rows are sorted and read one after the other, and few texts
+/// are looked at.
 #[derive(Clone, Copy)]
 pub(crate) struct Row {
-    /// The first eight digits of the text's characters, last character first.
+    /// The first eight digits.
     pub(crate) last: u64,
     /// The next eight digits.
     pub(crate) before: u64,
     pub(crate) index: u32,
+    /// How many of the 16 digits stand behind the text's end.
+    pub(crate) left: u8,
 }
 
-/// The first digits of a text's characters, last character first, as a number, and how many digits
-/// are left until there are 16.
+/// The first digits of a text's characters, last character first, as a number. The text has given
+/// all of 16 digits but those that are left. In a whole key the end's digit stands for each that
+/// is left.
 #[derive(Clone, Copy)]
-pub(crate) struct Front {
+pub(crate) struct EndKey {
     pub(crate) number: u128,
-    pub(crate) left: u32,
+    pub(crate) left: u8,
 }
 
 /// The byte at a place, counted from the last one, or the end's digit before the first.
@@ -57,8 +62,8 @@ fn byte_or_end(bytes: &[u8], place: usize) -> u8
 }
 
 /// The last 16 bytes as digits of a number, the last one in the highest place.
-fn bytes_front(bytes: &[u8]) -> u128
-    ensures { result ≡ front_key 0 16 (reverse bytes.now) }
+fn bytes_end_key(bytes: &[u8]) -> u128
+    ensures { result ≡ key_of_digits 0 16 (reverse bytes.now) }
 {
     u128::from_be_bytes([
         byte_or_end(bytes, 0),
@@ -81,67 +86,86 @@ fn bytes_front(bytes: &[u8]) -> u128
 }
 
 /// One digit more, if one is left.
-fn with_digit(front: Front, digit: u32) -> Front
-    requires part { IsPart front }
+fn with_digit(key: EndKey, digit: u32) -> EndKey
+    requires part { IsPart key }
     requires digit { digit < 256 }
     ensures part { IsPart result }
-    ensures left { result.left ≡ front.left - 1 }
-    ensures same { (ds : List ℕ) → front_key result.number result.left ds
-        ≡ front_key front.number front.left (digit ∷ ds) }
+    ensures left { result.left ≡ key.left - 1 }
+    ensures same { (ds : List ℕ) → key_of_digits result.number result.left ds
+        ≡ key_of_digits key.number key.left (digit ∷ ds) }
 {
-    if front.left == 0 {
-        return front;
+    if key.left == 0 {
+        return key;
     }
-    Front {
-        number: front.number * 256 + u128::from(digit),
-        left: front.left - 1,
+    EndKey {
+        number: key.number * 256 + u128::from(digit),
+        left: key.left - 1,
     }
 }
 
 /// The digits of a character more, as many as are left.
-fn with_char(front: Front, c: char) -> Front
-    requires part { IsPart front }
+fn with_char(key: EndKey, c: char) -> EndKey
+    requires part { IsPart key }
     ensures part { IsPart result }
-    ensures left { result.left ≤ front.left - 1 }
-    ensures same { (ds : List ℕ) → front_key result.number result.left ds
-        ≡ front_key front.number front.left (char_digits c ++ ds) }
+    ensures left { result.left ≡ key.left - length (char_digits c) }
+    ensures same { (ds : List ℕ) → key_of_digits result.number result.left ds
+        ≡ key_of_digits key.number key.left (char_digits c ++ ds) }
 {
     let code = u32::from(c);
     if code <= 0x7f {
-        return with_digit(front, code);
+        return with_digit(key, code);
     }
-    let first = with_digit(front, 0x80 + code / 0x4000);
+    let first = with_digit(key, 0x80 + code / 0x4000);
     let second = with_digit(first, code / 0x80 % 0x80);
     with_digit(second, code % 0x80)
 }
 
-/// The first 16 digits of a text's characters, last first, as a number.
-fn chars_front(text: &str) -> u128
-    ensures { result ≡ front_key 0 16 (digits_backwards text.now) }
+/// The whole key of a text that has no more characters: the end's digit stands for each digit that
+/// is left.
+fn with_end(key: EndKey) -> EndKey
+    requires { IsPart key }
+    ensures number { result.number ≡ key_of_digits key.number key.left [] }
+    ensures left { result.left ≡ key.left }
+{
+    let bits = 8 * u32::from(key.left);
+    let ends = u128::MAX.unbounded_shr(128 - bits);
+    EndKey {
+        number: key.number.unbounded_shl(bits) + ends,
+        left: key.left,
+    }
+}
+
+/// The whole key of a text.
+fn chars_end_key(text: &str) -> EndKey
+    ensures number { result.number ≡ key_of_digits 0 16 (digits_backwards text.now) }
+    ensures left { result.left ≡ 16 - length (digits_backwards text.now) }
 {
     let mut chars = text.chars();
-    let mut front = Front {
+    let mut key = EndKey {
         number: 0,
         left: 16,
     };
-    'digits: while front.left > 0 {
-        front = match chars.next_back() {
-            Some(c) => with_char(front, c),
-            None => with_digit(front, u32::from(END)),
+    'digits: while key.left > 0 {
+        let Some(c) = chars.next_back() else {
+            return with_end(key);
         };
+        key = with_char(key, c);
     }
-    front.number
+    key
 }
 
-/// The first 16 digits of a text's characters, last first, as a number: by its bytes, where it is
-/// short and ASCII.
-fn front_of(text: &str) -> u128
-    ensures { result ≡ front_key 0 16 (digits_backwards text.now) }
+/// The whole key of a text. It is made of the text's bytes, where the text is short and ASCII.
+fn end_key_of(text: &str) -> EndKey
+    ensures number { result.number ≡ key_of_digits 0 16 (digits_backwards text.now) }
+    ensures left { result.left ≡ 16 - length (digits_backwards text.now) }
 {
     if text.len() <= SHORT && text.is_ascii() {
-        return bytes_front(text.as_bytes());
+        return EndKey {
+            number: bytes_end_key(text.as_bytes()),
+            left: 16usize.saturating_sub(text.len()) as u8,
+        };
     }
-    chars_front(text)
+    chars_end_key(text)
 }
 
 /// A text in two: its last bytes, so many of them or up to three more, and what stands before.
@@ -162,12 +186,12 @@ fn strip_blocks<'a, 'b>(left: &'a str, right: &'b str, size: usize) -> (&'a str,
 {
     let mut lefts = left;
     let mut rights = right;
-    while let Some((front, block)) = split_block(lefts, size) {
-        let Some(rest) = rights.strip_suffix(block) else {
+    while let Some((left_rest, block)) = split_block(lefts, size) {
+        let Some(right_rest) = rights.strip_suffix(block) else {
             break;
         };
-        lefts = front;
-        rights = rest;
+        lefts = left_rest;
+        rights = right_rest;
     }
     (lefts, rights)
 }
@@ -194,11 +218,11 @@ fn shared_bytes(left: &[u8], right: &[u8]) -> usize
 {
     let mut lefts = left;
     let mut rights = right;
-    'bytes: while let Some((left_byte, left_front)) = lefts.split_last() {
+    'bytes: while let Some((left_byte, left_rest)) = lefts.split_last() {
         match rights.split_last() {
-            Some((right_byte, right_front)) if left_byte == right_byte => {
-                lefts = left_front;
-                rights = right_front;
+            Some((right_byte, right_rest)) if left_byte == right_byte => {
+                lefts = left_rest;
+                rights = right_rest;
             }
             _ => break,
         }
@@ -212,16 +236,16 @@ fn shared_len(left: &[u8], right: &[u8]) -> usize
 {
     let mut lefts = left;
     let mut rights = right;
-    'blocks: while let Some((left_front, left_block)) = lefts.split_last_chunk::<8>() {
-        let Some((right_front, right_block)) = rights.split_last_chunk::<8>() else {
+    'blocks: while let Some((left_rest, left_block)) = lefts.split_last_chunk::<8>() {
+        let Some((right_rest, right_block)) = rights.split_last_chunk::<8>() else {
             break;
         };
         let shared = shared_of_eight(left_block, right_block);
         if shared < 8 {
             return left.len() - lefts.len() + shared;
         }
-        lefts = left_front;
-        rights = right_front;
+        lefts = left_rest;
+        rights = right_rest;
     }
     left.len() - lefts.len() + shared_bytes(lefts, rights)
 }
@@ -232,25 +256,25 @@ fn strip_shared<'a, 'b>(left: &'a str, right: &'b str) -> (&'a str, &'b str)
     ensures { IsShared left.now right.now result.0.now result.1.now }
 {
     let count = shared_len(left.as_bytes(), right.as_bytes());
-    let Some((front, end)) = split_end(left, count) else {
+    let Some((left_rest, end)) = split_end(left, count) else {
         return (left, right);
     };
     match right.strip_suffix(end) {
-        Some(rest) => (front, rest),
+        Some(right_rest) => (left_rest, right_rest),
         None => (left, right),
     }
 }
 
-/// How two texts compare by their characters, last first. The end of a text is the greatest. It is
-/// kept out of the sort, which for most rows only compares numbers.
+/// How two texts compare by their characters, last first. The end of a text is the greatest. This
+/// call is kept out of the sort, which for most rows only compares numbers.
 #[inline(never)]
 fn compare(left: &str, right: &str) -> Ordering
     ensures { result ≡ suffix_cmp left.now right.now }
 {
     let (left_long, right_long) = strip_blocks(left, right, LONG_BLOCK);
-    let (left_front, right_front) = strip_shared(left_long, right_long);
-    let mut lefts = left_front.chars();
-    let mut rights = right_front.chars();
+    let (left_rest, right_rest) = strip_shared(left_long, right_long);
+    let mut lefts = left_rest.chars();
+    let mut rights = right_rest.chars();
     loop {
         match (lefts.next_back(), rights.next_back()) {
             (Some(x), Some(y)) if x == y => {}
@@ -282,14 +306,16 @@ fn compare_rows(texts: &[&str], left: &Row, right: &Row) -> Ordering
 /// The row of a text.
 pub(crate) fn row_of(text: &str, index: u32) -> Row
     ensures index { result.index ≡ index }
-    ensures front { row_key result ≡ front_key 0 16 (digits_backwards text.now) }
+    ensures key { row_key result ≡ key_of_digits 0 16 (digits_backwards text.now) }
     ensures small { result.before < 2 ^ 64 }
+    ensures left { result.left ≡ 16 - length (digits_backwards text.now) }
 {
-    let front = front_of(text);
+    let key = end_key_of(text);
     Row {
-        last: (front / EIGHT_DIGITS) as u64,
-        before: (front % EIGHT_DIGITS) as u64,
+        last: (key.number / EIGHT_DIGITS) as u64,
+        before: (key.number % EIGHT_DIGITS) as u64,
         index,
+        left: key.left,
     }
 }
 
@@ -300,57 +326,41 @@ fn key_of(row: &Row) -> u128
     u128::from(row.last) * EIGHT_DIGITS + u128::from(row.before)
 }
 
-/// Whether the first 16 digits of a text begin with those of another one, up to this one's end.
-fn begins_with(number: u128, start: u128) -> bool
-    ensures { (s t : List ℕ) → IsUtf8 s → IsUtf8 t → start ≡ front_key 0 16 (digits_backwards s)
-        → number ≡ front_key 0 16 (digits_backwards t) → TellsEnd result t s }
+/// The first 16 digits of a text, without so many at their end.
+fn without_last(key: u128, count: u8) -> u128
+    ensures { (t : List ℕ) → IsUtf8 t → key ≡ key_of_digits 0 16 (digits_backwards t) → count ≤ 16
+        → result ≡ key_of_digits 0 (16 - count) (digits_backwards t) }
 {
-    let mut left = number;
-    let mut right = start;
-    'digits: while right % 256 == u128::from(END) {
-        left /= 256;
-        right /= 256;
-    }
-    left == right
+    key.unbounded_shr(8 * u32::from(count))
 }
 
-/// Whether the text of a row ends with that of another one, if this one has fewer than 16 digits;
-/// whether it may, otherwise.
+/// Whether the text of a row ends with that of another row. Where the other text has 16 digits or
+/// more, it is whether it may end with it.
 pub(crate) fn may_end_with(row: &Row, end: &Row) -> bool
     ensures { (T : List (List ℕ)) → All IsUtf8 T → IsKeyed T row.now → IsKeyed T end.now
         → TellsEnd result (row_text T row.now) (row_text T end.now) }
 {
-    begins_with(key_of(row), key_of(end))
+    without_last(key_of(row), end.left) == without_last(key_of(end), end.left)
 }
 
 /// Whether one of the first 16 digits of a text is 0.
 fn has_zero_digit(key: u128) -> bool
-    ensures { (s : List ℕ) → IsUtf8 s → key ≡ front_key 0 16 (digits_backwards s) → result ≡ false
-        → (k : ℕ) → k < 16 → 0 < slice_index_or (digits_backwards s) k 255 }
+    ensures { (s : List ℕ) → IsUtf8 s → key ≡ key_of_digits 0 16 (digits_backwards s)
+        → result ≡ false → (k : ℕ) → k < 16 → 0 < slice_index_or (digits_backwards s) k 255 }
 {
-    let mut rest = key;
-    let mut left = 16u32;
-    'digits: while left > 0 {
-        if rest % 256 == 0 {
-            return true;
-        }
-        rest /= 256;
-        left -= 1;
-    }
-    false
+    key.to_be_bytes().contains(&0)
 }
 
-/// Whether the text of a row has fewer than 16 digits, but one at least, and none that is 0. Where
-/// it is not, it may still have no marker.
-pub(crate) fn is_short(row: &Row) -> bool
+/// Whether the row has all of its text's digits, one at least and none that is 0. Such a text has
+/// no marker. Another text may have none either.
+pub(crate) fn is_whole_in_row(row: &Row) -> bool
     ensures { (T : List (List ℕ)) → All IsUtf8 T → IsKeyed T row.now → result ≡ true
-        → IsShort (row_text T row.now) }
+        → IsWholeInRow (row_text T row.now) }
 {
-    let key = key_of(row);
-    if key % 256 != u128::from(END) {
+    if row.left == 0 {
         return false;
     }
-    key != u128::MAX && !has_zero_digit(key)
+    row.left < 16 && !has_zero_digit(key_of(row))
 }
 
 /// The rows of texts, in the order of these.

@@ -1,13 +1,14 @@
-//! The distinct texts of strings, each with its sizes. From here on a text goes by its index.
+//! The distinct texts of strings in a table, each with its sizes. Later steps name a text by its
+//! index in the table.
 //! Where texts lie is said in `containers`.
 ghost use Rattle.std.specs.Prelude.{◌≡◌, ◌++◌, ◌∷◌, ◌<◌, ◌^◌, [], List, ℕ, IfOk, IfErr, OnOk, None};
 ghost use Rattle.std.specs.Prelude.{length};
 ghost use Rattle.resb_format.specs.Units.{units};
 ghost use Rattle.resb_pool.specs.Plan.{nows, first_too_long, texts_size, NotPlanned};
-ghost use Rattle.resb_pool.specs.Inner.Placing.{AreTexts, AreTurns, text_numbered};
+ghost use Rattle.resb_pool.specs.Inner.Placing.{AreTexts, AreTurns, indexed_text};
 
 use crate::error::PlanError;
-use crate::measure::{Measure, SIZE_LIMIT, is_vast};
+use crate::measure::{Measure, is_vast, size_with};
 use indexmap::IndexSet;
 use std::alloc::{AllocError, Global};
 
@@ -29,54 +30,66 @@ pub(crate) struct Texts<'a> {
 /// The text of an index, or the empty one where there is no such text.
 #[inline(always)]
 pub(crate) fn indexed_text<'a>(texts: &[&'a str], index: u32) -> &'a str
-    ensures { result.now ≡ text_numbered (nows texts.now) index }
+    ensures { result.now ≡ indexed_text (nows texts.now) index }
 {
     texts.get(index as usize).copied().unwrap_or("")
 }
 
-/// How many of the first strings are looked at, and how many of these are distinct.
-fn sample(alloc: Global, strings: &[&str]) -> Result<(usize, usize), AllocError> {
-    let count = strings.len() / SAMPLED_PART;
-    let mut distinct = IndexSet::with_capacity(alloc, count)?;
-    for text in strings.iter().take(count) {
-        let _is_new = distinct.insert(*text)?;
-    }
-    Ok((count, distinct.len()))
+/// How many of the first strings were looked at, and how many of these are distinct.
+#[derive(Clone, Copy)]
+pub(crate) struct Sample {
+    looked_at: usize,
+    distinct: usize,
 }
 
-/// Whether more than three in four of so many strings are distinct.
-fn are_mostly(distinct: usize, count: usize) -> bool {
-    distinct.saturating_mul(4) > count.saturating_mul(3)
-}
-
-/// Whether strings are many, and by the first of them most are distinct.
-pub(crate) fn mostly_differ(alloc: Global, strings: &[&str]) -> Result<bool, AllocError> {
-    if strings.len() < MANY {
-        return Ok(false);
+impl Sample {
+    /// Looks at the first of these strings.
+    pub(crate) fn of(alloc: Global, strings: &[&str]) -> Result<Sample, AllocError> {
+        let looked_at = strings.len() / SAMPLED_PART;
+        let mut distinct = IndexSet::with_capacity(alloc, looked_at)?;
+        for text in strings.iter().take(looked_at) {
+            let _is_new = distinct.insert(*text)?;
+        }
+        Ok(Sample {
+            looked_at,
+            distinct: distinct.len(),
+        })
     }
-    let (count, distinct) = sample(alloc, strings)?;
-    Ok(are_mostly(distinct, count))
-}
 
-/// How many distinct texts there is room for from the start: as many as there are likely to be,
-/// where more than three in four of the first strings are distinct, since a table that grows is
-/// filled anew; else a quarter of the strings, since in a smaller table texts are found faster.
-fn expected_distinct(alloc: Global, strings: &[&str]) -> Result<usize, AllocError> {
-    let (count, distinct) = sample(alloc, strings)?;
-    if are_mostly(distinct, count) {
-        let likely = distinct.saturating_mul(SAMPLED_PART);
-        return Ok(likely.saturating_add(likely / 32));
+    /// Whether more than three in four are distinct.
+    fn is_mostly_distinct(self) -> bool {
+        self.distinct.saturating_mul(4) > self.looked_at.saturating_mul(3)
     }
-    Ok(strings.len() / 4)
+
+    /// Whether the strings are many, and most are likely to be distinct.
+    pub(crate) fn mostly_differ(self, strings: &[&str]) -> bool {
+        strings.len() >= MANY && self.is_mostly_distinct()
+    }
+
+    /// How many distinct texts there is room for from the start. Where more than three in four of
+    /// the sample are distinct, it is as many as there are likely to be, since a table that grows
+    /// is filled anew. Else it is a quarter of the strings, since texts are found faster in a
+    /// smaller table.
+    fn expected_distinct(self, strings: &[&str]) -> usize {
+        if self.is_mostly_distinct() {
+            let likely = self.distinct.saturating_mul(SAMPLED_PART);
+            return likely.saturating_add(likely / 32);
+        }
+        strings.len() / 4
+    }
 }
 
 impl<'a> Texts<'a> {
-    /// No texts, with room for those of these strings.
-    fn with_room_for(alloc: Global, strings: &[&str]) -> Result<Texts<'a>, AllocError>
+    /// No texts, with room for those of these strings, of which a sample was taken.
+    fn with_room_for(
+        alloc: Global,
+        strings: &[&str],
+        sample: Sample,
+    ) -> Result<Texts<'a>, AllocError>
         ensures texts { IfOk result (λ t. AreTexts [] (nows t.distinct.keys) t.measures.items) }
         ensures turns { IfOk result (λ t. AreTurns [] (nows t.distinct.keys) t.order.items) }
     {
-        let room = expected_distinct(alloc, strings)?;
+        let room = sample.expected_distinct(strings);
         Ok(Texts {
             distinct: IndexSet::with_capacity(alloc, room)?,
             measures: Vec::with_capacity(alloc, room)?,
@@ -86,7 +99,7 @@ impl<'a> Texts<'a> {
 }
 
 /// Adds a copy of a text, and gives the number of its units.
-fn add<'a>(texts: &mut Texts<'a>, text: &'a str) -> Result<usize, AllocError>
+fn add_copy<'a>(texts: &mut Texts<'a>, text: &'a str) -> Result<usize, AllocError>
     requires given { (done : List (List ℕ)) × (texts_size done < 2 ^ 28)
         × AreTexts done (nows texts.old.distinct.keys) texts.old.measures.items
         × AreTurns done (nows texts.old.distinct.keys) texts.old.order.items }
@@ -129,17 +142,19 @@ fn add_all<'a>(texts: &mut Texts<'a>, strings: &[&'a str]) -> Result<(), PlanErr
         if is_vast(text) {
             return Err(PlanError::TooLarge);
         }
-        size += 16 + add(texts, text)?;
-        if size >= SIZE_LIMIT {
-            return Err(PlanError::TooLarge);
-        }
+        let count = add_copy(texts, text)?;
+        size = size_with(size, count)?;
     }
     Ok(())
 }
 
-/// The distinct texts of strings. Refused are strings whose units and 16 for each come to 2^28 or
-/// more.
-pub(crate) fn gather<'a>(alloc: Global, strings: &[&'a str]) -> Result<Texts<'a>, PlanError>
+/// The distinct texts of strings, of which a sample was taken. Refused are strings whose units and
+/// 16 for each come to 2^28 or more.
+pub(crate) fn gather<'a>(
+    alloc: Global,
+    strings: &[&'a str],
+    sample: Sample,
+) -> Result<Texts<'a>, PlanError>
     requires { first_too_long (nows strings.now) ≡ None }
     ensures texts { IfOk result (λ t.
         AreTexts (nows strings.now) (nows t.distinct.keys) t.measures.items) }
@@ -148,7 +163,7 @@ pub(crate) fn gather<'a>(alloc: Global, strings: &[&'a str]) -> Result<Texts<'a>
     ensures small { OnOk result (texts_size (nows strings.now) < 2 ^ 28) }
     ensures err { IfErr result (NotPlanned (nows strings.now)) }
 {
-    let mut texts = Texts::with_room_for(alloc, strings)?;
+    let mut texts = Texts::with_room_for(alloc, strings, sample)?;
     add_all(&mut texts, strings)?;
     Ok(texts)
 }

@@ -7,7 +7,7 @@ use Rattle.std.specs.Prelude.{◌≡◌, ℕ, ◌+◌, ◌*◌, ◌%◌, ◌<◌
 use Rattle.std.specs.Prelude.{Contains, slice_index}
 use Rattle.std.specs.Ordering.{nat_cmp, ordering_then}
 use Rattle.std.specs.declared.cmp.Ordering.{Ordering}
-use Rattle.resb_pool.specs.Inner.Placing.{text_numbered}
+use Rattle.resb_pool.specs.Inner.Placing.{indexed_text}
 use Rattle.resb_pool.specs.declared.firsts.NumberedHash.{NumberedHash}
 
 -- the hash of some bytes and these behind them, where h is that of the former: one by one, a byte
@@ -21,7 +21,7 @@ abbrev pub text_hash : List ℕ → ℕ
 text_hash t = hash_with 0xcbf2_9ce4_8422_2325 t
 
 abbrev pub hash_numbered : List (List ℕ) → ℕ → NumberedHash
-hash_numbered S i = record { hash = text_hash (text_numbered S i); number = i }
+hash_numbered S i = record { hash = text_hash (indexed_text S i); number = i }
 
 -- each is the hash of a string, and each string has its hash
 pub record AreHashes (S : List (List ℕ)) (hs : List NumberedHash) : Type 0 where
@@ -36,8 +36,8 @@ hash_cmp x y = ordering_then (nat_cmp x.hash y.hash) (nat_cmp x.number y.number)
 -- and none before it is
 pub record IsFirst (S : List (List ℕ)) (i f : ℕ) : Type 0 where
   pub reaches : f ≤ i
-  pub same : text_numbered S f ≡ text_numbered S i
-  pub none_before : (j : ℕ) → j < f → text_numbered S j ≡ text_numbered S i → ⊥
+  pub same : indexed_text S f ≡ indexed_text S i
+  pub none_before : (j : ℕ) → j < f → indexed_text S j ≡ indexed_text S i → ⊥
 
 -- as many numbers as there are strings, and at each place the first copy's
 pub record AreFirsts (S : List (List ℕ)) (fs : List ℕ) : Type 0 where

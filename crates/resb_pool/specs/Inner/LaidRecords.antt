@@ -1,6 +1,6 @@
--- What stands once texts are laid. T are distinct texts of the measures ms, and hs say in which of
+-- What stands once texts are laid. T are distinct texts of the measures ms, and cs say in which of
 -- them each lies.
---     IsBlock T hs ms us es   us are unit 0 and the records in their order, which close at es
+--     IsBlock T cs ms us es   us are unit 0 and the records in their order, which close at es
 --     HaveOffsets T ms us os  the texts of these measures stand in us, each where os says
 use Rattle.std.specs.Prelude.{◌≡◌, ℕ, ◌<◌, List, ◌∷◌, length, All, slice_index}
 use Rattle.std.specs.List.{flat_map}
@@ -13,20 +13,20 @@ use Rattle.resb_pool.specs.declared.measure.Measure.{Measure}
 use Rattle.resb_pool.specs.declared.records.Record.{Record}
 
 -- what lies in each text, as a list
-pub record AreLyingIn (hs : List ℕ) (ms : List Measure) (sums : List ℕ) : Type 0 where
-  pub len : length sums ≡ length hs
-  pub each : (q : ℕ) → q < length hs → slice_index sums q ≡ lying_in hs ms q
+pub record AreLyingIn (cs : List ℕ) (ms : List Measure) (sums : List ℕ) : Type 0 where
+  pub len : length sums ≡ length cs
+  pub each : (q : ℕ) → q < length cs → slice_index sums q ≡ lying_in cs ms q
 
-pub record IsBlock (T : List (List ℕ)) (hs : List ℕ) (ms : List Measure) (us es : List ℕ)
+pub record IsBlock (T : List (List ℕ)) (cs : List ℕ) (ms : List Measure) (us es : List ℕ)
     : Type 0 where
   pub sums : List ℕ
-  pub lying : AreLyingIn hs ms sums
+  pub lying : AreLyingIn cs ms sums
   pub rows : List Record
   pub records : IsRecords T (record_texts rows)
   pub each : All (IsRecordOf T sums) rows
   pub ascend : IsSorted record_cmp rows
   pub units : us ≡ 0 ∷ flat_map record_units (record_texts rows)
-  pub len : length es ≡ length hs
+  pub len : length es ≡ length cs
   pub ends : AreEnds rows rows es
 
 pub record HaveOffsets (T : List (List ℕ)) (ms : List Measure) (us os : List ℕ) : Type 0 where

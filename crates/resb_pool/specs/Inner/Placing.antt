@@ -2,8 +2,8 @@
 --     AreTexts S T ms         T are the texts of S, and ms their measures
 --     AreTurns S T is         the strings S are the texts of the indexes is, one by one
 --     LiesAt T i r            the text i lies in the text r
---     AreContainers T hs      each text lies in the one that hs has at its index
---     lying_in hs ms q        what all copies that lie in the text q would take
+--     AreContainers T cs      each text lies in the one that cs has at its index
+--     lying_in cs ms q        what all copies that lie in the text q would take
 --     AreEnds rs done es      es says where each record done closes
 use Rattle.std.specs.Prelude.{◌≡◌, ℕ, zero, suc, ◌+◌, ◌-◌, ◌*◌, ◌^◌, ◌<◌, ◌≤◌, List, []}
 use Rattle.std.specs.Prelude.{◌∷◌, length}
@@ -21,8 +21,8 @@ use Rattle.resb_pool.specs.declared.measure.Measure.{Measure}
 use Rattle.resb_pool.specs.declared.records.Record.{Record}
 
 -- the text of index i
-abbrev pub text_numbered : List (List ℕ) → ℕ → List ℕ
-text_numbered T i = slice_index_or T i []
+abbrev pub indexed_text : List (List ℕ) → ℕ → List ℕ
+indexed_text T i = slice_index_or T i []
 
 -- what the copies of t in S would take as records of their own
 abbrev pub copies : List (List ℕ) → List ℕ → ℕ
@@ -35,7 +35,7 @@ pub record IsMeasure (S : List (List ℕ)) (t : List ℕ) (m : Measure) : Type 0
 
 abbrev pub AreMeasures : List (List ℕ) → List (List ℕ) → List Measure → Type 0
 AreMeasures S T ms = (i : ℕ) (d : Measure) → i < length T
-    → IsMeasure S (text_numbered T i) (slice_index_or ms i d)
+    → IsMeasure S (indexed_text T i) (slice_index_or ms i d)
 
 pub record AreTexts (S T : List (List ℕ)) (ms : List Measure) : Type 0 where
   pub utf8 : All IsUtf8 S
@@ -46,27 +46,27 @@ pub record AreTexts (S T : List (List ℕ)) (ms : List Measure) : Type 0 where
 
 -- the texts of these indexes are those of S, one by one; T has no more texts than S
 pub record AreTurns (S T : List (List ℕ)) (turns : List ℕ) : Type 0 where
-  pub texts : map (text_numbered T) turns ≡ S
+  pub texts : map (indexed_text T) turns ≡ S
   pub within : All (λ i. i < length T) turns
   pub few : length T ≤ length turns
 
 -- in its container; the empty text lies in itself
 pub record LiesAt (T : List (List ℕ)) (i r : ℕ) : Type 0 where
   pub within : r < length T
-  pub container : 0 < length (text_numbered T i)
-      → IsContainer T (text_numbered T i) (text_numbered T r)
-  pub itself : IsRecord T (text_numbered T i) → r ≡ i
-  pub empty : length (text_numbered T i) ≡ 0 → r ≡ i
+  pub container : 0 < length (indexed_text T i)
+      → IsContainer T (indexed_text T i) (indexed_text T r)
+  pub itself : IsRecord T (indexed_text T i) → r ≡ i
+  pub empty : length (indexed_text T i) ≡ 0 → r ≡ i
 
--- hs say, for each text, in which one it lies
-pub record AreContainers (T : List (List ℕ)) (hs : List ℕ) : Type 0 where
-  pub len : length hs ≡ length T
-  pub lies : (i : ℕ) → i < length T → LiesAt T i (slice_index hs i)
+-- cs say, for each text, in which one it lies
+pub record AreContainers (T : List (List ℕ)) (cs : List ℕ) : Type 0 where
+  pub len : length cs ≡ length T
+  pub lies : (i : ℕ) → i < length T → LiesAt T i (slice_index cs i)
 
 abbrev pub lying_in : List ℕ → List Measure → ℕ → ℕ
 lying_in [] ms q = 0
-lying_in (h ∷ hs) [] q = 0
-lying_in (h ∷ hs) (m ∷ ms) q = (if nat_eq h q then m.total else 0) + lying_in hs ms q
+lying_in (c ∷ cs) [] q = 0
+lying_in (c ∷ cs) (m ∷ ms) q = (if nat_eq c q then m.total else 0) + lying_in cs ms q
 
 -- rs are the records among the texts done, each once
 pub record AreRecordsAmong (S done rs : List (List ℕ)) : Type 0 where
@@ -82,11 +82,11 @@ pub record AreSums (T : List (List ℕ)) (ms : List Measure) (sums : List ℕ) :
   pub measured : length ms ≡ length T
   pub len : length sums ≡ length T
   pub units_is : (i : ℕ) (d : Measure) → i < length T
-      → (slice_index_or ms i d).unit_count ≡ length (units (text_numbered T i))
+      → (slice_index_or ms i d).unit_count ≡ length (units (indexed_text T i))
   pub size_is : (i : ℕ) (d : Measure) → i < length T
-      → (slice_index_or ms i d).size ≡ size (text_numbered T i)
-  pub own : (i : ℕ) → i < length T → IsRecord T (text_numbered T i)
-      → size (text_numbered T i) ≤ slice_index sums i
+      → (slice_index_or ms i d).size ≡ size (indexed_text T i)
+  pub own : (i : ℕ) → i < length T → IsRecord T (indexed_text T i)
+      → size (indexed_text T i) ≤ slice_index sums i
 
 -- bytes
 abbrev pub AreBytes : List ℕ → Type 0
@@ -101,7 +101,7 @@ front_bytes number (suc n) (b ∷ bs) = front_bytes (number * 256 + b) n bs
 -- the record of a text with its units, and with what it saves
 pub record IsRecordOf (T : List (List ℕ)) (sums : List ℕ) (r : Record) : Type 0 where
   pub within : r.index < length T
-  pub text_is : r.text.now ≡ text_numbered T r.index
+  pub text_is : r.text.now ≡ indexed_text T r.index
   pub units_is : r.unit_count ≡ length (units r.text.now)
   pub saved_is : r.saved.0 + size r.text.now ≡ slice_index sums r.index
   pub front_is : r.front ≡ front_bytes 0 8 r.text.now
@@ -131,23 +131,23 @@ pub record AreEnds (rs done : List Record) (es : List ℕ) : Type 0 where
   pub closes : All (λ r. ClosesAt (record_texts rs) r.text.now (slice_index es r.index)) done
   pub others : (i : ℕ) → All (λ r. r.index ≡ i → ⊥) done → slice_index es i ≡ 0
 
--- where a text of measure m that lies in h stands, by where its record closes
+-- where a text of measure m that lies in c stands, by where its record closes
 abbrev pub offset_by : List ℕ → ℕ → Measure → ℕ
-offset_by es h m = slice_index es h + 1 - m.size
+offset_by es c m = slice_index es c + 1 - m.size
 
--- the texts that lie in hs stand at os
-pub record AreOffsets (hs : List ℕ) (ms : List Measure) (es os : List ℕ) : Type 0 where
-  pub len : length os ≡ length hs
-  pub each : (i : ℕ) (d : Measure) → i < length hs
-      → slice_index os i ≡ offset_by es (slice_index hs i) (slice_index_or ms i d)
+-- the texts that lie in cs stand at os
+pub record AreOffsets (cs : List ℕ) (ms : List Measure) (es os : List ℕ) : Type 0 where
+  pub len : length os ≡ length cs
+  pub each : (i : ℕ) (d : Measure) → i < length cs
+      → slice_index os i ≡ offset_by es (slice_index cs i) (slice_index_or ms i d)
 
--- the record h closes far enough for a text of measure m
-pub record ClosesWithin (es : List ℕ) (h : ℕ) (m : Measure) : Type 0 where
-  pub within : h < length es
-  pub reaches : m.size ≤ slice_index es h + 1
-  pub small : slice_index es h < 2 ^ 28
+-- the record c closes far enough for a text of measure m
+pub record ClosesWithin (es : List ℕ) (c : ℕ) (m : Measure) : Type 0 where
+  pub within : c < length es
+  pub reaches : m.size ≤ slice_index es c + 1
+  pub small : slice_index es c < 2 ^ 28
 
 -- the record in which each text lies closes far enough for it
 abbrev pub AllClose : List ℕ → List Measure → List ℕ → Type 0
-AllClose hs ms es = (i : ℕ) (d : Measure) → i < length hs
-    → ClosesWithin es (slice_index hs i) (slice_index_or ms i d)
+AllClose cs ms es = (i : ℕ) (d : Measure) → i < length cs
+    → ClosesWithin es (slice_index cs i) (slice_index_or ms i d)

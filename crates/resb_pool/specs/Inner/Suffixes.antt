@@ -1,6 +1,6 @@
 -- Distinct texts in suffix order. T are the texts; each goes by its index there.
 --     AreInOrder T rows       the rows are the texts T, in suffix order
---     TellsEnd answer t s     the answer is whether t ends with s, if s is short
+--     TellsEnd answer t s     the answer is whether t ends with s, if s has few digits
 --     IsSharedEnd p s         s may lie in the record of p
 use Rattle.std.specs.Prelude.{◌≡◌, ℕ, zero, suc, ◌+◌, ◌*◌, ◌^◌, ◌<◌, List, [], ◌∷◌, length, map}
 use Rattle.std.specs.Prelude.{All, Bool, true, ◌-◌, ◌/◌, ◌%◌, ◌≤◌, nat_le, if◌then◌else◌}
@@ -12,9 +12,9 @@ use Rattle.resb_format.specs.Units.{is_unmarked}
 use Rattle.resb_pool.specs.Order.{suffix_cmp}
 use Rattle.resb_pool.specs.Records.{EndsWith}
 use Rattle.resb_pool.specs.Inner.Cuts.{chars_backwards}
-use Rattle.resb_pool.specs.Inner.Placing.{text_numbered}
+use Rattle.resb_pool.specs.Inner.Placing.{indexed_text}
 use Rattle.resb_pool.specs.declared.suffix_order.Row.{Row}
-use Rattle.resb_pool.specs.declared.suffix_order.Front.{Front}
+use Rattle.resb_pool.specs.declared.suffix_order.EndKey.{EndKey}
 
 -- a character as digits of eight bits, none of them 255: itself, where it is ASCII, else three, the
 -- first of which is above ASCII
@@ -29,10 +29,10 @@ digits_backwards t = flat_map char_digits (chars_backwards t)
 
 -- a number in front of the first n digits; the end of the digits, which is the greatest digit,
 -- stands in the place of those that aren't there
-abbrev pub front_key : ℕ → ℕ → List ℕ → ℕ
-front_key number zero ds = number
-front_key number (suc n) [] = front_key (number * 256 + 255) n []
-front_key number (suc n) (d ∷ ds) = front_key (number * 256 + d) n ds
+abbrev pub key_of_digits : ℕ → ℕ → List ℕ → ℕ
+key_of_digits number zero ds = number
+key_of_digits number (suc n) [] = key_of_digits (number * 256 + 255) n []
+key_of_digits number (suc n) (d ∷ ds) = key_of_digits (number * 256 + d) n ds
 
 -- what a number of n digits stays below
 abbrev pub digits_bound : ℕ → ℕ
@@ -40,9 +40,9 @@ digits_bound zero = 1
 digits_bound (suc n) = digits_bound n * 256
 
 -- as many digits of 16 as aren't left
-pub record IsPart (f : Front) : Type 0 where
-  pub most : f.left ≤ 16
-  pub small : f.number < digits_bound (16 - f.left)
+pub record IsPart (k : EndKey) : Type 0 where
+  pub most : k.left ≤ 16
+  pub small : k.number < digits_bound (16 - k.left)
 
 -- a row's two halves as one number
 abbrev pub row_key : Row → ℕ
@@ -50,12 +50,14 @@ row_key r = r.last * 0x1_0000_0000_0000_0000 + r.before
 
 -- the text of a row
 abbrev pub row_text : List (List ℕ) → Row → List ℕ
-row_text T r = text_numbered T r.index
+row_text T r = indexed_text T r.index
 
--- the row has the first 16 digits of the text of its index, in two halves
+-- the row has the first 16 digits of the text of its index, in two halves, and how many of them
+-- stand behind the text's end
 pub record IsKeyed (T : List (List ℕ)) (r : Row) : Type 0 where
-  pub front_is : row_key r ≡ front_key 0 16 (digits_backwards (row_text T r))
+  pub key_is : row_key r ≡ key_of_digits 0 16 (digits_backwards (row_text T r))
   pub small : r.before < 2 ^ 64
+  pub left_is : r.left ≡ 16 - length (digits_backwards (row_text T r))
 
 -- the row of a text
 pub record IsRowOf (T : List (List ℕ)) (r : Row) : Type 0 where
@@ -86,7 +88,7 @@ pub record TellsEnd (answer : Bool) (t s : List ℕ) : Type 0 where
   pub only : answer ≡ true → length (digits_backwards s) < 16 → EndsWith t s
 
 -- s has fewer than 16 digits, isn't empty and has no marker
-pub record IsShort (s : List ℕ) : Type 0 where
+pub record IsWholeInRow (s : List ℕ) : Type 0 where
   pub few : length (digits_backwards s) < 16
   pub nonempty : 0 < length s
   pub unmarked : is_unmarked s ≡ true

@@ -1,12 +1,12 @@
-use Rattle.std.proofs.Common.{rules, ◌≡◌, ◌<◌, [], length, get_or, ap, subst}
+use Rattle.std.proofs.Common.{rules, ◌≡◌, ◌<◌, ◌-◌, [], length, get_or, ap, subst}
 use Rattle.std.proofs.Common.{sym, ◌∙◌, arith, inl, inr, get_or-set_other, get_or-set_same}
 use Rattle.std.proofs.lemmas.Bool.{MatchBool-at_true, MatchBool-at_false}
 use Rattle.std.specs.Prelude.{slice_set}
 use Rattle.std.proofs.lemmas.List.{length-set, get_or_default, get_or_past}
 use Rattle.resb_pool.specs.Plan.{nows}
-use Rattle.resb_pool.specs.Inner.Placing.{LiesAt, text_numbered}
+use Rattle.resb_pool.specs.Inner.Placing.{LiesAt, indexed_text}
 use Rattle.resb_pool.specs.Inner.Suffixes.{AreInOrder, IsRowOf, IsSharedEnd, row_text}
-use Rattle.resb_pool.specs.Inner.Suffixes.{digits_backwards, front_key}
+use Rattle.resb_pool.specs.Inner.Suffixes.{digits_backwards, key_of_digits}
 use Rattle.resb_pool.specs.declared.suffix_order.Row.{Row}
 use Rattle.resb_pool.proofs.Interning.{length-nows}
 use Rattle.resb_pool.proofs.SuffixRuns.{IsPrevious, step_alone, step_shared, one_row, row_of}
@@ -16,21 +16,23 @@ use Rattle.resb_pool.proofs.containers.find_containers.Goals as goal
 use Rattle.resb_pool.proofs.Numbers.{old_or_new}
 
 abbrev no_row : Row
-no_row = record { last = 0; before = 0; index = 0 }
+no_row = record { last = 0; before = 0; index = 0; left = 0 }
 
 -- the row before the first is that of no text
 pub loop-row-init : goal.loop-row-init
 loop-row-init c =
     let xs = c.args.texts.now in
     let none : row_text (nows xs) c.row_of-previous.result ≡ [] =
-    ap (text_numbered (nows xs)) c.row_of-previous.ensures.index
+    ap (indexed_text (nows xs)) c.row_of-previous.ensures.index
     ∙ get_or_past (nows xs) (length xs) [] (omega (arith, length-nows xs)) in
     record {
       len = search rules;
       keyed = record {
-        front_is = c.row_of-previous.ensures.front
-            ∙ ap (λ t. front_key 0 16 (digits_backwards t)) (sym none);
+        key_is = c.row_of-previous.ensures.key
+            ∙ ap (λ t. key_of_digits 0 16 (digits_backwards t)) (sym none);
         small = c.row_of-previous.ensures.small;
+        left_is = c.row_of-previous.ensures.left
+            ∙ ap (λ t. 16 - length (digits_backwards t)) (sym none);
       };
       first = λ e. none;
       last = λ k d e. absurd (omega (arith, e));

@@ -7,7 +7,7 @@ use Rattle.std.specs.Cmp.Lexicographic.{bytes_decides}
 use Rattle.std.proofs.lemmas.Bool.{cases_eq}
 use Rattle.std.proofs.lemmas.List.{length-set, get_or_default}
 use Rattle.resb_pool.specs.Plan.{nows}
-use Rattle.resb_pool.specs.Inner.Placing.{text_numbered}
+use Rattle.resb_pool.specs.Inner.Placing.{indexed_text}
 use Rattle.resb_pool.specs.Inner.Firsts.{IsFirst}
 use Rattle.resb_pool.specs.declared.firsts.NumberedHash.{NumberedHash}
 use Rattle.resb_pool.proofs.TextLoops.{blank}
@@ -24,7 +24,7 @@ no_hash = record { hash = 0; number = 0 }
 -- strings that don't differ are one text
 one_text : (xs : List (Bor (List ℕ))) (i j : ℕ) → i < length xs → j < length xs
     → false ≡ not (bytes_eq (get_or xs i blank).now (get_or xs j blank).now)
-    → text_numbered (nows xs) j ≡ text_numbered (nows xs) i
+    → indexed_text (nows xs) j ≡ indexed_text (nows xs) i
 one_text xs i j l m e = sym (text_nows xs j m)
     ∙ sym ((bytes_decides (get_or xs i blank).now (get_or xs j blank).now).0
     (yes (bytes_eq (get_or xs i blank).now (get_or xs j blank).now) e)) ∙ text_nows xs i l

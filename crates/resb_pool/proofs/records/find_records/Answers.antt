@@ -8,7 +8,7 @@ use Rattle.std.proofs.lemmas.List.Elements.{All-push}
 use Rattle.resb_format.specs.Units.{units, size}
 use Rattle.resb_pool.specs.Plan.{nows}
 use Rattle.resb_pool.specs.Records.{IsRecord}
-use Rattle.resb_pool.specs.Inner.Placing.{text_numbered, AreContainers, AreRecordsAmong, IsRecordOf}
+use Rattle.resb_pool.specs.Inner.Placing.{indexed_text, AreContainers, AreRecordsAmong, IsRecordOf}
 use Rattle.resb_pool.specs.Inner.Placing.{AreBytes, front_bytes}
 use Rattle.resb_pool.specs.Inner.Placing.{record_texts}
 use Rattle.resb_pool.specs.declared.measure.Measure.{Measure}
@@ -26,7 +26,7 @@ no_measure = record { unit_count = 0; size = 0; total = 0 }
 own_record : (xs : List (Bor (List ℕ))) (hs : List ℕ) (i : ℕ) → AreContainers (nows xs) hs
     → i < length hs → (nat_eq (get_or hs i 0) i
     && not (nat_eq (length (get_or xs i blank).now) 0)) ≡ true
-    → IsRecord (nows xs) (text_numbered (nows xs) i)
+    → IsRecord (nows xs) (indexed_text (nows xs) i)
 own_record xs hs i placed l h =
     let k : i < length xs = omega (arith, l, placed.len, length-nows xs) in
     let both = and_parts (nat_eq (get_or hs i 0) i)
@@ -42,7 +42,7 @@ own_record xs hs i placed l h =
 no_record : (xs : List (Bor (List ℕ))) (hs : List ℕ) (i : ℕ) → AreContainers (nows xs) hs
     → i < length hs → (nat_eq (get_or hs i 0) i
     && not (nat_eq (length (get_or xs i blank).now) 0)) ≡ false
-    → IsRecord (nows xs) (text_numbered (nows xs) i) → ⊥
+    → IsRecord (nows xs) (indexed_text (nows xs) i) → ⊥
 no_record xs hs i placed l h r =
     let k : i < length xs = omega (arith, l, placed.len, length-nows xs) in
     let at = placed.lies i (omega (arith, l, placed.len)) in
@@ -117,7 +117,7 @@ loop-index-preserved c =
           (nows-take xs i blank k) (record_texts c.loop-index.records.items)
           c.loop-index.invariant.records
           (λ x. not_before (nows xs) i c.requires.distinct l
-          (subst (λ (z : List (List ℕ)). Contains z (text_numbered (nows xs) i))
+          (subst (λ (z : List (List ℕ)). Contains z (indexed_text (nows xs) i))
           (sym (take-map (λ (y : Bor (List ℕ)). y.now) i xs))
           (subst (Contains (nows (take i xs))) t x))) (subst (IsRecord (nows xs)) (sym t) own));
       each = subst (All (IsRecordOf (nows xs) c.args.sums.now)) (sym e)

@@ -6,7 +6,7 @@ use Rattle.std.proofs.lemmas.Fn.{always_returns_same}
 use Rattle.resb_pool.specs.Plan.{nows}
 use Rattle.resb_pool.specs.Inner.Suffixes.{IsRowOf, row_text, row_texts, keyed_cmp}
 use Rattle.resb_pool.specs.declared.suffix_order.Row.{Row}
-use Rattle.resb_pool.proofs.FrontKeys.{keyed_order, in_suffix_order}
+use Rattle.resb_pool.proofs.EndKeys.{keyed_order, in_suffix_order}
 use Rattle.resb_pool.proofs.suffix_order.in_suffix_order.Goals as goal
 
 pub returns : goal.returns

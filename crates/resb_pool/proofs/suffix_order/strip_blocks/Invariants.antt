@@ -4,12 +4,12 @@ use denote.Text.{Utf8}
 use Rattle.resb_pool.specs.Inner.Cuts.{IsShared}
 use Rattle.resb_pool.proofs.suffix_order.strip_blocks.Given as goal
 
-abbrev pub invariant-loop-front : goal.invariant-loop-front
-invariant-loop-front l = record {
+abbrev pub invariant-loop-left_rest : goal.invariant-loop-left_rest
+invariant-loop-left_rest l = record {
   left_text : shadow (Utf8 l.lefts);
   right_text : shadow (Utf8 l.rights);
   shared : IsShared l.left l.right l.lefts l.rights;
 }
 
-abbrev pub decreases-loop-front : goal.decreases-loop-front
-decreases-loop-front l = length l.lefts
+abbrev pub decreases-loop-left_rest : goal.decreases-loop-left_rest
+decreases-loop-left_rest l = length l.lefts

@@ -19,26 +19,28 @@ returns-then-is_vast-clause-err c =
     leb-true 268435456 (length (units t)) (sym c.is_vast.ensures ∙ c.if-is_vast.true) in
     too_large c.requires.short (omega (arith, e, f, g))
 
-pub returns-in_err-size-clause-err : goal.returns-in_err-size-clause-err
-returns-in_err-size-clause-err c = let p =
+pub returns-in_err-count-clause-err : goal.returns-in_err-count-clause-err
+returns-in_err-count-clause-err c = let p =
     err_from_is_err_and c.from_residual.result
     c.from_residual.ensures.1 in rw (p.1, p.2) no_memory
 
-pub returns-then-size-ge-SIZE_LIMIT-clause-err : goal.returns-then-size-ge-SIZE_LIMIT-clause-err
-returns-then-size-ge-SIZE_LIMIT-clause-err c =
+pub returns-in_err-size-clause-err : goal.returns-in_err-size-clause-err
+returns-in_err-size-clause-err c =
     let xs = c.args.strings.now in
     let i = c.loop-text.text-index in
     let t = (get_or xs i blank).now in
     let e = ap texts_size (nows-split xs i blank c.loop-text-test.true) in
     let f = texts_size-most (nows (take i xs)) t (nows (drop (suc i) xs)) in
-    too_large c.requires.short (omega (
+    let p = err_from_is_err_and c.from_residual-in_err-size.result
+    c.from_residual-in_err-size.ensures.1 in
+    rw (p.1, p.2, c.in_err-size.ensures.err.0) (too_large c.requires.short (omega (
       arith,
       e,
       f,
-      c.in_ok-size.ensures.count,
+      c.in_ok-count.ensures.count,
       c.loop-text.invariant.size,
-      c.if-size-ge-SIZE_LIMIT.true,
-    ))
+      c.in_err-size.ensures.err.1,
+    )))
 
 pub loop-text-preserved : goal.loop-text-preserved
 loop-text-preserved c =
@@ -48,18 +50,19 @@ loop-text-preserved c =
     let e = nows-take xs i blank c.loop-text-test.true in
     let v = c.loop-text.invariant in
     record {
-      texts = subst (λ d. AreTexts d (nows c.add.new.texts.distinct.keys)
-          c.add.new.texts.measures.items) (sym e) (c.in_ok-size.ensures.texts (nows (take i xs))
-          v.texts);
-      turns = subst (λ d. AreTurns d (nows c.add.new.texts.distinct.keys)
-          c.add.new.texts.order.items) (sym e) (c.in_ok-size.ensures.turns (nows (take i xs))
+      texts = subst (λ d. AreTexts d (nows c.add_copy.new.texts.distinct.keys)
+          c.add_copy.new.texts.measures.items) (sym e)
+          (c.in_ok-count.ensures.texts (nows (take i xs)) v.texts);
+      turns = subst (λ d. AreTurns d (nows c.add_copy.new.texts.distinct.keys)
+          c.add_copy.new.texts.order.items) (sym e) (c.in_ok-count.ensures.turns (nows (take i xs))
           v.turns);
       size = omega (
         arith,
         v.size,
-        c.in_ok-size.ensures.count,
+        c.in_ok-size.ensures.ok,
+        c.in_ok-count.ensures.count,
         ap texts_size e,
         texts_size-push (nows (take i xs)) t,
       );
-      small = omega (arith, c.if-size-ge-SIZE_LIMIT.false);
+      small = c.in_ok-size.ensures.small;
     }

@@ -1,7 +1,7 @@
 -- A text of few digits, none of which is 0, has no marker.
 use Rattle.std.proofs.Common.{◌≡◌, ℕ, ◌+◌, ◌*◌, ◌<◌, ◌≤◌, List, [], ◌∷◌, ◌++◌, false, not}
 use Rattle.std.proofs.Common.{length, length-append, refl, sym, ◌∙◌, ap, subst, arith, inl, inr}
-use Rattle.std.proofs.Common.{reverse, suc, get_or, append-nil, ◌-◌, ◌%◌}
+use Rattle.std.proofs.Common.{reverse, suc, get_or, append-nil, ◌-◌}
 use Rattle.std.specs.List.{All, flat_map}
 use Rattle.std.specs.Str.{IsUtf8, chars}
 use Rattle.std.specs.Char.Escape.{encode_utf16}
@@ -14,9 +14,8 @@ use Rattle.std.proofs.lemmas.List.Sorted.{All-permutation, IsPermutation-reverse
 use Rattle.std.proofs.lemmas.Str.{encodes-chars, chars-nil, inside_one}
 use Rattle.resb_format.specs.Units.{units}
 use Rattle.resb_pool.specs.Inner.Cuts.{chars_backwards}
-use Rattle.resb_pool.specs.Inner.Suffixes.{char_digits, digits_backwards, front_key, IsShort}
-use Rattle.resb_pool.proofs.Digits.{ascii_digit, small_key}
-use Rattle.resb_pool.proofs.FrontDigits.{behind, last_digit}
+use Rattle.resb_pool.specs.Inner.Suffixes.{char_digits, digits_backwards, IsWholeInRow}
+use Rattle.resb_pool.proofs.Digits.{ascii_digit}
 use Rattle.resb_pool.proofs.Zeros.{has_zero, has_zero-append}
 
 unit_most : (c : ℕ) → length (encode_utf16 c) ≤ 2
@@ -81,18 +80,18 @@ chars_positive (c ∷ cs) h =
     ∙ ap (λ z. get_or ds z 255) m)
     (h (k + n) (omega (arith, l, length-append (char_digits c) ds)))))
 
-nonempty : (s : List ℕ) → (s ≡ [] → ⊥) → 0 < length s
-nonempty [] f = absurd (f refl)
-nonempty (b ∷ bs) f = omega arith
+nonempty : (s : List ℕ) → 0 < length (digits_backwards s) → 0 < length s
+nonempty [] l =
+    let none : length (digits_backwards []) ≡ 0 =
+    ap (λ cs. length (flat_map char_digits (reverse cs))) chars-nil in
+    absurd (omega (arith, l, none))
+nonempty (b ∷ bs) l = omega arith
 
 -- by the number of its digits
-pub short_text : (s : List ℕ) (key : ℕ) → IsUtf8 s → key ≡ front_key 0 16 (digits_backwards s)
-    → key % 256 ≡ 255 → (key ≡ 0xffff_ffff_ffff_ffff_ffff_ffff_ffff_ffff → ⊥)
-    → ((k : ℕ) → k < 16 → 0 < get_or (digits_backwards s) k 255) → IsShort s
-short_text s key u e last ne positive =
-    let ds = digits_backwards s in
-    let few : length ds ≤ 15 = behind 15 ds (small_key s u)
-    (sym (last_digit 15 0 ds (small_key s u)) ∙ ap (λ z. z % 256) (sym e) ∙ last) in
+pub few_digits : (s : List ℕ) → IsUtf8 s → 0 < length (digits_backwards s)
+    → length (digits_backwards s) < 16
+    → ((k : ℕ) → k < 16 → 0 < get_or (digits_backwards s) k 255) → IsWholeInRow s
+few_digits s u some few positive =
     let backwards = chars_positive (chars_backwards s)
     (λ k l. positive k (omega (arith, l, few))) in
     let all : All (λ c. 0 < c) (chars s) =
@@ -109,8 +108,7 @@ short_text s key u e last ne positive =
       few,
     ) in
     record {
-      few = omega (arith, few);
-      nonempty = nonempty s (λ z. ne (e ∙ ap (front_key 0 16) (ap digits_backwards z
-          ∙ ap (λ cs. flat_map char_digits (reverse cs)) chars-nil)));
+      few = few;
+      nonempty = nonempty s some;
       unmarked = and_from _ _ (le-leb (length (units s)) 40 most) (ap not none);
     }

@@ -3,14 +3,14 @@ use Rattle.std.proofs.Common.{arith, refl}
 use Rattle.std.specs.Cmp.Lexicographic.{bytes_decides}
 use Rattle.std.proofs.lemmas.List.{length_push, length-map}
 use Rattle.resb_pool.specs.Plan.{nows}
-use Rattle.resb_pool.specs.Inner.Placing.{text_numbered, AreTexts, AreTurns}
+use Rattle.resb_pool.specs.Inner.Placing.{indexed_text, AreTexts, AreTurns}
 use Rattle.resb_pool.specs.declared.texts.Texts.{Texts}
 use Rattle.resb_pool.proofs.Interning.{IsReady, taken_known, taken_new, count_is, count_fits}
 use Rattle.resb_pool.proofs.Interning.{counted, stored_at, length-nows}
 use Rattle.resb_pool.proofs.Turns.{turn_more, strings_few}
-use Rattle.resb_pool.proofs.texts.add.Goals as goal
-use Rattle.resb_pool.proofs.texts.add.Goals.{After-index_mut-measure, then-is_new+in_ok-push}
-use Rattle.resb_pool.proofs.texts.add.Goals.{else-is_new}
+use Rattle.resb_pool.proofs.texts.add_copy.Goals as goal
+use Rattle.resb_pool.proofs.texts.add_copy.Goals.{After-index_mut-measure, then-is_new+in_ok-push}
+use Rattle.resb_pool.proofs.texts.add_copy.Goals.{else-is_new}
 
 ready : (c : After-index_mut-measure) (done : List (List ℕ))
     → AreTexts done (nows c.args.texts.now.distinct.keys) c.args.texts.now.measures.items
@@ -49,10 +49,10 @@ within c = omega (
 )
 
 stands : (c : After-index_mut-measure)
-    → text_numbered (nows c.if-is_new.texts.distinct.keys) c.in_ok-index.index ≡ c.args.text.now
+    → indexed_text (nows c.if-is_new.texts.distinct.keys) c.in_ok-index.index ≡ c.args.text.now
 stands c =
     let k = c.in_ok-index.ensures.stored in
-    ap (λ (z : List (Bor (List ℕ))). text_numbered (nows z) c.in_ok-index.index) (set_is c)
+    ap (λ (z : List (Bor (List ℕ))). indexed_text (nows z) c.in_ok-index.index) (set_is c)
     ∙ stored_at c.insert_full.new.self.keys c.in_ok-index.index k.0 k.1
     ∙ sym ((bytes_decides c.args.text.now k.0.now).0 k.2)
 
@@ -107,7 +107,7 @@ overflow_cast-index c =
       length_push c.args.texts.now.order.items c.in_ok-index.index,
       ap length g.3.texts,
       length-map c.args.texts.now.order.items
-          (text_numbered (nows c.args.texts.now.distinct.keys)),
+          (indexed_text (nows c.args.texts.now.distinct.keys)),
       strings_few g.0,
       g.1,
     )

@@ -1,4 +1,4 @@
--- Rows whose fronts differ compare as these do.
+-- Rows whose keys differ compare as these do.
 use Rattle.std.proofs.Common.{◌≡◌, ℕ, zero, suc, ◌+◌, ◌-◌, ◌*◌, ◌<◌, ◌≤◌, List, [], ◌∷◌}
 use Rattle.std.proofs.Common.{get_or, length, inl, inr, false, refl, sym, ◌∙◌, ap, subst, arith}
 use Rattle.std.specs.List.{All}
@@ -17,10 +17,10 @@ use Rattle.std.proofs.lemmas.List.Elements.{All-tail}
 use Rattle.std.proofs.lemmas.Str.{IsUtf8-nil}
 use Rattle.resb_pool.specs.Order.{end_last_cmp}
 use Rattle.resb_pool.specs.Inner.Cuts.{chars_backwards}
-use Rattle.resb_pool.specs.Inner.Suffixes.{digits_backwards, front_key, digits_bound}
+use Rattle.resb_pool.specs.Inner.Suffixes.{digits_backwards, key_of_digits, digits_bound}
 use Rattle.resb_pool.specs.Inner.Suffixes.{keyed_cmp, row_cmp}
 use Rattle.resb_pool.specs.Inner.Suffixes.{row_key, row_text, IsKeyed, IsRowOf}
-use Rattle.resb_pool.specs.Inner.Placing.{text_numbered}
+use Rattle.resb_pool.specs.Inner.Placing.{indexed_text}
 use Rattle.resb_pool.specs.declared.suffix_order.Row.{Row}
 use Rattle.resb_pool.proofs.SuffixOrder.{end_last_total}
 use Rattle.resb_pool.proofs.Digits.{IsSmall, small_key, digits_order}
@@ -35,7 +35,7 @@ tail_small x xs h = All-tail (λ c. c < 255) x xs h
 
 -- a smaller number in front stays smaller
 pub less_kept : (n a b : ℕ) (xs ys : List ℕ) → IsSmall xs → IsSmall ys → a < b
-    → front_key a n xs < front_key b n ys
+    → key_of_digits a n xs < key_of_digits b n ys
 less_kept zero a b xs ys s t l = l
 less_kept (suc n) a b [] [] s t l =
     less_kept n (a * 256 + 255) (b * 256 + 255) [] [] s t
@@ -71,23 +71,23 @@ bound_more left a d p q l m =
     omega (arith, e, l, m)
 
 pub next_digit : (left a d : ℕ) (ds : List ℕ) → 0 < left
-    → front_key (a * 256 + d) (left - 1) ds ≡ front_key a left (d ∷ ds)
+    → key_of_digits (a * 256 + d) (left - 1) ds ≡ key_of_digits a left (d ∷ ds)
 next_digit zero a d ds p = absurd (omega (arith, p))
 next_digit (suc n) a d ds p =
-    let e : suc n - 1 ≡ n = omega arith in ap (λ k. front_key (a * 256 + d) k ds) e
+    let e : suc n - 1 ≡ n = omega arith in ap (λ k. key_of_digits (a * 256 + d) k ds) e
 
 pub no_digit : (left a d : ℕ) (ds : List ℕ) → left ≡ 0
-    → front_key a left ds ≡ front_key a left (d ∷ ds)
+    → key_of_digits a left ds ≡ key_of_digits a left (d ∷ ds)
 no_digit zero a d ds p = refl
 no_digit (suc n) a d ds p = absurd (omega (arith, p))
 
 -- the end's digit is as good as none
-pub end_digit : (left a : ℕ) → front_key a left (255 ∷ []) ≡ front_key a left []
+pub end_digit : (left a : ℕ) → key_of_digits a left (255 ∷ []) ≡ key_of_digits a left []
 end_digit zero a = refl
 end_digit (suc n) a = refl
 
 order_of : (n a : ℕ) (xs ys : List ℕ) → IsSmall xs → IsSmall ys
-    → front_key a n xs < front_key a n ys → end_last_cmp xs ys ≡ Less
+    → key_of_digits a n xs < key_of_digits a n ys → end_last_cmp xs ys ≡ Less
 order_of zero a xs ys s t l = absurd (omega (arith, l))
 order_of (suc n) a [] [] s t l = order_of n (a * 256 + 255) [] [] s t l
 order_of (suc n) a [] (y ∷ ys) s t l =
@@ -104,7 +104,7 @@ order_of (suc n) a (x ∷ xs) (y ∷ ys) s t l =
     (λ e. ap (λ z. ordering_then (nat_cmp x z) (end_last_cmp xs ys)) (sym e)
     ∙ ordering_then_equal (nat_cmp x x) (end_last_cmp xs ys) (tied_itself nat_cmp_total x)
     ∙ order_of n (a * 256 + x) xs ys (tail_small x xs s) (tail_small y ys t)
-    (subst (λ z. front_key (a * 256 + x) n xs < front_key (a * 256 + z) n ys) (sym e)
+    (subst (λ z. key_of_digits (a * 256 + x) n xs < key_of_digits (a * 256 + z) n ys) (sym e)
     l))
     (λ m. absurd (omega (
       arith,
@@ -120,7 +120,7 @@ tied_first a b o f e = sym (ap is_lt (ap (λ z. ordering_then (nat_cmp a z) o) (
     ∙ ordering_then_equal (nat_cmp a a) o (tied_itself nat_cmp_total a))) ∙ e
 
 -- each text, and the empty one where there is none
-pub text_utf8 : (T : List (List ℕ)) (i : ℕ) → All IsUtf8 T → IsUtf8 (text_numbered T i)
+pub text_utf8 : (T : List (List ℕ)) (i : ℕ) → All IsUtf8 T → IsUtf8 (indexed_text T i)
 text_utf8 T i u = elim (cases_lt i (length T)) [
   | inl l ↦ u i [] l
   | inr m ↦ subst IsUtf8 (sym (get_or_past T i [] m)) IsUtf8-nil
@@ -146,7 +146,7 @@ module _ (T : List (List ℕ)) where
         ∙ ap ordering_reverse (digits_order (chars_backwards t) (chars_backwards s)
         (order_of 16 0 (digits_backwards t) (digits_backwards s)
         (small_key t (text_utf8 T y.index utf8)) (small_key s (text_utf8 T x.index utf8))
-        (omega (arith, m, h.front_is, k.front_is)))))
+        (omega (arith, m, h.key_is, k.key_is)))))
 
     before_too : (x y : Row) → IsKeyed T x → IsKeyed T y → is_lt (keyed_cmp T x y) ≡ false
         → is_lt (row_cmp T x y) ≡ false

@@ -1,5 +1,5 @@
-//! How many units a text and its record take, and whether a string is too long to plan.
-//! Which texts get a record is said in `containers`.
+//! How many units a text and its record take, and whether strings are too long or too large to
+//! plan. Which texts get a record is said in `containers`.
 ghost use Rattle.std.specs.Prelude.{◌≡◌, ◌+◌, ◌<◌, ◌≤◌, ◌^◌, None, MatchOption, length, nat_le};
 ghost use Rattle.std.specs.Prelude.{IfOk, OnOk, IfErr};
 ghost use Rattle.resb_format.specs.Units as text_units;

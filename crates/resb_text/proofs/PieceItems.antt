@@ -11,8 +11,7 @@ use Rattle.resb_draft.proofs.Lists.{all_append}
 use Rattle.resb_text.specs.Inner.Build.{Represents}
 use Rattle.resb_text.specs.Inner.Drafts.{piece_term_seen, piece_item_seen, entries_seen, are_whole}
 use Rattle.resb_text.specs.Inner.Drafts.{key_after, entry_of_term, entries_after}
-use Rattle.resb_text.specs.Inner.Shown.{shown_tree, shown_borrowed, pairs_after}
-use Rattle.resb_text.specs.Inner.Shown.{waiting_key}
+use Rattle.resb_text.specs.Inner.Shown.{shown_tree, shown_borrowed, pairs_after, waiting_key}
 use Rattle.resb_text.specs.declared.items.Item.{Item}
 use Rattle.resb_text.specs.declared.items.Term.{Term}
 use Rattle.resb_text.specs.declared.items.Term.TheVariants as terms

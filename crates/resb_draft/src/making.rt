@@ -32,7 +32,7 @@ impl<'a> Draft<'a> {
         }
     }
 
-    /// One text more. Gives the number of its piece, as the others do.
+    /// Puts one text behind the other pieces. Each call that puts a piece gives its number.
     pub fn push_string(&mut self, text: &'a str) -> Result<u32, NoMemory>
         ensures made { IfOk result (λ n. IsMade self.new n (string text.now)) }
         ensures members { self.new.members ≡ self.old.members }
@@ -47,8 +47,8 @@ impl<'a> Draft<'a> {
         ensures made { IfOk result (λ n. IsMade self.new n (tree_of resource.entry)) }
         ensures keeps { Keeps self.old self.new }
     {
-        if let Resource::Integer(number) = &resource {
-            return self.push(Piece::Integer(*number));
+        if let Resource::Integer(integer) = &resource {
+            return self.push(Piece::Integer(*integer));
         }
         let alloc = *self.pieces.allocator();
         self.push(Piece::Leaf(Box::new(alloc, resource)?))
@@ -117,7 +117,7 @@ impl<'a> Draft<'a> {
         }
         let entries = self.take_entries(alloc, first_member, first_key)?;
         let entries = in_key_order(alloc, entries)?;
-        self.push_entries(&entries)
+        self.push_table(&entries)
     }
 
     /// The table of the entries behind the first so many members and keys, whose keys ascend.
@@ -166,8 +166,8 @@ impl<'a> Draft<'a> {
         Ok(entries)
     }
 
-    /// The table of these entries.
-    fn push_entries(&mut self, entries: &[(&'a str, u32)]) -> Result<u32, NoMemory>
+    /// Puts these entries behind the draft's own, and makes a table of them.
+    fn push_table(&mut self, entries: &[(&'a str, u32)]) -> Result<u32, NoMemory>
         requires { keys_ascend entries.now ≡ true }
         ensures made { let ps = entries.now in
             all_true (map (λ p. is_whole self.old p.1) ps) ≡ true → IfOk result
@@ -175,16 +175,12 @@ impl<'a> Draft<'a> {
             (table (entries_of (map (λ p. (p.0.now, tree_at self.old p.1)) ps)))) }
         ensures keeps { Keeps self.old self.new }
     {
-        let part = Members {
-            from: number(self.members.len())?,
-            count: number(entries.len())?,
-        };
-        let first_key = number(self.keys.len())?;
+        let first_member = self.members.len();
+        let first_key = self.keys.len();
         for entry in entries {
-            self.keys.push(entry.0)?;
-            self.members.push(entry.1)?;
+            self.push_entry(entry.0, entry.1)?;
         }
-        self.push(Piece::Table(part, first_key))
+        self.end_ascending(first_member, first_key)
     }
 
     /// One piece more.
@@ -196,9 +192,9 @@ impl<'a> Draft<'a> {
         ensures members { self.new.members ≡ self.old.members }
         ensures keeps { Keeps self.old self.new }
     {
-        let number = number(self.pieces.len())?;
+        let own_number = number(self.pieces.len())?;
         self.pieces.push(piece)?;
-        Ok(number)
+        Ok(own_number)
     }
 }
 

@@ -1,6 +1,6 @@
 -- What stands before the root's items: where it leads to, and where it is refused.
 use Rattle.std.proofs.Common.{◌≡◌, ◌≢◌, ℕ, Bool, true, false, List, refl, sym, ap, subst}
-use Rattle.std.proofs.Common.{arith, inl, inr, ⊎_elim}
+use Rattle.std.proofs.Common.{arith, Some, None, inl, inr, ⊎_elim}
 use Rattle.std.specs.Prelude.{◌⊎◌, ◌==◌, slice_index, Result, Ok, Err, IfErr}
 use Rattle.std.proofs.lemmas.Bool.Decides.{nat_tests}
 use Rattle.resb_grammar.specs.Ascii as ascii
@@ -16,16 +16,24 @@ use Rattle.resb_text.specs.Inner.Steps.{TypingFails}
 use Rattle.resb_grammar.specs.declared.expected.Expected.{Expected}
 use Rattle.resb_grammar.specs.declared.expected.Expected.TheVariants as expect
 use Rattle.resb_text.specs.declared.error.TextParserError.{TextParserError}
-use Rattle.resb_grammar.proofs.HeaderPath.{name_read, typed_name}
+use Rattle.resb_grammar.proofs.HeaderPath.{typed_name}
 use Rattle.resb_grammar.proofs.Moves.{begin, none_some, root_colon}
 use Rattle.resb_text.proofs.NoTokens.{no_token}
 
 abbrev pub error_at : ℕ → Expected → TextParserError
 error_at at x = record { position = at; expected = x }
 
+-- a token that leads nowhere: one with a content, or a mark
+pub nowhere : {A B : Type 0} (P : A → B → Type 0) (a : A) (b : B) (u : State) → P a b
+    → None ≡ Some u → ⊥
+nowhere P a b u h = none_some u
+
+pub no_mark : {P : Type 0} (u : State) → P → None ≡ Some u → ⊥
+no_mark u h = none_some u
+
 module _ (text : List ℕ) where
   -- no token stands there, and this was expected
-  stuck_in : (at : ℕ) (s : State) (x : Expected) → At text at s → NoToken text at s
+  pub stuck_in : (at : ℕ) (s : State) (x : Expected) → At text at s → NoToken text at s
       → ((h : Rattle.resb_grammar.specs.Stuck.IsEnd text at s) → ⊥)
       → ((h : Rattle.resb_grammar.specs.Stuck.HasDigits text at s) → ⊥)
       → x ≡ expectation s (slice_index text at) → Stuck text at x
@@ -38,15 +46,8 @@ module _ (text : List ℕ) where
       → Fails text (error_at at expect.Text)
   no_name at skip never =
       inr (stuck_in at start expect.Text (begin text at skip)
-      (no_token text at start (λ to w u is e. never to w is) (λ to m u is. none_some u)
-      (λ u is. none_some u) (λ u is. none_some u) (λ u is. none_some u)
-      (λ to m u is. none_some u) (λ to m u is. none_some u))
-      (λ h. h) (λ h. h) refl)
-
-  pub typing_refused : (at ends to : ℕ) (name : List ℕ) (e : TextParserError) → Skip text 0 at
-      → Text text at ends name → Skip text ends to → TypingFails text to e → Fails text e
-  typing_refused at ends to name e skip t skip' fails =
-      inr (fails name (name_read text at ends to name skip t skip'))
+      (no_token text at start (λ to w u is e. never to w is) (nowhere _) no_mark no_mark no_mark
+      (nowhere _) (nowhere _)) (λ h. h) (λ h. h) refl)
 
   -- no type of a root after a `:`
   pub no_root_type : (at : ℕ) → slice_index text at ≡ ascii.colon
@@ -54,10 +55,9 @@ module _ (text : List ℕ) where
       → TypingFails text at (error_at at expect.TypeName)
   no_root_type at colon never name reached =
       stuck_in at (named name) expect.TypeName reached
-      (no_token text at (named name) (λ to m u is. none_some u) (λ to m u is. none_some u)
-      (λ u is e. absurd (omega (arith, is, colon))) (λ u is. none_some u) (λ u is. none_some u)
-      (λ to m u is. none_some u) (λ to f u is e. never to f is))
-      (λ h. h) (λ h. h) (sym (ap (λ b. expectation (named name) b) colon))
+      (no_token text at (named name) (nowhere _) (nowhere _)
+      (λ u is e. absurd (omega (arith, is, colon))) no_mark no_mark (nowhere _)
+      (λ to f u is e. never to f is)) (λ h. h) (λ h. h) (sym (ap (expectation (named name)) colon))
 
   brace_expected : (b : ℕ) → b ≢ ascii.colon
       → expect.LeftBrace ≡ choose (b == ascii.colon) expect.TypeName expect.LeftBrace
@@ -72,9 +72,8 @@ module _ (text : List ℕ) where
   no_open name place brace true reached (without e) plain never =
       inr (stuck_in brace (named name) expect.LeftBrace
       (subst (λ n. At text n (named name)) e reached)
-      (no_token text brace (named name) (λ to m u is. none_some u) (λ to m u is. none_some u)
-      (λ u is e. never is) (λ u is. none_some u) (λ u is. none_some u) (λ to m u is. none_some u)
-      (λ to f u is e. colon_free (root_colon text brace to f is)))
+      (no_token text brace (named name) (nowhere _) (nowhere _) (λ u is e. never is) no_mark no_mark
+      (nowhere _) (λ to f u is e. colon_free (root_colon text brace to f is)))
       (λ h. h) (λ h. h) (brace_expected (slice_index text brace) colon_free))
     where
       colon_free : slice_index text brace ≢ ascii.colon
@@ -82,11 +81,8 @@ module _ (text : List ℕ) where
   no_open name place brace f reached (with i _ t skip) plain never =
       inr (stuck_in brace (titled (record { name = name; fallback = f })) expect.LeftBrace
       (typed_name text name place i brace f t skip reached)
-      (no_token text brace (titled (record { name = name; fallback = f }))
-      (λ to m u is. none_some u) (λ to m u is. none_some u) (λ u is e. never is)
-      (λ u is. none_some u) (λ u is. none_some u) (λ to m u is. none_some u)
-      (λ to m u is. none_some u))
-      (λ h. h) (λ h. h) refl)
+      (no_token text brace (titled (record { name = name; fallback = f })) (nowhere _) (nowhere _)
+      (λ u is e. never is) no_mark no_mark (nowhere _) (nowhere _)) (λ h. h) (λ h. h) refl)
 
   -- what fails for another reason than memory is no bundle
   pub fails_no_bundle : (e : TextParserError) → Fails text e

@@ -1,12 +1,11 @@
 -- Lists and options: what names no word of this project.
 use Rattle.std.proofs.Common.{◌≡◌, ℕ, ◌+◌, ◌-◌, List, get_or, ap, ◌∙◌, drop, arith, length, take}
-use Rattle.std.proofs.Common.{length-drop, true, ◌<◌, ◌≤◌, false, refl}
+use Rattle.std.proofs.Common.{length-drop, true, ◌<◌, ◌≤◌, false, refl, sym, Option, Some, None}
+use Rattle.std.proofs.Common.{eqb, eqb-true}
 use Rattle.std.proofs.lemmas.List.{get_or-drop, take_all}
-use Rattle.std.specs.Prelude.{Bool}
+use Rattle.std.specs.Prelude.{Bool, not}
 use Rattle.std.proofs.lemmas.Bool.{false≢true}
-use Rattle.std.proofs.Common.{sym, Option, Some, None, eqb, eqb-true}
 use Rattle.std.specs.Option.{option_eq}
-use Rattle.std.specs.Prelude.{not}
 
 -- the byte at a place of what is left from here on
 pub at_rest : (text rest : List ℕ) (from k : ℕ) → rest ≡ drop from text

@@ -1,6 +1,5 @@
 -- What is known of a result, handed on.
-use Rattle.std.specs.Prelude.{Option, Some, None, MatchResult, MatchOption}
-use Rattle.std.specs.Prelude.{Result, Ok, Err}
+use Rattle.std.specs.Prelude.{Option, Some, None, MatchResult, MatchOption, Result, Ok, Err}
 use Rattle.std.specs.Result.{IsErrAnd}
 use Rattle.std.proofs.Common.{◌≡◌, sym, subst}
 
@@ -19,11 +18,3 @@ pub match_option_to : {A N M : Type 0} {P Q : A → Type 0} (r : Option A) → (
     → ((x : A) → P x → Q x) → MatchOption r N P → MatchOption r M Q
 match_option_to (Some x) f g h = g x h
 match_option_to None f g h = f h
-
--- what is said of both outcomes and of what may be in the first, said more weakly
-pub match_weaker : {A E N M : Type 0} {P Q : A → Type 0} {F G : E → Type 0}
-    (r : Result (Option A) E) → (N → M) → ((x : A) → P x → Q x) → ((e : E) → F e → G e)
-    → MatchResult r (λ o. MatchOption o N P) F → MatchResult r (λ o. MatchOption o M Q) G
-match_weaker (Ok (Some x)) n p f h = p x h
-match_weaker (Ok None) n p f h = n h
-match_weaker (Err e) n p f h = f e h

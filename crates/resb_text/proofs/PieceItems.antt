@@ -8,11 +8,11 @@ use Rattle.resb_tree.specs.Borrowing.{all_true}
 use Rattle.resb_draft.specs.Drafts.{tree_at, is_whole, Keeps}
 use Rattle.resb_draft.specs.declared.draft.Draft.{Draft}
 use Rattle.resb_draft.proofs.Lists.{all_append}
+use Rattle.resb_draft.proofs.Standing.{keeps_on}
 use Rattle.resb_text.specs.Inner.Build.{Represents}
 use Rattle.resb_text.specs.Inner.Drafts.{piece_term_seen, piece_item_seen, entries_seen, are_whole}
 use Rattle.resb_text.specs.Inner.Drafts.{key_after, entry_of_term, entries_after}
-use Rattle.resb_text.specs.Inner.Shown.{shown_tree, shown_borrowed, pairs_after}
-use Rattle.resb_text.specs.Inner.Shown.{waiting_key}
+use Rattle.resb_text.specs.Inner.Shown.{shown_tree, shown_borrowed, pairs_after, waiting_key}
 use Rattle.resb_text.specs.declared.items.Item.{Item}
 use Rattle.resb_text.specs.declared.items.Term.{Term}
 use Rattle.resb_text.specs.declared.items.Term.TheVariants as terms
@@ -45,42 +45,34 @@ ListsNumbers first d ns left xs =
     × (all_true (map (is_whole d) ns) ≡ true)
     × (all_true (map shown_borrowed (map (piece_item_seen first) left)) ≡ true)
 
--- one number more
-pub lists_more : (first old new : Draft) (ns ns' : List ℕ) (x : Item ℕ) (n : ℕ)
-    (left rest xs : List (Item ℕ)) → Keeps first old → Keeps old new → left ≡ x ∷ rest
-    → ns' ≡ ns ++ n ∷ []
+-- one number more, of a piece that is made first and put behind then
+pub lists_more : (first old mid new : Draft) (ns ns' : List ℕ) (x : Item ℕ) (n : ℕ)
+    (left rest xs : List (Item ℕ)) → Keeps first old → Keeps old mid → Keeps mid new
+    → left ≡ x ∷ rest → ns' ≡ ns ++ n ∷ []
     → (shown_borrowed (piece_term_seen old x.term x.comma) ≡ true
-    → Represents tree_at is_whole new n (shown_tree (piece_term_seen old x.term x.comma)))
+    → Represents tree_at is_whole mid n (shown_tree (piece_term_seen old x.term x.comma)))
     → ListsNumbers first old ns left xs → ListsNumbers first new ns' rest xs
-lists_more first old new ns ns' x n left rest xs before after split pushed made h =
+lists_more first old mid new ns ns' x n left rest xs before after put split pushed made h =
     let see = piece_item_seen first in
     let whole : all_true (map shown_borrowed (map see (x ∷ rest))) ≡ true =
     ap (λ l. all_true (map shown_borrowed (map see l))) (sym split) ∙ h.2 in
     let both = and_parts (shown_borrowed (see x)) _ whole in
     let seen = term_on first old before x.term x.comma both.0 in
     let one = made seen.1 in
-    let on = pieces_on old new after ns h.1 in
+    let stays = put n one.1 in
+    let on = pieces_on old new (keeps_on old mid new after put) ns h.1 in
     let left_trees = map shown_tree (map see rest) in (
       ap (λ l. map (tree_at new) l ++ left_trees) pushed
           ∙ ap (λ l. l ++ left_trees) (map_push (tree_at new) ns n)
-          ∙ (λ i. (on.0 i ++ (one.0 ∙ seen.0) i ∷ []) ++ left_trees)
+          ∙ (λ i. (on.0 i ++ (stays.0 ∙ one.0 ∙ seen.0) i ∷ []) ++ left_trees)
           ∙ append_assoc (map (tree_at old) ns) (shown_tree (see x) ∷ []) left_trees
           ∙ ap (λ l. map (tree_at old) ns ++ map shown_tree (map see l)) (sym split)
           ∙ h.0,
       ap (λ l. all_true (map (is_whole new) l)) pushed
           ∙ ap all_true (map_push (is_whole new) ns n)
-          ∙ all_append (map (is_whole new) ns) (is_whole new n ∷ []) on.1 (and_from _ _ one.1 refl),
+          ∙ all_append (map (is_whole new) ns) (is_whole new n ∷ []) on.1
+          (and_from _ _ stays.1 refl),
       both.1,
-    )
-
--- the numbers listed so far while the draft grows
-pub lists_on : (first d e : Draft) (ns : List ℕ) (left xs : List (Item ℕ)) → Keeps d e
-    → ListsNumbers first d ns left xs → ListsNumbers first e ns left xs
-lists_on first d e ns left xs k h =
-    let on = pieces_on d e k ns h.1 in (
-      ap (λ ts. ts ++ map shown_tree (map (piece_item_seen first) left)) on.0 ∙ h.0,
-      on.1,
-      h.2,
     )
 
 -- the entries of items are their pairs

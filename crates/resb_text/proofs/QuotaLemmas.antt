@@ -1,6 +1,5 @@
 -- A quota is kept whether more may be made or not.
-use Rattle.std.proofs.Common.{◌≡◌, ℕ, ◌+◌, ◌<◌, true, List, arith, refl, sym}
-use Rattle.std.proofs.Common.{◌∙◌, inl, subst}
+use Rattle.std.proofs.Common.{◌≡◌, ℕ, ◌+◌, ◌<◌, true, List, arith, refl, sym, ◌∙◌, inl, subst}
 use Rattle.std.proofs.lemmas.Bool.{false≢true}
 use Rattle.resb_grammar.specs.Limit.{MadeWithin, MakesMore}
 use Rattle.resb_grammar.proofs.MadeOnce.{never_more}

@@ -26,13 +26,11 @@ impl<'a> Build<'a> for Draft<'a> {
     ghost held = { is_whole };
 
     fn leaf(&mut self, resource: Resource<'a>) -> Result<u32, NoMemory> {
-        let number = self.push_leaf(resource)?;
-        Ok(number)
+        self.push_leaf(resource)
     }
 
     fn string(&mut self, text: &'a str) -> Result<u32, NoMemory> {
-        let number = self.push_string(text)?;
-        Ok(number)
+        self.push_string(text)
     }
 
     fn array(
@@ -43,8 +41,7 @@ impl<'a> Build<'a> for Draft<'a> {
     ) -> Result<u32, NoMemory> {
         let first_member = self.members.len();
         push_members(self, ticks, items)?;
-        let number = self.end_array(first_member)?;
-        Ok(number)
+        self.end_array(first_member)
     }
 
     fn table(
@@ -61,7 +58,7 @@ impl<'a> Build<'a> for Draft<'a> {
 }
 
 /// The number of the piece that the term is. A string becomes one here.
-fn number_of<'a>(draft: &mut Draft<'a>, term: &Term<'a, u32>) -> Result<u32, NoMemory>
+fn piece_of<'a>(draft: &mut Draft<'a>, term: &Term<'a, u32>) -> Result<u32, NoMemory>
     ensures made { (f : Bool) → let seen = piece_term_seen draft.old term.now f in
         shown_borrowed seen ≡ true
         → IfOk result (λ n. Represents tree_at is_whole draft.new n (shown_tree seen)) }
@@ -92,8 +89,8 @@ fn push_members<'a>(
 {
     for item in items {
         ticks.tick();
-        let number = number_of(draft, &item.term)?;
-        draft.push_member(number)?;
+        let piece = piece_of(draft, &item.term)?;
+        draft.push_member(piece)?;
     }
     Ok(())
 }

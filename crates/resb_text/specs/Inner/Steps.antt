@@ -1,6 +1,6 @@
 -- What one token does to the open groups.
-use Rattle.std.specs.Prelude.{◌≡◌, ◌≢◌, ℕ, ◌+◌, ◌*◌, ◌<◌, ◌≤◌, Bool, true, false, not, List, []}
-use Rattle.std.specs.Prelude.{length, slice_index}
+use Rattle.std.specs.Prelude.{◌≡◌, ◌≢◌, ℕ, ◌+◌, ◌*◌, ◌<◌, ◌≤◌, Bool, true, false, List, []}
+use Rattle.std.specs.Prelude.{not, ◌||◌, length, slice_index}
 use Rattle.resb_grammar.specs.Ascii as ascii
 use Rattle.resb_tree.specs.Tree.{Tree}
 use Rattle.resb_grammar.specs.Machine as machine
@@ -18,17 +18,19 @@ use Rattle.resb_text.specs.declared.quota.Quota.{Quota}
 use Rattle.resb_text.specs.declared.ticks.Ticks.{Ticks}
 use Rattle.resb_text.specs.declared.error.TextParserError.{TextParserError}
 
+-- a list of items, where commas may stand
+abbrev pub lists_items : Body → Bool
+lists_items table_body = false
+lists_items array_body = true
+lists_items untyped_body = true
+
 -- a string, or `}`, may stand in such a body; for a table: where a key may stand
 abbrev pub takes_string : Body → Bool → Bool
-takes_string table_body key = key
-takes_string array_body key = true
-takes_string untyped_body key = true
+takes_string b key = lists_items b || key
 
--- `{` or a type may stand in such a body
+-- `{` or a type may stand in such a body; for a table: where no key may
 abbrev pub takes_group : Body → Bool → Bool
-takes_group table_body key = not key
-takes_group array_body key = true
-takes_group untyped_body key = true
+takes_group b key = lists_items b || not key
 
 -- no brace, comma or colon
 pub record IsNoMark (b : ℕ) : Type 0 where
@@ -108,9 +110,3 @@ pub record ClosesRoot {B X : Type 0} (tree : B → X → Tree) (held : B → X �
   pub root : open_groups.around ≡ []
   pub key_place : machine.is_key_place open_groups.frame.items ≡ true
   pub closes : slice_index text at ≡ ascii.right_brace
-
--- a list of items, where commas may stand
-abbrev pub lists_items : Body → Bool
-lists_items table_body = false
-lists_items array_body = true
-lists_items untyped_body = true

@@ -1,5 +1,4 @@
-use Rattle.std.proofs.Common.{[], ◌≡◌, ◌+◌, ℕ, List, Bor, false, arith, ◌∙◌, drop, get_or}
-use Rattle.std.proofs.Common.{refl}
+use Rattle.std.proofs.Common.{[], ◌≡◌, ◌+◌, ℕ, List, Bor, false, arith, ◌∙◌, drop, get_or, refl}
 use Rattle.std.proofs.Common.{length, length-drop}
 use Rattle.std.proofs.lemmas.List.{drop_more}
 use Rattle.resb_text.specs.declared.items.Item.{Item}

@@ -1,11 +1,10 @@
-use Rattle.std.proofs.Common.{◌+◌, ◌++◌, ◌∷◌, ℕ, false, [], arith, drop, get_or, length, subst}
-use Rattle.std.proofs.Common.{sym, ◌∙◌, ap, refl}
+use Rattle.std.proofs.Common.{◌+◌, ◌++◌, ◌∷◌, ℕ, false, [], arith, drop, get_or, length, ◌∙◌, ap}
 use Rattle.std.proofs.lemmas.List.{drop_more, drop-append-le, length-append}
 use Rattle.resb_draft.proofs.Standing.{keeps_on}
 use Rattle.resb_text.specs.declared.items.Item.{Item}
 use Rattle.resb_text.specs.declared.items.Term.{Term}
 use Rattle.resb_text.specs.declared.items.Term.TheVariants as terms
-use Rattle.resb_text.proofs.PieceItems.{ListsNumbers, lists_more, lists_on}
+use Rattle.resb_text.proofs.PieceItems.{lists_more}
 use Rattle.resb_text.proofs.drafts.push_members.Goals as goal
 
 pub loop-item-preserved : goal.loop-item-preserved
@@ -20,23 +19,20 @@ loop-item-preserved c =
     let counted = c.tick.ensures in
     let first = c.args.draft.now in
     let old = c.loop-item.draft in
-    let mid = c.number_of.new.draft in
+    let mid = c.piece_of.new.draft in
     let new = c.push_member.new.self in
-    let more = c.in_ok-number.ensures in
-    let n = c.in_ok-number.number in
+    let more = c.in_ok-piece.ensures in
+    let n = c.in_ok-piece.piece in
     let from = length first.members.items in
     let had = old.members.items in
     let longer = i.longer in
     let is = c.in_ok-push_member.ensures.members
-    ∙ ap (λ l. l ++ n ∷ []) (ap (λ v. v.items) more.members) in
-    let all = sym (ap (drop from) is ∙ drop-append-le from had (n ∷ []) longer) in
+    ∙ ap (λ v. v.items ++ n ∷ []) more.members in
     record {
-      made = λ h. subst (λ ns. ListsNumbers first new ns (drop (at + 1) items) items) all
-          (lists_on first mid new (drop from had ++ n ∷ []) (drop (at + 1) items) items
-          c.in_ok-push_member.ensures.keeps
-          (lists_more first old mid (drop from had) (drop from had ++ n ∷ []) item n
-          (drop at items) (drop (at + 1) items) items i.keeps more.keeps split refl
-          (more.made item.comma) (i.made h)));
+      made = λ h. lists_more first old mid new (drop from had) _ item n (drop at items)
+          (drop (at + 1) items) items i.keeps more.keeps c.in_ok-push_member.ensures.keeps split
+          (ap (drop from) is ∙ drop-append-le from had (n ∷ []) longer) (more.made item.comma)
+          (i.made h);
       longer = omega (arith, longer, ap length is, length-append had (n ∷ []));
       keeps = keeps_on first mid new (keeps_on first old mid i.keeps more.keeps)
           c.in_ok-push_member.ensures.keeps;

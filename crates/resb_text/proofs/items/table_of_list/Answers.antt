@@ -1,4 +1,4 @@
-use Rattle.std.proofs.Common.{◌∙◌, ap, ◌++◌}
+use Rattle.std.proofs.Common.{◌∙◌, ap, sym, ◌++◌, append-nil}
 use Rattle.std.specs.Prelude.{map}
 use Rattle.resb_tree.specs.Tree.{table, map_of}
 use Rattle.resb_tree.specs.View.{pairs_view}
@@ -10,12 +10,13 @@ use Rattle.resb_text.proofs.items.table_of_list.Goals as goal
 
 pub returns-clause-made : goal.returns-clause-made
 returns-clause-made c = λ h.
-    let pairs = c.list_terms.new.pairs.items in
-    let listed = c.in_ok-list_terms.ensures in
+    let pairs = c.put_terms.new.entries.items in
+    let listed = c.in_ok-put_terms.ensures in
     let empty = c.in_ok-pairs.ensures.items in (
       tree_of_table _ ∙ ap table (made_view pairs c.in_ok-table.table c.in_ok-table.ensures
-          ∙ ap map_of (listed.ok
-          ∙ ap (λ ps. pairs_view ps ++ shown_pairs (map seen_in_code c.args.items.items)) empty)),
+          ∙ ap map_of (sym (append-nil (pairs_view pairs))) ∙ listed.ok
+          ∙ ap (λ ps. map_of (pairs_view ps ++ shown_pairs (map seen_in_code c.args.items.items)))
+          empty),
       borrowed_table _ ∙ made_borrowed pairs c.in_ok-table.table c.in_ok-table.ensures
           (listed.borrowed h (ap entries_borrowed empty)),
     )

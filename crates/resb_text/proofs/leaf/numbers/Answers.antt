@@ -1,5 +1,5 @@
 use Rattle.std.proofs.Common.{sym, ◌∙◌, inr, arith}
-use Rattle.std.proofs.lemmas.Result.{err_from_is_err_and}
+use Rattle.resb_text.proofs.Outcomes.{match_same}
 use Rattle.resb_text.proofs.Leaves.{ready_first, one_number, goes_on, ends_numbers}
 use Rattle.resb_text.proofs.Leaves.{no_vector_number, no_vector_brace}
 use Rattle.resb_text.proofs.leaf.numbers.Goals as goal
@@ -21,13 +21,10 @@ returns-in_default-clause-reads c =
 
 pub returns-in_err-here-clause-reads : goal.returns-in_err-here-clause-reads
 returns-in_err-here-clause-reads c =
-    let p = err_from_is_err_and c.from_residual-in_err-here.result
-    c.from_residual-in_err-here.ensures.1 in
     let unended = c.in_err-here.ensures.reads in
-    rw (p.1, p.2) (inr (rw unended.is
+    match_same _ _ _ _ c.from_residual-in_err-here.ensures.1 (inr (rw unended.is
     (no_vector_brace _ _ _ _ (one_number _ _ _ _ _ _ _ c.numbers.invariant.ready
-    c.in-Some.ensures.found c.skip-place.ensures.skip)
-    unended.none unended.no_comma)))
+    c.in-Some.ensures.found c.skip-place.ensures.skip) unended.none unended.no_comma)))
 
 pub returns-then-byte-eq125-clause-reads : goal.returns-then-byte-eq125-clause-reads
 returns-then-byte-eq125-clause-reads c = record {

@@ -1,4 +1,4 @@
-use Rattle.std.proofs.lemmas.Result.{err_from_is_err_and}
+use Rattle.resb_text.proofs.Outcomes.{match_same}
 use Rattle.resb_text.proofs.TypedGroups.{no_type, no_type_brace}
 use Rattle.resb_text.proofs.steps.typed_opening.Goals as goal
 
@@ -8,7 +8,6 @@ returns-in_default-clause-reads c =
 
 pub returns-in_err-first-clause-reads : goal.returns-in_err-first-clause-reads
 returns-in_err-first-clause-reads c =
-    let p = err_from_is_err_and c.from_residual.result c.from_residual.ensures.1 in
     let unopened = c.in_err-first.ensures.reads in
-    rw (p.1, p.2, unopened.is) (no_type_brace _ _ _ _ _ c.in-Some.ensures.found
-    c.skip-brace.ensures.skip unopened.none)
+    match_same _ _ _ _ c.from_residual.ensures.1 (rw unopened.is (no_type_brace _ _ _ _ _
+    c.in-Some.ensures.found c.skip-brace.ensures.skip unopened.none))

@@ -41,12 +41,12 @@ returns-then-ascend-clause-keeps c = λ before ps h.
 pub returns-clause-made : goal.returns-clause-made
 returns-clause-made c = λ before ps h whole.
     let mid = c.take_entries.new.self in
-    let new = c.push_entries.new.self in
+    let new = c.push_table.new.self in
     let taken = c.in_ok-entries.ensures.taken before ps h in
     let on = entries_on before mid (same_keeps before mid taken.1) ps whole in
     let own = c.deref-2.ensures.value in
     let sorted = c.in_ok-entries-2.ensures in
-    IfOk-weaker c.push_entries.result
+    IfOk-weaker c.push_table.result
     (λ n. IsMade new n (table (entries_of (seen (tree_at mid) c.deref-2.result.now))))
     (λ n. IsMade new n (table (map_of (seen (tree_at before) ps))))
     (λ n made. (
@@ -56,7 +56,7 @@ returns-clause-made c = λ before ps h whole.
           ∙ ap (λ es. table (map_of es)) on.0,
       made.1,
     ))
-    (c.push_entries.ensures.made
+    (c.push_table.ensures.made
     (ap (λ qs. all_true (map (λ (p : Bor (List ℕ) × ℕ). is_whole mid p.1) qs)) own
     ∙ sorted.each (is_whole mid)
     (ap (λ qs. all_true (map (λ (p : Bor (List ℕ) × ℕ). is_whole mid p.1) qs)) taken.0 ∙ on.1)))

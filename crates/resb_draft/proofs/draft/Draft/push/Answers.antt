@@ -12,8 +12,8 @@ returns-clause-made c =
       keys = old.keys;
       root = old.root;
     } in
-    pushed old new c.args.piece c.in_ok-number.number c.in_ok-push.ensures.items refl refl
-    (c.in_ok-number.ensures ∙ c.len.ensures ∙ old.pieces.ok.0)
+    pushed old new c.args.piece _ c.in_ok-push.ensures.items refl refl
+    (c.in_ok-own_number.ensures ∙ c.len.ensures ∙ old.pieces.ok.0)
 
 pub returns-clause-keeps : goal.returns-clause-keeps
 returns-clause-keeps c =

@@ -4,8 +4,7 @@ use Rattle.resb_tree.specs.Borrowing.{all_true}
 use Rattle.resb_tree.specs.Tree.{table, put_all, map_of}
 use Rattle.resb_tree.specs.View.{entries_view}
 use Rattle.resb_tree.proofs.ViewLemmas.{tree_of_table}
-use Rattle.resb_text.specs.Inner.Shown.{seen_in_code, shown_pairs, shown_borrowed}
-use Rattle.resb_text.specs.Inner.Shown.{entries_borrowed}
+use Rattle.resb_text.specs.Inner.Shown.{seen_in_code, shown_pairs, shown_borrowed, entries_borrowed}
 use Rattle.resb_text.proofs.BorrowedLemmas.{borrowed_table}
 use Rattle.resb_text.proofs.items.TreesBuild.table.Goals as goal
 

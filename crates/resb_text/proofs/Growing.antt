@@ -18,7 +18,6 @@ use Rattle.resb_text.specs.declared.items.Item.{Item}
 use Rattle.resb_text.specs.declared.items.Term.{Term}
 use Rattle.resb_text.specs.declared.items.Term.TheVariants as terms
 use Rattle.resb_text.proofs.BorrowedLemmas.{items_borrowed}
-use Rattle.resb_text.proofs.FramesLemmas.{same_view}
 
 -- each is what some layer shows
 abbrev AreLooks : List FrameView → Type 0
@@ -58,11 +57,13 @@ module _ {B X : Type 0} (tree : B → X → Tree) (held : B → X → Bool) (b d
   pub grown : (f : Frame X) (g : NumberedFrame) → view_of_code (tree b) (held b) f ≡ view_of_frame g
       → view_of_code (tree d) (held d) f ≡ view_of_frame g
   grown f g e =
-      same_view (view_of_code (tree d) (held d) f) (view_of_frame g)
-      (ap (λ (l : FrameView). l.body) e)
-      (grown_items f.items.items (items_borrowed (tree b) (held b) f g.number g.frame e)
-      ∙ ap (λ (l : FrameView). l.items) e)
-      (ap (λ (l : FrameView). l.alternates) e) (ap (λ (l : FrameView). l.number) e)
+      (λ i. record {
+        body = (e i).body;
+        items = (grown_items f.items.items (items_borrowed (tree b) (held b) f g.number g.frame e)
+            ∙ ap (λ (l : FrameView). l.items) e) i;
+        alternates = (e i).alternates;
+        number = (e i).number;
+      })
 
   same_all : (fs : List (Frame X)) → AreLooks (map (view_of_code (tree b) (held b)) fs)
       → map (view_of_code (tree d) (held d)) fs ≡ map (view_of_code (tree b) (held b)) fs

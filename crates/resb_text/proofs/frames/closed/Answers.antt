@@ -2,7 +2,7 @@ use Rattle.std.proofs.Common.{ap, refl}
 use Rattle.resb_text.specs.Inner.Discovered.{left}
 use Rattle.resb_text.specs.Inner.Frames.{left_after}
 use Rattle.resb_text.proofs.Growing.{closed_made}
-use Rattle.resb_text.proofs.OpenGroups.{dropped_closes}
+use Rattle.resb_text.proofs.Candidates.{dropped_closes}
 use Rattle.resb_text.proofs.frames.closed.Goals as goal
 
 pub returns-in-Table-clause-ok : goal.returns-in-Table-clause-ok

@@ -1,5 +1,5 @@
 -- What each step does to the candidates for keys of the open groups.
-use Rattle.std.proofs.Common.{◌≡◌, ◌≢◌, ℕ, ◌+◌, ◌<◌, ◌≤◌, Bool, true, false, List, [], ◌∷◌, ◌++◌, length}
+use Rattle.std.proofs.Common.{◌≡◌, ℕ, ◌<◌, ◌≤◌, Bool, true, false, List, [], ◌∷◌, ◌++◌, length}
 use Rattle.std.proofs.Common.{refl, sym, ◌∙◌, ap, subst, arith, append_assoc, append-nil}
 use Rattle.std.specs.Prelude.{slice_index_or}
 use Rattle.std.proofs.lemmas.Bool.{false≢true}
@@ -17,7 +17,8 @@ use Rattle.resb_text.specs.Inner.Discovered.{is_dropped_in, OpensGroup, AddsCand
 use Rattle.resb_text.specs.Inner.Discovered.{ListsCandidates}
 use Rattle.resb_text.specs.Inner.Frames.{lists, left_after, NumberedFrame, with_number, frame_keys}
 use Rattle.resb_text.specs.Inner.Frames.{IsFrom, HoldsCandidates, HoldsKeys, AreSettled, AreOpen}
-use Rattle.resb_text.specs.Inner.Frames.{none, one_more, FrameView, view_of_frame, ClosesKeys, frames_in}
+use Rattle.resb_text.specs.Inner.Frames.{none, one_more, FrameView, view_of_frame, ClosesKeys}
+use Rattle.resb_text.specs.Inner.Frames.{frames_in}
 use Rattle.resb_text.proofs.DiscoveredLemmas.{without-append, without-own, without-other}
 use Rattle.resb_text.proofs.DiscoveredLemmas.{without-without}
 

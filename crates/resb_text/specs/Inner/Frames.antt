@@ -24,6 +24,7 @@ use Rattle.resb_text.specs.declared.frames.Open.{Open}
 use Rattle.resb_text.specs.declared.frames.Shape.{Shape}
 use Rattle.resb_text.specs.declared.frames.Shape.TheVariants as shape
 
+-- the body as the grammar's machine names it
 abbrev pub group_body_of : Body → machine.Body
 group_body_of body.Table = machine.table_body
 group_body_of body.Array = machine.array_body

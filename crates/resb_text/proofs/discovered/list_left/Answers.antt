@@ -1,4 +1,4 @@
-use Rattle.std.proofs.Common.{[], ◌++◌, ◌∙◌, ap, arith, refl, sym, append-nil, get_or}
+use Rattle.std.proofs.Common.{[], ◌++◌, ◌∙◌, ap, arith, sym, append-nil, get_or}
 use Rattle.std.specs.Prelude.{map, nat_eq, true, false}
 use Rattle.std.specs.Cmp.Lexicographic.{pointwise}
 use Rattle.indexmap.specs.IndexSet.{insert_key}

@@ -1,7 +1,8 @@
 use Rattle.resb_grammar.proofs.Lists.{nonzero_inside}
 use Rattle.resb_grammar.proofs.ReachLemmas.{reach_slash, reach_here}
 use Rattle.std.proofs.Common.{arith}
-use Rattle.resb_text.proofs.LexicalLemmas.{comment_more, skip_ends, slash_black, no_comment_at}
+use Rattle.std.proofs.lemmas.Bool.Decides.{nat_tests}
+use Rattle.resb_text.proofs.LexicalLemmas.{comment_more, skip_ends, no_comment_at}
 use Rattle.resb_text.proofs.tokens.skip_comments.Goals as goal
 
 pub comments-preserved : goal.comments-preserved
@@ -24,7 +25,8 @@ returns-then-b-ne47-clause-skip c =
 
 pub returns-in_default-clause-skip : goal.returns-in_default-clause-skip
 returns-in_default-clause-skip c =
-    skip_ends _ _ _ (slash_black _ c.comments.invariant.stands)
+    let stands = c.comments.invariant.stands in
+    skip_ends _ _ _ (grind (arith, nat_tests, stands))
     c.in_default.ensures.found c.comments.invariant.so_far
 
 pub returns-in_default-clause-cost : goal.returns-in_default-clause-cost

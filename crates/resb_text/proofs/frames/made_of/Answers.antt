@@ -3,7 +3,7 @@ use Rattle.resb_text.specs.Inner.Discovered.{left}
 use Rattle.resb_text.specs.Inner.Frames.{left_after}
 use Rattle.resb_text.proofs.Growing.{closed_made}
 use Rattle.resb_text.proofs.Candidates.{dropped_closes}
-use Rattle.resb_text.proofs.frames.closed.Goals as goal
+use Rattle.resb_text.proofs.frames.made_of.Goals as goal
 
 pub returns-in-Table-clause-ok : goal.returns-in-Table-clause-ok
 returns-in-Table-clause-ok g c =

@@ -9,7 +9,7 @@ use Rattle.resb_text.specs.declared.frames.Frame.{Frame}
 use Rattle.resb_text.specs.declared.items.Term.TheVariants.{Group}
 use Rattle.resb_text.proofs.FramesLemmas.{Pushes}
 use Rattle.resb_text.proofs.OpenGroups.{shows_close}
-use Rattle.resb_text.proofs.frames.Open.close_group.Goals as goal
+use Rattle.resb_text.proofs.frames.Open.join_outer.Goals as goal
 use Rattle.std.proofs.lemmas.Result.{on_ok_weaker}
 
 pub returns-clause-shows : goal.returns-clause-shows
@@ -17,7 +17,7 @@ returns-clause-shows g c =
     let tree = g.B.Build.tree in
     let held = g.B.Build.held in
     let before = c.args.self.now.build in
-    let after = c.closed.new.build in
+    let after = c.made_of.new.build in
     let made = c.in_ok-made.made in
     on_ok_weaker {Q = (o : machine.Open) → StandsFor tree held c.args.self.now o
     → IsTableWhole o.frame → ClosesTo tree held _ o o.around} _ (λ pushed. λ o x h.
@@ -33,5 +33,5 @@ returns-clause-shows g c =
     → Adds tree held before after made (tree_shown_in (machine.shape_in k.body k.items)
     (items_seen k.items))) value c.in_ok-made.ensures.ok)
     (subst (λ (f : Frame _). ClosesKeys (view_of_code (tree before) (held before) f)
-    c.args.self.now.keys c.closed.new.keys) value c.closed.ensures.keys))
+    c.args.self.now.keys c.made_of.new.keys) value c.made_of.ensures.keys))
     c.push-2.ensures.looks

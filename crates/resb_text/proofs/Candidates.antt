@@ -1,6 +1,6 @@
 -- What each step does to the candidates for keys of the open groups.
-use Rattle.std.proofs.Common.{◌≡◌, ℕ, ◌<◌, ◌≤◌, Bool, true, false, List, [], ◌∷◌, ◌++◌, length}
-use Rattle.std.proofs.Common.{refl, sym, ◌∙◌, ap, subst, arith, append_assoc, append-nil}
+use Rattle.std.proofs.Common.{◌≡◌, ℕ, ◌<◌, ◌≤◌, Bool, true, false, cond, List, [], ◌∷◌, ◌++◌}
+use Rattle.std.proofs.Common.{length, refl, sym, ◌∙◌, ap, subst, arith, append_assoc, append-nil}
 use Rattle.std.specs.Prelude.{slice_index_or}
 use Rattle.std.proofs.lemmas.Bool.{false≢true}
 use Rattle.std.proofs.lemmas.List.{map-append, map_push, get_or-set_other, length-set}
@@ -43,20 +43,21 @@ below-snoc limit n s cs lt below =
     λ h le. without-behind h cs (cand s n ∷ []) (below h le)
     ∙ ap (λ ds. cs ++ ds) (without-other h n s (omega arith))
 
-module _ (n : ℕ) (f : Frame) where
-  frame_string : (b : Body) → lists b ≡ true → (xs : List Item) (s : List ℕ)
-      → frame_keys b (plain (string_term s) ∷ xs) ≡ frame_keys b xs ++ s ∷ []
-  frame_string table_body h xs s = refl
-  frame_string untyped_body h xs s = refl
-  frame_string array_body h xs s = absurd (false≢true h)
+cond-append : (b : Bool) (xs ys ks : List (List ℕ)) → cond b xs ys ++ ks ≡ cond b (xs ++ ks) (ys ++ ks)
+cond-append true xs ys ks = refl
+cond-append false xs ys ks = refl
 
+cond-same : (b : Bool) (xs : List (List ℕ)) → cond b xs xs ≡ xs
+cond-same true xs = refl
+cond-same false xs = refl
+
+module _ (n : ℕ) (f : Frame) where
   from_string : (s : List ℕ) → lists f.body ≡ true → (own : List GroupText)
       → IsFrom (with_number n f) own
       → IsFrom (with_number n (with_item (string_term s) f)) (own ++ cand s n ∷ [])
   from_string s h own x = record {
     whole =
-        map_push (λ c. c.text) own (cand s n) ∙ ap (λ ks. ks ++ s ∷ []) x.whole
-        ∙ sym (frame_string f.body h f.items s);
+        rw h (map_push (λ c. c.text) own (cand s n) ∙ ap (λ ks. ks ++ s ∷ []) (rw h at x.whole));
     rest =
         ap texts (without-append n own (cand s n ∷ [])
         ∙ ap (λ cs. without n own ++ cs) (without-own n s) ∙ append-nil (without n own))
@@ -66,26 +67,14 @@ module _ (n : ℕ) (f : Frame) where
         ∙ ap (λ cs. own ++ cs) (without-other h n s (omega arith));
   }
 
-  array_string : (b : Body) → lists b ≡ false → (xs : List Item) (s : List ℕ)
-      → frame_keys b (plain (string_term s) ∷ xs) ≡ frame_keys b xs
-  array_string array_body h xs s = append-nil (array_keys xs)
-  array_string table_body h xs s = absurd (false≢true (sym h))
-  array_string untyped_body h xs s = absurd (false≢true (sym h))
-
   -- a string in an array's body
   pub from_item : (s : List ℕ) → lists f.body ≡ false → (own : List GroupText)
       → IsFrom (with_number n f) own → IsFrom (with_number n (with_item (string_term s) f)) own
   from_item s h own x = record {
-    whole = x.whole ∙ sym (array_string f.body h f.items s);
+    whole = rw (h, append-nil) (rw h at x.whole);
     rest = x.rest ∙ sym (append-nil (array_keys f.items));
     later = x.later;
   }
-
-  frame_group : (b : Body) (xs : List Item) (t : Tree) (ks : List (List ℕ))
-      → frame_keys b (plain (group_term t ks) ∷ xs) ≡ frame_keys b xs ++ ks
-  frame_group table_body xs t ks = refl
-  frame_group untyped_body xs t ks = refl
-  frame_group array_body xs t ks = refl
 
   -- a group with its candidates, all of greater numbers
   from_group : (t : Tree) (ks : List (List ℕ)) (cs : List GroupText)
@@ -94,7 +83,7 @@ module _ (n : ℕ) (f : Frame) where
       → IsFrom (with_number n (with_item (group_term t ks) f)) (own ++ cs)
   from_group t ks cs later is own x = record {
     whole =
-        texts-append own cs ∙ (λ i. x.whole i ++ is i) ∙ sym (frame_group f.body f.items t ks);
+        texts-append own cs ∙ (λ i. x.whole i ++ is i) ∙ cond-append (lists f.body) _ _ ks;
     rest =
         ap texts (without-append n own cs ∙ ap (λ ds. without n own ++ ds) (later n (omega arith)))
         ∙ texts-append (without n own) cs ∙ (λ i. x.rest i ++ is i);
@@ -111,17 +100,11 @@ module _ (n : ℕ) (f : Frame) where
       (from_group t [] [] (λ h le. refl) refl own x)
 
   -- a comma behind the last item
-  frame_comma : (b : Body) (m : Term) (k : Bool) (xs : List Item)
-      → frame_keys b (record { term = m; comma = k } ∷ xs) ≡ frame_keys b (before_comma m ∷ xs)
-  frame_comma table_body m k xs = refl
-  frame_comma array_body m k xs = refl
-  frame_comma untyped_body m k xs = refl
-
   pub from_comma : (m : Term) (k : Bool) (xs : List Item)
       → f.items ≡ record { term = m; comma = k } ∷ xs → (own : List GroupText)
       → IsFrom (with_number n f) own → IsFrom (with_number n (comma_frame f m xs)) own
   from_comma m k xs i own x = record {
-    whole = x.whole ∙ ap (frame_keys f.body) i ∙ frame_comma f.body m k xs;
+    whole = x.whole ∙ ap (frame_keys f.body) i;
     rest = x.rest ∙ ap array_keys i;
     later = x.later;
   }
@@ -140,17 +123,13 @@ holds_string {n} {f} s h (one_more _ gs before own _ outer apart x e) =
     one_more _ gs before (own ++ cand s n ∷ []) _ outer apart (from_string n f s h own x)
     (ap (λ ds. ds ++ cand s n ∷ []) e ∙ append_assoc before own (cand s n ∷ []))
 
-frame_new : (b : Body) → frame_keys b [] ≡ []
-frame_new table_body = refl
-frame_new untyped_body = refl
-frame_new array_body = refl
-
 holds_new : (n : ℕ) (b : Body) (gs : List NumberedFrame) (cs : List GroupText)
     → HoldsCandidates gs cs → AllBelow n cs
     → HoldsCandidates (with_number n (new_frame b) ∷ gs) cs
 holds_new n b gs cs x apart =
     one_more _ gs cs [] cs x apart
-    (record { whole = sym (frame_new b); rest = refl; later = λ h l. refl }) (sym (append-nil cs))
+    (record { whole = sym (cond-same (lists b) []); rest = refl; later = λ h l. refl })
+    (sym (append-nil cs))
 
 one_string : (xs : List Item) (s : List ℕ) → shape_of xs ≡ a_string s → array_keys xs ≡ []
 one_string [] s e = cc

@@ -9,7 +9,7 @@ use Rattle.resb_grammar.specs.ByteRuns.{Run, is_word, is_digit}
 use Rattle.resb_grammar.specs.Inner.Reach.{reach}
 use Rattle.resb_grammar.proofs.ReachLemmas.{reach_low, reach_high, reach_here, reach_byte}
 use Rattle.resb_grammar.proofs.ReachLemmas.{reach_left, reach_right, reach_quote, reach_comma}
-use Rattle.resb_grammar.proofs.ReachLemmas.{reach_colon}
+use Rattle.resb_grammar.proofs.ReachLemmas.{reach_colon, reach_slash}
 use Rattle.resb_grammar.proofs.Lists.{nonzero_inside}
 use Rattle.resb_text.proofs.QuotaLemmas.{memory_stops}
 
@@ -60,6 +60,9 @@ pub ruleset reach_types = (reach_colon, reach_high)
 
 -- what is said of a quote or the end
 pub ruleset reach_texts = (reach_quote, reach_high)
+
+-- what is said of a comment or none
+pub ruleset reach_comments = (reach_here, reach_slash, nonzero_inside)
 
 -- where a brace, a comma or a colon stands
 pub ruleset at_left_brace = (reach_left, nonzero_inside, memory_stops)

@@ -1,7 +1,6 @@
 -- What the code's open groups show of a machine's, and which candidates are theirs.
 use Rattle.std.specs.Prelude.{◌≡◌, ◌≢◌, ℕ, ◌+◌, ◌<◌, ◌≤◌, Bool, true, false, List, [], ◌∷◌, ◌++◌}
-use Rattle.std.specs.Prelude.{map}
-use Rattle.std.specs.Prelude.{length, Some}
+use Rattle.std.specs.Prelude.{map, cond, length, Some}
 use Rattle.std.specs.List.{sum_by}
 use Rattle.resb_tree.specs.Tree.{Tree, string, array, table, trees_of, map_of}
 use Rattle.resb_grammar.specs.Items as spec
@@ -85,9 +84,7 @@ views_of_frames (g ∷ gs) = views_of_frames gs ++ view_of_frame g ∷ []
 
 -- the keys of an open group, if it turns out to be a table, and those of its groups otherwise
 abbrev pub frame_keys : machine.Body → List spec.Item → List (List ℕ)
-frame_keys machine.array_body items = array_keys items
-frame_keys machine.table_body items = table_keys items
-frame_keys machine.untyped_body items = table_keys items
+frame_keys body items = cond (lists body) (table_keys items) (array_keys items)
 
 -- a group's candidates: its own strings have its number, and all others greater ones
 pub record IsFrom (g : NumberedFrame) (own : List GroupText) : Type 0 where

@@ -2,11 +2,10 @@
 use Rattle.std.proofs.Common.{◌≡◌, ℕ, ◌<◌, ◌≤◌, Bool, true, false, cond, List, [], ◌∷◌, ◌++◌}
 use Rattle.std.proofs.Common.{length, refl, sym, ◌∙◌, ap, subst, arith, append_assoc, append-nil}
 use Rattle.std.specs.Prelude.{slice_index_or}
-use Rattle.std.proofs.lemmas.Bool.{false≢true}
 use Rattle.std.proofs.lemmas.List.{map-append, map_push, get_or-set_other, length-set}
 use Rattle.resb_tree.specs.Tree.{Tree}
 use Rattle.resb_grammar.specs.KeyLists.{listed_keys}
-use Rattle.resb_grammar.specs.Items.{Term, string_term, group_term, Item, plain, before_comma}
+use Rattle.resb_grammar.specs.Items.{Term, string_term, group_term, Item, before_comma}
 use Rattle.resb_grammar.specs.Items.{Shape, a_string, a_table, an_array, shape_of, tree_in, keys_in}
 use Rattle.resb_grammar.specs.Items.{table_keys, array_keys, table_if, is_pairs}
 use Rattle.resb_grammar.specs.Machine.{Body, table_body, array_body, untyped_body, Frame, with_item}

@@ -1,5 +1,5 @@
 -- What an open group shows stays while more is made of other groups.
-use Rattle.std.proofs.Common.{◌≡◌, ℕ, Bool, true, List, [], ◌∷◌, ◌++◌, refl, sym, ◌∙◌, ap, subst}
+use Rattle.std.proofs.Common.{◌≡◌, ℕ, Bool, true, List, [], ◌∷◌, ◌++◌, refl, sym, ◌∙◌, ap}
 use Rattle.std.specs.Prelude.{map, Result, Ok, Err, IfOk}
 use Rattle.std.proofs.lemmas.Bool.{and_parts}
 use Rattle.std.proofs.lemmas.List.{map_push}
@@ -12,8 +12,7 @@ use Rattle.resb_text.specs.Inner.Build.{Grows, Adds}
 use Rattle.resb_text.specs.Inner.Shown.{group_shown, shown_by, shown_term_by, items_seen}
 use Rattle.resb_text.specs.Inner.Shown.{shown_borrowed}
 use Rattle.resb_text.specs.Inner.Frames.{view_of_code, view_of_frame, views_of_frames, FrameView}
-use Rattle.resb_text.specs.Inner.Frames.{NumberedFrame, with_number}
-use Rattle.resb_text.specs.Inner.Frames.{tree_shown_in}
+use Rattle.resb_text.specs.Inner.Frames.{NumberedFrame, with_number, tree_shown_in}
 use Rattle.resb_text.specs.declared.frames.Frame.{Frame}
 use Rattle.resb_text.specs.declared.items.Item.{Item}
 use Rattle.resb_text.specs.declared.items.Term.{Term}

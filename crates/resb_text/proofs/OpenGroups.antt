@@ -4,6 +4,7 @@ use Rattle.std.proofs.Common.{take, refl, sym, ◌∙◌, ap, subst, arith}
 use Rattle.std.specs.Prelude.{map, slice_set, Some}
 use Rattle.std.proofs.lemmas.Bool.{false_from_ne_true}
 use Rattle.std.proofs.lemmas.List.{map_push, same_from_push, take_all, take_more_set, length-set}
+use Rattle.std.proofs.lemmas.List.{length_push}
 use Rattle.resb_tree.specs.Borrowing.{all_true}
 use Rattle.resb_tree.specs.Tree.{Tree, table, map_of}
 use Rattle.resb_grammar.specs.Items.{Term, Item, a_table, tree_in, is_pairs}
@@ -136,11 +137,8 @@ module _ {B X : Type 0} {tree : B → X → Tree} {held : B → X → Bool} wher
           → HoldsKeys c.keys (with_number x.number o.frame) gs
           → HoldsKeys k (with_number x.number o.frame) gs
       go [] e keys = keys_settle c.keys k _ lists keys
-      go (g ∷ gs) e keys = absurd (some (views_of_frames gs) e)
-        where
-          some : (ls : List FrameView) → ls ++ view_of_frame g ∷ [] ≡ [] → ⊥
-          some [] h = cc
-          some (l ∷ ls) h = cc
+      go (g ∷ gs) e keys =
+          absurd (omega (arith, ap length e, length_push (views_of_frames gs) (view_of_frame g)))
 
   -- so too where a group is closed
   pub closes_settled : (c d : Open B X) (o : machine.Open)

@@ -10,11 +10,9 @@ use Rattle.resb_grammar.specs.Machine as machine
 use Rattle.resb_grammar.specs.BundleText.{first_places}
 use Rattle.resb_grammar.specs.KeyLists.{listed_keys}
 use Rattle.resb_text.specs.Inner.Shown.{SeenItem, string_shown, group_shown, shown_by, items_seen}
-use Rattle.resb_text.specs.Inner.Shown.{shown_tree}
-use Rattle.resb_text.specs.Inner.Shown.{shown_pairs}
+use Rattle.resb_text.specs.Inner.Shown.{shown_tree, shown_pairs}
 use Rattle.resb_text.specs.Inner.Discovered.{GroupText, without, texts, left, group_count, AllBelow}
-use Rattle.resb_text.specs.Inner.Discovered.{candidate_count}
-use Rattle.resb_text.specs.Inner.Discovered.{is_dropped_in}
+use Rattle.resb_text.specs.Inner.Discovered.{candidate_count, is_dropped_in}
 use Rattle.resb_text.specs.declared.discovered.Keys.{Keys}
 use Rattle.resb_text.specs.declared.frames.Body.{Body}
 use Rattle.resb_text.specs.declared.frames.Body.TheVariants as body

@@ -30,9 +30,7 @@ returns-in-Array-clause-keys g c =
 pub returns-in-String-clause-ok : goal.returns-in-String-clause-ok
 returns-in-String-clause-ok g c =
     closed_made g.B.Build.tree g.B.Build.held _ c.args.build.now c.string.new.self
-    c.args.frame.now _
-    (c.in-String.ensures _ _)
-    (λ h. c.string.ensures)
+    c.args.frame.now _ (c.in-String.ensures _ _) (λ h. c.string.ensures)
 
 pub returns-in-String-clause-keys : goal.returns-in-String-clause-keys
 returns-in-String-clause-keys g c =

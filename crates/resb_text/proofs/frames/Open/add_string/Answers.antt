@@ -1,9 +1,8 @@
-use Rattle.std.proofs.Common.{sym, ◌∙◌, ap, refl, arith, subst}
-use Rattle.resb_grammar.specs.Items as spec
-use Rattle.resb_grammar.specs.Machine.{with_term}
-use Rattle.resb_text.specs.Inner.Discovered.{is_dropped_in, AddsCandidate}
-use Rattle.resb_text.specs.Inner.Frames.{FrameView, Becomes, lists}
-use Rattle.resb_text.specs.declared.items.Term.TheVariants as terms
+use Rattle.std.proofs.Common.{sym, ◌∙◌, ap, refl, arith}
+use Rattle.resb_grammar.specs.Items.{string_term}
+use Rattle.resb_text.specs.Inner.Discovered.{is_dropped_in}
+use Rattle.resb_text.specs.Inner.Frames.{FrameView, lists}
+use Rattle.resb_text.specs.declared.items.Term.TheVariants.{String}
 use Rattle.resb_text.proofs.Candidates.{keys_string, keys_changed, from_item}
 use Rattle.resb_text.proofs.OpenGroups.{shows_term}
 use Rattle.resb_text.proofs.frames.Open.add_string.Goals as goal
@@ -18,19 +17,15 @@ add-requires g c =
 pub returns-then-lists : goal.returns-then-lists
 returns-then-lists g c =
     let old = c.args.self.now in
-    let text = c.args.text.now in
     let looks = c.in_ok-push.ensures.looks (g.B.Build.tree old.build) (g.B.Build.held old.build) in
     let count = c.in_ok-push.ensures.count in
-    on_ok_weaker {Q = Becomes g.B.Build.tree g.B.Build.held
-    (with_term (spec.string_term text)) 2 old _} _
-    (λ added. record {
-      shows = λ o x. shows_term old (spec.string_term text) (terms.String c.args.text) x refl
+    on_ok_weaker c.add.result (λ added. record {
+      shows = λ o x. shows_term old (string_term c.args.text.now) (String c.args.text) x refl
           (λ y h. (refl, h)) looks
-          (keys_string old.keys c.add.new.self o.frame text
+          (keys_string old.keys c.add.new.self o.frame c.args.text.now
           (ap lists (sym (ap (λ (l : FrameView). l.body) x.frame))
           ∙ sym c.lists_keys-lists.ensures ∙ c.if-lists.true)
-          (subst (λ n. AddsCandidate text n old.keys c.add.new.self)
-          (ap (λ (l : FrameView). l.number) x.frame) added) x.keys);
+          (rw (ap (λ (l : FrameView). l.number) x.frame) at added) x.keys);
       turns = omega (arith, count, added.candidates);
     })
     c.add.ensures
@@ -38,13 +33,12 @@ returns-then-lists g c =
 pub returns : goal.returns
 returns g c =
     let old = c.args.self.now in
-    let text = c.args.text.now in
     let looks = c.in_ok-push.ensures.looks (g.B.Build.tree old.build) (g.B.Build.held old.build) in
     let count = c.in_ok-push.ensures.count in
     record {
-      shows = λ o x. shows_term old (spec.string_term text) (terms.String c.args.text) x refl
+      shows = λ o x. shows_term old (string_term c.args.text.now) (String c.args.text) x refl
           (λ y h. (refl, h)) looks
-          (keys_changed (from_item x.number o.frame text
+          (keys_changed (from_item x.number o.frame c.args.text.now
           (ap lists (sym (ap (λ (l : FrameView). l.body) x.frame))
           ∙ sym c.lists_keys-lists.ensures ∙ c.if-lists.false)) x.keys);
       turns = omega (arith, count);
